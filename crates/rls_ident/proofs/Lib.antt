@@ -1,0 +1,15 @@
+pub mod Lists
+pub mod Maps
+pub mod Iso
+pub mod Reach
+pub mod Glue
+pub mod Gaps
+pub mod Tuples
+pub mod Repeat
+pub mod Down
+pub mod Loops
+pub mod BetweenLaws
+pub mod Members
+pub mod Shifted
+mod Worked
+pub mod Ends

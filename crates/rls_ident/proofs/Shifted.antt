@@ -1,0 +1,58 @@
+-- Identifiers with their last offset raised.
+use Rattle.std.proofs.Common.{◌≡◌, true, List, [], ◌∷◌, refl, ap, arith}
+use Rattle.std.specs.Prelude.{ℤ, pos, ◌+ℤ◌, ◌<ℤ◌}
+use Rattle.std.specs.declared.cmp.Ordering.{Ordering}
+use Rattle.std.specs.declared.cmp.Ordering.TheVariants.{Less, Equal, Greater}
+use Rattle.std.specs.Ordering.{int_cmp, MatchOrdering}
+use Rattle.std.proofs.lemmas.Cmp.{tied_itself, nat_cmp_total, int_ranked}
+use Rattle.std.proofs.lemmas.Int.{ints}
+use Rattle.rls_ident.specs.declared.tuple.Tuple.{Tuple}
+use Rattle.rls_ident.specs.declared.tuple.Tuple.TheVariants.{Low, At, High}
+use Rattle.rls_ident.specs.Tuples.{spot_cmp, tuple_cmp, raised, is_at}
+use Rattle.rls_ident.specs.Identifiers.{IsIdent, shifted}
+use Rattle.rls_ident.proofs.Lists.{Lt, lt_cons}
+use Rattle.rls_ident.proofs.Tuples.{tuples}
+
+raised_raised : (j k : ℤ) (t : Tuple) → raised j (raised k t) ≡ raised (k +ℤ j) t
+raised_raised j k Low = refl
+raised_raised j k (At p r s o) = let e : (o +ℤ k) +ℤ j ≡ o +ℤ (k +ℤ j) = omega (arith, ints) in ap (At p r s) e
+raised_raised j k High = refl
+
+pub shifted_shifted : (j k : ℤ) (x : List Tuple) → shifted j (shifted k x) ≡ shifted (k +ℤ j) x
+shifted_shifted j k [] = refl
+shifted_shifted j k (t ∷ []) = ap (λ u. u ∷ []) (raised_raised j k t)
+shifted_shifted j k (t ∷ (u ∷ [])) = ap (λ v. t ∷ v ∷ []) (raised_raised j k u)
+shifted_shifted j k (t ∷ (u ∷ (v ∷ x))) = ap (λ y. t ∷ y) (shifted_shifted j k (u ∷ (v ∷ x)))
+
+raised_none : (t : Tuple) → raised (pos 0) t ≡ t
+raised_none Low = refl
+raised_none (At p r s o) = let e : o +ℤ pos 0 ≡ o = omega (arith, ints) in ap (At p r s) e
+raised_none High = refl
+
+pub shifted_none : (x : List Tuple) → shifted (pos 0) x ≡ x
+shifted_none [] = refl
+shifted_none (t ∷ []) = ap (λ u. u ∷ []) (raised_none t)
+shifted_none (t ∷ (u ∷ x)) = ap (λ y. t ∷ y) (shifted_none (u ∷ x))
+
+int_less_at : (a b : ℤ) (o : Ordering) → MatchOrdering o (a <ℤ b) (a ≡ b) (b <ℤ a) → a <ℤ b → o ≡ Less
+int_less_at a b Less m h = refl
+int_less_at a b Equal m h = absurd (omega (arith, ints))
+int_less_at a b Greater m h = absurd (omega (arith, ints))
+
+raised_less : (j k : ℤ) (t : Tuple) → is_at t ≡ true → j <ℤ k → tuple_cmp (raised j t) (raised k t) ≡ Less
+unfolding tuple_cmp spot_cmp
+raised_less j k Low i h = absurd (cc)
+raised_less j k (At p r s o) i h =
+    let a = tied_itself nat_cmp_total p in
+    let b = tied_itself nat_cmp_total r in
+    let c = tied_itself nat_cmp_total s in
+    let l : (o +ℤ j) <ℤ (o +ℤ k) = omega (arith, ints) in
+    let d = int_less_at (o +ℤ j) (o +ℤ k) (int_cmp (o +ℤ j) (o +ℤ k)) (int_ranked (o +ℤ j) (o +ℤ k) (int_cmp (o +ℤ j) (o +ℤ k)) refl) l in
+    simp (a, b, c) d
+raised_less j k High i h = absurd (cc)
+
+-- the more it is raised, the greater it is
+pub shifted_less : (j k : ℤ) (x : List Tuple) → IsIdent x → j <ℤ k → Lt tuples (shifted j x) (shifted k x)
+shifted_less j k [] i h = absurd (cc)
+shifted_less j k (t ∷ []) i h = record { less = let e = raised_less j k t i h in rw e refl }
+shifted_less j k (t ∷ (u ∷ x)) i h = lt_cons tuples t (shifted_less j k (u ∷ x) i h)

@@ -1,0 +1,149 @@
+-- What waits fits to the history, after an operation was accepted, taken out or put in.
+use Rattle.std.proofs.Common.{◌≡◌, ℕ, suc, ◌+◌, ◌≤◌, ◌<◌, Bool, true, false, List, [], ◌∷◌, length, refl, sym, ap, ◌∙◌, subst, arith, inl, inr, ◌⊎◌, ⊎_elim, nat_lt}
+use Rattle.std.specs.Prelude.{if◌then◌else◌, ◌&&◌, ◌==◌, None}
+use Rattle.std.specs.List.{list_all}
+use Rattle.std.proofs.lemmas.Bool.Decides.{nat_tests}
+use Rattle.rls_ident.specs.Lists.{IsIn}
+use Rattle.rls_ops.specs.declared.op.Op.{Op}
+use Rattle.rls_ops.specs.Shapes.{shape_fault}
+use Rattle.rls_model.specs.History.{Accepted, History, Then, count, count_of, members_of}
+use Rattle.rls_model.specs.Receiving.{is_numbered, comes_before, with_waiting, without}
+use Rattle.rls_model.specs.WellFormed.{IsOp}
+use Rattle.rls_model.specs.Legal.{MayAccept, AreWaiting}
+use Rattle.rls_model.proofs.WorldsLists.{bool_cases, and_left, and_right, and_true, or_left, or_right, or_split, true_false, eq_is, eq_test, eq_not, lt_is, lt_test, in_all, all_in, raise_other, raise_upto}
+
+pub numbered_is : (a s : ℕ) (x : Op) → is_numbered a s x ≡ true → (x.author ≡ a) × (x.seq ≡ s)
+numbered_is a s x h = (eq_is x.author a (and_left (x.author == a) (x.seq == s) h), eq_is x.seq s (and_right (x.author == a) (x.seq == s) h))
+
+pub numbered_test : (a s : ℕ) (x : Op) → x.author ≡ a → x.seq ≡ s → is_numbered a s x ≡ true
+numbered_test a s x e f = and_true (x.author == a) (x.seq == s) (eq_test x.author a e) (eq_test x.seq s f)
+
+-- ---- elements
+
+pub in_without : (a s : ℕ) (x : Op) (W : List Op) → IsIn x (without a s W) → IsIn x W × (is_numbered a s x ≡ false)
+in_without a s x [] p = absurd p
+in_without a s x (w ∷ ws) p = go (is_numbered a s w) refl p (λ q. in_without a s x ws q)
+  where
+    go : (b : Bool) → is_numbered a s w ≡ b → IsIn x (if b then without a s ws else w ∷ without a s ws) → (IsIn x (without a s ws) → IsIn x ws × (is_numbered a s x ≡ false)) → IsIn x (w ∷ ws) × (is_numbered a s x ≡ false)
+    go true e q ih = let r = ih q in (inr r.0, r.1)
+    go false e (inl q) ih = (inl q, ap (is_numbered a s) (sym q) ∙ e)
+    go false e (inr q) ih = let r = ih q in (inr r.0, r.1)
+
+pub in_with : (o x : Op) (W : List Op) → IsIn x (with_waiting o W) → (o ≡ x) ⊎ IsIn x W
+in_with o x [] p = p
+in_with o x (w ∷ ws) p = go (comes_before w o) p (λ q. in_with o x ws q)
+  where
+    go : (b : Bool) → IsIn x (if b then w ∷ with_waiting o ws else o ∷ w ∷ ws) → (IsIn x (with_waiting o ws) → (o ≡ x) ⊎ IsIn x ws) → (o ≡ x) ⊎ IsIn x (w ∷ ws)
+    go true (inl q) ih = inr (inl q)
+    go true (inr q) ih = ⊎_elim (λ e. inl e) (λ r. inr (inr r)) (ih q)
+    go false q ih = q
+
+pub length-without : (a s : ℕ) (W : List Op) → length (without a s W) ≤ length W
+length-without a s [] = omega arith
+length-without a s (w ∷ ws) = go (is_numbered a s w) (length-without a s ws)
+  where
+    go : (b : Bool) → length (without a s ws) ≤ length ws → length (if b then without a s ws else w ∷ without a s ws) ≤ suc (length ws)
+    go true h = omega arith
+    go false h = omega arith
+
+pub less_without : (a s : ℕ) (x : Op) (W : List Op) → IsIn x W → is_numbered a s x ≡ true → length (without a s W) < length W
+less_without a s x [] p h = absurd p
+less_without a s x (w ∷ ws) p h = go (is_numbered a s w) refl p (length-without a s ws) (λ q. less_without a s x ws q h)
+  where
+    go : (b : Bool) → is_numbered a s w ≡ b → IsIn x (w ∷ ws) → length (without a s ws) ≤ length ws → (IsIn x ws → length (without a s ws) < length ws) → length (if b then without a s ws else w ∷ without a s ws) < suc (length ws)
+    go true e q k ih = omega arith
+    go false e (inl q) k ih = absurd (true_false (is_numbered a s x) h (ap (is_numbered a s) (sym q) ∙ e))
+    go false e (inr q) k ih = let m = ih q in omega arith
+
+-- ---- the order
+
+before_is : (o p : Op) → comes_before o p ≡ true → (o.author < p.author) ⊎ ((o.author ≡ p.author) × (o.seq < p.seq))
+before_is o p h =
+    ⊎_elim (λ e. inl (lt_is o.author p.author e))
+    (λ e. inr (eq_is o.author p.author (and_left (o.author == p.author) (nat_lt o.seq p.seq) e), lt_is o.seq p.seq (and_right (o.author == p.author) (nat_lt o.seq p.seq) e)))
+    (or_split (nat_lt o.author p.author) ((o.author == p.author) && nat_lt o.seq p.seq) h)
+
+before_author : (o p : Op) → o.author < p.author → comes_before o p ≡ true
+before_author o p h = or_left (nat_lt o.author p.author) ((o.author == p.author) && nat_lt o.seq p.seq) (lt_test o.author p.author h)
+
+before_seq : (o p : Op) → o.author ≡ p.author → o.seq < p.seq → comes_before o p ≡ true
+before_seq o p e h =
+    or_right (nat_lt o.author p.author) ((o.author == p.author) && nat_lt o.seq p.seq)
+    (and_true (o.author == p.author) (nat_lt o.seq p.seq) (eq_test o.author p.author e) (lt_test o.seq p.seq h))
+
+before_trans : (o p q : Op) → comes_before o p ≡ true → comes_before p q ≡ true → comes_before o q ≡ true
+before_trans o p q h k =
+    ⊎_elim
+    (λ a. ⊎_elim (λ b. before_author o q (omega arith)) (λ b. let e = b.0 in before_author o q (omega arith)) (before_is p q k))
+    (λ a. ⊎_elim (λ b. let e = a.0 in before_author o q (omega arith)) (λ b. let l = a.1 in let m = b.1 in before_seq o q (a.0 ∙ b.0) (omega arith)) (before_is p q k))
+    (before_is o p h)
+
+not_lt_is : (m n : ℕ) → nat_lt m n ≡ false → n ≤ m
+not_lt_is m n h = grind (arith, nat_tests)
+
+before_total : (o p : Op) → comes_before p o ≡ false → is_numbered o.author o.seq p ≡ false → comes_before o p ≡ true
+before_total o p h k =
+    bool_cases (nat_lt o.author p.author) (λ e. before_author o p (lt_is o.author p.author e))
+    (λ e. bool_cases (nat_lt p.author o.author) (λ f. absurd (true_false (comes_before p o) (before_author p o (lt_is p.author o.author f)) h))
+    (λ f. let a = not_lt_is o.author p.author e in
+    let b = not_lt_is p.author o.author f in
+    let same : p.author ≡ o.author = omega arith in
+    bool_cases (nat_lt o.seq p.seq) (λ g. before_seq o p (sym same) (lt_is o.seq p.seq g))
+    (λ g. bool_cases (nat_lt p.seq o.seq) (λ i. absurd (true_false (comes_before p o) (before_seq p o same (lt_is p.seq o.seq i)) h))
+    (λ i. let c = not_lt_is o.seq p.seq g in
+    let d = not_lt_is p.seq o.seq i in
+    let number : p.seq ≡ o.seq = omega arith in
+    absurd (true_false (is_numbered o.author o.seq p) (numbered_test o.author o.seq p same number) k)))))
+
+-- ---- the list
+
+pub waiting_at : (H : History) (W : List Op) (w : Op) → AreWaiting H W → IsIn w W → IsOp w × (shape_fault (members_of H) w ≡ None) × (count_of H w.author < w.seq)
+waiting_at H [] w h p = absurd p
+waiting_at H (x ∷ ws) w h (inl e) = subst (λ (y : Op). IsOp y × (shape_fault (members_of H) y ≡ None) × (count_of H y.author < y.seq)) e (h.0, h.1, h.2)
+waiting_at H (x ∷ ws) w h (inr p) = waiting_at H ws w h.4 p
+
+pub sound_without : (H : History) (a s : ℕ) (W : List Op) → AreWaiting H W → AreWaiting H (without a s W)
+sound_without H a s [] h = tt
+sound_without H a s (w ∷ ws) h = go (is_numbered a s w) (sound_without H a s ws h.4)
+  where
+    go : (b : Bool) → AreWaiting H (without a s ws) → AreWaiting H (if b then without a s ws else w ∷ without a s ws)
+    go true k = k
+    go false k = (h.0, h.1, h.2, all_in (λ p. comes_before w p) (without a s ws) (λ x p. in_all (λ p. comes_before w p) x ws h.3 (in_without a s x ws p).0), k)
+
+pub sound_grown : (G H : History) (W : List Op) → members_of H ≡ members_of G → ((w : Op) → IsIn w W → count_of H w.author < w.seq) → AreWaiting G W → AreWaiting H W
+sound_grown G H [] e f h = tt
+sound_grown G H (w ∷ ws) e f h = (h.0, ap (λ n. shape_fault n w) e ∙ h.1, f w (inl refl), h.3, sound_grown G H ws e (λ x p. f x (inr p)) h.4)
+
+pub sound_accepted : (G : History) (o : Op) (W : List Op) → MayAccept G o → AreWaiting G W → AreWaiting (Then G (Accepted o)) (without o.author o.seq W)
+sound_accepted G o W m h = sound_grown G (Then G (Accepted o)) (without o.author o.seq W) refl above (sound_without G o.author o.seq W h)
+  where
+    above : (w : Op) → IsIn w (without o.author o.seq W) → count_of (Then G (Accepted o)) w.author < w.seq
+    above w p =
+        let r = in_without o.author o.seq w W p in
+        let k = (waiting_at G W w h r.0).2 in
+        bool_cases (o.author == w.author)
+        (λ e. let a = eq_is o.author w.author e in
+        let c : count_of G o.author ≡ count_of G w.author = ap (count_of G) a in
+        let u = raise_upto (count G) o.author w.author in
+        let n = m.next in
+        bool_cases (w.seq == o.seq) (λ f. absurd (true_false (is_numbered o.author o.seq w) (numbered_test o.author o.seq w (sym a) (eq_is w.seq o.seq f)) r.1))
+        (λ f. apart (eq_not w.seq o.seq f) k c u n))
+        (λ e. let u = raise_other (count G) o.author w.author (eq_not o.author w.author e) in omega arith)
+      where
+        apart : (w.seq ≡ o.seq → ⊥) → count_of G w.author < w.seq → count_of G o.author ≡ count_of G w.author → count_of (Then G (Accepted o)) w.author ≤ suc (count_of G w.author) → o.seq ≡ count_of G o.author + 1 → count_of (Then G (Accepted o)) w.author < w.seq
+        apart n k c u e =
+            bool_cases (nat_lt (suc (count_of G w.author)) w.seq) (λ f. let g = lt_is (suc (count_of G w.author)) w.seq f in omega arith)
+            (λ f. let g = not_lt_is (suc (count_of G w.author)) w.seq f in absurd (n (omega arith)))
+
+sound_with : (H : History) (o : Op) (W : List Op) → IsOp o → shape_fault (members_of H) o ≡ None → count_of H o.author < o.seq → AreWaiting H W → ((x : Op) → IsIn x W → is_numbered o.author o.seq x ≡ false) → AreWaiting H (with_waiting o W)
+sound_with H o [] i e l h f = (i, e, l, refl, tt)
+sound_with H o (w ∷ ws) i e l h f = go (comes_before w o) refl (sound_with H o ws i e l h.4 (λ x p. f x (inr p)))
+  where
+    go : (b : Bool) → comes_before w o ≡ b → AreWaiting H (with_waiting o ws) → AreWaiting H (if b then w ∷ with_waiting o ws else o ∷ w ∷ ws)
+    go true t k = (h.0, h.1, h.2, all_in (λ p. comes_before w p) (with_waiting o ws) (λ x p. ⊎_elim (λ q. ap (comes_before w) (sym q) ∙ t) (λ q. in_all (λ p. comes_before w p) x ws h.3 q) (in_with o x ws p)), k)
+    go false t k =
+        let b = before_total o w t (f w (inl refl)) in
+        (i, e, l, and_true (comes_before o w) (list_all (λ p. comes_before o p) ws) b (all_in (λ p. comes_before o p) ws (λ x p. before_trans o w x b (in_all (λ p. comes_before w p) x ws h.3 p))), h)
+
+pub sound_put : (H : History) (o : Op) (W : List Op) → IsOp o → shape_fault (members_of H) o ≡ None → count_of H o.author < o.seq → AreWaiting H W → AreWaiting H (with_waiting o (without o.author o.seq W))
+sound_put H o W i e l h = sound_with H o (without o.author o.seq W) i e l (sound_without H o.author o.seq W h) (λ x p. (in_without o.author o.seq x W p).1)

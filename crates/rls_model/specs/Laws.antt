@@ -1,0 +1,169 @@
+-- The statements of the laws.
+use Rattle.std.specs.Prelude.{◌≡◌, ◌<◌, ◌≤◌, ◌⊎◌, ◌↔◌, ℕ, ◌+◌, ℤ, pos, ◌-ℤ◌, ◌≤ℤ◌, ◌<ℤ◌, List, [], ◌∷◌, ◌++◌, length, take, drop, filter, slice_get, ◌==◌, Some, None, IsTrue, IsFalse}
+use Rattle.rls_ident.specs.declared.tuple.Tuple.{Tuple}
+use Rattle.rls_ident.specs.declared.tuple.Tuple.TheVariants.{At}
+use Rattle.rls_ident.specs.declared.epoch_name.EpochName.{EpochName}
+use Rattle.rls_ident.specs.declared.epoch_name.EpochName.TheVariants.{Origin}
+use Rattle.rls_ident.specs.Lists.{IsIn}
+use Rattle.rls_ident.specs.Tuples.{replica_of, seq_of, offset_of}
+use Rattle.rls_ident.specs.Identifiers.{last_of}
+use Rattle.rls_ident.specs.Vectors.{at_most}
+use Rattle.rls_runs.specs.Runs.{runs_of}
+use Rattle.rls_rename.specs.Renaming.{new_pos}
+use Rattle.rls_rename.specs.Tree.{IsTree, is_kept}
+use Rattle.rls_ops.specs.declared.op.Op.{Op}
+use Rattle.rls_ops.specs.declared.op.Body.{Body}
+use Rattle.rls_ops.specs.declared.op.Body.TheVariants.{Insert, Rename}
+use Rattle.rls_ops.specs.declared.message.Message.{Message}
+use Rattle.rls_model.specs.declared.edit.Edit.{Edit}
+use Rattle.rls_model.specs.declared.edit.Edit.TheVariants as edits
+use Rattle.rls_model.specs.History.{Entry, Accepted, History, Then, me_of, ops, count, count_of, members_of, has_left, row}
+use Rattle.rls_model.specs.Stability.{stable}
+use Rattle.rls_model.specs.Stems.{stems, stem_of, is_used, may_use, stems_after}
+use Rattle.rls_model.specs.Epochs.{epochs, greatest}
+use Rattle.rls_model.specs.Document.{Character, chars, chars_of, ident_in, idents, text}
+use Rattle.rls_model.specs.Receiving.{State}
+use Rattle.rls_model.specs.WellFormed.{IsLarge, IsText, IsEdit}
+use Rattle.rls_model.specs.Legal.{IsLegal, IsSound}
+use Rattle.rls_model.specs.Editing.{next_seq, made, edit_fault}
+use Rattle.rls_model.specs.Taking.{Limit, take_within}
+use Rattle.rls_model.specs.EditRun.{edit_within}
+use Rattle.rls_model.specs.Worlds.{World, empty_world, Happening, run, AreEvents, AreWhole}
+-- a renaming keeps the order, forward and back undo each other, and translation doesn't depend on the way
+pub use Rattle.rls_rename.specs.Laws.{OrderKept, Inverse, PathFree}
+
+-- ---- one history
+
+-- the epochs of a legal history form one tree
+abbrev pub OneTree : Type 0
+OneTree = (H : History) → IsLegal H → IsTree (record { top = Origin; nodes = epochs H })
+
+-- the identifier's last tuple has this author, number and offset
+abbrev pub HasTriple : List Tuple → ℕ → ℕ → ℤ → Type 0
+HasTriple x a s k = (replica_of (last_of x) ≡ a) × (seq_of (last_of x) ≡ s) × (offset_of (last_of x) ≡ k)
+
+-- a rename takes one offset of its own stem for each identifier
+abbrev pub IsOfRename : Op → Body → ℕ → ℕ → ℤ → Type 0
+IsOfRename o (Rename former) a s k = (a ≡ o.author) × (s ≡ o.seq) × (pos 0 ≤ℤ k) × (k <ℤ pos (length former))
+IsOfRename o _ a s k = ⊥
+
+-- the operation uses this
+abbrev pub IsUsedBy : Op → ℕ → ℕ → ℤ → Type 0
+IsUsedBy o a s k = ((c : Character) × IsIn c (chars_of o o.body) × HasTriple c.ident a s k) ⊎ IsOfRename o o.body a s k
+
+-- an insertion may begin with its first identifier
+abbrev pub MayBegin : History → Op → Body → Type 0
+MayBegin G o (Insert first text) = IsTrue (may_use (stems G) o.author o.seq (last_of first) (length text))
+MayBegin G o _ = Unit {0}
+
+-- what a member's next operation uses was used by none before
+abbrev pub NoneUsed : Type 0
+NoneUsed = (G : History) (o : Op) → IsLegal G → o.seq ≡ count_of G o.author + 1 → MayBegin G o o.body →
+    (a s : ℕ) (k : ℤ) → IsUsedBy o a s k → IsFalse (is_used (stems G) a s k)
+
+-- and afterwards just this is used beside what was used before
+abbrev pub AllUsed : Type 0
+AllUsed = (G : History) (o : Op) → IsLegal G → o.seq ≡ count_of G o.author + 1 → MayBegin G o o.body →
+    (a s : ℕ) (k : ℤ) → IsTrue (is_used (stems_after (stems G) o.author o.seq o.body) a s k) ↔ (IsTrue (is_used (stems G) a s k) ⊎ IsUsedBy o a s k)
+
+-- a member's operations
+abbrev pub ops_of : History → ℕ → List Op
+ops_of H a = filter (λ o. o.author == a) (ops H)
+
+-- a member's stems depend on its own operations alone
+abbrev pub OwnStems : Type 0
+OwnStems = (G H : History) (a s : ℕ) → IsLegal G → IsLegal H → ops_of G a ≡ ops_of H a → stem_of (stems G) a s ≡ stem_of (stems H) a s
+
+-- the three together
+abbrev pub Fresh : Type 0
+Fresh = NoneUsed × AllUsed × OwnStems
+
+-- characters that have one identifier in one epoch are one
+abbrev pub Distinct : Type 0
+Distinct = (H : History) (c d : Character) (e : EpochName) → IsLegal H → IsIn c (chars H) → IsIn d (chars H) → IsTrue (is_kept Origin (epochs H) e) →
+    ident_in H e c ≡ ident_in H e d → c ≡ d
+
+-- the stable vector is at most the count and at most the row of each member that hasn't left, and nothing that may follow lowers it
+abbrev pub Stable : Type 0
+Stable = (H : History) → IsLegal H →
+    IsTrue (at_most (stable H) (count H))
+    × ((a : ℕ) → a < members_of H → IsFalse (has_left H a) → IsTrue (at_most (stable H) (row H a)))
+    × ((e : Entry) → IsLegal (Then H e) → IsTrue (at_most (stable H) (stable (Then H e))))
+
+-- the history after an edit
+abbrev pub edited : History → Edit → History
+edited H edit = Then H (Accepted (made H edit))
+
+-- what an edit makes may follow
+abbrev pub MadeFits : Type 0
+MadeFits = (H : History) (edit : Edit) → IsLegal H → IsEdit edit → edit_fault H edit ≡ None → IsLegal (edited H edit)
+
+-- the text is one run of n characters, of which the first has this offset in the stem that the next own operation of H begins
+abbrev pub IsOneRun : History → History → ℤ → ℕ → Type 0
+IsOneRun H K k n = runs_of (idents K) ≡ (At (new_pos (idents H)) (me_of H) (next_seq H) k ∷ [], n) ∷ []
+
+-- a rename makes one run of the text, which an insertion right after it lengthens at its end or at its front
+abbrev pub RenamedRun : Type 0
+RenamedRun = (H : History) (cs : List ℕ) → IsLegal H → IsText cs → edit_fault H edits.Rename ≡ None →
+    let K = edited H edits.Rename in let n = length (text H) in
+    (IsOneRun H K (pos 0) n × (text K ≡ text H))
+    × (edit_fault K (edits.Insert n cs) ≡ None → n + length cs ≤ 1073741824 → IsOneRun H (edited K (edits.Insert n cs)) (pos 0) (n + length cs))
+    × (edit_fault K (edits.Insert 0 cs) ≡ None → IsOneRun H (edited K (edits.Insert 0 cs)) (pos 0 -ℤ pos (length cs)) (n + length cs))
+
+-- an insertion lands where it was asked for
+abbrev pub InsertionLands : Type 0
+InsertionLands = (H : History) (at : ℕ) (cs : List ℕ) → IsLegal H → IsEdit (edits.Insert at cs) → edit_fault H (edits.Insert at cs) ≡ None →
+    text (edited H (edits.Insert at cs)) ≡ take at (text H) ++ (cs ++ drop at (text H))
+
+-- ---- two histories
+
+-- the same operations were accepted
+abbrev pub HaveSameOps : History → History → Type 0
+HaveSameOps G H = (o : Op) → IsIn o (ops G) ↔ IsIn o (ops H)
+
+-- the same text with the same runs at the same greatest epoch
+abbrev pub ShowSame : History → History → Type 0
+ShowSame G H = (greatest G ≡ greatest H) × (text G ≡ text H) × (runs_of (idents G) ≡ runs_of (idents H))
+
+-- what two histories show depends on their operations alone
+abbrev pub SameOperations : Type 0
+SameOperations = (G H : History) → IsLegal G → IsLegal H → HaveSameOps G H → ShowSame G H
+
+-- ---- worlds
+
+-- this is the world of members that began afresh, after these events
+abbrev pub IsAfter : World → List Happening → Type 0
+IsAfter w hs = (group members : ℕ) × IsLarge group × (0 < members) × (members ≤ 64) × AreEvents hs × (run (empty_world group members) hs ≡ w)
+
+-- the member has this state
+abbrev pub IsAt : World → ℕ → State → Type 0
+IsAt w i s = slice_get w.states i ≡ Some s
+
+-- each state is a legal history with waiting operations that fit to it
+abbrev pub WorldsLegal : Type 0
+WorldsLegal = (w : World) (hs : List Happening) (i : ℕ) (s : State) → IsAfter w hs → IsAt w i s → IsLegal s.history × IsSound s
+
+-- two members with equal counts have the same operations and show the same
+abbrev pub EqualVectors : Type 0
+EqualVectors = (w : World) (hs : List Happening) (i j : ℕ) (s t : State) → IsAfter w hs → IsAt w i s → IsAt w j t →
+    count s.history ≡ count t.history → HaveSameOps s.history t.history × ShowSame s.history t.history
+
+-- no sent message is refused in any part, however far it is taken
+abbrev pub NoneTakenRefused : World → Type 0
+NoneTakenRefused w = (i : ℕ) (s : State) (m : Message) (limit : Limit) → IsAt w i s → IsIn m w.sent → (take_within limit s m).refused ≡ []
+
+-- no edit releases what is refused
+abbrev pub NoneReleasedRefused : World → Type 0
+NoneReleasedRefused w = (i : ℕ) (s : State) (edit : Edit) (limit : Limit) → IsAt w i s → IsEdit edit → edit_fault s.history edit ≡ None → (edit_within limit s edit).refused ≡ []
+
+-- no edit releases anything
+abbrev pub NoneReleased : World → Type 0
+NoneReleased w = (i : ℕ) (s : State) (edit : Edit) (limit : Limit) → IsAt w i s → IsEdit edit → edit_fault s.history edit ≡ None → (edit_within limit s edit).released ≡ 0
+
+-- each waiting operation was made by its author
+abbrev pub WaitingMade : World → Type 0
+WaitingMade w = (i : ℕ) (s : State) (o : Op) → IsAt w i s → IsIn o s.waiting → (t : State) × IsAt w o.author t × IsIn o (ops t.history)
+
+-- in a world nothing is refused
+abbrev pub NoRefusal : Type 0
+NoRefusal = (w : World) (hs : List Happening) → IsAfter w hs → NoneTakenRefused w × NoneReleasedRefused w × WaitingMade w × (AreWhole hs → NoneReleased w)

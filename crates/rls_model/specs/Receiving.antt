@@ -1,0 +1,124 @@
+-- What a replica does with an operation that arrives.
+use Rattle.std.specs.Prelude.{ℕ, zero, suc, Bool, true, false, not, ◌&&◌, ◌||◌, List, [], ◌∷◌, length, ◌==◌, nat_lt, nat_le, find, Option, Some, None, if◌then◌else◌}
+use Rattle.rls_ident.specs.Vectors.{at_most}
+use Rattle.rls_ops.specs.declared.op.Op.{Op}
+use Rattle.rls_ops.specs.declared.op.Shape.{Shape}
+use Rattle.rls_ops.specs.Shapes.{shape_fault}
+use Rattle.rls_ops.specs.Same.{op_eq}
+use Rattle.rls_model.specs.Answers.{Reason, Misshapen, Own, Forked, Answer, Applies, Repeats, Waits, Refuses, Released}
+use Rattle.rls_model.specs.History.{Accepted, History, Then, count, count_of, me_of, members_of}
+use Rattle.rls_model.specs.Fitting.{refusal}
+
+-- the operation has this author and number
+abbrev pub is_numbered : ℕ → ℕ → Op → Bool
+is_numbered a s o = (o.author == a) && (o.seq == s)
+
+-- what waits under this number
+abbrev pub waiting_under : List Op → ℕ → ℕ → Option Op
+waiting_under W a s = find (is_numbered a s) W
+
+-- the first operation comes before the second, by author and then by number
+abbrev pub comes_before : Op → Op → Bool
+comes_before o p = nat_lt o.author p.author || ((o.author == p.author) && nat_lt o.seq p.seq)
+
+-- the list with o in its place
+abbrev pub with_waiting : Op → List Op → List Op
+with_waiting o [] = o ∷ []
+with_waiting o (p ∷ ps) = if comes_before p o then p ∷ with_waiting o ps else o ∷ p ∷ ps
+
+-- the list without the operation under this number
+abbrev pub without : ℕ → ℕ → List Op → List Op
+without a s [] = []
+without a s (p ∷ ps) = if is_numbered a s p then without a s ps else p ∷ without a s ps
+
+-- the answer to an operation whose causes are there
+abbrev pub verdict_of : Option Reason → Answer
+verdict_of None = Applies
+verdict_of (Some r) = Refuses r
+
+-- the answer where this operation waits under o's number, or none does
+abbrev pub answer_beside : History → Op → Option Op → Answer
+answer_beside H o None = if not (at_most o.context (count H)) then Waits else verdict_of (refusal H o)
+answer_beside H o (Some w) =
+    if not (op_eq w o) then Refuses (Forked w)
+    else if not (at_most o.context (count H)) then Waits
+    else verdict_of (refusal H o)
+
+-- the answer where the shape has this fault, or none
+abbrev pub answer_after_shape : Bool → History → List Op → Op → Option Shape → Answer
+answer_after_shape own H W o (Some s) = Refuses (Misshapen s)
+answer_after_shape own H W o None =
+    if nat_le o.seq (count_of H o.author) then Repeats
+    else if not own && (o.author == me_of H) then Refuses (Own o.seq)
+    else answer_beside H o (waiting_under W o.author o.seq)
+
+-- the answer to an operation that arrives, where `own` says whether the replica's own ones are taken too
+unfoldable pub answer : Bool → History → List Op → Op → Answer
+answer own H W o = answer_after_shape own H W o (shape_fault (members_of H) o)
+
+-- a history and the operations that wait, in increasing order of author and number
+pub record State : Type 0 where
+  pub history : History
+  pub waiting : List Op
+
+-- the operation is accepted, and takes what waits under its number out
+abbrev pub accept : State → Op → State
+accept s o = record { history = Then s.history (Accepted o); waiting = without o.author o.seq s.waiting }
+
+-- the state after this answer
+abbrev pub after : Answer → State → Op → State
+after Applies s o = accept s o
+after Waits s o = record { history = s.history; waiting = with_waiting o (without o.author o.seq s.waiting) }
+after _ s o = s
+
+-- the answer to an operation that arrives
+abbrev pub receive : State → Op → Answer
+receive s o = answer false s.history s.waiting o
+
+-- the state after it
+abbrev pub receive_after : State → Op → State
+receive_after s o = after (receive s o) s o
+
+-- the answer where the replica's own operations are taken too
+abbrev pub replay : State → Op → Answer
+replay s o = answer true s.history s.waiting o
+
+-- the state after it
+abbrev pub replay_after : State → Op → State
+replay_after s o = after (replay s o) s o
+
+-- the first waiting operation whose context is at most the count
+abbrev pub first_ready : State → Option Op
+first_ready s = find (λ w. at_most w.context (count s.history)) s.waiting
+
+-- what is released where this operation is the first ready one
+abbrev pub release_of : State → Option Op → Option Released
+release_of s None = None
+release_of s (Some w) = Some (record { author = w.author; seq = w.seq; refusal = refusal s.history w })
+
+-- what is answered where the first ready operation is looked at
+abbrev pub release : State → Option Released
+release s = release_of s (first_ready s)
+
+-- the state after this operation was released with this refusal, if any
+abbrev pub after_refusal : Option Reason → State → Op → State
+after_refusal None s w = accept s w
+after_refusal (Some r) s w = record { history = s.history; waiting = without w.author w.seq s.waiting }
+
+-- the state where this operation is the first ready one
+abbrev pub after_release : State → Option Op → State
+after_release s None = s
+after_release s (Some w) = after_refusal (refusal s.history w) s w
+
+-- the state after it
+abbrev pub release_after : State → State
+release_after s = after_release s (first_ready s)
+
+-- the state after n releases
+abbrev pub released_times : ℕ → State → State
+released_times zero s = s
+released_times (suc n) s = released_times n (release_after s)
+
+-- the state after releases until none is ready: each takes one operation out, so there are at most as many as wait
+unfoldable pub release_all : State → State
+release_all s = released_times (length s.waiting) s

@@ -1,0 +1,4 @@
+pub mod Shapes
+pub mod Sizes
+pub mod Same
+pub mod Spelling

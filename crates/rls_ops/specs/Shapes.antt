@@ -1,0 +1,46 @@
+-- The shape of an operation.
+use Rattle.std.specs.Prelude.{ℕ, ◌-◌, pos, ◌+ℤ◌, Bool, false, ◌&&◌, not, length, slice_index, ◌==◌, nat_lt, if◌then◌else◌, Option, Some, None}
+use Rattle.std.specs.Int.RustNames.{int_lt}
+use Rattle.rls_ident.specs.Tuples.{offset_of}
+use Rattle.rls_ident.specs.Identifiers.{last_of, greatest_offset}
+use Rattle.rls_ops.specs.declared.op.Op.{Op}
+use Rattle.rls_ops.specs.declared.op.Body.{Body}
+use Rattle.rls_ops.specs.declared.op.Body.TheVariants.{Insert, Delete, Rename, Leave}
+use Rattle.rls_ops.specs.declared.op.Shape.{Shape}
+use Rattle.rls_ops.specs.declared.op.Shape.TheVariants.{Author, Context, EmptyBody, TooLong, OffsetEnd}
+
+-- the number is at least 1, and the context has a count for each member, of which the author's is one less
+abbrev pub is_next_of : Op → ℕ → Bool
+is_next_of o members = nat_lt 0 o.seq && (length o.context == members) && (slice_index o.context o.author == o.seq - 1)
+
+-- how many characters or identifiers the body has
+abbrev pub body_len : Body → ℕ
+body_len (Insert first text) = length text
+body_len (Delete targets) = length targets
+body_len (Rename former) = length former
+body_len Leave = 0
+
+-- the body has no character and no identifier; a leave needs none
+abbrev pub is_empty : Body → Bool
+is_empty Leave = false
+is_empty b = body_len b == 0
+
+-- the most characters or identifiers that a body may have
+abbrev pub body_limit : Body → ℕ
+body_limit (Insert first text) = 1048576
+body_limit _ = 4194304
+
+-- the last character of an insertion has an offset above the greatest one
+abbrev pub passes_end : Body → Bool
+passes_end (Insert first text) = int_lt (greatest_offset +ℤ pos 1) (offset_of (last_of first) +ℤ pos (length text))
+passes_end _ = false
+
+-- the first fault of the shape, if there is one
+abbrev pub shape_fault : ℕ → Op → Option Shape
+shape_fault members o =
+    if not (nat_lt o.author members) then Some Author
+    else if not (is_next_of o members) then Some Context
+    else if is_empty o.body then Some EmptyBody
+    else if nat_lt (body_limit o.body) (body_len o.body) then Some (TooLong (body_len o.body))
+    else if passes_end o.body then Some OffsetEnd
+    else None

@@ -1,0 +1,9 @@
+//! Operations and messages.
+#![tactic(auto)]
+
+mod message;
+mod op;
+
+pub use message::Message;
+pub use op::{Body, Op, Ops, Shape};
+pub use rls_runs::Text;

@@ -1,0 +1,2 @@
+pub mod RunsOf
+mod Worked

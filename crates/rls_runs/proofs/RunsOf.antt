@@ -1,0 +1,90 @@
+-- Lists of identifiers and their maximal runs.
+use Rattle.std.proofs.Common.{◌≡◌, ℕ, zero, suc, ◌+◌, ◌-◌, Bool, true, false, cond, List, [], ◌∷◌, ◌++◌, length, Option, Some, None, refl, sym, ap, subst, ◌∙◌, append_assoc, arith}
+use Rattle.std.specs.Prelude.{ℤ, pos, negsuc, ◌+ℤ◌, IsTrue, not, ◌&&◌, nat_lt}
+use Rattle.std.specs.Ordering.{is_eq}
+use Rattle.std.specs.Cmp.Lexicographic.{slice_cmp}
+use Rattle.std.proofs.lemmas.Int.{ints}
+use Rattle.std.proofs.lemmas.Cmp.{lists_total, tied_itself}
+use Rattle.std.proofs.lemmas.Bool.{and_parts, and_from}
+use Rattle.rls_ident.specs.declared.tuple.Tuple.{Tuple}
+use Rattle.rls_ident.specs.declared.tuple.Tuple.TheVariants.{Low, At, High}
+use Rattle.rls_ident.specs.Tuples.{tuple_cmp, raised, offset_of}
+use Rattle.rls_ident.specs.Identifiers.{shifted, follows, ident_lt, last_of}
+use Rattle.rls_ident.proofs.Tuples.{tuple_total}
+use Rattle.rls_runs.specs.Runs.{run_idents, put_run, runs_of, is_apart, run_last, idents_of, are_apart, run_before}
+
+-- ---- identifiers that are shifted
+
+raised_zero : (t : Tuple) → raised (pos 0) t ≡ t
+raised_zero (At p r s o) = ap (λ z. At p r s z) (omega (arith, ints))
+raised_zero Low = refl
+raised_zero High = refl
+
+raised_raised : (j k : ℤ) (t : Tuple) → raised j (raised k t) ≡ raised (k +ℤ j) t
+raised_raised j k (At p r s o) = ap (λ z. At p r s z) (omega (arith, ints))
+raised_raised j k Low = refl
+raised_raised j k High = refl
+
+pub shifted_zero : (x : List Tuple) → shifted (pos 0) x ≡ x
+shifted_zero [] = refl
+shifted_zero (t ∷ []) = ap (λ u. u ∷ []) (raised_zero t)
+shifted_zero (t ∷ (u ∷ x)) = ap (λ w. t ∷ w) (shifted_zero (u ∷ x))
+
+pub shifted_shifted : (j k : ℤ) (x : List Tuple) → shifted j (shifted k x) ≡ shifted (k +ℤ j) x
+shifted_shifted j k [] = refl
+shifted_shifted j k (t ∷ []) = ap (λ u. u ∷ []) (raised_raised j k t)
+shifted_shifted j k (t ∷ (u ∷ [])) = ap (λ w. t ∷ w) (shifted_shifted j k (u ∷ []))
+shifted_shifted j k (t ∷ (u ∷ (v ∷ x))) = ap (λ w. t ∷ w) (shifted_shifted j k (u ∷ (v ∷ x)))
+
+pub follows_next : (x : List Tuple) → follows (shifted (pos 1) x) x ≡ true
+follows_next x = ap is_eq (tied_itself (lists_total tuple_total) (shifted (pos 1) x))
+
+-- ---- runs that don't touch are the maximal ones
+
+-- the first of these runs, if there is one, isn't right behind x
+abbrev pub IsFree : List Tuple → List (List Tuple × ℕ) → Type 0
+IsFree x [] = Unit {0}
+IsFree x (r ∷ rs) = follows r.0 x ≡ false
+
+put_alone : (x : List Tuple) (rs : List (List Tuple × ℕ)) → IsFree x rs → put_run x rs ≡ (x, 1) ∷ rs
+put_alone x [] free = refl
+put_alone x ((y, n) ∷ rs) free = ap (λ b. cond b ((x, n + 1) ∷ rs) ((x, 1) ∷ (y, n) ∷ rs)) free
+
+put_before : (x y : List Tuple) (n : ℕ) (rs : List (List Tuple × ℕ)) → follows y x ≡ true → put_run x ((y, n) ∷ rs) ≡ (x, n + 1) ∷ rs
+put_before x y n rs e = ap (λ b. cond b ((x, n + 1) ∷ rs) ((x, 1) ∷ (y, n) ∷ rs)) e
+
+pub runs_of_run : (n : ℕ) (x : List Tuple) (tail : List (List Tuple)) (rs : List (List Tuple × ℕ)) → runs_of tail ≡ rs → IsFree (shifted (pos n) x) rs → runs_of (run_idents x (suc n) ++ tail) ≡ (x, suc n) ∷ rs
+runs_of_run zero x tail rs e free = ap (put_run x) e ∙ put_alone x rs (subst (λ y. IsFree y rs) (shifted_zero x) free)
+runs_of_run (suc n) x tail rs e free =
+    let there : shifted (pos n) (shifted (pos 1) x) ≡ shifted (pos (suc n)) x = shifted_shifted (pos n) (pos 1) x ∙ ap (λ z. shifted z x) (omega (arith, ints)) in
+    let rest : runs_of (run_idents (shifted (pos 1) x) (suc n) ++ tail) ≡ (shifted (pos 1) x, suc n) ∷ rs = runs_of_run n (shifted (pos 1) x) tail rs e (subst (λ y. IsFree y rs) (sym there) free) in
+    ap (put_run x) rest ∙ put_before x (shifted (pos 1) x) (suc n) rs (follows_next x) ∙ ap (λ k. (x, k) ∷ rs) (omega arith)
+
+not_true : (b : Bool) → not b ≡ true → b ≡ false
+not_true true e = cc
+not_true false e = refl
+
+free_of : (r : List Tuple × ℕ) (rs : List (List Tuple × ℕ)) → are_apart (Some r) rs ≡ true → IsFree (run_last r) rs
+free_of r [] c = tt
+free_of r (s ∷ rs) c =
+    let p = and_parts (nat_lt 0 s.1 && is_apart (Some r) s) (are_apart (Some s) rs) c in
+    let q = and_parts (nat_lt 0 s.1) (is_apart (Some r) s) p.0 in
+    not_true (follows s.0 (run_last r)) (and_parts (ident_lt (run_last r) s.0) (not (follows s.0 (run_last r))) q.1).1
+
+pub runs_of_idents : (before : Option (List Tuple × ℕ)) (rs : List (List Tuple × ℕ)) → are_apart before rs ≡ true → runs_of (idents_of rs) ≡ rs
+runs_of_idents before [] c = refl
+runs_of_idents before ((x, zero) ∷ rs) c = absurd cc
+runs_of_idents before ((x, suc n) ∷ rs) c =
+    let p = and_parts (nat_lt 0 (suc n) && is_apart before (x, suc n)) (are_apart (Some (x, suc n)) rs) c in
+    runs_of_run n x (idents_of rs) rs (runs_of_idents (Some (x, suc n)) rs p.1) (subst (λ k. IsFree (shifted (pos k) x) rs) (omega arith) (free_of (x, suc n) rs p.1))
+
+-- one more run behind these
+pub apart_more : (before : Option (List Tuple × ℕ)) (rs : List (List Tuple × ℕ)) (r : List Tuple × ℕ) → are_apart before rs ≡ true → nat_lt 0 r.1 ≡ true → is_apart (run_before before rs) r ≡ true → are_apart before (rs ++ r ∷ []) ≡ true
+apart_more before [] r h n a = and_from (nat_lt 0 r.1 && is_apart before r) true (and_from (nat_lt 0 r.1) (is_apart before r) n a) refl
+apart_more before (q ∷ rs) r h n a =
+    let p = and_parts (nat_lt 0 q.1 && is_apart before q) (are_apart (Some q) rs) h in
+    and_from (nat_lt 0 q.1 && is_apart before q) (are_apart (Some q) (rs ++ r ∷ [])) p.0 (apart_more (Some q) rs r p.1 n a)
+
+pub run_before_pushed : (before : Option (List Tuple × ℕ)) (rs : List (List Tuple × ℕ)) (r : List Tuple × ℕ) → run_before before (rs ++ r ∷ []) ≡ Some r
+run_before_pushed before [] r = refl
+run_before_pushed before (q ∷ rs) r = run_before_pushed (Some q) rs r

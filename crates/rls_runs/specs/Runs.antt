@@ -1,0 +1,59 @@
+-- Lists of identifiers and their runs. A run is a first identifier and a length.
+use Rattle.std.specs.Prelude.{ℕ, zero, suc, ◌+◌, pos, Bool, true, false, ◌&&◌, not, List, [], ◌∷◌, ◌++◌, ◌-◌, nat_lt, Option, Some, None, if◌then◌else◌, IsTrue}
+use Rattle.std.specs.List.{list_all}
+use Rattle.rls_ident.specs.declared.tuple.Tuple.{Tuple}
+use Rattle.rls_ident.specs.Identifiers.{is_ident, shifted, ident_lt, follows}
+
+-- n identifiers from this one on, with one base and consecutive offsets
+abbrev pub run_idents : List Tuple → ℕ → List (List Tuple)
+run_idents x zero = []
+run_idents x (suc n) = x ∷ run_idents (shifted (pos 1) x) n
+
+-- the lists, one after another
+abbrev pub joined : List (List (List Tuple)) → List (List Tuple)
+joined [] = []
+joined (run ∷ runs) = run ++ joined runs
+
+-- each identifier is less than the next
+abbrev pub is_increasing : List (List Tuple) → Bool
+is_increasing [] = true
+is_increasing (x ∷ []) = true
+is_increasing (x ∷ (y ∷ ys)) = ident_lt x y && is_increasing (y ∷ ys)
+
+-- a strictly increasing list of identifiers
+abbrev pub AreIdents : List (List Tuple) → Type 0
+AreIdents xs = IsTrue (list_all is_ident xs) × IsTrue (is_increasing xs)
+
+-- the runs with one more identifier in front, which joins the first run where that follows it
+abbrev pub put_run : List Tuple → List (List Tuple × ℕ) → List (List Tuple × ℕ)
+put_run x [] = (x, 1) ∷ []
+put_run x ((y, n) ∷ runs) = if follows y x then (x, n + 1) ∷ runs else (x, 1) ∷ (y, n) ∷ runs
+
+-- the maximal runs of a list
+abbrev pub runs_of : List (List Tuple) → List (List Tuple × ℕ)
+runs_of [] = []
+runs_of (x ∷ xs) = put_run x (runs_of xs)
+
+-- the last identifier of a run
+abbrev pub run_last : List Tuple × ℕ → List Tuple
+run_last r = shifted (pos (r.1 - 1)) r.0
+
+-- the run is above the last identifier of the run before and doesn't touch it
+abbrev pub is_apart : Option (List Tuple × ℕ) → List Tuple × ℕ → Bool
+is_apart None r = true
+is_apart (Some before) r = ident_lt (run_last before) r.0 && not (follows r.0 (run_last before))
+
+-- the identifiers of these runs
+abbrev pub idents_of : List (List Tuple × ℕ) → List (List Tuple)
+idents_of [] = []
+idents_of (r ∷ rs) = run_idents r.0 r.1 ++ idents_of rs
+
+-- each run has a length, and is above the run before and doesn't touch it
+abbrev pub are_apart : Option (List Tuple × ℕ) → List (List Tuple × ℕ) → Bool
+are_apart before [] = true
+are_apart before (r ∷ rs) = nat_lt 0 r.1 && is_apart before r && are_apart (Some r) rs
+
+-- the run behind which the next one stands, after these runs
+abbrev pub run_before : Option (List Tuple × ℕ) → List (List Tuple × ℕ) → Option (List Tuple × ℕ)
+run_before before [] = before
+run_before before (r ∷ rs) = run_before (Some r) rs
