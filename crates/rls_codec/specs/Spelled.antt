@@ -1,0 +1,93 @@
+-- Which values have a spelling: those that keep the rules of the format.
+use Rattle.std.specs.Prelude.{◌≡◌, ℕ, ◌^◌, ◌<◌, ◌≤◌, true, ℤ, negsuc, List, [], ◌∷◌, length, encode_utf8_all, All, Option, Some, None, codes, IsTrue, nat_lt}
+use Rattle.std.specs.Str.{all_scalars}
+use Rattle.rls_ident.specs.declared.tuple.Tuple.{Tuple}
+use Rattle.rls_ident.specs.declared.tuple.Tuple.TheVariants.{Low, At, High}
+use Rattle.rls_ident.specs.declared.epoch_name.EpochName.{EpochName}
+use Rattle.rls_ident.specs.declared.epoch_name.EpochName.TheVariants.{Origin, Of}
+use Rattle.rls_ident.specs.Identifiers.{least_offset}
+use Rattle.rls_runs.specs.Runs.{runs_of, is_apart, idents_of}
+use Rattle.rls_ops.specs.declared.op.Op.{Op}
+use Rattle.rls_ops.specs.declared.op.Body.{Body}
+use Rattle.rls_ops.specs.declared.op.Body.TheVariants.{Insert, Delete, Rename, Leave}
+use Rattle.rls_ops.specs.declared.message.Message.{Message}
+use Rattle.rls_ops.specs.Spelling.{op_bytes}
+use Rattle.rls_codec.specs.Reading.{is_offset, is_run_len, op_limit, is_member_count}
+
+-- a number of four bytes, and of eight
+abbrev pub IsSmall : ℕ → Type 0
+IsSmall n = n < 2 ^ 32
+
+abbrev pub IsLarge : ℕ → Type 0
+IsLarge n = n < 2 ^ 64
+
+-- each part fits behind the one before
+abbrev pub Chained : {A : Type 0} → (Option A → A → Type 0) → Option A → List A → Type 0
+Chained F before [] = Unit {0}
+Chained F before (x ∷ xs) = F before x × Chained F (Some x) xs
+
+-- an `At` with an offset from this one on
+abbrev pub FitsAt : ℤ → Tuple → Type 0
+FitsAt least (At p r s o) = IsSmall p × IsSmall r × IsSmall s × IsTrue (is_offset least o)
+FitsAt least Low = ⊥
+FitsAt least High = ⊥
+
+-- a tuple in front of another
+abbrev pub FitsInner : Tuple → Type 0
+FitsInner (At p r s o) = FitsAt (negsuc 1073741824) (At p r s o)
+FitsInner Low = Unit {0}
+FitsInner High = Unit {0}
+
+-- the last tuple is an `At`
+abbrev pub FitTuples : List Tuple → Type 0
+FitTuples [] = ⊥
+FitTuples (t ∷ []) = FitsAt least_offset t
+FitTuples (t ∷ (u ∷ ts)) = FitsInner t × FitTuples (u ∷ ts)
+
+abbrev pub FitsIdent : List Tuple → Type 0
+FitsIdent x = IsSmall (length x) × FitTuples x
+
+abbrev pub FitsRun : List Tuple × ℕ → Type 0
+FitsRun r = FitsIdent r.0 × IsSmall r.1 × IsTrue (is_run_len r.0 r.1)
+
+-- a run behind the run before
+abbrev pub FitsBehind : Option (List Tuple × ℕ) → List Tuple × ℕ → Type 0
+FitsBehind before r = FitsRun r × IsTrue (is_apart before r)
+
+-- the identifiers of runs that fit one behind the other
+abbrev pub FitRuns : List (List Tuple) → Type 0
+FitRuns xs = IsSmall (length (runs_of xs)) × Chained FitsBehind None (runs_of xs) × (idents_of (runs_of xs) ≡ xs)
+
+abbrev pub FitsName : EpochName → Type 0
+FitsName Origin = Unit {0}
+FitsName (Of r s) = IsSmall r × IsSmall s
+
+abbrev pub FitsText : List ℕ → Type 0
+FitsText cs = IsTrue (all_scalars cs) × IsSmall (length (encode_utf8_all cs))
+
+abbrev pub FitsBody : Body → Type 0
+FitsBody (Insert first text) = FitsIdent first × FitsText text
+FitsBody (Delete targets) = FitRuns targets
+FitsBody (Rename former) = FitRuns former
+FitsBody Leave = Unit {0}
+
+abbrev pub FitsVector : ℕ → List ℕ → Type 0
+FitsVector members v = (length v ≡ members) × Chained (λ before. IsSmall) None v
+
+-- an operation among so many members that has a spelling
+pub record IsSpelled (members : ℕ) (o : Op) : Type 0 where
+  pub author : IsSmall o.author
+  pub seq : IsSmall o.seq
+  pub context : FitsVector members o.context
+  pub epoch : FitsName o.epoch
+  pub body : FitsBody o.body
+  pub limit : length (op_bytes o) ≤ op_limit
+
+-- a message that has a spelling
+pub record IsSpelledMessage (m : Message) : Type 0 where
+  pub group : IsLarge m.group
+  pub members : IsTrue (is_member_count m.members)
+  pub from : m.from < m.members
+  pub vector : FitsVector m.members m.vector
+  pub count : IsSmall (length m.ops)
+  pub ops : Chained (λ before. IsSpelled m.members) None m.ops

@@ -1,0 +1,101 @@
+//! Single fields, and parts made of them.
+
+ghost use Rattle.std.specs.Prelude.{◌≡◌, List, IfOk};
+ghost use Rattle.std.specs.Int.{w32};
+ghost use Rattle.std.specs.Str.{chars};
+ghost use Rattle.rls_codec.specs.Reading.{byte_at, number_at, signed_at, name_at, many_at, vector_at, text_at};
+ghost use Rattle.rls_codec.specs.Gives.{Gives};
+
+use crate::fault::ReadError;
+use rls_ident::{EpochName, Vector};
+use rls_runs::Text;
+use std::alloc::{AllocError, Global};
+
+pub fn byte(bytes: &[u8]) -> Result<(u8, &[u8]), ReadError>
+    ensures { Gives (λ x. (x.0, x.1.now)) result (byte_at bytes.now) }
+{
+    match bytes {
+        [byte, rest @ ..] => Ok((*byte, rest)),
+        [] => Err(ReadError::Fault { left: 0 }),
+    }
+}
+
+pub fn u32_at(bytes: &[u8]) -> Result<(u32, &[u8]), ReadError>
+    ensures { Gives (λ x. (x.0, x.1.now)) result (number_at w32 bytes.now) }
+{
+    if bytes.len() < 4 {
+        return Err(ReadError::Fault { left: bytes.len() });
+    }
+    let (front, rest) = bytes.split_at(4);
+    let number = u32::from_be_bytes([front[0], front[1], front[2], front[3]]);
+    Ok((number, rest))
+}
+
+pub fn i32_at(bytes: &[u8]) -> Result<(i32, &[u8]), ReadError>
+    ensures { Gives (λ x. (x.0, x.1.now)) result (signed_at bytes.now) }
+{
+    if bytes.len() < 4 {
+        return Err(ReadError::Fault { left: bytes.len() });
+    }
+    let (front, rest) = bytes.split_at(4);
+    let number = i32::from_be_bytes([front[0], front[1], front[2], front[3]]);
+    Ok((number, rest))
+}
+
+/// The name of an epoch.
+#[tactic(auto, unfolding(crate::specs::Reading::name_at))]
+pub fn epoch_name(bytes: &[u8]) -> Result<(EpochName, &[u8]), ReadError>
+    ensures { Gives (λ x. (x.0, x.1.now)) result (name_at bytes.now) }
+{
+    let (kind, rest) = byte(bytes)?;
+    match kind {
+        0 => Ok((EpochName::Origin, rest)),
+        1 => {
+            let (replica, rest) = u32_at(rest)?;
+            let (seq, rest) = u32_at(rest)?;
+            Ok((EpochName::Of { replica, seq }, rest))
+        }
+        _ => Err(ReadError::Fault { left: bytes.len() }),
+    }
+}
+
+/// A number for each member.
+pub fn vector(alloc: Global, members: u32, bytes: &[u8]) -> Result<(Vector, &[u8]), ReadError>
+    ensures { Gives (λ x. (x.0, x.1.now)) result (vector_at members bytes.now) }
+{
+    let mut counts = Vec::new(alloc);
+    let mut rest = bytes;
+    for _ in 0..members {
+        let (count, after) = u32_at(rest)?;
+        counts.push(count)?;
+        rest = after;
+    }
+    Ok((Vector::from_vec(counts), rest))
+}
+
+fn chars_of(alloc: Global, text: &str) -> Result<Vec<char>, AllocError>
+    ensures { IfOk result (λ v. v.items ≡ chars text.now) }
+{
+    let found: Vec<char> = text.chars().collect(alloc)?;
+    Ok(found)
+}
+
+/// A text behind its number of bytes.
+#[tactic(auto, using(crate::proofs::Utf8::utf8_from_text, crate::proofs::Utf8::no_utf8), unfolding(crate::specs::Reading::text_at))]
+pub fn text(alloc: Global, bytes: &[u8]) -> Result<(Text, &[u8]), ReadError>
+    ensures { Gives (λ x. (x.0, x.1.now)) result (text_at bytes.now) }
+{
+    let (len, rest) = u32_at(bytes)?;
+    let len = len as usize;
+    if rest.len() < len {
+        return Err(ReadError::Fault { left: rest.len() });
+    }
+    let (front, after) = rest.split_at(len);
+    match str::from_utf8(front) {
+        Ok(text) => {
+            let found = chars_of(alloc, text)?;
+            Ok((Text::from_vec(found), after))
+        }
+        Err(_) => Err(ReadError::Fault { left: rest.len() }),
+    }
+}

@@ -1,0 +1,101 @@
+//! Tuples, identifiers and runs.
+
+ghost use Rattle.std.specs.Prelude.{◌≡◌, List, IfOk, IsTrue};
+ghost use Rattle.std.specs.List.{All};
+ghost use Rattle.rls_ident.specs.Tuples.{at_spot};
+ghost use Rattle.rls_ident.specs.Identifiers.{is_inner_bounded, is_last_bounded};
+ghost use Rattle.rls_codec.specs.Reading.{is_offset, spot_at, inner_at, last_at, many_at, ident_at};
+ghost use Rattle.rls_codec.specs.Gives.{Gives};
+
+use crate::fault::ReadError;
+use crate::fields::{byte, i32_at, u32_at};
+use rls_ident::{Ident, Spot, Tuple};
+use std::alloc::Global;
+
+/// The greatest offset.
+const GREATEST: i32 = 1_073_741_823;
+
+fn is_offset(least: i32, offset: i32) -> bool
+    ensures { result ≡ is_offset least offset }
+{
+    least <= offset && offset <= GREATEST
+}
+
+/// An `At` behind its kind, with an offset from `least` on.
+#[tactic(auto, unfolding(crate::specs::Reading::spot_at))]
+fn spot(least: i32, bytes: &[u8]) -> Result<(Spot, &[u8]), ReadError>
+    ensures read { Gives (λ x. (at_spot x.0, x.1.now)) result (spot_at least bytes.now) }
+    ensures bounded { IfOk result (λ x. IsTrue (is_offset least x.0.offset)) }
+{
+    let (pos, rest) = u32_at(bytes)?;
+    let (replica, rest) = u32_at(rest)?;
+    let (seq, rest) = u32_at(rest)?;
+    let (offset, after) = i32_at(rest)?;
+    if !is_offset(least, offset) {
+        return Err(ReadError::Fault { left: rest.len() });
+    }
+    let spot = Spot {
+        pos,
+        replica,
+        seq,
+        offset,
+    };
+    Ok((spot, after))
+}
+
+#[tactic(auto, unfolding(crate::specs::Reading::inner_at))]
+fn inner(bytes: &[u8]) -> Result<(Tuple, &[u8]), ReadError>
+    ensures read { Gives (λ x. (x.0, x.1.now)) result (inner_at bytes.now) }
+    ensures bounded { IfOk result (λ x. IsTrue (is_inner_bounded x.0)) }
+{
+    let (kind, rest) = byte(bytes)?;
+    match kind {
+        0 => Ok((Tuple::Low, rest)),
+        1 => {
+            let (spot, after) = spot(-1_073_741_825, rest)?;
+            Ok((spot.as_tuple(), after))
+        }
+        2 => Ok((Tuple::High, rest)),
+        _ => Err(ReadError::Fault { left: bytes.len() }),
+    }
+}
+
+#[tactic(auto, unfolding(crate::specs::Reading::last_at))]
+fn last(bytes: &[u8]) -> Result<(Spot, &[u8]), ReadError>
+    ensures read { Gives (λ x. (at_spot x.0, x.1.now)) result (last_at bytes.now) }
+    ensures bounded { IfOk result (λ x. IsTrue (is_last_bounded (at_spot x.0))) }
+{
+    let (kind, rest) = byte(bytes)?;
+    if kind != 1 {
+        return Err(ReadError::Fault { left: bytes.len() });
+    }
+    spot(-1_073_741_824, rest)
+}
+
+fn inners(alloc: Global, count: u32, bytes: &[u8]) -> Result<(Vec<Tuple>, &[u8]), ReadError>
+    ensures read { Gives (λ x. (x.0.items, x.1.now)) result (many_at inner_at count bytes.now) }
+    ensures bounded { IfOk result (λ x. All (λ t. IsTrue (is_inner_bounded t)) x.0.items) }
+{
+    let mut tuples = Vec::new(alloc);
+    let mut rest = bytes;
+    for _ in 0..count {
+        let (tuple, after) = inner(rest)?;
+        tuples.push(tuple)?;
+        rest = after;
+    }
+    Ok((tuples, rest))
+}
+
+/// An identifier.
+#[tactic(auto, unfolding(crate::specs::Reading::ident_at))]
+pub fn ident(alloc: Global, bytes: &[u8]) -> Result<(Ident, &[u8]), ReadError>
+    ensures { Gives (λ x. (x.0, x.1.now)) result (ident_at bytes.now) }
+{
+    let (count, rest) = u32_at(bytes)?;
+    if count == 0 {
+        return Err(ReadError::Fault { left: bytes.len() });
+    }
+    let (front, rest) = inners(alloc, count - 1, rest)?;
+    let (spot, rest) = last(rest)?;
+    Ok((Ident::ending(front, spot), rest))
+}

@@ -1,0 +1,158 @@
+-- Reading files.
+use Rattle.std.specs.Prelude.{ℕ, ℤ, pos, zero, suc, Bool, true, ◌&&◌, ◌||◌, not, List, [], ◌∷◌, ◌++◌, ◌-◌, ◌==◌, length, map, slice_index, codes, Option, Some, None, Result, Ok, Err, nat_lt, nat_le, if◌then◌else◌}
+use Rattle.std.specs.Int.{w32, w64}
+use Rattle.rls_ident.specs.declared.tuple.Tuple.{Tuple}
+use Rattle.rls_ops.specs.declared.op.Op.{Op}
+use Rattle.rls_codec.specs.Reading.{Read, ◌>>=◌, with_rule, byte_at, number_at, signed_at, chain_at, many_at, counted_at, vector_at, name_at, runs_at, next_run_at, text_at, op_at, magic_at, is_member_count, whole}
+use Rattle.rls_model.specs.declared.parts.Stem.{Stem}
+use Rattle.rls_model.specs.declared.parts.EpochPart.{EpochPart}
+use Rattle.rls_model.specs.declared.parts.TextRun.{TextRun}
+use Rattle.rls_model.specs.declared.parts.Parts.{Parts}
+use Rattle.rls_file.specs.Files.{Entry, Accepted, Acknowledged, newest_form, Broken, place_of_broken}
+
+-- ---- parts of a snapshot
+
+-- the member is above the one before
+abbrev pub is_above : Option ℕ → ℕ → Bool
+is_above None n = true
+is_above (Some before) n = nat_lt before n
+
+abbrev pub left_at : ℕ → Option ℕ → List ℕ → Read ℕ
+left_at members before bytes = with_rule (λ n. nat_lt n members && is_above before n) (number_at w32) bytes
+
+-- form 2 has no low
+abbrev pub low_at : ℕ → List ℕ → Read ℤ
+low_at form bytes = if form == 2 then Ok (pos 0, bytes) else signed_at bytes
+
+unfoldable pub stem_at : ℕ → ℕ → List ℕ → Read Stem
+stem_at form author bytes = do
+  s0 ← number_at w32 bytes
+  low ← low_at form s0.1
+  next ← number_at w32 low.1
+  Ok (record { author = author; s0 = s0.0; low = low.0; next = next.0 }, next.1)
+
+-- the stems of n members from this one on
+unfoldable pub stems_at : ℕ → ℕ → ℕ → List ℕ → Read (List Stem)
+stems_at form author zero bytes = Ok ([], bytes)
+stems_at form author (suc n) bytes = do
+  own ← counted_at (λ before. stem_at form author) bytes
+  others ← stems_at form (suc author) n own.1
+  Ok (own.0 ++ others.0, others.1)
+
+-- the first epoch has its name alone; each other has the place of its parent and its former identifiers
+unfoldable pub epoch_at : Option EpochPart → List ℕ → Read EpochPart
+epoch_at None bytes = name_at bytes >>= λ name. Ok (record { name = name.0; parent = None; former = [] }, name.1)
+epoch_at (Some before) bytes = do
+  name ← name_at bytes
+  parent ← number_at w32 name.1
+  former ← runs_at parent.1
+  Ok (record { name = name.0; parent = Some parent.0; former = former.0 }, former.1)
+
+abbrev pub run_before : Option TextRun → Option (List Tuple × ℕ)
+run_before None = None
+run_before (Some r) = Some r.run
+
+-- the text has as many characters as the run is long
+unfoldable pub text_run_at : Option TextRun → List ℕ → Read TextRun
+text_run_at before bytes = do
+  run ← next_run_at (run_before before) bytes
+  text ← with_rule (λ cs. length cs == run.0.1) text_at run.1
+  Ok (record { run = run.0; text = text.0 }, text.1)
+
+-- a number of operations, and the operations
+abbrev pub ops_at : ℕ → List ℕ → Read (List Op)
+ops_at members bytes = counted_at (λ before. op_at members) bytes
+
+-- what follows the own number in the forms 2 to 4
+unfoldable pub snapshot_at : ℕ → ℕ → ℕ → ℕ → List ℕ → Read Parts
+snapshot_at form group members me bytes = do
+  vector ← vector_at members bytes
+  rows ← many_at (vector_at members) (members - 1) vector.1
+  left ← (if form == 4 then counted_at (left_at members) rows.1 else Ok ([], rows.1))
+  stems ← stems_at form 0 members left.1
+  epoch_count ← with_rule (nat_lt 0) (number_at w32) stems.1
+  epochs ← chain_at epoch_at None epoch_count.0 epoch_count.1
+  text ← counted_at text_run_at epochs.1
+  log ← ops_at members text.1
+  held ← ops_at members log.1
+  Ok (record {
+      group = group; members = members; me = me; vector = vector.0; rows = rows.0; stems = stems.0; epochs = epochs.0;
+      text = text.0; log = log.0; held = held.0; left = left.0;
+    }, held.1)
+
+-- ---- a journal
+
+-- what the rules of a journal ask of the events so far
+pub record Judge : Type 0 where
+  -- replay answers `Applied`
+  pub applies : List Entry → Op → Bool
+  -- acknowledge counts it
+  pub counts : List Entry → ℕ → List ℕ → Bool
+  -- the operation may wait, behind the one before
+  pub waits : List Entry → Option Op → Op → Bool
+
+-- an event behind these
+abbrev pub entry_of_kind : Judge → ℕ → List Entry → ℕ → ℕ → List ℕ → Read Entry
+entry_of_kind judge members before place zero bytes = with_rule (judge.applies before) (op_at members) bytes >>= λ o. Ok (Accepted o.0, o.1)
+entry_of_kind judge members before place (suc k) bytes = do
+  from ← with_rule (λ n. nat_lt n members) (number_at w32) bytes
+  counts ← vector_at members from.1
+  if judge.counts before from.0 counts.0 then Ok (Acknowledged from.0 counts.0, counts.1) else Err place
+
+unfoldable pub entry_at : Judge → ℕ → List Entry → List ℕ → Read Entry
+entry_at judge members before bytes = with_rule (λ k. nat_le k 1) byte_at bytes >>= λ kind. entry_of_kind judge members before (length bytes) kind.0 kind.1
+
+-- so many parts, where each is read in a state and gives the next state
+unfoldable pub steps_at : {S A : Type 0} → (S → List ℕ → Read A) → (S → A → S) → S → ℕ → List ℕ → Read (List A)
+steps_at part next state zero bytes = Ok ([], bytes)
+steps_at part next state (suc n) bytes = do
+  first ← part state bytes
+  others ← steps_at part next (next state first.0) n first.1
+  Ok (first.0 ∷ others.0, others.1)
+
+-- n more events behind these
+abbrev pub entries_at : Judge → ℕ → List Entry → ℕ → List ℕ → Read (List Entry)
+entries_at judge members before n bytes = steps_at (entry_at judge members) (λ es e. es ++ e ∷ []) before n bytes
+
+-- what a file says
+pub data Content : Type 0 where
+  Journal : (group members me : ℕ) → (entries : List Entry) → (waiting : List Op) → Content
+  Snapshot : (form : ℕ) → (parts : Parts) → Content
+
+unfoldable pub journal_at : Judge → ℕ → ℕ → ℕ → List ℕ → Read Content
+journal_at judge group members me bytes = do
+  count ← number_at w32 bytes
+  entries ← entries_at judge members [] count.0 count.1
+  waiting ← counted_at (λ before. with_rule (judge.waits entries.0 before) (op_at members)) entries.1
+  Ok (Journal group members me entries.0 waiting.0, waiting.1)
+
+-- ---- files
+
+abbrev pub is_file_form : ℕ → Bool
+is_file_form n = nat_lt 0 n && nat_le n newest_form
+
+unfoldable pub file_at : Judge → List ℕ → Read Content
+file_at judge bytes = do
+  magic ← magic_at (codes "RLSF") bytes
+  form ← with_rule is_file_form byte_at magic.1
+  group ← number_at w64 form.1
+  members ← with_rule is_member_count (number_at w32) group.1
+  me ← with_rule (λ n. nat_lt n members.0) (number_at w32) members.1
+  if form.0 == 1 then journal_at judge group.0 members.0 me.0 me.1
+    else (snapshot_at form.0 group.0 members.0 me.0 me.1 >>= λ s. Ok (Snapshot form.0 s.0, s.1))
+
+-- ---- the rules on all parts
+
+-- the content, or the place that a broken rule names
+abbrev pub unless_broken : ℕ → Parts → Option Broken → Result Content ℕ
+unless_broken form p None = Ok (Snapshot form p)
+unless_broken form p (Some b) = Err (place_of_broken form p b)
+
+-- the content, where no rule of its parts is broken
+abbrev pub tested : (Parts → Option Broken) → Content → Result Content ℕ
+tested broken (Journal group members me entries waiting) = Ok (Journal group members me entries waiting)
+tested broken (Snapshot form parts) = unless_broken form parts (broken parts)
+
+-- what the file says, or the place of the first fault
+unfoldable pub file_of : Judge → (Parts → Option Broken) → List ℕ → Result Content ℕ
+file_of judge broken bytes = whole bytes (file_at judge bytes) >>= tested broken

@@ -1,0 +1,2 @@
+//! Replica files of all forms.
+#![tactic(auto)]
