@@ -5,7 +5,6 @@ use Rattle.std.specs.declared.cmp.Ordering.{Ordering}
 use Rattle.std.specs.declared.cmp.Ordering.TheVariants.{Less, Equal, Greater}
 use Rattle.std.specs.Ordering.{ordering_then, nat_cmp, int_cmp, is_eq, MatchOrdering}
 use Rattle.std.specs.Cmp.Lexicographic.{slice_cmp}
-use Rattle.std.proofs.lemmas.Bool.Decides.{nat_tests}
 use Rattle.std.proofs.lemmas.Cmp.{ranked, tied_itself}
 use Rattle.std.proofs.lemmas.Int.{ints}
 use Rattle.rls_ident.specs.declared.tuple.Tuple.{Tuple}
@@ -15,6 +14,7 @@ use Rattle.rls_ident.specs.Identifiers.{IsIdent, shifted}
 use Rattle.rls_ident.specs.Between.{last_pos, lower_number, upper_number, middle, below, upper_behind, between}
 use Rattle.rls_ident.proofs.Lists.{Lt, lt_nil, lt_cons, then_less}
 use Rattle.rls_ident.proofs.Tuples.{tuples, tuple_total, tuple_same, next}
+use Rattle.rls_ident.proofs.Members.{le_is}
 
 -- the upper bound is missing, or is an identifier above the lower bound
 abbrev pub IsOver : List Tuple → List Tuple → Type 0
@@ -95,9 +95,6 @@ pred_less : (t : Tuple) → is_at t ≡ true → tuple_cmp (raised (negsuc 0) t)
 pred_less Low h = absurd (cc)
 pred_less (At p r s o) h = let e : o ≡ (o +ℤ negsuc 0) +ℤ pos 1 = omega (arith, ints) in (next (spot p r s o) (o +ℤ negsuc 0) o e).less
 pred_less High h = absurd (cc)
-
-le_is : (m n : ℕ) → nat_le m n ≡ true → m ≤ n
-le_is m n h = grind (arith, nat_tests)
 
 -- ---- below an upper bound
 

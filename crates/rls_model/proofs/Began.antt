@@ -1,14 +1,14 @@
 -- The first identifier of an own insertion: it may be used, and it has room.
 use Rattle.std.proofs.Common.{◌≡◌, ℕ, ◌+◌, ◌≤◌, Bool, true, false, List, [], ◌∷◌, refl, ap, ◌∙◌, arith, nat_le}
-use Rattle.std.specs.Prelude.{if◌then◌else◌, ◌&&◌, ◌||◌, ◌==◌, Option, Some, None, ℤ, pos, negsuc, ◌+ℤ◌, ◌-ℤ◌, ◌≤ℤ◌}
+use Rattle.std.specs.Prelude.{if◌then◌else◌, ◌&&◌, ◌==◌, Option, Some, None, ℤ, pos, negsuc, ◌+ℤ◌, ◌-ℤ◌, ◌≤ℤ◌}
 use Rattle.std.specs.Int.RustNames.{int_le}
 use Rattle.std.specs.Ordering.{int_eq}
-use Rattle.std.proofs.lemmas.Bool.Decides.{nat_tests, Decides-int_eq}
 use Rattle.std.proofs.lemmas.Int.{ints}
 use Rattle.rls_ident.specs.declared.tuple.Tuple.{Tuple}
 use Rattle.rls_ident.specs.Tuples.{replica_of, seq_of, offset_of, raised}
 use Rattle.rls_ident.specs.Identifiers.{IsIdent, last_of, shifted, least_offset, greatest_offset}
 use Rattle.rls_ident.specs.Between.{last_pos, lower_number, upper_number, middle, below, upper_behind, between}
+use Rattle.rls_ident.proofs.Members.{and_left, and_right, and_true, eq_is, eq_test, int_is, int_test, neq_test, or_left, or_right}
 use Rattle.rls_model.specs.declared.parts.Stem.{Stem}
 use Rattle.rls_model.specs.Stems.{stem_of, due_of, due_offset, is_due, ends_at_low, may_use}
 use Rattle.rls_model.specs.Editing.{own_stem, ends_below, begins_above, may_append, may_prepend, or_missing, first_before, first_between}
@@ -55,41 +55,8 @@ between_ends (t ∷ ts) hi a s = go (nat_le (lower_number (t ∷ []) + 2) (upper
 
 -- ---- tests
 
-eq_is : (m n : ℕ) → (m == n) ≡ true → m ≡ n
-eq_is m n h = grind (arith, nat_tests)
-
-eq_test : (m n : ℕ) → m ≡ n → (m == n) ≡ true
-eq_test m n h = grind (arith, nat_tests)
-
-neq_test : (m n : ℕ) → (m ≡ n → ⊥) → (m == n) ≡ false
-neq_test m n h = grind (arith, nat_tests)
-
-int_is : (x y : ℤ) → int_eq x y ≡ true → x ≡ y
-int_is x y h = (Decides-int_eq x y).0 h
-
-int_test : (x y : ℤ) → x ≡ y → int_eq x y ≡ true
-int_test x y h = (Decides-int_eq x y).1 h
-
 le_is : (x y : ℤ) → int_le x y ≡ true → x ≤ℤ y
 le_is x y h = omega (arith, ints)
-
-or_left : (b c : Bool) → b ≡ true → (b || c) ≡ true
-or_left b c e = rw e refl
-
-or_right : (b c : Bool) → c ≡ true → (b || c) ≡ true
-or_right true c e = refl
-or_right false c e = e
-
-and_left : (b c : Bool) → (b && c) ≡ true → b ≡ true
-and_left true c e = refl
-and_left false c e = e
-
-and_right : (b c : Bool) → (b && c) ≡ true → c ≡ true
-and_right true c e = e
-and_right false c e = absurd (cc)
-
-and_true : (b c : Bool) → b ≡ true → c ≡ true → (b && c) ≡ true
-and_true b c e f = rw (e, f) refl
 
 -- ---- the three ways
 
@@ -151,10 +118,6 @@ prepends ss a s n x h i u r e o =
     }
 
 -- ---- together
-
-bool_cases : {P : Type 0} (b : Bool) → (b ≡ true → P) → (b ≡ false → P) → P
-bool_cases true f g = f refl
-bool_cases false f g = g refl
 
 -- a neighbour is an identifier, where there is one
 abbrev pub IsNeighbour : Option (List Tuple) → Type 0

@@ -1,5 +1,5 @@
 -- Two characters have different identifiers in every epoch.
-use Rattle.std.proofs.Common.{◌≡◌, ℕ, suc, Bool, true, false, List, [], ◌∷◌, ◌++◌, refl, sym, ap, ◌∙◌, subst, arith, inl, inr, ◌⊎◌, ⊎_elim, append_assoc, append-nil}
+use Rattle.std.proofs.Common.{◌≡◌, ℕ, suc, true, false, List, [], ◌∷◌, ◌++◌, refl, sym, ap, ◌∙◌, subst, arith, inl, inr, ◌⊎◌, ⊎_elim, append_assoc, append-nil}
 use Rattle.std.specs.Prelude.{◌||◌, ℤ, pos}
 use Rattle.std.proofs.lemmas.Int.{ints}
 use Rattle.rls_ident.specs.declared.tuple.Tuple.{Tuple}
@@ -9,6 +9,7 @@ use Rattle.rls_ident.specs.Lists.{IsIn}
 use Rattle.rls_ident.specs.EpochNames.{name_eq}
 use Rattle.rls_ident.specs.Tuples.{replica_of, seq_of, offset_of, is_at}
 use Rattle.rls_ident.specs.Identifiers.{IsIdent, last_of, shifted}
+use Rattle.rls_ident.proofs.Members.{bool_cases}
 use Rattle.rls_rename.specs.Tree.{Node, name_of, is_of, has_node, is_kept, AreNodes, AreBelow}
 use Rattle.rls_rename.specs.Tree as tree
 use Rattle.rls_rename.proofs.Kept.{kept_more}
@@ -120,10 +121,6 @@ IsKnown U ns c = IsIdent c.ident × (is_kept Origin ns c.epoch ≡ true) × ((f 
 
 kept_before : (node : Node) (older : List Node) (f : EpochName) → is_of node f ≡ false → is_kept Origin (node ∷ older) f ≡ true → is_kept Origin older f ≡ true
 kept_before node older f h k = sym (ap (λ b. name_eq f Origin || (b || has_node older f)) h) ∙ k
-
-bool_cases : {P : Type 0} (b : Bool) → (b ≡ true → P) → (b ≡ false → P) → P
-bool_cases true f g = f refl
-bool_cases false f g = g refl
 
 -- an old character after one more rename
 known_renamed : (U V : ℕ → ℕ → ℤ → Type 0) (node : Node) (older : List Node) (c : Character) → AreNodes (node ∷ older) → AreBelow Origin (node ∷ older) → ((a s : ℕ) (k : ℤ) → U a s k → V a s k) → IsCovered V node.renaming →

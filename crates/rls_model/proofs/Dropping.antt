@@ -1,17 +1,15 @@
 -- Which epochs are retained, and that a window which keeps them answers as the whole does.
 use Rattle.std.proofs.Common.{◌≡◌, ℕ, zero, suc, ◌≤◌, ◌<◌, Bool, true, false, List, [], ◌∷◌, ◌++◌, map, refl, sym, ap, ◌∙◌, subst, inl, inr, ◌⊎◌, ⊎_elim, arith, nat_le}
 use Rattle.std.specs.Prelude.{not, ◌||◌, filter, None, slice_index}
-use Rattle.std.specs.declared.cmp.Ordering.{Ordering}
-use Rattle.std.specs.declared.cmp.Ordering.TheVariants.{Less, Equal, Greater}
+use Rattle.std.specs.declared.cmp.Ordering.TheVariants.{Less}
 use Rattle.std.specs.Ordering.{is_lt}
 use Rattle.std.specs.Cmp.Lexicographic.{slice_cmp}
-use Rattle.std.proofs.lemmas.Bool.Decides.{nat_tests}
 use Rattle.rls_ident.specs.declared.epoch_name.EpochName.{EpochName}
 use Rattle.rls_ident.specs.declared.epoch_name.EpochName.TheVariants.{Origin, Of}
 use Rattle.rls_ident.specs.EpochNames.{name_eq, is_within}
 use Rattle.rls_ident.specs.Lists.{IsIn}
 use Rattle.rls_ident.specs.Vectors.{at_most}
-use Rattle.rls_ident.proofs.Members.{bool_cases, not_true, not_is, and_left, and_right, in_left, in_right, in_split, snoc_split, in_map, map_in, in_filter, filter_in}
+use Rattle.rls_ident.proofs.Members.{bool_cases, not_true, not_is, and_left, and_right, in_left, in_right, in_split, snoc_split, in_map, map_in, in_filter, filter_in, le_is, le_test, less_is}
 use Rattle.rls_rename.specs.Tree.{Node, name_of, is_of, has_node, is_kept, AreNodes, AreBelow, path, renaming_cmp, epoch_cmp, names}
 use Rattle.rls_rename.specs.Tree as tree
 use Rattle.rls_rename.specs.Connected.{top_path, spanned}
@@ -40,12 +38,6 @@ use Rattle.rls_model.proofs.Named.{grown_kept}
 
 -- ---- vectors
 
-le_is : (m n : ℕ) → nat_le m n ≡ true → m ≤ n
-le_is m n h = grind (arith, nat_tests)
-
-le_test : (m n : ℕ) → m ≤ n → nat_le m n ≡ true
-le_test m n h = grind (arith, nat_tests)
-
 pub at_most_index : (v w : List ℕ) (r : ℕ) → at_most v w ≡ true → slice_index v r ≤ slice_index w r
 at_most_index [] w r h = omega arith
 at_most_index (m ∷ v) [] r h = absurd (cc)
@@ -70,11 +62,6 @@ within_grows H v w h =
 
 -- ---- what is retained
 
-lt_is : (o : Ordering) → is_lt o ≡ true → o ≡ Less
-lt_is Less h = refl
-lt_is Equal h = absurd (cc)
-lt_is Greater h = absurd (cc)
-
 -- the greatest stable epoch
 abbrev pub threshold : History → EpochName
 threshold H = greatest_within H (stable H)
@@ -95,7 +82,7 @@ reached_needed : (H : History) (f : EpochName) → IsReached H f → IsIn f (nee
 reached_needed H f r =
     let t : EpochName → Bool = λ e. not (is_lt (epoch_cmp (epochs H) e (threshold H))) in
     in_left f (filter t (Origin ∷ names (epochs H))) (map (λ o. o.epoch) (unstable H))
-    (filter_in t f (Origin ∷ names (epochs H)) (kept_in Origin (epochs H) f r.0) (ap not (not_true (is_lt (epoch_cmp (epochs H) f (threshold H))) (λ h. r.1 (lt_is (epoch_cmp (epochs H) f (threshold H)) h)))))
+    (filter_in t f (Origin ∷ names (epochs H)) (kept_in Origin (epochs H) f r.0) (ap not (not_true (is_lt (epoch_cmp (epochs H) f (threshold H))) (λ h. r.1 (less_is (epoch_cmp (epochs H) f (threshold H)) h)))))
 
 unstable_needed : (H : History) (o : Op) → IsIn o (unstable H) → IsIn o.epoch (needed H)
 unstable_needed H o p = in_right o.epoch (filter (λ e. not (is_lt (epoch_cmp (epochs H) e (threshold H)))) (Origin ∷ names (epochs H))) (map (λ o. o.epoch) (unstable H)) (map_in (λ o. o.epoch) o (unstable H) p)
@@ -212,7 +199,7 @@ from_needed H U A l k g p =
     (λ r. let h = k.keeps g (reached_retained H l g r) in
     inr (in_left g (filter t (U ∷ names A)) (map (λ o. o.epoch) (unstable H))
     (filter_in t g (U ∷ names A) (kept_in U A g h)
-    (ap not (not_true (is_lt (epoch_cmp A g (tree.greatest_within U A (stable H)))) (λ m. r.1 (sym (reached_same H U A l k g h) ∙ lt_is (epoch_cmp A g (tree.greatest_within U A (stable H))) m)))))))
+    (ap not (not_true (is_lt (epoch_cmp A g (tree.greatest_within U A (stable H)))) (λ m. r.1 (sym (reached_same H U A l k g h) ∙ less_is (epoch_cmp A g (tree.greatest_within U A (stable H))) m)))))))
     (λ r. inr (in_right g (filter t (U ∷ names A)) (map (λ o. o.epoch) (unstable H)) (subst (λ e. IsIn e (map (λ (o : Op). o.epoch) (unstable H))) r.2 (map_in (λ (o : Op). o.epoch) r.0 (unstable H) r.1))))
     (needed_cases H g p)
 

@@ -1,7 +1,6 @@
 -- What an operation uses was not used before, and a member's stems depend on its own operations alone.
 use Rattle.std.proofs.Common.{◌≡◌, ℕ, suc, ◌+◌, ◌≤◌, ◌<◌, Bool, true, false, List, [], ◌∷◌, ◌++◌, length, refl, sym, ap, ◌∙◌, subst, arith, inl, inr, ◌⊎◌, ⊎_elim}
 use Rattle.std.specs.Prelude.{if◌then◌else◌, cond, ◌==◌, filter, Option, Some, None, ℤ, pos, ◌+ℤ◌, ◌≤ℤ◌, ◌<ℤ◌, IsTrue}
-use Rattle.std.proofs.lemmas.Bool.Decides.{nat_tests}
 use Rattle.std.proofs.lemmas.Int.{by_lt_z, ints}
 use Rattle.std.proofs.lemmas.List.{append-nil}
 use Rattle.std.proofs.lemmas.List.Elements.{filter-append}
@@ -10,6 +9,7 @@ use Rattle.rls_ident.specs.declared.tuple.Tuple.TheVariants.{Low, At, High}
 use Rattle.rls_ident.specs.Lists.{IsIn}
 use Rattle.rls_ident.specs.Tuples.{replica_of, seq_of, offset_of, is_at, raised}
 use Rattle.rls_ident.specs.Identifiers.{last_of, shifted}
+use Rattle.rls_ident.proofs.Members.{bool_cases, eq_is, eq_not, not_true}
 use Rattle.rls_ops.specs.declared.op.Op.{Op}
 use Rattle.rls_ops.specs.declared.op.Body.{Body}
 use Rattle.rls_ops.specs.declared.op.Body.TheVariants.{Insert, Delete, Rename, Leave}
@@ -113,10 +113,6 @@ change_of ss o (Rename former) h z m =
 change_of ss o Leave h z m = Same refl (λ a s j u. ⊎_elim (λ v. v.1) (λ v. v) u)
 
 -- ---- stems of a legal history
-
-bool_cases : {P : Type 0} (b : Bool) → (b ≡ true → P) → (b ≡ false → P) → P
-bool_cases true f g = f refl
-bool_cases false f g = g refl
 
 -- an operation that fits may begin with its first identifier
 fits_begin : (G : History) (o : Op) → MayAccept G o → (first : List Tuple) (text : List ℕ) → o.body ≡ Insert first text → IsTrue (may_use (stems G) o.author o.seq (last_of first) (length text))
@@ -270,21 +266,11 @@ after_agree ss ts a s (Delete targets) h = h
 after_agree ss ts a s (Rename former) h = with_agree (new_stem a s (length former)) ss ts a h
 after_agree ss ts a s Leave h = h
 
-not_true : (b : Bool) → (b ≡ true → ⊥) → b ≡ false
-not_true true h = absurd (h refl)
-not_true false h = refl
-
 -- another member's operation leaves this member's stems
 other_agree : (ss : List Stem) (o : Op) (a : ℕ) → Change ss o o.body → (o.author ≡ a → ⊥) → AgreeAt a (stems_after ss o.author o.seq o.body) ss
 other_agree ss o a (Same f n) h q = ap (λ t. stem_of t a q) f
 other_agree ss o a (Changed w p k n f z y g i c) h q =
     ap (λ t. stem_of t a q) f ∙ found_other w ss a q (not_true (is_stem a q w) (λ j. h (sym g.author ∙ (stem_is a q w j).0)))
-
-eq_is : (m n : ℕ) → (m == n) ≡ true → m ≡ n
-eq_is m n h = grind (arith, nat_tests)
-
-eq_not : (m n : ℕ) → (m == n) ≡ false → m ≡ n → ⊥
-eq_not m n h e = grind (arith, nat_tests)
 
 pub own_grow : (H : History) (a : ℕ) → IsLegal H → AgreeAt a (stems H) (grow [] (ops_of H a))
 own_grow (history.Fresh group me members) a l q = refl

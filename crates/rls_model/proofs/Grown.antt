@@ -1,11 +1,11 @@
 -- What an operation does to its author's stems.
 use Rattle.std.proofs.Common.{◌≡◌, ℕ, ◌+◌, ◌≤◌, ◌<◌, Bool, true, false, List, refl, sym, ap, ◌∙◌, subst, arith, inl, inr, ◌⊎◌, ⊎_elim}
-use Rattle.std.specs.Prelude.{if◌then◌else◌, ◌&&◌, ◌||◌, ◌==◌, Option, Some, None, ℤ, pos, ◌+ℤ◌, ◌≤ℤ◌, ◌<ℤ◌, IsTrue}
+use Rattle.std.specs.Prelude.{if◌then◌else◌, ◌&&◌, ◌==◌, Option, Some, None, ℤ, pos, ◌+ℤ◌, ◌≤ℤ◌, ◌<ℤ◌, IsTrue}
 use Rattle.std.specs.Ordering.{int_eq}
-use Rattle.std.proofs.lemmas.Bool.Decides.{nat_tests, Decides-int_eq}
 use Rattle.std.proofs.lemmas.Int.{by_lt_z, ints}
 use Rattle.rls_ident.specs.declared.tuple.Tuple.{Tuple}
 use Rattle.rls_ident.specs.Tuples.{replica_of, seq_of, offset_of}
+use Rattle.rls_ident.proofs.Members.{and_left, and_right, eq_is, eq_not, eq_refl, int_is, int_test, neq_test, or_split}
 use Rattle.rls_model.specs.declared.parts.Stem.{Stem}
 use Rattle.rls_model.specs.Stems.{stem_of, has_used, with_stem, new_stem, extended, with_extended, stems_after_insert, due_of, due_offset, is_due, ends_at_low, may_use}
 use Rattle.rls_model.proofs.StemLists.{found_is, used_is, used_from, unused_from}
@@ -16,27 +16,6 @@ pub data Use (ss : List Stem) (a s : ℕ) (t : Tuple) (n : ℕ) : Type 0 where
   Begins : replica_of t ≡ a → seq_of t ≡ s → offset_of t ≡ pos 0 → Use ss a s t n
   Appends : (stem : Stem) → replica_of t ≡ a → (seq_of t ≡ s → ⊥) → stem_of ss a (seq_of t) ≡ Some stem → offset_of t ≡ pos stem.next → Use ss a s t n
   Prepends : (stem : Stem) → replica_of t ≡ a → stem_of ss a (seq_of t) ≡ Some stem → offset_of t +ℤ pos n ≡ stem.low → Use ss a s t n
-
-eq_is : (m n : ℕ) → (m == n) ≡ true → m ≡ n
-eq_is m n h = grind (arith, nat_tests)
-
-eq_not : (m n : ℕ) → (m == n) ≡ false → m ≡ n → ⊥
-eq_not m n h e = grind (arith, nat_tests)
-
-int_is : (x y : ℤ) → int_eq x y ≡ true → x ≡ y
-int_is x y h = (Decides-int_eq x y).0 h
-
-or_split : (b c : Bool) → (b || c) ≡ true → (b ≡ true) ⊎ (c ≡ true)
-or_split true c h = inl refl
-or_split false c h = inr h
-
-and_left : (b c : Bool) → (b && c) ≡ true → b ≡ true
-and_left true c e = refl
-and_left false c e = e
-
-and_right : (b c : Bool) → (b && c) ≡ true → c ≡ true
-and_right true c e = e
-and_right false c e = absurd (cc)
 
 use_due : (ss : List Stem) (a s : ℕ) (t : Tuple) (n : ℕ) → is_due (due_offset ss a s t) (offset_of t) ≡ true → Use ss a s t n
 use_due ss a s t n h = first (replica_of t == a) refl h
@@ -152,15 +131,6 @@ pub record Put (ss : List Stem) (a s : ℕ) (t : Tuple) (n : ℕ) : Type 0 where
   pub some : 0 < seq_of t
   pub upto : seq_of t ≤ s
   pub grown : Grown ss a (seq_of t) (offset_of t) n stem
-
-eq_refl : (n : ℕ) → (n == n) ≡ true
-eq_refl n = grind (arith, nat_tests)
-
-neq_test : (m n : ℕ) → (m ≡ n → ⊥) → (m == n) ≡ false
-neq_test m n h = grind (arith, nat_tests)
-
-int_test : (x y : ℤ) → x ≡ y → int_eq x y ≡ true
-int_test x y h = (Decides-int_eq x y).1 h
 
 -- the list after an insertion that does not begin a stem
 goes_on : (ss : List Stem) (a s : ℕ) (t : Tuple) (n : ℕ) (stem : Stem) → replica_of t ≡ a → (seq_of t ≡ s → ⊥) → stem_of ss a (seq_of t) ≡ Some stem →

@@ -4,7 +4,7 @@ use Rattle.std.specs.Prelude.{not, ◌&&◌, ◌||◌, ◌==◌, if◌then◌els
 use Rattle.std.specs.declared.cmp.Ordering.{Ordering}
 use Rattle.std.specs.declared.cmp.Ordering.TheVariants.{Less, Equal, Greater}
 use Rattle.std.specs.Int.RustNames.{int_le}
-use Rattle.std.specs.List.{list_any, list_all}
+use Rattle.std.specs.List.{list_any}
 use Rattle.std.specs.Ordering.{int_eq, is_lt}
 use Rattle.std.proofs.lemmas.Bool.Decides.{nat_tests}
 use Rattle.std.proofs.lemmas.Int.{ints}
@@ -13,11 +13,11 @@ use Rattle.rls_ident.specs.declared.epoch_name.EpochName.{EpochName}
 use Rattle.rls_ident.specs.declared.epoch_name.EpochName.TheVariants.{Origin}
 use Rattle.rls_ident.specs.Lists.{IsIn}
 use Rattle.rls_ident.specs.Tuples.{offset_of}
-use Rattle.rls_ident.specs.Identifiers.{is_ident, IsIdent, ident_cmp, ident_lt, last_of, shifted, least_offset, greatest_offset}
+use Rattle.rls_ident.specs.Identifiers.{IsIdent, ident_cmp, ident_lt, last_of, shifted, least_offset, greatest_offset}
 use Rattle.rls_ident.specs.Between.{between}
 use Rattle.rls_ident.proofs.BetweenLaws.{IsOver, between_over}
 use Rattle.rls_ident.proofs.Lists.{Lt, lt_trans}
-use Rattle.rls_ident.proofs.Members.{not_true, not_is, and_left, and_right, in_left, in_right, in_split, in_map, map_in, in_filter, filter_in, in_any, in_take, in_drop, take_or_drop}
+use Rattle.rls_ident.proofs.Members.{not_true, not_is, and_right, in_left, in_right, in_split, in_map, map_in, in_filter, filter_in, in_any, in_take, in_drop, take_or_drop}
 use Rattle.rls_ident.proofs.Shifted.{shifted_none, shifted_shifted, shifted_less}
 use Rattle.rls_ident.proofs.Tuples.{tuples}
 use Rattle.rls_rename.specs.Tree.{Node, is_kept}
@@ -45,6 +45,7 @@ use Rattle.rls_model.proofs.Began.{IsNeighbour}
 use Rattle.rls_model.proofs.Made as made
 use Rattle.rls_model.proofs.Named.{char_old, char_new, newborn_unnamed}
 use Rattle.rls_model.proofs.Spliced.{IsAfter, IsBefore, AreNeighbours, ids, entries, chars-entries, entry_place, entries_rise, rises_splice, take_below, drop_above, neighbours, take_map, drop_map, append_map}
+use Rattle.rls_model.proofs.Made.{neighbour, neighbour_before}
 
 -- ---- where the first identifier of an insertion lies
 
@@ -306,16 +307,6 @@ at_most_length H at cs h =
 length_ids : (xs : List Entry) → length (ids xs) ≡ length xs
 length_ids [] = refl
 length_ids (x ∷ xs) = ap suc (length_ids xs)
-
-neighbour : (xs : List (List Tuple)) → list_all is_ident xs ≡ true → (k : ℕ) → IsNeighbour (slice_get xs k)
-neighbour [] h zero = tt
-neighbour [] h (suc k) = tt
-neighbour (x ∷ xs) h zero = and_left (is_ident x) (list_all is_ident xs) h
-neighbour (x ∷ xs) h (suc k) = neighbour xs (and_right (is_ident x) (list_all is_ident xs) h) k
-
-neighbour_before : (xs : List (List Tuple)) → list_all is_ident xs ≡ true → (k : ℕ) → IsNeighbour (get_before xs k)
-neighbour_before xs h zero = tt
-neighbour_before xs h (suc k) = neighbour xs h k
 
 made_lies : (H : History) (at : ℕ) (cs : List ℕ) → IsLegal H → Lies H at (made_first H at cs) cs
 unfolding idents

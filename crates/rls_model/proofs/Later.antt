@@ -1,12 +1,11 @@
 -- After more entries: what is retained, its topmost epoch, the window and the log.
-use Rattle.std.proofs.Common.{◌≡◌, ℕ, ◌≤◌, Bool, true, false, List, [], ◌∷◌, ◌++◌, refl, sym, ap, ◌∙◌, subst, inl, inr, ◌⊎◌, ⊎_elim, arith, nat_le}
+use Rattle.std.proofs.Common.{◌≡◌, ℕ, Bool, true, false, List, [], ◌∷◌, ◌++◌, refl, sym, ap, ◌∙◌, subst, inl, inr, ◌⊎◌, ⊎_elim, arith}
 use Rattle.std.specs.Prelude.{not, cond, filter, slice_index}
-use Rattle.std.proofs.lemmas.Bool.Decides.{nat_tests}
 use Rattle.rls_ident.specs.declared.epoch_name.EpochName.{EpochName}
 use Rattle.rls_ident.specs.declared.epoch_name.EpochName.TheVariants.{Origin}
 use Rattle.rls_ident.specs.Lists.{IsIn}
 use Rattle.rls_ident.specs.Vectors.{at_most}
-use Rattle.rls_ident.proofs.Members.{not_true, each_in, are_in}
+use Rattle.rls_ident.proofs.Members.{not_true, each_in, are_in, le_is, le_test}
 use Rattle.rls_rename.specs.Tree.{Node, name_of, has_node, is_kept, AreNodes, AreBelow, path}
 use Rattle.rls_rename.specs.Connected.{top_path}
 use Rattle.rls_rename.proofs.Growth.{kept_other}
@@ -174,12 +173,6 @@ whole_keeps H l = record {
 -- the operations that a vector doesn't cover, in order
 abbrev pub uncovered : List ℕ → List Op → List Op
 uncovered v os = filter (λ o. not (is_covered v o)) os
-
-le_is : (m n : ℕ) → nat_le m n ≡ true → m ≤ n
-le_is m n h = grind (arith, nat_tests)
-
-le_test : (m n : ℕ) → m ≤ n → nat_le m n ≡ true
-le_test m n h = grind (arith, nat_tests)
 
 covered_more : (v w : List ℕ) (o : Op) → at_most v w ≡ true → is_covered v o ≡ true → is_covered w o ≡ true
 covered_more v w o h k =

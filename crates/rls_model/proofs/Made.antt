@@ -1,6 +1,6 @@
 -- What an edit makes may follow.
-use Rattle.std.proofs.Common.{◌≡◌, ℕ, zero, suc, ◌+◌, ◌-◌, ◌^◌, ◌≤◌, ◌<◌, Bool, true, false, List, [], ◌∷◌, length, take, drop, refl, sym, ap, ◌∙◌, arith, inl, inr, nat_lt, nat_le}
-use Rattle.std.specs.Prelude.{if◌then◌else◌, ◌&&◌, ◌||◌, not, ◌==◌, Option, Some, None, ℤ, pos, ◌+ℤ◌, ◌≤ℤ◌, slice_get, slice_index}
+use Rattle.std.proofs.Common.{◌≡◌, ℕ, zero, suc, ◌+◌, ◌-◌, ◌^◌, ◌≤◌, ◌<◌, Bool, true, false, List, [], ◌∷◌, length, take, drop, refl, sym, ap, ◌∙◌, arith, inl, inr, nat_lt}
+use Rattle.std.specs.Prelude.{if◌then◌else◌, ◌&&◌, not, ◌==◌, Option, Some, None, ℤ, pos, ◌+ℤ◌, ◌≤ℤ◌, slice_get, slice_index}
 use Rattle.std.specs.List.{list_all, list_any}
 use Rattle.std.specs.Int.RustNames.{int_lt}
 use Rattle.std.specs.Ordering.{is_eq}
@@ -17,6 +17,7 @@ use Rattle.rls_ident.specs.Tuples.{offset_of}
 use Rattle.rls_ident.specs.Identifiers.{is_ident, last_of, ident_eq, greatest_offset}
 use Rattle.rls_ident.specs.Vectors.{at_most}
 use Rattle.rls_ident.proofs.Tuples.{tuple_total}
+use Rattle.rls_ident.proofs.Members.{and_left, and_right, and_true, any_in, eq_test, in_map, le_test, lt_test, or_left, or_right}
 use Rattle.rls_rename.specs.Tree.{Node, name_of, is_of, has_node, names, names_within}
 use Rattle.rls_rename.specs.Tree as tree
 use Rattle.rls_rename.proofs.Paths.{name_eq_refl}
@@ -45,7 +46,7 @@ use Rattle.rls_model.proofs.OneTree.{none_else, named_le}
 use Rattle.rls_model.proofs.Stable.{length-count, at_most_refl}
 use Rattle.rls_model.proofs.Grown.{AreEarlier}
 use Rattle.rls_model.proofs.Fresh.{numbers}
-use Rattle.rls_model.proofs.SameOps.{in_map, any_in, in_export}
+use Rattle.rls_model.proofs.SameOps.{in_export}
 use Rattle.rls_model.proofs.Ranges.{count_small, counts_small, greatest_small, idents_good, good_take, good_drop}
 use Rattle.rls_model.proofs.Began.{Began, IsNeighbour, began}
 
@@ -58,12 +59,6 @@ pub foot : (H : History) → IsLegal H → (me_of H < members_of H) × (members_
 foot (history.Fresh group me members) l = (l.1, l.2)
 foot (Then G e) l = foot G l.0
 
-eq_test : (m n : ℕ) → m ≡ n → (m == n) ≡ true
-eq_test m n h = grind (arith, nat_tests)
-
-lt_test : (m n : ℕ) → m < n → nat_lt m n ≡ true
-lt_test m n h = grind (arith, nat_tests)
-
 not_lt_test : (m n : ℕ) → n ≤ m → nat_lt m n ≡ false
 not_lt_test m n h = grind (arith, nat_tests)
 
@@ -72,12 +67,6 @@ neq_of m n h e = grind (arith, nat_tests)
 
 not_lt_of : (m n : ℕ) → nat_lt m n ≡ false → n ≤ m
 not_lt_of m n h = grind (arith, nat_tests)
-
-le_test : (m n : ℕ) → m ≤ n → nat_le m n ≡ true
-le_test m n h = grind (arith, nat_tests)
-
-and_true : (b c : Bool) → b ≡ true → c ≡ true → (b && c) ≡ true
-and_true b c e f = rw (e, f) refl
 
 shape_chain : (b1 b2 b3 b4 b5 : Bool) (x1 x2 x3 x4 x5 : Shape) → b1 ≡ true → b2 ≡ true → b3 ≡ false → b4 ≡ false → b5 ≡ false →
     (if not b1 then Some x1 else if not b2 then Some x2 else if b3 then Some x3 else if b4 then Some x4 else if b5 then Some x5 else None) ≡ None
@@ -102,13 +91,6 @@ all_within : (es : List EpochName) (v : List ℕ) → ((e : EpochName) → IsIn 
 all_within [] v f = refl
 all_within (e ∷ es) v f =
     ap (λ b. if b then e ∷ names_within es v else names_within es v) (f e (inl refl)) ∙ ap (λ x. e ∷ x) (all_within es v (λ d p. f d (inr p)))
-
-or_right : (b c : Bool) → c ≡ true → (b || c) ≡ true
-or_right true c e = refl
-or_right false c e = e
-
-or_left : (b c : Bool) → b ≡ true → (b || c) ≡ true
-or_left b c e = rw e refl
 
 in_names : (ns : List Node) (e : EpochName) → IsIn e (names ns) → (a : ℕ) × (s : ℕ) × (e ≡ Of a s) × (has_node ns (Of a s) ≡ true)
 in_names [] e p = absurd p
@@ -160,21 +142,13 @@ fault_split H edit h =
 unspent : (H : History) (edit : Edit) → op_fault H edit ≡ None → count_of H (me_of H) ≡ 4294967295 → ⊥
 unspent H edit h e = let p = none_else (count_of H (me_of H) == 4294967295) faults.NumbersSpent _ h in neq_of (count_of H (me_of H)) 4294967295 p.0 e
 
-and_left : (b c : Bool) → (b && c) ≡ true → b ≡ true
-and_left true c e = refl
-and_left false c e = e
-
-and_right : (b c : Bool) → (b && c) ≡ true → c ≡ true
-and_right true c e = e
-and_right false c e = absurd (cc)
-
-neighbour : (xs : List (List Tuple)) → list_all is_ident xs ≡ true → (k : ℕ) → IsNeighbour (slice_get xs k)
+pub neighbour : (xs : List (List Tuple)) → list_all is_ident xs ≡ true → (k : ℕ) → IsNeighbour (slice_get xs k)
 neighbour [] h zero = tt
 neighbour [] h (suc k) = tt
 neighbour (x ∷ xs) h zero = and_left (is_ident x) (list_all is_ident xs) h
 neighbour (x ∷ xs) h (suc k) = neighbour xs (and_right (is_ident x) (list_all is_ident xs) h) k
 
-neighbour_before : (xs : List (List Tuple)) → list_all is_ident xs ≡ true → (k : ℕ) → IsNeighbour (get_before xs k)
+pub neighbour_before : (xs : List (List Tuple)) → list_all is_ident xs ≡ true → (k : ℕ) → IsNeighbour (get_before xs k)
 neighbour_before xs h zero = tt
 neighbour_before xs h (suc k) = neighbour xs h k
 

@@ -10,6 +10,7 @@ use Rattle.rls_ident.specs.declared.epoch_name.EpochName.TheVariants.{Origin, Of
 use Rattle.rls_ident.specs.Identifiers.{is_ident, IsIdent, ident_lt}
 use Rattle.rls_ident.specs.Lists.{IsIn}
 use Rattle.rls_ident.specs.Vectors.{raise}
+use Rattle.rls_ident.proofs.Members.{and_left, and_right, and_true}
 use Rattle.rls_runs.specs.Runs.{is_increasing, AreIdents}
 use Rattle.rls_rename.specs.Tree.{has_node, is_kept}
 use Rattle.rls_ops.specs.declared.op.Body.{Body}
@@ -78,17 +79,6 @@ pub greatest_small : (H : History) → IsLegal H → IsName (greatest H)
 greatest_small H l = kept_small H l (greatest H) (top_kept H)
 
 -- ---- identifiers
-
-and_left : (b c : Bool) → (b && c) ≡ true → b ≡ true
-and_left true c e = refl
-and_left false c e = e
-
-and_right : (b c : Bool) → (b && c) ≡ true → c ≡ true
-and_right true c e = e
-and_right false c e = absurd (cc)
-
-and_true : (b c : Bool) → b ≡ true → c ≡ true → (b && c) ≡ true
-and_true b c e f = rw (e, f) refl
 
 abbrev id_of : List Tuple × ℕ → List Tuple
 id_of x = x.0

@@ -2,20 +2,18 @@
 use Rattle.std.proofs.Common.{◌≡◌, ℕ, zero, suc, ◌+◌, ◌^◌, ◌≤◌, ◌<◌, Bool, true, false, List, [], ◌∷◌, ◌++◌, map, length, take, drop, refl, sym, ap, ◌∙◌, subst, ⊎_elim, arith, nat_lt, append_assoc, append-nil, length-append}
 use Rattle.std.specs.Prelude.{not, ◌==◌, if◌then◌else◌, Some, None, ℤ, pos, ◌+ℤ◌, ◌-ℤ◌, ◌≤ℤ◌, slice_get}
 use Rattle.std.specs.Int.RustNames.{int_le}
-use Rattle.std.specs.Ordering.{int_eq, is_eq}
-use Rattle.std.proofs.lemmas.Bool.Decides.{nat_tests, Decides-int_eq}
-use Rattle.std.proofs.lemmas.Cmp.{lists_total, tied_itself}
+use Rattle.std.specs.Ordering.{int_eq}
+use Rattle.std.proofs.lemmas.Bool.Decides.{nat_tests}
 use Rattle.std.proofs.lemmas.Int.{ints}
 use Rattle.rls_ident.specs.declared.tuple.Spot.{Spot}
 use Rattle.rls_ident.specs.declared.tuple.Tuple.{Tuple}
 use Rattle.rls_ident.specs.declared.tuple.Tuple.TheVariants.{At}
 use Rattle.rls_ident.specs.declared.epoch_name.EpochName.TheVariants.{Origin, Of}
 use Rattle.rls_ident.specs.Lists.{IsIn}
-use Rattle.rls_ident.specs.Identifiers.{last_of, shifted, follows, least_offset, greatest_offset}
+use Rattle.rls_ident.specs.Identifiers.{last_of, shifted, least_offset, greatest_offset}
 use Rattle.rls_ident.specs.Between.{between}
-use Rattle.rls_ident.proofs.Members.{same_bool, and_true, in_left, snoc_split, in_map, map_in, in_filter, filter_in, in_any, any_in}
+use Rattle.rls_ident.proofs.Members.{same_bool, and_true, in_left, snoc_split, in_map, map_in, in_filter, filter_in, in_any, any_in, eq_refl, int_test, not_lt_is}
 use Rattle.rls_ident.proofs.Shifted.{shifted_shifted, shifted_none}
-use Rattle.rls_ident.proofs.Tuples.{tuple_total}
 use Rattle.rls_runs.specs.Runs.{run_idents, put_run, runs_of}
 use Rattle.rls_rename.specs.Renaming.{Renaming, IsFormer, new_spot, new_at, new_pos, forward}
 use Rattle.rls_rename.specs.Tree.{Node, name_of, is_of, is_kept, AreNodes, AreBelow}
@@ -45,6 +43,7 @@ use Rattle.rls_model.proofs.Made as made
 use Rattle.rls_model.proofs.Named.{grown_translate, char_old}
 use Rattle.rls_model.proofs.Spliced.{ids, entries, chars-entries, entries_rise}
 use Rattle.rls_model.proofs.Insertion.{made_first, made_export}
+use Rattle.rls_runs.proofs.RunsOf.{follows_next}
 
 -- ---- the live characters after a rename
 
@@ -196,9 +195,6 @@ ids-entries : (x : List Tuple) (cs : List ℕ) → ids (entries x cs) ≡ run_id
 ids-entries x [] = refl
 ids-entries x (c ∷ cs) = ap (λ ys. x ∷ ys) (ids-entries (shifted (pos 1) x) cs)
 
-follows_next : (x : List Tuple) → follows (shifted (pos 1) x) x ≡ true
-follows_next x = ap is_eq (tied_itself (lists_total tuple_total) (shifted (pos 1) x))
-
 pub one_run : (x : List Tuple) (n : ℕ) → runs_of (run_idents x (suc n)) ≡ (x, suc n) ∷ []
 one_run x zero = refl
 one_run x (suc n) =
@@ -251,14 +247,8 @@ renamed_export_at H l = export_rename H (made H edits.Rename) l refl refl
 pub renamed_export : (H : History) → IsLegal H → edit_fault H edits.Rename ≡ None → export (renamed H) ≡ entries (first_made H) (text H)
 renamed_export H l h = renamed_export_at H (made.law H edits.Rename l tt h)
 
-lt_is : (m n : ℕ) → nat_lt m n ≡ false → n ≤ m
-lt_is m n e = grind (arith, nat_tests)
-
 some_is : (n : ℕ) → (n == 0) ≡ false → 0 < n
 some_is n e = grind (arith, nat_tests)
-
-eq_refl : (n : ℕ) → (n == n) ≡ true
-eq_refl n = grind (arith, nat_tests)
 
 length-shown : (H : History) → length (idents H) ≡ length (text H)
 unfolding idents text
@@ -276,7 +266,7 @@ text_some H h =
     let q = none_else (nat_lt 4194304 (length (idents H))) (faults.TooManyChars (length (idents H))) None p.1 in
     let e = length-shown H in
     let a = some_is (length (idents H)) p.0 in
-    let b = lt_is 4194304 (length (idents H)) q.0 in
+    let b = not_lt_is 4194304 (length (idents H)) q.0 in
     (omega arith, omega arith)
 
 -- so has an insertion
@@ -286,7 +276,7 @@ insert_some H at cs h =
     let p = none_else (length cs == 0) faults.EmptyEdit _ s.1 in
     let q = none_else (nat_lt (length (idents H)) at) (faults.Range at (length (idents H))) _ p.1 in
     let r = none_else (nat_lt 1048576 (length cs)) (faults.TooManyChars (length cs)) None q.1 in
-    (some_is (length cs) p.0, lt_is 1048576 (length cs) r.0)
+    (some_is (length cs) p.0, not_lt_is 1048576 (length cs) r.0)
 
 -- the stem of the rename
 renamed_stem : (H : History) → stem_of (stems (renamed H)) (me_of H) (next_seq H) ≡ Some (new_stem (me_of H) (next_seq H) (length (idents H)))
@@ -295,9 +285,6 @@ renamed_stem H = found_same (new_stem (me_of H) (next_seq H) (length (idents H))
 
 own_new : (H : History) (k : ℤ) → own_stem (stems (renamed H)) (me_of H) (At (new_pos (idents H)) (me_of H) (next_seq H) k) ≡ Some (new_stem (me_of H) (next_seq H) (length (idents H)))
 own_new H k = ap (λ b. if b then stem_of (stems (renamed H)) (me_of H) (next_seq H) else None) (eq_refl (me_of H)) ∙ renamed_stem H
-
-int_test : (x y : ℤ) → x ≡ y → int_eq x y ≡ true
-int_test x y h = (Decides-int_eq x y).1 h
 
 le_test : (a b : ℤ) → a ≤ℤ b → int_le a b ≡ true
 le_test a b h = go (int_le a b) refl

@@ -1,12 +1,12 @@
 -- What two legal histories show depends on the set of their operations alone.
-use Rattle.std.proofs.Common.{◌≡◌, ℕ, suc, ◌≤◌, Bool, true, false, List, [], ◌∷◌, ◌++◌, map, refl, sym, ap, ◌∙◌, subst, arith, inl, inr, ◌⊎◌, ⊎_elim}
-use Rattle.std.specs.Prelude.{not, ◌||◌, cond, filter, pos}
-use Rattle.std.specs.List.{list_any}
+use Rattle.std.proofs.Common.{◌≡◌, ℕ, suc, ◌≤◌, Bool, true, false, List, [], ◌∷◌, ◌++◌, map, refl, sym, ap, ◌∙◌, subst, arith, inl, inr, ⊎_elim}
+use Rattle.std.specs.Prelude.{not, cond, filter, pos}
 use Rattle.rls_ident.specs.declared.tuple.Tuple.{Tuple}
 use Rattle.rls_ident.specs.declared.epoch_name.EpochName.{EpochName}
 use Rattle.rls_ident.specs.declared.epoch_name.EpochName.TheVariants.{Origin}
 use Rattle.rls_ident.specs.Lists.{IsIn, AreIn}
 use Rattle.rls_ident.specs.Identifiers.{shifted}
+use Rattle.rls_ident.proofs.Members.{any_in, are_in, filter_in, in_any, in_filter, in_left, in_map, in_right, in_split, map_in, same_bool, snoc_split}
 use Rattle.rls_runs.specs.Runs.{runs_of}
 use Rattle.rls_rename.specs.Tree.{Node, is_kept}
 use Rattle.rls_rename.proofs.Kept.{kept_more, greatest_kept}
@@ -23,85 +23,6 @@ use Rattle.rls_model.specs.Laws.{HaveSameOps, SameOperations}
 use Rattle.rls_model.proofs.OneTree.{nodes, parents, epoch_kept, index-raise_le, count_next}
 use Rattle.rls_model.proofs.Distinct.{char_split, all_append, known, one}
 use Rattle.rls_model.proofs.Sorted.{Rises, AreApart, AreDistinct, AllApart, rises_all, in_put_all, put_all_in, same_rising}
-
--- ---- lists
-
-snoc_split : {A : Type 0} (x y : A) (xs : List A) → IsIn x (xs ++ (y ∷ [])) → IsIn x xs ⊎ (y ≡ x)
-snoc_split x y [] p = ⊎_elim (λ e. inr e) (λ q. absurd q) p
-snoc_split x y (z ∷ xs) (inl e) = inl (inl e)
-snoc_split x y (z ∷ xs) (inr p) = ⊎_elim (λ q. inl (inr q)) (λ q. inr q) (snoc_split x y xs p)
-
-in_left : {A : Type 0} (x : A) (xs ys : List A) → IsIn x xs → IsIn x (xs ++ ys)
-in_left x [] ys p = absurd p
-in_left x (z ∷ xs) ys (inl e) = inl e
-in_left x (z ∷ xs) ys (inr p) = inr (in_left x xs ys p)
-
-in_right : {A : Type 0} (x : A) (xs ys : List A) → IsIn x ys → IsIn x (xs ++ ys)
-in_right x [] ys p = p
-in_right x (z ∷ xs) ys p = inr (in_right x xs ys p)
-
-in_split : {A : Type 0} (x : A) (xs ys : List A) → IsIn x (xs ++ ys) → IsIn x xs ⊎ IsIn x ys
-in_split x [] ys p = inr p
-in_split x (z ∷ xs) ys (inl e) = inl (inl e)
-in_split x (z ∷ xs) ys (inr p) = ⊎_elim (λ q. inl (inr q)) (λ q. inr q) (in_split x xs ys p)
-
-pub are_in : {A : Type 0} (xs ys : List A) → ((x : A) → IsIn x xs → IsIn x ys) → AreIn xs ys
-are_in [] ys f = tt
-are_in (x ∷ xs) ys f = (f x (inl refl), are_in xs ys (λ z p. f z (inr p)))
-
-pub in_map : {A B : Type 0} (f : A → B) (y : B) (xs : List A) → IsIn y (map f xs) → (x : A) × IsIn x xs × (f x ≡ y)
-in_map f y [] p = absurd p
-in_map f y (x ∷ xs) (inl e) = (x, inl refl, e)
-in_map f y (x ∷ xs) (inr p) = let r = in_map f y xs p in (r.0, inr r.1, r.2)
-
-map_in : {A B : Type 0} (f : A → B) (x : A) (xs : List A) → IsIn x xs → IsIn (f x) (map f xs)
-map_in f x [] p = absurd p
-map_in f x (z ∷ xs) (inl e) = inl (ap f e)
-map_in f x (z ∷ xs) (inr p) = inr (map_in f x xs p)
-
-in_filter : {A : Type 0} (t : A → Bool) (x : A) (xs : List A) → IsIn x (filter t xs) → IsIn x xs × (t x ≡ true)
-in_filter t x [] p = absurd p
-in_filter {A} t x (z ∷ xs) p = go (t z) refl p (λ q. in_filter t x xs q)
-  where
-    go : (b : Bool) → t z ≡ b → IsIn x (cond b (z ∷ filter t xs) (filter t xs)) → (IsIn x (filter t xs) → IsIn x xs × (t x ≡ true)) → IsIn x (z ∷ xs) × (t x ≡ true)
-    go true e (inl q) ih = (inl q, ap t (sym q) ∙ e)
-    go true e (inr q) ih = let r = ih q in (inr r.0, r.1)
-    go false e q ih = let r = ih q in (inr r.0, r.1)
-
-filter_in : {A : Type 0} (t : A → Bool) (x : A) (xs : List A) → IsIn x xs → t x ≡ true → IsIn x (filter t xs)
-filter_in t x [] p h = absurd p
-filter_in {A} t x (z ∷ xs) p h = go (t z) refl p (λ q. filter_in t x xs q h)
-  where
-    go : (b : Bool) → t z ≡ b → IsIn x (z ∷ xs) → (IsIn x xs → IsIn x (filter t xs)) → IsIn x (cond b (z ∷ filter t xs) (filter t xs))
-    go true e (inl q) ih = inl q
-    go true e (inr q) ih = inr (ih q)
-    go false e (inl q) ih = let r = ap t q in absurd (cc)
-    go false e (inr q) ih = ih q
-
-or_left : (b c : Bool) → b ≡ true → (b || c) ≡ true
-or_left b c e = rw e refl
-
-or_right : (b c : Bool) → c ≡ true → (b || c) ≡ true
-or_right true c e = refl
-or_right false c e = e
-
-or_split : (b c : Bool) → (b || c) ≡ true → (b ≡ true) ⊎ (c ≡ true)
-or_split true c h = inl refl
-or_split false c h = inr h
-
-in_any : {A : Type 0} (t : A → Bool) (xs : List A) → list_any t xs ≡ true → (x : A) × IsIn x xs × (t x ≡ true)
-in_any t [] h = absurd (cc)
-in_any t (x ∷ xs) h = ⊎_elim (λ e. (x, inl refl, e)) (λ k. let r = in_any t xs k in (r.0, inr r.1, r.2)) (or_split (t x) (list_any t xs) h)
-
-pub any_in : {A : Type 0} (t : A → Bool) (x : A) (xs : List A) → IsIn x xs → t x ≡ true → list_any t xs ≡ true
-any_in t x [] p h = absurd p
-any_in t x (z ∷ xs) (inl e) h = or_left (t z) (list_any t xs) (ap t e ∙ h)
-any_in t x (z ∷ xs) (inr p) h = or_right (t z) (list_any t xs) (any_in t x xs p h)
-
-same_bool : (b c : Bool) → (b ≡ true → c ≡ true) → (c ≡ true → b ≡ true) → b ≡ c
-same_bool true c f g = sym (f refl)
-same_bool false true f g = g refl
-same_bool false false f g = refl
 
 -- ---- no character twice
 

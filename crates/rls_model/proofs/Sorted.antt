@@ -1,14 +1,13 @@
 -- Entries put in one after another rise strictly where their identifiers differ, and a strictly rising list is known by its elements.
 use Rattle.std.proofs.Common.{◌≡◌, ℕ, Bool, true, false, List, [], ◌∷◌, refl, sym, ap, ◌∙◌, subst, inl, inr, ◌⊎◌, ⊎_elim}
 use Rattle.std.specs.Prelude.{if◌then◌else◌}
-use Rattle.std.specs.declared.cmp.Ordering.{Ordering}
-use Rattle.std.specs.declared.cmp.Ordering.TheVariants.{Less, Equal, Greater}
 use Rattle.std.specs.Ordering.{is_lt}
 use Rattle.rls_ident.specs.declared.tuple.Tuple.{Tuple}
 use Rattle.rls_ident.specs.Lists.{IsIn}
 use Rattle.rls_ident.specs.Identifiers.{ident_cmp, ident_lt}
 use Rattle.rls_ident.proofs.Lists.{Lt, lt_irrefl, lt_trans, tri}
 use Rattle.rls_ident.proofs.Tuples.{tuples}
+use Rattle.rls_ident.proofs.Members.{less_is}
 use Rattle.rls_model.specs.Document.{put, put_all}
 
 -- an identifier and a character
@@ -59,11 +58,6 @@ above_put x e (y ∷ ys) h a = go (ident_lt y.0 e.0) (above_put x e ys h a.1)
     go true k = (a.0, k)
     go false k = (h, (a.0, a.1))
 
-lt_is : (o : Ordering) → is_lt o ≡ true → o ≡ Less
-lt_is Less h = refl
-lt_is Equal h = absurd (cc)
-lt_is Greater h = absurd (cc)
-
 not_lt : (x y : List Tuple) → ident_lt x y ≡ false → (y ≡ x → ⊥) → Lt tuples y x
 not_lt x y h n =
     ⊎_elim (λ l. l) (λ r. ⊎_elim (λ e. absurd (n e)) (λ l. let k = l.less in let m : ident_lt x y ≡ true = ap is_lt k in absurd (cc)) r) (tri tuples y x)
@@ -73,7 +67,7 @@ rises_put e [] r a = (tt, tt)
 rises_put e (x ∷ xs) r a = go (ident_lt x.0 e.0) refl (rises_put e xs r.1 a.1)
   where
     go : (b : Bool) → ident_lt x.0 e.0 ≡ b → Rises (put e xs) → Rises (if b then x ∷ put e xs else e ∷ x ∷ xs)
-    go true h k = (above_put x e xs (record { less = lt_is (ident_cmp x.0 e.0) h }) r.0, k)
+    go true h k = (above_put x e xs (record { less = less_is (ident_cmp x.0 e.0) h }) r.0, k)
     go false h k = let l : IsBelow e x = not_lt x.0 e.0 h a.0 in ((l, above_less e x xs l r.0), (r.0, r.1))
 
 apart_put : (x e : Entry) (ys : List Entry) → AreApart x ys → (x.0 ≡ e.0 → ⊥) → AreApart x (put e ys)

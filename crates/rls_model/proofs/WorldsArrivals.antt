@@ -9,6 +9,7 @@ use Rattle.rls_ident.specs.Identifiers.{ident_eq}
 use Rattle.rls_ident.specs.Lists.{IsIn}
 use Rattle.rls_ident.specs.Vectors.{at_most}
 use Rattle.rls_ident.proofs.Tuples.{tuple_total}
+use Rattle.rls_ident.proofs.Members.{and_true, bool_cases, eq_test, found_in, in_left, neq_test, not_le_is}
 use Rattle.rls_rename.proofs.Paths.{name_eq_refl}
 use Rattle.rls_ops.specs.declared.op.Op.{Op}
 use Rattle.rls_ops.specs.declared.op.Body.{Body}
@@ -24,7 +25,6 @@ use Rattle.rls_model.specs.Legal.{MayAccept, IsLegal}
 use Rattle.rls_model.specs.Worlds.{World}
 use Rattle.rls_model.specs.Laws.{IsAt}
 use Rattle.rls_model.proofs.Stable.{length-count}
-use Rattle.rls_model.proofs.WorldsLists.{bool_cases, and_true, eq_test, neq_test, not_le_is, found_in, in_left}
 use Rattle.rls_model.proofs.WorldsNumbers.{number_counted, one_number, IsFront, front_legal, front_me, front_members, front_ops, op_front, IsAck, ack_counted, acks_below, not_yet}
 use Rattle.rls_model.proofs.WorldsLines.{Arrives, fits_here, next_here}
 use Rattle.rls_model.proofs.WorldsWaiting.{numbered_is}

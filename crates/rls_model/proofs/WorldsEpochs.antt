@@ -1,33 +1,18 @@
 -- A tree within a greater one: its greatest epoch is the greater one's greatest epoch within a vector that holds just its nodes.
 use Rattle.std.proofs.Common.{◌≡◌, ℕ, Bool, true, false, List, [], ◌∷◌, refl, sym, ap, ◌∙◌, inl, inr, ◌⊎◌, ⊎_elim}
 use Rattle.std.specs.Prelude.{if◌then◌else◌}
-use Rattle.std.specs.declared.cmp.Ordering.{Ordering}
-use Rattle.std.specs.declared.cmp.Ordering.TheVariants.{Less, Equal, Greater}
-use Rattle.std.specs.Ordering.{is_lt, ordering_reverse}
-use Rattle.std.specs.Cmp.{IsTotalOrder}
+use Rattle.std.specs.declared.cmp.Ordering.TheVariants.{Less}
+use Rattle.std.specs.Ordering.{is_lt}
 use Rattle.std.specs.Cmp.Lexicographic.{slice_cmp}
-use Rattle.std.proofs.lemmas.Cmp.{lists_total}
 use Rattle.rls_ident.specs.declared.epoch_name.EpochName.{EpochName}
 use Rattle.rls_ident.specs.EpochNames.{name_eq, is_within}
 use Rattle.rls_ident.specs.Lists.{IsIn, AreIn}
+use Rattle.rls_ident.proofs.Members.{or_left, or_right, or_split}
 use Rattle.rls_rename.specs.Tree.{Node, name_of, is_of, has_node, is_kept, AreNodes, AreBelow, path, renaming_cmp, epoch_cmp, later_of, greatest_from, names, names_within, greatest, greatest_within}
 use Rattle.rls_rename.proofs.Kept.{greatest_kept}
 use Rattle.rls_rename.proofs.Paths.{name_eq_is, name_eq_refl}
-use Rattle.rls_rename.proofs.SameNodes.{path_within, kept_within, renaming_total, epoch_same, IsTop, from_top, name_in, greatest_top}
-use Rattle.rls_model.proofs.WorldsLists.{or_left, or_right, or_split}
-
-paths_total : IsTotalOrder (slice_cmp renaming_cmp)
-paths_total = lists_total renaming_total
-
-tied : (o : Ordering) → (o ≡ Less → ⊥) → (ordering_reverse o ≡ Less → ⊥) → o ≡ Equal
-tied Less h k = absurd (h refl)
-tied Equal h k = refl
-tied Greater h k = absurd (k refl)
-
-top_at : (ns : List Node) (g f : EpochName) (fs : List EpochName) → IsTop ns g fs → IsIn f fs → epoch_cmp ns g f ≡ Less → ⊥
-top_at ns g f [] t p l = p
-top_at ns g f (h ∷ fs) t (inl e) l = t.0 (ap (epoch_cmp ns g) e ∙ l)
-top_at ns g f (h ∷ fs) t (inr p) l = top_at ns g f fs t.1 p l
+use Rattle.rls_rename.proofs.SameNodes.{path_within, kept_within, epoch_same, from_top, name_in, greatest_top, paths_total, tied, top_at}
+use Rattle.rls_rename.proofs.Order.{in_within, within_in}
 
 -- a node has the name
 pub in_names : (ns : List Node) (e : EpochName) → IsIn e (names ns) → (n : Node) × IsIn n ns × (name_of n.renaming ≡ e)
@@ -50,25 +35,6 @@ from_in ns e (f ∷ fs) = ⊎_elim (λ q. go (is_lt (epoch_cmp ns e f)) refl q) 
     go : (b : Bool) → is_lt (epoch_cmp ns e f) ≡ b → later_of ns e f ≡ G → (e ≡ G) ⊎ ((f ≡ G) ⊎ IsIn G fs)
     go true h q = inr (inl (sym (ap (λ b. if b then f else e) h) ∙ q))
     go false h q = inl (sym (ap (λ b. if b then f else e) h) ∙ q)
-
-in_within : (es : List EpochName) (v : List ℕ) (e : EpochName) → IsIn e (names_within es v) → IsIn e es × (is_within e v ≡ true)
-in_within [] v e p = absurd p
-in_within (d ∷ es) v e p = go (is_within d v) refl p (λ q. in_within es v e q)
-  where
-    go : (b : Bool) → is_within d v ≡ b → IsIn e (if b then d ∷ names_within es v else names_within es v) → (IsIn e (names_within es v) → IsIn e es × (is_within e v ≡ true)) → IsIn e (d ∷ es) × (is_within e v ≡ true)
-    go true h (inl q) ih = (inl q, ap (λ c. is_within c v) (sym q) ∙ h)
-    go true h (inr q) ih = let r = ih q in (inr r.0, r.1)
-    go false h q ih = let r = ih q in (inr r.0, r.1)
-
-within_in : (es : List EpochName) (v : List ℕ) (e : EpochName) → IsIn e es → is_within e v ≡ true → IsIn e (names_within es v)
-within_in [] v e p w = absurd p
-within_in (d ∷ es) v e p w = go (is_within d v) refl p (λ q. within_in es v e q w)
-  where
-    go : (b : Bool) → is_within d v ≡ b → IsIn e (d ∷ es) → (IsIn e es → IsIn e (names_within es v)) → IsIn e (if b then d ∷ names_within es v else names_within es v)
-    go true h (inl q) ih = inl q
-    go true h (inr q) ih = inr (ih q)
-    go false h (inl q) ih = let r = ap (λ c. is_within c v) q in absurd (cc)
-    go false h (inr q) ih = ih q
 
 pub greatest_part : (top : EpochName) (A B : List Node) (v : List ℕ) → AreNodes A → AreBelow top A → AreNodes B → AreBelow top B → AreIn A B →
     ((e : EpochName) → has_node A e ≡ true → is_within e v ≡ true) → ((e : EpochName) → IsIn e (names B) → is_within e v ≡ true → has_node A e ≡ true) →

@@ -2,6 +2,7 @@
 use Rattle.std.proofs.Common.{◌≡◌, ℕ, List, length, sym, ap, ◌∙◌, subst, inl, inr, ◌⊎◌, ⊎_elim}
 use Rattle.std.specs.Prelude.{◌==◌, slice_get, slice_set}
 use Rattle.rls_ident.specs.Lists.{IsIn}
+use Rattle.rls_ident.proofs.Members.{bool_cases, eq_is, eq_not, some_is}
 use Rattle.rls_ops.specs.declared.op.Op.{Op}
 use Rattle.rls_ops.specs.declared.message.Message.{Message}
 use Rattle.rls_model.specs.History.{Entry, Accepted, Acknowledged, History, Then, ops, count, me_of, members_of}
@@ -10,7 +11,7 @@ use Rattle.rls_model.specs.Receiving.{State}
 use Rattle.rls_model.specs.Legal.{IsLegal, IsSound}
 use Rattle.rls_model.specs.Worlds.{World, with_state}
 use Rattle.rls_model.specs.Laws.{IsAt}
-use Rattle.rls_model.proofs.WorldsLists.{bool_cases, eq_is, eq_not, some_is, get_set_same, get_set_other, length-set}
+use Rattle.rls_model.proofs.WorldsLists.{get_set_same, get_set_other, length-set}
 use Rattle.rls_model.proofs.WorldsNumbers.{IsFront, front_self, front_trans, front_me, front_members, front_ops, IsAck}
 use Rattle.rls_model.proofs.WorldsLines.{AreLiving}
 

@@ -2,6 +2,7 @@
 use Rattle.std.proofs.Common.{◌≡◌, ℕ, zero, suc, ◌≤◌, ◌<◌, Bool, true, false, List, [], ◌∷◌, ◌++◌, length, refl, sym, ap, ◌∙◌, subst, arith, inl, inr, ◌⊎◌, ⊎_elim}
 use Rattle.std.specs.Prelude.{◌+◌, not, nat_le, if◌then◌else◌, slice_get, slice_index, Option, Some, None}
 use Rattle.rls_ident.specs.Lists.{IsIn}
+use Rattle.rls_ident.proofs.Members.{in_filter, snoc_split, some_is}
 use Rattle.rls_ops.specs.declared.op.Op.{Op}
 use Rattle.rls_ops.specs.declared.message.Message.{Message}
 use Rattle.rls_ops.specs.Sizes.{op_size, head_size}
@@ -20,7 +21,7 @@ use Rattle.rls_model.specs.EditRun.{edit_within}
 use Rattle.rls_model.specs.Worlds.{World, fresh_states, empty_world, member_fault, or_else, of_edit, edit_fault_at, fault_of, with_state, edit_at, send_at, deliver_at, step_of, unless, happens, Happening, run, AreEvents, AreWhole}
 use Rattle.rls_model.specs.Laws.{IsAt, IsAfter, HaveSameOps, WorldsLegal, EqualVectors, NoRefusal}
 use Rattle.rls_model.proofs.SameOps as same_ops
-use Rattle.rls_model.proofs.WorldsLists.{snoc_split, in_filter, got_in, some_is}
+use Rattle.rls_model.proofs.WorldsLists.{got_in}
 use Rattle.rls_model.proofs.WorldsNumbers.{number_counted, with_number, front_self}
 use Rattle.rls_model.proofs.WorldsInvariant.{IsMember, IsMessage, IsGood, at_split}
 use Rattle.rls_model.proofs.WorldsArrivals.{one_op}

@@ -11,11 +11,11 @@ use Rattle.rls_ident.specs.declared.epoch_name.EpochName.{EpochName}
 use Rattle.rls_ident.specs.declared.epoch_name.EpochName.TheVariants.{Origin, Of}
 use Rattle.rls_ident.specs.Lists.{IsIn, AreIn}
 use Rattle.rls_ident.specs.EpochNames.{name_eq, is_within}
-use Rattle.rls_ident.specs.Identifiers.{ident_cmp, ident_eq, last_of}
+use Rattle.rls_ident.specs.Identifiers.{ident_eq, last_of}
 use Rattle.rls_ident.specs.Tuples.{replica_of, seq_of, offset_of}
 use Rattle.rls_ident.specs.Vectors.{at_most}
-use Rattle.rls_ident.proofs.Tuples.{tuple_total, tuples}
-use Rattle.rls_ident.proofs.Lists.{lists_same}
+use Rattle.rls_ident.proofs.Tuples.{tuple_total}
+use Rattle.rls_ident.proofs.Members.{any_in, bool_cases, eq_is, filter_in, in_any, in_filter, in_left, in_right, in_split, le_is, le_test, not_is, not_le_is, not_le_test, not_true, or_left, or_right, snoc_split, true_false}
 use Rattle.rls_rename.specs.Tree.{Node, is_kept, has_node, names, name_of}
 use Rattle.rls_rename.specs.Tree as tree
 use Rattle.rls_rename.proofs.Paths.{name_eq_refl}
@@ -39,11 +39,12 @@ use Rattle.rls_model.proofs.OneTree.{nodes, parents, epoch_kept, fits_epoch, aut
 use Rattle.rls_model.proofs.Stable.{at_most_trans, stable_row}
 use Rattle.rls_model.proofs.Fresh.{own_stems, may_begin}
 use Rattle.rls_model.proofs.Distinct.{known}
-use Rattle.rls_model.proofs.SameOps.{any_in, op_kept, same_epochs}
+use Rattle.rls_model.proofs.SameOps.{op_kept, same_epochs}
 use Rattle.rls_model.proofs.Made.{own_epoch}
-use Rattle.rls_model.proofs.WorldsLists.{bool_cases, not_le_is, in_split, or_left, or_right, not_true, false_of, true_false, eq_is, le_is, le_test, not_le_test, in_filter, filter_in, in_any, index_le, snoc_split, in_left, in_right}
+use Rattle.rls_model.proofs.WorldsLists.{index_le}
 use Rattle.rls_model.proofs.WorldsNumbers.{number_counted, with_number, ops_from, same_from, fits_left, own_context, leave_of, left_by}
 use Rattle.rls_model.proofs.WorldsEpochs.{in_names, greatest_part}
+use Rattle.rls_model.proofs.Named.{ident_is}
 
 -- the operation's targets are identifiers of characters that live in P
 abbrev pub AreLiving : History → Op → Type 0
@@ -110,9 +111,6 @@ eq_cmp Less h = absurd (cc)
 eq_cmp Equal h = refl
 eq_cmp Greater h = absurd (cc)
 
-ident_is : (x y : List Tuple) → ident_eq x y ≡ true → x ≡ y
-ident_is x y h = lists_same tuples x y (eq_cmp (ident_cmp x y) h)
-
 fit_chain : (b1 b2 b3 : Bool) (x1 x2 x3 : Reason) (r : Option Reason) → b1 ≡ false → b2 ≡ true → b3 ≡ true → r ≡ None → (if b1 then Some x1 else if not b2 then Some x2 else if not b3 then Some x3 else r) ≡ None
 fit_chain b1 b2 b3 x1 x2 x3 r e1 e2 e3 e4 = rw (e1, e2, e3) e4
 
@@ -149,7 +147,7 @@ module _ (H P : History) (o : Op) (A : Arrives H P o) where
   -- ---- the author hasn't left
 
   no_left : has_left H o.author ≡ false
-  no_left = false_of (has_left H o.author) (λ h.
+  no_left = not_true (has_left H o.author) (λ h.
       let r = leave_of H o.author h in
       let c = (number_counted H A.here r.0 r.1).1 in
       let e : count_of H (r.0).author ≡ count_of P o.author = ap (count_of H) r.2 ∙ same_count in
@@ -241,7 +239,7 @@ module _ (H P : History) (o : Op) (A : Arrives H P o) where
       (λ k. absurd (true_false (is_named P c)
       (any_in (λ d. has_ident (targets_of d.body) (ident_in P d.epoch c)) d (ops P) (to_home d r.1 (le_is d.seq (count_of P d.author) k))
       (ap (has_ident (targets_of d.body)) (same_ident c f.0 d.epoch (op_kept P A.home.0 d (to_home d r.1 (le_is d.seq (count_of P d.author) k)))) ∙ r.2))
-      (not_true (is_named P c) f.1)))
+      (not_is (is_named P c) f.1)))
       (λ k. not_le_is d.seq (count_of P d.author) k) in
       let low = index_le (stable H) (count P) d.author
       (at_most_trans (stable H) (row H o.author) (count P) (stable_row H o.author (omega (arith, author_below (members_of P) o A.home.2.shape, A.members)) no_left) A.row) in

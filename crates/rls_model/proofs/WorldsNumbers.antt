@@ -5,6 +5,7 @@ use Rattle.std.proofs.lemmas.List.{append-nil}
 use Rattle.std.proofs.lemmas.List.Elements.{filter-append}
 use Rattle.rls_ident.specs.Lists.{IsIn}
 use Rattle.rls_ident.specs.Vectors.{at_most, join}
+use Rattle.rls_ident.proofs.Members.{and_left, and_right, and_true, bool_cases, eq_is, eq_not, eq_test, in_left, in_right, le_is, not_le_is, or_left, or_right, or_split, snoc_split}
 use Rattle.rls_ops.specs.declared.op.Op.{Op}
 use Rattle.rls_model.specs.Answers.{Left, Backward}
 use Rattle.rls_model.specs.History.{Entry, Accepted, Acknowledged, History, Then, ops, count, count_of, me_of, members_of, is_leave, has_left, acknowledged, row}
@@ -14,7 +15,7 @@ use Rattle.rls_model.specs.Legal.{MayAccept, IsLegal}
 use Rattle.rls_model.specs.Laws.{ops_of}
 use Rattle.rls_model.proofs.OneTree.{none_else, not_not, author_below, index-raise_same, index-raise_le, count_next}
 use Rattle.rls_model.proofs.Stable.{length-count, count_grows, at_most_refl, at_most_trans}
-use Rattle.rls_model.proofs.WorldsLists.{bool_cases, not_le_is, and_true, and_left, and_right, or_split, or_left, or_right, eq_is, eq_test, eq_not, le_is, snoc_split, in_left, in_right, index_le, at_most_antisym, zeros_below, zeros_index, join_below, raise_other, raise_upto}
+use Rattle.rls_model.proofs.WorldsLists.{index_le, at_most_antisym, zeros_below, zeros_index, join_below, raise_other, raise_upto}
 
 -- ---- numbers
 

@@ -4,6 +4,7 @@ use Rattle.std.specs.Prelude.{if◌then◌else◌, slice_index, Option, Some, No
 use Rattle.std.specs.List.{find}
 use Rattle.rls_ident.specs.Lists.{IsIn}
 use Rattle.rls_ident.specs.Vectors.{at_most, raise}
+use Rattle.rls_ident.proofs.Members.{bool_cases, found_in, in_left, lt_is, lt_test, none_found, not_found, not_true, true_false}
 use Rattle.rls_ops.specs.declared.op.Op.{Op}
 use Rattle.rls_ops.specs.declared.message.Message.{Message}
 use Rattle.rls_model.specs.declared.edit.Edit.{Edit}
@@ -18,7 +19,7 @@ use Rattle.rls_model.specs.Taking.{Limit, has_room, one_less, Progress, started,
 use Rattle.rls_model.specs.EditRun.{edit_step, edit_within}
 use Rattle.rls_model.specs.Worlds.{World}
 use Rattle.rls_model.specs.Laws.{IsAt}
-use Rattle.rls_model.proofs.WorldsLists.{bool_cases, false_of, true_false, lt_is, lt_test, found_in, none_found, not_found, below_raised, in_left}
+use Rattle.rls_model.proofs.WorldsLists.{below_raised}
 use Rattle.rls_model.proofs.WorldsNumbers.{IsFront, with_number, front_legal, front_me, front_ops, op_front, own_context}
 use Rattle.rls_model.proofs.WorldsWaiting.{in_without, less_without, numbered_test}
 use Rattle.rls_model.proofs.WorldsInvariant.{IsHome, IsMember, IsGood}
@@ -152,7 +153,7 @@ made_rests : (w : World) (i : ℕ) (s : State) (o : Op) → IsGood w → IsAt w 
 made_rests w i s o g h r e =
     none_found (λ x. at_most x.context (count (Then s.history (Accepted o)))) (without o.author o.seq s.waiting)
     (λ x p. let q = (in_without o.author o.seq x s.waiting p).0 in
-    false_of (at_most x.context (raise (count s.history) o.author)) (λ c.
+    not_true (at_most x.context (raise (count s.history) o.author)) (λ c.
     true_false (at_most x.context (count s.history))
     (below_raised x.context (count s.history) o.author c (subst (λ a. slice_index x.context a ≤ count_of s.history a) (sym e) (own_known w i s x g h ((g.member i s h).waits x q))))
     (not_found (λ y. at_most y.context (count s.history)) x s.waiting r q)))

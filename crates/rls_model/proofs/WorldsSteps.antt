@@ -4,6 +4,7 @@ use Rattle.std.specs.Prelude.{if◌then◌else◌, All, Option, Some, None}
 use Rattle.rls_ident.specs.declared.tuple.Tuple.{Tuple}
 use Rattle.rls_ident.specs.Lists.{IsIn}
 use Rattle.rls_ident.specs.Vectors.{at_most}
+use Rattle.rls_ident.proofs.Members.{found_in, in_map, snoc_split}
 use Rattle.rls_ops.specs.declared.op.Op.{Op}
 use Rattle.rls_ops.specs.declared.message.Message.{Message}
 use Rattle.rls_model.specs.declared.edit.Edit.{Edit}
@@ -24,10 +25,10 @@ use Rattle.rls_model.specs.Worlds.{World, with_state}
 use Rattle.rls_model.specs.Laws.{IsAt}
 use Rattle.rls_model.proofs.Stable.{length-count}
 use Rattle.rls_model.proofs.Ranges.{counts_small}
-use Rattle.rls_model.proofs.SameOps.{in_map, in_export}
+use Rattle.rls_model.proofs.SameOps.{in_export}
 use Rattle.rls_model.proofs.Made as making
 use Rattle.rls_model.proofs.Made.{foot}
-use Rattle.rls_model.proofs.WorldsLists.{snoc_split, found_in, got_below, set_set, set_get, get_set_same}
+use Rattle.rls_model.proofs.WorldsLists.{got_below, set_set, set_get, get_set_same}
 use Rattle.rls_model.proofs.WorldsNumbers.{front_self, front_legal, front_members}
 use Rattle.rls_model.proofs.WorldsLines.{AreLiving}
 use Rattle.rls_model.proofs.WorldsWaiting.{in_without, in_with, waiting_at, sound_grown, sound_accepted, sound_put}

@@ -2,15 +2,15 @@
 use Rattle.std.proofs.Common.{◌≡◌, ℕ, suc, ◌+◌, ◌≤◌, ◌<◌, Bool, true, false, List, [], ◌∷◌, length, refl, sym, ap, ◌∙◌, subst, arith, inl, inr, ◌⊎◌, ⊎_elim, nat_lt}
 use Rattle.std.specs.Prelude.{if◌then◌else◌, ◌&&◌, ◌==◌, None}
 use Rattle.std.specs.List.{list_all}
-use Rattle.std.proofs.lemmas.Bool.Decides.{nat_tests}
 use Rattle.rls_ident.specs.Lists.{IsIn}
+use Rattle.rls_ident.proofs.Members.{all_in, and_left, and_right, and_true, bool_cases, eq_is, eq_not, eq_test, in_all, lt_is, lt_test, not_lt_is, or_left, or_right, or_split, true_false}
 use Rattle.rls_ops.specs.declared.op.Op.{Op}
 use Rattle.rls_ops.specs.Shapes.{shape_fault}
 use Rattle.rls_model.specs.History.{Accepted, History, Then, count, count_of, members_of}
 use Rattle.rls_model.specs.Receiving.{is_numbered, comes_before, with_waiting, without}
 use Rattle.rls_model.specs.WellFormed.{IsOp}
 use Rattle.rls_model.specs.Legal.{MayAccept, AreWaiting}
-use Rattle.rls_model.proofs.WorldsLists.{bool_cases, and_left, and_right, and_true, or_left, or_right, or_split, true_false, eq_is, eq_test, eq_not, lt_is, lt_test, in_all, all_in, raise_other, raise_upto}
+use Rattle.rls_model.proofs.WorldsLists.{raise_other, raise_upto}
 
 pub numbered_is : (a s : ℕ) (x : Op) → is_numbered a s x ≡ true → (x.author ≡ a) × (x.seq ≡ s)
 numbered_is a s x h = (eq_is x.author a (and_left (x.author == a) (x.seq == s) h), eq_is x.seq s (and_right (x.author == a) (x.seq == s) h))
@@ -77,9 +77,6 @@ before_trans o p q h k =
     (λ a. ⊎_elim (λ b. before_author o q (omega arith)) (λ b. let e = b.0 in before_author o q (omega arith)) (before_is p q k))
     (λ a. ⊎_elim (λ b. let e = a.0 in before_author o q (omega arith)) (λ b. let l = a.1 in let m = b.1 in before_seq o q (a.0 ∙ b.0) (omega arith)) (before_is p q k))
     (before_is o p h)
-
-not_lt_is : (m n : ℕ) → nat_lt m n ≡ false → n ≤ m
-not_lt_is m n h = grind (arith, nat_tests)
 
 before_total : (o p : Op) → comes_before p o ≡ false → is_numbered o.author o.seq p ≡ false → comes_before o p ≡ true
 before_total o p h k =

@@ -1,17 +1,14 @@
 -- A tree with one more node: what was kept is translated as before, and the new epoch is one renaming behind its parent.
-use Rattle.std.proofs.Common.{◌≡◌, Bool, true, false, List, [], ◌∷◌, ◌++◌, refl, sym, ap, ◌∙◌, append-nil}
+use Rattle.std.proofs.Common.{◌≡◌, true, false, List, [], ◌∷◌, ◌++◌, refl, sym, ap, ◌∙◌, append-nil}
 use Rattle.std.specs.Prelude.{if◌then◌else◌, ◌||◌}
 use Rattle.rls_ident.specs.declared.tuple.Tuple.{Tuple}
 use Rattle.rls_ident.specs.declared.epoch_name.EpochName.{EpochName}
 use Rattle.rls_ident.specs.EpochNames.{name_eq}
 use Rattle.rls_ident.specs.Identifiers.{IsIdent}
+use Rattle.rls_ident.proofs.Members.{not_true}
 use Rattle.rls_rename.specs.Renaming.{Renaming, IsFormer, forward, back}
 use Rattle.rls_rename.specs.Tree.{Node, name_of, is_of, has_node, is_kept, AreNodes, AreBelow, path, forward_all, back_all, along, translate}
 use Rattle.rls_rename.proofs.Paths.{name_eq_is, path_iso, path-renamings, renaming_iso, translate_is, translate_translate}
-
-not_true : (b : Bool) → (b ≡ true → ⊥) → b ≡ false
-not_true true h = absurd (h refl)
-not_true false h = refl
 
 pub path_other : (node : Node) (older : List Node) (e : EpochName) → is_of node e ≡ false → path (node ∷ older) e ≡ path older e
 unfolding path

@@ -14,9 +14,8 @@ use Rattle.rls_rename.specs.Tree.{Node, name_of, same_name, is_of, has_node, is_
 use Rattle.rls_rename.specs.Connected.{begins_with, common_prefix, common_prefix_of, top_path, is_spanned, put_epoch, in_order, spanned}
 use Rattle.rls_rename.proofs.Growth.{path_other, path_child, kept_other}
 use Rattle.rls_rename.proofs.Kept.{kept_more}
-use Rattle.rls_rename.proofs.Order.{paths_total}
 use Rattle.rls_rename.proofs.Paths.{name_eq_is, name_eq_refl, IsAmong, AreAmong, one_name, path-among}
-use Rattle.rls_rename.proofs.SameNodes.{epoch_same, name_in, path_top, path_member, parent_kept}
+use Rattle.rls_rename.proofs.SameNodes.{epoch_same, name_in, path_top, path_member, parent_kept, paths_total}
 
 -- ---- fronts of paths
 
@@ -36,7 +35,7 @@ front_cons R p x h = (h.0, ap (λ y. R ∷ y) h.1)
 cons_head : (R S : Renaming) (p q : List Renaming) → R ∷ p ≡ S ∷ q → R ≡ S
 cons_head R S p q e = cc
 
-cons_tail : (R S : Renaming) (p q : List Renaming) → R ∷ p ≡ S ∷ q → p ≡ q
+pub cons_tail : (R S : Renaming) (p q : List Renaming) → R ∷ p ≡ S ∷ q → p ≡ q
 cons_tail R S p q e = cc
 
 front_tail : (R S : Renaming) (p x : List Renaming) → IsFront (R ∷ p) (S ∷ x) → (S ≡ R) × IsFront p x
@@ -177,7 +176,7 @@ needed_spanned ns n e es g p = is_spanned_of ns e es g (top_front ns n e es g p,
 pub path_same : (top : EpochName) (ns : List Node) → AreNodes ns → AreBelow top ns → (e f : EpochName) → is_kept top ns e ≡ true → is_kept top ns f ≡ true → path ns e ≡ path ns f → e ≡ f
 path_same top ns d b e f k l h = epoch_same top ns d b e f k l (ap (slice_cmp renaming_cmp (path ns e)) (sym h) ∙ tied_itself paths_total (path ns e))
 
-top_kept : (top : EpochName) (ns : List Node) → is_kept top ns top ≡ true
+pub top_kept : (top : EpochName) (ns : List Node) → is_kept top ns top ≡ true
 top_kept top ns = or_left (name_eq top top) (has_node ns top) (name_eq_refl top)
 
 front_none : (p : List Renaming) → IsFront p [] → [] ≡ p
@@ -303,7 +302,7 @@ pub sorted_in : (ns : List Node) (f : EpochName) (es : List EpochName) → IsIn 
 sorted_in ns f [] p = p
 sorted_in ns f (e ∷ es) p = put_in ns f e (in_order ns es) (⊎_elim (λ q. inl q) (λ q. inr (sorted_in ns f es q)) p)
 
-in_name : (ns : List Node) (e : EpochName) → IsIn e (names ns) → has_node ns e ≡ true
+pub in_name : (ns : List Node) (e : EpochName) → IsIn e (names ns) → has_node ns e ≡ true
 in_name [] e p = absurd p
 in_name (n ∷ ns) e (inl h) = or_left (is_of n e) (has_node ns e) (ap (name_eq (name_of n.renaming)) (sym h) ∙ name_eq_refl (name_of n.renaming))
 in_name (n ∷ ns) e (inr p) = or_right (is_of n e) (has_node ns e) (in_name ns e p)

@@ -4,6 +4,7 @@ use Rattle.std.specs.Prelude.{◌||◌, if◌then◌else◌}
 use Rattle.std.specs.Ordering.{is_lt}
 use Rattle.rls_ident.specs.declared.epoch_name.EpochName.{EpochName}
 use Rattle.rls_ident.specs.EpochNames.{name_eq, is_within}
+use Rattle.rls_ident.proofs.Members.{or_left, or_right}
 use Rattle.rls_rename.specs.Tree.{Node, name_of, is_of, has_node, is_kept, epoch_cmp, later_of, greatest_from, names, names_within, greatest, greatest_within}
 use Rattle.rls_rename.proofs.Paths.{name_eq_refl}
 
@@ -11,13 +12,6 @@ use Rattle.rls_rename.proofs.Paths.{name_eq_refl}
 abbrev pub AreKept : EpochName → List Node → List EpochName → Type 0
 AreKept top nodes [] = Unit {0}
 AreKept top nodes (e ∷ es) = (is_kept top nodes e ≡ true) × AreKept top nodes es
-
-or_right : (b c : Bool) → c ≡ true → (b || c) ≡ true
-or_right true c e = refl
-or_right false c e = e
-
-or_left : (b c : Bool) → b ≡ true → (b || c) ≡ true
-or_left b c e = rw e refl
 
 later_kept : (top : EpochName) (nodes : List Node) (e f : EpochName) → is_kept top nodes e ≡ true → is_kept top nodes f ≡ true → is_kept top nodes (later_of nodes e f) ≡ true
 later_kept top nodes e f h k = go (is_lt (epoch_cmp nodes e f))

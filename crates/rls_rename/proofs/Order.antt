@@ -4,9 +4,8 @@ use Rattle.std.specs.Prelude.{if◌then◌else◌, ◌||◌}
 use Rattle.std.specs.declared.cmp.Ordering.{Ordering}
 use Rattle.std.specs.declared.cmp.Ordering.TheVariants.{Less, Equal, Greater}
 use Rattle.std.specs.Ordering.{is_lt, ordering_then, ordering_reverse}
-use Rattle.std.specs.Cmp.{IsTotalOrder}
 use Rattle.std.specs.Cmp.Lexicographic.{slice_cmp}
-use Rattle.std.proofs.lemmas.Cmp.{lists_total, tied_itself}
+use Rattle.std.proofs.lemmas.Cmp.{tied_itself}
 use Rattle.rls_ident.specs.declared.epoch_name.EpochName.{EpochName}
 use Rattle.rls_ident.specs.EpochNames.{name_eq, is_within}
 use Rattle.rls_ident.specs.Lists.{IsIn}
@@ -16,10 +15,7 @@ use Rattle.rls_rename.specs.Tree.{Node, name_of, is_of, has_node, is_kept, AreNo
 use Rattle.rls_rename.proofs.Growth.{path_other, path_child, kept_other}
 use Rattle.rls_rename.proofs.Kept.{greatest_kept, greatest_within_kept}
 use Rattle.rls_rename.proofs.Paths.{name_eq_is, name_eq_refl}
-use Rattle.rls_rename.proofs.SameNodes.{renaming_total, epoch_same, from_top, name_in, greatest_top, IsTop}
-
-pub paths_total : IsTotalOrder (slice_cmp renaming_cmp)
-paths_total = lists_total renaming_total
+use Rattle.rls_rename.proofs.SameNodes.{renaming_total, epoch_same, from_top, name_in, greatest_top, paths_total, tied, top_at}
 
 -- ---- paths
 
@@ -49,11 +45,6 @@ above_trans ns g f e h k l = go (epoch_cmp ns g f) refl
     go Greater q =
         let r : epoch_cmp ns f g ≡ Less = paths_total.antisymm (path ns f) (path ns g) ∙ ap ordering_reverse q in
         k (paths_total.trans (path ns f) (path ns g) (path ns e) r l)
-
-tied : (o : Ordering) → (o ≡ Less → ⊥) → (ordering_reverse o ≡ Less → ⊥) → o ≡ Equal
-tied Less h k = absurd (h refl)
-tied Equal h k = refl
-tied Greater h k = absurd (k refl)
 
 -- two kept epochs of which neither is below the other are one
 pub level_same : (top : EpochName) (ns : List Node) → AreNodes ns → AreBelow top ns → (e f : EpochName) → is_kept top ns e ≡ true → is_kept top ns f ≡ true → (epoch_cmp ns e f ≡ Less → ⊥) → (epoch_cmp ns f e ≡ Less → ⊥) → e ≡ f
@@ -104,7 +95,7 @@ greatest_child top node older d b h =
 
 -- ---- the greatest within a vector
 
-in_within : (es : List EpochName) (v : List ℕ) (e : EpochName) → IsIn e (names_within es v) → IsIn e es × (is_within e v ≡ true)
+pub in_within : (es : List EpochName) (v : List ℕ) (e : EpochName) → IsIn e (names_within es v) → IsIn e es × (is_within e v ≡ true)
 in_within [] v e p = absurd p
 in_within (f ∷ es) v e p = go (is_within f v) refl p (λ q. in_within es v e q)
   where
@@ -113,7 +104,7 @@ in_within (f ∷ es) v e p = go (is_within f v) refl p (λ q. in_within es v e q
     go true h (inr q) ih = let r = ih q in (inr r.0, r.1)
     go false h q ih = let r = ih q in (inr r.0, r.1)
 
-within_in : (es : List EpochName) (v : List ℕ) (e : EpochName) → IsIn e es → is_within e v ≡ true → IsIn e (names_within es v)
+pub within_in : (es : List EpochName) (v : List ℕ) (e : EpochName) → IsIn e es → is_within e v ≡ true → IsIn e (names_within es v)
 within_in [] v e p h = absurd p
 within_in (f ∷ es) v e p h = go (is_within f v) refl p (λ q. within_in es v e q h)
   where
@@ -130,11 +121,6 @@ from_in ns e (f ∷ fs) = go (is_lt (epoch_cmp ns e f)) (λ g. from_in ns g fs)
     go : (b : Bool) → ((g : EpochName) → (greatest_from ns g fs ≡ g) ⊎ IsIn (greatest_from ns g fs) fs) → (greatest_from ns (if b then f else e) fs ≡ e) ⊎ IsIn (greatest_from ns (if b then f else e) fs) (f ∷ fs)
     go true ih = ⊎_elim (λ q. inr (inl (sym q))) (λ q. inr (inr q)) (ih f)
     go false ih = ⊎_elim (λ q. inl q) (λ q. inr (inr q)) (ih e)
-
-top_at : (ns : List Node) (g f : EpochName) (fs : List EpochName) → IsTop ns g fs → IsIn f fs → epoch_cmp ns g f ≡ Less → ⊥
-top_at ns g f [] t p l = p
-top_at ns g f (h ∷ fs) t (inl e) l = t.0 (ap (epoch_cmp ns g) e ∙ l)
-top_at ns g f (h ∷ fs) t (inr p) l = top_at ns g f fs t.1 p l
 
 -- an epoch that is the topmost or within the vector
 abbrev pub IsAllowed : EpochName → List ℕ → EpochName → Type 0

@@ -1,19 +1,19 @@
 -- The list of what is spanned rises strictly, so it is known by its elements, and it is the same over a window as over the whole.
 use Rattle.std.proofs.Common.{◌≡◌, Bool, true, false, List, [], ◌∷◌, refl, sym, ap, ◌∙◌, subst, inl, inr, ◌⊎◌, ⊎_elim}
 use Rattle.std.specs.Prelude.{cond, filter, if◌then◌else◌}
-use Rattle.std.specs.declared.cmp.Ordering.{Ordering}
-use Rattle.std.specs.declared.cmp.Ordering.TheVariants.{Less, Equal, Greater}
+use Rattle.std.specs.declared.cmp.Ordering.TheVariants.{Less}
 use Rattle.std.specs.Ordering.{is_lt}
 use Rattle.rls_ident.specs.declared.epoch_name.EpochName.{EpochName}
 use Rattle.rls_ident.specs.EpochNames.{name_eq}
 use Rattle.rls_ident.specs.Lists.{IsIn}
-use Rattle.rls_ident.proofs.Members.{bool_cases, or_left, or_right, in_filter}
-use Rattle.rls_rename.specs.Tree.{Node, name_of, is_of, has_node, is_kept, AreNodes, AreBelow, path, epoch_cmp, names}
+use Rattle.rls_ident.proofs.Members.{bool_cases, in_filter, less_is}
+use Rattle.rls_rename.specs.Tree.{Node, name_of, is_of, is_kept, AreNodes, AreBelow, path, epoch_cmp, names}
 use Rattle.rls_rename.specs.Connected.{is_spanned, put_epoch, in_order, spanned}
 use Rattle.rls_rename.proofs.Paths.{name_eq_refl}
-use Rattle.rls_rename.proofs.Order.{paths_total, less_flips, level_same}
-use Rattle.rls_rename.proofs.Hull.{in_sorted, in_put, in_kept, in_spanned, spanned_in, needed_spanned, spanned_top, spanned_part, spanned_least}
+use Rattle.rls_rename.proofs.Order.{less_flips, level_same}
+use Rattle.rls_rename.proofs.Hull.{in_sorted, in_put, in_kept, in_spanned, spanned_in, needed_spanned, spanned_top, spanned_part, spanned_least, in_name}
 use Rattle.rls_rename.proofs.Windows.{Window, AllKept, cmp_window, window_spanned, spanned_window}
+use Rattle.rls_rename.proofs.SameNodes.{paths_total}
 
 -- e is below each of these
 abbrev pub IsBelowAll : List Node → EpochName → List EpochName → Type 0
@@ -61,14 +61,9 @@ same_rising ns (x ∷ xs) (y ∷ ys) r s f g =
 
 -- ---- putting in order
 
-lt_is : (o : Ordering) → is_lt o ≡ true → o ≡ Less
-lt_is Less h = refl
-lt_is Equal h = absurd (cc)
-lt_is Greater h = absurd (cc)
-
 less_of : (top : EpochName) (ns : List Node) → AreNodes ns → AreBelow top ns → (e f : EpochName) → is_kept top ns e ≡ true → is_kept top ns f ≡ true → (e ≡ f → ⊥) → is_lt (epoch_cmp ns f e) ≡ false → epoch_cmp ns e f ≡ Less
 less_of top ns d b e f k l n h =
-    bool_cases (is_lt (epoch_cmp ns e f)) (λ q. lt_is (epoch_cmp ns e f) q)
+    bool_cases (is_lt (epoch_cmp ns e f)) (λ q. less_is (epoch_cmp ns e f) q)
     (λ q. absurd (n (level_same top ns d b e f k l (λ r. let x = ap is_lt r in absurd (cc)) (λ r. let x = ap is_lt r in absurd (cc)))))
 
 rises_put : (top : EpochName) (ns : List Node) → AreNodes ns → AreBelow top ns → (e : EpochName) (es : List EpochName) → is_kept top ns e ≡ true → ((f : EpochName) → IsIn f es → is_kept top ns f ≡ true) → (IsIn e es → ⊥) → Rises ns es → Rises ns (put_epoch ns e es)
@@ -76,7 +71,7 @@ rises_put top ns d b e [] k a n r = (tt, tt)
 rises_put top ns d b e (f ∷ es) k a n r = go (is_lt (epoch_cmp ns f e)) refl (rises_put top ns d b e es k (λ g p. a g (inr p)) (λ p. n (inr p)) r.1)
   where
     go : (c : Bool) → is_lt (epoch_cmp ns f e) ≡ c → Rises ns (put_epoch ns e es) → Rises ns (if c then f ∷ put_epoch ns e es else e ∷ f ∷ es)
-    go true h ih = (below_all ns f (put_epoch ns e es) (λ g p. ⊎_elim (λ q. subst (λ z. epoch_cmp ns f z ≡ Less) q (lt_is (epoch_cmp ns f e) h)) (λ q. below_at ns f g es r.0 q) (in_put ns g e es p)), ih)
+    go true h ih = (below_all ns f (put_epoch ns e es) (λ g p. ⊎_elim (λ q. subst (λ z. epoch_cmp ns f z ≡ Less) q (less_is (epoch_cmp ns f e) h)) (λ q. below_at ns f g es r.0 q) (in_put ns g e es p)), ih)
     go false h ih =
         let l = less_of top ns d b e f k (a f (inl refl)) (λ q. n (inl (sym q))) h in
         ((l, below_all ns e es (λ g p. paths_total.trans (path ns e) (path ns f) (path ns g) l (below_at ns f g es r.0 p))), r)
@@ -85,11 +80,6 @@ rises_order : (top : EpochName) (ns : List Node) → AreNodes ns → AreBelow to
 rises_order top ns d b [] a o = tt
 rises_order top ns d b (e ∷ es) a o =
     rises_put top ns d b e (in_order ns es) (a e (inl refl)) (λ f p. a f (inr (in_sorted ns f es p))) (λ p. o.0 (in_sorted ns e es p)) (rises_order top ns d b es (λ f p. a f (inr p)) o.1)
-
-in_name : (ns : List Node) (e : EpochName) → IsIn e (names ns) → has_node ns e ≡ true
-in_name [] e p = absurd p
-in_name (n ∷ ns) e (inl h) = or_left (is_of n e) (has_node ns e) (ap (name_eq (name_of n.renaming)) (sym h) ∙ name_eq_refl (name_of n.renaming))
-in_name (n ∷ ns) e (inr p) = or_right (is_of n e) (has_node ns e) (in_name ns e p)
 
 names_once : (ns : List Node) → AreNodes ns → AreOnce (names ns)
 names_once [] d = tt

@@ -1,6 +1,6 @@
 -- Translation along a tree goes by way of the topmost epoch, so it does not depend on the way.
 use Rattle.std.proofs.Common.{◌≡◌, Bool, true, false, List, [], ◌∷◌, ◌++◌, refl, sym, ap, ◌∙◌, subst, inl, inr, nat_eq}
-use Rattle.std.specs.Prelude.{if◌then◌else◌, ◌⊎◌, ◌||◌}
+use Rattle.std.specs.Prelude.{if◌then◌else◌, ◌⊎◌}
 use Rattle.std.proofs.lemmas.Bool.{and_parts, and_from, eqb-true, eq-eqb}
 use Rattle.rls_ident.specs.declared.tuple.Tuple.{Tuple}
 use Rattle.rls_ident.specs.declared.epoch_name.EpochName.{EpochName}
@@ -9,6 +9,7 @@ use Rattle.rls_ident.specs.EpochNames.{name_eq}
 use Rattle.rls_ident.specs.Identifiers.{IsIdent, ident_cmp}
 use Rattle.rls_ident.proofs.Iso.{Iso, inverse, compose, kept}
 use Rattle.rls_ident.proofs.Tuples.{tuples}
+use Rattle.rls_ident.proofs.Members.{or_left, or_right}
 use Rattle.rls_rename.specs.Renaming.{Renaming, IsFormer, new_spot, forward, back}
 use Rattle.rls_rename.specs.Tree.{Node, name_of, same_name, is_of, has_node, AreNodes, path, forward_all, back_all, along, translate}
 use Rattle.rls_rename.proofs.Increasing.{forward_iso}
@@ -39,13 +40,6 @@ IsAmong (node ∷ older) R = (node.renaming ≡ R) ⊎ IsAmong older R
 abbrev pub AreAmong : List Node → List Renaming → Type 0
 AreAmong nodes [] = Unit {0}
 AreAmong nodes (R ∷ Rs) = IsAmong nodes R × AreAmong nodes Rs
-
-or_right : (b c : Bool) → c ≡ true → (b || c) ≡ true
-or_right true c e = refl
-or_right false c e = e
-
-or_left : (b c : Bool) → b ≡ true → (b || c) ≡ true
-or_left b c e = rw e refl
 
 -- a node that is there has its name there
 pub named : (nodes : List Node) (R : Renaming) → IsAmong nodes R → has_node nodes (name_of R) ≡ true

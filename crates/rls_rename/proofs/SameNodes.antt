@@ -1,5 +1,5 @@
 -- Two trees with the same nodes have the same paths, translations and greatest epoch, in whatever order the nodes stand.
-use Rattle.std.proofs.Common.{◌≡◌, Bool, true, false, List, [], ◌∷◌, ◌++◌, map, refl, sym, ap, ◌∙◌, subst, inl, inr, ◌⊎◌, ⊎_elim}
+use Rattle.std.proofs.Common.{◌≡◌, Bool, true, false, List, [], ◌∷◌, ◌++◌, map, refl, sym, ap, ◌∙◌, subst, inl, inr, ⊎_elim}
 use Rattle.std.specs.Prelude.{if◌then◌else◌, ◌||◌}
 use Rattle.std.specs.declared.cmp.Ordering.{Ordering}
 use Rattle.std.specs.declared.cmp.Ordering.TheVariants.{Less, Equal, Greater}
@@ -13,6 +13,7 @@ use Rattle.rls_ident.specs.declared.epoch_name.EpochName.{EpochName}
 use Rattle.rls_ident.specs.EpochNames.{name_eq}
 use Rattle.rls_ident.specs.Lists.{IsIn, AreIn}
 use Rattle.rls_ident.proofs.Lists.{then_equal}
+use Rattle.rls_ident.proofs.Members.{bool_cases, less_is, or_left, or_right, or_split}
 use Rattle.rls_rename.specs.Renaming.{Renaming}
 use Rattle.rls_rename.specs.Tree.{Node, name_of, is_of, has_node, is_kept, AreNodes, AreBelow, path, renaming_cmp, epoch_cmp, later_of, greatest_from, names, greatest, along, translate}
 use Rattle.rls_rename.proofs.Kept.{kept_more, greatest_kept}
@@ -20,21 +21,6 @@ use Rattle.rls_rename.proofs.Paths.{name_eq_is, name_eq_refl}
 use Rattle.rls_rename.proofs.Growth.{path_other, path_child, kept_other}
 
 -- ---- names
-
-bool_cases : {P : Type 0} (b : Bool) → (b ≡ true → P) → (b ≡ false → P) → P
-bool_cases true f g = f refl
-bool_cases false f g = g refl
-
-or_right : (b c : Bool) → c ≡ true → (b || c) ≡ true
-or_right true c e = refl
-or_right false c e = e
-
-or_left : (b c : Bool) → b ≡ true → (b || c) ≡ true
-or_left b c e = rw e refl
-
-or_split : (b c : Bool) → (b || c) ≡ true → (b ≡ true) ⊎ (c ≡ true)
-or_split true c h = inl refl
-or_split false c h = inr h
 
 pub node_named : (n : Node) (ns : List Node) → IsIn n ns → has_node ns (name_of n.renaming) ≡ true
 node_named n [] p = absurd p
@@ -138,18 +124,13 @@ epoch_same top ns d b e f k l h = sym (path_last top ns d b e k) ∙ (ap (last_o
 
 -- ---- the greatest epoch
 
-paths_total : IsTotalOrder (slice_cmp renaming_cmp)
+pub paths_total : IsTotalOrder (slice_cmp renaming_cmp)
 paths_total = lists_total renaming_total
 
 -- g is less than none of these
 abbrev pub IsTop : List Node → EpochName → List EpochName → Type 0
 IsTop ns g [] = Unit {0}
 IsTop ns g (f ∷ fs) = (epoch_cmp ns g f ≡ Less → ⊥) × IsTop ns g fs
-
-lt_is : (o : Ordering) → is_lt o ≡ true → o ≡ Less
-lt_is Less h = refl
-lt_is Equal h = absurd (cc)
-lt_is Greater h = absurd (cc)
 
 -- what is less than f is less than e, where e isn't less than f
 through : (ns : List Node) (g e f : EpochName) → (o : Ordering) → epoch_cmp ns e f ≡ o → is_lt o ≡ false → epoch_cmp ns g f ≡ Less → epoch_cmp ns g e ≡ Less
@@ -175,13 +156,13 @@ from_top ns e (f ∷ fs) = go (is_lt (epoch_cmp ns e f)) refl (from_top ns (late
     go true h p =
         let q : later_of ns e f ≡ f = ap (λ b. if b then f else e) h in
         let r : epoch_cmp ns G f ≡ Less → ⊥ = λ l. p.0 (ap (epoch_cmp ns G) q ∙ l) in
-        ((λ l. r (paths_total.trans (path ns G) (path ns e) (path ns f) l (lt_is (epoch_cmp ns e f) h))), (r, p.1))
+        ((λ l. r (paths_total.trans (path ns G) (path ns e) (path ns f) l (less_is (epoch_cmp ns e f) h))), (r, p.1))
     go false h p =
         let q : later_of ns e f ≡ e = ap (λ b. if b then f else e) h in
         let r : epoch_cmp ns G e ≡ Less → ⊥ = λ l. p.0 (ap (epoch_cmp ns G) q ∙ l) in
         (r, ((λ l. r (through ns G e f (epoch_cmp ns e f) refl h l)), p.1))
 
-top_at : (ns : List Node) (g f : EpochName) (fs : List EpochName) → IsTop ns g fs → IsIn f fs → epoch_cmp ns g f ≡ Less → ⊥
+pub top_at : (ns : List Node) (g f : EpochName) (fs : List EpochName) → IsTop ns g fs → IsIn f fs → epoch_cmp ns g f ≡ Less → ⊥
 top_at ns g f [] t p l = p
 top_at ns g f (h ∷ fs) t (inl e) l = t.0 (ap (epoch_cmp ns g) e ∙ l)
 top_at ns g f (h ∷ fs) t (inr p) l = top_at ns g f fs t.1 p l
@@ -197,7 +178,7 @@ greatest_top top ns e k l =
     let t = from_top ns top (names ns) in
     ⊎_elim (λ h. t.0 (ap (epoch_cmp ns (greatest_from ns top (names ns))) (sym (name_eq_is e top h)) ∙ l)) (λ h. top_at ns (greatest_from ns top (names ns)) e (names ns) t.1 (name_in ns e h) l) (or_split (name_eq e top) (has_node ns e) k)
 
-tied : (o : Ordering) → (o ≡ Less → ⊥) → (ordering_reverse o ≡ Less → ⊥) → o ≡ Equal
+pub tied : (o : Ordering) → (o ≡ Less → ⊥) → (ordering_reverse o ≡ Less → ⊥) → o ≡ Equal
 tied Less h k = absurd (h refl)
 tied Equal h k = refl
 tied Greater h k = absurd (k refl)

@@ -17,7 +17,7 @@ use Rattle.rls_rename.proofs.Kept.{kept_more}
 use Rattle.rls_rename.proofs.Order.{front_same, IsAllowed, within_allowed, within_top, within_is, greatest_is}
 use Rattle.rls_rename.proofs.Paths.{name_eq_is, name_eq_refl, AreAmong, path-among}
 use Rattle.rls_rename.proofs.SameNodes.{node_named, path_top, path_member, greatest_top}
-use Rattle.rls_rename.proofs.Hull.{IsFront, front_begins, begins_front, front_among, top_front, spanned_is, path_same, front_kept, node_at, top_spanned, parent_spanned, in_spanned, spanned_in}
+use Rattle.rls_rename.proofs.Hull.{IsFront, front_begins, begins_front, front_among, top_front, spanned_is, path_same, front_kept, node_at, top_spanned, parent_spanned, in_spanned, spanned_in, cons_tail}
 
 -- the nodes A below U are a part of the nodes B below top
 pub record Window (U : EpochName) (A : List Node) (top : EpochName) (B : List Node) : Type 0 where
@@ -91,9 +91,6 @@ cmp_window {U = U} {A = A} {top = top} {B = B} w e f k l =
 
 -- ---- the greatest
 
-top_kept : (top : EpochName) (ns : List Node) → is_kept top ns top ≡ true
-top_kept top ns = or_left (name_eq top top) (has_node ns top) (name_eq_refl top)
-
 -- no kept epoch is below the topmost
 pub none_below : (U : EpochName) (A : List Node) → AreBelow U A → (e : EpochName) → epoch_cmp A e U ≡ Less → ⊥
 none_below U A b e h = go (path A e) (ap (λ p. slice_cmp renaming_cmp (path A e) p) (sym (path_top U A b)) ∙ h)
@@ -164,9 +161,6 @@ is_spanned_window {U = U} {A = A} {top = top} {B = B} w e es k f h =
     any_same (λ g. begins_with (path B g) (path B f)) (λ g. begins_with (path A g) (path A f)) (e ∷ es)
     (λ g q. ap (λ r. begins_with r (path B f)) (path_window w g (k g q)) ∙ (ap (begins_with (p ++ path A g)) (path_window w f h) ∙ begins_with_front p (path A g) (path A f))) in
     ap (λ b. b && list_any (λ g. begins_with (path B g) (path B f)) (e ∷ es)) x ∙ ap (λ b. begins_with (path A f) (top_path A e es) && b) y
-
-cons_tail : (R S : Renaming) (p q : List Renaming) → R ∷ p ≡ S ∷ q → p ≡ q
-cons_tail R S p q e = cc
 
 cancel : (p x y : List Renaming) → p ++ x ≡ p ++ y → x ≡ y
 cancel [] x y e = e
