@@ -13,3 +13,5 @@ pub mod Members
 pub mod Shifted
 mod Worked
 pub mod Ends
+mod Counts
+mod Faults

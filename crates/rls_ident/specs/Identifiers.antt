@@ -1,5 +1,5 @@
 -- Identifiers: lists of tuples whose last is an `At`, in lexicographic order.
-use Rattle.std.specs.Prelude.{◌≡◌, ℤ, pos, negsuc, Bool, true, false, ◌&&◌, List, [], ◌∷◌}
+use Rattle.std.specs.Prelude.{◌≡◌, ℕ, ◌+◌, ℤ, pos, negsuc, Bool, true, false, ◌&&◌, List, [], ◌∷◌, Option, Some, None, if◌then◌else◌}
 use Rattle.std.specs.declared.cmp.Ordering.{Ordering}
 use Rattle.std.specs.Ordering.{is_eq, is_lt, is_le}
 use Rattle.std.specs.Int.RustNames.{int_le}
@@ -79,3 +79,9 @@ abbrev pub is_bounded : List Tuple → Bool
 is_bounded [] = true
 is_bounded (t ∷ []) = is_last_bounded t
 is_bounded (t ∷ (u ∷ x)) = is_inner_bounded t && is_bounded (u ∷ x)
+
+-- the place of the first tuple that may not stand where it stands, where the first of these stands at place i
+abbrev pub first_fault : ℕ → List Tuple → Option ℕ
+first_fault i [] = None
+first_fault i (t ∷ []) = if is_last_bounded t then None else Some i
+first_fault i (t ∷ (u ∷ x)) = if is_inner_bounded t then first_fault (i + 1) (u ∷ x) else Some i

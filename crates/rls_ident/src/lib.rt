@@ -7,6 +7,6 @@ mod tuple;
 mod vector;
 
 pub use epoch_name::EpochName;
-pub use ident::Ident;
-pub use tuple::{Spot, Tuple};
+pub use ident::{Ident, IdentError};
+pub use tuple::{GREATEST_OFFSET, LEAST_OFFSET, Spot, Tuple};
 pub use vector::Vector;
