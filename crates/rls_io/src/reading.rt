@@ -41,7 +41,7 @@ const STEP: usize = 4096;
 /// after an Ok. `Fault` comes only where the count of faults rose in this call, and `TooLarge` exactly where `limit + 1` bytes
 /// were taken. More are never taken. The cost is that of the reads, and of growing one vector.
 pub fn read_all<S: Source>(alloc: Global, source: &mut S, limit: u64) -> Result<Vec<u8>, ReadError>
-    requires { limit < 2 ^ 62 }
+    requires small { limit < 2 ^ 62 }
     ensures whole { IfOk result (λ bytes. TakesAll (S.left source.old) (S.left source.new) bytes.items) }
     ensures within { IfOk result (λ bytes. length bytes.items ≤ limit) }
     ensures too_large { result ≡ Err read.TooLarge → Takes (S.left source.old) (S.left source.new) (limit + 1) }
