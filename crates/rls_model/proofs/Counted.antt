@@ -9,18 +9,18 @@ use Rattle.rls_ident.proofs.Members.{or_right, or_split, and_true, in_left, in_r
 use Rattle.rls_rename.specs.Renaming.{Renaming}
 use Rattle.rls_rename.specs.Tree.{Node, name_of, has_node, is_kept, AreNodes, AreBelow, path}
 use Rattle.rls_rename.specs.Tree as tree
-use Rattle.rls_rename.specs.Connected.{top_path, is_spanned, spanned, spanned_renamings}
+use Rattle.rls_rename.specs.Connected.{top_path, is_spanned, spanned, spanned_renamings, stays_below, kept_nodes}
 use Rattle.rls_rename.proofs.Hull.{IsFront, spanned_is, spanned_top, top_spanned, path_same, node_at, in_spanned, spanned_in}
 use Rattle.rls_rename.proofs.Paths.{name_eq_is}
 use Rattle.rls_rename.proofs.SameNodes.{node_named}
-use Rattle.rls_rename.proofs.Windows.{kept_window, path_window, both_fronts, low_or_top, stays_is, stays_below, kept_nodes, kept-renamings}
+use Rattle.rls_rename.proofs.Windows.{kept_window, path_window, both_fronts, low_or_top, stays_is, kept-renamings}
 use Rattle.rls_model.specs.History.{History}
 use Rattle.rls_model.specs.Stability.{stable, unstable}
 use Rattle.rls_model.specs.Epochs.{epochs, greatest}
 use Rattle.rls_model.specs.Legal.{IsLegal}
 use Rattle.rls_model.specs.Parts.{node_of}
-use Rattle.rls_model.specs.Retained.{needed, retained, retained_renamings}
-use Rattle.rls_model.proofs.Dropping.{Keeps, needed_over, over_kept, retained_same, retained_kept}
+use Rattle.rls_model.specs.Retained.{needed, needed_over, retained, retained_renamings}
+use Rattle.rls_model.proofs.Dropping.{Keeps, over_kept, retained_same, retained_kept}
 use Rattle.rls_model.proofs.Later.{IsTopmost, topmost_path}
 use Rattle.rls_model.proofs.WindowAnswers.{node_found}
 

@@ -1,5 +1,5 @@
 -- Which epochs are retained, and that a window which keeps them answers as the whole does.
-use Rattle.std.proofs.Common.{◌≡◌, ℕ, zero, suc, ◌≤◌, ◌<◌, Bool, true, false, List, [], ◌∷◌, ◌++◌, map, refl, sym, ap, ◌∙◌, subst, inl, inr, ◌⊎◌, ⊎_elim, arith, nat_le}
+use Rattle.std.proofs.Common.{◌≡◌, ℕ, zero, suc, ◌≤◌, ◌<◌, Bool, true, false, List, [], ◌∷◌, map, refl, sym, ap, ◌∙◌, subst, inl, inr, ◌⊎◌, ⊎_elim, arith, nat_le}
 use Rattle.std.specs.Prelude.{not, ◌||◌, filter, None, slice_index}
 use Rattle.std.specs.declared.cmp.Ordering.TheVariants.{Less}
 use Rattle.std.specs.Ordering.{is_lt}
@@ -12,14 +12,14 @@ use Rattle.rls_ident.specs.Vectors.{at_most}
 use Rattle.rls_ident.proofs.Members.{bool_cases, not_true, not_is, and_left, and_right, in_left, in_right, in_split, snoc_split, in_map, map_in, in_filter, filter_in, le_is, le_test, less_is}
 use Rattle.rls_rename.specs.Tree.{Node, name_of, is_of, has_node, is_kept, AreNodes, AreBelow, path, renaming_cmp, epoch_cmp, names}
 use Rattle.rls_rename.specs.Tree as tree
-use Rattle.rls_rename.specs.Connected.{top_path, spanned}
+use Rattle.rls_rename.specs.Connected.{top_path, spanned, kept_nodes}
 use Rattle.rls_rename.proofs.Growth.{path_other, path_child, kept_other}
 use Rattle.rls_rename.proofs.Kept.{greatest_kept, greatest_within_kept}
 use Rattle.rls_rename.proofs.Order.{above_trans, kept_here, IsAllowed, within_allowed, within_top}
 use Rattle.rls_rename.proofs.Paths.{name_eq_is, name_eq_refl}
 use Rattle.rls_rename.proofs.SameNodes.{greatest_top, node_named}
 use Rattle.rls_rename.proofs.Hull.{IsFront, front_trans, needed_spanned, spanned_top, top_spanned, IsPart, spanned_least, kept_in, in_kept, in_spanned, spanned_in, spanned_part}
-use Rattle.rls_rename.proofs.Windows.{Window, AllKept, kept_window, cmp_window, greatest_window, within_window, window_trans, kept_nodes, keep_window, keep_kept}
+use Rattle.rls_rename.proofs.Windows.{Window, AllKept, kept_window, cmp_window, greatest_window, within_window, window_trans, keep_window, keep_kept}
 use Rattle.rls_rename.proofs.Ordered.{spanned_same, spanned_members}
 use Rattle.rls_ops.specs.declared.op.Op.{Op}
 use Rattle.rls_ops.specs.declared.op.Body.{Body}
@@ -30,7 +30,7 @@ use Rattle.rls_model.specs.Stability.{stable, is_covered, unstable}
 use Rattle.rls_model.specs.Epochs.{epochs, nodes_after, renaming_of, greatest, greatest_within}
 use Rattle.rls_model.specs.Fitting.{refusal}
 use Rattle.rls_model.specs.Legal.{IsLegal}
-use Rattle.rls_model.specs.Retained.{needed, retained}
+use Rattle.rls_model.specs.Retained.{needed, needed_over, retained}
 use Rattle.rls_model.proofs.Stable.{at_most_refl, at_most_trans, stable_row, stable_grows}
 use Rattle.rls_model.proofs.OneTree.{nodes, parents, none_else, not_not, author_below, fits_epoch}
 use Rattle.rls_model.proofs.SameOps.{op_kept, top_kept}
@@ -162,10 +162,6 @@ unfolding greatest_within
 within_same H U A v l k h = within_window k.window v (k.keeps (greatest_within H v) (threshold_retained H l v h))
 
 -- ---- computed over the window alone
-
--- the needed epochs by a window, the stable vector and the unstable operations
-abbrev pub needed_over : EpochName → List Node → List ℕ → List Op → List EpochName
-needed_over U A v os = filter (λ e. not (is_lt (epoch_cmp A e (tree.greatest_within U A v)))) (U ∷ names A) ++ map (λ o. o.epoch) os
 
 at_most_self : (v : List ℕ) → at_most v v ≡ true
 at_most_self v = at_most_refl v

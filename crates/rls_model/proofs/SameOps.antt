@@ -244,4 +244,4 @@ pub law : SameOperations
 unfolding text idents
 law G H l m h =
     let e = same_export G H l m h in
-    (same_greatest G H l m (λ o. (h o).0) (λ o. (h o).1), ap (λ xs. map (λ x. x.1) xs) e, ap (λ xs. runs_of (map (λ x. x.0) xs)) e)
+    (same_greatest G H l m (λ o. (h o).0) (λ o. (h o).1), ap (λ xs. map (λ x. x.1) xs) e, ap (λ xs. map (λ x. x.0) xs) e, ap (λ xs. runs_of (map (λ x. x.0) xs)) e)

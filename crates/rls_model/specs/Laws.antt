@@ -10,27 +10,31 @@ use Rattle.rls_ident.specs.Identifiers.{last_of}
 use Rattle.rls_ident.specs.Vectors.{at_most}
 use Rattle.rls_runs.specs.Runs.{runs_of}
 use Rattle.rls_rename.specs.Renaming.{new_pos}
-use Rattle.rls_rename.specs.Tree.{IsTree, is_kept}
+use Rattle.rls_rename.specs.Tree.{Epochs, IsTree, IsWindow, is_kept}
+use Rattle.rls_rename.specs.Tree as tree
+use Rattle.rls_rename.specs.Connected.{spanned, kept_nodes}
 use Rattle.rls_ops.specs.declared.op.Op.{Op}
 use Rattle.rls_ops.specs.declared.op.Body.{Body}
 use Rattle.rls_ops.specs.declared.op.Body.TheVariants.{Insert, Rename}
 use Rattle.rls_ops.specs.declared.message.Message.{Message}
 use Rattle.rls_model.specs.declared.edit.Edit.{Edit}
 use Rattle.rls_model.specs.declared.edit.Edit.TheVariants as edits
-use Rattle.rls_model.specs.History.{Entry, Accepted, History, Then, me_of, ops, count, count_of, members_of, has_left, row}
-use Rattle.rls_model.specs.Stability.{stable}
+use Rattle.rls_model.specs.History.{Entry, Accepted, Acknowledged, History, Then, me_of, ops, count, count_of, members_of, has_left, row}
+use Rattle.rls_model.specs.Stability.{stable, unstable}
 use Rattle.rls_model.specs.Stems.{stems, stem_of, is_used, may_use, stems_after}
-use Rattle.rls_model.specs.Epochs.{epochs, greatest}
+use Rattle.rls_model.specs.Epochs.{nodes_after, epochs, greatest, greatest_within}
 use Rattle.rls_model.specs.Document.{Character, chars, chars_of, ident_in, idents, text}
+use Rattle.rls_model.specs.Fitting.{refusal}
 use Rattle.rls_model.specs.Receiving.{State}
 use Rattle.rls_model.specs.WellFormed.{IsLarge, IsText, IsEdit}
 use Rattle.rls_model.specs.Legal.{IsLegal, IsSound}
+use Rattle.rls_model.specs.Retained.{needed_over, retained}
 use Rattle.rls_model.specs.Editing.{next_seq, made, edit_fault}
 use Rattle.rls_model.specs.Taking.{Limit, take_within}
 use Rattle.rls_model.specs.EditRun.{edit_within}
 use Rattle.rls_model.specs.Worlds.{World, empty_world, Happening, run, AreEvents, AreWhole}
--- a renaming keeps the order, forward and back undo each other, and translation doesn't depend on the way
-pub use Rattle.rls_rename.specs.Laws.{OrderKept, Inverse, PathFree}
+-- what a renaming means and keeps, what translation keeps, the smallest connected part, and windows
+pub use Rattle.rls_rename.specs.Laws.{Meaning, OrderKept, Inverse, LastKept, PathFree, Spanned, WindowSame}
 
 -- ---- one history
 
@@ -115,15 +119,51 @@ abbrev pub InsertionLands : Type 0
 InsertionLands = (H : History) (at : ℕ) (cs : List ℕ) → IsLegal H → IsEdit (edits.Insert at cs) → edit_fault H (edits.Insert at cs) ≡ None →
     text (edited H (edits.Insert at cs)) ≡ take at (text H) ++ (cs ++ drop at (text H))
 
+-- ---- windows of epochs
+
+-- all epochs of a history
+abbrev pub all_epochs : History → Epochs
+all_epochs H = record { top = Origin; nodes = epochs H }
+
+-- the window keeps each retained epoch
+abbrev pub KeepsRetained : History → Epochs → Type 0
+KeepsRetained H M = IsWindow M (all_epochs H) × ((f : EpochName) → IsIn f (retained H) → IsTrue (is_kept M.top M.nodes f))
+
+-- the epochs that are needed beside the greatest one, told from a window
+abbrev pub needed_in : History → Epochs → List EpochName
+needed_in H M = needed_over M.top M.nodes (stable H) (unstable H)
+
+-- all epochs are such a window at first, and after each entry the window is one again
+abbrev pub KeptOn : Type 0
+KeptOn = (H : History) → IsLegal H →
+    KeepsRetained H (all_epochs H)
+    × ((M : Epochs) (o : Op) → IsLegal (Then H (Accepted o)) → KeepsRetained H M → KeepsRetained (Then H (Accepted o)) (record M { nodes = nodes_after M.nodes o o.body }))
+    × ((M : Epochs) (a : ℕ) (v : List ℕ) → IsLegal (Then H (Acknowledged a v)) → KeepsRetained H M → KeepsRetained (Then H (Acknowledged a v)) M)
+
+-- the greatest epoch, the greatest one within what is at least stable, and the retained ones are told from the window alone,
+-- which keeps the epoch of each unstable operation and of each that fits
+abbrev pub ToldByWindow : Type 0
+ToldByWindow = (H : History) (M : Epochs) → IsLegal H → KeepsRetained H M →
+    (tree.greatest M.top M.nodes ≡ greatest H)
+    × ((v : List ℕ) → IsTrue (at_most (stable H) v) → tree.greatest_within M.top M.nodes v ≡ greatest_within H v)
+    × (spanned M.top M.nodes (tree.greatest M.top M.nodes) (needed_in H M) ≡ retained H)
+    × ((o : Op) → IsIn o (unstable H) → IsTrue (is_kept M.top M.nodes o.epoch))
+    × ((o : Op) → o.author < members_of H → refusal H o ≡ None → IsTrue (is_kept M.top M.nodes o.epoch))
+
+-- what is retained, with the nodes of all but the topmost of it, is such a window too
+abbrev pub Dropped : Type 0
+Dropped = (H : History) (M : Epochs) → IsLegal H → KeepsRetained H M →
+    (u : EpochName) × IsIn u (retained H) × KeepsRetained H (record { top = u; nodes = kept_nodes M.nodes (tree.greatest M.top M.nodes) (needed_in H M) })
+
 -- ---- two histories
 
 -- the same operations were accepted
 abbrev pub HaveSameOps : History → History → Type 0
 HaveSameOps G H = (o : Op) → IsIn o (ops G) ↔ IsIn o (ops H)
 
--- the same text with the same runs at the same greatest epoch
+-- the same text with the same identifiers, and so with the same runs, at the same greatest epoch
 abbrev pub ShowSame : History → History → Type 0
-ShowSame G H = (greatest G ≡ greatest H) × (text G ≡ text H) × (runs_of (idents G) ≡ runs_of (idents H))
+ShowSame G H = (greatest G ≡ greatest H) × (text G ≡ text H) × (idents G ≡ idents H) × (runs_of (idents G) ≡ runs_of (idents H))
 
 -- what two histories show depends on their operations alone
 abbrev pub SameOperations : Type 0

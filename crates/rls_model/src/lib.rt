@@ -4,6 +4,7 @@
 mod counts;
 mod edit;
 mod event;
+pub mod laws;
 mod parts;
 mod receipt;
 

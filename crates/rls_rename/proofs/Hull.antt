@@ -179,7 +179,7 @@ path_same top ns d b e f k l h = epoch_same top ns d b e f k l (ap (slice_cmp re
 pub top_kept : (top : EpochName) (ns : List Node) → is_kept top ns top ≡ true
 top_kept top ns = or_left (name_eq top top) (has_node ns top) (name_eq_refl top)
 
-front_none : (p : List Renaming) → IsFront p [] → [] ≡ p
+pub front_none : (p : List Renaming) → IsFront p [] → [] ≡ p
 front_none [] h = refl
 front_none (R ∷ p) h = absurd (none h.1)
   where

@@ -11,7 +11,7 @@ use Rattle.rls_ident.specs.Lists.{IsIn, AreIn}
 use Rattle.rls_ident.proofs.Members.{bool_cases, not_true, not_is, or_left, or_right, or_split, and_left, and_right, and_true, in_filter, filter_in, each_in, are_in}
 use Rattle.rls_rename.specs.Renaming.{Renaming}
 use Rattle.rls_rename.specs.Tree.{Node, Epochs, name_of, is_of, has_node, is_kept, AreNodes, AreBelow, IsTree, IsWindow, path, renaming_cmp, epoch_cmp, greatest, greatest_within, forward_all, back_all, along, translate}
-use Rattle.rls_rename.specs.Connected.{begins_with, common_prefix, common_prefix_of, top_path, is_spanned, spanned, spanned_renamings}
+use Rattle.rls_rename.specs.Connected.{begins_with, common_prefix, common_prefix_of, top_path, is_spanned, spanned, spanned_renamings, stays_below, kept_nodes}
 use Rattle.rls_rename.proofs.Growth.{path_other, path_child}
 use Rattle.rls_rename.proofs.Kept.{kept_more}
 use Rattle.rls_rename.proofs.Order.{front_same, IsAllowed, within_allowed, within_top, within_is, greatest_is}
@@ -194,14 +194,6 @@ spanned_window {U = U} {A = A} {top = top} {B = B} w e es k f p =
     spanned_in U A e es f h (sym (is_spanned_window w e es k f h) ∙ r.1)
 
 -- ---- keeping what is spanned
-
--- the node is spanned and isn't the topmost
-abbrev pub stays_below : List Node → EpochName → List EpochName → Node → Bool
-stays_below ns e es n = is_spanned ns e es (name_of n.renaming) && not (begins_with (top_path ns e es) (path ns (name_of n.renaming)))
-
--- the nodes that are spanned, without the topmost
-unfoldable pub kept_nodes : List Node → EpochName → List EpochName → List Node
-kept_nodes ns e es = filter (stays_below ns e es) ns
 
 filter_map : (t : Renaming → Bool) (ns : List Node) → filter t (map (λ n. n.renaming) ns) ≡ map (λ n. n.renaming) (filter (λ n. t n.renaming) ns)
 filter_map t [] = refl

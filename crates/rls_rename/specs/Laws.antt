@@ -1,10 +1,12 @@
 -- What a renaming keeps, and what translation keeps.
-use Rattle.std.specs.Prelude.{List, [], ◌∷◌, ◌++◌, length, ◌≡◌}
+use Rattle.std.specs.Prelude.{ℕ, List, [], ◌∷◌, ◌++◌, length, ◌≡◌, IsTrue}
 use Rattle.rls_ident.specs.declared.tuple.Tuple.{Tuple}
 use Rattle.rls_ident.specs.declared.epoch_name.EpochName.{EpochName}
 use Rattle.rls_ident.specs.Identifiers.{IsIdent, ident_cmp, last_of}
 use Rattle.rls_rename.specs.Renaming.{Renaming, IsFormer, IsNone, new_spot, new_at, new_idents, old_below, new_below, old_between, new_between, old_above, new_above, forward, back}
-use Rattle.rls_rename.specs.Tree.{Node, AreNodes, translate}
+use Rattle.rls_ident.specs.Lists.{AreIn}
+use Rattle.rls_rename.specs.Tree.{Node, Epochs, is_kept, AreNodes, IsTree, IsWindow, epoch_cmp, greatest, greatest_within, translate}
+use Rattle.rls_rename.specs.Connected.{spanned, AreKept, AreConnected, AreRising}
 
 -- a renaming takes a former identifier to the new one at its place, and what the old map of a gap gives to what the new map gives
 abbrev pub Meaning : Type 0
@@ -35,3 +37,20 @@ PathFree = (nodes : List Node) (e f g : EpochName) (x y : List Tuple) → AreNod
     IsIdent (translate nodes e f x)
     × (translate nodes f g (translate nodes e f x) ≡ translate nodes e g x)
     × (ident_cmp (translate nodes e f x) (translate nodes e f y) ≡ ident_cmp x y)
+
+-- what is spanned is connected, holds the given epochs, lies within each connected part that holds them, and rises
+abbrev pub Spanned : Type 0
+Spanned = (E : Epochs) (e : EpochName) (es : List EpochName) → IsTree E → AreKept E (e ∷ es) →
+    ((u : EpochName) × AreConnected E u (spanned E.top E.nodes e es))
+    × AreIn (e ∷ es) (spanned E.top E.nodes e es)
+    × ((u : EpochName) (fs : List EpochName) → AreConnected E u fs → AreIn (e ∷ es) fs → AreIn (spanned E.top E.nodes e es) fs)
+    × AreRising E.nodes (spanned E.top E.nodes e es)
+
+-- a window computes over its own epochs what the whole computes
+abbrev pub WindowSame : Type 0
+WindowSame = (M E : Epochs) → IsTree E → IsWindow M E →
+    ((e f : EpochName) (x : List Tuple) → AreKept M (e ∷ (f ∷ [])) → translate M.nodes e f x ≡ translate E.nodes e f x)
+    × ((e f : EpochName) → AreKept M (e ∷ (f ∷ [])) → epoch_cmp M.nodes e f ≡ epoch_cmp E.nodes e f)
+    × (IsTrue (is_kept M.top M.nodes (greatest E.top E.nodes)) → greatest M.top M.nodes ≡ greatest E.top E.nodes)
+    × ((v : List ℕ) → IsTrue (is_kept M.top M.nodes (greatest_within E.top E.nodes v)) → greatest_within M.top M.nodes v ≡ greatest_within E.top E.nodes v)
+    × ((e : EpochName) (es : List EpochName) → AreKept M (e ∷ es) → spanned M.top M.nodes e es ≡ spanned E.top E.nodes e es)

@@ -1,0 +1,117 @@
+//! Laws: facts over the definitions, for all values. Each call runs nothing and takes no memory; its contract states the fact.
+
+ghost use Rattle.rls_model.specs.Laws.{Meaning, OrderKept, Inverse, LastKept, PathFree, Spanned, WindowSame};
+ghost use Rattle.rls_model.specs.Laws.{OneTree, NoneUsed, AllUsed, OwnStems, Distinct, Stable, MadeFits, RenamedRun, InsertionLands};
+ghost use Rattle.rls_model.specs.Laws.{KeptOn, ToldByWindow, Dropped, SameOperations, WorldsLegal, EqualVectors, NoRefusal};
+
+/// A renaming takes a former identifier to the new one at its place, and what the old map of a gap gives to what its new map gives
+/// (this project, after `renameId` of RenamableLogootSplit).
+pub fn meaning()
+    ensures meaning { Meaning }
+{}
+
+/// Each direction of a renaming keeps the order of all identifiers.
+pub fn order_kept()
+    ensures order_kept { OrderKept }
+{}
+
+/// Each direction of a renaming takes identifiers to identifiers and undoes the other.
+pub fn inverse()
+    ensures inverse { Inverse }
+{}
+
+/// Each direction of a renaming keeps the last tuple of what it doesn't rename.
+pub fn last_kept()
+    ensures last_kept { LastKept }
+{}
+
+/// Translation takes identifiers to identifiers, doesn't depend on the way and keeps the order.
+pub fn path_free()
+    ensures path_free { PathFree }
+{}
+
+/// The spanned part of a tree of epochs is connected, holds the given epochs, lies within each connected part that holds them, and
+/// is listed in increasing order.
+pub fn spanned()
+    ensures spanned { Spanned }
+{}
+
+/// A window of the epochs gives for what it keeps the translations, the order, the greatest epochs and the spanned parts that the
+/// whole gives.
+pub fn window_same()
+    ensures window_same { WindowSame }
+{}
+
+/// The epochs of a legal history form one tree.
+pub fn one_tree()
+    ensures one_tree { OneTree }
+{}
+
+/// What the next operation of a member uses was used by none before; afterwards just this is used beside what was used before; and
+/// the stems of a member depend on its own operations alone.
+pub fn fresh()
+    ensures none_used { NoneUsed }
+    ensures all_used { AllUsed }
+    ensures own_stems { OwnStems }
+{}
+
+/// In each epoch of a legal history two different characters have different identifiers.
+pub fn distinct()
+    ensures distinct { Distinct }
+{}
+
+/// The stable vector is at most the count and at most the row of each member that hasn't left, and nothing that may follow lowers it.
+pub fn stable()
+    ensures stable { Stable }
+{}
+
+/// The operation that an accepted edit makes may follow.
+pub fn made_fits()
+    ensures made_fits { MadeFits }
+{}
+
+/// An accepted rename makes one run of the text, which an insertion right after it lengthens at its end or at its front.
+pub fn renamed_run()
+    ensures renamed_run { RenamedRun }
+{}
+
+/// An accepted insertion lands where it was asked for.
+pub fn insertion_lands()
+    ensures insertion_lands { InsertionLands }
+{}
+
+/// All epochs of a legal history are a window that keeps the retained ones, and such a window is one again after each entry.
+pub fn kept_on()
+    ensures kept_on { KeptOn }
+{}
+
+/// A window that keeps the retained epochs tells the greatest epoch, the greatest one within what is at least stable and the retained
+/// ones, and keeps the epoch of each operation that is unstable or fits.
+pub fn told_by_window()
+    ensures told_by_window { ToldByWindow }
+{}
+
+/// Dropping all but the retained epochs leaves a window that keeps them.
+pub fn dropped()
+    ensures dropped { Dropped }
+{}
+
+/// Two legal histories with the same operations show the same text with the same identifiers at the same greatest epoch.
+pub fn same_operations()
+    ensures same_operations { SameOperations }
+{}
+
+/// In a world each member's history is legal, and its waiting operations fit to it.
+pub fn worlds_legal()
+    ensures worlds_legal { WorldsLegal }
+{}
+
+/// In a world two members with equal vectors have the same operations and show the same.
+pub fn equal_vectors()
+    ensures equal_vectors { EqualVectors }
+{}
+
+/// In a world nothing is refused, and each waiting operation was made by its author.
+pub fn no_refusal()
+    ensures no_refusal { NoRefusal }
+{}
