@@ -1,7 +1,8 @@
 -- What every member that hasn't left has accepted.
 use Rattle.std.specs.Prelude.{ℕ, zero, suc, Bool, not, ◌&&◌, ◌||◌, List, [], ◌∷◌, ◌++◌, ◌==◌, nat_le, slice_index, filter, if◌then◌else◌}
-use Rattle.rls_ident.specs.Vectors.{meet, at_most}
+use Rattle.rls_ident.specs.Vectors.{at_most}
 use Rattle.rls_ops.specs.declared.op.Op.{Op}
+pub use Rattle.rls_ops.specs.Rows.{least_of, is_covered}
 use Rattle.rls_model.specs.History.{History, me_of, members_of, ops, count, count_of, has_left, row}
 
 -- the member's row is waited for
@@ -13,18 +14,9 @@ abbrev pub awaited_rows : History → ℕ → List (List ℕ)
 awaited_rows H zero = []
 awaited_rows H (suc n) = awaited_rows H n ++ (if is_awaited H n then row H n ∷ [] else [])
 
--- member by member, the least count of a vector and these
-abbrev pub least_of : List ℕ → List (List ℕ) → List ℕ
-least_of v [] = v
-least_of v (w ∷ ws) = least_of (meet v w) ws
-
 -- member by member, the least count of the own row and the rows of all other members that haven't left
 unfoldable pub stable : History → List ℕ
 stable H = least_of (count H) (awaited_rows H (members_of H))
-
--- the operation's number is at most the vector's count of its author
-abbrev pub is_covered : List ℕ → Op → Bool
-is_covered v o = nat_le o.seq (slice_index v o.author)
 
 -- the operations that aren't stable, in order
 unfoldable pub unstable : History → List Op

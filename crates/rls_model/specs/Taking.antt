@@ -1,19 +1,16 @@
 -- Messages, and what comes of taking one, step by step.
-use Rattle.std.specs.Prelude.{ℕ, zero, suc, ◌+◌, ◌-◌, Bool, true, not, List, [], ◌∷◌, ◌++◌, length, nat_lt, nat_le, filter, Option, Some, None, if◌then◌else◌}
+use Rattle.std.specs.Prelude.{ℕ, zero, suc, ◌+◌, ◌-◌, Bool, true, List, [], ◌∷◌, ◌++◌, length, nat_lt, nat_le, Option, Some, None, if◌then◌else◌}
 use Rattle.rls_ops.specs.declared.op.Op.{Op}
 use Rattle.rls_ops.specs.declared.message.Message.{Message}
 use Rattle.rls_ops.specs.Sizes.{op_size, head_size}
+pub use Rattle.rls_ops.specs.Rows.{missing_for}
 use Rattle.rls_model.specs.declared.receipt.Taken.{Taken}
 use Rattle.rls_model.specs.Answers.{Reason, Answer, Applies, Repeats, Waits, Refuses, Released}
 use Rattle.rls_model.specs.History.{Acknowledged, History, Then, group_of, me_of, members_of, count, row}
-use Rattle.rls_model.specs.Stability.{unstable, is_counted, is_covered}
+use Rattle.rls_model.specs.Stability.{unstable, is_counted}
 use Rattle.rls_model.specs.Receiving.{State, receive, receive_after, release, release_after}
 
 -- ---- the message for a member
-
--- the operations that a row doesn't cover
-abbrev pub missing_for : List ℕ → List Op → List Op
-missing_for v os = filter (λ o. not (is_covered v o)) os
 
 -- the longest front of the list whose bytes, with those used already, are within the limit
 abbrev pub front_within : ℕ → ℕ → List Op → List Op

@@ -2,3 +2,4 @@ pub mod Shapes
 pub mod Sizes
 pub mod Same
 pub mod Spelling
+pub mod Rows

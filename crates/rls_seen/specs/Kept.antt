@@ -1,0 +1,90 @@
+-- What is dropped, and the numbers and parts of a replica, read over what it consists of.
+use Rattle.std.specs.Prelude.{ℕ, zero, suc, List, [], ◌∷◌, ◌++◌, ◌==◌, length, map, sum_by, if◌then◌else◌}
+use Rattle.rls_ident.specs.declared.epoch_name.EpochName.{EpochName}
+use Rattle.rls_rename.specs.Connected.{spanned, spanned_renamings}
+use Rattle.rls_rename.specs.Keeping.{reached, kept_part}
+use Rattle.rls_runs.specs.Runs.{runs_of}
+use Rattle.rls_ops.specs.Rows.{AcksSeen, row_of, left}
+use Rattle.rls_model.specs.declared.counts.Counts.{Counts}
+use Rattle.rls_model.specs.declared.parts.Parts.{Parts}
+use Rattle.rls_model.specs.Parts.{epoch_parts, text_runs}
+use Rattle.rls_seen.specs.Seen.{Seen, vector, members, stable_over, unstable_over, greatest_over, idents_over}
+
+-- ---- dropping
+
+-- the epochs of the unstable operations
+abbrev pub marked_over : Seen → List EpochName
+marked_over s = map (λ o. o.epoch) (unstable_over s)
+
+-- the epochs that must stay beside the greatest: each at least the greatest stable one, and those of the unstable operations
+abbrev pub needed_over : Seen → List EpochName
+needed_over s = reached s.epochs (stable_over s) ++ marked_over s
+
+-- the stable operations and the epochs that aren't retained are dropped
+unfoldable pub dropped : Seen → Seen
+dropped s = record {
+  group = s.group;
+  acks = s.acks;
+  stems = s.stems;
+  epochs = kept_part s.epochs (stable_over s) (marked_over s);
+  text = s.text;
+  waiting = s.waiting;
+  log = unstable_over s;
+}
+
+-- ---- numbers
+
+-- the retained epochs, in increasing order
+unfoldable pub retained_over : Seen → List EpochName
+retained_over s = spanned s.epochs.top s.epochs.nodes (greatest_over s) (needed_over s)
+
+-- characters, runs, waiting operations, unstable operations, retained epochs and the former identifiers below the topmost of them
+unfoldable pub counts_over : Seen → Counts
+counts_over s = record {
+  total = length s.text;
+  runs = length (runs_of (idents_over s));
+  held = length s.waiting;
+  unstable = length (unstable_over s);
+  epochs = length (retained_over s);
+  former = sum_by (λ R. length R.former) (spanned_renamings s.epochs.nodes (greatest_over s) (needed_over s));
+}
+
+-- how many operations are kept
+abbrev pub kept_operations : Seen → ℕ
+kept_operations s = length s.log
+
+-- how many epochs are kept, the topmost among them
+abbrev pub kept_epochs : Seen → ℕ
+kept_epochs s = suc (length s.epochs.nodes)
+
+-- how many former identifiers are kept
+abbrev pub kept_former : Seen → ℕ
+kept_former s = sum_by (λ n. length n.renaming.former) s.epochs.nodes
+
+-- ---- parts
+
+-- the rows of the members below n, without the own one
+abbrev pub other_rows : AcksSeen → ℕ → List (List ℕ)
+other_rows acks zero = []
+other_rows acks (suc n) = other_rows acks n ++ (if n == acks.me then [] else row_of acks n ∷ [])
+
+-- the members below n that have left
+abbrev pub left_below : AcksSeen → ℕ → List ℕ
+left_below acks zero = []
+left_below acks (suc n) = left_below acks n ++ (if left acks n then n ∷ [] else [])
+
+-- the record of all parts
+unfoldable pub parts_over : Seen → Parts
+parts_over s = record {
+  group = s.group;
+  members = members s;
+  me = s.acks.me;
+  vector = vector s;
+  rows = other_rows s.acks (members s);
+  stems = s.stems;
+  epochs = epoch_parts s.epochs.nodes (retained_over s);
+  text = text_runs s.text;
+  log = unstable_over s;
+  held = s.waiting;
+  left = left_below s.acks (members s);
+}

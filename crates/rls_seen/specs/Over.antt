@@ -1,0 +1,194 @@
+-- What a replica answers to an operation, and how it changes, read over what it consists of.
+use Rattle.std.specs.Prelude.{◌≡◌, ℕ, zero, suc, Bool, true, false, not, ◌&&◌, ◌||◌, List, [], ◌∷◌, ◌++◌, length, ◌==◌, nat_le, slice_index, map, filter, zip, find, Option, Some, None, if◌then◌else◌}
+use Rattle.std.specs.List.{list_any}
+use Rattle.rls_ident.specs.declared.tuple.Tuple.{Tuple}
+use Rattle.rls_ident.specs.declared.epoch_name.EpochName.{EpochName}
+use Rattle.rls_ident.specs.EpochNames.{name_eq}
+use Rattle.rls_ident.specs.Identifiers.{ident_eq, last_of}
+use Rattle.rls_ident.specs.Vectors.{at_most}
+use Rattle.rls_runs.specs.Runs.{run_idents}
+use Rattle.rls_rename.specs.Renaming.{forward}
+use Rattle.rls_rename.specs.Tree.{Epochs, name_of, greatest}
+use Rattle.rls_ops.specs.declared.op.Op.{Op}
+use Rattle.rls_ops.specs.declared.op.Shape.{Shape}
+use Rattle.rls_ops.specs.declared.op.Body.{Body}
+use Rattle.rls_ops.specs.declared.op.Body.TheVariants.{Insert, Delete, Rename, Leave}
+use Rattle.rls_ops.specs.Shapes.{shape_fault}
+use Rattle.rls_ops.specs.Same.{op_eq}
+use Rattle.rls_ops.specs.Rows.{AcksSeen, row_of, left, raised, parted}
+use Rattle.rls_ops.specs.Rows as rows
+use Rattle.rls_model.specs.Answers.{Reason, Misshapen, Own, Forked, Left, Backward, WrongEpoch, WrongStem, UnknownTarget, Answer, Applies, Repeats, Waits, Refuses, Released}
+use Rattle.rls_model.specs.Stems.{stems_after, due_offset, may_use}
+use Rattle.rls_model.specs.Epochs.{renaming_of, nodes_after}
+use Rattle.rls_model.specs.Document.{targets_of, has_ident, put_all}
+use Rattle.rls_model.specs.Receiving.{without, with_waiting, waiting_under, verdict_of}
+use Rattle.rls_seen.specs.Seen.{Seen, vector, members, count_over, unstable_over, greatest_over, due_over, translate_over}
+
+-- ---- why an operation whose causes are there is refused
+
+-- the target is in the text, by its identifier in this epoch, or that of a target of an unstable deletion
+unfoldable pub is_known_over : Seen → EpochName → List Tuple → Bool
+is_known_over s e x =
+    list_any (λ y. ident_eq y.0 (translate_over s e (greatest_over s) x)) s.text
+    || list_any (λ d. list_any (λ t. ident_eq (translate_over s d.epoch e t) x) (targets_of d.body)) (unstable_over s)
+
+-- the first of these targets that isn't known
+abbrev pub first_unknown_over : Seen → EpochName → List (List Tuple) → Option Reason
+first_unknown_over s e [] = None
+first_unknown_over s e (x ∷ xs) = if is_known_over s e x then first_unknown_over s e xs else Some (UnknownTarget x)
+
+-- the reason that lies in the body
+abbrev pub body_refusal_over : Seen → Op → Body → Option Reason
+body_refusal_over s o (Insert first text) =
+    if may_use s.stems o.author o.seq (last_of first) (length text) then None
+    else Some (WrongStem (due_offset s.stems o.author o.seq (last_of first)))
+body_refusal_over s o (Delete targets) = first_unknown_over s o.epoch targets
+body_refusal_over s o _ = None
+
+-- the first reason to refuse the operation. It fits where there is none
+unfoldable pub refusal_over : Seen → Op → Option Reason
+refusal_over s o =
+    if left s.acks o.author then Some (Left (count_over s o.author))
+    else if not (at_most (row_of s.acks o.author) o.context) then Some (Backward (row_of s.acks o.author))
+    else if not (name_eq o.epoch (due_over s o.context)) then Some (WrongEpoch (due_over s o.context))
+    else body_refusal_over s o o.body
+
+-- ---- the answer to an operation that arrives
+
+-- by the vector and the reason to refuse it, where this operation waits under its number, or none does
+abbrev pub answer_beside : List ℕ → Option Reason → Op → Option Op → Answer
+answer_beside v reason o None = if not (at_most o.context v) then Waits else verdict_of reason
+answer_beside v reason o (Some w) =
+    if not (op_eq w o) then Refuses (Forked w)
+    else if not (at_most o.context v) then Waits
+    else verdict_of reason
+
+-- by the vector, the own number, what waits and the reason to refuse it, where the shape has this fault, or none
+abbrev pub answer_by : Bool → List ℕ → ℕ → List Op → Option Reason → Op → Option Shape → Answer
+answer_by own v me W reason o (Some s) = Refuses (Misshapen s)
+answer_by own v me W reason o None =
+    if nat_le o.seq (slice_index v o.author) then Repeats
+    else if not own && (o.author == me) then Refuses (Own o.seq)
+    else answer_beside v reason o (waiting_under W o.author o.seq)
+
+-- where `own` says whether the replica's own operations are taken too
+unfoldable pub answer_over : Bool → Seen → Op → Answer
+answer_over own s o = answer_by own (vector s) s.acks.me s.waiting (refusal_over s o) o (shape_fault (members s) o)
+
+-- ---- an operation is accepted
+
+-- the rows
+abbrev pub acks_after : AcksSeen → ℕ → Body → AcksSeen
+acks_after acks a Leave = parted (raised acks a) a
+acks_after acks a _ = raised acks a
+
+-- the epochs
+abbrev pub epochs_after : Epochs → Op → Epochs
+epochs_after E o = record { top = E.top; nodes = nodes_after E.nodes o o.body }
+
+-- the identifier of epoch e in the greatest one
+abbrev pub placed_over : Seen → EpochName → List Tuple → List Tuple
+placed_over s e x = translate_over s e (greatest_over s) x
+
+-- what an insertion in epoch e adds to the text
+abbrev pub added_over : Seen → EpochName → List Tuple → List ℕ → List (List Tuple × ℕ)
+added_over s e first text = zip (map (placed_over s e) (run_idents first (length text))) text
+
+-- an identifier of the greatest epoch in the epoch that a rename opens
+abbrev pub renamed_over : Seen → Op → List (List Tuple) → List Tuple → List Tuple
+renamed_over s o former x = forward (renaming_of o former) (translate_over s (greatest_over s) o.epoch x)
+
+-- the epoch that a rename opens is greater than all that are kept
+abbrev pub is_greatest_over : Seen → Op → Bool
+is_greatest_over s o = name_eq (greatest s.epochs.top (epochs_after s.epochs o).nodes) (name_of (renaming_of o []))
+
+-- the text
+abbrev pub text_after : Seen → Op → Body → List (List Tuple × ℕ)
+text_after s o (Insert first text) = put_all (added_over s o.epoch first text) s.text
+text_after s o (Delete targets) = filter (λ y. not (has_ident (map (placed_over s o.epoch) targets) y.0)) s.text
+text_after s o (Rename former) = if is_greatest_over s o then map (λ y. (renamed_over s o former y.0, y.1)) s.text else s.text
+text_after s o Leave = s.text
+
+unfoldable pub accepted : Seen → Op → Seen
+accepted s o = record {
+  group = s.group;
+  acks = acks_after s.acks o.author o.body;
+  stems = stems_after s.stems o.author o.seq o.body;
+  epochs = epochs_after s.epochs o;
+  text = text_after s o o.body;
+  waiting = without o.author o.seq s.waiting;
+  log = s.log ++ o ∷ [];
+}
+
+-- ---- receiving
+
+-- these operations wait
+unfoldable pub holding : Seen → List Op → Seen
+holding s W = record { group = s.group; acks = s.acks; stems = s.stems; epochs = s.epochs; text = s.text; waiting = W; log = s.log }
+
+-- after this answer
+abbrev pub after_answer : Answer → Seen → Op → Seen
+after_answer Applies s o = accepted s o
+after_answer Waits s o = holding s (with_waiting o (without o.author o.seq s.waiting))
+after_answer _ s o = s
+
+unfoldable pub received : Seen → Op → Seen
+received s o = after_answer (answer_over false s o) s o
+
+-- where the replica's own operations are taken too
+unfoldable pub replayed : Seen → Op → Seen
+replayed s o = after_answer (answer_over true s o) s o
+
+-- ---- releasing
+
+-- the first waiting operation whose context is at most the vector
+abbrev pub first_ready : Seen → Option Op
+first_ready s = find (λ w. at_most w.context (vector s)) s.waiting
+
+-- what is released where this operation is the first ready one
+abbrev pub release_of : Seen → Option Op → Option Released
+release_of s None = None
+release_of s (Some w) = Some (record { author = w.author; seq = w.seq; refusal = refusal_over s w })
+
+-- what is answered where the first ready operation is looked at
+unfoldable pub release_over : Seen → Option Released
+release_over s = release_of s (first_ready s)
+
+-- after this operation was released with this refusal, if any
+abbrev pub after_refusal : Option Reason → Seen → Op → Seen
+after_refusal None s w = accepted s w
+after_refusal (Some r) s w = holding s (without w.author w.seq s.waiting)
+
+-- where this operation is the first ready one
+abbrev pub after_release : Seen → Option Op → Seen
+after_release s None = s
+after_release s (Some w) = after_refusal (refusal_over s w) s w
+
+unfoldable pub released : Seen → Seen
+released s = after_release s (first_ready s)
+
+-- after n releases
+abbrev pub released_times : ℕ → Seen → Seen
+released_times zero s = s
+released_times (suc n) s = released_times n (released s)
+
+-- after releases until none is ready
+unfoldable pub released_all : Seen → Seen
+released_all s = released_times (length s.waiting) s
+
+-- after some of these releases
+abbrev pub IsPartReleased : Seen → Seen → Type 0
+IsPartReleased old new = (n : ℕ) × (new ≡ released_times n old)
+
+-- ---- acknowledgements
+
+unfoldable pub acknowledged : Seen → ℕ → List ℕ → Seen
+acknowledged s a v = record {
+  group = s.group;
+  acks = rows.acknowledged s.acks a v;
+  stems = s.stems;
+  epochs = s.epochs;
+  text = s.text;
+  waiting = s.waiting;
+  log = s.log;
+}
