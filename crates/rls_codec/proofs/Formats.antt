@@ -1,5 +1,5 @@
 -- A format is a reader and a spelling that agree: what is spelled is read, and what is read is spelled so.
-use Rattle.std.proofs.Common.{◌≡◌, ℕ, zero, suc, ◌+◌, ◌-◌, ◌^◌, ◌<◌, ◌≤◌, Bool, true, false, cond, ltb, List, [], ◌∷◌, ◌++◌, length, get_or, take, drop, Option, Some, None, Result, Ok, Err, refl, sym, ap, subst, ◌∙◌, append_assoc, arith, inl, inr}
+use Rattle.std.proofs.Common.{◌≡◌, ℕ, zero, suc, ◌+◌, ◌^◌, ◌<◌, ◌≤◌, Bool, true, false, cond, ltb, List, [], ◌∷◌, ◌++◌, length, get_or, take, drop, Option, Some, None, Result, Ok, Err, refl, sym, ap, subst, ◌∙◌, append_assoc, arith, inl, inr}
 use Rattle.std.specs.List.{flat_map}
 use Rattle.std.specs.Int.{Width, w32, w64, byte_len, from_be_bytes, to_be_bytes}
 use Rattle.std.proofs.lemmas.Bool.{cases_lt, ltb-false, le-ltb}
@@ -83,11 +83,13 @@ field {r₁ = r₁} {s₁ = s₁} {F₁ = F₁} {r₂ = r₂} {s₂ = s₂} {F�
       let b = bind_ok (r₁ bytes) (λ x. r₂ x.0 x.1) (y, rest) e in
       let first = one.takes bytes b.0.0 b.0.1 h b.1 in
       let second = (two b.0.0 first.1).takes b.0.1 y rest first.0.rest_fits b.2 in
-      let is : part y ≡ b.0.0 = is_part b.0.0 y first.1 second.1 in
-      (record {
-        parts = first.0.parts ∙ ap (λ (t : List ℕ). s₁ b.0.0 ++ t) second.0.parts ∙ sym (append_assoc (s₁ b.0.0) (s₂ y) rest) ∙ ap (λ x. (s₁ x ++ s₂ y) ++ rest) (sym is);
-        rest_fits = second.0.rest_fits;
-      }, (subst F₁ (sym is) first.1, subst (λ x. F₂ x y) (sym is) second.1));
+      let is : part y ≡ b.0.0 = is_part b.0.0 y first.1 second.1 in (
+        record {
+          parts = first.0.parts ∙ ap (λ (t : List ℕ). s₁ b.0.0 ++ t) second.0.parts ∙ sym (append_assoc (s₁ b.0.0) (s₂ y) rest) ∙ ap (λ x. (s₁ x ++ s₂ y) ++ rest) (sym is);
+          rest_fits = second.0.rest_fits;
+        },
+        (subst F₁ (sym is) first.1, subst (λ x. F₂ x y) (sym is) second.1),
+      );
 }
 
 -- the same format with another word for what fits
@@ -229,7 +231,7 @@ module _ {A : Type 0} (part : Option A → List ℕ → Read A) (spell : A → L
       let first = (one before).takes bytes a.0.0 a.0.1 h a.1 in
       let others = chain_takes (Some a.0.0) n a.0.1 b.0.0 b.0.1 first.0.rest_fits b.1 in
       subst (λ (q : List A × List ℕ). Takes bytes (flat_map spell q.0) q.1 × ((length q.0 ≡ suc n) × Chained F before q.0)) (ok_is (a.0.0 ∷ b.0.0, b.0.1) (xs, rest) b.2)
-        (record { parts = first.0.parts ∙ ap (λ (t : List ℕ). spell a.0.0 ++ t) others.0.parts ∙ sym (append_assoc (spell a.0.0) (flat_map spell b.0.0) b.0.1); rest_fits = others.0.rest_fits }, (ap suc others.1.0, (first.1, others.1.1)))
+      (record { parts = first.0.parts ∙ ap (λ (t : List ℕ). spell a.0.0 ++ t) others.0.parts ∙ sym (append_assoc (spell a.0.0) (flat_map spell b.0.0) b.0.1); rest_fits = others.0.rest_fits }, (ap suc others.1.0, (first.1, others.1.1)))
 
   pub chain : (before : Option A) (n : ℕ) → Spells (chain_at part before n) (flat_map spell) (λ xs. (length xs ≡ n) × Chained F before xs)
   chain before n = record { again = chain_again before n; takes = chain_takes before n }
@@ -237,5 +239,5 @@ module _ {A : Type 0} (part : Option A → List ℕ → Read A) (spell : A → L
   pub counted_parts : Spells (counted_at part) (counted spell) (λ xs. (length xs < 2 ^ 32) × Chained F None xs)
   counted_parts =
       fitting (λ xs. (length xs < 2 ^ 32) × Chained F None xs)
-        (field length (number w32 (2 ^ 32) wide32) (λ n lt. chain None n) (λ n xs lt fits. fits.0))
-        (λ xs fits. (fits.0, fits.1.1)) (λ xs fits. (fits.0, (refl, fits.1)))
+      (field length (number w32 (2 ^ 32) wide32) (λ n lt. chain None n) (λ n xs lt fits. fits.0))
+      (λ xs fits. (fits.0, fits.1.1)) (λ xs fits. (fits.0, (refl, fits.1)))

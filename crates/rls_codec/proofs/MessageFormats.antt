@@ -1,10 +1,10 @@
 -- The formats of operations and messages.
-use Rattle.std.proofs.Common.{◌≡◌, ℕ, zero, suc, ◌+◌, ◌-◌, ◌^◌, ◌<◌, ◌≤◌, Bool, true, false, cond, ltb, List, [], ◌∷◌, ◌++◌, length, drop, Option, Some, None, Result, Ok, Err, refl, sym, ap, subst, ◌∙◌, append_assoc, arith, lit<}
+use Rattle.std.proofs.Common.{◌≡◌, ℕ, zero, suc, ◌+◌, ◌-◌, ◌<◌, ◌≤◌, true, false, cond, List, [], ◌∷◌, ◌++◌, length, drop, Option, Some, None, Result, Ok, Err, refl, sym, ap, subst, ◌∙◌, arith, lit<}
 use Rattle.std.specs.Prelude.{nat_le, nat_lt, pos, ◌+ℤ◌, ◌&&◌, IsTrue, codes, bytes_eq}
 use Rattle.std.proofs.lemmas.Slice.Eq.{bytes_eq-Decides}
 use Rattle.rls_ops.specs.declared.message.Message.{Message}
 use Rattle.std.specs.List.{flat_map, concat}
-use Rattle.std.specs.Int.{w32, w64, to_be_bytes}
+use Rattle.std.specs.Int.{w32, to_be_bytes}
 use Rattle.std.proofs.lemmas.List.{length-append, length-drop, append-nil}
 use Rattle.std.proofs.lemmas.Bool.{and_parts, and_from, leb-true, ltb-true, lt-ltb, ltb-false, le-ltb}
 use Rattle.rls_ident.specs.declared.tuple.Tuple.{Tuple}
@@ -18,7 +18,7 @@ use Rattle.rls_ops.specs.declared.op.Body.TheVariants.{Insert, Delete, Rename, L
 use Rattle.rls_ops.specs.Spelling.{runs_bytes, run_bytes, kind_of, name_bytes, body_bytes, op_bytes, ident_bytes, text_bytes, message_in_form}
 use Rattle.rls_codec.specs.Reading.{◌>>=◌, Read, runs_at, body_of_kind, body_at, op_fields_at, op_at, op_limit, next_run_at, magic_at, is_message_form, is_member_count, message_and_form_at, message_at, message_of, whole, placed, op_from}
 use Rattle.rls_codec.specs.Spelled.{IsSmall, Chained, FitsIdent, FitsBehind, FitRuns, FitsName, FitsText, FitsVector, FitsBody, IsSpelled, IsSpelledMessage}
-use Rattle.rls_codec.proofs.Formats.{IsBytes, IsBytes-drop, Takes, Spells, only_one, done, field, fitting, spelling, seen, ruled, byte, bind_ok, kept_false, ok_is, chain, counted_parts, raw}
+use Rattle.rls_codec.proofs.Formats.{IsBytes, IsBytes-drop, Takes, Spells, only_one, done, field, fitting, spelling, seen, ruled, byte, bind_ok, kept_false, ok_is, counted_parts, raw}
 use Rattle.rls_codec.proofs.PartFormats.{small, large, ident, next_run, vector, name, text}
 use Rattle.rls_runs.proofs.RunsOf.{runs_of_idents}
 
@@ -54,70 +54,76 @@ OfKind k b = (kind_of b ≡ k) × FitsBody b
 body_kinds : (k : ℕ) → nat_le k 3 ≡ true → Spells (body_of_kind k) body_bytes (OfKind k)
 body_kinds zero h = spelling body_bytes (fitting (OfKind 0) (field first_of ident (λ x hx. field chars_of text (λ cs hc. done (Insert x cs)) (λ cs b h f. ap chars_of f)) (λ x b h f. ap first_of f.1)) to from) same
   where
-  to : (b : Body) → FitsIdent (first_of b) × (FitsText (chars_of b) × (b ≡ Insert (first_of b) (chars_of b))) → OfKind 0 b
-  to (Insert x cs) f = (refl, (f.0, f.1.0))
-  to (Delete xs) f = absurd cc
-  to (Rename xs) f = absurd cc
-  to Leave f = absurd cc
-  from : (b : Body) → OfKind 0 b → FitsIdent (first_of b) × (FitsText (chars_of b) × (b ≡ Insert (first_of b) (chars_of b)))
-  from (Insert x cs) f = (f.1.0, (f.1.1, refl))
-  from (Delete xs) f = absurd (omega (arith, f.0))
-  from (Rename xs) f = absurd (omega (arith, f.0))
-  from Leave f = absurd (omega (arith, f.0))
-  same : (b : Body) → OfKind 0 b → ident_bytes (first_of b) ++ (text_bytes (chars_of b) ++ []) ≡ body_bytes b
-  same (Insert x cs) f = refl
-  same (Delete xs) f = absurd (omega (arith, f.0))
-  same (Rename xs) f = absurd (omega (arith, f.0))
-  same Leave f = absurd (omega (arith, f.0))
+    to : (b : Body) → FitsIdent (first_of b) × (FitsText (chars_of b) × (b ≡ Insert (first_of b) (chars_of b))) → OfKind 0 b
+    to (Insert x cs) f = (refl, (f.0, f.1.0))
+    to (Delete xs) f = absurd cc
+    to (Rename xs) f = absurd cc
+    to Leave f = absurd cc
+
+    from : (b : Body) → OfKind 0 b → FitsIdent (first_of b) × (FitsText (chars_of b) × (b ≡ Insert (first_of b) (chars_of b)))
+    from (Insert x cs) f = (f.1.0, (f.1.1, refl))
+    from (Delete xs) f = absurd (omega (arith, f.0))
+    from (Rename xs) f = absurd (omega (arith, f.0))
+    from Leave f = absurd (omega (arith, f.0))
+
+    same : (b : Body) → OfKind 0 b → ident_bytes (first_of b) ++ (text_bytes (chars_of b) ++ []) ≡ body_bytes b
+    same (Insert x cs) f = refl
+    same (Delete xs) f = absurd (omega (arith, f.0))
+    same (Rename xs) f = absurd (omega (arith, f.0))
+    same Leave f = absurd (omega (arith, f.0))
 body_kinds (suc zero) h = spelling body_bytes (seen (OfKind 1) Delete targets_of runs (λ xs f. (refl, (refl, f))) back) same
   where
-  back : (b : Body) → OfKind 1 b → (Delete (targets_of b) ≡ b) × FitRuns (targets_of b)
-  back (Delete xs) f = (refl, f.1)
-  back (Insert x cs) f = absurd (omega (arith, f.0))
-  back (Rename xs) f = absurd (omega (arith, f.0))
-  back Leave f = absurd (omega (arith, f.0))
-  same : (b : Body) → OfKind 1 b → runs_bytes (targets_of b) ≡ body_bytes b
-  same (Delete xs) f = refl
-  same (Insert x cs) f = absurd (omega (arith, f.0))
-  same (Rename xs) f = absurd (omega (arith, f.0))
-  same Leave f = absurd (omega (arith, f.0))
+    back : (b : Body) → OfKind 1 b → (Delete (targets_of b) ≡ b) × FitRuns (targets_of b)
+    back (Delete xs) f = (refl, f.1)
+    back (Insert x cs) f = absurd (omega (arith, f.0))
+    back (Rename xs) f = absurd (omega (arith, f.0))
+    back Leave f = absurd (omega (arith, f.0))
+
+    same : (b : Body) → OfKind 1 b → runs_bytes (targets_of b) ≡ body_bytes b
+    same (Delete xs) f = refl
+    same (Insert x cs) f = absurd (omega (arith, f.0))
+    same (Rename xs) f = absurd (omega (arith, f.0))
+    same Leave f = absurd (omega (arith, f.0))
 body_kinds (suc (suc zero)) h = spelling body_bytes (seen (OfKind 2) Rename targets_of runs (λ xs f. (refl, (refl, f))) back) same
   where
-  back : (b : Body) → OfKind 2 b → (Rename (targets_of b) ≡ b) × FitRuns (targets_of b)
-  back (Rename xs) f = (refl, f.1)
-  back (Insert x cs) f = absurd (omega (arith, f.0))
-  back (Delete xs) f = absurd (omega (arith, f.0))
-  back Leave f = absurd (omega (arith, f.0))
-  same : (b : Body) → OfKind 2 b → runs_bytes (targets_of b) ≡ body_bytes b
-  same (Rename xs) f = refl
-  same (Insert x cs) f = absurd (omega (arith, f.0))
-  same (Delete xs) f = absurd (omega (arith, f.0))
-  same Leave f = absurd (omega (arith, f.0))
+    back : (b : Body) → OfKind 2 b → (Rename (targets_of b) ≡ b) × FitRuns (targets_of b)
+    back (Rename xs) f = (refl, f.1)
+    back (Insert x cs) f = absurd (omega (arith, f.0))
+    back (Delete xs) f = absurd (omega (arith, f.0))
+    back Leave f = absurd (omega (arith, f.0))
+
+    same : (b : Body) → OfKind 2 b → runs_bytes (targets_of b) ≡ body_bytes b
+    same (Rename xs) f = refl
+    same (Insert x cs) f = absurd (omega (arith, f.0))
+    same (Delete xs) f = absurd (omega (arith, f.0))
+    same Leave f = absurd (omega (arith, f.0))
 body_kinds (suc (suc (suc zero))) h = spelling body_bytes (fitting (OfKind 3) (done Leave) (λ b e. rw e (refl, tt)) is_leave) same
   where
-  is_leave : (b : Body) → OfKind 3 b → b ≡ Leave
-  is_leave Leave f = refl
-  is_leave (Insert x cs) f = absurd (omega (arith, f.0))
-  is_leave (Delete xs) f = absurd (omega (arith, f.0))
-  is_leave (Rename xs) f = absurd (omega (arith, f.0))
-  same : (b : Body) → OfKind 3 b → [] ≡ body_bytes b
-  same Leave f = refl
-  same (Insert x cs) f = absurd (omega (arith, f.0))
-  same (Delete xs) f = absurd (omega (arith, f.0))
-  same (Rename xs) f = absurd (omega (arith, f.0))
+    is_leave : (b : Body) → OfKind 3 b → b ≡ Leave
+    is_leave Leave f = refl
+    is_leave (Insert x cs) f = absurd (omega (arith, f.0))
+    is_leave (Delete xs) f = absurd (omega (arith, f.0))
+    is_leave (Rename xs) f = absurd (omega (arith, f.0))
+
+    same : (b : Body) → OfKind 3 b → [] ≡ body_bytes b
+    same Leave f = refl
+    same (Insert x cs) f = absurd (omega (arith, f.0))
+    same (Delete xs) f = absurd (omega (arith, f.0))
+    same (Rename xs) f = absurd (omega (arith, f.0))
 body_kinds (suc (suc (suc (suc k)))) h = absurd (omega (arith, leb-true (suc (suc (suc (suc k)))) 3 h))
 
 pub body : Spells body_at (λ b. concat ((kind_of b ∷ []) ∷ body_bytes b ∷ [])) FitsBody
 unfolding body_at
 body = spelling (λ b. concat ((kind_of b ∷ []) ∷ body_bytes b ∷ [])) (fitting FitsBody (field kind_of (ruled (λ k. nat_le k 3) byte) (λ k h. body_kinds k h.1) (λ k b h f. f.0)) (λ b f. f.1.1) from) same
   where
-  from : (b : Body) → FitsBody b → ((kind_of b < 256) × (nat_le (kind_of b) 3 ≡ true)) × ((kind_of b ≡ kind_of b) × FitsBody b)
-  from (Insert x cs) f = ((lit< tt, refl), (refl, f))
-  from (Delete xs) f = ((lit< tt, refl), (refl, f))
-  from (Rename xs) f = ((lit< tt, refl), (refl, f))
-  from Leave f = ((lit< tt, refl), (refl, f))
-  same : (b : Body) → FitsBody b → (kind_of b ∷ []) ++ body_bytes b ≡ concat ((kind_of b ∷ []) ∷ body_bytes b ∷ [])
-  same b f = ap (λ w. kind_of b ∷ w) (sym (append-nil (body_bytes b)))
+    from : (b : Body) → FitsBody b → ((kind_of b < 256) × (nat_le (kind_of b) 3 ≡ true)) × ((kind_of b ≡ kind_of b) × FitsBody b)
+    from (Insert x cs) f = ((lit< tt, refl), (refl, f))
+    from (Delete xs) f = ((lit< tt, refl), (refl, f))
+    from (Rename xs) f = ((lit< tt, refl), (refl, f))
+    from Leave f = ((lit< tt, refl), (refl, f))
+
+    same : (b : Body) → FitsBody b → (kind_of b ∷ []) ++ body_bytes b ≡ concat ((kind_of b ∷ []) ∷ body_bytes b ∷ [])
+    same b f = ap (λ w. kind_of b ∷ w) (sym (append-nil (body_bytes b)))
 
 -- ---- operations
 
@@ -143,9 +149,9 @@ op_fields : (members : ℕ) → Spells (op_fields_at members) op_bytes (FieldsFi
 unfolding op_fields_at op_bytes
 op_fields members = spelling op_bytes
     (fitting (FieldsFit members)
-      (field (λ o. o.author) small (λ author h0. field (λ o. o.seq) small (λ seq h1. field (λ o. o.context) (vector members) (λ context h2. field (λ o. o.epoch) name (λ epoch h3. field (λ o. o.body) body (λ b h4. done (record { author = author; seq = seq; context = context; epoch = epoch; body = b }))
-        (λ b o h f. ap (λ (p : Op). p.body) f)) (λ epoch o h f. ap (λ (p : Op). p.epoch) f.1)) (λ context o h f. ap (λ (p : Op). p.context) f.1.1)) (λ seq o h f. ap (λ (p : Op). p.seq) f.1.1.1)) (λ author o h f. ap (λ (p : Op). p.author) f.1.1.1.1))
-      (λ o f. (f.0, f.1.0, f.1.1.0, f.1.1.1.0, f.1.1.1.1.0)) (λ o f. (f.0, (f.1, (f.2, (f.3, (f.4, refl)))))))
+    (field (λ o. o.author) small (λ author h0. field (λ o. o.seq) small (λ seq h1. field (λ o. o.context) (vector members) (λ context h2. field (λ o. o.epoch) name (λ epoch h3. field (λ o. o.body) body (λ b h4. done (record { author = author; seq = seq; context = context; epoch = epoch; body = b }))
+    (λ b o h f. ap (λ (p : Op). p.body) f)) (λ epoch o h f. ap (λ (p : Op). p.epoch) f.1)) (λ context o h f. ap (λ (p : Op). p.context) f.1.1)) (λ seq o h f. ap (λ (p : Op). p.seq) f.1.1.1)) (λ author o h f. ap (λ (p : Op). p.author) f.1.1.1.1))
+    (λ o f. (f.0, f.1.0, f.1.1.0, f.1.1.1.0, f.1.1.1.1.0)) (λ o f. (f.0, (f.1, (f.2, (f.3, (f.4, refl)))))))
     (λ o f. ap (λ w. to_be_bytes w32 o.author ++ (to_be_bytes w32 o.seq ++ (flat_map (to_be_bytes w32) o.context ++ (name_bytes o.epoch ++ w)))) (append-nil (kind_of o.body ∷ (body_bytes o.body ++ []))))
 
 pub op : (members : ℕ) → Spells (op_at members) op_bytes (IsSpelled members)
@@ -173,18 +179,20 @@ pub message_and_form : Spells message_and_form_at (λ x. message_in_form x.0 x.1
 unfolding message_and_form_at message_in_form
 message_and_form = spelling (λ x. message_in_form x.0 x.1)
     (fitting Form
-      (field (λ x. codes "RLSM") (magic (codes "RLSM")) (λ m hm. field (λ x. x.0) (ruled is_message_form byte) (λ form hf. field (λ x. x.1.group) large (λ group hg. field (λ x. x.1.members) (ruled is_member_count small) (λ members hc. field (λ x. x.1.from) (ruled (λ n. nat_lt n members) small) (λ from h1. field (λ x. x.1.vector) (vector members) (λ v hv. field (λ x. x.1.ops) (counted_parts (λ before. op_at members) op_bytes (λ before. IsSpelled members) (λ before. op members)) (λ os ho. done (form, record { group = group; members = members; from = from; vector = v; ops = os }))
-        (λ os x h f. ap (λ (y : ℕ × Message). y.1.ops) f)) (λ v x h f. ap (λ (y : ℕ × Message). y.1.vector) f.1)) (λ from x h f. ap (λ (y : ℕ × Message). y.1.from) f.1.1)) (λ members x h f. ap (λ (y : ℕ × Message). y.1.members) f.1.1.1)) (λ group x h f. ap (λ (y : ℕ × Message). y.1.group) f.1.1.1.1)) (λ form x h f. ap (λ (y : ℕ × Message). y.0) f.1.1.1.1.1)) (λ m x h f. sym (magic_is (codes "RLSM") m h.1)))
-      (λ x f. (f.1.0.1, record { group = f.1.1.0; members = f.1.1.1.0.1; from = ltb-true x.1.from x.1.members f.1.1.1.1.0.1; vector = f.1.1.1.1.1.0; count = f.1.1.1.1.1.1.0.0; ops = f.1.1.1.1.1.1.0.1 }))
-      (λ x f. ((refl, refl), ((form_byte x.0 f.0, f.0), (f.1.group, ((small_count x.1.members f.1.members, f.1.members), ((small_from x.1.from x.1.members f.1.members f.1.from, lt-ltb x.1.from x.1.members f.1.from), (f.1.vector, ((f.1.count, f.1.ops), refl)))))))))
+    (field (λ x. codes "RLSM") (magic (codes "RLSM")) (λ m hm. field (λ x. x.0) (ruled is_message_form byte) (λ form hf. field (λ x. x.1.group) large (λ group hg. field (λ x. x.1.members) (ruled is_member_count small) (λ members hc. field (λ x. x.1.from) (ruled (λ n. nat_lt n members) small) (λ from h1. field (λ x. x.1.vector) (vector members) (λ v hv. field (λ x. x.1.ops) (counted_parts (λ before. op_at members) op_bytes (λ before. IsSpelled members) (λ before. op members)) (λ os ho. done (form, record { group = group; members = members; from = from; vector = v; ops = os }))
+    (λ os x h f. ap (λ (y : ℕ × Message). y.1.ops) f)) (λ v x h f. ap (λ (y : ℕ × Message). y.1.vector) f.1)) (λ from x h f. ap (λ (y : ℕ × Message). y.1.from) f.1.1)) (λ members x h f. ap (λ (y : ℕ × Message). y.1.members) f.1.1.1)) (λ group x h f. ap (λ (y : ℕ × Message). y.1.group) f.1.1.1.1)) (λ form x h f. ap (λ (y : ℕ × Message). y.0) f.1.1.1.1.1)) (λ m x h f. sym (magic_is (codes "RLSM") m h.1)))
+    (λ x f. (f.1.0.1, record { group = f.1.1.0; members = f.1.1.1.0.1; from = ltb-true x.1.from x.1.members f.1.1.1.1.0.1; vector = f.1.1.1.1.1.0; count = f.1.1.1.1.1.1.0.0; ops = f.1.1.1.1.1.1.0.1 }))
+    (λ x f. ((refl, refl), ((form_byte x.0 f.0, f.0), (f.1.group, ((small_count x.1.members f.1.members, f.1.members), ((small_from x.1.from x.1.members f.1.members f.1.from, lt-ltb x.1.from x.1.members f.1.from), (f.1.vector, ((f.1.count, f.1.ops), refl)))))))))
     (λ x f. refl)
   where
-  small_count : (n : ℕ) → is_member_count n ≡ true → IsSmall n
-  small_count n e = omega (arith, leb-true n 64 (and_parts (nat_lt 0 n) (nat_le n 64) e).1)
-  form_byte : (n : ℕ) → is_message_form n ≡ true → n < 256
-  form_byte n e = omega (arith, leb-true n 3 (and_parts (nat_lt 0 n) (nat_le n 3) e).1)
-  small_from : (from n : ℕ) → is_member_count n ≡ true → from < n → IsSmall from
-  small_from from n e h = omega (arith, leb-true n 64 (and_parts (nat_lt 0 n) (nat_le n 64) e).1)
+    small_count : (n : ℕ) → is_member_count n ≡ true → IsSmall n
+    small_count n e = omega (arith, leb-true n 64 (and_parts (nat_lt 0 n) (nat_le n 64) e).1)
+
+    form_byte : (n : ℕ) → is_message_form n ≡ true → n < 256
+    form_byte n e = omega (arith, leb-true n 3 (and_parts (nat_lt 0 n) (nat_le n 3) e).1)
+
+    small_from : (from n : ℕ) → is_member_count n ≡ true → from < n → IsSmall from
+    small_from from n e h = omega (arith, leb-true n 64 (and_parts (nat_lt 0 n) (nat_le n 64) e).1)
 
 -- ---- the laws
 

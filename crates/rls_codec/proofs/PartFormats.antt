@@ -1,13 +1,13 @@
 -- The formats of tuples, identifiers and runs, of names, texts and vectors.
-use Rattle.std.proofs.Common.{◌≡◌, ℕ, zero, suc, ◌+◌, ◌-◌, ◌^◌, ◌<◌, ◌≤◌, ◌≢◌, Bool, true, false, cond, ltb, List, [], ◌∷◌, ◌++◌, length, Option, Some, None, Result, Ok, Err, refl, sym, ap, subst, ◌∙◌, append_assoc, arith, inl, inr, lit<}
-use Rattle.std.specs.Prelude.{ℤ, pos, negsuc, IsTrue, FitsSigned, nat_le, nat_lt, ◌==◌, encode_utf8_all, encode_utf8, ◌&&◌}
+use Rattle.std.proofs.Common.{◌≡◌, ℕ, zero, suc, ◌+◌, ◌-◌, ◌^◌, ◌<◌, true, List, [], ◌∷◌, ◌++◌, length, Option, Some, None, refl, sym, ap, subst, ◌∙◌, append_assoc, arith, lit<}
+use Rattle.std.specs.Prelude.{ℤ, pos, negsuc, FitsSigned, nat_le, nat_lt, ◌==◌, encode_utf8_all}
 use Rattle.std.specs.List.{flat_map, concat}
-use Rattle.std.specs.Int.{Width, w32, w64, byte_len, from_be_bytes, to_be_bytes, cast_signed, cast_unsigned}
+use Rattle.std.specs.Int.{w32, w64, cast_signed, cast_unsigned}
 use Rattle.std.specs.Int.RustNames.{int_le}
 use Rattle.std.specs.Str.{is_utf8, chars, all_scalars}
 use Rattle.std.proofs.lemmas.Int.{to_z-of_z, of_z-to_z, ints}
 use Rattle.std.proofs.lemmas.Str.{chars-encodes, encodes-chars, scalars-chars, IsUtf8-from_is_utf8, is_utf8-from_IsUtf8}
-use Rattle.std.proofs.lemmas.List.{append-nil, length-append}
+use Rattle.std.proofs.lemmas.List.{length-append}
 use Rattle.std.proofs.lemmas.Bool.{and_parts, leb-true, eqb-true, ltb-true, lt-ltb}
 use Rattle.rls_ident.specs.declared.tuple.Tuple.{Tuple}
 use Rattle.rls_ident.specs.declared.tuple.Tuple.TheVariants.{Low, At, High}
@@ -16,10 +16,10 @@ use Rattle.rls_ident.specs.declared.epoch_name.EpochName.TheVariants.{Origin, Of
 use Rattle.rls_ident.specs.Tuples.{pos_of, replica_of, seq_of, offset_of}
 use Rattle.rls_ident.specs.Identifiers.{least_offset, greatest_offset, last_of}
 use Rattle.rls_runs.specs.Runs.{is_apart}
-use Rattle.rls_ops.specs.Spelling.{four_bytes, eight_bytes, signed_bytes, tuple_bytes, ident_bytes, run_bytes, name_bytes, text_bytes, vector_bytes, counted}
-use Rattle.rls_codec.specs.Reading.{◌>>=◌, Read, with_rule, byte_at, number_at, bytes_at, signed_at, chain_at, many_at, counted_at, is_offset, spot_at, inner_of_kind, inner_at, last_at, ident_at, is_run_len, run_at, next_run_at, vector_at, name_of_kind, name_at, text_at}
+use Rattle.rls_ops.specs.Spelling.{four_bytes, eight_bytes, signed_bytes, tuple_bytes, ident_bytes, run_bytes, name_bytes, text_bytes, vector_bytes}
+use Rattle.rls_codec.specs.Reading.{with_rule, number_at, signed_at, is_offset, spot_at, inner_of_kind, inner_at, last_at, ident_at, is_run_len, run_at, next_run_at, vector_at, name_of_kind, name_at, text_at}
 use Rattle.rls_codec.specs.Spelled.{IsSmall, IsLarge, Chained, FitsAt, FitsInner, FitTuples, FitsIdent, FitsRun, FitsBehind, FitsName, FitsText, FitsVector}
-use Rattle.rls_codec.proofs.Formats.{IsBytes, Takes, Spells, done, field, fitting, spelling, seen, ruled, byte, wide32, wide64, number, raw, chain, counted_parts}
+use Rattle.rls_codec.proofs.Formats.{Spells, done, field, fitting, spelling, seen, ruled, byte, wide32, wide64, number, raw, chain}
 
 -- a number of four bytes
 pub small : Spells (number_at w32) four_bytes IsSmall
@@ -57,18 +57,19 @@ pub spot : (least : ℤ) → ((z : ℤ) → is_offset least z ≡ true → FitsS
 unfolding spot_at
 spot least fits =
     fitting (FitsAt least)
-      (field pos_of small (λ p hp. field replica_of small (λ r hr. field seq_of small (λ s hs. field offset_of (offset least fits) (λ o ho. done (At p r s o))
-        (λ o t h f. ap offset_of f)) (λ s t h f. ap seq_of f.1)) (λ r t h f. ap replica_of f.1.1)) (λ p t h f. ap pos_of f.1.1.1))
-      to from
+    (field pos_of small (λ p hp. field replica_of small (λ r hr. field seq_of small (λ s hs. field offset_of (offset least fits) (λ o ho. done (At p r s o))
+    (λ o t h f. ap offset_of f)) (λ s t h f. ap seq_of f.1)) (λ r t h f. ap replica_of f.1.1)) (λ p t h f. ap pos_of f.1.1.1))
+    to from
   where
-  to : (t : Tuple) → IsSmall (pos_of t) × (IsSmall (replica_of t) × (IsSmall (seq_of t) × ((is_offset least (offset_of t) ≡ true) × (t ≡ At (pos_of t) (replica_of t) (seq_of t) (offset_of t))))) → FitsAt least t
-  to (At p r s o) f = (f.0, f.1.0, f.1.1.0, f.1.1.1.0)
-  to Low f = absurd cc
-  to High f = absurd cc
-  from : (t : Tuple) → FitsAt least t → IsSmall (pos_of t) × (IsSmall (replica_of t) × (IsSmall (seq_of t) × ((is_offset least (offset_of t) ≡ true) × (t ≡ At (pos_of t) (replica_of t) (seq_of t) (offset_of t)))))
-  from (At p r s o) f = (f.0, (f.1, (f.2, (f.3, refl))))
-  from Low f = absurd f
-  from High f = absurd f
+    to : (t : Tuple) → IsSmall (pos_of t) × (IsSmall (replica_of t) × (IsSmall (seq_of t) × ((is_offset least (offset_of t) ≡ true) × (t ≡ At (pos_of t) (replica_of t) (seq_of t) (offset_of t))))) → FitsAt least t
+    to (At p r s o) f = (f.0, f.1.0, f.1.1.0, f.1.1.1.0)
+    to Low f = absurd cc
+    to High f = absurd cc
+
+    from : (t : Tuple) → FitsAt least t → IsSmall (pos_of t) × (IsSmall (replica_of t) × (IsSmall (seq_of t) × ((is_offset least (offset_of t) ≡ true) × (t ≡ At (pos_of t) (replica_of t) (seq_of t) (offset_of t)))))
+    from (At p r s o) f = (f.0, (f.1, (f.2, (f.3, refl))))
+    from Low f = absurd f
+    from High f = absurd f
 
 abbrev tuple_kind : Tuple → ℕ
 tuple_kind Low = 0
@@ -84,38 +85,42 @@ behind_kind High = []
 inner_kinds : (k : ℕ) → nat_le k 2 ≡ true → Spells (inner_of_kind k) behind_kind (λ t. (tuple_kind t ≡ k) × FitsInner t)
 inner_kinds zero h = spelling behind_kind (fitting (λ t. (tuple_kind t ≡ 0) × FitsInner t) (done Low) (λ t e. rw e (refl, tt)) is_low) (λ t f. low_bytes t f)
   where
-  is_low : (t : Tuple) → (tuple_kind t ≡ 0) × FitsInner t → t ≡ Low
-  is_low Low f = refl
-  is_low (At p r s o) f = absurd (omega (arith, f.0))
-  is_low High f = absurd (omega (arith, f.0))
-  low_bytes : (t : Tuple) → (tuple_kind t ≡ 0) × FitsInner t → [] ≡ behind_kind t
-  low_bytes Low f = refl
-  low_bytes (At p r s o) f = absurd (omega (arith, f.0))
-  low_bytes High f = refl
+    is_low : (t : Tuple) → (tuple_kind t ≡ 0) × FitsInner t → t ≡ Low
+    is_low Low f = refl
+    is_low (At p r s o) f = absurd (omega (arith, f.0))
+    is_low High f = absurd (omega (arith, f.0))
+
+    low_bytes : (t : Tuple) → (tuple_kind t ≡ 0) × FitsInner t → [] ≡ behind_kind t
+    low_bytes Low f = refl
+    low_bytes (At p r s o) f = absurd (omega (arith, f.0))
+    low_bytes High f = refl
 inner_kinds (suc zero) h = spelling behind_kind (fitting (λ t. (tuple_kind t ≡ 1) × FitsInner t) (spot (negsuc 1073741824) inner_fits) to from) same
   where
-  to : (t : Tuple) → FitsAt (negsuc 1073741824) t → (tuple_kind t ≡ 1) × FitsInner t
-  to (At p r s o) f = (refl, f)
-  to Low f = absurd f
-  to High f = absurd f
-  from : (t : Tuple) → (tuple_kind t ≡ 1) × FitsInner t → FitsAt (negsuc 1073741824) t
-  from (At p r s o) f = f.1
-  from Low f = absurd (omega (arith, f.0))
-  from High f = absurd (omega (arith, f.0))
-  same : (t : Tuple) → (tuple_kind t ≡ 1) × FitsInner t → at_bytes t ≡ behind_kind t
-  same (At p r s o) f = refl
-  same Low f = absurd (omega (arith, f.0))
-  same High f = absurd (omega (arith, f.0))
+    to : (t : Tuple) → FitsAt (negsuc 1073741824) t → (tuple_kind t ≡ 1) × FitsInner t
+    to (At p r s o) f = (refl, f)
+    to Low f = absurd f
+    to High f = absurd f
+
+    from : (t : Tuple) → (tuple_kind t ≡ 1) × FitsInner t → FitsAt (negsuc 1073741824) t
+    from (At p r s o) f = f.1
+    from Low f = absurd (omega (arith, f.0))
+    from High f = absurd (omega (arith, f.0))
+
+    same : (t : Tuple) → (tuple_kind t ≡ 1) × FitsInner t → at_bytes t ≡ behind_kind t
+    same (At p r s o) f = refl
+    same Low f = absurd (omega (arith, f.0))
+    same High f = absurd (omega (arith, f.0))
 inner_kinds (suc (suc zero)) h = spelling behind_kind (fitting (λ t. (tuple_kind t ≡ 2) × FitsInner t) (done High) (λ t e. rw e (refl, tt)) is_high) (λ t f. high_bytes t f)
   where
-  is_high : (t : Tuple) → (tuple_kind t ≡ 2) × FitsInner t → t ≡ High
-  is_high High f = refl
-  is_high (At p r s o) f = absurd (omega (arith, f.0))
-  is_high Low f = absurd (omega (arith, f.0))
-  high_bytes : (t : Tuple) → (tuple_kind t ≡ 2) × FitsInner t → [] ≡ behind_kind t
-  high_bytes High f = refl
-  high_bytes (At p r s o) f = absurd (omega (arith, f.0))
-  high_bytes Low f = refl
+    is_high : (t : Tuple) → (tuple_kind t ≡ 2) × FitsInner t → t ≡ High
+    is_high High f = refl
+    is_high (At p r s o) f = absurd (omega (arith, f.0))
+    is_high Low f = absurd (omega (arith, f.0))
+
+    high_bytes : (t : Tuple) → (tuple_kind t ≡ 2) × FitsInner t → [] ≡ behind_kind t
+    high_bytes High f = refl
+    high_bytes (At p r s o) f = absurd (omega (arith, f.0))
+    high_bytes Low f = refl
 inner_kinds (suc (suc (suc k))) h = absurd (omega (arith, leb-true (suc (suc (suc k))) 2 h))
 
 pub inner : Spells inner_at tuple_bytes FitsInner
@@ -123,32 +128,35 @@ unfolding inner_at
 inner = spelling tuple_bytes
     (fitting FitsInner (field tuple_kind (ruled (λ k. nat_le k 2) byte) (λ k h. inner_kinds k h.1) (λ k t h f. f.0)) (λ t f. f.1.1) from) same
   where
-  from : (t : Tuple) → FitsInner t → ((tuple_kind t < 256) × (nat_le (tuple_kind t) 2 ≡ true)) × ((tuple_kind t ≡ tuple_kind t) × FitsInner t)
-  from Low f = ((lit< tt, refl), (refl, f))
-  from (At p r s o) f = ((lit< tt, refl), (refl, f))
-  from High f = ((lit< tt, refl), (refl, f))
-  same : (t : Tuple) → FitsInner t → (tuple_kind t ∷ []) ++ behind_kind t ≡ tuple_bytes t
-  same Low f = refl
-  same (At p r s o) f = refl
-  same High f = refl
+    from : (t : Tuple) → FitsInner t → ((tuple_kind t < 256) × (nat_le (tuple_kind t) 2 ≡ true)) × ((tuple_kind t ≡ tuple_kind t) × FitsInner t)
+    from Low f = ((lit< tt, refl), (refl, f))
+    from (At p r s o) f = ((lit< tt, refl), (refl, f))
+    from High f = ((lit< tt, refl), (refl, f))
+
+    same : (t : Tuple) → FitsInner t → (tuple_kind t ∷ []) ++ behind_kind t ≡ tuple_bytes t
+    same Low f = refl
+    same (At p r s o) f = refl
+    same High f = refl
 
 pub last : Spells last_at tuple_bytes (FitsAt least_offset)
 unfolding last_at
 last = spelling tuple_bytes
     (fitting (FitsAt least_offset) (field tuple_kind (ruled (λ k. k == 1) byte) (λ k h. fitting (λ t. (tuple_kind t ≡ k) × FitsAt least_offset t) (spot least_offset last_fits) (λ t f. (is_one k t h.1 f, f)) (λ t f. f.1)) (λ k t h f. f.0)) (λ t f. f.1.1) from) same
   where
-  is_one : (k : ℕ) (t : Tuple) → (k == 1) ≡ true → FitsAt least_offset t → tuple_kind t ≡ k
-  is_one k (At p r s o) e f = sym (eqb-true k 1 e)
-  is_one k Low e f = absurd f
-  is_one k High e f = absurd f
-  from : (t : Tuple) → FitsAt least_offset t → ((tuple_kind t < 256) × ((tuple_kind t == 1) ≡ true)) × ((tuple_kind t ≡ tuple_kind t) × FitsAt least_offset t)
-  from (At p r s o) f = ((lit< tt, refl), (refl, f))
-  from Low f = absurd f
-  from High f = absurd f
-  same : (t : Tuple) → FitsAt least_offset t → (tuple_kind t ∷ []) ++ at_bytes t ≡ tuple_bytes t
-  same (At p r s o) f = refl
-  same Low f = absurd f
-  same High f = absurd f
+    is_one : (k : ℕ) (t : Tuple) → (k == 1) ≡ true → FitsAt least_offset t → tuple_kind t ≡ k
+    is_one k (At p r s o) e f = sym (eqb-true k 1 e)
+    is_one k Low e f = absurd f
+    is_one k High e f = absurd f
+
+    from : (t : Tuple) → FitsAt least_offset t → ((tuple_kind t < 256) × ((tuple_kind t == 1) ≡ true)) × ((tuple_kind t ≡ tuple_kind t) × FitsAt least_offset t)
+    from (At p r s o) f = ((lit< tt, refl), (refl, f))
+    from Low f = absurd f
+    from High f = absurd f
+
+    same : (t : Tuple) → FitsAt least_offset t → (tuple_kind t ∷ []) ++ at_bytes t ≡ tuple_bytes t
+    same (At p r s o) f = refl
+    same Low f = absurd f
+    same High f = absurd f
 
 -- ---- identifiers
 
@@ -197,20 +205,22 @@ pub ident : Spells ident_at ident_bytes FitsIdent
 unfolding ident_at
 ident = spelling ident_bytes
     (fitting FitsIdent
-      (field length (ruled (nat_lt 0) small) (λ n hn. field front_of (chain (λ before. inner_at) tuple_bytes (λ before. FitsInner) (λ before. inner) None (n - 1)) (λ front hf. field last_of last (λ l hl. done (front ++ l ∷ []))
-        (λ l x h f. ap last_of f ∙ last_of_pushed front l)) (λ front x h f. ap front_of f.1 ∙ front_of_pushed front (last_of x))) (λ n x h f. count n x h f))
-      to from)
+    (field length (ruled (nat_lt 0) small) (λ n hn. field front_of (chain (λ before. inner_at) tuple_bytes (λ before. FitsInner) (λ before. inner) None (n - 1)) (λ front hf. field last_of last (λ l hl. done (front ++ l ∷ []))
+    (λ l x h f. ap last_of f ∙ last_of_pushed front l)) (λ front x h f. ap front_of f.1 ∙ front_of_pushed front (last_of x))) (λ n x h f. count n x h f))
+    to from)
     (λ x f. ap (λ w. four_bytes (length x) ++ w) (front_bytes x f.1))
   where
-  count : (n : ℕ) (x : List Tuple) → IsSmall n × (nat_lt 0 n ≡ true) → ((length (front_of x) ≡ n - 1) × Chained (λ b. FitsInner) None (front_of x)) × (FitsAt least_offset (last_of x) × (x ≡ front_of x ++ last_of x ∷ [])) → length x ≡ n
-  count n x h f = omega (arith, ltb-true 0 n h.1, f.0.0, ap length f.1.1, length-append (front_of x) (last_of x ∷ []))
-  to : (x : List Tuple) → (IsSmall (length x) × (nat_lt 0 (length x) ≡ true)) × (((length (front_of x) ≡ length x - 1) × Chained (λ b. FitsInner) None (front_of x)) × (FitsAt least_offset (last_of x) × (x ≡ front_of x ++ last_of x ∷ []))) → FitsIdent x
-  to x f = (f.0.0, subst FitTuples (sym f.1.1.1) (pushed_fit None (front_of x) (last_of x) f.1.0.1 f.1.1.0))
-  from : (x : List Tuple) → FitsIdent x → (IsSmall (length x) × (nat_lt 0 (length x) ≡ true)) × (((length (front_of x) ≡ length x - 1) × Chained (λ b. FitsInner) None (front_of x)) × (FitsAt least_offset (last_of x) × (x ≡ front_of x ++ last_of x ∷ [])))
-  from x f =
-      let q = parts_fit None x f.1 in
-      let n = length_of_front x f.1 in
-      ((f.0, lt-ltb 0 (length x) (omega (arith, n))), ((omega (arith, n), q.0), (q.1, is_pushed x f.1)))
+    count : (n : ℕ) (x : List Tuple) → IsSmall n × (nat_lt 0 n ≡ true) → ((length (front_of x) ≡ n - 1) × Chained (λ b. FitsInner) None (front_of x)) × (FitsAt least_offset (last_of x) × (x ≡ front_of x ++ last_of x ∷ [])) → length x ≡ n
+    count n x h f = omega (arith, ltb-true 0 n h.1, f.0.0, ap length f.1.1, length-append (front_of x) (last_of x ∷ []))
+
+    to : (x : List Tuple) → (IsSmall (length x) × (nat_lt 0 (length x) ≡ true)) × (((length (front_of x) ≡ length x - 1) × Chained (λ b. FitsInner) None (front_of x)) × (FitsAt least_offset (last_of x) × (x ≡ front_of x ++ last_of x ∷ []))) → FitsIdent x
+    to x f = (f.0.0, subst FitTuples (sym f.1.1.1) (pushed_fit None (front_of x) (last_of x) f.1.0.1 f.1.1.0))
+
+    from : (x : List Tuple) → FitsIdent x → (IsSmall (length x) × (nat_lt 0 (length x) ≡ true)) × (((length (front_of x) ≡ length x - 1) × Chained (λ b. FitsInner) None (front_of x)) × (FitsAt least_offset (last_of x) × (x ≡ front_of x ++ last_of x ∷ [])))
+    from x f =
+        let q = parts_fit None x f.1 in
+        let n = length_of_front x f.1 in
+        ((f.0, lt-ltb 0 (length x) (omega (arith, n))), ((omega (arith, n), q.0), (q.1, is_pushed x f.1)))
 
 -- ---- runs
 
@@ -248,35 +258,39 @@ behind_name_kind (Of r s) = concat (four_bytes r ∷ four_bytes s ∷ [])
 name_kinds : (k : ℕ) → nat_le k 1 ≡ true → Spells (name_of_kind k) behind_name_kind (λ e. (name_kind e ≡ k) × FitsName e)
 name_kinds zero h = spelling behind_name_kind (fitting (λ e. (name_kind e ≡ 0) × FitsName e) (done Origin) (λ e q. rw q (refl, tt)) is_origin) same
   where
-  is_origin : (e : EpochName) → (name_kind e ≡ 0) × FitsName e → e ≡ Origin
-  is_origin Origin f = refl
-  is_origin (Of r s) f = absurd (omega (arith, f.0))
-  same : (e : EpochName) → (name_kind e ≡ 0) × FitsName e → [] ≡ behind_name_kind e
-  same Origin f = refl
-  same (Of r s) f = absurd (omega (arith, f.0))
+    is_origin : (e : EpochName) → (name_kind e ≡ 0) × FitsName e → e ≡ Origin
+    is_origin Origin f = refl
+    is_origin (Of r s) f = absurd (omega (arith, f.0))
+
+    same : (e : EpochName) → (name_kind e ≡ 0) × FitsName e → [] ≡ behind_name_kind e
+    same Origin f = refl
+    same (Of r s) f = absurd (omega (arith, f.0))
 name_kinds (suc zero) h = spelling behind_name_kind (fitting (λ e. (name_kind e ≡ 1) × FitsName e) (field name_replica small (λ r hr. field name_seq small (λ s hs. done (Of r s)) (λ s e h f. ap name_seq f)) (λ r e h f. ap name_replica f.1)) to from) same
   where
-  to : (e : EpochName) → IsSmall (name_replica e) × (IsSmall (name_seq e) × (e ≡ Of (name_replica e) (name_seq e))) → (name_kind e ≡ 1) × FitsName e
-  to Origin f = absurd cc
-  to (Of r s) f = (refl, (f.0, f.1.0))
-  from : (e : EpochName) → (name_kind e ≡ 1) × FitsName e → IsSmall (name_replica e) × (IsSmall (name_seq e) × (e ≡ Of (name_replica e) (name_seq e)))
-  from Origin f = absurd (omega (arith, f.0))
-  from (Of r s) f = (f.1.0, (f.1.1, refl))
-  same : (e : EpochName) → (name_kind e ≡ 1) × FitsName e → four_bytes (name_replica e) ++ (four_bytes (name_seq e) ++ []) ≡ behind_name_kind e
-  same Origin f = absurd (omega (arith, f.0))
-  same (Of r s) f = refl
+    to : (e : EpochName) → IsSmall (name_replica e) × (IsSmall (name_seq e) × (e ≡ Of (name_replica e) (name_seq e))) → (name_kind e ≡ 1) × FitsName e
+    to Origin f = absurd cc
+    to (Of r s) f = (refl, (f.0, f.1.0))
+
+    from : (e : EpochName) → (name_kind e ≡ 1) × FitsName e → IsSmall (name_replica e) × (IsSmall (name_seq e) × (e ≡ Of (name_replica e) (name_seq e)))
+    from Origin f = absurd (omega (arith, f.0))
+    from (Of r s) f = (f.1.0, (f.1.1, refl))
+
+    same : (e : EpochName) → (name_kind e ≡ 1) × FitsName e → four_bytes (name_replica e) ++ (four_bytes (name_seq e) ++ []) ≡ behind_name_kind e
+    same Origin f = absurd (omega (arith, f.0))
+    same (Of r s) f = refl
 name_kinds (suc (suc k)) h = absurd (omega (arith, leb-true (suc (suc k)) 1 h))
 
 pub name : Spells name_at name_bytes FitsName
 unfolding name_at
 name = spelling name_bytes (fitting FitsName (field name_kind (ruled (λ k. nat_le k 1) byte) (λ k h. name_kinds k h.1) (λ k e h f. f.0)) (λ e f. f.1.1) from) same
   where
-  from : (e : EpochName) → FitsName e → ((name_kind e < 256) × (nat_le (name_kind e) 1 ≡ true)) × ((name_kind e ≡ name_kind e) × FitsName e)
-  from Origin f = ((lit< tt, refl), (refl, f))
-  from (Of r s) f = ((lit< tt, refl), (refl, f))
-  same : (e : EpochName) → FitsName e → (name_kind e ∷ []) ++ behind_name_kind e ≡ name_bytes e
-  same Origin f = refl
-  same (Of r s) f = refl
+    from : (e : EpochName) → FitsName e → ((name_kind e < 256) × (nat_le (name_kind e) 1 ≡ true)) × ((name_kind e ≡ name_kind e) × FitsName e)
+    from Origin f = ((lit< tt, refl), (refl, f))
+    from (Of r s) f = ((lit< tt, refl), (refl, f))
+
+    same : (e : EpochName) → FitsName e → (name_kind e ∷ []) ++ behind_name_kind e ≡ name_bytes e
+    same Origin f = refl
+    same (Of r s) f = refl
 
 pub text : Spells text_at text_bytes FitsText
 unfolding text_at
@@ -284,10 +298,11 @@ text = fitting FitsText
     (field (λ cs. length (encode_utf8_all cs)) small (λ n hn. seen (λ cs. (all_scalars cs ≡ true) × (length (encode_utf8_all cs) ≡ n)) chars encode_utf8_all (ruled is_utf8 (raw n)) there back) (λ n cs h f. f.1))
     (λ cs f. (f.1.0, f.0)) (λ cs f. (f.1, (f.0, refl)))
   where
-  there : {n : ℕ} (bs : List ℕ) → (length bs ≡ n) × (is_utf8 bs ≡ true) → (encode_utf8_all (chars bs) ≡ bs) × ((all_scalars (chars bs) ≡ true) × (length (encode_utf8_all (chars bs)) ≡ n))
-  there bs f =
-      let u = IsUtf8-from_is_utf8 bs f.1 in
-      let e = encodes-chars bs u in
-      (e, (scalars-chars bs u, ap length e ∙ f.0))
-  back : {n : ℕ} (cs : List ℕ) → (all_scalars cs ≡ true) × (length (encode_utf8_all cs) ≡ n) → (chars (encode_utf8_all cs) ≡ cs) × ((length (encode_utf8_all cs) ≡ n) × (is_utf8 (encode_utf8_all cs) ≡ true))
-  back cs f = (chars-encodes cs f.0, (f.1, is_utf8-from_IsUtf8 (encode_utf8_all cs) (cs, (f.0, refl))))
+    there : {n : ℕ} (bs : List ℕ) → (length bs ≡ n) × (is_utf8 bs ≡ true) → (encode_utf8_all (chars bs) ≡ bs) × ((all_scalars (chars bs) ≡ true) × (length (encode_utf8_all (chars bs)) ≡ n))
+    there bs f =
+        let u = IsUtf8-from_is_utf8 bs f.1 in
+        let e = encodes-chars bs u in
+        (e, (scalars-chars bs u, ap length e ∙ f.0))
+
+    back : {n : ℕ} (cs : List ℕ) → (all_scalars cs ≡ true) × (length (encode_utf8_all cs) ≡ n) → (chars (encode_utf8_all cs) ≡ cs) × ((length (encode_utf8_all cs) ≡ n) × (is_utf8 (encode_utf8_all cs) ≡ true))
+    back cs f = (chars-encodes cs f.0, (f.1, is_utf8-from_IsUtf8 (encode_utf8_all cs) (cs, (f.0, refl))))

@@ -1,18 +1,14 @@
 -- Worked examples of operations and messages as bytes, by computation.
-use Rattle.std.specs.Prelude.{◌≡◌, ℕ, ◌+◌, pos, List, [], ◌∷◌, ◌++◌, take, drop, length, refl, Option, Some, None, Result, Ok, Err, codes, map, zero, suc}
-use Rattle.std.specs.Str.{is_utf8, chars}
-use Rattle.std.specs.List.{list_all}
-use lib.Utf8.{encode}
-use Rattle.rls_ident.specs.declared.tuple.Tuple.{Tuple}
-use Rattle.rls_ident.specs.declared.tuple.Tuple.TheVariants.{Low, At, High}
-use Rattle.rls_ident.specs.declared.epoch_name.EpochName.TheVariants.{Origin, Of}
-use Rattle.rls_ident.specs.Tuples.{spot_cmp, tuple_cmp}
+use Rattle.std.specs.Prelude.{◌≡◌, ℕ, ◌+◌, pos, List, [], ◌∷◌, ◌++◌, take, drop, length, refl, Result, Ok, Err, codes, map, zero, suc}
+use Rattle.rls_ident.specs.declared.tuple.Tuple.TheVariants.{At}
+use Rattle.rls_ident.specs.declared.epoch_name.EpochName.TheVariants.{Origin}
 use Rattle.rls_ops.specs.declared.op.Op.{Op}
 use Rattle.rls_ops.specs.declared.op.Body.{Body}
-use Rattle.rls_ops.specs.declared.op.Body.TheVariants.{Insert, Delete, Rename, Leave}
+use Rattle.rls_ops.specs.declared.op.Body.TheVariants.{Insert, Delete}
 use Rattle.rls_ops.specs.declared.message.Message.{Message}
-use Rattle.rls_ops.specs.Spelling.{op_bytes, message_in_form, message_bytes}
-use Rattle.rls_codec.specs.Reading.{chain_at, spot_at, inner_at, last_at, ident_at, run_at, runs_at, name_at, text_at, body_at, op_fields_at, op_at, op_from, message_at, message_and_form_at, message_of}
+use Rattle.rls_ops.specs.Spelling.{op_bytes, message_bytes}
+use Rattle.rls_codec.specs.Reading.{op_from, message_of}
+use Rattle.rls_codec.specs.Computing.{computing}
 use Rattle.rls_codec.proofs.Hex.{hex}
 
 abbrev op_of : Body → Op
@@ -37,19 +33,19 @@ has_81_bytes : length hello_message ≡ 81
 has_81_bytes = refl
 
 writes_33 : message_bytes (message 0 []) ≡ empty_message
-unfolding message_in_form op_bytes
+unfolding computing
 writes_33 = refl
 
 writes_81 : message_bytes (message 1 (hello ∷ [])) ≡ hello_message
-unfolding message_in_form op_bytes encode
+unfolding computing
 writes_81 = refl
 
 reads_33 : message_of empty_message ≡ Ok (message 0 [])
-unfolding message_of message_at message_and_form_at chain_at
+unfolding computing
 reads_33 = refl
 
 reads_81 : message_of hello_message ≡ Ok (message 1 (hello ∷ []))
-unfolding message_of message_at message_and_form_at op_at op_fields_at body_at text_at name_at ident_at last_at inner_at spot_at run_at runs_at chain_at is_utf8 chars encode spot_cmp tuple_cmp
+unfolding computing
 reads_81 = refl
 
 -- the place of a fault, or 1000
@@ -63,11 +59,11 @@ counts_from i (suc n) = i ∷ counts_from (suc i) n
 
 -- the message cut at each length from 0 on
 cuts_of_81 : map (λ n. place_of (message_of (take n hello_message))) (counts_from 0 82) ≡ 0 ∷ 0 ∷ 0 ∷ 0 ∷ 4 ∷ 5 ∷ 5 ∷ 5 ∷ 5 ∷ 5 ∷ 5 ∷ 5 ∷ 5 ∷ 13 ∷ 13 ∷ 13 ∷ 13 ∷ 17 ∷ 17 ∷ 17 ∷ 17 ∷ 21 ∷ 21 ∷ 21 ∷ 21 ∷ 25 ∷ 25 ∷ 25 ∷ 25 ∷ 29 ∷ 29 ∷ 29 ∷ 29 ∷ 33 ∷ 33 ∷ 33 ∷ 33 ∷ 37 ∷ 37 ∷ 37 ∷ 37 ∷ 41 ∷ 41 ∷ 41 ∷ 41 ∷ 45 ∷ 45 ∷ 45 ∷ 45 ∷ 49 ∷ 50 ∷ 51 ∷ 51 ∷ 51 ∷ 51 ∷ 55 ∷ 56 ∷ 56 ∷ 56 ∷ 56 ∷ 60 ∷ 60 ∷ 60 ∷ 60 ∷ 64 ∷ 64 ∷ 64 ∷ 64 ∷ 68 ∷ 68 ∷ 68 ∷ 68 ∷ 72 ∷ 72 ∷ 72 ∷ 72 ∷ 76 ∷ 76 ∷ 76 ∷ 76 ∷ 76 ∷ 1000 ∷ []
-unfolding message_of message_at message_and_form_at op_at op_fields_at body_at text_at name_at ident_at last_at inner_at spot_at run_at runs_at chain_at is_utf8 chars encode spot_cmp tuple_cmp
+unfolding computing
 cuts_of_81 = refl
 
 one_byte_more : message_of (hello_message ++ 0 ∷ []) ≡ Err 81
-unfolding message_of message_at message_and_form_at op_at op_fields_at body_at text_at name_at ident_at last_at inner_at spot_at run_at runs_at chain_at is_utf8 chars encode spot_cmp tuple_cmp
+unfolding computing
 one_byte_more = refl
 
 -- the 81 bytes with another byte at this place
@@ -76,16 +72,16 @@ with_byte i b = take i hello_message ++ b ∷ drop (i + 1) hello_message
 
 -- a fifth kind of operation
 kind_4 : message_of (with_byte 50 4) ≡ Err 50
-unfolding message_of message_at message_and_form_at op_at op_fields_at body_at text_at name_at ident_at last_at inner_at spot_at run_at runs_at chain_at is_utf8 chars encode spot_cmp tuple_cmp
+unfolding computing
 kind_4 = refl
 
 forms : map (λ form. place_of (message_of (with_byte 4 form))) (counts_from 0 5) ≡ 4 ∷ 1000 ∷ 1000 ∷ 1000 ∷ 4 ∷ []
-unfolding message_of message_at message_and_form_at op_at op_fields_at body_at text_at name_at ident_at last_at inner_at spot_at run_at runs_at chain_at is_utf8 chars encode spot_cmp tuple_cmp
+unfolding computing
 forms = refl
 
 -- the magic text, no members, 65 members, a sender that is no member, the kind of an epoch, of a tuple at the end, an offset that is too great, a byte that is no UTF-8
 other_faults : map (λ (p : ℕ × ℕ). place_of (message_of (with_byte p.0 p.1))) ((3, 0) ∷ (16, 0) ∷ (16, 65) ∷ (20, 2) ∷ (49, 2) ∷ (55, 0) ∷ (55, 2) ∷ (68, 64) ∷ (68, 192) ∷ (68, 191) ∷ (78, 255) ∷ []) ≡ 0 ∷ 13 ∷ 13 ∷ 17 ∷ 49 ∷ 55 ∷ 55 ∷ 68 ∷ 1000 ∷ 68 ∷ 76 ∷ []
-unfolding message_of message_at message_and_form_at op_at op_fields_at body_at text_at name_at ident_at last_at inner_at spot_at run_at runs_at chain_at is_utf8 chars encode spot_cmp tuple_cmp
+unfolding computing
 other_faults = refl
 
 -- a deletion by member 1 with these bytes of its runs
@@ -97,31 +93,31 @@ fault_of_runs runs = place_of (op_from 2 (deletion runs) 0)
 
 two_runs : op_from 2 (deletion (hex "00000002 00000001 01 00000005 00000001 00000001 00000000 00000001 00000001 01 00000005 00000001 00000001 00000002 00000002")) 0
     ≡ Ok (record { author = 1; seq = 1; context = 0 ∷ 0 ∷ []; epoch = Origin; body = Delete ((At 5 1 1 (pos 0) ∷ []) ∷ (At 5 1 1 (pos 2) ∷ []) ∷ (At 5 1 1 (pos 3) ∷ []) ∷ []) }, 72)
-unfolding message_of message_at message_and_form_at op_at op_fields_at body_at text_at name_at ident_at last_at inner_at spot_at run_at runs_at chain_at is_utf8 chars encode spot_cmp tuple_cmp op_from
+unfolding computing
 two_runs = refl
 
 -- 14 + 4 for each member + 25 for each run
 deletion_bytes : length (op_bytes (record { author = 1; seq = 1; context = 0 ∷ 0 ∷ []; epoch = Origin; body = Delete ((At 5 1 1 (pos 0) ∷ []) ∷ (At 5 1 1 (pos 2) ∷ []) ∷ []) })) ≡ 22 + 25 + 25
-unfolding op_bytes spot_cmp tuple_cmp
+unfolding computing
 deletion_bytes = refl
 
 -- two runs that touch, that fall, that overlap; a run of none; a run past the greatest offset
 touching : fault_of_runs (hex "00000002 00000001 01 00000005 00000001 00000001 00000000 00000001 00000001 01 00000005 00000001 00000001 00000001 00000001") ≡ 47
-unfolding message_of message_at message_and_form_at op_at op_fields_at body_at text_at name_at ident_at last_at inner_at spot_at run_at runs_at chain_at is_utf8 chars encode spot_cmp tuple_cmp op_from
+unfolding computing
 touching = refl
 
 falling : fault_of_runs (hex "00000002 00000001 01 00000005 00000001 00000001 00000000 00000001 00000001 01 00000004 00000001 00000001 00000001 00000001") ≡ 47
-unfolding message_of message_at message_and_form_at op_at op_fields_at body_at text_at name_at ident_at last_at inner_at spot_at run_at runs_at chain_at is_utf8 chars encode spot_cmp tuple_cmp op_from
+unfolding computing
 falling = refl
 
 no_length : fault_of_runs (hex "00000001 00000001 01 00000005 00000001 00000001 00000000 00000000") ≡ 43
-unfolding message_of message_at message_and_form_at op_at op_fields_at body_at text_at name_at ident_at last_at inner_at spot_at run_at runs_at chain_at is_utf8 chars encode spot_cmp tuple_cmp op_from
+unfolding computing
 no_length = refl
 
 too_long : fault_of_runs (hex "00000001 00000001 01 00000005 00000001 00000001 3fffffff 00000002") ≡ 43
-unfolding message_of message_at message_and_form_at op_at op_fields_at body_at text_at name_at ident_at last_at inner_at spot_at run_at runs_at chain_at is_utf8 chars encode spot_cmp tuple_cmp op_from
+unfolding computing
 too_long = refl
 
 leave : op_from 2 (7 ∷ deletion []) 1 ≡ Err 19
-unfolding message_of message_at message_and_form_at op_at op_fields_at body_at text_at name_at ident_at last_at inner_at spot_at run_at runs_at chain_at is_utf8 chars encode spot_cmp tuple_cmp op_from
+unfolding computing
 leave = refl

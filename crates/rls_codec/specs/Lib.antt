@@ -1,3 +1,4 @@
 pub mod Reading
 pub mod Spelled
 pub mod Gives
+pub mod Computing

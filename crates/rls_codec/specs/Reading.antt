@@ -1,6 +1,6 @@
 -- Reading bytes from left to right. A fault is the number of bytes that are left at the first byte of the first field
 -- that is cut off or breaks its rule. A rule on a run or an operation as a whole has its first byte.
-use Rattle.std.specs.Prelude.{◌≡◌, ℕ, ℤ, pos, negsuc, zero, suc, Bool, true, false, not, ◌&&◌, List, [], ◌∷◌, ◌++◌, ◌+◌, ◌-◌, ◌+ℤ◌, length, take, drop, chars, codes, Option, Some, None, Result, Ok, Err, nat_lt, nat_le, ◌==◌, bytes_eq, if◌then◌else◌}
+use Rattle.std.specs.Prelude.{ℕ, ℤ, pos, negsuc, zero, suc, Bool, ◌&&◌, List, [], ◌∷◌, ◌++◌, ◌+◌, ◌-◌, ◌+ℤ◌, length, take, drop, chars, codes, Option, Some, None, Result, Ok, Err, nat_lt, nat_le, ◌==◌, bytes_eq, if◌then◌else◌}
 use Rattle.std.specs.Int.{Width, w32, w64, byte_len, from_be_bytes, cast_signed}
 use Rattle.std.specs.Int.RustNames.{int_le}
 use Rattle.std.specs.Str.{is_utf8}
@@ -9,7 +9,7 @@ use Rattle.rls_ident.specs.declared.tuple.Tuple.TheVariants.{Low, At, High}
 use Rattle.rls_ident.specs.declared.epoch_name.EpochName.{EpochName}
 use Rattle.rls_ident.specs.declared.epoch_name.EpochName.TheVariants.{Origin, Of}
 use Rattle.rls_ident.specs.Tuples.{offset_of}
-use Rattle.rls_ident.specs.Identifiers.{last_of, shifted, ident_lt, follows, least_offset, greatest_offset}
+use Rattle.rls_ident.specs.Identifiers.{last_of, least_offset, greatest_offset}
 use Rattle.rls_runs.specs.Runs.{is_apart, idents_of}
 use Rattle.rls_ops.specs.declared.op.Op.{Op}
 use Rattle.rls_ops.specs.declared.op.Body.{Body}

@@ -1,5 +1,5 @@
 -- Which values have a spelling: those that keep the rules of the format.
-use Rattle.std.specs.Prelude.{◌≡◌, ℕ, ◌^◌, ◌<◌, ◌≤◌, true, ℤ, negsuc, List, [], ◌∷◌, length, encode_utf8_all, All, Option, Some, None, codes, IsTrue, nat_lt}
+use Rattle.std.specs.Prelude.{◌≡◌, ℕ, ◌^◌, ◌<◌, ◌≤◌, ℤ, negsuc, List, [], ◌∷◌, length, encode_utf8_all, Option, Some, None, IsTrue}
 use Rattle.std.specs.Str.{all_scalars}
 use Rattle.rls_ident.specs.declared.tuple.Tuple.{Tuple}
 use Rattle.rls_ident.specs.declared.tuple.Tuple.TheVariants.{Low, At, High}

@@ -1,7 +1,10 @@
 //! Single fields, and parts made of them.
+//!
+//! A reader takes its part from the front of the bytes, and answers it with the bytes behind it. Where a field is cut
+//! off or breaks its rule, the fault tells how many bytes were left at that field's first byte.
 
 ghost use Rattle.std.specs.Prelude.{◌≡◌, List, IfOk};
-ghost use Rattle.std.specs.Int.{w32};
+ghost use Rattle.std.specs.Int.{w32, w64};
 ghost use Rattle.std.specs.Str.{chars};
 ghost use Rattle.rls_codec.specs.Reading.{byte_at, number_at, signed_at, name_at, many_at, vector_at, text_at};
 ghost use Rattle.rls_codec.specs.Gives.{Gives};
@@ -11,8 +14,9 @@ use rls_ident::{EpochName, Vector};
 use rls_runs::Text;
 use std::alloc::{AllocError, Global};
 
+/// One byte.
 pub fn byte(bytes: &[u8]) -> Result<(u8, &[u8]), ReadError>
-    ensures { Gives (λ x. (x.0, x.1.now)) result (byte_at bytes.now) }
+    ensures read { Gives (λ x. (x.0, x.1.now)) result (byte_at bytes.now) }
 {
     match bytes {
         [byte, rest @ ..] => Ok((*byte, rest)),
@@ -20,8 +24,9 @@ pub fn byte(bytes: &[u8]) -> Result<(u8, &[u8]), ReadError>
     }
 }
 
+/// A number of four bytes, the highest first.
 pub fn u32_at(bytes: &[u8]) -> Result<(u32, &[u8]), ReadError>
-    ensures { Gives (λ x. (x.0, x.1.now)) result (number_at w32 bytes.now) }
+    ensures read { Gives (λ x. (x.0, x.1.now)) result (number_at w32 bytes.now) }
 {
     if bytes.len() < 4 {
         return Err(ReadError::Fault { left: bytes.len() });
@@ -31,8 +36,23 @@ pub fn u32_at(bytes: &[u8]) -> Result<(u32, &[u8]), ReadError>
     Ok((number, rest))
 }
 
+/// A number of eight bytes, the highest first.
+pub fn u64_at(bytes: &[u8]) -> Result<(u64, &[u8]), ReadError>
+    ensures read { Gives (λ x. (x.0, x.1.now)) result (number_at w64 bytes.now) }
+{
+    if bytes.len() < 8 {
+        return Err(ReadError::Fault { left: bytes.len() });
+    }
+    let (front, rest) = bytes.split_at(8);
+    let number = u64::from_be_bytes([
+        front[0], front[1], front[2], front[3], front[4], front[5], front[6], front[7],
+    ]);
+    Ok((number, rest))
+}
+
+/// A signed number of four bytes in two's complement, the highest first.
 pub fn i32_at(bytes: &[u8]) -> Result<(i32, &[u8]), ReadError>
-    ensures { Gives (λ x. (x.0, x.1.now)) result (signed_at bytes.now) }
+    ensures read { Gives (λ x. (x.0, x.1.now)) result (signed_at bytes.now) }
 {
     if bytes.len() < 4 {
         return Err(ReadError::Fault { left: bytes.len() });
@@ -42,10 +62,10 @@ pub fn i32_at(bytes: &[u8]) -> Result<(i32, &[u8]), ReadError>
     Ok((number, rest))
 }
 
-/// The name of an epoch.
+/// The name of an epoch: a kind, 0 for the origin, or 1 and then two numbers.
 #[tactic(auto, unfolding(crate::specs::Reading::name_at))]
 pub fn epoch_name(bytes: &[u8]) -> Result<(EpochName, &[u8]), ReadError>
-    ensures { Gives (λ x. (x.0, x.1.now)) result (name_at bytes.now) }
+    ensures read { Gives (λ x. (x.0, x.1.now)) result (name_at bytes.now) }
 {
     let (kind, rest) = byte(bytes)?;
     match kind {
@@ -59,9 +79,9 @@ pub fn epoch_name(bytes: &[u8]) -> Result<(EpochName, &[u8]), ReadError>
     }
 }
 
-/// A number for each member.
+/// A number for each of so many members.
 pub fn vector(alloc: Global, members: u32, bytes: &[u8]) -> Result<(Vector, &[u8]), ReadError>
-    ensures { Gives (λ x. (x.0, x.1.now)) result (vector_at members bytes.now) }
+    ensures read { Gives (λ x. (x.0, x.1.now)) result (vector_at members bytes.now) }
 {
     let mut counts = Vec::new(alloc);
     let mut rest = bytes;
@@ -74,16 +94,16 @@ pub fn vector(alloc: Global, members: u32, bytes: &[u8]) -> Result<(Vector, &[u8
 }
 
 fn chars_of(alloc: Global, text: &str) -> Result<Vec<char>, AllocError>
-    ensures { IfOk result (λ v. v.items ≡ chars text.now) }
+    ensures chars { IfOk result (λ v. v.items ≡ chars text.now) }
 {
     let found: Vec<char> = text.chars().collect(alloc)?;
     Ok(found)
 }
 
-/// A text behind its number of bytes.
+/// A text in UTF-8 behind its number of bytes. Bytes that aren't UTF-8 are a fault of the bytes, not of their number.
 #[tactic(auto, using(crate::proofs::Utf8::utf8_from_text, crate::proofs::Utf8::no_utf8), unfolding(crate::specs::Reading::text_at))]
 pub fn text(alloc: Global, bytes: &[u8]) -> Result<(Text, &[u8]), ReadError>
-    ensures { Gives (λ x. (x.0, x.1.now)) result (text_at bytes.now) }
+    ensures read { Gives (λ x. (x.0, x.1.now)) result (text_at bytes.now) }
 {
     let (len, rest) = u32_at(bytes)?;
     let len = len as usize;

@@ -16,7 +16,7 @@ use std::alloc::Global;
 const GREATEST: i32 = 1_073_741_823;
 
 fn is_offset(least: i32, offset: i32) -> bool
-    ensures { result ≡ is_offset least offset }
+    ensures offset { result ≡ is_offset least offset }
 {
     least <= offset && offset <= GREATEST
 }
@@ -86,10 +86,10 @@ fn inners(alloc: Global, count: u32, bytes: &[u8]) -> Result<(Vec<Tuple>, &[u8])
     Ok((tuples, rest))
 }
 
-/// An identifier.
+/// An identifier: a number of tuples from 1 on, and the tuples, of which the last is an `At`.
 #[tactic(auto, unfolding(crate::specs::Reading::ident_at))]
 pub fn ident(alloc: Global, bytes: &[u8]) -> Result<(Ident, &[u8]), ReadError>
-    ensures { Gives (λ x. (x.0, x.1.now)) result (ident_at bytes.now) }
+    ensures read { Gives (λ x. (x.0, x.1.now)) result (ident_at bytes.now) }
 {
     let (count, rest) = u32_at(bytes)?;
     if count == 0 {

@@ -4,7 +4,14 @@
 mod fault;
 mod fields;
 mod idents;
+mod puts;
+mod writing;
 
 pub use fault::{DecodeError, ReadError};
-pub use fields::{byte, epoch_name, i32_at, text, u32_at, vector};
+pub use fields::{byte, epoch_name, i32_at, text, u32_at, u64_at, vector};
 pub use idents::ident;
+pub use puts::{
+    put_byte, put_i32, put_ident, put_name, put_run, put_runs, put_text, put_u32, put_u64,
+    put_vector,
+};
+pub use writing::encode_op;

@@ -1,30 +1,17 @@
 -- Worked examples of files, by computation.
-use Rattle.std.specs.Prelude.{◌≡◌, ℕ, zero, suc, ◌+◌, pos, Bool, true, false, List, [], ◌∷◌, ◌++◌, take, drop, length, refl, Option, Some, None, Result, Ok, Err, codes, map, ◌==◌, not}
-use Rattle.std.specs.Str.{is_utf8, chars}
-use Rattle.std.specs.Ordering.{int_eq}
-use lib.Utf8.{encode}
-use Rattle.rls_ident.specs.declared.tuple.Tuple.{Tuple}
-use Rattle.rls_ident.specs.declared.tuple.Tuple.TheVariants.{Low, At, High}
-use Rattle.rls_ident.specs.declared.epoch_name.EpochName.TheVariants.{Origin, Of}
-use Rattle.rls_ident.specs.Tuples.{spot_cmp, tuple_cmp, offset_of}
-use Rattle.rls_ident.specs.Identifiers.{last_of}
+use Rattle.std.specs.Prelude.{◌≡◌, ℕ, zero, suc, pos, List, [], ◌∷◌, ◌++◌, take, length, refl, Option, Some, None, Result, Ok, Err, codes, map}
+use Rattle.rls_ident.specs.declared.tuple.Tuple.TheVariants.{At}
+use Rattle.rls_ident.specs.declared.epoch_name.EpochName.TheVariants.{Origin}
 use Rattle.rls_ops.specs.declared.op.Op.{Op}
 use Rattle.rls_ops.specs.declared.op.Body.{Body}
-use Rattle.rls_ops.specs.declared.op.Body.TheVariants.{Insert, Delete, Rename, Leave}
-use Rattle.rls_ops.specs.Spelling.{op_bytes}
-use Rattle.rls_codec.specs.Reading.{chain_at, spot_at, inner_at, last_at, ident_at, run_at, runs_at, name_at, text_at, body_at, op_fields_at, op_at}
+use Rattle.rls_ops.specs.declared.op.Body.TheVariants.{Insert}
+use Rattle.rls_file.specs.Computing.{computing}
 use Rattle.rls_model.specs.declared.parts.Parts.{Parts}
-use Rattle.rls_file.specs.Files.{Entry, Accepted, Acknowledged, journal_bytes, snapshot_bytes, file_bytes, Broken, place_of_broken}
-use Rattle.rls_file.specs.ReadingFiles.{Judge, Content, Journal, Snapshot, stem_at, stems_at, epoch_at, text_run_at, snapshot_at, entry_at, steps_at, journal_at, file_at, file_of}
+use Rattle.rls_model.specs.History.{Accepted, History, Fresh, Then}
+use Rattle.rls_model.specs.Receiving.{State}
+use Rattle.rls_file.specs.Files.{journal_bytes, snapshot_bytes, file_bytes, Content, Journal, Snapshot, Broken}
+use Rattle.rls_file.specs.ReadingFiles.{file_of}
 use Rattle.rls_file.proofs.Hex.{hex}
-
--- a judge that refuses an insertion whose last offset is 4
-abbrev refuses_4 : Body → Bool
-refuses_4 (Insert first text) = not (int_eq (offset_of (last_of first)) (pos 4))
-refuses_4 _ = true
-
-abbrev judge : Judge
-judge = record { applies = λ before o. refuses_4 o.body; counts = λ before a v. true; waits = λ before w o. true }
 
 abbrev never : Parts → Option Broken
 never p = None
@@ -44,30 +31,52 @@ journal_115 offset = hex "524c5346 01 0000000000000007 00000001 00000000 0000000
 lengths : (length journal_74 ∷ length (journal_115 5) ∷ []) ≡ 74 ∷ 115 ∷ []
 lengths = refl
 
-writes_74 : journal_bytes 7 1 0 (Accepted (hello (0 ∷ [])) ∷ []) [] ≡ journal_74
-unfolding journal_bytes op_bytes encode
+abbrev history_74 : History
+history_74 = Then (Fresh 7 0 1) (Accepted (hello (0 ∷ [])))
+
+abbrev history_115 : History
+history_115 = Then history_74 (Accepted (op_of 2 (1 ∷ []) (Insert (At 2147483647 0 1 (pos 5) ∷ []) (codes "!"))))
+
+-- nothing waits behind this history
+abbrev journal : History → State
+journal H = record { history = H; waiting = [] }
+
+writes_74 : journal_bytes (journal history_74) ≡ journal_74
+unfolding computing
 writes_74 = refl
 
-reads_74 : file_of judge never journal_74 ≡ Ok (Journal 7 1 0 (Accepted (hello (0 ∷ [])) ∷ []) [])
-unfolding file_of place_of_broken op_bytes file_at snapshot_at journal_at entry_at steps_at stem_at stems_at epoch_at text_run_at op_at op_fields_at body_at text_at name_at ident_at last_at inner_at spot_at run_at runs_at chain_at is_utf8 chars encode spot_cmp tuple_cmp
+reads_74 : file_of never journal_74 ≡ Ok (Journal (journal history_74))
+unfolding computing
 reads_74 = refl
 
-reads_115 : file_of judge never (journal_115 5) ≡ Ok (Journal 7 1 0 (Accepted (hello (0 ∷ [])) ∷ Accepted (op_of 2 (1 ∷ []) (Insert (At 2147483647 0 1 (pos 5) ∷ []) (codes "!"))) ∷ []) [])
-unfolding file_of place_of_broken op_bytes file_at snapshot_at journal_at entry_at steps_at stem_at stems_at epoch_at text_run_at op_at op_fields_at body_at text_at name_at ident_at last_at inner_at spot_at run_at runs_at chain_at is_utf8 chars encode spot_cmp tuple_cmp
+reads_115 : file_of never (journal_115 5) ≡ Ok (Journal (journal history_115))
+unfolding computing
 reads_115 = refl
 
-broken_event : file_of judge never (journal_115 4) ≡ Err 71
-unfolding file_of place_of_broken op_bytes file_at snapshot_at journal_at entry_at steps_at stem_at stems_at epoch_at text_run_at op_at op_fields_at body_at text_at name_at ident_at last_at inner_at spot_at run_at runs_at chain_at is_utf8 chars encode spot_cmp tuple_cmp
+writes_115 : journal_bytes (journal history_115) ≡ journal_115 5
+unfolding computing
+writes_115 = refl
+
+broken_event : file_of never (journal_115 4) ≡ Err 71
+unfolding computing
 broken_event = refl
 
 -- ---- snapshots
 
 abbrev parts : ℕ → Parts
 parts low = record {
-    group = 7; members = 2; me = 0; vector = 1 ∷ 0 ∷ []; rows = (0 ∷ 0 ∷ []) ∷ []; stems = record { author = 0; s0 = 1; low = pos low; next = 5 } ∷ [];
-    epochs = record { name = Origin; parent = None; former = [] } ∷ []; text = record { run = (At 2147483647 0 1 (pos 0) ∷ [], 5); text = codes "hello" } ∷ [];
-    log = hello (0 ∷ 0 ∷ []) ∷ []; held = []; left = [];
-  }
+  group = 7;
+  members = 2;
+  me = 0;
+  vector = 1 ∷ 0 ∷ [];
+  rows = (0 ∷ 0 ∷ []) ∷ [];
+  stems = record { author = 0; s0 = 1; low = pos low; next = 5 } ∷ [];
+  epochs = record { name = Origin; parent = None; former = [] } ∷ [];
+  text = record { run = (At 2147483647 0 1 (pos 0) ∷ [], 5); text = codes "hello" } ∷ [];
+  log = hello (0 ∷ 0 ∷ []) ∷ [];
+  held = [];
+  left = [];
+}
 
 abbrev file_160 : List ℕ
 file_160 = hex "524c5346 04 0000000000000007 00000002 00000000 0000000100000000 0000000000000000 00000000 00000001 00000001 00000000 00000005 00000000 00000001 00 00000001 00000001 01 7fffffff 00000000 00000001 00000000 00000005 00000005 68656c6c6f 00000001 00000000 00000001 0000000000000000 00 00 00000001 01 7fffffff 00000000 00000001 00000000 00000005 68656c6c6f 00000000"
@@ -82,15 +91,15 @@ snapshot_lengths : (length file_160 ∷ length file_156 ∷ length file_152 ∷ 
 snapshot_lengths = refl
 
 writes_160 : file_bytes (parts 0) ≡ file_160
-unfolding snapshot_bytes op_bytes encode
+unfolding computing
 writes_160 = refl
 
 spells_156 : snapshot_bytes 3 (parts 0) ≡ file_156
-unfolding snapshot_bytes op_bytes encode
+unfolding computing
 spells_156 = refl
 
 spells_152 : snapshot_bytes 2 (parts 0) ≡ file_152
-unfolding snapshot_bytes op_bytes encode
+unfolding computing
 spells_152 = refl
 
 -- the parts that a file says, and nothing for a journal
@@ -102,24 +111,24 @@ abbrev place_of : Result Content ℕ → ℕ
 place_of (Ok c) = 1000
 place_of (Err at) = at
 
-reads_them : map (λ bytes. parts_of (file_of judge never bytes)) (file_160 ∷ file_156 ∷ file_152 ∷ []) ≡ Some (parts 0) ∷ Some (parts 0) ∷ Some (parts 0) ∷ []
-unfolding file_of place_of_broken op_bytes file_at snapshot_at journal_at entry_at steps_at stem_at stems_at epoch_at text_run_at op_at op_fields_at body_at text_at name_at ident_at last_at inner_at spot_at run_at runs_at chain_at is_utf8 chars encode spot_cmp tuple_cmp
+reads_them : map (λ bytes. parts_of (file_of never bytes)) (file_160 ∷ file_156 ∷ file_152 ∷ []) ≡ Some (parts 0) ∷ Some (parts 0) ∷ Some (parts 0) ∷ []
+unfolding computing
 reads_them = refl
 
 -- where rule 2 of stem 0, rule 4 of text run 0, and the rules 1, 3, 5, 6 and 7 have their places
 abbrev breaks : ℕ → Parts → Option Broken
 breaks rule p = Some (record { rule = rule; index = 0 })
 
-places_160 : map (λ rule. place_of (file_of judge (breaks rule) file_160)) (1 ∷ 2 ∷ 3 ∷ 4 ∷ 5 ∷ 6 ∷ 7 ∷ []) ≡ 29 ∷ 45 ∷ 65 ∷ 70 ∷ 108 ∷ 104 ∷ 61 ∷ []
-unfolding file_of place_of_broken op_bytes file_at snapshot_at journal_at entry_at steps_at stem_at stems_at epoch_at text_run_at op_at op_fields_at body_at text_at name_at ident_at last_at inner_at spot_at run_at runs_at chain_at is_utf8 chars encode spot_cmp tuple_cmp
+places_160 : map (λ rule. place_of (file_of (breaks rule) file_160)) (1 ∷ 2 ∷ 3 ∷ 4 ∷ 5 ∷ 6 ∷ 7 ∷ []) ≡ 29 ∷ 45 ∷ 65 ∷ 70 ∷ 108 ∷ 104 ∷ 61 ∷ []
+unfolding computing
 places_160 = refl
 
-places_156 : map (λ rule. place_of (file_of judge (breaks rule) file_156)) (2 ∷ 4 ∷ []) ≡ 41 ∷ 66 ∷ []
-unfolding file_of place_of_broken op_bytes file_at snapshot_at journal_at entry_at steps_at stem_at stems_at epoch_at text_run_at op_at op_fields_at body_at text_at name_at ident_at last_at inner_at spot_at run_at runs_at chain_at is_utf8 chars encode spot_cmp tuple_cmp
+places_156 : map (λ rule. place_of (file_of (breaks rule) file_156)) (2 ∷ 4 ∷ []) ≡ 41 ∷ 66 ∷ []
+unfolding computing
 places_156 = refl
 
-places_152 : map (λ rule. place_of (file_of judge (breaks rule) file_152)) (2 ∷ 4 ∷ []) ≡ 41 ∷ 62 ∷ []
-unfolding file_of place_of_broken op_bytes file_at snapshot_at journal_at entry_at steps_at stem_at stems_at epoch_at text_run_at op_at op_fields_at body_at text_at name_at ident_at last_at inner_at spot_at run_at runs_at chain_at is_utf8 chars encode spot_cmp tuple_cmp
+places_152 : map (λ rule. place_of (file_of (breaks rule) file_152)) (2 ∷ 4 ∷ []) ≡ 41 ∷ 62 ∷ []
+unfolding computing
 places_152 = refl
 
 -- ---- small files
@@ -139,24 +148,22 @@ file_46 = hex "524c5346 02 0000000000000007 00000001 00000000 ffffffff 00000000 
 small_lengths : map (λ (bs : List ℕ). length bs) (file_66 ∷ file_62 ∷ file_50 ∷ file_46 ∷ []) ≡ 66 ∷ 62 ∷ 50 ∷ 46 ∷ []
 small_lengths = refl
 
-small_places : map (λ bytes. place_of (file_of judge never bytes)) (file_66 ∷ file_62 ∷ file_50 ∷ file_46 ∷ take 30 file_66 ∷ take 30 file_62 ∷ [] ∷ (file_66 ++ 0 ∷ []) ∷ []) ≡ 1000 ∷ 1000 ∷ 1000 ∷ 1000 ∷ 29 ∷ 29 ∷ 0 ∷ 66 ∷ []
-unfolding file_of place_of_broken op_bytes file_at snapshot_at journal_at entry_at steps_at stem_at stems_at epoch_at text_run_at op_at op_fields_at body_at text_at name_at ident_at last_at inner_at spot_at run_at runs_at chain_at is_utf8 chars encode spot_cmp tuple_cmp
+small_places : map (λ bytes. place_of (file_of never bytes)) (file_66 ∷ file_62 ∷ file_50 ∷ file_46 ∷ take 30 file_66 ∷ take 30 file_62 ∷ [] ∷ (file_66 ++ 0 ∷ []) ∷ []) ≡ 1000 ∷ 1000 ∷ 1000 ∷ 1000 ∷ 29 ∷ 29 ∷ 0 ∷ 66 ∷ []
+unfolding computing
 small_places = refl
 
 abbrev counts_from : ℕ → ℕ → List ℕ
 counts_from i zero = []
 counts_from i (suc n) = i ∷ counts_from (suc i) n
 
-cuts_of_160 : map (λ n. place_of (file_of judge never (take n file_160))) (counts_from 0 161) ≡ 0 ∷ 0 ∷ 0 ∷ 0 ∷ 4 ∷ 5 ∷ 5 ∷ 5 ∷ 5 ∷ 5 ∷ 5 ∷ 5 ∷ 5 ∷ 13 ∷ 13 ∷ 13 ∷ 13 ∷ 17 ∷ 17 ∷ 17 ∷ 17 ∷ 21 ∷ 21 ∷ 21 ∷ 21 ∷ 25 ∷ 25 ∷ 25 ∷ 25 ∷ 29 ∷ 29 ∷ 29 ∷ 29 ∷ 33 ∷ 33 ∷ 33 ∷ 33 ∷ 37 ∷ 37 ∷ 37 ∷ 37 ∷ 41 ∷ 41 ∷ 41 ∷ 41 ∷ 45 ∷ 45 ∷ 45 ∷ 45 ∷ 49 ∷ 49 ∷ 49 ∷ 49 ∷ 53 ∷ 53 ∷ 53 ∷ 53 ∷ 57 ∷ 57 ∷ 57 ∷ 57 ∷ 61 ∷ 61 ∷ 61 ∷ 61 ∷ 65 ∷ 66 ∷ 66 ∷ 66 ∷ 66 ∷ 70 ∷ 70 ∷ 70 ∷ 70 ∷ 74 ∷ 75 ∷ 75 ∷ 75 ∷ 75 ∷ 79 ∷ 79 ∷ 79 ∷ 79 ∷ 83 ∷ 83 ∷ 83 ∷ 83 ∷ 87 ∷ 87 ∷ 87 ∷ 87 ∷ 91 ∷ 91 ∷ 91 ∷ 91 ∷ 95 ∷ 95 ∷ 95 ∷ 95 ∷ 99 ∷ 99 ∷ 99 ∷ 99 ∷ 99 ∷ 104 ∷ 104 ∷ 104 ∷ 104 ∷ 108 ∷ 108 ∷ 108 ∷ 108 ∷ 112 ∷ 112 ∷ 112 ∷ 112 ∷ 116 ∷ 116 ∷ 116 ∷ 116 ∷ 120 ∷ 120 ∷ 120 ∷ 120 ∷ 124 ∷ 125 ∷ 126 ∷ 126 ∷ 126 ∷ 126 ∷ 130 ∷ 131 ∷ 131 ∷ 131 ∷ 131 ∷ 135 ∷ 135 ∷ 135 ∷ 135 ∷ 139 ∷ 139 ∷ 139 ∷ 139 ∷ 143 ∷ 143 ∷ 143 ∷ 143 ∷ 147 ∷ 147 ∷ 147 ∷ 147 ∷ 151 ∷ 151 ∷ 151 ∷ 151 ∷ 151 ∷ 156 ∷ 156 ∷ 156 ∷ 156 ∷ 1000 ∷ []
-unfolding file_of place_of_broken op_bytes file_at snapshot_at journal_at entry_at steps_at stem_at stems_at epoch_at text_run_at op_at op_fields_at body_at text_at name_at ident_at last_at inner_at spot_at run_at runs_at chain_at is_utf8 chars encode spot_cmp tuple_cmp
+cuts_of_160 : map (λ n. place_of (file_of never (take n file_160))) (counts_from 0 161) ≡ 0 ∷ 0 ∷ 0 ∷ 0 ∷ 4 ∷ 5 ∷ 5 ∷ 5 ∷ 5 ∷ 5 ∷ 5 ∷ 5 ∷ 5 ∷ 13 ∷ 13 ∷ 13 ∷ 13 ∷ 17 ∷ 17 ∷ 17 ∷ 17 ∷ 21 ∷ 21 ∷ 21 ∷ 21 ∷ 25 ∷ 25 ∷ 25 ∷ 25 ∷ 29 ∷ 29 ∷ 29 ∷ 29 ∷ 33 ∷ 33 ∷ 33 ∷ 33 ∷ 37 ∷ 37 ∷ 37 ∷ 37 ∷ 41 ∷ 41 ∷ 41 ∷ 41 ∷ 45 ∷ 45 ∷ 45 ∷ 45 ∷ 49 ∷ 49 ∷ 49 ∷ 49 ∷ 53 ∷ 53 ∷ 53 ∷ 53 ∷ 57 ∷ 57 ∷ 57 ∷ 57 ∷ 61 ∷ 61 ∷ 61 ∷ 61 ∷ 65 ∷ 66 ∷ 66 ∷ 66 ∷ 66 ∷ 70 ∷ 70 ∷ 70 ∷ 70 ∷ 74 ∷ 75 ∷ 75 ∷ 75 ∷ 75 ∷ 79 ∷ 79 ∷ 79 ∷ 79 ∷ 83 ∷ 83 ∷ 83 ∷ 83 ∷ 87 ∷ 87 ∷ 87 ∷ 87 ∷ 91 ∷ 91 ∷ 91 ∷ 91 ∷ 95 ∷ 95 ∷ 95 ∷ 95 ∷ 99 ∷ 99 ∷ 99 ∷ 99 ∷ 99 ∷ 104 ∷ 104 ∷ 104 ∷ 104 ∷ 108 ∷ 108 ∷ 108 ∷ 108 ∷ 112 ∷ 112 ∷ 112 ∷ 112 ∷ 116 ∷ 116 ∷ 116 ∷ 116 ∷ 120 ∷ 120 ∷ 120 ∷ 120 ∷ 124 ∷ 125 ∷ 126 ∷ 126 ∷ 126 ∷ 126 ∷ 130 ∷ 131 ∷ 131 ∷ 131 ∷ 131 ∷ 135 ∷ 135 ∷ 135 ∷ 135 ∷ 139 ∷ 139 ∷ 139 ∷ 139 ∷ 143 ∷ 143 ∷ 143 ∷ 143 ∷ 147 ∷ 147 ∷ 147 ∷ 147 ∷ 151 ∷ 151 ∷ 151 ∷ 151 ∷ 151 ∷ 156 ∷ 156 ∷ 156 ∷ 156 ∷ 1000 ∷ []
+unfolding computing
 cuts_of_160 = refl
 
-cuts_of_156 : map (λ n. place_of (file_of judge never (take n file_156))) (counts_from 0 157) ≡ 0 ∷ 0 ∷ 0 ∷ 0 ∷ 4 ∷ 5 ∷ 5 ∷ 5 ∷ 5 ∷ 5 ∷ 5 ∷ 5 ∷ 5 ∷ 13 ∷ 13 ∷ 13 ∷ 13 ∷ 17 ∷ 17 ∷ 17 ∷ 17 ∷ 21 ∷ 21 ∷ 21 ∷ 21 ∷ 25 ∷ 25 ∷ 25 ∷ 25 ∷ 29 ∷ 29 ∷ 29 ∷ 29 ∷ 33 ∷ 33 ∷ 33 ∷ 33 ∷ 37 ∷ 37 ∷ 37 ∷ 37 ∷ 41 ∷ 41 ∷ 41 ∷ 41 ∷ 45 ∷ 45 ∷ 45 ∷ 45 ∷ 49 ∷ 49 ∷ 49 ∷ 49 ∷ 53 ∷ 53 ∷ 53 ∷ 53 ∷ 57 ∷ 57 ∷ 57 ∷ 57 ∷ 61 ∷ 62 ∷ 62 ∷ 62 ∷ 62 ∷ 66 ∷ 66 ∷ 66 ∷ 66 ∷ 70 ∷ 71 ∷ 71 ∷ 71 ∷ 71 ∷ 75 ∷ 75 ∷ 75 ∷ 75 ∷ 79 ∷ 79 ∷ 79 ∷ 79 ∷ 83 ∷ 83 ∷ 83 ∷ 83 ∷ 87 ∷ 87 ∷ 87 ∷ 87 ∷ 91 ∷ 91 ∷ 91 ∷ 91 ∷ 95 ∷ 95 ∷ 95 ∷ 95 ∷ 95 ∷ 100 ∷ 100 ∷ 100 ∷ 100 ∷ 104 ∷ 104 ∷ 104 ∷ 104 ∷ 108 ∷ 108 ∷ 108 ∷ 108 ∷ 112 ∷ 112 ∷ 112 ∷ 112 ∷ 116 ∷ 116 ∷ 116 ∷ 116 ∷ 120 ∷ 121 ∷ 122 ∷ 122 ∷ 122 ∷ 122 ∷ 126 ∷ 127 ∷ 127 ∷ 127 ∷ 127 ∷ 131 ∷ 131 ∷ 131 ∷ 131 ∷ 135 ∷ 135 ∷ 135 ∷ 135 ∷ 139 ∷ 139 ∷ 139 ∷ 139 ∷ 143 ∷ 143 ∷ 143 ∷ 143 ∷ 147 ∷ 147 ∷ 147 ∷ 147 ∷ 147 ∷ 152 ∷ 152 ∷ 152 ∷ 152 ∷ 1000 ∷ []
-unfolding file_of place_of_broken op_bytes file_at snapshot_at journal_at entry_at steps_at stem_at stems_at epoch_at text_run_at op_at op_fields_at body_at text_at name_at ident_at last_at inner_at spot_at run_at runs_at chain_at is_utf8 chars encode spot_cmp tuple_cmp
+cuts_of_156 : map (λ n. place_of (file_of never (take n file_156))) (counts_from 0 157) ≡ 0 ∷ 0 ∷ 0 ∷ 0 ∷ 4 ∷ 5 ∷ 5 ∷ 5 ∷ 5 ∷ 5 ∷ 5 ∷ 5 ∷ 5 ∷ 13 ∷ 13 ∷ 13 ∷ 13 ∷ 17 ∷ 17 ∷ 17 ∷ 17 ∷ 21 ∷ 21 ∷ 21 ∷ 21 ∷ 25 ∷ 25 ∷ 25 ∷ 25 ∷ 29 ∷ 29 ∷ 29 ∷ 29 ∷ 33 ∷ 33 ∷ 33 ∷ 33 ∷ 37 ∷ 37 ∷ 37 ∷ 37 ∷ 41 ∷ 41 ∷ 41 ∷ 41 ∷ 45 ∷ 45 ∷ 45 ∷ 45 ∷ 49 ∷ 49 ∷ 49 ∷ 49 ∷ 53 ∷ 53 ∷ 53 ∷ 53 ∷ 57 ∷ 57 ∷ 57 ∷ 57 ∷ 61 ∷ 62 ∷ 62 ∷ 62 ∷ 62 ∷ 66 ∷ 66 ∷ 66 ∷ 66 ∷ 70 ∷ 71 ∷ 71 ∷ 71 ∷ 71 ∷ 75 ∷ 75 ∷ 75 ∷ 75 ∷ 79 ∷ 79 ∷ 79 ∷ 79 ∷ 83 ∷ 83 ∷ 83 ∷ 83 ∷ 87 ∷ 87 ∷ 87 ∷ 87 ∷ 91 ∷ 91 ∷ 91 ∷ 91 ∷ 95 ∷ 95 ∷ 95 ∷ 95 ∷ 95 ∷ 100 ∷ 100 ∷ 100 ∷ 100 ∷ 104 ∷ 104 ∷ 104 ∷ 104 ∷ 108 ∷ 108 ∷ 108 ∷ 108 ∷ 112 ∷ 112 ∷ 112 ∷ 112 ∷ 116 ∷ 116 ∷ 116 ∷ 116 ∷ 120 ∷ 121 ∷ 122 ∷ 122 ∷ 122 ∷ 122 ∷ 126 ∷ 127 ∷ 127 ∷ 127 ∷ 127 ∷ 131 ∷ 131 ∷ 131 ∷ 131 ∷ 135 ∷ 135 ∷ 135 ∷ 135 ∷ 139 ∷ 139 ∷ 139 ∷ 139 ∷ 143 ∷ 143 ∷ 143 ∷ 143 ∷ 147 ∷ 147 ∷ 147 ∷ 147 ∷ 147 ∷ 152 ∷ 152 ∷ 152 ∷ 152 ∷ 1000 ∷ []
+unfolding computing
 cuts_of_156 = refl
 
-cuts_of_152 : map (λ n. place_of (file_of judge never (take n file_152))) (counts_from 0 153) ≡ 0 ∷ 0 ∷ 0 ∷ 0 ∷ 4 ∷ 5 ∷ 5 ∷ 5 ∷ 5 ∷ 5 ∷ 5 ∷ 5 ∷ 5 ∷ 13 ∷ 13 ∷ 13 ∷ 13 ∷ 17 ∷ 17 ∷ 17 ∷ 17 ∷ 21 ∷ 21 ∷ 21 ∷ 21 ∷ 25 ∷ 25 ∷ 25 ∷ 25 ∷ 29 ∷ 29 ∷ 29 ∷ 29 ∷ 33 ∷ 33 ∷ 33 ∷ 33 ∷ 37 ∷ 37 ∷ 37 ∷ 37 ∷ 41 ∷ 41 ∷ 41 ∷ 41 ∷ 45 ∷ 45 ∷ 45 ∷ 45 ∷ 49 ∷ 49 ∷ 49 ∷ 49 ∷ 53 ∷ 53 ∷ 53 ∷ 53 ∷ 57 ∷ 58 ∷ 58 ∷ 58 ∷ 58 ∷ 62 ∷ 62 ∷ 62 ∷ 62 ∷ 66 ∷ 67 ∷ 67 ∷ 67 ∷ 67 ∷ 71 ∷ 71 ∷ 71 ∷ 71 ∷ 75 ∷ 75 ∷ 75 ∷ 75 ∷ 79 ∷ 79 ∷ 79 ∷ 79 ∷ 83 ∷ 83 ∷ 83 ∷ 83 ∷ 87 ∷ 87 ∷ 87 ∷ 87 ∷ 91 ∷ 91 ∷ 91 ∷ 91 ∷ 91 ∷ 96 ∷ 96 ∷ 96 ∷ 96 ∷ 100 ∷ 100 ∷ 100 ∷ 100 ∷ 104 ∷ 104 ∷ 104 ∷ 104 ∷ 108 ∷ 108 ∷ 108 ∷ 108 ∷ 112 ∷ 112 ∷ 112 ∷ 112 ∷ 116 ∷ 117 ∷ 118 ∷ 118 ∷ 118 ∷ 118 ∷ 122 ∷ 123 ∷ 123 ∷ 123 ∷ 123 ∷ 127 ∷ 127 ∷ 127 ∷ 127 ∷ 131 ∷ 131 ∷ 131 ∷ 131 ∷ 135 ∷ 135 ∷ 135 ∷ 135 ∷ 139 ∷ 139 ∷ 139 ∷ 139 ∷ 143 ∷ 143 ∷ 143 ∷ 143 ∷ 143 ∷ 148 ∷ 148 ∷ 148 ∷ 148 ∷ 1000 ∷ []
-unfolding file_of place_of_broken op_bytes file_at snapshot_at journal_at entry_at steps_at stem_at stems_at epoch_at text_run_at op_at op_fields_at body_at text_at name_at ident_at last_at inner_at spot_at run_at runs_at chain_at is_utf8 chars encode spot_cmp tuple_cmp
+cuts_of_152 : map (λ n. place_of (file_of never (take n file_152))) (counts_from 0 153) ≡ 0 ∷ 0 ∷ 0 ∷ 0 ∷ 4 ∷ 5 ∷ 5 ∷ 5 ∷ 5 ∷ 5 ∷ 5 ∷ 5 ∷ 5 ∷ 13 ∷ 13 ∷ 13 ∷ 13 ∷ 17 ∷ 17 ∷ 17 ∷ 17 ∷ 21 ∷ 21 ∷ 21 ∷ 21 ∷ 25 ∷ 25 ∷ 25 ∷ 25 ∷ 29 ∷ 29 ∷ 29 ∷ 29 ∷ 33 ∷ 33 ∷ 33 ∷ 33 ∷ 37 ∷ 37 ∷ 37 ∷ 37 ∷ 41 ∷ 41 ∷ 41 ∷ 41 ∷ 45 ∷ 45 ∷ 45 ∷ 45 ∷ 49 ∷ 49 ∷ 49 ∷ 49 ∷ 53 ∷ 53 ∷ 53 ∷ 53 ∷ 57 ∷ 58 ∷ 58 ∷ 58 ∷ 58 ∷ 62 ∷ 62 ∷ 62 ∷ 62 ∷ 66 ∷ 67 ∷ 67 ∷ 67 ∷ 67 ∷ 71 ∷ 71 ∷ 71 ∷ 71 ∷ 75 ∷ 75 ∷ 75 ∷ 75 ∷ 79 ∷ 79 ∷ 79 ∷ 79 ∷ 83 ∷ 83 ∷ 83 ∷ 83 ∷ 87 ∷ 87 ∷ 87 ∷ 87 ∷ 91 ∷ 91 ∷ 91 ∷ 91 ∷ 91 ∷ 96 ∷ 96 ∷ 96 ∷ 96 ∷ 100 ∷ 100 ∷ 100 ∷ 100 ∷ 104 ∷ 104 ∷ 104 ∷ 104 ∷ 108 ∷ 108 ∷ 108 ∷ 108 ∷ 112 ∷ 112 ∷ 112 ∷ 112 ∷ 116 ∷ 117 ∷ 118 ∷ 118 ∷ 118 ∷ 118 ∷ 122 ∷ 123 ∷ 123 ∷ 123 ∷ 123 ∷ 127 ∷ 127 ∷ 127 ∷ 127 ∷ 131 ∷ 131 ∷ 131 ∷ 131 ∷ 135 ∷ 135 ∷ 135 ∷ 135 ∷ 139 ∷ 139 ∷ 139 ∷ 139 ∷ 143 ∷ 143 ∷ 143 ∷ 143 ∷ 143 ∷ 148 ∷ 148 ∷ 148 ∷ 148 ∷ 1000 ∷ []
+unfolding computing
 cuts_of_152 = refl
-
-

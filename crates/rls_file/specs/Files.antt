@@ -1,9 +1,9 @@
 -- How the parts of a replica are spelled as a file, in the forms 2 to 4, and its events in form 1.
 use Rattle.std.specs.Prelude.{ℕ, suc, zero, ◌+◌, ◌*◌, take, length, slice_get, List, [], ◌∷◌, ◌++◌, ◌==◌, filter, not, codes, Option, Some, None, if◌then◌else◌}
 use Rattle.std.specs.List.{flat_map, concat}
-use Rattle.rls_ident.specs.declared.epoch_name.EpochName.{EpochName}
-use Rattle.rls_ops.specs.declared.op.Op.{Op}
 use Rattle.rls_ops.specs.Spelling.{four_bytes, eight_bytes, signed_bytes, counted, run_bytes, runs_bytes, vector_bytes, name_bytes, text_bytes, op_bytes}
+use Rattle.rls_model.specs.History.{Entry, Accepted, Acknowledged, History, Fresh, Then, group_of, me_of, members_of}
+use Rattle.rls_model.specs.Receiving.{State}
 use Rattle.rls_model.specs.declared.parts.Stem.{Stem}
 use Rattle.rls_model.specs.declared.parts.EpochPart.{EpochPart}
 use Rattle.rls_model.specs.declared.parts.TextRun.{TextRun}
@@ -16,18 +16,19 @@ head_bytes form group members me = concat (codes "RLSF" ∷ (form ∷ []) ∷ ei
 -- ---- form 1
 
 -- an accepted operation, or a counted acknowledgement
-pub data Entry : Type 0 where
-  Accepted : (o : Op) → Entry
-  Acknowledged : (from : ℕ) → (counts : List ℕ) → Entry
-
 abbrev pub entry_bytes : Entry → List ℕ
 entry_bytes (Accepted o) = 0 ∷ op_bytes o
 entry_bytes (Acknowledged from counts) = 1 ∷ concat (four_bytes from ∷ vector_bytes counts ∷ [])
 
--- a journal: the events and the waiting operations
-unfoldable pub journal_bytes : ℕ → ℕ → ℕ → List Entry → List Op → List ℕ
-journal_bytes group members me entries waiting = concat
-    (head_bytes 1 group members me ∷ counted entry_bytes entries ∷ counted op_bytes waiting ∷ [])
+-- the entries of a history, in order
+abbrev pub entries_of : History → List Entry
+entries_of (Fresh group me members) = []
+entries_of (Then H e) = entries_of H ++ e ∷ []
+
+-- a journal: the entries of the history and the waiting operations
+unfoldable pub journal_bytes : State → List ℕ
+journal_bytes s = concat
+    (head_bytes 1 (group_of s.history) (members_of s.history) (me_of s.history) ∷ counted entry_bytes (entries_of s.history) ∷ counted op_bytes s.waiting ∷ [])
 
 -- ---- forms 2 to 4
 
@@ -72,6 +73,15 @@ newest_form = 4
 
 abbrev pub file_bytes : Parts → List ℕ
 file_bytes p = snapshot_bytes newest_form p
+
+-- what a file says: a history and what waits, or parts in this form
+pub data Content : Type 0 where
+  Journal : (state : State) → Content
+  Snapshot : (form : ℕ) → (parts : Parts) → Content
+
+abbrev pub content_bytes : Content → List ℕ
+content_bytes (Journal s) = journal_bytes s
+content_bytes (Snapshot form p) = snapshot_bytes form p
 
 -- ---- places
 

@@ -1,14 +1,21 @@
 -- Reading files.
-use Rattle.std.specs.Prelude.{ℕ, ℤ, pos, zero, suc, Bool, true, ◌&&◌, ◌||◌, not, List, [], ◌∷◌, ◌++◌, ◌-◌, ◌==◌, length, map, slice_index, codes, Option, Some, None, Result, Ok, Err, nat_lt, nat_le, if◌then◌else◌}
+use Rattle.std.specs.Prelude.{ℕ, ℤ, pos, zero, suc, Bool, true, false, ◌&&◌, not, List, [], ◌++◌, ◌-◌, ◌==◌, is_none, length, slice_index, codes, Option, Some, None, Result, Ok, Err, nat_lt, nat_le, if◌then◌else◌}
 use Rattle.std.specs.Int.{w32, w64}
 use Rattle.rls_ident.specs.declared.tuple.Tuple.{Tuple}
 use Rattle.rls_ops.specs.declared.op.Op.{Op}
 use Rattle.rls_codec.specs.Reading.{Read, ◌>>=◌, with_rule, byte_at, number_at, signed_at, chain_at, many_at, counted_at, vector_at, name_at, runs_at, next_run_at, text_at, op_at, magic_at, is_member_count, whole}
+use Rattle.rls_ident.specs.Vectors.{at_most}
+use Rattle.rls_ops.specs.Shapes.{shape_fault}
+use Rattle.rls_model.specs.Answers.{Answer, Applies}
+use Rattle.rls_model.specs.History.{Entry, Accepted, Acknowledged, History, Fresh, Then, members_of}
+use Rattle.rls_model.specs.History.{count as count_in}
+use Rattle.rls_model.specs.Stability.{is_counted}
+use Rattle.rls_model.specs.Receiving.{State, replay, comes_before}
 use Rattle.rls_model.specs.declared.parts.Stem.{Stem}
 use Rattle.rls_model.specs.declared.parts.EpochPart.{EpochPart}
 use Rattle.rls_model.specs.declared.parts.TextRun.{TextRun}
 use Rattle.rls_model.specs.declared.parts.Parts.{Parts}
-use Rattle.rls_file.specs.Files.{Entry, Accepted, Acknowledged, newest_form, Broken, place_of_broken}
+use Rattle.rls_file.specs.Files.{newest_form, Content, Journal, Snapshot, Broken, place_of_broken}
 
 -- ---- parts of a snapshot
 
@@ -75,71 +82,94 @@ snapshot_at form group members me bytes = do
   text ← counted_at text_run_at epochs.1
   log ← ops_at members text.1
   held ← ops_at members log.1
-  Ok (record {
-      group = group; members = members; me = me; vector = vector.0; rows = rows.0; stems = stems.0; epochs = epochs.0;
-      text = text.0; log = log.0; held = held.0; left = left.0;
-    }, held.1)
+  Ok (
+    record {
+      group = group;
+      members = members;
+      me = me;
+      vector = vector.0;
+      rows = rows.0;
+      stems = stems.0;
+      epochs = epochs.0;
+      text = text.0;
+      log = log.0;
+      held = held.0;
+      left = left.0;
+    },
+    held.1,
+  )
 
 -- ---- a journal
 
--- what the rules of a journal ask of the events so far
-pub record Judge : Type 0 where
-  -- replay answers `Applied`
-  pub applies : List Entry → Op → Bool
-  -- acknowledge counts it
-  pub counts : List Entry → ℕ → List ℕ → Bool
-  -- the operation may wait, behind the one before
-  pub waits : List Entry → Option Op → Op → Bool
+-- so many parts, each read in a state: the state behind the last
+unfoldable pub steps_at : {S A : Type 0} → (S → List ℕ → Read A) → (S → A → S) → S → ℕ → List ℕ → Read S
+steps_at part next state zero bytes = Ok (state, bytes)
+steps_at part next state (suc n) bytes = part state bytes >>= λ first. steps_at part next (next state first.0) n first.1
 
--- an event behind these
-abbrev pub entry_of_kind : Judge → ℕ → List Entry → ℕ → ℕ → List ℕ → Read Entry
-entry_of_kind judge members before place zero bytes = with_rule (judge.applies before) (op_at members) bytes >>= λ o. Ok (Accepted o.0, o.1)
-entry_of_kind judge members before place (suc k) bytes = do
-  from ← with_rule (λ n. nat_lt n members) (number_at w32) bytes
-  counts ← vector_at members from.1
-  if judge.counts before from.0 counts.0 then Ok (Acknowledged from.0 counts.0, counts.1) else Err place
+abbrev pub applies : Answer → Bool
+applies Applies = true
+applies _ = false
 
-unfoldable pub entry_at : Judge → ℕ → List Entry → List ℕ → Read Entry
-entry_at judge members before bytes = with_rule (λ k. nat_le k 1) byte_at bytes >>= λ kind. entry_of_kind judge members before (length bytes) kind.0 kind.1
+-- the operation may come next: it is applied where nothing waits
+abbrev pub may_be_next : History → Op → Bool
+may_be_next H o = applies (replay (record { history = H; waiting = [] }) o)
 
--- so many parts, where each is read in a state and gives the next state
-unfoldable pub steps_at : {S A : Type 0} → (S → List ℕ → Read A) → (S → A → S) → S → ℕ → List ℕ → Read (List A)
-steps_at part next state zero bytes = Ok ([], bytes)
-steps_at part next state (suc n) bytes = do
-  first ← part state bytes
-  others ← steps_at part next (next state first.0) n first.1
-  Ok (first.0 ∷ others.0, others.1)
+-- an acknowledgement is counted
+abbrev pub is_new : History → Entry → Bool
+is_new H (Accepted o) = true
+is_new H (Acknowledged from counts) = is_counted H from counts
 
--- n more events behind these
-abbrev pub entries_at : Judge → ℕ → List Entry → ℕ → List ℕ → Read (List Entry)
-entries_at judge members before n bytes = steps_at (entry_at judge members) (λ es e. es ++ e ∷ []) before n bytes
+abbrev pub entry_of_kind : History → ℕ → List ℕ → Read Entry
+entry_of_kind H zero bytes = with_rule (may_be_next H) (op_at (members_of H)) bytes >>= λ o. Ok (Accepted o.0, o.1)
+entry_of_kind H (suc k) bytes = do
+  from ← with_rule (λ n. nat_lt n (members_of H)) (number_at w32) bytes
+  counts ← vector_at (members_of H) from.1
+  Ok (Acknowledged from.0 counts.0, counts.1)
 
--- what a file says
-pub data Content : Type 0 where
-  Journal : (group members me : ℕ) → (entries : List Entry) → (waiting : List Op) → Content
-  Snapshot : (form : ℕ) → (parts : Parts) → Content
+abbrev pub any_entry_at : History → List ℕ → Read Entry
+any_entry_at H bytes = with_rule (λ k. nat_le k 1) byte_at bytes >>= λ kind. entry_of_kind H kind.0 kind.1
 
-unfoldable pub journal_at : Judge → ℕ → ℕ → ℕ → List ℕ → Read Content
-journal_at judge group members me bytes = do
+-- an entry behind this history; the rule of an acknowledgement has the place of its kind
+unfoldable pub entry_at : History → List ℕ → Read Entry
+entry_at H bytes = with_rule (is_new H) (any_entry_at H) bytes
+
+-- the operation comes after the one before, by author and then by number
+abbrev pub is_later : Option Op → Op → Bool
+is_later None o = true
+is_later (Some before) o = comes_before before o
+
+-- the operation may wait behind the one before: it has the right shape, another member made it, its number is above
+-- the count, and its causes aren't all there
+abbrev pub may_wait : ℕ → ℕ → List ℕ → Option Op → Op → Bool
+may_wait members me vector before o =
+    is_none (shape_fault members o) && not (o.author == me) && nat_lt (slice_index vector o.author) o.seq && is_later before o && not (at_most o.context vector)
+
+-- what follows the own number in form 1
+unfoldable pub journal_at : ℕ → ℕ → ℕ → List ℕ → Read State
+journal_at group members me bytes = do
   count ← number_at w32 bytes
-  entries ← entries_at judge members [] count.0 count.1
-  waiting ← counted_at (λ before. with_rule (judge.waits entries.0 before) (op_at members)) entries.1
-  Ok (Journal group members me entries.0 waiting.0, waiting.1)
+  history ← steps_at entry_at Then (Fresh group me members) count.0 count.1
+  waiting ← counted_at (λ before. with_rule (may_wait members me (count_in history.0) before) (op_at members)) history.1
+  Ok (record { history = history.0; waiting = waiting.0 }, waiting.1)
 
 -- ---- files
 
 abbrev pub is_file_form : ℕ → Bool
 is_file_form n = nat_lt 0 n && nat_le n newest_form
 
-unfoldable pub file_at : Judge → List ℕ → Read Content
-file_at judge bytes = do
+-- what follows the head of a file
+abbrev pub content_at : ℕ → ℕ → ℕ → ℕ → Bool → List ℕ → Read Content
+content_at form group members me true bytes = journal_at group members me bytes >>= λ s. Ok (Journal s.0, s.1)
+content_at form group members me false bytes = snapshot_at form group members me bytes >>= λ p. Ok (Snapshot form p.0, p.1)
+
+unfoldable pub file_at : List ℕ → Read Content
+file_at bytes = do
   magic ← magic_at (codes "RLSF") bytes
   form ← with_rule is_file_form byte_at magic.1
   group ← number_at w64 form.1
   members ← with_rule is_member_count (number_at w32) group.1
   me ← with_rule (λ n. nat_lt n members.0) (number_at w32) members.1
-  if form.0 == 1 then journal_at judge group.0 members.0 me.0 me.1
-    else (snapshot_at form.0 group.0 members.0 me.0 me.1 >>= λ s. Ok (Snapshot form.0 s.0, s.1))
+  content_at form.0 group.0 members.0 me.0 (form.0 == 1) me.1
 
 -- ---- the rules on all parts
 
@@ -150,9 +180,9 @@ unless_broken form p (Some b) = Err (place_of_broken form p b)
 
 -- the content, where no rule of its parts is broken
 abbrev pub tested : (Parts → Option Broken) → Content → Result Content ℕ
-tested broken (Journal group members me entries waiting) = Ok (Journal group members me entries waiting)
+tested broken (Journal s) = Ok (Journal s)
 tested broken (Snapshot form parts) = unless_broken form parts (broken parts)
 
 -- what the file says, or the place of the first fault
-unfoldable pub file_of : Judge → (Parts → Option Broken) → List ℕ → Result Content ℕ
-file_of judge broken bytes = whole bytes (file_at judge bytes) >>= tested broken
+unfoldable pub file_of : (Parts → Option Broken) → List ℕ → Result Content ℕ
+file_of broken bytes = whole bytes (file_at bytes) >>= tested broken

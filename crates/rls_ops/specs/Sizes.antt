@@ -8,6 +8,7 @@ use Rattle.rls_runs.specs.Runs.{runs_of}
 use Rattle.rls_ops.specs.declared.op.Op.{Op}
 use Rattle.rls_ops.specs.declared.op.Body.{Body}
 use Rattle.rls_ops.specs.declared.op.Body.TheVariants.{Insert, Delete, Rename, Leave}
+use Rattle.rls_ops.specs.declared.message.Message.{Message}
 
 -- a byte for the kind, and four numbers of four bytes in an `At`
 abbrev pub tuple_size : Tuple → ℕ
@@ -49,3 +50,7 @@ op_size o = 8 + 4 * length o.context + name_size o.epoch + 1 + body_size o.body
 -- a message but for its operations: magic text, form, group, members, sender, vector and the number of operations
 abbrev pub head_size : ℕ → ℕ
 head_size members = 25 + 4 * members
+
+-- a message
+abbrev pub message_size : Message → ℕ
+message_size m = head_size (length m.vector) + sum_by op_size m.ops

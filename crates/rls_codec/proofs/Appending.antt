@@ -5,7 +5,6 @@ use Rattle.std.specs.List.{flat_map, concat}
 use Rattle.std.proofs.lemmas.List.{append-nil, take_more, take_all, take_at, take-take, length-take, take-append-drop, length-append}
 use Rattle.std.proofs.lemmas.Str.{encodes-append}
 use Rattle.rls_ident.specs.declared.tuple.Tuple.{Tuple}
-use Rattle.rls_ident.specs.Identifiers.{last_of}
 use Rattle.rls_codec.specs.Gives.{IsFrontOf}
 use Rattle.rls_ops.specs.Spelling.{tuple_bytes, four_bytes, ident_bytes}
 
@@ -28,7 +27,7 @@ encodes_more cs i c lt e =
 pub encodes_within : (cs : List ℕ) (i c : ℕ) → i < length cs → c ≡ get_or cs i c → length (encode_utf8_all (take i cs)) + length (encode_utf8 c) ≤ length (encode_utf8_all cs)
 encodes_within cs i c lt e =
     let whole : length (encode_utf8_all cs) ≡ length (encode_utf8_all (take (i + 1) cs)) + length (encode_utf8_all (drop (i + 1) cs)) =
-        ap (λ xs. length (encode_utf8_all xs)) (sym (take-append-drop (i + 1) cs)) ∙ ap length (encodes-append (take (i + 1) cs) (drop (i + 1) cs)) ∙ length-append (encode_utf8_all (take (i + 1) cs)) (encode_utf8_all (drop (i + 1) cs)) in
+    ap (λ xs. length (encode_utf8_all xs)) (sym (take-append-drop (i + 1) cs)) ∙ ap length (encodes-append (take (i + 1) cs) (drop (i + 1) cs)) ∙ length-append (encode_utf8_all (take (i + 1) cs)) (encode_utf8_all (drop (i + 1) cs)) in
     omega (arith, whole, ap length (encodes_more cs i c lt e), length-append (encode_utf8_all (take i cs)) (encode_utf8 c))
 
 -- five parts, put one after another

@@ -1,0 +1,203 @@
+//! Fields, and parts made of them, put behind bytes.
+//!
+//! Each call appends the bytes of its part. Where memory runs out, the bytes that stood there before still stand in
+//! front, and some of the part's own may follow them.
+
+ghost use Rattle.std.specs.Prelude.{◌≡◌, ◌<◌, ◌^◌, ◌++◌, [], ◌∷◌, length, All, OnOk, encode_utf8, encode_utf8_all};
+ghost use Rattle.std.specs.List.{flat_map};
+ghost use Rattle.rls_runs.specs.Runs.{runs_of};
+ghost use Rattle.rls_ops.specs.Spelling.{four_bytes, eight_bytes, signed_bytes, tuple_bytes, ident_bytes, run_bytes, runs_bytes, vector_bytes, name_bytes, text_bytes};
+ghost use Rattle.rls_codec.specs.Gives.{IsFrontOf};
+
+use rls_ident::{EpochName, Ident, Tuple, Vector};
+use rls_runs::{Run, Runs, Text};
+use std::alloc::AllocError;
+
+/// One byte.
+pub fn put_byte(out: &mut Vec<u8>, byte: u8) -> Result<(), AllocError>
+    ensures ok { OnOk result (out.new.items ≡ out.old.items ++ byte ∷ []) }
+    ensures keeps { IsFrontOf out.old.items out.new.items }
+{
+    out.push(byte)?;
+    Ok(())
+}
+
+/// A number in four bytes, the highest first.
+pub fn put_u32(out: &mut Vec<u8>, n: u32) -> Result<(), AllocError>
+    ensures ok { OnOk result (out.new.items ≡ out.old.items ++ four_bytes n) }
+    ensures keeps { IsFrontOf out.old.items out.new.items }
+{
+    out.extend_from_slice(&n.to_be_bytes())
+}
+
+/// A number in eight bytes, the highest first.
+pub fn put_u64(out: &mut Vec<u8>, n: u64) -> Result<(), AllocError>
+    ensures ok { OnOk result (out.new.items ≡ out.old.items ++ eight_bytes n) }
+    ensures keeps { IsFrontOf out.old.items out.new.items }
+{
+    out.extend_from_slice(&n.to_be_bytes())
+}
+
+/// A signed number in four bytes of two's complement, the highest first.
+pub fn put_i32(out: &mut Vec<u8>, z: i32) -> Result<(), AllocError>
+    ensures ok { OnOk result (out.new.items ≡ out.old.items ++ signed_bytes z) }
+    ensures keeps { IsFrontOf out.old.items out.new.items }
+{
+    out.extend_from_slice(&z.to_be_bytes())
+}
+
+fn put_tuple(out: &mut Vec<u8>, tuple: Tuple) -> Result<(), AllocError>
+    ensures ok { OnOk result (out.new.items ≡ out.old.items ++ tuple_bytes tuple) }
+    ensures keeps { IsFrontOf out.old.items out.new.items }
+{
+    match tuple {
+        Tuple::Low => put_byte(out, 0),
+        Tuple::At {
+            pos,
+            replica,
+            seq,
+            offset,
+        } => {
+            put_byte(out, 1)?;
+            put_u32(out, pos)?;
+            put_u32(out, replica)?;
+            put_u32(out, seq)?;
+            put_i32(out, offset)?;
+            Ok(())
+        }
+        Tuple::High => put_byte(out, 2),
+    }
+}
+
+fn put_tuples(out: &mut Vec<u8>, tuples: &[Tuple]) -> Result<(), AllocError>
+    ensures ok { OnOk result (out.new.items ≡ out.old.items ++ flat_map tuple_bytes tuples.now) }
+    ensures keeps { IsFrontOf out.old.items out.new.items }
+{
+    for tuple in tuples {
+        put_tuple(out, *tuple)?;
+    }
+    Ok(())
+}
+
+/// An identifier.
+#[tactic(auto, using(crate::proofs::Appending::ident_parts))]
+pub fn put_ident(out: &mut Vec<u8>, ident: &Ident) -> Result<(), AllocError>
+    requires { length ident.now < 2 ^ 32 }
+    ensures ok { OnOk result (out.new.items ≡ out.old.items ++ ident_bytes ident.now) }
+    ensures keeps { IsFrontOf out.old.items out.new.items }
+{
+    let front = ident.front();
+    put_u32(out, front.len() as u32 + 1)?;
+    put_tuples(out, front)?;
+    put_tuple(out, ident.last().as_tuple())
+}
+
+/// A vector.
+pub fn put_vector(out: &mut Vec<u8>, vector: &Vector) -> Result<(), AllocError>
+    ensures ok { OnOk result (out.new.items ≡ out.old.items ++ vector_bytes vector.now) }
+    ensures keeps { IsFrontOf out.old.items out.new.items }
+{
+    put_counts(out, vector.counts())
+}
+
+fn put_counts(out: &mut Vec<u8>, counts: &[u32]) -> Result<(), AllocError>
+    ensures ok { OnOk result (out.new.items ≡ out.old.items ++ flat_map four_bytes counts.now) }
+    ensures keeps { IsFrontOf out.old.items out.new.items }
+{
+    for count in counts {
+        put_u32(out, *count)?;
+    }
+    Ok(())
+}
+
+/// The name of an epoch.
+pub fn put_name(out: &mut Vec<u8>, name: EpochName) -> Result<(), AllocError>
+    ensures ok { OnOk result (out.new.items ≡ out.old.items ++ name_bytes name) }
+    ensures keeps { IsFrontOf out.old.items out.new.items }
+{
+    match name {
+        EpochName::Origin => put_byte(out, 0),
+        EpochName::Of { replica, seq } => {
+            put_byte(out, 1)?;
+            put_u32(out, replica)?;
+            put_u32(out, seq)
+        }
+    }
+}
+
+#[tactic(auto, using(crate::proofs::Appending::encodes_more, crate::proofs::Appending::encodes_within))]
+fn utf8_len(chars: &[char]) -> u64
+    requires { length (encode_utf8_all chars.now) < 2 ^ 32 }
+    ensures len { result ≡ length (encode_utf8_all chars.now) }
+{
+    let mut total = 0;
+    for c in chars {
+        total += c.len_utf8() as u64;
+    }
+    total
+}
+
+fn put_char(out: &mut Vec<u8>, c: char) -> Result<(), AllocError>
+    ensures ok { OnOk result (out.new.items ≡ out.old.items ++ encode_utf8 c) }
+    ensures keeps { IsFrontOf out.old.items out.new.items }
+{
+    let mut buffer = [0; 4];
+    out.extend_from_slice(c.encode_utf8(&mut buffer).as_bytes())
+}
+
+#[tactic(auto, using(crate::proofs::Appending::encodes_more))]
+fn put_chars(out: &mut Vec<u8>, chars: &[char]) -> Result<(), AllocError>
+    ensures ok { OnOk result (out.new.items ≡ out.old.items ++ encode_utf8_all chars.now) }
+    ensures keeps { IsFrontOf out.old.items out.new.items }
+{
+    for c in chars {
+        put_char(out, *c)?;
+    }
+    Ok(())
+}
+
+/// A text: how many bytes it has in UTF-8, and these bytes.
+pub fn put_text(out: &mut Vec<u8>, text: &Text) -> Result<(), AllocError>
+    requires { length (encode_utf8_all text.now) < 2 ^ 32 }
+    ensures ok { OnOk result (out.new.items ≡ out.old.items ++ text_bytes text.now) }
+    ensures keeps { IsFrontOf out.old.items out.new.items }
+{
+    let chars = text.as_slice();
+    put_u32(out, utf8_len(chars) as u32)?;
+    put_chars(out, chars)
+}
+
+/// A run: its first identifier and its length.
+pub fn put_run(out: &mut Vec<u8>, run: &Run) -> Result<(), AllocError>
+    requires { length run.now.0 < 2 ^ 32 }
+    ensures ok { OnOk result (out.new.items ≡ out.old.items ++ run_bytes run.now) }
+    ensures keeps { IsFrontOf out.old.items out.new.items }
+{
+    put_ident(out, run.first())?;
+    put_u32(out, run.len())?;
+    Ok(())
+}
+
+fn put_run_list(out: &mut Vec<u8>, runs: &[Run]) -> Result<(), AllocError>
+    requires { All (λ r. length r.0 < 2 ^ 32) runs.now }
+    ensures ok { OnOk result (out.new.items ≡ out.old.items ++ flat_map run_bytes runs.now) }
+    ensures keeps { IsFrontOf out.old.items out.new.items }
+{
+    for run in runs {
+        put_run(out, run)?;
+    }
+    Ok(())
+}
+
+/// A list of identifiers, as the number of its maximal runs and these runs.
+pub fn put_runs(out: &mut Vec<u8>, runs: &Runs) -> Result<(), AllocError>
+    requires count { length (runs_of runs.now) < 2 ^ 32 }
+    requires idents { All (λ r. length r.0 < 2 ^ 32) (runs_of runs.now) }
+    ensures ok { OnOk result (out.new.items ≡ out.old.items ++ runs_bytes runs.now) }
+    ensures keeps { IsFrontOf out.old.items out.new.items }
+{
+    let list = runs.as_slice();
+    put_u32(out, list.len() as u32)?;
+    put_run_list(out, list)?;
+    Ok(())
+}
