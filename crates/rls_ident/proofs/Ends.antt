@@ -1,13 +1,19 @@
 -- The last tuple of an identifier.
-use Rattle.std.proofs.Common.{◌≡◌, true, List, [], ◌∷◌, ◌++◌, refl, ap, sym, ◌∙◌, IsTrue}
-use Rattle.std.specs.Prelude.{ℤ}
+use Rattle.std.proofs.Common.{◌≡◌, true, false, List, [], ◌∷◌, ◌++◌, refl, ap, sym, ◌∙◌, IsTrue}
+use Rattle.std.specs.Prelude.{ℤ, pos}
+use Rattle.std.specs.declared.cmp.Ordering.{Ordering}
+use Rattle.std.specs.declared.cmp.Ordering.TheVariants.{Less, Equal, Greater}
+use Rattle.std.specs.Ordering.{is_eq}
+use Rattle.std.proofs.lemmas.Cmp.{lists_total, tied_itself}
 use Rattle.std.specs.List.{All}
 use Rattle.std.proofs.lemmas.List.Elements.{All-head, All-tail}
 use Rattle.rls_ident.specs.declared.tuple.Spot.{Spot}
 use Rattle.rls_ident.specs.declared.tuple.Tuple.{Tuple}
 use Rattle.rls_ident.specs.Tuples.{at_spot, raised, offset_of}
-use Rattle.rls_ident.specs.Identifiers.{last_of, is_ident, is_bounded, is_inner_bounded, is_last_bounded, shifted}
-use Rattle.rls_ident.proofs.Members.{and_true}
+use Rattle.rls_ident.specs.Identifiers.{last_of, is_ident, is_bounded, is_inner_bounded, is_last_bounded, shifted, follows, ident_cmp, ident_eq}
+use Rattle.rls_ident.proofs.Members.{and_true, same_bool, not_true}
+use Rattle.rls_ident.proofs.Lists.{lists_same}
+use Rattle.rls_ident.proofs.Tuples.{tuples, tuple_total}
 
 pub last_of_pushed : (f : List Tuple) (l : Tuple) → last_of (f ++ l ∷ []) ≡ l
 last_of_pushed [] l = refl
@@ -41,3 +47,40 @@ offset_of_ending f s x e = ap offset_of (last_of_ending f s x e)
 
 pub shifted_of_ending : (k : ℤ) (f g : List Tuple) (s t : Spot) (x : List Tuple) → f ++ at_spot s ∷ [] ≡ x → g ≡ f → at_spot t ≡ raised k (at_spot s) → g ++ at_spot t ∷ [] ≡ shifted k x
 shifted_of_ending k f g s t x e h r = ap (λ u. u ++ at_spot t ∷ []) h ∙ ap (λ u. f ++ u ∷ []) r ∙ sym (shifted_of_pushed k f (at_spot s)) ∙ ap (shifted k) e
+
+-- ---- one that follows another
+
+end_same : (f g : List Tuple) (u v : Tuple) → f ++ u ∷ [] ≡ g ++ v ∷ [] → (f ≡ g) × (u ≡ v)
+end_same [] [] u v e = (refl, cc)
+end_same [] (y ∷ []) u v e = absurd (cc)
+end_same [] (y ∷ (z ∷ g)) u v e = absurd (cc)
+end_same (x ∷ []) [] u v e = absurd (cc)
+end_same (x ∷ (z ∷ f)) [] u v e = absurd (cc)
+end_same (x ∷ f) (y ∷ g) u v e =
+    let h : f ++ u ∷ [] ≡ g ++ v ∷ [] = cc in
+    let k : x ≡ y = cc in
+    let r = end_same f g u v h in
+    (let q = r.0 in cc, r.1)
+
+pub eq_same : (x y : List Tuple) → ident_eq x y ≡ true → x ≡ y
+eq_same x y h = go (ident_cmp x y) refl h
+  where
+    go : (o : Ordering) → ident_cmp x y ≡ o → is_eq o ≡ true → x ≡ y
+    go Less e k = absurd (cc)
+    go Equal e k = lists_same tuples x y e
+    go Greater e k = absurd (cc)
+
+pub same_eq : (x y : List Tuple) → x ≡ y → ident_eq x y ≡ true
+same_eq x y e = ap (λ z. ident_eq x z) (sym e) ∙ ap is_eq (tied_itself (lists_total tuple_total) x)
+
+pub follows_at : (f g : List Tuple) (s t : Spot) (x y : List Tuple) → f ++ at_spot s ∷ [] ≡ x → g ++ at_spot t ∷ [] ≡ y → at_spot s ≡ raised (pos 1) (at_spot t) → ident_eq f g ≡ follows x y
+follows_at f g s t x y e h n =
+    let next : shifted (pos 1) y ≡ g ++ at_spot s ∷ [] = ap (shifted (pos 1)) (sym h) ∙ shifted_of_pushed (pos 1) g (at_spot t) ∙ ap (λ u. g ++ u ∷ []) (sym n) in
+    same_bool (ident_eq f g) (follows x y)
+    (λ q. same_eq x (shifted (pos 1) y) (sym e ∙ ap (λ u. u ++ at_spot s ∷ []) (eq_same f g q) ∙ sym next))
+    (λ q. same_eq f g (end_same f g (at_spot s) (at_spot s) (e ∙ eq_same x (shifted (pos 1) y) q ∙ next)).0)
+
+pub follows_not : (f g : List Tuple) (s t : Spot) (x y : List Tuple) → f ++ at_spot s ∷ [] ≡ x → g ++ at_spot t ∷ [] ≡ y → (at_spot s ≡ raised (pos 1) (at_spot t) → ⊥) → false ≡ follows x y
+follows_not f g s t x y e h n =
+    let next : shifted (pos 1) y ≡ g ++ raised (pos 1) (at_spot t) ∷ [] = ap (shifted (pos 1)) (sym h) ∙ shifted_of_pushed (pos 1) g (at_spot t) in
+    sym (not_true (follows x y) (λ q. n (end_same f g (at_spot s) (raised (pos 1) (at_spot t)) (e ∙ eq_same x (shifted (pos 1) y) q ∙ next)).1))

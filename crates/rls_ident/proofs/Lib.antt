@@ -13,5 +13,6 @@ pub mod Members
 pub mod Shifted
 mod Worked
 pub mod Ends
+mod BetweenSteps
 mod Counts
 mod Faults

@@ -4,14 +4,14 @@ use Rattle.std.specs.Prelude.{◌-ℤ◌, ℤ, pos, ◌+ℤ◌, ◌<ℤ◌}
 use Rattle.std.specs.declared.cmp.Ordering.TheVariants.{Less, Equal, Greater}
 use Rattle.std.specs.Ordering.{ordering_then, ordering_reverse, nat_cmp, int_cmp, MatchOrdering}
 use Rattle.std.specs.Cmp.{IsTotalOrder}
-use Rattle.std.proofs.lemmas.Cmp.{tied_itself, nat_cmp_total, int_cmp_total, on_total, then_total, ranked, int_ranked}
+use Rattle.std.proofs.lemmas.Cmp.{tied_itself, lists_total, nat_cmp_total, int_cmp_total, on_total, then_total, ranked, int_ranked}
 use Rattle.std.proofs.lemmas.Int.{ints}
 use Rattle.rls_ident.specs.declared.tuple.Spot.{Spot}
 use Rattle.rls_ident.specs.declared.tuple.Tuple.{Tuple}
 use Rattle.rls_ident.specs.declared.tuple.Tuple.TheVariants.{Low, At, High}
 use Rattle.rls_ident.specs.Tuples.{at_offset, spot, spot_cmp, tuple_cmp}
-use Rattle.rls_ident.specs.Identifiers.{pred, IsIdent}
-use Rattle.rls_ident.proofs.Lists.{Letters, Lt, then_less, then_equal}
+use Rattle.rls_ident.specs.Identifiers.{pred, IsIdent, ident_cmp}
+use Rattle.rls_ident.proofs.Lists.{Letters, Lt, then_less, then_equal, lists_same}
 use Rattle.rls_ident.proofs.Reach.{Words}
 use Rattle.rls_ident.proofs.Gaps.{Step, Marks}
 
@@ -196,3 +196,11 @@ split_last (Low ∷ []) i = cc
 split_last (At p r n o ∷ []) i = ([], spot p r n o, refl, refl)
 split_last (High ∷ []) i = cc
 split_last (t ∷ (u ∷ x)) i = let r = split_last (u ∷ x) i in (t ∷ r.0, r.1, ap (λ z. t ∷ z) r.2, ap (λ z. t ∷ z) r.3)
+
+-- ---- identifiers
+
+pub ident_total : IsTotalOrder ident_cmp
+ident_total = lists_total tuple_total
+
+pub ident_same : (x y : List Tuple) → ident_cmp x y ≡ Equal → x ≡ y
+ident_same x y e = lists_same tuples x y e

@@ -1,8 +1,9 @@
 -- A new identifier between two.
-use Rattle.std.specs.Prelude.{ℕ, ◌+◌, ◌/◌, pos, negsuc, List, [], ◌∷◌, nat_le, if◌then◌else◌}
+use Rattle.std.specs.Prelude.{ℕ, ◌+◌, ◌/◌, pos, negsuc, List, [], ◌∷◌, nat_le, if◌then◌else◌, Bool, true, Option, Some, None}
 use Rattle.rls_ident.specs.declared.tuple.Tuple.{Tuple}
 use Rattle.rls_ident.specs.declared.tuple.Tuple.TheVariants.{Low, At, High}
 use Rattle.rls_ident.specs.Tuples.{tuple_eq, raised}
+use Rattle.rls_ident.specs.Identifiers.{ident_lt}
 
 -- the greatest position
 abbrev pub last_pos : ℕ
@@ -50,3 +51,14 @@ between (t ∷ ts) hi replica seq =
     if nat_le (lower_number (t ∷ []) + 2) (upper_number hi)
     then middle (lower_number (t ∷ [])) (upper_number hi) replica seq ∷ []
     else t ∷ between ts (upper_behind t hi) replica seq
+
+-- the tuples of a bound, of which a missing one has none
+abbrev pub bound_tuples : Option (List Tuple) → List Tuple
+bound_tuples None = []
+bound_tuples (Some x) = x
+
+-- the lower bound is less than the upper one, where both are given
+abbrev pub are_bounds : Option (List Tuple) → Option (List Tuple) → Bool
+are_bounds None hi = true
+are_bounds (Some x) None = true
+are_bounds (Some x) (Some y) = ident_lt x y

@@ -1,9 +1,10 @@
 //! Identifiers: nonempty lists of tuples, in lexicographic order (LogootSplit: André and others, 2013).
 
-ghost use Rattle.std.specs.Prelude.{◌≡◌, ℕ, ◌+◌, ◌<◌, pos, ◌+ℤ◌, ◌-ℤ◌, ◌≤ℤ◌, length, slice_get, Some, None, [], ◌∷◌, ◌++◌, ◌↔◌, IfOk, OnOk, IsErrOf, IsTrue};
+ghost use Rattle.std.specs.Prelude.{◌≡◌, ℕ, ◌+◌, ◌<◌, pos, ◌+ℤ◌, ◌-ℤ◌, ◌≤ℤ◌, length, slice_get, Some, None, [], ◌∷◌, ◌++◌, ◌↔◌, drop, IfOk, OnOk, IsErrOf, IsTrue};
 ghost use Rattle.std.specs.List.{All};
-ghost use Rattle.rls_ident.specs.Tuples.{at_spot, offset_of};
-ghost use Rattle.rls_ident.specs.Identifiers.{is_ident, is_bounded, last_of, ident_cmp, shifted, first_fault, least_offset, greatest_offset, is_inner_bounded, is_last_bounded};
+ghost use Rattle.rls_ident.specs.Tuples.{at_spot, offset_of, raised, tuple_cmp};
+ghost use Rattle.rls_ident.specs.Maps.{under};
+ghost use Rattle.rls_ident.specs.Identifiers.{is_ident, is_bounded, last_of, ident_cmp, ident_eq, shifted, follows, first_fault, least_offset, greatest_offset, is_inner_bounded, is_last_bounded};
 
 use crate::tuple::{Spot, Tuple};
 use std::alloc::{AllocError, Global};
@@ -89,9 +90,11 @@ impl Ident {
     }
 
     /// The number of tuples.
+    #[tactic(auto, using(crate::proofs::Ends::ident_of_ending))]
     pub fn len(&self) -> usize
         ensures len { result ≡ length self.now }
         ensures some { 0 < result }
+        ensures ident { IsTrue (is_ident self.now) }
     {
         self.front.len() + 1
     }
@@ -153,6 +156,30 @@ impl Ident {
         })
     }
 
+    /// Whether it has the base of the other identifier and the next offset.
+    pub fn follows(&self, other: &Ident) -> bool
+        ensures follows { result ≡ follows self.now other.now }
+    {
+        is_next(self.last, other.last) && same_tuples(&self.front, &other.front)
+    }
+
+    /// Whether it is a prefix of the pattern repeated without end, or is less at the first place
+    /// where it differs from that. The pattern isn't empty.
+    pub fn under(&self, pattern: &[Tuple]) -> bool
+        requires pattern { 0 < length pattern.now }
+        ensures under { result ≡ under tuple_cmp self.now pattern.now }
+    {
+        let mut place = 0;
+        for i in 0..self.len() {
+            match self.tuple(i).compare(&pattern[place]) {
+                Ordering::Less => return true,
+                Ordering::Greater => return false,
+                Ordering::Equal => place = next_place(place, pattern.len()),
+            }
+        }
+        true
+    }
+
     /// The identifier with the last offset greater by this much.
     #[tactic(auto, using(crate::proofs::Ends::offset_of_ending, crate::proofs::Ends::shifted_of_ending))]
     pub fn shifted(&self, by: u32) -> Result<Ident, AllocError>
@@ -164,6 +191,79 @@ impl Ident {
             last: self.last.raised(by),
         })
     }
+
+    /// The identifier with the last offset less by this much.
+    #[tactic(auto, using(crate::proofs::Ends::offset_of_ending, crate::proofs::Ends::shifted_of_ending))]
+    pub fn lowered(&self, by: u32) -> Result<Ident, AllocError>
+        requires least { least_offset ≤ℤ (offset_of (last_of self.now) -ℤ pos by) }
+        ensures lowered { IfOk result (λ ident. ident ≡ shifted (pos 0 -ℤ pos by) self.now) }
+    {
+        Ok(Ident {
+            front: copied(&self.front)?,
+            last: self.last.lowered(by),
+        })
+    }
+
+    /// The identifier behind these tuples.
+    pub fn prefixed(&self, front: &[Tuple]) -> Result<Ident, AllocError>
+        requires bounded { All (λ t. IsTrue (is_inner_bounded t)) front.now }
+        ensures prefixed { IfOk result (λ ident. ident ≡ front.now ++ self.now) }
+    {
+        let mut tuples = Vec::from_slice(*self.front.allocator(), front)?;
+        tuples.extend_from_slice(&self.front)?;
+        Ok(Ident {
+            front: tuples,
+            last: self.last,
+        })
+    }
+
+    /// The identifier without its first n tuples.
+    pub fn stripped(&self, n: usize) -> Result<Ident, AllocError>
+        requires rest { n < length self.now }
+        ensures stripped { IfOk result (λ ident. ident ≡ drop n self.now) }
+    {
+        let (_, rest) = self.front.as_slice().split_at(n);
+        Ok(Ident {
+            front: Vec::from_slice(*self.front.allocator(), rest)?,
+            last: self.last,
+        })
+    }
+}
+
+// Whether the second spot is the first but for its offset, which is one less.
+fn is_next(spot: Spot, before: Spot) -> bool
+    requires greatest { before.offset ≤ℤ greatest_offset }
+    ensures next { IsTrue result ↔ (at_spot spot ≡ raised (pos 1) (at_spot before)) }
+{
+    spot.pos == before.pos
+        && spot.replica == before.replica
+        && spot.seq == before.seq
+        && spot.offset == before.offset + 1
+}
+
+fn same_tuples(tuples: &[Tuple], others: &[Tuple]) -> bool
+    ensures same { result ≡ ident_eq tuples.now others.now }
+{
+    if tuples.len() != others.len() {
+        return false;
+    }
+    for i in 0..tuples.len() {
+        match tuples[i].compare(&others[i]) {
+            Ordering::Equal => {}
+            _ => return false,
+        }
+    }
+    true
+}
+
+// The place behind this one in a list that is repeated without end.
+fn next_place(place: usize, len: usize) -> usize
+    requires place { place < len }
+    ensures within { result < len }
+    ensures behind { place + 1 < len → result ≡ place + 1 }
+    ensures again { place + 1 ≡ len → result ≡ 0 }
+{
+    if place + 1 < len { place + 1 } else { 0 }
 }
 
 fn copied(tuples: &Vec<Tuple>) -> Result<Vec<Tuple>, AllocError>

@@ -1,0 +1,13 @@
+use Rattle.std.proofs.Common.{◌≡◌, ◌++◌, drop, length, IsTrue}
+use Rattle.std.specs.List.{All}
+use Rattle.rls_ident.specs.Identifiers.{is_inner_bounded}
+use Rattle.rls_ident.specs.Between.{between}
+use Rattle.rls_ident.proofs.making.inside.Given as goal
+
+-- what is fixed, and what is still to come
+abbrev pub invariant-loop-i : goal.invariant-loop-i
+invariant-loop-i l = record {
+  inner : All (λ t. IsTrue (is_inner_bounded t)) l.front.items;
+  count : length l.front.items ≡ l.i;
+  total : l.front.items ++ between (drop l.i l.lo) (drop l.i l.hi) l.replica l.seq ≡ between l.lo l.hi l.replica l.seq;
+}
