@@ -1,17 +1,12 @@
 -- A deletion's targets are identifiers of characters that were there before, so none names a character that comes later.
 use Rattle.std.proofs.Common.{◌≡◌, ℕ, Bool, true, false, List, [], ◌∷◌, ◌++◌, refl, sym, ap, ◌∙◌, subst, inl, inr, ⊎_elim}
 use Rattle.std.specs.Prelude.{not, if◌then◌else◌, Some, None}
-use Rattle.std.specs.declared.cmp.Ordering.{Ordering}
-use Rattle.std.specs.declared.cmp.Ordering.TheVariants.{Less, Equal, Greater}
 use Rattle.std.specs.List.{list_any}
-use Rattle.std.specs.Ordering.{is_eq}
 use Rattle.rls_ident.specs.declared.tuple.Tuple.{Tuple}
 use Rattle.rls_ident.specs.declared.epoch_name.EpochName.{EpochName}
 use Rattle.rls_ident.specs.declared.epoch_name.EpochName.TheVariants.{Origin}
 use Rattle.rls_ident.specs.Lists.{IsIn}
-use Rattle.rls_ident.specs.Identifiers.{IsIdent, ident_cmp, ident_eq}
-use Rattle.rls_ident.proofs.Lists.{lists_same}
-use Rattle.rls_ident.proofs.Tuples.{tuples}
+use Rattle.rls_ident.specs.Identifiers.{IsIdent, ident_eq}
 use Rattle.rls_ident.proofs.Members.{or_split, in_left, in_right, snoc_split, in_filter, in_any}
 use Rattle.rls_rename.specs.Tree.{Node, is_kept, AreNodes, AreBelow}
 use Rattle.rls_rename.specs.Tree as tree
@@ -20,6 +15,7 @@ use Rattle.rls_rename.proofs.Growth.{kept_other, translate_other}
 use Rattle.rls_ops.specs.declared.op.Op.{Op}
 use Rattle.rls_ops.specs.declared.op.Body.{Body}
 use Rattle.rls_ops.specs.declared.op.Body.TheVariants.{Insert, Delete, Rename, Leave}
+use Rattle.rls_ops.proofs.Equal.{ident_is}
 use Rattle.rls_model.specs.Answers.{UnknownTarget}
 use Rattle.rls_model.specs.History.{Entry, Accepted, Acknowledged, History, Then, ops}
 use Rattle.rls_model.specs.History as history
@@ -31,14 +27,6 @@ use Rattle.rls_model.specs.Legal.{IsLegal}
 use Rattle.rls_model.proofs.OneTree.{nodes, parents, epoch_kept, fits_body, history_translate}
 use Rattle.rls_model.proofs.Distinct.{all_append, known, one}
 use Rattle.rls_model.proofs.SameOps.{Once, once, op_kept, live_char}
-
-pub ident_is : (x y : List Tuple) → ident_eq x y ≡ true → x ≡ y
-ident_is x y h = go (ident_cmp x y) refl h
-  where
-    go : (o : Ordering) → ident_cmp x y ≡ o → is_eq o ≡ true → x ≡ y
-    go Less e k = absurd (cc)
-    go Equal e k = lists_same tuples x y e
-    go Greater e k = absurd (cc)
 
 -- ---- one more entry
 

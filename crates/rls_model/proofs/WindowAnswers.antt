@@ -35,7 +35,8 @@ use Rattle.rls_model.proofs.Stable.{stable_row}
 use Rattle.rls_model.proofs.OneTree.{nodes, parents, history_translate}
 use Rattle.rls_model.proofs.Distinct.{known}
 use Rattle.rls_model.proofs.SameOps.{entry_of, live_char, top_kept, in_export, export_in}
-use Rattle.rls_model.proofs.Named.{ident_is, grown_kept}
+use Rattle.rls_ops.proofs.Equal.{ident_is}
+use Rattle.rls_model.proofs.Named.{grown_kept}
 use Rattle.rls_model.proofs.TextSteps.{map_same}
 use Rattle.rls_model.proofs.Dropping.{Keeps, IsOpened, grown_cmp, kept_cases, greatest_retained, unstable_retained}
 use Rattle.rls_model.proofs.Later.{uncovered, uncovered_again}

@@ -1,21 +1,13 @@
 -- In a good world an operation that stands in its author's history is not refused.
 use Rattle.std.proofs.Common.{◌≡◌, ℕ, ◌≤◌, ◌<◌, Bool, true, false, List, [], ◌∷◌, refl, sym, ap, ◌∙◌, subst, arith, nat_le}
 use Rattle.std.specs.Prelude.{if◌then◌else◌, not, ◌&&◌, ◌==◌, slice_index, Option, Some, None}
-use Rattle.std.specs.Ordering.{is_eq}
-use Rattle.std.proofs.lemmas.Cmp.{nat_cmp_total, lists_total, tied_itself}
-use Rattle.rls_ident.specs.declared.tuple.Tuple.{Tuple}
-use Rattle.rls_ident.specs.EpochNames.{name_eq}
-use Rattle.rls_ident.specs.Identifiers.{ident_eq}
 use Rattle.rls_ident.specs.Lists.{IsIn}
 use Rattle.rls_ident.specs.Vectors.{at_most}
-use Rattle.rls_ident.proofs.Tuples.{tuple_total}
-use Rattle.rls_ident.proofs.Members.{and_true, bool_cases, eq_test, found_in, in_left, neq_test, not_le_is}
-use Rattle.rls_rename.proofs.Paths.{name_eq_refl}
+use Rattle.rls_ident.proofs.Members.{bool_cases, found_in, in_left, neq_test, not_le_is}
 use Rattle.rls_ops.specs.declared.op.Op.{Op}
-use Rattle.rls_ops.specs.declared.op.Body.{Body}
-use Rattle.rls_ops.specs.declared.op.Body.TheVariants.{Insert, Delete, Rename, Leave}
 use Rattle.rls_ops.specs.Shapes.{shape_fault}
-use Rattle.rls_ops.specs.Same.{numbers_eq, idents_eq, body_eq, op_eq}
+use Rattle.rls_ops.specs.Same.{op_eq}
+use Rattle.rls_ops.proofs.Equal.{op_same}
 use Rattle.rls_model.specs.Answers.{Answer, Applies, Repeats, Waits, Refuses, Own, Forked}
 use Rattle.rls_model.specs.History.{Accepted, History, Then, ops, count, count_of, me_of, members_of, acknowledged, row}
 use Rattle.rls_model.specs.Fitting.{refusal}
@@ -109,30 +101,6 @@ may_accept w i s o g h k other above causes = record { shape = (home_shape w i s
       row = row_below;
       living = (living_front (Then P (Accepted o)) t.history front its.living).1 (sym its.me ∙ sym (front_me (Then P (Accepted o)) t.history front));
     }
-
--- ---- equal operations
-
-numbers_same : (v : List ℕ) → numbers_eq v v ≡ true
-numbers_same v = ap is_eq (tied_itself (lists_total nat_cmp_total) v)
-
-ident_same : (x : List Tuple) → ident_eq x x ≡ true
-ident_same x = ap is_eq (tied_itself (lists_total tuple_total) x)
-
-idents_same : (xs : List (List Tuple)) → idents_eq xs xs ≡ true
-idents_same xs = ap is_eq (tied_itself (lists_total (lists_total tuple_total)) xs)
-
-body_same : (b : Body) → body_eq b b ≡ true
-body_same (Insert x text) = and_true (ident_eq x x) (numbers_eq text text) (ident_same x) (numbers_same text)
-body_same (Delete xs) = idents_same xs
-body_same (Rename xs) = idents_same xs
-body_same Leave = refl
-
-op_same : (o : Op) → op_eq o o ≡ true
-op_same o =
-    let a = and_true (o.author == o.author) (o.seq == o.seq) (eq_test o.author o.author refl) (eq_test o.seq o.seq refl) in
-    let b = and_true ((o.author == o.author) && (o.seq == o.seq)) (numbers_eq o.context o.context) a (numbers_same o.context) in
-    let c = and_true ((o.author == o.author) && (o.seq == o.seq) && numbers_eq o.context o.context) (name_eq o.epoch o.epoch) b (name_eq_refl o.epoch) in
-    and_true ((o.author == o.author) && (o.seq == o.seq) && numbers_eq o.context o.context && name_eq o.epoch o.epoch) (body_eq o.body o.body) c (body_same o.body)
 
 -- ---- the answer
 

@@ -44,7 +44,7 @@ use Rattle.rls_model.proofs.Made.{own_epoch}
 use Rattle.rls_model.proofs.WorldsLists.{index_le}
 use Rattle.rls_model.proofs.WorldsNumbers.{number_counted, with_number, ops_from, same_from, fits_left, own_context, leave_of, left_by}
 use Rattle.rls_model.proofs.WorldsEpochs.{in_names, greatest_part}
-use Rattle.rls_model.proofs.Named.{ident_is}
+use Rattle.rls_ops.proofs.Equal.{ident_is}
 
 -- the operation's targets are identifiers of characters that live in P
 abbrev pub AreLiving : History → Op → Type 0

@@ -30,11 +30,13 @@ use Rattle.rls_model.specs.WellFormed.{IsLarge, IsText, IsEdit}
 use Rattle.rls_model.specs.Legal.{IsLegal, IsSound}
 use Rattle.rls_model.specs.Retained.{needed_over, retained}
 use Rattle.rls_model.specs.Editing.{next_seq, made, edit_fault}
-use Rattle.rls_model.specs.Taking.{Limit, take_within}
-use Rattle.rls_model.specs.EditRun.{edit_within}
+use Rattle.rls_model.specs.Taking.{Limit, Progress, take_within}
+use Rattle.rls_model.specs.EditRun.{edit_within, Done, run_edits}
 use Rattle.rls_model.specs.Worlds.{World, empty_world, Happening, run, AreEvents, AreWhole}
 -- what a renaming means and keeps, what translation keeps, the smallest connected part, and windows
 pub use Rattle.rls_rename.specs.Laws.{Meaning, OrderKept, Inverse, LastKept, PathFree, Spanned, WindowSame}
+-- the test of operations
+pub use Rattle.rls_ops.specs.Same.{TestsEqual}
 
 -- ---- one history
 
@@ -207,3 +209,12 @@ WaitingMade w = (i : ℕ) (s : State) (o : Op) → IsAt w i s → IsIn o s.waiti
 -- in a world nothing is refused
 abbrev pub NoRefusal : Type 0
 NoRefusal = (w : World) (hs : List Happening) → IsAfter w hs → NoneTakenRefused w × NoneReleasedRefused w × WaitingMade w × (AreWhole hs → NoneReleased w)
+
+-- each edit is well formed
+abbrev pub AreEdits : List Edit → Type 0
+AreEdits [] = Unit {0}
+AreEdits (e ∷ es) = IsEdit e × AreEdits es
+
+-- edits of one member, of which none is refused, release nothing that is refused
+abbrev pub EditsClean : Type 0
+EditsClean = (w : World) (hs : List Happening) (i : ℕ) (s : State) (p : Progress) (edits : List Edit) → IsAfter w hs → IsAt w i s → AreEdits edits → run_edits s edits ≡ Done p → p.refused ≡ []

@@ -1,5 +1,5 @@
 -- Messages, and what comes of taking one, step by step.
-use Rattle.std.specs.Prelude.{ℕ, zero, suc, ◌+◌, ◌-◌, Bool, true, List, [], ◌∷◌, ◌++◌, length, nat_lt, nat_le, Option, Some, None, if◌then◌else◌}
+use Rattle.std.specs.Prelude.{◌≡◌, ℕ, zero, suc, ◌+◌, ◌-◌, Bool, true, List, [], ◌∷◌, ◌++◌, length, nat_lt, nat_le, Option, Some, None, if◌then◌else◌}
 use Rattle.rls_ops.specs.declared.op.Op.{Op}
 use Rattle.rls_ops.specs.declared.message.Message.{Message}
 use Rattle.rls_ops.specs.Sizes.{op_size, head_size}
@@ -117,6 +117,10 @@ take_within limit s m = acknowledge_step (take_ops (started limit s) m.ops) m.fr
 -- the message is taken
 abbrev pub take_message : State → Message → Progress
 take_message s m = take_within None s m
+
+-- the state is one behind some number of the steps of taking the message, as want of memory leaves it
+abbrev pub IsPartTaken : State → Message → State → Type 0
+IsPartTaken s m t = (n : ℕ) × ((take_within (Some n) s m).state ≡ t)
 
 -- what is answered then
 abbrev pub taken : Progress → Taken

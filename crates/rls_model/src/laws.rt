@@ -1,8 +1,8 @@
 //! Laws: facts over the definitions, for all values. Each call runs nothing and takes no memory; its contract states the fact.
 
-ghost use Rattle.rls_model.specs.Laws.{Meaning, OrderKept, Inverse, LastKept, PathFree, Spanned, WindowSame};
+ghost use Rattle.rls_model.specs.Laws.{Meaning, OrderKept, Inverse, LastKept, PathFree, Spanned, WindowSame, TestsEqual};
 ghost use Rattle.rls_model.specs.Laws.{OneTree, NoneUsed, AllUsed, OwnStems, Distinct, Stable, MadeFits, RenamedRun, InsertionLands};
-ghost use Rattle.rls_model.specs.Laws.{KeptOn, ToldByWindow, Dropped, SameOperations, WorldsLegal, EqualVectors, NoRefusal};
+ghost use Rattle.rls_model.specs.Laws.{KeptOn, ToldByWindow, Dropped, SameOperations, WorldsLegal, EqualVectors, NoRefusal, EditsClean};
 
 /// A renaming takes a former identifier to the new one at its place, and what the old map of a gap gives to what its new map gives
 /// (this project, after `renameId` of RenamableLogootSplit).
@@ -40,6 +40,11 @@ pub fn spanned()
 /// whole gives.
 pub fn window_same()
     ensures window_same { WindowSame }
+{}
+
+/// The test of two operations, field by field, says that they are equal.
+pub fn tests_equal()
+    ensures tests_equal { TestsEqual }
 {}
 
 /// The epochs of a legal history form one tree.
@@ -114,4 +119,9 @@ pub fn equal_vectors()
 /// In a world nothing is refused, and each waiting operation was made by its author.
 pub fn no_refusal()
     ensures no_refusal { NoRefusal }
+{}
+
+/// In a world edits of one member, of which none is refused, release nothing that is refused.
+pub fn edits_clean()
+    ensures edits_clean { EditsClean }
 {}

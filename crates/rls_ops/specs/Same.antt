@@ -1,5 +1,5 @@
 -- Equal operations, by a test of each field.
-use Rattle.std.specs.Prelude.{ℕ, Bool, true, false, ◌&&◌, List, ◌==◌}
+use Rattle.std.specs.Prelude.{◌≡◌, ◌↔◌, ℕ, Bool, true, false, ◌&&◌, List, ◌==◌, IsTrue}
 use Rattle.std.specs.Ordering.{is_eq, nat_cmp}
 use Rattle.std.specs.Cmp.Lexicographic.{slice_cmp}
 use Rattle.rls_ident.specs.declared.tuple.Tuple.{Tuple}
@@ -28,3 +28,7 @@ body_eq _ _ = false
 -- equal in every field
 abbrev pub op_eq : Op → Op → Bool
 op_eq o p = (o.author == p.author) && (o.seq == p.seq) && numbers_eq o.context p.context && name_eq o.epoch p.epoch && body_eq o.body p.body
+
+-- the test says that two operations are equal
+abbrev pub TestsEqual : Type 0
+TestsEqual = (o p : Op) → IsTrue (op_eq o p) ↔ (o ≡ p)

@@ -1,34 +1,17 @@
 -- Translation along a tree goes by way of the topmost epoch, so it does not depend on the way.
-use Rattle.std.proofs.Common.{◌≡◌, Bool, true, false, List, [], ◌∷◌, ◌++◌, refl, sym, ap, ◌∙◌, subst, inl, inr, nat_eq}
+use Rattle.std.proofs.Common.{◌≡◌, Bool, true, false, List, [], ◌∷◌, ◌++◌, refl, sym, ap, ◌∙◌, subst, inl, inr}
 use Rattle.std.specs.Prelude.{if◌then◌else◌, ◌⊎◌}
-use Rattle.std.proofs.lemmas.Bool.{and_parts, and_from, eqb-true, eq-eqb}
 use Rattle.rls_ident.specs.declared.tuple.Tuple.{Tuple}
 use Rattle.rls_ident.specs.declared.epoch_name.EpochName.{EpochName}
-use Rattle.rls_ident.specs.declared.epoch_name.EpochName.TheVariants.{Origin, Of}
 use Rattle.rls_ident.specs.EpochNames.{name_eq}
 use Rattle.rls_ident.specs.Identifiers.{IsIdent, ident_cmp}
 use Rattle.rls_ident.proofs.Iso.{Iso, inverse, compose, kept}
 use Rattle.rls_ident.proofs.Tuples.{tuples}
 use Rattle.rls_ident.proofs.Members.{or_left, or_right}
+pub use Rattle.rls_ident.proofs.Named.{name_eq_is, name_eq_refl}
 use Rattle.rls_rename.specs.Renaming.{Renaming, IsFormer, new_spot, forward, back}
 use Rattle.rls_rename.specs.Tree.{Node, name_of, same_name, is_of, has_node, AreNodes, path, forward_all, back_all, along, translate}
 use Rattle.rls_rename.proofs.Increasing.{forward_iso}
-
--- ---- names
-
-pub name_eq_is : (e f : EpochName) → name_eq e f ≡ true → e ≡ f
-name_eq_is Origin Origin h = refl
-name_eq_is Origin (Of r s) h = cc
-name_eq_is (Of r s) Origin h = cc
-name_eq_is (Of r s) (Of q t) h =
-    let a = and_parts (nat_eq r q) (nat_eq s t) h in
-    let e = eqb-true r q a.0 in
-    let f = eqb-true s t a.1 in
-    cc
-
-pub name_eq_refl : (e : EpochName) → name_eq e e ≡ true
-name_eq_refl Origin = refl
-name_eq_refl (Of r s) = and_from (nat_eq r r) (nat_eq s s) (eq-eqb r r refl) (eq-eqb s s refl)
 
 -- ---- the renamings of one tree
 
