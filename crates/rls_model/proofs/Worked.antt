@@ -11,22 +11,25 @@ use Rattle.rls_ops.specs.declared.op.Body.TheVariants as body
 use Rattle.rls_ops.specs.declared.message.Message.{Message}
 use Rattle.rls_model.specs.declared.edit.Edit.{Edit}
 use Rattle.rls_model.specs.declared.edit.Edit.TheVariants.{Insert, Delete, Rename, Leave}
+use Rattle.rls_model.specs.declared.edit.EditError.{EditError}
 use Rattle.rls_model.specs.declared.edit.EditError.TheVariants as edit_errors
 use Rattle.rls_model.specs.declared.event.StepError.TheVariants as step_errors
 use Rattle.rls_model.specs.declared.event.Event.TheVariants as events
+use Rattle.rls_model.specs.declared.event.Outcome.{Outcome}
 use Rattle.rls_model.specs.declared.event.Outcome.TheVariants as outcomes
 use Rattle.rls_model.specs.declared.counts.Counts.{Counts}
+use Rattle.rls_model.specs.declared.receipt.Taken.{Taken}
 use Rattle.rls_model.specs.History.{History, Fresh, Then, Accepted, Acknowledged, count}
-use Rattle.rls_model.specs.Stems.{stems}
+use Rattle.rls_model.specs.Stems.{stem_of, stems}
 use Rattle.rls_model.specs.Epochs.{greatest, translate}
 use Rattle.rls_model.specs.Document.{text, idents}
-use Rattle.rls_model.specs.Answers.{Forked, UnknownTarget, Backward, WrongStem, WrongEpoch, Left, Applies, Refuses}
+use Rattle.rls_model.specs.Answers.{Reason, Forked, UnknownTarget, Backward, WrongStem, WrongEpoch, Left, Applies, Refuses}
 use Rattle.rls_model.specs.Receiving.{State, receive}
 use Rattle.rls_model.specs.Editing.{made, edit_fault}
 use Rattle.rls_model.specs.Retained.{counts}
 use Rattle.rls_model.specs.Parts.{parts}
-use Rattle.rls_model.specs.Taking.{take_message, take_within}
-use Rattle.rls_model.specs.EditRun.{Stopped, run_edits}
+use Rattle.rls_model.specs.Taking.{take_message, take_within, taken}
+use Rattle.rls_model.specs.EditRun.{Run, Done, Stopped, run_edits}
 use Rattle.rls_model.specs.Worlds.{World, Happening, whole, run, empty_world, fault_of, outcome_of}
 use Rattle.rls_model.specs.Computing.{computing}
 
@@ -55,6 +58,27 @@ hello_text = refl
 hello_runs : runs hello ≡ (At mid 0 1 (pos 0) ∷ [], 5) ∷ []
 unfolding computing
 hello_runs = refl
+
+hello_greatest : greatest hello ≡ Origin
+unfolding computing
+hello_greatest = refl
+
+hello_count : count hello ≡ 1 ∷ 0 ∷ []
+unfolding computing
+hello_count = refl
+
+hello_counts : counts (record { history = hello; waiting = [] }) ≡ record { total = 5; runs = 1; held = 0; unstable = 1; epochs = 1; former = 0 }
+unfolding computing
+hello_counts = refl
+
+-- what a list of edits counts where none is refused
+abbrev counted : Run EditError → Option Taken
+counted (Done p) = Some (taken p)
+counted (Stopped line fault) = None
+
+hello_done : counted (run_edits (record { history = fresh; waiting = [] }) (Insert 0 (codes "hello") ∷ [])) ≡ Some (record { applied = 0; released = 0; repeated = 0; held = 0; refused = [] })
+unfolding computing
+hello_done = refl
 
 -- at the end the run goes on
 appended : runs (edit hello (Insert 5 (codes "!"))) ≡ (At mid 0 1 (pos 0) ∷ [], 6) ∷ []
@@ -87,6 +111,22 @@ deleted_text : text (edit hello (Delete 1 3)) ≡ codes "ho"
 unfolding computing
 deleted_text = refl
 
+deleted_runs : runs (edit hello (Delete 1 3)) ≡ (At mid 0 1 (pos 0) ∷ [], 1) ∷ (At mid 0 1 (pos 4) ∷ [], 1) ∷ []
+unfolding computing
+deleted_runs = refl
+
+emptied_text : text (edit (edit hello (Delete 1 3)) (Delete 0 2)) ≡ []
+unfolding computing
+emptied_text = refl
+
+emptied_runs : runs (edit (edit hello (Delete 1 3)) (Delete 0 2)) ≡ []
+unfolding computing
+emptied_runs = refl
+
+empty_edit : edit_fault hello (Delete 9 0) ≡ Some edit_errors.EmptyEdit
+unfolding computing
+empty_edit = refl
+
 no_text : edit_fault (edit (edit hello (Delete 1 3)) (Delete 0 2)) Rename ≡ Some edit_errors.EmptyDocument
 unfolding computing
 no_text = refl
@@ -106,6 +146,10 @@ end_replaced_runs = refl
 front_replaced : runs (edit (edit (edit hello (Insert 0 (codes "A"))) (Delete 0 1)) (Insert 0 (codes "B"))) ≡ (At 1073741823 0 4 (pos 0) ∷ [], 1) ∷ (At mid 0 1 (pos 0) ∷ [], 5) ∷ []
 unfolding computing
 front_replaced = refl
+
+front_replaced_stem : stem_of (stems (edit (edit hello (Insert 0 (codes "A"))) (Delete 0 1))) 0 1 ≡ Some (record { author = 0; s0 = 1; low = negsuc 0; next = 5 })
+unfolding computing
+front_replaced_stem = refl
 
 -- a rename makes one run, which goes on at both ends
 abbrev renamed : History
@@ -161,6 +205,10 @@ unknown_target : receive at_fresh (by_1 Origin (body.Delete ((At 5 1 1 (pos 0) �
 unfolding computing
 unknown_target = refl
 
+unknown_target_taken : taken (take_message at_fresh (record { group = 7; members = 2; from = 1; vector = 0 ∷ 0 ∷ []; ops = by_1 Origin (body.Delete ((At 5 1 1 (pos 0) ∷ []) ∷ [])) ∷ [] })) ≡ record { applied = 0; released = 0; repeated = 0; held = 0; refused = (1, 1, UnknownTarget (At 5 1 1 (pos 0) ∷ [])) ∷ [] }
+unfolding computing
+unknown_target_taken = refl
+
 wrong_stem : receive at_fresh (by_1 Origin (body.Insert (At 9 1 1 (pos 3) ∷ []) (codes "a"))) ≡ Refuses (WrongStem (Some 0))
 unfolding computing
 wrong_stem = refl
@@ -209,17 +257,21 @@ at_member_1 = record { history = Fresh 7 1 2; waiting = [] }
 abbrev waits : State
 waits = (take_message at_member_1 (message_of second_op)).state
 
-second_held : (take_message at_member_1 (message_of second_op)).held ≡ 1
+second_held : taken (take_message at_member_1 (message_of second_op)) ≡ record { applied = 0; released = 0; repeated = 0; held = 1; refused = [] }
 unfolding computing
 second_held = refl
 
-second_released : (take_message waits (message_of first_op)).released ≡ 1
+second_released : taken (take_message waits (message_of first_op)) ≡ record { applied = 1; released = 1; repeated = 0; held = 0; refused = [] }
 unfolding computing
 second_released = refl
 
 both_there : text (take_message waits (message_of first_op)).state.history ≡ codes "hello!"
 unfolding computing
 both_there = refl
+
+again_repeated : taken (take_message (take_message waits (message_of first_op)).state (message_of first_op)) ≡ record { applied = 0; released = 0; repeated = 1; held = 0; refused = [] }
+unfolding computing
+again_repeated = refl
 
 -- cut short behind one step, the second still waits
 cut_short : text (take_within (Some 1) waits (message_of first_op)).state.history ≡ codes "hello"
@@ -240,6 +292,9 @@ sends from to = whole (events.Send from to)
 
 abbrev comes : ℕ → ℕ → Happening
 comes k to = whole (events.Deliver k to)
+
+abbrev drops : ℕ → Happening
+drops i = whole (events.Drop i)
 
 abbrev of_two : List Happening → World
 of_two hs = run (empty_world 7 2) hs
@@ -283,6 +338,34 @@ rename_and_insert_runs_1 : runs_at rename_and_insert 1 ≡ runs_at rename_and_in
 unfolding computing
 rename_and_insert_runs_1 = refl
 
+rename_and_insert_greatest : greatest_at rename_and_insert 0 ≡ Some (Of 0 2)
+unfolding computing
+rename_and_insert_greatest = refl
+
+rename_and_insert_greatest_1 : greatest_at rename_and_insert 1 ≡ Some (Of 0 2)
+unfolding computing
+rename_and_insert_greatest_1 = refl
+
+-- each message delivered twice, and what is stable dropped between
+abbrev delivered_twice : World
+delivered_twice = of_two (shared ++ edits 0 Rename ∷ edits 1 (Insert 2 (codes "x")) ∷ sends 0 1 ∷ sends 1 0 ∷ comes 1 1 ∷ drops 1 ∷ comes 1 1 ∷ comes 2 0 ∷ drops 0 ∷ comes 2 0 ∷ [])
+
+delivered_twice_runs : runs_at delivered_twice 0 ≡ runs_at rename_and_insert 0
+unfolding computing
+delivered_twice_runs = refl
+
+delivered_twice_runs_1 : runs_at delivered_twice 1 ≡ runs_at rename_and_insert 0
+unfolding computing
+delivered_twice_runs_1 = refl
+
+delivered_twice_text : text_at delivered_twice 0 ≡ Some (codes "hexllo")
+unfolding computing
+delivered_twice_text = refl
+
+delivered_twice_text_1 : text_at delivered_twice 1 ≡ Some (codes "hexllo")
+unfolding computing
+delivered_twice_text_1 = refl
+
 -- two renames at once, and an insertion behind each
 abbrev two_renames : World
 two_renames = of_two (shared ++ edits 0 Rename ∷ edits 1 Rename ∷ edits 0 (Insert 2 (codes "A")) ∷ edits 1 (Insert 2 (codes "B")) ∷ sends 0 1 ∷ sends 1 0 ∷ comes 1 1 ∷ comes 2 0 ∷ [])
@@ -307,6 +390,26 @@ two_renames_greatest : greatest_at two_renames 0 ≡ Some (Of 1 1)
 unfolding computing
 two_renames_greatest = refl
 
+two_renames_greatest_1 : greatest_at two_renames 1 ≡ Some (Of 1 1)
+unfolding computing
+two_renames_greatest_1 = refl
+
+-- taken in the other order
+abbrev two_renames_turned : World
+two_renames_turned = of_two (shared ++ edits 1 Rename ∷ edits 0 Rename ∷ edits 1 (Insert 2 (codes "B")) ∷ edits 0 (Insert 2 (codes "A")) ∷ sends 1 0 ∷ sends 0 1 ∷ comes 1 0 ∷ comes 2 1 ∷ [])
+
+two_renames_turned_runs : runs_at two_renames_turned 0 ≡ runs_at two_renames 0
+unfolding computing
+two_renames_turned_runs = refl
+
+two_renames_turned_runs_1 : runs_at two_renames_turned 1 ≡ runs_at two_renames 0
+unfolding computing
+two_renames_turned_runs_1 = refl
+
+two_renames_turned_text : text_at two_renames_turned 0 ≡ Some (codes "heABllo")
+unfolding computing
+two_renames_turned_text = refl
+
 -- A's identifier at the origin
 two_renames_origin : option_map (λ s. translate s.history (Of 0 2) Origin (At mid 0 2 (pos 1) ∷ At mid 0 3 (pos 0) ∷ [])) (slice_get two_renames.states 0) ≡ Some (At mid 0 1 (pos 1) ∷ High ∷ At mid 0 3 (pos 0) ∷ [])
 unfolding computing
@@ -328,6 +431,10 @@ both_delete_outcome : outcome_of (of_two both_delete) (events.Deliver 2 0) ≡ o
 unfolding computing
 both_delete_outcome = refl
 
+both_delete_outcome_1 : outcome_of (of_two (shared ++ edits 0 (Delete 0 1) ∷ edits 1 (Delete 0 1) ∷ sends 0 1 ∷ sends 1 0 ∷ [])) (events.Deliver 1 1) ≡ outcomes.Took (record { applied = 1; released = 0; repeated = 1; held = 0; refused = [] })
+unfolding computing
+both_delete_outcome_1 = refl
+
 -- faults
 no_message : fault_of (of_two shared) (events.Deliver 9 0) ≡ Some (step_errors.NoMessage 9)
 unfolding computing
@@ -336,6 +443,39 @@ no_message = refl
 no_member : fault_of (of_two shared) (events.Edit 2 Rename) ≡ Some (step_errors.NoMember 2)
 unfolding computing
 no_member = refl
+
+-- three members rename and insert at once, and take all messages twice, the last one first
+abbrev all_at_once : List Happening
+all_at_once = edits 0 (Insert 0 (codes "hello")) ∷ sends 0 1 ∷ sends 0 2 ∷ comes 0 1 ∷ comes 1 2
+    ∷ edits 0 Rename ∷ edits 1 Rename ∷ edits 2 Rename ∷ edits 0 (Insert 2 (codes "A")) ∷ edits 1 (Insert 2 (codes "B")) ∷ edits 2 (Insert 2 (codes "C"))
+    ∷ sends 0 1 ∷ sends 0 2 ∷ sends 1 0 ∷ sends 1 2 ∷ sends 2 0 ∷ sends 2 1 ∷ []
+
+abbrev refused_at : Outcome → List (ℕ × ℕ × Reason)
+refused_at (outcomes.Took t) = t.refused
+refused_at _ = []
+
+-- what member i refuses of these messages, one after another
+abbrev refused_by : ℕ → World → List ℕ → List (ℕ × ℕ × Reason)
+refused_by i w [] = []
+refused_by i w (k ∷ ks) = refused_at (outcome_of w (events.Deliver k i)) ++ refused_by i (run w (comes k i ∷ [])) ks
+
+abbrev after_all : World
+after_all = run (empty_world 7 3) all_at_once
+
+abbrev reversed : List ℕ
+reversed = 7 ∷ 6 ∷ 5 ∷ 4 ∷ 3 ∷ 2 ∷ 7 ∷ 6 ∷ 5 ∷ 4 ∷ 3 ∷ 2 ∷ []
+
+none_refused_0 : refused_by 0 after_all reversed ≡ []
+unfolding computing
+none_refused_0 = refl
+
+none_refused_1 : refused_by 1 after_all reversed ≡ []
+unfolding computing
+none_refused_1 = refl
+
+none_refused_2 : refused_by 2 after_all reversed ≡ []
+unfolding computing
+none_refused_2 = refl
 
 -- the former identifiers stay until all members have answered
 abbrev of_three : List Happening → World
