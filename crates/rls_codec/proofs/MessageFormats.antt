@@ -162,11 +162,11 @@ op members = fitting (IsSpelled members) (limited op_limit (op_fields members))
 
 -- ---- messages
 
-magic_is : (magic found : List ℕ) → bytes_eq found magic ≡ true → found ≡ magic
+pub magic_is : (magic found : List ℕ) → bytes_eq found magic ≡ true → found ≡ magic
 magic_is magic found e = (bytes_eq-Decides found magic).0 e
 
 -- these bytes, whatever value they stand in
-abbrev HasMagic : List ℕ → List ℕ → Type 0
+abbrev pub HasMagic : List ℕ → List ℕ → Type 0
 HasMagic magic found = (length found ≡ length magic) × (bytes_eq found magic ≡ true)
 
 pub magic : (bytes : List ℕ) → Spells (magic_at bytes) (λ found. found) (HasMagic bytes)
@@ -212,7 +212,7 @@ op_alone members o p rest f g e = only_one (op members) o p rest f g e
 abbrev pub IsMessage : List ℕ → Message → Type 0
 IsMessage bytes m = (form : ℕ) × IsTrue (is_message_form form) × IsSpelledMessage m × (bytes ≡ message_in_form form m)
 
-whole_ok : {A : Type 0} (bytes : List ℕ) (x : A) (r : Result (A × List ℕ) ℕ) → whole bytes r ≡ Ok x → r ≡ Ok (x, [])
+pub whole_ok : {A : Type 0} (bytes : List ℕ) (x : A) (r : Result (A × List ℕ) ℕ) → whole bytes r ≡ Ok x → r ≡ Ok (x, [])
 whole_ok bytes x (Ok (y, [])) e = cc
 whole_ok bytes x (Ok (y, b ∷ rest)) e = absurd cc
 whole_ok bytes x (Err left) e = absurd cc

@@ -148,7 +148,7 @@ abbrev pub rest_bytes : ℕ → ℕ → Parts → List ℕ
 rest_bytes form members p = concat (vector_bytes p.vector ∷ flat_map vector_bytes p.rows ∷ cond (form == 4) (counted four_bytes p.left) []
     ∷ stems_bytes form 0 members p.stems ∷ four_bytes (length p.epochs) ∷ flat_map epoch_bytes p.epochs ∷ counted text_run_bytes p.text ∷ counted op_bytes p.log ∷ counted op_bytes p.held ∷ [])
 
-abbrev Head : ℕ → ℕ → ℕ → Parts → Type 0
+abbrev pub Head : ℕ → ℕ → ℕ → Parts → Type 0
 Head group members me p = (p.group ≡ group) × (p.members ≡ members) × (p.me ≡ me)
 
 pub snapshot : (form group members me : ℕ) → Spells (snapshot_at form group members me) (rest_bytes form members) (λ p. Head group members me p × IsSpelledParts form members p)
