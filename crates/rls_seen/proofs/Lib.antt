@@ -1,2 +1,4 @@
 pub mod Alike
 pub mod Accepting
+pub mod Receiving
+pub mod Releasing
