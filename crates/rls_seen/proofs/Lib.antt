@@ -2,3 +2,5 @@ pub mod Alike
 pub mod Accepting
 pub mod Receiving
 pub mod Releasing
+pub mod Noting
+pub mod Editing
