@@ -4,3 +4,6 @@ pub mod Receiving
 pub mod Releasing
 pub mod Noting
 pub mod Editing
+pub mod Counting
+pub mod Taking
+pub mod Sending

@@ -1,0 +1,58 @@
+-- The count of members stays.
+use Rattle.std.proofs.Common.{◌≡◌, ℕ, zero, suc, Bool, true, false, cond, List, [], ◌∷◌, length, refl, sym, ap, ◌∙◌, Option, Some, None}
+use Rattle.rls_ident.specs.Vectors.{raise}
+use Rattle.rls_ops.specs.declared.op.Op.{Op}
+use Rattle.rls_ops.specs.Rows.{AcksSeen, noted}
+use Rattle.rls_ops.specs.Rows as rows
+use Rattle.rls_model.specs.Answers.{Reason, Answer, Applies, Repeats, Waits, Refuses}
+use Rattle.rls_seen.specs.Seen.{Seen, members}
+use Rattle.rls_seen.specs.Over.{accepted, holding, after_answer, answer_over, received, replayed, refusal_over, first_ready, after_refusal, after_release, released, released_times, released_all, acknowledged}
+use Rattle.rls_seen.proofs.Accepting.{acks_mine, length-raise}
+
+pub members_accepted : (s : Seen) (o : Op) → members (accepted s o) ≡ members s
+unfolding accepted
+members_accepted s o = ap length (acks_mine s.acks o.author o.body) ∙ length-raise s.acks.mine o.author
+
+members_answer : (a : Answer) (s : Seen) (o : Op) → members (after_answer a s o) ≡ members s
+unfolding holding
+members_answer Applies s o = members_accepted s o
+members_answer Waits s o = refl
+members_answer Repeats s o = refl
+members_answer (Refuses r) s o = refl
+
+pub members_received : (s : Seen) (o : Op) → members (received s o) ≡ members s
+unfolding received
+members_received s o = members_answer (answer_over false s o) s o
+
+pub members_replayed : (s : Seen) (o : Op) → members (replayed s o) ≡ members s
+unfolding replayed
+members_replayed s o = members_answer (answer_over true s o) s o
+
+members_refusal : (r : Option Reason) (s : Seen) (w : Op) → members (after_refusal r s w) ≡ members s
+unfolding holding
+members_refusal None s w = members_accepted s w
+members_refusal (Some r) s w = refl
+
+pub members_released : (s : Seen) → members (released s) ≡ members s
+unfolding released
+members_released s = go (first_ready s)
+  where
+    go : (o : Option Op) → members (after_release s o) ≡ members s
+    go None = refl
+    go (Some w) = members_refusal (refusal_over s w) s w
+
+members_times : (n : ℕ) (s : Seen) → members (released_times n s) ≡ members s
+members_times zero s = refl
+members_times (suc n) s = members_times n (released s) ∙ members_released s
+
+pub members_released_all : (s : Seen) → members (released_all s) ≡ members s
+unfolding released_all
+members_released_all s = members_times (length s.waiting) s
+
+pub members_acknowledged : (s : Seen) (a : ℕ) (v : List ℕ) → members (acknowledged s a v) ≡ members s
+unfolding acknowledged
+members_acknowledged s a v = go (rows.counts s.acks a v)
+  where
+    go : (b : Bool) → length (cond b (noted s.acks a v) s.acks).mine ≡ length s.acks.mine
+    go true = refl
+    go false = refl

@@ -1,0 +1,106 @@
+-- The message for a member, seen by a history that the replica stands for.
+use Rattle.std.proofs.Common.{◌≡◌, ℕ, zero, suc, ◌<◌, ◌≤◌, ◌==◌, ◌||◌, ◌++◌, get_or, not, nat_le, slice_index, Bool, true, false, cond, List, [], ◌∷◌, length, max, min, refl, sym, ap, ◌∙◌, subst, arith, if◌then◌else◌}
+use Rattle.std.specs.Prelude.{filter}
+use Rattle.std.proofs.lemmas.Bool.Decides.{nat_tests}
+use Rattle.rls_ident.specs.Vectors.{join, meet}
+use Rattle.rls_ops.specs.declared.op.Op.{Op}
+use Rattle.rls_ops.specs.declared.message.Message.{Message}
+use Rattle.rls_ops.specs.Rows.{AcksSeen, AreRows, HaveLength, row_of, awaits, awaited, least_of, stable_of, is_covered, missing_for}
+use Rattle.rls_ops.specs.Sizes.{head_size}
+use Rattle.rls_model.specs.History.{count, group_of, me_of, members_of, row}
+use Rattle.rls_model.specs.Receiving.{State}
+use Rattle.rls_model.specs.Stability.{unstable}
+use Rattle.rls_model.specs.Taking.{front_within, message_for}
+use Rattle.rls_seen.specs.Seen.{Seen, members, stable_over, unstable_over}
+use Rattle.rls_seen.specs.Messages.{message_over}
+use Rattle.rls_seen.specs.Stands.{StandsFor}
+use Rattle.rls_seen.proofs.Alike.{members_alike, unstable_alike}
+use Rattle.rls_seen.proofs.Noting.{have_get}
+
+-- ---- lengths
+
+length-meet : (v w : List ℕ) → length v ≡ length w → length (meet v w) ≡ length v
+length-meet [] w e = refl
+length-meet (x ∷ v) [] e = absurd (omega arith)
+length-meet (x ∷ v) (y ∷ w) e = ap suc (length-meet v w (omega arith))
+
+length-least_of : (v : List ℕ) (ws : List (List ℕ)) → HaveLength (length v) ws → length (least_of v ws) ≡ length v
+length-least_of v [] h = refl
+length-least_of v (w ∷ ws) h =
+    let e = length-meet v w (sym h.0) in
+    length-least_of (meet v w) ws (subst (λ n. HaveLength n ws) (sym e) h.1) ∙ e
+
+have_append : (n : ℕ) (xs ys : List (List ℕ)) → HaveLength n xs → HaveLength n ys → HaveLength n (xs ++ ys)
+have_append n [] ys h k = k
+have_append n (x ∷ xs) ys h k = (h.0, have_append n xs ys h.1 k)
+
+pub length-row : (acks : AcksSeen) (a : ℕ) → AreRows acks → a < length acks.mine → length (row_of acks a) ≡ length acks.mine
+length-row acks a h l = go (get_or acks.others a []) (a == acks.me) (have_get (length acks.mine) acks.others a h.counts_are (let e = h.rows in omega arith))
+  where
+    go : (x : List ℕ) (b : Bool) → length x ≡ length acks.mine → length (cond b acks.mine x) ≡ length acks.mine
+    go x true e = refl
+    go x false e = e
+
+awaited_length : (acks : AcksSeen) → AreRows acks → (n : ℕ) → n ≤ length acks.mine → HaveLength (length acks.mine) (awaited acks n)
+awaited_length acks h zero l = tt
+awaited_length acks h (suc n) l =
+    have_append (length acks.mine) (awaited acks n) (if awaits acks n then row_of acks n ∷ [] else []) (awaited_length acks h n (omega arith)) (go (awaits acks n) (length-row acks n h (omega arith)))
+  where
+    go : (b : Bool) → length (row_of acks n) ≡ length acks.mine → HaveLength (length acks.mine) (cond b (row_of acks n ∷ []) [])
+    go true e = (e, tt)
+    go false e = tt
+
+pub length-stable : (acks : AcksSeen) → AreRows acks → length (stable_of acks) ≡ length acks.mine
+unfolding stable_of
+length-stable acks h = length-least_of acks.mine (awaited acks (length acks.mine)) (awaited_length acks h (length acks.mine) (omega arith))
+
+-- ---- what neither of two vectors covers
+
+max_le : (q x y : ℕ) → nat_le q (max x y) ≡ (nat_le q x || nat_le q y)
+max_le q x y = grind (arith, nat_tests)
+
+index-join : (v w : List ℕ) (i : ℕ) → length v ≡ length w → slice_index (join v w) i ≡ max (slice_index v i) (slice_index w i)
+index-join [] [] i e = refl
+index-join [] (y ∷ w) i e = absurd (omega arith)
+index-join (x ∷ v) [] i e = absurd (omega arith)
+index-join (x ∷ v) (y ∷ w) zero e = refl
+index-join (x ∷ v) (y ∷ w) (suc i) e = index-join v w i (omega arith)
+
+joined_covers : (v w : List ℕ) (o : Op) → length v ≡ length w → is_covered (join v w) o ≡ (is_covered v o || is_covered w o)
+joined_covers v w o e = ap (nat_le o.seq) (index-join v w o.author e) ∙ max_le o.seq (slice_index v o.author) (slice_index w o.author)
+
+missing_joined : (v w : List ℕ) (os : List Op) → length v ≡ length w → missing_for (join v w) os ≡ missing_for v (missing_for w os)
+missing_joined v w [] e = refl
+missing_joined v w (o ∷ os) e =
+    ap (λ b. cond (not b) (o ∷ missing_for (join v w) os) (missing_for (join v w) os)) (joined_covers v w o e)
+    ∙ go (is_covered v o) refl (is_covered w o) (missing_joined v w os e)
+  where
+    go : (b : Bool) → is_covered v o ≡ b → (c : Bool) → missing_for (join v w) os ≡ missing_for v (missing_for w os)
+      → cond (not (b || c)) (o ∷ missing_for (join v w) os) (missing_for (join v w) os) ≡ missing_for v (cond (not c) (o ∷ missing_for w os) (missing_for w os))
+    go true f true ih = ih
+    go true f false ih = ih ∙ sym (ap (λ b. cond (not b) (o ∷ missing_for v (missing_for w os)) (missing_for v (missing_for w os))) f)
+    go false f true ih = ih
+    go false f false ih = ap (λ ps. o ∷ ps) ih ∙ sym (ap (λ b. cond (not b) (o ∷ missing_for v (missing_for w os)) (missing_for v (missing_for w os))) f)
+
+-- ---- the message
+
+message_of : ℕ → ℕ → ℕ → List ℕ → List Op → Message
+message_of g n me v os = record { group = g; members = n; from = me; vector = v; ops = front_within (head_size n) 67108864 os }
+
+-- the same message
+pub message_alike : (s : Seen) (t : State) (to : ℕ) → to < members s → StandsFor s t → message_over s to ≡ message_for t.history to
+unfolding message_over message_for message_of
+message_alike s t to l h =
+    let H = t.history in
+    let n = members_alike s t h in
+    let e : length (row_of s.acks to) ≡ length (stable_over s) = length-row s.acks to h.places l ∙ sym (length-stable s.acks h.places) in
+    let k : to < members_of H = omega arith in
+    let os : missing_for (join (row_of s.acks to) (stable_over s)) s.log ≡ missing_for (row H to) (unstable H) =
+      missing_joined (row_of s.acks to) (stable_over s) s.log e
+      ∙ (ap (missing_for (row_of s.acks to)) (unstable_alike s t h)
+      ∙ ap (λ v. missing_for v (unstable H)) (h.rows to k)) in
+    ap (message_of s.group (members s) s.acks.me s.acks.mine) os
+    ∙ (ap (λ g. message_of g (members s) s.acks.me s.acks.mine (missing_for (row H to) (unstable H))) h.group
+    ∙ (ap (λ m. message_of (group_of H) m s.acks.me s.acks.mine (missing_for (row H to) (unstable H))) n
+    ∙ (ap (λ me. message_of (group_of H) (members_of H) me s.acks.mine (missing_for (row H to) (unstable H))) h.me
+    ∙ ap (λ v. message_of (group_of H) (members_of H) (me_of H) v (missing_for (row H to) (unstable H))) h.vector)))
