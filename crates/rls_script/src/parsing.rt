@@ -1,0 +1,232 @@
+//! Reading scripts.
+
+ghost use Rattle.std.specs.Prelude.{◌≡◌, ◌<◌, length, IfOk, Option, Some, None, option_map};
+ghost use Rattle.std.specs.List.{position_or_len, before_first, after_first};
+ghost use Rattle.std.specs.Str.{chars};
+ghost use Rattle.rls_script.specs.Scripts.{IsParsed, script_of, is_line_feed, line_of, line_of_text, insertion_of, deletion_of, backward_of, renaming_of, parts_of, begins_plainly, number_of, text_of, is_opening, meaning_of};
+ghost use Rattle.rls_script.specs.declared.parsing.ScriptError.TheVariants.{OutOfMemory};
+
+use crate::lines::{Line, Lines};
+use rls_runs::Text;
+use std::alloc::{AllocError, AllocFailed, Global};
+use thiserror::Error;
+
+/// Why a script could not be read.
+#[derive(Clone, Copy, Debug, PartialEq, Eq, Error)]
+pub enum ScriptError {
+    /// The first line that isn't of the grammar, counted from 1.
+    #[error("line {line} is bad")]
+    BadLine { line: u64 },
+    #[error("out of memory")]
+    OutOfMemory,
+}
+
+impl From<AllocError> for ScriptError {
+    ghost from_gives = { λ _ e. e ≡ OutOfMemory };
+
+    fn from(_: AllocError) -> ScriptError {
+        ScriptError::OutOfMemory
+    }
+}
+
+impl<T: Drop> From<AllocFailed<T>> for ScriptError {
+    ghost from_gives = { λ _ e. e ≡ OutOfMemory };
+
+    fn from(_: AllocFailed<T>) -> ScriptError {
+        ScriptError::OutOfMemory
+    }
+}
+
+/// The lines of a script.
+///
+/// A line ends with a line feed, which the last may lack; a script of no bytes has no line. A line
+/// is UTF-8 and one of `i POSITION TEXT`, `d POSITION COUNT`, `b POSITION` and `r`, with one space
+/// between parts and `\n`, `\r` and `\\` in a text for a line feed, a carriage return and a
+/// backslash. `BadLine` exactly where a line is anything else, with the first such, unless memory
+/// runs out. The time is linear in the length of the script.
+pub fn parse(alloc: Global, script: &[u8]) -> Result<Lines, ScriptError>
+    ensures parsed { IsParsed result (script_of script.now) }
+{
+    let mut lines = Vec::new(alloc);
+    let mut rest = script;
+    while !rest.is_empty() {
+        let (bytes, after) = first_line(rest);
+        let Some(line) = line(alloc, bytes)? else {
+            return Err(ScriptError::BadLine {
+                line: lines.len() as u64 + 1,
+            });
+        };
+        lines.push(line)?;
+        rest = after;
+    }
+    Ok(Lines::from_vec(lines))
+}
+
+// The place of the first line feed, or the length.
+fn line_end(script: &[u8]) -> usize
+    ensures end { result ≡ position_or_len is_line_feed script.now }
+{
+    script
+        .iter()
+        .position(|byte| *byte == b'\n')
+        .unwrap_or(script.len())
+}
+
+// The first line, without its line feed, and what stands behind it.
+fn first_line(script: &[u8]) -> (&[u8], &[u8])
+    ensures front { result.0.now ≡ before_first is_line_feed script.now }
+    ensures back { result.1.now ≡ after_first is_line_feed script.now }
+{
+    let (line, rest) = script.split_at(line_end(script));
+    match rest.split_first() {
+        Some((_, after)) => (line, after),
+        None => (line, rest),
+    }
+}
+
+// The line that these bytes are.
+#[tactic(auto, using(crate::proofs::Utf8::utf8_from_text, crate::proofs::Utf8::no_utf8), unfolding(crate::specs::Scripts::line_of))]
+fn line(alloc: Global, bytes: &[u8]) -> Result<Option<Line>, AllocError>
+    ensures line { IfOk result (λ found. found ≡ line_of bytes.now) }
+{
+    match str::from_utf8(bytes) {
+        Ok(text) => line_of(alloc, text),
+        Err(_) => Ok(None),
+    }
+}
+
+// The line that this text is.
+fn line_of(alloc: Global, text: &str) -> Result<Option<Line>, AllocError>
+    ensures line { IfOk result (λ found. found ≡ line_of_text text.now) }
+{
+    let Some((word, others)) = parts(text) else {
+        return Ok(renaming(text));
+    };
+    if word == "i" {
+        return insertion(alloc, others);
+    }
+    if word == "d" {
+        return Ok(deletion(others));
+    }
+    if word == "b" {
+        return Ok(backward(others));
+    }
+    Ok(None)
+}
+
+// The insertion of these parts.
+fn insertion(alloc: Global, others: &str) -> Result<Option<Line>, AllocError>
+    ensures line { IfOk result (λ found. found ≡ insertion_of others.now) }
+{
+    let Some((position, escaped)) = parts(others) else {
+        return Ok(None);
+    };
+    let Some(at) = number(position) else {
+        return Ok(None);
+    };
+    let Some(text) = unescaped(alloc, escaped)? else {
+        return Ok(None);
+    };
+    Ok(Some(Line::Insert { at, text }))
+}
+
+// The deletion of these parts.
+fn deletion(others: &str) -> Option<Line>
+    ensures line { result ≡ deletion_of others.now }
+{
+    let (position, count) = parts(others)?;
+    let at = number(position)?;
+    let count = number(count)?;
+    Some(Line::Delete { at, count })
+}
+
+fn backward(position: &str) -> Option<Line>
+    ensures line { result ≡ backward_of position.now }
+{
+    let at = number(position)?;
+    Some(Line::Back { at })
+}
+
+fn renaming(text: &str) -> Option<Line>
+    ensures line { result ≡ renaming_of text.now }
+{
+    if text == "r" {
+        Some(Line::Rename)
+    } else {
+        None
+    }
+}
+
+// What stands before the first space and behind it.
+fn parts(text: &str) -> Option<(&str, &str)>
+    ensures parts { option_map (λ x. (x.0.now, x.1.now)) result ≡ parts_of text.now }
+{
+    text.split_once(' ')
+}
+
+// Whether neither a sign nor a leading zero stands in front.
+fn is_plain(digits: &[u8]) -> bool
+    ensures plain { result ≡ begins_plainly digits.now }
+{
+    match digits {
+        [] => false,
+        [b'0'] => true,
+        [first, ..] => first.is_ascii_digit() && *first != b'0',
+    }
+}
+
+/// The number that these are the decimal digits of, without a sign and without leading zeros, up to
+/// 18446744073709551615; `None` exactly where they aren't such. The time is linear in their number.
+pub fn number(digits: &str) -> Option<u64>
+    ensures value { result ≡ number_of digits.now }
+{
+    if !is_plain(digits.as_bytes()) {
+        return None;
+    }
+    digits.parse().ok()
+}
+
+// Whether a character is a backslash that waits for the next one, behind such a backslash or not.
+fn is_opening(is_escaped: bool, character: char) -> bool
+    ensures opening { result ≡ is_opening is_escaped character }
+{
+    !is_escaped && character == '\\'
+}
+
+// What a character stands for, behind a backslash or not.
+fn meaning(is_escaped: bool, character: char) -> Option<char>
+    ensures meaning { result ≡ meaning_of is_escaped character }
+{
+    if !is_escaped {
+        return Some(character);
+    }
+    match character {
+        'n' => Some('\n'),
+        'r' => Some('\r'),
+        '\\' => Some('\\'),
+        _ => None,
+    }
+}
+
+// The text that these characters stand for.
+fn unescaped(alloc: Global, escaped: &str) -> Result<Option<Text>, AllocError>
+    ensures text { IfOk result (λ found. found ≡ text_of (chars escaped.now)) }
+{
+    let mut plain = Vec::with_capacity(alloc, escaped.len())?;
+    let mut is_escaped = false;
+    for character in escaped.chars() {
+        if is_opening(is_escaped, character) {
+            is_escaped = true;
+            continue;
+        }
+        let Some(meant) = meaning(is_escaped, character) else {
+            return Ok(None);
+        };
+        plain.push(meant)?;
+        is_escaped = false;
+    }
+    if is_escaped {
+        return Ok(None);
+    }
+    Ok(Some(Text::from_vec(plain)))
+}
