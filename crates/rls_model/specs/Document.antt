@@ -1,9 +1,10 @@
 -- The characters of a history and the text that they make.
-use Rattle.std.specs.Prelude.{ℕ, suc, pos, Bool, not, List, [], ◌∷◌, ◌++◌, map, filter, if◌then◌else◌}
+use Rattle.std.specs.Prelude.{ℕ, suc, pos, Bool, not, List, [], ◌∷◌, ◌++◌, map, filter}
 use Rattle.std.specs.List.{list_any}
 use Rattle.rls_ident.specs.declared.tuple.Tuple.{Tuple}
 use Rattle.rls_ident.specs.declared.epoch_name.EpochName.{EpochName}
-use Rattle.rls_ident.specs.Identifiers.{ident_lt, ident_eq, shifted}
+use Rattle.rls_ident.specs.Identifiers.{shifted}
+pub use Rattle.rls_runs.specs.Entries.{has_ident, put, put_all}
 use Rattle.rls_ops.specs.declared.op.Op.{Op}
 use Rattle.rls_ops.specs.declared.op.Body.{Body}
 use Rattle.rls_ops.specs.declared.op.Body.TheVariants.{Insert, Delete}
@@ -49,10 +50,6 @@ targets_of _ = []
 abbrev pub ident_in : History → EpochName → Character → List Tuple
 ident_in H e c = translate H c.epoch e c.ident
 
--- one of these identifiers is x
-abbrev pub has_ident : List (List Tuple) → List Tuple → Bool
-has_ident xs x = list_any (λ y. ident_eq y x) xs
-
 -- some deletion names the character: it has a target equal to the character's identifier in its epoch
 unfoldable pub is_named : History → Character → Bool
 is_named H c = list_any (λ d. has_ident (targets_of d.body) (ident_in H d.epoch c)) (ops H)
@@ -60,16 +57,6 @@ is_named H c = list_any (λ d. has_ident (targets_of d.body) (ident_in H d.epoch
 -- the characters that no deletion names
 unfoldable pub live : History → List Character
 live H = filter (λ c. not (is_named H c)) (chars H)
-
--- the list with the entry before the first one whose identifier isn't less
-abbrev pub put : List Tuple × ℕ → List (List Tuple × ℕ) → List (List Tuple × ℕ)
-put entry [] = entry ∷ []
-put entry (x ∷ xs) = if ident_lt x.0 entry.0 then x ∷ put entry xs else entry ∷ x ∷ xs
-
--- the list with each of these entries put in turn
-abbrev pub put_all : List (List Tuple × ℕ) → List (List Tuple × ℕ) → List (List Tuple × ℕ)
-put_all [] xs = xs
-put_all (entry ∷ entries) xs = put_all entries (put entry xs)
 
 -- the live characters in the order of their identifiers in the greatest epoch
 unfoldable pub export : History → List (List Tuple × ℕ)

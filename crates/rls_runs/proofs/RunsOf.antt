@@ -1,15 +1,14 @@
 -- Lists of identifiers and their maximal runs.
-use Rattle.std.proofs.Common.{◌≡◌, ℕ, zero, suc, ◌+◌, ◌-◌, Bool, true, false, cond, List, [], ◌∷◌, ◌++◌, length, Option, Some, None, refl, sym, ap, subst, ◌∙◌, append_assoc, arith}
-use Rattle.std.specs.Prelude.{ℤ, pos, negsuc, ◌+ℤ◌, IsTrue, not, ◌&&◌, nat_lt}
+use Rattle.std.proofs.Common.{◌≡◌, ℕ, zero, suc, ◌+◌, Bool, true, false, cond, List, [], ◌∷◌, ◌++◌, Option, Some, refl, sym, ap, subst, ◌∙◌, arith}
+use Rattle.std.specs.Prelude.{ℤ, pos, ◌+ℤ◌, not, ◌&&◌, nat_lt}
 use Rattle.std.specs.Ordering.{is_eq}
-use Rattle.std.specs.Cmp.Lexicographic.{slice_cmp}
 use Rattle.std.proofs.lemmas.Int.{ints}
 use Rattle.std.proofs.lemmas.Cmp.{lists_total, tied_itself}
 use Rattle.std.proofs.lemmas.Bool.{and_parts, and_from}
 use Rattle.rls_ident.specs.declared.tuple.Tuple.{Tuple}
 use Rattle.rls_ident.specs.declared.tuple.Tuple.TheVariants.{Low, At, High}
-use Rattle.rls_ident.specs.Tuples.{tuple_cmp, raised, offset_of}
-use Rattle.rls_ident.specs.Identifiers.{shifted, follows, ident_lt, last_of}
+use Rattle.rls_ident.specs.Tuples.{raised}
+use Rattle.rls_ident.specs.Identifiers.{shifted, follows, ident_lt}
 use Rattle.rls_ident.proofs.Tuples.{tuple_total}
 use Rattle.rls_runs.specs.Runs.{run_idents, put_run, runs_of, is_apart, run_last, idents_of, are_apart, run_before}
 

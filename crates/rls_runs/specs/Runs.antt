@@ -1,5 +1,5 @@
 -- Lists of identifiers and their runs. A run is a first identifier and a length.
-use Rattle.std.specs.Prelude.{ℕ, zero, suc, ◌+◌, pos, Bool, true, false, ◌&&◌, not, List, [], ◌∷◌, ◌++◌, ◌-◌, nat_lt, Option, Some, None, if◌then◌else◌, IsTrue}
+use Rattle.std.specs.Prelude.{ℕ, zero, suc, ◌+◌, pos, Bool, true, ◌&&◌, not, List, [], ◌∷◌, ◌++◌, ◌-◌, nat_lt, Option, Some, None, if◌then◌else◌, IsTrue}
 use Rattle.std.specs.List.{list_all}
 use Rattle.rls_ident.specs.declared.tuple.Tuple.{Tuple}
 use Rattle.rls_ident.specs.Identifiers.{is_ident, shifted, ident_lt, follows}
