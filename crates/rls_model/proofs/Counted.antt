@@ -9,7 +9,8 @@ use Rattle.rls_ident.proofs.Members.{or_right, or_split, and_true, in_left, in_r
 use Rattle.rls_rename.specs.Renaming.{Renaming}
 use Rattle.rls_rename.specs.Tree.{Node, name_of, has_node, is_kept, AreNodes, AreBelow, path}
 use Rattle.rls_rename.specs.Tree as tree
-use Rattle.rls_rename.specs.Connected.{top_path, is_spanned, spanned, spanned_renamings, stays_below, kept_nodes}
+use Rattle.rls_rename.specs.Connected.{top_path, is_spanned, spanned, spanned_renamings}
+use Rattle.rls_rename.specs.Keeping.{is_below, kept_nodes}
 use Rattle.rls_rename.proofs.Hull.{IsFront, spanned_is, spanned_top, top_spanned, path_same, node_at, in_spanned, spanned_in}
 use Rattle.rls_rename.proofs.Paths.{name_eq_is}
 use Rattle.rls_rename.proofs.SameNodes.{node_named}
@@ -19,8 +20,8 @@ use Rattle.rls_model.specs.Stability.{stable, unstable}
 use Rattle.rls_model.specs.Epochs.{epochs, greatest}
 use Rattle.rls_model.specs.Legal.{IsLegal}
 use Rattle.rls_model.specs.Parts.{node_of}
-use Rattle.rls_model.specs.Retained.{needed, needed_over, retained, retained_renamings}
-use Rattle.rls_model.proofs.Dropping.{Keeps, over_kept, retained_same, retained_kept}
+use Rattle.rls_model.specs.Retained.{needed, retained, retained_renamings}
+use Rattle.rls_model.proofs.Dropping.{Keeps, needed_over, over_kept, retained_same, retained_kept}
 use Rattle.rls_model.proofs.Later.{IsTopmost, topmost_path}
 use Rattle.rls_model.proofs.WindowAnswers.{node_found}
 
@@ -103,8 +104,7 @@ once_filter t (n ∷ ns) d = go (t n) (once_filter t ns d.2)
     go false h = h
 
 kept_once : (ns : List Node) (e : EpochName) (es : List EpochName) → AreNodes ns → Once (kept_nodes ns e es)
-unfolding kept_nodes
-kept_once ns e es d = once_filter (stays_below ns e es) ns d
+kept_once ns e es d = once_filter (is_below ns e es) ns d
 
 node_kept : (top : EpochName) (ns : List Node) (n : Node) → IsIn n ns → is_kept top ns (name_of n.renaming) ≡ true
 node_kept top ns n p = let h = node_named n ns p in or_right (name_eq (name_of n.renaming) top) (has_node ns (name_of n.renaming)) h
@@ -112,19 +112,17 @@ node_kept top ns n p = let h = node_named n ns p in or_right (name_eq (name_of n
 -- a node stays just if its epoch is spanned and isn't the topmost
 node_stays : (top : EpochName) (ns : List Node) → AreNodes ns → AreBelow top ns → (e : EpochName) (es : List EpochName) (u : EpochName) → is_kept top ns u ≡ true → path ns u ≡ top_path ns e es →
     (n : Node) → IsIn n ns → IsIn (name_of n.renaming) (spanned top ns e es) → (name_of n.renaming ≡ u → ⊥) → IsIn n (kept_nodes ns e es)
-unfolding kept_nodes
 node_stays top ns d b e es u ku h n p q v =
     let f = name_of n.renaming in
     let s = (in_spanned top ns e es f q).1 in
     ⊎_elim (λ w. absurd (v (path_same top ns d b f u (node_kept top ns n p) ku (w ∙ sym h))))
-    (λ w. filter_in (stays_below ns e es) n ns p (and_true (is_spanned ns e es f) _ s (ap not w)))
+    (λ w. filter_in (is_below ns e es) n ns p (and_true (is_spanned ns e es f) _ s (ap not w)))
     (low_or_top ns d e es f s)
 
 stays_node : (top : EpochName) (ns : List Node) → (e : EpochName) (es : List EpochName) (u : EpochName) → path ns u ≡ top_path ns e es →
     (n : Node) → IsIn n (kept_nodes ns e es) → IsIn n ns × IsIn (name_of n.renaming) (spanned top ns e es) × (name_of n.renaming ≡ u → ⊥)
-unfolding kept_nodes
 stays_node top ns e es u h n p =
-    let r = in_filter (stays_below ns e es) n ns p in
+    let r = in_filter (is_below ns e es) n ns p in
     let s = stays_is ns e es n r.1 in
     (r.0, spanned_in top ns e es (name_of n.renaming) (node_kept top ns n r.0) s.0, λ q. s.1 (ap (path ns) q ∙ h))
 

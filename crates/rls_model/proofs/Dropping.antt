@@ -1,6 +1,6 @@
 -- Which epochs are retained, and that a window which keeps them answers as the whole does.
 use Rattle.std.proofs.Common.{◌≡◌, ℕ, zero, suc, ◌≤◌, ◌<◌, Bool, true, false, List, [], ◌∷◌, map, refl, sym, ap, ◌∙◌, subst, inl, inr, ◌⊎◌, ⊎_elim, arith, nat_le}
-use Rattle.std.specs.Prelude.{not, ◌||◌, filter, None, slice_index}
+use Rattle.std.specs.Prelude.{not, ◌||◌, filter, None, slice_index, ◌++◌}
 use Rattle.std.specs.declared.cmp.Ordering.TheVariants.{Less}
 use Rattle.std.specs.Ordering.{is_lt}
 use Rattle.std.specs.Cmp.Lexicographic.{slice_cmp}
@@ -12,7 +12,8 @@ use Rattle.rls_ident.specs.Vectors.{at_most}
 use Rattle.rls_ident.proofs.Members.{bool_cases, not_true, not_is, and_left, and_right, in_left, in_right, in_split, snoc_split, in_map, map_in, in_filter, filter_in, le_is, le_test, less_is}
 use Rattle.rls_rename.specs.Tree.{Node, name_of, is_of, has_node, is_kept, AreNodes, AreBelow, path, renaming_cmp, epoch_cmp, names}
 use Rattle.rls_rename.specs.Tree as tree
-use Rattle.rls_rename.specs.Connected.{top_path, spanned, kept_nodes}
+use Rattle.rls_rename.specs.Connected.{top_path, spanned}
+use Rattle.rls_rename.specs.Keeping.{reached, kept_nodes}
 use Rattle.rls_rename.proofs.Growth.{path_other, path_child, kept_other}
 use Rattle.rls_rename.proofs.Kept.{greatest_kept, greatest_within_kept}
 use Rattle.rls_rename.proofs.Order.{above_trans, kept_here, IsAllowed, within_allowed, within_top}
@@ -30,7 +31,7 @@ use Rattle.rls_model.specs.Stability.{stable, is_covered, unstable}
 use Rattle.rls_model.specs.Epochs.{epochs, nodes_after, renaming_of, greatest, greatest_within}
 use Rattle.rls_model.specs.Fitting.{refusal}
 use Rattle.rls_model.specs.Legal.{IsLegal}
-use Rattle.rls_model.specs.Retained.{needed, needed_over, retained}
+use Rattle.rls_model.specs.Retained.{needed, retained}
 use Rattle.rls_model.proofs.Stable.{at_most_refl, at_most_trans, stable_row, stable_grows}
 use Rattle.rls_model.proofs.OneTree.{nodes, parents, none_else, not_not, author_below, fits_epoch}
 use Rattle.rls_model.proofs.SameOps.{op_kept, top_kept}
@@ -163,6 +164,10 @@ within_same H U A v l k h = within_window k.window v (k.keeps (greatest_within H
 
 -- ---- computed over the window alone
 
+-- the needed epochs by a window, the stable vector and the unstable operations
+abbrev pub needed_over : EpochName → List Node → List ℕ → List Op → List EpochName
+needed_over U A v os = reached (record { top = U; nodes = A }) v ++ map (λ o. o.epoch) os
+
 at_most_self : (v : List ℕ) → at_most v v ≡ true
 at_most_self v = at_most_refl v
 
@@ -212,23 +217,30 @@ retained_same H U A l k =
     spanned_same k.window g es a
     ∙ spanned_members Origin (epochs H) (nodes H l) (parents H l) g es (greatest H) (needed H) (λ e p. kept_window k.window e (a e p)) (needed_kept H l) (into_needed H U A l k) (from_needed H U A l k)
 
--- dropping all nodes but the retained ones leaves a window that keeps what is retained
+-- dropping all nodes but the retained ones leaves a window that keeps what is retained, below their topmost epoch
+pub drop_keeps_at : (H : History) (U : EpochName) (A : List Node) → IsLegal H → Keeps H U A →
+    (u : EpochName) → is_kept U A u ≡ true → path A u ≡ top_path A (tree.greatest U A) (needed_over U A (stable H) (unstable H)) →
+    IsIn u (retained H) × Keeps H u (kept_nodes A (tree.greatest U A) (needed_over U A (stable H) (unstable H)))
+drop_keeps_at H U A l k u ku e =
+    let g = tree.greatest U A in
+    let es = needed_over U A (stable H) (unstable H) in
+    let d = k.window.nodes in
+    let b = k.window.below in
+    let same = retained_same H U A l k in (
+      subst (IsIn u) same (spanned_in U A g es u ku (top_spanned A d g es u e)),
+      record {
+        window = window_trans (keep_window U A d b g es u ku e) k.window;
+        keeps = λ f p. let r = in_spanned U A g es f (subst (IsIn f) (sym same) p) in keep_kept U A d b g es u ku e f r.0 r.1;
+      },
+    )
+
 pub drop_keeps : (H : History) (U : EpochName) (A : List Node) → IsLegal H → Keeps H U A →
     (u : EpochName) × (IsIn u (retained H)) × Keeps H u (kept_nodes A (tree.greatest U A) (needed_over U A (stable H) (unstable H)))
 drop_keeps H U A l k =
     let g = tree.greatest U A in
     let es = needed_over U A (stable H) (unstable H) in
-    let d = k.window.nodes in
-    let b = k.window.below in
-    let same = retained_same H U A l k in
-    let t = spanned_top U A d b g es (over_kept H U A l k g (inl refl)) in (
-      t.0,
-      subst (IsIn t.0) same (spanned_in U A g es t.0 t.1 (top_spanned A d g es t.0 t.2)),
-      record {
-        window = window_trans (keep_window U A d b g es t.0 t.1 t.2) k.window;
-        keeps = λ f p. let r = in_spanned U A g es f (subst (IsIn f) (sym same) p) in keep_kept U A d b g es t.0 t.1 t.2 f r.0 r.1;
-      },
-    )
+    let t = spanned_top U A k.window.nodes k.window.below g es (over_kept H U A l k g (inl refl)) in
+    let r = drop_keeps_at H U A l k t.0 t.1 t.2 in (t.0, r.0, r.1)
 
 -- ---- one more entry
 

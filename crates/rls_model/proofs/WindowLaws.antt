@@ -1,11 +1,18 @@
 -- The laws of windows and of dropping.
+use Rattle.std.proofs.Common.{subst}
+use Rattle.rls_ident.specs.Lists.{IsIn}
+use Rattle.rls_rename.specs.Tree as tree
+use Rattle.rls_rename.specs.Keeping.{kept_nodes}
 use Rattle.rls_rename.proofs.Windows.{of_window, window_of}
+use Rattle.rls_rename.proofs.Smallest.{part_is}
 use Rattle.rls_model.specs.History.{History, Accepted, Acknowledged}
 use Rattle.rls_rename.specs.Tree.{Epochs}
 use Rattle.rls_model.specs.Legal.{IsLegal}
+use Rattle.rls_model.specs.Stability.{stable, unstable}
+use Rattle.rls_model.specs.Retained.{retained}
 use Rattle.rls_model.specs.Laws.{all_epochs, KeepsRetained, KeptOn, ToldByWindow, Dropped}
 use Rattle.rls_model.proofs.OneTree as one_tree
-use Rattle.rls_model.proofs.Dropping.{Keeps, greatest_same, within_same, retained_same, unstable_retained, fits_retained, drop_keeps}
+use Rattle.rls_model.proofs.Dropping.{Keeps, greatest_same, within_same, retained_same, unstable_retained, fits_retained, needed_over, over_kept, drop_keeps_at}
 use Rattle.rls_model.proofs.Later.{window_step, whole_keeps}
 
 keeps_of : (H : History) (M : Epochs) → IsLegal H → KeepsRetained H M → Keeps H M.top M.nodes
@@ -32,4 +39,13 @@ told_by_window H M l k =
     )
 
 pub dropped : Dropped
-dropped H M l k = let r = drop_keeps H M.top M.nodes l (keeps_of H M l k) in (r.0, r.1, of_keeps _ _ r.2)
+dropped H M l k =
+    let w = keeps_of H M l k in
+    let g = tree.greatest M.top M.nodes in
+    let es = needed_over M.top M.nodes (stable H) (unstable H) in
+    let all = over_kept H M.top M.nodes l w in
+    let r = part_is M k.0.0 g es all in
+    let d = drop_keeps_at H M.top M.nodes l w r.0 r.1 r.2 in (
+      subst (KeepsRetained H) r.3 (of_keeps H (record { top = r.0; nodes = kept_nodes M.nodes g es }) d.1),
+      subst (λ (E : Epochs). IsIn E.top (retained H)) r.3 d.0,
+    )

@@ -12,7 +12,8 @@ use Rattle.rls_runs.specs.Runs.{runs_of}
 use Rattle.rls_rename.specs.Renaming.{new_pos}
 use Rattle.rls_rename.specs.Tree.{Epochs, IsTree, IsWindow, is_kept}
 use Rattle.rls_rename.specs.Tree as tree
-use Rattle.rls_rename.specs.Connected.{spanned, kept_nodes}
+use Rattle.rls_rename.specs.Connected.{spanned}
+use Rattle.rls_rename.specs.Keeping.{reached, kept_part}
 use Rattle.rls_ops.specs.declared.op.Op.{Op}
 use Rattle.rls_ops.specs.declared.op.Body.{Body}
 use Rattle.rls_ops.specs.declared.op.Body.TheVariants.{Insert, Rename}
@@ -28,7 +29,7 @@ use Rattle.rls_model.specs.Fitting.{refusal}
 use Rattle.rls_model.specs.Receiving.{State}
 use Rattle.rls_model.specs.WellFormed.{IsLarge, IsText, IsEdit}
 use Rattle.rls_model.specs.Legal.{IsLegal, IsSound}
-use Rattle.rls_model.specs.Retained.{needed_over, retained}
+use Rattle.rls_model.specs.Retained.{marked, retained}
 use Rattle.rls_model.specs.Editing.{next_seq, made, edit_fault}
 use Rattle.rls_model.specs.Taking.{Limit, Progress, take_within}
 use Rattle.rls_model.specs.EditRun.{edit_within, Done, run_edits}
@@ -131,10 +132,6 @@ all_epochs H = record { top = Origin; nodes = epochs H }
 abbrev pub KeepsRetained : History → Epochs → Type 0
 KeepsRetained H M = IsWindow M (all_epochs H) × ((f : EpochName) → IsIn f (retained H) → IsTrue (is_kept M.top M.nodes f))
 
--- the epochs that are needed beside the greatest one, told from a window
-abbrev pub needed_in : History → Epochs → List EpochName
-needed_in H M = needed_over M.top M.nodes (stable H) (unstable H)
-
 -- all epochs are such a window at first, and after each entry the window is one again
 abbrev pub KeptOn : Type 0
 KeptOn = (H : History) → IsLegal H →
@@ -148,14 +145,14 @@ abbrev pub ToldByWindow : Type 0
 ToldByWindow = (H : History) (M : Epochs) → IsLegal H → KeepsRetained H M →
     (tree.greatest M.top M.nodes ≡ greatest H)
     × ((v : List ℕ) → IsTrue (at_most (stable H) v) → tree.greatest_within M.top M.nodes v ≡ greatest_within H v)
-    × (spanned M.top M.nodes (tree.greatest M.top M.nodes) (needed_in H M) ≡ retained H)
+    × (spanned M.top M.nodes (tree.greatest M.top M.nodes) (reached M (stable H) ++ marked H) ≡ retained H)
     × ((o : Op) → IsIn o (unstable H) → IsTrue (is_kept M.top M.nodes o.epoch))
     × ((o : Op) → o.author < members_of H → refusal H o ≡ None → IsTrue (is_kept M.top M.nodes o.epoch))
 
--- what is retained, with the nodes of all but the topmost of it, is such a window too
+-- what is kept of such a window, told from itself, is one too, and its topmost epoch is retained
 abbrev pub Dropped : Type 0
 Dropped = (H : History) (M : Epochs) → IsLegal H → KeepsRetained H M →
-    (u : EpochName) × IsIn u (retained H) × KeepsRetained H (record { top = u; nodes = kept_nodes M.nodes (tree.greatest M.top M.nodes) (needed_in H M) })
+    KeepsRetained H (kept_part M (stable H) (marked H)) × IsIn (kept_part M (stable H) (marked H)).top (retained H)
 
 -- ---- two histories
 

@@ -1,13 +1,12 @@
 -- The epochs that are retained, and the numbers of a replica.
-use Rattle.std.specs.Prelude.{ℕ, not, List, ◌∷◌, ◌++◌, length, map, filter, sum_by}
+use Rattle.std.specs.Prelude.{not, List, ◌∷◌, ◌++◌, length, map, filter, sum_by}
 use Rattle.std.specs.Ordering.{is_lt}
 use Rattle.rls_ident.specs.declared.epoch_name.EpochName.{EpochName}
 use Rattle.rls_ident.specs.declared.epoch_name.EpochName.TheVariants.{Origin}
 use Rattle.rls_rename.specs.Renaming.{Renaming}
-use Rattle.rls_rename.specs.Tree.{Node, epoch_cmp, names}
-use Rattle.rls_rename.specs.Connected.{spanned, spanned_renamings, needed_within}
+use Rattle.rls_rename.specs.Tree.{epoch_cmp, names}
+use Rattle.rls_rename.specs.Connected.{spanned, spanned_renamings}
 use Rattle.rls_runs.specs.Runs.{runs_of}
-use Rattle.rls_ops.specs.declared.op.Op.{Op}
 use Rattle.rls_model.specs.declared.counts.Counts.{Counts}
 use Rattle.rls_model.specs.History.{History}
 use Rattle.rls_model.specs.Stability.{stable, unstable}
@@ -15,15 +14,15 @@ use Rattle.rls_model.specs.Epochs.{epochs, greatest, greatest_within}
 use Rattle.rls_model.specs.Document.{idents}
 use Rattle.rls_model.specs.Receiving.{State}
 
+-- the epochs of the unstable operations
+abbrev pub marked : History → List EpochName
+marked H = map (λ o. o.epoch) (unstable H)
+
 -- the epochs that must stay beside the greatest: each at least the greatest stable one, and that of each unstable operation
 abbrev pub needed : History → List EpochName
 needed H =
     filter (λ e. not (is_lt (epoch_cmp (epochs H) e (greatest_within H (stable H))))) (Origin ∷ names (epochs H))
-    ++ map (λ o. o.epoch) (unstable H)
-
--- the same over the epochs of a window, with a stable vector and unstable operations
-abbrev pub needed_over : EpochName → List Node → List ℕ → List Op → List EpochName
-needed_over top nodes v os = needed_within top nodes v (map (λ o. o.epoch) os)
+    ++ marked H
 
 -- the smallest connected part of the tree that holds these, in increasing order
 unfoldable pub retained : History → List EpochName

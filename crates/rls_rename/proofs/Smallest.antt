@@ -1,11 +1,13 @@
 -- What is spanned is the smallest connected part, and a window computes what the whole does.
-use Rattle.std.proofs.Common.{◌≡◌, ℕ, zero, suc, true, List, [], ◌∷◌, length, refl, sym, ap, ◌∙◌, subst, inl, inr, ⊎_elim, arith, length-append}
+use Rattle.std.proofs.Common.{◌≡◌, ℕ, zero, suc, true, List, [], ◌∷◌, ◌++◌, length, refl, sym, ap, ◌∙◌, subst, inl, inr, ⊎_elim, arith, length-append}
 use Rattle.rls_ident.specs.declared.epoch_name.EpochName.{EpochName}
 use Rattle.rls_ident.specs.EpochNames.{name_eq}
 use Rattle.rls_ident.specs.Lists.{IsIn}
 use Rattle.rls_ident.proofs.Members.{bool_cases, or_right, or_split, each_in, are_in}
+use Rattle.rls_rename.specs.Renaming.{Renaming}
 use Rattle.rls_rename.specs.Tree.{Node, Epochs, name_of, has_node, is_kept, AreNodes, IsTree, path}
-use Rattle.rls_rename.specs.Connected.{spanned, AreConnected, AreRising}
+use Rattle.rls_rename.specs.Connected.{top_path, spanned, AreConnected, AreKept, AreRising}
+use Rattle.rls_rename.specs.Keeping.{end_of, kept_nodes, part}
 use Rattle.rls_rename.specs.Laws.{Spanned, WindowSame}
 use Rattle.rls_rename.proofs.Paths.{name_eq_is, name_eq_refl}
 use Rattle.rls_rename.proofs.SameNodes.{node_named, path_top, path_member}
@@ -104,4 +106,30 @@ window_law M E t w =
       λ k. greatest_window v k,
       λ c k. within_window v c k,
       λ e es k. spanned_same v e es k,
+    )
+
+-- ---- keeping what is spanned
+
+end_append : (top : EpochName) (p : List Renaming) (R : Renaming) → end_of top (p ++ (R ∷ [])) ≡ name_of R
+end_append top [] R = refl
+end_append top (S ∷ p) R = end_append (name_of S) p R
+
+-- a path leads to its epoch
+pub path_end : (E : Epochs) → IsTree E → (f : EpochName) → is_kept E.top E.nodes f ≡ true → end_of E.top (path E.nodes f) ≡ f
+path_end E t f k =
+    ⊎_elim (λ h. let e = name_eq_is f E.top h in ap (end_of E.top) (ap (path E.nodes) e ∙ path_top E.top E.nodes t.1) ∙ sym e)
+    (λ h. let r = node_at E.nodes f h in
+    ap (end_of E.top) (ap (path E.nodes) (sym r.2) ∙ path_member E.top r.0 E.nodes t.0 t.1 r.1) ∙ (end_append E.top (path E.nodes (r.0).parent) (r.0).renaming ∙ r.2))
+    (or_split (name_eq f E.top) (has_node E.nodes f) k)
+
+-- what is spanned, with its own topmost epoch
+pub part_is : (E : Epochs) → IsTree E → (e : EpochName) (es : List EpochName) → AreKept E (e ∷ es) →
+    (u : EpochName) × (is_kept E.top E.nodes u ≡ true) × (path E.nodes u ≡ top_path E.nodes e es) × (record { top = u; nodes = kept_nodes E.nodes e es } ≡ part E e es)
+unfolding part
+part_is E t e es k =
+    let u = spanned_top E.top E.nodes t.0 t.1 e es (k e (inl refl)) in (
+      u.0,
+      u.1,
+      u.2,
+      ap (λ v. record { top = v; nodes = kept_nodes E.nodes e es }) (sym (path_end E t u.0 u.1) ∙ ap (end_of E.top) u.2),
     )

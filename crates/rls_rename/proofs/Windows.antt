@@ -11,7 +11,8 @@ use Rattle.rls_ident.specs.Lists.{IsIn, AreIn}
 use Rattle.rls_ident.proofs.Members.{bool_cases, not_true, not_is, or_left, or_right, or_split, and_left, and_right, and_true, in_filter, filter_in, each_in, are_in}
 use Rattle.rls_rename.specs.Renaming.{Renaming}
 use Rattle.rls_rename.specs.Tree.{Node, Epochs, name_of, is_of, has_node, is_kept, AreNodes, AreBelow, IsTree, IsWindow, path, renaming_cmp, epoch_cmp, greatest, greatest_within, forward_all, back_all, along, translate}
-use Rattle.rls_rename.specs.Connected.{begins_with, common_prefix, common_prefix_of, top_path, is_spanned, spanned, spanned_renamings, stays_below, kept_nodes}
+use Rattle.rls_rename.specs.Connected.{begins_with, common_prefix, common_prefix_of, top_path, is_spanned, spanned, spanned_renamings}
+use Rattle.rls_rename.specs.Keeping.{is_below, kept_nodes}
 use Rattle.rls_rename.proofs.Growth.{path_other, path_child}
 use Rattle.rls_rename.proofs.Kept.{kept_more}
 use Rattle.rls_rename.proofs.Order.{front_same, IsAllowed, within_allowed, within_top, within_is, greatest_is}
@@ -206,7 +207,7 @@ filter_map t (n ∷ ns) = go (t n.renaming) (filter_map t ns)
 
 -- their renamings are those of the part
 pub kept-renamings : (ns : List Node) (e : EpochName) (es : List EpochName) → spanned_renamings ns e es ≡ map (λ n. n.renaming) (kept_nodes ns e es)
-unfolding spanned_renamings kept_nodes
+unfolding spanned_renamings
 kept-renamings ns e es = filter_map (λ R. is_spanned ns e es (name_of R) && not (begins_with (top_path ns e es) (path ns (name_of R)))) ns
 
 filter_node : (t : Node → Bool) (ns : List Node) (e : EpochName) → has_node (filter t ns) e ≡ true → has_node ns e ≡ true
@@ -242,21 +243,21 @@ low_or_top ns d e es f s =
 
 -- an epoch that is kept among these nodes, and is spanned, is kept after the others were dropped
 keep_spanned : (top : EpochName) (ns : List Node) → AreNodes ns → AreBelow top ns → (e : EpochName) (es : List EpochName) (u : EpochName) → is_kept top ns u ≡ true → path ns u ≡ top_path ns e es →
-    (older : List Node) → ((f : EpochName) → is_kept top older f ≡ true → is_kept top ns f ≡ true) → (f : EpochName) → is_kept top older f ≡ true → is_spanned ns e es f ≡ true → is_kept u (filter (stays_below ns e es) older) f ≡ true
+    (older : List Node) → ((f : EpochName) → is_kept top older f ≡ true → is_kept top ns f ≡ true) → (f : EpochName) → is_kept top older f ≡ true → is_spanned ns e es f ≡ true → is_kept u (filter (is_below ns e es) older) f ≡ true
 keep_spanned top ns d b e es u ku h older into f k s =
     ⊎_elim here
     (λ l. ⊎_elim (λ q. here (first l (name_eq_is f top q)))
     (λ q. let r = node_at older f q in
-    let m : stays_below ns e es r.0 ≡ true = subst (λ g. (is_spanned ns e es g && not (begins_with (top_path ns e es) (path ns g))) ≡ true) (sym r.2) (and_true (is_spanned ns e es f) (not (begins_with (top_path ns e es) (path ns f))) s (ap not l)) in
-    or_right (name_eq f u) (has_node (filter (stays_below ns e es) older) f)
-    (subst (λ g. has_node (filter (stays_below ns e es) older) g ≡ true) r.2 (node_named r.0 (filter (stays_below ns e es) older) (filter_in (stays_below ns e es) r.0 older r.1 m))))
+    let m : is_below ns e es r.0 ≡ true = subst (λ g. (is_spanned ns e es g && not (begins_with (top_path ns e es) (path ns g))) ≡ true) (sym r.2) (and_true (is_spanned ns e es f) (not (begins_with (top_path ns e es) (path ns f))) s (ap not l)) in
+    or_right (name_eq f u) (has_node (filter (is_below ns e es) older) f)
+    (subst (λ g. has_node (filter (is_below ns e es) older) g ≡ true) r.2 (node_named r.0 (filter (is_below ns e es) older) (filter_in (is_below ns e es) r.0 older r.1 m))))
     (or_split (name_eq f top) (has_node older f) k))
     (low_or_top ns d e es f s)
   where
-    here : path ns f ≡ top_path ns e es → is_kept u (filter (stays_below ns e es) older) f ≡ true
+    here : path ns f ≡ top_path ns e es → is_kept u (filter (is_below ns e es) older) f ≡ true
     here q =
         let w = path_same top ns d b f u (into f k) ku (q ∙ sym h) in
-        or_left (name_eq f u) (has_node (filter (stays_below ns e es) older) f) (ap (name_eq f) (sym w) ∙ name_eq_refl f)
+        or_left (name_eq f u) (has_node (filter (is_below ns e es) older) f) (ap (name_eq f) (sym w) ∙ name_eq_refl f)
 
     -- the topmost epoch of the tree has the empty path, of which the part's is a front
     first : begins_with (top_path ns e es) (path ns f) ≡ false → f ≡ top → path ns f ≡ top_path ns e es
@@ -269,19 +270,19 @@ keep_spanned top ns d b e es u ku h older into f k s =
         nothing [] = refl
         nothing (R ∷ p) = refl
 
-pub stays_is : (ns : List Node) (e : EpochName) (es : List EpochName) (n : Node) → stays_below ns e es n ≡ true → (is_spanned ns e es (name_of n.renaming) ≡ true) × (path ns (name_of n.renaming) ≡ top_path ns e es → ⊥)
+pub stays_is : (ns : List Node) (e : EpochName) (es : List EpochName) (n : Node) → is_below ns e es n ≡ true → (is_spanned ns e es (name_of n.renaming) ≡ true) × (path ns (name_of n.renaming) ≡ top_path ns e es → ⊥)
 stays_is ns e es n h =
     let b = is_spanned ns e es (name_of n.renaming) in
     let c = begins_with (top_path ns e es) (path ns (name_of n.renaming)) in
     (and_left b (not c) h, λ q. let x = not_is c (and_right b (not c) h) in let y : c ≡ true = front_begins (path ns (name_of n.renaming)) (top_path ns e es) ([], sym q ∙ sym (append-nil (path ns (name_of n.renaming)))) in absurd (cc))
 
 keep_below : (top : EpochName) (ns : List Node) → AreNodes ns → AreBelow top ns → (e : EpochName) (es : List EpochName) (u : EpochName) → is_kept top ns u ≡ true → path ns u ≡ top_path ns e es →
-    (older : List Node) → AreIn older ns → AreBelow top older → ((f : EpochName) → is_kept top older f ≡ true → is_kept top ns f ≡ true) → AreBelow u (filter (stays_below ns e es) older)
+    (older : List Node) → AreIn older ns → AreBelow top older → ((f : EpochName) → is_kept top older f ≡ true → is_kept top ns f ≡ true) → AreBelow u (filter (is_below ns e es) older)
 keep_below top ns d b e es u ku h [] i c into = tt
 keep_below top ns d b e es u ku h (n ∷ older) i c into =
-    go (stays_below ns e es n) refl (keep_below top ns d b e es u ku h older i.1 c.2 (λ f k. into f (kept_more top n older f k)))
+    go (is_below ns e es n) refl (keep_below top ns d b e es u ku h older i.1 c.2 (λ f k. into f (kept_more top n older f k)))
   where
-    go : (x : Bool) → stays_below ns e es n ≡ x → AreBelow u (filter (stays_below ns e es) older) → AreBelow u (cond x (n ∷ filter (stays_below ns e es) older) (filter (stays_below ns e es) older))
+    go : (x : Bool) → is_below ns e es n ≡ x → AreBelow u (filter (is_below ns e es) older) → AreBelow u (cond x (n ∷ filter (is_below ns e es) older) (filter (is_below ns e es) older))
     go false q ih = ih
     go true q ih =
         let s = stays_is ns e es n q in (
@@ -292,28 +293,25 @@ keep_below top ns d b e es u ku h (n ∷ older) i c into =
 
 -- keeping what is spanned leaves a window
 pub keep_window : (top : EpochName) (ns : List Node) → AreNodes ns → AreBelow top ns → (e : EpochName) (es : List EpochName) (u : EpochName) → is_kept top ns u ≡ true → path ns u ≡ top_path ns e es → Window u (kept_nodes ns e es) top ns
-unfolding kept_nodes
 keep_window top ns d b e es u ku h = record {
-  nodes = filter_nodes (stays_below ns e es) ns d;
+  nodes = filter_nodes (is_below ns e es) ns d;
   below = keep_below top ns d b e es u ku h ns (are_in ns ns (λ n p. p)) b (λ f k. k);
   whole = d;
   tree = b;
-  each = are_in (filter (stays_below ns e es) ns) ns (λ n p. (in_filter (stays_below ns e es) n ns p).0);
+  each = are_in (filter (is_below ns e es) ns) ns (λ n p. (in_filter (is_below ns e es) n ns p).0);
   first = ku;
 }
 
 -- which keeps what is spanned
 pub keep_kept : (top : EpochName) (ns : List Node) → AreNodes ns → AreBelow top ns → (e : EpochName) (es : List EpochName) (u : EpochName) → is_kept top ns u ≡ true → path ns u ≡ top_path ns e es →
     (f : EpochName) → is_kept top ns f ≡ true → is_spanned ns e es f ≡ true → is_kept u (kept_nodes ns e es) f ≡ true
-unfolding kept_nodes
 keep_kept top ns d b e es u ku h f k s = keep_spanned top ns d b e es u ku h ns (λ g q. q) f k s
 
 -- and nothing else
 pub kept_keep : (top : EpochName) (ns : List Node) → AreNodes ns → (e : EpochName) (es : List EpochName) (u : EpochName) → path ns u ≡ top_path ns e es → (f : EpochName) → is_kept u (kept_nodes ns e es) f ≡ true → is_spanned ns e es f ≡ true
-unfolding kept_nodes
 kept_keep top ns d e es u h f k =
     ⊎_elim (λ q. subst (λ g. is_spanned ns e es g ≡ true) (sym (name_eq_is f u q)) (top_spanned ns d e es u h))
-    (λ q. let r = node_at (filter (stays_below ns e es) ns) f q in
-    let s = in_filter (stays_below ns e es) r.0 ns r.1 in
+    (λ q. let r = node_at (filter (is_below ns e es) ns) f q in
+    let s = in_filter (is_below ns e es) r.0 ns r.1 in
     subst (λ g. is_spanned ns e es g ≡ true) r.2 (stays_is ns e es r.0 s.1).0)
-    (or_split (name_eq f u) (has_node (filter (stays_below ns e es) ns) f) k)
+    (or_split (name_eq f u) (has_node (filter (is_below ns e es) ns) f) k)

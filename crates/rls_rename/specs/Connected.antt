@@ -1,12 +1,12 @@
 -- The smallest connected part of a tree that holds given epochs.
-use Rattle.std.specs.Prelude.{◌≡◌, ℕ, Bool, true, false, ◌&&◌, not, List, [], ◌∷◌, ◌++◌, map, filter, if◌then◌else◌, IsTrue}
+use Rattle.std.specs.Prelude.{◌≡◌, Bool, true, false, ◌&&◌, not, List, [], ◌∷◌, map, filter, if◌then◌else◌, IsTrue}
 use Rattle.std.specs.declared.cmp.Ordering.TheVariants.{Less}
 use Rattle.std.specs.Ordering.{is_lt}
 use Rattle.std.specs.List.{list_any}
 use Rattle.rls_ident.specs.declared.epoch_name.EpochName.{EpochName}
 use Rattle.rls_ident.specs.Lists.{IsIn}
 use Rattle.rls_rename.specs.Renaming.{Renaming}
-use Rattle.rls_rename.specs.Tree.{Node, Epochs, same_name, is_kept, path, epoch_cmp, names, name_of, greatest_within}
+use Rattle.rls_rename.specs.Tree.{Node, Epochs, same_name, is_kept, path, epoch_cmp, names, name_of}
 
 -- the second path is a prefix of the first
 abbrev pub begins_with : List Renaming → List Renaming → Bool
@@ -51,20 +51,6 @@ spanned top nodes e es = in_order nodes (filter (is_spanned nodes e es) (top ∷
 unfoldable pub spanned_renamings : List Node → EpochName → List EpochName → List Renaming
 spanned_renamings nodes e es =
     filter (λ R. is_spanned nodes e es (name_of R) && not (begins_with (top_path nodes e es) (path nodes (name_of R)))) (map (λ node. node.renaming) nodes)
-
--- ---- keeping that part
-
--- the node lies in the part, below its topmost epoch
-abbrev pub stays_below : List Node → EpochName → List EpochName → Node → Bool
-stays_below nodes e es node = is_spanned nodes e es (name_of node.renaming) && not (begins_with (top_path nodes e es) (path nodes (name_of node.renaming)))
-
--- the nodes of the part below its topmost epoch
-unfoldable pub kept_nodes : List Node → EpochName → List EpochName → List Node
-kept_nodes nodes e es = filter (stays_below nodes e es) nodes
-
--- what is to stay beside the greatest epoch: each epoch at least the greatest one within the vector, and the marked ones
-abbrev pub needed_within : EpochName → List Node → List ℕ → List EpochName → List EpochName
-needed_within top nodes v marked = filter (λ e. not (is_lt (epoch_cmp nodes e (greatest_within top nodes v)))) (top ∷ names nodes) ++ marked
 
 -- ---- what that part is
 

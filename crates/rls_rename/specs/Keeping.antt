@@ -16,9 +16,13 @@ abbrev pub is_below : List Node → EpochName → List EpochName → Node → Bo
 is_below nodes e es node =
     is_spanned nodes e es (name_of node.renaming) && not (begins_with (top_path nodes e es) (path nodes (name_of node.renaming)))
 
+-- the nodes of that part below its topmost epoch
+abbrev pub kept_nodes : List Node → EpochName → List EpochName → List Node
+kept_nodes nodes e es = filter (is_below nodes e es) nodes
+
 -- that part, with its own topmost epoch
 unfoldable pub part : Epochs → EpochName → List EpochName → Epochs
-part E e es = record { top = end_of E.top (top_path E.nodes e es); nodes = filter (is_below E.nodes e es) E.nodes }
+part E e es = record { top = end_of E.top (top_path E.nodes e es); nodes = kept_nodes E.nodes e es }
 
 -- the epochs that are at least the greatest one within the vector
 abbrev pub reached : Epochs → List ℕ → List EpochName
