@@ -18,7 +18,8 @@ use Rattle.rls_ops.specs.declared.op.Body.TheVariants.{Insert, Delete, Rename, L
 use Rattle.rls_ops.specs.Spelling.{runs_bytes, run_bytes, kind_of, name_bytes, body_bytes, op_bytes, ident_bytes, text_bytes, message_in_form}
 use Rattle.rls_codec.specs.Reading.{◌>>=◌, Read, runs_at, body_of_kind, body_at, op_fields_at, op_at, op_limit, next_run_at, magic_at, is_message_form, is_member_count, message_and_form_at, message_at, message_of, whole, placed, op_from}
 use Rattle.rls_codec.specs.Spelled.{IsSmall, Chained, FitsIdent, FitsBehind, FitRuns, FitsName, FitsText, FitsVector, FitsBody, IsSpelled, IsSpelledMessage}
-use Rattle.rls_codec.proofs.Formats.{IsBytes, IsBytes-drop, Takes, Spells, only_one, done, field, fitting, spelling, seen, ruled, byte, bind_ok, kept_false, ok_is, counted_parts, raw}
+use Rattle.rls_codec.specs.CodecLaws.{IsBytes, IsMessage, BeginsAt}
+use Rattle.rls_codec.proofs.Formats.{IsBytes-drop, Takes, Spells, only_one, done, field, fitting, spelling, seen, ruled, byte, bind_ok, kept_false, ok_is, counted_parts, raw}
 use Rattle.rls_codec.proofs.PartFormats.{small, large, ident, next_run, vector, name, text}
 use Rattle.rls_runs.proofs.RunsOf.{runs_of_idents}
 
@@ -208,10 +209,6 @@ op_takes members bytes o rest h e = let t = (op members).takes bytes o rest h e 
 pub op_alone : (members : ℕ) (o p : Op) (rest : List ℕ) → IsSpelled members o → IsSpelled members p → op_bytes o ++ rest ≡ op_bytes p → (o ≡ p) × (rest ≡ [])
 op_alone members o p rest f g e = only_one (op members) o p rest f g e
 
--- the bytes are a message, in its form or an older one
-abbrev pub IsMessage : List ℕ → Message → Type 0
-IsMessage bytes m = (form : ℕ) × IsTrue (is_message_form form) × IsSpelledMessage m × (bytes ≡ message_in_form form m)
-
 pub whole_ok : {A : Type 0} (bytes : List ℕ) (x : A) (r : Result (A × List ℕ) ℕ) → whole bytes r ≡ Ok x → r ≡ Ok (x, [])
 whole_ok bytes x (Ok (y, [])) e = cc
 whole_ok bytes x (Ok (y, b ∷ rest)) e = absurd cc
@@ -243,8 +240,7 @@ placed_ok {A = A} total (Ok (y, rest)) x next e =
 placed_ok total (Err left) x next e = absurd cc
 
 -- where an operation is read, a spelled one begins, and it ends at the place that is answered
-pub op_from_takes : (members : ℕ) (bytes : List ℕ) (from : ℕ) (o : Op) (next : ℕ) → from ≤ length bytes → IsBytes bytes → op_from members bytes from ≡ Ok (o, next)
-    → (rest : List ℕ) × IsSpelled members o × (drop from bytes ≡ op_bytes o ++ rest) × (next ≡ from + length (op_bytes o))
+pub op_from_takes : (members : ℕ) (bytes : List ℕ) (from : ℕ) (o : Op) (next : ℕ) → from ≤ length bytes → IsBytes bytes → op_from members bytes from ≡ Ok (o, next) → BeginsAt members bytes from o next
 unfolding op_from
 op_from_takes members bytes from o next le h e =
     let p = placed_ok (length bytes) (op_at members (drop from bytes)) o next e in
@@ -252,8 +248,8 @@ op_from_takes members bytes from o next le h e =
     (p.0, t.1, t.0.parts, omega (arith, le, p.2, ap length t.0.parts, length-append (op_bytes o) p.0, length-drop from bytes))
 
 -- where a spelled operation begins, it is read
-pub op_from_again : (members : ℕ) (bytes : List ℕ) (from : ℕ) (o : Op) (rest : List ℕ) → from ≤ length bytes → IsSpelled members o → drop from bytes ≡ op_bytes o ++ rest → op_from members bytes from ≡ Ok (o, from + length (op_bytes o))
+pub op_from_again : (members : ℕ) (bytes : List ℕ) (from : ℕ) (o : Op) (next : ℕ) → from ≤ length bytes → BeginsAt members bytes from o next → op_from members bytes from ≡ Ok (o, next)
 unfolding op_from
-op_from_again members bytes from o rest le h e =
-    let next : length bytes - length rest ≡ from + length (op_bytes o) = omega (arith, le, ap length e, length-append (op_bytes o) rest, length-drop from bytes) in
-    ap (λ bs. placed (length bytes) (op_at members bs)) e ∙ ap (placed (length bytes)) ((op members).again o rest h) ∙ ap (λ n. Ok (o, n)) next
+op_from_again members bytes from o next le b =
+    let after : length bytes - length b.0 ≡ next = omega (arith, le, b.3, ap length b.2, length-append (op_bytes o) b.0, length-drop from bytes) in
+    ap (λ bs. placed (length bytes) (op_at members bs)) b.2 ∙ ap (placed (length bytes)) ((op members).again o b.0 b.1) ∙ ap (λ n. Ok (o, n)) after

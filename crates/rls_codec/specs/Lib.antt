@@ -1,4 +1,5 @@
 pub mod Reading
 pub mod Spelled
 pub mod Gives
+pub mod CodecLaws
 pub mod Computing

@@ -4,6 +4,7 @@
 mod fault;
 mod fields;
 mod idents;
+pub mod laws;
 mod puts;
 mod writing;
 

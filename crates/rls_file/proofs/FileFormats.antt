@@ -6,7 +6,8 @@ use Rattle.std.proofs.lemmas.Bool.{and_parts, ltb-true, lt-ltb, leb-true, eqb-tr
 use Rattle.rls_ops.specs.Spelling.{four_bytes, eight_bytes}
 use Rattle.rls_codec.specs.Reading.{Read, ◌>>=◌, is_member_count, whole}
 use Rattle.rls_codec.specs.Spelled.{IsSmall, IsLarge}
-use Rattle.rls_codec.proofs.Formats.{IsBytes, Spells, bind_ok, field, fitting, spelling, seen, ruled, byte}
+use Rattle.rls_codec.specs.CodecLaws.{IsBytes}
+use Rattle.rls_codec.proofs.Formats.{Spells, bind_ok, field, fitting, spelling, seen, ruled, byte}
 use Rattle.rls_codec.proofs.PartFormats.{small, large}
 use Rattle.rls_codec.proofs.MessageFormats.{magic, magic_is, HasMagic, whole_ok}
 use Rattle.rls_model.specs.History.{Fresh, group_of, me_of, members_of}
@@ -15,6 +16,7 @@ use Rattle.rls_model.specs.Receiving.{State}
 use Rattle.rls_model.specs.declared.parts.Parts.{Parts}
 use Rattle.rls_file.specs.Files.{Broken, entries_of, Content, Journal, Snapshot, content_bytes, journal_bytes, snapshot_bytes}
 use Rattle.rls_file.specs.ReadingFiles.{is_file_form, content_at, file_at, tested, unless_broken, file_of}
+use Rattle.rls_file.specs.FileLaws.{IsUnbroken, IsFile}
 use Rattle.rls_file.specs.SpelledFiles.{IsHead, IsReadable, FitWaiting, IsSpelledParts, IsSpelledContent}
 use Rattle.rls_file.proofs.JournalFormats.{FitsJournal, journal_rest, journal}
 use Rattle.rls_file.proofs.SnapshotFormats.{Head, rest_bytes, snapshot}
@@ -151,34 +153,25 @@ pub file_again : (broken : Parts → Option Broken) (c : Content) → IsSpelledC
 unfolding file_of
 file_again broken c f = ap (λ r. r >>= tested broken) (whole_again file c f)
 
--- what breaks no rule
-abbrev pub IsWhole : (Parts → Option Broken) → Content → Type 0
-IsWhole broken (Journal s) = Unit {0}
-IsWhole broken (Snapshot form p) = broken p ≡ None
-
-whole_is : (broken : Parts → Option Broken) (c : Content) → IsWhole broken c → tested broken c ≡ Ok c
-whole_is broken (Journal s) w = refl
-whole_is broken (Snapshot form p) w = ap (unless_broken form p) w
+unbroken_is : (broken : Parts → Option Broken) (c : Content) → IsUnbroken broken c → tested broken c ≡ Ok c
+unbroken_is broken (Journal s) w = refl
+unbroken_is broken (Snapshot form p) w = ap (unless_broken form p) w
 
 unbroken : (form : ℕ) (p : Parts) (b : Option Broken) (c : Content) → unless_broken form p b ≡ Ok c → (Snapshot form p ≡ c) × (b ≡ None)
 unbroken form p None c e = (cc, refl)
 unbroken form p (Some b) c e = absurd cc
 
-is_whole : (broken : Parts → Option Broken) (c d : Content) → tested broken c ≡ Ok d → (c ≡ d) × IsWhole broken c
-is_whole broken (Journal s) d e = (cc, tt)
-is_whole broken (Snapshot form p) d e = unbroken form p (broken p) d e
-
--- the bytes are a file that says this
-abbrev pub IsFile : (Parts → Option Broken) → List ℕ → Content → Type 0
-IsFile broken bytes c = IsSpelledContent c × IsWhole broken c × (bytes ≡ content_bytes c)
+is_unbroken : (broken : Parts → Option Broken) (c d : Content) → tested broken c ≡ Ok d → (c ≡ d) × IsUnbroken broken c
+is_unbroken broken (Journal s) d e = (cc, tt)
+is_unbroken broken (Snapshot form p) d e = unbroken form p (broken p) d e
 
 pub file_reads : (broken : Parts → Option Broken) (bytes : List ℕ) (c : Content) → IsFile broken bytes c → file_of broken bytes ≡ Ok c
-file_reads broken bytes c f = ap (file_of broken) f.2 ∙ file_again broken c f.0 ∙ whole_is broken c f.1
+file_reads broken bytes c f = ap (file_of broken) f.2 ∙ file_again broken c f.0 ∙ unbroken_is broken c f.1
 
 pub file_takes : (broken : Parts → Option Broken) (bytes : List ℕ) (c : Content) → IsBytes bytes → file_of broken bytes ≡ Ok c → IsFile broken bytes c
 unfolding file_of
 file_takes broken bytes c h e =
     let b = bind_ok (whole bytes (file_at bytes)) (tested broken) c e in
-    let w = is_whole broken b.0 c b.2 in
+    let w = is_unbroken broken b.0 c b.2 in
     let t = whole_takes file bytes b.0 h b.1 in
     subst (IsFile broken bytes) w.0 (t.1, w.1, t.0)

@@ -10,7 +10,8 @@ use Rattle.rls_ident.specs.declared.epoch_name.EpochName.TheVariants.{Origin}
 use Rattle.rls_ops.specs.Spelling.{four_bytes, vector_bytes, op_bytes, counted}
 use Rattle.rls_codec.specs.Reading.{Read, ◌>>=◌, with_rule, counted_at, op_at}
 use Rattle.rls_codec.specs.Spelled.{IsSmall, FitsVector, IsSpelled}
-use Rattle.rls_codec.proofs.Formats.{IsBytes, Takes, Spells, bind_ok, ok_is, done, field, fitting, spelling, seen, ruled, byte, counted_parts}
+use Rattle.rls_codec.specs.CodecLaws.{IsBytes}
+use Rattle.rls_codec.proofs.Formats.{Takes, Spells, bind_ok, ok_is, done, field, fitting, spelling, seen, ruled, byte, counted_parts}
 use Rattle.rls_codec.proofs.PartFormats.{small, vector}
 use Rattle.rls_codec.proofs.MessageFormats.{op}
 use Rattle.rls_model.specs.History.{Entry, Accepted, Acknowledged, History, Fresh, Then, group_of, me_of, members_of}

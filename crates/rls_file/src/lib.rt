@@ -1,2 +1,4 @@
 //! Replica files of all forms.
 #![tactic(auto)]
+
+pub mod laws;

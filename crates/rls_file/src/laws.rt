@@ -1,0 +1,14 @@
+//! Laws of files. Each call runs nothing and takes no memory; its contract states the fact.
+
+ghost use Rattle.rls_file.specs.FileLaws.{FilesAreRead, ReadAreFiles, JournalsAreRead};
+
+/// A file is read exactly where the bytes are one, of any form: what is spelled is read, and what is read is spelled so.
+pub fn files()
+    ensures spelled { FilesAreRead }
+    ensures read { ReadAreFiles }
+{}
+
+/// The journal of a legal history is read back, with what waits.
+pub fn journals()
+    ensures journals { JournalsAreRead }
+{}
