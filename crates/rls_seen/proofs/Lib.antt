@@ -1,3 +1,4 @@
+pub mod Starting
 pub mod Alike
 pub mod Accepting
 pub mod Receiving
@@ -7,3 +8,4 @@ pub mod Editing
 pub mod Counting
 pub mod Taking
 pub mod Sending
+pub mod Keeping
