@@ -173,7 +173,7 @@ may_begin G o m = go o.body refl
 
 -- ---- the three sentences
 
-unused : (ss : List Stem) (o : Op) → Change ss o o.body → (a s : ℕ) (k : ℤ) → IsUsedBy o a s k → is_used ss a s k ≡ false
+pub unused : (ss : List Stem) (o : Op) → Change ss o o.body → (a s : ℕ) (k : ℤ) → IsUsedBy o a s k → is_used ss a s k ≡ false
 unused ss o (Same f n) a s k u = absurd (n a s k u)
 unused ss o (Changed w q d n f z y g i c) a s k u =
     let r = i a s k u in

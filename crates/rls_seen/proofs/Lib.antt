@@ -9,3 +9,4 @@ pub mod Counting
 pub mod Taking
 pub mod Sending
 pub mod Keeping
+pub mod StemNumbers
