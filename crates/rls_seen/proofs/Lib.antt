@@ -10,3 +10,5 @@ pub mod Taking
 pub mod Sending
 pub mod Keeping
 pub mod StemNumbers
+pub mod StableRows
+pub mod Fitting
