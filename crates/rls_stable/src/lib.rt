@@ -1,0 +1,7 @@
+//! What every member has accepted, and the operations that not every member has.
+#![tactic(auto)]
+
+mod acks;
+mod rows;
+
+pub use acks::Acks;
