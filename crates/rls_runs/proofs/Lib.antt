@@ -1,2 +1,3 @@
 pub mod RunsOf
+pub mod Texts
 mod Worked

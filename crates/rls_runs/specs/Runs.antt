@@ -1,8 +1,9 @@
 -- Lists of identifiers and their runs. A run is a first identifier and a length.
-use Rattle.std.specs.Prelude.{ℕ, zero, suc, ◌+◌, pos, Bool, true, ◌&&◌, not, List, [], ◌∷◌, ◌++◌, ◌-◌, nat_lt, Option, Some, None, if◌then◌else◌, IsTrue}
+use Rattle.std.specs.Prelude.{ℕ, zero, suc, ◌+◌, ℤ, pos, ◌+ℤ◌, int_le, Bool, true, ◌&&◌, not, List, [], ◌∷◌, ◌++◌, ◌-◌, nat_lt, Option, Some, None, if◌then◌else◌, IsTrue}
 use Rattle.std.specs.List.{list_all}
 use Rattle.rls_ident.specs.declared.tuple.Tuple.{Tuple}
-use Rattle.rls_ident.specs.Identifiers.{is_ident, shifted, ident_lt, follows}
+use Rattle.rls_ident.specs.Identifiers.{is_ident, is_bounded, last_of, shifted, ident_lt, follows}
+use Rattle.rls_ident.specs.Tuples.{offset_of}
 
 -- n identifiers from this one on, with one base and consecutive offsets
 abbrev pub run_idents : List Tuple → ℕ → List (List Tuple)
@@ -57,3 +58,11 @@ are_apart before (r ∷ rs) = nat_lt 0 r.1 && is_apart before r && are_apart (So
 abbrev pub run_before : Option (List Tuple × ℕ) → List (List Tuple × ℕ) → Option (List Tuple × ℕ)
 run_before before [] = before
 run_before before (r ∷ rs) = run_before (Some r) rs
+
+-- the offset behind the greatest one
+abbrev pub past_offsets : ℤ
+past_offsets = pos 1073741824
+
+-- an identifier of the program's range and a length, from 1 on, with no offset above the greatest one
+abbrev pub is_run : List Tuple × ℕ → Bool
+is_run r = is_ident r.0 && is_bounded r.0 && nat_lt 0 r.1 && int_le (offset_of (last_of r.0) +ℤ pos r.1) past_offsets

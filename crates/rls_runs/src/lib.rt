@@ -2,9 +2,11 @@
 #![tactic(auto)]
 
 mod run;
+mod run_list;
 mod runs;
 mod text;
 
-pub use run::Run;
+pub use run::{Run, RunError};
+pub use run_list::RunList;
 pub use runs::Runs;
 pub use text::Text;

@@ -1,13 +1,18 @@
 //! Texts.
 
-ghost use Rattle.std.specs.Prelude.{◌≡◌};
+ghost use Rattle.std.specs.Prelude.{◌≡◌, ◌<◌, ◌+◌, ◌++◌, ◌∷◌, [], IfOk, OnOk, OnErr, length, slice_index, encode_utf8_all};
+ghost use Rattle.std.specs.List.{All};
+ghost use Rattle.std.specs.Char.{IsScalar};
+ghost use Rattle.std.specs.String.{string_bytes};
 
+use std::alloc::{AllocError, Global};
+use std::collections::VecDeque;
 use std::marker::Model;
 
-/// A list of characters.
+/// A list of characters, which grows at both ends in constant amortised time.
 #[derive(Drop)]
 pub struct Text {
-    chars: Vec<char>,
+    chars: VecDeque<char>,
 }
 
 impl Model for Text {
@@ -16,20 +21,110 @@ impl Model for Text {
     ghost Value = { List ℕ };
 
     ghost view = { λ a. a.chars.items };
+
+    ghost use Rattle.std.specs.List.{All};
+    ghost use Rattle.std.specs.Char.{IsScalar};
+
+    ghost invariant = { λ a. All IsScalar a.chars.items };
 }
 
 impl Text {
-    /// The text of these characters.
-    pub fn from_vec(chars: Vec<char>) -> Text
-        ensures chars { result ≡ chars.items }
+    /// The empty text. It takes no memory.
+    pub fn new(alloc: Global) -> Text
+        ensures empty { result ≡ [] }
     {
-        Text { chars }
+        Text {
+            chars: VecDeque::new(alloc),
+        }
     }
 
-    /// The characters.
-    pub fn as_slice(&self) -> &[char]
-        ensures chars { result.now ≡ self.now }
+    /// The text of these characters. It takes no memory.
+    pub fn from_vec(chars: Vec<char>) -> Text
+        requires scalars { All IsScalar chars.items }
+        ensures chars { result ≡ chars.items }
     {
-        &self.chars
+        Text {
+            chars: VecDeque::from_vec(chars),
+        }
     }
+
+    /// The characters of a text in UTF-8.
+    pub fn from_str(alloc: Global, s: &str) -> Result<Text, AllocError>
+        ensures utf8 { IfOk result (λ text. encode_utf8_all text ≡ s.now) }
+    {
+        let chars: Vec<char> = s.chars().collect(alloc)?;
+        Ok(Text::from_vec(chars))
+    }
+
+    /// Puts a character behind the last one.
+    pub fn push(&mut self, c: char) -> Result<(), AllocError>
+        ensures ok { OnOk result (self.new ≡ self.old ++ c ∷ []) }
+        ensures err { OnErr result (self.new ≡ self.old) }
+    {
+        self.chars.push_back(c)?;
+        Ok(())
+    }
+
+    /// Puts a character in front of the first one.
+    pub fn push_front(&mut self, c: char) -> Result<(), AllocError>
+        ensures ok { OnOk result (self.new ≡ c ∷ self.old) }
+        ensures err { OnErr result (self.new ≡ self.old) }
+    {
+        self.chars.push_front(c)?;
+        Ok(())
+    }
+
+    /// The same again.
+    pub fn copy(&self) -> Result<Text, AllocError>
+        ensures copy { IfOk result (λ text. text ≡ self.now) }
+    {
+        Ok(Text {
+            chars: self.chars.clone()?,
+        })
+    }
+
+    /// The text in UTF-8.
+    pub fn to_utf8(&self) -> Result<String, AllocError>
+        ensures utf8 { IfOk result (λ s. string_bytes s ≡ encode_utf8_all self.now) }
+    {
+        let (front, back) = self.chars.as_slices();
+        let mut text = String::with_capacity(*self.chars.allocator(), self.chars.len())?;
+        push_chars(&mut text, front)?;
+        push_chars(&mut text, back)?;
+        Ok(text)
+    }
+
+    /// The number of characters.
+    pub fn len(&self) -> usize
+        ensures len { result ≡ length self.now }
+        ensures scalars { All IsScalar self.now }
+    {
+        self.chars.len()
+    }
+
+    /// The character at a place.
+    pub fn get(&self, i: usize) -> char
+        requires place { i < length self.now }
+        ensures char { result ≡ slice_index self.now i }
+    {
+        self.chars[i]
+    }
+
+    /// The characters, in two parts.
+    pub fn as_slices(&self) -> (&[char], &[char])
+        ensures chars { result.0.now ++ result.1.now ≡ self.now }
+        ensures scalars { All IsScalar self.now }
+    {
+        self.chars.as_slices()
+    }
+}
+
+#[tactic(auto, using(crate::proofs::Texts::encodes_more))]
+fn push_chars(text: &mut String, chars: &[char]) -> Result<(), AllocError>
+    ensures ok { OnOk result (string_bytes text.new ≡ string_bytes text.old ++ encode_utf8_all chars.now) }
+{
+    for c in chars {
+        text.push(*c)?;
+    }
+    Ok(())
 }
