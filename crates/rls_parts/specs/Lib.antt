@@ -1,0 +1,4 @@
+pub mod Given
+pub mod Reading
+pub mod Rules
+pub mod Computing
