@@ -1,6 +1,6 @@
 //! Laws of files. Each call runs nothing and takes no memory; its contract states the fact.
 
-ghost use Rattle.rls_file.specs.FileLaws.{FilesAreRead, ReadAreFiles, JournalsAreRead};
+ghost use Rattle.rls_file.specs.FileLaws.{FilesAreRead, ReadAreFiles, JournalsAreRead, PlacesOfBroken};
 
 /// A file is read exactly where the bytes are one, of any form: what is spelled is read, and what is read is spelled so.
 pub fn files()
@@ -11,4 +11,9 @@ pub fn files()
 /// The journal of a legal history is read back, with what waits.
 pub fn journals()
     ensures journals { JournalsAreRead }
+{}
+
+/// A broken rule of a snapshot has the place of the first byte of what it names: an entry, or the number of a list.
+pub fn places()
+    ensures places { PlacesOfBroken }
 {}
