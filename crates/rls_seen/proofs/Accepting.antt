@@ -121,7 +121,7 @@ row_go false mine count x y a e f = f
 
 -- ---- the text
 
-added_go : (f : List Tuple → List Tuple) (x : List Tuple) (cs : List ℕ) → zip (map f (run_idents x (length cs))) cs ≡ map (λ (y : List Tuple × ℕ). (f y.0, y.1)) (entries x cs)
+pub added_go : (f : List Tuple → List Tuple) (x : List Tuple) (cs : List ℕ) → zip (map f (run_idents x (length cs))) cs ≡ map (λ (y : List Tuple × ℕ). (f y.0, y.1)) (entries x cs)
 added_go f x [] = refl
 added_go f x (c ∷ cs) = ap (λ es. (f x, c) ∷ es) (added_go f (shifted (pos 1) x) cs)
 

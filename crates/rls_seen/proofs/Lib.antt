@@ -12,3 +12,5 @@ pub mod Keeping
 pub mod StemNumbers
 pub mod StableRows
 pub mod Fitting
+pub mod TextLists
+pub mod Written

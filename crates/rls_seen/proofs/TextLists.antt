@@ -1,0 +1,85 @@
+-- Lists of identifiers with characters that rise strictly.
+use Rattle.std.proofs.Common.{◌≡◌, ℕ, zero, suc, Bool, true, false, cond, List, [], ◌∷◌, map, length, refl, sym, ap, ◌∙◌, subst, inl, inr, if◌then◌else◌}
+use Rattle.std.specs.Prelude.{filter, zip, pos}
+use Rattle.std.specs.List.{list_all}
+use Rattle.std.specs.Ordering.{is_lt}
+use Rattle.rls_ident.specs.declared.tuple.Tuple.{Tuple}
+use Rattle.rls_ident.specs.Identifiers.{IsIdent, is_ident, ident_lt, ident_cmp, shifted}
+use Rattle.rls_ident.specs.Lists.{IsIn}
+use Rattle.rls_ident.proofs.Lists.{Lt, lt_trans}
+use Rattle.rls_ident.proofs.Members.{and_left, and_right, and_true, less_is, in_map, map_in}
+use Rattle.rls_ident.proofs.Tuples.{tuples}
+use Rattle.rls_runs.specs.Runs.{AreIdents, is_increasing}
+use Rattle.rls_model.proofs.Sorted.{Entry, IsBelow, AreAbove, Rises}
+
+-- the identifiers
+abbrev pub ids : List Entry → List (List Tuple)
+ids es = map (λ e. e.0) es
+
+above_trans : (x y : Entry) (ys : List Entry) → IsBelow x y → AreAbove y ys → AreAbove x ys
+above_trans x y [] h a = tt
+above_trans x y (z ∷ ys) h a = (lt_trans h a.0, above_trans x y ys h a.1)
+
+pub rises_of : (es : List Entry) → is_increasing (ids es) ≡ true → Rises es
+rises_of [] h = tt
+rises_of (x ∷ []) h = (tt, tt)
+rises_of (x ∷ (y ∷ ys)) h =
+    let l : IsBelow x y = record { less = less_is (ident_cmp x.0 y.0) (and_left (ident_lt x.0 y.0) (is_increasing (ids (y ∷ ys))) h) } in
+    let r = rises_of (y ∷ ys) (and_right (ident_lt x.0 y.0) (is_increasing (ids (y ∷ ys))) h) in
+    ((l, above_trans x y ys l r.0), r)
+
+pub increasing_of : (es : List Entry) → Rises es → is_increasing (ids es) ≡ true
+increasing_of [] r = refl
+increasing_of (x ∷ []) r = refl
+increasing_of (x ∷ (y ∷ ys)) r = and_true (ident_lt x.0 y.0) (is_increasing (ids (y ∷ ys))) (ap is_lt (r.0.0).less) (increasing_of (y ∷ ys) r.1)
+
+pub all_idents : (xs : List (List Tuple)) → ((x : List Tuple) → IsIn x xs → IsIdent x) → list_all is_ident xs ≡ true
+all_idents [] f = refl
+all_idents (x ∷ xs) f = and_true (is_ident x) (list_all is_ident xs) (f x (inl refl)) (all_idents xs (λ y p. f y (inr p)))
+
+pub ident_in : (xs : List (List Tuple)) → AreIdents xs → (x : List Tuple) → IsIn x xs → IsIdent x
+ident_in xs h x p = go xs h.0 p
+  where
+    go : (ys : List (List Tuple)) → list_all is_ident ys ≡ true → IsIn x ys → IsIdent x
+    go [] a q = absurd q
+    go (y ∷ ys) a (inl e) = subst IsIdent e (and_left (is_ident y) (list_all is_ident ys) a)
+    go (y ∷ ys) a (inr q) = go ys (and_right (is_ident y) (list_all is_ident ys) a) q
+
+-- rising entries with identifiers
+pub idents_of : (es : List Entry) → Rises es → ((x : List Tuple) → IsIn x (ids es) → IsIdent x) → AreIdents (ids es)
+idents_of es r f = (all_idents (ids es) f, increasing_of es r)
+
+above_filter : (p : Entry → Bool) (x : Entry) (ys : List Entry) → AreAbove x ys → AreAbove x (filter p ys)
+above_filter p x [] a = tt
+above_filter p x (y ∷ ys) a = go (p y) (above_filter p x ys a.1)
+  where
+    go : (b : Bool) → AreAbove x (filter p ys) → AreAbove x (cond b (y ∷ filter p ys) (filter p ys))
+    go true k = (a.0, k)
+    go false k = k
+
+pub rises_filter : (p : Entry → Bool) (es : List Entry) → Rises es → Rises (filter p es)
+rises_filter p [] r = tt
+rises_filter p (x ∷ xs) r = go (p x) (rises_filter p xs r.1)
+  where
+    go : (b : Bool) → Rises (filter p xs) → Rises (cond b (x ∷ filter p xs) (filter p xs))
+    go true k = (above_filter p x xs r.0, k)
+    go false k = k
+
+-- each identifier by a map that keeps the order
+abbrev pub moved : (List Tuple → List Tuple) → Entry → Entry
+moved f e = (f e.0, e.1)
+
+above_map : (f : List Tuple → List Tuple) (x : Entry) (ys : List Entry) → ((y : Entry) → IsIn y ys → IsBelow x y → IsBelow (moved f x) (moved f y)) → AreAbove x ys → AreAbove (moved f x) (map (moved f) ys)
+above_map f x [] k a = tt
+above_map f x (y ∷ ys) k a = (k y (inl refl) a.0, above_map f x ys (λ z p. k z (inr p)) a.1)
+
+pub rises_map : (f : List Tuple → List Tuple) (es : List Entry) → ((x y : Entry) → IsIn x es → IsIn y es → IsBelow x y → IsBelow (moved f x) (moved f y)) → Rises es → Rises (map (moved f) es)
+rises_map f [] k r = tt
+rises_map f (x ∷ xs) k r = (above_map f x xs (λ y p. k x y (inl refl) (inr p)) r.0, rises_map f xs (λ y z p q. k y z (inr p) (inr q)) r.1)
+
+-- an identifier among them, with its entry
+pub entry_in : (es : List Entry) (x : List Tuple) → IsIn x (ids es) → (e : Entry) × IsIn e es × (e.0 ≡ x)
+entry_in es x p = in_map (λ (e : Entry). e.0) x es p
+
+pub in_entry : (es : List Entry) (e : Entry) → IsIn e es → IsIn e.0 (ids es)
+in_entry es e p = map_in (λ (e : Entry). e.0) e es p

@@ -1,0 +1,192 @@
+-- The text of a replica after an operation: its identifiers rise, and their last tuples were used in each kept epoch.
+use Rattle.std.proofs.Common.{◌≡◌, ℕ, zero, suc, ◌+◌, ◌<◌, ◌≤◌, ◌||◌, not, Bool, true, false, cond, List, [], ◌∷◌, length, map, refl, sym, ap, ◌∙◌, subst, arith, inl, inr, ◌⊎◌, ⊎_elim, if◌then◌else◌}
+use Rattle.std.specs.Prelude.{ℤ, pos, ◌≤ℤ◌, ◌<ℤ◌, filter, zip}
+use Rattle.std.specs.declared.cmp.Ordering.TheVariants.{Less}
+use Rattle.std.proofs.lemmas.Int.{ints}
+use Rattle.rls_ident.specs.declared.tuple.Tuple.{Tuple}
+use Rattle.rls_ident.specs.declared.epoch_name.EpochName.{EpochName}
+use Rattle.rls_ident.specs.declared.epoch_name.EpochName.TheVariants.{Of}
+use Rattle.rls_ident.specs.EpochNames.{name_eq}
+use Rattle.rls_ident.specs.Identifiers.{IsIdent, ident_cmp, last_of, shifted}
+use Rattle.rls_ident.specs.Lists.{IsIn}
+use Rattle.rls_ident.specs.Tuples.{replica_of, seq_of, offset_of}
+use Rattle.rls_ident.proofs.Members.{bool_cases, true_false, in_map, in_filter, map_in}
+use Rattle.rls_runs.specs.Runs.{AreIdents, run_idents}
+use Rattle.rls_rename.specs.Renaming.{Renaming, forward, IsFormer}
+use Rattle.rls_rename.specs.Tree.{Node, Epochs, name_of, is_of, has_node, is_kept, AreNodes, AreBelow, greatest, translate, epoch_cmp}
+use Rattle.rls_rename.proofs.Former.{former_of}
+use Rattle.rls_rename.proofs.Growth.{kept_other, translate_other, translate_child, translate_same, translate_back}
+use Rattle.rls_rename.proofs.Kept.{greatest_kept, kept_more}
+use Rattle.rls_rename.proofs.Order.{kept_here, older_cmp, level_same}
+use Rattle.rls_rename.proofs.Paths.{IsAmong, name_eq_is, name_eq_refl, translate_ident, translate_translate, translate_order}
+use Rattle.rls_rename.proofs.SameNodes.{greatest_top}
+use Rattle.rls_rename.proofs.Triples.{HasLast, AreCovered, forward_in, newborn_in}
+use Rattle.rls_rename.proofs.Triples as triples
+use Rattle.rls_ops.specs.declared.op.Op.{Op}
+use Rattle.rls_ops.specs.declared.op.Body.{Body}
+use Rattle.rls_ops.specs.declared.op.Body.TheVariants.{Insert, Delete, Rename, Leave}
+use Rattle.rls_model.specs.declared.parts.Stem.{Stem}
+use Rattle.rls_model.specs.Document.{Character, chars_of, chars_from, has_ident, put_all}
+use Rattle.rls_model.specs.Epochs.{nodes_after, renaming_of}
+use Rattle.rls_model.specs.Laws.{IsUsedBy, IsOfRename}
+use Rattle.rls_model.specs.Stems.{is_used, stems_after}
+use Rattle.rls_model.specs.WellFormed.{IsBody}
+use Rattle.rls_model.proofs.Distinct.{ident_shifted}
+use Rattle.rls_model.proofs.Fresh.{Change, unused, still_used, now_used}
+use Rattle.rls_model.proofs.Insertion.{born, born_entries}
+use Rattle.rls_model.proofs.Sorted.{Entry, IsBelow, Rises, AreApart, AreDistinct, AllApart, rises_all, in_put_all}
+use Rattle.rls_model.proofs.Spliced.{entries, entries_rise}
+use Rattle.rls_seen.specs.Seen.{Seen, greatest_over, translate_over, idents_over}
+use Rattle.rls_seen.specs.Over.{placed_over, added_over, renamed_over, is_greatest_over, text_after, epochs_after}
+use Rattle.rls_seen.specs.Sane.{IsSane, IsUsed, IsCovered, AreEpochs, MayApply}
+use Rattle.rls_seen.proofs.Accepting.{added_go}
+use Rattle.rls_seen.proofs.Fitting.{Facts, facts, change, name_new}
+use Rattle.rls_seen.proofs.TextLists.{ids, moved, rises_of, ident_in, idents_of, rises_filter, rises_map, entry_in, in_entry}
+
+-- ---- used last tuples
+
+abbrev pub Used : List Stem → ℕ → ℕ → ℤ → Type 0
+Used ss a q k = is_used ss a q k ≡ true
+
+among_node : (ns : List Node) (R : Renaming) → IsAmong ns R → (n : Node) × IsIn n ns × (n.renaming ≡ R)
+among_node [] R p = absurd p
+among_node (n ∷ ns) R (inl e) = (n, inl refl, e)
+among_node (n ∷ ns) R (inr p) = let r = among_node ns R p in (r.0, inr r.1, r.2)
+
+-- the nodes of a replica are covered
+pub covered : (ss : List Stem) (ns : List Node) → ((n : Node) → IsIn n ns → IsCovered ss n) → AreCovered (Used ss) ns
+covered ss ns f R p =
+    let r = among_node ns R p in
+    subst (λ (S : Renaming). triples.IsCovered (Used ss) S) r.2 (f r.0 r.1)
+
+-- in each kept epoch the last tuple of x, an identifier of epoch g, was used
+abbrev pub IsKnown : List Stem → EpochName → List Node → EpochName → List Tuple → Type 0
+IsKnown ss top ns g x = (f : EpochName) → is_kept top ns f ≡ true → HasLast (Used ss) (translate ns g f x)
+
+abbrev Grows : List Stem → List Stem → Type 0
+Grows ss ts = (a q : ℕ) (k : ℤ) → Used ss a q k → Used ts a q k
+
+known_more : (ss ts : List Stem) (top : EpochName) (ns : List Node) (g : EpochName) (x : List Tuple) → Grows ss ts → IsKnown ss top ns g x → IsKnown ts top ns g x
+known_more ss ts top ns g x m k f l = let y = translate ns g f x in m (replica_of (last_of y)) (seq_of (last_of y)) (offset_of (last_of y)) (k f l)
+
+kept_before : (top : EpochName) (node : Node) (older : List Node) (f : EpochName) → is_of node f ≡ false → is_kept top (node ∷ older) f ≡ true → is_kept top older f ≡ true
+kept_before top node older f h k = sym (ap (λ b. name_eq f top || (b || has_node older f)) h) ∙ k
+
+-- also after one more rename
+known_renamed : (ss ts : List Stem) (top : EpochName) (node : Node) (older : List Node) (g : EpochName) (x : List Tuple) → AreNodes (node ∷ older) → AreBelow top (node ∷ older) → Grows ss ts → triples.IsCovered (Used ts) node.renaming
+    → IsIdent x → is_kept top older g ≡ true → IsKnown ss top older g x → IsKnown ts top (node ∷ older) g x
+known_renamed ss ts top node older g x n b m v i k u f l =
+    let here = kept_other top node older g n b k in
+    bool_cases (is_of node f)
+    (λ e. let y = translate older g node.parent x in
+      subst (HasLast (Used ts)) (sym (translate_child node older g f x n i here e))
+        (forward_in (Used ts) node.renaming y n.0 (translate_ident older g node.parent x n.2 i) v (m (replica_of (last_of y)) (seq_of (last_of y)) (offset_of (last_of y)) (u node.parent b.0))))
+    (λ e. let y = translate older g f x in
+      subst (HasLast (Used ts)) (sym (translate_other node older g f x here e))
+        (m (replica_of (last_of y)) (seq_of (last_of y)) (offset_of (last_of y)) (u f (kept_before top node older f e l))))
+
+-- and where it is taken along to another epoch
+known_moved : (ss : List Stem) (top : EpochName) (ns : List Node) (g h : EpochName) (x : List Tuple) → AreNodes ns → IsIdent x → IsKnown ss top ns g x → IsKnown ss top ns h (translate ns g h x)
+known_moved ss top ns g h x n i u f l = subst (HasLast (Used ss)) (sym (translate_translate ns g h f x n i)) (u f l)
+
+-- ---- a text
+
+-- identifiers of the greatest epoch that rise, with used last tuples
+pub record IsWritten (ss : List Stem) (top : EpochName) (ns : List Node) (es : List Entry) : Type 0 where
+  pub idents : AreIdents (ids es)
+  pub known : (x : List Tuple) → IsIn x (ids es) → IsKnown ss top ns (greatest top ns) x
+
+pub written : (s : Seen) → IsSane s → IsWritten s.stems s.epochs.top s.epochs.nodes s.text
+written s sane = record { idents = sane.idents; known = sane.used }
+
+-- the same nodes, and no more identifiers
+fewer : (ss ts : List Stem) (top : EpochName) (ns : List Node) (es : List Entry) (p : Entry → Bool) → Grows ss ts → IsWritten ss top ns es → IsWritten ts top ns (filter p es)
+fewer ss ts top ns es p m w = record {
+    idents = idents_of (filter p es) (rises_filter p es (rises_of es w.idents.1)) (λ x q. ident_in (ids es) w.idents x (was x q));
+    known = λ x q. known_more ss ts top ns (greatest top ns) x m (w.known x (was x q));
+  }
+  where
+    was : (x : List Tuple) → IsIn x (ids (filter p es)) → IsIn x (ids es)
+    was x q =
+        let r = entry_in (filter p es) x q in
+        subst (λ y. IsIn y (ids es)) r.2 (in_entry es r.0 (in_filter p r.0 es r.1).0)
+
+same : (ss ts : List Stem) (top : EpochName) (ns : List Node) (es : List Entry) → Grows ss ts → IsWritten ss top ns es → IsWritten ts top ns es
+same ss ts top ns es m w = record { idents = w.idents; known = λ x q. known_more ss ts top ns (greatest top ns) x m (w.known x q) }
+
+-- ---- an insertion
+
+-- what an insertion adds
+pub record IsNewborn (s : Seen) (o : Op) (first : List Tuple) (text : List ℕ) : Type 0 where
+  pub idents : AreIdents (map (placed_over s o.epoch) (run_idents first (length text)))
+  pub new : (x : List Tuple) → IsIn x (map (placed_over s o.epoch) (run_idents first (length text))) → IsIn x (idents_over s) → ⊥
+
+ids_zip : (xs : List (List Tuple)) (cs : List ℕ) → length xs ≡ length cs → ids (zip xs cs) ≡ xs
+ids_zip [] [] e = refl
+ids_zip [] (c ∷ cs) e = refl
+ids_zip (x ∷ xs) [] e = absurd (omega arith)
+ids_zip (x ∷ xs) (c ∷ cs) e = ap (λ ys. x ∷ ys) (ids_zip xs cs (omega arith))
+
+length-map_run : (f : List Tuple → List Tuple) (x : List Tuple) (n : ℕ) → length (map f (run_idents x n)) ≡ n
+length-map_run f x zero = refl
+length-map_run f x (suc n) = ap suc (length-map_run f (shifted (pos 1) x) n)
+
+-- the identifiers that it adds
+pub added_ids : (s : Seen) (e : EpochName) (first : List Tuple) (text : List ℕ) → ids (added_over s e first text) ≡ map (placed_over s e) (run_idents first (length text))
+added_ids s e first text = ids_zip (map (placed_over s e) (run_idents first (length text))) text (length-map_run (placed_over s e) first (length text))
+
+entry_ident : (x : List Tuple) (cs : List ℕ) → IsIdent x → (y : Entry) → IsIn y (entries x cs) → IsIdent y.0
+entry_ident x [] i y p = absurd p
+entry_ident x (c ∷ cs) i y (inl e) = subst (λ (z : Entry). IsIdent z.0) e i
+entry_ident x (c ∷ cs) i y (inr p) = entry_ident (shifted (pos 1) x) cs (ident_shifted (pos 1) x i) y p
+
+entry_used : (o : Op) (x : List Tuple) (cs : List ℕ) → o.body ≡ Insert x cs → (y : Entry) → IsIn y (entries x cs) → IsUsedBy o (replica_of (last_of y.0)) (seq_of (last_of y.0)) (offset_of (last_of y.0))
+entry_used o x cs e y p =
+    let r = in_map born y (chars_from o 0 x cs) (subst (IsIn y) (sym (born_entries o 0 x cs)) p) in
+    let c = r.0 in
+    let q : IsIn c (chars_of o o.body) = subst (λ b. IsIn c (chars_of o b)) (sym e) r.1 in
+    let f : c.ident ≡ y.0 = ap (λ (z : Entry). z.0) r.2 in
+    inl (c, q, (ap (λ z. replica_of (last_of z)) f, ap (λ z. seq_of (last_of z)) f, ap (λ z. offset_of (last_of z)) f))
+
+placed_below : (s : Seen) (e : EpochName) (x y : Entry) → AreNodes s.epochs.nodes → IsIdent x.0 → IsIdent y.0 → IsBelow x y → IsBelow (moved (placed_over s e) x) (moved (placed_over s e) y)
+placed_below s e x y n i j l = record { less = translate_order s.epochs.nodes e (greatest_over s) x.0 y.0 n i j ∙ l.less }
+
+added_rises : (s : Seen) (e : EpochName) (first : List Tuple) (text : List ℕ) → AreNodes s.epochs.nodes → IsIdent first → Rises (added_over s e first text)
+added_rises s e first text n i =
+    subst Rises (sym (added_go (placed_over s e) first text))
+      (rises_map (placed_over s e) (entries first text)
+        (λ x y p q l. placed_below s e x y n (entry_ident first text i x p) (entry_ident first text i y q) l)
+        (entries_rise first text i))
+
+-- an entry that is added is that of the operation, taken along
+added_in : (s : Seen) (e : EpochName) (first : List Tuple) (text : List ℕ) (x : List Tuple) → IsIn x (ids (added_over s e first text)) → (y : Entry) × IsIn y (entries first text) × (placed_over s e y.0 ≡ x)
+added_in s e first text x p =
+    let q = entry_in (map (moved (placed_over s e)) (entries first text)) x (subst (λ es. IsIn x (ids es)) (added_go (placed_over s e) first text) p) in
+    let r = in_map (moved (placed_over s e)) q.0 (entries first text) q.1 in
+    (r.0, r.1, ap (λ (z : Entry). z.0) r.2 ∙ q.2)
+
+added_new : (s : Seen) (o : Op) (first : List Tuple) (text : List ℕ) → IsSane s → Facts s o → o.body ≡ Insert first text → IsIdent first → (x : List Tuple) → IsIn x (ids (added_over s o.epoch first text)) → IsIn x (idents_over s) → ⊥
+added_new s o first text sane f e i x p q =
+    let ns = s.epochs.nodes in
+    let g = greatest_over s in
+    let r = added_in s o.epoch first text x p in
+    let y = r.0.0 in
+    let j = entry_ident first text i r.0 r.1 in
+    let a : translate ns g o.epoch x ≡ y = ap (translate ns g o.epoch) (sym r.2) ∙ translate_back ns o.epoch g y sane.epochs.nodes j in
+    let u : HasLast (Used s.stems) y = subst (HasLast (Used s.stems)) a (sane.used x q o.epoch f.kept) in
+    let n = unused s.stems o (change s o sane f) (replica_of (last_of y)) (seq_of (last_of y)) (offset_of (last_of y)) (entry_used o first text e r.0 r.1) in
+    absurd (cc)
+
+pub newborn : (s : Seen) (o : Op) (first : List Tuple) (text : List ℕ) → IsSane s → MayApply s o → o.body ≡ Insert first text → IsNewborn s o first text
+newborn s o first text sane m e =
+    let f = facts s o m in
+    let b : IsBody (Insert first text) = subst IsBody e m.whole.body in
+    let i = b.0 in
+    let n = sane.epochs.nodes in
+    let xs = added_ids s o.epoch first text in
+    record {
+      idents = subst AreIdents xs
+        (idents_of (added_over s o.epoch first text) (added_rises s o.epoch first text n i)
+          (λ x p. let r = added_in s o.epoch first text x p in subst IsIdent r.2 (translate_ident s.epochs.nodes o.epoch (greatest_over s) r.0.0 n (entry_ident first text i r.0 r.1))));
+      new = λ x p q. added_new s o first text sane f e i x (subst (IsIn x) (sym xs) p) q;
+    }
