@@ -10,7 +10,10 @@ use Rattle.rls_ident.specs.EpochNames.{name_eq}
 use Rattle.rls_ident.specs.Identifiers.{IsIdent, ident_cmp, last_of, shifted}
 use Rattle.rls_ident.specs.Lists.{IsIn}
 use Rattle.rls_ident.specs.Tuples.{replica_of, seq_of, offset_of}
-use Rattle.rls_ident.proofs.Members.{bool_cases, true_false, in_map, in_filter, map_in}
+use Rattle.rls_ident.proofs.Lists.{Lt, lt_irrefl}
+use Rattle.rls_ident.proofs.Members.{bool_cases, true_false, eq_not, in_map, in_filter}
+use Rattle.rls_ident.proofs.Tuples.{tuples}
+use Rattle.rls_ops.specs.Shapes.{is_empty}
 use Rattle.rls_runs.specs.Runs.{AreIdents, run_idents}
 use Rattle.rls_rename.specs.Renaming.{Renaming, forward, IsFormer}
 use Rattle.rls_rename.specs.Tree.{Node, Epochs, name_of, is_of, has_node, is_kept, AreNodes, AreBelow, greatest, translate, epoch_cmp}
@@ -34,7 +37,7 @@ use Rattle.rls_model.specs.WellFormed.{IsBody}
 use Rattle.rls_model.proofs.Distinct.{ident_shifted}
 use Rattle.rls_model.proofs.Fresh.{Change, unused, still_used, now_used}
 use Rattle.rls_model.proofs.Insertion.{born, born_entries}
-use Rattle.rls_model.proofs.Sorted.{Entry, IsBelow, Rises, AreApart, AreDistinct, AllApart, rises_all, in_put_all}
+use Rattle.rls_model.proofs.Sorted.{Entry, IsBelow, AreAbove, Rises, AreApart, AreDistinct, AllApart, rises_all, in_put_all}
 use Rattle.rls_model.proofs.Spliced.{entries, entries_rise}
 use Rattle.rls_seen.specs.Seen.{Seen, greatest_over, translate_over, idents_over}
 use Rattle.rls_seen.specs.Over.{placed_over, added_over, renamed_over, is_greatest_over, text_after, epochs_after}
@@ -190,3 +193,166 @@ newborn s o first text sane m e =
           (λ x p. let r = added_in s o.epoch first text x p in subst IsIdent r.2 (translate_ident s.epochs.nodes o.epoch (greatest_over s) r.0.0 n (entry_ident first text i r.0 r.1))));
       new = λ x p q. added_new s o first text sane f e i x (subst (IsIn x) (sym xs) p) q;
     }
+
+-- ---- after an operation
+
+later_used : (s : Seen) (o : Op) → IsSane s → Facts s o → Grows s.stems (stems_after s.stems o.author o.seq o.body)
+later_used s o sane f a q k u = still_used s.stems o (change s o sane f) a q k u
+
+apart_of : (x : Entry) (ys : List Entry) → ((y : Entry) → IsIn y ys → x.0 ≡ y.0 → ⊥) → AreApart x ys
+apart_of x [] f = tt
+apart_of x (y ∷ ys) f = (f y (inl refl), apart_of x ys (λ z p. f z (inr p)))
+
+all_apart : (xs ys : List Entry) → ((x y : Entry) → IsIn x xs → IsIn y ys → x.0 ≡ y.0 → ⊥) → AllApart xs ys
+all_apart [] ys f = tt
+all_apart (x ∷ xs) ys f = (apart_of x ys (λ y q. f x y (inl refl) q), all_apart xs ys (λ z y p q. f z y (inr p) q))
+
+above_in : (x y : Entry) (ys : List Entry) → AreAbove x ys → IsIn y ys → IsBelow x y
+above_in x y [] a p = absurd p
+above_in x y (z ∷ ys) a (inl e) = subst (λ (w : Entry). IsBelow x w) e a.0
+above_in x y (z ∷ ys) a (inr p) = above_in x y ys a.1 p
+
+distinct_of : (xs : List Entry) → Rises xs → AreDistinct xs
+distinct_of [] r = tt
+distinct_of (x ∷ xs) r =
+    (apart_of x xs (λ y p e. lt_irrefl (subst (λ z. Lt tuples z y.0) e (above_in x y xs r.0 p))), distinct_of xs r.1)
+
+-- insertion
+inserted : (s : Seen) (o : Op) (first : List Tuple) (text : List ℕ) → IsSane s → Facts s o → o.body ≡ Insert first text → IsIdent first
+    → IsWritten (stems_after s.stems o.author o.seq o.body) s.epochs.top s.epochs.nodes (put_all (added_over s o.epoch first text) s.text)
+inserted s o first text sane f e i =
+    let ns = s.epochs.nodes in
+    let g = greatest_over s in
+    let n = sane.epochs.nodes in
+    let ts = stems_after s.stems o.author o.seq o.body in
+    let w = written s sane in
+    let es = added_over s o.epoch first text in
+    let grows = later_used s o sane f in
+    let ch = change s o sane f in
+    let r : Rises es = added_rises s o.epoch first text n i in
+    let split : (x : List Tuple) → IsIn x (ids (put_all es s.text)) → IsIn x (ids es) ⊎ IsIn x (ids s.text) =
+      λ x p. let q = entry_in (put_all es s.text) x p in
+        ⊎_elim (λ a. inl (subst (λ y. IsIn y (ids es)) q.2 (in_entry es q.0 a))) (λ a. inr (subst (λ y. IsIn y (ids s.text)) q.2 (in_entry s.text q.0 a))) (in_put_all q.0 es s.text q.1) in
+    record {
+      idents = idents_of (put_all es s.text)
+        (rises_all es s.text (rises_of s.text w.idents.1) (distinct_of es r)
+          (all_apart es s.text (λ x y p q d. added_new s o first text sane f e i x.0 (in_entry es x p) (subst (λ z. IsIn z (ids s.text)) (sym d) (in_entry s.text y q)))))
+        (λ x p. ⊎_elim
+          (λ a. let b = added_in s o.epoch first text x a in subst IsIdent b.2 (translate_ident ns o.epoch g b.0.0 n (entry_ident first text i b.0 b.1)))
+          (λ a. ident_in (ids s.text) w.idents x a)
+          (split x p));
+      known = λ x p. ⊎_elim
+        (λ a. let b = added_in s o.epoch first text x a in
+          let y = b.0.0 in
+          let j = entry_ident first text i b.0 b.1 in
+          let u = entry_used o first text e b.0 b.1 in
+          let fresh : HasLast (Used s.stems) y → ⊥ = λ v. let c = unused s.stems o ch (replica_of (last_of y)) (seq_of (last_of y)) (offset_of (last_of y)) u in true_false (is_used s.stems (replica_of (last_of y)) (seq_of (last_of y)) (offset_of (last_of y))) v c in
+          let taken : HasLast (Used ts) y = now_used s.stems o ch (replica_of (last_of y)) (seq_of (last_of y)) (offset_of (last_of y)) u in
+          let c = covered s.stems ns sane.epochs.covered in
+          let d : AreCovered (Used ts) ns = λ R q k l. grows R.replica R.seq (pos k) (c R q k l) in
+          subst (IsKnown ts s.epochs.top ns g) b.2
+            (known_moved ts s.epochs.top ns o.epoch g y n j (λ h k. newborn_in (Used s.stems) (Used ts) ns o.epoch h y n c d j fresh taken)))
+        (λ a. known_more s.stems ts s.epochs.top ns g x grows (w.known x a))
+        (split x p);
+    }
+
+-- the greatest epoch after a rename
+next_greatest : (top : EpochName) (node : Node) (older : List Node) → AreNodes (node ∷ older) → AreBelow top (node ∷ older)
+    → (greatest top (node ∷ older) ≡ name_of node.renaming) ⊎ (greatest top (node ∷ older) ≡ greatest top older)
+next_greatest top node older n b =
+    let k = greatest top (node ∷ older) in
+    let g = greatest top older in
+    let gk = kept_more top node older g (greatest_kept top older) in
+    bool_cases (is_of node k)
+    (λ e. inl (sym (name_eq_is (name_of node.renaming) k e)))
+    (λ e. let h = kept_before top node older k e (greatest_kept top (node ∷ older)) in
+      inr (level_same top (node ∷ older) n b k g (greatest_kept top (node ∷ older)) gk (greatest_top top (node ∷ older) g gk)
+        (λ q. greatest_top top older k h (sym (older_cmp top node older n b g k (greatest_kept top older) h) ∙ q))))
+
+-- the rename covers its new identifiers
+pub rename_covered : (s : Seen) (o : Op) (former : List (List Tuple)) → IsSane s → Facts s o → o.body ≡ Rename former → triples.IsCovered (Used (stems_after s.stems o.author o.seq o.body)) (renaming_of o former)
+rename_covered s o former sane f e j l =
+    let P : Body → Type 0 = λ b. IsOfRename o b o.author o.seq (pos j) in
+    let q : P (Rename former) = (refl, refl, omega (arith, ints), omega (arith, ints)) in
+    now_used s.stems o (change s o sane f) o.author o.seq (pos j) (inr (subst P (sym e) q))
+
+-- the nodes after a rename form a tree
+pub rename_tree : (s : Seen) (o : Op) (former : List (List Tuple)) → IsSane s → MayApply s o → o.body ≡ Rename former
+    → AreNodes (record { parent = o.epoch; renaming = renaming_of o former } ∷ s.epochs.nodes) × AreBelow s.epochs.top (record { parent = o.epoch; renaming = renaming_of o former } ∷ s.epochs.nodes)
+rename_tree s o former sane m e =
+    let f = facts s o m in
+    let node : Node = record { parent = o.epoch; renaming = renaming_of o former } in
+    let b : IsBody (Rename former) = subst IsBody e m.whole.body in
+    let z : is_empty (Rename former) ≡ false = ap is_empty (sym e) ∙ f.shaped.some in
+    let l : 0 < length former = let k = eq_not (length former) 0 z in omega arith in
+    let new = name_new s o sane f in
+    ((former_of former l b, not_there (name_eq (Of o.author o.seq) s.epochs.top) (has_node s.epochs.nodes (Of o.author o.seq)) new, sane.epochs.nodes),
+     (f.kept, not_here (name_eq (Of o.author o.seq) s.epochs.top) (has_node s.epochs.nodes (Of o.author o.seq)) new, sane.epochs.below))
+  where
+    not_there : (x y : Bool) → (x || y) ≡ false → y ≡ false
+    not_there true y h = absurd (cc)
+    not_there false y h = h
+
+    not_here : (x y : Bool) → (x || y) ≡ false → x ≡ false
+    not_here true y h = absurd (cc)
+    not_here false y h = refl
+
+-- rename
+renamed : (s : Seen) (o : Op) (former : List (List Tuple)) → IsSane s → MayApply s o → o.body ≡ Rename former
+    → IsWritten (stems_after s.stems o.author o.seq o.body) s.epochs.top (record { parent = o.epoch; renaming = renaming_of o former } ∷ s.epochs.nodes) (text_after s o (Rename former))
+renamed s o former sane m e =
+    let f = facts s o m in
+    let older = s.epochs.nodes in
+    let node : Node = record { parent = o.epoch; renaming = renaming_of o former } in
+    let ns = node ∷ older in
+    let top = s.epochs.top in
+    let g = greatest_over s in
+    let t = rename_tree s o former sane m e in
+    let n = t.0 in
+    let b = t.1 in
+    let ts = stems_after s.stems o.author o.seq o.body in
+    let w = written s sane in
+    let gk : is_kept top older g ≡ true = greatest_kept top older in
+    let known : (x : List Tuple) → IsIn x (ids s.text) → IsKnown ts top ns g x =
+      λ x p. known_renamed s.stems ts top node older g x n b (later_used s o sane f) (rename_covered s o former sane f e) (ident_in (ids s.text) w.idents x p) gk (w.known x p) in
+    let moves : List Entry = map (moved (renamed_over s o former)) s.text in
+    let fresh : EpochName = Of o.author o.seq in
+    let yes : greatest top ns ≡ fresh → IsWritten ts top ns moves =
+      λ q. let is : (x : List Tuple) → IsIdent x → translate ns g fresh x ≡ renamed_over s o former x =
+          λ x i. translate_child node older g fresh x n i (kept_other top node older g n b gk) (name_eq_refl fresh) in
+        let order : (x y : Entry) → IsIn x s.text → IsIn y s.text → IsBelow x y → IsBelow (moved (renamed_over s o former) x) (moved (renamed_over s o former) y) =
+          λ x y p r l. let i = ident_in (ids s.text) w.idents x.0 (in_entry s.text x p) in
+            let j = ident_in (ids s.text) w.idents y.0 (in_entry s.text y r) in
+            record { less = subst (λ z. ident_cmp z (renamed_over s o former y.0) ≡ Less) (is x.0 i) (subst (λ z. ident_cmp (translate ns g fresh x.0) z ≡ Less) (is y.0 j) (translate_order ns g fresh x.0 y.0 n i j ∙ l.less)) } in
+        let from : (x : List Tuple) → IsIn x (ids moves) → (y : List Tuple) × IsIn y (ids s.text) × (translate ns g fresh y ≡ x) =
+          λ x p. let a = entry_in moves x p in
+            let c = in_map (moved (renamed_over s o former)) a.0 s.text a.1 in
+            let d = in_entry s.text c.0 c.1 in
+            (c.0.0, d, is c.0.0 (ident_in (ids s.text) w.idents c.0.0 d) ∙ (ap (λ (z : Entry). z.0) c.2 ∙ a.2)) in
+        record {
+          idents = idents_of moves (rises_map (renamed_over s o former) s.text order (rises_of s.text w.idents.1))
+            (λ x p. let a = from x p in subst IsIdent a.2 (translate_ident ns g fresh a.0 n (ident_in (ids s.text) w.idents a.0 a.1)));
+          known = λ x p. let a = from x p in
+            subst (λ h. IsKnown ts top ns h x) (sym q) (subst (IsKnown ts top ns fresh) a.2 (known_moved ts top ns g fresh a.0 n (ident_in (ids s.text) w.idents a.0 a.1) (known a.0 a.1)));
+        } in
+    let no : greatest top ns ≡ g → IsWritten ts top ns s.text =
+      λ q. record { idents = w.idents; known = λ x p. subst (λ h. IsKnown ts top ns h x) (sym q) (known x p) } in
+    let test : is_greatest_over s o ≡ name_eq (greatest top ns) fresh = ap (λ c. name_eq (greatest top (nodes_after older o c)) fresh) e in
+    bool_cases (is_greatest_over s o)
+    (λ q. subst (IsWritten ts top ns) (sym (ap (λ c. if c then moves else s.text) q)) (yes (name_eq_is (greatest top ns) fresh (sym test ∙ q))))
+    (λ q. subst (IsWritten ts top ns) (sym (ap (λ c. if c then moves else s.text) q))
+      (no (⊎_elim
+        (λ h. absurd (true_false (is_greatest_over s o) (test ∙ (ap (λ c. name_eq c fresh) h ∙ name_eq_refl fresh)) q))
+        (λ h. h)
+        (next_greatest top node older n b))))
+
+written_go : (s : Seen) (o : Op) (b : Body) → IsSane s → MayApply s o → o.body ≡ b → IsWritten (stems_after s.stems o.author o.seq o.body) s.epochs.top (nodes_after s.epochs.nodes o b) (text_after s o b)
+written_go s o (Insert first text) sane m e = let b : IsBody (Insert first text) = subst IsBody e m.whole.body in inserted s o first text sane (facts s o m) e b.0
+written_go s o (Delete targets) sane m e =
+    fewer s.stems (stems_after s.stems o.author o.seq o.body) s.epochs.top s.epochs.nodes s.text (λ y. not (has_ident (map (placed_over s o.epoch) targets) y.0)) (later_used s o sane (facts s o m)) (written s sane)
+written_go s o (Rename former) sane m e = renamed s o former sane m e
+written_go s o Leave sane m e = same s.stems (stems_after s.stems o.author o.seq o.body) s.epochs.top s.epochs.nodes s.text (later_used s o sane (facts s o m)) (written s sane)
+
+-- the text after an operation that may be applied
+pub written_after : (s : Seen) (o : Op) → IsSane s → MayApply s o → IsWritten (stems_after s.stems o.author o.seq o.body) s.epochs.top (nodes_after s.epochs.nodes o o.body) (text_after s o o.body)
+written_after s o sane m = written_go s o o.body sane m refl
