@@ -1,98 +1,18 @@
 -- What waits fits to the history, after an operation was accepted, taken out or put in.
-use Rattle.std.proofs.Common.{◌≡◌, ℕ, suc, ◌+◌, ◌≤◌, ◌<◌, Bool, true, false, List, [], ◌∷◌, length, refl, sym, ap, ◌∙◌, subst, arith, inl, inr, ◌⊎◌, ⊎_elim, nat_lt}
-use Rattle.std.specs.Prelude.{if◌then◌else◌, ◌&&◌, ◌==◌, None}
+use Rattle.std.proofs.Common.{◌≡◌, ℕ, suc, ◌+◌, ◌≤◌, ◌<◌, Bool, true, false, List, [], ◌∷◌, refl, sym, ap, ◌∙◌, subst, arith, inl, inr, ⊎_elim, nat_lt}
+use Rattle.std.specs.Prelude.{if◌then◌else◌, ◌==◌, None}
 use Rattle.std.specs.List.{list_all}
 use Rattle.rls_ident.specs.Lists.{IsIn}
-use Rattle.rls_ident.proofs.Members.{all_in, and_left, and_right, and_true, bool_cases, eq_is, eq_not, eq_test, in_all, lt_is, lt_test, not_lt_is, or_left, or_right, or_split, true_false}
+use Rattle.rls_ident.proofs.Members.{all_in, and_true, bool_cases, eq_is, eq_not, in_all, lt_is, not_lt_is, true_false}
 use Rattle.rls_ops.specs.declared.op.Op.{Op}
 use Rattle.rls_ops.specs.Shapes.{shape_fault}
+pub use Rattle.rls_ops.proofs.Waiting.{numbered_is, numbered_test, in_without, in_with, length-without, less_without}
+use Rattle.rls_ops.proofs.Waiting.{before_trans, before_total}
 use Rattle.rls_model.specs.History.{Accepted, History, Then, count, count_of, members_of}
 use Rattle.rls_model.specs.Receiving.{is_numbered, comes_before, with_waiting, without}
 use Rattle.rls_model.specs.WellFormed.{IsOp}
 use Rattle.rls_model.specs.Legal.{MayAccept, AreWaiting}
 use Rattle.rls_model.proofs.WorldsLists.{raise_other, raise_upto}
-
-pub numbered_is : (a s : ℕ) (x : Op) → is_numbered a s x ≡ true → (x.author ≡ a) × (x.seq ≡ s)
-numbered_is a s x h = (eq_is x.author a (and_left (x.author == a) (x.seq == s) h), eq_is x.seq s (and_right (x.author == a) (x.seq == s) h))
-
-pub numbered_test : (a s : ℕ) (x : Op) → x.author ≡ a → x.seq ≡ s → is_numbered a s x ≡ true
-numbered_test a s x e f = and_true (x.author == a) (x.seq == s) (eq_test x.author a e) (eq_test x.seq s f)
-
--- ---- elements
-
-pub in_without : (a s : ℕ) (x : Op) (W : List Op) → IsIn x (without a s W) → IsIn x W × (is_numbered a s x ≡ false)
-in_without a s x [] p = absurd p
-in_without a s x (w ∷ ws) p = go (is_numbered a s w) refl p (λ q. in_without a s x ws q)
-  where
-    go : (b : Bool) → is_numbered a s w ≡ b → IsIn x (if b then without a s ws else w ∷ without a s ws) → (IsIn x (without a s ws) → IsIn x ws × (is_numbered a s x ≡ false)) → IsIn x (w ∷ ws) × (is_numbered a s x ≡ false)
-    go true e q ih = let r = ih q in (inr r.0, r.1)
-    go false e (inl q) ih = (inl q, ap (is_numbered a s) (sym q) ∙ e)
-    go false e (inr q) ih = let r = ih q in (inr r.0, r.1)
-
-pub in_with : (o x : Op) (W : List Op) → IsIn x (with_waiting o W) → (o ≡ x) ⊎ IsIn x W
-in_with o x [] p = p
-in_with o x (w ∷ ws) p = go (comes_before w o) p (λ q. in_with o x ws q)
-  where
-    go : (b : Bool) → IsIn x (if b then w ∷ with_waiting o ws else o ∷ w ∷ ws) → (IsIn x (with_waiting o ws) → (o ≡ x) ⊎ IsIn x ws) → (o ≡ x) ⊎ IsIn x (w ∷ ws)
-    go true (inl q) ih = inr (inl q)
-    go true (inr q) ih = ⊎_elim (λ e. inl e) (λ r. inr (inr r)) (ih q)
-    go false q ih = q
-
-pub length-without : (a s : ℕ) (W : List Op) → length (without a s W) ≤ length W
-length-without a s [] = omega arith
-length-without a s (w ∷ ws) = go (is_numbered a s w) (length-without a s ws)
-  where
-    go : (b : Bool) → length (without a s ws) ≤ length ws → length (if b then without a s ws else w ∷ without a s ws) ≤ suc (length ws)
-    go true h = omega arith
-    go false h = omega arith
-
-pub less_without : (a s : ℕ) (x : Op) (W : List Op) → IsIn x W → is_numbered a s x ≡ true → length (without a s W) < length W
-less_without a s x [] p h = absurd p
-less_without a s x (w ∷ ws) p h = go (is_numbered a s w) refl p (length-without a s ws) (λ q. less_without a s x ws q h)
-  where
-    go : (b : Bool) → is_numbered a s w ≡ b → IsIn x (w ∷ ws) → length (without a s ws) ≤ length ws → (IsIn x ws → length (without a s ws) < length ws) → length (if b then without a s ws else w ∷ without a s ws) < suc (length ws)
-    go true e q k ih = omega arith
-    go false e (inl q) k ih = absurd (true_false (is_numbered a s x) h (ap (is_numbered a s) (sym q) ∙ e))
-    go false e (inr q) k ih = let m = ih q in omega arith
-
--- ---- the order
-
-before_is : (o p : Op) → comes_before o p ≡ true → (o.author < p.author) ⊎ ((o.author ≡ p.author) × (o.seq < p.seq))
-before_is o p h =
-    ⊎_elim (λ e. inl (lt_is o.author p.author e))
-    (λ e. inr (eq_is o.author p.author (and_left (o.author == p.author) (nat_lt o.seq p.seq) e), lt_is o.seq p.seq (and_right (o.author == p.author) (nat_lt o.seq p.seq) e)))
-    (or_split (nat_lt o.author p.author) ((o.author == p.author) && nat_lt o.seq p.seq) h)
-
-before_author : (o p : Op) → o.author < p.author → comes_before o p ≡ true
-before_author o p h = or_left (nat_lt o.author p.author) ((o.author == p.author) && nat_lt o.seq p.seq) (lt_test o.author p.author h)
-
-before_seq : (o p : Op) → o.author ≡ p.author → o.seq < p.seq → comes_before o p ≡ true
-before_seq o p e h =
-    or_right (nat_lt o.author p.author) ((o.author == p.author) && nat_lt o.seq p.seq)
-    (and_true (o.author == p.author) (nat_lt o.seq p.seq) (eq_test o.author p.author e) (lt_test o.seq p.seq h))
-
-before_trans : (o p q : Op) → comes_before o p ≡ true → comes_before p q ≡ true → comes_before o q ≡ true
-before_trans o p q h k =
-    ⊎_elim
-    (λ a. ⊎_elim (λ b. before_author o q (omega arith)) (λ b. let e = b.0 in before_author o q (omega arith)) (before_is p q k))
-    (λ a. ⊎_elim (λ b. let e = a.0 in before_author o q (omega arith)) (λ b. let l = a.1 in let m = b.1 in before_seq o q (a.0 ∙ b.0) (omega arith)) (before_is p q k))
-    (before_is o p h)
-
-before_total : (o p : Op) → comes_before p o ≡ false → is_numbered o.author o.seq p ≡ false → comes_before o p ≡ true
-before_total o p h k =
-    bool_cases (nat_lt o.author p.author) (λ e. before_author o p (lt_is o.author p.author e))
-    (λ e. bool_cases (nat_lt p.author o.author) (λ f. absurd (true_false (comes_before p o) (before_author p o (lt_is p.author o.author f)) h))
-    (λ f. let a = not_lt_is o.author p.author e in
-    let b = not_lt_is p.author o.author f in
-    let same : p.author ≡ o.author = omega arith in
-    bool_cases (nat_lt o.seq p.seq) (λ g. before_seq o p (sym same) (lt_is o.seq p.seq g))
-    (λ g. bool_cases (nat_lt p.seq o.seq) (λ i. absurd (true_false (comes_before p o) (before_seq p o same (lt_is p.seq o.seq i)) h))
-    (λ i. let c = not_lt_is o.seq p.seq g in
-    let d = not_lt_is p.seq o.seq i in
-    let number : p.seq ≡ o.seq = omega arith in
-    absurd (true_false (is_numbered o.author o.seq p) (numbered_test o.author o.seq p same number) k)))))
-
--- ---- the list
 
 pub waiting_at : (H : History) (W : List Op) (w : Op) → AreWaiting H W → IsIn w W → IsOp w × (shape_fault (members_of H) w ≡ None) × (count_of H w.author < w.seq)
 waiting_at H [] w h p = absurd p

@@ -1,35 +1,14 @@
 -- What a replica does with an operation that arrives.
-use Rattle.std.specs.Prelude.{ℕ, zero, suc, Bool, true, false, not, ◌&&◌, ◌||◌, List, [], ◌∷◌, length, ◌==◌, nat_lt, nat_le, find, Option, Some, None, if◌then◌else◌}
+use Rattle.std.specs.Prelude.{ℕ, zero, suc, Bool, true, false, not, ◌&&◌, List, length, ◌==◌, nat_le, find, Option, Some, None, if◌then◌else◌}
 use Rattle.rls_ident.specs.Vectors.{at_most}
 use Rattle.rls_ops.specs.declared.op.Op.{Op}
 use Rattle.rls_ops.specs.declared.op.Shape.{Shape}
 use Rattle.rls_ops.specs.Shapes.{shape_fault}
 use Rattle.rls_ops.specs.Same.{op_eq}
+pub use Rattle.rls_ops.specs.Waiting.{is_numbered, waiting_under, comes_before, with_waiting, without}
 use Rattle.rls_model.specs.Answers.{Reason, Misshapen, Own, Forked, Answer, Applies, Repeats, Waits, Refuses, Released}
 use Rattle.rls_model.specs.History.{Accepted, History, Then, count, count_of, me_of, members_of}
 use Rattle.rls_model.specs.Fitting.{refusal}
-
--- the operation has this author and number
-abbrev pub is_numbered : ℕ → ℕ → Op → Bool
-is_numbered a s o = (o.author == a) && (o.seq == s)
-
--- what waits under this number
-abbrev pub waiting_under : List Op → ℕ → ℕ → Option Op
-waiting_under W a s = find (is_numbered a s) W
-
--- the first operation comes before the second, by author and then by number
-abbrev pub comes_before : Op → Op → Bool
-comes_before o p = nat_lt o.author p.author || ((o.author == p.author) && nat_lt o.seq p.seq)
-
--- the list with o in its place
-abbrev pub with_waiting : Op → List Op → List Op
-with_waiting o [] = o ∷ []
-with_waiting o (p ∷ ps) = if comes_before p o then p ∷ with_waiting o ps else o ∷ p ∷ ps
-
--- the list without the operation under this number
-abbrev pub without : ℕ → ℕ → List Op → List Op
-without a s [] = []
-without a s (p ∷ ps) = if is_numbered a s p then without a s ps else p ∷ without a s ps
 
 -- the answer to an operation whose causes are there
 abbrev pub verdict_of : Option Reason → Answer

@@ -3,3 +3,5 @@ pub mod Sizes
 pub mod Same
 pub mod Spelling
 pub mod Rows
+pub mod Waiting
+pub mod WellFormed

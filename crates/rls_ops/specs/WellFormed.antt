@@ -1,0 +1,42 @@
+-- Which numbers and lists an operation may have.
+use Rattle.std.specs.Prelude.{◌≡◌, ℕ, ◌^◌, ◌<◌, List, length, All, IsTrue}
+use Rattle.std.specs.Char.{IsScalar}
+use Rattle.rls_ident.specs.declared.epoch_name.EpochName.{EpochName}
+use Rattle.rls_ident.specs.declared.epoch_name.EpochName.TheVariants.{Origin, Of}
+use Rattle.rls_ident.specs.Identifiers.{is_ident}
+use Rattle.rls_runs.specs.Runs.{AreIdents}
+use Rattle.rls_ops.specs.declared.op.Op.{Op}
+use Rattle.rls_ops.specs.declared.op.Body.{Body}
+use Rattle.rls_ops.specs.declared.op.Body.TheVariants.{Insert, Delete, Rename, Leave}
+
+-- a u32
+abbrev pub IsSmall : ℕ → Type 0
+IsSmall n = n < 2 ^ 32
+
+-- a count for each member
+abbrev pub IsVector : ℕ → List ℕ → Type 0
+IsVector members v = (length v ≡ members) × All IsSmall v
+
+-- the numbers of an epoch's name
+abbrev pub IsName : EpochName → Type 0
+IsName Origin = Unit {0}
+IsName (Of r s) = IsSmall r × IsSmall s
+
+-- Unicode scalar values
+abbrev pub IsText : List ℕ → Type 0
+IsText cs = All IsScalar cs
+
+-- an identifier and a text, or a strictly increasing list of identifiers
+abbrev pub IsBody : Body → Type 0
+IsBody (Insert first text) = IsTrue (is_ident first) × IsText text
+IsBody (Delete targets) = AreIdents targets
+IsBody (Rename former) = AreIdents former
+IsBody Leave = Unit {0}
+
+-- a well formed operation
+pub record IsOp (o : Op) : Type 0 where
+  pub author : IsSmall o.author
+  pub seq : IsSmall o.seq
+  pub context : All IsSmall o.context
+  pub epoch : IsName o.epoch
+  pub body : IsBody o.body
