@@ -1,10 +1,11 @@
 -- Lists of waiting operations: what they hold, and their order.
 use Rattle.std.proofs.Common.{◌≡◌, ℕ, suc, ◌≤◌, ◌<◌, Bool, true, false, List, [], ◌∷◌, length, refl, sym, ap, ◌∙◌, arith, inl, inr, ◌⊎◌, ⊎_elim, nat_lt}
-use Rattle.std.specs.Prelude.{if◌then◌else◌, ◌&&◌, ◌==◌}
+use Rattle.std.specs.Prelude.{if◌then◌else◌, cond, ◌&&◌, ◌==◌}
+use Rattle.std.specs.List.{list_all}
 use Rattle.rls_ident.specs.Lists.{IsIn}
-use Rattle.rls_ident.proofs.Members.{and_left, and_right, and_true, bool_cases, eq_is, eq_test, lt_is, lt_test, not_lt_is, or_left, or_right, or_split, true_false}
+use Rattle.rls_ident.proofs.Members.{all_in, in_all, not_true, and_left, and_right, and_true, bool_cases, eq_is, eq_test, lt_is, lt_test, not_lt_is, or_left, or_right, or_split, true_false}
 use Rattle.rls_ops.specs.declared.op.Op.{Op}
-use Rattle.rls_ops.specs.Waiting.{is_numbered, comes_before, with_waiting, without}
+use Rattle.rls_ops.specs.Waiting.{is_numbered, comes_before, with_waiting, without, is_in_order}
 
 pub numbered_is : (a s : ℕ) (x : Op) → is_numbered a s x ≡ true → (x.author ≡ a) × (x.seq ≡ s)
 numbered_is a s x h = (eq_is x.author a (and_left (x.author == a) (x.seq == s) h), eq_is x.seq s (and_right (x.author == a) (x.seq == s) h))
@@ -85,3 +86,46 @@ before_total o p h k =
     let d = not_lt_is p.seq o.seq i in
     let number : p.seq ≡ o.seq = omega arith in
     absurd (true_false (is_numbered o.author o.seq p) (numbered_test o.author o.seq p same number) k)))))
+
+-- ---- lists in order
+
+-- what comes behind an operation has another number
+apart : (a s : ℕ) (w x : Op) → is_numbered a s w ≡ true → comes_before w x ≡ true → is_numbered a s x ≡ false
+apart a s w x h k = not_true (is_numbered a s x) (λ e. go (numbered_is a s w h) (numbered_is a s x e) (before_is w x k))
+  where
+    go : (w.author ≡ a) × (w.seq ≡ s) → (x.author ≡ a) × (x.seq ≡ s) → (w.author < x.author) ⊎ ((w.author ≡ x.author) × (w.seq < x.seq)) → ⊥
+    go p q (inl l) = let e = p.0 in let f = q.0 in absurd (omega arith)
+    go p q (inr l) = let e = p.1 in let f = q.1 in let m = l.1 in absurd (omega arith)
+
+-- nothing behind an operation stands under its number
+pub none_behind : (a s : ℕ) (w : Op) (W : List Op) → is_numbered a s w ≡ true → list_all (comes_before w) W ≡ true → without a s W ≡ W
+none_behind a s w [] h k = refl
+none_behind a s w (x ∷ xs) h k =
+    ap (λ b. cond b (without a s xs) (x ∷ without a s xs)) (apart a s w x h (and_left (comes_before w x) (list_all (comes_before w) xs) k))
+    ∙ ap (λ ws. x ∷ ws) (none_behind a s w xs h (and_right (comes_before w x) (list_all (comes_before w) xs) k))
+
+pub without_in_order : (a s : ℕ) (W : List Op) → is_in_order W ≡ true → is_in_order (without a s W) ≡ true
+without_in_order a s [] h = refl
+without_in_order a s (w ∷ ws) h = go (is_numbered a s w) (without_in_order a s ws (and_right (list_all (comes_before w) ws) (is_in_order ws) h))
+  where
+    go : (b : Bool) → is_in_order (without a s ws) ≡ true → is_in_order (if b then without a s ws else w ∷ without a s ws) ≡ true
+    go true k = k
+    go false k =
+        and_true (list_all (comes_before w) (without a s ws)) (is_in_order (without a s ws))
+        (all_in (comes_before w) (without a s ws) (λ x p. in_all (comes_before w) x ws (and_left (list_all (comes_before w) ws) (is_in_order ws) h) (in_without a s x ws p).0)) k
+
+pub with_in_order : (o : Op) (W : List Op) → is_in_order W ≡ true → ((x : Op) → IsIn x W → is_numbered o.author o.seq x ≡ false) → is_in_order (with_waiting o W) ≡ true
+with_in_order o [] h f = refl
+with_in_order o (w ∷ ws) h f = go (comes_before w o) refl (with_in_order o ws (and_right (list_all (comes_before w) ws) (is_in_order ws) h) (λ x p. f x (inr p)))
+  where
+    behind : list_all (comes_before w) ws ≡ true
+    behind = and_left (list_all (comes_before w) ws) (is_in_order ws) h
+
+    go : (b : Bool) → comes_before w o ≡ b → is_in_order (with_waiting o ws) ≡ true → is_in_order (if b then w ∷ with_waiting o ws else o ∷ w ∷ ws) ≡ true
+    go true t k =
+        and_true (list_all (comes_before w) (with_waiting o ws)) (is_in_order (with_waiting o ws))
+        (all_in (comes_before w) (with_waiting o ws) (λ x p. ⊎_elim (λ q. ap (comes_before w) (sym q) ∙ t) (λ q. in_all (comes_before w) x ws behind q) (in_with o x ws p))) k
+    go false t k =
+        let b = before_total o w t (f w (inl refl)) in
+        and_true (list_all (comes_before o) (w ∷ ws)) (is_in_order (w ∷ ws))
+        (and_true (comes_before o w) (list_all (comes_before o) ws) b (all_in (comes_before o) ws (λ x p. before_trans o w x b (in_all (comes_before w) x ws behind p)))) h

@@ -1,0 +1,87 @@
+//! Waiting operations.
+
+ghost use Rattle.std.specs.Prelude.{◌≡◌, ◌<◌, length, [], option_copied, slice_get, Some, IsTrue, Bool};
+ghost use Rattle.rls_ops.specs.Waiting.{waiting_under, without, first_ready_at, is_in_order};
+
+use indexmap::IndexMap;
+use rls_ident::Vector;
+use rls_ops::Op;
+use std::alloc::{AllocError, Global};
+use std::marker::Model;
+
+// The author and the number of an operation.
+#[derive(Clone, Copy, PartialEq, Eq, Hash)]
+pub(crate) struct Number {
+    author: u32,
+    seq: u32,
+}
+
+/// Waiting operations, at most one under each author and number, seen as the list of them in
+/// increasing order of author and number.
+#[derive(Drop)]
+pub struct Held {
+    ops: IndexMap<Number, Op>,
+}
+
+impl Model for Held {
+    ghost use Rattle.std.specs.Prelude.{List, IsTrue};
+    ghost use Rattle.rls_ops.specs.declared.op.Op.{Op};
+    ghost use Rattle.rls_ops.specs.Waiting.{is_in_order};
+    ghost use Rattle.indexmap.specs.IndexMap.{values};
+    ghost use Rattle.rls_causal.specs.Numbered.{IsHeld};
+
+    ghost Value = { List Op };
+
+    ghost view = { λ h. values h.ops };
+
+    ghost invariant = { λ h. IsHeld h.ops.entries };
+}
+
+impl Held {
+    /// No waiting operation. It takes no memory.
+    pub fn new(alloc: Global) -> Held
+        ensures empty { result ≡ [] }
+    {
+        Held {
+            ops: IndexMap::new(alloc),
+        }
+    }
+
+    /// How many operations wait.
+    pub fn len(&self) -> u64
+        ensures len { result ≡ length self.now }
+        ensures order { IsTrue (is_in_order self.now) }
+    {
+        self.ops.len() as u64
+    }
+
+    /// The waiting operation at a place, in increasing order of author and number.
+    pub fn op(&self, i: u64) -> &Op
+        requires place { i < length self.now }
+        ensures op { slice_get self.now i ≡ Some result.now }
+    {
+        &self.ops[i as usize]
+    }
+
+    /// What waits under this author and number.
+    pub fn get(&self, author: u32, seq: u32) -> Option<&Op>
+        ensures waiting { option_copied result ≡ waiting_under self.now author seq }
+    {
+        self.ops.get(&Number { author, seq })
+    }
+
+    /// The first operation whose context is at most the vector.
+    pub fn first_ready(&self, vector: &Vector) -> Option<&Op>
+        ensures ready { option_copied result ≡ first_ready_at vector.now self.now }
+    {
+        self.ops.values().find(|op| op.context.at_most(vector))
+    }
+
+    /// Takes out what waits under this author and number.
+    pub fn remove(&mut self, author: u32, seq: u32) -> Option<Op>
+        ensures found { result ≡ waiting_under self.old author seq }
+        ensures others { self.new ≡ without author seq self.old }
+    {
+        self.ops.shift_remove(&Number { author, seq })
+    }
+}
