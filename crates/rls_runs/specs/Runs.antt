@@ -1,8 +1,10 @@
 -- Lists of identifiers and their runs. A run is a first identifier and a length.
-use Rattle.std.specs.Prelude.{ℕ, zero, suc, ◌+◌, ℤ, pos, ◌+ℤ◌, int_le, Bool, true, ◌&&◌, not, List, [], ◌∷◌, ◌++◌, ◌-◌, nat_lt, Option, Some, None, if◌then◌else◌, IsTrue}
+use Rattle.std.specs.Prelude.{ℕ, zero, suc, ◌+◌, ℤ, pos, ◌+ℤ◌, int_le, Bool, true, ◌&&◌, not, List, [], ◌∷◌, ◌++◌, ◌-◌, nat_lt, Option, Some, None, Result, Ok, Err, if◌then◌else◌, IsTrue}
 use Rattle.std.specs.List.{list_all}
 use Rattle.rls_ident.specs.declared.tuple.Tuple.{Tuple}
-use Rattle.rls_ident.specs.Identifiers.{is_ident, is_bounded, last_of, shifted, ident_lt, follows}
+use Rattle.std.specs.declared.cmp.Ordering.{Ordering}
+use Rattle.std.specs.declared.cmp.Ordering.TheVariants.{Less, Equal, Greater}
+use Rattle.rls_ident.specs.Identifiers.{is_ident, is_bounded, last_of, shifted, ident_cmp, ident_lt, follows}
 use Rattle.rls_ident.specs.Tuples.{offset_of}
 
 -- n identifiers from this one on, with one base and consecutive offsets
@@ -66,3 +68,18 @@ past_offsets = pos 1073741824
 -- an identifier of the program's range and a length, from 1 on, with no offset above the greatest one
 abbrev pub is_run : List Tuple × ℕ → Bool
 is_run r = is_ident r.0 && is_bounded r.0 && nat_lt 0 r.1 && int_le (offset_of (last_of r.0) +ℤ pos r.1) past_offsets
+
+-- the place of x in a list that begins at place i, by a comparison with its first identifier
+abbrev pub placed : Ordering → ℕ → Result ℕ ℕ → Result ℕ ℕ
+placed Less i later = later
+placed Equal i later = Ok i
+placed Greater i later = Err i
+
+-- the place of x, where the list begins at place i, or else the number of identifiers below it
+abbrev pub place_from : ℕ → List Tuple → List (List Tuple) → Result ℕ ℕ
+place_from i x [] = Err i
+place_from i x (y ∷ ys) = placed (ident_cmp y x) i (place_from (suc i) x ys)
+
+-- the place of x in a strictly increasing list, or else the number of identifiers below it
+unfoldable pub place_of : List Tuple → List (List Tuple) → Result ℕ ℕ
+place_of x ys = place_from 0 x ys
