@@ -1,6 +1,6 @@
 -- The last tuple of an identifier.
 use Rattle.std.proofs.Common.{◌≡◌, true, false, List, [], ◌∷◌, ◌++◌, refl, ap, sym, ◌∙◌, IsTrue}
-use Rattle.std.specs.Prelude.{ℤ, pos}
+use Rattle.std.specs.Prelude.{ℤ}
 use Rattle.std.specs.declared.cmp.Ordering.{Ordering}
 use Rattle.std.specs.declared.cmp.Ordering.TheVariants.{Less, Equal, Greater}
 use Rattle.std.specs.Ordering.{is_eq}
@@ -10,7 +10,7 @@ use Rattle.std.proofs.lemmas.List.Elements.{All-head, All-tail}
 use Rattle.rls_ident.specs.declared.tuple.Spot.{Spot}
 use Rattle.rls_ident.specs.declared.tuple.Tuple.{Tuple}
 use Rattle.rls_ident.specs.Tuples.{at_spot, raised, offset_of}
-use Rattle.rls_ident.specs.Identifiers.{last_of, is_ident, is_bounded, is_inner_bounded, is_last_bounded, shifted, follows, ident_cmp, ident_eq}
+use Rattle.rls_ident.specs.Identifiers.{last_of, is_ident, is_bounded, is_inner_bounded, is_last_bounded, shifted, ident_cmp, ident_eq}
 use Rattle.rls_ident.proofs.Members.{and_true, same_bool, not_true}
 use Rattle.rls_ident.proofs.Lists.{lists_same}
 use Rattle.rls_ident.proofs.Tuples.{tuples, tuple_total}
@@ -73,14 +73,14 @@ eq_same x y h = go (ident_cmp x y) refl h
 pub same_eq : (x y : List Tuple) → x ≡ y → ident_eq x y ≡ true
 same_eq x y e = ap (λ z. ident_eq x z) (sym e) ∙ ap is_eq (tied_itself (lists_total tuple_total) x)
 
-pub follows_at : (f g : List Tuple) (s t : Spot) (x y : List Tuple) → f ++ at_spot s ∷ [] ≡ x → g ++ at_spot t ∷ [] ≡ y → at_spot s ≡ raised (pos 1) (at_spot t) → ident_eq f g ≡ follows x y
-follows_at f g s t x y e h n =
-    let next : shifted (pos 1) y ≡ g ++ at_spot s ∷ [] = ap (shifted (pos 1)) (sym h) ∙ shifted_of_pushed (pos 1) g (at_spot t) ∙ ap (λ u. g ++ u ∷ []) (sym n) in
-    same_bool (ident_eq f g) (follows x y)
-    (λ q. same_eq x (shifted (pos 1) y) (sym e ∙ ap (λ u. u ++ at_spot s ∷ []) (eq_same f g q) ∙ sym next))
-    (λ q. same_eq f g (end_same f g (at_spot s) (at_spot s) (e ∙ eq_same x (shifted (pos 1) y) q ∙ next)).0)
+pub further_at : (k : ℤ) (f g : List Tuple) (s t : Spot) (x y : List Tuple) → f ++ at_spot s ∷ [] ≡ x → g ++ at_spot t ∷ [] ≡ y → at_spot s ≡ raised k (at_spot t) → ident_eq f g ≡ ident_eq x (shifted k y)
+further_at k f g s t x y e h n =
+    let next : shifted k y ≡ g ++ at_spot s ∷ [] = ap (shifted k) (sym h) ∙ shifted_of_pushed k g (at_spot t) ∙ ap (λ u. g ++ u ∷ []) (sym n) in
+    same_bool (ident_eq f g) (ident_eq x (shifted k y))
+    (λ q. same_eq x (shifted k y) (sym e ∙ ap (λ u. u ++ at_spot s ∷ []) (eq_same f g q) ∙ sym next))
+    (λ q. same_eq f g (end_same f g (at_spot s) (at_spot s) (e ∙ eq_same x (shifted k y) q ∙ next)).0)
 
-pub follows_not : (f g : List Tuple) (s t : Spot) (x y : List Tuple) → f ++ at_spot s ∷ [] ≡ x → g ++ at_spot t ∷ [] ≡ y → (at_spot s ≡ raised (pos 1) (at_spot t) → ⊥) → false ≡ follows x y
-follows_not f g s t x y e h n =
-    let next : shifted (pos 1) y ≡ g ++ raised (pos 1) (at_spot t) ∷ [] = ap (shifted (pos 1)) (sym h) ∙ shifted_of_pushed (pos 1) g (at_spot t) in
-    sym (not_true (follows x y) (λ q. n (end_same f g (at_spot s) (raised (pos 1) (at_spot t)) (e ∙ eq_same x (shifted (pos 1) y) q ∙ next)).1))
+pub further_not : (k : ℤ) (f g : List Tuple) (s t : Spot) (x y : List Tuple) → f ++ at_spot s ∷ [] ≡ x → g ++ at_spot t ∷ [] ≡ y → (at_spot s ≡ raised k (at_spot t) → ⊥) → false ≡ ident_eq x (shifted k y)
+further_not k f g s t x y e h n =
+    let next : shifted k y ≡ g ++ raised k (at_spot t) ∷ [] = ap (shifted k) (sym h) ∙ shifted_of_pushed k g (at_spot t) in
+    sym (not_true (ident_eq x (shifted k y)) (λ q. n (end_same f g (at_spot s) (raised k (at_spot t)) (e ∙ eq_same x (shifted k y) q ∙ next)).1))

@@ -160,7 +160,14 @@ impl Ident {
     pub fn follows(&self, other: &Ident) -> bool
         ensures follows { result ≡ follows self.now other.now }
     {
-        is_next(self.last, other.last) && same_tuples(&self.front, &other.front)
+        self.follows_by(other, 1)
+    }
+
+    /// Whether it has the base of the other identifier and an offset greater by this much.
+    pub fn follows_by(&self, other: &Ident, by: u32) -> bool
+        ensures follows { result ≡ ident_eq self.now (shifted (pos by) other.now) }
+    {
+        is_further(self.last, other.last, by) && same_tuples(&self.front, &other.front)
     }
 
     /// Whether it is a prefix of the pattern repeated without end, or is less at the first place
@@ -230,15 +237,14 @@ impl Ident {
     }
 }
 
-// Whether the second spot is the first but for its offset, which is one less.
-fn is_next(spot: Spot, before: Spot) -> bool
-    requires greatest { before.offset ≤ℤ greatest_offset }
-    ensures next { IsTrue result ↔ (at_spot spot ≡ raised (pos 1) (at_spot before)) }
+// Whether the first spot is the second but for its offset, which is greater by this much.
+fn is_further(spot: Spot, before: Spot, by: u32) -> bool
+    ensures further { IsTrue result ↔ (at_spot spot ≡ raised (pos by) (at_spot before)) }
 {
     spot.pos == before.pos
         && spot.replica == before.replica
         && spot.seq == before.seq
-        && spot.offset == before.offset + 1
+        && spot.offset as i64 == before.offset as i64 + by as i64
 }
 
 fn same_tuples(tuples: &[Tuple], others: &[Tuple]) -> bool
