@@ -1,14 +1,12 @@
 -- An operation that is accepted, seen by a history that the replica stands for.
-use Rattle.std.proofs.Common.{◌≡◌, ℕ, zero, suc, ◌+◌, ◌<◌, ◌≤◌, ◌==◌, ◌&&◌, ◌||◌, ◌++◌, not, nat_le, slice_index, Bool, true, false, cond, List, [], ◌∷◌, length, map, get_or, set, refl, sym, ap, ◌∙◌, subst, arith, inl, inr, ◌⊎◌, ⊎_elim, if◌then◌else◌}
+use Rattle.std.proofs.Common.{◌≡◌, ℕ, zero, suc, ◌+◌, ◌<◌, ◌==◌, ◌&&◌, ◌||◌, ◌++◌, not, slice_index, Bool, true, false, cond, List, [], ◌∷◌, length, map, get_or, set, refl, sym, ap, ◌∙◌, subst, arith, ⊎_elim, if◌then◌else◌}
 use Rattle.std.specs.Prelude.{filter, zip, pos}
-use Rattle.std.proofs.lemmas.Bool.Decides.{nat_tests}
 use Rattle.std.proofs.lemmas.List.{get_or-set_same, get_or-set_other, length-set}
 use Rattle.rls_ident.specs.declared.tuple.Tuple.{Tuple}
 use Rattle.rls_ident.specs.declared.epoch_name.EpochName.{EpochName}
 use Rattle.rls_ident.specs.declared.epoch_name.EpochName.TheVariants.{Of}
 use Rattle.rls_ident.specs.EpochNames.{name_eq}
 use Rattle.rls_ident.specs.Identifiers.{shifted}
-use Rattle.rls_ident.specs.Lists.{IsIn}
 use Rattle.rls_ident.specs.Vectors.{at_most, raise}
 use Rattle.rls_ident.proofs.Members.{bool_cases, true_false, eq_is, eq_not, not_le_test}
 use Rattle.rls_runs.specs.Runs.{run_idents}
@@ -19,9 +17,9 @@ use Rattle.rls_rename.proofs.Windows.{translate_window}
 use Rattle.rls_ops.specs.declared.op.Op.{Op}
 use Rattle.rls_ops.specs.declared.op.Body.{Body}
 use Rattle.rls_ops.specs.declared.op.Body.TheVariants.{Insert, Delete, Rename, Leave}
-use Rattle.rls_ops.specs.Rows.{AcksSeen, AreRows, HaveLength, row_of, left, raised, parted, missing_for}
+use Rattle.rls_ops.specs.Rows.{AcksSeen, AreRows, HaveLength, row_of, left, raised}
 use Rattle.rls_model.specs.Document.{has_ident, put_all, export}
-use Rattle.rls_model.specs.Epochs.{epochs, greatest, translate, nodes_after, renaming_of}
+use Rattle.rls_model.specs.Epochs.{greatest, translate, nodes_after, renaming_of}
 use Rattle.rls_model.specs.History.{History, Then, Accepted, me_of, members_of, ops, count, count_of, has_left, is_leave, row}
 use Rattle.rls_model.specs.History as history
 use Rattle.rls_model.specs.Legal.{IsLegal, MayAccept}
@@ -31,19 +29,18 @@ use Rattle.rls_model.specs.Stems.{stems_after}
 use Rattle.rls_model.specs.WellFormed.{IsOp}
 use Rattle.rls_rename.specs.Renaming.{forward}
 use Rattle.rls_model.proofs.Dropping.{opened, greatest_same, greatest_retained, fits_retained}
-use Rattle.rls_model.proofs.Later.{added, window_step, log_step}
+use Rattle.rls_model.proofs.Later.{window_step, log_step}
 use Rattle.rls_model.proofs.OneTree.{author_below}
-use Rattle.rls_model.proofs.SameOps.{top_kept}
 use Rattle.rls_model.proofs.Spliced.{entries}
 use Rattle.rls_model.proofs.Stable.{at_most_trans, stable_count, stable_grows}
 use Rattle.rls_model.proofs.TextSteps.{map_same, placed, aims, renamed_entry, export_put, export_delete, export_stays, export_renamed, export_leave}
 use Rattle.rls_model.proofs.WindowAnswers.{greatest_cases}
 use Rattle.rls_model.proofs.WorldsLists.{index_le}
 use Rattle.rls_model.proofs.WorldsWaiting.{sound_accepted}
-use Rattle.rls_seen.specs.Seen.{Seen, greatest_over, translate_over}
+use Rattle.rls_seen.specs.Seen.{Seen}
 use Rattle.rls_seen.specs.Over.{acks_after, epochs_after, placed_over, added_over, renamed_over, is_greatest_over, text_after, accepted}
-use Rattle.rls_seen.specs.Stands.{StandsFor, KeepsEpochs, IsLog}
-use Rattle.rls_seen.proofs.Alike.{members_alike, keeping, keeps, keeps_back, greatest_alike}
+use Rattle.rls_seen.specs.Stands.{StandsFor}
+use Rattle.rls_seen.proofs.Alike.{members_alike, keeping, keeps_back, greatest_alike}
 
 -- ---- the rows
 
@@ -153,7 +150,7 @@ renamed_alike s t o xs h m y =
     let p = keeping s t h in
     let g : is_kept s.epochs.top s.epochs.nodes (greatest H) ≡ true = p.keeps (greatest H) (greatest_retained H h.legal) in
     ap (λ x. (forward (renaming_of o xs) x, y.1))
-      (ap (λ e. tree.translate s.epochs.nodes e o.epoch y.0) (greatest_alike s t h) ∙ translate_window p.window (greatest H) o.epoch y.0 g (epoch_kept s t o h m))
+    (ap (λ e. tree.translate s.epochs.nodes e o.epoch y.0) (greatest_alike s t h) ∙ translate_window p.window (greatest H) o.epoch y.0 g (epoch_kept s t o h m))
 
 -- the greatest epoch afterwards
 next_greatest : (s : Seen) (t : State) (o : Op) → StandsFor s t → IsLegal (Then t.history (Accepted o)) → tree.greatest s.epochs.top (epochs_after s.epochs o).nodes ≡ greatest (Then t.history (Accepted o))
@@ -169,14 +166,14 @@ rename_text s t o xs h l e =
     let same = next_greatest s t o h l in
     bool_cases (is_greatest_over s o)
     (λ q. let g : greatest K ≡ Of o.author o.seq = sym same ∙ name_eq_is (tree.greatest s.epochs.top (epochs_after s.epochs o).nodes) (Of o.author o.seq) q in
-        ap (λ b. if b then renamed else s.text) q
-        ∙ (ap (map (λ (y : List Tuple × ℕ). (renamed_over s o xs y.0, y.1))) h.text
-        ∙ (map_alike (λ (y : List Tuple × ℕ). (renamed_over s o xs y.0, y.1)) (renamed_entry H o xs) (export H) (renamed_alike s t o xs h m)
-        ∙ sym (export_renamed H o xs l e g))))
+    ap (λ b. if b then renamed else s.text) q
+    ∙ (ap (map (λ (y : List Tuple × ℕ). (renamed_over s o xs y.0, y.1))) h.text
+    ∙ (map_alike (λ (y : List Tuple × ℕ). (renamed_over s o xs y.0, y.1)) (renamed_entry H o xs) (export H) (renamed_alike s t o xs h m)
+    ∙ sym (export_renamed H o xs l e g))))
     (λ q. let other : greatest K ≡ Of o.author o.seq → ⊥ =
-            λ g. true_false (is_greatest_over s o) (ap (λ f. name_eq f (Of o.author o.seq)) (same ∙ g) ∙ name_eq_refl (Of o.author o.seq)) q in
-        let g : greatest K ≡ greatest H = ⊎_elim (λ x. x) (λ x. absurd (other (subst (λ b. opened o b (greatest K)) e x))) (greatest_cases H (Accepted o) h.legal l) in
-        ap (λ b. if b then renamed else s.text) q ∙ (h.text ∙ sym (export_stays H o xs l e g)))
+    λ g. true_false (is_greatest_over s o) (ap (λ f. name_eq f (Of o.author o.seq)) (same ∙ g) ∙ name_eq_refl (Of o.author o.seq)) q in
+    let g : greatest K ≡ greatest H = ⊎_elim (λ x. x) (λ x. absurd (other (subst (λ b. opened o b (greatest K)) e x))) (greatest_cases H (Accepted o) h.legal l) in
+    ap (λ b. if b then renamed else s.text) q ∙ (h.text ∙ sym (export_stays H o xs l e g)))
 
 text_go : (s : Seen) (t : State) (o : Op) (b : Body) → StandsFor s t → IsLegal (Then t.history (Accepted o)) → o.body ≡ b → text_after s o b ≡ export (Then t.history (Accepted o))
 text_go s t o (Insert x cs) h l e =
@@ -212,17 +209,20 @@ accepted_stands s t o w m h =
       vector = acks_mine s.acks o.author o.body ∙ ap (λ v. raise v o.author) h.vector;
       places = places_after s.acks o.author o.body h.places;
       rows = λ c k.
-        row_after s.acks o.author o.body c
-        ∙ (ap (λ me. cond (c == me) (raise s.acks.mine o.author) (get_or s.acks.others c [])) h.me
-        ∙ row_go (c == me_of H) s.acks.mine (count H) (get_or s.acks.others c []) (history.acknowledged H c) o.author h.vector
-            (ap (λ me. cond (c == me) s.acks.mine (get_or s.acks.others c [])) (sym h.me) ∙ h.rows c k));
+          row_after s.acks o.author o.body c
+          ∙ (ap (λ me. cond (c == me) (raise s.acks.mine o.author) (get_or s.acks.others c [])) h.me
+          ∙ row_go (c == me_of H) s.acks.mine (count H) (get_or s.acks.others c []) (history.acknowledged H c) o.author h.vector
+          (ap (λ me. cond (c == me) s.acks.mine (get_or s.acks.others c [])) (sym h.me) ∙ h.rows c k));
       left = λ c k. left_after s.acks o.author o.body c inside ∙ ap (λ b. b || ((o.author == c) && is_leave o.body)) (h.left c k);
       stems = ap (λ ss. stems_after ss o.author o.seq o.body) h.stems;
       epochs = keeps_back (epochs_after s.epochs o) (Then H (Accepted o)) (window_step H (Accepted o) l s.epochs.top s.epochs.nodes (keeping s t h));
       text = text_go s t o o.body h l refl;
       waiting = ap (without o.author o.seq) h.waiting;
-      log = (h.log.0, record {
+      log = (
+        h.log.0,
+        record {
           stable = at_most_trans h.log.0 (stable H) (stable (Then H (Accepted o))) h.log.1.stable (stable_grows H (Accepted o) l);
           kept = ap (λ os. os ++ o ∷ []) h.log.1.kept ∙ sym (log_step h.log.0 (ops H) o (new_uncovered h.log.0 H o h.log.1.stable m.next));
-        });
+        },
+      );
     }

@@ -1,36 +1,34 @@
 -- What a replica reads of itself is what the history says that it stands for.
-use Rattle.std.proofs.Common.{◌≡◌, ℕ, zero, suc, ◌<◌, ◌≤◌, ◌==◌, ◌||◌, ◌&&◌, ◌++◌, not, nat_le, slice_index, Bool, true, false, List, [], ◌∷◌, length, map, refl, sym, ap, ◌∙◌, subst, arith, Option, Some, None, if◌then◌else◌}
+use Rattle.std.proofs.Common.{◌≡◌, ℕ, zero, suc, ◌<◌, ◌≤◌, ◌==◌, ◌||◌, ◌&&◌, ◌++◌, not, nat_le, slice_index, Bool, true, false, List, [], ◌∷◌, length, refl, sym, ap, ◌∙◌, subst, arith, Option, Some, None, if◌then◌else◌}
 use Rattle.std.specs.List.{list_any, list_all}
 use Rattle.rls_ident.specs.declared.tuple.Tuple.{Tuple}
 use Rattle.rls_ident.specs.declared.epoch_name.EpochName.{EpochName}
 use Rattle.rls_ident.specs.declared.epoch_name.EpochName.TheVariants.{Origin}
 use Rattle.rls_ident.specs.EpochNames.{name_eq}
 use Rattle.rls_ident.specs.Identifiers.{IsIdent, is_ident, ident_eq, last_of}
-use Rattle.rls_ident.specs.Lists.{IsIn}
 use Rattle.rls_ident.specs.Vectors.{at_most}
-use Rattle.rls_ident.proofs.Members.{bool_cases, and_left, and_right}
+use Rattle.rls_ident.proofs.Members.{and_left, and_right}
 use Rattle.rls_rename.specs.Tree.{Epochs, is_kept}
 use Rattle.rls_rename.specs.Tree as tree
 use Rattle.rls_rename.proofs.Paths.{name_eq_is}
-use Rattle.rls_rename.proofs.Windows.{Window, window_of, of_window, translate_window}
+use Rattle.rls_rename.proofs.Windows.{window_of, of_window}
 use Rattle.rls_ops.specs.declared.op.Op.{Op}
 use Rattle.rls_ops.specs.declared.op.Shape.{Shape}
 use Rattle.rls_ops.specs.declared.op.Body.{Body}
 use Rattle.rls_ops.specs.declared.op.Body.TheVariants.{Insert, Delete, Rename, Leave}
 use Rattle.rls_ops.specs.Rows.{row_of, left, awaits, awaited, least_of, stable_of, missing_for}
 use Rattle.rls_ops.specs.Shapes.{shape_fault}
-use Rattle.rls_ops.specs.Same.{op_eq}
-use Rattle.rls_model.specs.Answers.{Reason, Misshapen, Own, Forked, Left, Backward, WrongEpoch, WrongStem, UnknownTarget, Answer, Repeats, Waits, Refuses}
+use Rattle.rls_model.specs.Answers.{Reason, Own, Left, Backward, WrongEpoch, WrongStem, UnknownTarget, Repeats, Refuses}
 use Rattle.rls_model.specs.Document.{targets_of, export}
 use Rattle.rls_model.specs.Epochs.{epochs, greatest, greatest_within}
 use Rattle.rls_model.specs.Fitting.{is_known, first_unknown, body_refusal, refusal}
-use Rattle.rls_model.specs.History.{History, me_of, members_of, ops, count, count_of, has_left, row}
+use Rattle.rls_model.specs.History.{History, me_of, members_of, count, count_of, has_left, row}
+use Rattle.rls_model.specs.Laws.{KeepsRetained}
 use Rattle.rls_model.specs.Legal.{IsLegal}
 use Rattle.rls_model.specs.Receiving.{State, answer, answer_after_shape, waiting_under, verdict_of}
 use Rattle.rls_model.specs.Receiving as model
-use Rattle.rls_model.specs.Retained.{retained}
 use Rattle.rls_model.specs.Stability.{is_awaited, awaited_rows, stable, unstable}
-use Rattle.rls_model.specs.Stems.{stems, may_use, due_offset}
+use Rattle.rls_model.specs.Stems.{may_use, due_offset}
 use Rattle.rls_model.specs.WellFormed.{IsOp, IsBody}
 use Rattle.rls_model.proofs.Dropping.{Keeps, greatest_same, within_same, threshold_retained}
 use Rattle.rls_model.proofs.Later.{log_unstable}
@@ -38,9 +36,9 @@ use Rattle.rls_model.proofs.OneTree as one_tree
 use Rattle.rls_model.proofs.OneTree.{author_below}
 use Rattle.rls_model.proofs.Stable.{at_most_trans, stable_row, length-count}
 use Rattle.rls_model.proofs.WindowAnswers.{known_window}
-use Rattle.rls_seen.specs.Seen.{Seen, vector, members, stable_over, unstable_over, greatest_over, due_over, translate_over}
+use Rattle.rls_seen.specs.Seen.{Seen, members, stable_over, unstable_over, greatest_over, due_over}
 use Rattle.rls_seen.specs.Over.{is_known_over, first_unknown_over, body_refusal_over, refusal_over, answer_beside, answer_by, answer_over}
-use Rattle.rls_seen.specs.Stands.{StandsFor, KeepsEpochs}
+use Rattle.rls_seen.specs.Stands.{StandsFor}
 
 -- ---- members, rows, what is stable
 
@@ -68,11 +66,11 @@ unstable_alike s t h = ap (λ v. missing_for v s.log) (stable_alike s t h) ∙ l
 
 -- ---- epochs
 
-pub keeps : (E : Epochs) (H : History) → IsLegal H → KeepsEpochs E H → Keeps H E.top E.nodes
-keeps E H l k = record { window = window_of E (record { top = Origin; nodes = epochs H }) (one_tree.law H l) k.window; keeps = k.keeps }
+pub keeps : (E : Epochs) (H : History) → IsLegal H → KeepsRetained H E → Keeps H E.top E.nodes
+keeps E H l k = record { window = window_of E (record { top = Origin; nodes = epochs H }) (one_tree.law H l) k.0; keeps = k.1 }
 
-pub keeps_back : (E : Epochs) (H : History) → Keeps H E.top E.nodes → KeepsEpochs E H
-keeps_back E H k = record { window = of_window E (record { top = Origin; nodes = epochs H }) k.window; keeps = k.keeps }
+pub keeps_back : (E : Epochs) (H : History) → Keeps H E.top E.nodes → KeepsRetained H E
+keeps_back E H k = (of_window E (record { top = Origin; nodes = epochs H }) k.window, k.keeps)
 
 pub keeping : (s : Seen) (t : State) → StandsFor s t → Keeps t.history s.epochs.top s.epochs.nodes
 keeping s t h = keeps s.epochs t.history h.legal h.epochs
@@ -138,12 +136,12 @@ refusal_alike s t o w m h =
     ∙ (ap (λ v. if has_left H o.author then Some (Left (slice_index v o.author)) else if not (at_most (row_of s.acks o.author) o.context) then Some (Backward (row_of s.acks o.author)) else rest) h.vector
     ∙ (ap (λ r. if has_left H o.author then Some (Left (count_of H o.author)) else if not (at_most r o.context) then Some (Backward r) else rest) (h.rows o.author m)
     ∙ behind_two (has_left H o.author) (at_most (row H o.author) o.context) (Some (Left (count_of H o.author))) (Some (Backward (row H o.author))) rest
-        (if not (name_eq o.epoch due) then Some (WrongEpoch due) else body_refusal H o o.body)
-        (λ a b. let c : at_most (stable H) o.context ≡ true = at_most_trans (stable H) (row H o.author) o.context (stable_row H o.author m a) b in
-        ap (λ e. if not (name_eq o.epoch e) then Some (WrongEpoch e) else body_refusal_over s o o.body) (due_alike s t h o.context c)
-        ∙ behind_one (name_eq o.epoch due) (Some (WrongEpoch due)) (body_refusal_over s o o.body) (body_refusal H o o.body)
-            (λ e. body_alike s t h o o.body w.body
-                (subst (λ f. is_kept s.epochs.top s.epochs.nodes f ≡ true) (sym (name_eq_is o.epoch due e)) ((keeping s t h).keeps due (threshold_retained H h.legal o.context c)))))))
+    (if not (name_eq o.epoch due) then Some (WrongEpoch due) else body_refusal H o o.body)
+    (λ a b. let c : at_most (stable H) o.context ≡ true = at_most_trans (stable H) (row H o.author) o.context (stable_row H o.author m a) b in
+    ap (λ e. if not (name_eq o.epoch e) then Some (WrongEpoch e) else body_refusal_over s o o.body) (due_alike s t h o.context c)
+    ∙ behind_one (name_eq o.epoch due) (Some (WrongEpoch due)) (body_refusal_over s o o.body) (body_refusal H o o.body)
+    (λ e. body_alike s t h o o.body w.body
+    (subst (λ f. is_kept s.epochs.top s.epochs.nodes f ≡ true) (sym (name_eq_is o.epoch due e)) ((keeping s t h).keeps due (threshold_retained H h.legal o.context c)))))))
 
 -- ---- the answer
 

@@ -1,6 +1,5 @@
 -- The count of members stays.
-use Rattle.std.proofs.Common.{◌≡◌, ℕ, zero, suc, Bool, true, false, cond, List, [], ◌∷◌, length, refl, sym, ap, ◌∙◌, Option, Some, None}
-use Rattle.rls_ident.specs.Vectors.{raise}
+use Rattle.std.proofs.Common.{◌≡◌, ℕ, zero, suc, Bool, true, false, cond, List, length, refl, ap, ◌∙◌, Option, Some, None}
 use Rattle.rls_ops.specs.declared.op.Op.{Op}
 use Rattle.rls_ops.specs.Rows.{AcksSeen, noted}
 use Rattle.rls_ops.specs.Rows as rows

@@ -1,5 +1,5 @@
 -- Edits, seen by a history that the replica stands for.
-use Rattle.std.proofs.Common.{◌≡◌, ℕ, ◌+◌, ◌==◌, slice_index, slice_get, List, length, map, take, drop, refl, sym, ap, ◌∙◌, subst, arith, Option, Some, None, if◌then◌else◌}
+use Rattle.std.proofs.Common.{◌≡◌, ℕ, ◌+◌, ◌==◌, slice_index, slice_get, List, length, map, take, drop, refl, sym, ap, ◌∙◌, subst, Option, Some, None, if◌then◌else◌}
 use Rattle.rls_ident.specs.declared.tuple.Tuple.{Tuple}
 use Rattle.rls_ident.specs.declared.epoch_name.EpochName.{EpochName}
 use Rattle.rls_ops.specs.declared.op.Op.{Op}
@@ -12,7 +12,7 @@ use Rattle.rls_model.specs.declared.edit.Edit.TheVariants as edits
 use Rattle.rls_model.specs.declared.edit.EditError.{EditError}
 use Rattle.rls_model.specs.declared.edit.EditError.TheVariants as errors
 use Rattle.rls_model.specs.declared.parts.Stem.{Stem}
-use Rattle.rls_model.specs.Document.{export, idents}
+use Rattle.rls_model.specs.Document.{idents}
 use Rattle.rls_model.specs.Editing.{first_between, get_before, range_fault, or_fault, size_fault, next_seq, made, op_fault, edit_fault}
 use Rattle.rls_model.specs.Editing as model
 use Rattle.rls_model.specs.Epochs.{greatest}
@@ -22,7 +22,7 @@ use Rattle.rls_model.specs.Stems.{stems}
 use Rattle.rls_model.specs.WellFormed.{IsEdit}
 use Rattle.rls_model.proofs.Made as made_fits
 use Rattle.rls_model.proofs.Made.{foot}
-use Rattle.rls_seen.specs.Seen.{Seen, vector, own_count, greatest_over, idents_over}
+use Rattle.rls_seen.specs.Seen.{Seen, own_count, greatest_over, idents_over}
 use Rattle.rls_seen.specs.Over.{accepted}
 use Rattle.rls_seen.specs.Edits.{made_body, made_over, op_fault_over, edit_fault_over, edited}
 use Rattle.rls_seen.specs.Stands.{StandsFor}

@@ -1,5 +1,5 @@
 -- What is known of an operation that may be applied.
-use Rattle.std.proofs.Common.{◌≡◌, ℕ, zero, suc, ◌+◌, ◌<◌, ◌≤◌, not, nat_lt, slice_index, Bool, true, false, List, [], ◌∷◌, length, refl, sym, ap, ◌∙◌, subst, arith, Option, Some, None, IsTrue, if◌then◌else◌}
+use Rattle.std.proofs.Common.{◌≡◌, ℕ, ◌+◌, ◌<◌, not, nat_lt, Bool, true, false, List, length, refl, sym, ap, ◌∙◌, arith, Some, None, IsTrue, if◌then◌else◌}
 use Rattle.std.specs.Prelude.{ℤ, pos, ◌+ℤ◌, ◌≤ℤ◌}
 use Rattle.std.specs.Int.RustNames.{int_lt}
 use Rattle.std.proofs.lemmas.Int.{ints}
@@ -20,12 +20,11 @@ use Rattle.rls_ops.specs.Rows.{row_of, left}
 use Rattle.rls_ops.specs.Shapes.{is_empty, body_limit, body_len, passes_end}
 use Rattle.rls_model.specs.Answers.{Left, Backward, WrongEpoch, WrongStem}
 use Rattle.rls_model.specs.Stems.{may_use, due_offset, new_stem, stems_after}
-use Rattle.rls_model.specs.Laws.{IsUsedBy}
-use Rattle.rls_model.proofs.Fresh.{Change, change_of, unused, still_used, now_used}
+use Rattle.rls_model.proofs.Fresh.{Change, change_of}
 use Rattle.rls_model.proofs.OneTree.{none_else, not_not}
 use Rattle.rls_seen.specs.Seen.{Seen, vector, members, count_over, due_over}
 use Rattle.rls_seen.specs.Over.{body_refusal_over, refusal_over}
-use Rattle.rls_seen.specs.Sane.{IsSane, IsInRange, IsCounted, AreStems, MayApply}
+use Rattle.rls_seen.specs.Sane.{IsSane, IsInRange, AreStems, MayApply}
 use Rattle.rls_seen.proofs.Receiving.{IsShaped, shaped, next_of}
 use Rattle.rls_seen.proofs.StemNumbers.{earlier, stems_with, stems_raised, stems_inserted, new_in_range}
 
@@ -90,7 +89,7 @@ stems_go s o (Insert first text) sane f e r =
     let l : nat_lt 1048576 (length text) ≡ false = ap (λ b. nat_lt (body_limit b) (body_len b)) (sym e) ∙ h.few in
     let p : passes_end (Insert first text) ≡ false = ap passes_end (sym e) ∙ h.room in
     stems_inserted (vector s) s.stems o.author o.seq (last_of first) (length text) sane.stems h.author f.next (may_begin s o f first text e) w (not_lt_is 1048576 (length text) l) r
-      (int_not_lt (greatest_offset +ℤ pos 1) (offset_of (last_of first) +ℤ pos (length text)) p)
+    (int_not_lt (greatest_offset +ℤ pos 1) (offset_of (last_of first) +ℤ pos (length text)) p)
 stems_go s o (Delete targets) sane f e r = stems_raised (vector s) o.author s.stems sane.stems
 stems_go s o (Rename former) sane f e r =
     let h = f.shaped in

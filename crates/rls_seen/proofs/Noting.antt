@@ -1,15 +1,13 @@
 -- Noting an acknowledgement, seen by a history that the replica stands for.
-use Rattle.std.proofs.Common.{◌≡◌, ℕ, zero, suc, ◌<◌, ◌==◌, ◌&&◌, not, nat_le, slice_index, Bool, true, false, cond, List, [], ◌∷◌, length, get_or, set, refl, sym, ap, ◌∙◌, subst, arith, if◌then◌else◌}
+use Rattle.std.proofs.Common.{◌≡◌, ℕ, zero, suc, ◌<◌, ◌==◌, ◌&&◌, not, nat_le, slice_index, Bool, true, false, cond, List, [], ◌∷◌, length, get_or, set, refl, sym, ap, ◌∙◌, subst, arith}
 use Rattle.std.proofs.lemmas.List.{get_or-set_same, get_or-set_other, length-set}
-use Rattle.rls_ident.specs.Lists.{IsIn}
 use Rattle.rls_ident.specs.Vectors.{at_most, join}
-use Rattle.rls_ident.proofs.Members.{bool_cases, and_left, not_is, eq_is, eq_not}
-use Rattle.rls_ops.specs.declared.op.Op.{Op}
+use Rattle.rls_ident.proofs.Members.{bool_cases, eq_is, eq_not}
 use Rattle.rls_ops.specs.Rows.{AcksSeen, AreRows, HaveLength, row_of, noted}
 use Rattle.rls_ops.specs.Rows as rows
 use Rattle.rls_model.specs.History.{History, Then, Acknowledged, me_of, members_of, ops, count, count_of, row}
 use Rattle.rls_model.specs.History as history
-use Rattle.rls_model.specs.Legal.{IsLegal, AreWaiting}
+use Rattle.rls_model.specs.Legal.{IsLegal}
 use Rattle.rls_model.specs.Receiving.{State}
 use Rattle.rls_model.specs.Stability.{stable, is_counted}
 use Rattle.rls_model.specs.Taking.{acknowledge}
@@ -71,22 +69,22 @@ noted_row s t a v h l c m =
     ap (λ me. cond (c == me) s.acks.mine left) h.me
     ∙ (ap (λ w. cond (c == me_of H) w left) h.vector
     ∙ bool_cases (c == me_of H)
-      (λ e. ap (λ b. cond b (count H) left) e ∙ sym (ap (λ b. cond b (count H) right) e))
-      (λ e. ap (λ b. cond b (count H) left) e
-        ∙ (bool_cases (c == a)
-          (λ f. let q : a ≡ c = sym (eq_is c a f) in
-            subst (λ d. get_or (set s.acks.others a new) d [] ≡ new) q (get_or-set_same s.acks.others a new [] l)
-            ∙ (ap (λ d. join (get_or s.acks.others d []) v) q
-            ∙ (ap (λ w. join w v) (other_row s t c h m e)
-            ∙ sym (ap (λ b. cond b (join (history.acknowledged H c) v) (history.acknowledged H c)) f))))
-          (λ f. get_or-set_other s.acks.others a c new [] (eq_not c a f)
-            ∙ (other_row s t c h m e
-            ∙ sym (ap (λ b. cond b (join (history.acknowledged H c) v) (history.acknowledged H c)) f)))
-        ∙ sym (ap (λ b. cond b (count H) right) e))))
+    (λ e. ap (λ b. cond b (count H) left) e ∙ sym (ap (λ b. cond b (count H) right) e))
+    (λ e. ap (λ b. cond b (count H) left) e
+    ∙ (bool_cases (c == a)
+    (λ f. let q : a ≡ c = sym (eq_is c a f) in
+    subst (λ d. get_or (set s.acks.others a new) d [] ≡ new) q (get_or-set_same s.acks.others a new [] l)
+    ∙ (ap (λ d. join (get_or s.acks.others d []) v) q
+    ∙ (ap (λ w. join w v) (other_row s t c h m e)
+    ∙ sym (ap (λ b. cond b (join (history.acknowledged H c) v) (history.acknowledged H c)) f))))
+    (λ f. get_or-set_other s.acks.others a c new [] (eq_not c a f)
+    ∙ (other_row s t c h m e
+    ∙ sym (ap (λ b. cond b (join (history.acknowledged H c) v) (history.acknowledged H c)) f)))
+    ∙ sym (ap (λ b. cond b (count H) right) e))))
 
 noted_go : (b : Bool) (s : Seen) (t : State) (a : ℕ) (v : List ℕ) → a < members_of t.history → IsVector (members_of t.history) v → is_counted t.history a v ≡ b → StandsFor s t
     → StandsFor (record { group = s.group; acks = cond b (noted s.acks a v) s.acks; stems = s.stems; epochs = s.epochs; text = s.text; waiting = s.waiting; log = s.log })
-        (cond b (record { history = Then t.history (Acknowledged a v); waiting = t.waiting }) t)
+    (cond b (record { history = Then t.history (Acknowledged a v); waiting = t.waiting }) t)
 noted_go true s t a v m w e h =
     let H = t.history in
     let K = Then H (Acknowledged a v) in
@@ -97,19 +95,33 @@ noted_go true s t a v m w e h =
     record {
       legal = l;
       sound = sound_grown H K t.waiting refl (λ x p. (waiting_at H t.waiting x h.sound p).2) h.sound;
-      group = h.group; me = h.me; vector = h.vector;
+      group = h.group;
+      me = h.me;
+      vector = h.vector;
       places = noted_places s.acks a v k (w.0 ∙ sym n) h.places;
       rows = noted_row s t a v h i;
-      left = h.left; stems = h.stems;
+      left = h.left;
+      stems = h.stems;
       epochs = keeps_back s.epochs K (window_step H (Acknowledged a v) l s.epochs.top s.epochs.nodes (keeping s t h));
       text = h.text ∙ sym (export_acknowledged H a v);
       waiting = h.waiting;
       log = (h.log.0, record { stable = at_most_trans h.log.0 (stable H) (stable K) h.log.1.stable (stable_grows H (Acknowledged a v) l); kept = h.log.1.kept });
     }
 noted_go false s t a v m w e h = record {
-    legal = h.legal; sound = h.sound; group = h.group; me = h.me; vector = h.vector; places = h.places; rows = h.rows; left = h.left;
-    stems = h.stems; epochs = h.epochs; text = h.text; waiting = h.waiting; log = h.log;
-  }
+  legal = h.legal;
+  sound = h.sound;
+  group = h.group;
+  me = h.me;
+  vector = h.vector;
+  places = h.places;
+  rows = h.rows;
+  left = h.left;
+  stems = h.stems;
+  epochs = h.epochs;
+  text = h.text;
+  waiting = h.waiting;
+  log = h.log;
+}
 
 -- an acknowledgement is noted by both
 pub acknowledged_stands : (s : Seen) (t : State) (a : ℕ) (v : List ℕ) → a < members s → IsVector (members s) v → StandsFor s t → StandsFor (acknowledged s a v) (acknowledge t a v)
@@ -118,8 +130,8 @@ acknowledged_stands s t a v m w h =
     let n = members_alike s t h in
     let k : a < members_of t.history = omega arith in
     subst (λ b. StandsFor (record { group = s.group; acks = cond b (noted s.acks a v) s.acks; stems = s.stems; epochs = s.epochs; text = s.text; waiting = s.waiting; log = s.log }) (acknowledge t a v))
-      (sym (counted_alike s t a v k h))
-      (noted_go (is_counted t.history a v) s t a v k (subst (λ c. IsVector c v) n w) refl h)
+    (sym (counted_alike s t a v k h))
+    (noted_go (is_counted t.history a v) s t a v k (subst (λ c. IsVector c v) n w) refl h)
 
 -- the same answer
 pub acknowledged_alike : (s : Seen) (t : State) (a : ℕ) (v : List ℕ) → a < members s → StandsFor s t → rows.counts s.acks a v ≡ is_counted t.history a v

@@ -8,8 +8,7 @@ use Rattle.rls_ops.specs.declared.op.Shape.TheVariants.{Author, Context, EmptyBo
 use Rattle.rls_ops.specs.Shapes.{shape_fault, is_next_of, is_empty, body_limit, body_len, passes_end}
 use Rattle.rls_ops.specs.Same.{op_eq}
 use Rattle.rls_model.specs.Answers.{Reason, Forked, Own, Answer, Applies, Repeats, Waits, Refuses}
-use Rattle.rls_model.specs.Fitting.{refusal}
-use Rattle.rls_model.specs.History.{History, count, count_of, me_of, members_of}
+use Rattle.rls_model.specs.History.{count, count_of, members_of}
 use Rattle.rls_model.specs.Legal.{MayAccept, IsSound}
 use Rattle.rls_model.specs.Receiving.{State, answer, after, receive, receive_after, replay, replay_after, verdict_of, waiting_under, with_waiting, without}
 use Rattle.rls_model.specs.WellFormed.{IsOp}
@@ -145,9 +144,20 @@ may_accept s t o h m =
 pub holding_stands : (s : Seen) (t : State) (W : List Op) → StandsFor s t → IsSound (record { history = t.history; waiting = W }) → StandsFor (holding s W) (record { history = t.history; waiting = W })
 unfolding holding
 holding_stands s t W h sound = record {
-    legal = h.legal; sound = sound; group = h.group; me = h.me; vector = h.vector; places = h.places; rows = h.rows; left = h.left;
-    stems = h.stems; epochs = h.epochs; text = h.text; waiting = refl; log = h.log;
-  }
+  legal = h.legal;
+  sound = sound;
+  group = h.group;
+  me = h.me;
+  vector = h.vector;
+  places = h.places;
+  rows = h.rows;
+  left = h.left;
+  stems = h.stems;
+  epochs = h.epochs;
+  text = h.text;
+  waiting = refl;
+  log = h.log;
+}
 
 received_go : (own : Bool) (s : Seen) (t : State) (o : Op) → IsOp o → StandsFor s t → (a : Answer) → answer_over own s o ≡ a → StandsFor (after_answer a s o) (after a t o)
 received_go own s t o whole h Applies e = accepted_stands s t o whole (may_accept s t o h (applies own s o whole e)) h
@@ -157,7 +167,7 @@ received_go own s t o whole h Waits e =
     let sound = sound_put H o t.waiting whole (ap (λ n. shape_fault n o) (sym (members_alike s t h)) ∙ may.shape) (subst (λ v. slice_index v o.author < o.seq) h.vector may.above) h.sound in
     let f : with_waiting o (without o.author o.seq t.waiting) ≡ with_waiting o (without o.author o.seq s.waiting) = ap (λ W. with_waiting o (without o.author o.seq W)) (sym h.waiting) in
     subst (λ W. StandsFor (holding s W) (record { history = H; waiting = with_waiting o (without o.author o.seq t.waiting) })) f
-      (holding_stands s t (with_waiting o (without o.author o.seq t.waiting)) h sound)
+    (holding_stands s t (with_waiting o (without o.author o.seq t.waiting)) h sound)
 received_go own s t o whole h Repeats e = h
 received_go own s t o whole h (Refuses r) e = h
 

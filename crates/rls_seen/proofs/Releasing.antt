@@ -1,7 +1,6 @@
 -- Releasing what is ready, once and until nothing is.
-use Rattle.std.proofs.Common.{◌≡◌, ℕ, zero, suc, ◌<◌, ◌≤◌, Bool, true, false, List, [], ◌∷◌, length, refl, sym, ap, ◌∙◌, subst, arith, Option, Some, None, is_some}
+use Rattle.std.proofs.Common.{◌≡◌, ℕ, zero, suc, ◌<◌, true, length, refl, sym, ap, ◌∙◌, subst, Option, Some, None}
 use Rattle.std.specs.Prelude.{find}
-use Rattle.rls_ident.specs.Lists.{IsIn}
 use Rattle.rls_ident.specs.Vectors.{at_most}
 use Rattle.rls_ident.proofs.Members.{found_in}
 use Rattle.rls_ops.specs.declared.op.Op.{Op}
@@ -9,16 +8,16 @@ use Rattle.rls_ops.specs.Shapes.{shape_fault}
 use Rattle.rls_model.specs.Answers.{Reason, Released}
 use Rattle.rls_model.specs.Fitting.{refusal}
 use Rattle.rls_model.specs.History.{count, count_of, members_of}
-use Rattle.rls_model.specs.Legal.{AreWaiting, MayAccept}
+use Rattle.rls_model.specs.Legal.{AreWaiting}
 use Rattle.rls_model.specs.Receiving.{State, without, release, release_after, release_all}
 use Rattle.rls_model.specs.Receiving as model
 use Rattle.rls_model.specs.WellFormed.{IsOp}
 use Rattle.rls_model.proofs.OneTree.{author_below}
 use Rattle.rls_model.proofs.WorldsWaiting.{waiting_at, sound_without}
-use Rattle.rls_seen.specs.Seen.{Seen, vector, members}
-use Rattle.rls_seen.specs.Over.{refusal_over, holding, accepted, first_ready, release_of, release_over, after_refusal, after_release, released, released_times, released_all, IsPartReleased}
+use Rattle.rls_seen.specs.Seen.{Seen}
+use Rattle.rls_seen.specs.Over.{holding, first_ready, release_of, release_over, after_refusal, after_release, released, released_times, released_all, IsPartReleased}
 use Rattle.rls_seen.specs.Stands.{StandsFor}
-use Rattle.rls_seen.proofs.Alike.{members_alike, refusal_alike}
+use Rattle.rls_seen.proofs.Alike.{refusal_alike}
 use Rattle.rls_seen.proofs.Accepting.{accepted_stands}
 use Rattle.rls_seen.proofs.Receiving.{next_of, holding_stands}
 
@@ -48,15 +47,16 @@ refused_go s t w h g None f =
 refused_go s t w h g (Some r) f =
     let e : without w.author w.seq t.waiting ≡ without w.author w.seq s.waiting = ap (without w.author w.seq) (sym h.waiting) in
     subst (λ W. StandsFor (holding s W) (record { history = t.history; waiting = without w.author w.seq t.waiting })) e
-      (holding_stands s t (without w.author w.seq t.waiting) h (sound_without t.history w.author w.seq t.waiting h.sound))
+    (holding_stands s t (without w.author w.seq t.waiting) h (sound_without t.history w.author w.seq t.waiting h.sound))
 
 release_go : (s : Seen) (t : State) → StandsFor s t → (o : Option Op) → model.first_ready t ≡ o → (release_of s o ≡ model.release_of t o) × StandsFor (after_release s o) (model.after_release t o)
 release_go s t h None e = (refl, h)
 release_go s t h (Some w) e =
     let g = ready t w h.sound e in
-    let f = refusal_alike s t w g.whole (author_below (members_of t.history) w g.shape) h in
-    (ap (λ r. Some (released_as w r)) f,
-     subst (λ r. StandsFor (after_refusal r s w) (model.after_refusal (refusal t.history w) t w)) (sym f) (refused_go s t w h g (refusal t.history w) refl))
+    let f = refusal_alike s t w g.whole (author_below (members_of t.history) w g.shape) h in (
+      ap (λ r. Some (released_as w r)) f,
+      subst (λ r. StandsFor (after_refusal r s w) (model.after_refusal (refusal t.history w) t w)) (sym f) (refused_go s t w h g (refusal t.history w) refl),
+    )
   where
     released_as : Op → Option Reason → Released
     released_as w r = record { author = w.author; seq = w.seq; refusal = r }
@@ -66,7 +66,7 @@ pub released_stands : (s : Seen) (t : State) → StandsFor s t → (release_over
 unfolding released release_over
 released_stands s t h =
     subst (λ o. (release_of s o ≡ release t) × StandsFor (after_release s o) (release_after t)) (sym (first_alike s t h))
-      (release_go s t h (model.first_ready t) refl)
+    (release_go s t h (model.first_ready t) refl)
 
 times_stand : (n : ℕ) (s : Seen) (t : State) → StandsFor s t → StandsFor (released_times n s) (model.released_times n t)
 times_stand zero s t h = h

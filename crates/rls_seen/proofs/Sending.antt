@@ -1,17 +1,16 @@
 -- The message for a member, seen by a history that the replica stands for.
-use Rattle.std.proofs.Common.{◌≡◌, ℕ, zero, suc, ◌<◌, ◌≤◌, ◌==◌, ◌||◌, ◌++◌, get_or, not, nat_le, slice_index, Bool, true, false, cond, List, [], ◌∷◌, length, max, min, refl, sym, ap, ◌∙◌, subst, arith, if◌then◌else◌}
-use Rattle.std.specs.Prelude.{filter}
+use Rattle.std.proofs.Common.{◌≡◌, ℕ, zero, suc, ◌<◌, ◌≤◌, ◌==◌, ◌||◌, ◌++◌, get_or, not, nat_le, slice_index, Bool, true, false, cond, List, [], ◌∷◌, length, max, refl, sym, ap, ◌∙◌, subst, arith, if◌then◌else◌}
 use Rattle.std.proofs.lemmas.Bool.Decides.{nat_tests}
 use Rattle.rls_ident.specs.Vectors.{join, meet}
 use Rattle.rls_ops.specs.declared.op.Op.{Op}
 use Rattle.rls_ops.specs.declared.message.Message.{Message}
 use Rattle.rls_ops.specs.Rows.{AcksSeen, AreRows, HaveLength, row_of, awaits, awaited, least_of, stable_of, is_covered, missing_for}
 use Rattle.rls_ops.specs.Sizes.{head_size}
-use Rattle.rls_model.specs.History.{count, group_of, me_of, members_of, row}
+use Rattle.rls_model.specs.History.{group_of, me_of, members_of, row}
 use Rattle.rls_model.specs.Receiving.{State}
 use Rattle.rls_model.specs.Stability.{unstable}
 use Rattle.rls_model.specs.Taking.{front_within, message_for}
-use Rattle.rls_seen.specs.Seen.{Seen, members, stable_over, unstable_over}
+use Rattle.rls_seen.specs.Seen.{Seen, members, stable_over}
 use Rattle.rls_seen.specs.Messages.{message_over}
 use Rattle.rls_seen.specs.Stands.{StandsFor}
 use Rattle.rls_seen.proofs.Alike.{members_alike, unstable_alike}
@@ -76,7 +75,7 @@ missing_joined v w (o ∷ os) e =
     ∙ go (is_covered v o) refl (is_covered w o) (missing_joined v w os e)
   where
     go : (b : Bool) → is_covered v o ≡ b → (c : Bool) → missing_for (join v w) os ≡ missing_for v (missing_for w os)
-      → cond (not (b || c)) (o ∷ missing_for (join v w) os) (missing_for (join v w) os) ≡ missing_for v (cond (not c) (o ∷ missing_for w os) (missing_for w os))
+        → cond (not (b || c)) (o ∷ missing_for (join v w) os) (missing_for (join v w) os) ≡ missing_for v (cond (not c) (o ∷ missing_for w os) (missing_for w os))
     go true f true ih = ih
     go true f false ih = ih ∙ sym (ap (λ b. cond (not b) (o ∷ missing_for v (missing_for w os)) (missing_for v (missing_for w os))) f)
     go false f true ih = ih
@@ -96,9 +95,9 @@ message_alike s t to l h =
     let e : length (row_of s.acks to) ≡ length (stable_over s) = length-row s.acks to h.places l ∙ sym (length-stable s.acks h.places) in
     let k : to < members_of H = omega arith in
     let os : missing_for (join (row_of s.acks to) (stable_over s)) s.log ≡ missing_for (row H to) (unstable H) =
-      missing_joined (row_of s.acks to) (stable_over s) s.log e
-      ∙ (ap (missing_for (row_of s.acks to)) (unstable_alike s t h)
-      ∙ ap (λ v. missing_for v (unstable H)) (h.rows to k)) in
+    missing_joined (row_of s.acks to) (stable_over s) s.log e
+    ∙ (ap (missing_for (row_of s.acks to)) (unstable_alike s t h)
+    ∙ ap (λ v. missing_for v (unstable H)) (h.rows to k)) in
     ap (message_of s.group (members s) s.acks.me s.acks.mine) os
     ∙ (ap (λ g. message_of g (members s) s.acks.me s.acks.mine (missing_for (row H to) (unstable H))) h.group
     ∙ (ap (λ m. message_of (group_of H) m s.acks.me s.acks.mine (missing_for (row H to) (unstable H))) n

@@ -1,15 +1,14 @@
 -- A fresh replica stands for the history in which nothing has happened.
-use Rattle.std.proofs.Common.{◌≡◌, ℕ, zero, suc, ◌<◌, ◌≤◌, ◌==◌, Bool, true, false, cond, List, [], ◌∷◌, length, replicate, get_or, refl, sym, ap, ◌∙◌, subst, arith}
+use Rattle.std.proofs.Common.{◌≡◌, ℕ, zero, suc, ◌<◌, ◌==◌, Bool, true, false, cond, List, [], length, replicate, get_or, refl, ap, ◌∙◌, arith}
 use Rattle.std.proofs.lemmas.List.{get_or-replicate, length-replicate}
-use Rattle.rls_ops.specs.Rows.{AreRows, HaveLength, starting_at, left}
-use Rattle.rls_model.specs.History.{Fresh, row, count, has_left}
+use Rattle.rls_ops.specs.Rows.{AreRows, HaveLength, starting_at}
+use Rattle.rls_model.specs.History.{Fresh}
 use Rattle.rls_model.specs.Document.{export, live, chars}
 use Rattle.rls_model.specs.Legal.{AreNumbers}
-use Rattle.rls_model.specs.Receiving.{State}
 use Rattle.rls_model.specs.Stability.{stable}
 use Rattle.rls_model.proofs.Later.{whole_keeps}
 use Rattle.rls_model.proofs.Stable.{at_most_refl}
-use Rattle.rls_seen.specs.Seen.{Seen, fresh}
+use Rattle.rls_seen.specs.Seen.{fresh}
 use Rattle.rls_seen.specs.Stands.{StandsFor}
 use Rattle.rls_seen.proofs.Alike.{keeps_back}
 
@@ -54,7 +53,9 @@ fresh_stands group me n l =
     record {
       legal = l;
       sound = tt;
-      group = refl; me = refl; vector = refl;
+      group = refl;
+      me = refl;
+      vector = refl;
       places = starting_places me (zeros n) (let e : length (zeros n) ≡ n = length-replicate n 0 in let k = l.1 in omega arith);
       rows = λ a k. ap (λ x. cond (a == me) (zeros n) x) (zero_row n a k);
       left = λ a k. none_left (length (zeros n)) a;

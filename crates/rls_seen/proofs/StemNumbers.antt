@@ -1,22 +1,21 @@
 -- The stems of a replica stay in order and in range.
-use Rattle.std.proofs.Common.{◌≡◌, ℕ, zero, suc, ◌+◌, ◌<◌, ◌≤◌, ◌==◌, ◌&&◌, ◌||◌, not, nat_lt, slice_index, Bool, true, false, cond, List, [], ◌∷◌, length, refl, sym, ap, ◌∙◌, subst, arith, inl, inr, ◌⊎◌, ⊎_elim, Option, Some, None, IsTrue, if◌then◌else◌}
-use Rattle.std.specs.Prelude.{ℤ, pos, ◌+ℤ◌, ◌≤ℤ◌, ◌<ℤ◌}
-use Rattle.std.specs.Int.RustNames.{int_lt}
+use Rattle.std.proofs.Common.{◌≡◌, ℕ, ◌+◌, ◌<◌, ◌≤◌, ◌==◌, slice_index, Bool, true, false, List, [], ◌∷◌, length, refl, sym, ◌∙◌, subst, arith, inl, inr, ◌⊎◌, Option, Some, None, IsTrue, if◌then◌else◌}
+use Rattle.std.specs.Prelude.{ℤ, pos, ◌+ℤ◌, ◌≤ℤ◌}
 use Rattle.std.specs.List.{list_all}
 use Rattle.std.specs.Ordering.{int_eq}
 use Rattle.std.proofs.lemmas.Bool.Decides.{nat_tests}
 use Rattle.std.proofs.lemmas.Int.{ints}
 use Rattle.rls_ident.specs.declared.tuple.Tuple.{Tuple}
-use Rattle.rls_ident.specs.Identifiers.{last_of, least_offset, greatest_offset}
+use Rattle.rls_ident.specs.Identifiers.{least_offset}
 use Rattle.rls_ident.specs.Lists.{IsIn}
 use Rattle.rls_ident.specs.Tuples.{replica_of, seq_of, offset_of}
 use Rattle.rls_ident.specs.Vectors.{raise}
-use Rattle.rls_ident.proofs.Members.{bool_cases, and_left, and_right, and_true, eq_is, eq_test, eq_not, int_is, int_test, in_all, all_in, some_is}
+use Rattle.rls_ident.proofs.Members.{and_left, and_right, and_true, eq_not, int_is, int_test, in_all, all_in, some_is}
 use Rattle.rls_model.specs.declared.parts.Stem.{Stem}
 use Rattle.rls_model.specs.Stems.{is_stem, stem_of, stands_before, with_stem, new_stem, extended, with_extended, stems_after_insert, may_use}
 use Rattle.rls_model.proofs.Grown.{AreEarlier, Use, Begins, Appends, Prepends, use_of}
 use Rattle.rls_model.proofs.OneTree.{index-raise_same, index-raise_le}
-use Rattle.rls_model.proofs.StemLists.{stem_is, found_is}
+use Rattle.rls_model.proofs.StemLists.{found_is}
 use Rattle.rls_seen.specs.Sane.{IsStem, AreStems}
 use Rattle.rls_seen.proofs.Accepting.{length-raise}
 

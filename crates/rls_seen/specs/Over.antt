@@ -1,11 +1,12 @@
 -- What a replica answers to an operation, and how it changes, read over what it consists of.
-use Rattle.std.specs.Prelude.{◌≡◌, ℕ, zero, suc, Bool, true, false, not, ◌&&◌, ◌||◌, List, [], ◌∷◌, ◌++◌, length, ◌==◌, nat_le, slice_index, map, filter, zip, find, Option, Some, None, if◌then◌else◌}
+use Rattle.std.specs.Prelude.{◌≡◌, ℕ, zero, suc, Bool, true, false, not, ◌&&◌, ◌||◌, List, [], ◌∷◌, ◌++◌, length, ◌==◌, nat_le, slice_index, map, zip, find, Option, Some, None, if◌then◌else◌}
 use Rattle.std.specs.List.{list_any}
 use Rattle.rls_ident.specs.declared.tuple.Tuple.{Tuple}
 use Rattle.rls_ident.specs.declared.epoch_name.EpochName.{EpochName}
 use Rattle.rls_ident.specs.EpochNames.{name_eq}
 use Rattle.rls_ident.specs.Identifiers.{ident_eq, last_of}
 use Rattle.rls_ident.specs.Vectors.{at_most}
+use Rattle.rls_runs.specs.Entries.{Entries, put_all, without_all, with_idents}
 use Rattle.rls_runs.specs.Runs.{run_idents}
 use Rattle.rls_rename.specs.Renaming.{forward}
 use Rattle.rls_rename.specs.Tree.{Epochs, name_of, greatest}
@@ -20,7 +21,7 @@ use Rattle.rls_ops.specs.Rows as rows
 use Rattle.rls_model.specs.Answers.{Reason, Misshapen, Own, Forked, Left, Backward, WrongEpoch, WrongStem, UnknownTarget, Answer, Applies, Repeats, Waits, Refuses, Released}
 use Rattle.rls_model.specs.Stems.{stems_after, due_offset, may_use}
 use Rattle.rls_model.specs.Epochs.{renaming_of, nodes_after}
-use Rattle.rls_model.specs.Document.{targets_of, has_ident, put_all}
+use Rattle.rls_model.specs.Document.{targets_of}
 use Rattle.rls_model.specs.Receiving.{without, with_waiting, waiting_under, verdict_of}
 use Rattle.rls_seen.specs.Seen.{Seen, vector, members, count_over, unstable_over, greatest_over, due_over, translate_over}
 
@@ -91,7 +92,7 @@ abbrev pub placed_over : Seen → EpochName → List Tuple → List Tuple
 placed_over s e x = translate_over s e (greatest_over s) x
 
 -- what an insertion in epoch e adds to the text
-abbrev pub added_over : Seen → EpochName → List Tuple → List ℕ → List (List Tuple × ℕ)
+abbrev pub added_over : Seen → EpochName → List Tuple → List ℕ → Entries
 added_over s e first text = zip (map (placed_over s e) (run_idents first (length text))) text
 
 -- an identifier of the greatest epoch in the epoch that a rename opens
@@ -103,10 +104,10 @@ abbrev pub is_greatest_over : Seen → Op → Bool
 is_greatest_over s o = name_eq (greatest s.epochs.top (epochs_after s.epochs o).nodes) (name_of (renaming_of o []))
 
 -- the text
-abbrev pub text_after : Seen → Op → Body → List (List Tuple × ℕ)
+abbrev pub text_after : Seen → Op → Body → Entries
 text_after s o (Insert first text) = put_all (added_over s o.epoch first text) s.text
-text_after s o (Delete targets) = filter (λ y. not (has_ident (map (placed_over s o.epoch) targets) y.0)) s.text
-text_after s o (Rename former) = if is_greatest_over s o then map (λ y. (renamed_over s o former y.0, y.1)) s.text else s.text
+text_after s o (Delete targets) = without_all (map (placed_over s o.epoch) targets) s.text
+text_after s o (Rename former) = if is_greatest_over s o then with_idents (renamed_over s o former) s.text else s.text
 text_after s o Leave = s.text
 
 unfoldable pub accepted : Seen → Op → Seen

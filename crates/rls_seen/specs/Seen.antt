@@ -1,8 +1,9 @@
 -- What a replica consists of.
-use Rattle.std.specs.Prelude.{ℕ, List, [], map, replicate, slice_index, length}
+use Rattle.std.specs.Prelude.{ℕ, List, [], replicate, slice_index, length}
 use Rattle.rls_ident.specs.declared.tuple.Tuple.{Tuple}
 use Rattle.rls_ident.specs.declared.epoch_name.EpochName.{EpochName}
 use Rattle.rls_ident.specs.declared.epoch_name.EpochName.TheVariants.{Origin}
+use Rattle.rls_runs.specs.Entries.{Entries, idents_in, chars_in}
 use Rattle.rls_rename.specs.Tree.{Epochs}
 use Rattle.rls_rename.specs.Tree as tree
 use Rattle.rls_ops.specs.declared.op.Op.{Op}
@@ -17,7 +18,7 @@ pub record Seen : Type 0 where
   -- the epochs that are kept
   pub epochs : Epochs
   -- identifiers of the greatest epoch, in increasing order, with their characters
-  pub text : List (List Tuple × ℕ)
+  pub text : Entries
   -- in increasing order of author and number
   pub waiting : List Op
   -- the accepted operations that are kept, in order
@@ -61,11 +62,11 @@ translate_over s e f x = tree.translate s.epochs.nodes e f x
 
 -- the identifiers of the text
 abbrev pub idents_over : Seen → List (List Tuple)
-idents_over s = map (λ e. e.0) s.text
+idents_over s = idents_in s.text
 
 -- the characters of the text
 abbrev pub text_over : Seen → List ℕ
-text_over s = map (λ e. e.1) s.text
+text_over s = chars_in s.text
 
 -- nothing has happened
 abbrev pub fresh : ℕ → ℕ → ℕ → Seen

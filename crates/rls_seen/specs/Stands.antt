@@ -1,26 +1,16 @@
 -- Which histories and waiting operations a replica stands for.
 use Rattle.std.specs.Prelude.{◌≡◌, ℕ, ◌<◌, List, IsTrue}
-use Rattle.rls_ident.specs.declared.epoch_name.EpochName.{EpochName}
-use Rattle.rls_ident.specs.declared.epoch_name.EpochName.TheVariants.{Origin}
-use Rattle.rls_ident.specs.Lists.{IsIn}
 use Rattle.rls_ident.specs.Vectors.{at_most}
-use Rattle.rls_rename.specs.Tree.{Epochs, IsWindow, is_kept}
 use Rattle.rls_ops.specs.declared.op.Op.{Op}
 use Rattle.rls_ops.specs.Rows.{AreRows, row_of, left, missing_for}
 use Rattle.rls_model.specs.History.{History, group_of, me_of, members_of, count, has_left, ops, row}
 use Rattle.rls_model.specs.Stability.{stable}
 use Rattle.rls_model.specs.Stems.{stems}
-use Rattle.rls_model.specs.Epochs.{epochs}
 use Rattle.rls_model.specs.Document.{export}
+use Rattle.rls_model.specs.Laws.{KeepsRetained}
 use Rattle.rls_model.specs.Legal.{IsLegal, IsSound}
 use Rattle.rls_model.specs.Receiving.{State}
-use Rattle.rls_model.specs.Retained.{retained}
 use Rattle.rls_seen.specs.Seen.{Seen}
-
--- the epochs are a connected part of the history's that holds the retained ones
-pub record KeepsEpochs (E : Epochs) (H : History) : Type 0 where
-  pub window : IsWindow E (record { top = Origin; nodes = epochs H })
-  pub keeps : (f : EpochName) → IsIn f (retained H) → IsTrue (is_kept E.top E.nodes f)
 
 -- the log has the operations that a vector doesn't cover, and the vector is at most the stable one
 pub record IsLog (log : List Op) (H : History) (gone : List ℕ) : Type 0 where
@@ -38,7 +28,8 @@ pub record StandsFor (s : Seen) (t : State) : Type 0 where
   pub rows : (a : ℕ) → a < members_of t.history → row_of s.acks a ≡ row t.history a
   pub left : (a : ℕ) → a < members_of t.history → left s.acks a ≡ has_left t.history a
   pub stems : s.stems ≡ stems t.history
-  pub epochs : KeepsEpochs s.epochs t.history
+  -- a connected part of the history's epochs that holds the retained ones
+  pub epochs : KeepsRetained t.history s.epochs
   pub text : s.text ≡ export t.history
   pub waiting : s.waiting ≡ t.waiting
   pub log : (gone : List ℕ) × IsLog s.log t.history gone
