@@ -1,46 +1,53 @@
--- Worked examples of printed texts and words, by computation.
-use Rattle.std.specs.Prelude.{◌≡◌, ℕ, pos, negsuc, List, [], ◌∷◌, ◌++◌, refl, Option, Some, None, codes, map}
+-- Worked examples of printed texts, by computation.
+use Rattle.std.specs.Prelude.{◌≡◌, pos, negsuc, [], ◌∷◌, refl, Some, None, codes, map}
 use Rattle.std.specs.List.{concat}
 use Rattle.std.specs.Fmt.{digits}
 use Rattle.rls_ident.specs.declared.tuple.Tuple.TheVariants.{Low, At, High}
 use Rattle.rls_ident.specs.declared.epoch_name.EpochName.TheVariants.{Origin, Of}
-use Rattle.rls_script.specs.Scripts.{number_of}
-use Rattle.rls_report.specs.Reasons.{Left, Backward, WrongEpoch, WrongStem, UnknownTarget, BadEdit, OutOfRange, OtherGroup}
-use Rattle.rls_report.specs.Texts.{refused_line, failure_line, stat_text, ids_json, take_line}
-use Rattle.rls_report.specs.Words.{Command, New, Trial, Text, command_of}
+use Rattle.rls_ops.specs.declared.op.Shape.TheVariants as shapes
+use Rattle.rls_model.specs.Answers.{Reason, Misshapen, Own, Left, Backward, WrongEpoch, WrongStem, UnknownTarget}
+use Rattle.rls_report.specs.declared.failures.Failure.{Failure}
+use Rattle.rls_report.specs.declared.failures.Failure.TheVariants.{Edit, OtherGroup, Damaged, NotMember, OutOfMemory}
+use Rattle.rls_report.specs.declared.failures.LineFault.TheVariants as faults
+use Rattle.rls_report.specs.Failures.{failure_line}
+use Rattle.rls_report.specs.Listing.{ids_text}
+use Rattle.rls_report.specs.Refused.{refused_line}
+use Rattle.rls_report.specs.Reports.{new_text, edit_text, take_text, stat_text, trial_text}
 
-refusals : concat (refused_line 1 1 (UnknownTarget (At 5 1 1 (pos 0) ∷ [])) ∷ refused_line 1 1 (Backward (1 ∷ 0 ∷ [])) ∷ refused_line 1 1 (WrongStem (Some 0)) ∷ refused_line 1 1 (WrongEpoch Origin) ∷ refused_line 0 2 (UnknownTarget (Low ∷ At 5 1 1 (negsuc 0) ∷ [])) ∷ [])
-    ≡ codes "refused 1 1 unknown target 5.1.1.0\nrefused 1 1 backward 1 0\nrefused 1 1 wrong stem 0\nrefused 1 1 wrong epoch origin\nrefused 0 2 unknown target low/5.1.1.-1\n"
-unfolding refused_line digits
+refusals : concat (map (λ (reason : Reason). refused_line 1 2 reason)
+    (UnknownTarget (At 5 1 1 (pos 0) ∷ []) ∷ UnknownTarget (Low ∷ High ∷ At 5 1 1 (negsuc 0) ∷ []) ∷ Backward (1 ∷ 0 ∷ []) ∷ WrongStem (Some 0) ∷ WrongStem None ∷ WrongEpoch Origin ∷ WrongEpoch (Of 0 3) ∷ Left 4 ∷ Own 2 ∷ Misshapen (shapes.TooLong 7) ∷ Misshapen shapes.OffsetEnd ∷ []))
+    ≡ codes "refused 1 2 unknown target 5.1.1.0\nrefused 1 2 unknown target low/high/5.1.1.-1\nrefused 1 2 backward 1 0\nrefused 1 2 wrong stem 0\nrefused 1 2 wrong stem none\nrefused 1 2 wrong epoch origin\nrefused 1 2 wrong epoch 0 3\nrefused 1 2 left 4\nrefused 1 2 own\nrefused 1 2 too long 7\nrefused 1 2 offset end\n"
+unfolding digits
 refusals = refl
 
-failures : concat (failure_line (BadEdit 2 (OutOfRange 9 6)) ∷ failure_line (OtherGroup 8 2) ∷ []) ≡ codes "line 2: range 9 6\nother group 8 2\n"
-unfolding failure_line digits
+failures : concat (map (λ (f : Failure). failure_line f) (Edit 2 (faults.Range 9 6) ∷ Edit 1 faults.EmptyEdit ∷ Edit 3 (faults.NotBoundary 1) ∷ OtherGroup 8 2 ∷ Damaged 30 ∷ NotMember 5 ∷ OutOfMemory ∷ []))
+    ≡ codes "line 2: range 9 6\nline 1: empty edit\nline 3: not a boundary 1\nother group 8 2\ndamaged at 30\nnot a member 5\nout of memory\n"
+unfolding digits
 failures = refl
 
-report : take_line 1 0 0 0 0 ≡ codes "applied 1 released 0 repeated 0 held 0 refused 0\n"
+reports : concat (new_text 7 0 2 ∷ edit_text 1 0 0 ∷ take_text 1 0 0 0 0 ∷ []) ≡ codes "new 7 0 2\nedits 1 released 0 refused 0\napplied 1 released 0 repeated 0 held 0 refused 0\n"
 unfolding digits
-report = refl
+reports = refl
 
-stat : stat_text (record { group = 7; me = 0; members = 2; accepted = 1 ∷ 0 ∷ []; total = 5; runs = 1; held = 0; unstable = 1; epochs = 1; former = 0 })
+stat : stat_text 7 0 2 (1 ∷ 0 ∷ []) (record { total = 5; runs = 1; held = 0; unstable = 1; epochs = 1; former = 0 })
     ≡ codes "group 7\nme 0\nmembers 2\naccepted 1 0\ntotal 5\nruns 1\nheld 0\nunstable 1\nepochs 1\nformer 0\n"
-unfolding stat_text digits
+unfolding digits
 stat = refl
 
-ids : ids_json Origin ((At 2147483647 0 1 (pos 0) ∷ [], 5) ∷ []) ≡ codes "{\"epoch\":null,\"runs\":[{\"first\":[[2147483647,0,1,0]],\"length\":5}]}\n"
-unfolding ids_json digits
+trial : trial_text 42 1 (0 ∷ 1 ∷ 0 ∷ []) ((8, 1) ∷ (8, 1) ∷ (8, 1) ∷ []) 1 0
+    ≡ codes "trial 42 1\naccepted 0 1 0\nmember 0 total 8 runs 1\nmember 1 total 8 runs 1\nmember 2 total 8 runs 1\nepochs 1 former 0\n"
+unfolding digits
+trial = refl
+
+ids : ids_text Origin ((At 2147483647 0 1 (pos 0) ∷ [], 5) ∷ []) ≡ codes "{\"epoch\":null,\"runs\":[{\"first\":[[2147483647,0,1,0]],\"length\":5}]}\n"
+unfolding ids_text digits
 ids = refl
 
-ids_of_none : ids_json (Of 0 3) [] ≡ codes "{\"epoch\":[0,3],\"runs\":[]}\n"
-unfolding ids_json digits
+ids_of_none : ids_text (Of 0 3) [] ≡ codes "{\"epoch\":[0,3],\"runs\":[]}\n"
+unfolding ids_text digits
 ids_of_none = refl
 
-ids_of_two : ids_json (Of 0 2) ((At 2147483647 0 2 (negsuc 0) ∷ High ∷ At 2147483647 1 1 (pos 0) ∷ [], 1) ∷ (Low ∷ At 7 1 1 (pos 2) ∷ [], 3) ∷ [])
+ids_of_two : ids_text (Of 0 2) ((At 2147483647 0 2 (negsuc 0) ∷ High ∷ At 2147483647 1 1 (pos 0) ∷ [], 1) ∷ (Low ∷ At 7 1 1 (pos 2) ∷ [], 3) ∷ [])
     ≡ codes "{\"epoch\":[0,2],\"runs\":[{\"first\":[[2147483647,0,2,-1],\"high\",[2147483647,1,1,0]],\"length\":1},{\"first\":[\"low\",[7,1,1,2]],\"length\":3}]}\n"
-unfolding ids_json digits
+unfolding ids_text digits
 ids_of_two = refl
-
-commands : map (λ (ws : List (List ℕ)). command_of ws) ((codes "new" ∷ codes "7" ∷ codes "0" ∷ codes "2" ∷ []) ∷ (codes "text" ∷ codes "1" ∷ []) ∷ (codes "text" ∷ []) ∷ (codes "trial" ∷ codes "42" ∷ codes "100001" ∷ []) ∷ (codes "trial" ∷ codes "42" ∷ codes "0" ∷ []) ∷ (codes "new" ∷ codes "07" ∷ codes "0" ∷ codes "2" ∷ []) ∷ [] ∷ [])
-    ≡ Some (New 7 0 2) ∷ None ∷ Some Text ∷ None ∷ Some (Trial 42 0) ∷ None ∷ None ∷ []
-unfolding command_of number_of digits
-commands = refl
