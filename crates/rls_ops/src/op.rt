@@ -1,24 +1,36 @@
 //! Operations.
 
+ghost use Rattle.std.specs.Prelude.{◌≡◌, ◌<◌, ◌++◌, ◌∷◌, ◌==◌, [], Some, OnOk, OnErr, length, slice_get};
+
 use rls_ident::{EpochName, Ident, Vector};
 use rls_runs::{Runs, Text};
+use std::alloc::{AllocError, Global};
 use std::marker::Model;
 
-/// What an operation does.
+/// What an operation does (insertion and deletion: LogootSplit, André and others, 2013; rename: RenamableLogootSplit, Nicolas,
+/// Oster and Perrin; leave: this project).
 #[derive(Drop)]
 pub enum Body {
+    /// Inserts characters. Character number i, counted from 0, has the first identifier with its last offset raised by i.
     Insert { first: Ident, text: Text },
+    /// Deletes the characters with these identifiers of the operation's epoch.
     Delete { targets: Runs },
+    /// Opens an epoch in which these identifiers of the operation's epoch, in order, have consecutive offsets of one new base.
     Rename { former: Runs },
+    /// Ends the author's own part: nobody waits for its acknowledgements any more.
     Leave,
 }
 
 /// What a member did, with its number, its causes and the epoch in which it was done.
 #[derive(Drop)]
 pub struct Op {
+    /// The member that did it.
     pub author: u32,
+    /// Its number among the author's operations, counted from 1.
     pub seq: u32,
+    /// How many operations of each member the author had accepted before it.
     pub context: Vector,
+    /// The epoch of the identifiers in the body: the greatest that the author knew.
     pub epoch: EpochName,
     pub body: Body,
 }
@@ -38,12 +50,66 @@ impl Model for Ops {
     ghost view = { λ a. a.ops.items };
 }
 
-/// What is wrong with the shape of an operation.
-#[derive(Drop)]
+impl Ops {
+    /// The empty list. It takes no memory.
+    pub fn new(alloc: Global) -> Ops
+        ensures empty { result ≡ [] }
+    {
+        Ops {
+            ops: Vec::new(alloc),
+        }
+    }
+
+    /// Puts an operation behind the last one. After an error it is given up, and the list is as before.
+    pub fn push(&mut self, op: Op) -> Result<(), AllocError>
+        ensures ok { OnOk result (self.new ≡ self.old ++ op ∷ []) }
+        ensures err { OnErr result (self.new ≡ self.old) }
+    {
+        self.ops.push(op)?;
+        Ok(())
+    }
+
+    /// The number of operations.
+    pub fn len(&self) -> usize
+        ensures len { result ≡ length self.now }
+    {
+        self.ops.len()
+    }
+
+    /// Whether there is none.
+    pub fn is_empty(&self) -> bool
+        ensures empty { result ≡ (length self.now == 0) }
+    {
+        self.ops.is_empty()
+    }
+
+    /// The operation at a place, counted from 0.
+    pub fn get(&self, i: usize) -> &Op
+        requires place { i < length self.now }
+        ensures op { slice_get self.now i ≡ Some result.now }
+    {
+        &self.ops[i]
+    }
+
+    /// The operations.
+    pub fn as_slice(&self) -> &[Op]
+        ensures ops { result.now ≡ self.now }
+    {
+        &self.ops
+    }
+}
+
+/// What is wrong with the shape of an operation. Of several faults the first in this order counts.
+#[derive(Clone, Copy, Debug, PartialEq, Eq)]
 pub enum Shape {
+    /// The author isn't a member.
     Author,
+    /// The number is 0, the context hasn't a count for each member, or its count of the author isn't the number less one.
     Context,
+    /// There is no character or identifier.
     EmptyBody,
+    /// An insertion of n characters, more than 1,048,576; or a deletion or rename of n identifiers, more than 4,194,304.
     TooLong { n: u64 },
+    /// The last character of an insertion would have an offset above 1,073,741,823.
     OffsetEnd,
 }
