@@ -2,8 +2,9 @@
 use Rattle.std.proofs.Common.{◌≡◌, ℕ, ◌+◌, ◌≤◌, ◌<◌, List, [], ◌∷◌, ◌++◌, length, take, drop, refl, sym, ap, ◌∙◌, append_assoc, arith, get_or}
 use Rattle.std.specs.Prelude.{encode_utf8_all, encode_utf8}
 use Rattle.std.specs.List.{flat_map, concat}
-use Rattle.std.proofs.lemmas.List.{append-nil, take_more, take_all, take_at, take-take, length-take, take-append-drop, length-append}
+use Rattle.std.proofs.lemmas.List.{append-nil, take_all, take_at, take-take, length-take, take-append-drop, length-append}
 use Rattle.std.proofs.lemmas.Str.{encodes-append}
+use Rattle.rls_runs.proofs.Texts.{encodes_more}
 use Rattle.rls_ident.specs.declared.tuple.Tuple.{Tuple}
 use Rattle.rls_codec.specs.Gives.{IsFrontOf}
 use Rattle.rls_ops.specs.Spelling.{tuple_bytes, four_bytes, ident_bytes}
@@ -15,14 +16,6 @@ flat_map_pushed f (y ∷ ys) x = ap (λ w. f y ++ w) (flat_map_pushed f ys x) �
 -- an identifier is its front and its last tuple
 pub ident_parts : (x front : List Tuple) (t : Tuple) → x ≡ front ++ t ∷ [] → ident_bytes x ≡ four_bytes (length front + 1) ++ (flat_map tuple_bytes front ++ tuple_bytes t)
 ident_parts x front t e = ap ident_bytes e ∙ ap (λ n. four_bytes n ++ flat_map tuple_bytes (front ++ t ∷ [])) (length-append front (t ∷ [])) ∙ ap (λ w. four_bytes (length front + 1) ++ w) (flat_map_pushed tuple_bytes front t)
-
--- one more character
-pub encodes_more : (cs : List ℕ) (i c : ℕ) → i < length cs → c ≡ get_or cs i c → encode_utf8_all (take (i + 1) cs) ≡ encode_utf8_all (take i cs) ++ encode_utf8 c
-encodes_more cs i c lt e =
-    ap encode_utf8_all (take_more cs i c lt)
-    ∙ encodes-append (take i cs) (get_or cs i c ∷ [])
-    ∙ ap (λ w. encode_utf8_all (take i cs) ++ w) (append-nil (encode_utf8 (get_or cs i c)))
-    ∙ ap (λ d. encode_utf8_all (take i cs) ++ encode_utf8 d) (sym e)
 
 pub encodes_within : (cs : List ℕ) (i c : ℕ) → i < length cs → c ≡ get_or cs i c → length (encode_utf8_all (take i cs)) + length (encode_utf8 c) ≤ length (encode_utf8_all cs)
 encodes_within cs i c lt e =
@@ -45,3 +38,13 @@ pub front_then : (a b c : List ℕ) → IsFrontOf a b → IsFrontOf b c → IsFr
 front_then a b c p q =
     let le : length a ≤ length b = omega (arith, ap length p.front, length-take (length a) b) in
     record { front = sym (ap (take (length a)) (sym q.front) ∙ take-take (length a) (length b) c le) ∙ p.front }
+
+-- a text in two parts
+pub encodes_parts : (front back text : List ℕ) → front ++ back ≡ text → encode_utf8_all text ≡ encode_utf8_all front ++ encode_utf8_all back
+encodes_parts front back text e = ap encode_utf8_all (sym e) ∙ encodes-append front back
+
+pub encodes_joined : (front back text : List ℕ) → front ++ back ≡ text → length (encode_utf8_all front) + length (encode_utf8_all back) ≡ length (encode_utf8_all text)
+encodes_joined front back text e = sym (ap length (encodes_parts front back text e) ∙ length-append (encode_utf8_all front) (encode_utf8_all back))
+
+pub puts_parts : (o p q front back text : List ℕ) → front ++ back ≡ text → p ≡ o ++ encode_utf8_all front → q ≡ p ++ encode_utf8_all back → q ≡ o ++ encode_utf8_all text
+puts_parts o p q front back text e f h = h ∙ ap (λ w. w ++ encode_utf8_all back) f ∙ append_assoc o (encode_utf8_all front) (encode_utf8_all back) ∙ ap (λ w. o ++ w) (sym (encodes_parts front back text e))

@@ -3,9 +3,9 @@
 //! A reader takes its part from the front of the bytes, and answers it with the bytes behind it. Where a field is cut
 //! off or breaks its rule, the fault tells how many bytes were left at that field's first byte.
 
-ghost use Rattle.std.specs.Prelude.{◌≡◌, List, IfOk};
-ghost use Rattle.std.specs.Int.{w32, w64};
+ghost use Rattle.std.specs.Prelude.{◌≡◌, IfOk};
 ghost use Rattle.std.specs.Str.{chars};
+ghost use Rattle.std.specs.Int.{w32, w64};
 ghost use Rattle.rls_codec.specs.Reading.{byte_at, number_at, signed_at, name_at, many_at, vector_at, text_at};
 ghost use Rattle.rls_codec.specs.Gives.{Gives};
 
@@ -93,11 +93,11 @@ pub fn vector(alloc: Global, members: u32, bytes: &[u8]) -> Result<(Vector, &[u8
     Ok((Vector::from_vec(counts), rest))
 }
 
-fn chars_of(alloc: Global, text: &str) -> Result<Vec<char>, AllocError>
-    ensures chars { IfOk result (λ v. v.items ≡ chars text.now) }
+#[tactic(auto, using(crate::proofs::Utf8::chars_are))]
+fn text_of(alloc: Global, text: &str) -> Result<Text, AllocError>
+    ensures chars { IfOk result (λ found. chars text.now ≡ found) }
 {
-    let found: Vec<char> = text.chars().collect(alloc)?;
-    Ok(found)
+    Text::from_str(alloc, text)
 }
 
 /// A text in UTF-8 behind its number of bytes. Bytes that aren't UTF-8 are a fault of the bytes, not of their number.
@@ -113,8 +113,8 @@ pub fn text(alloc: Global, bytes: &[u8]) -> Result<(Text, &[u8]), ReadError>
     let (front, after) = rest.split_at(len);
     match str::from_utf8(front) {
         Ok(text) => {
-            let found = chars_of(alloc, text)?;
-            Ok((Text::from_vec(found), after))
+            let found = text_of(alloc, text)?;
+            Ok((found, after))
         }
         Err(_) => Err(ReadError::Fault { left: rest.len() }),
     }

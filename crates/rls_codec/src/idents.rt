@@ -4,12 +4,13 @@ ghost use Rattle.std.specs.Prelude.{◌≡◌, List, IfOk, IsTrue};
 ghost use Rattle.std.specs.List.{All};
 ghost use Rattle.rls_ident.specs.Tuples.{at_spot};
 ghost use Rattle.rls_ident.specs.Identifiers.{is_inner_bounded, is_last_bounded};
-ghost use Rattle.rls_codec.specs.Reading.{is_offset, spot_at, inner_at, last_at, many_at, ident_at};
+ghost use Rattle.rls_codec.specs.Reading.{is_offset, spot_at, inner_at, last_at, many_at, ident_at, run_at};
 ghost use Rattle.rls_codec.specs.Gives.{Gives};
 
 use crate::fault::ReadError;
 use crate::fields::{byte, i32_at, u32_at};
 use rls_ident::{Ident, Spot, Tuple};
+use rls_runs::Run;
 use std::alloc::Global;
 
 /// The greatest offset.
@@ -98,4 +99,17 @@ pub fn ident(alloc: Global, bytes: &[u8]) -> Result<(Ident, &[u8]), ReadError>
     let (front, rest) = inners(alloc, count - 1, rest)?;
     let (spot, rest) = last(rest)?;
     Ok((Ident::ending(front, spot), rest))
+}
+
+/// A run: its first identifier and its length, from 1 on, with which no offset passes the greatest one.
+#[tactic(auto, unfolding(crate::specs::Reading::run_at))]
+pub fn run(alloc: Global, bytes: &[u8]) -> Result<(Run, &[u8]), ReadError>
+    ensures read { Gives (λ x. (x.0, x.1.now)) result (run_at bytes.now) }
+{
+    let (first, rest) = ident(alloc, bytes)?;
+    let (len, after) = u32_at(rest)?;
+    match Run::new(first, len) {
+        Ok(run) => Ok((run, after)),
+        Err(_) => Err(ReadError::Fault { left: rest.len() }),
+    }
 }

@@ -125,7 +125,7 @@ pub fn put_name(out: &mut Vec<u8>, name: EpochName) -> Result<(), AllocError>
     }
 }
 
-#[tactic(auto, using(crate::proofs::Appending::encodes_more, crate::proofs::Appending::encodes_within))]
+#[tactic(auto, using(rls_runs::proofs::Texts::encodes_more, crate::proofs::Appending::encodes_within))]
 fn utf8_len(chars: &[char]) -> u64
     requires { length (encode_utf8_all chars.now) < 2 ^ 32 }
     ensures len { result ≡ length (encode_utf8_all chars.now) }
@@ -145,7 +145,7 @@ fn put_char(out: &mut Vec<u8>, c: char) -> Result<(), AllocError>
     out.extend_from_slice(c.encode_utf8(&mut buffer).as_bytes())
 }
 
-#[tactic(auto, using(crate::proofs::Appending::encodes_more))]
+#[tactic(auto, using(rls_runs::proofs::Texts::encodes_more))]
 fn put_chars(out: &mut Vec<u8>, chars: &[char]) -> Result<(), AllocError>
     ensures ok { OnOk result (out.new.items ≡ out.old.items ++ encode_utf8_all chars.now) }
     ensures keeps { IsFrontOf out.old.items out.new.items }
@@ -156,15 +156,33 @@ fn put_chars(out: &mut Vec<u8>, chars: &[char]) -> Result<(), AllocError>
     Ok(())
 }
 
+#[tactic(auto, using(crate::proofs::Appending::encodes_joined))]
+fn text_len(text: &Text) -> u64
+    requires { length (encode_utf8_all text.now) < 2 ^ 32 }
+    ensures len { result ≡ length (encode_utf8_all text.now) }
+{
+    let (front, back) = text.as_slices();
+    utf8_len(front) + utf8_len(back)
+}
+
+fn put_text_chars(out: &mut Vec<u8>, text: &Text) -> Result<(), AllocError>
+    ensures ok { OnOk result (out.new.items ≡ out.old.items ++ encode_utf8_all text.now) }
+    ensures keeps { IsFrontOf out.old.items out.new.items }
+{
+    let (front, back) = text.as_slices();
+    put_chars(out, front)?;
+    put_chars(out, back)?;
+    Ok(())
+}
+
 /// A text: how many bytes it has in UTF-8, and these bytes.
 pub fn put_text(out: &mut Vec<u8>, text: &Text) -> Result<(), AllocError>
     requires { length (encode_utf8_all text.now) < 2 ^ 32 }
     ensures ok { OnOk result (out.new.items ≡ out.old.items ++ text_bytes text.now) }
     ensures keeps { IsFrontOf out.old.items out.new.items }
 {
-    let chars = text.as_slice();
-    put_u32(out, utf8_len(chars) as u32)?;
-    put_chars(out, chars)
+    put_u32(out, text_len(text) as u32)?;
+    put_text_chars(out, text)
 }
 
 /// A run: its first identifier and its length.

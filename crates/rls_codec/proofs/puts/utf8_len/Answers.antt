@@ -1,7 +1,7 @@
 use Rattle.std.proofs.Common.{arith, ap, length, take}
 use Rattle.std.specs.Prelude.{encode_utf8, encode_utf8_all}
 use Rattle.std.proofs.lemmas.List.{length-append}
-use Rattle.rls_codec.proofs.Appending.{encodes_more}
+use Rattle.rls_runs.proofs.Texts.{encodes_more}
 use Rattle.rls_codec.proofs.puts.utf8_len.Goals as goal
 
 pub loop-c-preserved : goal.loop-c-preserved

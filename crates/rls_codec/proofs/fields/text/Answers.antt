@@ -1,0 +1,12 @@
+use Rattle.std.proofs.Common.{arith, ap, sym, ◌∙◌}
+use Rattle.std.specs.Str.{chars}
+use Rattle.rls_codec.proofs.Utf8.{utf8_from_text, text_reads}
+use Rattle.rls_codec.proofs.fields.text.Goals as goal
+
+pub returns-in_ok-found-in-Ok : goal.returns-in_ok-found-in-Ok
+returns-in_ok-found-in-Ok c =
+    let front = c.split_at.result.0.now in
+    record {
+      read = text_reads c.args.bytes.now c.in_ok-len.rest.now front c.split_at.result.1.now c.in_ok-found-in-Ok.found c.in_ok-len.len c.in_ok-len.ensures.read (omega (arith, c.if-rest-len.false)) c.split_at.ensures.front c.split_at.ensures.back
+          (utf8_from_text front c.in-Ok.ensures.cases.1) (ap chars (sym c.in-Ok.ensures.cases.0) ∙ c.in_ok-found-in-Ok.ensures.chars);
+    }
