@@ -18,6 +18,7 @@ use Rattle.rls_ops.specs.declared.op.Op.{Op}
 use Rattle.rls_ops.specs.declared.op.Body.{Body}
 use Rattle.rls_ops.specs.declared.op.Body.TheVariants.{Insert, Delete, Rename, Leave}
 use Rattle.rls_ops.specs.Rows.{AcksSeen, AreRows, HaveLength, row_of, left, raised}
+use Rattle.rls_ops.proofs.KeptRows.{raised_rows, parted_rows}
 use Rattle.rls_model.specs.Document.{has_ident, put_all, export}
 use Rattle.rls_model.specs.Epochs.{greatest, translate, nodes_after, renaming_of}
 use Rattle.rls_model.specs.History.{History, Then, Accepted, me_of, members_of, ops, count, count_of, has_left, is_leave, row}
@@ -62,23 +63,11 @@ acks_others acks a (Delete targets) = refl
 acks_others acks a (Rename former) = refl
 acks_others acks a Leave = refl
 
-pub length-raise : (v : List ℕ) (i : ℕ) → length (raise v i) ≡ length v
-length-raise [] i = refl
-length-raise (x ∷ v) zero = refl
-length-raise (x ∷ v) (suc i) = ap suc (length-raise v i)
-
-raised_places : (acks : AcksSeen) (a : ℕ) → AreRows acks → AreRows (raised acks a)
-raised_places acks a h =
-    let e : length (raise acks.mine a) ≡ length acks.mine = length-raise acks.mine a in
-    record { member = rw e h.member; rows = h.rows ∙ sym e; counts_are = subst (λ n. HaveLength n acks.others) (sym e) h.counts_are; marks = h.marks ∙ sym e }
-
 pub places_after : (acks : AcksSeen) (a : ℕ) (b : Body) → AreRows acks → AreRows (acks_after acks a b)
-places_after acks a (Insert first text) h = raised_places acks a h
-places_after acks a (Delete targets) h = raised_places acks a h
-places_after acks a (Rename former) h = raised_places acks a h
-places_after acks a Leave h =
-    let r = raised_places acks a h in
-    record { member = r.member; rows = r.rows; counts_are = r.counts_are; marks = length-set acks.left a true ∙ r.marks }
+places_after acks a (Insert first text) h = raised_rows acks a h
+places_after acks a (Delete targets) h = raised_rows acks a h
+places_after acks a (Rename former) h = raised_rows acks a h
+places_after acks a Leave h = parted_rows (raised acks a) a (raised_rows acks a h)
 
 -- a row, by whether it is the own one
 pub row_after : (acks : AcksSeen) (a : ℕ) (b : Body) (c : ℕ) → row_of (acks_after acks a b) c ≡ (if c == acks.me then raise acks.mine a else get_or acks.others c [])

@@ -5,6 +5,7 @@ use Rattle.rls_ident.specs.Vectors.{at_most, join}
 use Rattle.rls_ident.proofs.Members.{bool_cases, eq_is, eq_not}
 use Rattle.rls_ops.specs.Rows.{AcksSeen, AreRows, HaveLength, row_of, noted}
 use Rattle.rls_ops.specs.Rows as rows
+use Rattle.rls_ops.proofs.KeptRows.{noted_rows}
 use Rattle.rls_model.specs.History.{History, Then, Acknowledged, me_of, members_of, ops, count, count_of, row}
 use Rattle.rls_model.specs.History as history
 use Rattle.rls_model.specs.Legal.{IsLegal}
@@ -20,28 +21,6 @@ use Rattle.rls_seen.specs.Seen.{Seen, members}
 use Rattle.rls_seen.specs.Over.{acknowledged}
 use Rattle.rls_seen.specs.Stands.{StandsFor}
 use Rattle.rls_seen.proofs.Alike.{members_alike, keeping, keeps_back}
-
--- ---- lists of vectors
-
-pub have_set : (n : ℕ) (xs : List (List ℕ)) (i : ℕ) (y : List ℕ) → HaveLength n xs → length y ≡ n → HaveLength n (set xs i y)
-have_set n [] i y h e = tt
-have_set n (x ∷ xs) zero y h e = (e, h.1)
-have_set n (x ∷ xs) (suc i) y h e = (h.0, have_set n xs i y h.1 e)
-
-pub have_get : (n : ℕ) (xs : List (List ℕ)) (i : ℕ) → HaveLength n xs → i < length xs → length (get_or xs i []) ≡ n
-have_get n [] i h l = absurd (omega arith)
-have_get n (x ∷ xs) zero h l = h.0
-have_get n (x ∷ xs) (suc i) h l = have_get n xs i h.1 (omega arith)
-
-pub noted_places : (acks : AcksSeen) (a : ℕ) (v : List ℕ) → a < length acks.mine → length v ≡ length acks.mine → AreRows acks → AreRows (noted acks a v)
-noted_places acks a v m l h =
-    let g : length (get_or acks.others a []) ≡ length acks.mine = let e = h.rows in have_get (length acks.mine) acks.others a h.counts_are (omega arith) in
-    record {
-      member = h.member;
-      rows = length-set acks.others a (join (get_or acks.others a []) v) ∙ h.rows;
-      counts_are = have_set (length acks.mine) acks.others a (join (get_or acks.others a []) v) h.counts_are (length-join (get_or acks.others a []) v (g ∙ sym l) ∙ l);
-      marks = h.marks;
-    }
 
 -- ---- by a history that the replica stands for
 
@@ -98,7 +77,7 @@ noted_go true s t a v m w e h =
       group = h.group;
       me = h.me;
       vector = h.vector;
-      places = noted_places s.acks a v k (w.0 ∙ sym n) h.places;
+      places = noted_rows s.acks a v h.places k (w.0 ∙ sym n);
       rows = noted_row s t a v h i;
       left = h.left;
       stems = h.stems;

@@ -14,19 +14,14 @@ use Rattle.rls_seen.specs.Seen.{Seen, members, stable_over}
 use Rattle.rls_seen.specs.Messages.{message_over}
 use Rattle.rls_seen.specs.Stands.{StandsFor}
 use Rattle.rls_seen.proofs.Alike.{members_alike, unstable_alike}
-use Rattle.rls_seen.proofs.Noting.{have_get}
+use Rattle.rls_ops.proofs.KeptRows.{length-meet, row_length}
 
 -- ---- lengths
-
-length-meet : (v w : List ℕ) → length v ≡ length w → length (meet v w) ≡ length v
-length-meet [] w e = refl
-length-meet (x ∷ v) [] e = absurd (omega arith)
-length-meet (x ∷ v) (y ∷ w) e = ap suc (length-meet v w (omega arith))
 
 length-least_of : (v : List ℕ) (ws : List (List ℕ)) → HaveLength (length v) ws → length (least_of v ws) ≡ length v
 length-least_of v [] h = refl
 length-least_of v (w ∷ ws) h =
-    let e = length-meet v w (sym h.0) in
+    let e : length (meet v w) ≡ length v = length-meet v w (sym h.0) ∙ h.0 in
     length-least_of (meet v w) ws (subst (λ n. HaveLength n ws) (sym e) h.1) ∙ e
 
 have_append : (n : ℕ) (xs ys : List (List ℕ)) → HaveLength n xs → HaveLength n ys → HaveLength n (xs ++ ys)
@@ -34,7 +29,7 @@ have_append n [] ys h k = k
 have_append n (x ∷ xs) ys h k = (h.0, have_append n xs ys h.1 k)
 
 pub length-row : (acks : AcksSeen) (a : ℕ) → AreRows acks → a < length acks.mine → length (row_of acks a) ≡ length acks.mine
-length-row acks a h l = go (get_or acks.others a []) (a == acks.me) (have_get (length acks.mine) acks.others a h.counts_are (let e = h.rows in omega arith))
+length-row acks a h l = go (get_or acks.others a []) (a == acks.me) (row_length (length acks.mine) acks.others a [] h.counts_are (let e = h.rows in omega arith))
   where
     go : (x : List ℕ) (b : Bool) → length x ≡ length acks.mine → length (cond b acks.mine x) ≡ length acks.mine
     go x true e = refl

@@ -9,8 +9,9 @@ use Rattle.rls_ops.specs.Rows.{AcksSeen, AreRows, row_of, left, awaits, awaited,
 use Rattle.rls_model.specs.History.{is_leave}
 use Rattle.rls_model.proofs.Stable.{at_most_refl, at_most_trans, at_most-join, at_most-raise, at_most-least_of, least_of-each, IsBelow, least_greatest}
 use Rattle.rls_seen.specs.Over.{acks_after}
-use Rattle.rls_seen.proofs.Accepting.{acks_me, acks_mine, left_after, length-raise, row_after}
-use Rattle.rls_seen.proofs.Noting.{have_get}
+use Rattle.rls_ops.proofs.KeptRows.{length-raise}
+use Rattle.rls_seen.proofs.Accepting.{acks_me, acks_mine, left_after, row_after}
+use Rattle.rls_ops.proofs.KeptRows.{row_length}
 
 below_append : (u : List ℕ) (vs ws : List (List ℕ)) → IsBelow u vs → IsBelow u ws → IsBelow u (vs ++ ws)
 below_append u [] ws h k = k
@@ -98,7 +99,7 @@ stable_noted acks a v h l e =
     grows : (c : ℕ) → at_most (row_of acks c) (row_of (noted acks a v) c) ≡ true
     grows c =
         let q : a < length acks.others = let x = h.rows in omega arith in
-        let g : length (get_or acks.others a []) ≡ length acks.mine = have_get (length acks.mine) acks.others a h.counts_are q in
+        let g : length (get_or acks.others a []) ≡ length acks.mine = row_length (length acks.mine) acks.others a [] h.counts_are q in
         go (c == acks.me) (get_or acks.others c []) (get_or (set acks.others a new) c [])
         (bool_cases (c == a)
         (λ f. let p : a ≡ c = sym (eq_is c a f) in

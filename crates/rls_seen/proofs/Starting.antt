@@ -2,6 +2,7 @@
 use Rattle.std.proofs.Common.{◌≡◌, ℕ, zero, suc, ◌<◌, ◌==◌, Bool, true, false, cond, List, [], length, replicate, get_or, refl, ap, ◌∙◌, arith}
 use Rattle.std.proofs.lemmas.List.{get_or-replicate, length-replicate}
 use Rattle.rls_ops.specs.Rows.{AreRows, HaveLength, starting_at}
+use Rattle.rls_ops.proofs.KeptRows.{starting_rows}
 use Rattle.rls_model.specs.History.{Fresh}
 use Rattle.rls_model.specs.Document.{export, live, chars}
 use Rattle.rls_model.specs.Legal.{AreNumbers}
@@ -11,21 +12,6 @@ use Rattle.rls_model.proofs.Stable.{at_most_refl}
 use Rattle.rls_seen.specs.Seen.{fresh}
 use Rattle.rls_seen.specs.Stands.{StandsFor}
 use Rattle.rls_seen.proofs.Alike.{keeps_back}
-
-have_replicate : (k n : ℕ) → HaveLength k (replicate n (replicate k 0))
-have_replicate k zero = tt
-have_replicate k (suc n) = (length-replicate k 0, have_replicate k n)
-
--- rows at the start
-pub starting_places : (me : ℕ) (v : List ℕ) → me < length v → AreRows (starting_at me v)
-starting_places me v l =
-    let n = length v in
-    record {
-      member = l;
-      rows = length-replicate n (replicate n 0);
-      counts_are = have_replicate n n;
-      marks = length-replicate n false;
-    }
 
 abbrev zeros : ℕ → List ℕ
 zeros n = replicate n 0
@@ -56,7 +42,7 @@ fresh_stands group me n l =
       group = refl;
       me = refl;
       vector = refl;
-      places = starting_places me (zeros n) (let e : length (zeros n) ≡ n = length-replicate n 0 in let k = l.1 in omega arith);
+      places = starting_rows me (zeros n) (let e : length (zeros n) ≡ n = length-replicate n 0 in let k = l.1 in omega arith);
       rows = λ a k. ap (λ x. cond (a == me) (zeros n) x) (zero_row n a k);
       left = λ a k. none_left (length (zeros n)) a;
       stems = refl;

@@ -17,7 +17,7 @@ use Rattle.rls_model.proofs.Grown.{AreEarlier, Use, Begins, Appends, Prepends, u
 use Rattle.rls_model.proofs.OneTree.{index-raise_same, index-raise_le}
 use Rattle.rls_model.proofs.StemLists.{found_is}
 use Rattle.rls_seen.specs.Sane.{IsStem, AreStems}
-use Rattle.rls_seen.proofs.Accepting.{length-raise}
+use Rattle.rls_ops.proofs.KeptRows.{length-raise}
 
 -- ---- found stems
 
