@@ -14,3 +14,5 @@ pub mod StableRows
 pub mod Fitting
 pub mod TextLists
 pub mod Written
+pub mod Held
+pub mod Logs

@@ -53,7 +53,7 @@ length-stable acks h = length-least_of acks.mine (awaited acks (length acks.mine
 max_le : (q x y : ℕ) → nat_le q (max x y) ≡ (nat_le q x || nat_le q y)
 max_le q x y = grind (arith, nat_tests)
 
-index-join : (v w : List ℕ) (i : ℕ) → length v ≡ length w → slice_index (join v w) i ≡ max (slice_index v i) (slice_index w i)
+pub index-join : (v w : List ℕ) (i : ℕ) → length v ≡ length w → slice_index (join v w) i ≡ max (slice_index v i) (slice_index w i)
 index-join [] [] i e = refl
 index-join [] (y ∷ w) i e = absurd (omega arith)
 index-join (x ∷ v) [] i e = absurd (omega arith)
