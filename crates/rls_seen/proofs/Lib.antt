@@ -16,3 +16,4 @@ pub mod TextLists
 pub mod Written
 pub mod Held
 pub mod Logs
+pub mod Applied

@@ -66,7 +66,7 @@ covered ss ns f R p =
 abbrev pub IsKnown : List Stem → EpochName → List Node → EpochName → List Tuple → Type 0
 IsKnown ss top ns g x = (f : EpochName) → is_kept top ns f ≡ true → HasLast (Used ss) (translate ns g f x)
 
-abbrev Grows : List Stem → List Stem → Type 0
+abbrev pub Grows : List Stem → List Stem → Type 0
 Grows ss ts = (a q : ℕ) (k : ℤ) → Used ss a q k → Used ts a q k
 
 known_more : (ss ts : List Stem) (top : EpochName) (ns : List Node) (g : EpochName) (x : List Tuple) → Grows ss ts → IsKnown ss top ns g x → IsKnown ts top ns g x
@@ -196,7 +196,7 @@ newborn s o first text sane m e =
 
 -- ---- after an operation
 
-later_used : (s : Seen) (o : Op) → IsSane s → Facts s o → Grows s.stems (stems_after s.stems o.author o.seq o.body)
+pub later_used : (s : Seen) (o : Op) → IsSane s → Facts s o → Grows s.stems (stems_after s.stems o.author o.seq o.body)
 later_used s o sane f a q k u = still_used s.stems o (change s o sane f) a q k u
 
 apart_of : (x : Entry) (ys : List Entry) → ((y : Entry) → IsIn y ys → x.0 ≡ y.0 → ⊥) → AreApart x ys
