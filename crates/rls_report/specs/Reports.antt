@@ -23,11 +23,13 @@ stat_text group me members accepted counts = concat (
     ∷ line (codes "held " ∷ decimal counts.held ∷ []) ∷ line (codes "unstable " ∷ decimal counts.unstable ∷ []) ∷ line (codes "epochs " ∷ decimal counts.epochs ∷ [])
     ∷ line (codes "former " ∷ decimal counts.former ∷ []) ∷ [])
 
+abbrev pub member_line : ℕ → ℕ → ℕ → List ℕ
+member_line member total runs = line (codes "member " ∷ decimal member ∷ codes " total " ∷ decimal total ∷ codes " runs " ∷ decimal runs ∷ [])
+
 -- of the members from this one on, each with its total and its runs
 abbrev pub member_lines : ℕ → List (ℕ × ℕ) → List ℕ
 member_lines member [] = []
-member_lines member (sizes ∷ others) =
-    line (codes "member " ∷ decimal member ∷ codes " total " ∷ decimal sizes.0 ∷ codes " runs " ∷ decimal sizes.1 ∷ []) ++ member_lines (member + 1) others
+member_lines member (sizes ∷ others) = member_line member sizes.0 sizes.1 ++ member_lines (member + 1) others
 
 -- of a trial's seed and number of steps, the accepted operations of member 0, the total and the runs of each member, and the epochs and former identifiers of member 0
 abbrev pub trial_text : ℕ → ℕ → List ℕ → List (ℕ × ℕ) → ℕ → ℕ → List ℕ

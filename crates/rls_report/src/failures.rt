@@ -1,7 +1,7 @@
 //! Endings of the program but success.
 
 ghost use Rattle.std.specs.Prelude.{◌≡◌, IfOk, string_bytes};
-ghost use Rattle.rls_report.specs.declared.failures.Failure.TheVariants.{Usage, Edit};
+ghost use Rattle.rls_report.specs.declared.failures.Failure.TheVariants.{Usage, Edit, OutOfMemory};
 ghost use Rattle.rls_report.specs.Failures.{status_of, fault_text, failure_line};
 
 use std::alloc::{AllocError, Global};
@@ -102,6 +102,13 @@ fn usage_line(alloc: Global) -> Result<String, AllocError>
         alloc,
         "usage: new GROUP ME MEMBERS | edit | text | ids | stat | send TO | take | leave | trial SEED STEPS\n",
     )
+}
+
+/// The line that tells want of memory, with its line feed. It takes no memory.
+pub fn out_of_memory_line() -> &'static str
+    ensures line { result.now ≡ failure_line OutOfMemory }
+{
+    "out of memory\n"
 }
 
 /// The line that tells a failure, with its line feed.

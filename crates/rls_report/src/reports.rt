@@ -1,7 +1,7 @@
 //! Reports of commands.
 
-ghost use Rattle.std.specs.Prelude.{◌≡◌, IfOk, string_bytes};
-ghost use Rattle.rls_report.specs.Reports.{new_text, edit_text, take_text, stat_text};
+ghost use Rattle.std.specs.Prelude.{◌≡◌, ◌++◌, IfOk, OnOk, string_bytes};
+ghost use Rattle.rls_report.specs.Reports.{new_text, edit_text, take_text, stat_text, member_line, member_lines, trial_text};
 
 use crate::pieces::put_spaced;
 use rls_ident::Vector;
@@ -73,5 +73,42 @@ pub fn stat_report(
         text,
         "unstable {unstable}\nepochs {epochs}\nformer {former}\n"
     )?;
+    Ok(text)
+}
+
+fn put_member(text: &mut String, member: usize, total: u64, runs: u64) -> Result<(), AllocError>
+    ensures ok { OnOk result (string_bytes text.new ≡ string_bytes text.old ++ member_line member total runs) }
+{
+    write!(text, "member {member} total {total} runs {runs}\n")
+}
+
+// A line for each of these members, counted from 0, with its total and its runs.
+fn put_members(text: &mut String, members: &[(u64, u64)]) -> Result<(), AllocError>
+    ensures ok { OnOk result (string_bytes text.new ≡ string_bytes text.old ++ member_lines 0 members.now) }
+{
+    for (member, (total, runs)) in members.iter().enumerate() {
+        put_member(text, member, *total, *runs)?;
+    }
+    Ok(())
+}
+
+/// The summary of a trial from this seed of so many steps: the accepted operations of member 0, the
+/// total and the runs of each member, and the epochs and the former identifiers of member 0.
+pub fn trial_report(
+    alloc: Global,
+    seed: u32,
+    steps: u32,
+    accepted: &[u32],
+    members: &[(u64, u64)],
+    epochs: u64,
+    former: u64,
+) -> Result<String, AllocError>
+    ensures text { IfOk result (λ text. string_bytes text ≡ trial_text seed steps accepted.now members.now epochs former) }
+{
+    let mut text = format!(in alloc; "trial {seed} {steps}\naccepted")?;
+    put_spaced(&mut text, accepted)?;
+    text.push('\n')?;
+    put_members(&mut text, members)?;
+    write!(text, "epochs {epochs} former {former}\n")?;
     Ok(text)
 }
