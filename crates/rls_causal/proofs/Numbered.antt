@@ -1,14 +1,18 @@
 -- Waiting operations under their numbers: looked up, taken out and put in.
-use Rattle.std.proofs.Common.{◌≡◌, ℕ, zero, suc, ◌≤◌, ◌<◌, Bool, true, false, cond, List, [], ◌∷◌, length, get_or, Some, refl, sym, ap, ◌∙◌, inl, inr, arith}
-use Rattle.std.specs.Prelude.{◌&&◌, ◌==◌, insert}
+use Rattle.std.proofs.Common.{◌≡◌, ℕ, zero, suc, ◌≤◌, ◌<◌, Bool, true, false, cond, List, [], ◌∷◌, ◌++◌, length, get_or, None, Some, refl, sym, ap, ◌∙◌, inl, inr, arith}
+use Rattle.std.specs.Prelude.{◌&&◌, ◌==◌, insert, remove, slice_get}
 use Rattle.std.specs.List.{list_all}
+use Rattle.std.specs.Option.{option_map_or}
 use Rattle.std.specs.List.Sorted.{IsPartitionedBy, IsPartitionPoint}
 use Rattle.std.specs.Map.{lookup, remove_entry, values_of}
 use Rattle.rls_ident.specs.Lists.{IsIn}
-use Rattle.rls_ident.proofs.Members.{and_left, and_right, in_all, same_bool, eq_is, eq_test}
+use Rattle.rls_ident.proofs.Members.{and_left, and_right, in_all, same_bool, eq_is, eq_test, not_found}
 use Rattle.rls_ops.specs.declared.op.Op.{Op}
 use Rattle.rls_ops.specs.Waiting.{is_numbered, waiting_under, comes_before, with_waiting, without, is_in_order}
-use Rattle.rls_ops.proofs.Waiting.{before_trans, none_behind}
+use Rattle.rls_ops.proofs.Waiting.{before_trans, none_behind, with_in_order}
+use Rattle.indexmap.specs.IndexMap.{IndexMap, ContainsKey, get, insert_entry, insert_index, move_index}
+use Rattle.indexmap.proofs.CallerLemmas.{insert_entry-new}
+use Rattle.indexmap.proofs.MapLemmas.{or_len-absent, absent_from_lookup}
 use Rattle.rls_causal.specs.declared.held.Number.{Number}
 use Rattle.rls_causal.specs.Numbered.{AreKeyed}
 
@@ -79,3 +83,38 @@ inserted_keyed o [] zero h = (refl, tt)
 inserted_keyed o [] (suc i) h = (refl, tt)
 inserted_keyed o (e ∷ es) zero h = (refl, h)
 inserted_keyed o (e ∷ es) (suc i) h = (h.0, inserted_keyed o es i h.1)
+
+-- ---- a new key in its place
+
+get_last : {X : Type 0} (xs : List X) (x : X) → slice_get (xs ++ x ∷ []) (length xs) ≡ Some x
+get_last [] x = refl
+get_last (y ∷ ys) x = get_last ys x
+
+remove_last : {X : Type 0} (xs : List X) (x : X) → remove (xs ++ x ∷ []) (length xs) ≡ xs
+remove_last [] x = refl
+remove_last (y ∷ ys) x = ap (λ zs. y ∷ zs) (remove_last ys x)
+
+moved_last : {X : Type 0} (xs : List X) (x : X) (i : ℕ) → move_index (xs ++ x ∷ []) (length xs) i ≡ insert xs i x
+moved_last xs x i =
+    ap (λ r. option_map_or (λ y. insert (remove (xs ++ x ∷ []) (length xs)) i y) r (xs ++ x ∷ [])) (get_last xs x) ∙ ap (λ zs. insert zs i x) (remove_last xs x)
+
+inserted_new : {K X S : Type 0} (eq : K → K → Bool) (m : IndexMap K X S) (k : K) (v : X) (i : ℕ) → get eq m k ≡ None → move_index (insert_entry eq m.entries k v) (insert_index eq m k) i ≡ insert m.entries i (k, v)
+inserted_new eq m k v i none =
+    ap (λ es. move_index es (insert_index eq m k) i) (insert_entry-new eq m k v none)
+    ∙ ap (λ n. move_index (m.entries ++ (k, v) ∷ []) n i) (or_len-absent (eq k) m.entries (absent_from_lookup (eq k) m.entries none))
+    ∙ moved_last m.entries (k, v) i
+
+-- the map has this test of numbers, and nothing waits under the operation's
+module _ {S : Type 0} (eq : Number → Number → Bool) (says : (j k : Number) → eq j k ≡ ((j.author == k.author) && (j.seq == k.seq))) (m : IndexMap Number Op S) (o : Op) (keyed : AreKeyed m.entries) (absent : waiting_under (values_of m.entries) o.author o.seq ≡ None) where
+  none : get eq m (number o.author o.seq) ≡ None
+  none = lookup_waiting (eq (number o.author o.seq)) o.author o.seq (says (number o.author o.seq)) m.entries keyed ∙ absent
+
+  pub not_there : ContainsKey eq m (number o.author o.seq) → ⊥
+  not_there h = let e = none in absurd (cc)
+
+  pub added : (i : ℕ) → move_index (insert_entry eq m.entries (number o.author o.seq) o) (insert_index eq m (number o.author o.seq)) i ≡ insert m.entries i (number o.author o.seq, o)
+  added i = inserted_new eq m (number o.author o.seq) o i none
+
+-- an operation under a new number keeps the order
+pub with_new : (o : Op) (W : List Op) → is_in_order W ≡ true → waiting_under W o.author o.seq ≡ None → is_in_order (with_waiting o W) ≡ true
+with_new o W h e = with_in_order o W h (λ x p. not_found (is_numbered o.author o.seq) x W e p)

@@ -1,7 +1,7 @@
 //! Waiting operations.
 
-ghost use Rattle.std.specs.Prelude.{◌≡◌, ◌<◌, length, [], option_copied, slice_get, Some, IsTrue, Bool};
-ghost use Rattle.rls_ops.specs.Waiting.{waiting_under, without, first_ready_at, is_in_order};
+ghost use Rattle.std.specs.Prelude.{◌≡◌, ◌<◌, length, [], option_copied, slice_get, Some, None, IsTrue, OnOk, OnErr};
+ghost use Rattle.rls_ops.specs.Waiting.{waiting_under, without, with_waiting, comes_before, first_ready_at, is_in_order};
 
 use indexmap::IndexMap;
 use rls_ident::Vector;
@@ -84,4 +84,28 @@ impl Held {
     {
         self.ops.shift_remove(&Number { author, seq })
     }
+
+    // Puts an operation in its place, where none waits under its number.
+    fn add(&mut self, op: Op) -> Result<(), AllocError>
+        requires absent { waiting_under self.old op.author op.seq ≡ None }
+        ensures ok { OnOk result (self.new ≡ with_waiting op self.old) }
+        ensures err { OnErr result (self.new ≡ self.old) }
+    {
+        let number = Number {
+            author: op.author,
+            seq: op.seq,
+        };
+        let place = self
+            .ops
+            .partition_point(|_number, held| precedes(held, &op));
+        self.ops.shift_insert(place, number, op)?;
+        Ok(())
+    }
+}
+
+// Whether the first operation comes before the second, by author and then by number.
+fn precedes(op: &Op, other: &Op) -> bool
+    ensures before { result ≡ comes_before op.now other.now }
+{
+    op.author < other.author || (op.author == other.author && op.seq < other.seq)
 }
