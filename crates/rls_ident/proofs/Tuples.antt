@@ -19,7 +19,7 @@ pub spot_total : IsTotalOrder spot_cmp
 unfolding spot_cmp
 spot_total = then_total (on_total (λ s. s.pos) nat_cmp_total) (then_total (on_total (λ s. s.replica) nat_cmp_total) (then_total (on_total (λ s. s.seq) nat_cmp_total) (on_total (λ s. s.offset) int_cmp_total)))
 
-nat_same : (x y : ℕ) → nat_cmp x y ≡ Equal → x ≡ y
+pub nat_same : (x y : ℕ) → nat_cmp x y ≡ Equal → x ≡ y
 nat_same x y e = subst (λ o. MatchOrdering o (x < y) (x ≡ y) (y < x)) e (ranked x y (nat_cmp x y) refl)
 
 nat_lower : (x y : ℕ) → nat_cmp x y ≡ Less → x < y

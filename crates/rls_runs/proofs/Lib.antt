@@ -1,3 +1,4 @@
 pub mod RunsOf
 pub mod Texts
+pub mod Finding
 mod Worked

@@ -1,12 +1,15 @@
 //! Runs.
 
-ghost use Rattle.std.specs.Prelude.{◌≡◌, ◌+ℤ◌, ◌<ℤ◌, pos, ◌↔◌, IfOk, IsErrOf, IsTrue};
-ghost use Rattle.rls_ident.specs.Tuples.{offset_of};
+ghost use Rattle.std.specs.Prelude.{◌≡◌, ℕ, ◌<◌, List, ◌∷◌, ◌++◌, [], length, ◌+ℤ◌, ◌<ℤ◌, pos, ◌↔◌, IfSome, IfNone, IfOk, IsErrOf, IsTrue};
+ghost use Rattle.rls_ident.specs.declared.tuple.Tuple.{Tuple};
+ghost use Rattle.rls_ident.specs.Tuples.{at_spot, offset_of};
 ghost use Rattle.rls_ident.specs.Identifiers.{last_of};
-ghost use Rattle.rls_runs.specs.Runs.{is_run, past_offsets};
+ghost use Rattle.rls_runs.specs.Runs.{run_idents, is_run, past_offsets};
+ghost use Rattle.rls_runs.specs.Places.{find_ident};
 
-use rls_ident::Ident;
+use rls_ident::{Ident, Spot, Tuple};
 use std::alloc::AllocError;
+use std::cmp::Ordering;
 use std::marker::Model;
 
 /// The offset behind the greatest one.
@@ -78,6 +81,14 @@ impl Run {
         self.len
     }
 
+    /// The identifier's place in the run, or where it isn't there the number of the run's
+    /// identifiers less than it. It takes no memory, and costs a comparison of two identifiers.
+    pub fn find(&self, id: &Ident) -> Result<u32, u32>
+        ensures find { result ≡ find_ident (run_idents self.now.0 self.now.1) id.now }
+    {
+        find_behind(self.first.front(), self.first.last(), self.len, id)
+    }
+
     /// The same again.
     pub fn copy(&self) -> Result<Run, AllocError>
         ensures copy { IfOk result (λ run. run ≡ self.now) }
@@ -87,4 +98,71 @@ impl Run {
             len: self.len,
         })
     }
+}
+
+// The place among so many identifiers, of which the first is this front and this spot.
+fn find_behind(front: &[Tuple], first: Spot, len: u32, id: &Ident) -> Result<u32, u32>
+    ensures find { result ≡ find_ident (run_idents (front.now ++ at_spot first ∷ []) len) id.now }
+{
+    for i in 0..front.len().min(id.len()) {
+        match id.tuple(i).compare(&front[i]) {
+            Ordering::Less => return Err(0),
+            Ordering::Equal => {}
+            Ordering::Greater => return Err(len),
+        }
+    }
+    if id.len() <= front.len() {
+        return Err(0);
+    }
+    let longer = front.len() + 1 < id.len();
+    find_by_tuple(first, len, id.tuple(front.len()), longer)
+}
+
+// The place among so many identifiers of one tuple, by the first tuple and whether more stand behind it.
+fn find_by_tuple(first: Spot, len: u32, tuple: Tuple, longer: bool) -> Result<u32, u32>
+    ensures find { (rest : List Tuple) → (IsTrue longer ↔ (0 < length rest)) → result ≡ find_ident (run_idents (at_spot first ∷ []) len) (tuple ∷ rest) }
+{
+    match tuple {
+        Tuple::Low => Err(0),
+        Tuple::High => Err(len),
+        Tuple::At {
+            pos,
+            replica,
+            seq,
+            offset,
+        } => {
+            let order = pos
+                .cmp(&first.pos)
+                .then(replica.cmp(&first.replica).then(seq.cmp(&first.seq)));
+            match order {
+                Ordering::Less => Err(0),
+                Ordering::Equal => find_by_offset(first.offset, len, offset, longer),
+                Ordering::Greater => Err(len),
+            }
+        }
+    }
+}
+
+// The place among so many identifiers of one tuple, by the offset alone.
+fn find_by_offset(first: i32, len: u32, offset: i32, longer: bool) -> Result<u32, u32>
+    ensures find { (pos replica seq : ℕ) (rest : List Tuple) → (IsTrue longer ↔ (0 < length rest)) → result ≡ find_ident (run_idents (Tuple.At pos replica seq first ∷ []) len) (Tuple.At pos replica seq offset ∷ rest) }
+{
+    let Some(gap) = offset_gap(first, offset) else {
+        return Err(0);
+    };
+    if len <= gap {
+        return Err(len);
+    }
+    if longer { Err(gap + 1) } else { Ok(gap) }
+}
+
+// How far the offset is above the first one, if it isn't below it.
+fn offset_gap(first: i32, offset: i32) -> Option<u32>
+    ensures gap { IfSome result (λ gap. (first +ℤ pos gap) ≡ offset) }
+    ensures none { IfNone result (offset <ℤ first) }
+{
+    if offset < first {
+        return None;
+    }
+    Some((offset as i64 - first as i64) as u32)
 }
