@@ -14,7 +14,8 @@ use Rattle.rls_model.specs.History.{Fresh, group_of, me_of, members_of}
 use Rattle.rls_model.specs.History.{count as count_in}
 use Rattle.rls_model.specs.Receiving.{State}
 use Rattle.rls_model.specs.declared.parts.Parts.{Parts}
-use Rattle.rls_file.specs.Files.{Broken, entries_of, Content, Journal, Snapshot, content_bytes, journal_bytes, snapshot_bytes}
+use Rattle.rls_parts.specs.Rules.{Broken, broken}
+use Rattle.rls_file.specs.Files.{entries_of, Content, Journal, Snapshot, content_bytes, journal_bytes, snapshot_bytes}
 use Rattle.rls_file.specs.ReadingFiles.{is_file_form, content_at, file_at, tested, unless_broken, file_of}
 use Rattle.rls_file.specs.FileLaws.{IsUnbroken, IsFile}
 use Rattle.rls_file.specs.SpelledFiles.{IsHead, IsReadable, FitWaiting, IsSpelledParts, IsSpelledContent}
@@ -149,29 +150,29 @@ whole_takes {r = r} {s = s} one bytes x h e =
     (t.0.parts ∙ append-nil (s x), t.1)
 
 -- a content that is spelled is read, and then its rules are tested
-pub file_again : (broken : Parts → Option Broken) (c : Content) → IsSpelledContent c → file_of broken (content_bytes c) ≡ tested broken c
+pub file_again : (c : Content) → IsSpelledContent c → file_of (content_bytes c) ≡ tested c
 unfolding file_of
-file_again broken c f = ap (λ r. r >>= tested broken) (whole_again file c f)
+file_again c f = ap (λ r. r >>= tested) (whole_again file c f)
 
-unbroken_is : (broken : Parts → Option Broken) (c : Content) → IsUnbroken broken c → tested broken c ≡ Ok c
-unbroken_is broken (Journal s) w = refl
-unbroken_is broken (Snapshot form p) w = ap (unless_broken form p) w
+unbroken_is : (c : Content) → IsUnbroken c → tested c ≡ Ok c
+unbroken_is (Journal s) w = refl
+unbroken_is (Snapshot form p) w = ap (unless_broken form p) w
 
 unbroken : (form : ℕ) (p : Parts) (b : Option Broken) (c : Content) → unless_broken form p b ≡ Ok c → (Snapshot form p ≡ c) × (b ≡ None)
 unbroken form p None c e = (cc, refl)
 unbroken form p (Some b) c e = absurd cc
 
-is_unbroken : (broken : Parts → Option Broken) (c d : Content) → tested broken c ≡ Ok d → (c ≡ d) × IsUnbroken broken c
-is_unbroken broken (Journal s) d e = (cc, tt)
-is_unbroken broken (Snapshot form p) d e = unbroken form p (broken p) d e
+is_unbroken : (c d : Content) → tested c ≡ Ok d → (c ≡ d) × IsUnbroken c
+is_unbroken (Journal s) d e = (cc, tt)
+is_unbroken (Snapshot form p) d e = unbroken form p (broken p) d e
 
-pub file_reads : (broken : Parts → Option Broken) (bytes : List ℕ) (c : Content) → IsFile broken bytes c → file_of broken bytes ≡ Ok c
-file_reads broken bytes c f = ap (file_of broken) f.2 ∙ file_again broken c f.0 ∙ unbroken_is broken c f.1
+pub file_reads : (bytes : List ℕ) (c : Content) → IsFile bytes c → file_of bytes ≡ Ok c
+file_reads bytes c f = ap file_of f.2 ∙ file_again c f.0 ∙ unbroken_is c f.1
 
-pub file_takes : (broken : Parts → Option Broken) (bytes : List ℕ) (c : Content) → IsBytes bytes → file_of broken bytes ≡ Ok c → IsFile broken bytes c
+pub file_takes : (bytes : List ℕ) (c : Content) → IsBytes bytes → file_of bytes ≡ Ok c → IsFile bytes c
 unfolding file_of
-file_takes broken bytes c h e =
-    let b = bind_ok (whole bytes (file_at bytes)) (tested broken) c e in
-    let w = is_unbroken broken b.0 c b.2 in
+file_takes bytes c h e =
+    let b = bind_ok (whole bytes (file_at bytes)) (tested) c e in
+    let w = is_unbroken b.0 c b.2 in
     let t = whole_takes file bytes b.0 h b.1 in
-    subst (IsFile broken bytes) w.0 (t.1, w.1, t.0)
+    subst (IsFile bytes) w.0 (t.1, w.1, t.0)

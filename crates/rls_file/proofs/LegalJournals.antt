@@ -9,8 +9,7 @@ use Rattle.rls_model.specs.History.{Accepted, Acknowledged, History, Fresh, Then
 use Rattle.rls_model.specs.History.{count as count_in}
 use Rattle.rls_model.specs.Legal.{MayAccept, AreNumbers, IsLegal}
 use Rattle.rls_model.specs.Receiving.{State, answer}
-use Rattle.rls_model.specs.declared.parts.Parts.{Parts}
-use Rattle.rls_file.specs.Files.{Broken, Journal, entries_of, journal_bytes}
+use Rattle.rls_file.specs.Files.{Journal, entries_of, journal_bytes}
 use Rattle.rls_file.specs.ReadingFiles.{may_be_next, file_of}
 use Rattle.rls_file.specs.SpelledFiles.{IsReadable, FitWaiting, IsHead}
 use Rattle.rls_file.specs.FileLaws.{AreSpelled}
@@ -47,7 +46,7 @@ legal_head H l =
       me_fits = n.1;
     }
 
-pub journals_are_read : (broken : Parts → Option Broken) (s : State) → IsLegal s.history → AreSpelled s.history → IsSmall (length (entries_of s.history))
-    → FitWaiting (members_of s.history) (me_of s.history) (count_in s.history) s.waiting → file_of broken (journal_bytes s) ≡ Ok (Journal s)
-journals_are_read broken s l spelled few w =
-    file_again broken (Journal s) (record { head = legal_head s.history l; entry_count = few; entries = legal_readable s.history l spelled; waiting = w })
+pub journals_are_read : (s : State) → IsLegal s.history → AreSpelled s.history → IsSmall (length (entries_of s.history))
+    → FitWaiting (members_of s.history) (me_of s.history) (count_in s.history) s.waiting → file_of (journal_bytes s) ≡ Ok (Journal s)
+journals_are_read s l spelled few w =
+    file_again (Journal s) (record { head = legal_head s.history l; entry_count = few; entries = legal_readable s.history l spelled; waiting = w })

@@ -11,7 +11,8 @@ use Rattle.rls_ops.specs.Spelling.{four_bytes, vector_bytes, op_bytes, counted, 
 use Rattle.rls_codec.specs.Spelled.{Chained}
 use Rattle.rls_model.specs.declared.parts.Stem.{Stem}
 use Rattle.rls_model.specs.declared.parts.Parts.{Parts}
-use Rattle.rls_file.specs.Files.{Broken, head_bytes, stem_bytes, own_of, others_of, stems_bytes, epoch_bytes, text_run_bytes, snapshot_bytes, stem_size, rows_place, stems_place, epochs_place, text_place, log_place, held_place, bytes_before, stem_place, place_of_broken}
+use Rattle.rls_parts.specs.Rules.{Broken}
+use Rattle.rls_file.specs.Files.{head_bytes, stem_bytes, own_of, others_of, stems_bytes, epoch_bytes, text_run_bytes, snapshot_bytes, stem_size, rows_place, stems_place, epochs_place, text_place, log_place, held_place, bytes_before, stem_place, place_of_broken}
 use Rattle.rls_file.specs.SpelledFiles.{FitsStem, Grouped, IsSpelledSnapshot}
 use Rattle.rls_file.specs.FileLaws.{StandsAt, named_by}
 

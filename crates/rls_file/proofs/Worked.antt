@@ -1,5 +1,5 @@
 -- Worked examples of files, by computation.
-use Rattle.std.specs.Prelude.{◌≡◌, ℕ, zero, suc, pos, List, [], ◌∷◌, ◌++◌, take, length, refl, Option, Some, None, Result, Ok, Err, codes, map}
+use Rattle.std.specs.Prelude.{◌≡◌, ℕ, zero, suc, ◌+◌, pos, List, [], ◌∷◌, ◌++◌, take, drop, length, refl, Option, Some, None, Result, Ok, Err, codes, map}
 use Rattle.rls_ident.specs.declared.tuple.Tuple.TheVariants.{At}
 use Rattle.rls_ident.specs.declared.epoch_name.EpochName.TheVariants.{Origin}
 use Rattle.rls_ops.specs.declared.op.Op.{Op}
@@ -9,12 +9,11 @@ use Rattle.rls_file.specs.Computing.{computing}
 use Rattle.rls_model.specs.declared.parts.Parts.{Parts}
 use Rattle.rls_model.specs.History.{Accepted, History, Fresh, Then}
 use Rattle.rls_model.specs.Receiving.{State}
-use Rattle.rls_file.specs.Files.{journal_bytes, snapshot_bytes, file_bytes, Content, Journal, Snapshot, Broken}
+use Rattle.rls_model.specs.Parts.{parts}
+use Rattle.rls_parts.specs.Rules.{Broken}
+use Rattle.rls_file.specs.Files.{place_of_broken, journal_bytes, snapshot_bytes, file_bytes, Content, Journal, Snapshot}
 use Rattle.rls_file.specs.ReadingFiles.{file_of}
 use Rattle.rls_file.proofs.Hex.{hex}
-
-abbrev never : Parts → Option Broken
-never p = None
 
 abbrev op_of : ℕ → List ℕ → Body → Op
 op_of seq context b = record { author = 0; seq = seq; context = context; epoch = Origin; body = b }
@@ -45,11 +44,11 @@ writes_74 : journal_bytes (journal history_74) ≡ journal_74
 unfolding computing
 writes_74 = refl
 
-reads_74 : file_of never journal_74 ≡ Ok (Journal (journal history_74))
+reads_74 : file_of journal_74 ≡ Ok (Journal (journal history_74))
 unfolding computing
 reads_74 = refl
 
-reads_115 : file_of never (journal_115 5) ≡ Ok (Journal (journal history_115))
+reads_115 : file_of (journal_115 5) ≡ Ok (Journal (journal history_115))
 unfolding computing
 reads_115 = refl
 
@@ -57,14 +56,14 @@ writes_115 : journal_bytes (journal history_115) ≡ journal_115 5
 unfolding computing
 writes_115 = refl
 
-broken_event : file_of never (journal_115 4) ≡ Err 71
+broken_event : file_of (journal_115 4) ≡ Err 71
 unfolding computing
 broken_event = refl
 
 -- ---- snapshots
 
-abbrev parts : ℕ → Parts
-parts low = record {
+abbrev hello_parts : ℕ → Parts
+hello_parts low = record {
   group = 7;
   members = 2;
   me = 0;
@@ -90,15 +89,15 @@ file_152 = hex "524c5346 02 0000000000000007 00000002 00000000 0000000100000000 
 snapshot_lengths : (length file_160 ∷ length file_156 ∷ length file_152 ∷ []) ≡ 160 ∷ 156 ∷ 152 ∷ []
 snapshot_lengths = refl
 
-writes_160 : file_bytes (parts 0) ≡ file_160
+writes_160 : file_bytes (hello_parts 0) ≡ file_160
 unfolding computing
 writes_160 = refl
 
-spells_156 : snapshot_bytes 3 (parts 0) ≡ file_156
+spells_156 : snapshot_bytes 3 (hello_parts 0) ≡ file_156
 unfolding computing
 spells_156 = refl
 
-spells_152 : snapshot_bytes 2 (parts 0) ≡ file_152
+spells_152 : snapshot_bytes 2 (hello_parts 0) ≡ file_152
 unfolding computing
 spells_152 = refl
 
@@ -111,25 +110,25 @@ abbrev place_of : Result Content ℕ → ℕ
 place_of (Ok c) = 1000
 place_of (Err at) = at
 
-reads_them : map (λ bytes. parts_of (file_of never bytes)) (file_160 ∷ file_156 ∷ file_152 ∷ []) ≡ Some (parts 0) ∷ Some (parts 0) ∷ Some (parts 0) ∷ []
+reads_them : map (λ bytes. parts_of (file_of bytes)) (file_160 ∷ file_156 ∷ file_152 ∷ []) ≡ Some (hello_parts 0) ∷ Some (hello_parts 0) ∷ Some (hello_parts 0) ∷ []
 unfolding computing
 reads_them = refl
 
--- where rule 2 of stem 0, rule 4 of text run 0, and the rules 1, 3, 5, 6 and 7 have their places
-abbrev breaks : ℕ → Parts → Option Broken
-breaks rule p = Some (record { rule = rule; index = 0 })
+-- where the rules 1 to 7 have their places, at their first entries
+abbrev first_of : ℕ → Broken
+first_of rule = record { rule = rule; index = 0 }
 
-places_160 : map (λ rule. place_of (file_of (breaks rule) file_160)) (1 ∷ 2 ∷ 3 ∷ 4 ∷ 5 ∷ 6 ∷ 7 ∷ []) ≡ 29 ∷ 45 ∷ 65 ∷ 70 ∷ 108 ∷ 104 ∷ 61 ∷ []
+places : map (λ rule. place_of_broken 4 (hello_parts 0) (first_of rule)) (1 ∷ 2 ∷ 3 ∷ 4 ∷ 5 ∷ 6 ∷ 7 ∷ []) ≡ 29 ∷ 45 ∷ 65 ∷ 70 ∷ 108 ∷ 104 ∷ 61 ∷ []
 unfolding computing
-places_160 = refl
+places = refl
 
-places_156 : map (λ rule. place_of (file_of (breaks rule) file_156)) (2 ∷ 4 ∷ []) ≡ 41 ∷ 66 ∷ []
-unfolding computing
-places_156 = refl
+-- the file with another low byte of the stem's next offset: 4 leaves a character without an offset, 0 is out of range
+abbrev with_byte : List ℕ → ℕ → ℕ → List ℕ
+with_byte bytes i b = take i bytes ++ b ∷ drop (i + 1) bytes
 
-places_152 : map (λ rule. place_of (file_of (breaks rule) file_152)) (2 ∷ 4 ∷ []) ≡ 41 ∷ 62 ∷ []
+broken_files : map (λ bytes. place_of (file_of bytes)) (with_byte file_160 56 4 ∷ with_byte file_156 52 4 ∷ with_byte file_152 48 4 ∷ with_byte file_160 56 0 ∷ with_byte file_156 52 0 ∷ with_byte file_152 48 0 ∷ []) ≡ 70 ∷ 66 ∷ 62 ∷ 45 ∷ 41 ∷ 41 ∷ []
 unfolding computing
-places_152 = refl
+broken_files = refl
 
 -- ---- small files
 
@@ -148,22 +147,68 @@ file_46 = hex "524c5346 02 0000000000000007 00000001 00000000 ffffffff 00000000 
 small_lengths : map (λ (bs : List ℕ). length bs) (file_66 ∷ file_62 ∷ file_50 ∷ file_46 ∷ []) ≡ 66 ∷ 62 ∷ 50 ∷ 46 ∷ []
 small_lengths = refl
 
-small_places : map (λ bytes. place_of (file_of never bytes)) (file_66 ∷ file_62 ∷ file_50 ∷ file_46 ∷ take 30 file_66 ∷ take 30 file_62 ∷ [] ∷ (file_66 ++ 0 ∷ []) ∷ []) ≡ 1000 ∷ 1000 ∷ 1000 ∷ 1000 ∷ 29 ∷ 29 ∷ 0 ∷ 66 ∷ []
+-- the parts of a fresh replica, and of a sole member whose numbers are spent
+abbrev fresh_parts : Parts
+fresh_parts = parts (journal (Fresh 7 0 2))
+
+abbrev spent_parts : Parts
+spent_parts = record (parts (journal (Fresh 7 0 1))) { vector = 4294967295 ∷ [] }
+
+writes_66 : file_bytes fresh_parts ≡ file_66
+unfolding computing
+writes_66 = refl
+
+spells_62 : snapshot_bytes 2 fresh_parts ≡ file_62
+unfolding computing
+spells_62 = refl
+
+spells_62_in_3 : snapshot_bytes 3 fresh_parts ≡ with_byte file_62 4 3
+unfolding computing
+spells_62_in_3 = refl
+
+writes_50 : file_bytes spent_parts ≡ file_50
+unfolding computing
+writes_50 = refl
+
+spells_46 : snapshot_bytes 2 spent_parts ≡ file_46
+unfolding computing
+spells_46 = refl
+
+spells_46_in_3 : snapshot_bytes 3 spent_parts ≡ with_byte file_46 4 3
+unfolding computing
+spells_46_in_3 = refl
+
+reads_small : map (λ bytes. parts_of (file_of bytes)) (file_66 ∷ file_62 ∷ with_byte file_62 4 3 ∷ file_50 ∷ file_46 ∷ with_byte file_46 4 3 ∷ [])
+    ≡ Some fresh_parts ∷ Some fresh_parts ∷ Some fresh_parts ∷ Some spent_parts ∷ Some spent_parts ∷ Some spent_parts ∷ []
+unfolding computing
+reads_small = refl
+
+-- cut off, empty, and with one byte more; with a form that there isn't
+small_places : map (λ bytes. place_of (file_of bytes)) (take 30 file_66 ∷ take 30 file_62 ∷ [] ∷ (file_66 ++ 0 ∷ []) ∷ with_byte file_66 4 0 ∷ with_byte file_66 4 5 ∷ []) ≡ 29 ∷ 29 ∷ 0 ∷ 66 ∷ 4 ∷ 4 ∷ []
 unfolding computing
 small_places = refl
+
+-- the file of the newest form in the place of the journal
+file_96 : length (file_bytes (parts (journal history_74))) ≡ 96
+unfolding computing
+file_96 = refl
+
+reads_96 : file_of (file_bytes (parts (journal history_74))) ≡ Ok (Snapshot 4 (parts (journal history_74)))
+unfolding computing
+reads_96 = refl
 
 abbrev counts_from : ℕ → ℕ → List ℕ
 counts_from i zero = []
 counts_from i (suc n) = i ∷ counts_from (suc i) n
 
-cuts_of_160 : map (λ n. place_of (file_of never (take n file_160))) (counts_from 0 161) ≡ 0 ∷ 0 ∷ 0 ∷ 0 ∷ 4 ∷ 5 ∷ 5 ∷ 5 ∷ 5 ∷ 5 ∷ 5 ∷ 5 ∷ 5 ∷ 13 ∷ 13 ∷ 13 ∷ 13 ∷ 17 ∷ 17 ∷ 17 ∷ 17 ∷ 21 ∷ 21 ∷ 21 ∷ 21 ∷ 25 ∷ 25 ∷ 25 ∷ 25 ∷ 29 ∷ 29 ∷ 29 ∷ 29 ∷ 33 ∷ 33 ∷ 33 ∷ 33 ∷ 37 ∷ 37 ∷ 37 ∷ 37 ∷ 41 ∷ 41 ∷ 41 ∷ 41 ∷ 45 ∷ 45 ∷ 45 ∷ 45 ∷ 49 ∷ 49 ∷ 49 ∷ 49 ∷ 53 ∷ 53 ∷ 53 ∷ 53 ∷ 57 ∷ 57 ∷ 57 ∷ 57 ∷ 61 ∷ 61 ∷ 61 ∷ 61 ∷ 65 ∷ 66 ∷ 66 ∷ 66 ∷ 66 ∷ 70 ∷ 70 ∷ 70 ∷ 70 ∷ 74 ∷ 75 ∷ 75 ∷ 75 ∷ 75 ∷ 79 ∷ 79 ∷ 79 ∷ 79 ∷ 83 ∷ 83 ∷ 83 ∷ 83 ∷ 87 ∷ 87 ∷ 87 ∷ 87 ∷ 91 ∷ 91 ∷ 91 ∷ 91 ∷ 95 ∷ 95 ∷ 95 ∷ 95 ∷ 99 ∷ 99 ∷ 99 ∷ 99 ∷ 99 ∷ 104 ∷ 104 ∷ 104 ∷ 104 ∷ 108 ∷ 108 ∷ 108 ∷ 108 ∷ 112 ∷ 112 ∷ 112 ∷ 112 ∷ 116 ∷ 116 ∷ 116 ∷ 116 ∷ 120 ∷ 120 ∷ 120 ∷ 120 ∷ 124 ∷ 125 ∷ 126 ∷ 126 ∷ 126 ∷ 126 ∷ 130 ∷ 131 ∷ 131 ∷ 131 ∷ 131 ∷ 135 ∷ 135 ∷ 135 ∷ 135 ∷ 139 ∷ 139 ∷ 139 ∷ 139 ∷ 143 ∷ 143 ∷ 143 ∷ 143 ∷ 147 ∷ 147 ∷ 147 ∷ 147 ∷ 151 ∷ 151 ∷ 151 ∷ 151 ∷ 151 ∷ 156 ∷ 156 ∷ 156 ∷ 156 ∷ 1000 ∷ []
+cuts_of_160 : map (λ n. place_of (file_of (take n file_160))) (counts_from 0 161) ≡ 0 ∷ 0 ∷ 0 ∷ 0 ∷ 4 ∷ 5 ∷ 5 ∷ 5 ∷ 5 ∷ 5 ∷ 5 ∷ 5 ∷ 5 ∷ 13 ∷ 13 ∷ 13 ∷ 13 ∷ 17 ∷ 17 ∷ 17 ∷ 17 ∷ 21 ∷ 21 ∷ 21 ∷ 21 ∷ 25 ∷ 25 ∷ 25 ∷ 25 ∷ 29 ∷ 29 ∷ 29 ∷ 29 ∷ 33 ∷ 33 ∷ 33 ∷ 33 ∷ 37 ∷ 37 ∷ 37 ∷ 37 ∷ 41 ∷ 41 ∷ 41 ∷ 41 ∷ 45 ∷ 45 ∷ 45 ∷ 45 ∷ 49 ∷ 49 ∷ 49 ∷ 49 ∷ 53 ∷ 53 ∷ 53 ∷ 53 ∷ 57 ∷ 57 ∷ 57 ∷ 57 ∷ 61 ∷ 61 ∷ 61 ∷ 61 ∷ 65 ∷ 66 ∷ 66 ∷ 66 ∷ 66 ∷ 70 ∷ 70 ∷ 70 ∷ 70 ∷ 74 ∷ 75 ∷ 75 ∷ 75 ∷ 75 ∷ 79 ∷ 79 ∷ 79 ∷ 79 ∷ 83 ∷ 83 ∷ 83 ∷ 83 ∷ 87 ∷ 87 ∷ 87 ∷ 87 ∷ 91 ∷ 91 ∷ 91 ∷ 91 ∷ 95 ∷ 95 ∷ 95 ∷ 95 ∷ 99 ∷ 99 ∷ 99 ∷ 99 ∷ 99 ∷ 104 ∷ 104 ∷ 104 ∷ 104 ∷ 108 ∷ 108 ∷ 108 ∷ 108 ∷ 112 ∷ 112 ∷ 112 ∷ 112 ∷ 116 ∷ 116 ∷ 116 ∷ 116 ∷ 120 ∷ 120 ∷ 120 ∷ 120 ∷ 124 ∷ 125 ∷ 126 ∷ 126 ∷ 126 ∷ 126 ∷ 130 ∷ 131 ∷ 131 ∷ 131 ∷ 131 ∷ 135 ∷ 135 ∷ 135 ∷ 135 ∷ 139 ∷ 139 ∷ 139 ∷ 139 ∷ 143 ∷ 143 ∷ 143 ∷ 143 ∷ 147 ∷ 147 ∷ 147 ∷ 147 ∷ 151 ∷ 151 ∷ 151 ∷ 151 ∷ 151 ∷ 156 ∷ 156 ∷ 156 ∷ 156 ∷ 1000 ∷ []
 unfolding computing
 cuts_of_160 = refl
 
-cuts_of_156 : map (λ n. place_of (file_of never (take n file_156))) (counts_from 0 157) ≡ 0 ∷ 0 ∷ 0 ∷ 0 ∷ 4 ∷ 5 ∷ 5 ∷ 5 ∷ 5 ∷ 5 ∷ 5 ∷ 5 ∷ 5 ∷ 13 ∷ 13 ∷ 13 ∷ 13 ∷ 17 ∷ 17 ∷ 17 ∷ 17 ∷ 21 ∷ 21 ∷ 21 ∷ 21 ∷ 25 ∷ 25 ∷ 25 ∷ 25 ∷ 29 ∷ 29 ∷ 29 ∷ 29 ∷ 33 ∷ 33 ∷ 33 ∷ 33 ∷ 37 ∷ 37 ∷ 37 ∷ 37 ∷ 41 ∷ 41 ∷ 41 ∷ 41 ∷ 45 ∷ 45 ∷ 45 ∷ 45 ∷ 49 ∷ 49 ∷ 49 ∷ 49 ∷ 53 ∷ 53 ∷ 53 ∷ 53 ∷ 57 ∷ 57 ∷ 57 ∷ 57 ∷ 61 ∷ 62 ∷ 62 ∷ 62 ∷ 62 ∷ 66 ∷ 66 ∷ 66 ∷ 66 ∷ 70 ∷ 71 ∷ 71 ∷ 71 ∷ 71 ∷ 75 ∷ 75 ∷ 75 ∷ 75 ∷ 79 ∷ 79 ∷ 79 ∷ 79 ∷ 83 ∷ 83 ∷ 83 ∷ 83 ∷ 87 ∷ 87 ∷ 87 ∷ 87 ∷ 91 ∷ 91 ∷ 91 ∷ 91 ∷ 95 ∷ 95 ∷ 95 ∷ 95 ∷ 95 ∷ 100 ∷ 100 ∷ 100 ∷ 100 ∷ 104 ∷ 104 ∷ 104 ∷ 104 ∷ 108 ∷ 108 ∷ 108 ∷ 108 ∷ 112 ∷ 112 ∷ 112 ∷ 112 ∷ 116 ∷ 116 ∷ 116 ∷ 116 ∷ 120 ∷ 121 ∷ 122 ∷ 122 ∷ 122 ∷ 122 ∷ 126 ∷ 127 ∷ 127 ∷ 127 ∷ 127 ∷ 131 ∷ 131 ∷ 131 ∷ 131 ∷ 135 ∷ 135 ∷ 135 ∷ 135 ∷ 139 ∷ 139 ∷ 139 ∷ 139 ∷ 143 ∷ 143 ∷ 143 ∷ 143 ∷ 147 ∷ 147 ∷ 147 ∷ 147 ∷ 147 ∷ 152 ∷ 152 ∷ 152 ∷ 152 ∷ 1000 ∷ []
+cuts_of_156 : map (λ n. place_of (file_of (take n file_156))) (counts_from 0 157) ≡ 0 ∷ 0 ∷ 0 ∷ 0 ∷ 4 ∷ 5 ∷ 5 ∷ 5 ∷ 5 ∷ 5 ∷ 5 ∷ 5 ∷ 5 ∷ 13 ∷ 13 ∷ 13 ∷ 13 ∷ 17 ∷ 17 ∷ 17 ∷ 17 ∷ 21 ∷ 21 ∷ 21 ∷ 21 ∷ 25 ∷ 25 ∷ 25 ∷ 25 ∷ 29 ∷ 29 ∷ 29 ∷ 29 ∷ 33 ∷ 33 ∷ 33 ∷ 33 ∷ 37 ∷ 37 ∷ 37 ∷ 37 ∷ 41 ∷ 41 ∷ 41 ∷ 41 ∷ 45 ∷ 45 ∷ 45 ∷ 45 ∷ 49 ∷ 49 ∷ 49 ∷ 49 ∷ 53 ∷ 53 ∷ 53 ∷ 53 ∷ 57 ∷ 57 ∷ 57 ∷ 57 ∷ 61 ∷ 62 ∷ 62 ∷ 62 ∷ 62 ∷ 66 ∷ 66 ∷ 66 ∷ 66 ∷ 70 ∷ 71 ∷ 71 ∷ 71 ∷ 71 ∷ 75 ∷ 75 ∷ 75 ∷ 75 ∷ 79 ∷ 79 ∷ 79 ∷ 79 ∷ 83 ∷ 83 ∷ 83 ∷ 83 ∷ 87 ∷ 87 ∷ 87 ∷ 87 ∷ 91 ∷ 91 ∷ 91 ∷ 91 ∷ 95 ∷ 95 ∷ 95 ∷ 95 ∷ 95 ∷ 100 ∷ 100 ∷ 100 ∷ 100 ∷ 104 ∷ 104 ∷ 104 ∷ 104 ∷ 108 ∷ 108 ∷ 108 ∷ 108 ∷ 112 ∷ 112 ∷ 112 ∷ 112 ∷ 116 ∷ 116 ∷ 116 ∷ 116 ∷ 120 ∷ 121 ∷ 122 ∷ 122 ∷ 122 ∷ 122 ∷ 126 ∷ 127 ∷ 127 ∷ 127 ∷ 127 ∷ 131 ∷ 131 ∷ 131 ∷ 131 ∷ 135 ∷ 135 ∷ 135 ∷ 135 ∷ 139 ∷ 139 ∷ 139 ∷ 139 ∷ 143 ∷ 143 ∷ 143 ∷ 143 ∷ 147 ∷ 147 ∷ 147 ∷ 147 ∷ 147 ∷ 152 ∷ 152 ∷ 152 ∷ 152 ∷ 1000 ∷ []
 unfolding computing
 cuts_of_156 = refl
 
-cuts_of_152 : map (λ n. place_of (file_of never (take n file_152))) (counts_from 0 153) ≡ 0 ∷ 0 ∷ 0 ∷ 0 ∷ 4 ∷ 5 ∷ 5 ∷ 5 ∷ 5 ∷ 5 ∷ 5 ∷ 5 ∷ 5 ∷ 13 ∷ 13 ∷ 13 ∷ 13 ∷ 17 ∷ 17 ∷ 17 ∷ 17 ∷ 21 ∷ 21 ∷ 21 ∷ 21 ∷ 25 ∷ 25 ∷ 25 ∷ 25 ∷ 29 ∷ 29 ∷ 29 ∷ 29 ∷ 33 ∷ 33 ∷ 33 ∷ 33 ∷ 37 ∷ 37 ∷ 37 ∷ 37 ∷ 41 ∷ 41 ∷ 41 ∷ 41 ∷ 45 ∷ 45 ∷ 45 ∷ 45 ∷ 49 ∷ 49 ∷ 49 ∷ 49 ∷ 53 ∷ 53 ∷ 53 ∷ 53 ∷ 57 ∷ 58 ∷ 58 ∷ 58 ∷ 58 ∷ 62 ∷ 62 ∷ 62 ∷ 62 ∷ 66 ∷ 67 ∷ 67 ∷ 67 ∷ 67 ∷ 71 ∷ 71 ∷ 71 ∷ 71 ∷ 75 ∷ 75 ∷ 75 ∷ 75 ∷ 79 ∷ 79 ∷ 79 ∷ 79 ∷ 83 ∷ 83 ∷ 83 ∷ 83 ∷ 87 ∷ 87 ∷ 87 ∷ 87 ∷ 91 ∷ 91 ∷ 91 ∷ 91 ∷ 91 ∷ 96 ∷ 96 ∷ 96 ∷ 96 ∷ 100 ∷ 100 ∷ 100 ∷ 100 ∷ 104 ∷ 104 ∷ 104 ∷ 104 ∷ 108 ∷ 108 ∷ 108 ∷ 108 ∷ 112 ∷ 112 ∷ 112 ∷ 112 ∷ 116 ∷ 117 ∷ 118 ∷ 118 ∷ 118 ∷ 118 ∷ 122 ∷ 123 ∷ 123 ∷ 123 ∷ 123 ∷ 127 ∷ 127 ∷ 127 ∷ 127 ∷ 131 ∷ 131 ∷ 131 ∷ 131 ∷ 135 ∷ 135 ∷ 135 ∷ 135 ∷ 139 ∷ 139 ∷ 139 ∷ 139 ∷ 143 ∷ 143 ∷ 143 ∷ 143 ∷ 143 ∷ 148 ∷ 148 ∷ 148 ∷ 148 ∷ 1000 ∷ []
+cuts_of_152 : map (λ n. place_of (file_of (take n file_152))) (counts_from 0 153) ≡ 0 ∷ 0 ∷ 0 ∷ 0 ∷ 4 ∷ 5 ∷ 5 ∷ 5 ∷ 5 ∷ 5 ∷ 5 ∷ 5 ∷ 5 ∷ 13 ∷ 13 ∷ 13 ∷ 13 ∷ 17 ∷ 17 ∷ 17 ∷ 17 ∷ 21 ∷ 21 ∷ 21 ∷ 21 ∷ 25 ∷ 25 ∷ 25 ∷ 25 ∷ 29 ∷ 29 ∷ 29 ∷ 29 ∷ 33 ∷ 33 ∷ 33 ∷ 33 ∷ 37 ∷ 37 ∷ 37 ∷ 37 ∷ 41 ∷ 41 ∷ 41 ∷ 41 ∷ 45 ∷ 45 ∷ 45 ∷ 45 ∷ 49 ∷ 49 ∷ 49 ∷ 49 ∷ 53 ∷ 53 ∷ 53 ∷ 53 ∷ 57 ∷ 58 ∷ 58 ∷ 58 ∷ 58 ∷ 62 ∷ 62 ∷ 62 ∷ 62 ∷ 66 ∷ 67 ∷ 67 ∷ 67 ∷ 67 ∷ 71 ∷ 71 ∷ 71 ∷ 71 ∷ 75 ∷ 75 ∷ 75 ∷ 75 ∷ 79 ∷ 79 ∷ 79 ∷ 79 ∷ 83 ∷ 83 ∷ 83 ∷ 83 ∷ 87 ∷ 87 ∷ 87 ∷ 87 ∷ 91 ∷ 91 ∷ 91 ∷ 91 ∷ 91 ∷ 96 ∷ 96 ∷ 96 ∷ 96 ∷ 100 ∷ 100 ∷ 100 ∷ 100 ∷ 104 ∷ 104 ∷ 104 ∷ 104 ∷ 108 ∷ 108 ∷ 108 ∷ 108 ∷ 112 ∷ 112 ∷ 112 ∷ 112 ∷ 116 ∷ 117 ∷ 118 ∷ 118 ∷ 118 ∷ 118 ∷ 122 ∷ 123 ∷ 123 ∷ 123 ∷ 123 ∷ 127 ∷ 127 ∷ 127 ∷ 127 ∷ 131 ∷ 131 ∷ 131 ∷ 131 ∷ 135 ∷ 135 ∷ 135 ∷ 135 ∷ 139 ∷ 139 ∷ 139 ∷ 139 ∷ 143 ∷ 143 ∷ 143 ∷ 143 ∷ 143 ∷ 148 ∷ 148 ∷ 148 ∷ 148 ∷ 1000 ∷ []
 unfolding computing
 cuts_of_152 = refl

@@ -8,6 +8,7 @@ use Rattle.rls_model.specs.declared.parts.Stem.{Stem}
 use Rattle.rls_model.specs.declared.parts.EpochPart.{EpochPart}
 use Rattle.rls_model.specs.declared.parts.TextRun.{TextRun}
 use Rattle.rls_model.specs.declared.parts.Parts.{Parts}
+use Rattle.rls_parts.specs.Rules.{Broken}
 
 -- magic text, form, group, count of members and own number
 abbrev pub head_bytes : ℕ → ℕ → ℕ → ℕ → List ℕ
@@ -84,11 +85,6 @@ content_bytes (Journal s) = journal_bytes s
 content_bytes (Snapshot form p) = snapshot_bytes form p
 
 -- ---- places
-
--- a rule of a snapshot, and the place in its list of the entry that breaks it
-pub record Broken : Type 0 where
-  pub rule : ℕ
-  pub index : ℕ
 
 -- how many bytes a stem has
 abbrev pub stem_size : ℕ → ℕ

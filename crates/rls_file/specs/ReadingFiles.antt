@@ -1,5 +1,5 @@
 -- Reading files.
-use Rattle.std.specs.Prelude.{ℕ, ℤ, pos, zero, suc, Bool, true, false, ◌&&◌, not, List, [], ◌++◌, ◌-◌, ◌==◌, is_none, length, slice_index, codes, Option, Some, None, Result, Ok, Err, nat_lt, nat_le, if◌then◌else◌}
+use Rattle.std.specs.Prelude.{ℕ, ℤ, pos, zero, suc, Bool, true, false, ◌&&◌, not, List, [], ◌++◌, ◌-◌, ◌==◌, length, slice_index, codes, Option, Some, None, Result, Ok, Err, nat_lt, nat_le, if◌then◌else◌}
 use Rattle.std.specs.Int.{w32, w64}
 use Rattle.rls_ident.specs.declared.tuple.Tuple.{Tuple}
 use Rattle.rls_ops.specs.declared.op.Op.{Op}
@@ -10,12 +10,13 @@ use Rattle.rls_model.specs.Answers.{Answer, Applies}
 use Rattle.rls_model.specs.History.{Entry, Accepted, Acknowledged, History, Fresh, Then, members_of}
 use Rattle.rls_model.specs.History.{count as count_in}
 use Rattle.rls_model.specs.Stability.{is_counted}
-use Rattle.rls_model.specs.Receiving.{State, replay, comes_before}
+use Rattle.rls_model.specs.Receiving.{State, replay}
 use Rattle.rls_model.specs.declared.parts.Stem.{Stem}
 use Rattle.rls_model.specs.declared.parts.EpochPart.{EpochPart}
 use Rattle.rls_model.specs.declared.parts.TextRun.{TextRun}
 use Rattle.rls_model.specs.declared.parts.Parts.{Parts}
-use Rattle.rls_file.specs.Files.{newest_form, Content, Journal, Snapshot, Broken, place_of_broken}
+use Rattle.rls_parts.specs.Rules.{Broken, broken, is_fine, waits_behind}
+use Rattle.rls_file.specs.Files.{newest_form, Content, Journal, Snapshot, place_of_broken}
 
 -- ---- parts of a snapshot
 
@@ -133,16 +134,11 @@ any_entry_at H bytes = with_rule (λ k. nat_le k 1) byte_at bytes >>= λ kind. e
 unfoldable pub entry_at : History → List ℕ → Read Entry
 entry_at H bytes = with_rule (is_new H) (any_entry_at H) bytes
 
--- the operation comes after the one before, by author and then by number
-abbrev pub is_later : Option Op → Op → Bool
-is_later None o = true
-is_later (Some before) o = comes_before before o
-
 -- the operation may wait behind the one before: it has the right shape, another member made it, its number is above
 -- the count, and its causes aren't all there
 abbrev pub may_wait : ℕ → ℕ → List ℕ → Option Op → Op → Bool
 may_wait members me vector before o =
-    is_none (shape_fault members o) && not (o.author == me) && nat_lt (slice_index vector o.author) o.seq && is_later before o && not (at_most o.context vector)
+    is_fine (shape_fault members o) && not (o.author == me) && nat_lt (slice_index vector o.author) o.seq && waits_behind before o && not (at_most o.context vector)
 
 -- what follows the own number in form 1
 unfoldable pub journal_at : ℕ → ℕ → ℕ → List ℕ → Read State
@@ -179,10 +175,10 @@ unless_broken form p None = Ok (Snapshot form p)
 unless_broken form p (Some b) = Err (place_of_broken form p b)
 
 -- the content, where no rule of its parts is broken
-abbrev pub tested : (Parts → Option Broken) → Content → Result Content ℕ
-tested broken (Journal s) = Ok (Journal s)
-tested broken (Snapshot form parts) = unless_broken form parts (broken parts)
+abbrev pub tested : Content → Result Content ℕ
+tested (Journal s) = Ok (Journal s)
+tested (Snapshot form parts) = unless_broken form parts (broken parts)
 
 -- what the file says, or the place of the first fault
-unfoldable pub file_of : (Parts → Option Broken) → List ℕ → Result Content ℕ
-file_of broken bytes = whole bytes (file_at bytes) >>= tested broken
+unfoldable pub file_of : List ℕ → Result Content ℕ
+file_of bytes = whole bytes (file_at bytes) >>= tested
