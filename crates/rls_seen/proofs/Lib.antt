@@ -17,3 +17,4 @@ pub mod Written
 pub mod Held
 pub mod Logs
 pub mod Applied
+pub mod Staying
