@@ -68,7 +68,7 @@ neq_of m n h e = grind (arith, nat_tests)
 not_lt_of : (m n : ℕ) → nat_lt m n ≡ false → n ≤ m
 not_lt_of m n h = grind (arith, nat_tests)
 
-shape_chain : (b1 b2 b3 b4 b5 : Bool) (x1 x2 x3 x4 x5 : Shape) → b1 ≡ true → b2 ≡ true → b3 ≡ false → b4 ≡ false → b5 ≡ false →
+pub shape_chain : (b1 b2 b3 b4 b5 : Bool) (x1 x2 x3 x4 x5 : Shape) → b1 ≡ true → b2 ≡ true → b3 ≡ false → b4 ≡ false → b5 ≡ false →
     (if not b1 then Some x1 else if not b2 then Some x2 else if b3 then Some x3 else if b4 then Some x4 else if b5 then Some x5 else None) ≡ None
 shape_chain b1 b2 b3 b4 b5 x1 x2 x3 x4 x5 e1 e2 e3 e4 e5 = rw (e1, e2, e3, e4, e5) refl
 
@@ -87,12 +87,12 @@ own_row : (H : History) → row H (me_of H) ≡ count H
 own_row H = ap (λ b. if b then count H else acknowledged H (me_of H)) (eq_test (me_of H) (me_of H) refl)
 
 -- every name of the tree is within the count
-all_within : (es : List EpochName) (v : List ℕ) → ((e : EpochName) → IsIn e es → is_within e v ≡ true) → names_within es v ≡ es
+pub all_within : (es : List EpochName) (v : List ℕ) → ((e : EpochName) → IsIn e es → is_within e v ≡ true) → names_within es v ≡ es
 all_within [] v f = refl
 all_within (e ∷ es) v f =
     ap (λ b. if b then e ∷ names_within es v else names_within es v) (f e (inl refl)) ∙ ap (λ x. e ∷ x) (all_within es v (λ d p. f d (inr p)))
 
-in_names : (ns : List Node) (e : EpochName) → IsIn e (names ns) → (a : ℕ) × (s : ℕ) × (e ≡ Of a s) × (has_node ns (Of a s) ≡ true)
+pub in_names : (ns : List Node) (e : EpochName) → IsIn e (names ns) → (a : ℕ) × (s : ℕ) × (e ≡ Of a s) × (has_node ns (Of a s) ≡ true)
 in_names [] e p = absurd p
 in_names (n ∷ ns) e (inl f) = (n.renaming.replica, n.renaming.seq, sym f, or_left (is_of n (name_of n.renaming)) (has_node ns (name_of n.renaming)) (name_eq_refl (name_of n.renaming)))
 in_names (n ∷ ns) e (inr p) = let r = in_names ns e p in (r.0, r.1, r.2, or_right (is_of n (Of r.0 r.1)) (has_node ns (Of r.0 r.1)) r.3)
@@ -104,7 +104,7 @@ pub own_epoch : (H : History) → IsLegal H → greatest_within H (count H) ≡ 
 unfolding greatest greatest_within tree.greatest tree.greatest_within
 own_epoch H l = ap (tree.greatest_from (epochs H) Origin) (all_within (names (epochs H)) (count H) (name_within H l))
 
-fit_chain : (b1 b2 b3 : Bool) (x1 x2 x3 : Reason) (r : Option Reason) → b1 ≡ false → b2 ≡ true → b3 ≡ true → r ≡ None → (if b1 then Some x1 else if not b2 then Some x2 else if not b3 then Some x3 else r) ≡ None
+pub fit_chain : (b1 b2 b3 : Bool) (x1 x2 x3 : Reason) (r : Option Reason) → b1 ≡ false → b2 ≡ true → b3 ≡ true → r ≡ None → (if b1 then Some x1 else if not b2 then Some x2 else if not b3 then Some x3 else r) ≡ None
 fit_chain b1 b2 b3 x1 x2 x3 r e1 e2 e3 e4 = rw (e1, e2, e3) e4
 
 own_fits : (H : History) (b : Body) → IsLegal H → has_left H (me_of H) ≡ false → body_refusal H (own H b) b ≡ None → refusal H (own H b) ≡ None
@@ -128,7 +128,7 @@ own_legal H b l h n i e3 e4 e5 r =
 
 -- ---- the bodies
 
-or_none : (r p : Option EditError) → or_fault r p ≡ None → (r ≡ None) × (p ≡ None)
+pub or_none : (r p : Option EditError) → or_fault r p ≡ None → (r ≡ None) × (p ≡ None)
 or_none (Some e) p h = absurd (cc)
 or_none None p h = (refl, h)
 

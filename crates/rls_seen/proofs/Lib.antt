@@ -18,3 +18,4 @@ pub mod Held
 pub mod Logs
 pub mod Applied
 pub mod Staying
+pub mod Making
