@@ -3,6 +3,7 @@
 
 mod message;
 mod op;
+mod size;
 
 pub use message::Message;
 pub use op::{Body, Op, Ops, Shape};

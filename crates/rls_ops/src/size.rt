@@ -1,0 +1,96 @@
+//! How many bytes an operation has.
+
+ghost use Rattle.std.specs.Prelude.{◌≡◌, ◌-◌, ◌+◌, ◌^◌, min, sum_by};
+ghost use Rattle.rls_ops.specs.Sizes.{tuple_size, ident_size, run_size, runs_size, char_size, name_size, body_size, op_size};
+
+use crate::op::{Body, Op};
+use rls_ident::{EpochName, Ident, Tuple};
+use rls_runs::{Run, Text};
+
+impl Op {
+    /// The number of its bytes where it is written, or the greatest u64 where there are more.
+    /// It goes over the tuples of each run and over each character, and takes no memory.
+    pub fn encoded_len(&self) -> u64
+        ensures size { result ≡ min (op_size self.now) (2 ^ 64 - 1) }
+    {
+        (self.context.len() as u64)
+            .saturating_mul(4)
+            .saturating_add(name_len(&self.epoch))
+            .saturating_add(body_len(&self.body))
+            .saturating_add(9)
+    }
+}
+
+fn tuple_len(tuple: &Tuple) -> u64
+    ensures size { result ≡ tuple_size tuple.now }
+{
+    match tuple {
+        Tuple::At { .. } => 17,
+        _ => 1,
+    }
+}
+
+fn name_len(name: &EpochName) -> u64
+    ensures size { result ≡ name_size name.now }
+{
+    match name {
+        EpochName::Origin => 1,
+        EpochName::Of { .. } => 9,
+    }
+}
+
+fn ident_len(ident: &Ident) -> u64
+    ensures size { result ≡ min (ident_size ident.now) (2 ^ 64 - 1) }
+{
+    let mut total: u64 = 4;
+    for i in 0..ident.len() {
+        total = total.saturating_add(tuple_len(&ident.tuple(i)));
+    }
+    total
+}
+
+fn run_len(run: &Run) -> u64
+    ensures size { result ≡ min (run_size run.now) (2 ^ 64 - 1) }
+{
+    ident_len(run.first()).saturating_add(4)
+}
+
+fn runs_len(runs: &[Run]) -> u64
+    ensures size { result ≡ min (4 + sum_by run_size runs.now) (2 ^ 64 - 1) }
+{
+    let mut total: u64 = 4;
+    for run in runs {
+        total = total.saturating_add(run_len(run));
+    }
+    total
+}
+
+fn chars_len(chars: &[char]) -> u64
+    ensures size { result ≡ min (sum_by char_size chars.now) (2 ^ 64 - 1) }
+{
+    let mut total: u64 = 0;
+    for c in chars {
+        total = total.saturating_add(c.len_utf8() as u64);
+    }
+    total
+}
+
+fn text_len(text: &Text) -> u64
+    ensures size { result ≡ min (4 + sum_by char_size text.now) (2 ^ 64 - 1) }
+{
+    let (front, back) = text.as_slices();
+    chars_len(front)
+        .saturating_add(chars_len(back))
+        .saturating_add(4)
+}
+
+fn body_len(body: &Body) -> u64
+    ensures size { result ≡ min (body_size body.now) (2 ^ 64 - 1) }
+{
+    match body {
+        Body::Insert { first, text } => ident_len(first).saturating_add(text_len(text)),
+        Body::Delete { targets } => runs_len(targets.as_slice()),
+        Body::Rename { former } => runs_len(former.as_slice()),
+        Body::Leave => 0,
+    }
+}
