@@ -2,6 +2,8 @@
 #![tactic(auto)]
 
 mod acks;
+mod log;
 mod rows;
 
 pub use acks::Acks;
+pub use log::Log;
