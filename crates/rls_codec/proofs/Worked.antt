@@ -6,7 +6,7 @@ use Rattle.rls_ops.specs.declared.op.Op.{Op}
 use Rattle.rls_ops.specs.declared.op.Body.{Body}
 use Rattle.rls_ops.specs.declared.op.Body.TheVariants.{Insert, Delete}
 use Rattle.rls_ops.specs.declared.message.Message.{Message}
-use Rattle.rls_ops.specs.Spelling.{op_bytes, message_bytes}
+use Rattle.rls_ops.specs.Spelling.{op_bytes, message_in_form, message_bytes}
 use Rattle.rls_codec.specs.Reading.{op_from, message_of}
 use Rattle.rls_codec.specs.Computing.{computing}
 use Rattle.rls_codec.proofs.Hex.{hex}
@@ -48,6 +48,19 @@ reads_81 : message_of hello_message ≡ Ok (message 1 (hello ∷ []))
 unfolding computing
 reads_81 = refl
 
+-- the 81 bytes with another byte at this place
+abbrev with_byte : ℕ → ℕ → List ℕ
+with_byte i b = take i hello_message ++ b ∷ drop (i + 1) hello_message
+
+-- the message in the older forms
+spells_older : map (λ form. message_in_form form (message 1 (hello ∷ []))) (1 ∷ 2 ∷ []) ≡ with_byte 4 1 ∷ with_byte 4 2 ∷ []
+unfolding computing
+spells_older = refl
+
+reads_older : map (λ form. message_of (with_byte 4 form)) (1 ∷ 2 ∷ []) ≡ Ok (message 1 (hello ∷ [])) ∷ Ok (message 1 (hello ∷ [])) ∷ []
+unfolding computing
+reads_older = refl
+
 -- the place of a fault, or 1000
 abbrev place_of : {A : Type 0} → Result A ℕ → ℕ
 place_of (Ok x) = 1000
@@ -65,10 +78,6 @@ cuts_of_81 = refl
 one_byte_more : message_of (hello_message ++ 0 ∷ []) ≡ Err 81
 unfolding computing
 one_byte_more = refl
-
--- the 81 bytes with another byte at this place
-abbrev with_byte : ℕ → ℕ → List ℕ
-with_byte i b = take i hello_message ++ b ∷ drop (i + 1) hello_message
 
 -- a fifth kind of operation
 kind_4 : message_of (with_byte 50 4) ≡ Err 50
@@ -121,3 +130,8 @@ too_long = refl
 leave : op_from 2 (7 ∷ deletion []) 1 ≡ Err 19
 unfolding computing
 leave = refl
+
+-- the message of 33 bytes cut at each length, and with one byte more
+cuts_of_33 : map (λ n. place_of (message_of (take n (empty_message ++ 0 ∷ [])))) (counts_from 0 35) ≡ 0 ∷ 0 ∷ 0 ∷ 0 ∷ 4 ∷ 5 ∷ 5 ∷ 5 ∷ 5 ∷ 5 ∷ 5 ∷ 5 ∷ 5 ∷ 13 ∷ 13 ∷ 13 ∷ 13 ∷ 17 ∷ 17 ∷ 17 ∷ 17 ∷ 21 ∷ 21 ∷ 21 ∷ 21 ∷ 25 ∷ 25 ∷ 25 ∷ 25 ∷ 29 ∷ 29 ∷ 29 ∷ 29 ∷ 1000 ∷ 33 ∷ []
+unfolding computing
+cuts_of_33 = refl

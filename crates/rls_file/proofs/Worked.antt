@@ -122,6 +122,14 @@ places : map (λ rule. place_of_broken 4 (hello_parts 0) (first_of rule)) (1 ∷
 unfolding computing
 places = refl
 
+places_in_3 : map (λ rule. place_of_broken 3 (hello_parts 0) (first_of rule)) (1 ∷ 2 ∷ 3 ∷ 4 ∷ 5 ∷ 6 ∷ 7 ∷ []) ≡ 29 ∷ 41 ∷ 61 ∷ 66 ∷ 104 ∷ 100 ∷ 57 ∷ []
+unfolding computing
+places_in_3 = refl
+
+places_in_2 : map (λ rule. place_of_broken 2 (hello_parts 0) (first_of rule)) (1 ∷ 2 ∷ 3 ∷ 4 ∷ 5 ∷ 6 ∷ 7 ∷ []) ≡ 29 ∷ 41 ∷ 57 ∷ 62 ∷ 100 ∷ 96 ∷ 53 ∷ []
+unfolding computing
+places_in_2 = refl
+
 -- the file with another low byte of the stem's next offset: 4 leaves a character without an offset, 0 is out of range
 abbrev with_byte : List ℕ → ℕ → ℕ → List ℕ
 with_byte bytes i b = take i bytes ++ b ∷ drop (i + 1) bytes
