@@ -19,3 +19,4 @@ pub mod Logs
 pub mod Applied
 pub mod Staying
 pub mod Making
+pub mod Dropped
