@@ -20,3 +20,4 @@ pub mod Applied
 pub mod Staying
 pub mod Making
 pub mod Dropped
+pub mod Repeating

@@ -1,5 +1,5 @@
 -- The message for a member, and what comes of taking one, read over what a replica consists of.
-use Rattle.std.specs.Prelude.{ℕ, zero, suc, ◌+◌, ◌<◌, false, List, [], ◌∷◌, ◌++◌, length, Option, Some, None, if◌then◌else◌}
+use Rattle.std.specs.Prelude.{◌≡◌, ℕ, zero, suc, ◌+◌, ◌<◌, false, List, [], ◌∷◌, ◌++◌, length, Option, Some, None, if◌then◌else◌}
 use Rattle.rls_ident.specs.Vectors.{join}
 use Rattle.rls_ops.specs.declared.op.Op.{Op}
 use Rattle.rls_ops.specs.declared.message.Message.{Message}
@@ -117,3 +117,9 @@ pub record IsMessage (n : ℕ) (m : Message) : Type 0 where
   pub from : m.from < n
   pub vector : IsVector n m.vector
   pub ops : AreOps m.ops
+
+-- ---- cut short
+
+-- after some of the steps of taking the message
+abbrev pub IsPartTaken : Seen → Message → Seen → Type 0
+IsPartTaken old m new = (n : ℕ) × (new ≡ (taken_within (Some n) old m).seen)

@@ -177,7 +177,7 @@ released_times (suc n) s = released_times n (released s)
 unfoldable pub released_all : Seen → Seen
 released_all s = released_times (length s.waiting) s
 
--- after some of these releases
+-- after some of these releases, in case of want of memory
 abbrev pub IsPartReleased : Seen → Seen → Type 0
 IsPartReleased old new = (n : ℕ) × (new ≡ released_times n old)
 

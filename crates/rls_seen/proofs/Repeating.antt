@@ -1,0 +1,172 @@
+-- Releasing one after another, and taking a message step by step, for code that does so in loops.
+use Rattle.std.proofs.Common.{◌≡◌, ℕ, zero, suc, ◌+◌, ◌-◌, ◌<◌, ◌≤◌, ◌==◌, ◌++◌, Bool, true, false, cond, List, [], ◌∷◌, length, refl, sym, ap, ◌∙◌, subst, arith, inl, inr, Option, Some, None, is_some, if◌then◌else◌}
+use Rattle.std.specs.Prelude.{nat_lt, find}
+use Rattle.std.specs.List.{list_all}
+use Rattle.std.proofs.lemmas.Bool.Decides.{nat_tests}
+use Rattle.rls_ident.specs.Lists.{IsIn}
+use Rattle.rls_ident.specs.Vectors.{at_most}
+use Rattle.rls_ident.proofs.Members.{in_all, lt_test}
+use Rattle.rls_ops.specs.declared.op.Op.{Op}
+use Rattle.rls_ops.specs.declared.message.Message.{Message}
+use Rattle.rls_model.specs.Answers.{Reason, Answer, Applies, Repeats, Waits, Refuses, Released}
+use Rattle.rls_model.specs.Receiving.{without, waiting_under, is_numbered, comes_before}
+use Rattle.rls_model.specs.Taking.{Limit, has_room, one_less}
+use Rattle.rls_model.proofs.WorldsWaiting.{numbered_test, less_without}
+use Rattle.rls_seen.specs.Seen.{Seen, vector, members}
+use Rattle.rls_seen.specs.Over.{accepted, holding, answer_over, received, refusal_over, first_ready, release_of, release_over, after_refusal, after_release, released, released_times, released_all, acknowledged, IsPartReleased}
+use Rattle.rls_seen.specs.Messages.{Course, started, moved, with_answer, with_refusal, with_release, receive_step, release_step, release_steps, with_releases, acknowledge_step, take_ops, taken_within, AreOps, IsMessage, IsPartTaken}
+use Rattle.rls_seen.specs.Sane.{IsSane, IsInRange, AreHeld}
+use Rattle.rls_seen.proofs.Staying.{IsReady, ready, received_sane, released_sane, acknowledged_sane}
+
+-- ---- the first ready one
+
+before_other : (x w : Op) → comes_before x w ≡ true → is_numbered w.author w.seq x ≡ false
+before_other x w e = grind (arith, nat_tests)
+
+-- what waits under its number is it
+under : (n : ℕ) (v : List ℕ) (W : List Op) (w : Op) → AreHeld n v W → IsIn w W → waiting_under W w.author w.seq ≡ Some w
+under n v [] w h p = absurd p
+under n v (x ∷ W) w h (inl e) =
+    ap (λ b. cond b (Some x) (waiting_under W w.author w.seq)) (numbered_test w.author w.seq x (ap (λ (y : Op). y.author) e) (ap (λ (y : Op). y.seq) e)) ∙ ap (λ y. Some y) e
+under n v (x ∷ W) w h (inr p) =
+    ap (λ b. cond b (Some x) (waiting_under W w.author w.seq)) (before_other x w (in_all (comes_before x) w W h.4 p)) ∙ under n v W w h.5 p
+
+pub ready_under : (s : Seen) (w : Op) → IsSane s → first_ready s ≡ Some w → waiting_under s.waiting w.author w.seq ≡ Some w
+ready_under s w h e = under (members s) (vector s) s.waiting w h.waiting (ready s w h e).there
+
+-- ---- what the answer to a release says
+
+pub released_none : (s : Seen) → release_over s ≡ None → released s ≡ s
+unfolding release_over released
+released_none s e = go (first_ready s) e
+  where
+    go : (o : Option Op) → release_of s o ≡ None → after_release s o ≡ s
+    go None f = refl
+    go (Some w) f = absurd (cc)
+
+pub released_accepted : (s : Seen) (w : Op) → first_ready s ≡ Some w → refusal_over s w ≡ None → accepted s w ≡ released s
+unfolding released
+released_accepted s w e f = sym (ap (after_release s) e ∙ ap (λ x. after_refusal x s w) f)
+
+pub released_refused : (s : Seen) (w : Op) (r : Reason) → first_ready s ≡ Some w → refusal_over s w ≡ Some r → holding s (without w.author w.seq s.waiting) ≡ released s
+unfolding released
+released_refused s w r e f = sym (ap (after_release s) e ∙ ap (λ x. after_refusal x s w) f)
+
+pub release_is : (s : Seen) (w : Op) → first_ready s ≡ Some w → release_over s ≡ Some (record { author = w.author; seq = w.seq; refusal = refusal_over s w })
+unfolding release_over
+release_is s w e = ap (release_of s) e
+
+pub release_none : (s : Seen) → first_ready s ≡ None → release_over s ≡ None
+unfolding release_over
+release_none s e = ap (release_of s) e
+
+waiting_after : (s : Seen) (w : Op) (r : Option Reason) → (after_refusal r s w).waiting ≡ without w.author w.seq s.waiting
+unfolding accepted holding
+waiting_after s w None = refl
+waiting_after s w (Some r) = refl
+
+-- where one is released, one fewer waits
+shorter : (n : ℕ) (v : List ℕ) (W : List Op) (w : Op) → AreHeld n v W → IsIn w W → length W ≡ suc (length (without w.author w.seq W))
+shorter n v [] w h p = absurd p
+shorter n v (x ∷ W) w h (inl e) =
+    let t = numbered_test w.author w.seq x (ap (λ (y : Op). y.author) e) (ap (λ (y : Op). y.seq) e) in
+    ap suc (ap length (sym (none_under W (λ y p. others y p))) ∙ sym (ap (λ b. length (cond b (without w.author w.seq W) (x ∷ without w.author w.seq W))) t))
+  where
+    after_other : (y z : Op) → comes_before y z ≡ true → is_numbered y.author y.seq z ≡ false
+    after_other y z f = grind (arith, nat_tests)
+
+    others : (y : Op) → IsIn y W → is_numbered w.author w.seq y ≡ false
+    others y p = subst (λ (z : Op). is_numbered z.author z.seq y ≡ false) e (after_other x y (in_all (comes_before x) y W h.4 p))
+
+    none_under : (V : List Op) → ((y : Op) → IsIn y V → is_numbered w.author w.seq y ≡ false) → without w.author w.seq V ≡ V
+    none_under [] f = refl
+    none_under (y ∷ V) f = ap (λ b. cond b (without w.author w.seq V) (y ∷ without w.author w.seq V)) (f y (inl refl)) ∙ ap (λ V. y ∷ V) (none_under V (λ z p. f z (inr p)))
+shorter n v (x ∷ W) w h (inr p) =
+    ap suc (shorter n v W w h.5 p)
+    ∙ sym (ap (λ b. suc (length (cond b (without w.author w.seq W) (x ∷ without w.author w.seq W)))) (before_other x w (in_all (comes_before x) w W h.4 p)))
+
+-- where something is released, one fewer waits
+pub one_fewer : (s : Seen) → IsSane s → is_some (release_over s) ≡ true → length s.waiting ≡ suc (length (released s).waiting)
+unfolding release_over released
+one_fewer s h e = go (first_ready s) refl e
+  where
+    go : (o : Option Op) → first_ready s ≡ o → is_some (release_of s o) ≡ true → length s.waiting ≡ suc (length (after_release s o).waiting)
+    go None f g = absurd (cc)
+    go (Some w) f g =
+        shorter (members s) (vector s) s.waiting w h.waiting (ready s w h f).there ∙ ap (λ (V : List Op). suc (length V)) (sym (waiting_after s w (refusal_over s w)))
+
+none_is : (o : Option Released) → is_some o ≡ false → o ≡ None
+none_is None e = refl
+none_is (Some r) e = absurd (cc)
+
+some_is : (o : Option Released) → is_some o ≡ true → (r : Released) × (o ≡ Some r)
+some_is None e = absurd (cc)
+some_is (Some r) e = (r, refl)
+
+-- ---- releasing until none is ready
+
+times_done : (n : ℕ) (s : Seen) → released s ≡ s → released_times n s ≡ s
+times_done zero s e = refl
+times_done (suc n) s e = ap (released_times n) e ∙ times_done n s e
+
+pub all_done : (s : Seen) → is_some (release_over s) ≡ false → released_all s ≡ s
+unfolding released_all
+all_done s e = times_done (length s.waiting) s (released_none s (none_is (release_over s) e))
+
+-- releasing one and then all is releasing all
+pub all_more : (s : Seen) → IsSane s → is_some (release_over s) ≡ true → released_all (released s) ≡ released_all s
+unfolding released_all
+all_more s h e = sym (ap (λ n. released_times n s) (one_fewer s h e))
+
+pub fewer_wait : (s : Seen) → IsSane s → is_some (release_over s) ≡ true → length (released s).waiting < length s.waiting
+fewer_wait s h e = let k = one_fewer s h e in omega arith
+
+times_last : (n : ℕ) (s : Seen) → released_times n (released s) ≡ released (released_times n s)
+times_last zero s = refl
+times_last (suc n) s = times_last n (released s)
+
+pub part_more : (s r : Seen) → IsPartReleased s r → IsPartReleased s (released r)
+part_more s r h = (suc h.0, ap released h.1 ∙ sym (times_last h.0 s))
+
+-- ---- the steps of a message
+
+-- the same with this limit
+abbrev pub within : Limit → Course → Course
+within limit c = record c { limit = limit }
+
+-- k steps more than this limit allows
+abbrev pub more_steps : ℕ → Limit → Limit
+more_steps k None = None
+more_steps k (Some n) = Some (k + n)
+
+-- where no step is left, nothing more comes
+no_release : (c : Course) → c.limit ≡ Some 0 → release_step c ≡ c
+no_release c e = ap (λ b. cond b (with_release c (release_over c.seen)) c) (ap has_room e)
+
+no_releases : (n : ℕ) (c : Course) → c.limit ≡ Some 0 → release_steps n c ≡ c
+no_releases zero c e = refl
+no_releases (suc n) c e = ap (release_steps n) (no_release c e) ∙ no_releases n c e
+
+no_ops : (os : List Op) (c : Course) → c.limit ≡ Some 0 → take_ops c os ≡ c
+no_ops [] c e = refl
+no_ops (o ∷ os) c e =
+    let r : receive_step c o ≡ c = ap (λ b. cond b (with_answer (moved c (received c.seen o)) o (answer_over false c.seen o)) c) (ap has_room e) in
+    ap (λ d. take_ops (with_releases d) os) r ∙ (ap (λ d. take_ops d os) (no_releases (length c.seen.waiting) c e) ∙ no_ops os c e)
+
+less : (n : ℕ) → 1 + n - 1 ≡ n
+less n = omega arith
+
+room : (limit : Limit) → has_room (more_steps 1 limit) ≡ true
+room None = refl
+room (Some n) = lt_test 0 (1 + n) (omega arith)
+
+-- one more step with this limit is a step, and then the limit
+answer_within : (limit : Limit) (c : Course) (s : Seen) (o : Op) (a : Answer) → c.limit ≡ None → with_answer (moved (within (more_steps 1 limit) c) s) o a ≡ within limit (with_answer (moved c s) o a)
+answer_within None c s o Applies e = refl
+answer_within None c s o Repeats e = refl
+answer_within None c s o Waits e = refl
+answer_within None c s o (Refuses r) e = refl
+answer_within (Some n) c s o Applies e = ap (λ m. record (with_answer (moved c s) o Applies) { limit = Some m }) (less n)
+answer_within (Some n) c s o Repeats e = ap (λ m. record (with_answer (moved c s) o Repeats) { limit = Some m }) (less n)
+answer_within (Some n) c s o Waits e = ap (λ m. record (with_answer (moved c s) o Waits) { limit = Some m }) (less n)
+answer_within (Some n) c s o (Refuses r) e = ap (λ m. record (with_answer (moved c s) o (Refuses r)) { limit = Some m }) (less n)
