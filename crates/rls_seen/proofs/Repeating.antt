@@ -170,3 +170,164 @@ answer_within (Some n) c s o Applies e = ap (λ m. record (with_answer (moved c 
 answer_within (Some n) c s o Repeats e = ap (λ m. record (with_answer (moved c s) o Repeats) { limit = Some m }) (less n)
 answer_within (Some n) c s o Waits e = ap (λ m. record (with_answer (moved c s) o Waits) { limit = Some m }) (less n)
 answer_within (Some n) c s o (Refuses r) e = ap (λ m. record (with_answer (moved c s) o (Refuses r)) { limit = Some m }) (less n)
+
+receive_within : (limit : Limit) (c : Course) (o : Op) → c.limit ≡ None → receive_step (within (more_steps 1 limit) c) o ≡ within limit (receive_step c o)
+receive_within limit c o e =
+    let s = received c.seen o in
+    let a = answer_over false c.seen o in
+    ap (λ b. cond b (with_answer (moved (within (more_steps 1 limit) c) s) o a) (within (more_steps 1 limit) c)) (room limit)
+    ∙ (answer_within limit c s o a e
+    ∙ ap (within limit) (sym (ap (λ b. cond b (with_answer (moved c s) o a) c) (ap has_room e))))
+
+refusal_within : (limit : Limit) (c : Course) (s : Seen) (a q : ℕ) (r : Option Reason) → with_refusal (moved (within (more_steps 1 limit) c) s) a q r ≡ within limit (with_refusal (moved c s) a q r)
+refusal_within None c s a q None = refl
+refusal_within None c s a q (Some r) = refl
+refusal_within (Some n) c s a q None = ap (λ m. record (with_refusal (moved c s) a q None) { limit = Some m }) (less n)
+refusal_within (Some n) c s a q (Some r) = ap (λ m. record (with_refusal (moved c s) a q (Some r)) { limit = Some m }) (less n)
+
+release_within : (limit : Limit) (c : Course) → c.limit ≡ None → is_some (release_over c.seen) ≡ true → release_step (within (more_steps 1 limit) c) ≡ within limit (release_step c)
+release_within limit c e i =
+    let p = some_is (release_over c.seen) i in
+    let r = p.0 in
+    let d = within (more_steps 1 limit) c in
+    ap (λ b. cond b (with_release d (release_over c.seen)) d) (room limit)
+    ∙ (ap (with_release d) p.1
+    ∙ (refusal_within limit c (released c.seen) r.author r.seq r.refusal
+    ∙ ap (within limit) (sym (ap (λ b. cond b (with_release c (release_over c.seen)) c) (ap has_room e) ∙ ap (with_release c) p.1))))
+
+refusal_seen : (c : Course) (a q : ℕ) (r : Option Reason) → (with_refusal c a q r).seen ≡ c.seen
+refusal_seen c a q None = refl
+refusal_seen c a q (Some r) = refl
+
+answer_seen : (c : Course) (o : Op) (a : Answer) → (with_answer c o a).seen ≡ c.seen
+answer_seen c o Applies = refl
+answer_seen c o Repeats = refl
+answer_seen c o Waits = refl
+answer_seen c o (Refuses r) = refl
+
+-- what is seen after a step without a limit
+pub received_seen : (c : Course) (o : Op) → c.limit ≡ None → (receive_step c o).seen ≡ received c.seen o
+received_seen c o e =
+    let x = with_answer (moved c (received c.seen o)) o (answer_over false c.seen o) in
+    ap (λ b. (cond b x c).seen) (ap has_room e) ∙ answer_seen (moved c (received c.seen o)) o (answer_over false c.seen o)
+
+pub released_seen : (c : Course) → c.limit ≡ None → (release_step c).seen ≡ released c.seen
+released_seen c e = ap (λ b. (cond b (with_release c (release_over c.seen)) c).seen) (ap has_room e) ∙ go (release_over c.seen) refl
+  where
+    go : (r : Option Released) → release_over c.seen ≡ r → (with_release c r).seen ≡ released c.seen
+    go None f = sym (released_none c.seen f)
+    go (Some r) f = refusal_seen (moved c (released c.seen)) r.author r.seq r.refusal
+
+pub acknowledged_seen : (c : Course) (a : ℕ) (v : List ℕ) → c.limit ≡ None → (acknowledge_step c a v).seen ≡ acknowledged c.seen a v
+acknowledged_seen c a v e = ap (λ b. (cond b (moved c (acknowledged c.seen a v)) c).seen) (ap has_room e)
+
+answer_limit : (c : Course) (o : Op) (a : Answer) → (with_answer c o a).limit ≡ c.limit
+answer_limit c o Applies = refl
+answer_limit c o Repeats = refl
+answer_limit c o Waits = refl
+answer_limit c o (Refuses r) = refl
+
+pub received_limit : (c : Course) (o : Op) → c.limit ≡ None → (receive_step c o).limit ≡ None
+received_limit c o e =
+    let x = with_answer (moved c (received c.seen o)) o (answer_over false c.seen o) in
+    ap (λ b. (cond b x c).limit) (ap has_room e) ∙ (answer_limit (moved c (received c.seen o)) o (answer_over false c.seen o) ∙ ap one_less e)
+
+pub released_limit : (c : Course) → c.limit ≡ None → (release_step c).limit ≡ None
+released_limit c e = ap (λ b. (cond b (with_release c (release_over c.seen)) c).limit) (ap has_room e) ∙ go (release_over c.seen)
+  where
+    refusal_limit : (d : Course) (a q : ℕ) (r : Option Reason) → (with_refusal d a q r).limit ≡ d.limit
+    refusal_limit d a q None = refl
+    refusal_limit d a q (Some r) = refl
+
+    go : (r : Option Released) → (with_release c r).limit ≡ None
+    go None = e
+    go (Some r) = refusal_limit (moved c (released c.seen)) r.author r.seq r.refusal ∙ ap one_less e
+
+-- behind k steps the course is c, and these operations are left
+abbrev pub Reaches : Seen → List Op → ℕ → Course → List Op → Type 0
+Reaches s os k c rest = (limit : Limit) → take_ops (started (more_steps k limit) s) os ≡ take_ops (within limit c) rest
+
+-- behind k steps the course is c, some may be ready, and then these operations are left
+abbrev pub ReachesReady : Seen → List Op → ℕ → Course → List Op → Type 0
+ReachesReady s os k c rest = (limit : Limit) → take_ops (started (more_steps k limit) s) os ≡ take_ops (with_releases (within limit c)) rest
+
+more_none : (limit : Limit) → more_steps 0 limit ≡ limit
+more_none None = refl
+more_none (Some n) = ap (λ m. Some m) (zero_more n)
+  where
+    zero_more : (m : ℕ) → 0 + m ≡ m
+    zero_more m = omega arith
+
+more_twice : (k : ℕ) (limit : Limit) → more_steps (suc k) limit ≡ more_steps k (more_steps 1 limit)
+more_twice k None = refl
+more_twice k (Some n) = ap (λ m. Some m) (sums k n)
+  where
+    sums : (a b : ℕ) → suc a + b ≡ a + (1 + b)
+    sums a b = omega arith
+
+-- at first
+pub reaches_start : (s : Seen) (os : List Op) → Reaches s os 0 (started None s) os
+reaches_start s os limit = ap (λ l. take_ops (started l s) os) (more_none limit)
+
+-- the next operation is received
+pub reaches_received : (s : Seen) (os : List Op) (k : ℕ) (c : Course) (o : Op) (rest : List Op) → c.limit ≡ None → Reaches s os k c (o ∷ rest) → ReachesReady s os (suc k) (receive_step c o) rest
+reaches_received s os k c o rest e h limit =
+    ap (λ l. take_ops (started l s) os) (more_twice k limit)
+    ∙ (h (more_steps 1 limit)
+    ∙ ap (λ d. take_ops (with_releases d) rest) (receive_within limit c o e))
+
+-- one is released
+pub reaches_released : (s : Seen) (os : List Op) (k : ℕ) (c : Course) (rest : List Op) → c.limit ≡ None → IsSane c.seen → is_some (release_over c.seen) ≡ true → ReachesReady s os k c rest → ReachesReady s os (suc k) (release_step c) rest
+reaches_released s os k c rest e sane i h limit =
+    let d = within (more_steps 1 limit) c in
+    ap (λ l. take_ops (started l s) os) (more_twice k limit)
+    ∙ (h (more_steps 1 limit)
+    ∙ (ap (λ n. take_ops (release_steps n d) rest) (one_fewer c.seen sane i)
+    ∙ (ap (λ x. take_ops (release_steps (length (released c.seen).waiting) x) rest) (release_within limit c e i)
+    ∙ ap (λ x. take_ops (release_steps (length x.waiting) (within limit (release_step c))) rest) (sym (released_seen c e)))))
+
+-- none is ready any more
+pub reaches_rest : (s : Seen) (os : List Op) (k : ℕ) (c : Course) (rest : List Op) → is_some (release_over c.seen) ≡ false → ReachesReady s os k c rest → Reaches s os k c rest
+reaches_rest s os k c rest i h limit = h limit ∙ ap (λ d. take_ops d rest) (done (length c.seen.waiting))
+  where
+    d : Course
+    d = within limit c
+
+    still : release_step d ≡ d
+    still = ap (λ r. cond (has_room limit) (with_release d r) d) (none_is (release_over c.seen) i) ∙ same (has_room limit)
+      where
+        same : (b : Bool) → cond b d d ≡ d
+        same true = refl
+        same false = refl
+
+    done : (n : ℕ) → release_steps n d ≡ d
+    done zero = refl
+    done (suc n) = ap (release_steps n) still ∙ done n
+
+within_none : (c : Course) → c.limit ≡ None → within None c ≡ c
+within_none c e = ap (λ l. within l c) (sym e)
+
+-- the message was taken
+pub taken_is : (s : Seen) (m : Message) (k : ℕ) (c : Course) → c.limit ≡ None → Reaches s m.ops k c [] → taken_within None s m ≡ acknowledge_step c m.from m.vector
+unfolding taken_within
+taken_is s m k c e h = ap (λ d. acknowledge_step d m.from m.vector) (h None ∙ within_none c e)
+
+no_more : (k : ℕ) → more_steps k (Some 0) ≡ Some k
+no_more k = ap (λ m. Some m) (zero_more k)
+  where
+    zero_more : (m : ℕ) → m + 0 ≡ m
+    zero_more m = omega arith
+
+-- or a part of its steps was
+pub part_taken : (s : Seen) (m : Message) (k : ℕ) (c : Course) (rest : List Op) → Reaches s m.ops k c rest → IsPartTaken s m c.seen
+unfolding taken_within
+part_taken s m k c rest h =
+    (k, sym (ap (λ l. (acknowledge_step (take_ops (started l s) m.ops) m.from m.vector).seen) (sym (no_more k))
+      ∙ ap (λ d. (acknowledge_step d m.from m.vector).seen) (h (Some 0) ∙ no_ops rest (within (Some 0) c) refl)))
+
+pub part_released : (s : Seen) (m : Message) (k : ℕ) (c : Course) (rest : List Op) → ReachesReady s m.ops k c rest → IsPartTaken s m c.seen
+unfolding taken_within
+part_released s m k c rest h =
+    (k, sym (ap (λ l. (acknowledge_step (take_ops (started l s) m.ops) m.from m.vector).seen) (sym (no_more k))
+      ∙ ap (λ d. (acknowledge_step d m.from m.vector).seen)
+        (h (Some 0) ∙ (ap (λ d. take_ops d rest) (no_releases (length c.seen.waiting) (within (Some 0) c) refl) ∙ no_ops rest (within (Some 0) c) refl))))
