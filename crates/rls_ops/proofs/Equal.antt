@@ -20,13 +20,13 @@ use Rattle.rls_ops.specs.declared.op.Body.{Body}
 use Rattle.rls_ops.specs.declared.op.Body.TheVariants.{Insert, Delete, Rename, Leave}
 use Rattle.rls_ops.specs.Same.{numbers_eq, idents_eq, body_eq, op_eq, TestsEqual}
 
-numbers_same : (v : List ℕ) → numbers_eq v v ≡ true
+pub numbers_same : (v : List ℕ) → numbers_eq v v ≡ true
 numbers_same v = ap is_eq (tied_itself (lists_total nat_cmp_total) v)
 
-ident_same : (x : List Tuple) → ident_eq x x ≡ true
+pub ident_same : (x : List Tuple) → ident_eq x x ≡ true
 ident_same x = ap is_eq (tied_itself (lists_total tuple_total) x)
 
-idents_same : (xs : List (List Tuple)) → idents_eq xs xs ≡ true
+pub idents_same : (xs : List (List Tuple)) → idents_eq xs xs ≡ true
 idents_same xs = ap is_eq (tied_itself (lists_total (lists_total tuple_total)) xs)
 
 body_same : (b : Body) → body_eq b b ≡ true
@@ -56,13 +56,13 @@ numbers = record { cmp = nat_cmp; total = nat_cmp_total; same = nat_cmp-IsAntisy
 abbrev idents : Letters (List Tuple)
 idents = record { cmp = slice_cmp tuples.cmp; total = lists_total tuple_total; same = lists_same tuples }
 
-numbers_are : (v w : List ℕ) → numbers_eq v w ≡ true → v ≡ w
+pub numbers_are : (v w : List ℕ) → numbers_eq v w ≡ true → v ≡ w
 numbers_are v w h = lists_same numbers v w (is_equal (slice_cmp nat_cmp v w) h)
 
 pub ident_is : (x y : List Tuple) → ident_eq x y ≡ true → x ≡ y
 ident_is x y h = lists_same tuples x y (is_equal (slice_cmp tuples.cmp x y) h)
 
-idents_are : (xs ys : List (List Tuple)) → idents_eq xs ys ≡ true → xs ≡ ys
+pub idents_are : (xs ys : List (List Tuple)) → idents_eq xs ys ≡ true → xs ≡ ys
 idents_are xs ys h = lists_same idents xs ys (is_equal (slice_cmp idents.cmp xs ys) h)
 
 body_is : (b c : Body) → body_eq b c ≡ true → b ≡ c

@@ -3,6 +3,7 @@
 
 mod message;
 mod op;
+mod same;
 mod size;
 
 pub use message::Message;

@@ -1,0 +1,32 @@
+-- Lists that are equal, element by element.
+use Rattle.std.proofs.Common.{◌≡◌, ℕ, zero, suc, ◌+◌, ◌<◌, true, false, List, [], ◌∷◌, length, take, get_or, sym, ap, ◌∙◌, arith, add-one}
+use Rattle.std.proofs.Math.Seq.{take-length}
+use Rattle.rls_ident.proofs.Members.{not_true}
+use Rattle.rls_ops.specs.Same.{numbers_eq}
+use Rattle.rls_ops.proofs.Equal.{numbers_are, numbers_same}
+
+matches_next : {X : Type 0} (xs ys : List X) (i : ℕ) (d e : X) → i < length xs → i < length ys → take i xs ≡ take i ys → get_or xs i d ≡ get_or ys i e → take (suc i) xs ≡ take (suc i) ys
+matches_next [] ys i d e h k f g = absurd (omega arith)
+matches_next (x ∷ xs) [] i d e h k f g = absurd (omega arith)
+matches_next (x ∷ xs) (y ∷ ys) zero d e h k f g = ap (λ z. z ∷ []) g
+matches_next (x ∷ xs) (y ∷ ys) (suc i) d e h k f g =
+    let front : take i xs ≡ take i ys = cc in
+    let more : take (suc i) xs ≡ take (suc i) ys = matches_next xs ys i d e (omega arith) (omega arith) front g in
+    cc
+
+-- one more equal element
+pub matches_more : {X : Type 0} (xs ys : List X) (i : ℕ) (d e : X) → i < length xs → i < length ys → take i xs ≡ take i ys → get_or xs i d ≡ get_or ys i e → take (i + 1) xs ≡ take (i + 1) ys
+matches_more xs ys i d e h k f g = rw add-one (matches_next xs ys i d e h k f g)
+
+-- all are equal
+pub matches_all : {X : Type 0} (xs ys : List X) (i : ℕ) → length xs ≡ length ys → i ≡ length xs → take i xs ≡ take i ys → xs ≡ ys
+matches_all xs ys i l e f =
+    let a : take (length xs) xs ≡ take (length ys) ys = ap (λ n. take n xs) (sym e) ∙ f ∙ ap (λ n. take n ys) (e ∙ l) in
+    sym (take-length xs) ∙ a ∙ take-length ys
+
+-- lists of numbers that differ
+pub numbers_differ : (v w : List ℕ) → (v ≡ w → ⊥) → numbers_eq v w ≡ false
+numbers_differ v w f = not_true (numbers_eq v w) (λ h. f (numbers_are v w h))
+
+pub numbers_match : (v w : List ℕ) → v ≡ w → numbers_eq v w ≡ true
+numbers_match v w e = ap (λ x. numbers_eq x w) e ∙ numbers_same w
