@@ -115,3 +115,24 @@ short_body Leave h = tt
 
 pub short_op : (o : Op) → op_size o < 2 ^ 32 → IsShort o.body
 short_op o h = short_body o.body (omega (arith, h))
+
+-- ---- the operations of a message
+
+some_bytes : (o : Op) → 1 ≤ op_size o
+some_bytes o = omega arith
+
+ops_within : (os : List Op) → length os ≤ sum_by op_size os
+ops_within [] = omega arith
+ops_within (o ∷ os) = omega (arith, sum_by-cons op_size o os, some_bytes o, ops_within os)
+
+small_list : (os : List Op) → sum_by op_size os < 2 ^ 32 → All (λ o. op_size o < 2 ^ 32) os
+small_list [] h = λ k d lt. absurd (omega (arith, lt))
+small_list (o ∷ os) h =
+    let l = sum_by-cons op_size o os in
+    All-cons (λ (p : Op). op_size p < 2 ^ 32) o os (omega (arith, h, l)) (small_list os (omega (arith, h, l)))
+
+pub few_ops : (m : Message) → message_size m ≤ 67108864 → length m.ops < 2 ^ 32
+few_ops m h = omega (arith, ops_within m.ops, h)
+
+pub small_ops : (m : Message) → message_size m ≤ 67108864 → All (λ o. op_size o < 2 ^ 32) m.ops
+small_ops m h = small_list m.ops (omega (arith, h))

@@ -15,4 +15,4 @@ pub use puts::{
     put_byte, put_i32, put_ident, put_name, put_run, put_runs, put_text, put_u32, put_u64,
     put_vector,
 };
-pub use writing::encode_op;
+pub use writing::{encode_message, encode_op, put_op, put_ops};

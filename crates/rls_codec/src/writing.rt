@@ -1,14 +1,19 @@
 //! Operations and messages, written.
 
-ghost use Rattle.std.specs.Prelude.{◌≡◌, ◌<◌, ◌≤◌, ◌^◌, ◌++◌, [], ◌∷◌, length, sum_by, IfOk, OnOk, OnErr};
+ghost use Rattle.std.specs.Prelude.{◌≡◌, ◌<◌, ◌≤◌, ◌^◌, ◌++◌, [], ◌∷◌, length, codes, All, IfOk, OnOk, OnErr};
 ghost use Rattle.std.specs.List.{flat_map};
-ghost use Rattle.rls_ops.specs.Spelling.{kind_of, body_bytes, op_bytes, message_bytes};
+ghost use Rattle.rls_ops.specs.Spelling.{counted, kind_of, body_bytes, op_bytes, message_bytes};
 ghost use Rattle.rls_ops.specs.Sizes.{op_size, message_size};
 ghost use Rattle.rls_codec.specs.Gives.{IsShort, IsFrontOf};
 
-use crate::puts::{put_byte, put_ident, put_name, put_runs, put_text, put_u32, put_vector};
-use rls_ops::{Body, Op};
-use std::alloc::AllocError;
+use crate::puts::{
+    put_byte, put_ident, put_name, put_runs, put_text, put_u32, put_u64, put_vector,
+};
+use rls_ops::{Body, Message, Op, Ops};
+use std::alloc::{AllocError, Global};
+
+/// The form in which messages are written.
+const MESSAGE_FORM: u8 = 3;
 
 fn put_body(out: &mut Vec<u8>, body: &Body) -> Result<(), AllocError>
     requires { IsShort body.now }
@@ -39,9 +44,10 @@ fn put_body(out: &mut Vec<u8>, body: &Body) -> Result<(), AllocError>
     }
 }
 
-#[tactic(auto, unfolding(rls_ops::specs::Spelling::op_bytes))]
-fn put_op(out: &mut Vec<u8>, op: &Op) -> Result<(), AllocError>
-    requires { IsShort op.now.body }
+/// Appends an operation; the cost is that of its runs and characters.
+#[tactic(auto, using(crate::proofs::SizeLaws::short_op), unfolding(rls_ops::specs::Spelling::op_bytes))]
+pub fn put_op(out: &mut Vec<u8>, op: &Op) -> Result<(), AllocError>
+    requires small { op_size op.now < 2 ^ 32 }
     ensures ok { OnOk result (out.new.items ≡ out.old.items ++ op_bytes op.now) }
     ensures keeps { IsFrontOf out.old.items out.new.items }
 {
@@ -54,7 +60,6 @@ fn put_op(out: &mut Vec<u8>, op: &Op) -> Result<(), AllocError>
 }
 
 /// Appends the bytes of an operation, or nothing where memory runs out. The cost is that of its runs and characters.
-#[tactic(auto, using(crate::proofs::SizeLaws::short_op))]
 pub fn encode_op(out: &mut Vec<u8>, op: &Op) -> Result<(), AllocError>
     requires small { op_size op.now < 2 ^ 32 }
     ensures ok { OnOk result (out.new.items ≡ out.old.items ++ op_bytes op.now) }
@@ -68,4 +73,51 @@ pub fn encode_op(out: &mut Vec<u8>, op: &Op) -> Result<(), AllocError>
             Err(e)
         }
     }
+}
+
+fn put_op_list(out: &mut Vec<u8>, ops: &[Op]) -> Result<(), AllocError>
+    requires { All (λ o. op_size o < 2 ^ 32) ops.now }
+    ensures ok { OnOk result (out.new.items ≡ out.old.items ++ flat_map op_bytes ops.now) }
+    ensures keeps { IsFrontOf out.old.items out.new.items }
+{
+    for op in ops {
+        put_op(out, op)?;
+    }
+    Ok(())
+}
+
+/// Appends the number of operations, and the operations.
+pub fn put_ops(out: &mut Vec<u8>, ops: &Ops) -> Result<(), AllocError>
+    requires count { length ops.now < 2 ^ 32 }
+    requires small { All (λ o. op_size o < 2 ^ 32) ops.now }
+    ensures ok { OnOk result (out.new.items ≡ out.old.items ++ counted op_bytes ops.now) }
+    ensures keeps { IsFrontOf out.old.items out.new.items }
+{
+    let list = ops.as_slice();
+    put_u32(out, list.len() as u32)?;
+    put_op_list(out, list)?;
+    Ok(())
+}
+
+fn put_magic(out: &mut Vec<u8>) -> Result<(), AllocError>
+    ensures ok { OnOk result (out.new.items ≡ out.old.items ++ codes "RLSM") }
+{
+    out.extend_from_slice(b"RLSM")
+}
+
+/// The bytes of a message, in the newest form. The cost is that of its operations.
+#[tactic(auto, using(crate::proofs::SizeLaws::few_ops, crate::proofs::SizeLaws::small_ops), unfolding(rls_ops::specs::Spelling::message_in_form))]
+pub fn encode_message(alloc: Global, message: &Message) -> Result<Vec<u8>, AllocError>
+    requires limit { message_size message.now ≤ 67108864 }
+    ensures bytes { IfOk result (λ bytes. bytes.items ≡ message_bytes message.now) }
+{
+    let mut out = Vec::new(alloc);
+    put_magic(&mut out)?;
+    put_byte(&mut out, MESSAGE_FORM)?;
+    put_u64(&mut out, message.group)?;
+    put_u32(&mut out, message.members)?;
+    put_u32(&mut out, message.from)?;
+    put_vector(&mut out, &message.vector)?;
+    put_ops(&mut out, &message.ops)?;
+    Ok(out)
 }
