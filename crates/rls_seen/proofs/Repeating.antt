@@ -1,5 +1,5 @@
 -- Releasing one after another, and taking a message step by step, for code that does so in loops.
-use Rattle.std.proofs.Common.{◌≡◌, ℕ, zero, suc, ◌+◌, ◌-◌, ◌<◌, ◌≤◌, ◌==◌, ◌++◌, Bool, true, false, cond, List, [], ◌∷◌, length, refl, sym, ap, ◌∙◌, subst, arith, inl, inr, Option, Some, None, is_some, if◌then◌else◌}
+use Rattle.std.proofs.Common.{◌≡◌, ℕ, zero, suc, ◌+◌, ◌-◌, ◌<◌, ◌≤◌, ◌==◌, ◌++◌, Bool, true, false, cond, List, [], ◌∷◌, length, refl, sym, ap, ◌∙◌, subst, arith, inl, inr, Option, Some, None, is_some, length-append, if◌then◌else◌}
 use Rattle.std.specs.Prelude.{nat_lt, find}
 use Rattle.std.specs.List.{list_all}
 use Rattle.std.proofs.lemmas.Bool.Decides.{nat_tests}
@@ -9,11 +9,12 @@ use Rattle.rls_ident.proofs.Members.{in_all, lt_test}
 use Rattle.rls_ops.specs.declared.op.Op.{Op}
 use Rattle.rls_ops.specs.declared.message.Message.{Message}
 use Rattle.rls_model.specs.Answers.{Reason, Answer, Applies, Repeats, Waits, Refuses, Released}
-use Rattle.rls_model.specs.Receiving.{without, waiting_under, is_numbered, comes_before}
+use Rattle.rls_model.specs.Receiving.{without, with_waiting, waiting_under, is_numbered, comes_before}
+use Rattle.rls_model.specs.WellFormed.{IsOp}
 use Rattle.rls_model.specs.Taking.{Limit, has_room, one_less}
 use Rattle.rls_model.proofs.WorldsWaiting.{numbered_test, less_without}
 use Rattle.rls_seen.specs.Seen.{Seen, vector, members}
-use Rattle.rls_seen.specs.Over.{accepted, holding, answer_over, received, refusal_over, first_ready, release_of, release_over, after_refusal, after_release, released, released_times, released_all, acknowledged, IsPartReleased}
+use Rattle.rls_seen.specs.Over.{accepted, holding, after_answer, answer_over, received, refusal_over, first_ready, release_of, release_over, after_refusal, after_release, released, released_times, released_all, acknowledged, IsPartReleased}
 use Rattle.rls_seen.specs.Messages.{Course, started, moved, with_answer, with_refusal, with_release, receive_step, release_step, release_steps, with_releases, acknowledge_step, take_ops, taken_within, AreOps, IsMessage, IsPartTaken}
 use Rattle.rls_seen.specs.Sane.{IsSane, IsInRange, AreHeld}
 use Rattle.rls_seen.proofs.Staying.{IsReady, ready, received_sane, released_sane, acknowledged_sane}
@@ -331,3 +332,87 @@ part_released s m k c rest h =
     (k, sym (ap (λ l. (acknowledge_step (take_ops (started l s) m.ops) m.from m.vector).seen) (sym (no_more k))
       ∙ ap (λ d. (acknowledge_step d m.from m.vector).seen)
         (h (Some 0) ∙ (ap (λ d. take_ops d rest) (no_releases (length c.seen.waiting) (within (Some 0) c) refl) ∙ no_ops rest (within (Some 0) c) refl))))
+
+-- ---- at each step
+
+-- a replica stays sane
+pub received_step_sane : (c : Course) (o : Op) → c.limit ≡ None → IsSane c.seen → IsOp o → IsInRange o.body → IsSane (receive_step c o).seen
+received_step_sane c o e h w r = subst IsSane (sym (received_seen c o e)) (received_sane c.seen o h w r)
+
+pub released_step_sane : (c : Course) → c.limit ≡ None → IsSane c.seen → IsSane (release_step c).seen
+released_step_sane c e h = subst IsSane (sym (released_seen c e)) (released_sane c.seen h)
+
+pub acknowledged_step_sane : (c : Course) (a : ℕ) (v : List ℕ) → c.limit ≡ None → IsSane c.seen → a < members c.seen → length v ≡ members c.seen → IsSane (acknowledge_step c a v).seen
+acknowledged_step_sane c a v e h l k = subst IsSane (sym (acknowledged_seen c a v e)) (acknowledged_sane c.seen a v h l k)
+
+-- what is counted after n operations, where m waited at first
+pub record AreCounted (m n : ℕ) (c : Course) : Type 0 where
+  pub applied : c.applied ≤ n
+  pub repeated : c.repeated ≤ n
+  pub held : c.held ≤ n
+  pub released : c.released + length c.seen.waiting ≤ m + n
+  pub refused : length c.refused + length c.seen.waiting ≤ m + n + n
+
+pub started_counted : (s : Seen) → AreCounted (length s.waiting) 0 (started None s)
+started_counted s = record { applied = omega arith; repeated = omega arith; held = omega arith; released = omega arith; refused = omega arith }
+
+length-without_le : (a q : ℕ) (W : List Op) → length (without a q W) ≤ length W
+length-without_le a q [] = omega arith
+length-without_le a q (w ∷ W) = go (is_numbered a q w) (length-without_le a q W)
+  where
+    go : (b : Bool) → length (without a q W) ≤ length W → length (cond b (without a q W) (w ∷ without a q W)) ≤ suc (length W)
+    go true h = omega arith
+    go false h = omega arith
+
+length-with : (o : Op) (W : List Op) → length (with_waiting o W) ≡ suc (length W)
+length-with o [] = refl
+length-with o (w ∷ W) = go (comes_before w o) (length-with o W)
+  where
+    go : (b : Bool) → length (with_waiting o W) ≡ suc (length W) → length (cond b (w ∷ with_waiting o W) (o ∷ w ∷ W)) ≡ suc (suc (length W))
+    go true h = ap suc h
+    go false h = refl
+
+step_counted : (m n : ℕ) (c : Course) (o : Op) (a : Answer) → AreCounted m n c → AreCounted m (suc n) (with_answer (moved c (after_answer a c.seen o)) o a)
+unfolding accepted holding
+step_counted m n c o Applies h =
+    let l = length-without_le o.author o.seq c.seen.waiting in
+    let x = h.applied in let y = h.repeated in let z = h.held in let u = h.released in let v = h.refused in
+    record { applied = omega arith; repeated = omega arith; held = omega arith; released = omega arith; refused = omega arith }
+step_counted m n c o Waits h =
+    let l = length-without_le o.author o.seq c.seen.waiting in
+    let k = length-with o (without o.author o.seq c.seen.waiting) in
+    let x = h.applied in let y = h.repeated in let z = h.held in let u = h.released in let v = h.refused in
+    record { applied = omega arith; repeated = omega arith; held = omega arith; released = omega arith; refused = omega arith }
+step_counted m n c o Repeats h =
+    let x = h.applied in let y = h.repeated in let z = h.held in let u = h.released in let v = h.refused in
+    record { applied = omega arith; repeated = omega arith; held = omega arith; released = omega arith; refused = omega arith }
+step_counted m n c o (Refuses r) h =
+    let k = length-append c.refused ((o.author, o.seq, r) ∷ []) in
+    let x = h.applied in let y = h.repeated in let z = h.held in let u = h.released in let v = h.refused in
+    record { applied = omega arith; repeated = omega arith; held = omega arith; released = omega arith; refused = omega arith }
+
+pub received_counted : (m n : ℕ) (c : Course) (o : Op) → c.limit ≡ None → AreCounted m n c → AreCounted m (suc n) (receive_step c o)
+unfolding received
+received_counted m n c o e h =
+    let x = with_answer (moved c (received c.seen o)) o (answer_over false c.seen o) in
+    subst (AreCounted m (suc n)) (sym (ap (λ b. cond b x c) (ap has_room e))) (step_counted m n c o (answer_over false c.seen o) h)
+
+pub released_counted : (m n : ℕ) (c : Course) → c.limit ≡ None → IsSane c.seen → AreCounted m n c → AreCounted m n (release_step c)
+released_counted m n c e sane h =
+    subst (AreCounted m n) (sym (ap (λ b. cond b (with_release c (release_over c.seen)) c) (ap has_room e))) (go (release_over c.seen) refl)
+  where
+    shorter_by : (r : Released) → release_over c.seen ≡ Some r → length c.seen.waiting ≡ suc (length (released c.seen).waiting)
+    shorter_by r f = one_fewer c.seen sane (ap is_some f)
+
+    refusal_counted : (s : Seen) (a q : ℕ) (r : Option Reason) → length c.seen.waiting ≡ suc (length s.waiting) → AreCounted m n (with_refusal (moved c s) a q r)
+    refusal_counted s a q None l =
+        let x = h.applied in let y = h.repeated in let z = h.held in let u = h.released in let v = h.refused in
+        record { applied = x; repeated = y; held = z; released = omega arith; refused = omega arith }
+    refusal_counted s a q (Some r) l =
+        let k = length-append c.refused ((a, q, r) ∷ []) in
+        let x = h.applied in let y = h.repeated in let z = h.held in let u = h.released in let v = h.refused in
+        record { applied = x; repeated = y; held = z; released = omega arith; refused = omega arith }
+
+    go : (r : Option Released) → release_over c.seen ≡ r → AreCounted m n (with_release c r)
+    go None f = h
+    go (Some r) f = refusal_counted (released c.seen) r.author r.seq r.refusal (shorter_by r f)
