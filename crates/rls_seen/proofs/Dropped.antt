@@ -68,7 +68,7 @@ greatest_reached E v =
     filter_in (λ e. not (is_lt (epoch_cmp E.nodes e m))) m (E.top ∷ names E.nodes) (kept_in E.top E.nodes m (greatest_within_kept E.top E.nodes v))
       (ap not (not_true (is_lt (epoch_cmp E.nodes m m)) (λ h. less_self E.nodes m (less_is (epoch_cmp E.nodes m m) h))))
 
-needed_kept : (s : Seen) → IsSane s → (g : EpochName) → IsIn g (greatest_over s ∷ needed_over s) → is_kept s.epochs.top s.epochs.nodes g ≡ true
+pub needed_kept : (s : Seen) → IsSane s → (g : EpochName) → IsIn g (greatest_over s ∷ needed_over s) → is_kept s.epochs.top s.epochs.nodes g ≡ true
 needed_kept s sane g (inl e) = subst (λ x. is_kept s.epochs.top s.epochs.nodes x ≡ true) e (greatest_kept s.epochs.top s.epochs.nodes)
 needed_kept s sane g (inr p) =
     let E = s.epochs in

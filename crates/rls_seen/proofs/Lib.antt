@@ -21,3 +21,4 @@ pub mod Staying
 pub mod Making
 pub mod Dropped
 pub mod Repeating
+pub mod Numbers
