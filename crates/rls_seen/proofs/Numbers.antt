@@ -14,8 +14,8 @@ use Rattle.rls_rename.proofs.Hull.{IsFront, front_none, path_same, spanned_is, s
 use Rattle.rls_rename.proofs.Paths.{name_eq_is, name_eq_refl}
 use Rattle.rls_rename.proofs.SameNodes.{node_named, path_top}
 use Rattle.rls_rename.proofs.Windows.{kept-renamings, low_or_top, stays_is}
-use Rattle.rls_seen.specs.Seen.{Seen, greatest_over}
-use Rattle.rls_seen.specs.Kept.{needed_over, dropped, retained_over, kept_epochs, kept_former}
+use Rattle.rls_seen.specs.Seen.{Seen, greatest_over, unstable_over}
+use Rattle.rls_seen.specs.Kept.{needed_over, dropped, retained_over, kept_operations, kept_epochs, kept_former}
 use Rattle.rls_seen.specs.Sane.{IsSane}
 use Rattle.rls_seen.proofs.Dropped.{needed_kept}
 
@@ -134,6 +134,10 @@ length-spanned top ns d b e es k =
     one fs false false g h c = absurd (cc)
 
 -- ---- after dropping
+
+pub kept_operations_dropped : (s : Seen) → kept_operations (dropped s) ≡ length (unstable_over s)
+unfolding dropped
+kept_operations_dropped s = refl
 
 pub kept_epochs_dropped : (s : Seen) → IsSane s → kept_epochs (dropped s) ≡ length (retained_over s)
 unfolding dropped part retained_over

@@ -2,6 +2,7 @@
 use Rattle.std.proofs.Common.{◌≡◌, ℕ, zero, suc, ◌+◌, ◌<◌, ◌++◌, Bool, true, false, cond, List, [], ◌∷◌, length, refl, sym, ap, ◌∙◌, subst, Option, Some, None}
 use Rattle.rls_ops.specs.declared.op.Op.{Op}
 use Rattle.rls_ops.specs.declared.message.Message.{Message}
+use Rattle.rls_model.specs.declared.receipt.Taken.{Taken}
 use Rattle.rls_model.specs.Answers.{Reason, Answer, Applies, Repeats, Waits, Refuses, Released}
 use Rattle.rls_model.specs.Receiving.{State, receive, receive_after, release, release_after}
 use Rattle.rls_model.specs.Taking.{Limit, has_room, one_less, Progress, acknowledge, take_within}
@@ -9,7 +10,7 @@ use Rattle.rls_model.specs.Taking as model
 use Rattle.rls_model.specs.WellFormed.{IsOp, IsVector}
 use Rattle.rls_seen.specs.Seen.{Seen, members}
 use Rattle.rls_seen.specs.Over.{answer_over, received, release_over, released, acknowledged}
-use Rattle.rls_seen.specs.Messages.{Course, started, moved, with_answer, with_refusal, with_release, receive_step, release_step, release_steps, with_releases, acknowledge_step, take_ops, taken_within, AreOps, IsMessage}
+use Rattle.rls_seen.specs.Messages.{Course, started, moved, with_answer, with_refusal, with_release, receive_step, release_step, release_steps, with_releases, acknowledge_step, take_ops, taken_within, taken_of, AreOps, IsMessage}
 use Rattle.rls_seen.specs.Stands.{StandsFor}
 use Rattle.rls_seen.proofs.Receiving.{received_stands}
 use Rattle.rls_seen.proofs.Releasing.{released_stands}
@@ -110,3 +111,22 @@ unfolding taken_within take_within
 taken_stands limit s t m w h =
     acknowledge_goes (members s) (take_ops (started limit s) m.ops) (model.take_ops (model.started limit t) m.ops) m.from m.vector w.from w.vector
     (ops_go m.ops (members s) (started limit s) (model.started limit t) w.ops (started_goes limit s t h))
+
+taken_record : ℕ → ℕ → ℕ → ℕ → List (ℕ × ℕ × Reason) → Taken
+taken_record a b c d rs = record { applied = a; released = b; repeated = c; held = d; refused = rs }
+
+counted_alike : (n : ℕ) (c : Course) (p : Progress) → Goes n c p → taken_of c ≡ model.taken p
+unfolding taken_record
+counted_alike n c p g =
+    ap (λ a. taken_record a c.released c.repeated c.held c.refused) g.applied
+    ∙ (ap (λ b. taken_record p.applied b c.repeated c.held c.refused) g.released
+    ∙ (ap (λ x. taken_record p.applied p.released x c.held c.refused) g.repeated
+    ∙ (ap (λ d. taken_record p.applied p.released p.repeated d c.refused) g.held
+    ∙ ap (taken_record p.applied p.released p.repeated p.held) g.refused)))
+
+-- and counts the same
+pub taken_alike : (limit : Limit) (s : Seen) (t : State) (m : Message) → IsMessage (members s) m → StandsFor s t
+    → (taken_of (taken_within limit s m) ≡ model.taken (take_within limit t m)) × StandsFor (taken_within limit s m).seen (take_within limit t m).state
+taken_alike limit s t m w h =
+    let g = taken_stands limit s t m w h in
+    (counted_alike (members s) (taken_within limit s m) (take_within limit t m) g, g.stands)

@@ -41,7 +41,7 @@ use Rattle.rls_model.proofs.Sorted.{Entry, IsBelow, AreAbove, Rises, AreApart, A
 use Rattle.rls_model.proofs.Spliced.{entries, entries_rise}
 use Rattle.rls_seen.specs.Seen.{Seen, greatest_over, idents_over}
 use Rattle.rls_seen.specs.Over.{placed_over, added_over, renamed_over, is_greatest_over, text_after}
-use Rattle.rls_seen.specs.Sane.{IsSane, IsCovered, MayApply}
+use Rattle.rls_seen.specs.Sane.{IsSane, IsCovered, MayApply, IsNewborn}
 use Rattle.rls_seen.proofs.Accepting.{added_go}
 use Rattle.rls_seen.proofs.Fitting.{Facts, facts, change, name_new}
 use Rattle.rls_seen.proofs.TextLists.{ids, moved, rises_of, ident_in, idents_of, rises_filter, rises_map, entry_in, in_entry}
@@ -118,11 +118,6 @@ same : (ss ts : List Stem) (top : EpochName) (ns : List Node) (es : List Entry) 
 same ss ts top ns es m w = record { idents = w.idents; known = λ x q. known_more ss ts top ns (greatest top ns) x m (w.known x q) }
 
 -- ---- an insertion
-
--- what an insertion adds
-pub record IsNewborn (s : Seen) (o : Op) (first : List Tuple) (text : List ℕ) : Type 0 where
-  pub idents : AreIdents (map (placed_over s o.epoch) (run_idents first (length text)))
-  pub new : (x : List Tuple) → IsIn x (map (placed_over s o.epoch) (run_idents first (length text))) → IsIn x (idents_over s) → ⊥
 
 ids_zip : (xs : List (List Tuple)) (cs : List ℕ) → length xs ≡ length cs → ids (zip xs cs) ≡ xs
 ids_zip [] [] e = refl

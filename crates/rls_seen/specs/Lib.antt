@@ -6,3 +6,4 @@ pub mod Kept
 pub mod Sane
 pub mod Stands
 pub mod Computing
+pub mod SeenLaws

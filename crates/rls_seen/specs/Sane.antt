@@ -1,5 +1,5 @@
 -- What holds of each replica, whether or not a history stands behind it.
-use Rattle.std.specs.Prelude.{◌≡◌, ℕ, ◌+◌, ◌<◌, ◌≤◌, pos, ◌≤ℤ◌, List, [], ◌∷◌, length, slice_index, All, None, IsTrue}
+use Rattle.std.specs.Prelude.{◌≡◌, ℕ, ◌+◌, ◌<◌, ◌≤◌, pos, ◌≤ℤ◌, List, [], ◌∷◌, length, slice_index, All, None, IsTrue, map}
 use Rattle.std.specs.List.{list_all}
 use Rattle.rls_ident.specs.declared.tuple.Tuple.{Tuple}
 use Rattle.rls_ident.specs.declared.epoch_name.EpochName.{EpochName}
@@ -9,7 +9,7 @@ use Rattle.rls_ident.specs.Identifiers.{last_of, least_offset}
 use Rattle.rls_ident.specs.Lists.{IsIn}
 use Rattle.rls_ident.specs.Tuples.{replica_of, seq_of, offset_of}
 use Rattle.rls_ident.specs.Vectors.{at_most, raise}
-use Rattle.rls_runs.specs.Runs.{AreIdents}
+use Rattle.rls_runs.specs.Runs.{AreIdents, run_idents}
 use Rattle.rls_rename.specs.Tree.{Node, Epochs, AreNodes, AreBelow, is_kept}
 use Rattle.rls_ops.specs.declared.op.Op.{Op}
 use Rattle.rls_ops.specs.declared.op.Body.{Body}
@@ -22,7 +22,7 @@ use Rattle.rls_model.specs.Receiving.{comes_before}
 use Rattle.rls_model.specs.Stems.{is_used, stands_before}
 use Rattle.rls_model.specs.WellFormed.{IsSmall, IsLarge, IsOp}
 use Rattle.rls_seen.specs.Seen.{Seen, vector, members, stable_over, unstable_over, greatest_over, translate_over, idents_over}
-use Rattle.rls_seen.specs.Over.{refusal_over}
+use Rattle.rls_seen.specs.Over.{refusal_over, placed_over}
 
 -- ---- stems
 
@@ -129,3 +129,8 @@ pub record MayWait (s : Seen) (o : Op) : Type 0 where
   pub whole : IsOp o
   pub shape : shape_fault (members s) o ≡ None
   pub above : slice_index (vector s) o.author < o.seq
+
+-- what an insertion adds: identifiers that rise, none of which is in the text
+pub record IsNewborn (s : Seen) (o : Op) (first : List Tuple) (text : List ℕ) : Type 0 where
+  pub idents : AreIdents (map (placed_over s o.epoch) (run_idents first (length text)))
+  pub new : (x : List Tuple) → IsIn x (map (placed_over s o.epoch) (run_idents first (length text))) → IsIn x (idents_over s) → ⊥

@@ -1,0 +1,5 @@
+use Rattle.rls_seen.proofs.Sending.{message_alike}
+use Rattle.rls_seen.proofs.laws.message.Goals as goal
+
+pub returns : goal.returns
+returns c = record { alike = message_alike }
