@@ -9,7 +9,7 @@ use Rattle.rls_script.proofs.parsing.unescaped.Goals as goal
 pub loop-character-init : goal.loop-character-init
 loop-character-init c = record {
   utf8 = rw (c.into_iter-character-iterator.ensures.into_iter_gives, c.chars-character-items.ensures.rest) c.utf8.escaped;
-  text = rw (c.in_ok-plain.ensures.items, c.into_iter-character-iterator.ensures.into_iter_gives, c.chars-character-items.ensures.rest) (with_no_chars (text_behind false (chars c.args.escaped.now)));
+  text = rw (c.new-plain.ensures.empty, c.into_iter-character-iterator.ensures.into_iter_gives, c.chars-character-items.ensures.rest) (with_no_chars (text_behind false (chars c.args.escaped.now)));
 }
 
 pub loop-character-preserved-then-is_opening : goal.loop-character-preserved-then-is_opening
@@ -21,7 +21,7 @@ loop-character-preserved-then-is_opening c =
     let step = c.in-Some.ensures.steps.0 in
     record {
       utf8 = IsUtf8-past_char bs rest character utf8 step;
-      text = opens c.loop-character.plain.items c.loop-character.is_escaped character (chars rest) (text_behind false (chars c.args.escaped.now))
+      text = opens c.loop-character.plain c.loop-character.is_escaped character (chars rest) (text_behind false (chars c.args.escaped.now))
           (rw (chars_past_char bs rest character utf8 step) at c.loop-character.invariant.text) (sym c.is_opening.ensures.opening ∙ c.if-is_opening.true);
     }
 
@@ -34,7 +34,7 @@ returns-in_default c =
     let utf8 = c.loop-character.invariant.utf8 in
     let step = c.in-Some.ensures.steps.0 in
     record {
-      text = sym (is_bad c.loop-character.plain.items c.loop-character.is_escaped character (chars rest) (text_behind false (chars c.args.escaped.now))
+      text = sym (is_bad c.loop-character.plain c.loop-character.is_escaped character (chars rest) (text_behind false (chars c.args.escaped.now))
           (rw (chars_past_char bs rest character utf8 step) at c.loop-character.invariant.text) (sym c.is_opening.ensures.opening ∙ c.if-is_opening.false)
           (sym c.meaning.ensures.meaning ∙ c.in_default.is));
     }
@@ -48,7 +48,7 @@ loop-character-preserved c =
     let step = c.in-Some.ensures.steps.0 in
     record {
       utf8 = IsUtf8-past_char bs rest character utf8 step;
-      text = rw c.in_ok-push.ensures.items (means c.loop-character.plain.items c.loop-character.is_escaped character (chars rest) (text_behind false (chars c.args.escaped.now))
+      text = rw c.in_ok-push.ensures.ok (means c.loop-character.plain c.loop-character.is_escaped character (chars rest) (text_behind false (chars c.args.escaped.now))
           (rw (chars_past_char bs rest character utf8 step) at c.loop-character.invariant.text) c.in-Some-meaning.meant (sym c.is_opening.ensures.opening ∙ c.if-is_opening.false)
           (sym c.meaning.ensures.meaning ∙ c.in-Some-meaning.is));
     }
@@ -57,12 +57,12 @@ pub returns-then-is_escaped : goal.returns-then-is_escaped
 unfolding text_of
 returns-then-is_escaped c =
     let none = no_chars (chars_rest c.loop-character.character-iterator) c.in-None.ensures.steps.0.0 in
-    record { text = sym (is_open c.loop-character.plain.items (text_behind false (chars c.args.escaped.now)) (rw (none, c.if-is_escaped.true) at c.loop-character.invariant.text)) }
+    record { text = sym (is_open c.loop-character.plain (text_behind false (chars c.args.escaped.now)) (rw (none, c.if-is_escaped.true) at c.loop-character.invariant.text)) }
 
 pub returns : goal.returns
 unfolding text_of
 returns c =
     let none = no_chars (chars_rest c.loop-character.character-iterator) c.in-None.ensures.steps.0.0 in
     record {
-      text = rw c.from_vec.ensures.chars (sym (is_whole c.loop-character.plain.items (text_behind false (chars c.args.escaped.now)) (rw (none, c.if-is_escaped.false) at c.loop-character.invariant.text)));
+      text = sym (is_whole c.loop-character.plain (text_behind false (chars c.args.escaped.now)) (rw (none, c.if-is_escaped.false) at c.loop-character.invariant.text));
     }

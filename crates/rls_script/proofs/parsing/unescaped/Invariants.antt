@@ -8,5 +8,5 @@ use Rattle.rls_script.proofs.parsing.unescaped.Given as goal
 abbrev pub invariant-loop-character : goal.invariant-loop-character
 invariant-loop-character l = record {
   utf8 : IsUtf8 (chars_rest l.character-iterator);
-  text : with_chars l.plain.items (text_behind l.is_escaped (chars (chars_rest l.character-iterator))) ≡ text_behind false (chars l.escaped);
+  text : with_chars l.plain (text_behind l.is_escaped (chars (chars_rest l.character-iterator))) ≡ text_behind false (chars l.escaped);
 }
