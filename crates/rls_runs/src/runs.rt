@@ -1,9 +1,10 @@
 //! Lists of identifiers, kept as runs.
 
-ghost use Rattle.std.specs.Prelude.{◌≡◌};
+ghost use Rattle.std.specs.Prelude.{◌≡◌, IfOk};
 ghost use Rattle.rls_runs.specs.Runs.{runs_of};
 
 use crate::run::Run;
+use std::alloc::{AllocError, Global};
 use std::marker::Model;
 
 /// A strictly increasing list of identifiers, kept as its maximal runs.
@@ -32,4 +33,23 @@ impl Runs {
     {
         &self.runs
     }
+
+    /// The same again.
+    pub fn copy(&self) -> Result<Runs, AllocError>
+        ensures copy { IfOk result (λ runs. runs ≡ self.now) }
+    {
+        Ok(Runs {
+            runs: copy_runs(*self.runs.allocator(), &self.runs)?,
+        })
+    }
+}
+
+fn copy_runs(alloc: Global, runs: &[Run]) -> Result<Vec<Run>, AllocError>
+    ensures copy { IfOk result (λ copy. copy.items ≡ runs.now) }
+{
+    let mut copy = Vec::with_capacity(alloc, runs.len())?;
+    for run in runs {
+        copy.push(run.copy()?)?;
+    }
+    Ok(copy)
 }
