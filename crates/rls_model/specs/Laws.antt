@@ -20,6 +20,7 @@ use Rattle.rls_ops.specs.declared.op.Body.TheVariants.{Insert, Rename}
 use Rattle.rls_ops.specs.declared.message.Message.{Message}
 use Rattle.rls_model.specs.declared.edit.Edit.{Edit}
 use Rattle.rls_model.specs.declared.edit.Edit.TheVariants as edits
+use Rattle.rls_model.specs.declared.event.Event.{Event}
 use Rattle.rls_model.specs.History.{Entry, Accepted, Acknowledged, History, Then, me_of, ops, count, count_of, members_of, has_left, row}
 use Rattle.rls_model.specs.Stability.{stable, unstable}
 use Rattle.rls_model.specs.Stems.{stems, stem_of, is_used, may_use, stems_after}
@@ -33,7 +34,7 @@ use Rattle.rls_model.specs.Retained.{marked, retained}
 use Rattle.rls_model.specs.Editing.{next_seq, made, edit_fault}
 use Rattle.rls_model.specs.Taking.{Limit, Progress, take_within}
 use Rattle.rls_model.specs.EditRun.{edit_within, Done, run_edits}
-use Rattle.rls_model.specs.Worlds.{World, empty_world, Happening, run, AreEvents, AreWhole}
+use Rattle.rls_model.specs.Worlds.{World, empty_world, Happening, happens, run, AreEvents, AreWhole}
 -- what a renaming means and keeps, what translation keeps, the smallest connected part, and windows
 pub use Rattle.rls_rename.specs.Laws.{Meaning, OrderKept, Inverse, LastKept, PathFree, Spanned, WindowSame}
 -- the test of operations
@@ -181,6 +182,10 @@ IsAt w i s = slice_get w.states i ≡ Some s
 -- each state is a legal history with waiting operations that fit to it
 abbrev pub WorldsLegal : Type 0
 WorldsLegal = (w : World) (hs : List Happening) (i : ℕ) (s : State) → IsAfter w hs → IsAt w i s → IsLegal s.history × IsSound s
+
+-- an event that is cut short behind no step changes nothing; behind enough of them it is whole
+abbrev pub CutShort : Type 0
+CutShort = (w : World) (e : Event) → (happens (Some 0) w e ≡ w) × ((n : ℕ) × ((m : ℕ) → n ≤ m → happens (Some m) w e ≡ happens None w e))
 
 -- two members with equal counts have the same operations and show the same
 abbrev pub EqualVectors : Type 0
