@@ -24,7 +24,7 @@ use Rattle.rls_codec.proofs.PartFormats.{small, large, ident, next_run, vector, 
 use Rattle.rls_runs.proofs.RunsOf.{runs_of_idents}
 
 -- runs that fit one behind the other are apart
-apart_from : (before : Option (List Tuple × ℕ)) (rs : List (List Tuple × ℕ)) → Chained FitsBehind before rs → are_apart before rs ≡ true
+pub apart_from : (before : Option (List Tuple × ℕ)) (rs : List (List Tuple × ℕ)) → Chained FitsBehind before rs → are_apart before rs ≡ true
 apart_from before [] c = refl
 apart_from before (r ∷ rs) c = and_from (nat_lt 0 r.1 && is_apart before r) (are_apart (Some r) rs) (and_from (nat_lt 0 r.1) (is_apart before r) (and_parts (nat_lt 0 r.1) (int_le (offset_of (last_of r.0) +ℤ pos r.1) (pos 1073741824)) c.0.0.2).0 c.0.1) (apart_from (Some r) rs c.1)
 

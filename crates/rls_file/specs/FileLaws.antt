@@ -9,6 +9,7 @@ use Rattle.rls_model.specs.Legal.{IsLegal}
 use Rattle.rls_model.specs.Receiving.{State}
 use Rattle.rls_model.specs.declared.parts.Parts.{Parts}
 use Rattle.rls_parts.specs.Rules.{Broken, broken}
+use Rattle.rls_parts.specs.Given.{AreGiven}
 use Rattle.rls_file.specs.Files.{Content, Journal, Snapshot, content_bytes, entries_of, journal_bytes, stem_bytes, epoch_bytes, text_run_bytes, snapshot_bytes, place_of_broken}
 use Rattle.rls_file.specs.ReadingFiles.{file_of}
 use Rattle.rls_file.specs.SpelledFiles.{FitWaiting, IsSpelledContent, IsSpelledSnapshot}
@@ -66,3 +67,7 @@ named_by form p b =
 abbrev pub PlacesOfBroken : Type 0
 PlacesOfBroken = (form : ℕ) (p : Parts) (b : Broken) (named : List ℕ) → IsSpelledSnapshot form p → named_by form p b ≡ Some named
     → StandsAt (snapshot_bytes form p) (place_of_broken form p b) named
+
+-- parts that a file spells may be tested
+abbrev pub PartsAreGiven : Type 0
+PartsAreGiven = (form : ℕ) (p : Parts) → IsSpelledSnapshot form p → AreGiven p

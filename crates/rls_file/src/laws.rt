@@ -1,6 +1,6 @@
 //! Laws of files. Each call runs nothing and takes no memory; its contract states the fact.
 
-ghost use Rattle.rls_file.specs.FileLaws.{FilesAreRead, ReadAreFiles, JournalsAreRead, PlacesOfBroken};
+ghost use Rattle.rls_file.specs.FileLaws.{FilesAreRead, ReadAreFiles, JournalsAreRead, PlacesOfBroken, PartsAreGiven};
 
 /// A file is read exactly where the bytes are one, of any form: what is spelled is read, and what is read is spelled so.
 pub fn files()
@@ -16,4 +16,9 @@ pub fn journals()
 /// A broken rule of a snapshot has the place of the first byte of what it names: an entry, or the number of a list.
 pub fn places()
     ensures places { PlacesOfBroken }
+{}
+
+/// The parts that a file spells meet all that is asked of parts before their rules are tested.
+pub fn given()
+    ensures given { PartsAreGiven }
 {}
