@@ -1,7 +1,7 @@
 -- An operation that is accepted, seen by a history that the replica stands for.
-use Rattle.std.proofs.Common.{◌≡◌, ℕ, zero, suc, ◌+◌, ◌<◌, ◌==◌, ◌&&◌, ◌||◌, ◌++◌, not, slice_index, Bool, true, false, cond, List, [], ◌∷◌, length, map, get_or, set, refl, sym, ap, ◌∙◌, subst, arith, ⊎_elim, if◌then◌else◌}
+use Rattle.std.proofs.Common.{◌≡◌, ℕ, ◌+◌, ◌<◌, ◌==◌, ◌&&◌, ◌||◌, ◌++◌, not, slice_index, Bool, true, false, cond, List, [], ◌∷◌, length, map, get_or, set, refl, sym, ap, ◌∙◌, subst, arith, ⊎_elim, if◌then◌else◌}
 use Rattle.std.specs.Prelude.{filter, zip, pos}
-use Rattle.std.proofs.lemmas.List.{get_or-set_same, get_or-set_other, length-set}
+use Rattle.std.proofs.lemmas.List.{get_or-set_same, get_or-set_other}
 use Rattle.rls_ident.specs.declared.tuple.Tuple.{Tuple}
 use Rattle.rls_ident.specs.declared.epoch_name.EpochName.{EpochName}
 use Rattle.rls_ident.specs.declared.epoch_name.EpochName.TheVariants.{Of}
@@ -17,7 +17,7 @@ use Rattle.rls_rename.proofs.Windows.{translate_window}
 use Rattle.rls_ops.specs.declared.op.Op.{Op}
 use Rattle.rls_ops.specs.declared.op.Body.{Body}
 use Rattle.rls_ops.specs.declared.op.Body.TheVariants.{Insert, Delete, Rename, Leave}
-use Rattle.rls_ops.specs.Rows.{AcksSeen, AreRows, HaveLength, row_of, left, raised}
+use Rattle.rls_ops.specs.Rows.{AcksSeen, AreRows, row_of, left, raised}
 use Rattle.rls_ops.proofs.KeptRows.{raised_rows, parted_rows}
 use Rattle.rls_model.specs.Document.{has_ident, put_all, export}
 use Rattle.rls_model.specs.Epochs.{greatest, translate, nodes_after, renaming_of}

@@ -1,21 +1,20 @@
 -- A replica stays sane where an operation is accepted that may be applied.
-use Rattle.std.proofs.Common.{◌≡◌, ℕ, zero, suc, ◌+◌, ◌^◌, ◌<◌, ◌≤◌, ◌==◌, ◌||◌, ◌++◌, not, nat_le, slice_index, Bool, true, false, cond, List, [], ◌∷◌, length, get_or, refl, sym, ap, ◌∙◌, subst, arith, inl, inr, ◌⊎◌, ⊎_elim, None, IsTrue}
+use Rattle.std.proofs.Common.{◌≡◌, ℕ, ◌+◌, ◌^◌, ◌<◌, ◌≤◌, ◌==◌, ◌||◌, ◌++◌, not, slice_index, Bool, true, false, cond, List, [], ◌∷◌, length, get_or, refl, sym, ap, ◌∙◌, subst, arith, inl, inr, ◌⊎◌, ⊎_elim}
 use Rattle.std.specs.Prelude.{All, ◌&&◌, nat_lt, pos}
 use Rattle.std.proofs.lemmas.Grind.{get_or_default_zero}
-use Rattle.rls_ident.specs.declared.tuple.Tuple.{Tuple}
 use Rattle.rls_ident.specs.declared.epoch_name.EpochName.{EpochName}
 use Rattle.rls_ident.specs.declared.epoch_name.EpochName.TheVariants.{Origin, Of}
 use Rattle.rls_ident.specs.EpochNames.{name_eq, is_within}
 use Rattle.rls_ident.specs.Lists.{IsIn}
 use Rattle.rls_ident.specs.Vectors.{at_most, raise}
 use Rattle.rls_ident.proofs.Members.{bool_cases, true_false, and_true, eq_is, eq_not, eq_refl, or_left, or_right, le_is, le_test, not_is, not_lt_is, snoc_split, in_filter, filter_in}
-use Rattle.rls_rename.specs.Tree.{Node, Epochs, name_of, is_of, has_node, is_kept}
+use Rattle.rls_rename.specs.Tree.{Node, Epochs, is_of, has_node, is_kept}
 use Rattle.rls_rename.proofs.Kept.{kept_more}
 use Rattle.rls_rename.proofs.Paths.{name_eq_is}
 use Rattle.rls_ops.specs.declared.op.Op.{Op}
 use Rattle.rls_ops.specs.declared.op.Body.{Body}
 use Rattle.rls_ops.specs.declared.op.Body.TheVariants.{Insert, Delete, Rename, Leave}
-use Rattle.rls_ops.specs.Rows.{AcksSeen, AreRows, row_of, left, stable_of, is_covered, missing_for}
+use Rattle.rls_ops.specs.Rows.{AreRows, row_of, left, stable_of, is_covered, missing_for}
 use Rattle.rls_ops.specs.Shapes.{body_limit, body_len}
 use Rattle.rls_ops.proofs.KeptRows.{length-raise}
 use Rattle.rls_model.specs.declared.parts.Stem.{Stem}
@@ -23,20 +22,20 @@ use Rattle.rls_model.specs.Epochs.{nodes_after, renaming_of}
 use Rattle.rls_model.specs.History.{is_leave}
 use Rattle.rls_model.specs.Receiving.{without}
 use Rattle.rls_model.specs.Stems.{stems_after}
-use Rattle.rls_model.specs.WellFormed.{IsSmall, IsOp}
+use Rattle.rls_model.specs.WellFormed.{IsSmall}
 use Rattle.rls_model.proofs.Dropping.{at_most_index}
 use Rattle.rls_model.proofs.OneTree.{index-raise_same, index-raise_le}
 use Rattle.rls_model.proofs.Stable.{at_most_trans}
 use Rattle.rls_model.proofs.WorldsLists.{raise_other}
-use Rattle.rls_seen.specs.Seen.{Seen, vector, members, stable_over, unstable_over}
-use Rattle.rls_seen.specs.Over.{acks_after, epochs_after, text_after, accepted}
-use Rattle.rls_seen.specs.Sane.{IsSane, IsCounted, IsCovered, AreEpochs, IsInRange, IsLogOf, IsLast, AreStems, AreHeld, Follow, MayApply}
-use Rattle.rls_seen.proofs.Accepting.{acks_me, acks_mine, places_after, row_after, left_after}
-use Rattle.rls_seen.proofs.Fitting.{Facts, facts, change, stems_accepted}
+use Rattle.rls_seen.specs.Seen.{Seen, vector, members}
+use Rattle.rls_seen.specs.Over.{acks_after, epochs_after, accepted}
+use Rattle.rls_seen.specs.Sane.{IsSane, IsCounted, IsCovered, AreEpochs, IsInRange, IsLast, AreStems, AreHeld, Follow, MayApply}
+use Rattle.rls_seen.proofs.Accepting.{acks_mine, places_after, row_after, left_after}
+use Rattle.rls_seen.proofs.Fitting.{Facts, facts, stems_accepted}
 use Rattle.rls_seen.proofs.Held.{held_accepted}
 use Rattle.rls_seen.proofs.Logs.{follow_more}
 use Rattle.rls_seen.proofs.StableRows.{stable_accepted}
-use Rattle.rls_seen.proofs.Written.{IsWritten, later_used, rename_covered, rename_tree, written_after}
+use Rattle.rls_seen.proofs.Written.{later_used, rename_covered, rename_tree, written_after}
 
 -- ---- counts
 
@@ -48,9 +47,9 @@ small_raised v a l n h = λ k d i.
     let e = get_or_default_zero (raise v a) k d i in
     let m : length (raise v a) ≡ length v = length-raise v a in
     subst IsSmall (sym e)
-      (bool_cases (a == k)
-        (λ f. let g = index-raise_same v a l in subst (λ b. IsSmall (slice_index (raise v a) b)) (eq_is a k f) (omega arith))
-        (λ f. subst IsSmall (sym (raise_other v a k (eq_not a k f))) (index_at v h k (omega arith))))
+    (bool_cases (a == k)
+    (λ f. let g = index-raise_same v a l in subst (λ b. IsSmall (slice_index (raise v a) b)) (eq_is a k f) (omega arith))
+    (λ f. subst IsSmall (sym (raise_other v a k (eq_not a k f))) (index_at v h k (omega arith))))
 
 -- no row counts more of its own member
 own_after : (s : Seen) (a : ℕ) (b : Body) → AreRows s.acks → ((c : ℕ) → c < members s → slice_index (row_of s.acks c) c ≤ slice_index (vector s) c) → (c : ℕ) → c < members s
@@ -102,14 +101,14 @@ epochs_go s o (Rename former) sane m e =
       nodes = t.0;
       below = t.1;
       counted = λ g k. ⊎_elim
-        (λ h. subst (IsCounted (raise v o.author)) (name_eq_is (Of o.author o.seq) g h) new)
-        (λ h. counted_raised v o.author g (sane.epochs.counted g h))
-        (new_or_old s.epochs.top g node s.epochs.nodes k);
+          (λ h. subst (IsCounted (raise v o.author)) (name_eq_is (Of o.author o.seq) g h) new)
+          (λ h. counted_raised v o.author g (sane.epochs.counted g h))
+          (new_or_old s.epochs.top g node s.epochs.nodes k);
       few = λ n p. ⊎_elim (λ h. subst (λ (x : Node). length x.renaming.former ≤ 4194304) h few) (λ h. sane.epochs.few n h) p;
       covered = λ n p. ⊎_elim
-        (λ h. subst (IsCovered (stems_after s.stems o.author o.seq o.body)) h (rename_covered s o former sane f e))
-        (λ h. still_covered s o sane f n h)
-        p;
+          (λ h. subst (IsCovered (stems_after s.stems o.author o.seq o.body)) h (rename_covered s o former sane f e))
+          (λ h. still_covered s o sane f n h)
+          p;
     }
 
 kept_after : (s : Seen) (o : Op) (b : Body) (e : EpochName) → is_kept s.epochs.top s.epochs.nodes e ≡ true → is_kept s.epochs.top (nodes_after s.epochs.nodes o b) e ≡ true
@@ -203,18 +202,21 @@ accepted_sane s o sane m r =
       idents = w.idents;
       used = w.known;
       waiting = subst (λ x. AreHeld (length x) x (without a o.seq s.waiting)) (sym mine)
-        (subst (λ n. AreHeld n u (without a o.seq s.waiting)) (sym len) (held_accepted (members s) v a o.seq s.waiting f.next sane.waiting));
-      log = (sane.log.0, record {
+          (subst (λ n. AreHeld n u (without a o.seq s.waiting)) (sym len) (held_accepted (members s) v a o.seq s.waiting f.next sane.waiting));
+      log = (
+        sane.log.0,
+        record {
           stable = at_most_trans sane.log.0 (stable_of s.acks) (stable_of new) sane.log.1.stable grows;
           follow = subst (λ x. Follow (length x) sane.log.0 (s.log ++ o ∷ []) x) (sym mine)
-            (subst (λ n. Follow n sane.log.0 (s.log ++ o ∷ []) u) (sym len) (follow_more (members s) sane.log.0 s.log v o m.whole m.shape f.next m.causes sane.log.1.follow));
-        });
+              (subst (λ n. Follow n sane.log.0 (s.log ++ o ∷ []) u) (sym len) (follow_more (members s) sane.log.0 s.log v o m.whole m.shape f.next m.causes sane.log.1.follow));
+        },
+      );
       unstable = λ x p. ⊎_elim
-        (λ q. kept_after s o b x.epoch (sane.unstable x (missing_less (stable_of s.acks) (stable_of new) s.log x grows q)))
-        (λ e. subst (λ (y : Op). is_kept s.epochs.top (nodes_after s.epochs.nodes o b) y.epoch ≡ true) e (kept_after s o b o.epoch f.kept))
-        (unstable_split (stable_of new) s.log o x p);
+          (λ q. kept_after s o b x.epoch (sane.unstable x (missing_less (stable_of s.acks) (stable_of new) s.log x grows q)))
+          (λ e. subst (λ (y : Op). is_kept s.epochs.top (nodes_after s.epochs.nodes o b) y.epoch ≡ true) e (kept_after s o b o.epoch f.kept))
+          (unstable_split (stable_of new) s.log o x p);
       leaves = λ x p l. ⊎_elim
-        (λ q. last_before s o x sane f (sane.leaves x q l))
-        (λ e. subst (IsLast new) e (last_now s o sane f (subst (λ (y : Op). is_leave y.body ≡ true) (sym e) l)))
-        (snoc_split x o s.log p);
+          (λ q. last_before s o x sane f (sane.leaves x q l))
+          (λ e. subst (IsLast new) e (last_now s o sane f (subst (λ (y : Op). is_leave y.body ≡ true) (sym e) l)))
+          (snoc_split x o s.log p);
     }

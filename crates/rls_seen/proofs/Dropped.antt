@@ -1,20 +1,15 @@
 -- A replica stays sane where it drops what is stable.
-use Rattle.std.proofs.Common.{◌≡◌, ℕ, zero, suc, ◌<◌, ◌≤◌, ◌||◌, ◌++◌, not, Bool, true, false, List, [], ◌∷◌, length, map, refl, sym, ap, ◌∙◌, subst, arith, inl, inr, ◌⊎◌, ⊎_elim}
-use Rattle.std.specs.Prelude.{filter}
-use Rattle.std.specs.declared.cmp.Ordering.{Ordering}
+use Rattle.std.proofs.Common.{◌≡◌, ℕ, not, true, List, [], ◌∷◌, refl, sym, ap, ◌∙◌, subst, inl, inr, ⊎_elim}
 use Rattle.std.specs.declared.cmp.Ordering.TheVariants.{Less}
 use Rattle.std.specs.Cmp.Lexicographic.{slice_cmp}
 use Rattle.std.specs.Ordering.{is_lt}
-use Rattle.rls_ident.specs.declared.tuple.Tuple.{Tuple}
 use Rattle.rls_ident.specs.declared.epoch_name.EpochName.{EpochName}
 use Rattle.rls_ident.specs.EpochNames.{name_eq, is_within}
 use Rattle.rls_ident.specs.Lists.{IsIn}
-use Rattle.rls_ident.specs.Vectors.{at_most}
-use Rattle.rls_ident.proofs.Members.{bool_cases, not_true, in_left, in_right, in_split, in_filter, filter_in, in_map, map_in, less_is, or_left}
+use Rattle.rls_ident.proofs.Members.{not_true, in_left, in_right, in_split, in_filter, filter_in, in_map, map_in, less_is, or_left}
 use Rattle.rls_rename.specs.Renaming.{Renaming}
 use Rattle.rls_rename.specs.Tree.{Node, Epochs, AreNodes, AreBelow, has_node, is_kept, names, renaming_cmp, path, greatest, greatest_within, translate, epoch_cmp}
-use Rattle.rls_rename.specs.Connected.{is_spanned, top_path}
-use Rattle.rls_rename.specs.Keeping.{kept_nodes, is_below, part, reached, kept_part}
+use Rattle.rls_rename.specs.Keeping.{is_below, reached, kept_part}
 use Rattle.rls_rename.proofs.Hull.{kept_in, in_kept, needed_spanned, path_same}
 use Rattle.rls_rename.proofs.Kept.{greatest_kept, greatest_within_kept}
 use Rattle.rls_rename.proofs.Order.{within_allowed, within_top, longer_less, less_self}
@@ -23,12 +18,11 @@ use Rattle.rls_rename.proofs.SameNodes.{path_top}
 use Rattle.rls_rename.proofs.Smallest.{part_is}
 use Rattle.rls_rename.proofs.Windows.{Window, kept_window, translate_window, greatest_window, keep_window, keep_kept}
 use Rattle.rls_ops.specs.declared.op.Op.{Op}
-use Rattle.rls_ops.specs.Rows.{stable_of, missing_for, is_covered}
+use Rattle.rls_ops.specs.Rows.{is_covered}
 use Rattle.rls_model.proofs.Stable.{at_most_refl}
-use Rattle.rls_seen.specs.Seen.{Seen, vector, members, stable_over, unstable_over, greatest_over, translate_over, idents_over}
+use Rattle.rls_seen.specs.Seen.{Seen, vector, members, stable_over, unstable_over, greatest_over}
 use Rattle.rls_seen.specs.Kept.{marked_over, needed_over, dropped}
-use Rattle.rls_seen.specs.Sane.{IsSane, IsUsed, AreEpochs, IsLast}
-use Rattle.rls_seen.proofs.Applied.{missing_less}
+use Rattle.rls_seen.specs.Sane.{IsSane, IsUsed}
 use Rattle.rls_seen.proofs.Logs.{follow_length, follow_dropped}
 use Rattle.rls_seen.proofs.Sending.{length-stable}
 use Rattle.rls_seen.proofs.StableRows.{stable_mine}
@@ -50,10 +44,10 @@ within_is_within E v n b e k w =
     let m = greatest_within top ns v in
     ⊎_elim
     (λ q. let less : epoch_cmp ns top e ≡ Less → ⊥ = λ l. within_top top ns v e k (inr w) (subst (λ x. epoch_cmp ns x e ≡ Less) (sym q) l) in
-      let p = path_top top ns b in
-      let r = longest_none ns top e p less in
-      let s : e ≡ top = path_same top ns n b e top k (top_is_kept top ns) (r ∙ sym p) in
-      subst (λ x. is_within x v ≡ true) (s ∙ sym q) w)
+    let p = path_top top ns b in
+    let r = longest_none ns top e p less in
+    let s : e ≡ top = path_same top ns n b e top k (top_is_kept top ns) (r ∙ sym p) in
+    subst (λ x. is_within x v ≡ true) (s ∙ sym q) w)
     (λ q. q)
     (within_allowed top ns v)
   where
@@ -66,7 +60,7 @@ greatest_reached : (E : Epochs) (v : List ℕ) → IsIn (greatest_within E.top E
 greatest_reached E v =
     let m = greatest_within E.top E.nodes v in
     filter_in (λ e. not (is_lt (epoch_cmp E.nodes e m))) m (E.top ∷ names E.nodes) (kept_in E.top E.nodes m (greatest_within_kept E.top E.nodes v))
-      (ap not (not_true (is_lt (epoch_cmp E.nodes m m)) (λ h. less_self E.nodes m (less_is (epoch_cmp E.nodes m m) h))))
+    (ap not (not_true (is_lt (epoch_cmp E.nodes m m)) (λ h. less_self E.nodes m (less_is (epoch_cmp E.nodes m m) h))))
 
 pub needed_kept : (s : Seen) → IsSane s → (g : EpochName) → IsIn g (greatest_over s ∷ needed_over s) → is_kept s.epochs.top s.epochs.nodes g ≡ true
 needed_kept s sane g (inl e) = subst (λ x. is_kept s.epochs.top s.epochs.nodes x ≡ true) e (greatest_kept s.epochs.top s.epochs.nodes)
@@ -94,10 +88,10 @@ part_left s sane =
     let b = sane.epochs.below in
     let t = part_is E (n, b) g es (needed_kept s sane) in
     subst (IsLeft s) t.3 (record {
-        window = keep_window E.top E.nodes n b g es t.0 t.1 t.2;
-        fewer = λ m p. (in_filter (is_below E.nodes g es) m E.nodes p).0;
-        needed = λ f p. keep_kept E.top E.nodes n b g es t.0 t.1 t.2 f (needed_kept s sane f p) (needed_spanned E.nodes n g es f p);
-      })
+      window = keep_window E.top E.nodes n b g es t.0 t.1 t.2;
+      fewer = λ m p. (in_filter (is_below E.nodes g es) m E.nodes p).0;
+      needed = λ f p. keep_kept E.top E.nodes n b g es t.0 t.1 t.2 f (needed_kept s sane f p) (needed_spanned E.nodes n g es f p);
+    })
 
 -- ---- all
 
@@ -113,27 +107,38 @@ dropped_sane s sane =
     let from = follow_length (members s) sane.log.0 s.log (vector s) sane.log.1.follow in
     let same : greatest E.top E.nodes ≡ g = greatest_window w.window (w.needed g (inl refl)) in
     record {
-      group = sane.group; few = sane.few; small = sane.small; rows = sane.rows; own = sane.own; stems = sane.stems;
+      group = sane.group;
+      few = sane.few;
+      small = sane.small;
+      rows = sane.rows;
+      own = sane.own;
+      stems = sane.stems;
       epochs = record {
-          nodes = w.window.nodes;
-          below = w.window.below;
-          counted = λ e k. sane.epochs.counted e (kept_window w.window e k);
-          few = λ n p. sane.epochs.few n (w.fewer n p);
-          covered = λ n p. sane.epochs.covered n (w.fewer n p);
-        };
-      within = (m, w.needed m (inr (in_left m (reached s.epochs st) (marked_over s) (greatest_reached s.epochs st))),
-        within_is_within s.epochs st sane.epochs.nodes sane.epochs.below sane.within.0 sane.within.1 sane.within.2);
+        nodes = w.window.nodes;
+        below = w.window.below;
+        counted = λ e k. sane.epochs.counted e (kept_window w.window e k);
+        few = λ n p. sane.epochs.few n (w.fewer n p);
+        covered = λ n p. sane.epochs.covered n (w.fewer n p);
+      };
+      within = (
+        m,
+        w.needed m (inr (in_left m (reached s.epochs st) (marked_over s) (greatest_reached s.epochs st))),
+        within_is_within s.epochs st sane.epochs.nodes sane.epochs.below sane.within.0 sane.within.1 sane.within.2,
+      );
       idents = sane.idents;
       used = λ x p f k.
-        subst (IsUsed s.stems)
+          subst (IsUsed s.stems)
           (sym (ap (λ h. translate E.nodes h f x) same ∙ translate_window w.window g f x (w.needed g (inl refl)) k))
           (sane.used x p f (kept_window w.window f k));
       waiting = sane.waiting;
-      log = (st, record {
+      log = (
+        st,
+        record {
           stable = at_most_refl st;
           follow = follow_dropped (members s) st sane.log.0 s.log (vector s) (len ∙ sym from) len sane.log.1.stable (stable_mine s.acks) sane.log.1.follow;
-        });
+        },
+      );
       unstable = λ o p. let q = (in_filter (λ x. not (is_covered st x)) o (unstable_over s) p).0 in
-        w.needed o.epoch (inr (in_right o.epoch (reached s.epochs st) (marked_over s) (map_in (λ (x : Op). x.epoch) o (unstable_over s) q)));
+          w.needed o.epoch (inr (in_right o.epoch (reached s.epochs st) (marked_over s) (map_in (λ (x : Op). x.epoch) o (unstable_over s) q)));
       leaves = λ o p l. let r = sane.leaves o (in_filter (λ x. not (is_covered st x)) o s.log p).0 l in record { left = r.left; last = r.last };
     }

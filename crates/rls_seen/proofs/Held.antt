@@ -1,5 +1,5 @@
 -- Waiting operations stay in order and above the vector.
-use Rattle.std.proofs.Common.{◌≡◌, ℕ, zero, suc, ◌+◌, ◌<◌, ◌≤◌, ◌==◌, ◌&&◌, ◌||◌, not, nat_lt, slice_index, Bool, true, false, cond, List, [], ◌∷◌, length, refl, sym, ap, ◌∙◌, subst, arith, inl, inr, ◌⊎◌, ⊎_elim, None}
+use Rattle.std.proofs.Common.{◌≡◌, ℕ, suc, ◌+◌, ◌<◌, ◌≤◌, ◌==◌, slice_index, Bool, true, false, cond, List, [], ◌∷◌, refl, sym, ap, subst, arith, inl, inr, ⊎_elim, None}
 use Rattle.std.specs.List.{list_all}
 use Rattle.std.proofs.lemmas.Bool.Decides.{nat_tests}
 use Rattle.rls_ident.specs.Lists.{IsIn}
@@ -54,11 +54,11 @@ held_accepted n v a q W e h = held_above n v (raise v a) (without a q W) above (
         let k = (held_at n v W w h r.0).above in
         bool_cases (a == w.author)
         (λ f. let g = eq_is a w.author f in
-          let c : slice_index v a ≡ slice_index v w.author = ap (slice_index v) g in
-          let u = raise_upto v a w.author in
-          bool_cases (w.seq == q)
-          (λ x. absurd (true_false (is_numbered a q w) (numbered_test a q w (sym g) (eq_is w.seq q x)) r.1))
-          (λ x. let y = eq_not w.seq q x in apart (slice_index v w.author) (slice_index (raise v a) w.author) q w.seq y k (omega arith) u))
+        let c : slice_index v a ≡ slice_index v w.author = ap (slice_index v) g in
+        let u = raise_upto v a w.author in
+        bool_cases (w.seq == q)
+        (λ x. absurd (true_false (is_numbered a q w) (numbered_test a q w (sym g) (eq_is w.seq q x)) r.1))
+        (λ x. let y = eq_not w.seq q x in apart (slice_index v w.author) (slice_index (raise v a) w.author) q w.seq y k (omega arith) u))
         (λ f. let u = raise_other v a w.author (eq_not a w.author f) in omega arith)
 
 -- ---- one more

@@ -22,3 +22,4 @@ pub mod Making
 pub mod Dropped
 pub mod Repeating
 pub mod Numbers
+mod Worked

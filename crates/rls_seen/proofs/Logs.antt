@@ -1,5 +1,5 @@
 -- A log leads from one vector to the other.
-use Rattle.std.proofs.Common.{◌≡◌, ℕ, zero, suc, ◌+◌, ◌<◌, ◌≤◌, ◌++◌, ◌&&◌, not, nat_le, max, slice_index, Bool, true, false, cond, List, [], ◌∷◌, length, refl, sym, ap, ◌∙◌, subst, arith, None, IsTrue}
+use Rattle.std.proofs.Common.{◌≡◌, ℕ, zero, suc, ◌+◌, ◌<◌, ◌≤◌, ◌++◌, not, nat_le, max, slice_index, Bool, true, false, cond, List, [], ◌∷◌, length, refl, sym, ap, ◌∙◌, subst, arith, None, IsTrue}
 use Rattle.rls_ident.specs.Vectors.{at_most, join, raise}
 use Rattle.rls_ident.proofs.Members.{and_left, and_right, and_true, le_is, le_test, not_le_is}
 use Rattle.rls_ops.specs.declared.op.Op.{Op}
@@ -77,15 +77,19 @@ follow_joined n stable from (o ∷ os) to e f =
         let q = f.2 in
         let k = not_le_is o.seq (slice_index stable o.author) c in
         let l : slice_index stable o.author ≤ slice_index from o.author = omega arith in
-        let i = index-join stable from o.author e ∙ max_high (slice_index stable o.author) (slice_index from o.author) l in
-        (f.0, f.1, omega arith, at_most_trans o.context from (join stable from) f.3 (second_below stable from e),
-         subst (λ v. Follow n v (missing_for stable os) (join stable to)) (raise_above stable from o.author e l) ih)
+        let i = index-join stable from o.author e ∙ max_high (slice_index stable o.author) (slice_index from o.author) l in (
+          f.0,
+          f.1,
+          omega arith,
+          at_most_trans o.context from (join stable from) f.3 (second_below stable from e),
+          subst (λ v. Follow n v (missing_for stable os) (join stable to)) (raise_above stable from o.author e l) ih,
+        )
 
 pub follow_dropped : (n : ℕ) (stable from : List ℕ) (os : List Op) (to : List ℕ) → length stable ≡ length from → length stable ≡ length to → at_most from stable ≡ true → at_most stable to ≡ true
     → Follow n from os to → Follow n stable (missing_for stable os) to
 follow_dropped n stable from os to e g low high f =
     subst (λ v. Follow n v (missing_for stable os) to) (join_low stable from e low)
-      (subst (Follow n (join stable from) (missing_for stable os)) (join_high stable to g high) (follow_joined n stable from os to e f))
+    (subst (Follow n (join stable from) (missing_for stable os)) (join_high stable to g high) (follow_joined n stable from os to e f))
 
 -- a log has vectors of one length
 pub follow_length : (n : ℕ) (from : List ℕ) (os : List Op) (to : List ℕ) → Follow n from os to → length from ≡ length to

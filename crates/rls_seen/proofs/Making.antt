@@ -1,10 +1,9 @@
 -- What an edit makes may be applied, and a replica stays sane where it edits.
-use Rattle.std.proofs.Common.{◌≡◌, ℕ, zero, suc, ◌+◌, ◌-◌, ◌^◌, ◌<◌, ◌≤◌, ◌==◌, ◌||◌, ◌&&◌, not, nat_lt, slice_index, slice_get, Bool, true, false, cond, List, [], ◌∷◌, length, map, take, drop, get_or, refl, sym, ap, ◌∙◌, subst, arith, inl, inr, Option, Some, None, IsTrue, if◌then◌else◌}
-use Rattle.std.specs.Prelude.{ℤ, pos, ◌+ℤ◌, ◌-ℤ◌, ◌≤ℤ◌, All}
+use Rattle.std.proofs.Common.{◌≡◌, ℕ, ◌+◌, ◌-◌, ◌^◌, ◌<◌, ◌≤◌, ◌==◌, ◌&&◌, nat_lt, slice_index, slice_get, Bool, true, false, cond, List, [], ◌∷◌, length, take, drop, get_or, refl, sym, ap, ◌∙◌, subst, arith, inl, inr, Option, Some, None, if◌then◌else◌}
+use Rattle.std.specs.Prelude.{ℤ, pos, ◌+ℤ◌, ◌-ℤ◌, ◌≤ℤ◌}
 use Rattle.std.specs.Int.RustNames.{int_lt, int_le}
-use Rattle.std.specs.List.{list_all, list_any}
+use Rattle.std.specs.List.{list_any}
 use Rattle.std.specs.Ordering.{int_eq, is_eq}
-use Rattle.std.proofs.lemmas.Bool.Decides.{nat_tests}
 use Rattle.std.proofs.lemmas.Cmp.{lists_total, tied_itself}
 use Rattle.std.proofs.lemmas.Int.{ints}
 use Rattle.std.proofs.lemmas.List.{length-take, length-drop}
@@ -13,13 +12,12 @@ use Rattle.rls_ident.specs.declared.epoch_name.EpochName.{EpochName}
 use Rattle.rls_ident.specs.declared.epoch_name.EpochName.TheVariants.{Origin, Of}
 use Rattle.rls_ident.specs.Between.{between}
 use Rattle.rls_ident.specs.EpochNames.{name_eq, is_within}
-use Rattle.rls_ident.specs.Identifiers.{IsIdent, is_ident, ident_eq, last_of, shifted, least_offset, greatest_offset}
+use Rattle.rls_ident.specs.Identifiers.{ident_eq, last_of, shifted, least_offset, greatest_offset}
 use Rattle.rls_ident.specs.Lists.{IsIn}
-use Rattle.rls_ident.specs.Tuples.{offset_of, replica_of}
+use Rattle.rls_ident.specs.Tuples.{offset_of}
 use Rattle.rls_ident.specs.Vectors.{at_most}
 use Rattle.rls_ident.proofs.Members.{and_left, and_right, and_true, any_in, eq_test, eq_refl, eq_not, in_drop, in_map, in_take, int_is, le_test, lt_test, not_lt_is, or_left, or_right}
 use Rattle.rls_ident.proofs.Tuples.{tuple_total}
-use Rattle.rls_runs.specs.Runs.{AreIdents}
 use Rattle.rls_rename.specs.Tree.{Node, has_node, is_kept, names, names_within}
 use Rattle.rls_rename.specs.Tree as tree
 use Rattle.rls_rename.proofs.Growth.{translate_same}
@@ -33,11 +31,9 @@ use Rattle.rls_ops.specs.Rows.{left, row_of}
 use Rattle.rls_ops.specs.Shapes.{shape_fault, is_next_of, is_empty, body_len, body_limit, passes_end}
 use Rattle.rls_model.specs.declared.edit.Edit.{Edit}
 use Rattle.rls_model.specs.declared.edit.Edit.TheVariants as edits
-use Rattle.rls_model.specs.declared.edit.EditError.{EditError}
 use Rattle.rls_model.specs.declared.edit.EditError.TheVariants as faults
 use Rattle.rls_model.specs.declared.parts.Stem.{Stem}
 use Rattle.rls_model.specs.Answers.{Left, Backward, WrongEpoch, WrongStem, UnknownTarget}
-use Rattle.rls_model.specs.Document.{targets_of}
 use Rattle.rls_model.specs.Editing.{own_stem, ends_below, begins_above, may_append, may_prepend, or_missing, first_before, first_between, get_before, range_fault, or_fault}
 use Rattle.rls_model.specs.Stems.{due_offset}
 use Rattle.rls_model.specs.WellFormed.{IsSmall, IsName, IsBody, IsEdit}
@@ -48,7 +44,7 @@ use Rattle.rls_model.proofs.Made.{all_within, in_names, shape_chain, fit_chain, 
 use Rattle.rls_model.proofs.OneTree.{none_else}
 use Rattle.rls_model.proofs.Ranges.{good_take, good_drop}
 use Rattle.rls_model.proofs.Stable.{at_most_refl}
-use Rattle.rls_seen.specs.Seen.{Seen, vector, members, own_count, greatest_over, due_over, translate_over, idents_over, unstable_over}
+use Rattle.rls_seen.specs.Seen.{Seen, vector, members, own_count, greatest_over, due_over, translate_over, idents_over}
 use Rattle.rls_seen.specs.Over.{is_known_over, first_unknown_over, body_refusal_over, refusal_over}
 use Rattle.rls_seen.specs.Edits.{made_body, made_over, op_fault_over, edit_fault_over, edited}
 use Rattle.rls_seen.specs.Sane.{IsSane, IsCounted, IsInRange, MayApply}
@@ -81,9 +77,9 @@ own_due : (s : Seen) → IsSane s → due_over s (vector s) ≡ greatest_over s
 unfolding tree.greatest tree.greatest_within
 own_due s sane =
     ap (tree.greatest_from s.epochs.nodes s.epochs.top)
-      (all_within (names s.epochs.nodes) (vector s) (λ e p.
-        let r = in_names s.epochs.nodes e p in
-        within_of (vector s) e (subst (IsCounted (vector s)) (sym r.2) (sane.epochs.counted (Of r.0 r.1) (or_right (name_eq (Of r.0 r.1) s.epochs.top) (has_node s.epochs.nodes (Of r.0 r.1)) r.3)))))
+    (all_within (names s.epochs.nodes) (vector s) (λ e p.
+    let r = in_names s.epochs.nodes e p in
+    within_of (vector s) e (subst (IsCounted (vector s)) (sym r.2) (sane.epochs.counted (Of r.0 r.1) (or_right (name_eq (Of r.0 r.1) s.epochs.top) (has_node s.epochs.nodes (Of r.0 r.1)) r.3)))))
 
 small_of : (s : Seen) → IsSane s → (a : ℕ) → a < members s → IsSmall (slice_index (vector s) a)
 small_of s sane a l = sane.small a 0 l
@@ -111,17 +107,17 @@ own_may s b sane h n i e3 e4 e5 r =
     let d : name_eq (greatest_over s) (due_over s (vector s)) ≡ true = ap (name_eq (greatest_over s)) (own_due s sane) ∙ name_eq_refl (greatest_over s) in
     record {
       whole = record {
-          author = omega arith;
-          seq = next_small (own_count s) small n;
-          context = sane.small;
-          epoch = name_of_counted s sane (greatest_over s) (sane.epochs.counted (greatest_over s) (greatest_kept s.epochs.top s.epochs.nodes));
-          body = i;
-        };
+        author = omega arith;
+        seq = next_small (own_count s) small n;
+        context = sane.small;
+        epoch = name_of_counted s sane (greatest_over s) (sane.epochs.counted (greatest_over s) (greatest_kept s.epochs.top s.epochs.nodes));
+        body = i;
+      };
       shape = own_shape s b sane e3 e4 e5;
       above = omega arith;
       causes = at_most_refl (vector s);
       fits = fit_chain (left s.acks me) (at_most (row_of s.acks me) (vector s)) (name_eq (greatest_over s) (due_over s (vector s))) (Left (own_count s)) (Backward (row_of s.acks me)) (WrongEpoch (due_over s (vector s)))
-        (body_refusal_over s (own s b) b) h e2 d r;
+          (body_refusal_over s (own s b) b) h e2 d r;
     }
   where
     next_small : (m : ℕ) → m < 2 ^ 32 → (m ≡ 4294967295 → ⊥) → m + 1 < 2 ^ 32
@@ -169,7 +165,7 @@ first_began : (s : Seen) (at n : ℕ) → IsSane s → n ≤ 1048576 → Began s
 unfolding first_of_insert
 first_began s at n sane l =
     began s.stems s.acks.me (own_count s + 1) (get_before (idents_over s) at) (slice_get (idents_over s) at) n (earlier (vector s) s.stems s.acks.me (own_count s + 1) sane.stems refl) l
-      (neighbour_before (idents_over s) sane.idents.0 at) (neighbour (idents_over s) sane.idents.0 at)
+    (neighbour_before (idents_over s) sane.idents.0 at) (neighbour (idents_over s) sane.idents.0 at)
 
 insert_may : (s : Seen) (at : ℕ) (cs : List ℕ) → IsSane s → IsEdit (edits.Insert at cs) → edit_fault_over s (edits.Insert at cs) ≡ None → MayApply s (own s (made_body s (edits.Insert at cs)))
 unfolding own first_of_insert
@@ -181,8 +177,8 @@ insert_may s at cs sane i h =
     let x = first_of_insert s at (length cs) in
     let b = first_began s at (length cs) sane (not_lt_is 1048576 (length cs) r.0) in
     own_may s (Insert x cs) sane f.0 (unspent s (edits.Insert at cs) f.2) (b.ident, i.1) p.0 r.0
-      (int_not_lt (greatest_offset +ℤ pos 1) (offset_of (last_of x) +ℤ pos (length cs)) b.room)
-      (ap (λ c. if c then None else Some (WrongStem (due_offset s.stems s.acks.me (own_count s + 1) (last_of x)))) b.used)
+    (int_not_lt (greatest_offset +ℤ pos 1) (offset_of (last_of x) +ℤ pos (length cs)) b.room)
+    (ap (λ c. if c then None else Some (WrongStem (due_offset s.stems s.acks.me (own_count s + 1) (last_of x)))) b.used)
 
 delete_may : (s : Seen) (at n : ℕ) → IsSane s → edit_fault_over s (edits.Delete at n) ≡ None → MayApply s (own s (made_body s (edits.Delete at n)))
 unfolding own
@@ -196,8 +192,8 @@ delete_may s at n sane h =
     let xs = take n (drop at ids) in
     let len : length xs ≡ n = omega (arith, length-take n (drop at ids), length-drop at ids) in
     own_may s (Delete xs) sane f.0 (unspent s (edits.Delete at n) f.2) (good_take n (drop at ids) (good_drop at ids sane.idents))
-      (ap (λ k. k == 0) len ∙ p.0) (ap (nat_lt 4194304) len ∙ r.0) refl
-      (none_unknown s (greatest_over s) xs (λ x u. text_known s sane x (in_drop at x ids (in_take n x (drop at ids) u))))
+    (ap (λ k. k == 0) len ∙ p.0) (ap (nat_lt 4194304) len ∙ r.0) refl
+    (none_unknown s (greatest_over s) xs (λ x u. text_known s sane x (in_drop at x ids (in_take n x (drop at ids) u))))
 
 rename_may : (s : Seen) → IsSane s → edit_fault_over s edits.Rename ≡ None → MayApply s (own s (made_body s edits.Rename))
 unfolding own
@@ -243,10 +239,10 @@ before_low ss a s left (Some x) n j = go (own_stem ss a (last_of x))
     go None = between_low (or_missing left) x a s
     go (Some u) = pick (may_prepend (Some u) left x n)
         (λ k. let b = int_eq (offset_of (last_of x)) u.low in
-          let c = int_le least_offset (offset_of (last_of x) -ℤ pos n) in
-          let l = int_le_is least_offset (offset_of (last_of x) -ℤ pos n) (and_right b c (and_left (b && c) (begins_above left (shifted (pos 0 -ℤ pos n) x)) k)) in
-          let e : offset_of (last_of (shifted (pos 0 -ℤ pos n) x)) ≡ offset_of (last_of x) +ℤ (pos 0 -ℤ pos n) = ap offset_of (last_shifted (pos 0 -ℤ pos n) x) ∙ raised_offset (pos 0 -ℤ pos n) (last_of x) (last_at x j) in
-          omega (arith, ints))
+        let c = int_le least_offset (offset_of (last_of x) -ℤ pos n) in
+        let l = int_le_is least_offset (offset_of (last_of x) -ℤ pos n) (and_right b c (and_left (b && c) (begins_above left (shifted (pos 0 -ℤ pos n) x)) k)) in
+        let e : offset_of (last_of (shifted (pos 0 -ℤ pos n) x)) ≡ offset_of (last_of x) +ℤ (pos 0 -ℤ pos n) = ap offset_of (last_shifted (pos 0 -ℤ pos n) x) ∙ raised_offset (pos 0 -ℤ pos n) (last_of x) (last_at x j) in
+        omega (arith, ints))
 
 between_range : (ss : List Stem) (a s : ℕ) (left right : Option (List Tuple)) (n : ℕ) → IsNeighbour left → IsNeighbour right → IsLow (first_between ss a s left right n)
 between_range ss a s None right n i j = before_low ss a s None right n j
@@ -260,10 +256,10 @@ between_range ss a s (Some x) right n i j = go (own_stem ss a (last_of x))
     go None = before_low ss a s (Some x) right n j
     go (Some u) = pick (may_append (Some u) x right n)
         (λ k. let b = int_eq (offset_of (last_of x) +ℤ pos 1) (pos u.next) in
-          let c = int_le (offset_of (last_of x) +ℤ pos n) greatest_offset in
-          let q = int_is (offset_of (last_of x) +ℤ pos 1) (pos u.next) (and_left b c (and_left (b && c) (ends_below (shifted (pos n) x) right) k)) in
-          let e : offset_of (last_of (shifted (pos 1) x)) ≡ offset_of (last_of x) +ℤ pos 1 = ap offset_of (last_shifted (pos 1) x) ∙ raised_offset (pos 1) (last_of x) (last_at x i) in
-          omega (arith, ints))
+        let c = int_le (offset_of (last_of x) +ℤ pos n) greatest_offset in
+        let q = int_is (offset_of (last_of x) +ℤ pos 1) (pos u.next) (and_left b c (and_left (b && c) (ends_below (shifted (pos n) x) right) k)) in
+        let e : offset_of (last_of (shifted (pos 1) x)) ≡ offset_of (last_of x) +ℤ pos 1 = ap offset_of (last_shifted (pos 1) x) ∙ raised_offset (pos 1) (last_of x) (last_at x i) in
+        omega (arith, ints))
 
 pub made_range : (s : Seen) (edit : Edit) → IsSane s → IsInRange (made_over s edit).body
 unfolding made_over

@@ -1,13 +1,13 @@
 -- After dropping, what is kept has the numbers of what is retained.
-use Rattle.std.proofs.Common.{◌≡◌, ℕ, zero, suc, ◌+◌, ◌≤◌, ◌||◌, ◌&&◌, ◌++◌, not, Bool, true, false, cond, List, [], ◌∷◌, length, map, refl, sym, ap, ◌∙◌, subst, arith, inl, inr, ⊎_elim, if◌then◌else◌}
+use Rattle.std.proofs.Common.{◌≡◌, ℕ, suc, ◌+◌, ◌||◌, not, Bool, true, false, cond, List, [], ◌∷◌, length, map, refl, sym, ap, ◌∙◌, subst, arith, inl, inr, ⊎_elim, if◌then◌else◌}
 use Rattle.std.specs.Prelude.{filter, fold, sum_by}
 use Rattle.std.specs.Ordering.{is_lt}
 use Rattle.rls_ident.specs.declared.epoch_name.EpochName.{EpochName}
 use Rattle.rls_ident.specs.EpochNames.{name_eq}
 use Rattle.rls_ident.specs.Lists.{IsIn}
-use Rattle.rls_ident.proofs.Members.{bool_cases, true_false, not_true, same_bool, and_left, and_right, and_true, or_left, or_right, or_split, not_is}
+use Rattle.rls_ident.proofs.Members.{bool_cases, not_true, same_bool, and_left, and_true, or_left, or_right, or_split}
 use Rattle.rls_rename.specs.Renaming.{Renaming}
-use Rattle.rls_rename.specs.Tree.{Node, Epochs, AreNodes, AreBelow, name_of, is_of, has_node, is_kept, names, path, epoch_cmp}
+use Rattle.rls_rename.specs.Tree.{Node, AreNodes, AreBelow, name_of, has_node, is_kept, names, path, epoch_cmp}
 use Rattle.rls_rename.specs.Connected.{begins_with, top_path, is_spanned, put_epoch, in_order, spanned, spanned_renamings}
 use Rattle.rls_rename.specs.Keeping.{is_below, kept_nodes, part}
 use Rattle.rls_rename.proofs.Hull.{IsFront, front_none, path_same, spanned_is, spanned_top, top_spanned}
@@ -48,14 +48,14 @@ spanned_node : (ns : List Node) → AreNodes ns → (e : EpochName) (es : List E
 spanned_node ns d e es u top b k p n q =
     let f = name_of n.renaming in
     same_bool (is_spanned ns e es f) (name_eq f u || is_below ns e es n)
-      (λ h. ⊎_elim
-        (λ r. or_left (name_eq f u) (is_below ns e es n) (ap (name_eq f) (sym (path_same top ns d b f u (or_right (name_eq f top) (has_node ns f) (node_named n ns q)) k (r ∙ sym p))) ∙ name_eq_refl f))
-        (λ r. or_right (name_eq f u) (is_below ns e es n) (and_true (is_spanned ns e es f) (not (begins_with (top_path ns e es) (path ns f))) h (ap not r)))
-        (low_or_top ns d e es f h))
-      (λ h. ⊎_elim
-        (λ r. subst (λ g. is_spanned ns e es g ≡ true) (sym (name_eq_is f u r)) (top_spanned ns d e es u p))
-        (λ r. and_left (is_spanned ns e es f) (not (begins_with (top_path ns e es) (path ns f))) r)
-        (or_split (name_eq f u) (is_below ns e es n) h))
+    (λ h. ⊎_elim
+    (λ r. or_left (name_eq f u) (is_below ns e es n) (ap (name_eq f) (sym (path_same top ns d b f u (or_right (name_eq f top) (has_node ns f) (node_named n ns q)) k (r ∙ sym p))) ∙ name_eq_refl f))
+    (λ r. or_right (name_eq f u) (is_below ns e es n) (and_true (is_spanned ns e es f) (not (begins_with (top_path ns e es) (path ns f))) h (ap not r)))
+    (low_or_top ns d e es f h))
+    (λ h. ⊎_elim
+    (λ r. subst (λ g. is_spanned ns e es g ≡ true) (sym (name_eq_is f u r)) (top_spanned ns d e es u p))
+    (λ r. and_left (is_spanned ns e es f) (not (begins_with (top_path ns e es) (path ns f))) r)
+    (or_split (name_eq f u) (is_below ns e es n) h))
 
 -- the topmost itself doesn't lie below
 top_not_below : (ns : List Node) (e : EpochName) (es : List EpochName) (n : Node) → path ns (name_of n.renaming) ≡ top_path ns e es → is_below ns e es n ≡ false
@@ -77,24 +77,24 @@ count_names ns e es u p f (m ∷ ms) d i =
     let g = name_of m.renaming in
     bool_cases (name_eq g u)
     (λ h.
-      let q : g ≡ u = name_eq_is g u h in
-      let s : is_spanned ns e es g ≡ true = f m (i m (inl refl)) ∙ or_left (name_eq g u) (is_below ns e es m) h in
-      let b = top_not_below ns e es m (ap (path ns) q ∙ p) in
-      let o : has_node ms u ≡ false = ap (has_node ms) (sym q) ∙ d.1 in
-      let l : length (filter (is_spanned ns e es) (names (m ∷ ms))) ≡ suc (length (filter (is_spanned ns e es) (names ms))) = ap (λ c. length (cond c (g ∷ filter (is_spanned ns e es) (names ms)) (filter (is_spanned ns e es) (names ms)))) s in
-      let r : length (filter (is_below ns e es) (m ∷ ms)) ≡ length (filter (is_below ns e es) ms) = ap (λ c. length (cond c (m ∷ filter (is_below ns e es) ms) (filter (is_below ns e es) ms))) b in
-      let x : one_if (has_node (m ∷ ms) u) ≡ 1 = ap (λ c. one_if (c || has_node ms u)) h in
-      let y : one_if (has_node ms u) ≡ 0 = ap one_if o in
-      omega arith)
+    let q : g ≡ u = name_eq_is g u h in
+    let s : is_spanned ns e es g ≡ true = f m (i m (inl refl)) ∙ or_left (name_eq g u) (is_below ns e es m) h in
+    let b = top_not_below ns e es m (ap (path ns) q ∙ p) in
+    let o : has_node ms u ≡ false = ap (has_node ms) (sym q) ∙ d.1 in
+    let l : length (filter (is_spanned ns e es) (names (m ∷ ms))) ≡ suc (length (filter (is_spanned ns e es) (names ms))) = ap (λ c. length (cond c (g ∷ filter (is_spanned ns e es) (names ms)) (filter (is_spanned ns e es) (names ms)))) s in
+    let r : length (filter (is_below ns e es) (m ∷ ms)) ≡ length (filter (is_below ns e es) ms) = ap (λ c. length (cond c (m ∷ filter (is_below ns e es) ms) (filter (is_below ns e es) ms))) b in
+    let x : one_if (has_node (m ∷ ms) u) ≡ 1 = ap (λ c. one_if (c || has_node ms u)) h in
+    let y : one_if (has_node ms u) ≡ 0 = ap one_if o in
+    omega arith)
     (λ h.
-      let s : is_spanned ns e es g ≡ is_below ns e es m = f m (i m (inl refl)) ∙ ap (λ c. c || is_below ns e es m) h in
-      let x : one_if (has_node (m ∷ ms) u) ≡ one_if (has_node ms u) = ap (λ c. one_if (c || has_node ms u)) h in
-      ap (λ c. length (cond c (g ∷ filter (is_spanned ns e es) (names ms)) (filter (is_spanned ns e es) (names ms)))) s
-      ∙ step (is_below ns e es m) x ih)
+    let s : is_spanned ns e es g ≡ is_below ns e es m = f m (i m (inl refl)) ∙ ap (λ c. c || is_below ns e es m) h in
+    let x : one_if (has_node (m ∷ ms) u) ≡ one_if (has_node ms u) = ap (λ c. one_if (c || has_node ms u)) h in
+    ap (λ c. length (cond c (g ∷ filter (is_spanned ns e es) (names ms)) (filter (is_spanned ns e es) (names ms)))) s
+    ∙ step (is_below ns e es m) x ih)
   where
     step : {k : ℕ} (c : Bool) → k ≡ one_if (has_node ms u)
-      → length (filter (is_spanned ns e es) (names ms)) ≡ one_if (has_node ms u) + length (filter (is_below ns e es) ms)
-      → length (cond c (name_of m.renaming ∷ filter (is_spanned ns e es) (names ms)) (filter (is_spanned ns e es) (names ms))) ≡ k + length (cond c (m ∷ filter (is_below ns e es) ms) (filter (is_below ns e es) ms))
+        → length (filter (is_spanned ns e es) (names ms)) ≡ one_if (has_node ms u) + length (filter (is_below ns e es) ms)
+        → length (cond c (name_of m.renaming ∷ filter (is_spanned ns e es) (names ms)) (filter (is_spanned ns e es) (names ms))) ≡ k + length (cond c (m ∷ filter (is_below ns e es) ms) (filter (is_below ns e es) ms))
     step true x ih = omega arith
     step false x ih = omega arith
 
@@ -103,12 +103,12 @@ first_spanned : (top : EpochName) (ns : List Node) → AreNodes ns → AreBelow 
     → is_spanned ns e es top ≡ name_eq u top
 first_spanned top ns d b e es u k p =
     same_bool (is_spanned ns e es top) (name_eq u top)
-      (λ h.
-        let r = (spanned_is ns d e es top h).0 in
-        let z = front_none (top_path ns e es) (subst (IsFront (top_path ns e es)) (path_top top ns b) r) in
-        let q : u ≡ top = path_same top ns d b u top k (or_left (name_eq top top) (has_node ns top) (name_eq_refl top)) (p ∙ (sym z ∙ sym (path_top top ns b))) in
-        ap (λ x. name_eq x top) q ∙ name_eq_refl top)
-      (λ h. subst (λ x. is_spanned ns e es x ≡ true) (name_eq_is u top h) (top_spanned ns d e es u p))
+    (λ h.
+    let r = (spanned_is ns d e es top h).0 in
+    let z = front_none (top_path ns e es) (subst (IsFront (top_path ns e es)) (path_top top ns b) r) in
+    let q : u ≡ top = path_same top ns d b u top k (or_left (name_eq top top) (has_node ns top) (name_eq_refl top)) (p ∙ (sym z ∙ sym (path_top top ns b))) in
+    ap (λ x. name_eq x top) q ∙ name_eq_refl top)
+    (λ h. subst (λ x. is_spanned ns e es x ≡ true) (name_eq_is u top h) (top_spanned ns d e es u p))
 
 pub length-spanned : (top : EpochName) (ns : List Node) → AreNodes ns → AreBelow top ns → (e : EpochName) (es : List EpochName) → is_kept top ns e ≡ true → length (spanned top ns e es) ≡ suc (length (kept_nodes ns e es))
 unfolding spanned one_if

@@ -1,10 +1,7 @@
 -- Releasing one after another, and taking a message step by step, for code that does so in loops.
-use Rattle.std.proofs.Common.{◌≡◌, ℕ, zero, suc, ◌+◌, ◌-◌, ◌<◌, ◌≤◌, ◌==◌, ◌++◌, Bool, true, false, cond, List, [], ◌∷◌, length, refl, sym, ap, ◌∙◌, subst, arith, inl, inr, Option, Some, None, is_some, length-append, if◌then◌else◌}
-use Rattle.std.specs.Prelude.{nat_lt, find}
-use Rattle.std.specs.List.{list_all}
+use Rattle.std.proofs.Common.{◌≡◌, ℕ, zero, suc, ◌+◌, ◌-◌, ◌<◌, ◌≤◌, Bool, true, false, cond, List, [], ◌∷◌, length, refl, sym, ap, ◌∙◌, subst, arith, inl, inr, Option, Some, None, is_some, length-append}
 use Rattle.std.proofs.lemmas.Bool.Decides.{nat_tests}
 use Rattle.rls_ident.specs.Lists.{IsIn}
-use Rattle.rls_ident.specs.Vectors.{at_most}
 use Rattle.rls_ident.proofs.Members.{in_all, lt_test}
 use Rattle.rls_ops.specs.declared.op.Op.{Op}
 use Rattle.rls_ops.specs.declared.message.Message.{Message}
@@ -12,12 +9,12 @@ use Rattle.rls_model.specs.Answers.{Reason, Answer, Applies, Repeats, Waits, Ref
 use Rattle.rls_model.specs.Receiving.{without, with_waiting, waiting_under, is_numbered, comes_before}
 use Rattle.rls_model.specs.WellFormed.{IsOp}
 use Rattle.rls_model.specs.Taking.{Limit, has_room, one_less}
-use Rattle.rls_model.proofs.WorldsWaiting.{numbered_test, less_without}
+use Rattle.rls_model.proofs.WorldsWaiting.{numbered_test}
 use Rattle.rls_seen.specs.Seen.{Seen, vector, members}
 use Rattle.rls_seen.specs.Over.{accepted, holding, after_answer, answer_over, received, refusal_over, first_ready, release_of, release_over, after_refusal, after_release, released, released_times, released_all, acknowledged, IsPartReleased}
-use Rattle.rls_seen.specs.Messages.{Course, started, moved, with_answer, with_refusal, with_release, receive_step, release_step, release_steps, with_releases, acknowledge_step, take_ops, taken_within, AreOps, IsMessage, IsPartTaken}
+use Rattle.rls_seen.specs.Messages.{Course, started, moved, with_answer, with_refusal, with_release, receive_step, release_step, release_steps, with_releases, acknowledge_step, take_ops, taken_within, IsPartTaken}
 use Rattle.rls_seen.specs.Sane.{IsSane, IsInRange, AreHeld}
-use Rattle.rls_seen.proofs.Staying.{IsReady, ready, received_sane, released_sane, acknowledged_sane}
+use Rattle.rls_seen.proofs.Staying.{ready, received_sane, released_sane, acknowledged_sane}
 
 -- ---- the first ready one
 
@@ -322,16 +319,20 @@ no_more k = ap (λ m. Some m) (zero_more k)
 -- or a part of its steps was
 pub part_taken : (s : Seen) (m : Message) (k : ℕ) (c : Course) (rest : List Op) → Reaches s m.ops k c rest → IsPartTaken s m c.seen
 unfolding taken_within
-part_taken s m k c rest h =
-    (k, sym (ap (λ l. (acknowledge_step (take_ops (started l s) m.ops) m.from m.vector).seen) (sym (no_more k))
-      ∙ ap (λ d. (acknowledge_step d m.from m.vector).seen) (h (Some 0) ∙ no_ops rest (within (Some 0) c) refl)))
+part_taken s m k c rest h = (
+  k,
+  sym (ap (λ l. (acknowledge_step (take_ops (started l s) m.ops) m.from m.vector).seen) (sym (no_more k))
+      ∙ ap (λ d. (acknowledge_step d m.from m.vector).seen) (h (Some 0) ∙ no_ops rest (within (Some 0) c) refl)),
+)
 
 pub part_released : (s : Seen) (m : Message) (k : ℕ) (c : Course) (rest : List Op) → ReachesReady s m.ops k c rest → IsPartTaken s m c.seen
 unfolding taken_within
-part_released s m k c rest h =
-    (k, sym (ap (λ l. (acknowledge_step (take_ops (started l s) m.ops) m.from m.vector).seen) (sym (no_more k))
+part_released s m k c rest h = (
+  k,
+  sym (ap (λ l. (acknowledge_step (take_ops (started l s) m.ops) m.from m.vector).seen) (sym (no_more k))
       ∙ ap (λ d. (acknowledge_step d m.from m.vector).seen)
-        (h (Some 0) ∙ (ap (λ d. take_ops d rest) (no_releases (length c.seen.waiting) (within (Some 0) c) refl) ∙ no_ops rest (within (Some 0) c) refl))))
+      (h (Some 0) ∙ (ap (λ d. take_ops d rest) (no_releases (length c.seen.waiting) (within (Some 0) c) refl) ∙ no_ops rest (within (Some 0) c) refl))),
+)
 
 -- ---- at each step
 

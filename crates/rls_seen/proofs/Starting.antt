@@ -1,7 +1,6 @@
 -- A fresh replica stands for the history in which nothing has happened.
 use Rattle.std.proofs.Common.{◌≡◌, ℕ, zero, suc, ◌<◌, ◌==◌, Bool, true, false, cond, List, [], length, replicate, get_or, refl, ap, ◌∙◌, arith}
 use Rattle.std.proofs.lemmas.List.{get_or-replicate, length-replicate}
-use Rattle.rls_ops.specs.Rows.{AreRows, HaveLength, starting_at}
 use Rattle.rls_ops.proofs.KeptRows.{starting_rows}
 use Rattle.rls_model.specs.History.{Fresh}
 use Rattle.rls_model.specs.Document.{export, live, chars}

@@ -1,6 +1,6 @@
 -- A replica is sane at first, and stays sane where it receives, releases and notes.
-use Rattle.std.proofs.Common.{◌≡◌, ℕ, zero, suc, ◌+◌, ◌^◌, ◌<◌, ◌≤◌, ◌==◌, ◌||◌, ◌&&◌, not, nat_le, slice_index, Bool, true, false, cond, List, [], ◌∷◌, length, replicate, get_or, set, refl, sym, ap, ◌∙◌, subst, arith, Option, Some, None, is_some, IsTrue}
-use Rattle.std.specs.Prelude.{All, find}
+use Rattle.std.proofs.Common.{◌≡◌, ℕ, zero, suc, ◌<◌, ◌≤◌, ◌==◌, ◌||◌, ◌&&◌, not, nat_le, slice_index, Bool, true, false, cond, List, [], length, replicate, get_or, set, refl, sym, ap, ◌∙◌, subst, arith, Option, Some, None}
+use Rattle.std.specs.Prelude.{All}
 use Rattle.std.proofs.lemmas.List.{get_or-set_same, get_or-set_other, get_or-replicate, get_or_past, length-replicate}
 use Rattle.rls_ident.specs.declared.epoch_name.EpochName.TheVariants.{Origin, Of}
 use Rattle.rls_ident.specs.declared.epoch_name.EpochName.{EpochName}
@@ -8,20 +8,19 @@ use Rattle.rls_ident.specs.EpochNames.{name_eq}
 use Rattle.rls_ident.specs.Lists.{IsIn}
 use Rattle.rls_ident.specs.Vectors.{at_most, join}
 use Rattle.rls_ident.proofs.Members.{bool_cases, true_false, and_left, and_right, eq_is, eq_not, le_is, not_le_is, found_in}
-use Rattle.rls_rename.specs.Tree.{Node}
 use Rattle.rls_ops.specs.declared.op.Op.{Op}
 use Rattle.rls_ops.specs.Rows.{AcksSeen, row_of, left, stable_of, noted, missing_for}
 use Rattle.rls_ops.specs.Rows as rows
 use Rattle.rls_ops.proofs.KeptRows.{row_length, starting_rows, noted_rows}
-use Rattle.rls_model.specs.Answers.{Reason, Answer, Applies, Repeats, Waits, Refuses, Released}
+use Rattle.rls_model.specs.Answers.{Reason, Answer, Applies, Repeats, Waits, Refuses}
 use Rattle.rls_model.specs.Legal.{AreNumbers}
-use Rattle.rls_model.specs.Receiving.{without, with_waiting, waiting_under, is_numbered}
-use Rattle.rls_model.specs.WellFormed.{IsSmall, IsOp, IsVector}
+use Rattle.rls_model.specs.Receiving.{without, with_waiting}
+use Rattle.rls_model.specs.WellFormed.{IsSmall, IsOp}
 use Rattle.rls_model.proofs.Stable.{at_most_refl, at_most_trans}
 use Rattle.rls_model.proofs.WorldsLists.{zeros_below}
-use Rattle.rls_seen.specs.Seen.{Seen, vector, members, fresh, stable_over, unstable_over}
-use Rattle.rls_seen.specs.Over.{accepted, holding, after_answer, answer_over, received, replayed, refusal_over, first_ready, release_of, release_over, after_refusal, after_release, released, released_times, released_all, acknowledged}
-use Rattle.rls_seen.specs.Sane.{IsSane, IsCounted, IsInRange, AreHeld, IsLast, MayApply, MayWait}
+use Rattle.rls_seen.specs.Seen.{Seen, vector, members, fresh}
+use Rattle.rls_seen.specs.Over.{holding, after_answer, answer_over, received, replayed, refusal_over, first_ready, after_refusal, after_release, released, released_times, released_all, acknowledged}
+use Rattle.rls_seen.specs.Sane.{IsSane, IsCounted, IsInRange, AreHeld, MayApply, MayWait}
 use Rattle.rls_seen.proofs.Applied.{accepted_sane, within_more, missing_less}
 use Rattle.rls_seen.proofs.Held.{IsHeld, held_at, held_without, held_with}
 use Rattle.rls_seen.proofs.Sending.{index-join, length-row}
@@ -81,12 +80,12 @@ fresh_sane group me n l =
       own = λ a k. own_at n me a;
       stems = tt;
       epochs = record {
-          nodes = tt;
-          below = tt;
-          counted = λ e k. subst (IsCounted (zeros n)) (only_origin e k) tt;
-          few = λ x p. absurd p;
-          covered = λ x p. absurd p;
-        };
+        nodes = tt;
+        below = tt;
+        counted = λ e k. subst (IsCounted (zeros n)) (only_origin e k) tt;
+        few = λ x p. absurd p;
+        covered = λ x p. absurd p;
+      };
       within = (Origin, refl, refl);
       idents = (refl, refl);
       used = λ x p. absurd p;
@@ -102,15 +101,27 @@ fresh_sane group me n l =
 pub holding_sane : (s : Seen) (W : List Op) → IsSane s → AreHeld (members s) (vector s) W → IsSane (holding s W)
 unfolding holding
 holding_sane s W h w = record {
-    group = h.group; few = h.few; small = h.small; rows = h.rows; own = h.own; stems = h.stems; epochs = h.epochs; within = h.within;
-    idents = h.idents; used = h.used; waiting = w; log = (h.log.0, record { stable = h.log.1.stable; follow = h.log.1.follow }); unstable = h.unstable; leaves = h.leaves;
-  }
+  group = h.group;
+  few = h.few;
+  small = h.small;
+  rows = h.rows;
+  own = h.own;
+  stems = h.stems;
+  epochs = h.epochs;
+  within = h.within;
+  idents = h.idents;
+  used = h.used;
+  waiting = w;
+  log = (h.log.0, record { stable = h.log.1.stable; follow = h.log.1.follow });
+  unstable = h.unstable;
+  leaves = h.leaves;
+}
 
 -- one more waits
 pub put_sane : (s : Seen) (o : Op) → IsSane s → MayWait s o → IsInRange o.body → IsSane (holding s (with_waiting o (without o.author o.seq s.waiting)))
 put_sane s o h m r =
     holding_sane s (with_waiting o (without o.author o.seq s.waiting)) h
-      (held_with (members s) (vector s) o s.waiting (record { whole = m.whole; range = r; shape = m.shape; above = m.above }) h.waiting)
+    (held_with (members s) (vector s) o s.waiting (record { whole = m.whole; range = r; shape = m.shape; above = m.above }) h.waiting)
 
 -- one fewer waits
 pub forgotten_sane : (s : Seen) (a q : ℕ) → IsSane s → IsSane (holding s (without a q s.waiting))
@@ -194,8 +205,8 @@ noted_own s a v h l e below c m = go (c == s.acks.me) refl (h.own c m)
     other g k =
         bool_cases (c == a)
         (λ f. let q : a ≡ c = sym (eq_is c a f) in
-          let r : get_or (set s.acks.others a new) c [] ≡ new = subst (λ d. get_or (set s.acks.others a new) d [] ≡ new) q (get_or-set_same s.acks.others a new [] inside) in
-          subst (λ w. slice_index w c ≤ slice_index (vector s) c) (sym r) (joined (a == s.acks.me) refl (h.own a l) q g))
+        let r : get_or (set s.acks.others a new) c [] ≡ new = subst (λ d. get_or (set s.acks.others a new) d [] ≡ new) q (get_or-set_same s.acks.others a new [] inside) in
+        subst (λ w. slice_index w c ≤ slice_index (vector s) c) (sym r) (joined (a == s.acks.me) refl (h.own a l) q g))
         (λ f. subst (λ w. slice_index w c ≤ slice_index (vector s) c) (sym (get_or-set_other s.acks.others a c new [] (eq_not c a f))) k)
 
     go : (x : Bool) → (c == s.acks.me) ≡ x → slice_index (cond x (vector s) (get_or s.acks.others c [])) c ≤ slice_index (vector s) c → slice_index (cond x (vector s) (get_or (set s.acks.others a new) c [])) c ≤ slice_index (vector s) c
@@ -207,12 +218,17 @@ noted_sane : (s : Seen) (a : ℕ) (v : List ℕ) → IsSane s → a < members s 
 noted_sane s a v h l e below =
     let grows = stable_noted s.acks a v h.rows l e in
     record {
-      group = h.group; few = h.few; small = h.small;
+      group = h.group;
+      few = h.few;
+      small = h.small;
       rows = noted_rows s.acks a v h.rows l e;
       own = noted_own s a v h l e below;
-      stems = h.stems; epochs = h.epochs;
+      stems = h.stems;
+      epochs = h.epochs;
       within = (h.within.0, h.within.1, within_more h.within.0 (stable_of s.acks) (stable_of (noted s.acks a v)) grows h.within.2);
-      idents = h.idents; used = h.used; waiting = h.waiting;
+      idents = h.idents;
+      used = h.used;
+      waiting = h.waiting;
       log = (h.log.0, record { stable = at_most_trans h.log.0 (stable_of s.acks) (stable_of (noted s.acks a v)) h.log.1.stable grows; follow = h.log.1.follow });
       unstable = λ x p. h.unstable x (missing_less (stable_of s.acks) (stable_of (noted s.acks a v)) s.log x grows p);
       leaves = λ x p q. let r = h.leaves x p q in record { left = r.left; last = r.last };
@@ -228,6 +244,18 @@ acknowledged_sane s a v h l e = go (rows.counts s.acks a v) refl
         let c = nat_le (slice_index v a) (slice_index s.acks.mine a) in
         noted_sane s a v h l e (le_is (slice_index v a) (slice_index s.acks.mine a) (and_right b c (and_left (b && c) (not (at_most v (row_of s.acks a))) f)))
     go false f = record {
-        group = h.group; few = h.few; small = h.small; rows = h.rows; own = h.own; stems = h.stems; epochs = h.epochs; within = h.within;
-        idents = h.idents; used = h.used; waiting = h.waiting; log = (h.log.0, record { stable = h.log.1.stable; follow = h.log.1.follow }); unstable = h.unstable; leaves = h.leaves;
-      }
+      group = h.group;
+      few = h.few;
+      small = h.small;
+      rows = h.rows;
+      own = h.own;
+      stems = h.stems;
+      epochs = h.epochs;
+      within = h.within;
+      idents = h.idents;
+      used = h.used;
+      waiting = h.waiting;
+      log = (h.log.0, record { stable = h.log.1.stable; follow = h.log.1.follow });
+      unstable = h.unstable;
+      leaves = h.leaves;
+    }
