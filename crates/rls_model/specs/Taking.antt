@@ -1,8 +1,9 @@
 -- Messages, and what comes of taking one, step by step.
-use Rattle.std.specs.Prelude.{◌≡◌, ℕ, zero, suc, ◌+◌, ◌-◌, Bool, true, List, [], ◌∷◌, ◌++◌, length, nat_lt, nat_le, Option, Some, None, if◌then◌else◌}
+use Rattle.std.specs.Prelude.{◌≡◌, ℕ, zero, suc, ◌+◌, ◌-◌, Bool, true, List, [], ◌∷◌, ◌++◌, length, nat_lt, Option, Some, None, if◌then◌else◌}
 use Rattle.rls_ops.specs.declared.op.Op.{Op}
 use Rattle.rls_ops.specs.declared.message.Message.{Message}
-use Rattle.rls_ops.specs.Sizes.{op_size, head_size}
+use Rattle.rls_ops.specs.Sizes.{head_size}
+pub use Rattle.rls_ops.specs.Sizes.{front_within}
 pub use Rattle.rls_ops.specs.Rows.{missing_for}
 use Rattle.rls_model.specs.declared.receipt.Taken.{Taken}
 use Rattle.rls_model.specs.Answers.{Reason, Answer, Applies, Repeats, Waits, Refuses, Released}
@@ -11,12 +12,6 @@ use Rattle.rls_model.specs.Stability.{unstable, is_counted}
 use Rattle.rls_model.specs.Receiving.{State, receive, receive_after, release, release_after}
 
 -- ---- the message for a member
-
--- the longest front of the list whose bytes, with those used already, are within the limit
-abbrev pub front_within : ℕ → ℕ → List Op → List Op
-front_within used limit [] = []
-front_within used limit (o ∷ os) =
-    if nat_le (used + op_size o) limit then o ∷ front_within (used + op_size o) limit os else []
 
 -- the unstable operations that the member's row doesn't cover, as many as a message holds
 unfoldable pub message_for : History → ℕ → Message

@@ -1,5 +1,5 @@
 -- How many bytes the parts of a message have.
-use Rattle.std.specs.Prelude.{ℕ, ◌+◌, ◌*◌, List, length, sum_by, nat_lt, if◌then◌else◌}
+use Rattle.std.specs.Prelude.{ℕ, ◌+◌, ◌*◌, List, [], ◌∷◌, length, sum_by, nat_lt, nat_le, if◌then◌else◌}
 use Rattle.rls_ident.specs.declared.tuple.Tuple.{Tuple}
 use Rattle.rls_ident.specs.declared.tuple.Tuple.TheVariants.{At}
 use Rattle.rls_ident.specs.declared.epoch_name.EpochName.{EpochName}
@@ -54,3 +54,9 @@ head_size members = 25 + 4 * members
 -- a message
 abbrev pub message_size : Message → ℕ
 message_size m = head_size (length m.vector) + sum_by op_size m.ops
+
+-- the longest front of the list whose bytes, with those used already, are within the limit
+abbrev pub front_within : ℕ → ℕ → List Op → List Op
+front_within used limit [] = []
+front_within used limit (o ∷ os) =
+    if nat_le (used + op_size o) limit then o ∷ front_within (used + op_size o) limit os else []

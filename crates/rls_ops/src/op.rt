@@ -1,6 +1,6 @@
 //! Operations.
 
-ghost use Rattle.std.specs.Prelude.{◌≡◌, ◌<◌, ◌++◌, ◌∷◌, ◌==◌, [], Some, OnOk, OnErr, length, slice_get};
+ghost use Rattle.std.specs.Prelude.{◌≡◌, ◌<◌, ◌++◌, ◌∷◌, ◌==◌, [], Some, IfOk, OnOk, OnErr, length, slice_get};
 
 use rls_ident::{EpochName, Ident, Vector};
 use rls_runs::{Runs, Text};
@@ -96,6 +96,50 @@ impl Ops {
         ensures ops { result.now ≡ self.now }
     {
         &self.ops
+    }
+
+    /// The operations, to be taken one by one.
+    pub fn into_vec(self) -> Vec<Op>
+        ensures ops { result.items ≡ self }
+    {
+        let Ops { ops } = self;
+        ops
+    }
+}
+
+impl Op {
+    /// The same again. Lists of identifiers are copied run by run.
+    pub fn copy(&self) -> Result<Op, AllocError>
+        ensures copy { IfOk result (λ op. op ≡ self.now) }
+    {
+        Ok(Op {
+            author: self.author,
+            seq: self.seq,
+            context: self.context.copy()?,
+            epoch: self.epoch,
+            body: self.body.copy()?,
+        })
+    }
+}
+
+impl Body {
+    /// The same again.
+    pub fn copy(&self) -> Result<Body, AllocError>
+        ensures copy { IfOk result (λ body. body ≡ self.now) }
+    {
+        Ok(match self {
+            Body::Insert { first, text } => Body::Insert {
+                first: first.copy()?,
+                text: text.copy()?,
+            },
+            Body::Delete { targets } => Body::Delete {
+                targets: targets.copy()?,
+            },
+            Body::Rename { former } => Body::Rename {
+                former: former.copy()?,
+            },
+            Body::Leave => Body::Leave,
+        })
     }
 }
 
