@@ -1,10 +1,11 @@
 //! The log of accepted operations.
 
-ghost use Rattle.std.specs.Prelude.{◌≡◌, ◌<◌, ◌-◌, ◌++◌, ◌∷◌, [], OnOk, OnErr, length, slice_get, Some};
+ghost use Rattle.std.specs.Prelude.{◌≡◌, ◌<◌, ◌-◌, ◌++◌, ◌∷◌, [], OnOk, OnErr, length, slice_get, Some, ◌^◌, IfOk};
 ghost use Rattle.rls_ops.specs.Rows.{is_covered, missing_for};
+ghost use Rattle.rls_ops.specs.Sizes.{front_within};
 
 use rls_ident::Vector;
-use rls_ops::Op;
+use rls_ops::{Op, Ops};
 use std::alloc::{AllocError, Global};
 use std::marker::Model;
 
@@ -63,6 +64,28 @@ impl Log {
         ensures op { slice_get self.now.ops i ≡ Some result.now }
     {
         &self.ops[i]
+    }
+
+    /// Copies of the operations whose number is above the row's count of their author, in order: as
+    /// many of the first ones as have at most so many bytes by `encoded_len` together.
+    pub fn missing_for(&self, row: &Vector, limit: u64) -> Result<Ops, AllocError>
+        requires range { limit < 2 ^ 64 - 1 }
+        ensures missing { IfOk result (λ ops. ops ≡ front_within 0 limit (missing_for row.now self.now.ops)) }
+    {
+        let mut missing = Ops::new(*self.ops.allocator());
+        let mut used = 0;
+        for op in &self.ops {
+            if covers(row, op) {
+                continue;
+            }
+            let len = op.encoded_len();
+            if len > limit - used {
+                break;
+            }
+            used += len;
+            missing.push(op.copy()?)?;
+        }
+        Ok(missing)
     }
 
     /// Keeps the operations whose number is above the vector's count of their author. It takes no
