@@ -1,9 +1,8 @@
 -- Worked examples of the trial, by computation.
-use Rattle.std.specs.Prelude.{◌≡◌, ◌+◌, ℕ, Bool, true, ◌&&◌, ◌==◌, List, [], ◌∷◌, refl}
-use Rattle.std.specs.List.{list_all}
-use Rattle.rls_world.specs.declared.Summary.{Summary}
+use Rattle.std.specs.Prelude.{◌≡◌, ◌+◌, [], ◌∷◌, map, replicate, codes, refl}
+use Rattle.rls_model.specs.Document.{text}
 use Rattle.rls_world.specs.Draws.{next_draw, drawn, after_draws}
-use Rattle.rls_world.specs.Trial.{trial}
+use Rattle.rls_world.specs.Trial.{rounds, course, trial}
 use Rattle.rls_world.specs.Computing.{computing}
 
 -- the first four states of the draws: member 1, an insertion, at the front, of 8 characters
@@ -39,15 +38,11 @@ one_step : trial 42 1 ≡ record { accepted = 0 ∷ 1 ∷ 0 ∷ []; totals = 8 �
 unfolding computing
 one_step = refl
 
--- all numbers are equal
-abbrev are_equal : List ℕ → Bool
-are_equal [] = true
-are_equal (n ∷ ns) = list_all (λ m. m == n) ns
-
--- the members end with one text, and nothing is left that is unstable
-abbrev is_settled : Summary → Bool
-is_settled s = are_equal s.totals && are_equal s.runs && (s.epochs == 1) && (s.former == 0)
-
-some_settled : is_settled (trial 42 40) ≡ true
+-- with two renames on the way
+forty_steps : trial 42 40 ≡ record { accepted = 9 ∷ 8 ∷ 12 ∷ []; totals = 67 ∷ 67 ∷ 67 ∷ []; runs = 16 ∷ 16 ∷ 16 ∷ []; epochs = 1; former = 0 }
 unfolding computing
-some_settled = refl
+forty_steps = refl
+
+forty_steps_texts : map (λ s. text s.history) (rounds (course 42 40).world).states ≡ replicate 3 (codes "layfblbaqvfzitecywpnsbnezxsrxmqyuzqaftospyqtipqygqthglqneiustmwzrvc")
+unfolding computing
+forty_steps_texts = refl

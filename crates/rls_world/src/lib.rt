@@ -2,7 +2,7 @@
 #![tactic(auto)]
 
 /// What a trial comes to. The members are 0, 1 and 2.
-#[derive(Clone, Copy)]
+#[derive(Clone, Copy, Debug, PartialEq, Eq)]
 pub struct Summary {
     /// How many operations of each member were accepted by member 0.
     pub accepted: [u32; 3],
