@@ -1,6 +1,6 @@
 -- A replica stays sane where an operation is accepted that may be applied.
 use Rattle.std.proofs.Common.{◌≡◌, ℕ, ◌+◌, ◌^◌, ◌<◌, ◌≤◌, ◌==◌, ◌||◌, ◌++◌, not, slice_index, Bool, true, false, cond, List, [], ◌∷◌, length, get_or, refl, sym, ap, ◌∙◌, subst, arith, inl, inr, ◌⊎◌, ⊎_elim}
-use Rattle.std.specs.Prelude.{All, ◌&&◌, nat_lt, pos}
+use Rattle.std.specs.Prelude.{All, ◌&&◌, nat_lt, pos, sum, sum_by, ◌*◌}
 use Rattle.std.proofs.lemmas.Grind.{get_or_default_zero}
 use Rattle.rls_ident.specs.declared.epoch_name.EpochName.{EpochName}
 use Rattle.rls_ident.specs.declared.epoch_name.EpochName.TheVariants.{Origin, Of}
@@ -28,12 +28,13 @@ use Rattle.rls_model.proofs.OneTree.{index-raise_same, index-raise_le}
 use Rattle.rls_model.proofs.Stable.{at_most_trans}
 use Rattle.rls_model.proofs.WorldsLists.{raise_other}
 use Rattle.rls_seen.specs.Seen.{Seen, vector, members}
-use Rattle.rls_seen.specs.Over.{acks_after, epochs_after, accepted}
+use Rattle.rls_seen.specs.Over.{acks_after, epochs_after, accepted, text_after}
 use Rattle.rls_seen.specs.Sane.{IsSane, IsCounted, IsCovered, AreEpochs, IsInRange, IsLast, AreStems, AreHeld, Follow, MayApply}
 use Rattle.rls_seen.proofs.Accepting.{acks_mine, places_after, row_after, left_after}
 use Rattle.rls_seen.proofs.Fitting.{Facts, facts, stems_accepted}
 use Rattle.rls_seen.proofs.Held.{held_accepted}
 use Rattle.rls_seen.proofs.Logs.{follow_more}
+use Rattle.rls_seen.proofs.Sizes.{total_after, former_after}
 use Rattle.rls_seen.proofs.StableRows.{stable_accepted}
 use Rattle.rls_seen.proofs.Written.{later_used, rename_covered, rename_tree, written_after}
 
@@ -219,4 +220,6 @@ accepted_sane s o sane m r =
           (λ q. last_before s o x sane f (sane.leaves x q l))
           (λ e. subst (IsLast new) e (last_now s o sane f (subst (λ (y : Op). is_leave y.body ≡ true) (sym e) l)))
           (snoc_split x o s.log p);
+      total = subst (λ x. length (text_after s o b) ≤ 2 ^ 63 + 4194304 * sum x) (sym mine) (total_after s o f.shaped.author f.shaped.few sane.total);
+      former = subst (λ x. sum_by (λ (n : Node). length n.renaming.former) (nodes_after s.epochs.nodes o b) ≤ 2 ^ 54 + 4194304 * sum x) (sym mine) (former_after s o f.shaped.author f.shaped.few sane.former);
     }

@@ -1,5 +1,6 @@
 -- A replica stays sane where it drops what is stable.
-use Rattle.std.proofs.Common.{◌≡◌, ℕ, not, true, List, [], ◌∷◌, refl, sym, ap, ◌∙◌, subst, inl, inr, ⊎_elim}
+use Rattle.std.specs.Prelude.{length, sum, ◌*◌, ◌+◌, ◌^◌, ◌≤◌}
+use Rattle.std.proofs.Common.{arith, ◌≡◌, ℕ, not, true, List, [], ◌∷◌, refl, sym, ap, ◌∙◌, subst, inl, inr, ⊎_elim}
 use Rattle.std.specs.declared.cmp.Ordering.TheVariants.{Less}
 use Rattle.std.specs.Cmp.Lexicographic.{slice_cmp}
 use Rattle.std.specs.Ordering.{is_lt}
@@ -9,7 +10,7 @@ use Rattle.rls_ident.specs.Lists.{IsIn}
 use Rattle.rls_ident.proofs.Members.{not_true, in_left, in_right, in_split, in_filter, filter_in, in_map, map_in, less_is, or_left}
 use Rattle.rls_rename.specs.Renaming.{Renaming}
 use Rattle.rls_rename.specs.Tree.{Node, Epochs, AreNodes, AreBelow, has_node, is_kept, names, renaming_cmp, path, greatest, greatest_within, translate, epoch_cmp}
-use Rattle.rls_rename.specs.Keeping.{is_below, reached, kept_part}
+use Rattle.rls_rename.specs.Keeping.{part, is_below, reached, kept_part}
 use Rattle.rls_rename.proofs.Hull.{kept_in, in_kept, needed_spanned, path_same}
 use Rattle.rls_rename.proofs.Kept.{greatest_kept, greatest_within_kept}
 use Rattle.rls_rename.proofs.Order.{within_allowed, within_top, longer_less, less_self}
@@ -21,7 +22,8 @@ use Rattle.rls_ops.specs.declared.op.Op.{Op}
 use Rattle.rls_ops.specs.Rows.{is_covered}
 use Rattle.rls_model.proofs.Stable.{at_most_refl}
 use Rattle.rls_seen.specs.Seen.{Seen, vector, members, stable_over, unstable_over, greatest_over}
-use Rattle.rls_seen.specs.Kept.{marked_over, needed_over, dropped}
+use Rattle.rls_seen.specs.Kept.{marked_over, needed_over, dropped, kept_former}
+use Rattle.rls_seen.proofs.Sizes.{sum_filter}
 use Rattle.rls_seen.specs.Sane.{IsSane, IsUsed}
 use Rattle.rls_seen.proofs.Logs.{follow_length, follow_dropped}
 use Rattle.rls_seen.proofs.Sending.{length-stable}
@@ -95,6 +97,13 @@ part_left s sane =
 
 -- ---- all
 
+former_less : (s : Seen) → IsSane s → kept_former (dropped s) ≤ 2 ^ 54 + 4194304 * sum (vector s)
+unfolding dropped part
+former_less s sane =
+    let h = sane.former in
+    let l = sum_filter (λ (n : Node). length n.renaming.former) (is_below s.epochs.nodes (greatest_over s) (needed_over s)) s.epochs.nodes in
+    omega arith
+
 pub dropped_sane : (s : Seen) → IsSane s → IsSane (dropped s)
 unfolding dropped
 dropped_sane s sane =
@@ -141,4 +150,6 @@ dropped_sane s sane =
       unstable = λ o p. let q = (in_filter (λ x. not (is_covered st x)) o (unstable_over s) p).0 in
           w.needed o.epoch (inr (in_right o.epoch (reached s.epochs st) (marked_over s) (map_in (λ (x : Op). x.epoch) o (unstable_over s) q)));
       leaves = λ o p l. let r = sane.leaves o (in_filter (λ x. not (is_covered st x)) o s.log p).0 l in record { left = r.left; last = r.last };
+      total = sane.total;
+      former = former_less s sane;
     }

@@ -16,6 +16,7 @@ pub mod TextLists
 pub mod Written
 pub mod Held
 pub mod Logs
+pub mod Sizes
 pub mod Applied
 pub mod Staying
 pub mod Making
@@ -23,3 +24,4 @@ pub mod Dropped
 pub mod Repeating
 pub mod Numbers
 mod Worked
+pub mod Needed

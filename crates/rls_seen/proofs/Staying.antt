@@ -93,6 +93,8 @@ fresh_sane group me n l =
       log = (zeros n, record { stable = zeros_stable n me (omega arith); follow = refl });
       unstable = λ x p. absurd p;
       leaves = λ x p. absurd p;
+      total = omega arith;
+      former = omega arith;
     }
 
 -- ---- receiving
@@ -115,6 +117,8 @@ holding_sane s W h w = record {
   log = (h.log.0, record { stable = h.log.1.stable; follow = h.log.1.follow });
   unstable = h.unstable;
   leaves = h.leaves;
+  total = h.total;
+  former = h.former;
 }
 
 -- one more waits
@@ -232,6 +236,8 @@ noted_sane s a v h l e below =
       log = (h.log.0, record { stable = at_most_trans h.log.0 (stable_of s.acks) (stable_of (noted s.acks a v)) h.log.1.stable grows; follow = h.log.1.follow });
       unstable = λ x p. h.unstable x (missing_less (stable_of s.acks) (stable_of (noted s.acks a v)) s.log x grows p);
       leaves = λ x p q. let r = h.leaves x p q in record { left = r.left; last = r.last };
+      total = h.total;
+      former = h.former;
     }
 
 pub acknowledged_sane : (s : Seen) (a : ℕ) (v : List ℕ) → IsSane s → a < members s → length v ≡ members s → IsSane (acknowledged s a v)
@@ -258,4 +264,6 @@ acknowledged_sane s a v h l e = go (rows.counts s.acks a v) refl
       log = (h.log.0, record { stable = h.log.1.stable; follow = h.log.1.follow });
       unstable = h.unstable;
       leaves = h.leaves;
+      total = h.total;
+      former = h.former;
     }

@@ -1,5 +1,5 @@
 -- What holds of each replica, whether or not a history stands behind it.
-use Rattle.std.specs.Prelude.{◌≡◌, ℕ, ◌+◌, ◌<◌, ◌≤◌, pos, ◌≤ℤ◌, List, [], ◌∷◌, length, slice_index, All, None, IsTrue, map}
+use Rattle.std.specs.Prelude.{◌≡◌, ℕ, ◌+◌, ◌<◌, ◌≤◌, pos, ◌≤ℤ◌, List, [], ◌∷◌, length, slice_index, All, None, IsTrue, map, ◌*◌, ◌^◌, sum}
 use Rattle.std.specs.List.{list_all}
 use Rattle.rls_ident.specs.declared.tuple.Tuple.{Tuple}
 use Rattle.rls_ident.specs.declared.epoch_name.EpochName.{EpochName}
@@ -22,6 +22,7 @@ use Rattle.rls_model.specs.Receiving.{comes_before}
 use Rattle.rls_model.specs.Stems.{is_used, stands_before}
 use Rattle.rls_model.specs.WellFormed.{IsSmall, IsLarge, IsOp}
 use Rattle.rls_seen.specs.Seen.{Seen, vector, members, stable_over, unstable_over, greatest_over, translate_over, idents_over}
+use Rattle.rls_seen.specs.Kept.{kept_former}
 use Rattle.rls_seen.specs.Over.{refusal_over, placed_over}
 
 -- ---- stems
@@ -113,6 +114,9 @@ pub record IsSane (s : Seen) : Type 0 where
   pub log : (from : List ℕ) × IsLogOf s from
   pub unstable : (o : Op) → IsIn o (unstable_over s) → IsTrue (is_kept s.epochs.top s.epochs.nodes o.epoch)
   pub leaves : (o : Op) → IsIn o s.log → IsTrue (is_leave o.body) → IsLast s.acks o
+  -- no more characters and former identifiers than parts and operations may bring
+  pub total : length s.text ≤ 2 ^ 63 + 4194304 * sum (vector s)
+  pub former : kept_former s ≤ 2 ^ 54 + 4194304 * sum (vector s)
 
 -- ---- what a step needs
 
