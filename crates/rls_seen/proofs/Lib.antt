@@ -25,3 +25,4 @@ pub mod Repeating
 pub mod Numbers
 mod Worked
 pub mod Needed
+pub mod Marks
