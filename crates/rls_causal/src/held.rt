@@ -1,7 +1,8 @@
 //! Waiting operations.
 
-ghost use Rattle.std.specs.Prelude.{◌≡◌, ◌<◌, length, [], option_copied, slice_get, Some, None, IsTrue, OnOk, OnErr};
+ghost use Rattle.std.specs.Prelude.{◌≡◌, ◌<◌, length, [], option_copied, slice_get, Some, None, IsTrue, IfOk, OnOk, OnErr};
 ghost use Rattle.rls_ops.specs.Waiting.{waiting_under, without, with_waiting, comes_before, first_ready_at, is_in_order};
+ghost use Rattle.rls_causal.specs.Putting.{IsAnswer, put_in};
 
 use indexmap::IndexMap;
 use rls_ident::Vector;
@@ -35,6 +36,17 @@ impl Model for Held {
     ghost view = { λ h. values h.ops };
 
     ghost invariant = { λ h. IsHeld h.ops.entries };
+}
+
+/// How an operation was put among those that wait.
+#[derive(Drop)]
+pub enum Put {
+    /// It waits now.
+    Added,
+    /// An equal operation waited already.
+    Same,
+    /// A different operation waits under its number. This is a copy of it.
+    Forked { held: Box<Op> },
 }
 
 impl Held {
@@ -77,6 +89,21 @@ impl Held {
         self.ops.values().find(|op| op.context.at_most(vector))
     }
 
+    /// Puts an operation among those that wait, unless one waits under its author and number
+    /// already: then nothing changes, and the answer tells whether the two are equal. It takes time
+    /// in proportion to the operations that wait behind the new one.
+    pub fn put(&mut self, op: Op) -> Result<Put, AllocError>
+        ensures answer { IfOk result (λ put. IsAnswer put (waiting_under self.old op.author op.seq) op) }
+        ensures after { OnOk result (self.new ≡ put_in op self.old) }
+        ensures err { OnErr result (self.new ≡ self.old) }
+    {
+        if let Some(held) = self.get(op.author, op.seq) {
+            return tell_apart(*self.ops.allocator(), held, &op);
+        }
+        self.add(op)?;
+        Ok(Put::Added)
+    }
+
     /// Takes out what waits under this author and number.
     pub fn remove(&mut self, author: u32, seq: u32) -> Option<Op>
         ensures found { result ≡ waiting_under self.old author seq }
@@ -101,6 +128,19 @@ impl Held {
         self.ops.shift_insert(place, number, op)?;
         Ok(())
     }
+}
+
+// How an operation is put where this one waits under its number.
+fn tell_apart(alloc: Global, held: &Op, op: &Op) -> Result<Put, AllocError>
+    ensures answer { IfOk result (λ put. IsAnswer put (Some held.now) op.now) }
+{
+    if held.same(op) {
+        return Ok(Put::Same);
+    }
+    let copy = held.copy()?;
+    Ok(Put::Forked {
+        held: Box::new(alloc, copy)?,
+    })
 }
 
 // Whether the first operation comes before the second, by author and then by number.

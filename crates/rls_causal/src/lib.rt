@@ -3,4 +3,4 @@
 
 mod held;
 
-pub use held::Held;
+pub use held::{Held, Put};

@@ -129,3 +129,13 @@ with_in_order o (w ∷ ws) h f = go (comes_before w o) refl (with_in_order o ws 
         let b = before_total o w t (f w (inl refl)) in
         and_true (list_all (comes_before o) (w ∷ ws)) (is_in_order (w ∷ ws))
         (and_true (comes_before o w) (list_all (comes_before o) ws) b (all_in (comes_before o) ws (λ x p. before_trans o w x b (in_all (comes_before w) x ws behind p)))) h
+
+-- what comes after an operation doesn't come before it
+pub not_after : (o w : Op) → comes_before o w ≡ true → comes_before w o ≡ false
+not_after o w h = not_true (comes_before w o) (λ k. go (before_is o w h) (before_is w o k))
+  where
+    go : (o.author < w.author) ⊎ ((o.author ≡ w.author) × (o.seq < w.seq)) → (w.author < o.author) ⊎ ((w.author ≡ o.author) × (w.seq < o.seq)) → ⊥
+    go (inl l) (inl m) = absurd (omega arith)
+    go (inl l) (inr m) = let e = m.0 in absurd (omega arith)
+    go (inr l) (inl m) = let e = l.0 in absurd (omega arith)
+    go (inr l) (inr m) = let e = l.1 in let f = m.1 in absurd (omega arith)
