@@ -56,3 +56,15 @@ pub shifted_less : (j k : ℤ) (x : List Tuple) → IsIdent x → j <ℤ k → L
 shifted_less j k [] i h = absurd (cc)
 shifted_less j k (t ∷ []) i h = record { less = let e = raised_less j k t i h in rw e refl }
 shifted_less j k (t ∷ (u ∷ x)) i h = lt_cons tuples t (shifted_less j k (u ∷ x) i h)
+
+raised_at : (k : ℤ) (t : Tuple) → is_at t ≡ true → is_at (raised k t) ≡ true
+raised_at k Low h = h
+raised_at k (At p r s o) h = refl
+raised_at k High h = h
+
+-- it stays an identifier
+pub ident_shifted : (k : ℤ) (x : List Tuple) → IsIdent x → IsIdent (shifted k x)
+ident_shifted k [] h = h
+ident_shifted k (t ∷ []) h = raised_at k t h
+ident_shifted k (t ∷ (u ∷ [])) h = raised_at k u h
+ident_shifted k (t ∷ (u ∷ (v ∷ x))) h = ident_shifted k (u ∷ (v ∷ x)) h

@@ -38,16 +38,13 @@ counted : (x : List Tuple) (xs : List (List Tuple)) (y : List Tuple) (b : Bool) 
 counted x xs y b n e h = ap (λ c. cond c (suc (below_count xs y)) (below_count xs y)) e ∙ ap (λ m. cond b (suc m) m) h
 
 -- one more that is less, or that isn't
-one_below : (x : List Tuple) (xs : List (List Tuple)) (y : List Tuple) (n : ℕ) → ident_cmp x y ≡ Less → Tells xs y false n → Tells (x ∷ xs) y false (suc n)
-one_below x xs y n e h = let f = ap is_eq e in let g = h.0 in (rw (f, g) refl, counted x xs y true n (ap is_lt e) h.1)
+pub one_less : (x : List Tuple) (xs : List (List Tuple)) (y : List Tuple) (b : Bool) (n : ℕ) → ident_cmp x y ≡ Less → Tells xs y b n → Tells (x ∷ xs) y b (suc n)
+one_less x xs y b n e h = let f = ap is_eq e in let g = h.0 in (rw (f, g) refl, counted x xs y true n (ap is_lt e) h.1)
 
-one_above : (x : List Tuple) (xs : List (List Tuple)) (y : List Tuple) (n : ℕ) → ident_cmp x y ≡ Greater → Tells xs y false n → Tells (x ∷ xs) y false n
+pub one_above : (x : List Tuple) (xs : List (List Tuple)) (y : List Tuple) (n : ℕ) → ident_cmp x y ≡ Greater → Tells xs y false n → Tells (x ∷ xs) y false n
 one_above x xs y n e h = let f = ap is_eq e in let g = h.0 in (rw (f, g) refl, counted x xs y false n (ap is_lt e) h.1)
 
-one_less : (x : List Tuple) (xs : List (List Tuple)) (y : List Tuple) (n : ℕ) → ident_cmp x y ≡ Less → Tells xs y true n → Tells (x ∷ xs) y true (suc n)
-one_less x xs y n e h = let f = ap is_eq e in let g = h.0 in (rw (f, g) refl, counted x xs y true n (ap is_lt e) h.1)
-
-one_same : (x : List Tuple) (xs : List (List Tuple)) (y : List Tuple) (n : ℕ) → ident_cmp x y ≡ Equal → Tells xs y false n → Tells (x ∷ xs) y true n
+pub one_same : (x : List Tuple) (xs : List (List Tuple)) (y : List Tuple) (n : ℕ) → ident_cmp x y ≡ Equal → Tells xs y false n → Tells (x ∷ xs) y true n
 one_same x xs y n e h = let f = ap is_eq e in (rw f refl, counted x xs y false n (ap is_lt e) h.1)
 
 -- ---- a common front
@@ -83,7 +80,7 @@ first_decides t u x y o e = ap (λ c. ordering_then c (ident_cmp x y)) e
 
 before_tells : (t : Tuple) (xs : List (List Tuple)) (u : Tuple) (y : List Tuple) → tuple_cmp t u ≡ Less → Tells (map (λ x. t ∷ x) xs) (u ∷ y) false (length xs)
 before_tells t [] u y e = (refl, refl)
-before_tells t (x ∷ xs) u y e = one_below (t ∷ x) (map (λ z. t ∷ z) xs) (u ∷ y) (length xs) (first_decides t u x y Less e) (before_tells t xs u y e)
+before_tells t (x ∷ xs) u y e = one_less (t ∷ x) (map (λ z. t ∷ z) xs) (u ∷ y) false (length xs) (first_decides t u x y Less e) (before_tells t xs u y e)
 
 behind_tells : (t : Tuple) (xs : List (List Tuple)) (u : Tuple) (y : List Tuple) → tuple_cmp t u ≡ Greater → Tells (map (λ x. t ∷ x) xs) (u ∷ y) false 0
 behind_tells t [] u y e = (refl, refl)
@@ -113,7 +110,7 @@ spots p r q o n = run_idents (At p r q o ∷ []) n
 
 pub below_tells : (p r q : ℕ) (o : ℤ) (n : ℕ) (u : Tuple) (y : List Tuple) → ((k : ℤ) → tuple_cmp (At p r q k) u ≡ Less) → Tells (spots p r q o n) (u ∷ y) false n
 below_tells p r q o zero u y e = (refl, refl)
-below_tells p r q o (suc n) u y e = one_below (At p r q o ∷ []) (spots p r q (o +ℤ pos 1) n) (u ∷ y) n (first_decides (At p r q o) u [] y Less (e o)) (below_tells p r q (o +ℤ pos 1) n u y e)
+below_tells p r q o (suc n) u y e = one_less (At p r q o ∷ []) (spots p r q (o +ℤ pos 1) n) (u ∷ y) false n (first_decides (At p r q o) u [] y Less (e o)) (below_tells p r q (o +ℤ pos 1) n u y e)
 
 pub above_tells : (p r q : ℕ) (o : ℤ) (n : ℕ) (u : Tuple) (y : List Tuple) → ((k : ℤ) → tuple_cmp (At p r q k) u ≡ Greater) → Tells (spots p r q o n) (u ∷ y) false 0
 above_tells p r q o zero u y e = (refl, refl)
@@ -174,7 +171,7 @@ module _ (p r q : ℕ) (k : ℤ) where
   -- all are less
   all_lower : (o : ℤ) (n : ℕ) (y : List Tuple) → (o +ℤ pos n) ≤ℤ at_end y → Tells (spots p r q o n) (At p r q k ∷ y) false n
   all_lower o zero y h = (refl, refl)
-  all_lower o (suc n) y h = one_below (At p r q o ∷ []) (spots p r q (o +ℤ pos 1) n) (At p r q k ∷ y) n (lower o y (omega (arith, ints))) (all_lower (o +ℤ pos 1) n y (omega (arith, ints)))
+  all_lower o (suc n) y h = one_less (At p r q o ∷ []) (spots p r q (o +ℤ pos 1) n) (At p r q k ∷ y) false n (lower o y (omega (arith, ints))) (all_lower (o +ℤ pos 1) n y (omega (arith, ints)))
 
   -- none is
   all_higher : (o : ℤ) (n : ℕ) (y : List Tuple) → k <ℤ o → Tells (spots p r q o n) (At p r q k ∷ y) false 0
@@ -186,7 +183,7 @@ module _ (p r q : ℕ) (k : ℤ) where
   unfolding at_end
   some_longer o n zero u us e h = all_higher o n (u ∷ us) (omega (arith, ints))
   some_longer o zero (suc m) u us e h = absurd (omega arith)
-  some_longer o (suc n) (suc m) u us e h = one_below (At p r q o ∷ []) (spots p r q (o +ℤ pos 1) n) (At p r q k ∷ (u ∷ us)) m (lower o (u ∷ us) (omega (arith, ints))) (some_longer (o +ℤ pos 1) n m u us (omega (arith, ints)) (omega arith))
+  some_longer o (suc n) (suc m) u us e h = one_less (At p r q o ∷ []) (spots p r q (o +ℤ pos 1) n) (At p r q k ∷ (u ∷ us)) false m (lower o (u ∷ us) (omega (arith, ints))) (some_longer (o +ℤ pos 1) n m u us (omega (arith, ints)) (omega arith))
 
   -- so many are, and the next one is there where nothing stands behind
   some_lower : (o : ℤ) (n m : ℕ) → (o +ℤ pos m) ≡ k → m < n → Tells (spots p r q o n) (At p r q k ∷ []) true m
@@ -195,7 +192,7 @@ module _ (p r q : ℕ) (k : ℤ) where
   some_lower o (suc n) zero e h =
       let here = first_decides (At p r q o) (At p r q k) [] [] Equal (offsets p r q o k ∙ eq_cmp o k (omega (arith, ints))) in
       one_same (At p r q o ∷ []) (spots p r q (o +ℤ pos 1) n) (At p r q k ∷ []) 0 here (all_higher (o +ℤ pos 1) n [] (omega (arith, ints)))
-  some_lower o (suc n) (suc m) e h = one_less (At p r q o ∷ []) (spots p r q (o +ℤ pos 1) n) (At p r q k ∷ []) m (lower o [] (omega (arith, ints))) (some_lower (o +ℤ pos 1) n m (omega (arith, ints)) (omega arith))
+  some_lower o (suc n) (suc m) e h = one_less (At p r q o ∷ []) (spots p r q (o +ℤ pos 1) n) (At p r q k ∷ []) true m (lower o [] (omega (arith, ints))) (some_lower (o +ℤ pos 1) n m (omega (arith, ints)) (omega arith))
 
   -- the place by the offset
   pub place_before : (o : ℤ) (n : ℕ) (y : List Tuple) → k <ℤ o → find_ident (spots p r q o n) (At p r q k ∷ y) ≡ Err 0

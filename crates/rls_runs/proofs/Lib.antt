@@ -1,4 +1,9 @@
 pub mod RunsOf
 pub mod Texts
 pub mod Finding
+pub mod RunOrder
+pub mod RunPlaces
+pub mod RunJoins
+pub mod RunEnds
+pub mod RunLists
 mod Worked

@@ -9,7 +9,7 @@ abbrev pub below_count : List (List Tuple) → List Tuple → ℕ
 below_count [] x = 0
 below_count (y ∷ ys) x = if ident_lt y x then suc (below_count ys x) else below_count ys x
 
--- the place of x, or where it isn't there the number of identifiers less than it
+-- the same as `place_of` of a strictly increasing list, by a test and a count: the place of x, or where it isn't there the number of identifiers less than it
 abbrev pub find_ident : List (List Tuple) → List Tuple → Result ℕ ℕ
 find_ident xs x = if has_ident xs x then Ok (below_count xs x) else Err (below_count xs x)
 

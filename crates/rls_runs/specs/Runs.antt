@@ -1,5 +1,5 @@
 -- Lists of identifiers and their runs. A run is a first identifier and a length.
-use Rattle.std.specs.Prelude.{ℕ, zero, suc, ◌+◌, ℤ, pos, ◌+ℤ◌, int_le, Bool, true, ◌&&◌, not, List, [], ◌∷◌, ◌++◌, ◌-◌, nat_lt, Option, Some, None, Result, Ok, Err, if◌then◌else◌, IsTrue}
+use Rattle.std.specs.Prelude.{◌≡◌, length, ℕ, zero, suc, ◌+◌, ℤ, pos, ◌+ℤ◌, int_le, Bool, true, ◌&&◌, not, List, [], ◌∷◌, ◌++◌, ◌-◌, nat_lt, Option, Some, None, Result, Ok, Err, if◌then◌else◌, IsTrue}
 use Rattle.std.specs.List.{list_all}
 use Rattle.rls_ident.specs.declared.tuple.Tuple.{Tuple}
 use Rattle.std.specs.declared.cmp.Ordering.{Ordering}
@@ -83,3 +83,15 @@ place_from i x (y ∷ ys) = placed (ident_cmp y x) i (place_from (suc i) x ys)
 -- the place of x in a strictly increasing list, or else the number of identifiers below it
 unfoldable pub place_of : List Tuple → List (List Tuple) → Result ℕ ℕ
 place_of x ys = place_from 0 x ys
+
+-- how many identifiers stand in front of each run, where n stand in front of the first one
+abbrev pub starts_of : ℕ → List (List Tuple × ℕ) → List ℕ
+starts_of n [] = []
+starts_of n (r ∷ rs) = n ∷ starts_of (n + r.1) rs
+
+-- maximal runs, with the number of identifiers in front of each and in all
+pub record AreRuns (runs : List (List Tuple × ℕ)) (starts : List ℕ) (total : ℕ) : Type 0 where
+  pub apart : IsTrue (are_apart None runs)
+  pub sound : IsTrue (list_all is_run runs)
+  pub starts_are : starts ≡ starts_of 0 runs
+  pub total_is : total ≡ length (idents_of runs)

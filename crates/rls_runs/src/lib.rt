@@ -8,5 +8,5 @@ mod text;
 
 pub use run::{Run, RunError};
 pub use run_list::RunList;
-pub use runs::Runs;
+pub use runs::{PushError, Runs};
 pub use text::Text;

@@ -1,10 +1,10 @@
 //! Runs.
 
-ghost use Rattle.std.specs.Prelude.{◌≡◌, ℕ, ◌<◌, List, ◌∷◌, ◌++◌, [], length, ◌+ℤ◌, ◌<ℤ◌, pos, ◌↔◌, IfSome, IfNone, IfOk, IsErrOf, IsTrue};
+ghost use Rattle.std.specs.Prelude.{◌≡◌, ℕ, ◌+◌, ◌<◌, List, ◌∷◌, ◌++◌, [], length, ◌+ℤ◌, ◌<ℤ◌, pos, ◌↔◌, IfSome, IfNone, IfOk, IsErrOf, IsTrue};
 ghost use Rattle.rls_ident.specs.declared.tuple.Tuple.{Tuple};
 ghost use Rattle.rls_ident.specs.Tuples.{at_spot, offset_of};
-ghost use Rattle.rls_ident.specs.Identifiers.{last_of};
-ghost use Rattle.rls_runs.specs.Runs.{run_idents, is_run, past_offsets};
+ghost use Rattle.rls_ident.specs.Identifiers.{last_of, ident_lt, follows};
+ghost use Rattle.rls_runs.specs.Runs.{run_idents, run_last, place_of, is_run, past_offsets};
 ghost use Rattle.rls_runs.specs.Places.{find_ident};
 
 use rls_ident::{Ident, Spot, Tuple};
@@ -84,9 +84,35 @@ impl Run {
     /// The identifier's place in the run, or where it isn't there the number of the run's
     /// identifiers less than it. It takes no memory, and costs a comparison of two identifiers.
     pub fn find(&self, id: &Ident) -> Result<u32, u32>
+        ensures place { result ≡ place_of id.now (run_idents self.now.0 self.now.1) }
         ensures find { result ≡ find_ident (run_idents self.now.0 self.now.1) id.now }
     {
         find_behind(self.first.front(), self.first.last(), self.len, id)
+    }
+
+    /// Whether its last identifier is less than this one. It takes no memory.
+    pub fn ends_below(&self, id: &Ident) -> bool
+        ensures below { result ≡ ident_lt (run_last self.now) id.now }
+    {
+        match self.find(id) {
+            Ok(_) => false,
+            Err(below) => below == self.len,
+        }
+    }
+
+    /// Whether this identifier has the base of its last one and the next offset. It takes no memory.
+    pub fn touches(&self, id: &Ident) -> bool
+        ensures touches { result ≡ follows id.now (run_last self.now) }
+    {
+        id.follows_by(&self.first, self.len)
+    }
+
+    // Has so many more identifiers at its end.
+    pub(crate) fn grow(&mut self, by: u32)
+        requires fits { IsTrue (is_run (self.old.0, self.old.1 + by)) }
+        ensures longer { self.new ≡ (self.old.0, self.old.1 + by) }
+    {
+        self.len += by;
     }
 
     /// The same again.
