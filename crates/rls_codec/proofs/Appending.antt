@@ -2,7 +2,7 @@
 use Rattle.std.proofs.Common.{◌≡◌, ℕ, ◌+◌, ◌≤◌, ◌<◌, List, [], ◌∷◌, ◌++◌, length, take, drop, refl, sym, ap, ◌∙◌, append_assoc, arith, get_or}
 use Rattle.std.specs.Prelude.{encode_utf8_all, encode_utf8}
 use Rattle.std.specs.List.{flat_map, concat}
-use Rattle.std.proofs.lemmas.List.{append-nil, take_all, take_at, take-take, length-take, take-append-drop, length-append}
+use Rattle.std.proofs.lemmas.List.{append-nil, take_more, take_all, take_at, take-take, length-take, take-append-drop, length-append}
 use Rattle.std.proofs.lemmas.Str.{encodes-append}
 use Rattle.rls_runs.proofs.Texts.{encodes_more}
 use Rattle.rls_ident.specs.declared.tuple.Tuple.{Tuple}
@@ -48,3 +48,11 @@ encodes_joined front back text e = sym (ap length (encodes_parts front back text
 
 pub puts_parts : (o p q front back text : List ℕ) → front ++ back ≡ text → p ≡ o ++ encode_utf8_all front → q ≡ p ++ encode_utf8_all back → q ≡ o ++ encode_utf8_all text
 puts_parts o p q front back text e f h = h ∙ ap (λ w. w ++ encode_utf8_all back) f ∙ append_assoc o (encode_utf8_all front) (encode_utf8_all back) ∙ ap (λ w. o ++ w) (sym (encodes_parts front back text e))
+
+-- one more part
+pub part_more : {A : Type 0} (part : A → List ℕ) (xs : List A) (i : ℕ) (d : A) (o p q : List ℕ) → i < length xs → p ≡ o ++ flat_map part (take i xs) → q ≡ p ++ part (get_or xs i d) → q ≡ o ++ flat_map part (take (i + 1) xs)
+part_more part xs i d o p q lt e h =
+    h
+    ∙ ap (λ w. w ++ part (get_or xs i d)) e
+    ∙ append_assoc o (flat_map part (take i xs)) (part (get_or xs i d))
+    ∙ ap (λ w. o ++ w) (sym (ap (flat_map part) (take_more xs i d lt) ∙ flat_map_pushed part (take i xs) (get_or xs i d)))

@@ -191,7 +191,7 @@ parts_fit before [] f = absurd f
 parts_fit before (t ∷ []) f = (tt, f)
 parts_fit before (t ∷ (u ∷ ts)) f = let q = parts_fit (Some t) (u ∷ ts) f.1 in ((f.0, q.0), q.1)
 
-pushed_fit : (before : Option Tuple) (front : List Tuple) (l : Tuple) → Chained (λ b. FitsInner) before front → FitsAt least_offset l → FitTuples (front ++ l ∷ [])
+pub pushed_fit : (before : Option Tuple) (front : List Tuple) (l : Tuple) → Chained (λ b. FitsInner) before front → FitsAt least_offset l → FitTuples (front ++ l ∷ [])
 pushed_fit before [] l c f = f
 pushed_fit before (t ∷ []) l c f = (c.0, f)
 pushed_fit before (t ∷ (u ∷ ts)) l c f = (c.0, pushed_fit (Some t) (u ∷ ts) l c.1 f)

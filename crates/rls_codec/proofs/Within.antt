@@ -1,12 +1,12 @@
 -- A fault lies within the bytes that were read, and so does what is left.
 use Rattle.std.proofs.Common.{◌≡◌, ℕ, zero, suc, ◌+◌, ◌≤◌, Bool, true, false, cond, List, [], ◌∷◌, length, take, drop, Option, Some, None, Result, Ok, Err, refl, ap, arith, inl, inr, ◌⊎◌}
 use Rattle.std.specs.Prelude.{nat_lt, ℤ}
-use Rattle.std.specs.Int.{Width, w32, byte_len}
+use Rattle.std.specs.Int.{Width, w32, w64, byte_len}
 use Rattle.std.proofs.lemmas.List.{length-drop}
 use Rattle.rls_ident.specs.declared.epoch_name.EpochName.TheVariants.{Origin}
 use Rattle.rls_ident.specs.declared.tuple.Tuple.TheVariants.{Low, High}
 use Rattle.rls_ops.specs.declared.op.Body.TheVariants.{Leave}
-use Rattle.rls_codec.specs.Reading.{◌>>=◌, Read, with_rule, byte_at, number_at, bytes_at, signed_at, chain_at, spot_at, inner_of_kind, inner_at, last_at, ident_at, run_at, next_run_at, runs_at, name_of_kind, name_at, text_at, body_of_kind, body_at, op_fields_at, op_at, op_limit}
+use Rattle.rls_codec.specs.Reading.{◌>>=◌, Read, with_rule, byte_at, number_at, bytes_at, signed_at, chain_at, spot_at, inner_of_kind, inner_at, last_at, ident_at, run_at, next_run_at, runs_at, name_of_kind, name_at, text_at, body_of_kind, body_at, op_fields_at, op_at, op_limit, message_and_form_at, message_at}
 use Rattle.rls_codec.proofs.Formats.{bind_ok, ok_is}
 
 pub record Within {A : Type 0} (read : List ℕ → Read A) : Type 0 where
@@ -180,3 +180,13 @@ op_fields members = then _ (number w32) (λ a. then _ (number w32) (λ s. then _
 pub op : (members : ℕ) → Within (op_at members)
 unfolding op_at
 op members = limited op_limit (op_fields members)
+
+message_and_form : Within message_and_form_at
+unfolding message_and_form_at
+message_and_form =
+    then _ (ruled _ (raw _)) (λ m. then _ (ruled _ byte) (λ form. then _ (number w64) (λ group. then _ (ruled _ (number w32)) (λ members. then _ (ruled _ (number w32)) (λ from.
+    then _ (chain (λ before. number_at w32) (λ before. number w32) None members) (λ v. then _ (then _ (number w32) (λ n. chain (λ before. op_at members) (λ before. op members) None n)) (λ os. as_is _)))))))
+
+pub message : Within message_at
+unfolding message_at
+message = then _ message_and_form (λ m. as_is _)

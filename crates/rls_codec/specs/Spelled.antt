@@ -1,5 +1,5 @@
 -- Which values have a spelling: those that keep the rules of the format.
-use Rattle.std.specs.Prelude.{◌≡◌, ℕ, ◌^◌, ◌<◌, ◌≤◌, ℤ, negsuc, List, [], ◌∷◌, length, encode_utf8_all, Option, Some, None, IsTrue}
+use Rattle.std.specs.Prelude.{◌≡◌, ℕ, ◌^◌, ◌<◌, ◌≤◌, ℤ, negsuc, List, [], ◌∷◌, length, encode_utf8_all, All, Option, Some, None, IsTrue}
 use Rattle.std.specs.Str.{all_scalars}
 use Rattle.rls_ident.specs.declared.tuple.Tuple.{Tuple}
 use Rattle.rls_ident.specs.declared.tuple.Tuple.TheVariants.{Low, At, High}
@@ -12,6 +12,8 @@ use Rattle.rls_ops.specs.declared.op.Body.{Body}
 use Rattle.rls_ops.specs.declared.op.Body.TheVariants.{Insert, Delete, Rename, Leave}
 use Rattle.rls_ops.specs.declared.message.Message.{Message}
 use Rattle.rls_ops.specs.Spelling.{op_bytes}
+use Rattle.rls_ops.specs.Sizes.{op_size}
+use Rattle.rls_ops.specs.WellFormed.{IsBody}
 use Rattle.rls_codec.specs.Reading.{is_offset, is_run_len, op_limit, is_member_count}
 
 -- a number of four bytes, and of eight
@@ -25,6 +27,12 @@ IsLarge n = n < 2 ^ 64
 abbrev pub Chained : {A : Type 0} → (Option A → A → Type 0) → Option A → List A → Type 0
 Chained F before [] = Unit {0}
 Chained F before (x ∷ xs) = F before x × Chained F (Some x) xs
+
+-- the numbers of a tuple fit four bytes
+abbrev pub IsSmallTuple : Tuple → Type 0
+IsSmallTuple (At p r s o) = IsSmall p × IsSmall r × IsSmall s
+IsSmallTuple Low = Unit {0}
+IsSmallTuple High = Unit {0}
 
 -- an `At` with an offset from this one on
 abbrev pub FitsAt : ℤ → Tuple → Type 0
@@ -91,3 +99,20 @@ pub record IsSpelledMessage (m : Message) : Type 0 where
   pub vector : FitsVector m.members m.vector
   pub count : IsSmall (length m.ops)
   pub ops : Chained (λ before. IsSpelled m.members) None m.ops
+
+-- ---- what a value must keep to have a spelling, beside the ranges of the types of the code
+
+-- an operation with a well formed body that keeps the limit has one
+abbrev pub IsSpelledIfFit : Op → Type 0
+IsSpelledIfFit o = IsBody o.body → op_size o ≤ op_limit → IsSpelled (length o.context) o
+
+-- a message's operation
+abbrev pub IsFitAmong : ℕ → Op → Type 0
+IsFitAmong members o = IsBody o.body × (op_size o ≤ op_limit) × (length o.context ≡ members)
+
+-- a message
+pub record IsFit (m : Message) : Type 0 where
+  pub members : IsTrue (is_member_count m.members)
+  pub from : m.from < m.members
+  pub vector : length m.vector ≡ m.members
+  pub ops : All (IsFitAmong m.members) m.ops

@@ -10,7 +10,7 @@ mod writing;
 
 pub use fault::{DecodeError, ReadError};
 pub use fields::{byte, epoch_name, i32_at, text, u32_at, u64_at, vector};
-pub use idents::ident;
+pub use idents::{ident, run};
 pub use puts::{
     put_byte, put_i32, put_ident, put_name, put_run, put_runs, put_text, put_u32, put_u64,
     put_vector,

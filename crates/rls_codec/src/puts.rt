@@ -5,9 +5,11 @@
 
 ghost use Rattle.std.specs.Prelude.{◌≡◌, ◌<◌, ◌^◌, ◌++◌, [], ◌∷◌, length, All, OnOk, encode_utf8, encode_utf8_all};
 ghost use Rattle.std.specs.List.{flat_map};
-ghost use Rattle.rls_runs.specs.Runs.{runs_of};
+ghost use Rattle.std.specs.Char.{IsScalar};
+ghost use Rattle.rls_runs.specs.Runs.{runs_of, AreIdents};
 ghost use Rattle.rls_ops.specs.Spelling.{four_bytes, eight_bytes, signed_bytes, tuple_bytes, ident_bytes, run_bytes, runs_bytes, vector_bytes, name_bytes, text_bytes};
 ghost use Rattle.rls_codec.specs.Gives.{IsFrontOf};
+ghost use Rattle.rls_codec.specs.Spelled.{IsSmall, IsSmallTuple, FitsIdent, FitsName, FitsText, FitsRun, FitRuns};
 
 use rls_ident::{EpochName, Ident, Tuple, Vector};
 use rls_runs::{Run, Runs, Text};
@@ -49,6 +51,7 @@ pub fn put_i32(out: &mut Vec<u8>, z: i32) -> Result<(), AllocError>
 fn put_tuple(out: &mut Vec<u8>, tuple: Tuple) -> Result<(), AllocError>
     ensures ok { OnOk result (out.new.items ≡ out.old.items ++ tuple_bytes tuple) }
     ensures keeps { IsFrontOf out.old.items out.new.items }
+    ensures small { IsSmallTuple tuple }
 {
     match tuple {
         Tuple::Low => put_byte(out, 0),
@@ -69,9 +72,11 @@ fn put_tuple(out: &mut Vec<u8>, tuple: Tuple) -> Result<(), AllocError>
     }
 }
 
+#[tactic(auto, using(crate::proofs::Fits::all_small))]
 fn put_tuples(out: &mut Vec<u8>, tuples: &[Tuple]) -> Result<(), AllocError>
     ensures ok { OnOk result (out.new.items ≡ out.old.items ++ flat_map tuple_bytes tuples.now) }
     ensures keeps { IsFrontOf out.old.items out.new.items }
+    ensures small { OnOk result (All IsSmallTuple tuples.now) }
 {
     for tuple in tuples {
         put_tuple(out, *tuple)?;
@@ -80,11 +85,12 @@ fn put_tuples(out: &mut Vec<u8>, tuples: &[Tuple]) -> Result<(), AllocError>
 }
 
 /// An identifier.
-#[tactic(auto, using(crate::proofs::Appending::ident_parts))]
+#[tactic(auto, using(crate::proofs::Appending::ident_parts, crate::proofs::Fits::ident_fits))]
 pub fn put_ident(out: &mut Vec<u8>, ident: &Ident) -> Result<(), AllocError>
     requires { length ident.now < 2 ^ 32 }
     ensures ok { OnOk result (out.new.items ≡ out.old.items ++ ident_bytes ident.now) }
     ensures keeps { IsFrontOf out.old.items out.new.items }
+    ensures fits { OnOk result (FitsIdent ident.now) }
 {
     let front = ident.front();
     put_u32(out, front.len() as u32 + 1)?;
@@ -96,6 +102,7 @@ pub fn put_ident(out: &mut Vec<u8>, ident: &Ident) -> Result<(), AllocError>
 pub fn put_vector(out: &mut Vec<u8>, vector: &Vector) -> Result<(), AllocError>
     ensures ok { OnOk result (out.new.items ≡ out.old.items ++ vector_bytes vector.now) }
     ensures keeps { IsFrontOf out.old.items out.new.items }
+    ensures small { All IsSmall vector.now }
 {
     put_counts(out, vector.counts())
 }
@@ -103,6 +110,7 @@ pub fn put_vector(out: &mut Vec<u8>, vector: &Vector) -> Result<(), AllocError>
 fn put_counts(out: &mut Vec<u8>, counts: &[u32]) -> Result<(), AllocError>
     ensures ok { OnOk result (out.new.items ≡ out.old.items ++ flat_map four_bytes counts.now) }
     ensures keeps { IsFrontOf out.old.items out.new.items }
+    ensures small { All IsSmall counts.now }
 {
     for count in counts {
         put_u32(out, *count)?;
@@ -114,6 +122,7 @@ fn put_counts(out: &mut Vec<u8>, counts: &[u32]) -> Result<(), AllocError>
 pub fn put_name(out: &mut Vec<u8>, name: EpochName) -> Result<(), AllocError>
     ensures ok { OnOk result (out.new.items ≡ out.old.items ++ name_bytes name) }
     ensures keeps { IsFrontOf out.old.items out.new.items }
+    ensures fits { FitsName name }
 {
     match name {
         EpochName::Origin => put_byte(out, 0),
@@ -168,6 +177,7 @@ fn text_len(text: &Text) -> u64
 fn put_text_chars(out: &mut Vec<u8>, text: &Text) -> Result<(), AllocError>
     ensures ok { OnOk result (out.new.items ≡ out.old.items ++ encode_utf8_all text.now) }
     ensures keeps { IsFrontOf out.old.items out.new.items }
+    ensures scalars { All IsScalar text.now }
 {
     let (front, back) = text.as_slices();
     put_chars(out, front)?;
@@ -176,30 +186,36 @@ fn put_text_chars(out: &mut Vec<u8>, text: &Text) -> Result<(), AllocError>
 }
 
 /// A text: how many bytes it has in UTF-8, and these bytes.
+#[tactic(auto, using(crate::proofs::Fits::text_fits))]
 pub fn put_text(out: &mut Vec<u8>, text: &Text) -> Result<(), AllocError>
     requires { length (encode_utf8_all text.now) < 2 ^ 32 }
     ensures ok { OnOk result (out.new.items ≡ out.old.items ++ text_bytes text.now) }
     ensures keeps { IsFrontOf out.old.items out.new.items }
+    ensures fits { OnOk result (FitsText text.now) }
 {
     put_u32(out, text_len(text) as u32)?;
     put_text_chars(out, text)
 }
 
 /// A run: its first identifier and its length.
+#[tactic(auto, using(crate::proofs::Fits::run_fits))]
 pub fn put_run(out: &mut Vec<u8>, run: &Run) -> Result<(), AllocError>
     requires { length run.now.0 < 2 ^ 32 }
     ensures ok { OnOk result (out.new.items ≡ out.old.items ++ run_bytes run.now) }
     ensures keeps { IsFrontOf out.old.items out.new.items }
+    ensures fits { OnOk result (FitsRun run.now) }
 {
     put_ident(out, run.first())?;
     put_u32(out, run.len())?;
     Ok(())
 }
 
+#[tactic(auto, using(crate::proofs::Fits::all_fit))]
 fn put_run_list(out: &mut Vec<u8>, runs: &[Run]) -> Result<(), AllocError>
     requires { All (λ r. length r.0 < 2 ^ 32) runs.now }
     ensures ok { OnOk result (out.new.items ≡ out.old.items ++ flat_map run_bytes runs.now) }
     ensures keeps { IsFrontOf out.old.items out.new.items }
+    ensures fits { OnOk result (All FitsRun runs.now) }
 {
     for run in runs {
         put_run(out, run)?;
@@ -208,11 +224,13 @@ fn put_run_list(out: &mut Vec<u8>, runs: &[Run]) -> Result<(), AllocError>
 }
 
 /// A list of identifiers, as the number of its maximal runs and these runs.
+#[tactic(auto, using(crate::proofs::Fits::runs_fit))]
 pub fn put_runs(out: &mut Vec<u8>, runs: &Runs) -> Result<(), AllocError>
     requires count { length (runs_of runs.now) < 2 ^ 32 }
     requires idents { All (λ r. length r.0 < 2 ^ 32) (runs_of runs.now) }
     ensures ok { OnOk result (out.new.items ≡ out.old.items ++ runs_bytes runs.now) }
     ensures keeps { IsFrontOf out.old.items out.new.items }
+    ensures fits { OnOk result (AreIdents runs.now → FitRuns runs.now) }
 {
     let list = runs.as_slice();
     put_u32(out, list.len() as u32)?;

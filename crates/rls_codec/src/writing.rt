@@ -4,7 +4,10 @@ ghost use Rattle.std.specs.Prelude.{◌≡◌, ◌<◌, ◌≤◌, ◌^◌, ◌+
 ghost use Rattle.std.specs.List.{flat_map};
 ghost use Rattle.rls_ops.specs.Spelling.{counted, kind_of, body_bytes, op_bytes, message_bytes};
 ghost use Rattle.rls_ops.specs.Sizes.{op_size, message_size};
+ghost use Rattle.rls_ops.specs.WellFormed.{IsBody};
 ghost use Rattle.rls_codec.specs.Gives.{IsShort, IsFrontOf};
+ghost use Rattle.rls_codec.specs.Spelled.{IsSmall, FitsBody, IsSpelledIfFit, IsFit};
+ghost use Rattle.rls_codec.specs.CodecLaws.{IsMessage};
 
 use crate::puts::{
     put_byte, put_ident, put_name, put_runs, put_text, put_u32, put_u64, put_vector,
@@ -19,6 +22,7 @@ fn put_body(out: &mut Vec<u8>, body: &Body) -> Result<(), AllocError>
     requires { IsShort body.now }
     ensures ok { OnOk result (out.new.items ≡ out.old.items ++ (kind_of body.now ∷ []) ++ body_bytes body.now) }
     ensures keeps { IsFrontOf out.old.items out.new.items }
+    ensures fits { OnOk result (IsBody body.now → FitsBody body.now) }
 {
     match body {
         Body::Insert { first, text } => {
@@ -45,11 +49,12 @@ fn put_body(out: &mut Vec<u8>, body: &Body) -> Result<(), AllocError>
 }
 
 /// Appends an operation; the cost is that of its runs and characters.
-#[tactic(auto, using(crate::proofs::SizeLaws::short_op), unfolding(rls_ops::specs::Spelling::op_bytes))]
+#[tactic(auto, using(crate::proofs::SizeLaws::short_op, crate::proofs::Fits::op_fits), unfolding(rls_ops::specs::Spelling::op_bytes))]
 pub fn put_op(out: &mut Vec<u8>, op: &Op) -> Result<(), AllocError>
     requires small { op_size op.now < 2 ^ 32 }
     ensures ok { OnOk result (out.new.items ≡ out.old.items ++ op_bytes op.now) }
     ensures keeps { IsFrontOf out.old.items out.new.items }
+    ensures fits { OnOk result (IsSpelledIfFit op.now) }
 {
     put_u32(out, op.author)?;
     put_u32(out, op.seq)?;
@@ -64,6 +69,7 @@ pub fn encode_op(out: &mut Vec<u8>, op: &Op) -> Result<(), AllocError>
     requires small { op_size op.now < 2 ^ 32 }
     ensures ok { OnOk result (out.new.items ≡ out.old.items ++ op_bytes op.now) }
     ensures err { OnErr result (out.new.items ≡ out.old.items) }
+    ensures spelled { OnOk result (IsSpelledIfFit op.now) }
 {
     let start = out.len();
     match put_op(out, op) {
@@ -75,10 +81,12 @@ pub fn encode_op(out: &mut Vec<u8>, op: &Op) -> Result<(), AllocError>
     }
 }
 
+#[tactic(auto, using(crate::proofs::Fits::all_ops_fit))]
 fn put_op_list(out: &mut Vec<u8>, ops: &[Op]) -> Result<(), AllocError>
     requires { All (λ o. op_size o < 2 ^ 32) ops.now }
     ensures ok { OnOk result (out.new.items ≡ out.old.items ++ flat_map op_bytes ops.now) }
     ensures keeps { IsFrontOf out.old.items out.new.items }
+    ensures fits { OnOk result (All IsSpelledIfFit ops.now) }
 {
     for op in ops {
         put_op(out, op)?;
@@ -92,6 +100,7 @@ pub fn put_ops(out: &mut Vec<u8>, ops: &Ops) -> Result<(), AllocError>
     requires small { All (λ o. op_size o < 2 ^ 32) ops.now }
     ensures ok { OnOk result (out.new.items ≡ out.old.items ++ counted op_bytes ops.now) }
     ensures keeps { IsFrontOf out.old.items out.new.items }
+    ensures fits { OnOk result (All IsSpelledIfFit ops.now) }
 {
     let list = ops.as_slice();
     put_u32(out, list.len() as u32)?;
@@ -105,11 +114,14 @@ fn put_magic(out: &mut Vec<u8>) -> Result<(), AllocError>
     out.extend_from_slice(b"RLSM")
 }
 
-/// The bytes of a message, in the newest form. The cost is that of its operations.
 #[tactic(auto, using(crate::proofs::SizeLaws::few_ops, crate::proofs::SizeLaws::small_ops), unfolding(rls_ops::specs::Spelling::message_in_form))]
-pub fn encode_message(alloc: Global, message: &Message) -> Result<Vec<u8>, AllocError>
+fn written(alloc: Global, message: &Message) -> Result<Vec<u8>, AllocError>
     requires limit { message_size message.now ≤ 67108864 }
     ensures bytes { IfOk result (λ bytes. bytes.items ≡ message_bytes message.now) }
+    ensures group { OnOk result (message.now.group < 2 ^ 64) }
+    ensures vector { OnOk result (All IsSmall message.now.vector) }
+    ensures count { OnOk result (length message.now.ops < 2 ^ 32) }
+    ensures ops { OnOk result (All IsSpelledIfFit message.now.ops) }
 {
     let mut out = Vec::new(alloc);
     put_magic(&mut out)?;
@@ -120,4 +132,15 @@ pub fn encode_message(alloc: Global, message: &Message) -> Result<Vec<u8>, Alloc
     put_vector(&mut out, &message.vector)?;
     put_ops(&mut out, &message.ops)?;
     Ok(out)
+}
+
+/// The bytes of a message, in the newest form. They are a message where it keeps the rules of the format. The cost is that of its operations.
+#[tactic(auto, using(crate::proofs::Fits::message_fits))]
+pub fn encode_message(alloc: Global, message: &Message) -> Result<Vec<u8>, AllocError>
+    requires limit { message_size message.now ≤ 67108864 }
+    ensures bytes { IfOk result (λ bytes. bytes.items ≡ message_bytes message.now) }
+    ensures message { IfOk result (λ bytes. IsFit message.now → IsMessage bytes.items message.now) }
+{
+    let bytes = written(alloc, message)?;
+    Ok(bytes)
 }

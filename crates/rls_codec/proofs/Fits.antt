@@ -1,0 +1,154 @@
+-- What is written fits the format.
+use Rattle.std.proofs.Common.{◌≡◌, ℕ, take, ◌+◌, ◌-◌, ◌^◌, ◌<◌, ◌≤◌, true, false, List, [], ◌∷◌, ◌++◌, length, Option, Some, None, refl, sym, ap, subst, ◌∙◌, arith}
+use Rattle.std.specs.Prelude.{ℤ, pos, ◌+ℤ◌, All, IsTrue, nat_lt, ◌&&◌, not, encode_utf8_all}
+use Rattle.std.specs.Char.{IsScalar}
+use Rattle.std.specs.Int.RustNames.{int_le}
+use Rattle.std.proofs.lemmas.Int.{ints}
+use Rattle.std.proofs.lemmas.List.Elements.{All-head, All-tail}
+use Rattle.std.proofs.lemmas.List.{take_all}
+use Rattle.rls_ident.specs.declared.tuple.Tuple.{Tuple}
+use Rattle.rls_ident.specs.declared.tuple.Tuple.TheVariants.{Low, At, High}
+use Rattle.rls_ident.specs.Tuples.{offset_of}
+use Rattle.rls_ident.specs.Identifiers.{is_ident, is_bounded, is_inner_bounded, is_last_bounded, least_offset, last_of, shifted, ident_lt, follows}
+use Rattle.rls_ident.proofs.Members.{bool_cases, and_left, and_right, and_true, lt_is, lt_test}
+use Rattle.rls_ident.proofs.Ends.{eq_same}
+use Rattle.rls_runs.specs.Runs.{put_run, runs_of, run_last, is_apart, are_apart, is_increasing, AreIdents, past_offsets, is_run}
+use Rattle.rls_runs.proofs.RunsOf.{shifted_zero, shifted_shifted}
+use Rattle.rls_runs.proofs.Texts.{scalars_of_all}
+use Rattle.rls_ops.proofs.SameRuns.{idents_of_runs}
+use Rattle.rls_ops.specs.declared.op.Op.{Op}
+use Rattle.rls_ops.specs.declared.message.Message.{Message}
+use Rattle.rls_ops.specs.Spelling.{message_bytes}
+use Rattle.rls_ops.specs.Sizes.{op_size}
+use Rattle.rls_codec.specs.Reading.{op_limit}
+use Rattle.rls_codec.specs.Spelled.{IsSmall, IsSmallTuple, Chained, FitsAt, FitsInner, FitTuples, FitsIdent, FitsRun, FitsBehind, FitRuns, FitsName, FitsText, FitsBody, IsSpelled, IsSpelledIfFit, IsFitAmong, IsFit}
+use Rattle.rls_codec.specs.CodecLaws.{IsMessage}
+use Rattle.rls_codec.proofs.PartFormats.{pushed_fit}
+use Rattle.rls_codec.proofs.SizeLaws.{op_length}
+
+-- ---- identifiers
+
+inner_fits : (t : Tuple) → is_inner_bounded t ≡ true → IsSmallTuple t → FitsInner t
+inner_fits (At p r s o) b small = (small.0, small.1, small.2, b)
+inner_fits Low b small = tt
+inner_fits High b small = tt
+
+last_fits : (t : Tuple) → is_last_bounded t ≡ true → IsSmallTuple t → FitsAt least_offset t
+last_fits (At p r s o) b small = (small.0, small.1, small.2, b)
+last_fits Low b small = absurd cc
+last_fits High b small = absurd cc
+
+inners_fit : (before : Option Tuple) (ts : List Tuple) → All (λ t. IsTrue (is_inner_bounded t)) ts → All IsSmallTuple ts → Chained (λ b. FitsInner) before ts
+inners_fit before [] b small = tt
+inners_fit before (t ∷ ts) b small =
+    (inner_fits t (All-head (λ u. IsTrue (is_inner_bounded u)) t ts b) (All-head IsSmallTuple t ts small), inners_fit (Some t) ts (All-tail (λ u. IsTrue (is_inner_bounded u)) t ts b) (All-tail IsSmallTuple t ts small))
+
+pub ident_fits : (x front : List Tuple) (t : Tuple) → length x < 2 ^ 32 → x ≡ front ++ t ∷ [] → All (λ u. IsTrue (is_inner_bounded u)) front → All IsSmallTuple front → is_last_bounded t ≡ true → IsSmallTuple t → FitsIdent x
+ident_fits x front t few e b small last s = (few, subst FitTuples (sym e) (pushed_fit None front t (inners_fit None front b small) (last_fits t last s)))
+
+-- ---- runs
+
+pub run_fits : (r : List Tuple × ℕ) → is_run r ≡ true → IsSmall r.1 → FitsIdent r.0 → FitsRun r
+run_fits r h small fits =
+    let p = is_ident r.0 && is_bounded r.0 in
+    let end = int_le (offset_of (last_of r.0) +ℤ pos r.1) past_offsets in
+    (fits, small, and_true (nat_lt 0 r.1) end (and_right p (nat_lt 0 r.1) (and_left (p && nat_lt 0 r.1) end h)) (and_right (p && nat_lt 0 r.1) end h))
+
+-- the first identifier of the runs is that of the list
+abbrev BeginsWith : List Tuple → List (List Tuple × ℕ) → Type 0
+BeginsWith x [] = Unit {0}
+BeginsWith x (r ∷ rs) = r.0 ≡ x
+
+begins : (x : List Tuple) (rs : List (List Tuple × ℕ)) → BeginsWith x (put_run x rs)
+begins x [] = refl
+begins x ((y, n) ∷ rs) = bool_cases (follows y x) (λ h. rw h refl) (λ h. rw h refl)
+
+-- the runs of a list that x stands before
+abbrev IsAbove : List Tuple → List (List Tuple × ℕ) → Type 0
+IsAbove x [] = Unit {0}
+IsAbove x (r ∷ rs) = ident_lt x r.0 ≡ true
+
+is_above : (x y : List Tuple) (rs : List (List Tuple × ℕ)) → ident_lt x y ≡ true → BeginsWith y rs → IsAbove x rs
+is_above x y [] h b = tt
+is_above x y (r ∷ rs) h b = ap (ident_lt x) b ∙ h
+
+apart_put : (x : List Tuple) (rs : List (List Tuple × ℕ)) → IsAbove x rs → are_apart None rs ≡ true → are_apart None (put_run x rs) ≡ true
+apart_put x [] above h = refl
+apart_put x ((y, n) ∷ rs) above h = bool_cases (follows y x) joined alone
+  where
+    some : nat_lt 0 n ≡ true
+    some = and_left (nat_lt 0 n) true (and_left (nat_lt 0 n && true) (are_apart (Some (y, n)) rs) h)
+
+    rest : are_apart (Some (y, n)) rs ≡ true
+    rest = and_right (nat_lt 0 n && true) (are_apart (Some (y, n)) rs) h
+
+    same_last : follows y x ≡ true → run_last (x, n + 1) ≡ run_last (y, n)
+    same_last f =
+        let k : ℤ = pos (n - 1) in
+        let e : pos 1 +ℤ k ≡ pos (n + 1 - 1) = omega (arith, ints, lt_is 0 n some) in
+        sym (ap (shifted k) (eq_same y (shifted (pos 1) x) f) ∙ shifted_shifted k (pos 1) x ∙ ap (λ z. shifted z x) e)
+
+    moved : (qs : List (List Tuple × ℕ)) → run_last (x, n + 1) ≡ run_last (y, n) → are_apart (Some (y, n)) qs ≡ true → are_apart (Some (x, n + 1)) qs ≡ true
+    moved [] e g = refl
+    moved (q ∷ qs) e g = ap (λ l. nat_lt 0 q.1 && (ident_lt l q.0 && not (follows q.0 l)) && are_apart (Some q) qs) e ∙ g
+
+    joined : follows y x ≡ true → are_apart None (put_run x ((y, n) ∷ rs)) ≡ true
+    joined f = rw f (and_true (nat_lt 0 (n + 1) && true) (are_apart (Some (x, n + 1)) rs) (and_true (nat_lt 0 (n + 1)) true (lt_test 0 (n + 1) (omega arith)) refl) (moved rs (same_last f) rest))
+
+    alone : follows y x ≡ false → are_apart None (put_run x ((y, n) ∷ rs)) ≡ true
+    alone f =
+        let l : run_last (x, 1) ≡ x = shifted_zero x in
+        let apart : is_apart (Some (x, 1)) (y, n) ≡ true = ap (λ w. ident_lt w y && not (follows y w)) l ∙ and_true (ident_lt x y) (not (follows y x)) above (ap not f) in
+        rw f (and_true (nat_lt 0 n && is_apart (Some (x, 1)) (y, n)) (are_apart (Some (y, n)) rs) (and_true (nat_lt 0 n) (is_apart (Some (x, 1)) (y, n)) some apart) rest)
+
+apart_runs : (xs : List (List Tuple)) → is_increasing xs ≡ true → are_apart None (runs_of xs) ≡ true
+apart_runs [] h = refl
+apart_runs (x ∷ []) h = apart_put x [] tt refl
+apart_runs (x ∷ (y ∷ ys)) h =
+    apart_put x (runs_of (y ∷ ys)) (is_above x y (runs_of (y ∷ ys)) (and_left (ident_lt x y) (is_increasing (y ∷ ys)) h) (begins y (runs_of ys))) (apart_runs (y ∷ ys) (and_right (ident_lt x y) (is_increasing (y ∷ ys)) h))
+
+behind : (before : Option (List Tuple × ℕ)) (rs : List (List Tuple × ℕ)) → are_apart before rs ≡ true → All FitsRun rs → Chained FitsBehind before rs
+behind before [] h f = tt
+behind before (r ∷ rs) h f = (
+  (All-head FitsRun r rs f, and_right (nat_lt 0 r.1) (is_apart before r) (and_left (nat_lt 0 r.1 && is_apart before r) (are_apart (Some r) rs) h)),
+  behind (Some r) rs (and_right (nat_lt 0 r.1 && is_apart before r) (are_apart (Some r) rs) h) (All-tail FitsRun r rs f),
+)
+
+pub runs_fit : (xs : List (List Tuple)) → length (runs_of xs) < 2 ^ 32 → All FitsRun (runs_of xs) → AreIdents xs → FitRuns xs
+runs_fit xs few f h = (few, behind None (runs_of xs) (apart_runs xs h.1) f, idents_of_runs xs)
+
+-- ---- texts, vectors and operations
+
+pub text_fits : (cs : List ℕ) → length (encode_utf8_all cs) < 2 ^ 32 → All IsScalar cs → FitsText cs
+text_fits cs few s = (scalars_of_all cs s, few)
+
+small_chain : (before : Option ℕ) (v : List ℕ) → All IsSmall v → Chained (λ b. IsSmall) before v
+small_chain before [] a = tt
+small_chain before (n ∷ v) a = (All-head IsSmall n v a, small_chain (Some n) v (All-tail IsSmall n v a))
+
+pub op_fits : (o : Op) → IsSmall o.author → IsSmall o.seq → All IsSmall o.context → FitsName o.epoch → FitsBody o.body → op_size o ≤ op_limit → IsSpelled (length o.context) o
+op_fits o a s c e b few = record { author = a; seq = s; context = (refl, small_chain None o.context c); epoch = e; body = b; limit = omega (arith, op_length o, few) }
+
+-- ---- loops
+
+-- what holds of the items so far holds of all at the end
+pub all_small : (xs : List Tuple) (i : ℕ) → length xs ≤ i → All IsSmallTuple (take i xs) → All IsSmallTuple xs
+all_small xs i le a = subst (All IsSmallTuple) (take_all i xs le) a
+
+pub all_fit : (xs : List (List Tuple × ℕ)) (i : ℕ) → length xs ≤ i → All FitsRun (take i xs) → All FitsRun xs
+all_fit xs i le a = subst (All FitsRun) (take_all i xs le) a
+
+pub all_ops_fit : (os : List Op) (i : ℕ) → length os ≤ i → All IsSpelledIfFit (take i os) → All IsSpelledIfFit os
+all_ops_fit os i le a = subst (All IsSpelledIfFit) (take_all i os le) a
+
+-- ---- messages
+
+fit_ops : (members : ℕ) (before : Option Op) (os : List Op) → All (IsFitAmong members) os → All IsSpelledIfFit os → Chained (λ b. IsSpelled members) before os
+fit_ops members before [] f s = tt
+fit_ops members before (o ∷ os) f s =
+    let fit = All-head (IsFitAmong members) o os f in
+    (subst (λ n. IsSpelled n o) fit.2 (All-head IsSpelledIfFit o os s fit.0 fit.1), fit_ops members (Some o) os (All-tail (IsFitAmong members) o os f) (All-tail IsSpelledIfFit o os s))
+
+pub message_fits : (bytes : List ℕ) (m : Message) → bytes ≡ message_bytes m → m.group < 2 ^ 64 → All IsSmall m.vector → length m.ops < 2 ^ 32 → All IsSpelledIfFit m.ops → IsFit m → IsMessage bytes m
+message_fits bytes m e group small few ops fit =
+    (3, refl, record { group = group; members = fit.members; from = fit.from; vector = (fit.vector, small_chain None m.vector small); count = few; ops = fit_ops m.members None m.ops fit.ops ops }, e)
