@@ -1,10 +1,6 @@
-use Rattle.std.proofs.Common.{◌≡◌, ◌≤◌, ◌+◌, ◌++◌, length, take, refl, arith, length-append, length-take, Result, Ok, Err, OnErr}
-use Rattle.rls_io.proofs.Told.{took_more, took_count}
+use Rattle.std.proofs.Common.{◌≡◌, ◌≤◌, ◌+◌, ◌++◌, length, take, refl, arith, length-append, length-take}
+use Rattle.rls_io.proofs.Told.{took_more, took_count, on_err_holds}
 use Rattle.rls_io.proofs.reading.read_all.Goals as goal
-
-on_err_holds : {T E : Type 0} (r : Result T E) (P : Type 0) → P → OnErr r P
-on_err_holds (Ok value) P holds = tt
-on_err_holds (Err cause) P holds = holds
 
 -- one byte more than were wanted was taken
 pub returns-then-len-n-clause-too_large : goal.returns-then-len-n-clause-too_large

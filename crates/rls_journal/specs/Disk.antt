@@ -1,0 +1,63 @@
+-- What the calls of a disk do, and what a crash may do between two syncs.
+use Rattle.std.specs.Prelude.{◌≡◌, ◌⊎◌, ℕ, ◌+◌, ◌≤◌, max, List, length, take, drop, Option, Some, None}
+use Rattle.rls_journal.specs.Areas.{Areas, area_of, with_area, spliced}
+
+-- after a write of n bytes that a crash cuts short: any bytes in the range and past the old end, the same elsewhere
+pub record Torn (at n : ℕ) (old new : List ℕ) : Type 0 where
+  pub before : take at new ≡ take at old
+  pub after : drop (at + n) new ≡ drop (at + n) old
+  pub no_shorter : length old ≤ length new
+  pub no_longer : length new ≤ max (length old) (at + n)
+
+-- the same in one area, while the others stay
+pub record Tears (area at n : ℕ) (old new : Areas) : Type 0 where
+  pub torn : Torn at n (area_of old area) (area_of new area)
+  pub others : new ≡ with_area old area (area_of new area)
+
+-- an area has these bytes at this place, where the disk tells its content; where it doesn't, it goes on not to tell it
+abbrev pub Writes : ℕ → ℕ → List ℕ → Option Areas → Option Areas → Type 0
+Writes area at bytes None new = new ≡ None
+Writes area at bytes (Some old) new = new ≡ Some (with_area old area (spliced (area_of old area) at bytes))
+
+-- the same where the write was cut short
+abbrev pub MayTear : ℕ → ℕ → ℕ → Option Areas → Option Areas → Type 0
+MayTear area at n None new = new ≡ None
+MayTear area at n (Some old) new = (areas : Areas) × (new ≡ Some areas) × Tears area at n old areas
+
+-- each outcome of a crash is one from before
+abbrev pub Narrows : (Areas → Type 0) → (Areas → Type 0) → Type 0
+Narrows old new = (c : Areas) → new c → old c
+
+-- each new outcome of a crash is an old outcome after a step
+abbrev pub Follows : (Areas → Areas → Type 0) → (Areas → Type 0) → (Areas → Type 0) → Type 0
+Follows step old new = (c : Areas) → new c → (d : Areas) × old d × step d c
+
+-- a crash leaves what is read of this area
+abbrev pub IsDurable : ℕ → Areas → (Areas → Type 0) → Type 0
+IsDurable area seen may_leave = (c : Areas) → may_leave c → area_of c area ≡ area_of seen area
+
+-- Time goes on: a crash since t might have left what it might have left before, or what it may leave now.
+pub record Elapses (before now : ℕ) (past since : ℕ → Areas → Type 0) (may_leave : Areas → Type 0) : Type 0 where
+  pub later : before ≤ now
+  pub nothing_else : (t : ℕ) (c : Areas) → t ≤ before → since t c → past t c ⊎ may_leave c
+  pub keeps : (t : ℕ) (c : Areas) → t ≤ before → past t c → since t c
+
+-- A crash at any moment since old leaves what has P.
+pub record LeavesOnly {D : Type 0} (moment : D → ℕ) (left_since : D → ℕ → Areas → Type 0) (old new : D) (P : Areas → Type 0) : Type 0 where
+  pub later : moment old ≤ moment new
+  pub each : (c : Areas) → left_since new (moment old) c → P c
+  -- for a run that began earlier
+  pub before : (t : ℕ) (c : Areas) → t ≤ moment old → left_since new t c → left_since old t c ⊎ P c
+
+-- Nothing that is read changed, and a crash since leaves nothing that it might not have left before.
+pub record IsUnchanged {D : Type 0} (seen : D → Option Areas) (may_leave : D → Areas → Type 0) (moment : D → ℕ) (left_since : D → ℕ → Areas → Type 0) (old new : D) : Type 0 where
+  pub same : seen new ≡ seen old
+  pub narrows : Narrows (may_leave old) (may_leave new)
+  pub later : moment old ≤ moment new
+  pub before : (t : ℕ) (c : Areas) → t ≤ moment old → left_since new t c → left_since old t c ⊎ may_leave old c
+
+-- A crash since leaves what it might have left before, or that after a step.
+pub record Changes {D : Type 0} (may_leave : D → Areas → Type 0) (moment : D → ℕ) (left_since : D → ℕ → Areas → Type 0) (step : Areas → Areas → Type 0) (old new : D) : Type 0 where
+  pub later : moment old ≤ moment new
+  pub crash : Follows step (may_leave old) (may_leave new)
+  pub before : (t : ℕ) (c : Areas) → t ≤ moment old → left_since new t c → left_since old t c ⊎ ((d : Areas) × may_leave old d × step d c)

@@ -1,0 +1,7 @@
+pub mod Areas
+pub mod Disk
+pub mod Keeper
+pub mod Memory
+pub mod MemoryLaws
+pub mod Records
+pub mod Slots

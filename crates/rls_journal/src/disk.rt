@@ -1,0 +1,86 @@
+//! A disk with three areas, and what a crash may leave of it.
+
+ghost use Rattle.std.specs.Prelude.{◌≡◌, ◌+◌, ◌<◌, ◌≤◌, ℕ, length, take, drop, Option, Some, IsErr, IfOk, OnOk, OnErr, IfSome};
+ghost use Rattle.rls_io.specs.Device.{Rose};
+ghost use Rattle.rls_journal.specs.Areas.{Areas, area_of};
+ghost use Rattle.rls_journal.specs.Disk.{Tears, Writes, MayTear, Narrows, Follows, IsDurable, Elapses};
+
+use rls_io::Failed;
+
+/// A disk with three areas of bytes: 0 and 1 are the slots, 2 is the gate.
+///
+/// A crash at a moment leaves one of several images of the areas. Between two syncs of an area each range that was written,
+/// and the part past the old end, may hold any bytes, and the size may be any from the old end to the new one; other bytes
+/// stay. After a sync that succeeds a crash leaves what a read gives. This is known where the disk tells its content; a disk
+/// that doesn't lets a crash leave anything.
+pub trait Disk {
+    /// What reads give, where the disk tells it.
+    ghost seen: { Self → Option Areas };
+
+    /// What a crash now may leave.
+    ghost may_leave: { Self → Areas → Type 0 };
+
+    /// The moment, as a number that never falls.
+    ghost moment: { Self → ℕ };
+
+    /// What a crash at some moment from that one on might have left, during a call or between two.
+    ghost left_since: { Self → ℕ → Areas → Type 0 };
+
+    /// How often the disk has failed, or the greatest u64. The count never falls.
+    ghost faults: { Self → ℕ };
+
+    /// The count of bytes in an area, which is below 3. `Failed` comes only where the count of faults rose in this call.
+    fn size(&mut self, area: u8) -> Result<u64, Failed>
+        requires area { area < 3 }
+        ensures size { IfOk result (λ n. IfSome (seen self.old) (λ s. n ≡ length (area_of s area))) }
+        ensures same { seen self.new ≡ seen self.old }
+        ensures crash { Narrows (may_leave self.old) (may_leave self.new) }
+        ensures time { Elapses (moment self.old) (moment self.new) (left_since self.old) (left_since self.new) (may_leave self.new) }
+        ensures never_falls { faults self.old ≤ faults self.new }
+        ensures cause { IsErr result → Rose (faults self.old) (faults self.new) };
+
+    /// Fills `buf` with the bytes of an area from `at` on. All of them lie within the area. After `Failed`, which comes only
+    /// where the count of faults rose in this call, `buf` may hold any bytes.
+    fn read(&mut self, area: u8, at: u64, buf: &mut [u8]) -> Result<(), Failed>
+        requires area { area < 3 }
+        requires within { IfSome (seen self.old) (λ s. at + length buf.old ≤ length (area_of s area)) }
+        ensures bytes { OnOk result (IfSome (seen self.old) (λ s. buf.new ≡ take (length buf.old) (drop at (area_of s area)))) }
+        ensures same { seen self.new ≡ seen self.old }
+        ensures crash { Narrows (may_leave self.old) (may_leave self.new) }
+        ensures time { Elapses (moment self.old) (moment self.new) (left_since self.old) (left_since self.new) (may_leave self.new) }
+        ensures never_falls { faults self.old ≤ faults self.new }
+        ensures cause { IsErr result → Rose (faults self.old) (faults self.new) };
+
+    /// Writes over the bytes of an area from `at` on, which is at most its size, and past its end. No bytes change nothing.
+    /// After `Failed`, which comes only where the count of faults rose in this call, the range and the part past the old end
+    /// may hold any bytes. So may they after a crash, until a sync.
+    fn write(&mut self, area: u8, at: u64, bytes: &[u8]) -> Result<(), Failed>
+        requires area { area < 3 }
+        requires within { IfSome (seen self.old) (λ s. at ≤ length (area_of s area)) }
+        ensures written { OnOk result (Writes area at bytes.now (seen self.old) (seen self.new)) }
+        ensures torn { OnErr result (MayTear area at (length bytes.now) (seen self.old) (seen self.new)) }
+        ensures crash { Follows (Tears area at (length bytes.now)) (may_leave self.old) (may_leave self.new) }
+        ensures time { Elapses (moment self.old) (moment self.new) (left_since self.old) (left_since self.new) (may_leave self.new) }
+        ensures never_falls { faults self.old ≤ faults self.new }
+        ensures cause { IsErr result → Rose (faults self.old) (faults self.new) };
+
+    /// After an Ok, a crash leaves what reads give of this area. `Failed` comes only where the count of faults rose in this
+    /// call.
+    fn sync(&mut self, area: u8) -> Result<(), Failed>
+        requires area { area < 3 }
+        ensures durable { OnOk result (IfSome (seen self.old) (λ s. IsDurable area s (may_leave self.new))) }
+        ensures same { seen self.new ≡ seen self.old }
+        ensures crash { Narrows (may_leave self.old) (may_leave self.new) }
+        ensures time { Elapses (moment self.old) (moment self.new) (left_since self.old) (left_since self.new) (may_leave self.new) }
+        ensures never_falls { faults self.old ≤ faults self.new }
+        ensures cause { IsErr result → Rose (faults self.old) (faults self.new) };
+
+    /// The disk as it reads is one of the images that a crash now may leave.
+    ghost reads_now: { (disk : Self) (s : Areas) → seen disk ≡ Some s → may_leave disk s };
+
+    /// This moment is one of those since an earlier one.
+    ghost counts_now: { (disk : Self) (t : ℕ) (c : Areas) → t ≤ moment disk → may_leave disk c → left_since disk t c };
+
+    /// Since this moment there is no other.
+    ghost only_now: { (disk : Self) (c : Areas) → left_since disk (moment disk) c → may_leave disk c };
+}

@@ -1,0 +1,209 @@
+//! The three areas as files of the system, in the current folder: the trusted edge. They tell no content, so that no clause
+//! says what they give or take, or what a stop leaves of them.
+
+ghost use Rattle.std.specs.Prelude.{◌≤◌, None, IsErr};
+ghost use Rattle.rls_io.specs.Device.{Rose};
+
+use crate::disk::Disk;
+use rls_io::Failed;
+use std::fs::{File, OpenFile};
+use std::io;
+use std::io::{ErrorKind, Read, Seek, SeekFrom, Write};
+use std::rt::Files;
+
+fn name_of(area: u8) -> &'static str {
+    match area {
+        0 => "replica.0",
+        1 => "replica.1",
+        _ => "replica.gate",
+    }
+}
+
+/// The files that are there.
+#[derive(Drop)]
+struct AreaFiles<R: Files> {
+    rt: R,
+    slot0: Option<R::File>,
+    slot1: Option<R::File>,
+    gate: Option<R::File>,
+    is_open: bool,
+    // a file was made since the folder was synced
+    is_made: bool,
+}
+
+impl<R: Files> AreaFiles<R> {
+    // A file, where there is one.
+    fn found(&self, area: u8) -> io::Result<Option<R::File>> {
+        match File::options()
+            .read(true)
+            .write(true)
+            .open(&self.rt, name_of(area))
+        {
+            Ok(file) => Ok(Some(file)),
+            Err(e) if e.kind() == ErrorKind::NotFound => Ok(None),
+            Err(e) => Err(e),
+        }
+    }
+
+    // Opens the files that are there, at the first call.
+    fn open(&mut self) -> io::Result<()> {
+        if !self.is_open {
+            self.slot0 = self.found(0)?;
+            self.slot1 = self.found(1)?;
+            self.gate = self.found(2)?;
+            self.is_open = true;
+        }
+        Ok(())
+    }
+
+    // Makes a file.
+    fn make(&mut self, area: u8) -> io::Result<()> {
+        self.is_made = true;
+        let file = File::options()
+            .read(true)
+            .write(true)
+            .create(true)
+            .open(&self.rt, name_of(area))?;
+        *self.slot(area) = Some(file);
+        Ok(())
+    }
+
+    fn slot(&mut self, area: u8) -> &mut Option<R::File> {
+        match area {
+            0 => &mut self.slot0,
+            1 => &mut self.slot1,
+            _ => &mut self.gate,
+        }
+    }
+
+    // A file that is missing has no bytes.
+    fn size(&mut self, area: u8) -> io::Result<u64> {
+        self.open()?;
+        match self.slot(area) {
+            Some(file) => Ok(file.metadata()?.len()),
+            None => Ok(0),
+        }
+    }
+
+    fn read(&mut self, area: u8, at: u64, buf: &mut [u8]) -> io::Result<()> {
+        self.open()?;
+        match self.slot(area) {
+            Some(file) => {
+                file.seek(SeekFrom::Start(at))?;
+                file.read_exact(buf)
+            }
+            None if buf.is_empty() => Ok(()),
+            None => Err(io::Error::from(ErrorKind::UnexpectedEof)),
+        }
+    }
+
+    // Makes a file that is missing, where there are bytes to write.
+    fn write(&mut self, area: u8, at: u64, bytes: &[u8]) -> io::Result<()> {
+        self.open()?;
+        if bytes.is_empty() {
+            return Ok(());
+        }
+        if self.slot(area).is_none() {
+            self.make(area)?;
+        }
+        match self.slot(area) {
+            Some(file) => {
+                file.seek(SeekFrom::Start(at))?;
+                file.write_all(bytes)
+            }
+            None => Err(io::Error::from(ErrorKind::NotFound)),
+        }
+    }
+
+    // Has the system write a file to the disk, and the folder too where a file was made.
+    fn sync(&mut self, area: u8) -> io::Result<()> {
+        self.open()?;
+        if let Some(file) = self.slot(area) {
+            file.sync_all()?;
+        }
+        if self.is_made {
+            File::open(&self.rt, ".")?.sync_all()?;
+            self.is_made = false;
+        }
+        Ok(())
+    }
+}
+
+/// The files `replica.0`, `replica.1` and `replica.gate` in the current folder, as the areas 0, 1 and 2. They are opened at
+/// the first call. A file that is missing reads as empty, and is made by the first write of some bytes, so that what only
+/// reads leaves an empty folder empty. A sync reaches the disk as far as the system's `fsync` does, of the file, and of the
+/// folder where a file was made. Each failure of the system is counted, up to the greatest u64.
+#[derive(Drop)]
+pub struct FileDisk<R: Files> {
+    files: AreaFiles<R>,
+    faults: u64,
+}
+
+// Counts a failure.
+fn count<T>(faults: &mut u64, answer: io::Result<T>) -> Result<T, Failed>
+    ensures never_falls { faults.old ≤ faults.new }
+    ensures cause { IsErr result → Rose faults.old faults.new }
+{
+    match answer {
+        Ok(value) => Ok(value),
+        Err(_) => {
+            *faults = faults.saturating_add(1);
+            Err(Failed)
+        }
+    }
+}
+
+impl<R: Files> FileDisk<R> {
+    /// The disk of the current folder, with no fault. It opens nothing yet.
+    pub fn new(rt: R) -> FileDisk<R> {
+        FileDisk {
+            files: AreaFiles {
+                rt,
+                slot0: None,
+                slot1: None,
+                gate: None,
+                is_open: false,
+                is_made: false,
+            },
+            faults: 0,
+        }
+    }
+}
+
+impl<R: Files> Disk for FileDisk<R> {
+    ghost seen = { λ _. None };
+
+    ghost may_leave = { λ _ _. Unit {0} };
+
+    ghost moment = { λ _. 0 };
+
+    ghost left_since = { λ _ _ _. Unit {0} };
+
+    ghost faults = { λ d. d.faults };
+
+    ghost reads_now = { λ d s is. tt };
+
+    ghost counts_now = { λ d t c le now. tt };
+
+    ghost only_now = { λ d c left. tt };
+
+    fn size(&mut self, area: u8) -> Result<u64, Failed> {
+        let answer = self.files.size(area);
+        count(&mut self.faults, answer)
+    }
+
+    fn read(&mut self, area: u8, at: u64, buf: &mut [u8]) -> Result<(), Failed> {
+        let answer = self.files.read(area, at, buf);
+        count(&mut self.faults, answer)
+    }
+
+    fn write(&mut self, area: u8, at: u64, bytes: &[u8]) -> Result<(), Failed> {
+        let answer = self.files.write(area, at, bytes);
+        count(&mut self.faults, answer)
+    }
+
+    fn sync(&mut self, area: u8) -> Result<(), Failed> {
+        let answer = self.files.sync(area);
+        count(&mut self.faults, answer)
+    }
+}
