@@ -1,5 +1,5 @@
 -- What happened at one replica, event by event.
-use Rattle.std.specs.Prelude.{ℕ, Bool, false, ◌&&◌, ◌||◌, List, [], ◌∷◌, ◌++◌, ◌==◌, slice_index, replicate, if◌then◌else◌}
+use Rattle.std.specs.Prelude.{ℕ, Bool, true, false, ◌&&◌, ◌||◌, List, [], ◌∷◌, ◌++◌, ◌==◌, slice_index, replicate, if◌then◌else◌}
 use Rattle.rls_ident.specs.Vectors.{join, raise}
 use Rattle.rls_ops.specs.declared.op.Op.{Op}
 use Rattle.rls_ops.specs.declared.op.Body.{Body}
@@ -48,7 +48,7 @@ count_of H a = slice_index (count H) a
 
 -- the operation is a leave
 abbrev pub is_leave : Body → Bool
-is_leave Leave = Bool.true
+is_leave Leave = true
 is_leave _ = false
 
 -- a leave of the member was accepted

@@ -1,5 +1,5 @@
 -- The eight rules of the parts of a snapshot, and the first that is broken.
-use Rattle.std.specs.Prelude.{ℕ, suc, ◌+◌, pos, Bool, true, false, not, ◌&&◌, ◌||◌, List, [], ◌∷◌, ◌++◌, ◌==◌, nat_le, nat_lt, length, map, slice_index, Option, Some, None, if◌then◌else◌}
+use Rattle.std.specs.Prelude.{◌≡◌, ◌↔◌, IsTrue, ℕ, suc, ◌+◌, pos, Bool, true, false, not, ◌&&◌, ◌||◌, List, [], ◌∷◌, ◌++◌, ◌==◌, nat_le, nat_lt, length, map, slice_index, Option, Some, None, if◌then◌else◌}
 use Rattle.std.specs.Int.RustNames.{int_le}
 use Rattle.std.specs.Option.{is_some}
 use Rattle.std.specs.List.{list_all, list_any}
@@ -235,3 +235,18 @@ broken p =
     (or_broken 6 (whole_fault (ends_at_vector p))
     (or_broken 7 (whole_fault (are_retained p))
     (or_broken 8 (held_fault p None 0 p.held) None)))))))
+
+-- no rule is broken
+pub record Passes (p : Parts) : Type 0 where
+  pub rows : row_fault p 0 p.rows ≡ None
+  pub stems : stem_fault p None 0 p.stems ≡ None
+  pub epochs : epoch_fault p [] p.epochs ≡ None
+  pub text : text_fault p 0 p.text ≡ None
+  pub log : log_fault p (stable_of_parts p) 0 p.log ≡ None
+  pub ends : IsTrue (ends_at_vector p)
+  pub retained : IsTrue (are_retained p)
+  pub held : held_fault p None 0 p.held ≡ None
+
+-- no rule is broken exactly where each of them passes
+abbrev pub BrokenOrPasses : Type 0
+BrokenOrPasses = (p : Parts) → (broken p ≡ None) ↔ Passes p
