@@ -17,7 +17,7 @@ use Rattle.rls_ident.specs.Tuples.{offset_of}
 use Rattle.rls_ident.specs.Identifiers.{is_ident, last_of, ident_eq, greatest_offset}
 use Rattle.rls_ident.specs.Vectors.{at_most}
 use Rattle.rls_ident.proofs.Tuples.{tuple_total}
-use Rattle.rls_ident.proofs.Members.{and_left, and_right, and_true, any_in, eq_test, in_map, le_test, lt_test, or_left, or_right}
+use Rattle.rls_ident.proofs.Members.{and_left, and_right, and_true, any_in, eq_test, in_map, le_test, lt_test, or_left, or_right, in_take, in_drop}
 use Rattle.rls_rename.specs.Tree.{Node, name_of, is_of, has_node, names, names_within}
 use Rattle.rls_rename.specs.Tree as tree
 use Rattle.rls_rename.proofs.Paths.{name_eq_refl}
@@ -163,17 +163,6 @@ int_not_lt x y h = go (int_lt x y) refl
     go false e = refl
 
 -- targets of the text are known
-in_take : (n : ℕ) (xs : List (List Tuple)) (x : List Tuple) → IsIn x (take n xs) → IsIn x xs
-in_take zero xs x p = absurd p
-in_take (suc n) [] x p = absurd p
-in_take (suc n) (y ∷ ys) x (inl e) = inl e
-in_take (suc n) (y ∷ ys) x (inr p) = inr (in_take n ys x p)
-
-in_drop : (n : ℕ) (xs : List (List Tuple)) (x : List Tuple) → IsIn x (drop n xs) → IsIn x xs
-in_drop zero xs x p = p
-in_drop (suc n) [] x p = absurd p
-in_drop (suc n) (y ∷ ys) x p = inr (in_drop n ys x p)
-
 text_known : (H : History) (x : List Tuple) → IsIn x (idents H) → is_known H (greatest H) x ≡ true
 unfolding idents is_known
 text_known H x p =
@@ -212,7 +201,7 @@ delete_fits H at n l h =
     let len : length xs ≡ n = omega (arith, length-take n (drop at (idents H)), length-drop at (idents H)) in
     own_legal H (Delete xs) l s.0 (unspent H (edits.Delete at n) s.2) (good_take n (drop at (idents H)) (good_drop at (idents H) (idents_good H l)))
     (ap (λ k. k == 0) len ∙ p.0) (ap (nat_lt 4194304) len ∙ r.0) refl
-    (none_unknown H (greatest H) xs (λ x u. text_known H x (in_drop at (idents H) x (in_take n (drop at (idents H)) x u))))
+    (none_unknown H (greatest H) xs (λ x u. text_known H x (in_drop at x (idents H) (in_take n x (drop at (idents H)) u))))
 
 rename_fits : (H : History) → IsLegal H → edit_fault H edits.Rename ≡ None → IsLegal (Then H (Accepted (own H (made_body H edits.Rename))))
 rename_fits H l h =

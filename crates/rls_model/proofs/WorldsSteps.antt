@@ -1,10 +1,10 @@
 -- Each step of a member keeps the invariant and refuses nothing.
-use Rattle.std.proofs.Common.{◌≡◌, ℕ, zero, suc, ◌<◌, Bool, true, false, List, [], ◌∷◌, length, take, drop, refl, sym, ap, ◌∙◌, subst, arith, inl, inr, ◌⊎◌, ⊎_elim}
+use Rattle.std.proofs.Common.{◌≡◌, ℕ, zero, suc, ◌<◌, Bool, true, false, List, [], ◌∷◌, length, drop, refl, sym, ap, ◌∙◌, subst, arith, inl, inr, ◌⊎◌, ⊎_elim}
 use Rattle.std.specs.Prelude.{if◌then◌else◌, All, Option, Some, None}
 use Rattle.rls_ident.specs.declared.tuple.Tuple.{Tuple}
 use Rattle.rls_ident.specs.Lists.{IsIn}
 use Rattle.rls_ident.specs.Vectors.{at_most}
-use Rattle.rls_ident.proofs.Members.{found_in, in_map, snoc_split}
+use Rattle.rls_ident.proofs.Members.{found_in, in_map, snoc_split, in_take, in_drop}
 use Rattle.rls_ops.specs.declared.op.Op.{Op}
 use Rattle.rls_ops.specs.declared.message.Message.{Message}
 use Rattle.rls_model.specs.declared.edit.Edit.{Edit}
@@ -84,17 +84,6 @@ notes w i s a v g h k c =
 
 -- ---- own operations
 
-in_take : (n : ℕ) (xs : List (List Tuple)) (x : List Tuple) → IsIn x (take n xs) → IsIn x xs
-in_take zero xs x p = absurd p
-in_take (suc n) [] x p = absurd p
-in_take (suc n) (y ∷ ys) x (inl e) = inl e
-in_take (suc n) (y ∷ ys) x (inr p) = inr (in_take n ys x p)
-
-in_drop : (n : ℕ) (xs : List (List Tuple)) (x : List Tuple) → IsIn x (drop n xs) → IsIn x xs
-in_drop zero xs x p = p
-in_drop (suc n) [] x p = absurd p
-in_drop (suc n) (y ∷ ys) x p = inr (in_drop n ys x p)
-
 -- an identifier of the text is a live character's
 text_lives : (H : History) (x : List Tuple) → IsIn x (idents H) → (c : Character) × IsIn c (live H) × (ident_in H (greatest H) c ≡ x)
 unfolding idents
@@ -107,7 +96,7 @@ text_lives H x p =
 made_living : (H : History) (edit : Edit) → AreLiving H (made H edit)
 unfolding made
 made_living H (edits.Insert at text) x p = absurd p
-made_living H (edits.Delete at n) x p = text_lives H x (in_drop at (idents H) x (in_take n (drop at (idents H)) x p))
+made_living H (edits.Delete at n) x p = text_lives H x (in_drop at x (idents H) (in_take n x (drop at (idents H)) p))
 made_living H edits.Rename x p = absurd p
 made_living H edits.Leave x p = absurd p
 

@@ -32,7 +32,7 @@ use Rattle.rls_model.specs.WellFormed.{IsLarge, IsText, IsEdit}
 use Rattle.rls_model.specs.Legal.{IsLegal, IsSound}
 use Rattle.rls_model.specs.Retained.{marked, retained}
 use Rattle.rls_model.specs.Editing.{next_seq, made, edit_fault}
-use Rattle.rls_model.specs.Taking.{Limit, Progress, take_within}
+use Rattle.rls_model.specs.Taking.{Limit, has_room, Progress, take_within}
 use Rattle.rls_model.specs.EditRun.{edit_within, Done, run_edits}
 use Rattle.rls_model.specs.Worlds.{World, empty_world, Happening, happens, run, AreEvents, AreWhole}
 -- what a renaming means and keeps, what translation keeps, the smallest connected part, and windows
@@ -195,6 +195,10 @@ EqualVectors = (w : World) (hs : List Happening) (i j : ℕ) (s t : State) → I
 -- no sent message is refused in any part, however far it is taken
 abbrev pub NoneTakenRefused : World → Type 0
 NoneTakenRefused w = (i : ℕ) (s : State) (m : Message) (limit : Limit) → IsAt w i s → IsIn m w.sent → (take_within limit s m).refused ≡ []
+
+-- the operation of an edit that isn't cut short behind no step stands in the history after it
+abbrev pub EditApplied : Type 0
+EditApplied = (s : State) (edit : Edit) (limit : Limit) → IsTrue (has_room limit) → IsIn (made s.history edit) (ops (edit_within limit s edit).state.history)
 
 -- no edit releases what is refused
 abbrev pub NoneReleasedRefused : World → Type 0

@@ -2,7 +2,7 @@
 
 ghost use Rattle.rls_model.specs.Laws.{Meaning, OrderKept, Inverse, LastKept, PathFree, Spanned, WindowSame, TestsEqual};
 ghost use Rattle.rls_model.specs.Laws.{OneTree, NoneUsed, AllUsed, OwnStems, Distinct, Stable, MadeFits, RenamedRun, InsertionLands};
-ghost use Rattle.rls_model.specs.Laws.{KeptOn, ToldByWindow, Dropped, SameOperations, CutShort, WorldsLegal, EqualVectors, NoRefusal, EditsClean};
+ghost use Rattle.rls_model.specs.Laws.{KeptOn, ToldByWindow, Dropped, SameOperations, CutShort, EditApplied, WorldsLegal, EqualVectors, NoRefusal, EditsClean};
 
 /// A renaming takes a former identifier to the new one at its place, and what the old map of a gap gives to what its new map gives
 /// (this project, after `renameId` of RenamableLogootSplit).
@@ -109,6 +109,11 @@ pub fn same_operations()
 /// An event that is cut short behind no step changes nothing; behind enough of them it is whole.
 pub fn cut_short()
     ensures cut_short { CutShort }
+{}
+
+/// The operation that an edit makes stands in the history after it, whatever is released behind it.
+pub fn edit_applied()
+    ensures edit_applied { EditApplied }
 {}
 
 /// In a world each member's history is legal, and its waiting operations fit to it.
