@@ -1,6 +1,7 @@
 //! Texts.
 
-ghost use Rattle.std.specs.Prelude.{◌≡◌, ◌<◌, ◌+◌, ◌++◌, ◌∷◌, [], IfOk, OnOk, OnErr, length, slice_index, encode_utf8_all};
+ghost use Rattle.std.specs.Prelude.{◌≡◌, ◌<◌, ◌≤◌, ◌+◌, ◌++◌, ◌∷◌, [], IfOk, OnOk, OnErr, length, take, drop, slice_index, encode_utf8_all};
+ghost use Rattle.std.specs.VecDeque.{deque_len, deque_capacity};
 ghost use Rattle.std.specs.List.{All};
 ghost use Rattle.std.specs.Char.{IsScalar};
 ghost use Rattle.std.specs.String.{string_bytes};
@@ -74,6 +75,41 @@ impl Text {
         Ok(())
     }
 
+    /// Puts a text behind the last character. It costs the length of that text. After an error the
+    /// text is as it was, and the other is given up.
+    pub fn append(&mut self, more: Text) -> Result<(), AllocError>
+        ensures ok { OnOk result (self.new ≡ self.old ++ more) }
+        ensures err { OnErr result (self.new ≡ self.old) }
+    {
+        let mut more = more;
+        self.chars.append(&mut more.chars)
+    }
+
+    /// Puts a text in front of the first character. It costs the length of that text. After an error
+    /// the text is as it was, and the other is given up.
+    pub fn prepend(&mut self, front: Text) -> Result<(), AllocError>
+        ensures ok { OnOk result (self.new ≡ front ++ self.old) }
+        ensures err { OnErr result (self.new ≡ self.old) }
+    {
+        let Text { chars: mut front } = front;
+        self.chars.reserve(front.len())?;
+        move_in_front(&mut front, &mut self.chars);
+        Ok(())
+    }
+
+    /// Keeps the characters in front of a place, and answers the others. After an error the text is
+    /// as it was.
+    pub fn split_off(&mut self, at: usize) -> Result<Text, AllocError>
+        requires place { at ≤ length self.old }
+        ensures kept { OnOk result (self.new ≡ take at self.old) }
+        ensures rest { IfOk result (λ rest. rest ≡ drop at self.old) }
+        ensures err { OnErr result (self.new ≡ self.old) }
+    {
+        Ok(Text {
+            chars: self.chars.split_off(at)?,
+        })
+    }
+
     /// The same again.
     pub fn copy(&self) -> Result<Text, AllocError>
         ensures copy { IfOk result (λ text. text ≡ self.now) }
@@ -127,4 +163,14 @@ fn push_chars(text: &mut String, chars: &[char]) -> Result<(), AllocError>
         text.push(*c)?;
     }
     Ok(())
+}
+
+// Moves all characters of the first list in front of those of the second, which has room for them.
+fn move_in_front(front: &mut VecDeque<char>, chars: &mut VecDeque<char>)
+    requires room { deque_len chars.old + deque_len front.old ≤ deque_capacity chars.old }
+    ensures items { chars.new.items ≡ front.old.items ++ chars.old.items }
+{
+    while let Some(c) = front.pop_back() {
+        chars.push_front_reserved(c);
+    }
 }
