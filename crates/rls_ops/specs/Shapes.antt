@@ -35,12 +35,17 @@ abbrev pub passes_end : Body → Bool
 passes_end (Insert first text) = int_lt (greatest_offset +ℤ pos 1) (offset_of (last_of first) +ℤ pos (length text))
 passes_end _ = false
 
+-- the first fault of the body, if there is one
+abbrev pub body_fault : Body → Option Shape
+body_fault b =
+    if is_empty b then Some EmptyBody
+    else if nat_lt (body_limit b) (body_len b) then Some (TooLong (body_len b))
+    else if passes_end b then Some OffsetEnd
+    else None
+
 -- the first fault of the shape, if there is one
 abbrev pub shape_fault : ℕ → Op → Option Shape
 shape_fault members o =
     if not (nat_lt o.author members) then Some Author
     else if not (is_next_of o members) then Some Context
-    else if is_empty o.body then Some EmptyBody
-    else if nat_lt (body_limit o.body) (body_len o.body) then Some (TooLong (body_len o.body))
-    else if passes_end o.body then Some OffsetEnd
-    else None
+    else body_fault o.body

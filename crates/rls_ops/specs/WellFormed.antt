@@ -1,9 +1,10 @@
 -- Which numbers and lists an operation may have.
-use Rattle.std.specs.Prelude.{◌≡◌, ℕ, ◌^◌, ◌<◌, List, length, All, IsTrue}
+use Rattle.std.specs.Prelude.{◌≡◌, ℕ, ◌^◌, ◌<◌, ◌≤ℤ◌, List, length, All, IsTrue}
 use Rattle.std.specs.Char.{IsScalar}
 use Rattle.rls_ident.specs.declared.epoch_name.EpochName.{EpochName}
 use Rattle.rls_ident.specs.declared.epoch_name.EpochName.TheVariants.{Origin, Of}
-use Rattle.rls_ident.specs.Identifiers.{is_ident}
+use Rattle.rls_ident.specs.Identifiers.{is_ident, last_of, least_offset}
+use Rattle.rls_ident.specs.Tuples.{offset_of}
 use Rattle.rls_runs.specs.Runs.{AreIdents}
 use Rattle.rls_ops.specs.declared.op.Op.{Op}
 use Rattle.rls_ops.specs.declared.op.Body.{Body}
@@ -40,3 +41,8 @@ pub record IsOp (o : Op) : Type 0 where
   pub context : All IsSmall o.context
   pub epoch : IsName o.epoch
   pub body : IsBody o.body
+
+-- the first offset of an insertion is in the range of the program
+abbrev pub IsInRange : Body → Type 0
+IsInRange (Insert first text) = least_offset ≤ℤ offset_of (last_of first)
+IsInRange b = Unit {0}

@@ -4,6 +4,7 @@
 mod message;
 mod op;
 mod same;
+mod shape;
 mod size;
 
 pub use message::Message;

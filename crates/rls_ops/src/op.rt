@@ -1,6 +1,7 @@
 //! Operations.
 
 ghost use Rattle.std.specs.Prelude.{◌≡◌, ◌<◌, ◌++◌, ◌∷◌, ◌==◌, [], Some, IfOk, OnOk, OnErr, length, slice_get};
+ghost use Rattle.rls_ops.specs.WellFormed.{IsOp, IsBody, IsName, IsInRange};
 
 use rls_ident::{EpochName, Ident, Vector};
 use rls_runs::{Runs, Text};
@@ -108,6 +109,18 @@ impl Ops {
 }
 
 impl Op {
+    /// What its fields promise: numbers in range, identifiers and a text that are well formed.
+    pub fn fits(&self)
+        ensures whole { IsOp self.now }
+        ensures range { IsInRange self.now.body }
+    {
+        let _author = self.author;
+        let _seq = self.seq;
+        let _len = self.context.len();
+        name_fits(&self.epoch);
+        self.body.fits();
+    }
+
     /// The same again. Lists of identifiers are copied run by run.
     pub fn copy(&self) -> Result<Op, AllocError>
         ensures copy { IfOk result (λ op. op ≡ self.now) }
@@ -123,6 +136,25 @@ impl Op {
 }
 
 impl Body {
+    fn fits(&self)
+        ensures whole { IsBody self.now }
+        ensures range { IsInRange self.now }
+    {
+        match self {
+            Body::Insert { first, text } => {
+                let _last = first.last();
+                let _len = text.len();
+            }
+            Body::Delete { targets } => {
+                let _total = targets.total();
+            }
+            Body::Rename { former } => {
+                let _total = former.total();
+            }
+            Body::Leave => {}
+        }
+    }
+
     /// The same again.
     pub fn copy(&self) -> Result<Body, AllocError>
         ensures copy { IfOk result (λ body. body ≡ self.now) }
@@ -140,6 +172,15 @@ impl Body {
             },
             Body::Leave => Body::Leave,
         })
+    }
+}
+
+fn name_fits(name: &EpochName)
+    ensures whole { IsName name.now }
+{
+    if let EpochName::Of { replica, seq } = name {
+        let _replica = *replica;
+        let _seq = *seq;
     }
 }
 

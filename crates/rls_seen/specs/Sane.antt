@@ -12,10 +12,9 @@ use Rattle.rls_ident.specs.Vectors.{at_most, raise}
 use Rattle.rls_runs.specs.Runs.{AreIdents, run_idents}
 use Rattle.rls_rename.specs.Tree.{Node, Epochs, AreNodes, AreBelow, is_kept}
 use Rattle.rls_ops.specs.declared.op.Op.{Op}
-use Rattle.rls_ops.specs.declared.op.Body.{Body}
-use Rattle.rls_ops.specs.declared.op.Body.TheVariants.{Insert}
 use Rattle.rls_ops.specs.Rows.{AcksSeen, AreRows, row_of, left}
 use Rattle.rls_ops.specs.Shapes.{shape_fault}
+pub use Rattle.rls_ops.specs.WellFormed.{IsInRange}
 use Rattle.rls_model.specs.declared.parts.Stem.{Stem}
 use Rattle.rls_model.specs.History.{is_leave}
 use Rattle.rls_model.specs.Receiving.{comes_before}
@@ -66,11 +65,6 @@ pub record AreEpochs (v : List ℕ) (ss : List Stem) (E : Epochs) : Type 0 where
   pub covered : (n : Node) → IsIn n E.nodes → IsCovered ss n
 
 -- ---- operations
-
--- the first offset of an insertion is in the range of the program
-abbrev pub IsInRange : Body → Type 0
-IsInRange (Insert first text) = least_offset ≤ℤ offset_of (last_of first)
-IsInRange b = Unit {0}
 
 -- well formed operations with numbers above the vector, each before all behind it
 abbrev pub AreHeld : ℕ → List ℕ → List Op → Type 0
