@@ -1,39 +1,15 @@
 -- Lists of identifiers and their maximal runs.
 use Rattle.std.proofs.Common.{◌≡◌, ℕ, zero, suc, ◌+◌, Bool, true, false, cond, List, [], ◌∷◌, ◌++◌, Option, Some, refl, sym, ap, subst, ◌∙◌, arith}
-use Rattle.std.specs.Prelude.{ℤ, pos, ◌+ℤ◌, not, ◌&&◌, nat_lt}
+use Rattle.std.specs.Prelude.{pos, not, ◌&&◌, nat_lt}
 use Rattle.std.specs.Ordering.{is_eq}
 use Rattle.std.proofs.lemmas.Int.{ints}
 use Rattle.std.proofs.lemmas.Cmp.{lists_total, tied_itself}
 use Rattle.std.proofs.lemmas.Bool.{and_parts, and_from}
 use Rattle.rls_ident.specs.declared.tuple.Tuple.{Tuple}
-use Rattle.rls_ident.specs.declared.tuple.Tuple.TheVariants.{Low, At, High}
-use Rattle.rls_ident.specs.Tuples.{raised}
 use Rattle.rls_ident.specs.Identifiers.{shifted, follows, ident_lt}
+use Rattle.rls_ident.proofs.Shifted.{shifted_none, shifted_shifted}
 use Rattle.rls_ident.proofs.Tuples.{tuple_total}
 use Rattle.rls_runs.specs.Runs.{run_idents, put_run, runs_of, is_apart, run_last, idents_of, are_apart, run_before}
-
--- ---- identifiers that are shifted
-
-raised_zero : (t : Tuple) → raised (pos 0) t ≡ t
-raised_zero (At p r s o) = ap (λ z. At p r s z) (omega (arith, ints))
-raised_zero Low = refl
-raised_zero High = refl
-
-raised_raised : (j k : ℤ) (t : Tuple) → raised j (raised k t) ≡ raised (k +ℤ j) t
-raised_raised j k (At p r s o) = ap (λ z. At p r s z) (omega (arith, ints))
-raised_raised j k Low = refl
-raised_raised j k High = refl
-
-pub shifted_zero : (x : List Tuple) → shifted (pos 0) x ≡ x
-shifted_zero [] = refl
-shifted_zero (t ∷ []) = ap (λ u. u ∷ []) (raised_zero t)
-shifted_zero (t ∷ (u ∷ x)) = ap (λ w. t ∷ w) (shifted_zero (u ∷ x))
-
-pub shifted_shifted : (j k : ℤ) (x : List Tuple) → shifted j (shifted k x) ≡ shifted (k +ℤ j) x
-shifted_shifted j k [] = refl
-shifted_shifted j k (t ∷ []) = ap (λ u. u ∷ []) (raised_raised j k t)
-shifted_shifted j k (t ∷ (u ∷ [])) = ap (λ w. t ∷ w) (shifted_shifted j k (u ∷ []))
-shifted_shifted j k (t ∷ (u ∷ (v ∷ x))) = ap (λ w. t ∷ w) (shifted_shifted j k (u ∷ (v ∷ x)))
 
 pub follows_next : (x : List Tuple) → follows (shifted (pos 1) x) x ≡ true
 follows_next x = ap is_eq (tied_itself (lists_total tuple_total) (shifted (pos 1) x))
@@ -53,7 +29,7 @@ put_before : (x y : List Tuple) (n : ℕ) (rs : List (List Tuple × ℕ)) → fo
 put_before x y n rs e = ap (λ b. cond b ((x, n + 1) ∷ rs) ((x, 1) ∷ (y, n) ∷ rs)) e
 
 pub runs_of_run : (n : ℕ) (x : List Tuple) (tail : List (List Tuple)) (rs : List (List Tuple × ℕ)) → runs_of tail ≡ rs → IsFree (shifted (pos n) x) rs → runs_of (run_idents x (suc n) ++ tail) ≡ (x, suc n) ∷ rs
-runs_of_run zero x tail rs e free = ap (put_run x) e ∙ put_alone x rs (subst (λ y. IsFree y rs) (shifted_zero x) free)
+runs_of_run zero x tail rs e free = ap (put_run x) e ∙ put_alone x rs (subst (λ y. IsFree y rs) (shifted_none x) free)
 runs_of_run (suc n) x tail rs e free =
     let there : shifted (pos n) (shifted (pos 1) x) ≡ shifted (pos (suc n)) x = shifted_shifted (pos n) (pos 1) x ∙ ap (λ z. shifted z x) (omega (arith, ints)) in
     let rest : runs_of (run_idents (shifted (pos 1) x) (suc n) ++ tail) ≡ (shifted (pos 1) x, suc n) ∷ rs = runs_of_run n (shifted (pos 1) x) tail rs e (subst (λ y. IsFree y rs) (sym there) free) in
