@@ -1,6 +1,8 @@
 -- What the code's readers answer.
-use Rattle.std.specs.Prelude.{◌≡◌, ℕ, List, take, ◌<◌, ◌^◌, length, All, encode_utf8_all, Result, Ok, Err}
-use Rattle.rls_runs.specs.Runs.{runs_of}
+use Rattle.std.specs.Prelude.{◌≡◌, ℕ, List, take, ◌<◌, ◌^◌, length, All, encode_utf8_all, Result, Ok, Err, ◌++◌, ◌∷◌, [], ◌+◌, None, true}
+use Rattle.rls_ident.specs.declared.tuple.Tuple.{Tuple}
+use Rattle.rls_runs.specs.Runs.{runs_of, run_before, are_apart}
+use Rattle.rls_codec.specs.Reading.{next_run_at}
 use Rattle.rls_ops.specs.declared.op.Body.{Body}
 use Rattle.rls_ops.specs.declared.op.Body.TheVariants.{Insert, Delete, Rename, Leave}
 use Rattle.rls_codec.specs.declared.fault.ReadError.{ReadError}
@@ -34,3 +36,11 @@ IsShort Leave = Unit {0}
 -- the first list stands at the front of the second
 pub record IsFrontOf (a b : List ℕ) : Type 0 where
   pub front : take (length a) b ≡ a
+
+-- a run was read, and put behind the runs of these identifiers
+pub record PutsRun (old new : List (List Tuple)) (bytes rest : List ℕ) : Type 0 where
+  pub run : List Tuple × ℕ
+  pub read : next_run_at (run_before None (runs_of old)) bytes ≡ Ok (run, rest)
+  pub runs : runs_of new ≡ runs_of old ++ run ∷ []
+  pub apart : are_apart None (runs_of new) ≡ true
+  pub few : length new < length old + 2 ^ 32

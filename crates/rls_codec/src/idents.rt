@@ -1,16 +1,17 @@
 //! Tuples, identifiers and runs.
 
-ghost use Rattle.std.specs.Prelude.{◌≡◌, List, IfOk, IsTrue};
+ghost use Rattle.std.specs.Prelude.{◌≡◌, ◌+◌, ◌<◌, ◌≤◌, ◌^◌, List, length, nat_lt, None, IfOk, IfErr, IsTrue};
+ghost use Rattle.rls_runs.specs.Runs.{runs_of, are_apart, run_before};
 ghost use Rattle.std.specs.List.{All};
 ghost use Rattle.rls_ident.specs.Tuples.{at_spot};
 ghost use Rattle.rls_ident.specs.Identifiers.{is_inner_bounded, is_last_bounded};
-ghost use Rattle.rls_codec.specs.Reading.{is_offset, spot_at, inner_at, last_at, many_at, ident_at, run_at};
-ghost use Rattle.rls_codec.specs.Gives.{Gives};
+ghost use Rattle.rls_codec.specs.Reading.{is_offset, spot_at, inner_at, last_at, many_at, ident_at, run_at, next_run_at, chain_at, runs_at};
+ghost use Rattle.rls_codec.specs.Gives.{Gives, Fails, PutsRun};
 
 use crate::fault::ReadError;
 use crate::fields::{byte, i32_at, u32_at};
 use rls_ident::{Ident, Spot, Tuple};
-use rls_runs::Run;
+use rls_runs::{PushError, Run, Runs};
 use std::alloc::Global;
 
 /// The greatest offset.
@@ -105,6 +106,8 @@ pub fn ident(alloc: Global, bytes: &[u8]) -> Result<(Ident, &[u8]), ReadError>
 #[tactic(auto, unfolding(crate::specs::Reading::run_at))]
 pub fn run(alloc: Global, bytes: &[u8]) -> Result<(Run, &[u8]), ReadError>
     ensures read { Gives (λ x. (x.0, x.1.now)) result (run_at bytes.now) }
+    ensures len { IfOk result (λ x. IsTrue (nat_lt 0 x.0.1)) }
+    ensures short { IfOk result (λ x. x.0.1 < 2 ^ 32) }
 {
     let (first, rest) = ident(alloc, bytes)?;
     let (len, after) = u32_at(rest)?;
@@ -112,4 +115,40 @@ pub fn run(alloc: Global, bytes: &[u8]) -> Result<(Run, &[u8]), ReadError>
         Ok(run) => Ok((run, after)),
         Err(_) => Err(ReadError::Fault { left: rest.len() }),
     }
+}
+
+/// The run behind these, which is put behind them. After an error they are as they were.
+fn next_run<'a>(alloc: Global, runs: &mut Runs, bytes: &'a [u8]) -> Result<&'a [u8], ReadError>
+    requires apart { IsTrue (are_apart None (runs_of runs.old)) }
+    requires total { length runs.old + 2 ^ 32 ≤ 2 ^ 64 }
+    ensures puts { IfOk result (λ rest. PutsRun runs.old runs.new bytes.now rest.now) }
+    ensures fails { IfErr result (λ e. Fails e (next_run_at (run_before None (runs_of runs.old)) bytes.now)) }
+{
+    let (found, rest) = run(alloc, bytes)?;
+    match runs.push(found) {
+        Ok(()) => Ok(rest),
+        Err(PushError::NotAbove) => Err(ReadError::Fault { left: bytes.len() }),
+        Err(PushError::Touching) => Err(ReadError::Fault { left: bytes.len() }),
+        Err(PushError::OutOfMemory) => Err(ReadError::OutOfMemory),
+    }
+}
+
+fn run_list(alloc: Global, count: u32, bytes: &[u8]) -> Result<(Runs, &[u8]), ReadError>
+    ensures read { Gives (λ x. (runs_of x.0, x.1.now)) result (chain_at next_run_at None count bytes.now) }
+{
+    let mut runs = Runs::new(alloc);
+    let mut rest = bytes;
+    for _ in 0..count {
+        rest = next_run(alloc, &mut runs, rest)?;
+    }
+    Ok((runs, rest))
+}
+
+/// A number of runs, and the runs, each above the one before and apart from it.
+pub fn runs(alloc: Global, bytes: &[u8]) -> Result<(Runs, &[u8]), ReadError>
+    ensures read { Gives (λ x. (x.0, x.1.now)) result (runs_at bytes.now) }
+{
+    let (count, rest) = u32_at(bytes)?;
+    let (runs, rest) = run_list(alloc, count, rest)?;
+    Ok((runs, rest))
 }

@@ -5,14 +5,18 @@ mod fault;
 mod fields;
 mod idents;
 pub mod laws;
+mod messages;
 mod puts;
+mod reading;
 mod writing;
 
 pub use fault::{DecodeError, ReadError};
 pub use fields::{byte, epoch_name, i32_at, text, u32_at, u64_at, vector};
-pub use idents::{ident, run};
+pub use idents::{ident, run, runs};
+pub use messages::{decode_message, magic, member, member_count};
 pub use puts::{
     put_byte, put_i32, put_ident, put_name, put_run, put_runs, put_text, put_u32, put_u64,
     put_vector,
 };
+pub use reading::{decode_op, op, ops};
 pub use writing::{encode_message, encode_op, put_op, put_ops};

@@ -1,0 +1,17 @@
+use Rattle.std.proofs.Common.{None}
+use Rattle.std.proofs.lemmas.Result.{err_from_is_err_and}
+use Rattle.rls_codec.specs.Reading.{op_at}
+use Rattle.rls_codec.proofs.Loop.{goes_on_many, ends, is_done}
+use Rattle.rls_codec.proofs.reading.op_list.Goals as goal
+
+pub returns-in_err-found : goal.returns-in_err-found
+returns-in_err-found c =
+    let p = err_from_is_err_and c.from_residual.result c.from_residual.ensures.1 in
+    rw (p.1, p.2) record { read = ends (λ before. op_at c.args.members) c.in_err-found.field-0.0 c.loop.ops None c.args.count c.loop.counter c.loop.rest.now _ c.loop-test.true c.in_err-found.ensures.read c.loop.invariant }
+
+pub loop-preserved : goal.loop-preserved
+loop-preserved c =
+    rw c.in_ok-push.ensures.ok (goes_on_many (op_at c.args.members) c.loop.ops c.args.count c.loop.counter c.loop.rest.now c.in_ok-found.found c.in_ok-found.after.now _ c.loop-test.true c.in_ok-found.ensures.read c.loop.invariant)
+
+pub returns : goal.returns
+returns c = record { read = is_done (λ before. op_at c.args.members) c.loop.ops None c.args.count c.loop.counter c.loop.rest.now _ c.loop-test.false c.loop.invariant }
