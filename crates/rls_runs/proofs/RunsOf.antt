@@ -7,7 +7,8 @@ use Rattle.std.proofs.lemmas.Cmp.{lists_total, tied_itself}
 use Rattle.std.proofs.lemmas.Bool.{and_parts, and_from}
 use Rattle.rls_ident.specs.declared.tuple.Tuple.{Tuple}
 use Rattle.rls_ident.specs.Identifiers.{shifted, follows, ident_lt}
-use Rattle.rls_ident.proofs.Shifted.{shifted_none, shifted_shifted}
+use Rattle.rls_ident.proofs.Shifted.{shifted_none}
+pub use Rattle.rls_ident.proofs.Shifted.{shifted_shifted, shifted_none as shifted_zero}
 use Rattle.rls_ident.proofs.Tuples.{tuple_total}
 use Rattle.rls_runs.specs.Runs.{run_idents, put_run, runs_of, is_apart, run_last, idents_of, are_apart, run_before}
 
