@@ -1,0 +1,7 @@
+//! Tests of worked examples over the public calls of the crates below.
+#![tactic(auto)]
+
+#[cfg(test)]
+mod commands;
+#[cfg(test)]
+mod files;

@@ -1,0 +1,14 @@
+pub mod Tables
+pub mod Entries
+pub mod Events
+pub mod Plain
+pub mod Standing
+pub mod Simulated
+pub mod Binds
+pub mod FileReads
+pub mod LegalReads
+pub mod Ordered
+pub mod FileBack
+pub mod TextReads
+pub mod Statuses
+pub mod Headlines

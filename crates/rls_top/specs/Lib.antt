@@ -1,0 +1,10 @@
+pub mod Journal
+pub mod Insertions
+pub mod Over
+pub mod Gives
+pub mod Heads
+pub mod Table
+pub mod Words
+pub mod Stops
+pub mod Due
+pub mod Headline

@@ -1,0 +1,112 @@
+//! The words of a command.
+
+ghost use Rattle.std.specs.Prelude.{◌≡◌, map, string_bytes};
+ghost use Rattle.rls_top.specs.Words.{number_up_to, alone, new_of, send_of, trial_of, command_of};
+
+use rls_script::number;
+
+/// What the program is asked to do.
+#[derive(Clone, Copy, Debug, PartialEq, Eq)]
+pub enum Command {
+    New { group: u64, me: u32, members: u32 },
+    Edit,
+    Text,
+    Ids,
+    Stat,
+    Send { to: u32 },
+    Take,
+    Leave,
+    Trial { seed: u32, steps: u32 },
+}
+
+/// The command that these words are.
+#[tactic(auto, unfolding(crate::specs::Words::command_of))]
+pub(crate) fn parsed(words: &[String]) -> Option<Command>
+    ensures command { result ≡ command_of (map string_bytes words.now) }
+{
+    let Some((word, others)) = words.split_first() else {
+        return None;
+    };
+    let word = word.as_str();
+    if word == "new" {
+        new(others)
+    } else if word == "edit" {
+        alone(Command::Edit, others)
+    } else if word == "text" {
+        alone(Command::Text, others)
+    } else if word == "ids" {
+        alone(Command::Ids, others)
+    } else if word == "stat" {
+        alone(Command::Stat, others)
+    } else if word == "send" {
+        send(others)
+    } else if word == "take" {
+        alone(Command::Take, others)
+    } else if word == "leave" {
+        alone(Command::Leave, others)
+    } else if word == "trial" {
+        trial(others)
+    } else {
+        None
+    }
+}
+
+fn alone(command: Command, others: &[String]) -> Option<Command>
+    ensures { result ≡ alone command (map string_bytes others.now) }
+{
+    if others.is_empty() {
+        Some(command)
+    } else {
+        None
+    }
+}
+
+fn number_up_to(most: u32, word: &String) -> Option<u32>
+    ensures { result ≡ number_up_to most (string_bytes word.now) }
+{
+    let n = number(word.as_str())?;
+    if n <= most as u64 {
+        Some(n as u32)
+    } else {
+        None
+    }
+}
+
+fn new(others: &[String]) -> Option<Command>
+    ensures { result ≡ new_of (map string_bytes others.now) }
+{
+    match others {
+        [group, me, members] => {
+            let group = number(group.as_str())?;
+            let me = number_up_to(u32::MAX, me)?;
+            let members = number_up_to(u32::MAX, members)?;
+            Some(Command::New { group, me, members })
+        }
+        _ => None,
+    }
+}
+
+fn send(others: &[String]) -> Option<Command>
+    ensures { result ≡ send_of (map string_bytes others.now) }
+{
+    match others {
+        [to] => {
+            let to = number_up_to(u32::MAX, to)?;
+            Some(Command::Send { to })
+        }
+        _ => None,
+    }
+}
+
+fn trial(others: &[String]) -> Option<Command>
+    ensures { result ≡ trial_of (map string_bytes others.now) }
+{
+    match others {
+        [seed, steps] => {
+            let seed = number_up_to(2_147_483_647, seed)?;
+            let steps = number_up_to(100_000, steps)?;
+            Some(Command::Trial { seed, steps })
+        }
+        _ => None,
+    }
+}
