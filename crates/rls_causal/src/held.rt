@@ -75,14 +75,15 @@ impl Held {
         &self.ops[i as usize]
     }
 
-    /// What waits under this author and number.
+    /// What waits under this author and number. It takes constant time on average, and no memory.
     pub fn get(&self, author: u32, seq: u32) -> Option<&Op>
         ensures waiting { option_copied result ≡ waiting_under self.now author seq }
     {
         self.ops.get(&Number { author, seq })
     }
 
-    /// The first operation whose context is at most the vector.
+    /// The first operation whose context is at most the vector: the least author's, and of these the
+    /// least number. `None` exactly where none is ready. It looks at each operation up to that one.
     pub fn first_ready(&self, vector: &Vector) -> Option<&Op>
         ensures ready { option_copied result ≡ first_ready_at vector.now self.now }
     {
@@ -104,7 +105,8 @@ impl Held {
         Ok(Put::Added)
     }
 
-    /// Takes out what waits under this author and number.
+    /// Takes out what waits under this author and number. `None` exactly where none does. It takes
+    /// time in proportion to the operations behind it, and no memory.
     pub fn remove(&mut self, author: u32, seq: u32) -> Option<Op>
         ensures found { result ≡ waiting_under self.old author seq }
         ensures others { self.new ≡ without author seq self.old }

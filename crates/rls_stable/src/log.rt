@@ -67,7 +67,8 @@ impl Log {
     }
 
     /// Copies of the operations whose number is above the row's count of their author, in order: as
-    /// many of the first ones as have at most so many bytes by `encoded_len` together.
+    /// many of the first ones as have at most so many bytes by `encoded_len` together. It goes over
+    /// the log up to the first one that is left out.
     pub fn missing_for(&self, row: &Vector, limit: u64) -> Result<Ops, AllocError>
         requires range { limit < 2 ^ 64 - 1 }
         ensures missing { IfOk result (λ ops. ops ≡ front_within 0 limit (missing_for row.now self.now.ops)) }
