@@ -122,7 +122,7 @@ runs_fit xs few f h = (few, behind None (runs_of xs) (apart_runs xs h.1) f, iden
 pub text_fits : (cs : List ℕ) → length (encode_utf8_all cs) < 2 ^ 32 → All IsScalar cs → FitsText cs
 text_fits cs few s = (scalars_of_all cs s, few)
 
-small_chain : (before : Option ℕ) (v : List ℕ) → All IsSmall v → Chained (λ b. IsSmall) before v
+pub small_chain : (before : Option ℕ) (v : List ℕ) → All IsSmall v → Chained (λ b. IsSmall) before v
 small_chain before [] a = tt
 small_chain before (n ∷ v) a = (All-head IsSmall n v a, small_chain (Some n) v (All-tail IsSmall n v a))
 

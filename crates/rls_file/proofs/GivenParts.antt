@@ -1,5 +1,5 @@
 -- Parts that are read from a file may be tested.
-use Rattle.std.proofs.Common.{◌≡◌, ℕ, zero, suc, ◌+◌, ◌<◌, ◌≤◌, Bool, true, false, List, [], ◌∷◌, length, Option, Some, None, refl, sym, subst, arith}
+use Rattle.std.proofs.Common.{◌≡◌, ℕ, suc, ◌<◌, ◌≤◌, Bool, true, false, List, [], ◌∷◌, length, Option, Some, None, sym, subst, arith}
 use Rattle.std.specs.Prelude.{MatchBool, map, nat_le, nat_lt, ◌==◌, ◌&&◌}
 use Rattle.rls_ident.proofs.Members.{and_left, and_right, le_is, lt_is, eq_is}
 use Rattle.rls_ops.specs.declared.op.Op.{Op}
@@ -8,7 +8,7 @@ use Rattle.rls_codec.proofs.MessageFormats.{apart_from}
 use Rattle.rls_model.specs.declared.parts.EpochPart.{EpochPart}
 use Rattle.rls_model.specs.declared.parts.TextRun.{TextRun}
 use Rattle.rls_model.specs.declared.parts.Parts.{Parts}
-use Rattle.rls_parts.specs.Given.{HaveCounts, HaveParents, AreEpochParts, HaveTexts, AreTextRuns, AreMembersFrom, AreGiven}
+use Rattle.rls_parts.specs.Given.{HaveCounts, HaveParents, AreEpochParts, HaveTexts, AreMembersFrom, AreGiven}
 use Rattle.rls_file.specs.ReadingFiles.{is_above, run_before}
 use Rattle.rls_file.specs.SpelledFiles.{FitLefts, FitsEpoch, FitsTextRun, IsSpelledSnapshot}
 

@@ -1,10 +1,9 @@
 -- A legal history's journal is read back.
-use Rattle.std.proofs.Common.{◌≡◌, ℕ, true, false, List, [], ◌∷◌, length, Option, Some, None, Ok, refl, arith}
-use Rattle.std.specs.Prelude.{nat_le, nat_lt, All}
-use Rattle.std.proofs.lemmas.List.Elements.{All-head, All-tail}
+use Rattle.std.proofs.Common.{◌≡◌, true, false, length, None, Ok, refl, arith}
+use Rattle.std.specs.Prelude.{nat_le, nat_lt}
 use Rattle.rls_ident.proofs.Members.{and_true, le_test, lt_test, not_le_test}
 use Rattle.rls_ops.specs.declared.op.Op.{Op}
-use Rattle.rls_codec.specs.Spelled.{IsSmall, Chained}
+use Rattle.rls_codec.specs.Spelled.{IsSmall}
 use Rattle.rls_model.specs.History.{Accepted, Acknowledged, History, Fresh, Then, group_of, me_of, members_of, count_of}
 use Rattle.rls_model.specs.History.{count as count_in}
 use Rattle.rls_model.specs.Legal.{MayAccept, AreNumbers, IsLegal}
@@ -13,6 +12,7 @@ use Rattle.rls_file.specs.Files.{Journal, entries_of, journal_bytes}
 use Rattle.rls_file.specs.ReadingFiles.{may_be_next, file_of}
 use Rattle.rls_file.specs.SpelledFiles.{IsReadable, FitWaiting, IsHead}
 use Rattle.rls_file.specs.FileLaws.{AreSpelled}
+use Rattle.rls_codec.proofs.Fits.{small_chain}
 use Rattle.rls_file.proofs.FileFormats.{file_again}
 
 accepted_is_next : (H : History) (o : Op) → MayAccept H o → may_be_next H o ≡ true
@@ -20,10 +20,6 @@ unfolding answer
 accepted_is_next H o m =
     let later : nat_le o.seq (count_of H o.author) ≡ false = not_le_test o.seq (count_of H o.author) (omega (arith, m.next)) in
     rw (m.shape, later, m.causes, m.fits) refl
-
-small_counts : (before : Option ℕ) (v : List ℕ) → All IsSmall v → Chained (λ b. IsSmall) before v
-small_counts before [] a = tt
-small_counts before (n ∷ v) a = (All-head IsSmall n v a, small_counts (Some n) v (All-tail IsSmall n v a))
 
 legal_start : (H : History) → IsLegal H → AreNumbers (group_of H) (me_of H) (members_of H)
 legal_start (Fresh group me members) l = l
@@ -34,7 +30,7 @@ legal_readable (Fresh group me members) l s = tt
 legal_readable (Then H (Accepted o)) l s = (legal_readable H l.0 s.0, (s.1, accepted_is_next H o l.2))
 legal_readable (Then H (Acknowledged a v)) l s =
     let few = legal_start H l.0 in
-    (legal_readable H l.0 s, (omega (arith, l.1.0, few.2), l.1.0, (l.1.1.0, small_counts None v l.1.1.1), l.2))
+    (legal_readable H l.0 s, (omega (arith, l.1.0, few.2), l.1.0, (l.1.1.0, small_chain None v l.1.1.1), l.2))
 
 legal_head : (H : History) → IsLegal H → IsHead 1 (group_of H) (members_of H) (me_of H)
 legal_head H l =

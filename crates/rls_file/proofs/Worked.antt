@@ -13,7 +13,7 @@ use Rattle.rls_model.specs.Parts.{parts}
 use Rattle.rls_parts.specs.Rules.{Broken}
 use Rattle.rls_file.specs.Files.{place_of_broken, journal_bytes, snapshot_bytes, file_bytes, Content, Journal, Snapshot}
 use Rattle.rls_file.specs.ReadingFiles.{file_of}
-use Rattle.rls_file.proofs.Hex.{hex}
+use Rattle.rls_codec.proofs.Hex.{hex}
 
 abbrev op_of : ℕ → List ℕ → Body → Op
 op_of seq context b = record { author = 0; seq = seq; context = context; epoch = Origin; body = b }
