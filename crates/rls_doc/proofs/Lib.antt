@@ -1,0 +1,5 @@
+pub mod Rising
+pub mod Places
+pub mod Zipped
+pub mod Added
+pub mod Steps

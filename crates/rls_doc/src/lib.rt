@@ -2,5 +2,7 @@
 #![tactic(auto)]
 
 mod document;
+mod plain;
 
 pub use document::{Document, RunMap};
+pub use plain::VecDocument;

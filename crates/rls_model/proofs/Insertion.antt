@@ -38,7 +38,7 @@ use Rattle.rls_model.specs.Editing.{own_stem, ends_below, begins_above, may_appe
 use Rattle.rls_model.specs.Laws.{edited, InsertionLands}
 use Rattle.rls_model.proofs.OneTree.{nodes, none_else}
 use Rattle.rls_model.proofs.Distinct.{ident_shifted, known, char_split}
-use Rattle.rls_model.proofs.Sorted.{Entry, Rises, same_rising}
+use Rattle.rls_runs.proofs.Sorted.{Entry, Rises, same_rising}
 use Rattle.rls_model.proofs.SameOps.{entry_of, export_rises, in_export, export_in}
 use Rattle.rls_model.proofs.Ranges.{idents_good}
 use Rattle.rls_model.proofs.Began.{IsNeighbour}

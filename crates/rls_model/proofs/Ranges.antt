@@ -23,8 +23,8 @@ use Rattle.rls_model.specs.WellFormed.{IsSmall, IsName}
 use Rattle.rls_model.specs.Legal.{IsLegal}
 use Rattle.rls_model.proofs.OneTree.{history_ident}
 use Rattle.rls_model.proofs.Distinct.{known}
-use Rattle.rls_model.proofs.Sorted as sorted
-use Rattle.rls_model.proofs.Sorted.{Rises, AreAbove}
+use Rattle.rls_runs.proofs.Sorted as sorted
+use Rattle.rls_runs.proofs.Sorted.{Rises, AreAbove}
 use Rattle.rls_model.proofs.SameOps.{export_rises, in_export, live_char, top_kept}
 
 -- ---- counts

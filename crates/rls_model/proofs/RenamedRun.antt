@@ -37,7 +37,7 @@ use Rattle.rls_model.specs.Laws.{edited, RenamedRun}
 use Rattle.rls_model.proofs.OneTree.{nodes, parents, none_else}
 use Rattle.rls_model.proofs.StemLists.{found_same}
 use Rattle.rls_model.proofs.Distinct.{known, char_split}
-use Rattle.rls_model.proofs.Sorted.{Entry, same_rising}
+use Rattle.rls_runs.proofs.Sorted.{Entry, same_rising}
 use Rattle.rls_model.proofs.SameOps.{entry_of, live_char, op_kept, export_rises, in_export, export_in}
 use Rattle.rls_model.proofs.Made as made
 use Rattle.rls_model.proofs.Named.{grown_translate, char_old}

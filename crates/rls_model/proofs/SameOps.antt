@@ -22,7 +22,7 @@ use Rattle.rls_model.specs.Legal.{IsLegal}
 use Rattle.rls_model.specs.Laws.{HaveSameOps, SameOperations}
 use Rattle.rls_model.proofs.OneTree.{nodes, parents, epoch_kept, index-raise_le, count_next}
 use Rattle.rls_model.proofs.Distinct.{char_split, all_append, known, one}
-use Rattle.rls_model.proofs.Sorted.{Rises, AreApart, AreDistinct, AllApart, rises_all, in_put_all, put_all_in, same_rising}
+use Rattle.rls_runs.proofs.Sorted.{Rises, AreApart, AreDistinct, AllApart, rises_all, in_put_all, put_all_in, same_rising}
 
 -- ---- no character twice
 

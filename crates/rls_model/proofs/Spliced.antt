@@ -11,7 +11,7 @@ use Rattle.rls_ident.proofs.Members.{in_split, in_take, in_drop}
 use Rattle.rls_ident.proofs.Shifted.{shifted_none, shifted_shifted, shifted_less}
 use Rattle.rls_model.specs.Editing.{get_before}
 use Rattle.rls_model.proofs.Distinct.{ident_shifted}
-use Rattle.rls_model.proofs.Sorted.{Entry, IsBelow, AreAbove, Rises}
+use Rattle.rls_runs.proofs.Sorted.{Entry, IsBelow, AreAbove, Rises}
 
 -- z is above the left neighbour, where there is one
 abbrev pub IsAfter : Option (List Tuple) → List Tuple → Type 0

@@ -24,7 +24,7 @@ use Rattle.rls_model.specs.WellFormed.{IsBody}
 use Rattle.rls_model.specs.Legal.{IsLegal}
 use Rattle.rls_model.proofs.OneTree.{history_ident, history_translate, history_order}
 use Rattle.rls_model.proofs.Distinct.{ident_shifted, all_append, known}
-use Rattle.rls_model.proofs.Sorted.{Entry, AreAbove, Rises, same_rising}
+use Rattle.rls_runs.proofs.Sorted.{Entry, AreAbove, Rises, same_rising}
 use Rattle.rls_model.proofs.SameOps.{entry_of, live_char, top_kept, export_rises, in_export, export_in}
 use Rattle.rls_model.proofs.Ranges.{export_ident}
 use Rattle.rls_model.proofs.Named.{grown_translate, char_old, char_new, old_new, one_ident}

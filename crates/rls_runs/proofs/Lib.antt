@@ -6,4 +6,5 @@ pub mod RunPlaces
 pub mod RunJoins
 pub mod RunEnds
 pub mod RunLists
+pub mod Sorted
 mod Worked

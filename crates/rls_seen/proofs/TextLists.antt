@@ -9,7 +9,7 @@ use Rattle.rls_ident.specs.Lists.{IsIn}
 use Rattle.rls_ident.proofs.Lists.{lt_trans}
 use Rattle.rls_ident.proofs.Members.{and_left, and_right, and_true, less_is, in_map, map_in}
 use Rattle.rls_runs.specs.Runs.{AreIdents, is_increasing}
-use Rattle.rls_model.proofs.Sorted.{Entry, IsBelow, AreAbove, Rises}
+use Rattle.rls_runs.proofs.Sorted.{Entry, IsBelow, AreAbove, Rises}
 
 -- the identifiers
 abbrev pub ids : List Entry → List (List Tuple)

@@ -37,7 +37,7 @@ use Rattle.rls_model.specs.WellFormed.{IsBody}
 use Rattle.rls_model.proofs.Distinct.{ident_shifted}
 use Rattle.rls_model.proofs.Fresh.{unused, still_used, now_used}
 use Rattle.rls_model.proofs.Insertion.{born, born_entries}
-use Rattle.rls_model.proofs.Sorted.{Entry, IsBelow, AreAbove, Rises, AreApart, AreDistinct, AllApart, rises_all, in_put_all}
+use Rattle.rls_runs.proofs.Sorted.{Entry, IsBelow, AreAbove, Rises, AreApart, AreDistinct, AllApart, rises_all, in_put_all}
 use Rattle.rls_model.proofs.Spliced.{entries, entries_rise}
 use Rattle.rls_seen.specs.Seen.{Seen, greatest_over, idents_over}
 use Rattle.rls_seen.specs.Over.{placed_over, added_over, renamed_over, is_greatest_over, text_after}

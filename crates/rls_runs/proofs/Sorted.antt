@@ -8,7 +8,7 @@ use Rattle.rls_ident.specs.Identifiers.{ident_cmp, ident_lt}
 use Rattle.rls_ident.proofs.Lists.{Lt, lt_irrefl, lt_trans, tri}
 use Rattle.rls_ident.proofs.Tuples.{tuples}
 use Rattle.rls_ident.proofs.Members.{less_is}
-use Rattle.rls_model.specs.Document.{put, put_all}
+use Rattle.rls_runs.specs.Entries.{put, put_all}
 
 -- an identifier and a character
 abbrev pub Entry : Type 0
@@ -41,12 +41,12 @@ abbrev pub AllApart : List Entry → List Entry → Type 0
 AllApart [] ys = Unit {0}
 AllApart (x ∷ xs) ys = AreApart x ys × AllApart xs ys
 
-above_at : (x y : Entry) (ys : List Entry) → AreAbove x ys → IsIn y ys → IsBelow x y
+pub above_at : (x y : Entry) (ys : List Entry) → AreAbove x ys → IsIn y ys → IsBelow x y
 above_at x y [] a p = absurd p
 above_at x y (z ∷ ys) a (inl e) = subst (λ (w : Entry). IsBelow x w) e a.0
 above_at x y (z ∷ ys) a (inr p) = above_at x y ys a.1 p
 
-above_less : (x y : Entry) (ys : List Entry) → IsBelow x y → AreAbove y ys → AreAbove x ys
+pub above_less : (x y : Entry) (ys : List Entry) → IsBelow x y → AreAbove y ys → AreAbove x ys
 above_less x y [] h a = tt
 above_less x y (z ∷ ys) h a = (lt_trans h a.0, above_less x y ys h a.1)
 

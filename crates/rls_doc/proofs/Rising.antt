@@ -1,0 +1,116 @@
+-- Entries whose identifiers strictly increase.
+use Rattle.std.proofs.Common.{◌≡◌, ℕ, zero, suc, Bool, true, false, cond, List, [], ◌∷◌, ◌++◌, take, drop, ◌-◌, length, Some, slice_get, refl, sym, ap, subst, ◌∙◌, arith}
+use Rattle.std.specs.Prelude.{filter}
+use Rattle.std.specs.declared.cmp.Ordering.TheVariants.{Less}
+use Rattle.std.specs.Ordering.{is_lt}
+use Rattle.rls_ident.specs.declared.tuple.Tuple.{Tuple}
+use Rattle.rls_ident.specs.Identifiers.{ident_lt, is_ident, ident_cmp}
+use Rattle.std.specs.List.{list_all}
+use Rattle.rls_ident.proofs.Members.{and_left, and_right, and_true, some_is}
+use Rattle.rls_runs.specs.Runs.{is_increasing}
+use Rattle.rls_runs.specs.Entries.{idents_in, with_idents}
+use Rattle.rls_runs.specs.Places.{last_ident, is_above}
+use Rattle.rls_runs.proofs.RunOrder.{lt_of, of_lt}
+use Rattle.rls_runs.proofs.Sorted.{Entry, IsBelow, AreAbove, Rises, above_less}
+use Rattle.rls_doc.specs.Documents.{KeepsOrder}
+
+pub rising : (es : List Entry) → is_increasing (idents_in es) ≡ true → Rises es
+rising [] h = tt
+rising (x ∷ []) h = (tt, tt)
+rising (x ∷ (y ∷ es)) h =
+    let l : IsBelow x y = lt_of x.0 y.0 (and_left (ident_lt x.0 y.0) (is_increasing (idents_in (y ∷ es))) h) in
+    let r = rising (y ∷ es) (and_right (ident_lt x.0 y.0) (is_increasing (idents_in (y ∷ es))) h) in
+    ((l, above_less x y es l r.0), r)
+
+pub increasing : (es : List Entry) → Rises es → is_increasing (idents_in es) ≡ true
+increasing [] h = refl
+increasing (x ∷ []) h = refl
+increasing (x ∷ (y ∷ es)) h = and_true (ident_lt x.0 y.0) (is_increasing (idents_in (y ∷ es))) (of_lt x.0 y.0 h.0.0) (increasing (y ∷ es) h.1)
+
+-- ---- some of the entries
+
+above_filter : (t : Entry → Bool) (x : Entry) (es : List Entry) → AreAbove x es → AreAbove x (filter t es)
+above_filter t x [] h = tt
+above_filter t x (y ∷ es) h = go (t y) (above_filter t x es h.1)
+  where
+    go : (b : Bool) → AreAbove x (filter t es) → AreAbove x (cond b (y ∷ filter t es) (filter t es))
+    go true k = (h.0, k)
+    go false k = k
+
+rises_filter : (t : Entry → Bool) (es : List Entry) → Rises es → Rises (filter t es)
+rises_filter t [] h = tt
+rises_filter t (x ∷ es) h = go (t x) (rises_filter t es h.1)
+  where
+    go : (b : Bool) → Rises (filter t es) → Rises (cond b (x ∷ filter t es) (filter t es))
+    go true k = (above_filter t x es h.0, k)
+    go false k = k
+
+pub increasing_filter : (t : Entry → Bool) (es : List Entry) → is_increasing (idents_in es) ≡ true → is_increasing (idents_in (filter t es)) ≡ true
+increasing_filter t es h = increasing (filter t es) (rises_filter t es (rising es h))
+
+-- ---- other identifiers in the same order
+
+pub increasing_mapped : (f : List Tuple → List Tuple) → KeepsOrder f → (es : List Entry) → list_all is_ident (idents_in es) ≡ true → is_increasing (idents_in es) ≡ true → is_increasing (idents_in (with_idents f es)) ≡ true
+increasing_mapped f k [] i h = refl
+increasing_mapped f k (x ∷ []) i h = refl
+increasing_mapped f k (x ∷ (y ∷ es)) i h =
+    let j = and_right (is_ident x.0) (list_all is_ident (idents_in (y ∷ es))) i in
+    let l = k x.0 y.0 (and_left (is_ident x.0) (list_all is_ident (idents_in (y ∷ es))) i) (and_left (is_ident y.0) (list_all is_ident (idents_in es)) j) (and_left (ident_lt x.0 y.0) (is_increasing (idents_in (y ∷ es))) h) in
+    and_true (ident_lt (f x.0) (f y.0)) (is_increasing (idents_in (with_idents f (y ∷ es)))) l (increasing_mapped f k (y ∷ es) j (and_right (ident_lt x.0 y.0) (is_increasing (idents_in (y ∷ es))) h))
+
+-- ---- entries behind the last one
+
+pub behind_last : (es added : List Entry) (last first : Entry) → is_increasing (idents_in es) ≡ true → is_increasing (idents_in added) ≡ true → slice_get es (length es - 1) ≡ Some last → slice_get added 0 ≡ Some first → ident_cmp last.0 first.0 ≡ Less → is_increasing (idents_in (es ++ added)) ≡ true
+behind_last [] added last first h a g f l = absurd (cc)
+behind_last (x ∷ es) [] last first h a g f l = absurd (cc)
+behind_last (x ∷ []) (y ∷ added) last first h a g f l =
+    let p = some_is x last g in
+    let q = some_is y first f in
+    let k : ident_lt x.0 y.0 ≡ true = ap is_lt (ap (λ (z : Entry). ident_cmp z.0 y.0) p ∙ ap (λ (z : Entry). ident_cmp last.0 z.0) q ∙ l) in
+    and_true (ident_lt x.0 y.0) (is_increasing (idents_in (y ∷ added))) k a
+behind_last (x ∷ (y ∷ es)) (z ∷ added) last first h a g f l =
+    let n : length (x ∷ (y ∷ es)) - 1 ≡ suc (length (y ∷ es) - 1) = omega arith in
+    let k = ap (slice_get (x ∷ (y ∷ es))) (sym n) ∙ g in
+    and_true (ident_lt x.0 y.0) (is_increasing (idents_in (y ∷ (es ++ z ∷ added)))) (and_left (ident_lt x.0 y.0) (is_increasing (idents_in (y ∷ es))) h)
+    (behind_last (y ∷ es) (z ∷ added) last first (and_right (ident_lt x.0 y.0) (is_increasing (idents_in (y ∷ es))) h) a k f l)
+
+-- ---- a part of the entries
+
+above_drop : (n : ℕ) (es : List Entry) → Rises es → Rises (drop n es)
+above_drop zero es h = h
+above_drop (suc n) [] h = tt
+above_drop (suc n) (x ∷ es) h = above_drop n es h.1
+
+above_take : (x : Entry) (n : ℕ) (es : List Entry) → AreAbove x es → AreAbove x (take n es)
+above_take x zero es h = tt
+above_take x (suc n) [] h = tt
+above_take x (suc n) (y ∷ es) h = (h.0, above_take x n es h.1)
+
+rises_take : (n : ℕ) (es : List Entry) → Rises es → Rises (take n es)
+rises_take zero es h = tt
+rises_take (suc n) [] h = tt
+rises_take (suc n) (x ∷ es) h = (above_take x n es h.0, rises_take n es h.1)
+
+pub increasing_part : (from count : ℕ) (es : List Entry) → is_increasing (idents_in es) ≡ true → is_increasing (idents_in (take count (drop from es))) ≡ true
+increasing_part from count es h = increasing (take count (drop from es)) (rises_take count (drop from es) (above_drop from es (rising es h)))
+
+pub idents_part : (from count : ℕ) (es : List Entry) → idents_in (take count (drop from es)) ≡ take count (drop from (idents_in es))
+idents_part from count es = taken count (drop from es) ∙ ap (take count) (dropped from es)
+  where
+    taken : (n : ℕ) (es : List Entry) → idents_in (take n es) ≡ take n (idents_in es)
+    taken zero es = refl
+    taken (suc n) [] = refl
+    taken (suc n) (x ∷ es) = ap (λ xs. x.0 ∷ xs) (taken n es)
+
+    dropped : (n : ℕ) (es : List Entry) → idents_in (drop n es) ≡ drop n (idents_in es)
+    dropped zero es = refl
+    dropped (suc n) [] = refl
+    dropped (suc n) (x ∷ es) = dropped n es
+
+-- each identifier is above the last one in front of it
+pub above_taken : (es : List Entry) (i : ℕ) (e : Entry) → is_increasing (idents_in es) ≡ true → slice_get es i ≡ Some e → is_above (last_ident (idents_in (take i es))) e.0 ≡ true
+above_taken es zero e h g = refl
+above_taken [] (suc i) e h g = absurd (cc)
+above_taken (x ∷ []) (suc i) e h g = absurd (cc)
+above_taken (x ∷ (y ∷ es)) (suc zero) e h g = subst (λ (z : Entry). ident_lt x.0 z.0 ≡ true) (some_is y e g) (and_left (ident_lt x.0 y.0) (is_increasing (idents_in (y ∷ es))) h)
+above_taken (x ∷ (y ∷ es)) (suc (suc i)) e h g = above_taken (y ∷ es) (suc i) e (and_right (ident_lt x.0 y.0) (is_increasing (idents_in (y ∷ es))) h) g
