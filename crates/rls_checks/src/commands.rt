@@ -41,7 +41,14 @@ fn check(rt: &HostRuntime, case: &Case<'_>) -> Result<(), Fail> {
     let mut input = MemorySource::new(alloc, b"", &[])?;
     let mut output = MemorySink::new(alloc, 1000, case.failing_writes)?;
     let mut errors = MemorySink::new(alloc, 1000, &[])?;
-    let status = run(alloc, &words, &mut keeper, &mut input, &mut output, &mut errors);
+    let status = run(
+        alloc,
+        &words,
+        &mut keeper,
+        &mut input,
+        &mut output,
+        &mut errors,
+    );
     assert_eq!(rt; status, case.status);
     assert_eq!(rt; output.written(), case.output);
     assert_eq!(rt; errors.written(), case.errors);
@@ -62,7 +69,10 @@ fn texts_of_journals(rt: HostRuntime) -> Result<(), Fail> {
     check(&rt, &Case::text(Some(&hello), 0, b"hello", b""))?;
     check(&rt, &Case::text(Some(&marked), 0, b"hello!", b""))?;
     check(&rt, &Case::text(Some(&used), 3, b"", b"damaged at 0\n"))?;
-    check(&rt, &Case::text(Some(FRESH_IN_FORM_2), 12, b"", b"not built\n"))?;
+    check(
+        &rt,
+        &Case::text(Some(FRESH_IN_FORM_2), 12, b"", b"not built\n"),
+    )?;
     Ok(())
 }
 
@@ -82,7 +92,12 @@ fn faults_and_words(rt: HostRuntime) -> Result<(), Fail> {
     check(&rt, &no_write)?;
     let no_command = Case {
         word: "txt",
-        ..Case::text(Some(&hello), 1, b"", b"usage: new GROUP ME MEMBERS | edit | text | ids | stat | send TO | take | leave | trial SEED STEPS\n")
+        ..Case::text(
+            Some(&hello),
+            1,
+            b"",
+            b"usage: new GROUP ME MEMBERS | edit | text | ids | stat | send TO | take | leave | trial SEED STEPS\n",
+        )
     };
     check(&rt, &no_command)?;
     Ok(())

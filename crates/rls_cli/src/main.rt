@@ -7,10 +7,9 @@ use folder::folder_keeper;
 use rls_io::{StdSink, StdSource};
 use rls_top::run;
 use std::alloc::AllocError;
-use std::env;
-use std::io;
 use std::io::ErrorKind;
 use std::process::ExitCode;
+use std::{env, io};
 
 /// The status where memory runs out before the command is known.
 const OUT_OF_MEMORY: u8 = 10;

@@ -108,13 +108,13 @@ insertion_parts : (n : ℕ) (bytes : List ℕ) (a b : ℕ × List ℕ) (c : List
 unfolding insertion_at
 insertion_parts n bytes a b c g h x t o ar br cr gr g0 hr h0 xr tr test is =
     gives _ _ a _ (part_of (number_at w32 bytes) a ar)
-      (gives _ _ b _ (part_of (number_at w32 a.1) b br)
-        (gives _ _ c _ (part_of (vector_at n b.1) c cr)
-          (gives _ _ g _ (only_of 0 (with_rule (λ k. nat_le k 1) byte_at c.1) g gr g0)
-            (gives _ _ h _ (only_of 0 (with_rule (λ k. nat_le k 3) byte_at g.1) h hr h0)
-              (gives _ _ x _ (part_of (ident_at h.1) x xr)
-                (gives _ _ t _ (part_of (text_at x.1) t tr)
-                  (refused_of (nat_lt (length t.1 + op_limit) (length bytes)) (journal.Broken (length bytes)) (insertion a.0 b.0 c.0 x.0 t.0, t.1) o test is)))))))
+    (gives _ _ b _ (part_of (number_at w32 a.1) b br)
+    (gives _ _ c _ (part_of (vector_at n b.1) c cr)
+    (gives _ _ g _ (only_of 0 (with_rule (λ k. nat_le k 1) byte_at c.1) g gr g0)
+    (gives _ _ h _ (only_of 0 (with_rule (λ k. nat_le k 3) byte_at g.1) h hr h0)
+    (gives _ _ x _ (part_of (ident_at h.1) x xr)
+    (gives _ _ t _ (part_of (text_at x.1) t tr)
+    (refused_of (nat_lt (length t.1 + op_limit) (length bytes)) (journal.Broken (length bytes)) (insertion a.0 b.0 c.0 x.0 t.0, t.1) o test is)))))))
 
 op_parts : (n : ℕ) (bytes : List ℕ) (a b : ℕ × List ℕ) (c : List ℕ × List ℕ) (d : EpochName × List ℕ) (f : Body × List ℕ) (g h : ℕ × List ℕ) (o : Op × List ℕ)
     → number_at w32 bytes ≡ Ok a → number_at w32 a.1 ≡ Ok b → vector_at n b.1 ≡ Ok c → with_rule (λ k. nat_le k 1) byte_at c.1 ≡ Ok g → name_of_kind g.0 g.1 ≡ Ok d
@@ -126,8 +126,8 @@ op_parts n bytes a b c d f g h o ar br cr gr dr hr fr test is p i =
     let body = insert_kind h.0 h.1 f fr inserts in
     let ins = body.1 in
     insertion_parts n bytes a b c g h ins.first ins.text o ar br cr gr name.0 (ap (with_rule (λ k. nat_le k 3) byte_at) name.1 ∙ hr) body.0 ins.first_read ins.text_read
-      (ap (λ (q : Body × List ℕ). nat_lt (length q.1 + op_limit) (length bytes)) ins.is ∙ test)
-      (ap (λ (q : EpochName). pair_of (made a.0 b.0 c.0 q (Insert ins.first.0 ins.text.0)) ins.text.1) (sym origin) ∙ (ap (λ (q : Body × List ℕ). pair_of (made a.0 b.0 c.0 d.0 q.0) q.1) ins.is ∙ is))
+    (ap (λ (q : Body × List ℕ). nat_lt (length q.1 + op_limit) (length bytes)) ins.is ∙ test)
+    (ap (λ (q : EpochName). pair_of (made a.0 b.0 c.0 q (Insert ins.first.0 ins.text.0)) ins.text.1) (sym origin) ∙ (ap (λ (q : Body × List ℕ). pair_of (made a.0 b.0 c.0 d.0 q.0) q.1) ins.is ∙ is))
 
 op_back : (n : ℕ) (bytes : List ℕ) (o : Op × List ℕ) → op_at n bytes ≡ Ok o → o.0.epoch ≡ Origin → IsInsertion o.0.body → insertion_at n bytes ≡ Ok o
 unfolding op_at op_fields_at name_at body_at
@@ -143,7 +143,7 @@ op_back n bytes o e p i =
     let h = bind_ok (with_rule (λ k. nat_le k 3) byte_at d.0.1) _ f.0 f.1 in
     let fields : pair_of (made a.0.0 b.0.0 c.0.0 d.0.0 f.0.0) f.0.1 ≡ w.0 = ok_is (made a.0.0 b.0.0 c.0.0 d.0.0 f.0.0, f.0.1) w.0 f.2 in
     op_parts n bytes a.0 b.0 c.0 d.0 f.0 g.0 h.0 o a.1 b.1 c.1 g.1 g.2 h.1 h.2
-      (ap (λ (q : Op × List ℕ). nat_lt (length q.1 + op_limit) (length bytes)) fields ∙ k.0) (fields ∙ k.1) p i
+    (ap (λ (q : Op × List ℕ). nat_lt (length q.1 + op_limit) (length bytes)) fields ∙ k.0) (fields ∙ k.1) p i
 
 -- ---- events
 
@@ -173,9 +173,12 @@ entry_back H bytes e h i =
     let read : op_at n b.0.1 ≡ Ok o = r.1 ∙ ap (λ (p : Op × List ℕ). op_ok p) t.1 in
     let next : may_be_next H o.0 ≡ true = ap (λ (p : Op × List ℕ). may_be_next H p.0) (sym t.1) ∙ t.0 in
     let entry : (Accepted o.0, o.1) ≡ e = c.1.2 ∙ same in
-    let plain : AreInsertions (Then H (Accepted o.0)) = subst (λ (p : Entry × List ℕ). AreInsertions (Then H p.0)) (sym entry) i in
-    (o, gives _ _ b.0 _ (only_of 0 (with_rule (λ k. nat_le k 1) byte_at bytes) b.0 b.1 c.0)
-        (gives _ _ o _ (op_back n b.0.1 o read plain.1 plain.2) (passed_of (may_be_next H o.0) (journal.Broken (length b.0.1)) o next)), entry)
+    let plain : AreInsertions (Then H (Accepted o.0)) = subst (λ (p : Entry × List ℕ). AreInsertions (Then H p.0)) (sym entry) i in (
+      o,
+      gives _ _ b.0 _ (only_of 0 (with_rule (λ k. nat_le k 1) byte_at bytes) b.0 b.1 c.0)
+          (gives _ _ o _ (op_back n b.0.1 o read plain.1 plain.2) (passed_of (may_be_next H o.0) (journal.Broken (length b.0.1)) o next)),
+      entry,
+    )
 
 plain_before : (k : ℕ) (H : History) (bytes : List ℕ) (K : History × List ℕ) → steps_at entry_at Then H k bytes ≡ Ok K → AreInsertions K.0 → AreInsertions H
 unfolding steps_at
@@ -280,20 +283,20 @@ head_of_parts : (bytes : List ℕ) (m : List ℕ × List ℕ) (f g c a : ℕ × 
 unfolding head_at
 head_of_parts bytes m f g c a mr fr one gr cr ar =
     gives _ _ m _ (part_of (magic_at (codes "RLSF") bytes) m mr)
-      (gives _ _ f _ (only_of 1 (with_rule is_file_form byte_at m.1) f fr one)
-        (gives _ _ g _ (part_of (number_at w64 f.1) g gr)
-          (gives _ _ c _ (part_of (with_rule is_member_count (number_at w32) g.1) c cr)
-            (gives _ _ a _ (part_of (with_rule (λ k. nat_lt k c.0) (number_at w32) c.1) a ar) refl))))
+    (gives _ _ f _ (only_of 1 (with_rule is_file_form byte_at m.1) f fr one)
+    (gives _ _ g _ (part_of (number_at w64 f.1) g gr)
+    (gives _ _ c _ (part_of (with_rule is_member_count (number_at w32) g.1) c cr)
+    (gives _ _ a _ (part_of (with_rule (λ k. nat_lt k c.0) (number_at w32) c.1) a ar) refl))))
 
 journal_of_parts : (bytes rest : List ℕ) (group me members : ℕ) (H : History) → head_at bytes ≡ Ok (record { group = group; me = me; members = members }, rest) → RestRead group members me rest H → journal_at may_be_next accepted fresh bytes ≡ Ok (H, [])
 unfolding journal_at
 journal_of_parts bytes rest group me members H h r =
     let start : Head × List ℕ = (record { group = group; me = me; members = members }, rest) in
     gives _ _ start _ h
-      (gives _ _ r.count _ (part_of (number_at w32 rest) r.count r.count_read)
-        (gives _ _ r.history _ r.history_read
-          (gives _ _ r.none _ (only_of 0 (number_at w32 r.history.1) r.none r.none_read r.none_is)
-            (ends r.history.0 H r.none.1 r.history_is r.last))))
+    (gives _ _ r.count _ (part_of (number_at w32 rest) r.count r.count_read)
+    (gives _ _ r.history _ r.history_read
+    (gives _ _ r.none _ (only_of 0 (number_at w32 r.history.1) r.none r.none_read r.none_is)
+    (ends r.history.0 H r.none.1 r.history_is r.last))))
   where
     ends : (G K : History) (bs : List ℕ) → G ≡ K → bs ≡ [] → history_ok (G, bs) ≡ history_ok (K, [])
     ends G K bs p q = ap (λ (F : History). history_ok (F, bs)) p ∙ ap (λ (r : List ℕ). history_ok (K, r)) q

@@ -62,7 +62,7 @@ op_is n bytes o e =
     let text : body_of_kind 0 f.0.1 ≡ Ok (Insert g.0.0 h.0.0, h.0.1) = after _ _ g.0 _ (part_ok (ident_at f.0.1) g.0 g.1) (after _ _ h.0 _ (part_ok (text_at g.0.1) h.0 h.1) refl) in
     let whole_body : body_at d.0.1 ≡ Ok (Insert g.0.0 h.0.0, h.0.1) = after _ _ f.0 _ body.0 (ap (λ k. body_of_kind k f.0.1) body.1 ∙ text) in
     let fields : op_fields_at n bytes ≡ Ok (insertion a.0.0 b.0.0 c.0.0 g.0.0 h.0.0, h.0.1) =
-        after _ _ a.0 _ (part_ok (number_at w32 bytes) a.0 a.1) (after _ _ b.0 _ (part_ok (number_at w32 a.0.1) b.0 b.1) (after _ _ c.0 _ (part_ok (vector_at n b.0.1) c.0 c.1) (after _ _ (Origin, d.0.1) _ name (after _ _ (Insert g.0.0 h.0.0, h.0.1) _ whole_body refl)))) in
+    after _ _ a.0 _ (part_ok (number_at w32 bytes) a.0 a.1) (after _ _ b.0 _ (part_ok (number_at w32 a.0.1) b.0 b.1) (after _ _ c.0 _ (part_ok (vector_at n b.0.1) c.0 c.1) (after _ _ (Origin, d.0.1) _ name (after _ _ (Insert g.0.0 h.0.0, h.0.1) _ whole_body refl)))) in
     after _ _ (insertion a.0.0 b.0.0 c.0.0 g.0.0 h.0.0, h.0.1) _ fields (kept (nat_lt (length h.0.1 + op_limit) (length bytes)) (length bytes) (insertion a.0.0 b.0.0 c.0.0 g.0.0 h.0.0, h.0.1) o k.0 k.1)
 
 -- ---- events
@@ -121,11 +121,11 @@ file_is bytes K e =
     let form = only_ok 1 (with_rule is_file_form byte_at m.0.1) f.0 f.1 in
     let state : State = record { history = s.0.0; waiting = [] } in
     let journal : read_journal_at g.0.0 c.0.0 a.0.0 a.0.1 ≡ Ok (state, w.0.1) =
-        after _ _ n.0 _ count (after _ _ s.0 _ (events_are n.0.0 (Fresh g.0.0 a.0.0 c.0.0) n.0.1 s.0 events) (after _ _ ([], w.0.1) _ (after _ _ w.0 _ none.0 (nothing_waits _ w.0.0 w.0.1 none.1)) refl)) in
+    after _ _ n.0 _ count (after _ _ s.0 _ (events_are n.0.0 (Fresh g.0.0 a.0.0 c.0.0) n.0.1 s.0 events) (after _ _ ([], w.0.1) _ (after _ _ w.0 _ none.0 (nothing_waits _ w.0.0 w.0.1 none.1)) refl)) in
     let body = content s.0.0 f.0.0 g.0.0 c.0.0 a.0.0 a.0.1 w.0.1 form.1 journal in
     after _ _ m.0 _ (part_ok (magic_at (codes "RLSF") bytes) m.0 m.1)
-      (after _ _ f.0 _ form.0
-        (after _ _ g.0 _ (part_ok (number_at w64 f.0.1) g.0 g.1)
-          (after _ _ c.0 _ (part_ok (with_rule is_member_count (number_at w32) g.0.1) c.0 c.1)
-            (after _ _ a.0 _ (part_ok (with_rule (λ k. nat_lt k c.0.0) (number_at w32) c.0.1) a.0 a.1)
-              (body ∙ ap (λ (p : History × List ℕ). read_ok (Journal (record { history = p.0; waiting = [] }), p.1)) (ok_is (s.0.0, w.0.1) K w.2))))))
+    (after _ _ f.0 _ form.0
+    (after _ _ g.0 _ (part_ok (number_at w64 f.0.1) g.0 g.1)
+    (after _ _ c.0 _ (part_ok (with_rule is_member_count (number_at w32) g.0.1) c.0 c.1)
+    (after _ _ a.0 _ (part_ok (with_rule (λ k. nat_lt k c.0.0) (number_at w32) c.0.1) a.0 a.1)
+    (body ∙ ap (λ (p : History × List ℕ). read_ok (Journal (record { history = p.0; waiting = [] }), p.1)) (ok_is (s.0.0, w.0.1) K w.2))))))

@@ -33,9 +33,9 @@ use Rattle.rls_top.proofs.FileReads.{file_is}
 
 pub are_bytes : (bytes : List ℕ) → All (λ b. b < 256) bytes → IsBytes bytes
 are_bytes bytes h i = elim (cases_lt i (length bytes)) [
-    | inl lt ↦ h i 0 lt
-    | inr le ↦ rw (get_or_past bytes i 0 le) (omega arith)
-  ]
+  | inl lt ↦ h i 0 lt
+  | inr le ↦ rw (get_or_past bytes i 0 le) (omega arith)
+]
 
 -- ---- an operation
 
@@ -58,12 +58,12 @@ fit_body Leave i f = absurd i
 
 spelled_op : (n : ℕ) (o : Op) → o.epoch ≡ Origin → IsInsertion o.body → IsSpelled n o → IsOp o
 spelled_op n o e i s = record {
-    author = s.author;
-    seq = s.seq;
-    context = small_counts None o.context s.context.1;
-    epoch = subst IsName (sym e) tt;
-    body = fit_body o.body i s.body;
-  }
+  author = s.author;
+  seq = s.seq;
+  context = small_counts None o.context s.context.1;
+  epoch = subst IsName (sym e) tt;
+  body = fit_body o.body i s.body;
+}
 
 -- ---- a history
 
@@ -86,5 +86,5 @@ read_legal bytes H b e =
     let f = read_file bytes H b e in
     let s = f.0 in
     readable_legal H (read_plain bytes H e)
-      (s.head.group_fits, s.head.me_fits, le_is (members_of H) 64 (and_right (nat_lt 0 (members_of H)) (nat_le (members_of H) 64) s.head.members_fit))
-      s.entries
+    (s.head.group_fits, s.head.me_fits, le_is (members_of H) 64 (and_right (nat_lt 0 (members_of H)) (nat_le (members_of H) 64) s.head.members_fit))
+    s.entries

@@ -92,9 +92,10 @@ unfolding how_many
 far_rises [] f n = tt
 far_rises (x ∷ xs) f n =
     let m : mark x.0 x ≡ 1 = ap (λ b. one_if b) (same_eq x.0 x.0 refl) in
-    let one = n x.0 in
-    (above_far x xs (λ j d l. f 0 (suc j) d (omega arith) (omega (arith, l))) (omega (arith, m, one)),
-      far_rises xs (λ i j d a l. f (suc i) (suc j) d (omega (arith, a)) (omega (arith, l))) (λ y. let k = n y in omega (arith, k)))
+    let one = n x.0 in (
+      above_far x xs (λ j d l. f 0 (suc j) d (omega arith) (omega (arith, l))) (omega (arith, m, one)),
+      far_rises xs (λ i j d a l. f (suc i) (suc j) d (omega (arith, a)) (omega (arith, l))) (λ y. let k = n y in omega (arith, k)),
+    )
 
 -- ---- elements
 
@@ -121,11 +122,11 @@ pub sorted_is : (es xs : List Entry) → IsPermutation es xs → IsSortedBy (λ 
 sorted_is es xs p s r =
     let far : Far xs = sorted_far (λ x y. ident_lt x.0 y.0) (ranks_by ident_total (λ (e : Entry). e.0)) xs s in
     let few : (x : List Tuple) → how_many x xs ≤ 1 = λ x.
-        let a = few_rising x (put_all es []) r in
-        let b = put_all_count x es [] in
-        let c : how_many x xs ≡ how_many x es = sym (how_many_sum x xs) ∙ sum_by-IsPermutation (mark x) es xs p ∙ how_many_sum x es in
-        let z : how_many x [] ≡ 0 = none x in
-        omega (arith, a, b, c, z) in
+    let a = few_rising x (put_all es []) r in
+    let b = put_all_count x es [] in
+    let c : how_many x xs ≡ how_many x es = sym (how_many_sum x xs) ∙ sum_by-IsPermutation (mark x) es xs p ∙ how_many_sum x es in
+    let z : how_many x [] ≡ 0 = none x in
+    omega (arith, a, b, c, z) in
     same_rising xs (put_all es []) (far_rises xs far few) r
-      (λ z q. put_all_in z es [] (inl (moved_in es xs p z q)))
-      (λ z q. ⊎_elim (λ k. moved_in xs es (IsPermutation-sym es xs p) z k) (λ k. absurd k) (in_put_all z es [] q))
+    (λ z q. put_all_in z es [] (inl (moved_in es xs p z q)))
+    (λ z q. ⊎_elim (λ k. moved_in xs es (IsPermutation-sym es xs p) z k) (λ k. absurd k) (in_put_all z es [] q))

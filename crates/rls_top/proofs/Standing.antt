@@ -220,7 +220,7 @@ pub over_accepted : (H : History) (a q : ℕ) (v : List ℕ) (x : List Tuple) (c
 over_accepted H a q v x cs =
     let o = insertion a q v x cs in
     ap (λ (es : List Entry). record { group = group_of H; me = me_of H; counts = raise (count H) a; stems = stems_after_insert (stems H) a q (last_of x) (length cs); born = es })
-      (born_then H o ∙ ap (λ es. map born (chars H) ++ es) (born_entries o 0 x cs))
+    (born_then H o ∙ ap (λ es. map born (chars H) ++ es) (born_entries o 0 x cs))
 
 pub over_fresh : (h : Head) → over (fresh h) ≡ unborn h
 unfolding chars

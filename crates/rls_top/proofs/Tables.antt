@@ -30,7 +30,7 @@ order : (m n : ℕ) → Order m n
 order m n =
     ⊎_elim (λ e. Same e (grind (arith, nat_tests)) (grind (arith, nat_tests)) (grind (arith, nat_tests)) (grind (arith, nat_tests)))
     (λ h. ⊎_elim (λ l. Below (grind (arith, nat_tests)) (grind (arith, nat_tests)) (grind (arith, nat_tests)) (grind (arith, nat_tests)))
-      (λ l. Above (grind (arith, nat_tests)) (grind (arith, nat_tests)) (grind (arith, nat_tests)) (grind (arith, nat_tests))) h)
+    (λ l. Above (grind (arith, nat_tests)) (grind (arith, nat_tests)) (grind (arith, nat_tests)) (grind (arith, nat_tests))) h)
     (cases_order m n)
 
 -- the test of a stem's key, and what a key's order chooses

@@ -69,7 +69,12 @@ impl Model for Journal {
 
 impl Journal {
     /// Nothing has happened.
-    pub(crate) fn unborn(alloc: Global, group: u64, me: u32, members: u32) -> Result<Journal, AllocError>
+    pub(crate) fn unborn(
+        alloc: Global,
+        group: u64,
+        me: u32,
+        members: u32,
+    ) -> Result<Journal, AllocError>
         ensures unborn { IfOk result (λ found. found ≡ unborn (record { group = group; me = me; members = members })) }
     {
         Ok(Journal {
@@ -123,7 +128,8 @@ impl Journal {
             ..
         } = insertion;
         put_entries(&mut self.born, &first, &text)?;
-        self.stems.grow(author, seq, first.last(), text.len() as u32)?;
+        self.stems
+            .grow(author, seq, first.last(), text.len() as u32)?;
         self.counts.raise(author);
         Ok(())
     }

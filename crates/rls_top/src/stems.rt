@@ -58,7 +58,13 @@ impl StemTable {
     }
 
     /// The stems after such an insertion.
-    pub(crate) fn grow(&mut self, author: u32, seq: u32, last: Spot, len: u32) -> Result<(), AllocError>
+    pub(crate) fn grow(
+        &mut self,
+        author: u32,
+        seq: u32,
+        last: Spot,
+        len: u32,
+    ) -> Result<(), AllocError>
         requires end { (last.offset +ℤ pos len) ≤ℤ pos 1073741824 }
         ensures ok { OnOk result (self.new ≡ stems_after_insert self.old author seq (at_spot last) len) }
     {

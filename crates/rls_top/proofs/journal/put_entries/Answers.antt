@@ -8,4 +8,4 @@ loop-i-init c = ap (λ es. c.args.born.now.items ++ es) (entries_all c.args.firs
 pub loop-i-preserved : goal.loop-i-preserved
 loop-i-preserved c =
     rw c.in_ok-push.ensures.items
-      (entries_step c.loop-i.born.items _ c.args.first.now c.in_ok-ident.ident c.args.text.now c.loop-i.i c.get-char.result c.in_ok-ident.ensures.shifted (rw c.len-i-end.ensures.len at c.loop-i-test.true) c.get-char.ensures.char c.loop-i.invariant)
+    (entries_step c.loop-i.born.items _ c.args.first.now c.in_ok-ident.ident c.args.text.now c.loop-i.i c.get-char.result c.in_ok-ident.ensures.shifted (rw c.len-i-end.ensures.len at c.loop-i-test.true) c.get-char.ensures.char c.loop-i.invariant)
