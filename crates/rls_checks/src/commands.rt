@@ -7,6 +7,7 @@ use std::alloc::Global;
 use std::test::Fail;
 
 /// A command, and what has to come of it.
+#[derive(Clone, Copy)]
 struct Case<'a> {
     word: &'a str,
     file: Option<&'a [u8]>,
@@ -32,9 +33,8 @@ impl<'a> Case<'a> {
     }
 }
 
-/// Runs the command and compares. The file has to stay as it is.
-fn check(rt: &HostRuntime, case: &Case<'_>) -> Result<(), Fail> {
-    let alloc: Global = rt.alloc();
+/// Runs the command, and tells what is other than it has to be. The file has to stay as it is.
+fn difference(alloc: Global, case: &Case<'_>) -> Result<Option<&'static str>, Fail> {
     let mut words = Vec::new(alloc);
     words.push(String::from_str(alloc, case.word)?)?;
     let mut keeper = MemoryKeeper::new(alloc, case.file, case.failing_loads)?;
@@ -49,11 +49,19 @@ fn check(rt: &HostRuntime, case: &Case<'_>) -> Result<(), Fail> {
         &mut output,
         &mut errors,
     );
-    assert_eq!(rt; status, case.status);
-    assert_eq!(rt; output.written(), case.output);
-    assert_eq!(rt; errors.written(), case.errors);
-    assert_eq!(rt; keeper.file(), case.file);
-    Ok(())
+    if status != case.status {
+        return Ok(Some("status"));
+    }
+    if output.written() != case.output {
+        return Ok(Some("output"));
+    }
+    if errors.written() != case.errors {
+        return Ok(Some("errors"));
+    }
+    if keeper.file() != case.file {
+        return Ok(Some("file"));
+    }
+    Ok(None)
 }
 
 #[test]
@@ -65,14 +73,24 @@ fn texts_of_journals(rt: HostRuntime) -> Result<(), Fail> {
     assert_eq!(rt; marked.len(), 115);
     let used = journal(alloc, 2, &[HELLO, USED_MARK])?;
     assert_eq!(rt; FRESH_IN_FORM_2.len(), 62);
-    check(&rt, &Case::text(None, 2, b"", b"no replica\n"))?;
-    check(&rt, &Case::text(Some(&hello), 0, b"hello", b""))?;
-    check(&rt, &Case::text(Some(&marked), 0, b"hello!", b""))?;
-    check(&rt, &Case::text(Some(&used), 3, b"", b"damaged at 0\n"))?;
-    check(
-        &rt,
-        &Case::text(Some(FRESH_IN_FORM_2), 12, b"", b"not built\n"),
-    )?;
+    assert_eq!(rt;
+        difference(alloc, &Case::text(None, 2, b"", b"no replica\n"))?,
+        None
+    );
+    assert_eq!(rt;
+        difference(alloc, &Case::text(Some(&hello), 0, b"hello", b""))?,
+        None
+    );
+    assert_eq!(rt;
+        difference(alloc, &Case::text(Some(&marked), 0, b"hello!", b""))?,
+        None
+    );
+    assert_eq!(rt;
+        difference(alloc, &Case::text(Some(&used), 3, b"", b"damaged at 0\n"))?,
+        None
+    );
+    let fresh = Case::text(Some(FRESH_IN_FORM_2), 12, b"", b"not built\n");
+    assert_eq!(rt; difference(alloc, &fresh)?, None);
     Ok(())
 }
 
@@ -84,12 +102,12 @@ fn faults_and_words(rt: HostRuntime) -> Result<(), Fail> {
         failing_loads: &[0],
         ..Case::text(Some(&hello), 7, b"", b"keeper fault\n")
     };
-    check(&rt, &no_load)?;
+    assert_eq!(rt; difference(alloc, &no_load)?, None);
     let no_write = Case {
         failing_writes: &[0],
         ..Case::text(Some(&hello), 9, b"", b"sink fault\n")
     };
-    check(&rt, &no_write)?;
+    assert_eq!(rt; difference(alloc, &no_write)?, None);
     let no_command = Case {
         word: "txt",
         ..Case::text(
@@ -99,6 +117,6 @@ fn faults_and_words(rt: HostRuntime) -> Result<(), Fail> {
             b"usage: new GROUP ME MEMBERS | edit | text | ids | stat | send TO | take | leave | trial SEED STEPS\n",
         )
     };
-    check(&rt, &no_command)?;
+    assert_eq!(rt; difference(alloc, &no_command)?, None);
     Ok(())
 }

@@ -1,19 +1,17 @@
 -- Reading insertions gives what reading of all files gives.
-use Rattle.std.proofs.Common.{◌≡◌, ℕ, zero, suc, Bool, true, false, cond, List, [], ◌∷◌, ◌++◌, length, Result, Ok, Err, refl, sym, ap, ◌∙◌, subst}
+use Rattle.std.proofs.Common.{◌≡◌, ℕ, zero, suc, Bool, true, false, cond, List, [], length, Result, Ok, Err, refl, sym, ap, ◌∙◌}
 use Rattle.std.specs.Prelude.{Option, None, nat_lt, nat_le, ◌==◌, ◌+◌, if◌then◌else◌, codes}
 use Rattle.std.specs.Int.{w32, w64}
-use Rattle.rls_ident.specs.declared.epoch_name.EpochName.TheVariants.{Origin, Of}
+use Rattle.rls_ident.specs.declared.epoch_name.EpochName.TheVariants.{Origin}
 use Rattle.rls_ops.specs.declared.op.Op.{Op}
-use Rattle.rls_ops.specs.declared.op.Body.{Body}
-use Rattle.rls_ops.specs.declared.op.Body.TheVariants.{Insert, Delete, Rename, Leave}
+use Rattle.rls_ops.specs.declared.op.Body.TheVariants.{Insert}
 use Rattle.rls_codec.specs.Reading.{Read, chain_at, with_rule, byte_at, number_at, vector_at, ident_at, text_at, name_at, name_of_kind, body_at, body_of_kind, op_fields_at, op_at, op_limit, magic_at, is_member_count}
 use Rattle.rls_model.specs.History.{History, Fresh, Then, Accepted, members_of}
-use Rattle.rls_file.specs.ReadingFiles.{is_file_form, may_be_next, is_new, entry_of_kind, any_entry_at, entry_at, steps_at, content_at, file_at, may_wait}
+use Rattle.rls_file.specs.ReadingFiles.{is_file_form, may_be_next, entry_of_kind, any_entry_at, entry_at, steps_at, content_at, file_at}
 use Rattle.rls_file.specs.ReadingFiles.{journal_at as read_journal_at}
 use Rattle.rls_file.specs.Files.{Journal}
 use Rattle.rls_model.specs.Receiving.{State}
-use Rattle.rls_top.specs.Journal.{Fault, Broken, NotBuilt, Reads, ◌>>=◌, part, only, insertion, insertion_at, event_at, step_at, events_at, Head, head_at, journal_at, whole, accepted, fresh, history_of}
-use Rattle.rls_top.specs.Insertions.{AreInsertions}
+use Rattle.rls_top.specs.Journal.{Broken, NotBuilt, part, only, insertion, insertion_at, event_at, step_at, events_at, Head, head_at, journal_at, accepted, fresh}
 use Rattle.rls_top.proofs.Binds.{after}
 use Rattle.rls_top.proofs.Simulated.{bind_ok, ok_is, kept_true, kept_false}
 use Rattle.rls_ident.proofs.Members.{eq_is}

@@ -1,15 +1,13 @@
 -- What `text` answers where the file is the journal of a legal history of insertions.
-use Rattle.std.proofs.Common.{◌≡◌, ℕ, ◌≤◌, ◌<◌, Bool, true, false, List, [], ◌∷◌, length, Option, Some, None, Result, Ok, Err, refl, sym, ap, ◌∙◌, subst, arith, inl, inr, ◌⊎◌, ⊎_elim}
+use Rattle.std.proofs.Common.{◌≡◌, ℕ, ◌≤◌, Bool, true, false, List, [], ◌∷◌, length, Option, Some, None, Ok, refl, sym, ap, ◌∙◌, subst, arith, inl, inr, ◌⊎◌}
 use Rattle.std.specs.Prelude.{codes, IfSome, nat_lt, if◌then◌else◌}
-use Rattle.rls_ident.proofs.Members.{lt_is, not_lt_is}
-use Rattle.rls_report.specs.declared.failures.Failure.TheVariants.{Usage, NoReplica, Damaged, KeeperFault, SinkFault, OutOfMemory, TooLarge}
-use Rattle.rls_codec.specs.Spelled.{Chained}
+use Rattle.rls_ident.proofs.Members.{lt_is}
+use Rattle.rls_report.specs.declared.failures.Failure.TheVariants.{Usage, NoReplica, Damaged, TooLarge}
 use Rattle.rls_model.specs.History.{History, members_of, me_of}
 use Rattle.rls_model.specs.History.{count as count_in}
 use Rattle.rls_file.specs.SpelledFiles.{FitWaiting}
 use Rattle.rls_file.proofs.LegalJournals.{journals_are_read}
 use Rattle.rls_io.specs.Device.{Appends}
-use Rattle.rls_top.specs.declared.words.Command.{Command}
 use Rattle.rls_top.specs.declared.words.Command.TheVariants.{Text}
 use Rattle.rls_top.specs.declared.stop.Stop.{Stop}
 use Rattle.rls_top.specs.declared.stop.Stop.TheVariants.{Failed, NotBuilt}

@@ -1,12 +1,12 @@
 -- A history that is read is legal.
-use Rattle.std.proofs.Common.{◌≡◌, ℕ, ◌<◌, ◌≤◌, true, List, [], ◌∷◌, length, Option, Some, None, Ok, refl, sym, ap, ◌∙◌, subst, arith, inl, inr, get_or}
-use Rattle.std.specs.Prelude.{All, IsTrue, nat_lt, nat_le}
+use Rattle.std.proofs.Common.{◌≡◌, ℕ, ◌<◌, true, List, [], ◌∷◌, length, Option, Some, None, Ok, refl, sym, ap, subst, arith, inl, inr}
+use Rattle.std.specs.Prelude.{All, nat_lt, nat_le}
 use Rattle.std.proofs.lemmas.Bool.{cases_lt}
 use Rattle.std.proofs.lemmas.List.{get_or_past}
 use Rattle.std.proofs.lemmas.List.Elements.{All-cons, All-nil}
 use Rattle.rls_ident.specs.declared.tuple.Tuple.{Tuple}
 use Rattle.rls_ident.specs.declared.tuple.Tuple.TheVariants.{Low, At, High}
-use Rattle.rls_ident.specs.Identifiers.{is_ident, least_offset}
+use Rattle.rls_ident.specs.Identifiers.{is_ident}
 use Rattle.rls_ident.specs.declared.epoch_name.EpochName.TheVariants.{Origin}
 use Rattle.rls_ident.proofs.Members.{and_right, le_is}
 use Rattle.rls_runs.proofs.Texts.{all_of_scalars}
@@ -15,17 +15,17 @@ use Rattle.rls_ops.specs.declared.op.Body.{Body}
 use Rattle.rls_ops.specs.declared.op.Body.TheVariants.{Insert, Delete, Rename, Leave}
 use Rattle.rls_codec.specs.CodecLaws.{IsBytes}
 use Rattle.rls_codec.specs.Reading.{whole, ◌>>=◌}
-use Rattle.rls_codec.specs.Spelled.{Chained, FitsAt, FitTuples, FitsBody, IsSpelled}
+use Rattle.rls_codec.specs.Spelled.{Chained, FitTuples, FitsBody, IsSpelled}
 use Rattle.rls_ops.specs.WellFormed.{IsSmall, IsName, IsBody, IsOp}
 use Rattle.rls_model.specs.History.{History, Fresh, Then, Accepted, Acknowledged, group_of, me_of, members_of}
 use Rattle.rls_model.specs.Legal.{AreNumbers, IsLegal}
 use Rattle.rls_model.specs.Receiving.{State}
-use Rattle.rls_file.specs.Files.{Content, Journal, journal_bytes}
+use Rattle.rls_file.specs.Files.{Journal}
 use Rattle.rls_file.specs.ReadingFiles.{may_be_next, tested, file_of}
-use Rattle.rls_file.specs.SpelledFiles.{IsHead, IsReadable}
+use Rattle.rls_file.specs.SpelledFiles.{IsReadable}
 use Rattle.rls_file.specs.FileLaws.{IsFile}
 use Rattle.rls_file.proofs.FileFormats.{file_takes}
-use Rattle.rls_top.specs.Journal.{Reads, journal_at, accepted, fresh, history_of}
+use Rattle.rls_top.specs.Journal.{journal_at, accepted, fresh, history_of}
 use Rattle.rls_top.specs.Insertions.{IsInsertion, AreInsertions}
 use Rattle.rls_top.proofs.Simulated.{whole_ok, read_plain}
 use Rattle.rls_top.proofs.Standing.{may_accept}

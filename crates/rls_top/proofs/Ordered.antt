@@ -1,21 +1,20 @@
 -- Sorted entries are the entries put one after another, where no two have one identifier.
-use Rattle.std.proofs.Common.{◌≡◌, ℕ, suc, ◌+◌, ◌≤◌, ◌<◌, Bool, true, false, cond, List, [], ◌∷◌, map, length, get_or, refl, sym, ap, ◌∙◌, subst, arith, inl, inr, ⊎_elim}
+use Rattle.std.proofs.Common.{◌≡◌, ℕ, suc, ◌+◌, ◌≤◌, ◌<◌, Bool, true, false, List, [], ◌∷◌, length, get_or, refl, sym, ap, ◌∙◌, subst, arith, inl, inr, ⊎_elim}
 use Rattle.std.specs.Prelude.{sum_by, if◌then◌else◌}
 use Rattle.std.specs.List.{All}
 use Rattle.std.proofs.lemmas.List.Sums.{sum_by-cons}
 use Rattle.std.specs.List.Sorted.{IsPermutation, IsSortedBy}
 use Rattle.std.proofs.lemmas.List.Sorted.{sum_by-IsPermutation, All-permutation, IsPermutation-sym, sorted_far, ranks_by}
 use Rattle.std.proofs.lemmas.List.Elements.{All-cons, All-nil, All-head, All-tail}
-use Rattle.std.proofs.lemmas.Bool.Decides.{nat_tests}
 use Rattle.rls_ident.specs.declared.tuple.Tuple.{Tuple}
 use Rattle.rls_ident.specs.Lists.{IsIn}
-use Rattle.rls_ident.specs.Identifiers.{ident_lt, ident_eq, ident_cmp}
-use Rattle.rls_ident.proofs.Lists.{Lt, lt_irrefl, lt_trans, tri}
+use Rattle.rls_ident.specs.Identifiers.{ident_lt, ident_eq}
+use Rattle.rls_ident.proofs.Lists.{Lt, lt_irrefl, tri}
 use Rattle.rls_ident.proofs.Tuples.{tuples, ident_total}
 use Rattle.rls_ident.proofs.Ends.{eq_same, same_eq}
 use Rattle.std.specs.Ordering.{is_lt}
 use Rattle.rls_model.specs.Document.{put, put_all}
-use Rattle.rls_model.proofs.Sorted.{Entry, IsBelow, AreAbove, Rises, in_put_all, put_all_in, same_rising}
+use Rattle.rls_model.proofs.Sorted.{Entry, AreAbove, Rises, in_put_all, put_all_in, same_rising}
 
 -- ---- how many entries have an identifier
 

@@ -1,13 +1,13 @@
 -- Reading over plain data and reading over a history of insertions give the same.
-use Rattle.std.proofs.Common.{◌≡◌, ℕ, zero, suc, Bool, true, false, cond, List, [], ◌∷◌, ◌++◌, length, Result, Ok, Err, refl, sym, ap, ◌∙◌, subst}
-use Rattle.std.specs.Prelude.{nat_lt, nat_le, ◌==◌, ◌+◌, if◌then◌else◌}
+use Rattle.std.proofs.Common.{◌≡◌, ℕ, zero, suc, Bool, true, false, cond, List, [], ◌∷◌, length, Result, Ok, Err, refl, sym, ap, ◌∙◌, subst}
+use Rattle.std.specs.Prelude.{nat_lt, nat_le, ◌+◌, if◌then◌else◌}
 use Rattle.std.specs.Int.{w32}
 use Rattle.rls_ident.specs.declared.tuple.Tuple.{Tuple}
 use Rattle.rls_ops.specs.declared.op.Op.{Op}
-use Rattle.rls_codec.specs.Reading.{Read, with_rule, byte_at, number_at, vector_at, ident_at, text_at, op_limit}
-use Rattle.rls_model.specs.History.{History, members_of}
+use Rattle.rls_codec.specs.Reading.{with_rule, byte_at, number_at, vector_at, ident_at, text_at, op_limit}
+use Rattle.rls_model.specs.History.{History}
 use Rattle.rls_file.specs.ReadingFiles.{may_be_next}
-use Rattle.rls_top.specs.Journal.{Fault, Broken, NotBuilt, Reads, ◌>>=◌, part, only, insertion, insertion_at, event_at, step_at, events_at, Head, head_at, journal_at, whole, accepted, fresh, history_of}
+use Rattle.rls_top.specs.Journal.{Fault, Broken, Reads, ◌>>=◌, part, only, insertion, insertion_at, event_at, step_at, events_at, Head, head_at, journal_at, whole, accepted, fresh, history_of}
 use Rattle.rls_top.specs.Insertions.{AreInsertions}
 use Rattle.rls_top.specs.Over.{Seen, fits_over, accepted_over, unborn, seen_of}
 use Rattle.rls_top.proofs.Standing.{over, fits_same, over_accepted, over_fresh}

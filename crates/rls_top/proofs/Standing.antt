@@ -1,31 +1,27 @@
 -- Which plain data stand for a history of insertions, what they answer, and what an insertion makes of both.
-use Rattle.std.proofs.Common.{◌≡◌, ℕ, suc, ◌+◌, ◌-◌, ◌<◌, ◌≤◌, Bool, true, false, List, [], ◌∷◌, ◌++◌, map, length, refl, sym, ap, ◌∙◌, subst, arith}
-use Rattle.std.specs.Prelude.{not, ◌||◌, ◌&&◌, ◌==◌, if◌then◌else◌, nat_lt, nat_le, replicate, slice_index, Option, Some, None, ℤ, pos, ◌+ℤ◌}
+use Rattle.std.proofs.Common.{◌≡◌, ℕ, suc, ◌-◌, Bool, true, false, List, [], ◌∷◌, ◌++◌, map, length, refl, sym, ap, ◌∙◌, arith}
+use Rattle.std.specs.Prelude.{not, ◌&&◌, ◌==◌, if◌then◌else◌, nat_lt, nat_le, replicate, slice_index, Option, Some, None, ℤ, pos, ◌+ℤ◌}
 use Rattle.std.specs.Int.RustNames.{int_lt, int_le}
 use Rattle.std.proofs.lemmas.Bool.Decides.{nat_tests}
 use Rattle.std.proofs.lemmas.Int.{ints}
 use Rattle.rls_ident.specs.declared.tuple.Tuple.{Tuple}
-use Rattle.rls_ident.specs.declared.epoch_name.EpochName.{EpochName}
-use Rattle.rls_ident.specs.declared.epoch_name.EpochName.TheVariants.{Origin}
-use Rattle.rls_ident.specs.EpochNames.{name_eq}
 use Rattle.rls_ident.specs.Tuples.{offset_of}
 use Rattle.rls_ident.specs.Identifiers.{last_of, shifted, greatest_offset}
 use Rattle.rls_ident.specs.Vectors.{at_most, raise}
-use Rattle.rls_ident.proofs.Members.{same_bool, and_left, and_right, and_true, eq_is, eq_test, le_is, le_test, lt_is, lt_test, not_lt_is, not_le_is, not_le_test}
+use Rattle.rls_ident.proofs.Members.{same_bool, and_left, and_right, eq_is, eq_test, lt_test, not_le_is}
 use Rattle.rls_ops.specs.declared.op.Op.{Op}
 use Rattle.rls_ops.specs.declared.op.Shape.{Shape}
-use Rattle.rls_ops.specs.Shapes.{shape_fault, is_next_of, is_empty, body_limit, body_len, passes_end}
-use Rattle.rls_model.specs.Answers.{Reason, Answer, Applies, Repeats, Waits, Refuses}
-use Rattle.rls_model.specs.History.{History, Fresh, Then, Accepted, count, count_of, group_of, me_of, members_of, row, has_left}
+use Rattle.rls_ops.specs.Shapes.{shape_fault}
+use Rattle.rls_model.specs.Answers.{Reason, Repeats, Waits}
+use Rattle.rls_model.specs.History.{History, count, count_of, group_of, me_of, members_of, row}
 use Rattle.rls_model.specs.Stems.{stems, may_use, stems_after_insert}
-use Rattle.rls_model.specs.Epochs.{greatest_within}
-use Rattle.rls_model.specs.Fitting.{refusal, body_refusal}
+use Rattle.rls_model.specs.Fitting.{refusal}
 use Rattle.rls_model.specs.Legal.{MayAccept}
 use Rattle.rls_model.specs.Receiving.{answer, answer_after_shape, answer_beside, verdict_of}
 use Rattle.rls_model.specs.Document.{chars, chars_from}
 use Rattle.rls_model.proofs.Stable.{length-count}
 use Rattle.rls_model.proofs.WorldsLists.{zeros_below}
-use Rattle.rls_seen.proofs.Receiving.{IsShaped, shaped, next_of}
+use Rattle.rls_seen.proofs.Receiving.{shaped, next_of}
 use Rattle.rls_file.specs.ReadingFiles.{applies, may_be_next}
 use Rattle.rls_top.specs.Journal.{insertion, Head, fresh, accepted}
 use Rattle.rls_top.specs.Insertions.{AreInsertions}

@@ -1,5 +1,5 @@
 -- What a command calls for, by its words and the kept file.
-use Rattle.std.specs.Prelude.{◌≡◌, ◌<◌, ◌≤◌, ◌⊎◌, ℕ, List, [], ◌∷◌, length, take, codes, encode_utf8_all, Option, Some, None, Result, Ok, Err, nat_lt, if◌then◌else◌}
+use Rattle.std.specs.Prelude.{◌≡◌, ◌≤◌, ℕ, List, length, take, encode_utf8_all, Option, Some, None, Result, Ok, Err, nat_lt, if◌then◌else◌}
 use Rattle.rls_io.specs.Device.{Appends}
 use Rattle.rls_model.specs.History.{History}
 use Rattle.rls_model.specs.Document as document

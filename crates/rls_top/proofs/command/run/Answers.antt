@@ -1,6 +1,6 @@
 use Rattle.std.proofs.Common.{Err, refl, ap, inl}
 use Rattle.rls_top.proofs.Statuses.{is_listed, keeper_of, output_of}
-use Rattle.rls_top.proofs.Headlines.{Causes, text_done, text_stops, text_complete}
+use Rattle.rls_top.proofs.Headlines.{text_done, text_stops, text_complete}
 use Rattle.rls_top.proofs.command.run.Goals as goal
 
 pub returns-in-Ok-clause-text : goal.returns-in-Ok-clause-text

@@ -1,4 +1,3 @@
-use Rattle.std.proofs.Common.{◌≡◌}
 use Rattle.rls_top.proofs.Tables.{kept}
 use Rattle.rls_top.proofs.stems.StemTable.put.Goals as goal
 
