@@ -1,0 +1,10 @@
+//! A balanced tree of blocks, each a run of identifiers with its characters.
+#![tactic(auto)]
+
+mod balance;
+mod block;
+mod node;
+mod tree;
+
+pub use node::Node;
+pub use tree::BlockTree;

@@ -1,0 +1,219 @@
+//! Nodes of the tree.
+
+ghost use Rattle.std.specs.Prelude.{◌≡◌, ℕ, ◌+◌, ◌^◌, ◌<◌, ◌≤◌, max, [], ◌∷◌, ◌++◌, length, slice_get, Some, None, IfSome, IfNone};
+ghost use Rattle.rls_tree.specs.Trees.{IsLow, IsPiece, ArePieces, Tree, piece_entries, entries_of, pieces, levels};
+
+use crate::block::Block;
+use rls_runs::{Run, Text};
+use std::marker::Model;
+use std::mem;
+
+/// A tree that may be empty.
+pub type Link = Option<Box<Node>>;
+
+/// A block between two trees, whose heights differ by at most one.
+#[derive(Drop)]
+pub struct Node {
+    block: Block,
+    left: Link,
+    right: Link,
+    chars: u64,
+    blocks: u64,
+    height: u32,
+}
+
+impl Model for Node {
+    ghost use Rattle.std.specs.Prelude.{◌++◌, ◌∷◌, length};
+    ghost use Rattle.rls_tree.specs.Trees.{Seen, IsSound, pieces, tree_of};
+
+    ghost Value = { Seen };
+
+    ghost view = { λ n. record { blocks = pieces n.left ++ n.block ∷ pieces n.right; height = n.height; left = tree_of n.left; block = n.block; right = tree_of n.right } };
+
+    ghost invariant = { λ n. IsSound n.left n.right n.block n.chars n.blocks n.height };
+
+    ghost size = { λ s. length s.blocks };
+
+    ghost use Rattle.std.proofs.Common.{arith, length-append};
+
+    ghost size_decreases = { λ a h. Prim.grind (arith, length-append) };
+}
+
+impl Node {
+    /// The block alone.
+    pub(crate) fn leaf(block: Block) -> Node
+        ensures blocks { result.blocks ≡ block ∷ [] }
+        ensures height { result.height ≡ 1 }
+    {
+        Node {
+            chars: block.len() as u64,
+            block,
+            left: None,
+            right: None,
+            blocks: 1,
+            height: 1,
+        }
+    }
+
+    /// How many levels it has.
+    pub fn height(&self) -> u32
+        ensures height { result ≡ self.now.height }
+        ensures low { IsLow self.now.height (length self.now.blocks) }
+        ensures small { result ≤ 128 }
+        ensures higher { self.now.height ≡ max self.now.left.height self.now.right.height + 1 }
+        ensures left_not_higher { self.now.left.height ≤ self.now.right.height + 1 }
+        ensures right_not_higher { self.now.right.height ≤ self.now.left.height + 1 }
+    {
+        let _chars = self.chars;
+        self.height
+    }
+
+    /// How many characters it has.
+    pub(crate) fn chars(&self) -> u64
+        ensures chars { result ≡ length (entries_of self.now.blocks) }
+        ensures most { length self.now.blocks ≤ result }
+        ensures pieces { ArePieces self.now.blocks }
+    {
+        self.chars
+    }
+
+    /// How many blocks it has.
+    pub(crate) fn blocks(&self) -> u64
+        ensures blocks { result ≡ length self.now.blocks }
+    {
+        self.blocks
+    }
+
+    /// The run of its block.
+    pub fn run(&self) -> &Run
+        ensures run { result.now ≡ self.now.block.0 }
+        ensures blocks { self.now.blocks ≡ self.now.left.blocks ++ self.now.block ∷ self.now.right.blocks }
+        ensures piece { IsPiece self.now.block.0 self.now.block.1 }
+    {
+        self.block.run()
+    }
+
+    /// The characters of its block, one for each identifier of the run.
+    pub fn text(&self) -> &Text
+        ensures text { result.now ≡ self.now.block.1 }
+        ensures blocks { self.now.blocks ≡ self.now.left.blocks ++ self.now.block ∷ self.now.right.blocks }
+        ensures piece { IsPiece self.now.block.0 self.now.block.1 }
+    {
+        self.block.text()
+    }
+
+    /// The tree in front of its block, if it isn't empty.
+    pub fn left(&self) -> Option<&Node>
+        ensures blocks { IfSome result (λ node. node.now.blocks ≡ self.now.left.blocks) }
+        ensures height { IfSome result (λ node. node.now.height ≡ self.now.left.height) }
+        ensures empty { IfNone result (self.now.left ≡ record { blocks = []; height = 0 }) }
+    {
+        match &self.left {
+            None => None,
+            Some(node) => Some(&**node),
+        }
+    }
+
+    /// The tree behind its block, if it isn't empty.
+    pub fn right(&self) -> Option<&Node>
+        ensures blocks { IfSome result (λ node. node.now.blocks ≡ self.now.right.blocks) }
+        ensures height { IfSome result (λ node. node.now.height ≡ self.now.right.height) }
+        ensures empty { IfNone result (self.now.right ≡ record { blocks = []; height = 0 }) }
+    {
+        match &self.right {
+            None => None,
+            Some(node) => Some(&**node),
+        }
+    }
+
+    // The block in which a place stands, and the place within the block. It costs a step for each level.
+    pub(crate) fn locate(&self, i: u64) -> (&Block, u32)
+        requires place { i < length (entries_of self.now.blocks) }
+        ensures within { result.1 < length result.0.now.1 }
+        ensures entry { slice_get (entries_of self.now.blocks) i ≡ slice_get (piece_entries result.0.now) result.1 }
+    {
+        let _chars = self.chars;
+        let front = chars_of(&self.left);
+        let end = front + self.block.len() as u64;
+        if i < front {
+            let Some(left) = &self.left else {
+                unreachable!()
+            };
+            return left.locate(i);
+        }
+        if i < end {
+            return (&self.block, (i - front) as u32);
+        }
+        let Some(right) = &self.right else {
+            unreachable!()
+        };
+        right.locate(i - end)
+    }
+
+    // Keeps the block alone, and answers both sides.
+    pub(crate) fn take_sides(&mut self) -> (Link, Link)
+        ensures blocks { self.old.blocks ≡ pieces result.0 ++ self.new.blocks ++ pieces result.1 }
+        ensures one { length self.new.blocks ≡ 1 }
+        ensures low { self.new.height ≡ 1 }
+        ensures height { self.old.height ≡ max (levels result.0) (levels result.1) + 1 }
+        ensures left_not_higher { levels result.0 ≤ levels result.1 + 1 }
+        ensures right_not_higher { levels result.1 ≤ levels result.0 + 1 }
+    {
+        let left = mem::replace(&mut self.left, None);
+        let right = mem::replace(&mut self.right, None);
+        self.chars = self.block.len() as u64;
+        self.blocks = 1;
+        self.height = 1;
+        (left, right)
+    }
+
+    // Puts trees on both sides of a block that stands alone.
+    pub(crate) fn put_sides(&mut self, left: Link, right: Link)
+        requires one { length self.old.blocks ≡ 1 }
+        requires chars_fit { length (entries_of (pieces left)) + length (entries_of self.old.blocks) + length (entries_of (pieces right)) < 2 ^ 64 }
+        requires left_not_higher { levels left ≤ levels right + 1 }
+        requires right_not_higher { levels right ≤ levels left + 1 }
+        ensures blocks { self.new.blocks ≡ pieces left ++ self.old.blocks ++ pieces right }
+        ensures height { self.new.height ≡ max (levels left) (levels right) + 1 }
+    {
+        self.chars = chars_of(&left) + self.block.len() as u64 + chars_of(&right);
+        self.blocks = blocks_of(&left) + blocks_of(&right) + 1;
+        self.height = height_of(&left).max(height_of(&right)) + 1;
+        self.left = left;
+        self.right = right;
+    }
+}
+
+/// How many levels a tree has.
+pub(crate) fn height_of(link: &Link) -> u32
+    ensures height { result ≡ levels link.now }
+    ensures low { IsLow (levels link.now) (length (pieces link.now)) }
+    ensures small { result ≤ 128 }
+{
+    match link {
+        None => 0,
+        Some(node) => node.height(),
+    }
+}
+
+/// How many characters a tree has.
+pub(crate) fn chars_of(link: &Link) -> u64
+    ensures chars { result ≡ length (entries_of (pieces link.now)) }
+    ensures most { length (pieces link.now) ≤ result }
+    ensures pieces { ArePieces (pieces link.now) }
+{
+    match link {
+        None => 0,
+        Some(node) => node.chars(),
+    }
+}
+
+/// How many blocks a tree has.
+pub(crate) fn blocks_of(link: &Link) -> u64
+    ensures blocks { result ≡ length (pieces link.now) }
+{
+    match link {
+        None => 0,
+        Some(node) => node.blocks(),
+    }
+}

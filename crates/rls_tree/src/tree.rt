@@ -1,0 +1,77 @@
+//! The block tree.
+
+ghost use Rattle.std.specs.Prelude.{◌≡◌, ◌+◌, ◌*◌, ◌^◌, ◌≤◌, [], length, IfSome, IfNone, IsTrue};
+ghost use Rattle.rls_runs.specs.Runs.{runs_of, is_increasing};
+ghost use Rattle.rls_runs.specs.Entries.{idents_in};
+ghost use Rattle.rls_tree.specs.Trees.{entries_of};
+
+use crate::node::{Link, Node, blocks_of, chars_of, height_of};
+use std::alloc::Global;
+use std::marker::Model;
+
+/// Characters with identifiers that strictly increase, kept as a balanced tree of blocks, each a
+/// maximal run with its characters.
+#[derive(Drop)]
+pub struct BlockTree {
+    root: Link,
+    alloc: Global,
+}
+
+impl Model for BlockTree {
+    ghost use Rattle.std.specs.Prelude.{None, IsTrue};
+    ghost use Rattle.rls_runs.specs.Runs.{are_apart};
+    ghost use Rattle.rls_tree.specs.Trees.{Tree, pieces, runs_in, tree_of};
+
+    ghost Value = { Tree };
+
+    ghost view = { λ t. tree_of t.root };
+
+    ghost invariant = { λ t. IsTrue (are_apart None (runs_in (pieces t.root))) };
+}
+
+impl BlockTree {
+    /// The empty tree. It takes no memory.
+    pub fn new(alloc: Global) -> BlockTree
+        ensures empty { result ≡ record { blocks = []; height = 0 } }
+    {
+        BlockTree { root: None, alloc }
+    }
+
+    /// The tree's topmost node, if it isn't empty.
+    pub fn root(&self) -> Option<&Node>
+        ensures blocks { IfSome result (λ node. node.now.blocks ≡ self.now.blocks) }
+        ensures height { IfSome result (λ node. node.now.height ≡ self.now.height) }
+        ensures empty { IfNone result (self.now ≡ record { blocks = []; height = 0 }) }
+    {
+        match &self.root {
+            None => None,
+            Some(node) => Some(&**node),
+        }
+    }
+
+    /// How many levels the tree has. It takes no memory.
+    pub fn height(&self) -> u32
+        ensures height { result ≡ self.now.height }
+        ensures low { 2 ^ result ≤ (length (runs_of (idents_in (entries_of self.now.blocks))) + 1) * (length (runs_of (idents_in (entries_of self.now.blocks))) + 1) }
+    {
+        let _count = self.blocks();
+        height_of(&self.root)
+    }
+
+    // How many characters it has.
+    fn chars(&self) -> u64
+        ensures chars { result ≡ length (entries_of self.now.blocks) }
+    {
+        chars_of(&self.root)
+    }
+
+    // How many maximal runs it has.
+    fn blocks(&self) -> u64
+        ensures blocks { result ≡ length self.now.blocks }
+        ensures runs { length self.now.blocks ≡ length (runs_of (idents_in (entries_of self.now.blocks))) }
+        ensures rises { IsTrue (is_increasing (idents_in (entries_of self.now.blocks))) }
+    {
+        let _chars = chars_of(&self.root);
+        blocks_of(&self.root)
+    }
+}
