@@ -1,9 +1,13 @@
 //! Nodes of the tree.
 
 ghost use Rattle.std.specs.Prelude.{◌≡◌, ℕ, ◌+◌, ◌^◌, ◌<◌, ◌≤◌, max, [], ◌∷◌, ◌++◌, length, slice_get, Some, None, IfSome, IfNone};
-ghost use Rattle.rls_tree.specs.Trees.{IsLow, IsPiece, ArePieces, Tree, piece_entries, entries_of, pieces, levels};
+ghost use Rattle.rls_runs.specs.Runs.{idents_of};
+ghost use Rattle.rls_runs.specs.Places.{find_ident};
+ghost use Rattle.rls_runs.proofs.RunOrder.{Rising};
+ghost use Rattle.rls_tree.specs.Trees.{runs_in, IsLow, IsPiece, ArePieces, Tree, piece_entries, entries_of, pieces, levels};
 
 use crate::block::Block;
+use rls_ident::Ident;
 use rls_runs::{Run, Text};
 use std::marker::Model;
 use std::mem;
@@ -148,6 +152,37 @@ impl Node {
             unreachable!()
         };
         right.locate(i - end)
+    }
+
+    // The place of an identifier, or where it isn't there the number of identifiers less than it. It
+    // costs a comparison of identifiers for each level.
+    pub(crate) fn find(&self, id: &Ident) -> Result<u64, u64>
+        requires rises { Rising (idents_of (runs_in self.now.blocks)) }
+        ensures find { result ≡ find_ident (idents_of (runs_in self.now.blocks)) id.now }
+    {
+        let _chars = self.chars;
+        let front = chars_of(&self.left);
+        let end = front + self.block.len() as u64;
+        let below = match self.block.run().find(id) {
+            Ok(place) => return Ok(front + place as u64),
+            Err(below) => below,
+        };
+        if below == 0 {
+            let Some(left) = &self.left else {
+                return Err(0);
+            };
+            return left.find(id);
+        }
+        if below < self.block.len() {
+            return Err(front + below as u64);
+        }
+        let Some(right) = &self.right else {
+            return Err(end);
+        };
+        match right.find(id) {
+            Ok(place) => Ok(end + place),
+            Err(below) => Err(end + below),
+        }
     }
 
     // Keeps the block alone, and answers both sides.
