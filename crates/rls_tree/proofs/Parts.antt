@@ -1,13 +1,24 @@
 -- The identifiers of a node: those of its left side, of its block and of its right side.
-use Rattle.std.proofs.Common.{◌≡◌, List, ◌∷◌, ◌++◌, length, sym, ap, ◌∙◌}
+use Rattle.std.proofs.Common.{None, true, ◌≡◌, List, ◌∷◌, ◌++◌, length, sym, ap, ◌∙◌}
 use Rattle.std.proofs.lemmas.List.{map-append, length-map}
-use Rattle.rls_runs.specs.Runs.{run_idents, idents_of}
-use Rattle.rls_runs.proofs.RunOrder.{idents_append}
+use Rattle.rls_ident.specs.declared.tuple.Tuple.{Tuple}
+use Rattle.rls_runs.specs.Runs.{run_idents, idents_of, are_apart, place_of}
+use Rattle.rls_runs.proofs.RunOrder.{Rising, idents_append, idents_rise}
+use Rattle.rls_runs.proofs.RunPlaces.{found_is}
+use Rattle.rls_runs.specs.Entries.{idents_in}
+use Rattle.rls_runs.specs.Places.{find_ident}
 use Rattle.rls_tree.specs.Trees.{Piece, ArePieces, entries_of, runs_in}
-use Rattle.rls_tree.proofs.Pieces.{idents_of_pieces}
+use Rattle.rls_tree.proofs.Pieces.{idents_of_pieces, runs_sound}
 
 pub node_idents : (l r : List Piece) (b : Piece) (bs : List Piece) → l ++ b ∷ r ≡ bs → idents_of (runs_in bs) ≡ idents_of (runs_in l) ++ (run_idents b.0.0 b.0.1 ++ idents_of (runs_in r))
 node_idents l r b bs e = ap (λ cs. idents_of (runs_in cs)) (sym e) ∙ ap idents_of (map-append (λ c. c.0) l (b ∷ r)) ∙ idents_append (runs_in l) (runs_in (b ∷ r))
 
 pub as_many_idents : (l : List Piece) → ArePieces l → length (entries_of l) ≡ length (idents_of (runs_in l))
 as_many_idents l h = sym (length-map (entries_of l) (λ e. e.0)) ∙ ap length (idents_of_pieces l h)
+
+pub pieces_rising : (bs : List Piece) → ArePieces bs → are_apart None (runs_in bs) ≡ true → Rising (idents_of (runs_in bs))
+pieces_rising bs h a = idents_rise None (runs_in bs) a (runs_sound bs h)
+
+-- what is found among the identifiers of the runs is the place in the list
+pub found_place : (bs : List Piece) (y : List Tuple) → ArePieces bs → are_apart None (runs_in bs) ≡ true → find_ident (idents_of (runs_in bs)) y ≡ place_of y (idents_in (entries_of bs))
+found_place bs y h a = found_is (idents_of (runs_in bs)) y (pieces_rising bs h a) ∙ ap (place_of y) (sym (idents_of_pieces bs h))

@@ -68,7 +68,7 @@ idents_of_pieces (b ∷ bs) h =
     ∙ ap (λ xs. xs ++ idents_in (entries_of bs)) (firsts-zip (run_idents b.0.0 b.0.1) b.1 (h.0.as_many ∙ sym (run_length b.0.0 b.0.1)))
     ∙ ap (λ ys. run_idents b.0.0 b.0.1 ++ ys) (idents_of_pieces bs h.1)
 
-runs_sound : (bs : List Piece) → ArePieces bs → list_all is_run (runs_in bs) ≡ true
+pub runs_sound : (bs : List Piece) → ArePieces bs → list_all is_run (runs_in bs) ≡ true
 runs_sound [] h = refl
 runs_sound (b ∷ bs) h = and_true (is_run b.0) (list_all is_run (runs_in bs)) h.0.sound (runs_sound bs h.1)
 

@@ -1,11 +1,12 @@
 //! The block tree.
 
 ghost use Rattle.std.specs.Prelude.{◌≡◌, ◌+◌, ◌*◌, ◌^◌, ◌≤◌, [], length, IfSome, IfNone, IsTrue};
-ghost use Rattle.rls_runs.specs.Runs.{runs_of, is_increasing};
+ghost use Rattle.rls_runs.specs.Runs.{runs_of, is_increasing, place_of};
 ghost use Rattle.rls_runs.specs.Entries.{idents_in};
 ghost use Rattle.rls_tree.specs.Trees.{entries_of};
 
 use crate::node::{Link, Node, blocks_of, chars_of, height_of};
+use rls_ident::Ident;
 use std::alloc::Global;
 use std::marker::Model;
 
@@ -73,5 +74,16 @@ impl BlockTree {
     {
         let _chars = chars_of(&self.root);
         blocks_of(&self.root)
+    }
+
+    // The place of an identifier, or where it isn't there the number of identifiers less than it.
+    fn place(&self, id: &Ident) -> Result<u64, u64>
+        ensures place { result ≡ place_of id.now (idents_in (entries_of self.now.blocks)) }
+    {
+        let _chars = chars_of(&self.root);
+        match &self.root {
+            None => Err(0),
+            Some(node) => node.find(id),
+        }
     }
 }
