@@ -1,13 +1,13 @@
 //! The block tree.
 
-ghost use Rattle.std.specs.Prelude.{◌≡◌, ◌+◌, ◌*◌, ◌^◌, ◌≤◌, [], length, IfSome, IfNone, IsTrue};
+ghost use Rattle.std.specs.Prelude.{◌≡◌, ◌+◌, ◌*◌, ◌^◌, ◌≤◌, [], ◌<◌, length, slice_get, Some, IfSome, IfNone, IfOk, IsTrue};
 ghost use Rattle.rls_runs.specs.Runs.{runs_of, is_increasing, place_of};
-ghost use Rattle.rls_runs.specs.Entries.{idents_in};
+ghost use Rattle.rls_runs.specs.Entries.{idents_in, chars_in};
 ghost use Rattle.rls_tree.specs.Trees.{entries_of};
 
 use crate::node::{Link, Node, blocks_of, chars_of, height_of};
 use rls_ident::Ident;
-use std::alloc::Global;
+use std::alloc::{AllocError, Global};
 use std::marker::Model;
 
 /// Characters with identifiers that strictly increase, kept as a balanced tree of blocks, each a
@@ -85,5 +85,31 @@ impl BlockTree {
             None => Err(0),
             Some(node) => node.find(id),
         }
+    }
+
+    // The character at a place.
+    fn char(&self, i: u64) -> char
+        requires place { i < length (entries_of self.now.blocks) }
+        ensures char { slice_get (chars_in (entries_of self.now.blocks)) i ≡ Some result }
+    {
+        let Some(node) = &self.root else {
+            unreachable!()
+        };
+        let (block, at) = node.locate(i);
+        block.text().get(at as usize)
+    }
+
+    // The identifier at a place.
+    fn ident(&self, i: u64) -> Result<Ident, AllocError>
+        requires place { i < length (entries_of self.now.blocks) }
+        ensures ident { IfOk result (λ x. slice_get (idents_in (entries_of self.now.blocks)) i ≡ Some x) }
+    {
+        let Some(node) = &self.root else {
+            unreachable!()
+        };
+        let (block, at) = node.locate(i);
+        let _len = block.len();
+        let id = block.run().first().shifted(at)?;
+        Ok(id)
     }
 }
