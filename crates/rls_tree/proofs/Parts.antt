@@ -5,10 +5,12 @@ use Rattle.rls_ident.specs.declared.tuple.Tuple.{Tuple}
 use Rattle.rls_runs.specs.Runs.{run_idents, idents_of, are_apart, place_of}
 use Rattle.rls_runs.proofs.RunOrder.{Rising, idents_append, idents_rise}
 use Rattle.rls_runs.proofs.RunPlaces.{found_is}
-use Rattle.rls_runs.specs.Entries.{idents_in}
+use Rattle.rls_runs.specs.Entries.{idents_in, chars_in}
+use Rattle.std.proofs.lemmas.Slice.Zip.{seconds-zip}
+use Rattle.rls_runs.proofs.Finding.{run_length}
 use Rattle.rls_runs.specs.Places.{find_ident}
-use Rattle.rls_tree.specs.Trees.{Piece, ArePieces, entries_of, runs_in}
-use Rattle.rls_tree.proofs.Pieces.{idents_of_pieces, runs_sound}
+use Rattle.rls_tree.specs.Trees.{IsPiece, piece_entries, Piece, ArePieces, entries_of, runs_in}
+use Rattle.rls_tree.proofs.Pieces.{entries_append, idents_of_pieces, runs_sound}
 
 pub node_idents : (l r : List Piece) (b : Piece) (bs : List Piece) → l ++ b ∷ r ≡ bs → idents_of (runs_in bs) ≡ idents_of (runs_in l) ++ (run_idents b.0.0 b.0.1 ++ idents_of (runs_in r))
 node_idents l r b bs e = ap (λ cs. idents_of (runs_in cs)) (sym e) ∙ ap idents_of (map-append (λ c. c.0) l (b ∷ r)) ∙ idents_append (runs_in l) (runs_in (b ∷ r))
@@ -22,3 +24,8 @@ pieces_rising bs h a = idents_rise None (runs_in bs) a (runs_sound bs h)
 -- what is found among the identifiers of the runs is the place in the list
 pub found_place : (bs : List Piece) (y : List Tuple) → ArePieces bs → are_apart None (runs_in bs) ≡ true → find_ident (idents_of (runs_in bs)) y ≡ place_of y (idents_in (entries_of bs))
 found_place bs y h a = found_is (idents_of (runs_in bs)) y (pieces_rising bs h a) ∙ ap (place_of y) (sym (idents_of_pieces bs h))
+
+pub node_chars : (l r : List Piece) (b : Piece) (bs : List Piece) → l ++ b ∷ r ≡ bs → IsPiece b.0 b.1 → chars_in (entries_of bs) ≡ chars_in (entries_of l) ++ (b.1 ++ chars_in (entries_of r))
+node_chars l r b bs e p =
+    ap (λ cs. chars_in (entries_of cs)) (sym e) ∙ ap chars_in (entries_append l (b ∷ r)) ∙ map-append (λ u. u.1) (entries_of l) (entries_of (b ∷ r))
+    ∙ ap (λ cs. chars_in (entries_of l) ++ cs) (map-append (λ u. u.1) (piece_entries b) (entries_of r) ∙ ap (λ cs. cs ++ chars_in (entries_of r)) (seconds-zip (run_idents b.0.0 b.0.1) b.1 (p.as_many ∙ sym (run_length b.0.0 b.0.1))))

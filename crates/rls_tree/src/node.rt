@@ -1,7 +1,8 @@
 //! Nodes of the tree.
 
-ghost use Rattle.std.specs.Prelude.{◌≡◌, ℕ, ◌+◌, ◌^◌, ◌<◌, ◌≤◌, max, [], ◌∷◌, ◌++◌, length, slice_get, Some, None, IfSome, IfNone};
+ghost use Rattle.std.specs.Prelude.{◌≡◌, ℕ, ◌+◌, ◌^◌, ◌<◌, ◌≤◌, max, [], ◌∷◌, ◌++◌, length, slice_get, Some, None, IfSome, IfNone, OnOk};
 ghost use Rattle.rls_runs.specs.Runs.{idents_of};
+ghost use Rattle.rls_runs.specs.Entries.{chars_in};
 ghost use Rattle.rls_runs.specs.Places.{find_ident};
 ghost use Rattle.rls_runs.proofs.RunOrder.{Rising};
 ghost use Rattle.rls_tree.specs.Trees.{runs_in, IsLow, IsPiece, ArePieces, Tree, piece_entries, entries_of, pieces, levels};
@@ -9,6 +10,7 @@ ghost use Rattle.rls_tree.specs.Trees.{runs_in, IsLow, IsPiece, ArePieces, Tree,
 use crate::block::Block;
 use rls_ident::Ident;
 use rls_runs::{Run, Text};
+use std::alloc::AllocError;
 use std::marker::Model;
 use std::mem;
 
@@ -185,6 +187,17 @@ impl Node {
         }
     }
 
+    // Puts its characters behind those of a text. It costs their number.
+    #[cycle(push_text)]
+    pub(crate) fn push_text(&self, text: &mut Text) -> Result<(), AllocError>
+        ensures ok { OnOk result (text.new ≡ text.old ++ chars_in (entries_of self.now.blocks)) }
+    {
+        push_text_of(&self.left, text)?;
+        text.append(self.block.text().copy()?)?;
+        push_text_of(&self.right, text)?;
+        Ok(())
+    }
+
     // Keeps the block alone, and answers both sides.
     pub(crate) fn take_sides(&mut self) -> (Link, Link)
         ensures blocks { self.old.blocks ≡ pieces result.0 ++ self.new.blocks ++ pieces result.1 }
@@ -250,5 +263,16 @@ pub(crate) fn blocks_of(link: &Link) -> u64
     match link {
         None => 0,
         Some(node) => node.blocks(),
+    }
+}
+
+// Puts a tree's characters behind those of a text.
+#[cycle(push_text)]
+pub(crate) fn push_text_of(link: &Link, text: &mut Text) -> Result<(), AllocError>
+    ensures ok { OnOk result (text.new ≡ text.old ++ chars_in (entries_of (pieces link.now))) }
+{
+    match link {
+        None => Ok(()),
+        Some(node) => node.push_text(text),
     }
 }
