@@ -1,0 +1,148 @@
+//! Renamings.
+
+ghost use Rattle.std.specs.Prelude.{◌≡◌, ℕ, ◌<◌, ◌≤◌, length, List, IfOk, IfSome, IfNone, IsErrOf, ◌↔◌, slice_get, Some, Err, [], ◌∷◌};
+ghost use Rattle.rls_ident.specs.declared.tuple.Tuple.{Tuple};
+ghost use Rattle.rls_ident.specs.Tuples.{at_spot, at_offset};
+ghost use Rattle.rls_rename.specs.Renaming.{IsFormer, first_pos, new_pos, forward, back};
+
+use rls_ident::{Ident, Spot, Tuple};
+use rls_runs::Runs;
+use std::alloc::{AllocError, Global};
+use std::marker::Model;
+
+/// The greatest number of former identifiers.
+pub const MOST_FORMER: u64 = 4_194_304;
+
+/// The former identifiers of a rename, with the rename's author and number.
+#[derive(Drop)]
+pub struct Renaming {
+    alloc: Global,
+    former: Runs,
+    // the tuple of the first new identifier
+    first: Spot,
+}
+
+impl Model for Renaming {
+    ghost use Rattle.std.specs.Prelude.{◌≡◌, ◌≤◌, length, pos};
+    ghost use Rattle.rls_rename.specs.Renaming.{Renaming, IsFormer, new_pos};
+
+    ghost Value = { Renaming };
+
+    ghost view = { λ a. record { former = a.former; replica = a.first.replica; seq = a.first.seq } };
+
+    ghost invariant = { λ a. IsFormer a.former × (length a.former ≤ 4194304) × (a.first.pos ≡ new_pos a.former) × (a.first.offset ≡ pos 0) };
+}
+
+/// Why there is no such renaming.
+#[derive(Clone, Copy, Debug, PartialEq, Eq)]
+pub enum RenamingError {
+    /// There is no former identifier.
+    EmptyList,
+    /// There are more than 4,194,304 former identifiers.
+    TooMany { total: u64 },
+}
+
+impl Renaming {
+    /// The renaming of these identifiers by the replica's operation with this number. It takes no memory.
+    ///
+    /// # Errors
+    ///
+    /// `EmptyList` exactly where there is no identifier, and `TooMany` exactly where there are more
+    /// than 4,194,304. The identifiers are given up then.
+    #[tactic(auto, using(crate::proofs::Made::former_is, crate::proofs::Made::some_run, crate::proofs::Made::first_of_run))]
+    pub fn new(
+        alloc: Global,
+        former: Runs,
+        replica: u32,
+        seq: u32,
+    ) -> Result<Renaming, RenamingError>
+        ensures ok { IfOk result (λ renaming. renaming ≡ record { former = former; replica = replica; seq = seq }) }
+        ensures empty { IsErrOf result RenamingError.EmptyList ↔ (length former ≡ 0) }
+        ensures too_many { (total : ℕ) → (IsErrOf result (RenamingError.TooMany total) ↔ ((length former ≡ total) × (4194304 < total))) }
+    {
+        let total = former.total();
+        if total == 0 {
+            return Err(RenamingError::EmptyList);
+        }
+        if total > MOST_FORMER {
+            return Err(RenamingError::TooMany { total });
+        }
+        let pos = first_pos(former.run(0).first());
+        Ok(Renaming {
+            alloc,
+            former,
+            first: Spot {
+                pos,
+                replica,
+                seq,
+                offset: 0,
+            },
+        })
+    }
+
+    /// The number of former identifiers, from 1 to 4,194,304.
+    #[tactic(auto, using(crate::proofs::Made::former_some))]
+    pub fn total(&self) -> u64
+        ensures total { result ≡ length self.now.former }
+        ensures some { 0 < result }
+        ensures most { result ≤ 4194304 }
+        ensures former { IsFormer self.now.former }
+    {
+        self.former.total()
+    }
+
+    /// The former identifiers.
+    pub fn former(&self) -> &Runs
+        ensures former { result.now ≡ self.now.former }
+    {
+        &self.former
+    }
+
+    /// The replica of the rename.
+    pub fn replica(&self) -> u32
+        ensures replica { result ≡ self.now.replica }
+    {
+        self.first.replica
+    }
+
+    /// The number of the rename among its replica's operations.
+    pub fn seq(&self) -> u32
+        ensures seq { result ≡ self.now.seq }
+    {
+        self.first.seq
+    }
+
+    /// The same again.
+    pub fn copy(&self) -> Result<Renaming, AllocError>
+        ensures copy { IfOk result (λ renaming. renaming ≡ self.now) }
+    {
+        Ok(Renaming {
+            alloc: self.alloc,
+            former: self.former.copy()?,
+            first: self.first,
+        })
+    }
+}
+
+// The pos of the first `At`.
+fn first_pos(id: &Ident) -> u32
+    ensures first_pos { result ≡ first_pos id.now }
+{
+    for i in 0..id.len() {
+        if let Some(pos) = pos_of(id.tuple(i)) {
+            return pos;
+        }
+    }
+    0
+}
+
+// The pos of an `At`.
+fn pos_of(tuple: Tuple) -> Option<u32>
+    ensures some { IfSome result (λ pos. (rest : List Tuple) → first_pos (tuple ∷ rest) ≡ pos) }
+    ensures none { IfNone result ((rest : List Tuple) → first_pos (tuple ∷ rest) ≡ first_pos rest) }
+{
+    match tuple {
+        Tuple::At { pos, .. } => Some(pos),
+        _ => None,
+    }
+}
