@@ -1,0 +1,50 @@
+-- The patterns of a gap, and what the code needs before it strips one.
+use Rattle.std.proofs.Common.{◌≡◌, ℕ, zero, suc, ◌<◌, ◌≤◌, Bool, true, false, cond, List, [], ◌∷◌, ◌++◌, length, drop, refl, sym, ap, ◌∙◌, subst, arith}
+use Rattle.std.specs.declared.cmp.Ordering.TheVariants.{Less}
+use Rattle.rls_ident.specs.declared.tuple.Tuple.{Tuple}
+use Rattle.rls_ident.specs.declared.tuple.Tuple.TheVariants.{Low, High}
+use Rattle.rls_ident.specs.Tuples.{tuple_cmp, tuple_pred}
+use Rattle.rls_ident.specs.Maps.{under, low_inverse, high_inverse}
+use Rattle.rls_ident.specs.Identifiers.{IsIdent, ident_cmp, pred}
+use Rattle.rls_rename.specs.Renaming.{old_above_inverse}
+use Rattle.rls_rename.proofs.Increasing.{old_above_iso, old_below_iso}
+use Rattle.rls_rename.proofs.Lengths.{inner_ident, inner_less}
+
+pub pred_of_pushed : (f : List Tuple) (l : Tuple) → pred (f ++ l ∷ []) ≡ f ++ tuple_pred l ∷ []
+pred_of_pushed [] l = refl
+pred_of_pushed (t ∷ []) l = refl
+pred_of_pushed (t ∷ (u ∷ f)) l = ap (λ x. t ∷ x) (pred_of_pushed (u ∷ f) l)
+
+pub pred_is : (a f : List Tuple) (l p : Tuple) → a ≡ f ++ l ∷ [] → p ≡ tuple_pred l → f ++ p ∷ [] ≡ pred a
+pred_is a f l p e h = ap (λ t. f ++ t ∷ []) h ∙ (sym (pred_of_pushed f l) ∙ ap pred (sym e))
+
+-- an identifier is left behind n tuples
+pub left_behind : (n : ℕ) (x : List Tuple) → IsIdent (drop n x) → n < length x
+left_behind zero [] i = absurd (cc)
+left_behind (suc n) [] i = absurd (cc)
+left_behind zero (t ∷ x) i = omega arith
+left_behind (suc n) (t ∷ x) i = let h = left_behind n x i in omega arith
+
+pub low_longer : (p x : List Tuple) → IsIdent (low_inverse tuple_cmp p x) → under tuple_cmp x p ≡ true → length p < length x
+unfolding low_inverse
+low_longer p x i u = left_behind (length p) x (subst (λ b. IsIdent (cond b (drop (length p) x) x)) u i)
+
+pub high_longer : (p x : List Tuple) → IsIdent (high_inverse tuple_cmp p x) → under tuple_cmp x p ≡ false → length p < length x
+unfolding high_inverse
+high_longer p x i u = left_behind (length p) x (subst (λ b. IsIdent (cond b x (drop (length p) x))) u i)
+
+pub above_longer : (a x p : List Tuple) → p ≡ a ++ Low ∷ [] → IsIdent x → ident_cmp a x ≡ Less → under tuple_cmp x p ≡ true → length p < length x
+above_longer a x p e i l = low_longer p x (subst (λ q. IsIdent (low_inverse tuple_cmp q x)) (sym e) (inner_ident a x i l))
+
+pub below_longer : (a x p : List Tuple) → p ≡ pred a ++ High ∷ [] → IsIdent a → IsIdent x → ident_cmp x a ≡ Less → under tuple_cmp x p ≡ false → length p < length x
+below_longer a x p e h i l = high_longer p x (subst (λ q. IsIdent (high_inverse tuple_cmp q x)) (sym e) ((old_below_iso a h).onto x (i, record { less = l })))
+
+pub between_longer : (a b x c y p : List Tuple) → c ≡ old_above_inverse a b → y ≡ old_above_inverse a x → p ≡ pred c ++ High ∷ [] → IsIdent b → IsIdent x →
+    ident_cmp a b ≡ Less → ident_cmp a x ≡ Less → ident_cmp x b ≡ Less → under tuple_cmp y p ≡ false → length p < length y
+between_longer a b x c y p e f g j i l k r =
+    let ic = subst IsIdent (sym e) (inner_ident a b j l) in
+    let iy = subst IsIdent (sym f) (inner_ident a x i k) in
+    below_longer c y p g ic iy (ap (λ t. ident_cmp t c) f ∙ (ap (ident_cmp (old_above_inverse a x)) e ∙ inner_less a x b i j k l r))
+
+pub inverse_is : (a x y p : List Tuple) → p ≡ a ++ Low ∷ [] → y ≡ low_inverse tuple_cmp p x → y ≡ old_above_inverse a x
+inverse_is a x y p e h = h ∙ ap (λ q. low_inverse tuple_cmp q x) e
