@@ -12,13 +12,13 @@ use Rattle.rls_rename.specs.Renaming.{IsFormer, old_below_inverse, old_between_i
 use Rattle.rls_rename.proofs.Increasing.{former_first}
 use Rattle.rls_rename.proofs.Places.{former_at, forward_former, forward_below, forward_between, forward_last}
 
-split_at : (f : List (List Tuple)) (i : ℕ) → i < length f → f ≡ take i f ++ (get_or f i [] ∷ drop (suc i) f)
+pub split_at : (f : List (List Tuple)) (i : ℕ) → i < length f → f ≡ take i f ++ (get_or f i [] ∷ drop (suc i) f)
 split_at f i h = let e = drop-cons f i [] h in sym (take-append-drop i f) ∙ ap (λ z. take i f ++ z) e
 
-split_two : (f : List (List Tuple)) (i : ℕ) → suc i < length f → f ≡ take i f ++ (get_or f i [] ∷ (get_or f (suc i) [] ∷ drop (suc (suc i)) f))
+pub split_two : (f : List (List Tuple)) (i : ℕ) → suc i < length f → f ≡ take i f ++ (get_or f i [] ∷ (get_or f (suc i) [] ∷ drop (suc (suc i)) f))
 split_two f i h = let l : i < length f = omega arith in let e = drop-cons f (suc i) [] h in split_at f i l ∙ ap (λ z. take i f ++ (get_or f i [] ∷ z)) e
 
-split_end : (f : List (List Tuple)) (i : ℕ) → suc i ≡ length f → f ≡ take i f ++ (get_or f i [] ∷ [])
+pub split_end : (f : List (List Tuple)) (i : ℕ) → suc i ≡ length f → f ≡ take i f ++ (get_or f i [] ∷ [])
 split_end f i h = let l : i < length f = omega arith in let k : length f ≤ suc i = omega arith in split_at f i l ∙ ap (λ z. take i f ++ (get_or f i [] ∷ z)) (drop_of_length-le f k)
 
 pub index_ident : (f : List (List Tuple)) (i : ℕ) → IsFormer f → i < length f → IsIdent (get_or f i [])

@@ -1,13 +1,15 @@
 -- The patterns of a gap, and what the code needs before it strips one.
-use Rattle.std.proofs.Common.{◌≡◌, ℕ, zero, suc, ◌<◌, ◌≤◌, Bool, true, false, cond, List, [], ◌∷◌, ◌++◌, length, drop, refl, sym, ap, ◌∙◌, subst, arith}
+use Rattle.std.proofs.Common.{◌≡◌, ℕ, zero, suc, ◌+◌, ◌<◌, true, false, cond, List, [], ◌∷◌, ◌++◌, length, drop, refl, sym, ap, ◌∙◌, subst, arith}
 use Rattle.std.specs.declared.cmp.Ordering.TheVariants.{Less}
+use Rattle.std.specs.Prelude.{pos, negsuc}
+use Rattle.rls_ident.specs.declared.tuple.Spot.{Spot}
 use Rattle.rls_ident.specs.declared.tuple.Tuple.{Tuple}
 use Rattle.rls_ident.specs.declared.tuple.Tuple.TheVariants.{Low, High}
-use Rattle.rls_ident.specs.Tuples.{tuple_cmp, tuple_pred}
+use Rattle.rls_ident.specs.Tuples.{tuple_cmp, tuple_pred, at_offset}
 use Rattle.rls_ident.specs.Maps.{under, low_inverse, high_inverse}
 use Rattle.rls_ident.specs.Identifiers.{IsIdent, ident_cmp, pred}
-use Rattle.rls_rename.specs.Renaming.{old_above_inverse}
-use Rattle.rls_rename.proofs.Increasing.{old_above_iso, old_below_iso}
+use Rattle.rls_rename.specs.Renaming.{old_above_inverse, new_at}
+use Rattle.rls_rename.proofs.Increasing.{old_below_iso, new_below_iso, new_between_iso, new_above_iso}
 use Rattle.rls_rename.proofs.Lengths.{inner_ident, inner_less}
 
 pub pred_of_pushed : (f : List Tuple) (l : Tuple) → pred (f ++ l ∷ []) ≡ f ++ tuple_pred l ∷ []
@@ -48,3 +50,12 @@ between_longer a b x c y p e f g j i l k r =
 
 pub inverse_is : (a x y p : List Tuple) → p ≡ a ++ Low ∷ [] → y ≡ low_inverse tuple_cmp p x → y ≡ old_above_inverse a x
 inverse_is a x y p e h = h ∙ ap (λ q. low_inverse tuple_cmp q x) e
+
+pub new_below_longer : (s : Spot) (z p : List Tuple) → p ≡ at_offset s (negsuc 0) ∷ [] → IsIdent z → ident_cmp z (new_at s 0) ≡ Less → under tuple_cmp z p ≡ false → length p < length z
+new_below_longer s z p e i l = high_longer p z (subst (λ q. IsIdent (high_inverse tuple_cmp q z)) (sym e) ((new_below_iso s).onto z (i, record { less = l })))
+
+pub new_above_longer : (s : Spot) (n : ℕ) (z p : List Tuple) → p ≡ at_offset s (pos n) ∷ [] → IsIdent z → ident_cmp (new_at s n) z ≡ Less → under tuple_cmp z p ≡ true → length p < length z
+new_above_longer s n z p e i l = low_longer p z (subst (λ q. IsIdent (low_inverse tuple_cmp q z)) (sym e) ((new_above_iso s n).onto z (i, record { less = l })))
+
+pub new_between_longer : (s : Spot) (n : ℕ) (z : List Tuple) → IsIdent z → ident_cmp (new_at s n) z ≡ Less → ident_cmp z (new_at s (n + 1)) ≡ Less → 1 < length z
+new_between_longer s n z i l r = left_behind 1 z ((new_between_iso s n).onto z ((i, record { less = l }), record { less = r }))

@@ -44,12 +44,7 @@ fn just_before(spot: Spot) -> Tuple
 }
 
 // These tuples and two more.
-fn ended(
-    alloc: Global,
-    front: &[Tuple],
-    last: Tuple,
-    mark: Tuple,
-) -> Result<Vec<Tuple>, AllocError>
+fn ended(alloc: Global, front: &[Tuple], last: Tuple, mark: Tuple) -> Result<Vec<Tuple>, AllocError>
     requires front { All (λ t. IsTrue (is_inner_bounded t)) front.now }
     requires last { IsTrue (is_inner_bounded last) }
     requires mark { IsTrue (is_inner_bounded mark) }
@@ -134,12 +129,7 @@ pub(crate) fn old_above(alloc: Global, a: &Ident, y: Ident) -> Result<Ident, All
 }
 
 // The old map between a and b.
-pub(crate) fn old_between(
-    alloc: Global,
-    a: &Ident,
-    b: Ident,
-    y: Ident,
-) -> Result<Ident, AllocError>
+pub(crate) fn old_between(alloc: Global, a: &Ident, b: Ident, y: Ident) -> Result<Ident, AllocError>
     requires less { ident_cmp a.now b ≡ Less }
     ensures old { IfOk result (λ x. x ≡ old_between a.now b y) }
 {

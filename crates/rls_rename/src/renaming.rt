@@ -5,6 +5,7 @@ ghost use Rattle.rls_ident.specs.declared.tuple.Tuple.{Tuple};
 ghost use Rattle.rls_ident.specs.Tuples.{at_spot, at_offset};
 ghost use Rattle.rls_rename.specs.Renaming.{IsFormer, first_pos, new_pos, forward, back};
 
+use crate::gaps::{back_by, forward_by};
 use rls_ident::{Ident, Spot, Tuple};
 use rls_runs::Runs;
 use std::alloc::{AllocError, Global};
@@ -110,6 +111,24 @@ impl Renaming {
         ensures seq { result ≡ self.now.seq }
     {
         self.first.seq
+    }
+
+    /// The renaming of an identifier: a former one goes to the new one at its place, and any other
+    /// from its gap between former ones to the gap between new ones, in the same order. It costs a
+    /// comparison for each halving of the former runs, and a few copies of the identifier.
+    #[tactic(auto, unfolding(crate::specs::Renaming::forward))]
+    pub fn forward(&self, id: &Ident) -> Result<Ident, AllocError>
+        ensures forward { IfOk result (λ z. z ≡ forward self.now id.now) }
+    {
+        forward_by(self.alloc, &self.former, self.first, id)
+    }
+
+    /// The identifier that `forward` takes to this one, at the same cost.
+    #[tactic(auto, unfolding(crate::specs::Renaming::back))]
+    pub fn back(&self, id: &Ident) -> Result<Ident, AllocError>
+        ensures back { IfOk result (λ x. x ≡ back self.now id.now) }
+    {
+        back_by(self.alloc, &self.former, self.first, id)
     }
 
     /// The same again.
