@@ -1,9 +1,8 @@
 //! The maps of a gap between former identifiers, or between new ones.
 
-ghost use Rattle.std.specs.Prelude.{◌≡◌, ℕ, ◌<◌, length, true, false, [], ◌∷◌, ◌++◌, IfOk, IsTrue, pos, negsuc};
+ghost use Rattle.std.specs.Prelude.{◌≡◌, ◌<◌, length, true, false, [], ◌∷◌, ◌++◌, IfOk, IsTrue};
 ghost use Rattle.std.specs.List.{All};
 ghost use Rattle.std.specs.declared.cmp.Ordering.TheVariants.{Less};
-ghost use Rattle.rls_ident.specs.declared.tuple.Tuple.{Tuple};
 ghost use Rattle.rls_ident.specs.Tuples.{tuple_cmp, at_spot, tuple_pred};
 ghost use Rattle.rls_ident.specs.Maps.{under, low, high, low_inverse, high_inverse};
 ghost use Rattle.rls_ident.specs.Identifiers.{ident_cmp, pred, is_inner_bounded, is_last_bounded};

@@ -1,9 +1,8 @@
 //! One identifier, forward and back.
 
-ghost use Rattle.std.specs.Prelude.{◌≡◌, ◌<◌, ◌≤◌, length, IfOk, IsTrue, Err, Ok, Some, slice_get, pos};
-ghost use Rattle.rls_ident.specs.Identifiers.{is_ident};
+ghost use Rattle.std.specs.Prelude.{◌≡◌, ◌≤◌, length, IfOk, Err};
 ghost use Rattle.rls_runs.specs.Runs.{place_of};
-ghost use Rattle.rls_rename.specs.Renaming.{IsFormer, new_at, new_from, forward_by, back_by};
+ghost use Rattle.rls_rename.specs.Renaming.{IsFormer, new_from, forward_by, back_by};
 
 use crate::gap_maps::{
     old_above, old_above_inverse, old_below, old_below_inverse, old_between, old_between_inverse,

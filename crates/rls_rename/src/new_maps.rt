@@ -1,6 +1,6 @@
 //! The new identifiers, and the maps of the gaps between them.
 
-ghost use Rattle.std.specs.Prelude.{◌≡◌, ◌+◌, ◌<◌, IfOk, IsTrue, [], ◌∷◌, pos, negsuc};
+ghost use Rattle.std.specs.Prelude.{◌≡◌, ◌+◌, ◌<◌, IfOk, IsTrue, pos, negsuc};
 ghost use Rattle.std.specs.declared.cmp.Ordering.TheVariants.{Less};
 ghost use Rattle.rls_ident.specs.Tuples.{at_offset};
 ghost use Rattle.rls_ident.specs.Identifiers.{ident_cmp, is_inner_bounded};

@@ -1,9 +1,8 @@
 //! Renamings.
 
-ghost use Rattle.std.specs.Prelude.{◌≡◌, ℕ, ◌<◌, ◌≤◌, length, List, IfOk, IfSome, IfNone, IsErrOf, ◌↔◌, slice_get, Some, Err, [], ◌∷◌};
+ghost use Rattle.std.specs.Prelude.{◌≡◌, ℕ, ◌<◌, ◌≤◌, length, List, ◌∷◌, IfOk, IfSome, IfNone, IsErrOf, ◌↔◌};
 ghost use Rattle.rls_ident.specs.declared.tuple.Tuple.{Tuple};
-ghost use Rattle.rls_ident.specs.Tuples.{at_spot, at_offset};
-ghost use Rattle.rls_rename.specs.Renaming.{IsFormer, first_pos, new_pos, forward, back};
+ghost use Rattle.rls_rename.specs.Renaming.{IsFormer, first_pos, forward, back};
 
 use crate::gaps::{back_by, forward_by};
 use rls_ident::{Ident, Spot, Tuple};
