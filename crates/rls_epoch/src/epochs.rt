@@ -1,0 +1,129 @@
+//! The tree of the epochs that are kept.
+
+ghost use Rattle.std.specs.Prelude.{◌≡◌, ℕ, ◌+◌, ◌-◌, ◌<◌, ◌^◌, suc, [], ◌∷◌, length, IfOk, OnOk, OnErr, IsTrue, IsFalse, ◌||◌};
+ghost use Rattle.rls_ident.specs.declared.epoch_name.EpochName.{EpochName};
+ghost use Rattle.rls_ident.specs.EpochNames.{name_eq};
+ghost use Rattle.rls_rename.specs.Tree.{Node, IsTree, is_kept, epoch_cmp};
+ghost use Rattle.rls_epoch.specs.Seen.{former_sum};
+
+use crate::nodes::{compare, copied, has_node};
+use crate::placed::Placed;
+use rls_ident::EpochName;
+use rls_rename::Renaming;
+use std::alloc::{AllocError, Global};
+use std::cmp::Ordering;
+use std::marker::Model;
+
+/// A topmost epoch and the nodes below it, some of which are marked. The earliest node stands first.
+#[derive(Drop)]
+pub struct Epochs {
+    top: EpochName,
+    top_marked: bool,
+    nodes: Vec<Placed>,
+    total: u64,
+}
+
+impl Model for Epochs {
+    ghost use Rattle.std.specs.Prelude.{◌-◌, length, vec_capacity};
+    ghost use Rattle.rls_epoch.specs.Seen.{EpochsSeen, IsWhole, nodes_of, marks_of};
+
+    ghost Value = { EpochsSeen };
+
+    ghost view = { λ a. record { epochs = record { top = a.top; nodes = nodes_of a.nodes.items }; marks = marks_of a.top a.top_marked a.nodes.items; spare = vec_capacity a.nodes - length a.nodes.items } };
+
+    ghost invariant = { λ a. IsWhole a.top a.nodes.items a.total };
+}
+
+impl Epochs {
+    /// The topmost epoch alone, without a mark. It takes no memory.
+    pub fn starting_at(alloc: Global, name: EpochName) -> Epochs
+        ensures top { result.epochs ≡ record { top = name; nodes = [] } }
+        ensures marks { result.marks ≡ [] }
+    {
+        Epochs {
+            top: name,
+            top_marked: false,
+            nodes: Vec::new(alloc),
+            total: 0,
+        }
+    }
+
+    /// Makes room for one more node.
+    pub fn reserve(&mut self) -> Result<(), AllocError>
+        ensures epochs { self.new.epochs ≡ self.old.epochs }
+        ensures marks { self.new.marks ≡ self.old.marks }
+        ensures ok { OnOk result (0 < self.new.spare) }
+    {
+        self.nodes.reserve(1)?;
+        Ok(())
+    }
+
+    /// Adds the epoch that a rename opened in another. The new one isn't marked. It takes no memory,
+    /// and cannot fail.
+    pub fn add(&mut self, replica: u32, seq: u32, parent: EpochName, renaming: Renaming)
+        requires room { 0 < self.old.spare }
+        requires fresh { IsFalse (is_kept self.old.epochs.top self.old.epochs.nodes (EpochName.Of replica seq)) }
+        requires parent { IsTrue (is_kept self.old.epochs.top self.old.epochs.nodes parent) }
+        requires replica { renaming.replica ≡ replica }
+        requires seq { renaming.seq ≡ seq }
+        requires total { former_sum self.old.epochs.nodes + length renaming.former < 2 ^ 64 }
+        ensures epochs { self.new.epochs ≡ record { top = self.old.epochs.top; nodes = record { parent = parent; renaming = renaming } ∷ self.old.epochs.nodes } }
+        ensures marks { self.new.marks ≡ self.old.marks }
+    {
+        let _name = EpochName::Of { replica, seq };
+        self.total += renaming.total();
+        self.nodes
+            .push(Placed {
+                parent,
+                renaming,
+                marked: false,
+            })
+            .unwrap();
+    }
+
+    /// Whether the epoch is kept. It costs a comparison of names for each node, at most.
+    pub fn kept(&self, name: EpochName) -> bool
+        ensures kept { result ≡ is_kept self.now.epochs.top self.now.epochs.nodes name }
+        ensures tree { IsTree self.now.epochs }
+    {
+        name.same(&self.top) || has_node(&self.nodes, name)
+    }
+
+    /// The order of two epochs: lexicographic by their paths from the topmost one, in which a proper
+    /// prefix is less. It takes no memory, and costs a few comparisons of names for each node.
+    pub fn compare(&self, a: EpochName, b: EpochName) -> Ordering
+        requires first { IsTrue (is_kept self.now.epochs.top self.now.epochs.nodes a) }
+        requires second { IsTrue (is_kept self.now.epochs.top self.now.epochs.nodes b) }
+        ensures order { result ≡ epoch_cmp self.now.epochs.nodes a b }
+    {
+        compare(&self.nodes, a, b)
+    }
+
+    /// The number of epochs, the topmost one among them.
+    pub fn count(&self) -> u64
+        ensures count { result ≡ suc (length self.now.epochs.nodes) }
+        ensures tree { IsTree self.now.epochs }
+    {
+        self.nodes.len() as u64 + 1
+    }
+
+    /// The number of former identifiers of all nodes.
+    pub fn former_total(&self) -> u64
+        ensures former_total { result ≡ former_sum self.now.epochs.nodes }
+    {
+        self.total
+    }
+
+    /// The same again, with the same marks.
+    pub fn copy(&self) -> Result<Epochs, AllocError>
+        ensures epochs { IfOk result (λ copy. copy.epochs ≡ self.now.epochs) }
+        ensures marks { IfOk result (λ copy. copy.marks ≡ self.now.marks) }
+    {
+        Ok(Epochs {
+            top: self.top,
+            top_marked: self.top_marked,
+            nodes: copied(*self.nodes.allocator(), &self.nodes)?,
+            total: self.total,
+        })
+    }
+}

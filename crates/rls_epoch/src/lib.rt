@@ -1,0 +1,10 @@
+//! The epochs that are kept: one connected tree below a topmost epoch (RenamableLogootSplit:
+//! Nicolas, Oster and Perrin).
+#![tactic(auto)]
+
+mod climb;
+mod epochs;
+mod nodes;
+mod placed;
+
+pub use epochs::Epochs;

@@ -1,0 +1,65 @@
+//! The nodes of a tree, of which the latest stands last.
+
+ghost use Rattle.std.specs.Prelude.{◌≡◌, IfOk};
+ghost use Rattle.rls_rename.specs.Tree.{has_node, AreNodes, epoch_cmp};
+ghost use Rattle.rls_epoch.specs.Climbing.{meet_cmp, climb_from};
+ghost use Rattle.rls_epoch.specs.Seen.{nodes_of};
+
+use crate::climb::{Climb, climb_from};
+use crate::placed::Placed;
+use rls_ident::EpochName;
+use std::alloc::{AllocError, Global};
+use std::cmp::Ordering;
+
+// Whether one of them is the node of the epoch.
+#[tactic(auto, using(crate::proofs::Laid::nodes_last))]
+pub(crate) fn has_node(nodes: &[Placed], name: EpochName) -> bool
+    ensures has_node { result ≡ has_node (nodes_of nodes.now) name }
+{
+    let mut rest = nodes;
+    while let Some((node, older)) = rest.split_last() {
+        if node.is_of(name) {
+            return true;
+        }
+        rest = older;
+    }
+    false
+}
+
+// The order of two epochs, where no two nodes have one name. It goes up from both until they meet.
+#[tactic(auto, using(crate::proofs::Meeting::meet_is))]
+pub(crate) fn compare(nodes: &[Placed], a: EpochName, b: EpochName) -> Ordering
+    requires nodes { AreNodes (nodes_of nodes.now) }
+    ensures order { result ≡ epoch_cmp (nodes_of nodes.now) a b }
+{
+    met(nodes, climb_from(a), climb_from(b))
+}
+
+// The order of the children at which two ways meet.
+#[tactic(auto, using(crate::proofs::Laid::nodes_last), unfolding(crate::specs::Climbing::meet_cmp))]
+fn met(nodes: &[Placed], first: Climb, second: Climb) -> Ordering
+    ensures met { result ≡ meet_cmp (nodes_of nodes.now) first second }
+{
+    let (mut left, mut right) = (first, second);
+    let mut rest = nodes;
+    while let Some((node, older)) = rest.split_last() {
+        if left.at.same(&right.at) {
+            return left.compare(right);
+        }
+        left = left.climbed(node);
+        right = right.climbed(node);
+        rest = older;
+    }
+    left.compare(right)
+}
+
+// The same again.
+pub(crate) fn copied(alloc: Global, nodes: &[Placed]) -> Result<Vec<Placed>, AllocError>
+    ensures copied { IfOk result (λ copy. copy.items ≡ nodes.now) }
+{
+    let mut copy = Vec::with_capacity(alloc, nodes.len())?;
+    for node in nodes {
+        copy.push(node.copy()?)?;
+    }
+    Ok(copy)
+}

@@ -1,0 +1,47 @@
+//! One node of a tree of epochs.
+
+ghost use Rattle.std.specs.Prelude.{◌≡◌, IfOk};
+ghost use Rattle.rls_ident.specs.EpochNames.{name_eq};
+ghost use Rattle.rls_rename.specs.Tree.{name_of};
+
+use rls_ident::EpochName;
+use rls_rename::Renaming;
+use std::alloc::AllocError;
+
+// The epoch in which one was opened, the renaming that opened it, and whether it is marked.
+#[derive(Drop)]
+pub(crate) struct Placed {
+    pub(crate) parent: EpochName,
+    pub(crate) renaming: Renaming,
+    pub(crate) marked: bool,
+}
+
+impl Placed {
+    // The epoch's name.
+    pub(crate) fn name(&self) -> EpochName
+        ensures name { result ≡ name_of self.now.renaming }
+    {
+        EpochName::Of {
+            replica: self.renaming.replica(),
+            seq: self.renaming.seq(),
+        }
+    }
+
+    // Whether it is the node of the epoch.
+    pub(crate) fn is_of(&self, name: EpochName) -> bool
+        ensures is_of { result ≡ name_eq (name_of self.now.renaming) name }
+    {
+        self.name().same(&name)
+    }
+
+    // The same again.
+    pub(crate) fn copy(&self) -> Result<Placed, AllocError>
+        ensures copy { IfOk result (λ placed. placed ≡ self.now) }
+    {
+        Ok(Placed {
+            parent: self.parent,
+            renaming: self.renaming.copy()?,
+            marked: self.marked,
+        })
+    }
+}
