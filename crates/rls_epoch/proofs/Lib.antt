@@ -1,2 +1,4 @@
+pub mod Greatest
 pub mod Laid
 pub mod Meeting
+pub mod Whole

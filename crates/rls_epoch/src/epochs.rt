@@ -3,10 +3,10 @@
 ghost use Rattle.std.specs.Prelude.{◌≡◌, ℕ, ◌+◌, ◌-◌, ◌<◌, ◌^◌, suc, [], ◌∷◌, length, IfOk, OnOk, OnErr, IsTrue, IsFalse, ◌||◌};
 ghost use Rattle.rls_ident.specs.declared.epoch_name.EpochName.{EpochName};
 ghost use Rattle.rls_ident.specs.EpochNames.{name_eq};
-ghost use Rattle.rls_rename.specs.Tree.{Node, IsTree, is_kept, epoch_cmp};
+ghost use Rattle.rls_rename.specs.Tree.{Node, IsTree, is_kept, epoch_cmp, greatest};
 ghost use Rattle.rls_epoch.specs.Seen.{former_sum};
 
-use crate::nodes::{compare, copied, has_node};
+use crate::nodes::{compare, copied, has_node, later_of};
 use crate::placed::Placed;
 use rls_ident::EpochName;
 use rls_rename::Renaming;
@@ -21,6 +21,7 @@ pub struct Epochs {
     top_marked: bool,
     nodes: Vec<Placed>,
     total: u64,
+    greatest: EpochName,
 }
 
 impl Model for Epochs {
@@ -31,11 +32,12 @@ impl Model for Epochs {
 
     ghost view = { λ a. record { epochs = record { top = a.top; nodes = nodes_of a.nodes.items }; marks = marks_of a.top a.top_marked a.nodes.items; spare = vec_capacity a.nodes - length a.nodes.items } };
 
-    ghost invariant = { λ a. IsWhole a.top a.nodes.items a.total };
+    ghost invariant = { λ a. IsWhole a.top a.nodes.items a.total a.greatest };
 }
 
 impl Epochs {
     /// The topmost epoch alone, without a mark. It takes no memory.
+    #[tactic(auto, using(crate::proofs::Whole::whole_alone))]
     pub fn starting_at(alloc: Global, name: EpochName) -> Epochs
         ensures top { result.epochs ≡ record { top = name; nodes = [] } }
         ensures marks { result.marks ≡ [] }
@@ -45,6 +47,7 @@ impl Epochs {
             top_marked: false,
             nodes: Vec::new(alloc),
             total: 0,
+            greatest: name,
         }
     }
 
@@ -60,6 +63,7 @@ impl Epochs {
 
     /// Adds the epoch that a rename opened in another. The new one isn't marked. It takes no memory,
     /// and cannot fail.
+    #[tactic(auto, using(crate::proofs::Laid::nodes_last))]
     pub fn add(&mut self, replica: u32, seq: u32, parent: EpochName, renaming: Renaming)
         requires room { 0 < self.old.spare }
         requires fresh { IsFalse (is_kept self.old.epochs.top self.old.epochs.nodes (EpochName.Of replica seq)) }
@@ -70,7 +74,7 @@ impl Epochs {
         ensures epochs { self.new.epochs ≡ record { top = self.old.epochs.top; nodes = record { parent = parent; renaming = renaming } ∷ self.old.epochs.nodes } }
         ensures marks { self.new.marks ≡ self.old.marks }
     {
-        let _name = EpochName::Of { replica, seq };
+        let name = EpochName::Of { replica, seq };
         self.total += renaming.total();
         self.nodes
             .push(Placed {
@@ -79,6 +83,7 @@ impl Epochs {
                 marked: false,
             })
             .unwrap();
+        self.greatest = later_of(&self.nodes, self.greatest, name);
     }
 
     /// Whether the epoch is kept. It costs a comparison of names for each node, at most.
@@ -97,6 +102,13 @@ impl Epochs {
         ensures order { result ≡ epoch_cmp self.now.epochs.nodes a b }
     {
         compare(&self.nodes, a, b)
+    }
+
+    /// The greatest epoch. It takes no memory.
+    pub fn greatest(&self) -> EpochName
+        ensures greatest { result ≡ greatest self.now.epochs.top self.now.epochs.nodes }
+    {
+        self.greatest
     }
 
     /// The number of epochs, the topmost one among them.
@@ -124,6 +136,7 @@ impl Epochs {
             top_marked: self.top_marked,
             nodes: copied(*self.nodes.allocator(), &self.nodes)?,
             total: self.total,
+            greatest: self.greatest,
         })
     }
 }

@@ -1,7 +1,7 @@
 //! The nodes of a tree, of which the latest stands last.
 
 ghost use Rattle.std.specs.Prelude.{◌≡◌, IfOk};
-ghost use Rattle.rls_rename.specs.Tree.{has_node, AreNodes, epoch_cmp};
+ghost use Rattle.rls_rename.specs.Tree.{has_node, AreNodes, epoch_cmp, later_of};
 ghost use Rattle.rls_epoch.specs.Climbing.{meet_cmp, climb_from};
 ghost use Rattle.rls_epoch.specs.Seen.{nodes_of};
 
@@ -51,6 +51,17 @@ fn met(nodes: &[Placed], first: Climb, second: Climb) -> Ordering
         rest = older;
     }
     left.compare(right)
+}
+
+// The greater of two epochs.
+pub(crate) fn later_of(nodes: &[Placed], a: EpochName, b: EpochName) -> EpochName
+    requires nodes { AreNodes (nodes_of nodes.now) }
+    ensures later { result ≡ later_of (nodes_of nodes.now) a b }
+{
+    match compare(nodes, a, b) {
+        Ordering::Less => b,
+        _ => a,
+    }
 }
 
 // The same again.
