@@ -2,3 +2,4 @@ pub mod Greatest
 pub mod Laid
 pub mod Meeting
 pub mod Whole
+pub mod Within

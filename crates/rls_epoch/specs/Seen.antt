@@ -1,8 +1,8 @@
 -- What a tree of epochs is seen as.
 use Rattle.std.specs.Prelude.{◌≡◌, ℕ, Bool, false, ◌||◌, List, [], ◌∷◌, length, map, reverse, sum_by, if◌then◌else◌}
 use Rattle.rls_ident.specs.declared.epoch_name.EpochName.{EpochName}
-use Rattle.rls_ident.specs.EpochNames.{name_eq}
-use Rattle.rls_rename.specs.Tree.{Node, Epochs, name_of, AreNodes, AreBelow, greatest}
+use Rattle.rls_ident.specs.EpochNames.{name_eq, is_within}
+use Rattle.rls_rename.specs.Tree.{Node, Epochs, name_of, AreNodes, AreBelow, greatest, later_of}
 use Rattle.rls_epoch.specs.declared.placed.Placed.{Placed}
 
 -- the epochs, those that are marked, and for how many more nodes there is room
@@ -19,6 +19,10 @@ is_marked (f ∷ marks) e = name_eq f e || is_marked marks e
 -- the number of former identifiers of these nodes
 abbrev pub former_sum : List Node → ℕ
 former_sum nodes = sum_by (λ node. length node.renaming.former) nodes
+
+-- the greater of two epochs, where the second one is within the vector
+unfoldable pub later_in : List Node → EpochName → EpochName → List ℕ → EpochName
+later_in nodes e f v = if is_within f v then later_of nodes e f else e
 
 -- ---- what the code keeps
 

@@ -3,12 +3,13 @@
 ghost use Rattle.std.specs.Prelude.{◌≡◌, ℕ, ◌+◌, ◌-◌, ◌<◌, ◌^◌, suc, [], ◌∷◌, length, IfOk, OnOk, OnErr, IsTrue, IsFalse, ◌||◌};
 ghost use Rattle.rls_ident.specs.declared.epoch_name.EpochName.{EpochName};
 ghost use Rattle.rls_ident.specs.EpochNames.{name_eq};
-ghost use Rattle.rls_rename.specs.Tree.{Node, IsTree, is_kept, epoch_cmp, greatest};
+ghost use Rattle.rls_rename.specs.Tree.{Node, IsTree, is_kept, epoch_cmp, greatest, greatest_within};
+ghost use Rattle.rls_ident.specs.EpochNames.{is_of_member};
 ghost use Rattle.rls_epoch.specs.Seen.{former_sum};
 
-use crate::nodes::{compare, copied, has_node, later_of};
+use crate::nodes::{compare, copied, greatest_in, has_node, later_of};
 use crate::placed::Placed;
-use rls_ident::EpochName;
+use rls_ident::{EpochName, Vector};
 use rls_rename::Renaming;
 use std::alloc::{AllocError, Global};
 use std::cmp::Ordering;
@@ -109,6 +110,20 @@ impl Epochs {
         ensures greatest { result ≡ greatest self.now.epochs.top self.now.epochs.nodes }
     {
         self.greatest
+    }
+
+    /// The greatest epoch within a vector that counts the replica of each kept epoch, or the topmost
+    /// one where none is. It takes no memory. Where the greatest epoch isn't within the vector it
+    /// costs a comparison of epochs for each one within it.
+    #[tactic(auto, using(crate::proofs::Within::within_greatest))]
+    pub fn greatest_in(&self, v: &Vector) -> EpochName
+        requires members { (e : EpochName) → IsTrue (is_kept self.now.epochs.top self.now.epochs.nodes e) → IsTrue (is_of_member (length v.now) e) }
+        ensures greatest { result ≡ greatest_within self.now.epochs.top self.now.epochs.nodes v.now }
+    {
+        if self.greatest.within(v) {
+            return self.greatest;
+        }
+        greatest_in(&self.nodes, self.top, v)
     }
 
     /// The number of epochs, the topmost one among them.

@@ -1,13 +1,15 @@
 //! The nodes of a tree, of which the latest stands last.
 
-ghost use Rattle.std.specs.Prelude.{◌≡◌, IfOk};
-ghost use Rattle.rls_rename.specs.Tree.{has_node, AreNodes, epoch_cmp, later_of};
+ghost use Rattle.std.specs.Prelude.{◌≡◌, IfOk, IsTrue, true, length};
+ghost use Rattle.rls_rename.specs.Tree.{has_node, AreNodes, epoch_cmp, later_of, greatest_within};
+ghost use Rattle.rls_ident.specs.declared.epoch_name.EpochName.{EpochName};
+ghost use Rattle.rls_ident.specs.EpochNames.{is_of_member};
 ghost use Rattle.rls_epoch.specs.Climbing.{meet_cmp, climb_from};
-ghost use Rattle.rls_epoch.specs.Seen.{nodes_of};
+ghost use Rattle.rls_epoch.specs.Seen.{nodes_of, later_in};
 
 use crate::climb::{Climb, climb_from};
 use crate::placed::Placed;
-use rls_ident::EpochName;
+use rls_ident::{EpochName, Vector};
 use std::alloc::{AllocError, Global};
 use std::cmp::Ordering;
 
@@ -62,6 +64,36 @@ pub(crate) fn later_of(nodes: &[Placed], a: EpochName, b: EpochName) -> EpochNam
         Ordering::Less => b,
         _ => a,
     }
+}
+
+// The greater of two epochs, where the second one is within the vector.
+#[tactic(auto, unfolding(crate::specs::Seen::later_in))]
+fn later_in(nodes: &[Placed], a: EpochName, b: EpochName, v: &Vector) -> EpochName
+    requires nodes { AreNodes (nodes_of nodes.now) }
+    requires member { IsTrue (is_of_member (length v.now) b) }
+    ensures later { result ≡ later_in (nodes_of nodes.now) a b v.now }
+{
+    if b.within(v) {
+        later_of(nodes, a, b)
+    } else {
+        a
+    }
+}
+
+// The greatest epoch within the vector, or the topmost one where none is.
+#[tactic(auto, using(crate::proofs::Within::within_begins))]
+pub(crate) fn greatest_in(nodes: &[Placed], top: EpochName, v: &Vector) -> EpochName
+    requires nodes { AreNodes (nodes_of nodes.now) }
+    requires members { (e : EpochName) → has_node (nodes_of nodes.now) e ≡ true → IsTrue (is_of_member (length v.now) e) }
+    ensures greatest { result ≡ greatest_within top (nodes_of nodes.now) v.now }
+{
+    let mut best = top;
+    let mut rest = nodes;
+    while let Some((node, older)) = rest.split_last() {
+        best = later_in(nodes, best, node.name(), v);
+        rest = older;
+    }
+    best
 }
 
 // The same again.
