@@ -3,3 +3,4 @@ pub mod Laid
 pub mod Meeting
 pub mod Whole
 pub mod Within
+pub mod Unmarked

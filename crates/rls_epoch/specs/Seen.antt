@@ -30,6 +30,10 @@ later_in nodes e f v = if is_within f v then later_of nodes e f else e
 abbrev pub node_of : Placed → Node
 node_of p = record { parent = p.parent; renaming = p.renaming }
 
+-- the node, not marked
+abbrev pub unmarked : Placed → Placed
+unmarked p = record p { marked = false }
+
 -- the nodes, of which the latest stands last
 abbrev pub nodes_of : List Placed → List Node
 nodes_of placed = map node_of (reverse placed)

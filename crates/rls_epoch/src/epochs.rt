@@ -7,6 +7,7 @@ ghost use Rattle.rls_rename.specs.Tree.{Node, IsTree, is_kept, epoch_cmp, greate
 ghost use Rattle.rls_ident.specs.EpochNames.{is_of_member};
 ghost use Rattle.rls_epoch.specs.Seen.{former_sum};
 
+use crate::marks::clear;
 use crate::nodes::{compare, copied, greatest_in, has_node, later_of};
 use crate::placed::Placed;
 use rls_ident::{EpochName, Vector};
@@ -124,6 +125,16 @@ impl Epochs {
             return self.greatest;
         }
         greatest_in(&self.nodes, self.top, v)
+    }
+
+    /// Takes all marks away. It takes no memory.
+    #[tactic(auto, using(crate::proofs::Unmarked::same_nodes, crate::proofs::Unmarked::no_marks, crate::proofs::Unmarked::still_whole))]
+    pub fn clear_marks(&mut self)
+        ensures epochs { self.new.epochs ≡ self.old.epochs }
+        ensures marks { self.new.marks ≡ [] }
+    {
+        self.top_marked = false;
+        clear(&mut self.nodes);
     }
 
     /// The number of epochs, the topmost one among them.

@@ -4,6 +4,7 @@
 
 mod climb;
 mod epochs;
+mod marks;
 mod nodes;
 mod placed;
 
