@@ -38,19 +38,19 @@ impl Model for Epochs {
 }
 
 impl Epochs {
-    /// The topmost epoch alone, without a mark. It takes no memory.
+    /// The topmost epoch alone, without a mark.
     #[tactic(auto, using(crate::proofs::Whole::whole_alone))]
-    pub fn starting_at(alloc: Global, name: EpochName) -> Epochs
-        ensures top { result.epochs ≡ record { top = name; nodes = [] } }
-        ensures marks { result.marks ≡ [] }
+    pub fn starting_at(alloc: Global, name: EpochName) -> Result<Epochs, AllocError>
+        ensures epochs { IfOk result (λ a. a.epochs ≡ record { top = name; nodes = [] }) }
+        ensures marks { IfOk result (λ a. a.marks ≡ []) }
     {
-        Epochs {
+        Ok(Epochs {
             top: name,
             top_marked: false,
             nodes: Vec::new(alloc),
             total: 0,
             greatest: name,
-        }
+        })
     }
 
     /// Makes room for one more node.
