@@ -5,3 +5,7 @@
 mod commands;
 #[cfg(test)]
 mod files;
+#[cfg(test)]
+mod keepers;
+#[cfg(test)]
+mod values;

@@ -14,7 +14,7 @@ use Rattle.rls_ident.proofs.Tuples.{tuples, ident_total}
 use Rattle.rls_ident.proofs.Ends.{eq_same, same_eq}
 use Rattle.std.specs.Ordering.{is_lt}
 use Rattle.rls_model.specs.Document.{put, put_all}
-use Rattle.rls_model.proofs.Sorted.{Entry, AreAbove, Rises, in_put_all, put_all_in, same_rising}
+use Rattle.rls_runs.proofs.Sorted.{Entry, AreAbove, Rises, in_put_all, put_all_in, same_rising}
 
 -- ---- how many entries have an identifier
 

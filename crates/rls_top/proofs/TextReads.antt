@@ -6,7 +6,7 @@ use Rattle.rls_ident.specs.Identifiers.{ident_lt}
 use Rattle.rls_model.specs.History.{History}
 use Rattle.rls_model.specs.Document.{chars, put_all, export}
 use Rattle.rls_model.specs.Document as document
-use Rattle.rls_model.proofs.Sorted.{Rises}
+use Rattle.rls_runs.proofs.Sorted.{Rises}
 use Rattle.rls_model.proofs.SameOps.{export_rises}
 use Rattle.rls_top.specs.declared.reading.JournalError.{JournalError}
 use Rattle.rls_top.specs.declared.reading.JournalError.TheVariants as errors
