@@ -58,6 +58,9 @@ fn difference(alloc: Global, case: &Case<'_>) -> Result<Option<&'static str>, Fa
     if errors.written() != case.errors {
         return Ok(Some("errors"));
     }
+    if !input.left().is_empty() {
+        return Ok(Some("input"));
+    }
     if keeper.file() != case.file {
         return Ok(Some("file"));
     }

@@ -61,6 +61,21 @@ fn identifiers(rt: HostRuntime) -> Result<(), Fail> {
 }
 
 #[test]
+fn offsets_move(rt: HostRuntime) -> Result<(), Fail> {
+    let alloc = rt.alloc();
+    let tuple = Tuple::At {
+        pos: MIDDLE,
+        replica: 0,
+        seq: 1,
+        offset: 0,
+    };
+    let hello = Ident::from_tuples(alloc, &[tuple])?;
+    assert_eq!(rt; hello.shifted(4)?.last().offset, 4);
+    assert_eq!(rt; hello.lowered(1)?.last().offset, -1);
+    Ok(())
+}
+
+#[test]
 fn vectors_and_names(rt: HostRuntime) -> Result<(), Fail> {
     let alloc = rt.alloc();
     let mut counts = Vector::zero(alloc, 2)?;
