@@ -6,10 +6,9 @@ use Rattle.std.proofs.lemmas.Option.{slice_get_read}
 use Rattle.rls_ident.specs.declared.tuple.Tuple.{Tuple}
 use Rattle.rls_ident.specs.Identifiers.{is_ident}
 use Rattle.rls_ident.proofs.Members.{some_is, and_true, and_left, and_right}
-use Rattle.rls_runs.specs.Runs.{run_idents, idents_of, are_apart}
+use Rattle.rls_runs.specs.Runs.{run_idents, idents_of, are_apart, IsImage}
 use Rattle.rls_runs.specs.Entries.{idents_in, chars_in, with_idents}
 use Rattle.rls_runs.proofs.Sorted.{Entry}
-use Rattle.rls_doc.specs.Documents.{IsImage}
 
 pub entry_at : (es : List Entry) (i : ℕ) (e : Entry) → i < length es → e ≡ get_or es i e → slice_get es i ≡ Some e
 entry_at es i e h g = slice_get_read es (length es) i e refl h g

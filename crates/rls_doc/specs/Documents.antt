@@ -1,8 +1,7 @@
 -- What a document's calls speak of.
-use Rattle.std.specs.Prelude.{◌≡◌, ℕ, true, false, List, [], ◌∷◌, map, None, IsTrue}
+use Rattle.std.specs.Prelude.{◌≡◌, true, false, List, [], ◌∷◌}
 use Rattle.rls_ident.specs.declared.tuple.Tuple.{Tuple}
 use Rattle.rls_ident.specs.Identifiers.{is_ident, ident_lt}
-use Rattle.rls_runs.specs.Runs.{run_idents, idents_of, are_apart}
 use Rattle.rls_runs.specs.Entries.{has_ident}
 
 -- none of the first identifiers is one of the others
@@ -13,8 +12,3 @@ AreNew (x ∷ xs) ys = (has_ident ys x ≡ false) × AreNew xs ys
 -- the map keeps the order of identifiers
 abbrev pub KeepsOrder : (List Tuple → List Tuple) → Type 0
 KeepsOrder f = (x y : List Tuple) → is_ident x ≡ true → is_ident y ≡ true → ident_lt x y ≡ true → ident_lt (f x) (f y) ≡ true
-
--- the identifiers of these runs are those of the run, each mapped, and no run touches the one before
-pub record IsImage (f : List Tuple → List Tuple) (run : List Tuple × ℕ) (runs : List (List Tuple × ℕ)) : Type 0 where
-  pub idents : idents_of runs ≡ map f (run_idents run.0 run.1)
-  pub apart : IsTrue (are_apart None runs)

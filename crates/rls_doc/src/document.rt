@@ -2,9 +2,9 @@
 
 ghost use Rattle.std.specs.Prelude.{◌≡◌, ◌+◌, ◌<◌, ◌≤◌, ◌^◌, ℕ, List, length, take, drop, zip, slice_get, Some, IfOk, OnOk, OnErr, IsTrue};
 ghost use Rattle.rls_ident.specs.declared.tuple.Tuple.{Tuple};
-ghost use Rattle.rls_runs.specs.Runs.{runs_of, idents_of, is_increasing, place_of};
+ghost use Rattle.rls_runs.specs.Runs.{runs_of, idents_of, is_increasing, place_of, IsImage};
 ghost use Rattle.rls_runs.specs.Entries.{Entries, idents_in, chars_in, put_all, without_all, with_idents};
-ghost use Rattle.rls_doc.specs.Documents.{AreNew, KeepsOrder, IsImage};
+ghost use Rattle.rls_doc.specs.Documents.{AreNew, KeepsOrder};
 
 use rls_ident::Ident;
 use rls_runs::{Run, RunList, Runs, Text};

@@ -1,5 +1,5 @@
 -- Lists of identifiers and their runs. A run is a first identifier and a length.
-use Rattle.std.specs.Prelude.{◌≡◌, length, ℕ, zero, suc, ◌+◌, ℤ, pos, ◌+ℤ◌, int_le, Bool, true, ◌&&◌, not, List, [], ◌∷◌, ◌++◌, ◌-◌, nat_lt, Option, Some, None, Result, Ok, Err, if◌then◌else◌, IsTrue}
+use Rattle.std.specs.Prelude.{◌≡◌, length, ℕ, zero, suc, ◌+◌, ℤ, pos, ◌+ℤ◌, int_le, Bool, true, ◌&&◌, not, List, [], ◌∷◌, ◌++◌, ◌-◌, nat_lt, map, Option, Some, None, Result, Ok, Err, if◌then◌else◌, IsTrue}
 use Rattle.std.specs.List.{list_all}
 use Rattle.rls_ident.specs.declared.tuple.Tuple.{Tuple}
 use Rattle.std.specs.declared.cmp.Ordering.{Ordering}
@@ -55,6 +55,11 @@ idents_of (r ∷ rs) = run_idents r.0 r.1 ++ idents_of rs
 abbrev pub are_apart : Option (List Tuple × ℕ) → List (List Tuple × ℕ) → Bool
 are_apart before [] = true
 are_apart before (r ∷ rs) = nat_lt 0 r.1 && is_apart before r && are_apart (Some r) rs
+
+-- the identifiers of these runs are those of the run, each mapped, and no run touches the one before
+pub record IsImage (f : List Tuple → List Tuple) (run : List Tuple × ℕ) (runs : List (List Tuple × ℕ)) : Type 0 where
+  pub idents : idents_of runs ≡ map f (run_idents run.0 run.1)
+  pub apart : IsTrue (are_apart None runs)
 
 -- the run behind which the next one stands, after these runs
 abbrev pub run_before : Option (List Tuple × ℕ) → List (List Tuple × ℕ) → Option (List Tuple × ℕ)
