@@ -1,7 +1,7 @@
 -- What may be stored is spelled as a journal, and its bytes are a file.
-use Rattle.std.proofs.Common.{◌≡◌, ℕ, ◌+◌, ◌^◌, ◌<◌, ◌≤◌, true, false, List, [], ◌∷◌, ◌++◌, length, Option, Some, None, refl, ap, arith, inl, inr}
+use Rattle.std.proofs.Common.{◌≡◌, ℕ, ◌+◌, ◌<◌, ◌≤◌, true, false, List, [], ◌∷◌, ◌++◌, length, Option, Some, None, refl, ap, arith, inl, inr}
 use Rattle.std.specs.Prelude.{◌&&◌, not, ◌==◌, nat_le, nat_lt, slice_index}
-use Rattle.std.specs.List.{list_all, flat_map}
+use Rattle.std.specs.List.{flat_map}
 use Rattle.std.proofs.lemmas.List.{length-append}
 use Rattle.rls_ident.specs.Lists.{IsIn}
 use Rattle.rls_ident.specs.Vectors.{at_most}
@@ -9,19 +9,17 @@ use Rattle.rls_ident.proofs.Members.{and_right, and_true, in_all, le_is, lt_test
 use Rattle.rls_ops.specs.declared.op.Op.{Op}
 use Rattle.rls_ops.specs.Shapes.{shape_fault}
 use Rattle.rls_ops.specs.Spelling.{op_bytes, four_bytes, counted}
-use Rattle.rls_ops.specs.Sizes.{op_size}
-use Rattle.rls_codec.specs.Spelled.{IsSmall, Chained, IsSpelled}
+use Rattle.rls_codec.specs.Spelled.{Chained, IsSpelled}
 use Rattle.rls_codec.proofs.SizeLaws.{op_length}
-use Rattle.rls_model.specs.History.{Entry, Accepted, Acknowledged, History, Fresh, me_of, members_of, group_of}
+use Rattle.rls_model.specs.History.{Entry, Accepted, Acknowledged, History, me_of, members_of, group_of}
 use Rattle.rls_model.specs.History.{count as count_in}
 use Rattle.rls_model.specs.Legal.{AreWaiting}
 use Rattle.rls_model.specs.Receiving.{State, comes_before}
 use Rattle.rls_parts.specs.Rules.{is_fine, waits_behind}
 use Rattle.rls_file.specs.Files.{Journal, entry_bytes, entries_of, head_bytes, journal_bytes}
 use Rattle.rls_file.specs.ReadingFiles.{may_wait}
-use Rattle.rls_file.specs.SpelledFiles.{IsSpelledJournal}
 use Rattle.rls_file.specs.FileLaws.{IsFile}
-use Rattle.rls_file.specs.StoredLaws.{IsStorable, StorableIsSpelled, StorableIsFile, FreshStored}
+use Rattle.rls_file.specs.StoredLaws.{StorableIsSpelled, StorableIsFile, FreshStored}
 use Rattle.rls_file.proofs.FileFormats.{file_reads}
 use Rattle.rls_file.proofs.LegalJournals.{legal_head, legal_readable}
 

@@ -1,8 +1,7 @@
 -- What is read as a journal is a legal history with sound waiting operations, and may be stored again.
-use Rattle.std.proofs.Common.{◌≡◌, ℕ, ◌+◌, ◌-◌, ◌^◌, ◌<◌, ◌≤◌, true, false, Bool, List, [], ◌∷◌, ◌++◌, length, Option, Some, None, refl, sym, ap, subst, ◌∙◌, arith, inl, inr}
-use Rattle.std.specs.Prelude.{pos, ◌+ℤ◌, All, ◌&&◌, not, ◌==◌, nat_le, nat_lt, slice_index, int_le, if◌then◌else◌, is_some}
-use Rattle.std.specs.List.{list_all, flat_map}
-use Rattle.std.proofs.lemmas.List.{length-append}
+use Rattle.std.proofs.Common.{◌≡◌, ℕ, ◌+◌, ◌-◌, ◌<◌, true, false, Bool, List, [], ◌∷◌, length, Option, Some, None, refl, subst, arith, inl, inr}
+use Rattle.std.specs.Prelude.{pos, ◌+ℤ◌, All, ◌&&◌, not, ◌==◌, nat_le, nat_lt, slice_index, int_le, if◌then◌else◌}
+use Rattle.std.specs.List.{list_all}
 use Rattle.std.proofs.lemmas.List.Elements.{All-cons, All-nil}
 use Rattle.rls_ident.specs.declared.tuple.Tuple.{Tuple}
 use Rattle.rls_ident.specs.declared.tuple.Tuple.TheVariants.{Low, At, High}
@@ -12,8 +11,8 @@ use Rattle.rls_ident.specs.Lists.{IsIn}
 use Rattle.rls_ident.specs.Tuples.{offset_of}
 use Rattle.rls_ident.specs.Identifiers.{is_ident, is_bounded, is_inner_bounded, last_of}
 use Rattle.rls_ident.specs.Vectors.{at_most}
-use Rattle.rls_ident.proofs.Members.{and_left, and_right, and_true, eq_is, eq_not, le_is, lt_is, lt_test, neq_test, not_is, not_le_is, none_found, not_found, not_true}
-use Rattle.rls_runs.specs.Runs.{runs_of, idents_of, are_apart, is_run, is_increasing, past_offsets, AreIdents}
+use Rattle.rls_ident.proofs.Members.{and_left, and_right, and_true, eq_is, eq_not, le_is, lt_is, not_is, not_le_is, none_found}
+use Rattle.rls_runs.specs.Runs.{runs_of, idents_of, is_run, past_offsets, AreIdents}
 use Rattle.rls_runs.proofs.RunOrder.{all_idents, idents_rise, increasing_of}
 use Rattle.rls_runs.proofs.Texts.{all_of_scalars}
 use Rattle.rls_ops.specs.declared.op.Op.{Op}
@@ -24,21 +23,20 @@ use Rattle.rls_ops.specs.declared.op.Shape.TheVariants.{Author, Context, EmptyBo
 use Rattle.rls_ops.specs.Shapes.{shape_fault, is_next_of, is_empty, body_limit, body_len, passes_end}
 use Rattle.rls_ops.specs.Same.{op_eq}
 use Rattle.rls_ops.proofs.Waiting.{before_trans}
-use Rattle.rls_codec.specs.Spelled.{IsSmall, Chained, FitsAt, FitsInner, FitTuples, FitsRun, FitsBehind, FitRuns, FitsName, FitsBody, FitsVector, IsSpelled}
+use Rattle.rls_codec.specs.Spelled.{IsSmall, Chained, FitsInner, FitTuples, FitsRun, FitsBehind, FitRuns, FitsName, FitsBody, FitsVector, IsSpelled}
 use Rattle.rls_codec.proofs.MessageFormats.{apart_from}
 use Rattle.rls_model.specs.Answers.{Reason, Forked, Own, Answer, Applies, Repeats, Waits, Refuses}
-use Rattle.rls_model.specs.History.{Entry, Accepted, Acknowledged, History, Fresh, Then, group_of, me_of, members_of, count_of}
+use Rattle.rls_model.specs.History.{Accepted, Acknowledged, History, Fresh, Then, group_of, me_of, members_of, count_of}
 use Rattle.rls_model.specs.History.{count as count_in}
 use Rattle.rls_model.specs.Fitting.{refusal}
-use Rattle.rls_model.specs.WellFormed.{IsName, IsText, IsBody, IsOp, IsVector}
-use Rattle.rls_model.specs.Legal.{MayAccept, AreWaiting, IsLegal, IsSound}
-use Rattle.rls_model.specs.Receiving.{State, answer, answer_beside, answer_after_shape, verdict_of, waiting_under, comes_before, first_ready}
+use Rattle.rls_model.specs.WellFormed.{IsName, IsBody, IsOp, IsVector}
+use Rattle.rls_model.specs.Legal.{MayAccept, AreWaiting, IsLegal}
+use Rattle.rls_model.specs.Receiving.{State, answer, answer_beside, answer_after_shape, verdict_of, waiting_under, comes_before}
 use Rattle.rls_model.proofs.WorldsLists.{index_le}
 use Rattle.rls_parts.specs.Rules.{is_fine, waits_behind}
-use Rattle.rls_file.specs.Files.{Journal}
-use Rattle.rls_file.specs.ReadingFiles.{applies, may_be_next, is_new, may_wait}
-use Rattle.rls_file.specs.SpelledFiles.{FitsEntry, IsReadable, FitWaiting, IsHead, IsSpelledJournal}
-use Rattle.rls_file.specs.FileLaws.{IsFile, AreSpelled}
+use Rattle.rls_file.specs.ReadingFiles.{applies, may_be_next, may_wait}
+use Rattle.rls_file.specs.SpelledFiles.{IsReadable, IsHead, IsSpelledJournal}
+use Rattle.rls_file.specs.FileLaws.{AreSpelled}
 use Rattle.rls_file.specs.StoredLaws.{IsStorable, SpelledIsLegal, ReadIsLegal, ReadIsStorable}
 
 -- ---- a spelled operation is well formed
@@ -108,6 +106,7 @@ pub record IsShaped (n : ℕ) (o : Op) : Type 0 where
   pub seq : 0 < o.seq
   pub context : length o.context ≡ n
   pub own : slice_index o.context o.author ≡ o.seq - 1
+  pub some : is_empty o.body ≡ false
   pub few : nat_lt (body_limit o.body) (body_len o.body) ≡ false
   pub room : passes_end o.body ≡ false
 
@@ -129,6 +128,7 @@ shaped n o e =
       seq = lt_is 0 o.seq (and_left (nat_lt 0 o.seq) (length o.context == n) q);
       context = eq_is (length o.context) n (and_right (nat_lt 0 o.seq) (length o.context == n) q);
       own = eq_is (slice_index o.context o.author) (o.seq - 1) (and_right (nat_lt 0 o.seq && (length o.context == n)) (slice_index o.context o.author == o.seq - 1) p.1);
+      some = p.2;
       few = p.3;
       room = p.4;
     }

@@ -12,7 +12,7 @@ use Rattle.rls_model.specs.Receiving.{State, first_ready}
 use Rattle.rls_model.specs.WellFormed.{IsEdit}
 use Rattle.rls_model.specs.Editing.{made, edit_fault}
 use Rattle.rls_model.specs.Taking.{Progress, take_message}
-use Rattle.rls_model.specs.EditRun.{Done, run_lines, run_edits}
+use Rattle.rls_model.specs.EditRun.{edit_within, Done, run_lines, run_edits}
 use Rattle.rls_model.specs.Laws.{AreEdits}
 use Rattle.rls_file.specs.Files.{Journal, journal_bytes}
 use Rattle.rls_file.specs.ReadingFiles.{file_of}
@@ -64,6 +64,10 @@ FreshStored = (group me members : ℕ) → IsHead 1 group members me → IsStora
 -- an edit that has no fault makes an operation that has a spelling
 abbrev pub MadeIsSpelled : Type 0
 MadeIsSpelled = (H : History) (edit : Edit) → IsLegal H → AreSpelled H → IsEdit edit → edit_fault H edit ≡ None → IsSpelled (members_of H) (made H edit)
+
+-- after an edit that has no fault, and what it makes ready, the state may be stored
+abbrev pub EditStored : Type 0
+EditStored = (t : State) (edit : Edit) → IsStorable t → IsEdit edit → edit_fault t.history edit ≡ None → IsStorable (edit_within None t edit).state
 
 -- what one of these lines is read as, at a state that may be stored, is well formed and has no fault there
 abbrev pub ReadsWell : {L F : Type 0} → (State → L → Result Edit F) → List L → Type 0
