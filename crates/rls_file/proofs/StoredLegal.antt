@@ -37,7 +37,9 @@ use Rattle.rls_parts.specs.Rules.{is_fine, waits_behind}
 use Rattle.rls_file.specs.ReadingFiles.{applies, may_be_next, may_wait}
 use Rattle.rls_file.specs.SpelledFiles.{IsReadable, IsHead, IsSpelledJournal}
 use Rattle.rls_file.specs.FileLaws.{AreSpelled}
-use Rattle.rls_file.specs.StoredLaws.{IsStorable, SpelledIsLegal, ReadIsLegal, ReadIsStorable}
+use Rattle.rls_file.specs.Files.{Journal}
+use Rattle.rls_file.proofs.FileFormats.{file_takes}
+use Rattle.rls_file.specs.StoredLaws.{IsStorable, SpelledIsLegal, ReadIsLegal, ReadIsStorable, FoundIsStorable}
 
 -- ---- a spelled operation is well formed
 
@@ -308,3 +310,6 @@ read_is_legal bytes t f = spelled_is_legal t f.0
 
 pub read_is_storable : ReadIsStorable
 read_is_storable bytes t f = spelled_storable t f.0
+
+pub found_is_storable : FoundIsStorable
+found_is_storable bytes t b e = read_is_storable bytes t (file_takes bytes (Journal t) b e)

@@ -3,15 +3,16 @@ use Rattle.std.specs.Prelude.{◌≡◌, ◌<◌, ◌≤◌, ◌^◌, ℕ, ◌+�
 use Rattle.rls_ident.specs.Lists.{IsIn}
 use Rattle.rls_ops.specs.declared.op.Op.{Op}
 use Rattle.rls_ops.specs.declared.message.Message.{Message}
+use Rattle.rls_ops.specs.Spelling.{message_bytes}
 use Rattle.rls_codec.specs.Spelled.{IsSpelled}
-use Rattle.rls_codec.specs.CodecLaws.{IsMessage}
+use Rattle.rls_codec.specs.CodecLaws.{IsBytes, IsMessage}
 use Rattle.rls_model.specs.declared.edit.Edit.{Edit}
 use Rattle.rls_model.specs.History.{Fresh, History, me_of, members_of}
 use Rattle.rls_model.specs.Legal.{IsLegal, IsSound}
 use Rattle.rls_model.specs.Receiving.{State, first_ready}
 use Rattle.rls_model.specs.WellFormed.{IsEdit}
 use Rattle.rls_model.specs.Editing.{made, edit_fault}
-use Rattle.rls_model.specs.Taking.{Progress, take_message}
+use Rattle.rls_model.specs.Taking.{Progress, message_for, take_message}
 use Rattle.rls_model.specs.EditRun.{edit_within, Done, run_lines, run_edits}
 use Rattle.rls_model.specs.Laws.{AreEdits}
 use Rattle.rls_file.specs.Files.{Journal, journal_bytes}
@@ -46,6 +47,10 @@ ReadIsLegal = (bytes : List ℕ) (t : State) → IsFile bytes (Journal t) → Is
 -- and it may be stored again
 abbrev pub ReadIsStorable : Type 0
 ReadIsStorable = (bytes : List ℕ) (t : State) → IsFile bytes (Journal t) → IsStorable t
+
+-- what is found in bytes too
+abbrev pub FoundIsStorable : Type 0
+FoundIsStorable = (bytes : List ℕ) (t : State) → IsBytes bytes → file_of bytes ≡ Ok (Journal t) → IsStorable t
 
 -- what may be stored has a spelling as a journal, unless that is too long
 abbrev pub StorableIsSpelled : Type 0
@@ -85,6 +90,10 @@ EditsStored = (t : State) (edits : List Edit) (p : Progress) → AreEdits edits 
 -- after a message of as many members was taken the state may be stored
 abbrev pub TakenStored : Type 0
 TakenStored = (t : State) (bytes : List ℕ) (m : Message) → IsMessage bytes m → m.members ≡ members_of t.history → IsStorable t → IsStorable (take_message t m).state
+
+-- the message for a member of what may be stored has a spelling
+abbrev pub SentIsMessage : Type 0
+SentIsMessage = (t : State) (to : ℕ) → IsStorable t → IsMessage (message_bytes (message_for t.history to)) (message_for t.history to)
 
 -- ---- counts
 

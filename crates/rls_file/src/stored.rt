@@ -1,12 +1,13 @@
 //! Laws of stored journals: what a command stores is a file again. Each call runs nothing and takes no memory; its contract states the fact.
 
-ghost use Rattle.rls_file.specs.StoredLaws.{SpelledIsLegal, ReadIsLegal, ReadIsStorable, StorableIsSpelled, StorableIsFile, FreshStored, MadeIsSpelled, EditStored, LinesStored, EditsStored, TakenStored, TakenCounted, LinesCounted, CountsFit};
+ghost use Rattle.rls_file.specs.StoredLaws.{SpelledIsLegal, ReadIsLegal, ReadIsStorable, FoundIsStorable, StorableIsSpelled, StorableIsFile, FreshStored, MadeIsSpelled, EditStored, LinesStored, EditsStored, TakenStored, SentIsMessage, TakenCounted, LinesCounted, CountsFit};
 
 /// What is spelled as a journal, and so what is read as one, is a legal history with sound waiting operations, and may be stored again.
 pub fn read()
     ensures spelled { SpelledIsLegal }
     ensures legal { ReadIsLegal }
     ensures storable { ReadIsStorable }
+    ensures found { FoundIsStorable }
 {}
 
 /// What may be stored has a spelling as a journal, unless that is longer than a file may be; its bytes are a file then, and are read back.
@@ -42,4 +43,9 @@ pub fn taken()
     ensures stored { TakenStored }
     ensures counted { TakenCounted }
     ensures fits { CountsFit }
+{}
+
+/// The message for a member of a state that may be stored has a spelling.
+pub fn sent()
+    ensures message { SentIsMessage }
 {}
