@@ -1,5 +1,5 @@
 -- The entries of epochs that pass their rule make a tree.
-use Rattle.std.proofs.Common.{◌≡◌, ℕ, zero, suc, ◌<◌, ◌≤◌, ◌&&◌, ◌||◌, nat_le, nat_lt, slice_index, true, false, List, [], ◌∷◌, ◌++◌, length, slice_get, get_or, append-nil, refl, sym, ap, ◌∙◌, subst, arith, inl, inr, ⊎_elim, Option, Some, None, append_assoc}
+use Rattle.std.proofs.Common.{◌≡◌, ℕ, zero, suc, ◌<◌, ◌≤◌, ◌&&◌, ◌||◌, nat_le, nat_lt, slice_index, true, false, List, [], ◌∷◌, ◌++◌, length, slice_get, get_or, append-nil, refl, sym, ap, ◌∙◌, subst, arith, inl, inr, ⊎_elim, Option, Some, None, append_assoc, length-append}
 use Rattle.std.specs.List.{list_any}
 use Rattle.std.proofs.lemmas.List.{map-append}
 use Rattle.rls_ident.specs.declared.epoch_name.EpochName.{EpochName}
@@ -137,6 +137,7 @@ once_at (f ∷ es) (suc j) (suc k) o l h e = once_at es j k o.1 (omega arith) (o
 pub record IsNodeOf (all : List EpochPart) (e : EpochPart) (n : Node) : Type 0 where
   pub place : ℕ
   pub parent : e.parent ≡ Some place
+  pub within : place < length all
   pub named : name_of n.renaming ≡ e.name
   pub older : n.parent ≡ name_or_origin (slice_get all place)
   pub former : n.renaming.former ≡ e.former
@@ -202,8 +203,11 @@ module _ (p : Parts) (all : List EpochPart) (f : EpochPart) (fs : List EpochPart
   not_kept : is_kept top ns (name_of n.renaming) ≡ true → ⊥
   not_kept h = c.new (subst (λ g. IsIn g (names_of (f ∷ fs))) mine (b.kept (name_of n.renaming) h))
 
+  within : c.place < length all
+  within = let l = c.below in let a = ap length is in let b2 = length-append (f ∷ fs) (e ∷ es) in omega arith
+
   is_node : IsNodeOf all e n
-  is_node = record { place = c.place; parent = c.parent; named = mine; older = place; former = former }
+  is_node = record { place = c.place; parent = c.parent; within = within; named = mine; older = place; former = former }
 
   older : is_kept top ns n.parent ≡ true
   older = b.named n.parent (subst (λ g. IsIn g (names_of (f ∷ fs))) (ap (λ es2. name_or_origin (slice_get es2 c.place)) (sym is) ∙ sym place) (place_named (f ∷ fs) (e ∷ es) c.place c.below))

@@ -59,7 +59,7 @@ without_push me [] row h = absurd (omega arith)
 without_push zero (x ∷ rows) row h = refl
 without_push (suc me) (x ∷ rows) row h = ap (λ rs. x ∷ rs) (without_push me rows row (omega arith))
 
-length-without_at : (me : ℕ) (rows : List (List ℕ)) → me < length rows → suc (length (without_at me rows)) ≡ length rows
+pub length-without_at : (me : ℕ) (rows : List (List ℕ)) → me < length rows → suc (length (without_at me rows)) ≡ length rows
 length-without_at me [] h = absurd (omega arith)
 length-without_at zero (x ∷ rows) h = refl
 length-without_at (suc me) (x ∷ rows) h = ap suc (length-without_at me rows (omega arith))

@@ -53,7 +53,7 @@ at_behind me i h =
     let e : nat_lt i me ≡ false = not_true (nat_lt i me) (λ q. let l = lt_is i me q in absurd (omega arith)) in
     ap (λ b. if b then i else i + 1) e ∙ (omega arith)
 
-if_other : (b : Bool) (x y : List ℕ) → b ≡ false → (if b then x else y) ≡ y
+pub if_other : (b : Bool) (x y : List ℕ) → b ≡ false → (if b then x else y) ≡ y
 if_other b x y e = ap (λ c. if c then x else y) e
 
 -- the row at a place is that of the member there
