@@ -19,7 +19,7 @@ abbrev pub marks_of : List ℕ → ℕ → List Bool
 marks_of ms zero = []
 marks_of ms (suc n) = marks_of ms n ++ has_member ms n ∷ []
 
--- the rows and who has left; the own place isn't used and has no count
+-- the rows and who has left; the own place, which isn't used, counts nothing
 abbrev pub acks_of : Parts → AcksSeen
 acks_of p = record {
   me = p.me;
