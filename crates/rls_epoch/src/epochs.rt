@@ -1,15 +1,17 @@
 //! The tree of the epochs that are kept.
 
-ghost use Rattle.std.specs.Prelude.{◌≡◌, ℕ, ◌+◌, ◌-◌, ◌<◌, ◌^◌, suc, [], ◌∷◌, length, IfOk, OnOk, OnErr, IsTrue, IsFalse, ◌||◌};
+ghost use Rattle.std.specs.Prelude.{◌≡◌, ℕ, List, ◌+◌, ◌-◌, ◌<◌, ◌^◌, suc, [], ◌∷◌, length, IfOk, OnOk, OnErr, IsTrue, IsFalse, ◌||◌};
 ghost use Rattle.rls_ident.specs.declared.epoch_name.EpochName.{EpochName};
 ghost use Rattle.rls_ident.specs.EpochNames.{name_eq};
 ghost use Rattle.rls_rename.specs.Tree.{Node, IsTree, is_kept, epoch_cmp, greatest, greatest_within};
 ghost use Rattle.rls_ident.specs.EpochNames.{is_of_member};
-ghost use Rattle.rls_epoch.specs.Seen.{former_sum};
+ghost use Rattle.rls_epoch.specs.Seen.{former_sum, OpensGreatest};
+ghost use Rattle.rls_ident.specs.declared.tuple.Tuple.{Tuple};
+ghost use Rattle.rls_rename.specs.Renaming.{IsFormer};
 ghost use Rattle.rls_rename.specs.Tree.{translate};
 
 use crate::marks::clear;
-use crate::nodes::{compare, copied, greatest_in, has_node, later_of, number_of};
+use crate::nodes::{compare, copied, greatest_in, has_node, later_of, number_of, opens_above};
 use crate::placed::Placed;
 use crate::ways::{ident_led, way_between};
 use rls_ident::{EpochName, Ident, Vector};
@@ -115,6 +117,21 @@ impl Epochs {
         ensures greatest { result ≡ greatest self.now.epochs.top self.now.epochs.nodes }
     {
         self.greatest
+    }
+
+    /// Whether the epoch that a rename would open in another is greater than all that are kept. It
+    /// takes no memory, and costs a few comparisons of names for each node.
+    pub fn opens_greatest(&self, replica: u32, seq: u32, parent: EpochName) -> bool
+        requires fresh { IsFalse (is_kept self.now.epochs.top self.now.epochs.nodes (EpochName.Of replica seq)) }
+        requires parent { IsTrue (is_kept self.now.epochs.top self.now.epochs.nodes parent) }
+        ensures greatest { (former : List (List Tuple)) → IsFormer former → OpensGreatest result self.now.epochs parent (record { former = former; replica = replica; seq = seq }) }
+    {
+        opens_above(
+            &self.nodes,
+            self.greatest,
+            parent,
+            EpochName::Of { replica, seq },
+        )
     }
 
     /// The greatest epoch within a vector that counts the replica of each kept epoch, or the topmost

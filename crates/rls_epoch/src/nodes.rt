@@ -1,6 +1,7 @@
 //! The nodes of a tree, of which the latest stands last.
 
 ghost use Rattle.std.specs.Prelude.{◌≡◌, ◌≤◌, Some, IfOk, IsTrue, true, length};
+ghost use Rattle.std.specs.Ordering.{is_lt};
 ghost use Rattle.rls_rename.specs.Tree.{has_node, is_kept, AreNodes, epoch_cmp, later_of, greatest_within};
 ghost use Rattle.rls_ident.specs.declared.epoch_name.EpochName.{EpochName};
 ghost use Rattle.rls_ident.specs.EpochNames.{is_of_member};
@@ -70,6 +71,22 @@ fn met(nodes: &[Placed], first: Climb, second: Climb) -> Ordering
         rest = older;
     }
     left.compare(right)
+}
+
+// Whether an epoch that is to be opened in another is greater than this one.
+pub(crate) fn opens_above(
+    nodes: &[Placed],
+    name: EpochName,
+    parent: EpochName,
+    opened: EpochName,
+) -> bool
+    ensures above { result ≡ is_lt (meet_cmp (nodes_of nodes.now) (climb_from name) (record { at = parent; below = Some opened })) }
+{
+    let climb = Climb {
+        at: parent,
+        below: Some(opened),
+    };
+    met(nodes, climb_from(name), climb).is_lt()
 }
 
 // The greater of two epochs.
