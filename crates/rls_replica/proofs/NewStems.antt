@@ -1,5 +1,5 @@
 -- What an operation that may be applied uses is new and short enough for the table of stems.
-use Rattle.std.proofs.Common.{◌≡◌, ℕ, ◌^◌, ◌<◌, ◌≤◌, slice_index, false, subst, arith}
+use Rattle.std.proofs.Common.{◌≡◌, ◌^◌, ◌<◌, ◌≤◌, slice_index, false, subst, arith}
 use Rattle.std.specs.Prelude.{nat_lt}
 use Rattle.rls_ident.proofs.Members.{not_lt_is}
 use Rattle.rls_ops.specs.declared.op.Op.{Op}
