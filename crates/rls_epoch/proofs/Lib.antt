@@ -1,6 +1,12 @@
-pub mod Greatest
+pub mod Added
+pub mod Moving
+pub mod Found
 pub mod Laid
 pub mod Meeting
+pub mod Reading
+pub mod RunsAgain
+pub mod Sorting
+pub mod Ordering
+pub mod Orders
+pub mod Steps
 pub mod Whole
-pub mod Within
-pub mod Unmarked

@@ -1,57 +1,74 @@
-//! The way from an epoch up to the topmost one.
+//! The order of two epochs, by the ways up from both.
 
-ghost use Rattle.std.specs.Prelude.{◌≡◌};
-ghost use Rattle.rls_epoch.specs.Climbing.{name_cmp, side_cmp, climbed, climb_from};
-ghost use Rattle.rls_epoch.specs.Seen.{node_of};
+ghost use Rattle.std.specs.Prelude.{◌≡◌, ◌-◌, ◌<◌, ◌≤◌, length, IfSome, Some};
+ghost use Rattle.std.specs.Option.{option_map};
+ghost use Rattle.rls_rename.specs.Tree.{epoch_cmp};
+ghost use Rattle.rls_epoch.specs.Climbing.{name_cmp, side_cmp};
+ghost use Rattle.rls_epoch.specs.Links.{epoch_at, up_at};
+ghost use Rattle.rls_epoch.specs.Seen.{nodes_of, AreLaid};
+ghost use Rattle.rls_epoch.specs.Sorted.{place_name};
 
-use crate::placed::Placed;
+use crate::placed::{Placed, name_of};
 use rls_ident::EpochName;
 use std::cmp::Ordering;
 
-// An epoch on the way, and its child on the way where it isn't the first one.
+// The number of an epoch on the way, and the place of its child on the way where it isn't the first one.
 #[derive(Clone, Copy)]
-pub(crate) struct Climb {
-    pub(crate) at: EpochName,
-    pub(crate) below: Option<EpochName>,
-}
-
-// The way from this epoch on.
-pub(crate) fn climb_from(at: EpochName) -> Climb
-    ensures start { result ≡ climb_from at }
-{
-    Climb { at, below: None }
+struct Climb {
+    at: usize,
+    below: Option<usize>,
 }
 
 impl Climb {
-    // One step up, where the node is reached.
-    pub(crate) fn climbed(self, node: &Placed) -> Climb
-        ensures climbed { result ≡ climbed self (node_of node.now) }
+    // One step up.
+    fn climbed(self, nodes: &[Placed]) -> Climb
+        requires some { 0 < self.at }
+        requires within { self.at ≤ length nodes.now }
+        ensures at { result.at ≡ up_at nodes.now (self.at - 1) }
+        ensures below { result.below ≡ Some (self.at - 1) }
     {
-        if node.is_of(self.at) {
-            Climb {
-                at: node.parent,
-                below: Some(node.name()),
-            }
-        } else {
-            self
+        let place = self.at - 1;
+        Climb {
+            at: nodes[place].up,
+            below: Some(place),
         }
     }
+}
 
-    // The order of the children on two ways that have met.
-    pub(crate) fn compare(self, other: Climb) -> Ordering
-        ensures order { result ≡ side_cmp self.below other.below }
-    {
-        match (self.below, other.below) {
-            (None, None) => Ordering::Equal,
-            (None, Some(_)) => Ordering::Less,
-            (Some(_), None) => Ordering::Greater,
-            (Some(a), Some(b)) => name_cmp(a, b),
+// The order of two epochs, by their numbers. It costs a step for each epoch on the way between them.
+pub(crate) fn compare(top: EpochName, nodes: &[Placed], a: usize, b: usize) -> Ordering
+    requires laid { AreLaid top nodes.now }
+    requires first { a ≤ length nodes.now }
+    requires second { b ≤ length nodes.now }
+    ensures order { result ≡ epoch_cmp (nodes_of nodes.now) (epoch_at top nodes.now a) (epoch_at top nodes.now b) }
+{
+    let (mut left, mut right) = (Climb { at: a, below: None }, Climb { at: b, below: None });
+    while left.at != right.at {
+        if right.at < left.at {
+            left = left.climbed(nodes);
+        } else {
+            right = right.climbed(nodes);
         }
+    }
+    compare_sides(nodes, left.below, right.below)
+}
+
+// The order of the children at these places of the epoch at which two ways meet.
+fn compare_sides(nodes: &[Placed], a: Option<usize>, b: Option<usize>) -> Ordering
+    requires first { IfSome a (λ k. k < length nodes.now) }
+    requires second { IfSome b (λ k. k < length nodes.now) }
+    ensures order { result ≡ side_cmp (option_map (place_name nodes.now) a) (option_map (place_name nodes.now) b) }
+{
+    match (a, b) {
+        (None, None) => Ordering::Equal,
+        (None, Some(_)) => Ordering::Less,
+        (Some(_), None) => Ordering::Greater,
+        (Some(x), Some(y)) => compare_names(name_of(nodes, x), name_of(nodes, y)),
     }
 }
 
 // By replica, then by number.
-fn name_cmp(a: EpochName, b: EpochName) -> Ordering
+pub(crate) fn compare_names(a: EpochName, b: EpochName) -> Ordering
     ensures order { result ≡ name_cmp a b }
 {
     match (a, b) {

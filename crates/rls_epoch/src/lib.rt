@@ -4,8 +4,10 @@
 
 mod climb;
 mod epochs;
-mod marks;
+mod greatest;
+mod images;
 mod nodes;
 mod placed;
+mod ways;
 
 pub use epochs::Epochs;

@@ -1,0 +1,9 @@
+use Rattle.std.proofs.Common.{vec_len, ap, ◌∙◌}
+use Rattle.rls_epoch.specs.Seen.{marks_of}
+use Rattle.rls_epoch.proofs.Whole.{marks_none}
+use Rattle.rls_epoch.proofs.epochs.Epochs.clear_marks.Goals as goal
+
+pub returns-clause-marks : goal.returns-clause-marks
+returns-clause-marks c =
+    let s = c.self.inside in
+    ap (marks_of s.top s.nodes.items) (c.fill.ensures.items (λ y e. e)) ∙ marks_none s.top s.nodes.items (vec_len s.marks)
