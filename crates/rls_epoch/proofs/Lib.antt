@@ -10,3 +10,5 @@ pub mod Ordering
 pub mod Orders
 pub mod Steps
 pub mod Whole
+pub mod GreatestAdded
+pub mod Opened

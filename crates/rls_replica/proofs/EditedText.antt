@@ -1,7 +1,6 @@
 -- The text after an edit.
-use Rattle.std.proofs.Common.{◌≡◌, ℕ, zero, suc, ◌+◌, ◌≤◌, ◌<◌, Bool, true, false, List, [], ◌∷◌, ◌++◌, map, length, take, drop, cond, refl, sym, ap, ◌∙◌, subst, inl, inr, ⊎_elim, arith}
+use Rattle.std.proofs.Common.{◌≡◌, ℕ, zero, suc, ◌+◌, ◌≤◌, ◌<◌, Bool, true, false, List, [], ◌∷◌, ◌++◌, map, length, take, drop, cond, refl, sym, ap, ◌∙◌, subst, inl, inr, ⊎_elim}
 use Rattle.std.specs.Prelude.{filter, not, ◌==◌, nat_lt, None, pos, slice_get, zip, if◌then◌else◌}
-use Rattle.std.specs.List.{list_any}
 use Rattle.std.specs.Ordering.{is_eq}
 use Rattle.std.proofs.lemmas.Cmp.{lists_total, tied_itself}
 use Rattle.std.proofs.lemmas.List.{drop-drop, take-append-drop}
@@ -13,7 +12,6 @@ use Rattle.rls_ident.proofs.Lists.{Lt, lt_irrefl}
 use Rattle.rls_ident.proofs.Members.{any_in, in_any, in_drop, in_left, in_map, in_right, in_split, in_take, map_in, not_true, not_lt_is, take_or_drop}
 use Rattle.rls_ident.proofs.Tuples.{tuples, tuple_total}
 use Rattle.rls_rename.proofs.Growth.{translate_same}
-use Rattle.rls_ops.specs.declared.op.Op.{Op}
 use Rattle.rls_runs.specs.Entries.{has_ident, put_all, without_all, with_idents}
 use Rattle.rls_runs.specs.Runs.{run_idents}
 use Rattle.rls_runs.proofs.Sorted.{Entry, IsBelow, Rises, in_put_all, put_all_in, same_rising}
@@ -31,7 +29,7 @@ use Rattle.rls_model.proofs.Spliced.{ids, entries, chars-entries, below_at, entr
 use Rattle.rls_seen.specs.Edits.{made_over, op_fault_over, edit_fault_over, edited}
 use Rattle.rls_seen.specs.Over.{accepted, placed_over, added_over, renamed_over, is_greatest_over}
 use Rattle.rls_seen.specs.Sane.{IsSane}
-use Rattle.rls_seen.specs.Seen.{Seen, own_count, greatest_over, idents_over, text_over, translate_over}
+use Rattle.rls_seen.specs.Seen.{Seen, own_count, greatest_over, idents_over, text_over}
 use Rattle.rls_seen.proofs.Making.{made_may, edited_sane}
 use Rattle.rls_seen.proofs.TextLists.{rises_of, ident_in}
 use Rattle.rls_replica.specs.Editing.{edited_text}

@@ -1,10 +1,9 @@
-use Rattle.std.proofs.Common.{◌≡◌, ◌∙◌, ap, sym, subst, None}
+use Rattle.std.proofs.Common.{◌≡◌, ◌∙◌, ap, subst, None}
 use Rattle.std.proofs.lemmas.Result.{err_from_is_err_and}
 use Rattle.rls_model.specs.declared.edit.Edit.{Edit}
-use Rattle.rls_seen.specs.Edits.{edit_fault_over, edited}
-use Rattle.rls_seen.specs.Seen.{Seen, text_over}
+use Rattle.rls_seen.specs.Edits.{edit_fault_over}
+use Rattle.rls_seen.specs.Seen.{text_over}
 use Rattle.rls_seen.proofs.Editing.{edited_stands}
-use Rattle.rls_replica.specs.Editing.{IsOneRun}
 use Rattle.rls_replica.proofs.EditLaws.{refused_alike, one_run}
 use Rattle.rls_replica.proofs.EditedText.{text-edited}
 use Rattle.rls_replica.proofs.replica.Replica.edit.Goals as goal
