@@ -1,6 +1,6 @@
 use Rattle.std.proofs.lemmas.Result.{IfOk-weaker}
 use Rattle.rls_rename.proofs.Ways.{forward_way, back_way}
-use Rattle.rls_rename.proofs.renaming.Renaming.of_front.Goals as goal
+use Rattle.rls_rename.proofs.renaming.Renaming.renamed_front.Goals as goal
 
 pub returns-in-Forward : goal.returns-in-Forward
 returns-in-Forward c =

@@ -1,7 +1,7 @@
 use Rattle.std.proofs.Common.{◌≡◌, ◌-◌, ◌<◌, ◌≤◌, map}
 use Rattle.rls_runs.specs.Runs.{run_idents, idents_of}
 use Rattle.rls_rename.specs.Ways.{renamed}
-use Rattle.rls_rename.proofs.renaming.Renaming.of_run.Given as goal
+use Rattle.rls_rename.proofs.renaming.Renaming.renamed_run.Given as goal
 
 -- so many identifiers of the run, from the first one on, were renamed
 abbrev pub invariant-loop-done : goal.invariant-loop-done

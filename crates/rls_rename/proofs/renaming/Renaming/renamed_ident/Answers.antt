@@ -1,7 +1,7 @@
 use Rattle.std.proofs.Common.{◌≡◌, ap, ◌∙◌}
 use Rattle.rls_rename.specs.Ways.{renamed}
 use Rattle.rls_rename.proofs.Stretches.{goes_first}
-use Rattle.rls_rename.proofs.renaming.Renaming.of_one.Goals as goal
+use Rattle.rls_rename.proofs.renaming.Renaming.renamed_ident.Goals as goal
 
 pub returns : goal.returns
 returns c =

@@ -6,7 +6,7 @@ use Rattle.rls_rename.specs.Renaming.{IsFormer}
 use Rattle.rls_rename.specs.Stretches.{GoesAlong}
 use Rattle.rls_rename.specs.Ways.{renamed}
 use Rattle.rls_rename.proofs.Ways.{first_image, next_image, next_above}
-use Rattle.rls_rename.proofs.renaming.Renaming.of_run.Goals as goal
+use Rattle.rls_rename.proofs.renaming.Renaming.renamed_run.Goals as goal
 
 pub loop-done-init : goal.loop-done-init
 loop-done-init c =
