@@ -127,7 +127,7 @@ impl BlockTree {
             return Ok(len);
         }
         match run.find(&self.ident(i)?) {
-            Err(below) => Ok(below),
+            Err(next) => Ok(next),
             Ok(place) => {
                 let part = self.run_from(i, len - place)?;
                 self.remove_piece(i, part.len())?;

@@ -11,9 +11,9 @@ use crate::node::{Link, Node, chars_of};
 use rls_ident::Ident;
 use rls_runs::Run;
 
-#[tactic(auto, using(crate::proofs::Pieces::chars_append))]
 /// A tree in front of a place, the block in which the place stands if it isn't in front of a block, and
 /// the tree behind it. It costs a step for each level.
+#[tactic(auto, using(crate::proofs::Pieces::chars_append))]
 pub(crate) fn split(link: Link, i: u64) -> (Link, Option<Box<Node>>, Link)
     requires place { i ≤ length (entries_of (pieces link)) }
     ensures blocks { pieces link ≡ pieces result.0 ++ pieces result.1 ++ pieces result.2 }
@@ -42,8 +42,8 @@ pub(crate) fn split(link: Link, i: u64) -> (Link, Option<Box<Node>>, Link)
     (Some(join(left, node, near)), own, far)
 }
 
-#[tactic(auto, using(crate::proofs::Pieces::chars_append))]
 /// All blocks but the last, and the last alone. It costs a step for each level.
+#[tactic(auto, using(crate::proofs::Pieces::chars_append))]
 pub(crate) fn last_out(mut node: Box<Node>) -> (Link, Box<Node>)
     ensures blocks { node.value.blocks ≡ pieces result.0 ++ result.1.value.blocks }
     ensures one { length result.1.value.blocks ≡ 1 }
@@ -56,8 +56,8 @@ pub(crate) fn last_out(mut node: Box<Node>) -> (Link, Box<Node>)
     (Some(join(left, node, rest)), last)
 }
 
-#[tactic(auto, using(crate::proofs::Pieces::chars_append))]
 /// The first block alone, and all others. It costs a step for each level.
+#[tactic(auto, using(crate::proofs::Pieces::chars_append))]
 pub(crate) fn first_out(mut node: Box<Node>) -> (Box<Node>, Link)
     ensures blocks { node.value.blocks ≡ result.0.value.blocks ++ pieces result.1 }
     ensures one { length result.0.value.blocks ≡ 1 }
@@ -70,8 +70,8 @@ pub(crate) fn first_out(mut node: Box<Node>) -> (Box<Node>, Link)
     (first, Some(join(rest, node, right)))
 }
 
-#[tactic(auto, using(crate::proofs::Pieces::chars_append))]
 /// Two trees, one behind the other. It costs a step for each level.
+#[tactic(auto, using(crate::proofs::Pieces::chars_append))]
 pub(crate) fn concat(front: Link, behind: Link) -> Link
     requires chars_fit { length (entries_of (pieces front ++ pieces behind)) < 2 ^ 64 }
     ensures blocks { pieces result ≡ pieces front ++ pieces behind }

@@ -62,7 +62,7 @@ returns-in-Err-clause-more c =
     let count = sym c.count_below-i.ensures.count in
     let x = c.in_ok-ident.field-0 in
     let there = c.in_ok-ident.ensures.ident in
-    let j = c.in-Err.below in
+    let j = c.in-Err.next in
     let f : find_ident ids x ≡ Err j = sym c.in-Err.ensures.find in
     let m = missed es ids i c.args.done first rising own at count x there j f in
     m.0
@@ -80,7 +80,7 @@ returns-in-Err-clause-within c =
     let count = sym c.count_below-i.ensures.count in
     let x = c.in_ok-ident.field-0 in
     let there = c.in_ok-ident.ensures.ident in
-    let j = c.in-Err.below in
+    let j = c.in-Err.next in
     let f : find_ident ids x ≡ Err j = sym c.in-Err.ensures.find in
     let m = missed es ids i c.args.done first rising own at count x there j f in
     let o = place_most ids x j (inr f) in
@@ -100,7 +100,7 @@ returns-in-Err-clause-ok c =
     let count = sym c.count_below-i.ensures.count in
     let x = c.in_ok-ident.field-0 in
     let there = c.in_ok-ident.ensures.ident in
-    let j = c.in-Err.below in
+    let j = c.in-Err.next in
     let f : find_ident ids x ≡ Err j = sym c.in-Err.ensures.find in
     let m = missed es ids i c.args.done first rising own at count x there j f in
     m.1
