@@ -4,6 +4,7 @@
 mod head;
 mod journal;
 pub mod laws;
+pub mod stored;
 mod writing;
 
 pub use journal::Note;
