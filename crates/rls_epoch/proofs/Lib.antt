@@ -10,3 +10,7 @@ pub mod Ordering
 pub mod Orders
 pub mod Steps
 pub mod Whole
+pub mod Counting
+pub mod Spreading
+pub mod Needed
+pub mod Compacting

@@ -1,5 +1,6 @@
 pub mod Climbing
 pub mod Links
+pub mod Marks
 pub mod Seen
 pub mod Sorted
 pub mod Ways

@@ -5,7 +5,7 @@ ghost use Rattle.rls_ident.specs.declared.epoch_name.EpochName.{EpochName};
 ghost use Rattle.rls_ident.specs.EpochNames.{name_eq, is_of_member};
 ghost use Rattle.rls_runs.specs.Runs.{IsImage};
 ghost use Rattle.rls_rename.specs.Tree.{Node, IsTree, is_kept, epoch_cmp, greatest, greatest_within, translate};
-ghost use Rattle.rls_epoch.specs.Seen.{former_sum, rising_epochs};
+ghost use Rattle.rls_epoch.specs.Seen.{former_sum, is_marked, rising_epochs};
 
 use crate::climb::compare;
 use crate::greatest::{greatest, greatest_in};
@@ -221,6 +221,23 @@ impl Epochs {
         ensures marks { self.new.marks ≡ [] }
     {
         self.marks.fill(0);
+    }
+
+    /// Marks a kept epoch. It takes no memory, and costs a comparison of names for each halving of the
+    /// nodes.
+    pub fn mark(&mut self, name: EpochName)
+        requires kept { IsTrue (is_kept self.old.epochs.top self.old.epochs.nodes name) }
+        ensures epochs { self.new.epochs ≡ self.old.epochs }
+        ensures marks { (e : EpochName) → is_marked self.new.marks e ≡ (name_eq name e || is_marked self.old.marks e) }
+    {
+        let number = number_of(
+            self.top,
+            self.nodes.as_slice(),
+            self.by_name.as_slice(),
+            name,
+        );
+        let _count = self.nodes.len();
+        self.marks[number] = 1;
     }
 
     /// The number of epochs, the topmost one among them.
