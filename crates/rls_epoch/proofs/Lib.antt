@@ -14,3 +14,5 @@ pub mod Counting
 pub mod Spreading
 pub mod Needed
 pub mod Compacting
+pub mod Numbers
+pub mod Shrinking

@@ -47,6 +47,12 @@ numbered n [] = []
 numbered n (zero ∷ marks) = zero ∷ numbered n marks
 numbered n (suc m ∷ marks) = suc n ∷ numbered (suc n) marks
 
+-- these are the numbers of the marks of what e and these span, and that with this number is the topmost of it
+pub record AreNumbered (top : EpochName) (ps : List Placed) (numbers : List ℕ) (n : ℕ) (e : EpochName) (es : List EpochName) : Type 0 where
+  pub marks : List ℕ
+  pub numbers_are : numbers ≡ numbered 0 marks
+  pub spread : AreSpread top ps marks n e es
+
 -- ---- what is kept, where the topmost epoch has the first mark
 
 -- the node, with the new number of its parent

@@ -5,13 +5,15 @@ ghost use Rattle.rls_ident.specs.declared.epoch_name.EpochName.{EpochName};
 ghost use Rattle.rls_ident.specs.EpochNames.{name_eq, is_of_member};
 ghost use Rattle.rls_runs.specs.Runs.{IsImage};
 ghost use Rattle.rls_rename.specs.Tree.{Node, IsTree, is_kept, epoch_cmp, greatest, greatest_within, translate};
+ghost use Rattle.rls_rename.specs.Keeping.{kept_part};
 ghost use Rattle.rls_epoch.specs.Seen.{former_sum, is_marked, rising_epochs};
 
 use crate::climb::compare;
 use crate::greatest::{greatest, greatest_in};
 use crate::images::{run_led, runs_led};
+use crate::keeping::{former_kept, keep_nodes, keep_places, number_needed};
 use crate::nodes::{copied, epochs_below, find, names_below, number_of};
-use crate::placed::Placed;
+use crate::placed::{Placed, epoch_of};
 use crate::ways::{ident_led, way_between};
 use rls_ident::{EpochName, Ident, Vector};
 use rls_rename::Renaming;
@@ -238,6 +240,30 @@ impl Epochs {
         );
         let _count = self.nodes.len();
         self.marks[number] = 1;
+    }
+
+    /// Keeps the smallest connected part that holds the greatest epoch, those that are marked, and each
+    /// that is at least the greatest one within the vector, and takes all marks away. The vector
+    /// counts the replica of each kept epoch. It takes no memory, and goes over the epochs a few times.
+    pub fn keep(&mut self, stable: &Vector)
+        requires members { (e : EpochName) → IsTrue (is_kept self.old.epochs.top self.old.epochs.nodes e) → IsTrue (is_of_member (length stable.now) e) }
+        ensures epochs { self.new.epochs ≡ kept_part self.old.epochs stable.now self.old.marks }
+        ensures marks { self.new.marks ≡ [] }
+    {
+        let number = number_needed(
+            self.top,
+            self.nodes.as_slice(),
+            self.order.as_slice(),
+            self.marks.as_mut_slice(),
+            stable,
+        );
+        self.total = former_kept(self.nodes.as_slice(), self.marks.as_slice());
+        self.top = epoch_of(self.top, self.nodes.as_slice(), number);
+        keep_nodes(&mut self.nodes, self.marks.as_slice());
+        keep_places(&mut self.by_name, self.marks.as_slice());
+        keep_places(&mut self.order, self.marks.as_slice());
+        self.marks.truncate(self.nodes.len() + 1);
+        self.marks.fill(0);
     }
 
     /// The number of epochs, the topmost one among them.

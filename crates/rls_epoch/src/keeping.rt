@@ -1,19 +1,23 @@
 //! What is kept of a tree. The marks are those of the kept epochs, each its new number and one more.
 
-ghost use Rattle.std.specs.Prelude.{◌≡◌, ◌<◌, ◌≤◌, ◌+◌, ◌-◌, ◌^◌, ℕ, suc, [], ◌∷◌, ◌++◌, Some, IfOk, length, drop, nat_lt, slice_get, slice_index, if◌then◌else◌};
+ghost use Rattle.std.specs.Prelude.{◌≡◌, ◌<◌, ◌≤◌, ◌+◌, ◌-◌, ◌^◌, ℕ, suc, [], ◌∷◌, ◌++◌, Some, IfOk, length, drop, nat_lt, slice_get, slice_index, if◌then◌else◌, IsTrue, List};
 ghost use Rattle.rls_ident.specs.declared.epoch_name.EpochName.{EpochName};
+ghost use Rattle.rls_ident.specs.EpochNames.{is_of_member};
 ghost use Rattle.rls_ident.specs.Lists.{IsIn};
+ghost use Rattle.rls_rename.specs.Keeping.{reached};
+ghost use Rattle.rls_rename.specs.Tree.{epoch_cmp, greatest, is_kept};
 ghost use Rattle.rls_epoch.specs.declared.placed.Placed.{Placed};
-ghost use Rattle.rls_epoch.specs.Marks.{numbered, mark_count, kept_placed, kept_places, kept_names, kept_sum};
-ghost use Rattle.rls_epoch.specs.Seen.{former_sum, nodes_of};
-ghost use Rattle.rls_epoch.specs.Sorted.{place_name};
+ghost use Rattle.rls_epoch.specs.Marks.{AreNamed, AreNumbered, numbered, mark_count, kept_placed, kept_places, kept_names, kept_sum};
+ghost use Rattle.rls_epoch.specs.Seen.{former_sum, nodes_of, AreLaid};
+ghost use Rattle.rls_epoch.specs.Sorted.{place_name, AreSorted};
 
+use crate::marks::mark_needed;
 use crate::placed::{Placed, name_of};
-use rls_ident::EpochName;
+use rls_ident::{EpochName, Vector};
 use std::alloc::{AllocError, Global};
 
 // Numbers the marks, from 1 on.
-pub(crate) fn number_marks(marks: &mut [usize])
+fn number_marks(marks: &mut [usize])
     ensures numbered { marks.new ≡ numbered 0 marks.old }
 {
     let mut count = 0;
@@ -24,6 +28,26 @@ pub(crate) fn number_marks(marks: &mut [usize])
         count += 1;
         marks[i] = count;
     }
+}
+
+// Marks what is needed, numbers the marks from 1 on, and answers the number of the topmost epoch of it.
+pub(crate) fn number_needed(
+    top: EpochName,
+    nodes: &[Placed],
+    order: &[usize],
+    marks: &mut [usize],
+    v: &Vector,
+) -> usize
+    requires laid { AreLaid top nodes.now }
+    requires sorted { AreSorted (epoch_cmp (nodes_of nodes.now)) nodes.now order.now }
+    requires members { (e : EpochName) → IsTrue (is_kept top (nodes_of nodes.now) e) → IsTrue (is_of_member (length v.now) e) }
+    requires whole { length marks.old ≡ suc (length nodes.now) }
+    ensures within { result ≤ length nodes.now }
+    ensures needed { (es : List EpochName) → AreNamed top nodes.now marks.old es → AreNumbered top nodes.now marks.new result (greatest top (nodes_of nodes.now)) (reached (record { top = top; nodes = nodes_of nodes.now }) v.now ++ es) }
+{
+    let number = mark_needed(top, nodes, order, marks, v);
+    number_marks(marks);
+    number
 }
 
 // The mark of a number.
