@@ -16,3 +16,5 @@ pub mod Needed
 pub mod Compacting
 pub mod Numbers
 pub mod Shrinking
+pub mod GreatestAdded
+pub mod Opened

@@ -11,14 +11,16 @@ use Rattle.std.proofs.lemmas.List.{append-nil, append_assoc, map-append, reverse
 use Rattle.rls_ident.specs.declared.epoch_name.EpochName.{EpochName}
 use Rattle.rls_ident.specs.EpochNames.{name_eq}
 use Rattle.rls_ident.proofs.Named.{name_eq_is, name_eq_refl}
-use Rattle.rls_ident.proofs.Members.{not_true, some_is}
+use Rattle.rls_ident.proofs.Members.{not_true, some_is, true_false}
 use Rattle.rls_rename.specs.Renaming.{Renaming}
-use Rattle.rls_rename.specs.Tree.{Node, name_of, has_node, AreNodes, path, renaming_cmp, epoch_cmp}
+use Rattle.rls_rename.specs.Tree.{Node, name_of, is_of, has_node, AreNodes, path, renaming_cmp, epoch_cmp}
+use Rattle.rls_rename.proofs.Growth.{path_child, path_other}
 use Rattle.rls_rename.proofs.Order.{front_same}
 use Rattle.rls_rename.proofs.SameNodes.{same_names, node_named, path_member}
 use Rattle.rls_epoch.specs.declared.climb.Climb.{Climb}
 use Rattle.rls_epoch.specs.declared.placed.Placed.{Placed}
 use Rattle.rls_epoch.specs.Climbing.{side_cmp}
+pub use Rattle.rls_epoch.specs.Climbs.{StartsAt, IsAbove, AreTwo, below_or}
 use Rattle.rls_epoch.specs.Links.{name_at, epoch_at, up_at}
 use Rattle.rls_epoch.specs.Seen.{node_of, nodes_of, AreLaid}
 use Rattle.rls_epoch.specs.Sorted.{place_name}
@@ -104,15 +106,6 @@ places_apart ps d h k p q g j n e =
 
 -- ---- ways up
 
--- what was passed begins at the child at this place
-abbrev StartsAt : List Placed → Option ℕ → List Renaming → Type 0
-StartsAt ps None Xs = Xs ≡ []
-StartsAt ps (Some h) Xs = (p : Placed) × (Ys : List Renaming) × (slice_get ps h ≡ Some p) × (Xs ≡ p.renaming ∷ Ys)
-
--- from the epoch up to this one
-abbrev pub IsAbove : EpochName → List Placed → EpochName → Climb → Type 0
-IsAbove top ps e c = (Xs : List Renaming) × (path (nodes_of ps) e ≡ path (nodes_of ps) (epoch_at top ps c.at) ++ Xs) × StartsAt ps c.below Xs
-
 pub above_itself : (top : EpochName) (ps : List Placed) (n : ℕ) → IsAbove top ps (epoch_at top ps n) (record { at = n; below = None })
 above_itself top ps n = ([], sym (append-nil (path (nodes_of ps) (epoch_at top ps n))), refl)
 
@@ -132,11 +125,6 @@ above_more top ps l e c d h w a b i =
       i.1 ∙ (ap (λ z. z ++ i.0) one ∙ append_assoc (path ns (epoch_at top ps d.at)) (p.renaming ∷ []) i.0),
       subst (λ o. StartsAt ps o (p.renaming ∷ i.0)) (sym b) (p, i.0, r.1, refl),
     )
-
--- the places of the children are two, where there are two
-abbrev pub AreTwo : Option ℕ → Option ℕ → Type 0
-AreTwo (Some h) (Some k) = h ≡ k → ⊥
-AreTwo _ _ = Unit {0}
 
 below_is : (ps : List Placed) (o : Option ℕ) (Xs : List Renaming) → StartsAt ps o Xs → below_of Xs ≡ option_map (place_name ps) o
 below_is ps None Xs s = ap below_of s
@@ -176,3 +164,47 @@ pub two_right : (a b : Option ℕ) (k : ℕ) → b ≡ Some k → ((h : ℕ) →
 two_right None b k e f = tt
 two_right (Some j) None k e f = tt
 two_right (Some j) (Some h) k e f = λ q. let l = f j refl in let m = some_is h k e in omega arith
+
+-- ---- an epoch that is to be opened
+
+below_more : (ps : List Placed) (o : Option ℕ) (Ys : List Renaming) (R : Renaming) → StartsAt ps o Ys → below_of (Ys ++ (R ∷ [])) ≡ Some (below_or ps o (name_of R))
+below_more ps None Ys R s = ap (λ zs. below_of (zs ++ (R ∷ []))) s
+below_more ps (Some h) Ys R s = ap (λ zs. below_of (zs ++ (R ∷ []))) s.3 ∙ ap Some (sym (name_read ps h s.0 s.2))
+
+apart_longer : (Xs Ys Zs : List Renaming) (S : Renaming) → AreApart Xs (S ∷ Ys) → AreApart Xs (S ∷ Zs)
+apart_longer [] Ys Zs S a = tt
+apart_longer (R ∷ Xs) Ys Zs S a = a
+
+apart_new : (ps : List Placed) (o : Option ℕ) (Xs : List Renaming) (R : Renaming) → StartsAt ps o Xs → has_node (nodes_of ps) (name_of R) ≡ false → AreApart Xs (R ∷ [])
+apart_new ps None Xs R s f = subst (λ zs. AreApart zs (R ∷ [])) (sym s) tt
+apart_new ps (Some h) Xs R s f =
+    let p = s.0 in
+    let there : has_node (nodes_of ps) (name_of p.renaming) ≡ true = node_named (node_of p) (nodes_of ps) (node_in ps h p s.2) in
+    let o : name_eq (name_of p.renaming) (name_of R) ≡ false =
+    not_true (name_eq (name_of p.renaming) (name_of R)) (λ q. true_false (has_node (nodes_of ps) (name_of R)) (subst (λ z. has_node (nodes_of ps) z ≡ true) (name_eq_is (name_of p.renaming) (name_of R) q) there) f) in
+    subst (λ zs. AreApart zs (R ∷ [])) (sym s.3) o
+
+apart_opened : (ps : List Placed) → AreNodes (nodes_of ps) → (a b : Option ℕ) (Xs Ys : List Renaming) (R : Renaming) → StartsAt ps a Xs → StartsAt ps b Ys → AreTwo a b → has_node (nodes_of ps) (name_of R) ≡ false → AreApart Xs (Ys ++ (R ∷ []))
+apart_opened ps d a None Xs Ys R s t n f = subst (λ zs. AreApart Xs (zs ++ (R ∷ []))) (sym t) (apart_new ps a Xs R s f)
+apart_opened ps d a (Some k) Xs Ys R s t n f =
+    let S = t.0.renaming in
+    subst (λ zs. AreApart Xs (zs ++ (R ∷ []))) (sym t.3) (apart_longer Xs t.1 (t.1 ++ (R ∷ [])) S (subst (AreApart Xs) t.3 (apart_is ps d a (Some k) Xs Ys s t n)))
+
+-- the order of a kept epoch and one that is to be opened in another
+pub opened_is : (top : EpochName) (ps : List Placed) → AreNodes (nodes_of ps) → (e f : EpochName) (c d : Climb) (node : Node) → is_of node e ≡ false → has_node (nodes_of ps) (name_of node.renaming) ≡ false → node.parent ≡ f
+    → c.at ≡ d.at → AreTwo c.below d.below → IsAbove top ps e c → IsAbove top ps f d →
+    side_cmp (option_map (place_name ps) c.below) (Some (below_or ps d.below (name_of node.renaming))) ≡ epoch_cmp (node ∷ nodes_of ps) e (name_of node.renaming)
+opened_is top ps n e f c d node k fresh g h two i j =
+    let ns = nodes_of ps in
+    let R = node.renaming in
+    let P = path ns (epoch_at top ps c.at) in
+    let old : path (node ∷ ns) e ≡ P ++ i.0 = path_other node ns e k ∙ i.1 in
+    let new : path (node ∷ ns) (name_of R) ≡ P ++ (j.0 ++ (R ∷ [])) =
+    path_child node ns (name_of R) (name_eq_refl (name_of R))
+    ∙ (ap (λ z. path ns z ++ (R ∷ [])) g
+    ∙ (ap (λ z. z ++ (R ∷ [])) (j.1 ∙ ap (λ z. path ns (epoch_at top ps z) ++ j.0) (sym h)) ∙ append_assoc P j.0 (R ∷ []))) in
+    ap (λ o. side_cmp o (Some (below_or ps d.below (name_of R)))) (sym (below_is ps c.below i.0 i.2))
+    ∙ (ap (side_cmp (below_of i.0)) (sym (below_more ps d.below j.0 R j.2))
+    ∙ (side_is i.0 (j.0 ++ (R ∷ [])) (apart_opened ps n c.below d.below i.0 j.0 R i.2 j.2 two fresh)
+    ∙ (sym (front_same P i.0 (j.0 ++ (R ∷ [])))
+    ∙ (ap (λ z. slice_cmp renaming_cmp z (P ++ (j.0 ++ (R ∷ [])))) (sym old) ∙ ap (slice_cmp renaming_cmp (path (node ∷ ns) e)) (sym new)))))

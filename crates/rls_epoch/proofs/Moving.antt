@@ -9,7 +9,7 @@ use Rattle.rls_ident.specs.declared.tuple.Tuple.{Tuple}
 use Rattle.rls_ident.specs.Identifiers.{is_ident, IsIdent, ident_cmp, ident_lt}
 use Rattle.rls_ident.proofs.Iso.{inverse, kept}
 use Rattle.rls_ident.proofs.Members.{and_left, and_right, and_true, lt_test}
-use Rattle.rls_rename.specs.Renaming.{forward, back}
+use Rattle.rls_rename.specs.Renaming.{IsFormer, Renaming, back, forward}
 use Rattle.rls_rename.specs.Tree.{AreNodes}
 use Rattle.rls_rename.proofs.Paths.{renaming_iso}
 use Rattle.rls_runs.specs.Runs.{run_idents, runs_of, idents_of, is_increasing, is_run, AreIdents, IsImage}
@@ -90,7 +90,14 @@ step_order ps d (Forward j) h x y i l =
     ap (λ z. ident_cmp z (step_map ps (Forward j) y)) (forward_step ps j p.0 p.1 x)
     ∙ (ap (ident_cmp _) (forward_step ps j p.0 p.1 y) ∙ kept (renaming_iso (p.0).renaming f) x y i l)
 
+pub renaming_order : (R : Renaming) → IsFormer R.former → KeepsOrder (forward R)
+renaming_order R f x y i l = kept (renaming_iso R f) x y i l
+
 -- ---- lists over several steps
+
+pub map_then : {A B C : Type 0} (f : A → B) (g : B → C) (xs : List A) → map g (map f xs) ≡ map (λ x. g (f x)) xs
+map_then f g [] = refl
+map_then f g (x ∷ xs) = ap (λ ys. g (f x) ∷ ys) (map_then f g xs)
 
 pub map_none : (ps : List Placed) (xs : List (List Tuple)) → map (led ps []) xs ≡ xs
 map_none ps [] = refl

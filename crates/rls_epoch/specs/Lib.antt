@@ -1,4 +1,5 @@
 pub mod Climbing
+pub mod Climbs
 pub mod Links
 pub mod Marks
 pub mod Seen

@@ -2,7 +2,8 @@
 use Rattle.std.specs.Prelude.{◌≡◌, ℕ, zero, suc, Bool, false, ◌||◌, List, [], ◌∷◌, length, map, reverse, sum_by}
 use Rattle.rls_ident.specs.declared.epoch_name.EpochName.{EpochName}
 use Rattle.rls_ident.specs.EpochNames.{name_eq}
-use Rattle.rls_rename.specs.Tree.{Node, Epochs, name_of, AreNodes, AreBelow, epoch_cmp, names}
+use Rattle.rls_rename.specs.Renaming.{Renaming}
+use Rattle.rls_rename.specs.Tree.{Node, Epochs, name_of, AreNodes, AreBelow, epoch_cmp, greatest, names}
 use Rattle.rls_rename.specs.Connected.{in_order}
 use Rattle.rls_epoch.specs.declared.placed.Placed.{Placed}
 use Rattle.rls_epoch.specs.Climbing.{name_cmp}
@@ -27,6 +28,10 @@ former_sum nodes = sum_by (λ node. length node.renaming.former) nodes
 -- all epochs in increasing order, of which the topmost is the first
 abbrev pub rising_epochs : Epochs → List EpochName
 rising_epochs E = in_order E.nodes (E.top ∷ names E.nodes)
+
+-- the answer tells whether the epoch that this renaming opens in another is greater than all that are kept
+abbrev pub OpensGreatest : Bool → Epochs → EpochName → Renaming → Type 0
+OpensGreatest b E parent R = b ≡ name_eq (greatest E.top (record { parent = parent; renaming = R } ∷ E.nodes)) (name_of R)
 
 -- ---- what the code keeps
 

@@ -1,16 +1,18 @@
 //! The tree of the epochs that are kept.
 
-ghost use Rattle.std.specs.Prelude.{◌≡◌, ℕ, ◌+◌, ◌-◌, ◌<◌, ◌^◌, suc, [], ◌∷◌, length, map, slice_get, Some, IfOk, OnOk, OnErr, IsTrue, IsFalse, ◌||◌};
+ghost use Rattle.std.specs.Prelude.{◌≡◌, ℕ, List, ◌+◌, ◌-◌, ◌<◌, ◌^◌, suc, [], ◌∷◌, length, map, slice_get, Some, IfOk, OnOk, OnErr, IsTrue, IsFalse, ◌||◌};
 ghost use Rattle.rls_ident.specs.declared.epoch_name.EpochName.{EpochName};
 ghost use Rattle.rls_ident.specs.EpochNames.{name_eq, is_of_member};
 ghost use Rattle.rls_runs.specs.Runs.{IsImage};
 ghost use Rattle.rls_rename.specs.Tree.{Node, IsTree, is_kept, epoch_cmp, greatest, greatest_within, translate};
+ghost use Rattle.rls_ident.specs.declared.tuple.Tuple.{Tuple};
 ghost use Rattle.rls_rename.specs.Keeping.{kept_part};
-ghost use Rattle.rls_epoch.specs.Seen.{former_sum, is_marked, rising_epochs};
+ghost use Rattle.rls_rename.specs.Renaming.{IsFormer, forward};
+ghost use Rattle.rls_epoch.specs.Seen.{former_sum, is_marked, rising_epochs, OpensGreatest};
 
-use crate::climb::compare;
+use crate::climb::{compare, opens_above};
 use crate::greatest::{greatest, greatest_in};
-use crate::images::{run_led, runs_led};
+use crate::images::{run_led, run_led_by, runs_led};
 use crate::keeping::{former_kept, keep_nodes, keep_places, number_needed};
 use crate::nodes::{copied, epochs_below, find, names_below, number_of};
 use crate::placed::{Placed, epoch_of};
@@ -159,6 +161,20 @@ impl Epochs {
         greatest(self.top, self.nodes.as_slice(), self.order.as_slice())
     }
 
+    /// Whether the epoch that a rename would open in another is greater than all that are kept. It
+    /// takes no memory, and costs a step for each epoch on the way between that epoch and the
+    /// greatest.
+    pub fn opens_greatest(&self, replica: u32, seq: u32, parent: EpochName) -> bool
+        requires fresh { IsFalse (is_kept self.now.epochs.top self.now.epochs.nodes (EpochName.Of replica seq)) }
+        requires parent { IsTrue (is_kept self.now.epochs.top self.now.epochs.nodes parent) }
+        ensures greatest { (former : List (List Tuple)) → IsFormer former → OpensGreatest result self.now.epochs parent (record { former = former; replica = replica; seq = seq }) }
+    {
+        let (nodes, by_name) = (self.nodes.as_slice(), self.by_name.as_slice());
+        let last = number_of(self.top, nodes, by_name, self.greatest());
+        let up = number_of(self.top, nodes, by_name, parent);
+        opens_above(self.top, nodes, last, up, EpochName::Of { replica, seq })
+    }
+
     /// The greatest epoch within a vector that counts the replica of each kept epoch, or the topmost
     /// one where none is. It takes no memory, and looks at the greatest epochs first.
     pub fn greatest_in(&self, v: &Vector) -> EpochName
@@ -197,6 +213,26 @@ impl Epochs {
         let _len = run.len();
         let steps = way_between(alloc, self.top, nodes, self.by_name.as_slice(), from, to)?;
         run_led(alloc, nodes, &steps, run)
+    }
+
+    /// The identifiers of a run of the one epoch in the other, and then by a renaming that opens an
+    /// epoch there, as runs of which none touches the one before. It costs the renaming of whole runs
+    /// for each epoch on the way and for the last one.
+    pub fn translate_run_by(
+        &self,
+        from: EpochName,
+        to: EpochName,
+        renaming: &Renaming,
+        run: &Run,
+    ) -> Result<RunList, AllocError>
+        requires from { IsTrue (is_kept self.now.epochs.top self.now.epochs.nodes from) }
+        requires to { IsTrue (is_kept self.now.epochs.top self.now.epochs.nodes to) }
+        ensures renamed { IfOk result (λ runs. IsImage (λ x. forward renaming.now (translate self.now.epochs.nodes from to x)) run.now runs) }
+    {
+        let (alloc, nodes) = (*self.nodes.allocator(), self.nodes.as_slice());
+        let _len = run.len();
+        let steps = way_between(alloc, self.top, nodes, self.by_name.as_slice(), from, to)?;
+        run_led_by(alloc, nodes, &steps, renaming, run)
     }
 
     /// A strictly increasing list of identifiers of the one epoch in the other. It costs the renaming

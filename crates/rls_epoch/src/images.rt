@@ -1,6 +1,7 @@
 //! Runs and lists of identifiers over the steps of a way, whole runs at a time.
 
 ghost use Rattle.std.specs.Prelude.{◌≡◌, ◌+◌, ◌<◌, ◌^◌, [], ◌∷◌, ◌++◌, map, length, IfOk, OnOk, IsTrue};
+ghost use Rattle.rls_rename.specs.Renaming.{forward};
 ghost use Rattle.rls_rename.specs.Tree.{AreNodes};
 ghost use Rattle.rls_runs.specs.Runs.{run_idents, runs_of, idents_of, is_increasing, IsImage};
 ghost use Rattle.rls_epoch.specs.Seen.{nodes_of};
@@ -8,6 +9,7 @@ ghost use Rattle.rls_epoch.specs.Ways.{AreWithin, place_of_step, step_map, led};
 
 use crate::placed::Placed;
 use crate::ways::Step;
+use rls_rename::Renaming;
 use rls_runs::{Run, RunList, Runs};
 use std::alloc::{AllocError, Global};
 
@@ -28,6 +30,34 @@ pub(crate) fn run_led(
         [step] => run_moved(nodes, *step, run),
         _ => maximal(alloc, &runs_led(alloc, nodes, steps, &alone(alloc, run)?)?),
     }
+}
+
+// A run at the end of the way, and then by a renaming.
+pub(crate) fn run_led_by(
+    alloc: Global,
+    nodes: &[Placed],
+    steps: &[Step],
+    renaming: &Renaming,
+    run: &Run,
+) -> Result<RunList, AllocError>
+    requires nodes { AreNodes (nodes_of nodes.now) }
+    requires within { AreWithin (length nodes.now) steps.now }
+    ensures led { IfOk result (λ runs. IsImage (λ x. forward renaming.now (led nodes.now steps.now x)) run.now runs) }
+{
+    let ids = runs_led(alloc, nodes, steps, &alone(alloc, run)?)?;
+    maximal(alloc, &runs_renamed(alloc, renaming, &ids)?)
+}
+
+// The renaming of each identifier of a strictly increasing list.
+fn runs_renamed(alloc: Global, renaming: &Renaming, ids: &Runs) -> Result<Runs, AllocError>
+    ensures renamed { IfOk result (λ xs. xs ≡ map (forward renaming.now) ids.now) }
+{
+    let (_total, _some) = (ids.total(), renaming.total());
+    let mut renamed = Runs::new(alloc);
+    for run in ids.as_slice() {
+        append_all(&mut renamed, &renaming.forward_run(run)?)?;
+    }
+    Ok(renamed)
 }
 
 // A strictly increasing list at the end of the way.

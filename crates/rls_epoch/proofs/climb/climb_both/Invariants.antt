@@ -1,7 +1,7 @@
 use Rattle.std.proofs.Common.{◌≡◌, ◌+◌, ◌<◌, ◌≤◌, ℕ, Some, length}
 use Rattle.rls_epoch.specs.Links.{epoch_at}
 use Rattle.rls_epoch.proofs.Meeting.{IsAbove, AreTwo}
-use Rattle.rls_epoch.proofs.climb.compare.Given as goal
+use Rattle.rls_epoch.proofs.climb.climb_both.Given as goal
 
 -- both are on the way up, and what was passed is further down than both
 abbrev pub invariant-loop-left : goal.invariant-loop-left
