@@ -25,7 +25,7 @@ name_after : (e f : EpochName) → (e ≡ f → ⊥) → (name_cmp e f ≡ Less 
 name_after e f n h =
     bool_cases (is_lt (name_cmp f e)) (λ q. less_is (name_cmp f e) q) (λ q. absurd (n (names_level e f h (λ l. let x = ap is_lt l in absurd (cc)))))
 
-epoch_after : (top : EpochName) (ns : List Node) → AreNodes ns → AreBelow top ns → (e f : EpochName) → is_kept top ns e ≡ true → is_kept top ns f ≡ true → (e ≡ f → ⊥) → (epoch_cmp ns e f ≡ Less → ⊥) → epoch_cmp ns f e ≡ Less
+pub epoch_after : (top : EpochName) (ns : List Node) → AreNodes ns → AreBelow top ns → (e f : EpochName) → is_kept top ns e ≡ true → is_kept top ns f ≡ true → (e ≡ f → ⊥) → (epoch_cmp ns e f ≡ Less → ⊥) → epoch_cmp ns f e ≡ Less
 epoch_after top ns d b e f k l n h =
     bool_cases (is_lt (epoch_cmp ns f e)) (λ q. less_is (epoch_cmp ns f e) q) (λ q. absurd (n (level_same top ns d b e f k l h (λ r. let x = ap is_lt r in absurd (cc)))))
 

@@ -17,9 +17,9 @@ use Rattle.rls_epoch.specs.Seen.{nodes_of, AreLaid}
 use Rattle.rls_epoch.specs.Sorted.{place_name, names_at, AreSorted, IsCut}
 use Rattle.rls_epoch.proofs.Ordering.{names_order}
 use Rattle.rls_epoch.proofs.Orders.{sorted_in, place_kept}
-use Rattle.rls_epoch.proofs.Reading.{name_read}
+use Rattle.rls_epoch.proofs.Reading.{name_read, up_read}
 use Rattle.rls_epoch.proofs.Sorting.{cut_found, get_of}
-use Rattle.rls_epoch.proofs.Steps.{get_in, up_read}
+use Rattle.rls_epoch.proofs.Steps.{get_in}
 
 -- a place that is read is one of these
 pub read_in : (places : List ℕ) (m : ℕ) → m < length places → IsIn (get_or places m 0) places

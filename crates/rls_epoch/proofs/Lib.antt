@@ -10,5 +10,11 @@ pub mod Ordering
 pub mod Orders
 pub mod Steps
 pub mod Whole
+pub mod Counting
+pub mod Spreading
+pub mod Needed
+pub mod Compacting
+pub mod Numbers
+pub mod Shrinking
 pub mod GreatestAdded
 pub mod Opened

@@ -24,9 +24,9 @@ pub use Rattle.rls_epoch.specs.Climbs.{StartsAt, IsAbove, AreTwo, below_or}
 use Rattle.rls_epoch.specs.Links.{name_at, epoch_at, up_at}
 use Rattle.rls_epoch.specs.Seen.{node_of, nodes_of, AreLaid}
 use Rattle.rls_epoch.specs.Sorted.{place_name}
-use Rattle.rls_epoch.proofs.Reading.{name_read}
+use Rattle.rls_epoch.proofs.Reading.{name_read, up_read}
 use Rattle.rls_epoch.proofs.Sorting.{get_of, get_split}
-use Rattle.rls_epoch.proofs.Steps.{node_in, up_read}
+use Rattle.rls_epoch.proofs.Steps.{node_in}
 
 -- ---- children of one epoch
 

@@ -22,6 +22,7 @@ use Rattle.rls_epoch.specs.declared.ways.Step.{Step}
 use Rattle.rls_epoch.specs.declared.ways.Step.TheVariants.{Back, Forward}
 use Rattle.rls_epoch.specs.Seen.{node_of, nodes_of}
 use Rattle.rls_epoch.specs.Links.{name_at, up_at, AreLinked}
+use Rattle.rls_epoch.proofs.Reading.{up_read}
 use Rattle.rls_epoch.specs.Ways.{Leads, IsWay, AreWithin, back_at, forward_at, step_map, led}
 
 -- ---- a node that was read
@@ -35,11 +36,6 @@ unfolding step_map
 forward_read ps k p x h g = ap (λ o. forward_at o x) (slice_get_read ps (length ps) k p refl h g)
 
 -- ---- the way
-
-pub up_read : (ps : List Placed) (k : ℕ) (p : Placed) → slice_get ps k ≡ Some p → up_at ps k ≡ p.up
-up_read [] k p h = absurd (cc)
-up_read (q ∷ ps) zero p h = ap (λ (r : Placed). r.up) (some_is q p h)
-up_read (q ∷ ps) (suc k) p h = up_read ps k p h
 
 -- one way after another
 pub leads_on : (ps : List Placed) (n k m : ℕ) (ss ts : List Step) → Leads ps n ss k → Leads ps k ts m → Leads ps n (ss ++ ts) m

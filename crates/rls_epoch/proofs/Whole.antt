@@ -1,12 +1,12 @@
 -- A whole tree alone, and with one more node.
-use Rattle.std.proofs.Common.{◌≡◌, ◌≤◌, ◌<◌, ℕ, zero, suc, ◌+◌, Bool, true, false, List, [], ◌∷◌, ◌++◌, map, length, take, drop, Option, Some, None, refl, sym, ap, ◌∙◌, subst, inl, inr, ◌⊎◌, ⊎_elim, arith, length-append}
+use Rattle.std.proofs.Common.{◌≡◌, ◌≤◌, ◌<◌, ℕ, zero, suc, ◌+◌, Bool, true, false, List, [], ◌∷◌, ◌++◌, map, length, set, take, drop, Option, Some, None, refl, sym, ap, ◌∙◌, subst, inl, inr, ◌⊎◌, ⊎_elim, arith, length-append}
 use Rattle.std.specs.Prelude.{◌||◌, replicate, slice_get, insert}
 use Rattle.std.specs.Option.{option_map}
 use Rattle.std.specs.declared.cmp.Ordering.TheVariants.{Less}
 use Rattle.std.proofs.lemmas.Bool.{cases_lt}
-use Rattle.std.proofs.lemmas.List.Edits.{length-insert}
 use Rattle.std.proofs.lemmas.List.{length-map, map-append}
 use Rattle.std.proofs.lemmas.List.Sums.{sum_by-cons}
+use Rattle.std.proofs.lemmas.Option.{slice_get-map}
 use Rattle.rls_ident.specs.declared.epoch_name.EpochName.{EpochName}
 use Rattle.rls_ident.specs.EpochNames.{name_eq}
 use Rattle.rls_ident.specs.Lists.{IsIn}
@@ -16,7 +16,7 @@ use Rattle.rls_rename.specs.Tree.{Node, name_of, has_node, is_kept, AreNodes, Ar
 use Rattle.rls_epoch.specs.declared.placed.Placed.{Placed}
 use Rattle.rls_epoch.specs.Climbing.{name_cmp}
 use Rattle.rls_epoch.specs.Links.{name_at, AreLinked}
-use Rattle.rls_epoch.specs.Seen.{AreLaid, IsWhole, node_of, nodes_of, former_sum, marked_of, marks_of}
+use Rattle.rls_epoch.specs.Seen.{AreLaid, IsWhole, node_of, nodes_of, former_sum, epochs_by_number, is_marked, marked_of, marks_of}
 use Rattle.rls_epoch.specs.Sorted.{place_name, names_at, AreRising, AreSorted, IsCut}
 use Rattle.rls_epoch.proofs.Laid.{nodes_last}
 use Rattle.rls_epoch.proofs.Sorting.{Cmp, IsOrder, cut_insert, in_inserted, inserted_in, map-insert, rising_same}
@@ -125,6 +125,32 @@ marked_none (e ∷ es) (suc n) = marked_none es n
 pub marks_none : (top : EpochName) (ps : List Placed) (n : ℕ) → marks_of top ps (replicate n 0) ≡ []
 marks_none top ps n = marked_none (top ∷ map (λ (z : Placed). name_of z.renaming) ps) n
 
+-- ---- one mark more
+
+swap : (a b c : Bool) → (a || (b || c)) ≡ (b || (a || c))
+swap true true c = refl
+swap true false c = refl
+swap false b c = refl
+
+twice : (a c : Bool) → (a || (a || c)) ≡ (a || c)
+twice true c = refl
+twice false c = refl
+
+marked_set : (es : List EpochName) (ms : List ℕ) (n : ℕ) (name e : EpochName) → slice_get es n ≡ Some name → n < length ms → is_marked (marked_of es (set ms n 1)) e ≡ (name_eq name e || is_marked (marked_of es ms) e)
+marked_set es [] n name e g h = absurd (omega arith)
+marked_set [] (m ∷ ms) n name e g h = absurd (cc)
+marked_set (f ∷ es) (zero ∷ ms) zero name e g h = ap (λ x. name_eq x e || is_marked (marked_of es ms) e) (some_is f name g)
+marked_set (f ∷ es) (suc m ∷ ms) zero name e g h = ap (λ x. name_eq x e || is_marked (marked_of es ms) e) (some_is f name g) ∙ (sym (twice (name_eq name e) (is_marked (marked_of es ms) e)) ∙ ap (λ x. name_eq name e || (name_eq x e || is_marked (marked_of es ms) e)) (sym (some_is f name g)))
+marked_set (f ∷ es) (zero ∷ ms) (suc n) name e g h = marked_set es ms n name e g (omega arith)
+marked_set (f ∷ es) (suc m ∷ ms) (suc n) name e g h = ap (λ b. name_eq f e || b) (marked_set es ms n name e g (omega arith)) ∙ swap (name_eq f e) (name_eq name e) (is_marked (marked_of es ms) e)
+
+by_number : (top : EpochName) (ps : List Placed) (n : ℕ) (e : EpochName) → name_at top ps n ≡ Some e → slice_get (epochs_by_number top ps) n ≡ Some e
+by_number top ps zero e h = h
+by_number top ps (suc k) e h = slice_get-map (λ (z : Placed). name_of z.renaming) ps k ∙ h
+
+pub marks_set : (top : EpochName) (ps : List Placed) (ms : List ℕ) (n : ℕ) (name e : EpochName) → name_at top ps n ≡ Some name → n < length ms → is_marked (marks_of top ps (set ms n 1)) e ≡ (name_eq name e || is_marked (marks_of top ps ms) e)
+marks_set top ps ms n name e h l = marked_set (epochs_by_number top ps) ms n name e (by_number top ps n name h) l
+
 -- ---- trees
 
 -- the topmost epoch alone
@@ -133,19 +159,17 @@ whole_alone top = record {
   laid = record { nodes = tt; below = tt; links = links_none top };
   by_name_is = record { within = λ k p. absurd p; rising = tt; complete = λ k l. absurd (omega arith) };
   order_is = record { within = λ k p. absurd p; rising = tt; complete = λ k l. absurd (omega arith) };
-  order_whole = refl;
   marks_whole = refl;
   sum = refl;
 }
 
 pub whole_more : (top : EpochName) (ps : List Placed) (by_name order marks : List ℕ) (total n : ℕ) (p : Placed) (i j : ℕ) → IsWhole top ps by_name order marks total → AreLaid top (ps ++ p ∷ []) → n ≡ length p.renaming.former →
-    AreSorted name_cmp (ps ++ p ∷ []) (insert by_name i (length ps)) → AreSorted (epoch_cmp (nodes_of (ps ++ p ∷ []))) (ps ++ p ∷ []) (insert order j (length ps)) → j ≤ length order →
+    AreSorted name_cmp (ps ++ p ∷ []) (insert by_name i (length ps)) → AreSorted (epoch_cmp (nodes_of (ps ++ p ∷ []))) (ps ++ p ∷ []) (insert order j (length ps)) →
     IsWhole top (ps ++ p ∷ []) (insert by_name i (length ps)) (insert order j (length ps)) (marks ++ 0 ∷ []) (total + n)
-whole_more top ps by_name order marks total n p i j w l h a b q = record {
+whole_more top ps by_name order marks total n p i j w l h a b = record {
   laid = l;
   by_name_is = a;
   order_is = b;
-  order_whole = omega (arith, w.order_whole, length-insert order j (length ps) q, length-append ps (p ∷ []));
   marks_whole = omega (arith, w.marks_whole, length-append marks (0 ∷ []), length-append ps (p ∷ []));
   sum = omega (arith, w.sum, h, sum_by-cons (λ node. length node.renaming.former) (node_of p) (nodes_of ps)) ∙ ap (λ ns. former_sum ns) (sym (nodes_last ps p));
 }

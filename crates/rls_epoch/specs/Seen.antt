@@ -67,6 +67,5 @@ pub record IsWhole (top : EpochName) (placed : List Placed) (by_name order marks
   pub laid : AreLaid top placed
   pub by_name_is : AreSorted name_cmp placed by_name
   pub order_is : AreSorted (epoch_cmp (nodes_of placed)) placed order
-  pub order_whole : length order ≡ length placed
   pub marks_whole : length marks ≡ suc (length placed)
   pub sum : total ≡ former_sum (nodes_of placed)

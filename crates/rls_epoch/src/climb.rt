@@ -10,7 +10,7 @@ ghost use Rattle.rls_epoch.specs.Links.{epoch_at, up_at};
 ghost use Rattle.rls_epoch.specs.Seen.{nodes_of, AreLaid};
 ghost use Rattle.rls_epoch.specs.Sorted.{place_name};
 
-use crate::placed::{Placed, name_of};
+use crate::placed::{Placed, name_of, up_of};
 use rls_ident::EpochName;
 use std::cmp::Ordering;
 
@@ -31,7 +31,7 @@ impl Climb {
     {
         let place = self.at - 1;
         Climb {
-            at: nodes[place].up,
+            at: up_of(nodes, place),
             below: Some(place),
         }
     }

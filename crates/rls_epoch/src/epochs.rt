@@ -6,14 +6,16 @@ ghost use Rattle.rls_ident.specs.EpochNames.{name_eq, is_of_member};
 ghost use Rattle.rls_runs.specs.Runs.{IsImage};
 ghost use Rattle.rls_rename.specs.Tree.{Node, IsTree, is_kept, epoch_cmp, greatest, greatest_within, translate};
 ghost use Rattle.rls_ident.specs.declared.tuple.Tuple.{Tuple};
+ghost use Rattle.rls_rename.specs.Keeping.{kept_part};
 ghost use Rattle.rls_rename.specs.Renaming.{IsFormer, forward};
-ghost use Rattle.rls_epoch.specs.Seen.{former_sum, rising_epochs, OpensGreatest};
+ghost use Rattle.rls_epoch.specs.Seen.{former_sum, is_marked, rising_epochs, OpensGreatest};
 
 use crate::climb::{compare, opens_above};
 use crate::greatest::{greatest, greatest_in};
 use crate::images::{run_led, run_led_by, runs_led};
+use crate::keeping::{former_kept, keep_nodes, keep_places, number_needed};
 use crate::nodes::{copied, epochs_below, find, names_below, number_of};
-use crate::placed::Placed;
+use crate::placed::{Placed, epoch_of};
 use crate::ways::{ident_led, way_between};
 use rls_ident::{EpochName, Ident, Vector};
 use rls_rename::Renaming;
@@ -256,6 +258,47 @@ impl Epochs {
         ensures epochs { self.new.epochs ≡ self.old.epochs }
         ensures marks { self.new.marks ≡ [] }
     {
+        self.marks.fill(0);
+    }
+
+    /// Marks a kept epoch. It takes no memory, and costs a comparison of names for each halving of the
+    /// nodes.
+    pub fn mark(&mut self, name: EpochName)
+        requires kept { IsTrue (is_kept self.old.epochs.top self.old.epochs.nodes name) }
+        ensures epochs { self.new.epochs ≡ self.old.epochs }
+        ensures marks { (e : EpochName) → is_marked self.new.marks e ≡ (name_eq name e || is_marked self.old.marks e) }
+    {
+        let number = number_of(
+            self.top,
+            self.nodes.as_slice(),
+            self.by_name.as_slice(),
+            name,
+        );
+        let _count = self.nodes.len();
+        self.marks[number] = 1;
+    }
+
+    /// Keeps the smallest connected part that holds the greatest epoch, those that are marked, and each
+    /// that is at least the greatest one within the vector, and takes all marks away. The vector
+    /// counts the replica of each kept epoch. It takes no memory, and goes over the epochs a few times.
+    pub fn keep(&mut self, stable: &Vector)
+        requires members { (e : EpochName) → IsTrue (is_kept self.old.epochs.top self.old.epochs.nodes e) → IsTrue (is_of_member (length stable.now) e) }
+        ensures epochs { self.new.epochs ≡ kept_part self.old.epochs stable.now self.old.marks }
+        ensures marks { self.new.marks ≡ [] }
+    {
+        let number = number_needed(
+            self.top,
+            self.nodes.as_slice(),
+            self.order.as_slice(),
+            self.marks.as_mut_slice(),
+            stable,
+        );
+        self.total = former_kept(self.nodes.as_slice(), self.marks.as_slice());
+        self.top = epoch_of(self.top, self.nodes.as_slice(), number);
+        keep_nodes(&mut self.nodes, self.marks.as_slice());
+        keep_places(&mut self.by_name, self.marks.as_slice());
+        keep_places(&mut self.order, self.marks.as_slice());
+        self.marks.truncate(self.nodes.len() + 1);
         self.marks.fill(0);
     }
 

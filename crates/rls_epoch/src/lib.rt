@@ -6,6 +6,8 @@ mod climb;
 mod epochs;
 mod greatest;
 mod images;
+mod keeping;
+mod marks;
 mod nodes;
 mod placed;
 mod ways;

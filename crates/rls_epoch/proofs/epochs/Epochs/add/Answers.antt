@@ -1,6 +1,5 @@
 use Rattle.std.proofs.Common.{rules, ◌≡◌, ◌+◌, ℕ, List, [], ◌∷◌, ◌++◌, length, refl, sym, ap, ◌∙◌, subst, arith, length-append}
 use Rattle.std.specs.Prelude.{insert}
-use Rattle.std.proofs.lemmas.List.{length-map}
 use Rattle.rls_ident.specs.declared.epoch_name.EpochName.{EpochName}
 use Rattle.rls_ident.specs.declared.epoch_name.EpochName.TheVariants.{Of}
 use Rattle.rls_rename.specs.Tree.{name_of, is_kept, epoch_cmp}
@@ -8,7 +7,7 @@ use Rattle.rls_epoch.specs.declared.placed.Placed.{Placed}
 use Rattle.rls_epoch.specs.Climbing.{name_cmp}
 use Rattle.rls_epoch.specs.Links.{epoch_at}
 use Rattle.rls_epoch.specs.Seen.{AreLaid, EpochsSeen, marks_of, nodes_of}
-use Rattle.rls_epoch.specs.Sorted.{place_name, names_at, IsCut}
+use Rattle.rls_epoch.specs.Sorted.{names_at, IsCut}
 use Rattle.rls_epoch.proofs.Added.{names_added, epochs_added}
 use Rattle.rls_epoch.proofs.Whole.{laid_more, marks_more, whole_more}
 use Rattle.rls_epoch.proofs.epochs.Epochs.add.Goals as goal
@@ -72,10 +71,7 @@ invariant_of-self c =
     let after = c.as_slice-5.ensures.value ∙ pushed in
     let cut_epochs = subst (λ (n : ℕ). IsCut (epoch_cmp (nodes_of (ps ++ p ∷ []))) (names_at (ps ++ p ∷ []) order) (epoch_at top (ps ++ p ∷ []) (n + 1)) j) place
     (rw (after, c.as_slice-6.ensures.value) at c.epochs_below-order.ensures.cut) in
-    let range = cut_epochs.in_range in
-    let len = length-map order (place_name (ps ++ p ∷ [])) in
     rw (pushed, named_in, ordered_in, marked, place)
     (whole_more top ps names order ms c.self.inside.total c.total.result p i j c.self.invariant l c.total.ensures.total
     (names_added top ps p fresh names i c.self.invariant.by_name_is cut_names)
-    (epochs_added top ps p fresh order j l c.self.invariant.order_is cut_epochs)
-    (omega (arith, range, len)))
+    (epochs_added top ps p fresh order j l c.self.invariant.order_is cut_epochs))

@@ -1,0 +1,75 @@
+use Rattle.std.proofs.Common.{◌≡◌, ◌+◌, ◌-◌, ◌<◌, ◌∷◌, [], ◌++◌, ℕ, suc, Bool, Some, length, take, get_or, refl, sym, ap, ◌∙◌, arith, append-nil}
+use Rattle.std.specs.Prelude.{if◌then◌else◌, slice_get}
+use Rattle.std.proofs.Math.ListN.{length-set}
+use Rattle.std.proofs.lemmas.Grind.{drop_more_same}
+use Rattle.std.proofs.lemmas.Option.{slice_get_read}
+use Rattle.rls_ident.proofs.Members.{lt_test}
+use Rattle.rls_epoch.specs.Marks.{kept_places}
+use Rattle.rls_epoch.proofs.Compacting.{at_most_one, kept_places_more, put_front, put_rest, read_rest}
+use Rattle.rls_epoch.proofs.Steps.{get_in}
+use Rattle.rls_epoch.proofs.keeping.keep_places.Goals as goal
+
+pub overflow_add-index : goal.overflow_add-index
+overflow_add-index c =
+    let v = c.loop-i.invariant in
+    let old = c.args.places.now.items in
+    let i = c.loop-i.i in
+    let k = c.index.result.now in
+    let g : slice_get old i ≡ Some k = slice_get_read old (length old) i k refl (omega arith) (c.index.ensures ∙ read_rest c.loop-i.places.items old i k v.same (omega arith) v.rest) in
+    let w = c.requires.within k (get_in old i k g) in
+    omega (arith, w)
+
+pub mark_of-mark-requires : goal.mark_of-mark-requires
+mark_of-mark-requires c =
+    let v = c.loop-i.invariant in
+    let old = c.args.places.now.items in
+    let i = c.loop-i.i in
+    let k = c.index.result.now in
+    let g : slice_get old i ≡ Some k = slice_get_read old (length old) i k refl (omega arith) (c.index.ensures ∙ read_rest c.loop-i.places.items old i k v.same (omega arith) v.rest) in
+    let w = c.requires.within k (get_in old i k g) in
+    record { within = omega (arith, w) }
+
+pub loop-i-preserved-then-mark-le1 : goal.loop-i-preserved-then-mark-le1
+loop-i-preserved-then-mark-le1 c =
+    let v = c.loop-i.invariant in
+    let ms = c.args.marks.now in
+    let old = c.args.places.now.items in
+    let i = c.loop-i.i in
+    let k = c.index.result.now in
+    let g : slice_get old i ≡ Some k = slice_get_read old (length old) i k refl (omega arith) (c.index.ensures ∙ read_rest c.loop-i.places.items old i k v.same (omega arith) v.rest) in
+    let next : i + 1 ≡ suc i = omega arith in
+    let up : k + 1 ≡ suc k = omega arith in
+    let e = c.mark_of-mark.ensures.mark ∙ ap (λ (j : ℕ). get_or ms j 0) up in
+    let m = kept_places_more ms old i k g in
+    let none = ap (λ (b : Bool). kept_places ms (take i old) ++ (if b then (get_or ms (suc k) 0 - 2) ∷ [] else [])) (at_most_one (get_or ms (suc k) 0) (omega arith)) in
+    record {
+      fewer = let f = v.fewer in omega arith;
+      same = v.same;
+      front = v.front ∙ (sym (append-nil (kept_places ms (take i old))) ∙ (sym none ∙ (sym m ∙ ap (λ (j : ℕ). kept_places ms (take j old)) (sym next))));
+      rest = drop_more_same c.loop-i.places.items old i v.rest;
+    }
+
+pub loop-i-preserved : goal.loop-i-preserved
+loop-i-preserved c =
+    let v = c.loop-i.invariant in
+    let ms = c.args.marks.now in
+    let xs = c.loop-i.places.items in
+    let old = c.args.places.now.items in
+    let i = c.loop-i.i in
+    let n = c.loop-i.count in
+    let k = c.index.result.now in
+    let w : i < length old = omega arith in
+    let g : slice_get old i ≡ Some k = slice_get_read old (length old) i k refl w (c.index.ensures ∙ read_rest xs old i k v.same w v.rest) in
+    let next : i + 1 ≡ suc i = omega arith in
+    let up : k + 1 ≡ suc k = omega arith in
+    let e = c.mark_of-mark.ensures.mark ∙ ap (λ (j : ℕ). get_or ms j 0) up in
+    let m = kept_places_more ms old i k g in
+    let y = c.mark_of-mark.result - 2 in
+    let some = ap (λ (b : Bool). kept_places ms (take i old) ++ (if b then (get_or ms (suc k) 0 - 2) ∷ [] else [])) (lt_test 1 (get_or ms (suc k) 0) (omega arith)) in
+    record {
+      fewer = let f = v.fewer in omega arith;
+      same = length-set xs n y ∙ v.same;
+      front = put_front xs old (kept_places ms (take i old)) n i v.fewer v.same w v.front v.rest y
+          ∙ (ap (λ (j : ℕ). kept_places ms (take i old) ++ ((j - 2) ∷ [])) e ∙ (sym some ∙ (sym m ∙ ap (λ (j : ℕ). kept_places ms (take j old)) (sym next))));
+      rest = put_rest xs old (kept_places ms (take i old)) n i v.fewer v.same w v.front v.rest y;
+    }
