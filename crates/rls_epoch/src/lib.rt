@@ -10,6 +10,8 @@ mod keeping;
 mod marks;
 mod nodes;
 mod placed;
+mod retaining;
 mod ways;
 
 pub use epochs::Epochs;
+pub use retaining::Retained;
