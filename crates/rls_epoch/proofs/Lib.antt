@@ -19,3 +19,4 @@ pub mod Shrinking
 pub mod GreatestAdded
 pub mod Opened
 pub mod Left
+pub mod Listed

@@ -1,6 +1,7 @@
 //! The tree of the epochs that are kept.
 
-ghost use Rattle.std.specs.Prelude.{◌≡◌, ℕ, List, ◌+◌, ◌-◌, ◌<◌, ◌^◌, suc, [], ◌∷◌, ◌++◌, length, map, slice_get, sum_by, Some, IfOk, OnOk, OnErr, IsTrue, IsFalse, ◌||◌};
+ghost use Rattle.std.specs.Prelude.{◌≡◌, ℕ, List, ◌+◌, ◌-◌, ◌<◌, ◌^◌, suc, [], ◌∷◌, ◌++◌, length, map, slice_get, sum_by, Some, IfSome, IfNone, IfOk, OnOk, OnErr, IsTrue, IsFalse, ◌||◌};
+ghost use Rattle.std.specs.Option.{option_copied, option_map};
 ghost use Rattle.rls_ident.specs.declared.epoch_name.EpochName.{EpochName};
 ghost use Rattle.rls_ident.specs.EpochNames.{name_eq, is_of_member};
 ghost use Rattle.rls_runs.specs.Runs.{IsImage};
@@ -10,12 +11,13 @@ ghost use Rattle.rls_ident.specs.Lists.{IsIn};
 ghost use Rattle.rls_rename.specs.Connected.{spanned, spanned_renamings};
 ghost use Rattle.rls_rename.specs.Keeping.{kept_part, reached};
 ghost use Rattle.rls_rename.specs.Renaming.{IsFormer, forward};
-ghost use Rattle.rls_epoch.specs.Seen.{former_sum, is_marked, rising_epochs, OpensGreatest};
+ghost use Rattle.rls_epoch.specs.Seen.{former_sum, is_marked, node_for, rising_epochs, OpensGreatest};
 
 use crate::climb::{compare, opens_above};
 use crate::greatest::{greatest, greatest_in};
 use crate::images::{run_led, run_led_by, runs_led};
 use crate::keeping::{former_kept, keep_nodes, keep_places, number_needed};
+use crate::listing::{number_at, parent_name, parent_place, renaming_at};
 use crate::nodes::{copied, epochs_below, find, names_below, number_of};
 use crate::placed::{Placed, epoch_of};
 use crate::retaining::{Retained, retained_part};
@@ -324,6 +326,60 @@ impl Epochs {
             stable,
             marked,
         )
+    }
+
+    /// The epoch at a place in increasing order of the epochs. The topmost one is at place 0.
+    pub fn name(&self, i: u64) -> EpochName
+        requires place { i < suc (length self.now.epochs.nodes) }
+        ensures name { slice_get (rising_epochs self.now.epochs) i ≡ Some result }
+    {
+        let (nodes, order) = (self.nodes.as_slice(), self.order.as_slice());
+        epoch_of(self.top, nodes, number_at(nodes, order, i))
+    }
+
+    /// The place of the parent of the epoch at a place in increasing order of the epochs, or `None`
+    /// for the topmost one. It takes no memory, and costs a comparison of epochs for each halving of
+    /// them.
+    pub fn parent(&self, i: u64) -> Option<u64>
+        requires place { i < suc (length self.now.epochs.nodes) }
+        ensures parent { (e : EpochName) → slice_get (rising_epochs self.now.epochs) i ≡ Some e → option_map (slice_get (rising_epochs self.now.epochs)) result ≡ option_map (λ node. Some node.parent) (node_for self.now.epochs.nodes e) }
+        ensures none { IfNone result (i ≡ 0) }
+        ensures some { IfSome result (λ p. 0 < i) }
+    {
+        let (nodes, order) = (self.nodes.as_slice(), self.order.as_slice());
+        parent_place(self.top, nodes, order, number_at(nodes, order, i))
+    }
+
+    /// The renaming that opened the epoch at a place in increasing order of the epochs, or `None` for
+    /// the topmost one.
+    pub fn renaming(&self, i: u64) -> Option<&Renaming>
+        requires place { i < suc (length self.now.epochs.nodes) }
+        ensures renaming { (e : EpochName) → slice_get (rising_epochs self.now.epochs) i ≡ Some e → option_copied result ≡ option_map (λ node. node.renaming) (node_for self.now.epochs.nodes e) }
+        ensures none { IfNone result (i ≡ 0) }
+        ensures some { IfSome result (λ p. 0 < i) }
+    {
+        let (nodes, order) = (self.nodes.as_slice(), self.order.as_slice());
+        renaming_at(nodes, number_at(nodes, order, i))
+    }
+
+    /// The parent of a kept epoch, or `None` for the topmost one. It takes no memory, and costs a
+    /// comparison of names for each halving of the nodes.
+    pub fn parent_of(&self, name: EpochName) -> Option<EpochName>
+        requires kept { IsTrue (is_kept self.now.epochs.top self.now.epochs.nodes name) }
+        ensures parent { result ≡ option_map (λ node. node.parent) (node_for self.now.epochs.nodes name) }
+    {
+        let (nodes, by_name) = (self.nodes.as_slice(), self.by_name.as_slice());
+        parent_name(nodes, number_of(self.top, nodes, by_name, name))
+    }
+
+    /// The renaming that opened a kept epoch, or `None` for the topmost one. It takes no memory, and
+    /// costs a comparison of names for each halving of the nodes.
+    pub fn renaming_of(&self, name: EpochName) -> Option<&Renaming>
+        requires kept { IsTrue (is_kept self.now.epochs.top self.now.epochs.nodes name) }
+        ensures renaming { option_copied result ≡ option_map (λ node. node.renaming) (node_for self.now.epochs.nodes name) }
+    {
+        let (nodes, by_name) = (self.nodes.as_slice(), self.by_name.as_slice());
+        renaming_at(nodes, number_of(self.top, nodes, by_name, name))
     }
 
     /// The number of epochs, the topmost one among them.

@@ -7,6 +7,7 @@ mod epochs;
 mod greatest;
 mod images;
 mod keeping;
+mod listing;
 mod marks;
 mod nodes;
 mod placed;
