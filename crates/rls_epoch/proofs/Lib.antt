@@ -18,3 +18,5 @@ pub mod Numbers
 pub mod Shrinking
 pub mod GreatestAdded
 pub mod Opened
+pub mod Left
+pub mod Listed

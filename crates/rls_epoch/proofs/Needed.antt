@@ -86,7 +86,7 @@ reached_some top ps v old new r w =
 -- ---- from the greatest one down
 
 -- no node has the topmost epoch's name
-places_not_top : (top : EpochName) (ps : List Placed) → AreLaid top ps → (k : ℕ) → k < length ps → place_name ps k ≡ top → ⊥
+pub places_not_top : (top : EpochName) (ps : List Placed) → AreLaid top ps → (k : ℕ) → k < length ps → place_name ps k ≡ top → ⊥
 places_not_top top ps l k h e =
     let x = number_same top ps l (suc k) 0 (omega arith) (omega arith) (ap (path (nodes_of ps)) e) in omega arith
 
@@ -99,7 +99,7 @@ pub record ArePassed (old ms : List ℕ) (later : List ℕ) : Type 0 where
 pub passed_none : (old : List ℕ) → ArePassed old old []
 passed_none old = record { kept = λ n q. q; from = λ n q. inl q; onto = λ k p. absurd p }
 
-set_from : (ms : List ℕ) (u n : ℕ) → has_mark (set ms u 1) n ≡ true → (n ≡ u) ⊎ (has_mark ms n ≡ true)
+pub set_from : (ms : List ℕ) (u n : ℕ) → has_mark (set ms u 1) n ≡ true → (n ≡ u) ⊎ (has_mark ms n ≡ true)
 set_from ms u n q =
     ⊎_elim (λ l. inr (sym (mark_other ms u n (λ e. let x : n ≡ u = e in omega arith)) ∙ q))
     (λ l. ⊎_elim (λ k. inr (sym (mark_other ms u n (λ e. let x : n ≡ u = e in omega arith)) ∙ q)) (λ k. inl (omega arith)) (cases_lt u n)) (cases_lt n u)

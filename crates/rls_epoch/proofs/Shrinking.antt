@@ -148,7 +148,7 @@ module _ (top : EpochName) (ps : List Placed) (l : AreLaid top ps) (ms : List �
       kept_filter (is_below N e es) M (drop 1 M) ps (later_length M (length ps) marks_length)
       (λ k m p g h. ap (nat_lt 1) (sym (got_index M (suc k) m (sym (later_marks M k) ∙ h))) ∙ stays k p g)
 
-  top_is_kept : is_kept top N u ≡ true
+  pub top_is_kept : is_kept top N u ≡ true
   top_is_kept = number_kept top ps l t tl
 
   pub part_kept : record { top = u; nodes = nodes_of new } ≡ part (record { top = top; nodes = N }) e es
@@ -159,7 +159,7 @@ module _ (top : EpochName) (ps : List Placed) (l : AreLaid top ps) (ms : List �
 
   -- ---- one tree, linked by the new numbers
 
-  window : Window u (nodes_of new) top N
+  pub window : Window u (nodes_of new) top N
   window = subst (λ (xs : List Node). Window u xs top N) (sym nodes_kept) (keep_window top N l.nodes l.below e es u top_is_kept a.top_is)
 
   -- the parent of a node that is kept is marked
@@ -222,7 +222,7 @@ module _ (top : EpochName) (ps : List Placed) (l : AreLaid top ps) (ms : List �
 
   -- ---- places
 
-  place_new : (k : ℕ) → k < length ps → 1 < slice_index M (suc k) → (place_name new (slice_index M (suc k) - 2) ≡ place_name ps k) × (slice_index M (suc k) - 2 < length new)
+  pub place_new : (k : ℕ) → k < length ps → 1 < slice_index M (suc k) → (place_name new (slice_index M (suc k) - 2) ≡ place_name ps k) × (slice_index M (suc k) - 2 < length new)
   place_new k h q =
       let r = get_of ps k h in
       let g = kept_place_at M ms ps k r.0 r.1 q in
@@ -280,7 +280,7 @@ module _ (top : EpochName) (ps : List Placed) (l : AreLaid top ps) (ms : List �
 -- ---- the whole, with these numbers
 
 module _ (top : EpochName) (ps : List Placed) (by_name order marks : List ℕ) (total : ℕ) (w : IsWhole top ps by_name order marks total) (xs : List ℕ) (t : ℕ) (tl : t ≤ length ps) (lx : length xs ≡ length marks) (e : EpochName) (es : List EpochName) (n : AreNumbered top ps xs t e es) where
-  marks_are : length n.marks ≡ suc (length ps)
+  pub marks_are : length n.marks ≡ suc (length ps)
   marks_are = let a = numbered_length 0 n.marks in let b = ap length n.numbers_are in let c = w.marks_whole in omega arith
 
   pub parents_numbered : (k : ℕ) (p : Placed) → slice_get ps k ≡ Some p → 1 < slice_index xs (suc k) → 0 < slice_index xs p.up

@@ -1,9 +1,9 @@
 -- What a tree of epochs is seen as.
-use Rattle.std.specs.Prelude.{◌≡◌, ℕ, zero, suc, Bool, false, ◌||◌, List, [], ◌∷◌, length, map, reverse, sum_by}
+use Rattle.std.specs.Prelude.{◌≡◌, ℕ, zero, suc, Bool, false, ◌||◌, Option, Some, None, List, [], ◌∷◌, length, map, reverse, sum_by, if◌then◌else◌}
 use Rattle.rls_ident.specs.declared.epoch_name.EpochName.{EpochName}
 use Rattle.rls_ident.specs.EpochNames.{name_eq}
 use Rattle.rls_rename.specs.Renaming.{Renaming}
-use Rattle.rls_rename.specs.Tree.{Node, Epochs, name_of, AreNodes, AreBelow, epoch_cmp, greatest, names}
+use Rattle.rls_rename.specs.Tree.{Node, Epochs, name_of, is_of, AreNodes, AreBelow, epoch_cmp, greatest, names}
 use Rattle.rls_rename.specs.Connected.{in_order}
 use Rattle.rls_epoch.specs.declared.placed.Placed.{Placed}
 use Rattle.rls_epoch.specs.Climbing.{name_cmp}
@@ -32,6 +32,11 @@ rising_epochs E = in_order E.nodes (E.top ∷ names E.nodes)
 -- the answer tells whether the epoch that this renaming opens in another is greater than all that are kept
 abbrev pub OpensGreatest : Bool → Epochs → EpochName → Renaming → Type 0
 OpensGreatest b E parent R = b ≡ name_eq (greatest E.top (record { parent = parent; renaming = R } ∷ E.nodes)) (name_of R)
+
+-- the node of the epoch
+abbrev pub node_for : List Node → EpochName → Option Node
+node_for [] e = None
+node_for (node ∷ older) e = if is_of node e then Some node else node_for older e
 
 -- ---- what the code keeps
 

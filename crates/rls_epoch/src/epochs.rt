@@ -1,21 +1,26 @@
 //! The tree of the epochs that are kept.
 
-ghost use Rattle.std.specs.Prelude.{◌≡◌, ℕ, List, ◌+◌, ◌-◌, ◌<◌, ◌^◌, suc, [], ◌∷◌, length, map, slice_get, Some, IfOk, OnOk, OnErr, IsTrue, IsFalse, ◌||◌};
+ghost use Rattle.std.specs.Prelude.{◌≡◌, ℕ, List, ◌+◌, ◌-◌, ◌<◌, ◌^◌, suc, [], ◌∷◌, ◌++◌, length, map, slice_get, sum_by, Some, IfSome, IfNone, IfOk, OnOk, OnErr, IsTrue, IsFalse, ◌||◌};
+ghost use Rattle.std.specs.Option.{option_copied, option_map};
 ghost use Rattle.rls_ident.specs.declared.epoch_name.EpochName.{EpochName};
 ghost use Rattle.rls_ident.specs.EpochNames.{name_eq, is_of_member};
 ghost use Rattle.rls_runs.specs.Runs.{IsImage};
 ghost use Rattle.rls_rename.specs.Tree.{Node, IsTree, is_kept, epoch_cmp, greatest, greatest_within, translate};
 ghost use Rattle.rls_ident.specs.declared.tuple.Tuple.{Tuple};
-ghost use Rattle.rls_rename.specs.Keeping.{kept_part};
+ghost use Rattle.rls_ident.specs.Lists.{IsIn};
+ghost use Rattle.rls_rename.specs.Connected.{spanned, spanned_renamings};
+ghost use Rattle.rls_rename.specs.Keeping.{kept_part, reached};
 ghost use Rattle.rls_rename.specs.Renaming.{IsFormer, forward};
-ghost use Rattle.rls_epoch.specs.Seen.{former_sum, is_marked, rising_epochs, OpensGreatest};
+ghost use Rattle.rls_epoch.specs.Seen.{former_sum, is_marked, node_for, rising_epochs, OpensGreatest};
 
 use crate::climb::{compare, opens_above};
 use crate::greatest::{greatest, greatest_in};
 use crate::images::{run_led, run_led_by, runs_led};
 use crate::keeping::{former_kept, keep_nodes, keep_places, number_needed};
+use crate::listing::{number_at, parent_name, parent_place, renaming_at};
 use crate::nodes::{copied, epochs_below, find, names_below, number_of};
 use crate::placed::{Placed, epoch_of};
+use crate::retaining::{Retained, retained_part};
 use crate::ways::{ident_led, way_between};
 use rls_ident::{EpochName, Ident, Vector};
 use rls_rename::Renaming;
@@ -300,6 +305,81 @@ impl Epochs {
         keep_places(&mut self.order, self.marks.as_slice());
         self.marks.truncate(self.nodes.len() + 1);
         self.marks.fill(0);
+    }
+
+    /// What `keep` would leave if these epochs were marked alone: the smallest connected part that
+    /// holds the greatest epoch, these, and each that is at least the greatest one within the vector.
+    /// The vector counts the replica of each kept epoch. It goes over the epochs a few times.
+    pub fn retained(&self, stable: &Vector, marked: &[EpochName]) -> Result<Retained, AllocError>
+        requires members { (e : EpochName) → IsTrue (is_kept self.now.epochs.top self.now.epochs.nodes e) → IsTrue (is_of_member (length stable.now) e) }
+        requires marked { (e : EpochName) → IsIn e marked.now → IsTrue (is_kept self.now.epochs.top self.now.epochs.nodes e) }
+        ensures names { IfOk result (λ part. part.names.items ≡ spanned self.now.epochs.top self.now.epochs.nodes (greatest self.now.epochs.top self.now.epochs.nodes) (reached self.now.epochs stable.now ++ marked.now)) }
+        ensures former { IfOk result (λ part. part.former ≡ sum_by (λ R. length R.former) (spanned_renamings self.now.epochs.nodes (greatest self.now.epochs.top self.now.epochs.nodes) (reached self.now.epochs stable.now ++ marked.now))) }
+    {
+        let _total = self.former_total();
+        retained_part(
+            *self.nodes.allocator(),
+            self.top,
+            self.nodes.as_slice(),
+            self.by_name.as_slice(),
+            self.order.as_slice(),
+            stable,
+            marked,
+        )
+    }
+
+    /// The epoch at a place in increasing order of the epochs. The topmost one is at place 0.
+    pub fn name(&self, i: u64) -> EpochName
+        requires place { i < suc (length self.now.epochs.nodes) }
+        ensures name { slice_get (rising_epochs self.now.epochs) i ≡ Some result }
+    {
+        let (nodes, order) = (self.nodes.as_slice(), self.order.as_slice());
+        epoch_of(self.top, nodes, number_at(nodes, order, i))
+    }
+
+    /// The place of the parent of the epoch at a place in increasing order of the epochs, or `None`
+    /// for the topmost one. It takes no memory, and costs a comparison of epochs for each halving of
+    /// them.
+    pub fn parent(&self, i: u64) -> Option<u64>
+        requires place { i < suc (length self.now.epochs.nodes) }
+        ensures parent { (e : EpochName) → slice_get (rising_epochs self.now.epochs) i ≡ Some e → option_map (slice_get (rising_epochs self.now.epochs)) result ≡ option_map (λ node. Some node.parent) (node_for self.now.epochs.nodes e) }
+        ensures none { IfNone result (i ≡ 0) }
+        ensures some { IfSome result (λ p. 0 < i) }
+    {
+        let (nodes, order) = (self.nodes.as_slice(), self.order.as_slice());
+        parent_place(self.top, nodes, order, number_at(nodes, order, i))
+    }
+
+    /// The renaming that opened the epoch at a place in increasing order of the epochs, or `None` for
+    /// the topmost one.
+    pub fn renaming(&self, i: u64) -> Option<&Renaming>
+        requires place { i < suc (length self.now.epochs.nodes) }
+        ensures renaming { (e : EpochName) → slice_get (rising_epochs self.now.epochs) i ≡ Some e → option_copied result ≡ option_map (λ node. node.renaming) (node_for self.now.epochs.nodes e) }
+        ensures none { IfNone result (i ≡ 0) }
+        ensures some { IfSome result (λ p. 0 < i) }
+    {
+        let (nodes, order) = (self.nodes.as_slice(), self.order.as_slice());
+        renaming_at(nodes, number_at(nodes, order, i))
+    }
+
+    /// The parent of a kept epoch, or `None` for the topmost one. It takes no memory, and costs a
+    /// comparison of names for each halving of the nodes.
+    pub fn parent_of(&self, name: EpochName) -> Option<EpochName>
+        requires kept { IsTrue (is_kept self.now.epochs.top self.now.epochs.nodes name) }
+        ensures parent { result ≡ option_map (λ node. node.parent) (node_for self.now.epochs.nodes name) }
+    {
+        let (nodes, by_name) = (self.nodes.as_slice(), self.by_name.as_slice());
+        parent_name(nodes, number_of(self.top, nodes, by_name, name))
+    }
+
+    /// The renaming that opened a kept epoch, or `None` for the topmost one. It takes no memory, and
+    /// costs a comparison of names for each halving of the nodes.
+    pub fn renaming_of(&self, name: EpochName) -> Option<&Renaming>
+        requires kept { IsTrue (is_kept self.now.epochs.top self.now.epochs.nodes name) }
+        ensures renaming { option_copied result ≡ option_map (λ node. node.renaming) (node_for self.now.epochs.nodes name) }
+    {
+        let (nodes, by_name) = (self.nodes.as_slice(), self.by_name.as_slice());
+        renaming_at(nodes, number_of(self.top, nodes, by_name, name))
     }
 
     /// The number of epochs, the topmost one among them.

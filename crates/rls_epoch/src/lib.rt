@@ -7,9 +7,12 @@ mod epochs;
 mod greatest;
 mod images;
 mod keeping;
+mod listing;
 mod marks;
 mod nodes;
 mod placed;
+mod retaining;
 mod ways;
 
 pub use epochs::Epochs;
+pub use retaining::Retained;

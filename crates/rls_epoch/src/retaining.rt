@@ -1,0 +1,77 @@
+//! What is retained of a tree.
+
+ghost use Rattle.std.specs.Prelude.{◌≡◌, ◌<◌, ◌^◌, suc, ◌++◌, length, sum_by, IfOk, IsTrue};
+ghost use Rattle.rls_ident.specs.declared.epoch_name.EpochName.{EpochName};
+ghost use Rattle.rls_ident.specs.EpochNames.{is_of_member};
+ghost use Rattle.rls_ident.specs.Lists.{IsIn};
+ghost use Rattle.rls_rename.specs.Connected.{spanned, spanned_renamings};
+ghost use Rattle.rls_rename.specs.Keeping.{reached};
+ghost use Rattle.rls_rename.specs.Tree.{epoch_cmp, greatest, is_kept};
+ghost use Rattle.rls_epoch.specs.Climbing.{name_cmp};
+ghost use Rattle.rls_epoch.specs.Marks.{AreNamed};
+ghost use Rattle.rls_epoch.specs.Seen.{former_sum, nodes_of, AreLaid};
+ghost use Rattle.rls_epoch.specs.Sorted.{AreSorted};
+
+use crate::keeping::{former_kept, list_kept, number_needed};
+use crate::nodes::number_of;
+use crate::placed::{Placed, epoch_of};
+use rls_ident::{EpochName, Vector};
+use std::alloc::{AllocError, Global};
+
+/// The smallest connected part of a tree that holds what is needed.
+#[derive(Drop)]
+pub struct Retained {
+    /// Its epochs, in increasing order: the topmost of them is the first.
+    pub names: Vec<EpochName>,
+    /// The number of former identifiers of the others.
+    pub former: u64,
+}
+
+// What is retained where these epochs are needed beside the greatest and those that are at least the
+// greatest one within the vector.
+pub(crate) fn retained_part(
+    alloc: Global,
+    top: EpochName,
+    nodes: &[Placed],
+    by_name: &[usize],
+    order: &[usize],
+    stable: &Vector,
+    marked: &[EpochName],
+) -> Result<Retained, AllocError>
+    requires laid { AreLaid top nodes.now }
+    requires by_name_is { AreSorted name_cmp nodes.now by_name.now }
+    requires order_is { AreSorted (epoch_cmp (nodes_of nodes.now)) nodes.now order.now }
+    requires members { (e : EpochName) → IsTrue (is_kept top (nodes_of nodes.now) e) → IsTrue (is_of_member (length stable.now) e) }
+    requires marked { (e : EpochName) → IsIn e marked.now → IsTrue (is_kept top (nodes_of nodes.now) e) }
+    requires total { former_sum (nodes_of nodes.now) < 2 ^ 64 }
+    ensures names { IfOk result (λ part. part.names.items ≡ spanned top (nodes_of nodes.now) (greatest top (nodes_of nodes.now)) (reached (record { top = top; nodes = nodes_of nodes.now }) stable.now ++ marked.now)) }
+    ensures former { IfOk result (λ part. part.former ≡ sum_by (λ R. length R.former) (spanned_renamings (nodes_of nodes.now) (greatest top (nodes_of nodes.now)) (reached (record { top = top; nodes = nodes_of nodes.now }) stable.now ++ marked.now))) }
+{
+    let mut marks = marks_for(alloc, top, nodes, by_name, marked)?;
+    let number = number_needed(top, nodes, order, marks.as_mut_slice(), stable);
+    let first = epoch_of(top, nodes, number);
+    let names = list_kept(alloc, first, nodes, marks.as_slice(), order)?;
+    let former = former_kept(nodes, marks.as_slice());
+    Ok(Retained { names, former })
+}
+
+// The marks of these epochs alone.
+fn marks_for(
+    alloc: Global,
+    top: EpochName,
+    nodes: &[Placed],
+    by_name: &[usize],
+    marked: &[EpochName],
+) -> Result<Vec<usize>, AllocError>
+    requires by_name_is { AreSorted name_cmp nodes.now by_name.now }
+    requires marked { (e : EpochName) → IsIn e marked.now → IsTrue (is_kept top (nodes_of nodes.now) e) }
+    ensures whole { IfOk result (λ marks. length marks.items ≡ suc (length nodes.now)) }
+    ensures named { IfOk result (λ marks. AreNamed top nodes.now marks.items marked.now) }
+{
+    let mut marks = vec![in alloc; 0; nodes.len() + 1]?;
+    for name in marked {
+        let number = number_of(top, nodes, by_name, *name);
+        marks[number] = 1;
+    }
+    Ok(marks)
+}
