@@ -1,6 +1,9 @@
 pub mod Greatest
 pub mod Laid
 pub mod Meeting
+pub mod Numbered
+pub mod Opened
+pub mod Steps
 pub mod Whole
 pub mod Within
 pub mod Unmarked

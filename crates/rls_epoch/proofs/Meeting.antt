@@ -18,20 +18,20 @@ use Rattle.rls_epoch.specs.declared.climb.Climb.{Climb}
 use Rattle.rls_epoch.specs.Climbing.{side_cmp, climbed, meet_cmp, climb_from}
 
 -- the child at which what was passed begins
-abbrev below_of : List Renaming → Option EpochName
+abbrev pub below_of : List Renaming → Option EpochName
 below_of [] = None
 below_of (R ∷ Rs) = Some (name_of R)
 
-abbrev way : EpochName → List Renaming → Climb
+abbrev pub way : EpochName → List Renaming → Climb
 way e Rs = record { at = e; below = below_of Rs }
 
 -- what was passed is no longer among the nodes
-abbrev IsPassed : List Node → List Renaming → Type 0
+abbrev pub IsPassed : List Node → List Renaming → Type 0
 IsPassed nodes [] = Unit {0}
 IsPassed nodes (R ∷ Rs) = has_node nodes (name_of R) ≡ false
 
 -- what was passed on two ways begins at two children
-abbrev AreApart : List Renaming → List Renaming → Type 0
+abbrev pub AreApart : List Renaming → List Renaming → Type 0
 AreApart (R ∷ Rs) (S ∷ Ss) = name_eq (name_of R) (name_of S) ≡ false
 AreApart _ _ = Unit {0}
 
@@ -60,10 +60,10 @@ side_is (R ∷ Xs) (S ∷ Ys) a = sym (then_decided (renaming_cmp R S) (slice_cm
 
 -- ---- one step
 
-abbrev up : Node → EpochName → EpochName
+abbrev pub up : Node → EpochName → EpochName
 up node e = if is_of node e then node.parent else e
 
-abbrev passed : Node → EpochName → List Renaming → List Renaming
+abbrev pub passed : Node → EpochName → List Renaming → List Renaming
 passed node e Xs = if is_of node e then node.renaming ∷ Xs else Xs
 
 -- what a step does
@@ -83,7 +83,7 @@ climbed_is node e Xs = go (is_of node e)
     go true = refl
     go false = refl
 
-path_is : (node : Node) (older : List Node) (e : EpochName) (Xs : List Renaming) → path (node ∷ older) e ++ Xs ≡ path older (up node e) ++ passed node e Xs
+pub path_is : (node : Node) (older : List Node) (e : EpochName) (Xs : List Renaming) → path (node ∷ older) e ++ Xs ≡ path older (up node e) ++ passed node e Xs
 unfolding path
 path_is node older e Xs = go (is_of node e) (path older (up node e))
   where
@@ -91,11 +91,11 @@ path_is node older e Xs = go (is_of node e) (path older (up node e))
     go true p = append_assoc p (node.renaming ∷ []) Xs
     go false p = append_assoc p [] Xs
 
-left_false : (a b : Bool) → (a || b) ≡ false → a ≡ false
+pub left_false : (a b : Bool) → (a || b) ≡ false → a ≡ false
 left_false true b h = h
 left_false false b h = refl
 
-right_false : (a b : Bool) → (a || b) ≡ false → b ≡ false
+pub right_false : (a b : Bool) → (a || b) ≡ false → b ≡ false
 right_false true b h = absurd (cc)
 right_false false b h = h
 
@@ -138,7 +138,7 @@ none : (e f : EpochName) (Xs Ys : List Renaming) → slice_cmp renaming_cmp (pat
 unfolding path
 none e f Xs Ys = refl
 
-meets : (nodes : List Node) → AreNodes nodes → (e f : EpochName) (Xs Ys : List Renaming) → IsPassed nodes Xs → IsPassed nodes Ys → AreApart Xs Ys →
+pub meets : (nodes : List Node) → AreNodes nodes → (e f : EpochName) (Xs Ys : List Renaming) → IsPassed nodes Xs → IsPassed nodes Ys → AreApart Xs Ys →
     meet_cmp nodes (way e Xs) (way f Ys) ≡ slice_cmp renaming_cmp (path nodes e ++ Xs) (path nodes f ++ Ys)
 unfolding meet_cmp
 meets [] n e f Xs Ys p q a = side_is Xs Ys a ∙ sym (none e f Xs Ys)

@@ -1,2 +1,4 @@
 pub mod Climbing
+pub mod Links
 pub mod Seen
+pub mod Ways

@@ -2,8 +2,10 @@
 use Rattle.std.specs.Prelude.{◌≡◌, ℕ, Bool, false, ◌||◌, List, [], ◌∷◌, length, map, reverse, sum_by, if◌then◌else◌}
 use Rattle.rls_ident.specs.declared.epoch_name.EpochName.{EpochName}
 use Rattle.rls_ident.specs.EpochNames.{name_eq, is_within}
+use Rattle.rls_rename.specs.Renaming.{Renaming}
 use Rattle.rls_rename.specs.Tree.{Node, Epochs, name_of, AreNodes, AreBelow, greatest, later_of}
 use Rattle.rls_epoch.specs.declared.placed.Placed.{Placed}
+use Rattle.rls_epoch.specs.Links.{AreLinked}
 
 -- the epochs, those that are marked, and for how many more nodes there is room
 pub record EpochsSeen : Type 0 where
@@ -23,6 +25,10 @@ former_sum nodes = sum_by (λ node. length node.renaming.former) nodes
 -- the greater of two epochs, where the second one is within the vector
 unfoldable pub later_in : List Node → EpochName → EpochName → List ℕ → EpochName
 later_in nodes e f v = if is_within f v then later_of nodes e f else e
+
+-- the answer tells whether the epoch that this renaming opens in another is greater than all that are kept
+abbrev pub OpensGreatest : Bool → Epochs → EpochName → Renaming → Type 0
+OpensGreatest b E parent R = b ≡ name_eq (greatest E.top (record { parent = parent; renaming = R } ∷ E.nodes)) (name_of R)
 
 -- ---- what the code keeps
 
@@ -47,9 +53,10 @@ marked_names (p ∷ placed) = if p.marked then name_of p.renaming ∷ marked_nam
 abbrev pub marks_of : EpochName → Bool → List Placed → List EpochName
 marks_of top marked placed = if marked then top ∷ marked_names (reverse placed) else marked_names (reverse placed)
 
--- they are one tree, with this number of former identifiers and this greatest epoch
+-- they are one tree, linked by numbers, with this number of former identifiers and this greatest epoch
 pub record IsWhole (top : EpochName) (placed : List Placed) (total : ℕ) (last : EpochName) : Type 0 where
   pub nodes : AreNodes (nodes_of placed)
   pub below : AreBelow top (nodes_of placed)
+  pub links : AreLinked top placed
   pub sum : total ≡ former_sum (nodes_of placed)
   pub greatest : last ≡ greatest top (nodes_of placed)

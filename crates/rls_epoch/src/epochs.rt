@@ -1,16 +1,20 @@
 //! The tree of the epochs that are kept.
 
-ghost use Rattle.std.specs.Prelude.{◌≡◌, ℕ, ◌+◌, ◌-◌, ◌<◌, ◌^◌, suc, [], ◌∷◌, length, IfOk, OnOk, OnErr, IsTrue, IsFalse, ◌||◌};
+ghost use Rattle.std.specs.Prelude.{◌≡◌, ℕ, List, ◌+◌, ◌-◌, ◌<◌, ◌^◌, suc, [], ◌∷◌, length, IfOk, OnOk, OnErr, IsTrue, IsFalse, ◌||◌};
 ghost use Rattle.rls_ident.specs.declared.epoch_name.EpochName.{EpochName};
 ghost use Rattle.rls_ident.specs.EpochNames.{name_eq};
 ghost use Rattle.rls_rename.specs.Tree.{Node, IsTree, is_kept, epoch_cmp, greatest, greatest_within};
 ghost use Rattle.rls_ident.specs.EpochNames.{is_of_member};
-ghost use Rattle.rls_epoch.specs.Seen.{former_sum};
+ghost use Rattle.rls_epoch.specs.Seen.{former_sum, OpensGreatest};
+ghost use Rattle.rls_ident.specs.declared.tuple.Tuple.{Tuple};
+ghost use Rattle.rls_rename.specs.Renaming.{IsFormer};
+ghost use Rattle.rls_rename.specs.Tree.{translate};
 
 use crate::marks::clear;
-use crate::nodes::{compare, copied, greatest_in, has_node, later_of};
+use crate::nodes::{compare, copied, greatest_in, has_node, later_of, number_of, opens_above};
 use crate::placed::Placed;
-use rls_ident::{EpochName, Vector};
+use crate::ways::{ident_led, way_between};
+use rls_ident::{EpochName, Ident, Vector};
 use rls_rename::Renaming;
 use std::alloc::{AllocError, Global};
 use std::cmp::Ordering;
@@ -77,10 +81,12 @@ impl Epochs {
         ensures marks { self.new.marks ≡ self.old.marks }
     {
         let name = EpochName::Of { replica, seq };
+        let up = number_of(self.nodes.as_slice(), self.top, parent);
         self.total += renaming.total();
         self.nodes
             .push(Placed {
                 parent,
+                up,
                 renaming,
                 marked: false,
             })
@@ -113,6 +119,21 @@ impl Epochs {
         self.greatest
     }
 
+    /// Whether the epoch that a rename would open in another is greater than all that are kept. It
+    /// takes no memory, and costs a few comparisons of names for each node.
+    pub fn opens_greatest(&self, replica: u32, seq: u32, parent: EpochName) -> bool
+        requires fresh { IsFalse (is_kept self.now.epochs.top self.now.epochs.nodes (EpochName.Of replica seq)) }
+        requires parent { IsTrue (is_kept self.now.epochs.top self.now.epochs.nodes parent) }
+        ensures greatest { (former : List (List Tuple)) → IsFormer former → OpensGreatest result self.now.epochs parent (record { former = former; replica = replica; seq = seq }) }
+    {
+        opens_above(
+            &self.nodes,
+            self.greatest,
+            parent,
+            EpochName::Of { replica, seq },
+        )
+    }
+
     /// The greatest epoch within a vector that counts the replica of each kept epoch, or the topmost
     /// one where none is. It takes no memory. Where the greatest epoch isn't within the vector it
     /// costs a comparison of epochs for each one within it.
@@ -125,6 +146,18 @@ impl Epochs {
             return self.greatest;
         }
         greatest_in(&self.nodes, self.top, v)
+    }
+
+    /// An identifier of the one epoch in the other: back by the renamings up to the nearest common
+    /// epoch, and forward from there. It costs these renamings of the identifier.
+    pub fn translate(&self, from: EpochName, to: EpochName, id: &Ident) -> Result<Ident, AllocError>
+        requires from { IsTrue (is_kept self.now.epochs.top self.now.epochs.nodes from) }
+        requires to { IsTrue (is_kept self.now.epochs.top self.now.epochs.nodes to) }
+        ensures translated { IfOk result (λ x. x ≡ translate self.now.epochs.nodes from to id.now) }
+    {
+        let (nodes, _len) = (self.nodes.as_slice(), id.len());
+        let steps = way_between(*self.nodes.allocator(), nodes, self.top, from, to)?;
+        ident_led(nodes, &steps, id)
     }
 
     /// Takes all marks away. It takes no memory.

@@ -7,5 +7,6 @@ mod epochs;
 mod marks;
 mod nodes;
 mod placed;
+mod ways;
 
 pub use epochs::Epochs;

@@ -1,10 +1,12 @@
 //! The nodes of a tree, of which the latest stands last.
 
-ghost use Rattle.std.specs.Prelude.{◌≡◌, IfOk, IsTrue, true, length};
-ghost use Rattle.rls_rename.specs.Tree.{has_node, AreNodes, epoch_cmp, later_of, greatest_within};
+ghost use Rattle.std.specs.Prelude.{◌≡◌, ◌≤◌, Some, IfOk, IsTrue, true, length};
+ghost use Rattle.std.specs.Ordering.{is_lt};
+ghost use Rattle.rls_rename.specs.Tree.{has_node, is_kept, AreNodes, epoch_cmp, later_of, greatest_within};
 ghost use Rattle.rls_ident.specs.declared.epoch_name.EpochName.{EpochName};
 ghost use Rattle.rls_ident.specs.EpochNames.{is_of_member};
 ghost use Rattle.rls_epoch.specs.Climbing.{meet_cmp, climb_from};
+ghost use Rattle.rls_epoch.specs.Links.{name_at};
 ghost use Rattle.rls_epoch.specs.Seen.{nodes_of, later_in};
 
 use crate::climb::{Climb, climb_from};
@@ -26,6 +28,22 @@ pub(crate) fn has_node(nodes: &[Placed], name: EpochName) -> bool
         rest = older;
     }
     false
+}
+
+// The number of a kept epoch.
+pub(crate) fn number_of(nodes: &[Placed], top: EpochName, name: EpochName) -> usize
+    requires kept { IsTrue (is_kept top (nodes_of nodes.now) name) }
+    ensures number { name_at top nodes.now result ≡ Some name }
+    ensures within { result ≤ length nodes.now }
+{
+    let mut number = nodes.len();
+    while number > 0 {
+        if nodes[number - 1].is_of(name) {
+            return number;
+        }
+        number -= 1;
+    }
+    0
 }
 
 // The order of two epochs, where no two nodes have one name. It goes up from both until they meet.
@@ -53,6 +71,22 @@ fn met(nodes: &[Placed], first: Climb, second: Climb) -> Ordering
         rest = older;
     }
     left.compare(right)
+}
+
+// Whether an epoch that is to be opened in another is greater than this one.
+pub(crate) fn opens_above(
+    nodes: &[Placed],
+    name: EpochName,
+    parent: EpochName,
+    opened: EpochName,
+) -> bool
+    ensures above { result ≡ is_lt (meet_cmp (nodes_of nodes.now) (climb_from name) (record { at = parent; below = Some opened })) }
+{
+    let climb = Climb {
+        at: parent,
+        below: Some(opened),
+    };
+    met(nodes, climb_from(name), climb).is_lt()
 }
 
 // The greater of two epochs.

@@ -8,10 +8,12 @@ use rls_ident::EpochName;
 use rls_rename::Renaming;
 use std::alloc::AllocError;
 
-// The epoch in which one was opened, the renaming that opened it, and whether it is marked.
+// The epoch in which one was opened with its number, the renaming that opened it, and whether it is
+// marked. The number of the topmost epoch is 0, and any other's is one more than its place.
 #[derive(Drop)]
 pub(crate) struct Placed {
     pub(crate) parent: EpochName,
+    pub(crate) up: usize,
     pub(crate) renaming: Renaming,
     pub(crate) marked: bool,
 }
@@ -40,6 +42,7 @@ impl Placed {
     {
         Ok(Placed {
             parent: self.parent,
+            up: self.up,
             renaming: self.renaming.copy()?,
             marked: self.marked,
         })

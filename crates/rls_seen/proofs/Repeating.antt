@@ -145,7 +145,7 @@ no_releases : (n : ℕ) (c : Course) → c.limit ≡ Some 0 → release_steps n 
 no_releases zero c e = refl
 no_releases (suc n) c e = ap (release_steps n) (no_release c e) ∙ no_releases n c e
 
-no_ops : (os : List Op) (c : Course) → c.limit ≡ Some 0 → take_ops c os ≡ c
+pub no_ops : (os : List Op) (c : Course) → c.limit ≡ Some 0 → take_ops c os ≡ c
 no_ops [] c e = refl
 no_ops (o ∷ os) c e =
     let r : receive_step c o ≡ c = ap (λ b. cond b (with_answer (moved c (received c.seen o)) o (answer_over false c.seen o)) c) (ap has_room e) in

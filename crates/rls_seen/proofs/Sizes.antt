@@ -97,7 +97,7 @@ former_after s o l f h = let a = former_go s o o.body f in let b = sum-raise (ve
 
 -- ---- so that they fit
 
-sum_small : (v : List ℕ) → length v ≤ 64 → All IsSmall v → sum v < 2 ^ 38
+pub sum_small : (v : List ℕ) → length v ≤ 64 → All IsSmall v → sum v < 2 ^ 38
 sum_small v l h = let a = sum_by-le (λ n. n) (2 ^ 32 - 1) v (λ k d i. let x = h k d i in omega arith) in omega arith
 
 pub total_fits : (s : Seen) → members s ≤ 64 → All IsSmall (vector s) → (n : ℕ) → n ≤ 2 ^ 63 + 4194304 * sum (vector s) → n + 4194304 < 2 ^ 64

@@ -120,7 +120,7 @@ taken_stands limit s t m w h =
 taken_record : ℕ → ℕ → ℕ → ℕ → List (ℕ × ℕ × Reason) → Taken
 taken_record a b c d rs = record { applied = a; released = b; repeated = c; held = d; refused = rs }
 
-counted_alike : (n : ℕ) (c : Course) (p : Progress) → Goes n c p → taken_of c ≡ model.taken p
+pub counted_alike : (n : ℕ) (c : Course) (p : Progress) → Goes n c p → taken_of c ≡ model.taken p
 unfolding taken_record
 counted_alike n c p g =
     ap (λ a. taken_record a c.released c.repeated c.held c.refused) g.applied

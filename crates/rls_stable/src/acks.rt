@@ -51,6 +51,14 @@ impl Acks {
         Ok(Acks { rows, stable })
     }
 
+    /// One's own number.
+    pub fn me(&self) -> u32
+        ensures me { result ≡ self.now.me }
+        ensures rows { AreRows self.now }
+    {
+        self.rows.me()
+    }
+
     /// One's own row: what was accepted here.
     pub fn mine(&self) -> &Vector
         ensures mine { result.now ≡ self.now.mine }

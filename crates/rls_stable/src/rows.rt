@@ -43,6 +43,13 @@ impl Rows {
         })
     }
 
+    pub(crate) fn me(&self) -> u32
+        ensures me { result ≡ self.now.me }
+        ensures rows { AreRows self.now }
+    {
+        self.me
+    }
+
     pub(crate) fn mine(&self) -> &Vector
         ensures mine { result.now ≡ self.now.mine }
         ensures rows { AreRows self.now }

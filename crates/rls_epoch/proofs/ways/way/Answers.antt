@@ -1,0 +1,54 @@
+use Rattle.std.proofs.Common.{◌≡◌, ◌+◌, ◌-◌, ◌<◌, suc, Some, get_or, refl, subst, arith}
+use Rattle.std.specs.Prelude.{reverse, slice_get}
+use Rattle.std.proofs.lemmas.Option.{slice_get-get_or}
+use Rattle.rls_epoch.specs.Ways.{Leads}
+use Rattle.rls_epoch.proofs.Steps.{leads_on, leads_up, leads_down}
+use Rattle.rls_epoch.proofs.ways.way.Goals as goal
+
+pub loop-left-preserved-then-right-left : goal.loop-left-preserved-then-right-left
+loop-left-preserved-then-right-left c =
+    let ps = c.args.nodes.now in
+    let k = c.loop-left.left - 1 in
+    let p = get_or ps k c.index-nodes-left.result in
+    let g : slice_get ps k ≡ Some p = slice_get-get_or ps k c.index-nodes-left.result (omega arith) in
+    let e = c.requires.earlier k p g in
+    let s : c.loop-left.left ≡ suc k = omega arith in
+    record {
+      left_within = omega arith;
+      right_within = c.loop-left.invariant.right_within;
+      up = rw c.in_ok-push.ensures.items (leads_up ps c.args.from k p.up p c.loop-left.up.items g (subst (λ n. Leads ps c.args.from c.loop-left.up.items n) s c.loop-left.invariant.up) refl);
+      down = c.loop-left.invariant.down;
+    }
+
+pub loop-left-smaller : goal.loop-left-smaller
+loop-left-smaller c =
+    let ps = c.args.nodes.now in
+    let k = c.loop-left.right - 1 in
+    let p = get_or ps k c.index-nodes-right.result in
+    let g : slice_get ps k ≡ Some p = slice_get-get_or ps k c.index-nodes-right.result (omega arith) in
+    let e = c.requires.earlier k p g in
+    let h : c.loop-left.left + p.up < c.loop-left.left + c.loop-left.right = omega arith in
+    h
+
+pub loop-left-preserved : goal.loop-left-preserved
+loop-left-preserved c =
+    let ps = c.args.nodes.now in
+    let k = c.loop-left.right - 1 in
+    let p = get_or ps k c.index-nodes-right.result in
+    let g : slice_get ps k ≡ Some p = slice_get-get_or ps k c.index-nodes-right.result (omega arith) in
+    let e = c.requires.earlier k p g in
+    let s : c.loop-left.right ≡ suc k = omega arith in
+    record {
+      left_within = c.loop-left.invariant.left_within;
+      right_within = omega arith;
+      up = c.loop-left.invariant.up;
+      down = rw c.in_ok-push-2.ensures.items (leads_down ps k c.args.to p.up p c.loop-left.down.items g (subst (λ n. Leads ps n (reverse c.loop-left.down.items) c.args.to) s c.loop-left.invariant.down) refl);
+    }
+
+pub returns : goal.returns
+returns c =
+    let ps = c.args.nodes.now in
+    let up = c.loop-left.up.items in
+    let down = reverse c.loop-left.down.items in
+    let met : c.loop-left.right ≡ c.loop-left.left = omega arith in
+    rw (c.in_ok-extend_from_slice.ensures.items, c.deref.ensures.value, c.reverse.ensures.items) (record { way = leads_on ps c.args.from c.loop-left.left c.args.to up down c.loop-left.invariant.up (subst (λ n. Leads ps n down c.args.to) met c.loop-left.invariant.down) })

@@ -1,0 +1,4 @@
+pub mod Lines
+pub mod Reaches
+pub mod Seen
+pub mod Tables

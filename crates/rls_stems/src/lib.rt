@@ -1,0 +1,7 @@
+//! The stems of all authors: which offsets were used (LogootSplit: André and others, 2013).
+#![tactic(auto)]
+
+mod line;
+mod table;
+
+pub use table::StemTable;
