@@ -1,37 +1,42 @@
 -- Two ways up that meet show the order of the epochs from which they come.
-use Rattle.std.proofs.Common.{◌≡◌, Bool, true, false, Option, Some, None, List, [], ◌∷◌, ◌++◌, refl, sym, ap, ◌∙◌}
-use Rattle.std.specs.Prelude.{if◌then◌else◌, ◌||◌}
+use Rattle.std.proofs.Common.{◌≡◌, ℕ, zero, suc, ◌-◌, ◌<◌, ◌≤◌, true, false, Option, Some, None, List, [], ◌∷◌, ◌++◌, map, length, take, drop, refl, sym, ap, ◌∙◌, subst, arith, ⊎_elim}
+use Rattle.std.specs.Prelude.{reverse, slice_get}
 use Rattle.std.specs.declared.cmp.Ordering.{Ordering}
 use Rattle.std.specs.declared.cmp.Ordering.TheVariants.{Less, Equal, Greater}
+use Rattle.std.specs.Option.{option_map}
 use Rattle.std.specs.Ordering.{ordering_then}
 use Rattle.std.specs.Cmp.Lexicographic.{slice_cmp}
-use Rattle.std.proofs.lemmas.List.{append-nil, append_assoc}
+use Rattle.std.proofs.lemmas.Bool.{cases_lt}
+use Rattle.std.proofs.lemmas.List.{append-nil, append_assoc, map-append, reverse-append}
 use Rattle.rls_ident.specs.declared.epoch_name.EpochName.{EpochName}
 use Rattle.rls_ident.specs.EpochNames.{name_eq}
 use Rattle.rls_ident.proofs.Named.{name_eq_is, name_eq_refl}
-use Rattle.rls_ident.proofs.Members.{bool_cases}
+use Rattle.rls_ident.proofs.Members.{not_true, some_is, true_false}
 use Rattle.rls_rename.specs.Renaming.{Renaming}
 use Rattle.rls_rename.specs.Tree.{Node, name_of, is_of, has_node, AreNodes, path, renaming_cmp, epoch_cmp}
+use Rattle.rls_rename.proofs.Growth.{path_child, path_other}
 use Rattle.rls_rename.proofs.Order.{front_same}
-use Rattle.rls_rename.proofs.SameNodes.{same_names}
+use Rattle.rls_rename.proofs.SameNodes.{same_names, node_named, path_member}
 use Rattle.rls_epoch.specs.declared.climb.Climb.{Climb}
-use Rattle.rls_epoch.specs.Climbing.{side_cmp, climbed, meet_cmp, climb_from}
+use Rattle.rls_epoch.specs.declared.placed.Placed.{Placed}
+use Rattle.rls_epoch.specs.Climbing.{side_cmp}
+pub use Rattle.rls_epoch.specs.Climbs.{StartsAt, IsAbove, AreTwo, below_or}
+use Rattle.rls_epoch.specs.Links.{name_at, epoch_at, up_at}
+use Rattle.rls_epoch.specs.Seen.{node_of, nodes_of, AreLaid}
+use Rattle.rls_epoch.specs.Sorted.{place_name}
+use Rattle.rls_epoch.proofs.Reading.{name_read}
+use Rattle.rls_epoch.proofs.Sorting.{get_of, get_split}
+use Rattle.rls_epoch.proofs.Steps.{node_in, up_read}
+
+-- ---- children of one epoch
 
 -- the child at which what was passed begins
-abbrev pub below_of : List Renaming → Option EpochName
+abbrev below_of : List Renaming → Option EpochName
 below_of [] = None
 below_of (R ∷ Rs) = Some (name_of R)
 
-abbrev pub way : EpochName → List Renaming → Climb
-way e Rs = record { at = e; below = below_of Rs }
-
--- what was passed is no longer among the nodes
-abbrev pub IsPassed : List Node → List Renaming → Type 0
-IsPassed nodes [] = Unit {0}
-IsPassed nodes (R ∷ Rs) = has_node nodes (name_of R) ≡ false
-
 -- what was passed on two ways begins at two children
-abbrev pub AreApart : List Renaming → List Renaming → Type 0
+abbrev AreApart : List Renaming → List Renaming → Type 0
 AreApart (R ∷ Rs) (S ∷ Ss) = name_eq (name_of R) (name_of S) ≡ false
 AreApart _ _ = Unit {0}
 
@@ -58,109 +63,148 @@ side_is [] (S ∷ Ys) a = refl
 side_is (R ∷ Xs) [] a = refl
 side_is (R ∷ Xs) (S ∷ Ys) a = sym (then_decided (renaming_cmp R S) (slice_cmp renaming_cmp Xs Ys) (not_tied R S a))
 
--- ---- one step
+-- ---- names at places
 
-abbrev pub up : Node → EpochName → EpochName
-up node e = if is_of node e then node.parent else e
-
-abbrev pub passed : Node → EpochName → List Renaming → List Renaming
-passed node e Xs = if is_of node e then node.renaming ∷ Xs else Xs
-
--- what a step does
-pub climbs : (c : Climb) (node : Node) (e : EpochName) → e ≡ name_of node.renaming → is_of node c.at ≡ true → record { at = node.parent; below = Some e } ≡ climbed c node
-unfolding climbed
-climbs c node e h k = ap (λ z. record { at = node.parent; below = Some z }) h ∙ sym (ap (λ b. if b then record { at = node.parent; below = Some (name_of node.renaming) } else c) k)
-
-pub climbs_not : (c : Climb) (node : Node) → is_of node c.at ≡ false → c ≡ climbed c node
-unfolding climbed
-climbs_not c node k = sym (ap (λ b. if b then record { at = node.parent; below = Some (name_of node.renaming) } else c) k)
-
-climbed_is : (node : Node) (e : EpochName) (Xs : List Renaming) → climbed (way e Xs) node ≡ way (up node e) (passed node e Xs)
-unfolding climbed
-climbed_is node e Xs = go (is_of node e)
+-- the name that belongs to a number
+pub at_is : (top : EpochName) (ps : List Placed) (n : ℕ) (e : EpochName) → name_at top ps n ≡ Some e → epoch_at top ps n ≡ e
+at_is top ps zero e h = some_is top e h
+at_is top ps (suc k) e h = go (slice_get ps k) refl h
   where
-    go : (b : Bool) → (if b then record { at = node.parent; below = Some (name_of node.renaming) } else way e Xs) ≡ way (if b then node.parent else e) (if b then node.renaming ∷ Xs else Xs)
-    go true = refl
-    go false = refl
+    go : (o : Option Placed) → slice_get ps k ≡ o → option_map (λ (z : Placed). name_of z.renaming) o ≡ Some e → place_name ps k ≡ e
+    go None g j = absurd (cc)
+    go (Some p) g j = name_read ps k p g ∙ some_is (name_of p.renaming) e j
 
-pub path_is : (node : Node) (older : List Node) (e : EpochName) (Xs : List Renaming) → path (node ∷ older) e ++ Xs ≡ path older (up node e) ++ passed node e Xs
-unfolding path
-path_is node older e Xs = go (is_of node e) (path older (up node e))
+nodes_split : (xs ys : List Placed) → nodes_of (xs ++ ys) ≡ nodes_of ys ++ nodes_of xs
+nodes_split xs ys = ap (map node_of) (reverse-append xs ys) ∙ map-append node_of (reverse ys) (reverse xs)
+
+nodes_front : (xs ys : List Node) → AreNodes (xs ++ ys) → AreNodes ys
+nodes_front [] ys d = d
+nodes_front (x ∷ xs) ys d = nodes_front xs ys d.2
+
+-- an earlier node has another name
+earlier_other : (ps : List Placed) → AreNodes (nodes_of ps) → (h k : ℕ) (p q : Placed) → slice_get ps h ≡ Some p → slice_get ps k ≡ Some q → h < k → name_of p.renaming ≡ name_of q.renaming → ⊥
+earlier_other ps d h k p q g j l e =
+    let split = nodes_split (take k ps) (q ∷ drop (suc k) ps) in
+    let whole = subst AreNodes (ap nodes_of (get_split ps k q j) ∙ split) d in
+    let later = nodes_split (q ∷ []) (drop (suc k) ps) in
+    let part = nodes_front (nodes_of (drop (suc k) ps)) (node_of q ∷ nodes_of (take k ps)) (subst AreNodes (ap (λ z. z ++ nodes_of (take k ps)) later ∙ append_assoc (nodes_of (drop (suc k) ps)) (node_of q ∷ []) (nodes_of (take k ps))) whole) in
+    let there = node_in (take k ps) h p (get_taken ps h k p g l) in
+    let named = ap (has_node (nodes_of (take k ps))) (sym e) ∙ node_named (node_of p) (nodes_of (take k ps)) there in
+    let not = part.1 in
+    absurd (cc)
   where
-    go : (b : Bool) (p : List Renaming) → (p ++ (if b then node.renaming ∷ [] else [])) ++ Xs ≡ p ++ (if b then node.renaming ∷ Xs else Xs)
-    go true p = append_assoc p (node.renaming ∷ []) Xs
-    go false p = append_assoc p [] Xs
+    get_taken : (xs : List Placed) (h k : ℕ) (p : Placed) → slice_get xs h ≡ Some p → h < k → slice_get (take k xs) h ≡ Some p
+    get_taken xs h zero p g l = absurd (omega arith)
+    get_taken [] h (suc k) p g l = absurd (cc)
+    get_taken (x ∷ xs) zero (suc k) p g l = g
+    get_taken (x ∷ xs) (suc h) (suc k) p g l = get_taken xs h k p g (omega arith)
 
-pub left_false : (a b : Bool) → (a || b) ≡ false → a ≡ false
-left_false true b h = h
-left_false false b h = refl
+-- nodes at two places have two names
+pub places_apart : (ps : List Placed) → AreNodes (nodes_of ps) → (h k : ℕ) (p q : Placed) → slice_get ps h ≡ Some p → slice_get ps k ≡ Some q → (h ≡ k → ⊥) → name_of p.renaming ≡ name_of q.renaming → ⊥
+places_apart ps d h k p q g j n e =
+    ⊎_elim (λ l. earlier_other ps d h k p q g j l e) (λ l. ⊎_elim (λ m. earlier_other ps d k h q p j g m (sym e)) (λ m. n (omega arith)) (cases_lt k h)) (cases_lt h k)
 
-pub right_false : (a b : Bool) → (a || b) ≡ false → b ≡ false
-right_false true b h = absurd (cc)
-right_false false b h = h
+-- ---- ways up
 
-passed_before : (node : Node) (older : List Node) (Xs : List Renaming) → IsPassed (node ∷ older) Xs → IsPassed older Xs
-passed_before node older [] p = tt
-passed_before node older (R ∷ Xs) p = right_false (is_of node (name_of R)) (has_node older (name_of R)) p
+pub above_itself : (top : EpochName) (ps : List Placed) (n : ℕ) → IsAbove top ps (epoch_at top ps n) (record { at = n; below = None })
+above_itself top ps n = ([], sym (append-nil (path (nodes_of ps) (epoch_at top ps n))), refl)
 
-passed_is : (node : Node) (older : List Node) (e : EpochName) (Xs : List Renaming) → AreNodes (node ∷ older) → IsPassed (node ∷ older) Xs → IsPassed older (passed node e Xs)
-passed_is node older e Xs n p = go (is_of node e)
+-- one step up
+pub above_more : (top : EpochName) (ps : List Placed) → AreLaid top ps → (e : EpochName) (c d : Climb) → 0 < c.at → c.at ≤ length ps → d.at ≡ up_at ps (c.at - 1) → d.below ≡ Some (c.at - 1) → IsAbove top ps e c → IsAbove top ps e d
+above_more top ps l e c d h w a b i =
+    let k = c.at - 1 in
+    let r = get_of ps k (omega arith) in
+    let p = r.0 in
+    let ns = nodes_of ps in
+    let n : c.at ≡ suc k = omega arith in
+    let up : epoch_at top ps d.at ≡ p.parent = ap (epoch_at top ps) (a ∙ up_read ps k p r.1) ∙ at_is top ps p.up p.parent (l.links.parents k p r.1) in
+    let here : epoch_at top ps c.at ≡ name_of p.renaming = ap (epoch_at top ps) n ∙ name_read ps k p r.1 in
+    let one : path ns (epoch_at top ps c.at) ≡ path ns (epoch_at top ps d.at) ++ (p.renaming ∷ []) =
+    ap (path ns) here ∙ (path_member top (node_of p) ns l.nodes l.below (node_in ps k p r.1) ∙ ap (λ z. path ns z ++ (p.renaming ∷ [])) (sym up)) in (
+      p.renaming ∷ i.0,
+      i.1 ∙ (ap (λ z. z ++ i.0) one ∙ append_assoc (path ns (epoch_at top ps d.at)) (p.renaming ∷ []) i.0),
+      subst (λ o. StartsAt ps o (p.renaming ∷ i.0)) (sym b) (p, i.0, r.1, refl),
+    )
+
+below_is : (ps : List Placed) (o : Option ℕ) (Xs : List Renaming) → StartsAt ps o Xs → below_of Xs ≡ option_map (place_name ps) o
+below_is ps None Xs s = ap below_of s
+below_is ps (Some h) Xs s = ap below_of s.3 ∙ ap Some (sym (name_read ps h s.0 s.2))
+
+apart_is : (ps : List Placed) → AreNodes (nodes_of ps) → (a b : Option ℕ) (Xs Ys : List Renaming) → StartsAt ps a Xs → StartsAt ps b Ys → AreTwo a b → AreApart Xs Ys
+apart_is ps d None b Xs Ys s t n = subst (λ zs. AreApart zs Ys) (sym s) tt
+apart_is ps d (Some h) None Xs Ys s t n = subst (λ zs. AreApart Xs zs) (sym t) (nothing Xs)
   where
-    go : (b : Bool) → IsPassed older (if b then node.renaming ∷ Xs else Xs)
-    go true = n.1
-    go false = passed_before node older Xs p
+    nothing : (zs : List Renaming) → AreApart zs []
+    nothing [] = tt
+    nothing (z ∷ zs) = tt
+apart_is ps d (Some h) (Some k) Xs Ys s t n =
+    let R = s.0.renaming in
+    let S = t.0.renaming in
+    let o : name_eq (name_of R) (name_of S) ≡ false = not_true (name_eq (name_of R) (name_of S)) (λ q. places_apart ps d h k s.0 t.0 s.2 t.2 n (name_eq_is (name_of R) (name_of S) q)) in
+    subst (λ zs. AreApart zs Ys) (sym s.3) (subst (λ zs. AreApart (R ∷ s.1) zs) (sym t.3) o)
 
-flipped : (e f : EpochName) → name_eq e f ≡ false → name_eq f e ≡ false
-flipped e f h = bool_cases (name_eq f e) (λ q. let r = ap (name_eq e) (name_eq_is f e q) ∙ name_eq_refl e in absurd (cc)) (λ q. q)
+-- where they meet
+pub met_is : (top : EpochName) (ps : List Placed) → AreNodes (nodes_of ps) → (e f : EpochName) (c d : Climb) → c.at ≡ d.at → AreTwo c.below d.below → IsAbove top ps e c → IsAbove top ps f d →
+    side_cmp (option_map (place_name ps) c.below) (option_map (place_name ps) d.below) ≡ epoch_cmp (nodes_of ps) e f
+met_is top ps n e f c d h two i j =
+    let P = path (nodes_of ps) (epoch_at top ps c.at) in
+    let q : path (nodes_of ps) f ≡ P ++ j.0 = j.1 ∙ ap (λ z. path (nodes_of ps) (epoch_at top ps z) ++ j.0) (sym h) in
+    ap (λ o. side_cmp o (option_map (place_name ps) d.below)) (sym (below_is ps c.below i.0 i.2))
+    ∙ (ap (side_cmp (below_of i.0)) (sym (below_is ps d.below j.0 j.2))
+    ∙ (side_is i.0 j.0 (apart_is ps n c.below d.below i.0 j.0 i.2 j.2 two)
+    ∙ (sym (front_same P i.0 j.0)
+    ∙ (ap (λ z. slice_cmp renaming_cmp z (P ++ j.0)) (sym i.1) ∙ ap (slice_cmp renaming_cmp (path (nodes_of ps) e)) (sym q)))))
 
-apart_left : (node : Node) (older : List Node) (Xs Ys : List Renaming) → IsPassed (node ∷ older) Ys → AreApart (node.renaming ∷ Xs) Ys
-apart_left node older Xs [] p = tt
-apart_left node older Xs (S ∷ Ys) p = left_false (is_of node (name_of S)) (has_node older (name_of S)) p
+pub two_left : (a b : Option ℕ) (k : ℕ) → a ≡ Some k → ((h : ℕ) → b ≡ Some h → k < h) → AreTwo a b
+two_left None b k e f = tt
+two_left (Some j) None k e f = tt
+two_left (Some j) (Some h) k e f = λ q. let l = f h refl in let m = some_is j k e in omega arith
 
-apart_right : (node : Node) (older : List Node) (Xs Ys : List Renaming) → IsPassed (node ∷ older) Xs → AreApart Xs (node.renaming ∷ Ys)
-apart_right node older [] Ys p = tt
-apart_right node older (R ∷ Xs) Ys p = flipped (name_of node.renaming) (name_of R) (left_false (is_of node (name_of R)) (has_node older (name_of R)) p)
+pub two_right : (a b : Option ℕ) (k : ℕ) → b ≡ Some k → ((h : ℕ) → a ≡ Some h → k < h) → AreTwo a b
+two_right None b k e f = tt
+two_right (Some j) None k e f = tt
+two_right (Some j) (Some h) k e f = λ q. let l = f j refl in let m = some_is h k e in omega arith
 
-apart_is : (node : Node) (older : List Node) (e f : EpochName) (Xs Ys : List Renaming) → name_eq e f ≡ false → IsPassed (node ∷ older) Xs → IsPassed (node ∷ older) Ys → AreApart Xs Ys → AreApart (passed node e Xs) (passed node f Ys)
-apart_is node older e f Xs Ys h p q a = go (is_of node e) (is_of node f) refl refl
-  where
-    go : (b c : Bool) → is_of node e ≡ b → is_of node f ≡ c → AreApart (if b then node.renaming ∷ Xs else Xs) (if c then node.renaming ∷ Ys else Ys)
-    go true true k l =
-        let r : name_eq e f ≡ true = ap (λ z. name_eq z f) (sym (name_eq_is (name_of node.renaming) e k)) ∙ l in
-        absurd (cc)
-    go true false k l = apart_left node older Xs Ys q
-    go false true k l = apart_right node older Xs Ys p
-    go false false k l = a
+-- ---- an epoch that is to be opened
 
--- ---- all steps
+below_more : (ps : List Placed) (o : Option ℕ) (Ys : List Renaming) (R : Renaming) → StartsAt ps o Ys → below_of (Ys ++ (R ∷ [])) ≡ Some (below_or ps o (name_of R))
+below_more ps None Ys R s = ap (λ zs. below_of (zs ++ (R ∷ []))) s
+below_more ps (Some h) Ys R s = ap (λ zs. below_of (zs ++ (R ∷ []))) s.3 ∙ ap Some (sym (name_read ps h s.0 s.2))
 
-none : (e f : EpochName) (Xs Ys : List Renaming) → slice_cmp renaming_cmp (path [] e ++ Xs) (path [] f ++ Ys) ≡ slice_cmp renaming_cmp Xs Ys
-unfolding path
-none e f Xs Ys = refl
+apart_longer : (Xs Ys Zs : List Renaming) (S : Renaming) → AreApart Xs (S ∷ Ys) → AreApart Xs (S ∷ Zs)
+apart_longer [] Ys Zs S a = tt
+apart_longer (R ∷ Xs) Ys Zs S a = a
 
-pub meets : (nodes : List Node) → AreNodes nodes → (e f : EpochName) (Xs Ys : List Renaming) → IsPassed nodes Xs → IsPassed nodes Ys → AreApart Xs Ys →
-    meet_cmp nodes (way e Xs) (way f Ys) ≡ slice_cmp renaming_cmp (path nodes e ++ Xs) (path nodes f ++ Ys)
-unfolding meet_cmp
-meets [] n e f Xs Ys p q a = side_is Xs Ys a ∙ sym (none e f Xs Ys)
-meets (node ∷ older) n e f Xs Ys p q a = go (name_eq e f) refl (λ h. meets older n.2 (up node e) (up node f) (passed node e Xs) (passed node f Ys) (passed_is node older e Xs n p) (passed_is node older f Ys n q) (apart_is node older e f Xs Ys h p q a))
-  where
-    go : (b : Bool) → name_eq e f ≡ b
-        → (name_eq e f ≡ false → meet_cmp older (way (up node e) (passed node e Xs)) (way (up node f) (passed node f Ys)) ≡ slice_cmp renaming_cmp (path older (up node e) ++ passed node e Xs) (path older (up node f) ++ passed node f Ys))
-        → (if b then side_cmp (below_of Xs) (below_of Ys) else meet_cmp older (climbed (way e Xs) node) (climbed (way f Ys) node)) ≡ slice_cmp renaming_cmp (path (node ∷ older) e ++ Xs) (path (node ∷ older) f ++ Ys)
-    go true h ih =
-        side_is Xs Ys a
-        ∙ (sym (front_same (path (node ∷ older) e) Xs Ys)
-        ∙ ap (λ z. slice_cmp renaming_cmp (path (node ∷ older) e ++ Xs) (path (node ∷ older) z ++ Ys)) (name_eq_is e f h))
-    go false h ih =
-        ap (λ c. meet_cmp older c (climbed (way f Ys) node)) (climbed_is node e Xs)
-        ∙ (ap (λ d. meet_cmp older (way (up node e) (passed node e Xs)) d) (climbed_is node f Ys)
-        ∙ (ih h
-        ∙ (ap (λ x. slice_cmp renaming_cmp x (path older (up node f) ++ passed node f Ys)) (sym (path_is node older e Xs))
-        ∙ ap (λ y. slice_cmp renaming_cmp (path (node ∷ older) e ++ Xs) y) (sym (path_is node older f Ys)))))
+apart_new : (ps : List Placed) (o : Option ℕ) (Xs : List Renaming) (R : Renaming) → StartsAt ps o Xs → has_node (nodes_of ps) (name_of R) ≡ false → AreApart Xs (R ∷ [])
+apart_new ps None Xs R s f = subst (λ zs. AreApart zs (R ∷ [])) (sym s) tt
+apart_new ps (Some h) Xs R s f =
+    let p = s.0 in
+    let there : has_node (nodes_of ps) (name_of p.renaming) ≡ true = node_named (node_of p) (nodes_of ps) (node_in ps h p s.2) in
+    let o : name_eq (name_of p.renaming) (name_of R) ≡ false =
+    not_true (name_eq (name_of p.renaming) (name_of R)) (λ q. true_false (has_node (nodes_of ps) (name_of R)) (subst (λ z. has_node (nodes_of ps) z ≡ true) (name_eq_is (name_of p.renaming) (name_of R) q) there) f) in
+    subst (λ zs. AreApart zs (R ∷ [])) (sym s.3) o
 
--- from two epochs on
-pub meet_is : (nodes : List Node) → AreNodes nodes → (e f : EpochName) → meet_cmp nodes (climb_from e) (climb_from f) ≡ epoch_cmp nodes e f
-meet_is nodes n e f =
-    meets nodes n e f [] [] tt tt tt
-    ∙ (ap (λ x. slice_cmp renaming_cmp x (path nodes f ++ [])) (append-nil (path nodes e))
-    ∙ ap (λ y. slice_cmp renaming_cmp (path nodes e) y) (append-nil (path nodes f)))
+apart_opened : (ps : List Placed) → AreNodes (nodes_of ps) → (a b : Option ℕ) (Xs Ys : List Renaming) (R : Renaming) → StartsAt ps a Xs → StartsAt ps b Ys → AreTwo a b → has_node (nodes_of ps) (name_of R) ≡ false → AreApart Xs (Ys ++ (R ∷ []))
+apart_opened ps d a None Xs Ys R s t n f = subst (λ zs. AreApart Xs (zs ++ (R ∷ []))) (sym t) (apart_new ps a Xs R s f)
+apart_opened ps d a (Some k) Xs Ys R s t n f =
+    let S = t.0.renaming in
+    subst (λ zs. AreApart Xs (zs ++ (R ∷ []))) (sym t.3) (apart_longer Xs t.1 (t.1 ++ (R ∷ [])) S (subst (AreApart Xs) t.3 (apart_is ps d a (Some k) Xs Ys s t n)))
+
+-- the order of a kept epoch and one that is to be opened in another
+pub opened_is : (top : EpochName) (ps : List Placed) → AreNodes (nodes_of ps) → (e f : EpochName) (c d : Climb) (node : Node) → is_of node e ≡ false → has_node (nodes_of ps) (name_of node.renaming) ≡ false → node.parent ≡ f
+    → c.at ≡ d.at → AreTwo c.below d.below → IsAbove top ps e c → IsAbove top ps f d →
+    side_cmp (option_map (place_name ps) c.below) (Some (below_or ps d.below (name_of node.renaming))) ≡ epoch_cmp (node ∷ nodes_of ps) e (name_of node.renaming)
+opened_is top ps n e f c d node k fresh g h two i j =
+    let ns = nodes_of ps in
+    let R = node.renaming in
+    let P = path ns (epoch_at top ps c.at) in
+    let old : path (node ∷ ns) e ≡ P ++ i.0 = path_other node ns e k ∙ i.1 in
+    let new : path (node ∷ ns) (name_of R) ≡ P ++ (j.0 ++ (R ∷ [])) =
+    path_child node ns (name_of R) (name_eq_refl (name_of R))
+    ∙ (ap (λ z. path ns z ++ (R ∷ [])) g
+    ∙ (ap (λ z. z ++ (R ∷ [])) (j.1 ∙ ap (λ z. path ns (epoch_at top ps z) ++ j.0) (sym h)) ∙ append_assoc P j.0 (R ∷ []))) in
+    ap (λ o. side_cmp o (Some (below_or ps d.below (name_of R)))) (sym (below_is ps c.below i.0 i.2))
+    ∙ (ap (side_cmp (below_of i.0)) (sym (below_more ps d.below j.0 R j.2))
+    ∙ (side_is i.0 (j.0 ++ (R ∷ [])) (apart_opened ps n c.below d.below i.0 j.0 R i.2 j.2 two fresh)
+    ∙ (sym (front_same P i.0 (j.0 ++ (R ∷ [])))
+    ∙ (ap (λ z. slice_cmp renaming_cmp z (P ++ (j.0 ++ (R ∷ [])))) (sym old) ∙ ap (slice_cmp renaming_cmp (path (node ∷ ns) e)) (sym new)))))

@@ -109,20 +109,20 @@ module _ (top : EpochName) (ns : List Node) (d : AreNodes ns) (b : AreBelow top 
 
 -- ---- all steps
 
-back_step : (ps : List Placed) (k : ℕ) (p : Placed) → slice_get ps k ≡ Some p → (x : List Tuple) → step_map ps (Back k) x ≡ back p.renaming x
+pub back_step : (ps : List Placed) (k : ℕ) (p : Placed) → slice_get ps k ≡ Some p → (x : List Tuple) → step_map ps (Back k) x ≡ back p.renaming x
 unfolding step_map
 back_step ps k p h x = ap (λ o. back_at o x) h
 
-forward_step : (ps : List Placed) (k : ℕ) (p : Placed) → slice_get ps k ≡ Some p → (x : List Tuple) → step_map ps (Forward k) x ≡ forward p.renaming x
+pub forward_step : (ps : List Placed) (k : ℕ) (p : Placed) → slice_get ps k ≡ Some p → (x : List Tuple) → step_map ps (Forward k) x ≡ forward p.renaming x
 unfolding step_map
 forward_step ps k p h x = ap (λ o. forward_at o x) h
 
-got : (ps : List Placed) (k : ℕ) → k < length ps → (p : Placed) × (slice_get ps k ≡ Some p)
+pub got : (ps : List Placed) (k : ℕ) → k < length ps → (p : Placed) × (slice_get ps k ≡ Some p)
 got [] k h = absurd (omega arith)
 got (p ∷ ps) zero h = (p, refl)
 got (p ∷ ps) (suc k) h = got ps k (omega arith)
 
-former_in : (ns : List Node) → AreNodes ns → (n : Node) → IsIn n ns → IsFormer n.renaming.former
+pub former_in : (ns : List Node) → AreNodes ns → (n : Node) → IsIn n ns → IsFormer n.renaming.former
 former_in [] d n p = absurd p
 former_in (m ∷ ns) d n (inl e) = subst (λ (z : Node). IsFormer z.renaming.former) e d.0
 former_in (m ∷ ns) d n (inr p) = former_in ns d.2 n p

@@ -1,19 +1,25 @@
 -- A whole tree alone, and with one more node.
-use Rattle.std.proofs.Common.{◌≡◌, ◌≤◌, ℕ, zero, suc, ◌+◌, List, [], ◌∷◌, ◌++◌, length, Option, Some, None, refl, sym, ap, ◌∙◌, subst, arith, Bool, true, false, inl, inr, ◌⊎◌, ⊎_elim}
-use Rattle.std.specs.Prelude.{◌||◌, slice_get}
+use Rattle.std.proofs.Common.{◌≡◌, ◌≤◌, ◌<◌, ℕ, zero, suc, ◌+◌, Bool, true, false, List, [], ◌∷◌, ◌++◌, map, length, take, drop, Option, Some, None, refl, sym, ap, ◌∙◌, subst, inl, inr, ◌⊎◌, ⊎_elim, arith, length-append}
+use Rattle.std.specs.Prelude.{◌||◌, replicate, slice_get, insert}
 use Rattle.std.specs.Option.{option_map}
+use Rattle.std.specs.declared.cmp.Ordering.TheVariants.{Less}
+use Rattle.std.proofs.lemmas.Bool.{cases_lt}
+use Rattle.std.proofs.lemmas.List.Edits.{length-insert}
+use Rattle.std.proofs.lemmas.List.{length-map, map-append}
 use Rattle.std.proofs.lemmas.List.Sums.{sum_by-cons}
 use Rattle.rls_ident.specs.declared.epoch_name.EpochName.{EpochName}
 use Rattle.rls_ident.specs.EpochNames.{name_eq}
-use Rattle.rls_ident.proofs.Members.{bool_cases, some_is}
-use Rattle.rls_ident.proofs.Named.{name_eq_is, name_eq_refl}
+use Rattle.rls_ident.specs.Lists.{IsIn}
+use Rattle.rls_ident.proofs.Members.{some_is}
 use Rattle.rls_rename.specs.Renaming.{IsFormer}
-use Rattle.rls_rename.specs.Tree.{Node, name_of, has_node, is_kept, AreNodes, AreBelow, later_of, greatest}
+use Rattle.rls_rename.specs.Tree.{Node, name_of, has_node, is_kept, AreNodes, AreBelow, epoch_cmp}
 use Rattle.rls_epoch.specs.declared.placed.Placed.{Placed}
+use Rattle.rls_epoch.specs.Climbing.{name_cmp}
 use Rattle.rls_epoch.specs.Links.{name_at, AreLinked}
-use Rattle.rls_epoch.specs.Seen.{IsWhole, node_of, nodes_of, former_sum}
+use Rattle.rls_epoch.specs.Seen.{AreLaid, IsWhole, node_of, nodes_of, former_sum, marked_of, marks_of}
+use Rattle.rls_epoch.specs.Sorted.{place_name, names_at, AreRising, AreSorted, IsCut}
 use Rattle.rls_epoch.proofs.Laid.{nodes_last}
-use Rattle.rls_epoch.proofs.Greatest.{greatest_added}
+use Rattle.rls_epoch.proofs.Sorting.{Cmp, IsOrder, cut_insert, in_inserted, inserted_in, map-insert, rising_same}
 
 -- ---- links
 
@@ -45,41 +51,101 @@ links_more top ps p l u n = record {
   parents = λ k q h. ⊎_elim (λ g. name_more top ps p q.up q.parent (l.parents k q g)) (λ g. subst (λ (z : Placed). name_at top (ps ++ p ∷ []) z.up ≡ Some z.parent) g.1 (name_more top ps p p.up p.parent n)) (get_end ps p k q h);
 }
 
--- ---- trees
-
--- the topmost epoch alone
-pub whole_alone : (top : EpochName) → IsWhole top [] 0 top
-unfolding greatest
-whole_alone top = record { nodes = tt; below = tt; links = links_none top; sum = refl; greatest = refl }
+-- ---- one more node
 
 or_false : (a b : Bool) → (a || b) ≡ false → (a ≡ false) × (b ≡ false)
 or_false true b h = absurd (cc)
 or_false false b h = (refl, h)
 
-other : (e f : EpochName) → name_eq e f ≡ false → name_eq f e ≡ false
-other e f h = bool_cases (name_eq f e) (λ q. let r = ap (name_eq e) (name_eq_is f e q) ∙ name_eq_refl e in absurd (cc)) (λ q. q)
-
--- the greater of the greatest of before and the new one
-pub whole_more : (top : EpochName) (placed : List Placed) (total : ℕ) (last : EpochName) (p : Placed) (more : List Placed) (n : ℕ) (name g : EpochName) → IsWhole top placed total last → p.up ≤ length placed → name_at top placed p.up ≡ Some p.parent → more ≡ placed ++ (p ∷ []) → IsFormer p.renaming.former → n ≡ length p.renaming.former →
-    name_of p.renaming ≡ name → is_kept top (nodes_of placed) name ≡ false → is_kept top (nodes_of placed) p.parent ≡ true → g ≡ later_of (nodes_of more) last name → IsWhole top more (total + n) g
-whole_more top placed total last p more n name g w u v m f h e k l j =
-    let q : nodes_of more ≡ node_of p ∷ nodes_of placed = ap nodes_of m ∙ nodes_last placed p in
-    let k2 : is_kept top (nodes_of placed) (name_of p.renaming) ≡ false = ap (is_kept top (nodes_of placed)) e ∙ k in
-    let o = or_false (name_eq (name_of p.renaming) top) (has_node (nodes_of placed) (name_of p.renaming)) k2 in
-    let N : List Node = node_of p ∷ nodes_of placed in
-    let nodes : AreNodes N = (f, o.1, w.nodes) in
-    let below : AreBelow top N = (l, o.0, w.below) in
-    let s : former_sum N ≡ former_sum (nodes_of more) = ap (λ ns. former_sum ns) (sym q) in
-    let t : total + n ≡ former_sum N = omega (arith, w.sum, h, sum_by-cons (λ node. length node.renaming.former) (node_of p) (nodes_of placed)) in
+pub laid_more : (top : EpochName) (ps : List Placed) (p : Placed) → AreLaid top ps → p.up ≤ length ps → name_at top ps p.up ≡ Some p.parent → IsFormer p.renaming.former → is_kept top (nodes_of ps) (name_of p.renaming) ≡ false → is_kept top (nodes_of ps) p.parent ≡ true → AreLaid top (ps ++ p ∷ [])
+laid_more top ps p l u n f k q =
+    let o = or_false (name_eq (name_of p.renaming) top) (has_node (nodes_of ps) (name_of p.renaming)) k in
+    let N : List Node = node_of p ∷ nodes_of ps in
+    let nodes : AreNodes N = (f, o.1, l.nodes) in
+    let below : AreBelow top N = (q, o.0, l.below) in
     record {
-      nodes = subst AreNodes (sym q) nodes;
-      below = subst (AreBelow top) (sym q) below;
-      links = subst (AreLinked top) (sym m) (links_more top placed p w.links u v);
-      sum = t ∙ s;
-      greatest =
-          j
-          ∙ (ap (λ x. later_of x last name) q
-          ∙ (ap (λ x. later_of N x name) w.greatest
-          ∙ (ap (λ x. later_of N (greatest top (nodes_of placed)) x) (sym e)
-          ∙ (greatest_added top (node_of p) (nodes_of placed) nodes below ∙ ap (greatest top) (sym q)))));
+      nodes = subst AreNodes (sym (nodes_last ps p)) nodes;
+      below = subst (AreBelow top) (sym (nodes_last ps p)) below;
+      links = links_more top ps p l.links u n;
     }
+
+-- ---- places
+
+pub place_more : (ps : List Placed) (p : Placed) (k : ℕ) → k < length ps → place_name (ps ++ p ∷ []) k ≡ place_name ps k
+place_more [] p k h = absurd (omega arith)
+place_more (q ∷ ps) p zero h = refl
+place_more (q ∷ ps) p (suc k) h = place_more ps p k (omega arith)
+
+pub place_last : (ps : List Placed) (p : Placed) → place_name (ps ++ p ∷ []) (length ps) ≡ name_of p.renaming
+place_last [] p = refl
+place_last (q ∷ ps) p = place_last ps p
+
+pub names_more : (ps : List Placed) (p : Placed) (places : List ℕ) → ((k : ℕ) → IsIn k places → k < length ps) → names_at (ps ++ p ∷ []) places ≡ names_at ps places
+names_more ps p [] h = refl
+names_more ps p (k ∷ places) h = ap (λ e. e ∷ names_at (ps ++ p ∷ []) places) (place_more ps p k (h k (inl refl))) ∙ ap (λ es. place_name ps k ∷ es) (names_more ps p places (λ j q. h j (inr q)))
+
+pub sorted_more : (cmp later : Cmp) (ps : List Placed) (p : Placed) (places : List ℕ) (i : ℕ) → AreSorted cmp ps places → IsOrder later → ((e f : EpochName) → IsIn e (names_at ps places) → IsIn f (names_at ps places) → cmp e f ≡ later e f) →
+    IsCut later (names_at ps places) (name_of p.renaming) i → ((f : EpochName) → IsIn f (names_at ps places) → (later f (name_of p.renaming) ≡ Less → ⊥) → later (name_of p.renaming) f ≡ Less) → AreSorted later (ps ++ p ∷ []) (insert places i (length ps))
+sorted_more cmp later ps p places i s o same c other =
+    let more = ps ++ p ∷ [] in
+    let n : length more ≡ length ps + 1 = length-append ps (p ∷ []) in
+    let names = names_more ps p places s.within in
+    let rising = cut_insert later o (names_at ps places) (rising_same cmp later (names_at ps places) same s.rising) (name_of p.renaming) i c other in
+    let here = place_last ps p in
+    record {
+      within = λ k q. ⊎_elim (λ e. omega arith) (λ g. let l = s.within k g in omega arith) (in_inserted k (length ps) places i q);
+      rising = subst (AreRising later)
+          (sym (map-insert (place_name more) places i (length ps) ∙ (ap (λ xs. front i xs (place_name more (length ps))) names ∙ ap (front i (names_at ps places)) here))) rising;
+      complete = λ k l. inserted_in k (length ps) places i (⊎_elim (λ m. inr (s.complete k m)) (λ m. inl (omega arith)) (cases_lt k (length ps)));
+    }
+  where
+    front : ℕ → List EpochName → EpochName → List EpochName
+    front j xs e = take j xs ++ (e ∷ drop j xs)
+
+-- ---- marks
+
+marked_more : (es : List EpochName) (ms : List ℕ) (e : EpochName) → length ms ≡ length es → marked_of (es ++ e ∷ []) (ms ++ 0 ∷ []) ≡ marked_of es ms
+marked_more [] [] e h = refl
+marked_more [] (m ∷ ms) e h = absurd (omega arith)
+marked_more (f ∷ es) [] e h = absurd (omega arith)
+marked_more (f ∷ es) (zero ∷ ms) e h = marked_more es ms e (omega arith)
+marked_more (f ∷ es) (suc m ∷ ms) e h = ap (λ xs. f ∷ xs) (marked_more es ms e (omega arith))
+
+-- a node without a mark
+pub marks_more : (top : EpochName) (ps : List Placed) (p : Placed) (ms : List ℕ) → length ms ≡ suc (length ps) → marks_of top (ps ++ p ∷ []) (ms ++ 0 ∷ []) ≡ marks_of top ps ms
+marks_more top ps p ms h =
+    ap (λ es. marked_of (top ∷ es) (ms ++ 0 ∷ [])) (map-append (λ (z : Placed). name_of z.renaming) ps (p ∷ []))
+    ∙ marked_more (top ∷ map (λ (z : Placed). name_of z.renaming) ps) ms (name_of p.renaming) (omega (arith, h, length-map ps (λ (z : Placed). name_of z.renaming)))
+
+marked_none : (es : List EpochName) (n : ℕ) → marked_of es (replicate n 0) ≡ []
+marked_none [] n = refl
+marked_none (e ∷ es) zero = refl
+marked_none (e ∷ es) (suc n) = marked_none es n
+
+pub marks_none : (top : EpochName) (ps : List Placed) (n : ℕ) → marks_of top ps (replicate n 0) ≡ []
+marks_none top ps n = marked_none (top ∷ map (λ (z : Placed). name_of z.renaming) ps) n
+
+-- ---- trees
+
+-- the topmost epoch alone
+pub whole_alone : (top : EpochName) → IsWhole top [] [] [] (0 ∷ []) 0
+whole_alone top = record {
+  laid = record { nodes = tt; below = tt; links = links_none top };
+  by_name_is = record { within = λ k p. absurd p; rising = tt; complete = λ k l. absurd (omega arith) };
+  order_is = record { within = λ k p. absurd p; rising = tt; complete = λ k l. absurd (omega arith) };
+  order_whole = refl;
+  marks_whole = refl;
+  sum = refl;
+}
+
+pub whole_more : (top : EpochName) (ps : List Placed) (by_name order marks : List ℕ) (total n : ℕ) (p : Placed) (i j : ℕ) → IsWhole top ps by_name order marks total → AreLaid top (ps ++ p ∷ []) → n ≡ length p.renaming.former →
+    AreSorted name_cmp (ps ++ p ∷ []) (insert by_name i (length ps)) → AreSorted (epoch_cmp (nodes_of (ps ++ p ∷ []))) (ps ++ p ∷ []) (insert order j (length ps)) → j ≤ length order →
+    IsWhole top (ps ++ p ∷ []) (insert by_name i (length ps)) (insert order j (length ps)) (marks ++ 0 ∷ []) (total + n)
+whole_more top ps by_name order marks total n p i j w l h a b q = record {
+  laid = l;
+  by_name_is = a;
+  order_is = b;
+  order_whole = omega (arith, w.order_whole, length-insert order j (length ps) q, length-append ps (p ∷ []));
+  marks_whole = omega (arith, w.marks_whole, length-append marks (0 ∷ []), length-append ps (p ∷ []));
+  sum = omega (arith, w.sum, h, sum_by-cons (λ node. length node.renaming.former) (node_of p) (nodes_of ps)) ∙ ap (λ ns. former_sum ns) (sym (nodes_last ps p));
+}

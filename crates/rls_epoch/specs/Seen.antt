@@ -1,11 +1,14 @@
 -- What a tree of epochs is seen as.
-use Rattle.std.specs.Prelude.{◌≡◌, ℕ, Bool, false, ◌||◌, List, [], ◌∷◌, length, map, reverse, sum_by, if◌then◌else◌}
+use Rattle.std.specs.Prelude.{◌≡◌, ℕ, zero, suc, Bool, false, ◌||◌, List, [], ◌∷◌, length, map, reverse, sum_by}
 use Rattle.rls_ident.specs.declared.epoch_name.EpochName.{EpochName}
-use Rattle.rls_ident.specs.EpochNames.{name_eq, is_within}
+use Rattle.rls_ident.specs.EpochNames.{name_eq}
 use Rattle.rls_rename.specs.Renaming.{Renaming}
-use Rattle.rls_rename.specs.Tree.{Node, Epochs, name_of, AreNodes, AreBelow, greatest, later_of}
+use Rattle.rls_rename.specs.Tree.{Node, Epochs, name_of, AreNodes, AreBelow, epoch_cmp, greatest, names}
+use Rattle.rls_rename.specs.Connected.{in_order}
 use Rattle.rls_epoch.specs.declared.placed.Placed.{Placed}
+use Rattle.rls_epoch.specs.Climbing.{name_cmp}
 use Rattle.rls_epoch.specs.Links.{AreLinked}
+use Rattle.rls_epoch.specs.Sorted.{AreSorted}
 
 -- the epochs, those that are marked, and for how many more nodes there is room
 pub record EpochsSeen : Type 0 where
@@ -22,9 +25,9 @@ is_marked (f ∷ marks) e = name_eq f e || is_marked marks e
 abbrev pub former_sum : List Node → ℕ
 former_sum nodes = sum_by (λ node. length node.renaming.former) nodes
 
--- the greater of two epochs, where the second one is within the vector
-unfoldable pub later_in : List Node → EpochName → EpochName → List ℕ → EpochName
-later_in nodes e f v = if is_within f v then later_of nodes e f else e
+-- all epochs in increasing order, of which the topmost is the first
+abbrev pub rising_epochs : Epochs → List EpochName
+rising_epochs E = in_order E.nodes (E.top ∷ names E.nodes)
 
 -- the answer tells whether the epoch that this renaming opens in another is greater than all that are kept
 abbrev pub OpensGreatest : Bool → Epochs → EpochName → Renaming → Type 0
@@ -32,31 +35,38 @@ OpensGreatest b E parent R = b ≡ name_eq (greatest E.top (record { parent = pa
 
 -- ---- what the code keeps
 
--- the node without its mark
 abbrev pub node_of : Placed → Node
 node_of p = record { parent = p.parent; renaming = p.renaming }
-
--- the node, not marked
-abbrev pub unmarked : Placed → Placed
-unmarked p = record p { marked = false }
 
 -- the nodes, of which the latest stands last
 abbrev pub nodes_of : List Placed → List Node
 nodes_of placed = map node_of (reverse placed)
 
--- the names of the marked ones
-abbrev pub marked_names : List Placed → List EpochName
-marked_names [] = []
-marked_names (p ∷ placed) = if p.marked then name_of p.renaming ∷ marked_names placed else marked_names placed
+-- those of these names whose mark isn't 0
+abbrev pub marked_of : List EpochName → List ℕ → List EpochName
+marked_of (e ∷ es) (zero ∷ ms) = marked_of es ms
+marked_of (e ∷ es) (suc m ∷ ms) = e ∷ marked_of es ms
+marked_of _ _ = []
 
--- the marked epochs, the topmost one first
-abbrev pub marks_of : EpochName → Bool → List Placed → List EpochName
-marks_of top marked placed = if marked then top ∷ marked_names (reverse placed) else marked_names (reverse placed)
+-- the epochs by their numbers
+abbrev pub epochs_by_number : EpochName → List Placed → List EpochName
+epochs_by_number top placed = top ∷ map (λ p. name_of p.renaming) placed
 
--- they are one tree, linked by numbers, with this number of former identifiers and this greatest epoch
-pub record IsWhole (top : EpochName) (placed : List Placed) (total : ℕ) (last : EpochName) : Type 0 where
+-- the marked epochs, by their numbers
+abbrev pub marks_of : EpochName → List Placed → List ℕ → List EpochName
+marks_of top placed marks = marked_of (epochs_by_number top placed) marks
+
+-- one tree below the topmost epoch, linked by numbers
+pub record AreLaid (top : EpochName) (placed : List Placed) : Type 0 where
   pub nodes : AreNodes (nodes_of placed)
   pub below : AreBelow top (nodes_of placed)
   pub links : AreLinked top placed
+
+-- with the places of the nodes in the order of names and in that of the epochs, a mark for each epoch, and this number of former identifiers
+pub record IsWhole (top : EpochName) (placed : List Placed) (by_name order marks : List ℕ) (total : ℕ) : Type 0 where
+  pub laid : AreLaid top placed
+  pub by_name_is : AreSorted name_cmp placed by_name
+  pub order_is : AreSorted (epoch_cmp (nodes_of placed)) placed order
+  pub order_whole : length order ≡ length placed
+  pub marks_whole : length marks ≡ suc (length placed)
   pub sum : total ≡ former_sum (nodes_of placed)
-  pub greatest : last ≡ greatest top (nodes_of placed)

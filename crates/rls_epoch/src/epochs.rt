@@ -1,21 +1,23 @@
 //! The tree of the epochs that are kept.
 
-ghost use Rattle.std.specs.Prelude.{◌≡◌, ℕ, List, ◌+◌, ◌-◌, ◌<◌, ◌^◌, suc, [], ◌∷◌, length, IfOk, OnOk, OnErr, IsTrue, IsFalse, ◌||◌};
+ghost use Rattle.std.specs.Prelude.{◌≡◌, ℕ, List, ◌+◌, ◌-◌, ◌<◌, ◌^◌, suc, [], ◌∷◌, length, map, slice_get, Some, IfOk, OnOk, OnErr, IsTrue, IsFalse, ◌||◌};
 ghost use Rattle.rls_ident.specs.declared.epoch_name.EpochName.{EpochName};
-ghost use Rattle.rls_ident.specs.EpochNames.{name_eq};
-ghost use Rattle.rls_rename.specs.Tree.{Node, IsTree, is_kept, epoch_cmp, greatest, greatest_within};
-ghost use Rattle.rls_ident.specs.EpochNames.{is_of_member};
-ghost use Rattle.rls_epoch.specs.Seen.{former_sum, OpensGreatest};
+ghost use Rattle.rls_ident.specs.EpochNames.{name_eq, is_of_member};
+ghost use Rattle.rls_runs.specs.Runs.{IsImage};
+ghost use Rattle.rls_rename.specs.Tree.{Node, IsTree, is_kept, epoch_cmp, greatest, greatest_within, translate};
 ghost use Rattle.rls_ident.specs.declared.tuple.Tuple.{Tuple};
-ghost use Rattle.rls_rename.specs.Renaming.{IsFormer};
-ghost use Rattle.rls_rename.specs.Tree.{translate};
+ghost use Rattle.rls_rename.specs.Renaming.{IsFormer, forward};
+ghost use Rattle.rls_epoch.specs.Seen.{former_sum, rising_epochs, OpensGreatest};
 
-use crate::marks::clear;
-use crate::nodes::{compare, copied, greatest_in, has_node, later_of, number_of, opens_above};
+use crate::climb::{compare, opens_above};
+use crate::greatest::{greatest, greatest_in};
+use crate::images::{run_led, run_led_by, runs_led};
+use crate::nodes::{copied, epochs_below, find, names_below, number_of};
 use crate::placed::Placed;
 use crate::ways::{ident_led, way_between};
 use rls_ident::{EpochName, Ident, Vector};
 use rls_rename::Renaming;
+use rls_runs::{Run, RunList, Runs};
 use std::alloc::{AllocError, Global};
 use std::cmp::Ordering;
 use std::marker::Model;
@@ -24,36 +26,46 @@ use std::marker::Model;
 #[derive(Drop)]
 pub struct Epochs {
     top: EpochName,
-    top_marked: bool,
     nodes: Vec<Placed>,
+    // the places of the nodes, in increasing order of names
+    by_name: Vec<usize>,
+    // the places of the nodes, in increasing order of the epochs
+    order: Vec<usize>,
+    // a mark for each epoch, by its number: 0 where it isn't marked
+    marks: Vec<usize>,
     total: u64,
-    greatest: EpochName,
 }
 
 impl Model for Epochs {
-    ghost use Rattle.std.specs.Prelude.{◌-◌, length, vec_capacity};
+    ghost use Rattle.std.specs.Prelude.{◌-◌, length, min, vec_capacity};
     ghost use Rattle.rls_epoch.specs.Seen.{EpochsSeen, IsWhole, nodes_of, marks_of};
 
     ghost Value = { EpochsSeen };
 
-    ghost view = { λ a. record { epochs = record { top = a.top; nodes = nodes_of a.nodes.items }; marks = marks_of a.top a.top_marked a.nodes.items; spare = vec_capacity a.nodes - length a.nodes.items } };
+    ghost view = { λ a. record {
+      epochs = record { top = a.top; nodes = nodes_of a.nodes.items };
+      marks = marks_of a.top a.nodes.items a.marks.items;
+      spare = min (min (vec_capacity a.nodes - length a.nodes.items) (vec_capacity a.marks - length a.marks.items)) (min (vec_capacity a.by_name - length a.by_name.items) (vec_capacity a.order - length a.order.items));
+    } };
 
-    ghost invariant = { λ a. IsWhole a.top a.nodes.items a.total a.greatest };
+    ghost invariant = { λ a. IsWhole a.top a.nodes.items a.by_name.items a.order.items a.marks.items a.total };
 }
 
 impl Epochs {
     /// The topmost epoch alone, without a mark.
-    #[tactic(auto, using(crate::proofs::Whole::whole_alone))]
     pub fn starting_at(alloc: Global, name: EpochName) -> Result<Epochs, AllocError>
         ensures epochs { IfOk result (λ a. a.epochs ≡ record { top = name; nodes = [] }) }
         ensures marks { IfOk result (λ a. a.marks ≡ []) }
     {
+        let mut marks = Vec::new(alloc);
+        marks.push(0)?;
         Ok(Epochs {
             top: name,
-            top_marked: false,
             nodes: Vec::new(alloc),
+            by_name: Vec::new(alloc),
+            order: Vec::new(alloc),
+            marks,
             total: 0,
-            greatest: name,
         })
     }
 
@@ -64,12 +76,15 @@ impl Epochs {
         ensures ok { OnOk result (0 < self.new.spare) }
     {
         self.nodes.reserve(1)?;
+        self.by_name.reserve(1)?;
+        self.order.reserve(1)?;
+        self.marks.reserve(1)?;
         Ok(())
     }
 
     /// Adds the epoch that a rename opened in another. The new one isn't marked. It takes no memory,
-    /// and cannot fail.
-    #[tactic(auto, using(crate::proofs::Laid::nodes_last))]
+    /// and cannot fail. It costs a comparison of epochs for each halving of them, and moves the
+    /// numbers of those that are greater.
     pub fn add(&mut self, replica: u32, seq: u32, parent: EpochName, renaming: Renaming)
         requires room { 0 < self.old.spare }
         requires fresh { IsFalse (is_kept self.old.epochs.top self.old.epochs.nodes (EpochName.Of replica seq)) }
@@ -81,71 +96,90 @@ impl Epochs {
         ensures marks { self.new.marks ≡ self.old.marks }
     {
         let name = EpochName::Of { replica, seq };
-        let up = number_of(self.nodes.as_slice(), self.top, parent);
+        let place = self.nodes.len();
+        let up = number_of(
+            self.top,
+            self.nodes.as_slice(),
+            self.by_name.as_slice(),
+            parent,
+        );
+        let by_name = names_below(self.nodes.as_slice(), self.by_name.as_slice(), name);
         self.total += renaming.total();
         self.nodes
             .push(Placed {
                 parent,
                 up,
                 renaming,
-                marked: false,
             })
             .unwrap();
-        self.greatest = later_of(&self.nodes, self.greatest, name);
+        let order = epochs_below(
+            self.top,
+            self.nodes.as_slice(),
+            self.order.as_slice(),
+            place + 1,
+        );
+        self.by_name.insert(by_name, place).unwrap();
+        self.order.insert(order, place).unwrap();
+        self.marks.push(0).unwrap();
     }
 
-    /// Whether the epoch is kept. It costs a comparison of names for each node, at most.
+    /// Whether the epoch is kept. It costs a comparison of names for each halving of the nodes.
     pub fn kept(&self, name: EpochName) -> bool
         ensures kept { result ≡ is_kept self.now.epochs.top self.now.epochs.nodes name }
         ensures tree { IsTree self.now.epochs }
     {
-        name.same(&self.top) || has_node(&self.nodes, name)
+        match find(
+            self.top,
+            self.nodes.as_slice(),
+            self.by_name.as_slice(),
+            name,
+        ) {
+            Some(_) => true,
+            None => false,
+        }
     }
 
     /// The order of two epochs: lexicographic by their paths from the topmost one, in which a proper
-    /// prefix is less. It takes no memory, and costs a few comparisons of names for each node.
+    /// prefix is less. It takes no memory, and costs a step for each epoch on the way between them.
     pub fn compare(&self, a: EpochName, b: EpochName) -> Ordering
         requires first { IsTrue (is_kept self.now.epochs.top self.now.epochs.nodes a) }
         requires second { IsTrue (is_kept self.now.epochs.top self.now.epochs.nodes b) }
         ensures order { result ≡ epoch_cmp self.now.epochs.nodes a b }
     {
-        compare(&self.nodes, a, b)
+        let (nodes, by_name) = (self.nodes.as_slice(), self.by_name.as_slice());
+        let left = number_of(self.top, nodes, by_name, a);
+        let right = number_of(self.top, nodes, by_name, b);
+        compare(self.top, nodes, left, right)
     }
 
     /// The greatest epoch. It takes no memory.
     pub fn greatest(&self) -> EpochName
         ensures greatest { result ≡ greatest self.now.epochs.top self.now.epochs.nodes }
     {
-        self.greatest
+        greatest(self.top, self.nodes.as_slice(), self.order.as_slice())
     }
 
     /// Whether the epoch that a rename would open in another is greater than all that are kept. It
-    /// takes no memory, and costs a few comparisons of names for each node.
+    /// takes no memory, and costs a step for each epoch on the way between that epoch and the
+    /// greatest.
     pub fn opens_greatest(&self, replica: u32, seq: u32, parent: EpochName) -> bool
         requires fresh { IsFalse (is_kept self.now.epochs.top self.now.epochs.nodes (EpochName.Of replica seq)) }
         requires parent { IsTrue (is_kept self.now.epochs.top self.now.epochs.nodes parent) }
         ensures greatest { (former : List (List Tuple)) → IsFormer former → OpensGreatest result self.now.epochs parent (record { former = former; replica = replica; seq = seq }) }
     {
-        opens_above(
-            &self.nodes,
-            self.greatest,
-            parent,
-            EpochName::Of { replica, seq },
-        )
+        let (nodes, by_name) = (self.nodes.as_slice(), self.by_name.as_slice());
+        let last = number_of(self.top, nodes, by_name, self.greatest());
+        let up = number_of(self.top, nodes, by_name, parent);
+        opens_above(self.top, nodes, last, up, EpochName::Of { replica, seq })
     }
 
     /// The greatest epoch within a vector that counts the replica of each kept epoch, or the topmost
-    /// one where none is. It takes no memory. Where the greatest epoch isn't within the vector it
-    /// costs a comparison of epochs for each one within it.
-    #[tactic(auto, using(crate::proofs::Within::within_greatest))]
+    /// one where none is. It takes no memory, and looks at the greatest epochs first.
     pub fn greatest_in(&self, v: &Vector) -> EpochName
         requires members { (e : EpochName) → IsTrue (is_kept self.now.epochs.top self.now.epochs.nodes e) → IsTrue (is_of_member (length v.now) e) }
         ensures greatest { result ≡ greatest_within self.now.epochs.top self.now.epochs.nodes v.now }
     {
-        if self.greatest.within(v) {
-            return self.greatest;
-        }
-        greatest_in(&self.nodes, self.top, v)
+        greatest_in(self.top, self.nodes.as_slice(), self.order.as_slice(), v)
     }
 
     /// An identifier of the one epoch in the other: back by the renamings up to the nearest common
@@ -155,19 +189,74 @@ impl Epochs {
         requires to { IsTrue (is_kept self.now.epochs.top self.now.epochs.nodes to) }
         ensures translated { IfOk result (λ x. x ≡ translate self.now.epochs.nodes from to id.now) }
     {
-        let (nodes, _len) = (self.nodes.as_slice(), id.len());
-        let steps = way_between(*self.nodes.allocator(), nodes, self.top, from, to)?;
+        let (alloc, nodes) = (*self.nodes.allocator(), self.nodes.as_slice());
+        let _len = id.len();
+        let steps = way_between(alloc, self.top, nodes, self.by_name.as_slice(), from, to)?;
         ident_led(nodes, &steps, id)
     }
 
+    /// The identifiers of a run of the one epoch in the other, as runs of which none touches the one
+    /// before. It costs the renaming of whole runs for each epoch on the way.
+    pub fn translate_run(
+        &self,
+        from: EpochName,
+        to: EpochName,
+        run: &Run,
+    ) -> Result<RunList, AllocError>
+        requires from { IsTrue (is_kept self.now.epochs.top self.now.epochs.nodes from) }
+        requires to { IsTrue (is_kept self.now.epochs.top self.now.epochs.nodes to) }
+        ensures translated { IfOk result (λ runs. IsImage (translate self.now.epochs.nodes from to) run.now runs) }
+    {
+        let (alloc, nodes) = (*self.nodes.allocator(), self.nodes.as_slice());
+        let _len = run.len();
+        let steps = way_between(alloc, self.top, nodes, self.by_name.as_slice(), from, to)?;
+        run_led(alloc, nodes, &steps, run)
+    }
+
+    /// The identifiers of a run of the one epoch in the other, and then by a renaming that opens an
+    /// epoch there, as runs of which none touches the one before. It costs the renaming of whole runs
+    /// for each epoch on the way and for the last one.
+    pub fn translate_run_by(
+        &self,
+        from: EpochName,
+        to: EpochName,
+        renaming: &Renaming,
+        run: &Run,
+    ) -> Result<RunList, AllocError>
+        requires from { IsTrue (is_kept self.now.epochs.top self.now.epochs.nodes from) }
+        requires to { IsTrue (is_kept self.now.epochs.top self.now.epochs.nodes to) }
+        ensures renamed { IfOk result (λ runs. IsImage (λ x. forward renaming.now (translate self.now.epochs.nodes from to x)) run.now runs) }
+    {
+        let (alloc, nodes) = (*self.nodes.allocator(), self.nodes.as_slice());
+        let _len = run.len();
+        let steps = way_between(alloc, self.top, nodes, self.by_name.as_slice(), from, to)?;
+        run_led_by(alloc, nodes, &steps, renaming, run)
+    }
+
+    /// A strictly increasing list of identifiers of the one epoch in the other. It costs the renaming
+    /// of whole runs for each epoch on the way.
+    pub fn translate_runs(
+        &self,
+        from: EpochName,
+        to: EpochName,
+        ids: &Runs,
+    ) -> Result<Runs, AllocError>
+        requires from { IsTrue (is_kept self.now.epochs.top self.now.epochs.nodes from) }
+        requires to { IsTrue (is_kept self.now.epochs.top self.now.epochs.nodes to) }
+        ensures translated { IfOk result (λ xs. xs ≡ map (translate self.now.epochs.nodes from to) ids.now) }
+    {
+        let (alloc, nodes) = (*self.nodes.allocator(), self.nodes.as_slice());
+        let _total = ids.total();
+        let steps = way_between(alloc, self.top, nodes, self.by_name.as_slice(), from, to)?;
+        runs_led(alloc, nodes, &steps, ids)
+    }
+
     /// Takes all marks away. It takes no memory.
-    #[tactic(auto, using(crate::proofs::Unmarked::same_nodes, crate::proofs::Unmarked::no_marks, crate::proofs::Unmarked::still_whole))]
     pub fn clear_marks(&mut self)
         ensures epochs { self.new.epochs ≡ self.old.epochs }
         ensures marks { self.new.marks ≡ [] }
     {
-        self.top_marked = false;
-        clear(&mut self.nodes);
+        self.marks.fill(0);
     }
 
     /// The number of epochs, the topmost one among them.
@@ -192,10 +281,11 @@ impl Epochs {
     {
         Ok(Epochs {
             top: self.top,
-            top_marked: self.top_marked,
             nodes: copied(*self.nodes.allocator(), &self.nodes)?,
+            by_name: self.by_name.clone()?,
+            order: self.order.clone()?,
+            marks: self.marks.clone()?,
             total: self.total,
-            greatest: self.greatest,
         })
     }
 }

@@ -4,7 +4,8 @@
 
 mod climb;
 mod epochs;
-mod marks;
+mod greatest;
+mod images;
 mod nodes;
 mod placed;
 mod ways;

@@ -1,21 +1,21 @@
 //! One node of a tree of epochs.
 
-ghost use Rattle.std.specs.Prelude.{◌≡◌, IfOk};
+ghost use Rattle.std.specs.Prelude.{◌≡◌, ◌<◌, IfOk, length};
 ghost use Rattle.rls_ident.specs.EpochNames.{name_eq};
 ghost use Rattle.rls_rename.specs.Tree.{name_of};
+ghost use Rattle.rls_epoch.specs.Sorted.{place_name};
 
 use rls_ident::EpochName;
 use rls_rename::Renaming;
 use std::alloc::AllocError;
 
-// The epoch in which one was opened with its number, the renaming that opened it, and whether it is
-// marked. The number of the topmost epoch is 0, and any other's is one more than its place.
+// The epoch in which one was opened with its number, and the renaming that opened it. The number of
+// the topmost epoch is 0, and any other's is one more than its place.
 #[derive(Drop)]
 pub(crate) struct Placed {
     pub(crate) parent: EpochName,
     pub(crate) up: usize,
     pub(crate) renaming: Renaming,
-    pub(crate) marked: bool,
 }
 
 impl Placed {
@@ -44,7 +44,15 @@ impl Placed {
             parent: self.parent,
             up: self.up,
             renaming: self.renaming.copy()?,
-            marked: self.marked,
         })
     }
+}
+
+// The epoch of the node at a place.
+#[tactic(auto, using(crate::proofs::Reading::name_got))]
+pub(crate) fn name_of(nodes: &[Placed], place: usize) -> EpochName
+    requires place { place < length nodes.now }
+    ensures name { result ≡ place_name nodes.now place }
+{
+    nodes[place].name()
 }

@@ -1,9 +1,11 @@
 //! Ways from one epoch to another: up to the nearest common one, and down from there.
 
 ghost use Rattle.std.specs.Prelude.{◌≡◌, ◌<◌, ◌≤◌, length, IfOk, IsTrue};
-ghost use Rattle.rls_rename.specs.Tree.{is_kept, AreNodes, AreBelow};
-ghost use Rattle.rls_epoch.specs.Links.{AreEarlier, AreLinked};
-ghost use Rattle.rls_epoch.specs.Seen.{nodes_of};
+ghost use Rattle.rls_rename.specs.Tree.{is_kept};
+ghost use Rattle.rls_epoch.specs.Climbing.{name_cmp};
+ghost use Rattle.rls_epoch.specs.Links.{AreEarlier};
+ghost use Rattle.rls_epoch.specs.Seen.{nodes_of, AreLaid};
+ghost use Rattle.rls_epoch.specs.Sorted.{AreSorted};
 ghost use Rattle.rls_epoch.specs.Ways.{Leads, IsWay, AreWithin, place_of_step, step_map, led};
 
 use crate::nodes::number_of;
@@ -51,20 +53,20 @@ pub(crate) fn way(
 // The way between two epochs, by their names.
 pub(crate) fn way_between(
     alloc: Global,
-    nodes: &[Placed],
     top: EpochName,
+    nodes: &[Placed],
+    by_name: &[usize],
     from: EpochName,
     to: EpochName,
 ) -> Result<Vec<Step>, AllocError>
-    requires nodes { AreNodes (nodes_of nodes.now) }
-    requires below { AreBelow top (nodes_of nodes.now) }
-    requires links { AreLinked top nodes.now }
+    requires laid { AreLaid top nodes.now }
+    requires sorted { AreSorted name_cmp nodes.now by_name.now }
     requires from { IsTrue (is_kept top (nodes_of nodes.now) from) }
     requires to { IsTrue (is_kept top (nodes_of nodes.now) to) }
     ensures way { IfOk result (λ steps. IsWay nodes.now steps.items from to) }
 {
-    let left = number_of(nodes, top, from);
-    let right = number_of(nodes, top, to);
+    let left = number_of(top, nodes, by_name, from);
+    let right = number_of(top, nodes, by_name, to);
     way(alloc, nodes, left, right)
 }
 

@@ -13,24 +13,31 @@ use Rattle.rls_model.specs.Legal.{AreNumbers}
 use Rattle.rls_model.specs.Receiving.{State, after, accept, answer, receive, receive_after, replay, replay_after, release, release_after}
 use Rattle.rls_model.specs.Receiving as model
 use Rattle.rls_model.specs.Stability.{is_counted}
-use Rattle.rls_model.specs.Taking.{Limit, has_room, Progress, acknowledge}
+use Rattle.rls_model.specs.declared.receipt.Taken.{Taken}
+use Rattle.rls_ops.specs.declared.message.Message.{Message}
+use Rattle.rls_replica.specs.Steps.{course, IsPartOfOps}
+use Rattle.rls_model.specs.Taking.{Limit, has_room, Progress, acknowledge, take_message, take_within}
 use Rattle.rls_model.specs.Taking as taking
-use Rattle.rls_model.specs.WellFormed.{IsOp, IsEdit, IsVector}
+use Rattle.rls_model.specs.WellFormed.{IsOp, IsVector}
 use Rattle.rls_seen.specs.Seen.{Seen, members, fresh}
 use Rattle.rls_seen.specs.Over.{answer_over, accepted, after_answer, received, replayed, holding, refusal_over, first_ready, after_refusal, after_release, release_of, release_over, released, acknowledged}
-use Rattle.rls_seen.specs.Edits.{made_over, edit_fault_over, edited}
-use Rattle.rls_seen.specs.Messages.{Course, started, with_answer, with_refusal, with_release, moved, receive_step, release_step, release_steps, with_releases, take_ops, AreOps}
+use Rattle.rls_seen.specs.Edits.{made_over, edited}
+use Rattle.rls_seen.specs.Messages.{Course, started, with_answer, with_refusal, with_release, moved, receive_step, release_step, release_steps, with_releases, take_ops, taken_of, AreOps}
 use Rattle.rls_seen.specs.Stands.{StandsFor}
 use Rattle.rls_seen.proofs.Alike.{members_alike}
+use Rattle.rls_seen.proofs.Counting.{members_received, members_released}
+use Rattle.rls_seen.proofs.Repeating.{received_seen, released_seen, received_limit, released_limit}
 use Rattle.rls_seen.proofs.Starting.{fresh_stands}
-use Rattle.rls_seen.proofs.Receiving.{received_stands, replayed_stands}
+use Rattle.rls_seen.proofs.Receiving.{received_stands}
 use Rattle.rls_seen.proofs.Releasing.{released_stands}
 use Rattle.rls_seen.proofs.Noting.{acknowledged_stands, counted_alike}
-use Rattle.rls_seen.proofs.Editing.{made_alike, edited_stands}
-use Rattle.rls_seen.proofs.Taking.{Goes, started_goes, receive_goes, release_goes}
+use Rattle.rls_seen.proofs.Editing.{made_alike}
+use Rattle.rls_seen.proofs.Taking.{Goes, started_goes, receive_goes, release_goes, counted_alike as counted_same}
 use Rattle.rls_file.specs.declared.journal.Note.{Note}
 use Rattle.rls_file.specs.Files.{entries_of}
-use Rattle.rls_file.specs.Journals.{JournalSeen, Tells, note, notes_of, woven, then_all, told}
+use Rattle.rls_file.specs.Journals.{JournalSeen, Tells, IsNoted, note, notes_of, woven, then_all, told}
+use Rattle.rls_file.specs.ReadingFiles.{applies}
+use Rattle.rls_file.specs.ReadingJournals.{TellsAlone}
 use Rattle.rls_file.proofs.Weaving.{entries_woven, then_more}
 
 -- the log is whole, and the acknowledgements are those of the history
@@ -66,26 +73,22 @@ answer_whole ns s t o Waits w = holding_whole ns s t.history _ w
 answer_whole ns s t o Repeats w = w
 answer_whole ns s t o (Refuses r) w = w
 
-pub received_whole : (ns : List Note) (s : Seen) (t : State) (o : Op) → IsOp o → StandsFor s t → IsWhole ns s t.history → IsWhole ns (received s o) (receive_after t o).history
+received_whole : (ns : List Note) (s : Seen) (t : State) (o : Op) → answer_over false s o ≡ receive t o → IsWhole ns s t.history → IsWhole ns (received s o) (receive_after t o).history
 unfolding received
-received_whole ns s t o whole h w =
-    subst (λ a. IsWhole ns (after_answer (answer_over false s o) s o) (after a t o).history) (received_stands s t o whole h).0 (answer_whole ns s t o (answer_over false s o) w)
+received_whole ns s t o e w = subst (λ a. IsWhole ns (after_answer (answer_over false s o) s o) (after a t o).history) e (answer_whole ns s t o (answer_over false s o) w)
 
-pub replayed_whole : (ns : List Note) (s : Seen) (t : State) (o : Op) → IsOp o → StandsFor s t → IsWhole ns s t.history → IsWhole ns (replayed s o) (replay_after t o).history
+replayed_whole : (ns : List Note) (s : Seen) (t : State) (o : Op) → answer_over true s o ≡ replay t o → IsWhole ns s t.history → IsWhole ns (replayed s o) (replay_after t o).history
 unfolding replayed
-replayed_whole ns s t o whole h w =
-    subst (λ a. IsWhole ns (after_answer (answer_over true s o) s o) (after a t o).history) (replayed_stands s t o whole h).0 (answer_whole ns s t o (answer_over true s o) w)
+replayed_whole ns s t o e w = subst (λ a. IsWhole ns (after_answer (answer_over true s o) s o) (after a t o).history) e (answer_whole ns s t o (answer_over true s o) w)
 
--- an operation is received, and one's own too
-pub received_tells : (s : Seen) (ns : List Note) (t : State) (o : Op) → IsOp o → Tells (journal s ns) t → (answer_over false s o ≡ receive t o) × Tells (journal (received s o) ns) (receive_after t o)
-received_tells s ns t o whole h =
-    let law = received_stands s t o whole h.stands in
-    (law.0, tells (received s o) ns (receive_after t o) law.1 (received_whole ns s t o whole h.stands (is_whole s ns t h)))
+-- an operation was received, and one's own too
+pub received_tells : (s new : Seen) (ns : List Note) (t : State) (o : Op) → new ≡ received s o → answer_over false s o ≡ receive t o → StandsFor new (receive_after t o) → Tells (journal s ns) t
+    → Tells (journal new ns) (receive_after t o)
+received_tells s new ns t o e a x h = tells new ns (receive_after t o) x (subst (λ u. IsWhole ns u (receive_after t o).history) (sym e) (received_whole ns s t o a (is_whole s ns t h)))
 
-pub replayed_tells : (s : Seen) (ns : List Note) (t : State) (o : Op) → IsOp o → Tells (journal s ns) t → (answer_over true s o ≡ replay t o) × Tells (journal (replayed s o) ns) (replay_after t o)
-replayed_tells s ns t o whole h =
-    let law = replayed_stands s t o whole h.stands in
-    (law.0, tells (replayed s o) ns (replay_after t o) law.1 (replayed_whole ns s t o whole h.stands (is_whole s ns t h)))
+pub replayed_tells : (s new : Seen) (ns : List Note) (t : State) (o : Op) → new ≡ replayed s o → answer_over true s o ≡ replay t o → StandsFor new (replay_after t o) → Tells (journal s ns) t
+    → Tells (journal new ns) (replay_after t o)
+replayed_tells s new ns t o e a x h = tells new ns (replay_after t o) x (subst (λ u. IsWhole ns u (replay_after t o).history) (sym e) (replayed_whole ns s t o a (is_whole s ns t h)))
 
 refusal_whole : (ns : List Note) (s : Seen) (t : State) (o : Op) (r : Option Reason) → IsWhole ns s t.history → IsWhole ns (after_refusal r s o) (model.after_refusal r t o).history
 refusal_whole ns s t o None w = accepted_whole ns s t.history o w
@@ -114,12 +117,6 @@ released_whole ns s t h w =
     let same : release_of s (first_ready s) ≡ model.release_of t (first_ready s) = (released_stands s t h).0 ∙ ap (model.release_of t) (sym e) in
     subst (λ f. IsWhole ns (released s) (model.after_release t f).history) e (release_whole ns s t (first_ready s) same w)
 
--- the first ready operation is released
-pub released_tells : (s : Seen) (ns : List Note) (t : State) → Tells (journal s ns) t → (release_over s ≡ release t) × Tells (journal (released s) ns) (release_after t)
-released_tells s ns t h =
-    let law = released_stands s t h.stands in
-    (law.0, tells (released s) ns (release_after t) law.1 (released_whole ns s t h.stands (is_whole s ns t h)))
-
 -- an acknowledgement is counted, or isn't
 noted_go : (s : Seen) (ns : List Note) (t : State) (a : ℕ) (v : List ℕ) (n : Note) → n ≡ note (length (ops t.history)) a v → Tells (journal s ns) t → (b : Bool)
     → StandsFor (acknowledged s a v) (cond b (record { history = Then t.history (Acknowledged a v); waiting = t.waiting }) t)
@@ -128,19 +125,23 @@ unfolding acknowledged
 noted_go s ns t a v n e h true x = record { stands = x; log = h.log; notes = ap (λ m. ns ++ m ∷ []) e ∙ ap (λ ms. ms ++ note (length (ops t.history)) a v ∷ []) h.notes }
 noted_go s ns t a v n e h false x = record { stands = x; log = h.log; notes = h.notes }
 
-pub acknowledged_tells : (s : Seen) (ns : List Note) (t : State) (a : ℕ) (v : List ℕ) (n : Note) → a < members s → IsVector (members s) v → n ≡ note (length (ops t.history)) a v → Tells (journal s ns) t
-    → Tells (journal (acknowledged s a v) (cond (rows.counts s.acks a v) (ns ++ n ∷ []) ns)) (acknowledge t a v)
-acknowledged_tells s ns t a v n l w e h =
+pub acknowledged_tells : (s new : Seen) (ns after : List Note) (t : State) (a : ℕ) (v : List ℕ) → a < members s → IsVector (members s) v → IsNoted s ns a v new after → Tells (journal s ns) t
+    → (rows.counts s.acks a v ≡ is_counted t.history a v) × Tells (journal new after) (acknowledge t a v)
+acknowledged_tells s new ns after t a v l w n h =
     let same = counted_alike s t a v (subst (λ m. a < m) (members_alike s t h.stands) l) h.stands in
-    subst (λ b. Tells (journal (acknowledged s a v) (cond b (ns ++ n ∷ []) ns)) (acknowledge t a v)) (sym same)
-    (noted_go s ns t a v n e h (is_counted t.history a v) (acknowledged_stands s t a v l w h.stands))
+    let behind : note (length s.log) a v ≡ note (length (ops t.history)) a v = ap (λ os. note (length os) a v) h.log in
+    let all = noted_go s ns t a v (note (length s.log) a v) behind h (is_counted t.history a v) (acknowledged_stands s t a v l w h.stands) in
+    let notes : after ≡ cond (is_counted t.history a v) (ns ++ note (length s.log) a v ∷ []) ns = n.notes_are ∙ ap (λ b. cond b (ns ++ note (length s.log) a v ∷ []) ns) same in (
+      same,
+      subst (λ x. Tells (journal x after) (acknowledge t a v)) (sym n.replica) (subst (λ x. Tells (journal (acknowledged s a v) x) (acknowledge t a v)) (sym notes) all),
+    )
 
 -- an edit that isn't refused
-pub edited_tells : (s : Seen) (ns : List Note) (t : State) (edit : Edit) → IsEdit edit → edit_fault_over s edit ≡ None → Tells (journal s ns) t → Tells (journal (edited s edit) ns) (accept t (made t.history edit))
-edited_tells s ns t edit w f h =
+pub edited_tells : (s new : Seen) (ns : List Note) (t : State) (edit : Edit) → new ≡ edited s edit → StandsFor new (accept t (made t.history edit)) → Tells (journal s ns) t → Tells (journal new ns) (accept t (made t.history edit))
+edited_tells s new ns t edit e x h =
     let whole = accepted_whole ns s t.history (made_over s edit) (is_whole s ns t h) in
-    tells (edited s edit) ns (accept t (made t.history edit)) (edited_stands s t edit w f h.stands)
-    (subst (λ o. IsWhole ns (edited s edit) (Then t.history (Accepted o))) (made_alike s t edit h.stands) whole)
+    tells new ns (accept t (made t.history edit)) x
+    (subst (λ u. IsWhole ns u (accept t (made t.history edit)).history) (sym e) (subst (λ o. IsWhole ns (edited s edit) (Then t.history (Accepted o))) (made_alike s t edit h.stands) whole))
 
 -- ---- step after step
 
@@ -173,7 +174,7 @@ receive_on : (ns : List Note) (n : ℕ) (c : Course) (p : Progress) (o : Op) →
 receive_on ns n c p o w g =
     let s = c.seen in
     let t = p.state in
-    let x = received_whole ns s t o w g.goes.stands g.whole in
+    let x = received_whole ns s t o (received_stands s t o w g.goes.stands).0 g.whole in
     record {
       goes = receive_goes n c p o w g.goes;
       whole = pick ns (has_room c.limit) (has_room p.limit) c (with_answer (moved c (received s o)) o (answer_over false s o)) p (taking.with_answer (taking.moved p (receive_after t o)) o (receive t o))
@@ -214,6 +215,70 @@ ops_on (o ∷ os) ns n c p w g =
 pub on_tells : (ns : List Note) (n : ℕ) (c : Course) (p : Progress) → GoesOn ns n c p → Tells (journal c.seen ns) p.state
 on_tells ns n c p g = tells c.seen ns p.state g.goes.stands g.whole
 
+-- some of the steps of taking these operations, and none behind them
+pub part_tells : (s new : Seen) (ns : List Note) (t : State) (m : Message) → AreOps m.ops → IsPartOfOps s m.ops new → Tells (journal s ns) t → (n : ℕ) × Tells (journal new ns) (take_within (Some n) t m).state
+unfolding take_within
+part_tells s new ns t m w p h =
+    let limit : Limit = Some p.0 in
+    let c : Course = take_ops (started limit s) m.ops in
+    let q : Progress = taking.take_ops (taking.started limit t) m.ops in
+    let g = ops_on m.ops ns (members s) (started limit s) (taking.started limit t) w (started_on limit s ns t h) in
+    let last : taking.acknowledge_step q m.from m.vector ≡ q = ap (λ l. cond (has_room l) (taking.moved q (acknowledge q.state m.from m.vector)) q) (sym g.goes.limit ∙ p.1) in
+    (p.0, subst (λ (x : Progress). Tells (journal new ns) x.state) (sym last) (subst (λ u. Tells (journal u ns) q.state) (sym p.2) (on_tells ns (members s) c q g)))
+
+-- memory doesn't end, and the members stay
+abbrev Endless : ℕ → Course → Type 0
+Endless n c = (c.limit ≡ None) × (members c.seen ≡ n)
+
+steps_endless : (m n : ℕ) (c : Course) → Endless n c → Endless n (release_steps m c)
+steps_endless zero n c e = e
+steps_endless (suc m) n c e = steps_endless m n (release_step c) (released_limit c e.0, ap members (released_seen c e.0) ∙ members_released c.seen ∙ e.1)
+
+pub ops_endless : (os : List Op) (n : ℕ) (c : Course) → Endless n c → Endless n (take_ops c os)
+ops_endless [] n c e = e
+ops_endless (o ∷ os) n c e =
+    let d : Course = receive_step c o in
+    ops_endless os n (with_releases d) (steps_endless (length d.seen.waiting) n d (received_limit c o e.0, ap members (received_seen c o e.0) ∙ members_received c.seen o ∙ e.1))
+
+-- the last step is made
+noted_last : (p : Progress) (a : ℕ) (v : List ℕ) → p.limit ≡ None → (taking.taken (taking.acknowledge_step p a v) ≡ taking.taken p) × ((taking.acknowledge_step p a v).state ≡ acknowledge p.state a v)
+noted_last p a v e = subst (λ l. (taking.taken (cond (has_room l) (taking.moved p (acknowledge p.state a v)) p) ≡ taking.taken p) × ((cond (has_room l) (taking.moved p (acknowledge p.state a v)) p).state ≡ acknowledge p.state a v)) (sym e) (refl, refl)
+
+-- a message was taken
+pub taken_tells : (s new : Seen) (ns after : List Note) (t : State) (m : Message) → m.from < members s → IsVector (members s) m.vector → AreOps m.ops → IsNoted (take_ops (started None s) m.ops).seen ns m.from m.vector new after
+    → Tells (journal s ns) t → (taken_of (take_ops (started None s) m.ops) ≡ taking.taken (take_message t m)) × Tells (journal new after) (take_message t m).state
+unfolding take_within
+taken_tells s new ns after t m l w os n h =
+    let limit : Limit = None in
+    let c : Course = take_ops (started limit s) m.ops in
+    let p : Progress = taking.take_ops (taking.started limit t) m.ops in
+    let g = ops_on m.ops ns (members s) (started limit s) (taking.started limit t) os (started_on limit s ns t h) in
+    let told = on_tells ns (members s) c p g in
+    let k = g.goes.members_are in
+    let last = noted_last p m.from m.vector (sym g.goes.limit ∙ (ops_endless m.ops (members s) (started limit s) (refl, refl)).0) in
+    let noted = acknowledged_tells c.seen new ns after p.state m.from m.vector (subst (λ x. m.from < x) (sym k) l) (subst (λ x. IsVector x m.vector) (sym k) w) n told in
+    (counted_same (members s) c p g.goes ∙ sym last.0, subst (λ x. Tells (journal new after) x) (sym last.1) noted.1)
+
+-- releases that go on counting
+pub released_tells : (s new : Seen) (ns : List Note) (before after : Taken) (p : Progress) → course new after ≡ with_releases (course s before) → p.limit ≡ None → before ≡ taking.taken p → Tells (journal s ns) p.state
+    → (after ≡ taking.taken (taking.with_releases p)) × Tells (journal new ns) (taking.with_releases p).state
+released_tells s new ns before after p e l b h =
+    let start : Goes (members s) (course s before) p = record {
+      members_are = refl;
+      stands = h.stands;
+      limit = sym l;
+      applied = ap (λ (x : Taken). x.applied) b;
+      released = ap (λ (x : Taken). x.released) b;
+      repeated = ap (λ (x : Taken). x.repeated) b;
+      held = ap (λ (x : Taken). x.held) b;
+      refused = ap (λ (x : Taken). x.refused) b;
+    } in
+    let g = releases_on ns (members s) (course s before) p (record { goes = start; whole = is_whole s ns p.state h }) in
+    let c : Course = with_releases (course s before) in (
+      ap taken_of e ∙ counted_same (members s) c (taking.with_releases p) g.goes,
+      subst (λ (x : Course). Tells (journal x.seen ns) (taking.with_releases p).state) (sym e) (on_tells ns (members s) c (taking.with_releases p) g),
+    )
+
 -- ---- what is told
 
 all_entries : (H : History) → then_all (Fresh (group_of H) (me_of H) (members_of H)) (entries_of H) ≡ H
@@ -240,3 +305,48 @@ told_is s ns t h =
 -- the entries are those of the history
 pub entries_told : (s : Seen) (ns : List Note) (t : State) → Tells (journal s ns) t → woven 0 s.log ns ≡ entries_of t.history
 entries_told s ns t h = ap (λ os. woven 0 os ns) h.log ∙ ap (woven 0 (ops t.history)) h.notes ∙ entries_woven t.history
+
+-- ---- reading
+
+pub told_waiting : (j : JournalSeen) → (told j).waiting ≡ j.seen.waiting
+unfolding told
+told_waiting j = refl
+
+pub tells_told : (j : JournalSeen) (t : State) → Tells j t → Tells j (told j)
+tells_told j t h = subst (λ x. Tells j x) (sym (told_is j.seen j.notes t h)) h
+
+pub told_members : (j : JournalSeen) → Tells j (told j) → members j.seen ≡ members_of (told j).history
+told_members j h = members_alike j.seen (told j) h.stands
+
+none_waits : (j : JournalSeen) → TellsAlone j → (told j).waiting ≡ []
+none_waits j a = told_waiting j ∙ a.alone
+
+-- where nothing waits
+pub replay_alone : (j : JournalSeen) (o : Op) → TellsAlone j → replay (record { history = (told j).history; waiting = [] }) o ≡ replay (told j) o
+replay_alone j o a = ap (λ W. replay (record { history = (told j).history; waiting = W }) o) (sym (none_waits j a))
+
+pub alone_at : (j : JournalSeen) (H : History) (W : List Op) → W ≡ [] → Tells j (record { history = H; waiting = W }) → TellsAlone j × ((told j).history ≡ H)
+alone_at j H W e h =
+    let is = told_is j.seen j.notes (record { history = H; waiting = W }) h in
+    (record { tells = tells_told j (record { history = H; waiting = W }) h; alone = h.stands.waiting ∙ e }, ap (λ (x : State). x.history) is)
+
+applies_is : (a : Answer) → applies a ≡ true → a ≡ Applies
+applies_is Applies e = refl
+applies_is Repeats e = absurd cc
+applies_is Waits e = absurd cc
+applies_is (Refuses r) e = absurd cc
+
+-- an operation was applied
+pub applied_alone : (old new : JournalSeen) (o : Op) → TellsAlone old → applies (replay (told old) o) ≡ true → Tells new (replay_after (told old) o) → TellsAlone new × ((told new).history ≡ Then (told old).history (Accepted o))
+applied_alone old new o a e h =
+    let t = told old in
+    let here : Tells new (accept t o) = subst (λ x. Tells new (after x t o)) (applies_is (replay t o) e) h in
+    alone_at new (Then t.history (Accepted o)) (model.without o.author o.seq t.waiting) (ap (model.without o.author o.seq) (none_waits old a)) here
+
+-- an acknowledgement was counted
+pub counted_alone : (old new : JournalSeen) (a : ℕ) (v : List ℕ) → TellsAlone old → is_counted (told old).history a v ≡ true → Tells new (acknowledge (told old) a v) → TellsAlone new × ((told new).history ≡ Then (told old).history (Acknowledged a v))
+counted_alone old new a v w e h =
+    let t = told old in
+    let here : Tells new (record { history = Then t.history (Acknowledged a v); waiting = t.waiting }) =
+    subst (λ b. Tells new (cond b (record { history = Then t.history (Acknowledged a v); waiting = t.waiting }) t)) e h in
+    alone_at new (Then t.history (Acknowledged a v)) t.waiting (none_waits old w) here

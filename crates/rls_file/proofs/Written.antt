@@ -12,7 +12,7 @@ use Rattle.rls_file.specs.declared.journal.Note.{Note}
 use Rattle.rls_file.specs.Files.{entry_bytes}
 use Rattle.rls_file.specs.Journals.{accepted_all, woven}
 
-abbrev accepted_bytes : Op → List ℕ
+abbrev pub accepted_bytes : Op → List ℕ
 accepted_bytes o = entry_bytes (Accepted o)
 
 pub accepted_parts : (os : List Op) → flat_map entry_bytes (accepted_all os) ≡ flat_map accepted_bytes os
@@ -25,7 +25,7 @@ pub accepted_put : (os : List Op) (i : ℕ) (d : Op) (out before after : List �
 accepted_put os i d out before after lt e h =
     part_more accepted_bytes os i d out before after lt (e ∙ ap (λ w. out ++ w) (accepted_parts (take i os))) h ∙ ap (λ w. out ++ w) (sym (accepted_parts (take (i + 1) os)))
 
-joined : (es fs : List Entry) → flat_map entry_bytes (es ++ fs) ≡ flat_map entry_bytes es ++ flat_map entry_bytes fs
+pub joined : (es fs : List Entry) → flat_map entry_bytes (es ++ fs) ≡ flat_map entry_bytes es ++ flat_map entry_bytes fs
 joined [] fs = refl
 joined (e ∷ es) fs = ap (λ w. entry_bytes e ++ w) (joined es fs) ∙ sym (append_assoc (entry_bytes e) (flat_map entry_bytes es) (flat_map entry_bytes fs))
 

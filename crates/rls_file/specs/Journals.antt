@@ -1,8 +1,10 @@
 -- A journal: a replica whose log is whole, and the counted acknowledgements, which are woven into it.
-use Rattle.std.specs.Prelude.{◌≡◌, ℕ, ◌-◌, List, [], ◌∷◌, ◌++◌, length, take, drop, map}
+use Rattle.std.specs.Prelude.{◌≡◌, ℕ, ◌-◌, List, [], ◌∷◌, ◌++◌, length, take, drop, map, if◌then◌else◌}
 use Rattle.rls_ops.specs.declared.op.Op.{Op}
 use Rattle.rls_model.specs.History.{Entry, Accepted, Acknowledged, History, Fresh, Then, ops}
 use Rattle.rls_model.specs.Receiving.{State}
+use Rattle.rls_ops.specs.Rows.{counts}
+use Rattle.rls_seen.specs.Over.{acknowledged}
 use Rattle.rls_seen.specs.Seen.{Seen, members}
 use Rattle.rls_seen.specs.Stands.{StandsFor}
 use Rattle.rls_file.specs.declared.journal.Note.{Note}
@@ -21,6 +23,11 @@ abbrev pub notes_of : History → List Note
 notes_of (Fresh group me members) = []
 notes_of (Then H (Accepted o)) = notes_of H
 notes_of (Then H (Acknowledged a v)) = notes_of H ++ note (length (ops H)) a v ∷ []
+
+-- the replica noted the acknowledgement, and it was put behind the others where it counts
+pub record IsNoted (old : Seen) (notes : List Note) (from : ℕ) (vector : List ℕ) (new : Seen) (after : List Note) : Type 0 where
+  pub replica : new ≡ acknowledged old from vector
+  pub notes_are : after ≡ (if counts old.acks from vector then notes ++ note (length old.log) from vector ∷ [] else notes)
 
 -- the journal tells this history and what waits beside it: its replica stands for them and has the whole log, and its
 -- acknowledgements are those of the history

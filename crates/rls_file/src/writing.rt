@@ -2,16 +2,17 @@
 //!
 //! Each call but the sums appends the bytes of its part. Where memory runs out, some of them may stand there.
 
-ghost use Rattle.std.specs.Prelude.{◌≡◌, ◌<◌, ◌-◌, ◌^◌, ◌++◌, codes, min, sum_by, All, OnOk};
+ghost use Rattle.std.specs.Prelude.{◌≡◌, ◌<◌, ◌-◌, ◌^◌, ◌+◌, ◌≤◌, ◌++◌, codes, length, min, sum_by, All, OnOk};
 ghost use Rattle.std.specs.List.{flat_map};
-ghost use Rattle.rls_ops.specs.Spelling.{op_bytes};
+ghost use Rattle.rls_ops.specs.Spelling.{counted, op_bytes};
 ghost use Rattle.rls_ops.specs.Sizes.{op_size};
 ghost use Rattle.rls_model.specs.History.{Accepted, Acknowledged};
 ghost use Rattle.rls_file.specs.Files.{entry_bytes, head_bytes};
-ghost use Rattle.rls_file.specs.FileSizes.{accepted_size, note_size};
+ghost use Rattle.rls_file.specs.FileSizes.{accepted_size, note_size, journal_size, bytes_in};
 ghost use Rattle.rls_file.specs.Journals.{accepted_all, woven};
 
-use crate::journal::Note;
+use crate::journal::{Journal, Note};
+use rls_causal::Held;
 use rls_codec::{put_byte, put_op, put_u32, put_u64, put_vector};
 use rls_ops::Op;
 use std::alloc::AllocError;
@@ -110,4 +111,62 @@ pub(crate) fn put_events(out: &mut Vec<u8>, ops: &[Op], notes: &[Note]) -> Resul
         rest = back;
     }
     put_all_accepted(out, rest)
+}
+
+/// How many bytes these waiting operations have, or the greatest u64 where there are more.
+fn held_len(held: &Held) -> u64
+    ensures size { result ≡ min (sum_by op_size held.now) (2 ^ 64 - 1) }
+{
+    let mut total: u64 = 0;
+    for i in 0..held.len() {
+        total = total.saturating_add(held.op(i).encoded_len());
+    }
+    total
+}
+
+fn put_held_ops(out: &mut Vec<u8>, held: &Held) -> Result<(), AllocError>
+    requires small { All (λ o. op_size o < 2 ^ 32) held.now }
+    ensures ok { OnOk result (out.new.items ≡ out.old.items ++ flat_map op_bytes held.now) }
+{
+    for i in 0..held.len() {
+        put_op(out, held.op(i))?;
+    }
+    Ok(())
+}
+
+/// The number of waiting operations, and these.
+fn put_held(out: &mut Vec<u8>, held: &Held) -> Result<(), AllocError>
+    requires count { length held.now < 2 ^ 32 }
+    requires small { All (λ o. op_size o < 2 ^ 32) held.now }
+    ensures ok { OnOk result (out.new.items ≡ out.old.items ++ counted op_bytes held.now) }
+{
+    put_u32(out, held.len() as u32)?;
+    put_held_ops(out, held)?;
+    Ok(())
+}
+
+/// How many bytes a journal has, or the greatest u64 where there are more.
+pub(crate) fn journal_len(journal: &Journal) -> u64
+    ensures size { result ≡ min (journal_size journal.now) (2 ^ 64 - 1) }
+{
+    let replica = journal.replica();
+    accepted_len(replica.logged().as_slice())
+        .saturating_add(notes_len(journal.notes()))
+        .saturating_add(held_len(replica.held()))
+        .saturating_add(29)
+}
+
+/// A whole journal.
+pub(crate) fn put_journal(out: &mut Vec<u8>, journal: &Journal) -> Result<(), AllocError>
+    requires small { journal_size journal.now < 2 ^ 32 }
+    ensures ok { OnOk result (out.new.items ≡ out.old.items ++ bytes_in journal.now) }
+{
+    let replica = journal.replica();
+    let log = replica.logged().as_slice();
+    let notes = journal.notes();
+    put_head(out, replica.group(), replica.members(), replica.me())?;
+    put_u32(out, (log.len() + notes.len()) as u32)?;
+    put_events(out, log, notes)?;
+    put_held(out, replica.held())?;
+    Ok(())
 }

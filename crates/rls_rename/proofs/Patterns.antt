@@ -8,9 +8,9 @@ use Rattle.rls_ident.specs.declared.tuple.Tuple.TheVariants.{Low, High}
 use Rattle.rls_ident.specs.Tuples.{tuple_cmp, tuple_pred, at_offset}
 use Rattle.rls_ident.specs.Maps.{under, low_inverse, high_inverse}
 use Rattle.rls_ident.specs.Identifiers.{IsIdent, ident_cmp, pred}
-use Rattle.rls_rename.specs.Renaming.{old_above_inverse, new_at}
+use Rattle.rls_rename.specs.Renaming.{new_at}
 use Rattle.rls_rename.proofs.Increasing.{old_below_iso, new_below_iso, new_between_iso, new_above_iso}
-use Rattle.rls_rename.proofs.Lengths.{inner_ident, inner_less}
+use Rattle.rls_rename.proofs.Lengths.{inner_ident}
 
 pub pred_of_pushed : (f : List Tuple) (l : Tuple) → pred (f ++ l ∷ []) ≡ f ++ tuple_pred l ∷ []
 pred_of_pushed [] l = refl
@@ -40,16 +40,6 @@ above_longer a x p e i l = low_longer p x (subst (λ q. IsIdent (low_inverse tup
 
 pub below_longer : (a x p : List Tuple) → p ≡ pred a ++ High ∷ [] → IsIdent a → IsIdent x → ident_cmp x a ≡ Less → under tuple_cmp x p ≡ false → length p < length x
 below_longer a x p e h i l = high_longer p x (subst (λ q. IsIdent (high_inverse tuple_cmp q x)) (sym e) ((old_below_iso a h).onto x (i, record { less = l })))
-
-pub between_longer : (a b x c y p : List Tuple) → c ≡ old_above_inverse a b → y ≡ old_above_inverse a x → p ≡ pred c ++ High ∷ [] → IsIdent b → IsIdent x →
-    ident_cmp a b ≡ Less → ident_cmp a x ≡ Less → ident_cmp x b ≡ Less → under tuple_cmp y p ≡ false → length p < length y
-between_longer a b x c y p e f g j i l k r =
-    let ic = subst IsIdent (sym e) (inner_ident a b j l) in
-    let iy = subst IsIdent (sym f) (inner_ident a x i k) in
-    below_longer c y p g ic iy (ap (λ t. ident_cmp t c) f ∙ (ap (ident_cmp (old_above_inverse a x)) e ∙ inner_less a x b i j k l r))
-
-pub inverse_is : (a x y p : List Tuple) → p ≡ a ++ Low ∷ [] → y ≡ low_inverse tuple_cmp p x → y ≡ old_above_inverse a x
-inverse_is a x y p e h = h ∙ ap (λ q. low_inverse tuple_cmp q x) e
 
 pub new_below_longer : (s : Spot) (z p : List Tuple) → p ≡ at_offset s (negsuc 0) ∷ [] → IsIdent z → ident_cmp z (new_at s 0) ≡ Less → under tuple_cmp z p ≡ false → length p < length z
 new_below_longer s z p e i l = high_longer p z (subst (λ q. IsIdent (high_inverse tuple_cmp q z)) (sym e) ((new_below_iso s).onto z (i, record { less = l })))

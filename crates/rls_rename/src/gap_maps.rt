@@ -1,4 +1,5 @@
-//! The maps of a gap between former identifiers, or between new ones.
+//! The maps of a gap between former identifiers, or between new ones. Each takes as much of a stretch
+//! along as lies on one side of its patterns.
 
 ghost use Rattle.std.specs.Prelude.{◌≡◌, ◌<◌, length, true, false, [], ◌∷◌, ◌++◌, IfOk, IsTrue};
 ghost use Rattle.std.specs.List.{All};
@@ -6,8 +7,10 @@ ghost use Rattle.std.specs.declared.cmp.Ordering.TheVariants.{Less};
 ghost use Rattle.rls_ident.specs.Tuples.{tuple_cmp, at_spot, tuple_pred};
 ghost use Rattle.rls_ident.specs.Maps.{under, low, high, low_inverse, high_inverse};
 ghost use Rattle.rls_ident.specs.Identifiers.{ident_cmp, pred, is_inner_bounded, is_last_bounded};
+ghost use Rattle.rls_rename.specs.Stretches.{GoesAlong};
 ghost use Rattle.rls_rename.specs.Renaming.{old_below, old_between, old_above, old_below_inverse, old_between_inverse, old_above_inverse};
 
+use crate::stretch::Stretch;
 use rls_ident::{Ident, Spot, Tuple};
 use std::alloc::{AllocError, Global};
 
@@ -58,102 +61,113 @@ fn ended(alloc: Global, front: &[Tuple], last: Tuple, mark: Tuple) -> Result<Vec
 }
 
 // The pattern in front of what is under it.
-#[tactic(auto, unfolding(rls_ident::specs::Maps::low))]
-pub(crate) fn low(pattern: &[Tuple], y: Ident) -> Result<Ident, AllocError>
+pub(crate) fn low(pattern: &[Tuple], y: Stretch) -> Result<Stretch, AllocError>
     requires some { 0 < length pattern.now }
     requires bounded { All (λ t. IsTrue (is_inner_bounded t)) pattern.now }
-    ensures low { IfOk result (λ x. x ≡ low tuple_cmp pattern.now y) }
+    ensures low { IfOk result (λ x. GoesAlong (low tuple_cmp pattern.now) y.first y.len x.first x.len) }
 {
-    if y.under(pattern) {
-        y.prefixed(pattern)
+    let (is_under, front) = y.on_one_side(pattern)?;
+    if is_under {
+        front.prefixed(pattern)
     } else {
-        Ok(y)
+        Ok(front)
     }
 }
 
 // The pattern in front of what isn't under it.
-#[tactic(auto, unfolding(rls_ident::specs::Maps::high))]
-pub(crate) fn high(pattern: &[Tuple], y: Ident) -> Result<Ident, AllocError>
+pub(crate) fn high(pattern: &[Tuple], y: Stretch) -> Result<Stretch, AllocError>
     requires some { 0 < length pattern.now }
     requires bounded { All (λ t. IsTrue (is_inner_bounded t)) pattern.now }
-    ensures high { IfOk result (λ x. x ≡ high tuple_cmp pattern.now y) }
+    ensures high { IfOk result (λ x. GoesAlong (high tuple_cmp pattern.now) y.first y.len x.first x.len) }
 {
-    if y.under(pattern) {
-        Ok(y)
+    let (is_under, front) = y.on_one_side(pattern)?;
+    if is_under {
+        Ok(front)
     } else {
-        y.prefixed(pattern)
+        front.prefixed(pattern)
     }
 }
 
 // What is under the pattern, without it.
-#[tactic(auto, unfolding(rls_ident::specs::Maps::low_inverse))]
-pub(crate) fn low_inverse(pattern: &[Tuple], x: Ident) -> Result<Ident, AllocError>
+pub(crate) fn low_inverse(pattern: &[Tuple], x: Stretch) -> Result<Stretch, AllocError>
     requires some { 0 < length pattern.now }
-    requires longer { under tuple_cmp x pattern.now ≡ true → length pattern.now < length x }
-    ensures low_inverse { IfOk result (λ y. y ≡ low_inverse tuple_cmp pattern.now x) }
+    requires longer { under tuple_cmp x.first pattern.now ≡ true → length pattern.now < length x.first }
+    ensures low_inverse { IfOk result (λ y. GoesAlong (low_inverse tuple_cmp pattern.now) x.first x.len y.first y.len) }
 {
-    if x.under(pattern) {
-        x.stripped(pattern.len())
+    let (is_under, front) = x.on_one_side(pattern)?;
+    if is_under {
+        front.stripped(pattern.len())
     } else {
-        Ok(x)
+        Ok(front)
     }
 }
 
 // What isn't under the pattern, without it.
-#[tactic(auto, unfolding(rls_ident::specs::Maps::high_inverse))]
-pub(crate) fn high_inverse(pattern: &[Tuple], x: Ident) -> Result<Ident, AllocError>
+pub(crate) fn high_inverse(pattern: &[Tuple], x: Stretch) -> Result<Stretch, AllocError>
     requires some { 0 < length pattern.now }
-    requires longer { under tuple_cmp x pattern.now ≡ false → length pattern.now < length x }
-    ensures high_inverse { IfOk result (λ y. y ≡ high_inverse tuple_cmp pattern.now x) }
+    requires longer { under tuple_cmp x.first pattern.now ≡ false → length pattern.now < length x.first }
+    ensures high_inverse { IfOk result (λ y. GoesAlong (high_inverse tuple_cmp pattern.now) x.first x.len y.first y.len) }
 {
-    if x.under(pattern) {
-        Ok(x)
+    let (is_under, front) = x.on_one_side(pattern)?;
+    if is_under {
+        Ok(front)
     } else {
-        x.stripped(pattern.len())
+        front.stripped(pattern.len())
     }
 }
 
 // The old map below a.
-pub(crate) fn old_below(alloc: Global, a: &Ident, y: Ident) -> Result<Ident, AllocError>
-    ensures old { IfOk result (λ x. x ≡ old_below a.now y) }
+pub(crate) fn old_below(alloc: Global, a: &Ident, y: Stretch) -> Result<Stretch, AllocError>
+    ensures old { IfOk result (λ x. GoesAlong (old_below a.now) y.first y.len x.first x.len) }
 {
     high(&below_pattern(alloc, a)?, y)
 }
 
 // The old map above a.
-pub(crate) fn old_above(alloc: Global, a: &Ident, y: Ident) -> Result<Ident, AllocError>
-    ensures old { IfOk result (λ x. x ≡ old_above a.now y) }
+pub(crate) fn old_above(alloc: Global, a: &Ident, y: Stretch) -> Result<Stretch, AllocError>
+    ensures old { IfOk result (λ x. GoesAlong (old_above a.now) y.first y.len x.first x.len) }
 {
     low(&above_pattern(alloc, a)?, y)
 }
 
-// The old map between a and b.
-pub(crate) fn old_between(alloc: Global, a: &Ident, b: Ident, y: Ident) -> Result<Ident, AllocError>
+// The identifier that the old map above a takes to b.
+fn inner_end(alloc: Global, a: &Ident, b: Ident) -> Result<Ident, AllocError>
     requires less { ident_cmp a.now b ≡ Less }
-    ensures old { IfOk result (λ x. x ≡ old_between a.now b y) }
+    ensures inner { IfOk result (λ c. c ≡ old_above_inverse a.now b) }
 {
-    let _len = b.len();
-    let above = above_pattern(alloc, a)?;
-    let inner = low_inverse(&above, b)?;
-    let outer = high(&below_pattern(alloc, &inner)?, y)?;
-    low(&above, outer)
+    let Stretch { first, .. } = old_above_inverse(alloc, a, Stretch::one(b))?;
+    Ok(first)
+}
+
+// The old map between a and b.
+pub(crate) fn old_between(
+    alloc: Global,
+    a: &Ident,
+    b: Ident,
+    y: Stretch,
+) -> Result<Stretch, AllocError>
+    requires less { ident_cmp a.now b ≡ Less }
+    ensures old { IfOk result (λ x. GoesAlong (old_between a.now b) y.first y.len x.first x.len) }
+{
+    let inner = inner_end(alloc, a, b)?;
+    old_above(alloc, a, old_below(alloc, &inner, y)?)
 }
 
 // The inverse of the old map below a.
-pub(crate) fn old_below_inverse(alloc: Global, a: &Ident, x: Ident) -> Result<Ident, AllocError>
-    requires less { ident_cmp x a.now ≡ Less }
-    ensures old { IfOk result (λ y. y ≡ old_below_inverse a.now x) }
+pub(crate) fn old_below_inverse(alloc: Global, a: &Ident, x: Stretch) -> Result<Stretch, AllocError>
+    requires less { ident_cmp x.first a.now ≡ Less }
+    ensures old { IfOk result (λ y. GoesAlong (old_below_inverse a.now) x.first x.len y.first y.len) }
 {
-    let _lens = (a.len(), x.len());
+    let _lens = (a.len(), x.first.len());
     high_inverse(&below_pattern(alloc, a)?, x)
 }
 
 // The inverse of the old map above a.
-pub(crate) fn old_above_inverse(alloc: Global, a: &Ident, x: Ident) -> Result<Ident, AllocError>
-    requires less { ident_cmp a.now x ≡ Less }
-    ensures old { IfOk result (λ y. y ≡ old_above_inverse a.now x) }
+pub(crate) fn old_above_inverse(alloc: Global, a: &Ident, x: Stretch) -> Result<Stretch, AllocError>
+    requires less { ident_cmp a.now x.first ≡ Less }
+    ensures old { IfOk result (λ y. GoesAlong (old_above_inverse a.now) x.first x.len y.first y.len) }
 {
-    let _len = x.len();
+    let _len = x.first.len();
     low_inverse(&above_pattern(alloc, a)?, x)
 }
 
@@ -162,16 +176,14 @@ pub(crate) fn old_between_inverse(
     alloc: Global,
     a: &Ident,
     b: Ident,
-    x: Ident,
-) -> Result<Ident, AllocError>
+    x: Stretch,
+) -> Result<Stretch, AllocError>
     requires order { ident_cmp a.now b ≡ Less }
-    requires above { ident_cmp a.now x ≡ Less }
-    requires below { ident_cmp x b ≡ Less }
-    ensures old { IfOk result (λ y. y ≡ old_between_inverse a.now b x) }
+    requires above { ident_cmp a.now x.first ≡ Less }
+    requires below { ident_cmp x.first b ≡ Less }
+    ensures old { IfOk result (λ y. GoesAlong (old_between_inverse a.now b) x.first x.len y.first y.len) }
 {
-    let _lens = (b.len(), x.len());
-    let above = above_pattern(alloc, a)?;
-    let inner = low_inverse(&above, b)?;
-    let outer = low_inverse(&above, x)?;
-    high_inverse(&below_pattern(alloc, &inner)?, outer)
+    let _lens = (b.len(), x.first.len());
+    let inner = inner_end(alloc, a, b)?;
+    old_below_inverse(alloc, &inner, old_above_inverse(alloc, a, x)?)
 }

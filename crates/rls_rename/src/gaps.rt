@@ -1,7 +1,8 @@
-//! One identifier, forward and back.
+//! Fronts of runs, forward and back: as much of a run as goes along as one.
 
-ghost use Rattle.std.specs.Prelude.{◌≡◌, ◌≤◌, length, IfOk, Err};
+ghost use Rattle.std.specs.Prelude.{◌≡◌, ◌<◌, ◌≤◌, length, IfOk, Ok, Err};
 ghost use Rattle.rls_runs.specs.Runs.{place_of};
+ghost use Rattle.rls_rename.specs.Stretches.{GoesAlong, StandsAt};
 ghost use Rattle.rls_rename.specs.Renaming.{IsFormer, new_from, forward_by, back_by};
 
 use crate::gap_maps::{
@@ -11,50 +12,68 @@ use crate::new_maps::{
     new_above, new_above_inverse, new_at, new_below, new_below_inverse, new_between,
     new_between_inverse,
 };
+use crate::stretch::Stretch;
 use rls_ident::{Ident, Spot};
 use rls_runs::{Run, Runs};
 use std::alloc::{AllocError, Global};
 
-// Forward, by the tuple of the first new identifier.
-pub(crate) fn forward_by(
+// Forward of a front of a run, by the tuple of the first new identifier.
+pub(crate) fn forward_front(
     alloc: Global,
     former: &Runs,
     first: Spot,
-    id: &Ident,
-) -> Result<Ident, AllocError>
+    run: &Run,
+) -> Result<Stretch, AllocError>
     requires former { IsFormer former.now }
     requires most { length former.now ≤ 4194304 }
-    ensures forward { IfOk result (λ z. z ≡ forward_by first former.now id.now) }
+    ensures forward { IfOk result (λ z. GoesAlong (forward_by first former.now) run.now.0 run.now.1 z.first z.len) }
 {
-    match former.find(id) {
-        Ok(i) => Ok(new_at(alloc, first, i)),
-        Err(gap) => forward_gap(alloc, former, first, gap, id.copy()?),
+    match former.find(run.first()) {
+        Ok(i) => Ok(forward_former(alloc, former, first, i, run)),
+        Err(gap) => forward_gap(alloc, former, first, gap, run),
     }
 }
 
-// Forward of an identifier that so many former ones are less than, and that is none of them.
+// Forward of a run that begins with the former identifier at this place, to the end of the former run.
+fn forward_former(alloc: Global, former: &Runs, first: Spot, i: u64, run: &Run) -> Stretch
+    requires former { IsFormer former.now }
+    requires most { length former.now ≤ 4194304 }
+    requires place { place_of run.now.0 former.now ≡ Ok i }
+    ensures forward { GoesAlong (forward_by first former.now) run.now.0 run.now.1 result.first result.len }
+{
+    let (held, place) = former.locate(i);
+    Stretch {
+        first: new_at(alloc, first, i),
+        len: run.len().min(held.len() - place),
+    }
+}
+
+// Forward of a run that begins in the gap above so many former identifiers, to the end of the gap.
 fn forward_gap(
     alloc: Global,
     former: &Runs,
     first: Spot,
     gap: u64,
-    x: Ident,
-) -> Result<Ident, AllocError>
+    run: &Run,
+) -> Result<Stretch, AllocError>
     requires former { IsFormer former.now }
     requires most { length former.now ≤ 4194304 }
-    requires gap { place_of x former.now ≡ Err gap }
-    ensures forward { IfOk result (λ z. z ≡ forward_by first former.now x) }
+    requires gap { place_of run.now.0 former.now ≡ Err gap }
+    ensures forward { IfOk result (λ z. GoesAlong (forward_by first former.now) run.now.0 run.now.1 z.first z.len) }
 {
-    let total = former.total();
+    let (total, len) = (former.total(), run.len());
     if gap == 0 {
         let a = former.get(0)?;
+        let x = Stretch::below(run, &a)?;
         return new_below(first, old_below_inverse(alloc, &a, x)?);
     }
     let a = former.get(gap - 1)?;
     if gap == total {
+        let x = Stretch::front(run, len)?;
         return new_above(first, gap - 1, old_above_inverse(alloc, &a, x)?);
     }
     let b = former.get(gap)?;
+    let x = Stretch::below(run, &b)?;
     new_between(first, gap - 1, old_between_inverse(alloc, &a, b, x)?)
 }
 
@@ -74,45 +93,61 @@ fn new_place(alloc: Global, former: &Runs, first: Spot, id: &Ident) -> Result<u6
     }
 }
 
-// Back, by the tuple of the first new identifier.
-pub(crate) fn back_by(
+// Back of a front of a run, by the tuple of the first new identifier.
+pub(crate) fn back_front(
     alloc: Global,
     former: &Runs,
     first: Spot,
-    id: &Ident,
-) -> Result<Ident, AllocError>
+    run: &Run,
+) -> Result<Stretch, AllocError>
     requires former { IsFormer former.now }
     requires most { length former.now ≤ 4194304 }
-    ensures back { IfOk result (λ x. x ≡ back_by first former.now id.now) }
+    ensures back { IfOk result (λ x. GoesAlong (back_by first former.now) run.now.0 run.now.1 x.first x.len) }
 {
-    match new_place(alloc, former, first, id) {
-        Ok(i) => former.get(i),
-        Err(gap) => back_gap(alloc, former, first, gap, id.copy()?),
+    match new_place(alloc, former, first, run.first()) {
+        Ok(i) => former_front(former, i, run.len()),
+        Err(gap) => back_gap(alloc, former, first, gap, run),
     }
 }
 
-// Back of an identifier that so many new ones are less than, and that is none of them.
+// The former identifiers from a place on to the end of their run, as many as this at most.
+fn former_front(former: &Runs, i: u64, most: u32) -> Result<Stretch, AllocError>
+    requires place { i < length former.now }
+    requires some { 0 < most }
+    ensures idents { IfOk result (λ a. StandsAt former.now i most a.first a.len) }
+{
+    let (held, place) = former.locate(i);
+    Ok(Stretch {
+        first: held.first().shifted(place)?,
+        len: most.min(held.len() - place),
+    })
+}
+
+// Back of a run that begins in the gap above so many new identifiers, to the end of the gap.
 fn back_gap(
     alloc: Global,
     former: &Runs,
     first: Spot,
     gap: u64,
-    z: Ident,
-) -> Result<Ident, AllocError>
+    run: &Run,
+) -> Result<Stretch, AllocError>
     requires former { IsFormer former.now }
     requires most { length former.now ≤ 4194304 }
-    requires gap { place_of z (new_from first 0 former.now) ≡ Err gap }
-    ensures back { IfOk result (λ x. x ≡ back_by first former.now z) }
+    requires gap { place_of run.now.0 (new_from first 0 former.now) ≡ Err gap }
+    ensures back { IfOk result (λ x. GoesAlong (back_by first former.now) run.now.0 run.now.1 x.first x.len) }
 {
-    let (total, _len) = (former.total(), z.len());
+    let (total, len) = (former.total(), run.len());
     if gap == 0 {
         let a = former.get(0)?;
+        let z = Stretch::below(run, &new_at(alloc, first, 0))?;
         return old_below(alloc, &a, new_below_inverse(first, z)?);
     }
     let a = former.get(gap - 1)?;
     if gap == total {
+        let z = Stretch::front(run, len)?;
         return old_above(alloc, &a, new_above_inverse(first, gap - 1, z)?);
     }
-    let b = former.get(gap)?;
-    old_between(alloc, &a, b, new_between_inverse(first, gap - 1, z)?)
+    let z = Stretch::below(run, &new_at(alloc, first, gap))?;
+    let y = new_between_inverse(first, gap - 1, z)?;
+    old_between(alloc, &a, former.get(gap)?, y)
 }

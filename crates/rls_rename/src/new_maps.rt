@@ -4,9 +4,11 @@ ghost use Rattle.std.specs.Prelude.{◌≡◌, ◌+◌, ◌<◌, IfOk, IsTrue, p
 ghost use Rattle.std.specs.declared.cmp.Ordering.TheVariants.{Less};
 ghost use Rattle.rls_ident.specs.Tuples.{at_offset};
 ghost use Rattle.rls_ident.specs.Identifiers.{ident_cmp, is_inner_bounded};
+ghost use Rattle.rls_rename.specs.Stretches.{GoesAlong};
 ghost use Rattle.rls_rename.specs.Renaming.{new_at, new_below, new_between, new_above, new_below_inverse, new_between_inverse, new_above_inverse};
 
 use crate::gap_maps::{high, high_inverse, low, low_inverse};
+use crate::stretch::Stretch;
 use rls_ident::{Ident, Spot, Tuple};
 use std::alloc::{AllocError, Global};
 
@@ -52,55 +54,55 @@ fn tuple_before(first: Spot) -> Tuple
 }
 
 // The new map below the first one.
-pub(crate) fn new_below(first: Spot, y: Ident) -> Result<Ident, AllocError>
-    ensures new { IfOk result (λ z. z ≡ new_below first y) }
+pub(crate) fn new_below(first: Spot, y: Stretch) -> Result<Stretch, AllocError>
+    ensures new { IfOk result (λ z. GoesAlong (new_below first) y.first y.len z.first z.len) }
 {
     high(&[tuple_before(first)], y)
 }
 
 // The new map between two neighbours.
-pub(crate) fn new_between(first: Spot, i: u64, y: Ident) -> Result<Ident, AllocError>
+pub(crate) fn new_between(first: Spot, i: u64, y: Stretch) -> Result<Stretch, AllocError>
     requires place { i < 4194304 }
-    ensures new { IfOk result (λ z. z ≡ new_between first i y) }
+    ensures new { IfOk result (λ z. GoesAlong (new_between first i) y.first y.len z.first z.len) }
 {
     y.prefixed(&[tuple_at(first, i)])
 }
 
 // The new map above the last one.
-pub(crate) fn new_above(first: Spot, i: u64, y: Ident) -> Result<Ident, AllocError>
+pub(crate) fn new_above(first: Spot, i: u64, y: Stretch) -> Result<Stretch, AllocError>
     requires place { i < 4194304 }
-    ensures new { IfOk result (λ z. z ≡ new_above first i y) }
+    ensures new { IfOk result (λ z. GoesAlong (new_above first i) y.first y.len z.first z.len) }
 {
     low(&[tuple_at(first, i)], y)
 }
 
 // The inverse of the new map below the first one.
-pub(crate) fn new_below_inverse(first: Spot, z: Ident) -> Result<Ident, AllocError>
-    requires less { ident_cmp z (new_at first 0) ≡ Less }
-    ensures new { IfOk result (λ y. y ≡ new_below_inverse first z) }
+pub(crate) fn new_below_inverse(first: Spot, z: Stretch) -> Result<Stretch, AllocError>
+    requires less { ident_cmp z.first (new_at first 0) ≡ Less }
+    ensures new { IfOk result (λ y. GoesAlong (new_below_inverse first) z.first z.len y.first y.len) }
 {
-    let _len = z.len();
+    let _len = z.first.len();
     high_inverse(&[tuple_before(first)], z)
 }
 
 // The inverse of the new map between the neighbours at the places i and i + 1.
 #[tactic(auto, using(crate::proofs::Patterns::new_between_longer))]
-pub(crate) fn new_between_inverse(first: Spot, i: u64, z: Ident) -> Result<Ident, AllocError>
+pub(crate) fn new_between_inverse(first: Spot, i: u64, z: Stretch) -> Result<Stretch, AllocError>
     requires place { i < 4194304 }
-    requires above { ident_cmp (new_at first i) z ≡ Less }
-    requires below { ident_cmp z (new_at first (i + 1)) ≡ Less }
-    ensures new { IfOk result (λ y. y ≡ new_between_inverse z) }
+    requires above { ident_cmp (new_at first i) z.first ≡ Less }
+    requires below { ident_cmp z.first (new_at first (i + 1)) ≡ Less }
+    ensures new { IfOk result (λ y. GoesAlong new_between_inverse z.first z.len y.first y.len) }
 {
-    let _len = z.len();
+    let _len = z.first.len();
     z.stripped(1)
 }
 
 // The inverse of the new map above the last one.
-pub(crate) fn new_above_inverse(first: Spot, i: u64, z: Ident) -> Result<Ident, AllocError>
+pub(crate) fn new_above_inverse(first: Spot, i: u64, z: Stretch) -> Result<Stretch, AllocError>
     requires place { i < 4194304 }
-    requires less { ident_cmp (new_at first i) z ≡ Less }
-    ensures new { IfOk result (λ y. y ≡ new_above_inverse first i z) }
+    requires less { ident_cmp (new_at first i) z.first ≡ Less }
+    ensures new { IfOk result (λ y. GoesAlong (new_above_inverse first i) z.first z.len y.first y.len) }
 {
-    let _len = z.len();
+    let _len = z.first.len();
     low_inverse(&[tuple_at(first, i)], z)
 }

@@ -2,11 +2,16 @@
 
 ghost use Rattle.std.specs.Prelude.{◌≡◌, ℕ, ◌<◌, ◌≤◌, length, List, ◌∷◌, IfOk, IfSome, IfNone, IsErrOf, ◌↔◌};
 ghost use Rattle.rls_ident.specs.declared.tuple.Tuple.{Tuple};
+ghost use Rattle.rls_runs.specs.Runs.{IsImage};
 ghost use Rattle.rls_rename.specs.Renaming.{IsFormer, first_pos, forward, back};
+ghost use Rattle.rls_rename.specs.Stretches.{GoesAlong};
+ghost use Rattle.rls_rename.specs.Ways.{renamed};
 
-use crate::gaps::{back_by, forward_by};
+use crate::gaps::{back_front, forward_front};
+use crate::images::Image;
+use crate::stretch::Stretch;
 use rls_ident::{Ident, Spot, Tuple};
-use rls_runs::Runs;
+use rls_runs::{Run, RunList, Runs};
 use std::alloc::{AllocError, Global};
 use std::marker::Model;
 
@@ -40,6 +45,13 @@ pub enum RenamingError {
     EmptyList,
     /// There are more than 4,194,304 former identifiers.
     TooMany { total: u64 },
+}
+
+// The way of a renaming.
+#[derive(Clone, Copy)]
+enum Way {
+    Forward,
+    Back,
 }
 
 impl Renaming {
@@ -115,19 +127,76 @@ impl Renaming {
     /// The renaming of an identifier: a former one goes to the new one at its place, and any other
     /// from its gap between former ones to the gap between new ones, in the same order. It costs a
     /// comparison for each halving of the former runs, and a few copies of the identifier.
-    #[tactic(auto, unfolding(crate::specs::Renaming::forward))]
     pub fn forward(&self, id: &Ident) -> Result<Ident, AllocError>
         ensures forward { IfOk result (λ z. z ≡ forward self.now id.now) }
     {
-        forward_by(self.alloc, &self.former, self.first, id)
+        self.of_one(Way::Forward, id)
     }
 
     /// The identifier that `forward` takes to this one, at the same cost.
-    #[tactic(auto, unfolding(crate::specs::Renaming::back))]
     pub fn back(&self, id: &Ident) -> Result<Ident, AllocError>
         ensures back { IfOk result (λ x. x ≡ back self.now id.now) }
     {
-        back_by(self.alloc, &self.former, self.first, id)
+        self.of_one(Way::Back, id)
+    }
+
+    /// The renaming of each identifier of a run, in order, as runs of which none touches the one
+    /// before it.
+    ///
+    /// It works on whole runs. The run is cut where a former run begins or ends in it, and in each
+    /// gap once for each of the two patterns of the gap's maps at most. Each part costs what
+    /// `forward` costs, and where a pattern cuts it also a look at the pattern for each halving of
+    /// the part. So a run of a thousand million identifiers takes a few steps where few former runs
+    /// lie in it, and former identifiers take one step for each former run. It takes memory for the
+    /// runs of the answer, and copies none of them.
+    pub fn forward_run(&self, run: &Run) -> Result<RunList, AllocError>
+        ensures image { IfOk result (λ runs. IsImage (forward self.now) run.now runs) }
+    {
+        self.of_run(Way::Forward, run)
+    }
+
+    /// What `back` takes each identifier of a run to, in order, as runs of which none touches the
+    /// one before it. It costs what `forward_run` does: the run is cut where the new identifiers
+    /// begin and end in it, among them where a former run ends, and in each gap by its two patterns.
+    pub fn back_run(&self, run: &Run) -> Result<RunList, AllocError>
+        ensures image { IfOk result (λ runs. IsImage (back self.now) run.now runs) }
+    {
+        self.of_run(Way::Back, run)
+    }
+
+    // Of one identifier.
+    fn of_one(&self, way: Way, id: &Ident) -> Result<Ident, AllocError>
+        ensures renamed { IfOk result (λ z. z ≡ renamed way self.now id.now) }
+    {
+        let run = Stretch::one(id.copy()?).into_run();
+        let Stretch { first, .. } = self.of_front(way, &run)?;
+        Ok(first)
+    }
+
+    // Of as much of a run as goes along as one.
+    fn of_front(&self, way: Way, run: &Run) -> Result<Stretch, AllocError>
+        ensures renamed { IfOk result (λ z. GoesAlong (renamed way self.now) run.now.0 run.now.1 z.first z.len) }
+    {
+        match way {
+            Way::Forward => forward_front(self.alloc, &self.former, self.first, run),
+            Way::Back => back_front(self.alloc, &self.former, self.first, run),
+        }
+    }
+
+    // Of a whole run.
+    fn of_run(&self, way: Way, run: &Run) -> Result<RunList, AllocError>
+        ensures image { IfOk result (λ runs. IsImage (renamed way self.now) run.now runs) }
+    {
+        let front = self.of_front(way, run)?;
+        let mut done = front.len;
+        let mut image = Image::new(self.alloc, front);
+        while done < run.len() {
+            let rest = Stretch::behind(run, done)?.into_run();
+            let front = self.of_front(way, &rest)?;
+            done += front.len;
+            image = image.with(front)?;
+        }
+        image.into_runs()
     }
 
     /// The same again.

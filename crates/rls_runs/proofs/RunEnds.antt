@@ -91,7 +91,7 @@ last_run rs r g h = ap (λ xs. last_ident (idents_of xs)) (sym (last_is rs r g))
 
 -- ---- the length of a longer run
 
-last_offset : (k : ℤ) (x : List Tuple) → IsIdent x → offset_of (last_of (shifted k x)) ≡ offset_of (last_of x) +ℤ k
+pub last_offset : (k : ℤ) (x : List Tuple) → IsIdent x → offset_of (last_of (shifted k x)) ≡ offset_of (last_of x) +ℤ k
 last_offset k [] i = absurd (cc)
 last_offset k (Low ∷ []) i = absurd (cc)
 last_offset k (At p r s o ∷ []) i = refl

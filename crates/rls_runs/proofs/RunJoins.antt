@@ -77,7 +77,7 @@ idents_longer fs x n m y e =
     ∙ sym (append_assoc (idents_of fs) (run_idents x n) (run_idents y m))
     ∙ ap (λ xs. xs ++ run_idents y m) (sym (idents_pushed fs (x, n)))
 
-apart_longer : (before : Option (List Tuple × ℕ)) (fs : List (List Tuple × ℕ)) (x : List Tuple) (n m : ℕ) → 0 < m → are_apart before (fs ++ (x, n) ∷ []) ≡ true → are_apart before (fs ++ (x, m) ∷ []) ≡ true
+pub apart_longer : (before : Option (List Tuple × ℕ)) (fs : List (List Tuple × ℕ)) (x : List Tuple) (n m : ℕ) → 0 < m → are_apart before (fs ++ (x, n) ∷ []) ≡ true → are_apart before (fs ++ (x, m) ∷ []) ≡ true
 apart_longer before [] x n m l h =
     let p = and_left (nat_lt 0 n && is_apart before (x, n)) true h in
     and_true (nat_lt 0 m && is_apart before (x, m)) true (and_true (nat_lt 0 m) (is_apart before (x, m)) (lt_test 0 m l) (go before (and_right (nat_lt 0 n) (is_apart before (x, n)) p))) refl

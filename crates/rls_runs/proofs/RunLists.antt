@@ -164,6 +164,13 @@ module _ (rs : List (List Tuple × ℕ)) (starts : List ℕ) (total : ℕ) (a : 
   pub placed_fits : (offset_of (last_of r.0) +ℤ pos (i - s)) ≤ℤ greatest_offset
   placed_fits = let p = placed in let l = run_end r (sound_get rs starts total a k r at_run) in omega (arith, ints)
 
+  -- the identifiers from the place on to the end of the run
+  pub placed_on : (j : ℕ) → (i - s) + j < r.1 → slice_get (idents_of rs) (i + j) ≡ Some (shifted (pos ((i - s) + j)) r.0)
+  placed_on j l =
+      let p = placed in
+      let e : (i + j) - s ≡ (i - s) + j = omega arith in
+      ident_is rs starts total a k s (i + j) r at_run (omega arith) (omega arith) ∙ ap (λ n. Some (shifted (pos ((i + j) - n)) r.0)) (sym start) ∙ ap (λ n. Some (shifted (pos n) r.0)) e
+
   pub placed_is : (x : List Tuple) → x ≡ shifted (pos (i - s)) r.0 → slice_get (idents_of rs) i ≡ Some x
   placed_is x e =
       let p = placed in

@@ -1,8 +1,8 @@
 //! Lists of identifiers, kept as runs.
 
-ghost use Rattle.std.specs.Prelude.{◌≡◌, ℕ, ◌+◌, ◌-◌, ◌<◌, ◌≤◌, ◌^◌, ◌++◌, ◌∷◌, [], List, length, slice_get, slice_index, Some, IfOk, OnOk, OnErr, IsErrOf, IsTrue, IsFalse, ◌↔◌};
+ghost use Rattle.std.specs.Prelude.{◌≡◌, ℕ, ◌+◌, ◌-◌, ◌<◌, ◌≤◌, ◌^◌, ◌++◌, ◌∷◌, [], List, length, slice_get, slice_index, Some, IfOk, OnOk, OnErr, IsErrOf, IsTrue, IsFalse, ◌↔◌, Contains, pos};
 ghost use Rattle.rls_ident.specs.declared.tuple.Tuple.{Tuple};
-ghost use Rattle.rls_ident.specs.Identifiers.{ident_lt};
+ghost use Rattle.rls_ident.specs.Identifiers.{ident_lt, shifted};
 ghost use Rattle.rls_runs.specs.Runs.{run_idents, runs_of, place_of, AreIdents};
 ghost use Rattle.rls_runs.specs.Places.{find_ident, last_ident, is_above, touches};
 
@@ -151,6 +151,18 @@ impl Runs {
         let k = run_at(&self.starts, i);
         let run = &self.runs[k];
         run.first().shifted((i - self.starts[k]) as u32)
+    }
+
+    /// The maximal run that holds a place, and the place in it. It takes no memory, and costs a
+    /// comparison of numbers for each halving of the runs.
+    pub fn locate(&self, i: u64) -> (&Run, u32)
+        requires place { i < length self.now }
+        ensures run { Contains (runs_of self.now) result.0.now }
+        ensures within { result.1 < result.0.now.1 }
+        ensures idents { (k : ℕ) → result.1 + k < result.0.now.1 → slice_get self.now (i + k) ≡ Some (shifted (pos (result.1 + k)) result.0.now.0) }
+    {
+        let k = run_at(&self.starts, i);
+        (&self.runs[k], (i - self.starts[k]) as u32)
     }
 
     /// The number of identifiers.

@@ -141,7 +141,7 @@ more_steps k (Some n) = Some (k + n)
 no_release : (c : Course) → c.limit ≡ Some 0 → release_step c ≡ c
 no_release c e = ap (λ b. cond b (with_release c (release_over c.seen)) c) (ap has_room e)
 
-no_releases : (n : ℕ) (c : Course) → c.limit ≡ Some 0 → release_steps n c ≡ c
+pub no_releases : (n : ℕ) (c : Course) → c.limit ≡ Some 0 → release_steps n c ≡ c
 no_releases zero c e = refl
 no_releases (suc n) c e = ap (release_steps n) (no_release c e) ∙ no_releases n c e
 

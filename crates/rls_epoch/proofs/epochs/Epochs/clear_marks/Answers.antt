@@ -1,10 +1,9 @@
-use Rattle.std.proofs.Common.{sym, subst, List}
-use Rattle.rls_epoch.specs.declared.placed.Placed.{Placed}
-use Rattle.rls_epoch.specs.Seen.{IsWhole}
-use Rattle.rls_epoch.proofs.Unmarked.{still_whole}
+use Rattle.std.proofs.Common.{vec_len, ap, ◌∙◌}
+use Rattle.rls_epoch.specs.Seen.{marks_of}
+use Rattle.rls_epoch.proofs.Whole.{marks_none}
 use Rattle.rls_epoch.proofs.epochs.Epochs.clear_marks.Goals as goal
 
-pub invariant_of-self : goal.invariant_of-self
-invariant_of-self c =
+pub returns-clause-marks : goal.returns-clause-marks
+returns-clause-marks c =
     let s = c.self.inside in
-    subst (λ (ps : List Placed). IsWhole s.top ps s.total s.greatest) (sym c.clear.ensures.cleared) (still_whole s.top s.nodes.items s.total s.greatest c.self.invariant)
+    ap (marks_of s.top s.nodes.items) (c.fill.ensures.items (λ y e. e)) ∙ marks_none s.top s.nodes.items (vec_len s.marks)

@@ -1,29 +1,43 @@
-use Rattle.std.proofs.Common.{◌≡◌, ◌∙◌, List, ◌∷◌, Some, true, false, refl, sym, ap, subst}
+use Rattle.std.proofs.Common.{◌≡◌, ◌∙◌, List, ◌∷◌, true, false, refl, sym, ap, subst}
 use Rattle.std.specs.Ordering.{is_lt}
 use Rattle.rls_ident.specs.declared.epoch_name.EpochName.{EpochName}
 use Rattle.rls_ident.specs.declared.epoch_name.EpochName.TheVariants.{Of}
 use Rattle.rls_ident.specs.EpochNames.{name_eq}
-use Rattle.rls_rename.specs.Tree.{Node, has_node, is_kept, AreNodes, AreBelow}
+use Rattle.rls_rename.specs.Tree.{Node, Epochs, has_node, is_kept, epoch_cmp, greatest, AreNodes, AreBelow}
+use Rattle.rls_rename.proofs.Kept.{greatest_kept}
 use Rattle.rls_epoch.specs.declared.placed.Placed.{Placed}
-use Rattle.rls_epoch.specs.Climbing.{meet_cmp, climb_from}
-use Rattle.rls_epoch.specs.Seen.{EpochsSeen, nodes_of, OpensGreatest}
-use Rattle.rls_epoch.proofs.Meeting.{left_false, right_false}
-use Rattle.rls_epoch.proofs.Opened.{opened_is}
+use Rattle.rls_epoch.specs.Links.{epoch_at}
+use Rattle.rls_epoch.specs.Seen.{EpochsSeen, nodes_of, AreLaid, OpensGreatest}
+use Rattle.rls_epoch.proofs.Meeting.{at_is}
+use Rattle.rls_epoch.proofs.Opened.{apart, greatest_opened, split}
 use Rattle.rls_epoch.proofs.epochs.Epochs.opens_greatest.Goals as goal
+
+pub number_of-last-requires-clause-kept : goal.number_of-last-requires-clause-kept
+number_of-last-requires-clause-kept c =
+    rw (c.greatest.ensures.greatest, ← c.self.view_is, c.as_slice-nodes.ensures.value) (greatest_kept c.self.inside.top (nodes_of c.self.inside.nodes.items))
 
 pub returns : goal.returns
 returns c = record {
   greatest = λ former f.
-      let E = c.self.inside in
-      let nodes = nodes_of E.nodes.items in
+      let top = c.self.inside.top in
+      let ps = c.as_slice-nodes.result.now in
+      let ns = nodes_of ps in
       let n : EpochName = Of c.args.replica c.args.seq in
       let node : Node = record { parent = c.args.parent; renaming = record { former = former; replica = c.args.replica; seq = c.args.seq } } in
-      let fresh : is_kept E.top nodes n ≡ false = subst (λ (v : EpochsSeen). is_kept v.epochs.top v.epochs.nodes n ≡ false) (sym c.self.view_is) c.requires.fresh in
-      let parent : is_kept E.top nodes c.args.parent ≡ true = subst (λ (v : EpochsSeen). is_kept v.epochs.top v.epochs.nodes c.args.parent ≡ true) (sym c.self.view_is) c.requires.parent in
-      let d : AreNodes (node ∷ nodes) = (f, right_false (name_eq n E.top) (has_node nodes n) fresh, c.self.invariant.nodes) in
-      let b : AreBelow E.top (node ∷ nodes) = (parent, left_false (name_eq n E.top) (has_node nodes n) fresh, c.self.invariant.below) in
-      subst (λ (v : EpochsSeen). OpensGreatest c.opens_above.result v.epochs c.args.parent node.renaming) c.self.view_is
-      (c.opens_above.ensures.above
-      ∙ (ap (λ (ps : List Placed). is_lt (meet_cmp (nodes_of ps) (climb_from E.greatest) (record { at = c.args.parent; below = Some n }))) c.deref.ensures.value
-      ∙ opened_is E.top node nodes d b E.greatest c.self.invariant.greatest (meet_cmp nodes (climb_from E.greatest) (record { at = c.args.parent; below = Some n })) refl));
+      let value = c.as_slice-nodes.ensures.value in
+      let e : c.args.self.now.epochs ≡ record { top = top; nodes = ns } =
+      sym (ap (λ (v : EpochsSeen). v.epochs) c.self.view_is) ∙ ap (λ (xs : List Placed). record { top = top; nodes = nodes_of xs }) (sym value) in
+      let fresh : is_kept top ns n ≡ false = subst (λ (E : Epochs). is_kept E.top E.nodes n ≡ false) e c.requires.fresh in
+      let parent : is_kept top ns c.args.parent ≡ true = subst (λ (E : Epochs). is_kept E.top E.nodes c.args.parent ≡ true) e c.requires.parent in
+      let laid : AreLaid top ps = subst (AreLaid top) (sym value) c.self.invariant.laid in
+      let last : epoch_at top ps c.number_of-last.result ≡ greatest top ns =
+      at_is top ps c.number_of-last.result c.greatest.result c.number_of-last.ensures.number ∙ (c.greatest.ensures.greatest ∙ ap (λ (E : Epochs). greatest E.top E.nodes) e) in
+      let up = at_is top ps c.number_of-up.result c.args.parent c.number_of-up.ensures.number in
+      let two = split (name_eq n top) (has_node ns n) fresh in
+      let d : AreNodes (node ∷ ns) = (f, two.1, laid.nodes) in
+      let b : AreBelow top (node ∷ ns) = (parent, two.0, laid.below) in
+      let kept : is_kept top ns (epoch_at top ps c.number_of-last.result) ≡ true = ap (is_kept top ns) last ∙ greatest_kept top ns in
+      subst (λ (E : Epochs). OpensGreatest c.opens_above.result E c.args.parent node.renaming) (sym e)
+      (c.opens_above.ensures.above node (sym up) (record { named = refl; apart = apart top ns n (epoch_at top ps c.number_of-last.result) fresh kept; fresh = two.1 })
+      ∙ (ap (λ (g : EpochName). is_lt (epoch_cmp (node ∷ ns) g n)) last ∙ greatest_opened top node ns d b));
 }

@@ -1,0 +1,16 @@
+-- Names of nodes that are read.
+use Rattle.std.proofs.Common.{◌≡◌, ℕ, zero, suc, ◌<◌, List, [], ◌∷◌, Some, length, get_or, refl, ap}
+use Rattle.std.specs.Prelude.{slice_get}
+use Rattle.std.proofs.lemmas.Option.{slice_get_read}
+use Rattle.rls_ident.proofs.Members.{some_is}
+use Rattle.rls_rename.specs.Tree.{name_of}
+use Rattle.rls_epoch.specs.declared.placed.Placed.{Placed}
+use Rattle.rls_epoch.specs.Sorted.{place_name}
+
+pub name_read : (ps : List Placed) (k : ℕ) (p : Placed) → slice_get ps k ≡ Some p → place_name ps k ≡ name_of p.renaming
+name_read [] k p h = absurd (cc)
+name_read (q ∷ ps) zero p h = ap (λ (z : Placed). name_of z.renaming) (some_is q p h)
+name_read (q ∷ ps) (suc k) p h = name_read ps k p h
+
+pub name_got : (ps : List Placed) (k : ℕ) (p : Placed) → k < length ps → p ≡ get_or ps k p → place_name ps k ≡ name_of p.renaming
+name_got ps k p h g = name_read ps k p (slice_get_read ps (length ps) k p refl h g)

@@ -1,7 +1,0 @@
-use Rattle.std.proofs.Common.{◌∙◌}
-use Rattle.rls_rename.proofs.Patterns.{above_longer}
-use Rattle.rls_rename.proofs.gap_maps.old_between.Goals as goal
-
-pub low_inverse-requires-clause-longer : goal.low_inverse-requires-clause-longer
-low_inverse-requires-clause-longer c =
-    above_longer c.args.a.now c.args.b c.deref.result.now (c.deref.ensures.value ∙ c.in_ok-above.ensures.pattern) c.len-len.ensures.ident c.requires.less

@@ -1,0 +1,21 @@
+use Rattle.std.proofs.Common.{sym, ◌∙◌, arith}
+use Rattle.std.proofs.lemmas.Result.{IfOk-weaker}
+use Rattle.rls_rename.specs.Renaming.{new_from}
+use Rattle.rls_rename.proofs.GapPlaces.{gap_within}
+use Rattle.rls_rename.proofs.GapImages.{new_length, new_place_is}
+use Rattle.rls_rename.proofs.Fronts.{former_back}
+use Rattle.rls_rename.proofs.gaps.back_front.Goals as goal
+
+pub former_front-requires-clause-place : goal.former_front-requires-clause-place
+former_front-requires-clause-place c =
+    let f = c.args.former.now in
+    let w = gap_within (new_from c.args.first 0 f) c.first.result.now c.in-Ok.i (sym c.in-Ok.ensures.place) in
+    let n = new_length c.args.first 0 f in
+    omega arith
+
+pub returns-in-Ok : goal.returns-in-Ok
+returns-in-Ok c =
+    let f = c.args.former.now in
+    let run = c.args.run.now in
+    let same = new_place_is c.args.first f c.first.result.now c.in-Ok.i (sym c.in-Ok.ensures.place) ∙ c.first.ensures.first in
+    record { back = IfOk-weaker c.former_front.result _ _ (λ a e. former_back c.args.first f run.0 run.1 c.in-Ok.i a.first a.len c.requires.former same (rw (sym c.len.ensures.len) e)) c.former_front.ensures.idents }

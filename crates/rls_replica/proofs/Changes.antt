@@ -1,0 +1,177 @@
+-- What is known where an operation is accepted, and what it adds.
+use Rattle.std.proofs.Common.{◌≡◌, ◌∙◌, ℕ, ◌+◌, ◌^◌, ◌<◌, ◌≤◌, Bool, false, List, [], ◌∷◌, length, map, Some, None, IsSome, refl, sym, ap, subst, arith, inl, inr, nat_lt}
+use Rattle.std.specs.Prelude.{ℤ, pos, ◌+ℤ◌, ◌≤ℤ◌, zip, if◌then◌else◌}
+use Rattle.std.specs.Int.RustNames.{int_lt}
+use Rattle.std.specs.Ordering.{is_lt}
+use Rattle.std.proofs.lemmas.Int.{ints}
+use Rattle.rls_ident.specs.declared.tuple.Tuple.{Tuple}
+use Rattle.rls_ident.specs.declared.epoch_name.EpochName.{EpochName}
+use Rattle.rls_ident.specs.declared.epoch_name.EpochName.TheVariants.{Of}
+use Rattle.rls_ident.specs.EpochNames.{name_eq}
+use Rattle.rls_ident.specs.Identifiers.{ident_cmp, ident_eq, last_of, greatest_offset}
+use Rattle.rls_ident.specs.Lists.{IsIn}
+use Rattle.rls_ident.specs.Tuples.{offset_of}
+use Rattle.rls_ident.proofs.Members.{bool_cases, in_any, less_is, eq_not, not_lt_is, some_is}
+use Rattle.rls_ident.proofs.Ends.{eq_same}
+use Rattle.rls_runs.specs.Entries.{Entries, has_ident, put_all, without_all, with_idents}
+use Rattle.rls_runs.specs.Runs.{run_idents, idents_of, IsImage}
+use Rattle.rls_doc.specs.Documents.{AreNew, KeepsOrder}
+use Rattle.rls_rename.specs.Renaming.{Renaming, IsFormer}
+use Rattle.rls_rename.specs.Tree.{Node, Epochs, AreNodes, greatest, translate}
+use Rattle.rls_rename.proofs.Former.{former_of}
+use Rattle.rls_rename.proofs.Paths.{renaming_iso, translate_ident, translate_order}
+use Rattle.rls_epoch.specs.Seen.{former_sum}
+use Rattle.rls_ops.specs.declared.op.Op.{Op}
+use Rattle.rls_ops.specs.declared.op.Body.{Body}
+use Rattle.rls_ops.specs.declared.op.Body.TheVariants.{Insert, Delete, Rename, Leave}
+use Rattle.rls_ops.specs.Shapes.{is_empty, body_limit, body_len, passes_end}
+use Rattle.rls_model.specs.Epochs.{renaming_of, nodes_after}
+use Rattle.rls_model.specs.WellFormed.{IsBody}
+use Rattle.rls_seen.specs.Seen.{Seen, vector, count_over}
+use Rattle.rls_seen.specs.Over.{added_over, placed_over, renamed_over, is_greatest_over}
+use Rattle.rls_seen.specs.Sane.{IsSane, MayApply}
+use Rattle.rls_seen.proofs.Fitting.{facts, name_new}
+use Rattle.rls_seen.proofs.Needed.{total_room, former_room}
+use Rattle.rls_seen.proofs.StemNumbers.{each_stem}
+use Rattle.rls_seen.proofs.Written.{newborn}
+use Rattle.rls_stems.specs.Tables.{IsNewest}
+use Rattle.rls_replica.specs.Changing.{renaming_in, former_in, IsTextAfter, renamed_from, MayInsert, MayRename}
+
+-- ---- the map of a rename
+
+-- it keeps the order
+pub renamed_keeps : (nodes : List Node) (e f : EpochName) (R : Renaming) → AreNodes nodes → IsFormer R.former → KeepsOrder (renamed_from nodes e f R)
+renamed_keeps nodes e f R n h x y i j l =
+    let o : ident_cmp (translate nodes e f x) (translate nodes e f y) ≡ _ = translate_order nodes e f x y n i j ∙ less_is (ident_cmp x y) l in
+    let u = (renaming_iso R h).up (translate nodes e f x) (translate nodes e f y) (translate_ident nodes e f x n i) (translate_ident nodes e f y n j) (record { less = o }) in
+    ap is_lt u.less
+
+-- ---- insertions
+
+-- the image of a run in the greatest epoch
+pub image_is : (E : Epochs) (e : EpochName) (first : List Tuple) (n : ℕ) (g : EpochName) (run : List Tuple × ℕ) (runs : List (List Tuple × ℕ)) → g ≡ greatest E.top E.nodes → run ≡ (first, n)
+    → IsImage (translate E.nodes e g) run runs → idents_of runs ≡ map (translate E.nodes e (greatest E.top E.nodes)) (run_idents first n)
+image_is E e first n g run runs k h i =
+    i.idents ∙ (ap (λ (r : List Tuple × ℕ). map (translate E.nodes e g) (run_idents r.0 r.1)) h ∙ ap (λ (f : EpochName). map (translate E.nodes e f) (run_idents first n)) k)
+
+-- identifiers that aren't there are new
+pub are_new : (xs ys : List (List Tuple)) → ((x : List Tuple) → IsIn x xs → IsIn x ys → ⊥) → AreNew xs ys
+are_new [] ys h = tt
+are_new (x ∷ xs) ys h = (
+  bool_cases (has_ident ys x)
+      (λ e. let p = in_any (λ y. ident_eq y x) ys e in absurd (h x (inl refl) (subst (λ z. IsIn z ys) (eq_same p.0 x p.2) p.1)))
+      (λ e. e),
+  are_new xs ys (λ z p. h z (inr p)),
+)
+
+int_not_lt : (x y : ℤ) → int_lt x y ≡ false → y ≤ℤ x
+int_not_lt x y h = omega (arith, ints)
+
+pub insert_may : (s : Seen) (o : Op) (first : List Tuple) (text : List ℕ) → IsSane s → MayApply s o → o.body ≡ Insert first text → MayInsert s.epochs s.text o.epoch first text
+insert_may s o first text sane m e =
+    let f = facts s o m in
+    let z : is_empty (Insert first text) ≡ false = ap is_empty (sym e) ∙ f.shaped.some in
+    let few : length text ≤ 1048576 = not_lt_is 1048576 (length text) (ap (λ b. nat_lt (body_limit b) (body_len b)) (sym e) ∙ f.shaped.few) in
+    let p : passes_end (Insert first text) ≡ false = ap passes_end (sym e) ∙ f.shaped.room in
+    let new = newborn s o first text sane m e in
+    let room = total_room s sane in
+    record {
+      kept = f.kept;
+      some = let k = eq_not (length text) 0 z in omega arith;
+      few = few;
+      end = int_not_lt (greatest_offset +ℤ pos 1) (offset_of (last_of first) +ℤ pos (length text)) p;
+      idents = new.idents;
+      new = new.new;
+      room = omega arith;
+    }
+
+pub insert_text : (E : Epochs) (es : Entries) (o : Op) (first : List Tuple) (text : List ℕ) (new : Entries)
+    → new ≡ put_all (zip (map (translate E.nodes o.epoch (greatest E.top E.nodes)) (run_idents first (length text))) text) es → IsTextAfter E es o (Insert first text) new
+insert_text E es o first text new h s e t =
+    h ∙ (ap (λ (F : Epochs). put_all (zip (map (translate F.nodes o.epoch (greatest F.top F.nodes)) (run_idents first (length text))) text) es) (sym e)
+    ∙ ap (put_all (added_over s o.epoch first text)) (sym t))
+
+-- ---- deletions
+
+pub delete_text : (E : Epochs) (es : Entries) (o : Op) (targets : List (List Tuple)) (new : Entries)
+    → new ≡ without_all (map (translate E.nodes o.epoch (greatest E.top E.nodes)) targets) es → IsTextAfter E es o (Delete targets) new
+delete_text E es o targets new h s e t =
+    h ∙ (ap (λ (F : Epochs). without_all (map (translate F.nodes o.epoch (greatest F.top F.nodes)) targets) es) (sym e)
+    ∙ ap (without_all (map (placed_over s o.epoch) targets)) (sym t))
+
+-- ---- renames
+
+pub rename_may : (s : Seen) (o : Op) (former : List (List Tuple)) → IsSane s → MayApply s o → o.body ≡ Rename former → MayRename s.epochs o former
+rename_may s o former sane m e =
+    let f = facts s o m in
+    let b : IsBody (Rename former) = subst IsBody e m.whole.body in
+    let z : is_empty (Rename former) ≡ false = ap is_empty (sym e) ∙ f.shaped.some in
+    let some : 0 < length former = let k = eq_not (length former) 0 z in omega arith in
+    record {
+      nodes = sane.epochs.nodes;
+      kept = f.kept;
+      fresh = name_new s o sane f;
+      body = e;
+      are_former = former_of former some b;
+      few = not_lt_is 4194304 (length former) (ap (λ b. nat_lt (body_limit b) (body_len b)) (sym e) ∙ f.shaped.few);
+    }
+
+-- the text, by whether the epoch becomes the greatest
+pub renamed_text : (E : Epochs) (es : Entries) (o : Op) (former : List (List Tuple)) (b : Bool) (new : Entries) → o.body ≡ Rename former
+    → b ≡ name_eq (greatest E.top (record { parent = o.epoch; renaming = renaming_of o former } ∷ E.nodes)) (Of o.author o.seq)
+    → new ≡ (if b then with_idents (renamed_from E.nodes (greatest E.top E.nodes) o.epoch (renaming_of o former)) es else es)
+    → IsTextAfter E es o (Rename former) new
+renamed_text E es o former b new body h k s e t =
+    k
+    ∙ (ap (λ (c : Bool). if c then with_idents (renamed_from E.nodes (greatest E.top E.nodes) o.epoch (renaming_of o former)) es else es) (sym same)
+    ∙ (ap (λ (F : Epochs). if is_greatest_over s o then with_idents (renamed_from F.nodes (greatest F.top F.nodes) o.epoch (renaming_of o former)) es else es) (sym e)
+    ∙ ap (λ (xs : Entries). if is_greatest_over s o then with_idents (renamed_over s o former) xs else xs) (sym t)))
+  where
+    same : is_greatest_over s o ≡ b
+    same =
+        ap (λ (c : Body). name_eq (greatest s.epochs.top (nodes_after s.epochs.nodes o c)) (Of o.author o.seq)) body
+        ∙ (ap (λ (F : Epochs). name_eq (greatest F.top (nodes_after F.nodes o (Rename former))) (Of o.author o.seq)) e ∙ sym h)
+
+-- ---- what takes no memory
+
+-- the stems of the author have lesser numbers
+pub newest : (s : Seen) (o : Op) → IsSane s → MayApply s o → IsNewest s.stems o.author o.seq
+newest s o sane m t p e =
+    let i = each_stem (vector s) s.stems t sane.stems p in
+    let n = (facts s o m).next in
+    let c : t.s0 ≤ count_over s o.author = subst (λ a. t.s0 ≤ count_over s a) e i.counted in
+    omega arith
+
+brief_go : (b : Body) → nat_lt (body_limit b) (body_len b) ≡ false → body_len b ≤ 4194304
+brief_go (Insert first text) h = let l = not_lt_is 1048576 (length text) h in omega arith
+brief_go (Delete targets) h = not_lt_is 4194304 (length targets) h
+brief_go (Rename former) h = not_lt_is 4194304 (length former) h
+brief_go Leave h = omega arith
+
+pub brief : (s : Seen) (o : Op) → MayApply s o → body_len o.body < 2 ^ 31
+brief s o m = let l = brief_go o.body (facts s o m).shaped.few in omega arith
+
+-- the renaming that there is
+pub some_renaming : (o : Op) (b : Body) (r : Renaming) → Some r ≡ renaming_in o b → (b ≡ Rename (former_in b)) × (r ≡ renaming_of o (former_in b))
+some_renaming o (Insert first text) r h = absurd (cc)
+some_renaming o (Delete targets) r h = absurd (cc)
+some_renaming o (Rename former) r h = (refl, some_is r (renaming_of o former) h)
+some_renaming o Leave r h = absurd (cc)
+
+pub no_renaming : (nodes : List Node) (o : Op) (b : Body) → None ≡ renaming_in o b → nodes_after nodes o b ≡ nodes
+no_renaming nodes o (Insert first text) h = refl
+no_renaming nodes o (Delete targets) h = refl
+no_renaming nodes o (Rename former) h = absurd (cc)
+no_renaming nodes o Leave h = refl
+
+some_go : (o : Op) (b : Body) → IsSome (renaming_in o b) → b ≡ Rename (former_in b)
+some_go o (Insert first text) h = absurd (cc)
+some_go o (Delete targets) h = absurd (cc)
+some_go o (Rename former) h = refl
+some_go o Leave h = absurd (cc)
+
+pub may_add : (s : Seen) (o : Op) → IsSane s → MayApply s o → IsSome (renaming_in o o.body) → MayRename s.epochs o (former_in o.body)
+may_add s o sane m h = rename_may s o (former_in o.body) sane m (some_go o o.body h)
+
+pub add_room : (s : Seen) (o : Op) → IsSane s → MayApply s o → IsSome (renaming_in o o.body) → former_sum s.epochs.nodes + length (former_in o.body) < 2 ^ 64
+add_room s o sane m h = let f = (may_add s o sane m h).few in let r = former_room s sane in omega arith

@@ -1,0 +1,57 @@
+-- Operations that are taken one after another, and how far one came.
+use Rattle.std.proofs.Common.{◌≡◌, ◌∙◌, ℕ, ◌+◌, List, drop, Some, None, cond, refl, sym, ap, subst, arith}
+use Rattle.std.specs.Prelude.{slice_get}
+use Rattle.rls_ident.proofs.Loops.{drop_reads}
+use Rattle.rls_ops.specs.declared.op.Op.{Op}
+use Rattle.rls_ops.specs.declared.message.Message.{Message}
+use Rattle.rls_model.specs.Receiving.{State}
+use Rattle.rls_model.specs.Taking.{Limit, has_room, take_within}
+use Rattle.rls_model.specs.Taking as model
+use Rattle.rls_model.specs.WellFormed.{IsOp}
+use Rattle.rls_seen.specs.Seen.{Seen, members}
+use Rattle.rls_seen.specs.Over.{acknowledged}
+use Rattle.rls_seen.specs.Messages.{Course, started, moved, take_ops, taken_within, AreOps, IsMessage, IsPartTaken}
+use Rattle.rls_seen.specs.Stands.{StandsFor}
+use Rattle.rls_seen.proofs.Repeating.{within, more_steps, no_ops, Reaches, reaches_start, part_taken}
+use Rattle.rls_seen.proofs.Taking.{started_goes, ops_go, taken_alike}
+use Rattle.rls_replica.specs.Steps.{IsPartOfOps}
+
+-- one more is well formed
+pub ops_more : (os : List Op) (i : ℕ) (o : Op) → slice_get os i ≡ Some o → IsOp o → AreOps (drop (i + 1) os) → AreOps (drop i os)
+ops_more os i o e w h = subst AreOps (sym (drop_reads os i o e)) (w, h)
+
+-- ---- cut short
+
+no_more : (k : ℕ) → more_steps k (Some 0) ≡ Some k
+no_more k = ap (λ m. Some m) (zero_more k)
+  where
+    zero_more : (m : ℕ) → m + 0 ≡ m
+    zero_more m = omega arith
+
+-- some of the steps were taken
+pub ops_part : (s : Seen) (os : List Op) (k : ℕ) (c : Course) (rest : List Op) → Reaches s os k c rest → IsPartOfOps s os c.seen
+ops_part s os k c rest h =
+    let e : take_ops (started (Some k) s) os ≡ within (Some 0) c = ap (λ l. take_ops (started l s) os) (sym (no_more k)) ∙ (h (Some 0) ∙ no_ops rest (within (Some 0) c) refl) in
+    (k, ap (λ d. d.limit) e, sym (ap (λ d. d.seen) e))
+
+-- none was
+pub ops_none : (s : Seen) (os : List Op) → IsPartOfOps s os s
+ops_none s os = ops_part s os 0 (started None s) os (reaches_start s os)
+
+pub message_none : (s : Seen) (m : Message) → IsPartTaken s m s
+message_none s m = part_taken s m 0 (started None s) m.ops (reaches_start s m.ops)
+
+-- it stands for the history behind as many
+pub ops_part_stands : (s u : Seen) (t : State) (os : List Op) → AreOps os → IsPartOfOps s os u → StandsFor s t → (n : ℕ) × StandsFor u (model.take_ops (model.started (Some n) t) os).state
+ops_part_stands s u t os w p h =
+    (p.0, subst (λ x. StandsFor x (model.take_ops (model.started (Some p.0) t) os).state) (sym p.2) (ops_go os (members s) (started (Some p.0) s) (model.started (Some p.0) t) w (started_goes (Some p.0) s t h)).stands)
+
+pub message_part_stands : (s u : Seen) (t : State) (m : Message) → IsMessage (members s) m → IsPartTaken s m u → StandsFor s t → (n : ℕ) × StandsFor u (take_within (Some n) t m).state
+message_part_stands s u t m w p h = (p.0, subst (λ x. StandsFor x (take_within (Some p.0) t m).state) (sym p.1) (taken_alike (Some p.0) s t m w h).1)
+
+-- with the acknowledgement that isn't noted any more
+pub message_part : (s u : Seen) (m : Message) → IsPartOfOps s m.ops u → IsPartTaken s m u
+unfolding taken_within
+message_part s u m p =
+    let d = take_ops (started (Some p.0) s) m.ops in
+    (p.0, p.2 ∙ sym (ap (λ b. (cond b (moved d (acknowledged d.seen m.from m.vector)) d).seen) (ap has_room p.1)))

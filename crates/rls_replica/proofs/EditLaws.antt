@@ -1,0 +1,41 @@
+-- Edits, seen by a history that the replica stands for.
+use Rattle.std.proofs.Common.{◌≡◌, ℕ, ◌+◌, List, [], ◌∷◌, length, map, sym, ap, ◌∙◌, subst, arith, None}
+use Rattle.std.specs.Prelude.{pos}
+use Rattle.rls_ident.specs.declared.tuple.Tuple.{Tuple}
+use Rattle.rls_ident.specs.declared.tuple.Tuple.TheVariants.{At}
+use Rattle.rls_runs.specs.Runs.{runs_of}
+use Rattle.rls_rename.specs.Renaming.{new_pos}
+use Rattle.rls_model.specs.declared.edit.Edit.{Edit}
+use Rattle.rls_model.specs.declared.edit.Edit.TheVariants as edits
+use Rattle.rls_model.specs.declared.edit.EditError.{EditError}
+use Rattle.rls_model.specs.Document.{text}
+use Rattle.rls_model.specs.Editing.{made, edit_fault, next_seq}
+use Rattle.rls_model.specs.History.{me_of}
+use Rattle.rls_model.specs.Receiving.{State, accept}
+use Rattle.rls_model.proofs.RenamedRun as renamed
+use Rattle.rls_seen.specs.Edits.{edit_fault_over, edited, IsFault}
+use Rattle.rls_seen.specs.Seen.{Seen, own_count, idents_over, text_over}
+use Rattle.rls_seen.specs.Stands.{StandsFor}
+use Rattle.rls_seen.proofs.Editing.{idents_alike, own_alike, edit_faults_alike, edited_stands}
+use Rattle.rls_replica.specs.Editing.{IsOneRun}
+
+text_alike : (s : Seen) (t : State) → StandsFor s t → text_over s ≡ text t.history
+unfolding text
+text_alike s t h = ap (map (λ (e : List Tuple × ℕ). e.1)) h.text
+
+-- a refused edit is refused by the history
+pub refused_alike : (s : Seen) (t : State) (edit : Edit) (e : EditError) → StandsFor s t → IsFault e (edit_fault_over s edit) → IsFault e (edit_fault t.history edit)
+refused_alike s t edit e h f = subst (IsFault e) (edit_faults_alike s t edit h) f
+
+-- a rename leaves one run
+pub one_run : (s : Seen) (t : State) → StandsFor s t → edit_fault_over s edits.Rename ≡ None → IsOneRun s (edited s edits.Rename)
+one_run s t h f =
+    let H = t.history in
+    let l = renamed.law H [] h.legal (λ k d i. absurd (omega arith)) (sym (edit_faults_alike s t edits.Rename h) ∙ f) in
+    let st = edited_stands s t edits.Rename tt f h in
+    ap runs_of (idents_alike (edited s edits.Rename) (accept t (made H edits.Rename)) st)
+    ∙ l.0.0
+    ∙ ap (λ (xs : List (List Tuple)). (At (new_pos xs) (me_of H) (next_seq H) (pos 0) ∷ [], length (text H)) ∷ []) (sym (idents_alike s t h))
+    ∙ ap (λ me. (At (new_pos (idents_over s)) me (next_seq H) (pos 0) ∷ [], length (text H)) ∷ []) (sym h.me)
+    ∙ ap (λ n. (At (new_pos (idents_over s)) s.acks.me (n + 1) (pos 0) ∷ [], length (text H)) ∷ []) (sym (own_alike s t h))
+    ∙ ap (λ (cs : List ℕ). (At (new_pos (idents_over s)) s.acks.me (own_count s + 1) (pos 0) ∷ [], length cs) ∷ []) (sym (text_alike s t h))

@@ -1,0 +1,14 @@
+pub mod Whole
+pub mod Cut
+pub mod Targets
+pub mod Changes
+pub mod Accepted
+pub mod Answered
+pub mod Courses
+pub mod Messages
+pub mod Characters
+pub mod EditFaults
+pub mod EditLaws
+pub mod EditedText
+pub mod Neighbours
+pub mod NewStems

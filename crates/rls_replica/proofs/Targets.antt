@@ -1,0 +1,121 @@
+-- How the targets of a deletion are looked up.
+use Rattle.std.proofs.Common.{◌≡◌, ◌∙◌, ℕ, zero, suc, ◌+◌, ◌<◌, ◌||◌, ◌&&◌, not, Bool, true, false, List, [], ◌∷◌, map, drop, Some, Ok, Err, Result, refl, sym, ap, inl, inr}
+use Rattle.std.specs.Prelude.{slice_get, slice_index, is_ok, if◌then◌else◌}
+use Rattle.std.specs.List.{list_any}
+use Rattle.std.specs.declared.cmp.Ordering.{Ordering}
+use Rattle.std.specs.declared.cmp.Ordering.TheVariants.{Less, Equal, Greater}
+use Rattle.std.specs.Ordering.{is_eq, ordering_reverse}
+use Rattle.rls_ident.specs.declared.tuple.Tuple.{Tuple}
+use Rattle.rls_ident.specs.declared.epoch_name.EpochName.{EpochName}
+use Rattle.rls_ident.specs.Identifiers.{IsIdent, ident_cmp, ident_eq}
+use Rattle.rls_ident.specs.Lists.{IsIn}
+use Rattle.rls_ident.proofs.Lists.{flipped, lt_trans}
+use Rattle.rls_ident.proofs.Loops.{drop_reads}
+use Rattle.rls_ident.proofs.Tuples.{ident_total}
+use Rattle.rls_ident.proofs.Members.{filter_in, not_le_test, some_is}
+use Rattle.rls_runs.specs.Runs.{AreIdents, is_increasing, place_from, place_of, placed}
+use Rattle.rls_runs.specs.Entries.{Entries, has_ident, idents_in}
+use Rattle.rls_runs.specs.Places.{find_ident, below_count}
+use Rattle.rls_runs.proofs.Sorted.{Entry, AreAbove, Rises}
+use Rattle.rls_doc.proofs.Rising.{rising}
+use Rattle.rls_rename.specs.Tree.{AreNodes, translate}
+use Rattle.rls_rename.proofs.Growth.{translate_back}
+use Rattle.rls_rename.proofs.Paths.{translate_ident, translate_order}
+use Rattle.rls_ops.specs.declared.op.Op.{Op}
+use Rattle.rls_ops.specs.declared.op.Body.{Body}
+use Rattle.rls_ops.specs.declared.op.Body.TheVariants.{Delete}
+use Rattle.rls_ops.specs.Rows.{is_covered, missing_for}
+use Rattle.rls_model.specs.Answers.{UnknownTarget}
+use Rattle.rls_model.specs.Document.{targets_of}
+use Rattle.rls_seen.specs.Seen.{Seen, stable_over, unstable_over, translate_over, greatest_over}
+use Rattle.rls_seen.specs.Over.{is_known_over, first_unknown_over}
+use Rattle.rls_seen.specs.Sane.{IsSane}
+use Rattle.rls_seen.proofs.TextLists.{ident_in}
+use Rattle.rls_replica.specs.Lookups.{is_named_by, is_named_over}
+
+-- ---- in the text
+
+-- whether an identifier is there, by its place
+above_none : (x : List Tuple) (y : Entry) (zs : List Entry) → ident_cmp y.0 x ≡ Greater → AreAbove y zs → list_any (λ (z : Entry). ident_eq z.0 x) zs ≡ false
+above_none x y [] g a = refl
+above_none x y (z ∷ zs) g a = ap (λ o. is_eq o || list_any (λ (u : Entry). ident_eq u.0 x) zs) later ∙ above_none x y zs g a.1
+  where
+    later : ident_cmp z.0 x ≡ Greater
+    later = flipped (lt_trans {x = x} {y = y.0} {z = z.0} (record { less = ident_total.antisymm x y.0 ∙ ap ordering_reverse g }) a.0)
+
+place_any : (n : ℕ) (x : List Tuple) (es : List Entry) → Rises es → is_ok (place_from n x (idents_in es)) ≡ list_any (λ (z : Entry). ident_eq z.0 x) es
+place_any n x [] r = refl
+place_any n x (y ∷ es) r = go (ident_cmp y.0 x) refl (place_any (suc n) x es r.1)
+  where
+    go : (o : Ordering) → ident_cmp y.0 x ≡ o → is_ok (place_from (suc n) x (idents_in es)) ≡ list_any (λ (z : Entry). ident_eq z.0 x) es
+        → is_ok (placed o n (place_from (suc n) x (idents_in es))) ≡ (is_eq o || list_any (λ (z : Entry). ident_eq z.0 x) es)
+    go Less e ih = ih
+    go Equal e ih = refl
+    go Greater e ih = sym (above_none x y es e r.0)
+
+pub place_known : (x : List Tuple) (es : Entries) → is_increasing (idents_in es) ≡ true → is_ok (place_of x (idents_in es)) ≡ list_any (λ y. ident_eq y.0 x) es
+unfolding place_of
+place_known x es h = place_any 0 x es (rising es h)
+
+-- the first place at which a target is looked for
+pub known_here : (s : Seen) (e : EpochName) (x : List Tuple) → IsSane s → (r : Result ℕ ℕ) → r ≡ place_of (translate_over s e (greatest_over s) x) (idents_in s.text)
+    → is_known_over s e x ≡ (is_ok r || is_named_over s e x s.log)
+unfolding is_known_over
+known_here s e x sane r h = ap (λ b. b || is_named_over s e x s.log) (sym (ap is_ok h ∙ place_known (translate_over s e (greatest_over s) x) s.text sane.idents.1))
+
+-- ---- among targets
+
+-- where an identifier is found
+pub found_known : (xs : List (List Tuple)) (x : List Tuple) → is_ok (find_ident xs x) ≡ has_ident xs x
+found_known xs x = go (has_ident xs x)
+  where
+    go : (b : Bool) → is_ok (if b then Ok (below_count xs x) else Err (below_count xs x)) ≡ b
+    go true = refl
+    go false = refl
+
+same_any : (p q : List Tuple → Bool) (xs : List (List Tuple)) → ((x : List Tuple) → IsIn x xs → p x ≡ q x) → list_any p xs ≡ list_any q xs
+same_any p q [] h = refl
+same_any p q (x ∷ xs) h = ap (λ b. b || list_any p xs) (h x (inl refl)) ∙ ap (λ b. q x || b) (same_any p q xs (λ y i. h y (inr i)))
+
+-- translated the one way a target is x just where x translated the other way is the target
+pub named_there : (s : Seen) (e : EpochName) (x : List Tuple) (d : Op) (ts : List (List Tuple)) → AreNodes s.epochs.nodes → IsIdent x → AreIdents ts → d.body ≡ Delete ts
+    → has_ident ts (translate s.epochs.nodes e d.epoch x) ≡ is_named_by s e x d
+named_there s e x d ts n i ids b =
+    same_any (λ t. ident_eq t (translate s.epochs.nodes e d.epoch x)) (λ t. ident_eq (translate s.epochs.nodes d.epoch e t) x) ts
+    (λ t p. ap is_eq (sym (translate_order s.epochs.nodes d.epoch e t (translate s.epochs.nodes e d.epoch x) n (ident_in ts ids t p) (translate_ident s.epochs.nodes e d.epoch x n i)))
+    ∙ ap (λ y. ident_eq (translate s.epochs.nodes d.epoch e t) y) (translate_back s.epochs.nodes e d.epoch x n i))
+    ∙ ap (λ (c : Body). list_any (λ t. ident_eq (translate_over s d.epoch e t) x) (targets_of c)) (sym b)
+
+-- ---- unstable operations
+
+pub uncovered : (s : Seen) (o : Op) → slice_index (stable_over s) o.author < o.seq → is_covered (stable_over s) o ≡ false
+uncovered s o l = not_le_test o.seq (slice_index (stable_over s) o.author) l
+
+pub unstable_in : (s : Seen) (o : Op) → IsIn o s.log → slice_index (stable_over s) o.author < o.seq → IsIn o (unstable_over s)
+unstable_in s o p l = filter_in (λ x. not (is_covered (stable_over s) x)) o s.log p (ap not (uncovered s o l))
+
+-- ---- one after another
+
+-- the operations of the log from a place on
+pub named_more : (s : Seen) (e : EpochName) (x : List Tuple) (os : List Op) (i : ℕ) (o : Op) → slice_get os i ≡ Some o
+    → is_named_over s e x (drop i os) ≡ ((not (is_covered (stable_over s) o) && is_named_by s e x o) || is_named_over s e x (drop (i + 1) os))
+named_more s e x os i o h = ap (is_named_over s e x) (drop_reads os i o h) ∙ go (is_covered (stable_over s) o)
+  where
+    rest : List Op
+    rest = drop (i + 1) os
+
+    go : (b : Bool) → list_any (is_named_by s e x) (if not b then o ∷ missing_for (stable_over s) rest else missing_for (stable_over s) rest)
+        ≡ ((not b && is_named_by s e x o) || list_any (is_named_by s e x) (missing_for (stable_over s) rest))
+    go true = refl
+    go false = refl
+
+-- the targets from a place on
+pub unknown_more : (s : Seen) (e : EpochName) (xs : List (List Tuple)) (i : ℕ) (x : List Tuple) → slice_get xs i ≡ Some x
+    → first_unknown_over s e (drop i xs) ≡ (if is_known_over s e x then first_unknown_over s e (drop (i + 1) xs) else Some (UnknownTarget x))
+unknown_more s e xs i x h = ap (first_unknown_over s e) (drop_reads xs i x h)
+
+-- what stands at a place, mapped
+pub got_mapped : {A B : Type 0} (f : A → B) (xs : List A) (i : ℕ) (x : A) (y : B) → slice_get xs i ≡ Some x → slice_get (map f xs) i ≡ Some y → y ≡ f x
+got_mapped f [] i x y h k = absurd (cc)
+got_mapped f (z ∷ xs) zero x y h k = sym (some_is (f z) y k) ∙ ap f (some_is z x h)
+got_mapped f (z ∷ xs) (suc i) x y h k = got_mapped f xs i x y h k

@@ -1,0 +1,31 @@
+use Rattle.std.proofs.Common.{◌∙◌, List, length, map, sym, ap, subst}
+use Rattle.std.proofs.lemmas.List.{length-map}
+use Rattle.rls_ident.specs.declared.tuple.Tuple.{Tuple}
+use Rattle.rls_rename.specs.Tree.{greatest, translate}
+use Rattle.rls_rename.proofs.Kept.{greatest_kept}
+use Rattle.rls_runs.specs.Entries.{idents_in}
+use Rattle.rls_runs.specs.Runs.{run_idents}
+use Rattle.rls_runs.proofs.Finding.{run_length}
+use Rattle.rls_doc.specs.Documents.{AreNew}
+use Rattle.rls_replica.proofs.Changes.{image_is, are_new}
+use Rattle.rls_replica.proofs.applying.insert.Goals as goal
+
+pub translate_run-requires-clause-to : goal.translate_run-requires-clause-to
+translate_run-requires-clause-to c = rw c.greatest.ensures.greatest (greatest_kept c.args.epochs.now.epochs.top c.args.epochs.now.epochs.nodes)
+
+pub insert_runs-requires-clause-as_many : goal.insert_runs-requires-clause-as_many
+insert_runs-requires-clause-as_many c =
+    let E = c.args.epochs.now.epochs in
+    let first = c.args.first.now in
+    let n = length c.args.text.now in
+    let e = image_is E c.args.epoch first n c.greatest.result c.in_ok-run.run' c.in_ok-runs.runs c.greatest.ensures.greatest (rw c.len.ensures.len at c.in_ok-run.ensures.run) c.in_ok-runs.ensures.translated in
+    ap length e ∙ (length-map (run_idents first n) (translate E.nodes c.args.epoch (greatest E.top E.nodes)) ∙ run_length first n)
+
+pub insert_runs-requires-clause-new : goal.insert_runs-requires-clause-new
+insert_runs-requires-clause-new c =
+    let E = c.args.epochs.now.epochs in
+    let first = c.args.first.now in
+    let n = length c.args.text.now in
+    let e = image_is E c.args.epoch first n c.greatest.result c.in_ok-run.run' c.in_ok-runs.runs c.greatest.ensures.greatest (rw c.len.ensures.len at c.in_ok-run.ensures.run) c.in_ok-runs.ensures.translated in
+    subst (λ (xs : List (List Tuple)). AreNew xs (idents_in c.args.document.now)) (sym e)
+    (are_new (map (translate E.nodes c.args.epoch (greatest E.top E.nodes)) (run_idents first n)) (idents_in c.args.document.now) c.requires.may.new)

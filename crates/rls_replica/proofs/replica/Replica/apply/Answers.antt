@@ -1,0 +1,39 @@
+use Rattle.std.proofs.Common.{◌∙◌, ◌++◌, List, [], ◌∷◌, ap, subst, refl}
+use Rattle.rls_rename.specs.Tree.{Epochs}
+use Rattle.rls_ops.specs.declared.op.Op.{Op}
+use Rattle.rls_model.specs.declared.parts.Stem.{Stem}
+use Rattle.rls_model.specs.Stems.{stems_after}
+use Rattle.rls_seen.specs.Seen.{Seen}
+use Rattle.rls_seen.specs.Over.{accepted, epochs_after}
+use Rattle.rls_seen.specs.Sane.{IsSane}
+use Rattle.rls_seen.proofs.Applied.{accepted_sane}
+use Rattle.rls_seen.proofs.Counting.{members_accepted}
+use Rattle.rls_replica.specs.View.{seen}
+use Rattle.rls_replica.proofs.Accepted.{accepted_is}
+use Rattle.rls_replica.proofs.Whole.{whole_next}
+use Rattle.rls_replica.proofs.replica.Replica.apply.Goals as goal
+
+after : goal.returns-clause-ok
+after c =
+    let i = seen c.self.inside in
+    let o = c.args.op in
+    let p = c.in_ok-renaming.ensures in
+    let f = c.finish.ensures in
+    accepted_is i o c.finish.new.acks c.finish.new.stems.stems c.finish.new.epochs.epochs c.prepare.new.document c.remove-held.new.self c.finish.new.log.ops
+    f.acks
+    (f.stems ∙ ap (λ (ss : List Stem). stems_after ss o.author o.seq o.body) p.stems)
+    (f.epochs ∙ ap (λ (E : Epochs). epochs_after E o) p.epochs)
+    (p.text i refl refl)
+    c.remove-held.ensures.others
+    (f.log ∙ ap (λ (os : List Op). os ++ o ∷ []) p.log)
+    ∙ ap (λ (s : Seen). accepted s o) c.self.view_is
+
+pub returns-clause-ok : goal.returns-clause-ok
+returns-clause-ok c = after c
+
+pub invariant_of-self-2 : goal.invariant_of-self-2
+invariant_of-self-2 c =
+    let s = c.args.self.now in
+    let o = c.args.op in
+    let sane : IsSane (accepted s o) = accepted_sane s o (subst IsSane c.self.view_is c.self.invariant.sane) c.requires.may c.fits.ensures.range in
+    whole_next (seen c.self.inside) s _ (accepted s o) c.self.inside.stems.members c.finish.new.stems.members c.self.view_is c.self.invariant (after c) sane (members_accepted s o) (c.finish.ensures.members ∙ c.in_ok-renaming.ensures.members)

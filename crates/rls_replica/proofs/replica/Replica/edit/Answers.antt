@@ -1,0 +1,30 @@
+use Rattle.std.proofs.Common.{◌≡◌, ◌∙◌, ap, subst, None}
+use Rattle.std.proofs.lemmas.Result.{err_from_is_err_and}
+use Rattle.rls_model.specs.declared.edit.Edit.{Edit}
+use Rattle.rls_seen.specs.Edits.{edit_fault_over}
+use Rattle.rls_seen.specs.Seen.{text_over}
+use Rattle.rls_seen.proofs.Editing.{edited_stands}
+use Rattle.rls_replica.proofs.EditLaws.{refused_alike, one_run}
+use Rattle.rls_replica.proofs.EditedText.{text-edited}
+use Rattle.rls_replica.proofs.replica.Replica.edit.Goals as goal
+
+pub returns-in_err-seq-clause-refused : goal.returns-in_err-seq-clause-refused
+returns-in_err-seq-clause-refused c =
+    let p = err_from_is_err_and c.from_residual.result c.from_residual.ensures.1 in
+    rw (p.1, p.2) (λ t h. refused_alike c.args.self.now t c.args.edit.now c.in_err-seq.field-0.0 h c.in_err-seq.ensures.fault)
+
+pub returns-clause-text : goal.returns-clause-text
+returns-clause-text c =
+    let e = c.in_ok-seq.ensures in
+    ap text_over e.after ∙ text-edited c.args.self.now c.args.edit.now e.sane e.whole e.fits
+
+pub returns-clause-stands : goal.returns-clause-stands
+returns-clause-stands c = λ t h.
+    let e = c.in_ok-seq.ensures in
+    rw e.after (edited_stands c.args.self.now t c.args.edit.now e.whole e.fits h)
+
+pub returns-clause-one_run : goal.returns-clause-one_run
+returns-clause-one_run c = λ is t h.
+    let e = c.in_ok-seq.ensures in
+    let f = subst (λ (x : Edit). edit_fault_over c.args.self.now x ≡ None) is e.fits in
+    rw (e.after, is) (one_run c.args.self.now t h f)

@@ -1,0 +1,31 @@
+use Rattle.std.proofs.Common.{◌≡◌, ◌∙◌, ◌⊎◌, List, Some, None, ap, sym, subst, refl}
+use Rattle.rls_ops.specs.declared.op.Op.{Op}
+use Rattle.rls_ops.specs.Waiting.{waiting_under, with_waiting, without}
+use Rattle.rls_causal.proofs.Putting.{put_over}
+use Rattle.rls_seen.specs.Seen.{Seen, members, vector}
+use Rattle.rls_seen.specs.Over.{holding}
+use Rattle.rls_seen.specs.Sane.{IsSane}
+use Rattle.rls_seen.proofs.Staying.{put_sane}
+use Rattle.rls_replica.specs.View.{seen}
+use Rattle.rls_replica.proofs.Answered.{held_in_order, members_holding}
+use Rattle.rls_replica.proofs.Whole.{whole_next}
+use Rattle.rls_replica.proofs.replica.Replica.hold.Goals as goal
+
+after : goal.returns-clause-ok
+unfolding holding
+after c =
+    let i = seen c.self.inside in
+    let o = c.args.op in
+    let alone = subst (λ (s : Seen). (waiting_under s.waiting o.author o.seq ≡ None) ⊎ (waiting_under s.waiting o.author o.seq ≡ Some o)) (sym c.self.view_is) c.requires.alone in
+    let put = put_over o i.waiting (held_in_order (members i) (vector i) i.waiting c.self.invariant.sane.waiting) alone in
+    ap (λ (W : List Op). holding i W) (c.in_ok-_put.ensures.after ∙ put) ∙ ap (λ (s : Seen). holding s (with_waiting o (without o.author o.seq s.waiting))) c.self.view_is
+
+pub returns-clause-ok : goal.returns-clause-ok
+returns-clause-ok c = after c
+
+pub invariant_of-self-2 : goal.invariant_of-self-2
+invariant_of-self-2 c =
+    let s = c.args.self.now in
+    let o = c.args.op in
+    let sane = put_sane s o (subst IsSane c.self.view_is c.self.invariant.sane) c.requires.may c.fits.ensures.range in
+    whole_next (seen c.self.inside) s _ (holding s (with_waiting o (without o.author o.seq s.waiting))) c.self.inside.stems.members c.self.inside.stems.members c.self.view_is c.self.invariant (after c) sane (members_holding s (with_waiting o (without o.author o.seq s.waiting))) refl

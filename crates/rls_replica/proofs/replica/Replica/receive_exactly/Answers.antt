@@ -1,0 +1,21 @@
+use Rattle.std.proofs.Common.{◌≡◌, ◌∙◌, sym, ap}
+use Rattle.rls_model.specs.Answers.{Applies, Waits, answer_of}
+use Rattle.rls_seen.specs.Over.{answer_over}
+use Rattle.rls_seen.proofs.Receiving.{applies, waits}
+use Rattle.rls_replica.proofs.Answered.{waits_alone}
+use Rattle.rls_replica.proofs.replica.Replica.receive_exactly.Goals as goal
+
+pub apply-requires : goal.apply-requires
+apply-requires c =
+    let e : answer_over c.args.own c.args.self.now c.args.op ≡ Applies = sym c.in_ok-look.ensures.answer ∙ ap answer_of c.in-Applied.is in
+    record { may = applies c.args.own c.args.self.now c.args.op c.fits.ensures.whole e }
+
+pub hold-requires-clause-may : goal.hold-requires-clause-may
+hold-requires-clause-may c =
+    let e : answer_over c.args.own c.args.self.now c.args.op ≡ Waits = sym c.in_ok-look.ensures.answer ∙ ap answer_of c.in-Held.is in
+    waits c.args.own c.args.self.now c.args.op c.fits.ensures.whole e
+
+pub hold-requires-clause-alone : goal.hold-requires-clause-alone
+hold-requires-clause-alone c =
+    let e : answer_over c.args.own c.args.self.now c.args.op ≡ Waits = sym c.in_ok-look.ensures.answer ∙ ap answer_of c.in-Held.is in
+    waits_alone c.args.own c.args.self.now c.args.op e

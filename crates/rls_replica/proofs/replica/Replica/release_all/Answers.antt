@@ -1,0 +1,51 @@
+use Rattle.std.proofs.Common.{◌∙◌, sym, ap, refl, rules}
+use Rattle.rls_seen.specs.Over.{released_all}
+use Rattle.rls_seen.specs.Messages.{with_releases}
+use Rattle.rls_seen.proofs.Repeating.{all_done, all_more, fewer_wait, part_more}
+use Rattle.rls_seen.proofs.Releasing.{released_all_stands}
+use Rattle.rls_replica.specs.Steps.{course}
+use Rattle.rls_replica.proofs.Courses.{none_released, step_done, releases_done, releases_more, parts_sum}
+use Rattle.rls_replica.proofs.replica.Replica.release_all.Goals as goal
+
+pub returns-in_err-release_one-clause-err : goal.returns-in_err-release_one-clause-err
+returns-in_err-release_one-clause-err c =
+    let k = parts_sum c.args.self.now c.releases.self c.release_one.new.self c.releases.invariant.part c.in_err-release_one.ensures.err in
+    search rules
+
+pub releases-preserved : goal.releases-preserved
+releases-preserved c =
+    let s = c.releases.self in
+    let e = c.in_ok-release_one.ensures in
+    let some = sym e.some ∙ c.if-branch.true in
+    record {
+      all = ap with_releases e.step ∙ (releases_more (course s c.releases.taken) refl e.sane some ∙ c.releases.invariant.all);
+      seen = ap released_all e.after ∙ (all_more s e.sane some ∙ c.releases.invariant.seen);
+      part = rw e.after (part_more c.args.self.now s c.releases.invariant.part);
+      counted = e.counted;
+      arrived = λ n h. e.arrived n (c.releases.invariant.arrived n h);
+    }
+
+pub releases-smaller : goal.releases-smaller
+releases-smaller c =
+    let e = c.in_ok-release_one.ensures in
+    let k = fewer_wait c.releases.self e.sane (sym e.some ∙ c.if-branch.true) in
+    rw e.after k
+
+pub returns-clause-ok : goal.returns-clause-ok
+returns-clause-ok c =
+    let e = c.in_ok-release_one.ensures in
+    let d = course c.releases.self c.releases.taken in
+    let none = sym e.some ∙ c.if-branch.false in
+    e.step ∙ (step_done d none ∙ (sym (releases_done d none) ∙ c.releases.invariant.all))
+
+after : goal.returns-clause-after
+after c =
+    let e = c.in_ok-release_one.ensures in
+    let none = sym e.some ∙ c.if-branch.false in
+    e.after ∙ (none_released c.releases.self none ∙ (sym (all_done c.releases.self none) ∙ c.releases.invariant.seen))
+
+pub returns-clause-after : goal.returns-clause-after
+returns-clause-after c = after c
+
+pub returns-clause-stands : goal.returns-clause-stands
+returns-clause-stands c = λ t h. rw (after c) (released_all_stands c.args.self.now t h)

@@ -1,0 +1,18 @@
+use Rattle.std.proofs.Common.{◌≡◌, ℕ, length}
+use Rattle.rls_seen.specs.Over.{released_all, IsPartReleased}
+use Rattle.rls_seen.specs.Messages.{with_releases}
+use Rattle.rls_replica.specs.Steps.{course, CountsReleased, AreFew}
+use Rattle.rls_replica.proofs.replica.Replica.release_all.Given as goal
+
+-- what is left to release makes of it what releasing all makes of the first
+abbrev pub invariant-releases : goal.invariant-releases
+invariant-releases l = record {
+  all : with_releases (course l.self l.taken) ≡ with_releases (course l.fn.self l.fn.taken);
+  seen : released_all l.self ≡ released_all l.fn.self;
+  part : IsPartReleased l.fn.self l.self;
+  counted : CountsReleased l.self l.taken;
+  arrived : (n : ℕ) → AreFew n l.fn.taken → AreFew n l.taken;
+}
+
+abbrev pub decreases-releases : goal.decreases-releases
+decreases-releases l = length l.self.waiting

@@ -1,0 +1,19 @@
+use Rattle.std.proofs.Common.{◌∙◌, true, sym, subst, refl}
+use Rattle.rls_model.specs.Receiving.{replay_after}
+use Rattle.rls_seen.specs.Seen.{Seen}
+use Rattle.rls_seen.specs.Over.{answer_over}
+use Rattle.rls_seen.specs.Stands.{StandsFor}
+use Rattle.rls_seen.proofs.Receiving.{replayed_is, replayed_stands}
+use Rattle.rls_replica.proofs.replica.Replica.replay.Goals as goal
+
+after : goal.returns-clause-after
+after c = c.in_ok-receipt.ensures.after ∙ replayed_is c.args.self.now c.args.op (answer_over true c.args.self.now c.args.op) refl
+
+pub returns-clause-after : goal.returns-clause-after
+returns-clause-after c = after c
+
+pub returns-clause-stands : goal.returns-clause-stands
+returns-clause-stands c = λ t h.
+    let e = c.in_ok-receipt.ensures in
+    let law = replayed_stands c.args.self.now t c.args.op e.whole h in
+    (e.answer ∙ law.0, subst (λ (s : Seen). StandsFor s (replay_after t c.args.op)) (sym (after c)) law.1)

@@ -1,0 +1,33 @@
+-- What is told of edits beside their operations.
+use Rattle.std.specs.Prelude.{◌≡◌, ℕ, ◌+◌, pos, List, [], ◌∷◌, ◌++◌, length, take, drop, ◌==◌, Option, Some, None, if◌then◌else◌}
+use Rattle.rls_ident.specs.declared.tuple.Tuple.TheVariants.{At}
+use Rattle.rls_runs.specs.Runs.{runs_of}
+use Rattle.rls_rename.specs.Renaming.{new_pos}
+use Rattle.rls_ops.specs.Rows.{left}
+use Rattle.rls_model.specs.declared.edit.Edit.{Edit}
+use Rattle.rls_model.specs.declared.edit.Edit.TheVariants as edits
+use Rattle.rls_model.specs.declared.edit.EditError.{EditError}
+use Rattle.rls_model.specs.declared.edit.EditError.TheVariants as errors
+use Rattle.rls_model.specs.Editing.{range_fault, or_fault}
+use Rattle.rls_seen.specs.Seen.{Seen, own_count, idents_over, text_over}
+
+-- the member's numbers are spent
+abbrev pub spent_fault : Seen → Option EditError
+spent_fault s = if own_count s == 4294967295 then Some errors.NumbersSpent else None
+
+-- the first fault of an edit that is told before its operation is made
+abbrev pub early_fault : Seen → Edit → Option EditError
+early_fault s edit =
+    if left s.acks s.acks.me then Some errors.Left else or_fault (range_fault (length (idents_over s)) edit) (spent_fault s)
+
+-- the text after an edit
+abbrev pub edited_text : Edit → List ℕ → List ℕ
+edited_text (edits.Insert at cs) old = take at old ++ (cs ++ drop at old)
+edited_text (edits.Delete at n) old = take at old ++ drop (at + n) old
+edited_text edits.Rename old = old
+edited_text edits.Leave old = old
+
+-- the text is one run from offset 0 on, in the stem that the next own operation begins
+abbrev pub IsOneRun : Seen → Seen → Type 0
+IsOneRun old new =
+    runs_of (idents_over new) ≡ (At (new_pos (idents_over old)) old.acks.me (own_count old + 1) (pos 0) ∷ [], length (text_over old)) ∷ []

@@ -1,0 +1,7 @@
+pub mod Releases
+pub mod Lookups
+pub mod Faults
+pub mod Changing
+pub mod Steps
+pub mod Editing
+pub mod View

@@ -1,0 +1,21 @@
+-- What a replica is seen as.
+use Rattle.std.specs.Prelude.{◌≡◌, ℕ}
+use Rattle.rls_seen.specs.Seen.{Seen, members}
+use Rattle.rls_seen.specs.Sane.{IsSane}
+use Rattle.rls_replica.specs.declared.replica.Replica.TheInside.{Inside}
+
+abbrev pub seen : Inside → Seen
+seen r = record {
+  group = r.group;
+  acks = r.acks;
+  stems = r.stems.stems;
+  epochs = r.epochs.epochs;
+  text = r.document;
+  waiting = r.held;
+  log = r.log.ops;
+}
+
+-- what holds of the parts: they are sane, and the table of stems has a place for each member
+pub record IsWhole (s : Seen) (authors : ℕ) : Type 0 where
+  pub sane : IsSane s
+  pub authors_are : authors ≡ members s

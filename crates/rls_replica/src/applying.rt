@@ -1,0 +1,296 @@
+//! How an operation is accepted: first all that may want memory, of which the change of the text is the last step, and then the rest.
+
+ghost use Rattle.std.specs.Prelude.{◌≡◌, ◌+◌, ◌-◌, ◌<◌, ◌≤◌, ◌^◌, ◌++◌, ◌∷◌, [], pos, ◌+ℤ◌, ◌≤ℤ◌, IsSome, IfOk, OnOk, OnErr, IsTrue, length, map, slice_index, zip, None, IsSomeAnd};
+ghost use Rattle.rls_ident.specs.Identifiers.{last_of};
+ghost use Rattle.rls_ident.specs.Tuples.{offset_of};
+ghost use Rattle.rls_runs.specs.Entries.{put_all, without_all};
+ghost use Rattle.rls_runs.specs.Runs.{run_idents, past_offsets};
+ghost use Rattle.rls_rename.specs.Tree.{is_kept, greatest, translate};
+ghost use Rattle.rls_ops.specs.declared.op.Body.TheVariants.{Rename};
+ghost use Rattle.rls_model.specs.Epochs.{renaming_of};
+ghost use Rattle.rls_model.specs.Stems.{stems_after};
+ghost use Rattle.rls_seen.specs.Over.{accepted, acks_after, epochs_after, first_ready, refusal_over, released};
+ghost use Rattle.rls_seen.specs.Sane.{MayApply};
+ghost use Rattle.rls_epoch.specs.Seen.{former_sum};
+ghost use Rattle.rls_replica.specs.Changing.{former_in, renaming_in, MayPrepare, IsTextAfter, MayFinish, MayInsert, MayRename};
+
+use crate::renaming_text::RenamingText;
+use crate::replica::Replica;
+use rls_doc::{Document, VecDocument};
+use rls_epoch::Epochs;
+use rls_ident::{EpochName, Ident};
+use rls_ops::{Body, Op};
+use rls_rename::{Renaming, RenamingError};
+use rls_runs::{Run, Runs, Text};
+use rls_stable::{Acks, Log};
+use rls_stems::StemTable;
+use std::alloc::{AllocError, Global};
+
+impl Replica {
+    // Accepts an operation that fits. After an error the replica is as before, and the operation is given up.
+    pub(crate) fn apply(&mut self, op: Op) -> Result<(), AllocError>
+        requires may { MayApply self.old op }
+        ensures ok { OnOk result (self.new ≡ accepted self.old op) }
+        ensures err { OnErr result (self.new ≡ self.old) }
+    {
+        op.fits();
+        let renaming = prepare(
+            self.alloc,
+            &mut self.document,
+            &mut self.stems,
+            &mut self.epochs,
+            &mut self.log,
+            &op,
+        )?;
+        let _held = self.held.remove(op.author, op.seq);
+        finish(
+            &mut self.acks,
+            &mut self.stems,
+            &mut self.epochs,
+            &mut self.log,
+            op,
+            renaming,
+        );
+        Ok(())
+    }
+
+    // Accepts the first ready operation, which fits. After an error the replica is as before.
+    pub(crate) fn apply_ready(&mut self) -> Result<(), AllocError>
+        requires fits { IsSomeAnd (first_ready self.old) (λ w. refusal_over self.old w ≡ None) }
+        ensures ok { OnOk result (self.new ≡ released self.old) }
+        ensures err { OnErr result (self.new ≡ self.old) }
+    {
+        let Some(op) = self.held.first_ready(self.acks.mine()) else {
+            unreachable!()
+        };
+        let renaming = prepare(
+            self.alloc,
+            &mut self.document,
+            &mut self.stems,
+            &mut self.epochs,
+            &mut self.log,
+            op,
+        )?;
+        let (author, seq) = (op.author, op.seq);
+        let Some(op) = self.held.remove(author, seq) else {
+            unreachable!()
+        };
+        finish(
+            &mut self.acks,
+            &mut self.stems,
+            &mut self.epochs,
+            &mut self.log,
+            op,
+            renaming,
+        );
+        Ok(())
+    }
+}
+
+// Makes all the room that the operation needs, and the renaming of a rename, and changes the text last.
+fn prepare(
+    alloc: Global,
+    document: &mut VecDocument,
+    stems: &mut StemTable,
+    epochs: &mut Epochs,
+    log: &mut Log,
+    op: &Op,
+) -> Result<Option<Renaming>, AllocError>
+    requires may { MayPrepare epochs.old.epochs document.old op.now }
+    requires author { op.now.author < stems.old.members }
+    ensures renaming { IfOk result (λ renaming. renaming ≡ renaming_in op.now op.now.body) }
+    ensures text { OnOk result (IsTextAfter epochs.old.epochs document.old op.now op.now.body document.new) }
+    ensures err { OnErr result (document.new ≡ document.old) }
+    ensures stems { stems.new.stems ≡ stems.old.stems }
+    ensures members { stems.new.members ≡ stems.old.members }
+    ensures stem_room { OnOk result (0 < slice_index stems.new.spare op.now.author) }
+    ensures epochs { epochs.new.epochs ≡ epochs.old.epochs }
+    ensures epoch_room { IfOk result (λ renaming. IsSome renaming → 0 < epochs.new.spare) }
+    ensures log { log.new.ops ≡ log.old.ops }
+    ensures log_room { OnOk result (0 < log.new.spare) }
+{
+    stems.reserve(op.author)?;
+    log.reserve()?;
+    change(alloc, document, epochs, op)
+}
+
+// Changes the text, and makes the renaming of a rename with room for its epoch.
+fn change(
+    alloc: Global,
+    document: &mut VecDocument,
+    epochs: &mut Epochs,
+    op: &Op,
+) -> Result<Option<Renaming>, AllocError>
+    requires may { MayPrepare epochs.old.epochs document.old op.now }
+    ensures renaming { IfOk result (λ renaming. renaming ≡ renaming_in op.now op.now.body) }
+    ensures text { OnOk result (IsTextAfter epochs.old.epochs document.old op.now op.now.body document.new) }
+    ensures err { OnErr result (document.new ≡ document.old) }
+    ensures epochs { epochs.new.epochs ≡ epochs.old.epochs }
+    ensures room { IfOk result (λ renaming. IsSome renaming → 0 < epochs.new.spare) }
+{
+    match &op.body {
+        Body::Insert { first, text } => {
+            insert(document, epochs, op.epoch, first, text)?;
+            Ok(None)
+        }
+        Body::Delete { targets } => {
+            delete(document, epochs, op.epoch, targets)?;
+            Ok(None)
+        }
+        Body::Rename { former } => {
+            let renaming = rename(alloc, document, epochs, op, former)?;
+            Ok(Some(renaming))
+        }
+        Body::Leave => Ok(None),
+    }
+}
+
+// Adds the characters of an insertion.
+fn insert(
+    document: &mut VecDocument,
+    epochs: &Epochs,
+    epoch: EpochName,
+    first: &Ident,
+    text: &Text,
+) -> Result<(), AllocError>
+    requires may { MayInsert epochs.now.epochs document.old epoch first.now text.now }
+    ensures ok { OnOk result (document.new ≡ put_all (zip (map (translate epochs.now.epochs.nodes epoch (greatest epochs.now.epochs.top epochs.now.epochs.nodes)) (run_idents first.now (length text.now))) text.now) document.old) }
+    ensures err { OnErr result (document.new ≡ document.old) }
+{
+    let run = run_of(first, text.len() as u32)?;
+    let runs = epochs.translate_run(epoch, epochs.greatest(), &run)?;
+    document.insert_runs(&runs, text)
+}
+
+fn run_of(first: &Ident, len: u32) -> Result<Run, AllocError>
+    requires some { 0 < len }
+    requires end { (offset_of (last_of first.now) +ℤ pos len) ≤ℤ past_offsets }
+    ensures run { IfOk result (λ run. run ≡ (first.now, len)) }
+{
+    match Run::new(first.copy()?, len) {
+        Ok(run) => Ok(run),
+        Err(_) => unreachable!(),
+    }
+}
+
+// Takes out the characters of a deletion.
+fn delete(
+    document: &mut VecDocument,
+    epochs: &Epochs,
+    epoch: EpochName,
+    targets: &Runs,
+) -> Result<(), AllocError>
+    requires kept { IsTrue (is_kept epochs.now.epochs.top epochs.now.epochs.nodes epoch) }
+    ensures ok { OnOk result (document.new ≡ without_all (map (translate epochs.now.epochs.nodes epoch (greatest epochs.now.epochs.top epochs.now.epochs.nodes)) targets.now) document.old) }
+    ensures err { OnErr result (document.new ≡ document.old) }
+{
+    let images = epochs.translate_runs(epoch, epochs.greatest(), targets)?;
+    let _removed = document.remove_all(&images)?;
+    Ok(())
+}
+
+// Makes the renaming of a rename and room for its epoch, and renames the text where the epoch becomes the greatest.
+fn rename(
+    alloc: Global,
+    document: &mut VecDocument,
+    epochs: &mut Epochs,
+    op: &Op,
+    former: &Runs,
+) -> Result<Renaming, AllocError>
+    requires may { MayRename epochs.old.epochs op.now former.now }
+    ensures renaming { IfOk result (λ renaming. renaming ≡ renaming_of op.now former.now) }
+    ensures text { OnOk result (IsTextAfter epochs.old.epochs document.old op.now (Rename former.now) document.new) }
+    ensures err { OnErr result (document.new ≡ document.old) }
+    ensures epochs { epochs.new.epochs ≡ epochs.old.epochs }
+    ensures room { OnOk result (0 < epochs.new.spare) }
+{
+    let renaming = renaming_of(alloc, op, former)?;
+    epochs.reserve()?;
+    rename_text(document, epochs, op, &renaming)?;
+    Ok(renaming)
+}
+
+fn renaming_of(alloc: Global, op: &Op, former: &Runs) -> Result<Renaming, AllocError>
+    requires some { 0 < length former.now }
+    requires few { length former.now ≤ 4194304 }
+    ensures renaming { IfOk result (λ renaming. renaming ≡ renaming_of op.now former.now) }
+{
+    match Renaming::new(alloc, former.copy()?, op.author, op.seq) {
+        Ok(renaming) => Ok(renaming),
+        Err(RenamingError::EmptyList) => unreachable!(),
+        Err(RenamingError::TooMany { .. }) => unreachable!(),
+    }
+}
+
+// Gives each character its identifier of the epoch that the rename opens, where that becomes the greatest.
+fn rename_text(
+    document: &mut VecDocument,
+    epochs: &Epochs,
+    op: &Op,
+    renaming: &Renaming,
+) -> Result<(), AllocError>
+    requires may { MayRename epochs.now.epochs op.now renaming.now.former }
+    requires renaming { renaming.now ≡ renaming_of op.now renaming.now.former }
+    ensures text { OnOk result (IsTextAfter epochs.now.epochs document.old op.now (Rename renaming.now.former) document.new) }
+    ensures err { OnErr result (document.new ≡ document.old) }
+{
+    if !epochs.opens_greatest(op.author, op.seq, op.epoch) {
+        return Ok(());
+    }
+    let map = RenamingText::new(epochs, epochs.greatest(), op.epoch, renaming);
+    document.map_runs(&map)
+}
+
+// Does what takes no memory: all but the text and what waits.
+fn finish(
+    acks: &mut Acks,
+    stems: &mut StemTable,
+    epochs: &mut Epochs,
+    log: &mut Log,
+    op: Op,
+    renaming: Option<Renaming>,
+)
+    requires may { MayFinish acks.old stems.old.stems epochs.old.epochs op }
+    requires members { stems.old.members ≡ length acks.old.mine }
+    requires renaming { renaming ≡ renaming_in op op.body }
+    requires stem_room { 0 < slice_index stems.old.spare op.author }
+    requires epoch_room { IsSome renaming → 0 < epochs.old.spare }
+    requires log_room { 0 < log.old.spare }
+    ensures acks { acks.new ≡ acks_after acks.old op.author op.body }
+    ensures stems { stems.new.stems ≡ stems_after stems.old.stems op.author op.seq op.body }
+    ensures members { stems.new.members ≡ stems.old.members }
+    ensures epochs { epochs.new.epochs ≡ epochs_after epochs.old.epochs op }
+    ensures log { log.new.ops ≡ log.old.ops ++ op ∷ [] }
+{
+    stems.note(op.author, op.seq, &op.body);
+    add_epoch(epochs, &op, renaming);
+    count(acks, &op);
+    log.push(op);
+}
+
+// Adds the epoch of a rename.
+fn add_epoch(epochs: &mut Epochs, op: &Op, renaming: Option<Renaming>)
+    requires may { IsSome renaming → MayRename epochs.old.epochs op.now (former_in op.now.body) }
+    requires total { IsSome renaming → former_sum epochs.old.epochs.nodes + length (former_in op.now.body) < 2 ^ 64 }
+    requires renaming { renaming ≡ renaming_in op.now op.now.body }
+    requires room { IsSome renaming → 0 < epochs.old.spare }
+    ensures epochs { epochs.new.epochs ≡ epochs_after epochs.old.epochs op.now }
+{
+    let Some(renaming) = renaming else {
+        return;
+    };
+    epochs.add(op.author, op.seq, op.epoch, renaming);
+}
+
+// Counts the operation in its author's row, and marks the author of a leave.
+fn count(acks: &mut Acks, op: &Op)
+    requires member { op.now.author < length acks.old.mine }
+    requires room { slice_index acks.old.mine op.now.author < 2 ^ 32 - 1 }
+    ensures acks { acks.new ≡ acks_after acks.old op.now.author op.now.body }
+{
+    acks.raise(op.author);
+    let Body::Leave = &op.body else {
+        return;
+    };
+    acks.leave(op.author);
+}

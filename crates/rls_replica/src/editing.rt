@@ -1,0 +1,294 @@
+//! What the member itself does.
+
+ghost use Rattle.std.specs.Prelude.{◌≡◌, ℕ, List, ◌+◌, ◌-◌, ◌<◌, ◌≤◌, ◌^◌, ◌≢◌, length, slice_get, Some, None, IfOk, IfErr, OnOk, OnErr};
+ghost use Rattle.rls_ops.specs.Sizes.{op_size};
+ghost use Rattle.rls_model.specs.declared.edit.Edit.TheVariants.{Insert, Delete, Rename};
+ghost use Rattle.rls_model.specs.Editing.{edit_fault, made, get_before, first_between, range_fault, size_fault};
+ghost use Rattle.rls_model.specs.Receiving.{State, accept};
+ghost use Rattle.rls_model.specs.WellFormed.{IsEdit};
+ghost use Rattle.rls_seen.specs.Edits.{edit_fault_over, made_over, made_body, edited, IsFault};
+ghost use Rattle.rls_seen.specs.Sane.{IsSane};
+ghost use Rattle.rls_seen.specs.Seen.{own_count, idents_over, text_over};
+ghost use Rattle.rls_seen.specs.Stands.{StandsFor};
+ghost use Rattle.rls_replica.specs.Editing.{early_fault, edited_text, IsOneRun};
+
+use crate::replica::Replica;
+use rls_doc::Document;
+use rls_ident::Ident;
+use rls_model::{Edit, EditError};
+use rls_ops::{Body, Op};
+use std::alloc::AllocError;
+
+/// The most characters that an insertion may have.
+const CHARACTERS: u64 = 1_048_576;
+
+/// The most characters that a deletion or a rename may have.
+const IDENTIFIERS: u64 = 4_194_304;
+
+/// The most bytes that an operation may have.
+const BYTES: u64 = 16_777_216;
+
+impl Replica {
+    /// Performs an edit of this member: makes its operation, accepts it, and answers its number. After an error the replica is as
+    /// before. It costs as much as accepting the operation.
+    ///
+    /// # Errors
+    ///
+    /// The first fault of the edit, in the order of `EditError`; or `OutOfMemory`, which may be answered to any edit.
+    pub fn edit(&mut self, edit: &Edit) -> Result<u32, EditError>
+        ensures fault { IfErr result (λ e. IsFault e (edit_fault_over self.old edit.now)) }
+        ensures fits { OnOk result (edit_fault_over self.old edit.now ≡ None) }
+        ensures seq { IfOk result (λ n. n ≡ own_count self.old + 1) }
+        ensures after { OnOk result (self.new ≡ edited self.old edit.now) }
+        ensures err { OnErr result (self.new ≡ self.old) }
+
+        // An insertion lands where it was asked for, a deletion takes out just what it was to, and nothing else changes the text.
+        ensures text { OnOk result (text_over self.new ≡ edited_text edit.now (text_over self.old)) }
+
+        // For every history and waiting operations that the replica stands for.
+        ensures refused { IfErr result (λ e. (t : State) → StandsFor self.old t → IsFault e (edit_fault t.history edit.now)) }
+        ensures stands { OnOk result ((t : State) → StandsFor self.old t → StandsFor self.new (accept t (made t.history edit.now))) }
+        ensures one_run { OnOk result (edit.now ≡ Rename → (t : State) → StandsFor self.old t → IsOneRun self.old self.new) }
+    {
+        let seq = self.edit_exactly(edit)?;
+        Ok(seq)
+    }
+
+    /// The operation that an edit makes here, which changes nothing. It costs as much as the operation has runs or characters.
+    ///
+    /// # Errors
+    ///
+    /// The first fault of the edit, in the order of `EditError`; or `OutOfMemory`, which may be answered to any edit.
+    pub fn made(&self, edit: &Edit) -> Result<Op, EditError>
+        ensures fault { IfErr result (λ e. IsFault e (edit_fault_over self.now edit.now)) }
+        ensures fits { OnOk result (edit_fault_over self.now edit.now ≡ None) }
+        ensures op { IfOk result (λ o. o ≡ made_over self.now edit.now) }
+
+        // For every history and waiting operations that the replica stands for.
+        ensures stands { IfOk result (λ o. (t : State) → StandsFor self.now t → o ≡ made t.history edit.now) }
+    {
+        let op = self.made_exactly(edit)?;
+        Ok(op)
+    }
+
+    // By what the replica consists of.
+    fn edit_exactly(&mut self, edit: &Edit) -> Result<u32, EditError>
+        ensures fault { IfErr result (λ e. IsFault e (edit_fault_over self.old edit.now)) }
+        ensures fits { OnOk result (edit_fault_over self.old edit.now ≡ None) }
+        ensures seq { IfOk result (λ n. n ≡ own_count self.old + 1) }
+        ensures after { OnOk result (self.new ≡ edited self.old edit.now) }
+        ensures err { OnErr result (self.new ≡ self.old) }
+        ensures sane { IsSane self.old }
+        ensures whole { IsEdit edit.now }
+    {
+        self.sane();
+        fits(edit);
+        let op = self.made_exactly(edit)?;
+        let seq = op.seq;
+        match self.apply(op) {
+            Ok(()) => Ok(seq),
+            Err(_) => Err(EditError::OutOfMemory),
+        }
+    }
+
+    fn made_exactly(&self, edit: &Edit) -> Result<Op, EditError>
+        ensures fault { IfErr result (λ e. IsFault e (edit_fault_over self.now edit.now)) }
+        ensures fits { OnOk result (edit_fault_over self.now edit.now ≡ None) }
+        ensures op { IfOk result (λ o. o ≡ made_over self.now edit.now) }
+    {
+        self.check(edit)?;
+        match self.make(edit) {
+            Err(_) => Err(EditError::OutOfMemory),
+            Ok(op) => {
+                check_size(&op)?;
+                Ok(op)
+            }
+        }
+    }
+
+    // All that can be told before the operation is made.
+    fn check(&self, edit: &Edit) -> Result<(), EditError>
+        ensures ok { OnOk result (early_fault self.now edit.now ≡ None) }
+        ensures fault { IfErr result (λ e. early_fault self.now edit.now ≡ Some e) }
+    {
+        if self.left(self.me()) {
+            return Err(EditError::Left);
+        }
+        check_range(self.total(), edit)?;
+        if self.own_count() == u32::MAX {
+            return Err(EditError::NumbersSpent);
+        }
+        Ok(())
+    }
+
+    fn own_count(&self) -> u32
+        ensures count { result ≡ own_count self.now }
+    {
+        self.acks.mine().get(self.me())
+    }
+
+    #[tactic(auto, unfolding(rls_seen::specs::Edits::made_over))]
+    fn make(&self, edit: &Edit) -> Result<Op, AllocError>
+        requires fits { early_fault self.now edit.now ≡ None }
+        ensures op { IfOk result (λ o. o ≡ made_over self.now edit.now) }
+    {
+        Ok(Op {
+            author: self.me(),
+            seq: self.own_count() + 1,
+            context: self.vector().copy()?,
+            epoch: self.greatest(),
+            body: self.make_body(edit)?,
+        })
+    }
+
+    fn make_body(&self, edit: &Edit) -> Result<Body, AllocError>
+        requires fits { early_fault self.now edit.now ≡ None }
+        ensures body { IfOk result (λ b. b ≡ made_body self.now edit.now) }
+    {
+        Ok(match edit {
+            Edit::Insert { at, text } => Body::Insert {
+                first: self.first_at(*at, text.len())?,
+                text: text.copy()?,
+            },
+            Edit::Delete { at, count } => Body::Delete {
+                targets: self.document.runs_of(*at, *count)?,
+            },
+            Edit::Rename => Body::Rename {
+                former: self.document.runs_of(0, self.total())?,
+            },
+            Edit::Leave => Body::Leave,
+        })
+    }
+
+    // The first identifier of an insertion of so many characters at a place.
+    fn first_at(&self, at: u64, count: usize) -> Result<Ident, AllocError>
+        requires place { at ≤ length self.now.text }
+        requires some { 0 < count }
+        requires brief { count < 2 ^ 31 }
+        requires unspent { own_count self.now ≢ 4294967295 }
+        ensures first { IfOk result (λ x. x ≡ first_between self.now.stems self.now.acks.me (own_count self.now + 1) (get_before (idents_over self.now) at) (slice_get (idents_over self.now) at) count) }
+    {
+        let left = self.ident_before(at)?;
+        let right = self.ident_from(at)?;
+        let seq = self.own_count() + 1;
+        self.stems.first_between(
+            self.alloc,
+            self.me(),
+            seq,
+            left.as_ref(),
+            right.as_ref(),
+            count,
+        )
+    }
+
+    // The identifier right before a place, if there is one.
+    fn ident_before(&self, at: u64) -> Result<Option<Ident>, AllocError>
+        requires place { at ≤ length self.now.text }
+        ensures before { IfOk result (λ x. x ≡ get_before (idents_over self.now) at) }
+    {
+        if at == 0 {
+            return Ok(None);
+        }
+        Ok(Some(self.document.ident_at(at - 1)?))
+    }
+
+    // The identifier at a place, if there is one.
+    fn ident_from(&self, at: u64) -> Result<Option<Ident>, AllocError>
+        ensures from { IfOk result (λ x. x ≡ slice_get (idents_over self.now) at) }
+    {
+        if at >= self.total() {
+            return Ok(None);
+        }
+        Ok(Some(self.document.ident_at(at)?))
+    }
+}
+
+// What the fields of an edit promise.
+fn fits(edit: &Edit)
+    ensures whole { IsEdit edit.now }
+{
+    match edit {
+        Edit::Insert { at, text } => {
+            let _at = *at;
+            let _len = text.len();
+        }
+        Edit::Delete { at, count } => {
+            let _at = *at;
+            let _count = *count;
+        }
+        Edit::Rename | Edit::Leave => {}
+    }
+}
+
+// By the number of characters alone.
+fn check_range(total: u64, edit: &Edit) -> Result<(), EditError>
+    ensures ok { OnOk result (range_fault total edit.now ≡ None) }
+    ensures fault { IfErr result (λ e. range_fault total edit.now ≡ Some e) }
+{
+    match edit {
+        Edit::Insert { at, text } => check_insertion(total, *at, text.len() as u64),
+        Edit::Delete { at, count } => check_deletion(total, *at, *count),
+        Edit::Rename => check_renaming(total),
+        Edit::Leave => Ok(()),
+    }
+}
+
+fn check_insertion(total: u64, at: u64, count: u64) -> Result<(), EditError>
+    ensures ok { (cs : List ℕ) → length cs ≡ count → OnOk result (range_fault total (Insert at cs) ≡ None) }
+    ensures fault { (cs : List ℕ) → length cs ≡ count → IfErr result (λ e. range_fault total (Insert at cs) ≡ Some e) }
+{
+    if count == 0 {
+        return Err(EditError::EmptyEdit);
+    }
+    if at > total {
+        return Err(EditError::Range { at, total });
+    }
+    if count > CHARACTERS {
+        return Err(EditError::TooManyChars { total: count });
+    }
+    Ok(())
+}
+
+fn check_deletion(total: u64, at: u64, count: u64) -> Result<(), EditError>
+    ensures ok { OnOk result (range_fault total (Delete at count) ≡ None) }
+    ensures fault { IfErr result (λ e. range_fault total (Delete at count) ≡ Some e) }
+{
+    if count == 0 {
+        return Err(EditError::EmptyEdit);
+    }
+    if at > total || count > total - at {
+        return Err(EditError::Range { at, total });
+    }
+    if count > IDENTIFIERS {
+        return Err(EditError::TooManyChars { total: count });
+    }
+    Ok(())
+}
+
+fn check_renaming(total: u64) -> Result<(), EditError>
+    ensures ok { OnOk result (range_fault total Rename ≡ None) }
+    ensures fault { IfErr result (λ e. range_fault total Rename ≡ Some e) }
+{
+    if total == 0 {
+        return Err(EditError::EmptyDocument);
+    }
+    if total > IDENTIFIERS {
+        return Err(EditError::TooManyChars { total });
+    }
+    Ok(())
+}
+
+// An operation of which more bytes would have to be told than a u64 holds is answered as one for which there is no memory.
+fn check_size(op: &Op) -> Result<(), EditError>
+    ensures ok { OnOk result (size_fault (op_size op.now) ≡ None) }
+    ensures fault { IfErr result (λ e. IsFault e (size_fault (op_size op.now))) }
+{
+    let bytes = op.encoded_len();
+    if bytes == u64::MAX {
+        return Err(EditError::OutOfMemory);
+    }
+    if bytes > BYTES {
+        return Err(EditError::OpTooLarge { bytes });
+    }
+    Ok(())
+}

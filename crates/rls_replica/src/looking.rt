@@ -1,0 +1,212 @@
+//! What is answered to an operation, before anything changes.
+
+ghost use Rattle.std.specs.Prelude.{◌≡◌, ◌<◌, ◌&&◌, not, Some, None, IfOk, IsTrue, length, if◌then◌else◌};
+ghost use Rattle.rls_ident.specs.Tuples.{at_spot};
+ghost use Rattle.rls_ident.specs.Lists.{IsIn};
+ghost use Rattle.rls_ident.specs.Vectors.{at_most};
+ghost use Rattle.rls_rename.specs.Tree.{is_kept};
+ghost use Rattle.rls_ops.specs.Rows.{is_covered};
+ghost use Rattle.rls_ops.specs.Shapes.{shape_fault};
+ghost use Rattle.rls_ops.specs.Waiting.{waiting_under};
+ghost use Rattle.rls_model.specs.Answers.{answer_of, Waits, Refuses, Forked, WrongStem};
+ghost use Rattle.rls_model.specs.Receiving.{verdict_of};
+ghost use Rattle.rls_model.specs.Stems.{may_use, due_offset};
+ghost use Rattle.rls_seen.specs.Seen.{members, vector, count_over, greatest_over, stable_over, translate_over};
+ghost use Rattle.rls_seen.specs.Over.{is_known_over, first_unknown_over, body_refusal_over, refusal_over, answer_beside, answer_by, answer_over};
+ghost use Rattle.rls_replica.specs.Releases.{reason_in};
+ghost use Rattle.rls_replica.specs.Lookups.{unknown_in, is_named_by, is_named_over};
+
+use crate::replica::Replica;
+use rls_doc::Document;
+use rls_ident::{EpochName, Ident, Spot};
+use rls_model::{Receipt, Refusal};
+use rls_ops::{Body, Op};
+use rls_runs::Runs;
+use std::alloc::AllocError;
+
+impl Replica {
+    // The answer to an operation that arrives, where `own` says whether the replica's own operations are taken too.
+    #[tactic(auto, unfolding(rls_seen::specs::Over::answer_over))]
+    pub(crate) fn look(&self, op: &Op, own: bool) -> Result<Receipt, AllocError>
+        ensures answer { IfOk result (λ r. answer_of r ≡ answer_over own self.now op.now) }
+    {
+        match op.check_shape(self.members()) {
+            Err(shape) => Ok(Receipt::Refused(Refusal::Shape(shape))),
+            Ok(()) => self.look_at_number(op, own),
+        }
+    }
+
+    // The answer to one of the right shape.
+    fn look_at_number(&self, op: &Op, own: bool) -> Result<Receipt, AllocError>
+        requires shape { shape_fault (members self.now) op.now ≡ None }
+        ensures answer { IfOk result (λ r. answer_of r ≡ answer_by own (vector self.now) self.now.acks.me self.now.waiting (refusal_over self.now op.now) op.now None) }
+    {
+        if op.seq <= self.accepted(op.author) {
+            return Ok(Receipt::Repeated);
+        }
+        if !own && op.author == self.me() {
+            return Ok(Receipt::Refused(Refusal::Own { seq: op.seq }));
+        }
+        self.look_beside(op)
+    }
+
+    // How many operations of a member were accepted.
+    pub(crate) fn accepted(&self, member: u32) -> u32
+        requires member { member < members self.now }
+        ensures count { result ≡ count_over self.now member }
+    {
+        self.acks.mine().get(member)
+    }
+
+    // The answer to one with a new number, by what waits under it.
+    fn look_beside(&self, op: &Op) -> Result<Receipt, AllocError>
+        requires shape { shape_fault (members self.now) op.now ≡ None }
+        ensures answer { IfOk result (λ r. answer_of r ≡ answer_beside (vector self.now) (refusal_over self.now op.now) op.now (waiting_under self.now.waiting op.now.author op.now.seq)) }
+    {
+        match self.held.get(op.author, op.seq) {
+            None => self.look_at_causes(op),
+            Some(held) => {
+                if held.same(op) {
+                    self.look_at_causes(op)
+                } else {
+                    self.forked(held)
+                }
+            }
+        }
+    }
+
+    // It is refused for the sake of this one.
+    fn forked(&self, held: &Op) -> Result<Receipt, AllocError>
+        ensures answer { IfOk result (λ r. answer_of r ≡ Refuses (Forked held.now)) }
+    {
+        let copy = held.copy()?;
+        Ok(Receipt::Refused(Refusal::Forked {
+            held: Box::new(self.alloc, copy)?,
+        }))
+    }
+
+    // The answer to one that is alone under its number.
+    fn look_at_causes(&self, op: &Op) -> Result<Receipt, AllocError>
+        requires shape { shape_fault (members self.now) op.now ≡ None }
+        ensures answer { IfOk result (λ r. answer_of r ≡ (if not (at_most op.now.context (vector self.now)) then Waits else verdict_of (refusal_over self.now op.now))) }
+    {
+        if !op.context.at_most(self.acks.mine()) {
+            return Ok(Receipt::Held);
+        }
+        match self.refusal(op)? {
+            None => Ok(Receipt::Applied),
+            Some(refusal) => Ok(Receipt::Refused(refusal)),
+        }
+    }
+
+    // Why an operation is refused whose causes are there, if it is.
+    #[tactic(auto, unfolding(rls_seen::specs::Over::refusal_over))]
+    pub(crate) fn refusal(&self, op: &Op) -> Result<Option<Refusal>, AllocError>
+        requires shape { shape_fault (members self.now) op.now ≡ None }
+        ensures refusal { IfOk result (λ r. reason_in r ≡ refusal_over self.now op.now) }
+    {
+        if self.acks.left(op.author) {
+            return Ok(Some(Refusal::Left {
+                seq: self.accepted(op.author),
+            }));
+        }
+        let row = self.acks.row(op.author);
+        if !row.at_most(&op.context) {
+            return Ok(Some(Refusal::Backward { known: row.copy()? }));
+        }
+        let due = self.epochs.greatest_in(&op.context);
+        if !op.epoch.same(&due) {
+            return Ok(Some(Refusal::WrongEpoch { due }));
+        }
+        self.body_refusal(op)
+    }
+
+    // The reason that lies in the body.
+    fn body_refusal(&self, op: &Op) -> Result<Option<Refusal>, AllocError>
+        requires kept { IsTrue (is_kept self.now.epochs.top self.now.epochs.nodes op.now.epoch) }
+        ensures refusal { IfOk result (λ r. reason_in r ≡ body_refusal_over self.now op.now op.now.body) }
+    {
+        match &op.body {
+            Body::Insert { first, text } => {
+                Ok(self.stem_refusal(op.author, op.seq, first.last(), text.len()))
+            }
+            Body::Delete { targets } => match self.first_unknown(op.epoch, targets)? {
+                None => Ok(None),
+                Some(id) => Ok(Some(Refusal::UnknownTarget { id })),
+            },
+            Body::Rename { .. } | Body::Leave => Ok(None),
+        }
+    }
+
+    // That of an insertion of so many characters whose first identifier ends so.
+    fn stem_refusal(&self, author: u32, seq: u32, last: Spot, count: usize) -> Option<Refusal>
+        ensures refusal { reason_in result ≡ (if may_use self.now.stems author seq (at_spot last) count then None else Some (WrongStem (due_offset self.now.stems author seq (at_spot last)))) }
+    {
+        if self.stems.may_use(author, seq, last, count) {
+            return None;
+        }
+        Some(Refusal::WrongStem {
+            due: self.stems.due(author, seq, last),
+        })
+    }
+
+    // The first of these targets that isn't known.
+    fn first_unknown(&self, epoch: EpochName, targets: &Runs) -> Result<Option<Ident>, AllocError>
+        requires kept { IsTrue (is_kept self.now.epochs.top self.now.epochs.nodes epoch) }
+        ensures unknown { IfOk result (λ id. unknown_in id ≡ first_unknown_over self.now epoch targets.now) }
+    {
+        let images = self
+            .epochs
+            .translate_runs(epoch, self.epochs.greatest(), targets)?;
+        for i in 0..targets.total() {
+            let target = targets.get(i)?;
+            if !self.is_known(epoch, &target, &images.get(i)?)? {
+                return Ok(Some(target));
+            }
+        }
+        Ok(None)
+    }
+
+    // Whether the target is known, which is this identifier of the greatest epoch.
+    #[tactic(auto, unfolding(rls_seen::specs::Over::is_known_over))]
+    fn is_known(&self, epoch: EpochName, target: &Ident, image: &Ident) -> Result<bool, AllocError>
+        requires kept { IsTrue (is_kept self.now.epochs.top self.now.epochs.nodes epoch) }
+        requires image { image.now ≡ translate_over self.now epoch (greatest_over self.now) target.now }
+        ensures known { IfOk result (λ b. b ≡ is_known_over self.now epoch target.now) }
+    {
+        if self.document.find(image).is_ok() {
+            return Ok(true);
+        }
+        self.is_named(epoch, target)
+    }
+
+    // Whether an unstable deletion names the target.
+    fn is_named(&self, epoch: EpochName, target: &Ident) -> Result<bool, AllocError>
+        requires kept { IsTrue (is_kept self.now.epochs.top self.now.epochs.nodes epoch) }
+        ensures named { IfOk result (λ b. b ≡ is_named_over self.now epoch target.now self.now.log) }
+    {
+        for i in 0..self.log.len() {
+            if self.names(self.log.op(i), epoch, target)? {
+                return Ok(true);
+            }
+        }
+        Ok(false)
+    }
+
+    // Whether this operation of the log is an unstable deletion that names the target.
+    fn names(&self, op: &Op, epoch: EpochName, target: &Ident) -> Result<bool, AllocError>
+        requires logged { IsIn op.now self.now.log }
+        requires kept { IsTrue (is_kept self.now.epochs.top self.now.epochs.nodes epoch) }
+        ensures names { IfOk result (λ b. b ≡ (not (is_covered (stable_over self.now) op.now) && is_named_by self.now epoch target.now op.now)) }
+    {
+        if op.seq <= self.acks.stable().get(op.author) {
+            return Ok(false);
+        }
+        let Body::Delete { targets } = &op.body else {
+            return Ok(false);
+        };
+        let (_total, _last) = (targets.total(), target.last());
+        let there = self.epochs.translate(epoch, op.epoch, target)?;
+        Ok(targets.find(&there).is_ok())
+    }
+}

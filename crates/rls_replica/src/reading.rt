@@ -1,0 +1,145 @@
+//! What a replica tells of itself.
+
+ghost use Rattle.std.specs.Prelude.{◌≡◌, ◌+◌, ◌<◌, ◌≤◌, length, take, drop, slice_get, Some, IfOk};
+ghost use Rattle.rls_ops.specs.Rows.{left};
+ghost use Rattle.rls_runs.specs.Runs.{place_of};
+ghost use Rattle.rls_model.specs.Document.{text, idents};
+ghost use Rattle.rls_model.specs.Epochs.{greatest};
+ghost use Rattle.rls_model.specs.History.{count};
+ghost use Rattle.rls_model.specs.Receiving.{State};
+ghost use Rattle.rls_seen.specs.Seen.{members, vector, greatest_over, idents_over, text_over};
+ghost use Rattle.rls_seen.specs.Stands.{StandsFor};
+
+use crate::replica::Replica;
+use rls_causal::Held;
+use rls_doc::Document;
+use rls_ident::{EpochName, Ident, Vector};
+use rls_runs::{Runs, Text};
+use rls_stable::Log;
+use std::alloc::AllocError;
+
+impl Replica {
+    /// The group.
+    pub fn group(&self) -> u64
+        ensures group { result ≡ self.now.group }
+    {
+        self.group
+    }
+
+    /// The own number, which is below the count of members.
+    pub fn me(&self) -> u32
+        ensures me { result ≡ self.now.acks.me }
+        ensures member { result < members self.now }
+    {
+        self.acks.me()
+    }
+
+    /// The count of members, 1 to 64.
+    pub fn members(&self) -> u32
+        ensures members { result ≡ members self.now }
+        ensures some { 0 < result }
+        ensures few { result ≤ 64 }
+    {
+        self.acks.mine().len() as u32
+    }
+
+    /// How many operations of each member were accepted.
+    pub fn vector(&self) -> &Vector
+        ensures vector { result.now ≡ vector self.now }
+
+        // For every history and waiting operations that the replica stands for.
+        ensures stands { (t : State) → StandsFor self.now t → result.now ≡ count t.history }
+    {
+        self.acks.mine()
+    }
+
+    /// Whether a leave of the member was accepted.
+    pub fn left(&self, member: u32) -> bool
+        requires member { member < members self.now }
+        ensures left { result ≡ left self.now.acks member }
+    {
+        self.acks.left(member)
+    }
+
+    /// The greatest epoch, of which the identifiers of the text are. It takes no memory.
+    pub fn greatest(&self) -> EpochName
+        ensures greatest { result ≡ greatest_over self.now }
+
+        // For every history and waiting operations that the replica stands for.
+        ensures stands { (t : State) → StandsFor self.now t → result ≡ greatest t.history }
+    {
+        self.epochs.greatest()
+    }
+
+    /// The operations that wait.
+    pub fn held(&self) -> &Held
+        ensures held { result.now ≡ self.now.waiting }
+    {
+        &self.held
+    }
+
+    /// The accepted operations that are kept, in order.
+    pub fn logged(&self) -> &Log
+        ensures log { result.now.ops ≡ self.now.log }
+    {
+        &self.log
+    }
+
+    /// The number of characters.
+    pub fn total(&self) -> u64
+        ensures total { result ≡ length self.now.text }
+    {
+        self.document.total()
+    }
+
+    /// All characters.
+    pub fn text(&self) -> Result<Text, AllocError>
+        ensures text { IfOk result (λ cs. cs ≡ text_over self.now) }
+
+        // For every history and waiting operations that the replica stands for.
+        ensures stands { IfOk result (λ cs. (t : State) → StandsFor self.now t → cs ≡ text t.history) }
+    {
+        let text = self.document.text()?;
+        Ok(text)
+    }
+
+    /// The characters from the place `from` on, so many.
+    pub fn text_of(&self, from: u64, count: u64) -> Result<Text, AllocError>
+        requires places { from + count ≤ length self.now.text }
+        ensures text { IfOk result (λ cs. cs ≡ take count (drop from (text_over self.now))) }
+    {
+        let _total = self.document.total();
+        let mut text = Text::new(self.alloc);
+        'places: for i in from..from + count {
+            text.push(self.document.char_at(i))?;
+        }
+        Ok(text)
+    }
+
+    /// The identifiers of the text.
+    pub fn runs(&self) -> Result<Runs, AllocError>
+        ensures runs { IfOk result (λ xs. xs ≡ idents_over self.now) }
+
+        // For every history and waiting operations that the replica stands for.
+        ensures stands { IfOk result (λ xs. (t : State) → StandsFor self.now t → xs ≡ idents t.history) }
+    {
+        let runs = self.document.runs_of(0, self.document.total())?;
+        Ok(runs)
+    }
+
+    /// The identifier of the character at a place.
+    pub fn ident_at(&self, i: u64) -> Result<Ident, AllocError>
+        requires place { i < length self.now.text }
+        ensures ident { IfOk result (λ x. slice_get (idents_over self.now) i ≡ Some x) }
+    {
+        self.document.ident_at(i)
+    }
+
+    /// The place of the character with this identifier of the greatest epoch, or, where there is none, the number of identifiers of
+    /// the text below it. It takes no memory.
+    pub fn find(&self, id: &Ident) -> Result<u64, u64>
+        ensures place { result ≡ place_of id.now (idents_over self.now) }
+    {
+        self.document.find(id)
+    }
+}

@@ -1,0 +1,157 @@
+//! What becomes of operations that arrive or wait.
+
+ghost use Rattle.std.specs.Prelude.{◌≡◌, ◌⊎◌, false, true, Some, None, IfOk, OnOk, OnErr, is_some};
+ghost use Rattle.rls_ops.specs.Waiting.{waiting_under, with_waiting, without};
+ghost use Rattle.rls_model.specs.Answers.{answer_of};
+ghost use Rattle.rls_model.specs.Receiving.{State, receive, receive_after, replay, replay_after, release, release_after};
+ghost use Rattle.rls_model.specs.WellFormed.{IsOp};
+ghost use Rattle.rls_seen.specs.Over.{answer_over, after_answer, received, replayed, holding, release_over, released};
+ghost use Rattle.rls_seen.specs.Sane.{MayWait};
+ghost use Rattle.rls_seen.specs.Stands.{StandsFor};
+ghost use Rattle.rls_replica.specs.Releases.{release_in};
+
+use crate::replica::Replica;
+use rls_model::{Receipt, Release};
+use rls_ops::Op;
+use std::alloc::AllocError;
+
+impl Replica {
+    /// Looks at an operation that arrives, and accepts it, lets it wait or refuses it. After an error the replica is as before, and
+    /// the operation is given up.
+    ///
+    /// It costs a few look-ups, and where it is accepted the change of the text: a deletion also a look-up for each of its targets,
+    /// and a rename that becomes the greatest epoch a pass over the runs of the text.
+    pub fn receive(&mut self, op: Op) -> Result<Receipt, AllocError>
+        ensures answer { IfOk result (λ r. answer_of r ≡ answer_over false self.old op) }
+        ensures after { OnOk result (self.new ≡ received self.old op) }
+        ensures err { OnErr result (self.new ≡ self.old) }
+
+        // For every history and waiting operations that the replica stands for.
+        ensures stands { IfOk result (λ r. (t : State) → StandsFor self.old t → (answer_of r ≡ receive t op) × StandsFor self.new (receive_after t op)) }
+    {
+        let receipt = self.receive_exactly(op, false)?;
+        Ok(receipt)
+    }
+
+    /// Does the same, but takes the replica's own operations too, as they come back from where they were kept. After an error the
+    /// replica is as before, and the operation is given up.
+    pub fn replay(&mut self, op: Op) -> Result<Receipt, AllocError>
+        ensures answer { IfOk result (λ r. answer_of r ≡ answer_over true self.old op) }
+        ensures after { OnOk result (self.new ≡ replayed self.old op) }
+        ensures err { OnErr result (self.new ≡ self.old) }
+
+        // For every history and waiting operations that the replica stands for.
+        ensures stands { IfOk result (λ r. (t : State) → StandsFor self.old t → (answer_of r ≡ replay t op) × StandsFor self.new (replay_after t op)) }
+    {
+        let receipt = self.receive_exactly(op, true)?;
+        Ok(receipt)
+    }
+
+    // By what the replica consists of, where `own` says whether its own operations are taken too.
+    pub(crate) fn receive_exactly(&mut self, op: Op, own: bool) -> Result<Receipt, AllocError>
+        ensures answer { IfOk result (λ r. answer_of r ≡ answer_over own self.old op) }
+        ensures after { OnOk result (self.new ≡ after_answer (answer_over own self.old op) self.old op) }
+        ensures err { OnErr result (self.new ≡ self.old) }
+        ensures whole { IsOp op }
+    {
+        op.fits();
+        match self.look(&op, own)? {
+            Receipt::Applied => {
+                self.apply(op)?;
+                Ok(Receipt::Applied)
+            }
+            Receipt::Held => {
+                self.hold(op)?;
+                Ok(Receipt::Held)
+            }
+            Receipt::Repeated => Ok(Receipt::Repeated),
+            Receipt::Refused(refusal) => Ok(Receipt::Refused(refusal)),
+        }
+    }
+
+    // Lets an operation wait, which may wait already.
+    fn hold(&mut self, op: Op) -> Result<(), AllocError>
+        requires may { MayWait self.old op }
+        requires alone { (waiting_under self.old.waiting op.author op.seq ≡ None) ⊎ (waiting_under self.old.waiting op.author op.seq ≡ Some op) }
+        ensures ok { OnOk result (self.new ≡ holding self.old (with_waiting op (without op.author op.seq self.old.waiting))) }
+        ensures err { OnErr result (self.new ≡ self.old) }
+    {
+        op.fits();
+        let _put = self.held.put(op)?;
+        Ok(())
+    }
+
+    /// Looks at the first waiting operation whose context is at most the vector, of the least author and of these of the least
+    /// number, and accepts or refuses it; it waits no longer. `None` exactly where none is ready. After an error the replica is as
+    /// before.
+    ///
+    /// It looks at each waiting operation up to that one, and then costs what `receive` does.
+    pub fn release(&mut self) -> Result<Option<Release>, AllocError>
+        ensures answer { IfOk result (λ r. release_in r ≡ release_over self.old) }
+        ensures after { OnOk result (self.new ≡ released self.old) }
+        ensures err { OnErr result (self.new ≡ self.old) }
+
+        // For every history and waiting operations that the replica stands for.
+        ensures stands { IfOk result (λ r. (t : State) → StandsFor self.old t → (release_in r ≡ release t) × StandsFor self.new (release_after t)) }
+    {
+        let release = self.release_exactly()?;
+        Ok(release)
+    }
+
+    // By what the replica consists of.
+    pub(crate) fn release_exactly(&mut self) -> Result<Option<Release>, AllocError>
+        ensures answer { IfOk result (λ r. release_in r ≡ release_over self.old) }
+        ensures after { OnOk result (self.new ≡ released self.old) }
+        ensures err { OnErr result (self.new ≡ self.old) }
+    {
+        let Some(release) = self.look_ready()? else {
+            return Ok(None);
+        };
+        let Release {
+            author,
+            seq,
+            refusal,
+        } = release;
+        match refusal {
+            None => {
+                self.apply_ready()?;
+                Ok(Some(Release {
+                    author,
+                    seq,
+                    refusal: None,
+                }))
+            }
+            Some(refusal) => {
+                self.forget(author, seq);
+                Ok(Some(Release {
+                    author,
+                    seq,
+                    refusal: Some(refusal),
+                }))
+            }
+        }
+    }
+
+    // What is answered where the first ready operation is looked at.
+    #[tactic(auto, unfolding(rls_seen::specs::Over::release_over))]
+    fn look_ready(&self) -> Result<Option<Release>, AllocError>
+        ensures answer { IfOk result (λ r. release_in r ≡ release_over self.now) }
+    {
+        let Some(op) = self.held.first_ready(self.acks.mine()) else {
+            return Ok(None);
+        };
+        let refusal = self.refusal(op)?;
+        Ok(Some(Release {
+            author: op.author,
+            seq: op.seq,
+            refusal,
+        }))
+    }
+
+    // Lets what waits under this number wait no longer.
+    fn forget(&mut self, author: u32, seq: u32)
+        ensures after { self.new ≡ holding self.old (without author seq self.old.waiting) }
+    {
+        let _op = self.held.remove(author, seq);
+    }
+}
