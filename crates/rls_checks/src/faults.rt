@@ -61,12 +61,12 @@ fn fault_of_device(
         let status = member
             .under_faults(alloc, words, input, device.failing(&[call]))?
             .status;
-        let kept = if status == 0 || status == 9 {
-            done.file.as_deref()
+        let right = if status == 0 || status == 9 {
+            member.file.as_deref() == done.file.as_deref()
         } else {
-            file
+            member.file.as_deref() == file
         };
-        if (status != 0 && status != device.status()) || member.file.as_deref() != kept {
+        if !right || (status != 0 && status != device.status()) {
             return Ok(Some(call));
         }
         if call == 0 && status == 0 && device == Device::Keeper {
