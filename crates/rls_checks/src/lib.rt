@@ -8,4 +8,6 @@ mod files;
 #[cfg(test)]
 mod keepers;
 #[cfg(test)]
+mod renamings;
+#[cfg(test)]
 mod values;

@@ -112,6 +112,7 @@ fn runs_and_texts(rt: HostRuntime) -> Result<(), Fail> {
     assert_eq!(rt; list.find(&first(alloc, 3)?), Ok(3));
     assert_eq!(rt; list.find(&first(alloc, 7)?), Err(5));
     assert_eq!(rt; list.get(4)?.last().offset, 4);
+    assert_eq!(rt; list.locate(3).1, 3);
     let mut text = Text::from_str(alloc, "ello")?;
     text.push_front('h')?;
     text.push('!')?;

@@ -25,14 +25,14 @@ legal_start : (H : History) → IsLegal H → AreNumbers (group_of H) (me_of H) 
 legal_start (Fresh group me members) l = l
 legal_start (Then H e) l = legal_start H l.0
 
-legal_readable : (H : History) → IsLegal H → AreSpelled H → IsReadable H
+pub legal_readable : (H : History) → IsLegal H → AreSpelled H → IsReadable H
 legal_readable (Fresh group me members) l s = tt
 legal_readable (Then H (Accepted o)) l s = (legal_readable H l.0 s.0, (s.1, accepted_is_next H o l.2))
 legal_readable (Then H (Acknowledged a v)) l s =
     let few = legal_start H l.0 in
     (legal_readable H l.0 s, (omega (arith, l.1.0, few.2), l.1.0, (l.1.1.0, small_chain None v l.1.1.1), l.2))
 
-legal_head : (H : History) → IsLegal H → IsHead 1 (group_of H) (members_of H) (me_of H)
+pub legal_head : (H : History) → IsLegal H → IsHead 1 (group_of H) (members_of H) (me_of H)
 legal_head H l =
     let n = legal_start H l in
     record {

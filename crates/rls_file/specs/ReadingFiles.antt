@@ -158,6 +158,21 @@ abbrev pub content_at : ℕ → ℕ → ℕ → ℕ → Bool → List ℕ → Re
 content_at form group members me true bytes = journal_at group members me bytes >>= λ s. Ok (Journal s.0, s.1)
 content_at form group members me false bytes = snapshot_at form group members me bytes >>= λ p. Ok (Snapshot form p.0, p.1)
 
+-- the magic text and a form
+abbrev pub form_at : List ℕ → Read ℕ
+form_at bytes = do
+  magic ← magic_at (codes "RLSF") bytes
+  with_rule is_file_form byte_at magic.1
+
+-- the form that was read is one of snapshots
+abbrev pub is_snapshot : Read ℕ → Bool
+is_snapshot (Ok form) = nat_lt 1 form.0
+is_snapshot (Err left) = false
+
+-- the bytes begin as a snapshot: with the magic text and one of the forms 2 to 4
+abbrev pub begins_snapshot : List ℕ → Bool
+begins_snapshot bytes = is_snapshot (form_at bytes)
+
 unfoldable pub file_at : List ℕ → Read Content
 file_at bytes = do
   magic ← magic_at (codes "RLSF") bytes

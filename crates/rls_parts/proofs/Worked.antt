@@ -1,5 +1,5 @@
--- Worked examples of parts: those of histories break no rule, and each rule is broken once, by computation.
-use Rattle.std.specs.Prelude.{◌≡◌, ℕ, pos, negsuc, List, [], ◌∷◌, ◌++◌, refl, Some, None, Option, option_map, map, codes, slice_get}
+-- Worked examples of parts: those of histories break no rule, each rule is broken once, and parts go through the replica that has them, by computation.
+use Rattle.std.specs.Prelude.{◌≡◌, ℕ, ◌^◌, pos, negsuc, true, false, List, reverse, [], ◌∷◌, ◌++◌, refl, Some, None, Option, option_map, map, codes, slice_get}
 use Rattle.rls_ident.specs.declared.tuple.Tuple.{Tuple}
 use Rattle.rls_ident.specs.declared.tuple.Tuple.TheVariants.{At}
 use Rattle.rls_ident.specs.declared.epoch_name.EpochName.{EpochName}
@@ -17,6 +17,10 @@ use Rattle.rls_model.specs.Editing.{made}
 use Rattle.rls_model.specs.Receiving.{State}
 use Rattle.rls_model.specs.Parts.{parts}
 use Rattle.rls_model.specs.Worlds.{World, Happening, whole, run, empty_world}
+use Rattle.rls_runs.specs.Runs.{is_increasing}
+use Rattle.rls_seen.specs.Kept.{parts_over}
+use Rattle.rls_seen.specs.Seen as seen
+use Rattle.rls_parts.specs.Restored.{seen_of}
 use Rattle.rls_parts.specs.Rules.{Broken, broken}
 use Rattle.rls_parts.specs.Computing.{computing}
 
@@ -278,3 +282,78 @@ ready_waits = refl
 waits_twice : broken (with_held (second_op ∷ second_op ∷ [])) ≡ breaks 8 1
 unfolding computing
 waits_twice = refl
+
+-- ---- the replica that has the parts
+
+-- that of a fresh history is the fresh one
+fresh_restored : seen_of (parts_of fresh) ≡ seen.fresh 7 0 2
+unfolding computing
+fresh_restored = refl
+
+-- what it has: a row and a mark for each member, and each character with its identifier
+good_restored : seen_of good
+    ≡ record {
+      group = 7;
+      acks = record { me = 0; mine = 1 ∷ 0 ∷ []; others = (0 ∷ 0 ∷ []) ∷ (0 ∷ 0 ∷ []) ∷ []; left = false ∷ false ∷ [] };
+      stems = good.stems;
+      epochs = record { top = Origin; nodes = [] };
+      text = (At mid 0 1 (pos 0) ∷ [], 104) ∷ (At mid 0 1 (pos 1) ∷ [], 101) ∷ (At mid 0 1 (pos 2) ∷ [], 108) ∷ (At mid 0 1 (pos 3) ∷ [], 108) ∷ (At mid 0 1 (pos 4) ∷ [], 111) ∷ [];
+      waiting = [];
+      log = good.log;
+    }
+unfolding computing
+good_restored = refl
+
+-- and its parts are those
+good_back : parts_over (seen_of good) ≡ good
+unfolding computing
+good_back = refl
+
+waiting_back : parts_over (seen_of (parts waits)) ≡ parts waits
+unfolding computing
+waiting_back = refl
+
+-- the own row stands between the others, and who has left is marked
+abbrev of_three : Parts
+of_three = record good { members = 3; me = 1; rows = (5 ∷ 0 ∷ 0 ∷ []) ∷ (0 ∷ 0 ∷ 6 ∷ []) ∷ []; left = 2 ∷ [] }
+
+rows_in_place : (seen_of of_three).acks.others ≡ (5 ∷ 0 ∷ 0 ∷ []) ∷ (0 ∷ 0 ∷ 0 ∷ []) ∷ (0 ∷ 0 ∷ 6 ∷ []) ∷ []
+unfolding computing
+rows_in_place = refl
+
+left_marked : (seen_of of_three).acks.left ≡ false ∷ false ∷ true ∷ []
+unfolding computing
+left_marked = refl
+
+-- ---- what the rules alone don't tell
+
+-- a former list that falls breaks none
+abbrev backward : List EpochPart → List EpochPart
+backward (e ∷ f ∷ es) = e ∷ record f { former = reverse f.former } ∷ es
+backward es = es
+
+abbrev falling : Parts
+falling = let p = parts_of (edit hello Rename) in record p { epochs = backward p.epochs }
+
+falling_fine : broken falling ≡ None
+unfolding computing
+falling_fine = refl
+
+falling_falls : map (λ e. is_increasing e.former) falling.epochs ≡ true ∷ false ∷ []
+unfolding computing
+falling_falls = refl
+
+-- nor do a group and a count that are too large
+too_large_fine : broken (record good { group = 2 ^ 64; members = 1; vector = 2 ^ 32 ∷ []; rows = []; log = []; stems = stem 1 5 ∷ [] }) ≡ None
+unfolding computing
+too_large_fine = refl
+
+-- an unstable insertion of what isn't a character
+no_character_fine : broken (with_log (record (made fresh (Insert 0 (codes "hello"))) { body = body.Insert (At mid 0 1 (pos 0) ∷ []) (55296 ∷ []) } ∷ [])) ≡ None
+unfolding computing
+no_character_fine = refl
+
+-- and a waiting one whose first offset is below the least one
+too_low_fine : broken (with_held (record second_op { body = body.Insert (At mid 0 1 (negsuc 1073741824) ∷ []) (codes "!") } ∷ [])) ≡ None
+unfolding computing
+too_low_fine = refl

@@ -1,6 +1,11 @@
 -- What is known of parts before their rules are tested.
-use Rattle.std.specs.Prelude.{◌≡◌, ℕ, suc, ◌+◌, ◌^◌, ◌<◌, ◌≤◌, List, [], ◌∷◌, length, map, Some, None, IsTrue}
-use Rattle.rls_runs.specs.Runs.{are_apart}
+use Rattle.std.specs.Prelude.{◌≡◌, ℕ, suc, ◌+◌, ◌^◌, ◌<◌, ◌≤◌, List, [], ◌∷◌, length, map, All, Some, None, IsTrue}
+use Rattle.std.specs.List.{list_all}
+use Rattle.rls_ident.specs.Lists.{IsIn}
+use Rattle.rls_runs.specs.Runs.{AreIdents, are_apart, is_run}
+use Rattle.rls_ops.specs.declared.op.Op.{Op}
+use Rattle.rls_ops.specs.WellFormed.{IsInRange}
+use Rattle.rls_model.specs.WellFormed.{IsSmall, IsLarge, IsOp}
 use Rattle.rls_model.specs.declared.parts.EpochPart.{EpochPart}
 use Rattle.rls_model.specs.declared.parts.TextRun.{TextRun}
 use Rattle.rls_model.specs.declared.parts.Parts.{Parts}
@@ -50,3 +55,12 @@ pub record AreGiven (p : Parts) : Type 0 where
   pub text : AreTextRuns p.text
   pub text_few : length p.text < 2 ^ 32
   pub left : AreMembersFrom 0 p.members p.left
+
+-- their numbers, identifiers and operations are in range, as those of a file are
+pub record AreRanged (p : Parts) : Type 0 where
+  pub group : IsLarge p.group
+  pub vector : All IsSmall p.vector
+  pub former : (e : EpochPart) → IsIn e p.epochs → AreIdents e.former
+  pub runs : IsTrue (list_all is_run (map (λ r. r.run) p.text))
+  pub log : (o : Op) → IsIn o p.log → IsOp o
+  pub held : (o : Op) → IsIn o p.held → IsOp o × IsInRange o.body

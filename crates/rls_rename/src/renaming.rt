@@ -130,14 +130,14 @@ impl Renaming {
     pub fn forward(&self, id: &Ident) -> Result<Ident, AllocError>
         ensures forward { IfOk result (λ z. z ≡ forward self.now id.now) }
     {
-        self.of_one(Way::Forward, id)
+        self.renamed_ident(Way::Forward, id)
     }
 
     /// The identifier that `forward` takes to this one, at the same cost.
     pub fn back(&self, id: &Ident) -> Result<Ident, AllocError>
         ensures back { IfOk result (λ x. x ≡ back self.now id.now) }
     {
-        self.of_one(Way::Back, id)
+        self.renamed_ident(Way::Back, id)
     }
 
     /// The renaming of each identifier of a run, in order, as runs of which none touches the one
@@ -152,7 +152,7 @@ impl Renaming {
     pub fn forward_run(&self, run: &Run) -> Result<RunList, AllocError>
         ensures image { IfOk result (λ runs. IsImage (forward self.now) run.now runs) }
     {
-        self.of_run(Way::Forward, run)
+        self.renamed_run(Way::Forward, run)
     }
 
     /// What `back` takes each identifier of a run to, in order, as runs of which none touches the
@@ -161,20 +161,20 @@ impl Renaming {
     pub fn back_run(&self, run: &Run) -> Result<RunList, AllocError>
         ensures image { IfOk result (λ runs. IsImage (back self.now) run.now runs) }
     {
-        self.of_run(Way::Back, run)
+        self.renamed_run(Way::Back, run)
     }
 
     // Of one identifier.
-    fn of_one(&self, way: Way, id: &Ident) -> Result<Ident, AllocError>
+    fn renamed_ident(&self, way: Way, id: &Ident) -> Result<Ident, AllocError>
         ensures renamed { IfOk result (λ z. z ≡ renamed way self.now id.now) }
     {
         let run = Stretch::one(id.copy()?).into_run();
-        let Stretch { first, .. } = self.of_front(way, &run)?;
+        let Stretch { first, .. } = self.renamed_front(way, &run)?;
         Ok(first)
     }
 
     // Of as much of a run as goes along as one.
-    fn of_front(&self, way: Way, run: &Run) -> Result<Stretch, AllocError>
+    fn renamed_front(&self, way: Way, run: &Run) -> Result<Stretch, AllocError>
         ensures renamed { IfOk result (λ z. GoesAlong (renamed way self.now) run.now.0 run.now.1 z.first z.len) }
     {
         match way {
@@ -184,15 +184,15 @@ impl Renaming {
     }
 
     // Of a whole run.
-    fn of_run(&self, way: Way, run: &Run) -> Result<RunList, AllocError>
+    fn renamed_run(&self, way: Way, run: &Run) -> Result<RunList, AllocError>
         ensures image { IfOk result (λ runs. IsImage (renamed way self.now) run.now runs) }
     {
-        let front = self.of_front(way, run)?;
+        let front = self.renamed_front(way, run)?;
         let mut done = front.len;
         let mut image = Image::new(self.alloc, front);
         while done < run.len() {
             let rest = Stretch::behind(run, done)?.into_run();
-            let front = self.of_front(way, &rest)?;
+            let front = self.renamed_front(way, &rest)?;
             done += front.len;
             image = image.with(front)?;
         }

@@ -11,4 +11,3 @@ pub mod EditFaults
 pub mod EditLaws
 pub mod EditedText
 pub mod Neighbours
-pub mod NewStems

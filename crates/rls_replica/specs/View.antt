@@ -1,5 +1,6 @@
 -- What a replica is seen as.
 use Rattle.std.specs.Prelude.{◌≡◌, ℕ}
+use Rattle.rls_tree.specs.Trees.{entries_of}
 use Rattle.rls_seen.specs.Seen.{Seen, members}
 use Rattle.rls_seen.specs.Sane.{IsSane}
 use Rattle.rls_replica.specs.declared.replica.Replica.TheInside.{Inside}
@@ -10,7 +11,7 @@ seen r = record {
   acks = r.acks;
   stems = r.stems.stems;
   epochs = r.epochs.epochs;
-  text = r.document;
+  text = entries_of r.document.blocks;
   waiting = r.held;
   log = r.log.ops;
 }

@@ -12,11 +12,12 @@ ghost use Rattle.rls_model.specs.Stems.{stems_after};
 ghost use Rattle.rls_seen.specs.Over.{accepted, acks_after, epochs_after, first_ready, refusal_over, released};
 ghost use Rattle.rls_seen.specs.Sane.{MayApply};
 ghost use Rattle.rls_epoch.specs.Seen.{former_sum};
+ghost use Rattle.rls_tree.specs.Trees.{entries_of};
 ghost use Rattle.rls_replica.specs.Changing.{former_in, renaming_in, MayPrepare, IsTextAfter, MayFinish, MayInsert, MayRename};
 
 use crate::renaming_text::RenamingText;
 use crate::replica::Replica;
-use rls_doc::{Document, VecDocument};
+use rls_doc::Document;
 use rls_epoch::Epochs;
 use rls_ident::{EpochName, Ident};
 use rls_ops::{Body, Op};
@@ -24,6 +25,7 @@ use rls_rename::{Renaming, RenamingError};
 use rls_runs::{Run, Runs, Text};
 use rls_stable::{Acks, Log};
 use rls_stems::StemTable;
+use rls_tree::BlockTree;
 use std::alloc::{AllocError, Global};
 
 impl Replica {
@@ -90,17 +92,17 @@ impl Replica {
 // Makes all the room that the operation needs, and the renaming of a rename, and changes the text last.
 fn prepare(
     alloc: Global,
-    document: &mut VecDocument,
+    document: &mut BlockTree,
     stems: &mut StemTable,
     epochs: &mut Epochs,
     log: &mut Log,
     op: &Op,
 ) -> Result<Option<Renaming>, AllocError>
-    requires may { MayPrepare epochs.old.epochs document.old op.now }
+    requires may { MayPrepare epochs.old.epochs (entries_of document.old.blocks) op.now }
     requires author { op.now.author < stems.old.members }
     ensures renaming { IfOk result (λ renaming. renaming ≡ renaming_in op.now op.now.body) }
-    ensures text { OnOk result (IsTextAfter epochs.old.epochs document.old op.now op.now.body document.new) }
-    ensures err { OnErr result (document.new ≡ document.old) }
+    ensures text { OnOk result (IsTextAfter epochs.old.epochs (entries_of document.old.blocks) op.now op.now.body (entries_of document.new.blocks)) }
+    ensures err { OnErr result (entries_of document.new.blocks ≡ entries_of document.old.blocks) }
     ensures stems { stems.new.stems ≡ stems.old.stems }
     ensures members { stems.new.members ≡ stems.old.members }
     ensures stem_room { OnOk result (0 < slice_index stems.new.spare op.now.author) }
@@ -117,14 +119,14 @@ fn prepare(
 // Changes the text, and makes the renaming of a rename with room for its epoch.
 fn change(
     alloc: Global,
-    document: &mut VecDocument,
+    document: &mut BlockTree,
     epochs: &mut Epochs,
     op: &Op,
 ) -> Result<Option<Renaming>, AllocError>
-    requires may { MayPrepare epochs.old.epochs document.old op.now }
+    requires may { MayPrepare epochs.old.epochs (entries_of document.old.blocks) op.now }
     ensures renaming { IfOk result (λ renaming. renaming ≡ renaming_in op.now op.now.body) }
-    ensures text { OnOk result (IsTextAfter epochs.old.epochs document.old op.now op.now.body document.new) }
-    ensures err { OnErr result (document.new ≡ document.old) }
+    ensures text { OnOk result (IsTextAfter epochs.old.epochs (entries_of document.old.blocks) op.now op.now.body (entries_of document.new.blocks)) }
+    ensures err { OnErr result (entries_of document.new.blocks ≡ entries_of document.old.blocks) }
     ensures epochs { epochs.new.epochs ≡ epochs.old.epochs }
     ensures room { IfOk result (λ renaming. IsSome renaming → 0 < epochs.new.spare) }
 {
@@ -147,15 +149,15 @@ fn change(
 
 // Adds the characters of an insertion.
 fn insert(
-    document: &mut VecDocument,
+    document: &mut BlockTree,
     epochs: &Epochs,
     epoch: EpochName,
     first: &Ident,
     text: &Text,
 ) -> Result<(), AllocError>
-    requires may { MayInsert epochs.now.epochs document.old epoch first.now text.now }
-    ensures ok { OnOk result (document.new ≡ put_all (zip (map (translate epochs.now.epochs.nodes epoch (greatest epochs.now.epochs.top epochs.now.epochs.nodes)) (run_idents first.now (length text.now))) text.now) document.old) }
-    ensures err { OnErr result (document.new ≡ document.old) }
+    requires may { MayInsert epochs.now.epochs (entries_of document.old.blocks) epoch first.now text.now }
+    ensures ok { OnOk result (entries_of document.new.blocks ≡ put_all (zip (map (translate epochs.now.epochs.nodes epoch (greatest epochs.now.epochs.top epochs.now.epochs.nodes)) (run_idents first.now (length text.now))) text.now) (entries_of document.old.blocks)) }
+    ensures err { OnErr result (entries_of document.new.blocks ≡ entries_of document.old.blocks) }
 {
     let run = run_of(first, text.len() as u32)?;
     let runs = epochs.translate_run(epoch, epochs.greatest(), &run)?;
@@ -175,14 +177,14 @@ fn run_of(first: &Ident, len: u32) -> Result<Run, AllocError>
 
 // Takes out the characters of a deletion.
 fn delete(
-    document: &mut VecDocument,
+    document: &mut BlockTree,
     epochs: &Epochs,
     epoch: EpochName,
     targets: &Runs,
 ) -> Result<(), AllocError>
     requires kept { IsTrue (is_kept epochs.now.epochs.top epochs.now.epochs.nodes epoch) }
-    ensures ok { OnOk result (document.new ≡ without_all (map (translate epochs.now.epochs.nodes epoch (greatest epochs.now.epochs.top epochs.now.epochs.nodes)) targets.now) document.old) }
-    ensures err { OnErr result (document.new ≡ document.old) }
+    ensures ok { OnOk result (entries_of document.new.blocks ≡ without_all (map (translate epochs.now.epochs.nodes epoch (greatest epochs.now.epochs.top epochs.now.epochs.nodes)) targets.now) (entries_of document.old.blocks)) }
+    ensures err { OnErr result (entries_of document.new.blocks ≡ entries_of document.old.blocks) }
 {
     let images = epochs.translate_runs(epoch, epochs.greatest(), targets)?;
     let _removed = document.remove_all(&images)?;
@@ -192,15 +194,15 @@ fn delete(
 // Makes the renaming of a rename and room for its epoch, and renames the text where the epoch becomes the greatest.
 fn rename(
     alloc: Global,
-    document: &mut VecDocument,
+    document: &mut BlockTree,
     epochs: &mut Epochs,
     op: &Op,
     former: &Runs,
 ) -> Result<Renaming, AllocError>
     requires may { MayRename epochs.old.epochs op.now former.now }
     ensures renaming { IfOk result (λ renaming. renaming ≡ renaming_of op.now former.now) }
-    ensures text { OnOk result (IsTextAfter epochs.old.epochs document.old op.now (Rename former.now) document.new) }
-    ensures err { OnErr result (document.new ≡ document.old) }
+    ensures text { OnOk result (IsTextAfter epochs.old.epochs (entries_of document.old.blocks) op.now (Rename former.now) (entries_of document.new.blocks)) }
+    ensures err { OnErr result (entries_of document.new.blocks ≡ entries_of document.old.blocks) }
     ensures epochs { epochs.new.epochs ≡ epochs.old.epochs }
     ensures room { OnOk result (0 < epochs.new.spare) }
 {
@@ -224,15 +226,15 @@ fn renaming_of(alloc: Global, op: &Op, former: &Runs) -> Result<Renaming, AllocE
 
 // Gives each character its identifier of the epoch that the rename opens, where that becomes the greatest.
 fn rename_text(
-    document: &mut VecDocument,
+    document: &mut BlockTree,
     epochs: &Epochs,
     op: &Op,
     renaming: &Renaming,
 ) -> Result<(), AllocError>
     requires may { MayRename epochs.now.epochs op.now renaming.now.former }
     requires renaming { renaming.now ≡ renaming_of op.now renaming.now.former }
-    ensures text { OnOk result (IsTextAfter epochs.now.epochs document.old op.now (Rename renaming.now.former) document.new) }
-    ensures err { OnErr result (document.new ≡ document.old) }
+    ensures text { OnOk result (IsTextAfter epochs.now.epochs (entries_of document.old.blocks) op.now (Rename renaming.now.former) (entries_of document.new.blocks)) }
+    ensures err { OnErr result (entries_of document.new.blocks ≡ entries_of document.old.blocks) }
 {
     if !epochs.opens_greatest(op.author, op.seq, op.epoch) {
         return Ok(());

@@ -3,7 +3,8 @@
 ghost use Rattle.std.specs.Prelude.{◌≡◌, ◌+◌, ◌<◌, ◌≤◌, length, take, drop, slice_get, Some, IfOk};
 ghost use Rattle.rls_ops.specs.Rows.{left};
 ghost use Rattle.rls_runs.specs.Runs.{place_of};
-ghost use Rattle.rls_model.specs.Document.{text, idents};
+ghost use Rattle.rls_tree.specs.Trees.{entries_of};
+ghost use Rattle.rls_model.specs.Document.{export, text, idents};
 ghost use Rattle.rls_model.specs.Epochs.{greatest};
 ghost use Rattle.rls_model.specs.History.{count};
 ghost use Rattle.rls_model.specs.Receiving.{State};
@@ -16,6 +17,7 @@ use rls_doc::Document;
 use rls_ident::{EpochName, Ident, Vector};
 use rls_runs::{Runs, Text};
 use rls_stable::Log;
+use rls_tree::BlockTree;
 use std::alloc::AllocError;
 
 impl Replica {
@@ -141,5 +143,15 @@ impl Replica {
         ensures place { result ≡ place_of id.now (idents_over self.now) }
     {
         self.document.find(id)
+    }
+
+    /// The tree in which the text is kept: its blocks are the maximal runs with their characters. It takes no memory.
+    pub fn tree(&self) -> &BlockTree
+        ensures text { entries_of result.now.blocks ≡ self.now.text }
+
+        // For every history and waiting operations that the replica stands for.
+        ensures stands { (t : State) → StandsFor self.now t → entries_of result.now.blocks ≡ export t.history }
+    {
+        &self.document
     }
 }

@@ -13,11 +13,11 @@ ghost use Rattle.rls_seen.specs.Stands.{StandsFor};
 ghost use Rattle.rls_replica.specs.Faults.{IsNoCount, IsNoMember};
 
 use rls_causal::Held;
-use rls_doc::VecDocument;
 use rls_epoch::Epochs;
 use rls_ident::{EpochName, Vector};
 use rls_stable::{Acks, Log};
 use rls_stems::StemTable;
+use rls_tree::BlockTree;
 use std::alloc::{AllocError, Global};
 use std::marker::Model;
 
@@ -33,7 +33,7 @@ pub struct Replica {
     pub(crate) acks: Acks,
     pub(crate) stems: StemTable,
     pub(crate) epochs: Epochs,
-    pub(crate) document: VecDocument,
+    pub(crate) document: BlockTree,
     pub(crate) held: Held,
     pub(crate) log: Log,
 }
@@ -109,7 +109,7 @@ impl Replica {
             acks: Acks::new(alloc, members, me)?,
             stems: StemTable::new(alloc, members)?,
             epochs: Epochs::starting_at(alloc, EpochName::Origin)?,
-            document: VecDocument::new(alloc),
+            document: BlockTree::new(alloc),
             held: Held::new(alloc),
             log: Log::new(alloc),
         })

@@ -66,6 +66,13 @@ impl Log {
         &self.ops[i]
     }
 
+    /// The operations, in order.
+    pub fn as_slice(&self) -> &[Op]
+        ensures ops { result.now ≡ self.now.ops }
+    {
+        &self.ops
+    }
+
     /// Copies of the operations whose number is above the row's count of their author, in order: as
     /// many of the first ones as have at most so many bytes by `encoded_len` together. It goes over
     /// the log up to the first one that is left out.

@@ -15,6 +15,9 @@ pub entries_append : (xs ys : List Piece) → entries_of (xs ++ ys) ≡ entries_
 entries_append [] ys = refl
 entries_append (b ∷ xs) ys = ap (λ es. piece_entries b ++ es) (entries_append xs ys) ∙ sym (append_assoc (piece_entries b) (entries_of xs) (entries_of ys))
 
+pub chars_append : (xs ys : List Piece) → length (entries_of (xs ++ ys)) ≡ length (entries_of xs) + length (entries_of ys)
+chars_append xs ys = ap length (entries_append xs ys) ∙ length-append (entries_of xs) (entries_of ys)
+
 pub piece_length : (b : Piece) → IsPiece b.0 b.1 → length (piece_entries b) ≡ length b.1
 piece_length b h =
     let z = length-zip (run_idents b.0.0 b.0.1) b.1 in

@@ -1,10 +1,14 @@
 //! Blocks.
 
-ghost use Rattle.std.specs.Prelude.{◌≡◌, length, IsTrue};
-ghost use Rattle.rls_runs.specs.Runs.{is_run};
+ghost use Rattle.std.specs.Prelude.{◌≡◌, ◌+◌, ◌-◌, ◌<◌, ◌≤◌, pos, length, take, drop, IsTrue, IfOk, OnOk, OnErr};
+ghost use Rattle.rls_ident.specs.Identifiers.{shifted, follows};
+ghost use Rattle.rls_runs.specs.Runs.{is_run, run_last};
 ghost use Rattle.rls_tree.specs.Trees.{IsPiece};
+ghost use Rattle.rls_tree.specs.Edits.{part_of, joined};
 
-use rls_runs::{Run, Text};
+use rls_ident::Ident;
+use rls_runs::{Run, RunError, Text};
+use std::alloc::{AllocError, Global};
 use std::marker::Model;
 
 /// A run with a character for each of its identifiers, seen as the pair of both.
@@ -56,5 +60,111 @@ impl Block {
         ensures piece { IsPiece self.now.0 self.now.1 }
     {
         self.run.len()
+    }
+
+    /// The same again.
+    pub fn copy(&self) -> Result<Block, AllocError>
+        ensures copy { IfOk result (λ block. block ≡ self.now) }
+    {
+        Ok(Block {
+            run: self.run.copy()?,
+            text: self.text.copy()?,
+        })
+    }
+
+    // Grows at its end by a run that goes on with its own, and the run's characters.
+    pub(crate) fn extend(&mut self, run: &Run, text: &Text) -> Result<(), AllocError>
+        requires as_many { length text.now ≡ run.now.1 }
+        requires touches { IsTrue (follows run.now.0 (run_last self.old.0)) }
+        ensures ok { OnOk result (self.new ≡ joined self.old (run.now, text.now)) }
+        ensures err { OnErr result (self.new ≡ self.old) }
+    {
+        let longer = joined_run(&self.run, run)?;
+        self.text.append(text.copy()?)?;
+        self.run = longer;
+        Ok(())
+    }
+
+    // Grows at its front by a run with which its own goes on, and the run's characters.
+    pub(crate) fn extend_front(&mut self, run: &Run, text: &Text) -> Result<(), AllocError>
+        requires as_many { length text.now ≡ run.now.1 }
+        requires touches { IsTrue (follows self.old.0.0 (run_last run.now)) }
+        ensures ok { OnOk result (self.new ≡ joined (run.now, text.now) self.old) }
+        ensures err { OnErr result (self.new ≡ self.old) }
+    {
+        let longer = joined_run(run, &self.run)?;
+        self.text.prepend(text.copy()?)?;
+        self.run = longer;
+        Ok(())
+    }
+
+    // Keeps so many characters at its front.
+    pub(crate) fn keep_front(&mut self, at: u32) -> Result<(), AllocError>
+        requires some { 0 < at }
+        requires within { at ≤ self.old.0.1 }
+        ensures ok { OnOk result (self.new ≡ part_of 0 at self.old) }
+        ensures err { OnErr result (self.new ≡ self.old) }
+    {
+        let front = part_of_run(&self.run, 0, at)?;
+        let _gone = self.text.split_off(at as usize)?;
+        self.run = front;
+        Ok(())
+    }
+
+    // Keeps its characters from a place on.
+    pub(crate) fn keep_back(&mut self, from: u32) -> Result<(), AllocError>
+        requires some { from < self.old.0.1 }
+        ensures ok { OnOk result (self.new ≡ part_of from (self.old.0.1 - from) self.old) }
+        ensures err { OnErr result (self.new ≡ self.old) }
+    {
+        let run = part_of_run(&self.run, from, self.run.len() - from)?;
+        let text = self.text.split_off(from as usize)?;
+        self.run = run;
+        self.text = text;
+        Ok(())
+    }
+}
+
+/// So many identifiers of a run from a place on.
+pub(crate) fn part_of_run(run: &Run, from: u32, len: u32) -> Result<Run, AllocError>
+    requires some { 0 < len }
+    requires within { from + len ≤ run.now.1 }
+    ensures part { IfOk result (λ part. part ≡ (shifted (pos from) run.now.0, len)) }
+{
+    let _len = run.len();
+    match Run::new(run.first().shifted(from)?, len) {
+        Ok(part) => Ok(part),
+        Err(RunError::Empty) => unreachable!(),
+        Err(RunError::OffsetEnd) => unreachable!(),
+    }
+}
+
+/// So many characters of a text from a place on. It costs their number.
+pub(crate) fn part_of_text(
+    alloc: Global,
+    text: &Text,
+    from: usize,
+    len: usize,
+) -> Result<Text, AllocError>
+    requires within { from + len ≤ length text.now }
+    ensures part { IfOk result (λ part. part ≡ take len (drop from text.now)) }
+{
+    let _len = text.len();
+    let mut part = Text::new(alloc);
+    for i in 0..len {
+        part.push(text.get(from + i))?;
+    }
+    Ok(part)
+}
+
+// Two runs of which the second goes on with the first, as one.
+fn joined_run(run: &Run, next: &Run) -> Result<Run, AllocError>
+    requires touches { IsTrue (follows next.now.0 (run_last run.now)) }
+    ensures joined { IfOk result (λ longer. longer ≡ (run.now.0, run.now.1 + next.now.1)) }
+{
+    match Run::new(run.first().copy()?, run.len() + next.len()) {
+        Ok(longer) => Ok(longer),
+        Err(RunError::Empty) => unreachable!(),
+        Err(RunError::OffsetEnd) => unreachable!(),
     }
 }

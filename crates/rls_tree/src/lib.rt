@@ -3,7 +3,12 @@
 
 mod balance;
 mod block;
+mod bulk;
+mod document;
+mod insert;
 mod node;
+mod remove;
+mod split;
 mod tree;
 
 pub use node::Node;

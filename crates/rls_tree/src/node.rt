@@ -1,16 +1,18 @@
 //! Nodes of the tree.
 
-ghost use Rattle.std.specs.Prelude.{◌≡◌, ℕ, ◌+◌, ◌^◌, ◌<◌, ◌≤◌, max, [], ◌∷◌, ◌++◌, length, slice_get, Some, None, IfSome, IfNone, OnOk};
-ghost use Rattle.rls_runs.specs.Runs.{idents_of};
+ghost use Rattle.std.specs.Prelude.{◌≡◌, ℕ, ◌+◌, ◌-◌, ◌^◌, ◌<◌, ◌≤◌, max, [], ◌∷◌, ◌++◌, length, slice_get, Some, None, IfSome, IfNone, IfOk, OnOk, OnErr, IsTrue};
+ghost use Rattle.rls_ident.specs.Identifiers.{follows};
+ghost use Rattle.rls_runs.specs.Runs.{idents_of, run_last};
 ghost use Rattle.rls_runs.specs.Entries.{chars_in};
 ghost use Rattle.rls_runs.specs.Places.{find_ident};
 ghost use Rattle.rls_runs.proofs.RunOrder.{Rising};
 ghost use Rattle.rls_tree.specs.Trees.{runs_in, IsLow, IsPiece, ArePieces, Tree, piece_entries, entries_of, pieces, levels};
+ghost use Rattle.rls_tree.specs.Edits.{joined, part_of, reach_of, located};
 
 use crate::block::Block;
 use rls_ident::Ident;
 use rls_runs::{Run, Text};
-use std::alloc::AllocError;
+use std::alloc::{AllocError, Global};
 use std::marker::Model;
 use std::mem;
 
@@ -137,6 +139,8 @@ impl Node {
         requires place { i < length (entries_of self.now.blocks) }
         ensures within { result.1 < length result.0.now.1 }
         ensures entry { slice_get (entries_of self.now.blocks) i ≡ slice_get (piece_entries result.0.now) result.1 }
+        ensures reach { reach_of self.now.blocks i ≡ length result.0.now.1 - result.1 }
+        ensures located { located self.now.blocks i ≡ Some (result.0.now, result.1) }
     {
         let _chars = self.chars;
         let front = chars_of(&self.left);
@@ -198,10 +202,25 @@ impl Node {
         Ok(())
     }
 
+    // The same again.
+    #[cycle(copy)]
+    fn copy(&self, alloc: Global) -> Result<Box<Node>, AllocError>
+        ensures blocks { IfOk result (λ copy. copy.value.blocks ≡ self.now.blocks) }
+        ensures height { IfOk result (λ copy. copy.value.height ≡ self.now.height) }
+    {
+        let _chars = self.chars;
+        let left = copy_link(alloc, &self.left)?;
+        let right = copy_link(alloc, &self.right)?;
+        let mut node = Box::new(alloc, Node::leaf(self.block.copy()?))?;
+        node.put_sides(left, right);
+        Ok(node)
+    }
+
     // Keeps the block alone, and answers both sides.
     pub(crate) fn take_sides(&mut self) -> (Link, Link)
         ensures blocks { self.old.blocks ≡ pieces result.0 ++ self.new.blocks ++ pieces result.1 }
         ensures one { length self.new.blocks ≡ 1 }
+        ensures chars_fit { length (entries_of self.old.blocks) < 2 ^ 64 }
         ensures low { self.new.height ≡ 1 }
         ensures height { self.old.height ≡ max (levels result.0) (levels result.1) + 1 }
         ensures left_not_higher { levels result.0 ≤ levels result.1 + 1 }
@@ -213,6 +232,66 @@ impl Node {
         self.blocks = 1;
         self.height = 1;
         (left, right)
+    }
+
+    // A block that stands alone grows at its end.
+    pub(crate) fn extend(&mut self, run: &Run, text: &Text) -> Result<(), AllocError>
+        requires one { length self.old.blocks ≡ 1 }
+        requires as_many { length text.now ≡ run.now.1 }
+        requires touches { IsTrue (follows run.now.0 (run_last self.old.block.0)) }
+        ensures ok { OnOk result (self.new.blocks ≡ joined self.old.block (run.now, text.now) ∷ []) }
+        ensures err { OnErr result (self.new.blocks ≡ self.old.blocks) }
+    {
+        let done = self.block.extend(run, text);
+        self.chars = self.block.len() as u64;
+        done
+    }
+
+    // A block that stands alone grows at its front.
+    pub(crate) fn extend_front(&mut self, run: &Run, text: &Text) -> Result<(), AllocError>
+        requires one { length self.old.blocks ≡ 1 }
+        requires as_many { length text.now ≡ run.now.1 }
+        requires touches { IsTrue (follows self.old.block.0.0 (run_last run.now)) }
+        ensures ok { OnOk result (self.new.blocks ≡ joined (run.now, text.now) self.old.block ∷ []) }
+        ensures err { OnErr result (self.new.blocks ≡ self.old.blocks) }
+    {
+        let done = self.block.extend_front(run, text);
+        self.chars = self.block.len() as u64;
+        done
+    }
+
+    // A block that stands alone keeps so many characters at its front.
+    pub(crate) fn keep_front(&mut self, at: u32) -> Result<(), AllocError>
+        requires one { length self.old.blocks ≡ 1 }
+        requires some { 0 < at }
+        requires within { at ≤ self.old.block.0.1 }
+        ensures ok { OnOk result (self.new.blocks ≡ part_of 0 at self.old.block ∷ []) }
+        ensures err { OnErr result (self.new.blocks ≡ self.old.blocks) }
+    {
+        let done = self.block.keep_front(at);
+        self.chars = self.block.len() as u64;
+        done
+    }
+
+    // A block that stands alone keeps its characters from a place on.
+    pub(crate) fn keep_back(&mut self, from: u32) -> Result<(), AllocError>
+        requires one { length self.old.blocks ≡ 1 }
+        requires some { from < self.old.block.0.1 }
+        ensures ok { OnOk result (self.new.blocks ≡ part_of from (self.old.block.0.1 - from) self.old.block ∷ []) }
+        ensures err { OnErr result (self.new.blocks ≡ self.old.blocks) }
+    {
+        let done = self.block.keep_back(from);
+        self.chars = self.block.len() as u64;
+        done
+    }
+
+    // How many characters its own block has.
+    pub(crate) fn len(&self) -> u32
+        ensures len { result ≡ self.now.block.0.1 }
+        ensures blocks { self.now.blocks ≡ self.now.left.blocks ++ self.now.block ∷ self.now.right.blocks }
+        ensures piece { IsPiece self.now.block.0 self.now.block.1 }
+    {
+        self.block.len()
     }
 
     // Puts trees on both sides of a block that stands alone.
@@ -274,5 +353,17 @@ pub(crate) fn push_text_of(link: &Link, text: &mut Text) -> Result<(), AllocErro
     match link {
         None => Ok(()),
         Some(node) => node.push_text(text),
+    }
+}
+
+/// The same again. It costs the number of characters and of blocks.
+#[cycle(copy)]
+pub(crate) fn copy_link(alloc: Global, link: &Link) -> Result<Link, AllocError>
+    ensures blocks { IfOk result (λ copy. pieces copy ≡ pieces link.now) }
+    ensures height { IfOk result (λ copy. levels copy ≡ levels link.now) }
+{
+    match link {
+        None => Ok(None),
+        Some(node) => Ok(Some(node.copy(alloc)?)),
     }
 }

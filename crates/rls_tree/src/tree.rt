@@ -1,14 +1,22 @@
 //! The block tree.
 
-ghost use Rattle.std.specs.Prelude.{◌≡◌, ◌+◌, ◌*◌, ◌^◌, ◌≤◌, [], ◌<◌, length, slice_get, Some, IfSome, IfNone, IfOk, IsTrue};
-ghost use Rattle.rls_runs.specs.Runs.{runs_of, is_increasing, place_of};
+ghost use Rattle.std.specs.Prelude.{◌≡◌, ◌+◌, ◌*◌, ◌^◌, ◌≤◌, [], ◌<◌, length, take, drop, slice_get, Some, IfSome, IfNone, IfOk, OnOk, OnErr, IsTrue};
+ghost use Rattle.std.specs.List.{list_all};
+ghost use Rattle.rls_ident.specs.Identifiers.{is_ident};
+ghost use Rattle.rls_runs.specs.Runs.{run_idents, runs_of, is_increasing, place_of};
 ghost use Rattle.rls_runs.specs.Entries.{idents_in, chars_in};
-ghost use Rattle.rls_tree.specs.Trees.{entries_of};
+ghost use Rattle.rls_tree.specs.Trees.{entries_of, piece_entries};
+ghost use Rattle.rls_tree.specs.Edits.{inserted, removed, reach_of};
 
-use crate::node::{Link, Node, blocks_of, chars_of, height_of};
+use crate::block::{part_of_run, part_of_text};
+use crate::insert::insert_at;
+use crate::node::{Link, Node, blocks_of, chars_of, copy_link, height_of, push_text_of};
+use crate::remove::remove_at;
 use rls_ident::Ident;
+use rls_runs::{Run, Text};
 use std::alloc::{AllocError, Global};
 use std::marker::Model;
+use std::mem;
 
 /// Characters with identifiers that strictly increase, kept as a balanced tree of blocks, each a
 /// maximal run with its characters.
@@ -60,14 +68,14 @@ impl BlockTree {
     }
 
     // How many characters it has.
-    fn chars(&self) -> u64
+    pub(crate) fn chars(&self) -> u64
         ensures chars { result ≡ length (entries_of self.now.blocks) }
     {
         chars_of(&self.root)
     }
 
     // How many maximal runs it has.
-    fn blocks(&self) -> u64
+    pub(crate) fn blocks(&self) -> u64
         ensures blocks { result ≡ length self.now.blocks }
         ensures runs { length self.now.blocks ≡ length (runs_of (idents_in (entries_of self.now.blocks))) }
         ensures rises { IsTrue (is_increasing (idents_in (entries_of self.now.blocks))) }
@@ -77,7 +85,7 @@ impl BlockTree {
     }
 
     // The place of an identifier, or where it isn't there the number of identifiers less than it.
-    fn place(&self, id: &Ident) -> Result<u64, u64>
+    pub(crate) fn place(&self, id: &Ident) -> Result<u64, u64>
         ensures place { result ≡ place_of id.now (idents_in (entries_of self.now.blocks)) }
     {
         let _chars = chars_of(&self.root);
@@ -88,7 +96,7 @@ impl BlockTree {
     }
 
     // The character at a place.
-    fn char(&self, i: u64) -> char
+    pub(crate) fn char(&self, i: u64) -> char
         requires place { i < length (entries_of self.now.blocks) }
         ensures char { slice_get (chars_in (entries_of self.now.blocks)) i ≡ Some result }
     {
@@ -100,7 +108,7 @@ impl BlockTree {
     }
 
     // The identifier at a place.
-    fn ident(&self, i: u64) -> Result<Ident, AllocError>
+    pub(crate) fn ident(&self, i: u64) -> Result<Ident, AllocError>
         requires place { i < length (entries_of self.now.blocks) }
         ensures ident { IfOk result (λ x. slice_get (idents_in (entries_of self.now.blocks)) i ≡ Some x) }
     {
@@ -111,5 +119,118 @@ impl BlockTree {
         let _len = block.len();
         let id = block.run().first().shifted(at)?;
         Ok(id)
+    }
+
+    // The run of so many identifiers from a place on, and of no more than stand in one block there.
+    pub(crate) fn run_from(&self, i: u64, most: u32) -> Result<Run, AllocError>
+        requires place { i < length (entries_of self.now.blocks) }
+        requires some { 0 < most }
+        ensures some { IfOk result (λ run. 0 < run.1) }
+        ensures most { IfOk result (λ run. run.1 ≤ most) }
+        ensures reach { IfOk result (λ run. run.1 ≤ reach_of self.now.blocks i) }
+        ensures idents { IfOk result (λ run. take run.1 (drop i (idents_in (entries_of self.now.blocks))) ≡ run_idents run.0 run.1) }
+    {
+        let _chars = chars_of(&self.root);
+        let Some(node) = &self.root else {
+            unreachable!()
+        };
+        let (block, at) = node.locate(i);
+        let len = (block.len() - at).min(most);
+        part_of_run(block.run(), at, len)
+    }
+
+    // The rest of a run from a place on, with its characters. It costs a step for each level, and their number.
+    pub(crate) fn stretch(&self, i: u64) -> Result<(Run, Text), AllocError>
+        requires place { i < length (entries_of self.now.blocks) }
+        ensures some { IfOk result (λ part. 0 < part.0.1) }
+        ensures as_many { IfOk result (λ part. length part.1 ≡ part.0.1) }
+        ensures within { IfOk result (λ part. i + part.0.1 ≤ length (entries_of self.now.blocks)) }
+        ensures entries { IfOk result (λ part. piece_entries (part.0, part.1) ≡ take part.0.1 (drop i (entries_of self.now.blocks))) }
+    {
+        let _chars = chars_of(&self.root);
+        let Some(node) = &self.root else {
+            unreachable!()
+        };
+        let (block, at) = node.locate(i);
+        let len = block.len() - at;
+        let run = part_of_run(block.run(), at, len)?;
+        let text = part_of_text(self.alloc, block.text(), at as usize, len as usize)?;
+        Ok((run, text))
+    }
+
+    // Each of the identifiers is one. It does nothing.
+    pub(crate) fn are_idents(&self)
+        ensures idents { IsTrue (list_all is_ident (idents_in (entries_of self.now.blocks))) }
+    {
+        let _chars = chars_of(&self.root);
+    }
+
+    // All characters.
+    pub(crate) fn chars_text(&self) -> Result<Text, AllocError>
+        ensures text { IfOk result (λ cs. cs ≡ chars_in (entries_of self.now.blocks)) }
+    {
+        let mut text = Text::new(self.alloc);
+        push_text_of(&self.root, &mut text)?;
+        Ok(text)
+    }
+
+    // The same again. It costs the number of characters and of blocks.
+    pub(crate) fn copy(&self) -> Result<BlockTree, AllocError>
+        ensures copy { IfOk result (λ tree. tree.blocks ≡ self.now.blocks) }
+    {
+        Ok(BlockTree {
+            root: copy_link(self.alloc, &self.root)?,
+            alloc: self.alloc,
+        })
+    }
+
+    // The tree's allocator.
+    pub(crate) fn alloc(&self) -> Global {
+        self.alloc
+    }
+
+    // Puts a run and its characters in at a place, between two neighbours.
+    pub(crate) fn insert_piece(&mut self, i: u64, run: &Run, text: &Text) -> Result<(), AllocError>
+        requires place { i ≤ length (entries_of self.old.blocks) }
+        requires as_many { length text.now ≡ run.now.1 }
+        requires room { length (entries_of self.old.blocks) + length text.now < 2 ^ 64 }
+        requires rises { IsTrue (is_increasing (idents_in (inserted i (piece_entries (run.now, text.now)) (entries_of self.old.blocks)))) }
+        ensures ok { OnOk result (entries_of self.new.blocks ≡ inserted i (piece_entries (run.now, text.now)) (entries_of self.old.blocks)) }
+        ensures err { OnErr result (entries_of self.new.blocks ≡ entries_of self.old.blocks) }
+    {
+        let link = mem::replace(&mut self.root, None);
+        match insert_at(self.alloc, link, i, run, text) {
+            Ok(root) => {
+                let _chars = chars_of(&root);
+                self.root = root;
+                Ok(())
+            }
+            Err(root) => {
+                self.root = root;
+                Err(AllocError)
+            }
+        }
+    }
+
+    // Takes so many characters out from a place on, which stand in one block.
+    pub(crate) fn remove_piece(&mut self, i: u64, count: u32) -> Result<(), AllocError>
+        requires some { 0 < count }
+        requires reach { count ≤ reach_of self.old.blocks i }
+        ensures ok { OnOk result (entries_of self.new.blocks ≡ removed i count (entries_of self.old.blocks)) }
+        ensures err { OnErr result (entries_of self.new.blocks ≡ entries_of self.old.blocks) }
+    {
+        let link = mem::replace(&mut self.root, None);
+        let _chars = chars_of(&link);
+        match remove_at(self.alloc, link, i, count) {
+            Ok(root) => {
+                let _chars = chars_of(&root);
+                self.root = root;
+                Ok(())
+            }
+            Err(root) => {
+                self.root = root;
+                Err(AllocError)
+            }
+        }
     }
 }

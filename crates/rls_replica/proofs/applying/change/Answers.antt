@@ -4,6 +4,7 @@ use Rattle.rls_runs.specs.Entries.{Entries}
 use Rattle.rls_seen.proofs.Fitting.{facts}
 use Rattle.rls_replica.specs.Changing.{MayInsert, MayRename}
 use Rattle.rls_replica.proofs.Changes.{insert_may, rename_may}
+use Rattle.rls_tree.specs.Trees.{entries_of}
 use Rattle.rls_replica.proofs.applying.change.Goals as goal
 
 pub insert-requires : goal.insert-requires
@@ -12,7 +13,7 @@ insert-requires c =
     let o = c.args.op.now in
     record {
       may =
-          subst (λ (E : Epochs). MayInsert E c.args.document.now o.epoch c.in-Insert.first c.in-Insert.text) m.epochs_are
+          subst (λ (E : Epochs). MayInsert E (entries_of c.args.document.now.blocks) o.epoch c.in-Insert.first c.in-Insert.text) m.epochs_are
           (subst (λ (es : Entries). MayInsert m.replica.epochs es o.epoch c.in-Insert.first c.in-Insert.text) m.text_is
           (insert_may m.replica o c.in-Insert.first c.in-Insert.text m.sane m.may c.in-Insert.is));
     }

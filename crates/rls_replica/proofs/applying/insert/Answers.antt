@@ -8,6 +8,7 @@ use Rattle.rls_runs.specs.Runs.{run_idents}
 use Rattle.rls_runs.proofs.Finding.{run_length}
 use Rattle.rls_doc.specs.Documents.{AreNew}
 use Rattle.rls_replica.proofs.Changes.{image_is, are_new}
+use Rattle.rls_tree.specs.Trees.{entries_of}
 use Rattle.rls_replica.proofs.applying.insert.Goals as goal
 
 pub translate_run-requires-clause-to : goal.translate_run-requires-clause-to
@@ -27,5 +28,5 @@ insert_runs-requires-clause-new c =
     let first = c.args.first.now in
     let n = length c.args.text.now in
     let e = image_is E c.args.epoch first n c.greatest.result c.in_ok-run.run' c.in_ok-runs.runs c.greatest.ensures.greatest (rw c.len.ensures.len at c.in_ok-run.ensures.run) c.in_ok-runs.ensures.translated in
-    subst (λ (xs : List (List Tuple)). AreNew xs (idents_in c.args.document.now)) (sym e)
-    (are_new (map (translate E.nodes c.args.epoch (greatest E.top E.nodes)) (run_idents first n)) (idents_in c.args.document.now) c.requires.may.new)
+    subst (λ (xs : List (List Tuple)). AreNew xs (idents_in (entries_of c.args.document.now.blocks))) (sym e)
+    (are_new (map (translate E.nodes c.args.epoch (greatest E.top E.nodes)) (run_idents first n)) (idents_in (entries_of c.args.document.now.blocks)) c.requires.may.new)

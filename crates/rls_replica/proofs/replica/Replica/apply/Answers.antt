@@ -11,6 +11,7 @@ use Rattle.rls_seen.proofs.Counting.{members_accepted}
 use Rattle.rls_replica.specs.View.{seen}
 use Rattle.rls_replica.proofs.Accepted.{accepted_is}
 use Rattle.rls_replica.proofs.Whole.{whole_next}
+use Rattle.rls_tree.specs.Trees.{entries_of}
 use Rattle.rls_replica.proofs.replica.Replica.apply.Goals as goal
 
 after : goal.returns-clause-ok
@@ -19,7 +20,7 @@ after c =
     let o = c.args.op in
     let p = c.in_ok-renaming.ensures in
     let f = c.finish.ensures in
-    accepted_is i o c.finish.new.acks c.finish.new.stems.stems c.finish.new.epochs.epochs c.prepare.new.document c.remove-held.new.self c.finish.new.log.ops
+    accepted_is i o c.finish.new.acks c.finish.new.stems.stems c.finish.new.epochs.epochs (entries_of c.prepare.new.document.blocks) c.remove-held.new.self c.finish.new.log.ops
     f.acks
     (f.stems ∙ ap (λ (ss : List Stem). stems_after ss o.author o.seq o.body) p.stems)
     (f.epochs ∙ ap (λ (E : Epochs). epochs_after E o) p.epochs)

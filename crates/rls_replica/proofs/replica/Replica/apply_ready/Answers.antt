@@ -13,6 +13,7 @@ use Rattle.rls_replica.specs.Changing.{renaming_in}
 use Rattle.rls_replica.specs.View.{seen}
 use Rattle.rls_replica.proofs.Accepted.{accepted_is, next_is, same_one}
 use Rattle.rls_replica.proofs.Whole.{whole_next}
+use Rattle.rls_tree.specs.Trees.{entries_of}
 use Rattle.rls_replica.proofs.replica.Replica.apply_ready.Goals as goal
 
 pub prepare-requires-clause-may : goal.prepare-requires-clause-may
@@ -78,7 +79,7 @@ after c =
     let e = same_one w c.in-Some-remove.op c.remove.result (c.remove.ensures.found ∙ h.under) c.in-Some-remove.is in
     let p = c.in_ok-renaming.ensures in
     let f = c.finish.ensures in
-    accepted_is i w c.finish.new.acks c.finish.new.stems.stems c.finish.new.epochs.epochs c.prepare.new.document c.remove.new.self c.finish.new.log.ops
+    accepted_is i w c.finish.new.acks c.finish.new.stems.stems c.finish.new.epochs.epochs (entries_of c.prepare.new.document.blocks) c.remove.new.self c.finish.new.log.ops
     (f.acks ∙ ap (λ (o : Op). acks_after i.acks o.author o.body) e)
     (f.stems ∙ (ap (λ (ss : List Stem). stems_after ss c.in-Some-remove.op.author c.in-Some-remove.op.seq c.in-Some-remove.op.body) p.stems ∙ ap (λ (o : Op). stems_after i.stems o.author o.seq o.body) e))
     (f.epochs ∙ (ap (λ (E : Epochs). epochs_after E c.in-Some-remove.op) p.epochs ∙ ap (epochs_after i.epochs) e))

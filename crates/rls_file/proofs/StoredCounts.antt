@@ -1,0 +1,160 @@
+-- What is counted where a message is taken or lines are run.
+use Rattle.std.proofs.Common.{◌≡◌, ℕ, zero, suc, ◌+◌, true, false, cond, Bool, List, [], ◌∷◌, length, Option, Some, None, Result, Ok, Err, refl, sym, ap, subst, arith, length-append}
+use Rattle.std.specs.Prelude.{if◌then◌else◌}
+use Rattle.rls_ident.specs.Lists.{IsIn}
+use Rattle.rls_ident.specs.Vectors.{at_most}
+use Rattle.rls_ident.proofs.Members.{found_in}
+use Rattle.rls_ops.specs.declared.op.Op.{Op}
+use Rattle.rls_model.specs.declared.edit.Edit.{Edit}
+use Rattle.rls_model.specs.Answers.{Reason, Answer, Applies, Repeats, Waits, Refuses}
+use Rattle.rls_model.specs.History.{Acknowledged, Then, count}
+use Rattle.rls_model.specs.Stability.{is_counted}
+use Rattle.rls_model.specs.Fitting.{refusal}
+use Rattle.rls_model.specs.Receiving.{State, comes_before, with_waiting, without, accept, after, after_refusal, receive, receive_after, first_ready, release}
+use Rattle.rls_model.specs.Editing.{made}
+use Rattle.rls_model.specs.Taking.{has_room, Progress, started, moved, with_answer, with_refusal, with_release, receive_step, release_step, release_steps, with_releases, acknowledge, acknowledge_step, take_ops, take_within}
+use Rattle.rls_model.specs.EditRun.{edit_step, Run, Done, Stopped, go_on, run_from, run_lines}
+use Rattle.rls_model.proofs.WorldsSteps.{released_by, release_is}
+use Rattle.rls_model.proofs.WorldsWaiting.{length-without, less_without, numbered_test}
+use Rattle.rls_file.specs.StoredLaws.{AreCounted, TakenCounted, LinesCounted, CountsFit}
+
+-- ---- steps
+
+length-with : (o : Op) (W : List Op) → length (with_waiting o W) ≡ suc (length W)
+length-with o [] = refl
+length-with o (w ∷ W) = go (comes_before w o) (length-with o W)
+  where
+    go : (b : Bool) → length (with_waiting o W) ≡ suc (length W) → length (cond b (w ∷ with_waiting o W) (o ∷ (w ∷ W))) ≡ suc (suc (length W))
+    go true h = ap suc h
+    go false h = refl
+
+answer_counted : (w n : ℕ) (p : Progress) (o : Op) (r : Answer) → AreCounted w n p → AreCounted w (n + 1) (with_answer (moved p (after r p.state o)) o r)
+answer_counted w n p o Applies h =
+    let l = length-without o.author o.seq (p.state).waiting in
+    let x = h.applied in let y = h.repeated in let z = h.held in let u = h.released in let v = h.refused in
+    record { applied = omega arith; repeated = omega arith; held = omega arith; released = omega arith; refused = omega arith }
+answer_counted w n p o Repeats h =
+    let x = h.applied in let y = h.repeated in let z = h.held in let u = h.released in let v = h.refused in
+    record { applied = omega arith; repeated = omega arith; held = omega arith; released = omega arith; refused = omega arith }
+answer_counted w n p o Waits h =
+    let l = length-without o.author o.seq (p.state).waiting in
+    let k = length-with o (without o.author o.seq (p.state).waiting) in
+    let x = h.applied in let y = h.repeated in let z = h.held in let u = h.released in let v = h.refused in
+    record { applied = omega arith; repeated = omega arith; held = omega arith; released = omega arith; refused = omega arith }
+answer_counted w n p o (Refuses r) h =
+    let k = length-append p.refused ((o.author, o.seq, r) ∷ []) in
+    let x = h.applied in let y = h.repeated in let z = h.held in let u = h.released in let v = h.refused in
+    record { applied = omega arith; repeated = omega arith; held = omega arith; released = omega arith; refused = omega arith }
+
+more_counted : (w n : ℕ) (p : Progress) → AreCounted w n p → AreCounted w (n + 1) p
+more_counted w n p h =
+    let x = h.applied in let y = h.repeated in let z = h.held in let u = h.released in let v = h.refused in
+    record { applied = omega arith; repeated = omega arith; held = omega arith; released = omega arith; refused = omega arith }
+
+-- one more has arrived
+pub received_counted : (w n : ℕ) (p : Progress) (o : Op) → AreCounted w n p → AreCounted w (n + 1) (receive_step p o)
+received_counted w n p o h = go (has_room p.limit)
+  where
+    go : (b : Bool) → AreCounted w (n + 1) (if b then with_answer (moved p (receive_after p.state o)) o (receive p.state o) else p)
+    go true = answer_counted w n p o (receive p.state o) h
+    go false = more_counted w n p h
+
+refusal_counted : (w n : ℕ) (p : Progress) (x : Op) (r : Option Reason) → IsIn x (p.state).waiting → AreCounted w n p → AreCounted w n (with_refusal (moved p (after_refusal r p.state x)) x.author x.seq r)
+refusal_counted w n p x None q h =
+    let l = less_without x.author x.seq x (p.state).waiting q (numbered_test x.author x.seq x refl refl) in
+    let a = h.applied in let y = h.repeated in let z = h.held in let u = h.released in let v = h.refused in
+    record { applied = omega arith; repeated = omega arith; held = omega arith; released = omega arith; refused = omega arith }
+refusal_counted w n p x (Some r) q h =
+    let l = less_without x.author x.seq x (p.state).waiting q (numbered_test x.author x.seq x refl refl) in
+    let k = length-append p.refused ((x.author, x.seq, r) ∷ []) in
+    let a = h.applied in let y = h.repeated in let z = h.held in let u = h.released in let v = h.refused in
+    record { applied = omega arith; repeated = omega arith; held = omega arith; released = omega arith; refused = omega arith }
+
+-- each release takes one out of what waits
+pub released_counted : (w n : ℕ) (p : Progress) → AreCounted w n p → AreCounted w n (release_step p)
+released_counted w n p h = go (has_room p.limit)
+  where
+    step : (m : Option Op) → first_ready p.state ≡ m → AreCounted w n (released_by p m)
+    step None e = h
+    step (Some x) e =
+        let q = found_in (λ y. at_most y.context (count (p.state).history)) x (p.state).waiting e in
+        refusal_counted w n p x (refusal (p.state).history x) q.0 h
+
+    go : (b : Bool) → AreCounted w n (if b then with_release p (release p.state) else p)
+    go true = subst (AreCounted w n) (sym (release_is p (first_ready p.state) refl)) (step (first_ready p.state) refl)
+    go false = h
+
+pub releases_counted : (w n k : ℕ) (p : Progress) → AreCounted w n p → AreCounted w n (release_steps k p)
+releases_counted w n zero p h = h
+releases_counted w n (suc k) p h = releases_counted w n k (release_step p) (released_counted w n p h)
+
+pub noted_counted : (w n : ℕ) (p : Progress) (a : ℕ) (v : List ℕ) → AreCounted w n p → AreCounted w n (acknowledge_step p a v)
+noted_counted w n p a v h = go (has_room p.limit)
+  where
+    noted : (b : Bool) → AreCounted w n (moved p (if b then record { history = Then (p.state).history (Acknowledged a v); waiting = (p.state).waiting } else p.state))
+    noted true = record { applied = h.applied; repeated = h.repeated; held = h.held; released = h.released; refused = h.refused }
+    noted false = record { applied = h.applied; repeated = h.repeated; held = h.held; released = h.released; refused = h.refused }
+
+    go : (b : Bool) → AreCounted w n (if b then moved p (acknowledge p.state a v) else p)
+    go true = noted (is_counted (p.state).history a v)
+    go false = h
+
+pub edited_counted : (w n : ℕ) (p : Progress) (edit : Edit) → AreCounted w n p → AreCounted w n (edit_step p edit)
+edited_counted w n p edit h = go (has_room p.limit)
+  where
+    own : Op
+    own = made (p.state).history edit
+
+    go : (b : Bool) → AreCounted w n (if b then moved p (accept p.state own) else p)
+    go true =
+        let l = length-without (own).author (own).seq (p.state).waiting in
+        let x = h.applied in let y = h.repeated in let z = h.held in let u = h.released in let v = h.refused in
+        record { applied = x; repeated = y; held = z; released = omega arith; refused = omega arith }
+    go false = h
+
+pub started_counted : (t : State) → AreCounted (length t.waiting) 0 (started None t)
+started_counted t = record { applied = omega arith; repeated = omega arith; held = omega arith; released = omega arith; refused = omega arith }
+
+-- ---- whole courses
+
+ops_counted : (w n : ℕ) (p : Progress) (os : List Op) → AreCounted w n p → AreCounted w (n + length os) (take_ops p os)
+ops_counted w n p [] h = let e : n ≡ n + 0 = omega arith in subst (λ k. AreCounted w k p) e h
+ops_counted w n p (o ∷ os) h =
+    let q = receive_step p o in
+    let e : n + 1 + length os ≡ n + length (o ∷ os) = omega arith in
+    subst (λ k. AreCounted w k (take_ops (with_releases q) os)) e (ops_counted w (n + 1) (with_releases q) os (releases_counted w (n + 1) (length (q.state).waiting) q (received_counted w n p o h)))
+
+pub taken_counted : TakenCounted
+unfolding take_within
+taken_counted t m =
+    let e : 0 + length m.ops ≡ length m.ops = omega arith in
+    let p = take_ops (started None t) m.ops in
+    noted_counted (length t.waiting) (length m.ops) p m.from m.vector (subst (λ k. AreCounted (length t.waiting) k p) e (ops_counted (length t.waiting) 0 (started None t) m.ops (started_counted t)))
+
+-- where all lines were run, else p
+abbrev pub end_or : {F : Type 0} → Progress → Run F → Progress
+end_or p (Done q) = q
+end_or p (Stopped line fault) = p
+
+run_counted : {L F : Type 0} (reads : State → L → Result Edit F) (w : ℕ) (line : ℕ) (p q : Progress) (ls : List L) → AreCounted w 0 p → run_from reads line p ls ≡ Done q → AreCounted w 0 q
+run_counted reads w line p q [] h e = subst (AreCounted w 0) (ap (end_or p) e) h
+run_counted {F = F} reads w line p q (l ∷ ls) h e =
+    go (reads p.state l) e (λ edit k.
+    let r = edit_step p edit in run_counted reads w (suc line) (with_releases r) q ls (releases_counted w 0 (length (r.state).waiting) r (edited_counted w 0 p edit h)) k)
+  where
+    go : (f : Result Edit F) → go_on line f (λ edit. run_from reads (suc line) (with_releases (edit_step p edit)) ls) ≡ Done q →
+        ((edit : Edit) → run_from reads (suc line) (with_releases (edit_step p edit)) ls ≡ Done q → AreCounted w 0 q) → AreCounted w 0 q
+    go (Ok edit) k ih = ih edit k
+    go (Err x) k ih = absurd (cc)
+
+pub lines_counted : (L F : Type 0) → LinesCounted L F
+unfolding run_lines
+lines_counted L F reads t lines p e = run_counted reads (length t.waiting) 1 (started None t) p lines (started_counted t) e
+
+pub counts_fit : CountsFit
+counts_fit t bytes m j f =
+    let h = taken_counted t m in
+    let few = j.waiting.0 in
+    let some = f.2.count in
+    let x = h.applied in let y = h.repeated in let z = h.held in let u = h.released in let v = h.refused in
+    record { applied = omega arith; repeated = omega arith; held = omega arith; released = omega arith; refused = omega arith }

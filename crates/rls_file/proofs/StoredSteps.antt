@@ -1,0 +1,168 @@
+-- Each step of taking a message and of an edit leaves a state that may be stored, but for what is ready.
+use Rattle.std.proofs.Common.{◌≡◌, ℕ, zero, suc, ◌<◌, true, false, Bool, List, Option, Some, None, refl, sym, subst, arith, ⊎_elim}
+use Rattle.std.specs.Prelude.{if◌then◌else◌}
+use Rattle.rls_ident.specs.Lists.{IsIn}
+use Rattle.rls_ident.specs.Vectors.{at_most}
+use Rattle.rls_ident.proofs.Members.{found_in}
+use Rattle.rls_ops.specs.declared.op.Op.{Op}
+use Rattle.rls_codec.specs.Spelled.{FitsVector, IsSpelled}
+use Rattle.rls_model.specs.declared.edit.Edit.{Edit}
+use Rattle.rls_model.specs.Answers.{Reason, Answer, Applies, Repeats, Waits, Refuses}
+use Rattle.rls_model.specs.History.{Acknowledged, Then, count, me_of, members_of}
+use Rattle.rls_model.specs.Stability.{is_counted}
+use Rattle.rls_model.specs.Fitting.{refusal}
+use Rattle.rls_model.specs.Receiving.{State, without, accept, after, after_refusal, receive, receive_after, first_ready, release}
+use Rattle.rls_model.specs.WellFormed.{IsEdit}
+use Rattle.rls_model.specs.Legal.{MayAccept, IsLegal, IsSound}
+use Rattle.rls_model.specs.Editing.{made, edit_fault}
+use Rattle.rls_model.specs.Taking.{has_room, Progress, moved, with_answer, with_refusal, with_release, receive_step, release_step, release_steps, acknowledge, acknowledge_step}
+use Rattle.rls_model.specs.EditRun.{edit_step}
+use Rattle.rls_model.proofs.Made as making
+use Rattle.rls_model.proofs.WorldsRests.{IsAtRest}
+use Rattle.rls_model.proofs.WorldsSteps.{released_by, release_is}
+use Rattle.rls_model.proofs.WorldsWaiting.{in_without, in_with, waiting_at, sound_without, sound_grown, sound_accepted, sound_put}
+use Rattle.rls_file.specs.FileLaws.{AreSpelled}
+use Rattle.rls_file.specs.StoredLaws.{IsStorable}
+use Rattle.rls_file.proofs.StoredLegal.{IsHeld, answer_applies, answer_waits, fits_vector, may_accept, spelled_op}
+use Rattle.rls_file.proofs.StoredMade.{made_spelled}
+
+-- what may be stored, but for what is ready, among so many members
+pub record IsStoring (n : ℕ) (t : State) : Type 0 where
+  pub members : members_of t.history ≡ n
+  pub legal : IsLegal t.history
+  pub sound : IsSound t
+  pub accepted : AreSpelled t.history
+  pub waiting : (w : Op) → IsIn w t.waiting → IsSpelled n w
+  pub others : (w : Op) → IsIn w t.waiting → w.author ≡ me_of t.history → ⊥
+
+pub storing : (t : State) → IsStorable t → IsStoring (members_of t.history) t
+storing t s = record { members = refl; legal = s.legal; sound = s.sound; accepted = s.accepted; waiting = s.waiting; others = s.others }
+
+pub stored : (n : ℕ) (t : State) → IsStoring n t → IsAtRest t → IsStorable t
+stored n t s r = record { legal = s.legal; sound = s.sound; accepted = s.accepted; waiting = λ w p. subst (λ k. IsSpelled k w) (sym s.members) (s.waiting w p); others = s.others; rest = r }
+
+-- ---- states
+
+accept_storing : (n : ℕ) (t : State) (o : Op) → IsStoring n t → IsSpelled n o → MayAccept t.history o → IsStoring n (accept t o)
+accept_storing n t o s f m = record {
+  members = s.members;
+  legal = (s.legal, spelled_op n o f, m);
+  sound = sound_accepted t.history o t.waiting m s.sound;
+  accepted = (s.accepted, subst (λ k. IsSpelled k o) (sym s.members) f);
+  waiting = λ w p. s.waiting w (in_without o.author o.seq w t.waiting p).0;
+  others = λ w p. s.others w (in_without o.author o.seq w t.waiting p).0;
+}
+
+hold_storing : (n : ℕ) (t : State) (o : Op) → IsStoring n t → IsSpelled n o → IsHeld t.history o → IsStoring n (after Waits t o)
+hold_storing n t o s f h = record {
+  members = s.members;
+  legal = s.legal;
+  sound = sound_put t.history o t.waiting (spelled_op n o f) h.shape h.above s.sound;
+  accepted = s.accepted;
+  waiting = λ w p. ⊎_elim (λ e. subst (IsSpelled n) e f) (λ q. s.waiting w (in_without o.author o.seq w t.waiting q).0) (in_with o w (without o.author o.seq t.waiting) p);
+  others = λ w p. ⊎_elim (λ e. subst (λ (x : Op). x.author ≡ me_of t.history → ⊥) e h.other) (λ q. s.others w (in_without o.author o.seq w t.waiting q).0) (in_with o w (without o.author o.seq t.waiting) p);
+}
+
+forget_storing : (n : ℕ) (t : State) (a q : ℕ) → IsStoring n t → IsStoring n (record { history = t.history; waiting = without a q t.waiting })
+forget_storing n t a q s = record {
+  members = s.members;
+  legal = s.legal;
+  sound = sound_without t.history a q t.waiting s.sound;
+  accepted = s.accepted;
+  waiting = λ w p. s.waiting w (in_without a q w t.waiting p).0;
+  others = λ w p. s.others w (in_without a q w t.waiting p).0;
+}
+
+note_storing : (n : ℕ) (t : State) (a : ℕ) (v : List ℕ) → IsStoring n t → a < n → FitsVector n v → is_counted t.history a v ≡ true → IsStoring n (record { history = Then t.history (Acknowledged a v); waiting = t.waiting })
+note_storing n t a v s l f c =
+    let e = s.members in
+    let b : a < members_of t.history = omega arith in
+    record {
+      members = s.members;
+      legal = (s.legal, (b, fits_vector (members_of t.history) v (subst (λ k. FitsVector k v) (sym s.members) f)), c);
+      sound = sound_grown t.history (Then t.history (Acknowledged a v)) t.waiting refl (λ w p. (waiting_at t.history t.waiting w s.sound p).2) s.sound;
+      accepted = s.accepted;
+      waiting = s.waiting;
+      others = s.others;
+    }
+
+pub receive_storing : (n : ℕ) (t : State) (o : Op) → IsStoring n t → IsSpelled n o → IsStoring n (receive_after t o)
+receive_storing n t o s f = go (receive t o) refl
+  where
+    go : (r : Answer) → receive t o ≡ r → IsStoring n (after r t o)
+    go Applies e = accept_storing n t o s f (answer_applies false t.history t.waiting o e)
+    go Repeats e = s
+    go Waits e = hold_storing n t o s f (answer_waits t.history t.waiting o e)
+    go (Refuses r) e = s
+
+pub acknowledge_storing : (n : ℕ) (t : State) (a : ℕ) (v : List ℕ) → IsStoring n t → a < n → FitsVector n v → IsStoring n (acknowledge t a v)
+acknowledge_storing n t a v s l f = go (is_counted t.history a v) refl
+  where
+    go : (b : Bool) → is_counted t.history a v ≡ b → IsStoring n (if b then record { history = Then t.history (Acknowledged a v); waiting = t.waiting } else t)
+    go true e = note_storing n t a v s l f e
+    go false e = s
+
+-- an operation that waits and has its causes is accepted, or refused and forgotten
+refused_storing : (n : ℕ) (t : State) (w : Op) → IsStoring n t → IsIn w t.waiting → at_most w.context (count t.history) ≡ true → IsStoring n (after_refusal (refusal t.history w) t w)
+refused_storing n t w s p c = go (refusal t.history w) refl
+  where
+    go : (r : Option Reason) → refusal t.history w ≡ r → IsStoring n (after_refusal r t w)
+    go None e =
+        let h = waiting_at t.history t.waiting w s.sound p in
+        accept_storing n t w s (s.waiting w p) (may_accept t.history w h.1 h.2 c e)
+    go (Some r) e = forget_storing n t w.author w.seq s
+
+pub made_storing : (n : ℕ) (t : State) (edit : Edit) → IsStoring n t → IsEdit edit → edit_fault t.history edit ≡ None → IsStoring n (accept t (made t.history edit))
+made_storing n t edit s i f =
+    let l = making.law t.history edit s.legal i f in
+    accept_storing n t (made t.history edit) s (subst (λ k. IsSpelled k (made t.history edit)) s.members (made_spelled t.history edit s.legal s.accepted i f)) l.2
+
+-- ---- progress
+
+answer_state : (p : Progress) (o : Op) (r : Answer) → (with_answer p o r).state ≡ p.state
+answer_state p o Applies = refl
+answer_state p o Repeats = refl
+answer_state p o Waits = refl
+answer_state p o (Refuses r) = refl
+
+refusal_state : (p : Progress) (a q : ℕ) (r : Option Reason) → (with_refusal p a q r).state ≡ p.state
+refusal_state p a q None = refl
+refusal_state p a q (Some r) = refl
+
+pub received_storing : (n : ℕ) (p : Progress) (o : Op) → IsStoring n p.state → IsSpelled n o → IsStoring n (receive_step p o).state
+received_storing n p o s f = go (has_room p.limit)
+  where
+    go : (b : Bool) → IsStoring n (if b then with_answer (moved p (receive_after p.state o)) o (receive p.state o) else p).state
+    go true = subst (IsStoring n) (sym (answer_state (moved p (receive_after p.state o)) o (receive p.state o))) (receive_storing n p.state o s f)
+    go false = s
+
+pub released_storing : (n : ℕ) (p : Progress) → IsStoring n p.state → IsStoring n (release_step p).state
+released_storing n p s = go (has_room p.limit)
+  where
+    step : (m : Option Op) → first_ready p.state ≡ m → IsStoring n (released_by p m).state
+    step None e = s
+    step (Some w) e =
+        let q = found_in (λ x. at_most x.context (count (p.state).history)) w (p.state).waiting e in
+        subst (IsStoring n) (sym (refusal_state (moved p (after_refusal (refusal (p.state).history w) p.state w)) w.author w.seq (refusal (p.state).history w))) (refused_storing n p.state w s q.0 q.1)
+
+    go : (b : Bool) → IsStoring n (if b then with_release p (release p.state) else p).state
+    go true = subst (λ (q : Progress). IsStoring n q.state) (sym (release_is p (first_ready p.state) refl)) (step (first_ready p.state) refl)
+    go false = s
+
+pub releases_storing : (n k : ℕ) (p : Progress) → IsStoring n p.state → IsStoring n (release_steps k p).state
+releases_storing n zero p s = s
+releases_storing n (suc k) p s = releases_storing n k (release_step p) (released_storing n p s)
+
+pub noted_storing : (n : ℕ) (p : Progress) (a : ℕ) (v : List ℕ) → IsStoring n p.state → a < n → FitsVector n v → IsStoring n (acknowledge_step p a v).state
+noted_storing n p a v s l f = go (has_room p.limit)
+  where
+    go : (b : Bool) → IsStoring n (if b then moved p (acknowledge p.state a v) else p).state
+    go true = acknowledge_storing n p.state a v s l f
+    go false = s
+
+pub edited_storing : (n : ℕ) (p : Progress) (edit : Edit) → IsStoring n p.state → IsEdit edit → edit_fault (p.state).history edit ≡ None → IsStoring n (edit_step p edit).state
+edited_storing n p edit s i f = go (has_room p.limit)
+  where
+    go : (b : Bool) → IsStoring n (if b then moved p (accept p.state (made (p.state).history edit)) else p).state
+    go true = made_storing n p.state edit s i f
+    go false = s

@@ -1,0 +1,65 @@
+-- Reading a journal entry by entry, where what was read so far stands in a replica.
+use Rattle.std.specs.Prelude.{◌≡◌, ◌-◌, ◌∷◌, ◌++◌, ℕ, true, false, Bool, List, [], length, slice_get, nat_lt, Option, Ok}
+use Rattle.std.specs.Int.{w32, w64}
+use Rattle.rls_ops.specs.declared.op.Op.{Op}
+use Rattle.rls_codec.specs.Reading.{Read, ◌>>=◌, with_rule, number_at, counted_at, vector_at, op_at, is_member_count}
+use Rattle.rls_model.specs.Answers.{Answer, Waits}
+use Rattle.rls_model.specs.History.{Entry, Acknowledged, History, Then, me_of, members_of}
+use Rattle.rls_model.specs.History.{count as count_in}
+use Rattle.rls_model.specs.Receiving.{State}
+use Rattle.rls_file.specs.Files.{Content}
+use Rattle.rls_file.specs.ReadingFiles.{content_at, steps_at, entry_at, may_wait}
+use Rattle.rls_file.specs.Journals.{JournalSeen, Tells, told}
+
+-- the journal tells a history beside which nothing waits
+pub record TellsAlone (j : JournalSeen) : Type 0 where
+  pub tells : Tells j (told j)
+  pub alone : j.seen.waiting ≡ []
+
+-- a member and its vector
+abbrev pub acknowledgement_at : ℕ → List ℕ → Read Entry
+acknowledgement_at members bytes = do
+  from ← with_rule (λ n. nat_lt n members) (number_at w32) bytes
+  counts ← vector_at members from.1
+  Ok (Acknowledged from.0 counts.0, counts.1)
+
+-- the answer lets an operation wait
+abbrev pub waits : Answer → Bool
+waits Waits = true
+waits _ = false
+
+-- the history and the entry that was read behind it
+abbrev pub grown : History → Read Entry → Read History
+grown H read = read >>= λ e. Ok (Then H e.0, e.1)
+
+-- the history and one entry more
+unfoldable pub next_at : History → List ℕ → Read History
+next_at H bytes = grown H (entry_at H bytes)
+
+-- the last of these operations, if there is one
+abbrev pub last_of : List Op → Option Op
+last_of W = slice_get W (length W - 1)
+
+-- an operation that may wait behind the last one
+abbrev pub waiting_at : History → Option Op → List ℕ → Read Op
+waiting_at H before bytes = with_rule (may_wait (members_of H) (me_of H) (count_in H) before) (op_at (members_of H)) bytes
+
+-- the waiting operations and one more
+abbrev pub more_waiting_at : State → List ℕ → Read (List Op)
+more_waiting_at t bytes = waiting_at t.history (last_of t.waiting) bytes >>= λ o. Ok (t.waiting ++ o.0 ∷ [], o.1)
+
+-- behind a history a number of entries, and these, and then a number of waiting operations, and these
+unfoldable pub filled_at : History → List ℕ → Read State
+filled_at H bytes = do
+  count ← number_at w32 bytes
+  history ← steps_at entry_at Then H count.0 count.1
+  waiting ← counted_at (waiting_at history.0) history.1
+  Ok (record { history = history.0; waiting = waiting.0 }, waiting.1)
+
+-- what follows the form of a journal
+unfoldable pub behind_form_at : List ℕ → Read Content
+behind_form_at bytes = do
+  group ← number_at w64 bytes
+  members ← with_rule is_member_count (number_at w32) group.1
+  me ← with_rule (λ n. nat_lt n members.0) (number_at w32) members.1
+  content_at 1 group.0 members.0 me.0 true me.1

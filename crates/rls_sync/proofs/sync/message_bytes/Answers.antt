@@ -1,0 +1,12 @@
+use Rattle.std.proofs.Common.{◌≤◌, sym, subst, arith}
+use Rattle.rls_ops.specs.declared.message.Message.{Message}
+use Rattle.rls_ops.specs.Sizes.{message_size}
+use Rattle.rls_seen.specs.Seen.{members}
+use Rattle.rls_sync.proofs.Fronts.{message_fits}
+use Rattle.rls_sync.proofs.sync.message_bytes.Goals as goal
+
+pub encode_message-requires : goal.encode_message-requires
+encode_message-requires c =
+    let s = c.args.replica.now in
+    let few : members s ≤ 64 = omega (arith, c.members-members.ensures.members, c.members-members.ensures.few) in
+    record { limit = subst (λ (m : Message). message_size m ≤ 67108864) (sym c.in-Ok.ensures.message) (message_fits s _ few) }

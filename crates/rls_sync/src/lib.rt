@@ -1,0 +1,6 @@
+//! Messages by bytes.
+#![tactic(auto)]
+
+mod sync;
+
+pub use sync::{TakeBytesError, message_bytes, take_bytes};

@@ -1,0 +1,87 @@
+//! What members send each other.
+
+ghost use Rattle.std.specs.Prelude.{◌≡◌, ◌≤◌, ◌↔◌, ◌⊎◌, ℕ, Ok, Err, IfOk, IsErrOf};
+ghost use Rattle.rls_ops.specs.declared.message.Message.{Message};
+ghost use Rattle.rls_ops.specs.Spelling.{message_bytes};
+ghost use Rattle.rls_codec.specs.Reading.{message_of};
+ghost use Rattle.rls_model.specs.Receiving.{State};
+ghost use Rattle.rls_model.specs.Taking.{message_for, take_message};
+ghost use Rattle.rls_model.specs.Taking as model;
+ghost use Rattle.rls_seen.specs.Messages.{message_over, taken_over, taken_of, IsPartTaken};
+ghost use Rattle.rls_seen.specs.Seen.{members};
+ghost use Rattle.rls_seen.specs.Stands.{StandsFor};
+ghost use Rattle.rls_replica.specs.Faults.{IsForeign};
+
+use rls_codec::{DecodeError, decode_message, encode_message};
+use rls_replica::{Replica, SendError, TakeError, Taken};
+use std::alloc::Global;
+
+/// Why bytes aren't taken as a message, or not to its end.
+#[derive(Clone, Copy, Debug, PartialEq, Eq)]
+pub enum TakeBytesError {
+    /// They are no message; the place of the first field that is cut off or breaks its rule. Nothing was taken.
+    Malformed { at: u64 },
+    /// The message comes from another group, or one with another count of members; its numbers. Nothing was taken.
+    OtherGroup { group: u64, members: u32 },
+    /// Some of the steps were made.
+    OutOfMemory,
+}
+
+/// The bytes of the message for a member, in the newest form.
+///
+/// # Errors
+///
+/// `NotMember` exactly where the number isn't below the count of members.
+pub fn message_bytes(alloc: Global, replica: &Replica, to: u32) -> Result<Vec<u8>, SendError>
+    ensures bytes { IfOk result (λ bytes. bytes.items ≡ message_bytes (message_over replica.now to)) }
+    ensures not_member { IsErrOf result SendError.NotMember ↔ (members replica.now ≤ to) }
+
+    // For every history and waiting operations that the replica stands for.
+    ensures stands { IfOk result (λ bytes. (t : State) → StandsFor replica.now t → bytes.items ≡ message_bytes (message_for t.history to)) }
+{
+    let _members = replica.members();
+    match replica.message_for(to) {
+        Ok(message) => match encode_message(alloc, &message) {
+            Ok(bytes) => Ok(bytes),
+            Err(_) => Err(SendError::OutOfMemory),
+        },
+        Err(error) => Err(error),
+    }
+}
+
+/// Takes the message that the bytes are: receives each of its operations in turn, releases after each what is ready, and at last
+/// notes how much its sender has accepted.
+///
+/// # Errors
+///
+/// `Malformed` exactly where the bytes are no message, and `OtherGroup` exactly where they are one of another group or of one with
+/// another count of members; then nothing changes. After `OutOfMemory` some of the steps were made.
+pub fn take_bytes(
+    alloc: Global,
+    replica: &mut Replica,
+    bytes: &[u8],
+) -> Result<Taken, TakeBytesError>
+    ensures taken { IfOk result (λ taken. (m : Message) × (message_of bytes.now ≡ Ok m) × (IsForeign replica.old m → ⊥)
+        × (taken ≡ taken_of (taken_over replica.old m)) × (replica.new ≡ (taken_over replica.old m).seen)) }
+    ensures malformed { (at : ℕ) → IsErrOf result (TakeBytesError.Malformed at) → (message_of bytes.now ≡ Err at) × (replica.new ≡ replica.old) }
+    ensures other_group { (g n : ℕ) → IsErrOf result (TakeBytesError.OtherGroup g n)
+        → (m : Message) × (message_of bytes.now ≡ Ok m) × IsForeign replica.old m × (g ≡ m.group) × (n ≡ m.members) × (replica.new ≡ replica.old) }
+    ensures cut { IsErrOf result TakeBytesError.OutOfMemory
+        → (replica.new ≡ replica.old) ⊎ ((m : Message) × (message_of bytes.now ≡ Ok m) × IsPartTaken replica.old m replica.new) }
+
+    // For every history and waiting operations that the replica stands for.
+    ensures stands { IfOk result (λ taken. (t : State) → StandsFor replica.old t → (m : Message) × (message_of bytes.now ≡ Ok m)
+        × (taken ≡ model.taken (take_message t m)) × StandsFor replica.new (take_message t m).state) }
+{
+    match decode_message(alloc, bytes) {
+        Ok(message) => match replica.take(message) {
+            Ok(taken) => Ok(taken),
+            Err(TakeError::OtherGroup { group, members }) => {
+                Err(TakeBytesError::OtherGroup { group, members })
+            }
+            Err(TakeError::OutOfMemory) => Err(TakeBytesError::OutOfMemory),
+        },
+        Err(DecodeError::Malformed { at }) => Err(TakeBytesError::Malformed { at }),
+        Err(DecodeError::OutOfMemory) => Err(TakeBytesError::OutOfMemory),
+    }
+}

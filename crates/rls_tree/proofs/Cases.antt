@@ -1,0 +1,322 @@
+-- The blocks that each kind of change leaves.
+use Rattle.std.proofs.Common.{◌≡◌, ℕ, zero, suc, ◌+◌, ◌-◌, ◌<◌, ◌≤◌, ◌^◌, true, false, List, [], ◌∷◌, ◌++◌, length, Option, Some, None, refl, sym, ap, ◌∙◌, subst, ◌⊎◌, ⊎_elim, arith, length-append, append_assoc}
+use Rattle.std.specs.Prelude.{pos, ◌&&◌, not, nat_lt}
+use Rattle.std.proofs.lemmas.Int.{ints}
+use Rattle.std.proofs.lemmas.List.{append-nil}
+use Rattle.std.proofs.lemmas.Slice.Zip.{length-zip}
+use Rattle.rls_ident.specs.declared.tuple.Tuple.{Tuple}
+use Rattle.rls_ident.specs.Identifiers.{IsIdent, shifted, follows, ident_lt}
+use Rattle.rls_ident.proofs.Lists.{Lt, lt_irrefl, lt_trans}
+use Rattle.rls_ident.proofs.Members.{and_left, and_right, and_true, not_true}
+use Rattle.rls_ident.proofs.Shifted.{shifted_none, shifted_shifted, shifted_less}
+use Rattle.rls_ident.proofs.Tuples.{tuples}
+use Rattle.rls_runs.specs.Runs.{run_idents, run_last, is_run, is_apart, are_apart, run_before}
+use Rattle.rls_runs.proofs.Finding.{run_length}
+use Rattle.rls_runs.proofs.RunOrder.{lt_of, less_shifted, run_ident}
+use Rattle.rls_tree.specs.Trees.{Piece, IsPiece, Seen, piece_entries, entries_of, runs_in}
+use Rattle.rls_tree.specs.Edits.{part_of, joined, goes_on, leads_to, are_loose, Shows}
+use Rattle.rls_tree.proofs.Pieces.{entries_append, chars_append, three_chars, alone}
+use Rattle.rls_tree.proofs.Loose.{last_run, last_append, runs_append, before_append, replaced, were_loose, followed_loosely, loose_first, leads_not, loose_of}
+use Rattle.rls_tree.proofs.Changes.{entries_joined, follows_is, back}
+
+-- ---- entries
+
+pub alone_entries : (b : Piece) → entries_of (b ∷ []) ≡ piece_entries b
+alone_entries b = append-nil (piece_entries b)
+
+pub three_entries : (f m g : List Piece) → entries_of (f ++ m ++ g) ≡ entries_of f ++ entries_of m ++ entries_of g
+three_entries f m g = entries_append (f ++ m) g ∙ ap (λ es. es ++ entries_of g) (entries_append f m)
+
+pub middle_entries : (f g : List Piece) (b : Piece) → entries_of (f ++ (b ∷ []) ++ g) ≡ entries_of f ++ piece_entries b ++ entries_of g
+middle_entries f g b = three_entries f (b ∷ []) g ∙ ap (λ es. entries_of f ++ es ++ entries_of g) (alone_entries b)
+
+-- ---- ends of runs
+
+pub part_last : (x : List Tuple) (k m : ℕ) → 0 < m → run_last (shifted (pos k) x, m) ≡ shifted (pos (k + (m - 1))) x
+part_last x k m h = shifted_shifted (pos (m - 1)) (pos k) x ∙ ap (λ j. shifted j x) (omega (arith, ints))
+
+pub next_last : (x : List Tuple) (n : ℕ) → 0 < n → shifted (pos 1) (run_last (x, n)) ≡ shifted (pos n) x
+next_last x n h = shifted_shifted (pos 1) (pos (n - 1)) x ∙ ap (λ j. shifted j x) (let e : (n - 1) + 1 ≡ n = omega arith in omega (arith, ints))
+
+-- the second goes on with the first
+pub touch : (r s : List Tuple × ℕ) → 0 < r.1 → follows s.0 (run_last r) ≡ true → s.0 ≡ shifted (pos r.1) r.0
+touch r s h t = follows_is (run_last r) s.0 t ∙ next_last r.0 r.1 h
+
+pub joined_last : (r s : List Tuple × ℕ) → 0 < r.1 → 0 < s.1 → follows s.0 (run_last r) ≡ true → run_last (r.0, r.1 + s.1) ≡ run_last s
+joined_last r s h k t =
+    ap (λ j. shifted (pos j) r.0) (omega arith) ∙ sym (part_last r.0 r.1 s.1 k) ∙ ap (λ x. run_last (x, s.1)) (sym (touch r s h t))
+
+pub leads_alike : (a b : List Tuple × ℕ) (rs : List (List Tuple × ℕ)) → run_last a ≡ run_last b → leads_to (Some a) rs ≡ leads_to (Some b) rs
+leads_alike a b [] e = refl
+leads_alike a b (r ∷ rs) e = ap (follows r.0) e
+
+pub last_more : (f m : List Piece) → last_run (f ++ m) ≡ run_before (last_run f) (runs_in m)
+last_more f m = ap (run_before None) (runs_append f m) ∙ before_append None (runs_in f) (runs_in m)
+
+-- one block in the place of some
+one_replaced : (f old g : List Piece) (n : Piece) → are_loose None (runs_in (f ++ old ++ g)) ≡ true → goes_on (last_run f) n.0.0 ≡ false → leads_to (Some n.0) (runs_in g) ≡ false → are_loose None (runs_in (f ++ (n ∷ []) ++ g)) ≡ true
+one_replaced f old g n h a b = replaced f old (n ∷ []) g h (and_true (not (goes_on (last_run f) n.0.0)) true (ap not a) refl) (ap (λ r. leads_to r (runs_in g)) (last_append f n) ∙ b)
+
+-- what was so of one block
+own_loose : (f g : List Piece) (b : Piece) → are_loose None (runs_in (f ++ (b ∷ []) ++ g)) ≡ true → (goes_on (last_run f) b.0.0 ≡ false) × (leads_to (Some b.0) (runs_in g) ≡ false)
+own_loose f g b h =
+    ((loose_first (last_run f) b.0 [] (were_loose f (b ∷ []) g h)).0, ap (λ r. leads_to r (runs_in g)) (sym (last_append f b)) ∙ leads_not (last_run (f ++ b ∷ [])) (runs_in g) (followed_loosely f (b ∷ []) g h))
+
+-- ---- a run put in
+
+pub new_shows : (f g : List Piece) (n : Piece) → are_loose None (runs_in (f ++ g)) ≡ true → goes_on (last_run f) n.0.0 ≡ false → leads_to (Some n.0) (runs_in g) ≡ false → Shows (entries_of f ++ piece_entries n ++ entries_of g) (f ++ (n ∷ []) ++ g)
+new_shows f g n h a b =
+    record { entries_are = middle_entries f g n; loose = one_replaced f [] g n (ap (λ xs. are_loose None (runs_in (xs ++ g))) (append-nil f) ∙ h) a b }
+
+pub grown_last : (rest g : List Piece) (p n : Piece) → are_loose None (runs_in (rest ++ (p ∷ []) ++ g)) ≡ true → length p.1 ≡ p.0.1 → 0 < p.0.1 → 0 < n.0.1 → follows n.0.0 (run_last p.0) ≡ true → leads_to (Some n.0) (runs_in g) ≡ false
+    → Shows (entries_of (rest ++ p ∷ []) ++ piece_entries n ++ entries_of g) (rest ++ (joined p n ∷ []) ++ g)
+grown_last rest g p n h m k l t b =
+    record {
+      entries_are =
+          middle_entries rest g (joined p n)
+          ∙ ap (λ es. entries_of rest ++ es ++ entries_of g) (entries_joined p n m (touch p.0 n.0 k t))
+          ∙ ap (λ es. es ++ entries_of g) (sym (append_assoc (entries_of rest) (piece_entries p) (piece_entries n)))
+          ∙ ap (λ es. (es ++ piece_entries n) ++ entries_of g) (sym (entries_append rest (p ∷ []) ∙ ap (λ es. entries_of rest ++ es) (alone_entries p)));
+      loose = one_replaced rest (p ∷ []) g (joined p n) h (own_loose rest g p h).0 (leads_alike (p.0.0, p.0.1 + n.0.1) n.0 (runs_in g) (joined_last p.0 n.0 k l t) ∙ b);
+    }
+
+pub grown_first : (f rest : List Piece) (s n : Piece) → are_loose None (runs_in (f ++ (s ∷ []) ++ rest)) ≡ true → length n.1 ≡ n.0.1 → 0 < n.0.1 → 0 < s.0.1 → goes_on (last_run f) n.0.0 ≡ false → follows s.0.0 (run_last n.0) ≡ true
+    → Shows (entries_of f ++ piece_entries n ++ entries_of (s ∷ rest)) (f ++ (joined n s ∷ []) ++ rest)
+grown_first f rest s n h m k l a t =
+    record {
+      entries_are =
+          middle_entries f rest (joined n s)
+          ∙ ap (λ es. entries_of f ++ es ++ entries_of rest) (entries_joined n s m (touch n.0 s.0 k t))
+          ∙ ap (λ es. es ++ entries_of rest) (sym (append_assoc (entries_of f) (piece_entries n) (piece_entries s)))
+          ∙ append_assoc (entries_of f ++ piece_entries n) (piece_entries s) (entries_of rest);
+      loose = one_replaced f (s ∷ []) rest (joined n s) h a (leads_alike (n.0.0, n.0.1 + s.0.1) s.0 (runs_in rest) (joined_last n.0 s.0 k l t) ∙ (own_loose f rest s h).1);
+    }
+
+-- two blocks as one
+both_loose : (rest far : List Piece) (p s j : Piece) (old : List Piece) → are_loose None (runs_in (rest ++ (p ∷ []) ++ (old ++ (s ∷ []) ++ far))) ≡ true → j.0.0 ≡ p.0.0 → run_last j.0 ≡ run_last s.0 → are_loose None (runs_in (rest ++ (j ∷ []) ++ far)) ≡ true
+both_loose rest far p s j old h e f =
+    let all : rest ++ (p ∷ []) ++ (old ++ (s ∷ []) ++ far) ≡ (rest ++ (p ∷ []) ++ old) ++ (s ∷ []) ++ far =
+    ap (λ xs. rest ++ (p ∷ []) ++ xs) (append_assoc old (s ∷ []) far) ∙ sym (append_assoc (rest ++ (p ∷ [])) old ((s ∷ []) ++ far)) ∙ sym (append_assoc (rest ++ (p ∷ []) ++ old) (s ∷ []) far) in
+    let again : rest ++ (p ∷ []) ++ (old ++ (s ∷ []) ++ far) ≡ rest ++ ((p ∷ []) ++ old ++ (s ∷ [])) ++ far =
+    all ∙ ap (λ xs. xs ++ (s ∷ []) ++ far) (append_assoc rest (p ∷ []) old) ∙ ap (λ xs. xs ++ far) (append_assoc rest ((p ∷ []) ++ old) (s ∷ [])) in
+    one_replaced rest ((p ∷ []) ++ old ++ (s ∷ [])) far j (ap (λ xs. are_loose None (runs_in xs)) (sym again) ∙ h)
+    (ap (goes_on (last_run rest)) e ∙ (own_loose rest (old ++ (s ∷ []) ++ far) p h).0)
+    (leads_alike j.0 s.0 (runs_in far) f ∙ (own_loose (rest ++ (p ∷ []) ++ old) far s (ap (λ xs. are_loose None (runs_in xs)) (sym all) ∙ h)).1)
+
+pub filled : (rest far : List Piece) (p s n : Piece) → are_loose None (runs_in (rest ++ (p ∷ []) ++ ((s ∷ []) ++ far))) ≡ true → length p.1 ≡ p.0.1 → length n.1 ≡ n.0.1 → 0 < p.0.1 → 0 < n.0.1 → 0 < s.0.1 → follows n.0.0 (run_last p.0) ≡ true → follows s.0.0 (run_last n.0) ≡ true
+    → Shows (entries_of (rest ++ p ∷ []) ++ piece_entries n ++ entries_of (s ∷ far)) (rest ++ (joined p (joined n s) ∷ []) ++ far)
+filled rest far p s n h m o k l i t u =
+    let w : run_last (joined p (joined n s)).0 ≡ run_last s.0 = joined_last p.0 (joined n s).0 k (omega arith) t ∙ joined_last n.0 s.0 l i u in
+    record {
+      entries_are =
+          middle_entries rest far (joined p (joined n s))
+          ∙ ap (λ es. entries_of rest ++ es ++ entries_of far) (entries_joined p (joined n s) m (touch p.0 n.0 k t) ∙ ap (λ es. piece_entries p ++ es) (entries_joined n s o (touch n.0 s.0 l u)))
+          ∙ ap (λ es. es ++ entries_of far) (sym (append_assoc (entries_of rest) (piece_entries p) (piece_entries n ++ piece_entries s)))
+          ∙ ap (λ es. (es ++ (piece_entries n ++ piece_entries s)) ++ entries_of far) (sym (entries_append rest (p ∷ []) ∙ ap (λ es. entries_of rest ++ es) (alone_entries p)))
+          ∙ ap (λ es. es ++ entries_of far) (sym (append_assoc (entries_of (rest ++ p ∷ [])) (piece_entries n) (piece_entries s)))
+          ∙ append_assoc (entries_of (rest ++ p ∷ []) ++ piece_entries n) (piece_entries s) (entries_of far);
+      loose = both_loose rest far p s (joined p (joined n s)) [] h refl w;
+    }
+
+-- ---- a block that is split
+
+-- what stands above the identifier in front of the place, and ends below that at the place, touches neither
+module _ (b n : Piece) (at : ℕ) (sound : is_run b.0 ≡ true) (some : 0 < at) (within : at < b.0.1) (own : 0 < n.0.1) (order : Lt tuples n.0.0 (shifted (pos at) b.0.0)) (above : ident_lt (shifted (pos (at - 1)) b.0.0) n.0.0 ≡ true) (first : Lt tuples (shifted (pos (at - 1)) b.0.0) (run_last n.0)) where
+  before_apart : goes_on (Some (part_of 0 at b).0) n.0.0 ≡ false
+  before_apart = not_true (follows n.0.0 (run_last (part_of 0 at b).0)) (λ t.
+      let e = touch (part_of 0 at b).0 n.0 some t in
+      let f : shifted (pos at) (shifted (pos 0) b.0.0) ≡ shifted (pos at) b.0.0 = ap (shifted (pos at)) (shifted_none b.0.0) in
+      lt_irrefl (subst (λ z. Lt tuples z (shifted (pos at) b.0.0)) (e ∙ f) order))
+
+  behind_apart : goes_on (Some n.0) (part_of at (b.0.1 - at) b).0.0 ≡ false
+  behind_apart = not_true (follows (shifted (pos at) b.0.0) (run_last n.0)) (λ t.
+      let e = follows_is (run_last n.0) (shifted (pos at) b.0.0) t in
+      let k : suc (at - 1) ≡ at = omega arith in
+      let f = back (at - 1) b.0.0 (run_last n.0) (ap (λ j. shifted (pos j) b.0.0) k ∙ e) in
+      lt_irrefl (subst (λ z. Lt tuples z (run_last n.0)) f first))
+
+  pub split_loose : (f g : List Piece) → are_loose None (runs_in (f ++ (b ∷ []) ++ g)) ≡ true → are_loose None (runs_in (f ++ (part_of 0 at b ∷ n ∷ part_of at (b.0.1 - at) b ∷ []) ++ g)) ≡ true
+  split_loose f g h =
+      let x = part_of 0 at b in
+      let y = part_of at (b.0.1 - at) b in
+      let a : goes_on (last_run f) x.0.0 ≡ false = ap (goes_on (last_run f)) (shifted_none b.0.0) ∙ (own_loose f g b h).0 in
+      let l : run_last y.0 ≡ run_last b.0 = part_last b.0.0 at (b.0.1 - at) (omega arith) ∙ ap (λ j. shifted (pos j) b.0.0) (omega arith) in
+      replaced f (b ∷ []) (x ∷ n ∷ y ∷ []) g h
+      (and_true (not (goes_on (last_run f) x.0.0)) (are_loose (Some x.0) (runs_in (n ∷ y ∷ []))) (ap not a)
+      (and_true (not (goes_on (Some x.0) n.0.0)) (are_loose (Some n.0) (runs_in (y ∷ []))) (ap not before_apart)
+      (and_true (not (goes_on (Some n.0) y.0.0)) true (ap not behind_apart) refl)))
+      (ap (λ r. leads_to r (runs_in g)) (last_more f (x ∷ n ∷ y ∷ [])) ∙ leads_alike y.0 b.0 (runs_in g) l ∙ (own_loose f g b h).1)
+
+  pub split_shows : (f g : List Piece) → are_loose None (runs_in (f ++ (b ∷ []) ++ g)) ≡ true
+      → Shows (entries_of f ++ piece_entries (part_of 0 at b) ++ piece_entries n ++ (piece_entries (part_of at (b.0.1 - at) b) ++ entries_of g)) (f ++ (part_of 0 at b ∷ n ∷ part_of at (b.0.1 - at) b ∷ []) ++ g)
+  split_shows f g h =
+      let x = piece_entries (part_of 0 at b) in
+      let y = piece_entries (part_of at (b.0.1 - at) b) in
+      let z = piece_entries n in
+      record {
+        entries_are =
+            three_entries f (part_of 0 at b ∷ n ∷ part_of at (b.0.1 - at) b ∷ []) g
+            ∙ ap (λ es. entries_of f ++ (x ++ (z ++ es)) ++ entries_of g) (append-nil y)
+            ∙ ap (λ es. es ++ entries_of g) (sym (append_assoc (entries_of f) x (z ++ y)) ∙ sym (append_assoc (entries_of f ++ x) z y))
+            ∙ append_assoc (entries_of f ++ x ++ z) y (entries_of g);
+        loose = split_loose f g h;
+      }
+
+-- ---- characters taken out of a block
+
+apart_middle : (a : Option (List Tuple × ℕ)) (xs : List (List Tuple × ℕ)) (r : List Tuple × ℕ) (ys : List (List Tuple × ℕ)) → are_apart a (xs ++ r ∷ ys) ≡ true → (is_apart (run_before a xs) r ≡ true) × (are_apart (Some r) ys ≡ true)
+apart_middle a [] r ys h =
+    (and_right (nat_lt 0 r.1) (is_apart a r) (and_left (nat_lt 0 r.1 && is_apart a r) (are_apart (Some r) ys) h), and_right (nat_lt 0 r.1 && is_apart a r) (are_apart (Some r) ys) h)
+apart_middle a (x ∷ xs) r ys h = apart_middle (Some x) xs r ys (and_right (nat_lt 0 x.1 && is_apart a x) (are_apart (Some x) (xs ++ r ∷ ys)) h)
+
+module _ (f g : List Piece) (b : Piece) (sound : is_run b.0 ≡ true) (apart : are_apart None (runs_in (f ++ (b ∷ []) ++ g)) ≡ true) where
+  loosely : are_loose None (runs_in (f ++ (b ∷ []) ++ g)) ≡ true
+  loosely = loose_of None (runs_in (f ++ (b ∷ []) ++ g)) apart
+
+  sides : (is_apart (last_run f) b.0 ≡ true) × (are_apart (Some b.0) (runs_in g) ≡ true)
+  sides = apart_middle None (runs_in f) b.0 (runs_in g) (ap (are_apart None) (sym (ap runs_in (append_assoc f (b ∷ []) g) ∙ runs_append f (b ∷ g))) ∙ apart)
+
+  -- it goes on at a later place with nothing
+  later_apart : (k : ℕ) → 0 < k → goes_on (last_run f) (shifted (pos k) b.0.0) ≡ false
+  later_apart k h = go (last_run f) sides.0
+    where
+      go : (a : Option (List Tuple × ℕ)) → is_apart a b.0 ≡ true → goes_on a (shifted (pos k) b.0.0) ≡ false
+      go None q = refl
+      go (Some c) q = not_true (follows (shifted (pos k) b.0.0) (run_last c)) (λ t.
+          let l : Lt tuples (run_last c) b.0.0 = lt_of (run_last c) b.0.0 (and_left (ident_lt (run_last c) b.0.0) (not (follows b.0.0 (run_last c))) q) in
+          let e = follows_is (run_last c) (shifted (pos k) b.0.0) t in
+          let j : suc (k - 1) ≡ k = omega arith in
+          let d = back (k - 1) b.0.0 (run_last c) (ap (λ i. shifted (pos i) b.0.0) j ∙ e) in
+          lt_irrefl (subst (λ z. Lt tuples (run_last c) z) d (less_shifted (run_last c) b.0.0 (k - 1) (run_ident b.0 sound) l)))
+
+  -- nothing behind it goes on with an earlier place
+  earlier_apart : (a : ℕ) → 0 < a → a < b.0.1 → leads_to (Some (part_of 0 a b).0) (runs_in g) ≡ false
+  earlier_apart a h l = go (runs_in g) sides.1
+    where
+      go : (rs : List (List Tuple × ℕ)) → are_apart (Some b.0) rs ≡ true → leads_to (Some (part_of 0 a b).0) rs ≡ false
+      go [] q = refl
+      go (s ∷ rs) q = not_true (follows s.0 (run_last (part_of 0 a b).0)) (λ t.
+          let p = (apart_middle (Some b.0) [] s rs q).0 in
+          let m : Lt tuples (run_last b.0) s.0 = lt_of (run_last b.0) s.0 (and_left (ident_lt (run_last b.0) s.0) (not (follows s.0 (run_last b.0))) p) in
+          let e = touch (part_of 0 a b).0 s h t ∙ ap (shifted (pos a)) (shifted_none b.0.0) in
+          let n : Lt tuples (run_last b.0) (shifted (pos a) b.0.0) = subst (λ z. Lt tuples (run_last b.0) z) e m in
+          ⊎_elim (λ d. lt_irrefl (subst (λ j. Lt tuples (run_last b.0) (shifted (pos j) b.0.0)) d n)) (λ d. lt_irrefl (lt_trans n (shifted_less (pos a) (pos (b.0.1 - 1)) b.0.0 (run_ident b.0 sound) (omega (arith, ints))))) (cases a (b.0.1 - 1) (omega arith)))
+        where
+          cases : (i j : ℕ) → i ≤ j → (i ≡ j) ⊎ (i < j)
+          cases i j m = grind arith
+
+  pub front_shows : (k : ℕ) → 0 < k → k < b.0.1 → Shows (entries_of f ++ (piece_entries (part_of k (b.0.1 - k) b) ++ entries_of g)) (f ++ (part_of k (b.0.1 - k) b ∷ []) ++ g)
+  front_shows k h l =
+      let y = part_of k (b.0.1 - k) b in
+      let e : run_last y.0 ≡ run_last b.0 = part_last b.0.0 k (b.0.1 - k) (omega arith) ∙ ap (λ j. shifted (pos j) b.0.0) (omega arith) in
+      record {
+        entries_are = middle_entries f g y ∙ append_assoc (entries_of f) (piece_entries y) (entries_of g);
+        loose = one_replaced f (b ∷ []) g y loosely (later_apart k h) (leads_alike y.0 b.0 (runs_in g) e ∙ (own_loose f g b loosely).1);
+      }
+
+  pub back_shows : (a : ℕ) → 0 < a → a < b.0.1 → Shows (entries_of f ++ (piece_entries (part_of 0 a b) ++ entries_of g)) (f ++ (part_of 0 a b ∷ []) ++ g)
+  back_shows a h l =
+      let x = part_of 0 a b in
+      record {
+        entries_are = middle_entries f g x ∙ append_assoc (entries_of f) (piece_entries x) (entries_of g);
+        loose = one_replaced f (b ∷ []) g x loosely (ap (goes_on (last_run f)) (shifted_none b.0.0) ∙ (own_loose f g b loosely).0) (earlier_apart a h l);
+      }
+
+  pub middle_shows : (a k : ℕ) → 0 < a → a < k → k < b.0.1 → Shows (entries_of f ++ piece_entries (part_of 0 a b) ++ (piece_entries (part_of k (b.0.1 - k) b) ++ entries_of g)) (f ++ (part_of 0 a b ∷ part_of k (b.0.1 - k) b ∷ []) ++ g)
+  middle_shows a k h o l =
+      let x = part_of 0 a b in
+      let y = part_of k (b.0.1 - k) b in
+      let e : run_last y.0 ≡ run_last b.0 = part_last b.0.0 k (b.0.1 - k) (omega arith) ∙ ap (λ j. shifted (pos j) b.0.0) (omega arith) in
+      let p : goes_on (last_run f) x.0.0 ≡ false = ap (goes_on (last_run f)) (shifted_none b.0.0) ∙ (own_loose f g b loosely).0 in
+      let q : goes_on (Some x.0) y.0.0 ≡ false = not_true (follows y.0.0 (run_last x.0)) (λ t.
+      let d = touch x.0 y.0 h t ∙ ap (shifted (pos a)) (shifted_none b.0.0) in
+      lt_irrefl (subst (λ z. Lt tuples (shifted (pos a) b.0.0) z) d (shifted_less (pos a) (pos k) b.0.0 (run_ident b.0 sound) (omega (arith, ints))))) in
+      record {
+        entries_are =
+            three_entries f (x ∷ y ∷ []) g ∙ ap (λ es. entries_of f ++ (piece_entries x ++ es) ++ entries_of g) (append-nil (piece_entries y))
+            ∙ ap (λ es. es ++ entries_of g) (sym (append_assoc (entries_of f) (piece_entries x) (piece_entries y))) ∙ append_assoc (entries_of f ++ piece_entries x) (piece_entries y) (entries_of g);
+        loose = replaced f (b ∷ []) (x ∷ y ∷ []) g loosely (and_true (not (goes_on (last_run f) x.0.0)) (are_loose (Some x.0) (runs_in (y ∷ []))) (ap not p) (and_true (not (goes_on (Some x.0) y.0.0)) true (ap not q) refl))
+            (ap (λ r. leads_to r (runs_in g)) (last_more f (x ∷ y ∷ [])) ∙ leads_alike y.0 b.0 (runs_in g) e ∙ (own_loose f g b loosely).1);
+      }
+
+  -- all of it
+  pub gone_shows : leads_to (last_run f) (runs_in g) ≡ false → Shows (entries_of f ++ entries_of g) (f ++ g)
+  gone_shows n =
+      record {
+        entries_are = entries_append f g;
+        loose = ap (λ xs. are_loose None (runs_in (xs ++ g))) (sym (append-nil f)) ∙ replaced f (b ∷ []) [] g loosely refl (ap (λ xs. leads_to (last_run xs) (runs_in g)) (append-nil f) ∙ n);
+      }
+
+-- and what stood on its sides is one
+pub merged_shows : (rest far : List Piece) (p b s : Piece) → are_apart None (runs_in (rest ++ (p ∷ []) ++ ((b ∷ []) ++ (s ∷ []) ++ far))) ≡ true → length p.1 ≡ p.0.1 → 0 < p.0.1 → 0 < s.0.1 → follows s.0.0 (run_last p.0) ≡ true
+    → Shows (entries_of (rest ++ p ∷ []) ++ entries_of (s ∷ far)) (rest ++ (joined p s ∷ []) ++ far)
+merged_shows rest far p b s apart m k l t =
+    record {
+      entries_are =
+          middle_entries rest far (joined p s)
+          ∙ ap (λ es. entries_of rest ++ es ++ entries_of far) (entries_joined p s m (touch p.0 s.0 k t))
+          ∙ ap (λ es. es ++ entries_of far) (sym (append_assoc (entries_of rest) (piece_entries p) (piece_entries s)))
+          ∙ ap (λ es. (es ++ piece_entries s) ++ entries_of far) (sym (entries_append rest (p ∷ []) ∙ ap (λ es. entries_of rest ++ es) (alone_entries p)))
+          ∙ append_assoc (entries_of (rest ++ p ∷ [])) (piece_entries s) (entries_of far);
+      loose = both_loose rest far p s (joined p s) (b ∷ []) (loose_of None (runs_in (rest ++ (p ∷ []) ++ ((b ∷ []) ++ (s ∷ []) ++ far))) apart) refl (joined_last p.0 s.0 k l t);
+    }
+
+-- ---- numbers of characters
+
+pub part_length : (b : Piece) (k n : ℕ) → length (piece_entries (part_of k n b)) ≤ n
+part_length b k n =
+    let z = length-zip (run_idents (part_of k n b).0.0 n) (part_of k n b).1 in
+    let r = run_length (part_of k n b).0.0 n in
+    omega (arith, z, r)
+
+pub own_length : (b : Piece) → length b.1 ≡ b.0.1 → length (piece_entries b) ≡ b.0.1
+own_length b m =
+    let z = length-zip (run_idents b.0.0 b.0.1) b.1 in
+    let r = run_length b.0.0 b.0.1 in
+    omega (arith, z, r, m)
+
+pub one_length : (b : Piece) → length (entries_of (b ∷ [])) ≡ length (piece_entries b)
+one_length b = ap length (alone_entries b)
+
+pub fits_less : (f old new g : List Piece) → length (entries_of new) ≤ length (entries_of old) → length (entries_of (f ++ old ++ g)) < 2 ^ 64 → length (entries_of (f ++ new ++ g)) < 2 ^ 64
+fits_less f old new g h l =
+    let p = three_chars f old g in
+    let q = three_chars f new g in
+    omega (arith, p, q, h, l)
+
+pub part_fits : (f g old : List Piece) (b : Piece) (k n : ℕ) → old ≡ b ∷ [] → length b.1 ≡ b.0.1 → n ≤ b.0.1 → length (entries_of (f ++ old ++ g)) < 2 ^ 64 → length (entries_of (f ++ (part_of k n b ∷ []) ++ g)) < 2 ^ 64
+part_fits f g old b k n e m l h =
+    let o = ap (λ bs. length (entries_of bs)) e in
+    let p = part_length b k n in
+    let q = own_length b m in
+    fits_less f old (part_of k n b ∷ []) g (omega (arith, o, p, q, one_length b, one_length (part_of k n b), l)) h
+
+-- ---- a node that stands alone, behind a reference
+
+pub lone : (s t : Seen) → t ≡ s → t.blocks ≡ t.left.blocks ++ t.block ∷ t.right.blocks → length s.blocks ≡ 1 → s.blocks ≡ s.block ∷ []
+lone s t e h o = alone s.left.blocks s.right.blocks s.block s.blocks (sym (subst (λ u. u.blocks ≡ u.left.blocks ++ u.block ∷ u.right.blocks) e h)) o
+
+pub whole : (s t : Seen) → t ≡ s → IsPiece t.block.0 t.block.1 → IsPiece s.block.0 s.block.1
+whole s t e p = subst (λ u. IsPiece u.block.0 u.block.1) e p
+
+-- what shows a run put in has as many characters more
+pub shown_fits : (f g new : List Piece) (n : Piece) → Shows (entries_of f ++ piece_entries n ++ entries_of g) new → length n.1 ≡ n.0.1 → length (entries_of (f ++ g)) + length n.1 < 2 ^ 64 → length (entries_of new) < 2 ^ 64
+shown_fits f g new n s m h =
+    let e = ap length s.entries_are in
+    let p = length-append (entries_of f ++ piece_entries n) (entries_of g) in
+    let q = length-append (entries_of f) (piece_entries n) in
+    let r = chars_append f g in
+    let o = own_length n m in
+    omega (arith, e, p, q, r, o, m, h)
+
+-- ---- the order of a run's ends
+
+pub first_below : (x z : List Tuple) (k : ℕ) → IsIdent x → Lt tuples (shifted (pos k) x) z → Lt tuples x z
+first_below x z zero i h = subst (λ y. Lt tuples y z) (shifted_none x) h
+first_below x z (suc k) i h = lt_trans (subst (λ y. Lt tuples y (shifted (pos (suc k)) x)) (shifted_none x) (shifted_less (pos 0) (pos (suc k)) x i (omega (arith, ints)))) h
+
+pub within_shows : (f g : List Piece) (b n : Piece) (at : ℕ) → is_run b.0 ≡ true → is_run n.0 ≡ true → 0 < at → at < b.0.1 → 0 < n.0.1 → ident_lt (shifted (pos (at - 1)) b.0.0) n.0.0 ≡ true → ident_lt (run_last n.0) (shifted (pos at) b.0.0) ≡ true → are_loose None (runs_in (f ++ (b ∷ []) ++ g)) ≡ true
+    → Shows (entries_of f ++ piece_entries (part_of 0 at b) ++ piece_entries n ++ (piece_entries (part_of at (b.0.1 - at) b) ++ entries_of g)) (f ++ (part_of 0 at b ∷ n ∷ part_of at (b.0.1 - at) b ∷ []) ++ g)
+within_shows f g b n at s r h l o above below loose =
+    split_shows b n at s h l o (first_below n.0.0 (shifted (pos at) b.0.0) (n.0.1 - 1) (run_ident n.0 r) (lt_of (run_last n.0) (shifted (pos at) b.0.0) below)) above
+    (less_shifted (shifted (pos (at - 1)) b.0.0) n.0.0 (n.0.1 - 1) (run_ident n.0 r) (lt_of (shifted (pos (at - 1)) b.0.0) n.0.0 above)) f g loose

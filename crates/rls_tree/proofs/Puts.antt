@@ -1,0 +1,366 @@
+-- Entries put in where there is a gap for them, and one after another.
+use Rattle.std.proofs.Common.{◌≡◌, ℕ, zero, suc, ◌+◌, ◌-◌, ◌<◌, ◌≤◌, inr, Bool, true, false, List, [], ◌∷◌, ◌++◌, length, take, drop, Some, Ok, Err, slice_get, refl, sym, ap, ◌∙◌, subst, arith, length-drop, append_assoc}
+use Rattle.std.specs.Prelude.{◌||◌, if◌then◌else◌, pos, zip}
+use Rattle.std.proofs.lemmas.List.{take-append-drop, append-nil, drop-take, take_all, length-take-le, length-map}
+use Rattle.std.proofs.Math.ListN.{drop_of_length-le}
+use Rattle.std.proofs.Math.Seq.{take-append_seam, drop-append_seam}
+use Rattle.rls_ident.specs.declared.tuple.Tuple.{Tuple}
+use Rattle.rls_ident.specs.Identifiers.{ident_lt, ident_eq, shifted}
+use Rattle.rls_ident.proofs.Lists.{Lt, lt_irrefl}
+use Rattle.rls_ident.proofs.Members.{some_is, not_true}
+use Rattle.rls_ident.proofs.Ends.{eq_same}
+use Rattle.rls_ident.proofs.Tuples.{tuples}
+use Rattle.rls_runs.specs.Runs.{run_idents, idents_of, is_increasing, is_run, place_of}
+use Rattle.rls_runs.specs.Entries.{Entries, idents_in, has_ident, put, put_all}
+use Rattle.rls_runs.specs.Places.{below_count, find_ident}
+use Rattle.rls_runs.proofs.Finding.{run_length}
+use Rattle.rls_runs.proofs.RunEnds.{count_most}
+use Rattle.rls_runs.proofs.RunLists.{place_most}
+use Rattle.rls_runs.proofs.RunPlaces.{found_is, split_at}
+use Rattle.rls_ident.proofs.Shifted.{shifted_none}
+use Rattle.rls_runs.proofs.RunOrder.{AllLess, AllMore, Rising, of_lt, increasing_of, run_rising, run_ident, run_gets, run_some, idents_append as runs_append}
+use Rattle.rls_runs.proofs.Sorted.{Entry}
+use Rattle.rls_doc.specs.Documents.{AreNew}
+use Rattle.rls_tree.specs.Trees.{Piece, piece_entries}
+use Rattle.rls_tree.specs.Edits.{part_of, inserted, gap_end}
+use Rattle.rls_tree.proofs.Changes.{thirds}
+use Rattle.rls_tree.proofs.AtPlaces.{part_exact, piece_idents, idents_append, rising_of}
+use Rattle.rls_tree.proofs.Gaps.{lt_false, below_take, more_drop, at_less, read_err, read_ok, AreBelow, below_from, below_none, rising_three, rising_first, rising_second, rising_below}
+
+-- ---- one gap
+
+put_here : (f g : Entries) (e : Entry) → AllLess (idents_in f) e.0 → AllMore e.0 (idents_in g) → put e (f ++ g) ≡ f ++ e ∷ g
+put_here [] [] e h k = refl
+put_here [] (x ∷ g) e h k = ap (λ b. if b then x ∷ put e g else e ∷ x ∷ g) (lt_false x.0 e.0 k.0)
+put_here (a ∷ f) g e h k = ap (λ b. if b then a ∷ put e (f ++ g) else e ∷ a ∷ (f ++ g)) (of_lt a.0 e.0 h.0) ∙ ap (λ es. a ∷ es) (put_here f g e h.1 k)
+
+firsts_less : (xs : List (List Tuple)) (y : List Tuple) (ys : List (List Tuple)) → AreBelow xs (y ∷ ys) → AllLess xs y
+firsts_less [] y ys h = tt
+firsts_less (x ∷ xs) y ys h = (h.0.0, firsts_less xs y ys h.1)
+
+rests_below : (xs : List (List Tuple)) (y : List Tuple) (ys : List (List Tuple)) → AreBelow xs (y ∷ ys) → AreBelow xs ys
+rests_below [] y ys h = tt
+rests_below (x ∷ xs) y ys h = (h.0.1, rests_below xs y ys h.1)
+
+one_more : (xs : List (List Tuple)) (y : List Tuple) (ys : List (List Tuple)) → AreBelow xs ys → AllMore y ys → AreBelow (xs ++ y ∷ []) ys
+one_more [] y ys h k = (k, tt)
+one_more (x ∷ xs) y ys h k = (h.0, one_more xs y ys h.1 k)
+
+pub put_gap : (f p g : Entries) → AreBelow (idents_in f) (idents_in p) → AreBelow (idents_in p) (idents_in g) → Rising (idents_in p) → put_all p (f ++ g) ≡ f ++ p ++ g
+put_gap f [] g h k r = ap (λ es. es ++ g) (sym (append-nil f))
+put_gap f (e ∷ p) g h k r =
+    ap (put_all p) (put_here f g e (firsts_less (idents_in f) e.0 (idents_in p) h) k.0 ∙ sym (append_assoc f (e ∷ []) g))
+    ∙ put_gap (f ++ e ∷ []) p g (subst (λ xs. AreBelow xs (idents_in p)) (sym (idents_append f (e ∷ []))) (one_more (idents_in f) e.0 (idents_in p) (rests_below (idents_in f) e.0 (idents_in p) h) r.0)) k.1 r.1
+    ∙ ap (λ es. es ++ g) (append_assoc f (e ∷ []) p)
+
+-- ---- the gap for identifiers of a rising list, from one of them on
+
+pub less_drop : (k : ℕ) (xs : List (List Tuple)) (y : List Tuple) → AllLess xs y → AllLess (drop k xs) y
+less_drop zero xs y h = h
+less_drop (suc k) [] y h = tt
+less_drop (suc k) (x ∷ xs) y h = less_drop k xs y h.1
+
+pub rising_drop : (k : ℕ) (xs : List (List Tuple)) → Rising xs → Rising (drop k xs)
+rising_drop zero xs h = h
+rising_drop (suc k) [] h = tt
+rising_drop (suc k) (x ∷ xs) h = rising_drop k xs h.1
+
+pub rising_take : (k : ℕ) (xs : List (List Tuple)) → Rising xs → Rising (take k xs)
+rising_take k xs h = rising_first (take k xs) (drop k xs) (subst Rising (sym (take-append-drop k xs)) h)
+
+pub headed : (k : ℕ) (xs : List (List Tuple)) (y : List Tuple) → slice_get xs k ≡ Some y → drop k xs ≡ y ∷ drop (suc k) xs
+headed k [] y g = absurd (cc)
+headed zero (x ∷ xs) y g = ap (λ z. z ∷ xs) (some_is x y g)
+headed (suc k) (x ∷ xs) y g = headed k xs y g
+
+pub get_within : (xs : List (List Tuple)) (k : ℕ) (y : List Tuple) → slice_get xs k ≡ Some y → k < length xs
+get_within [] k y g = absurd (cc)
+get_within (x ∷ xs) zero y g = omega arith
+get_within (x ∷ xs) (suc k) y g = let h = get_within xs k y g in omega (arith, h)
+
+module _ (xs ids : List (List Tuple)) (i done : ℕ) (first : List Tuple) (rising : Rising xs) (own : Rising ids) (at : slice_get ids done ≡ Some first) (found : find_ident xs first ≡ Err i) where
+  places : (has_ident xs first ≡ false) × (below_count xs first ≡ i)
+  places = read_err xs first i found
+
+  front_less : AllLess (take i xs) first
+  front_less = subst (λ n. AllLess (take n xs) first) places.1 (below_take xs first rising)
+
+  rest_more : AllMore first (drop i xs)
+  rest_more = subst (λ n. AllMore first (drop n xs)) places.1 (more_drop xs first rising places.0)
+
+  pub ends_later : done < gap_end ids (drop i xs)
+  ends_later = go (drop i xs) rest_more
+    where
+      go : (rest : List (List Tuple)) → AllMore first rest → done < gap_end ids rest
+      go [] m = get_within ids done first at
+      go (x ∷ rest) m = at_less ids done first x own at m.0
+
+  pub ends_within : gap_end ids (drop i xs) ≤ length ids
+  ends_within = go (drop i xs)
+    where
+      go : (rest : List (List Tuple)) → gap_end ids rest ≤ length ids
+      go [] = omega arith
+      go (x ∷ rest) = count_most ids x
+
+  pub part_rising : Rising (take (gap_end ids (drop i xs) - done) (drop done ids))
+  part_rising = rising_take (gap_end ids (drop i xs) - done) (drop done ids) (rising_drop done ids own)
+
+  pub front_below : AreBelow (take i xs) (take (gap_end ids (drop i xs) - done) (drop done ids))
+  front_below =
+      let l = ends_later in
+      let n : gap_end ids (drop i xs) - done ≡ suc (gap_end ids (drop i xs) - done - 1) = omega (arith, l) in
+      let e : take (gap_end ids (drop i xs) - done) (drop done ids) ≡ first ∷ take (gap_end ids (drop i xs) - done - 1) (drop (suc done) ids) =
+      ap (λ zs. take (gap_end ids (drop i xs) - done) zs) (headed done ids first at) ∙ ap (λ k. take k (first ∷ drop (suc done) ids)) n in
+      let r = subst Rising e part_rising in
+      subst (AreBelow (take i xs)) (sym e) (below_from (take i xs) first (take (gap_end ids (drop i xs) - done - 1) (drop (suc done) ids)) front_less r.0)
+
+  pub part_below : AreBelow (take (gap_end ids (drop i xs) - done) (drop done ids)) (drop i xs)
+  part_below = go (drop i xs) (rising_drop i xs rising) (ends_later)
+    where
+      go : (rest : List (List Tuple)) → Rising rest → done < gap_end ids rest → AreBelow (take (gap_end ids rest - done) (drop done ids)) rest
+      go [] r l = below_none (take (gap_end ids [] - done) (drop done ids))
+      go (x ∷ rest) r l =
+          let n : done + (below_count ids x - done) ≡ below_count ids x = omega (arith, l) in
+          let e : drop done (take (below_count ids x) ids) ≡ take (below_count ids x - done) (drop done ids) = ap (λ k. drop done (take k ids)) (sym n) ∙ drop-take done (below_count ids x - done) ids in
+          below_from (take (below_count ids x - done) (drop done ids)) x rest (subst (λ zs. AllLess zs x) e (less_drop done (take (below_count ids x) ids) x (below_take ids x own))) r.0
+
+  pub gap_rises : Rising (take i xs ++ (take (gap_end ids (drop i xs) - done) (drop done ids) ++ drop i xs))
+  gap_rises = rising_three (take i xs) (take (gap_end ids (drop i xs) - done) (drop done ids)) (drop i xs) (subst Rising (sym (take-append-drop i xs)) rising) part_rising front_below part_below
+
+-- ---- entries and their identifiers
+
+pub idents_take : (n : ℕ) (es : Entries) → idents_in (take n es) ≡ take n (idents_in es)
+idents_take zero es = refl
+idents_take (suc n) [] = refl
+idents_take (suc n) (e ∷ es) = ap (λ xs. e.0 ∷ xs) (idents_take n es)
+
+pub idents_drop : (n : ℕ) (es : Entries) → idents_in (drop n es) ≡ drop n (idents_in es)
+idents_drop zero es = refl
+idents_drop (suc n) [] = refl
+idents_drop (suc n) (e ∷ es) = idents_drop n es
+
+pub idents_inserted : (i : ℕ) (p es : Entries) → idents_in (inserted i p es) ≡ take i (idents_in es) ++ (idents_in p ++ drop i (idents_in es))
+idents_inserted i p es =
+    idents_append (take i es ++ p) (drop i es) ∙ ap (λ xs. xs ++ idents_in (drop i es)) (idents_append (take i es) p) ∙ append_assoc (idents_in (take i es)) (idents_in p) (idents_in (drop i es))
+    ∙ ap (λ xs. xs ++ (idents_in p ++ idents_in (drop i es))) (idents_take i es) ∙ ap (λ xs. take i (idents_in es) ++ (idents_in p ++ xs)) (idents_drop i es)
+
+-- entries whose identifiers rise where they are put in
+pub put_inserted : (i : ℕ) (p es : Entries) → Rising (take i (idents_in es) ++ (idents_in p ++ drop i (idents_in es))) → put_all p es ≡ inserted i p es
+put_inserted i p es r =
+    let f = take i es in
+    let g = drop i es in
+    let q : Rising (idents_in f ++ (idents_in p ++ idents_in g)) = subst (λ xs. Rising (xs ++ (idents_in p ++ idents_in g))) (sym (idents_take i es)) (subst (λ xs. Rising (take i (idents_in es) ++ (idents_in p ++ xs))) (sym (idents_drop i es)) r) in
+    let s = rising_second (idents_in f) (idents_in p ++ idents_in g) q in
+    ap (put_all p) (sym (take-append-drop i es)) ∙ put_gap f p g (left_below (idents_in f) (idents_in p) (idents_in g) (rising_below (idents_in f) (idents_in p ++ idents_in g) q)) (rising_below (idents_in p) (idents_in g) s) (rising_first (idents_in p) (idents_in g) s)
+  where
+    more_left : (z : List Tuple) (xs ys : List (List Tuple)) → AllMore z (xs ++ ys) → AllMore z xs
+    more_left z [] ys h = tt
+    more_left z (x ∷ xs) ys h = (h.0, more_left z xs ys h.1)
+
+    left_below : (xs ys zs : List (List Tuple)) → AreBelow xs (ys ++ zs) → AreBelow xs ys
+    left_below [] ys zs h = tt
+    left_below (x ∷ xs) ys zs h = (more_left x ys zs h.0, left_below xs ys zs h.1)
+
+-- a part of a block is a part of its entries
+pub part_taken : (b : Piece) (k n : ℕ) → length b.1 ≡ b.0.1 → k + n ≤ b.0.1 → piece_entries (part_of k n b) ≡ take n (drop k (piece_entries b))
+part_taken b k n m h =
+    let x = piece_entries (part_of 0 k b) in
+    let z = piece_entries (part_of k n b) in
+    let y = piece_entries (part_of (k + n) (b.0.1 - (k + n)) b) in
+    let l = part_exact b 0 k m (omega arith) in
+    let o = part_exact b k n m h in
+    sym (ap (λ es. take n (drop k es)) (thirds b k n m h) ∙ ap (λ j. take n (drop j (x ++ (z ++ y)))) (sym l) ∙ ap (take n) (drop-append_seam x (z ++ y)) ∙ ap (λ j. take j (z ++ y)) (sym o) ∙ take-append_seam z y)
+
+-- ---- entries put in from a place of theirs on
+
+pub put_append : (p q es : Entries) → put_all (p ++ q) es ≡ put_all q (put_all p es)
+put_append [] q es = refl
+put_append (e ∷ p) q es = put_append p q (put e es)
+
+drop_drop : (m n : ℕ) (es : Entries) → drop n (drop m es) ≡ drop (m + n) es
+drop_drop zero n es = ap (λ k. drop k es) (omega arith)
+drop_drop (suc m) n [] = nothing n ∙ sym (nothing (suc m + n))
+  where
+    nothing : (k : ℕ) → drop {A = Entry} k [] ≡ []
+    nothing zero = refl
+    nothing (suc k) = refl
+drop_drop (suc m) n (e ∷ es) = let s : suc (m + n) ≡ suc m + n = omega arith in drop_drop m n es ∙ ap (λ k. drop k (e ∷ es)) s
+
+pub parted : (at n : ℕ) (es : Entries) → drop at es ≡ take n (drop at es) ++ drop (at + n) es
+parted at n es = sym (take-append-drop n (drop at es)) ∙ ap (λ zs. take n (drop at es) ++ zs) (drop_drop at n es)
+
+pub put_step : (added cur new all : Entries) (at n : ℕ) → new ≡ put_all (take n (drop at added)) cur → put_all (drop at added) cur ≡ all → put_all (drop (at + n) added) new ≡ all
+put_step added cur new all at n e h =
+    ap (put_all (drop (at + n) added)) e ∙ sym (put_append (take n (drop at added)) (drop (at + n) added) cur) ∙ ap (λ p. put_all p cur) (sym (parted at n added)) ∙ h
+
+put_length : (e : Entry) (es : Entries) → length (put e es) ≡ 1 + length es
+put_length e [] = omega arith
+put_length e (x ∷ es) = go (ident_lt x.0 e.0) (put_length e es)
+  where
+    go : (b : Bool) → length (put e es) ≡ 1 + length es → length (if b then x ∷ put e es else e ∷ x ∷ es) ≡ 1 + length (x ∷ es)
+    go true h = omega (arith, h)
+    go false h = omega arith
+
+pub all_length : (p es : Entries) → length (put_all p es) ≡ length p + length es
+all_length [] es = omega arith
+all_length (e ∷ p) es = let h = all_length p (put e es) in let k = put_length e es in omega (arith, h, k)
+
+-- ---- none of the rest is there yet
+
+pub differs : (x y : List Tuple) → Lt tuples x y → ident_eq x y ≡ false
+differs x y h = not_true (ident_eq x y) (λ e. lt_irrefl (subst (λ z. Lt tuples x z) (sym (eq_same x y e)) h))
+
+has_put : (e : Entry) (es : Entries) (x : List Tuple) → ident_eq e.0 x ≡ false → has_ident (idents_in es) x ≡ false → has_ident (idents_in (put e es)) x ≡ false
+has_put e [] x h k = ap (λ b. b || false) h
+has_put e (y ∷ es) x h k = go (ident_lt y.0 e.0) (has_put e es x h (parts (ident_eq y.0 x) (has_ident (idents_in es) x) k).1)
+  where
+    parts : (b c : Bool) → (b || c) ≡ false → (b ≡ false) × (c ≡ false)
+    parts true c q = absurd (cc)
+    parts false c q = (refl, q)
+
+    go : (b : Bool) → has_ident (idents_in (put e es)) x ≡ false → has_ident (idents_in (if b then y ∷ put e es else e ∷ y ∷ es)) x ≡ false
+    go true ih = ap (λ b. b || has_ident (idents_in (put e es)) x) (parts (ident_eq y.0 x) (has_ident (idents_in es) x) k).0 ∙ ih
+    go false ih = ap (λ b. b || has_ident (idents_in (y ∷ es)) x) h ∙ k
+
+new_put : (e : Entry) (xs : List (List Tuple)) (es : Entries) → AllMore e.0 xs → AreNew xs (idents_in es) → AreNew xs (idents_in (put e es))
+new_put e [] es m h = tt
+new_put e (x ∷ xs) es m h = (has_put e es x (differs e.0 x m.0) h.0, new_put e xs es m.1 h.1)
+
+new_all : (p : Entries) (xs : List (List Tuple)) (es : Entries) → AreBelow (idents_in p) xs → AreNew xs (idents_in es) → AreNew xs (idents_in (put_all p es))
+new_all [] xs es m h = h
+new_all (e ∷ p) xs es m h = new_all p xs (put e es) m.1 (new_put e xs es m.0 h)
+
+new_second : (xs ys zs : List (List Tuple)) → AreNew (xs ++ ys) zs → AreNew ys zs
+new_second [] ys zs h = h
+new_second (x ∷ xs) ys zs h = new_second xs ys zs h.1
+
+pub new_step : (added cur new : Entries) (at n : ℕ) → Rising (idents_in added) → new ≡ put_all (take n (drop at added)) cur → AreNew (idents_in (drop at added)) (idents_in cur) → AreNew (idents_in (drop (at + n) added)) (idents_in new)
+new_step added cur new at n r e h =
+    let p = take n (drop at added) in
+    let q = drop (at + n) added in
+    let both : idents_in (drop at added) ≡ idents_in p ++ idents_in q = ap idents_in (parted at n added) ∙ idents_append p q in
+    let rest : Rising (idents_in (drop at added)) = subst Rising (sym (idents_drop at added)) (rising_drop at (idents_in added) r) in
+    subst (λ es. AreNew (idents_in q) (idents_in es)) (sym e)
+    (new_all p (idents_in q) cur (rising_below (idents_in p) (idents_in q) (subst Rising both rest)) (new_second (idents_in p) (idents_in q) (idents_in cur) (subst (λ xs. AreNew xs (idents_in cur)) both h)))
+
+-- ---- the next identifiers of a run that go into one gap
+
+module _ (es : Entries) (b : Piece) (i done : ℕ) (many : length b.1 ≡ b.0.1) (incr : is_increasing (idents_in es) ≡ true) (sound : is_run b.0 ≡ true) (short : done < b.0.1) (first : List Tuple) (first_is : first ≡ shifted (pos done) b.0.0) where
+  own_rising : Rising (run_idents b.0.0 b.0.1)
+  own_rising = run_rising b.0.0 b.0.1 (run_ident b.0 sound)
+
+  first_at : slice_get (run_idents b.0.0 b.0.1) done ≡ Some first
+  first_at = run_gets b.0.0 b.0.1 done short ∙ ap Some (sym first_is)
+
+  -- it isn't there
+  pub not_there : (k : ℕ) → place_of first (idents_in es) ≡ Ok k → AreNew (idents_in (drop done (piece_entries b))) (idents_in es) → ⊥
+  not_there k h new =
+      let f = read_ok (idents_in es) first k (found_is (idents_in es) first (rising_of (idents_in es) incr) ∙ h) in
+      let e : idents_in (drop done (piece_entries b)) ≡ first ∷ drop (suc done) (run_idents b.0.0 b.0.1) = idents_drop done (piece_entries b) ∙ ap (drop done) (piece_idents b many) ∙ headed done (run_idents b.0.0 b.0.1) first first_at in
+      let n = subst (λ zs. AreNew zs (idents_in es)) e new in
+      let g = f.0 in let m = n.0 in absurd (cc)
+
+  module _ (gap : place_of first (idents_in es) ≡ Err i) where
+    found : find_ident (idents_in es) first ≡ Err i
+    found = found_is (idents_in es) first (rising_of (idents_in es) incr) ∙ gap
+
+    pub next_place : i ≤ length es
+    next_place = let m = place_most (idents_in es) first i (inr found) in let l = length-map es (λ e. e.0) in omega (arith, m, l)
+
+    pub next_later : done < gap_end (run_idents b.0.0 b.0.1) (drop i (idents_in es))
+    next_later = ends_later (idents_in es) (run_idents b.0.0 b.0.1) i done first (rising_of (idents_in es) incr) own_rising first_at found
+
+    pub next_within : gap_end (run_idents b.0.0 b.0.1) (drop i (idents_in es)) ≤ b.0.1
+    next_within = let w = ends_within (idents_in es) (run_idents b.0.0 b.0.1) i done first (rising_of (idents_in es) incr) own_rising first_at found in let l = run_length b.0.0 b.0.1 in omega (arith, w, l)
+
+    module _ (end : ℕ) (end_is : end ≡ gap_end (run_idents b.0.0 b.0.1) (drop i (idents_in es))) (p : Piece) (p_is : p ≡ part_of done (end - done) b) where
+      part_is : piece_entries p ≡ take (end - done) (drop done (piece_entries b))
+      part_is = ap piece_entries p_is ∙ part_taken b done (end - done) many (let l = next_later in let w = next_within in omega (arith, l, w, end_is))
+
+      part_idents : idents_in (piece_entries p) ≡ take (gap_end (run_idents b.0.0 b.0.1) (drop i (idents_in es)) - done) (drop done (run_idents b.0.0 b.0.1))
+      part_idents =
+          ap idents_in part_is ∙ idents_take (end - done) (drop done (piece_entries b)) ∙ ap (take (end - done)) (idents_drop done (piece_entries b) ∙ ap (drop done) (piece_idents b many))
+          ∙ ap (λ n. take (n - done) (drop done (run_idents b.0.0 b.0.1))) end_is
+
+      rises : Rising (take i (idents_in es) ++ (idents_in (piece_entries p) ++ drop i (idents_in es)))
+      rises =
+          subst (λ zs. Rising (take i (idents_in es) ++ (zs ++ drop i (idents_in es)))) (sym part_idents)
+          (gap_rises (idents_in es) (run_idents b.0.0 b.0.1) i done first (rising_of (idents_in es) incr) own_rising first_at found)
+
+      pub next_rises : is_increasing (idents_in (inserted i (piece_entries p) es)) ≡ true
+      next_rises = ap is_increasing (idents_inserted i (piece_entries p) es) ∙ increasing_of (take i (idents_in es) ++ (idents_in (piece_entries p) ++ drop i (idents_in es))) rises
+
+      pub next_ok : inserted i (piece_entries p) es ≡ put_all (take (end - done) (drop done (piece_entries b))) es
+      next_ok = sym (put_inserted i (piece_entries p) es rises) ∙ ap (λ q. put_all q es) part_is
+
+-- a whole run that goes into one gap
+pub whole_rises : (es : Entries) (r : List Tuple × ℕ) (i end : ℕ) (first : List Tuple) → is_increasing (idents_in es) ≡ true → is_run r ≡ true → first ≡ r.0 → place_of first (idents_in es) ≡ Err i → end ≡ gap_end (run_idents r.0 r.1) (drop i (idents_in es)) → end ≡ r.1
+    → is_increasing (take i (idents_in es) ++ (run_idents r.0 r.1 ++ drop i (idents_in es))) ≡ true
+whole_rises es r i end first incr sound f gap e l =
+    let xs = idents_in es in
+    let ids = run_idents r.0 r.1 in
+    let rising = rising_of xs incr in
+    let some = run_some r sound in
+    let at : slice_get ids 0 ≡ Some first = run_gets r.0 r.1 0 some ∙ ap Some (shifted_none r.0 ∙ sym f) in
+    let all : take (gap_end ids (drop i xs) - 0) (drop 0 ids) ≡ ids = take_all (gap_end ids (drop i xs) - 0) ids (let n = run_length r.0 r.1 in omega (arith, e, l, n)) in
+    increasing_of (take i xs ++ (ids ++ drop i xs)) (subst (λ zs. Rising (take i xs ++ (zs ++ drop i xs))) all (gap_rises xs ids i 0 first rising (run_rising r.0 r.1 (run_ident r sound)) at (found_is xs first rising ∙ gap)))
+
+pub whole_place : (es : Entries) (i : ℕ) (first : List Tuple) → is_increasing (idents_in es) ≡ true → place_of first (idents_in es) ≡ Err i → i ≤ length es
+whole_place es i first incr gap =
+    let m = place_most (idents_in es) first i (inr (found_is (idents_in es) first (rising_of (idents_in es) incr) ∙ gap)) in
+    let l = length-map es (λ e. e.0) in
+    omega (arith, m, l)
+
+-- ---- the identifiers of a gap's end
+
+pub end_none : (es : Entries) (ids : List (List Tuple)) (i : ℕ) → i ≡ length es → gap_end ids (drop i (idents_in es)) ≡ length ids
+end_none es ids i h = ap (gap_end ids) (drop_of_length-le (idents_in es) (let l = length-map es (λ e. e.0) in omega (arith, h, l)))
+
+pub end_some : (es : Entries) (ids : List (List Tuple)) (i : ℕ) (x : List Tuple) → slice_get (idents_in es) i ≡ Some x → gap_end ids (drop i (idents_in es)) ≡ below_count ids x
+end_some es ids i x g = ap (gap_end ids) (headed i (idents_in es) x g)
+
+-- ---- entries of runs one after another
+
+pub run_taken : (rs : List (List Tuple × ℕ)) (k at : ℕ) (r : List Tuple × ℕ) (cs part : List ℕ) → slice_get rs k ≡ Some r → at ≡ length (idents_of (take k rs)) → length (idents_of rs) ≡ length cs → part ≡ take r.1 (drop at cs) → piece_entries (r, part) ≡ take r.1 (drop at (zip (idents_of rs) cs))
+run_taken rs k at r cs part g h m p =
+    let ids = idents_of rs in
+    let e : drop at ids ≡ run_idents r.0 r.1 ++ idents_of (drop (k + 1) rs) =
+    ap (λ xs. drop at (idents_of xs)) (sym (split_at rs k r g)) ∙ ap (drop at) (runs_append (take k rs) (r ∷ drop (k + 1) rs)) ∙ ap (λ n. drop n (idents_of (take k rs) ++ idents_of (r ∷ drop (k + 1) rs))) h ∙ drop-append_seam (idents_of (take k rs)) (idents_of (r ∷ drop (k + 1) rs)) in
+    let l = run_length r.0 r.1 in
+    let own : take r.1 (drop at ids) ≡ run_idents r.0 r.1 = ap (take r.1) e ∙ ap (λ n. take n (run_idents r.0 r.1 ++ idents_of (drop (k + 1) rs))) (sym l) ∙ take-append_seam (run_idents r.0 r.1) (idents_of (drop (k + 1) rs)) in
+    ap (λ xs. zip xs part) (sym own) ∙ ap (zip (take r.1 (drop at ids))) p ∙ sym (zip_take r.1 (drop at ids) (drop at cs)) ∙ ap (take r.1) (sym (zip_drop at ids cs))
+  where
+    zip_take : (n : ℕ) (xs : List (List Tuple)) (cs : List ℕ) → take n (zip xs cs) ≡ zip (take n xs) (take n cs)
+    zip_take zero xs cs = refl
+    zip_take (suc n) [] cs = refl
+    zip_take (suc n) (x ∷ xs) [] = refl
+    zip_take (suc n) (x ∷ xs) (c ∷ cs) = ap (λ es. (x, c) ∷ es) (zip_take n xs cs)
+
+    nothing : (n : ℕ) → drop {A = Entry} n [] ≡ []
+    nothing zero = refl
+    nothing (suc n) = refl
+
+    zip_none : (xs : List (List Tuple)) → zip {X = ℕ} xs [] ≡ []
+    zip_none [] = refl
+    zip_none (x ∷ xs) = refl
+
+    zip_drop : (n : ℕ) (xs : List (List Tuple)) (cs : List ℕ) → drop n (zip xs cs) ≡ zip (drop n xs) (drop n cs)
+    zip_drop zero xs cs = refl
+    zip_drop (suc n) [] cs = refl
+    zip_drop (suc n) (x ∷ xs) [] = sym (zip_none (drop n xs))
+    zip_drop (suc n) (x ∷ xs) (c ∷ cs) = zip_drop n xs cs
+
+pub taken_length : (at n : ℕ) (es : Entries) → at + n ≤ length es → length (take n (drop at es)) ≡ n
+taken_length at n es h = let l = length-drop at es in length-take-le n (drop at es) (omega (arith, h, l))
+
+pub new_now : (at n : ℕ) (added : Entries) (zs : List (List Tuple)) → AreNew (idents_in (drop at added)) zs → AreNew (idents_in (take n (drop at added))) zs
+new_now at n added zs h = go (idents_in (take n (drop at added))) (idents_in (drop (at + n) added)) (subst (λ xs. AreNew xs zs) (ap idents_in (parted at n added) ∙ idents_append (take n (drop at added)) (drop (at + n) added)) h)
+  where
+    go : (xs ys : List (List Tuple)) → AreNew (xs ++ ys) zs → AreNew xs zs
+    go [] ys k = tt
+    go (x ∷ xs) ys k = (k.0, go xs ys k.1)
+
+pub get_drop : {X : Type 0} (m j : ℕ) (xs : List X) → slice_get (drop m xs) j ≡ slice_get xs (m + j)
+get_drop zero j xs = ap (slice_get xs) (omega arith)
+get_drop (suc m) j [] = refl
+get_drop (suc m) j (x ∷ xs) = let s : suc (m + j) ≡ suc m + j = omega arith in get_drop m j xs ∙ ap (slice_get (x ∷ xs)) s

@@ -1,0 +1,227 @@
+use Rattle.std.proofs.Common.{◌≡◌, ◌++◌, ◌∷◌, ◌<◌, ◌^◌, [], None, true, false, length, refl, sym, ap, ◌∙◌, subst, arith, append_assoc, length-append}
+use Rattle.std.proofs.lemmas.List.{append-nil}
+use Rattle.rls_ident.specs.Identifiers.{follows}
+use Rattle.rls_runs.specs.Runs.{run_last, are_apart}
+use Rattle.rls_runs.proofs.RunOrder.{run_some}
+use Rattle.rls_tree.specs.Trees.{entries_of, pieces, runs_in, IsPiece}
+use Rattle.rls_tree.specs.Edits.{joined, goes_on, Shows}
+use Rattle.rls_tree.proofs.Loose.{last_run, last_append}
+use Rattle.rls_tree.proofs.Pieces.{chars_append}
+use Rattle.rls_tree.proofs.Cases.{gone_shows, merged_shows, lone, whole}
+use Rattle.rls_tree.proofs.remove.remove_block.Goals as goal
+
+pub returns-in_default-clause-ok : goal.returns-in_default-clause-ok
+returns-in_default-clause-ok c =
+    let n = c.args.node.value in
+    let b = n.block in
+    let f = pieces c.args.front in
+    let own : n.blocks ≡ b ∷ [] = lone n c.deref.result.now c.deref.ensures c.len-len.ensures.blocks c.requires.one in
+    let piece : IsPiece b.0 b.1 = whole n c.deref.result.now c.deref.ensures c.len-len.ensures.piece in
+    let none : pieces c.args.behind ≡ [] = ap pieces c.in_default.is in
+    let apart : are_apart None (runs_in (f ++ (b ∷ []) ++ [])) ≡ true = subst (λ bs. are_apart None (runs_in (f ++ (b ∷ []) ++ bs)) ≡ true) none (subst (λ bs. are_apart None (runs_in (f ++ bs ++ pieces c.args.behind)) ≡ true) own c.requires.apart) in
+    subst (λ bs. Shows (entries_of f ++ entries_of bs) f) (sym none) (subst (Shows (entries_of f ++ entries_of [])) (append-nil f) (gone_shows f [] b piece.sound apart refl))
+
+pub join-requires-clause-chars_fit : goal.join-requires-clause-chars_fit
+join-requires-clause-chars_fit c =
+    let n = c.args.node.value in
+    let b = n.block in
+    let f = pieces c.args.front in
+    let own : n.blocks ≡ b ∷ [] = lone n c.deref.result.now c.deref.ensures c.len-len.ensures.blocks c.requires.one in
+    let piece : IsPiece b.0 b.1 = whole n c.deref.result.now c.deref.ensures c.len-len.ensures.piece in
+    let first = c.first_out-first.result.0.value in
+    let s = first.block in
+    let far = pieces c.first_out-first.result.1 in
+    let next : first.blocks ≡ s ∷ [] = lone first c.deref-2.result.now c.deref-2.ensures c.len-first.ensures.blocks c.first_out-first.ensures.one in
+    let other : IsPiece s.0 s.1 = whole first c.deref-2.result.now c.deref-2.ensures c.len-first.ensures.piece in
+    let behind : pieces c.args.behind ≡ s ∷ far = ap pieces c.in-Some.is ∙ c.first_out-first.ensures.blocks ∙ ap (λ bs. bs ++ far) next in
+    let apart : are_apart None (runs_in (f ++ (b ∷ []) ++ (s ∷ far))) ≡ true = subst (λ bs. are_apart None (runs_in (f ++ (b ∷ []) ++ bs)) ≡ true) behind (subst (λ bs. are_apart None (runs_in (f ++ bs ++ pieces c.args.behind)) ≡ true) own c.requires.apart) in
+    let fits : length (entries_of (f ++ n.blocks ++ (s ∷ far))) < 2 ^ 64 = subst (λ bs. length (entries_of (f ++ n.blocks ++ bs)) < 2 ^ 64) behind c.requires.chars_fit in
+    let at : c.first.result.now ≡ s.0.0 = c.first.ensures.first ∙ ap (λ r. r.0) c.run.ensures.run ∙ ap (λ z. z.block.0.0) c.deref-3.ensures in
+    let i = chars_append (f ++ n.blocks) (s ∷ far) in
+    let j = chars_append f n.blocks in
+    let k = ap (λ bs. length (entries_of (bs ++ far))) next in
+    let l = chars_append (f ++ first.blocks) far in
+    let m = chars_append f first.blocks in
+    let o = chars_append first.blocks far in
+    omega (arith, fits, i, j, k, l, m, o)
+
+pub returns-then-not-ends_before-clause-ok : goal.returns-then-not-ends_before-clause-ok
+returns-then-not-ends_before-clause-ok c =
+    let n = c.args.node.value in
+    let b = n.block in
+    let f = pieces c.args.front in
+    let own : n.blocks ≡ b ∷ [] = lone n c.deref.result.now c.deref.ensures c.len-len.ensures.blocks c.requires.one in
+    let piece : IsPiece b.0 b.1 = whole n c.deref.result.now c.deref.ensures c.len-len.ensures.piece in
+    let first = c.first_out-first.result.0.value in
+    let s = first.block in
+    let far = pieces c.first_out-first.result.1 in
+    let next : first.blocks ≡ s ∷ [] = lone first c.deref-2.result.now c.deref-2.ensures c.len-first.ensures.blocks c.first_out-first.ensures.one in
+    let other : IsPiece s.0 s.1 = whole first c.deref-2.result.now c.deref-2.ensures c.len-first.ensures.piece in
+    let behind : pieces c.args.behind ≡ s ∷ far = ap pieces c.in-Some.is ∙ c.first_out-first.ensures.blocks ∙ ap (λ bs. bs ++ far) next in
+    let apart : are_apart None (runs_in (f ++ (b ∷ []) ++ (s ∷ far))) ≡ true = subst (λ bs. are_apart None (runs_in (f ++ (b ∷ []) ++ bs)) ≡ true) behind (subst (λ bs. are_apart None (runs_in (f ++ bs ++ pieces c.args.behind)) ≡ true) own c.requires.apart) in
+    let fits : length (entries_of (f ++ n.blocks ++ (s ∷ far))) < 2 ^ 64 = subst (λ bs. length (entries_of (f ++ n.blocks ++ bs)) < 2 ^ 64) behind c.requires.chars_fit in
+    let at : c.first.result.now ≡ s.0.0 = c.first.ensures.first ∙ ap (λ r. r.0) c.run.ensures.run ∙ ap (λ z. z.block.0.0) c.deref-3.ensures in
+    let i = chars_append (f ++ n.blocks) (s ∷ far) in
+    let j = chars_append f n.blocks in
+    let k = ap (λ bs. length (entries_of (bs ++ far))) next in
+    let free : goes_on (last_run f) s.0.0 ≡ false = ap (goes_on (last_run f)) (sym at) ∙ sym c.if-not-ends_before.ensures.goes_on in
+    let new : c.join.result.value.blocks ≡ f ++ (s ∷ far) = c.join.ensures.blocks ∙ ap (λ bs. f ++ bs ++ far) next ∙ append_assoc f (s ∷ []) far in
+    subst (λ bs. Shows (entries_of f ++ entries_of bs) c.join.result.value.blocks) (sym behind) (subst (Shows (entries_of f ++ entries_of (s ∷ far))) (sym new) (gone_shows f (s ∷ far) b piece.sound apart free))
+
+pub merge-requires-clause-touches : goal.merge-requires-clause-touches
+merge-requires-clause-touches c =
+    let n = c.args.node.value in
+    let b = n.block in
+    let f = pieces c.args.front in
+    let own : n.blocks ≡ b ∷ [] = lone n c.deref.result.now c.deref.ensures c.len-len.ensures.blocks c.requires.one in
+    let piece : IsPiece b.0 b.1 = whole n c.deref.result.now c.deref.ensures c.len-len.ensures.piece in
+    let first = c.first_out-first.result.0.value in
+    let s = first.block in
+    let far = pieces c.first_out-first.result.1 in
+    let next : first.blocks ≡ s ∷ [] = lone first c.deref-2.result.now c.deref-2.ensures c.len-first.ensures.blocks c.first_out-first.ensures.one in
+    let other : IsPiece s.0 s.1 = whole first c.deref-2.result.now c.deref-2.ensures c.len-first.ensures.piece in
+    let behind : pieces c.args.behind ≡ s ∷ far = ap pieces c.in-Some.is ∙ c.first_out-first.ensures.blocks ∙ ap (λ bs. bs ++ far) next in
+    let apart : are_apart None (runs_in (f ++ (b ∷ []) ++ (s ∷ far))) ≡ true = subst (λ bs. are_apart None (runs_in (f ++ (b ∷ []) ++ bs)) ≡ true) behind (subst (λ bs. are_apart None (runs_in (f ++ bs ++ pieces c.args.behind)) ≡ true) own c.requires.apart) in
+    let fits : length (entries_of (f ++ n.blocks ++ (s ∷ far))) < 2 ^ 64 = subst (λ bs. length (entries_of (f ++ n.blocks ++ bs)) < 2 ^ 64) behind c.requires.chars_fit in
+    let at : c.first.result.now ≡ s.0.0 = c.first.ensures.first ∙ ap (λ r. r.0) c.run.ensures.run ∙ ap (λ z. z.block.0.0) c.deref-3.ensures in
+    let i = chars_append (f ++ n.blocks) (s ∷ far) in
+    let j = chars_append f n.blocks in
+    let k = ap (λ bs. length (entries_of (bs ++ far))) next in
+    let last = c.last_out-rest.result.1.value in
+    let p = last.block in
+    let rest = pieces c.last_out-rest.result.0 in
+    let mine : last.blocks ≡ p ∷ [] = lone last c.deref-4.result.now c.deref-4.ensures c.len-last.ensures.blocks c.last_out-rest.ensures.one in
+    let more : IsPiece p.0 p.1 = whole last c.deref-4.result.now c.deref-4.ensures c.len-last.ensures.piece in
+    let front : f ≡ rest ++ p ∷ [] = ap pieces c.in-Some-front.is ∙ c.last_out-rest.ensures.blocks ∙ ap (λ bs. rest ++ bs) mine in
+    let touches : follows s.0.0 (run_last p.0) ≡ true = ap (λ r. goes_on r s.0.0) (sym (last_append rest p)) ∙ ap (λ bs. goes_on (last_run bs) s.0.0) (sym front) ∙ ap (goes_on (last_run f)) (sym at) ∙ sym c.if-not-ends_before.ensures.goes_on in
+    touches
+
+pub join-requires-in-Ok-clause-chars_fit : goal.join-requires-in-Ok-clause-chars_fit
+join-requires-in-Ok-clause-chars_fit c =
+    let n = c.args.node.value in
+    let b = n.block in
+    let f = pieces c.args.front in
+    let own : n.blocks ≡ b ∷ [] = lone n c.deref.result.now c.deref.ensures c.len-len.ensures.blocks c.requires.one in
+    let piece : IsPiece b.0 b.1 = whole n c.deref.result.now c.deref.ensures c.len-len.ensures.piece in
+    let first = c.first_out-first.result.0.value in
+    let s = first.block in
+    let far = pieces c.first_out-first.result.1 in
+    let next : first.blocks ≡ s ∷ [] = lone first c.deref-2.result.now c.deref-2.ensures c.len-first.ensures.blocks c.first_out-first.ensures.one in
+    let other : IsPiece s.0 s.1 = whole first c.deref-2.result.now c.deref-2.ensures c.len-first.ensures.piece in
+    let behind : pieces c.args.behind ≡ s ∷ far = ap pieces c.in-Some.is ∙ c.first_out-first.ensures.blocks ∙ ap (λ bs. bs ++ far) next in
+    let apart : are_apart None (runs_in (f ++ (b ∷ []) ++ (s ∷ far))) ≡ true = subst (λ bs. are_apart None (runs_in (f ++ (b ∷ []) ++ bs)) ≡ true) behind (subst (λ bs. are_apart None (runs_in (f ++ bs ++ pieces c.args.behind)) ≡ true) own c.requires.apart) in
+    let fits : length (entries_of (f ++ n.blocks ++ (s ∷ far))) < 2 ^ 64 = subst (λ bs. length (entries_of (f ++ n.blocks ++ bs)) < 2 ^ 64) behind c.requires.chars_fit in
+    let at : c.first.result.now ≡ s.0.0 = c.first.ensures.first ∙ ap (λ r. r.0) c.run.ensures.run ∙ ap (λ z. z.block.0.0) c.deref-3.ensures in
+    let i = chars_append (f ++ n.blocks) (s ∷ far) in
+    let j = chars_append f n.blocks in
+    let k = ap (λ bs. length (entries_of (bs ++ far))) next in
+    let last = c.last_out-rest.result.1.value in
+    let p = last.block in
+    let rest = pieces c.last_out-rest.result.0 in
+    let mine : last.blocks ≡ p ∷ [] = lone last c.deref-4.result.now c.deref-4.ensures c.len-last.ensures.blocks c.last_out-rest.ensures.one in
+    let more : IsPiece p.0 p.1 = whole last c.deref-4.result.now c.deref-4.ensures c.len-last.ensures.piece in
+    let front : f ≡ rest ++ p ∷ [] = ap pieces c.in-Some-front.is ∙ c.last_out-rest.ensures.blocks ∙ ap (λ bs. rest ++ bs) mine in
+    let touches : follows s.0.0 (run_last p.0) ≡ true = ap (λ r. goes_on r s.0.0) (sym (last_append rest p)) ∙ ap (λ bs. goes_on (last_run bs) s.0.0) (sym front) ∙ ap (goes_on (last_run f)) (sym at) ∙ sym c.if-not-ends_before.ensures.goes_on in
+    let parted : are_apart None (runs_in (rest ++ (p ∷ []) ++ ((b ∷ []) ++ (s ∷ []) ++ far))) ≡ true = subst (λ bs. are_apart None (runs_in bs) ≡ true) (append_assoc (rest ++ p ∷ []) (b ∷ []) (s ∷ far)) (subst (λ bs. are_apart None (runs_in (bs ++ (b ∷ []) ++ (s ∷ far))) ≡ true) front apart) in
+    let shows = merged_shows rest far p b s parted more.as_many (run_some p.0 more.sound) (run_some s.0 other.sound) touches in
+    let both : c.in-Ok.both.value.blocks ≡ joined p s ∷ [] = c.in-Ok.ensures.ok in
+    let l = ap length shows.entries_are in
+    let m = length-append (entries_of (rest ++ p ∷ [])) (entries_of (s ∷ far)) in
+    let o = ap (λ bs. length (entries_of bs)) front in
+    let q = ap (λ bs. length (entries_of (rest ++ bs ++ far))) both in
+    omega (arith, fits, i, j, l, m, o, q)
+
+pub join-requires-in-Err-clause-chars_fit : goal.join-requires-in-Err-clause-chars_fit
+join-requires-in-Err-clause-chars_fit c =
+    let n = c.args.node.value in
+    let b = n.block in
+    let f = pieces c.args.front in
+    let own : n.blocks ≡ b ∷ [] = lone n c.deref.result.now c.deref.ensures c.len-len.ensures.blocks c.requires.one in
+    let piece : IsPiece b.0 b.1 = whole n c.deref.result.now c.deref.ensures c.len-len.ensures.piece in
+    let first = c.first_out-first.result.0.value in
+    let s = first.block in
+    let far = pieces c.first_out-first.result.1 in
+    let next : first.blocks ≡ s ∷ [] = lone first c.deref-2.result.now c.deref-2.ensures c.len-first.ensures.blocks c.first_out-first.ensures.one in
+    let other : IsPiece s.0 s.1 = whole first c.deref-2.result.now c.deref-2.ensures c.len-first.ensures.piece in
+    let behind : pieces c.args.behind ≡ s ∷ far = ap pieces c.in-Some.is ∙ c.first_out-first.ensures.blocks ∙ ap (λ bs. bs ++ far) next in
+    let apart : are_apart None (runs_in (f ++ (b ∷ []) ++ (s ∷ far))) ≡ true = subst (λ bs. are_apart None (runs_in (f ++ (b ∷ []) ++ bs)) ≡ true) behind (subst (λ bs. are_apart None (runs_in (f ++ bs ++ pieces c.args.behind)) ≡ true) own c.requires.apart) in
+    let fits : length (entries_of (f ++ n.blocks ++ (s ∷ far))) < 2 ^ 64 = subst (λ bs. length (entries_of (f ++ n.blocks ++ bs)) < 2 ^ 64) behind c.requires.chars_fit in
+    let at : c.first.result.now ≡ s.0.0 = c.first.ensures.first ∙ ap (λ r. r.0) c.run.ensures.run ∙ ap (λ z. z.block.0.0) c.deref-3.ensures in
+    let i = chars_append (f ++ n.blocks) (s ∷ far) in
+    let j = chars_append f n.blocks in
+    let k = ap (λ bs. length (entries_of (bs ++ far))) next in
+    let last = c.last_out-rest.result.1.value in
+    let p = last.block in
+    let rest = pieces c.last_out-rest.result.0 in
+    let mine : last.blocks ≡ p ∷ [] = lone last c.deref-4.result.now c.deref-4.ensures c.len-last.ensures.blocks c.last_out-rest.ensures.one in
+    let more : IsPiece p.0 p.1 = whole last c.deref-4.result.now c.deref-4.ensures c.len-last.ensures.piece in
+    let front : f ≡ rest ++ p ∷ [] = ap pieces c.in-Some-front.is ∙ c.last_out-rest.ensures.blocks ∙ ap (λ bs. rest ++ bs) mine in
+    let touches : follows s.0.0 (run_last p.0) ≡ true = ap (λ r. goes_on r s.0.0) (sym (last_append rest p)) ∙ ap (λ bs. goes_on (last_run bs) s.0.0) (sym front) ∙ ap (goes_on (last_run f)) (sym at) ∙ sym c.if-not-ends_before.ensures.goes_on in
+    let old : c.in-Err.last.value.blocks ≡ last.blocks = ap (λ z. z.value.blocks) c.in-Err.last-is ∙ c.in-Err.ensures.err.0 in
+    let l = ap (λ bs. length (entries_of (rest ++ bs ++ []))) (old ∙ mine) in
+    let m = ap (λ bs. length (entries_of bs)) (append-nil (rest ++ p ∷ [])) in
+    let o = ap (λ bs. length (entries_of bs)) front in
+    omega (arith, fits, i, j, l, m, o)
+
+pub join-requires-in-Err-2-clause-chars_fit : goal.join-requires-in-Err-2-clause-chars_fit
+join-requires-in-Err-2-clause-chars_fit c =
+    let n = c.args.node.value in
+    let b = n.block in
+    let f = pieces c.args.front in
+    let own : n.blocks ≡ b ∷ [] = lone n c.deref.result.now c.deref.ensures c.len-len.ensures.blocks c.requires.one in
+    let piece : IsPiece b.0 b.1 = whole n c.deref.result.now c.deref.ensures c.len-len.ensures.piece in
+    let first = c.first_out-first.result.0.value in
+    let s = first.block in
+    let far = pieces c.first_out-first.result.1 in
+    let next : first.blocks ≡ s ∷ [] = lone first c.deref-2.result.now c.deref-2.ensures c.len-first.ensures.blocks c.first_out-first.ensures.one in
+    let other : IsPiece s.0 s.1 = whole first c.deref-2.result.now c.deref-2.ensures c.len-first.ensures.piece in
+    let behind : pieces c.args.behind ≡ s ∷ far = ap pieces c.in-Some.is ∙ c.first_out-first.ensures.blocks ∙ ap (λ bs. bs ++ far) next in
+    let apart : are_apart None (runs_in (f ++ (b ∷ []) ++ (s ∷ far))) ≡ true = subst (λ bs. are_apart None (runs_in (f ++ (b ∷ []) ++ bs)) ≡ true) behind (subst (λ bs. are_apart None (runs_in (f ++ bs ++ pieces c.args.behind)) ≡ true) own c.requires.apart) in
+    let fits : length (entries_of (f ++ n.blocks ++ (s ∷ far))) < 2 ^ 64 = subst (λ bs. length (entries_of (f ++ n.blocks ++ bs)) < 2 ^ 64) behind c.requires.chars_fit in
+    let at : c.first.result.now ≡ s.0.0 = c.first.ensures.first ∙ ap (λ r. r.0) c.run.ensures.run ∙ ap (λ z. z.block.0.0) c.deref-3.ensures in
+    let i = chars_append (f ++ n.blocks) (s ∷ far) in
+    let j = chars_append f n.blocks in
+    let k = ap (λ bs. length (entries_of (bs ++ far))) next in
+    let last = c.last_out-rest.result.1.value in
+    let p = last.block in
+    let rest = pieces c.last_out-rest.result.0 in
+    let mine : last.blocks ≡ p ∷ [] = lone last c.deref-4.result.now c.deref-4.ensures c.len-last.ensures.blocks c.last_out-rest.ensures.one in
+    let more : IsPiece p.0 p.1 = whole last c.deref-4.result.now c.deref-4.ensures c.len-last.ensures.piece in
+    let front : f ≡ rest ++ p ∷ [] = ap pieces c.in-Some-front.is ∙ c.last_out-rest.ensures.blocks ∙ ap (λ bs. rest ++ bs) mine in
+    let touches : follows s.0.0 (run_last p.0) ≡ true = ap (λ r. goes_on r s.0.0) (sym (last_append rest p)) ∙ ap (λ bs. goes_on (last_run bs) s.0.0) (sym front) ∙ ap (goes_on (last_run f)) (sym at) ∙ sym c.if-not-ends_before.ensures.goes_on in
+    let old : c.in-Err.first.value.blocks ≡ first.blocks = ap (λ z. z.value.blocks) c.in-Err.first-is ∙ c.in-Err.ensures.err.1 in
+    let l = ap (λ bs. length (entries_of (bs ++ far))) (old ∙ next) in
+    omega (arith, fits, i, j, l)
+
+pub returns-in-Ok-clause-ok : goal.returns-in-Ok-clause-ok
+returns-in-Ok-clause-ok c =
+    let n = c.args.node.value in
+    let b = n.block in
+    let f = pieces c.args.front in
+    let own : n.blocks ≡ b ∷ [] = lone n c.deref.result.now c.deref.ensures c.len-len.ensures.blocks c.requires.one in
+    let piece : IsPiece b.0 b.1 = whole n c.deref.result.now c.deref.ensures c.len-len.ensures.piece in
+    let first = c.first_out-first.result.0.value in
+    let s = first.block in
+    let far = pieces c.first_out-first.result.1 in
+    let next : first.blocks ≡ s ∷ [] = lone first c.deref-2.result.now c.deref-2.ensures c.len-first.ensures.blocks c.first_out-first.ensures.one in
+    let other : IsPiece s.0 s.1 = whole first c.deref-2.result.now c.deref-2.ensures c.len-first.ensures.piece in
+    let behind : pieces c.args.behind ≡ s ∷ far = ap pieces c.in-Some.is ∙ c.first_out-first.ensures.blocks ∙ ap (λ bs. bs ++ far) next in
+    let apart : are_apart None (runs_in (f ++ (b ∷ []) ++ (s ∷ far))) ≡ true = subst (λ bs. are_apart None (runs_in (f ++ (b ∷ []) ++ bs)) ≡ true) behind (subst (λ bs. are_apart None (runs_in (f ++ bs ++ pieces c.args.behind)) ≡ true) own c.requires.apart) in
+    let fits : length (entries_of (f ++ n.blocks ++ (s ∷ far))) < 2 ^ 64 = subst (λ bs. length (entries_of (f ++ n.blocks ++ bs)) < 2 ^ 64) behind c.requires.chars_fit in
+    let at : c.first.result.now ≡ s.0.0 = c.first.ensures.first ∙ ap (λ r. r.0) c.run.ensures.run ∙ ap (λ z. z.block.0.0) c.deref-3.ensures in
+    let i = chars_append (f ++ n.blocks) (s ∷ far) in
+    let j = chars_append f n.blocks in
+    let k = ap (λ bs. length (entries_of (bs ++ far))) next in
+    let last = c.last_out-rest.result.1.value in
+    let p = last.block in
+    let rest = pieces c.last_out-rest.result.0 in
+    let mine : last.blocks ≡ p ∷ [] = lone last c.deref-4.result.now c.deref-4.ensures c.len-last.ensures.blocks c.last_out-rest.ensures.one in
+    let more : IsPiece p.0 p.1 = whole last c.deref-4.result.now c.deref-4.ensures c.len-last.ensures.piece in
+    let front : f ≡ rest ++ p ∷ [] = ap pieces c.in-Some-front.is ∙ c.last_out-rest.ensures.blocks ∙ ap (λ bs. rest ++ bs) mine in
+    let touches : follows s.0.0 (run_last p.0) ≡ true = ap (λ r. goes_on r s.0.0) (sym (last_append rest p)) ∙ ap (λ bs. goes_on (last_run bs) s.0.0) (sym front) ∙ ap (goes_on (last_run f)) (sym at) ∙ sym c.if-not-ends_before.ensures.goes_on in
+    let parted : are_apart None (runs_in (rest ++ (p ∷ []) ++ ((b ∷ []) ++ (s ∷ []) ++ far))) ≡ true = subst (λ bs. are_apart None (runs_in bs) ≡ true) (append_assoc (rest ++ p ∷ []) (b ∷ []) (s ∷ far)) (subst (λ bs. are_apart None (runs_in (bs ++ (b ∷ []) ++ (s ∷ far))) ≡ true) front apart) in
+    let shows = merged_shows rest far p b s parted more.as_many (run_some p.0 more.sound) (run_some s.0 other.sound) touches in
+    let both : c.in-Ok.both.value.blocks ≡ joined p s ∷ [] = c.in-Ok.ensures.ok in
+    let new : c.join-in-Ok.result.value.blocks ≡ rest ++ (joined p s ∷ []) ++ far = c.join-in-Ok.ensures.blocks ∙ ap (λ bs. rest ++ bs ++ far) both in
+    subst (λ bs. Shows (entries_of f ++ entries_of bs) c.join-in-Ok.result.value.blocks) (sym behind)
+    (subst (λ bs. Shows (entries_of bs ++ entries_of (s ∷ far)) c.join-in-Ok.result.value.blocks) (sym front) (subst (Shows (entries_of (rest ++ p ∷ []) ++ entries_of (s ∷ far))) (sym new) shows))

@@ -1,0 +1,6 @@
+use Rattle.std.proofs.Common.{length}
+use Rattle.rls_tree.specs.Trees.{pieces}
+use Rattle.rls_tree.proofs.split.+split.Given as goal
+
+abbrev pub decreases-split : goal.decreases-split
+decreases-split l = length (pieces l.link)

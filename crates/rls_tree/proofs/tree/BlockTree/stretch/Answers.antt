@@ -1,0 +1,58 @@
+use Rattle.std.proofs.Common.{◌≡◌, ◌-◌, take, drop, length, sym, ap, ◌∙◌, subst, arith}
+use Rattle.std.specs.Prelude.{pos}
+use Rattle.rls_ident.specs.Identifiers.{shifted}
+use Rattle.rls_tree.specs.Trees.{Piece, ArePieces, pieces, piece_entries, entries_of}
+use Rattle.rls_tree.specs.Edits.{located, part_of}
+use Rattle.rls_tree.proofs.AtPlaces.{part_at, part_many}
+use Rattle.rls_tree.proofs.Puts.{part_taken}
+use Rattle.rls_tree.proofs.tree.BlockTree.stretch.Goals as goal
+
+pub returns-clause-as_many : goal.returns-clause-as_many
+returns-clause-as_many c =
+    let b = c.locate-at.result.0.now in
+    let j = c.locate-at.result.1 in
+    let i = c.args.i in
+    let bs = c.args.self.now.blocks in
+    let n = c.len.result - j in
+    let are : ArePieces bs = subst (λ s. ArePieces s.blocks) c.self.view_is c.chars_of-chars.ensures.pieces in
+    let down = sym (ap (λ s. s.blocks) c.self.view_is) ∙ ap pieces c.in-Some.is ∙ sym (ap (λ s. s.blocks) c.deref.ensures) in
+    let m : length b.1 ≡ b.0.1 = c.len.ensures.piece.as_many in
+    let at = part_at bs i j n b are (ap (λ ps. located ps i) down ∙ c.locate-at.ensures.located) (omega (arith, c.len.ensures.len, c.locate-at.ensures.within)) (omega (arith, c.len.ensures.len, c.locate-at.ensures.within)) in
+    let part : Piece = (c.in_ok-run.run', c.in_ok-text.text) in
+    let is : part ≡ part_of j n b =
+    ap (λ r. (r, c.in_ok-text.text)) (c.in_ok-run.ensures.part ∙ ap (λ q. (shifted (pos j) q.0, n)) c.run.ensures.run) ∙ ap (λ cs. ((shifted (pos j) b.0.0, n), cs)) (c.in_ok-text.ensures.part ∙ ap (λ cs. take n (drop j cs)) c.text.ensures.text) in
+    ap (λ q. length q.1) is ∙ part_many b j n m (omega (arith, m, c.len.ensures.len, c.locate-at.ensures.within)) ∙ sym (ap (λ q. q.0.1) is)
+
+pub returns-clause-within : goal.returns-clause-within
+returns-clause-within c =
+    let b = c.locate-at.result.0.now in
+    let j = c.locate-at.result.1 in
+    let i = c.args.i in
+    let bs = c.args.self.now.blocks in
+    let n = c.len.result - j in
+    let are : ArePieces bs = subst (λ s. ArePieces s.blocks) c.self.view_is c.chars_of-chars.ensures.pieces in
+    let down = sym (ap (λ s. s.blocks) c.self.view_is) ∙ ap pieces c.in-Some.is ∙ sym (ap (λ s. s.blocks) c.deref.ensures) in
+    let m : length b.1 ≡ b.0.1 = c.len.ensures.piece.as_many in
+    let at = part_at bs i j n b are (ap (λ ps. located ps i) down ∙ c.locate-at.ensures.located) (omega (arith, c.len.ensures.len, c.locate-at.ensures.within)) (omega (arith, c.len.ensures.len, c.locate-at.ensures.within)) in
+    let part : Piece = (c.in_ok-run.run', c.in_ok-text.text) in
+    let is : part ≡ part_of j n b =
+    ap (λ r. (r, c.in_ok-text.text)) (c.in_ok-run.ensures.part ∙ ap (λ q. (shifted (pos j) q.0, n)) c.run.ensures.run) ∙ ap (λ cs. ((shifted (pos j) b.0.0, n), cs)) (c.in_ok-text.ensures.part ∙ ap (λ cs. take n (drop j cs)) c.text.ensures.text) in
+    let l = ap (λ q. q.0.1) is in
+    let w = at.1 in
+    omega (arith, l, w)
+
+pub returns-clause-entries : goal.returns-clause-entries
+returns-clause-entries c =
+    let b = c.locate-at.result.0.now in
+    let j = c.locate-at.result.1 in
+    let i = c.args.i in
+    let bs = c.args.self.now.blocks in
+    let n = c.len.result - j in
+    let are : ArePieces bs = subst (λ s. ArePieces s.blocks) c.self.view_is c.chars_of-chars.ensures.pieces in
+    let down = sym (ap (λ s. s.blocks) c.self.view_is) ∙ ap pieces c.in-Some.is ∙ sym (ap (λ s. s.blocks) c.deref.ensures) in
+    let m : length b.1 ≡ b.0.1 = c.len.ensures.piece.as_many in
+    let at = part_at bs i j n b are (ap (λ ps. located ps i) down ∙ c.locate-at.ensures.located) (omega (arith, c.len.ensures.len, c.locate-at.ensures.within)) (omega (arith, c.len.ensures.len, c.locate-at.ensures.within)) in
+    let part : Piece = (c.in_ok-run.run', c.in_ok-text.text) in
+    let is : part ≡ part_of j n b =
+    ap (λ r. (r, c.in_ok-text.text)) (c.in_ok-run.ensures.part ∙ ap (λ q. (shifted (pos j) q.0, n)) c.run.ensures.run) ∙ ap (λ cs. ((shifted (pos j) b.0.0, n), cs)) (c.in_ok-text.ensures.part ∙ ap (λ cs. take n (drop j cs)) c.text.ensures.text) in
+    ap piece_entries is ∙ part_taken b j n m (omega (arith, m, c.len.ensures.len, c.locate-at.ensures.within)) ∙ sym at.0 ∙ ap (λ q. take q.0.1 (drop i (entries_of bs))) (sym is)

@@ -1,0 +1,159 @@
+//! Many runs put in and taken out, one piece after another. After an error the tree has some of the changes.
+
+ghost use Rattle.std.specs.Prelude.{◌≡◌, ◌+◌, ◌-◌, ◌^◌, ◌<◌, ◌≤◌, ◌++◌, length, take, drop, zip, IfOk, IfSome, OnOk, IsTrue};
+ghost use Rattle.rls_runs.specs.Runs.{run_idents, idents_of, is_increasing};
+ghost use Rattle.rls_runs.specs.Entries.{idents_in, put_all, without_all};
+ghost use Rattle.rls_runs.specs.Places.{below_count};
+ghost use Rattle.rls_doc.specs.Documents.{AreNew};
+ghost use Rattle.rls_tree.specs.Trees.{entries_of, piece_entries};
+ghost use Rattle.rls_tree.specs.Edits.{gap_end};
+
+use crate::block::{part_of_run, part_of_text};
+use crate::tree::BlockTree;
+use rls_ident::Ident;
+use rls_runs::{Run, Text};
+use std::alloc::AllocError;
+
+impl BlockTree {
+    // How many identifiers of a run stand in front of the one at a place of the tree, where there is one.
+    fn end_of_gap(&self, i: u64, run: &Run) -> Result<u32, AllocError>
+        requires place { i ≤ length (entries_of self.now.blocks) }
+        ensures end { IfOk result (λ end. end ≡ gap_end (run_idents run.now.0 run.now.1) (drop i (idents_in (entries_of self.now.blocks)))) }
+    {
+        if i == self.chars() {
+            return Ok(run.len());
+        }
+        match run.find(&self.ident(i)?) {
+            Ok(place) => Ok(place),
+            Err(below) => Ok(below),
+        }
+    }
+
+    // The place where all identifiers of a run stand in front of the next identifier of the tree, if there
+    // is one. It costs two comparisons of identifiers for each level.
+    pub(crate) fn gap_for(&self, run: &Run) -> Result<Option<u64>, AllocError>
+        ensures place { IfOk result (λ gap. IfSome gap (λ i. i ≤ length (entries_of self.now.blocks))) }
+        ensures rises { IfOk result (λ gap. IfSome gap (λ i. IsTrue (is_increasing (take i (idents_in (entries_of self.now.blocks)) ++ (run_idents run.now.0 run.now.1 ++ drop i (idents_in (entries_of self.now.blocks))))))) }
+    {
+        let _blocks = self.blocks();
+        let Err(i) = self.place(run.first()) else {
+            return Ok(None);
+        };
+        if self.end_of_gap(i, run)? == run.len() {
+            return Ok(Some(i));
+        }
+        Ok(None)
+    }
+
+    // Puts characters in with a run's identifiers from a place of the run on, up to the next identifier of
+    // the tree, and answers how many.
+    fn insert_next(&mut self, run: &Run, text: &Text, done: u32) -> Result<u32, AllocError>
+        requires as_many { length text.now ≡ run.now.1 }
+        requires place { done < run.now.1 }
+        requires new { AreNew (idents_in (drop done (piece_entries (run.now, text.now)))) (idents_in (entries_of self.old.blocks)) }
+        requires room { length (entries_of self.old.blocks) + (run.now.1 - done) < 2 ^ 64 }
+        ensures some { IfOk result (λ n. 0 < n) }
+        ensures within { IfOk result (λ n. done + n ≤ run.now.1) }
+        ensures ok { IfOk result (λ n. entries_of self.new.blocks ≡ put_all (take n (drop done (piece_entries (run.now, text.now)))) (entries_of self.old.blocks)) }
+    {
+        let _blocks = self.blocks();
+        let _len = run.len();
+        let first = run.first().shifted(done)?;
+        let Err(i) = self.place(&first) else {
+            unreachable!()
+        };
+        let end = self.end_of_gap(i, run)?;
+        let part = part_of_run(run, done, end - done)?;
+        let chars = part_of_text(self.alloc(), text, done as usize, (end - done) as usize)?;
+        self.insert_piece(i, &part, &chars)?;
+        Ok(end - done)
+    }
+
+    // Puts a run in, between whose identifiers others may stand.
+    pub(crate) fn insert_run(&mut self, run: &Run, text: &Text) -> Result<(), AllocError>
+        requires as_many { length text.now ≡ run.now.1 }
+        requires new { AreNew (idents_in (piece_entries (run.now, text.now))) (idents_in (entries_of self.old.blocks)) }
+        requires room { length (entries_of self.old.blocks) + run.now.1 < 2 ^ 64 }
+        ensures ok { OnOk result (entries_of self.new.blocks ≡ put_all (piece_entries (run.now, text.now)) (entries_of self.old.blocks)) }
+    {
+        let mut done = 0;
+        while done < run.len() {
+            done += self.insert_next(run, text, done)?;
+        }
+        Ok(())
+    }
+
+    // Puts runs in, with the characters of a text.
+    pub(crate) fn insert_all(&mut self, runs: &[Run], text: &Text) -> Result<(), AllocError>
+        requires rises { IsTrue (is_increasing (idents_of runs.now)) }
+        requires as_many { length (idents_of runs.now) ≡ length text.now }
+        requires new { AreNew (idents_of runs.now) (idents_in (entries_of self.old.blocks)) }
+        requires room { length (entries_of self.old.blocks) + length text.now < 2 ^ 64 }
+        ensures ok { OnOk result (entries_of self.new.blocks ≡ put_all (zip (idents_of runs.now) text.now) (entries_of self.old.blocks)) }
+    {
+        let mut at = 0;
+        for run in runs {
+            let part = part_of_text(self.alloc(), text, at, run.len() as usize)?;
+            self.insert_run(run, &part)?;
+            at += run.len() as usize;
+        }
+        Ok(())
+    }
+
+    // How many identifiers of the tree are less than this one.
+    fn count_below(&self, id: &Ident) -> u64
+        ensures count { result ≡ below_count (idents_in (entries_of self.now.blocks)) id.now }
+    {
+        let _blocks = self.blocks();
+        match self.place(id) {
+            Ok(i) => i,
+            Err(i) => i,
+        }
+    }
+
+    // Takes out the first characters with identifiers of a run from a place of the run on that stand in one
+    // block, and answers the place behind them in the run.
+    fn remove_next(&mut self, run: &Run, done: u32) -> Result<u32, AllocError>
+        requires place { done < run.now.1 }
+        ensures more { IfOk result (λ end. done < end) }
+        ensures within { IfOk result (λ end. end ≤ run.now.1) }
+        ensures ok { IfOk result (λ end. without_all (drop done (run_idents run.now.0 run.now.1)) (entries_of self.old.blocks) ≡ without_all (drop end (run_idents run.now.0 run.now.1)) (entries_of self.new.blocks)) }
+    {
+        let _blocks = self.blocks();
+        let len = run.len();
+        let first = run.first().shifted(done)?;
+        let i = self.count_below(&first);
+        if i == self.chars() {
+            return Ok(len);
+        }
+        match run.find(&self.ident(i)?) {
+            Err(next) => Ok(next),
+            Ok(place) => {
+                let part = self.run_from(i, len - place)?;
+                self.remove_piece(i, part.len())?;
+                Ok(place + part.len())
+            }
+        }
+    }
+
+    // Takes out the characters with identifiers of a run, where they are there.
+    pub(crate) fn remove_run(&mut self, run: &Run) -> Result<(), AllocError>
+        ensures ok { OnOk result (entries_of self.new.blocks ≡ without_all (run_idents run.now.0 run.now.1) (entries_of self.old.blocks)) }
+    {
+        let mut done = 0;
+        while done < run.len() {
+            done = self.remove_next(run, done)?;
+        }
+        Ok(())
+    }
+
+    // Takes out the characters with identifiers of these runs, where they are there.
+    pub(crate) fn remove_runs(&mut self, runs: &[Run]) -> Result<(), AllocError>
+        ensures ok { OnOk result (entries_of self.new.blocks ≡ without_all (idents_of runs.now) (entries_of self.old.blocks)) }
+    {
+        for run in runs {
+            self.remove_run(run)?;
+        }
+        Ok(())
+    }
+}

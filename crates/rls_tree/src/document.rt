@@ -1,0 +1,185 @@
+//! The block tree as a document.
+
+ghost use Rattle.std.specs.Prelude.{◌≡◌, ◌+◌, ◌-◌, ◌<◌, ◌≤◌, ◌^◌, ◌++◌, length, take, drop, zip, slice_get, Some, IfOk, IfSome, OnOk, IsTrue};
+ghost use Rattle.std.specs.List.{list_all};
+ghost use Rattle.rls_ident.specs.Identifiers.{is_ident};
+ghost use Rattle.rls_runs.specs.Runs.{run_idents, runs_of, idents_of, is_increasing, place_of};
+ghost use Rattle.rls_runs.specs.Entries.{Entries, idents_in, chars_in, put_all, without_all, with_idents};
+ghost use Rattle.rls_doc.specs.Documents.{AreNew};
+ghost use Rattle.rls_tree.specs.Trees.{entries_of, piece_entries};
+ghost use Rattle.rls_tree.specs.Edits.{removed, reach_of};
+
+use crate::tree::BlockTree;
+use rls_doc::{Document, RunMap};
+use rls_ident::Ident;
+use rls_runs::{Run, RunList, Runs, Text};
+use std::alloc::AllocError;
+
+impl Document for BlockTree {
+    ghost entries = { λ t. entries_of t.blocks };
+
+    fn rises(&self) {
+        let _blocks = self.blocks();
+    }
+
+    fn total(&self) -> u64 {
+        self.chars()
+    }
+
+    /// It takes no memory and no time.
+    fn run_count(&self) -> u64 {
+        self.blocks()
+    }
+
+    /// It costs a step for each level.
+    fn char_at(&self, i: u64) -> char {
+        self.char(i)
+    }
+
+    /// It costs a step for each level.
+    fn ident_at(&self, i: u64) -> Result<Ident, AllocError> {
+        self.ident(i)
+    }
+
+    /// It costs a comparison of identifiers for each level, and takes no memory.
+    fn find(&self, id: &Ident) -> Result<u64, u64> {
+        self.place(id)
+    }
+
+    /// One run that goes between two neighbours costs a step for each level and its own characters; where
+    /// it goes into the middle of a run, also the characters behind it there. At the end or at the front of
+    /// a run that it goes on with it moves none of that run's characters. Other runs are put in one after
+    /// another, in a copy.
+    fn insert_runs(&mut self, runs: &RunList, text: &Text) -> Result<(), AllocError> {
+        if runs.len() == 1 {
+            let run = runs.get(0);
+            if let Some(i) = self.gap_for(run)? {
+                return self.insert_piece(i, run, text);
+            }
+        }
+        let mut fresh = self.copy()?;
+        fresh.insert_all(runs.as_slice(), text)?;
+        *self = fresh;
+        Ok(())
+    }
+
+    /// One run that stands whole in one of the tree's costs a step for each level, the characters behind it
+    /// in the tree's run, and those of the shorter one of two runs that touch then. Other targets are taken
+    /// out one after another, in a copy.
+    fn remove_all(&mut self, targets: &Runs) -> Result<u64, AllocError> {
+        if targets.run_count() == 1 {
+            let run = targets.run(0);
+            if let Some(i) = self.whole(run)? {
+                let count = run.len();
+                self.remove_piece(i, count)?;
+                return Ok(count as u64);
+            }
+        }
+        let before = self.chars();
+        let mut fresh = self.copy()?;
+        fresh.remove_runs(targets.as_slice())?;
+        let removed = before - fresh.chars();
+        *self = fresh;
+        Ok(removed)
+    }
+
+    /// It costs a step for each level and each run that it answers.
+    fn runs_of(&self, from: u64, count: u64) -> Result<Runs, AllocError> {
+        let _total = self.chars();
+        self.runs_between(from, from + count)
+    }
+
+    /// It costs the number of characters and of runs.
+    fn text(&self) -> Result<Text, AllocError> {
+        self.chars_text()
+    }
+
+    /// It maps whole runs, and joins those that touch then. It costs the number of characters, and a step
+    /// for each level and each run before and after.
+    fn map_runs<F: RunMap>(&mut self, map: &F) -> Result<(), AllocError> {
+        let fresh = self.mapped(map)?;
+        *self = fresh;
+        Ok(())
+    }
+}
+
+impl BlockTree {
+    // The place of a run, where it stands whole in one of the tree's.
+    fn whole(&self, run: &Run) -> Result<Option<u64>, AllocError>
+        ensures reach { IfOk result (λ place. IfSome place (λ i. run.now.1 ≤ reach_of self.now.blocks i)) }
+        ensures within { IfOk result (λ place. IfSome place (λ i. i + run.now.1 ≤ length (entries_of self.now.blocks))) }
+        ensures removed { IfOk result (λ place. IfSome place (λ i. removed i run.now.1 (entries_of self.now.blocks) ≡ without_all (run_idents run.now.0 run.now.1) (entries_of self.now.blocks))) }
+    {
+        let _blocks = self.blocks();
+        let Ok(i) = self.place(run.first()) else {
+            return Ok(None);
+        };
+        let part = self.run_from(i, run.len())?;
+        if part.len() == run.len() {
+            return Ok(Some(i));
+        }
+        Ok(None)
+    }
+
+    // The identifiers between two places.
+    fn runs_between(&self, from: u64, end: u64) -> Result<Runs, AllocError>
+        requires order { from ≤ end }
+        requires within { end ≤ length (entries_of self.now.blocks) }
+        ensures runs { IfOk result (λ xs. xs ≡ take (end - from) (drop from (idents_in (entries_of self.now.blocks)))) }
+    {
+        let _blocks = self.blocks();
+        let mut runs = Runs::new(self.alloc());
+        let mut at = from;
+        while at < end {
+            let run = self.run_from(at, most_of(end - at))?;
+            at += run.len() as u64;
+            runs.append(run)?;
+        }
+        Ok(runs)
+    }
+
+    // The same characters with the identifiers that take the place of theirs.
+    fn mapped<F: RunMap>(&self, map: &F) -> Result<BlockTree, AllocError>
+        ensures mapped { IfOk result (λ tree. entries_of tree.blocks ≡ with_idents (F.image map.now) (entries_of self.now.blocks)) }
+    {
+        let mut fresh = BlockTree::new(self.alloc());
+        let mut at = 0;
+        while at < self.chars() {
+            at += self.map_next(map, at, &mut fresh)?;
+        }
+        Ok(fresh)
+    }
+
+    // Puts the characters of a run from a place on, mapped, behind those that are mapped already, and
+    // answers how many.
+    fn map_next<F: RunMap>(
+        &self,
+        map: &F,
+        at: u64,
+        fresh: &mut BlockTree,
+    ) -> Result<u64, AllocError>
+        requires place { at < length (entries_of self.now.blocks) }
+        requires mapped { entries_of fresh.old.blocks ≡ with_idents (F.image map.now) (take at (entries_of self.now.blocks)) }
+        ensures some { IfOk result (λ n. 0 < n) }
+        ensures within { IfOk result (λ n. at + n ≤ length (entries_of self.now.blocks)) }
+        ensures mapped { IfOk result (λ n. entries_of fresh.new.blocks ≡ with_idents (F.image map.now) (take (at + n) (entries_of self.now.blocks))) }
+    {
+        let _blocks = self.blocks();
+        let _chars = self.chars();
+        self.are_idents();
+        let (run, text) = self.stretch(at)?;
+        let len = run.len();
+        let runs = map.map(self.alloc(), &run)?;
+        fresh.insert_all(runs.as_slice(), &text)?;
+        Ok(len as u64)
+    }
+}
+
+// The number, or the greatest u32 below it.
+fn most_of(left: u64) -> u32
+    requires some { 0 < left }
+    ensures some { 0 < result }
+    ensures most { result ≤ left }
+{
+    left.min(4_294_967_295) as u32
+}

@@ -1,0 +1,232 @@
+//! One more run in a tree. Each call answers the new tree, or where it finds no memory the old one.
+
+ghost use Rattle.std.specs.Prelude.{◌≡◌, ◌+◌, ◌-◌, ◌^◌, ◌<◌, ◌≤◌, pos, [], ◌∷◌, ◌++◌, length, Some, None, IfOk, IfErr, OnOk, OnErr, IsTrue, false};
+ghost use Rattle.rls_ident.specs.Identifiers.{follows, shifted, ident_lt};
+ghost use Rattle.rls_runs.specs.Runs.{run_before, run_last, is_increasing};
+ghost use Rattle.rls_runs.specs.Entries.{idents_in};
+ghost use Rattle.rls_tree.specs.Trees.{piece_entries, entries_of, pieces, runs_in};
+ghost use Rattle.rls_tree.specs.Edits.{part_of, joined, goes_on, leads_to, are_loose, inserted, Shows};
+
+use crate::balance::join;
+use crate::block::{Block, part_of_run, part_of_text};
+use crate::node::{Link, Node, chars_of};
+use crate::split::{begins_behind, concat, ends_before, first_out, last_out, split};
+use rls_runs::{Run, Text};
+use std::alloc::{AllocError, Global};
+
+/// Puts a run and its characters in at a place. It costs a step for each level, the run's characters,
+/// and those behind the place in a block that is split there.
+pub(crate) fn insert_at(
+    alloc: Global,
+    link: Link,
+    i: u64,
+    run: &Run,
+    text: &Text,
+) -> Result<Link, Link>
+    requires place { i ≤ length (entries_of (pieces link)) }
+    requires as_many { length text.now ≡ run.now.1 }
+    requires chars_fit { length (entries_of (pieces link)) + length text.now < 2 ^ 64 }
+    requires loose { IsTrue (are_loose None (runs_in (pieces link))) }
+    requires rises { IsTrue (is_increasing (idents_in (inserted i (piece_entries (run.now, text.now)) (entries_of (pieces link))))) }
+    ensures ok { IfOk result (λ new. Shows (inserted i (piece_entries (run.now, text.now)) (entries_of (pieces link))) (pieces new)) }
+    ensures err { IfErr result (λ old. pieces old ≡ pieces link) }
+{
+    let _chars = chars_of(&link);
+    let (front, own, behind) = split(link, i);
+    let before = chars_of(&front);
+    match own {
+        None => insert_between(alloc, front, behind, run, text),
+        Some(node) => {
+            let _len = node.len();
+            let _run = run.len();
+            insert_within(alloc, front, node, behind, (i - before) as u32, run, text)
+        }
+    }
+}
+
+// Between two trees.
+fn insert_between(
+    alloc: Global,
+    front: Link,
+    behind: Link,
+    run: &Run,
+    text: &Text,
+) -> Result<Link, Link>
+    requires as_many { length text.now ≡ run.now.1 }
+    requires chars_fit { length (entries_of (pieces front ++ pieces behind)) + length text.now < 2 ^ 64 }
+    requires loose { IsTrue (are_loose None (runs_in (pieces front ++ pieces behind))) }
+    ensures ok { IfOk result (λ new. Shows (entries_of (pieces front) ++ piece_entries (run.now, text.now) ++ entries_of (pieces behind)) (pieces new)) }
+    ensures err { IfErr result (λ old. pieces old ≡ pieces front ++ pieces behind) }
+{
+    let begins = begins_behind(run, &behind);
+    if ends_before(&front, run.first()) {
+        if begins {
+            return fill_gap(alloc, front, behind, run, text);
+        }
+        return grow_last(front, behind, run, text);
+    }
+    if begins {
+        return grow_first(front, behind, run, text);
+    }
+    put_new(alloc, front, behind, run, text)
+}
+
+// Between two trees that it doesn't touch.
+fn put_new(alloc: Global, front: Link, behind: Link, run: &Run, text: &Text) -> Result<Link, Link>
+    requires as_many { length text.now ≡ run.now.1 }
+    requires chars_fit { length (entries_of (pieces front ++ pieces behind)) + length text.now < 2 ^ 64 }
+    requires loose { IsTrue (are_loose None (runs_in (pieces front ++ pieces behind))) }
+    requires ends { goes_on (run_before None (runs_in (pieces front))) run.now.0 ≡ false }
+    requires begins { leads_to (Some run.now) (runs_in (pieces behind)) ≡ false }
+    ensures ok { IfOk result (λ new. Shows (entries_of (pieces front) ++ piece_entries (run.now, text.now) ++ entries_of (pieces behind)) (pieces new)) }
+    ensures err { IfErr result (λ old. pieces old ≡ pieces front ++ pieces behind) }
+{
+    match new_node(alloc, run, text) {
+        Ok(node) => Ok(Some(join(front, node, behind))),
+        Err(_) => Err(concat(front, behind)),
+    }
+}
+
+// Behind the last run, with which it goes on.
+fn grow_last(front: Link, behind: Link, run: &Run, text: &Text) -> Result<Link, Link>
+    requires as_many { length text.now ≡ run.now.1 }
+    requires chars_fit { length (entries_of (pieces front ++ pieces behind)) + length text.now < 2 ^ 64 }
+    requires loose { IsTrue (are_loose None (runs_in (pieces front ++ pieces behind))) }
+    requires ends { IsTrue (goes_on (run_before None (runs_in (pieces front))) run.now.0) }
+    requires begins { leads_to (Some run.now) (runs_in (pieces behind)) ≡ false }
+    ensures ok { IfOk result (λ new. Shows (entries_of (pieces front) ++ piece_entries (run.now, text.now) ++ entries_of (pieces behind)) (pieces new)) }
+    ensures err { IfErr result (λ old. pieces old ≡ pieces front ++ pieces behind) }
+{
+    let Some(node) = front else { unreachable!() };
+    let (rest, mut last) = last_out(node);
+    let _len = last.len();
+    let _run = run.len();
+    match last.extend(run, text) {
+        Ok(()) => Ok(Some(join(rest, last, behind))),
+        Err(_) => Err(Some(join(rest, last, behind))),
+    }
+}
+
+// In front of the first run, which goes on with it.
+fn grow_first(front: Link, behind: Link, run: &Run, text: &Text) -> Result<Link, Link>
+    requires as_many { length text.now ≡ run.now.1 }
+    requires chars_fit { length (entries_of (pieces front ++ pieces behind)) + length text.now < 2 ^ 64 }
+    requires loose { IsTrue (are_loose None (runs_in (pieces front ++ pieces behind))) }
+    requires ends { goes_on (run_before None (runs_in (pieces front))) run.now.0 ≡ false }
+    requires begins { IsTrue (leads_to (Some run.now) (runs_in (pieces behind))) }
+    ensures ok { IfOk result (λ new. Shows (entries_of (pieces front) ++ piece_entries (run.now, text.now) ++ entries_of (pieces behind)) (pieces new)) }
+    ensures err { IfErr result (λ old. pieces old ≡ pieces front ++ pieces behind) }
+{
+    let Some(node) = behind else { unreachable!() };
+    let (mut first, rest) = first_out(node);
+    let _len = first.len();
+    let _run = run.len();
+    match first.extend_front(run, text) {
+        Ok(()) => Ok(Some(join(front, first, rest))),
+        Err(_) => Err(Some(join(front, first, rest))),
+    }
+}
+
+// Between the last run and the first one, which it joins.
+fn fill_gap(alloc: Global, front: Link, behind: Link, run: &Run, text: &Text) -> Result<Link, Link>
+    requires as_many { length text.now ≡ run.now.1 }
+    requires chars_fit { length (entries_of (pieces front ++ pieces behind)) + length text.now < 2 ^ 64 }
+    requires loose { IsTrue (are_loose None (runs_in (pieces front ++ pieces behind))) }
+    requires ends { IsTrue (goes_on (run_before None (runs_in (pieces front))) run.now.0) }
+    requires begins { IsTrue (leads_to (Some run.now) (runs_in (pieces behind))) }
+    ensures ok { IfOk result (λ new. Shows (entries_of (pieces front) ++ piece_entries (run.now, text.now) ++ entries_of (pieces behind)) (pieces new)) }
+    ensures err { IfErr result (λ old. pieces old ≡ pieces front ++ pieces behind) }
+{
+    let Some(before) = front else { unreachable!() };
+    let Some(after) = behind else { unreachable!() };
+    let (rest, mut last) = last_out(before);
+    let (first, far) = first_out(after);
+    let _last = last.len();
+    let _first = first.len();
+    let _run = run.len();
+    match fill(&mut last, run, text, &first) {
+        Ok(()) => Ok(Some(join(rest, last, far))),
+        Err(_) => Err(Some(join(rest, last, Some(join(None, first, far))))),
+    }
+}
+
+// A block that stands alone grows by a run and by another block behind that.
+fn fill(last: &mut Node, run: &Run, text: &Text, first: &Node) -> Result<(), AllocError>
+    requires one { length last.old.blocks ≡ 1 }
+    requires as_many { length text.now ≡ run.now.1 }
+    requires ends { IsTrue (follows run.now.0 (run_last last.old.block.0)) }
+    requires begins { IsTrue (follows first.now.block.0.0 (run_last run.now)) }
+    ensures ok { OnOk result (last.new.blocks ≡ joined last.old.block (joined (run.now, text.now) first.now.block) ∷ []) }
+    ensures err { OnErr result (last.new.blocks ≡ last.old.blocks) }
+{
+    let mut middle = Block::new(run.copy()?, text.copy()?);
+    middle.extend(first.run(), first.text())?;
+    let _len = middle.len();
+    last.extend(middle.run(), middle.text())
+}
+
+// Within a block, which is split.
+fn insert_within(
+    alloc: Global,
+    front: Link,
+    mut node: Box<Node>,
+    behind: Link,
+    at: u32,
+    run: &Run,
+    text: &Text,
+) -> Result<Link, Link>
+    requires one { length node.value.blocks ≡ 1 }
+    requires as_many { length text.now ≡ run.now.1 }
+    requires some { 0 < at }
+    requires within { at < node.value.block.0.1 }
+    requires chars_fit { length (entries_of (pieces front ++ node.value.blocks ++ pieces behind)) + length text.now < 2 ^ 64 }
+    requires loose { IsTrue (are_loose None (runs_in (pieces front ++ node.value.blocks ++ pieces behind))) }
+    requires above { IsTrue (ident_lt (shifted (pos (at - 1)) node.value.block.0.0) run.now.0) }
+    requires below { IsTrue (ident_lt (run_last run.now) (shifted (pos at) node.value.block.0.0)) }
+    ensures ok { IfOk result (λ new. Shows (entries_of (pieces front) ++ piece_entries (part_of 0 at node.value.block) ++ piece_entries (run.now, text.now)
+        ++ (piece_entries (part_of at (node.value.block.0.1 - at) node.value.block) ++ entries_of (pieces behind))) (pieces new)) }
+    ensures err { IfErr result (λ old. pieces old ≡ pieces front ++ node.value.blocks ++ pieces behind) }
+{
+    let len = node.len();
+    let _run = run.len();
+    let Ok(new) = new_node(alloc, run, text) else {
+        return Err(Some(join(front, node, behind)));
+    };
+    let Ok(rest) = part_node(alloc, &node, at, len - at) else {
+        return Err(Some(join(front, node, behind)));
+    };
+    match node.keep_front(at) {
+        Ok(()) => Ok(Some(join(
+            Some(join(front, node, None)),
+            new,
+            Some(join(None, rest, behind)),
+        ))),
+        Err(_) => Err(Some(join(front, node, behind))),
+    }
+}
+
+// A block of its own.
+fn new_node(alloc: Global, run: &Run, text: &Text) -> Result<Box<Node>, AllocError>
+    requires as_many { length text.now ≡ run.now.1 }
+    ensures node { IfOk result (λ node. node.value.blocks ≡ (run.now, text.now) ∷ []) }
+{
+    let block = Block::new(run.copy()?, text.copy()?);
+    Ok(Box::new(alloc, Node::leaf(block))?)
+}
+
+/// A block of its own with so many characters of a node's block from a place on. It costs their number.
+pub(crate) fn part_node(
+    alloc: Global,
+    node: &Node,
+    from: u32,
+    len: u32,
+) -> Result<Box<Node>, AllocError>
+    requires some { 0 < len }
+    requires within { from + len ≤ node.now.block.0.1 }
+    ensures node { IfOk result (λ part. part.value.blocks ≡ part_of from len node.now.block ∷ []) }
+{
+    let _len = node.len();
+    let run = part_of_run(node.run(), from, len)?;
+    let text = part_of_text(alloc, node.text(), from as usize, len as usize)?;
+    Ok(Box::new(alloc, Node::leaf(Block::new(run, text)))?)
+}
