@@ -4,6 +4,8 @@
 #[cfg(test)]
 mod commands;
 #[cfg(test)]
+mod epochs;
+#[cfg(test)]
 mod files;
 #[cfg(test)]
 mod keepers;
