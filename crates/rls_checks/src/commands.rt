@@ -1,5 +1,6 @@
 //! Commands over devices in memory.
 
+use crate::bytes::front;
 use crate::files::{FRESH_IN_FORM_2, HELLO, MARK, USED_MARK, journal};
 use rls_io::{MemoryKeeper, MemorySink, MemorySource};
 use rls_top::run;
@@ -89,9 +90,13 @@ fn texts_of_journals(rt: HostRuntime) -> Result<(), Fail> {
         None
     );
     assert_eq!(rt;
-        difference(alloc, &Case::text(Some(&used), 3, b"", b"damaged at 0\n"))?,
+        difference(alloc, &Case::text(Some(&used), 3, b"", b"damaged at 71\n"))?,
         None
     );
+    let empty = Case::text(Some(b""), 3, b"", b"damaged at 0\n");
+    assert_eq!(rt; difference(alloc, &empty)?, None);
+    let cut = Case::text(Some(front(&hello, 69)), 3, b"", b"damaged at 65\n");
+    assert_eq!(rt; difference(alloc, &cut)?, None);
     let fresh = Case::text(Some(FRESH_IN_FORM_2), 12, b"", b"not built\n");
     assert_eq!(rt; difference(alloc, &fresh)?, None);
     Ok(())

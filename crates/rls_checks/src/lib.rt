@@ -2,13 +2,23 @@
 #![tactic(auto)]
 
 #[cfg(test)]
+mod bytes;
+#[cfg(test)]
 mod commands;
 #[cfg(test)]
+mod editing;
+#[cfg(test)]
 mod epochs;
+#[cfg(test)]
+mod exchanging;
+#[cfg(test)]
+mod faults;
 #[cfg(test)]
 mod files;
 #[cfg(test)]
 mod keepers;
+#[cfg(test)]
+mod members;
 #[cfg(test)]
 mod renamings;
 #[cfg(test)]

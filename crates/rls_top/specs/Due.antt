@@ -1,76 +1,222 @@
--- What a command calls for, by its words and the kept file.
-use Rattle.std.specs.Prelude.{◌≡◌, ◌≤◌, ℕ, List, length, take, encode_utf8_all, Option, Some, None, Result, Ok, Err, nat_lt, if◌then◌else◌}
-use Rattle.rls_io.specs.Device.{Appends}
-use Rattle.rls_model.specs.History.{History}
-use Rattle.rls_model.specs.Document as document
-use Rattle.rls_top.specs.declared.words.Command.{Command}
-use Rattle.rls_top.specs.declared.words.Command.TheVariants.{Text}
-use Rattle.rls_top.specs.Words.{command_of}
-use Rattle.rls_top.specs.Journal.{Fault, Broken, ◌>>=◌, history_of}
-use Rattle.rls_top.specs.Journal as journal
-use Rattle.rls_report.specs.declared.failures.Failure.TheVariants.{Usage, NoReplica, Damaged, OutOfMemory, TooLarge}
-use Rattle.rls_top.specs.Stops.{stop_status}
+-- What a command calls for, by its words, the kept file and the input.
+use Rattle.std.specs.Prelude.{ℕ, Bool, true, false, not, ◌&&◌, ◌==◌, List, [], length, encode_utf8_all, Option, Some, None, Result, Ok, Err, nat_lt, if◌then◌else◌}
+use Rattle.std.specs.List.{flat_map}
+use Rattle.rls_runs.specs.Runs.{runs_of}
+use Rattle.rls_ops.specs.declared.message.Message.{Message}
+use Rattle.rls_ops.specs.Spelling.{message_bytes}
+use Rattle.rls_codec.specs.Reading.{is_member_count, message_of}
+use Rattle.rls_model.specs.Answers.{Reason}
+use Rattle.rls_model.specs.Document.{text, idents}
+use Rattle.rls_model.specs.EditRun.{Run, Done, Stopped}
+use Rattle.rls_model.specs.Epochs.{greatest}
+use Rattle.rls_model.specs.History.{History, Fresh, group_of, members_of}
+use Rattle.rls_model.specs.Receiving.{State}
+use Rattle.rls_model.specs.Taking.{Progress, message_for, take_message}
+use Rattle.rls_file.specs.Files.{Content, Journal, Snapshot, journal_bytes}
+use Rattle.rls_file.specs.ReadingFiles.{begins_snapshot, file_of}
+use Rattle.rls_report.specs.declared.failures.LineFault.{LineFault}
+use Rattle.rls_report.specs.declared.failures.Failure.TheVariants.{Usage, NoReplica, ReplicaExists, Damaged, BadMembers, BadMe, NotMember, BadLine, Malformed, OtherGroup, TooLarge}
+use Rattle.rls_report.specs.declared.failures.Failure.TheVariants as failures
+use Rattle.rls_report.specs.Listing.{ids_text}
+use Rattle.rls_report.specs.Refused.{refused_line}
+use Rattle.rls_report.specs.Reports.{new_text, edit_text, take_text}
+use Rattle.rls_script.specs.Scripts.{script_of}
+use Rattle.rls_script.specs.declared.lines.Line.{Line}
 use Rattle.rls_top.specs.declared.stop.Stop.{Stop}
 use Rattle.rls_top.specs.declared.stop.Stop.TheVariants.{Failed, NotBuilt}
+use Rattle.rls_top.specs.declared.words.Command.{Command}
+use Rattle.rls_top.specs.declared.words.Command.TheVariants.{New, Edit, Text, Ids, Stat, Send, Take, Leave, Trial}
+use Rattle.rls_top.specs.Lines.{run_script, run_leave}
+use Rattle.rls_top.specs.Stops.{stop_status, stop_line}
+use Rattle.rls_top.specs.Words.{command_of}
 
--- the most bytes of a kept file
+-- the most bytes of a kept file, and of the input
 abbrev pub file_limit : ℕ
 file_limit = 268435456
 
--- these bytes on the output, or an early end
+abbrev pub input_limit : ℕ
+input_limit = 67108864
+
+-- what a command makes, or why it ends early
 pub data Due : Type 0 where
-  Writes : (bytes : List ℕ) → Due
+  -- the file to be stored, where the command stores one; what is written to the output; refused operations, each with its author and number
+  Makes : (stored : Option (List ℕ)) → (report : List ℕ) → (refused : List (ℕ × ℕ × Reason)) → Due
   Stops : (stop : Stop) → Due
 
--- the text in UTF-8
-abbrev pub text_bytes : History → List ℕ
-text_bytes H = encode_utf8_all (document.text H)
+-- this report, and nothing is stored
+abbrev pub shows : List ℕ → Due
+shows report = Makes None report []
 
--- the text of the history of which the bytes are the journal, in UTF-8
-unfoldable pub text_told : List ℕ → Result (List ℕ) Fault
-text_told bytes = history_of bytes >>= λ H. Ok (text_bytes H)
+-- ---- reading and storing
 
-abbrev pub due_of_text : Result (List ℕ) Fault → Due
-due_of_text (Ok bytes) = Writes bytes
-due_of_text (Err (Broken left)) = Stops (Failed (Damaged 0))
-due_of_text (Err journal.NotBuilt) = Stops NotBuilt
+-- the bytes of the file, if there is one, unless they are too many
+abbrev pub loaded : Option (List ℕ) → Result (Option (List ℕ)) Stop
+loaded None = Ok None
+loaded (Some bytes) = if nat_lt file_limit (length bytes) then Err (Failed TooLarge) else Ok (Some bytes)
 
--- what `text` calls for
-abbrev pub due_of_file : Option (List ℕ) → Due
-due_of_file None = Stops (Failed NoReplica)
-due_of_file (Some bytes) = if nat_lt file_limit (length bytes) then Stops (Failed TooLarge) else due_of_text (text_told bytes)
+-- what a file says, or why it can't be used
+abbrev pub state_of_content : Result Content ℕ → Result State Stop
+state_of_content (Ok (Journal s)) = Ok s
+state_of_content (Ok (Snapshot form parts)) = Err NotBuilt
+state_of_content (Err at) = Err (Failed (Damaged at))
 
-abbrev pub due_of_command : Option Command → Option (List ℕ) → Due
-due_of_command None kept = Stops (Failed Usage)
-due_of_command (Some Text) kept = due_of_file kept
-due_of_command (Some _) kept = Stops NotBuilt
+-- what bytes say
+abbrev pub state_of : List ℕ → Result State Stop
+state_of bytes = if begins_snapshot bytes then Err NotBuilt else state_of_content (file_of bytes)
 
--- what these words call for, where this file is kept
-abbrev pub due : List (List ℕ) → Option (List ℕ) → Due
-due words kept = due_of_command (command_of words) kept
+-- what the file says
+abbrev pub state_in : Result (Option (List ℕ)) Stop → Result State Stop
+state_in (Ok None) = Err (Failed NoReplica)
+state_in (Ok (Some bytes)) = state_of bytes
+state_in (Err stop) = Err stop
+
+-- the input, unless it is too long
+abbrev pub read : List ℕ → Result (List ℕ) Stop
+read input = if nat_lt input_limit (length input) then Err (Failed TooLarge) else Ok input
+
+-- the bytes of a state, unless they are too many
+abbrev pub saved : State → Result (List ℕ) Stop
+saved s = if nat_lt file_limit (length (journal_bytes s)) then Err (Failed TooLarge) else Ok (journal_bytes s)
+
+-- these bytes are stored, with this report
+abbrev pub stores : Result (List ℕ) Stop → List ℕ → List (ℕ × ℕ × Reason) → Due
+stores (Ok bytes) report refused = Makes (Some bytes) report refused
+stores (Err stop) report refused = Stops stop
+
+-- ---- commands on a state
+
+-- the text
+abbrev pub due_of_text : History → Due
+due_of_text H = shows (encode_utf8_all (text H))
+
+-- the listing of its identifiers
+abbrev pub due_of_ids : History → Due
+due_of_ids H = shows (ids_text (greatest H) (runs_of (idents H)))
+
+-- the message for a member
+abbrev pub due_of_send : History → ℕ → Due
+due_of_send H to = if nat_lt to (members_of H) then shows (message_bytes (message_for H to)) else Stops (Failed (NotMember to))
+
+-- after n edits
+abbrev pub due_of_run : ℕ → Run LineFault → Due
+due_of_run n (Done p) = stores (saved p.state) (edit_text n p.released (length p.refused)) p.refused
+due_of_run n (Stopped line fault) = Stops (Failed (failures.Edit line fault))
+
+-- the lines of a script, or the number of the first bad one
+abbrev pub due_of_script : State → Result (List Line) ℕ → Due
+due_of_script s (Ok lines) = due_of_run (length lines) (run_script s lines)
+due_of_script s (Err line) = Stops (Failed (BadLine line))
+
+-- after a message was taken
+abbrev pub due_of_progress : Progress → Due
+due_of_progress p = stores (saved p.state) (take_text p.applied p.released p.repeated p.held (length p.refused)) p.refused
+
+-- the message is of this group and of as many members
+abbrev pub is_for : History → Message → Bool
+is_for H m = (m.group == group_of H) && (m.members == members_of H)
+
+-- the message, or the place of its first fault
+abbrev pub due_of_message : State → Result Message ℕ → Due
+due_of_message s (Ok m) = if is_for s.history m then due_of_progress (take_message s m) else Stops (Failed (OtherGroup m.group m.members))
+due_of_message s (Err at) = Stops (Failed (Malformed at))
+
+-- with the input that was read
+abbrev pub due_of_input : Result (List ℕ) Stop → (List ℕ → Due) → Due
+due_of_input (Ok bytes) due = due bytes
+due_of_input (Err stop) due = Stops stop
+
+-- what the command calls for at this state
+abbrev pub due_at : Command → State → List ℕ → Due
+due_at Text s input = due_of_text s.history
+due_at Ids s input = due_of_ids s.history
+due_at (Send to) s input = due_of_send s.history to
+due_at Edit s input = due_of_input (read input) (λ bytes. due_of_script s (script_of bytes))
+due_at Take s input = due_of_input (read input) (λ bytes. due_of_message s (message_of bytes))
+due_at Leave s input = due_of_run 1 (run_leave s)
+due_at _ s input = Stops NotBuilt
+
+-- ---- commands on a file
+
+-- at the state of the kept file
+abbrev pub due_on : Command → Result State Stop → List ℕ → Due
+due_on c (Ok s) input = due_at c s input
+due_on c (Err stop) input = Stops stop
+
+-- a fresh replica, where there is no file
+abbrev pub due_of_fresh : ℕ → ℕ → ℕ → Result (Option (List ℕ)) Stop → Due
+due_of_fresh group me members (Ok None) = stores (saved (record { history = Fresh group me members; waiting = [] })) (new_text group me members) []
+due_of_fresh group me members (Ok (Some bytes)) = Stops (Failed ReplicaExists)
+due_of_fresh group me members (Err stop) = Stops stop
+
+-- and where its numbers are in range
+abbrev pub due_of_new : ℕ → ℕ → ℕ → Option (List ℕ) → Due
+due_of_new group me members kept =
+    if not (is_member_count members) then Stops (Failed (BadMembers members))
+    else if not (nat_lt me members) then Stops (Failed (BadMe me))
+    else due_of_fresh group me members (loaded kept)
+
+-- ---- commands
+
+abbrev pub due_of_command : Command → Option (List ℕ) → List ℕ → Due
+due_of_command (New group me members) kept input = due_of_new group me members kept
+due_of_command Stat kept input = Stops NotBuilt
+due_of_command (Trial seed steps) kept input = Stops NotBuilt
+due_of_command c kept input = due_on c (state_in (loaded kept)) input
+
+abbrev pub due_of_words : Option Command → Option (List ℕ) → List ℕ → Due
+due_of_words None kept input = Stops (Failed Usage)
+due_of_words (Some c) kept input = due_of_command c kept input
+
+-- what these words call for, where this file is kept and this is the input
+abbrev pub due : List (List ℕ) → Option (List ℕ) → List ℕ → Due
+due words kept input = due_of_words (command_of words) kept input
+
+-- ---- what is seen of it
+
+-- the lines that tell refused operations
+abbrev pub refused_lines : List (ℕ × ℕ × Reason) → List ℕ
+refused_lines refused = flat_map (λ r. refused_line r.0 r.1 r.2) refused
+
+-- done, or done but for refused operations
+abbrev pub made_status : List (ℕ × ℕ × Reason) → ℕ
+made_status refused = if length refused == 0 then 0 else 5
 
 abbrev pub due_status : Due → ℕ
-due_status (Writes bytes) = 0
+due_status (Makes stored report refused) = made_status refused
 due_status (Stops stop) = stop_status stop
 
--- the words are a command other than `text`
-abbrev pub IsOther : Option Command → Type 0
-IsOther None = ⊥
-IsOther (Some Text) = ⊥
-IsOther (Some _) = Unit {0}
+-- what is written to the errors
+abbrev pub due_line : Due → List ℕ
+due_line (Makes stored report refused) = refused_lines refused
+due_line (Stops stop) = stop_line stop
 
--- the bytes that are called for were appended, all of them or so many
-abbrev pub IsWritten : Due → Option (List ℕ) → Option (List ℕ) → Type 0
-IsWritten (Writes bytes) old new = Appends old new bytes
-IsWritten (Stops stop) old new = ⊥
+-- the file afterwards, where this is stored, if anything
+abbrev pub stored_or : Option (List ℕ) → Option (List ℕ) → Option (List ℕ)
+stored_or None kept = kept
+stored_or (Some bytes) kept = Some bytes
 
-abbrev pub IsPartWritten : Due → Option (List ℕ) → Option (List ℕ) → Type 0
-IsPartWritten (Writes bytes) old new = (n : ℕ) × (n ≤ length bytes) × Appends old new (take n bytes)
-IsPartWritten (Stops stop) old new = ⊥
+-- ---- which commands read or store
 
--- the end is the one that is called for, or memory ran out
-abbrev pub IsDue : Result (Unit {0}) Stop → Due → Type 0
-IsDue (Ok u) (Writes bytes) = Unit {0}
-IsDue (Ok u) (Stops stop) = ⊥
-IsDue (Err (Failed OutOfMemory)) d = Unit {0}
-IsDue (Err stop) d = d ≡ Stops stop
+-- the command reads the input
+abbrev pub reads_input : Option Command → Bool
+reads_input (Some Edit) = true
+reads_input (Some Take) = true
+reads_input _ = false
+
+-- the command may store a file
+abbrev pub may_store : Option Command → Bool
+may_store (Some (New group me members)) = true
+may_store (Some Edit) = true
+may_store (Some Take) = true
+may_store (Some Leave) = true
+may_store _ = false
+
+-- the command isn't built yet
+abbrev pub IsUnbuilt : Option Command → Type 0
+IsUnbuilt (Some Stat) = Unit {0}
+IsUnbuilt (Some (Trial seed steps)) = Unit {0}
+IsUnbuilt _ = ⊥
+
+-- the input, as far as the command looks at it, where it is told
+abbrev pub heard : Option Command → Option (List ℕ) → Option (List ℕ)
+heard c left = if reads_input c then left else Some []

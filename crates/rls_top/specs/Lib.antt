@@ -1,10 +1,8 @@
-pub mod Journal
-pub mod Insertions
-pub mod Over
-pub mod Gives
-pub mod Heads
-pub mod Table
 pub mod Words
 pub mod Stops
+pub mod Lines
 pub mod Due
+pub mod Endings
+pub mod Made
+pub mod Steps
 pub mod Headline

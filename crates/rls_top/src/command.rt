@@ -1,132 +1,160 @@
 //! The commands.
 
-ghost use Rattle.std.specs.Prelude.{◌≡◌, ◌≢◌, ◌↔◌, ◌+◌, ◌<◌, ◌≤◌, ◌⊎◌, ℕ, Option, List, [], ◌∷◌, length, take, map, codes, string_bytes, Some, None, Ok, Err, IsOk, IsErr, IfSome, IfErr, OnOk, OnErr, IsErrOf, Contains};
-ghost use Rattle.std.specs.List.{All};
+ghost use Rattle.std.specs.Prelude.{◌≡◌, ◌≢◌, ◌↔◌, ◌<◌, ◌≤◌, ◌⊎◌, ℕ, Option, List, [], ◌∷◌, length, map, encode_utf8_all, string_bytes, Some, None, Ok, Err, IfOk, OnOk, OnErr, IfErr, IsTrue, IsFalse, Contains};
 ghost use Rattle.rls_io.specs.Device.{Rose, Appends, Keeps};
+ghost use Rattle.rls_io.specs.Memory.{bytes_of};
+ghost use Rattle.rls_runs.specs.Runs.{runs_of};
+ghost use Rattle.rls_ops.specs.declared.message.Message.{Message};
+ghost use Rattle.rls_ops.specs.Spelling.{message_bytes};
+ghost use Rattle.rls_codec.specs.CodecLaws.{IsMessage};
+ghost use Rattle.rls_model.specs.Document.{text, idents};
+ghost use Rattle.rls_model.specs.EditRun.{Done};
+ghost use Rattle.rls_model.specs.Epochs.{greatest};
+ghost use Rattle.rls_file.specs.SpelledFiles.{IsHead};
+ghost use Rattle.rls_model.specs.History.{Fresh, members_of};
+ghost use Rattle.rls_model.specs.Receiving.{State};
+ghost use Rattle.rls_model.specs.Taking.{Progress, message_for, take_message};
+ghost use Rattle.rls_report.specs.Listing.{ids_text};
+ghost use Rattle.rls_report.specs.Reports.{new_text, edit_text, take_text};
+ghost use Rattle.rls_script.specs.Scripts.{script_of};
+ghost use Rattle.rls_script.specs.declared.lines.Line.{Line};
+ghost use Rattle.rls_top.specs.declared.words.Command.TheVariants as Command;
+ghost use Rattle.rls_top.specs.Headline.{Asks, Shows, Saves, IsFileTooLong, IsTooLong};
+ghost use Rattle.rls_top.specs.Lines.{run_script, run_leave};
 ghost use Rattle.rls_top.specs.Words.{command_of};
-ghost use Rattle.rls_top.specs.Stops.{status_line, IsTextStop, IsStop, IsTold};
-ghost use Rattle.rls_model.specs.History.{History};
-ghost use Rattle.rls_top.specs.Gives.{Gives};
-ghost use Rattle.rls_top.specs.Headline.{IsJournalOf, IsTextStatus};
-ghost use Rattle.rls_top.specs.Due.{file_limit, text_bytes, text_told, Due, Stops, due_of_file, due, due_status, IsDue, IsOther, IsWritten, IsPartWritten};
+ghost use Rattle.rls_top.specs.Stops.{IsPart};
+ghost use Rattle.rls_top.specs.Due.{reads_input, may_store, is_for, IsUnbuilt};
+ghost use Rattle.rls_top.specs.Endings.{IfTold, IsStatus, IsDone, IsStored, IsWritten, IsPartWritten, IsKept, Stays, LeavesFile, line_at};
+ghost use Rattle.rls_top.specs.Made.{IsDue, IsLate, Reports, Leaves, IsStatusOf, line_of};
 
-use crate::reading::{JournalError, journal};
-use crate::stop::Stop;
-use crate::words::{Command, parsed};
-use rls_io::{Found, Keeper, LoadError, Sink, Source, write_all_of};
+use crate::made::Made;
+use crate::making::make;
+use crate::stop::{Stop, failed, write_line};
+use crate::words::parsed;
+use rls_io::{Keeper, Sink, Source, StoreError, write_all_of};
 use rls_report::Failure;
 use std::alloc::Global;
 
-/// The most bytes of a kept file.
-const FILE_LIMIT: u64 = 268_435_456;
-
-fn are_bytes(bytes: &[u8])
-    ensures { All (λ b. b < 256) bytes.now }
-{
-    let _len = bytes.len();
-}
-
-/// The text that the journal tells.
-fn text_of(alloc: Global, bytes: &[u8]) -> Result<String, JournalError>
-    ensures text { Gives (λ text. string_bytes text) result (text_told bytes.now) }
-{
-    are_bytes(bytes);
-    let mut found = journal(alloc, bytes)?;
-    found.sort()?;
-    let text = found.text(alloc)?;
-    Ok(text)
-}
-
-/// Writes the text of the kept file.
-fn write_text<K: Keeper, W: Sink>(alloc: Global, keeper: &mut K, output: &mut W) -> Result<(), Stop>
-    ensures missing { result ≡ Err (Stop.Failed Failure.NoReplica) → IfSome (K.file keeper.old) (λ kept. due_of_file kept ≡ Stops (Stop.Failed Failure.NoReplica)) }
-    ensures damaged { result ≡ Err (Stop.Failed (Failure.Damaged 0)) → IfSome (K.file keeper.old) (λ kept. due_of_file kept ≡ Stops (Stop.Failed (Failure.Damaged 0))) }
-    ensures too_large { result ≡ Err (Stop.Failed Failure.TooLarge) → IfSome (K.file keeper.old) (λ kept. due_of_file kept ≡ Stops (Stop.Failed Failure.TooLarge)) }
-    ensures not_built { result ≡ Err Stop.NotBuilt → IfSome (K.file keeper.old) (λ kept. due_of_file kept ≡ Stops Stop.NotBuilt) }
+/// Stores the file that was made, where there is one.
+fn store<K: Keeper>(alloc: Global, made: &Made, keeper: &mut K) -> Result<(), Stop>
+    ensures ok { OnOk result (LeavesFile (bytes_of made.now.stored) (K.file keeper.old) (K.file keeper.new)) }
+    ensures err { OnErr result (Keeps (K.file keeper.new) (K.file keeper.old)) }
+    ensures unstored { made.now.stored ≡ None → keeper.new ≡ keeper.old }
     ensures keeper { result ≡ Err (Stop.Failed Failure.KeeperFault) → Rose (K.faults keeper.old) (K.faults keeper.new) }
-    ensures output { result ≡ Err (Stop.Failed Failure.SinkFault) → Rose (W.faults output.old) (W.faults output.new) }
-    ensures no_other { IfErr result IsTextStop }
-    ensures done { OnOk result (IfSome (K.file keeper.old) (λ kept. IsWritten (due_of_file kept) (W.told output.old) (W.told output.new))) }
-    ensures partly { result ≡ Err (Stop.Failed Failure.SinkFault) → IfSome (K.file keeper.old) (λ kept. IsPartWritten (due_of_file kept) (W.told output.old) (W.told output.new)) }
-    ensures nothing { IfErr result (λ stop. stop ≢ Stop.Failed Failure.SinkFault → W.told output.new ≡ W.told output.old) }
-    ensures kept { Keeps (K.file keeper.old) (K.file keeper.new) }
-    ensures complete { (kept : Option (List ℕ)) → K.file keeper.old ≡ Some kept → (Rose (K.faults keeper.old) (K.faults keeper.new) → ⊥) → (Rose (W.faults output.old) (W.faults output.new) → ⊥)
-        → IsDue result (due_of_file kept) }
+    ensures late { IfErr result IsLate }
+    ensures no_output { result ≢ Err (Stop.Failed Failure.SinkFault) }
+    ensures never_falls { K.faults keeper.old ≤ K.faults keeper.new }
 {
-    match keeper.load(alloc, FILE_LIMIT) {
-        Err(LoadError::Failed) => Err(failed(Failure::KeeperFault)),
-        Err(LoadError::OutOfMemory) => Err(failed(Failure::OutOfMemory)),
-        Ok(Found::Missing) => Err(failed(Failure::NoReplica)),
-        Ok(Found::Longer) => Err(failed(Failure::TooLarge)),
-        Ok(Found::Bytes(bytes)) => match text_of(alloc, &bytes) {
-            Err(JournalError::Broken { .. }) => Err(failed(Failure::Damaged { at: 0 })),
-            Err(JournalError::NotBuilt) => Err(Stop::NotBuilt),
-            Err(JournalError::OutOfMemory) => Err(failed(Failure::OutOfMemory)),
-            Ok(text) => match write_all_of(output, text.as_bytes()) {
-                Ok(()) => Ok(()),
-                Err(_) => Err(failed(Failure::SinkFault)),
-            },
+    match &made.stored {
+        None => Ok(()),
+        Some(bytes) => match keeper.store(alloc, bytes) {
+            Ok(()) => Ok(()),
+            Err(StoreError::Failed) => Err(failed(Failure::KeeperFault)),
+            Err(StoreError::OutOfMemory) => Err(failed(Failure::OutOfMemory)),
         },
     }
 }
 
-fn failed(failure: Failure) -> Stop
-    ensures { result ≡ Stop.Failed failure }
-{
-    Stop::Failed { failure }
-}
-
-/// Performs the command that the words are.
-fn perform<K: Keeper, W: Sink>(
+/// Stores and writes what was made.
+fn finish<K: Keeper, W: Sink>(
     alloc: Global,
-    words: &[String],
+    made: Made,
     keeper: &mut K,
     output: &mut W,
-) -> Result<(), Stop>
-    ensures usage { result ≡ Err (Stop.Failed Failure.Usage) ↔ (command_of (map string_bytes words.now) ≡ None) }
-    ensures other { IsOther (command_of (map string_bytes words.now)) → result ≡ Err Stop.NotBuilt }
-    ensures missing { result ≡ Err (Stop.Failed Failure.NoReplica) → IfSome (K.file keeper.old) (λ kept. due (map string_bytes words.now) kept ≡ Stops (Stop.Failed Failure.NoReplica)) }
-    ensures damaged { result ≡ Err (Stop.Failed (Failure.Damaged 0)) → IfSome (K.file keeper.old) (λ kept. due (map string_bytes words.now) kept ≡ Stops (Stop.Failed (Failure.Damaged 0))) }
-    ensures too_large { result ≡ Err (Stop.Failed Failure.TooLarge) → IfSome (K.file keeper.old) (λ kept. due (map string_bytes words.now) kept ≡ Stops (Stop.Failed Failure.TooLarge)) }
-    ensures not_built { result ≡ Err Stop.NotBuilt → IfSome (K.file keeper.old) (λ kept. due (map string_bytes words.now) kept ≡ Stops Stop.NotBuilt) }
+) -> Result<Made, Stop>
+    ensures same { IfOk result (λ x. x ≡ made) }
+    ensures late { IfErr result IsLate }
+    ensures done { OnOk result (Appends (W.told output.old) (W.told output.new) made.report.items) }
+    ensures partly { result ≡ Err (Stop.Failed Failure.SinkFault) → IsPart (W.told output.old) (W.told output.new) made.report.items }
+    ensures nothing { IfErr result (λ stop. stop ≢ Stop.Failed Failure.SinkFault → W.told output.new ≡ W.told output.old) }
+    ensures file { OnOk result (LeavesFile (bytes_of made.stored) (K.file keeper.old) (K.file keeper.new)) }
+    ensures file_partly { result ≡ Err (Stop.Failed Failure.SinkFault) → LeavesFile (bytes_of made.stored) (K.file keeper.old) (K.file keeper.new) }
+    ensures stays { IfErr result (λ stop. stop ≢ Stop.Failed Failure.SinkFault → Keeps (K.file keeper.new) (K.file keeper.old)) }
+    ensures unstored { made.stored ≡ None → keeper.new ≡ keeper.old }
     ensures keeper { result ≡ Err (Stop.Failed Failure.KeeperFault) → Rose (K.faults keeper.old) (K.faults keeper.new) }
     ensures output { result ≡ Err (Stop.Failed Failure.SinkFault) → Rose (W.faults output.old) (W.faults output.new) }
-    ensures no_other { IfErr result IsStop }
-    ensures done { OnOk result (IfSome (K.file keeper.old) (λ kept. IsWritten (due (map string_bytes words.now) kept) (W.told output.old) (W.told output.new))) }
-    ensures partly { result ≡ Err (Stop.Failed Failure.SinkFault) → IfSome (K.file keeper.old) (λ kept. IsPartWritten (due (map string_bytes words.now) kept) (W.told output.old) (W.told output.new)) }
-    ensures nothing { IfErr result (λ stop. stop ≢ Stop.Failed Failure.SinkFault → W.told output.new ≡ W.told output.old) }
-    ensures kept { Keeps (K.file keeper.old) (K.file keeper.new) }
-    ensures complete { (kept : Option (List ℕ)) → K.file keeper.old ≡ Some kept → (Rose (K.faults keeper.old) (K.faults keeper.new) → ⊥) → (Rose (W.faults output.old) (W.faults output.new) → ⊥)
-        → IsDue result (due (map string_bytes words.now) kept) }
+    ensures never_falls { K.faults keeper.old ≤ K.faults keeper.new }
 {
-    match parsed(words) {
-        None => Err(failed(Failure::Usage)),
-        Some(Command::Text) => write_text(alloc, keeper, output),
-        Some(_) => Err(Stop::NotBuilt),
+    match store(alloc, &made, keeper) {
+        Err(stop) => Err(stop),
+        Ok(()) => match write_all_of(output, &made.report) {
+            Ok(()) => Ok(made),
+            Err(_) => Err(failed(Failure::SinkFault)),
+        },
     }
 }
 
-/// Performs the command that the words are, on the keeper's file, and answers the program's exit status. `text` is the only
-/// command that is built so far.
+/// Performs the command that the words are.
+fn perform<K: Keeper, S: Source, W: Sink>(
+    alloc: Global,
+    words: &[String],
+    keeper: &mut K,
+    input: &mut S,
+    output: &mut W,
+) -> Result<Made, Stop>
+    ensures due { IfTold (map string_bytes words.now) (K.file keeper.old) (S.left input.old) (λ d kept. IsDue result d) }
+    ensures usage { result ≡ Err (Stop.Failed Failure.Usage) ↔ (command_of (map string_bytes words.now) ≡ None) }
+    ensures unbuilt { IsUnbuilt (command_of (map string_bytes words.now)) → result ≡ Err Stop.NotBuilt }
+    ensures keeper { result ≡ Err (Stop.Failed Failure.KeeperFault) → Rose (K.faults keeper.old) (K.faults keeper.new) }
+    ensures input { result ≡ Err (Stop.Failed Failure.SourceFault) → Rose (S.faults input.old) (S.faults input.new) }
+    ensures output { result ≡ Err (Stop.Failed Failure.SinkFault) → Rose (W.faults output.old) (W.faults output.new) }
+    ensures reports { IfTold (map string_bytes words.now) (K.file keeper.old) (S.left input.old) (λ d kept. Reports result d (W.told output.old) (W.told output.new)) }
+    ensures nothing { IfErr result (λ stop. stop ≢ Stop.Failed Failure.SinkFault → W.told output.new ≡ W.told output.old) }
+    ensures leaves { IfTold (map string_bytes words.now) (K.file keeper.old) (S.left input.old) (λ d kept. Leaves result d kept (K.file keeper.new)) }
+    ensures stays { IfErr result (λ stop. stop ≢ Stop.Failed Failure.SinkFault → Stays (K.file keeper.old) (K.file keeper.new)) }
+    ensures kept { IsFalse (may_store (command_of (map string_bytes words.now))) → Keeps (K.file keeper.old) (K.file keeper.new) }
+    ensures read { result ≡ Err (Stop.Failed Failure.SourceFault) → IsTrue (reads_input (command_of (map string_bytes words.now))) }
+    ensures unread { IsFalse (reads_input (command_of (map string_bytes words.now))) → input.new ≡ input.old }
+{
+    match parsed(words) {
+        None => Err(failed(Failure::Usage)),
+        Some(command) => match make(alloc, command, keeper, input) {
+            Err(stop) => Err(stop),
+            Ok(made) => finish(alloc, made, keeper, output),
+        },
+    }
+}
+
+/// Writes the lines of this end, and answers its status.
+fn tell<E: Sink>(alloc: Global, ending: Result<Made, Stop>, errors: &mut E) -> u8
+    ensures status { IsStatusOf ending result }
+    ensures line { IsPart (E.told errors.old) (E.told errors.new) (line_of ending result) }
+    ensures whole { (Rose (E.faults errors.old) (E.faults errors.new) → ⊥) → Appends (E.told errors.old) (E.told errors.new) (line_of ending result) }
+{
+    match ending {
+        Ok(made) => {
+            write_line(errors, made.lines.as_str());
+            if made.refused == 0 { 0 } else { 5 }
+        }
+        Err(stop) => stop.tell(alloc, errors),
+    }
+}
+
+/// Performs the command that the words are, on the keeper's file, and answers the program's exit status. `stat`, `trial` and files
+/// that begin as a snapshot aren't built yet.
 ///
 /// | Status | Cause |
 /// |---|---|
-/// | 0 | done: the text stands on the output in UTF-8, with nothing added |
+/// | 0 | done |
 /// | 1 | the words are no command |
-/// | 2 | there is no file |
-/// | 3 | the first thing of the file that decides is a field that is cut off or breaks its rule, or a surplus byte |
-/// | 7 | the keeper's count of faults rose |
-/// | 9 | the output's count of faults rose; a part of the text may have been written |
+/// | 2 | there is no file, or for `new` there is one |
+/// | 3 | the file isn't in the grammar |
+/// | 4 | the numbers of `new`, the member of `send`, a line of a script, a message, or its group or count of members |
+/// | 5 | done, but an operation of the message, or one that waited, was refused |
+/// | 6 | the first line of a script whose edit is refused |
+/// | 7, 8, 9 | the count of faults rose of the keeper, of the input, of the output |
 /// | 10 | want of memory |
-/// | 11 | the file has more than 268,435,456 bytes |
-/// | 12 | another command, or the first thing of the file that decides is a field that isn't built |
+/// | 11 | the input has more than 67,108,864 bytes, or the file as kept or to be stored more than 268,435,456 |
+/// | 12 | not built yet |
 ///
-/// The line that tells any status but 0 is written to `errors`, where a fault changes no status. The file and the input stay
-/// as they were.
+/// `IfTold` says what the words call for, where the keeper tells its file and the input is told as far as it is read; the work goes
+/// in the order of the definition, and the first thing that fails gives the status. The report and the lines for `errors` are made
+/// before the file is stored, which is done once; the report is written after that, and the lines last, where a fault changes no
+/// status. After any status but 0, 5 and 9 the file is as before, where the keeper tells it still. `text`, `ids` and `send` leave
+/// the file, and all but `edit` and `take` leave the input.
 ///
-/// The file is read in one pass. The characters are sorted once by their identifiers, so that a file whose events come in any
-/// order costs `n log n` comparisons for `n` characters. The text is a sorted vector; a later insertion into it moves what
-/// stands behind its place.
+/// The cost is that of reading the file, whose operations are received one after another, and of the work of the replica; a
+/// script's lines `b` each read the text up to their position. The file is written once, from one buffer.
 pub fn run<K: Keeper, S: Source, W: Sink, E: Sink>(
     alloc: Global,
     words: &[String],
@@ -135,42 +163,55 @@ pub fn run<K: Keeper, S: Source, W: Sink, E: Sink>(
     output: &mut W,
     errors: &mut E,
 ) -> u8
-    // What causes each status.
+    // Each status by its cause, and the one that is called for where no device fails and memory lasts.
+    ensures status { IfTold (map string_bytes words.now) (K.file keeper.old) (S.left input.old) (λ d kept.
+        IsStatus d result
+        (Rose (K.faults keeper.old) (K.faults keeper.new)) (Rose (S.faults input.old) (S.faults input.new)) (Rose (W.faults output.old) (W.faults output.new))) }
     ensures usage { result ≡ 1 → command_of (map string_bytes words.now) ≡ None }
     ensures no_command { command_of (map string_bytes words.now) ≡ None → (result ≡ 1) ⊎ (result ≡ 10) }
-    ensures missing { result ≡ 2 → IfSome (K.file keeper.old) (λ kept. due (map string_bytes words.now) kept ≡ Stops (Stop.Failed Failure.NoReplica)) }
-    ensures damaged { result ≡ 3 → IfSome (K.file keeper.old) (λ kept. due (map string_bytes words.now) kept ≡ Stops (Stop.Failed (Failure.Damaged 0))) }
+    ensures other_command { IsUnbuilt (command_of (map string_bytes words.now)) → result ≡ 12 }
     ensures keeper { result ≡ 7 → Rose (K.faults keeper.old) (K.faults keeper.new) }
+    ensures input { result ≡ 8 → Rose (S.faults input.old) (S.faults input.new) }
+    ensures read { result ≡ 8 → IsTrue (reads_input (command_of (map string_bytes words.now))) }
     ensures output { result ≡ 9 → Rose (W.faults output.old) (W.faults output.new) }
-    ensures too_large { result ≡ 11 → IfSome (K.file keeper.old) (λ kept. due (map string_bytes words.now) kept ≡ Stops (Stop.Failed Failure.TooLarge)) }
-    ensures not_built { result ≡ 12 → IfSome (K.file keeper.old) (λ kept. due (map string_bytes words.now) kept ≡ Stops Stop.NotBuilt) }
-    ensures other_command { IsOther (command_of (map string_bytes words.now)) → result ≡ 12 }
-    ensures no_other { Contains (0 ∷ 1 ∷ 2 ∷ 3 ∷ 7 ∷ 9 ∷ 10 ∷ 11 ∷ 12 ∷ []) result }
-
-    // Where the file is told and no count of these two rose, the status is the one that is due, unless memory runs out.
-    ensures complete { (kept : Option (List ℕ)) → K.file keeper.old ≡ Some kept → (Rose (K.faults keeper.old) (K.faults keeper.new) → ⊥) → (Rose (W.faults output.old) (W.faults output.new) → ⊥)
-        → (result ≡ due_status (due (map string_bytes words.now) kept)) ⊎ (result ≡ 10) }
+    ensures no_other { Contains (0 ∷ 1 ∷ 2 ∷ 3 ∷ 4 ∷ 5 ∷ 6 ∷ 7 ∷ 8 ∷ 9 ∷ 10 ∷ 11 ∷ 12 ∷ []) result }
 
     // What is written.
-    ensures done { result ≡ 0 → IfSome (K.file keeper.old) (λ kept. IsWritten (due (map string_bytes words.now) kept) (W.told output.old) (W.told output.new)) }
-    ensures partly { result ≡ 9 → IfSome (K.file keeper.old) (λ kept. IsPartWritten (due (map string_bytes words.now) kept) (W.told output.old) (W.told output.new)) }
-    ensures nothing { result ≢ 0 → result ≢ 9 → W.told output.new ≡ W.told output.old }
-    ensures line { IsTold (E.told errors.old) (E.told errors.new) (status_line result) }
-    ensures whole_line { (Rose (E.faults errors.old) (E.faults errors.new) → ⊥) → Appends (E.told errors.old) (E.told errors.new) (status_line result) }
+    ensures done { IsDone result → IfTold (map string_bytes words.now) (K.file keeper.old) (S.left input.old) (λ d kept.
+        IsWritten d (W.told output.old) (W.told output.new)) }
+    ensures partly { result ≡ 9 → IfTold (map string_bytes words.now) (K.file keeper.old) (S.left input.old) (λ d kept.
+        IsPartWritten d (W.told output.old) (W.told output.new)) }
+    ensures nothing { (IsStored result → ⊥) → W.told output.new ≡ W.told output.old }
+    ensures line { IfTold (map string_bytes words.now) (K.file keeper.old) (S.left input.old) (λ d kept.
+        IsPart (E.told errors.old) (E.told errors.new) (line_at d result)) }
+    ensures whole_line { (Rose (E.faults errors.old) (E.faults errors.new) → ⊥) → IfTold (map string_bytes words.now) (K.file keeper.old) (S.left input.old) (λ d kept.
+        Appends (E.told errors.old) (E.told errors.new) (line_at d result)) }
 
-    // What stays.
-    ensures kept { Keeps (K.file keeper.old) (K.file keeper.new) }
-    ensures input { input.new ≡ input.old }
+    // What is kept, and what stays.
+    ensures file { IsStored result → IfTold (map string_bytes words.now) (K.file keeper.old) (S.left input.old) (λ d kept.
+        IsKept d kept (K.file keeper.new)) }
+    ensures stays { (IsStored result → ⊥) → Stays (K.file keeper.old) (K.file keeper.new) }
+    ensures kept { IsFalse (may_store (command_of (map string_bytes words.now))) → Keeps (K.file keeper.old) (K.file keeper.new) }
+    ensures unread { IsFalse (reads_input (command_of (map string_bytes words.now))) → input.new ≡ input.old }
 
-    // The text of each legal history of insertions whose journal the file is.
-    ensures text { (bytes : List ℕ) (H : History) → IsJournalOf bytes H → map string_bytes words.now ≡ codes "text" ∷ [] → K.file keeper.old ≡ Some (Some bytes)
-        → IsTextStatus bytes result × (result ≡ 0 → Appends (W.told output.old) (W.told output.new) (text_bytes H)) }
-    ensures text_complete { (bytes : List ℕ) (H : History) → IsJournalOf bytes H → map string_bytes words.now ≡ codes "text" ∷ [] → K.file keeper.old ≡ Some (Some bytes) → length bytes ≤ file_limit
-        → (Rose (K.faults keeper.old) (K.faults keeper.new) → ⊥) → (Rose (W.faults output.old) (W.faults output.new) → ⊥) → (result ≡ 0) ⊎ (result ≡ 10) }
+    // Where the kept file stands for a history and what waits beside it, and for `new` where there is none.
+    ensures new { (group me members : ℕ) → command_of (map string_bytes words.now) ≡ Some (Command.New group me members) → K.file keeper.old ≡ Some None → IsHead 1 group members me
+        → Saves result (record { history = Fresh group me members; waiting = [] }) (new_text group me members) [] ⊥ (K.file keeper.new) (W.told output.old) (W.told output.new) }
+    ensures text { (t : State) (bytes : List ℕ) → Asks (map string_bytes words.now) Command.Text (K.file keeper.old) bytes t
+        → Shows result bytes (encode_utf8_all (text t.history)) (W.told output.old) (W.told output.new) }
+    ensures ids { (t : State) (bytes : List ℕ) → Asks (map string_bytes words.now) Command.Ids (K.file keeper.old) bytes t
+        → Shows result bytes (ids_text (greatest t.history) (runs_of (idents t.history))) (W.told output.old) (W.told output.new) }
+    ensures send { (t : State) (bytes : List ℕ) (to : ℕ) → Asks (map string_bytes words.now) (Command.Send to) (K.file keeper.old) bytes t → to < members_of t.history
+        → Shows result bytes (message_bytes (message_for t.history to)) (W.told output.old) (W.told output.new) }
+    ensures edit { (t : State) (bytes script : List ℕ) (lines : List Line) (p : Progress) → Asks (map string_bytes words.now) Command.Edit (K.file keeper.old) bytes t
+        → S.left input.old ≡ Some script → script_of script ≡ Ok lines → run_script t lines ≡ Done p
+        → Saves result p.state (edit_text (length lines) p.released (length p.refused)) p.refused (IsTooLong bytes script p.state) (K.file keeper.new) (W.told output.old) (W.told output.new) }
+    ensures leave { (t : State) (bytes : List ℕ) (p : Progress) → Asks (map string_bytes words.now) Command.Leave (K.file keeper.old) bytes t → run_leave t ≡ Done p
+        → Saves result p.state (edit_text 1 p.released (length p.refused)) p.refused (IsFileTooLong bytes p.state) (K.file keeper.new) (W.told output.old) (W.told output.new) }
+    ensures take { (t : State) (bytes given : List ℕ) (m : Message) → Asks (map string_bytes words.now) Command.Take (K.file keeper.old) bytes t
+        → S.left input.old ≡ Some given → IsMessage given m → IsTrue (is_for t.history m) → let p = take_message t m in
+        Saves result p.state (take_text p.applied p.released p.repeated p.held (length p.refused)) p.refused (IsTooLong bytes given p.state) (K.file keeper.new) (W.told output.old) (W.told output.new) }
 {
-    let _ = input;
-    match perform(alloc, words, keeper, output) {
-        Ok(()) => 0,
-        Err(stop) => stop.tell(alloc, errors),
-    }
+    let ending = perform(alloc, words, keeper, input, output);
+    tell(alloc, ending, errors)
 }

@@ -2,10 +2,13 @@
 #![tactic(auto)]
 
 mod command;
-mod journal;
-mod reading;
-mod stems;
+mod editing;
+mod loading;
+mod made;
+mod making;
+mod showing;
 mod stop;
+mod taking;
 mod words;
 
 pub use command::run;
