@@ -8,6 +8,8 @@ mod commands;
 #[cfg(test)]
 mod editing;
 #[cfg(test)]
+mod epochs;
+#[cfg(test)]
 mod exchanging;
 #[cfg(test)]
 mod faults;
