@@ -110,6 +110,22 @@ impl Text {
         })
     }
 
+    /// Keeps the characters in front of a place. It takes no memory.
+    pub fn truncate(&mut self, at: usize)
+        requires place { at ≤ length self.old }
+        ensures kept { self.new ≡ take at self.old }
+    {
+        self.chars.truncate(at);
+    }
+
+    /// Drops so many characters at the front. It costs their number, and takes no memory.
+    pub fn drop_front(&mut self, count: usize)
+        requires place { count ≤ length self.old }
+        ensures rest { self.new ≡ drop count self.old }
+    {
+        drop_first(&mut self.chars, count);
+    }
+
     /// The same again.
     pub fn copy(&self) -> Result<Text, AllocError>
         ensures copy { IfOk result (λ text. text ≡ self.now) }
@@ -172,5 +188,15 @@ fn move_in_front(front: &mut VecDeque<char>, chars: &mut VecDeque<char>)
 {
     while let Some(c) = front.pop_back() {
         chars.push_front_reserved(c);
+    }
+}
+
+// Drops the first characters.
+fn drop_first(chars: &mut VecDeque<char>, count: usize)
+    requires place { count ≤ deque_len chars.old }
+    ensures rest { chars.new.items ≡ drop count chars.old.items }
+{
+    for _i in 0..count {
+        let _gone = chars.pop_front();
     }
 }

@@ -106,7 +106,7 @@ impl Block {
         ensures err { OnErr result (self.new ≡ self.old) }
     {
         let front = part_of_run(&self.run, 0, at)?;
-        let _gone = self.text.split_off(at as usize)?;
+        self.text.truncate(at as usize);
         self.run = front;
         Ok(())
     }
@@ -118,9 +118,8 @@ impl Block {
         ensures err { OnErr result (self.new ≡ self.old) }
     {
         let run = part_of_run(&self.run, from, self.run.len() - from)?;
-        let text = self.text.split_off(from as usize)?;
+        self.text.drop_front(from as usize);
         self.run = run;
-        self.text = text;
         Ok(())
     }
 }

@@ -63,9 +63,9 @@ impl Document for BlockTree {
         Ok(())
     }
 
-    /// One run that stands whole in one of the tree's costs a step for each level, the characters behind it
-    /// in the tree's run, and those of the shorter one of two runs that touch then. Other targets are taken
-    /// out one after another, in a copy.
+    /// One run that stands whole in one of the tree's costs a step for each level and its own characters;
+    /// from the middle of a run, also the characters behind it there, and where two runs touch then, those of
+    /// the shorter one. Other targets are taken out one after another, in a copy.
     fn remove_all(&mut self, targets: &Runs) -> Result<u64, AllocError> {
         if targets.run_count() == 1 {
             let run = targets.run(0);

@@ -13,8 +13,9 @@ use crate::node::{Link, Node, chars_of};
 use crate::split::{concat, ends_before, first_out, last_out, split};
 use std::alloc::{AllocError, Global};
 
-/// Takes so many characters out from a place on, which stand in one block. It costs a step for each level,
-/// the characters behind them in their block, and those of the shorter one of two blocks that it joins.
+/// Takes so many characters out from a place on, which stand in one block. It costs a step for each level
+/// and their number; from the middle of a block also the characters behind them there, and where two blocks
+/// touch then, those of the shorter one.
 pub(crate) fn remove_at(alloc: Global, link: Link, i: u64, count: u32) -> Result<Link, Link>
     requires some { 0 < count }
     requires reach { count ≤ reach_of (pieces link) i }
