@@ -1,13 +1,14 @@
 -- How the targets of a deletion are looked up.
-use Rattle.std.proofs.Common.{◌≡◌, ◌∙◌, ℕ, zero, suc, ◌+◌, ◌<◌, ◌||◌, ◌&&◌, not, Bool, true, false, List, [], ◌∷◌, map, drop, Some, Ok, Err, Result, refl, sym, ap, inl, inr}
-use Rattle.std.specs.Prelude.{slice_get, slice_index, is_ok, if◌then◌else◌}
+use Rattle.std.proofs.Common.{◌≡◌, ◌∙◌, ◌⊎◌, ℕ, zero, suc, ◌+◌, ◌<◌, ◌≤◌, ◌||◌, ◌&&◌, not, Bool, true, false, List, [], ◌∷◌, length, map, drop, get_or, Some, None, Ok, Err, refl, sym, ap, inl, inr, arith}
+use Rattle.std.proofs.lemmas.Option.{slice_get_cases}
+use Rattle.std.specs.Prelude.{pos, slice_get, slice_index, is_ok, if◌then◌else◌}
 use Rattle.std.specs.List.{list_any}
 use Rattle.std.specs.declared.cmp.Ordering.{Ordering}
 use Rattle.std.specs.declared.cmp.Ordering.TheVariants.{Less, Equal, Greater}
 use Rattle.std.specs.Ordering.{is_eq, ordering_reverse}
 use Rattle.rls_ident.specs.declared.tuple.Tuple.{Tuple}
 use Rattle.rls_ident.specs.declared.epoch_name.EpochName.{EpochName}
-use Rattle.rls_ident.specs.Identifiers.{IsIdent, ident_cmp, ident_eq}
+use Rattle.rls_ident.specs.Identifiers.{IsIdent, ident_eq, shifted}
 use Rattle.rls_ident.specs.Lists.{IsIn}
 use Rattle.rls_ident.proofs.Lists.{flipped, lt_trans}
 use Rattle.rls_ident.proofs.Loops.{drop_reads}
@@ -35,33 +36,21 @@ use Rattle.rls_replica.specs.Lookups.{is_named_by, is_named_over}
 
 -- ---- in the text
 
--- whether an identifier is there, by its place
-above_none : (x : List Tuple) (y : Entry) (zs : List Entry) → ident_cmp y.0 x ≡ Greater → AreAbove y zs → list_any (λ (z : Entry). ident_eq z.0 x) zs ≡ false
-above_none x y [] g a = refl
-above_none x y (z ∷ zs) g a = ap (λ o. is_eq o || list_any (λ (u : Entry). ident_eq u.0 x) zs) later ∙ above_none x y zs g a.1
-  where
-    later : ident_cmp z.0 x ≡ Greater
-    later = flipped (lt_trans {x = x} {y = y.0} {z = z.0} (record { less = ident_total.antisymm x y.0 ∙ ap ordering_reverse g }) a.0)
+-- whether an identifier is one of the text's
+text_has : (x : List Tuple) (es : Entries) → has_ident (idents_in es) x ≡ list_any (λ y. ident_eq y.0 x) es
+text_has x [] = refl
+text_has x (y ∷ es) = ap (λ b. ident_eq y.0 x || b) (text_has x es)
 
-place_any : (n : ℕ) (x : List Tuple) (es : List Entry) → Rises es → is_ok (place_from n x (idents_in es)) ≡ list_any (λ (z : Entry). ident_eq z.0 x) es
-place_any n x [] r = refl
-place_any n x (y ∷ es) r = go (ident_cmp y.0 x) refl (place_any (suc n) x es r.1)
-  where
-    go : (o : Ordering) → ident_cmp y.0 x ≡ o → is_ok (place_from (suc n) x (idents_in es)) ≡ list_any (λ (z : Entry). ident_eq z.0 x) es
-        → is_ok (placed o n (place_from (suc n) x (idents_in es))) ≡ (is_eq o || list_any (λ (z : Entry). ident_eq z.0 x) es)
-    go Less e ih = ih
-    go Equal e ih = refl
-    go Greater e ih = sym (above_none x y es e r.0)
-
-pub place_known : (x : List Tuple) (es : Entries) → is_increasing (idents_in es) ≡ true → is_ok (place_of x (idents_in es)) ≡ list_any (λ y. ident_eq y.0 x) es
-unfolding place_of
-place_known x es h = place_any 0 x es (rising es h)
-
--- the first place at which a target is looked for
-pub known_here : (s : Seen) (e : EpochName) (x : List Tuple) → IsSane s → (r : Result ℕ ℕ) → r ≡ place_of (translate_over s e (greatest_over s) x) (idents_in s.text)
-    → is_known_over s e x ≡ (is_ok r || is_named_over s e x s.log)
+-- the two places at which a target is looked for
+known_here : (s : Seen) (e : EpochName) (x : List Tuple) → is_known_over s e x ≡ (has_ident (idents_in s.text) (translate_over s e (greatest_over s) x) || is_named_over s e x s.log)
 unfolding is_known_over
-known_here s e x sane r h = ap (λ b. b || is_named_over s e x s.log) (sym (ap is_ok h ∙ place_known (translate_over s e (greatest_over s) x) s.text sane.idents.1))
+known_here s e x = ap (λ b. b || is_named_over s e x s.log) (sym (text_has (translate_over s e (greatest_over s) x) s.text))
+
+pub known_in_text : (s : Seen) (e : EpochName) (x : List Tuple) → has_ident (idents_in s.text) (translate_over s e (greatest_over s) x) ≡ true → is_known_over s e x ≡ true
+known_in_text s e x h = known_here s e x ∙ ap (λ b. b || is_named_over s e x s.log) h
+
+known_by_name : (s : Seen) (e : EpochName) (x : List Tuple) → has_ident (idents_in s.text) (translate_over s e (greatest_over s) x) ≡ false → is_known_over s e x ≡ is_named_over s e x s.log
+known_by_name s e x h = known_here s e x ∙ ap (λ b. b || is_named_over s e x s.log) h
 
 -- ---- among targets
 
@@ -110,12 +99,47 @@ named_more s e x os i o h = ap (is_named_over s e x) (drop_reads os i o h) ∙ g
     go false = refl
 
 -- the targets from a place on
-pub unknown_more : (s : Seen) (e : EpochName) (xs : List (List Tuple)) (i : ℕ) (x : List Tuple) → slice_get xs i ≡ Some x
-    → first_unknown_over s e (drop i xs) ≡ (if is_known_over s e x then first_unknown_over s e (drop (i + 1) xs) else Some (UnknownTarget x))
-unknown_more s e xs i x h = ap (first_unknown_over s e) (drop_reads xs i x h)
+unknown_more : (s : Seen) (e : EpochName) (xs : List (List Tuple)) (i : ℕ) (x : List Tuple) (b : Bool) → slice_get xs i ≡ Some x → is_known_over s e x ≡ b
+    → first_unknown_over s e (drop i xs) ≡ (if b then first_unknown_over s e (drop (i + 1) xs) else Some (UnknownTarget x))
+unknown_more s e xs i x b h k = ap (first_unknown_over s e) (drop_reads xs i x h) ∙ ap (λ c. if c then first_unknown_over s e (drop (i + 1) xs) else Some (UnknownTarget x)) k
+
+-- one that isn't known
+pub unknown_at : (s : Seen) (e : EpochName) (xs : List (List Tuple)) (i : ℕ) (x : List Tuple) → slice_get xs i ≡ Some x → is_known_over s e x ≡ false → first_unknown_over s e (drop i xs) ≡ Some (UnknownTarget x)
+unknown_at s e xs i x h k = unknown_more s e xs i x false h k
+
+-- one that is known
+pub known_one : (s : Seen) (e : EpochName) (xs : List (List Tuple)) (i : ℕ) (x : List Tuple) → slice_get xs i ≡ Some x → is_known_over s e x ≡ true → first_unknown_over s e (drop (i + 1) xs) ≡ first_unknown_over s e (drop i xs)
+known_one s e xs i x h k = sym (unknown_more s e xs i x true h k)
+
+-- so many that are known
+pub known_many : (s : Seen) (e : EpochName) (xs : List (List Tuple)) (i n : ℕ) → i + n ≤ length xs → ((k : ℕ) (x : List Tuple) → k < n → slice_get xs (i + k) ≡ Some x → is_known_over s e x ≡ true)
+    → first_unknown_over s e (drop (i + n) xs) ≡ first_unknown_over s e (drop i xs)
+known_many s e xs i zero h f = ap (λ k. first_unknown_over s e (drop k xs)) (omega arith)
+known_many s e xs i (suc n) h f = go (slice_get_cases xs i).1 (known_many s e xs (i + 1) n (omega (arith, h)) later)
+  where
+    later : (k : ℕ) (x : List Tuple) → k < n → slice_get xs (i + 1 + k) ≡ Some x → is_known_over s e x ≡ true
+    later k x l g = let same : i + 1 + k ≡ i + suc k = omega arith in f (suc k) x (omega (arith, l)) (ap (slice_get xs) (sym same) ∙ g)
+
+    go : ((x : List Tuple) × (i < length xs) × (slice_get xs i ≡ Some x) × (get_or xs i x ≡ x)) ⊎ ((length xs ≤ i) × (slice_get xs i ≡ None))
+        → first_unknown_over s e (drop (i + 1 + n) xs) ≡ first_unknown_over s e (drop (i + 1) xs) → first_unknown_over s e (drop (i + suc n) xs) ≡ first_unknown_over s e (drop i xs)
+    go (inl p) more =
+        let none : i + 0 ≡ i = omega arith in
+        let same : i + suc n ≡ i + 1 + n = omega arith in
+        ap (λ k. first_unknown_over s e (drop k xs)) same ∙ more ∙ known_one s e xs i p.0 p.2 (f 0 p.0 (omega arith) (ap (slice_get xs) none ∙ p.2))
+    go (inr q) more = absurd (omega (arith, h, q.0))
 
 -- what stands at a place, mapped
 pub got_mapped : {A B : Type 0} (f : A → B) (xs : List A) (i : ℕ) (x : A) (y : B) → slice_get xs i ≡ Some x → slice_get (map f xs) i ≡ Some y → y ≡ f x
 got_mapped f [] i x y h k = absurd (cc)
 got_mapped f (z ∷ xs) zero x y h k = sym (some_is (f z) y k) ∙ ap f (some_is z x h)
 got_mapped f (z ∷ xs) (suc i) x y h k = got_mapped f xs i x y h k
+
+-- a target whose identifier of the greatest epoch, the one of a run at a place, isn't in the text
+pub out_of_text : (s : Seen) (e : EpochName) (xs images : List (List Tuple)) (i from : ℕ) (first x : List Tuple) → images ≡ map (translate_over s e (greatest_over s)) xs
+    → slice_get images (i + 0) ≡ Some (shifted (pos (from + 0)) first) → has_ident (idents_in s.text) (shifted (pos from) first) ≡ false → slice_get xs i ≡ Some x → is_known_over s e x ≡ is_named_over s e x s.log
+out_of_text s e xs images i from first x m g h t =
+    let here : i + 0 ≡ i = omega arith in
+    let none : from + 0 ≡ from = omega arith in
+    let image : slice_get (map (translate_over s e (greatest_over s)) xs) i ≡ Some (shifted (pos from) first) =
+    ap (λ ys. slice_get ys i) (sym m) ∙ ap (slice_get images) (sym here) ∙ g ∙ ap (λ k. Some (shifted (pos k) first)) none in
+    known_by_name s e x (ap (has_ident (idents_in s.text)) (sym (got_mapped (translate_over s e (greatest_over s)) xs i x (shifted (pos from) first) t image)) ∙ h)

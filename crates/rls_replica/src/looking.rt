@@ -1,6 +1,7 @@
 //! What is answered to an operation, before anything changes.
 
-ghost use Rattle.std.specs.Prelude.{◌≡◌, ◌<◌, ◌&&◌, not, Some, None, IfOk, IsTrue, length, if◌then◌else◌};
+ghost use Rattle.std.specs.Prelude.{◌≡◌, List, ◌+◌, ◌<◌, ◌≤◌, ◌&&◌, not, Some, None, IfOk, IsTrue, length, map, drop, slice_get, if◌then◌else◌};
+ghost use Rattle.rls_ident.specs.declared.tuple.Tuple.{Tuple};
 ghost use Rattle.rls_ident.specs.Tuples.{at_spot};
 ghost use Rattle.rls_ident.specs.Lists.{IsIn};
 ghost use Rattle.rls_ident.specs.Vectors.{at_most};
@@ -8,11 +9,11 @@ ghost use Rattle.rls_rename.specs.Tree.{is_kept};
 ghost use Rattle.rls_ops.specs.Rows.{is_covered};
 ghost use Rattle.rls_ops.specs.Shapes.{shape_fault};
 ghost use Rattle.rls_ops.specs.Waiting.{waiting_under};
-ghost use Rattle.rls_model.specs.Answers.{answer_of, Waits, Refuses, Forked, WrongStem};
+ghost use Rattle.rls_model.specs.Answers.{answer_of, Waits, Refuses, Forked, WrongStem, UnknownTarget};
 ghost use Rattle.rls_model.specs.Receiving.{verdict_of};
 ghost use Rattle.rls_model.specs.Stems.{may_use, due_offset};
 ghost use Rattle.rls_seen.specs.Seen.{members, vector, count_over, greatest_over, stable_over, translate_over};
-ghost use Rattle.rls_seen.specs.Over.{is_known_over, first_unknown_over, body_refusal_over, refusal_over, answer_beside, answer_by, answer_over};
+ghost use Rattle.rls_seen.specs.Over.{first_unknown_over, body_refusal_over, refusal_over, answer_beside, answer_by, answer_over};
 ghost use Rattle.rls_replica.specs.Releases.{reason_in};
 ghost use Rattle.rls_replica.specs.Lookups.{unknown_in, is_named_by, is_named_over};
 
@@ -150,7 +151,7 @@ impl Replica {
         })
     }
 
-    // The first of these targets that isn't known.
+    // The first of these targets that isn't known. It takes those that stand in the text one behind another as one.
     fn first_unknown(&self, epoch: EpochName, targets: &Runs) -> Result<Option<Ident>, AllocError>
         requires kept { IsTrue (is_kept self.now.epochs.top self.now.epochs.nodes epoch) }
         ensures unknown { IfOk result (λ id. unknown_in id ≡ first_unknown_over self.now epoch targets.now) }
@@ -158,26 +159,44 @@ impl Replica {
         let images = self
             .epochs
             .translate_runs(epoch, self.epochs.greatest(), targets)?;
-        for i in 0..targets.total() {
-            let target = targets.get(i)?;
-            if !self.is_known(epoch, &target, &images.get(i)?)? {
+        let mut at = 0;
+        while at < targets.total() {
+            let known = self.known_from(epoch, targets, &images, at)?;
+            if known == 0 {
+                let target = targets.get(at)?;
                 return Ok(Some(target));
             }
+            at += known;
         }
         Ok(None)
     }
 
-    // Whether the target is known, which is this identifier of the greatest epoch.
-    #[tactic(auto, unfolding(rls_seen::specs::Over::is_known_over))]
-    fn is_known(&self, epoch: EpochName, target: &Ident, image: &Ident) -> Result<bool, AllocError>
+    // How many targets from a place on are known at once, which are these identifiers of the greatest epoch: those that stand in
+    // the text one behind another, or else the first one where an unstable deletion names it.
+    fn known_from(
+        &self,
+        epoch: EpochName,
+        targets: &Runs,
+        images: &Runs,
+        at: u64,
+    ) -> Result<u64, AllocError>
         requires kept { IsTrue (is_kept self.now.epochs.top self.now.epochs.nodes epoch) }
-        requires image { image.now ≡ translate_over self.now epoch (greatest_over self.now) target.now }
-        ensures known { IfOk result (λ b. b ≡ is_known_over self.now epoch target.now) }
+        requires place { at < length targets.now }
+        requires images { images.now ≡ map (translate_over self.now epoch (greatest_over self.now)) targets.now }
+        ensures within { IfOk result (λ n. at + n ≤ length targets.now) }
+        ensures known { IfOk result (λ n. first_unknown_over self.now epoch (drop (at + n) targets.now) ≡ first_unknown_over self.now epoch (drop at targets.now)) }
+        ensures unknown { IfOk result (λ n. n ≡ 0 → (x : List Tuple) → slice_get targets.now at ≡ Some x → first_unknown_over self.now epoch (drop at targets.now) ≡ Some (UnknownTarget x)) }
     {
-        if self.document.find(image).is_ok() {
-            return Ok(true);
+        let (run, from) = images.locate(at);
+        let standing = self.document.standing(run, from)?;
+        if standing > 0 {
+            return Ok(standing as u64);
         }
-        self.is_named(epoch, target)
+        let target = targets.get(at)?;
+        if self.is_named(epoch, &target)? {
+            return Ok(1);
+        }
+        Ok(0)
     }
 
     // Whether an unstable deletion names the target.

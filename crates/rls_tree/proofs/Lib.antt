@@ -12,3 +12,4 @@ pub mod Gaps
 pub mod Puts
 pub mod Without
 pub mod Mapping
+pub mod Standing

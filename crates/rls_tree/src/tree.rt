@@ -1,10 +1,10 @@
 //! The block tree.
 
-ghost use Rattle.std.specs.Prelude.{◌≡◌, ◌+◌, ◌*◌, ◌^◌, ◌≤◌, [], ◌<◌, length, take, drop, slice_get, Some, IfSome, IfNone, IfOk, OnOk, OnErr, IsTrue};
+ghost use Rattle.std.specs.Prelude.{◌≡◌, ℕ, ◌+◌, ◌*◌, ◌^◌, ◌≤◌, [], ◌<◌, pos, length, take, drop, slice_get, Some, IfSome, IfNone, IfOk, OnOk, OnErr, IsTrue, IsFalse};
 ghost use Rattle.std.specs.List.{list_all};
-ghost use Rattle.rls_ident.specs.Identifiers.{is_ident};
+ghost use Rattle.rls_ident.specs.Identifiers.{is_ident, shifted};
 ghost use Rattle.rls_runs.specs.Runs.{run_idents, runs_of, is_increasing, place_of};
-ghost use Rattle.rls_runs.specs.Entries.{idents_in, chars_in};
+ghost use Rattle.rls_runs.specs.Entries.{idents_in, chars_in, has_ident};
 ghost use Rattle.rls_tree.specs.Trees.{entries_of, piece_entries};
 ghost use Rattle.rls_tree.specs.Edits.{inserted, removed, reach_of};
 
@@ -137,6 +137,24 @@ impl BlockTree {
         let (block, at) = node.locate(i);
         let len = (block.len() - at).min(most);
         part_of_run(block.run(), at, len)
+    }
+
+    /// How many identifiers of a run, from a place of the run on, stand in the tree one right behind another. There is none where
+    /// the first of them isn't there. It costs a comparison of identifiers for each level, whatever their number.
+    pub fn standing(&self, run: &Run, from: u32) -> Result<u32, AllocError>
+        requires place { from < run.now.1 }
+        ensures within { IfOk result (λ n. from + n ≤ run.now.1) }
+        ensures there { IfOk result (λ n. (k : ℕ) → k < n → IsTrue (has_ident (idents_in (entries_of self.now.blocks)) (shifted (pos (from + k)) run.now.0))) }
+        ensures none { IfOk result (λ n. n ≡ 0 → IsFalse (has_ident (idents_in (entries_of self.now.blocks)) (shifted (pos from) run.now.0))) }
+    {
+        let _blocks = self.blocks();
+        let len = run.len();
+        let first = run.first().shifted(from)?;
+        let Ok(i) = self.place(&first) else {
+            return Ok(0);
+        };
+        let part = self.run_from(i, len - from)?;
+        Ok(part.len())
     }
 
     // The rest of a run from a place on, with its characters. It costs a step for each level, and their number.
