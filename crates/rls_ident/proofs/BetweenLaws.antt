@@ -62,7 +62,7 @@ low_less : (r : ℕ) (m s : ℕ) (o : ℤ) → tuple_cmp Low (At m r s o) ≡ Le
 unfolding tuple_cmp
 low_less r m s o = refl
 
-less_high : (m r s : ℕ) (o : ℤ) → tuple_cmp (At m r s o) High ≡ Less
+pub less_high : (m r s : ℕ) (o : ℤ) → tuple_cmp (At m r s o) High ≡ Less
 unfolding tuple_cmp
 less_high m r s o = refl
 

@@ -1,22 +1,22 @@
 -- The steps of making an identifier between two.
-use Rattle.std.proofs.Common.{◌≡◌, ℕ, ◌+◌, ◌<◌, ◌≤◌, max, Bool, true, false, List, [], ◌∷◌, ◌++◌, length, drop, Option, Some, None, IfSome, IsTrue, slice_get, refl, sym, ap, ◌∙◌, subst, arith, length-drop, length-append, append_assoc, nat_le}
+use Rattle.std.proofs.Common.{◌≡◌, ℕ, ◌+◌, ◌<◌, ◌≤◌, max, Bool, true, false, List, [], ◌∷◌, ◌++◌, length, drop, Option, Some, None, IfSome, IsTrue, slice_get, refl, sym, ap, ◌∙◌, subst, arith, length-drop, length-append, append_assoc}
 use Rattle.std.specs.Prelude.{if◌then◌else◌, negsuc, pos}
 use Rattle.std.specs.declared.cmp.Ordering.TheVariants.{Equal, Less, Greater}
 use Rattle.std.specs.declared.cmp.Ordering.{Ordering}
-use Rattle.std.specs.Ordering.{is_lt, is_eq}
+use Rattle.std.specs.Ordering.{is_eq}
 use Rattle.std.proofs.Math.ListN.{drop_of_length-le}
 use Rattle.std.proofs.lemmas.Bool.{le-leb}
-use Rattle.std.proofs.lemmas.Bool.Decides.{nat_tests}
 use Rattle.rls_ident.specs.declared.tuple.Tuple.{Tuple}
 use Rattle.rls_ident.specs.declared.tuple.Tuple.TheVariants.{Low, At, High}
 use Rattle.rls_ident.specs.Tuples.{tuple_cmp, tuple_eq, raised}
-use Rattle.rls_ident.specs.Identifiers.{ident_lt, ident_cmp, is_ident}
+use Rattle.rls_ident.specs.Identifiers.{ident_lt, is_ident}
 use Rattle.rls_ident.specs.Between.{last_pos, lower_number, upper_number, middle, below, between, upper_behind, bound_tuples, are_bounds}
 use Rattle.rls_ident.proofs.Lists.{Lt}
-use Rattle.rls_ident.proofs.Tuples.{tuples}
+use Rattle.rls_ident.proofs.Tuples.{tuples, lt_of, of_lt}
 use Rattle.rls_ident.proofs.Shifted.{shifted_none}
 use Rattle.rls_ident.proofs.Loops.{drop_reads}
 use Rattle.rls_ident.proofs.BetweenLaws.{IsOver, IsUnder, between_over, between_length}
+use Rattle.rls_ident.proofs.Members.{not_le_test}
 
 if_true : {X : Type 0} (b : Bool) (x y : X) → b ≡ true → (if b then x else y) ≡ x
 if_true true x y h = refl
@@ -25,9 +25,6 @@ if_true false x y h = absurd cc
 if_false : {X : Type 0} (b : Bool) (x y : X) → b ≡ false → (if b then x else y) ≡ y
 if_false true x y h = absurd cc
 if_false false x y h = refl
-
-not_leb : (a b : ℕ) → b < a → nat_le a b ≡ false
-not_leb a b h = grind (arith, nat_tests)
 
 -- the number of a bound is that of its first tuple
 upper_first : (t : Tuple) (ts : List Tuple) → upper_number (t ∷ ts) ≡ upper_number (t ∷ [])
@@ -45,10 +42,10 @@ module _ (r s : ℕ) where
 
   inner : (t : Tuple) (ts : List Tuple) → upper_number (t ∷ []) < 2 → 0 < length ts → below (t ∷ ts) r s ≡ t ∷ below ts r s
   inner t [] h l = absurd (omega arith)
-  inner t (u ∷ us) h l = if_false _ _ _ (not_leb _ _ h)
+  inner t (u ∷ us) h l = if_false _ _ _ (not_le_test _ _ h)
 
   last : (t : Tuple) (ts : List Tuple) → upper_number (t ∷ []) < 2 → length ts ≤ 0 → below (t ∷ ts) r s ≡ raised (negsuc 0) t ∷ below ts r s
-  last t [] h l = if_false _ _ _ (not_leb _ _ h)
+  last t [] h l = if_false _ _ _ (not_le_test _ _ h)
   last t (u ∷ us) h l = absurd (omega arith)
 
   pub under_room : (hi : List Tuple) (i : ℕ) (t : Tuple) → slice_get hi i ≡ Some t → 2 ≤ upper_number (t ∷ []) → below (drop i hi) r s ≡ middle 0 (upper_number (t ∷ [])) r s ∷ []
@@ -71,7 +68,7 @@ module _ (r s : ℕ) where
   over_room lo hi i t h l = rw (drop_reads lo i t h) (if_true _ _ _ (le-leb _ _ l))
 
   pub over_close : (lo hi : List Tuple) (i : ℕ) (t : Tuple) → slice_get lo i ≡ Some t → upper_number hi < lower_number (t ∷ []) + 2 → between (drop i lo) hi r s ≡ t ∷ between (drop (i + 1) lo) (upper_behind t hi) r s
-  over_close lo hi i t h l = rw (drop_reads lo i t h) (if_false _ _ _ (not_leb _ _ l))
+  over_close lo hi i t h l = rw (drop_reads lo i t h) (if_false _ _ _ (not_le_test _ _ l))
 
   pub over_end : (lo hi : List Tuple) (i : ℕ) → length lo ≤ i → between (drop i lo) hi r s ≡ below hi r s
   over_end lo hi i h = ap (λ x. between x hi r s) (drop_of_length-le lo h)
@@ -100,14 +97,6 @@ one_more front t b after total h e = rw append_assoc (ap (λ xs. front ++ xs) (s
 
 -- ---- it lies between its bounds
 
-lt_is : (x y : List Tuple) → Lt tuples x y → ident_lt x y ≡ true
-lt_is x y h = ap is_lt h.less
-
-is_lt_less : (o : Ordering) → is_lt o ≡ true → o ≡ Less
-is_lt_less Less h = refl
-is_lt_less Equal h = absurd (cc)
-is_lt_less Greater h = absurd (cc)
-
 over_of : (lo hi : List Tuple) → is_ident hi ≡ true → Lt tuples lo hi → IsOver lo hi
 over_of lo [] i h = tt
 over_of lo (u ∷ us) i h = (i, h)
@@ -117,17 +106,17 @@ bounds_over None None i h = tt
 bounds_over (Some x) None i h = tt
 bounds_over None (Some []) i h = absurd (cc)
 bounds_over None (Some (u ∷ us)) i h = (i, record { less = refl })
-bounds_over (Some x) (Some y) i h = over_of x y i (record { less = is_lt_less (ident_cmp x y) h })
+bounds_over (Some x) (Some y) i h = over_of x y i (lt_of x y h)
 
 lies_above : (lo hi : Option (List Tuple)) (a s : ℕ) (x : List Tuple) → IfSome hi (λ x. IsTrue (is_ident x)) → are_bounds lo hi ≡ true → x ≡ between (bound_tuples lo) (bound_tuples hi) a s → are_bounds lo (Some x) ≡ true
 lies_above None hi a s x i h e = refl
 lies_above (Some l) hi a s x i h e =
     let p = (between_over l (bound_tuples hi) a s (pos 0) (bounds_over (Some l) hi i h)).0 in
-    lt_is l x (subst (λ y. Lt tuples l y) (shifted_none (between l (bound_tuples hi) a s) ∙ sym e) p)
+    of_lt l x (subst (λ y. Lt tuples l y) (shifted_none (between l (bound_tuples hi) a s) ∙ sym e) p)
 
 under_of : (x y : List Tuple) → is_ident y ≡ true → IsUnder x y → ident_lt x y ≡ true
 under_of x [] i h = absurd (cc)
-under_of x (u ∷ us) i h = lt_is x (u ∷ us) h
+under_of x (u ∷ us) i h = of_lt x (u ∷ us) h
 
 lies_below : (lo hi : Option (List Tuple)) (a s : ℕ) (x : List Tuple) → IfSome hi (λ x. IsTrue (is_ident x)) → are_bounds lo hi ≡ true → x ≡ between (bound_tuples lo) (bound_tuples hi) a s → are_bounds (Some x) hi ≡ true
 lies_below lo None a s x i h e = refl

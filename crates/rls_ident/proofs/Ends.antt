@@ -1,19 +1,21 @@
 -- The last tuple of an identifier.
 use Rattle.std.proofs.Common.{◌≡◌, true, false, List, [], ◌∷◌, ◌++◌, refl, ap, sym, ◌∙◌, IsTrue}
-use Rattle.std.specs.Prelude.{ℤ}
+use Rattle.std.specs.Prelude.{ℤ, ◌≤ℤ◌}
 use Rattle.std.specs.declared.cmp.Ordering.{Ordering}
 use Rattle.std.specs.declared.cmp.Ordering.TheVariants.{Less, Equal, Greater}
 use Rattle.std.specs.Ordering.{is_eq}
 use Rattle.std.proofs.lemmas.Cmp.{lists_total, tied_itself}
 use Rattle.std.specs.List.{All}
 use Rattle.std.proofs.lemmas.List.Elements.{All-head, All-tail}
+use Rattle.std.specs.Int.RustNames.{int_le}
 use Rattle.rls_ident.specs.declared.tuple.Spot.{Spot}
 use Rattle.rls_ident.specs.declared.tuple.Tuple.{Tuple}
 use Rattle.rls_ident.specs.Tuples.{at_spot, raised, offset_of}
-use Rattle.rls_ident.specs.Identifiers.{last_of, is_ident, is_bounded, is_inner_bounded, is_last_bounded, shifted, ident_cmp, ident_eq}
-use Rattle.rls_ident.proofs.Members.{and_true, same_bool, not_true}
+use Rattle.rls_ident.specs.Identifiers.{last_of, is_ident, is_bounded, is_inner_bounded, is_last_bounded, shifted, ident_cmp, ident_eq, IsIdent, least_offset, greatest_offset}
+use Rattle.rls_ident.proofs.Members.{and_true, same_bool, not_true, int_le_is, and_left, and_right}
 use Rattle.rls_ident.proofs.Lists.{lists_same}
 use Rattle.rls_ident.proofs.Tuples.{tuples, tuple_total}
+use Rattle.rls_ident.specs.declared.tuple.Tuple.TheVariants.{Low, At, High}
 
 pub last_of_pushed : (f : List Tuple) (l : Tuple) → last_of (f ++ l ∷ []) ≡ l
 last_of_pushed [] l = refl
@@ -30,6 +32,13 @@ bounded_of_ending [] l a b = b
 bounded_of_ending (t ∷ []) l a b = and_true (is_inner_bounded t) (is_last_bounded l) (All-head (λ t. IsTrue (is_inner_bounded t)) t [] a) b
 bounded_of_ending (t ∷ (u ∷ f)) l a b =
     and_true (is_inner_bounded t) (is_bounded (u ∷ f ++ l ∷ [])) (All-head (λ t. IsTrue (is_inner_bounded t)) t (u ∷ f) a) (bounded_of_ending (u ∷ f) l (All-tail (λ t. IsTrue (is_inner_bounded t)) t (u ∷ f) a) b)
+
+pub least_last : (x : List Tuple) → IsIdent x → is_bounded x ≡ true → least_offset ≤ℤ offset_of (last_of x)
+least_last [] i b = absurd (cc)
+least_last (Low ∷ []) i b = absurd (cc)
+least_last (At p r s o ∷ []) i b = int_le_is least_offset o (and_left (int_le least_offset o) (int_le o greatest_offset) b)
+least_last (High ∷ []) i b = absurd (cc)
+least_last (t ∷ (u ∷ x)) i b = least_last (u ∷ x) i (and_right (is_inner_bounded t) (is_bounded (u ∷ x)) b)
 
 -- the last tuple alone is raised
 pub shifted_of_pushed : (k : ℤ) (f : List Tuple) (l : Tuple) → shifted k (f ++ l ∷ []) ≡ f ++ raised k l ∷ []

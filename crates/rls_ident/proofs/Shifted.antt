@@ -1,17 +1,16 @@
 -- Identifiers with their last offset raised.
 use Rattle.std.proofs.Common.{◌≡◌, true, List, [], ◌∷◌, refl, ap, arith}
 use Rattle.std.specs.Prelude.{ℤ, pos, ◌+ℤ◌, ◌<ℤ◌}
-use Rattle.std.specs.declared.cmp.Ordering.{Ordering}
-use Rattle.std.specs.declared.cmp.Ordering.TheVariants.{Less, Equal, Greater}
-use Rattle.std.specs.Ordering.{int_cmp, MatchOrdering}
+use Rattle.std.specs.declared.cmp.Ordering.TheVariants.{Less}
+use Rattle.std.specs.Ordering.{int_cmp}
 use Rattle.std.proofs.lemmas.Cmp.{tied_itself, nat_cmp_total, int_ranked}
 use Rattle.std.proofs.lemmas.Int.{ints}
 use Rattle.rls_ident.specs.declared.tuple.Tuple.{Tuple}
 use Rattle.rls_ident.specs.declared.tuple.Tuple.TheVariants.{Low, At, High}
-use Rattle.rls_ident.specs.Tuples.{spot_cmp, tuple_cmp, raised, is_at}
-use Rattle.rls_ident.specs.Identifiers.{IsIdent, shifted}
+use Rattle.rls_ident.specs.Tuples.{spot_cmp, tuple_cmp, raised, is_at, offset_of}
+use Rattle.rls_ident.specs.Identifiers.{IsIdent, shifted, last_of}
 use Rattle.rls_ident.proofs.Lists.{Lt, lt_cons}
-use Rattle.rls_ident.proofs.Tuples.{tuples}
+use Rattle.rls_ident.proofs.Tuples.{tuples, int_less}
 
 raised_raised : (j k : ℤ) (t : Tuple) → raised j (raised k t) ≡ raised (k +ℤ j) t
 raised_raised j k Low = refl
@@ -34,11 +33,6 @@ shifted_none [] = refl
 shifted_none (t ∷ []) = ap (λ u. u ∷ []) (raised_none t)
 shifted_none (t ∷ (u ∷ x)) = ap (λ y. t ∷ y) (shifted_none (u ∷ x))
 
-int_less_at : (a b : ℤ) (o : Ordering) → MatchOrdering o (a <ℤ b) (a ≡ b) (b <ℤ a) → a <ℤ b → o ≡ Less
-int_less_at a b Less m h = refl
-int_less_at a b Equal m h = absurd (omega (arith, ints))
-int_less_at a b Greater m h = absurd (omega (arith, ints))
-
 raised_less : (j k : ℤ) (t : Tuple) → is_at t ≡ true → j <ℤ k → tuple_cmp (raised j t) (raised k t) ≡ Less
 unfolding tuple_cmp spot_cmp
 raised_less j k Low i h = absurd (cc)
@@ -47,7 +41,7 @@ raised_less j k (At p r s o) i h =
     let b = tied_itself nat_cmp_total r in
     let c = tied_itself nat_cmp_total s in
     let l : (o +ℤ j) <ℤ (o +ℤ k) = omega (arith, ints) in
-    let d = int_less_at (o +ℤ j) (o +ℤ k) (int_cmp (o +ℤ j) (o +ℤ k)) (int_ranked (o +ℤ j) (o +ℤ k) (int_cmp (o +ℤ j) (o +ℤ k)) refl) l in
+    let d = int_less (o +ℤ j) (o +ℤ k) (int_cmp (o +ℤ j) (o +ℤ k)) (int_ranked (o +ℤ j) (o +ℤ k) (int_cmp (o +ℤ j) (o +ℤ k)) refl) l in
     simp (a, b, c) d
 raised_less j k High i h = absurd (cc)
 
@@ -57,7 +51,7 @@ shifted_less j k [] i h = absurd (cc)
 shifted_less j k (t ∷ []) i h = record { less = let e = raised_less j k t i h in rw e refl }
 shifted_less j k (t ∷ (u ∷ x)) i h = lt_cons tuples t (shifted_less j k (u ∷ x) i h)
 
-raised_at : (k : ℤ) (t : Tuple) → is_at t ≡ true → is_at (raised k t) ≡ true
+pub raised_at : (k : ℤ) (t : Tuple) → is_at t ≡ true → is_at (raised k t) ≡ true
 raised_at k Low h = h
 raised_at k (At p r s o) h = refl
 raised_at k High h = h
@@ -68,3 +62,11 @@ ident_shifted k [] h = h
 ident_shifted k (t ∷ []) h = raised_at k t h
 ident_shifted k (t ∷ (u ∷ [])) h = raised_at k u h
 ident_shifted k (t ∷ (u ∷ (v ∷ x))) h = ident_shifted k (u ∷ (v ∷ x)) h
+
+pub last_offset : (k : ℤ) (x : List Tuple) → IsIdent x → offset_of (last_of (shifted k x)) ≡ offset_of (last_of x) +ℤ k
+last_offset k [] i = absurd (cc)
+last_offset k (Low ∷ []) i = absurd (cc)
+last_offset k (At p r s o ∷ []) i = refl
+last_offset k (High ∷ []) i = absurd (cc)
+last_offset k (t ∷ (u ∷ [])) i = last_offset k (u ∷ []) i
+last_offset k (t ∷ (u ∷ (v ∷ x))) i = last_offset k (u ∷ (v ∷ x)) i

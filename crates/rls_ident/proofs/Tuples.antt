@@ -1,8 +1,8 @@
 -- Tuples are in a total order, and each At has a next one.
-use Rattle.std.proofs.Common.{◌≡◌, ℕ, ◌<◌, List, [], ◌∷◌, ◌++◌, Ordering, refl, ap, subst, inl, inr, ◌⊎◌, ⊎_elim, arith}
+use Rattle.std.proofs.Common.{◌≡◌, ℕ, ◌<◌, List, [], ◌∷◌, ◌++◌, Ordering, refl, ap, subst, inl, inr, ◌⊎◌, ⊎_elim, arith, true}
 use Rattle.std.specs.Prelude.{◌-ℤ◌, ℤ, pos, ◌+ℤ◌, ◌<ℤ◌}
 use Rattle.std.specs.declared.cmp.Ordering.TheVariants.{Less, Equal, Greater}
-use Rattle.std.specs.Ordering.{ordering_then, ordering_reverse, nat_cmp, int_cmp, MatchOrdering}
+use Rattle.std.specs.Ordering.{ordering_then, ordering_reverse, nat_cmp, int_cmp, MatchOrdering, is_lt}
 use Rattle.std.specs.Cmp.{IsTotalOrder}
 use Rattle.std.proofs.lemmas.Cmp.{tied_itself, lists_total, nat_cmp_total, int_cmp_total, on_total, then_total, ranked, int_ranked}
 use Rattle.std.proofs.lemmas.Int.{ints}
@@ -10,10 +10,11 @@ use Rattle.rls_ident.specs.declared.tuple.Spot.{Spot}
 use Rattle.rls_ident.specs.declared.tuple.Tuple.{Tuple}
 use Rattle.rls_ident.specs.declared.tuple.Tuple.TheVariants.{Low, At, High}
 use Rattle.rls_ident.specs.Tuples.{at_offset, spot, spot_cmp, tuple_cmp}
-use Rattle.rls_ident.specs.Identifiers.{pred, IsIdent, ident_cmp}
+use Rattle.rls_ident.specs.Identifiers.{pred, IsIdent, ident_cmp, ident_lt}
 use Rattle.rls_ident.proofs.Lists.{Letters, Lt, then_less, then_equal, lists_same}
 use Rattle.rls_ident.proofs.Reach.{Words}
 use Rattle.rls_ident.proofs.Gaps.{Step, Marks}
+use Rattle.rls_ident.proofs.Members.{less_is}
 
 pub spot_total : IsTotalOrder spot_cmp
 unfolding spot_cmp
@@ -113,7 +114,7 @@ pub marks : Marks tuples Low High
 marks = record { least = low_least; greatest = high_greatest }
 
 -- the offset alone is raised
-int_less : (a b : ℤ) (o : Ordering) → MatchOrdering o (a <ℤ b) (a ≡ b) (b <ℤ a) → a <ℤ b → o ≡ Less
+pub int_less : (a b : ℤ) (o : Ordering) → MatchOrdering o (a <ℤ b) (a ≡ b) (b <ℤ a) → a <ℤ b → o ≡ Less
 int_less a b Less m h = refl
 int_less a b Equal m h = absurd (omega (arith, ints))
 int_less a b Greater m h = absurd (omega (arith, ints))
@@ -204,3 +205,11 @@ ident_total = lists_total tuple_total
 
 pub ident_same : (x y : List Tuple) → ident_cmp x y ≡ Equal → x ≡ y
 ident_same x y e = lists_same tuples x y e
+
+-- the test of the order, and the order
+
+pub lt_of : (x y : List Tuple) → ident_lt x y ≡ true → Lt tuples x y
+lt_of x y h = record { less = less_is (ident_cmp x y) h }
+
+pub of_lt : (x y : List Tuple) → Lt tuples x y → ident_lt x y ≡ true
+of_lt x y h = ap is_lt h.less

@@ -7,4 +7,7 @@ pub mod RunJoins
 pub mod RunEnds
 pub mod RunLists
 pub mod Sorted
+pub mod Gaps
+pub mod Cuts
+pub mod PartPlaces
 mod Worked

@@ -36,7 +36,7 @@ abbrev pub Rising : List (List Tuple) → Type 0
 Rising [] = Unit {0}
 Rising (x ∷ xs) = AllMore x xs × Rising xs
 
-less_append : (xs ys : List (List Tuple)) (z : List Tuple) → AllLess xs z → AllLess ys z → AllLess (xs ++ ys) z
+pub less_append : (xs ys : List (List Tuple)) (z : List Tuple) → AllLess xs z → AllLess ys z → AllLess (xs ++ ys) z
 less_append [] ys z h k = k
 less_append (x ∷ xs) ys z h k = (h.0, less_append xs ys z h.1 k)
 
@@ -44,11 +44,15 @@ pub less_trans : (xs : List (List Tuple)) (y z : List Tuple) → AllLess xs y �
 less_trans [] y z h k = tt
 less_trans (x ∷ xs) y z h k = (lt_trans h.0 k, less_trans xs y z h.1 k)
 
-more_append : (z : List Tuple) (xs ys : List (List Tuple)) → AllMore z xs → AllMore z ys → AllMore z (xs ++ ys)
+pub more_append : (z : List Tuple) (xs ys : List (List Tuple)) → AllMore z xs → AllMore z ys → AllMore z (xs ++ ys)
 more_append z [] ys h k = k
 more_append z (x ∷ xs) ys h k = (h.0, more_append z xs ys h.1 k)
 
-more_right : (z : List Tuple) (xs ys : List (List Tuple)) → AllMore z (xs ++ ys) → AllMore z ys
+pub more_left : (z : List Tuple) (xs ys : List (List Tuple)) → AllMore z (xs ++ ys) → AllMore z xs
+more_left z [] ys h = tt
+more_left z (x ∷ xs) ys h = (h.0, more_left z xs ys h.1)
+
+pub more_right : (z : List Tuple) (xs ys : List (List Tuple)) → AllMore z (xs ++ ys) → AllMore z ys
 more_right z [] ys h = h
 more_right z (x ∷ xs) ys h = more_right z xs ys h.1
 
@@ -56,10 +60,26 @@ pub more_trans : (y z : List Tuple) (xs : List (List Tuple)) → Lt tuples y z �
 more_trans y z [] h k = tt
 more_trans y z (x ∷ xs) h k = (lt_trans h k.0, more_trans y z xs h k.1)
 
+pub rising_left : (xs ys : List (List Tuple)) → Rising (xs ++ ys) → Rising xs
+rising_left [] ys h = tt
+rising_left (x ∷ xs) ys h = (more_left x xs ys h.0, rising_left xs ys h.1)
+
+pub rising_right : (xs ys : List (List Tuple)) → Rising (xs ++ ys) → Rising ys
+rising_right [] ys h = h
+rising_right (x ∷ xs) ys h = rising_right xs ys h.1
+
 pub increasing_of : (xs : List (List Tuple)) → Rising xs → is_increasing xs ≡ true
 increasing_of [] h = refl
 increasing_of (x ∷ []) h = refl
 increasing_of (x ∷ (y ∷ ys)) h = and_true (ident_lt x y) (is_increasing (y ∷ ys)) (of_lt x y h.0.0) (increasing_of (y ∷ ys) h.1)
+
+pub rising_of : (xs : List (List Tuple)) → is_increasing xs ≡ true → Rising xs
+rising_of [] h = tt
+rising_of (x ∷ []) h = (tt, tt)
+rising_of (x ∷ (y ∷ xs)) h =
+    let l = lt_of x y (and_left (ident_lt x y) (is_increasing (y ∷ xs)) h) in
+    let r = rising_of (y ∷ xs) (and_right (ident_lt x y) (is_increasing (y ∷ xs)) h) in
+    ((l, more_trans x y xs l r.0), r)
 
 -- ---- one run
 
@@ -105,6 +125,11 @@ run_rising x (suc n) i = subst Rising (append-nil (run_idents x (suc n))) (risin
 
 pub run_rises : (x : List Tuple) (n : ℕ) → IsIdent x → is_increasing (run_idents x n) ≡ true
 run_rises x n i = increasing_of (run_idents x n) (run_rising x n i)
+
+-- what stands behind a run is greater than its last identifier
+pub last_rising : (m : ℕ) (x : List Tuple) (rest : List (List Tuple)) → Rising (run_idents x (suc m) ++ rest) → AllMore (shifted (pos m) x) rest
+last_rising zero x rest h = subst (λ y. AllMore y rest) (sym (shifted_none x)) h.0
+last_rising (suc m) x rest h = subst (λ y. AllMore y rest) (next_shifted m x) (last_rising m (shifted (pos 1) x) rest h.1)
 
 pub run_are_idents : (x : List Tuple) (n : ℕ) → IsIdent x → list_all is_ident (run_idents x n) ≡ true
 run_are_idents x zero i = refl

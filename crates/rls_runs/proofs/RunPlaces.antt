@@ -38,7 +38,7 @@ pub tells_less : (xs : List (List Tuple)) (y : List Tuple) → AllLess xs y → 
 tells_less [] y h = (refl, refl)
 tells_less (x ∷ xs) y h = one_less x xs y false (length xs) h.0.less (tells_less xs y h.1)
 
-tells_more : (xs : List (List Tuple)) (y : List Tuple) → AllMore y xs → Tells xs y false 0
+pub tells_more : (xs : List (List Tuple)) (y : List Tuple) → AllMore y xs → Tells xs y false 0
 tells_more [] y h = (refl, refl)
 tells_more (x ∷ xs) y h = one_above x xs y 0 (flipped h.0) (tells_more xs y h.1)
 
@@ -133,12 +133,12 @@ last_total rs k r g h = ap (λ xs. length (idents_of xs)) (sym (take_all (k + 1)
 
 -- ---- the identifier at a place
 
-get_left : {X : Type 0} (xs ys : List X) (i : ℕ) → i < length xs → slice_get (xs ++ ys) i ≡ slice_get xs i
+pub get_left : {X : Type 0} (xs ys : List X) (i : ℕ) → i < length xs → slice_get (xs ++ ys) i ≡ slice_get xs i
 get_left [] ys i h = absurd (omega arith)
 get_left (x ∷ xs) ys zero h = refl
 get_left (x ∷ xs) ys (suc i) h = get_left xs ys i (omega arith)
 
-get_right : {X : Type 0} (xs ys : List X) (i : ℕ) → slice_get (xs ++ ys) (length xs + i) ≡ slice_get ys i
+pub get_right : {X : Type 0} (xs ys : List X) (i : ℕ) → slice_get (xs ++ ys) (length xs + i) ≡ slice_get ys i
 get_right [] ys i = let e : 0 + i ≡ i = omega arith in ap (slice_get ys) e
 get_right (x ∷ xs) ys i = let e : length (x ∷ xs) + i ≡ suc (length xs + i) = omega arith in ap (slice_get (x ∷ (xs ++ ys))) e ∙ get_right xs ys i
 

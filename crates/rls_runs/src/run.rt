@@ -1,6 +1,6 @@
 //! Runs.
 
-ghost use Rattle.std.specs.Prelude.{◌≡◌, ℕ, ◌+◌, ◌<◌, List, ◌∷◌, ◌++◌, [], length, ◌+ℤ◌, ◌<ℤ◌, pos, ◌↔◌, IfSome, IfNone, IfOk, IsErrOf, IsTrue};
+ghost use Rattle.std.specs.Prelude.{◌≡◌, ℕ, ◌+◌, ◌<◌, ◌⊎◌, List, ◌∷◌, ◌++◌, [], length, ◌+ℤ◌, ◌<ℤ◌, ◌≤ℤ◌, pos, ◌↔◌, IfOk, IfErr, IsErrOf, IsTrue};
 ghost use Rattle.rls_ident.specs.declared.tuple.Tuple.{Tuple};
 ghost use Rattle.rls_ident.specs.Tuples.{at_spot, offset_of};
 ghost use Rattle.rls_ident.specs.Identifiers.{last_of, ident_lt, follows};
@@ -173,22 +173,24 @@ fn find_by_tuple(first: Spot, len: u32, tuple: Tuple, longer: bool) -> Result<u3
 fn find_by_offset(first: i32, len: u32, offset: i32, longer: bool) -> Result<u32, u32>
     ensures find { (pos replica seq : ℕ) (rest : List Tuple) → (IsTrue longer ↔ (0 < length rest)) → result ≡ find_ident (run_idents (Tuple.At pos replica seq first ∷ []) len) (Tuple.At pos replica seq offset ∷ rest) }
 {
-    let Some(gap) = offset_gap(first, offset) else {
-        return Err(0);
-    };
-    if len <= gap {
-        return Err(len);
+    match offset_place(first, len, offset) {
+        Err(below) => Err(below),
+        Ok(place) => { if longer { Err(place + 1) } else { Ok(place) } }
     }
-    if longer { Err(gap + 1) } else { Ok(gap) }
 }
 
-// How far the offset is above the first one, if it isn't below it.
-fn offset_gap(first: i32, offset: i32) -> Option<u32>
-    ensures gap { IfSome result (λ gap. (first +ℤ pos gap) ≡ offset) }
-    ensures none { IfNone result (offset <ℤ first) }
+// The place of an offset among so many that go on from the first one, or where it isn't there the number of
+// those below it.
+fn offset_place(first: i32, len: u32, offset: i32) -> Result<u32, u32>
+    ensures there { IfOk result (λ place. (place < len) × ((first +ℤ pos place) ≡ offset)) }
+    ensures not_there { IfErr result (λ below. ((below ≡ 0) × (offset <ℤ first)) ⊎ ((below ≡ len) × ((first +ℤ pos len) ≤ℤ offset))) }
 {
     if offset < first {
-        return None;
+        return Err(0);
     }
-    Some((offset as i64 - first as i64) as u32)
+    let place = (offset as i64 - first as i64) as u32;
+    if len <= place {
+        return Err(len);
+    }
+    Ok(place)
 }

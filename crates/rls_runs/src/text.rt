@@ -97,8 +97,8 @@ impl Text {
         Ok(())
     }
 
-    /// Keeps the characters in front of a place, and answers the others. After an error the text is
-    /// as it was.
+    /// Keeps the characters in front of a place, and answers the others. It costs the number of these.
+    /// After an error the text is as it was.
     pub fn split_off(&mut self, at: usize) -> Result<Text, AllocError>
         requires place { at ≤ length self.old }
         ensures kept { OnOk result (self.new ≡ take at self.old) }
@@ -110,7 +110,7 @@ impl Text {
         })
     }
 
-    /// Keeps the characters in front of a place. It takes no memory.
+    /// Keeps the characters in front of a place. It costs the number of the others, and takes no memory.
     pub fn truncate(&mut self, at: usize)
         requires place { at ≤ length self.old }
         ensures kept { self.new ≡ take at self.old }

@@ -8,23 +8,23 @@ use Rattle.std.proofs.lemmas.Slice.Zip.{length-zip, firsts-zip}
 use Rattle.rls_ident.specs.declared.tuple.Tuple.{Tuple}
 use Rattle.rls_ident.specs.Identifiers.{shifted, ident_lt, is_ident}
 use Rattle.rls_ident.proofs.Lists.{Lt}
-use Rattle.rls_ident.proofs.Members.{and_left, and_right, lt_test, not_true, lt_is, not_lt_is, some_is}
+use Rattle.rls_ident.proofs.Members.{lt_test, not_true, lt_is, not_lt_is, some_is}
 use Rattle.rls_ident.proofs.Shifted.{shifted_none}
 use Rattle.rls_ident.proofs.Tuples.{tuples}
 use Rattle.rls_runs.specs.Runs.{run_idents, run_last, idents_of, are_apart, is_increasing}
 use Rattle.rls_runs.specs.Entries.{Entries, idents_in}
 use Rattle.rls_runs.proofs.Finding.{run_length}
-use Rattle.rls_runs.proofs.RunOrder.{AllMore, Rising, more_trans, lt_of, of_lt, run_gets, all_idents}
+use Rattle.rls_runs.proofs.RunOrder.{AllMore, Rising, of_lt, run_gets, all_idents, rising_of, rising_right, last_rising}
 use Rattle.rls_runs.proofs.RunJoins.{run_longer}
 use Rattle.rls_runs.proofs.Sorted.{Entry, Rises, AreAbove}
 use Rattle.rls_doc.proofs.Rising.{rising, increasing}
 use Rattle.rls_tree.specs.Trees.{Piece, ArePieces, piece_entries, entries_of, runs_in}
 use Rattle.rls_tree.specs.Edits.{part_of, inserted, removed, reach_of, located, Shows}
 use Rattle.rls_tree.proofs.Pieces.{piece_length, idents_of_pieces, runs_sound}
-use Rattle.rls_tree.proofs.Located.{get_left, get_right}
-use Rattle.rls_tree.proofs.Loose.{last_rising, rest_rising, apart_of}
+use Rattle.rls_tree.proofs.Loose.{apart_of}
 use Rattle.rls_tree.proofs.Changes.{halves, thirds, put_between, taken_out}
 use Rattle.rls_tree.proofs.Cases.{middle_entries}
+use Rattle.rls_runs.proofs.RunPlaces.{get_left, get_right}
 
 -- ---- parts
 
@@ -42,14 +42,6 @@ pub piece_idents : (b : Piece) → length b.1 ≡ b.0.1 → idents_in (piece_ent
 piece_idents b m = firsts-zip (run_idents b.0.0 b.0.1) b.1 (m ∙ sym (run_length b.0.0 b.0.1))
 
 -- ---- order
-
-pub rising_of : (xs : List (List Tuple)) → is_increasing xs ≡ true → Rising xs
-rising_of [] h = tt
-rising_of (x ∷ []) h = (tt, tt)
-rising_of (x ∷ (y ∷ xs)) h =
-    let l = lt_of x y (and_left (ident_lt x y) (is_increasing (y ∷ xs)) h) in
-    let r = rising_of (y ∷ xs) (and_right (ident_lt x y) (is_increasing (y ∷ xs)) h) in
-    ((l, more_trans x y xs l r.0), r)
 
 head_more : (x y : List Tuple) (n : ℕ) (rest : List (List Tuple)) → 0 < n → AllMore x (run_idents y n ++ rest) → Lt tuples x y
 head_more x y zero rest h a = absurd (omega arith)
@@ -82,9 +74,9 @@ within_order f g b n at m k h l o r =
     ∙ ap (λ zs. (idents_in f ++ xs ++ zs) ++ idents_in (piece_entries y ++ g)) (piece_idents n k)
     ∙ ap (λ zs. (idents_in f ++ xs ++ ns) ++ zs) far
     ∙ append_assoc (idents_in f ++ xs) ns (ys ++ idents_in g) ∙ append_assoc (idents_in f) xs (ns ++ (ys ++ idents_in g)) in
-    let rising = rest_rising (idents_in f) (xs ++ (ns ++ (ys ++ idents_in g))) (rising_of (idents_in f ++ (xs ++ (ns ++ (ys ++ idents_in g)))) (ap is_increasing (sym all) ∙ r)) in
+    let rising = rising_right (idents_in f) (xs ++ (ns ++ (ys ++ idents_in g))) (rising_of (idents_in f ++ (xs ++ (ns ++ (ys ++ idents_in g)))) (ap is_increasing (sym all) ∙ r)) in
     let above = run_order x.0.0 n.0.0 at n.0.1 (ys ++ idents_in g) h o rising in
-    let below = run_order n.0.0 y.0.0 n.0.1 (b.0.1 - at) (idents_in g) o (omega arith) (rest_rising xs (ns ++ (ys ++ idents_in g)) rising) in
+    let below = run_order n.0.0 y.0.0 n.0.1 (b.0.1 - at) (idents_in g) o (omega arith) (rising_right xs (ns ++ (ys ++ idents_in g)) rising) in
     (of_lt (shifted (pos (at - 1)) b.0.0) n.0.0 (subst (λ z. Lt tuples (shifted (pos (at - 1)) z) n.0.0) (shifted_none b.0.0) above), of_lt (run_last n.0) (shifted (pos at) b.0.0) below)
 
 -- ---- reach

@@ -2,7 +2,7 @@
 use Rattle.std.proofs.Common.{◌≡◌, ℕ, zero, suc, ◌+◌, ◌-◌, ◌≤◌, true, List, [], ◌∷◌, ◌++◌, length, take, drop, refl, sym, ap, ◌∙◌, arith, length-drop}
 use Rattle.std.specs.Prelude.{pos, ◌+ℤ◌, ◌-ℤ◌, zip}
 use Rattle.std.proofs.lemmas.Int.{ints}
-use Rattle.std.proofs.lemmas.List.{take-append-drop, take_all, length-take-le}
+use Rattle.std.proofs.lemmas.List.{take-append-drop, take_all, length-take-le, drop-drop}
 use Rattle.std.proofs.Math.Seq.{take-append_seam, drop-append_seam, drop-append-add}
 use Rattle.rls_ident.specs.declared.tuple.Tuple.{Tuple}
 use Rattle.rls_ident.specs.Identifiers.{shifted, follows}
@@ -32,15 +32,6 @@ rest_all cs zero n h = take_all (n - 0) cs (omega arith)
 rest_all [] (suc k) n h = take_all (n - suc k) [] (omega arith)
 rest_all (c ∷ cs) (suc k) n h = let e : n - suc k ≡ (n - 1) - k = omega arith in ap (λ m. take m (drop k cs)) e ∙ rest_all cs k (n - 1) (omega arith)
 
-drops : (a k : ℕ) (cs : List ℕ) → drop k (drop a cs) ≡ drop (a + k) cs
-drops zero k cs = ap (λ m. drop m cs) (omega arith)
-drops (suc a) k [] = nothing k ∙ sym (nothing (suc a + k))
-  where
-    nothing : (k : ℕ) → drop {A = ℕ} k [] ≡ []
-    nothing zero = refl
-    nothing (suc k) = refl
-drops (suc a) k (c ∷ cs) = let s : suc (a + k) ≡ suc a + k = omega arith in drops a k cs ∙ ap (λ m. drop m (c ∷ cs)) s
-
 -- a block as two
 pub halves : (b : Piece) (k : ℕ) → length b.1 ≡ b.0.1 → k ≤ b.0.1 → piece_entries b ≡ piece_entries (part_of 0 k b) ++ piece_entries (part_of k (b.0.1 - k) b)
 halves b k m h =
@@ -67,7 +58,7 @@ thirds b a k m h =
     let sum : pos a +ℤ pos k ≡ pos (a + k) = omega (arith, ints) in
     let far : piece_entries (part_of k ((b.0.1 - a) - k) c) ≡ piece_entries (part_of (a + k) (b.0.1 - (a + k)) b) =
     ap (λ x. zip (run_idents x ((b.0.1 - a) - k)) (take ((b.0.1 - a) - k) (drop k c.1))) (shifted_shifted (pos k) (pos a) b.0.0 ∙ ap (λ j. shifted j b.0.0) sum)
-    ∙ ap (λ cs. zip (run_idents (shifted (pos (a + k)) b.0.0) ((b.0.1 - a) - k)) (take ((b.0.1 - a) - k) cs)) (ap (drop k) rest ∙ drops a k b.1)
+    ∙ ap (λ cs. zip (run_idents (shifted (pos (a + k)) b.0.0) ((b.0.1 - a) - k)) (take ((b.0.1 - a) - k) cs)) (ap (drop k) rest ∙ drop-drop k a b.1)
     ∙ ap (λ j. zip (run_idents (shifted (pos (a + k)) b.0.0) j) (take j (drop (a + k) b.1))) n in
     halves b a m (omega arith) ∙ ap (λ es. piece_entries (part_of 0 a b) ++ es) (halves c k long (omega arith) ∙ ap (λ es. es ++ piece_entries (part_of k ((b.0.1 - a) - k) c)) near ∙ ap (λ es. piece_entries (part_of a k b) ++ es) far)
 

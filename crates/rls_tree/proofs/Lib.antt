@@ -1,14 +1,11 @@
 pub mod Low
 pub mod Pieces
 pub mod Located
-pub mod Places
 pub mod Parts
-pub mod Cuts
 pub mod Loose
 pub mod Changes
 pub mod Cases
 pub mod AtPlaces
-pub mod Gaps
 pub mod Puts
 pub mod Without
 pub mod Mapping

@@ -1,5 +1,5 @@
 -- Where a place stands among blocks.
-use Rattle.std.proofs.Common.{map, zip, get_or, Some, ◌≡◌, ℕ, zero, suc, ◌+◌, ◌<◌, List, [], ◌∷◌, ◌++◌, length, slice_get, refl, ap, ◌∙◌, arith}
+use Rattle.std.proofs.Common.{map, zip, get_or, Some, ◌≡◌, ℕ, zero, suc, ◌+◌, ◌<◌, List, [], ◌∷◌, ◌++◌, length, slice_get, ap, ◌∙◌, arith}
 use Rattle.std.specs.Prelude.{pos}
 use Rattle.rls_ident.specs.declared.tuple.Tuple.{Tuple}
 use Rattle.rls_ident.specs.Identifiers.{shifted}
@@ -7,15 +7,9 @@ use Rattle.rls_runs.specs.Runs.{run_idents}
 use Rattle.rls_runs.proofs.RunOrder.{run_gets}
 use Rattle.rls_tree.specs.Trees.{Piece, IsPiece, piece_entries, entries_of}
 use Rattle.rls_tree.proofs.Pieces.{entries_append, piece_length}
-
-pub get_left : {X : Type 0} (xs ys : List X) (i : ℕ) → i < length xs → slice_get (xs ++ ys) i ≡ slice_get xs i
-get_left [] ys i h = absurd (omega arith)
-get_left (x ∷ xs) ys zero h = refl
-get_left (x ∷ xs) ys (suc i) h = get_left xs ys i (omega arith)
-
-pub get_right : {X : Type 0} (xs ys : List X) (i : ℕ) → slice_get (xs ++ ys) (length xs + i) ≡ slice_get ys i
-get_right [] ys i = let e : 0 + i ≡ i = omega arith in ap (slice_get ys) e
-get_right (x ∷ xs) ys i = let e : length (x ∷ xs) + i ≡ suc (length xs + i) = omega arith in ap (slice_get (x ∷ (xs ++ ys))) e ∙ get_right xs ys i
+use Rattle.rls_runs.proofs.RunPlaces.{get_left, get_right}
+use Rattle.std.proofs.lemmas.Option.{slice_get-map}
+use Rattle.std.specs.Option.{option_map}
 
 -- in front of the block, in it, and behind it
 pub in_front : (l r : List Piece) (b : Piece) (i : ℕ) → i < length (entries_of l) → slice_get (entries_of (l ++ b ∷ r)) i ≡ slice_get (entries_of l) i
@@ -39,9 +33,7 @@ behind_block l r b i j p e =
     ∙ get_right (piece_entries b) (entries_of r) j
 
 pub mapped_at : {X Y : Type 0} (f : X → Y) (xs : List X) (i : ℕ) (x : X) → slice_get xs i ≡ Some x → slice_get (map f xs) i ≡ Some (f x)
-mapped_at f [] i x e = absurd (cc)
-mapped_at f (z ∷ xs) zero x e = let s : z ≡ x = cc in ap (λ u. Some (f u)) s
-mapped_at f (z ∷ xs) (suc i) x e = mapped_at f xs i x e
+mapped_at f xs i x e = slice_get-map f xs i ∙ ap (option_map f) e
 
 zipped_at : (ks : List (List Tuple)) (vs : List ℕ) (i : ℕ) (k : List Tuple) → slice_get ks i ≡ Some k → i < length vs → slice_get (zip ks vs) i ≡ Some (k, get_or vs i 0)
 zipped_at [] vs i k e h = absurd (cc)

@@ -1,15 +1,13 @@
 -- Runs of which none goes on with the one before it.
 use Rattle.std.proofs.Common.{◌≡◌, ℕ, zero, suc, ◌<◌, true, false, List, [], ◌∷◌, ◌++◌, length, Option, Some, None, refl, sym, ap, ◌∙◌, subst, arith, length-append}
-use Rattle.std.specs.Prelude.{pos, ◌&&◌, not, nat_lt}
+use Rattle.std.specs.Prelude.{◌&&◌, not, nat_lt}
 use Rattle.std.specs.List.{list_all}
-use Rattle.std.proofs.lemmas.Int.{ints}
 use Rattle.std.proofs.lemmas.List.{map-append}
 use Rattle.rls_ident.specs.declared.tuple.Tuple.{Tuple}
-use Rattle.rls_ident.specs.Identifiers.{shifted, ident_lt, follows}
+use Rattle.rls_ident.specs.Identifiers.{ident_lt, follows}
 use Rattle.rls_ident.proofs.Members.{and_left, and_right, and_true, not_is, lt_test}
-use Rattle.rls_ident.proofs.Shifted.{shifted_none, shifted_shifted}
 use Rattle.rls_runs.specs.Runs.{run_idents, run_last, idents_of, is_apart, are_apart, run_before, is_run}
-use Rattle.rls_runs.proofs.RunOrder.{AllMore, Rising, of_lt, run_some, last_at}
+use Rattle.rls_runs.proofs.RunOrder.{AllMore, Rising, of_lt, run_some, last_at, last_rising, rising_right}
 use Rattle.rls_tree.specs.Trees.{Piece, runs_in}
 use Rattle.rls_tree.specs.Edits.{goes_on, leads_to, are_loose}
 
@@ -63,14 +61,6 @@ abbrev pub AreBehind : Option (List Tuple × ℕ) → List (List Tuple) → Type
 AreBehind None xs = Unit {0}
 AreBehind (Some r) xs = AllMore (run_last r) xs
 
-pub last_rising : (m : ℕ) (x : List Tuple) (rest : List (List Tuple)) → Rising (run_idents x (suc m) ++ rest) → AllMore (shifted (pos m) x) rest
-last_rising zero x rest h = subst (λ y. AllMore y rest) (sym (shifted_none x)) h.0
-last_rising (suc m) x rest h = subst (λ y. AllMore y rest) (shifted_shifted (pos m) (pos 1) x ∙ ap (λ k. shifted k x) (omega (arith, ints))) (last_rising m (shifted (pos 1) x) rest h.1)
-
-pub rest_rising : (xs ys : List (List Tuple)) → Rising (xs ++ ys) → Rising ys
-rest_rising [] ys h = h
-rest_rising (x ∷ xs) ys h = rest_rising xs ys h.1
-
 apart_behind : (b : Option (List Tuple × ℕ)) (rs : List (List Tuple × ℕ)) → list_all is_run rs ≡ true → Rising (idents_of rs) → AreBehind b (idents_of rs) → are_loose b rs ≡ true → are_apart b rs ≡ true
 apart_behind b [] s r a h = refl
 apart_behind b ((x, zero) ∷ rs) s r a h = let l = run_some (x, zero) (and_left (is_run (x, zero)) (list_all is_run rs) s) in absurd (omega arith)
@@ -78,7 +68,7 @@ apart_behind b ((x, suc m) ∷ rs) s r a h =
     let rest = are_apart (Some (x, suc m)) rs in
     and_true (nat_lt 0 (suc m) && is_apart b (x, suc m)) rest
     (and_true (nat_lt 0 (suc m)) (is_apart b (x, suc m)) (lt_test 0 (suc m) (omega arith)) (go b a (and_left (not (goes_on b x)) (are_loose (Some (x, suc m)) rs) h)))
-    (apart_behind (Some (x, suc m)) rs (and_right (is_run (x, suc m)) (list_all is_run rs) s) (rest_rising (run_idents x (suc m)) (idents_of rs) r)
+    (apart_behind (Some (x, suc m)) rs (and_right (is_run (x, suc m)) (list_all is_run rs) s) (rising_right (run_idents x (suc m)) (idents_of rs) r)
     (subst (λ y. AllMore y (idents_of rs)) (sym (last_at x m)) (last_rising m x (idents_of rs) r)) (and_right (not (goes_on b x)) (are_loose (Some (x, suc m)) rs) h))
   where
     go : (b : Option (List Tuple × ℕ)) → AreBehind b (idents_of ((x, suc m) ∷ rs)) → not (goes_on b x) ≡ true → is_apart b (x, suc m) ≡ true

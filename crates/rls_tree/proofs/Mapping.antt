@@ -8,11 +8,11 @@ use Rattle.rls_ident.specs.Identifiers.{follows}
 use Rattle.rls_ident.proofs.Members.{some_is}
 use Rattle.rls_runs.specs.Runs.{run_idents, idents_of, put_run, runs_of}
 use Rattle.rls_runs.specs.Entries.{Entries, idents_in, put_all, with_idents}
-use Rattle.rls_runs.proofs.RunOrder.{Rising}
+use Rattle.rls_runs.proofs.RunOrder.{Rising, rising_left, rising_right}
 use Rattle.rls_doc.specs.Documents.{AreNew}
 use Rattle.rls_tree.proofs.AtPlaces.{idents_append}
 use Rattle.rls_tree.proofs.Changes.{follows_is}
-use Rattle.rls_tree.proofs.Gaps.{below_none, rising_first, rising_second, rising_below}
+use Rattle.rls_runs.proofs.Gaps.{below_none, rising_below}
 use Rattle.rls_tree.proofs.Puts.{put_gap}
 use Rattle.rls_tree.proofs.Without.{below_new}
 
@@ -52,11 +52,11 @@ module _ (f : List Tuple → List Tuple) (es cur added : Entries) (at n : ℕ) (
   part_rising : Rising (idents_in cur ++ idents_in added)
   part_rising =
       let all : with_idents f es ≡ with_idents f (take (at + n) es) ++ with_idents f (drop (at + n) es) = ap (with_idents f) (sym (take-append-drop (at + n) es)) ∙ map-append (λ e. (f e.0, e.1)) (take (at + n) es) (drop (at + n) es) in
-      let front = rising_first (idents_in (with_idents f (take (at + n) es))) (idents_in (with_idents f (drop (at + n) es))) (subst Rising (ap idents_in all ∙ idents_append (with_idents f (take (at + n) es)) (with_idents f (drop (at + n) es))) rising) in
+      let front = rising_left (idents_in (with_idents f (take (at + n) es))) (idents_in (with_idents f (drop (at + n) es))) (subst Rising (ap idents_in all ∙ idents_append (with_idents f (take (at + n) es)) (with_idents f (drop (at + n) es))) rising) in
       subst Rising (ap idents_in both ∙ idents_append cur added) front
 
   pub mapped_rising : Rising (idents_in added)
-  mapped_rising = rising_second (idents_in cur) (idents_in added) part_rising
+  mapped_rising = rising_right (idents_in cur) (idents_in added) part_rising
 
   pub mapped_new : AreNew (idents_in added) (idents_in cur)
   mapped_new = below_new (idents_in cur) (idents_in added) (rising_below (idents_in cur) (idents_in added) part_rising)

@@ -1,15 +1,11 @@
 -- Entries put in where there is a gap for them, and one after another.
 use Rattle.std.proofs.Common.{◌≡◌, ℕ, zero, suc, ◌+◌, ◌-◌, ◌<◌, ◌≤◌, inr, Bool, true, false, List, [], ◌∷◌, ◌++◌, length, take, drop, Some, Ok, Err, slice_get, refl, sym, ap, ◌∙◌, subst, arith, length-drop, append_assoc}
 use Rattle.std.specs.Prelude.{◌||◌, if◌then◌else◌, pos, zip}
-use Rattle.std.proofs.lemmas.List.{take-append-drop, append-nil, drop-take, take_all, length-take-le, length-map}
+use Rattle.std.proofs.lemmas.List.{take-append-drop, append-nil, drop-take, take_all, length-take-le, length-map, drop-drop}
 use Rattle.std.proofs.Math.ListN.{drop_of_length-le}
 use Rattle.std.proofs.Math.Seq.{take-append_seam, drop-append_seam}
 use Rattle.rls_ident.specs.declared.tuple.Tuple.{Tuple}
 use Rattle.rls_ident.specs.Identifiers.{ident_lt, ident_eq, shifted}
-use Rattle.rls_ident.proofs.Lists.{Lt, lt_irrefl}
-use Rattle.rls_ident.proofs.Members.{some_is, not_true}
-use Rattle.rls_ident.proofs.Ends.{eq_same}
-use Rattle.rls_ident.proofs.Tuples.{tuples}
 use Rattle.rls_runs.specs.Runs.{run_idents, idents_of, is_increasing, is_run, place_of}
 use Rattle.rls_runs.specs.Entries.{Entries, idents_in, has_ident, put, put_all}
 use Rattle.rls_runs.specs.Places.{below_count, find_ident}
@@ -18,14 +14,16 @@ use Rattle.rls_runs.proofs.RunEnds.{count_most}
 use Rattle.rls_runs.proofs.RunLists.{place_most}
 use Rattle.rls_runs.proofs.RunPlaces.{found_is, split_at}
 use Rattle.rls_ident.proofs.Shifted.{shifted_none}
-use Rattle.rls_runs.proofs.RunOrder.{AllLess, AllMore, Rising, of_lt, increasing_of, run_rising, run_ident, run_gets, run_some, idents_append as runs_append}
+use Rattle.rls_runs.proofs.RunOrder.{AllLess, AllMore, Rising, of_lt, increasing_of, run_rising, run_ident, run_gets, run_some, idents_append as runs_append, rising_left, rising_right, rising_of}
 use Rattle.rls_runs.proofs.Sorted.{Entry}
 use Rattle.rls_doc.specs.Documents.{AreNew}
 use Rattle.rls_tree.specs.Trees.{Piece, piece_entries}
 use Rattle.rls_tree.specs.Edits.{part_of, inserted, gap_end}
 use Rattle.rls_tree.proofs.Changes.{thirds}
-use Rattle.rls_tree.proofs.AtPlaces.{part_exact, piece_idents, idents_append, rising_of}
-use Rattle.rls_tree.proofs.Gaps.{lt_false, below_take, more_drop, at_less, read_err, read_ok, AreBelow, below_from, below_none, rising_three, rising_first, rising_second, rising_below}
+use Rattle.rls_tree.proofs.AtPlaces.{part_exact, piece_idents, idents_append}
+use Rattle.rls_runs.proofs.Gaps.{lt_false, below_take, more_drop, at_less, read_err, read_ok, AreBelow, below_from, below_none, rising_three, rising_below, differs, firsts_less, rests_below, one_below, left_below, less_drop, rising_drop, rising_take}
+use Rattle.rls_ident.proofs.Loops.{drop_reads}
+use Rattle.std.proofs.lemmas.Option.{slice_get_within}
 
 -- ---- one gap
 
@@ -34,49 +32,17 @@ put_here [] [] e h k = refl
 put_here [] (x ∷ g) e h k = ap (λ b. if b then x ∷ put e g else e ∷ x ∷ g) (lt_false x.0 e.0 k.0)
 put_here (a ∷ f) g e h k = ap (λ b. if b then a ∷ put e (f ++ g) else e ∷ a ∷ (f ++ g)) (of_lt a.0 e.0 h.0) ∙ ap (λ es. a ∷ es) (put_here f g e h.1 k)
 
-firsts_less : (xs : List (List Tuple)) (y : List Tuple) (ys : List (List Tuple)) → AreBelow xs (y ∷ ys) → AllLess xs y
-firsts_less [] y ys h = tt
-firsts_less (x ∷ xs) y ys h = (h.0.0, firsts_less xs y ys h.1)
-
-rests_below : (xs : List (List Tuple)) (y : List Tuple) (ys : List (List Tuple)) → AreBelow xs (y ∷ ys) → AreBelow xs ys
-rests_below [] y ys h = tt
-rests_below (x ∷ xs) y ys h = (h.0.1, rests_below xs y ys h.1)
-
-one_more : (xs : List (List Tuple)) (y : List Tuple) (ys : List (List Tuple)) → AreBelow xs ys → AllMore y ys → AreBelow (xs ++ y ∷ []) ys
-one_more [] y ys h k = (k, tt)
-one_more (x ∷ xs) y ys h k = (h.0, one_more xs y ys h.1 k)
-
 pub put_gap : (f p g : Entries) → AreBelow (idents_in f) (idents_in p) → AreBelow (idents_in p) (idents_in g) → Rising (idents_in p) → put_all p (f ++ g) ≡ f ++ p ++ g
 put_gap f [] g h k r = ap (λ es. es ++ g) (sym (append-nil f))
 put_gap f (e ∷ p) g h k r =
     ap (put_all p) (put_here f g e (firsts_less (idents_in f) e.0 (idents_in p) h) k.0 ∙ sym (append_assoc f (e ∷ []) g))
-    ∙ put_gap (f ++ e ∷ []) p g (subst (λ xs. AreBelow xs (idents_in p)) (sym (idents_append f (e ∷ []))) (one_more (idents_in f) e.0 (idents_in p) (rests_below (idents_in f) e.0 (idents_in p) h) r.0)) k.1 r.1
+    ∙ put_gap (f ++ e ∷ []) p g (subst (λ xs. AreBelow xs (idents_in p)) (sym (idents_append f (e ∷ []))) (one_below (idents_in f) e.0 (idents_in p) (rests_below (idents_in f) e.0 (idents_in p) h) r.0)) k.1 r.1
     ∙ ap (λ es. es ++ g) (append_assoc f (e ∷ []) p)
 
 -- ---- the gap for identifiers of a rising list, from one of them on
 
-pub less_drop : (k : ℕ) (xs : List (List Tuple)) (y : List Tuple) → AllLess xs y → AllLess (drop k xs) y
-less_drop zero xs y h = h
-less_drop (suc k) [] y h = tt
-less_drop (suc k) (x ∷ xs) y h = less_drop k xs y h.1
-
-pub rising_drop : (k : ℕ) (xs : List (List Tuple)) → Rising xs → Rising (drop k xs)
-rising_drop zero xs h = h
-rising_drop (suc k) [] h = tt
-rising_drop (suc k) (x ∷ xs) h = rising_drop k xs h.1
-
-pub rising_take : (k : ℕ) (xs : List (List Tuple)) → Rising xs → Rising (take k xs)
-rising_take k xs h = rising_first (take k xs) (drop k xs) (subst Rising (sym (take-append-drop k xs)) h)
-
-pub headed : (k : ℕ) (xs : List (List Tuple)) (y : List Tuple) → slice_get xs k ≡ Some y → drop k xs ≡ y ∷ drop (suc k) xs
-headed k [] y g = absurd (cc)
-headed zero (x ∷ xs) y g = ap (λ z. z ∷ xs) (some_is x y g)
-headed (suc k) (x ∷ xs) y g = headed k xs y g
-
-pub get_within : (xs : List (List Tuple)) (k : ℕ) (y : List Tuple) → slice_get xs k ≡ Some y → k < length xs
-get_within [] k y g = absurd (cc)
-get_within (x ∷ xs) zero y g = omega arith
-get_within (x ∷ xs) (suc k) y g = let h = get_within xs k y g in omega (arith, h)
+pub headed : {X : Type 0} (k : ℕ) (xs : List X) (y : X) → slice_get xs k ≡ Some y → drop k xs ≡ y ∷ drop (suc k) xs
+headed k xs y g = let s : k + 1 ≡ suc k = omega arith in drop_reads xs k y g ∙ ap (λ j. y ∷ drop j xs) s
 
 module _ (xs ids : List (List Tuple)) (i done : ℕ) (first : List Tuple) (rising : Rising xs) (own : Rising ids) (at : slice_get ids done ≡ Some first) (found : find_ident xs first ≡ Err i) where
   places : (has_ident xs first ≡ false) × (below_count xs first ≡ i)
@@ -92,7 +58,7 @@ module _ (xs ids : List (List Tuple)) (i done : ℕ) (first : List Tuple) (risin
   ends_later = go (drop i xs) rest_more
     where
       go : (rest : List (List Tuple)) → AllMore first rest → done < gap_end ids rest
-      go [] m = get_within ids done first at
+      go [] m = slice_get_within ids done first at
       go (x ∷ rest) m = at_less ids done first x own at m.0
 
   pub ends_within : gap_end ids (drop i xs) ≤ length ids
@@ -150,16 +116,8 @@ put_inserted i p es r =
     let f = take i es in
     let g = drop i es in
     let q : Rising (idents_in f ++ (idents_in p ++ idents_in g)) = subst (λ xs. Rising (xs ++ (idents_in p ++ idents_in g))) (sym (idents_take i es)) (subst (λ xs. Rising (take i (idents_in es) ++ (idents_in p ++ xs))) (sym (idents_drop i es)) r) in
-    let s = rising_second (idents_in f) (idents_in p ++ idents_in g) q in
-    ap (put_all p) (sym (take-append-drop i es)) ∙ put_gap f p g (left_below (idents_in f) (idents_in p) (idents_in g) (rising_below (idents_in f) (idents_in p ++ idents_in g) q)) (rising_below (idents_in p) (idents_in g) s) (rising_first (idents_in p) (idents_in g) s)
-  where
-    more_left : (z : List Tuple) (xs ys : List (List Tuple)) → AllMore z (xs ++ ys) → AllMore z xs
-    more_left z [] ys h = tt
-    more_left z (x ∷ xs) ys h = (h.0, more_left z xs ys h.1)
-
-    left_below : (xs ys zs : List (List Tuple)) → AreBelow xs (ys ++ zs) → AreBelow xs ys
-    left_below [] ys zs h = tt
-    left_below (x ∷ xs) ys zs h = (more_left x ys zs h.0, left_below xs ys zs h.1)
+    let s = rising_right (idents_in f) (idents_in p ++ idents_in g) q in
+    ap (put_all p) (sym (take-append-drop i es)) ∙ put_gap f p g (left_below (idents_in f) (idents_in p) (idents_in g) (rising_below (idents_in f) (idents_in p ++ idents_in g) q)) (rising_below (idents_in p) (idents_in g) s) (rising_left (idents_in p) (idents_in g) s)
 
 -- a part of a block is a part of its entries
 pub part_taken : (b : Piece) (k n : ℕ) → length b.1 ≡ b.0.1 → k + n ≤ b.0.1 → piece_entries (part_of k n b) ≡ take n (drop k (piece_entries b))
@@ -177,17 +135,8 @@ pub put_append : (p q es : Entries) → put_all (p ++ q) es ≡ put_all q (put_a
 put_append [] q es = refl
 put_append (e ∷ p) q es = put_append p q (put e es)
 
-drop_drop : (m n : ℕ) (es : Entries) → drop n (drop m es) ≡ drop (m + n) es
-drop_drop zero n es = ap (λ k. drop k es) (omega arith)
-drop_drop (suc m) n [] = nothing n ∙ sym (nothing (suc m + n))
-  where
-    nothing : (k : ℕ) → drop {A = Entry} k [] ≡ []
-    nothing zero = refl
-    nothing (suc k) = refl
-drop_drop (suc m) n (e ∷ es) = let s : suc (m + n) ≡ suc m + n = omega arith in drop_drop m n es ∙ ap (λ k. drop k (e ∷ es)) s
-
 pub parted : (at n : ℕ) (es : Entries) → drop at es ≡ take n (drop at es) ++ drop (at + n) es
-parted at n es = sym (take-append-drop n (drop at es)) ∙ ap (λ zs. take n (drop at es) ++ zs) (drop_drop at n es)
+parted at n es = sym (take-append-drop n (drop at es)) ∙ ap (λ zs. take n (drop at es) ++ zs) (drop-drop n at es)
 
 pub put_step : (added cur new all : Entries) (at n : ℕ) → new ≡ put_all (take n (drop at added)) cur → put_all (drop at added) cur ≡ all → put_all (drop (at + n) added) new ≡ all
 put_step added cur new all at n e h =
@@ -206,9 +155,6 @@ all_length [] es = omega arith
 all_length (e ∷ p) es = let h = all_length p (put e es) in let k = put_length e es in omega (arith, h, k)
 
 -- ---- none of the rest is there yet
-
-pub differs : (x y : List Tuple) → Lt tuples x y → ident_eq x y ≡ false
-differs x y h = not_true (ident_eq x y) (λ e. lt_irrefl (subst (λ z. Lt tuples x z) (sym (eq_same x y e)) h))
 
 has_put : (e : Entry) (es : Entries) (x : List Tuple) → ident_eq e.0 x ≡ false → has_ident (idents_in es) x ≡ false → has_ident (idents_in (put e es)) x ≡ false
 has_put e [] x h k = ap (λ b. b || false) h

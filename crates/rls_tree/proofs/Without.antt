@@ -1,7 +1,7 @@
 -- Entries without those of some identifiers.
 use Rattle.std.proofs.Common.{◌≡◌, ℕ, zero, suc, ◌+◌, ◌-◌, ◌<◌, ◌≤◌, Bool, true, false, cond, List, [], ◌∷◌, ◌++◌, length, take, drop, Some, Ok, Err, slice_get, refl, sym, ap, ◌∙◌, subst, ⊎_elim, arith, append_assoc}
 use Rattle.std.specs.Prelude.{not, filter, ◌||◌}
-use Rattle.std.proofs.lemmas.List.{take-append-drop, append-nil, drop-take}
+use Rattle.std.proofs.lemmas.List.{take-append-drop, append-nil, drop-take, drop-drop}
 use Rattle.std.proofs.lemmas.List.Elements.{filter-append}
 use Rattle.std.proofs.lemmas.List.Folds.{list_any-append}
 use Rattle.std.proofs.Math.ListN.{drop_of_length-le}
@@ -14,13 +14,13 @@ use Rattle.rls_ident.proofs.Tuples.{tuples}
 use Rattle.rls_runs.specs.Entries.{Entries, idents_in, has_ident, without_all}
 use Rattle.rls_runs.specs.Runs.{run_idents}
 use Rattle.rls_runs.specs.Places.{below_count, find_ident}
-use Rattle.rls_runs.proofs.RunOrder.{AllLess, AllMore, Rising, lt_of, of_lt}
+use Rattle.rls_runs.proofs.RunOrder.{AllLess, AllMore, Rising, lt_of, of_lt, rising_right}
 use Rattle.rls_runs.proofs.Sorted.{Entry}
 use Rattle.rls_doc.specs.Documents.{AreNew}
 use Rattle.rls_tree.specs.Edits.{removed}
 use Rattle.rls_tree.proofs.AtPlaces.{idents_append}
-use Rattle.rls_tree.proofs.Gaps.{below_take, at_less, at_same, read_err, read_ok, AreBelow, below_from, rising_second, rising_below}
-use Rattle.rls_tree.proofs.Puts.{idents_drop, idents_take, differs, parted, less_drop}
+use Rattle.rls_runs.proofs.Gaps.{below_take, at_less, at_same, read_err, read_ok, AreBelow, below_from, rising_below, differs, firsts_less, rests_below, left_below, less_drop}
+use Rattle.rls_tree.proofs.Puts.{idents_drop, idents_take, parted, headed}
 
 -- ---- lists of identifiers to take out
 
@@ -69,14 +69,6 @@ pub less_stay : (xs : List (List Tuple)) (es : Entries) → AreBelow (idents_in 
 less_stay xs [] h = refl
 less_stay xs (e ∷ es) h = stays xs e es (has_not_more xs e.0 h.0) (less_stay xs es h.1)
 
-firsts_less : (xs : List (List Tuple)) (y : List Tuple) (ys : List (List Tuple)) → AreBelow xs (y ∷ ys) → AllLess xs y
-firsts_less [] y ys h = tt
-firsts_less (x ∷ xs) y ys h = (h.0.0, firsts_less xs y ys h.1)
-
-rests_below : (xs : List (List Tuple)) (y : List Tuple) (ys : List (List Tuple)) → AreBelow xs (y ∷ ys) → AreBelow xs ys
-rests_below [] y ys h = tt
-rests_below (x ∷ xs) y ys h = (h.0.1, rests_below xs y ys h.1)
-
 pub more_stay : (xs : List (List Tuple)) (es : Entries) → AreBelow xs (idents_in es) → without_all xs es ≡ es
 more_stay xs [] h = refl
 more_stay xs (e ∷ es) h = stays xs e es (has_not_less xs e.0 (firsts_less xs e.0 (idents_in es) h)) (more_stay xs es (rests_below xs e.0 (idents_in es) h))
@@ -97,43 +89,21 @@ all_gone xs (e ∷ es) =
     ap (λ b. cond (not b) (e ∷ without_all (xs ++ e.0 ∷ idents_in es) es) (without_all (xs ++ e.0 ∷ idents_in es) es)) (has_among xs (idents_in es) e.0)
     ∙ ap (λ zs. without_all zs es) (sym (append_assoc xs (e.0 ∷ []) (idents_in es))) ∙ all_gone (xs ++ e.0 ∷ []) es
 
-pub drops : (a k : ℕ) (cs : List (List Tuple)) → drop k (drop a cs) ≡ drop (a + k) cs
-drops zero k cs = ap (λ m. drop m cs) (omega arith)
-drops (suc a) k [] = nothing k ∙ sym (nothing (suc a + k))
-  where
-    nothing : (k : ℕ) → drop {A = List Tuple} k [] ≡ []
-    nothing zero = refl
-    nothing (suc k) = refl
-drops (suc a) k (c ∷ cs) = let s : suc (a + k) ≡ suc a + k = omega arith in drops a k cs ∙ ap (λ m. drop m (c ∷ cs)) s
-
-more_left : (z : List Tuple) (xs ys : List (List Tuple)) → AllMore z (xs ++ ys) → AllMore z xs
-more_left z [] ys h = tt
-more_left z (x ∷ xs) ys h = (h.0, more_left z xs ys h.1)
-
-left_below : (xs ys zs : List (List Tuple)) → AreBelow xs (ys ++ zs) → AreBelow xs ys
-left_below [] ys zs h = tt
-left_below (x ∷ xs) ys zs h = (more_left x ys zs h.0, left_below xs ys zs h.1)
-
 -- those of a part
 pub part_gone : (f m g : Entries) → Rising (idents_in (f ++ (m ++ g))) → without_all (idents_in m) (f ++ (m ++ g)) ≡ f ++ g
 part_gone f m g r =
     let q : Rising (idents_in f ++ (idents_in m ++ idents_in g)) = subst Rising (idents_append f (m ++ g) ∙ ap (λ xs. idents_in f ++ xs) (idents_append m g)) r in
     let b = rising_below (idents_in f) (idents_in m ++ idents_in g) q in
-    let s = rising_second (idents_in f) (idents_in m ++ idents_in g) q in
+    let s = rising_right (idents_in f) (idents_in m ++ idents_in g) q in
     without_append (idents_in m) f (m ++ g)
     ∙ ap (λ zs. zs ++ without_all (idents_in m) (m ++ g)) (less_stay (idents_in m) f (left_below (idents_in f) (idents_in m) (idents_in g) b))
     ∙ ap (λ zs. f ++ zs) (without_append (idents_in m) m g ∙ ap (λ zs. zs ++ without_all (idents_in m) g) (all_gone [] m) ∙ more_stay (idents_in m) g (rising_below (idents_in m) (idents_in g) s))
 
 -- ---- the next of some targets, in increasing order, and the entries from its place on
 
-headed : {X : Type 0} (k : ℕ) (xs : List X) (y : X) → slice_get xs k ≡ Some y → drop k xs ≡ y ∷ drop (suc k) xs
-headed k [] y g = absurd (cc)
-headed zero (x ∷ xs) y g = let e : x ≡ y = cc in ap (λ z. z ∷ xs) e
-headed (suc k) (x ∷ xs) y g = headed k xs y g
-
 module _ (es : Entries) (ids : List (List Tuple)) (i done : ℕ) (first : List Tuple) (rising : Rising (idents_in es)) (own : Rising ids) (at : slice_get ids done ≡ Some first) (count : below_count (idents_in es) first ≡ i) where
   rest_rising : Rising (drop done ids)
-  rest_rising = rising_second (take done ids) (drop done ids) (subst Rising (sym (take-append-drop done ids)) own)
+  rest_rising = rising_right (take done ids) (drop done ids) (subst Rising (sym (take-append-drop done ids)) own)
 
   -- the entries in front are less than all targets from the next one on
   front_below : AreBelow (idents_in (take i es)) (drop done ids)
@@ -161,10 +131,10 @@ module _ (es : Entries) (ids : List (List Tuple)) (i done : ℕ) (first : List T
     some_less j h l =
         let n : done + (j - done) ≡ j = omega (arith, h) in
         let m = take (j - done) (drop done ids) in
-        let e : drop done ids ≡ m ++ drop j ids = sym (take-append-drop (j - done) (drop done ids)) ∙ ap (λ zs. m ++ zs) (drops done (j - done) ids ∙ ap (λ k. drop k ids) n) in
+        let e : drop done ids ≡ m ++ drop j ids = sym (take-append-drop (j - done) (drop done ids)) ∙ ap (λ zs. m ++ zs) (drop-drop (j - done) done ids ∙ ap (λ k. drop k ids) n) in
         let less : AllLess m x = subst (λ zs. AllLess zs x) (ap (λ k. drop done (take k ids)) (sym n) ∙ drop-take done (j - done) ids) (less_drop done (take j ids) x l) in
         let b : AreBelow (idents_in (take i es)) m = left_below (idents_in (take i es)) m (drop j ids) (subst (AreBelow (idents_in (take i es))) e front_below) in
-        let c : AreBelow m (idents_in (drop i es)) = subst (AreBelow m) (sym rest_is) (below_from m x (drop (suc i) (idents_in es)) less (subst Rising rest_is (subst Rising (sym (idents_drop i es)) (rising_second (take i (idents_in es)) (drop i (idents_in es)) (subst Rising (sym (take-append-drop i (idents_in es))) rising)))).0) in
+        let c : AreBelow m (idents_in (drop i es)) = subst (AreBelow m) (sym rest_is) (below_from m x (drop (suc i) (idents_in es)) less (subst Rising rest_is (subst Rising (sym (idents_drop i es)) (rising_right (take i (idents_in es)) (drop i (idents_in es)) (subst Rising (sym (take-append-drop i (idents_in es))) rising)))).0) in
         ap (λ zs. without_all zs es) e ∙ without_both m (drop j ids) es
         ∙ ap (without_all (drop j ids)) (ap (without_all m) (sym (take-append-drop i es)) ∙ without_append m (take i es) (drop i es) ∙ ap (λ zs. zs ++ without_all m (drop i es)) (less_stay m (take i es) b) ∙ ap (λ zs. take i es ++ zs) (more_stay m (drop i es) c) ∙ take-append-drop i es)
 
@@ -194,7 +164,7 @@ module _ (es : Entries) (ids : List (List Tuple)) (i done : ℕ) (first : List T
         let g = drop (i + n) es in
         let all : es ≡ take i es ++ (c ++ g) = sym (take-append-drop i es) ∙ ap (λ zs. take i es ++ zs) (parted i n es) in
         let m : idents_in c ≡ take n (drop j ids) = idents_take n (drop i es) ∙ ap (take n) (idents_drop i es) ∙ same in
-        let split : drop j ids ≡ take n (drop j ids) ++ drop (j + n) ids = sym (take-append-drop n (drop j ids)) ∙ ap (λ zs. take n (drop j ids) ++ zs) (drops j n ids) in (
+        let split : drop j ids ≡ take n (drop j ids) ++ drop (j + n) ids = sym (take-append-drop n (drop j ids)) ∙ ap (λ zs. take n (drop j ids) ++ zs) (drop-drop n j ids) in (
           later,
           some_less j later (subst (λ k. AllLess (take k ids) x) e (below_take ids x own))
               ∙ ap (λ zs. without_all zs es) split ∙ without_both (take n (drop j ids)) (drop (j + n) ids) es

@@ -2,7 +2,7 @@ use Rattle.std.proofs.Common.{Err, ap, ◌∙◌, arith}
 use Rattle.std.proofs.lemmas.Int.{ints}
 use Rattle.rls_ident.specs.Identifiers.{last_of}
 use Rattle.rls_ident.specs.Tuples.{offset_of}
-use Rattle.rls_tree.proofs.Cuts.{joined_short, joined_ends}
+use Rattle.rls_runs.proofs.Cuts.{joined_short, joined_ends}
 use Rattle.rls_tree.proofs.block.joined_run.Goals as goal
 
 pub overflow_add-len : goal.overflow_add-len

@@ -3,7 +3,7 @@ use Rattle.std.specs.Prelude.{pos}
 use Rattle.std.proofs.lemmas.Int.{ints}
 use Rattle.rls_ident.specs.Identifiers.{last_of, shifted}
 use Rattle.rls_ident.specs.Tuples.{offset_of}
-use Rattle.rls_tree.proofs.Cuts.{part_ends}
+use Rattle.rls_runs.proofs.Cuts.{part_ends}
 use Rattle.rls_tree.proofs.block.part_of_run.Goals as goal
 
 pub unreachable-requires-in-Err-OffsetEnd : goal.unreachable-requires-in-Err-OffsetEnd

@@ -6,10 +6,11 @@ use Rattle.rls_runs.specs.Entries.{idents_in, put_all}
 use Rattle.rls_runs.proofs.Finding.{run_length}
 use Rattle.rls_tree.specs.Trees.{entries_of, piece_entries}
 use Rattle.rls_tree.specs.Edits.{inserted}
-use Rattle.rls_tree.proofs.AtPlaces.{rising_of, piece_idents}
+use Rattle.rls_tree.proofs.AtPlaces.{piece_idents}
 use Rattle.rls_tree.proofs.Mapping.{single_run}
 use Rattle.rls_tree.proofs.Puts.{idents_inserted, put_inserted}
 use Rattle.rls_tree.proofs.document.BlockTreeDocument.insert_runs.Goals as goal
+use Rattle.rls_runs.proofs.RunOrder.{rising_of}
 
 pub insert_piece-requires-clause-as_many : goal.insert_piece-requires-clause-as_many
 insert_piece-requires-clause-as_many c =

@@ -2,12 +2,12 @@ use Rattle.std.proofs.Common.{length, sym, ap, ◌∙◌, subst, inl, inr, ◌+�
 use Rattle.rls_runs.specs.Runs.{run_idents, idents_of}
 use Rattle.rls_runs.specs.Places.{find_ident}
 use Rattle.rls_runs.proofs.Finding.{run_length}
-use Rattle.rls_runs.proofs.RunOrder.{Rising}
+use Rattle.rls_runs.proofs.RunOrder.{Rising, rising_left, rising_right}
 use Rattle.rls_runs.proofs.RunLists.{place_most}
 use Rattle.rls_runs.proofs.RunPlaces.{moved}
 use Rattle.rls_tree.specs.Trees.{pieces, runs_in}
 use Rattle.rls_tree.proofs.Pieces.{piece_some}
-use Rattle.rls_tree.proofs.Places.{rising_left, rising_right, found_own, missed_own, found_left, found_right}
+use Rattle.rls_runs.proofs.PartPlaces.{found_own, missed_own, found_left, found_right}
 use Rattle.rls_tree.proofs.Parts.{node_idents, as_many_idents}
 use Rattle.rls_tree.proofs.node.Node.+find.Goals as goal
 

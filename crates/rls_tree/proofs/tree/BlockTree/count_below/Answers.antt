@@ -2,9 +2,9 @@ use Rattle.std.proofs.Common.{sym, ◌∙◌}
 use Rattle.rls_runs.specs.Entries.{idents_in}
 use Rattle.rls_tree.specs.Trees.{entries_of}
 use Rattle.rls_runs.proofs.RunPlaces.{found_is}
-use Rattle.rls_tree.proofs.AtPlaces.{rising_of}
-use Rattle.rls_tree.proofs.Gaps.{read_ok, read_err}
+use Rattle.rls_runs.proofs.Gaps.{read_ok, read_err}
 use Rattle.rls_tree.proofs.tree.BlockTree.count_below.Goals as goal
+use Rattle.rls_runs.proofs.RunOrder.{rising_of}
 
 pub returns-in-Ok : goal.returns-in-Ok
 returns-in-Ok c =

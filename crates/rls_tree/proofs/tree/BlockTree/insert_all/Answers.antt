@@ -8,10 +8,9 @@ use Rattle.std.proofs.Common.{length-drop}
 use Rattle.std.proofs.lemmas.Option.{slice_get_read}
 use Rattle.std.proofs.lemmas.Slice.Zip.{firsts-zip, length-zip}
 use Rattle.std.proofs.Math.ListN.{drop_of_length-le}
-use Rattle.rls_runs.proofs.RunOrder.{Rising}
+use Rattle.rls_runs.proofs.RunOrder.{Rising, rising_of}
 use Rattle.rls_runs.proofs.RunPlaces.{within_total, next_start}
 use Rattle.rls_doc.specs.Documents.{AreNew}
-use Rattle.rls_tree.proofs.AtPlaces.{rising_of}
 use Rattle.rls_tree.proofs.Puts.{put_step, new_step, new_now, all_length, taken_length, run_taken}
 use Rattle.rls_tree.proofs.tree.BlockTree.insert_all.Goals as goal
 

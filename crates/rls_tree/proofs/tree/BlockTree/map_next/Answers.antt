@@ -4,9 +4,8 @@ use Rattle.std.proofs.lemmas.List.{length-map}
 use Rattle.rls_runs.specs.Runs.{run_idents, idents_of, is_increasing}
 use Rattle.rls_runs.specs.Entries.{idents_in, with_idents}
 use Rattle.rls_runs.proofs.Finding.{run_length}
-use Rattle.rls_runs.proofs.RunOrder.{Rising, increasing_of}
+use Rattle.rls_runs.proofs.RunOrder.{Rising, increasing_of, rising_of}
 use Rattle.rls_tree.specs.Trees.{entries_of}
-use Rattle.rls_tree.proofs.AtPlaces.{rising_of}
 use Rattle.std.proofs.lemmas.Slice.Zip.{firsts-zip}
 use Rattle.rls_doc.specs.Documents.{AreNew}
 use Rattle.rls_doc.proofs.Rising.{increasing_mapped}

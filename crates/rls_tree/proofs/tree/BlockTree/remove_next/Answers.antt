@@ -10,14 +10,14 @@ use Rattle.rls_tree.specs.Edits.{removed}
 use Rattle.std.proofs.lemmas.List.{length-map}
 use Rattle.std.proofs.Math.ListN.{drop_of_length-le}
 use Rattle.rls_ident.proofs.Members.{some_is}
-use Rattle.rls_runs.proofs.RunOrder.{run_rising, run_ident, run_gets}
+use Rattle.rls_runs.proofs.RunOrder.{run_rising, run_ident, run_gets, rising_of}
 use Rattle.rls_runs.proofs.RunEnds.{count_most}
 use Rattle.rls_runs.proofs.RunLists.{place_most}
 use Rattle.rls_runs.proofs.RunPlaces.{found_there}
-use Rattle.rls_tree.proofs.AtPlaces.{rising_of, run_part}
-use Rattle.rls_tree.proofs.Puts.{get_within}
+use Rattle.rls_tree.proofs.AtPlaces.{run_part}
 use Rattle.rls_tree.proofs.Without.{none_left, missed, hit, without_none, run_head}
 use Rattle.rls_tree.proofs.tree.BlockTree.remove_next.Goals as goal
+use Rattle.std.proofs.lemmas.Option.{slice_get_within}
 
 pub returns-then-i-chars-clause-ok : goal.returns-then-i-chars-clause-ok
 returns-then-i-chars-clause-ok c =
@@ -122,7 +122,7 @@ overflow_sub-len c =
     let f : find_ident ids x ≡ Ok j = sym c.in-Ok.ensures.find in
     let here : slice_get ids j ≡ Some x = found_there ids x j own f in
     let l = run_length r.0 r.1 in
-    let short = get_within ids j x here in
+    let short = slice_get_within ids j x here in
     let len = c.len-len.ensures.len in
     omega (arith, short, l, len)
 
@@ -158,7 +158,7 @@ run_from-requires-clause-some c =
     let f : find_ident ids x ≡ Ok j = sym c.in-Ok.ensures.find in
     let here : slice_get ids j ≡ Some x = found_there ids x j own f in
     let l = run_length r.0 r.1 in
-    let short = get_within ids j x here in
+    let short = slice_get_within ids j x here in
     let len = c.len-len.ensures.len in
     omega (arith, short, l, len)
 
@@ -179,7 +179,7 @@ returns-clause-more c =
     let f : find_ident ids x ≡ Ok j = sym c.in-Ok.ensures.find in
     let here : slice_get ids j ≡ Some x = found_there ids x j own f in
     let l = run_length r.0 r.1 in
-    let short = get_within ids j x here in
+    let short = slice_get_within ids j x here in
     let len = c.len-len.ensures.len in
     let n = c.in_ok-part-in-Ok.part.1 in
     let q = c.in_ok-part-in-Ok.part.0 in
@@ -208,7 +208,7 @@ returns-clause-ok c =
     let f : find_ident ids x ≡ Ok j = sym c.in-Ok.ensures.find in
     let here : slice_get ids j ≡ Some x = found_there ids x j own f in
     let l = run_length r.0 r.1 in
-    let short = get_within ids j x here in
+    let short = slice_get_within ids j x here in
     let len = c.len-len.ensures.len in
     let n = c.in_ok-part-in-Ok.part.1 in
     let q = c.in_ok-part-in-Ok.part.0 in

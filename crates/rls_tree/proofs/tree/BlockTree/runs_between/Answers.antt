@@ -2,17 +2,18 @@ use Rattle.std.proofs.Common.{◌≡◌, ◌+◌, ◌-◌, ◌++◌, [], true, t
 use Rattle.rls_runs.specs.Runs.{run_idents, is_increasing}
 use Rattle.rls_runs.specs.Entries.{idents_in}
 use Rattle.rls_runs.specs.Places.{is_above, last_ident}
-use Rattle.rls_runs.proofs.RunOrder.{increasing_of}
+use Rattle.rls_runs.proofs.RunOrder.{increasing_of, rising_of}
 use Rattle.rls_tree.specs.Trees.{entries_of}
-use Rattle.rls_tree.proofs.AtPlaces.{rising_of}
 use Rattle.std.proofs.lemmas.Option.{slice_get-get_or}
 use Rattle.std.proofs.Math.Seq.{take-add}
 use Rattle.rls_runs.proofs.Sorted.{Entry}
 use Rattle.rls_doc.proofs.Rising.{above_taken, idents_part}
 use Rattle.rls_doc.proofs.Steps.{ident_there}
-use Rattle.rls_tree.proofs.Puts.{idents_drop, rising_drop, get_drop}
-use Rattle.rls_tree.proofs.Without.{run_head, drops}
+use Rattle.rls_tree.proofs.Puts.{idents_drop, get_drop}
+use Rattle.rls_tree.proofs.Without.{run_head}
 use Rattle.rls_tree.proofs.tree.BlockTree.runs_between.Goals as goal
+use Rattle.rls_runs.proofs.Gaps.{rising_drop}
+use Rattle.std.proofs.lemmas.List.{drop-drop}
 
 pub append-requires-clause-above : goal.append-requires-clause-above
 append-requires-clause-above c =
@@ -43,7 +44,7 @@ loop-at-preserved c =
     let len = c.len.ensures.len in
     let k : from + (at - from) ≡ at = omega (arith, inv.order) in
     let m : (at - from) + n ≡ at + n - from = omega (arith, inv.order) in
-    let rest : take n (drop (at - from) (drop from xs)) ≡ run_idents run.0 run.1 = ap (take n) (drops from (at - from) xs ∙ ap (λ j. drop j xs) k) ∙ ap (λ j. take j (drop at xs)) len ∙ c.in_ok-run.ensures.idents in
+    let rest : take n (drop (at - from) (drop from xs)) ≡ run_idents run.0 run.1 = ap (take n) (drop-drop (at - from) from xs ∙ ap (λ j. drop j xs) k) ∙ ap (λ j. take j (drop at xs)) len ∙ c.in_ok-run.ensures.idents in
     record {
       order = omega (arith, inv.order);
       within = omega (arith, len, c.in_ok-run.ensures.most, c.most_of.ensures.most, c.loop-at-test.true);

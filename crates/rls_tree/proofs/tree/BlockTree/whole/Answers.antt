@@ -4,11 +4,11 @@ use Rattle.rls_runs.specs.Runs.{run_idents}
 use Rattle.rls_runs.specs.Entries.{idents_in}
 use Rattle.rls_runs.proofs.Finding.{run_length}
 use Rattle.rls_tree.specs.Trees.{entries_of}
-use Rattle.rls_tree.proofs.AtPlaces.{rising_of}
 use Rattle.rls_runs.proofs.RunPlaces.{found_is, found_there}
-use Rattle.rls_tree.proofs.Puts.{get_within}
 use Rattle.rls_tree.proofs.Without.{run_head, whole_gone}
 use Rattle.rls_tree.proofs.tree.BlockTree.whole.Goals as goal
+use Rattle.rls_runs.proofs.RunOrder.{rising_of}
+use Rattle.std.proofs.lemmas.Option.{slice_get_within}
 
 pub run_from-requires-clause-place : goal.run_from-requires-clause-place
 run_from-requires-clause-place c =
@@ -19,7 +19,7 @@ run_from-requires-clause-place c =
     let i = c.in-Ok.i in
     let rising = rising_of xs c.blocks-blocks.ensures.rises in
     let there : slice_get xs i ≡ Some first = found_there xs first i rising (found_is xs first rising ∙ sym c.in-Ok.ensures.place) in
-    let short = get_within xs i first there in
+    let short = slice_get_within xs i first there in
     let l = length-map es (λ e. e.0) in
     omega (arith, short, l)
 
@@ -32,7 +32,7 @@ returns-then-len-clause-within c =
     let i = c.in-Ok.i in
     let rising = rising_of xs c.blocks-blocks.ensures.rises in
     let there : slice_get xs i ≡ Some first = found_there xs first i rising (found_is xs first rising ∙ sym c.in-Ok.ensures.place) in
-    let short = get_within xs i first there in
+    let short = slice_get_within xs i first there in
     let l = length-map es (λ e. e.0) in
     let part = c.in_ok-part.part in
     let long : part.1 ≡ r.1 = sym c.len-2.ensures.len ∙ c.if-len.true ∙ c.len-3.ensures.len in
@@ -51,7 +51,7 @@ returns-then-len-clause-removed c =
     let i = c.in-Ok.i in
     let rising = rising_of xs c.blocks-blocks.ensures.rises in
     let there : slice_get xs i ≡ Some first = found_there xs first i rising (found_is xs first rising ∙ sym c.in-Ok.ensures.place) in
-    let short = get_within xs i first there in
+    let short = slice_get_within xs i first there in
     let l = length-map es (λ e. e.0) in
     let part = c.in_ok-part.part in
     let long : part.1 ≡ r.1 = sym c.len-2.ensures.len ∙ c.if-len.true ∙ c.len-3.ensures.len in

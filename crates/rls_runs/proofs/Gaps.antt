@@ -1,21 +1,25 @@
 -- The place of an identifier in a rising list, and identifiers put in there.
 use Rattle.std.proofs.Common.{◌≡◌, ℕ, zero, suc, ◌<◌, Bool, true, false, cond, List, [], ◌∷◌, ◌++◌, take, drop, Some, Ok, Err, slice_get, refl, sym, ap, ◌∙◌, subst, ⊎_elim, arith}
 use Rattle.std.specs.Prelude.{◌||◌}
+use Rattle.std.proofs.lemmas.List.{take-append-drop}
 use Rattle.rls_ident.specs.declared.tuple.Tuple.{Tuple}
 use Rattle.rls_ident.specs.Identifiers.{ident_lt, ident_eq}
-use Rattle.rls_ident.proofs.Ends.{same_eq}
+use Rattle.rls_ident.proofs.Ends.{eq_same, same_eq}
 use Rattle.rls_ident.proofs.Lists.{Lt, lt_irrefl, lt_trans, tri}
-use Rattle.rls_ident.proofs.Members.{some_is, bool_cases}
+use Rattle.rls_ident.proofs.Members.{some_is, bool_cases, not_true}
 use Rattle.rls_ident.proofs.Tuples.{tuples}
 use Rattle.rls_runs.specs.Entries.{has_ident}
 use Rattle.rls_runs.specs.Places.{below_count, find_ident}
-use Rattle.rls_runs.proofs.RunOrder.{AllLess, AllMore, Rising, lt_of, of_lt, more_trans}
+use Rattle.rls_runs.proofs.RunOrder.{AllLess, AllMore, Rising, lt_of, of_lt, more_trans, more_append, more_left, more_right, rising_left, rising_right}
 
 pub lt_false : (x y : List Tuple) → Lt tuples y x → ident_lt x y ≡ false
 lt_false x y h = bool_cases (ident_lt x y) (λ e. absurd (lt_irrefl (lt_trans (lt_of x y e) h))) (λ e. e)
 
 same_false : (x : List Tuple) → ident_lt x x ≡ false
 same_false x = bool_cases (ident_lt x x) (λ e. absurd (lt_irrefl (lt_of x x e))) (λ e. e)
+
+pub differs : (x y : List Tuple) → Lt tuples x y → ident_eq x y ≡ false
+differs x y h = not_true (ident_eq x y) (λ e. lt_irrefl (subst (λ z. Lt tuples x z) (sym (eq_same x y e)) h))
 
 counted_less : (y : List Tuple) (ys : List (List Tuple)) (x : List Tuple) → Lt tuples y x → below_count (y ∷ ys) x ≡ suc (below_count ys x)
 counted_less y ys x h = ap (λ b. cond b (suc (below_count ys x)) (below_count ys x)) (of_lt y x h)
@@ -107,41 +111,52 @@ pub below_none : (xs : List (List Tuple)) → AreBelow xs []
 below_none [] = tt
 below_none (x ∷ xs) = (tt, below_none xs)
 
-more_both : (z : List Tuple) (xs ys : List (List Tuple)) → AllMore z xs → AllMore z ys → AllMore z (xs ++ ys)
-more_both z [] ys h k = k
-more_both z (x ∷ xs) ys h k = (h.0, more_both z xs ys h.1 k)
-
 pub rising_both : (xs ys : List (List Tuple)) → Rising xs → Rising ys → AreBelow xs ys → Rising (xs ++ ys)
 rising_both [] ys r s h = s
-rising_both (x ∷ xs) ys r s h = (more_both x xs ys r.0 h.0, rising_both xs ys r.1 s h.1)
-
-more_first : (z : List Tuple) (xs ys : List (List Tuple)) → AllMore z (xs ++ ys) → AllMore z xs
-more_first z [] ys h = tt
-more_first z (x ∷ xs) ys h = (h.0, more_first z xs ys h.1)
-
-more_second : (z : List Tuple) (xs ys : List (List Tuple)) → AllMore z (xs ++ ys) → AllMore z ys
-more_second z [] ys h = h
-more_second z (x ∷ xs) ys h = more_second z xs ys h.1
-
-pub rising_first : (xs ys : List (List Tuple)) → Rising (xs ++ ys) → Rising xs
-rising_first [] ys h = tt
-rising_first (x ∷ xs) ys h = (more_first x xs ys h.0, rising_first xs ys h.1)
-
-pub rising_second : (xs ys : List (List Tuple)) → Rising (xs ++ ys) → Rising ys
-rising_second [] ys h = h
-rising_second (x ∷ xs) ys h = rising_second xs ys h.1
+rising_both (x ∷ xs) ys r s h = (more_append x xs ys r.0 h.0, rising_both xs ys r.1 s h.1)
 
 pub rising_below : (xs ys : List (List Tuple)) → Rising (xs ++ ys) → AreBelow xs ys
 rising_below [] ys h = tt
-rising_below (x ∷ xs) ys h = (more_second x xs ys h.0, rising_below xs ys h.1)
+rising_below (x ∷ xs) ys h = (more_right x xs ys h.0, rising_below xs ys h.1)
 
 below_both : (xs ys zs : List (List Tuple)) → AreBelow xs ys → AreBelow xs zs → AreBelow xs (ys ++ zs)
 below_both [] ys zs h k = tt
-below_both (x ∷ xs) ys zs h k = (more_both x ys zs h.0 k.0, below_both xs ys zs h.1 k.1)
+below_both (x ∷ xs) ys zs h k = (more_append x ys zs h.0 k.0, below_both xs ys zs h.1 k.1)
+
+pub left_below : (xs ys zs : List (List Tuple)) → AreBelow xs (ys ++ zs) → AreBelow xs ys
+left_below [] ys zs h = tt
+left_below (x ∷ xs) ys zs h = (more_left x ys zs h.0, left_below xs ys zs h.1)
+
+pub firsts_less : (xs : List (List Tuple)) (y : List Tuple) (ys : List (List Tuple)) → AreBelow xs (y ∷ ys) → AllLess xs y
+firsts_less [] y ys h = tt
+firsts_less (x ∷ xs) y ys h = (h.0.0, firsts_less xs y ys h.1)
+
+pub rests_below : (xs : List (List Tuple)) (y : List Tuple) (ys : List (List Tuple)) → AreBelow xs (y ∷ ys) → AreBelow xs ys
+rests_below [] y ys h = tt
+rests_below (x ∷ xs) y ys h = (h.0.1, rests_below xs y ys h.1)
+
+pub one_below : (xs : List (List Tuple)) (y : List Tuple) (ys : List (List Tuple)) → AreBelow xs ys → AllMore y ys → AreBelow (xs ++ y ∷ []) ys
+one_below [] y ys h k = (k, tt)
+one_below (x ∷ xs) y ys h k = (h.0, one_below xs y ys h.1 k)
 
 pub rising_three : (xs ys zs : List (List Tuple)) → Rising (xs ++ zs) → Rising ys → AreBelow xs ys → AreBelow ys zs → Rising (xs ++ (ys ++ zs))
 rising_three xs ys zs r s h k =
-    rising_both xs (ys ++ zs) (rising_first xs zs r) (rising_both ys zs s (rising_second xs zs r) k) (below_both xs ys zs h (rising_below xs zs r))
+    rising_both xs (ys ++ zs) (rising_left xs zs r) (rising_both ys zs s (rising_right xs zs r) k) (below_both xs ys zs h (rising_below xs zs r))
+
+-- ---- parts of a rising list
+
+pub less_drop : (k : ℕ) (xs : List (List Tuple)) (y : List Tuple) → AllLess xs y → AllLess (drop k xs) y
+less_drop zero xs y h = h
+less_drop (suc k) [] y h = tt
+less_drop (suc k) (x ∷ xs) y h = less_drop k xs y h.1
+
+pub rising_drop : (k : ℕ) (xs : List (List Tuple)) → Rising xs → Rising (drop k xs)
+rising_drop zero xs h = h
+rising_drop (suc k) [] h = tt
+rising_drop (suc k) (x ∷ xs) h = rising_drop k xs h.1
+
+pub rising_take : (k : ℕ) (xs : List (List Tuple)) → Rising xs → Rising (take k xs)
+rising_take k xs h = rising_left (take k xs) (drop k xs) (subst Rising (sym (take-append-drop k xs)) h)
 
 -- each stands behind as many as are less
 pub at_same : (xs : List (List Tuple)) (k : ℕ) (y : List Tuple) → Rising xs → slice_get xs k ≡ Some y → below_count xs y ≡ k

@@ -8,29 +8,10 @@ use Rattle.rls_ident.proofs.Lists.{Lt, lt_trans, tri, flipped}
 use Rattle.rls_ident.proofs.Tuples.{tuples}
 use Rattle.rls_runs.specs.Entries.{has_ident}
 use Rattle.rls_runs.specs.Places.{below_count, find_ident}
-use Rattle.rls_runs.proofs.Finding.{Tells, told, one_less, one_above}
-use Rattle.rls_runs.proofs.RunOrder.{AllLess, AllMore, Rising, more_trans}
-use Rattle.rls_runs.proofs.RunPlaces.{moved, tells_append, tells_less}
-
-more_right : (z : List Tuple) (xs ys : List (List Tuple)) → AllMore z (xs ++ ys) → AllMore z ys
-more_right z [] ys h = h
-more_right z (x ∷ xs) ys h = more_right z xs ys h.1
-
-more_left : (z : List Tuple) (xs ys : List (List Tuple)) → AllMore z (xs ++ ys) → AllMore z xs
-more_left z [] ys h = tt
-more_left z (x ∷ xs) ys h = (h.0, more_left z xs ys h.1)
-
-pub rising_left : (xs ys : List (List Tuple)) → Rising (xs ++ ys) → Rising xs
-rising_left [] ys h = tt
-rising_left (x ∷ xs) ys h = (more_left x xs ys h.0, rising_left xs ys h.1)
-
-pub rising_right : (xs ys : List (List Tuple)) → Rising (xs ++ ys) → Rising ys
-rising_right [] ys h = h
-rising_right (x ∷ xs) ys h = rising_right xs ys h.1
-
-more_tells : (xs : List (List Tuple)) (y : List Tuple) → AllMore y xs → Tells xs y false 0
-more_tells [] y h = (refl, refl)
-more_tells (x ∷ xs) y h = one_above x xs y 0 (flipped h.0) (more_tells xs y h.1)
+use Rattle.rls_runs.proofs.Finding.{Tells, told, one_less}
+use Rattle.rls_runs.proofs.Gaps.{read_ok, read_err}
+use Rattle.rls_runs.proofs.RunOrder.{AllLess, AllMore, Rising, more_trans, more_right, rising_right}
+use Rattle.rls_runs.proofs.RunPlaces.{moved, tells_append, tells_less, tells_more}
 
 -- y is one of these, or some of these are not less
 abbrev pub Within : List (List Tuple) → List Tuple → Type 0
@@ -80,20 +61,12 @@ before (x ∷ xs) ys y h w = (less_than x ys y (more_right x xs ys h.0) w, befor
 three : (xs ys zs : List (List Tuple)) (y : List Tuple) (p q r : Bool) (n m k : ℕ) → Tells xs y p n → Tells ys y q m → Tells zs y r k → find_ident (xs ++ (ys ++ zs)) y ≡ (if p || (q || r) then Ok (n + (m + k)) else Err (n + (m + k)))
 three xs ys zs y p q r n m k f g h = told (xs ++ (ys ++ zs)) y (p || (q || r)) (n + (m + k)) (tells_append xs (ys ++ zs) y p (q || r) n (m + k) f (tells_append ys zs y q r m k g h))
 
-read_ok : (b : Bool) (n k : ℕ) → (if b then Ok n else Err n) ≡ Ok k → (b ≡ true) × (n ≡ k)
-read_ok true n k e = (refl, cc)
-read_ok false n k e = absurd (cc)
-
-read_err : (b : Bool) (n k : ℕ) → (if b then Ok n else Err n) ≡ Err k → (b ≡ false) × (n ≡ k)
-read_err false n k e = (refl, cc)
-read_err true n k e = absurd (cc)
-
 pub found_own : (xs ys zs : List (List Tuple)) (y : List Tuple) (k : ℕ) → Rising (xs ++ (ys ++ zs)) → Ok k ≡ find_ident ys y → Ok (length xs + k) ≡ find_ident (xs ++ (ys ++ zs)) y
 found_own xs ys zs y k h e =
-    let t = read_ok (has_ident ys y) (below_count ys y) k (sym e) in
+    let t = read_ok ys y k (sym e) in
     let less = before xs (ys ++ zs) y h (inl (there t.0)) in
     let more = beyond ys zs y (rising_right xs (ys ++ zs) h) (inl t.0) in
-    ap (λ i. Ok (length xs + i)) (omega arith) ∙ sym (three xs ys zs y false true false (length xs) k 0 (tells_less xs y less) t (more_tells zs y more))
+    ap (λ i. Ok (length xs + i)) (omega arith) ∙ sym (three xs ys zs y false true false (length xs) k 0 (tells_less xs y less) t (tells_more zs y more))
   where
     there : has_ident ys y ≡ true → has_ident (ys ++ zs) y ≡ true
     there a = (tells_append ys zs y (has_ident ys y) (has_ident zs y) (below_count ys y) (below_count zs y) (refl, refl) (refl, refl)).0 ∙ ap (λ b. b || has_ident zs y) a
@@ -106,18 +79,18 @@ some_less ys zs y k e h = let c = counts_behind ys zs y in inr (omega (arith, c,
 
 pub missed_own : (xs ys zs : List (List Tuple)) (y : List Tuple) (k : ℕ) → Rising (xs ++ (ys ++ zs)) → Err k ≡ find_ident ys y → 0 < k → k < length ys → Err (length xs + k) ≡ find_ident (xs ++ (ys ++ zs)) y
 missed_own xs ys zs y k h e some most =
-    let t = read_err (has_ident ys y) (below_count ys y) k (sym e) in
+    let t = read_err ys y k (sym e) in
     let u = t.1 in
     let less = before xs (ys ++ zs) y h (some_less ys zs y k u some) in
     let more = beyond ys zs y (rising_right xs (ys ++ zs) h) (inr (omega (arith, u, most))) in
-    ap (λ i. Err (length xs + i)) (omega arith) ∙ sym (three xs ys zs y false false false (length xs) k 0 (tells_less xs y less) t (more_tells zs y more))
+    ap (λ i. Err (length xs + i)) (omega arith) ∙ sym (three xs ys zs y false false false (length xs) k 0 (tells_less xs y less) t (tells_more zs y more))
 
 pub found_left : (xs ys zs : List (List Tuple)) (y : List Tuple) → Rising (xs ++ (ys ++ zs)) → Err 0 ≡ find_ident ys y → 0 < length ys → find_ident xs y ≡ find_ident (xs ++ (ys ++ zs)) y
 found_left xs ys zs y h e some =
-    let t = read_err (has_ident ys y) (below_count ys y) 0 (sym e) in
+    let t = read_err ys y 0 (sym e) in
     let u = t.1 in
     let more = beyond ys zs y (rising_right xs (ys ++ zs) h) (inr (omega (arith, u, some))) in
-    go (has_ident xs y) (below_count xs y) ∙ sym (three xs ys zs y (has_ident xs y) false false (below_count xs y) 0 0 (refl, refl) t (more_tells zs y more))
+    go (has_ident xs y) (below_count xs y) ∙ sym (three xs ys zs y (has_ident xs y) false false (below_count xs y) 0 0 (refl, refl) t (tells_more zs y more))
   where
     go : (b : Bool) (n : ℕ) → (if b then Ok n else Err n) ≡ (if b || (false || false) then Ok (n + (0 + 0)) else Err (n + (0 + 0)))
     go true n = ap (λ k. Ok k) (omega arith)
@@ -125,7 +98,7 @@ found_left xs ys zs y h e some =
 
 pub found_right : (xs ys zs : List (List Tuple)) (y : List Tuple) (k : ℕ) → Rising (xs ++ (ys ++ zs)) → Err k ≡ find_ident ys y → 0 < k → moved (length xs + k) (find_ident zs y) ≡ find_ident (xs ++ (ys ++ zs)) y
 found_right xs ys zs y k h e some =
-    let t = read_err (has_ident ys y) (below_count ys y) k (sym e) in
+    let t = read_err ys y k (sym e) in
     let less = before xs (ys ++ zs) y h (some_less ys zs y k t.1 some) in
     go (has_ident zs y) (below_count zs y) ∙ sym (three xs ys zs y false false (has_ident zs y) (length xs) k (below_count zs y) (tells_less xs y less) t (refl, refl))
   where

@@ -1,22 +1,13 @@
 -- Parts of runs, and runs that touch.
-use Rattle.std.proofs.Common.{◌≡◌, ℕ, ◌+◌, ◌<◌, ◌≤◌, ◌^◌, true, List, [], ◌∷◌, refl, arith}
-use Rattle.std.specs.Prelude.{ℤ, pos, ◌+ℤ◌, ◌≤ℤ◌}
+use Rattle.std.proofs.Common.{◌≡◌, ℕ, ◌+◌, ◌<◌, ◌≤◌, ◌^◌, true, List, arith}
+use Rattle.std.specs.Prelude.{pos, ◌+ℤ◌, ◌≤ℤ◌}
 use Rattle.std.proofs.lemmas.Int.{ints}
 use Rattle.rls_ident.specs.declared.tuple.Tuple.{Tuple}
-use Rattle.rls_ident.specs.declared.tuple.Tuple.TheVariants.{Low, At, High}
 use Rattle.rls_ident.specs.Tuples.{offset_of}
-use Rattle.rls_ident.specs.Identifiers.{IsIdent, last_of, shifted, follows, greatest_offset}
+use Rattle.rls_ident.specs.Identifiers.{last_of, shifted, follows, greatest_offset}
 use Rattle.rls_runs.specs.Runs.{run_last, is_run, past_offsets}
 use Rattle.rls_runs.proofs.RunOrder.{run_ident}
-use Rattle.rls_runs.proofs.RunEnds.{run_end, run_short, longer_is, touched_is}
-
-last_offset : (k : ℤ) (x : List Tuple) → IsIdent x → offset_of (last_of (shifted k x)) ≡ offset_of (last_of x) +ℤ k
-last_offset k [] i = absurd (cc)
-last_offset k (Low ∷ []) i = absurd (cc)
-last_offset k (At p r s o ∷ []) i = refl
-last_offset k (High ∷ []) i = absurd (cc)
-last_offset k (t ∷ (u ∷ [])) i = last_offset k (u ∷ []) i
-last_offset k (t ∷ (u ∷ (v ∷ x))) i = last_offset k (u ∷ (v ∷ x)) i
+use Rattle.rls_runs.proofs.RunEnds.{last_offset, run_end, run_short, longer_is, touched_is}
 
 -- a place within a run is in the range of offsets
 pub offset_within : (r : List Tuple × ℕ) (k : ℕ) → is_run r ≡ true → k < r.1 → (offset_of (last_of r.0) +ℤ pos k) ≤ℤ greatest_offset
