@@ -6,9 +6,9 @@ use Rattle.rls_runs.specs.Runs.{run_idents}
 use Rattle.rls_runs.specs.Entries.{has_ident, idents_in}
 use Rattle.rls_runs.proofs.RunPlaces.{found_is, found_there}
 use Rattle.rls_tree.specs.Trees.{entries_of}
-use Rattle.rls_tree.proofs.AtPlaces.{rising_of}
-use Rattle.rls_tree.proofs.Gaps.{read_err}
-use Rattle.rls_tree.proofs.Puts.{get_within}
+use Rattle.rls_runs.proofs.RunOrder.{rising_of}
+use Rattle.rls_runs.proofs.Gaps.{read_err}
+use Rattle.std.proofs.lemmas.Option.{slice_get_within}
 use Rattle.rls_tree.proofs.Standing.{stands}
 use Rattle.rls_tree.proofs.Without.{run_head}
 use Rattle.rls_tree.proofs.tree.BlockTree.standing.Goals as goal
@@ -29,7 +29,7 @@ run_from-requires-clause-place c =
     let i = c.in-Ok.i in
     let rising = rising_of xs c.blocks-blocks.ensures.rises in
     let there : slice_get xs i ≡ Some first = found_there xs first i rising (found_is xs first rising ∙ sym c.in-Ok.ensures.place) in
-    let short = get_within xs i first there in
+    let short = slice_get_within xs i first there in
     let l = length-map es (λ e. e.0) in
     omega (arith, short, l)
 
