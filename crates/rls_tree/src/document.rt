@@ -47,9 +47,10 @@ impl Document for BlockTree {
     }
 
     /// One run that goes between two neighbours costs a step for each level and its own characters; where
-    /// it goes into the middle of a run, also the characters behind it there. At the end or at the front of
-    /// a run that it goes on with it moves none of that run's characters. Other runs are put in one after
-    /// another, in a copy.
+    /// it goes into the middle of a run, also those in front of it there or those behind it, whichever are
+    /// fewer. At the end or at the front of a run that it goes on with it moves none of that run's
+    /// characters; where it joins two runs, those of the second. Other runs are put in one after another, in
+    /// a copy.
     fn insert_runs(&mut self, runs: &RunList, text: &Text) -> Result<(), AllocError> {
         if runs.len() == 1 {
             let run = runs.get(0);
@@ -64,8 +65,9 @@ impl Document for BlockTree {
     }
 
     /// One run that stands whole in one of the tree's costs a step for each level and its own characters;
-    /// from the middle of a run, also the characters behind it there, and where two runs touch then, those of
-    /// the shorter one. Other targets are taken out one after another, in a copy.
+    /// from the middle of a run, also those in front of it there or those behind it, whichever are fewer, and
+    /// where two runs touch then, those of the shorter one. Other targets are taken out one after another, in
+    /// a copy.
     fn remove_all(&mut self, targets: &Runs) -> Result<u64, AllocError> {
         if targets.run_count() == 1 {
             let run = targets.run(0);

@@ -8,14 +8,15 @@ ghost use Rattle.rls_tree.specs.Trees.{piece_entries, entries_of, pieces, runs_i
 ghost use Rattle.rls_tree.specs.Edits.{part_of, joined, goes_on, leads_to, are_loose, inserted, Shows};
 
 use crate::balance::join;
-use crate::block::{Block, part_of_run, part_of_text};
+use crate::block::Block;
+use crate::cut::cut;
 use crate::node::{Link, Node, chars_of};
 use crate::split::{begins_behind, concat, ends_before, first_out, last_out, split};
 use rls_runs::{Run, Text};
 use std::alloc::{AllocError, Global};
 
-/// Puts a run and its characters in at a place. It costs a step for each level, the run's characters,
-/// and those behind the place in a block that is split there.
+/// Puts a run and its characters in at a place. It costs a step for each level and the run's characters,
+/// and where a block is cut in two there, the characters of the shorter part.
 pub(crate) fn insert_at(
     alloc: Global,
     link: Link,
@@ -165,11 +166,11 @@ fn fill(last: &mut Node, run: &Run, text: &Text, first: &Node) -> Result<(), All
     last.extend(middle.run(), middle.text())
 }
 
-// Within a block, which is split.
+// Within a block, which is cut in two.
 fn insert_within(
     alloc: Global,
     front: Link,
-    mut node: Box<Node>,
+    node: Box<Node>,
     behind: Link,
     at: u32,
     run: &Run,
@@ -187,21 +188,18 @@ fn insert_within(
         ++ (piece_entries (part_of at (node.value.block.0.1 - at) node.value.block) ++ entries_of (pieces behind))) (pieces new)) }
     ensures err { IfErr result (λ old. pieces old ≡ pieces front ++ node.value.blocks ++ pieces behind) }
 {
-    let len = node.len();
+    let _len = node.len();
     let _run = run.len();
     let Ok(new) = new_node(alloc, run, text) else {
         return Err(Some(join(front, node, behind)));
     };
-    let Ok(rest) = part_node(alloc, &node, at, len - at) else {
-        return Err(Some(join(front, node, behind)));
-    };
-    match node.keep_front(at) {
-        Ok(()) => Ok(Some(join(
-            Some(join(front, node, None)),
+    match cut(alloc, node, at, at) {
+        Ok((near, far)) => Ok(Some(join(
+            Some(join(front, near, None)),
             new,
-            Some(join(None, rest, behind)),
+            Some(join(None, far, behind)),
         ))),
-        Err(_) => Err(Some(join(front, node, behind))),
+        Err(node) => Err(Some(join(front, node, behind))),
     }
 }
 
@@ -212,21 +210,4 @@ fn new_node(alloc: Global, run: &Run, text: &Text) -> Result<Box<Node>, AllocErr
 {
     let block = Block::new(run.copy()?, text.copy()?);
     Ok(Box::new(alloc, Node::leaf(block))?)
-}
-
-/// A block of its own with so many characters of a node's block from a place on. It costs their number.
-pub(crate) fn part_node(
-    alloc: Global,
-    node: &Node,
-    from: u32,
-    len: u32,
-) -> Result<Box<Node>, AllocError>
-    requires some { 0 < len }
-    requires within { from + len ≤ node.now.block.0.1 }
-    ensures node { IfOk result (λ part. part.value.blocks ≡ part_of from len node.now.block ∷ []) }
-{
-    let _len = node.len();
-    let run = part_of_run(node.run(), from, len)?;
-    let text = part_of_text(alloc, node.text(), from as usize, len as usize)?;
-    Ok(Box::new(alloc, Node::leaf(Block::new(run, text)))?)
 }

@@ -4,6 +4,7 @@
 mod balance;
 mod block;
 mod bulk;
+mod cut;
 mod document;
 mod insert;
 mod node;

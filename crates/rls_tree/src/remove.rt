@@ -8,14 +8,14 @@ ghost use Rattle.rls_tree.specs.Trees.{piece_entries, entries_of, pieces, runs_i
 ghost use Rattle.rls_tree.specs.Edits.{part_of, joined, are_loose, removed, reach_of, Shows};
 
 use crate::balance::join;
-use crate::insert::part_node;
+use crate::cut::cut;
 use crate::node::{Link, Node, chars_of};
 use crate::split::{concat, ends_before, first_out, last_out, split};
 use std::alloc::{AllocError, Global};
 
 /// Takes so many characters out from a place on, which stand in one block. It costs a step for each level
-/// and their number; from the middle of a block also the characters behind them there, and where two blocks
-/// touch then, those of the shorter one.
+/// and their number; where it cuts the block in two, also the characters of the shorter part, and where two
+/// blocks touch then, those of the shorter one.
 pub(crate) fn remove_at(alloc: Global, link: Link, i: u64, count: u32) -> Result<Link, Link>
     requires some { 0 < count }
     requires reach { count ≤ reach_of (pieces link) i }
@@ -106,7 +106,7 @@ fn remove_back(front: Link, mut node: Box<Node>, behind: Link, at: u32) -> Resul
 fn remove_middle(
     alloc: Global,
     front: Link,
-    mut node: Box<Node>,
+    node: Box<Node>,
     behind: Link,
     at: u32,
     end: u32,
@@ -121,13 +121,10 @@ fn remove_middle(
         ++ (piece_entries (part_of end (node.value.block.0.1 - end) node.value.block) ++ entries_of (pieces behind))) (pieces new)) }
     ensures err { IfErr result (λ old. pieces old ≡ pieces front ++ node.value.blocks ++ pieces behind) }
 {
-    let len = node.len();
-    let Ok(rest) = part_node(alloc, &node, end, len - end) else {
-        return Err(Some(join(front, node, behind)));
-    };
-    match node.keep_front(at) {
-        Ok(()) => Ok(Some(join(Some(join(front, node, None)), rest, behind))),
-        Err(_) => Err(Some(join(front, node, behind))),
+    let _len = node.len();
+    match cut(alloc, node, at, end) {
+        Ok((near, far)) => Ok(Some(join(Some(join(front, near, None)), far, behind))),
+        Err(node) => Err(Some(join(front, node, behind))),
     }
 }
 
