@@ -8,6 +8,7 @@ pub mod Courses
 pub mod Messages
 pub mod Characters
 pub mod EditFaults
+pub mod LeaveFaults
 pub mod EditLaws
 pub mod EditedText
 pub mod Neighbours

@@ -20,6 +20,13 @@ abbrev pub early_fault : Seen → Edit → Option EditError
 early_fault s edit =
     if left s.acks s.acks.me then Some errors.Left else or_fault (range_fault (length (idents_over s)) edit) (spent_fault s)
 
+-- a fault that a leave may have
+abbrev pub IsLeaveFault : EditError → Type 0
+IsLeaveFault errors.Left = Unit {0}
+IsLeaveFault errors.NumbersSpent = Unit {0}
+IsLeaveFault errors.OutOfMemory = Unit {0}
+IsLeaveFault _ = ⊥
+
 -- the text after an edit
 abbrev pub edited_text : Edit → List ℕ → List ℕ
 edited_text (edits.Insert at cs) old = take at old ++ (cs ++ drop at old)

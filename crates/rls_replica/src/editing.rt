@@ -2,15 +2,15 @@
 
 ghost use Rattle.std.specs.Prelude.{◌≡◌, ℕ, List, ◌+◌, ◌-◌, ◌<◌, ◌≤◌, ◌^◌, ◌≢◌, length, slice_get, Some, None, IfOk, IfErr, OnOk, OnErr};
 ghost use Rattle.rls_ops.specs.Sizes.{op_size};
-ghost use Rattle.rls_model.specs.declared.edit.Edit.TheVariants.{Insert, Delete, Rename};
-ghost use Rattle.rls_model.specs.Editing.{edit_fault, made, get_before, first_between, range_fault, size_fault};
+ghost use Rattle.rls_model.specs.declared.edit.Edit.TheVariants.{Insert, Delete, Rename, Leave};
+ghost use Rattle.rls_model.specs.Editing.{edit_fault, made, next_seq, get_before, first_between, range_fault, size_fault};
 ghost use Rattle.rls_model.specs.Receiving.{State, accept};
 ghost use Rattle.rls_model.specs.WellFormed.{IsEdit};
 ghost use Rattle.rls_seen.specs.Edits.{edit_fault_over, made_over, made_body, edited, IsFault};
 ghost use Rattle.rls_seen.specs.Sane.{IsSane};
 ghost use Rattle.rls_seen.specs.Seen.{own_count, idents_over, text_over};
 ghost use Rattle.rls_seen.specs.Stands.{StandsFor};
-ghost use Rattle.rls_replica.specs.Editing.{early_fault, edited_text, IsOneRun};
+ghost use Rattle.rls_replica.specs.Editing.{early_fault, edited_text, IsLeaveFault, IsOneRun};
 
 use crate::replica::Replica;
 use rls_doc::Document;
@@ -42,11 +42,15 @@ impl Replica {
         ensures after { OnOk result (self.new ≡ edited self.old edit.now) }
         ensures err { OnErr result (self.new ≡ self.old) }
 
+        // A leave fits unless the member has left or its numbers are spent.
+        ensures leave { IfErr result (λ e. edit.now ≡ Leave → IsLeaveFault e) }
+
         // An insertion lands where it was asked for, a deletion takes out just what it was to, and nothing else changes the text.
         ensures text { OnOk result (text_over self.new ≡ edited_text edit.now (text_over self.old)) }
 
         // For every history and waiting operations that the replica stands for.
         ensures refused { IfErr result (λ e. (t : State) → StandsFor self.old t → IsFault e (edit_fault t.history edit.now)) }
+        ensures answer { IfOk result (λ n. (t : State) → StandsFor self.old t → (edit_fault t.history edit.now ≡ None) × (n ≡ next_seq t.history)) }
         ensures stands { OnOk result ((t : State) → StandsFor self.old t → StandsFor self.new (accept t (made t.history edit.now))) }
         ensures one_run { OnOk result (edit.now ≡ Rename → (t : State) → StandsFor self.old t → IsOneRun self.old self.new) }
     {
@@ -64,9 +68,15 @@ impl Replica {
         ensures fits { OnOk result (edit_fault_over self.now edit.now ≡ None) }
         ensures op { IfOk result (λ o. o ≡ made_over self.now edit.now) }
 
+        // A leave fits unless the member has left or its numbers are spent.
+        ensures leave { IfErr result (λ e. edit.now ≡ Leave → IsLeaveFault e) }
+
         // For every history and waiting operations that the replica stands for.
+        ensures refused { IfErr result (λ e. (t : State) → StandsFor self.now t → IsFault e (edit_fault t.history edit.now)) }
+        ensures accepted { OnOk result ((t : State) → StandsFor self.now t → edit_fault t.history edit.now ≡ None) }
         ensures stands { IfOk result (λ o. (t : State) → StandsFor self.now t → o ≡ made t.history edit.now) }
     {
+        self.sane();
         let op = self.made_exactly(edit)?;
         Ok(op)
     }

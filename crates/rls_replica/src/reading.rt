@@ -133,14 +133,21 @@ impl Replica {
     pub fn ident_at(&self, i: u64) -> Result<Ident, AllocError>
         requires place { i < length self.now.text }
         ensures ident { IfOk result (λ x. slice_get (idents_over self.now) i ≡ Some x) }
+
+        // For every history and waiting operations that the replica stands for.
+        ensures stands { IfOk result (λ x. (t : State) → StandsFor self.now t → slice_get (idents t.history) i ≡ Some x) }
     {
-        self.document.ident_at(i)
+        let id = self.document.ident_at(i)?;
+        Ok(id)
     }
 
     /// The place of the character with this identifier of the greatest epoch, or, where there is none, the number of identifiers of
     /// the text below it. It takes no memory.
     pub fn find(&self, id: &Ident) -> Result<u64, u64>
         ensures place { result ≡ place_of id.now (idents_over self.now) }
+
+        // For every history and waiting operations that the replica stands for.
+        ensures stands { (t : State) → StandsFor self.now t → result ≡ place_of id.now (idents t.history) }
     {
         self.document.find(id)
     }

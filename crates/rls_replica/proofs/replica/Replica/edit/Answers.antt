@@ -1,17 +1,29 @@
-use Rattle.std.proofs.Common.{◌≡◌, ◌∙◌, ap, subst, None}
+use Rattle.std.proofs.Common.{◌≡◌, ◌+◌, ◌∙◌, ap, sym, subst, None, Option}
 use Rattle.std.proofs.lemmas.Result.{err_from_is_err_and}
 use Rattle.rls_model.specs.declared.edit.Edit.{Edit}
-use Rattle.rls_seen.specs.Edits.{edit_fault_over}
+use Rattle.rls_seen.specs.Edits.{edit_fault_over, IsFault}
 use Rattle.rls_seen.specs.Seen.{text_over}
-use Rattle.rls_seen.proofs.Editing.{edited_stands}
+use Rattle.rls_seen.proofs.Editing.{edited_stands, edit_faults_alike, own_alike}
 use Rattle.rls_replica.proofs.EditLaws.{refused_alike, one_run}
 use Rattle.rls_replica.proofs.EditedText.{text-edited}
+use Rattle.rls_replica.proofs.LeaveFaults.{leave_fault}
 use Rattle.rls_replica.proofs.replica.Replica.edit.Goals as goal
 
 pub returns-in_err-seq-clause-refused : goal.returns-in_err-seq-clause-refused
 returns-in_err-seq-clause-refused c =
     let p = err_from_is_err_and c.from_residual.result c.from_residual.ensures.1 in
     rw (p.1, p.2) (λ t h. refused_alike c.args.self.now t c.args.edit.now c.in_err-seq.field-0.0 h c.in_err-seq.ensures.fault)
+
+pub returns-in_err-seq-clause-leave : goal.returns-in_err-seq-clause-leave
+returns-in_err-seq-clause-leave c =
+    let p = err_from_is_err_and c.from_residual.result c.from_residual.ensures.1 in
+    let e = c.in_err-seq.ensures in
+    rw (p.1, p.2) (λ is. leave_fault c.args.self.now c.in_err-seq.field-0.0 e.sane.few (subst (λ (x : Edit). IsFault c.in_err-seq.field-0.0 (edit_fault_over c.args.self.now x)) is e.fault))
+
+pub returns-clause-answer : goal.returns-clause-answer
+returns-clause-answer c = λ t h.
+    let e = c.in_ok-seq.ensures in
+    (sym (edit_faults_alike c.args.self.now t c.args.edit.now h) ∙ e.fits, e.seq ∙ ap (λ n. n + 1) (own_alike c.args.self.now t h))
 
 pub returns-clause-text : goal.returns-clause-text
 returns-clause-text c =
