@@ -9,6 +9,11 @@ use Rattle.rls_ident.specs.declared.tuple.Tuple.{Tuple}
 use Rattle.rls_ident.specs.declared.tuple.Tuple.TheVariants.{Low, At, High}
 use Rattle.rls_ident.specs.declared.epoch_name.EpochName.{EpochName}
 use Rattle.rls_ident.specs.declared.epoch_name.EpochName.TheVariants.{Origin, Of}
+use Rattle.rls_runs.specs.Runs.{runs_of}
+use Rattle.rls_model.specs.Document.{idents}
+use Rattle.rls_model.specs.Epochs.{greatest}
+use Rattle.rls_model.specs.History.{History}
+use Rattle.rls_seen.specs.Seen.{Seen, greatest_over, idents_over}
 
 -- ---- the text
 
@@ -31,6 +36,14 @@ json_run r = concat (codes "{\"first\":" ∷ json_list (map json_tuple r.0) ∷ 
 -- an epoch and runs
 unfoldable pub ids_text : EpochName → List (List Tuple × ℕ) → List ℕ
 ids_text epoch runs = concat (codes "{\"epoch\":" ∷ json_name epoch ∷ codes ",\"runs\":" ∷ json_list (map json_run runs) ∷ codes "}\n" ∷ [])
+
+-- of a history: its greatest epoch and the maximal runs of its identifiers
+abbrev pub ids_of : History → List ℕ
+ids_of H = ids_text (greatest H) (runs_of (idents H))
+
+-- and the same over what a replica consists of
+abbrev pub ids_over : Seen → List ℕ
+ids_over s = ids_text (greatest_over s) (runs_of (idents_over s))
 
 -- ---- the same as data
 

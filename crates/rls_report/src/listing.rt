@@ -3,9 +3,12 @@
 ghost use Rattle.std.specs.Prelude.{◌≡◌, IfOk, map, string_bytes};
 ghost use Rattle.serde_json.specs.Data.{array};
 ghost use Rattle.serde_json.specs.View.{view, items_of};
-ghost use Rattle.rls_report.specs.Listing.{tuple_data, ident_data, name_data, run_data, ids_data, ids_text};
+ghost use Rattle.rls_model.specs.Receiving.{State};
+ghost use Rattle.rls_seen.specs.Stands.{StandsFor};
+ghost use Rattle.rls_report.specs.Listing.{tuple_data, ident_data, name_data, run_data, ids_data, ids_text, ids_of, ids_over};
 
 use rls_ident::{EpochName, Ident, Tuple};
+use rls_replica::Replica;
 use rls_runs::Run;
 use serde_json::{Value, json};
 use std::alloc::{AllocError, Global};
@@ -71,14 +74,30 @@ fn ids_value(alloc: Global, epoch: EpochName, runs: &[Run]) -> Result<Value, All
     json!(in alloc; {"epoch": epoch, "runs": runs})
 }
 
-/// The line of JSON that lists an epoch and runs, with its line feed. The time is linear in the number
-/// of tuples.
+// The line of JSON that lists an epoch and runs, with its line feed.
 #[tactic(auto, using(crate::proofs::Listed::ids_listed))]
-pub fn ids_line(alloc: Global, epoch: EpochName, runs: &[Run]) -> Result<String, AllocError>
-    ensures line { IfOk result (λ text. string_bytes text ≡ ids_text epoch runs.now) }
+fn ids_line(alloc: Global, epoch: EpochName, runs: &[Run]) -> Result<String, AllocError>
+    ensures line { IfOk result (λ line. string_bytes line ≡ ids_text epoch runs.now) }
 {
     let value = ids_value(alloc, epoch, runs)?;
-    let mut text = value.to_string(alloc)?;
-    text.push('\n')?;
-    Ok(text)
+    let mut line = value.to_string(alloc)?;
+    line.push('\n')?;
+    Ok(line)
+}
+
+/// The line of JSON that lists the replica's greatest epoch and the maximal runs of the identifiers of its text, with its line feed.
+///
+/// The time is that of `Replica::runs`, and linear in the number of tuples of the runs' first identifiers.
+///
+/// # Errors
+///
+/// Want of memory alone.
+pub fn ids_json(alloc: Global, replica: &Replica) -> Result<String, AllocError>
+    ensures line { IfOk result (λ line. string_bytes line ≡ ids_over replica.now) }
+
+    // For every history and waiting operations that the replica stands for.
+    ensures stands { IfOk result (λ line. (t : State) → StandsFor replica.now t → string_bytes line ≡ ids_of t.history) }
+{
+    let runs = replica.runs()?;
+    ids_line(alloc, replica.greatest(), runs.as_slice())
 }

@@ -5,18 +5,16 @@ use Rattle.std.proofs.lemmas.Bool.{eqb-true}
 use Rattle.std.proofs.lemmas.Bool.Decides.{nat_tests}
 use Rattle.rls_io.specs.Device.{Appends}
 use Rattle.rls_ident.proofs.Members.{and_right}
-use Rattle.rls_runs.specs.Runs.{runs_of}
 use Rattle.rls_ops.specs.declared.message.Message.{Message}
 use Rattle.rls_ops.specs.Spelling.{message_bytes}
 use Rattle.rls_codec.specs.CodecLaws.{IsMessage}
 use Rattle.rls_codec.specs.Reading.{message_of}
 use Rattle.rls_codec.proofs.MessageFormats.{message_again}
-use Rattle.rls_model.specs.Document.{text, idents}
+use Rattle.rls_model.specs.Document.{text}
 use Rattle.rls_model.specs.EditRun.{Done}
-use Rattle.rls_model.specs.Epochs.{greatest}
 use Rattle.rls_model.specs.History.{Fresh, group_of, members_of}
 use Rattle.rls_model.specs.Taking.{Progress, message_for, take_message}
-use Rattle.rls_report.specs.Listing.{ids_text}
+use Rattle.rls_report.specs.Listing.{ids_of}
 use Rattle.rls_report.specs.Reports.{new_text, edit_text, take_text}
 use Rattle.rls_script.specs.Scripts.{script_of}
 use Rattle.rls_script.specs.declared.lines.Line.{Line}
@@ -211,9 +209,9 @@ text_shown words file new_file left bytes t n k i o old new e a =
     shown_at words Text file new_file left bytes (encode_utf8_all (text t.history)) t n k i o old new e a refl refl refl
 
 pub ids_shown : (words : List (List ℕ)) (file new_file : Option (Option (List ℕ))) (left : Option (List ℕ)) (bytes : List ℕ) (t : State) (n : ℕ) (k i o : Type 0) (old new : Option (List ℕ))
-    → Ends words file new_file left n k i o old new → Asks words Ids file bytes t → Shows n bytes (ids_text (greatest t.history) (runs_of (idents t.history))) old new
+    → Ends words file new_file left n k i o old new → Asks words Ids file bytes t → Shows n bytes (ids_of t.history) old new
 ids_shown words file new_file left bytes t n k i o old new e a =
-    shown_at words Ids file new_file left bytes (ids_text (greatest t.history) (runs_of (idents t.history))) t n k i o old new e a refl refl refl
+    shown_at words Ids file new_file left bytes (ids_of t.history) t n k i o old new e a refl refl refl
 
 pub message_shown : (words : List (List ℕ)) (file new_file : Option (Option (List ℕ))) (left : Option (List ℕ)) (bytes : List ℕ) (t : State) (to n : ℕ) (k i o : Type 0) (old new : Option (List ℕ))
     → Ends words file new_file left n k i o old new → Asks words (Send to) file bytes t → to < members_of t.history → Shows n bytes (message_bytes (message_for t.history to)) old new

@@ -1,14 +1,12 @@
 -- What a command calls for, by its words, the kept file and the input.
 use Rattle.std.specs.Prelude.{ℕ, Bool, true, false, not, ◌&&◌, ◌==◌, List, [], length, encode_utf8_all, Option, Some, None, Result, Ok, Err, nat_lt, if◌then◌else◌}
 use Rattle.std.specs.List.{flat_map}
-use Rattle.rls_runs.specs.Runs.{runs_of}
 use Rattle.rls_ops.specs.declared.message.Message.{Message}
 use Rattle.rls_ops.specs.Spelling.{message_bytes}
 use Rattle.rls_codec.specs.Reading.{is_member_count, message_of}
 use Rattle.rls_model.specs.Answers.{Reason}
-use Rattle.rls_model.specs.Document.{text, idents}
+use Rattle.rls_model.specs.Document.{text}
 use Rattle.rls_model.specs.EditRun.{Run, Done, Stopped}
-use Rattle.rls_model.specs.Epochs.{greatest}
 use Rattle.rls_model.specs.History.{History, Fresh, group_of, members_of}
 use Rattle.rls_model.specs.Receiving.{State}
 use Rattle.rls_model.specs.Taking.{Progress, message_for, take_message}
@@ -17,7 +15,7 @@ use Rattle.rls_file.specs.ReadingFiles.{begins_snapshot, file_of}
 use Rattle.rls_report.specs.declared.failures.LineFault.{LineFault}
 use Rattle.rls_report.specs.declared.failures.Failure.TheVariants.{Usage, NoReplica, ReplicaExists, Damaged, BadMembers, BadMe, NotMember, BadLine, Malformed, OtherGroup, TooLarge}
 use Rattle.rls_report.specs.declared.failures.Failure.TheVariants as failures
-use Rattle.rls_report.specs.Listing.{ids_text}
+use Rattle.rls_report.specs.Listing.{ids_of}
 use Rattle.rls_report.specs.Refused.{refused_line}
 use Rattle.rls_report.specs.Reports.{new_text, edit_text, take_text}
 use Rattle.rls_script.specs.Scripts.{script_of}
@@ -91,7 +89,7 @@ due_of_text H = shows (encode_utf8_all (text H))
 
 -- the listing of its identifiers
 abbrev pub due_of_ids : History → Due
-due_of_ids H = shows (ids_text (greatest H) (runs_of (idents H)))
+due_of_ids H = shows (ids_of H)
 
 -- the message for a member
 abbrev pub due_of_send : History → ℕ → Due

@@ -3,18 +3,16 @@
 ghost use Rattle.std.specs.Prelude.{◌≡◌, ◌≢◌, ◌↔◌, ◌<◌, ◌≤◌, ◌⊎◌, ℕ, Option, List, [], ◌∷◌, length, map, encode_utf8_all, string_bytes, Some, None, Ok, Err, IfOk, OnOk, OnErr, IfErr, IsTrue, IsFalse, Contains};
 ghost use Rattle.rls_io.specs.Device.{Rose, Appends, Keeps};
 ghost use Rattle.rls_io.specs.Memory.{bytes_of};
-ghost use Rattle.rls_runs.specs.Runs.{runs_of};
 ghost use Rattle.rls_ops.specs.declared.message.Message.{Message};
 ghost use Rattle.rls_ops.specs.Spelling.{message_bytes};
 ghost use Rattle.rls_codec.specs.CodecLaws.{IsMessage};
-ghost use Rattle.rls_model.specs.Document.{text, idents};
+ghost use Rattle.rls_model.specs.Document.{text};
 ghost use Rattle.rls_model.specs.EditRun.{Done};
-ghost use Rattle.rls_model.specs.Epochs.{greatest};
 ghost use Rattle.rls_file.specs.SpelledFiles.{IsHead};
 ghost use Rattle.rls_model.specs.History.{Fresh, members_of};
 ghost use Rattle.rls_model.specs.Receiving.{State};
 ghost use Rattle.rls_model.specs.Taking.{Progress, message_for, take_message};
-ghost use Rattle.rls_report.specs.Listing.{ids_text};
+ghost use Rattle.rls_report.specs.Listing.{ids_of};
 ghost use Rattle.rls_report.specs.Reports.{new_text, edit_text, take_text};
 ghost use Rattle.rls_script.specs.Scripts.{script_of};
 ghost use Rattle.rls_script.specs.declared.lines.Line.{Line};
@@ -200,7 +198,7 @@ pub fn run<K: Keeper, S: Source, W: Sink, E: Sink>(
     ensures text { (t : State) (bytes : List ℕ) → Asks (map string_bytes words.now) Command.Text (K.file keeper.old) bytes t
         → Shows result bytes (encode_utf8_all (text t.history)) (W.told output.old) (W.told output.new) }
     ensures ids { (t : State) (bytes : List ℕ) → Asks (map string_bytes words.now) Command.Ids (K.file keeper.old) bytes t
-        → Shows result bytes (ids_text (greatest t.history) (runs_of (idents t.history))) (W.told output.old) (W.told output.new) }
+        → Shows result bytes (ids_of t.history) (W.told output.old) (W.told output.new) }
     ensures send { (t : State) (bytes : List ℕ) (to : ℕ) → Asks (map string_bytes words.now) (Command.Send to) (K.file keeper.old) bytes t → to < members_of t.history
         → Shows result bytes (message_bytes (message_for t.history to)) (W.told output.old) (W.told output.new) }
     ensures edit { (t : State) (bytes script : List ℕ) (lines : List Line) (p : Progress) → Asks (map string_bytes words.now) Command.Edit (K.file keeper.old) bytes t

@@ -10,7 +10,7 @@ use crate::made::{Made, showing};
 use crate::stop::{Stop, failed};
 use rls_file::Journal;
 use rls_replica::SendError;
-use rls_report::{Failure, ids_line};
+use rls_report::{Failure, ids_json};
 use rls_sync::message_bytes;
 use std::alloc::{AllocError, Global};
 
@@ -36,20 +36,16 @@ pub(crate) fn show_text(alloc: Global, journal: &Journal) -> Result<Made, Stop>
     }
 }
 
-/// Shows the runs of the text with their identifiers.
+/// Shows the greatest epoch and the maximal runs of the identifiers of the text.
 pub(crate) fn show_ids(alloc: Global, journal: &Journal) -> Result<Made, Stop>
     requires tells { Tells journal.now (told journal.now) }
     ensures due { IsDue result (due_of_ids (told journal.now).history) }
     ensures inner { IfErr result IsInner }
     ensures unstored { IfOk result (λ made. made.stored ≡ None) }
 {
-    let replica = journal.replica();
-    match replica.runs() {
+    match ids_json(alloc, journal.replica()) {
         Err(_) => Err(failed(Failure::OutOfMemory)),
-        Ok(runs) => match ids_line(alloc, replica.greatest(), runs.as_slice()) {
-            Err(_) => Err(failed(Failure::OutOfMemory)),
-            Ok(line) => Ok(showing(alloc, line.into_bytes())),
-        },
+        Ok(line) => Ok(showing(alloc, line.into_bytes())),
     }
 }
 
