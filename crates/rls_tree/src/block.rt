@@ -72,28 +72,36 @@ impl Block {
         })
     }
 
-    // Grows at its end by a run that goes on with its own, and the run's characters.
-    pub(crate) fn extend(&mut self, run: &Run, text: &Text) -> Result<(), AllocError>
-        requires as_many { length text.now ≡ run.now.1 }
+    // The run and the characters.
+    pub(crate) fn into_parts(self) -> (Run, Text)
+        ensures parts { (result.0, result.1) ≡ self }
+        ensures piece { IsPiece self.0 self.1 }
+    {
+        (self.run, self.text)
+    }
+
+    // Grows at its end by a run that goes on with its own, and the run's characters. It costs their number.
+    pub(crate) fn extend(&mut self, run: &Run, text: Text) -> Result<(), AllocError>
+        requires as_many { length text ≡ run.now.1 }
         requires touches { IsTrue (follows run.now.0 (run_last self.old.0)) }
-        ensures ok { OnOk result (self.new ≡ joined self.old (run.now, text.now)) }
+        ensures ok { OnOk result (self.new ≡ joined self.old (run.now, text)) }
         ensures err { OnErr result (self.new ≡ self.old) }
     {
         let longer = joined_run(&self.run, run)?;
-        self.text.append(text.copy()?)?;
+        self.text.append(text)?;
         self.run = longer;
         Ok(())
     }
 
-    // Grows at its front by a run with which its own goes on, and the run's characters.
-    pub(crate) fn extend_front(&mut self, run: &Run, text: &Text) -> Result<(), AllocError>
-        requires as_many { length text.now ≡ run.now.1 }
+    // Grows at its front by a run with which its own goes on, and the run's characters. It costs their number.
+    pub(crate) fn extend_front(&mut self, run: &Run, text: Text) -> Result<(), AllocError>
+        requires as_many { length text ≡ run.now.1 }
         requires touches { IsTrue (follows self.old.0.0 (run_last run.now)) }
-        ensures ok { OnOk result (self.new ≡ joined (run.now, text.now) self.old) }
+        ensures ok { OnOk result (self.new ≡ joined (run.now, text) self.old) }
         ensures err { OnErr result (self.new ≡ self.old) }
     {
         let longer = joined_run(run, &self.run)?;
-        self.text.prepend(text.copy()?)?;
+        self.text.prepend(text)?;
         self.run = longer;
         Ok(())
     }

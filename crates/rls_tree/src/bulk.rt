@@ -65,7 +65,7 @@ impl BlockTree {
         let end = self.end_of_gap(i, run)?;
         let part = part_of_run(run, done, end - done)?;
         let chars = part_of_text(self.alloc(), text, done as usize, (end - done) as usize)?;
-        self.insert_piece(i, &part, &chars)?;
+        self.insert_piece(i, part, chars)?;
         Ok(end - done)
     }
 

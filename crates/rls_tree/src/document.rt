@@ -49,13 +49,15 @@ impl Document for BlockTree {
     /// One run that goes between two neighbours costs a step for each level and its own characters; where
     /// it goes into the middle of a run, also those in front of it there or those behind it, whichever are
     /// fewer. At the end or at the front of a run that it goes on with it moves none of that run's
-    /// characters; where it joins two runs, those of the second. Other runs are put in one after another, in
-    /// a copy.
+    /// characters; where it joins two runs, those of the shorter one. Other runs are put in one after
+    /// another, in a copy.
     fn insert_runs(&mut self, runs: &RunList, text: &Text) -> Result<(), AllocError> {
         if runs.len() == 1 {
             let run = runs.get(0);
             if let Some(i) = self.gap_for(run)? {
-                return self.insert_piece(i, run, text);
+                let own = run.copy()?;
+                let chars = text.copy()?;
+                return self.insert_piece(i, own, chars);
             }
         }
         let mut fresh = self.copy()?;

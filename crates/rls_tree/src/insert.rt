@@ -21,15 +21,15 @@ pub(crate) fn insert_at(
     alloc: Global,
     link: Link,
     i: u64,
-    run: &Run,
-    text: &Text,
+    run: Run,
+    text: Text,
 ) -> Result<Link, Link>
     requires place { i ≤ length (entries_of (pieces link)) }
-    requires as_many { length text.now ≡ run.now.1 }
-    requires chars_fit { length (entries_of (pieces link)) + length text.now < 2 ^ 64 }
+    requires as_many { length text ≡ run.1 }
+    requires chars_fit { length (entries_of (pieces link)) + length text < 2 ^ 64 }
     requires loose { IsTrue (are_loose None (runs_in (pieces link))) }
-    requires rises { IsTrue (is_increasing (idents_in (inserted i (piece_entries (run.now, text.now)) (entries_of (pieces link))))) }
-    ensures ok { IfOk result (λ new. Shows (inserted i (piece_entries (run.now, text.now)) (entries_of (pieces link))) (pieces new)) }
+    requires rises { IsTrue (is_increasing (idents_in (inserted i (piece_entries (run, text)) (entries_of (pieces link))))) }
+    ensures ok { IfOk result (λ new. Shows (inserted i (piece_entries (run, text)) (entries_of (pieces link))) (pieces new)) }
     ensures err { IfErr result (λ old. pieces old ≡ pieces link) }
 {
     let _chars = chars_of(&link);
@@ -50,19 +50,19 @@ fn insert_between(
     alloc: Global,
     front: Link,
     behind: Link,
-    run: &Run,
-    text: &Text,
+    run: Run,
+    text: Text,
 ) -> Result<Link, Link>
-    requires as_many { length text.now ≡ run.now.1 }
-    requires chars_fit { length (entries_of (pieces front ++ pieces behind)) + length text.now < 2 ^ 64 }
+    requires as_many { length text ≡ run.1 }
+    requires chars_fit { length (entries_of (pieces front ++ pieces behind)) + length text < 2 ^ 64 }
     requires loose { IsTrue (are_loose None (runs_in (pieces front ++ pieces behind))) }
-    ensures ok { IfOk result (λ new. Shows (entries_of (pieces front) ++ piece_entries (run.now, text.now) ++ entries_of (pieces behind)) (pieces new)) }
+    ensures ok { IfOk result (λ new. Shows (entries_of (pieces front) ++ piece_entries (run, text) ++ entries_of (pieces behind)) (pieces new)) }
     ensures err { IfErr result (λ old. pieces old ≡ pieces front ++ pieces behind) }
 {
-    let begins = begins_behind(run, &behind);
+    let begins = begins_behind(&run, &behind);
     if ends_before(&front, run.first()) {
         if begins {
-            return fill_gap(alloc, front, behind, run, text);
+            return fill_gap(front, behind, run, text);
         }
         return grow_last(front, behind, run, text);
     }
@@ -73,13 +73,13 @@ fn insert_between(
 }
 
 // Between two trees that it doesn't touch.
-fn put_new(alloc: Global, front: Link, behind: Link, run: &Run, text: &Text) -> Result<Link, Link>
-    requires as_many { length text.now ≡ run.now.1 }
-    requires chars_fit { length (entries_of (pieces front ++ pieces behind)) + length text.now < 2 ^ 64 }
+fn put_new(alloc: Global, front: Link, behind: Link, run: Run, text: Text) -> Result<Link, Link>
+    requires as_many { length text ≡ run.1 }
+    requires chars_fit { length (entries_of (pieces front ++ pieces behind)) + length text < 2 ^ 64 }
     requires loose { IsTrue (are_loose None (runs_in (pieces front ++ pieces behind))) }
-    requires ends { goes_on (run_before None (runs_in (pieces front))) run.now.0 ≡ false }
-    requires begins { leads_to (Some run.now) (runs_in (pieces behind)) ≡ false }
-    ensures ok { IfOk result (λ new. Shows (entries_of (pieces front) ++ piece_entries (run.now, text.now) ++ entries_of (pieces behind)) (pieces new)) }
+    requires ends { goes_on (run_before None (runs_in (pieces front))) run.0 ≡ false }
+    requires begins { leads_to (Some run) (runs_in (pieces behind)) ≡ false }
+    ensures ok { IfOk result (λ new. Shows (entries_of (pieces front) ++ piece_entries (run, text) ++ entries_of (pieces behind)) (pieces new)) }
     ensures err { IfErr result (λ old. pieces old ≡ pieces front ++ pieces behind) }
 {
     match new_node(alloc, run, text) {
@@ -89,81 +89,124 @@ fn put_new(alloc: Global, front: Link, behind: Link, run: &Run, text: &Text) -> 
 }
 
 // Behind the last run, with which it goes on.
-fn grow_last(front: Link, behind: Link, run: &Run, text: &Text) -> Result<Link, Link>
-    requires as_many { length text.now ≡ run.now.1 }
-    requires chars_fit { length (entries_of (pieces front ++ pieces behind)) + length text.now < 2 ^ 64 }
+fn grow_last(front: Link, behind: Link, run: Run, text: Text) -> Result<Link, Link>
+    requires as_many { length text ≡ run.1 }
+    requires chars_fit { length (entries_of (pieces front ++ pieces behind)) + length text < 2 ^ 64 }
     requires loose { IsTrue (are_loose None (runs_in (pieces front ++ pieces behind))) }
-    requires ends { IsTrue (goes_on (run_before None (runs_in (pieces front))) run.now.0) }
-    requires begins { leads_to (Some run.now) (runs_in (pieces behind)) ≡ false }
-    ensures ok { IfOk result (λ new. Shows (entries_of (pieces front) ++ piece_entries (run.now, text.now) ++ entries_of (pieces behind)) (pieces new)) }
+    requires ends { IsTrue (goes_on (run_before None (runs_in (pieces front))) run.0) }
+    requires begins { leads_to (Some run) (runs_in (pieces behind)) ≡ false }
+    ensures ok { IfOk result (λ new. Shows (entries_of (pieces front) ++ piece_entries (run, text) ++ entries_of (pieces behind)) (pieces new)) }
     ensures err { IfErr result (λ old. pieces old ≡ pieces front ++ pieces behind) }
 {
     let Some(node) = front else { unreachable!() };
     let (rest, mut last) = last_out(node);
     let _len = last.len();
     let _run = run.len();
-    match last.extend(run, text) {
+    match last.extend(&run, text) {
         Ok(()) => Ok(Some(join(rest, last, behind))),
         Err(_) => Err(Some(join(rest, last, behind))),
     }
 }
 
 // In front of the first run, which goes on with it.
-fn grow_first(front: Link, behind: Link, run: &Run, text: &Text) -> Result<Link, Link>
-    requires as_many { length text.now ≡ run.now.1 }
-    requires chars_fit { length (entries_of (pieces front ++ pieces behind)) + length text.now < 2 ^ 64 }
+fn grow_first(front: Link, behind: Link, run: Run, text: Text) -> Result<Link, Link>
+    requires as_many { length text ≡ run.1 }
+    requires chars_fit { length (entries_of (pieces front ++ pieces behind)) + length text < 2 ^ 64 }
     requires loose { IsTrue (are_loose None (runs_in (pieces front ++ pieces behind))) }
-    requires ends { goes_on (run_before None (runs_in (pieces front))) run.now.0 ≡ false }
-    requires begins { IsTrue (leads_to (Some run.now) (runs_in (pieces behind))) }
-    ensures ok { IfOk result (λ new. Shows (entries_of (pieces front) ++ piece_entries (run.now, text.now) ++ entries_of (pieces behind)) (pieces new)) }
+    requires ends { goes_on (run_before None (runs_in (pieces front))) run.0 ≡ false }
+    requires begins { IsTrue (leads_to (Some run) (runs_in (pieces behind))) }
+    ensures ok { IfOk result (λ new. Shows (entries_of (pieces front) ++ piece_entries (run, text) ++ entries_of (pieces behind)) (pieces new)) }
     ensures err { IfErr result (λ old. pieces old ≡ pieces front ++ pieces behind) }
 {
     let Some(node) = behind else { unreachable!() };
     let (mut first, rest) = first_out(node);
     let _len = first.len();
     let _run = run.len();
-    match first.extend_front(run, text) {
+    match first.extend_front(&run, text) {
         Ok(()) => Ok(Some(join(front, first, rest))),
         Err(_) => Err(Some(join(front, first, rest))),
     }
 }
 
 // Between the last run and the first one, which it joins.
-fn fill_gap(alloc: Global, front: Link, behind: Link, run: &Run, text: &Text) -> Result<Link, Link>
-    requires as_many { length text.now ≡ run.now.1 }
-    requires chars_fit { length (entries_of (pieces front ++ pieces behind)) + length text.now < 2 ^ 64 }
+fn fill_gap(front: Link, behind: Link, run: Run, text: Text) -> Result<Link, Link>
+    requires as_many { length text ≡ run.1 }
+    requires chars_fit { length (entries_of (pieces front ++ pieces behind)) + length text < 2 ^ 64 }
     requires loose { IsTrue (are_loose None (runs_in (pieces front ++ pieces behind))) }
-    requires ends { IsTrue (goes_on (run_before None (runs_in (pieces front))) run.now.0) }
-    requires begins { IsTrue (leads_to (Some run.now) (runs_in (pieces behind))) }
-    ensures ok { IfOk result (λ new. Shows (entries_of (pieces front) ++ piece_entries (run.now, text.now) ++ entries_of (pieces behind)) (pieces new)) }
+    requires ends { IsTrue (goes_on (run_before None (runs_in (pieces front))) run.0) }
+    requires begins { IsTrue (leads_to (Some run) (runs_in (pieces behind))) }
+    ensures ok { IfOk result (λ new. Shows (entries_of (pieces front) ++ piece_entries (run, text) ++ entries_of (pieces behind)) (pieces new)) }
     ensures err { IfErr result (λ old. pieces old ≡ pieces front ++ pieces behind) }
 {
     let Some(before) = front else { unreachable!() };
     let Some(after) = behind else { unreachable!() };
-    let (rest, mut last) = last_out(before);
+    let (rest, last) = last_out(before);
     let (first, far) = first_out(after);
     let _last = last.len();
     let _first = first.len();
     let _run = run.len();
-    match fill(&mut last, run, text, &first) {
-        Ok(()) => Ok(Some(join(rest, last, far))),
-        Err(_) => Err(Some(join(rest, last, Some(join(None, first, far))))),
+    match fill(last, run, text, first) {
+        Ok(both) => Ok(Some(join(rest, both, far))),
+        Err((last, first)) => Err(Some(join(rest, last, Some(join(None, first, far))))),
     }
 }
 
-// A block that stands alone grows by a run and by another block behind that.
-fn fill(last: &mut Node, run: &Run, text: &Text, first: &Node) -> Result<(), AllocError>
-    requires one { length last.old.blocks ≡ 1 }
-    requires as_many { length text.now ≡ run.now.1 }
-    requires ends { IsTrue (follows run.now.0 (run_last last.old.block.0)) }
-    requires begins { IsTrue (follows first.now.block.0.0 (run_last run.now)) }
-    ensures ok { OnOk result (last.new.blocks ≡ joined last.old.block (joined (run.now, text.now) first.now.block) ∷ []) }
-    ensures err { OnErr result (last.new.blocks ≡ last.old.blocks) }
+// Two blocks that stand alone, and a run between them that joins them, as one. It costs the run's characters
+// and those of the shorter block.
+fn fill(
+    mut last: Box<Node>,
+    run: Run,
+    text: Text,
+    mut first: Box<Node>,
+) -> Result<Box<Node>, (Box<Node>, Box<Node>)>
+    requires last { length last.value.blocks ≡ 1 }
+    requires first { length first.value.blocks ≡ 1 }
+    requires as_many { length text ≡ run.1 }
+    requires ends { IsTrue (follows run.0 (run_last last.value.block.0)) }
+    requires begins { IsTrue (follows first.value.block.0.0 (run_last run)) }
+    ensures ok { IfOk result (λ both. both.value.blocks ≡ joined last.value.block (joined (run, text) first.value.block) ∷ []) }
+    ensures err { IfErr result (λ both. (both.0.value.blocks ≡ last.value.blocks) × (both.1.value.blocks ≡ first.value.blocks)) }
 {
-    let mut middle = Block::new(run.copy()?, text.copy()?);
-    middle.extend(first.run(), first.text())?;
-    let _len = middle.len();
-    last.extend(middle.run(), middle.text())
+    let _run = run.len();
+    let middle = Block::new(run, text);
+    if first.len() <= last.len() {
+        let Ok((run, text)) = with_next(middle, &first) else {
+            return Err((last, first));
+        };
+        return match last.extend(&run, text) {
+            Ok(()) => Ok(last),
+            Err(_) => Err((last, first)),
+        };
+    }
+    let Ok((run, text)) = with_last(&last, middle) else {
+        return Err((last, first));
+    };
+    match first.extend_front(&run, text) {
+        Ok(()) => Ok(first),
+        Err(_) => Err((last, first)),
+    }
+}
+
+// A block, grown by the block behind it.
+fn with_next(mut block: Block, next: &Node) -> Result<(Run, Text), AllocError>
+    requires touches { IsTrue (follows next.now.block.0.0 (run_last block.0)) }
+    ensures both { IfOk result (λ both. (both.0, both.1) ≡ joined block next.now.block) }
+    ensures as_many { IfOk result (λ both. length both.1 ≡ both.0.1) }
+{
+    let text = next.text().copy()?;
+    block.extend(next.run(), text)?;
+    Ok(block.into_parts())
+}
+
+// A block, grown by the block in front of it.
+fn with_last(last: &Node, mut block: Block) -> Result<(Run, Text), AllocError>
+    requires touches { IsTrue (follows block.0.0 (run_last last.now.block.0)) }
+    ensures both { IfOk result (λ both. (both.0, both.1) ≡ joined last.now.block block) }
+    ensures as_many { IfOk result (λ both. length both.1 ≡ both.0.1) }
+{
+    let text = last.text().copy()?;
+    block.extend_front(last.run(), text)?;
+    Ok(block.into_parts())
 }
 
 // Within a block, which is cut in two.
@@ -173,18 +216,18 @@ fn insert_within(
     node: Box<Node>,
     behind: Link,
     at: u32,
-    run: &Run,
-    text: &Text,
+    run: Run,
+    text: Text,
 ) -> Result<Link, Link>
     requires one { length node.value.blocks ≡ 1 }
-    requires as_many { length text.now ≡ run.now.1 }
+    requires as_many { length text ≡ run.1 }
     requires some { 0 < at }
     requires within { at < node.value.block.0.1 }
-    requires chars_fit { length (entries_of (pieces front ++ node.value.blocks ++ pieces behind)) + length text.now < 2 ^ 64 }
+    requires chars_fit { length (entries_of (pieces front ++ node.value.blocks ++ pieces behind)) + length text < 2 ^ 64 }
     requires loose { IsTrue (are_loose None (runs_in (pieces front ++ node.value.blocks ++ pieces behind))) }
-    requires above { IsTrue (ident_lt (shifted (pos (at - 1)) node.value.block.0.0) run.now.0) }
-    requires below { IsTrue (ident_lt (run_last run.now) (shifted (pos at) node.value.block.0.0)) }
-    ensures ok { IfOk result (λ new. Shows (entries_of (pieces front) ++ piece_entries (part_of 0 at node.value.block) ++ piece_entries (run.now, text.now)
+    requires above { IsTrue (ident_lt (shifted (pos (at - 1)) node.value.block.0.0) run.0) }
+    requires below { IsTrue (ident_lt (run_last run) (shifted (pos at) node.value.block.0.0)) }
+    ensures ok { IfOk result (λ new. Shows (entries_of (pieces front) ++ piece_entries (part_of 0 at node.value.block) ++ piece_entries (run, text)
         ++ (piece_entries (part_of at (node.value.block.0.1 - at) node.value.block) ++ entries_of (pieces behind))) (pieces new)) }
     ensures err { IfErr result (λ old. pieces old ≡ pieces front ++ node.value.blocks ++ pieces behind) }
 {
@@ -204,10 +247,9 @@ fn insert_within(
 }
 
 // A block of its own.
-fn new_node(alloc: Global, run: &Run, text: &Text) -> Result<Box<Node>, AllocError>
-    requires as_many { length text.now ≡ run.now.1 }
-    ensures node { IfOk result (λ node. node.value.blocks ≡ (run.now, text.now) ∷ []) }
+fn new_node(alloc: Global, run: Run, text: Text) -> Result<Box<Node>, AllocError>
+    requires as_many { length text ≡ run.1 }
+    ensures node { IfOk result (λ node. node.value.blocks ≡ (run, text) ∷ []) }
 {
-    let block = Block::new(run.copy()?, text.copy()?);
-    Ok(Box::new(alloc, Node::leaf(block))?)
+    Ok(Box::new(alloc, Node::leaf(Block::new(run, text)))?)
 }

@@ -235,11 +235,11 @@ impl Node {
     }
 
     // A block that stands alone grows at its end.
-    pub(crate) fn extend(&mut self, run: &Run, text: &Text) -> Result<(), AllocError>
+    pub(crate) fn extend(&mut self, run: &Run, text: Text) -> Result<(), AllocError>
         requires one { length self.old.blocks ≡ 1 }
-        requires as_many { length text.now ≡ run.now.1 }
+        requires as_many { length text ≡ run.now.1 }
         requires touches { IsTrue (follows run.now.0 (run_last self.old.block.0)) }
-        ensures ok { OnOk result (self.new.blocks ≡ joined self.old.block (run.now, text.now) ∷ []) }
+        ensures ok { OnOk result (self.new.blocks ≡ joined self.old.block (run.now, text) ∷ []) }
         ensures err { OnErr result (self.new.blocks ≡ self.old.blocks) }
     {
         let done = self.block.extend(run, text);
@@ -248,11 +248,11 @@ impl Node {
     }
 
     // A block that stands alone grows at its front.
-    pub(crate) fn extend_front(&mut self, run: &Run, text: &Text) -> Result<(), AllocError>
+    pub(crate) fn extend_front(&mut self, run: &Run, text: Text) -> Result<(), AllocError>
         requires one { length self.old.blocks ≡ 1 }
-        requires as_many { length text.now ≡ run.now.1 }
+        requires as_many { length text ≡ run.now.1 }
         requires touches { IsTrue (follows self.old.block.0.0 (run_last run.now)) }
-        ensures ok { OnOk result (self.new.blocks ≡ joined (run.now, text.now) self.old.block ∷ []) }
+        ensures ok { OnOk result (self.new.blocks ≡ joined (run.now, text) self.old.block ∷ []) }
         ensures err { OnErr result (self.new.blocks ≡ self.old.blocks) }
     {
         let done = self.block.extend_front(run, text);

@@ -167,12 +167,18 @@ fn merge(mut last: Box<Node>, mut first: Box<Node>) -> Result<Box<Node>, (Box<No
     ensures err { IfErr result (λ both. (both.0.value.blocks ≡ last.value.blocks) × (both.1.value.blocks ≡ first.value.blocks)) }
 {
     if first.len() <= last.len() {
-        return match last.extend(first.run(), first.text()) {
+        let Ok(text) = first.text().copy() else {
+            return Err((last, first));
+        };
+        return match last.extend(first.run(), text) {
             Ok(()) => Ok(last),
             Err(_) => Err((last, first)),
         };
     }
-    match first.extend_front(last.run(), last.text()) {
+    let Ok(text) = last.text().copy() else {
+        return Err((last, first));
+    };
+    match first.extend_front(last.run(), text) {
         Ok(()) => Ok(first),
         Err(_) => Err((last, first)),
     }

@@ -208,12 +208,12 @@ impl BlockTree {
     }
 
     // Puts a run and its characters in at a place, between two neighbours.
-    pub(crate) fn insert_piece(&mut self, i: u64, run: &Run, text: &Text) -> Result<(), AllocError>
+    pub(crate) fn insert_piece(&mut self, i: u64, run: Run, text: Text) -> Result<(), AllocError>
         requires place { i ≤ length (entries_of self.old.blocks) }
-        requires as_many { length text.now ≡ run.now.1 }
-        requires room { length (entries_of self.old.blocks) + length text.now < 2 ^ 64 }
-        requires rises { IsTrue (is_increasing (idents_in (inserted i (piece_entries (run.now, text.now)) (entries_of self.old.blocks)))) }
-        ensures ok { OnOk result (entries_of self.new.blocks ≡ inserted i (piece_entries (run.now, text.now)) (entries_of self.old.blocks)) }
+        requires as_many { length text ≡ run.1 }
+        requires room { length (entries_of self.old.blocks) + length text < 2 ^ 64 }
+        requires rises { IsTrue (is_increasing (idents_in (inserted i (piece_entries (run, text)) (entries_of self.old.blocks)))) }
+        ensures ok { OnOk result (entries_of self.new.blocks ≡ inserted i (piece_entries (run, text)) (entries_of self.old.blocks)) }
         ensures err { OnErr result (entries_of self.new.blocks ≡ entries_of self.old.blocks) }
     {
         let link = mem::replace(&mut self.root, None);

@@ -11,7 +11,7 @@ use Rattle.rls_tree.proofs.insert.fill_gap.Goals as goal
 
 pub fill-requires-clause-ends : goal.fill-requires-clause-ends
 fill-requires-clause-ends c =
-    let n : Piece = (c.args.run.now, c.args.text.now) in
+    let n : Piece = (c.args.run, c.args.text) in
     let last = c.last_out-rest.result.1.value in
     let p = last.block in
     let rest = pieces c.last_out-rest.result.0 in
@@ -26,11 +26,11 @@ fill-requires-clause-ends c =
     let behind : pieces c.args.behind ≡ s ∷ far = ap pieces c.in-Some-behind.is ∙ c.first_out-first.ensures.blocks ∙ ap (λ bs. bs ++ far) next in
     let ends : follows n.0.0 (run_last p.0) ≡ true = ap (λ r. goes_on r n.0.0) (sym (last_append rest p)) ∙ ap (λ bs. goes_on (last_run bs) n.0.0) (sym front) ∙ c.requires.ends in
     let begins : follows s.0.0 (run_last n.0) ≡ true = ap (λ bs. leads_to (Some n.0) (runs_in bs)) (sym behind) ∙ c.requires.begins in
-    ap (λ t. follows n.0.0 (run_last t.block.0)) c.deref_mut.ensures.value ∙ ends
+    ends
 
 pub fill-requires-clause-begins : goal.fill-requires-clause-begins
 fill-requires-clause-begins c =
-    let n : Piece = (c.args.run.now, c.args.text.now) in
+    let n : Piece = (c.args.run, c.args.text) in
     let last = c.last_out-rest.result.1.value in
     let p = last.block in
     let rest = pieces c.last_out-rest.result.0 in
@@ -45,11 +45,11 @@ fill-requires-clause-begins c =
     let behind : pieces c.args.behind ≡ s ∷ far = ap pieces c.in-Some-behind.is ∙ c.first_out-first.ensures.blocks ∙ ap (λ bs. bs ++ far) next in
     let ends : follows n.0.0 (run_last p.0) ≡ true = ap (λ r. goes_on r n.0.0) (sym (last_append rest p)) ∙ ap (λ bs. goes_on (last_run bs) n.0.0) (sym front) ∙ c.requires.ends in
     let begins : follows s.0.0 (run_last n.0) ≡ true = ap (λ bs. leads_to (Some n.0) (runs_in bs)) (sym behind) ∙ c.requires.begins in
-    ap (λ t. follows t.block.0.0 (run_last n.0)) c.deref-3.ensures ∙ begins
+    begins
 
 pub join-requires-clause-chars_fit : goal.join-requires-clause-chars_fit
 join-requires-clause-chars_fit c =
-    let n : Piece = (c.args.run.now, c.args.text.now) in
+    let n : Piece = (c.args.run, c.args.text) in
     let last = c.last_out-rest.result.1.value in
     let p = last.block in
     let rest = pieces c.last_out-rest.result.0 in
@@ -67,12 +67,12 @@ join-requires-clause-chars_fit c =
     let loose : are_loose None (runs_in ((rest ++ p ∷ []) ++ (s ∷ far))) ≡ true = subst (λ bs. are_loose None (runs_in ((rest ++ p ∷ []) ++ bs)) ≡ true) behind (subst (λ bs. are_loose None (runs_in (bs ++ pieces c.args.behind)) ≡ true) front c.requires.loose) in
     let fits : length (entries_of ((rest ++ p ∷ []) ++ (s ∷ far))) + length n.1 < 2 ^ 64 = subst (λ bs. length (entries_of ((rest ++ p ∷ []) ++ bs)) + length n.1 < 2 ^ 64) behind (subst (λ bs. length (entries_of (bs ++ pieces c.args.behind)) + length n.1 < 2 ^ 64) front c.requires.chars_fit) in
     let shows = filled rest far p s n loose piece.as_many c.requires.as_many (run_some p.0 piece.sound) (run_some n.0 c.len-run.ensures.run) (run_some s.0 other.sound) ends begins in
-    let kept : c.fill.new.last.blocks ≡ joined p (joined n s) ∷ [] = c.in-Ok.ensures.ok ∙ ap (λ t. joined t.block (joined n c.deref-3.result.now.block) ∷ []) c.deref_mut.ensures.value ∙ ap (λ t. joined p (joined n t.block) ∷ []) c.deref-3.ensures in
+    let kept : c.in-Ok.both.value.blocks ≡ joined p (joined n s) ∷ [] = c.in-Ok.ensures.ok in
     subst (λ bs. length (entries_of (rest ++ bs ++ far)) < 2 ^ 64) (sym kept) (shown_fits (rest ++ p ∷ []) (s ∷ far) (rest ++ (joined p (joined n s) ∷ []) ++ far) n shows c.requires.as_many fits)
 
 pub join-requires-in-Err-clause-chars_fit : goal.join-requires-in-Err-clause-chars_fit
 join-requires-in-Err-clause-chars_fit c =
-    let n : Piece = (c.args.run.now, c.args.text.now) in
+    let n : Piece = (c.args.run, c.args.text) in
     let last = c.last_out-rest.result.1.value in
     let p = last.block in
     let rest = pieces c.last_out-rest.result.0 in
@@ -91,12 +91,12 @@ join-requires-in-Err-clause-chars_fit c =
     let fits : length (entries_of ((rest ++ p ∷ []) ++ (s ∷ far))) + length n.1 < 2 ^ 64 = subst (λ bs. length (entries_of ((rest ++ p ∷ []) ++ bs)) + length n.1 < 2 ^ 64) behind (subst (λ bs. length (entries_of (bs ++ pieces c.args.behind)) + length n.1 < 2 ^ 64) front c.requires.chars_fit) in
     let shows = filled rest far p s n loose piece.as_many c.requires.as_many (run_some p.0 piece.sound) (run_some n.0 c.len-run.ensures.run) (run_some s.0 other.sound) ends begins in
     let a = chars_append (rest ++ p ∷ []) (s ∷ far) in
-    let b = ap (λ bs. length (entries_of (bs ++ far))) next in
+    let b = ap (λ bs. length (entries_of (bs ++ far))) (c.in-Err.ensures.err.1 ∙ next) in
     omega (arith, a, b, fits)
 
 pub join-requires-in-Err-2-clause-chars_fit : goal.join-requires-in-Err-2-clause-chars_fit
 join-requires-in-Err-2-clause-chars_fit c =
-    let n : Piece = (c.args.run.now, c.args.text.now) in
+    let n : Piece = (c.args.run, c.args.text) in
     let last = c.last_out-rest.result.1.value in
     let p = last.block in
     let rest = pieces c.last_out-rest.result.0 in
@@ -114,14 +114,14 @@ join-requires-in-Err-2-clause-chars_fit c =
     let loose : are_loose None (runs_in ((rest ++ p ∷ []) ++ (s ∷ far))) ≡ true = subst (λ bs. are_loose None (runs_in ((rest ++ p ∷ []) ++ bs)) ≡ true) behind (subst (λ bs. are_loose None (runs_in (bs ++ pieces c.args.behind)) ≡ true) front c.requires.loose) in
     let fits : length (entries_of ((rest ++ p ∷ []) ++ (s ∷ far))) + length n.1 < 2 ^ 64 = subst (λ bs. length (entries_of ((rest ++ p ∷ []) ++ bs)) + length n.1 < 2 ^ 64) behind (subst (λ bs. length (entries_of (bs ++ pieces c.args.behind)) + length n.1 < 2 ^ 64) front c.requires.chars_fit) in
     let shows = filled rest far p s n loose piece.as_many c.requires.as_many (run_some p.0 piece.sound) (run_some n.0 c.len-run.ensures.run) (run_some s.0 other.sound) ends begins in
-    let old : c.fill.new.last.blocks ≡ p ∷ [] = c.in-Err.ensures.err ∙ ap (λ t. t.blocks) c.deref_mut.ensures.value ∙ own in
-    let new : c.join-in-Err.result.value.blocks ≡ s ∷ far = c.join-in-Err.ensures.blocks ∙ ap (λ bs. bs ++ far) next in
-    let e : length (entries_of (rest ++ c.fill.new.last.blocks ++ c.join-in-Err.result.value.blocks)) ≡ length (entries_of ((rest ++ p ∷ []) ++ (s ∷ far))) = ap (λ bs. length (entries_of (rest ++ bs ++ c.join-in-Err.result.value.blocks))) old ∙ ap (λ bs. length (entries_of ((rest ++ p ∷ []) ++ bs))) new in
+    let old : c.in-Err.last.value.blocks ≡ p ∷ [] = c.in-Err.ensures.err.0 ∙ own in
+    let new : c.join-in-Err.result.value.blocks ≡ s ∷ far = c.join-in-Err.ensures.blocks ∙ ap (λ bs. bs ++ far) (c.in-Err.ensures.err.1 ∙ next) in
+    let e : length (entries_of (rest ++ c.in-Err.last.value.blocks ++ c.join-in-Err.result.value.blocks)) ≡ length (entries_of ((rest ++ p ∷ []) ++ (s ∷ far))) = ap (λ bs. length (entries_of (rest ++ bs ++ c.join-in-Err.result.value.blocks))) old ∙ ap (λ bs. length (entries_of ((rest ++ p ∷ []) ++ bs))) new in
     omega (arith, e, fits)
 
 pub returns-in-Ok-clause-ok : goal.returns-in-Ok-clause-ok
 returns-in-Ok-clause-ok c =
-    let n : Piece = (c.args.run.now, c.args.text.now) in
+    let n : Piece = (c.args.run, c.args.text) in
     let last = c.last_out-rest.result.1.value in
     let p = last.block in
     let rest = pieces c.last_out-rest.result.0 in
@@ -139,7 +139,7 @@ returns-in-Ok-clause-ok c =
     let loose : are_loose None (runs_in ((rest ++ p ∷ []) ++ (s ∷ far))) ≡ true = subst (λ bs. are_loose None (runs_in ((rest ++ p ∷ []) ++ bs)) ≡ true) behind (subst (λ bs. are_loose None (runs_in (bs ++ pieces c.args.behind)) ≡ true) front c.requires.loose) in
     let fits : length (entries_of ((rest ++ p ∷ []) ++ (s ∷ far))) + length n.1 < 2 ^ 64 = subst (λ bs. length (entries_of ((rest ++ p ∷ []) ++ bs)) + length n.1 < 2 ^ 64) behind (subst (λ bs. length (entries_of (bs ++ pieces c.args.behind)) + length n.1 < 2 ^ 64) front c.requires.chars_fit) in
     let shows = filled rest far p s n loose piece.as_many c.requires.as_many (run_some p.0 piece.sound) (run_some n.0 c.len-run.ensures.run) (run_some s.0 other.sound) ends begins in
-    let kept : c.fill.new.last.blocks ≡ joined p (joined n s) ∷ [] = c.in-Ok.ensures.ok ∙ ap (λ t. joined t.block (joined n c.deref-3.result.now.block) ∷ []) c.deref_mut.ensures.value ∙ ap (λ t. joined p (joined n t.block) ∷ []) c.deref-3.ensures in
+    let kept : c.in-Ok.both.value.blocks ≡ joined p (joined n s) ∷ [] = c.in-Ok.ensures.ok in
     subst (λ bs. Shows (entries_of bs ++ piece_entries n ++ entries_of (pieces c.args.behind)) c.join.result.value.blocks) (sym front)
     (subst (λ bs. Shows (entries_of (rest ++ p ∷ []) ++ piece_entries n ++ entries_of bs) c.join.result.value.blocks) (sym behind)
     (subst (Shows (entries_of (rest ++ p ∷ []) ++ piece_entries n ++ entries_of (s ∷ far))) (sym (c.join.ensures.blocks ∙ ap (λ bs. rest ++ bs ++ far) kept)) shows))

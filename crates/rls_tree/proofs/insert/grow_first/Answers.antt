@@ -9,7 +9,7 @@ use Rattle.rls_tree.proofs.insert.grow_first.Goals as goal
 
 pub extend_front-requires-clause-touches : goal.extend_front-requires-clause-touches
 extend_front-requires-clause-touches c =
-    let n : Piece = (c.args.run.now, c.args.text.now) in
+    let n : Piece = (c.args.run, c.args.text) in
     let first = c.first_out-first.result.0.value in
     let s = first.block in
     let f = pieces c.args.front in
@@ -22,7 +22,7 @@ extend_front-requires-clause-touches c =
 
 pub join-requires-clause-chars_fit : goal.join-requires-clause-chars_fit
 join-requires-clause-chars_fit c =
-    let n : Piece = (c.args.run.now, c.args.text.now) in
+    let n : Piece = (c.args.run, c.args.text) in
     let first = c.first_out-first.result.0.value in
     let s = first.block in
     let f = pieces c.args.front in
@@ -39,7 +39,7 @@ join-requires-clause-chars_fit c =
 
 pub returns-in-Ok-clause-ok : goal.returns-in-Ok-clause-ok
 returns-in-Ok-clause-ok c =
-    let n : Piece = (c.args.run.now, c.args.text.now) in
+    let n : Piece = (c.args.run, c.args.text) in
     let first = c.first_out-first.result.0.value in
     let s = first.block in
     let f = pieces c.args.front in

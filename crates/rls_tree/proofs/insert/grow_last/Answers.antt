@@ -10,7 +10,7 @@ use Rattle.rls_tree.proofs.insert.grow_last.Goals as goal
 
 pub extend-requires-clause-touches : goal.extend-requires-clause-touches
 extend-requires-clause-touches c =
-    let n : Piece = (c.args.run.now, c.args.text.now) in
+    let n : Piece = (c.args.run, c.args.text) in
     let last = c.last_out-rest.result.1.value in
     let p = last.block in
     let rest = pieces c.last_out-rest.result.0 in
@@ -23,7 +23,7 @@ extend-requires-clause-touches c =
 
 pub join-requires-clause-chars_fit : goal.join-requires-clause-chars_fit
 join-requires-clause-chars_fit c =
-    let n : Piece = (c.args.run.now, c.args.text.now) in
+    let n : Piece = (c.args.run, c.args.text) in
     let last = c.last_out-rest.result.1.value in
     let p = last.block in
     let rest = pieces c.last_out-rest.result.0 in
@@ -39,7 +39,7 @@ join-requires-clause-chars_fit c =
 
 pub returns-in-Ok-clause-ok : goal.returns-in-Ok-clause-ok
 returns-in-Ok-clause-ok c =
-    let n : Piece = (c.args.run.now, c.args.text.now) in
+    let n : Piece = (c.args.run, c.args.text) in
     let last = c.last_out-rest.result.1.value in
     let p = last.block in
     let rest = pieces c.last_out-rest.result.0 in

@@ -78,7 +78,7 @@ insert_within-requires-clause-above c =
     let piece : IsPiece b.0 b.1 = whole o c.deref.result.now c.deref.ensures c.len-len.ensures.piece in
     let all : pieces link ≡ f ++ (b ∷ []) ++ g = c.split-front.ensures.blocks ∙ ap (λ l. f ++ pieces l ++ g) c.in-Some.is ∙ ap (λ bs. f ++ bs ++ g) own in
     let long : length (entries_of o.blocks) ≡ b.0.1 = ap (λ bs. length (entries_of bs)) own ∙ one_length b ∙ own_length b piece.as_many in
-    let n : Piece = (c.args.run.now, c.args.text.now) in
+    let n : Piece = (c.args.run, c.args.text) in
     let put = put_within f g b n at i piece.as_many (omega (arith, before, low, high, long)) (omega (arith, before, low)) ∙ ap (λ bs. inserted i (piece_entries n) (entries_of bs)) (sym all) in
     let order = within_order (entries_of f) (entries_of g) b n at piece.as_many c.requires.as_many (omega (arith, before, low)) (omega (arith, before, low, high, long)) (run_some n.0 c.len-run.ensures.run) (ap (λ es. is_increasing (idents_in es)) put ∙ c.requires.rises) in
     order.0
@@ -103,7 +103,7 @@ insert_within-requires-clause-below c =
     let piece : IsPiece b.0 b.1 = whole o c.deref.result.now c.deref.ensures c.len-len.ensures.piece in
     let all : pieces link ≡ f ++ (b ∷ []) ++ g = c.split-front.ensures.blocks ∙ ap (λ l. f ++ pieces l ++ g) c.in-Some.is ∙ ap (λ bs. f ++ bs ++ g) own in
     let long : length (entries_of o.blocks) ≡ b.0.1 = ap (λ bs. length (entries_of bs)) own ∙ one_length b ∙ own_length b piece.as_many in
-    let n : Piece = (c.args.run.now, c.args.text.now) in
+    let n : Piece = (c.args.run, c.args.text) in
     let put = put_within f g b n at i piece.as_many (omega (arith, before, low, high, long)) (omega (arith, before, low)) ∙ ap (λ bs. inserted i (piece_entries n) (entries_of bs)) (sym all) in
     let order = within_order (entries_of f) (entries_of g) b n at piece.as_many c.requires.as_many (omega (arith, before, low)) (omega (arith, before, low, high, long)) (run_some n.0 c.len-run.ensures.run) (ap (λ es. is_increasing (idents_in es)) put ∙ c.requires.rises) in
     order.1
@@ -115,7 +115,7 @@ returns-in-None-clause-ok c =
     let f = pieces c.split-front.result.0 in
     let g = pieces c.split-front.result.2 in
     let before = c.chars_of-before.ensures.chars in
-    let n : Piece = (c.args.run.now, c.args.text.now) in
+    let n : Piece = (c.args.run, c.args.text) in
     let Here : Link → Type 0 = λ l. IfNone l (length (entries_of f) ≡ i) in
     let here : length (entries_of f) ≡ i = subst Here c.in-None.is c.split-front.ensures.between in
     let all : pieces link ≡ f ++ g = c.split-front.ensures.blocks ∙ ap (λ l. f ++ pieces l ++ g) c.in-None.is ∙ ap (λ bs. bs ++ g) (append-nil f) in
@@ -143,6 +143,6 @@ returns-in-Some-clause-ok c =
     let piece : IsPiece b.0 b.1 = whole o c.deref.result.now c.deref.ensures c.len-len.ensures.piece in
     let all : pieces link ≡ f ++ (b ∷ []) ++ g = c.split-front.ensures.blocks ∙ ap (λ l. f ++ pieces l ++ g) c.in-Some.is ∙ ap (λ bs. f ++ bs ++ g) own in
     let long : length (entries_of o.blocks) ≡ b.0.1 = ap (λ bs. length (entries_of bs)) own ∙ one_length b ∙ own_length b piece.as_many in
-    let n : Piece = (c.args.run.now, c.args.text.now) in
+    let n : Piece = (c.args.run, c.args.text) in
     let put = put_within f g b n at i piece.as_many (omega (arith, before, low, high, long)) (omega (arith, before, low)) ∙ ap (λ bs. inserted i (piece_entries n) (entries_of bs)) (sym all) in
     IfOk-weaker c.insert_within.result _ _ (λ new h. subst (λ es. Shows es (pieces new)) put h) c.insert_within.ensures.ok

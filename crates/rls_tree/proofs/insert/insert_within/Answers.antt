@@ -9,7 +9,7 @@ use Rattle.rls_tree.proofs.insert.insert_within.Goals as goal
 
 pub join-requires-in-Ok-cut-clause-chars_fit : goal.join-requires-in-Ok-cut-clause-chars_fit
 join-requires-in-Ok-cut-clause-chars_fit c =
-    let n : Piece = (c.args.run.now, c.args.text.now) in
+    let n : Piece = (c.args.run, c.args.text) in
     let o = c.args.node.value in
     let b = o.block in
     let f = pieces c.args.front in
@@ -35,7 +35,7 @@ join-requires-in-Ok-cut-clause-chars_fit c =
 
 pub join-requires-in-Ok-cut-2-clause-chars_fit : goal.join-requires-in-Ok-cut-2-clause-chars_fit
 join-requires-in-Ok-cut-2-clause-chars_fit c =
-    let n : Piece = (c.args.run.now, c.args.text.now) in
+    let n : Piece = (c.args.run, c.args.text) in
     let o = c.args.node.value in
     let b = o.block in
     let f = pieces c.args.front in
@@ -60,7 +60,7 @@ join-requires-in-Ok-cut-2-clause-chars_fit c =
 
 pub join-requires-in-Ok-cut-3-clause-chars_fit : goal.join-requires-in-Ok-cut-3-clause-chars_fit
 join-requires-in-Ok-cut-3-clause-chars_fit c =
-    let n : Piece = (c.args.run.now, c.args.text.now) in
+    let n : Piece = (c.args.run, c.args.text) in
     let o = c.args.node.value in
     let b = o.block in
     let f = pieces c.args.front in
@@ -91,7 +91,7 @@ join-requires-in-Ok-cut-3-clause-chars_fit c =
 
 pub returns-in-Ok-cut-clause-ok : goal.returns-in-Ok-cut-clause-ok
 returns-in-Ok-cut-clause-ok c =
-    let n : Piece = (c.args.run.now, c.args.text.now) in
+    let n : Piece = (c.args.run, c.args.text) in
     let o = c.args.node.value in
     let b = o.block in
     let f = pieces c.args.front in

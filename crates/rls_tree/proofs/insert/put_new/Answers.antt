@@ -6,7 +6,7 @@ use Rattle.rls_tree.proofs.insert.put_new.Goals as goal
 
 pub join-requires-clause-chars_fit : goal.join-requires-clause-chars_fit
 join-requires-clause-chars_fit c =
-    let n : Piece = (c.args.run.now, c.args.text.now) in
+    let n : Piece = (c.args.run, c.args.text) in
     let f = pieces c.args.front in
     let g = pieces c.args.behind in
     let shows = new_shows f g n c.requires.loose c.requires.ends c.requires.begins in
@@ -15,7 +15,7 @@ join-requires-clause-chars_fit c =
 
 pub returns-in-Ok-clause-ok : goal.returns-in-Ok-clause-ok
 returns-in-Ok-clause-ok c =
-    let n : Piece = (c.args.run.now, c.args.text.now) in
+    let n : Piece = (c.args.run, c.args.text) in
     let f = pieces c.args.front in
     let g = pieces c.args.behind in
     let shows = new_shows f g n c.requires.loose c.requires.ends c.requires.begins in

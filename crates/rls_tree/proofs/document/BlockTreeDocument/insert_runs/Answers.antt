@@ -4,7 +4,7 @@ use Rattle.std.proofs.lemmas.Result.{on_ok_weaker}
 use Rattle.rls_runs.specs.Runs.{run_idents, idents_of, is_increasing}
 use Rattle.rls_runs.specs.Entries.{idents_in, put_all}
 use Rattle.rls_runs.proofs.Finding.{run_length}
-use Rattle.rls_tree.specs.Trees.{entries_of, piece_entries}
+use Rattle.rls_tree.specs.Trees.{Piece, entries_of, piece_entries}
 use Rattle.rls_tree.specs.Edits.{inserted}
 use Rattle.rls_tree.proofs.AtPlaces.{piece_idents}
 use Rattle.rls_tree.proofs.Mapping.{single_run}
@@ -21,12 +21,14 @@ insert_piece-requires-clause-as_many c =
     let cs = c.args.text.now in
     let p = piece_entries (r, cs) in
     let i = c.in-Some.i in
+    let put_in : Piece = (c.in_ok-own.own, c.in_ok-chars.chars) in
+    let is : put_in ≡ (r, cs) = ap (λ q. (q, c.in_ok-chars.chars)) c.in_ok-own.ensures.copy ∙ ap (λ q. (r, q)) c.in_ok-chars.ensures.copy in
     let one : idents_of rs ≡ run_idents r.0 r.1 = single_run rs r (sym c.len.ensures.len ∙ c.if-len-eq1.true) c.get-run.ensures.run in
     let many : length cs ≡ r.1 = sym c.requires.as_many ∙ ap length one ∙ run_length r.0 r.1 in
     let Rises : Option ℕ → Type 0 = λ o. IfSome o (λ j. is_increasing (take j xs ++ (run_idents r.0 r.1 ++ drop j xs)) ≡ true) in
     let gap : is_increasing (take i xs ++ (run_idents r.0 r.1 ++ drop i xs)) ≡ true = subst Rises c.in-Some.is c.in_ok-i.ensures.rises in
     let own : is_increasing (take i xs ++ (idents_in p ++ drop i xs)) ≡ true = subst (λ zs. is_increasing (take i xs ++ (zs ++ drop i xs)) ≡ true) (sym (piece_idents (r, cs) many)) gap in
-    many
+    ap (λ (q : Piece). length q.1) is ∙ many ∙ sym (ap (λ (q : Piece). q.0.1) is)
 
 pub insert_piece-requires-clause-rises : goal.insert_piece-requires-clause-rises
 insert_piece-requires-clause-rises c =
@@ -37,12 +39,14 @@ insert_piece-requires-clause-rises c =
     let cs = c.args.text.now in
     let p = piece_entries (r, cs) in
     let i = c.in-Some.i in
+    let put_in : Piece = (c.in_ok-own.own, c.in_ok-chars.chars) in
+    let is : put_in ≡ (r, cs) = ap (λ q. (q, c.in_ok-chars.chars)) c.in_ok-own.ensures.copy ∙ ap (λ q. (r, q)) c.in_ok-chars.ensures.copy in
     let one : idents_of rs ≡ run_idents r.0 r.1 = single_run rs r (sym c.len.ensures.len ∙ c.if-len-eq1.true) c.get-run.ensures.run in
     let many : length cs ≡ r.1 = sym c.requires.as_many ∙ ap length one ∙ run_length r.0 r.1 in
     let Rises : Option ℕ → Type 0 = λ o. IfSome o (λ j. is_increasing (take j xs ++ (run_idents r.0 r.1 ++ drop j xs)) ≡ true) in
     let gap : is_increasing (take i xs ++ (run_idents r.0 r.1 ++ drop i xs)) ≡ true = subst Rises c.in-Some.is c.in_ok-i.ensures.rises in
     let own : is_increasing (take i xs ++ (idents_in p ++ drop i xs)) ≡ true = subst (λ zs. is_increasing (take i xs ++ (zs ++ drop i xs)) ≡ true) (sym (piece_idents (r, cs) many)) gap in
-    ap is_increasing (idents_inserted i p es) ∙ own
+    ap (λ (q : Piece). is_increasing (idents_in (inserted i (piece_entries q) es))) is ∙ ap is_increasing (idents_inserted i p es) ∙ own
 
 pub returns-in-Some-clause-ok : goal.returns-in-Some-clause-ok
 returns-in-Some-clause-ok c =
@@ -53,10 +57,12 @@ returns-in-Some-clause-ok c =
     let cs = c.args.text.now in
     let p = piece_entries (r, cs) in
     let i = c.in-Some.i in
+    let put_in : Piece = (c.in_ok-own.own, c.in_ok-chars.chars) in
+    let is : put_in ≡ (r, cs) = ap (λ q. (q, c.in_ok-chars.chars)) c.in_ok-own.ensures.copy ∙ ap (λ q. (r, q)) c.in_ok-chars.ensures.copy in
     let one : idents_of rs ≡ run_idents r.0 r.1 = single_run rs r (sym c.len.ensures.len ∙ c.if-len-eq1.true) c.get-run.ensures.run in
     let many : length cs ≡ r.1 = sym c.requires.as_many ∙ ap length one ∙ run_length r.0 r.1 in
     let Rises : Option ℕ → Type 0 = λ o. IfSome o (λ j. is_increasing (take j xs ++ (run_idents r.0 r.1 ++ drop j xs)) ≡ true) in
     let gap : is_increasing (take i xs ++ (run_idents r.0 r.1 ++ drop i xs)) ≡ true = subst Rises c.in-Some.is c.in_ok-i.ensures.rises in
     let own : is_increasing (take i xs ++ (idents_in p ++ drop i xs)) ≡ true = subst (λ zs. is_increasing (take i xs ++ (zs ++ drop i xs)) ≡ true) (sym (piece_idents (r, cs) many)) gap in
     let put : inserted i p es ≡ put_all (zip (idents_of rs) cs) es = sym (put_inserted i p es (rising_of (take i xs ++ (idents_in p ++ drop i xs)) own)) ∙ ap (λ ids. put_all (zip ids cs) es) (sym one) in
-    on_ok_weaker c.insert_piece.result (λ e. e ∙ put) c.insert_piece.ensures.ok
+    on_ok_weaker c.insert_piece.result (λ e. e ∙ ap (λ (q : Piece). inserted i (piece_entries q) es) is ∙ put) c.insert_piece.ensures.ok

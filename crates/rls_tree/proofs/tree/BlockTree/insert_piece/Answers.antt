@@ -12,6 +12,6 @@ insert_at-requires-clause-loose c = subst (λ l. are_loose None (runs_in (pieces
 
 pub invariant_of-self : goal.invariant_of-self
 invariant_of-self c =
-    let es = inserted c.args.i (piece_entries (c.args.run.now, c.args.text.now)) (entries_of (pieces c.replace-link.result)) in
+    let es = inserted c.args.i (piece_entries (c.args.run, c.args.text)) (entries_of (pieces c.replace-link.result)) in
     let old = ap pieces c.replace-link.ensures.value ∙ ap (λ s. s.blocks) c.self.view_is in
-    apart_shows (pieces c.in-Ok.root) es c.chars_of-chars.ensures.pieces c.in-Ok.ensures.ok (ap (λ bs. is_increasing (idents_in (inserted c.args.i (piece_entries (c.args.run.now, c.args.text.now)) (entries_of bs)))) old ∙ c.requires.rises)
+    apart_shows (pieces c.in-Ok.root) es c.chars_of-chars.ensures.pieces c.in-Ok.ensures.ok (ap (λ bs. is_increasing (idents_in (inserted c.args.i (piece_entries (c.args.run, c.args.text)) (entries_of bs)))) old ∙ c.requires.rises)
