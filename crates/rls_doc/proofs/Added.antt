@@ -13,6 +13,7 @@ use Rattle.std.proofs.lemmas.Slice.Zip.{firsts-zip}
 use Rattle.rls_ident.specs.declared.tuple.Tuple.{Tuple}
 use Rattle.rls_ident.specs.Lists.{IsIn}
 use Rattle.rls_ident.specs.Identifiers.{ident_cmp, ident_eq, ident_lt}
+use Rattle.rls_ident.proofs.Ends.{eq_same}
 use Rattle.rls_ident.proofs.Lists.{Lt, lt_irrefl, tri}
 use Rattle.rls_ident.proofs.Members.{bool_cases, in_left, in_right, in_split}
 use Rattle.rls_ident.proofs.Tuples.{tuples, ident_same, ident_total}
@@ -114,11 +115,8 @@ none_above e [] h = refl
 none_above e (y ∷ es) h =
     let p = sum_by-cons (same e.0) y es in
     let k = none_above e es h.1 in
-    let n : same e.0 y ≡ 0 = bool_cases (ident_eq y.0 e.0) (λ q. absurd (lt_irrefl (subst (λ z. Lt tuples e.0 z) (ident_is y.0 e.0 q) h.0))) (λ q. ap (λ b. if b then 1 else 0) q) in
+    let n : same e.0 y ≡ 0 = bool_cases (ident_eq y.0 e.0) (λ q. absurd (lt_irrefl (subst (λ z. Lt tuples e.0 z) (eq_same y.0 e.0 q) h.0))) (λ q. ap (λ b. if b then 1 else 0) q) in
     omega arith
-  where
-    ident_is : (x y : List Tuple) → ident_eq x y ≡ true → x ≡ y
-    ident_is x y q = ident_same x y (equal_is (ident_cmp x y) q)
 
 rises_once : (x : List Tuple) (es : List Entry) → Rises es → times x es ≤ 1
 rises_once x [] h = omega arith

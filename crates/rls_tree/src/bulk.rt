@@ -70,7 +70,7 @@ impl BlockTree {
     }
 
     // Puts a run in, between whose identifiers others may stand.
-    pub(crate) fn insert_run(&mut self, run: &Run, text: &Text) -> Result<(), AllocError>
+    fn insert_run(&mut self, run: &Run, text: &Text) -> Result<(), AllocError>
         requires as_many { length text.now ≡ run.now.1 }
         requires new { AreNew (idents_in (piece_entries (run.now, text.now))) (idents_in (entries_of self.old.blocks)) }
         requires room { length (entries_of self.old.blocks) + run.now.1 < 2 ^ 64 }
@@ -81,6 +81,35 @@ impl BlockTree {
             done += self.insert_next(run, text, done)?;
         }
         Ok(())
+    }
+
+    // The same, where the run's characters are moved if it goes between two neighbours.
+    fn put_run(&mut self, run: &Run, text: Text) -> Result<(), AllocError>
+        requires as_many { length text ≡ run.now.1 }
+        requires new { AreNew (idents_in (piece_entries (run.now, text))) (idents_in (entries_of self.old.blocks)) }
+        requires room { length (entries_of self.old.blocks) + run.now.1 < 2 ^ 64 }
+        ensures ok { OnOk result (entries_of self.new.blocks ≡ put_all (piece_entries (run.now, text)) (entries_of self.old.blocks)) }
+    {
+        if let Some(i) = self.gap_for(run)? {
+            let own = run.copy()?;
+            return self.insert_piece(i, own, text);
+        }
+        self.insert_run(run, &text)
+    }
+
+    // Puts runs in, with the characters of a text, which are moved where it is one run between two
+    // neighbours.
+    pub(crate) fn put_runs(&mut self, runs: &[Run], text: Text) -> Result<(), AllocError>
+        requires rises { IsTrue (is_increasing (idents_of runs.now)) }
+        requires as_many { length (idents_of runs.now) ≡ length text }
+        requires new { AreNew (idents_of runs.now) (idents_in (entries_of self.old.blocks)) }
+        requires room { length (entries_of self.old.blocks) + length text < 2 ^ 64 }
+        ensures ok { OnOk result (entries_of self.new.blocks ≡ put_all (zip (idents_of runs.now) text) (entries_of self.old.blocks)) }
+    {
+        if runs.len() == 1 {
+            return self.put_run(&runs[0], text);
+        }
+        self.insert_all(runs, &text)
     }
 
     // Puts runs in, with the characters of a text.
@@ -94,7 +123,7 @@ impl BlockTree {
         let mut at = 0;
         for run in runs {
             let part = part_of_text(self.alloc(), text, at, run.len() as usize)?;
-            self.insert_run(run, &part)?;
+            self.put_run(run, part)?;
             at += run.len() as usize;
         }
         Ok(())

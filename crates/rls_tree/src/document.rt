@@ -174,7 +174,7 @@ impl BlockTree {
         let (run, text) = self.stretch(at)?;
         let len = run.len();
         let runs = map.map(self.alloc(), &run)?;
-        fresh.insert_all(runs.as_slice(), &text)?;
+        fresh.put_runs(runs.as_slice(), text)?;
         Ok(len as u64)
     }
 }

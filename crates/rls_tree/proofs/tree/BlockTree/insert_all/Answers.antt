@@ -38,8 +38,8 @@ overflow_add-at c =
     let w = within_total rs c.loop-run.run-index c.run-item.result g in
     omega (arith, w, c.loop-run.invariant.place, c.len-in-loop-run.ensures.len, c.requires.as_many, c.requires.room)
 
-pub insert_run-requires : goal.insert_run-requires
-insert_run-requires c =
+pub put_run-requires : goal.put_run-requires
+put_run-requires c =
     let rs = c.args.runs.now in
     let cs = c.args.text.now in
     let added = zip (idents_of rs) cs in
@@ -75,10 +75,10 @@ loop-run-preserved c =
     let inv = c.loop-run.invariant in
     let part : c.in_ok-part.part ≡ take r.1 (drop at cs) = c.in_ok-part.ensures.part ∙ ap (λ n. take n (drop at cs)) c.len.ensures.len in
     let is : piece_entries (r, c.in_ok-part.part) ≡ take r.1 (drop at added) = run_taken rs k at r cs c.in_ok-part.part g inv.place c.requires.as_many part in
-    let next = entries_of c.insert_run.new.self.blocks in
+    let next = entries_of c.put_run.new.self.blocks in
     let n = c.len-in-loop-run.result in
     let len = c.len-in-loop-run.ensures.len in
-    let put : next ≡ put_all (take n (drop at added)) cur = c.in_ok-insert_run.ensures.ok ∙ ap (λ p. put_all p cur) (is ∙ ap (λ m. take m (drop at added)) (sym len)) in
+    let put : next ≡ put_all (take n (drop at added)) cur = c.in_ok-put_run.ensures.ok ∙ ap (λ p. put_all p cur) (is ∙ ap (λ m. take m (drop at added)) (sym len)) in
     let rising : Rising (idents_in added) = subst Rising (sym (firsts-zip (idents_of rs) cs (sym c.requires.as_many))) (rising_of (idents_of rs) c.requires.rises) in
     let l = all_length (take n (drop at added)) cur in
     let m = ap length put in

@@ -12,8 +12,8 @@ use Rattle.rls_doc.proofs.Rising.{increasing_mapped}
 use Rattle.rls_tree.proofs.Mapping.{zip_mapped, mapped_rising, mapped_new, mapped_put}
 use Rattle.rls_tree.proofs.tree.BlockTree.map_next.Goals as goal
 
-pub insert_all-requires-clause-rises : goal.insert_all-requires-clause-rises
-insert_all-requires-clause-rises g c =
+pub put_runs-requires-clause-rises : goal.put_runs-requires-clause-rises
+put_runs-requires-clause-rises g c =
     let f = g.F.RunMap.image c.args.map.now in
     let es = entries_of c.args.self.now.blocks in
     let at = c.args.at in
@@ -29,8 +29,8 @@ insert_all-requires-clause-rises g c =
     let firsts : idents_in added ≡ idents_of rs = firsts-zip (idents_of rs) cs (sym many) in
     ap is_increasing (sym firsts) ∙ increasing_of (idents_in added) (mapped_rising f es cur added at run.1 c.requires.mapped is rising)
 
-pub insert_all-requires-clause-as_many : goal.insert_all-requires-clause-as_many
-insert_all-requires-clause-as_many g c =
+pub put_runs-requires-clause-as_many : goal.put_runs-requires-clause-as_many
+put_runs-requires-clause-as_many g c =
     let f = g.F.RunMap.image c.args.map.now in
     let es = entries_of c.args.self.now.blocks in
     let at = c.args.at in
@@ -46,8 +46,8 @@ insert_all-requires-clause-as_many g c =
     let firsts : idents_in added ≡ idents_of rs = firsts-zip (idents_of rs) cs (sym many) in
     many
 
-pub insert_all-requires-clause-new : goal.insert_all-requires-clause-new
-insert_all-requires-clause-new g c =
+pub put_runs-requires-clause-new : goal.put_runs-requires-clause-new
+put_runs-requires-clause-new g c =
     let f = g.F.RunMap.image c.args.map.now in
     let es = entries_of c.args.self.now.blocks in
     let at = c.args.at in
@@ -78,4 +78,4 @@ returns-clause-mapped g c =
     let rising : Rising (idents_in (with_idents f es)) = rising_of (idents_in (with_idents f es)) (increasing_mapped f (g.met.F.RunMap.keeps_order c.args.map.now) es c.are_idents.ensures.idents c.blocks-blocks.ensures.rises) in
     let many : length (idents_of rs) ≡ length cs = ap length ids ∙ length-map (run_idents run.0 run.1) f ∙ run_length run.0 run.1 ∙ sym c.in_ok-run.ensures.as_many in
     let firsts : idents_in added ≡ idents_of rs = firsts-zip (idents_of rs) cs (sym many) in
-    c.in_ok-insert_all.ensures.ok ∙ mapped_put f es cur added at run.1 c.requires.mapped is rising ∙ ap (λ n. with_idents f (take (at + n) es)) (sym c.len-len.ensures.len)
+    c.in_ok-put_runs.ensures.ok ∙ mapped_put f es cur added at run.1 c.requires.mapped is rising ∙ ap (λ n. with_idents f (take (at + n) es)) (sym c.len-len.ensures.len)

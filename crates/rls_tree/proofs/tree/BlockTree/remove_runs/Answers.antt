@@ -4,7 +4,7 @@ use Rattle.rls_runs.specs.Entries.{without_all}
 use Rattle.rls_tree.specs.Trees.{entries_of}
 use Rattle.std.proofs.lemmas.Option.{slice_get_read}
 use Rattle.std.proofs.Math.ListN.{drop_of_length-le}
-use Rattle.rls_doc.proofs.Zipped.{drop_get}
+use Rattle.rls_ident.proofs.Loops.{drop_reads}
 use Rattle.rls_tree.proofs.Without.{without_both, without_none}
 use Rattle.rls_tree.proofs.tree.BlockTree.remove_runs.Goals as goal
 
@@ -16,7 +16,7 @@ loop-run-preserved c =
     let cur = entries_of c.loop-run.self.blocks in
     let rest = idents_of (drop (k + 1) rs) in
     let g = slice_get_read rs (length rs) k r refl c.loop-run-test.true c.run-item.is in
-    ap (without_all rest) c.in_ok-remove_run.ensures.ok ∙ sym (without_both (run_idents r.0 r.1) rest cur) ∙ ap (λ xs. without_all (idents_of xs) cur) (sym (drop_get k r rs g)) ∙ c.loop-run.invariant
+    ap (without_all rest) c.in_ok-remove_run.ensures.ok ∙ sym (without_both (run_idents r.0 r.1) rest cur) ∙ ap (λ xs. without_all (idents_of xs) cur) (sym (drop_reads rs k r g)) ∙ c.loop-run.invariant
 
 pub returns : goal.returns
 returns c =
