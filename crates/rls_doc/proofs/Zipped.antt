@@ -1,7 +1,7 @@
 -- Identifiers and characters that are zipped step by step.
 use Rattle.std.proofs.Common.{◌≡◌, ℕ, zero, suc, ◌+◌, ◌≤◌, List, [], ◌∷◌, ◌++◌, length, drop, Some, slice_get, refl, sym, ap, ◌∙◌, arith, append_assoc, length-append, length-drop}
 use Rattle.std.specs.Prelude.{zip}
-use Rattle.std.proofs.lemmas.List.{append-nil}
+use Rattle.std.proofs.lemmas.List.{append-nil, drop-drop}
 use Rattle.std.proofs.lemmas.Slice.Zip.{length-zip}
 use Rattle.rls_ident.specs.declared.tuple.Tuple.{Tuple}
 use Rattle.rls_ident.proofs.Members.{some_is}
@@ -21,15 +21,6 @@ zip_split : (xs ys : List (List Tuple)) (cs : List ℕ) → length xs ≤ length
 zip_split [] ys cs h = refl
 zip_split (x ∷ xs) ys [] h = absurd (omega arith)
 zip_split (x ∷ xs) ys (c ∷ cs) h = ap (λ zs. (x, c) ∷ zs) (zip_split xs ys cs (omega arith))
-
-drop_drop : (m n : ℕ) (cs : List ℕ) → drop n (drop m cs) ≡ drop (m + n) cs
-drop_drop zero n cs = ap (λ k. drop k cs) (omega arith)
-drop_drop (suc m) n [] = nothing n ∙ sym (nothing (suc m + n))
-  where
-    nothing : (k : ℕ) → drop {A = ℕ} k [] ≡ []
-    nothing zero = refl
-    nothing (suc k) = refl
-drop_drop (suc m) n (c ∷ cs) = let s : suc (m + n) ≡ suc m + n = omega arith in drop_drop m n cs ∙ ap (λ k. drop k (c ∷ cs)) s
 
 -- ---- one identifier more
 
@@ -85,6 +76,6 @@ run_zipped added more rs i r cs all g h m e =
     let b = length-append added (zip ids (drop (length added) cs)) in
     let c = length-zip ids (drop (length added) cs) in
     let n : length more ≡ length added + length ids = omega arith in
-    let t : drop (length ids) (drop (length added) cs) ≡ drop (length more) cs = drop_drop (length added) (length ids) cs ∙ ap (λ k. drop k cs) (sym n) in
+    let t : drop (length ids) (drop (length added) cs) ≡ drop (length more) cs = drop-drop (length ids) (length added) cs ∙ ap (λ k. drop k cs) (sym n) in
     ap (λ es. es ++ zip (idents_of (drop (i + 1) rs)) (drop (length more) cs)) m
     ∙ (rw append_assoc (ap (λ zs. added ++ (zip ids (drop (length added) cs) ++ zip (idents_of (drop (i + 1) rs)) zs)) (sym t) ∙ ap (λ zs. added ++ zs) (sym s) ∙ e))

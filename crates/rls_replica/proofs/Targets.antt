@@ -13,11 +13,12 @@ use Rattle.rls_ident.proofs.Lists.{flipped, lt_trans}
 use Rattle.rls_ident.proofs.Loops.{drop_reads}
 use Rattle.rls_ident.proofs.Tuples.{ident_total}
 use Rattle.rls_ident.proofs.Members.{filter_in, not_le_test, some_is}
+use Rattle.rls_ident.proofs.Agreeing.{any_same}
 use Rattle.rls_runs.specs.Runs.{AreIdents, is_increasing, place_from, place_of, placed}
 use Rattle.rls_runs.specs.Entries.{Entries, has_ident, idents_in}
 use Rattle.rls_runs.specs.Places.{find_ident, below_count}
-use Rattle.rls_runs.proofs.Sorted.{Entry, AreAbove, Rises}
-use Rattle.rls_doc.proofs.Rising.{rising}
+use Rattle.rls_runs.proofs.Sorted.{Entry, AreAbove, Rises, rises_of_increasing}
+use Rattle.rls_doc.proofs.Places.{place_known}
 use Rattle.rls_rename.specs.Tree.{AreNodes, translate}
 use Rattle.rls_rename.proofs.Growth.{translate_back}
 use Rattle.rls_rename.proofs.Paths.{translate_ident, translate_order}
@@ -35,28 +36,6 @@ use Rattle.rls_replica.specs.Lookups.{is_named_by, is_named_over}
 
 -- ---- in the text
 
--- whether an identifier is there, by its place
-above_none : (x : List Tuple) (y : Entry) (zs : List Entry) → ident_cmp y.0 x ≡ Greater → AreAbove y zs → list_any (λ (z : Entry). ident_eq z.0 x) zs ≡ false
-above_none x y [] g a = refl
-above_none x y (z ∷ zs) g a = ap (λ o. is_eq o || list_any (λ (u : Entry). ident_eq u.0 x) zs) later ∙ above_none x y zs g a.1
-  where
-    later : ident_cmp z.0 x ≡ Greater
-    later = flipped (lt_trans {x = x} {y = y.0} {z = z.0} (record { less = ident_total.antisymm x y.0 ∙ ap ordering_reverse g }) a.0)
-
-place_any : (n : ℕ) (x : List Tuple) (es : List Entry) → Rises es → is_ok (place_from n x (idents_in es)) ≡ list_any (λ (z : Entry). ident_eq z.0 x) es
-place_any n x [] r = refl
-place_any n x (y ∷ es) r = go (ident_cmp y.0 x) refl (place_any (suc n) x es r.1)
-  where
-    go : (o : Ordering) → ident_cmp y.0 x ≡ o → is_ok (place_from (suc n) x (idents_in es)) ≡ list_any (λ (z : Entry). ident_eq z.0 x) es
-        → is_ok (placed o n (place_from (suc n) x (idents_in es))) ≡ (is_eq o || list_any (λ (z : Entry). ident_eq z.0 x) es)
-    go Less e ih = ih
-    go Equal e ih = refl
-    go Greater e ih = sym (above_none x y es e r.0)
-
-pub place_known : (x : List Tuple) (es : Entries) → is_increasing (idents_in es) ≡ true → is_ok (place_of x (idents_in es)) ≡ list_any (λ y. ident_eq y.0 x) es
-unfolding place_of
-place_known x es h = place_any 0 x es (rising es h)
-
 -- the first place at which a target is looked for
 pub known_here : (s : Seen) (e : EpochName) (x : List Tuple) → IsSane s → (r : Result ℕ ℕ) → r ≡ place_of (translate_over s e (greatest_over s) x) (idents_in s.text)
     → is_known_over s e x ≡ (is_ok r || is_named_over s e x s.log)
@@ -65,23 +44,11 @@ known_here s e x sane r h = ap (λ b. b || is_named_over s e x s.log) (sym (ap i
 
 -- ---- among targets
 
--- where an identifier is found
-pub found_known : (xs : List (List Tuple)) (x : List Tuple) → is_ok (find_ident xs x) ≡ has_ident xs x
-found_known xs x = go (has_ident xs x)
-  where
-    go : (b : Bool) → is_ok (if b then Ok (below_count xs x) else Err (below_count xs x)) ≡ b
-    go true = refl
-    go false = refl
-
-same_any : (p q : List Tuple → Bool) (xs : List (List Tuple)) → ((x : List Tuple) → IsIn x xs → p x ≡ q x) → list_any p xs ≡ list_any q xs
-same_any p q [] h = refl
-same_any p q (x ∷ xs) h = ap (λ b. b || list_any p xs) (h x (inl refl)) ∙ ap (λ b. q x || b) (same_any p q xs (λ y i. h y (inr i)))
-
 -- translated the one way a target is x just where x translated the other way is the target
 pub named_there : (s : Seen) (e : EpochName) (x : List Tuple) (d : Op) (ts : List (List Tuple)) → AreNodes s.epochs.nodes → IsIdent x → AreIdents ts → d.body ≡ Delete ts
     → has_ident ts (translate s.epochs.nodes e d.epoch x) ≡ is_named_by s e x d
 named_there s e x d ts n i ids b =
-    same_any (λ t. ident_eq t (translate s.epochs.nodes e d.epoch x)) (λ t. ident_eq (translate s.epochs.nodes d.epoch e t) x) ts
+    any_same (λ t. ident_eq t (translate s.epochs.nodes e d.epoch x)) (λ t. ident_eq (translate s.epochs.nodes d.epoch e t) x) ts
     (λ t p. ap is_eq (sym (translate_order s.epochs.nodes d.epoch e t (translate s.epochs.nodes e d.epoch x) n (ident_in ts ids t p) (translate_ident s.epochs.nodes e d.epoch x n i)))
     ∙ ap (λ y. ident_eq (translate s.epochs.nodes d.epoch e t) y) (translate_back s.epochs.nodes e d.epoch x n i))
     ∙ ap (λ (c : Body). list_any (λ t. ident_eq (translate_over s d.epoch e t) x) (targets_of c)) (sym b)
