@@ -13,9 +13,9 @@ use Rattle.rls_ident.specs.Identifiers.{is_ident, is_bounded, is_inner_bounded, 
 use Rattle.rls_ident.proofs.Members.{bool_cases, and_left, and_right, and_true, lt_is, lt_test}
 use Rattle.rls_ident.proofs.Ends.{eq_same}
 use Rattle.rls_runs.specs.Runs.{put_run, runs_of, run_last, is_apart, are_apart, is_increasing, AreIdents, past_offsets, is_run}
-use Rattle.rls_runs.proofs.RunsOf.{shifted_zero, shifted_shifted}
+use Rattle.rls_runs.proofs.RunsOf.{shifted_zero, shifted_shifted, idents_of_runs}
 use Rattle.rls_runs.proofs.Texts.{scalars_of_all}
-use Rattle.rls_ops.proofs.SameRuns.{idents_of_runs}
+use Rattle.rls_runs.proofs.RunsApart.{apart_runs}
 use Rattle.rls_ops.specs.declared.op.Op.{Op}
 use Rattle.rls_ops.specs.declared.message.Message.{Message}
 use Rattle.rls_ops.specs.Spelling.{message_bytes}
@@ -53,59 +53,6 @@ run_fits r h small fits =
     let p = is_ident r.0 && is_bounded r.0 in
     let end = int_le (offset_of (last_of r.0) +ℤ pos r.1) past_offsets in
     (fits, small, and_true (nat_lt 0 r.1) end (and_right p (nat_lt 0 r.1) (and_left (p && nat_lt 0 r.1) end h)) (and_right (p && nat_lt 0 r.1) end h))
-
--- the first identifier of the runs is that of the list
-abbrev BeginsWith : List Tuple → List (List Tuple × ℕ) → Type 0
-BeginsWith x [] = Unit {0}
-BeginsWith x (r ∷ rs) = r.0 ≡ x
-
-begins : (x : List Tuple) (rs : List (List Tuple × ℕ)) → BeginsWith x (put_run x rs)
-begins x [] = refl
-begins x ((y, n) ∷ rs) = bool_cases (follows y x) (λ h. rw h refl) (λ h. rw h refl)
-
--- the runs of a list that x stands before
-abbrev IsAbove : List Tuple → List (List Tuple × ℕ) → Type 0
-IsAbove x [] = Unit {0}
-IsAbove x (r ∷ rs) = ident_lt x r.0 ≡ true
-
-is_above : (x y : List Tuple) (rs : List (List Tuple × ℕ)) → ident_lt x y ≡ true → BeginsWith y rs → IsAbove x rs
-is_above x y [] h b = tt
-is_above x y (r ∷ rs) h b = ap (ident_lt x) b ∙ h
-
-apart_put : (x : List Tuple) (rs : List (List Tuple × ℕ)) → IsAbove x rs → are_apart None rs ≡ true → are_apart None (put_run x rs) ≡ true
-apart_put x [] above h = refl
-apart_put x ((y, n) ∷ rs) above h = bool_cases (follows y x) joined alone
-  where
-    some : nat_lt 0 n ≡ true
-    some = and_left (nat_lt 0 n) true (and_left (nat_lt 0 n && true) (are_apart (Some (y, n)) rs) h)
-
-    rest : are_apart (Some (y, n)) rs ≡ true
-    rest = and_right (nat_lt 0 n && true) (are_apart (Some (y, n)) rs) h
-
-    same_last : follows y x ≡ true → run_last (x, n + 1) ≡ run_last (y, n)
-    same_last f =
-        let k : ℤ = pos (n - 1) in
-        let e : pos 1 +ℤ k ≡ pos (n + 1 - 1) = omega (arith, ints, lt_is 0 n some) in
-        sym (ap (shifted k) (eq_same y (shifted (pos 1) x) f) ∙ shifted_shifted k (pos 1) x ∙ ap (λ z. shifted z x) e)
-
-    moved : (qs : List (List Tuple × ℕ)) → run_last (x, n + 1) ≡ run_last (y, n) → are_apart (Some (y, n)) qs ≡ true → are_apart (Some (x, n + 1)) qs ≡ true
-    moved [] e g = refl
-    moved (q ∷ qs) e g = ap (λ l. nat_lt 0 q.1 && (ident_lt l q.0 && not (follows q.0 l)) && are_apart (Some q) qs) e ∙ g
-
-    joined : follows y x ≡ true → are_apart None (put_run x ((y, n) ∷ rs)) ≡ true
-    joined f = rw f (and_true (nat_lt 0 (n + 1) && true) (are_apart (Some (x, n + 1)) rs) (and_true (nat_lt 0 (n + 1)) true (lt_test 0 (n + 1) (omega arith)) refl) (moved rs (same_last f) rest))
-
-    alone : follows y x ≡ false → are_apart None (put_run x ((y, n) ∷ rs)) ≡ true
-    alone f =
-        let l : run_last (x, 1) ≡ x = shifted_zero x in
-        let apart : is_apart (Some (x, 1)) (y, n) ≡ true = ap (λ w. ident_lt w y && not (follows y w)) l ∙ and_true (ident_lt x y) (not (follows y x)) above (ap not f) in
-        rw f (and_true (nat_lt 0 n && is_apart (Some (x, 1)) (y, n)) (are_apart (Some (y, n)) rs) (and_true (nat_lt 0 n) (is_apart (Some (x, 1)) (y, n)) some apart) rest)
-
-apart_runs : (xs : List (List Tuple)) → is_increasing xs ≡ true → are_apart None (runs_of xs) ≡ true
-apart_runs [] h = refl
-apart_runs (x ∷ []) h = apart_put x [] tt refl
-apart_runs (x ∷ (y ∷ ys)) h =
-    apart_put x (runs_of (y ∷ ys)) (is_above x y (runs_of (y ∷ ys)) (and_left (ident_lt x y) (is_increasing (y ∷ ys)) h) (begins y (runs_of ys))) (apart_runs (y ∷ ys) (and_right (ident_lt x y) (is_increasing (y ∷ ys)) h))
 
 behind : (before : Option (List Tuple × ℕ)) (rs : List (List Tuple × ℕ)) → are_apart before rs ≡ true → All FitsRun rs → Chained FitsBehind before rs
 behind before [] h f = tt

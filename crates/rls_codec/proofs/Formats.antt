@@ -1,14 +1,14 @@
 -- A format is a reader and a spelling that agree: what is spelled is read, and what is read is spelled so.
-use Rattle.std.proofs.Common.{◌≡◌, ℕ, zero, suc, ◌+◌, ◌^◌, ◌<◌, ◌≤◌, Bool, true, false, cond, ltb, List, [], ◌∷◌, ◌++◌, length, take, drop, Option, Some, None, Result, Ok, Err, refl, sym, ap, subst, ◌∙◌, append_assoc, arith, inl, inr}
+use Rattle.std.proofs.Common.{◌≡◌, ℕ, zero, suc, ◌+◌, ◌^◌, ◌<◌, ◌≤◌, Bool, true, false, cond, ltb, List, [], ◌∷◌, ◌++◌, length, take, drop, Option, Some, None, Result, Ok, Err, refl, sym, ap, subst, ◌∙◌, append_assoc, arith, inl, inr, leb-true, leb}
 use Rattle.std.specs.List.{flat_map}
 use Rattle.std.specs.Int.{Width, w32, w64, byte_len, from_be_bytes, to_be_bytes}
-use Rattle.std.proofs.lemmas.Bool.{cases_lt, ltb-false, le-ltb}
+use Rattle.std.proofs.lemmas.Bool.{cases_lt, ltb-false, le-ltb, and_parts}
 use Rattle.std.proofs.lemmas.List.{append-nil, take_at, drop_at, take-append-drop, length-append, length-take, get_or-drop, get_or-take, get_or_past}
 use Rattle.std.proofs.lemmas.Nat.{be_bytes_4, be_bytes_8, from_be_bytes-to_be_bytes_4, from_be_bytes-to_be_bytes_8}
 use Rattle.rls_ops.specs.Spelling.{counted}
 use Rattle.rls_codec.specs.CodecLaws.{IsBytes}
-use Rattle.rls_codec.specs.Spelled.{Chained}
-use Rattle.rls_codec.specs.Reading.{◌>>=◌, Read, with_rule, byte_at, number_at, bytes_at, chain_at, counted_at}
+use Rattle.rls_codec.specs.Spelled.{Chained, IsSmall}
+use Rattle.rls_codec.specs.Reading.{◌>>=◌, Read, with_rule, byte_at, number_at, bytes_at, chain_at, counted_at, is_member_count}
 
 -- ---- lists of bytes
 
@@ -239,3 +239,9 @@ module _ {A : Type 0} (part : Option A → List ℕ → Read A) (spell : A → L
       fitting (λ xs. (length xs < 2 ^ 32) × Chained F None xs)
       (field length (number w32 (2 ^ 32) wide32) (λ n lt. chain None n) (λ n xs lt fits. fits.0))
       (λ xs fits. (fits.0, fits.1.1)) (λ xs fits. (fits.0, (refl, fits.1)))
+
+pub small_count : (n : ℕ) → is_member_count n ≡ true → IsSmall n
+small_count n e = omega (arith, leb-true n 64 (and_parts (ltb 0 n) (leb n 64) e).1)
+
+pub small_from : (from n : ℕ) → is_member_count n ≡ true → from < n → IsSmall from
+small_from from n e h = omega (arith, leb-true n 64 (and_parts (ltb 0 n) (leb n 64) e).1)

@@ -19,7 +19,7 @@ use Rattle.rls_ops.specs.Spelling.{runs_bytes, run_bytes, kind_of, name_bytes, b
 use Rattle.rls_codec.specs.Reading.{◌>>=◌, Read, runs_at, body_of_kind, body_at, op_fields_at, op_at, op_limit, next_run_at, magic_at, is_message_form, is_member_count, message_and_form_at, message_at, message_of, whole, placed, op_from}
 use Rattle.rls_codec.specs.Spelled.{IsSmall, Chained, FitsIdent, FitsBehind, FitRuns, FitsName, FitsText, FitsVector, FitsBody, IsSpelled, IsSpelledMessage}
 use Rattle.rls_codec.specs.CodecLaws.{IsBytes, IsMessage, BeginsAt}
-use Rattle.rls_codec.proofs.Formats.{IsBytes-drop, Takes, Spells, only_one, done, field, fitting, spelling, seen, ruled, byte, bind_ok, kept_false, ok_is, counted_parts, raw}
+use Rattle.rls_codec.proofs.Formats.{IsBytes-drop, Takes, Spells, only_one, done, field, fitting, spelling, seen, ruled, byte, bind_ok, kept_false, ok_is, counted_parts, raw, small_count, small_from}
 use Rattle.rls_codec.proofs.PartFormats.{small, large, ident, next_run, vector, name, text}
 use Rattle.rls_runs.proofs.RunsOf.{runs_of_idents}
 
@@ -186,14 +186,8 @@ message_and_form = spelling (λ x. message_in_form x.0 x.1)
     (λ x f. ((refl, refl), ((form_byte x.0 f.0, f.0), (f.1.group, ((small_count x.1.members f.1.members, f.1.members), ((small_from x.1.from x.1.members f.1.members f.1.from, lt-ltb x.1.from x.1.members f.1.from), (f.1.vector, ((f.1.count, f.1.ops), refl)))))))))
     (λ x f. refl)
   where
-    small_count : (n : ℕ) → is_member_count n ≡ true → IsSmall n
-    small_count n e = omega (arith, leb-true n 64 (and_parts (nat_lt 0 n) (nat_le n 64) e).1)
-
     form_byte : (n : ℕ) → is_message_form n ≡ true → n < 256
     form_byte n e = omega (arith, leb-true n 3 (and_parts (nat_lt 0 n) (nat_le n 3) e).1)
-
-    small_from : (from n : ℕ) → is_member_count n ≡ true → from < n → IsSmall from
-    small_from from n e h = omega (arith, leb-true n 64 (and_parts (nat_lt 0 n) (nat_le n 64) e).1)
 
 -- ---- the laws
 

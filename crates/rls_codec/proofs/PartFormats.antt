@@ -15,6 +15,7 @@ use Rattle.rls_ident.specs.declared.epoch_name.EpochName.{EpochName}
 use Rattle.rls_ident.specs.declared.epoch_name.EpochName.TheVariants.{Origin, Of}
 use Rattle.rls_ident.specs.Tuples.{pos_of, replica_of, seq_of, offset_of}
 use Rattle.rls_ident.specs.Identifiers.{least_offset, greatest_offset, last_of}
+use Rattle.rls_ident.proofs.Ends.{last_of_pushed}
 use Rattle.rls_runs.specs.Runs.{is_apart}
 use Rattle.rls_ops.specs.Spelling.{four_bytes, eight_bytes, signed_bytes, tuple_bytes, ident_bytes, run_bytes, name_bytes, text_bytes, vector_bytes}
 use Rattle.rls_codec.specs.Reading.{with_rule, number_at, signed_at, is_offset, spot_at, inner_of_kind, inner_at, last_at, ident_at, is_run_len, run_at, next_run_at, vector_at, name_of_kind, name_at, text_at}
@@ -170,11 +171,6 @@ front_of_pushed : (f : List Tuple) (l : Tuple) → front_of (f ++ l ∷ []) ≡ 
 front_of_pushed [] l = refl
 front_of_pushed (t ∷ []) l = refl
 front_of_pushed (t ∷ (u ∷ f)) l = ap (λ xs. t ∷ xs) (front_of_pushed (u ∷ f) l)
-
-last_of_pushed : (f : List Tuple) (l : Tuple) → last_of (f ++ l ∷ []) ≡ l
-last_of_pushed [] l = refl
-last_of_pushed (t ∷ []) l = refl
-last_of_pushed (t ∷ (u ∷ f)) l = last_of_pushed (u ∷ f) l
 
 length_of_front : (x : List Tuple) → FitTuples x → length x ≡ length (front_of x) + 1
 length_of_front [] f = absurd f

@@ -9,10 +9,9 @@ use Rattle.rls_ident.specs.Identifiers.{shifted}
 use Rattle.rls_ident.proofs.Members.{bool_cases, and_left, and_right, not_true, lt_is}
 use Rattle.rls_runs.specs.Runs.{run_idents, runs_of, run_last, is_apart, are_apart, idents_of, run_before}
 use Rattle.rls_runs.specs.Places.{last_ident, is_above, touches}
-use Rattle.rls_runs.proofs.RunsOf.{shifted_zero, shifted_shifted, runs_of_idents, apart_more, run_before_pushed}
+use Rattle.rls_runs.proofs.RunsOf.{shifted_zero, shifted_shifted, runs_of_idents, apart_more, run_before_pushed, idents_of_runs}
 use Rattle.rls_runs.proofs.RunJoins.{idents_pushed}
 use Rattle.rls_runs.proofs.Finding.{run_length}
-use Rattle.rls_ops.proofs.SameRuns.{idents_of_runs}
 use Rattle.rls_codec.specs.declared.fault.ReadError.{ReadError}
 use Rattle.rls_codec.specs.declared.fault.ReadError.TheVariants.{Fault}
 use Rattle.rls_codec.specs.declared.fault.ReadError.TheVariants as faults

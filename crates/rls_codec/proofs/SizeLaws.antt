@@ -17,6 +17,7 @@ use Rattle.rls_ops.specs.declared.op.Body.TheVariants.{Insert, Delete, Rename, L
 use Rattle.rls_ops.specs.declared.message.Message.{Message}
 use Rattle.rls_ops.specs.Spelling.{four_bytes, tuple_bytes, ident_bytes, run_bytes, runs_bytes, vector_bytes, name_bytes, text_bytes, kind_of, body_bytes, op_bytes, message_in_form, counted}
 use Rattle.rls_ops.specs.Sizes.{tuple_size, ident_size, run_size, runs_size, char_size, name_size, body_size, op_size, message_size}
+use Rattle.rls_ops.proofs.Sizes.{ops_within}
 use Rattle.rls_codec.specs.Gives.{IsShort}
 
 pub parts_length : {A : Type 0} (part : A → List ℕ) (size : A → ℕ) → ((x : A) → length (part x) ≡ size x) → (xs : List A) → length (flat_map part xs) ≡ sum_by size xs
@@ -117,13 +118,6 @@ pub short_op : (o : Op) → op_size o < 2 ^ 32 → IsShort o.body
 short_op o h = short_body o.body (omega (arith, h))
 
 -- ---- the operations of a message
-
-some_bytes : (o : Op) → 1 ≤ op_size o
-some_bytes o = omega arith
-
-ops_within : (os : List Op) → length os ≤ sum_by op_size os
-ops_within [] = omega arith
-ops_within (o ∷ os) = omega (arith, sum_by-cons op_size o os, some_bytes o, ops_within os)
 
 small_list : (os : List Op) → sum_by op_size os < 2 ^ 32 → All (λ o. op_size o < 2 ^ 32) os
 small_list [] h = λ k d lt. absurd (omega (arith, lt))

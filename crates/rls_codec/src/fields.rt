@@ -101,7 +101,7 @@ fn text_of(alloc: Global, text: &str) -> Result<Text, AllocError>
 }
 
 /// A text in UTF-8 behind its number of bytes. Bytes that aren't UTF-8 are a fault of the bytes, not of their number.
-#[tactic(auto, using(crate::proofs::Utf8::utf8_from_text, crate::proofs::Utf8::no_utf8), unfolding(crate::specs::Reading::text_at))]
+#[tactic(auto, using(rls_runs::proofs::Texts::utf8_from_text, rls_runs::proofs::Texts::no_utf8), unfolding(crate::specs::Reading::text_at))]
 pub fn text(alloc: Global, bytes: &[u8]) -> Result<(Text, &[u8]), ReadError>
     ensures read { Gives (λ x. (x.0, x.1.now)) result (text_at bytes.now) }
 {

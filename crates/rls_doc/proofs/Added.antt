@@ -15,50 +15,37 @@ use Rattle.rls_ident.specs.Lists.{IsIn}
 use Rattle.rls_ident.specs.Identifiers.{ident_cmp, ident_eq, ident_lt}
 use Rattle.rls_ident.proofs.Ends.{eq_same}
 use Rattle.rls_ident.proofs.Lists.{Lt, lt_irrefl, tri}
-use Rattle.rls_ident.proofs.Members.{bool_cases, in_left, in_right, in_split}
+use Rattle.rls_ident.proofs.Members.{bool_cases, in_left, in_right, in_split, equal_is, true_false, or_false, in_any}
 use Rattle.rls_ident.proofs.Tuples.{tuples, ident_same, ident_total}
+use Rattle.rls_ident.proofs.Ends.{eq_same, ident_eq_refl}
 use Rattle.rls_runs.specs.Runs.{is_increasing}
 use Rattle.rls_runs.specs.Entries.{put, put_all, idents_in, has_ident}
 use Rattle.rls_runs.proofs.RunOrder.{of_lt}
-use Rattle.rls_runs.proofs.Sorted.{Entry, IsBelow, AreAbove, Rises, AreApart, AreDistinct, AllApart, rises_all, in_put_all, put_all_in, same_rising, above_less}
+use Rattle.rls_runs.proofs.Sorted.{Entry, IsBelow, AreAbove, Rises, AreApart, AreDistinct, AllApart, rises_all, in_put_all, put_all_in, same_rising, above_less, rises_of_increasing, increasing_of_rises, distinct_of, apart_above}
 use Rattle.rls_doc.specs.Documents.{AreNew}
-use Rattle.rls_doc.proofs.Rising.{rising, increasing}
 
 -- ---- identifiers that differ
-
-equal_is : (o : Ordering) → is_eq o ≡ true → o ≡ Equal
-equal_is Less h = absurd (cc)
-equal_is Equal h = refl
-equal_is Greater h = absurd (cc)
-
-not_same : (b : Bool) → b ≡ true → b ≡ false → ⊥
-not_same b e f = absurd (cc)
-
-itself : (x : List Tuple) → ident_eq x x ≡ true
-itself x = ap is_eq (tied_itself ident_total x)
 
 apart_of : (e : Entry) (es : List Entry) → has_ident (idents_in es) e.0 ≡ false → AreApart e es
 apart_of e [] h = tt
 apart_of e (x ∷ es) h =
-    let p = parts (ident_eq x.0 e.0) (has_ident (idents_in es) e.0) h in
-    ((λ q. not_same (ident_eq x.0 e.0) (subst (λ z. ident_eq x.0 z ≡ true) (sym q) (itself x.0)) p.0), apart_of e es p.1)
-  where
-    parts : (b c : Bool) → (b || c) ≡ false → (b ≡ false) × (c ≡ false)
-    parts true c h = absurd (cc)
-    parts false c h = (refl, h)
+    let p = or_false (ident_eq x.0 e.0) (has_ident (idents_in es) e.0) h in
+    ((λ q. true_false (ident_eq x.0 e.0) (subst (λ z. ident_eq x.0 z ≡ true) (sym q) (ident_eq_refl x.0)) p.0), apart_of e es p.1)
 
 all_apart : (ids : List (List Tuple)) (cs : List ℕ) (es : List Entry) → AreNew ids (idents_in es) → AllApart (zip ids cs) es
 all_apart [] cs es h = tt
 all_apart (x ∷ ids) [] es h = tt
 all_apart (x ∷ ids) (c ∷ cs) es h = (apart_of (x, c) es h.0, all_apart ids cs es h.1)
 
-apart_above : (e : Entry) (es : List Entry) → AreAbove e es → AreApart e es
-apart_above e [] h = tt
-apart_above e (x ∷ es) h = ((λ q. lt_irrefl (subst (λ z. Lt tuples e.0 z) (sym q) h.0)), apart_above e es h.1)
-
-distinct : (es : List Entry) → Rises es → AreDistinct es
-distinct [] h = tt
-distinct (e ∷ es) h = (apart_above e es h.0, distinct es h.1)
+-- identifiers that aren't there are new
+pub are_new : (xs ys : List (List Tuple)) → ((x : List Tuple) → IsIn x xs → IsIn x ys → ⊥) → AreNew xs ys
+are_new [] ys h = tt
+are_new (x ∷ xs) ys h = (
+  bool_cases (has_ident ys x)
+      (λ e. let p = in_any (λ y. ident_eq y x) ys e in absurd (h x (inl refl) (subst (λ z. IsIn z ys) (eq_same p.0 x p.2) p.1)))
+      (λ e. e),
+  are_new xs ys (λ z p. h z (inr p)),
+)
 
 -- ---- a strictly increasing list with the elements of both
 
@@ -75,8 +62,8 @@ pub added_behind : (ids : List (List Tuple)) (cs : List ℕ) (es added : List En
     → is_increasing (idents_in (es ++ added)) ≡ true → es ++ added ≡ put_all (zip ids cs) es
 added_behind ids cs es added z n h a r s =
     ap (λ xs. es ++ xs) z
-    ∙ put_in_order (zip ids cs) es (es ++ zip ids cs) (rising es r) (distinct (zip ids cs) (rising (zip ids cs) (increasing_zip ids cs n h))) (all_apart ids cs es a)
-    (rising (es ++ zip ids cs) (ap (λ xs. is_increasing (idents_in (es ++ xs))) (sym z) ∙ s)) (λ e p. p) (λ e p. p)
+    ∙ put_in_order (zip ids cs) es (es ++ zip ids cs) (rises_of_increasing es r) (distinct_of (zip ids cs) (rises_of_increasing (zip ids cs) (increasing_zip ids cs n h))) (all_apart ids cs es a)
+    (rises_of_increasing (es ++ zip ids cs) (ap (λ xs. is_increasing (idents_in (es ++ xs))) (sym z) ∙ s)) (λ e p. p) (λ e p. p)
 
 -- ---- how often an identifier stands in a list
 
@@ -124,7 +111,7 @@ rises_once x (e ∷ es) h =
     let p = sum_by-cons (same x) e es in
     let k = rises_once x es h.1 in
     bool_cases (ident_eq e.0 x)
-    (λ q. let z : times x es ≡ 0 = subst (λ w. times w es ≡ 0) (ident_same e.0 x (equal_is (ident_cmp e.0 x) q)) (none_above e es h.0) in
+    (λ q. let z : times x es ≡ 0 = subst (λ w. times w es ≡ 0) (eq_same e.0 x q) (none_above e es h.0) in
     let n : same x e ≡ 1 = ap (λ b. if b then 1 else 0) q in
     omega arith)
     (λ q. let n : same x e ≡ 0 = ap (λ b. if b then 1 else 0) q in omega arith)
@@ -136,14 +123,14 @@ rises_sorted (y ∷ []) h s = (tt, tt)
 rises_sorted (y ∷ (z ∷ es)) h s =
     let p = sum_by-cons (same y.0) y (z ∷ es) in
     let q = sum_by-cons (same y.0) z es in
-    let one : same y.0 y ≡ 1 = ap (λ b. if b then 1 else 0) (itself y.0) in
-    let l : IsBelow y z = ⊎_elim (λ l. l) (λ r. ⊎_elim (λ e. absurd (twice p q one (h y.0) e)) (λ g. absurd (not_same (ident_lt z.0 y.0) (of_lt z.0 y.0 g) (s 0 y (omega arith) (omega arith)))) r) (tri tuples y.0 z.0) in
+    let one : same y.0 y ≡ 1 = ap (λ b. if b then 1 else 0) (ident_eq_refl y.0) in
+    let l : IsBelow y z = ⊎_elim (λ l. l) (λ r. ⊎_elim (λ e. absurd (twice p q one (h y.0) e)) (λ g. absurd (true_false (ident_lt z.0 y.0) (of_lt z.0 y.0 g) (s 0 y (omega arith) (omega arith)))) r) (tri tuples y.0 z.0) in
     let r = rises_sorted (z ∷ es) (λ x. let k = sum_by-cons (same x) y (z ∷ es) in let m = h x in omega arith) (λ k d a b. let e : suc k + 1 ≡ suc (k + 1) = omega arith in subst (λ m. ident_lt (get_or (y ∷ (z ∷ es)) m d).0 (get_or (z ∷ es) k d).0 ≡ false) e (s (suc k) d (omega arith) (omega arith))) in
     ((l, above_less y z es l r.0), r)
   where
     twice : times y.0 (y ∷ (z ∷ es)) ≡ same y.0 y + times y.0 (z ∷ es) → times y.0 (z ∷ es) ≡ same y.0 z + times y.0 es → same y.0 y ≡ 1 → times y.0 (y ∷ (z ∷ es)) ≤ 1 → y.0 ≡ z.0 → ⊥
     twice p q one h e =
-        let two : same y.0 z ≡ 1 = ap (λ b. if b then 1 else 0) (ap (λ w. ident_eq w y.0) (sym e) ∙ itself y.0) in
+        let two : same y.0 z ≡ 1 = ap (λ b. if b then 1 else 0) (ap (λ w. ident_eq w y.0) (sym e) ∙ ident_eq_refl y.0) in
         omega arith
 
 -- ---- the elements of a permutation
@@ -165,15 +152,15 @@ moved x xs ys h p = let r = Contains-permutation xs ys x h (contains x xs p) in 
 added_sorted : (ids : List (List Tuple)) (cs : List ℕ) (es all : List Entry) → length ids ≡ length cs → is_increasing ids ≡ true → AreNew ids (idents_in es) → is_increasing (idents_in es) ≡ true
     → IsSortedBy (λ (x y : Entry). ident_lt x.0 y.0) all → IsPermutation (es ++ zip ids cs) all → Rises all × (all ≡ put_all (zip ids cs) es)
 added_sorted ids cs es all n h a r s p =
-    let d = distinct (zip ids cs) (rising (zip ids cs) (increasing_zip ids cs n h)) in
+    let d = distinct_of (zip ids cs) (rises_of_increasing (zip ids cs) (increasing_zip ids cs n h)) in
     let b = all_apart ids cs es a in
     let once : (x : List Tuple) → times x all ≤ 1 = λ x.
-    let c = rises_once x (put_all (zip ids cs) es) (rises_all (zip ids cs) es (rising es r) d b) in
+    let c = rises_once x (put_all (zip ids cs) es) (rises_all (zip ids cs) es (rises_of_increasing es r) d b) in
     let e = times_put_all x (zip ids cs) es in
     let f = sum_by-IsPermutation (same x) (es ++ zip ids cs) all p in
     omega arith in
     let up = rises_sorted all once s in
-    (up, put_in_order (zip ids cs) es all (rising es r) d b up (λ z q. moved z all (es ++ zip ids cs) (IsPermutation-sym (es ++ zip ids cs) all p) q) (λ z q. moved z (es ++ zip ids cs) all p q))
+    (up, put_in_order (zip ids cs) es all (rises_of_increasing es r) d b up (λ z q. moved z all (es ++ zip ids cs) (IsPermutation-sym (es ++ zip ids cs) all p) q) (λ z q. moved z (es ++ zip ids cs) all p q))
 
 pub sorted_is : (ids : List (List Tuple)) (cs : List ℕ) (es added all : List Entry) → added ≡ zip ids cs → length ids ≡ length cs → is_increasing ids ≡ true → AreNew ids (idents_in es) → is_increasing (idents_in es) ≡ true
     → IsSortedBy (λ (x y : Entry). ident_lt x.0 y.0) all → IsPermutation (es ++ added) all → all ≡ put_all (zip ids cs) es
@@ -181,4 +168,4 @@ sorted_is ids cs es added all z n h a r s p = (added_sorted ids cs es all n h a 
 
 pub sorted_rises : (ids : List (List Tuple)) (cs : List ℕ) (es added all : List Entry) → added ≡ zip ids cs → length ids ≡ length cs → is_increasing ids ≡ true → AreNew ids (idents_in es) → is_increasing (idents_in es) ≡ true
     → IsSortedBy (λ (x y : Entry). ident_lt x.0 y.0) all → IsPermutation (es ++ added) all → is_increasing (idents_in all) ≡ true
-sorted_rises ids cs es added all z n h a r s p = increasing all (added_sorted ids cs es all n h a r s (subst (λ xs. IsPermutation (es ++ xs) all) z p)).0
+sorted_rises ids cs es added all z n h a r s p = increasing_of_rises all (added_sorted ids cs es all n h a r s (subst (λ xs. IsPermutation (es ++ xs) all) z p)).0

@@ -1,18 +1,24 @@
 -- The place of an identifier among entries, and the runs of entries.
-use Rattle.std.proofs.Common.{◌≡◌, ℕ, zero, suc, ◌+◌, ◌<◌, ◌≤◌, Bool, true, false, List, [], ◌∷◌, length, drop, Some, Ok, Err, slice_get, refl, sym, ap, subst, ◌∙◌, arith, inl, inr}
-use Rattle.std.specs.Prelude.{not, if◌then◌else◌}
+use Rattle.std.proofs.Common.{◌≡◌, ℕ, zero, suc, ◌+◌, ◌<◌, ◌≤◌, Bool, true, false, List, [], ◌∷◌, length, drop, Some, Ok, Err, slice_get, refl, sym, ap, subst, ◌∙◌, arith, inl, inr, ◌||◌, ◌&&◌, not, map, Result}
+use Rattle.std.specs.Prelude.{not, if◌then◌else◌, slice_get, slice_index, is_ok}
 use Rattle.std.specs.declared.cmp.Ordering.TheVariants.{Less, Equal, Greater}
 use Rattle.std.proofs.lemmas.Cmp.{tied_itself}
+use Rattle.std.specs.List.{list_any}
+use Rattle.std.specs.declared.cmp.Ordering.{Ordering}
+use Rattle.std.specs.Ordering.{is_eq, ordering_reverse}
 use Rattle.rls_ident.specs.declared.tuple.Tuple.{Tuple}
 use Rattle.rls_ident.specs.Lists.{IsIn}
-use Rattle.rls_ident.specs.Identifiers.{ident_cmp, follows}
-use Rattle.rls_ident.proofs.Lists.{Lt, lt_trans}
+use Rattle.rls_ident.specs.Identifiers.{ident_cmp, follows, IsIdent, ident_eq}
+use Rattle.rls_ident.proofs.Lists.{Lt, lt_trans, flipped}
 use Rattle.rls_ident.proofs.Tuples.{tuples, ident_same, ident_total}
-use Rattle.rls_ident.proofs.Members.{some_is}
-use Rattle.rls_runs.specs.Runs.{is_increasing, place_from, place_of, placed, put_run, runs_of}
-use Rattle.rls_runs.specs.Entries.{idents_in}
-use Rattle.rls_runs.proofs.Sorted.{Entry, Rises, above_at}
-use Rattle.rls_doc.proofs.Rising.{rising}
+use Rattle.rls_ident.proofs.Members.{some_is, filter_in, not_le_test}
+use Rattle.rls_ident.specs.declared.epoch_name.EpochName.{EpochName}
+use Rattle.rls_ident.proofs.Loops.{drop_reads}
+use Rattle.rls_ident.proofs.Agreeing.{any_same}
+use Rattle.rls_runs.specs.Runs.{is_increasing, place_from, place_of, placed, put_run, runs_of, AreIdents}
+use Rattle.rls_runs.specs.Entries.{idents_in, Entries, has_ident}
+use Rattle.rls_runs.proofs.Sorted.{Entry, Rises, above_at, rises_of_increasing, AreAbove}
+use Rattle.rls_runs.specs.Places.{find_ident, below_count}
 
 in_from : (es : List Entry) (i : ℕ) (e : Entry) → slice_get es i ≡ Some e → IsIn e es
 in_from [] i e h = absurd (cc)
@@ -47,11 +53,11 @@ pub place_behind : (x : List Tuple) (es : List Entry) (m : ℕ) (e : Entry) → 
 unfolding place_of
 place_behind x es m e h g q =
     let s : suc m ≡ m + 1 = omega arith in
-    ap (λ k. place_from k x (idents_in (drop k es))) (sym s) ∙ ap (λ k. place_from k x (idents_in (drop (suc m) es))) (omega arith) ∙ sym (less_at 0 es m e x (rising es h) g (record { less = q }))
+    ap (λ k. place_from k x (idents_in (drop k es))) (sym s) ∙ ap (λ k. place_from k x (idents_in (drop (suc m) es))) (omega arith) ∙ sym (less_at 0 es m e x (rises_of_increasing es h) g (record { less = q }))
 
 pub place_found : (x : List Tuple) (es : List Entry) (m : ℕ) (e : Entry) → is_increasing (idents_in es) ≡ true → slice_get es m ≡ Some e → ident_cmp e.0 x ≡ Equal → Ok m ≡ place_of x (idents_in es)
 unfolding place_of
-place_found x es m e h g q = ap (λ k. Ok k) (omega arith) ∙ sym (same_at 0 es m e (rising es h) g) ∙ ap (λ z. place_from 0 z (idents_in es)) (ident_same e.0 x q)
+place_found x es m e h g q = ap (λ k. Ok k) (omega arith) ∙ sym (same_at 0 es m e (rises_of_increasing es h) g) ∙ ap (λ z. place_from 0 z (idents_in es)) (ident_same e.0 x q)
 
 -- nothing is below the first one, from place i on, which is above x
 pub place_ends : (x : List Tuple) (es : List Entry) (i : ℕ) → ((e : Entry) → slice_get es i ≡ Some e → ident_cmp e.0 x ≡ Greater) → place_from i x (idents_in (drop i es)) ≡ place_of x (idents_in es) → Err i ≡ place_of x (idents_in es)
@@ -116,3 +122,13 @@ run_ends es i g h =
     at zero (x ∷ []) g h = refl
     at zero (x ∷ (y ∷ es)) g h = absurd (omega arith)
     at (suc i) (x ∷ es) g h = at i es (omega arith) (omega arith)
+
+-- ---- whether it is there
+
+-- where an identifier is found
+pub found_known : (xs : List (List Tuple)) (x : List Tuple) → is_ok (find_ident xs x) ≡ has_ident xs x
+found_known xs x = go (has_ident xs x)
+  where
+    go : (b : Bool) → is_ok (if b then Ok (below_count xs x) else Err (below_count xs x)) ≡ b
+    go true = refl
+    go false = refl

@@ -11,42 +11,14 @@ use Rattle.rls_runs.specs.Runs.{is_increasing}
 use Rattle.rls_runs.specs.Entries.{idents_in, with_idents}
 use Rattle.rls_runs.specs.Places.{last_ident, is_above}
 use Rattle.rls_runs.proofs.RunOrder.{lt_of, of_lt}
-use Rattle.rls_runs.proofs.Sorted.{Entry, IsBelow, AreAbove, Rises, above_less}
+use Rattle.rls_runs.proofs.Sorted.{Entry, IsBelow, AreAbove, Rises, above_less, rises_of_increasing, increasing_of_rises, rises_filter}
+pub use Rattle.rls_runs.proofs.Sorted.{rises_of_increasing as rising, increasing_of_rises as increasing}
 use Rattle.rls_doc.specs.Documents.{KeepsOrder}
-
-pub rising : (es : List Entry) → is_increasing (idents_in es) ≡ true → Rises es
-rising [] h = tt
-rising (x ∷ []) h = (tt, tt)
-rising (x ∷ (y ∷ es)) h =
-    let l : IsBelow x y = lt_of x.0 y.0 (and_left (ident_lt x.0 y.0) (is_increasing (idents_in (y ∷ es))) h) in
-    let r = rising (y ∷ es) (and_right (ident_lt x.0 y.0) (is_increasing (idents_in (y ∷ es))) h) in
-    ((l, above_less x y es l r.0), r)
-
-pub increasing : (es : List Entry) → Rises es → is_increasing (idents_in es) ≡ true
-increasing [] h = refl
-increasing (x ∷ []) h = refl
-increasing (x ∷ (y ∷ es)) h = and_true (ident_lt x.0 y.0) (is_increasing (idents_in (y ∷ es))) (of_lt x.0 y.0 h.0.0) (increasing (y ∷ es) h.1)
 
 -- ---- some of the entries
 
-above_filter : (t : Entry → Bool) (x : Entry) (es : List Entry) → AreAbove x es → AreAbove x (filter t es)
-above_filter t x [] h = tt
-above_filter t x (y ∷ es) h = go (t y) (above_filter t x es h.1)
-  where
-    go : (b : Bool) → AreAbove x (filter t es) → AreAbove x (cond b (y ∷ filter t es) (filter t es))
-    go true k = (h.0, k)
-    go false k = k
-
-rises_filter : (t : Entry → Bool) (es : List Entry) → Rises es → Rises (filter t es)
-rises_filter t [] h = tt
-rises_filter t (x ∷ es) h = go (t x) (rises_filter t es h.1)
-  where
-    go : (b : Bool) → Rises (filter t es) → Rises (cond b (x ∷ filter t es) (filter t es))
-    go true k = (above_filter t x es h.0, k)
-    go false k = k
-
 pub increasing_filter : (t : Entry → Bool) (es : List Entry) → is_increasing (idents_in es) ≡ true → is_increasing (idents_in (filter t es)) ≡ true
-increasing_filter t es h = increasing (filter t es) (rises_filter t es (rising es h))
+increasing_filter t es h = increasing_of_rises (filter t es) (rises_filter t es (rises_of_increasing es h))
 
 -- ---- other identifiers in the same order
 
@@ -92,7 +64,7 @@ rises_take (suc n) [] h = tt
 rises_take (suc n) (x ∷ es) h = (above_take x n es h.0, rises_take n es h.1)
 
 pub increasing_part : (from count : ℕ) (es : List Entry) → is_increasing (idents_in es) ≡ true → is_increasing (idents_in (take count (drop from es))) ≡ true
-increasing_part from count es h = increasing (take count (drop from es)) (rises_take count (drop from es) (above_drop from es (rising es h)))
+increasing_part from count es h = increasing_of_rises (take count (drop from es)) (rises_take count (drop from es) (above_drop from es (rises_of_increasing es h)))
 
 pub idents_part : (from count : ℕ) (es : List Entry) → idents_in (take count (drop from es)) ≡ take count (drop from (idents_in es))
 idents_part from count es = taken count (drop from es) ∙ ap (take count) (dropped from es)

@@ -262,6 +262,3 @@ at_most_one m h = not_true (nat_lt 1 m) (λ q. let x = lt_is 1 m q in absurd (om
 pub dropped_get : (ms : List ℕ) (i : ℕ) → i + 1 < length ms → slice_get (drop 1 ms) i ≡ Some (get_or ms (i + 1) 0)
 dropped_get [] i h = absurd (omega arith)
 dropped_get (m ∷ ms) i h = let e : i + 1 ≡ suc i = omega arith in slice_get-get_or ms i 0 (omega arith) ∙ ap (λ (j : ℕ). Some (get_or (m ∷ ms) j 0)) (sym e)
-
-pub former_get : (ps : List Placed) (i : ℕ) → i < length ps → (p : Placed) × (slice_get ps i ≡ Some p)
-former_get ps i h = get_of ps i h

@@ -1,7 +1,8 @@
 -- How many marks there are.
-use Rattle.std.proofs.Common.{◌≡◌, ℕ, zero, suc, ◌+◌, ◌<◌, ◌≤◌, true, false, cond, List, [], ◌∷◌, length, take, set, refl, sym, ap, ◌∙◌, arith, nat_lt}
+use Rattle.std.proofs.Common.{◌≡◌, ℕ, zero, suc, ◌+◌, ◌<◌, ◌≤◌, true, false, cond, List, [], ◌∷◌, length, take, set, refl, sym, ap, ◌∙◌, arith, nat_lt, ◌⊎◌, inl, inr, ⊎_elim}
 use Rattle.std.specs.Prelude.{count_by}
 use Rattle.std.proofs.lemmas.List.Recursion.{is_count_by}
+use Rattle.std.proofs.lemmas.Bool.{cases_lt}
 use Rattle.rls_ident.proofs.Members.{lt_is, lt_test, not_lt_is}
 use Rattle.rls_epoch.specs.Marks.{has_mark, mark_count}
 
@@ -103,3 +104,8 @@ count_most ms zero = omega arith
 count_most [] (suc n) = omega arith
 count_most (zero ∷ ms) (suc n) = omega (arith, count_most ms n)
 count_most (suc m ∷ ms) (suc n) = omega (arith, count_most ms n)
+
+pub set_from : (ms : List ℕ) (u n : ℕ) → has_mark (set ms u 1) n ≡ true → (n ≡ u) ⊎ (has_mark ms n ≡ true)
+set_from ms u n q =
+    ⊎_elim (λ l. inr (sym (mark_other ms u n (λ e. let x : n ≡ u = e in omega arith)) ∙ q))
+    (λ l. ⊎_elim (λ k. inr (sym (mark_other ms u n (λ e. let x : n ≡ u = e in omega arith)) ∙ q)) (λ k. inl (omega arith)) (cases_lt u n)) (cases_lt n u)

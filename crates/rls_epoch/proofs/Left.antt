@@ -11,18 +11,19 @@ use Rattle.rls_rename.specs.Renaming.{Renaming}
 use Rattle.rls_rename.specs.Tree.{Node, has_node, is_kept, names, epoch_cmp}
 use Rattle.rls_rename.specs.Connected.{in_order, is_spanned, spanned, spanned_renamings}
 use Rattle.rls_rename.specs.Keeping.{kept_nodes}
-use Rattle.rls_rename.proofs.Hull.{in_spanned, kept_in, needed_spanned, spanned_in, top_kept}
+use Rattle.rls_rename.proofs.Hull.{in_spanned, kept_in, needed_spanned, spanned_in}
 use Rattle.rls_rename.proofs.Ordered.{IsBelowAll, Rises, same_rising, spanned_rises}
 use Rattle.rls_rename.proofs.Windows.{cmp_window, keep_kept, kept-renamings, kept_keep, kept_window, none_below}
+use Rattle.rls_rename.proofs.Kept.{top_kept}
 use Rattle.rls_epoch.specs.declared.placed.Placed.{Placed}
 use Rattle.rls_epoch.specs.Links.{epoch_at}
 use Rattle.rls_epoch.specs.Marks.{has_mark, AreNamed, AreNumbered, AreSpread, numbered, kept_names, kept_placed, kept_places, kept_sum}
 use Rattle.rls_epoch.specs.Seen.{former_sum, nodes_of, rising_epochs, AreLaid}
 use Rattle.rls_epoch.specs.Sorted.{place_name, names_at, IsBefore, AreRising, AreSorted}
 use Rattle.rls_epoch.proofs.Added.{epoch_after}
-use Rattle.rls_epoch.proofs.Needed.{places_not_top, set_from}
+use Rattle.rls_epoch.proofs.Needed.{places_not_top}
 use Rattle.rls_epoch.proofs.Compacting.{numbered_length}
-use Rattle.rls_epoch.proofs.Counting.{mark_kept, mark_set}
+use Rattle.rls_epoch.proofs.Counting.{mark_kept, mark_set, set_from}
 use Rattle.rls_epoch.proofs.Numbers.{kept_former}
 use Rattle.rls_epoch.proofs.Orders.{in_sorted, sorted_in}
 use Rattle.rls_epoch.proofs.Shrinking.{laid_kept, nodes_kept, order_kept, place_new, top_is_kept, window}

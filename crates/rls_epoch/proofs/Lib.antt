@@ -4,7 +4,6 @@ pub mod Found
 pub mod Laid
 pub mod Meeting
 pub mod Reading
-pub mod RunsAgain
 pub mod Sorting
 pub mod Ordering
 pub mod Orders

@@ -13,6 +13,7 @@ use Rattle.rls_ident.proofs.Named.{name_eq_is, name_eq_refl}
 use Rattle.rls_rename.specs.Tree.{Node, name_of, is_of, has_node, AreNodes, AreBelow, epoch_cmp, names}
 use Rattle.rls_rename.specs.Connected.{in_order, put_epoch}
 use Rattle.rls_rename.proofs.SameNodes.{node_named}
+use Rattle.rls_rename.proofs.Ordered.{length-in_order}
 use Rattle.rls_epoch.specs.declared.placed.Placed.{Placed}
 use Rattle.rls_epoch.specs.Links.{epoch_at, up_at}
 use Rattle.rls_epoch.specs.Seen.{node_for, node_of, nodes_of, rising_epochs, AreLaid}
@@ -77,18 +78,6 @@ place_found top ps order s (suc k) i z h c =
 
 -- ---- as many as there are
 
-put_length : (ns : List Node) (e : EpochName) (es : List EpochName) → length (put_epoch ns e es) ≡ suc (length es)
-put_length ns e [] = refl
-put_length ns e (f ∷ es) = go (is_lt (epoch_cmp ns f e)) (put_length ns e es)
-  where
-    go : (b : Bool) → length (put_epoch ns e es) ≡ suc (length es) → length (if b then f ∷ put_epoch ns e es else e ∷ f ∷ es) ≡ suc (suc (length es))
-    go true h = ap suc h
-    go false h = refl
-
-order_size : (ns : List Node) (es : List EpochName) → length (in_order ns es) ≡ length es
-order_size ns [] = refl
-order_size ns (e ∷ es) = put_length ns e (in_order ns es) ∙ ap suc (order_size ns es)
-
 names_length : (ns : List Node) → length (names ns) ≡ length ns
 names_length [] = refl
 names_length (n ∷ ns) = ap suc (names_length ns)
@@ -100,7 +89,7 @@ pub order_length : (top : EpochName) (ps : List Placed) → AreLaid top ps → (
 order_length top ps l order s =
     let N = nodes_of ps in
     let a = ap length (rising_is top ps l order s) in
-    let b = order_size N (top ∷ names N) in
+    let b = length-in_order N (top ∷ names N) in
     let c = names_length N in
     let d = length-map order (place_name ps) in
     let e = nodes_length ps in

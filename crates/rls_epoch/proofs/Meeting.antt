@@ -12,6 +12,7 @@ use Rattle.rls_ident.specs.declared.epoch_name.EpochName.{EpochName}
 use Rattle.rls_ident.specs.EpochNames.{name_eq}
 use Rattle.rls_ident.proofs.Named.{name_eq_is, name_eq_refl}
 use Rattle.rls_ident.proofs.Members.{not_true, some_is, true_false}
+use Rattle.rls_ident.proofs.Lists.{then_decided}
 use Rattle.rls_rename.specs.Renaming.{Renaming}
 use Rattle.rls_rename.specs.Tree.{Node, name_of, is_of, has_node, AreNodes, path, renaming_cmp, epoch_cmp}
 use Rattle.rls_rename.proofs.Growth.{path_child, path_other}
@@ -50,11 +51,6 @@ not_tied R S h q =
     head : List EpochName → EpochName
     head [] = name_of R
     head (e ∷ es) = e
-
-then_decided : (o p : Ordering) → (o ≡ Equal → ⊥) → ordering_then o p ≡ o
-then_decided Less p h = refl
-then_decided Equal p h = absurd (h refl)
-then_decided Greater p h = refl
 
 -- where they have met
 side_is : (Xs Ys : List Renaming) → AreApart Xs Ys → side_cmp (below_of Xs) (below_of Ys) ≡ slice_cmp renaming_cmp Xs Ys

@@ -12,17 +12,20 @@ use Rattle.rls_ident.proofs.Members.{and_left, and_right, and_true, lt_test}
 use Rattle.rls_rename.specs.Renaming.{IsFormer, Renaming, back, forward}
 use Rattle.rls_rename.specs.Tree.{AreNodes}
 use Rattle.rls_rename.proofs.Paths.{renaming_iso}
+use Rattle.rls_rename.proofs.Former.{former_in}
 use Rattle.rls_runs.specs.Runs.{run_idents, runs_of, idents_of, is_increasing, is_run, AreIdents, IsImage}
 use Rattle.rls_runs.specs.Places.{last_ident, is_above}
 use Rattle.rls_runs.proofs.RunOrder.{run_some, idents_append, all_idents}
 use Rattle.rls_runs.proofs.RunPlaces.{split_at, within_total}
+use Rattle.rls_runs.proofs.RunsOf.{idents_of_runs}
+use Rattle.rls_runs.proofs.RunsApart.{apart_runs}
 use Rattle.rls_epoch.specs.declared.placed.Placed.{Placed}
 use Rattle.rls_epoch.specs.declared.ways.Step.{Step}
 use Rattle.rls_epoch.specs.declared.ways.Step.TheVariants.{Back, Forward}
 use Rattle.rls_epoch.specs.Seen.{node_of, nodes_of}
 use Rattle.rls_epoch.specs.Ways.{place_of_step, step_map, led}
-use Rattle.rls_epoch.proofs.RunsAgain.{idents_again, apart_again}
-use Rattle.rls_epoch.proofs.Steps.{back_read, forward_read, got, node_in, former_in, back_step, forward_step}
+use Rattle.rls_epoch.proofs.Steps.{back_read, forward_read, node_in, back_step, forward_step}
+use Rattle.rls_epoch.proofs.Sorting.{get_of}
 
 -- ---- the order of lists
 
@@ -80,12 +83,12 @@ increasing_map f k (x ∷ (y ∷ xs)) a =
 
 pub step_order : (ps : List Placed) → AreNodes (nodes_of ps) → (s : Step) → place_of_step s < length ps → KeepsOrder (step_map ps s)
 step_order ps d (Back j) h x y i l =
-    let p = got ps j h in
+    let p = get_of ps j h in
     let f = former_in (nodes_of ps) d (node_of p.0) (node_in ps j p.0 p.1) in
     ap (λ z. ident_cmp z (step_map ps (Back j) y)) (back_step ps j p.0 p.1 x)
     ∙ (ap (ident_cmp _) (back_step ps j p.0 p.1 y) ∙ kept (inverse (renaming_iso (p.0).renaming f)) x y i l)
 step_order ps d (Forward j) h x y i l =
-    let p = got ps j h in
+    let p = get_of ps j h in
     let f = former_in (nodes_of ps) d (node_of p.0) (node_in ps j p.0 p.1) in
     ap (λ z. ident_cmp z (step_map ps (Forward j) y)) (forward_step ps j p.0 p.1 x)
     ∙ (ap (ident_cmp _) (forward_step ps j p.0 p.1 y) ∙ kept (renaming_iso (p.0).renaming f) x y i l)
@@ -150,7 +153,7 @@ image_agrees f g h r runs u i = record { idents = i.idents ∙ map_agrees f g h 
 
 -- the maximal runs of the image
 pub image_maximal : (f : List Tuple → List Tuple) (r : List Tuple × ℕ) (xs : List (List Tuple)) → xs ≡ map f (run_idents r.0 r.1) → is_increasing xs ≡ true → IsImage f r (runs_of xs)
-image_maximal f r xs e h = record { idents = idents_again xs ∙ e; apart = apart_again xs h }
+image_maximal f r xs e h = record { idents = idents_of_runs xs ∙ e; apart = apart_runs xs h }
 
 -- what holds of an answer, holds of it otherwise said
 pub if_ok : {A E : Type 0} (P Q : A → Type 0) → ((x : A) → P x → Q x) → (o : Result A E) → IfOk o P → IfOk o Q

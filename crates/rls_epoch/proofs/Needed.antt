@@ -24,7 +24,7 @@ use Rattle.rls_epoch.specs.Marks.{has_mark, mark_count, AreMarked, AreNamed, Are
 use Rattle.rls_epoch.specs.Seen.{nodes_of, AreLaid}
 use Rattle.rls_epoch.specs.Sorted.{place_name, names_at, AreRising, AreSorted}
 use Rattle.rls_epoch.proofs.Added.{epoch_after}
-use Rattle.rls_epoch.proofs.Counting.{mark_kept, mark_other, mark_set, some_count}
+use Rattle.rls_epoch.proofs.Counting.{mark_kept, mark_other, mark_set, some_count, set_from}
 use Rattle.rls_epoch.proofs.Orders.{kept_place, place_kept, within_at, within_none}
 use Rattle.rls_epoch.proofs.Sorting.{before_at, rising_across, rising_right}
 use Rattle.rls_epoch.proofs.Spreading.{number_kept, number_same}
@@ -98,11 +98,6 @@ pub record ArePassed (old ms : List ℕ) (later : List ℕ) : Type 0 where
 
 pub passed_none : (old : List ℕ) → ArePassed old old []
 passed_none old = record { kept = λ n q. q; from = λ n q. inl q; onto = λ k p. absurd p }
-
-pub set_from : (ms : List ℕ) (u n : ℕ) → has_mark (set ms u 1) n ≡ true → (n ≡ u) ⊎ (has_mark ms n ≡ true)
-set_from ms u n q =
-    ⊎_elim (λ l. inr (sym (mark_other ms u n (λ e. let x : n ≡ u = e in omega arith)) ∙ q))
-    (λ l. ⊎_elim (λ k. inr (sym (mark_other ms u n (λ e. let x : n ≡ u = e in omega arith)) ∙ q)) (λ k. inl (omega arith)) (cases_lt u n)) (cases_lt n u)
 
 pub passed_more : (old ms : List ℕ) (k : ℕ) (later : List ℕ) → suc k < length ms → ArePassed old ms later → ArePassed old (set ms (suc k) 1) (k ∷ later)
 passed_more old ms k later h a = record {

@@ -10,11 +10,6 @@ use Rattle.rls_rename.specs.Tree.{Node, name_of, has_node, is_kept, AreNodes, Ar
 use Rattle.rls_rename.proofs.Kept.{greatest_kept}
 use Rattle.rls_epoch.proofs.GreatestAdded.{greatest_added}
 
--- the name is neither that of the topmost epoch nor that of a node
-pub split : (a b : Bool) → (a || b) ≡ false → (a ≡ false) × (b ≡ false)
-split true b h = absurd (cc)
-split false b h = (refl, h)
-
 -- the name of the new node is not that of a kept epoch
 pub apart : (top : EpochName) (nodes : List Node) (n e : EpochName) → is_kept top nodes n ≡ false → is_kept top nodes e ≡ true → name_eq n e ≡ false
 apart top nodes n e f k = bool_cases (name_eq n e) (λ q. absurd (true_false (is_kept top nodes e) k (ap (is_kept top nodes) (sym (name_eq_is n e q)) ∙ f))) (λ q. q)

@@ -9,7 +9,7 @@ use Rattle.rls_ident.proofs.Named.{name_eq_refl}
 use Rattle.rls_rename.specs.Renaming.{Renaming}
 use Rattle.rls_rename.specs.Tree.{Node, has_node, is_kept, path, name_of}
 use Rattle.rls_rename.specs.Connected.{top_path, is_spanned}
-use Rattle.rls_rename.proofs.Hull.{IsFront, cons_tail, front_refl, front_trans, front_none, top_front, top_most, spanned_is, is_spanned_of, path_same}
+use Rattle.rls_rename.proofs.Hull.{IsFront, cons_tail, front_refl, front_trans, front_none, top_front, top_most, spanned_is, is_spanned_of, path_same, front_cons, cons_head, front_tail, snoc_front}
 use Rattle.rls_rename.proofs.SameNodes.{path_member, path_top}
 use Rattle.rls_rename.proofs.Windows.{both_fronts}
 use Rattle.rls_epoch.specs.declared.placed.Placed.{Placed}
@@ -17,36 +17,13 @@ use Rattle.rls_epoch.specs.Links.{epoch_at, up_at}
 use Rattle.rls_epoch.specs.Marks.{has_mark, AreMarked, AreSpread}
 use Rattle.rls_epoch.specs.Seen.{node_of, nodes_of, AreLaid}
 use Rattle.rls_epoch.specs.Sorted.{place_name}
-use Rattle.rls_epoch.proofs.Counting.{mark_kept, mark_other, mark_set}
+use Rattle.rls_epoch.proofs.Counting.{mark_kept, mark_other, mark_set, set_from}
 use Rattle.rls_epoch.proofs.Found.{up_earlier}
 use Rattle.rls_epoch.proofs.Meeting.{at_is, places_apart}
 use Rattle.rls_epoch.proofs.Orders.{place_kept}
 use Rattle.rls_epoch.proofs.Reading.{name_read, up_read}
 use Rattle.rls_epoch.proofs.Sorting.{get_of}
 use Rattle.rls_epoch.proofs.Steps.{node_in}
-
--- ---- fronts of paths
-
-front_cons : (R : Renaming) (p x : List Renaming) → IsFront p x → IsFront (R ∷ p) (R ∷ x)
-front_cons R p x h = (h.0, ap (λ y. R ∷ y) h.1)
-
-cons_head : (R S : Renaming) (p q : List Renaming) → R ∷ p ≡ S ∷ q → R ≡ S
-cons_head R S p q e = cc
-
-front_tail : (R S : Renaming) (p x : List Renaming) → IsFront (R ∷ p) (S ∷ x) → (S ≡ R) × IsFront p x
-front_tail R S p x h = (cons_head S R x (p ++ h.0) h.1, (h.0, cons_tail S R x (p ++ h.0) h.1))
-
--- the front of a list with one more at its end is the whole or a front of the list
-snoc_front : (p x : List Renaming) (R : Renaming) → IsFront p (x ++ (R ∷ [])) → (p ≡ x ++ (R ∷ [])) ⊎ IsFront p x
-snoc_front [] x R h = inr (x, refl)
-snoc_front (S ∷ p) [] R h = go p h.0 (cons_head R S [] (p ++ h.0) h.1) (cons_tail R S [] (p ++ h.0) h.1)
-  where
-    go : (p q : List Renaming) → R ≡ S → [] ≡ p ++ q → (S ∷ p ≡ R ∷ []) ⊎ IsFront (S ∷ p) []
-    go [] q e f = inl (ap (λ T. T ∷ []) (sym e))
-    go (T ∷ p) q e f = absurd (cc)
-snoc_front (S ∷ p) (T ∷ x) R h =
-    let t = front_tail S T p (x ++ (R ∷ [])) h in
-    ⊎_elim (λ e. inl (ap (λ U. U ∷ p) (sym t.0) ∙ ap (λ y. T ∷ y) e)) (λ f. inr (subst (λ U. IsFront (U ∷ p) (T ∷ x)) t.0 (front_cons T p x f))) (snoc_front p x R t.1)
 
 -- ---- the state on the way up
 
@@ -156,11 +133,6 @@ module _ (top : EpochName) (ps : List Placed) (l : AreLaid top ps) where
     common = s.common;
   }
 
-  mark_from : (ms : List ℕ) (u j : ℕ) → has_mark (set ms u 1) j ≡ true → (j ≡ u) ⊎ (has_mark ms j ≡ true)
-  mark_from ms u j q =
-      ⊎_elim (λ l. inr (sym (mark_other ms u j (λ e. let x : j ≡ u = e in omega arith)) ∙ q))
-      (λ l. ⊎_elim (λ k. inr (sym (mark_other ms u j (λ e. let x : j ≡ u = e in omega arith)) ∙ q)) (λ k. inl (omega arith)) (cases_lt u j)) (cases_lt j u)
-
   -- its parent is marked, and another one before it is
   pub spreading_up : (old ms : List ℕ) (m : ℕ) → IsSpreading top ps old ms m → 0 < m → has_mark ms m ≡ true → (o : ℕ) → o < m → has_mark ms o ≡ true → IsSpreading top ps old (set ms (up_at ps (m - 1)) 1) (m - 1)
   spreading_up old ms m s h q o ol om =
@@ -175,13 +147,13 @@ module _ (top : EpochName) (ps : List Placed) (l : AreLaid top ps) where
         whole = length-set ms u 1 ∙ n;
         in_range = omega arith;
         kept = λ j p. mark_kept ms u j (s.kept j p);
-        below = λ j w p. ⊎_elim (λ e. let b = s.below m i q in (b.0, b.1, b.2, subst (λ (k : ℕ). IsFront (P k) (P b.0)) (sym e) (front_trans (P u) (P m) (P b.0) front b.3))) (λ t. s.below j w t) (mark_from ms u j p);
+        below = λ j w p. ⊎_elim (λ e. let b = s.below m i q in (b.0, b.1, b.2, subst (λ (k : ℕ). IsFront (P k) (P b.0)) (sym e) (front_trans (P u) (P m) (P b.0) front b.3))) (λ t. s.below j w t) (set_from ms u j p);
         above = λ j w p. ⊎_elim (λ e. (u, ul, here, subst (λ (k : ℕ). IsFront (P u) (P k)) (sym e) (front_refl (P u))))
             (λ t. let a = s.above j w t in before a.0 m a.1 (λ g. (a.0, omega arith, mark_kept ms u a.0 a.2, a.3))
-            (λ e. (u, ul, here, front_trans (P u) (P m) (P j) front (subst (λ (k : ℕ). IsFront (P k) (P j)) e a.3)))) (mark_from ms u j p);
+            (λ e. (u, ul, here, front_trans (P u) (P m) (P j) front (subst (λ (k : ℕ). IsFront (P k) (P j)) e a.3)))) (set_from ms u j p);
         closed = λ j g w p. ⊎_elim (λ e. absurd (omega arith)) (λ t. before m j (omega arith) (λ k. mark_kept ms u (up_at ps (j - 1)) (s.closed j k w t))
-            (λ e. subst (λ (k : ℕ). has_mark (set ms u 1) (up_at ps (k - 1)) ≡ true) e here)) (mark_from ms u j p);
-        common = λ p f j w t. ⊎_elim (λ e. subst (λ (k : ℕ). IsFront p (P k)) (sym e) (parent p f)) (λ g. s.common p f j w g) (mark_from ms u j t);
+            (λ e. subst (λ (k : ℕ). has_mark (set ms u 1) (up_at ps (k - 1)) ≡ true) e here)) (set_from ms u j p);
+        common = λ p f j w t. ⊎_elim (λ e. subst (λ (k : ℕ). IsFront p (P k)) (sym e) (parent p f)) (λ g. s.common p f j w g) (set_from ms u j t);
       }
     where
       parent : (p : List Renaming) → ((g : ℕ) → g ≤ length ps → has_mark old g ≡ true → IsFront p (P g)) → IsFront p (P (up_at ps (m - 1)))

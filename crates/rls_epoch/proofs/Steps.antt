@@ -11,12 +11,13 @@ use Rattle.rls_ident.specs.declared.tuple.Tuple.{Tuple}
 use Rattle.rls_ident.specs.declared.epoch_name.EpochName.{EpochName}
 use Rattle.rls_ident.specs.Identifiers.{IsIdent}
 use Rattle.rls_ident.specs.Lists.{IsIn}
-use Rattle.rls_ident.proofs.Members.{map_in, in_left, in_right, some_is}
+use Rattle.rls_ident.proofs.Members.{map_in, in_left, in_right, some_is, get_in}
 use Rattle.rls_rename.specs.Renaming.{Renaming, IsFormer, forward, back}
 use Rattle.rls_rename.specs.Tree.{Node, name_of, AreNodes, AreBelow, path, forward_all, back_all, translate}
 use Rattle.rls_rename.proofs.Paths.{path_iso, path-renamings, renaming_iso, translate_is, translate_translate}
 use Rattle.rls_rename.proofs.Growth.{translate_same}
 use Rattle.rls_rename.proofs.SameNodes.{path_member}
+use Rattle.rls_rename.proofs.Former.{former_in}
 use Rattle.rls_epoch.specs.declared.placed.Placed.{Placed}
 use Rattle.rls_epoch.specs.declared.ways.Step.{Step}
 use Rattle.rls_epoch.specs.declared.ways.Step.TheVariants.{Back, Forward}
@@ -24,6 +25,7 @@ use Rattle.rls_epoch.specs.Seen.{node_of, nodes_of}
 use Rattle.rls_epoch.specs.Links.{name_at, up_at, AreLinked}
 use Rattle.rls_epoch.proofs.Reading.{up_read}
 use Rattle.rls_epoch.specs.Ways.{Leads, IsWay, AreWithin, back_at, forward_at, step_map, led}
+use Rattle.rls_epoch.proofs.Sorting.{get_of}
 
 -- ---- a node that was read
 
@@ -58,11 +60,6 @@ leads_down ps k m u p ss g h e =
     subst (λ ts. Leads ps u ts m) (sym (reverse-append ss (Forward k ∷ []))) (slice_get_within ps k p g, up_read ps k p g ∙ sym e, h)
 
 -- ---- nodes
-
-pub get_in : {A : Type 0} (xs : List A) (k : ℕ) (x : A) → slice_get xs k ≡ Some x → IsIn x xs
-get_in [] k x h = absurd (cc)
-get_in (y ∷ xs) zero x h = inl (some_is y x h)
-get_in (y ∷ xs) (suc k) x h = inr (get_in xs k x h)
 
 pub in_reverse : {A : Type 0} (x : A) (xs : List A) → IsIn x xs → IsIn x (reverse xs)
 in_reverse x [] h = absurd h
@@ -113,23 +110,13 @@ pub forward_step : (ps : List Placed) (k : ℕ) (p : Placed) → slice_get ps k 
 unfolding step_map
 forward_step ps k p h x = ap (λ o. forward_at o x) h
 
-pub got : (ps : List Placed) (k : ℕ) → k < length ps → (p : Placed) × (slice_get ps k ≡ Some p)
-got [] k h = absurd (omega arith)
-got (p ∷ ps) zero h = (p, refl)
-got (p ∷ ps) (suc k) h = got ps k (omega arith)
-
-pub former_in : (ns : List Node) → AreNodes ns → (n : Node) → IsIn n ns → IsFormer n.renaming.former
-former_in [] d n p = absurd p
-former_in (m ∷ ns) d n (inl e) = subst (λ (z : Node). IsFormer z.renaming.former) e d.0
-former_in (m ∷ ns) d n (inr p) = former_in ns d.2 n p
-
 module _ (top : EpochName) (ps : List Placed) (d : AreNodes (nodes_of ps)) (b : AreBelow top (nodes_of ps)) (l : AreLinked top ps) where
   pub led_is : (ss : List Step) (n m : ℕ) (e f : EpochName) → Leads ps n ss m → name_at top ps n ≡ Some e → name_at top ps m ≡ Some f → (x : List Tuple) → IsIdent x → led ps ss x ≡ translate (nodes_of ps) e f x
   led_is [] n m e f h g k x i =
       let q : e ≡ f = some_is e f (sym g ∙ (ap (name_at top ps) h ∙ k)) in
       sym (translate_same (nodes_of ps) e x d i) ∙ ap (λ z. translate (nodes_of ps) e z x) q
   led_is (Back j ∷ ss) n m e f h g k x i =
-      let p = got ps j h.0 in
+      let p = get_of ps j h.0 in
       let R = (p.0).renaming in
       let r = former_in (nodes_of ps) d (node_of p.0) (node_in ps j p.0 p.1) in
       let y = back R x in
@@ -142,7 +129,7 @@ module _ (top : EpochName) (ps : List Placed) (d : AreNodes (nodes_of ps)) (b : 
       ∙ (ap (translate (nodes_of ps) (p.0).parent f) (sym one)
       ∙ translate_translate (nodes_of ps) e (p.0).parent f x d i))
   led_is (Forward j ∷ ss) n m e f h g k x i =
-      let p = got ps j h.0 in
+      let p = get_of ps j h.0 in
       let R = (p.0).renaming in
       let r = former_in (nodes_of ps) d (node_of p.0) (node_in ps j p.0 p.1) in
       let y = forward R x in

@@ -10,7 +10,7 @@ use Rattle.std.proofs.lemmas.Option.{slice_get-map}
 use Rattle.rls_ident.specs.declared.epoch_name.EpochName.{EpochName}
 use Rattle.rls_ident.specs.EpochNames.{name_eq}
 use Rattle.rls_ident.specs.Lists.{IsIn}
-use Rattle.rls_ident.proofs.Members.{some_is}
+use Rattle.rls_ident.proofs.Members.{some_is, or_false, or_swap, or_again}
 use Rattle.rls_rename.specs.Renaming.{IsFormer}
 use Rattle.rls_rename.specs.Tree.{Node, name_of, has_node, is_kept, AreNodes, AreBelow, epoch_cmp}
 use Rattle.rls_epoch.specs.declared.placed.Placed.{Placed}
@@ -52,10 +52,6 @@ links_more top ps p l u n = record {
 }
 
 -- ---- one more node
-
-or_false : (a b : Bool) → (a || b) ≡ false → (a ≡ false) × (b ≡ false)
-or_false true b h = absurd (cc)
-or_false false b h = (refl, h)
 
 pub laid_more : (top : EpochName) (ps : List Placed) (p : Placed) → AreLaid top ps → p.up ≤ length ps → name_at top ps p.up ≡ Some p.parent → IsFormer p.renaming.former → is_kept top (nodes_of ps) (name_of p.renaming) ≡ false → is_kept top (nodes_of ps) p.parent ≡ true → AreLaid top (ps ++ p ∷ [])
 laid_more top ps p l u n f k q =
@@ -127,22 +123,13 @@ marks_none top ps n = marked_none (top ∷ map (λ (z : Placed). name_of z.renam
 
 -- ---- one mark more
 
-swap : (a b c : Bool) → (a || (b || c)) ≡ (b || (a || c))
-swap true true c = refl
-swap true false c = refl
-swap false b c = refl
-
-twice : (a c : Bool) → (a || (a || c)) ≡ (a || c)
-twice true c = refl
-twice false c = refl
-
 marked_set : (es : List EpochName) (ms : List ℕ) (n : ℕ) (name e : EpochName) → slice_get es n ≡ Some name → n < length ms → is_marked (marked_of es (set ms n 1)) e ≡ (name_eq name e || is_marked (marked_of es ms) e)
 marked_set es [] n name e g h = absurd (omega arith)
 marked_set [] (m ∷ ms) n name e g h = absurd (cc)
 marked_set (f ∷ es) (zero ∷ ms) zero name e g h = ap (λ x. name_eq x e || is_marked (marked_of es ms) e) (some_is f name g)
-marked_set (f ∷ es) (suc m ∷ ms) zero name e g h = ap (λ x. name_eq x e || is_marked (marked_of es ms) e) (some_is f name g) ∙ (sym (twice (name_eq name e) (is_marked (marked_of es ms) e)) ∙ ap (λ x. name_eq name e || (name_eq x e || is_marked (marked_of es ms) e)) (sym (some_is f name g)))
+marked_set (f ∷ es) (suc m ∷ ms) zero name e g h = ap (λ x. name_eq x e || is_marked (marked_of es ms) e) (some_is f name g) ∙ (sym (or_again (name_eq name e) (is_marked (marked_of es ms) e)) ∙ ap (λ x. name_eq name e || (name_eq x e || is_marked (marked_of es ms) e)) (sym (some_is f name g)))
 marked_set (f ∷ es) (zero ∷ ms) (suc n) name e g h = marked_set es ms n name e g (omega arith)
-marked_set (f ∷ es) (suc m ∷ ms) (suc n) name e g h = ap (λ b. name_eq f e || b) (marked_set es ms n name e g (omega arith)) ∙ swap (name_eq f e) (name_eq name e) (is_marked (marked_of es ms) e)
+marked_set (f ∷ es) (suc m ∷ ms) (suc n) name e g h = ap (λ b. name_eq f e || b) (marked_set es ms n name e g (omega arith)) ∙ or_swap (name_eq f e) (name_eq name e) (is_marked (marked_of es ms) e)
 
 by_number : (top : EpochName) (ps : List Placed) (n : ℕ) (e : EpochName) → name_at top ps n ≡ Some e → slice_get (epochs_by_number top ps) n ≡ Some e
 by_number top ps zero e h = h

@@ -7,7 +7,7 @@ use Rattle.rls_ops.specs.Spelling.{four_bytes, eight_bytes}
 use Rattle.rls_codec.specs.Reading.{Read, ◌>>=◌, is_member_count, whole}
 use Rattle.rls_codec.specs.Spelled.{IsSmall, IsLarge}
 use Rattle.rls_codec.specs.CodecLaws.{IsBytes}
-use Rattle.rls_codec.proofs.Formats.{Spells, bind_ok, field, fitting, spelling, seen, ruled, byte}
+use Rattle.rls_codec.proofs.Formats.{Spells, bind_ok, field, fitting, spelling, seen, ruled, byte, small_count, small_from}
 use Rattle.rls_codec.proofs.PartFormats.{small, large}
 use Rattle.rls_codec.proofs.MessageFormats.{magic, magic_is, HasMagic, whole_ok}
 use Rattle.rls_model.specs.History.{Fresh, group_of, me_of, members_of}
@@ -99,14 +99,8 @@ content form group members me false h = spelling content_rest (seen (FitsContent
     same (Journal s) f = absurd (no_true (sym h ∙ ap (λ n. n == 1) (sym f.0.0)))
     same (Snapshot g p) f = ap (λ k. rest_bytes k members p) (sym f.0.0) ∙ ap (λ m. rest_bytes g m p) (sym f.0.2)
 
-small_count : (n : ℕ) → is_member_count n ≡ true → IsSmall n
-small_count n e = omega (arith, leb-true n 64 (and_parts (nat_lt 0 n) (nat_le n 64) e).1)
-
 form_byte : (n : ℕ) → is_file_form n ≡ true → n < 256
 form_byte n e = omega (arith, leb-true n 4 (and_parts (nat_lt 0 n) (nat_le n 4) e).1)
-
-small_from : (from n : ℕ) → is_member_count n ≡ true → from < n → IsSmall from
-small_from from n e h = omega (arith, leb-true n 64 (and_parts (nat_lt 0 n) (nat_le n 64) e).1)
 
 -- what fits, field by field
 abbrev Fits : Content → Type 0

@@ -9,7 +9,7 @@ use Rattle.rls_ops.specs.declared.op.Op.{Op}
 use Rattle.rls_ops.specs.declared.op.Shape.{Shape}
 use Rattle.rls_ops.specs.Shapes.{shape_fault}
 use Rattle.rls_ops.specs.Waiting.{is_numbered, waiting_under, comes_before, with_waiting, without}
-use Rattle.rls_ops.proofs.Waiting.{numbered_is, before_is, before_trans}
+use Rattle.rls_ops.proofs.Waiting.{numbered_is, before_is, before_trans, before_other}
 use Rattle.rls_codec.specs.declared.fault.ReadError.{ReadError}
 use Rattle.rls_codec.specs.Gives.{Fails}
 use Rattle.std.proofs.lemmas.List.{length-append}
@@ -54,22 +54,13 @@ all_before H (w ∷ (x ∷ xs)) o s b =
     let next = and_parts (comes_before w x) (list_all (λ p. comes_before w p) xs) s.3 in
     (before_trans w x o next.0 later.0, later)
 
-not_numbered : (w o : Op) → comes_before w o ≡ true → is_numbered o.author o.seq w ≡ false
-not_numbered w o b = go (is_numbered o.author o.seq w) refl
-  where
-    go : (t : Bool) → is_numbered o.author o.seq w ≡ t → t ≡ false
-    go false e = refl
-    go true e =
-        let n = numbered_is o.author o.seq w e in
-        absurd (elim (before_is w o b) [ inl lt ↦ omega (arith, lt, n.0) | inr p ↦ omega (arith, p.1, n.1) ])
-
 none_under : (W : List Op) (o : Op) → AllBefore W o → waiting_under W o.author o.seq ≡ None
 none_under [] o a = refl
-none_under (w ∷ ws) o a = ap (λ t. cond t (Some w) (find (is_numbered o.author o.seq) ws)) (not_numbered w o a.0) ∙ none_under ws o a.1
+none_under (w ∷ ws) o a = ap (λ t. cond t (Some w) (find (is_numbered o.author o.seq) ws)) (before_other w o a.0) ∙ none_under ws o a.1
 
 none_without : (W : List Op) (o : Op) → AllBefore W o → without o.author o.seq W ≡ W
 none_without [] o a = refl
-none_without (w ∷ ws) o a = ap (λ t. cond t (without o.author o.seq ws) (w ∷ without o.author o.seq ws)) (not_numbered w o a.0) ∙ ap (λ us. w ∷ us) (none_without ws o a.1)
+none_without (w ∷ ws) o a = ap (λ t. cond t (without o.author o.seq ws) (w ∷ without o.author o.seq ws)) (before_other w o a.0) ∙ ap (λ us. w ∷ us) (none_without ws o a.1)
 
 put_last : (W : List Op) (o : Op) → AllBefore W o → with_waiting o W ≡ W ++ o ∷ []
 put_last [] o a = refl

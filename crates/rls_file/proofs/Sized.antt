@@ -9,6 +9,7 @@ use Rattle.std.proofs.lemmas.Option.{get_or_from_slice_get, slice_get_within}
 use Rattle.rls_ops.specs.declared.op.Op.{Op}
 use Rattle.rls_ops.specs.Spelling.{four_bytes, vector_bytes, op_bytes, counted}
 use Rattle.rls_ops.specs.Sizes.{op_size}
+use Rattle.rls_ops.proofs.Sizes.{ops_within}
 use Rattle.rls_codec.proofs.Appending.{part_more}
 use Rattle.rls_codec.proofs.SizeLaws.{op_length, vector_length, parts_length, counted_length}
 use Rattle.rls_model.specs.History.{Entry, Acknowledged, group_of, me_of, members_of}
@@ -95,10 +96,6 @@ size_told j t h = ap length (sym (bytes_told j t h)) ∙ bytes_size j
 accepted_within : (os : List Op) → (sum_by op_size os + length os ≡ sum_by accepted_size os)
 accepted_within [] = refl
 accepted_within (o ∷ os) = omega (arith, sum_by-cons op_size o os, sum_by-cons accepted_size o os, accepted_within os)
-
-ops_within : (os : List Op) → length os ≤ sum_by op_size os
-ops_within [] = omega arith
-ops_within (o ∷ os) = omega (arith, sum_by-cons op_size o os, ops_within os)
 
 notes_within : (ns : List Note) → length ns ≤ sum_by note_size ns
 notes_within [] = omega arith

@@ -5,6 +5,7 @@ use Rattle.rls_ident.specs.Lists.{IsIn}
 use Rattle.rls_ident.specs.Vectors.{at_most}
 use Rattle.rls_ident.proofs.Members.{found_in}
 use Rattle.rls_ops.specs.declared.op.Op.{Op}
+use Rattle.rls_ops.proofs.Waiting.{length-with}
 use Rattle.rls_model.specs.declared.edit.Edit.{Edit}
 use Rattle.rls_model.specs.Answers.{Reason, Answer, Applies, Repeats, Waits, Refuses}
 use Rattle.rls_model.specs.History.{Acknowledged, Then, count}
@@ -16,17 +17,10 @@ use Rattle.rls_model.specs.Taking.{has_room, Progress, started, moved, with_answ
 use Rattle.rls_model.specs.EditRun.{edit_step, Run, Done, Stopped, go_on, run_from, run_lines}
 use Rattle.rls_model.proofs.WorldsSteps.{released_by, release_is}
 use Rattle.rls_model.proofs.WorldsWaiting.{length-without, less_without, numbered_test}
+use Rattle.rls_model.proofs.WorldsScripts.{end_or}
 use Rattle.rls_file.specs.StoredLaws.{AreCounted, TakenCounted, LinesCounted, CountsFit}
 
 -- ---- steps
-
-length-with : (o : Op) (W : List Op) → length (with_waiting o W) ≡ suc (length W)
-length-with o [] = refl
-length-with o (w ∷ W) = go (comes_before w o) (length-with o W)
-  where
-    go : (b : Bool) → length (with_waiting o W) ≡ suc (length W) → length (cond b (w ∷ with_waiting o W) (o ∷ (w ∷ W))) ≡ suc (suc (length W))
-    go true h = ap suc h
-    go false h = refl
 
 answer_counted : (w n : ℕ) (p : Progress) (o : Op) (r : Answer) → AreCounted w n p → AreCounted w (n + 1) (with_answer (moved p (after r p.state o)) o r)
 answer_counted w n p o Applies h =
@@ -130,11 +124,6 @@ taken_counted t m =
     let e : 0 + length m.ops ≡ length m.ops = omega arith in
     let p = take_ops (started None t) m.ops in
     noted_counted (length t.waiting) (length m.ops) p m.from m.vector (subst (λ k. AreCounted (length t.waiting) k p) e (ops_counted (length t.waiting) 0 (started None t) m.ops (started_counted t)))
-
--- where all lines were run, else p
-abbrev pub end_or : {F : Type 0} → Progress → Run F → Progress
-end_or p (Done q) = q
-end_or p (Stopped line fault) = p
 
 run_counted : {L F : Type 0} (reads : State → L → Result Edit F) (w : ℕ) (line : ℕ) (p q : Progress) (ls : List L) → AreCounted w 0 p → run_from reads line p ls ≡ Done q → AreCounted w 0 q
 run_counted reads w line p q [] h e = subst (AreCounted w 0) (ap (end_or p) e) h

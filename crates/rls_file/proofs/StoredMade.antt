@@ -13,21 +13,24 @@ use Rattle.rls_ident.specs.declared.epoch_name.EpochName.TheVariants.{Origin, Of
 use Rattle.rls_ident.specs.Lists.{IsIn}
 use Rattle.rls_ident.specs.Tuples.{offset_of}
 use Rattle.rls_ident.specs.Identifiers.{is_ident, IsIdent, follows, last_of, shifted}
-use Rattle.rls_ident.proofs.Members.{and_left, and_right, and_true, eq_not, in_drop, in_map, in_take, lt_test, not_lt_is}
-use Rattle.rls_ident.proofs.Shifted.{ident_shifted, shifted_none, shifted_shifted}
+use Rattle.rls_ident.proofs.Members.{and_left, and_right, and_true, eq_not, in_drop, in_map, in_take, lt_test, not_lt_is, get_in, int_le_test}
+use Rattle.rls_ident.proofs.Shifted.{ident_shifted, shifted_none, shifted_shifted, last_offset}
 use Rattle.rls_runs.specs.Runs.{run_idents, put_run, runs_of, idents_of, AreIdents}
 use Rattle.rls_runs.proofs.Finding.{run_length}
+use Rattle.rls_runs.proofs.RunsOf.{idents_of_runs}
 use Rattle.rls_rename.proofs.Paths.{IsAmong}
 use Rattle.rls_ops.specs.declared.op.Op.{Op}
 use Rattle.rls_ops.specs.declared.op.Body.{Body}
 use Rattle.rls_ops.specs.declared.op.Body.TheVariants.{Insert, Delete, Rename, Leave}
 use Rattle.rls_ops.specs.Shapes.{is_empty, body_limit, body_len, passes_end}
 use Rattle.rls_ops.specs.Sizes.{op_size}
-use Rattle.rls_ops.proofs.SameRuns.{idents_of_runs}
+use Rattle.rls_ops.proofs.Shaped.{shaped}
 use Rattle.rls_codec.specs.Gives.{IsShort}
 use Rattle.rls_codec.specs.Spelled.{IsSmall, FitsRun, FitRuns, FitsName, FitsBody, IsSpelled}
 use Rattle.rls_codec.proofs.Fits.{op_fits, runs_fit, text_fits}
 use Rattle.rls_codec.proofs.SizeLaws.{short_op}
+use Rattle.rls_codec.proofs.SpelledSound.{tuples_ident}
+use Rattle.rls_codec.proofs.Ranged.{IsRanged, AllRanged, tuples_ranged, ranged_tuples, last_most, next_ranged, runs_ranged}
 use Rattle.rls_model.specs.declared.edit.Edit.{Edit}
 use Rattle.rls_model.specs.declared.edit.Edit.TheVariants as edits
 use Rattle.rls_model.specs.declared.edit.EditError.TheVariants as faults
@@ -43,11 +46,9 @@ use Rattle.rls_model.proofs.Made as making
 use Rattle.rls_model.proofs.Made.{fault_split}
 use Rattle.rls_model.proofs.OneTree.{none_else}
 use Rattle.rls_model.proofs.SameOps.{in_export, live_char}
-use Rattle.rls_model.proofs.WorldsLists.{got_in}
 use Rattle.rls_file.specs.FileLaws.{AreSpelled}
 use Rattle.rls_file.specs.StoredLaws.{MadeIsSpelled}
-use Rattle.rls_file.proofs.StoredLegal.{shaped, tuples_ident}
-use Rattle.rls_file.proofs.StoredIdents.{IsRanged, AllRanged, IsRangedRenaming, AreRangedNodes, IsRangedBound, first_ranged, last_most, last_offset, le_to, next_ranged, ranged_tuples, runs_ranged, translate_ranged, tuples_ranged}
+use Rattle.rls_file.proofs.StoredIdents.{IsRangedRenaming, AreRangedNodes, IsRangedBound, first_ranged, translate_ranged}
 
 -- ---- the epochs and the characters of a history
 
@@ -135,7 +136,7 @@ one_fits x n i few small a =
     let m = last_most (shifted (pos n) x) (last_ranged n x a) in
     let e = last_offset (pos n) x i in
     let end = int_le (offset_of (last_of x) +ℤ pos (suc n)) (pos 1073741824) in
-    ((few, ranged_tuples x i a.0), small, and_true (nat_lt 0 (suc n)) end (lt_test 0 (suc n) (omega arith)) (le_to (offset_of (last_of x) +ℤ pos (suc n)) (pos 1073741824) (omega (arith, ints))))
+    ((few, ranged_tuples x i a.0), small, and_true (nat_lt 0 (suc n)) end (lt_test 0 (suc n) (omega arith)) (int_le_test (offset_of (last_of x) +ℤ pos (suc n)) (pos 1073741824) (omega (arith, ints))))
 
 -- each run has a length
 abbrev AreSome : List (List Tuple × ℕ) → Type 0
@@ -186,7 +187,7 @@ bound_ranged xs f k = go (slice_get xs k) refl
   where
     go : (m : Option (List Tuple)) → slice_get xs k ≡ m → IsRangedBound m
     go None e = tt
-    go (Some x) e = f x (got_in xs k x e)
+    go (Some x) e = f x (get_in xs k x e)
 
 before_ranged : (xs : List (List Tuple)) → ((x : List Tuple) → IsIn x xs → IsRanged x) → (k : ℕ) → IsRangedBound (get_before xs k)
 before_ranged xs f zero = tt

@@ -14,8 +14,8 @@ use Rattle.rls_model.specs.Taking.{has_room, one_less, Progress, started, moved,
 use Rattle.rls_model.specs.EditRun.{edit_step, edit_within, Done, go_on, run_from, run_lines, unless_fault, read_edit}
 use Rattle.rls_model.specs.Laws.{AreEdits}
 use Rattle.rls_model.proofs.WorldsRests.{steps_rest, taken_done}
+use Rattle.rls_model.proofs.WorldsScripts.{end_or}
 use Rattle.rls_file.specs.StoredLaws.{IsStorable, ReadsWell, EditStored, LinesStored, EditsStored, TakenStored}
-use Rattle.rls_file.proofs.StoredCounts.{end_or}
 use Rattle.rls_file.proofs.StoredSteps.{IsStoring, storing, stored, received_storing, releases_storing, noted_storing, edited_storing}
 
 -- ---- a message

@@ -6,6 +6,7 @@ use Rattle.rls_ident.specs.Vectors.{at_most}
 use Rattle.rls_ident.proofs.Members.{found_in}
 use Rattle.rls_ops.specs.declared.op.Op.{Op}
 use Rattle.rls_codec.specs.Spelled.{FitsVector, IsSpelled}
+use Rattle.rls_codec.proofs.SpelledSound.{fits_vector, spelled_op}
 use Rattle.rls_model.specs.declared.edit.Edit.{Edit}
 use Rattle.rls_model.specs.Answers.{Reason, Answer, Applies, Repeats, Waits, Refuses}
 use Rattle.rls_model.specs.History.{Acknowledged, Then, count, me_of, members_of}
@@ -21,9 +22,9 @@ use Rattle.rls_model.proofs.Made as making
 use Rattle.rls_model.proofs.WorldsRests.{IsAtRest}
 use Rattle.rls_model.proofs.WorldsSteps.{released_by, release_is}
 use Rattle.rls_model.proofs.WorldsWaiting.{in_without, in_with, waiting_at, sound_without, sound_grown, sound_accepted, sound_put}
+use Rattle.rls_model.proofs.Answered.{may_accept, answer_applies, answer_waits, IsHeld}
 use Rattle.rls_file.specs.FileLaws.{AreSpelled}
 use Rattle.rls_file.specs.StoredLaws.{IsStorable}
-use Rattle.rls_file.proofs.StoredLegal.{IsHeld, answer_applies, answer_waits, fits_vector, may_accept, spelled_op}
 use Rattle.rls_file.proofs.StoredMade.{made_spelled}
 
 -- what may be stored, but for what is ready, among so many members

@@ -29,7 +29,7 @@ use Rattle.rls_seen.proofs.Counting.{members_received, members_released}
 use Rattle.rls_seen.proofs.Repeating.{received_seen, released_seen, received_limit, released_limit}
 use Rattle.rls_seen.proofs.Starting.{fresh_stands}
 use Rattle.rls_seen.proofs.Receiving.{received_stands}
-use Rattle.rls_seen.proofs.Releasing.{released_stands}
+use Rattle.rls_seen.proofs.Releasing.{released_stands, first_alike}
 use Rattle.rls_seen.proofs.Noting.{acknowledged_stands, counted_alike}
 use Rattle.rls_seen.proofs.Editing.{made_alike}
 use Rattle.rls_seen.proofs.Taking.{Goes, started_goes, receive_goes, release_goes, counted_alike as counted_same}
@@ -39,6 +39,7 @@ use Rattle.rls_file.specs.Journals.{JournalSeen, Tells, IsNoted, note, notes_of,
 use Rattle.rls_file.specs.ReadingFiles.{applies}
 use Rattle.rls_file.specs.ReadingJournals.{TellsAlone}
 use Rattle.rls_file.proofs.Weaving.{entries_woven, then_more}
+use Rattle.rls_file.proofs.StoredLegal.{applies_is}
 
 -- the log is whole, and the acknowledgements are those of the history
 pub record IsWhole (notes : List Note) (s : Seen) (H : History) : Type 0 where
@@ -94,15 +95,9 @@ refusal_whole : (ns : List Note) (s : Seen) (t : State) (o : Op) (r : Option Rea
 refusal_whole ns s t o None w = accepted_whole ns s t.history o w
 refusal_whole ns s t o (Some r) w = holding_whole ns s t.history _ w
 
-abbrev first_in : List ℕ → List Op → Option Op
-first_in v W = find (λ w. at_most w.context v) W
-
 abbrev refusal_in : Option Released → Option Reason
 refusal_in None = None
 refusal_in (Some r) = r.refusal
-
-first_same : (s : Seen) (t : State) → StandsFor s t → first_ready s ≡ model.first_ready t
-first_same s t h = ap (λ v. first_in v s.waiting) h.vector ∙ ap (first_in (count t.history)) h.waiting
 
 release_whole : (ns : List Note) (s : Seen) (t : State) (f : Option Op) → release_of s f ≡ model.release_of t f → IsWhole ns s t.history → IsWhole ns (after_release s f) (model.after_release t f).history
 release_whole ns s t None e w = w
@@ -113,7 +108,7 @@ release_whole ns s t (Some o) e w =
 pub released_whole : (ns : List Note) (s : Seen) (t : State) → StandsFor s t → IsWhole ns s t.history → IsWhole ns (released s) (release_after t).history
 unfolding released release_over
 released_whole ns s t h w =
-    let e = first_same s t h in
+    let e = first_alike s t h in
     let same : release_of s (first_ready s) ≡ model.release_of t (first_ready s) = (released_stands s t h).0 ∙ ap (model.release_of t) (sym e) in
     subst (λ f. IsWhole ns (released s) (model.after_release t f).history) e (release_whole ns s t (first_ready s) same w)
 
@@ -329,12 +324,6 @@ pub alone_at : (j : JournalSeen) (H : History) (W : List Op) → W ≡ [] → Te
 alone_at j H W e h =
     let is = told_is j.seen j.notes (record { history = H; waiting = W }) h in
     (record { tells = tells_told j (record { history = H; waiting = W }) h; alone = h.stands.waiting ∙ e }, ap (λ (x : State). x.history) is)
-
-applies_is : (a : Answer) → applies a ≡ true → a ≡ Applies
-applies_is Applies e = refl
-applies_is Repeats e = absurd cc
-applies_is Waits e = absurd cc
-applies_is (Refuses r) e = absurd cc
 
 -- an operation was applied
 pub applied_alone : (old new : JournalSeen) (o : Op) → TellsAlone old → applies (replay (told old) o) ≡ true → Tells new (replay_after (told old) o) → TellsAlone new × ((told new).history ≡ Then (told old).history (Accepted o))

@@ -82,6 +82,9 @@ eq_same x y h = go (ident_cmp x y) refl h
 pub same_eq : (x y : List Tuple) → x ≡ y → ident_eq x y ≡ true
 same_eq x y e = ap (λ z. ident_eq x z) (sym e) ∙ ap is_eq (tied_itself (lists_total tuple_total) x)
 
+pub ident_eq_refl : (x : List Tuple) → ident_eq x x ≡ true
+ident_eq_refl x = same_eq x x refl
+
 pub further_at : (k : ℤ) (f g : List Tuple) (s t : Spot) (x y : List Tuple) → f ++ at_spot s ∷ [] ≡ x → g ++ at_spot t ∷ [] ≡ y → at_spot s ≡ raised k (at_spot t) → ident_eq f g ≡ ident_eq x (shifted k y)
 further_at k f g s t x y e h n =
     let next : shifted k y ≡ g ++ at_spot s ∷ [] = ap (shifted k) (sym h) ∙ shifted_of_pushed k g (at_spot t) ∙ ap (λ u. g ++ u ∷ []) (sym n) in

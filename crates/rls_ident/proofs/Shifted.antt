@@ -1,5 +1,5 @@
 -- Identifiers with their last offset raised.
-use Rattle.std.proofs.Common.{◌≡◌, true, List, [], ◌∷◌, refl, ap, arith}
+use Rattle.std.proofs.Common.{◌≡◌, true, List, [], ◌∷◌, refl, ap, arith, ◌∙◌}
 use Rattle.std.specs.Prelude.{ℤ, pos, ◌+ℤ◌, ◌<ℤ◌}
 use Rattle.std.specs.declared.cmp.Ordering.TheVariants.{Less}
 use Rattle.std.specs.Ordering.{int_cmp}
@@ -7,7 +7,7 @@ use Rattle.std.proofs.lemmas.Cmp.{tied_itself, nat_cmp_total, int_ranked}
 use Rattle.std.proofs.lemmas.Int.{ints}
 use Rattle.rls_ident.specs.declared.tuple.Tuple.{Tuple}
 use Rattle.rls_ident.specs.declared.tuple.Tuple.TheVariants.{Low, At, High}
-use Rattle.rls_ident.specs.Tuples.{spot_cmp, tuple_cmp, raised, is_at, offset_of}
+use Rattle.rls_ident.specs.Tuples.{spot_cmp, tuple_cmp, raised, is_at, offset_of, replica_of, seq_of}
 use Rattle.rls_ident.specs.Identifiers.{IsIdent, shifted, last_of}
 use Rattle.rls_ident.proofs.Lists.{Lt, lt_cons}
 use Rattle.rls_ident.proofs.Tuples.{tuples, int_less}
@@ -63,10 +63,33 @@ ident_shifted k (t ∷ []) h = raised_at k t h
 ident_shifted k (t ∷ (u ∷ [])) h = raised_at k u h
 ident_shifted k (t ∷ (u ∷ (v ∷ x))) h = ident_shifted k (u ∷ (v ∷ x)) h
 
+-- ---- the last tuple
+
+pub raised_replica : (k : ℤ) (t : Tuple) → replica_of (raised k t) ≡ replica_of t
+raised_replica k Low = refl
+raised_replica k (At p r s o) = refl
+raised_replica k High = refl
+
+pub raised_seq : (k : ℤ) (t : Tuple) → seq_of (raised k t) ≡ seq_of t
+raised_seq k Low = refl
+raised_seq k (At p r s o) = refl
+raised_seq k High = refl
+
+pub raised_offset : (k : ℤ) (t : Tuple) → is_at t ≡ true → offset_of (raised k t) ≡ offset_of t +ℤ k
+raised_offset k Low h = absurd (cc)
+raised_offset k (At p r s o) h = refl
+raised_offset k High h = absurd (cc)
+
+pub last_shifted : (k : ℤ) (x : List Tuple) → last_of (shifted k x) ≡ raised k (last_of x)
+last_shifted k [] = refl
+last_shifted k (t ∷ []) = refl
+last_shifted k (t ∷ (u ∷ [])) = refl
+last_shifted k (t ∷ (u ∷ (v ∷ x))) = last_shifted k (u ∷ (v ∷ x))
+
+pub last_at : (x : List Tuple) → IsIdent x → is_at (last_of x) ≡ true
+last_at [] h = absurd (cc)
+last_at (t ∷ []) h = h
+last_at (t ∷ (u ∷ x)) h = last_at (u ∷ x) h
+
 pub last_offset : (k : ℤ) (x : List Tuple) → IsIdent x → offset_of (last_of (shifted k x)) ≡ offset_of (last_of x) +ℤ k
-last_offset k [] i = absurd (cc)
-last_offset k (Low ∷ []) i = absurd (cc)
-last_offset k (At p r s o ∷ []) i = refl
-last_offset k (High ∷ []) i = absurd (cc)
-last_offset k (t ∷ (u ∷ [])) i = last_offset k (u ∷ []) i
-last_offset k (t ∷ (u ∷ (v ∷ x))) i = last_offset k (u ∷ (v ∷ x)) i
+last_offset k x i = ap offset_of (last_shifted k x) ∙ raised_offset k (last_of x) (last_at x i)

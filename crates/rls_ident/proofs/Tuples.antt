@@ -206,7 +206,7 @@ ident_total = lists_total tuple_total
 pub ident_same : (x y : List Tuple) → ident_cmp x y ≡ Equal → x ≡ y
 ident_same x y e = lists_same tuples x y e
 
--- the test of the order, and the order
+-- ---- the test of the order, and the order
 
 pub lt_of : (x y : List Tuple) → ident_lt x y ≡ true → Lt tuples x y
 lt_of x y h = record { less = less_is (ident_cmp x y) h }

@@ -8,13 +8,12 @@ use Rattle.rls_ident.specs.declared.tuple.Tuple.{Tuple}
 use Rattle.rls_ident.specs.Tuples.{replica_of, seq_of, offset_of, raised}
 use Rattle.rls_ident.specs.Identifiers.{IsIdent, last_of, shifted, least_offset, greatest_offset}
 use Rattle.rls_ident.specs.Between.{last_pos, lower_number, upper_number, middle, below, upper_behind, between}
-use Rattle.rls_ident.proofs.Members.{and_left, and_right, and_true, eq_is, eq_test, int_is, int_test, neq_test, or_left, or_right}
+use Rattle.rls_ident.proofs.Members.{and_left, and_right, and_true, eq_is, eq_test, int_is, int_test, neq_test, or_left, or_right, int_le_is}
+use Rattle.rls_ident.proofs.Shifted.{raised_replica, raised_seq, raised_offset, last_shifted, last_at, ident_shifted}
 use Rattle.rls_model.specs.declared.parts.Stem.{Stem}
 use Rattle.rls_model.specs.Stems.{stem_of, due_of, due_offset, is_due, ends_at_low, may_use}
 use Rattle.rls_model.specs.Editing.{own_stem, ends_below, begins_above, may_append, may_prepend, or_missing, first_before, first_between}
 use Rattle.rls_model.proofs.Grown.{AreEarlier}
-use Rattle.rls_model.proofs.Fresh.{last_shifted, raised_replica, raised_seq, raised_offset}
-use Rattle.rls_model.proofs.Distinct.{ident_shifted, last_at}
 
 -- what the first identifier of an insertion of n characters has to be
 pub record Began (ss : List Stem) (a s : ℕ) (n : ℕ) (x : List Tuple) : Type 0 where
@@ -52,11 +51,6 @@ between_ends (t ∷ ts) hi a s = go (nat_le (lower_number (t ∷ []) + 2) (upper
     go : (b : Bool) → EndsIn a s (between ts (upper_behind t hi) a s) → EndsIn a s (if b then middle (lower_number (t ∷ [])) (upper_number hi) a s ∷ [] else t ∷ between ts (upper_behind t hi) a s)
     go true h = (refl, refl, refl, refl)
     go false h = ends_behind a s t (between ts (upper_behind t hi) a s) h
-
--- ---- tests
-
-le_is : (x y : ℤ) → int_le x y ≡ true → x ≤ℤ y
-le_is x y h = omega (arith, ints)
 
 -- ---- the three ways
 
@@ -169,4 +163,4 @@ began ss a s (Some x) right n h l i j = go (own_stem ss a (last_of x)) refl
         let b = int_eq (offset_of (last_of x) +ℤ pos 1) (pos u.next) in
         let c = int_le (offset_of (last_of x) +ℤ pos n) greatest_offset in
         let q = and_left (b && c) (ends_below (shifted (pos n) x) right) k in
-        appends ss a s n x h i u r.0 r.1 (int_is (offset_of (last_of x) +ℤ pos 1) (pos u.next) (and_left b c q)) (le_is (offset_of (last_of x) +ℤ pos n) (pos 1073741823) (and_right b c q)))
+        appends ss a s n x h i u r.0 r.1 (int_is (offset_of (last_of x) +ℤ pos 1) (pos u.next) (and_left b c q)) (int_le_is (offset_of (last_of x) +ℤ pos n) (pos 1073741823) (and_right b c q)))

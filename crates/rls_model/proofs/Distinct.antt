@@ -10,6 +10,7 @@ use Rattle.rls_ident.specs.EpochNames.{name_eq}
 use Rattle.rls_ident.specs.Tuples.{replica_of, seq_of, offset_of, is_at}
 use Rattle.rls_ident.specs.Identifiers.{IsIdent, last_of, shifted}
 use Rattle.rls_ident.proofs.Members.{bool_cases}
+use Rattle.rls_ident.proofs.Shifted.{raised_offset, last_shifted, last_at, raised_at, ident_shifted}
 use Rattle.rls_rename.specs.Tree.{Node, name_of, is_of, has_node, is_kept, AreNodes, AreBelow}
 use Rattle.rls_rename.specs.Tree as tree
 use Rattle.rls_rename.proofs.Kept.{kept_more}
@@ -28,20 +29,9 @@ use Rattle.rls_model.specs.WellFormed.{IsBody}
 use Rattle.rls_model.specs.Legal.{IsLegal}
 use Rattle.rls_model.specs.Laws.{IsOfRename, IsUsedBy, Distinct}
 use Rattle.rls_model.proofs.OneTree.{nodes, parents, epoch_kept}
-use Rattle.rls_model.proofs.Fresh.{last_shifted, raised_offset, raised_at, in_range, may_begin, next_change, none_used, still_used, now_used}
+use Rattle.rls_model.proofs.Fresh.{in_range, may_begin, next_change, none_used, still_used, now_used}
 
 -- ---- characters of one operation
-
-pub ident_shifted : (k : ℤ) (x : List Tuple) → IsIdent x → IsIdent (shifted k x)
-ident_shifted k [] h = h
-ident_shifted k (t ∷ []) h = raised_at k t h
-ident_shifted k (t ∷ (u ∷ [])) h = raised_at k u h
-ident_shifted k (t ∷ (u ∷ (v ∷ x))) h = ident_shifted k (u ∷ (v ∷ x)) h
-
-pub last_at : (x : List Tuple) → IsIdent x → is_at (last_of x) ≡ true
-last_at [] h = absurd (cc)
-last_at (t ∷ []) h = h
-last_at (t ∷ (u ∷ x)) h = last_at (u ∷ x) h
 
 char_facts : (o : Op) (i : ℕ) (x : List Tuple) (cs : List ℕ) → IsIdent x → (c : Character) → IsIn c (chars_from o i x cs) → IsIdent c.ident × (c.epoch ≡ o.epoch)
 char_facts o i x [] h c p = absurd p

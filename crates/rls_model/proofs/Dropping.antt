@@ -10,6 +10,8 @@ use Rattle.rls_ident.specs.EpochNames.{name_eq, is_within}
 use Rattle.rls_ident.specs.Lists.{IsIn}
 use Rattle.rls_ident.specs.Vectors.{at_most}
 use Rattle.rls_ident.proofs.Members.{bool_cases, not_true, not_is, and_left, and_right, in_left, in_right, in_split, snoc_split, in_map, map_in, in_filter, filter_in, le_is, le_test, less_is}
+use Rattle.rls_ident.proofs.Vectors.{at_most_refl, at_most_trans, index_le}
+use Rattle.rls_ident.proofs.Named.{within_more}
 use Rattle.rls_rename.specs.Tree.{Node, name_of, is_of, has_node, is_kept, AreNodes, AreBelow, path, renaming_cmp, epoch_cmp, names}
 use Rattle.rls_rename.specs.Tree as tree
 use Rattle.rls_rename.specs.Connected.{top_path, spanned}
@@ -32,25 +34,12 @@ use Rattle.rls_model.specs.Epochs.{epochs, nodes_after, renaming_of, greatest, g
 use Rattle.rls_model.specs.Fitting.{refusal}
 use Rattle.rls_model.specs.Legal.{IsLegal}
 use Rattle.rls_model.specs.Retained.{needed, retained}
-use Rattle.rls_model.proofs.Stable.{at_most_refl, at_most_trans, stable_row, stable_grows}
+use Rattle.rls_model.proofs.Stable.{stable_row, stable_grows}
 use Rattle.rls_model.proofs.OneTree.{nodes, parents, none_else, not_not, author_below, fits_epoch}
 use Rattle.rls_model.proofs.SameOps.{op_kept, top_kept}
 use Rattle.rls_model.proofs.Named.{grown_kept}
 
 -- ---- vectors
-
-pub at_most_index : (v w : List ℕ) (r : ℕ) → at_most v w ≡ true → slice_index v r ≤ slice_index w r
-at_most_index [] w r h = omega arith
-at_most_index (m ∷ v) [] r h = absurd (cc)
-at_most_index (m ∷ v) (n ∷ w) zero h = le_is m n (and_left (nat_le m n) (at_most v w) h)
-at_most_index (m ∷ v) (n ∷ w) (suc r) h = at_most_index v w r (and_right (nat_le m n) (at_most v w) h)
-
-within_more : (e : EpochName) (v w : List ℕ) → at_most v w ≡ true → is_within e v ≡ true → is_within e w ≡ true
-within_more Origin v w h k = refl
-within_more (Of r s) v w h k =
-    let a = at_most_index v w r h in
-    let b = le_is s (slice_index v r) k in
-    le_test s (slice_index w r) (omega arith)
 
 allowed_more : (top : EpochName) (v w : List ℕ) (e : EpochName) → at_most v w ≡ true → IsAllowed top v e → IsAllowed top w e
 allowed_more top v w e h a = ⊎_elim (λ q. inl q) (λ q. inr (within_more e v w h q)) a
@@ -168,14 +157,11 @@ within_same H U A v l k h = within_window k.window v (k.keeps (greatest_within H
 abbrev pub needed_over : EpochName → List Node → List ℕ → List Op → List EpochName
 needed_over U A v os = reached (record { top = U; nodes = A }) v ++ map (λ o. o.epoch) os
 
-at_most_self : (v : List ℕ) → at_most v v ≡ true
-at_most_self v = at_most_refl v
-
 threshold_same : (H : History) (U : EpochName) (A : List Node) → IsLegal H → Keeps H U A → tree.greatest_within U A (stable H) ≡ threshold H
-threshold_same H U A l k = within_same H U A (stable H) l k (at_most_self (stable H))
+threshold_same H U A l k = within_same H U A (stable H) l k (at_most_refl (stable H))
 
 threshold_kept : (H : History) (U : EpochName) (A : List Node) → IsLegal H → Keeps H U A → is_kept U A (threshold H) ≡ true
-threshold_kept H U A l k = k.keeps (threshold H) (threshold_retained H l (stable H) (at_most_self (stable H)))
+threshold_kept H U A l k = k.keeps (threshold H) (threshold_retained H l (stable H) (at_most_refl (stable H)))
 
 reached_same : (H : History) (U : EpochName) (A : List Node) → IsLegal H → Keeps H U A → (e : EpochName) → is_kept U A e ≡ true → epoch_cmp A e (tree.greatest_within U A (stable H)) ≡ epoch_cmp (epochs H) e (threshold H)
 reached_same H U A l k e h = ap (epoch_cmp A e) (threshold_same H U A l k) ∙ cmp_window k.window e (threshold H) h (threshold_kept H U A l k)
@@ -363,7 +349,7 @@ covered_grows : (G : History) (e : Entry) → IsLegal (Then G e) → (o : Op) �
 covered_grows G e l o h =
     not_true (is_covered (stable G) o)
     (λ q. let a = le_is o.seq (slice_index (stable G) o.author) q in
-    let b = at_most_index (stable G) (stable (Then G e)) o.author (stable_grows G e l) in
+    let b = index_le (stable G) (stable (Then G e)) o.author (stable_grows G e l) in
     let c = le_test o.seq (slice_index (stable (Then G e)) o.author) (omega arith) in
     absurd (cc))
 

@@ -10,6 +10,8 @@ use Rattle.rls_ident.specs.Lists.{IsIn}
 use Rattle.rls_ident.specs.Tuples.{replica_of, seq_of, offset_of, is_at, raised}
 use Rattle.rls_ident.specs.Identifiers.{last_of, shifted}
 use Rattle.rls_ident.proofs.Members.{bool_cases, eq_is, eq_not, not_true}
+use Rattle.rls_ident.proofs.Vectors.{index-raise_le}
+use Rattle.rls_ident.proofs.Shifted.{raised_replica, raised_seq, raised_offset, last_shifted, raised_at}
 use Rattle.rls_ops.specs.declared.op.Op.{Op}
 use Rattle.rls_ops.specs.declared.op.Body.{Body}
 use Rattle.rls_ops.specs.declared.op.Body.TheVariants.{Insert, Delete, Rename, Leave}
@@ -24,35 +26,9 @@ use Rattle.rls_model.specs.Legal.{MayAccept, IsLegal}
 use Rattle.rls_model.specs.Laws.{HasTriple, IsOfRename, IsUsedBy, MayBegin, ops_of, NoneUsed, AllUsed, OwnStems, Fresh}
 use Rattle.rls_model.proofs.StemLists.{stem_is, stem_self, found_same, found_other}
 use Rattle.rls_model.proofs.Grown.{use_of, AreEarlier, Grown, begun, Put, put_of}
-use Rattle.rls_model.proofs.OneTree.{index-raise_le, count_next, fits_body}
+use Rattle.rls_model.proofs.OneTree.{count_next, fits_body}
 
 -- ---- the triples of an insertion's characters
-
-pub last_shifted : (k : ℤ) (x : List Tuple) → last_of (shifted k x) ≡ raised k (last_of x)
-last_shifted k [] = refl
-last_shifted k (t ∷ []) = refl
-last_shifted k (t ∷ (u ∷ [])) = refl
-last_shifted k (t ∷ (u ∷ (v ∷ x))) = last_shifted k (u ∷ (v ∷ x))
-
-pub raised_replica : (k : ℤ) (t : Tuple) → replica_of (raised k t) ≡ replica_of t
-raised_replica k Low = refl
-raised_replica k (At p r s o) = refl
-raised_replica k High = refl
-
-pub raised_seq : (k : ℤ) (t : Tuple) → seq_of (raised k t) ≡ seq_of t
-raised_seq k Low = refl
-raised_seq k (At p r s o) = refl
-raised_seq k High = refl
-
-pub raised_offset : (k : ℤ) (t : Tuple) → is_at t ≡ true → offset_of (raised k t) ≡ offset_of t +ℤ k
-raised_offset k Low h = absurd (cc)
-raised_offset k (At p r s o) h = refl
-raised_offset k High h = absurd (cc)
-
-pub raised_at : (k : ℤ) (t : Tuple) → is_at t ≡ true → is_at (raised k t) ≡ true
-raised_at k Low h = absurd (cc)
-raised_at k (At p r s o) h = refl
-raised_at k High h = absurd (cc)
 
 is_at_of : (t : Tuple) → 0 < seq_of t → is_at t ≡ true
 is_at_of Low h = absurd (omega arith)

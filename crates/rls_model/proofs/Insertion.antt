@@ -8,6 +8,7 @@ use Rattle.std.specs.List.{list_any}
 use Rattle.std.specs.Ordering.{int_eq, is_lt}
 use Rattle.std.proofs.lemmas.Bool.Decides.{nat_tests}
 use Rattle.std.proofs.lemmas.Int.{ints}
+use Rattle.std.proofs.lemmas.List.{length-map}
 use Rattle.rls_ident.specs.declared.tuple.Tuple.{Tuple}
 use Rattle.rls_ident.specs.declared.epoch_name.EpochName.{EpochName}
 use Rattle.rls_ident.specs.declared.epoch_name.EpochName.TheVariants.{Origin}
@@ -17,9 +18,9 @@ use Rattle.rls_ident.specs.Identifiers.{IsIdent, ident_cmp, ident_lt, last_of, s
 use Rattle.rls_ident.specs.Between.{between}
 use Rattle.rls_ident.proofs.BetweenLaws.{IsOver, between_over}
 use Rattle.rls_ident.proofs.Lists.{Lt, lt_trans}
-use Rattle.rls_ident.proofs.Members.{not_true, not_is, and_right, in_left, in_right, in_split, in_map, map_in, in_filter, filter_in, in_any, in_take, in_drop, take_or_drop}
-use Rattle.rls_ident.proofs.Shifted.{shifted_none, shifted_shifted, shifted_less}
-use Rattle.rls_ident.proofs.Tuples.{tuples}
+use Rattle.rls_ident.proofs.Members.{not_true, not_is, and_right, in_left, in_right, in_split, in_map, map_in, in_filter, filter_in, in_any, in_take, in_drop, take_or_drop, not_lt_is}
+use Rattle.rls_ident.proofs.Shifted.{shifted_none, shifted_shifted, shifted_less, ident_shifted}
+use Rattle.rls_ident.proofs.Tuples.{tuples, lt_of}
 use Rattle.rls_rename.specs.Tree.{Node, is_kept}
 use Rattle.rls_rename.specs.Tree as tree
 use Rattle.rls_rename.proofs.Growth.{translate_same}
@@ -37,7 +38,7 @@ use Rattle.rls_model.specs.Legal.{IsLegal}
 use Rattle.rls_model.specs.Editing.{own_stem, ends_below, begins_above, may_append, may_prepend, or_missing, first_before, first_between, get_before, next_seq, made, edit_fault}
 use Rattle.rls_model.specs.Laws.{edited, InsertionLands}
 use Rattle.rls_model.proofs.OneTree.{nodes, none_else}
-use Rattle.rls_model.proofs.Distinct.{ident_shifted, known, char_split}
+use Rattle.rls_model.proofs.Distinct.{known, char_split}
 use Rattle.rls_runs.proofs.Sorted.{Entry, Rises, same_rising}
 use Rattle.rls_model.proofs.SameOps.{entry_of, export_rises, in_export, export_in}
 use Rattle.rls_model.proofs.Ranges.{idents_good}
@@ -48,14 +49,6 @@ use Rattle.rls_model.proofs.Spliced.{IsAfter, IsBefore, AreNeighbours, ids, entr
 use Rattle.rls_model.proofs.Made.{neighbour, neighbour_before}
 
 -- ---- where the first identifier of an insertion lies
-
-lt_of : (x y : List Tuple) → ident_lt x y ≡ true → Lt tuples x y
-lt_of x y h = go (ident_cmp x y) refl h
-  where
-    go : (o : Ordering) → ident_cmp x y ≡ o → is_lt o ≡ true → Lt tuples x y
-    go Less e k = record { less = e }
-    go Equal e k = absurd (cc)
-    go Greater e k = absurd (cc)
 
 after_more : (left : Option (List Tuple)) (y : List Tuple) (k : ℕ) → IsIdent y → IsAfter left y → IsAfter left (shifted (pos k) y)
 after_more None y k i h = tt
@@ -299,14 +292,7 @@ at_most_length H at cs h =
     let s = made.fault_split H (edits.Insert at cs) h in
     let p = none_else (length cs == 0) faults.EmptyEdit _ s.1 in
     let q = none_else (nat_lt (length (idents H)) at) (faults.Range at (length (idents H))) _ p.1 in
-    le (length (idents H)) at q.0
-  where
-    le : (m n : ℕ) → nat_lt m n ≡ false → n ≤ m
-    le m n e = grind (arith, nat_tests)
-
-length_ids : (xs : List Entry) → length (ids xs) ≡ length xs
-length_ids [] = refl
-length_ids (x ∷ xs) = ap suc (length_ids xs)
+    not_lt_is (length (idents H)) at q.0
 
 made_lies : (H : History) (at : ℕ) (cs : List ℕ) → IsLegal H → Lies H at (made_first H at cs) cs
 unfolding idents
@@ -317,7 +303,7 @@ made_lies H at cs l k h =
 made_export_at : (H : History) (at : ℕ) (cs : List ℕ) → IsLegal H → IsLegal (edited H (edits.Insert at cs)) → at ≤ length (idents H) → export (edited H (edits.Insert at cs)) ≡ take at (export H) ++ (entries (made_first H at cs) cs ++ drop at (export H))
 unfolding made idents
 made_export_at H at cs l k m =
-    export_insert H (made H (edits.Insert at cs)) at (made_first H at cs) cs k refl refl k.1.body.0 (subst (λ n. at ≤ n) (length_ids (export H)) m) (made_lies H at cs l)
+    export_insert H (made H (edits.Insert at cs)) at (made_first H at cs) cs k refl refl k.1.body.0 (subst (λ n. at ≤ n) (length-map (export H) (λ (y : Entry). y.0)) m) (made_lies H at cs l)
 
 -- the export after an insertion
 pub made_export : (H : History) (at : ℕ) (cs : List ℕ) → IsLegal H → IsEdit (edits.Insert at cs) → edit_fault H (edits.Insert at cs) ≡ None → export (edited H (edits.Insert at cs)) ≡ take at (export H) ++ (entries (made_first H at cs) cs ++ drop at (export H))

@@ -6,6 +6,7 @@ use Rattle.rls_ident.specs.declared.epoch_name.EpochName.TheVariants.{Origin}
 use Rattle.rls_ident.specs.Lists.{IsIn}
 use Rattle.rls_ident.specs.Vectors.{at_most}
 use Rattle.rls_ident.proofs.Members.{not_true, each_in, are_in, le_is, le_test}
+use Rattle.rls_ident.proofs.Vectors.{index_le}
 use Rattle.rls_rename.specs.Tree.{Node, name_of, has_node, is_kept, AreNodes, AreBelow, path}
 use Rattle.rls_rename.specs.Connected.{top_path}
 use Rattle.rls_rename.proofs.Growth.{kept_other}
@@ -25,7 +26,7 @@ use Rattle.rls_model.specs.Retained.{needed, retained}
 use Rattle.rls_model.proofs.OneTree.{nodes, parents, author_below}
 use Rattle.rls_model.proofs.SameOps.{top_kept}
 use Rattle.rls_model.proofs.Named.{grown_kept}
-use Rattle.rls_model.proofs.Dropping.{at_most_index, Keeps, AreUnder, opened, IsOpened, under_step, fits_retained, needed_retained, retained_kept, retained_step}
+use Rattle.rls_model.proofs.Dropping.{Keeps, AreUnder, opened, IsOpened, under_step, fits_retained, needed_retained, retained_kept, retained_step}
 
 -- ---- histories that go on
 
@@ -177,7 +178,7 @@ uncovered v os = filter (λ o. not (is_covered v o)) os
 covered_more : (v w : List ℕ) (o : Op) → at_most v w ≡ true → is_covered v o ≡ true → is_covered w o ≡ true
 covered_more v w o h k =
     let a = le_is o.seq (slice_index v o.author) k in
-    let b = at_most_index v w o.author h in
+    let b = index_le v w o.author h in
     le_test o.seq (slice_index w o.author) (omega arith)
 
 -- of those that a vector leaves, a greater vector leaves what it leaves of all

@@ -17,7 +17,8 @@ use Rattle.rls_ident.specs.Tuples.{offset_of}
 use Rattle.rls_ident.specs.Identifiers.{is_ident, last_of, ident_eq, greatest_offset}
 use Rattle.rls_ident.specs.Vectors.{at_most}
 use Rattle.rls_ident.proofs.Tuples.{tuple_total}
-use Rattle.rls_ident.proofs.Members.{and_left, and_right, and_true, any_in, eq_test, in_map, le_test, lt_test, or_left, or_right, in_take, in_drop}
+use Rattle.rls_ident.proofs.Members.{and_left, and_right, and_true, any_in, eq_test, in_map, le_test, lt_test, or_left, or_right, in_take, in_drop, not_lt_test, eq_not, not_lt_is, not_int_lt_test}
+use Rattle.rls_ident.proofs.Vectors.{at_most_refl}
 use Rattle.rls_rename.specs.Tree.{Node, name_of, is_of, has_node, names, names_within}
 use Rattle.rls_rename.specs.Tree as tree
 use Rattle.rls_rename.proofs.Paths.{name_eq_refl}
@@ -43,7 +44,7 @@ use Rattle.rls_model.specs.Legal.{IsLegal}
 use Rattle.rls_model.specs.Editing.{get_before, next_seq, first_between, made_body, made, range_fault, or_fault, op_fault, edit_fault}
 use Rattle.rls_model.specs.Laws.{MadeFits}
 use Rattle.rls_model.proofs.OneTree.{none_else, named_le}
-use Rattle.rls_model.proofs.Stable.{length-count, at_most_refl}
+use Rattle.rls_model.proofs.Stable.{length-count}
 use Rattle.rls_model.proofs.Grown.{AreEarlier}
 use Rattle.rls_model.proofs.Fresh.{numbers}
 use Rattle.rls_model.proofs.SameOps.{in_export}
@@ -58,15 +59,6 @@ own H b = record { author = me_of H; seq = next_seq H; context = count H; epoch 
 pub foot : (H : History) → IsLegal H → (me_of H < members_of H) × (members_of H ≤ 64)
 foot (history.Fresh group me members) l = (l.1, l.2)
 foot (Then G e) l = foot G l.0
-
-not_lt_test : (m n : ℕ) → n ≤ m → nat_lt m n ≡ false
-not_lt_test m n h = grind (arith, nat_tests)
-
-neq_of : (m n : ℕ) → (m == n) ≡ false → m ≡ n → ⊥
-neq_of m n h e = grind (arith, nat_tests)
-
-not_lt_of : (m n : ℕ) → nat_lt m n ≡ false → n ≤ m
-not_lt_of m n h = grind (arith, nat_tests)
 
 pub shape_chain : (b1 b2 b3 b4 b5 : Bool) (x1 x2 x3 x4 x5 : Shape) → b1 ≡ true → b2 ≡ true → b3 ≡ false → b4 ≡ false → b5 ≡ false →
     (if not b1 then Some x1 else if not b2 then Some x2 else if b3 then Some x3 else if b4 then Some x4 else if b5 then Some x5 else None) ≡ None
@@ -140,7 +132,7 @@ fault_split H edit h =
     (p.0, q.0, q.1)
 
 unspent : (H : History) (edit : Edit) → op_fault H edit ≡ None → count_of H (me_of H) ≡ 4294967295 → ⊥
-unspent H edit h e = let p = none_else (count_of H (me_of H) == 4294967295) faults.NumbersSpent _ h in neq_of (count_of H (me_of H)) 4294967295 p.0 e
+unspent H edit h e = let p = none_else (count_of H (me_of H) == 4294967295) faults.NumbersSpent _ h in eq_not (count_of H (me_of H)) 4294967295 p.0 e
 
 pub neighbour : (xs : List (List Tuple)) → list_all is_ident xs ≡ true → (k : ℕ) → IsNeighbour (slice_get xs k)
 neighbour [] h zero = tt
@@ -154,13 +146,6 @@ neighbour_before xs h (suc k) = neighbour xs h k
 
 earlier : (H : History) → IsLegal H → AreEarlier (stems H) (me_of H) (next_seq H)
 earlier H l q t e = let r = numbers H l (me_of H) q t e in (r.0, omega (arith, r.1), r.2)
-
-int_not_lt : (x y : ℤ) → y ≤ℤ x → int_lt x y ≡ false
-int_not_lt x y h = go (int_lt x y) refl
-  where
-    go : (b : Bool) → int_lt x y ≡ b → b ≡ false
-    go true e = absurd (omega (arith, ints))
-    go false e = refl
 
 -- targets of the text are known
 text_known : (H : History) (x : List Tuple) → IsIn x (idents H) → is_known H (greatest H) x ≡ true
@@ -184,10 +169,10 @@ insert_fits H at cs l i h =
     let r = none_else (nat_lt 1048576 (length cs)) (faults.TooManyChars (length cs)) None q.1 in
     let g = idents_good H l in
     let b : Began (stems H) (me_of H) (next_seq H) (length cs) (first_between (stems H) (me_of H) (next_seq H) (get_before (idents H) at) (slice_get (idents H) at) (length cs)) =
-    began (stems H) (me_of H) (next_seq H) (get_before (idents H) at) (slice_get (idents H) at) (length cs) (earlier H l) (not_lt_of 1048576 (length cs) r.0) (neighbour_before (idents H) g.0 at) (neighbour (idents H) g.0 at) in
+    began (stems H) (me_of H) (next_seq H) (get_before (idents H) at) (slice_get (idents H) at) (length cs) (earlier H l) (not_lt_is 1048576 (length cs) r.0) (neighbour_before (idents H) g.0 at) (neighbour (idents H) g.0 at) in
     let x = first_between (stems H) (me_of H) (next_seq H) (get_before (idents H) at) (slice_get (idents H) at) (length cs) in
     own_legal H (Insert x cs) l s.0 (unspent H (edits.Insert at cs) s.2) (b.ident, i.1) p.0 r.0
-    (int_not_lt (greatest_offset +ℤ pos 1) (offset_of (last_of x) +ℤ pos (length cs)) b.room)
+    (not_int_lt_test (greatest_offset +ℤ pos 1) (offset_of (last_of x) +ℤ pos (length cs)) b.room)
     (ap (λ c. if c then None else Some (WrongStem (due_offset (stems H) (me_of H) (next_seq H) (last_of x)))) b.used)
 
 delete_fits : (H : History) (at n : ℕ) → IsLegal H → edit_fault H (edits.Delete at n) ≡ None → IsLegal (Then H (Accepted (own H (made_body H (edits.Delete at n)))))
@@ -196,7 +181,7 @@ delete_fits H at n l h =
     let p = none_else (n == 0) faults.EmptyEdit _ s.1 in
     let q = none_else (nat_lt (length (idents H)) (at + n)) (faults.Range at (length (idents H))) _ p.1 in
     let r = none_else (nat_lt 4194304 n) (faults.TooManyChars n) None q.1 in
-    let m = not_lt_of (length (idents H)) (at + n) q.0 in
+    let m = not_lt_is (length (idents H)) (at + n) q.0 in
     let xs = take n (drop at (idents H)) in
     let len : length xs ≡ n = omega (arith, length-take n (drop at (idents H)), length-drop at (idents H)) in
     own_legal H (Delete xs) l s.0 (unspent H (edits.Delete at n) s.2) (good_take n (drop at (idents H)) (good_drop at (idents H) (idents_good H l)))

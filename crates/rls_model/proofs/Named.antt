@@ -8,6 +8,7 @@ use Rattle.rls_ident.specs.declared.epoch_name.EpochName.TheVariants.{Origin}
 use Rattle.rls_ident.specs.Lists.{IsIn}
 use Rattle.rls_ident.specs.Identifiers.{IsIdent, ident_eq}
 use Rattle.rls_ident.proofs.Members.{or_split, in_left, in_right, snoc_split, in_filter, in_any}
+use Rattle.rls_ident.proofs.Ends.{eq_same}
 use Rattle.rls_rename.specs.Tree.{Node, is_kept, AreNodes, AreBelow}
 use Rattle.rls_rename.specs.Tree as tree
 use Rattle.rls_rename.proofs.Kept.{kept_more}
@@ -15,7 +16,6 @@ use Rattle.rls_rename.proofs.Growth.{kept_other, translate_other}
 use Rattle.rls_ops.specs.declared.op.Op.{Op}
 use Rattle.rls_ops.specs.declared.op.Body.{Body}
 use Rattle.rls_ops.specs.declared.op.Body.TheVariants.{Insert, Delete, Rename, Leave}
-use Rattle.rls_ops.proofs.Equal.{ident_is}
 use Rattle.rls_model.specs.Answers.{UnknownTarget}
 use Rattle.rls_model.specs.History.{Entry, Accepted, Acknowledged, History, Then, ops}
 use Rattle.rls_model.specs.History as history
@@ -95,7 +95,7 @@ known_char : (H : History) (e : EpochName) (t : List Tuple) → IsLegal H → ((
 unfolding is_known unstable
 known_char H e t l f h =
     ⊎_elim
-    (λ k. let r = in_any (λ c. ident_eq (ident_in H e c) t) (live H) k in (r.0, live_char H r.0 r.1, ident_is (ident_in H e r.0) t r.2))
+    (λ k. let r = in_any (λ c. ident_eq (ident_in H e c) t) (live H) k in (r.0, live_char H r.0 r.1, eq_same (ident_in H e r.0) t r.2))
     (λ k. let r = in_any (λ d. list_any (λ u. ident_eq (translate H d.epoch e u) t) (targets_of d.body)) (unstable H) k in
     let d = r.0 in
     let q = in_any (λ u. ident_eq (translate H d.epoch e u) t) (targets_of d.body) r.2 in
@@ -103,7 +103,7 @@ known_char H e t l f h =
     let c = f d m.0 q.0 q.1 in (
       c.0,
       c.1,
-      through H c.0 d.epoch e q.0 t l (known H l c.0 c.1).0 c.2 (ident_is (translate H d.epoch e q.0) t q.2),
+      through H c.0 d.epoch e q.0 t l (known H l c.0 c.1).0 c.2 (eq_same (translate H d.epoch e q.0) t q.2),
     ))
     (or_split (list_any (λ c. ident_eq (ident_in H e c) t) (live H)) (list_any (λ d. list_any (λ u. ident_eq (translate H d.epoch e u) t) (targets_of d.body)) (unstable H)) h)
 
@@ -143,6 +143,6 @@ newborn_unnamed G o l c p d q h =
     let t = target_char G l.0 d q r.0 r.1 in
     let k = op_kept G l.0 d q in
     let e : ident_in K d.epoch t.0 ≡ ident_in K d.epoch c =
-    grown_translate G (Accepted o) l (t.0).epoch d.epoch (t.0).ident (known G l.0 t.0 t.1).1 k ∙ (t.2 ∙ ident_is r.0 (ident_in K d.epoch c) r.2) in
+    grown_translate G (Accepted o) l (t.0).epoch d.epoch (t.0).ident (known G l.0 t.0 t.1).1 k ∙ (t.2 ∙ eq_same r.0 (ident_in K d.epoch c) r.2) in
     let s : t.0 ≡ c = one_ident K l t.0 c (char_old G o t.0 t.1) (char_new G o c p) d.epoch (grown_kept G (Accepted o) d.epoch k) e in
     old_new G o l c (subst (λ (z : Character). IsIn z (chars G)) s t.1) p

@@ -9,6 +9,7 @@ use Rattle.rls_ident.specs.declared.epoch_name.EpochName.TheVariants.{Origin, Of
 use Rattle.rls_ident.specs.EpochNames.{name_eq}
 use Rattle.rls_ident.specs.Identifiers.{IsIdent, ident_cmp}
 use Rattle.rls_ident.specs.Vectors.{at_most, raise}
+use Rattle.rls_ident.proofs.Vectors.{index-raise_same, index-raise_le}
 use Rattle.rls_rename.specs.Tree.{has_node, is_kept, AreNodes, AreBelow}
 use Rattle.rls_rename.proofs.Former.{former_of}
 use Rattle.rls_rename.proofs.Kept.{greatest_within_kept}
@@ -56,18 +57,6 @@ former_some members o b e h =
     ap is_empty (sym e) ∙ r.0
 
 -- ---- names
-
-pub index-raise_same : (v : List ℕ) (i : ℕ) → i < length v → slice_index (raise v i) i ≡ suc (slice_index v i)
-index-raise_same [] i h = absurd (omega arith)
-index-raise_same (n ∷ ns) zero h = refl
-index-raise_same (n ∷ ns) (suc i) h = index-raise_same ns i (omega arith)
-
-pub index-raise_le : (v : List ℕ) (i j : ℕ) → slice_index v j ≤ slice_index (raise v i) j
-index-raise_le [] i j = omega arith
-index-raise_le (n ∷ ns) zero zero = omega arith
-index-raise_le (n ∷ ns) zero (suc j) = omega arith
-index-raise_le (n ∷ ns) (suc i) zero = omega arith
-index-raise_le (n ∷ ns) (suc i) (suc j) = index-raise_le ns i j
 
 -- the author's count after its next operation is the number of that operation
 pub count_next : (G : History) (o : Op) → MayAccept G o → o.seq ≤ count_of (Then G (Accepted o)) o.author

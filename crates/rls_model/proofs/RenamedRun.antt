@@ -12,7 +12,7 @@ use Rattle.rls_ident.specs.declared.epoch_name.EpochName.TheVariants.{Origin, Of
 use Rattle.rls_ident.specs.Lists.{IsIn}
 use Rattle.rls_ident.specs.Identifiers.{last_of, shifted, least_offset, greatest_offset}
 use Rattle.rls_ident.specs.Between.{between}
-use Rattle.rls_ident.proofs.Members.{same_bool, and_true, in_left, snoc_split, in_map, map_in, in_filter, filter_in, in_any, any_in, eq_refl, int_test, not_lt_is}
+use Rattle.rls_ident.proofs.Members.{same_bool, and_true, in_left, snoc_split, in_map, map_in, in_filter, filter_in, in_any, any_in, eq_refl, int_test, not_lt_is, int_le_test, not_zero}
 use Rattle.rls_ident.proofs.Shifted.{shifted_shifted, shifted_none}
 use Rattle.rls_runs.specs.Runs.{run_idents, put_run, runs_of}
 use Rattle.rls_rename.specs.Renaming.{Renaming, IsFormer, new_spot, new_at, new_pos, forward}
@@ -247,9 +247,6 @@ renamed_export_at H l = export_rename H (made H edits.Rename) l refl refl
 pub renamed_export : (H : History) → IsLegal H → edit_fault H edits.Rename ≡ None → export (renamed H) ≡ entries (first_made H) (text H)
 renamed_export H l h = renamed_export_at H (made.law H edits.Rename l tt h)
 
-some_is : (n : ℕ) → (n == 0) ≡ false → 0 < n
-some_is n e = grind (arith, nat_tests)
-
 length-shown : (H : History) → length (idents H) ≡ length (text H)
 unfolding idents text
 length-shown H = go (export H)
@@ -265,7 +262,7 @@ text_some H h =
     let p = none_else (length (idents H) == 0) faults.EmptyDocument _ s.1 in
     let q = none_else (nat_lt 4194304 (length (idents H))) (faults.TooManyChars (length (idents H))) None p.1 in
     let e = length-shown H in
-    let a = some_is (length (idents H)) p.0 in
+    let a = not_zero (length (idents H)) p.0 in
     let b = not_lt_is 4194304 (length (idents H)) q.0 in
     (omega arith, omega arith)
 
@@ -276,7 +273,7 @@ insert_some H at cs h =
     let p = none_else (length cs == 0) faults.EmptyEdit _ s.1 in
     let q = none_else (nat_lt (length (idents H)) at) (faults.Range at (length (idents H))) _ p.1 in
     let r = none_else (nat_lt 1048576 (length cs)) (faults.TooManyChars (length cs)) None q.1 in
-    (some_is (length cs) p.0, not_lt_is 1048576 (length cs) r.0)
+    (not_zero (length cs) p.0, not_lt_is 1048576 (length cs) r.0)
 
 -- the stem of the rename
 renamed_stem : (H : History) → stem_of (stems (renamed H)) (me_of H) (next_seq H) ≡ Some (new_stem (me_of H) (next_seq H) (length (idents H)))
@@ -285,13 +282,6 @@ renamed_stem H = found_same (new_stem (me_of H) (next_seq H) (length (idents H))
 
 own_new : (H : History) (k : ℤ) → own_stem (stems (renamed H)) (me_of H) (At (new_pos (idents H)) (me_of H) (next_seq H) k) ≡ Some (new_stem (me_of H) (next_seq H) (length (idents H)))
 own_new H k = ap (λ b. if b then stem_of (stems (renamed H)) (me_of H) (next_seq H) else None) (eq_refl (me_of H)) ∙ renamed_stem H
-
-le_test : (a b : ℤ) → a ≤ℤ b → int_le a b ≡ true
-le_test a b h = go (int_le a b) refl
-  where
-    go : (c : Bool) → int_le a b ≡ c → c ≡ true
-    go true e = refl
-    go false e = absurd (omega (arith, ints))
 
 run_at : (x : List Tuple) (n : ℕ) → slice_get (run_idents x (suc n)) n ≡ Some (shifted (pos n) x)
 run_at x zero = ap Some (sym (shifted_none x))
@@ -312,7 +302,7 @@ appends_at H n seq cs e m =
     let left = shifted (pos n) (first_made H) in
     let w = new_stem (me_of H) (next_seq H) (length (idents H)) in
     let a : int_eq ((pos 0 +ℤ pos n) +ℤ pos 1) (pos (length (idents H))) ≡ true = int_test ((pos 0 +ℤ pos n) +ℤ pos 1) (pos (length (idents H))) (sum n (length (idents H)) e) in
-    let b : int_le ((pos 0 +ℤ pos n) +ℤ pos (length cs)) greatest_offset ≡ true = le_test ((pos 0 +ℤ pos n) +ℤ pos (length cs)) greatest_offset (most n (length cs) m) in
+    let b : int_le ((pos 0 +ℤ pos n) +ℤ pos (length cs)) greatest_offset ≡ true = int_le_test ((pos 0 +ℤ pos n) +ℤ pos (length cs)) greatest_offset (most n (length cs) m) in
     let f : may_append (own_stem (stems (renamed H)) (me_of H) (last_of left)) left None (length cs) ≡ true =
     ap (λ o. may_append o left None (length cs)) (own_new H (pos 0 +ℤ pos n)) ∙ and_true _ true (and_true _ _ a b) refl in
     ap (λ c. if c then shifted (pos 1) left else first_before (stems (renamed H)) (me_of H) seq (Some left) None (length cs)) f
@@ -378,7 +368,7 @@ prepends_at H seq cs m =
     let x = first_made H in
     let d = pos 0 -ℤ pos (length cs) in
     let a : int_eq (pos 0) (pos 0) ≡ true = int_test (pos 0) (pos 0) refl in
-    let b : int_le least_offset (pos 0 -ℤ pos (length cs)) ≡ true = le_test least_offset (pos 0 -ℤ pos (length cs)) (least (length cs) m) in
+    let b : int_le least_offset (pos 0 -ℤ pos (length cs)) ≡ true = int_le_test least_offset (pos 0 -ℤ pos (length cs)) (least (length cs) m) in
     let f : may_prepend (own_stem (stems (renamed H)) (me_of H) (last_of x)) None x (length cs) ≡ true =
     ap (λ o. may_prepend o None x (length cs)) (own_new H (pos 0)) ∙ and_true _ true (and_true _ _ a b) refl in
     ap (λ c. if c then shifted d x else between [] x (me_of H) seq) f

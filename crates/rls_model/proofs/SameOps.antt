@@ -7,6 +7,7 @@ use Rattle.rls_ident.specs.declared.epoch_name.EpochName.TheVariants.{Origin}
 use Rattle.rls_ident.specs.Lists.{IsIn, AreIn}
 use Rattle.rls_ident.specs.Identifiers.{shifted}
 use Rattle.rls_ident.proofs.Members.{any_in, are_in, filter_in, in_any, in_filter, in_left, in_map, in_right, in_split, map_in, same_bool, snoc_split}
+use Rattle.rls_ident.proofs.Vectors.{index-raise_le}
 use Rattle.rls_runs.specs.Runs.{runs_of}
 use Rattle.rls_rename.specs.Tree.{Node, is_kept}
 use Rattle.rls_rename.proofs.Kept.{kept_more, greatest_kept}
@@ -20,7 +21,7 @@ use Rattle.rls_model.specs.Epochs.{epochs, nodes_after, renaming_of, greatest, t
 use Rattle.rls_model.specs.Document.{Character, chars, chars_of, chars_from, chars_of_all, targets_of, ident_in, has_ident, is_named, live, export, idents, text}
 use Rattle.rls_model.specs.Legal.{IsLegal}
 use Rattle.rls_model.specs.Laws.{HaveSameOps, SameOperations}
-use Rattle.rls_model.proofs.OneTree.{nodes, parents, epoch_kept, index-raise_le, count_next}
+use Rattle.rls_model.proofs.OneTree.{nodes, parents, epoch_kept, count_next}
 use Rattle.rls_model.proofs.Distinct.{char_split, all_append, known, one}
 use Rattle.rls_runs.proofs.Sorted.{Rises, AreApart, AreDistinct, AllApart, rises_all, in_put_all, put_all_in, same_rising}
 
@@ -146,11 +147,11 @@ op_kept (Then G (Accepted u)) l o p =
 
 -- ---- characters of equal sets of operations
 
-in_chars : (c : Character) (os : List Op) → IsIn c (chars_of_all os) → (o : Op) × IsIn o os × IsIn c (chars_of o o.body)
+pub in_chars : (c : Character) (os : List Op) → IsIn c (chars_of_all os) → (o : Op) × IsIn o os × IsIn c (chars_of o o.body)
 in_chars c [] p = absurd p
 in_chars c (o ∷ os) p = ⊎_elim (λ q. (o, inl refl, q)) (λ q. let r = in_chars c os q in (r.0, inr r.1, r.2)) (in_split c (chars_of o o.body) (chars_of_all os) p)
 
-chars_in : (c : Character) (o : Op) (os : List Op) → IsIn o os → IsIn c (chars_of o o.body) → IsIn c (chars_of_all os)
+pub chars_in : (c : Character) (o : Op) (os : List Op) → IsIn o os → IsIn c (chars_of o o.body) → IsIn c (chars_of_all os)
 chars_in c o [] p q = absurd p
 chars_in c o (u ∷ os) (inl e) q = in_left c (chars_of u u.body) (chars_of_all os) (subst (λ (w : Op). IsIn c (chars_of w w.body)) (sym e) q)
 chars_in c o (u ∷ os) (inr p) q = in_right c (chars_of u u.body) (chars_of_all os) (chars_in c o os p q)

@@ -8,10 +8,9 @@ use Rattle.rls_ident.specs.Lists.{IsIn}
 use Rattle.rls_ident.proofs.Lists.{Lt, lt_trans}
 use Rattle.rls_ident.proofs.Tuples.{tuples}
 use Rattle.rls_ident.proofs.Members.{in_split, in_take, in_drop}
-use Rattle.rls_ident.proofs.Shifted.{shifted_none, shifted_shifted, shifted_less}
+use Rattle.rls_ident.proofs.Shifted.{shifted_none, shifted_shifted, shifted_less, ident_shifted}
 use Rattle.rls_model.specs.Editing.{get_before}
-use Rattle.rls_model.proofs.Distinct.{ident_shifted}
-use Rattle.rls_runs.proofs.Sorted.{Entry, IsBelow, AreAbove, Rises}
+use Rattle.rls_runs.proofs.Sorted.{Entry, IsBelow, AreAbove, Rises, above_at}
 
 -- z is above the left neighbour, where there is one
 abbrev pub IsAfter : Option (List Tuple) → List Tuple → Type 0
@@ -43,11 +42,6 @@ chars-entries x (c ∷ cs) = ap (λ ds. c ∷ ds) (chars-entries (shifted (pos 1
 
 -- ---- rising lists
 
-pub below_at : (x y : Entry) (ys : List Entry) → AreAbove x ys → IsIn y ys → IsBelow x y
-below_at x y [] a p = absurd p
-below_at x y (z ∷ ys) a (inl e) = subst (λ (w : Entry). IsBelow x w) e a.0
-below_at x y (z ∷ ys) a (inr p) = below_at x y ys a.1 p
-
 pub above_of : (x : Entry) (ys : List Entry) → ((y : Entry) → IsIn y ys → IsBelow x y) → AreAbove x ys
 above_of x [] f = tt
 above_of x (y ∷ ys) f = (f y (inl refl), above_of x ys (λ z p. f z (inr p)))
@@ -55,7 +49,7 @@ above_of x (y ∷ ys) f = (f y (inl refl), above_of x ys (λ z p. f z (inr p)))
 pub rises_append : (xs ys : List Entry) → Rises xs → Rises ys → ((x y : Entry) → IsIn x xs → IsIn y ys → IsBelow x y) → Rises (xs ++ ys)
 rises_append [] ys r s f = s
 rises_append (x ∷ xs) ys r s f =
-    (above_of x (xs ++ ys) (λ z p. ⊎_elim (λ q. below_at x z xs r.0 q) (λ q. f x z (inl refl) q) (in_split z xs ys p)), rises_append xs ys r.1 s (λ z w p q. f z w (inr p) q))
+    (above_of x (xs ++ ys) (λ z p. ⊎_elim (λ q. above_at x z xs r.0 q) (λ q. f x z (inl refl) q) (in_split z xs ys p)), rises_append xs ys r.1 s (λ z w p q. f z w (inr p) q))
 
 pub rises_splice : (n : ℕ) (xs mid : List Entry) → Rises xs → Rises mid → ((m y : Entry) → IsIn m mid → IsIn y (take n xs) → IsBelow y m) → ((m y : Entry) → IsIn m mid → IsIn y (drop n xs) → IsBelow m y) →
     Rises (take n xs ++ (mid ++ drop n xs))
@@ -63,7 +57,7 @@ rises_splice zero xs mid r s f g = rises_append mid xs s r g
 rises_splice (suc n) [] mid r s f g = rises_append mid [] s tt (λ x y p q. absurd q)
 rises_splice (suc n) (x ∷ xs) mid r s f g = (
   above_of x (take n xs ++ (mid ++ drop n xs))
-      (λ z p. ⊎_elim (λ q. below_at x z xs r.0 (in_take n z xs q)) (λ q. ⊎_elim (λ t. f z x t (inl refl)) (λ t. below_at x z xs r.0 (in_drop n z xs t)) (in_split z mid (drop n xs) q)) (in_split z (take n xs) (mid ++ drop n xs) p)),
+      (λ z p. ⊎_elim (λ q. above_at x z xs r.0 (in_take n z xs q)) (λ q. ⊎_elim (λ t. f z x t (inl refl)) (λ t. above_at x z xs r.0 (in_drop n z xs t)) (in_split z mid (drop n xs) q)) (in_split z (take n xs) (mid ++ drop n xs) p)),
   rises_splice n xs mid r.1 s (λ m y p q. f m y p (inr q)) g,
 )
 
@@ -82,7 +76,7 @@ take_below (suc (suc n)) (x ∷ (w ∷ xs)) h r z a y (inr p) = take_below (suc 
 pub drop_above : (n : ℕ) (xs : List Entry) → Rises xs → (z : List Tuple) → IsBefore z (slice_get (ids xs) n) → (y : Entry) → IsIn y (drop n xs) → Lt tuples z y.0
 drop_above zero [] r z b y p = absurd p
 drop_above zero (x ∷ xs) r z b y (inl e) = subst (λ (w : Entry). Lt tuples z w.0) e b
-drop_above zero (x ∷ xs) r z b y (inr p) = lt_trans b (below_at x y xs r.0 p)
+drop_above zero (x ∷ xs) r z b y (inr p) = lt_trans b (above_at x y xs r.0 p)
 drop_above (suc n) [] r z b y p = absurd p
 drop_above (suc n) (x ∷ xs) r z b y p = drop_above n xs r.1 z b y p
 

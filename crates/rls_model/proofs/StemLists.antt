@@ -3,7 +3,7 @@ use Rattle.std.proofs.Common.{◌≡◌, ℕ, Bool, true, false, List, [], ◌�
 use Rattle.std.specs.Prelude.{if◌then◌else◌, ◌==◌, Some, ℤ, pos, ◌≤ℤ◌, ◌<ℤ◌}
 use Rattle.std.specs.Int.RustNames.{int_lt, int_le}
 use Rattle.std.proofs.lemmas.Int.{ints}
-use Rattle.rls_ident.proofs.Members.{and_left, and_right, and_true, eq_is, eq_refl, not_true}
+use Rattle.rls_ident.proofs.Members.{and_left, and_right, and_true, eq_is, eq_refl, not_true, int_le_test, int_lt_test}
 use Rattle.rls_model.specs.declared.parts.Stem.{Stem}
 use Rattle.rls_model.specs.Stems.{is_stem, stem_of, has_used, stands_before, with_stem}
 
@@ -63,22 +63,8 @@ used_is t k h =
     let b = and_right (int_le t.low k) (int_lt k (pos t.next)) h in
     (omega (arith, ints), omega (arith, ints))
 
-le_test : (a b : ℤ) → a ≤ℤ b → int_le a b ≡ true
-le_test a b h = go (int_le a b) refl
-  where
-    go : (c : Bool) → int_le a b ≡ c → c ≡ true
-    go true e = refl
-    go false e = absurd (omega (arith, ints))
-
-lt_test : (a b : ℤ) → a <ℤ b → int_lt a b ≡ true
-lt_test a b h = go (int_lt a b) refl
-  where
-    go : (c : Bool) → int_lt a b ≡ c → c ≡ true
-    go true e = refl
-    go false e = absurd (omega (arith, ints))
-
 pub used_from : (t : Stem) (k : ℤ) → t.low ≤ℤ k → k <ℤ pos t.next → has_used (Some t) k ≡ true
-used_from t k h l = and_true (int_le t.low k) (int_lt k (pos t.next)) (le_test t.low k h) (lt_test k (pos t.next) l)
+used_from t k h l = and_true (int_le t.low k) (int_lt k (pos t.next)) (int_le_test t.low k h) (int_lt_test k (pos t.next) l)
 
 pub unused_from : (t : Stem) (k : ℤ) → (t.low ≤ℤ k → k <ℤ pos t.next → ⊥) → has_used (Some t) k ≡ false
 unused_from t k h = not_true (has_used (Some t) k) (λ e. let p = used_is t k e in h p.0 p.1)

@@ -3,12 +3,15 @@ use Rattle.std.proofs.Common.{◌≡◌, ℕ, Bool, true, false, List, [], ◌�
 use Rattle.std.specs.Prelude.{pos, not, cond, ◌||◌, filter}
 use Rattle.std.specs.List.{list_all, list_any}
 use Rattle.std.specs.Ordering.{is_eq}
+use Rattle.std.proofs.lemmas.List.Elements.{filter-append}
 use Rattle.rls_ident.specs.declared.tuple.Tuple.{Tuple}
 use Rattle.rls_ident.specs.declared.epoch_name.EpochName.{EpochName}
 use Rattle.rls_ident.specs.declared.epoch_name.EpochName.TheVariants.{Origin, Of}
 use Rattle.rls_ident.specs.Lists.{IsIn}
 use Rattle.rls_ident.specs.Identifiers.{shifted, is_ident, IsIdent, ident_eq}
-use Rattle.rls_ident.proofs.Members.{and_left, and_right, in_map, map_in, in_filter, filter_in}
+use Rattle.rls_ident.proofs.Members.{and_left, and_right, in_map, map_in, in_filter, filter_in, or_none}
+use Rattle.rls_ident.proofs.Shifted.{ident_shifted}
+use Rattle.rls_ident.proofs.Agreeing.{map_same, filter_same, filter_all}
 use Rattle.rls_rename.specs.Renaming.{forward}
 use Rattle.rls_rename.specs.Tree.{Node, is_kept}
 use Rattle.rls_rename.specs.Tree as tree
@@ -23,8 +26,8 @@ use Rattle.rls_model.specs.Document.{Character, chars, chars_of, chars_from, cha
 use Rattle.rls_model.specs.WellFormed.{IsBody}
 use Rattle.rls_model.specs.Legal.{IsLegal}
 use Rattle.rls_model.proofs.OneTree.{history_ident, history_translate, history_order}
-use Rattle.rls_model.proofs.Distinct.{ident_shifted, all_append, known}
-use Rattle.rls_runs.proofs.Sorted.{Entry, AreAbove, Rises, same_rising}
+use Rattle.rls_model.proofs.Distinct.{all_append, known}
+use Rattle.rls_runs.proofs.Sorted.{Entry, AreAbove, Rises, same_rising, rises_filter}
 use Rattle.rls_model.proofs.SameOps.{entry_of, live_char, top_kept, export_rises, in_export, export_in}
 use Rattle.rls_model.proofs.Ranges.{export_ident}
 use Rattle.rls_model.proofs.Named.{grown_translate, char_old, char_new, old_new, one_ident}
@@ -33,26 +36,6 @@ use Rattle.rls_model.proofs.Insertion.{born, born_entries, born_in, same_named, 
 use Rattle.rls_model.proofs.RenamedRun.{live_back, live_stays, nodes_are, tree_of}
 
 -- ---- lists
-
-filter_append : {A : Type 0} (t : A → Bool) (xs ys : List A) → filter t (xs ++ ys) ≡ filter t xs ++ filter t ys
-filter_append t [] ys = refl
-filter_append {A} t (x ∷ xs) ys = go (t x) (filter_append t xs ys)
-  where
-    go : (b : Bool) → filter t (xs ++ ys) ≡ filter t xs ++ filter t ys → cond b (x ∷ filter t (xs ++ ys)) (filter t (xs ++ ys)) ≡ cond b (x ∷ filter t xs) (filter t xs) ++ filter t ys
-    go true h = ap (λ zs. x ∷ zs) h
-    go false h = h
-
-filter_same : {A : Type 0} (s t : A → Bool) (xs : List A) → ((x : A) → IsIn x xs → s x ≡ t x) → filter s xs ≡ filter t xs
-filter_same s t [] f = refl
-filter_same s t (x ∷ xs) f = ap (λ b. cond b (x ∷ filter s xs) (filter s xs)) (f x (inl refl)) ∙ ap (λ zs. cond (t x) (x ∷ zs) zs) (filter_same s t xs (λ z p. f z (inr p)))
-
-filter_all : {A : Type 0} (t : A → Bool) (xs : List A) → ((x : A) → IsIn x xs → t x ≡ true) → filter t xs ≡ xs
-filter_all t [] f = refl
-filter_all t (x ∷ xs) f = ap (λ b. cond b (x ∷ filter t xs) (filter t xs)) (f x (inl refl)) ∙ ap (λ zs. x ∷ zs) (filter_all t xs (λ z p. f z (inr p)))
-
-pub map_same : {A B : Type 0} (f g : A → B) (xs : List A) → ((x : A) → IsIn x xs → f x ≡ g x) → map f xs ≡ map g xs
-map_same f g [] h = refl
-map_same f g (x ∷ xs) h = ap (λ y. y ∷ map f xs) (h x (inl refl)) ∙ ap (λ ys. g x ∷ ys) (map_same f g xs (λ z p. h z (inr p)))
 
 put_all_append : (xs ys zs : List Entry) → put_all (xs ++ ys) zs ≡ put_all ys (put_all xs zs)
 put_all_append [] ys zs = refl
@@ -68,7 +51,7 @@ live_insert G o x cs l e =
     let xs = chars_of_all (ops G) in
     let ys = chars_of o o.body in
     ap (filter t) (all_append (ops G) o)
-    ∙ (filter_append t xs ys
+    ∙ (filter-append t xs ys
     ∙ (ap (λ zs. zs ++ filter t ys) (filter_same t (λ c. not (is_named G c)) xs (λ c p. ap not (same_named G o x cs e c)))
     ∙ ap (λ zs. filter (λ c. not (is_named G c)) xs ++ zs) (filter_all t ys (λ c p. ap not (new_unnamed G o x cs l e c p)))))
 
@@ -106,11 +89,7 @@ export_put G o x cs l e =
 -- ---- a deletion
 
 any_snoc : {A : Type 0} (t : A → Bool) (xs : List A) (y : A) → list_any t (xs ++ (y ∷ [])) ≡ (list_any t xs || t y)
-any_snoc t [] y = none (t y)
-  where
-    none : (b : Bool) → (b || false) ≡ b
-    none true = refl
-    none false = refl
+any_snoc t [] y = or_none (t y)
 any_snoc t (x ∷ xs) y = ap (λ b. t x || b) (any_snoc t xs y) ∙ assoc (t x) (list_any t xs) (t y)
   where
     assoc : (a b c : Bool) → (a || (b || c)) ≡ ((a || b) || c)
@@ -162,22 +141,6 @@ unfolding live
 live_delete G o ts e =
     ap (filter (λ c. not (is_named (Then G (Accepted o)) c))) (delete_chars G o ts e)
     ∙ filter_both (λ c. is_named G c) (λ c. has_ident ts (ident_in G o.epoch c)) (λ c. is_named (Then G (Accepted o)) c) (chars G) (delete_named G o ts e)
-
-above_filter : (t : Entry → Bool) (x : Entry) (xs : List Entry) → AreAbove x xs → AreAbove x (filter t xs)
-above_filter t x [] a = tt
-above_filter t x (y ∷ ys) a = go (t y) (above_filter t x ys a.1)
-  where
-    go : (b : Bool) → AreAbove x (filter t ys) → AreAbove x (cond b (y ∷ filter t ys) (filter t ys))
-    go true h = (a.0, h)
-    go false h = h
-
-rises_filter : (t : Entry → Bool) (xs : List Entry) → Rises xs → Rises (filter t xs)
-rises_filter t [] r = tt
-rises_filter t (x ∷ xs) r = go (t x) (rises_filter t xs r.1)
-  where
-    go : (b : Bool) → Rises (filter t xs) → Rises (cond b (x ∷ filter t xs) (filter t xs))
-    go true h = (above_filter t x xs r.0, h)
-    go false h = h
 
 -- the targets in the greatest epoch
 abbrev pub aims : History → Op → List (List Tuple) → List (List Tuple)
@@ -284,7 +247,7 @@ placed_rise : (G : History) (e : EpochName) → IsLegal G → (ys : List Entry) 
 placed_rise G e l [] f r = tt
 placed_rise G e l (y ∷ ys) f r = (placed_above G e l y ys (f y (inl refl)) (λ z p. f z (inr p)) r.0, placed_rise G e l ys (λ z p. f z (inr p)) r.1)
 
-entry_ident : (x : List Tuple) (cs : List ℕ) → IsIdent x → (y : Entry) → IsIn y (entries x cs) → IsIdent y.0
+pub entry_ident : (x : List Tuple) (cs : List ℕ) → IsIdent x → (y : Entry) → IsIn y (entries x cs) → IsIdent y.0
 entry_ident x [] i y p = absurd p
 entry_ident x (c ∷ cs) i y (inl e) = subst (λ (z : Entry). IsIdent z.0) e i
 entry_ident x (c ∷ cs) i y (inr p) = entry_ident (shifted (pos 1) x) cs (ident_shifted (pos 1) x i) y p
@@ -323,11 +286,7 @@ leave_live G o e =
     (λ c p. let s : Op → Bool = λ d. has_ident (targets_of d.body) (tree.translate (epochs G) c.epoch d.epoch c.ident) in
     ap not
     (ap (λ ns. is_named_by ns (ops G ++ (o ∷ [])) c) (ap (nodes_after (epochs G) o) e)
-    ∙ (any_snoc s (ops G) o ∙ (ap (λ b. list_any s (ops G) || has_ident (targets_of b) (tree.translate (epochs G) c.epoch o.epoch c.ident)) e ∙ none (list_any s (ops G))))))
-  where
-    none : (b : Bool) → (b || false) ≡ b
-    none true = refl
-    none false = refl
+    ∙ (any_snoc s (ops G) o ∙ (ap (λ b. list_any s (ops G) || has_ident (targets_of b) (tree.translate (epochs G) c.epoch o.epoch c.ident)) e ∙ or_none (list_any s (ops G))))))
 
 pub export_leave : (G : History) (o : Op) → o.body ≡ Leave → export (Then G (Accepted o)) ≡ export G
 unfolding export translate greatest

@@ -13,6 +13,8 @@ use Rattle.rls_ident.specs.Lists.{IsIn}
 use Rattle.rls_ident.specs.Identifiers.{IsIdent, ident_eq}
 use Rattle.rls_ident.proofs.Members.{not_true, same_bool, or_split, in_any, any_in, each_in}
 use Rattle.rls_ident.proofs.Tuples.{tuple_total}
+use Rattle.rls_ident.proofs.Ends.{eq_same, same_eq}
+use Rattle.rls_ident.proofs.Agreeing.{map_same, any_same}
 use Rattle.rls_rename.specs.Tree.{Node, name_of, is_of, has_node, is_kept, AreNodes, epoch_cmp}
 use Rattle.rls_rename.specs.Tree as tree
 use Rattle.rls_rename.proofs.Growth.{translate_back}
@@ -35,9 +37,7 @@ use Rattle.rls_model.proofs.Stable.{stable_row}
 use Rattle.rls_model.proofs.OneTree.{nodes, parents, history_translate}
 use Rattle.rls_model.proofs.Distinct.{known}
 use Rattle.rls_model.proofs.SameOps.{entry_of, live_char, top_kept, in_export, export_in}
-use Rattle.rls_ops.proofs.Equal.{ident_is}
 use Rattle.rls_model.proofs.Named.{grown_kept}
-use Rattle.rls_model.proofs.TextSteps.{map_same}
 use Rattle.rls_model.proofs.Dropping.{Keeps, IsOpened, grown_cmp, kept_cases, greatest_retained, unstable_retained}
 use Rattle.rls_model.proofs.Later.{uncovered, uncovered_again}
 
@@ -66,9 +66,6 @@ back_over : (H : History) (e f : EpochName) (x : List Tuple) → IsLegal H → I
 unfolding translate
 back_over H e f x l i = translate_back (epochs H) e f x (nodes H l) i
 
-eq_test : (x y : List Tuple) → x ≡ y → ident_eq x y ≡ true
-eq_test x y e = ap (λ z. ident_eq z y) e ∙ ap is_eq (tied_itself (lists_total tuple_total) y)
-
 -- a live character's identifier is found in the text, translated by the window
 live_over : (H : History) (U : EpochName) (A : List Node) → IsLegal H → Keeps H U A → (f : EpochName) (t : List Tuple) → is_kept U A f ≡ true → IsIdent t →
     list_any (λ c. ident_eq (ident_in H f c) t) (live H) ≡ list_any (λ y. ident_eq y.0 (tree.translate A f (greatest H) t)) (export H)
@@ -80,18 +77,14 @@ live_over H U A l k f t h i =
     same_bool (list_any s (live H)) (list_any p (export H))
     (λ q. let r = in_any s (live H) q in
     let c = r.0 in
-    let e : ident_in H g c ≡ tree.translate A f g t = sym (history_translate H c.epoch f g c.ident l (known H l c (live_char H c r.1)).0) ∙ (ap (translate H f g) (ident_is (ident_in H f c) t r.2) ∙ sym over) in
-    any_in p (entry_of H c) (export H) (export_in H c r.1) (eq_test (ident_in H g c) (tree.translate A f g t) e))
+    let e : ident_in H g c ≡ tree.translate A f g t = sym (history_translate H c.epoch f g c.ident l (known H l c (live_char H c r.1)).0) ∙ (ap (translate H f g) (eq_same (ident_in H f c) t r.2) ∙ sym over) in
+    any_in p (entry_of H c) (export H) (export_in H c r.1) (same_eq (ident_in H g c) (tree.translate A f g t) e))
     (λ q. let r = in_any p (export H) q in
     let w = in_export H r.0 r.1 in
     let c = w.0 in
-    let e : ident_in H g c ≡ translate H f g t = ap (λ (y : List Tuple × ℕ). y.0) w.2 ∙ (ident_is (r.0).0 (tree.translate A f g t) r.2 ∙ over) in
+    let e : ident_in H g c ≡ translate H f g t = ap (λ (y : List Tuple × ℕ). y.0) w.2 ∙ (eq_same (r.0).0 (tree.translate A f g t) r.2 ∙ over) in
     let d : ident_in H f c ≡ t = sym (history_translate H c.epoch g f c.ident l (known H l c (live_char H c w.1)).0) ∙ (ap (translate H g f) e ∙ back_over H f g t l i) in
-    any_in s c (live H) w.1 (eq_test (ident_in H f c) t d))
-
-any_same : {B : Type 0} (s t : B → Bool) (xs : List B) → ((x : B) → IsIn x xs → s x ≡ t x) → list_any s xs ≡ list_any t xs
-any_same s t [] f = refl
-any_same s t (x ∷ xs) f = ap (λ b. b || list_any s xs) (f x (inl refl)) ∙ ap (λ b. t x || b) (any_same s t xs (λ z p. f z (inr p)))
+    any_in s c (live H) w.1 (same_eq (ident_in H f c) t d))
 
 -- whether a target is known can be told from the window, the text and the unstable operations
 pub known_window : (H : History) (U : EpochName) (A : List Node) → IsLegal H → Keeps H U A → (f : EpochName) (t : List Tuple) → is_kept U A f ≡ true → IsIdent t →

@@ -13,17 +13,13 @@ use Rattle.rls_rename.proofs.Kept.{greatest_kept}
 use Rattle.rls_rename.proofs.Paths.{name_eq_is, name_eq_refl}
 use Rattle.rls_rename.proofs.SameNodes.{path_within, kept_within, epoch_same, from_top, name_in, greatest_top, paths_total, tied, top_at}
 use Rattle.rls_rename.proofs.Order.{in_within, within_in}
+use Rattle.rls_rename.proofs.Hull.{in_name}
 
 -- a node has the name
 pub in_names : (ns : List Node) (e : EpochName) → IsIn e (names ns) → (n : Node) × IsIn n ns × (name_of n.renaming ≡ e)
 in_names [] e p = absurd p
 in_names (n ∷ ns) e (inl q) = (n, inl refl, q)
 in_names (n ∷ ns) e (inr p) = let r = in_names ns e p in (r.0, inr r.1, r.2)
-
-pub named : (ns : List Node) (e : EpochName) → IsIn e (names ns) → has_node ns e ≡ true
-named [] e p = absurd p
-named (n ∷ ns) e (inl q) = or_left (is_of n e) (has_node ns e) (ap (λ d. name_eq d e) q ∙ name_eq_refl e)
-named (n ∷ ns) e (inr p) = or_right (is_of n e) (has_node ns e) (named ns e p)
 
 from_in : (ns : List Node) (e : EpochName) (fs : List EpochName) → (e ≡ greatest_from ns e fs) ⊎ IsIn (greatest_from ns e fs) fs
 from_in ns e [] = inl refl

@@ -2,7 +2,7 @@
 use Rattle.std.proofs.Common.{◌≡◌, ℕ, zero, suc, ◌≤◌, ◌<◌, Bool, true, false, List, [], ◌∷◌, ◌++◌, length, refl, sym, ap, ◌∙◌, subst, arith, inl, inr, ◌⊎◌, ⊎_elim}
 use Rattle.std.specs.Prelude.{◌+◌, not, nat_le, if◌then◌else◌, slice_get, slice_index, Option, Some, None}
 use Rattle.rls_ident.specs.Lists.{IsIn}
-use Rattle.rls_ident.proofs.Members.{in_filter, snoc_split, some_is}
+use Rattle.rls_ident.proofs.Members.{in_filter, snoc_split, some_is, get_in}
 use Rattle.rls_ops.specs.declared.op.Op.{Op}
 use Rattle.rls_ops.specs.declared.message.Message.{Message}
 use Rattle.rls_ops.specs.Sizes.{op_size, head_size}
@@ -21,7 +21,6 @@ use Rattle.rls_model.specs.EditRun.{edit_within}
 use Rattle.rls_model.specs.Worlds.{World, fresh_states, empty_world, member_fault, or_else, of_edit, edit_fault_at, fault_of, with_state, edit_at, send_at, deliver_at, step_of, unless, happens, Happening, run, AreEvents, AreWhole}
 use Rattle.rls_model.specs.Laws.{IsAt, IsAfter, HaveSameOps, WorldsLegal, EqualVectors, NoRefusal}
 use Rattle.rls_model.proofs.SameOps as same_ops
-use Rattle.rls_model.proofs.WorldsLists.{got_in}
 use Rattle.rls_model.proofs.WorldsNumbers.{number_counted, with_number, front_self}
 use Rattle.rls_model.proofs.WorldsInvariant.{IsMember, IsMessage, IsGood, at_split}
 use Rattle.rls_model.proofs.WorldsArrivals.{one_op}
@@ -146,7 +145,7 @@ deliver_keeps limit w i k None None e f g = stays limit w g
 deliver_keeps limit w i k None (Some m) e f g = stays limit w g
 deliver_keeps limit w i k (Some s) None e f g = stays limit w g
 deliver_keeps limit w i k (Some s) (Some m) e f g = record {
-  good = (taken_going w i s m limit g e (got_in w.sent k m f)).good;
+  good = (taken_going w i s m limit g e (get_in w.sent k m f)).good;
   rests = λ q r. state_rests w i s (take_within limit s m).state e r (subst (λ l. IsAtRest (take_within l s m).state) (sym q) (taken_done s m (r i s e)).1);
 }
 

@@ -15,7 +15,9 @@ use Rattle.rls_ident.specs.Identifiers.{ident_eq, last_of}
 use Rattle.rls_ident.specs.Tuples.{replica_of, seq_of, offset_of}
 use Rattle.rls_ident.specs.Vectors.{at_most}
 use Rattle.rls_ident.proofs.Tuples.{tuple_total}
-use Rattle.rls_ident.proofs.Members.{any_in, bool_cases, eq_is, filter_in, in_any, in_filter, in_left, in_right, in_split, le_is, le_test, not_is, not_le_is, not_le_test, not_true, or_left, or_right, snoc_split, true_false}
+use Rattle.rls_ident.proofs.Members.{any_in, bool_cases, eq_is, filter_in, in_any, in_filter, in_left, in_right, in_split, le_is, le_test, not_is, not_le_is, not_le_test, not_true, or_left, or_right, snoc_split, true_false, equal_is}
+use Rattle.rls_ident.proofs.Vectors.{at_most_trans, index_le}
+use Rattle.rls_ident.proofs.Ends.{eq_same}
 use Rattle.rls_rename.specs.Tree.{Node, is_kept, has_node, names, name_of}
 use Rattle.rls_rename.specs.Tree as tree
 use Rattle.rls_rename.proofs.Paths.{name_eq_refl}
@@ -36,15 +38,13 @@ use Rattle.rls_model.specs.Fitting.{is_known, first_unknown, body_refusal, refus
 use Rattle.rls_model.specs.Legal.{IsLegal}
 use Rattle.rls_model.specs.Laws.{ops_of, MayBegin}
 use Rattle.rls_model.proofs.OneTree.{nodes, parents, epoch_kept, fits_epoch, author_below, named_le, history_translate}
-use Rattle.rls_model.proofs.Stable.{at_most_trans, stable_row}
+use Rattle.rls_model.proofs.Stable.{stable_row}
 use Rattle.rls_model.proofs.Fresh.{own_stems, may_begin}
 use Rattle.rls_model.proofs.Distinct.{known}
-use Rattle.rls_model.proofs.SameOps.{op_kept, same_epochs}
-use Rattle.rls_model.proofs.Made.{own_epoch}
-use Rattle.rls_model.proofs.WorldsLists.{index_le}
+use Rattle.rls_model.proofs.SameOps.{op_kept, same_epochs, in_chars, chars_in}
+use Rattle.rls_model.proofs.Made.{own_epoch, fit_chain}
 use Rattle.rls_model.proofs.WorldsNumbers.{number_counted, with_number, ops_from, same_from, fits_left, own_context, leave_of, left_by}
 use Rattle.rls_model.proofs.WorldsEpochs.{in_names, greatest_part}
-use Rattle.rls_ops.proofs.Equal.{ident_is}
 
 -- the operation's targets are identifiers of characters that live in P
 abbrev pub AreLiving : History → Op → Type 0
@@ -96,23 +96,6 @@ op_node (Then G (Accepted w)) u xs p e = ⊎_elim (λ q. old w.body (op_node G u
     new b f q =
         subst (λ c. has_node (nodes_after (epochs G) w c) (Of u.author u.seq) ≡ true) (sym f)
         (or_left (name_eq (Of w.author w.seq) (Of u.author u.seq)) (has_node (epochs G) (Of u.author u.seq)) (ap (λ (z : Op). name_eq (Of z.author z.seq) (Of u.author u.seq)) q ∙ name_eq_refl (Of u.author u.seq)))
-
-char_in : (c : Character) (os : List Op) → IsIn c (chars_of_all os) → (u : Op) × IsIn u os × IsIn c (chars_of u u.body)
-char_in c [] q = absurd q
-char_in c (u ∷ os) q = ⊎_elim (λ k. (u, inl refl, k)) (λ k. let r = char_in c os k in (r.0, inr r.1, r.2)) (in_split c (chars_of u u.body) (chars_of_all os) q)
-
-in_chars : (c : Character) (u : Op) (os : List Op) → IsIn u os → IsIn c (chars_of u u.body) → IsIn c (chars_of_all os)
-in_chars c u [] q k = absurd q
-in_chars c u (w ∷ os) (inl e) k = in_left c (chars_of w w.body) (chars_of_all os) (subst (λ (z : Op). IsIn c (chars_of z z.body)) (sym e) k)
-in_chars c u (w ∷ os) (inr q) k = in_right c (chars_of w w.body) (chars_of_all os) (in_chars c u os q k)
-
-eq_cmp : (o : Ordering) → is_eq o ≡ true → o ≡ Equal
-eq_cmp Less h = absurd (cc)
-eq_cmp Equal h = refl
-eq_cmp Greater h = absurd (cc)
-
-fit_chain : (b1 b2 b3 : Bool) (x1 x2 x3 : Reason) (r : Option Reason) → b1 ≡ false → b2 ≡ true → b3 ≡ true → r ≡ None → (if b1 then Some x1 else if not b2 then Some x2 else if not b3 then Some x3 else r) ≡ None
-fit_chain b1 b2 b3 x1 x2 x3 r e1 e2 e3 e4 = rw (e1, e2, e3) e4
 
 module _ (H P : History) (o : Op) (A : Arrives H P o) where
   context_is : o.context ≡ count P
@@ -207,7 +190,7 @@ module _ (H P : History) (o : Op) (A : Arrives H P o) where
 
   char_stays : (c : Character) → IsIn c (chars P) → IsIn c (chars H)
   unfolding chars
-  char_stays c p = let r = char_in c (ops P) p in in_chars c r.0 (ops H) (to_here r.0 r.1) r.2
+  char_stays c p = let r = in_chars c (ops P) p in chars_in c r.0 (ops H) (to_here r.0 r.1) r.2
 
   same_ident : (c : Character) → IsIn c (chars P) → (e : EpochName) → is_kept Origin (epochs P) e ≡ true → ident_in P e c ≡ ident_in H e c
   unfolding translate
@@ -231,7 +214,7 @@ module _ (H P : History) (o : Op) (A : Arrives H P o) where
       (let r = in_any (λ d. has_ident (targets_of d.body) (ident_in H d.epoch c)) (ops H) n in
       let d = r.0 in
       let s = in_any (λ y. ident_eq y (ident_in H d.epoch c)) (targets_of d.body) r.2 in
-      let t : s.0 ≡ ident_in H d.epoch c = ident_is s.0 (ident_in H d.epoch c) s.2 in
+      let t : s.0 ≡ ident_in H d.epoch c = eq_same s.0 (ident_in H d.epoch c) s.2 in
       let back : translate H d.epoch o.epoch s.0 ≡ x =
       ap (translate H d.epoch o.epoch) t ∙ (history_translate H c.epoch d.epoch o.epoch c.ident A.here (known H A.here c q).0 ∙ sym e) in
       let new : count_of P d.author < d.seq =

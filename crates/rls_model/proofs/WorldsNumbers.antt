@@ -6,6 +6,7 @@ use Rattle.std.proofs.lemmas.List.Elements.{filter-append}
 use Rattle.rls_ident.specs.Lists.{IsIn}
 use Rattle.rls_ident.specs.Vectors.{at_most, join}
 use Rattle.rls_ident.proofs.Members.{and_left, and_right, and_true, bool_cases, eq_is, eq_not, eq_test, in_left, in_right, le_is, not_le_is, or_left, or_right, or_split, snoc_split}
+use Rattle.rls_ident.proofs.Vectors.{at_most_refl, at_most_trans, index_le, at_most_antisym, zeros_below, zeros_index, join_below, raise_other, raise_upto, index-raise_same, index-raise_le}
 use Rattle.rls_ops.specs.declared.op.Op.{Op}
 use Rattle.rls_model.specs.Answers.{Left, Backward}
 use Rattle.rls_model.specs.History.{Entry, Accepted, Acknowledged, History, Then, ops, count, count_of, me_of, members_of, is_leave, has_left, acknowledged, row}
@@ -13,9 +14,8 @@ use Rattle.rls_model.specs.History as history
 use Rattle.rls_model.specs.Fitting.{refusal}
 use Rattle.rls_model.specs.Legal.{MayAccept, IsLegal}
 use Rattle.rls_model.specs.Laws.{ops_of}
-use Rattle.rls_model.proofs.OneTree.{none_else, not_not, author_below, index-raise_same, index-raise_le, count_next}
-use Rattle.rls_model.proofs.Stable.{length-count, count_grows, at_most_refl, at_most_trans}
-use Rattle.rls_model.proofs.WorldsLists.{index_le, at_most_antisym, zeros_below, zeros_index, join_below, raise_other, raise_upto}
+use Rattle.rls_model.proofs.OneTree.{none_else, not_not, author_below, count_next}
+use Rattle.rls_model.proofs.Stable.{length-count, count_grows}
 
 -- ---- numbers
 
@@ -67,10 +67,7 @@ with_number (Then G (Accepted o)) l a s z h = go (o.author == a) refl (λ k. wit
         let u = raise_upto (count G) o.author a in
         let n = l.2.next in
         bool_cases (nat_le s (count_of G a)) (λ k. old (ih (le_is s (count_of G a) k)))
-        (λ k. let m = not_below s (count_of G a) k in (o, in_right o (ops G) (o ∷ []) (inl refl), f, omega arith))
-      where
-        not_below : (m n : ℕ) → nat_le m n ≡ false → n < m
-        not_below m n h = not_le_is m n h
+        (λ k. let m = not_le_is s (count_of G a) k in (o, in_right o (ops G) (o ∷ []) (inl refl), f, omega arith))
 
 -- ---- a member's operations, in order
 

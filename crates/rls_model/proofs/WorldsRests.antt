@@ -5,6 +5,7 @@ use Rattle.std.specs.List.{find}
 use Rattle.rls_ident.specs.Lists.{IsIn}
 use Rattle.rls_ident.specs.Vectors.{at_most, raise}
 use Rattle.rls_ident.proofs.Members.{bool_cases, found_in, in_left, lt_is, lt_test, none_found, not_found, not_true, true_false}
+use Rattle.rls_ident.proofs.Vectors.{below_raised}
 use Rattle.rls_ops.specs.declared.op.Op.{Op}
 use Rattle.rls_ops.specs.declared.message.Message.{Message}
 use Rattle.rls_model.specs.declared.edit.Edit.{Edit}
@@ -19,7 +20,6 @@ use Rattle.rls_model.specs.Taking.{Limit, has_room, one_less, Progress, started,
 use Rattle.rls_model.specs.EditRun.{edit_step, edit_within}
 use Rattle.rls_model.specs.Worlds.{World}
 use Rattle.rls_model.specs.Laws.{IsAt}
-use Rattle.rls_model.proofs.WorldsLists.{below_raised}
 use Rattle.rls_model.proofs.WorldsNumbers.{IsFront, with_number, front_legal, front_me, front_ops, op_front, own_context}
 use Rattle.rls_model.proofs.WorldsWaiting.{in_without, less_without, numbered_test}
 use Rattle.rls_model.proofs.WorldsInvariant.{IsHome, IsMember, IsGood}

@@ -4,6 +4,7 @@ use Rattle.std.specs.Prelude.{if◌then◌else◌, ◌==◌, None}
 use Rattle.std.specs.List.{list_all}
 use Rattle.rls_ident.specs.Lists.{IsIn}
 use Rattle.rls_ident.proofs.Members.{all_in, and_true, bool_cases, eq_is, eq_not, in_all, lt_is, not_lt_is, true_false}
+use Rattle.rls_ident.proofs.Vectors.{raise_other, raise_upto}
 use Rattle.rls_ops.specs.declared.op.Op.{Op}
 use Rattle.rls_ops.specs.Shapes.{shape_fault}
 pub use Rattle.rls_ops.proofs.Waiting.{numbered_is, numbered_test, in_without, in_with, length-without, less_without}
@@ -12,7 +13,6 @@ use Rattle.rls_model.specs.History.{Accepted, History, Then, count, count_of, me
 use Rattle.rls_model.specs.Receiving.{is_numbered, comes_before, with_waiting, without}
 use Rattle.rls_model.specs.WellFormed.{IsOp}
 use Rattle.rls_model.specs.Legal.{MayAccept, AreWaiting}
-use Rattle.rls_model.proofs.WorldsLists.{raise_other, raise_upto}
 
 pub waiting_at : (H : History) (W : List Op) (w : Op) → AreWaiting H W → IsIn w W → IsOp w × (shape_fault (members_of H) w ≡ None) × (count_of H w.author < w.seq)
 waiting_at H [] w h p = absurd p

@@ -13,8 +13,9 @@ use Rattle.rls_ident.specs.EpochNames.{name_eq}
 use Rattle.rls_ident.specs.Identifiers.{ident_eq}
 use Rattle.rls_ident.proofs.Lists.{Letters, lists_same}
 use Rattle.rls_ident.proofs.Tuples.{tuples, tuple_total}
-use Rattle.rls_ident.proofs.Members.{and_left, and_right, and_true, eq_is, eq_test}
+use Rattle.rls_ident.proofs.Members.{and_left, and_right, and_true, eq_is, eq_test, equal_is}
 use Rattle.rls_ident.proofs.Named.{name_eq_is, name_eq_refl}
+use Rattle.rls_ident.proofs.Ends.{eq_same, ident_eq_refl}
 use Rattle.rls_ops.specs.declared.op.Op.{Op}
 use Rattle.rls_ops.specs.declared.op.Body.{Body}
 use Rattle.rls_ops.specs.declared.op.Body.TheVariants.{Insert, Delete, Rename, Leave}
@@ -23,14 +24,11 @@ use Rattle.rls_ops.specs.Same.{numbers_eq, idents_eq, body_eq, op_eq, TestsEqual
 pub numbers_same : (v : List ℕ) → numbers_eq v v ≡ true
 numbers_same v = ap is_eq (tied_itself (lists_total nat_cmp_total) v)
 
-pub ident_same : (x : List Tuple) → ident_eq x x ≡ true
-ident_same x = ap is_eq (tied_itself (lists_total tuple_total) x)
-
 pub idents_same : (xs : List (List Tuple)) → idents_eq xs xs ≡ true
 idents_same xs = ap is_eq (tied_itself (lists_total (lists_total tuple_total)) xs)
 
 body_same : (b : Body) → body_eq b b ≡ true
-body_same (Insert x text) = and_true (ident_eq x x) (numbers_eq text text) (ident_same x) (numbers_same text)
+body_same (Insert x text) = and_true (ident_eq x x) (numbers_eq text text) (ident_eq_refl x) (numbers_same text)
 body_same (Delete xs) = idents_same xs
 body_same (Rename xs) = idents_same xs
 body_same Leave = refl
@@ -45,11 +43,6 @@ op_same o =
 
 -- ---- and with no other
 
-is_equal : (o : Ordering) → is_eq o ≡ true → o ≡ Equal
-is_equal Less h = absurd (cc)
-is_equal Equal h = refl
-is_equal Greater h = absurd (cc)
-
 abbrev numbers : Letters ℕ
 numbers = record { cmp = nat_cmp; total = nat_cmp_total; same = nat_cmp-IsAntisymmetric }
 
@@ -57,17 +50,14 @@ abbrev idents : Letters (List Tuple)
 idents = record { cmp = slice_cmp tuples.cmp; total = lists_total tuple_total; same = lists_same tuples }
 
 pub numbers_are : (v w : List ℕ) → numbers_eq v w ≡ true → v ≡ w
-numbers_are v w h = lists_same numbers v w (is_equal (slice_cmp nat_cmp v w) h)
-
-pub ident_is : (x y : List Tuple) → ident_eq x y ≡ true → x ≡ y
-ident_is x y h = lists_same tuples x y (is_equal (slice_cmp tuples.cmp x y) h)
+numbers_are v w h = lists_same numbers v w (equal_is (slice_cmp nat_cmp v w) h)
 
 pub idents_are : (xs ys : List (List Tuple)) → idents_eq xs ys ≡ true → xs ≡ ys
-idents_are xs ys h = lists_same idents xs ys (is_equal (slice_cmp idents.cmp xs ys) h)
+idents_are xs ys h = lists_same idents xs ys (equal_is (slice_cmp idents.cmp xs ys) h)
 
 body_is : (b c : Body) → body_eq b c ≡ true → b ≡ c
 body_is (Insert x s) (Insert y t) h =
-    let e = ident_is x y (and_left (ident_eq x y) (numbers_eq s t) h) in
+    let e = eq_same x y (and_left (ident_eq x y) (numbers_eq s t) h) in
     let f = numbers_are s t (and_right (ident_eq x y) (numbers_eq s t) h) in
     cc
 body_is (Insert x s) (Delete ys) h = absurd (cc)

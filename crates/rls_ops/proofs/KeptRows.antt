@@ -1,26 +1,10 @@
--- Lengths of vectors, and rows that fit together after a change.
-use Rattle.std.proofs.Common.{◌≡◌, ℕ, zero, suc, ◌<◌, List, [], ◌∷◌, length, get_or, set, replicate, refl, sym, ap, ◌∙◌, subst, arith}
+-- Rows that fit together after a change.
+use Rattle.std.proofs.Common.{◌≡◌, ℕ, zero, suc, ◌<◌, List, [], ◌∷◌, length, get_or, set, replicate, refl, sym, ap, ◌∙◌, subst, arith, cond, Bool, ◌++◌, true, false}
 use Rattle.rls_ident.specs.Vectors.{join, meet, raise}
-use Rattle.std.specs.Prelude.{false, true}
+use Rattle.rls_ident.proofs.Vectors.{length-raise, length-join}
+use Rattle.std.specs.Prelude.{false, true, ◌==◌}
 use Rattle.std.proofs.lemmas.List.{length-replicate, length-set}
-use Rattle.rls_ops.specs.Rows.{AcksSeen, AreRows, HaveLength, starting_at, raised, parted, noted}
-
-pub length-raise : (v : List ℕ) (i : ℕ) → length (raise v i) ≡ length v
-length-raise [] i = refl
-length-raise (n ∷ ns) zero = refl
-length-raise (n ∷ ns) (suc i) = ap suc (length-raise ns i)
-
-pub length-join : (v w : List ℕ) → length v ≡ length w → length (join v w) ≡ length w
-length-join [] [] h = refl
-length-join [] (n ∷ ns) h = absurd (omega arith)
-length-join (m ∷ ms) [] h = absurd (omega arith)
-length-join (m ∷ ms) (n ∷ ns) h = ap suc (length-join ms ns (omega arith))
-
-pub length-meet : (v w : List ℕ) → length v ≡ length w → length (meet v w) ≡ length w
-length-meet [] [] h = refl
-length-meet [] (n ∷ ns) h = absurd (omega arith)
-length-meet (m ∷ ms) [] h = absurd (omega arith)
-length-meet (m ∷ ms) (n ∷ ns) h = ap suc (length-meet ms ns (omega arith))
+use Rattle.rls_ops.specs.Rows.{AcksSeen, AreRows, HaveLength, starting_at, raised, parted, noted, row_of}
 
 pub row_length : (n : ℕ) (rows : List (List ℕ)) (i : ℕ) (d : List ℕ) → HaveLength n rows → i < length rows → length (get_or rows i d) ≡ n
 row_length n [] i d h l = absurd (omega arith)
@@ -35,6 +19,17 @@ set_lengths n (w ∷ ws) (suc i) v h l = (h.0, set_lengths n ws i v h.1 l)
 pub same_lengths : (n k : ℕ) (v : List ℕ) → length v ≡ n → HaveLength n (replicate k v)
 same_lengths n zero v l = tt
 same_lengths n (suc k) v l = (l, same_lengths n k v l)
+
+pub lengths_append : (n : ℕ) (xs ys : List (List ℕ)) → HaveLength n xs → HaveLength n ys → HaveLength n (xs ++ ys)
+lengths_append n [] ys h k = k
+lengths_append n (x ∷ xs) ys h k = (h.0, lengths_append n xs ys h.1 k)
+
+pub length-row : (acks : AcksSeen) (a : ℕ) → AreRows acks → a < length acks.mine → length (row_of acks a) ≡ length acks.mine
+length-row acks a h l = go (get_or acks.others a []) (a == acks.me) (row_length (length acks.mine) acks.others a [] h.counts_are (let e = h.rows in omega arith))
+  where
+    go : (x : List ℕ) (b : Bool) → length x ≡ length acks.mine → length (cond b acks.mine x) ≡ length acks.mine
+    go x true e = refl
+    go x false e = e
 
 -- ---- rows
 

@@ -4,22 +4,11 @@ use Rattle.std.specs.Prelude.{pos}
 use Rattle.rls_ident.specs.declared.tuple.Tuple.{Tuple}
 use Rattle.rls_ident.specs.Identifiers.{ident_eq, shifted, follows}
 use Rattle.rls_ident.proofs.Members.{bool_cases, not_true}
+use Rattle.rls_ident.proofs.Ends.{eq_same, ident_eq_refl}
 use Rattle.rls_runs.specs.Runs.{run_idents, put_run, runs_of, idents_of}
+use Rattle.rls_runs.proofs.RunsOf.{idents_of_runs}
 use Rattle.rls_ops.specs.Same.{idents_eq}
-use Rattle.rls_ops.proofs.Equal.{ident_is, ident_same, idents_are, idents_same}
-
-put_idents : (x : List Tuple) (rs : List (List Tuple × ℕ)) → idents_of (put_run x rs) ≡ x ∷ idents_of rs
-put_idents x [] = refl
-put_idents x ((y, n) ∷ rs) = go (follows y x) refl
-  where
-    go : (b : Bool) → follows y x ≡ b → idents_of (cond b ((x, n + 1) ∷ rs) ((x, 1) ∷ (y, n) ∷ rs)) ≡ x ∷ run_idents y n ++ idents_of rs
-    go true e = rw add-one (ap (λ z. x ∷ run_idents z n ++ idents_of rs) (sym (ident_is y (shifted (pos 1) x) e)))
-    go false e = refl
-
--- the identifiers of the maximal runs
-pub idents_of_runs : (xs : List (List Tuple)) → idents_of (runs_of xs) ≡ xs
-idents_of_runs [] = refl
-idents_of_runs (x ∷ xs) = put_idents x (runs_of xs) ∙ ap (λ ys. x ∷ ys) (idents_of_runs xs)
+use Rattle.rls_ops.proofs.Equal.{idents_are, idents_same}
 
 pub runs_are : (xs ys : List (List Tuple)) → runs_of xs ≡ runs_of ys → xs ≡ ys
 runs_are xs ys e = sym (idents_of_runs xs) ∙ ap idents_of e ∙ idents_of_runs ys
@@ -33,6 +22,6 @@ runs_tested xs ys b f g =
 -- a run is told by its length and its first identifier
 pub run_tested : (r q : List Tuple × ℕ) (b : Bool) → r.1 ≡ q.1 → b ≡ ident_eq r.0 q.0 → (b ≡ true → r ≡ q) × (r ≡ q → b ≡ true)
 run_tested r q b l e = (
-  λ h. ap (λ x. (x, r.1)) (ident_is r.0 q.0 (sym e ∙ h)) ∙ ap (λ n. (q.0, n)) l,
-  λ h. e ∙ ap (λ x. ident_eq r.0 x) (ap (λ s. s.0) (sym h)) ∙ ident_same r.0,
+  λ h. ap (λ x. (x, r.1)) (eq_same r.0 q.0 (sym e ∙ h)) ∙ ap (λ n. (q.0, n)) l,
+  λ h. e ∙ ap (λ x. ident_eq r.0 x) (ap (λ s. s.0) (sym h)) ∙ ident_eq_refl r.0,
 )

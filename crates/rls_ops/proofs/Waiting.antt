@@ -2,6 +2,7 @@
 use Rattle.std.proofs.Common.{◌≡◌, ℕ, suc, ◌≤◌, ◌<◌, Bool, true, false, List, [], ◌∷◌, length, refl, sym, ap, ◌∙◌, arith, inl, inr, ◌⊎◌, ⊎_elim, nat_lt}
 use Rattle.std.specs.Prelude.{if◌then◌else◌, cond, ◌&&◌, ◌==◌}
 use Rattle.std.specs.List.{list_all}
+use Rattle.std.proofs.lemmas.Bool.Decides.{nat_tests}
 use Rattle.rls_ident.specs.Lists.{IsIn}
 use Rattle.rls_ident.proofs.Members.{all_in, in_all, not_true, and_left, and_right, and_true, bool_cases, eq_is, eq_test, lt_is, lt_test, not_lt_is, or_left, or_right, or_split, true_false}
 use Rattle.rls_ops.specs.declared.op.Op.{Op}
@@ -50,6 +51,14 @@ less_without a s x (w ∷ ws) p h = go (is_numbered a s w) refl p (length-withou
     go false e (inl q) k ih = absurd (true_false (is_numbered a s x) h (ap (is_numbered a s) (sym q) ∙ e))
     go false e (inr q) k ih = let m = ih q in omega arith
 
+pub length-with : (o : Op) (W : List Op) → length (with_waiting o W) ≡ suc (length W)
+length-with o [] = refl
+length-with o (w ∷ W) = go (comes_before w o) (length-with o W)
+  where
+    go : (b : Bool) → length (with_waiting o W) ≡ suc (length W) → length (cond b (w ∷ with_waiting o W) (o ∷ (w ∷ W))) ≡ suc (suc (length W))
+    go true h = ap suc h
+    go false h = refl
+
 -- ---- the order
 
 pub before_is : (o p : Op) → comes_before o p ≡ true → (o.author < p.author) ⊎ ((o.author ≡ p.author) × (o.seq < p.seq))
@@ -67,25 +76,14 @@ before_seq o p e h =
     (and_true (o.author == p.author) (nat_lt o.seq p.seq) (eq_test o.author p.author e) (lt_test o.seq p.seq h))
 
 pub before_trans : (o p q : Op) → comes_before o p ≡ true → comes_before p q ≡ true → comes_before o q ≡ true
-before_trans o p q h k =
-    ⊎_elim
-    (λ a. ⊎_elim (λ b. before_author o q (omega arith)) (λ b. let e = b.0 in before_author o q (omega arith)) (before_is p q k))
-    (λ a. ⊎_elim (λ b. let e = a.0 in before_author o q (omega arith)) (λ b. let l = a.1 in let m = b.1 in before_seq o q (a.0 ∙ b.0) (omega arith)) (before_is p q k))
-    (before_is o p h)
+before_trans o p q h k = grind (arith, nat_tests)
 
 pub before_total : (o p : Op) → comes_before p o ≡ false → is_numbered o.author o.seq p ≡ false → comes_before o p ≡ true
-before_total o p h k =
-    bool_cases (nat_lt o.author p.author) (λ e. before_author o p (lt_is o.author p.author e))
-    (λ e. bool_cases (nat_lt p.author o.author) (λ f. absurd (true_false (comes_before p o) (before_author p o (lt_is p.author o.author f)) h))
-    (λ f. let a = not_lt_is o.author p.author e in
-    let b = not_lt_is p.author o.author f in
-    let same : p.author ≡ o.author = omega arith in
-    bool_cases (nat_lt o.seq p.seq) (λ g. before_seq o p (sym same) (lt_is o.seq p.seq g))
-    (λ g. bool_cases (nat_lt p.seq o.seq) (λ i. absurd (true_false (comes_before p o) (before_seq p o same (lt_is p.seq o.seq i)) h))
-    (λ i. let c = not_lt_is o.seq p.seq g in
-    let d = not_lt_is p.seq o.seq i in
-    let number : p.seq ≡ o.seq = omega arith in
-    absurd (true_false (is_numbered o.author o.seq p) (numbered_test o.author o.seq p same number) k)))))
+before_total o p h k = grind (arith, nat_tests)
+
+-- what comes before an operation has another number
+pub before_other : (o p : Op) → comes_before o p ≡ true → is_numbered p.author p.seq o ≡ false
+before_other o p h = grind (arith, nat_tests)
 
 -- ---- lists in order
 

@@ -2,7 +2,7 @@
 use Rattle.std.proofs.Common.{◌≡◌, ℕ, zero, suc, ◌+◌, ◌<◌, ◌≤◌, ◌==◌, ◌||◌, ◌++◌, Bool, true, false, List, [], ◌∷◌, length, get_or, refl, sym, ap, ◌∙◌, subst, arith, if◌then◌else◌, length-append, append-nil, append_assoc}
 use Rattle.std.proofs.lemmas.List.{get_or_append_left, get_or_push}
 use Rattle.std.proofs.lemmas.List.Folds.{list_any-append}
-use Rattle.rls_ident.proofs.Members.{bool_cases, eq_is, eq_not, neq_test, or_left}
+use Rattle.rls_ident.proofs.Members.{bool_cases, eq_is, eq_not, neq_test, or_left, or_none}
 use Rattle.rls_parts.specs.Given.{AreMembersFrom}
 use Rattle.rls_parts.specs.Reading.{has_member}
 use Rattle.rls_parts.specs.Restored.{marks_of}
@@ -43,10 +43,6 @@ none_from f (suc n) a h =
     go : (b : Bool) → has_member (if b then n ∷ [] else []) a ≡ false
     go true = ap (λ c. c || false) (neq_test n a (λ e. absurd (omega arith)))
     go false = refl
-
-or_none : (b : Bool) → (b || false) ≡ b
-or_none true = refl
-or_none false = refl
 
 -- the marks of this list are those
 pub marked_at : (f : ℕ → Bool) (n a : ℕ) → a < n → has_member (marked_below f n) a ≡ f a

@@ -3,7 +3,7 @@ use Rattle.std.proofs.Common.{◌≡◌, ℕ, suc, Bool, true, false, List, [], 
 use Rattle.std.specs.Prelude.{◌&&◌, if◌then◌else◌, Option, Some, None}
 use Rattle.rls_ident.specs.Lists.{IsIn}
 use Rattle.rls_ident.specs.Vectors.{raise}
-use Rattle.rls_ident.proofs.Members.{and_left, and_right}
+use Rattle.rls_ident.proofs.Members.{and_left, and_right, went_on}
 use Rattle.rls_ops.specs.declared.op.Op.{Op}
 use Rattle.rls_model.specs.declared.parts.Stem.{Stem}
 use Rattle.rls_model.specs.declared.parts.EpochPart.{EpochPart}
@@ -88,11 +88,6 @@ pub broken_or_passes : BrokenOrPasses
 broken_or_passes p = (passes p, passed p)
 
 -- ---- entry after entry
-
--- a test that goes on only where it holds, holds
-went_on : {A : Type 0} (b : Bool) (rest : Option A) (x : A) → (if b then rest else Some x) ≡ None → (b ≡ true) × (rest ≡ None)
-went_on true rest x h = (refl, h)
-went_on false rest x h = absurd (cc)
 
 pub row_first : (p : Parts) (i : ℕ) (row : List ℕ) (rows : List (List ℕ)) → row_fault p i (row ∷ rows) ≡ None → (is_row_of p.vector (member_at p.me i) row ≡ true) × (row_fault p (suc i) rows ≡ None)
 row_first p i row rows h = went_on (is_row_of p.vector (member_at p.me i) row) (row_fault p (suc i) rows) i h

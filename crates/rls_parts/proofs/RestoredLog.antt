@@ -6,6 +6,7 @@ use Rattle.rls_ident.specs.Lists.{IsIn}
 use Rattle.rls_ident.specs.Vectors.{at_most, raise}
 use Rattle.rls_ident.proofs.Members.{and_left, and_right, and_true, eq_is, lt_is, in_any, not_le_test}
 use Rattle.rls_ident.proofs.Named.{name_eq_is}
+use Rattle.rls_ident.proofs.Vectors.{at_most_refl, at_most_trans, at_most-raise, index_le}
 use Rattle.rls_ops.specs.declared.op.Op.{Op}
 use Rattle.rls_ops.specs.Rows.{missing_for, is_covered}
 use Rattle.rls_ops.specs.Shapes.{shape_fault}
@@ -15,9 +16,7 @@ use Rattle.rls_model.specs.declared.parts.Parts.{Parts}
 use Rattle.rls_model.specs.History.{is_leave}
 use Rattle.rls_model.specs.Receiving.{comes_before}
 use Rattle.rls_model.specs.WellFormed.{IsOp}
-use Rattle.rls_model.proofs.Dropping.{at_most_index}
 use Rattle.rls_model.proofs.OneTree.{author_below}
-use Rattle.rls_model.proofs.Stable.{at_most_refl, at_most_trans, at_most-raise}
 use Rattle.rls_seen.specs.Sane.{AreHeld, Follow, IsInRange, IsLast, IsLogOf}
 use Rattle.rls_seen.specs.Seen.{stable_over, unstable_over}
 use Rattle.rls_parts.specs.Given.{AreGiven}
@@ -29,7 +28,7 @@ use Rattle.rls_parts.proofs.RestoredRows.{left_given, stable_given}
 
 -- ---- an unstable operation
 
-fine_none : {A : Type 0} (f : Option A) → is_fine f ≡ true → f ≡ None
+pub fine_none : {A : Type 0} (f : Option A) → is_fine f ≡ true → f ≡ None
 fine_none None h = refl
 fine_none (Some x) h = absurd (cc)
 
@@ -74,7 +73,7 @@ all_missing p from v i [] l h = refl
 all_missing p from v i (o ∷ os) l h =
     let r = log_first p v i o os h in
     let n = (next_of p v o r.0).next in
-    let k = at_most_index from v o.author l in
+    let k = index_le from v o.author l in
     let e : is_covered from o ≡ false = not_le_test o.seq (slice_index from o.author) (omega arith) in
     ap (λ b. cond (not b) (o ∷ missing_for from os) (missing_for from os)) e
     ∙ ap (λ qs. o ∷ qs) (all_missing p from (raise v o.author) (suc i) os (at_most_trans from v (raise v o.author) l (at_most-raise v o.author)) r.1)

@@ -5,9 +5,9 @@ use Rattle.std.proofs.lemmas.List.{length-replicate}
 use Rattle.rls_ident.specs.Lists.{IsIn}
 use Rattle.rls_ident.specs.Vectors.{at_most}
 use Rattle.rls_ident.proofs.Members.{bool_cases, eq_not, le_is, lt_is, lt_test, neq_test, not_is, not_true}
+use Rattle.rls_ident.proofs.Vectors.{at_most_antisym}
 use Rattle.rls_ops.specs.Rows.{AreRows, HaveLength, row_of, left, awaits, least_of, stable_of}
 use Rattle.rls_model.specs.declared.parts.Parts.{Parts}
-use Rattle.rls_model.proofs.WorldsLists.{at_most_antisym}
 use Rattle.rls_model.proofs.Stable.{at_most-least_of, least_of-each, least_greatest, IsBelow}
 use Rattle.rls_seen.proofs.StableRows.{stable_mine, stable_row, stable_most}
 use Rattle.rls_parts.specs.Given.{HaveCounts, AreGiven}

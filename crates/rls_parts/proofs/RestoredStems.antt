@@ -4,16 +4,13 @@ use Rattle.std.specs.Prelude.{ℤ, pos, ◌≤ℤ◌}
 use Rattle.std.specs.Int.RustNames.{int_le}
 use Rattle.std.specs.List.{list_all}
 use Rattle.rls_ident.specs.Identifiers.{least_offset}
-use Rattle.rls_ident.proofs.Members.{and_left, and_right, and_true, eq_is, eq_test, le_is, lt_is, lt_test, or_left, or_right, or_split}
+use Rattle.rls_ident.proofs.Members.{and_left, and_right, and_true, eq_is, eq_test, le_is, lt_is, lt_test, or_left, or_right, or_split, int_le_is}
 use Rattle.rls_model.specs.declared.parts.Parts.{Parts}
 use Rattle.rls_model.specs.declared.parts.Stem.{Stem}
 use Rattle.rls_model.specs.Stems.{stands_before}
 use Rattle.rls_seen.specs.Sane.{IsStem, AreStems}
 use Rattle.rls_parts.specs.Rules.{is_stem_of, stem_fault}
 use Rattle.rls_parts.proofs.Passing.{stem_first}
-
-int_is : (x y : ℤ) → int_le x y ≡ true → x ≤ℤ y
-int_is x y h = search rules
 
 -- ---- one stem
 
@@ -36,8 +33,8 @@ stem_is p v t h =
       author = omega arith;
       begun = lt_is 0 t.s0 (and_right a b h2);
       counted = le_is t.s0 (slice_index p.vector t.author) (and_right (a && b) c h3);
-      bottom = int_is least_offset t.low (and_right (a && b && c) d h4);
-      low = int_is t.low (pos 0) (and_right (a && b && c && d) e h5);
+      bottom = int_le_is least_offset t.low (and_right (a && b && c) d h4);
+      low = int_le_is t.low (pos 0) (and_right (a && b && c && d) e h5);
       some = lt_is 0 t.next (and_right (a && b && c && d && e) f h6);
       end = le_is t.next 1073741824 (and_right (a && b && c && d && e && f) g h);
     }

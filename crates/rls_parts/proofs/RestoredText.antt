@@ -11,15 +11,15 @@ use Rattle.rls_ident.specs.declared.tuple.Tuple.TheVariants.{Low, At, High}
 use Rattle.rls_ident.specs.Identifiers.{IsIdent, is_ident, is_bounded, is_inner_bounded, last_of, shifted, follows, ident_lt, least_offset, greatest_offset}
 use Rattle.rls_ident.specs.Lists.{IsIn}
 use Rattle.rls_ident.specs.Tuples.{offset_of}
-use Rattle.rls_ident.proofs.Members.{and_left, and_right, in_split, not_is, bool_cases}
+use Rattle.rls_ident.proofs.Members.{and_left, and_right, in_split, not_is, bool_cases, int_le_is}
 use Rattle.rls_ident.proofs.Shifted.{shifted_none, shifted_shifted}
+use Rattle.rls_ident.proofs.Ends.{eq_same, least_last}
 use Rattle.rls_runs.specs.Entries.{Entries, idents_in}
 use Rattle.rls_runs.specs.Runs.{AreIdents, run_idents, run_last, idents_of, is_apart, are_apart, is_run, past_offsets}
 use Rattle.rls_runs.proofs.Finding.{run_length}
 use Rattle.rls_runs.proofs.RunEnds.{run_end}
 use Rattle.rls_runs.proofs.RunOrder.{all_idents, idents_rise, increasing_of}
-use Rattle.rls_runs.proofs.RunsOf.{IsFree, follows_next}
-use Rattle.rls_ops.proofs.Equal.{ident_is}
+use Rattle.rls_runs.proofs.RunsOf.{IsFree, follows_next, free_of}
 use Rattle.rls_model.specs.declared.parts.TextRun.{TextRun}
 use Rattle.rls_model.specs.Parts.{put_text, text_runs}
 use Rattle.rls_parts.specs.Given.{HaveTexts, AreTextRuns}
@@ -51,16 +51,6 @@ in_some_run (r ∷ rs) x q =
     ⊎_elim (λ h. (r, inl refl, h)) (λ h. let w = in_some_run rs x h in (w.0, inr w.1, w.2)) (in_split x (run_idents r.run.0 r.run.1) (idents_of (runs_in rs)) q)
 
 -- ---- how many characters
-
-int_is : (x y : ℤ) → int_le x y ≡ true → x ≤ℤ y
-int_is x y h = search rules
-
-least_last : (x : List Tuple) → IsIdent x → is_bounded x ≡ true → least_offset ≤ℤ offset_of (last_of x)
-least_last [] i b = absurd (cc)
-least_last (Low ∷ []) i b = absurd (cc)
-least_last (At p r s o ∷ []) i b = int_is least_offset o (and_left (int_le least_offset o) (int_le o greatest_offset) b)
-least_last (High ∷ []) i b = absurd (cc)
-least_last (t ∷ (u ∷ x)) i b = least_last (u ∷ x) i (and_right (is_inner_bounded t) (is_bounded (u ∷ x)) b)
 
 run_limit : (r : List Tuple × ℕ) → is_run r ≡ true → r.1 ≤ 2 ^ 31
 run_limit r h =
@@ -105,13 +95,6 @@ text_of_run (suc n) x (c ∷ cs) tail rs l e free =
     let one : suc n + 1 ≡ suc (suc n) = omega arith in
     ap (put_text (x, c)) rest ∙ (put_before x c run rs (follows_next x) ∙ ap (λ k. record { run = (x, k); text = c ∷ cs } ∷ rs) one)
 
-free_of : (r : List Tuple × ℕ) (rs : List (List Tuple × ℕ)) → are_apart (Some r) rs ≡ true → IsFree (run_last r) rs
-free_of r [] c = tt
-free_of r (s ∷ rs) c =
-    let p = and_left (nat_lt 0 s.1 && is_apart (Some r) s) (are_apart (Some s) rs) c in
-    let q = and_right (nat_lt 0 s.1) (is_apart (Some r) s) p in
-    not_is (follows s.0 (run_last r)) (and_right (ident_lt (run_last r) s.0) (not (follows s.0 (run_last r))) q)
-
 run_is : (r : TextRun) (x : List Tuple) (n : ℕ) → r.run ≡ (x, n) → record { run = (x, n); text = r.text } ≡ r
 run_is r x n e = ap (λ q. record { run = q; text = r.text }) (sym e)
 
@@ -144,7 +127,7 @@ put_entries e (r ∷ rs) = bool_cases (follows r.run.0 e.0) (λ h. joins h) (λ 
         let one : r.run.1 + 1 ≡ suc r.run.1 = omega arith in
         ap entries_of (put_before e.0 e.1 r rs h)
         ∙ (ap (λ n. zip (run_idents e.0 n) (e.1 ∷ r.text) ++ entries_of rs) one
-        ∙ ap (λ x. e ∷ zip (run_idents x r.run.1) r.text ++ entries_of rs) (sym (ident_is r.run.0 (shifted (pos 1) e.0) h)))
+        ∙ ap (λ x. e ∷ zip (run_idents x r.run.1) r.text ++ entries_of rs) (sym (eq_same r.run.0 (shifted (pos 1) e.0) h)))
 
 pub entries_again : (es : Entries) → entries_of (text_runs es) ≡ es
 entries_again [] = refl

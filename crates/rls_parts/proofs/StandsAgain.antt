@@ -8,9 +8,12 @@ use Rattle.rls_ident.specs.EpochNames.{name_eq}
 use Rattle.rls_ident.specs.Lists.{IsIn}
 use Rattle.rls_ident.proofs.Members.{bool_cases, are_in, in_map, eq_not, some_is}
 use Rattle.rls_ident.proofs.Named.{name_eq_is}
+use Rattle.rls_ident.proofs.Vectors.{at_most_refl}
 use Rattle.rls_rename.specs.Renaming.{Renaming, IsFormer}
 use Rattle.rls_rename.specs.Tree.{Node, name_of, is_of, AreNodes}
+use Rattle.rls_rename.proofs.Former.{former_in}
 use Rattle.rls_ops.specs.Rows.{AreRows, HaveLength, row_of, left}
+use Rattle.rls_ops.proofs.KeptRows.{lengths_append}
 use Rattle.rls_model.specs.declared.parts.EpochPart.{EpochPart}
 use Rattle.rls_model.specs.declared.parts.Parts.{Parts}
 use Rattle.rls_model.specs.Document.{export}
@@ -24,7 +27,7 @@ use Rattle.rls_model.specs.Retained.{retained}
 use Rattle.rls_model.specs.Stability.{stable, unstable}
 use Rattle.rls_model.proofs.Dropping.{greatest_retained, retained_kept}
 use Rattle.rls_model.proofs.OneTree as one_tree
-use Rattle.rls_model.proofs.Stable.{at_most_refl, length-count, length-acknowledged}
+use Rattle.rls_model.proofs.Stable.{length-count, length-acknowledged}
 use Rattle.rls_parts.specs.PartsLaws.{StandsAgain}
 use Rattle.rls_parts.specs.Reading.{top_name, nodes_of, epochs_of, names_of, has_member}
 use Rattle.rls_parts.specs.Restored.{with_own, acks_of, seen_of}
@@ -53,13 +56,9 @@ length-row H l a = go (a == me_of H)
     go true = length-count H
     go false = length-acknowledged H l a
 
-have_append : (n : ℕ) (xs ys : List (List ℕ)) → HaveLength n xs → HaveLength n ys → HaveLength n (xs ++ ys)
-have_append n [] ys h k = k
-have_append n (x ∷ xs) ys h k = (h.0, have_append n xs ys h.1 k)
-
 rows_lengths : (H : History) → IsLegal H → (n : ℕ) → HaveLength (members_of H) (other_rows H n)
 rows_lengths H l zero = tt
-rows_lengths H l (suc n) = have_append (members_of H) (other_rows H n) (if n == me_of H then [] else row H n ∷ []) (rows_lengths H l n) (go (n == me_of H))
+rows_lengths H l (suc n) = lengths_append (members_of H) (other_rows H n) (if n == me_of H then [] else row H n ∷ []) (rows_lengths H l n) (go (n == me_of H))
   where
     go : (b : Bool) → HaveLength (members_of H) (if b then [] else row H n ∷ [])
     go true = tt
@@ -144,11 +143,6 @@ node_again ns fs es f n e (Some m) k h =
     let a : m.parent ≡ get_or fs h.place Origin = name_eq_is m.parent (get_or fs h.place Origin) r.1 in
     let b : n.parent ≡ get_or fs h.place Origin = h.older ∙ (name_at es h.place ∙ ap (λ xs. get_or xs h.place Origin) e) in
     subst (λ x. IsIn x ns) (sym (same_node n m (b ∙ sym a) h.former (h.named ∙ sym w.1))) w.0
-
-former_in : (ns : List Node) → AreNodes ns → (n : Node) → IsIn n ns → IsFormer n.renaming.former
-former_in [] d n q = absurd q
-former_in (m ∷ ns) d n (inl e) = subst (λ (x : Node). IsFormer x.renaming.former) e d.0
-former_in (m ∷ ns) d n (inr q) = former_in ns d.2 n q
 
 window_at : (H : History) → IsLegal H → (p : Parts) (u : EpochName) (gs : List EpochName) → retained H ≡ u ∷ gs → epoch_fault p [] (epoch_parts (epochs H) (u ∷ gs)) ≡ None
     → KeepsRetained H (record { top = top_name (epoch_parts (epochs H) (u ∷ gs)); nodes = nodes_of (epoch_parts (epochs H) (u ∷ gs)) })

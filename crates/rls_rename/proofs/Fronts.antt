@@ -8,9 +8,9 @@ use Rattle.rls_ident.specs.declared.tuple.Spot.{Spot}
 use Rattle.rls_ident.specs.declared.tuple.Tuple.{Tuple}
 use Rattle.rls_ident.specs.Tuples.{at_offset, offset_of}
 use Rattle.rls_ident.specs.Identifiers.{IsIdent, ident_cmp, last_of, shifted}
-use Rattle.rls_ident.proofs.Shifted.{ident_shifted, shifted_none, shifted_shifted}
+use Rattle.rls_ident.proofs.Shifted.{ident_shifted, shifted_none, shifted_shifted, last_offset}
 use Rattle.rls_runs.specs.Runs.{is_run, past_offsets}
-use Rattle.rls_runs.proofs.RunEnds.{last_offset, run_end}
+use Rattle.rls_runs.proofs.RunEnds.{run_end}
 use Rattle.rls_runs.proofs.RunOrder.{less_shifted, run_ident}
 use Rattle.rls_rename.specs.Renaming.{IsFormer, new_at, new_below, new_between, new_above, new_below_inverse, new_between_inverse, new_above_inverse, old_below, old_between, old_above, old_below_inverse, old_between_inverse, old_above_inverse, forward_by, back_by}
 use Rattle.rls_rename.specs.Stretches.{GoesAlong, CutAt, StandsAt}

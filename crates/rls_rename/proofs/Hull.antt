@@ -13,7 +13,7 @@ use Rattle.rls_rename.specs.Renaming.{Renaming}
 use Rattle.rls_rename.specs.Tree.{Node, name_of, same_name, is_of, has_node, is_kept, AreNodes, AreBelow, path, renaming_cmp, epoch_cmp, names}
 use Rattle.rls_rename.specs.Connected.{begins_with, common_prefix, common_prefix_of, top_path, is_spanned, put_epoch, in_order, spanned}
 use Rattle.rls_rename.proofs.Growth.{path_other, path_child, kept_other}
-use Rattle.rls_rename.proofs.Kept.{kept_more}
+use Rattle.rls_rename.proofs.Kept.{kept_more, top_kept}
 use Rattle.rls_rename.proofs.Paths.{name_eq_is, name_eq_refl, IsAmong, AreAmong, one_name, path-among}
 use Rattle.rls_rename.proofs.SameNodes.{epoch_same, name_in, path_top, path_member, parent_kept, paths_total}
 
@@ -29,20 +29,20 @@ front_refl p = ([], sym (append-nil p))
 pub front_trans : (p q r : List Renaming) → IsFront p q → IsFront q r → IsFront p r
 front_trans p q r h k = (h.0 ++ k.0, k.1 ∙ (ap (λ x. x ++ k.0) h.1 ∙ append_assoc p h.0 k.0))
 
-front_cons : (R : Renaming) (p x : List Renaming) → IsFront p x → IsFront (R ∷ p) (R ∷ x)
+pub front_cons : (R : Renaming) (p x : List Renaming) → IsFront p x → IsFront (R ∷ p) (R ∷ x)
 front_cons R p x h = (h.0, ap (λ y. R ∷ y) h.1)
 
-cons_head : (R S : Renaming) (p q : List Renaming) → R ∷ p ≡ S ∷ q → R ≡ S
+pub cons_head : (R S : Renaming) (p q : List Renaming) → R ∷ p ≡ S ∷ q → R ≡ S
 cons_head R S p q e = cc
 
 pub cons_tail : (R S : Renaming) (p q : List Renaming) → R ∷ p ≡ S ∷ q → p ≡ q
 cons_tail R S p q e = cc
 
-front_tail : (R S : Renaming) (p x : List Renaming) → IsFront (R ∷ p) (S ∷ x) → (S ≡ R) × IsFront p x
+pub front_tail : (R S : Renaming) (p x : List Renaming) → IsFront (R ∷ p) (S ∷ x) → (S ≡ R) × IsFront p x
 front_tail R S p x h = (cons_head S R x (p ++ h.0) h.1, (h.0, cons_tail S R x (p ++ h.0) h.1))
 
 -- the front of a list with one more at its end is the whole or a front of the list
-snoc_front : (p x : List Renaming) (R : Renaming) → IsFront p (x ++ (R ∷ [])) → (p ≡ x ++ (R ∷ [])) ⊎ IsFront p x
+pub snoc_front : (p x : List Renaming) (R : Renaming) → IsFront p (x ++ (R ∷ [])) → (p ≡ x ++ (R ∷ [])) ⊎ IsFront p x
 snoc_front [] x R h = inr (x, refl)
 snoc_front (S ∷ p) [] R h = go p h.0 (cons_head R S [] (p ++ h.0) h.1) (cons_tail R S [] (p ++ h.0) h.1)
   where
@@ -175,9 +175,6 @@ needed_spanned ns n e es g p = is_spanned_of ns e es g (top_front ns n e es g p,
 
 pub path_same : (top : EpochName) (ns : List Node) → AreNodes ns → AreBelow top ns → (e f : EpochName) → is_kept top ns e ≡ true → is_kept top ns f ≡ true → path ns e ≡ path ns f → e ≡ f
 path_same top ns d b e f k l h = epoch_same top ns d b e f k l (ap (slice_cmp renaming_cmp (path ns e)) (sym h) ∙ tied_itself paths_total (path ns e))
-
-pub top_kept : (top : EpochName) (ns : List Node) → is_kept top ns top ≡ true
-top_kept top ns = or_left (name_eq top top) (has_node ns top) (name_eq_refl top)
 
 pub front_none : (p : List Renaming) → IsFront p [] → [] ≡ p
 front_none [] h = refl

@@ -7,9 +7,10 @@ use Rattle.rls_ident.specs.Tuples.{offset_of}
 use Rattle.rls_ident.specs.Identifiers.{is_ident, is_bounded, ident_eq, last_of, shifted}
 use Rattle.rls_ident.proofs.Ends.{eq_same}
 use Rattle.rls_ident.proofs.Members.{and_true, lt_test}
+use Rattle.rls_ident.proofs.Shifted.{last_offset}
 use Rattle.rls_runs.specs.Runs.{run_idents, idents_of, are_apart, is_run, past_offsets}
 use Rattle.rls_runs.specs.Places.{last_ident, is_above, touches}
-use Rattle.rls_runs.proofs.RunEnds.{touches_at, last_offset}
+use Rattle.rls_runs.proofs.RunEnds.{touches_at}
 use Rattle.rls_runs.proofs.RunJoins.{last_pushed, apart_by_last, apart_longer, idents_pushed, idents_longer}
 use Rattle.rls_runs.proofs.RunsOf.{apart_more}
 

@@ -52,7 +52,7 @@ within_kept top nodes (e ∷ es) v h = go (is_within e v) (within_kept top nodes
     go true k = (h.0, k)
     go false k = k
 
-top_kept : (top : EpochName) (nodes : List Node) → is_kept top nodes top ≡ true
+pub top_kept : (top : EpochName) (nodes : List Node) → is_kept top nodes top ≡ true
 top_kept top nodes = or_left (name_eq top top) (has_node nodes top) (name_eq_refl top)
 
 pub greatest_kept : (top : EpochName) (nodes : List Node) → is_kept top nodes (greatest top nodes) ≡ true

@@ -58,7 +58,7 @@ pub greatest_is : (top : EpochName) (ns : List Node) → AreNodes ns → AreBelo
 greatest_is top ns d b g k f =
     level_same top ns d b (greatest top ns) g (greatest_kept top ns) k (greatest_top top ns g k) (f (greatest top ns) (greatest_kept top ns))
 
-kept_before : (top : EpochName) (node : Node) (older : List Node) (f : EpochName) → is_of node f ≡ false → is_kept top (node ∷ older) f ≡ true → is_kept top older f ≡ true
+pub kept_before : (top : EpochName) (node : Node) (older : List Node) (f : EpochName) → is_of node f ≡ false → is_kept top (node ∷ older) f ≡ true → is_kept top older f ≡ true
 kept_before top node older f h k = sym (ap (λ b. name_eq f top || (b || has_node older f)) h) ∙ k
 
 pub kept_here : (top : EpochName) (node : Node) (older : List Node) → is_kept top (node ∷ older) (name_of node.renaming) ≡ true

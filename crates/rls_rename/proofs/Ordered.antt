@@ -1,5 +1,5 @@
 -- The list of what is spanned rises strictly, so it is known by its elements, and it is the same over a window as over the whole.
-use Rattle.std.proofs.Common.{◌≡◌, Bool, true, false, List, [], ◌∷◌, refl, sym, ap, ◌∙◌, subst, inl, inr, ◌⊎◌, ⊎_elim}
+use Rattle.std.proofs.Common.{◌≡◌, Bool, true, false, List, [], ◌∷◌, refl, sym, ap, ◌∙◌, subst, inl, inr, ◌⊎◌, ⊎_elim, length, suc}
 use Rattle.std.specs.Prelude.{cond, filter, if◌then◌else◌}
 use Rattle.std.specs.declared.cmp.Ordering.TheVariants.{Less}
 use Rattle.std.specs.Ordering.{is_lt}
@@ -136,3 +136,17 @@ pub spanned_members : (top : EpochName) (ns : List Node) → AreNodes ns → Are
     ((g : EpochName) → IsIn g (e ∷ es) → IsIn g (f ∷ fs)) → ((g : EpochName) → IsIn g (f ∷ fs) → IsIn g (e ∷ es)) → spanned top ns e es ≡ spanned top ns f fs
 spanned_members top ns d b e es f fs j k h i =
     same_rising ns (spanned top ns e es) (spanned top ns f fs) (spanned_rises top ns d b e es) (spanned_rises top ns d b f fs) (least_in top ns d b e es f fs k h) (least_in top ns d b f fs e es j i)
+
+-- ---- lengths
+
+length-put_epoch : (ns : List Node) (e : EpochName) (fs : List EpochName) → length (put_epoch ns e fs) ≡ suc (length fs)
+length-put_epoch ns e [] = refl
+length-put_epoch ns e (f ∷ fs) = go (is_lt (epoch_cmp ns f e)) (length-put_epoch ns e fs)
+  where
+    go : (b : Bool) → length (put_epoch ns e fs) ≡ suc (length fs) → length (if b then f ∷ put_epoch ns e fs else e ∷ f ∷ fs) ≡ suc (suc (length fs))
+    go true h = ap suc h
+    go false h = refl
+
+pub length-in_order : (ns : List Node) (es : List EpochName) → length (in_order ns es) ≡ length es
+length-in_order ns [] = refl
+length-in_order ns (e ∷ es) = length-put_epoch ns e (in_order ns es) ∙ ap suc (length-in_order ns es)

@@ -9,6 +9,7 @@ use Rattle.rls_ident.specs.declared.epoch_name.EpochName.{EpochName}
 use Rattle.rls_ident.specs.EpochNames.{name_eq}
 use Rattle.rls_ident.specs.Lists.{IsIn, AreIn}
 use Rattle.rls_ident.proofs.Members.{bool_cases, not_true, not_is, or_left, or_right, or_split, and_left, and_right, and_true, in_filter, filter_in, each_in, are_in}
+use Rattle.rls_ident.proofs.Agreeing.{any_same}
 use Rattle.rls_rename.specs.Renaming.{Renaming}
 use Rattle.rls_rename.specs.Tree.{Node, Epochs, name_of, is_of, has_node, is_kept, AreNodes, AreBelow, IsTree, IsWindow, path, renaming_cmp, epoch_cmp, greatest, greatest_within, forward_all, back_all, along, translate}
 use Rattle.rls_rename.specs.Connected.{begins_with, common_prefix, common_prefix_of, top_path, is_spanned, spanned, spanned_renamings}
@@ -147,10 +148,6 @@ pub top_path_window : {U : EpochName} {A : List Node} {top : EpochName} {B : Lis
 unfolding top_path
 top_path_window {U = U} {A = A} {top = top} {B = B} w e es k =
     ap (λ q. common_prefix_of q (map (path B) es)) (path_window w e (k e (inl refl))) ∙ of_front A B (path B U) (path A e) es (λ g q. path_window w g (k g (inr q)))
-
-any_same : (s t : EpochName → Bool) (es : List EpochName) → ((g : EpochName) → IsIn g es → s g ≡ t g) → list_any s es ≡ list_any t es
-any_same s t [] f = refl
-any_same s t (e ∷ es) f = ap (λ b. b || list_any s es) (f e (inl refl)) ∙ ap (λ b. t e || b) (any_same s t es (λ g q. f g (inr q)))
 
 pub is_spanned_window : {U : EpochName} {A : List Node} {top : EpochName} {B : List Node} → Window U A top B → (e : EpochName) (es : List EpochName) → AllKept U A (e ∷ es) → (f : EpochName) → is_kept U A f ≡ true → is_spanned B e es f ≡ is_spanned A e es f
 unfolding is_spanned

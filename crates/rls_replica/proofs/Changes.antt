@@ -11,7 +11,7 @@ use Rattle.rls_ident.specs.EpochNames.{name_eq}
 use Rattle.rls_ident.specs.Identifiers.{ident_cmp, ident_eq, last_of, greatest_offset}
 use Rattle.rls_ident.specs.Lists.{IsIn}
 use Rattle.rls_ident.specs.Tuples.{offset_of}
-use Rattle.rls_ident.proofs.Members.{bool_cases, in_any, less_is, eq_not, not_lt_is, some_is}
+use Rattle.rls_ident.proofs.Members.{bool_cases, in_any, less_is, eq_not, not_lt_is, some_is, not_int_lt_is}
 use Rattle.rls_ident.proofs.Ends.{eq_same}
 use Rattle.rls_runs.specs.Entries.{Entries, has_ident, put_all, without_all, with_idents}
 use Rattle.rls_runs.specs.Runs.{run_idents, idents_of, IsImage}
@@ -54,19 +54,6 @@ pub image_is : (E : Epochs) (e : EpochName) (first : List Tuple) (n : ℕ) (g : 
 image_is E e first n g run runs k h i =
     i.idents ∙ (ap (λ (r : List Tuple × ℕ). map (translate E.nodes e g) (run_idents r.0 r.1)) h ∙ ap (λ (f : EpochName). map (translate E.nodes e f) (run_idents first n)) k)
 
--- identifiers that aren't there are new
-pub are_new : (xs ys : List (List Tuple)) → ((x : List Tuple) → IsIn x xs → IsIn x ys → ⊥) → AreNew xs ys
-are_new [] ys h = tt
-are_new (x ∷ xs) ys h = (
-  bool_cases (has_ident ys x)
-      (λ e. let p = in_any (λ y. ident_eq y x) ys e in absurd (h x (inl refl) (subst (λ z. IsIn z ys) (eq_same p.0 x p.2) p.1)))
-      (λ e. e),
-  are_new xs ys (λ z p. h z (inr p)),
-)
-
-int_not_lt : (x y : ℤ) → int_lt x y ≡ false → y ≤ℤ x
-int_not_lt x y h = omega (arith, ints)
-
 pub insert_may : (s : Seen) (o : Op) (first : List Tuple) (text : List ℕ) → IsSane s → MayApply s o → o.body ≡ Insert first text → MayInsert s.epochs s.text o.epoch first text
 insert_may s o first text sane m e =
     let f = facts s o m in
@@ -79,7 +66,7 @@ insert_may s o first text sane m e =
       kept = f.kept;
       some = let k = eq_not (length text) 0 z in omega arith;
       few = few;
-      end = int_not_lt (greatest_offset +ℤ pos 1) (offset_of (last_of first) +ℤ pos (length text)) p;
+      end = not_int_lt_is (greatest_offset +ℤ pos 1) (offset_of (last_of first) +ℤ pos (length text)) p;
       idents = new.idents;
       new = new.new;
       room = omega arith;

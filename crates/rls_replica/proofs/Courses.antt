@@ -4,6 +4,8 @@ use Rattle.std.specs.Prelude.{sum, reverse}
 use Rattle.std.proofs.lemmas.List.{reverse-append, length-append}
 use Rattle.std.proofs.lemmas.List.Sums.{sum_by-cons}
 use Rattle.rls_ident.specs.Vectors.{raise}
+use Rattle.rls_ident.proofs.Vectors.{sum-raise, sum-raise_le}
+use Rattle.rls_ident.proofs.Members.{bool_cases}
 use Rattle.rls_ops.specs.declared.op.Op.{Op}
 use Rattle.rls_ops.specs.declared.message.Message.{Message}
 use Rattle.rls_model.specs.declared.receipt.Taken.{Taken}
@@ -18,8 +20,8 @@ use Rattle.rls_seen.specs.Messages.{Course, started, moved, with_answer, with_re
 use Rattle.rls_seen.specs.Sane.{IsSane}
 use Rattle.rls_seen.proofs.Accepting.{acks_mine}
 use Rattle.rls_seen.proofs.Counting.{members_received, members_released}
-use Rattle.rls_seen.proofs.Repeating.{within, more_steps, no_ops, no_releases, acknowledged_seen, one_fewer, received_seen, received_limit, released_none, released_seen, released_limit, released_step_sane, Reaches, ReachesReady, reaches_received, reaches_released, reaches_rest}
-use Rattle.rls_seen.proofs.Sizes.{sum-raise, sum_small}
+use Rattle.rls_seen.proofs.Repeating.{within, more_steps, no_ops, no_releases, acknowledged_seen, one_fewer, received_seen, received_limit, released_none, released_seen, released_limit, released_step_sane, Reaches, ReachesReady, reaches_received, reaches_released, reaches_rest, no_more, none_is}
+use Rattle.rls_seen.proofs.Sizes.{sum_small}
 use Rattle.rls_seen.proofs.Staying.{ready}
 use Rattle.rls_seen.proofs.Taking.{started_goes, ops_go, counted_alike}
 use Rattle.rls_seen.specs.Stands.{StandsFor}
@@ -69,18 +71,12 @@ fewer_counts s t l k = omega arith
 pub unreleased_counts : (s : Seen) (t : Taken) → None ≡ release_over s → CountsReleased s t → CountsReleased (released s) t
 unreleased_counts s t e k = subst (λ u. CountsReleased u t) (sym (released_none s (sym e))) k
 
--- what is accepted stays accepted
-sum_raise-le : (v : List ℕ) (a : ℕ) → sum v ≤ sum (raise v a)
-sum_raise-le [] a = omega arith
-sum_raise-le (x ∷ v) zero = omega (arith, sum_by-cons (λ n. n) (suc x) v, sum_by-cons (λ n. n) x v)
-sum_raise-le (x ∷ v) (suc a) = let h = sum_raise-le v a in omega (arith, sum_by-cons (λ n. n) x (raise v a), sum_by-cons (λ n. n) x v)
-
 pub released_or_more : (s : Seen) (o : Op) → sum (vector s) ≤ sum (vector (received s o))
 unfolding received accepted holding
 released_or_more s o = go (answer_over false s o)
   where
     go : (a : Answer) → sum (vector s) ≤ sum (vector (after_answer a s o))
-    go Applies = let e = ap sum (acks_mine s.acks o.author o.body) in let k = sum_raise-le (vector s) o.author in omega arith
+    go Applies = let e = ap sum (acks_mine s.acks o.author o.body) in let k = sum-raise_le (vector s) o.author in omega arith
     go Waits = omega arith
     go Repeats = omega arith
     go (Refuses r) = omega arith
@@ -117,10 +113,6 @@ received_course s t o = go (answer_over false s o)
 
 -- ---- releases until none is ready
 
-none_is : (o : Option Released) → is_some o ≡ false → o ≡ None
-none_is None f = refl
-none_is (Some r) f = absurd (cc)
-
 pub none_released : (s : Seen) → is_some (release_over s) ≡ false → released s ≡ s
 none_released s f = released_none s (none_is (release_over s) f)
 
@@ -155,30 +147,20 @@ to_reach s os c rest w limit = ap (λ l. take_ops (started l s) os) (sym (more_i
 pub from_reach : (s : Seen) (os : List Op) (k : ℕ) (c : Course) (rest : List Op) → Reaches s os k c rest → IsOnWay s os c rest
 from_reach s os k c rest h = (k, λ limit. ap (λ l. take_ops (started l s) os) (more_is k limit) ∙ h limit)
 
-either : {A : Type 0} (b : Bool) → (b ≡ true → A) → (b ≡ false → A) → A
-either true f g = f refl
-either false f g = g refl
-
 ready_done : (s : Seen) (os : List Op) (k : ℕ) (c : Course) (rest : List Op) → is_some (release_over c.seen) ≡ false → ReachesReady s os k c rest → IsOnWay s os (with_releases c) rest
 ready_done s os k c rest f w = subst (λ d. IsOnWay s os d rest) (sym (releases_done c f)) (from_reach s os k c rest (reaches_rest s os k c rest f w))
 
 -- all that is ready is released
 pub on_way_ready : (n : ℕ) (s : Seen) (os : List Op) (k : ℕ) (c : Course) (rest : List Op) → length c.seen.waiting ≤ n → c.limit ≡ None → IsSane c.seen → ReachesReady s os k c rest
     → IsOnWay s os (with_releases c) rest
-on_way_ready zero s os k c rest l e h w = either (is_some (release_over c.seen)) (λ f. let x = one_fewer c.seen h f in absurd (omega arith)) (λ f. ready_done s os k c rest f w)
-on_way_ready (suc m) s os k c rest l e h w = either (is_some (release_over c.seen))
+on_way_ready zero s os k c rest l e h w = bool_cases (is_some (release_over c.seen)) (λ f. let x = one_fewer c.seen h f in absurd (omega arith)) (λ f. ready_done s os k c rest f w)
+on_way_ready (suc m) s os k c rest l e h w = bool_cases (is_some (release_over c.seen))
     (λ f.
     let x = one_fewer c.seen h f in
     let y : length (release_step c).seen.waiting ≡ length (released c.seen).waiting = ap (λ (u : Seen). length u.waiting) (released_seen c e) in
     subst (λ d. IsOnWay s os d rest) (releases_more c e h f)
     (on_way_ready m s os (suc k) (release_step c) rest (omega arith) (released_limit c e) (released_step_sane c e h) (reaches_released s os k c rest e h f w)))
     (λ f. ready_done s os k c rest f w)
-
-no_more : (k : ℕ) → more_steps k (Some 0) ≡ Some k
-no_more k = ap (λ m. Some m) (zero_more k)
-  where
-    zero_more : (m : ℕ) → m + 0 ≡ m
-    zero_more m = omega arith
 
 part_now : (s : Seen) (os : List Op) (k : ℕ) (c : Course) (rest : List Op) → ReachesReady s os k c rest → IsPartOfOps s os c.seen
 part_now s os k c rest h =
@@ -190,7 +172,7 @@ part_now s os k c rest h =
 -- or only some of it
 pub part_ready : (n : ℕ) (s : Seen) (os : List Op) (k : ℕ) (c : Course) (rest : List Op) → c.limit ≡ None → IsSane c.seen → ReachesReady s os k c rest → IsPartOfOps s os (released_times n c.seen)
 part_ready zero s os k c rest e h w = part_now s os k c rest w
-part_ready (suc n) s os k c rest e h w = either (is_some (release_over c.seen))
+part_ready (suc n) s os k c rest e h w = bool_cases (is_some (release_over c.seen))
     (λ f.
     subst (λ u. IsPartOfOps s os (released_times n u)) (released_seen c e)
     (part_ready n s os (suc k) (release_step c) rest (released_limit c e) (released_step_sane c e h) (reaches_released s os k c rest e h f w)))

@@ -12,7 +12,7 @@ use Rattle.rls_seen.specs.Seen.{Seen, members}
 use Rattle.rls_seen.specs.Over.{acknowledged}
 use Rattle.rls_seen.specs.Messages.{Course, started, moved, take_ops, taken_within, AreOps, IsMessage, IsPartTaken}
 use Rattle.rls_seen.specs.Stands.{StandsFor}
-use Rattle.rls_seen.proofs.Repeating.{within, more_steps, no_ops, Reaches, reaches_start, part_taken}
+use Rattle.rls_seen.proofs.Repeating.{within, more_steps, no_ops, Reaches, reaches_start, part_taken, no_more}
 use Rattle.rls_seen.proofs.Taking.{started_goes, ops_go, taken_alike}
 use Rattle.rls_replica.specs.Steps.{IsPartOfOps}
 
@@ -21,12 +21,6 @@ pub ops_more : (os : List Op) (i : ℕ) (o : Op) → slice_get os i ≡ Some o �
 ops_more os i o e w h = subst AreOps (sym (drop_reads os i o e)) (w, h)
 
 -- ---- cut short
-
-no_more : (k : ℕ) → more_steps k (Some 0) ≡ Some k
-no_more k = ap (λ m. Some m) (zero_more k)
-  where
-    zero_more : (m : ℕ) → m + 0 ≡ m
-    zero_more m = omega arith
 
 -- some of the steps were taken
 pub ops_part : (s : Seen) (os : List Op) (k : ℕ) (c : Course) (rest : List Op) → Reaches s os k c rest → IsPartOfOps s os c.seen

@@ -17,11 +17,8 @@ use Rattle.rls_seen.specs.Edits.{edit_fault_over, edited, IsFault}
 use Rattle.rls_seen.specs.Seen.{Seen, own_count, idents_over, text_over}
 use Rattle.rls_seen.specs.Stands.{StandsFor}
 use Rattle.rls_seen.proofs.Editing.{idents_alike, own_alike, edit_faults_alike, edited_stands}
+use Rattle.rls_seen.proofs.Keeping.{text_alike}
 use Rattle.rls_replica.specs.Editing.{IsOneRun}
-
-text_alike : (s : Seen) (t : State) → StandsFor s t → text_over s ≡ text t.history
-unfolding text
-text_alike s t h = ap (map (λ (e : List Tuple × ℕ). e.1)) h.text
 
 -- a refused edit is refused by the history
 pub refused_alike : (s : Seen) (t : State) (edit : Edit) (e : EditError) → StandsFor s t → IsFault e (edit_fault_over s edit) → IsFault e (edit_fault t.history edit)

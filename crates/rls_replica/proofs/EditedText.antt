@@ -3,7 +3,8 @@ use Rattle.std.proofs.Common.{◌≡◌, ℕ, zero, suc, ◌+◌, ◌≤◌, ◌
 use Rattle.std.specs.Prelude.{filter, not, ◌==◌, nat_lt, None, pos, slice_get, zip, if◌then◌else◌}
 use Rattle.std.specs.Ordering.{is_eq}
 use Rattle.std.proofs.lemmas.Cmp.{lists_total, tied_itself}
-use Rattle.std.proofs.lemmas.List.{drop-drop, take-append-drop}
+use Rattle.std.proofs.lemmas.List.{drop-drop, take-append-drop, length-map}
+use Rattle.std.proofs.lemmas.List.Elements.{filter-append}
 use Rattle.rls_ident.specs.declared.tuple.Tuple.{Tuple}
 use Rattle.rls_ident.specs.Identifiers.{IsIdent, ident_eq, shifted}
 use Rattle.rls_ident.specs.Lists.{IsIn}
@@ -11,34 +12,31 @@ use Rattle.rls_ident.proofs.Ends.{eq_same}
 use Rattle.rls_ident.proofs.Lists.{Lt, lt_irrefl}
 use Rattle.rls_ident.proofs.Members.{any_in, in_any, in_drop, in_left, in_map, in_right, in_split, in_take, map_in, not_true, not_lt_is, take_or_drop}
 use Rattle.rls_ident.proofs.Tuples.{tuples, tuple_total}
+use Rattle.rls_ident.proofs.Shifted.{ident_shifted}
+use Rattle.rls_ident.proofs.Agreeing.{map_itself, filter_all, filter_none}
 use Rattle.rls_rename.proofs.Growth.{translate_same}
 use Rattle.rls_runs.specs.Entries.{has_ident, put_all, without_all, with_idents}
 use Rattle.rls_runs.specs.Runs.{run_idents}
-use Rattle.rls_runs.proofs.Sorted.{Entry, IsBelow, Rises, in_put_all, put_all_in, same_rising}
+use Rattle.rls_runs.proofs.Sorted.{Entry, IsBelow, Rises, in_put_all, put_all_in, same_rising, above_at, rises_of_increasing}
 use Rattle.rls_model.specs.declared.edit.Edit.{Edit}
 use Rattle.rls_model.specs.declared.edit.Edit.TheVariants as edits
 use Rattle.rls_model.specs.declared.edit.EditError.TheVariants as faults
 use Rattle.rls_model.specs.Editing.{first_between, get_before, range_fault, or_fault}
 use Rattle.rls_ops.specs.Rows.{left}
 use Rattle.rls_model.specs.WellFormed.{IsEdit}
-use Rattle.rls_model.proofs.Distinct.{ident_shifted}
 use Rattle.rls_model.proofs.Insertion.{LiesBetween, first_lies}
 use Rattle.rls_model.proofs.Made.{neighbour, neighbour_before, or_none}
 use Rattle.rls_model.proofs.OneTree.{none_else}
-use Rattle.rls_model.proofs.Spliced.{ids, entries, chars-entries, below_at, entry_place, entries_rise, rises_splice, take_below, drop_above, neighbours, take_map, drop_map, append_map}
+use Rattle.rls_model.proofs.Spliced.{ids, entries, chars-entries, entry_place, entries_rise, rises_splice, take_below, drop_above, neighbours, take_map, drop_map, append_map}
 use Rattle.rls_seen.specs.Edits.{made_over, op_fault_over, edit_fault_over, edited}
 use Rattle.rls_seen.specs.Over.{accepted, placed_over, added_over, renamed_over, is_greatest_over}
 use Rattle.rls_seen.specs.Sane.{IsSane}
 use Rattle.rls_seen.specs.Seen.{Seen, own_count, greatest_over, idents_over, text_over}
 use Rattle.rls_seen.proofs.Making.{made_may, edited_sane}
-use Rattle.rls_seen.proofs.TextLists.{rises_of, ident_in}
+use Rattle.rls_seen.proofs.TextLists.{ident_in}
 use Rattle.rls_replica.specs.Editing.{edited_text}
 
 -- ---- lists
-
-map_same : {A : Type 0} (f : A → A) (xs : List A) → ((x : A) → IsIn x xs → f x ≡ x) → map f xs ≡ xs
-map_same f [] h = refl
-map_same f (x ∷ xs) h = ap (λ y. y ∷ map f xs) (h x (inl refl)) ∙ ap (λ ys. x ∷ ys) (map_same f xs (λ y p. h y (inr p)))
 
 run_ident : (x : List Tuple) (n : ℕ) → IsIdent x → (y : List Tuple) → IsIn y (run_idents x n) → IsIdent y
 run_ident x zero i y p = absurd p
@@ -48,10 +46,6 @@ run_ident x (suc n) i y (inr p) = run_ident (shifted (pos 1) x) n (ident_shifted
 zip_entries : (x : List Tuple) (cs : List ℕ) → zip (run_idents x (length cs)) cs ≡ entries x cs
 zip_entries x [] = refl
 zip_entries x (c ∷ cs) = ap (λ es. (x, c) ∷ es) (zip_entries (shifted (pos 1) x) cs)
-
-length-ids : (es : List Entry) → length (ids es) ≡ length es
-length-ids [] = refl
-length-ids (e ∷ es) = ap suc (length-ids es)
 
 -- ---- entries put in at one place
 
@@ -96,7 +90,7 @@ first_made s at n = first_between s.stems s.acks.me (own_count s + 1) (get_befor
 -- what is added are the characters from the first identifier on
 added_is : (s : Seen) (x : List Tuple) (cs : List ℕ) → IsSane s → IsIdent x → added_over s (greatest_over s) x cs ≡ entries x cs
 added_is s x cs sane i =
-    ap (λ xs. zip xs cs) (map_same (placed_over s (greatest_over s)) (run_idents x (length cs)) (λ y p. translate_same s.epochs.nodes (greatest_over s) y sane.epochs.nodes (run_ident x (length cs) i y p)))
+    ap (λ xs. zip xs cs) (map_itself (placed_over s (greatest_over s)) (run_idents x (length cs)) (λ y p. translate_same s.epochs.nodes (greatest_over s) y sane.epochs.nodes (run_ident x (length cs) i y p)))
     ∙ zip_entries x cs
 
 range_none : (s : Seen) (edit : Edit) → edit_fault_over s edit ≡ None → range_fault (length (idents_over s)) edit ≡ None
@@ -109,7 +103,7 @@ insert_place : (s : Seen) (at : ℕ) (cs : List ℕ) → edit_fault_over s (edit
 insert_place s at cs h =
     let p = none_else (length cs == 0) faults.EmptyEdit _ (range_none s (edits.Insert at cs) h) in
     let q = none_else (nat_lt (length (idents_over s)) at) (faults.Range at (length (idents_over s))) _ p.1 in
-    subst (λ n. at ≤ n) (length-ids s.text) (not_lt_is (length (idents_over s)) at q.0)
+    subst (λ n. at ≤ n) (length-map s.text (λ (e : Entry). e.0)) (not_lt_is (length (idents_over s)) at q.0)
 
 -- the first identifier is one, since what is made may be applied
 first_ident : (s : Seen) (at : ℕ) (cs : List ℕ) → IsSane s → IsEdit (edits.Insert at cs) → edit_fault_over s (edits.Insert at cs) ≡ None → IsIdent (first_made s at (length cs))
@@ -120,7 +114,7 @@ first_between_them : (s : Seen) (at n : ℕ) → IsSane s → (k : ℕ) → k < 
 unfolding first_made
 first_between_them s at n sane k l =
     first_lies s.stems s.acks.me (own_count s + 1) (get_before (idents_over s) at) (slice_get (idents_over s) at) n k l (neighbour_before (idents_over s) sane.idents.0 at) (neighbour (idents_over s) sane.idents.0 at)
-    (neighbours at s.text (rises_of s.text sane.idents.1))
+    (neighbours at s.text (rises_of_increasing s.text sane.idents.1))
 
 insert_text_is : (s : Seen) (at : ℕ) (cs : List ℕ) → (edited s (edits.Insert at cs)).text ≡ put_all (added_over s (greatest_over s) (first_made s at (length cs)) cs) s.text
 unfolding accepted made_over first_made
@@ -130,9 +124,9 @@ inserted : (s : Seen) (at : ℕ) (cs : List ℕ) → IsSane s → IsEdit (edits.
 inserted s at cs sane i h =
     let x = first_made s at (length cs) in
     let j = first_ident s at cs sane i h in
-    let r = rises_of s.text sane.idents.1 in
+    let r = rises_of_increasing s.text sane.idents.1 in
     let e : (edited s (edits.Insert at cs)).text ≡ put_all (entries x cs) s.text = insert_text_is s at cs ∙ ap (λ mid. put_all mid s.text) (added_is s x cs sane j) in
-    let after : Rises (put_all (entries x cs) s.text) = subst Rises e (rises_of (edited s (edits.Insert at cs)).text (edited_sane s (edits.Insert at cs) sane i h).idents.1) in
+    let after : Rises (put_all (entries x cs) s.text) = subst Rises e (rises_of_increasing (edited s (edits.Insert at cs)).text (edited_sane s (edits.Insert at cs) sane i h).idents.1) in
     let same = same_rising (put_all (entries x cs) s.text) (spliced at (entries x cs) s.text) after (spliced_rises at x cs s.text (insert_place s at cs h) r j (first_between_them s at (length cs) sane)) (into_spliced at (entries x cs) s.text) (from_spliced at (entries x cs) s.text) in
     ap (map (λ (y : Entry). y.1)) (e ∙ same) ∙ chars-spliced at x cs s.text
 
@@ -140,7 +134,7 @@ inserted s at cs sane i h =
 
 cross : (xs ys : List Entry) → Rises (xs ++ ys) → (x y : Entry) → IsIn x xs → IsIn y ys → IsBelow x y
 cross [] ys r x y p q = absurd p
-cross (z ∷ xs) ys r x y (inl e) q = subst (λ (w : Entry). IsBelow w y) e (below_at z y (xs ++ ys) r.0 (in_right y xs ys q))
+cross (z ∷ xs) ys r x y (inl e) q = subst (λ (w : Entry). IsBelow w y) e (above_at z y (xs ++ ys) r.0 (in_right y xs ys q))
 cross (z ∷ xs) ys r x y (inr p) q = cross xs ys r.1 x y p q
 
 rises_right : (xs ys : List Entry) → Rises (xs ++ ys) → Rises ys
@@ -158,22 +152,6 @@ not_among xs e f =
 among : (xs : List Entry) (e : Entry) → IsIn e xs → has_ident (ids xs) e.0 ≡ true
 among xs e p = any_in (λ y. ident_eq y e.0) e.0 (ids xs) (map_in (λ (w : Entry). w.0) e xs p) (ap is_eq (tied_itself (lists_total tuple_total) e.0))
 
-filter_append : (p : Entry → Bool) (xs ys : List Entry) → filter p (xs ++ ys) ≡ filter p xs ++ filter p ys
-filter_append p [] ys = refl
-filter_append p (x ∷ xs) ys = go (p x) (filter_append p xs ys)
-  where
-    go : (b : Bool) → filter p (xs ++ ys) ≡ filter p xs ++ filter p ys → cond b (x ∷ filter p (xs ++ ys)) (filter p (xs ++ ys)) ≡ cond b (x ∷ filter p xs) (filter p xs) ++ filter p ys
-    go true e = ap (λ zs. x ∷ zs) e
-    go false e = e
-
-filter_all : (p : Entry → Bool) (xs : List Entry) → ((x : Entry) → IsIn x xs → p x ≡ true) → filter p xs ≡ xs
-filter_all p [] f = refl
-filter_all p (x ∷ xs) f = ap (λ b. cond b (x ∷ filter p xs) (filter p xs)) (f x (inl refl)) ∙ ap (λ zs. x ∷ zs) (filter_all p xs (λ y q. f y (inr q)))
-
-filter_none : (p : Entry → Bool) (xs : List Entry) → ((x : Entry) → IsIn x xs → p x ≡ false) → filter p xs ≡ []
-filter_none p [] f = refl
-filter_none p (x ∷ xs) f = ap (λ b. cond b (x ∷ filter p xs) (filter p xs)) (f x (inl refl)) ∙ filter_none p xs (λ y q. f y (inr q))
-
 -- a middle part that is taken out
 taken_out : (xs ys zs : List Entry) → Rises (xs ++ (ys ++ zs)) → without_all (ids ys) (xs ++ (ys ++ zs)) ≡ xs ++ zs
 taken_out xs ys zs r =
@@ -181,7 +159,7 @@ taken_out xs ys zs r =
     let one = filter_all p xs (λ e q. ap not (not_among ys e (λ y u v. lt_irrefl (subst (λ z. Lt tuples z y.0) (sym v) (cross xs (ys ++ zs) r e y q (in_left y ys zs u)))))) in
     let two = filter_none p ys (λ e q. ap not (among ys e q)) in
     let three = filter_all p zs (λ e q. ap not (not_among ys e (λ y u v. lt_irrefl (subst (λ z. Lt tuples y.0 z) (sym v) (cross ys zs (rises_right xs (ys ++ zs) r) y e u q))))) in
-    filter_append p xs (ys ++ zs) ∙ ap (λ ws. ws ++ filter p (ys ++ zs)) one ∙ ap (λ ws. xs ++ ws) (filter_append p ys zs ∙ ap (λ ws. ws ++ filter p zs) two ∙ three)
+    filter-append p xs (ys ++ zs) ∙ ap (λ ws. ws ++ filter p (ys ++ zs)) one ∙ ap (λ ws. xs ++ ws) (filter-append p ys zs ∙ ap (λ ws. ws ++ filter p zs) two ∙ three)
 
 take_drop_drop : (n at : ℕ) (es : List Entry) → take at es ++ (take n (drop at es) ++ drop (at + n) es) ≡ es
 take_drop_drop n at es = ap (λ zs. take at es ++ (take n (drop at es) ++ zs)) (sym (drop-drop n at es)) ∙ ap (λ zs. take at es ++ zs) (take-append-drop n (drop at es)) ∙ take-append-drop at es
@@ -202,8 +180,8 @@ deleted : (s : Seen) (at n : ℕ) → IsSane s → text_over (edited s (edits.De
 deleted s at n sane =
     let c : Entry → ℕ = λ e. e.1 in
     let xs = take n (drop at (idents_over s)) in
-    let same = map_same (placed_over s (greatest_over s)) xs (λ x p. translate_same s.epochs.nodes (greatest_over s) x sane.epochs.nodes (ident_in (idents_over s) sane.idents x (in_drop at x (idents_over s) (in_take n x (drop at (idents_over s)) p)))) in
-    ap (map c) (delete_text_is s at n ∙ ap (λ ys. without_all ys s.text) same ∙ removed at n s.text (rises_of s.text sane.idents.1))
+    let same = map_itself (placed_over s (greatest_over s)) xs (λ x p. translate_same s.epochs.nodes (greatest_over s) x sane.epochs.nodes (ident_in (idents_over s) sane.idents x (in_drop at x (idents_over s) (in_take n x (drop at (idents_over s)) p)))) in
+    ap (map c) (delete_text_is s at n ∙ ap (λ ys. without_all ys s.text) same ∙ removed at n s.text (rises_of_increasing s.text sane.idents.1))
     ∙ append_map c (take at s.text) (drop (at + n) s.text)
     ∙ ap (λ ys. ys ++ map c (drop (at + n) s.text)) (take_map c at s.text)
     ∙ ap (λ ys. take at (map c s.text) ++ ys) (drop_map c (at + n) s.text)

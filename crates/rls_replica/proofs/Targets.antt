@@ -14,11 +14,11 @@ use Rattle.rls_ident.proofs.Lists.{flipped, lt_trans}
 use Rattle.rls_ident.proofs.Loops.{drop_reads}
 use Rattle.rls_ident.proofs.Tuples.{ident_total}
 use Rattle.rls_ident.proofs.Members.{filter_in, not_le_test, some_is}
+use Rattle.rls_ident.proofs.Agreeing.{any_same}
 use Rattle.rls_runs.specs.Runs.{AreIdents, is_increasing, place_from, place_of, placed}
 use Rattle.rls_runs.specs.Entries.{Entries, has_ident, idents_in}
 use Rattle.rls_runs.specs.Places.{find_ident, below_count}
-use Rattle.rls_runs.proofs.Sorted.{Entry, AreAbove, Rises}
-use Rattle.rls_doc.proofs.Rising.{rising}
+use Rattle.rls_runs.proofs.Sorted.{Entry, AreAbove, Rises, rises_of_increasing}
 use Rattle.rls_rename.specs.Tree.{AreNodes, translate}
 use Rattle.rls_rename.proofs.Growth.{translate_back}
 use Rattle.rls_rename.proofs.Paths.{translate_ident, translate_order}
@@ -54,23 +54,11 @@ known_by_name s e x h = known_here s e x ∙ ap (λ b. b || is_named_over s e x 
 
 -- ---- among targets
 
--- where an identifier is found
-pub found_known : (xs : List (List Tuple)) (x : List Tuple) → is_ok (find_ident xs x) ≡ has_ident xs x
-found_known xs x = go (has_ident xs x)
-  where
-    go : (b : Bool) → is_ok (if b then Ok (below_count xs x) else Err (below_count xs x)) ≡ b
-    go true = refl
-    go false = refl
-
-same_any : (p q : List Tuple → Bool) (xs : List (List Tuple)) → ((x : List Tuple) → IsIn x xs → p x ≡ q x) → list_any p xs ≡ list_any q xs
-same_any p q [] h = refl
-same_any p q (x ∷ xs) h = ap (λ b. b || list_any p xs) (h x (inl refl)) ∙ ap (λ b. q x || b) (same_any p q xs (λ y i. h y (inr i)))
-
 -- translated the one way a target is x just where x translated the other way is the target
 pub named_there : (s : Seen) (e : EpochName) (x : List Tuple) (d : Op) (ts : List (List Tuple)) → AreNodes s.epochs.nodes → IsIdent x → AreIdents ts → d.body ≡ Delete ts
     → has_ident ts (translate s.epochs.nodes e d.epoch x) ≡ is_named_by s e x d
 named_there s e x d ts n i ids b =
-    same_any (λ t. ident_eq t (translate s.epochs.nodes e d.epoch x)) (λ t. ident_eq (translate s.epochs.nodes d.epoch e t) x) ts
+    any_same (λ t. ident_eq t (translate s.epochs.nodes e d.epoch x)) (λ t. ident_eq (translate s.epochs.nodes d.epoch e t) x) ts
     (λ t p. ap is_eq (sym (translate_order s.epochs.nodes d.epoch e t (translate s.epochs.nodes e d.epoch x) n (ident_in ts ids t p) (translate_ident s.epochs.nodes e d.epoch x n i)))
     ∙ ap (λ y. ident_eq (translate s.epochs.nodes d.epoch e t) y) (translate_back s.epochs.nodes e d.epoch x n i))
     ∙ ap (λ (c : Body). list_any (λ t. ident_eq (translate_over s d.epoch e t) x) (targets_of c)) (sym b)

@@ -15,7 +15,8 @@ use Rattle.std.proofs.lemmas.List.{drop_more}
 use Rattle.std.proofs.Math.ListN.{drop_of_length-le}
 use Rattle.rls_ident.proofs.Loops.{drop_reads}
 use Rattle.rls_ident.proofs.Lists.{then_equal}
-use Rattle.rls_ident.proofs.Tuples.{tuples, tuple_total, nat_same}
+use Rattle.rls_ident.proofs.Tuples.{tuples, tuple_total, nat_same, int_less}
+use Rattle.rls_ident.proofs.BetweenLaws.{less_high}
 use Rattle.rls_runs.specs.Runs.{run_idents}
 use Rattle.rls_runs.specs.Entries.{has_ident}
 use Rattle.rls_runs.specs.Places.{below_count, find_ident}
@@ -124,11 +125,6 @@ empty_tells p r q o (suc n) = empty_tells p r q (o +ℤ pos 1) n
 offsets : (p r q : ℕ) (o k : ℤ) → tuple_cmp (At p r q o) (At p r q k) ≡ int_cmp o k
 unfolding tuple_cmp spot_cmp
 offsets p r q o k = let a = tied_itself nat_cmp_total p in let b = tied_itself nat_cmp_total r in let c = tied_itself nat_cmp_total q in simp (a, b, c)
-
-int_less : (a b : ℤ) (o : Ordering) → MatchOrdering o (a <ℤ b) (a ≡ b) (b <ℤ a) → a <ℤ b → o ≡ Less
-int_less a b Less m h = refl
-int_less a b Equal m h = absurd (omega (arith, ints))
-int_less a b Greater m h = absurd (omega (arith, ints))
 
 int_equal : (a b : ℤ) (o : Ordering) → MatchOrdering o (a <ℤ b) (a ≡ b) (b <ℤ a) → a ≡ b → o ≡ Equal
 int_equal a b Less m h = absurd (omega (arith, ints))
@@ -252,15 +248,11 @@ low_greater : (p r q : ℕ) (k : ℤ) → tuple_cmp (At p r q k) Low ≡ Greater
 unfolding tuple_cmp
 low_greater p r q k = refl
 
-high_less : (p r q : ℕ) (k : ℤ) → tuple_cmp (At p r q k) High ≡ Less
-unfolding tuple_cmp
-high_less p r q k = refl
-
 pub find_low : (p r q n : ℕ) (o : ℤ) (y : List Tuple) → find_ident (spots p r q o n) (Low ∷ y) ≡ Err 0
 find_low p r q n o y = told (spots p r q o n) (Low ∷ y) false 0 (above_tells p r q o n Low y (low_greater p r q))
 
 pub find_high : (p r q n : ℕ) (o : ℤ) (y : List Tuple) → find_ident (spots p r q o n) (High ∷ y) ≡ Err n
-find_high p r q n o y = told (spots p r q o n) (High ∷ y) false n (below_tells p r q o n High y (high_less p r q))
+find_high p r q n o y = told (spots p r q o n) (High ∷ y) false n (below_tells p r q o n High y (less_high p r q))
 
 -- ---- a step of the comparison with the front
 

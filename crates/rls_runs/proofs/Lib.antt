@@ -1,4 +1,5 @@
 pub mod RunsOf
+pub mod RunsApart
 pub mod Texts
 pub mod Finding
 pub mod RunOrder

@@ -1,16 +1,16 @@
 -- The last identifier of a run.
 use Rattle.std.proofs.Common.{◌≡◌, ℕ, zero, suc, ◌+◌, ◌-◌, ◌<◌, ◌≤◌, ◌^◌, Bool, true, false, List, [], ◌∷◌, ◌++◌, length, take, Some, Result, Ok, Err, slice_get, refl, sym, ap, ◌∙◌, arith, rules}
-use Rattle.std.specs.Prelude.{ℤ, pos, ◌+ℤ◌, ◌≤ℤ◌, ◌&&◌, ◌==◌, if◌then◌else◌, nat_lt, int_le}
+use Rattle.std.specs.Prelude.{pos, ◌+ℤ◌, ◌≤ℤ◌, ◌&&◌, ◌==◌, if◌then◌else◌, nat_lt, int_le}
 use Rattle.std.proofs.lemmas.Int.{ints}
 use Rattle.std.proofs.Math.ListN.{drop_of_length-le}
 use Rattle.rls_ident.specs.declared.tuple.Tuple.{Tuple}
-use Rattle.rls_ident.specs.declared.tuple.Tuple.TheVariants.{Low, At, High}
 use Rattle.rls_ident.specs.Tuples.{offset_of}
-use Rattle.rls_ident.specs.Identifiers.{IsIdent, is_ident, is_bounded, is_inner_bounded, last_of, ident_lt, ident_eq, shifted, follows, least_offset, greatest_offset}
+use Rattle.rls_ident.specs.Identifiers.{is_ident, is_bounded, last_of, ident_lt, ident_eq, shifted, follows}
 use Rattle.rls_ident.proofs.Lists.{Lt}
-use Rattle.rls_ident.proofs.Ends.{eq_same}
-use Rattle.rls_ident.proofs.Members.{and_left, and_right, and_true, eq_refl, neq_test, lt_test}
+use Rattle.rls_ident.proofs.Ends.{eq_same, least_last}
+use Rattle.rls_ident.proofs.Members.{and_left, and_right, and_true, eq_refl, neq_test, lt_test, int_le_is}
 use Rattle.rls_ident.proofs.Shifted.{shifted_shifted}
+pub use Rattle.rls_ident.proofs.Shifted.{last_offset}
 use Rattle.rls_ident.proofs.Tuples.{tuples}
 use Rattle.rls_runs.specs.Runs.{run_idents, run_last, idents_of, is_run, past_offsets}
 use Rattle.rls_runs.specs.Entries.{has_ident}
@@ -91,24 +91,6 @@ last_run rs r g h = ap (λ xs. last_ident (idents_of xs)) (sym (last_is rs r g))
 
 -- ---- the length of a longer run
 
-pub last_offset : (k : ℤ) (x : List Tuple) → IsIdent x → offset_of (last_of (shifted k x)) ≡ offset_of (last_of x) +ℤ k
-last_offset k [] i = absurd (cc)
-last_offset k (Low ∷ []) i = absurd (cc)
-last_offset k (At p r s o ∷ []) i = refl
-last_offset k (High ∷ []) i = absurd (cc)
-last_offset k (t ∷ (u ∷ [])) i = last_offset k (u ∷ []) i
-last_offset k (t ∷ (u ∷ (v ∷ x))) i = last_offset k (u ∷ (v ∷ x)) i
-
-int_is : (a b : ℤ) → int_le a b ≡ true → a ≤ℤ b
-int_is a b h = search rules
-
-least_last : (x : List Tuple) → IsIdent x → is_bounded x ≡ true → least_offset ≤ℤ offset_of (last_of x)
-least_last [] i b = absurd (cc)
-least_last (Low ∷ []) i b = absurd (cc)
-least_last (At p r s o ∷ []) i b = int_is least_offset o (and_left (int_le least_offset o) (int_le o greatest_offset) b)
-least_last (High ∷ []) i b = absurd (cc)
-least_last (t ∷ (u ∷ x)) i b = least_last (u ∷ x) i (and_right (is_inner_bounded t) (is_bounded (u ∷ x)) b)
-
 run_parts : (r : List Tuple × ℕ) → is_run r ≡ true → (is_ident r.0 ≡ true) × (is_bounded r.0 ≡ true) × (int_le (offset_of (last_of r.0) +ℤ pos r.1) past_offsets ≡ true)
 run_parts r h =
     let a = is_ident r.0 in
@@ -119,7 +101,7 @@ run_parts r h =
     (and_left a b p, and_right a b p, and_right (a && b && c) d h)
 
 pub run_end : (r : List Tuple × ℕ) → is_run r ≡ true → (offset_of (last_of r.0) +ℤ pos r.1) ≤ℤ past_offsets
-run_end r h = int_is (offset_of (last_of r.0) +ℤ pos r.1) past_offsets (run_parts r h).2
+run_end r h = int_le_is (offset_of (last_of r.0) +ℤ pos r.1) past_offsets (run_parts r h).2
 
 pub run_short : (r : List Tuple × ℕ) → is_run r ≡ true → r.1 < 2 ^ 32
 run_short r h =

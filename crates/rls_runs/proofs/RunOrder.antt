@@ -2,24 +2,18 @@
 use Rattle.std.proofs.Common.{◌≡◌, ℕ, zero, suc, ◌-◌, ◌<◌, true, List, [], ◌∷◌, ◌++◌, Option, Some, slice_get, refl, sym, ap, ◌∙◌, subst, arith, append_assoc}
 use Rattle.std.specs.Prelude.{pos, ◌+ℤ◌, ◌<ℤ◌, ◌&&◌, nat_lt, int_le, not}
 use Rattle.std.specs.List.{list_all}
-use Rattle.std.specs.Ordering.{is_lt}
 use Rattle.std.proofs.lemmas.Int.{ints}
 use Rattle.std.proofs.lemmas.List.{append-nil}
 use Rattle.std.proofs.lemmas.List.Folds.{list_all-append}
 use Rattle.rls_ident.specs.declared.tuple.Tuple.{Tuple}
-use Rattle.rls_ident.specs.Identifiers.{is_ident, IsIdent, is_bounded, last_of, ident_lt, ident_cmp, shifted, follows}
+use Rattle.rls_ident.specs.Identifiers.{is_ident, IsIdent, is_bounded, last_of, ident_lt, shifted, follows}
 use Rattle.rls_ident.specs.Tuples.{offset_of}
 use Rattle.rls_ident.proofs.Lists.{Lt, lt_trans}
-use Rattle.rls_ident.proofs.Members.{and_left, and_right, and_true, less_is, lt_is}
+use Rattle.rls_ident.proofs.Members.{and_left, and_right, and_true, lt_is}
 use Rattle.rls_ident.proofs.Shifted.{shifted_less, shifted_none, shifted_shifted, ident_shifted}
 use Rattle.rls_ident.proofs.Tuples.{tuples}
+pub use Rattle.rls_ident.proofs.Tuples.{lt_of, of_lt}
 use Rattle.rls_runs.specs.Runs.{run_idents, run_last, idents_of, is_apart, are_apart, is_increasing, is_run, past_offsets}
-
-pub lt_of : (x y : List Tuple) → ident_lt x y ≡ true → Lt tuples x y
-lt_of x y h = record { less = less_is (ident_cmp x y) h }
-
-pub of_lt : (x y : List Tuple) → Lt tuples x y → ident_lt x y ≡ true
-of_lt x y h = ap is_lt h.less
 
 -- each of these is less than y
 abbrev pub AllLess : List (List Tuple) → List Tuple → Type 0

@@ -1,5 +1,5 @@
 -- Lists of identifiers and their maximal runs.
-use Rattle.std.proofs.Common.{◌≡◌, ℕ, zero, suc, ◌+◌, Bool, true, false, cond, List, [], ◌∷◌, ◌++◌, Option, Some, refl, sym, ap, subst, ◌∙◌, arith}
+use Rattle.std.proofs.Common.{◌≡◌, ℕ, zero, suc, ◌+◌, Bool, true, false, cond, List, [], ◌∷◌, ◌++◌, Option, Some, refl, sym, ap, subst, ◌∙◌, arith, add-one}
 use Rattle.std.specs.Prelude.{pos, not, ◌&&◌, nat_lt}
 use Rattle.std.specs.Ordering.{is_eq}
 use Rattle.std.proofs.lemmas.Int.{ints}
@@ -10,6 +10,8 @@ use Rattle.rls_ident.specs.Identifiers.{shifted, follows, ident_lt}
 use Rattle.rls_ident.proofs.Shifted.{shifted_none}
 pub use Rattle.rls_ident.proofs.Shifted.{shifted_shifted, shifted_none as shifted_zero}
 use Rattle.rls_ident.proofs.Tuples.{tuple_total}
+use Rattle.rls_ident.proofs.Ends.{eq_same}
+use Rattle.rls_ident.proofs.Members.{not_is}
 use Rattle.rls_runs.specs.Runs.{run_idents, put_run, runs_of, is_apart, run_last, idents_of, are_apart, run_before}
 
 pub follows_next : (x : List Tuple) → follows (shifted (pos 1) x) x ≡ true
@@ -36,16 +38,12 @@ runs_of_run (suc n) x tail rs e free =
     let rest : runs_of (run_idents (shifted (pos 1) x) (suc n) ++ tail) ≡ (shifted (pos 1) x, suc n) ∷ rs = runs_of_run n (shifted (pos 1) x) tail rs e (subst (λ y. IsFree y rs) (sym there) free) in
     ap (put_run x) rest ∙ put_before x (shifted (pos 1) x) (suc n) rs (follows_next x) ∙ ap (λ k. (x, k) ∷ rs) (omega arith)
 
-not_true : (b : Bool) → not b ≡ true → b ≡ false
-not_true true e = cc
-not_true false e = refl
-
-free_of : (r : List Tuple × ℕ) (rs : List (List Tuple × ℕ)) → are_apart (Some r) rs ≡ true → IsFree (run_last r) rs
+pub free_of : (r : List Tuple × ℕ) (rs : List (List Tuple × ℕ)) → are_apart (Some r) rs ≡ true → IsFree (run_last r) rs
 free_of r [] c = tt
 free_of r (s ∷ rs) c =
     let p = and_parts (nat_lt 0 s.1 && is_apart (Some r) s) (are_apart (Some s) rs) c in
     let q = and_parts (nat_lt 0 s.1) (is_apart (Some r) s) p.0 in
-    not_true (follows s.0 (run_last r)) (and_parts (ident_lt (run_last r) s.0) (not (follows s.0 (run_last r))) q.1).1
+    not_is (follows s.0 (run_last r)) (and_parts (ident_lt (run_last r) s.0) (not (follows s.0 (run_last r))) q.1).1
 
 pub runs_of_idents : (before : Option (List Tuple × ℕ)) (rs : List (List Tuple × ℕ)) → are_apart before rs ≡ true → runs_of (idents_of rs) ≡ rs
 runs_of_idents before [] c = refl
@@ -64,3 +62,16 @@ apart_more before (q ∷ rs) r h n a =
 pub run_before_pushed : (before : Option (List Tuple × ℕ)) (rs : List (List Tuple × ℕ)) (r : List Tuple × ℕ) → run_before before (rs ++ r ∷ []) ≡ Some r
 run_before_pushed before [] r = refl
 run_before_pushed before (q ∷ rs) r = run_before_pushed (Some q) rs r
+
+put_idents : (x : List Tuple) (rs : List (List Tuple × ℕ)) → idents_of (put_run x rs) ≡ x ∷ idents_of rs
+put_idents x [] = refl
+put_idents x ((y, n) ∷ rs) = go (follows y x) refl
+  where
+    go : (b : Bool) → follows y x ≡ b → idents_of (cond b ((x, n + 1) ∷ rs) ((x, 1) ∷ (y, n) ∷ rs)) ≡ x ∷ run_idents y n ++ idents_of rs
+    go true e = rw add-one (ap (λ z. x ∷ run_idents z n ++ idents_of rs) (sym (eq_same y (shifted (pos 1) x) e)))
+    go false e = refl
+
+-- the identifiers of the maximal runs
+pub idents_of_runs : (xs : List (List Tuple)) → idents_of (runs_of xs) ≡ xs
+idents_of_runs [] = refl
+idents_of_runs (x ∷ xs) = put_idents x (runs_of xs) ∙ ap (λ ys. x ∷ ys) (idents_of_runs xs)

@@ -1,14 +1,15 @@
 -- Entries put in one after another rise strictly where their identifiers differ, and a strictly rising list is known by its elements.
-use Rattle.std.proofs.Common.{◌≡◌, ℕ, Bool, true, false, List, [], ◌∷◌, refl, sym, ap, ◌∙◌, subst, inl, inr, ◌⊎◌, ⊎_elim}
+use Rattle.std.proofs.Common.{◌≡◌, ℕ, Bool, true, false, List, [], ◌∷◌, refl, sym, ap, ◌∙◌, subst, inl, inr, ◌⊎◌, ⊎_elim, filter, cond, length, suc, ◌+◌, arith}
 use Rattle.std.specs.Prelude.{if◌then◌else◌}
 use Rattle.std.specs.Ordering.{is_lt}
 use Rattle.rls_ident.specs.declared.tuple.Tuple.{Tuple}
 use Rattle.rls_ident.specs.Lists.{IsIn}
-use Rattle.rls_ident.specs.Identifiers.{ident_cmp, ident_lt}
+use Rattle.rls_ident.specs.Identifiers.{ident_lt}
 use Rattle.rls_ident.proofs.Lists.{Lt, lt_irrefl, lt_trans, tri}
-use Rattle.rls_ident.proofs.Tuples.{tuples}
-use Rattle.rls_ident.proofs.Members.{less_is}
-use Rattle.rls_runs.specs.Entries.{put, put_all}
+use Rattle.rls_ident.proofs.Tuples.{tuples, lt_of, of_lt}
+use Rattle.rls_ident.proofs.Members.{and_left, and_right, and_true}
+use Rattle.rls_runs.specs.Entries.{put, put_all, idents_in, Entries}
+use Rattle.rls_runs.specs.Runs.{is_increasing}
 
 -- an identifier and a character
 abbrev pub Entry : Type 0
@@ -67,7 +68,7 @@ rises_put e [] r a = (tt, tt)
 rises_put e (x ∷ xs) r a = go (ident_lt x.0 e.0) refl (rises_put e xs r.1 a.1)
   where
     go : (b : Bool) → ident_lt x.0 e.0 ≡ b → Rises (put e xs) → Rises (if b then x ∷ put e xs else e ∷ x ∷ xs)
-    go true h k = (above_put x e xs (record { less = less_is (ident_cmp x.0 e.0) h }) r.0, k)
+    go true h k = (above_put x e xs (lt_of x.0 e.0 h) r.0, k)
     go false h k = let l : IsBelow e x = not_lt x.0 e.0 h a.0 in ((l, above_less e x xs l r.0), (r.0, r.1))
 
 apart_put : (x e : Entry) (ys : List Entry) → AreApart x ys → (x.0 ≡ e.0 → ⊥) → AreApart x (put e ys)
@@ -136,3 +137,60 @@ same_rising (x ∷ xs) (y ∷ ys) r s f g =
 
     onto : x ≡ y → (z : Entry) → IsIn z ys → IsIn z xs
     onto e z p = ⊎_elim (λ q. absurd (lt_irrefl (subst (λ (w : Entry). Lt tuples y.0 w.0) (sym (sym e ∙ q)) (above_at y z ys s.0 p)))) (λ q. q) (g z (inr p))
+
+-- ---- lists that rise, and their identifiers
+
+pub rises_of_increasing : (es : List Entry) → is_increasing (idents_in es) ≡ true → Rises es
+rises_of_increasing [] h = tt
+rises_of_increasing (x ∷ []) h = (tt, tt)
+rises_of_increasing (x ∷ (y ∷ es)) h =
+    let l : IsBelow x y = lt_of x.0 y.0 (and_left (ident_lt x.0 y.0) (is_increasing (idents_in (y ∷ es))) h) in
+    let r = rises_of_increasing (y ∷ es) (and_right (ident_lt x.0 y.0) (is_increasing (idents_in (y ∷ es))) h) in
+    ((l, above_less x y es l r.0), r)
+
+pub increasing_of_rises : (es : List Entry) → Rises es → is_increasing (idents_in es) ≡ true
+increasing_of_rises [] h = refl
+increasing_of_rises (x ∷ []) h = refl
+increasing_of_rises (x ∷ (y ∷ es)) h = and_true (ident_lt x.0 y.0) (is_increasing (idents_in (y ∷ es))) (of_lt x.0 y.0 h.0.0) (increasing_of_rises (y ∷ es) h.1)
+
+-- ---- some of the entries
+
+pub above_filter : (t : Entry → Bool) (x : Entry) (es : List Entry) → AreAbove x es → AreAbove x (filter t es)
+above_filter t x [] h = tt
+above_filter t x (y ∷ es) h = go (t y) (above_filter t x es h.1)
+  where
+    go : (b : Bool) → AreAbove x (filter t es) → AreAbove x (cond b (y ∷ filter t es) (filter t es))
+    go true k = (h.0, k)
+    go false k = k
+
+pub rises_filter : (t : Entry → Bool) (es : List Entry) → Rises es → Rises (filter t es)
+rises_filter t [] h = tt
+rises_filter t (x ∷ es) h = go (t x) (rises_filter t es h.1)
+  where
+    go : (b : Bool) → Rises (filter t es) → Rises (cond b (x ∷ filter t es) (filter t es))
+    go true k = (above_filter t x es h.0, k)
+    go false k = k
+
+-- ---- entries that differ
+
+pub apart_above : (e : Entry) (es : List Entry) → AreAbove e es → AreApart e es
+apart_above e [] h = tt
+apart_above e (x ∷ es) h = ((λ q. lt_irrefl (subst (λ z. Lt tuples e.0 z) (sym q) h.0)), apart_above e es h.1)
+
+pub distinct_of : (es : List Entry) → Rises es → AreDistinct es
+distinct_of [] h = tt
+distinct_of (e ∷ es) h = (apart_above e es h.0, distinct_of es h.1)
+
+-- ---- how many there are
+
+length-put : (e : List Tuple × ℕ) (es : Entries) → length (put e es) ≡ suc (length es)
+length-put e [] = refl
+length-put e (x ∷ es) = go (ident_lt x.0 e.0) (length-put e es)
+  where
+    go : (b : Bool) → length (put e es) ≡ suc (length es) → length (if b then x ∷ put e es else e ∷ x ∷ es) ≡ suc (suc (length es))
+    go true h = ap suc h
+    go false h = refl
+
+pub length-put_all : (es xs : Entries) → length (put_all es xs) ≡ length es + length xs
+length-put_all [] xs = omega arith
+length-put_all (e ∷ es) xs = let a = length-put_all es (put e xs) in let b = length-put e xs in omega arith

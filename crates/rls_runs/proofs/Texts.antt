@@ -1,13 +1,14 @@
 -- Characters in UTF-8.
-use Rattle.std.proofs.Common.{◌≡◌, ℕ, ◌+◌, ◌<◌, List, [], ◌∷◌, ◌++◌, length, get_or, take, true, refl, sym, ap, ◌∙◌}
+use Rattle.std.proofs.Common.{◌≡◌, ℕ, ◌+◌, ◌<◌, List, [], ◌∷◌, ◌++◌, length, get_or, take, true, refl, sym, ap, ◌∙◌, false}
 use Rattle.std.specs.Prelude.{encode_utf8, encode_utf8_all}
 use Rattle.std.proofs.lemmas.List.{take_more, append-nil}
 use Rattle.std.specs.List.{All}
 use Rattle.std.specs.Char.{IsScalar}
-use Rattle.std.specs.Str.{IsUtf8, all_scalars}
+use Rattle.std.specs.Str.{IsUtf8, all_scalars, is_utf8}
 use Rattle.std.proofs.Math.Utf8.{scalar}
 use Rattle.std.proofs.lemmas.List.Elements.{All-nil, All-cons, All-head, All-tail}
-use Rattle.std.proofs.lemmas.Str.{encodes-append, encodes_same}
+use Rattle.std.proofs.lemmas.Str.{encodes-append, encodes_same, is_utf8-from_IsUtf8, IsUtf8-from_is_utf8}
+use Rattle.std.proofs.lemmas.Bool.{false_from_ne_true}
 use Rattle.rls_ident.proofs.Members.{and_left, and_right, and_true}
 
 pub encodes_more : (cs : List ℕ) (i c : ℕ) → i < length cs → c ≡ get_or cs i c → encode_utf8_all (take (i + 1) cs) ≡ encode_utf8_all (take i cs) ++ encode_utf8 c
@@ -30,3 +31,11 @@ scalars_of_all (c ∷ cs) h = and_true (scalar c) (all_scalars cs) (All-head IsS
 -- the characters of bytes that are UTF-8
 pub scalars_of_utf8 : (bs cs : List ℕ) → IsUtf8 bs → encode_utf8_all cs ≡ bs → All IsScalar cs
 scalars_of_utf8 bs cs u e = all_of_scalars cs (ap all_scalars (encodes_same cs u.0 (e ∙ sym u.1.1)) ∙ u.1.0)
+
+-- ---- the test for UTF-8
+
+pub utf8_from_text : (bytes : List ℕ) → IsUtf8 bytes → is_utf8 bytes ≡ true
+utf8_from_text bytes h = is_utf8-from_IsUtf8 bytes h
+
+pub no_utf8 : (bytes : List ℕ) → ¬ (IsUtf8 bytes) → is_utf8 bytes ≡ false
+no_utf8 bytes h = false_from_ne_true (is_utf8 bytes) (λ e. h (IsUtf8-from_is_utf8 bytes e))

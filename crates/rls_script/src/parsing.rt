@@ -85,7 +85,7 @@ fn first_line(script: &[u8]) -> (&[u8], &[u8])
 }
 
 // The line that these bytes are.
-#[tactic(auto, using(crate::proofs::Utf8::utf8_from_text, crate::proofs::Utf8::no_utf8), unfolding(crate::specs::Scripts::line_of))]
+#[tactic(auto, using(rls_runs::proofs::Texts::utf8_from_text, rls_runs::proofs::Texts::no_utf8), unfolding(crate::specs::Scripts::line_of))]
 fn line(alloc: Global, bytes: &[u8]) -> Result<Option<Line>, AllocError>
     ensures line { IfOk result (λ found. found ≡ line_of bytes.now) }
 {

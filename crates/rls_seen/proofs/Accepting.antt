@@ -9,6 +9,8 @@ use Rattle.rls_ident.specs.EpochNames.{name_eq}
 use Rattle.rls_ident.specs.Identifiers.{shifted}
 use Rattle.rls_ident.specs.Vectors.{at_most, raise}
 use Rattle.rls_ident.proofs.Members.{bool_cases, true_false, eq_is, eq_not, not_le_test}
+use Rattle.rls_ident.proofs.Vectors.{at_most_trans, index_le}
+use Rattle.rls_ident.proofs.Agreeing.{map_same}
 use Rattle.rls_runs.specs.Runs.{run_idents}
 use Rattle.rls_rename.specs.Tree.{is_kept}
 use Rattle.rls_rename.specs.Tree as tree
@@ -33,10 +35,9 @@ use Rattle.rls_model.proofs.Dropping.{opened, greatest_same, greatest_retained, 
 use Rattle.rls_model.proofs.Later.{window_step, log_step}
 use Rattle.rls_model.proofs.OneTree.{author_below}
 use Rattle.rls_model.proofs.Spliced.{entries}
-use Rattle.rls_model.proofs.Stable.{at_most_trans, stable_count, stable_grows}
-use Rattle.rls_model.proofs.TextSteps.{map_same, placed, aims, renamed_entry, export_put, export_delete, export_stays, export_renamed, export_leave}
+use Rattle.rls_model.proofs.Stable.{stable_count, stable_grows}
+use Rattle.rls_model.proofs.TextSteps.{placed, aims, renamed_entry, export_put, export_delete, export_stays, export_renamed, export_leave}
 use Rattle.rls_model.proofs.WindowAnswers.{greatest_cases}
-use Rattle.rls_model.proofs.WorldsLists.{index_le}
 use Rattle.rls_model.proofs.WorldsWaiting.{sound_accepted}
 use Rattle.rls_seen.specs.Seen.{Seen}
 use Rattle.rls_seen.specs.Over.{acks_after, epochs_after, placed_over, added_over, renamed_over, is_greatest_over, text_after, accepted}

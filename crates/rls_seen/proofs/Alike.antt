@@ -8,6 +8,7 @@ use Rattle.rls_ident.specs.EpochNames.{name_eq}
 use Rattle.rls_ident.specs.Identifiers.{IsIdent, is_ident, ident_eq, last_of}
 use Rattle.rls_ident.specs.Vectors.{at_most}
 use Rattle.rls_ident.proofs.Members.{and_left, and_right}
+use Rattle.rls_ident.proofs.Vectors.{at_most_trans}
 use Rattle.rls_rename.specs.Tree.{Epochs, is_kept}
 use Rattle.rls_rename.specs.Tree as tree
 use Rattle.rls_rename.proofs.Paths.{name_eq_is}
@@ -34,7 +35,7 @@ use Rattle.rls_model.proofs.Dropping.{Keeps, greatest_same, within_same, thresho
 use Rattle.rls_model.proofs.Later.{log_unstable}
 use Rattle.rls_model.proofs.OneTree as one_tree
 use Rattle.rls_model.proofs.OneTree.{author_below}
-use Rattle.rls_model.proofs.Stable.{at_most_trans, stable_row, length-count}
+use Rattle.rls_model.proofs.Stable.{stable_row, length-count}
 use Rattle.rls_model.proofs.WindowAnswers.{known_window}
 use Rattle.rls_seen.specs.Seen.{Seen, members, stable_over, unstable_over, greatest_over, due_over}
 use Rattle.rls_seen.specs.Over.{is_known_over, first_unknown_over, body_refusal_over, refusal_over, answer_beside, answer_by, answer_over}

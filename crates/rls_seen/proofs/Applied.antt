@@ -8,6 +8,8 @@ use Rattle.rls_ident.specs.EpochNames.{name_eq, is_within}
 use Rattle.rls_ident.specs.Lists.{IsIn}
 use Rattle.rls_ident.specs.Vectors.{at_most, raise}
 use Rattle.rls_ident.proofs.Members.{bool_cases, true_false, and_true, eq_is, eq_not, eq_refl, or_left, or_right, le_is, le_test, not_is, not_lt_is, snoc_split, in_filter, filter_in}
+use Rattle.rls_ident.proofs.Vectors.{length-raise, at_most_trans, raise_other, index-raise_same, index-raise_le, index_le}
+use Rattle.rls_ident.proofs.Named.{within_more}
 use Rattle.rls_rename.specs.Tree.{Node, Epochs, is_of, has_node, is_kept}
 use Rattle.rls_rename.proofs.Kept.{kept_more}
 use Rattle.rls_rename.proofs.Paths.{name_eq_is}
@@ -16,17 +18,12 @@ use Rattle.rls_ops.specs.declared.op.Body.{Body}
 use Rattle.rls_ops.specs.declared.op.Body.TheVariants.{Insert, Delete, Rename, Leave}
 use Rattle.rls_ops.specs.Rows.{AreRows, row_of, left, stable_of, is_covered, missing_for}
 use Rattle.rls_ops.specs.Shapes.{body_limit, body_len}
-use Rattle.rls_ops.proofs.KeptRows.{length-raise}
 use Rattle.rls_model.specs.declared.parts.Stem.{Stem}
 use Rattle.rls_model.specs.Epochs.{nodes_after, renaming_of}
 use Rattle.rls_model.specs.History.{is_leave}
 use Rattle.rls_model.specs.Receiving.{without}
 use Rattle.rls_model.specs.Stems.{stems_after}
 use Rattle.rls_model.specs.WellFormed.{IsSmall}
-use Rattle.rls_model.proofs.Dropping.{at_most_index}
-use Rattle.rls_model.proofs.OneTree.{index-raise_same, index-raise_le}
-use Rattle.rls_model.proofs.Stable.{at_most_trans}
-use Rattle.rls_model.proofs.WorldsLists.{raise_other}
 use Rattle.rls_seen.specs.Seen.{Seen, vector, members}
 use Rattle.rls_seen.specs.Over.{acks_after, epochs_after, accepted, text_after}
 use Rattle.rls_seen.specs.Sane.{IsSane, IsCounted, IsCovered, AreEpochs, IsInRange, IsLast, AreStems, AreHeld, Follow, MayApply}
@@ -118,13 +115,6 @@ kept_after s o (Delete targets) e k = k
 kept_after s o (Rename former) e k = kept_more s.epochs.top (record { parent = o.epoch; renaming = renaming_of o former }) s.epochs.nodes e k
 kept_after s o Leave e k = k
 
-pub within_more : (e : EpochName) (v w : List ℕ) → at_most v w ≡ true → is_within e v ≡ true → is_within e w ≡ true
-within_more Origin v w h k = refl
-within_more (Of r q) v w h k =
-    let a = at_most_index v w r h in
-    let b = le_is q (slice_index v r) k in
-    le_test q (slice_index w r) (omega arith)
-
 -- ---- the log
 
 -- what a greater vector doesn't cover, a lesser one doesn't cover either
@@ -136,7 +126,7 @@ missing_less v w os o h p =
     go : (b : Bool) → is_covered v o ≡ b → is_covered w o ≡ false → not (is_covered v o) ≡ true
     go false e f = ap not e
     go true e f =
-        let a = at_most_index v w o.author h in
+        let a = index_le v w o.author h in
         let b = le_is o.seq (slice_index v o.author) e in
         absurd (true_false (is_covered w o) (le_test o.seq (slice_index w o.author) (omega arith)) f)
 

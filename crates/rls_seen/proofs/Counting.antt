@@ -1,12 +1,12 @@
 -- The count of members stays.
 use Rattle.std.proofs.Common.{◌≡◌, ℕ, zero, suc, Bool, true, false, cond, List, length, refl, ap, ◌∙◌, Option, Some, None}
+use Rattle.rls_ident.proofs.Vectors.{length-raise}
 use Rattle.rls_ops.specs.declared.op.Op.{Op}
 use Rattle.rls_ops.specs.Rows.{AcksSeen, noted}
 use Rattle.rls_ops.specs.Rows as rows
 use Rattle.rls_model.specs.Answers.{Reason, Answer, Applies, Repeats, Waits, Refuses}
 use Rattle.rls_seen.specs.Seen.{Seen, members}
 use Rattle.rls_seen.specs.Over.{accepted, holding, after_answer, answer_over, received, replayed, refusal_over, first_ready, after_refusal, after_release, released, released_times, released_all, acknowledged}
-use Rattle.rls_ops.proofs.KeptRows.{length-raise}
 use Rattle.rls_seen.proofs.Accepting.{acks_mine}
 
 pub members_accepted : (s : Seen) (o : Op) → members (accepted s o) ≡ members s

@@ -8,11 +8,12 @@ use Rattle.rls_ident.specs.declared.epoch_name.EpochName.{EpochName}
 use Rattle.rls_ident.specs.EpochNames.{name_eq, is_within}
 use Rattle.rls_ident.specs.Lists.{IsIn}
 use Rattle.rls_ident.proofs.Members.{not_true, in_left, in_right, in_split, in_filter, filter_in, in_map, map_in, less_is, or_left}
+use Rattle.rls_ident.proofs.Vectors.{at_most_refl}
 use Rattle.rls_rename.specs.Renaming.{Renaming}
 use Rattle.rls_rename.specs.Tree.{Node, Epochs, AreNodes, AreBelow, has_node, is_kept, names, renaming_cmp, path, greatest, greatest_within, translate, epoch_cmp}
 use Rattle.rls_rename.specs.Keeping.{part, is_below, reached, kept_part}
 use Rattle.rls_rename.proofs.Hull.{kept_in, in_kept, needed_spanned, path_same}
-use Rattle.rls_rename.proofs.Kept.{greatest_kept, greatest_within_kept}
+use Rattle.rls_rename.proofs.Kept.{greatest_kept, greatest_within_kept, top_kept}
 use Rattle.rls_rename.proofs.Order.{within_allowed, within_top, longer_less, less_self}
 use Rattle.rls_rename.proofs.Paths.{name_eq_refl}
 use Rattle.rls_rename.proofs.SameNodes.{path_top}
@@ -20,7 +21,6 @@ use Rattle.rls_rename.proofs.Smallest.{part_is}
 use Rattle.rls_rename.proofs.Windows.{Window, kept_window, translate_window, greatest_window, keep_window, keep_kept}
 use Rattle.rls_ops.specs.declared.op.Op.{Op}
 use Rattle.rls_ops.specs.Rows.{is_covered}
-use Rattle.rls_model.proofs.Stable.{at_most_refl}
 use Rattle.rls_seen.specs.Seen.{Seen, vector, members, stable_over, unstable_over, greatest_over}
 use Rattle.rls_seen.specs.Kept.{marked_over, needed_over, dropped, kept_former}
 use Rattle.rls_seen.proofs.Sizes.{sum_filter}
@@ -48,13 +48,10 @@ within_is_within E v n b e k w =
     (λ q. let less : epoch_cmp ns top e ≡ Less → ⊥ = λ l. within_top top ns v e k (inr w) (subst (λ x. epoch_cmp ns x e ≡ Less) (sym q) l) in
     let p = path_top top ns b in
     let r = longest_none ns top e p less in
-    let s : e ≡ top = path_same top ns n b e top k (top_is_kept top ns) (r ∙ sym p) in
+    let s : e ≡ top = path_same top ns n b e top k (top_kept top ns) (r ∙ sym p) in
     subst (λ x. is_within x v ≡ true) (s ∙ sym q) w)
     (λ q. q)
     (within_allowed top ns v)
-  where
-    top_is_kept : (t : EpochName) (ms : List Node) → is_kept t ms t ≡ true
-    top_is_kept t ms = or_left (name_eq t t) (has_node ms t) (name_eq_refl t)
 
 -- ---- what must stay
 

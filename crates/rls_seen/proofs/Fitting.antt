@@ -9,7 +9,7 @@ use Rattle.rls_ident.specs.EpochNames.{name_eq}
 use Rattle.rls_ident.specs.Identifiers.{last_of, greatest_offset}
 use Rattle.rls_ident.specs.Tuples.{offset_of}
 use Rattle.rls_ident.specs.Vectors.{at_most, raise}
-use Rattle.rls_ident.proofs.Members.{bool_cases, eq_not, not_lt_is}
+use Rattle.rls_ident.proofs.Members.{bool_cases, eq_not, not_lt_is, not_int_lt_is}
 use Rattle.rls_rename.specs.Tree.{is_kept}
 use Rattle.rls_rename.proofs.Kept.{greatest_within_kept}
 use Rattle.rls_rename.proofs.Paths.{name_eq_is}
@@ -18,6 +18,7 @@ use Rattle.rls_ops.specs.declared.op.Body.{Body}
 use Rattle.rls_ops.specs.declared.op.Body.TheVariants.{Insert, Delete, Rename, Leave}
 use Rattle.rls_ops.specs.Rows.{row_of, left}
 use Rattle.rls_ops.specs.Shapes.{is_empty, body_limit, body_len, passes_end}
+use Rattle.rls_ops.proofs.Shaped.{IsShaped, shaped, next_of}
 use Rattle.rls_model.specs.Answers.{Left, Backward, WrongEpoch, WrongStem}
 use Rattle.rls_model.specs.Stems.{may_use, due_offset, new_stem, stems_after}
 use Rattle.rls_model.proofs.Fresh.{Change, change_of}
@@ -25,7 +26,6 @@ use Rattle.rls_model.proofs.OneTree.{none_else, not_not}
 use Rattle.rls_seen.specs.Seen.{Seen, vector, members, count_over, due_over}
 use Rattle.rls_seen.specs.Over.{body_refusal_over, refusal_over}
 use Rattle.rls_seen.specs.Sane.{IsSane, IsInRange, AreStems, MayApply}
-use Rattle.rls_seen.proofs.Receiving.{IsShaped, shaped, next_of}
 use Rattle.rls_seen.proofs.StemNumbers.{earlier, stems_with, stems_raised, stems_inserted, new_in_range}
 
 pub record Facts (s : Seen) (o : Op) : Type 0 where
@@ -78,9 +78,6 @@ some_len (Delete targets) e n = let k = eq_not (length targets) 0 e in omega ari
 some_len (Rename former) e n = let k = eq_not (length former) 0 e in omega arith
 some_len Leave e n = absurd (n refl)
 
-int_not_lt : (x y : ℤ) → int_lt x y ≡ false → y ≤ℤ x
-int_not_lt x y h = omega (arith, ints)
-
 stems_go : (s : Seen) (o : Op) (b : Body) → IsSane s → Facts s o → o.body ≡ b → IsInRange b → AreStems (raise (vector s) o.author) (stems_after s.stems o.author o.seq b)
 stems_go s o (Insert first text) sane f e r =
     let h = f.shaped in
@@ -89,7 +86,7 @@ stems_go s o (Insert first text) sane f e r =
     let l : nat_lt 1048576 (length text) ≡ false = ap (λ b. nat_lt (body_limit b) (body_len b)) (sym e) ∙ h.few in
     let p : passes_end (Insert first text) ≡ false = ap passes_end (sym e) ∙ h.room in
     stems_inserted (vector s) s.stems o.author o.seq (last_of first) (length text) sane.stems h.author f.next (may_begin s o f first text e) w (not_lt_is 1048576 (length text) l) r
-    (int_not_lt (greatest_offset +ℤ pos 1) (offset_of (last_of first) +ℤ pos (length text)) p)
+    (not_int_lt_is (greatest_offset +ℤ pos 1) (offset_of (last_of first) +ℤ pos (length text)) p)
 stems_go s o (Delete targets) sane f e r = stems_raised (vector s) o.author s.stems sane.stems
 stems_go s o (Rename former) sane f e r =
     let h = f.shaped in

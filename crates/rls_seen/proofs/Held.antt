@@ -5,11 +5,12 @@ use Rattle.std.proofs.lemmas.Bool.Decides.{nat_tests}
 use Rattle.rls_ident.specs.Lists.{IsIn}
 use Rattle.rls_ident.specs.Vectors.{raise}
 use Rattle.rls_ident.proofs.Members.{bool_cases, true_false, eq_is, eq_not, and_true, in_all, all_in}
+use Rattle.rls_ident.proofs.Vectors.{raise_other, raise_upto}
 use Rattle.rls_ops.specs.declared.op.Op.{Op}
 use Rattle.rls_ops.specs.Shapes.{shape_fault}
+use Rattle.rls_ops.proofs.Waiting.{before_trans, before_total}
 use Rattle.rls_model.specs.Receiving.{is_numbered, comes_before, with_waiting, without}
 use Rattle.rls_model.specs.WellFormed.{IsOp}
-use Rattle.rls_model.proofs.WorldsLists.{raise_other, raise_upto}
 use Rattle.rls_model.proofs.WorldsWaiting.{numbered_test, in_without, in_with}
 use Rattle.rls_seen.specs.Sane.{IsInRange, AreHeld}
 
@@ -62,12 +63,6 @@ held_accepted n v a q W e h = held_above n v (raise v a) (without a q W) above (
         (λ f. let u = raise_other v a w.author (eq_not a w.author f) in omega arith)
 
 -- ---- one more
-
-before_trans : (o p w : Op) → comes_before o p ≡ true → comes_before p w ≡ true → comes_before o w ≡ true
-before_trans o p w e f = grind (arith, nat_tests)
-
-before_total : (o p : Op) → comes_before p o ≡ false → is_numbered o.author o.seq p ≡ false → comes_before o p ≡ true
-before_total o p e f = grind (arith, nat_tests)
 
 held_put : (n : ℕ) (v : List ℕ) (o : Op) (W : List Op) → IsHeld n v o → ((w : Op) → IsIn w W → is_numbered o.author o.seq w ≡ false) → AreHeld n v W → AreHeld n v (with_waiting o W)
 held_put n v o [] i f h = (i.whole, i.range, i.shape, i.above, refl, tt)

@@ -2,6 +2,7 @@
 use Rattle.std.proofs.Common.{◌≡◌, ℕ, zero, suc, ◌≤◌, ◌==◌, ◌++◌, List, [], ◌∷◌, length, map, refl, sym, ap, ◌∙◌, subst, arith, if◌then◌else◌}
 use Rattle.std.specs.Prelude.{sum_by}
 use Rattle.rls_ident.specs.declared.tuple.Tuple.{Tuple}
+use Rattle.rls_ident.proofs.Vectors.{at_most_refl}
 use Rattle.rls_runs.specs.Runs.{runs_of}
 use Rattle.rls_rename.specs.Connected.{spanned, spanned_renamings}
 use Rattle.rls_rename.specs.Keeping.{kept_part}
@@ -23,7 +24,6 @@ use Rattle.rls_model.specs.Stability.{stable, unstable}
 use Rattle.rls_model.specs.Stems.{stems}
 use Rattle.rls_model.proofs.Counted.{former_window}
 use Rattle.rls_model.proofs.Dropping.{needed_over, retained_same}
-use Rattle.rls_model.proofs.Stable.{at_most_refl}
 use Rattle.rls_model.proofs.WindowAnswers.{parts_window}
 use Rattle.rls_model.proofs.WindowLaws as window_laws
 use Rattle.rls_seen.specs.Seen.{Seen, members, stable_over, unstable_over, greatest_over, idents_over, text_over}

@@ -2,14 +2,12 @@
 use Rattle.std.proofs.Common.{◌≡◌, ℕ, zero, suc, ◌+◌, ◌<◌, ◌≤◌, ◌++◌, not, nat_le, max, slice_index, Bool, true, false, cond, List, [], ◌∷◌, length, refl, sym, ap, ◌∙◌, subst, arith, None, IsTrue}
 use Rattle.rls_ident.specs.Vectors.{at_most, join, raise}
 use Rattle.rls_ident.proofs.Members.{and_left, and_right, and_true, le_is, le_test, not_le_is}
+use Rattle.rls_ident.proofs.Vectors.{length-raise, at_most_trans, index-join, second_below, join_high, join_low, raise_below, raise_above, max_high}
 use Rattle.rls_ops.specs.declared.op.Op.{Op}
 use Rattle.rls_ops.specs.Rows.{is_covered, missing_for}
 use Rattle.rls_ops.specs.Shapes.{shape_fault}
-use Rattle.rls_ops.proofs.KeptRows.{length-raise}
 use Rattle.rls_model.specs.WellFormed.{IsOp}
-use Rattle.rls_model.proofs.Stable.{at_most_trans}
 use Rattle.rls_seen.specs.Sane.{Follow}
-use Rattle.rls_seen.proofs.Sending.{index-join}
 
 -- one more operation
 pub follow_more : (n : ℕ) (from : List ℕ) (os : List Op) (to : List ℕ) (o : Op) → IsOp o → shape_fault n o ≡ None → o.seq ≡ slice_index to o.author + 1 → at_most o.context to ≡ true
@@ -17,48 +15,6 @@ pub follow_more : (n : ℕ) (from : List ℕ) (os : List Op) (to : List ℕ) (o 
 follow_more n from [] to o w e q c f =
     (w, e, subst (λ v. o.seq ≡ slice_index v o.author + 1) (sym f) q, subst (λ v. IsTrue (at_most o.context v)) (sym f) c, ap (λ v. raise v o.author) f)
 follow_more n from (p ∷ os) to o w e q c f = (f.0, f.1, f.2, f.3, follow_more n (raise from p.author) os to o w e q c f.4)
-
--- ---- joined vectors
-
-max_high : (x y : ℕ) → x ≤ y → max x y ≡ y
-max_high x y h = omega arith
-
-max_low : (x y : ℕ) → y ≤ x → max x y ≡ x
-max_low x y h = omega arith
-
-pub join_high : (v w : List ℕ) → length v ≡ length w → at_most v w ≡ true → join v w ≡ w
-join_high [] [] e h = refl
-join_high [] (y ∷ w) e h = absurd (omega arith)
-join_high (x ∷ v) [] e h = absurd (omega arith)
-join_high (x ∷ v) (y ∷ w) e h =
-    ap (λ m. m ∷ join v w) (max_high x y (le_is x y (and_left (nat_le x y) (at_most v w) h))) ∙ ap (λ u. y ∷ u) (join_high v w (omega arith) (and_right (nat_le x y) (at_most v w) h))
-
-pub join_low : (v w : List ℕ) → length v ≡ length w → at_most w v ≡ true → join v w ≡ v
-join_low [] [] e h = refl
-join_low [] (y ∷ w) e h = absurd (omega arith)
-join_low (x ∷ v) [] e h = absurd (omega arith)
-join_low (x ∷ v) (y ∷ w) e h =
-    ap (λ m. m ∷ join v w) (max_low x y (le_is y x (and_left (nat_le y x) (at_most w v) h))) ∙ ap (λ u. x ∷ u) (join_low v w (omega arith) (and_right (nat_le y x) (at_most w v) h))
-
-second_below : (v w : List ℕ) → length v ≡ length w → at_most w (join v w) ≡ true
-second_below [] [] e = refl
-second_below [] (y ∷ w) e = absurd (omega arith)
-second_below (x ∷ v) [] e = absurd (omega arith)
-second_below (x ∷ v) (y ∷ w) e = and_true (nat_le y (max x y)) (at_most w (join v w)) (le_test y (max x y) (omega arith)) (second_below v w (omega arith))
-
-raise_below : (v w : List ℕ) (a : ℕ) → length v ≡ length w → slice_index w a < slice_index v a → join v (raise w a) ≡ join v w
-raise_below [] [] a e h = refl
-raise_below [] (y ∷ w) a e h = absurd (omega arith)
-raise_below (x ∷ v) [] a e h = absurd (omega arith)
-raise_below (x ∷ v) (y ∷ w) zero e h = ap (λ m. m ∷ join v w) (max_low x (suc y) (omega arith) ∙ sym (max_low x y (omega arith)))
-raise_below (x ∷ v) (y ∷ w) (suc a) e h = ap (λ u. max x y ∷ u) (raise_below v w a (omega arith) h)
-
-raise_above : (v w : List ℕ) (a : ℕ) → length v ≡ length w → slice_index v a ≤ slice_index w a → join v (raise w a) ≡ raise (join v w) a
-raise_above [] [] a e h = refl
-raise_above [] (y ∷ w) a e h = absurd (omega arith)
-raise_above (x ∷ v) [] a e h = absurd (omega arith)
-raise_above (x ∷ v) (y ∷ w) zero e h = ap (λ m. m ∷ join v w) (max_high x (suc y) (omega arith) ∙ ap suc (sym (max_high x y h)))
-raise_above (x ∷ v) (y ∷ w) (suc a) e h = ap (λ u. max x y ∷ u) (raise_above v w a (omega arith) h)
 
 -- ---- without what a vector covers
 

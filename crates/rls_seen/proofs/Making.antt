@@ -16,8 +16,10 @@ use Rattle.rls_ident.specs.Identifiers.{ident_eq, last_of, shifted, least_offset
 use Rattle.rls_ident.specs.Lists.{IsIn}
 use Rattle.rls_ident.specs.Tuples.{offset_of}
 use Rattle.rls_ident.specs.Vectors.{at_most}
-use Rattle.rls_ident.proofs.Members.{and_left, and_right, and_true, any_in, eq_test, eq_refl, eq_not, in_drop, in_map, in_take, int_is, le_test, lt_test, not_lt_is, or_left, or_right}
+use Rattle.rls_ident.proofs.Members.{and_left, and_right, and_true, any_in, eq_test, eq_refl, eq_not, in_drop, in_map, in_take, int_is, le_test, lt_test, not_lt_is, or_left, or_right, int_le_is, not_int_lt_test}
 use Rattle.rls_ident.proofs.Tuples.{tuple_total}
+use Rattle.rls_ident.proofs.Vectors.{at_most_refl}
+use Rattle.rls_ident.proofs.Shifted.{raised_offset, last_shifted, last_at}
 use Rattle.rls_rename.specs.Tree.{Node, has_node, is_kept, names, names_within}
 use Rattle.rls_rename.specs.Tree as tree
 use Rattle.rls_rename.proofs.Growth.{translate_same}
@@ -38,12 +40,9 @@ use Rattle.rls_model.specs.Editing.{own_stem, ends_below, begins_above, may_appe
 use Rattle.rls_model.specs.Stems.{due_offset}
 use Rattle.rls_model.specs.WellFormed.{IsSmall, IsName, IsBody, IsEdit}
 use Rattle.rls_model.proofs.Began.{Began, IsNeighbour, began, between_ends}
-use Rattle.rls_model.proofs.Distinct.{last_at}
-use Rattle.rls_model.proofs.Fresh.{last_shifted, raised_offset}
 use Rattle.rls_model.proofs.Made.{all_within, in_names, shape_chain, fit_chain, or_none, neighbour, neighbour_before}
 use Rattle.rls_model.proofs.OneTree.{none_else}
 use Rattle.rls_model.proofs.Ranges.{good_take, good_drop}
-use Rattle.rls_model.proofs.Stable.{at_most_refl}
 use Rattle.rls_seen.specs.Seen.{Seen, vector, members, own_count, greatest_over, due_over, translate_over, idents_over}
 use Rattle.rls_seen.specs.Over.{is_known_over, first_unknown_over, body_refusal_over, refusal_over}
 use Rattle.rls_seen.specs.Edits.{made_body, made_over, op_fault_over, edit_fault_over, edited}
@@ -150,13 +149,6 @@ none_unknown : (s : Seen) (e : EpochName) (xs : List (List Tuple)) → ((x : Lis
 none_unknown s e [] f = refl
 none_unknown s e (x ∷ xs) f = ap (λ b. if b then first_unknown_over s e xs else Some (UnknownTarget x)) (f x (inl refl)) ∙ none_unknown s e xs (λ y p. f y (inr p))
 
-int_not_lt : (x y : ℤ) → y ≤ℤ x → int_lt x y ≡ false
-int_not_lt x y h = go (int_lt x y) refl
-  where
-    go : (b : Bool) → int_lt x y ≡ b → b ≡ false
-    go true e = absurd (omega (arith, ints))
-    go false e = refl
-
 -- the first identifier of an insertion
 first_of_insert : Seen → ℕ → ℕ → List Tuple
 first_of_insert s at n = first_between s.stems s.acks.me (own_count s + 1) (get_before (idents_over s) at) (slice_get (idents_over s) at) n
@@ -177,7 +169,7 @@ insert_may s at cs sane i h =
     let x = first_of_insert s at (length cs) in
     let b = first_began s at (length cs) sane (not_lt_is 1048576 (length cs) r.0) in
     own_may s (Insert x cs) sane f.0 (unspent s (edits.Insert at cs) f.2) (b.ident, i.1) p.0 r.0
-    (int_not_lt (greatest_offset +ℤ pos 1) (offset_of (last_of x) +ℤ pos (length cs)) b.room)
+    (not_int_lt_test (greatest_offset +ℤ pos 1) (offset_of (last_of x) +ℤ pos (length cs)) b.room)
     (ap (λ c. if c then None else Some (WrongStem (due_offset s.stems s.acks.me (own_count s + 1) (last_of x)))) b.used)
 
 delete_may : (s : Seen) (at n : ℕ) → IsSane s → edit_fault_over s (edits.Delete at n) ≡ None → MayApply s (own s (made_body s (edits.Delete at n)))
@@ -223,9 +215,6 @@ IsLow x = least_offset ≤ℤ offset_of (last_of x)
 
 between_low : (lo hi : List Tuple) (a s : ℕ) → IsLow (between lo hi a s)
 between_low lo hi a s = let e = (between_ends lo hi a s).3 in omega (arith, ints)
-
-int_le_is : (x y : ℤ) → int_le x y ≡ true → x ≤ℤ y
-int_le_is x y h = omega (arith, ints)
 
 before_low : (ss : List Stem) (a s : ℕ) (left right : Option (List Tuple)) (n : ℕ) → IsNeighbour right → IsLow (first_before ss a s left right n)
 before_low ss a s left None n j = between_low (or_missing left) [] a s

@@ -4,6 +4,7 @@ use Rattle.std.specs.Prelude.{ℕ, filter, not, ◌&&◌}
 use Rattle.rls_ident.specs.declared.epoch_name.EpochName.{EpochName}
 use Rattle.rls_ident.specs.Lists.{IsIn}
 use Rattle.rls_ident.proofs.Members.{same_bool, in_left, in_right, in_split}
+use Rattle.rls_ident.proofs.Agreeing.{filter_same}
 use Rattle.rls_rename.specs.Tree.{Node, Epochs, AreNodes, name_of, path, greatest}
 use Rattle.rls_rename.specs.Connected.{begins_with, top_path, is_spanned}
 use Rattle.rls_rename.specs.Keeping.{end_of, is_below, kept_nodes, part, reached, kept_part}
@@ -34,15 +35,11 @@ same_below ns d e es fs s n =
     (same_bool (is_spanned ns e es (name_of n.renaming)) (is_spanned ns e fs (name_of n.renaming)) (spanned_more ns d e es fs s (name_of n.renaming)) (spanned_more ns d e fs es (s.1, s.0) (name_of n.renaming)))
     ∙ ap (λ p. is_spanned ns e fs (name_of n.renaming) && not (begins_with p (path ns (name_of n.renaming)))) (same_top ns d e es fs s)
 
-filter_same : {A : Type 0} (p q : A → Bool) (xs : List A) → ((x : A) → p x ≡ q x) → filter p xs ≡ filter q xs
-filter_same p q [] f = refl
-filter_same p q (x ∷ xs) f = ap (λ b. cond b (x ∷ filter p xs) (filter p xs)) (f x) ∙ ap (λ ys. cond (q x) (x ∷ ys) ys) (filter_same p q xs f)
-
 same_part : (E : Epochs) → AreNodes E.nodes → (e : EpochName) (es fs : List EpochName) → AreSame es fs → part E e es ≡ part E e fs
 unfolding part
 same_part E d e es fs s =
     ap (λ p. part_of (end_of E.top p) (kept_nodes E.nodes e es)) (same_top E.nodes d e es fs s)
-    ∙ ap (part_of (end_of E.top (top_path E.nodes e fs))) (filter_same (is_below E.nodes e es) (is_below E.nodes e fs) E.nodes (same_below E.nodes d e es fs s))
+    ∙ ap (part_of (end_of E.top (top_path E.nodes e fs))) (filter_same (is_below E.nodes e es) (is_below E.nodes e fs) E.nodes (λ n p. same_below E.nodes d e es fs s n))
   where
     part_of : EpochName → List Node → Epochs
     part_of t ns = record { top = t; nodes = ns }

@@ -13,12 +13,12 @@ use Rattle.rls_ident.specs.EpochNames.{name_eq}
 use Rattle.rls_rename.specs.Tree.{has_node, name_of}
 use Rattle.rls_ops.specs.declared.op.Op.{Op}
 use Rattle.rls_ops.specs.Shapes.{shape_fault}
+use Rattle.rls_ops.proofs.Shaped.{shaped}
 use Rattle.rls_seen.specs.Seen.{Seen, vector, members, count_over, idents_over}
 use Rattle.rls_seen.specs.Kept.{kept_former}
 use Rattle.rls_seen.specs.Sane.{IsSane, Follow, MayApply}
 use Rattle.rls_seen.proofs.Fitting.{facts}
 use Rattle.rls_seen.proofs.Held.{held_at}
-use Rattle.rls_seen.proofs.Receiving.{shaped}
 use Rattle.rls_seen.proofs.Sizes.{total_fits, former_fits}
 use Rattle.rls_seen.proofs.TextLists.{ident_in}
 

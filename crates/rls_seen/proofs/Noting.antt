@@ -3,6 +3,7 @@ use Rattle.std.proofs.Common.{◌≡◌, ℕ, ◌<◌, ◌==◌, ◌&&◌, not, 
 use Rattle.std.proofs.lemmas.List.{get_or-set_same, get_or-set_other}
 use Rattle.rls_ident.specs.Vectors.{at_most, join}
 use Rattle.rls_ident.proofs.Members.{bool_cases, eq_is, eq_not}
+use Rattle.rls_ident.proofs.Vectors.{at_most_trans}
 use Rattle.rls_ops.specs.Rows.{AcksSeen, AreRows, HaveLength, row_of, noted}
 use Rattle.rls_ops.specs.Rows as rows
 use Rattle.rls_ops.proofs.KeptRows.{noted_rows}
@@ -14,7 +15,7 @@ use Rattle.rls_model.specs.Stability.{stable, is_counted}
 use Rattle.rls_model.specs.Taking.{acknowledge}
 use Rattle.rls_model.specs.WellFormed.{IsVector}
 use Rattle.rls_model.proofs.Later.{window_step}
-use Rattle.rls_model.proofs.Stable.{at_most_trans, stable_grows}
+use Rattle.rls_model.proofs.Stable.{stable_grows}
 use Rattle.rls_model.proofs.TextSteps.{export_acknowledged}
 use Rattle.rls_model.proofs.WorldsWaiting.{waiting_at, sound_grown}
 use Rattle.rls_seen.specs.Seen.{Seen, members}

@@ -14,6 +14,7 @@ use Rattle.rls_rename.proofs.Hull.{IsFront, front_none, path_same, spanned_is, s
 use Rattle.rls_rename.proofs.Paths.{name_eq_is, name_eq_refl}
 use Rattle.rls_rename.proofs.SameNodes.{node_named, path_top}
 use Rattle.rls_rename.proofs.Windows.{kept-renamings, low_or_top, stays_is}
+use Rattle.rls_rename.proofs.Ordered.{length-in_order}
 use Rattle.rls_seen.specs.Seen.{Seen, greatest_over, unstable_over}
 use Rattle.rls_seen.specs.Kept.{needed_over, dropped, retained_over, kept_operations, kept_epochs, kept_former}
 use Rattle.rls_seen.specs.Sane.{IsSane}
@@ -27,18 +28,6 @@ sum_map {A} f g xs = go 0 xs
     go : (n : ℕ) (ys : List A) → fold (λ a x. a + f x) n (map g ys) ≡ fold (λ a x. a + f (g x)) n ys
     go n [] = refl
     go n (y ∷ ys) = go (n + f (g y)) ys
-
-length-put_epoch : (ns : List Node) (e : EpochName) (fs : List EpochName) → length (put_epoch ns e fs) ≡ suc (length fs)
-length-put_epoch ns e [] = refl
-length-put_epoch ns e (f ∷ fs) = go (is_lt (epoch_cmp ns f e)) (length-put_epoch ns e fs)
-  where
-    go : (b : Bool) → length (put_epoch ns e fs) ≡ suc (length fs) → length (if b then f ∷ put_epoch ns e fs else e ∷ f ∷ fs) ≡ suc (suc (length fs))
-    go true h = ap suc h
-    go false h = refl
-
-length-in_order : (ns : List Node) (es : List EpochName) → length (in_order ns es) ≡ length es
-length-in_order ns [] = refl
-length-in_order ns (e ∷ es) = length-put_epoch ns e (in_order ns es) ∙ ap suc (length-in_order ns es)
 
 -- ---- the topmost of a part is one
 

@@ -2,69 +2,27 @@
 use Rattle.std.proofs.Common.{◌≡◌, ℕ, ◌+◌, ◌-◌, ◌<◌, ◌==◌, ◌&&◌, not, nat_le, nat_lt, slice_index, Bool, true, false, List, length, refl, sym, ap, ◌∙◌, subst, arith, Option, Some, None, if◌then◌else◌}
 use Rattle.rls_ident.specs.Vectors.{at_most}
 use Rattle.rls_ident.proofs.Members.{and_left, and_right, eq_is, lt_is, not_le_is}
+use Rattle.rls_ident.proofs.Vectors.{index_le}
 use Rattle.rls_ops.specs.declared.op.Op.{Op}
 use Rattle.rls_ops.specs.declared.op.Shape.{Shape}
 use Rattle.rls_ops.specs.declared.op.Shape.TheVariants.{Author, Context, EmptyBody, TooLong, OffsetEnd}
 use Rattle.rls_ops.specs.Shapes.{shape_fault, is_next_of, is_empty, body_limit, body_len, passes_end}
 use Rattle.rls_ops.specs.Same.{op_eq}
+use Rattle.rls_ops.proofs.Shaped.{IsShaped, shaped, next_of}
 use Rattle.rls_model.specs.Answers.{Reason, Forked, Own, Answer, Applies, Repeats, Waits, Refuses}
 use Rattle.rls_model.specs.History.{count, count_of, members_of}
 use Rattle.rls_model.specs.Legal.{MayAccept, IsSound}
 use Rattle.rls_model.specs.Receiving.{State, answer, after, receive, receive_after, replay, replay_after, verdict_of, waiting_under, with_waiting, without}
 use Rattle.rls_model.specs.WellFormed.{IsOp}
 use Rattle.rls_model.proofs.OneTree.{author_below}
-use Rattle.rls_model.proofs.WorldsLists.{index_le}
 use Rattle.rls_model.proofs.WorldsWaiting.{sound_put}
+use Rattle.rls_model.proofs.Answered.{verdict_go, causes_go, forked_go, number_go, number_waits}
 use Rattle.rls_seen.specs.Seen.{Seen, vector, members}
 use Rattle.rls_seen.specs.Over.{answer_beside, answer_by, answer_over, refusal_over, after_answer, holding, received, replayed}
 use Rattle.rls_seen.specs.Sane.{MayApply, MayWait}
 use Rattle.rls_seen.specs.Stands.{StandsFor}
 use Rattle.rls_seen.proofs.Alike.{members_alike, refusal_alike, answers_alike}
 use Rattle.rls_seen.proofs.Accepting.{accepted_stands}
-
--- ---- an operation of the right shape
-
--- its author is a member, its number at least 1, and its context counts what its author did before
-pub record IsShaped (n : ℕ) (o : Op) : Type 0 where
-  pub author : o.author < n
-  pub seq : 0 < o.seq
-  pub context : length o.context ≡ n
-  pub own : slice_index o.context o.author ≡ o.seq - 1
-  pub some : is_empty o.body ≡ false
-  pub few : nat_lt (body_limit o.body) (body_len o.body) ≡ false
-  pub room : passes_end o.body ≡ false
-
-shape_go : (a b c d e : Bool) (x : Shape) → (if not a then Some Author else if not b then Some Context else if c then Some EmptyBody else if d then Some x else if e then Some OffsetEnd else None) ≡ None
-    → (a ≡ true) × (b ≡ true) × (c ≡ false) × (d ≡ false) × (e ≡ false)
-shape_go true true true d e x h = absurd (cc)
-shape_go true true false true e x h = absurd (cc)
-shape_go true true false false true x h = absurd (cc)
-shape_go true true false false false x h = (refl, refl, refl, refl, refl)
-shape_go true false c d e x h = absurd (cc)
-shape_go false b c d e x h = absurd (cc)
-
-pub shaped : (n : ℕ) (o : Op) → shape_fault n o ≡ None → IsShaped n o
-shaped n o e =
-    let p = shape_go (nat_lt o.author n) (is_next_of o n) (is_empty o.body) (nat_lt (body_limit o.body) (body_len o.body)) (passes_end o.body) (TooLong (body_len o.body)) e in
-    let q = and_left (nat_lt 0 o.seq && (length o.context == n)) (slice_index o.context o.author == o.seq - 1) p.1 in
-    record {
-      author = lt_is o.author n p.0;
-      seq = lt_is 0 o.seq (and_left (nat_lt 0 o.seq) (length o.context == n) q);
-      context = eq_is (length o.context) n (and_right (nat_lt 0 o.seq) (length o.context == n) q);
-      own = eq_is (slice_index o.context o.author) (o.seq - 1) (and_right (nat_lt 0 o.seq && (length o.context == n)) (slice_index o.context o.author == o.seq - 1) p.1);
-      some = p.2;
-      few = p.3;
-      room = p.4;
-    }
-
--- where its causes are there and its number is new, it is the next of its author
-pub next_of : (n : ℕ) (v : List ℕ) (o : Op) → shape_fault n o ≡ None → slice_index v o.author < o.seq → at_most o.context v ≡ true → o.seq ≡ slice_index v o.author + 1
-next_of n v o e above causes =
-    let h = shaped n o e in
-    let own = h.own in
-    let some = h.seq in
-    let k = index_le o.context v o.author causes in
-    omega arith
 
 -- ---- what an answer says of the operation
 
@@ -73,26 +31,9 @@ pub record Fits (v : List ℕ) (o : Op) (reason : Option Reason) : Type 0 where
   pub causes : at_most o.context v ≡ true
   pub fits : reason ≡ None
 
-verdict_go : (r : Option Reason) → verdict_of r ≡ Applies → r ≡ None
-verdict_go None e = refl
-verdict_go (Some r) e = absurd (cc)
-
-causes_go : (b : Bool) (r : Option Reason) → (if not b then Waits else verdict_of r) ≡ Applies → (b ≡ true) × (r ≡ None)
-causes_go true r e = (refl, verdict_go r e)
-causes_go false r e = absurd (cc)
-
-forked_go : (b : Bool) (w : Op) (a : Answer) → (if not b then Refuses (Forked w) else a) ≡ Applies → a ≡ Applies
-forked_go true w a e = e
-forked_go false w a e = absurd (cc)
-
 beside_go : (v : List ℕ) (r : Option Reason) (o : Op) (w : Option Op) → answer_beside v r o w ≡ Applies → (at_most o.context v ≡ true) × (r ≡ None)
 beside_go v r o None e = causes_go (at_most o.context v) r e
 beside_go v r o (Some w) e = causes_go (at_most o.context v) r (forked_go (op_eq w o) w (if not (at_most o.context v) then Waits else verdict_of r) e)
-
-number_go : (low own : Bool) (n : ℕ) (a : Answer) → (if low then Repeats else if own then Refuses (Own n) else a) ≡ Applies → (low ≡ false) × (a ≡ Applies)
-number_go true own n a e = absurd (cc)
-number_go false true n a e = absurd (cc)
-number_go false false n a e = (refl, e)
 
 pub by_applies : (own : Bool) (v : List ℕ) (me : ℕ) (W : List Op) (r : Option Reason) (o : Op) (f : Option Shape) → answer_by own v me W r o f ≡ Applies → (f ≡ None) × Fits v o r
 by_applies own v me W r o (Some f) e = absurd (cc)
@@ -101,14 +42,10 @@ by_applies own v me W r o None e =
     let q = beside_go v r o (waiting_under W o.author o.seq) p.1 in
     (refl, record { above = not_le_is o.seq (slice_index v o.author) p.0; causes = q.0; fits = q.1 })
 
-number_waits : (low own : Bool) (n : ℕ) (a : Answer) → (if low then Repeats else if own then Refuses (Own n) else a) ≡ Waits → low ≡ false
-number_waits true own n a e = absurd (cc)
-number_waits false own n a e = refl
-
 pub by_waits : (own : Bool) (v : List ℕ) (me : ℕ) (W : List Op) (r : Option Reason) (o : Op) (f : Option Shape) → answer_by own v me W r o f ≡ Waits → (f ≡ None) × (slice_index v o.author < o.seq)
 by_waits own v me W r o (Some f) e = absurd (cc)
 by_waits own v me W r o None e =
-    (refl, not_le_is o.seq (slice_index v o.author) (number_waits (nat_le o.seq (slice_index v o.author)) (not own && (o.author == me)) o.seq (answer_beside v r o (waiting_under W o.author o.seq)) e))
+    (refl, not_le_is o.seq (slice_index v o.author) (number_waits (nat_le o.seq (slice_index v o.author)) (not own && (o.author == me)) o.seq (answer_beside v r o (waiting_under W o.author o.seq)) e).0)
 
 -- an operation that is to be applied may be applied
 pub applies : (own : Bool) (s : Seen) (o : Op) → IsOp o → answer_over own s o ≡ Applies → MayApply s o

@@ -5,6 +5,7 @@ use Rattle.rls_ident.specs.Vectors.{at_most}
 use Rattle.rls_ident.proofs.Members.{found_in}
 use Rattle.rls_ops.specs.declared.op.Op.{Op}
 use Rattle.rls_ops.specs.Shapes.{shape_fault}
+use Rattle.rls_ops.proofs.Shaped.{next_of}
 use Rattle.rls_model.specs.Answers.{Reason, Released}
 use Rattle.rls_model.specs.Fitting.{refusal}
 use Rattle.rls_model.specs.History.{count, count_of, members_of}
@@ -19,11 +20,11 @@ use Rattle.rls_seen.specs.Over.{holding, first_ready, release_of, release_over, 
 use Rattle.rls_seen.specs.Stands.{StandsFor}
 use Rattle.rls_seen.proofs.Alike.{refusal_alike}
 use Rattle.rls_seen.proofs.Accepting.{accepted_stands}
-use Rattle.rls_seen.proofs.Receiving.{next_of, holding_stands}
+use Rattle.rls_seen.proofs.Receiving.{holding_stands}
 
 -- ---- by a history that the replica stands for
 
-first_alike : (s : Seen) (t : State) → StandsFor s t → first_ready s ≡ model.first_ready t
+pub first_alike : (s : Seen) (t : State) → StandsFor s t → first_ready s ≡ model.first_ready t
 first_alike s t h =
     ap (λ v. find (λ w. at_most w.context v) s.waiting) h.vector
     ∙ ap (λ W. find (λ w. at_most w.context (count t.history)) W) h.waiting

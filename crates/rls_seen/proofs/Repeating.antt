@@ -5,6 +5,7 @@ use Rattle.rls_ident.specs.Lists.{IsIn}
 use Rattle.rls_ident.proofs.Members.{in_all, lt_test}
 use Rattle.rls_ops.specs.declared.op.Op.{Op}
 use Rattle.rls_ops.specs.declared.message.Message.{Message}
+use Rattle.rls_ops.proofs.Waiting.{before_other, length-without, length-with}
 use Rattle.rls_model.specs.Answers.{Reason, Answer, Applies, Repeats, Waits, Refuses, Released}
 use Rattle.rls_model.specs.Receiving.{without, with_waiting, waiting_under, is_numbered, comes_before}
 use Rattle.rls_model.specs.WellFormed.{IsOp}
@@ -17,9 +18,6 @@ use Rattle.rls_seen.specs.Sane.{IsSane, IsInRange, AreHeld}
 use Rattle.rls_seen.proofs.Staying.{ready, received_sane, released_sane, acknowledged_sane}
 
 -- ---- the first ready one
-
-before_other : (x w : Op) → comes_before x w ≡ true → is_numbered w.author w.seq x ≡ false
-before_other x w e = grind (arith, nat_tests)
 
 -- what waits under its number is it
 under : (n : ℕ) (v : List ℕ) (W : List Op) (w : Op) → AreHeld n v W → IsIn w W → waiting_under W w.author w.seq ≡ Some w
@@ -93,7 +91,7 @@ one_fewer s h e = go (first_ready s) refl e
     go (Some w) f g =
         shorter (members s) (vector s) s.waiting w h.waiting (ready s w h f).there ∙ ap (λ (V : List Op). suc (length V)) (sym (waiting_after s w (refusal_over s w)))
 
-none_is : (o : Option Released) → is_some o ≡ false → o ≡ None
+pub none_is : (o : Option Released) → is_some o ≡ false → o ≡ None
 none_is None e = refl
 none_is (Some r) e = absurd (cc)
 
@@ -310,7 +308,7 @@ pub taken_is : (s : Seen) (m : Message) (k : ℕ) (c : Course) → c.limit ≡ N
 unfolding taken_within
 taken_is s m k c e h = ap (λ d. acknowledge_step d m.from m.vector) (h None ∙ within_none c e)
 
-no_more : (k : ℕ) → more_steps k (Some 0) ≡ Some k
+pub no_more : (k : ℕ) → more_steps k (Some 0) ≡ Some k
 no_more k = ap (λ m. Some m) (zero_more k)
   where
     zero_more : (m : ℕ) → m + 0 ≡ m
@@ -357,30 +355,14 @@ pub record AreCounted (m n : ℕ) (c : Course) : Type 0 where
 pub started_counted : (s : Seen) → AreCounted (length s.waiting) 0 (started None s)
 started_counted s = record { applied = omega arith; repeated = omega arith; held = omega arith; released = omega arith; refused = omega arith }
 
-length-without_le : (a q : ℕ) (W : List Op) → length (without a q W) ≤ length W
-length-without_le a q [] = omega arith
-length-without_le a q (w ∷ W) = go (is_numbered a q w) (length-without_le a q W)
-  where
-    go : (b : Bool) → length (without a q W) ≤ length W → length (cond b (without a q W) (w ∷ without a q W)) ≤ suc (length W)
-    go true h = omega arith
-    go false h = omega arith
-
-length-with : (o : Op) (W : List Op) → length (with_waiting o W) ≡ suc (length W)
-length-with o [] = refl
-length-with o (w ∷ W) = go (comes_before w o) (length-with o W)
-  where
-    go : (b : Bool) → length (with_waiting o W) ≡ suc (length W) → length (cond b (w ∷ with_waiting o W) (o ∷ w ∷ W)) ≡ suc (suc (length W))
-    go true h = ap suc h
-    go false h = refl
-
 step_counted : (m n : ℕ) (c : Course) (o : Op) (a : Answer) → AreCounted m n c → AreCounted m (suc n) (with_answer (moved c (after_answer a c.seen o)) o a)
 unfolding accepted holding
 step_counted m n c o Applies h =
-    let l = length-without_le o.author o.seq c.seen.waiting in
+    let l = length-without o.author o.seq c.seen.waiting in
     let x = h.applied in let y = h.repeated in let z = h.held in let u = h.released in let v = h.refused in
     record { applied = omega arith; repeated = omega arith; held = omega arith; released = omega arith; refused = omega arith }
 step_counted m n c o Waits h =
-    let l = length-without_le o.author o.seq c.seen.waiting in
+    let l = length-without o.author o.seq c.seen.waiting in
     let k = length-with o (without o.author o.seq c.seen.waiting) in
     let x = h.applied in let y = h.repeated in let z = h.held in let u = h.released in let v = h.refused in
     record { applied = omega arith; repeated = omega arith; held = omega arith; released = omega arith; refused = omega arith }

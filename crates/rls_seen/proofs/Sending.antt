@@ -2,10 +2,11 @@
 use Rattle.std.proofs.Common.{◌≡◌, ℕ, zero, suc, ◌<◌, ◌≤◌, ◌==◌, ◌||◌, ◌++◌, get_or, not, nat_le, slice_index, Bool, true, false, cond, List, [], ◌∷◌, length, max, refl, sym, ap, ◌∙◌, subst, arith, if◌then◌else◌}
 use Rattle.std.proofs.lemmas.Bool.Decides.{nat_tests}
 use Rattle.rls_ident.specs.Vectors.{join, meet}
+use Rattle.rls_ident.proofs.Vectors.{length-meet, index-join}
 use Rattle.rls_ops.specs.declared.op.Op.{Op}
 use Rattle.rls_ops.specs.declared.message.Message.{Message}
 use Rattle.rls_ops.specs.Rows.{AcksSeen, AreRows, HaveLength, row_of, awaits, awaited, least_of, stable_of, is_covered, missing_for}
-use Rattle.rls_ops.specs.Sizes.{head_size}
+use Rattle.rls_ops.specs.Sizes.{head_size, message_size}
 use Rattle.rls_model.specs.History.{group_of, me_of, members_of, row}
 use Rattle.rls_model.specs.Receiving.{State}
 use Rattle.rls_model.specs.Stability.{unstable}
@@ -14,7 +15,8 @@ use Rattle.rls_seen.specs.Seen.{Seen, members, stable_over}
 use Rattle.rls_seen.specs.Messages.{message_over}
 use Rattle.rls_seen.specs.Stands.{StandsFor}
 use Rattle.rls_seen.proofs.Alike.{members_alike, unstable_alike}
-use Rattle.rls_ops.proofs.KeptRows.{length-meet, row_length}
+use Rattle.rls_ops.proofs.KeptRows.{row_length, lengths_append, length-row}
+use Rattle.rls_ops.proofs.Fronts.{front_fits}
 
 -- ---- lengths
 
@@ -24,21 +26,10 @@ length-least_of v (w ∷ ws) h =
     let e : length (meet v w) ≡ length v = length-meet v w (sym h.0) ∙ h.0 in
     length-least_of (meet v w) ws (subst (λ n. HaveLength n ws) (sym e) h.1) ∙ e
 
-have_append : (n : ℕ) (xs ys : List (List ℕ)) → HaveLength n xs → HaveLength n ys → HaveLength n (xs ++ ys)
-have_append n [] ys h k = k
-have_append n (x ∷ xs) ys h k = (h.0, have_append n xs ys h.1 k)
-
-pub length-row : (acks : AcksSeen) (a : ℕ) → AreRows acks → a < length acks.mine → length (row_of acks a) ≡ length acks.mine
-length-row acks a h l = go (get_or acks.others a []) (a == acks.me) (row_length (length acks.mine) acks.others a [] h.counts_are (let e = h.rows in omega arith))
-  where
-    go : (x : List ℕ) (b : Bool) → length x ≡ length acks.mine → length (cond b acks.mine x) ≡ length acks.mine
-    go x true e = refl
-    go x false e = e
-
 awaited_length : (acks : AcksSeen) → AreRows acks → (n : ℕ) → n ≤ length acks.mine → HaveLength (length acks.mine) (awaited acks n)
 awaited_length acks h zero l = tt
 awaited_length acks h (suc n) l =
-    have_append (length acks.mine) (awaited acks n) (if awaits acks n then row_of acks n ∷ [] else []) (awaited_length acks h n (omega arith)) (go (awaits acks n) (length-row acks n h (omega arith)))
+    lengths_append (length acks.mine) (awaited acks n) (if awaits acks n then row_of acks n ∷ [] else []) (awaited_length acks h n (omega arith)) (go (awaits acks n) (length-row acks n h (omega arith)))
   where
     go : (b : Bool) → length (row_of acks n) ≡ length acks.mine → HaveLength (length acks.mine) (cond b (row_of acks n ∷ []) [])
     go true e = (e, tt)
@@ -52,13 +43,6 @@ length-stable acks h = length-least_of acks.mine (awaited acks (length acks.mine
 
 max_le : (q x y : ℕ) → nat_le q (max x y) ≡ (nat_le q x || nat_le q y)
 max_le q x y = grind (arith, nat_tests)
-
-pub index-join : (v w : List ℕ) (i : ℕ) → length v ≡ length w → slice_index (join v w) i ≡ max (slice_index v i) (slice_index w i)
-index-join [] [] i e = refl
-index-join [] (y ∷ w) i e = absurd (omega arith)
-index-join (x ∷ v) [] i e = absurd (omega arith)
-index-join (x ∷ v) (y ∷ w) zero e = refl
-index-join (x ∷ v) (y ∷ w) (suc i) e = index-join v w i (omega arith)
 
 joined_covers : (v w : List ℕ) (o : Op) → length v ≡ length w → is_covered (join v w) o ≡ (is_covered v o || is_covered w o)
 joined_covers v w o e = ap (nat_le o.seq) (index-join v w o.author e) ∙ max_le o.seq (slice_index v o.author) (slice_index w o.author)
@@ -98,3 +82,9 @@ message_alike s t to l h =
     ∙ (ap (λ m. message_of (group_of H) m s.acks.me s.acks.mine (missing_for (row H to) (unstable H))) n
     ∙ (ap (λ me. message_of (group_of H) (members_of H) me s.acks.mine (missing_for (row H to) (unstable H))) h.me
     ∙ ap (λ v. message_of (group_of H) (members_of H) (me_of H) v (missing_for (row H to) (unstable H))) h.vector)))
+
+-- ---- its size
+
+pub message_fits : (s : Seen) (to : ℕ) → members s ≤ 64 → message_size (message_over s to) ≤ 67108864
+unfolding message_over
+message_fits s to h = front_fits (head_size (members s)) 67108864 _ (omega (arith, h))

@@ -2,13 +2,15 @@
 use Rattle.std.proofs.Common.{◌≡◌, ℕ, zero, suc, ◌+◌, ◌*◌, ◌^◌, ◌<◌, ◌≤◌, ◌-◌, not, nat_lt, Bool, true, false, cond, List, [], ◌∷◌, length, map, refl, ap, arith, if◌then◌else◌}
 use Rattle.std.specs.Prelude.{All, filter, zip, sum, sum_by}
 use Rattle.std.proofs.lemmas.List.{length-map}
-use Rattle.std.proofs.lemmas.List.Sums.{sum_by-cons, sum_by-le}
+use Rattle.std.proofs.lemmas.List.Sums.{sum_by-cons, sum_by-le, length-filter, count_by-le-length}
 use Rattle.rls_ident.specs.declared.tuple.Tuple.{Tuple}
 use Rattle.rls_ident.specs.Identifiers.{ident_lt}
 use Rattle.rls_ident.specs.Vectors.{raise}
 use Rattle.rls_ident.proofs.Members.{not_lt_is}
+use Rattle.rls_ident.proofs.Vectors.{sum-raise}
 use Rattle.rls_runs.specs.Entries.{Entries, has_ident, put, put_all, with_idents}
 use Rattle.rls_runs.specs.Runs.{run_idents}
+use Rattle.rls_runs.proofs.Sorted.{length-put_all}
 use Rattle.rls_rename.specs.Tree.{Node}
 use Rattle.rls_ops.specs.declared.op.Op.{Op}
 use Rattle.rls_ops.specs.declared.op.Body.{Body}
@@ -21,11 +23,6 @@ use Rattle.rls_seen.specs.Over.{added_over, placed_over, renamed_over, is_greate
 
 -- ---- sums
 
-pub sum-raise : (v : List ℕ) (a : ℕ) → a < length v → sum (raise v a) ≡ suc (sum v)
-sum-raise [] a l = absurd (omega arith)
-sum-raise (x ∷ v) zero l = omega (arith, sum_by-cons (λ n. n) (suc x) v, sum_by-cons (λ n. n) x v)
-sum-raise (x ∷ v) (suc a) l = let h = sum-raise v a (omega arith) in omega (arith, sum_by-cons (λ n. n) x (raise v a), sum_by-cons (λ n. n) x v)
-
 pub sum_filter : {A : Type 0} (f : A → ℕ) (p : A → Bool) (xs : List A) → sum_by f (filter p xs) ≤ sum_by f xs
 sum_filter f p [] = omega arith
 sum_filter {A} f p (x ∷ xs) = go (p x) (sum_filter f p xs)
@@ -36,30 +33,13 @@ sum_filter {A} f p (x ∷ xs) = go (p x) (sum_filter f p xs)
 
 -- ---- lengths
 
-length-put : (e : List Tuple × ℕ) (es : Entries) → length (put e es) ≡ suc (length es)
-length-put e [] = refl
-length-put e (x ∷ es) = go (ident_lt x.0 e.0) (length-put e es)
-  where
-    go : (b : Bool) → length (put e es) ≡ suc (length es) → length (if b then x ∷ put e es else e ∷ x ∷ es) ≡ suc (suc (length es))
-    go true h = ap suc h
-    go false h = refl
-
-length-put_all : (es xs : Entries) → length (put_all es xs) ≡ length es + length xs
-length-put_all [] xs = omega arith
-length-put_all (e ∷ es) xs = let a = length-put_all es (put e xs) in let b = length-put e xs in omega arith
-
 length-zip : {A : Type 0} (xs : List A) (cs : List ℕ) → length (zip xs cs) ≤ length cs
 length-zip [] cs = omega arith
 length-zip (x ∷ xs) [] = omega arith
 length-zip (x ∷ xs) (c ∷ cs) = let h = length-zip xs cs in omega arith
 
 filter_le : {A : Type 0} (p : A → Bool) (xs : List A) → length (filter p xs) ≤ length xs
-filter_le p [] = omega arith
-filter_le {A} p (x ∷ xs) = go (p x) (filter_le p xs)
-  where
-    go : (b : Bool) → length (filter p xs) ≤ length xs → length (cond b (x ∷ filter p xs) (filter p xs)) ≤ suc (length xs)
-    go true h = omega arith
-    go false h = omega arith
+filter_le p xs = omega (arith, length-filter p xs, count_by-le-length p xs)
 
 moved : (f : List Tuple → List Tuple) (es : Entries) (c : Bool) → length (cond c (with_idents f es) es) ≤ length es + 4194304
 moved f es true = let e : length (with_idents f es) ≡ length es = length-map es (λ (y : List Tuple × ℕ). (f y.0, y.1)) in omega arith

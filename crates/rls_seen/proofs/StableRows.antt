@@ -4,18 +4,14 @@ use Rattle.std.proofs.lemmas.List.{get_or-set_same, get_or-set_other}
 use Rattle.rls_ident.specs.Lists.{IsIn}
 use Rattle.rls_ident.specs.Vectors.{at_most, join, raise}
 use Rattle.rls_ident.proofs.Members.{bool_cases, eq_is, eq_not, in_left, in_right}
+use Rattle.rls_ident.proofs.Vectors.{length-raise, at_most_refl, at_most_trans, at_most-join, at_most-raise}
 use Rattle.rls_ops.specs.declared.op.Body.{Body}
 use Rattle.rls_ops.specs.Rows.{AcksSeen, AreRows, row_of, left, awaits, awaited, stable_of, noted}
 use Rattle.rls_model.specs.History.{is_leave}
-use Rattle.rls_model.proofs.Stable.{at_most_refl, at_most_trans, at_most-join, at_most-raise, at_most-least_of, least_of-each, IsBelow, least_greatest}
+use Rattle.rls_model.proofs.Stable.{at_most-least_of, least_of-each, IsBelow, least_greatest, below_append}
 use Rattle.rls_seen.specs.Over.{acks_after}
-use Rattle.rls_ops.proofs.KeptRows.{length-raise}
 use Rattle.rls_seen.proofs.Accepting.{acks_me, acks_mine, left_after, row_after}
 use Rattle.rls_ops.proofs.KeptRows.{row_length}
-
-below_append : (u : List ℕ) (vs ws : List (List ℕ)) → IsBelow u vs → IsBelow u ws → IsBelow u (vs ++ ws)
-below_append u [] ws h k = k
-below_append u (v ∷ vs) ws h k = (h.0, below_append u vs ws h.1 k)
 
 -- ---- the stable vector
 

@@ -1,13 +1,13 @@
 -- A fresh replica stands for the history in which nothing has happened.
 use Rattle.std.proofs.Common.{◌≡◌, ℕ, zero, suc, ◌<◌, ◌==◌, Bool, true, false, cond, List, [], length, replicate, get_or, refl, ap, ◌∙◌, arith}
 use Rattle.std.proofs.lemmas.List.{get_or-replicate, length-replicate}
+use Rattle.rls_ident.proofs.Vectors.{at_most_refl}
 use Rattle.rls_ops.proofs.KeptRows.{starting_rows}
 use Rattle.rls_model.specs.History.{Fresh}
 use Rattle.rls_model.specs.Document.{export, live, chars}
 use Rattle.rls_model.specs.Legal.{AreNumbers}
 use Rattle.rls_model.specs.Stability.{stable}
 use Rattle.rls_model.proofs.Later.{whole_keeps}
-use Rattle.rls_model.proofs.Stable.{at_most_refl}
 use Rattle.rls_seen.specs.Seen.{fresh}
 use Rattle.rls_seen.specs.Stands.{StandsFor}
 use Rattle.rls_seen.proofs.Alike.{keeps_back}

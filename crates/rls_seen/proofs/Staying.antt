@@ -8,22 +8,21 @@ use Rattle.rls_ident.specs.EpochNames.{name_eq}
 use Rattle.rls_ident.specs.Lists.{IsIn}
 use Rattle.rls_ident.specs.Vectors.{at_most, join}
 use Rattle.rls_ident.proofs.Members.{bool_cases, true_false, and_left, and_right, eq_is, eq_not, le_is, not_le_is, found_in}
+use Rattle.rls_ident.proofs.Vectors.{at_most_refl, at_most_trans, zeros_below, index-join}
+use Rattle.rls_ident.proofs.Named.{within_more}
 use Rattle.rls_ops.specs.declared.op.Op.{Op}
 use Rattle.rls_ops.specs.Rows.{AcksSeen, row_of, left, stable_of, noted, missing_for}
 use Rattle.rls_ops.specs.Rows as rows
-use Rattle.rls_ops.proofs.KeptRows.{row_length, starting_rows, noted_rows}
+use Rattle.rls_ops.proofs.KeptRows.{row_length, starting_rows, noted_rows, length-row}
 use Rattle.rls_model.specs.Answers.{Reason, Answer, Applies, Repeats, Waits, Refuses}
 use Rattle.rls_model.specs.Legal.{AreNumbers}
 use Rattle.rls_model.specs.Receiving.{without, with_waiting}
 use Rattle.rls_model.specs.WellFormed.{IsSmall, IsOp}
-use Rattle.rls_model.proofs.Stable.{at_most_refl, at_most_trans}
-use Rattle.rls_model.proofs.WorldsLists.{zeros_below}
 use Rattle.rls_seen.specs.Seen.{Seen, vector, members, fresh}
 use Rattle.rls_seen.specs.Over.{holding, after_answer, answer_over, received, replayed, refusal_over, first_ready, after_refusal, after_release, released, released_times, released_all, acknowledged}
 use Rattle.rls_seen.specs.Sane.{IsSane, IsCounted, IsInRange, AreHeld, MayApply, MayWait}
-use Rattle.rls_seen.proofs.Applied.{accepted_sane, within_more, missing_less}
+use Rattle.rls_seen.proofs.Applied.{accepted_sane, missing_less}
 use Rattle.rls_seen.proofs.Held.{IsHeld, held_at, held_without, held_with}
-use Rattle.rls_seen.proofs.Sending.{index-join, length-row}
 use Rattle.rls_seen.proofs.Receiving.{applies, waits}
 use Rattle.rls_seen.proofs.StableRows.{stable_most, stable_noted}
 

@@ -11,13 +11,12 @@ use Rattle.rls_ident.specs.Lists.{IsIn}
 use Rattle.rls_ident.specs.Tuples.{replica_of, seq_of, offset_of}
 use Rattle.rls_ident.specs.Vectors.{raise}
 use Rattle.rls_ident.proofs.Members.{and_left, and_right, and_true, eq_not, int_is, int_test, in_all, all_in, some_is}
+use Rattle.rls_ident.proofs.Vectors.{length-raise, index-raise_same, index-raise_le}
 use Rattle.rls_model.specs.declared.parts.Stem.{Stem}
 use Rattle.rls_model.specs.Stems.{is_stem, stem_of, stands_before, with_stem, new_stem, extended, with_extended, stems_after_insert, may_use}
 use Rattle.rls_model.proofs.Grown.{AreEarlier, Use, Begins, Appends, Prepends, use_of}
-use Rattle.rls_model.proofs.OneTree.{index-raise_same, index-raise_le}
 use Rattle.rls_model.proofs.StemLists.{found_is}
 use Rattle.rls_seen.specs.Sane.{IsStem, AreStems}
-use Rattle.rls_ops.proofs.KeptRows.{length-raise}
 
 -- ---- found stems
 

@@ -9,28 +9,11 @@ use Rattle.rls_ident.specs.Lists.{IsIn}
 use Rattle.rls_ident.proofs.Lists.{lt_trans}
 use Rattle.rls_ident.proofs.Members.{and_left, and_right, and_true, less_is, in_map, map_in}
 use Rattle.rls_runs.specs.Runs.{AreIdents, is_increasing}
-use Rattle.rls_runs.proofs.Sorted.{Entry, IsBelow, AreAbove, Rises}
+use Rattle.rls_runs.proofs.Sorted.{Entry, IsBelow, AreAbove, Rises, increasing_of_rises}
 
 -- the identifiers
 abbrev pub ids : List Entry → List (List Tuple)
 ids es = map (λ e. e.0) es
-
-above_trans : (x y : Entry) (ys : List Entry) → IsBelow x y → AreAbove y ys → AreAbove x ys
-above_trans x y [] h a = tt
-above_trans x y (z ∷ ys) h a = (lt_trans h a.0, above_trans x y ys h a.1)
-
-pub rises_of : (es : List Entry) → is_increasing (ids es) ≡ true → Rises es
-rises_of [] h = tt
-rises_of (x ∷ []) h = (tt, tt)
-rises_of (x ∷ (y ∷ ys)) h =
-    let l : IsBelow x y = record { less = less_is (ident_cmp x.0 y.0) (and_left (ident_lt x.0 y.0) (is_increasing (ids (y ∷ ys))) h) } in
-    let r = rises_of (y ∷ ys) (and_right (ident_lt x.0 y.0) (is_increasing (ids (y ∷ ys))) h) in
-    ((l, above_trans x y ys l r.0), r)
-
-pub increasing_of : (es : List Entry) → Rises es → is_increasing (ids es) ≡ true
-increasing_of [] r = refl
-increasing_of (x ∷ []) r = refl
-increasing_of (x ∷ (y ∷ ys)) r = and_true (ident_lt x.0 y.0) (is_increasing (ids (y ∷ ys))) (ap is_lt (r.0.0).less) (increasing_of (y ∷ ys) r.1)
 
 pub all_idents : (xs : List (List Tuple)) → ((x : List Tuple) → IsIn x xs → IsIdent x) → list_all is_ident xs ≡ true
 all_idents [] f = refl
@@ -46,23 +29,7 @@ ident_in xs h x p = go xs h.0 p
 
 -- rising entries with identifiers
 pub idents_of : (es : List Entry) → Rises es → ((x : List Tuple) → IsIn x (ids es) → IsIdent x) → AreIdents (ids es)
-idents_of es r f = (all_idents (ids es) f, increasing_of es r)
-
-above_filter : (p : Entry → Bool) (x : Entry) (ys : List Entry) → AreAbove x ys → AreAbove x (filter p ys)
-above_filter p x [] a = tt
-above_filter p x (y ∷ ys) a = go (p y) (above_filter p x ys a.1)
-  where
-    go : (b : Bool) → AreAbove x (filter p ys) → AreAbove x (cond b (y ∷ filter p ys) (filter p ys))
-    go true k = (a.0, k)
-    go false k = k
-
-pub rises_filter : (p : Entry → Bool) (es : List Entry) → Rises es → Rises (filter p es)
-rises_filter p [] r = tt
-rises_filter p (x ∷ xs) r = go (p x) (rises_filter p xs r.1)
-  where
-    go : (b : Bool) → Rises (filter p xs) → Rises (cond b (x ∷ filter p xs) (filter p xs))
-    go true k = (above_filter p x xs r.0, k)
-    go false k = k
+idents_of es r f = (all_idents (ids es) f, increasing_of_rises es r)
 
 -- each identifier by a map that keeps the order
 abbrev pub moved : (List Tuple → List Tuple) → Entry → Entry

@@ -13,6 +13,7 @@ use Rattle.rls_ident.specs.Tuples.{replica_of, seq_of, offset_of}
 use Rattle.rls_ident.proofs.Lists.{Lt, lt_irrefl}
 use Rattle.rls_ident.proofs.Members.{bool_cases, true_false, eq_not, in_map, in_filter}
 use Rattle.rls_ident.proofs.Tuples.{tuples}
+use Rattle.rls_ident.proofs.Shifted.{ident_shifted}
 use Rattle.rls_ops.specs.Shapes.{is_empty}
 use Rattle.rls_runs.specs.Runs.{AreIdents, run_idents}
 use Rattle.rls_rename.specs.Renaming.{Renaming}
@@ -20,7 +21,7 @@ use Rattle.rls_rename.specs.Tree.{Node, name_of, is_of, has_node, is_kept, AreNo
 use Rattle.rls_rename.proofs.Former.{former_of}
 use Rattle.rls_rename.proofs.Growth.{kept_other, translate_other, translate_child, translate_back}
 use Rattle.rls_rename.proofs.Kept.{greatest_kept, kept_more}
-use Rattle.rls_rename.proofs.Order.{older_cmp, level_same}
+use Rattle.rls_rename.proofs.Order.{older_cmp, level_same, kept_before}
 use Rattle.rls_rename.proofs.Paths.{IsAmong, name_eq_is, name_eq_refl, translate_ident, translate_translate, translate_order}
 use Rattle.rls_rename.proofs.SameNodes.{greatest_top}
 use Rattle.rls_rename.proofs.Triples.{HasLast, AreCovered, forward_in, newborn_in}
@@ -34,17 +35,17 @@ use Rattle.rls_model.specs.Epochs.{nodes_after, renaming_of}
 use Rattle.rls_model.specs.Laws.{IsUsedBy, IsOfRename}
 use Rattle.rls_model.specs.Stems.{is_used, stems_after}
 use Rattle.rls_model.specs.WellFormed.{IsBody}
-use Rattle.rls_model.proofs.Distinct.{ident_shifted}
 use Rattle.rls_model.proofs.Fresh.{unused, still_used, now_used}
 use Rattle.rls_model.proofs.Insertion.{born, born_entries}
-use Rattle.rls_runs.proofs.Sorted.{Entry, IsBelow, AreAbove, Rises, AreApart, AreDistinct, AllApart, rises_all, in_put_all}
+use Rattle.rls_runs.proofs.Sorted.{Entry, IsBelow, AreAbove, Rises, AreApart, AreDistinct, AllApart, rises_all, in_put_all, distinct_of, rises_of_increasing, rises_filter}
 use Rattle.rls_model.proofs.Spliced.{entries, entries_rise}
+use Rattle.rls_model.proofs.TextSteps.{entry_ident}
 use Rattle.rls_seen.specs.Seen.{Seen, greatest_over, idents_over}
 use Rattle.rls_seen.specs.Over.{placed_over, added_over, renamed_over, is_greatest_over, text_after}
 use Rattle.rls_seen.specs.Sane.{IsSane, IsCovered, MayApply, IsNewborn}
 use Rattle.rls_seen.proofs.Accepting.{added_go}
 use Rattle.rls_seen.proofs.Fitting.{Facts, facts, change, name_new}
-use Rattle.rls_seen.proofs.TextLists.{ids, moved, rises_of, ident_in, idents_of, rises_filter, rises_map, entry_in, in_entry}
+use Rattle.rls_seen.proofs.TextLists.{ids, moved, ident_in, idents_of, rises_map, entry_in, in_entry}
 
 -- ---- used last tuples
 
@@ -71,9 +72,6 @@ Grows ss ts = (a q : ℕ) (k : ℤ) → Used ss a q k → Used ts a q k
 
 known_more : (ss ts : List Stem) (top : EpochName) (ns : List Node) (g : EpochName) (x : List Tuple) → Grows ss ts → IsKnown ss top ns g x → IsKnown ts top ns g x
 known_more ss ts top ns g x m k f l = let y = translate ns g f x in m (replica_of (last_of y)) (seq_of (last_of y)) (offset_of (last_of y)) (k f l)
-
-kept_before : (top : EpochName) (node : Node) (older : List Node) (f : EpochName) → is_of node f ≡ false → is_kept top (node ∷ older) f ≡ true → is_kept top older f ≡ true
-kept_before top node older f h k = sym (ap (λ b. name_eq f top || (b || has_node older f)) h) ∙ k
 
 -- also after one more rename
 known_renamed : (ss ts : List Stem) (top : EpochName) (node : Node) (older : List Node) (g : EpochName) (x : List Tuple) → AreNodes (node ∷ older) → AreBelow top (node ∷ older) → Grows ss ts → triples.IsCovered (Used ts) node.renaming
@@ -105,7 +103,7 @@ written s sane = record { idents = sane.idents; known = sane.used }
 -- the same nodes, and no more identifiers
 fewer : (ss ts : List Stem) (top : EpochName) (ns : List Node) (es : List Entry) (p : Entry → Bool) → Grows ss ts → IsWritten ss top ns es → IsWritten ts top ns (filter p es)
 fewer ss ts top ns es p m w = record {
-  idents = idents_of (filter p es) (rises_filter p es (rises_of es w.idents.1)) (λ x q. ident_in (ids es) w.idents x (was x q));
+  idents = idents_of (filter p es) (rises_filter p es (rises_of_increasing es w.idents.1)) (λ x q. ident_in (ids es) w.idents x (was x q));
   known = λ x q. known_more ss ts top ns (greatest top ns) x m (w.known x (was x q));
 }
   where
@@ -132,11 +130,6 @@ length-map_run f x (suc n) = ap suc (length-map_run f (shifted (pos 1) x) n)
 -- the identifiers that it adds
 pub added_ids : (s : Seen) (e : EpochName) (first : List Tuple) (text : List ℕ) → ids (added_over s e first text) ≡ map (placed_over s e) (run_idents first (length text))
 added_ids s e first text = ids_zip (map (placed_over s e) (run_idents first (length text))) text (length-map_run (placed_over s e) first (length text))
-
-entry_ident : (x : List Tuple) (cs : List ℕ) → IsIdent x → (y : Entry) → IsIn y (entries x cs) → IsIdent y.0
-entry_ident x [] i y p = absurd p
-entry_ident x (c ∷ cs) i y (inl e) = subst (λ (z : Entry). IsIdent z.0) e i
-entry_ident x (c ∷ cs) i y (inr p) = entry_ident (shifted (pos 1) x) cs (ident_shifted (pos 1) x i) y p
 
 entry_used : (o : Op) (x : List Tuple) (cs : List ℕ) → o.body ≡ Insert x cs → (y : Entry) → IsIn y (entries x cs) → IsUsedBy o (replica_of (last_of y.0)) (seq_of (last_of y.0)) (offset_of (last_of y.0))
 entry_used o x cs e y p =
@@ -202,16 +195,6 @@ all_apart : (xs ys : List Entry) → ((x y : Entry) → IsIn x xs → IsIn y ys 
 all_apart [] ys f = tt
 all_apart (x ∷ xs) ys f = (apart_of x ys (λ y q. f x y (inl refl) q), all_apart xs ys (λ z y p q. f z y (inr p) q))
 
-above_in : (x y : Entry) (ys : List Entry) → AreAbove x ys → IsIn y ys → IsBelow x y
-above_in x y [] a p = absurd p
-above_in x y (z ∷ ys) a (inl e) = subst (λ (w : Entry). IsBelow x w) e a.0
-above_in x y (z ∷ ys) a (inr p) = above_in x y ys a.1 p
-
-distinct_of : (xs : List Entry) → Rises xs → AreDistinct xs
-distinct_of [] r = tt
-distinct_of (x ∷ xs) r =
-    (apart_of x xs (λ y p e. lt_irrefl (subst (λ z. Lt tuples z y.0) e (above_in x y xs r.0 p))), distinct_of xs r.1)
-
 -- insertion
 inserted : (s : Seen) (o : Op) (first : List Tuple) (text : List ℕ) → IsSane s → Facts s o → o.body ≡ Insert first text → IsIdent first
     → IsWritten (stems_after s.stems o.author o.seq o.body) s.epochs.top s.epochs.nodes (put_all (added_over s o.epoch first text) s.text)
@@ -230,7 +213,7 @@ inserted s o first text sane f e i =
     ⊎_elim (λ a. inl (subst (λ y. IsIn y (ids es)) q.2 (in_entry es q.0 a))) (λ a. inr (subst (λ y. IsIn y (ids s.text)) q.2 (in_entry s.text q.0 a))) (in_put_all q.0 es s.text q.1) in
     record {
       idents = idents_of (put_all es s.text)
-          (rises_all es s.text (rises_of s.text w.idents.1) (distinct_of es r)
+          (rises_all es s.text (rises_of_increasing s.text w.idents.1) (distinct_of es r)
           (all_apart es s.text (λ x y p q d. added_new s o first text sane f e i x.0 (in_entry es x p) (subst (λ z. IsIn z (ids s.text)) (sym d) (in_entry s.text y q)))))
           (λ x p. ⊎_elim
           (λ a. let b = added_in s o.epoch first text x a in subst IsIdent b.2 (translate_ident ns o.epoch g b.0.0 n (entry_ident first text i b.0 b.1)))
@@ -326,7 +309,7 @@ renamed s o former sane m e =
     let d = in_entry s.text c.0 c.1 in
     (c.0.0, d, is c.0.0 (ident_in (ids s.text) w.idents c.0.0 d) ∙ (ap (λ (z : Entry). z.0) c.2 ∙ a.2)) in
     record {
-      idents = idents_of moves (rises_map (renamed_over s o former) s.text order (rises_of s.text w.idents.1))
+      idents = idents_of moves (rises_map (renamed_over s o former) s.text order (rises_of_increasing s.text w.idents.1))
           (λ x p. let a = from x p in subst IsIdent a.2 (translate_ident ns g fresh a.0 n (ident_in (ids s.text) w.idents a.0 a.1)));
       known = λ x p. let a = from x p in
           subst (λ h. IsKnown ts top ns h x) (sym q) (subst (IsKnown ts top ns fresh) a.2 (known_moved ts top ns g fresh a.0 n (ident_in (ids s.text) w.idents a.0 a.1) (known a.0 a.1)));

@@ -6,15 +6,6 @@ use Rattle.rls_ident.specs.Vectors.{join, meet}
 use Rattle.rls_ops.proofs.KeptRows.{row_length}
 use Rattle.rls_ops.specs.Rows.{AcksSeen, AreRows, row_of, awaits, awaited, least_of}
 
--- what is joined with a vector and then met with it is that vector
-pub meet-join : (s v : List ℕ) → length s ≡ length v → meet (join s v) v ≡ v
-meet-join [] [] h = refl
-meet-join [] (n ∷ ns) h = absurd (omega arith)
-meet-join (m ∷ ms) [] h = absurd (omega arith)
-meet-join (m ∷ ms) (n ∷ ns) h =
-    let e : min (max m n) n ≡ n = omega arith in
-    ap (λ k. k ∷ meet (join ms ns) ns) e ∙ ap (λ ks. n ∷ ks) (meet-join ms ns (omega arith))
-
 pub least_of-append : (v : List ℕ) (ws us : List (List ℕ)) → least_of v (ws ++ us) ≡ least_of (least_of v ws) us
 least_of-append v [] us = refl
 least_of-append v (w ∷ ws) us = least_of-append (meet v w) ws us
@@ -25,10 +16,3 @@ awaits_row acks v a w e f = rw (add-one, e, f, least_of-append v (awaited acks a
 
 pub skips_row : (acks : AcksSeen) (v : List ℕ) (a : ℕ) → awaits acks a ≡ false → least_of v (awaited acks a) ≡ least_of v (awaited acks (a + 1))
 skips_row acks v a e = rw (add-one, e, append-nil) refl
-
-pub length-row_of : (acks : AcksSeen) (a : ℕ) → AreRows acks → a < length acks.others → length (row_of acks a) ≡ length acks.mine
-length-row_of acks a r h = go (a == acks.me)
-  where
-    go : (b : Bool) → length (cond b acks.mine (get_or acks.others a [])) ≡ length acks.mine
-    go true = refl
-    go false = row_length (length acks.mine) acks.others a [] r.counts_are h

@@ -6,16 +6,9 @@ use Rattle.std.proofs.lemmas.Int.{ints}
 use Rattle.rls_ident.specs.declared.tuple.Tuple.{Tuple}
 use Rattle.rls_ident.specs.Identifiers.{last_of, shifted, least_offset, greatest_offset}
 use Rattle.rls_ident.specs.Tuples.{offset_of}
-use Rattle.rls_ident.proofs.Members.{int_test}
+use Rattle.rls_ident.proofs.Members.{int_test, int_le_test}
 use Rattle.rls_model.specs.declared.parts.Stem.{Stem}
 use Rattle.rls_model.specs.Editing.{ends_below, begins_above, may_append, may_prepend}
-
-int_le_test : (a b : ℤ) → a ≤ℤ b → int_le a b ≡ true
-int_le_test a b h = go (int_le a b) refl
-  where
-    go : (c : Bool) → int_le a b ≡ c → c ≡ true
-    go true e = refl
-    go false e = absurd (omega (arith, ints))
 
 -- where the stem ends at the left neighbour, with room for n more
 pub appends : (o : Option Stem) (t : Stem) (left x : List Tuple) (right : Option (List Tuple)) (n : ℕ) (b : Bool) → Some t ≡ o → offset_of (last_of left) +ℤ pos 1 ≡ pos t.next

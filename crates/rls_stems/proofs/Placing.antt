@@ -5,22 +5,14 @@ use Rattle.std.specs.Ordering.{int_eq}
 use Rattle.std.specs.List.{list_all}
 use Rattle.std.proofs.lemmas.Option.{slice_get-get_or, slice_get_within}
 use Rattle.rls_ident.specs.Lists.{IsIn}
-use Rattle.rls_ident.proofs.Members.{and_left, and_right, and_true, eq_is, eq_refl, neq_test, lt_is, lt_test, not_lt_is, not_true, some_is, in_all}
+use Rattle.rls_ident.proofs.Members.{and_left, and_right, and_true, eq_is, eq_refl, neq_test, lt_is, lt_test, not_lt_is, not_true, some_is, in_all, get_in, not_lt_test}
 use Rattle.rls_stems.specs.declared.line.Reach.{Reach}
 use Rattle.rls_stems.specs.Reaches.{reach_of, with_reach, grown, with_grown, AreBelow, AreRising, place_in, IsPlaceOf}
 
 -- ---- elements
 
-pub get_in : {A : Type 0} (xs : List A) (k : ℕ) (x : A) → slice_get xs k ≡ Some x → IsIn x xs
-get_in [] k x e = absurd (cc)
-get_in (y ∷ xs) zero x e = inl (some_is y x e)
-get_in (y ∷ xs) (suc k) x e = inr (get_in xs k x e)
-
 above_all : (q : Reach) (rs : List Reach) (k : ℕ) (r : Reach) → IsTrue (list_all (λ t. nat_lt q.s0 t.s0) rs) → slice_get rs k ≡ Some r → q.s0 < r.s0
 above_all q rs k r h e = lt_is q.s0 r.s0 (in_all (λ t. nat_lt q.s0 t.s0) r rs h (get_in rs k r e))
-
-lt_false : (m n : ℕ) → n ≤ m → nat_lt m n ≡ false
-lt_false m n h = not_true (nat_lt m n) (λ e. let l = lt_is m n e in absurd (omega arith))
 
 -- ---- the place of a number
 
@@ -50,7 +42,7 @@ pub place_up_to : (rs : List Reach) (k : ℕ) (r : Reach) (s : ℕ) → slice_ge
 place_up_to [] k r s e l = absurd (cc)
 place_up_to (q ∷ rs) zero r s e l =
     let f : q.s0 ≡ r.s0 = ap (λ (t : Reach). t.s0) (some_is q r e) in
-    let t = lt_false q.s0 s (omega arith) in
+    let t = not_lt_test q.s0 s (omega arith) in
     rw t (omega arith)
 place_up_to (q ∷ rs) (suc k) r s e l = go (nat_lt q.s0 s) (place_up_to rs k r s e l)
   where

@@ -7,7 +7,7 @@ use Rattle.std.proofs.lemmas.Int.{ints}
 use Rattle.std.proofs.lemmas.List.{append-nil, drop_all, drop_more, length-set, get_or-map, get_or-set_same}
 use Rattle.std.proofs.lemmas.Option.{slice_get_read}
 use Rattle.rls_ident.specs.Lists.{IsIn}
-use Rattle.rls_ident.proofs.Members.{same_bool, eq_is, eq_refl, eq_test, neq_test, lt_is, lt_test, not_true, int_is, int_test, in_left, in_right, map_in, all_in}
+use Rattle.rls_ident.proofs.Members.{same_bool, eq_is, eq_refl, eq_test, neq_test, lt_is, lt_test, not_true, int_is, int_test, in_left, in_right, map_in, all_in, not_lt_test}
 use Rattle.rls_model.specs.declared.parts.Stem.{Stem}
 use Rattle.rls_model.specs.Stems.{stem_of, with_stem, extended, with_extended}
 use Rattle.rls_stems.specs.declared.line.Reach.{Reach}
@@ -40,9 +40,6 @@ member_is ls t a e h = let f = ap (λ (u : StemsSeen). u.members) e in omega ari
 
 pub spare_read : (ls : List LineSeen) (i : ℕ) (l : LineSeen) → i < length ls → slice_index (map (λ (m : LineSeen). m.spare) (set ls i l)) i ≡ l.spare
 spare_read ls i l h = let k : i < length (set ls i l) = omega (arith, length-set ls i l) in get_or-map (λ (m : LineSeen). m.spare) (set ls i l) i l 0 k ∙ ap (λ (m : LineSeen). m.spare) (get_or-set_same ls i l l h)
-
-lt_false : (m n : ℕ) → n ≤ m → nat_lt m n ≡ false
-lt_false m n h = not_true (nat_lt m n) (λ e. let l = lt_is m n e in absurd (omega arith))
 
 -- ---- finding
 
@@ -101,7 +98,7 @@ ahead k a w (m ∷ ls) l = go m.reaches (ahead (suc k) a w ls (omega arith))
     n = neq_test k a (λ e. absurd (omega arith))
 
     f : nat_lt k a ≡ false
-    f = lt_false k a (omega arith)
+    f = not_lt_test k a (omega arith)
 
     go : (rs : List Reach) → with_stem (stem_at a w) (stems_from (suc k) ls) ≡ stem_at a w ∷ stems_from (suc k) ls → with_stem (stem_at a w) (map (stem_at k) rs ++ stems_from (suc k) ls) ≡ stem_at a w ∷ (map (stem_at k) rs ++ stems_from (suc k) ls)
     go [] e = e
@@ -110,7 +107,7 @@ ahead k a w (m ∷ ls) l = go m.reaches (ahead (suc k) a w ls (omega arith))
 -- among the author's own
 put : (a : ℕ) (w : Reach) (rs : List Reach) (ss : List Stem) → with_stem (stem_at a w) ss ≡ stem_at a w ∷ ss → with_stem (stem_at a w) (map (stem_at a) rs ++ ss) ≡ map (stem_at a) (with_reach w rs) ++ ss
 put a w [] ss h = h
-put a w (r ∷ rs) ss h = rw (eq_refl a, lt_false a a (omega arith)) (go (r.s0 == w.s0) (nat_lt r.s0 w.s0) (put a w rs ss h))
+put a w (r ∷ rs) ss h = rw (eq_refl a, not_lt_test a a (omega arith)) (go (r.s0 == w.s0) (nat_lt r.s0 w.s0) (put a w rs ss h))
   where
     go : (b c : Bool) → with_stem (stem_at a w) (map (stem_at a) rs ++ ss) ≡ map (stem_at a) (with_reach w rs) ++ ss
         → (if b then stem_at a w ∷ (map (stem_at a) rs ++ ss) else if c then stem_at a r ∷ with_stem (stem_at a w) (map (stem_at a) rs ++ ss) else stem_at a w ∷ stem_at a r ∷ (map (stem_at a) rs ++ ss))

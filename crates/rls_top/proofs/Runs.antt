@@ -17,6 +17,7 @@ use Rattle.rls_model.specs.History.{count}
 use Rattle.rls_model.specs.Taking.{Limit, has_room, one_less, Progress, moved, taken, with_refusal, with_release, release_step, release_steps, with_releases}
 use Rattle.rls_ident.specs.Vectors.{raise}
 use Rattle.rls_ident.proofs.Loops.{drop_reads}
+use Rattle.rls_ident.proofs.Vectors.{sum-raise_le}
 use Rattle.rls_report.specs.declared.failures.LineFault.{LineFault}
 use Rattle.rls_report.specs.declared.failures.Failure.TheVariants.{OutOfMemory}
 use Rattle.rls_report.specs.declared.failures.Failure.TheVariants as failures
@@ -37,6 +38,7 @@ use Rattle.rls_top.specs.Made.{IsDue, StopsAsDue}
 use Rattle.rls_top.specs.Steps.{IsAccepted, IsRefused, IsStopped, IsThere, StopsFor}
 use Rattle.rls_file.specs.Journals.{JournalSeen, Tells, told}
 use Rattle.rls_file.proofs.Telling as telling
+use Rattle.rls_file.proofs.Telling.{tells_told}
 
 -- the state on the way, with what was counted
 abbrev pub course_of : State → Taken → Progress
@@ -45,9 +47,6 @@ course_of s t = record { state = s; limit = None; applied = t.applied; released 
 -- the state that a journal tells
 pub told_is : (j : JournalSeen) (t : State) → Tells j t → told j ≡ t
 told_is j t h = telling.told_is j.seen j.notes t h
-
-pub tells_told : (j : JournalSeen) (t : State) → Tells j t → Tells j (told j)
-tells_told j t h = subst (λ (s : State). Tells j s) (sym (told_is j t h)) h
 
 -- ---- clusters
 
@@ -100,12 +99,6 @@ refused_so old t edit n e stop tells fault stops = go e (subst (λ f. IsFault e 
 
 -- ---- counting
 
--- a count that rises is not less
-sum_raised : (v : List ℕ) (a : ℕ) → sum v ≤ sum (raise v a)
-sum_raised [] a = omega arith
-sum_raised (x ∷ v) zero = omega (arith, sum_by-cons (λ n. n) (suc x) v, sum_by-cons (λ n. n) x v)
-sum_raised (x ∷ v) (suc a) = let h = sum_raised v a in omega (arith, sum_by-cons (λ n. n) x (raise v a), sum_by-cons (λ n. n) x v)
-
 -- an accepted operation lowers no count
 pub counted_on : (old new : JournalSeen) (t : State) (meant : Result Edit LineFault) (n : ℕ) → Tells old t → IsAccepted t new meant → n ≤ sum (vector old.seen) → n ≤ sum (vector new.seen)
 counted_on old new t (Err fault) n tells accepted h = absurd accepted
@@ -113,7 +106,7 @@ counted_on old new t (Ok edit) n tells accepted h =
     let o = made t.history edit in
     let before : vector old.seen ≡ count t.history = tells.stands.vector in
     let after : vector new.seen ≡ raise (count t.history) o.author = accepted.stands.vector in
-    let more = sum_raised (count t.history) o.author in
+    let more = sum-raise_le (count t.history) o.author in
     let bound : n ≤ sum (count t.history) = rw before at h in
     rw after (omega (arith, bound, more))
 

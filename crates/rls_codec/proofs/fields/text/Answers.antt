@@ -1,6 +1,7 @@
 use Rattle.std.proofs.Common.{arith, ap, sym, ◌∙◌}
 use Rattle.std.specs.Str.{chars}
-use Rattle.rls_codec.proofs.Utf8.{utf8_from_text, text_reads}
+use Rattle.rls_runs.proofs.Texts.{utf8_from_text}
+use Rattle.rls_codec.proofs.Utf8.{text_reads}
 use Rattle.rls_codec.proofs.fields.text.Goals as goal
 
 pub returns-in_ok-found-in-Ok : goal.returns-in_ok-found-in-Ok

@@ -4,9 +4,9 @@ use Rattle.std.proofs.lemmas.Option.{slice_get_read}
 use Rattle.std.proofs.lemmas.List.{take_all}
 use Rattle.rls_ident.specs.declared.tuple.Tuple.{Tuple}
 use Rattle.rls_runs.specs.Runs.{runs_of, idents_of, is_increasing, AreIdents}
+use Rattle.rls_runs.proofs.RunsOf.{idents_of_runs}
 use Rattle.rls_rename.specs.Renaming.{forward}
 use Rattle.rls_epoch.proofs.Moving.{image_more, increasing_taken, fewer_taken, renaming_order}
-use Rattle.rls_epoch.proofs.RunsAgain.{idents_again}
 use Rattle.rls_epoch.proofs.images.runs_renamed.Goals as goal
 
 pub append_all-requires-clause-above : goal.append_all-requires-clause-above
@@ -18,7 +18,7 @@ append_all-requires-clause-above c =
     let same = c.as_slice-run-items.ensures.runs in
     let g : slice_get rs k ≡ Some r = slice_get_read rs _ k r (ap length same) c.loop-run-test.true (rw same at c.run-item.is) in
     let e = image_more f rs k r g c.loop-run.renamed (idents_of c.in_ok-forward_run.field-0) c.loop-run.invariant c.in_ok-forward_run.ensures.image.idents in
-    let a = subst (λ (xs : List (List Tuple)). AreIdents xs) (sym (idents_again c.args.ids.now)) c.total-total.ensures.idents in
+    let a = subst (λ (xs : List (List Tuple)). AreIdents xs) (sym (idents_of_runs c.args.ids.now)) c.total-total.ensures.idents in
     ap is_increasing e ∙ increasing_taken f (renaming_order c.args.renaming.now c.total-some.ensures.former) rs (k + 1) a
 
 pub append_all-requires-clause-total : goal.append_all-requires-clause-total
@@ -32,7 +32,7 @@ append_all-requires-clause-total c =
     let more = idents_of c.in_ok-forward_run.field-0 in
     let e = ap length (image_more f rs k r g c.loop-run.renamed more c.loop-run.invariant c.in_ok-forward_run.ensures.image.idents) in
     let h = fewer_taken f rs (k + 1) in
-    let a = ap length (idents_again c.args.ids.now) in
+    let a = ap length (idents_of_runs c.args.ids.now) in
     let t = c.total-total.ensures.total in
     omega (arith, e, h, a, t, length-append c.loop-run.renamed more)
 
@@ -53,4 +53,4 @@ returns c =
     let f = forward c.args.renaming.now in
     let same = ap length c.as_slice-run-items.ensures.runs in
     let all : length rs ≤ k = omega (arith, same) in
-    record { renamed = c.loop-run.invariant ∙ ap (λ qs. map f (idents_of qs)) (take_all k rs all) ∙ ap (map f) (idents_again c.args.ids.now) }
+    record { renamed = c.loop-run.invariant ∙ ap (λ qs. map f (idents_of qs)) (take_all k rs all) ∙ ap (map f) (idents_of_runs c.args.ids.now) }

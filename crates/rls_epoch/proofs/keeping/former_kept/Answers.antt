@@ -3,8 +3,9 @@ use Rattle.std.specs.Prelude.{if◌then◌else◌, slice_get}
 use Rattle.std.proofs.lemmas.Option.{slice_get-get_or}
 use Rattle.rls_ident.proofs.Members.{lt_test}
 use Rattle.rls_epoch.specs.Marks.{kept_sum}
-use Rattle.rls_epoch.proofs.Compacting.{at_most_one, dropped_get, former_get, kept_sum_more, kept_sum_most, kept_sum_none, kept_sum_taken}
+use Rattle.rls_epoch.proofs.Compacting.{at_most_one, dropped_get, kept_sum_more, kept_sum_most, kept_sum_none, kept_sum_taken}
 use Rattle.rls_epoch.proofs.keeping.former_kept.Goals as goal
+use Rattle.rls_epoch.proofs.Sorting.{get_of}
 
 pub loop-i-init : goal.loop-i-init
 loop-i-init c = sym (kept_sum_none (drop 1 c.args.marks.now))
@@ -17,7 +18,7 @@ loop-i-preserved-then-mark_of-le1 c =
     let w = c.requires.whole in
     let e = c.mark_of.ensures.mark in
     let g = dropped_get c.args.marks.now i (omega arith) in
-    let p = former_get ps i (omega arith) in
+    let p = get_of ps i (omega arith) in
     let next : i + 1 ≡ suc i = omega arith in
     let m = kept_sum_more ms ps i (get_or c.args.marks.now (i + 1) 0) p.0 p.1 g in
     let none = ap (λ (b : Bool). if b then length p.0.renaming.former else 0) (at_most_one (get_or c.args.marks.now (i + 1) 0) (omega arith)) in

@@ -7,8 +7,9 @@ use Rattle.std.proofs.lemmas.Option.{slice_get_read}
 use Rattle.rls_ident.proofs.Members.{lt_test, some_is}
 use Rattle.rls_epoch.specs.declared.placed.Placed.{Placed}
 use Rattle.rls_epoch.specs.Marks.{kept_placed, moved}
-use Rattle.rls_epoch.proofs.Compacting.{at_most_one, dropped_get, former_get, kept_placed_more, kept_placed_none, read_rest, swap_front, swap_rest}
+use Rattle.rls_epoch.proofs.Compacting.{at_most_one, dropped_get, kept_placed_more, kept_placed_none, read_rest, swap_front, swap_rest}
 use Rattle.rls_epoch.proofs.keeping.keep_nodes.Goals as goal
+use Rattle.rls_epoch.proofs.Sorting.{get_of}
 
 pub loop-i-init : goal.loop-i-init
 loop-i-init c = record { fewer = omega arith; same = refl; front = sym (kept_placed_none c.args.marks.now (drop 1 c.args.marks.now)); rest = refl }
@@ -22,7 +23,7 @@ loop-i-preserved-then-mark_of-le1 c =
     let i = c.loop-i.i in
     let w : i < length old = omega arith in
     let h = c.requires.whole in
-    let p = former_get old i w in
+    let p = get_of old i w in
     let e = c.mark_of.ensures.mark in
     let next : i + 1 ≡ suc i = omega arith in
     let m = kept_placed_more all ms old i (get_or all (i + 1) 0) p.0 p.1 (dropped_get all i (omega arith)) in

@@ -3,10 +3,9 @@ use Rattle.std.specs.Prelude.{if◌then◌else◌, slice_get}
 use Rattle.std.proofs.Math.ListN.{length-set}
 use Rattle.std.proofs.lemmas.Grind.{drop_more_same}
 use Rattle.std.proofs.lemmas.Option.{slice_get_read}
-use Rattle.rls_ident.proofs.Members.{lt_test}
+use Rattle.rls_ident.proofs.Members.{lt_test, get_in}
 use Rattle.rls_epoch.specs.Marks.{kept_places}
 use Rattle.rls_epoch.proofs.Compacting.{at_most_one, kept_places_more, put_front, put_rest, read_rest}
-use Rattle.rls_epoch.proofs.Steps.{get_in}
 use Rattle.rls_epoch.proofs.keeping.keep_places.Goals as goal
 
 pub overflow_add-index : goal.overflow_add-index

@@ -3,11 +3,11 @@ use Rattle.std.proofs.Math.ListN.{length-set}
 use Rattle.std.proofs.lemmas.Option.{slice_get-get_or}
 use Rattle.rls_ident.specs.declared.epoch_name.EpochName.{EpochName}
 use Rattle.rls_ident.specs.declared.epoch_name.EpochName.TheVariants.{Origin}
+use Rattle.rls_ident.proofs.Members.{get_in}
 use Rattle.rls_epoch.specs.Marks.{AreNamed}
 use Rattle.rls_epoch.proofs.Left.{named_more}
 use Rattle.rls_epoch.proofs.Meeting.{at_is}
 use Rattle.rls_epoch.proofs.Sorting.{take_get}
-use Rattle.rls_epoch.proofs.Steps.{get_in}
 use Rattle.rls_epoch.proofs.retaining.marks_for.Goals as goal
 
 pub number_of-number-requires-clause-kept : goal.number_of-number-requires-clause-kept

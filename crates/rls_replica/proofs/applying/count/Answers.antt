@@ -1,4 +1,4 @@
-use Rattle.rls_ops.proofs.KeptRows.{length-raise}
+use Rattle.rls_ident.proofs.Vectors.{length-raise}
 use Rattle.rls_replica.proofs.applying.count.Goals as goal
 
 pub leave-requires : goal.leave-requires

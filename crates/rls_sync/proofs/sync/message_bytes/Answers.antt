@@ -2,7 +2,7 @@ use Rattle.std.proofs.Common.{◌≤◌, sym, subst, arith}
 use Rattle.rls_ops.specs.declared.message.Message.{Message}
 use Rattle.rls_ops.specs.Sizes.{message_size}
 use Rattle.rls_seen.specs.Seen.{members}
-use Rattle.rls_sync.proofs.Fronts.{message_fits}
+use Rattle.rls_seen.proofs.Sending.{message_fits}
 use Rattle.rls_sync.proofs.sync.message_bytes.Goals as goal
 
 pub encode_message-requires : goal.encode_message-requires

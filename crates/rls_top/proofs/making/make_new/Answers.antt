@@ -2,8 +2,8 @@ use Rattle.std.proofs.Common.{◌∙◌, [], Err, ap, ℕ, string_bytes}
 use Rattle.rls_report.specs.declared.failures.Failure.TheVariants.{BadMembers, BadMe}
 use Rattle.rls_top.specs.declared.stop.Stop.TheVariants.{Failed}
 use Rattle.rls_model.specs.History.{Fresh}
+use Rattle.rls_file.proofs.Telling.{tells_told}
 use Rattle.rls_top.proofs.OnFiles.{told_fresh}
-use Rattle.rls_top.proofs.Runs.{tells_told}
 use Rattle.rls_top.proofs.Pieces.{for_told, bad_members, bad_me}
 use Rattle.rls_top.proofs.making.make_new.Goals as goal
 

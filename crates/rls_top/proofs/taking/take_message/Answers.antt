@@ -2,9 +2,9 @@ use Rattle.std.proofs.Common.{◌∙◌, Err, ap, refl}
 use Rattle.rls_replica.specs.declared.taking.TakeError.TheVariants as errors
 use Rattle.rls_replica.specs.Faults.{IsForeign}
 use Rattle.rls_file.specs.Journals.{told}
+use Rattle.rls_file.proofs.Telling.{tells_told}
 use Rattle.rls_top.proofs.OnFiles.{foreign_due, same_end, taken_due}
 use Rattle.rls_model.specs.Taking.{take_message}
-use Rattle.rls_top.proofs.Runs.{tells_told}
 use Rattle.rls_top.proofs.Pieces.{ok_is_not_err}
 use Rattle.rls_top.proofs.taking.take_message.Goals as goal
 

@@ -3,13 +3,14 @@ use Rattle.std.specs.Ordering.{is_lt}
 use Rattle.rls_ident.specs.declared.epoch_name.EpochName.{EpochName}
 use Rattle.rls_ident.specs.declared.epoch_name.EpochName.TheVariants.{Of}
 use Rattle.rls_ident.specs.EpochNames.{name_eq}
+use Rattle.rls_ident.proofs.Members.{or_false}
 use Rattle.rls_rename.specs.Tree.{Node, Epochs, has_node, is_kept, epoch_cmp, greatest, AreNodes, AreBelow}
 use Rattle.rls_rename.proofs.Kept.{greatest_kept}
 use Rattle.rls_epoch.specs.declared.placed.Placed.{Placed}
 use Rattle.rls_epoch.specs.Links.{epoch_at}
 use Rattle.rls_epoch.specs.Seen.{EpochsSeen, nodes_of, AreLaid, OpensGreatest}
 use Rattle.rls_epoch.proofs.Meeting.{at_is}
-use Rattle.rls_epoch.proofs.Opened.{apart, greatest_opened, split}
+use Rattle.rls_epoch.proofs.Opened.{apart, greatest_opened}
 use Rattle.rls_epoch.proofs.epochs.Epochs.opens_greatest.Goals as goal
 
 pub number_of-last-requires-clause-kept : goal.number_of-last-requires-clause-kept
@@ -33,7 +34,7 @@ returns c = record {
       let last : epoch_at top ps c.number_of-last.result ≡ greatest top ns =
       at_is top ps c.number_of-last.result c.greatest.result c.number_of-last.ensures.number ∙ (c.greatest.ensures.greatest ∙ ap (λ (E : Epochs). greatest E.top E.nodes) e) in
       let up = at_is top ps c.number_of-up.result c.args.parent c.number_of-up.ensures.number in
-      let two = split (name_eq n top) (has_node ns n) fresh in
+      let two = or_false (name_eq n top) (has_node ns n) fresh in
       let d : AreNodes (node ∷ ns) = (f, two.1, laid.nodes) in
       let b : AreBelow top (node ∷ ns) = (parent, two.0, laid.below) in
       let kept : is_kept top ns (epoch_at top ps c.number_of-last.result) ≡ true = ap (is_kept top ns) last ∙ greatest_kept top ns in

@@ -2,7 +2,8 @@ use Rattle.std.proofs.Common.{ap, ◌∙◌, arith}
 use Rattle.std.specs.Prelude.{pos}
 use Rattle.std.proofs.lemmas.Int.{ints}
 use Rattle.rls_ident.specs.Identifiers.{shifted}
-use Rattle.rls_runs.proofs.RunEnds.{last_offset, run_end}
+use Rattle.rls_ident.proofs.Shifted.{last_offset}
+use Rattle.rls_runs.proofs.RunEnds.{run_end}
 use Rattle.rls_runs.proofs.RunOrder.{run_ident}
 use Rattle.rls_rename.proofs.stretch.Stretch.behind.Goals as goal
 

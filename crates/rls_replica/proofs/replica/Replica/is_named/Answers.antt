@@ -1,7 +1,7 @@
 use Rattle.std.proofs.Common.{◌≡◌, ◌∙◌, ◌+◌, ◌||◌, Some, drop, sym, subst, ap}
 use Rattle.std.specs.Prelude.{slice_get}
 use Rattle.rls_ident.specs.Lists.{IsIn}
-use Rattle.rls_model.proofs.WorldsLists.{got_in}
+use Rattle.rls_ident.proofs.Members.{get_in}
 use Rattle.rls_seen.specs.Seen.{Seen}
 use Rattle.rls_replica.specs.Lookups.{is_named_over}
 use Rattle.rls_replica.proofs.Targets.{named_more}
@@ -9,7 +9,7 @@ use Rattle.rls_replica.proofs.replica.Replica.is_named.Goals as goal
 
 pub names-requires-clause-logged : goal.names-requires-clause-logged
 names-requires-clause-logged c =
-    subst (λ (s : Seen). IsIn c.op.result.now s.log) c.self.view_is (got_in c.self.inside.log.ops c.loop-i.i c.op.result.now c.op.ensures.op)
+    subst (λ (s : Seen). IsIn c.op.result.now s.log) c.self.view_is (get_in c.self.inside.log.ops c.loop-i.i c.op.result.now c.op.ensures.op)
 
 pub returns-then-branch : goal.returns-then-branch
 returns-then-branch c =

@@ -1,10 +1,11 @@
 use Rattle.std.proofs.Common.{◌≡◌, ◌∙◌, ◌<◌, ◌&&◌, not, sym, subst, ap, slice_index}
 use Rattle.rls_ident.specs.Lists.{IsIn}
+use Rattle.rls_doc.proofs.Places.{found_known}
 use Rattle.rls_seen.specs.Seen.{Seen, stable_over, translate_over}
 use Rattle.rls_seen.proofs.Needed.{log_author}
 use Rattle.rls_replica.specs.Lookups.{is_named_by}
 use Rattle.rls_replica.specs.View.{seen}
-use Rattle.rls_replica.proofs.Targets.{found_known, named_there, uncovered, unstable_in}
+use Rattle.rls_replica.proofs.Targets.{named_there, uncovered, unstable_in}
 use Rattle.rls_replica.proofs.replica.Replica.names.Goals as goal
 
 pub get-requires : goal.get-requires

@@ -1,5 +1,5 @@
 use Rattle.std.proofs.Common.{◌∙◌, sym}
-use Rattle.rls_ops.proofs.KeptRows.{length-raise}
+use Rattle.rls_ident.proofs.Vectors.{length-raise}
 use Rattle.rls_stable.proofs.acks.Acks.raise.Goals as goal
 
 pub find_stable-requires : goal.find_stable-requires

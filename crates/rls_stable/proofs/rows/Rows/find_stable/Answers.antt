@@ -1,8 +1,8 @@
 use Rattle.std.proofs.Common.{◌≡◌, length, ◌∙◌, sym, arith, ap}
 use Rattle.rls_ident.specs.Vectors.{meet}
+use Rattle.rls_ident.proofs.Vectors.{length-join, length-meet, meet-join}
 use Rattle.rls_ops.specs.Rows.{AcksSeen, stable_of, least_of, awaited}
-use Rattle.rls_ops.proofs.KeptRows.{length-join, length-meet}
-use Rattle.rls_stable.proofs.Least.{meet-join, awaits_row}
+use Rattle.rls_stable.proofs.Least.{awaits_row}
 use Rattle.rls_stable.proofs.rows.Rows.find_stable.Goals as goal
 
 pub meet_in-requires : goal.meet_in-requires

@@ -1,5 +1,5 @@
--- The maximal runs of a strictly increasing list have its identifiers and stand apart.
-use Rattle.std.proofs.Common.{◌≡◌, ℕ, ◌+◌, ◌-◌, Bool, true, false, List, [], ◌∷◌, ◌++◌, Some, None, refl, sym, ap, ◌∙◌, arith, add-one, cond}
+-- The maximal runs of a strictly increasing list stand apart.
+use Rattle.std.proofs.Common.{◌≡◌, ℕ, ◌+◌, ◌-◌, true, false, List, [], ◌∷◌, Some, None, refl, sym, ap, ◌∙◌, arith}
 use Rattle.std.specs.Prelude.{ℤ, pos, ◌+ℤ◌, not, ◌&&◌, nat_lt}
 use Rattle.std.proofs.lemmas.Int.{ints}
 use Rattle.rls_ident.specs.declared.tuple.Tuple.{Tuple}
@@ -7,20 +7,7 @@ use Rattle.rls_ident.specs.Identifiers.{ident_lt, shifted, follows}
 use Rattle.rls_ident.proofs.Ends.{eq_same}
 use Rattle.rls_ident.proofs.Members.{bool_cases, and_left, and_right, and_true, lt_is, lt_test}
 use Rattle.rls_ident.proofs.Shifted.{shifted_none, shifted_shifted}
-use Rattle.rls_runs.specs.Runs.{run_idents, put_run, runs_of, run_last, is_increasing, is_apart, are_apart, idents_of}
-
-put_idents : (x : List Tuple) (rs : List (List Tuple × ℕ)) → idents_of (put_run x rs) ≡ x ∷ idents_of rs
-put_idents x [] = refl
-put_idents x ((y, n) ∷ rs) = go (follows y x) refl
-  where
-    go : (b : Bool) → follows y x ≡ b → idents_of (cond b ((x, n + 1) ∷ rs) ((x, 1) ∷ (y, n) ∷ rs)) ≡ x ∷ run_idents y n ++ idents_of rs
-    go true e = rw add-one (ap (λ z. x ∷ run_idents z n ++ idents_of rs) (sym (eq_same y (shifted (pos 1) x) e)))
-    go false e = refl
-
--- the identifiers of the maximal runs
-pub idents_again : (xs : List (List Tuple)) → idents_of (runs_of xs) ≡ xs
-idents_again [] = refl
-idents_again (x ∷ xs) = put_idents x (runs_of xs) ∙ ap (λ ys. x ∷ ys) (idents_again xs)
+use Rattle.rls_runs.specs.Runs.{put_run, runs_of, run_last, is_increasing, is_apart, are_apart}
 
 -- the first run begins with x
 abbrev BeginsWith : List Tuple → List (List Tuple × ℕ) → Type 0
@@ -69,9 +56,8 @@ apart_put x ((y, n) ∷ rs) above h = bool_cases (follows y x) joined alone
         let apart : is_apart (Some (x, 1)) (y, n) ≡ true = ap (λ w. ident_lt w y && not (follows y w)) l ∙ and_true (ident_lt x y) (not (follows y x)) above (ap not f) in
         rw f (and_true (nat_lt 0 n && is_apart (Some (x, 1)) (y, n)) (are_apart (Some (y, n)) rs) (and_true (nat_lt 0 n) (is_apart (Some (x, 1)) (y, n)) some apart) rest)
 
--- they stand apart
-pub apart_again : (xs : List (List Tuple)) → is_increasing xs ≡ true → are_apart None (runs_of xs) ≡ true
-apart_again [] h = refl
-apart_again (x ∷ []) h = apart_put x [] tt refl
-apart_again (x ∷ (y ∷ ys)) h =
-    apart_put x (runs_of (y ∷ ys)) (above x y (runs_of (y ∷ ys)) (and_left (ident_lt x y) (is_increasing (y ∷ ys)) h) (begins y (runs_of ys))) (apart_again (y ∷ ys) (and_right (ident_lt x y) (is_increasing (y ∷ ys)) h))
+pub apart_runs : (xs : List (List Tuple)) → is_increasing xs ≡ true → are_apart None (runs_of xs) ≡ true
+apart_runs [] h = refl
+apart_runs (x ∷ []) h = apart_put x [] tt refl
+apart_runs (x ∷ (y ∷ ys)) h =
+    apart_put x (runs_of (y ∷ ys)) (above x y (runs_of (y ∷ ys)) (and_left (ident_lt x y) (is_increasing (y ∷ ys)) h) (begins y (runs_of ys))) (apart_runs (y ∷ ys) (and_right (ident_lt x y) (is_increasing (y ∷ ys)) h))
