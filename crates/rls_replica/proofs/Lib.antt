@@ -9,6 +9,7 @@ pub mod Messages
 pub mod Characters
 pub mod EditFaults
 pub mod LeaveFaults
+pub mod KeptNames
 pub mod EditLaws
 pub mod EditedText
 pub mod Neighbours

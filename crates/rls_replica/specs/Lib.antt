@@ -4,4 +4,5 @@ pub mod Faults
 pub mod Changing
 pub mod Steps
 pub mod Editing
+pub mod Names
 pub mod View

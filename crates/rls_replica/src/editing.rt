@@ -10,6 +10,7 @@ ghost use Rattle.rls_seen.specs.Edits.{edit_fault_over, made_over, made_body, ed
 ghost use Rattle.rls_seen.specs.Sane.{IsSane};
 ghost use Rattle.rls_seen.specs.Seen.{own_count, idents_over, text_over};
 ghost use Rattle.rls_seen.specs.Stands.{StandsFor};
+ghost use Rattle.rls_replica.specs.Names.{KeepsNames};
 ghost use Rattle.rls_replica.specs.Editing.{early_fault, edited_text, IsLeaveFault, IsOneRun};
 
 use crate::replica::Replica;
@@ -41,6 +42,7 @@ impl Replica {
         ensures seq { IfOk result (λ n. n ≡ own_count self.old + 1) }
         ensures after { OnOk result (self.new ≡ edited self.old edit.now) }
         ensures err { OnErr result (self.new ≡ self.old) }
+        ensures names { KeepsNames self.old self.new }
 
         // A leave fits unless the member has left or its numbers are spent.
         ensures leave { IfErr result (λ e. edit.now ≡ Leave → IsLeaveFault e) }

@@ -8,6 +8,7 @@ ghost use Rattle.rls_model.specs.WellFormed.{IsOp};
 ghost use Rattle.rls_seen.specs.Over.{answer_over, after_answer, received, replayed, holding, release_over, released};
 ghost use Rattle.rls_seen.specs.Sane.{MayWait};
 ghost use Rattle.rls_seen.specs.Stands.{StandsFor};
+ghost use Rattle.rls_replica.specs.Names.{KeepsNames};
 ghost use Rattle.rls_replica.specs.Releases.{release_in};
 
 use crate::replica::Replica;
@@ -26,6 +27,7 @@ impl Replica {
         ensures answer { IfOk result (λ r. answer_of r ≡ answer_over false self.old op) }
         ensures after { OnOk result (self.new ≡ received self.old op) }
         ensures err { OnErr result (self.new ≡ self.old) }
+        ensures names { KeepsNames self.old self.new }
 
         // For every history and waiting operations that the replica stands for.
         ensures stands { IfOk result (λ r. (t : State) → StandsFor self.old t → (answer_of r ≡ receive t op) × StandsFor self.new (receive_after t op)) }
@@ -40,6 +42,7 @@ impl Replica {
         ensures answer { IfOk result (λ r. answer_of r ≡ answer_over true self.old op) }
         ensures after { OnOk result (self.new ≡ replayed self.old op) }
         ensures err { OnErr result (self.new ≡ self.old) }
+        ensures names { KeepsNames self.old self.new }
 
         // For every history and waiting operations that the replica stands for.
         ensures stands { IfOk result (λ r. (t : State) → StandsFor self.old t → (answer_of r ≡ replay t op) × StandsFor self.new (replay_after t op)) }
@@ -91,6 +94,7 @@ impl Replica {
         ensures answer { IfOk result (λ r. release_in r ≡ release_over self.old) }
         ensures after { OnOk result (self.new ≡ released self.old) }
         ensures err { OnErr result (self.new ≡ self.old) }
+        ensures names { KeepsNames self.old self.new }
 
         // For every history and waiting operations that the replica stands for.
         ensures stands { IfOk result (λ r. (t : State) → StandsFor self.old t → (release_in r ≡ release t) × StandsFor self.new (release_after t)) }

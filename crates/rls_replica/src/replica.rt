@@ -11,6 +11,7 @@ ghost use Rattle.rls_seen.specs.Over.{acknowledged};
 ghost use Rattle.rls_seen.specs.Sane.{IsSane};
 ghost use Rattle.rls_seen.specs.Stands.{StandsFor};
 ghost use Rattle.rls_replica.specs.Faults.{IsNoCount, IsNoMember};
+ghost use Rattle.rls_replica.specs.Names.{KeepsNames};
 
 use rls_causal::Held;
 use rls_epoch::Epochs;
@@ -130,6 +131,7 @@ impl Replica {
         requires counts { length vector.now ≡ members self.old }
         ensures answer { result ≡ counts self.old.acks from vector.now }
         ensures after { self.new ≡ acknowledged self.old from vector.now }
+        ensures names { KeepsNames self.old self.new }
 
         // For every history and waiting operations that the replica stands for.
         ensures stands { (t : State) → StandsFor self.old t → (result ≡ is_counted t.history from vector.now) × StandsFor self.new (acknowledge t from vector.now) }

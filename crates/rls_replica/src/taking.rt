@@ -14,6 +14,7 @@ ghost use Rattle.rls_replica.specs.Releases.{reason_in};
 ghost use Rattle.rls_seen.specs.Messages.{message_over, release_step, with_releases, started, take_ops, taken_over, taken_of, AreOps, IsPartTaken};
 ghost use Rattle.rls_seen.specs.Stands.{StandsFor};
 ghost use Rattle.rls_replica.specs.Steps.{course, CountsReleased, IsPartOfOps, HasRoom, AreFew, IsOnWay, with_receipt, with_reason};
+ghost use Rattle.rls_replica.specs.Names.{KeepsNames};
 ghost use Rattle.rls_replica.specs.Faults.{IsForeign};
 
 use crate::replica::Replica;
@@ -72,6 +73,7 @@ impl Replica {
         ensures ok { OnOk result (course self.new taken.new ≡ with_releases (course self.old taken.old)) }
         ensures after { OnOk result (self.new ≡ released_all self.old) }
         ensures err { OnErr result (IsPartReleased self.old self.new) }
+        ensures names { KeepsNames self.old self.new }
         ensures arrived { (n : ℕ) → AreFew n taken.old → AreFew n taken.new }
 
         // For every history and waiting operations that the replica stands for.
@@ -125,6 +127,7 @@ impl Replica {
         ensures taken { IfOk result (λ taken. taken ≡ taken_of (take_ops (started None self.old) ops)) }
         ensures after { OnOk result (self.new ≡ (take_ops (started None self.old) ops).seen) }
         ensures err { OnErr result (IsPartOfOps self.old ops self.new) }
+        ensures names { KeepsNames self.old self.new }
 
         // For every history and waiting operations that the replica stands for.
         ensures stands { IfOk result (λ taken. (t : State) → StandsFor self.old t → (taken ≡ model.taken (model.take_ops (model.started None t) ops)) × StandsFor self.new (model.take_ops (model.started None t) ops).state) }
@@ -155,6 +158,7 @@ impl Replica {
         ensures other_group { (g n : ℕ) → (IsErrOf result (TakeError.OtherGroup g n) ↔ ((g ≡ message.group) × (n ≡ message.members) × IsForeign self.old message)) }
         ensures foreign { (g n : ℕ) → IsErrOf result (TakeError.OtherGroup g n) → self.new ≡ self.old }
         ensures cut { IsErrOf result TakeError.OutOfMemory → IsPartTaken self.old message self.new }
+        ensures names { KeepsNames self.old self.new }
 
         // For every history and waiting operations that the replica stands for.
         ensures stands { IfOk result (λ taken. (t : State) → StandsFor self.old t → (taken ≡ model.taken (take_message t message)) × StandsFor self.new (take_message t message).state) }

@@ -8,8 +8,10 @@ use Rattle.rls_model.specs.Taking.{acknowledge}
 use Rattle.rls_seen.proofs.Counting.{members_acknowledged}
 use Rattle.rls_seen.proofs.Noting.{acknowledged_alike, acknowledged_stands}
 use Rattle.rls_seen.proofs.Staying.{acknowledged_sane}
+use Rattle.rls_replica.specs.Names.{KeepsNames}
 use Rattle.rls_replica.specs.View.{seen}
 use Rattle.rls_replica.proofs.Whole.{whole_next}
+use Rattle.rls_replica.proofs.KeptNames.{acknowledged_names}
 use Rattle.rls_replica.proofs.replica.Replica.acknowledge.Goals as goal
 
 after : goal.returns-clause-after
@@ -32,3 +34,6 @@ returns-clause-stands c = λ t h.
       c.note.ensures.answer ∙ (ap (λ (u : Seen). counts u.acks c.args.from v) c.self.view_is ∙ acknowledged_alike s t c.args.from v c.requires.member h),
       subst (λ (u : Seen). StandsFor u (acknowledge t c.args.from v)) (sym (after c)) (acknowledged_stands s t c.args.from v c.requires.member (c.requires.counts, c.len-len.ensures.bounded) h),
     )
+
+pub returns-clause-names : goal.returns-clause-names
+returns-clause-names c = subst (λ (u : Seen). KeepsNames c.args.self.now u) (sym (after c)) (acknowledged_names c.args.self.now c.args.from c.args.vector.now)

@@ -1,12 +1,13 @@
-use Rattle.std.proofs.Common.{◌≡◌, ◌+◌, ◌∙◌, ap, sym, subst, None, Option}
+use Rattle.std.proofs.Common.{◌≡◌, ◌+◌, ◌∙◌, ap, sym, subst, None}
 use Rattle.std.proofs.lemmas.Result.{err_from_is_err_and}
 use Rattle.rls_model.specs.declared.edit.Edit.{Edit}
-use Rattle.rls_seen.specs.Edits.{edit_fault_over, IsFault}
+use Rattle.rls_seen.specs.Edits.{edit_fault_over, made_over, IsFault}
 use Rattle.rls_seen.specs.Seen.{text_over}
 use Rattle.rls_seen.proofs.Editing.{edited_stands, edit_faults_alike, own_alike}
 use Rattle.rls_replica.proofs.EditLaws.{refused_alike, one_run}
 use Rattle.rls_replica.proofs.EditedText.{text-edited}
 use Rattle.rls_replica.proofs.LeaveFaults.{leave_fault}
+use Rattle.rls_replica.proofs.KeptNames.{accepted_names, names_unchanged}
 use Rattle.rls_replica.proofs.replica.Replica.edit.Goals as goal
 
 pub returns-in_err-seq-clause-refused : goal.returns-in_err-seq-clause-refused
@@ -40,3 +41,9 @@ returns-clause-one_run c = λ is t h.
     let e = c.in_ok-seq.ensures in
     let f = subst (λ (x : Edit). edit_fault_over c.args.self.now x ≡ None) is e.fits in
     rw (e.after, is) (one_run c.args.self.now t h f)
+
+pub returns-in_err-seq-clause-names : goal.returns-in_err-seq-clause-names
+returns-in_err-seq-clause-names c = names_unchanged c.args.self.now _ c.in_err-seq.ensures.err
+
+pub returns-clause-names : goal.returns-clause-names
+returns-clause-names c = rw c.in_ok-seq.ensures.after (accepted_names c.args.self.now (made_over c.args.self.now c.args.edit.now))

@@ -5,6 +5,7 @@ use Rattle.rls_seen.proofs.Repeating.{all_done, all_more, fewer_wait, part_more}
 use Rattle.rls_seen.proofs.Releasing.{released_all_stands}
 use Rattle.rls_replica.specs.Steps.{course}
 use Rattle.rls_replica.proofs.Courses.{none_released, step_done, releases_done, releases_more, parts_sum}
+use Rattle.rls_replica.proofs.KeptNames.{all_names, part_released_names}
 use Rattle.rls_replica.proofs.replica.Replica.release_all.Goals as goal
 
 pub returns-in_err-release_one-clause-err : goal.returns-in_err-release_one-clause-err
@@ -49,3 +50,10 @@ returns-clause-after c = after c
 
 pub returns-clause-stands : goal.returns-clause-stands
 returns-clause-stands c = λ t h. rw (after c) (released_all_stands c.args.self.now t h)
+
+pub returns-in_err-release_one-clause-names : goal.returns-in_err-release_one-clause-names
+returns-in_err-release_one-clause-names c =
+    part_released_names c.args.self.now c.release_one.new.self (parts_sum c.args.self.now c.releases.self c.release_one.new.self c.releases.invariant.part c.in_err-release_one.ensures.err)
+
+pub returns-clause-names : goal.returns-clause-names
+returns-clause-names c = rw (after c) (all_names c.args.self.now)

@@ -4,6 +4,7 @@ use Rattle.rls_seen.specs.Seen.{Seen}
 use Rattle.rls_seen.specs.Over.{answer_over}
 use Rattle.rls_seen.specs.Stands.{StandsFor}
 use Rattle.rls_seen.proofs.Receiving.{replayed_is, replayed_stands}
+use Rattle.rls_replica.proofs.KeptNames.{names_unchanged, replayed_names}
 use Rattle.rls_replica.proofs.replica.Replica.replay.Goals as goal
 
 after : goal.returns-clause-after
@@ -17,3 +18,9 @@ returns-clause-stands c = λ t h.
     let e = c.in_ok-receipt.ensures in
     let law = replayed_stands c.args.self.now t c.args.op e.whole h in
     (e.answer ∙ law.0, subst (λ (s : Seen). StandsFor s (replay_after t c.args.op)) (sym (after c)) law.1)
+
+pub returns-in_err-receipt-clause-names : goal.returns-in_err-receipt-clause-names
+returns-in_err-receipt-clause-names c = names_unchanged c.args.self.now _ c.in_err-receipt.ensures.err
+
+pub returns-clause-names : goal.returns-clause-names
+returns-clause-names c = rw (after c) (replayed_names c.args.self.now c.args.op)

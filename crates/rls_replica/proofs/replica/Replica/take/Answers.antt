@@ -7,6 +7,7 @@ use Rattle.rls_seen.specs.Stands.{StandsFor}
 use Rattle.rls_seen.proofs.Taking.{taken_alike}
 use Rattle.rls_replica.proofs.Cut.{message_part, message_part_stands}
 use Rattle.rls_replica.proofs.Courses.{message_counts, message_seen, members_ops}
+use Rattle.rls_replica.proofs.KeptNames.{names_on}
 use Rattle.rls_replica.proofs.replica.Replica.take.Goals as goal
 
 pub returns-in_err-taken-clause-cut : goal.returns-in_err-taken-clause-cut
@@ -61,3 +62,6 @@ returns-clause-stands c = λ t h.
       returns-clause-taken c ∙ law.0,
       subst (λ (u : Seen). StandsFor u (take_message t m).state) (sym (after c)) law.1,
     )
+
+pub returns-clause-names : goal.returns-clause-names
+returns-clause-names c = names_on c.args.self.now c.take_ops.new.self c.acknowledge.new.self c.take_ops.ensures.names c.acknowledge.ensures.names
