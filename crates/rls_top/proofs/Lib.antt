@@ -1,3 +1,4 @@
+pub mod Early
 pub mod Endings
 pub mod Pieces
 pub mod Beginnings

@@ -12,8 +12,8 @@ use Rattle.rls_report.specs.declared.failures.Failure.TheVariants.{NotMember, Ba
 use Rattle.rls_top.specs.declared.made.Made.{Made}
 use Rattle.rls_top.specs.declared.stop.Stop.{Stop}
 use Rattle.rls_top.specs.declared.stop.Stop.TheVariants.{Failed}
-use Rattle.rls_top.specs.Due.{Stops, refused_lines, due_of_send, due_of_new}
-use Rattle.rls_top.specs.Made.{IsMade, IsAsDue, StopsAsDue}
+use Rattle.rls_top.specs.Due.{Stops, refused_lines, due_of_send, due_of_new, stop_of_numbers}
+use Rattle.rls_top.specs.Made.{EndsBy, IsMade, IsAsDue, StopsAsDue}
 use Rattle.rls_replica.specs.Faults.{IsNoCount, IsNoMember}
 
 -- an answer isn't an error
@@ -51,12 +51,23 @@ no_count n (inr h) =
     let some : ltb 0 n ≡ true = grind (arith, nat_tests) in
     rw (some, many) refl
 
-pub bad_members : (group me members n : ℕ) (stop : Stop) (kept : Option (List ℕ)) → n ≡ members → IsNoCount members → stop ≡ Failed (BadMembers n) → StopsAsDue stop (due_of_new group me members kept)
-bad_members group me members n stop kept e none is = rw (is, no_count members none, e) refl
+-- numbers out of range
+pub no_members : (me members : ℕ) → IsNoCount members → stop_of_numbers me members ≡ Some (Failed (BadMembers members))
+no_members me members none = rw (no_count members none) refl
 
-pub bad_me : (group me members n : ℕ) (stop : Stop) (kept : Option (List ℕ)) → n ≡ me → IsNoMember me members → stop ≡ Failed (BadMe n) → StopsAsDue stop (due_of_new group me members kept)
-bad_me group me members n stop kept e none is =
+pub no_me : (me members : ℕ) → IsNoMember me members → stop_of_numbers me members ≡ Some (Failed (BadMe me))
+no_me me members none =
     let some : ltb 0 members ≡ true = let h = none.0 in grind (arith, nat_tests) in
     let few : leb members 64 ≡ true = let h = none.1 in grind (arith, nat_tests) in
     let past : ltb me members ≡ false = let h = none.2 in grind (arith, nat_tests) in
-    rw (is, some, few, past, e) refl
+    rw (some, few, past) refl
+
+-- they end the command
+pub ends_by_numbers : (me members : ℕ) (stop s : Stop) (X : Type 0) → stop_of_numbers me members ≡ Some s → stop ≡ s → X → IfSome (stop_of_numbers me members) (λ s. EndsBy (Err stop) s × X)
+ends_by_numbers me members stop s X e is x = rw e (inl (ap Err is), x)
+
+pub bad_members : (group me members n : ℕ) (stop : Stop) (kept : Option (List ℕ)) → n ≡ members → IsNoCount members → stop ≡ Failed (BadMembers n) → StopsAsDue stop (due_of_new group me members kept)
+bad_members group me members n stop kept e none is = rw (is, no_members me members none, e) refl
+
+pub bad_me : (group me members n : ℕ) (stop : Stop) (kept : Option (List ℕ)) → n ≡ me → IsNoMember me members → stop ≡ Failed (BadMe n) → StopsAsDue stop (due_of_new group me members kept)
+bad_me group me members n stop kept e none is = rw (is, no_me me members none, e) refl

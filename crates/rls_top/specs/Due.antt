@@ -146,12 +146,21 @@ due_of_fresh group me members (Ok None) = stores (saved (record { history = Fres
 due_of_fresh group me members (Ok (Some bytes)) = Stops (Failed ReplicaExists)
 due_of_fresh group me members (Err stop) = Stops stop
 
+-- the end for numbers that are out of range
+abbrev pub stop_of_numbers : ℕ → ℕ → Option Stop
+stop_of_numbers me members =
+    if not (is_member_count members) then Some (Failed (BadMembers members))
+    else if not (nat_lt me members) then Some (Failed (BadMe me))
+    else None
+
+-- what is called for, unless something ends the command before
+abbrev pub unless_stopped : Option Stop → Due → Due
+unless_stopped None d = d
+unless_stopped (Some stop) d = Stops stop
+
 -- and where its numbers are in range
 abbrev pub due_of_new : ℕ → ℕ → ℕ → Option (List ℕ) → Due
-due_of_new group me members kept =
-    if not (is_member_count members) then Stops (Failed (BadMembers members))
-    else if not (nat_lt me members) then Stops (Failed (BadMe me))
-    else due_of_fresh group me members (loaded kept)
+due_of_new group me members kept = unless_stopped (stop_of_numbers me members) (due_of_fresh group me members (loaded kept))
 
 -- ---- commands
 
@@ -218,3 +227,22 @@ IsUnbuilt _ = ⊥
 -- the input, as far as the command looks at it, where it is told
 abbrev pub heard : Option Command → Option (List ℕ) → Option (List ℕ)
 heard c left = if reads_input c then left else Some []
+
+-- ---- what ends a command early
+
+-- the end that the words call for alone, before the keeper is called, where they call for one
+abbrev pub stop_of_words : Option Command → Option Stop
+stop_of_words None = Some (Failed Usage)
+stop_of_words (Some (New group me members)) = stop_of_numbers me members
+stop_of_words (Some Stat) = Some NotBuilt
+stop_of_words (Some (Trial seed steps)) = Some NotBuilt
+stop_of_words _ = None
+
+-- the end for a file that can't be used
+abbrev pub stop_in : Result State Stop → Option Stop
+stop_in (Ok s) = None
+stop_in (Err stop) = Some stop
+
+-- the end that the kept file calls for before the input is read, of a command that reads it, where it calls for one
+abbrev pub stop_of_file : Option Command → Option (List ℕ) → Option Stop
+stop_of_file c kept = if reads_input c then stop_in (state_in (loaded kept)) else None

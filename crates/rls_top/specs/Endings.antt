@@ -1,10 +1,12 @@
 -- How a command ends, given what it calls for.
 use Rattle.std.specs.Prelude.{◌≡◌, ◌⊎◌, ◌==◌, ℕ, List, Option, Some, None, if◌then◌else◌}
 use Rattle.rls_io.specs.Device.{Appends, Stores}
-use Rattle.rls_report.specs.declared.failures.Failure.TheVariants.{KeeperFault, SourceFault, SinkFault, OutOfMemory}
+use Rattle.rls_report.specs.declared.failures.Failure.TheVariants.{Usage, KeeperFault, SourceFault, SinkFault, OutOfMemory, TooLarge}
 use Rattle.rls_report.specs.Failures.{failure_line}
 use Rattle.rls_top.specs.Due.{Due, Makes, Stops, due, heard, due_status, due_line, stored_or}
-use Rattle.rls_top.specs.Stops.{IsPart}
+use Rattle.rls_top.specs.declared.stop.Stop.{Stop}
+use Rattle.rls_top.specs.declared.stop.Stop.TheVariants.{NotBuilt}
+use Rattle.rls_top.specs.Stops.{IsPart, stop_status, stop_line}
 use Rattle.rls_top.specs.Words.{command_of}
 
 -- this holds of the kept file and of the input, where both are told
@@ -22,6 +24,14 @@ IfTold words file left holds = Told file (heard (command_of words) left) (λ kep
 -- it is the one that is called for, or a device failed, or memory ran out
 abbrev pub IsStatus : Due → ℕ → Type 0 → Type 0 → Type 0 → Type 0
 IsStatus d n keeper input output = (n ≡ due_status d) ⊎ ((n ≡ 7) × keeper) ⊎ ((n ≡ 8) × input) ⊎ ((n ≡ 9) × output) ⊎ (n ≡ 10)
+
+-- it is that of this end, or memory ran out
+abbrev pub IsStatusAt : Stop → ℕ → Type 0
+IsStatusAt stop n = (n ≡ stop_status stop) ⊎ (n ≡ 10)
+
+-- or the keeper failed
+abbrev pub IsStatusAtFile : Stop → ℕ → Type 0 → Type 0
+IsStatusAtFile stop n keeper = (n ≡ stop_status stop) ⊎ ((n ≡ 7) × keeper) ⊎ (n ≡ 10)
 
 -- done, perhaps but for refused operations
 abbrev pub IsDone : ℕ → Type 0
@@ -51,6 +61,18 @@ line_at d n =
     else if n == 9 then failure_line SinkFault
     else if n == 10 then failure_line OutOfMemory
     else due_line d
+
+-- what is written to the errors at a status that has one line for all its causes
+abbrev pub own_line : ℕ → Option (List ℕ)
+own_line n =
+    if n == 1 then Some (failure_line Usage)
+    else if n == 7 then Some (failure_line KeeperFault)
+    else if n == 8 then Some (failure_line SourceFault)
+    else if n == 9 then Some (failure_line SinkFault)
+    else if n == 10 then Some (failure_line OutOfMemory)
+    else if n == 11 then Some (failure_line TooLarge)
+    else if n == 12 then Some (stop_line NotBuilt)
+    else None
 
 -- ---- the kept file
 

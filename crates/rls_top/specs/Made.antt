@@ -52,6 +52,14 @@ abbrev pub IsOfInput : Stop → Type 0
 IsOfInput (Failed SourceFault) = Unit {0}
 IsOfInput stop = IsInner stop
 
+-- it ended so, or memory ran out
+abbrev pub EndsBy : Result Made Stop → Stop → Type 0
+EndsBy r stop = (r ≡ Err stop) ⊎ (r ≡ Err (Failed OutOfMemory))
+
+-- or the keeper failed
+abbrev pub EndsByFile : Result Made Stop → Stop → Type 0
+EndsByFile r stop = EndsBy r stop ⊎ (r ≡ Err (Failed KeeperFault))
+
 -- ---- a part of the way
 
 -- this end was to come, or a device failed, or memory ran out

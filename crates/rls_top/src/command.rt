@@ -1,6 +1,6 @@
 //! The commands.
 
-ghost use Rattle.std.specs.Prelude.{◌≡◌, ◌≢◌, ◌↔◌, ◌<◌, ◌≤◌, ◌⊎◌, ℕ, Option, List, [], ◌∷◌, length, map, encode_utf8_all, string_bytes, Some, None, Ok, Err, IfOk, OnOk, OnErr, IfErr, IsTrue, IsFalse, Contains};
+ghost use Rattle.std.specs.Prelude.{◌≡◌, ◌≢◌, ◌↔◌, ◌<◌, ◌≤◌, ◌⊎◌, ℕ, Option, List, [], ◌∷◌, length, map, encode_utf8_all, string_bytes, Some, None, Ok, Err, IfOk, OnOk, OnErr, IfErr, IsTrue, IfSome, IsFalse, Contains};
 ghost use Rattle.rls_io.specs.Device.{Rose, Appends, Keeps};
 ghost use Rattle.rls_io.specs.Memory.{bytes_of};
 ghost use Rattle.rls_ops.specs.declared.message.Message.{Message};
@@ -21,9 +21,9 @@ ghost use Rattle.rls_top.specs.Headline.{Asks, Shows, Saves, IsFileTooLong, IsTo
 ghost use Rattle.rls_top.specs.Lines.{run_script, run_leave};
 ghost use Rattle.rls_top.specs.Words.{command_of};
 ghost use Rattle.rls_top.specs.Stops.{IsPart};
-ghost use Rattle.rls_top.specs.Due.{reads_input, may_store, is_for, IsUnbuilt};
-ghost use Rattle.rls_top.specs.Endings.{IfTold, IsStatus, IsDone, IsStored, IsWritten, IsPartWritten, IsKept, Stays, LeavesFile, line_at};
-ghost use Rattle.rls_top.specs.Made.{IsDue, IsLate, Reports, Leaves, IsStatusOf, line_of};
+ghost use Rattle.rls_top.specs.Due.{reads_input, may_store, is_for, stop_of_words, stop_of_file, IsUnbuilt};
+ghost use Rattle.rls_top.specs.Endings.{IfTold, IsStatus, IsStatusAt, IsStatusAtFile, IsDone, IsStored, IsWritten, IsPartWritten, IsKept, Stays, LeavesFile, line_at, own_line};
+ghost use Rattle.rls_top.specs.Made.{IsDue, EndsBy, EndsByFile, IsLate, Reports, Leaves, IsStatusOf, line_of};
 
 use crate::made::Made;
 use crate::making::make;
@@ -93,6 +93,8 @@ fn perform<K: Keeper, S: Source, W: Sink>(
     ensures due { IfTold (map string_bytes words.now) (K.file keeper.old) (S.left input.old) (λ d kept. IsDue result d) }
     ensures usage { result ≡ Err (Stop.Failed Failure.Usage) ↔ (command_of (map string_bytes words.now) ≡ None) }
     ensures unbuilt { IsUnbuilt (command_of (map string_bytes words.now)) → result ≡ Err Stop.NotBuilt }
+    ensures by_words { IfSome (stop_of_words (command_of (map string_bytes words.now))) (λ stop. EndsBy result stop × (keeper.new ≡ keeper.old)) }
+    ensures by_file { IfSome (K.file keeper.old) (λ kept. IfSome (stop_of_file (command_of (map string_bytes words.now)) kept) (EndsByFile result)) }
     ensures keeper { result ≡ Err (Stop.Failed Failure.KeeperFault) → Rose (K.faults keeper.old) (K.faults keeper.new) }
     ensures input { result ≡ Err (Stop.Failed Failure.SourceFault) → Rose (S.faults input.old) (S.faults input.new) }
     ensures output { result ≡ Err (Stop.Failed Failure.SinkFault) → Rose (W.faults output.old) (W.faults output.new) }
@@ -100,6 +102,7 @@ fn perform<K: Keeper, S: Source, W: Sink>(
     ensures nothing { IfErr result (λ stop. stop ≢ Stop.Failed Failure.SinkFault → W.told output.new ≡ W.told output.old) }
     ensures leaves { IfTold (map string_bytes words.now) (K.file keeper.old) (S.left input.old) (λ d kept. Leaves result d kept (K.file keeper.new)) }
     ensures stays { IfErr result (λ stop. stop ≢ Stop.Failed Failure.SinkFault → Stays (K.file keeper.old) (K.file keeper.new)) }
+    ensures early { IfErr result (λ stop. (IsLate stop → ⊥) → Keeps (K.file keeper.old) (K.file keeper.new)) }
     ensures kept { IsFalse (may_store (command_of (map string_bytes words.now))) → Keeps (K.file keeper.old) (K.file keeper.new) }
     ensures read { result ≡ Err (Stop.Failed Failure.SourceFault) → IsTrue (reads_input (command_of (map string_bytes words.now))) }
     ensures unread { IsFalse (reads_input (command_of (map string_bytes words.now))) → input.new ≡ input.old }
@@ -148,8 +151,9 @@ fn tell<E: Sink>(alloc: Global, ending: Result<Made, Stop>, errors: &mut E) -> u
 /// `IfTold` says what the words call for, where the keeper tells its file and the input is told as far as it is read; the work goes
 /// in the order of the definition, and the first thing that fails gives the status. The report and the lines for `errors` are made
 /// before the file is stored, which is done once; the report is written after that, and the lines last, where a fault changes no
-/// status. After any status but 0, 5 and 9 the file is as before, where the keeper tells it still. `text`, `ids` and `send` leave
-/// the file, and all but `edit` and `take` leave the input.
+/// status. After any status but 0, 5 and 9 the file is as before, where the keeper tells it still, as it does after those that come
+/// before the store, so after all but 7 and 10. `text`, `ids` and `send` leave the file, and all but `edit` and `take` leave the
+/// input. Where the words alone end the command, the keeper isn't called.
 ///
 /// The cost is that of reading the file, whose operations are received one after another, and of the work of the replica; a
 /// script's lines `b` each read the text up to their position. The file is written once, from one buffer.
@@ -172,6 +176,11 @@ pub fn run<K: Keeper, S: Source, W: Sink, E: Sink>(
     ensures input { result ≡ 8 → Rose (S.faults input.old) (S.faults input.new) }
     ensures read { result ≡ 8 → IsTrue (reads_input (command_of (map string_bytes words.now))) }
     ensures output { result ≡ 9 → Rose (W.faults output.old) (W.faults output.new) }
+    // Where the words alone end the command, the keeper isn't called; and where the kept file ends one that reads the input, the
+    // input has no part in the status, told or not.
+    ensures by_words { IfSome (stop_of_words (command_of (map string_bytes words.now))) (λ stop. IsStatusAt stop result × (keeper.new ≡ keeper.old)) }
+    ensures by_file { IfSome (K.file keeper.old) (λ kept. IfSome (stop_of_file (command_of (map string_bytes words.now)) kept) (λ stop.
+        IsStatusAtFile stop result (Rose (K.faults keeper.old) (K.faults keeper.new)))) }
     ensures no_other { Contains (0 ∷ 1 ∷ 2 ∷ 3 ∷ 4 ∷ 5 ∷ 6 ∷ 7 ∷ 8 ∷ 9 ∷ 10 ∷ 11 ∷ 12 ∷ []) result }
 
     // What is written.
@@ -184,11 +193,14 @@ pub fn run<K: Keeper, S: Source, W: Sink, E: Sink>(
         IsPart (E.told errors.old) (E.told errors.new) (line_at d result)) }
     ensures whole_line { (Rose (E.faults errors.old) (E.faults errors.new) → ⊥) → IfTold (map string_bytes words.now) (K.file keeper.old) (S.left input.old) (λ d kept.
         Appends (E.told errors.old) (E.told errors.new) (line_at d result)) }
+    ensures own_line { IfSome (own_line result) (λ line. IsPart (E.told errors.old) (E.told errors.new) line) }
+    ensures whole_own_line { (Rose (E.faults errors.old) (E.faults errors.new) → ⊥) → IfSome (own_line result) (λ line. Appends (E.told errors.old) (E.told errors.new) line) }
 
     // What is kept, and what stays.
     ensures file { IsStored result → IfTold (map string_bytes words.now) (K.file keeper.old) (S.left input.old) (λ d kept.
         IsKept d kept (K.file keeper.new)) }
     ensures stays { (IsStored result → ⊥) → Stays (K.file keeper.old) (K.file keeper.new) }
+    ensures early { (IsStored result → ⊥) → result ≢ 7 → result ≢ 10 → Keeps (K.file keeper.old) (K.file keeper.new) }
     ensures kept { IsFalse (may_store (command_of (map string_bytes words.now))) → Keeps (K.file keeper.old) (K.file keeper.new) }
     ensures unread { IsFalse (reads_input (command_of (map string_bytes words.now))) → input.new ≡ input.old }
 

@@ -2,9 +2,9 @@
 
 ghost use Rattle.std.specs.Prelude.{◌≡◌, ◌≢◌, ◌≤◌, Option, Some, None, Err, IfOk, IfErr, IfSome, IsTrue, IsFalse};
 ghost use Rattle.rls_io.specs.Device.{Rose, Keeps};
-ghost use Rattle.rls_top.specs.Due.{due_of_command, due_of_new, due_at, heard, reads_input, may_store, IsUnbuilt};
+ghost use Rattle.rls_top.specs.Due.{due_of_command, due_of_new, due_at, heard, reads_input, may_store, stop_of_numbers, stop_of_words, stop_of_file, IsUnbuilt};
 ghost use Rattle.rls_top.specs.Endings.{Told};
-ghost use Rattle.rls_top.specs.Made.{IsDue, IsOfKeeper, IsOfInput};
+ghost use Rattle.rls_top.specs.Made.{IsDue, EndsBy, EndsByFile, IsOfKeeper, IsOfInput};
 ghost use Rattle.rls_file.specs.Journals.{Tells, told};
 
 use crate::editing::{edit, leave};
@@ -30,6 +30,8 @@ pub(crate) fn make<K: Keeper, S: Source>(
 ) -> Result<Made, Stop>
     ensures due { Told (K.file keeper.old) (heard (Some command) (S.left input.old)) (λ kept given. IsDue result (due_of_command command kept given)) }
     ensures unbuilt { IsUnbuilt (Some command) → result ≡ Err Stop.NotBuilt }
+    ensures by_words { IfSome (stop_of_words (Some command)) (λ stop. EndsBy result stop × (keeper.new ≡ keeper.old)) }
+    ensures by_file { IfSome (K.file keeper.old) (λ kept. IfSome (stop_of_file (Some command) kept) (EndsByFile result)) }
     ensures no_usage { result ≢ Err (Stop.Failed Failure.Usage) }
     ensures no_output { result ≢ Err (Stop.Failed Failure.SinkFault) }
     ensures keeper { result ≡ Err (Stop.Failed Failure.KeeperFault) → Rose (K.faults keeper.old) (K.faults keeper.new) }
@@ -60,6 +62,7 @@ fn make_new<K: Keeper>(
     keeper: &mut K,
 ) -> Result<Made, Stop>
     ensures due { IfSome (K.file keeper.old) (λ kept. IsDue result (due_of_new group me members kept)) }
+    ensures by_numbers { IfSome (stop_of_numbers me members) (λ stop. EndsBy result stop × (keeper.new ≡ keeper.old)) }
     ensures of_keeper { IfErr result IsOfKeeper }
     ensures keeper { result ≡ Err (Stop.Failed Failure.KeeperFault) → Rose (K.faults keeper.old) (K.faults keeper.new) }
     ensures never_falls { K.faults keeper.old ≤ K.faults keeper.new }

@@ -3,6 +3,8 @@ use Rattle.rls_io.specs.Device.{Appends}
 use Rattle.rls_top.specs.Stops.{IsPart}
 use Rattle.rls_top.specs.Words.{command_of}
 use Rattle.rls_top.proofs.Endings.{told_status, told_line_so, told_done, told_stored}
+use Rattle.rls_top.specs.Due.{stop_of_words}
+use Rattle.rls_top.proofs.Early.{status_by_words, status_by_file, own_line_so, early_so}
 use Rattle.rls_top.proofs.Headlines.{text_shown, ids_shown, message_shown, edits_saved, leave_saved, message_saved, new_saved}
 use Rattle.rls_top.proofs.command.run.Goals as goal
 
@@ -21,6 +23,25 @@ pub returns-clause-whole_line : goal.returns-clause-whole_line
 returns-clause-whole_line g c = λ well.
     told_line_so (Appends (g.E.Sink.told c.args.errors.now) (g.E.Sink.told c.tell.new.errors)) (g.K.Keeper.file c.args.keeper.now) (g.S.Source.left c.args.input.now)
     (command_of (map string_bytes c.args.words.now)) c.perform-ending.result c.tell.result c.perform-ending.ensures.due c.tell.ensures.status (c.tell.ensures.whole well)
+
+pub returns-clause-by_words : goal.returns-clause-by_words
+returns-clause-by_words g c =
+    status_by_words (stop_of_words (command_of (map string_bytes c.args.words.now))) c.perform-ending.result c.tell.result _ c.perform-ending.ensures.by_words c.tell.ensures.status
+
+pub returns-clause-by_file : goal.returns-clause-by_file
+returns-clause-by_file g c =
+    status_by_file (g.K.Keeper.file c.args.keeper.now) (command_of (map string_bytes c.args.words.now)) c.perform-ending.result c.tell.result _ c.perform-ending.ensures.by_file c.tell.ensures.status c.perform-ending.ensures.keeper
+
+pub returns-clause-own_line : goal.returns-clause-own_line
+returns-clause-own_line g c =
+    own_line_so (IsPart (g.E.Sink.told c.args.errors.now) (g.E.Sink.told c.tell.new.errors)) c.perform-ending.result c.tell.result c.tell.ensures.status c.tell.ensures.line
+
+pub returns-clause-whole_own_line : goal.returns-clause-whole_own_line
+returns-clause-whole_own_line g c = λ well.
+    own_line_so (Appends (g.E.Sink.told c.args.errors.now) (g.E.Sink.told c.tell.new.errors)) c.perform-ending.result c.tell.result c.tell.ensures.status (c.tell.ensures.whole well)
+
+pub returns-clause-early : goal.returns-clause-early
+returns-clause-early g c = λ stored keeper memory. early_so c.perform-ending.result c.tell.result _ c.perform-ending.ensures.early c.tell.ensures.status stored keeper memory
 
 pub returns-clause-done : goal.returns-clause-done
 returns-clause-done g c = λ is.
