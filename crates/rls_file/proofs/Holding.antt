@@ -9,7 +9,7 @@ use Rattle.rls_ops.specs.declared.op.Op.{Op}
 use Rattle.rls_ops.specs.declared.op.Shape.{Shape}
 use Rattle.rls_ops.specs.Shapes.{shape_fault}
 use Rattle.rls_ops.specs.Waiting.{is_numbered, waiting_under, comes_before, with_waiting, without}
-use Rattle.rls_ops.proofs.Waiting.{numbered_is, before_is, before_trans, before_other}
+use Rattle.rls_ops.proofs.Waiting.{before_trans, before_other}
 use Rattle.rls_codec.specs.declared.fault.ReadError.{ReadError}
 use Rattle.rls_codec.specs.Gives.{Fails}
 use Rattle.std.proofs.lemmas.List.{length-append}

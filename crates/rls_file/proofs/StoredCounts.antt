@@ -1,5 +1,5 @@
 -- What is counted where a message is taken or lines are run.
-use Rattle.std.proofs.Common.{◌≡◌, ℕ, zero, suc, ◌+◌, true, false, cond, Bool, List, [], ◌∷◌, length, Option, Some, None, Result, Ok, Err, refl, sym, ap, subst, arith, length-append}
+use Rattle.std.proofs.Common.{◌≡◌, ℕ, zero, suc, ◌+◌, true, false, Bool, List, [], ◌∷◌, length, Option, Some, None, Result, Ok, Err, refl, sym, ap, subst, arith, length-append}
 use Rattle.std.specs.Prelude.{if◌then◌else◌}
 use Rattle.rls_ident.specs.Lists.{IsIn}
 use Rattle.rls_ident.specs.Vectors.{at_most}
@@ -11,10 +11,10 @@ use Rattle.rls_model.specs.Answers.{Reason, Answer, Applies, Repeats, Waits, Ref
 use Rattle.rls_model.specs.History.{Acknowledged, Then, count}
 use Rattle.rls_model.specs.Stability.{is_counted}
 use Rattle.rls_model.specs.Fitting.{refusal}
-use Rattle.rls_model.specs.Receiving.{State, comes_before, with_waiting, without, accept, after, after_refusal, receive, receive_after, first_ready, release}
+use Rattle.rls_model.specs.Receiving.{State, without, accept, after, after_refusal, receive, receive_after, first_ready, release}
 use Rattle.rls_model.specs.Editing.{made}
 use Rattle.rls_model.specs.Taking.{has_room, Progress, started, moved, with_answer, with_refusal, with_release, receive_step, release_step, release_steps, with_releases, acknowledge, acknowledge_step, take_ops, take_within}
-use Rattle.rls_model.specs.EditRun.{edit_step, Run, Done, Stopped, go_on, run_from, run_lines}
+use Rattle.rls_model.specs.EditRun.{edit_step, Done, go_on, run_from, run_lines}
 use Rattle.rls_model.proofs.WorldsSteps.{released_by, release_is}
 use Rattle.rls_model.proofs.WorldsWaiting.{length-without, less_without, numbered_test}
 use Rattle.rls_model.proofs.WorldsScripts.{end_or}

@@ -1,30 +1,21 @@
 -- Identifiers in the range of the format stay so where they are renamed and translated, and the first one of an insertion is in it.
-use Rattle.std.proofs.Common.{◌≡◌, ℕ, zero, suc, ◌+◌, ◌^◌, ◌<◌, ◌≤◌, true, false, cond, Bool, List, [], ◌∷◌, ◌++◌, length, drop, Option, Some, None, refl, ap, subst, ◌∙◌, arith, inl, inr}
-use Rattle.std.specs.Prelude.{ℤ, pos, negsuc, ◌+ℤ◌, ◌-ℤ◌, ◌≤ℤ◌, ◌/◌, ◌&&◌, nat_le, if◌then◌else◌}
+use Rattle.std.proofs.Common.{◌≡◌, ℕ, ◌+◌, ◌<◌, ◌≤◌, true, false, Bool, List, [], ◌∷◌, ◌++◌, length, drop, Option, Some, None, refl, arith}
+use Rattle.std.specs.Prelude.{ℤ, pos, negsuc, ◌+ℤ◌, ◌-ℤ◌, ◌≤ℤ◌, ◌&&◌, if◌then◌else◌}
 use Rattle.std.specs.Int.RustNames.{int_le}
 use Rattle.std.specs.Ordering.{int_eq}
-use Rattle.std.specs.declared.cmp.Ordering.{Ordering}
-use Rattle.std.specs.declared.cmp.Ordering.TheVariants.{Less, Equal, Greater}
 use Rattle.std.proofs.lemmas.Int.{ints}
 use Rattle.rls_ident.specs.declared.tuple.Spot.{Spot}
 use Rattle.rls_ident.specs.declared.tuple.Tuple.{Tuple}
 use Rattle.rls_ident.specs.declared.tuple.Tuple.TheVariants.{Low, At, High}
 use Rattle.rls_ident.specs.declared.epoch_name.EpochName.{EpochName}
-use Rattle.rls_ident.specs.Lists.{IsIn}
-use Rattle.rls_ident.specs.Maps.{by_order, under, low, high, low_inverse, high_inverse}
-use Rattle.rls_ident.specs.Tuples.{offset_of, raised, tuple_pred, tuple_cmp, at_offset}
-use Rattle.rls_ident.specs.Identifiers.{IsIdent, last_of, least_offset, greatest_offset, ident_cmp, pred, shifted}
-use Rattle.rls_ident.specs.Between.{last_pos, lower_number, upper_number, middle, below, upper_behind, between}
-use Rattle.rls_ident.proofs.BetweenLaws.{below_ident, between_ident}
-use Rattle.rls_ident.proofs.Members.{and_left, and_right, and_true, int_le_is, int_le_test}
-use Rattle.rls_ident.proofs.Shifted.{ident_shifted, raised_offset, last_shifted, last_at, last_offset}
-use Rattle.rls_runs.specs.Runs.{run_idents, runs_of, idents_of}
+use Rattle.rls_ident.specs.Tuples.{offset_of, at_offset}
+use Rattle.rls_ident.specs.Identifiers.{last_of, least_offset, greatest_offset, ident_cmp, pred, shifted}
+use Rattle.rls_ident.specs.Between.{between}
+use Rattle.rls_ident.proofs.Members.{and_left, and_right, int_le_is}
 use Rattle.rls_rename.specs.Renaming.{Renaming, new_pos, first_pos, new_spot, new_at, old_below, old_above, old_above_inverse, old_between, old_below_inverse, old_between_inverse, new_below, new_between, new_below_inverse, new_between_inverse, new_above_inverse, forward_above, forward_by, back_above, back_by, forward, back}
 use Rattle.rls_rename.specs.Tree.{Node, path, same_name, forward_all, back_all, along, translate}
 use Rattle.rls_rename.proofs.Paths.{IsAmong, AreAmong, path-among}
-use Rattle.rls_codec.specs.Reading.{is_offset}
-use Rattle.rls_codec.specs.Spelled.{IsSmall, FitsInner, FitTuples, FitsBehind, FitRuns, Chained}
-use Rattle.rls_codec.proofs.SpelledSound.{tuples_ident}
+use Rattle.rls_codec.specs.Spelled.{IsSmall}
 use Rattle.rls_codec.proofs.Ranged.{IsRanged, AreInner, AllRanged, offset_to, head_inner, rest_ranged, all_inner, ranged_append, ranged_drop, last_most, pred_high, then_low, shifted_ranged, next_ranged, ranged_if, ranged_order, low_ranged, high_ranged, low_inverse_ranged, high_inverse_ranged, between_ranged}
 use Rattle.rls_model.specs.declared.parts.Stem.{Stem}
 use Rattle.rls_model.specs.Editing.{own_stem, ends_below, begins_above, may_append, may_prepend, or_missing, first_before, first_between}

@@ -1,6 +1,4 @@
 -- A journal that tells a history tells it after each step.
-use Rattle.std.specs.Prelude.{find}
-use Rattle.rls_ident.specs.Vectors.{at_most}
 use Rattle.std.proofs.Common.{◌≡◌, ℕ, zero, suc, ◌<◌, ◌++◌, ◌∷◌, Bool, true, false, cond, List, [], length, refl, sym, ap, ◌∙◌, subst, Option, Some, None}
 use Rattle.rls_ops.specs.declared.op.Op.{Op}
 use Rattle.rls_ops.specs.Rows as rows
@@ -8,9 +6,9 @@ use Rattle.rls_model.specs.declared.edit.Edit.{Edit}
 use Rattle.rls_model.specs.Answers.{Reason, Answer, Applies, Repeats, Waits, Refuses, Released}
 use Rattle.rls_model.specs.Editing.{made}
 use Rattle.rls_model.specs.Fitting.{refusal}
-use Rattle.rls_model.specs.History.{Accepted, Acknowledged, History, Fresh, Then, group_of, me_of, members_of, count, ops}
+use Rattle.rls_model.specs.History.{Accepted, Acknowledged, History, Fresh, Then, group_of, me_of, members_of, ops}
 use Rattle.rls_model.specs.Legal.{AreNumbers}
-use Rattle.rls_model.specs.Receiving.{State, after, accept, answer, receive, receive_after, replay, replay_after, release, release_after}
+use Rattle.rls_model.specs.Receiving.{State, after, accept, receive, receive_after, replay, replay_after, release, release_after}
 use Rattle.rls_model.specs.Receiving as model
 use Rattle.rls_model.specs.Stability.{is_counted}
 use Rattle.rls_model.specs.declared.receipt.Taken.{Taken}

@@ -1,34 +1,19 @@
 -- What the answer to an operation says of it.
-use Rattle.std.proofs.Common.{◌≡◌, ℕ, ◌+◌, ◌-◌, ◌<◌, true, false, Bool, List, [], ◌∷◌, length, Option, Some, None, refl, subst, arith, inl, inr}
-use Rattle.std.specs.Prelude.{pos, ◌+ℤ◌, All, ◌&&◌, not, ◌==◌, nat_le, nat_lt, slice_index, int_le, if◌then◌else◌}
-use Rattle.std.specs.List.{list_all}
-use Rattle.std.proofs.lemmas.List.Elements.{All-cons, All-nil}
-use Rattle.rls_ident.specs.declared.tuple.Tuple.{Tuple}
-use Rattle.rls_ident.specs.declared.tuple.Tuple.TheVariants.{Low, At, High}
-use Rattle.rls_ident.specs.declared.epoch_name.EpochName.{EpochName}
-use Rattle.rls_ident.specs.declared.epoch_name.EpochName.TheVariants.{Origin, Of}
-use Rattle.rls_ident.specs.Lists.{IsIn}
-use Rattle.rls_ident.specs.Tuples.{offset_of}
-use Rattle.rls_ident.specs.Identifiers.{is_ident, is_bounded, is_inner_bounded, last_of}
+use Rattle.std.proofs.Common.{◌≡◌, ℕ, ◌-◌, ◌<◌, true, false, Bool, List, Option, Some, None, refl}
+use Rattle.std.specs.Prelude.{◌&&◌, not, ◌==◌, nat_le, if◌then◌else◌}
 use Rattle.rls_ident.specs.Vectors.{at_most}
-use Rattle.rls_ident.proofs.Members.{and_left, and_right, and_true, eq_is, eq_not, le_is, lt_is, not_is, not_le_is, none_found}
-use Rattle.rls_ident.proofs.Vectors.{index_le}
+use Rattle.rls_ident.proofs.Members.{eq_not, not_le_is}
 use Rattle.rls_ops.specs.declared.op.Op.{Op}
-use Rattle.rls_ops.specs.declared.op.Body.{Body}
-use Rattle.rls_ops.specs.declared.op.Body.TheVariants.{Insert, Delete, Rename, Leave}
 use Rattle.rls_ops.specs.declared.op.Shape.{Shape}
-use Rattle.rls_ops.specs.declared.op.Shape.TheVariants.{Author, Context, EmptyBody, TooLong, OffsetEnd}
-use Rattle.rls_ops.specs.Shapes.{shape_fault, is_next_of, is_empty, body_limit, body_len, passes_end}
+use Rattle.rls_ops.specs.Shapes.{shape_fault}
 use Rattle.rls_ops.specs.Same.{op_eq}
-use Rattle.rls_ops.proofs.Waiting.{before_trans}
-use Rattle.rls_ops.proofs.Shaped.{IsShaped, shaped, next_of}
+use Rattle.rls_ops.proofs.Shaped.{next_of}
 use Rattle.rls_model.specs.Answers.{Reason, Forked, Own, Answer, Applies, Repeats, Waits, Refuses}
-use Rattle.rls_model.specs.History.{Accepted, Acknowledged, History, Fresh, Then, group_of, me_of, members_of, count_of}
+use Rattle.rls_model.specs.History.{History, me_of, members_of, count_of}
 use Rattle.rls_model.specs.History.{count as count_in}
 use Rattle.rls_model.specs.Fitting.{refusal}
-use Rattle.rls_model.specs.WellFormed.{IsName, IsBody, IsOp, IsVector}
-use Rattle.rls_model.specs.Legal.{MayAccept, AreWaiting, IsLegal}
-use Rattle.rls_model.specs.Receiving.{State, answer, answer_beside, answer_after_shape, verdict_of, waiting_under, comes_before}
+use Rattle.rls_model.specs.Legal.{MayAccept}
+use Rattle.rls_model.specs.Receiving.{answer, answer_beside, answer_after_shape, verdict_of, waiting_under}
 
 pub verdict_go : (r : Option Reason) → verdict_of r ≡ Applies → r ≡ None
 verdict_go None e = refl

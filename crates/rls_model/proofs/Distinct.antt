@@ -7,11 +7,11 @@ use Rattle.rls_ident.specs.declared.epoch_name.EpochName.{EpochName}
 use Rattle.rls_ident.specs.declared.epoch_name.EpochName.TheVariants.{Origin}
 use Rattle.rls_ident.specs.Lists.{IsIn}
 use Rattle.rls_ident.specs.EpochNames.{name_eq}
-use Rattle.rls_ident.specs.Tuples.{replica_of, seq_of, offset_of, is_at}
+use Rattle.rls_ident.specs.Tuples.{replica_of, seq_of, offset_of}
 use Rattle.rls_ident.specs.Identifiers.{IsIdent, last_of, shifted}
 use Rattle.rls_ident.proofs.Members.{bool_cases}
-use Rattle.rls_ident.proofs.Shifted.{raised_offset, last_shifted, last_at, raised_at, ident_shifted}
-use Rattle.rls_rename.specs.Tree.{Node, name_of, is_of, has_node, is_kept, AreNodes, AreBelow}
+use Rattle.rls_ident.proofs.Shifted.{raised_offset, last_shifted, last_at, ident_shifted}
+use Rattle.rls_rename.specs.Tree.{Node, is_of, has_node, is_kept, AreNodes, AreBelow}
 use Rattle.rls_rename.specs.Tree as tree
 use Rattle.rls_rename.proofs.Kept.{kept_more}
 use Rattle.rls_rename.proofs.Paths.{IsAmong, translate_ident, translate_translate}
@@ -20,7 +20,7 @@ use Rattle.rls_rename.proofs.Triples.{HasLast, IsCovered, AreCovered, forward_in
 use Rattle.rls_ops.specs.declared.op.Op.{Op}
 use Rattle.rls_ops.specs.declared.op.Body.{Body}
 use Rattle.rls_ops.specs.declared.op.Body.TheVariants.{Insert, Delete, Rename, Leave}
-use Rattle.rls_model.specs.History.{Entry, Accepted, Acknowledged, History, Then, ops}
+use Rattle.rls_model.specs.History.{Accepted, Acknowledged, History, Then, ops}
 use Rattle.rls_model.specs.History as history
 use Rattle.rls_model.specs.Stems.{is_used, stems}
 use Rattle.rls_model.specs.Epochs.{epochs, nodes_after, renaming_of, translate}

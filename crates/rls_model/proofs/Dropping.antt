@@ -1,15 +1,15 @@
 -- Which epochs are retained, and that a window which keeps them answers as the whole does.
-use Rattle.std.proofs.Common.{◌≡◌, ℕ, zero, suc, ◌≤◌, ◌<◌, Bool, true, false, List, [], ◌∷◌, map, refl, sym, ap, ◌∙◌, subst, inl, inr, ◌⊎◌, ⊎_elim, arith, nat_le}
+use Rattle.std.proofs.Common.{◌≡◌, ℕ, ◌<◌, Bool, true, false, List, [], ◌∷◌, map, refl, sym, ap, ◌∙◌, subst, inl, inr, ◌⊎◌, ⊎_elim, arith}
 use Rattle.std.specs.Prelude.{not, ◌||◌, filter, None, slice_index, ◌++◌}
 use Rattle.std.specs.declared.cmp.Ordering.TheVariants.{Less}
 use Rattle.std.specs.Ordering.{is_lt}
 use Rattle.std.specs.Cmp.Lexicographic.{slice_cmp}
 use Rattle.rls_ident.specs.declared.epoch_name.EpochName.{EpochName}
 use Rattle.rls_ident.specs.declared.epoch_name.EpochName.TheVariants.{Origin, Of}
-use Rattle.rls_ident.specs.EpochNames.{name_eq, is_within}
+use Rattle.rls_ident.specs.EpochNames.{name_eq}
 use Rattle.rls_ident.specs.Lists.{IsIn}
 use Rattle.rls_ident.specs.Vectors.{at_most}
-use Rattle.rls_ident.proofs.Members.{bool_cases, not_true, not_is, and_left, and_right, in_left, in_right, in_split, snoc_split, in_map, map_in, in_filter, filter_in, le_is, le_test, less_is}
+use Rattle.rls_ident.proofs.Members.{bool_cases, not_true, not_is, in_left, in_right, in_split, snoc_split, in_map, map_in, in_filter, filter_in, le_is, le_test, less_is}
 use Rattle.rls_ident.proofs.Vectors.{at_most_refl, at_most_trans, index_le}
 use Rattle.rls_ident.proofs.Named.{within_more}
 use Rattle.rls_rename.specs.Tree.{Node, name_of, is_of, has_node, is_kept, AreNodes, AreBelow, path, renaming_cmp, epoch_cmp, names}

@@ -7,7 +7,7 @@ use Rattle.std.proofs.lemmas.List.Elements.{filter-append}
 use Rattle.rls_ident.specs.declared.tuple.Tuple.{Tuple}
 use Rattle.rls_ident.specs.declared.tuple.Tuple.TheVariants.{Low, At, High}
 use Rattle.rls_ident.specs.Lists.{IsIn}
-use Rattle.rls_ident.specs.Tuples.{replica_of, seq_of, offset_of, is_at, raised}
+use Rattle.rls_ident.specs.Tuples.{replica_of, seq_of, offset_of, is_at}
 use Rattle.rls_ident.specs.Identifiers.{last_of, shifted}
 use Rattle.rls_ident.proofs.Members.{bool_cases, eq_is, eq_not, not_true}
 use Rattle.rls_ident.proofs.Vectors.{index-raise_le}
@@ -17,7 +17,7 @@ use Rattle.rls_ops.specs.declared.op.Body.{Body}
 use Rattle.rls_ops.specs.declared.op.Body.TheVariants.{Insert, Delete, Rename, Leave}
 use Rattle.rls_model.specs.declared.parts.Stem.{Stem}
 use Rattle.rls_model.specs.Answers.{WrongStem}
-use Rattle.rls_model.specs.History.{Entry, Accepted, Acknowledged, History, Then, ops, count, count_of}
+use Rattle.rls_model.specs.History.{Accepted, Acknowledged, History, Then, ops, count, count_of}
 use Rattle.rls_model.specs.History as history
 use Rattle.rls_model.specs.Stems.{is_stem, stem_of, has_used, is_used, with_stem, new_stem, with_extended, extended, may_use, due_offset, stems_after, stems}
 use Rattle.rls_model.specs.Document.{Character, chars_of, chars_from}

@@ -1,12 +1,9 @@
 -- An insertion lands where it was asked for.
 use Rattle.std.proofs.Common.{◌≡◌, ℕ, zero, suc, ◌+◌, ◌-◌, ◌≤◌, ◌<◌, Bool, true, false, List, [], ◌∷◌, ◌++◌, map, length, take, drop, refl, sym, ap, ◌∙◌, subst, inl, inr, ◌⊎◌, ⊎_elim, arith, nat_lt}
 use Rattle.std.specs.Prelude.{not, ◌&&◌, ◌||◌, ◌==◌, if◌then◌else◌, Option, Some, None, ℤ, pos, ◌+ℤ◌, ◌-ℤ◌, slice_get}
-use Rattle.std.specs.declared.cmp.Ordering.{Ordering}
-use Rattle.std.specs.declared.cmp.Ordering.TheVariants.{Less, Equal, Greater}
 use Rattle.std.specs.Int.RustNames.{int_le}
 use Rattle.std.specs.List.{list_any}
-use Rattle.std.specs.Ordering.{int_eq, is_lt}
-use Rattle.std.proofs.lemmas.Bool.Decides.{nat_tests}
+use Rattle.std.specs.Ordering.{int_eq}
 use Rattle.std.proofs.lemmas.Int.{ints}
 use Rattle.std.proofs.lemmas.List.{length-map}
 use Rattle.rls_ident.specs.declared.tuple.Tuple.{Tuple}
@@ -14,14 +11,14 @@ use Rattle.rls_ident.specs.declared.epoch_name.EpochName.{EpochName}
 use Rattle.rls_ident.specs.declared.epoch_name.EpochName.TheVariants.{Origin}
 use Rattle.rls_ident.specs.Lists.{IsIn}
 use Rattle.rls_ident.specs.Tuples.{offset_of}
-use Rattle.rls_ident.specs.Identifiers.{IsIdent, ident_cmp, ident_lt, last_of, shifted, least_offset, greatest_offset}
+use Rattle.rls_ident.specs.Identifiers.{IsIdent, last_of, shifted, least_offset, greatest_offset}
 use Rattle.rls_ident.specs.Between.{between}
 use Rattle.rls_ident.proofs.BetweenLaws.{IsOver, between_over}
 use Rattle.rls_ident.proofs.Lists.{Lt, lt_trans}
 use Rattle.rls_ident.proofs.Members.{not_true, not_is, and_right, in_left, in_right, in_split, in_map, map_in, in_filter, filter_in, in_any, in_take, in_drop, take_or_drop, not_lt_is}
 use Rattle.rls_ident.proofs.Shifted.{shifted_none, shifted_shifted, shifted_less, ident_shifted}
 use Rattle.rls_ident.proofs.Tuples.{tuples, lt_of}
-use Rattle.rls_rename.specs.Tree.{Node, is_kept}
+use Rattle.rls_rename.specs.Tree.{Node}
 use Rattle.rls_rename.specs.Tree as tree
 use Rattle.rls_rename.proofs.Growth.{translate_same}
 use Rattle.rls_ops.specs.declared.op.Op.{Op}

@@ -1,12 +1,9 @@
 -- What an edit makes may follow.
 use Rattle.std.proofs.Common.{◌≡◌, ℕ, zero, suc, ◌+◌, ◌-◌, ◌^◌, ◌≤◌, ◌<◌, Bool, true, false, List, [], ◌∷◌, length, take, drop, refl, sym, ap, ◌∙◌, arith, inl, inr, nat_lt}
-use Rattle.std.specs.Prelude.{if◌then◌else◌, ◌&&◌, not, ◌==◌, Option, Some, None, ℤ, pos, ◌+ℤ◌, ◌≤ℤ◌, slice_get, slice_index}
+use Rattle.std.specs.Prelude.{if◌then◌else◌, ◌&&◌, not, ◌==◌, Option, Some, None, ℤ, pos, ◌+ℤ◌, slice_get, slice_index}
 use Rattle.std.specs.List.{list_all, list_any}
-use Rattle.std.specs.Int.RustNames.{int_lt}
 use Rattle.std.specs.Ordering.{is_eq}
-use Rattle.std.proofs.lemmas.Bool.Decides.{nat_tests}
 use Rattle.std.proofs.lemmas.Cmp.{lists_total, tied_itself}
-use Rattle.std.proofs.lemmas.Int.{ints}
 use Rattle.std.proofs.lemmas.List.{length-take, length-drop}
 use Rattle.rls_ident.specs.declared.tuple.Tuple.{Tuple}
 use Rattle.rls_ident.specs.declared.epoch_name.EpochName.{EpochName}
@@ -17,7 +14,7 @@ use Rattle.rls_ident.specs.Tuples.{offset_of}
 use Rattle.rls_ident.specs.Identifiers.{is_ident, last_of, ident_eq, greatest_offset}
 use Rattle.rls_ident.specs.Vectors.{at_most}
 use Rattle.rls_ident.proofs.Tuples.{tuple_total}
-use Rattle.rls_ident.proofs.Members.{and_left, and_right, and_true, any_in, eq_test, in_map, le_test, lt_test, or_left, or_right, in_take, in_drop, not_lt_test, eq_not, not_lt_is, not_int_lt_test}
+use Rattle.rls_ident.proofs.Members.{and_left, and_right, and_true, any_in, eq_test, in_map, le_test, lt_test, or_left, or_right, in_take, in_drop, eq_not, not_lt_is, not_int_lt_test}
 use Rattle.rls_ident.proofs.Vectors.{at_most_refl}
 use Rattle.rls_rename.specs.Tree.{Node, name_of, is_of, has_node, names, names_within}
 use Rattle.rls_rename.specs.Tree as tree
@@ -33,7 +30,7 @@ use Rattle.rls_model.specs.declared.edit.Edit.TheVariants as edits
 use Rattle.rls_model.specs.declared.edit.EditError.{EditError}
 use Rattle.rls_model.specs.declared.edit.EditError.TheVariants as faults
 use Rattle.rls_model.specs.Answers.{Reason, Left, Backward, WrongEpoch, WrongStem, UnknownTarget}
-use Rattle.rls_model.specs.History.{Entry, Accepted, Acknowledged, History, Then, me_of, members_of, count, count_of, has_left, acknowledged, row}
+use Rattle.rls_model.specs.History.{Accepted, History, Then, me_of, members_of, count, count_of, has_left, acknowledged, row}
 use Rattle.rls_model.specs.History as history
 use Rattle.rls_model.specs.Stems.{stems, due_offset}
 use Rattle.rls_model.specs.Epochs.{epochs, greatest, greatest_within}

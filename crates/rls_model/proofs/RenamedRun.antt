@@ -1,9 +1,8 @@
 -- A rename makes one run of the text, which an insertion right after it lengthens at its end or at its front.
-use Rattle.std.proofs.Common.{◌≡◌, ℕ, zero, suc, ◌+◌, ◌^◌, ◌≤◌, ◌<◌, Bool, true, false, List, [], ◌∷◌, ◌++◌, map, length, take, drop, refl, sym, ap, ◌∙◌, subst, ⊎_elim, arith, nat_lt, append_assoc, append-nil, length-append}
+use Rattle.std.proofs.Common.{◌≡◌, ℕ, zero, suc, ◌+◌, ◌^◌, ◌≤◌, ◌<◌, true, false, List, [], ◌∷◌, ◌++◌, map, length, take, drop, refl, sym, ap, ◌∙◌, subst, ⊎_elim, arith, nat_lt, append_assoc, append-nil, length-append}
 use Rattle.std.specs.Prelude.{not, ◌==◌, if◌then◌else◌, Some, None, ℤ, pos, ◌+ℤ◌, ◌-ℤ◌, ◌≤ℤ◌, slice_get}
 use Rattle.std.specs.Int.RustNames.{int_le}
 use Rattle.std.specs.Ordering.{int_eq}
-use Rattle.std.proofs.lemmas.Bool.Decides.{nat_tests}
 use Rattle.std.proofs.lemmas.Int.{ints}
 use Rattle.rls_ident.specs.declared.tuple.Spot.{Spot}
 use Rattle.rls_ident.specs.declared.tuple.Tuple.{Tuple}
@@ -16,7 +15,7 @@ use Rattle.rls_ident.proofs.Members.{same_bool, and_true, in_left, snoc_split, i
 use Rattle.rls_ident.proofs.Shifted.{shifted_shifted, shifted_none}
 use Rattle.rls_runs.specs.Runs.{run_idents, put_run, runs_of}
 use Rattle.rls_rename.specs.Renaming.{Renaming, IsFormer, new_spot, new_at, new_pos, forward}
-use Rattle.rls_rename.specs.Tree.{Node, name_of, is_of, is_kept, AreNodes, AreBelow}
+use Rattle.rls_rename.specs.Tree.{Node, AreNodes, AreBelow}
 use Rattle.rls_rename.specs.Tree as tree
 use Rattle.rls_rename.proofs.Growth.{kept_other, translate_child}
 use Rattle.rls_rename.proofs.Laws.{meaning}

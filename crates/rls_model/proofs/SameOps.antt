@@ -15,7 +15,7 @@ use Rattle.rls_rename.proofs.SameNodes.{translate_within, greatest_same}
 use Rattle.rls_ops.specs.declared.op.Op.{Op}
 use Rattle.rls_ops.specs.declared.op.Body.{Body}
 use Rattle.rls_ops.specs.declared.op.Body.TheVariants.{Insert, Delete, Rename, Leave}
-use Rattle.rls_model.specs.History.{Entry, Accepted, Acknowledged, History, Then, ops, count_of}
+use Rattle.rls_model.specs.History.{Accepted, Acknowledged, History, Then, ops, count_of}
 use Rattle.rls_model.specs.History as history
 use Rattle.rls_model.specs.Epochs.{epochs, nodes_after, renaming_of, greatest, translate}
 use Rattle.rls_model.specs.Document.{Character, chars, chars_of, chars_from, chars_of_all, targets_of, ident_in, has_ident, is_named, live, export, idents, text}

@@ -13,7 +13,7 @@ use Rattle.rls_ident.proofs.Members.{and_left, and_right, in_map, map_in, in_fil
 use Rattle.rls_ident.proofs.Shifted.{ident_shifted}
 use Rattle.rls_ident.proofs.Agreeing.{map_same, filter_same, filter_all}
 use Rattle.rls_rename.specs.Renaming.{forward}
-use Rattle.rls_rename.specs.Tree.{Node, is_kept}
+use Rattle.rls_rename.specs.Tree.{Node}
 use Rattle.rls_rename.specs.Tree as tree
 use Rattle.rls_rename.proofs.Growth.{kept_other, translate_child}
 use Rattle.rls_rename.proofs.Laws as laws

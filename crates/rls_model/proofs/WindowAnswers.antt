@@ -3,8 +3,6 @@ use Rattle.std.proofs.Common.{◌≡◌, ℕ, ◌<◌, Bool, true, false, List, 
 use Rattle.std.specs.Prelude.{◌||◌, if◌then◌else◌, Some}
 use Rattle.std.specs.declared.cmp.Ordering.TheVariants.{Less}
 use Rattle.std.specs.List.{list_any}
-use Rattle.std.specs.Ordering.{is_eq}
-use Rattle.std.proofs.lemmas.Cmp.{lists_total, tied_itself}
 use Rattle.rls_ident.specs.declared.tuple.Tuple.{Tuple}
 use Rattle.rls_ident.specs.declared.epoch_name.EpochName.{EpochName}
 use Rattle.rls_ident.specs.declared.epoch_name.EpochName.TheVariants.{Origin}
@@ -12,7 +10,6 @@ use Rattle.rls_ident.specs.EpochNames.{name_eq}
 use Rattle.rls_ident.specs.Lists.{IsIn}
 use Rattle.rls_ident.specs.Identifiers.{IsIdent, ident_eq}
 use Rattle.rls_ident.proofs.Members.{not_true, same_bool, or_split, in_any, any_in, each_in}
-use Rattle.rls_ident.proofs.Tuples.{tuple_total}
 use Rattle.rls_ident.proofs.Ends.{eq_same, same_eq}
 use Rattle.rls_ident.proofs.Agreeing.{map_same, any_same}
 use Rattle.rls_rename.specs.Tree.{Node, name_of, is_of, has_node, is_kept, AreNodes, epoch_cmp}

@@ -8,12 +8,11 @@ use Rattle.rls_ident.specs.declared.epoch_name.EpochName.{EpochName}
 use Rattle.rls_ident.specs.EpochNames.{name_eq, is_within}
 use Rattle.rls_ident.specs.Lists.{IsIn, AreIn}
 use Rattle.rls_ident.proofs.Members.{or_left, or_right, or_split}
-use Rattle.rls_rename.specs.Tree.{Node, name_of, is_of, has_node, is_kept, AreNodes, AreBelow, path, renaming_cmp, epoch_cmp, later_of, greatest_from, names, names_within, greatest, greatest_within}
+use Rattle.rls_rename.specs.Tree.{Node, name_of, has_node, is_kept, AreNodes, AreBelow, path, renaming_cmp, epoch_cmp, later_of, greatest_from, names, names_within, greatest, greatest_within}
 use Rattle.rls_rename.proofs.Kept.{greatest_kept}
 use Rattle.rls_rename.proofs.Paths.{name_eq_is, name_eq_refl}
 use Rattle.rls_rename.proofs.SameNodes.{path_within, kept_within, epoch_same, from_top, name_in, greatest_top, paths_total, tied, top_at}
 use Rattle.rls_rename.proofs.Order.{in_within, within_in}
-use Rattle.rls_rename.proofs.Hull.{in_name}
 
 -- a node has the name
 pub in_names : (ns : List Node) (e : EpochName) → IsIn e (names ns) → (n : Node) × IsIn n ns × (name_of n.renaming ≡ e)

@@ -3,8 +3,6 @@ use Rattle.std.proofs.Common.{◌≡◌, ℕ, ◌+◌, ◌≤◌, ◌<◌, Bool,
 use Rattle.std.specs.Prelude.{if◌then◌else◌, not, ◌&&◌, ◌||◌, ◌==◌, slice_index, Option, Some, None}
 use Rattle.std.specs.List.{list_any}
 use Rattle.std.specs.Ordering.{is_eq}
-use Rattle.std.specs.declared.cmp.Ordering.{Ordering}
-use Rattle.std.specs.declared.cmp.Ordering.TheVariants.{Less, Equal, Greater}
 use Rattle.std.proofs.lemmas.Cmp.{lists_total, tied_itself}
 use Rattle.rls_ident.specs.declared.tuple.Tuple.{Tuple}
 use Rattle.rls_ident.specs.declared.epoch_name.EpochName.{EpochName}
@@ -15,7 +13,7 @@ use Rattle.rls_ident.specs.Identifiers.{ident_eq, last_of}
 use Rattle.rls_ident.specs.Tuples.{replica_of, seq_of, offset_of}
 use Rattle.rls_ident.specs.Vectors.{at_most}
 use Rattle.rls_ident.proofs.Tuples.{tuple_total}
-use Rattle.rls_ident.proofs.Members.{any_in, bool_cases, eq_is, filter_in, in_any, in_filter, in_left, in_right, in_split, le_is, le_test, not_is, not_le_is, not_le_test, not_true, or_left, or_right, snoc_split, true_false, equal_is}
+use Rattle.rls_ident.proofs.Members.{any_in, bool_cases, eq_is, filter_in, in_any, in_filter, in_left, in_right, le_is, le_test, not_is, not_le_is, not_le_test, not_true, or_left, or_right, snoc_split, true_false}
 use Rattle.rls_ident.proofs.Vectors.{at_most_trans, index_le}
 use Rattle.rls_ident.proofs.Ends.{eq_same}
 use Rattle.rls_rename.specs.Tree.{Node, is_kept, has_node, names, name_of}
@@ -27,13 +25,13 @@ use Rattle.rls_ops.specs.declared.op.Body.{Body}
 use Rattle.rls_ops.specs.declared.op.Body.TheVariants.{Insert, Delete, Rename, Leave}
 use Rattle.rls_model.specs.declared.parts.Stem.{Stem}
 use Rattle.rls_model.specs.Answers as answers
-use Rattle.rls_model.specs.Answers.{Reason, Backward, WrongEpoch, WrongStem, UnknownTarget}
-use Rattle.rls_model.specs.History.{Entry, Accepted, Acknowledged, History, Then, ops, count, count_of, me_of, members_of, is_leave, has_left, row}
+use Rattle.rls_model.specs.Answers.{Backward, WrongEpoch, WrongStem, UnknownTarget}
+use Rattle.rls_model.specs.History.{Accepted, Acknowledged, History, Then, ops, count, count_of, me_of, members_of, has_left, row}
 use Rattle.rls_model.specs.History as history
 use Rattle.rls_model.specs.Stability.{is_covered, stable, unstable}
 use Rattle.rls_model.specs.Stems.{stems, stem_of, due_of, due_offset, is_due, ends_at_low, may_use}
 use Rattle.rls_model.specs.Epochs.{epochs, nodes_after, greatest, greatest_within, translate}
-use Rattle.rls_model.specs.Document.{Character, chars, chars_of, chars_of_all, targets_of, ident_in, has_ident, is_named, live}
+use Rattle.rls_model.specs.Document.{Character, chars, targets_of, ident_in, has_ident, is_named, live}
 use Rattle.rls_model.specs.Fitting.{is_known, first_unknown, body_refusal, refusal}
 use Rattle.rls_model.specs.Legal.{IsLegal}
 use Rattle.rls_model.specs.Laws.{ops_of, MayBegin}

@@ -1,8 +1,8 @@
 -- Rows that fit together after a change.
-use Rattle.std.proofs.Common.{◌≡◌, ℕ, zero, suc, ◌<◌, List, [], ◌∷◌, length, get_or, set, replicate, refl, sym, ap, ◌∙◌, subst, arith, cond, Bool, ◌++◌, true, false}
-use Rattle.rls_ident.specs.Vectors.{join, meet, raise}
+use Rattle.std.proofs.Common.{◌≡◌, ℕ, zero, suc, ◌<◌, List, [], ◌∷◌, length, get_or, set, replicate, refl, sym, ◌∙◌, subst, arith, cond, Bool, ◌++◌, true, false}
+use Rattle.rls_ident.specs.Vectors.{join, raise}
 use Rattle.rls_ident.proofs.Vectors.{length-raise, length-join}
-use Rattle.std.specs.Prelude.{false, true, ◌==◌}
+use Rattle.std.specs.Prelude.{◌==◌}
 use Rattle.std.proofs.lemmas.List.{length-replicate, length-set}
 use Rattle.rls_ops.specs.Rows.{AcksSeen, AreRows, HaveLength, starting_at, raised, parted, noted, row_of}
 

@@ -1,11 +1,10 @@
 -- Lists of identifiers that have the same maximal runs are equal.
-use Rattle.std.proofs.Common.{◌≡◌, ℕ, ◌+◌, Bool, true, false, List, [], ◌∷◌, ◌++◌, refl, sym, ap, ◌∙◌, add-one, cond}
-use Rattle.std.specs.Prelude.{pos}
+use Rattle.std.proofs.Common.{◌≡◌, ℕ, Bool, true, List, sym, ap, ◌∙◌}
 use Rattle.rls_ident.specs.declared.tuple.Tuple.{Tuple}
-use Rattle.rls_ident.specs.Identifiers.{ident_eq, shifted, follows}
+use Rattle.rls_ident.specs.Identifiers.{ident_eq}
 use Rattle.rls_ident.proofs.Members.{bool_cases, not_true}
 use Rattle.rls_ident.proofs.Ends.{eq_same, ident_eq_refl}
-use Rattle.rls_runs.specs.Runs.{run_idents, put_run, runs_of, idents_of}
+use Rattle.rls_runs.specs.Runs.{runs_of, idents_of}
 use Rattle.rls_runs.proofs.RunsOf.{idents_of_runs}
 use Rattle.rls_ops.specs.Same.{idents_eq}
 use Rattle.rls_ops.proofs.Equal.{idents_are, idents_same}

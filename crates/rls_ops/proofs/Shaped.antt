@@ -1,13 +1,12 @@
 -- What the rules of shape say of an operation.
-use Rattle.std.proofs.Common.{◌≡◌, ℕ, ◌+◌, ◌-◌, ◌<◌, ◌==◌, ◌&&◌, not, nat_le, nat_lt, slice_index, Bool, true, false, List, length, refl, sym, ap, ◌∙◌, subst, arith, Option, Some, None, if◌then◌else◌}
+use Rattle.std.proofs.Common.{◌≡◌, ℕ, ◌+◌, ◌-◌, ◌<◌, ◌==◌, ◌&&◌, not, nat_lt, slice_index, Bool, true, false, List, length, refl, arith, Some, None, if◌then◌else◌}
 use Rattle.rls_ident.specs.Vectors.{at_most}
-use Rattle.rls_ident.proofs.Members.{and_left, and_right, eq_is, lt_is, not_le_is}
+use Rattle.rls_ident.proofs.Members.{and_left, and_right, eq_is, lt_is}
 use Rattle.rls_ident.proofs.Vectors.{index_le}
 use Rattle.rls_ops.specs.declared.op.Op.{Op}
 use Rattle.rls_ops.specs.declared.op.Shape.{Shape}
 use Rattle.rls_ops.specs.declared.op.Shape.TheVariants.{Author, Context, EmptyBody, TooLong, OffsetEnd}
 use Rattle.rls_ops.specs.Shapes.{shape_fault, is_next_of, is_empty, body_limit, body_len, passes_end}
-use Rattle.rls_ops.specs.Same.{op_eq}
 
 -- its author is a member, its number at least 1, and its context counts what its author did before
 pub record IsShaped (n : ℕ) (o : Op) : Type 0 where

@@ -4,7 +4,7 @@ use Rattle.std.specs.Prelude.{if◌then◌else◌, cond, ◌&&◌, ◌==◌}
 use Rattle.std.specs.List.{list_all}
 use Rattle.std.proofs.lemmas.Bool.Decides.{nat_tests}
 use Rattle.rls_ident.specs.Lists.{IsIn}
-use Rattle.rls_ident.proofs.Members.{all_in, in_all, not_true, and_left, and_right, and_true, bool_cases, eq_is, eq_test, lt_is, lt_test, not_lt_is, or_left, or_right, or_split, true_false}
+use Rattle.rls_ident.proofs.Members.{all_in, in_all, not_true, and_left, and_right, and_true, eq_is, eq_test, lt_is, lt_test, or_left, or_right, or_split, true_false}
 use Rattle.rls_ops.specs.declared.op.Op.{Op}
 use Rattle.rls_ops.specs.Waiting.{is_numbered, comes_before, with_waiting, without, is_in_order}
 

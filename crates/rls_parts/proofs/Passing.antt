@@ -1,6 +1,6 @@
 -- Where no rule is broken, each of them passes; and what each of them says of an entry.
 use Rattle.std.proofs.Common.{◌≡◌, ℕ, suc, Bool, true, false, List, [], ◌∷◌, ◌++◌, length, refl, sym, ap, ◌∙◌, inl, inr}
-use Rattle.std.specs.Prelude.{◌&&◌, if◌then◌else◌, Option, Some, None}
+use Rattle.std.specs.Prelude.{◌&&◌, Option, Some, None}
 use Rattle.rls_ident.specs.Lists.{IsIn}
 use Rattle.rls_ident.specs.Vectors.{raise}
 use Rattle.rls_ident.proofs.Members.{and_left, and_right, went_on}

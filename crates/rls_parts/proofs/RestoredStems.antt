@@ -1,6 +1,6 @@
 -- The stems of the replica that has given parts.
-use Rattle.std.proofs.Common.{◌≡◌, ℕ, suc, ◌<◌, ◌==◌, ◌&&◌, nat_le, nat_lt, slice_index, Bool, true, List, [], ◌∷◌, length, refl, ◌∙◌, arith, inl, inr, ◌⊎◌, ⊎_elim, Option, Some, None, rules}
-use Rattle.std.specs.Prelude.{ℤ, pos, ◌≤ℤ◌}
+use Rattle.std.proofs.Common.{◌≡◌, ℕ, suc, ◌<◌, ◌==◌, ◌&&◌, nat_le, nat_lt, slice_index, Bool, true, List, [], ◌∷◌, length, refl, ◌∙◌, arith, inl, inr, ◌⊎◌, ⊎_elim, Option, Some, None}
+use Rattle.std.specs.Prelude.{pos}
 use Rattle.std.specs.Int.RustNames.{int_le}
 use Rattle.std.specs.List.{list_all}
 use Rattle.rls_ident.specs.Identifiers.{least_offset}

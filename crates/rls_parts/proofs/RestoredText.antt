@@ -1,17 +1,16 @@
 -- The text of the replica that has given parts.
-use Rattle.std.proofs.Common.{◌≡◌, ℕ, zero, suc, ◌+◌, ◌*◌, ◌-◌, ◌^◌, ◌≤◌, ◌&&◌, not, nat_lt, true, List, [], ◌∷◌, ◌++◌, length, map, refl, sym, ap, ◌∙◌, subst, arith, inl, inr, ⊎_elim, Option, Some, None, if◌then◌else◌, length-append, rules}
-use Rattle.std.specs.Prelude.{ℤ, pos, ◌+ℤ◌, ◌≤ℤ◌, zip}
+use Rattle.std.proofs.Common.{◌≡◌, ℕ, zero, suc, ◌+◌, ◌*◌, ◌-◌, ◌^◌, ◌≤◌, ◌&&◌, nat_lt, true, List, [], ◌∷◌, ◌++◌, length, map, refl, sym, ap, ◌∙◌, subst, arith, inl, inr, ⊎_elim, Option, Some, None, if◌then◌else◌, length-append}
+use Rattle.std.specs.Prelude.{ℤ, pos, ◌+ℤ◌, zip}
 use Rattle.std.specs.Int.RustNames.{int_le}
 use Rattle.std.specs.List.{list_all}
 use Rattle.std.proofs.lemmas.Int.{ints}
 use Rattle.std.proofs.lemmas.List.{map-append}
 use Rattle.std.proofs.lemmas.Slice.Zip.{firsts-zip, length-zip}
 use Rattle.rls_ident.specs.declared.tuple.Tuple.{Tuple}
-use Rattle.rls_ident.specs.declared.tuple.Tuple.TheVariants.{Low, At, High}
-use Rattle.rls_ident.specs.Identifiers.{IsIdent, is_ident, is_bounded, is_inner_bounded, last_of, shifted, follows, ident_lt, least_offset, greatest_offset}
+use Rattle.rls_ident.specs.Identifiers.{is_ident, is_bounded, last_of, shifted, follows}
 use Rattle.rls_ident.specs.Lists.{IsIn}
 use Rattle.rls_ident.specs.Tuples.{offset_of}
-use Rattle.rls_ident.proofs.Members.{and_left, and_right, in_split, not_is, bool_cases, int_le_is}
+use Rattle.rls_ident.proofs.Members.{and_left, and_right, in_split, bool_cases}
 use Rattle.rls_ident.proofs.Shifted.{shifted_none, shifted_shifted}
 use Rattle.rls_ident.proofs.Ends.{eq_same, least_last}
 use Rattle.rls_runs.specs.Entries.{Entries, idents_in}

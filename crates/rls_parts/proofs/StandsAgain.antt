@@ -9,8 +9,8 @@ use Rattle.rls_ident.specs.Lists.{IsIn}
 use Rattle.rls_ident.proofs.Members.{bool_cases, are_in, in_map, eq_not, some_is}
 use Rattle.rls_ident.proofs.Named.{name_eq_is}
 use Rattle.rls_ident.proofs.Vectors.{at_most_refl}
-use Rattle.rls_rename.specs.Renaming.{Renaming, IsFormer}
-use Rattle.rls_rename.specs.Tree.{Node, name_of, is_of, AreNodes}
+use Rattle.rls_rename.specs.Renaming.{Renaming}
+use Rattle.rls_rename.specs.Tree.{Node, name_of, is_of}
 use Rattle.rls_rename.proofs.Former.{former_in}
 use Rattle.rls_ops.specs.Rows.{AreRows, HaveLength, row_of, left}
 use Rattle.rls_ops.proofs.KeptRows.{lengths_append}

@@ -1,21 +1,17 @@
 -- What is known where an operation is accepted, and what it adds.
-use Rattle.std.proofs.Common.{◌≡◌, ◌∙◌, ℕ, ◌+◌, ◌^◌, ◌<◌, ◌≤◌, Bool, false, List, [], ◌∷◌, length, map, Some, None, IsSome, refl, sym, ap, subst, arith, inl, inr, nat_lt}
-use Rattle.std.specs.Prelude.{ℤ, pos, ◌+ℤ◌, ◌≤ℤ◌, zip, if◌then◌else◌}
-use Rattle.std.specs.Int.RustNames.{int_lt}
+use Rattle.std.proofs.Common.{◌≡◌, ◌∙◌, ℕ, ◌+◌, ◌^◌, ◌<◌, ◌≤◌, Bool, false, List, ◌∷◌, length, map, Some, None, IsSome, refl, sym, ap, subst, arith, nat_lt}
+use Rattle.std.specs.Prelude.{ℤ, pos, ◌+ℤ◌, zip, if◌then◌else◌}
 use Rattle.std.specs.Ordering.{is_lt}
-use Rattle.std.proofs.lemmas.Int.{ints}
 use Rattle.rls_ident.specs.declared.tuple.Tuple.{Tuple}
 use Rattle.rls_ident.specs.declared.epoch_name.EpochName.{EpochName}
 use Rattle.rls_ident.specs.declared.epoch_name.EpochName.TheVariants.{Of}
 use Rattle.rls_ident.specs.EpochNames.{name_eq}
-use Rattle.rls_ident.specs.Identifiers.{ident_cmp, ident_eq, last_of, greatest_offset}
-use Rattle.rls_ident.specs.Lists.{IsIn}
+use Rattle.rls_ident.specs.Identifiers.{ident_cmp, last_of, greatest_offset}
 use Rattle.rls_ident.specs.Tuples.{offset_of}
-use Rattle.rls_ident.proofs.Members.{bool_cases, in_any, less_is, eq_not, not_lt_is, some_is, not_int_lt_is}
-use Rattle.rls_ident.proofs.Ends.{eq_same}
-use Rattle.rls_runs.specs.Entries.{Entries, has_ident, put_all, without_all, with_idents}
+use Rattle.rls_ident.proofs.Members.{less_is, eq_not, not_lt_is, some_is, not_int_lt_is}
+use Rattle.rls_runs.specs.Entries.{Entries, put_all, without_all, with_idents}
 use Rattle.rls_runs.specs.Runs.{run_idents, idents_of, IsImage}
-use Rattle.rls_doc.specs.Documents.{AreNew, KeepsOrder}
+use Rattle.rls_doc.specs.Documents.{KeepsOrder}
 use Rattle.rls_rename.specs.Renaming.{Renaming, IsFormer}
 use Rattle.rls_rename.specs.Tree.{Node, Epochs, AreNodes, greatest, translate}
 use Rattle.rls_rename.proofs.Former.{former_of}

@@ -2,8 +2,6 @@
 use Rattle.std.proofs.Common.{◌≡◌, ◌∙◌, ℕ, zero, suc, ◌+◌, ◌-◌, ◌^◌, ◌<◌, ◌≤◌, Bool, true, false, cond, List, [], ◌∷◌, ◌++◌, length, Option, Some, None, is_some, refl, sym, ap, subst, arith}
 use Rattle.std.specs.Prelude.{sum, reverse}
 use Rattle.std.proofs.lemmas.List.{reverse-append, length-append}
-use Rattle.std.proofs.lemmas.List.Sums.{sum_by-cons}
-use Rattle.rls_ident.specs.Vectors.{raise}
 use Rattle.rls_ident.proofs.Vectors.{sum-raise, sum-raise_le}
 use Rattle.rls_ident.proofs.Members.{bool_cases}
 use Rattle.rls_ops.specs.declared.op.Op.{Op}

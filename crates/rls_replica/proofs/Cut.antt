@@ -1,18 +1,18 @@
 -- Operations that are taken one after another, and how far one came.
-use Rattle.std.proofs.Common.{◌≡◌, ◌∙◌, ℕ, ◌+◌, List, drop, Some, None, cond, refl, sym, ap, subst, arith}
+use Rattle.std.proofs.Common.{◌≡◌, ◌∙◌, ℕ, ◌+◌, List, drop, Some, None, cond, refl, sym, ap, subst}
 use Rattle.std.specs.Prelude.{slice_get}
 use Rattle.rls_ident.proofs.Loops.{drop_reads}
 use Rattle.rls_ops.specs.declared.op.Op.{Op}
 use Rattle.rls_ops.specs.declared.message.Message.{Message}
 use Rattle.rls_model.specs.Receiving.{State}
-use Rattle.rls_model.specs.Taking.{Limit, has_room, take_within}
+use Rattle.rls_model.specs.Taking.{has_room, take_within}
 use Rattle.rls_model.specs.Taking as model
 use Rattle.rls_model.specs.WellFormed.{IsOp}
 use Rattle.rls_seen.specs.Seen.{Seen, members}
 use Rattle.rls_seen.specs.Over.{acknowledged}
 use Rattle.rls_seen.specs.Messages.{Course, started, moved, take_ops, taken_within, AreOps, IsMessage, IsPartTaken}
 use Rattle.rls_seen.specs.Stands.{StandsFor}
-use Rattle.rls_seen.proofs.Repeating.{within, more_steps, no_ops, Reaches, reaches_start, part_taken, no_more}
+use Rattle.rls_seen.proofs.Repeating.{within, no_ops, Reaches, reaches_start, part_taken, no_more}
 use Rattle.rls_seen.proofs.Taking.{started_goes, ops_go, taken_alike}
 use Rattle.rls_replica.specs.Steps.{IsPartOfOps}
 

@@ -1,5 +1,5 @@
 -- Edits, seen by a history that the replica stands for.
-use Rattle.std.proofs.Common.{◌≡◌, ℕ, ◌+◌, List, [], ◌∷◌, length, map, sym, ap, ◌∙◌, subst, arith, None}
+use Rattle.std.proofs.Common.{◌≡◌, ℕ, ◌+◌, List, [], ◌∷◌, length, sym, ap, ◌∙◌, subst, arith, None}
 use Rattle.std.specs.Prelude.{pos}
 use Rattle.rls_ident.specs.declared.tuple.Tuple.{Tuple}
 use Rattle.rls_ident.specs.declared.tuple.Tuple.TheVariants.{At}
@@ -14,7 +14,7 @@ use Rattle.rls_model.specs.History.{me_of}
 use Rattle.rls_model.specs.Receiving.{State, accept}
 use Rattle.rls_model.proofs.RenamedRun as renamed
 use Rattle.rls_seen.specs.Edits.{edit_fault_over, edited, IsFault}
-use Rattle.rls_seen.specs.Seen.{Seen, own_count, idents_over, text_over}
+use Rattle.rls_seen.specs.Seen.{Seen, own_count, idents_over}
 use Rattle.rls_seen.specs.Stands.{StandsFor}
 use Rattle.rls_seen.proofs.Editing.{idents_alike, own_alike, edit_faults_alike, edited_stands}
 use Rattle.rls_seen.proofs.Keeping.{text_alike}

@@ -1,24 +1,18 @@
 -- How the targets of a deletion are looked up.
-use Rattle.std.proofs.Common.{◌≡◌, ◌∙◌, ◌⊎◌, ℕ, zero, suc, ◌+◌, ◌<◌, ◌≤◌, ◌||◌, ◌&&◌, not, Bool, true, false, List, [], ◌∷◌, length, map, drop, get_or, Some, None, Ok, Err, refl, sym, ap, inl, inr, arith}
+use Rattle.std.proofs.Common.{◌≡◌, ◌∙◌, ◌⊎◌, ℕ, zero, suc, ◌+◌, ◌<◌, ◌≤◌, ◌||◌, ◌&&◌, not, Bool, true, false, List, [], ◌∷◌, length, map, drop, get_or, Some, None, refl, sym, ap, inl, inr, arith}
 use Rattle.std.proofs.lemmas.Option.{slice_get_cases}
-use Rattle.std.specs.Prelude.{pos, slice_get, slice_index, is_ok, if◌then◌else◌}
+use Rattle.std.specs.Prelude.{pos, slice_get, slice_index, if◌then◌else◌}
 use Rattle.std.specs.List.{list_any}
-use Rattle.std.specs.declared.cmp.Ordering.{Ordering}
-use Rattle.std.specs.declared.cmp.Ordering.TheVariants.{Less, Equal, Greater}
-use Rattle.std.specs.Ordering.{is_eq, ordering_reverse}
+use Rattle.std.specs.Ordering.{is_eq}
 use Rattle.rls_ident.specs.declared.tuple.Tuple.{Tuple}
 use Rattle.rls_ident.specs.declared.epoch_name.EpochName.{EpochName}
 use Rattle.rls_ident.specs.Identifiers.{IsIdent, ident_eq, shifted}
 use Rattle.rls_ident.specs.Lists.{IsIn}
-use Rattle.rls_ident.proofs.Lists.{flipped, lt_trans}
 use Rattle.rls_ident.proofs.Loops.{drop_reads}
-use Rattle.rls_ident.proofs.Tuples.{ident_total}
 use Rattle.rls_ident.proofs.Members.{filter_in, not_le_test, some_is}
 use Rattle.rls_ident.proofs.Agreeing.{any_same}
-use Rattle.rls_runs.specs.Runs.{AreIdents, is_increasing, place_from, place_of, placed}
+use Rattle.rls_runs.specs.Runs.{AreIdents}
 use Rattle.rls_runs.specs.Entries.{Entries, has_ident, idents_in}
-use Rattle.rls_runs.specs.Places.{find_ident, below_count}
-use Rattle.rls_runs.proofs.Sorted.{Entry, AreAbove, Rises, rises_of_increasing}
 use Rattle.rls_rename.specs.Tree.{AreNodes, translate}
 use Rattle.rls_rename.proofs.Growth.{translate_back}
 use Rattle.rls_rename.proofs.Paths.{translate_ident, translate_order}
@@ -30,7 +24,6 @@ use Rattle.rls_model.specs.Answers.{UnknownTarget}
 use Rattle.rls_model.specs.Document.{targets_of}
 use Rattle.rls_seen.specs.Seen.{Seen, stable_over, unstable_over, translate_over, greatest_over}
 use Rattle.rls_seen.specs.Over.{is_known_over, first_unknown_over}
-use Rattle.rls_seen.specs.Sane.{IsSane}
 use Rattle.rls_seen.proofs.TextLists.{ident_in}
 use Rattle.rls_replica.specs.Lookups.{is_named_by, is_named_over}
 

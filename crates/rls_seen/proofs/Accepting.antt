@@ -23,7 +23,7 @@ use Rattle.rls_ops.specs.Rows.{AcksSeen, AreRows, row_of, left, raised}
 use Rattle.rls_ops.proofs.KeptRows.{raised_rows, parted_rows}
 use Rattle.rls_model.specs.Document.{has_ident, put_all, export}
 use Rattle.rls_model.specs.Epochs.{greatest, translate, nodes_after, renaming_of}
-use Rattle.rls_model.specs.History.{History, Then, Accepted, me_of, members_of, ops, count, count_of, has_left, is_leave, row}
+use Rattle.rls_model.specs.History.{History, Then, Accepted, me_of, members_of, ops, count, count_of, is_leave, row}
 use Rattle.rls_model.specs.History as history
 use Rattle.rls_model.specs.Legal.{IsLegal, MayAccept}
 use Rattle.rls_model.specs.Receiving.{State, accept, without}

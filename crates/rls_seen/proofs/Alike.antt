@@ -26,7 +26,7 @@ use Rattle.rls_model.specs.Fitting.{is_known, first_unknown, body_refusal, refus
 use Rattle.rls_model.specs.History.{History, me_of, members_of, count, count_of, has_left, row}
 use Rattle.rls_model.specs.Laws.{KeepsRetained}
 use Rattle.rls_model.specs.Legal.{IsLegal}
-use Rattle.rls_model.specs.Receiving.{State, answer, answer_after_shape, waiting_under, verdict_of}
+use Rattle.rls_model.specs.Receiving.{State, answer, answer_after_shape, waiting_under}
 use Rattle.rls_model.specs.Receiving as model
 use Rattle.rls_model.specs.Stability.{is_awaited, awaited_rows, stable, unstable}
 use Rattle.rls_model.specs.Stems.{may_use, due_offset}

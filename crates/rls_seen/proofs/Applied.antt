@@ -4,7 +4,7 @@ use Rattle.std.specs.Prelude.{All, ◌&&◌, nat_lt, pos, sum, sum_by, ◌*◌}
 use Rattle.std.proofs.lemmas.Grind.{get_or_default_zero}
 use Rattle.rls_ident.specs.declared.epoch_name.EpochName.{EpochName}
 use Rattle.rls_ident.specs.declared.epoch_name.EpochName.TheVariants.{Origin, Of}
-use Rattle.rls_ident.specs.EpochNames.{name_eq, is_within}
+use Rattle.rls_ident.specs.EpochNames.{name_eq}
 use Rattle.rls_ident.specs.Lists.{IsIn}
 use Rattle.rls_ident.specs.Vectors.{at_most, raise}
 use Rattle.rls_ident.proofs.Members.{bool_cases, true_false, and_true, eq_is, eq_not, eq_refl, or_left, or_right, le_is, le_test, not_is, not_lt_is, snoc_split, in_filter, filter_in}

@@ -2,7 +2,7 @@
 use Rattle.std.proofs.Common.{◌≡◌, ℕ, zero, suc, Bool, true, false, cond, List, length, refl, ap, ◌∙◌, Option, Some, None}
 use Rattle.rls_ident.proofs.Vectors.{length-raise}
 use Rattle.rls_ops.specs.declared.op.Op.{Op}
-use Rattle.rls_ops.specs.Rows.{AcksSeen, noted}
+use Rattle.rls_ops.specs.Rows.{noted}
 use Rattle.rls_ops.specs.Rows as rows
 use Rattle.rls_model.specs.Answers.{Reason, Answer, Applies, Repeats, Waits, Refuses}
 use Rattle.rls_seen.specs.Seen.{Seen, members}

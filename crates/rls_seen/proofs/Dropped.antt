@@ -5,17 +5,16 @@ use Rattle.std.specs.declared.cmp.Ordering.TheVariants.{Less}
 use Rattle.std.specs.Cmp.Lexicographic.{slice_cmp}
 use Rattle.std.specs.Ordering.{is_lt}
 use Rattle.rls_ident.specs.declared.epoch_name.EpochName.{EpochName}
-use Rattle.rls_ident.specs.EpochNames.{name_eq, is_within}
+use Rattle.rls_ident.specs.EpochNames.{is_within}
 use Rattle.rls_ident.specs.Lists.{IsIn}
-use Rattle.rls_ident.proofs.Members.{not_true, in_left, in_right, in_split, in_filter, filter_in, in_map, map_in, less_is, or_left}
+use Rattle.rls_ident.proofs.Members.{not_true, in_left, in_right, in_split, in_filter, filter_in, in_map, map_in, less_is}
 use Rattle.rls_ident.proofs.Vectors.{at_most_refl}
 use Rattle.rls_rename.specs.Renaming.{Renaming}
-use Rattle.rls_rename.specs.Tree.{Node, Epochs, AreNodes, AreBelow, has_node, is_kept, names, renaming_cmp, path, greatest, greatest_within, translate, epoch_cmp}
+use Rattle.rls_rename.specs.Tree.{Node, Epochs, AreNodes, AreBelow, is_kept, names, renaming_cmp, path, greatest, greatest_within, translate, epoch_cmp}
 use Rattle.rls_rename.specs.Keeping.{part, is_below, reached, kept_part}
 use Rattle.rls_rename.proofs.Hull.{kept_in, in_kept, needed_spanned, path_same}
 use Rattle.rls_rename.proofs.Kept.{greatest_kept, greatest_within_kept, top_kept}
 use Rattle.rls_rename.proofs.Order.{within_allowed, within_top, longer_less, less_self}
-use Rattle.rls_rename.proofs.Paths.{name_eq_refl}
 use Rattle.rls_rename.proofs.SameNodes.{path_top}
 use Rattle.rls_rename.proofs.Smallest.{part_is}
 use Rattle.rls_rename.proofs.Windows.{Window, kept_window, translate_window, greatest_window, keep_window, keep_kept}

@@ -1,7 +1,6 @@
 -- Waiting operations stay in order and above the vector.
 use Rattle.std.proofs.Common.{◌≡◌, ℕ, suc, ◌+◌, ◌<◌, ◌≤◌, ◌==◌, slice_index, Bool, true, false, cond, List, [], ◌∷◌, refl, sym, ap, subst, arith, inl, inr, ⊎_elim, None}
 use Rattle.std.specs.List.{list_all}
-use Rattle.std.proofs.lemmas.Bool.Decides.{nat_tests}
 use Rattle.rls_ident.specs.Lists.{IsIn}
 use Rattle.rls_ident.specs.Vectors.{raise}
 use Rattle.rls_ident.proofs.Members.{bool_cases, true_false, eq_is, eq_not, and_true, in_all, all_in}

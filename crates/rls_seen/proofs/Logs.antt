@@ -1,7 +1,7 @@
 -- A log leads from one vector to the other.
-use Rattle.std.proofs.Common.{◌≡◌, ℕ, zero, suc, ◌+◌, ◌<◌, ◌≤◌, ◌++◌, not, nat_le, max, slice_index, Bool, true, false, cond, List, [], ◌∷◌, length, refl, sym, ap, ◌∙◌, subst, arith, None, IsTrue}
+use Rattle.std.proofs.Common.{◌≡◌, ℕ, ◌+◌, ◌≤◌, ◌++◌, not, slice_index, Bool, true, false, cond, List, [], ◌∷◌, length, refl, sym, ap, ◌∙◌, subst, arith, None, IsTrue}
 use Rattle.rls_ident.specs.Vectors.{at_most, join, raise}
-use Rattle.rls_ident.proofs.Members.{and_left, and_right, and_true, le_is, le_test, not_le_is}
+use Rattle.rls_ident.proofs.Members.{le_is, not_le_is}
 use Rattle.rls_ident.proofs.Vectors.{length-raise, at_most_trans, index-join, second_below, join_high, join_low, raise_below, raise_above, max_high}
 use Rattle.rls_ops.specs.declared.op.Op.{Op}
 use Rattle.rls_ops.specs.Rows.{is_covered, missing_for}

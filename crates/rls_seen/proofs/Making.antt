@@ -1,7 +1,7 @@
 -- What an edit makes may be applied, and a replica stays sane where it edits.
 use Rattle.std.proofs.Common.{◌≡◌, ℕ, ◌+◌, ◌-◌, ◌^◌, ◌<◌, ◌≤◌, ◌==◌, ◌&&◌, nat_lt, slice_index, slice_get, Bool, true, false, cond, List, [], ◌∷◌, length, take, drop, get_or, refl, sym, ap, ◌∙◌, subst, arith, inl, inr, Option, Some, None, if◌then◌else◌}
 use Rattle.std.specs.Prelude.{ℤ, pos, ◌+ℤ◌, ◌-ℤ◌, ◌≤ℤ◌}
-use Rattle.std.specs.Int.RustNames.{int_lt, int_le}
+use Rattle.std.specs.Int.RustNames.{int_le}
 use Rattle.std.specs.List.{list_any}
 use Rattle.std.specs.Ordering.{int_eq, is_eq}
 use Rattle.std.proofs.lemmas.Cmp.{lists_total, tied_itself}
@@ -20,7 +20,7 @@ use Rattle.rls_ident.proofs.Members.{and_left, and_right, and_true, any_in, eq_t
 use Rattle.rls_ident.proofs.Tuples.{tuple_total}
 use Rattle.rls_ident.proofs.Vectors.{at_most_refl}
 use Rattle.rls_ident.proofs.Shifted.{raised_offset, last_shifted, last_at}
-use Rattle.rls_rename.specs.Tree.{Node, has_node, is_kept, names, names_within}
+use Rattle.rls_rename.specs.Tree.{has_node, names}
 use Rattle.rls_rename.specs.Tree as tree
 use Rattle.rls_rename.proofs.Growth.{translate_same}
 use Rattle.rls_rename.proofs.Kept.{greatest_kept}

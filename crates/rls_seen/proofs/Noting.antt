@@ -4,10 +4,10 @@ use Rattle.std.proofs.lemmas.List.{get_or-set_same, get_or-set_other}
 use Rattle.rls_ident.specs.Vectors.{at_most, join}
 use Rattle.rls_ident.proofs.Members.{bool_cases, eq_is, eq_not}
 use Rattle.rls_ident.proofs.Vectors.{at_most_trans}
-use Rattle.rls_ops.specs.Rows.{AcksSeen, AreRows, HaveLength, row_of, noted}
+use Rattle.rls_ops.specs.Rows.{row_of, noted}
 use Rattle.rls_ops.specs.Rows as rows
 use Rattle.rls_ops.proofs.KeptRows.{noted_rows}
-use Rattle.rls_model.specs.History.{History, Then, Acknowledged, me_of, members_of, ops, count, count_of, row}
+use Rattle.rls_model.specs.History.{Then, Acknowledged, me_of, members_of, count, row}
 use Rattle.rls_model.specs.History as history
 use Rattle.rls_model.specs.Legal.{IsLegal}
 use Rattle.rls_model.specs.Receiving.{State}

@@ -1,14 +1,13 @@
 -- After dropping, what is kept has the numbers of what is retained.
-use Rattle.std.proofs.Common.{◌≡◌, ℕ, suc, ◌+◌, ◌||◌, not, Bool, true, false, cond, List, [], ◌∷◌, length, map, refl, sym, ap, ◌∙◌, subst, arith, inl, inr, ⊎_elim, if◌then◌else◌}
+use Rattle.std.proofs.Common.{◌≡◌, ℕ, suc, ◌+◌, ◌||◌, not, Bool, true, false, cond, List, [], ◌∷◌, length, map, refl, sym, ap, ◌∙◌, subst, arith, inl, inr, ⊎_elim}
 use Rattle.std.specs.Prelude.{filter, fold, sum_by}
-use Rattle.std.specs.Ordering.{is_lt}
 use Rattle.rls_ident.specs.declared.epoch_name.EpochName.{EpochName}
 use Rattle.rls_ident.specs.EpochNames.{name_eq}
 use Rattle.rls_ident.specs.Lists.{IsIn}
 use Rattle.rls_ident.proofs.Members.{bool_cases, not_true, same_bool, and_left, and_true, or_left, or_right, or_split}
 use Rattle.rls_rename.specs.Renaming.{Renaming}
-use Rattle.rls_rename.specs.Tree.{Node, AreNodes, AreBelow, name_of, has_node, is_kept, names, path, epoch_cmp}
-use Rattle.rls_rename.specs.Connected.{begins_with, top_path, is_spanned, put_epoch, in_order, spanned, spanned_renamings}
+use Rattle.rls_rename.specs.Tree.{Node, AreNodes, AreBelow, name_of, has_node, is_kept, names, path}
+use Rattle.rls_rename.specs.Connected.{begins_with, top_path, is_spanned, spanned, spanned_renamings}
 use Rattle.rls_rename.specs.Keeping.{is_below, kept_nodes, part}
 use Rattle.rls_rename.proofs.Hull.{IsFront, front_none, path_same, spanned_is, spanned_top, top_spanned}
 use Rattle.rls_rename.proofs.Paths.{name_eq_is, name_eq_refl}

@@ -1,22 +1,20 @@
 -- What the answer to an operation says, and receiving it.
-use Rattle.std.proofs.Common.{◌≡◌, ℕ, ◌+◌, ◌-◌, ◌<◌, ◌==◌, ◌&&◌, not, nat_le, nat_lt, slice_index, Bool, true, false, List, length, refl, sym, ap, ◌∙◌, subst, arith, Option, Some, None, if◌then◌else◌}
+use Rattle.std.proofs.Common.{◌≡◌, ℕ, ◌-◌, ◌<◌, ◌==◌, ◌&&◌, not, nat_le, slice_index, Bool, true, false, List, refl, sym, ap, ◌∙◌, subst, Option, Some, None, if◌then◌else◌}
 use Rattle.rls_ident.specs.Vectors.{at_most}
-use Rattle.rls_ident.proofs.Members.{and_left, and_right, eq_is, lt_is, not_le_is}
-use Rattle.rls_ident.proofs.Vectors.{index_le}
+use Rattle.rls_ident.proofs.Members.{not_le_is}
 use Rattle.rls_ops.specs.declared.op.Op.{Op}
 use Rattle.rls_ops.specs.declared.op.Shape.{Shape}
-use Rattle.rls_ops.specs.declared.op.Shape.TheVariants.{Author, Context, EmptyBody, TooLong, OffsetEnd}
-use Rattle.rls_ops.specs.Shapes.{shape_fault, is_next_of, is_empty, body_limit, body_len, passes_end}
+use Rattle.rls_ops.specs.Shapes.{shape_fault}
 use Rattle.rls_ops.specs.Same.{op_eq}
-use Rattle.rls_ops.proofs.Shaped.{IsShaped, shaped, next_of}
-use Rattle.rls_model.specs.Answers.{Reason, Forked, Own, Answer, Applies, Repeats, Waits, Refuses}
+use Rattle.rls_ops.proofs.Shaped.{next_of}
+use Rattle.rls_model.specs.Answers.{Reason, Answer, Applies, Repeats, Waits, Refuses}
 use Rattle.rls_model.specs.History.{count, count_of, members_of}
 use Rattle.rls_model.specs.Legal.{MayAccept, IsSound}
 use Rattle.rls_model.specs.Receiving.{State, answer, after, receive, receive_after, replay, replay_after, verdict_of, waiting_under, with_waiting, without}
 use Rattle.rls_model.specs.WellFormed.{IsOp}
 use Rattle.rls_model.proofs.OneTree.{author_below}
 use Rattle.rls_model.proofs.WorldsWaiting.{sound_put}
-use Rattle.rls_model.proofs.Answered.{verdict_go, causes_go, forked_go, number_go, number_waits}
+use Rattle.rls_model.proofs.Answered.{causes_go, forked_go, number_go, number_waits}
 use Rattle.rls_seen.specs.Seen.{Seen, vector, members}
 use Rattle.rls_seen.specs.Over.{answer_beside, answer_by, answer_over, refusal_over, after_answer, holding, received, replayed}
 use Rattle.rls_seen.specs.Sane.{MayApply, MayWait}

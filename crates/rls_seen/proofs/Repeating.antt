@@ -7,7 +7,7 @@ use Rattle.rls_ops.specs.declared.op.Op.{Op}
 use Rattle.rls_ops.specs.declared.message.Message.{Message}
 use Rattle.rls_ops.proofs.Waiting.{before_other, length-without, length-with}
 use Rattle.rls_model.specs.Answers.{Reason, Answer, Applies, Repeats, Waits, Refuses, Released}
-use Rattle.rls_model.specs.Receiving.{without, with_waiting, waiting_under, is_numbered, comes_before}
+use Rattle.rls_model.specs.Receiving.{without, waiting_under, is_numbered, comes_before}
 use Rattle.rls_model.specs.WellFormed.{IsOp}
 use Rattle.rls_model.specs.Taking.{Limit, has_room, one_less}
 use Rattle.rls_model.proofs.WorldsWaiting.{numbered_test}

@@ -1,5 +1,5 @@
 -- The message for a member, seen by a history that the replica stands for.
-use Rattle.std.proofs.Common.{◌≡◌, ℕ, zero, suc, ◌<◌, ◌≤◌, ◌==◌, ◌||◌, ◌++◌, get_or, not, nat_le, slice_index, Bool, true, false, cond, List, [], ◌∷◌, length, max, refl, sym, ap, ◌∙◌, subst, arith, if◌then◌else◌}
+use Rattle.std.proofs.Common.{◌≡◌, ℕ, zero, suc, ◌<◌, ◌≤◌, ◌||◌, not, nat_le, slice_index, Bool, true, false, cond, List, [], ◌∷◌, length, max, refl, sym, ap, ◌∙◌, subst, arith, if◌then◌else◌}
 use Rattle.std.proofs.lemmas.Bool.Decides.{nat_tests}
 use Rattle.rls_ident.specs.Vectors.{join, meet}
 use Rattle.rls_ident.proofs.Vectors.{length-meet, index-join}
@@ -15,7 +15,7 @@ use Rattle.rls_seen.specs.Seen.{Seen, members, stable_over}
 use Rattle.rls_seen.specs.Messages.{message_over}
 use Rattle.rls_seen.specs.Stands.{StandsFor}
 use Rattle.rls_seen.proofs.Alike.{members_alike, unstable_alike}
-use Rattle.rls_ops.proofs.KeptRows.{row_length, lengths_append, length-row}
+use Rattle.rls_ops.proofs.KeptRows.{lengths_append, length-row}
 use Rattle.rls_ops.proofs.Fronts.{front_fits}
 
 -- ---- lengths

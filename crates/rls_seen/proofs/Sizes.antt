@@ -1,14 +1,13 @@
 -- How many characters and former identifiers there are.
-use Rattle.std.proofs.Common.{◌≡◌, ℕ, zero, suc, ◌+◌, ◌*◌, ◌^◌, ◌<◌, ◌≤◌, ◌-◌, not, nat_lt, Bool, true, false, cond, List, [], ◌∷◌, length, map, refl, ap, arith, if◌then◌else◌}
+use Rattle.std.proofs.Common.{◌≡◌, ℕ, ◌+◌, ◌*◌, ◌^◌, ◌<◌, ◌≤◌, ◌-◌, not, nat_lt, Bool, true, false, cond, List, [], ◌∷◌, length, map, arith}
 use Rattle.std.specs.Prelude.{All, filter, zip, sum, sum_by}
 use Rattle.std.proofs.lemmas.List.{length-map}
 use Rattle.std.proofs.lemmas.List.Sums.{sum_by-cons, sum_by-le, length-filter, count_by-le-length}
 use Rattle.rls_ident.specs.declared.tuple.Tuple.{Tuple}
-use Rattle.rls_ident.specs.Identifiers.{ident_lt}
 use Rattle.rls_ident.specs.Vectors.{raise}
 use Rattle.rls_ident.proofs.Members.{not_lt_is}
 use Rattle.rls_ident.proofs.Vectors.{sum-raise}
-use Rattle.rls_runs.specs.Entries.{Entries, has_ident, put, put_all, with_idents}
+use Rattle.rls_runs.specs.Entries.{Entries, has_ident, with_idents}
 use Rattle.rls_runs.specs.Runs.{run_idents}
 use Rattle.rls_runs.proofs.Sorted.{length-put_all}
 use Rattle.rls_rename.specs.Tree.{Node}

@@ -11,7 +11,7 @@ use Rattle.rls_ident.proofs.Members.{bool_cases, true_false, and_left, and_right
 use Rattle.rls_ident.proofs.Vectors.{at_most_refl, at_most_trans, zeros_below, index-join}
 use Rattle.rls_ident.proofs.Named.{within_more}
 use Rattle.rls_ops.specs.declared.op.Op.{Op}
-use Rattle.rls_ops.specs.Rows.{AcksSeen, row_of, left, stable_of, noted, missing_for}
+use Rattle.rls_ops.specs.Rows.{row_of, left, stable_of, noted}
 use Rattle.rls_ops.specs.Rows as rows
 use Rattle.rls_ops.proofs.KeptRows.{row_length, starting_rows, noted_rows, length-row}
 use Rattle.rls_model.specs.Answers.{Reason, Answer, Applies, Repeats, Waits, Refuses}

@@ -1,14 +1,11 @@
 -- Lists of identifiers with characters that rise strictly.
-use Rattle.std.proofs.Common.{◌≡◌, Bool, true, false, cond, List, [], ◌∷◌, map, refl, ap, subst, inl, inr}
-use Rattle.std.specs.Prelude.{filter}
+use Rattle.std.proofs.Common.{◌≡◌, true, List, [], ◌∷◌, map, refl, subst, inl, inr}
 use Rattle.std.specs.List.{list_all}
-use Rattle.std.specs.Ordering.{is_lt}
 use Rattle.rls_ident.specs.declared.tuple.Tuple.{Tuple}
-use Rattle.rls_ident.specs.Identifiers.{IsIdent, is_ident, ident_lt, ident_cmp}
+use Rattle.rls_ident.specs.Identifiers.{IsIdent, is_ident}
 use Rattle.rls_ident.specs.Lists.{IsIn}
-use Rattle.rls_ident.proofs.Lists.{lt_trans}
-use Rattle.rls_ident.proofs.Members.{and_left, and_right, and_true, less_is, in_map, map_in}
-use Rattle.rls_runs.specs.Runs.{AreIdents, is_increasing}
+use Rattle.rls_ident.proofs.Members.{and_left, and_right, and_true, in_map, map_in}
+use Rattle.rls_runs.specs.Runs.{AreIdents}
 use Rattle.rls_runs.proofs.Sorted.{Entry, IsBelow, AreAbove, Rises, increasing_of_rises}
 
 -- the identifiers

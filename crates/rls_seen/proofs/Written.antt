@@ -10,10 +10,8 @@ use Rattle.rls_ident.specs.EpochNames.{name_eq}
 use Rattle.rls_ident.specs.Identifiers.{IsIdent, ident_cmp, last_of, shifted}
 use Rattle.rls_ident.specs.Lists.{IsIn}
 use Rattle.rls_ident.specs.Tuples.{replica_of, seq_of, offset_of}
-use Rattle.rls_ident.proofs.Lists.{Lt, lt_irrefl}
 use Rattle.rls_ident.proofs.Members.{bool_cases, true_false, eq_not, in_map, in_filter}
 use Rattle.rls_ident.proofs.Tuples.{tuples}
-use Rattle.rls_ident.proofs.Shifted.{ident_shifted}
 use Rattle.rls_ops.specs.Shapes.{is_empty}
 use Rattle.rls_runs.specs.Runs.{AreIdents, run_idents}
 use Rattle.rls_rename.specs.Renaming.{Renaming}
@@ -37,7 +35,7 @@ use Rattle.rls_model.specs.Stems.{is_used, stems_after}
 use Rattle.rls_model.specs.WellFormed.{IsBody}
 use Rattle.rls_model.proofs.Fresh.{unused, still_used, now_used}
 use Rattle.rls_model.proofs.Insertion.{born, born_entries}
-use Rattle.rls_runs.proofs.Sorted.{Entry, IsBelow, AreAbove, Rises, AreApart, AreDistinct, AllApart, rises_all, in_put_all, distinct_of, rises_of_increasing, rises_filter}
+use Rattle.rls_runs.proofs.Sorted.{Entry, IsBelow, Rises, AreApart, AllApart, rises_all, in_put_all, distinct_of, rises_of_increasing, rises_filter}
 use Rattle.rls_model.proofs.Spliced.{entries, entries_rise}
 use Rattle.rls_model.proofs.TextSteps.{entry_ident}
 use Rattle.rls_seen.specs.Seen.{Seen, greatest_over, idents_over}

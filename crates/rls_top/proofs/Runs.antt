@@ -2,7 +2,6 @@
 use Rattle.std.proofs.Common.{◌≡◌, ◌∙◌, ◌+◌, ◌≤◌, ◌==◌, ℕ, Bool, true, false, cond, eqb, List, [], ◌∷◌, length, Option, Some, None, Result, Ok, Err, refl, sym, ap, subst, arith, ◌||◌, nat_lt, drop, sum, zero, suc, slice_get}
 use Rattle.std.specs.Str.{chars}
 use Rattle.std.proofs.lemmas.Bool.{eqb-true}
-use Rattle.std.proofs.lemmas.List.Sums.{sum_by-cons}
 use Rattle.unicode_segmentation.specs.Grapheme.{graphemes}
 use Rattle.rls_model.specs.declared.edit.Edit.{Edit}
 use Rattle.rls_model.specs.declared.edit.Edit.TheVariants as edits
