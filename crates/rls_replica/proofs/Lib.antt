@@ -9,5 +9,4 @@ pub mod Messages
 pub mod Characters
 pub mod EditFaults
 pub mod EditLaws
-pub mod EditedText
 pub mod Neighbours
