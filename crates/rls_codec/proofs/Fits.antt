@@ -1,19 +1,17 @@
 -- What is written fits the format.
-use Rattle.std.proofs.Common.{◌≡◌, ℕ, take, ◌+◌, ◌-◌, ◌^◌, ◌<◌, ◌≤◌, true, false, List, [], ◌∷◌, ◌++◌, length, Option, Some, None, refl, sym, ap, subst, ◌∙◌, arith}
-use Rattle.std.specs.Prelude.{ℤ, pos, ◌+ℤ◌, All, IsTrue, nat_lt, ◌&&◌, not, encode_utf8_all}
+use Rattle.std.proofs.Common.{◌≡◌, ℕ, take, ◌^◌, ◌<◌, ◌≤◌, true, List, [], ◌∷◌, ◌++◌, length, Option, Some, None, refl, sym, subst, arith}
+use Rattle.std.specs.Prelude.{pos, ◌+ℤ◌, All, IsTrue, nat_lt, ◌&&◌, encode_utf8_all}
 use Rattle.std.specs.Char.{IsScalar}
 use Rattle.std.specs.Int.RustNames.{int_le}
-use Rattle.std.proofs.lemmas.Int.{ints}
 use Rattle.std.proofs.lemmas.List.Elements.{All-head, All-tail}
 use Rattle.std.proofs.lemmas.List.{take_all}
 use Rattle.rls_ident.specs.declared.tuple.Tuple.{Tuple}
 use Rattle.rls_ident.specs.declared.tuple.Tuple.TheVariants.{Low, At, High}
 use Rattle.rls_ident.specs.Tuples.{offset_of}
-use Rattle.rls_ident.specs.Identifiers.{is_ident, is_bounded, is_inner_bounded, is_last_bounded, least_offset, last_of, shifted, ident_lt, follows}
-use Rattle.rls_ident.proofs.Members.{bool_cases, and_left, and_right, and_true, lt_is, lt_test}
-use Rattle.rls_ident.proofs.Ends.{eq_same}
-use Rattle.rls_runs.specs.Runs.{put_run, runs_of, run_last, is_apart, are_apart, is_increasing, AreIdents, past_offsets, is_run}
-use Rattle.rls_runs.proofs.RunsOf.{shifted_zero, shifted_shifted, idents_of_runs}
+use Rattle.rls_ident.specs.Identifiers.{is_ident, is_bounded, is_inner_bounded, is_last_bounded, least_offset, last_of}
+use Rattle.rls_ident.proofs.Members.{and_left, and_right, and_true}
+use Rattle.rls_runs.specs.Runs.{runs_of, is_apart, are_apart, AreIdents, past_offsets, is_run}
+use Rattle.rls_runs.proofs.RunsOf.{idents_of_runs}
 use Rattle.rls_runs.proofs.Texts.{scalars_of_all}
 use Rattle.rls_runs.proofs.RunsApart.{apart_runs}
 use Rattle.rls_ops.specs.declared.op.Op.{Op}

@@ -1,23 +1,20 @@
 -- Identifiers whose numbers and offsets are in the range of the format, and what is made of them.
-use Rattle.std.proofs.Common.{◌≡◌, ℕ, zero, suc, ◌+◌, ◌^◌, ◌<◌, ◌≤◌, true, false, cond, Bool, List, [], ◌∷◌, ◌++◌, length, drop, Option, Some, None, refl, ap, subst, ◌∙◌, arith, inl, inr}
-use Rattle.std.specs.Prelude.{ℤ, pos, negsuc, ◌+ℤ◌, ◌-ℤ◌, ◌≤ℤ◌, ◌/◌, ◌&&◌, nat_le, if◌then◌else◌}
+use Rattle.std.proofs.Common.{◌≡◌, ℕ, zero, suc, ◌+◌, ◌^◌, ◌<◌, ◌≤◌, true, false, cond, Bool, List, [], ◌∷◌, ◌++◌, length, drop, Option, Some, None, subst, arith, inl, inr}
+use Rattle.std.specs.Prelude.{ℤ, pos, negsuc, ◌+ℤ◌, ◌-ℤ◌, ◌≤ℤ◌, ◌/◌, nat_le}
 use Rattle.std.specs.Int.RustNames.{int_le}
-use Rattle.std.specs.Ordering.{int_eq}
 use Rattle.std.specs.declared.cmp.Ordering.{Ordering}
 use Rattle.std.specs.declared.cmp.Ordering.TheVariants.{Less, Equal, Greater}
 use Rattle.std.proofs.lemmas.Int.{ints}
-use Rattle.rls_ident.specs.declared.tuple.Spot.{Spot}
 use Rattle.rls_ident.specs.declared.tuple.Tuple.{Tuple}
 use Rattle.rls_ident.specs.declared.tuple.Tuple.TheVariants.{Low, At, High}
-use Rattle.rls_ident.specs.declared.epoch_name.EpochName.{EpochName}
 use Rattle.rls_ident.specs.Lists.{IsIn}
 use Rattle.rls_ident.specs.Maps.{by_order, under, low, high, low_inverse, high_inverse}
-use Rattle.rls_ident.specs.Tuples.{offset_of, raised, tuple_pred, tuple_cmp, at_offset}
-use Rattle.rls_ident.specs.Identifiers.{IsIdent, last_of, least_offset, greatest_offset, ident_cmp, pred, shifted}
+use Rattle.rls_ident.specs.Tuples.{offset_of, raised, tuple_pred, tuple_cmp}
+use Rattle.rls_ident.specs.Identifiers.{IsIdent, last_of, least_offset, greatest_offset, pred, shifted}
 use Rattle.rls_ident.specs.Between.{last_pos, lower_number, upper_number, middle, below, upper_behind, between}
 use Rattle.rls_ident.proofs.BetweenLaws.{below_ident, between_ident}
 use Rattle.rls_ident.proofs.Members.{and_left, and_right, and_true, int_le_is, int_le_test}
-use Rattle.rls_ident.proofs.Shifted.{ident_shifted, raised_offset, last_shifted, last_at, last_offset}
+use Rattle.rls_ident.proofs.Shifted.{ident_shifted, last_offset}
 use Rattle.rls_runs.specs.Runs.{run_idents, runs_of, idents_of}
 use Rattle.rls_codec.specs.Reading.{is_offset}
 use Rattle.rls_codec.specs.Spelled.{IsSmall, FitsInner, FitTuples, FitsBehind, FitRuns, Chained}

@@ -1,30 +1,21 @@
 -- What is spelled is well formed.
-use Rattle.std.proofs.Common.{◌≡◌, ℕ, ◌+◌, ◌-◌, ◌<◌, true, false, Bool, List, [], ◌∷◌, length, Option, Some, None, refl, subst, arith, inl, inr}
-use Rattle.std.specs.Prelude.{pos, ◌+ℤ◌, All, ◌&&◌, not, ◌==◌, nat_le, nat_lt, slice_index, int_le, if◌then◌else◌}
+use Rattle.std.proofs.Common.{◌≡◌, ℕ, true, List, [], ◌∷◌, Option, Some, None, refl, subst}
+use Rattle.std.specs.Prelude.{pos, ◌+ℤ◌, All, ◌&&◌, nat_lt, int_le}
 use Rattle.std.specs.List.{list_all}
 use Rattle.std.proofs.lemmas.List.Elements.{All-cons, All-nil}
 use Rattle.rls_ident.specs.declared.tuple.Tuple.{Tuple}
 use Rattle.rls_ident.specs.declared.tuple.Tuple.TheVariants.{Low, At, High}
 use Rattle.rls_ident.specs.declared.epoch_name.EpochName.{EpochName}
 use Rattle.rls_ident.specs.declared.epoch_name.EpochName.TheVariants.{Origin, Of}
-use Rattle.rls_ident.specs.Lists.{IsIn}
 use Rattle.rls_ident.specs.Tuples.{offset_of}
 use Rattle.rls_ident.specs.Identifiers.{is_ident, is_bounded, is_inner_bounded, last_of}
-use Rattle.rls_ident.specs.Vectors.{at_most}
-use Rattle.rls_ident.proofs.Members.{and_left, and_right, and_true, eq_is, eq_not, le_is, lt_is, not_is, not_le_is, none_found}
-use Rattle.rls_ident.proofs.Vectors.{index_le}
+use Rattle.rls_ident.proofs.Members.{and_left, and_right, and_true}
 use Rattle.rls_runs.specs.Runs.{runs_of, idents_of, is_run, past_offsets, AreIdents}
 use Rattle.rls_runs.proofs.RunOrder.{all_idents, idents_rise, increasing_of}
 use Rattle.rls_runs.proofs.Texts.{all_of_scalars}
 use Rattle.rls_ops.specs.declared.op.Op.{Op}
 use Rattle.rls_ops.specs.declared.op.Body.{Body}
 use Rattle.rls_ops.specs.declared.op.Body.TheVariants.{Insert, Delete, Rename, Leave}
-use Rattle.rls_ops.specs.declared.op.Shape.{Shape}
-use Rattle.rls_ops.specs.declared.op.Shape.TheVariants.{Author, Context, EmptyBody, TooLong, OffsetEnd}
-use Rattle.rls_ops.specs.Shapes.{shape_fault, is_next_of, is_empty, body_limit, body_len, passes_end}
-use Rattle.rls_ops.specs.Same.{op_eq}
-use Rattle.rls_ops.proofs.Waiting.{before_trans}
-use Rattle.rls_ops.proofs.Shaped.{IsShaped, shaped, next_of}
 use Rattle.rls_codec.specs.Spelled.{IsSmall, Chained, FitsInner, FitTuples, FitsRun, FitsBehind, FitRuns, FitsName, FitsBody, FitsVector, IsSpelled}
 use Rattle.rls_codec.proofs.MessageFormats.{apart_from}
 use Rattle.rls_ops.specs.WellFormed.{IsName, IsBody, IsOp, IsVector}

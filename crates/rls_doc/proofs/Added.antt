@@ -1,26 +1,22 @@
 -- Entries that are added in the order of their identifiers.
 use Rattle.std.proofs.Common.{◌≡◌, ℕ, zero, suc, ◌+◌, ◌<◌, ◌≤◌, Bool, true, false, List, [], ◌∷◌, ◌++◌, length, get_or, refl, sym, ap, subst, ◌∙◌, arith, inl, inr, ⊎_elim}
-use Rattle.std.specs.Prelude.{if◌then◌else◌, zip, ◌||◌}
+use Rattle.std.specs.Prelude.{if◌then◌else◌, zip}
 use Rattle.std.specs.List.{Contains, sum_by}
 use Rattle.std.specs.List.Sorted.{IsPermutation, IsSortedBy}
-use Rattle.std.specs.declared.cmp.Ordering.{Ordering}
-use Rattle.std.specs.declared.cmp.Ordering.TheVariants.{Less, Equal, Greater}
-use Rattle.std.specs.Ordering.{is_eq}
-use Rattle.std.proofs.lemmas.Cmp.{tied_itself}
 use Rattle.std.proofs.lemmas.List.Sums.{sum_by-cons, sum_by-append}
 use Rattle.std.proofs.lemmas.List.Sorted.{IsPermutation-sym, Contains-permutation, sum_by-IsPermutation}
 use Rattle.std.proofs.lemmas.Slice.Zip.{firsts-zip}
 use Rattle.rls_ident.specs.declared.tuple.Tuple.{Tuple}
 use Rattle.rls_ident.specs.Lists.{IsIn}
-use Rattle.rls_ident.specs.Identifiers.{ident_cmp, ident_eq, ident_lt}
+use Rattle.rls_ident.specs.Identifiers.{ident_eq, ident_lt}
 use Rattle.rls_ident.proofs.Lists.{Lt, lt_irrefl, tri}
-use Rattle.rls_ident.proofs.Members.{bool_cases, in_left, in_right, in_split, equal_is, true_false, or_false, in_any}
-use Rattle.rls_ident.proofs.Tuples.{tuples, ident_same, ident_total}
+use Rattle.rls_ident.proofs.Members.{bool_cases, in_left, in_right, in_split, true_false, or_false, in_any}
+use Rattle.rls_ident.proofs.Tuples.{tuples}
 use Rattle.rls_ident.proofs.Ends.{eq_same, ident_eq_refl}
 use Rattle.rls_runs.specs.Runs.{is_increasing}
 use Rattle.rls_runs.specs.Entries.{put, put_all, idents_in, has_ident}
 use Rattle.rls_runs.proofs.RunOrder.{of_lt}
-use Rattle.rls_runs.proofs.Sorted.{Entry, IsBelow, AreAbove, Rises, AreApart, AreDistinct, AllApart, rises_all, in_put_all, put_all_in, same_rising, above_less, rises_of_increasing, increasing_of_rises, distinct_of, apart_above}
+use Rattle.rls_runs.proofs.Sorted.{Entry, IsBelow, AreAbove, Rises, AreApart, AreDistinct, AllApart, rises_all, in_put_all, put_all_in, same_rising, above_less, rises_of_increasing, increasing_of_rises, distinct_of}
 use Rattle.rls_doc.specs.Documents.{AreNew}
 
 -- ---- identifiers that differ

@@ -1,6 +1,6 @@
 -- The place of an identifier among entries, and the runs of entries.
-use Rattle.std.proofs.Common.{◌≡◌, ℕ, zero, suc, ◌+◌, ◌<◌, ◌≤◌, Bool, true, false, List, [], ◌∷◌, length, drop, Some, Ok, Err, slice_get, refl, sym, ap, subst, ◌∙◌, arith, inl, inr, ◌||◌, ◌&&◌, not, map, Result}
-use Rattle.std.specs.Prelude.{not, if◌then◌else◌, slice_get, slice_index, is_ok}
+use Rattle.std.proofs.Common.{◌≡◌, ℕ, zero, suc, ◌+◌, ◌<◌, ◌≤◌, Bool, true, false, List, [], ◌∷◌, length, drop, Some, Ok, Err, slice_get, refl, sym, ap, subst, ◌∙◌, arith, inl, inr, ◌||◌, not}
+use Rattle.std.specs.Prelude.{not, if◌then◌else◌, slice_get, is_ok}
 use Rattle.std.specs.declared.cmp.Ordering.TheVariants.{Less, Equal, Greater}
 use Rattle.std.proofs.lemmas.Cmp.{tied_itself}
 use Rattle.std.specs.List.{list_any}
@@ -8,14 +8,11 @@ use Rattle.std.specs.declared.cmp.Ordering.{Ordering}
 use Rattle.std.specs.Ordering.{is_eq, ordering_reverse}
 use Rattle.rls_ident.specs.declared.tuple.Tuple.{Tuple}
 use Rattle.rls_ident.specs.Lists.{IsIn}
-use Rattle.rls_ident.specs.Identifiers.{ident_cmp, follows, IsIdent, ident_eq}
+use Rattle.rls_ident.specs.Identifiers.{ident_cmp, follows, ident_eq}
 use Rattle.rls_ident.proofs.Lists.{Lt, lt_trans, flipped}
 use Rattle.rls_ident.proofs.Tuples.{tuples, ident_same, ident_total}
-use Rattle.rls_ident.proofs.Members.{some_is, filter_in, not_le_test}
-use Rattle.rls_ident.specs.declared.epoch_name.EpochName.{EpochName}
-use Rattle.rls_ident.proofs.Loops.{drop_reads}
-use Rattle.rls_ident.proofs.Agreeing.{any_same}
-use Rattle.rls_runs.specs.Runs.{is_increasing, place_from, place_of, placed, put_run, runs_of, AreIdents}
+use Rattle.rls_ident.proofs.Members.{some_is}
+use Rattle.rls_runs.specs.Runs.{is_increasing, place_from, place_of, placed, put_run, runs_of}
 use Rattle.rls_runs.specs.Entries.{idents_in, Entries, has_ident}
 use Rattle.rls_runs.proofs.Sorted.{Entry, Rises, above_at, rises_of_increasing, AreAbove}
 use Rattle.rls_runs.specs.Places.{find_ident, below_count}

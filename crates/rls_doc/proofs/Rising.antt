@@ -1,5 +1,5 @@
 -- Entries whose identifiers strictly increase.
-use Rattle.std.proofs.Common.{◌≡◌, ℕ, zero, suc, Bool, true, false, cond, List, [], ◌∷◌, ◌++◌, take, drop, ◌-◌, length, Some, slice_get, refl, sym, ap, subst, ◌∙◌, arith}
+use Rattle.std.proofs.Common.{◌≡◌, ℕ, zero, suc, Bool, true, List, [], ◌∷◌, ◌++◌, take, drop, ◌-◌, length, Some, slice_get, refl, sym, ap, subst, ◌∙◌, arith}
 use Rattle.std.specs.Prelude.{filter}
 use Rattle.std.specs.declared.cmp.Ordering.TheVariants.{Less}
 use Rattle.std.specs.Ordering.{is_lt}
@@ -10,8 +10,7 @@ use Rattle.rls_ident.proofs.Members.{and_left, and_right, and_true, some_is}
 use Rattle.rls_runs.specs.Runs.{is_increasing}
 use Rattle.rls_runs.specs.Entries.{idents_in, with_idents}
 use Rattle.rls_runs.specs.Places.{last_ident, is_above}
-use Rattle.rls_runs.proofs.RunOrder.{lt_of, of_lt}
-use Rattle.rls_runs.proofs.Sorted.{Entry, IsBelow, AreAbove, Rises, above_less, rises_of_increasing, increasing_of_rises, rises_filter}
+use Rattle.rls_runs.proofs.Sorted.{Entry, AreAbove, Rises, rises_of_increasing, increasing_of_rises, rises_filter}
 pub use Rattle.rls_runs.proofs.Sorted.{rises_of_increasing as rising, increasing_of_rises as increasing}
 use Rattle.rls_doc.specs.Documents.{KeepsOrder}
 

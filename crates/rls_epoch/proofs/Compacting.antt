@@ -16,7 +16,7 @@ use Rattle.rls_epoch.specs.Marks.{mark_count, numbered, moved, kept_placed, kept
 use Rattle.rls_epoch.specs.Seen.{former_sum, node_of, nodes_of}
 use Rattle.rls_epoch.specs.Sorted.{place_name}
 use Rattle.rls_epoch.proofs.Counting.{count_marked, count_unmarked}
-use Rattle.rls_epoch.proofs.Sorting.{drop_get, get_of}
+use Rattle.rls_epoch.proofs.Sorting.{drop_get}
 
 -- ---- writes
 

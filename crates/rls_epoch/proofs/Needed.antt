@@ -3,7 +3,6 @@ use Rattle.std.proofs.Common.{◌≡◌, ℕ, zero, suc, ◌<◌, ◌≤◌, Boo
 use Rattle.std.specs.Prelude.{not}
 use Rattle.std.specs.declared.cmp.Ordering.TheVariants.{Less}
 use Rattle.std.specs.Ordering.{is_lt}
-use Rattle.std.proofs.lemmas.Bool.{cases_lt}
 use Rattle.std.proofs.lemmas.List.{map-append, take_all}
 use Rattle.std.proofs.lemmas.Option.{slice_get_within}
 use Rattle.rls_ident.specs.declared.epoch_name.EpochName.{EpochName}
@@ -24,7 +23,7 @@ use Rattle.rls_epoch.specs.Marks.{has_mark, mark_count, AreMarked, AreNamed, Are
 use Rattle.rls_epoch.specs.Seen.{nodes_of, AreLaid}
 use Rattle.rls_epoch.specs.Sorted.{place_name, names_at, AreRising, AreSorted}
 use Rattle.rls_epoch.proofs.Added.{epoch_after}
-use Rattle.rls_epoch.proofs.Counting.{mark_kept, mark_other, mark_set, some_count, set_from}
+use Rattle.rls_epoch.proofs.Counting.{mark_kept, mark_set, some_count, set_from}
 use Rattle.rls_epoch.proofs.Orders.{kept_place, place_kept, within_at, within_none}
 use Rattle.rls_epoch.proofs.Sorting.{before_at, rising_across, rising_right}
 use Rattle.rls_epoch.proofs.Spreading.{number_kept, number_same}

@@ -1,5 +1,5 @@
 -- An epoch that is to be opened, beside those that are kept.
-use Rattle.std.proofs.Common.{◌≡◌, Bool, true, false, List, ◌∷◌, refl, sym, ap, ◌∙◌}
+use Rattle.std.proofs.Common.{◌≡◌, Bool, true, false, List, ◌∷◌, sym, ap, ◌∙◌}
 use Rattle.std.specs.Prelude.{if◌then◌else◌, ◌||◌}
 use Rattle.std.specs.Ordering.{is_lt}
 use Rattle.rls_ident.specs.declared.epoch_name.EpochName.{EpochName}

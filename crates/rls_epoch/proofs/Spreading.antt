@@ -1,5 +1,5 @@
 -- The ways up from marked epochs, the latest first, until they meet.
-use Rattle.std.proofs.Common.{◌≡◌, ℕ, zero, suc, ◌-◌, ◌<◌, ◌≤◌, true, false, List, [], ◌∷◌, ◌++◌, length, set, refl, sym, ap, ◌∙◌, subst, inl, inr, ◌⊎◌, ⊎_elim, arith, length-append}
+use Rattle.std.proofs.Common.{◌≡◌, ℕ, zero, suc, ◌-◌, ◌<◌, ◌≤◌, true, false, List, [], ◌∷◌, ◌++◌, length, set, refl, sym, ap, ◌∙◌, subst, ⊎_elim, arith, length-append}
 use Rattle.std.proofs.lemmas.Bool.{cases_lt}
 use Rattle.std.proofs.Math.ListN.{length-set}
 use Rattle.rls_ident.specs.declared.epoch_name.EpochName.{EpochName}
@@ -9,7 +9,7 @@ use Rattle.rls_ident.proofs.Named.{name_eq_refl}
 use Rattle.rls_rename.specs.Renaming.{Renaming}
 use Rattle.rls_rename.specs.Tree.{Node, has_node, is_kept, path, name_of}
 use Rattle.rls_rename.specs.Connected.{top_path, is_spanned}
-use Rattle.rls_rename.proofs.Hull.{IsFront, cons_tail, front_refl, front_trans, front_none, top_front, top_most, spanned_is, is_spanned_of, path_same, front_cons, cons_head, front_tail, snoc_front}
+use Rattle.rls_rename.proofs.Hull.{IsFront, front_refl, front_trans, front_none, top_front, top_most, spanned_is, is_spanned_of, path_same, snoc_front}
 use Rattle.rls_rename.proofs.SameNodes.{path_member, path_top}
 use Rattle.rls_rename.proofs.Windows.{both_fronts}
 use Rattle.rls_epoch.specs.declared.placed.Placed.{Placed}
@@ -17,7 +17,7 @@ use Rattle.rls_epoch.specs.Links.{epoch_at, up_at}
 use Rattle.rls_epoch.specs.Marks.{has_mark, AreMarked, AreSpread}
 use Rattle.rls_epoch.specs.Seen.{node_of, nodes_of, AreLaid}
 use Rattle.rls_epoch.specs.Sorted.{place_name}
-use Rattle.rls_epoch.proofs.Counting.{mark_kept, mark_other, mark_set, set_from}
+use Rattle.rls_epoch.proofs.Counting.{mark_kept, mark_set, set_from}
 use Rattle.rls_epoch.proofs.Found.{up_earlier}
 use Rattle.rls_epoch.proofs.Meeting.{at_is, places_apart}
 use Rattle.rls_epoch.proofs.Orders.{place_kept}

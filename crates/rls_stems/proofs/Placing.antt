@@ -1,11 +1,10 @@
 -- The stems of one author: where one is found, and how the list changes.
-use Rattle.std.proofs.Common.{◌≡◌, ℕ, zero, suc, ◌+◌, ◌<◌, ◌≤◌, Bool, true, false, List, [], ◌∷◌, ◌++◌, length, set, get_or, refl, sym, ap, ◌∙◌, subst, arith, inl, inr, Option, Some, None, IsTrue}
+use Rattle.std.proofs.Common.{◌≡◌, ℕ, zero, suc, ◌+◌, ◌<◌, ◌≤◌, Bool, true, false, List, [], ◌∷◌, ◌++◌, length, set, get_or, refl, sym, ap, ◌∙◌, subst, arith, Option, Some, None, IsTrue}
 use Rattle.std.specs.Prelude.{◌==◌, nat_lt, slice_get, if◌then◌else◌, ℤ, pos}
 use Rattle.std.specs.Ordering.{int_eq}
 use Rattle.std.specs.List.{list_all}
 use Rattle.std.proofs.lemmas.Option.{slice_get-get_or, slice_get_within}
-use Rattle.rls_ident.specs.Lists.{IsIn}
-use Rattle.rls_ident.proofs.Members.{and_left, and_right, and_true, eq_is, eq_refl, neq_test, lt_is, lt_test, not_lt_is, not_true, some_is, in_all, get_in, not_lt_test}
+use Rattle.rls_ident.proofs.Members.{and_left, and_right, and_true, eq_is, eq_refl, neq_test, lt_is, lt_test, not_lt_is, some_is, in_all, get_in, not_lt_test}
 use Rattle.rls_stems.specs.declared.line.Reach.{Reach}
 use Rattle.rls_stems.specs.Reaches.{reach_of, with_reach, grown, with_grown, AreBelow, AreRising, place_in, IsPlaceOf}
 

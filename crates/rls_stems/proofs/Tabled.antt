@@ -7,7 +7,7 @@ use Rattle.std.proofs.lemmas.Int.{ints}
 use Rattle.std.proofs.lemmas.List.{append-nil, drop_all, drop_more, length-set, get_or-map, get_or-set_same}
 use Rattle.std.proofs.lemmas.Option.{slice_get_read}
 use Rattle.rls_ident.specs.Lists.{IsIn}
-use Rattle.rls_ident.proofs.Members.{same_bool, eq_is, eq_refl, eq_test, neq_test, lt_is, lt_test, not_true, int_is, int_test, in_left, in_right, map_in, all_in, not_lt_test}
+use Rattle.rls_ident.proofs.Members.{same_bool, eq_is, eq_refl, eq_test, neq_test, lt_test, not_true, int_is, int_test, in_left, in_right, map_in, all_in, not_lt_test}
 use Rattle.rls_model.specs.declared.parts.Stem.{Stem}
 use Rattle.rls_model.specs.Stems.{stem_of, with_stem, extended, with_extended}
 use Rattle.rls_stems.specs.declared.line.Reach.{Reach}
