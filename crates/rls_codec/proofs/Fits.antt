@@ -1,6 +1,6 @@
 -- What is written fits the format.
-use Rattle.std.proofs.Common.{◌≡◌, ℕ, take, ◌+◌, ◌-◌, ◌^◌, ◌<◌, ◌≤◌, true, List, [], ◌∷◌, ◌++◌, length, Option, Some, None, refl, sym, subst, arith}
-use Rattle.std.specs.Prelude.{ℤ, pos, ◌+ℤ◌, All, IsTrue, nat_lt, ◌&&◌, encode_utf8_all}
+use Rattle.std.proofs.Common.{◌≡◌, ℕ, take, ◌^◌, ◌<◌, ◌≤◌, true, List, [], ◌∷◌, ◌++◌, length, Option, Some, None, refl, sym, subst, arith}
+use Rattle.std.specs.Prelude.{pos, ◌+ℤ◌, All, IsTrue, nat_lt, ◌&&◌, encode_utf8_all}
 use Rattle.std.specs.Char.{IsScalar}
 use Rattle.std.specs.Int.RustNames.{int_le}
 use Rattle.std.proofs.lemmas.List.Elements.{All-head, All-tail}

@@ -9,11 +9,10 @@ use Rattle.std.proofs.lemmas.Slice.Zip.{firsts-zip}
 use Rattle.rls_ident.specs.declared.tuple.Tuple.{Tuple}
 use Rattle.rls_ident.specs.Lists.{IsIn}
 use Rattle.rls_ident.specs.Identifiers.{ident_eq, ident_lt}
-use Rattle.rls_ident.proofs.Ends.{eq_same}
 use Rattle.rls_ident.proofs.Lists.{Lt, lt_irrefl, tri}
 use Rattle.rls_ident.proofs.Members.{bool_cases, in_left, in_right, in_split, true_false, or_false, in_any}
 use Rattle.rls_ident.proofs.Tuples.{tuples}
-use Rattle.rls_ident.proofs.Ends.{ident_eq_refl}
+use Rattle.rls_ident.proofs.Ends.{eq_same, ident_eq_refl}
 use Rattle.rls_runs.specs.Runs.{is_increasing}
 use Rattle.rls_runs.specs.Entries.{put, put_all, idents_in, has_ident}
 use Rattle.rls_runs.proofs.RunOrder.{of_lt}

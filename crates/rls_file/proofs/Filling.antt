@@ -9,8 +9,9 @@ use Rattle.rls_codec.specs.Reading.{Read, ◌>>=◌, with_rule, number_at, chain
 use Rattle.rls_model.specs.History.{History, Fresh, Then, me_of, members_of}
 use Rattle.rls_model.specs.History.{count as count_in}
 use Rattle.rls_model.specs.Receiving.{State}
+use Rattle.rls_parts.specs.Rules.{may_wait}
 use Rattle.rls_file.specs.Files.{Content, Journal}
-use Rattle.rls_file.specs.ReadingFiles.{steps_at, entry_at, may_wait, journal_at}
+use Rattle.rls_file.specs.ReadingFiles.{steps_at, entry_at, journal_at}
 use Rattle.rls_file.specs.ReadingJournals.{waiting_at, filled_at, behind_form_at}
 use Rattle.rls_file.proofs.Events.{fails_then, steps_members, steps_me}
 

@@ -22,8 +22,7 @@ use Rattle.rls_model.specs.History.{History, me_of, members_of, count_of}
 use Rattle.rls_model.specs.History.{count as count_in}
 use Rattle.rls_model.specs.Legal.{AreWaiting}
 use Rattle.rls_model.specs.Receiving.{State, verdict_of, answer_beside, answer_after_shape, answer, after, receive, receive_after}
-use Rattle.rls_parts.specs.Rules.{is_fine, waits_behind}
-use Rattle.rls_file.specs.ReadingFiles.{may_wait}
+use Rattle.rls_parts.specs.Rules.{is_fine, waits_behind, may_wait}
 use Rattle.rls_file.specs.ReadingJournals.{waits, last_of, waiting_at, more_waiting_at}
 use Rattle.rls_file.specs.Journals.{JournalSeen, Tells, told}
 use Rattle.rls_file.proofs.Events.{fails_then, fails_before}

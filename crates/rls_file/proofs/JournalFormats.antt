@@ -17,8 +17,9 @@ use Rattle.rls_codec.proofs.MessageFormats.{op}
 use Rattle.rls_model.specs.History.{Entry, Accepted, Acknowledged, History, Fresh, Then, group_of, me_of, members_of}
 use Rattle.rls_model.specs.History.{count as count_in}
 use Rattle.rls_model.specs.Receiving.{State}
+use Rattle.rls_parts.specs.Rules.{may_wait}
 use Rattle.rls_file.specs.Files.{entry_bytes, entries_of}
-use Rattle.rls_file.specs.ReadingFiles.{steps_at, may_be_next, is_new, entry_of_kind, any_entry_at, entry_at, may_wait, journal_at}
+use Rattle.rls_file.specs.ReadingFiles.{steps_at, may_be_next, is_new, entry_of_kind, any_entry_at, entry_at, journal_at}
 use Rattle.rls_file.specs.SpelledFiles.{FitsEntry, IsReadable, FitWaiting}
 
 -- ---- entries

@@ -15,9 +15,8 @@ use Rattle.rls_model.specs.History.{Entry, Accepted, Acknowledged, History, me_o
 use Rattle.rls_model.specs.History.{count as count_in}
 use Rattle.rls_model.specs.Legal.{AreWaiting}
 use Rattle.rls_model.specs.Receiving.{State, comes_before}
-use Rattle.rls_parts.specs.Rules.{is_fine, waits_behind}
+use Rattle.rls_parts.specs.Rules.{is_fine, waits_behind, may_wait}
 use Rattle.rls_file.specs.Files.{Journal, entry_bytes, entries_of, head_bytes, journal_bytes}
-use Rattle.rls_file.specs.ReadingFiles.{may_wait}
 use Rattle.rls_file.specs.FileLaws.{IsFile}
 use Rattle.rls_file.specs.StoredLaws.{StorableIsSpelled, StorableIsFile, FreshStored}
 use Rattle.rls_file.proofs.FileFormats.{file_reads}

@@ -14,11 +14,11 @@ use Rattle.rls_model.specs.Answers.{Answer, Applies, Repeats, Waits, Refuses}
 use Rattle.rls_model.specs.History.{Accepted, Acknowledged, History, Fresh, Then, group_of, me_of, members_of}
 use Rattle.rls_model.specs.History.{count as count_in}
 use Rattle.rls_model.specs.Legal.{MayAccept, AreWaiting, IsLegal}
-use Rattle.rls_model.specs.Receiving.{State, answer, comes_before}
-use Rattle.rls_model.proofs.Answered.{answer_applies}
-use Rattle.rls_parts.specs.Rules.{is_fine, waits_behind}
-use Rattle.rls_parts.proofs.RestoredLog.{fine_none}
-use Rattle.rls_file.specs.ReadingFiles.{applies, may_be_next, may_wait}
+use Rattle.rls_model.specs.Receiving.{State, answer, answer_beside, answer_after_shape, verdict_of, waiting_under, comes_before}
+use Rattle.rls_model.proofs.Answered.{answer_applies, answer_waits, IsHeld, may_accept}
+use Rattle.rls_parts.specs.Rules.{is_fine, waits_behind, may_wait}
+use Rattle.rls_parts.proofs.RestoredLog.{fine_none, MayWait, may_wait_is}
+use Rattle.rls_file.specs.ReadingFiles.{applies, may_be_next}
 use Rattle.rls_file.specs.SpelledFiles.{IsReadable, IsHead, IsSpelledJournal}
 use Rattle.rls_file.specs.FileLaws.{AreSpelled}
 use Rattle.rls_file.specs.Files.{Journal}
@@ -52,32 +52,6 @@ readable_spelled (Then H (Acknowledged a v)) r = readable_spelled H r.0
 
 abbrev IsNextWaiting : ℕ → ℕ → List ℕ → Option Op → Op → Type 0
 IsNextWaiting members me v before o = IsSpelled members o × (may_wait members me v before o ≡ true)
-
--- what the test says of one that waits
-record MayWait (members me : ℕ) (v : List ℕ) (before : Option Op) (o : Op) : Type 0 where
-  shape : shape_fault members o ≡ None
-  other : o.author ≡ me → ⊥
-  above : slice_index v o.author < o.seq
-  behind : waits_behind before o ≡ true
-  causes : at_most o.context v ≡ false
-
-may_wait_is : (members me : ℕ) (v : List ℕ) (before : Option Op) (o : Op) → may_wait members me v before o ≡ true → MayWait members me v before o
-may_wait_is members me v before o e =
-    let a = is_fine (shape_fault members o) in
-    let b = not (o.author == me) in
-    let c = nat_lt (slice_index v o.author) o.seq in
-    let d = waits_behind before o in
-    let f = not (at_most o.context v) in
-    let p = and_left (a && b && c && d) f e in
-    let q = and_left (a && b && c) d p in
-    let r = and_left (a && b) c q in
-    record {
-      shape = fine_none (shape_fault members o) (and_left a b r);
-      other = eq_not o.author me (not_is (o.author == me) (and_right a b r));
-      above = lt_is (slice_index v o.author) o.seq (and_right (a && b) c q);
-      behind = and_right (a && b && c) d p;
-      causes = not_is (at_most o.context v) (and_right (a && b && c && d) f e);
-    }
 
 -- the first comes before each behind it
 first_before : (members me : ℕ) (v : List ℕ) (w : Op) (ws : List Op) → Chained (IsNextWaiting members me v) (Some w) ws → list_all (λ p. comes_before w p) ws ≡ true

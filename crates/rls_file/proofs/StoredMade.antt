@@ -13,7 +13,7 @@ use Rattle.rls_ident.specs.declared.epoch_name.EpochName.TheVariants.{Origin, Of
 use Rattle.rls_ident.specs.Lists.{IsIn}
 use Rattle.rls_ident.specs.Tuples.{offset_of}
 use Rattle.rls_ident.specs.Identifiers.{is_ident, IsIdent, follows, last_of, shifted}
-use Rattle.rls_ident.proofs.Members.{and_left, and_right, and_true, eq_not, in_drop, in_map, in_take, lt_test, not_lt_is, get_in, int_le_test}
+use Rattle.rls_ident.proofs.Members.{and_left, and_right, and_true, eq_not, in_drop, in_map, in_take, lt_test, not_lt_is, get_in, int_le_test, not_zero}
 use Rattle.rls_ident.proofs.Shifted.{ident_shifted, shifted_none, shifted_shifted, last_offset}
 use Rattle.rls_runs.specs.Runs.{run_idents, put_run, runs_of, idents_of, AreIdents}
 use Rattle.rls_runs.proofs.Finding.{run_length}
@@ -211,10 +211,6 @@ body_fits H (edits.Insert at cs) m =
     let n = not_zero (length cs) m.some in
     let x = first_between (stems H) (me_of H) (next_seq H) (get_before xs at) (slice_get xs at) (length cs) in
     ((m.short.0, ranged_tuples x m.body.0 (first_ranged (stems H) (me_of H) (next_seq H) (get_before xs at) (slice_get xs at) (length cs) n (before_ranged xs f at) (bound_ranged xs f at) m.me m.seq)), text_fits cs m.short.1 m.body.1)
-  where
-    not_zero : (n : ℕ) → (n == 0) ≡ false → 0 < n
-    not_zero zero h = absurd (eq_not 0 0 h refl)
-    not_zero (suc n) h = omega arith
 body_fits H (edits.Delete at n) m =
     let xs = take n (drop at (idents H)) in
     let k = not_lt_is 4194304 (length xs) m.few in

@@ -18,10 +18,10 @@ use Rattle.rls_file.specs.declared.file.SaveError.TheVariants.{TooLarge}
 use Rattle.rls_file.specs.declared.file.FileError.{FileError}
 use Rattle.rls_file.specs.declared.file.FileError.TheVariants.{Damaged, NotBuilt}
 use Rattle.rls_file.specs.declared.file.FileError.TheVariants as errors
-use Rattle.rls_parts.specs.Rules.{Broken, broken}
+use Rattle.rls_parts.specs.Rules.{Broken, broken, may_wait}
 use Rattle.rls_codec.proofs.MessageFormats.{whole_ok}
 use Rattle.rls_file.specs.Files.{Content, Journal, Snapshot}
-use Rattle.rls_file.specs.ReadingFiles.{steps_at, may_be_next, is_new, entry_of_kind, entry_at, may_wait, journal_at, snapshot_at, is_file_form, content_at, form_at, is_snapshot, begins_snapshot, file_at, unless_broken, tested, file_of}
+use Rattle.rls_file.specs.ReadingFiles.{steps_at, may_be_next, is_new, entry_of_kind, entry_at, journal_at, snapshot_at, is_file_form, content_at, form_at, is_snapshot, begins_snapshot, file_at, unless_broken, tested, file_of}
 use Rattle.rls_file.specs.ReadingJournals.{behind_form_at}
 use Rattle.rls_file.specs.Decoded.{DecodesFile, left_of, damage_of}
 use Rattle.rls_file.specs.Journals.{JournalSeen, Tells, told}

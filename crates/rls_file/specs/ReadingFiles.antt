@@ -15,7 +15,7 @@ use Rattle.rls_model.specs.declared.parts.Stem.{Stem}
 use Rattle.rls_model.specs.declared.parts.EpochPart.{EpochPart}
 use Rattle.rls_model.specs.declared.parts.TextRun.{TextRun}
 use Rattle.rls_model.specs.declared.parts.Parts.{Parts}
-use Rattle.rls_parts.specs.Rules.{Broken, broken, is_fine, waits_behind}
+use Rattle.rls_parts.specs.Rules.{Broken, broken, may_wait}
 use Rattle.rls_file.specs.Files.{newest_form, Content, Journal, Snapshot, place_of_broken}
 
 -- ---- parts of a snapshot
@@ -133,12 +133,6 @@ any_entry_at H bytes = with_rule (λ k. nat_le k 1) byte_at bytes >>= λ kind. e
 -- an entry behind this history; the rule of an acknowledgement has the place of its kind
 unfoldable pub entry_at : History → List ℕ → Read Entry
 entry_at H bytes = with_rule (is_new H) (any_entry_at H) bytes
-
--- the operation may wait behind the one before: it has the right shape, another member made it, its number is above
--- the count, and its causes aren't all there
-abbrev pub may_wait : ℕ → ℕ → List ℕ → Option Op → Op → Bool
-may_wait members me vector before o =
-    is_fine (shape_fault members o) && not (o.author == me) && nat_lt (slice_index vector o.author) o.seq && waits_behind before o && not (at_most o.context vector)
 
 -- what follows the own number in form 1
 unfoldable pub journal_at : ℕ → ℕ → ℕ → List ℕ → Read State

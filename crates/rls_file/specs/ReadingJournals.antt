@@ -7,8 +7,9 @@ use Rattle.rls_model.specs.Answers.{Answer, Waits}
 use Rattle.rls_model.specs.History.{Entry, Acknowledged, History, Then, me_of, members_of}
 use Rattle.rls_model.specs.History.{count as count_in}
 use Rattle.rls_model.specs.Receiving.{State}
+use Rattle.rls_parts.specs.Rules.{may_wait}
 use Rattle.rls_file.specs.Files.{Content}
-use Rattle.rls_file.specs.ReadingFiles.{content_at, steps_at, entry_at, may_wait}
+use Rattle.rls_file.specs.ReadingFiles.{content_at, steps_at, entry_at}
 use Rattle.rls_file.specs.Journals.{JournalSeen, Tells, told}
 
 -- the journal tells a history beside which nothing waits

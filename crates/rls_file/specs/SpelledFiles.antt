@@ -11,8 +11,9 @@ use Rattle.rls_model.specs.declared.parts.Stem.{Stem}
 use Rattle.rls_model.specs.declared.parts.EpochPart.{EpochPart}
 use Rattle.rls_model.specs.declared.parts.TextRun.{TextRun}
 use Rattle.rls_model.specs.declared.parts.Parts.{Parts}
+use Rattle.rls_parts.specs.Rules.{may_wait}
 use Rattle.rls_file.specs.Files.{entries_of, own_of, others_of, Content, Journal, Snapshot}
-use Rattle.rls_file.specs.ReadingFiles.{is_above, run_before, may_be_next, is_new, may_wait, is_file_form}
+use Rattle.rls_file.specs.ReadingFiles.{is_above, run_before, may_be_next, is_new, is_file_form}
 
 -- the numbers at the head of a file
 pub record IsHead (form group members me : ℕ) : Type 0 where

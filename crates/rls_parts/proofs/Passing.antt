@@ -9,7 +9,7 @@ use Rattle.rls_model.specs.declared.parts.Stem.{Stem}
 use Rattle.rls_model.specs.declared.parts.EpochPart.{EpochPart}
 use Rattle.rls_model.specs.declared.parts.TextRun.{TextRun}
 use Rattle.rls_model.specs.declared.parts.Parts.{Parts}
-use Rattle.rls_parts.specs.Rules.{Broken, or_broken, row_fault, is_row_of, stem_fault, is_stem_of, stands_behind, epoch_fault, is_epoch_of, text_fault, is_text_of, log_fault, is_next, whole_fault, ends_at_vector, are_retained, held_fault, is_waiting, waits_behind, broken, Passes, BrokenOrPasses}
+use Rattle.rls_parts.specs.Rules.{Broken, or_broken, row_fault, is_row_of, stem_fault, is_stem_of, stands_behind, epoch_fault, is_epoch_of, text_fault, is_text_of, log_fault, is_next, whole_fault, ends_at_vector, are_retained, held_fault, may_wait, waits_behind, broken, Passes, BrokenOrPasses}
 use Rattle.rls_parts.specs.Reading.{member_at, stable_of_parts}
 
 -- ---- one rule after another
@@ -111,7 +111,5 @@ pub log_first : (p : Parts) (v : List ℕ) (i : ℕ) (o : Op) (os : List Op) →
 log_first p v i o os h = went_on (is_next p v o) (log_fault p (raise v o.author) (suc i) os) i h
 
 pub held_first : (p : Parts) (before : Option Op) (i : ℕ) (o : Op) (os : List Op) → held_fault p before i (o ∷ os) ≡ None →
-    (is_waiting p o ≡ true) × (waits_behind before o ≡ true) × (held_fault p (Some o) (suc i) os ≡ None)
-held_first p before i o os h =
-    let r = went_on (is_waiting p o && waits_behind before o) (held_fault p (Some o) (suc i) os) i h in
-    (and_left (is_waiting p o) (waits_behind before o) r.0, and_right (is_waiting p o) (waits_behind before o) r.0, r.1)
+    (may_wait p.members p.me p.vector before o ≡ true) × (held_fault p (Some o) (suc i) os ≡ None)
+held_first p before i o os h = went_on (may_wait p.members p.me p.vector before o) (held_fault p (Some o) (suc i) os) i h

@@ -4,7 +4,7 @@ use Rattle.std.specs.List.{list_all}
 use Rattle.rls_ident.specs.EpochNames.{name_eq}
 use Rattle.rls_ident.specs.Lists.{IsIn}
 use Rattle.rls_ident.specs.Vectors.{at_most, raise}
-use Rattle.rls_ident.proofs.Members.{and_left, and_right, and_true, eq_is, lt_is, in_any, not_le_test}
+use Rattle.rls_ident.proofs.Members.{and_left, and_right, and_true, eq_is, lt_is, in_any, not_le_test, eq_not, not_is}
 use Rattle.rls_ident.proofs.Named.{name_eq_is}
 use Rattle.rls_ident.proofs.Vectors.{at_most_refl, at_most_trans, at_most-raise, index_le}
 use Rattle.rls_ops.specs.declared.op.Op.{Op}
@@ -22,7 +22,7 @@ use Rattle.rls_seen.specs.Seen.{stable_over, unstable_over}
 use Rattle.rls_parts.specs.Given.{AreGiven}
 use Rattle.rls_parts.specs.Reading.{has_member, names_of, stable_of_parts}
 use Rattle.rls_parts.specs.Restored.{acks_of, seen_of}
-use Rattle.rls_parts.specs.Rules.{is_fine, log_fault, is_next, is_kept_name, is_last, raised_by, ends_at_vector, held_fault, is_waiting}
+use Rattle.rls_parts.specs.Rules.{is_fine, log_fault, is_next, is_kept_name, is_last, raised_by, ends_at_vector, held_fault, may_wait, waits_behind}
 use Rattle.rls_parts.proofs.Passing.{log_first, held_first}
 use Rattle.rls_parts.proofs.RestoredRows.{left_given, stable_given}
 
@@ -128,37 +128,57 @@ leave_restored p g v h o q l =
 
 -- ---- what waits
 
-waits_first : (p : Parts) (o : Op) → is_waiting p o ≡ true → (shape_fault p.members o ≡ None) × (slice_index p.vector o.author < o.seq)
-waits_first p o h =
-    let a = is_fine (shape_fault p.members o) in
-    let b = not (o.author == p.me) in
-    let c = nat_lt (slice_index p.vector o.author) o.seq in
-    let d = not (at_most o.context p.vector) in
-    let h3 = and_left (a && b && c) d h in
-    let h2 = and_left (a && b) c h3 in
-    (fine_none (shape_fault p.members o) (and_left a b h2), lt_is (slice_index p.vector o.author) o.seq (and_right (a && b) c h3))
+-- what the test says of one that waits
+pub record MayWait (members me : ℕ) (v : List ℕ) (before : Option Op) (o : Op) : Type 0 where
+  pub shape : shape_fault members o ≡ None
+  pub other : o.author ≡ me → ⊥
+  pub above : slice_index v o.author < o.seq
+  pub behind : waits_behind before o ≡ true
+  pub causes : at_most o.context v ≡ false
+
+pub may_wait_is : (members me : ℕ) (v : List ℕ) (before : Option Op) (o : Op) → may_wait members me v before o ≡ true → MayWait members me v before o
+may_wait_is members me v before o e =
+    let a = is_fine (shape_fault members o) in
+    let b = not (o.author == me) in
+    let c = nat_lt (slice_index v o.author) o.seq in
+    let d = waits_behind before o in
+    let f = not (at_most o.context v) in
+    let p = and_left (a && b && c && d) f e in
+    let q = and_left (a && b && c) d p in
+    let r = and_left (a && b) c q in
+    record {
+      shape = fine_none (shape_fault members o) (and_left a b r);
+      other = eq_not o.author me (not_is (o.author == me) (and_right a b r));
+      above = lt_is (slice_index v o.author) o.seq (and_right (a && b) c q);
+      behind = and_right (a && b && c) d p;
+      causes = not_is (at_most o.context v) (and_right (a && b && c && d) f e);
+    }
+
+waits : (p : Parts) (before : Option Op) (o : Op) → may_wait p.members p.me p.vector before o ≡ true → MayWait p.members p.me p.vector before o
+waits p before o h = may_wait_is p.members p.me p.vector before o h
 
 -- what comes before one of them comes before all behind it
 before_all : (p : Parts) (q w : Op) (i : ℕ) (ws : List Op) → comes_before q w ≡ true → held_fault p (Some w) i ws ≡ None → list_all (comes_before q) ws ≡ true
 before_all p q w i [] b h = refl
 before_all p q w i (x ∷ ws) b h =
     let r = held_first p (Some w) i x ws h in
-    let c = before_trans q w x b r.1 in
-    and_true (comes_before q x) (list_all (comes_before q) ws) c (before_all p q x (suc i) ws c r.2)
+    let c = before_trans q w x b (waits p (Some w) x r.0).behind in
+    and_true (comes_before q x) (list_all (comes_before q) ws) c (before_all p q x (suc i) ws c r.1)
 
 behind_all : (p : Parts) (w : Op) (i : ℕ) (ws : List Op) → held_fault p (Some w) i ws ≡ None → list_all (comes_before w) ws ≡ true
 behind_all p w i [] h = refl
 behind_all p w i (x ∷ ws) h =
     let r = held_first p (Some w) i x ws h in
-    and_true (comes_before w x) (list_all (comes_before w) ws) r.1 (before_all p w x (suc i) ws r.1 r.2)
+    let b = (waits p (Some w) x r.0).behind in
+    and_true (comes_before w x) (list_all (comes_before w) ws) b (before_all p w x (suc i) ws b r.1)
 
 held_go : (p : Parts) (before : Option Op) (i : ℕ) (ws : List Op) → held_fault p before i ws ≡ None → ((o : Op) → IsIn o ws → IsOp o × IsInRange o.body) → AreHeld p.members p.vector ws
 held_go p before i [] h w = tt
 held_go p before i (x ∷ ws) h w =
     let r = held_first p before i x ws h in
-    let n = waits_first p x r.0 in
+    let n = waits p before x r.0 in
     let k = w x (inl refl) in
-    (k.0, k.1, n.0, n.1, behind_all p x (suc i) ws r.2, held_go p (Some x) (suc i) ws r.2 (λ o q. w o (inr q)))
+    (k.0, k.1, n.shape, n.above, behind_all p x (suc i) ws r.1, held_go p (Some x) (suc i) ws r.1 (λ o q. w o (inr q)))
 
 pub held_restored : (p : Parts) → AreGiven p → ((o : Op) → IsIn o p.held → IsOp o × IsInRange o.body) → held_fault p None 0 p.held ≡ None → AreHeld (length p.vector) p.vector p.held
 held_restored p g w h = subst (λ n. AreHeld n p.vector p.held) (sym g.vector) (held_go p None 0 p.held h w)

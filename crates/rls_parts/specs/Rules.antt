@@ -207,15 +207,16 @@ abbrev pub waits_behind : Option Op → Op → Bool
 waits_behind None o = true
 waits_behind (Some before) o = comes_before before o
 
--- the operation is another member's, was not accepted, and its causes aren't there
-abbrev pub is_waiting : Parts → Op → Bool
-is_waiting p o =
-    is_fine (shape_fault p.members o) && not (o.author == p.me) && nat_lt (slice_index p.vector o.author) o.seq && not (at_most o.context p.vector)
+-- the operation may wait behind the one before: it has the right shape, another member made it, its number is above
+-- the count, and its causes aren't all there
+abbrev pub may_wait : ℕ → ℕ → List ℕ → Option Op → Op → Bool
+may_wait members me vector before o =
+    is_fine (shape_fault members o) && not (o.author == me) && nat_lt (slice_index vector o.author) o.seq && waits_behind before o && not (at_most o.context vector)
 
 -- the first place of an operation that doesn't stand so
 abbrev pub held_fault : Parts → Option Op → ℕ → List Op → Option ℕ
 held_fault p before i [] = None
-held_fault p before i (o ∷ os) = if is_waiting p o && waits_behind before o then held_fault p (Some o) (suc i) os else Some i
+held_fault p before i (o ∷ os) = if may_wait p.members p.me p.vector before o then held_fault p (Some o) (suc i) os else Some i
 
 -- ---- all
 

@@ -13,12 +13,15 @@ use Rattle.rls_model.specs.Editing.{made, edit_fault, next_seq}
 use Rattle.rls_model.specs.History.{me_of}
 use Rattle.rls_model.specs.Receiving.{State, accept}
 use Rattle.rls_model.proofs.RenamedRun as renamed
+use Rattle.rls_model.specs.WellFormed.{IsEdit}
 use Rattle.rls_seen.specs.Edits.{edit_fault_over, edited, IsFault}
 use Rattle.rls_seen.specs.Seen.{Seen, own_count, idents_over}
 use Rattle.rls_seen.specs.Stands.{StandsFor}
 use Rattle.rls_seen.proofs.Editing.{idents_alike, own_alike, edit_faults_alike, edited_stands}
 use Rattle.rls_seen.proofs.Keeping.{text_alike}
-use Rattle.rls_replica.specs.Editing.{IsOneRun}
+use Rattle.rls_seen.proofs.EditedText as whole_text
+use Rattle.rls_seen.specs.Sane.{IsSane}
+use Rattle.rls_replica.specs.Editing.{IsOneRun, edited_text}
 
 -- a refused edit is refused by the history
 pub refused_alike : (s : Seen) (t : State) (edit : Edit) (e : EditError) → StandsFor s t → IsFault e (edit_fault_over s edit) → IsFault e (edit_fault t.history edit)
@@ -36,3 +39,10 @@ one_run s t h f =
     ∙ ap (λ me. (At (new_pos (idents_over s)) me (next_seq H) (pos 0) ∷ [], length (text H)) ∷ []) (sym h.me)
     ∙ ap (λ n. (At (new_pos (idents_over s)) s.acks.me (n + 1) (pos 0) ∷ [], length (text H)) ∷ []) (sym (own_alike s t h))
     ∙ ap (λ (cs : List ℕ). (At (new_pos (idents_over s)) s.acks.me (own_count s + 1) (pos 0) ∷ [], length cs) ∷ []) (sym (text_alike s t h))
+
+-- the text after an edit is the edited text
+pub text-edited : (s : Seen) (edit : Edit) → IsSane s → IsEdit edit → edit_fault_over s edit ≡ None → text_over (edited s edit) ≡ edited_text edit (text_over s)
+text-edited s (edits.Insert at cs) sane i h = whole_text.inserted s at cs sane i h
+text-edited s (edits.Delete at n) sane i h = whole_text.deleted s at n sane
+text-edited s edits.Rename sane i h = whole_text.renamed s
+text-edited s edits.Leave sane i h = whole_text.parted s

@@ -11,5 +11,4 @@ pub mod EditFaults
 pub mod LeaveFaults
 pub mod KeptNames
 pub mod EditLaws
-pub mod EditedText
 pub mod Neighbours

@@ -20,6 +20,7 @@ pub mod Sizes
 pub mod Applied
 pub mod Staying
 pub mod Making
+pub mod EditedText
 pub mod Dropped
 pub mod Repeating
 pub mod Numbers

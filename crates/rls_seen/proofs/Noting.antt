@@ -87,21 +87,7 @@ noted_go true s t a v m w e h =
       waiting = h.waiting;
       log = (h.log.0, record { stable = at_most_trans h.log.0 (stable H) (stable K) h.log.1.stable (stable_grows H (Acknowledged a v) l); kept = h.log.1.kept });
     }
-noted_go false s t a v m w e h = record {
-  legal = h.legal;
-  sound = h.sound;
-  group = h.group;
-  me = h.me;
-  vector = h.vector;
-  places = h.places;
-  rows = h.rows;
-  left = h.left;
-  stems = h.stems;
-  epochs = h.epochs;
-  text = h.text;
-  waiting = h.waiting;
-  log = h.log;
-}
+noted_go false s t a v m w e h = h
 
 -- an acknowledgement is noted by both
 pub acknowledged_stands : (s : Seen) (t : State) (a : ℕ) (v : List ℕ) → a < members s → IsVector (members s) v → StandsFor s t → StandsFor (acknowledged s a v) (acknowledge t a v)

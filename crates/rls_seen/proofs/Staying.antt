@@ -248,21 +248,4 @@ acknowledged_sane s a v h l e = go (rows.counts s.acks a v) refl
         let b = not (a == s.acks.me) in
         let c = nat_le (slice_index v a) (slice_index s.acks.mine a) in
         noted_sane s a v h l e (le_is (slice_index v a) (slice_index s.acks.mine a) (and_right b c (and_left (b && c) (not (at_most v (row_of s.acks a))) f)))
-    go false f = record {
-      group = h.group;
-      few = h.few;
-      small = h.small;
-      rows = h.rows;
-      own = h.own;
-      stems = h.stems;
-      epochs = h.epochs;
-      within = h.within;
-      idents = h.idents;
-      used = h.used;
-      waiting = h.waiting;
-      log = (h.log.0, record { stable = h.log.1.stable; follow = h.log.1.follow });
-      unstable = h.unstable;
-      leaves = h.leaves;
-      total = h.total;
-      former = h.former;
-    }
+    go false f = h

@@ -34,7 +34,6 @@ use Rattle.rls_seen.specs.Sane.{IsSane}
 use Rattle.rls_seen.specs.Seen.{Seen, own_count, greatest_over, idents_over, text_over}
 use Rattle.rls_seen.proofs.Making.{made_may, edited_sane}
 use Rattle.rls_seen.proofs.TextLists.{ident_in}
-use Rattle.rls_replica.specs.Editing.{edited_text}
 
 -- ---- lists
 
@@ -120,7 +119,7 @@ insert_text_is : (s : Seen) (at : ℕ) (cs : List ℕ) → (edited s (edits.Inse
 unfolding accepted made_over first_made
 insert_text_is s at cs = refl
 
-inserted : (s : Seen) (at : ℕ) (cs : List ℕ) → IsSane s → IsEdit (edits.Insert at cs) → edit_fault_over s (edits.Insert at cs) ≡ None → text_over (edited s (edits.Insert at cs)) ≡ take at (text_over s) ++ (cs ++ drop at (text_over s))
+pub inserted : (s : Seen) (at : ℕ) (cs : List ℕ) → IsSane s → IsEdit (edits.Insert at cs) → edit_fault_over s (edits.Insert at cs) ≡ None → text_over (edited s (edits.Insert at cs)) ≡ take at (text_over s) ++ (cs ++ drop at (text_over s))
 inserted s at cs sane i h =
     let x = first_made s at (length cs) in
     let j = first_ident s at cs sane i h in
@@ -176,7 +175,7 @@ delete_text_is : (s : Seen) (at n : ℕ) → (edited s (edits.Delete at n)).text
 unfolding accepted made_over
 delete_text_is s at n = refl
 
-deleted : (s : Seen) (at n : ℕ) → IsSane s → text_over (edited s (edits.Delete at n)) ≡ take at (text_over s) ++ drop (at + n) (text_over s)
+pub deleted : (s : Seen) (at n : ℕ) → IsSane s → text_over (edited s (edits.Delete at n)) ≡ take at (text_over s) ++ drop (at + n) (text_over s)
 deleted s at n sane =
     let c : Entry → ℕ = λ e. e.1 in
     let xs = take n (drop at (idents_over s)) in
@@ -192,7 +191,7 @@ chars-with : (f : List Tuple → List Tuple) (es : List Entry) → map (λ (e : 
 chars-with f [] = refl
 chars-with f (e ∷ es) = ap (λ cs. e.1 ∷ cs) (chars-with f es)
 
-renamed : (s : Seen) → text_over (edited s edits.Rename) ≡ text_over s
+pub renamed : (s : Seen) → text_over (edited s edits.Rename) ≡ text_over s
 unfolding accepted made_over
 renamed s = go (is_greatest_over s (made_over s edits.Rename))
   where
@@ -200,14 +199,6 @@ renamed s = go (is_greatest_over s (made_over s edits.Rename))
     go true = chars-with (renamed_over s (made_over s edits.Rename) (idents_over s)) s.text
     go false = refl
 
-parted : (s : Seen) → text_over (edited s edits.Leave) ≡ text_over s
+pub parted : (s : Seen) → text_over (edited s edits.Leave) ≡ text_over s
 unfolding accepted made_over
 parted s = refl
-
--- ---- all
-
-pub text-edited : (s : Seen) (edit : Edit) → IsSane s → IsEdit edit → edit_fault_over s edit ≡ None → text_over (edited s edit) ≡ edited_text edit (text_over s)
-text-edited s (edits.Insert at cs) sane i h = inserted s at cs sane i h
-text-edited s (edits.Delete at n) sane i h = deleted s at n sane
-text-edited s edits.Rename sane i h = renamed s
-text-edited s edits.Leave sane i h = parted s
