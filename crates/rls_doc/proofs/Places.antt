@@ -1,17 +1,17 @@
 -- The place of an identifier among entries, and the runs of entries.
-use Rattle.std.proofs.Common.{◌≡◌, ℕ, zero, suc, ◌+◌, ◌<◌, ◌≤◌, Bool, true, false, List, [], ◌∷◌, length, drop, Some, Ok, Err, slice_get, refl, sym, ap, subst, ◌∙◌, arith, inl, inr, ◌||◌, not}
-use Rattle.std.specs.Prelude.{not, if◌then◌else◌, slice_get, is_ok}
+use Rattle.std.proofs.Common.{◌≡◌, ℕ, zero, suc, ◌+◌, ◌<◌, ◌≤◌, Bool, true, false, List, [], ◌∷◌, length, drop, Some, Ok, Err, slice_get, refl, sym, ap, subst, ◌∙◌, arith, inl, inr, not}
+use Rattle.std.specs.Prelude.{if◌then◌else◌, is_ok}
 use Rattle.std.specs.declared.cmp.Ordering.TheVariants.{Less, Equal, Greater}
 use Rattle.std.proofs.lemmas.Cmp.{tied_itself}
 use Rattle.rls_ident.specs.declared.tuple.Tuple.{Tuple}
 use Rattle.rls_ident.specs.Lists.{IsIn}
-use Rattle.rls_ident.specs.Identifiers.{ident_cmp, follows, ident_eq}
-use Rattle.rls_ident.proofs.Lists.{Lt, lt_trans, flipped}
+use Rattle.rls_ident.specs.Identifiers.{ident_cmp, follows}
+use Rattle.rls_ident.proofs.Lists.{Lt, lt_trans}
 use Rattle.rls_ident.proofs.Tuples.{tuples, ident_same, ident_total}
 use Rattle.rls_ident.proofs.Members.{some_is}
 use Rattle.rls_runs.specs.Runs.{is_increasing, place_from, place_of, placed, put_run, runs_of}
-use Rattle.rls_runs.specs.Entries.{idents_in, Entries, has_ident}
-use Rattle.rls_runs.proofs.Sorted.{Entry, Rises, above_at, rises_of_increasing, AreAbove}
+use Rattle.rls_runs.specs.Entries.{idents_in, has_ident}
+use Rattle.rls_runs.proofs.Sorted.{Entry, Rises, above_at, rises_of_increasing}
 use Rattle.rls_runs.specs.Places.{find_ident, below_count}
 
 in_from : (es : List Entry) (i : ℕ) (e : Entry) → slice_get es i ≡ Some e → IsIn e es

@@ -1,12 +1,11 @@
 -- What is read as a journal is a legal history with sound waiting operations, and may be stored again.
-use Rattle.std.proofs.Common.{◌≡◌, ℕ, ◌-◌, ◌<◌, true, false, List, [], ◌∷◌, Option, Some, None, refl, subst, inl, inr}
-use Rattle.std.specs.Prelude.{◌&&◌, not, ◌==◌, nat_le, nat_lt, slice_index}
+use Rattle.std.proofs.Common.{◌≡◌, ℕ, ◌-◌, true, false, List, [], ◌∷◌, Option, Some, None, refl, subst, inl, inr}
+use Rattle.std.specs.Prelude.{nat_le, nat_lt}
 use Rattle.std.specs.List.{list_all}
 use Rattle.rls_ident.specs.Lists.{IsIn}
 use Rattle.rls_ident.specs.Vectors.{at_most}
-use Rattle.rls_ident.proofs.Members.{and_left, and_right, and_true, eq_not, le_is, lt_is, not_is, none_found}
+use Rattle.rls_ident.proofs.Members.{and_left, and_right, and_true, le_is, none_found}
 use Rattle.rls_ops.specs.declared.op.Op.{Op}
-use Rattle.rls_ops.specs.Shapes.{shape_fault}
 use Rattle.rls_ops.proofs.Waiting.{before_trans}
 use Rattle.rls_codec.specs.Spelled.{Chained, IsSpelled}
 use Rattle.rls_codec.proofs.SpelledSound.{spelled_op, fits_vector}
@@ -14,10 +13,10 @@ use Rattle.rls_model.specs.Answers.{Answer, Applies, Repeats, Waits, Refuses}
 use Rattle.rls_model.specs.History.{Accepted, Acknowledged, History, Fresh, Then, group_of, me_of, members_of}
 use Rattle.rls_model.specs.History.{count as count_in}
 use Rattle.rls_model.specs.Legal.{MayAccept, AreWaiting, IsLegal}
-use Rattle.rls_model.specs.Receiving.{State, answer, answer_beside, answer_after_shape, verdict_of, waiting_under, comes_before}
-use Rattle.rls_model.proofs.Answered.{answer_applies, answer_waits, IsHeld, may_accept}
-use Rattle.rls_parts.specs.Rules.{is_fine, waits_behind, may_wait}
-use Rattle.rls_parts.proofs.RestoredLog.{fine_none, MayWait, may_wait_is}
+use Rattle.rls_model.specs.Receiving.{State, answer, comes_before}
+use Rattle.rls_model.proofs.Answered.{answer_applies}
+use Rattle.rls_parts.specs.Rules.{may_wait}
+use Rattle.rls_parts.proofs.RestoredLog.{MayWait, may_wait_is}
 use Rattle.rls_file.specs.ReadingFiles.{applies, may_be_next}
 use Rattle.rls_file.specs.SpelledFiles.{IsReadable, IsHead, IsSpelledJournal}
 use Rattle.rls_file.specs.FileLaws.{AreSpelled}

@@ -13,7 +13,7 @@ use Rattle.rls_ident.specs.declared.epoch_name.EpochName.TheVariants.{Origin, Of
 use Rattle.rls_ident.specs.Lists.{IsIn}
 use Rattle.rls_ident.specs.Tuples.{offset_of}
 use Rattle.rls_ident.specs.Identifiers.{is_ident, IsIdent, follows, last_of, shifted}
-use Rattle.rls_ident.proofs.Members.{and_left, and_right, and_true, eq_not, in_drop, in_map, in_take, lt_test, not_lt_is, get_in, int_le_test, not_zero}
+use Rattle.rls_ident.proofs.Members.{and_left, and_right, and_true, in_drop, in_map, in_take, lt_test, not_lt_is, get_in, int_le_test, not_zero}
 use Rattle.rls_ident.proofs.Shifted.{ident_shifted, shifted_none, shifted_shifted, last_offset}
 use Rattle.rls_runs.specs.Runs.{run_idents, put_run, runs_of, idents_of, AreIdents}
 use Rattle.rls_runs.proofs.Finding.{run_length}

@@ -1,11 +1,9 @@
 -- Reading files.
-use Rattle.std.specs.Prelude.{ℕ, ℤ, pos, zero, suc, Bool, true, false, ◌&&◌, not, List, [], ◌++◌, ◌-◌, ◌==◌, length, slice_index, codes, Option, Some, None, Result, Ok, Err, nat_lt, nat_le, if◌then◌else◌}
+use Rattle.std.specs.Prelude.{ℕ, ℤ, pos, zero, suc, Bool, true, false, ◌&&◌, List, [], ◌++◌, ◌-◌, ◌==◌, length, codes, Option, Some, None, Result, Ok, Err, nat_lt, nat_le, if◌then◌else◌}
 use Rattle.std.specs.Int.{w32, w64}
 use Rattle.rls_ident.specs.declared.tuple.Tuple.{Tuple}
 use Rattle.rls_ops.specs.declared.op.Op.{Op}
 use Rattle.rls_codec.specs.Reading.{Read, ◌>>=◌, with_rule, byte_at, number_at, signed_at, chain_at, many_at, counted_at, vector_at, name_at, runs_at, next_run_at, text_at, op_at, magic_at, is_member_count, whole}
-use Rattle.rls_ident.specs.Vectors.{at_most}
-use Rattle.rls_ops.specs.Shapes.{shape_fault}
 use Rattle.rls_model.specs.Answers.{Answer, Applies}
 use Rattle.rls_model.specs.History.{Entry, Accepted, Acknowledged, History, Fresh, Then, members_of}
 use Rattle.rls_model.specs.History.{count as count_in}

@@ -9,7 +9,7 @@ use Rattle.rls_model.specs.declared.parts.Stem.{Stem}
 use Rattle.rls_model.specs.declared.parts.EpochPart.{EpochPart}
 use Rattle.rls_model.specs.declared.parts.TextRun.{TextRun}
 use Rattle.rls_model.specs.declared.parts.Parts.{Parts}
-use Rattle.rls_parts.specs.Rules.{Broken, or_broken, row_fault, is_row_of, stem_fault, is_stem_of, stands_behind, epoch_fault, is_epoch_of, text_fault, is_text_of, log_fault, is_next, whole_fault, ends_at_vector, are_retained, held_fault, may_wait, waits_behind, broken, Passes, BrokenOrPasses}
+use Rattle.rls_parts.specs.Rules.{Broken, or_broken, row_fault, is_row_of, stem_fault, is_stem_of, stands_behind, epoch_fault, is_epoch_of, text_fault, is_text_of, log_fault, is_next, whole_fault, ends_at_vector, are_retained, held_fault, may_wait, broken, Passes, BrokenOrPasses}
 use Rattle.rls_parts.specs.Reading.{member_at, stable_of_parts}
 
 -- ---- one rule after another
