@@ -1,9 +1,6 @@
 -- Former lists: a nonempty increasing list of identifiers is one, and each node has one.
-use Rattle.std.proofs.Common.{◌≡◌, ◌<◌, true, List, [], ◌∷◌, length, refl, arith, subst, inl, inr}
+use Rattle.std.proofs.Common.{◌<◌, List, [], ◌∷◌, length, arith, subst, inl, inr}
 use Rattle.std.specs.List.{list_all}
-use Rattle.std.specs.declared.cmp.Ordering.{Ordering}
-use Rattle.std.specs.declared.cmp.Ordering.TheVariants.{Less, Equal, Greater}
-use Rattle.std.specs.Ordering.{is_lt}
 use Rattle.rls_ident.specs.declared.tuple.Tuple.{Tuple}
 use Rattle.rls_ident.specs.Identifiers.{is_ident, ident_cmp, ident_lt}
 use Rattle.rls_ident.proofs.Members.{and_left, and_right, less_is}

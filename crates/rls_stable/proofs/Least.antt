@@ -1,10 +1,8 @@
 -- The least of the awaited rows, row by row.
-use Rattle.std.proofs.Common.{◌≡◌, ℕ, ◌<◌, ◌+◌, Bool, true, false, cond, List, [], ◌∷◌, ◌++◌, length, get_or, min, max, refl, ap, ◌∙◌, arith, add-one}
-use Rattle.std.specs.Prelude.{◌==◌}
+use Rattle.std.proofs.Common.{◌≡◌, ℕ, ◌+◌, true, false, List, [], ◌∷◌, ◌++◌, refl, add-one}
 use Rattle.std.proofs.lemmas.List.{append-nil}
-use Rattle.rls_ident.specs.Vectors.{join, meet}
-use Rattle.rls_ops.proofs.KeptRows.{row_length}
-use Rattle.rls_ops.specs.Rows.{AcksSeen, AreRows, row_of, awaits, awaited, least_of}
+use Rattle.rls_ident.specs.Vectors.{meet}
+use Rattle.rls_ops.specs.Rows.{AcksSeen, row_of, awaits, awaited, least_of}
 
 pub least_of-append : (v : List ℕ) (ws us : List (List ℕ)) → least_of v (ws ++ us) ≡ least_of (least_of v ws) us
 least_of-append v [] us = refl
