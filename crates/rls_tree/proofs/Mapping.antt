@@ -1,35 +1,20 @@
 -- Entries with other identifiers, run by run; runs and their identifiers.
-use Rattle.std.proofs.Common.{◌≡◌, ℕ, ◌+◌, Bool, true, false, cond, List, [], ◌∷◌, ◌++◌, length, map, take, drop, Some, slice_get, refl, sym, ap, ◌∙◌, subst, arith, add-one}
+use Rattle.std.proofs.Common.{◌≡◌, ℕ, ◌+◌, List, [], ◌∷◌, ◌++◌, length, map, take, drop, Some, slice_get, refl, sym, ap, ◌∙◌, subst, arith}
 use Rattle.std.specs.Prelude.{zip}
 use Rattle.std.proofs.lemmas.List.{append-nil, map-append, take-append-drop}
 use Rattle.std.proofs.Math.Seq.{take-add}
 use Rattle.rls_ident.specs.declared.tuple.Tuple.{Tuple}
-use Rattle.rls_ident.specs.Identifiers.{follows}
 use Rattle.rls_ident.proofs.Members.{some_is}
-use Rattle.rls_runs.specs.Runs.{run_idents, idents_of, put_run, runs_of}
+use Rattle.rls_runs.specs.Runs.{run_idents, idents_of}
 use Rattle.rls_runs.specs.Entries.{Entries, idents_in, put_all, with_idents}
 use Rattle.rls_runs.proofs.RunOrder.{Rising, rising_left, rising_right}
 use Rattle.rls_doc.specs.Documents.{AreNew}
 use Rattle.rls_tree.proofs.AtPlaces.{idents_append}
-use Rattle.rls_tree.proofs.Changes.{follows_is}
 use Rattle.rls_runs.proofs.Gaps.{below_none, rising_below}
 use Rattle.rls_tree.proofs.Puts.{put_gap}
 use Rattle.rls_tree.proofs.Without.{below_new}
 
 -- ---- runs
-
-put_idents : (x : List Tuple) (rs : List (List Tuple × ℕ)) → idents_of (put_run x rs) ≡ x ∷ idents_of rs
-put_idents x [] = refl
-put_idents x ((y, n) ∷ rs) = go (follows y x) refl
-  where
-    go : (b : Bool) → follows y x ≡ b → idents_of (cond b ((x, n + 1) ∷ rs) ((x, 1) ∷ (y, n) ∷ rs)) ≡ x ∷ run_idents y n ++ idents_of rs
-    go true e = rw add-one (ap (λ z. x ∷ run_idents z n ++ idents_of rs) (sym (follows_is x y e)))
-    go false e = refl
-
--- the identifiers of the maximal runs
-pub idents_of_runs : (xs : List (List Tuple)) → idents_of (runs_of xs) ≡ xs
-idents_of_runs [] = refl
-idents_of_runs (x ∷ xs) = put_idents x (runs_of xs) ∙ ap (λ ys. x ∷ ys) (idents_of_runs xs)
 
 pub single_run : (rs : List (List Tuple × ℕ)) (r : List Tuple × ℕ) → length rs ≡ 1 → slice_get rs 0 ≡ Some r → idents_of rs ≡ run_idents r.0 r.1
 single_run [] r n g = absurd (omega arith)

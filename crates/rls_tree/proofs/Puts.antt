@@ -142,18 +142,6 @@ pub put_step : (added cur new all : Entries) (at n : ℕ) → new ≡ put_all (t
 put_step added cur new all at n e h =
     ap (put_all (drop (at + n) added)) e ∙ sym (put_append (take n (drop at added)) (drop (at + n) added) cur) ∙ ap (λ p. put_all p cur) (sym (parted at n added)) ∙ h
 
-put_length : (e : Entry) (es : Entries) → length (put e es) ≡ 1 + length es
-put_length e [] = omega arith
-put_length e (x ∷ es) = go (ident_lt x.0 e.0) (put_length e es)
-  where
-    go : (b : Bool) → length (put e es) ≡ 1 + length es → length (if b then x ∷ put e es else e ∷ x ∷ es) ≡ 1 + length (x ∷ es)
-    go true h = omega (arith, h)
-    go false h = omega arith
-
-pub all_length : (p es : Entries) → length (put_all p es) ≡ length p + length es
-all_length [] es = omega arith
-all_length (e ∷ p) es = let h = all_length p (put e es) in let k = put_length e es in omega (arith, h, k)
-
 -- ---- none of the rest is there yet
 
 has_put : (e : Entry) (es : Entries) (x : List Tuple) → ident_eq e.0 x ≡ false → has_ident (idents_in es) x ≡ false → has_ident (idents_in (put e es)) x ≡ false

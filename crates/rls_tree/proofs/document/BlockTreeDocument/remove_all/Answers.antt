@@ -6,7 +6,8 @@ use Rattle.rls_tree.specs.Edits.{removed}
 use Rattle.std.specs.Prelude.{not}
 use Rattle.rls_runs.specs.Entries.{has_ident}
 use Rattle.rls_runs.proofs.Sorted.{Entry}
-use Rattle.rls_tree.proofs.Mapping.{single_run, idents_of_runs}
+use Rattle.rls_runs.proofs.RunsOf.{idents_of_runs}
+use Rattle.rls_tree.proofs.Mapping.{single_run}
 use Rattle.rls_tree.proofs.Without.{filter_short}
 use Rattle.rls_tree.proofs.document.BlockTreeDocument.remove_all.Goals as goal
 

@@ -11,7 +11,8 @@ use Rattle.std.proofs.Math.ListN.{drop_of_length-le}
 use Rattle.rls_runs.proofs.RunOrder.{Rising, rising_of}
 use Rattle.rls_runs.proofs.RunPlaces.{within_total, next_start}
 use Rattle.rls_doc.specs.Documents.{AreNew}
-use Rattle.rls_tree.proofs.Puts.{put_step, new_step, new_now, all_length, taken_length, run_taken}
+use Rattle.rls_runs.proofs.Sorted.{length-put_all}
+use Rattle.rls_tree.proofs.Puts.{put_step, new_step, new_now, taken_length, run_taken}
 use Rattle.rls_tree.proofs.tree.BlockTree.insert_all.Goals as goal
 
 pub loop-run-init : goal.loop-run-init
@@ -80,7 +81,7 @@ loop-run-preserved c =
     let len = c.len-in-loop-run.ensures.len in
     let put : next ≡ put_all (take n (drop at added)) cur = c.in_ok-put_run.ensures.ok ∙ ap (λ p. put_all p cur) (is ∙ ap (λ m. take m (drop at added)) (sym len)) in
     let rising : Rising (idents_in added) = subst Rising (sym (firsts-zip (idents_of rs) cs (sym c.requires.as_many))) (rising_of (idents_of rs) c.requires.rises) in
-    let l = all_length (take n (drop at added)) cur in
+    let l = length-put_all (take n (drop at added)) cur in
     let m = ap length put in
     let z = length-zip (idents_of rs) cs in
     let t = taken_length at n added (omega (arith, w, inv.place, c.requires.as_many, z, len)) in

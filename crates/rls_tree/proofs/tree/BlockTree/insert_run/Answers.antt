@@ -5,7 +5,8 @@ use Rattle.std.proofs.Math.ListN.{drop_of_length-le}
 use Rattle.rls_runs.proofs.RunOrder.{Rising, run_rising, run_ident}
 use Rattle.rls_tree.proofs.AtPlaces.{piece_idents}
 use Rattle.rls_tree.proofs.Cases.{own_length}
-use Rattle.rls_tree.proofs.Puts.{put_step, new_step, all_length, taken_length}
+use Rattle.rls_runs.proofs.Sorted.{length-put_all}
+use Rattle.rls_tree.proofs.Puts.{put_step, new_step, taken_length}
 use Rattle.rls_tree.proofs.tree.BlockTree.insert_run.Goals as goal
 
 pub loop-done-preserved : goal.loop-done-preserved
@@ -17,7 +18,7 @@ loop-done-preserved c =
     let at = c.loop-done.done in
     let n = c.in_ok-done.field-0 in
     let rising : Rising (idents_in added) = subst Rising (sym (piece_idents b c.requires.as_many)) (run_rising b.0.0 b.0.1 (run_ident b.0 c.len.ensures.run)) in
-    let l = all_length (take n (drop at added)) cur in
+    let l = length-put_all (take n (drop at added)) cur in
     let m = ap length c.in_ok-done.ensures.ok in
     let o = own_length b c.requires.as_many in
     let t = taken_length at n added (omega (arith, o, c.in_ok-done.ensures.within)) in
