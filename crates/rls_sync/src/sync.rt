@@ -11,6 +11,7 @@ ghost use Rattle.rls_seen.specs.Messages.{message_over, taken_over, taken_of, Is
 ghost use Rattle.rls_seen.specs.Seen.{members};
 ghost use Rattle.rls_seen.specs.Stands.{StandsFor};
 ghost use Rattle.rls_replica.specs.Faults.{IsForeign};
+ghost use Rattle.rls_replica.specs.Names.{KeepsNames};
 
 use rls_codec::{DecodeError, decode_message, encode_message};
 use rls_replica::{Replica, SendError, TakeError, Taken};
@@ -68,6 +69,9 @@ pub fn take_bytes(
         → (m : Message) × (message_of bytes.now ≡ Ok m) × IsForeign replica.old m × (g ≡ m.group) × (n ≡ m.members) × (replica.new ≡ replica.old) }
     ensures cut { IsErrOf result TakeBytesError.OutOfMemory
         → (replica.new ≡ replica.old) ⊎ ((m : Message) × (message_of bytes.now ≡ Ok m) × IsPartTaken replica.old m replica.new) }
+
+    // Each epoch that the replica kept it still keeps.
+    ensures names { KeepsNames replica.old replica.new }
 
     // For every history and waiting operations that the replica stands for.
     ensures stands { IfOk result (λ taken. (t : State) → StandsFor replica.old t → (m : Message) × (message_of bytes.now ≡ Ok m)
