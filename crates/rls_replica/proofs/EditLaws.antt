@@ -15,7 +15,7 @@ use Rattle.rls_model.specs.Receiving.{State, accept}
 use Rattle.rls_model.proofs.RenamedRun as renamed
 use Rattle.rls_model.specs.WellFormed.{IsEdit}
 use Rattle.rls_seen.specs.Edits.{edit_fault_over, edited, IsFault}
-use Rattle.rls_seen.specs.Seen.{Seen, own_count, idents_over}
+use Rattle.rls_seen.specs.Seen.{Seen, own_count, idents_over, text_over}
 use Rattle.rls_seen.specs.Stands.{StandsFor}
 use Rattle.rls_seen.proofs.Editing.{idents_alike, own_alike, edit_faults_alike, edited_stands}
 use Rattle.rls_seen.proofs.Keeping.{text_alike}

@@ -3,8 +3,10 @@ use Rattle.std.proofs.lemmas.Result.{err_from_is_err_and}
 use Rattle.rls_model.specs.declared.edit.Edit.{Edit}
 use Rattle.rls_seen.specs.Edits.{edit_fault_over, made_over, IsFault}
 use Rattle.rls_seen.specs.Seen.{text_over}
-use Rattle.rls_seen.proofs.Editing.{edited_stands}
+use Rattle.rls_seen.proofs.Editing.{edited_stands, edit_faults_alike, own_alike}
 use Rattle.rls_replica.proofs.EditLaws.{refused_alike, one_run, text-edited}
+use Rattle.rls_replica.proofs.LeaveFaults.{leave_fault}
+use Rattle.rls_replica.proofs.KeptNames.{accepted_names, names_unchanged}
 use Rattle.rls_replica.proofs.replica.Replica.edit.Goals as goal
 
 pub returns-in_err-seq-clause-refused : goal.returns-in_err-seq-clause-refused
