@@ -2,7 +2,7 @@
 
 use rls_ident::{EpochName, Ident, Spot, Tuple, Vector};
 use rls_runs::{Run, RunList, Runs, Text};
-use std::alloc::Global;
+use std::alloc::{AllocError, Global};
 use std::cmp::Ordering;
 use std::test::Fail;
 
@@ -106,6 +106,12 @@ fn text(alloc: Global, characters: &str) -> Result<Text, Fail> {
     Ok(Text::from_str(alloc, characters)?)
 }
 
+/// The text of a list of these characters.
+fn listed(alloc: Global, characters: &str) -> Result<Text, AllocError> {
+    let list: Vec<char> = characters.chars().collect(alloc)?;
+    Ok(Text::from_vec(list))
+}
+
 #[test]
 fn texts(rt: HostRuntime) -> Result<(), Fail> {
     let alloc = rt.alloc();
@@ -125,7 +131,6 @@ fn texts(rt: HostRuntime) -> Result<(), Fail> {
     assert_eq!(rt; hello.len(), 2);
     hello.truncate(1);
     assert_eq!(rt; hello.to_utf8()?.as_str(), "e");
-    let characters: Vec<char> = "ho".chars().collect(alloc)?;
-    assert_eq!(rt; Text::from_vec(characters).to_utf8()?.as_str(), "ho");
+    assert_eq!(rt; listed(alloc, "ho")?.to_utf8()?.as_str(), "ho");
     Ok(())
 }

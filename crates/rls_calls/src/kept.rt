@@ -2,7 +2,7 @@
 
 use crate::spelled::{Deed, Told, op_of};
 use rls_ident::{EpochName, Ident, Spot, Tuple, Vector};
-use rls_ops::Op;
+use rls_ops::{Body, Op, Text};
 use rls_stable::{Acks, Log};
 use rls_stems::StemTable;
 use std::alloc::Global;
@@ -113,17 +113,16 @@ fn stems(rt: HostRuntime) -> Result<(), Fail> {
         seq: 1,
         offset: 0,
     };
-    let first = [spot.as_tuple()];
-    let op = op_of(
-        alloc,
-        (1, 1, &[0, 0], ORIGIN, Deed::Insert(&first, "hello")),
-    )?;
+    let text = Text::from_str(alloc, "hello")?;
+    assert_eq!(rt; text.len(), 5);
+    let first = Ident::from_tuples(alloc, &[spot.as_tuple()])?;
+    let body = Body::Insert { first, text };
     let mut table = StemTable::new(alloc, 2)?;
     assert!(rt; table.get(1, 1).is_none());
     assert!(rt; table.may_use(1, 1, spot, 5));
     assert_eq!(rt; table.due(1, 1, spot), Some(0));
     table.reserve(1)?;
-    table.note(1, 1, &op.body);
+    table.note(1, 1, &body);
     assert_eq!(rt;
         table.get(1, 1).map(|stem| (stem.low, stem.next)),
         Some((0, 5))

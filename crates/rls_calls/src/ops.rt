@@ -86,19 +86,20 @@ fn sizes(rt: HostRuntime) -> Result<(), Fail> {
 #[test]
 fn operations_differ(rt: HostRuntime) -> Result<(), Fail> {
     let alloc = rt.alloc();
-    let (first, next) = ([at(0)], [at(1)]);
+    let tuples = [at(0), at(1)];
+    let (first, next) = tuples.split_at(1);
     let cases: &[Told<'_>] = &[
-        (1, 1, &[0, 0], ORIGIN, Deed::Insert(&first, "ab")),
-        (0, 1, &[0, 0], ORIGIN, Deed::Insert(&first, "ab")),
-        (1, 2, &[0, 0], ORIGIN, Deed::Insert(&first, "ab")),
-        (1, 1, &[0, 1], ORIGIN, Deed::Insert(&first, "ab")),
-        (1, 1, &[0, 0], OPENED, Deed::Insert(&first, "ab")),
-        (1, 1, &[0, 0], ORIGIN, Deed::Insert(&next, "ab")),
-        (1, 1, &[0, 0], ORIGIN, Deed::Insert(&first, "ac")),
-        (1, 1, &[0, 0], ORIGIN, Deed::Insert(&first, "abc")),
-        (1, 1, &[0, 0], ORIGIN, Deed::Delete(&first, 2)),
-        (1, 1, &[0, 0], ORIGIN, Deed::Delete(&first, 3)),
-        (1, 1, &[0, 0], ORIGIN, Deed::Rename(&first, 2)),
+        (1, 1, &[0, 0], ORIGIN, Deed::Insert(first, "ab")),
+        (0, 1, &[0, 0], ORIGIN, Deed::Insert(first, "ab")),
+        (1, 2, &[0, 0], ORIGIN, Deed::Insert(first, "ab")),
+        (1, 1, &[0, 1], ORIGIN, Deed::Insert(first, "ab")),
+        (1, 1, &[0, 0], OPENED, Deed::Insert(first, "ab")),
+        (1, 1, &[0, 0], ORIGIN, Deed::Insert(next, "ab")),
+        (1, 1, &[0, 0], ORIGIN, Deed::Insert(first, "ac")),
+        (1, 1, &[0, 0], ORIGIN, Deed::Insert(first, "abc")),
+        (1, 1, &[0, 0], ORIGIN, Deed::Delete(first, 2)),
+        (1, 1, &[0, 0], ORIGIN, Deed::Delete(first, 3)),
+        (1, 1, &[0, 0], ORIGIN, Deed::Rename(first, 2)),
         (1, 1, &[0, 0], ORIGIN, Deed::Leave),
     ];
     let mut ops = Ops::new(alloc);

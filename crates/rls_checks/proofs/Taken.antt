@@ -12,12 +12,12 @@ use Rattle.rls_replica.proofs.Changes.{are_new}
 -- none of them is there
 gone : (xs : List (List Tuple)) (es : Entries) (x : List Tuple) → IsIn x xs → IsIn x (idents_in (without_all xs es)) → ⊥
 gone xs [] x p q = q
-gone xs (e ∷ es) x p q = go (has_ident xs e.0) refl q
+gone xs (e ∷ es) x p q = go (has_ident xs e.0) refl (gone xs es x p) q
   where
-    go : (b : Bool) → has_ident xs e.0 ≡ b → IsIn x (idents_in (cond (not b) (e ∷ without_all xs es) (without_all xs es))) → ⊥
-    go true h q = gone xs es x p q
-    go false h (inl k) = absurd (cc (any_in (λ y. ident_eq y e.0) x xs p (same_eq x e.0 (sym k)), h))
-    go false h (inr k) = gone xs es x p k
+    go : (b : Bool) → has_ident xs e.0 ≡ b → (IsIn x (idents_in (without_all xs es)) → ⊥) → IsIn x (idents_in (cond (not b) (e ∷ without_all xs es) (without_all xs es))) → ⊥
+    go true h later q = later q
+    go false h later (inl k) = absurd (cc (any_in (λ y. ident_eq y e.0) x xs p (same_eq x e.0 (sym k)), h))
+    go false h later (inr k) = later k
 
 pub taken_new : (xs : List (List Tuple)) (es : Entries) → AreNew xs (idents_in (without_all xs es))
 taken_new xs es = are_new xs (idents_in (without_all xs es)) (gone xs es)

@@ -89,7 +89,7 @@ fn of_text(trace: u64, text: &Text) -> u64 {
 fn of_place(trace: u64, place: Result<u64, u64>) -> u64 {
     match place {
         Ok(place) => mixed(trace, place),
-        Err(below) => mixed(trace, below + 1_000_000),
+        Err(below) => mixed(mixed(trace, below), 1),
     }
 }
 
@@ -309,21 +309,24 @@ fn own(seq: u32, offset: i32) -> Tuple {
     }
 }
 
+/// Whether the tree of `heXYllo` has the block of `XY` above the two others.
+fn is_balanced(alloc: Global, tree: &BlockTree) -> Result<bool, Fail> {
+    let Some(root) = tree.root() else {
+        return Ok(false);
+    };
+    let middle = is_block(alloc, root, &[own(1, 1), own(2, 0)], "XY")?;
+    let left = is_leaf(alloc, root.left(), &[own(1, 0)], "he")?;
+    let right = is_leaf(alloc, root.right(), &[own(1, 2)], "llo")?;
+    Ok(root.height() == 2 && middle && left && right)
+}
+
 #[test]
 fn nodes_are_balanced(rt: HostRuntime) -> Result<(), Fail> {
     let alloc = rt.alloc();
     let mut replica = Replica::new(alloc, 7, 0, 2)?;
-    assert!(rt; replica.tree().root().is_none());
     assert_eq!(rt; insert(alloc, &mut replica, 0, "hello")?, 1);
     assert_eq!(rt; insert(alloc, &mut replica, 2, "XY")?, 2);
-    let tree = replica.tree();
-    assert_eq!(rt; tree.height(), 2);
-    let Some(root) = tree.root() else {
-        return Err(Fail::new("no root"));
-    };
-    assert_eq!(rt; root.height(), 2);
-    assert!(rt; is_block(alloc, root, &[own(1, 1), own(2, 0)], "XY")?);
-    assert!(rt; is_leaf(alloc, root.left(), &[own(1, 0)], "he")?);
-    assert!(rt; is_leaf(alloc, root.right(), &[own(1, 2)], "llo")?);
+    assert_eq!(rt; replica.tree().height(), 2);
+    assert!(rt; is_balanced(alloc, replica.tree())?);
     Ok(())
 }

@@ -3,5 +3,5 @@ use Rattle.rls_checks.proofs.documents.RenamedBy.new.Goals as goal
 
 pub invariant_of-result : goal.invariant_of-result
 invariant_of-result c = record {
-  ordered = forward_keeps c.args.renaming.now c.total.ensures.former;
+  ordered = forward_keeps c.args.renaming.now c.total-total.ensures.former;
 }
