@@ -6,6 +6,8 @@ mod bytes;
 #[cfg(test)]
 mod commands;
 #[cfg(test)]
+mod documents;
+#[cfg(test)]
 mod editing;
 #[cfg(test)]
 mod epochs;
@@ -18,8 +20,14 @@ mod files;
 #[cfg(test)]
 mod keepers;
 #[cfg(test)]
+mod large;
+#[cfg(test)]
 mod members;
 #[cfg(test)]
 mod renamings;
+#[cfg(test)]
+mod replicas;
+#[cfg(test)]
+mod spelling;
 #[cfg(test)]
 mod values;
