@@ -112,25 +112,36 @@ fn listed(alloc: Global, characters: &str) -> Result<Text, AllocError> {
     Ok(Text::from_vec(list))
 }
 
+/// Whether these are its characters.
+fn is(text: &Text, characters: &str) -> Result<bool, AllocError> {
+    Ok(text.to_utf8()?.as_str() == characters)
+}
+
 #[test]
-fn texts(rt: HostRuntime) -> Result<(), Fail> {
+fn texts_grow(rt: HostRuntime) -> Result<(), Fail> {
     let alloc = rt.alloc();
     let mut hello = text(alloc, "l")?;
     hello.append(text(alloc, "lo")?)?;
     hello.prepend(text(alloc, "he")?)?;
-    assert_eq!(rt; hello.to_utf8()?.as_str(), "hello");
+    assert!(rt; is(&hello, "hello")?);
     let (front, back) = hello.as_slices();
-    assert_eq!(rt; front.len() + back.len(), 5);
+    assert!(rt; front.len() <= 5);
+    assert_eq!(rt; back.len(), 5 - front.len());
+    assert!(rt; is(&listed(alloc, "ho")?, "ho")?);
+    Ok(())
+}
+
+#[test]
+fn texts_are_cut(rt: HostRuntime) -> Result<(), Fail> {
+    let alloc = rt.alloc();
+    let mut hello = text(alloc, "hello")?;
     assert_eq!(rt; hello.len(), 5);
     let rest = hello.split_off(3)?;
-    assert_eq!(rt; hello.to_utf8()?.as_str(), "hel");
-    assert_eq!(rt; rest.to_utf8()?.as_str(), "lo");
-    assert_eq!(rt; hello.len(), 3);
+    assert_eq!(rt; (hello.len(), rest.len()), (3, 2));
     hello.drop_front(1);
-    assert_eq!(rt; hello.to_utf8()?.as_str(), "el");
     assert_eq!(rt; hello.len(), 2);
     hello.truncate(1);
-    assert_eq!(rt; hello.to_utf8()?.as_str(), "e");
-    assert_eq!(rt; listed(alloc, "ho")?.to_utf8()?.as_str(), "ho");
+    assert!(rt; is(&hello, "e")?);
+    assert!(rt; is(&rest, "lo")?);
     Ok(())
 }

@@ -104,29 +104,40 @@ fn logs(rt: HostRuntime) -> Result<(), Fail> {
     Ok(())
 }
 
-#[test]
-fn stems(rt: HostRuntime) -> Result<(), Fail> {
-    let alloc = rt.alloc();
-    let spot = Spot {
+/// The tuple of member 1's first operation with this offset.
+fn spot(offset: i32) -> Spot {
+    Spot {
         pos: 9,
         replica: 1,
         seq: 1,
-        offset: 0,
-    };
+        offset,
+    }
+}
+
+/// The stem that an insertion of `hello` begins.
+fn table(alloc: Global) -> Result<StemTable, Fail> {
     let text = Text::from_str(alloc, "hello")?;
-    assert_eq!(rt; text.len(), 5);
-    let first = Ident::from_tuples(alloc, &[spot.as_tuple()])?;
+    if text.len() > 9 {
+        return Err(Fail::new("text"));
+    }
+    let first = Ident::from_tuples(alloc, &[spot(0).as_tuple()])?;
     let body = Body::Insert { first, text };
     let mut table = StemTable::new(alloc, 2)?;
-    assert!(rt; table.get(1, 1).is_none());
-    assert!(rt; table.may_use(1, 1, spot, 5));
-    assert_eq!(rt; table.due(1, 1, spot), Some(0));
     table.reserve(1)?;
     table.note(1, 1, &body);
-    assert_eq!(rt;
-        table.get(1, 1).map(|stem| (stem.low, stem.next)),
-        Some((0, 5))
-    );
+    Ok(table)
+}
+
+#[test]
+fn stems(rt: HostRuntime) -> Result<(), Fail> {
+    let alloc = rt.alloc();
+    let fresh = StemTable::new(alloc, 2)?;
+    assert!(rt; fresh.get(1, 1).is_none());
+    assert!(rt; fresh.may_use(1, 1, spot(0), 5));
+    assert_eq!(rt; fresh.due(1, 1, spot(0)), Some(0));
+    let table = table(alloc)?;
+    let found = table.get(1, 1).map(|stem| (stem.low, stem.next));
+    assert_eq!(rt; found, Some((0, 5)));
     let cases: &[(i32, usize, bool)] = &[
         (5, 9, true),
         (4, 1, false),
@@ -135,14 +146,17 @@ fn stems(rt: HostRuntime) -> Result<(), Fail> {
         (-2, 2, true),
     ];
     for (offset, count, may) in cases {
-        let last = Spot {
-            offset: *offset,
-            ..spot
-        };
+        let last = spot(*offset);
         assert_eq!(rt; table.may_use(1, 2, last, *count), *may, "offset {offset}");
         assert_eq!(rt; table.due(1, 2, last), Some(5));
     }
-    assert_eq!(rt; table.due(0, 1, spot), None);
+    assert_eq!(rt; table.due(0, 1, spot(0)), None);
+    Ok(())
+}
+
+#[test]
+fn stems_are_listed(rt: HostRuntime) -> Result<(), Fail> {
+    let table = table(rt.alloc())?;
     assert_eq!(rt; table.to_stems()?.len(), 1);
     Ok(())
 }

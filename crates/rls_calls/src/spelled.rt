@@ -200,10 +200,17 @@ fn replicas_send_bytes(rt: HostRuntime) -> Result<(), Fail> {
     assert_eq!(rt; sent, bytes(alloc, HELLO_MESSAGE)?);
     let nobody = message_bytes(alloc, &first, 2);
     assert_eq!(rt; nobody, Err(SendError::NotMember));
+    Ok(())
+}
+
+#[test]
+fn replicas_take_bytes(rt: HostRuntime) -> Result<(), Fail> {
+    let alloc = rt.alloc();
+    let sent = bytes(alloc, HELLO_MESSAGE)?;
     let mut second = Replica::new(alloc, 7, 1, 2)?;
-    assert_eq!(rt; take_bytes(alloc, &mut second, &sent)?.applied, 1);
-    assert_eq!(rt; take_bytes(alloc, &mut second, &sent)?.repeated, 1);
-    assert_eq!(rt; second.text()?.to_utf8()?.as_str(), "hello");
+    let first = take_bytes(alloc, &mut second, &sent)?.applied;
+    let again = take_bytes(alloc, &mut second, &sent)?.repeated;
+    assert_eq!(rt; (first, again, second.total()), (1, 1, 5));
     Ok(())
 }
 
