@@ -7,7 +7,7 @@ use Rattle.rls_ident.proofs.Members.{any_in}
 use Rattle.rls_ident.proofs.Ends.{same_eq}
 use Rattle.rls_runs.specs.Entries.{Entries, idents_in, has_ident, without_all}
 use Rattle.rls_doc.specs.Documents.{AreNew}
-use Rattle.rls_replica.proofs.Changes.{are_new}
+use Rattle.rls_doc.proofs.Added.{are_new}
 
 -- none of them is there
 gone : (xs : List (List Tuple)) (es : Entries) (x : List Tuple) → IsIn x xs → IsIn x (idents_in (without_all xs es)) → ⊥

@@ -1,7 +1,7 @@
 use Rattle.std.proofs.Common.{◌∙◌, ap}
 use Rattle.std.proofs.lemmas.List.{take_all}
 use Rattle.rls_runs.specs.Runs.{runs_of, idents_of}
-use Rattle.rls_ops.proofs.SameRuns.{idents_of_runs}
+use Rattle.rls_runs.proofs.RunsOf.{idents_of_runs}
 use Rattle.rls_checks.proofs.documents.runs_in.Goals as goal
 
 pub returns : goal.returns
