@@ -20,14 +20,8 @@ mod files;
 #[cfg(test)]
 mod keepers;
 #[cfg(test)]
-mod large;
-#[cfg(test)]
 mod members;
 #[cfg(test)]
 mod renamings;
-#[cfg(test)]
-mod replicas;
-#[cfg(test)]
-mod spelling;
 #[cfg(test)]
 mod values;
