@@ -1,7 +1,7 @@
 //! Waiting operations.
 
 ghost use Rattle.std.specs.Prelude.{◌≡◌, ◌<◌, length, [], option_copied, slice_get, Some, None, IsTrue, IfOk, OnOk, OnErr};
-ghost use Rattle.rls_ops.specs.Waiting.{waiting_under, without, with_waiting, comes_before, first_ready_at, is_in_order};
+ghost use Rattle.rls_ops.specs.Waiting.{waiting_under, without, with_waiting, first_ready_at, is_in_order};
 ghost use Rattle.rls_causal.specs.Putting.{IsAnswer, put_in};
 
 use indexmap::IndexMap;
@@ -124,9 +124,7 @@ impl Held {
             author: op.author,
             seq: op.seq,
         };
-        let place = self
-            .ops
-            .partition_point(|_number, held| precedes(held, &op));
+        let place = self.ops.partition_point(|_number, held| held.precedes(&op));
         self.ops.shift_insert(place, number, op)?;
         Ok(())
     }
@@ -143,11 +141,4 @@ fn tell_apart(alloc: Global, held: &Op, op: &Op) -> Result<Put, AllocError>
     Ok(Put::Forked {
         held: Box::new(alloc, copy)?,
     })
-}
-
-// Whether the first operation comes before the second, by author and then by number.
-fn precedes(op: &Op, other: &Op) -> bool
-    ensures before { result ≡ comes_before op.now other.now }
-{
-    op.author < other.author || (op.author == other.author && op.seq < other.seq)
 }

@@ -1,5 +1,5 @@
 -- Identifiers whose numbers and offsets are in the range of the format, and what is made of them.
-use Rattle.std.proofs.Common.{◌≡◌, ℕ, zero, suc, ◌+◌, ◌^◌, ◌<◌, ◌≤◌, true, false, cond, Bool, List, [], ◌∷◌, ◌++◌, length, drop, Option, Some, None, subst, arith, inl, inr}
+use Rattle.std.proofs.Common.{◌≡◌, ℕ, zero, suc, ◌+◌, ◌^◌, ◌<◌, ◌≤◌, true, false, cond, Bool, List, [], ◌∷◌, ◌++◌, length, drop, Option, Some, None, subst, arith}
 use Rattle.std.specs.Prelude.{ℤ, pos, negsuc, ◌+ℤ◌, ◌-ℤ◌, ◌≤ℤ◌, ◌/◌, nat_le}
 use Rattle.std.specs.Int.RustNames.{int_le}
 use Rattle.std.specs.declared.cmp.Ordering.{Ordering}
@@ -7,7 +7,6 @@ use Rattle.std.specs.declared.cmp.Ordering.TheVariants.{Less, Equal, Greater}
 use Rattle.std.proofs.lemmas.Int.{ints}
 use Rattle.rls_ident.specs.declared.tuple.Tuple.{Tuple}
 use Rattle.rls_ident.specs.declared.tuple.Tuple.TheVariants.{Low, At, High}
-use Rattle.rls_ident.specs.Lists.{IsIn}
 use Rattle.rls_ident.specs.Maps.{by_order, under, low, high, low_inverse, high_inverse}
 use Rattle.rls_ident.specs.Tuples.{offset_of, raised, tuple_pred, tuple_cmp}
 use Rattle.rls_ident.specs.Identifiers.{IsIdent, last_of, least_offset, greatest_offset, pred, shifted}
@@ -147,11 +146,6 @@ pub next_ranged : (x : List Tuple) → IsRanged x → (offset_of (last_of x) +�
 next_ranged x h m = let l = last_least x h in shifted_ranged (pos 1) x h (omega (arith, ints)) m
 
 -- ---- lists of identifiers
-
-pub all_at : (xs : List (List Tuple)) → AllRanged xs → (x : List Tuple) → IsIn x xs → IsRanged x
-all_at [] a x p = absurd p
-all_at (y ∷ ys) a x (inl e) = subst IsRanged e a.0
-all_at (y ∷ ys) a x (inr p) = all_at ys a.1 x p
 
 all_append : (xs ys : List (List Tuple)) → AllRanged xs → AllRanged ys → AllRanged (xs ++ ys)
 all_append [] ys a b = b

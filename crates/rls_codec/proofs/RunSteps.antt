@@ -1,5 +1,5 @@
 -- Runs put one behind the other, as reading a list of them does.
-use Rattle.std.proofs.Common.{◌≡◌, ℕ, zero, suc, ◌+◌, ◌-◌, ◌^◌, ◌<◌, ◌≤◌, true, false, List, [], ◌∷◌, ◌++◌, length, Option, Some, None, Result, Ok, Err, refl, sym, ap, ◌∙◌, arith}
+use Rattle.std.proofs.Common.{◌≡◌, ℕ, zero, suc, ◌+◌, ◌-◌, ◌^◌, ◌<◌, ◌≤◌, true, false, List, [], ◌∷◌, ◌++◌, length, Some, None, Result, Ok, Err, refl, sym, ap, ◌∙◌, arith}
 use Rattle.std.specs.Prelude.{pos, nat_lt, not, ◌&&◌}
 use Rattle.std.specs.Int.{w32}
 use Rattle.std.proofs.lemmas.Int.{ints}
@@ -94,11 +94,6 @@ module _ (xs : List (List Tuple)) (r : List Tuple × ℕ) (bytes rest : List ℕ
         apart = ap (are_apart None) runs ∙ more;
         few = omega (arith, short, ap length put, length-append xs (run_idents r.0 r.1), run_length r.0 r.1);
       }
-
--- a fault of a run is one of the next run
-pub next_fails : (e : ReadError) (before : Option (List Tuple × ℕ)) (bytes : List ℕ) → Fails e (run_at bytes) → Fails e (next_run_at before bytes)
-next_fails faults.OutOfMemory before bytes f = tt
-next_fails (Fault left) before bytes f = rw f refl
 
 -- ---- many runs
 

@@ -7,7 +7,7 @@ use Rattle.rls_ident.specs.declared.tuple.Tuple.{Tuple}
 use Rattle.rls_ident.specs.Identifiers.{is_ident}
 use Rattle.rls_ident.proofs.Members.{some_is, and_true, and_left, and_right}
 use Rattle.rls_runs.specs.Runs.{run_idents, idents_of, are_apart, IsImage}
-use Rattle.rls_runs.specs.Entries.{idents_in, chars_in, with_idents}
+use Rattle.rls_runs.specs.Entries.{idents_in}
 use Rattle.rls_runs.proofs.Sorted.{Entry}
 
 pub entry_at : (es : List Entry) (i : ℕ) (e : Entry) → i < length es → e ≡ get_or es i e → slice_get es i ≡ Some e
@@ -27,21 +27,12 @@ taken_next f (x ∷ es) (suc i) e g = ap (λ zs. f x ∷ zs) (taken_next f es i 
 taken_more : {X : Type 0} (f : Entry → X) (es : List Entry) (i : ℕ) (e : Entry) → slice_get es i ≡ Some e → map f (take (i + 1) es) ≡ map f (take i es) ++ f e ∷ []
 taken_more f es i e g = let s : i + 1 ≡ suc i = omega arith in ap (λ k. map f (take k es)) s ∙ taken_next f es i e g
 
-pub chars_more : (es : List Entry) (i : ℕ) (e : Entry) → slice_get es i ≡ Some e → chars_in (take (i + 1) es) ≡ chars_in (take i es) ++ e.1 ∷ []
-chars_more es i e g = taken_more (λ z. z.1) es i e g
-
 pub idents_more : (es : List Entry) (i : ℕ) (e : Entry) → slice_get es i ≡ Some e → idents_in (take (i + 1) es) ≡ idents_in (take i es) ++ e.0 ∷ []
 idents_more es i e g = taken_more (λ z. z.0) es i e g
-
-pub mapped_more : (f : List Tuple → List Tuple) (es : List Entry) (i : ℕ) (e : Entry) → slice_get es i ≡ Some e → with_idents f (take (i + 1) es) ≡ with_idents f (take i es) ++ (f e.0, e.1) ∷ []
-mapped_more f es i e g = taken_more (λ z. (f z.0, z.1)) es i e g
 
 all_more : (xs : List (List Tuple)) (x : List Tuple) → list_all is_ident xs ≡ true → is_ident x ≡ true → list_all is_ident (xs ++ x ∷ []) ≡ true
 all_more [] x h k = and_true (is_ident x) true k refl
 all_more (y ∷ xs) x h k = and_true (is_ident y) (list_all is_ident (xs ++ x ∷ [])) (and_left (is_ident y) (list_all is_ident xs) h) (all_more xs x (and_right (is_ident y) (list_all is_ident xs) h) k)
-
-pub are_idents_more : (es : List Entry) (i : ℕ) (e : Entry) → slice_get es i ≡ Some e → list_all is_ident (idents_in (take i es)) ≡ true → is_ident e.0 ≡ true → list_all is_ident (idents_in (take (i + 1) es)) ≡ true
-are_idents_more es i e g h k = ap (list_all is_ident) (idents_more es i e g) ∙ all_more (idents_in (take i es)) e.0 h k
 
 -- ---- a run of one identifier, mapped
 
@@ -52,10 +43,3 @@ image_first f x run rs r h e g = at rs h.apart (h.idents ∙ ap (λ (q : List Tu
     at [] a i g = absurd (cc)
     at ((y, zero) ∷ rs) a i g = absurd (cc)
     at ((y, suc n) ∷ rs) a i g = let p = ap (λ (q : Option (List Tuple × ℕ)). q) g in cc
-
-pub image_some : (f : List Tuple → List Tuple) (x : List Tuple) (run : List Tuple × ℕ) (rs : List (List Tuple × ℕ)) → IsImage f run rs → run ≡ (x, 1) → 0 < length rs
-image_some f x run rs h e = at rs (h.idents ∙ ap (λ (q : List Tuple × ℕ). map f (run_idents q.0 q.1)) e)
-  where
-    at : (rs : List (List Tuple × ℕ)) → idents_of rs ≡ f x ∷ [] → 0 < length rs
-    at [] i = absurd (cc)
-    at (r ∷ rs) i = omega arith

@@ -91,13 +91,6 @@ mark_other (m ∷ ms) zero (suc n) h = refl
 mark_other (m ∷ ms) (suc u) zero h = refl
 mark_other (m ∷ ms) (suc u) (suc n) h = mark_other ms u n (λ e. h (ap suc e))
 
--- where there is one, the whole front has as many at least
-pub count_front : (ms : List ℕ) (n : ℕ) → mark_count (take n ms) ≤ mark_count ms
-count_front ms zero = omega arith
-count_front [] (suc n) = omega arith
-count_front (zero ∷ ms) (suc n) = count_front ms n
-count_front (suc m ∷ ms) (suc n) = omega (arith, count_front ms n)
-
 -- there are at most as many marks as places
 pub count_most : (ms : List ℕ) (n : ℕ) → mark_count (take n ms) ≤ n
 count_most ms zero = omega arith

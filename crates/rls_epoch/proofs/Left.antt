@@ -1,5 +1,5 @@
 -- The epochs in increasing order: all of them, and those that are left where the marks are those of the smallest connected part.
-use Rattle.std.proofs.Common.{◌≡◌, ℕ, zero, suc, ◌-◌, ◌<◌, ◌≤◌, Bool, true, false, List, [], ◌∷◌, ◌++◌, length, drop, replicate, set, refl, sym, ap, ◌∙◌, subst, inl, inr, ⊎_elim, arith, nat_lt}
+use Rattle.std.proofs.Common.{◌≡◌, ℕ, suc, ◌-◌, ◌<◌, ◌≤◌, Bool, true, false, List, [], ◌∷◌, ◌++◌, length, drop, set, refl, sym, ap, ◌∙◌, subst, inl, inr, ⊎_elim, arith, nat_lt}
 use Rattle.std.specs.Prelude.{cond, filter, map, slice_index, sum_by, if◌then◌else◌}
 use Rattle.std.proofs.lemmas.List.Sums.{sum_by-cons}
 use Rattle.rls_ident.specs.declared.epoch_name.EpochName.{EpochName}
@@ -17,7 +17,7 @@ use Rattle.rls_rename.proofs.Windows.{cmp_window, keep_kept, kept-renamings, kep
 use Rattle.rls_rename.proofs.Kept.{top_kept}
 use Rattle.rls_epoch.specs.declared.placed.Placed.{Placed}
 use Rattle.rls_epoch.specs.Links.{epoch_at}
-use Rattle.rls_epoch.specs.Marks.{has_mark, AreNamed, AreNumbered, AreSpread, numbered, kept_names, kept_placed, kept_places, kept_sum}
+use Rattle.rls_epoch.specs.Marks.{AreNamed, AreNumbered, AreSpread, numbered, kept_names, kept_placed, kept_places, kept_sum}
 use Rattle.rls_epoch.specs.Seen.{former_sum, nodes_of, rising_epochs, AreLaid}
 use Rattle.rls_epoch.specs.Sorted.{place_name, names_at, IsBefore, AreRising, AreSorted}
 use Rattle.rls_epoch.proofs.Added.{epoch_after}
@@ -148,14 +148,6 @@ module _ (top : EpochName) (ps : List Placed) (order : List ℕ) (l : AreLaid to
       subst (λ (zs : List ℕ). kept_sum (drop 1 zs) ps ≡ sum_by (λ (R : Renaming). length R.former) (spanned_renamings (nodes_of ps) e es)) (sym n.numbers_are) (former_left top ps l n.marks counted t tl e es n.spread)
 
 -- ---- marks of these epochs
-
-pub named_none : (top : EpochName) (ps : List Placed) (n : ℕ) → AreNamed top ps (replicate n 0) []
-named_none top ps n = record { into = λ j h q. absurd (none n j q); onto = λ f p. absurd p }
-  where
-    none : (n j : ℕ) → has_mark (replicate n 0) j ≡ true → ⊥
-    none zero j q = omega (arith, lt_is 0 0 q)
-    none (suc n) zero q = omega (arith, lt_is 0 0 q)
-    none (suc n) (suc j) q = none n j q
 
 pub named_more : (top : EpochName) (ps : List Placed) (ms : List ℕ) (es : List EpochName) (n : ℕ) (f : EpochName) → n < length ms → n ≤ length ps → epoch_at top ps n ≡ f → AreNamed top ps ms es → AreNamed top ps (set ms n 1) (es ++ (f ∷ []))
 named_more top ps ms es n f w h e a = record {

@@ -7,7 +7,7 @@ use Rattle.std.proofs.lemmas.Option.{slice_get-get_or, slice_get-map, slice_get_
 use Rattle.rls_ident.specs.declared.epoch_name.EpochName.{EpochName}
 use Rattle.rls_ident.specs.EpochNames.{name_eq}
 use Rattle.rls_ident.specs.Lists.{IsIn}
-use Rattle.rls_ident.proofs.Members.{map_in, not_true, some_is}
+use Rattle.rls_ident.proofs.Members.{map_in, not_true}
 use Rattle.rls_ident.proofs.Named.{name_eq_is, name_eq_refl}
 use Rattle.rls_rename.specs.Tree.{Node, name_of, is_of, has_node, AreNodes, AreBelow, epoch_cmp, names}
 use Rattle.rls_rename.proofs.SameNodes.{node_named}
@@ -54,18 +54,6 @@ numbers_named top ps order = ap (λ es. top ∷ es) (go order)
 
 pub number_named : (top : EpochName) (ps : List Placed) (order : List ℕ) (i n : ℕ) → slice_get (0 ∷ map suc order) i ≡ Some n → slice_get (top ∷ names_at ps order) i ≡ Some (epoch_at top ps n)
 number_named top ps order i n g = ap (λ es. slice_get es i) (sym (numbers_named top ps order)) ∙ (slice_get-map (epoch_at top ps) (0 ∷ map suc order) i ∙ ap (option_map (epoch_at top ps)) g)
-
-pub numbers_within : (ps : List Placed) (order : List ℕ) → ((k : ℕ) → IsIn k order → k < length ps) → (i n : ℕ) → slice_get (0 ∷ map suc order) i ≡ Some n → n ≤ length ps
-numbers_within ps order h zero n g = let e = some_is 0 n g in omega arith
-numbers_within ps [] h (suc i) n g = absurd (cc)
-numbers_within ps (k ∷ order) h (suc zero) n g = let e = some_is (suc k) n g in let w = h k (inl refl) in omega arith
-numbers_within ps (k ∷ order) h (suc (suc i)) n g = numbers_within ps order (λ j p. h j (inr p)) (suc i) n g
-
-pub number_first : (order : List ℕ) (i n : ℕ) → slice_get (0 ∷ map suc order) i ≡ Some n → (n ≡ 0 → i ≡ 0) × (0 < n → 0 < i)
-number_first order zero n g = (λ e. refl, λ h. let e = some_is 0 n g in absurd (omega arith))
-number_first [] (suc i) n g = absurd (cc)
-number_first (k ∷ order) (suc zero) n g = (λ e. let f = some_is (suc k) n g in absurd (omega arith), λ h. omega arith)
-number_first (k ∷ order) (suc (suc i)) n g = let r = number_first order (suc i) n g in (λ e. let x = r.0 e in absurd (omega arith), λ h. omega arith)
 
 -- where an epoch stands in the order
 pub place_found : (top : EpochName) (ps : List Placed) (order : List ℕ) → AreSorted (epoch_cmp (nodes_of ps)) ps order → (n i : ℕ) → 0 < n → n ≤ length ps → IsCut (epoch_cmp (nodes_of ps)) (names_at ps order) (epoch_at top ps n) i →

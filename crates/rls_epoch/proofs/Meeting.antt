@@ -6,7 +6,7 @@ use Rattle.std.specs.Option.{option_map}
 use Rattle.std.specs.Ordering.{ordering_then}
 use Rattle.std.specs.Cmp.Lexicographic.{slice_cmp}
 use Rattle.std.proofs.lemmas.Bool.{cases_lt}
-use Rattle.std.proofs.lemmas.List.{append-nil, append_assoc, map-append, reverse-append}
+use Rattle.std.proofs.lemmas.List.{append_assoc, map-append, reverse-append}
 use Rattle.rls_ident.specs.declared.epoch_name.EpochName.{EpochName}
 use Rattle.rls_ident.specs.EpochNames.{name_eq}
 use Rattle.rls_ident.proofs.Named.{name_eq_is, name_eq_refl}
@@ -100,9 +100,6 @@ places_apart ps d h k p q g j n e =
     ⊎_elim (λ l. earlier_other ps d h k p q g j l e) (λ l. ⊎_elim (λ m. earlier_other ps d k h q p j g m (sym e)) (λ m. n (omega arith)) (cases_lt k h)) (cases_lt h k)
 
 -- ---- ways up
-
-pub above_itself : (top : EpochName) (ps : List Placed) (n : ℕ) → IsAbove top ps (epoch_at top ps n) (record { at = n; below = None })
-above_itself top ps n = ([], sym (append-nil (path (nodes_of ps) (epoch_at top ps n))), refl)
 
 -- one step up
 pub above_more : (top : EpochName) (ps : List Placed) → AreLaid top ps → (e : EpochName) (c d : Climb) → 0 < c.at → c.at ≤ length ps → d.at ≡ up_at ps (c.at - 1) → d.below ≡ Some (c.at - 1) → IsAbove top ps e c → IsAbove top ps e d

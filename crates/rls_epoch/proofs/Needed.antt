@@ -1,5 +1,5 @@
 -- The epochs that are needed: those that are marked, and each that is at least the greatest one within a vector.
-use Rattle.std.proofs.Common.{◌≡◌, ℕ, zero, suc, ◌<◌, ◌≤◌, Bool, true, false, List, [], ◌∷◌, ◌++◌, length, set, refl, sym, ap, ◌∙◌, subst, inl, inr, ◌⊎◌, ⊎_elim, arith}
+use Rattle.std.proofs.Common.{◌≡◌, ℕ, zero, suc, ◌<◌, ◌≤◌, Bool, true, false, List, ◌∷◌, ◌++◌, length, set, refl, sym, ap, ◌∙◌, subst, inl, inr, ◌⊎◌, ⊎_elim, arith}
 use Rattle.std.specs.Prelude.{not}
 use Rattle.std.specs.declared.cmp.Ordering.TheVariants.{Less}
 use Rattle.std.specs.Ordering.{is_lt}
@@ -94,9 +94,6 @@ pub record ArePassed (old ms : List ℕ) (later : List ℕ) : Type 0 where
   pub kept : (n : ℕ) → has_mark old n ≡ true → has_mark ms n ≡ true
   pub from : (n : ℕ) → has_mark ms n ≡ true → (has_mark old n ≡ true) ⊎ ((k : ℕ) × (n ≡ suc k) × IsIn k later)
   pub onto : (k : ℕ) → IsIn k later → has_mark ms (suc k) ≡ true
-
-pub passed_none : (old : List ℕ) → ArePassed old old []
-passed_none old = record { kept = λ n q. q; from = λ n q. inl q; onto = λ k p. absurd p }
 
 pub passed_more : (old ms : List ℕ) (k : ℕ) (later : List ℕ) → suc k < length ms → ArePassed old ms later → ArePassed old (set ms (suc k) 1) (k ∷ later)
 passed_more old ms k later h a = record {

@@ -6,7 +6,7 @@ use Rattle.std.specs.declared.cmp.Ordering.TheVariants.{Less}
 use Rattle.std.specs.List.{take-map, drop-map}
 use Rattle.std.specs.Option.{option_map}
 use Rattle.std.proofs.lemmas.Bool.{cases_lt}
-use Rattle.std.proofs.lemmas.List.{length-map, map-append, take-append-drop}
+use Rattle.std.proofs.lemmas.List.{map-append, take-append-drop}
 use Rattle.std.proofs.lemmas.Option.{slice_get-map}
 use Rattle.std.proofs.Math.ListN.{drop_of_length-le}
 use Rattle.rls_ident.specs.declared.epoch_name.EpochName.{EpochName}
@@ -87,11 +87,6 @@ pub get_of : {A : Type 0} (xs : List A) (k : ℕ) → k < length xs → (x : A) 
 get_of [] k h = absurd (omega arith)
 get_of (x ∷ xs) zero h = (x, refl)
 get_of (x ∷ xs) (suc k) h = get_of xs k (omega arith)
-
-pub get_none : {A : Type 0} (xs : List A) (k : ℕ) (x : A) → length xs ≤ k → slice_get xs k ≡ Some x → ⊥
-get_none [] k x l h = absurd (cc)
-get_none (y ∷ xs) zero x l h = omega arith
-get_none (y ∷ xs) (suc k) x l h = get_none xs k x (omega arith) h
 
 module _ (cmp : Cmp) (o : IsOrder cmp) (es : List EpochName) (r : AreRising cmp es) (e : EpochName) (i : ℕ) (c : IsCut cmp es e i) where
   pub cut_below : (f : EpochName) → IsIn f (take i es) → cmp f e ≡ Less
@@ -183,7 +178,3 @@ pub cut_high : (cmp : Cmp) (ps : List Placed) (places : List ℕ) (e : EpochName
 cut_high cmp ps places e m k g h f q l =
     let s = slice_get-map (place_name ps) places m ∙ ap (option_map (place_name ps)) g in
     h (ap (λ z. cmp z e) (some_is (place_name ps k) f (sym s ∙ q)) ∙ l)
-
--- nothing stands at the end
-pub cut_end : (ps : List Placed) (places : List ℕ) (f : EpochName) → slice_get (names_at ps places) (length places) ≡ Some f → ⊥
-cut_end ps places f q = get_none (names_at ps places) (length places) f (omega (arith, length-map places (place_name ps))) q

@@ -23,9 +23,6 @@ use Rattle.rls_epoch.proofs.Sorting.{Cmp, IsOrder, cut_insert, in_inserted, inse
 
 -- ---- links
 
-links_none : (top : EpochName) → AreLinked top []
-links_none top = record { earlier = λ k p h. absurd (cc); parents = λ k p h. absurd (cc) }
-
 get_end : (ps : List Placed) (p : Placed) (k : ℕ) (q : Placed) → slice_get (ps ++ p ∷ []) k ≡ Some q → (slice_get ps k ≡ Some q) ⊎ ((k ≡ length ps) × (p ≡ q))
 get_end [] p zero q h = inr (refl, some_is p q h)
 get_end [] p (suc k) q h = absurd (cc)
@@ -139,16 +136,6 @@ pub marks_set : (top : EpochName) (ps : List Placed) (ms : List ℕ) (n : ℕ) (
 marks_set top ps ms n name e h l = marked_set (epochs_by_number top ps) ms n name e (by_number top ps n name h) l
 
 -- ---- trees
-
--- the topmost epoch alone
-pub whole_alone : (top : EpochName) → IsWhole top [] [] [] (0 ∷ []) 0
-whole_alone top = record {
-  laid = record { nodes = tt; below = tt; links = links_none top };
-  by_name_is = record { within = λ k p. absurd p; rising = tt; complete = λ k l. absurd (omega arith) };
-  order_is = record { within = λ k p. absurd p; rising = tt; complete = λ k l. absurd (omega arith) };
-  marks_whole = refl;
-  sum = refl;
-}
 
 pub whole_more : (top : EpochName) (ps : List Placed) (by_name order marks : List ℕ) (total n : ℕ) (p : Placed) (i j : ℕ) → IsWhole top ps by_name order marks total → AreLaid top (ps ++ p ∷ []) → n ≡ length p.renaming.former →
     AreSorted name_cmp (ps ++ p ∷ []) (insert by_name i (length ps)) → AreSorted (epoch_cmp (nodes_of (ps ++ p ∷ []))) (ps ++ p ∷ []) (insert order j (length ps)) →

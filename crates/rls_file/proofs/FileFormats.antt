@@ -39,10 +39,6 @@ abbrev me_in : Content → ℕ
 me_in (Journal s) = me_of s.history
 me_in (Snapshot form p) = p.me
 
-abbrev is_journal : Content → Bool
-is_journal (Journal s) = true
-is_journal (Snapshot form p) = false
-
 -- what follows the head
 abbrev content_rest : Content → List ℕ
 content_rest (Journal s) = journal_rest s

@@ -15,9 +15,6 @@ use Rattle.rls_file.specs.ReadingFiles.{steps_at, entry_at, journal_at}
 use Rattle.rls_file.specs.ReadingJournals.{waiting_at, filled_at, behind_form_at}
 use Rattle.rls_file.proofs.Events.{fails_then, steps_members, steps_me}
 
-abbrev pub count_ok : ℕ → List ℕ → Read ℕ
-count_ok n rest = Ok (n, rest)
-
 abbrev state_ok : History → List Op → List ℕ → Read State
 state_ok H W rest = Ok (record { history = H; waiting = W }, rest)
 

@@ -107,12 +107,6 @@ small_ops (o ∷ os) h =
     let l = sum_by-cons op_size o os in
     All-cons IsSmallOp o os (omega (arith, h, l)) (small_ops os (omega (arith, h, l)))
 
-pub small_log : (j : JournalSeen) → journal_size j < 2 ^ 32 → All IsSmallOp j.seen.log
-small_log j h = small_ops j.seen.log (omega (arith, h, accepted_within j.seen.log))
-
-pub small_waiting : (j : JournalSeen) → journal_size j < 2 ^ 32 → All IsSmallOp j.seen.waiting
-small_waiting j h = small_ops j.seen.waiting (omega (arith, h))
-
 pub few_waiting : (j : JournalSeen) → journal_size j < 2 ^ 32 → length j.seen.waiting < 2 ^ 32
 few_waiting j h = omega (arith, h, ops_within j.seen.waiting)
 

@@ -7,7 +7,6 @@ use Rattle.rls_model.specs.Answers.{Reason, Answer, Applies, Repeats, Waits, Ref
 use Rattle.rls_model.specs.Editing.{made}
 use Rattle.rls_model.specs.Fitting.{refusal}
 use Rattle.rls_model.specs.History.{Accepted, Acknowledged, History, Fresh, Then, group_of, me_of, members_of, ops}
-use Rattle.rls_model.specs.Legal.{AreNumbers}
 use Rattle.rls_model.specs.Receiving.{State, after, accept, receive, receive_after, replay, replay_after, release, release_after}
 use Rattle.rls_model.specs.Receiving as model
 use Rattle.rls_model.specs.Stability.{is_counted}
@@ -16,16 +15,15 @@ use Rattle.rls_ops.specs.declared.message.Message.{Message}
 use Rattle.rls_replica.specs.Steps.{course, IsPartOfOps}
 use Rattle.rls_model.specs.Taking.{Limit, has_room, Progress, acknowledge, take_message, take_within}
 use Rattle.rls_model.specs.Taking as taking
-use Rattle.rls_model.specs.WellFormed.{IsOp, IsVector}
-use Rattle.rls_seen.specs.Seen.{Seen, members, fresh}
+use Rattle.rls_model.specs.WellFormed.{IsOp, IsVector, AreOps}
+use Rattle.rls_seen.specs.Seen.{Seen, members}
 use Rattle.rls_seen.specs.Over.{answer_over, accepted, after_answer, received, replayed, holding, refusal_over, first_ready, after_refusal, after_release, release_of, release_over, released, acknowledged}
 use Rattle.rls_seen.specs.Edits.{made_over, edited}
-use Rattle.rls_seen.specs.Messages.{Course, started, with_answer, with_refusal, with_release, moved, receive_step, release_step, release_steps, with_releases, take_ops, taken_of, AreOps}
+use Rattle.rls_seen.specs.Messages.{Course, started, with_answer, with_refusal, with_release, moved, receive_step, release_step, release_steps, with_releases, take_ops, taken_of}
 use Rattle.rls_seen.specs.Stands.{StandsFor}
 use Rattle.rls_seen.proofs.Alike.{members_alike}
 use Rattle.rls_seen.proofs.Counting.{members_received, members_released}
 use Rattle.rls_seen.proofs.Repeating.{received_seen, released_seen, received_limit, released_limit}
-use Rattle.rls_seen.proofs.Starting.{fresh_stands}
 use Rattle.rls_seen.proofs.Receiving.{received_stands}
 use Rattle.rls_seen.proofs.Releasing.{released_stands, first_alike}
 use Rattle.rls_seen.proofs.Noting.{acknowledged_stands, counted_alike}
@@ -54,9 +52,6 @@ pub is_whole : (s : Seen) (ns : List Note) (t : State) → Tells (journal s ns) 
 is_whole s ns t h = record { log = h.log; notes_are = h.notes }
 
 -- ---- single steps
-
-pub fresh_tells : (group me n : ℕ) → AreNumbers group me n → Tells (journal (fresh group me n) []) (record { history = Fresh group me n; waiting = [] })
-fresh_tells group me n l = record { stands = fresh_stands group me n l; log = refl; notes = refl }
 
 accepted_whole : (ns : List Note) (s : Seen) (H : History) (o : Op) → IsWhole ns s H → IsWhole ns (accepted s o) (Then H (Accepted o))
 unfolding accepted

@@ -9,9 +9,9 @@ ghost use Rattle.rls_model.specs.Editing.{made};
 ghost use Rattle.rls_model.specs.Stability.{is_counted};
 ghost use Rattle.rls_model.specs.Taking.{Progress, acknowledge, take_message, take_within, with_releases};
 ghost use Rattle.rls_model.specs.Taking as model;
-ghost use Rattle.rls_model.specs.WellFormed.{IsVector};
+ghost use Rattle.rls_model.specs.WellFormed.{IsVector, AreOps};
 ghost use Rattle.rls_seen.specs.Edits.{edit_fault_over, IsFault};
-ghost use Rattle.rls_seen.specs.Messages.{AreOps, started, take_ops, taken_of};
+ghost use Rattle.rls_seen.specs.Messages.{started, take_ops, taken_of};
 ghost use Rattle.rls_seen.specs.Seen.{members, fresh, own_count, text_over};
 ghost use Rattle.rls_replica.specs.Editing.{edited_text};
 ghost use Rattle.rls_replica.specs.Faults.{IsNoCount, IsNoMember, IsForeign};
@@ -197,7 +197,7 @@ fn take_all(
         ..
     } = message;
     let _len = vector.len();
-    all_fit(ops.as_slice());
+    ops.fits();
     notes.reserve(1)?;
     let found = replica.take_ops(ops)?;
     add_note(replica, notes, from, vector);
@@ -226,13 +226,4 @@ fn add_note(replica: &mut Replica, notes: &mut Vec<Note>, from: u32, vector: Vec
         })
         .unwrap();
     true
-}
-
-// Each of the operations is well formed.
-fn all_fit(ops: &[Op])
-    ensures whole { AreOps ops.now }
-{
-    for op in ops {
-        op.fits();
-    }
 }

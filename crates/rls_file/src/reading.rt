@@ -1,7 +1,6 @@
 //! Journals, read: what is read so far stands in a replica, which decides whether the next entry keeps its rule.
 
 ghost use Rattle.std.specs.Prelude.{◌≡◌, ◌<◌, [], length, None, nat_le, IfOk, OnOk};
-ghost use Rattle.rls_ops.specs.Waiting.{comes_before};
 ghost use Rattle.rls_codec.specs.Gives.{Gives};
 ghost use Rattle.rls_codec.specs.Reading.{with_rule, byte_at, chain_at};
 ghost use Rattle.rls_model.specs.Answers.{answer_of};
@@ -117,13 +116,6 @@ fn events<'a>(
     Ok(rest)
 }
 
-// Whether the first operation comes before the second, by author and then by number.
-fn precedes(op: &Op, other: &Op) -> bool
-    ensures before { result ≡ comes_before op.now other.now }
-{
-    op.author < other.author || (op.author == other.author && op.seq < other.seq)
-}
-
 // Whether the operation stands behind the last one that waits.
 fn stands_behind(held: &Held, op: &Op) -> bool
     ensures behind { result ≡ waits_behind (last_of held.now) op.now }
@@ -132,7 +124,7 @@ fn stands_behind(held: &Held, op: &Op) -> bool
     if count == 0 {
         return true;
     }
-    precedes(held.op(count - 1), op)
+    held.op(count - 1).precedes(op)
 }
 
 // An operation that waits behind the last one.

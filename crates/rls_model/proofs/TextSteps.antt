@@ -30,8 +30,8 @@ use Rattle.rls_model.proofs.Distinct.{all_append, known}
 use Rattle.rls_runs.proofs.Sorted.{Entry, AreAbove, Rises, same_rising, rises_filter}
 use Rattle.rls_model.proofs.SameOps.{entry_of, live_char, top_kept, export_rises, in_export, export_in}
 use Rattle.rls_model.proofs.Ranges.{export_ident}
-use Rattle.rls_model.proofs.Named.{grown_translate, char_old, char_new, old_new, one_ident}
-use Rattle.rls_model.proofs.Spliced.{entries, entries_rise, append_map}
+use Rattle.rls_model.proofs.Named.{grown_translate}
+use Rattle.rls_model.proofs.Spliced.{entries, append_map}
 use Rattle.rls_model.proofs.Insertion.{born, born_entries, born_in, same_named, new_unnamed, entry_old}
 use Rattle.rls_model.proofs.RenamedRun.{live_back, live_stays, nodes_are, tree_of}
 
@@ -238,37 +238,10 @@ export_renamed G o xs l e h =
 
 -- ---- what is put in
 
-placed_above : (G : History) (e : EpochName) → IsLegal G → (x : Entry) (ys : List Entry) → IsIdent x.0 → ((y : Entry) → IsIn y ys → IsIdent y.0) → AreAbove x ys → AreAbove (placed G e x) (map (placed G e) ys)
-placed_above G e l x [] i f a = tt
-placed_above G e l x (y ∷ ys) i f a =
-    (record { less = history_order G e (greatest G) x.0 y.0 l i (f y (inl refl)) ∙ (a.0).less }, placed_above G e l x ys i (λ z p. f z (inr p)) a.1)
-
-placed_rise : (G : History) (e : EpochName) → IsLegal G → (ys : List Entry) → ((y : Entry) → IsIn y ys → IsIdent y.0) → Rises ys → Rises (map (placed G e) ys)
-placed_rise G e l [] f r = tt
-placed_rise G e l (y ∷ ys) f r = (placed_above G e l y ys (f y (inl refl)) (λ z p. f z (inr p)) r.0, placed_rise G e l ys (λ z p. f z (inr p)) r.1)
-
 pub entry_ident : (x : List Tuple) (cs : List ℕ) → IsIdent x → (y : Entry) → IsIn y (entries x cs) → IsIdent y.0
 entry_ident x [] i y p = absurd p
 entry_ident x (c ∷ cs) i y (inl e) = subst (λ (z : Entry). IsIdent z.0) e i
 entry_ident x (c ∷ cs) i y (inr p) = entry_ident (shifted (pos 1) x) cs (ident_shifted (pos 1) x i) y p
-
--- the identifiers that an insertion puts into the text rise strictly
-pub puts_rise : (G : History) (o : Op) (x : List Tuple) (cs : List ℕ) → IsLegal (Then G (Accepted o)) → o.body ≡ Insert x cs → Rises (map (placed G o.epoch) (entries x cs))
-puts_rise G o x cs l e = let i = (subst IsBody e l.1.body).0 in placed_rise G o.epoch l.0 (entries x cs) (entry_ident x cs i) (entries_rise x cs i)
-
--- and none of them is there
-pub puts_apart : (G : History) (o : Op) (x : List Tuple) (cs : List ℕ) → IsLegal (Then G (Accepted o)) → o.body ≡ Insert x cs → (y z : Entry) → IsIn y (export G) → IsIn z (map (placed G o.epoch) (entries x cs)) → y.0 ≡ z.0 → ⊥
-puts_apart G o x cs l e y z p q h =
-    let K = Then G (Accepted o) in
-    let r = in_export G y p in
-    let c = r.0 in
-    let s = in_map (entry_of K) z (chars_of o o.body) (subst (λ zs. IsIn z zs) (sym (new_entries G o x cs e)) q) in
-    let d = s.0 in
-    let m = live_char G c r.1 in
-    let same : ident_in K (greatest K) c ≡ ident_in K (greatest K) d =
-    ap (λ (w : Entry). w.0) (entry_old G o x cs e c ∙ r.2) ∙ (h ∙ sym (ap (λ (w : Entry). w.0) s.2)) in
-    let one = one_ident K l c d (char_old G o c m) (char_new G o d s.1) (greatest K) (top_kept K) same in
-    old_new G o l d (subst (λ (w : Character). IsIn w (chars G)) one m) s.1
 
 -- ---- a leave or an acknowledgement
 

@@ -1,6 +1,6 @@
 -- Which numbers and lists an event may have.
 use Rattle.std.specs.Prelude.{ℕ, ◌^◌, ◌<◌}
-pub use Rattle.rls_ops.specs.WellFormed.{IsSmall, IsVector, IsName, IsText, IsBody, IsOp}
+pub use Rattle.rls_ops.specs.WellFormed.{IsSmall, IsVector, IsName, IsText, IsBody, IsOp, AreOps}
 use Rattle.rls_model.specs.declared.edit.Edit.{Edit}
 use Rattle.rls_model.specs.declared.edit.Edit.TheVariants as edits
 use Rattle.rls_model.specs.declared.event.Event.{Event}

@@ -1,22 +1,9 @@
 -- Lists that are equal, element by element.
-use Rattle.std.proofs.Common.{◌≡◌, ℕ, zero, suc, ◌+◌, ◌<◌, true, false, List, [], ◌∷◌, length, take, get_or, sym, ap, ◌∙◌, arith, add-one}
+use Rattle.std.proofs.Common.{◌≡◌, ℕ, true, false, List, length, take, sym, ap, ◌∙◌}
 use Rattle.std.proofs.Math.Seq.{take-length}
 use Rattle.rls_ident.proofs.Members.{not_true}
 use Rattle.rls_ops.specs.Same.{numbers_eq}
 use Rattle.rls_ops.proofs.Equal.{numbers_are, numbers_same}
-
-matches_next : {X : Type 0} (xs ys : List X) (i : ℕ) (d e : X) → i < length xs → i < length ys → take i xs ≡ take i ys → get_or xs i d ≡ get_or ys i e → take (suc i) xs ≡ take (suc i) ys
-matches_next [] ys i d e h k f g = absurd (omega arith)
-matches_next (x ∷ xs) [] i d e h k f g = absurd (omega arith)
-matches_next (x ∷ xs) (y ∷ ys) zero d e h k f g = ap (λ z. z ∷ []) g
-matches_next (x ∷ xs) (y ∷ ys) (suc i) d e h k f g =
-    let front : take i xs ≡ take i ys = cc in
-    let more : take (suc i) xs ≡ take (suc i) ys = matches_next xs ys i d e (omega arith) (omega arith) front g in
-    cc
-
--- one more equal element
-pub matches_more : {X : Type 0} (xs ys : List X) (i : ℕ) (d e : X) → i < length xs → i < length ys → take i xs ≡ take i ys → get_or xs i d ≡ get_or ys i e → take (i + 1) xs ≡ take (i + 1) ys
-matches_more xs ys i d e h k f g = rw add-one (matches_next xs ys i d e h k f g)
 
 -- all are equal
 pub matches_all : {X : Type 0} (xs ys : List X) (i : ℕ) → length xs ≡ length ys → i ≡ length xs → take i xs ≡ take i ys → xs ≡ ys

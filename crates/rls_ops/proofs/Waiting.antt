@@ -4,7 +4,7 @@ use Rattle.std.specs.Prelude.{if◌then◌else◌, cond, ◌&&◌, ◌==◌}
 use Rattle.std.specs.List.{list_all}
 use Rattle.std.proofs.lemmas.Bool.Decides.{nat_tests}
 use Rattle.rls_ident.specs.Lists.{IsIn}
-use Rattle.rls_ident.proofs.Members.{all_in, in_all, not_true, and_left, and_right, and_true, eq_is, eq_test, lt_is, lt_test, or_left, or_right, or_split, true_false}
+use Rattle.rls_ident.proofs.Members.{all_in, in_all, not_true, and_left, and_right, and_true, eq_is, eq_test, lt_is, or_split, true_false}
 use Rattle.rls_ops.specs.declared.op.Op.{Op}
 use Rattle.rls_ops.specs.Waiting.{is_numbered, comes_before, with_waiting, without, is_in_order}
 
@@ -66,14 +66,6 @@ before_is o p h =
     ⊎_elim (λ e. inl (lt_is o.author p.author e))
     (λ e. inr (eq_is o.author p.author (and_left (o.author == p.author) (nat_lt o.seq p.seq) e), lt_is o.seq p.seq (and_right (o.author == p.author) (nat_lt o.seq p.seq) e)))
     (or_split (nat_lt o.author p.author) ((o.author == p.author) && nat_lt o.seq p.seq) h)
-
-pub before_author : (o p : Op) → o.author < p.author → comes_before o p ≡ true
-before_author o p h = or_left (nat_lt o.author p.author) ((o.author == p.author) && nat_lt o.seq p.seq) (lt_test o.author p.author h)
-
-pub before_seq : (o p : Op) → o.author ≡ p.author → o.seq < p.seq → comes_before o p ≡ true
-before_seq o p e h =
-    or_right (nat_lt o.author p.author) ((o.author == p.author) && nat_lt o.seq p.seq)
-    (and_true (o.author == p.author) (nat_lt o.seq p.seq) (eq_test o.author p.author e) (lt_test o.seq p.seq h))
 
 pub before_trans : (o p q : Op) → comes_before o p ≡ true → comes_before p q ≡ true → comes_before o q ≡ true
 before_trans o p q h k = grind (arith, nat_tests)

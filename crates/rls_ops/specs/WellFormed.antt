@@ -1,5 +1,5 @@
 -- Which numbers and lists an operation may have.
-use Rattle.std.specs.Prelude.{◌≡◌, ℕ, ◌^◌, ◌<◌, ◌≤ℤ◌, List, length, All, IsTrue}
+use Rattle.std.specs.Prelude.{◌≡◌, ℕ, ◌^◌, ◌<◌, ◌≤ℤ◌, List, [], ◌∷◌, length, All, IsTrue}
 use Rattle.std.specs.Char.{IsScalar}
 use Rattle.rls_ident.specs.declared.epoch_name.EpochName.{EpochName}
 use Rattle.rls_ident.specs.declared.epoch_name.EpochName.TheVariants.{Origin, Of}
@@ -41,6 +41,11 @@ pub record IsOp (o : Op) : Type 0 where
   pub context : All IsSmall o.context
   pub epoch : IsName o.epoch
   pub body : IsBody o.body
+
+-- well formed operations
+abbrev pub AreOps : List Op → Type 0
+AreOps [] = Unit {0}
+AreOps (o ∷ os) = IsOp o × AreOps os
 
 -- the first offset of an insertion is in the range of the program
 abbrev pub IsInRange : Body → Type 0

@@ -1,7 +1,8 @@
 //! Operations.
 
 ghost use Rattle.std.specs.Prelude.{◌≡◌, ◌<◌, ◌++◌, ◌∷◌, ◌==◌, [], Some, IfOk, OnOk, OnErr, length, slice_get};
-ghost use Rattle.rls_ops.specs.WellFormed.{IsOp, IsBody, IsName, IsInRange};
+ghost use Rattle.rls_ops.specs.Waiting.{comes_before};
+ghost use Rattle.rls_ops.specs.WellFormed.{IsOp, AreOps, IsBody, IsName, IsInRange};
 
 use rls_ident::{EpochName, Ident, Vector};
 use rls_runs::{Runs, Text};
@@ -106,6 +107,15 @@ impl Ops {
         let Ops { ops } = self;
         ops
     }
+
+    /// What the operations promise: each is well formed. It only looks at each.
+    pub fn fits(&self)
+        ensures whole { AreOps self.now }
+    {
+        for op in &self.ops {
+            op.fits();
+        }
+    }
 }
 
 impl Op {
@@ -119,6 +129,13 @@ impl Op {
         let _len = self.context.len();
         name_fits(&self.epoch);
         self.body.fits();
+    }
+
+    /// Whether it comes before another: by author, and then by number.
+    pub fn precedes(&self, other: &Op) -> bool
+        ensures before { result ≡ comes_before self.now other.now }
+    {
+        self.author < other.author || (self.author == other.author && self.seq < other.seq)
     }
 
     /// The same again. Lists of identifiers are copied run by run.

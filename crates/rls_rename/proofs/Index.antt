@@ -7,9 +7,8 @@ use Rattle.std.proofs.Math.ListN.{drop_of_length-le}
 use Rattle.std.proofs.lemmas.List.{length-take}
 use Rattle.rls_ident.specs.declared.tuple.Spot.{Spot}
 use Rattle.rls_ident.specs.declared.tuple.Tuple.{Tuple}
-use Rattle.rls_ident.specs.Identifiers.{ident_cmp, IsIdent}
+use Rattle.rls_ident.specs.Identifiers.{ident_cmp}
 use Rattle.rls_rename.specs.Renaming.{IsFormer, old_below_inverse, old_between_inverse, old_above_inverse, new_at, new_below, new_between, new_above, forward_by}
-use Rattle.rls_rename.proofs.Increasing.{former_first}
 use Rattle.rls_rename.proofs.Places.{former_at, forward_former, forward_below, forward_between, forward_last}
 
 pub split_at : (f : List (List Tuple)) (i : ℕ) → i < length f → f ≡ take i f ++ (get_or f i [] ∷ drop (suc i) f)
@@ -20,9 +19,6 @@ split_two f i h = let l : i < length f = omega arith in let e = drop-cons f (suc
 
 pub split_end : (f : List (List Tuple)) (i : ℕ) → suc i ≡ length f → f ≡ take i f ++ (get_or f i [] ∷ [])
 split_end f i h = let l : i < length f = omega arith in let k : length f ≤ suc i = omega arith in split_at f i l ∙ ap (λ z. take i f ++ (get_or f i [] ∷ z)) (drop_of_length-le f k)
-
-pub index_ident : (f : List (List Tuple)) (i : ℕ) → IsFormer f → i < length f → IsIdent (get_or f i [])
-index_ident f i h l = former_first (get_or f i []) (drop (suc i) f) (former_at (take i f) (get_or f i []) (drop (suc i) f) (subst IsFormer (split_at f i l) h))
 
 pub index_less : (f : List (List Tuple)) (i : ℕ) → IsFormer f → suc i < length f → ident_cmp (get_or f i []) (get_or f (suc i) []) ≡ Less
 index_less f i h l = (former_at (take i f) (get_or f i []) (get_or f (suc i) [] ∷ drop (suc (suc i)) f) (subst IsFormer (split_two f i l) h)).1

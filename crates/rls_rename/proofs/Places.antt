@@ -108,11 +108,6 @@ above_meaning s before a y h i =
     let m = old_above_iso a in
     forward_last s before a (old_above a y) h (m.into y i).1 ∙ ap (new_above s (length before)) (m.there y i)
 
--- back, from the new map of a gap: the old map of the gap
-pub back_below : (s : Spot) (a : List Tuple) (after : List (List Tuple)) (y : List Tuple) → IsFormer (a ∷ after) → IsIdent y → back_by s (a ∷ after) (new_below s y) ≡ old_below a y
-back_below s a after y h i =
-    ap (back_by s (a ∷ after)) (sym (below_meaning s a after y h i)) ∙ (forward_iso s (a ∷ after) h).there (old_below a y) ((old_below_iso a (former_first a after h)).into y i).0
-
 pub back_between : (s : Spot) (before : List (List Tuple)) (a b : List Tuple) (after : List (List Tuple)) (y : List Tuple) → IsFormer (before ++ (a ∷ (b ∷ after))) → IsIdent y →
     back_by s (before ++ (a ∷ (b ∷ after))) (new_between s (length before) y) ≡ old_between a b y
 back_between s before a b after y h i =

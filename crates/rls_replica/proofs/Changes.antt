@@ -1,15 +1,12 @@
 -- What is known where an operation is accepted, and what it adds.
-use Rattle.std.proofs.Common.{◌≡◌, ◌∙◌, ℕ, ◌+◌, ◌^◌, ◌<◌, ◌≤◌, Bool, false, List, ◌∷◌, length, map, Some, None, IsSome, refl, sym, ap, subst, arith, nat_lt}
-use Rattle.std.specs.Prelude.{ℤ, pos, ◌+ℤ◌, zip, if◌then◌else◌}
+use Rattle.std.proofs.Common.{◌≡◌, ◌∙◌, ℕ, ◌+◌, ◌^◌, ◌<◌, ◌≤◌, false, List, length, map, IsSome, refl, sym, ap, subst, arith, nat_lt}
+use Rattle.std.specs.Prelude.{pos, ◌+ℤ◌}
 use Rattle.std.specs.Ordering.{is_lt}
 use Rattle.rls_ident.specs.declared.tuple.Tuple.{Tuple}
 use Rattle.rls_ident.specs.declared.epoch_name.EpochName.{EpochName}
-use Rattle.rls_ident.specs.declared.epoch_name.EpochName.TheVariants.{Of}
-use Rattle.rls_ident.specs.EpochNames.{name_eq}
 use Rattle.rls_ident.specs.Identifiers.{ident_cmp, last_of, greatest_offset}
 use Rattle.rls_ident.specs.Tuples.{offset_of}
-use Rattle.rls_ident.proofs.Members.{less_is, eq_not, not_lt_is, some_is, not_int_lt_is}
-use Rattle.rls_runs.specs.Entries.{Entries, put_all, without_all, with_idents}
+use Rattle.rls_ident.proofs.Members.{less_is, eq_not, not_lt_is, not_int_lt_is}
 use Rattle.rls_runs.specs.Runs.{run_idents, idents_of, IsImage}
 use Rattle.rls_doc.specs.Documents.{KeepsOrder}
 use Rattle.rls_rename.specs.Renaming.{Renaming, IsFormer}
@@ -21,17 +18,15 @@ use Rattle.rls_ops.specs.declared.op.Op.{Op}
 use Rattle.rls_ops.specs.declared.op.Body.{Body}
 use Rattle.rls_ops.specs.declared.op.Body.TheVariants.{Insert, Delete, Rename, Leave}
 use Rattle.rls_ops.specs.Shapes.{is_empty, body_limit, body_len, passes_end}
-use Rattle.rls_model.specs.Epochs.{renaming_of, nodes_after}
 use Rattle.rls_model.specs.WellFormed.{IsBody}
 use Rattle.rls_seen.specs.Seen.{Seen, vector, count_over}
-use Rattle.rls_seen.specs.Over.{added_over, placed_over, renamed_over, is_greatest_over}
 use Rattle.rls_seen.specs.Sane.{IsSane, MayApply}
 use Rattle.rls_seen.proofs.Fitting.{facts, name_new}
 use Rattle.rls_seen.proofs.Needed.{total_room, former_room}
 use Rattle.rls_seen.proofs.StemNumbers.{each_stem}
 use Rattle.rls_seen.proofs.Written.{newborn}
 use Rattle.rls_stems.specs.Tables.{IsNewest}
-use Rattle.rls_replica.specs.Changing.{renaming_in, former_in, IsTextAfter, renamed_from, MayInsert, MayRename}
+use Rattle.rls_replica.specs.Changing.{renaming_in, former_in, renamed_from, MayInsert, MayRename}
 
 -- ---- the map of a rename
 
@@ -68,20 +63,6 @@ insert_may s o first text sane m e =
       room = omega arith;
     }
 
-pub insert_text : (E : Epochs) (es : Entries) (o : Op) (first : List Tuple) (text : List ℕ) (new : Entries)
-    → new ≡ put_all (zip (map (translate E.nodes o.epoch (greatest E.top E.nodes)) (run_idents first (length text))) text) es → IsTextAfter E es o (Insert first text) new
-insert_text E es o first text new h s e t =
-    h ∙ (ap (λ (F : Epochs). put_all (zip (map (translate F.nodes o.epoch (greatest F.top F.nodes)) (run_idents first (length text))) text) es) (sym e)
-    ∙ ap (put_all (added_over s o.epoch first text)) (sym t))
-
--- ---- deletions
-
-pub delete_text : (E : Epochs) (es : Entries) (o : Op) (targets : List (List Tuple)) (new : Entries)
-    → new ≡ without_all (map (translate E.nodes o.epoch (greatest E.top E.nodes)) targets) es → IsTextAfter E es o (Delete targets) new
-delete_text E es o targets new h s e t =
-    h ∙ (ap (λ (F : Epochs). without_all (map (translate F.nodes o.epoch (greatest F.top F.nodes)) targets) es) (sym e)
-    ∙ ap (without_all (map (placed_over s o.epoch) targets)) (sym t))
-
 -- ---- renames
 
 pub rename_may : (s : Seen) (o : Op) (former : List (List Tuple)) → IsSane s → MayApply s o → o.body ≡ Rename former → MayRename s.epochs o former
@@ -98,22 +79,6 @@ rename_may s o former sane m e =
       are_former = former_of former some b;
       few = not_lt_is 4194304 (length former) (ap (λ b. nat_lt (body_limit b) (body_len b)) (sym e) ∙ f.shaped.few);
     }
-
--- the text, by whether the epoch becomes the greatest
-pub renamed_text : (E : Epochs) (es : Entries) (o : Op) (former : List (List Tuple)) (b : Bool) (new : Entries) → o.body ≡ Rename former
-    → b ≡ name_eq (greatest E.top (record { parent = o.epoch; renaming = renaming_of o former } ∷ E.nodes)) (Of o.author o.seq)
-    → new ≡ (if b then with_idents (renamed_from E.nodes (greatest E.top E.nodes) o.epoch (renaming_of o former)) es else es)
-    → IsTextAfter E es o (Rename former) new
-renamed_text E es o former b new body h k s e t =
-    k
-    ∙ (ap (λ (c : Bool). if c then with_idents (renamed_from E.nodes (greatest E.top E.nodes) o.epoch (renaming_of o former)) es else es) (sym same)
-    ∙ (ap (λ (F : Epochs). if is_greatest_over s o then with_idents (renamed_from F.nodes (greatest F.top F.nodes) o.epoch (renaming_of o former)) es else es) (sym e)
-    ∙ ap (λ (xs : Entries). if is_greatest_over s o then with_idents (renamed_over s o former) xs else xs) (sym t)))
-  where
-    same : is_greatest_over s o ≡ b
-    same =
-        ap (λ (c : Body). name_eq (greatest s.epochs.top (nodes_after s.epochs.nodes o c)) (Of o.author o.seq)) body
-        ∙ (ap (λ (F : Epochs). name_eq (greatest F.top (nodes_after F.nodes o (Rename former))) (Of o.author o.seq)) e ∙ sym h)
 
 -- ---- what takes no memory
 
@@ -133,19 +98,6 @@ brief_go Leave h = omega arith
 
 pub brief : (s : Seen) (o : Op) → MayApply s o → body_len o.body < 2 ^ 31
 brief s o m = let l = brief_go o.body (facts s o m).shaped.few in omega arith
-
--- the renaming that there is
-pub some_renaming : (o : Op) (b : Body) (r : Renaming) → Some r ≡ renaming_in o b → (b ≡ Rename (former_in b)) × (r ≡ renaming_of o (former_in b))
-some_renaming o (Insert first text) r h = absurd (cc)
-some_renaming o (Delete targets) r h = absurd (cc)
-some_renaming o (Rename former) r h = (refl, some_is r (renaming_of o former) h)
-some_renaming o Leave r h = absurd (cc)
-
-pub no_renaming : (nodes : List Node) (o : Op) (b : Body) → None ≡ renaming_in o b → nodes_after nodes o b ≡ nodes
-no_renaming nodes o (Insert first text) h = refl
-no_renaming nodes o (Delete targets) h = refl
-no_renaming nodes o (Rename former) h = absurd (cc)
-no_renaming nodes o Leave h = refl
 
 some_go : (o : Op) (b : Body) → IsSome (renaming_in o b) → b ≡ Rename (former_in b)
 some_go o (Insert first text) h = absurd (cc)

@@ -14,7 +14,8 @@ use Rattle.rls_model.specs.Taking as model
 use Rattle.rls_model.proofs.OneTree.{author_below}
 use Rattle.rls_seen.specs.Seen.{Seen, vector, members}
 use Rattle.rls_seen.specs.Over.{accepted, holding, after_answer, answer_over, received, refusal_over, first_ready, release_of, release_over, after_refusal, after_release, released, released_times, acknowledged, IsPartReleased}
-use Rattle.rls_seen.specs.Messages.{Course, started, moved, with_answer, with_refusal, with_release, receive_step, release_step, release_steps, with_releases, take_ops, taken_within, taken_over, taken_of, AreOps}
+use Rattle.rls_model.specs.WellFormed.{AreOps}
+use Rattle.rls_seen.specs.Messages.{Course, started, moved, with_answer, with_release, receive_step, release_step, release_steps, with_releases, take_ops, taken_within, taken_over, taken_of}
 use Rattle.rls_seen.specs.Sane.{IsSane}
 use Rattle.rls_seen.proofs.Accepting.{acks_mine}
 use Rattle.rls_seen.proofs.Counting.{members_received, members_released}
@@ -89,13 +90,6 @@ pub received_counts : (s : Seen) (t : Taken) (o : Op) (x : Answer) → CountsRel
 received_counts s t o x k = let a = released_or_more s o in let e = receipt_released t o.author o.seq x in omega arith
 
 -- ---- one step
-
-pub released_course : (s : Seen) (t : Taken) (r : Released) → release_over s ≡ Some r → course (released s) (with_reason t r.author r.seq r.refusal) ≡ release_step (course s t)
-released_course s t r e = go r.refusal ∙ sym (ap (with_release (course s t)) e)
-  where
-    go : (x : Option Reason) → course (released s) (with_reason t r.author r.seq x) ≡ with_refusal (moved (course s t) (released s)) r.author r.seq x
-    go None = refl
-    go (Some q) = refl
 
 pub unreleased_course : (s : Seen) (t : Taken) → None ≡ release_over s → course (released s) t ≡ release_step (course s t)
 unreleased_course s t e = ap (λ u. course u t) (released_none s (sym e)) ∙ ap (with_release (course s t)) e
@@ -231,9 +225,6 @@ receipt_few n t a q Applies h = let i = h.applied in let j = h.repeated in let k
 receipt_few n t a q Repeats h = let i = h.applied in let j = h.repeated in let k = h.held in record { applied = omega arith; repeated = omega arith; held = omega arith }
 receipt_few n t a q Waits h = let i = h.applied in let j = h.repeated in let k = h.held in record { applied = omega arith; repeated = omega arith; held = omega arith }
 receipt_few n t a q (Refuses r) h = let i = h.applied in let j = h.repeated in let k = h.held in record { applied = omega arith; repeated = omega arith; held = omega arith }
-
-pub few_more : (n : ℕ) (t : Taken) → AreFew n t → AreFew (n + 1) t
-few_more n t h = let i = h.applied in let j = h.repeated in let k = h.held in record { applied = omega arith; repeated = omega arith; held = omega arith }
 
 -- ---- all operations
 

@@ -1,24 +1,18 @@
 -- Operations that are taken one after another, and how far one came.
-use Rattle.std.proofs.Common.{◌≡◌, ◌∙◌, ℕ, ◌+◌, List, drop, Some, None, cond, refl, sym, ap, subst}
-use Rattle.std.specs.Prelude.{slice_get}
-use Rattle.rls_ident.proofs.Loops.{drop_reads}
+use Rattle.std.proofs.Common.{◌≡◌, ◌∙◌, ℕ, List, Some, None, cond, refl, sym, ap, subst}
 use Rattle.rls_ops.specs.declared.op.Op.{Op}
 use Rattle.rls_ops.specs.declared.message.Message.{Message}
 use Rattle.rls_model.specs.Receiving.{State}
 use Rattle.rls_model.specs.Taking.{has_room, take_within}
 use Rattle.rls_model.specs.Taking as model
-use Rattle.rls_model.specs.WellFormed.{IsOp}
 use Rattle.rls_seen.specs.Seen.{Seen, members}
 use Rattle.rls_seen.specs.Over.{acknowledged}
-use Rattle.rls_seen.specs.Messages.{Course, started, moved, take_ops, taken_within, AreOps, IsMessage, IsPartTaken}
+use Rattle.rls_model.specs.WellFormed.{AreOps}
+use Rattle.rls_seen.specs.Messages.{Course, started, moved, take_ops, taken_within, IsMessage, IsPartTaken}
 use Rattle.rls_seen.specs.Stands.{StandsFor}
-use Rattle.rls_seen.proofs.Repeating.{within, no_ops, Reaches, reaches_start, part_taken, no_more}
+use Rattle.rls_seen.proofs.Repeating.{within, no_ops, Reaches, reaches_start, no_more}
 use Rattle.rls_seen.proofs.Taking.{started_goes, ops_go, taken_alike}
 use Rattle.rls_replica.specs.Steps.{IsPartOfOps}
-
--- one more is well formed
-pub ops_more : (os : List Op) (i : ℕ) (o : Op) → slice_get os i ≡ Some o → IsOp o → AreOps (drop (i + 1) os) → AreOps (drop i os)
-ops_more os i o e w h = subst AreOps (sym (drop_reads os i o e)) (w, h)
 
 -- ---- cut short
 
@@ -31,9 +25,6 @@ ops_part s os k c rest h =
 -- none was
 pub ops_none : (s : Seen) (os : List Op) → IsPartOfOps s os s
 ops_none s os = ops_part s os 0 (started None s) os (reaches_start s os)
-
-pub message_none : (s : Seen) (m : Message) → IsPartTaken s m s
-message_none s m = part_taken s m 0 (started None s) m.ops (reaches_start s m.ops)
 
 -- it stands for the history behind as many
 pub ops_part_stands : (s u : Seen) (t : State) (os : List Op) → AreOps os → IsPartOfOps s os u → StandsFor s t → (n : ℕ) × StandsFor u (model.take_ops (model.started (Some n) t) os).state

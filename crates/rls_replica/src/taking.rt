@@ -11,7 +11,7 @@ ghost use Rattle.rls_seen.specs.Seen.{Seen, members};
 ghost use Rattle.rls_seen.specs.Over.{release_over, released, released_all, IsPartReleased};
 ghost use Rattle.rls_seen.specs.Sane.{IsSane};
 ghost use Rattle.rls_replica.specs.Releases.{reason_in};
-ghost use Rattle.rls_seen.specs.Messages.{message_over, release_step, with_releases, started, take_ops, taken_over, taken_of, AreOps, IsPartTaken};
+ghost use Rattle.rls_seen.specs.Messages.{message_over, release_step, with_releases, started, take_ops, taken_over, taken_of, IsPartTaken};
 ghost use Rattle.rls_seen.specs.Stands.{StandsFor};
 ghost use Rattle.rls_replica.specs.Steps.{course, CountsReleased, IsPartOfOps, HasRoom, AreFew, IsOnWay, with_receipt, with_reason};
 ghost use Rattle.rls_replica.specs.Names.{KeepsNames};
@@ -133,7 +133,7 @@ impl Replica {
         ensures stands { IfOk result (λ taken. (t : State) → StandsFor self.old t → (taken ≡ model.taken (model.take_ops (model.started None t) ops)) × StandsFor self.new (model.take_ops (model.started None t) ops).state) }
         ensures part { OnErr result ((t : State) → StandsFor self.old t → (n : ℕ) × StandsFor self.new (model.take_ops (model.started (Some n) t) ops).state) }
     {
-        all_fit(ops.as_slice());
+        ops.fits();
         let mut taken = nothing(self.alloc);
         let mut rest = ops.into_vec();
         rest.reverse();
@@ -171,7 +171,7 @@ impl Replica {
             });
         }
         let _len = message.vector.len();
-        all_fit(message.ops.as_slice());
+        message.ops.fits();
         let Message {
             from,
             vector,
@@ -275,13 +275,4 @@ fn count_release(release: Release, taken: &mut Taken) -> Result<(), AllocError>
         Some(refusal) => taken.refused.push(author, seq, refusal)?,
     }
     Ok(())
-}
-
-// Each of the operations is well formed.
-fn all_fit(ops: &[Op])
-    ensures whole { AreOps ops.now }
-{
-    for op in ops {
-        op.fits();
-    }
 }

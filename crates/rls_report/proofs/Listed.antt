@@ -3,7 +3,7 @@ use Rattle.std.proofs.Common.{◌≡◌, ℕ, ℤ, pos, negsuc, true, false, Lis
 use Rattle.std.specs.Fmt.{decimal, signed_decimal}
 use Rattle.std.specs.List.{join_with_byte}
 use Rattle.serde_json.proofs.OnLiterals.{serde_json_on_literals}
-use Rattle.serde_json.specs.Data.{Data, Items, no_items, item, array, number}
+use Rattle.serde_json.specs.Data.{Data, array, number}
 use Rattle.serde_json.specs.Find.{of_integer}
 use Rattle.serde_json.specs.View.{items_of}
 use Rattle.serde_json.specs.Written.{compact_text, items_text, has_float, items_have_float}
@@ -39,9 +39,6 @@ module _ {X : Type 0} (data_of : X → Data) (text_of : X → List ℕ) (one : (
   list_writes xs = (first_text xs, no_float xs)
 
 -- ---- numbers
-
-unsigned_writes : (n : ℕ) → Writes (number (Rattle.serde_json.specs.Data.unsigned n)) (decimal n)
-unsigned_writes n = (refl, refl)
 
 signed_writes : (z : ℤ) → Writes (number (of_integer z)) (signed_decimal z)
 signed_writes (pos n) = (refl, refl)

@@ -4,14 +4,10 @@ use Rattle.std.specs.Prelude.{pos, ◌+ℤ◌, ◌≤ℤ◌}
 use Rattle.std.proofs.lemmas.Int.{ints}
 use Rattle.rls_ident.specs.declared.tuple.Tuple.{Tuple}
 use Rattle.rls_ident.specs.Tuples.{offset_of}
-use Rattle.rls_ident.specs.Identifiers.{last_of, shifted, follows, greatest_offset}
+use Rattle.rls_ident.specs.Identifiers.{last_of, shifted, follows}
 use Rattle.rls_runs.specs.Runs.{run_last, is_run, past_offsets}
 use Rattle.rls_runs.proofs.RunOrder.{run_ident}
 use Rattle.rls_runs.proofs.RunEnds.{last_offset, run_end, run_short, longer_is, touched_is}
-
--- a place within a run is in the range of offsets
-pub offset_within : (r : List Tuple × ℕ) (k : ℕ) → is_run r ≡ true → k < r.1 → (offset_of (last_of r.0) +ℤ pos k) ≤ℤ greatest_offset
-offset_within r k h l = let e = run_end r h in omega (arith, ints)
 
 pub part_ends : (r : List Tuple × ℕ) (k n : ℕ) → is_run r ≡ true → k + n ≤ r.1 → (offset_of (last_of (shifted (pos k) r.0)) +ℤ pos n) ≤ℤ past_offsets
 part_ends r k n h l =

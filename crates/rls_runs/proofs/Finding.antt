@@ -14,8 +14,7 @@ use Rattle.rls_ident.specs.Identifiers.{ident_cmp, ident_lt, ident_eq, shifted}
 use Rattle.std.proofs.lemmas.List.{drop_more}
 use Rattle.std.proofs.Math.ListN.{drop_of_length-le}
 use Rattle.rls_ident.proofs.Loops.{drop_reads}
-use Rattle.rls_ident.proofs.Lists.{then_equal}
-use Rattle.rls_ident.proofs.Tuples.{tuples, tuple_total, nat_same, int_less}
+use Rattle.rls_ident.proofs.Tuples.{tuples, tuple_total, int_less}
 use Rattle.rls_ident.proofs.BetweenLaws.{less_high}
 use Rattle.rls_runs.specs.Runs.{run_idents}
 use Rattle.rls_runs.specs.Entries.{has_ident}
@@ -116,10 +115,6 @@ below_tells p r q o (suc n) u y e = one_less (At p r q o ∷ []) (spots p r q (o
 pub above_tells : (p r q : ℕ) (o : ℤ) (n : ℕ) (u : Tuple) (y : List Tuple) → ((k : ℤ) → tuple_cmp (At p r q k) u ≡ Greater) → Tells (spots p r q o n) (u ∷ y) false 0
 above_tells p r q o zero u y e = (refl, refl)
 above_tells p r q o (suc n) u y e = one_above (At p r q o ∷ []) (spots p r q (o +ℤ pos 1) n) (u ∷ y) 0 (first_decides (At p r q o) u [] y Greater (e o)) (above_tells p r q (o +ℤ pos 1) n u y e)
-
-pub empty_tells : (p r q : ℕ) (o : ℤ) (n : ℕ) → Tells (spots p r q o n) [] false 0
-empty_tells p r q o zero = (refl, refl)
-empty_tells p r q o (suc n) = empty_tells p r q (o +ℤ pos 1) n
 
 -- the offsets alone decide
 offsets : (p r q : ℕ) (o k : ℤ) → tuple_cmp (At p r q o) (At p r q k) ≡ int_cmp o k
@@ -237,12 +232,6 @@ pub base_greater : (p r q a b c n : ℕ) (k o : ℤ) (y : List Tuple) → base_c
 base_greater p r q a b c n k o y e =
     told (spots a b c o n) (At p r q k ∷ y) false n (below_tells a b c o n (At p r q k) y
     (λ j. reversed (At a b c j) (At p r q k) Greater (base_decides p r q a b c k j ∙ ap (λ z. ordering_then z (int_cmp k j)) e)))
-
-pub base_same : (p r q a b c : ℕ) → base_cmp p r q a b c ≡ Equal → (p ≡ a) × (r ≡ b) × (q ≡ c)
-base_same p r q a b c e =
-    let f = then_equal (nat_cmp p a) (ordering_then (nat_cmp r b) (nat_cmp q c)) e in
-    let g = then_equal (nat_cmp r b) (nat_cmp q c) f.1 in
-    (nat_same p a f.0, nat_same r b g.0, nat_same q c g.1)
 
 low_greater : (p r q : ℕ) (k : ℤ) → tuple_cmp (At p r q k) Low ≡ Greater
 unfolding tuple_cmp

@@ -117,9 +117,6 @@ pub run_rising : (x : List Tuple) (n : ℕ) → IsIdent x → Rising (run_idents
 run_rising x zero i = tt
 run_rising x (suc n) i = subst Rising (append-nil (run_idents x (suc n))) (rising_run n x [] i tt tt)
 
-pub run_rises : (x : List Tuple) (n : ℕ) → IsIdent x → is_increasing (run_idents x n) ≡ true
-run_rises x n i = increasing_of (run_idents x n) (run_rising x n i)
-
 -- what stands behind a run is greater than its last identifier
 pub last_rising : (m : ℕ) (x : List Tuple) (rest : List (List Tuple)) → Rising (run_idents x (suc m) ++ rest) → AllMore (shifted (pos m) x) rest
 last_rising zero x rest h = subst (λ y. AllMore y rest) (sym (shifted_none x)) h.0

@@ -23,7 +23,7 @@ use Rattle.rls_ops.specs.Rows.{AcksSeen, AreRows, row_of, left, raised}
 use Rattle.rls_ops.proofs.KeptRows.{raised_rows, parted_rows}
 use Rattle.rls_model.specs.Document.{has_ident, put_all, export}
 use Rattle.rls_model.specs.Epochs.{greatest, translate, nodes_after, renaming_of}
-use Rattle.rls_model.specs.History.{History, Then, Accepted, me_of, members_of, ops, count, count_of, is_leave, row}
+use Rattle.rls_model.specs.History.{History, Then, Accepted, me_of, members_of, ops, count, count_of, is_leave}
 use Rattle.rls_model.specs.History as history
 use Rattle.rls_model.specs.Legal.{IsLegal, MayAccept}
 use Rattle.rls_model.specs.Receiving.{State, accept, without}
@@ -57,12 +57,6 @@ acks_mine acks a (Insert first text) = refl
 acks_mine acks a (Delete targets) = refl
 acks_mine acks a (Rename former) = refl
 acks_mine acks a Leave = refl
-
-pub acks_others : (acks : AcksSeen) (a : ℕ) (b : Body) → (acks_after acks a b).others ≡ acks.others
-acks_others acks a (Insert first text) = refl
-acks_others acks a (Delete targets) = refl
-acks_others acks a (Rename former) = refl
-acks_others acks a Leave = refl
 
 pub places_after : (acks : AcksSeen) (a : ℕ) (b : Body) → AreRows acks → AreRows (acks_after acks a b)
 places_after acks a (Insert first text) h = raised_rows acks a h

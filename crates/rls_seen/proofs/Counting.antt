@@ -1,12 +1,12 @@
 -- The count of members stays.
-use Rattle.std.proofs.Common.{◌≡◌, ℕ, zero, suc, Bool, true, false, cond, List, length, refl, ap, ◌∙◌, Option, Some, None}
+use Rattle.std.proofs.Common.{◌≡◌, ℕ, Bool, true, false, cond, List, length, refl, ap, ◌∙◌, Option, Some, None}
 use Rattle.rls_ident.proofs.Vectors.{length-raise}
 use Rattle.rls_ops.specs.declared.op.Op.{Op}
 use Rattle.rls_ops.specs.Rows.{noted}
 use Rattle.rls_ops.specs.Rows as rows
 use Rattle.rls_model.specs.Answers.{Reason, Answer, Applies, Repeats, Waits, Refuses}
 use Rattle.rls_seen.specs.Seen.{Seen, members}
-use Rattle.rls_seen.specs.Over.{accepted, holding, after_answer, answer_over, received, replayed, refusal_over, first_ready, after_refusal, after_release, released, released_times, released_all, acknowledged}
+use Rattle.rls_seen.specs.Over.{accepted, holding, after_answer, answer_over, received, refusal_over, first_ready, after_refusal, after_release, released, acknowledged}
 use Rattle.rls_seen.proofs.Accepting.{acks_mine}
 
 pub members_accepted : (s : Seen) (o : Op) → members (accepted s o) ≡ members s
@@ -24,10 +24,6 @@ pub members_received : (s : Seen) (o : Op) → members (received s o) ≡ member
 unfolding received
 members_received s o = members_answer (answer_over false s o) s o
 
-pub members_replayed : (s : Seen) (o : Op) → members (replayed s o) ≡ members s
-unfolding replayed
-members_replayed s o = members_answer (answer_over true s o) s o
-
 members_refusal : (r : Option Reason) (s : Seen) (w : Op) → members (after_refusal r s w) ≡ members s
 unfolding holding
 members_refusal None s w = members_accepted s w
@@ -40,14 +36,6 @@ members_released s = go (first_ready s)
     go : (o : Option Op) → members (after_release s o) ≡ members s
     go None = refl
     go (Some w) = members_refusal (refusal_over s w) s w
-
-members_times : (n : ℕ) (s : Seen) → members (released_times n s) ≡ members s
-members_times zero s = refl
-members_times (suc n) s = members_times n (released s) ∙ members_released s
-
-pub members_released_all : (s : Seen) → members (released_all s) ≡ members s
-unfolding released_all
-members_released_all s = members_times (length s.waiting) s
 
 pub members_acknowledged : (s : Seen) (a : ℕ) (v : List ℕ) → members (acknowledged s a v) ≡ members s
 unfolding acknowledged

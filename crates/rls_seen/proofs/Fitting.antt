@@ -1,6 +1,6 @@
 -- What is known of an operation that may be applied.
 use Rattle.std.proofs.Common.{◌≡◌, ℕ, ◌+◌, ◌<◌, not, nat_lt, Bool, true, false, List, length, refl, sym, ap, ◌∙◌, arith, Some, None, IsTrue, if◌then◌else◌}
-use Rattle.std.specs.Prelude.{ℤ, pos, ◌+ℤ◌}
+use Rattle.std.specs.Prelude.{pos, ◌+ℤ◌}
 use Rattle.rls_ident.specs.declared.tuple.Tuple.{Tuple}
 use Rattle.rls_ident.specs.declared.epoch_name.EpochName.TheVariants.{Of}
 use Rattle.rls_ident.specs.EpochNames.{name_eq}
@@ -69,12 +69,6 @@ pub change : (s : Seen) (o : Op) → IsSane s → Facts s o → Change s.stems o
 change s o sane f =
     let n = f.next in
     change_of s.stems o o.body (earlier (vector s) s.stems o.author o.seq sane.stems f.next) (omega arith) (may_begin s o f)
-
-some_len : (b : Body) → is_empty b ≡ false → (b ≡ Leave → ⊥) → 0 < body_len b
-some_len (Insert first text) e n = let k = eq_not (length text) 0 e in omega arith
-some_len (Delete targets) e n = let k = eq_not (length targets) 0 e in omega arith
-some_len (Rename former) e n = let k = eq_not (length former) 0 e in omega arith
-some_len Leave e n = absurd (n refl)
 
 stems_go : (s : Seen) (o : Op) (b : Body) → IsSane s → Facts s o → o.body ≡ b → IsInRange b → AreStems (raise (vector s) o.author) (stems_after s.stems o.author o.seq b)
 stems_go s o (Insert first text) sane f e r =

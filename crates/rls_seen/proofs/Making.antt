@@ -1,6 +1,6 @@
 -- What an edit makes may be applied, and a replica stays sane where it edits.
 use Rattle.std.proofs.Common.{◌≡◌, ℕ, ◌+◌, ◌-◌, ◌^◌, ◌<◌, ◌≤◌, ◌==◌, ◌&&◌, nat_lt, slice_index, slice_get, Bool, true, false, cond, List, [], ◌∷◌, length, take, drop, get_or, refl, sym, ap, ◌∙◌, subst, arith, inl, inr, Option, Some, None, if◌then◌else◌}
-use Rattle.std.specs.Prelude.{ℤ, pos, ◌+ℤ◌, ◌-ℤ◌, ◌≤ℤ◌}
+use Rattle.std.specs.Prelude.{pos, ◌+ℤ◌, ◌-ℤ◌, ◌≤ℤ◌}
 use Rattle.std.specs.Int.RustNames.{int_le}
 use Rattle.std.specs.List.{list_any}
 use Rattle.std.specs.Ordering.{int_eq, is_eq}
@@ -261,13 +261,3 @@ made_range s edits.Leave sane = tt
 -- a replica stays sane where it edits
 pub edited_sane : (s : Seen) (edit : Edit) → IsSane s → IsEdit edit → edit_fault_over s edit ≡ None → IsSane (edited s edit)
 edited_sane s edit sane i h = accepted_sane s (made_over s edit) sane (made_may s edit sane i h) (made_range s edit sane)
-
--- its number is a u32
-pub made_seq : (s : Seen) (edit : Edit) → IsSane s → edit_fault_over s edit ≡ None → own_count s + 1 < 2 ^ 32
-made_seq s edit sane h =
-    let f = fault_split s edit h in
-    let small = small_of s sane s.acks.me sane.rows.member in
-    go (own_count s) small (unspent s edit f.2)
-  where
-    go : (m : ℕ) → m < 2 ^ 32 → (m ≡ 4294967295 → ⊥) → m + 1 < 2 ^ 32
-    go m k q = omega arith

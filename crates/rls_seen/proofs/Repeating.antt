@@ -8,14 +8,13 @@ use Rattle.rls_ops.specs.declared.message.Message.{Message}
 use Rattle.rls_ops.proofs.Waiting.{before_other, length-without, length-with}
 use Rattle.rls_model.specs.Answers.{Reason, Answer, Applies, Repeats, Waits, Refuses, Released}
 use Rattle.rls_model.specs.Receiving.{without, waiting_under, is_numbered, comes_before}
-use Rattle.rls_model.specs.WellFormed.{IsOp}
 use Rattle.rls_model.specs.Taking.{Limit, has_room, one_less}
 use Rattle.rls_model.proofs.WorldsWaiting.{numbered_test}
 use Rattle.rls_seen.specs.Seen.{Seen, vector, members}
 use Rattle.rls_seen.specs.Over.{accepted, holding, after_answer, answer_over, received, refusal_over, first_ready, release_of, release_over, after_refusal, after_release, released, released_times, released_all, acknowledged, IsPartReleased}
 use Rattle.rls_seen.specs.Messages.{Course, started, moved, with_answer, with_refusal, with_release, receive_step, release_step, release_steps, with_releases, acknowledge_step, take_ops, taken_within, IsPartTaken}
-use Rattle.rls_seen.specs.Sane.{IsSane, IsInRange, AreHeld}
-use Rattle.rls_seen.proofs.Staying.{ready, received_sane, released_sane, acknowledged_sane}
+use Rattle.rls_seen.specs.Sane.{IsSane, AreHeld}
+use Rattle.rls_seen.proofs.Staying.{ready, released_sane}
 
 -- ---- the first ready one
 
@@ -51,10 +50,6 @@ released_refused s w r e f = sym (ap (after_release s) e ∙ ap (λ x. after_ref
 pub release_is : (s : Seen) (w : Op) → first_ready s ≡ Some w → release_over s ≡ Some (record { author = w.author; seq = w.seq; refusal = refusal_over s w })
 unfolding release_over
 release_is s w e = ap (release_of s) e
-
-pub release_none : (s : Seen) → first_ready s ≡ None → release_over s ≡ None
-unfolding release_over
-release_none s e = ap (release_of s) e
 
 waiting_after : (s : Seen) (w : Op) (r : Option Reason) → (after_refusal r s w).waiting ≡ without w.author w.seq s.waiting
 unfolding accepted holding
@@ -303,11 +298,6 @@ reaches_rest s os k c rest i h limit = h limit ∙ ap (λ d. take_ops d rest) (d
 within_none : (c : Course) → c.limit ≡ None → within None c ≡ c
 within_none c e = ap (λ l. within l c) (sym e)
 
--- the message was taken
-pub taken_is : (s : Seen) (m : Message) (k : ℕ) (c : Course) → c.limit ≡ None → Reaches s m.ops k c [] → taken_within None s m ≡ acknowledge_step c m.from m.vector
-unfolding taken_within
-taken_is s m k c e h = ap (λ d. acknowledge_step d m.from m.vector) (h None ∙ within_none c e)
-
 pub no_more : (k : ℕ) → more_steps k (Some 0) ≡ Some k
 no_more k = ap (λ m. Some m) (zero_more k)
   where
@@ -323,26 +313,10 @@ part_taken s m k c rest h = (
       ∙ ap (λ d. (acknowledge_step d m.from m.vector).seen) (h (Some 0) ∙ no_ops rest (within (Some 0) c) refl)),
 )
 
-pub part_released : (s : Seen) (m : Message) (k : ℕ) (c : Course) (rest : List Op) → ReachesReady s m.ops k c rest → IsPartTaken s m c.seen
-unfolding taken_within
-part_released s m k c rest h = (
-  k,
-  sym (ap (λ l. (acknowledge_step (take_ops (started l s) m.ops) m.from m.vector).seen) (sym (no_more k))
-      ∙ ap (λ d. (acknowledge_step d m.from m.vector).seen)
-      (h (Some 0) ∙ (ap (λ d. take_ops d rest) (no_releases (length c.seen.waiting) (within (Some 0) c) refl) ∙ no_ops rest (within (Some 0) c) refl))),
-)
-
 -- ---- at each step
-
--- a replica stays sane
-pub received_step_sane : (c : Course) (o : Op) → c.limit ≡ None → IsSane c.seen → IsOp o → IsInRange o.body → IsSane (receive_step c o).seen
-received_step_sane c o e h w r = subst IsSane (sym (received_seen c o e)) (received_sane c.seen o h w r)
 
 pub released_step_sane : (c : Course) → c.limit ≡ None → IsSane c.seen → IsSane (release_step c).seen
 released_step_sane c e h = subst IsSane (sym (released_seen c e)) (released_sane c.seen h)
-
-pub acknowledged_step_sane : (c : Course) (a : ℕ) (v : List ℕ) → c.limit ≡ None → IsSane c.seen → a < members c.seen → length v ≡ members c.seen → IsSane (acknowledge_step c a v).seen
-acknowledged_step_sane c a v e h l k = subst IsSane (sym (acknowledged_seen c a v e)) (acknowledged_sane c.seen a v h l k)
 
 -- what is counted after n operations, where m waited at first
 pub record AreCounted (m n : ℕ) (c : Course) : Type 0 where

@@ -1,5 +1,5 @@
 -- A fresh replica stands for the history in which nothing has happened.
-use Rattle.std.proofs.Common.{◌≡◌, ℕ, zero, suc, ◌<◌, ◌==◌, Bool, true, false, cond, List, [], length, replicate, get_or, refl, ap, ◌∙◌, arith}
+use Rattle.std.proofs.Common.{◌≡◌, ℕ, zero, suc, ◌<◌, ◌==◌, false, cond, List, [], length, replicate, get_or, refl, ap, ◌∙◌, arith}
 use Rattle.std.proofs.lemmas.List.{get_or-replicate, length-replicate}
 use Rattle.rls_ident.proofs.Vectors.{at_most_refl}
 use Rattle.rls_ops.proofs.KeptRows.{starting_rows}
@@ -23,10 +23,6 @@ none_left : (n a : ℕ) → get_or (replicate n false) a false ≡ false
 none_left zero a = refl
 none_left (suc n) zero = refl
 none_left (suc n) (suc a) = none_left n a
-
-same_if : (b : Bool) (x : List ℕ) → cond b x x ≡ x
-same_if true x = refl
-same_if false x = refl
 
 fresh_text : (group me n : ℕ) → [] ≡ export (Fresh group me n)
 unfolding export live chars

@@ -4,23 +4,19 @@ use Rattle.rls_ops.specs.declared.op.Op.{Op}
 use Rattle.rls_ops.specs.declared.message.Message.{Message}
 use Rattle.rls_model.specs.declared.receipt.Taken.{Taken}
 use Rattle.rls_model.specs.Answers.{Reason, Answer, Applies, Repeats, Waits, Refuses, Released}
-use Rattle.rls_model.specs.declared.edit.Edit.{Edit}
 use Rattle.rls_model.specs.EditRun as model_edits
-use Rattle.rls_model.specs.Editing.{made}
-use Rattle.rls_model.specs.Receiving.{State, accept, receive, receive_after, release, release_after}
+use Rattle.rls_model.specs.Receiving.{State, receive, receive_after, release, release_after}
 use Rattle.rls_model.specs.Taking.{Limit, has_room, one_less, Progress, acknowledge, take_within}
 use Rattle.rls_model.specs.Taking as model
-use Rattle.rls_model.specs.WellFormed.{IsOp, IsEdit, IsVector}
+use Rattle.rls_model.specs.WellFormed.{IsOp, IsVector, AreOps}
 use Rattle.rls_seen.specs.Seen.{Seen, members}
 use Rattle.rls_seen.specs.Over.{answer_over, received, release_over, released, acknowledged}
-use Rattle.rls_seen.specs.Messages.{Course, started, moved, with_answer, with_refusal, with_release, receive_step, release_step, release_steps, with_releases, acknowledge_step, take_ops, taken_within, taken_of, edit_step, AreOps, IsMessage}
+use Rattle.rls_seen.specs.Messages.{Course, started, moved, with_answer, with_refusal, with_release, receive_step, release_step, release_steps, with_releases, acknowledge_step, take_ops, taken_within, taken_of, IsMessage}
 use Rattle.rls_seen.specs.Stands.{StandsFor}
 use Rattle.rls_seen.proofs.Receiving.{received_stands}
 use Rattle.rls_seen.proofs.Releasing.{released_stands}
 use Rattle.rls_seen.proofs.Noting.{acknowledged_stands}
-use Rattle.rls_seen.proofs.Counting.{members_accepted, members_received, members_released, members_acknowledged}
-use Rattle.rls_seen.proofs.Editing.{edited_stands}
-use Rattle.rls_seen.specs.Edits.{made_over, edit_fault_over, edited}
+use Rattle.rls_seen.proofs.Counting.{members_received, members_released, members_acknowledged}
 
 -- both have taken the same steps
 pub record Goes (n : ℕ) (c : Course) (p : Progress) : Type 0 where
@@ -135,9 +131,3 @@ pub taken_alike : (limit : Limit) (s : Seen) (t : State) (m : Message) → IsMes
 taken_alike limit s t m w h =
     let g = taken_stands limit s t m w h in
     (counted_alike (members s) (taken_within limit s m) (take_within limit t m) g, g.stands)
-
--- an edit that isn't refused
-pub edit_goes : (n : ℕ) (c : Course) (p : Progress) (edit : Edit) → IsEdit edit → edit_fault_over c.seen edit ≡ None → Goes n c p → Goes n (edit_step c edit) (model_edits.edit_step p edit)
-edit_goes n c p edit w f g =
-    pick n (has_room c.limit) (has_room p.limit) c (moved c (edited c.seen edit)) p (model.moved p (accept p.state (made p.state.history edit))) (ap has_room g.limit) g
-    (moved_goes n c p (edited c.seen edit) (accept p.state (made p.state.history edit)) g (members_accepted c.seen (made_over c.seen edit) ∙ g.members_are) (edited_stands c.seen p.state edit w f g.stands))

@@ -9,7 +9,7 @@ use Rattle.rls_model.specs.declared.edit.Edit.{Edit}
 use Rattle.rls_model.specs.declared.receipt.Taken.{Taken}
 use Rattle.rls_model.specs.Answers.{Reason, Answer, Applies, Repeats, Waits, Refuses, Released}
 use Rattle.rls_model.specs.Taking.{Limit, has_room, one_less, front_within}
-use Rattle.rls_model.specs.WellFormed.{IsOp, IsVector}
+use Rattle.rls_model.specs.WellFormed.{IsVector, AreOps}
 use Rattle.rls_seen.specs.Seen.{Seen, vector, members, stable_over}
 use Rattle.rls_seen.specs.Over.{answer_over, received, release_over, released, acknowledged}
 use Rattle.rls_seen.specs.Edits.{edited}
@@ -106,11 +106,6 @@ abbrev pub edit_step : Course → Edit → Course
 edit_step c edit = if has_room c.limit then moved c (edited c.seen edit) else c
 
 -- ---- what a message may hold
-
--- well formed operations
-abbrev pub AreOps : List Op → Type 0
-AreOps [] = Unit {0}
-AreOps (o ∷ os) = IsOp o × AreOps os
 
 -- the sender is a member, its vector has a count for each, and the operations are well formed
 pub record IsMessage (n : ℕ) (m : Message) : Type 0 where

@@ -1,6 +1,5 @@
 -- The least of the awaited rows, row by row.
-use Rattle.std.proofs.Common.{◌≡◌, ℕ, ◌+◌, true, false, List, [], ◌∷◌, ◌++◌, refl, add-one}
-use Rattle.std.proofs.lemmas.List.{append-nil}
+use Rattle.std.proofs.Common.{◌≡◌, ℕ, ◌+◌, true, List, [], ◌∷◌, ◌++◌, refl, add-one}
 use Rattle.rls_ident.specs.Vectors.{meet}
 use Rattle.rls_ops.specs.Rows.{AcksSeen, row_of, awaits, awaited, least_of}
 
@@ -11,6 +10,3 @@ least_of-append v (w ∷ ws) us = least_of-append (meet v w) ws us
 -- one more member's row
 pub awaits_row : (acks : AcksSeen) (v : List ℕ) (a : ℕ) (w : List ℕ) → awaits acks a ≡ true → w ≡ row_of acks a → meet (least_of v (awaited acks a)) w ≡ least_of v (awaited acks (a + 1))
 awaits_row acks v a w e f = rw (add-one, e, f, least_of-append v (awaited acks a) (row_of acks a ∷ [])) refl
-
-pub skips_row : (acks : AcksSeen) (v : List ℕ) (a : ℕ) → awaits acks a ≡ false → least_of v (awaited acks a) ≡ least_of v (awaited acks (a + 1))
-skips_row acks v a e = rw (add-one, e, append-nil) refl

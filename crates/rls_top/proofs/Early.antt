@@ -40,11 +40,6 @@ unmade_by_words c words made r X Y e h = subst (λ (w : Option Command). IfSome 
 
 -- ---- the file
 
--- what the file calls for, of a command that doesn't read the input
-pub no_input : (file : Option (Option (List ℕ))) (c : Command) (r : Result Made Stop) → reads_input (Some c) ≡ false → IfSome file (λ kept. IfSome (stop_of_file (Some c) kept) (EndsByFile r))
-no_input None c r e = tt
-no_input (Some kept) c r e = rw e tt
-
 -- the file isn't used
 pub stopped_by_file : (file : Option (Option (List ℕ))) (c : Command) (stop : Stop) → IfSome file (λ kept. EndsAs stop (state_in (loaded kept))) → IsOfKeeper stop
     → IfSome file (λ kept. IfSome (stop_of_file (Some c) kept) (EndsByFile (Err stop)))

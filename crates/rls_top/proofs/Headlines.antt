@@ -38,7 +38,7 @@ use Rattle.rls_top.specs.declared.stop.Stop.TheVariants.{Failed}
 use Rattle.rls_top.specs.declared.words.Command.{Command}
 use Rattle.rls_top.specs.declared.words.Command.TheVariants.{New, Edit, Text, Ids, Send, Take, Leave}
 use Rattle.rls_top.specs.Words.{command_of}
-use Rattle.rls_top.specs.Due.{Due, Makes, Stops, file_limit, input_limit, loaded, read, saved, stores, state_in, due_at, due_on, due_of_command, due_of_words, due_of_input, due_of_script, due_of_message, due_of_new, is_for, due_status, heard, stored_or}
+use Rattle.rls_top.specs.Due.{Due, Makes, Stops, file_limit, input_limit, loaded, read, saved, stores, state_in, due_at, due_on, due_of_command, due_of_words, due_of_input, due_of_script, due_of_message, due_of_new, is_for, due_status, heard}
 use Rattle.rls_top.specs.Endings.{Told, IfTold, IsStatus, IsDone, IsStored, IsWritten, IsKept}
 use Rattle.rls_top.specs.Headline.{Asks, StandsIn, EndsWith, Shows, Saves, IsFileTooLong, IsTooLong}
 use Rattle.rls_top.specs.Lines.{allowed, read_line, run_script, run_leave}
@@ -75,12 +75,6 @@ written_due : (d : Due) (stored : Option (List ℕ)) (report : List ℕ) (refuse
     → IsWritten d old new → Appends old new report
 written_due d stored report refused too_long old new (inl e) w = subst (λ x. IsWritten x old new) e w
 written_due d stored report refused too_long old new (inr l) w = absurd (subst (λ x. IsWritten x old new) l.1 w)
-
--- by the file that is kept
-kept_due : (d : Due) (stored : Option (List ℕ)) (report : List ℕ) (refused : List (ℕ × ℕ × Reason)) (too_long : Type 0) (kept : Option (List ℕ)) (new : Option (Option (List ℕ)))
-    → OrTooLong d (Makes stored report refused) too_long → IsKept d kept new → new ≡ Some (stored_or stored kept)
-kept_due d stored report refused too_long kept new (inl e) w = subst (λ x. IsKept x kept new) e w
-kept_due d stored report refused too_long kept new (inr l) w = absurd (subst (λ x. IsKept x kept new) l.1 w)
 
 -- ---- opening
 

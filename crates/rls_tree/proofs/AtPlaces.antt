@@ -85,10 +85,6 @@ pub are_left : (xs ys : List Piece) → ArePieces (xs ++ ys) → ArePieces xs
 are_left [] ys h = tt
 are_left (x ∷ xs) ys h = (h.0, are_left xs ys h.1)
 
-pub are_right : (xs ys : List Piece) → ArePieces (xs ++ ys) → ArePieces ys
-are_right [] ys h = h
-are_right (x ∷ xs) ys h = are_right xs ys h.1
-
 pub reach_behind : (f g : List Piece) (i j : ℕ) → ArePieces f → i ≡ length (entries_of f) + j → reach_of (f ++ g) i ≡ reach_of g j
 reach_behind [] g i j h e = ap (reach_of g) (omega arith)
 reach_behind (b ∷ f) g i j h e =

@@ -2,7 +2,7 @@ use Rattle.std.proofs.Common.{◌≡◌, ◌∙◌, ◌<◌, ℕ, None, sym, ap,
 use Rattle.rls_model.specs.Taking.{take_message}
 use Rattle.rls_seen.specs.Seen.{Seen, members}
 use Rattle.rls_seen.specs.Over.{acknowledged}
-use Rattle.rls_seen.specs.Messages.{AreOps, IsMessage, started}
+use Rattle.rls_seen.specs.Messages.{IsMessage, started}
 use Rattle.rls_seen.specs.Stands.{StandsFor}
 use Rattle.rls_seen.proofs.Taking.{taken_alike}
 use Rattle.rls_replica.proofs.Cut.{message_part, message_part_stands}
@@ -21,7 +21,7 @@ returns-in_err-taken-clause-part c = λ _ t h.
     let whole : IsMessage (members s) m = record {
       from = subst (λ (n : ℕ). m.from < n) e c.requires.from;
       vector = (c.requires.vector ∙ e, c.len-len.ensures.bounded);
-      ops = subst AreOps c.as_slice.ensures.ops c.all_fit.ensures.whole;
+      ops = c.fits.ensures.whole;
     } in
     message_part_stands s c.take_ops.new.self t m whole (message_part s c.take_ops.new.self m c.in_err-taken.ensures.err) h
 
@@ -56,7 +56,7 @@ returns-clause-stands c = λ t h.
     let whole : IsMessage (members s) m = record {
       from = subst (λ (n : ℕ). m.from < n) e c.requires.from;
       vector = (c.requires.vector ∙ e, c.len-len.ensures.bounded);
-      ops = subst AreOps c.as_slice.ensures.ops c.all_fit.ensures.whole;
+      ops = c.fits.ensures.whole;
     } in
     let law = taken_alike None s t m whole h in (
       returns-clause-taken c ∙ law.0,

@@ -3,7 +3,7 @@ use Rattle.std.specs.Prelude.{reverse}
 use Rattle.rls_ops.specs.declared.op.Op.{Op}
 use Rattle.rls_model.specs.Receiving.{State}
 use Rattle.rls_model.specs.Taking as model
-use Rattle.rls_seen.specs.Messages.{AreOps, started, taken_of}
+use Rattle.rls_seen.specs.Messages.{started, taken_of}
 use Rattle.rls_seen.specs.Stands.{StandsFor}
 use Rattle.rls_replica.specs.Steps.{course, IsOnWay, IsPartOfOps}
 use Rattle.rls_replica.proofs.Cut.{ops_part_stands}
@@ -47,7 +47,7 @@ returns-in_err-take_one-clause-part c =
     let p : IsPartOfOps s c.args.ops u =
     c.in_err-take_one.ensures.err s c.args.ops (reverse ys) (subst (λ (x : List Op). IsOnWay s c.args.ops (course c.taking.self c.taking.taken) x) (last_first c.taking.rest.items ys o c.in-Some.ensures.items) i.way) in
     let k : (t : State) → StandsFor s t → (n : ℕ) × StandsFor u (model.take_ops (model.started (Some n) t) c.args.ops).state =
-    λ t h. ops_part_stands s u t c.args.ops (subst AreOps c.as_slice.ensures.ops c.all_fit.ensures.whole) p h in
+    λ t h. ops_part_stands s u t c.args.ops c.fits.ensures.whole p h in
     search rules
 
 pub returns-clause-taken : goal.returns-clause-taken
@@ -63,7 +63,7 @@ returns-clause-after c =
 pub returns-clause-stands : goal.returns-clause-stands
 returns-clause-stands c = λ t h.
     let e : length c.taking.rest.items ≡ 0 = omega (arith, c.in_default.ensures.cases.0) in
-    ops_all_stands c.args.self.now c.taking.self c.taking.taken t c.args.ops (subst AreOps c.as_slice.ensures.ops c.all_fit.ensures.whole)
+    ops_all_stands c.args.self.now c.taking.self c.taking.taken t c.args.ops c.fits.ensures.whole
     (none_left c.args.self.now c.taking.self c.taking.taken c.args.ops c.taking.rest.items (empty_is c.taking.rest.items e) c.taking.invariant.way) h
 
 pub returns-in_err-take_one-clause-names : goal.returns-in_err-take_one-clause-names
