@@ -112,7 +112,8 @@ impl Ops {
     pub fn fits(&self)
         ensures whole { AreOps self.now }
     {
-        for op in &self.ops {
+        let ops = self.as_slice();
+        for op in ops {
             op.fits();
         }
     }
