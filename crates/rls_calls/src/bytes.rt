@@ -1,4 +1,4 @@
-//! Bytes of messages and files, written in hexadecimal digits.
+//! Bytes of messages and files, written in hexadecimal digits. The tests of other crates use them too.
 
 use std::alloc::Global;
 use std::test::Fail;

@@ -1,8 +1,7 @@
 //! Tests of the public calls of the lower crates, each on worked values, and of all lines that are printed.
 #![tactic(auto)]
 
-#[cfg(test)]
-mod bytes;
+pub mod bytes;
 #[cfg(test)]
 mod idents;
 #[cfg(test)]

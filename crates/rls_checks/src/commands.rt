@@ -1,7 +1,7 @@
 //! Commands over devices in memory.
 
-use crate::bytes::front;
 use crate::files::{FRESH_IN_FORM_2, HELLO, MARK, USED_MARK, journal};
+use rls_calls::bytes::front;
 use rls_io::{MemoryKeeper, MemorySink, MemorySource};
 use rls_top::run;
 use std::alloc::Global;

@@ -1,7 +1,7 @@
 //! Messages between members.
 
-use crate::bytes::{EMPTY_MESSAGE, HELLO_MESSAGE, bytes, front, with_byte};
 use crate::members::{Member, Step};
+use rls_calls::bytes::{EMPTY_MESSAGE, HELLO_MESSAGE, bytes, front};
 use std::alloc::Global;
 use std::test::Fail;
 
@@ -10,6 +10,14 @@ const EDITED: &str = "edits 1 released 0 refused 0\n";
 
 /// The report of one operation that was applied.
 const APPLIED: &str = "applied 1 released 0 repeated 0 held 0 refused 0\n";
+
+/// The bytes with another one at this place.
+fn with_byte(mut bytes: Vec<u8>, at: usize, byte: u8) -> Vec<u8> {
+    if at < bytes.len() {
+        bytes[at] = byte;
+    }
+    bytes
+}
 
 /// A fresh member of this number, of 2 in group 7.
 fn fresh(alloc: Global, me: u8) -> Result<Member, Fail> {

@@ -1,7 +1,7 @@
 //! Devices that fail, call by call.
 
-use crate::bytes::{HELLO_MESSAGE, bytes};
 use crate::members::Member;
+use rls_calls::bytes::{HELLO_MESSAGE, bytes};
 use rls_io::{Keeper, MemorySink, MemorySource};
 use rls_journal::{DiskKeeper, MemoryDisk};
 use rls_top::run;
