@@ -1,6 +1,8 @@
-//! Tests of the public calls of the lower crates, each on worked values, and of all lines that are printed.
+//! Tests of the public calls of the core and of the crates around it, each on worked values, and of all lines that are printed.
 #![tactic(auto)]
 
+#[cfg(test)]
+mod answers;
 pub mod bytes;
 #[cfg(test)]
 mod idents;
@@ -11,4 +13,8 @@ mod lines;
 #[cfg(test)]
 mod ops;
 #[cfg(test)]
+mod replicas;
+#[cfg(test)]
 mod spelled;
+#[cfg(test)]
+mod steps;

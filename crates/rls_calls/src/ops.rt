@@ -26,7 +26,7 @@ fn at(offset: i32) -> Tuple {
 #[test]
 fn shapes(rt: HostRuntime) -> Result<(), Fail> {
     let alloc = rt.alloc();
-    let (first, end) = ([at(0)], [at(1_073_741_822)]);
+    let (first, end) = (at(0), at(1_073_741_822));
     let none: &[u32] = &[0, 0];
     let cases: &[(Told<'_>, Result<(), Shape>)] = &[
         ((2, 1, none, ORIGIN, Deed::Leave), Err(Shape::Author)),
@@ -35,22 +35,19 @@ fn shapes(rt: HostRuntime) -> Result<(), Fail> {
         ((1, 1, &[0, 0, 0], ORIGIN, Deed::Leave), Err(Shape::Context)),
         ((1, 1, none, ORIGIN, Deed::Leave), Ok(())),
         (
-            (1, 1, none, ORIGIN, Deed::Insert(&first, "")),
+            (1, 1, none, ORIGIN, Deed::Insert(first, "")),
             Err(Shape::EmptyBody),
         ),
         (
-            (1, 1, none, ORIGIN, Deed::Insert(&end, "abc")),
+            (1, 1, none, ORIGIN, Deed::Insert(end, "abc")),
             Err(Shape::OffsetEnd),
         ),
-        ((1, 1, none, ORIGIN, Deed::Insert(&end, "ab")), Ok(())),
+        ((1, 1, none, ORIGIN, Deed::Insert(end, "ab")), Ok(())),
         (
-            (1, 1, none, ORIGIN, Deed::Delete(&first, 4_194_305)),
+            (1, 1, none, ORIGIN, Deed::Delete(first, 4_194_305)),
             Err(Shape::TooLong { n: 4_194_305 }),
         ),
-        (
-            (1, 1, none, ORIGIN, Deed::Delete(&first, 4_194_304)),
-            Ok(()),
-        ),
+        ((1, 1, none, ORIGIN, Deed::Delete(first, 4_194_304)), Ok(())),
     ];
     for (i, (told, expected)) in cases.iter().enumerate() {
         let op = op_of(alloc, *told)?;
@@ -62,17 +59,14 @@ fn shapes(rt: HostRuntime) -> Result<(), Fail> {
 #[test]
 fn sizes(rt: HostRuntime) -> Result<(), Fail> {
     let alloc = rt.alloc();
-    let first = [at(0)];
+    let first = at(0);
     // A deletion of one run in the first epoch has 14 bytes, 4 for each member and 25 for the run.
     let cases: &[(Told<'_>, u64)] = &[
-        ((0, 1, &[0], ORIGIN, Deed::Delete(&first, 9)), 43),
-        ((0, 1, &[0, 0], ORIGIN, Deed::Delete(&first, 1)), 47),
-        ((0, 1, &[0, 0, 0], ORIGIN, Deed::Rename(&first, 2)), 51),
-        ((0, 1, &[0, 0], ORIGIN, Deed::Insert(&first, "hello")), 48),
-        (
-            (0, 1, &[0, 0], OPENED, Deed::Insert(&first, "e\u{301}")),
-            54,
-        ),
+        ((0, 1, &[0], ORIGIN, Deed::Delete(first, 9)), 43),
+        ((0, 1, &[0, 0], ORIGIN, Deed::Delete(first, 1)), 47),
+        ((0, 1, &[0, 0, 0], ORIGIN, Deed::Rename(first, 2)), 51),
+        ((0, 1, &[0, 0], ORIGIN, Deed::Insert(first, "hello")), 48),
+        ((0, 1, &[0, 0], OPENED, Deed::Insert(first, "e\u{301}")), 54),
         ((0, 1, &[0, 0], ORIGIN, Deed::Leave), 18),
     ];
     for (i, (told, expected)) in cases.iter().enumerate() {
@@ -86,8 +80,7 @@ fn sizes(rt: HostRuntime) -> Result<(), Fail> {
 #[test]
 fn operations_differ(rt: HostRuntime) -> Result<(), Fail> {
     let alloc = rt.alloc();
-    let tuples = [at(0), at(1)];
-    let (first, next) = tuples.split_at(1);
+    let (first, next) = (at(0), at(1));
     let cases: &[Told<'_>] = &[
         (1, 1, &[0, 0], ORIGIN, Deed::Insert(first, "ab")),
         (0, 1, &[0, 0], ORIGIN, Deed::Insert(first, "ab")),

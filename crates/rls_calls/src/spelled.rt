@@ -12,12 +12,13 @@ use rls_sync::{TakeBytesError, message_bytes, take_bytes};
 use std::alloc::Global;
 use std::test::Fail;
 
-/// What an operation does: the run of its identifiers, or its first identifier and its text.
+/// What an operation does, with its first identifier, which is of one tuple: it inserts this text, or deletes or renames so many
+/// identifiers.
 #[derive(Clone, Copy)]
 pub enum Deed<'a> {
-    Insert(&'a [Tuple], &'a str),
-    Delete(&'a [Tuple], u32),
-    Rename(&'a [Tuple], u32),
+    Insert(Tuple, &'a str),
+    Delete(Tuple, u32),
+    Rename(Tuple, u32),
     Leave,
 }
 
@@ -25,16 +26,16 @@ pub enum Deed<'a> {
 pub type Told<'a> = (u32, u32, &'a [u32], EpochName, Deed<'a>);
 
 /// The list of one run's identifiers.
-fn list_of(alloc: Global, first: &[Tuple], len: u32) -> Result<Runs, Fail> {
+fn list_of(alloc: Global, first: Tuple, len: u32) -> Result<Runs, Fail> {
     let mut list = Runs::new(alloc);
-    list.push(Run::new(Ident::from_tuples(alloc, first)?, len)?)?;
+    list.push(Run::new(Ident::from_tuples(alloc, &[first])?, len)?)?;
     Ok(list)
 }
 
 fn body_of(alloc: Global, deed: Deed<'_>) -> Result<Body, Fail> {
     Ok(match deed {
         Deed::Insert(first, text) => Body::Insert {
-            first: Ident::from_tuples(alloc, first)?,
+            first: Ident::from_tuples(alloc, &[first])?,
             text: Text::from_str(alloc, text)?,
         },
         Deed::Delete(first, len) => Body::Delete {
@@ -140,12 +141,12 @@ fn spelled(mut out: Vec<u8>, op: &Op) -> Result<Vec<u8>, Fail> {
 #[test]
 fn operations_back_and_forth(rt: HostRuntime) -> Result<(), Fail> {
     let alloc = rt.alloc();
-    let first = [Tuple::At {
+    let first = Tuple::At {
         pos: 5,
         replica: 1,
         seq: 1,
         offset: -3,
-    }];
+    };
     let renamed = EpochName::Of { replica: 0, seq: 1 };
     let cases: &[Told<'_>] = &[
         (
@@ -153,10 +154,10 @@ fn operations_back_and_forth(rt: HostRuntime) -> Result<(), Fail> {
             1,
             &[0, 0],
             EpochName::Origin,
-            Deed::Insert(&first, "e\u{301}\u{1F1EB}"),
+            Deed::Insert(first, "e\u{301}\u{1F1EB}"),
         ),
-        (1, 3, &[1, 2], renamed, Deed::Delete(&first, 9)),
-        (1, 3, &[1, 2], renamed, Deed::Rename(&first, 9)),
+        (1, 3, &[1, 2], renamed, Deed::Delete(first, 9)),
+        (1, 3, &[1, 2], renamed, Deed::Rename(first, 9)),
         (1, 3, &[1, 2], renamed, Deed::Leave),
     ];
     for told in cases {
