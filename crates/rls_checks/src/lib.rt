@@ -18,6 +18,8 @@ mod files;
 #[cfg(test)]
 mod keepers;
 #[cfg(test)]
+mod large;
+#[cfg(test)]
 mod members;
 #[cfg(test)]
 mod renamings;
