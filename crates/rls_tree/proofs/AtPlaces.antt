@@ -124,17 +124,6 @@ taken_within f g b at k i m h e =
     ∙ ap (removed i k) (append_assoc (entries_of f) x (z ++ (y ++ entries_of g)) ∙ ap (λ es. entries_of f ++ (x ++ es)) (sym (append_assoc z y (entries_of g))) ∙ ap (λ es. entries_of f ++ es) (sym (append_assoc x (z ++ y) (entries_of g)))
     ∙ ap (λ es. entries_of f ++ (es ++ entries_of g)) (sym (thirds b at k m h)) ∙ sym (append_assoc (entries_of f) (piece_entries b) (entries_of g)) ∙ sym (middle_entries f g b))
 
-pub reach_within : (bs : List Piece) (i : ℕ) → ArePieces bs → 0 < reach_of bs i → i < length (entries_of bs)
-reach_within [] i h k = absurd (omega arith)
-reach_within (b ∷ bs) i h k = go (nat_lt i (length b.1)) refl k (λ z. reach_within bs (i - length b.1) h.1 z)
-  where
-    l : length (entries_of (b ∷ bs)) ≡ length b.1 + length (entries_of bs)
-    l = length-append (piece_entries b) (entries_of bs) ∙ ap (λ n. n + length (entries_of bs)) (piece_length b h.0)
-
-    go : (t : Bool) → nat_lt i (length b.1) ≡ t → 0 < (if t then length b.1 - i else reach_of bs (i - length b.1)) → (0 < reach_of bs (i - length b.1) → i - length b.1 < length (entries_of bs)) → i < length (entries_of (b ∷ bs))
-    go true e z ih = let m = lt_is i (length b.1) e in let n = l in omega (arith, m, n)
-    go false e z ih = let m = not_lt_is i (length b.1) e in let n = l in let o = ih z in omega (arith, m, n, o)
-
 pub reach_front : (f g : List Piece) (i : ℕ) → ArePieces f → i < length (entries_of f) → reach_of (f ++ g) i ≡ reach_of f i
 reach_front [] g i h k = absurd (omega arith)
 reach_front (b ∷ f) g i h k = go (nat_lt i (length b.1)) refl (λ l. reach_front f g (i - length b.1) h.1 l)

@@ -1,21 +1,21 @@
 -- The blocks that each kind of change leaves.
-use Rattle.std.proofs.Common.{◌≡◌, ℕ, zero, suc, ◌+◌, ◌-◌, ◌<◌, ◌≤◌, ◌^◌, true, false, List, [], ◌∷◌, ◌++◌, length, Option, Some, None, refl, sym, ap, ◌∙◌, subst, ◌⊎◌, ⊎_elim, arith, length-append, append_assoc}
-use Rattle.std.specs.Prelude.{pos, ◌&&◌, not, nat_lt}
+use Rattle.std.proofs.Common.{◌≡◌, ℕ, zero, suc, ◌+◌, ◌-◌, ◌<◌, ◌≤◌, ◌^◌, true, false, List, [], ◌∷◌, ◌++◌, length, Some, None, refl, sym, ap, ◌∙◌, subst, arith, length-append, append_assoc}
+use Rattle.std.specs.Prelude.{pos, not}
 use Rattle.std.proofs.lemmas.Int.{ints}
 use Rattle.std.proofs.lemmas.List.{append-nil}
 use Rattle.std.proofs.lemmas.Slice.Zip.{length-zip}
 use Rattle.rls_ident.specs.declared.tuple.Tuple.{Tuple}
 use Rattle.rls_ident.specs.Identifiers.{IsIdent, shifted, follows, ident_lt}
 use Rattle.rls_ident.proofs.Lists.{Lt, lt_irrefl, lt_trans}
-use Rattle.rls_ident.proofs.Members.{and_left, and_right, and_true, not_true}
+use Rattle.rls_ident.proofs.Members.{and_true, not_true}
 use Rattle.rls_ident.proofs.Shifted.{shifted_none, shifted_shifted, shifted_less}
 use Rattle.rls_ident.proofs.Tuples.{tuples}
-use Rattle.rls_runs.specs.Runs.{run_idents, run_last, is_run, is_apart, are_apart, run_before}
+use Rattle.rls_runs.specs.Runs.{run_idents, run_last, is_run, are_apart, run_before}
 use Rattle.rls_runs.proofs.Finding.{run_length}
 use Rattle.rls_runs.proofs.RunOrder.{lt_of, less_shifted, run_ident}
 use Rattle.rls_tree.specs.Trees.{Piece, IsPiece, Seen, piece_entries, entries_of, runs_in}
 use Rattle.rls_tree.specs.Edits.{part_of, joined, goes_on, leads_to, are_loose, Shows}
-use Rattle.rls_tree.proofs.Pieces.{entries_append, chars_append, three_chars, alone}
+use Rattle.rls_tree.proofs.Pieces.{entries_append, chars_append, alone}
 use Rattle.rls_tree.proofs.Loose.{last_run, last_append, runs_append, before_append, replaced, were_loose, followed_loosely, loose_first, leads_not, loose_of}
 use Rattle.rls_tree.proofs.Changes.{entries_joined, follows_is, back}
 
@@ -54,11 +54,11 @@ pub last_more : (f m : List Piece) → last_run (f ++ m) ≡ run_before (last_ru
 last_more f m = ap (run_before None) (runs_append f m) ∙ before_append None (runs_in f) (runs_in m)
 
 -- one block in the place of some
-one_replaced : (f old g : List Piece) (n : Piece) → are_loose None (runs_in (f ++ old ++ g)) ≡ true → goes_on (last_run f) n.0.0 ≡ false → leads_to (Some n.0) (runs_in g) ≡ false → are_loose None (runs_in (f ++ (n ∷ []) ++ g)) ≡ true
+pub one_replaced : (f old g : List Piece) (n : Piece) → are_loose None (runs_in (f ++ old ++ g)) ≡ true → goes_on (last_run f) n.0.0 ≡ false → leads_to (Some n.0) (runs_in g) ≡ false → are_loose None (runs_in (f ++ (n ∷ []) ++ g)) ≡ true
 one_replaced f old g n h a b = replaced f old (n ∷ []) g h (and_true (not (goes_on (last_run f) n.0.0)) true (ap not a) refl) (ap (λ r. leads_to r (runs_in g)) (last_append f n) ∙ b)
 
 -- what was so of one block
-own_loose : (f g : List Piece) (b : Piece) → are_loose None (runs_in (f ++ (b ∷ []) ++ g)) ≡ true → (goes_on (last_run f) b.0.0 ≡ false) × (leads_to (Some b.0) (runs_in g) ≡ false)
+pub own_loose : (f g : List Piece) (b : Piece) → are_loose None (runs_in (f ++ (b ∷ []) ++ g)) ≡ true → (goes_on (last_run f) b.0.0 ≡ false) × (leads_to (Some b.0) (runs_in g) ≡ false)
 own_loose f g b h =
     ((loose_first (last_run f) b.0 [] (were_loose f (b ∷ []) g h)).0, ap (λ r. leads_to r (runs_in g)) (sym (last_append f b)) ∙ leads_not (last_run (f ++ b ∷ [])) (runs_in g) (followed_loosely f (b ∷ []) g h))
 
@@ -93,7 +93,7 @@ grown_first f rest s n h m k l a t =
     }
 
 -- two blocks as one
-both_loose : (rest far : List Piece) (p s j : Piece) (old : List Piece) → are_loose None (runs_in (rest ++ (p ∷ []) ++ (old ++ (s ∷ []) ++ far))) ≡ true → j.0.0 ≡ p.0.0 → run_last j.0 ≡ run_last s.0 → are_loose None (runs_in (rest ++ (j ∷ []) ++ far)) ≡ true
+pub both_loose : (rest far : List Piece) (p s j : Piece) (old : List Piece) → are_loose None (runs_in (rest ++ (p ∷ []) ++ (old ++ (s ∷ []) ++ far))) ≡ true → j.0.0 ≡ p.0.0 → run_last j.0 ≡ run_last s.0 → are_loose None (runs_in (rest ++ (j ∷ []) ++ far)) ≡ true
 both_loose rest far p s j old h e f =
     let all : rest ++ (p ∷ []) ++ (old ++ (s ∷ []) ++ far) ≡ (rest ++ (p ∷ []) ++ old) ++ (s ∷ []) ++ far =
     ap (λ xs. rest ++ (p ∷ []) ++ xs) (append_assoc old (s ∷ []) far) ∙ sym (append_assoc (rest ++ (p ∷ [])) old ((s ∷ []) ++ far)) ∙ sym (append_assoc (rest ++ (p ∷ []) ++ old) (s ∷ []) far) in
@@ -162,65 +162,11 @@ module _ (b n : Piece) (at : ℕ) (sound : is_run b.0 ≡ true) (some : 0 < at) 
         loose = split_loose f g h;
       }
 
--- ---- characters taken out of a block
-
-apart_middle : (a : Option (List Tuple × ℕ)) (xs : List (List Tuple × ℕ)) (r : List Tuple × ℕ) (ys : List (List Tuple × ℕ)) → are_apart a (xs ++ r ∷ ys) ≡ true → (is_apart (run_before a xs) r ≡ true) × (are_apart (Some r) ys ≡ true)
-apart_middle a [] r ys h =
-    (and_right (nat_lt 0 r.1) (is_apart a r) (and_left (nat_lt 0 r.1 && is_apart a r) (are_apart (Some r) ys) h), and_right (nat_lt 0 r.1 && is_apart a r) (are_apart (Some r) ys) h)
-apart_middle a (x ∷ xs) r ys h = apart_middle (Some x) xs r ys (and_right (nat_lt 0 x.1 && is_apart a x) (are_apart (Some x) (xs ++ r ∷ ys)) h)
+-- ---- characters taken out of the middle of a block
 
 module _ (f g : List Piece) (b : Piece) (sound : is_run b.0 ≡ true) (apart : are_apart None (runs_in (f ++ (b ∷ []) ++ g)) ≡ true) where
   loosely : are_loose None (runs_in (f ++ (b ∷ []) ++ g)) ≡ true
   loosely = loose_of None (runs_in (f ++ (b ∷ []) ++ g)) apart
-
-  sides : (is_apart (last_run f) b.0 ≡ true) × (are_apart (Some b.0) (runs_in g) ≡ true)
-  sides = apart_middle None (runs_in f) b.0 (runs_in g) (ap (are_apart None) (sym (ap runs_in (append_assoc f (b ∷ []) g) ∙ runs_append f (b ∷ g))) ∙ apart)
-
-  -- it goes on at a later place with nothing
-  later_apart : (k : ℕ) → 0 < k → goes_on (last_run f) (shifted (pos k) b.0.0) ≡ false
-  later_apart k h = go (last_run f) sides.0
-    where
-      go : (a : Option (List Tuple × ℕ)) → is_apart a b.0 ≡ true → goes_on a (shifted (pos k) b.0.0) ≡ false
-      go None q = refl
-      go (Some c) q = not_true (follows (shifted (pos k) b.0.0) (run_last c)) (λ t.
-          let l : Lt tuples (run_last c) b.0.0 = lt_of (run_last c) b.0.0 (and_left (ident_lt (run_last c) b.0.0) (not (follows b.0.0 (run_last c))) q) in
-          let e = follows_is (run_last c) (shifted (pos k) b.0.0) t in
-          let j : suc (k - 1) ≡ k = omega arith in
-          let d = back (k - 1) b.0.0 (run_last c) (ap (λ i. shifted (pos i) b.0.0) j ∙ e) in
-          lt_irrefl (subst (λ z. Lt tuples (run_last c) z) d (less_shifted (run_last c) b.0.0 (k - 1) (run_ident b.0 sound) l)))
-
-  -- nothing behind it goes on with an earlier place
-  earlier_apart : (a : ℕ) → 0 < a → a < b.0.1 → leads_to (Some (part_of 0 a b).0) (runs_in g) ≡ false
-  earlier_apart a h l = go (runs_in g) sides.1
-    where
-      go : (rs : List (List Tuple × ℕ)) → are_apart (Some b.0) rs ≡ true → leads_to (Some (part_of 0 a b).0) rs ≡ false
-      go [] q = refl
-      go (s ∷ rs) q = not_true (follows s.0 (run_last (part_of 0 a b).0)) (λ t.
-          let p = (apart_middle (Some b.0) [] s rs q).0 in
-          let m : Lt tuples (run_last b.0) s.0 = lt_of (run_last b.0) s.0 (and_left (ident_lt (run_last b.0) s.0) (not (follows s.0 (run_last b.0))) p) in
-          let e = touch (part_of 0 a b).0 s h t ∙ ap (shifted (pos a)) (shifted_none b.0.0) in
-          let n : Lt tuples (run_last b.0) (shifted (pos a) b.0.0) = subst (λ z. Lt tuples (run_last b.0) z) e m in
-          ⊎_elim (λ d. lt_irrefl (subst (λ j. Lt tuples (run_last b.0) (shifted (pos j) b.0.0)) d n)) (λ d. lt_irrefl (lt_trans n (shifted_less (pos a) (pos (b.0.1 - 1)) b.0.0 (run_ident b.0 sound) (omega (arith, ints))))) (cases a (b.0.1 - 1) (omega arith)))
-        where
-          cases : (i j : ℕ) → i ≤ j → (i ≡ j) ⊎ (i < j)
-          cases i j m = grind arith
-
-  pub front_shows : (k : ℕ) → 0 < k → k < b.0.1 → Shows (entries_of f ++ (piece_entries (part_of k (b.0.1 - k) b) ++ entries_of g)) (f ++ (part_of k (b.0.1 - k) b ∷ []) ++ g)
-  front_shows k h l =
-      let y = part_of k (b.0.1 - k) b in
-      let e : run_last y.0 ≡ run_last b.0 = part_last b.0.0 k (b.0.1 - k) (omega arith) ∙ ap (λ j. shifted (pos j) b.0.0) (omega arith) in
-      record {
-        entries_are = middle_entries f g y ∙ append_assoc (entries_of f) (piece_entries y) (entries_of g);
-        loose = one_replaced f (b ∷ []) g y loosely (later_apart k h) (leads_alike y.0 b.0 (runs_in g) e ∙ (own_loose f g b loosely).1);
-      }
-
-  pub back_shows : (a : ℕ) → 0 < a → a < b.0.1 → Shows (entries_of f ++ (piece_entries (part_of 0 a b) ++ entries_of g)) (f ++ (part_of 0 a b ∷ []) ++ g)
-  back_shows a h l =
-      let x = part_of 0 a b in
-      record {
-        entries_are = middle_entries f g x ∙ append_assoc (entries_of f) (piece_entries x) (entries_of g);
-        loose = one_replaced f (b ∷ []) g x loosely (ap (goes_on (last_run f)) (shifted_none b.0.0) ∙ (own_loose f g b loosely).0) (earlier_apart a h l);
-      }
 
   pub middle_shows : (a k : ℕ) → 0 < a → a < k → k < b.0.1 → Shows (entries_of f ++ piece_entries (part_of 0 a b) ++ (piece_entries (part_of k (b.0.1 - k) b) ++ entries_of g)) (f ++ (part_of 0 a b ∷ part_of k (b.0.1 - k) b ∷ []) ++ g)
   middle_shows a k h o l =
@@ -239,28 +185,6 @@ module _ (f g : List Piece) (b : Piece) (sound : is_run b.0 ≡ true) (apart : a
             (ap (λ r. leads_to r (runs_in g)) (last_more f (x ∷ y ∷ [])) ∙ leads_alike y.0 b.0 (runs_in g) e ∙ (own_loose f g b loosely).1);
       }
 
-  -- all of it
-  pub gone_shows : leads_to (last_run f) (runs_in g) ≡ false → Shows (entries_of f ++ entries_of g) (f ++ g)
-  gone_shows n =
-      record {
-        entries_are = entries_append f g;
-        loose = ap (λ xs. are_loose None (runs_in (xs ++ g))) (sym (append-nil f)) ∙ replaced f (b ∷ []) [] g loosely refl (ap (λ xs. leads_to (last_run xs) (runs_in g)) (append-nil f) ∙ n);
-      }
-
--- and what stood on its sides is one
-pub merged_shows : (rest far : List Piece) (p b s : Piece) → are_apart None (runs_in (rest ++ (p ∷ []) ++ ((b ∷ []) ++ (s ∷ []) ++ far))) ≡ true → length p.1 ≡ p.0.1 → 0 < p.0.1 → 0 < s.0.1 → follows s.0.0 (run_last p.0) ≡ true
-    → Shows (entries_of (rest ++ p ∷ []) ++ entries_of (s ∷ far)) (rest ++ (joined p s ∷ []) ++ far)
-merged_shows rest far p b s apart m k l t =
-    record {
-      entries_are =
-          middle_entries rest far (joined p s)
-          ∙ ap (λ es. entries_of rest ++ es ++ entries_of far) (entries_joined p s m (touch p.0 s.0 k t))
-          ∙ ap (λ es. es ++ entries_of far) (sym (append_assoc (entries_of rest) (piece_entries p) (piece_entries s)))
-          ∙ ap (λ es. (es ++ piece_entries s) ++ entries_of far) (sym (entries_append rest (p ∷ []) ∙ ap (λ es. entries_of rest ++ es) (alone_entries p)))
-          ∙ append_assoc (entries_of (rest ++ p ∷ [])) (piece_entries s) (entries_of far);
-      loose = both_loose rest far p s (joined p s) (b ∷ []) (loose_of None (runs_in (rest ++ (p ∷ []) ++ ((b ∷ []) ++ (s ∷ []) ++ far))) apart) refl (joined_last p.0 s.0 k l t);
-    }
-
 -- ---- numbers of characters
 
 pub part_length : (b : Piece) (k n : ℕ) → length (piece_entries (part_of k n b)) ≤ n
@@ -277,19 +201,6 @@ own_length b m =
 
 pub one_length : (b : Piece) → length (entries_of (b ∷ [])) ≡ length (piece_entries b)
 one_length b = ap length (alone_entries b)
-
-pub fits_less : (f old new g : List Piece) → length (entries_of new) ≤ length (entries_of old) → length (entries_of (f ++ old ++ g)) < 2 ^ 64 → length (entries_of (f ++ new ++ g)) < 2 ^ 64
-fits_less f old new g h l =
-    let p = three_chars f old g in
-    let q = three_chars f new g in
-    omega (arith, p, q, h, l)
-
-pub part_fits : (f g old : List Piece) (b : Piece) (k n : ℕ) → old ≡ b ∷ [] → length b.1 ≡ b.0.1 → n ≤ b.0.1 → length (entries_of (f ++ old ++ g)) < 2 ^ 64 → length (entries_of (f ++ (part_of k n b ∷ []) ++ g)) < 2 ^ 64
-part_fits f g old b k n e m l h =
-    let o = ap (λ bs. length (entries_of bs)) e in
-    let p = part_length b k n in
-    let q = own_length b m in
-    fits_less f old (part_of k n b ∷ []) g (omega (arith, o, p, q, one_length b, one_length (part_of k n b), l)) h
 
 -- ---- a node that stands alone, behind a reference
 

@@ -6,6 +6,7 @@ pub mod Loose
 pub mod Changes
 pub mod Cases
 pub mod AtPlaces
+pub mod Ranges
 pub mod Puts
 pub mod Without
 pub mod Mapping

@@ -12,9 +12,11 @@ use Rattle.rls_ident.proofs.Members.{not_true, or_left}
 use Rattle.rls_ident.proofs.Ends.{eq_same, same_eq}
 use Rattle.rls_ident.proofs.Tuples.{tuples}
 use Rattle.rls_runs.specs.Entries.{Entries, idents_in, has_ident, without_all}
-use Rattle.rls_runs.specs.Runs.{run_idents}
+use Rattle.rls_runs.specs.Runs.{run_idents, idents_of, runs_of}
 use Rattle.rls_runs.specs.Places.{below_count, find_ident}
-use Rattle.rls_runs.proofs.RunOrder.{AllLess, AllMore, Rising, lt_of, of_lt, rising_right}
+use Rattle.rls_runs.proofs.RunOrder.{AllLess, AllMore, Rising, lt_of, of_lt, rising_right, idents_append as runs_append}
+use Rattle.rls_runs.proofs.RunsOf.{idents_of_runs}
+use Rattle.std.proofs.Math.Seq.{take-add}
 use Rattle.rls_runs.proofs.Sorted.{Entry}
 use Rattle.rls_doc.specs.Documents.{AreNew}
 use Rattle.rls_tree.specs.Edits.{removed}
@@ -176,13 +178,31 @@ pub run_head : (xs : List (List Tuple)) (i n : ℕ) (q x : List Tuple) → 0 < n
 run_head xs i zero q x h g e = absurd (omega arith)
 run_head xs i (suc n) q x h g e = let f = ap (take (suc n)) (sym (headed i xs x g)) ∙ e in cc
 
--- those of a run that stand one behind another
-pub whole_gone : (es : Entries) (i n : ℕ) (x : List Tuple) → Rising (idents_in es) → take n (drop i (idents_in es)) ≡ run_idents x n → removed i n es ≡ without_all (run_idents x n) es
-whole_gone es i n x r h =
+-- those that stand one behind another
+pub whole_gone : (es : Entries) (i n : ℕ) (xs : List (List Tuple)) → Rising (idents_in es) → take n (drop i (idents_in es)) ≡ xs → removed i n es ≡ without_all xs es
+whole_gone es i n xs r h =
     let c = take n (drop i es) in
     let all : es ≡ take i es ++ (c ++ drop (i + n) es) = sym (take-append-drop i es) ∙ ap (λ zs. take i es ++ zs) (parted i n es) in
-    let m : idents_in c ≡ run_idents x n = idents_take n (drop i es) ∙ ap (take n) (idents_drop i es) ∙ h in
+    let m : idents_in c ≡ xs = idents_take n (drop i es) ∙ ap (take n) (idents_drop i es) ∙ h in
     sym (ap (λ zs. without_all zs es) (sym m) ∙ ap (without_all (idents_in c)) all ∙ part_gone (take i es) c (drop (i + n) es) (subst (λ zs. Rising (idents_in zs)) all r))
+
+-- and as many more
+pub taken_more : (xs : List (List Tuple)) (rs : List (List Tuple × ℕ)) (i at n k : ℕ) (r : List Tuple × ℕ) → i ≤ at → take (at - i) (drop i xs) ≡ idents_of (take k rs) → take n (drop at xs) ≡ run_idents r.0 r.1 → slice_get rs k ≡ Some r
+    → take (at + n - i) (drop i xs) ≡ idents_of (take (k + 1) rs)
+taken_more xs rs i at n k r o h e g =
+    let m : at + n - i ≡ (at - i) + n = omega (arith, o) in
+    let j : i + (at - i) ≡ at = omega (arith, o) in
+    let one : take 1 (drop k rs) ≡ r ∷ [] = ap (take 1) (headed k rs r g) in
+    ap (λ q. take q (drop i xs)) m ∙ take-add (at - i) n (drop i xs)
+    ∙ ap (λ ys. ys ++ take n (drop (at - i) (drop i xs))) h ∙ ap (λ ys. idents_of (take k rs) ++ ys) (ap (take n) (drop-drop (at - i) i xs ∙ ap (λ q. drop q xs) j) ∙ e ∙ sym (append-nil (run_idents r.0 r.1)))
+    ∙ sym (runs_append (take k rs) (r ∷ [])) ∙ ap idents_of (ap (λ ys. take k rs ++ ys) (sym one) ∙ sym (take-add k 1 rs))
+
+pub some_runs : (xs : List (List Tuple)) → 0 < length xs → 0 < length (runs_of xs)
+some_runs xs h = go (runs_of xs) (idents_of_runs xs)
+  where
+    go : (rs : List (List Tuple × ℕ)) → idents_of rs ≡ xs → 0 < length rs
+    go [] e = let n = ap length e in absurd (omega (arith, h, n))
+    go (r ∷ rs) e = omega arith
 
 pub filter_short : {X : Type 0} (t : X → Bool) (xs : List X) → length (filter t xs) ≤ length xs
 filter_short t [] = omega arith

@@ -114,9 +114,18 @@ impl Block {
         ensures err { OnErr result (self.new ≡ self.old) }
     {
         let front = part_of_run(&self.run, 0, at)?;
-        self.text.truncate(at as usize);
-        self.run = front;
+        self.shorten(front);
         Ok(())
+    }
+
+    // Keeps the characters of the run, which is a front part of its own. It takes no memory.
+    pub(crate) fn shorten(&mut self, front: Run)
+        requires front { front.0 ≡ shifted (pos 0) self.old.0.0 }
+        requires within { front.1 ≤ self.old.0.1 }
+        ensures front { self.new ≡ part_of 0 front.1 self.old }
+    {
+        self.text.truncate(front.len() as usize);
+        self.run = front;
     }
 
     // Keeps its characters from a place on.

@@ -159,7 +159,7 @@ impl BlockTree {
             Err(next) => Ok(next),
             Ok(place) => {
                 let part = self.run_from(i, len - place)?;
-                self.remove_piece(i, part.len())?;
+                self.remove_range(i, part.len() as u64)?;
                 Ok(place + part.len())
             }
         }

@@ -1,4 +1,4 @@
-//! A block cut in two.
+//! Blocks cut.
 
 ghost use Rattle.std.specs.Prelude.{◌≡◌, ◌+◌, ◌-◌, ◌<◌, ◌≤◌, [], ◌∷◌, length, IfOk, IfErr};
 ghost use Rattle.rls_tree.specs.Edits.{part_of};
@@ -40,6 +40,35 @@ pub(crate) fn cut(
     match node.keep_front(at) {
         Ok(()) => Ok((node, back)),
         Err(_) => Err(node),
+    }
+}
+
+/// Two blocks that stand alone, the first with so many characters at its front, the last with those from a
+/// place on. It costs the characters that go. Where it finds no memory it answers both as they were.
+pub(crate) fn keep_ends(
+    mut first: Box<Node>,
+    at: u32,
+    mut last: Box<Node>,
+    from: u32,
+) -> Result<(Box<Node>, Box<Node>), (Box<Node>, Box<Node>)>
+    requires first { length first.value.blocks ≡ 1 }
+    requires last { length last.value.blocks ≡ 1 }
+    requires some { 0 < at }
+    requires front { at ≤ first.value.block.0.1 }
+    requires back { from < last.value.block.0.1 }
+    ensures front { IfOk result (λ ends. ends.0.value.blocks ≡ part_of 0 at first.value.block ∷ []) }
+    ensures back { IfOk result (λ ends. ends.1.value.blocks ≡ part_of from (last.value.block.0.1 - from) last.value.block ∷ []) }
+    ensures err { IfErr result (λ old. (old.0.value.blocks ≡ first.value.blocks) × (old.1.value.blocks ≡ last.value.blocks)) }
+{
+    let Ok(front) = part_of_run(first.run(), 0, at) else {
+        return Err((first, last));
+    };
+    match last.keep_back(from) {
+        Ok(()) => {
+            first.shorten(front);
+            Ok((first, last))
+        }
+        Err(_) => Err((first, last)),
     }
 }
 

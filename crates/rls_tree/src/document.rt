@@ -1,13 +1,13 @@
 //! The block tree as a document.
 
-ghost use Rattle.std.specs.Prelude.{◌≡◌, ◌+◌, ◌-◌, ◌<◌, ◌≤◌, ◌^◌, ◌++◌, length, take, drop, zip, slice_get, Some, IfOk, IfSome, OnOk, IsTrue};
+ghost use Rattle.std.specs.Prelude.{◌≡◌, true, ◌+◌, ◌-◌, ◌<◌, ◌≤◌, ◌^◌, ◌++◌, length, take, drop, zip, slice_get, Some, IfOk, IfSome, OnOk, IsTrue};
 ghost use Rattle.std.specs.List.{list_all};
 ghost use Rattle.rls_ident.specs.Identifiers.{is_ident};
 ghost use Rattle.rls_runs.specs.Runs.{run_idents, runs_of, idents_of, is_increasing, place_of};
 ghost use Rattle.rls_runs.specs.Entries.{Entries, idents_in, chars_in, put_all, without_all, with_idents};
 ghost use Rattle.rls_doc.specs.Documents.{AreNew};
 ghost use Rattle.rls_tree.specs.Trees.{entries_of, piece_entries};
-ghost use Rattle.rls_tree.specs.Edits.{removed, reach_of};
+ghost use Rattle.rls_tree.specs.Edits.{removed};
 
 use crate::tree::BlockTree;
 use rls_doc::{Document, RunMap};
@@ -66,18 +66,18 @@ impl Document for BlockTree {
         Ok(())
     }
 
-    /// One run that stands whole in one of the tree's costs a step for each level and its own characters;
-    /// from the middle of a run, also those in front of it there or those behind it, whichever are fewer, and
-    /// where two runs touch then, those of the shorter one. Other targets are taken out one after another, in
-    /// a copy.
+    /// Targets that stand in the tree one right behind another cost a comparison of identifiers for each level,
+    /// a step for each level and each of their runs, and their own characters; out of the middle of a run, also
+    /// those in front of them there or those behind them, whichever are fewer, and where two runs touch then,
+    /// those of the shorter one. Other targets are taken out one after another, in a copy.
     fn remove_all(&mut self, targets: &Runs) -> Result<u64, AllocError> {
-        if targets.run_count() == 1 {
-            let run = targets.run(0);
-            if let Some(i) = self.whole(run)? {
-                let count = run.len();
-                self.remove_piece(i, count)?;
-                return Ok(count as u64);
-            }
+        let count = targets.total();
+        if count == 0 {
+            return Ok(0);
+        }
+        if let Some(i) = self.range_of(targets)? {
+            self.remove_range(i, count)?;
+            return Ok(count);
         }
         let before = self.chars();
         let mut fresh = self.copy()?;
@@ -108,21 +108,42 @@ impl Document for BlockTree {
 }
 
 impl BlockTree {
-    // The place of a run, where it stands whole in one of the tree's.
-    fn whole(&self, run: &Run) -> Result<Option<u64>, AllocError>
-        ensures reach { IfOk result (λ place. IfSome place (λ i. run.now.1 ≤ reach_of self.now.blocks i)) }
-        ensures within { IfOk result (λ place. IfSome place (λ i. i + run.now.1 ≤ length (entries_of self.now.blocks))) }
-        ensures removed { IfOk result (λ place. IfSome place (λ i. removed i run.now.1 (entries_of self.now.blocks) ≡ without_all (run_idents run.now.0 run.now.1) (entries_of self.now.blocks))) }
+    // The place from which on the targets stand one right behind another, if they do. It costs a comparison of
+    // identifiers for each level, and a step for each level and each run.
+    fn range_of(&self, targets: &Runs) -> Result<Option<u64>, AllocError>
+        requires some { 0 < length targets.now }
+        ensures within { IfOk result (λ place. IfSome place (λ i. i + length targets.now ≤ length (entries_of self.now.blocks))) }
+        ensures removed { IfOk result (λ place. IfSome place (λ i. removed i (length targets.now) (entries_of self.now.blocks) ≡ without_all targets.now (entries_of self.now.blocks))) }
     {
         let _blocks = self.blocks();
-        let Ok(i) = self.place(run.first()) else {
+        let _chars = self.chars();
+        let Ok(from) = self.place(targets.run(0).first()) else {
             return Ok(None);
         };
-        let part = self.run_from(i, run.len())?;
-        if part.len() == run.len() {
-            return Ok(Some(i));
+        let mut at = from;
+        let runs = targets.as_slice();
+        for run in runs {
+            if !self.stands_at(at, run)? {
+                return Ok(None);
+            }
+            at += run.len() as u64;
         }
-        Ok(None)
+        Ok(Some(from))
+    }
+
+    // Whether a run stands whole in one of the tree's, from a place on. It costs a step for each level.
+    fn stands_at(&self, i: u64, run: &Run) -> Result<bool, AllocError>
+        ensures within { IfOk result (λ stands. stands ≡ true → i + run.now.1 ≤ length (entries_of self.now.blocks)) }
+        ensures idents { IfOk result (λ stands. stands ≡ true → take run.now.1 (drop i (idents_in (entries_of self.now.blocks))) ≡ run_idents run.now.0 run.now.1) }
+    {
+        if i >= self.chars() {
+            return Ok(false);
+        }
+        let part = self.run_from(i, run.len())?;
+        if part.len() < run.len() {
+            return Ok(false);
+        }
+        Ok(part.first().compare(run.first()).is_eq())
     }
 
     // The identifiers between two places.

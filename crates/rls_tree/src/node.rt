@@ -1,7 +1,7 @@
 //! Nodes of the tree.
 
-ghost use Rattle.std.specs.Prelude.{◌≡◌, ℕ, ◌+◌, ◌-◌, ◌^◌, ◌<◌, ◌≤◌, max, [], ◌∷◌, ◌++◌, length, slice_get, Some, None, IfSome, IfNone, IfOk, OnOk, OnErr, IsTrue};
-ghost use Rattle.rls_ident.specs.Identifiers.{follows};
+ghost use Rattle.std.specs.Prelude.{◌≡◌, ℕ, ◌+◌, ◌-◌, ◌^◌, ◌<◌, ◌≤◌, pos, max, [], ◌∷◌, ◌++◌, length, slice_get, Some, None, IfSome, IfNone, IfOk, OnOk, OnErr, IsTrue};
+ghost use Rattle.rls_ident.specs.Identifiers.{follows, shifted};
 ghost use Rattle.rls_runs.specs.Runs.{idents_of, run_last};
 ghost use Rattle.rls_runs.specs.Entries.{chars_in};
 ghost use Rattle.rls_runs.specs.Places.{find_ident};
@@ -271,6 +271,18 @@ impl Node {
         let done = self.block.keep_front(at);
         self.chars = self.block.len() as u64;
         done
+    }
+
+    // A block that stands alone keeps the characters of the run, which is a front part of its own. It takes
+    // no memory.
+    pub(crate) fn shorten(&mut self, front: Run)
+        requires one { length self.old.blocks ≡ 1 }
+        requires front { front.0 ≡ shifted (pos 0) self.old.block.0.0 }
+        requires within { front.1 ≤ self.old.block.0.1 }
+        ensures front { self.new.blocks ≡ part_of 0 front.1 self.old.block ∷ [] }
+    {
+        self.block.shorten(front);
+        self.chars = self.block.len() as u64;
     }
 
     // A block that stands alone keeps its characters from a place on.

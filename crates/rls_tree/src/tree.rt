@@ -6,12 +6,12 @@ ghost use Rattle.rls_ident.specs.Identifiers.{is_ident, shifted};
 ghost use Rattle.rls_runs.specs.Runs.{run_idents, runs_of, is_increasing, place_of};
 ghost use Rattle.rls_runs.specs.Entries.{idents_in, chars_in, has_ident};
 ghost use Rattle.rls_tree.specs.Trees.{entries_of, piece_entries};
-ghost use Rattle.rls_tree.specs.Edits.{inserted, removed, reach_of};
+ghost use Rattle.rls_tree.specs.Edits.{inserted, removed};
 
 use crate::block::{part_of_run, part_of_text};
 use crate::insert::insert_at;
 use crate::node::{Link, Node, blocks_of, chars_of, copy_link, height_of, push_text_of};
-use crate::remove::remove_at;
+use crate::remove::remove_range;
 use rls_ident::Ident;
 use rls_runs::{Run, Text};
 use std::alloc::{AllocError, Global};
@@ -127,7 +127,7 @@ impl BlockTree {
         requires some { 0 < most }
         ensures some { IfOk result (λ run. 0 < run.1) }
         ensures most { IfOk result (λ run. run.1 ≤ most) }
-        ensures reach { IfOk result (λ run. run.1 ≤ reach_of self.now.blocks i) }
+        ensures within { IfOk result (λ run. i + run.1 ≤ length (entries_of self.now.blocks)) }
         ensures idents { IfOk result (λ run. take run.1 (drop i (idents_in (entries_of self.now.blocks))) ≡ run_idents run.0 run.1) }
     {
         let _chars = chars_of(&self.root);
@@ -230,16 +230,16 @@ impl BlockTree {
         }
     }
 
-    // Takes so many characters out from a place on, which stand in one block.
-    pub(crate) fn remove_piece(&mut self, i: u64, count: u32) -> Result<(), AllocError>
+    // Takes so many characters out from a place on.
+    pub(crate) fn remove_range(&mut self, i: u64, count: u64) -> Result<(), AllocError>
         requires some { 0 < count }
-        requires reach { count ≤ reach_of self.old.blocks i }
+        requires within { i + count ≤ length (entries_of self.old.blocks) }
         ensures ok { OnOk result (entries_of self.new.blocks ≡ removed i count (entries_of self.old.blocks)) }
         ensures err { OnErr result (entries_of self.new.blocks ≡ entries_of self.old.blocks) }
     {
         let link = mem::replace(&mut self.root, None);
         let _chars = chars_of(&link);
-        match remove_at(self.alloc, link, i, count) {
+        match remove_range(self.alloc, link, i, count) {
             Ok(root) => {
                 let _chars = chars_of(&root);
                 self.root = root;

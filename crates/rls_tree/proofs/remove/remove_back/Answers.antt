@@ -1,29 +1,37 @@
-use Rattle.std.proofs.Common.{◌≡◌, ◌++◌, ◌∷◌, ◌<◌, ◌^◌, [], None, true, length, sym, ap, ◌∙◌, subst, arith}
+use Rattle.std.proofs.Common.{◌≡◌, ◌++◌, ◌∷◌, [], None, true, sym, ap, ◌∙◌, subst, arith}
 use Rattle.rls_runs.specs.Runs.{are_apart}
 use Rattle.rls_tree.specs.Trees.{entries_of, pieces, runs_in, piece_entries, IsPiece}
 use Rattle.rls_tree.specs.Edits.{part_of, Shows}
-use Rattle.rls_tree.proofs.Cases.{back_shows, part_fits, lone, whole}
+use Rattle.rls_tree.proofs.Pieces.{runs_sound, chars_append}
+use Rattle.rls_tree.proofs.Cases.{lone, whole}
+use Rattle.rls_tree.proofs.Ranges.{back_shows, part_less}
 use Rattle.rls_tree.proofs.remove.remove_back.Goals as goal
 
 pub join-requires-clause-chars_fit : goal.join-requires-clause-chars_fit
 join-requires-clause-chars_fit c =
-    let n = c.args.node.value in
+    let n = c.args.first.value in
     let b = n.block in
     let f = pieces c.args.front in
+    let m = pieces c.args.between in
     let g = pieces c.args.behind in
     let own : n.blocks ≡ b ∷ [] = lone n c.deref.result.now c.deref.ensures c.len-len.ensures.blocks c.requires.one in
     let piece : IsPiece b.0 b.1 = whole n c.deref.result.now c.deref.ensures c.len-len.ensures.piece in
-    let kept : c.keep_front.new.self.blocks ≡ part_of 0 c.args.at b ∷ [] = c.in-Ok.ensures.ok ∙ ap (λ s. part_of 0 c.args.at s.block ∷ []) c.deref_mut.ensures.value in
-    subst (λ bs. length (entries_of (f ++ bs ++ g)) < 2 ^ 64) (sym kept) (part_fits f g n.blocks b 0 c.args.at own piece.as_many (omega arith) c.requires.chars_fit)
+    let new = c.keep_front.new.self.blocks in
+    let kept : new ≡ part_of 0 c.args.at b ∷ [] = c.in-Ok.ensures.ok ∙ ap (λ s. part_of 0 c.args.at s.block ∷ []) c.deref_mut.ensures.value in
+    let less = part_less b 0 c.args.at n.blocks new own kept piece.as_many (omega arith) in
+    omega (arith, less, c.requires.chars_fit, chars_append (f ++ n.blocks ++ m) g, chars_append (f ++ n.blocks) m, chars_append f n.blocks, chars_append (f ++ new) g, chars_append f new)
 
 pub returns-in-Ok-clause-ok : goal.returns-in-Ok-clause-ok
 returns-in-Ok-clause-ok c =
-    let n = c.args.node.value in
+    let n = c.args.first.value in
     let b = n.block in
     let f = pieces c.args.front in
+    let m = pieces c.args.between in
     let g = pieces c.args.behind in
     let own : n.blocks ≡ b ∷ [] = lone n c.deref.result.now c.deref.ensures c.len-len.ensures.blocks c.requires.one in
     let piece : IsPiece b.0 b.1 = whole n c.deref.result.now c.deref.ensures c.len-len.ensures.piece in
-    let kept : c.keep_front.new.self.blocks ≡ part_of 0 c.args.at b ∷ [] = c.in-Ok.ensures.ok ∙ ap (λ s. part_of 0 c.args.at s.block ∷ []) c.deref_mut.ensures.value in
-    let shows = back_shows f g b piece.sound (subst (λ bs. are_apart None (runs_in (f ++ bs ++ g)) ≡ true) own c.requires.apart) c.args.at c.requires.some c.requires.within in
-    subst (Shows (entries_of f ++ (piece_entries (part_of 0 c.args.at b) ++ entries_of g))) (sym (c.join.ensures.blocks ∙ ap (λ bs. f ++ bs ++ g) kept)) shows
+    let new = c.keep_front.new.self.blocks in
+    let kept : new ≡ part_of 0 c.args.at b ∷ [] = c.in-Ok.ensures.ok ∙ ap (λ s. part_of 0 c.args.at s.block ∷ []) c.deref_mut.ensures.value in
+    let apart = subst (λ bs. are_apart None (runs_in (f ++ bs ++ m ++ g)) ≡ true) own c.requires.apart in
+    let shows = back_shows f m g b piece.sound (runs_sound m c.chars_of-between.ensures.pieces) apart c.args.at c.requires.some c.requires.within in
+    subst (Shows (entries_of f ++ piece_entries (part_of 0 c.args.at b) ++ entries_of g)) (sym (c.join.ensures.blocks ∙ ap (λ bs. f ++ bs ++ g) kept)) shows

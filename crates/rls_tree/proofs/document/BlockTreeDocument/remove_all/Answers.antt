@@ -1,26 +1,29 @@
-use Rattle.std.proofs.Common.{◌≡◌, ℕ, Option, IfSome, length, sym, ap, ◌∙◌, subst, arith}
-use Rattle.rls_runs.specs.Runs.{run_idents, idents_of, runs_of}
-use Rattle.rls_runs.specs.Entries.{without_all}
+use Rattle.std.proofs.Common.{◌≡◌, ℕ, List, [], ◌∷◌, Option, IfSome, length, sym, ap, ◌∙◌, subst, arith}
+use Rattle.rls_ident.specs.declared.tuple.Tuple.{Tuple}
+use Rattle.rls_runs.specs.Runs.{idents_of}
+use Rattle.rls_runs.specs.Entries.{Entries, without_all}
 use Rattle.rls_tree.specs.Trees.{entries_of}
 use Rattle.rls_tree.specs.Edits.{removed}
 use Rattle.std.specs.Prelude.{not}
 use Rattle.rls_runs.specs.Entries.{has_ident}
 use Rattle.rls_runs.proofs.Sorted.{Entry}
 use Rattle.rls_runs.proofs.RunsOf.{idents_of_runs}
-use Rattle.rls_tree.proofs.Mapping.{single_run}
-use Rattle.rls_tree.proofs.Without.{filter_short}
+use Rattle.rls_tree.proofs.Without.{filter_short, without_none}
 use Rattle.rls_tree.proofs.document.BlockTreeDocument.remove_all.Goals as goal
+
+none_gone : (ts : List (List Tuple)) (es : Entries) → length ts ≡ 0 → es ≡ without_all ts es
+none_gone [] es h = sym (without_none es)
+none_gone (t ∷ ts) es h = absurd (omega (arith, h))
+
+pub returns-then-count-eq0-clause-ok : goal.returns-then-count-eq0-clause-ok
+returns-then-count-eq0-clause-ok c = none_gone c.args.targets.now (entries_of c.args.self.now.blocks) (sym c.total-count.ensures.total ∙ c.if-count-eq0.true)
 
 pub returns-in-Some-clause-ok : goal.returns-in-Some-clause-ok
 returns-in-Some-clause-ok c =
     let es = entries_of c.args.self.now.blocks in
     let ts = c.args.targets.now in
-    let r = c.run-run.result.now in
-    let i = c.in-Some.i in
-    let one : ts ≡ run_idents r.0 r.1 = sym (idents_of_runs ts) ∙ single_run (runs_of ts) r (sym c.run_count.ensures.count ∙ c.if-run_count-eq1.true) c.run-run.ensures.run in
-    let Gone : Option ℕ → Type 0 = λ o. IfSome o (λ j. removed j r.1 es ≡ without_all (run_idents r.0 r.1) es) in
-    let gone : removed i r.1 es ≡ without_all (run_idents r.0 r.1) es = subst Gone c.in-Some.is c.in_ok-i.ensures.removed in
-    c.in_ok-remove_piece.ensures.ok ∙ ap (λ n. removed i n es) c.len-count.ensures.len ∙ gone ∙ ap (λ xs. without_all xs es) (sym one)
+    let Gone : Option ℕ → Type 0 = λ o. IfSome o (λ i. removed i (length ts) es ≡ without_all ts es) in
+    c.in_ok-remove_range.ensures.ok ∙ ap (λ n. removed c.in-Some.i n es) c.total-count.ensures.total ∙ subst Gone c.in-Some.is c.in_ok-i.ensures.removed
 
 pub overflow_sub-removed : goal.overflow_sub-removed
 overflow_sub-removed c =

@@ -218,4 +218,4 @@ returns-clause-ok c =
     c.in_ok-part-in-Ok.ensures.idents ∙ ap (λ z. run_idents z n) (q_is ∙ sym x_is) ∙ sym (run_part r.0 r.1 j n (omega (arith, short, l, len, c.in_ok-part-in-Ok.ensures.most))) in
     let h = hit es ids i c.args.done first rising own at count x there j n f same in
     h.1 ∙ ap (λ m. without_all (drop (j + m) ids) (removed i n es)) (sym c.len-in-Ok.ensures.len)
-    ∙ ap (without_all (drop (j + c.len-in-Ok.result) ids)) (ap (λ m. removed i m es) (sym c.len.ensures.len) ∙ sym c.in_ok-remove_piece-in-Ok.ensures.ok)
+    ∙ ap (without_all (drop (j + c.len-in-Ok.result) ids)) (ap (λ m. removed i m es) (sym c.len.ensures.len) ∙ sym c.in_ok-remove_range-in-Ok.ensures.ok)

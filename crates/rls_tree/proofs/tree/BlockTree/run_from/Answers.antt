@@ -6,10 +6,23 @@ use Rattle.rls_ident.specs.Identifiers.{shifted}
 use Rattle.rls_runs.specs.Runs.{run_idents}
 use Rattle.rls_runs.specs.Entries.{idents_in}
 use Rattle.rls_tree.specs.Trees.{pieces, entries_of, ArePieces}
-use Rattle.rls_tree.specs.Edits.{reach_of}
+use Rattle.rls_tree.specs.Edits.{reach_of, located}
 use Rattle.rls_tree.proofs.Located.{mapped_at, entry_at}
-use Rattle.rls_tree.proofs.AtPlaces.{reach_idents}
+use Rattle.rls_tree.proofs.AtPlaces.{reach_idents, part_at}
 use Rattle.rls_tree.proofs.tree.BlockTree.run_from.Goals as goal
+
+pub returns-clause-within : goal.returns-clause-within
+returns-clause-within c =
+    let b = c.locate-at.result.0.now in
+    let j = c.locate-at.result.1 in
+    let i = c.args.i in
+    let bs = c.args.self.now.blocks in
+    let n = c.min-len.result in
+    let are : ArePieces bs = subst (λ s. ArePieces s.blocks) c.self.view_is c.chars_of-chars.ensures.pieces in
+    let down = sym (ap (λ s. s.blocks) c.self.view_is) ∙ ap pieces c.in-Some.is ∙ sym (ap (λ s. s.blocks) c.deref.ensures) in
+    let at = part_at bs i j n b are (ap (λ ps. located ps i) down ∙ c.locate-at.ensures.located) (omega (arith, c.len.ensures.len, c.locate-at.ensures.within, c.min-len.ensures)) (omega (arith, c.len.ensures.len, c.locate-at.ensures.within, c.min-len.ensures, c.requires.some)) in
+    let w = at.1 in
+    IfOk-weaker c.part_of_run.result _ _ (λ r h. let l = ap (λ (q : List Tuple × ℕ). q.1) h in omega (arith, l, w)) c.part_of_run.ensures.part
 
 pub returns-clause-idents : goal.returns-clause-idents
 returns-clause-idents c =

@@ -4,7 +4,7 @@ use Rattle.rls_tree.specs.Trees.{entries_of, pieces, runs_in}
 use Rattle.rls_tree.specs.Edits.{removed}
 use Rattle.rls_tree.proofs.Pieces.{pieces_rise}
 use Rattle.rls_tree.proofs.AtPlaces.{apart_shows, increasing_removed}
-use Rattle.rls_tree.proofs.tree.BlockTree.remove_piece.Goals as goal
+use Rattle.rls_tree.proofs.tree.BlockTree.remove_range.Goals as goal
 
 pub invariant_of-self : goal.invariant_of-self
 invariant_of-self c =
