@@ -320,13 +320,23 @@ fn is_balanced(alloc: Global, tree: &BlockTree) -> Result<bool, Fail> {
     Ok(root.height() == 2 && middle && left && right)
 }
 
+/// Puts `hello` in, and `XY` between its characters. Answers both numbers, the height of the tree, and whether it is balanced.
+fn types(alloc: Global, replica: &mut Replica) -> Result<(u32, u32, u32, bool), Fail> {
+    let hello = insert(alloc, replica, 0, "hello")?;
+    let between = insert(alloc, replica, 2, "XY")?;
+    let tree = replica.tree();
+    Ok((hello, between, tree.height(), is_balanced(alloc, tree)?))
+}
+
+/// What a fresh member 0 of 2 in group 7 answers to that.
+fn typed(alloc: Global) -> Result<(u32, u32, u32, bool), Fail> {
+    let mut replica = Replica::new(alloc, 7, 0, 2)?;
+    types(alloc, &mut replica)
+}
+
 #[test]
 fn nodes_are_balanced(rt: HostRuntime) -> Result<(), Fail> {
     let alloc = rt.alloc();
-    let mut replica = Replica::new(alloc, 7, 0, 2)?;
-    assert_eq!(rt; insert(alloc, &mut replica, 0, "hello")?, 1);
-    assert_eq!(rt; insert(alloc, &mut replica, 2, "XY")?, 2);
-    assert_eq!(rt; replica.tree().height(), 2);
-    assert!(rt; is_balanced(alloc, replica.tree())?);
+    assert_eq!(rt; typed(alloc)?, (1, 2, 2, true));
     Ok(())
 }

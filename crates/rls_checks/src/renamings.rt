@@ -94,50 +94,42 @@ fn back_is(
     are(alloc, &renaming.back_run(&run_of(alloc, run)?)?, expected)
 }
 
+/// The first of these pairs that it doesn't take forward and back.
+fn fault_among(
+    alloc: Global,
+    renaming: &Renaming,
+    pairs: &[(&[Tuple], &[Tuple])],
+) -> Result<Option<usize>, Fail> {
+    for (i, (former, renamed)) in pairs.iter().enumerate() {
+        if !takes(alloc, renaming, former, renamed)? {
+            return Ok(Some(i));
+        }
+    }
+    Ok(None)
+}
+
 #[test]
 fn identifiers_go_forward_and_back(rt: HostRuntime) -> Result<(), Fail> {
     let alloc = rt.alloc();
-    let renaming = renaming(alloc, 5)??;
     let outer = at(MIDDLE, 1, 1, 0);
     let third = at(MIDDLE, 0, 3, 0);
     let low = at(1_073_741_823, 1, 1, 0);
     let fourth = at(1_073_741_823, 0, 4, 0);
     let ninth = at(5, 0, 9, 0);
-    assert!(rt;
-        takes(
-            alloc,
-            &renaming,
-            &[old(-1), Tuple::High, third],
-            &[new(-1), third]
-        )?
-    );
-    assert!(rt; takes(alloc, &renaming, &[low], &[low])?);
-    assert!(rt; takes(alloc, &renaming, &[old(4), outer], &[new(4), old(4), outer])?);
-    assert!(rt;
-        takes(
-            alloc,
-            &renaming,
+    let pairs: &[(&[Tuple], &[Tuple])] = &[
+        (&[old(-1), Tuple::High, third], &[new(-1), third]),
+        (&[low], &[low]),
+        (&[old(4), outer], &[new(4), old(4), outer]),
+        (
             &[old(1), Tuple::Low, old(1), Tuple::Low, ninth],
-            &[new(1), old(1), Tuple::Low, ninth]
-        )?
-    );
-    assert!(rt;
-        takes(
-            alloc,
-            &renaming,
-            &[old(1), Tuple::High, third],
-            &[new(1), third]
-        )?
-    );
-    assert!(rt;
-        takes(
-            alloc,
-            &renaming,
-            &[old(1), Tuple::Low, fourth],
-            &[new(1), fourth]
-        )?
-    );
-    assert!(rt; takes(alloc, &renaming, &[new(5)], &[new(5)])?);
+            &[new(1), old(1), Tuple::Low, ninth],
+        ),
+        (&[old(1), Tuple::High, third], &[new(1), third]),
+        (&[old(1), Tuple::Low, fourth], &[new(1), fourth]),
+        (&[new(5)], &[new(5)]),
+    ];
+    let renaming = renaming(alloc, 5)??;
+    assert_eq!(rt; fault_among(alloc, &renaming, pairs)?, None);
     Ok(())
 }
 
@@ -158,45 +150,27 @@ fn runs_go_forward_and_back(rt: HostRuntime) -> Result<(), Fail> {
     Ok(())
 }
 
+/// Whether the renaming of so many identifiers takes the first run to the second at once, and that one back.
+fn goes_at_once(
+    alloc: Global,
+    len: u32,
+    former: Spelled<'_>,
+    renamed: Spelled<'_>,
+) -> Result<bool, Fail> {
+    let renaming = renaming(alloc, len)??;
+    let forward = forward_is(alloc, &renaming, former, &[renamed])?;
+    let back = back_is(alloc, &renaming, renamed, &[former])?;
+    Ok(forward && back && renaming.total() == len as u64)
+}
+
 #[test]
 fn long_runs_go_at_once(rt: HostRuntime) -> Result<(), Fail> {
     let alloc = rt.alloc();
-    let whole = renaming(alloc, 4_194_304)??;
-    assert_eq!(rt; whole.total(), MOST_FORMER);
-    assert!(rt;
-        forward_is(
-            alloc,
-            &whole,
-            (&[old(0)], 4_194_304),
-            &[(&[new(0)], 4_194_304)]
-        )?
-    );
-    assert!(rt;
-        back_is(
-            alloc,
-            &whole,
-            (&[new(0)], 4_194_304),
-            &[(&[old(0)], 4_194_304)]
-        )?
-    );
-    let short = renaming(alloc, 5)??;
+    let most = 4_194_304;
+    assert_eq!(rt; most as u64, MOST_FORMER);
+    assert!(rt; goes_at_once(alloc, most, (&[old(0)], most), (&[new(0)], most))?);
     let long = 1_073_741_819;
-    assert!(rt;
-        forward_is(
-            alloc,
-            &short,
-            (&[old(5)], long),
-            &[(&[new(4), old(5)], long)]
-        )?
-    );
-    assert!(rt;
-        back_is(
-            alloc,
-            &short,
-            (&[new(4), old(5)], long),
-            &[(&[old(5)], long)]
-        )?
-    );
+    assert!(rt; goes_at_once(alloc, 5, (&[old(5)], long), (&[new(4), old(5)], long))?);
     Ok(())
 }
 

@@ -24,7 +24,7 @@ fn first(alloc: Global, offset: i32) -> Result<Ident, Fail> {
 }
 
 #[test]
-fn identifiers(rt: HostRuntime) -> Result<(), Fail> {
+fn identifiers_have_a_shape(rt: HostRuntime) -> Result<(), Fail> {
     let alloc = rt.alloc();
     assert!(rt; matches!(&Ident::from_tuples(alloc, &[]), Err(IdentError::Empty)));
     assert!(rt;
@@ -43,15 +43,41 @@ fn identifiers(rt: HostRuntime) -> Result<(), Fail> {
         offset: 0,
     };
     assert_eq!(rt; nested.last(), last);
+    Ok(())
+}
+
+/// How the two identifiers are ordered.
+fn order(alloc: Global, one: &[Tuple], other: &[Tuple]) -> Result<Ordering, Fail> {
+    let one = Ident::from_tuples(alloc, one)?;
+    Ok(one.compare(&Ident::from_tuples(alloc, other)?))
+}
+
+#[test]
+fn identifiers_are_ordered(rt: HostRuntime) -> Result<(), Fail> {
+    let alloc = rt.alloc();
+    let nested = [at(0, 1, -1), at(0, 2, 0)];
+    assert_eq!(rt; order(alloc, &nested, &[at(0, 1, 0)])?, Ordering::Less);
+    assert_eq!(rt; order(alloc, &[at(0, 1, -1)], &nested)?, Ordering::Less);
     let hello = first(alloc, 0)?;
-    assert_eq!(rt; nested.compare(&hello), Ordering::Less);
-    assert_eq!(rt; first(alloc, -1)?.compare(&nested), Ordering::Less);
     assert_eq!(rt; hello.copy()?.compare(&hello), Ordering::Equal);
+    Ok(())
+}
+
+#[test]
+fn identifiers_follow(rt: HostRuntime) -> Result<(), Fail> {
+    let alloc = rt.alloc();
     let end = first(alloc, 4)?;
     assert!(rt; first(alloc, 5)?.follows(&end));
     let appended = between(alloc, Some(&end), None, 1, 1)?;
     assert_eq!(rt; appended.last().pos, 3_221_225_471);
     assert_eq!(rt; appended.len(), 1);
+    Ok(())
+}
+
+#[test]
+fn identifiers_are_prefixed(rt: HostRuntime) -> Result<(), Fail> {
+    let alloc = rt.alloc();
+    let hello = first(alloc, 0)?;
     assert!(rt; hello.under(&[at(0, 1, 0), Tuple::High]));
     assert_eq!(rt;
         hello.prefixed(&[Tuple::Low])?.stripped(1)?.compare(&hello),
@@ -94,7 +120,7 @@ fn vectors_and_names(rt: HostRuntime) -> Result<(), Fail> {
 }
 
 #[test]
-fn runs_and_texts(rt: HostRuntime) -> Result<(), Fail> {
+fn runs_ascend(rt: HostRuntime) -> Result<(), Fail> {
     let alloc = rt.alloc();
     let mut list = Runs::new(alloc);
     list.push(Run::new(first(alloc, 0)?, 1)?)?;
@@ -102,17 +128,53 @@ fn runs_and_texts(rt: HostRuntime) -> Result<(), Fail> {
     assert!(rt; matches!(&touching, Err(PushError::Touching)));
     let same = list.push(Run::new(first(alloc, 0)?, 1)?);
     assert!(rt; matches!(&same, Err(PushError::NotAbove)));
+    Ok(())
+}
+
+/// The list of one identifier and the four behind it.
+fn joined(alloc: Global) -> Result<Runs, Fail> {
+    let mut list = Runs::new(alloc);
+    list.push(Run::new(first(alloc, 0)?, 1)?)?;
     let more = Run::new(first(alloc, 1)?, 4)?;
     if !list.is_above(more.first()) {
         return Err(Fail::new("above"));
     }
     list.append(more)?;
+    Ok(list)
+}
+
+/// The offset of the identifier at this place, if there is one.
+fn offset_at(list: &Runs, place: u64) -> Result<Option<i32>, Fail> {
+    if place >= list.total() {
+        return Ok(None);
+    }
+    Ok(Some(list.get(place)?.last().offset))
+}
+
+/// How far this place is in its run, if there is one.
+fn place_in_run(list: &Runs, place: u64) -> Option<u32> {
+    if place >= list.total() {
+        return None;
+    }
+    Some(list.locate(place).1)
+}
+
+#[test]
+fn runs_are_joined(rt: HostRuntime) -> Result<(), Fail> {
+    let alloc = rt.alloc();
+    let list = joined(alloc)?;
     assert_eq!(rt; list.run_count(), 1);
     assert_eq!(rt; list.copy()?.total(), 5);
     assert_eq!(rt; list.find(&first(alloc, 3)?), Ok(3));
     assert_eq!(rt; list.find(&first(alloc, 7)?), Err(5));
-    assert_eq!(rt; list.get(4)?.last().offset, 4);
-    assert_eq!(rt; list.locate(3).1, 3);
+    assert_eq!(rt; offset_at(&list, 4)?, Some(4));
+    assert_eq!(rt; place_in_run(&list, 3), Some(3));
+    Ok(())
+}
+
+#[test]
+fn texts(rt: HostRuntime) -> Result<(), Fail> {
+    let alloc = rt.alloc();
     let mut text = Text::from_str(alloc, "ello")?;
     text.push_front('h')?;
     text.push('!')?;
