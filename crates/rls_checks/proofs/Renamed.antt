@@ -1,8 +1,6 @@
 -- A renaming keeps the order of identifiers.
-use Rattle.std.proofs.Common.{◌∙◌, List, ap}
+use Rattle.std.proofs.Common.{◌∙◌, ap}
 use Rattle.std.specs.Ordering.{is_lt}
-use Rattle.rls_ident.specs.declared.tuple.Tuple.{Tuple}
-use Rattle.rls_ident.specs.Identifiers.{ident_cmp}
 use Rattle.rls_doc.specs.Documents.{KeepsOrder}
 use Rattle.rls_rename.specs.Renaming.{Renaming, IsFormer, forward}
 use Rattle.rls_rename.proofs.Laws.{order_kept}
