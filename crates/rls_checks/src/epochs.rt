@@ -6,10 +6,10 @@ ghost use Rattle.rls_ident.specs.declared.epoch_name.EpochName.TheVariants.{Orig
 ghost use Rattle.rls_ident.specs.EpochNames.{is_of_member};
 ghost use Rattle.rls_rename.specs.Tree.{is_kept};
 
+use crate::spelling::{Spelled, are, list_of, run_of};
 use rls_epoch::Epochs;
 use rls_ident::{EpochName, Ident, Tuple, Vector};
 use rls_rename::Renaming;
-use rls_runs::{Run, RunList, Runs};
 use std::alloc::Global;
 use std::cmp::Ordering;
 use std::test::Fail;
@@ -23,9 +23,6 @@ const FIRST: EpochName = EpochName::Of { replica: 0, seq: 2 };
 /// The epoch of member 0's third operation, which is opened in the first one.
 const SECOND: EpochName = EpochName::Of { replica: 0, seq: 3 };
 
-/// A run: the tuples of its first identifier, and its length.
-type Spelled<'a> = (&'a [Tuple], u32);
-
 /// A tuple of an operation of member 0.
 fn tuple(seq: u32, offset: i32) -> Tuple {
     Tuple::At {
@@ -34,17 +31,6 @@ fn tuple(seq: u32, offset: i32) -> Tuple {
         seq,
         offset,
     }
-}
-
-fn run_of(alloc: Global, run: Spelled<'_>) -> Result<Run, Fail> {
-    Ok(Run::new(Ident::from_tuples(alloc, run.0)?, run.1)?)
-}
-
-/// The list of one run's identifiers.
-fn list_of(alloc: Global, run: Spelled<'_>) -> Result<Runs, Fail> {
-    let mut list = Runs::new(alloc);
-    list.push(run_of(alloc, run)?)?;
-    Ok(list)
 }
 
 /// The renaming of the first five identifiers of member 0's operation before it.
@@ -86,21 +72,6 @@ fn ident_moves(
     }
     let moved = epochs.translate(way.0, way.1, &Ident::from_tuples(alloc, id)?)?;
     Ok(moved.compare(&Ident::from_tuples(alloc, expected)?) == Ordering::Equal)
-}
-
-/// Whether these are the same runs.
-fn are(alloc: Global, runs: &RunList, expected: &[Spelled<'_>]) -> Result<bool, Fail> {
-    if runs.len() != expected.len() {
-        return Ok(false);
-    }
-    for (i, spelled) in expected.iter().enumerate() {
-        let run = runs.get(i);
-        let first = Ident::from_tuples(alloc, spelled.0)?;
-        if run.len() != spelled.1 || run.first().compare(&first) != Ordering::Equal {
-            return Ok(false);
-        }
-    }
-    Ok(true)
 }
 
 /// Whether the run is these in the other epoch.

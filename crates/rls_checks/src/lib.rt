@@ -24,4 +24,6 @@ mod members;
 #[cfg(test)]
 mod renamings;
 #[cfg(test)]
+mod spelling;
+#[cfg(test)]
 mod values;

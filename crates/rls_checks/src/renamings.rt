@@ -1,17 +1,15 @@
 //! Renamings on worked values: identifiers and whole runs, forward and back.
 
+use crate::spelling::{Spelled, are, list_of, run_of};
 use rls_ident::{Ident, Tuple};
 use rls_rename::{MOST_FORMER, Renaming, RenamingError};
-use rls_runs::{Run, RunList, Runs};
+use rls_runs::Runs;
 use std::alloc::Global;
 use std::cmp::Ordering;
 use std::test::Fail;
 
 /// The middle position.
 const MIDDLE: u32 = 2_147_483_647;
-
-/// A run: the tuples of its first identifier, and its length.
-type Spelled<'a> = (&'a [Tuple], u32);
 
 fn at(pos: u32, replica: u32, seq: u32, offset: i32) -> Tuple {
     Tuple::At {
@@ -32,14 +30,9 @@ fn new(offset: i32) -> Tuple {
     at(MIDDLE, 0, 2, offset)
 }
 
-fn run_of(alloc: Global, run: Spelled<'_>) -> Result<Run, Fail> {
-    Ok(Run::new(Ident::from_tuples(alloc, run.0)?, run.1)?)
-}
-
 /// The renaming of the first identifiers of member 0's first operation.
 fn renaming(alloc: Global, len: u32) -> Result<Result<Renaming, RenamingError>, Fail> {
-    let mut former = Runs::new(alloc);
-    former.push(run_of(alloc, (&[old(0)], len))?)?;
+    let former = list_of(alloc, (&[old(0)], len))?;
     Ok(Renaming::new(alloc, former, 0, 2))
 }
 
@@ -55,21 +48,6 @@ fn takes(
     let forward = renaming.forward(&former)?.compare(&renamed);
     let back = renaming.back(&renamed)?.compare(&former);
     Ok(forward == Ordering::Equal && back == Ordering::Equal)
-}
-
-/// Whether these are the same runs.
-fn are(alloc: Global, runs: &RunList, expected: &[Spelled<'_>]) -> Result<bool, Fail> {
-    if runs.len() != expected.len() {
-        return Ok(false);
-    }
-    for (i, spelled) in expected.iter().enumerate() {
-        let run = runs.get(i);
-        let first = Ident::from_tuples(alloc, spelled.0)?;
-        if run.len() != spelled.1 || run.first().compare(&first) != Ordering::Equal {
-            return Ok(false);
-        }
-    }
-    Ok(true)
 }
 
 fn forward_is(
