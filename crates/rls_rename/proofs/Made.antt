@@ -24,10 +24,6 @@ put_first x (r ∷ rs) = go (follows r.0 x)
     go true = ((x, r.1 + 1), rs, refl, refl)
     go false = ((x, 1), (r.0, r.1) ∷ rs, refl, refl)
 
-pub some_run : (xs : List (List Tuple)) → (length xs ≡ 0 → ⊥) → 0 < length (runs_of xs)
-some_run [] h = absurd (h refl)
-some_run (x ∷ xs) h = let p = put_first x (runs_of xs) in let e = ap length p.2 in omega arith
-
 pub first_of_run : (xs : List (List Tuple)) (r : List Tuple × ℕ) → slice_get (runs_of xs) 0 ≡ Some r → new_pos xs ≡ first_pos r.0
 first_of_run [] r e = cc
 first_of_run (x ∷ xs) r e =

@@ -61,7 +61,7 @@ impl Renaming {
     ///
     /// `EmptyList` exactly where there is no identifier, and `TooMany` exactly where there are more
     /// than 4,194,304. The identifiers are given up then.
-    #[tactic(auto, using(crate::proofs::Made::former_is, crate::proofs::Made::some_run, crate::proofs::Made::first_of_run))]
+    #[tactic(auto, using(crate::proofs::Made::former_is, rls_runs::proofs::RunsOf::some_runs, crate::proofs::Made::first_of_run))]
     pub fn new(
         alloc: Global,
         former: Runs,

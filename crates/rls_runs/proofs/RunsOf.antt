@@ -1,5 +1,5 @@
 -- Lists of identifiers and their maximal runs.
-use Rattle.std.proofs.Common.{◌≡◌, ℕ, zero, suc, ◌+◌, Bool, true, false, cond, List, [], ◌∷◌, ◌++◌, Option, Some, refl, sym, ap, subst, ◌∙◌, arith, add-one}
+use Rattle.std.proofs.Common.{◌≡◌, ℕ, zero, suc, ◌+◌, ◌<◌, Bool, true, false, cond, List, [], ◌∷◌, ◌++◌, length, Option, Some, refl, sym, ap, subst, ◌∙◌, arith, add-one}
 use Rattle.std.specs.Prelude.{pos, not, ◌&&◌, nat_lt}
 use Rattle.std.specs.Ordering.{is_eq}
 use Rattle.std.proofs.lemmas.Int.{ints}
@@ -75,3 +75,8 @@ put_idents x ((y, n) ∷ rs) = go (follows y x) refl
 pub idents_of_runs : (xs : List (List Tuple)) → idents_of (runs_of xs) ≡ xs
 idents_of_runs [] = refl
 idents_of_runs (x ∷ xs) = put_idents x (runs_of xs) ∙ ap (λ ys. x ∷ ys) (idents_of_runs xs)
+
+-- a list with an identifier has a run
+pub some_runs : (xs : List (List Tuple)) → 0 < length xs → 0 < length (runs_of xs)
+some_runs [] h = h
+some_runs (x ∷ xs) h = grind arith

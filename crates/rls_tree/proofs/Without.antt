@@ -12,10 +12,9 @@ use Rattle.rls_ident.proofs.Members.{not_true, or_left}
 use Rattle.rls_ident.proofs.Ends.{eq_same, same_eq}
 use Rattle.rls_ident.proofs.Tuples.{tuples}
 use Rattle.rls_runs.specs.Entries.{Entries, idents_in, has_ident, without_all}
-use Rattle.rls_runs.specs.Runs.{run_idents, idents_of, runs_of}
+use Rattle.rls_runs.specs.Runs.{run_idents, idents_of}
 use Rattle.rls_runs.specs.Places.{below_count, find_ident}
 use Rattle.rls_runs.proofs.RunOrder.{AllLess, AllMore, Rising, lt_of, of_lt, rising_right, idents_append as runs_append}
-use Rattle.rls_runs.proofs.RunsOf.{idents_of_runs}
 use Rattle.std.proofs.Math.Seq.{take-add}
 use Rattle.rls_runs.proofs.Sorted.{Entry}
 use Rattle.rls_doc.specs.Documents.{AreNew}
@@ -196,13 +195,6 @@ taken_more xs rs i at n k r o h e g =
     ap (λ q. take q (drop i xs)) m ∙ take-add (at - i) n (drop i xs)
     ∙ ap (λ ys. ys ++ take n (drop (at - i) (drop i xs))) h ∙ ap (λ ys. idents_of (take k rs) ++ ys) (ap (take n) (drop-drop (at - i) i xs ∙ ap (λ q. drop q xs) j) ∙ e ∙ sym (append-nil (run_idents r.0 r.1)))
     ∙ sym (runs_append (take k rs) (r ∷ [])) ∙ ap idents_of (ap (λ ys. take k rs ++ ys) (sym one) ∙ sym (take-add k 1 rs))
-
-pub some_runs : (xs : List (List Tuple)) → 0 < length xs → 0 < length (runs_of xs)
-some_runs xs h = go (runs_of xs) (idents_of_runs xs)
-  where
-    go : (rs : List (List Tuple × ℕ)) → idents_of rs ≡ xs → 0 < length rs
-    go [] e = let n = ap length e in absurd (omega (arith, h, n))
-    go (r ∷ rs) e = omega arith
 
 pub filter_short : {X : Type 0} (t : X → Bool) (xs : List X) → length (filter t xs) ≤ length xs
 filter_short t [] = omega arith

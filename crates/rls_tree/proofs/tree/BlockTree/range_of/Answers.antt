@@ -5,10 +5,10 @@ use Rattle.rls_runs.specs.Runs.{idents_of}
 use Rattle.rls_runs.specs.Entries.{idents_in}
 use Rattle.rls_runs.proofs.RunOrder.{rising_of}
 use Rattle.rls_runs.proofs.RunPlaces.{found_is, found_there}
-use Rattle.rls_runs.proofs.RunsOf.{idents_of_runs}
+use Rattle.rls_runs.proofs.RunsOf.{idents_of_runs, some_runs}
 use Rattle.rls_tree.specs.Trees.{entries_of}
 use Rattle.rls_tree.specs.Edits.{removed}
-use Rattle.rls_tree.proofs.Without.{whole_gone, taken_more, some_runs}
+use Rattle.rls_tree.proofs.Without.{whole_gone, taken_more}
 use Rattle.rls_tree.proofs.tree.BlockTree.range_of.Goals as goal
 
 pub run-requires : goal.run-requires
