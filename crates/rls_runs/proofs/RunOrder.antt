@@ -145,13 +145,13 @@ pub last_at : (x : List Tuple) (m : ℕ) → run_last (x, suc m) ≡ shifted (po
 last_at x m = let e : suc m - 1 ≡ m = omega arith in ap (λ k. shifted (pos k) x) e
 
 -- what a list of runs in order says of its first one
-apart_head : (r s : List Tuple × ℕ) (rs : List (List Tuple × ℕ)) → are_apart (Some r) (s ∷ rs) ≡ true → Lt tuples (run_last r) s.0 × (are_apart (Some s) rs ≡ true)
+pub apart_head : (r s : List Tuple × ℕ) (rs : List (List Tuple × ℕ)) → are_apart (Some r) (s ∷ rs) ≡ true → Lt tuples (run_last r) s.0 × (are_apart (Some s) rs ≡ true)
 apart_head r s rs h =
     let p = and_left (nat_lt 0 s.1 && is_apart (Some r) s) (are_apart (Some s) rs) h in
     let q = and_right (nat_lt 0 s.1) (is_apart (Some r) s) p in
     (lt_of (run_last r) s.0 (and_left (ident_lt (run_last r) s.0) (not (follows s.0 (run_last r))) q), and_right (nat_lt 0 s.1 && is_apart (Some r) s) (are_apart (Some s) rs) h)
 
-apart_rest : (before : Option (List Tuple × ℕ)) (s : List Tuple × ℕ) (rs : List (List Tuple × ℕ)) → are_apart before (s ∷ rs) ≡ true → are_apart (Some s) rs ≡ true
+pub apart_rest : (before : Option (List Tuple × ℕ)) (s : List Tuple × ℕ) (rs : List (List Tuple × ℕ)) → are_apart before (s ∷ rs) ≡ true → are_apart (Some s) rs ≡ true
 apart_rest before s rs h = and_right (nat_lt 0 s.1 && is_apart before s) (are_apart (Some s) rs) h
 
 sound_head : (s : List Tuple × ℕ) (rs : List (List Tuple × ℕ)) → list_all is_run (s ∷ rs) ≡ true → IsIdent s.0 × (list_all is_run rs ≡ true)

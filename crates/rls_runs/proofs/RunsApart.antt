@@ -1,13 +1,17 @@
--- The maximal runs of a strictly increasing list stand apart.
-use Rattle.std.proofs.Common.{◌≡◌, ℕ, ◌+◌, ◌-◌, true, false, List, [], ◌∷◌, Some, None, refl, sym, ap, ◌∙◌, arith}
+-- Runs that stand apart: the maximal ones of a strictly increasing list, and what stands behind others.
+use Rattle.std.proofs.Common.{◌≡◌, ℕ, ◌+◌, ◌-◌, true, false, List, [], ◌∷◌, ◌++◌, Option, Some, None, refl, sym, ap, ◌∙◌, arith}
 use Rattle.std.specs.Prelude.{ℤ, pos, ◌+ℤ◌, not, ◌&&◌, nat_lt}
+use Rattle.std.specs.List.{list_all}
 use Rattle.std.proofs.lemmas.Int.{ints}
 use Rattle.rls_ident.specs.declared.tuple.Tuple.{Tuple}
 use Rattle.rls_ident.specs.Identifiers.{ident_lt, shifted, follows}
 use Rattle.rls_ident.proofs.Ends.{eq_same}
+use Rattle.rls_ident.proofs.Lists.{Lt, lt_trans}
 use Rattle.rls_ident.proofs.Members.{bool_cases, and_left, and_right, and_true, lt_is, lt_test}
 use Rattle.rls_ident.proofs.Shifted.{shifted_none, shifted_shifted}
-use Rattle.rls_runs.specs.Runs.{put_run, runs_of, run_last, is_increasing, is_apart, are_apart}
+use Rattle.rls_ident.proofs.Tuples.{tuples}
+use Rattle.rls_runs.specs.Runs.{put_run, runs_of, run_last, is_increasing, is_apart, are_apart, run_before, is_run}
+use Rattle.rls_runs.proofs.RunOrder.{less_shifted, run_ident, apart_head, apart_rest}
 
 -- the first run begins with x
 abbrev BeginsWith : List Tuple → List (List Tuple × ℕ) → Type 0
@@ -61,3 +65,16 @@ apart_runs [] h = refl
 apart_runs (x ∷ []) h = apart_put x [] tt refl
 apart_runs (x ∷ (y ∷ ys)) h =
     apart_put x (runs_of (y ∷ ys)) (above x y (runs_of (y ∷ ys)) (and_left (ident_lt x y) (is_increasing (y ∷ ys)) h) (begins y (runs_of ys))) (apart_runs (y ∷ ys) (and_right (ident_lt x y) (is_increasing (y ∷ ys)) h))
+
+-- ---- what stands behind others
+
+pub apart_right : (before : Option (List Tuple × ℕ)) (xs ys : List (List Tuple × ℕ)) → are_apart before (xs ++ ys) ≡ true → are_apart (run_before before xs) ys ≡ true
+apart_right before [] ys h = h
+apart_right before (x ∷ xs) ys h = apart_right (Some x) xs ys (apart_rest before x (xs ++ ys) h)
+
+-- a run ends below each that stands behind it
+pub ahead : (r : List Tuple × ℕ) (xs : List (List Tuple × ℕ)) (s : List Tuple × ℕ) (ys : List (List Tuple × ℕ)) → list_all is_run xs ≡ true → are_apart (Some r) (xs ++ s ∷ ys) ≡ true → Lt tuples (run_last r) s.0
+ahead r [] s ys i h = (apart_head r s ys h).0
+ahead r (x ∷ xs) s ys i h =
+    let a = apart_head r x (xs ++ s ∷ ys) h in
+    lt_trans (less_shifted (run_last r) x.0 (x.1 - 1) (run_ident x (and_left (is_run x) (list_all is_run xs) i)) a.0) (ahead x xs s ys (and_right (is_run x) (list_all is_run xs) i) a.1)

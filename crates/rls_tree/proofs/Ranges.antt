@@ -1,18 +1,19 @@
 -- What is left of blocks where some that stand one behind another go out.
 use Rattle.std.proofs.Common.{◌≡◌, ℕ, suc, ◌+◌, ◌-◌, ◌<◌, ◌≤◌, true, false, List, [], ◌∷◌, ◌++◌, length, take, drop, Option, Some, None, refl, sym, ap, ◌∙◌, subst, ◌⊎◌, ⊎_elim, arith, length-append, append_assoc}
-use Rattle.std.specs.Prelude.{pos, ◌&&◌, not, nat_lt}
+use Rattle.std.specs.Prelude.{pos, not}
 use Rattle.std.specs.List.{list_all}
 use Rattle.std.proofs.lemmas.Int.{ints}
 use Rattle.std.proofs.lemmas.List.{append-nil, take-append-le}
 use Rattle.std.proofs.Math.Seq.{take-append_seam, drop-append_seam}
 use Rattle.rls_ident.specs.declared.tuple.Tuple.{Tuple}
-use Rattle.rls_ident.specs.Identifiers.{shifted, follows, ident_lt}
+use Rattle.rls_ident.specs.Identifiers.{shifted, follows}
 use Rattle.rls_ident.proofs.Lists.{Lt, lt_irrefl, lt_trans}
-use Rattle.rls_ident.proofs.Members.{and_left, and_right, and_true, not_true}
+use Rattle.rls_ident.proofs.Members.{and_true, not_true}
 use Rattle.rls_ident.proofs.Shifted.{shifted_none, shifted_less}
 use Rattle.rls_ident.proofs.Tuples.{tuples}
-use Rattle.rls_runs.specs.Runs.{run_last, is_run, is_apart, are_apart, run_before}
-use Rattle.rls_runs.proofs.RunOrder.{lt_of, less_shifted, run_ident}
+use Rattle.rls_runs.specs.Runs.{run_last, is_run, are_apart}
+use Rattle.rls_runs.proofs.RunOrder.{less_shifted, run_ident, apart_rest}
+use Rattle.rls_runs.proofs.RunsApart.{apart_right, ahead}
 use Rattle.rls_tree.specs.Trees.{Piece, runs_in, piece_entries, entries_of}
 use Rattle.rls_tree.specs.Edits.{part_of, joined, goes_on, leads_to, are_loose, removed, Shows}
 use Rattle.rls_tree.proofs.Pieces.{entries_append}
@@ -21,23 +22,7 @@ use Rattle.rls_tree.proofs.Changes.{entries_joined, follows_is, back, halves}
 use Rattle.rls_tree.proofs.Cases.{alone_entries, middle_entries, three_entries, part_last, touch, joined_last, leads_alike, last_more, one_replaced, own_loose, both_loose, part_length, own_length, one_length}
 use Rattle.rls_tree.proofs.AtPlaces.{part_exact}
 
--- ---- order
-
-apart_right : (a : Option (List Tuple × ℕ)) (xs ys : List (List Tuple × ℕ)) → are_apart a (xs ++ ys) ≡ true → are_apart (run_before a xs) ys ≡ true
-apart_right a [] ys h = h
-apart_right a (x ∷ xs) ys h = apart_right (Some x) xs ys (and_right (nat_lt 0 x.1 && is_apart a x) (are_apart (Some x) (xs ++ ys)) h)
-
-head_above : (a r : List Tuple × ℕ) (rs : List (List Tuple × ℕ)) → are_apart (Some a) (r ∷ rs) ≡ true → Lt tuples (run_last a) r.0
-head_above a r rs h =
-    lt_of (run_last a) r.0 (and_left (ident_lt (run_last a) r.0) (not (follows r.0 (run_last a)))
-    (and_right (nat_lt 0 r.1) (is_apart (Some a) r) (and_left (nat_lt 0 r.1 && is_apart (Some a) r) (are_apart (Some r) rs) h)))
-
--- a run ends below each that stands behind it
-ahead : (a : List Tuple × ℕ) (xs : List (List Tuple × ℕ)) (s : List Tuple × ℕ) (ys : List (List Tuple × ℕ)) → list_all is_run xs ≡ true → are_apart (Some a) (xs ++ s ∷ ys) ≡ true → Lt tuples (run_last a) s.0
-ahead a [] s ys i h = head_above a s ys h
-ahead a (x ∷ xs) s ys i h =
-    lt_trans (less_shifted (run_last a) x.0 (x.1 - 1) (run_ident x (and_left (is_run x) (list_all is_run xs) i)) (head_above a x (xs ++ s ∷ ys) h))
-    (ahead x xs s ys (and_right (is_run x) (list_all is_run xs) i) (and_right (nat_lt 0 x.1 && is_apart (Some a) x) (are_apart (Some x) (xs ++ s ∷ ys)) h))
+-- ---- what doesn't go on with a run
 
 -- what stands behind a run doesn't go on with a front part of it
 not_with_part : (b : Piece) (a : ℕ) (z : List Tuple) → is_run b.0 ≡ true → 0 < a → a < b.0.1 → Lt tuples (run_last b.0) z → follows z (run_last (part_of 0 a b).0) ≡ false
@@ -88,7 +73,7 @@ merged_shows rest m far p s apart n k l t =
 behind : (f h : List Piece) (b : Piece) → are_apart None (runs_in (f ++ (b ∷ []) ++ h)) ≡ true → are_apart (Some b.0) (runs_in h) ≡ true
 behind f h b apart =
     let all = apart_right None (runs_in f) (runs_in (b ∷ h)) (ap (are_apart None) (sym (ap runs_in (append_assoc f (b ∷ []) h) ∙ runs_append f (b ∷ h))) ∙ apart) in
-    and_right (nat_lt 0 b.0.1 && is_apart (last_run f) b.0) (are_apart (Some b.0) (runs_in h)) all
+    apart_rest (last_run f) b.0 (runs_in h) all
 
 module _ (f m g : List Piece) (b : Piece) (sound : is_run b.0 ≡ true) (between : list_all is_run (runs_in m) ≡ true) where
   -- the block in front of the others keeps its front
