@@ -6,11 +6,12 @@ use Rattle.std.specs.Ordering.{is_lt}
 use Rattle.rls_ident.specs.declared.tuple.Tuple.{Tuple}
 use Rattle.rls_ident.specs.Identifiers.{ident_lt, is_ident, ident_cmp}
 use Rattle.std.specs.List.{list_all}
+use Rattle.std.proofs.lemmas.List.{take-map, drop-map}
 use Rattle.rls_ident.proofs.Members.{and_left, and_right, and_true, some_is}
 use Rattle.rls_runs.specs.Runs.{is_increasing}
 use Rattle.rls_runs.specs.Entries.{idents_in, with_idents}
 use Rattle.rls_runs.specs.Places.{last_ident, is_above}
-use Rattle.rls_runs.proofs.Sorted.{Entry, AreAbove, Rises, rises_of_increasing, increasing_of_rises, rises_filter}
+use Rattle.rls_runs.proofs.Sorted.{Entry, AreAbove, Rises, rises_of_increasing, increasing_of_rises, rises_filter, rises_drop}
 pub use Rattle.rls_runs.proofs.Sorted.{rises_of_increasing as rising, increasing_of_rises as increasing}
 use Rattle.rls_doc.specs.Documents.{KeepsOrder}
 
@@ -47,11 +48,6 @@ behind_last (x ∷ (y ∷ es)) (z ∷ added) last first h a g f l =
 
 -- ---- a part of the entries
 
-above_drop : (n : ℕ) (es : List Entry) → Rises es → Rises (drop n es)
-above_drop zero es h = h
-above_drop (suc n) [] h = tt
-above_drop (suc n) (x ∷ es) h = above_drop n es h.1
-
 above_take : (x : Entry) (n : ℕ) (es : List Entry) → AreAbove x es → AreAbove x (take n es)
 above_take x zero es h = tt
 above_take x (suc n) [] h = tt
@@ -63,20 +59,10 @@ rises_take (suc n) [] h = tt
 rises_take (suc n) (x ∷ es) h = (above_take x n es h.0, rises_take n es h.1)
 
 pub increasing_part : (from count : ℕ) (es : List Entry) → is_increasing (idents_in es) ≡ true → is_increasing (idents_in (take count (drop from es))) ≡ true
-increasing_part from count es h = increasing_of_rises (take count (drop from es)) (rises_take count (drop from es) (above_drop from es (rises_of_increasing es h)))
+increasing_part from count es h = increasing_of_rises (take count (drop from es)) (rises_take count (drop from es) (rises_drop from es (rises_of_increasing es h)))
 
 pub idents_part : (from count : ℕ) (es : List Entry) → idents_in (take count (drop from es)) ≡ take count (drop from (idents_in es))
-idents_part from count es = taken count (drop from es) ∙ ap (take count) (dropped from es)
-  where
-    taken : (n : ℕ) (es : List Entry) → idents_in (take n es) ≡ take n (idents_in es)
-    taken zero es = refl
-    taken (suc n) [] = refl
-    taken (suc n) (x ∷ es) = ap (λ xs. x.0 ∷ xs) (taken n es)
-
-    dropped : (n : ℕ) (es : List Entry) → idents_in (drop n es) ≡ drop n (idents_in es)
-    dropped zero es = refl
-    dropped (suc n) [] = refl
-    dropped (suc n) (x ∷ es) = dropped n es
+idents_part from count es = sym (ap (take count) (drop-map (λ e. e.0) from es) ∙ take-map (λ e. e.0) count (drop from es))
 
 -- each identifier is above the last one in front of it
 pub above_taken : (es : List Entry) (i : ℕ) (e : Entry) → is_increasing (idents_in es) ≡ true → slice_get es i ≡ Some e → is_above (last_ident (idents_in (take i es))) e.0 ≡ true

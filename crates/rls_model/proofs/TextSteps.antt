@@ -22,24 +22,18 @@ use Rattle.rls_ops.specs.declared.op.Op.{Op}
 use Rattle.rls_ops.specs.declared.op.Body.TheVariants.{Insert, Delete, Rename, Leave}
 use Rattle.rls_model.specs.History.{Accepted, Acknowledged, History, Then, ops}
 use Rattle.rls_model.specs.Epochs.{epochs, nodes_after, renaming_of, greatest, translate}
-use Rattle.rls_model.specs.Document.{Character, chars, chars_of, chars_from, chars_of_all, targets_of, ident_in, has_ident, is_named, live, put, put_all, export}
+use Rattle.rls_model.specs.Document.{Character, chars, chars_of, chars_from, chars_of_all, targets_of, ident_in, has_ident, is_named, live, put_all, export}
 use Rattle.rls_model.specs.WellFormed.{IsBody}
 use Rattle.rls_model.specs.Legal.{IsLegal}
 use Rattle.rls_model.proofs.OneTree.{history_ident, history_translate, history_order}
 use Rattle.rls_model.proofs.Distinct.{all_append, known}
-use Rattle.rls_runs.proofs.Sorted.{Entry, AreAbove, Rises, same_rising, rises_filter}
+use Rattle.rls_runs.proofs.Sorted.{Entry, AreAbove, Rises, same_rising, rises_filter, put_all_append}
 use Rattle.rls_model.proofs.SameOps.{entry_of, live_char, top_kept, export_rises, in_export, export_in}
 use Rattle.rls_model.proofs.Ranges.{export_ident}
 use Rattle.rls_model.proofs.Named.{grown_translate}
 use Rattle.rls_model.proofs.Spliced.{entries, append_map}
 use Rattle.rls_model.proofs.Insertion.{born, born_entries, born_in, same_named, new_unnamed, entry_old}
 use Rattle.rls_model.proofs.RenamedRun.{live_back, live_stays, nodes_are, tree_of}
-
--- ---- lists
-
-put_all_append : (xs ys zs : List Entry) → put_all (xs ++ ys) zs ≡ put_all ys (put_all xs zs)
-put_all_append [] ys zs = refl
-put_all_append (x ∷ xs) ys zs = put_all_append xs ys (put x zs)
 
 -- ---- an insertion
 

@@ -1,6 +1,6 @@
 -- The place of an identifier in a rising list, and identifiers put in there.
 use Rattle.std.proofs.Common.{◌≡◌, ℕ, zero, suc, ◌<◌, Bool, true, false, cond, List, [], ◌∷◌, ◌++◌, take, drop, Some, Ok, Err, slice_get, refl, sym, ap, ◌∙◌, subst, ⊎_elim, arith}
-use Rattle.std.specs.Prelude.{◌||◌}
+use Rattle.std.proofs.lemmas.Bool.{or_parts}
 use Rattle.std.proofs.lemmas.List.{take-append-drop}
 use Rattle.rls_ident.specs.declared.tuple.Tuple.{Tuple}
 use Rattle.rls_ident.specs.Identifiers.{ident_lt, ident_eq}
@@ -49,14 +49,10 @@ pub more_drop : (xs : List (List Tuple)) (x : List Tuple) → Rising xs → has_
 more_drop [] x r h = tt
 more_drop (y ∷ ys) x r h = go (ident_lt y x) refl (λ k. more_drop ys x r.1 k)
   where
-    parts : (b c : Bool) → (b || c) ≡ false → (b ≡ false) × (c ≡ false)
-    parts true c k = absurd (cc)
-    parts false c k = (refl, k)
-
     go : (b : Bool) → ident_lt y x ≡ b → (has_ident ys x ≡ false → AllMore x (drop (below_count ys x) ys)) → AllMore x (drop (below_count (y ∷ ys) x) (y ∷ ys))
-    go true e ih = subst (λ n. AllMore x (drop n (y ∷ ys))) (sym (counted_less y ys x (lt_of y x e))) (ih (parts (ident_eq y x) (has_ident ys x) h).1)
+    go true e ih = subst (λ n. AllMore x (drop n (y ∷ ys))) (sym (counted_less y ys x (lt_of y x e))) (ih (or_parts (ident_eq y x) (has_ident ys x) h).1)
     go false e ih =
-        let more : Lt tuples x y = ⊎_elim (λ l. let k = of_lt y x l in absurd (cc)) (λ q. ⊎_elim (λ s. let k = same_eq y x s in let m = (parts (ident_eq y x) (has_ident ys x) h).0 in absurd (cc)) (λ m. m) q) (tri tuples y x) in
+        let more : Lt tuples x y = ⊎_elim (λ l. let k = of_lt y x l in absurd (cc)) (λ q. ⊎_elim (λ s. let k = same_eq y x s in let m = (or_parts (ident_eq y x) (has_ident ys x) h).0 in absurd (cc)) (λ m. m) q) (tri tuples y x) in
         subst (λ n. AllMore x (drop n (y ∷ ys))) (sym (first_stops y ys x r e)) (more, more_trans x y ys more r.0)
 
 -- the one at a place is less exactly where more are less than stand in front of it

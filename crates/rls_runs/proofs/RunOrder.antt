@@ -200,9 +200,9 @@ pub sound_at : (fs : List (List Tuple × ℕ)) (r : List Tuple × ℕ) (bs : Lis
 sound_at [] r bs h = and_left (is_run r) (list_all is_run bs) h
 sound_at (q ∷ fs) r bs h = sound_at fs r bs (and_right (is_run q) (list_all is_run (fs ++ r ∷ bs)) h)
 
-first_more : (z : List Tuple) (r : List Tuple × ℕ) (rest : List (List Tuple)) → is_run r ≡ true → AllMore z (run_idents r.0 r.1 ++ rest) → Lt tuples z r.0
-first_more z (x, zero) rest h k = let l = run_some (x, zero) h in absurd (omega arith)
-first_more z (x, suc n) rest h k = k.0
+pub first_more : (z x : List Tuple) (n : ℕ) (rest : List (List Tuple)) → 0 < n → AllMore z (run_idents x n ++ rest) → Lt tuples z x
+first_more z x zero rest h k = absurd (omega arith)
+first_more z x (suc n) rest h k = k.0
 
 -- the identifiers before a run are less than its first one
 pub before_less : (before : Option (List Tuple × ℕ)) (fs : List (List Tuple × ℕ)) (r : List Tuple × ℕ) (bs : List (List Tuple × ℕ)) → are_apart before (fs ++ r ∷ bs) ≡ true → list_all is_run (fs ++ r ∷ bs) ≡ true → AllLess (idents_of fs) r.0
@@ -212,7 +212,7 @@ before_less before ((x, suc m) ∷ fs) r bs h k =
     let a = apart_rest before (x, suc m) (fs ++ r ∷ bs) h in
     let b = sound_head (x, suc m) (fs ++ r ∷ bs) k in
     let all = subst (AllMore (run_last (x, suc m))) (idents_append fs (r ∷ bs)) (idents_more (x, suc m) (fs ++ r ∷ bs) a b.1) in
-    let first = first_more (run_last (x, suc m)) r (idents_of bs) (sound_at fs r bs b.1) (more_right (run_last (x, suc m)) (idents_of fs) (idents_of (r ∷ bs)) all) in
+    let first = first_more (run_last (x, suc m)) r.0 r.1 (idents_of bs) (run_some r (sound_at fs r bs b.1)) (more_right (run_last (x, suc m)) (idents_of fs) (idents_of (r ∷ bs)) all) in
     less_append (run_idents x (suc m)) (idents_of fs) r.0 (run_less x m r.0 b.0 (subst (λ z. Lt tuples z r.0) (last_at x m) first)) (before_less (Some (x, suc m)) fs r bs a b.1)
 
 pub behind_apart : (before : Option (List Tuple × ℕ)) (fs : List (List Tuple × ℕ)) (r : List Tuple × ℕ) (bs : List (List Tuple × ℕ)) → are_apart before (fs ++ r ∷ bs) ≡ true → list_all is_run (fs ++ r ∷ bs) ≡ true → (are_apart (Some r) bs ≡ true) × (list_all is_run bs ≡ true)

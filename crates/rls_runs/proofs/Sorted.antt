@@ -1,5 +1,5 @@
 -- Entries put in one after another rise strictly where their identifiers differ, and a strictly rising list is known by its elements.
-use Rattle.std.proofs.Common.{◌≡◌, ℕ, Bool, true, false, List, [], ◌∷◌, refl, sym, ap, ◌∙◌, subst, inl, inr, ◌⊎◌, ⊎_elim, filter, cond, length, suc, ◌+◌, arith}
+use Rattle.std.proofs.Common.{◌≡◌, ℕ, zero, Bool, true, false, List, [], ◌∷◌, ◌++◌, drop, refl, sym, ap, ◌∙◌, subst, inl, inr, ◌⊎◌, ⊎_elim, filter, cond, length, suc, ◌+◌, arith}
 use Rattle.std.specs.Prelude.{if◌then◌else◌}
 use Rattle.std.specs.Ordering.{is_lt}
 use Rattle.rls_ident.specs.declared.tuple.Tuple.{Tuple}
@@ -87,6 +87,10 @@ pub rises_all : (es xs : List Entry) → Rises xs → AreDistinct es → AllApar
 rises_all [] xs r d a = r
 rises_all (e ∷ es) xs r d a = rises_all es (put e xs) (rises_put e xs r a.0) d.1 (all_put es e xs a.1 d.0)
 
+pub put_all_append : (xs ys zs : List Entry) → put_all (xs ++ ys) zs ≡ put_all ys (put_all xs zs)
+put_all_append [] ys zs = refl
+put_all_append (x ∷ xs) ys zs = put_all_append xs ys (put x zs)
+
 -- ---- elements
 
 pub in_put : (y e : Entry) (xs : List Entry) → IsIn y (put e xs) → (e ≡ y) ⊎ IsIn y xs
@@ -170,6 +174,11 @@ rises_filter t (x ∷ es) h = go (t x) (rises_filter t es h.1)
     go : (b : Bool) → Rises (filter t es) → Rises (cond b (x ∷ filter t es) (filter t es))
     go true k = (above_filter t x es h.0, k)
     go false k = k
+
+pub rises_drop : (n : ℕ) (es : List Entry) → Rises es → Rises (drop n es)
+rises_drop zero es h = h
+rises_drop (suc n) [] h = tt
+rises_drop (suc n) (x ∷ es) h = rises_drop n es h.1
 
 -- ---- entries that differ
 

@@ -14,9 +14,9 @@ use Rattle.rls_ident.proofs.Tuples.{tuples}
 use Rattle.rls_runs.specs.Runs.{run_idents, run_last, idents_of, are_apart, is_increasing}
 use Rattle.rls_runs.specs.Entries.{Entries, idents_in}
 use Rattle.rls_runs.proofs.Finding.{run_length}
-use Rattle.rls_runs.proofs.RunOrder.{AllMore, Rising, of_lt, run_gets, all_idents, rising_of, rising_right, last_rising}
+use Rattle.rls_runs.proofs.RunOrder.{Rising, first_more, of_lt, run_gets, all_idents, rising_of, rising_right, last_rising}
 use Rattle.rls_runs.proofs.RunJoins.{run_longer}
-use Rattle.rls_runs.proofs.Sorted.{Entry, Rises, AreAbove}
+use Rattle.rls_runs.proofs.Sorted.{Entry, Rises, AreAbove, rises_drop}
 use Rattle.rls_doc.proofs.Rising.{rising, increasing}
 use Rattle.rls_tree.specs.Trees.{Piece, ArePieces, piece_entries, entries_of, runs_in}
 use Rattle.rls_tree.specs.Edits.{part_of, inserted, removed, reach_of, located, Shows}
@@ -43,15 +43,11 @@ piece_idents b m = firsts-zip (run_idents b.0.0 b.0.1) b.1 (m ∙ sym (run_lengt
 
 -- ---- order
 
-head_more : (x y : List Tuple) (n : ℕ) (rest : List (List Tuple)) → 0 < n → AllMore x (run_idents y n ++ rest) → Lt tuples x y
-head_more x y zero rest h a = absurd (omega arith)
-head_more x y (suc n) rest h a = a.0
-
 run_order : (x y : List Tuple) (m n : ℕ) (rest : List (List Tuple)) → 0 < m → 0 < n → Rising (run_idents x m ++ (run_idents y n ++ rest)) → Lt tuples (run_last (x, m)) y
 run_order x y zero n rest h k r = absurd (omega arith)
 run_order x y (suc m) n rest h k r =
     let e : m ≡ suc m - 1 = omega arith in
-    subst (λ j. Lt tuples (shifted (pos j) x) y) e (head_more (shifted (pos m) x) y n rest k (last_rising m x (run_idents y n ++ rest) r))
+    subst (λ j. Lt tuples (shifted (pos j) x) y) e (first_more (shifted (pos m) x) y n rest k (last_rising m x (run_idents y n ++ rest) r))
 
 pub idents_append : (xs ys : Entries) → idents_in (xs ++ ys) ≡ idents_in xs ++ idents_in ys
 idents_append xs ys = map-append (λ e. e.0) xs ys
@@ -185,11 +181,6 @@ pub apart_shows : (bs : List Piece) (es : Entries) → ArePieces bs → Shows es
 apart_shows bs es h s r =
     let e : idents_in es ≡ idents_of (runs_in bs) = ap idents_in (sym s.entries_are) ∙ idents_of_pieces bs h in
     apart_of (runs_in bs) (runs_sound bs h) (subst Rising e (rising_of (idents_in es) r)) s.loose
-
-rises_drop : (k : ℕ) (es : Entries) → Rises es → Rises (drop k es)
-rises_drop zero es h = h
-rises_drop (suc k) [] h = tt
-rises_drop (suc k) (x ∷ es) h = rises_drop k es h.1
 
 above_drop : (e : Entry) (k : ℕ) (es : Entries) → AreAbove e es → AreAbove e (drop k es)
 above_drop e zero es h = h

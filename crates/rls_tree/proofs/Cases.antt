@@ -1,18 +1,19 @@
 -- The blocks that each kind of change leaves.
-use Rattle.std.proofs.Common.{◌≡◌, ℕ, zero, suc, ◌+◌, ◌-◌, ◌<◌, ◌≤◌, ◌^◌, true, false, List, [], ◌∷◌, ◌++◌, length, Some, None, refl, sym, ap, ◌∙◌, subst, arith, length-append, append_assoc}
+use Rattle.std.proofs.Common.{◌≡◌, ℕ, suc, ◌+◌, ◌-◌, ◌<◌, ◌≤◌, ◌^◌, true, false, List, [], ◌∷◌, ◌++◌, length, Some, None, refl, sym, ap, ◌∙◌, subst, arith, length-append, append_assoc}
 use Rattle.std.specs.Prelude.{pos, not}
 use Rattle.std.proofs.lemmas.Int.{ints}
 use Rattle.std.proofs.lemmas.List.{append-nil}
 use Rattle.std.proofs.lemmas.Slice.Zip.{length-zip}
 use Rattle.rls_ident.specs.declared.tuple.Tuple.{Tuple}
-use Rattle.rls_ident.specs.Identifiers.{IsIdent, shifted, follows, ident_lt}
-use Rattle.rls_ident.proofs.Lists.{Lt, lt_irrefl, lt_trans}
+use Rattle.rls_ident.specs.Identifiers.{shifted, follows, ident_lt}
+use Rattle.rls_ident.proofs.Lists.{Lt, lt_irrefl}
 use Rattle.rls_ident.proofs.Members.{and_true, not_true}
 use Rattle.rls_ident.proofs.Shifted.{shifted_none, shifted_shifted, shifted_less}
 use Rattle.rls_ident.proofs.Tuples.{tuples}
 use Rattle.rls_runs.specs.Runs.{run_idents, run_last, is_run, are_apart, run_before}
 use Rattle.rls_runs.proofs.Finding.{run_length}
-use Rattle.rls_runs.proofs.RunOrder.{lt_of, less_shifted, run_ident}
+use Rattle.rls_runs.proofs.RunOrder.{lt_of, less_shifted, run_less, run_ident}
+use Rattle.rls_runs.proofs.RunEnds.{behind_last}
 use Rattle.rls_tree.specs.Trees.{Piece, IsPiece, Seen, piece_entries, entries_of, runs_in}
 use Rattle.rls_tree.specs.Edits.{part_of, joined, goes_on, leads_to, are_loose, Shows}
 use Rattle.rls_tree.proofs.Pieces.{entries_append, chars_append, alone}
@@ -35,12 +36,9 @@ middle_entries f g b = three_entries f (b ∷ []) g ∙ ap (λ es. entries_of f 
 pub part_last : (x : List Tuple) (k m : ℕ) → 0 < m → run_last (shifted (pos k) x, m) ≡ shifted (pos (k + (m - 1))) x
 part_last x k m h = shifted_shifted (pos (m - 1)) (pos k) x ∙ ap (λ j. shifted j x) (omega (arith, ints))
 
-pub next_last : (x : List Tuple) (n : ℕ) → 0 < n → shifted (pos 1) (run_last (x, n)) ≡ shifted (pos n) x
-next_last x n h = shifted_shifted (pos 1) (pos (n - 1)) x ∙ ap (λ j. shifted j x) (let e : (n - 1) + 1 ≡ n = omega arith in omega (arith, ints))
-
 -- the second goes on with the first
 pub touch : (r s : List Tuple × ℕ) → 0 < r.1 → follows s.0 (run_last r) ≡ true → s.0 ≡ shifted (pos r.1) r.0
-touch r s h t = follows_is (run_last r) s.0 t ∙ next_last r.0 r.1 h
+touch r s h t = follows_is (run_last r) s.0 t ∙ behind_last r h
 
 pub joined_last : (r s : List Tuple × ℕ) → 0 < r.1 → 0 < s.1 → follows s.0 (run_last r) ≡ true → run_last (r.0, r.1 + s.1) ≡ run_last s
 joined_last r s h k t =
@@ -222,12 +220,8 @@ shown_fits f g new n s m h =
 
 -- ---- the order of a run's ends
 
-pub first_below : (x z : List Tuple) (k : ℕ) → IsIdent x → Lt tuples (shifted (pos k) x) z → Lt tuples x z
-first_below x z zero i h = subst (λ y. Lt tuples y z) (shifted_none x) h
-first_below x z (suc k) i h = lt_trans (subst (λ y. Lt tuples y (shifted (pos (suc k)) x)) (shifted_none x) (shifted_less (pos 0) (pos (suc k)) x i (omega (arith, ints)))) h
-
 pub within_shows : (f g : List Piece) (b n : Piece) (at : ℕ) → is_run b.0 ≡ true → is_run n.0 ≡ true → 0 < at → at < b.0.1 → 0 < n.0.1 → ident_lt (shifted (pos (at - 1)) b.0.0) n.0.0 ≡ true → ident_lt (run_last n.0) (shifted (pos at) b.0.0) ≡ true → are_loose None (runs_in (f ++ (b ∷ []) ++ g)) ≡ true
     → Shows (entries_of f ++ piece_entries (part_of 0 at b) ++ piece_entries n ++ (piece_entries (part_of at (b.0.1 - at) b) ++ entries_of g)) (f ++ (part_of 0 at b ∷ n ∷ part_of at (b.0.1 - at) b ∷ []) ++ g)
 within_shows f g b n at s r h l o above below loose =
-    split_shows b n at s h l o (first_below n.0.0 (shifted (pos at) b.0.0) (n.0.1 - 1) (run_ident n.0 r) (lt_of (run_last n.0) (shifted (pos at) b.0.0) below)) above
+    split_shows b n at s h l o (run_less n.0.0 (n.0.1 - 1) (shifted (pos at) b.0.0) (run_ident n.0 r) (lt_of (run_last n.0) (shifted (pos at) b.0.0) below)).0 above
     (less_shifted (shifted (pos (at - 1)) b.0.0) n.0.0 (n.0.1 - 1) (run_ident n.0 r) (lt_of (shifted (pos (at - 1)) b.0.0) n.0.0 above)) f g loose

@@ -1,7 +1,8 @@
 -- Entries put in where there is a gap for them, and one after another.
 use Rattle.std.proofs.Common.{◌≡◌, ℕ, zero, suc, ◌+◌, ◌-◌, ◌<◌, ◌≤◌, inr, Bool, true, false, List, [], ◌∷◌, ◌++◌, length, take, drop, Some, Ok, Err, slice_get, refl, sym, ap, ◌∙◌, subst, arith, length-drop, append_assoc}
 use Rattle.std.specs.Prelude.{◌||◌, if◌then◌else◌, pos, zip}
-use Rattle.std.proofs.lemmas.List.{take-append-drop, append-nil, drop-take, take_all, length-take-le, length-map, drop-drop}
+use Rattle.std.proofs.lemmas.List.{take-append-drop, append-nil, drop-take, take_all, length-take-le, length-map, drop-drop, take-map, drop-map}
+use Rattle.std.proofs.lemmas.Bool.{or_parts}
 use Rattle.std.proofs.Math.ListN.{drop_of_length-le}
 use Rattle.std.proofs.Math.Seq.{take-append_seam, drop-append_seam}
 use Rattle.rls_ident.specs.declared.tuple.Tuple.{Tuple}
@@ -15,7 +16,7 @@ use Rattle.rls_runs.proofs.RunLists.{place_most}
 use Rattle.rls_runs.proofs.RunPlaces.{found_is, split_at}
 use Rattle.rls_ident.proofs.Shifted.{shifted_none}
 use Rattle.rls_runs.proofs.RunOrder.{AllLess, AllMore, Rising, of_lt, increasing_of, run_rising, run_ident, run_gets, run_some, idents_append as runs_append, rising_left, rising_right, rising_of}
-use Rattle.rls_runs.proofs.Sorted.{Entry}
+use Rattle.rls_runs.proofs.Sorted.{Entry, put_all_append}
 use Rattle.rls_doc.specs.Documents.{AreNew}
 use Rattle.rls_tree.specs.Trees.{Piece, piece_entries}
 use Rattle.rls_tree.specs.Edits.{part_of, inserted, gap_end}
@@ -96,14 +97,10 @@ module _ (xs ids : List (List Tuple)) (i done : ℕ) (first : List Tuple) (risin
 -- ---- entries and their identifiers
 
 pub idents_take : (n : ℕ) (es : Entries) → idents_in (take n es) ≡ take n (idents_in es)
-idents_take zero es = refl
-idents_take (suc n) [] = refl
-idents_take (suc n) (e ∷ es) = ap (λ xs. e.0 ∷ xs) (idents_take n es)
+idents_take n es = sym (take-map (λ e. e.0) n es)
 
 pub idents_drop : (n : ℕ) (es : Entries) → idents_in (drop n es) ≡ drop n (idents_in es)
-idents_drop zero es = refl
-idents_drop (suc n) [] = refl
-idents_drop (suc n) (e ∷ es) = idents_drop n es
+idents_drop n es = sym (drop-map (λ e. e.0) n es)
 
 pub idents_inserted : (i : ℕ) (p es : Entries) → idents_in (inserted i p es) ≡ take i (idents_in es) ++ (idents_in p ++ drop i (idents_in es))
 idents_inserted i p es =
@@ -131,29 +128,21 @@ part_taken b k n m h =
 
 -- ---- entries put in from a place of theirs on
 
-pub put_append : (p q es : Entries) → put_all (p ++ q) es ≡ put_all q (put_all p es)
-put_append [] q es = refl
-put_append (e ∷ p) q es = put_append p q (put e es)
-
 pub parted : (at n : ℕ) (es : Entries) → drop at es ≡ take n (drop at es) ++ drop (at + n) es
 parted at n es = sym (take-append-drop n (drop at es)) ∙ ap (λ zs. take n (drop at es) ++ zs) (drop-drop n at es)
 
 pub put_step : (added cur new all : Entries) (at n : ℕ) → new ≡ put_all (take n (drop at added)) cur → put_all (drop at added) cur ≡ all → put_all (drop (at + n) added) new ≡ all
 put_step added cur new all at n e h =
-    ap (put_all (drop (at + n) added)) e ∙ sym (put_append (take n (drop at added)) (drop (at + n) added) cur) ∙ ap (λ p. put_all p cur) (sym (parted at n added)) ∙ h
+    ap (put_all (drop (at + n) added)) e ∙ sym (put_all_append (take n (drop at added)) (drop (at + n) added) cur) ∙ ap (λ p. put_all p cur) (sym (parted at n added)) ∙ h
 
 -- ---- none of the rest is there yet
 
 has_put : (e : Entry) (es : Entries) (x : List Tuple) → ident_eq e.0 x ≡ false → has_ident (idents_in es) x ≡ false → has_ident (idents_in (put e es)) x ≡ false
 has_put e [] x h k = ap (λ b. b || false) h
-has_put e (y ∷ es) x h k = go (ident_lt y.0 e.0) (has_put e es x h (parts (ident_eq y.0 x) (has_ident (idents_in es) x) k).1)
+has_put e (y ∷ es) x h k = go (ident_lt y.0 e.0) (has_put e es x h (or_parts (ident_eq y.0 x) (has_ident (idents_in es) x) k).1)
   where
-    parts : (b c : Bool) → (b || c) ≡ false → (b ≡ false) × (c ≡ false)
-    parts true c q = absurd (cc)
-    parts false c q = (refl, q)
-
     go : (b : Bool) → has_ident (idents_in (put e es)) x ≡ false → has_ident (idents_in (if b then y ∷ put e es else e ∷ y ∷ es)) x ≡ false
-    go true ih = ap (λ b. b || has_ident (idents_in (put e es)) x) (parts (ident_eq y.0 x) (has_ident (idents_in es) x) k).0 ∙ ih
+    go true ih = ap (λ b. b || has_ident (idents_in (put e es)) x) (or_parts (ident_eq y.0 x) (has_ident (idents_in es) x) k).0 ∙ ih
     go false ih = ap (λ b. b || has_ident (idents_in (y ∷ es)) x) h ∙ k
 
 new_put : (e : Entry) (xs : List (List Tuple)) (es : Entries) → AllMore e.0 xs → AreNew xs (idents_in es) → AreNew xs (idents_in (put e es))
@@ -269,10 +258,6 @@ run_taken rs k at r cs part g h m p =
     zip_take (suc n) [] cs = refl
     zip_take (suc n) (x ∷ xs) [] = refl
     zip_take (suc n) (x ∷ xs) (c ∷ cs) = ap (λ es. (x, c) ∷ es) (zip_take n xs cs)
-
-    nothing : (n : ℕ) → drop {A = Entry} n [] ≡ []
-    nothing zero = refl
-    nothing (suc n) = refl
 
     zip_none : (xs : List (List Tuple)) → zip {X = ℕ} xs [] ≡ []
     zip_none [] = refl

@@ -1,9 +1,10 @@
 -- What is left of blocks where some that stand one behind another go out.
-use Rattle.std.proofs.Common.{◌≡◌, ℕ, suc, ◌+◌, ◌-◌, ◌<◌, ◌≤◌, true, false, List, [], ◌∷◌, ◌++◌, length, take, drop, Option, Some, None, refl, sym, ap, ◌∙◌, subst, ◌⊎◌, ⊎_elim, arith, length-append, append_assoc}
+use Rattle.std.proofs.Common.{◌≡◌, ℕ, suc, ◌+◌, ◌-◌, ◌<◌, ◌≤◌, true, false, List, [], ◌∷◌, ◌++◌, length, take, drop, Option, Some, None, refl, sym, ap, ◌∙◌, subst, ⊎_elim, arith, length-append, append_assoc}
 use Rattle.std.specs.Prelude.{pos, not}
 use Rattle.std.specs.List.{list_all}
 use Rattle.std.proofs.lemmas.Int.{ints}
 use Rattle.std.proofs.lemmas.List.{append-nil, take-append-le}
+use Rattle.std.proofs.Math.Nat.{eq-or-lt_of_le}
 use Rattle.std.proofs.Math.Seq.{take-append_seam, drop-append_seam}
 use Rattle.rls_ident.specs.declared.tuple.Tuple.{Tuple}
 use Rattle.rls_ident.specs.Identifiers.{shifted, follows}
@@ -29,10 +30,7 @@ not_with_part : (b : Piece) (a : ℕ) (z : List Tuple) → is_run b.0 ≡ true �
 not_with_part b a z s h l m = not_true (follows z (run_last (part_of 0 a b).0)) (λ t.
     let e = touch (part_of 0 a b).0 (z, 0) h t ∙ ap (shifted (pos a)) (shifted_none b.0.0) in
     let n : Lt tuples (run_last b.0) (shifted (pos a) b.0.0) = subst (λ y. Lt tuples (run_last b.0) y) e m in
-    ⊎_elim (λ d. lt_irrefl (subst (λ j. Lt tuples (run_last b.0) (shifted (pos j) b.0.0)) d n)) (λ d. lt_irrefl (lt_trans n (shifted_less (pos a) (pos (b.0.1 - 1)) b.0.0 (run_ident b.0 s) (omega (arith, ints))))) (cases a (b.0.1 - 1) (omega arith)))
-  where
-    cases : (i j : ℕ) → i ≤ j → (i ≡ j) ⊎ (i < j)
-    cases i j m = grind arith
+    ⊎_elim (λ d. lt_irrefl (subst (λ j. Lt tuples (run_last b.0) (shifted (pos j) b.0.0)) d n)) (λ d. lt_irrefl (lt_trans n (shifted_less (pos a) (pos (b.0.1 - 1)) b.0.0 (run_ident b.0 s) (omega (arith, ints))))) (eq-or-lt_of_le (let n : a ≤ b.0.1 - 1 = omega arith in n)))
 
 -- nor a later part of a run with what ends in front of the run
 part_not_with : (r : List Tuple × ℕ) (b : Piece) (k : ℕ) → is_run b.0 ≡ true → 0 < k → Lt tuples (run_last r) b.0.0 → follows (shifted (pos k) b.0.0) (run_last r) ≡ false

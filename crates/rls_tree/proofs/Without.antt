@@ -3,24 +3,26 @@ use Rattle.std.proofs.Common.{◌≡◌, ℕ, zero, suc, ◌+◌, ◌-◌, ◌<�
 use Rattle.std.specs.Prelude.{not, filter, ◌||◌}
 use Rattle.std.proofs.lemmas.List.{take-append-drop, append-nil, drop-take, drop-drop}
 use Rattle.std.proofs.lemmas.List.Elements.{filter-append}
+use Rattle.std.proofs.lemmas.List.Sums.{length-filter, count_by-le-length}
 use Rattle.std.proofs.lemmas.List.Folds.{list_any-append}
 use Rattle.std.proofs.Math.ListN.{drop_of_length-le}
 use Rattle.rls_ident.specs.declared.tuple.Tuple.{Tuple}
 use Rattle.rls_ident.specs.Identifiers.{ident_lt, ident_eq}
-use Rattle.rls_ident.proofs.Lists.{Lt, lt_irrefl, tri}
+use Rattle.rls_ident.proofs.Lists.{Lt, tri}
 use Rattle.rls_ident.proofs.Members.{not_true, or_left}
-use Rattle.rls_ident.proofs.Ends.{eq_same, same_eq}
+use Rattle.rls_ident.proofs.Ends.{same_eq}
 use Rattle.rls_ident.proofs.Tuples.{tuples}
 use Rattle.rls_runs.specs.Entries.{Entries, idents_in, has_ident, without_all}
 use Rattle.rls_runs.specs.Runs.{run_idents, idents_of}
 use Rattle.rls_runs.specs.Places.{below_count, find_ident}
-use Rattle.rls_runs.proofs.RunOrder.{AllLess, AllMore, Rising, lt_of, of_lt, rising_right, idents_append as runs_append}
+use Rattle.rls_runs.proofs.RunOrder.{AllLess, Rising, lt_of, of_lt, rising_right, idents_append as runs_append}
 use Rattle.std.proofs.Math.Seq.{take-add}
+use Rattle.rls_runs.proofs.RunPlaces.{tells_less, tells_more}
 use Rattle.rls_runs.proofs.Sorted.{Entry}
 use Rattle.rls_doc.specs.Documents.{AreNew}
 use Rattle.rls_tree.specs.Edits.{removed}
 use Rattle.rls_tree.proofs.AtPlaces.{idents_append}
-use Rattle.rls_runs.proofs.Gaps.{below_take, at_less, at_same, read_err, read_ok, AreBelow, below_from, rising_below, differs, firsts_less, rests_below, left_below, less_drop}
+use Rattle.rls_runs.proofs.Gaps.{below_take, at_less, at_same, read_err, read_ok, AreBelow, below_from, rising_below, firsts_less, rests_below, left_below, less_drop}
 use Rattle.rls_tree.proofs.Puts.{idents_drop, idents_take, parted, headed}
 
 -- ---- lists of identifiers to take out
@@ -55,24 +57,16 @@ without_append xs es fs = filter-append (λ (e : Entry). not (has_ident xs e.0))
 
 -- ---- entries that stay
 
-has_not_more : (xs : List (List Tuple)) (x : List Tuple) → AllMore x xs → has_ident xs x ≡ false
-has_not_more [] x h = refl
-has_not_more (y ∷ xs) x h = ap (λ b. b || has_ident xs x) (not_true (ident_eq y x) (λ e. lt_irrefl (subst (λ z. Lt tuples x z) (eq_same y x e) h.0))) ∙ has_not_more xs x h.1
-
-pub has_not_less : (xs : List (List Tuple)) (x : List Tuple) → AllLess xs x → has_ident xs x ≡ false
-has_not_less [] x h = refl
-has_not_less (y ∷ xs) x h = ap (λ b. b || has_ident xs x) (differs y x h.0) ∙ has_not_less xs x h.1
-
 stays : (xs : List (List Tuple)) (e : Entry) (es : Entries) → has_ident xs e.0 ≡ false → without_all xs es ≡ es → without_all xs (e ∷ es) ≡ e ∷ es
 stays xs e es h k = ap (λ b. cond (not b) (e ∷ without_all xs es) (without_all xs es)) h ∙ ap (λ zs. e ∷ zs) k
 
 pub less_stay : (xs : List (List Tuple)) (es : Entries) → AreBelow (idents_in es) xs → without_all xs es ≡ es
 less_stay xs [] h = refl
-less_stay xs (e ∷ es) h = stays xs e es (has_not_more xs e.0 h.0) (less_stay xs es h.1)
+less_stay xs (e ∷ es) h = stays xs e es (tells_more xs e.0 h.0).0 (less_stay xs es h.1)
 
 pub more_stay : (xs : List (List Tuple)) (es : Entries) → AreBelow xs (idents_in es) → without_all xs es ≡ es
 more_stay xs [] h = refl
-more_stay xs (e ∷ es) h = stays xs e es (has_not_less xs e.0 (firsts_less xs e.0 (idents_in es) h)) (more_stay xs es (rests_below xs e.0 (idents_in es) h))
+more_stay xs (e ∷ es) h = stays xs e es (tells_less xs e.0 (firsts_less xs e.0 (idents_in es) h)).0 (more_stay xs es (rests_below xs e.0 (idents_in es) h))
 
 -- ---- entries that go
 
@@ -197,14 +191,9 @@ taken_more xs rs i at n k r o h e g =
     ∙ sym (runs_append (take k rs) (r ∷ [])) ∙ ap idents_of (ap (λ ys. take k rs ++ ys) (sym one) ∙ sym (take-add k 1 rs))
 
 pub filter_short : {X : Type 0} (t : X → Bool) (xs : List X) → length (filter t xs) ≤ length xs
-filter_short t [] = omega arith
-filter_short t (x ∷ xs) = go (t x) (filter_short t xs)
-  where
-    go : (b : Bool) → length (filter t xs) ≤ length xs → length (cond b (x ∷ filter t xs) (filter t xs)) ≤ length (x ∷ xs)
-    go true h = omega (arith, h)
-    go false h = omega (arith, h)
+filter_short t xs = let n = length-filter t xs in let m = count_by-le-length t xs in omega (arith, n, m)
 
 -- what stands behind others is none of them
 pub below_new : (ys xs : List (List Tuple)) → AreBelow ys xs → AreNew xs ys
 below_new ys [] h = tt
-below_new ys (x ∷ xs) h = (has_not_less ys x (firsts_less ys x xs h), below_new ys xs (rests_below ys x xs h))
+below_new ys (x ∷ xs) h = ((tells_less ys x (firsts_less ys x xs h)).0, below_new ys xs (rests_below ys x xs h))
