@@ -1,5 +1,5 @@
 -- What is read as a journal is a legal history with sound waiting operations, and may be stored again.
-use Rattle.std.proofs.Common.{◌≡◌, ℕ, ◌-◌, true, false, List, [], ◌∷◌, Option, Some, None, refl, subst, inl, inr}
+use Rattle.std.proofs.Common.{◌≡◌, ℕ, true, false, List, [], ◌∷◌, Option, Some, None, refl, subst, inl, inr}
 use Rattle.std.specs.Prelude.{nat_le, nat_lt}
 use Rattle.std.specs.List.{list_all}
 use Rattle.rls_ident.specs.Lists.{IsIn}

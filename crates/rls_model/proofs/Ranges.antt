@@ -15,7 +15,7 @@ use Rattle.rls_runs.specs.Runs.{is_increasing, AreIdents}
 use Rattle.rls_rename.specs.Tree.{has_node, is_kept}
 use Rattle.rls_ops.specs.declared.op.Body.{Body}
 use Rattle.rls_ops.specs.declared.op.Body.TheVariants.{Insert, Delete, Rename, Leave}
-use Rattle.rls_model.specs.History.{Entry, Accepted, Acknowledged, History, Then, count, count_of}
+use Rattle.rls_model.specs.History.{Accepted, Acknowledged, History, Then, count, count_of}
 use Rattle.rls_model.specs.History as history
 use Rattle.rls_model.specs.Epochs.{epochs, nodes_after, greatest}
 use Rattle.rls_model.specs.Document.{export, idents}
@@ -24,7 +24,7 @@ use Rattle.rls_model.specs.Legal.{IsLegal}
 use Rattle.rls_model.proofs.OneTree.{history_ident}
 use Rattle.rls_model.proofs.Distinct.{known}
 use Rattle.rls_runs.proofs.Sorted as sorted
-use Rattle.rls_runs.proofs.Sorted.{Rises, AreAbove}
+use Rattle.rls_runs.proofs.Sorted.{Rises}
 use Rattle.rls_model.proofs.SameOps.{export_rises, in_export, live_char, top_kept}
 
 -- ---- counts

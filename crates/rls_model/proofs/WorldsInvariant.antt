@@ -5,7 +5,7 @@ use Rattle.rls_ident.specs.Lists.{IsIn}
 use Rattle.rls_ident.proofs.Members.{bool_cases, eq_is, eq_not, some_is}
 use Rattle.rls_ops.specs.declared.op.Op.{Op}
 use Rattle.rls_ops.specs.declared.message.Message.{Message}
-use Rattle.rls_model.specs.History.{Entry, Accepted, Acknowledged, History, Then, ops, count, me_of, members_of}
+use Rattle.rls_model.specs.History.{Accepted, Acknowledged, History, Then, ops, count, me_of, members_of}
 use Rattle.rls_model.specs.History as history
 use Rattle.rls_model.specs.Receiving.{State}
 use Rattle.rls_model.specs.Legal.{IsLegal, IsSound}

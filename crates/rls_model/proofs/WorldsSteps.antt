@@ -27,7 +27,6 @@ use Rattle.rls_model.proofs.Stable.{length-count}
 use Rattle.rls_model.proofs.Ranges.{counts_small}
 use Rattle.rls_model.proofs.SameOps.{in_export}
 use Rattle.rls_model.proofs.Made as making
-use Rattle.rls_model.proofs.Made.{foot}
 use Rattle.rls_model.proofs.WorldsLists.{got_below, set_set, set_get, get_set_same}
 use Rattle.rls_model.proofs.WorldsNumbers.{front_self, front_legal, front_members}
 use Rattle.rls_model.proofs.WorldsLines.{AreLiving}

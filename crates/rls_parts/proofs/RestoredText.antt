@@ -1,6 +1,6 @@
 -- The text of the replica that has given parts.
 use Rattle.std.proofs.Common.{◌≡◌, ℕ, zero, suc, ◌+◌, ◌*◌, ◌-◌, ◌^◌, ◌≤◌, ◌&&◌, nat_lt, true, List, [], ◌∷◌, ◌++◌, length, map, refl, sym, ap, ◌∙◌, subst, arith, inl, inr, ⊎_elim, Option, Some, None, if◌then◌else◌, length-append}
-use Rattle.std.specs.Prelude.{ℤ, pos, ◌+ℤ◌, zip}
+use Rattle.std.specs.Prelude.{pos, ◌+ℤ◌, zip}
 use Rattle.std.specs.Int.RustNames.{int_le}
 use Rattle.std.specs.List.{list_all}
 use Rattle.std.proofs.lemmas.Int.{ints}

@@ -13,7 +13,7 @@ use Rattle.rls_model.specs.declared.edit.EditError.{EditError}
 use Rattle.rls_model.specs.declared.edit.EditError.TheVariants as errors
 use Rattle.rls_model.specs.declared.parts.Stem.{Stem}
 use Rattle.rls_model.specs.Document.{idents}
-use Rattle.rls_model.specs.Editing.{first_between, get_before, range_fault, or_fault, size_fault, next_seq, made, op_fault, edit_fault}
+use Rattle.rls_model.specs.Editing.{first_between, get_before, range_fault, or_fault, size_fault, made, op_fault, edit_fault}
 use Rattle.rls_model.specs.Editing as model
 use Rattle.rls_model.specs.Epochs.{greatest}
 use Rattle.rls_model.specs.History.{History, me_of, count, count_of, has_left}

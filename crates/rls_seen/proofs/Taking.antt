@@ -4,7 +4,6 @@ use Rattle.rls_ops.specs.declared.op.Op.{Op}
 use Rattle.rls_ops.specs.declared.message.Message.{Message}
 use Rattle.rls_model.specs.declared.receipt.Taken.{Taken}
 use Rattle.rls_model.specs.Answers.{Reason, Answer, Applies, Repeats, Waits, Refuses, Released}
-use Rattle.rls_model.specs.EditRun as model_edits
 use Rattle.rls_model.specs.Receiving.{State, receive, receive_after, release, release_after}
 use Rattle.rls_model.specs.Taking.{Limit, has_room, one_less, Progress, acknowledge, take_within}
 use Rattle.rls_model.specs.Taking as model

@@ -11,7 +11,6 @@ use Rattle.rls_ident.specs.Identifiers.{IsIdent, ident_cmp, last_of, shifted}
 use Rattle.rls_ident.specs.Lists.{IsIn}
 use Rattle.rls_ident.specs.Tuples.{replica_of, seq_of, offset_of}
 use Rattle.rls_ident.proofs.Members.{bool_cases, true_false, eq_not, in_map, in_filter}
-use Rattle.rls_ident.proofs.Tuples.{tuples}
 use Rattle.rls_ops.specs.Shapes.{is_empty}
 use Rattle.rls_runs.specs.Runs.{AreIdents, run_idents}
 use Rattle.rls_rename.specs.Renaming.{Renaming}
