@@ -112,6 +112,57 @@ fn operations_differ(rt: HostRuntime) -> Result<(), Fail> {
     Ok(())
 }
 
+/// An author's leave with this number.
+fn leave<'a>(author: u32, seq: u32) -> Told<'a> {
+    (author, seq, &[0, 0], ORIGIN, Deed::Leave)
+}
+
+#[test]
+fn operations_come_before_others(rt: HostRuntime) -> Result<(), Fail> {
+    let alloc = rt.alloc();
+    let text: Told<'_> = (1, 1, &[0, 1], OPENED, Deed::Insert(at(0), "ab"));
+    // Two operations, and whether the first comes before the second.
+    let cases: &[(Told<'_>, Told<'_>, bool)] = &[
+        (leave(1, 1), leave(1, 2), true),
+        (leave(1, 2), leave(1, 1), false),
+        (leave(1, 1), leave(1, 1), false),
+        (leave(0, 2), leave(1, 1), true),
+        (leave(1, 1), leave(0, 2), false),
+        (leave(0, u32::MAX), leave(u32::MAX, 0), true),
+        (leave(u32::MAX, 0), leave(0, u32::MAX), false),
+        (leave(1, 1), text, false),
+        (text, leave(1, 1), false),
+    ];
+    for (i, (one, other, expected)) in cases.iter().enumerate() {
+        let (one, other) = (op_of(alloc, *one)?, op_of(alloc, *other)?);
+        assert_eq!(rt; one.precedes(&other), *expected, "case {i}");
+    }
+    Ok(())
+}
+
+#[test]
+fn operations_are_looked_at(rt: HostRuntime) -> Result<(), Fail> {
+    let alloc = rt.alloc();
+    let first = at(0);
+    let cases: &[Told<'_>] = &[
+        (1, 1, &[0, 0], ORIGIN, Deed::Insert(first, "ab")),
+        (1, 2, &[1, 1], OPENED, Deed::Delete(first, 2)),
+        (0, u32::MAX, &[u32::MAX, 0], ORIGIN, Deed::Rename(first, 2)),
+        (0, 1, &[], OPENED, Deed::Leave),
+    ];
+    let mut ops = Ops::new(alloc);
+    ops.fits();
+    for (i, told) in cases.iter().enumerate() {
+        let op = op_of(alloc, *told)?;
+        op.fits();
+        assert!(rt; op.same(&op_of(alloc, *told)?), "case {i}");
+        ops.push(op)?;
+    }
+    ops.fits();
+    assert_eq!(rt; ops.len(), 4);
+    Ok(())
+}
+
 /// How the operation is put among those that wait.
 fn put(alloc: Global, held: &mut Held, told: Told<'_>) -> Result<&'static str, Fail> {
     Ok(match held.put(op_of(alloc, told)?)? {
