@@ -29,8 +29,9 @@ use rls_tree::BlockTree;
 use std::alloc::{AllocError, Global};
 
 impl Replica {
-    // Accepts an operation that fits. After an error the replica is as before, and the operation is given up.
-    pub(crate) fn apply(&mut self, op: Op) -> Result<(), AllocError>
+    // Accepts an operation that fits. After an error the replica is as before, and the operation is given up. The characters of
+    // an insertion are looked for at the place that is told, if one is, before they are searched.
+    pub(crate) fn apply(&mut self, op: Op, near: Option<u64>) -> Result<(), AllocError>
         requires may { MayApply self.old op }
         ensures ok { OnOk result (self.new ≡ accepted self.old op) }
         ensures err { OnErr result (self.new ≡ self.old) }
@@ -43,6 +44,7 @@ impl Replica {
             &mut self.epochs,
             &mut self.log,
             &op,
+            near,
         )?;
         let _held = self.held.remove(op.author, op.seq);
         finish(
@@ -72,6 +74,7 @@ impl Replica {
             &mut self.epochs,
             &mut self.log,
             op,
+            None,
         )?;
         let (author, seq) = (op.author, op.seq);
         let Some(op) = self.held.remove(author, seq) else {
@@ -97,6 +100,7 @@ fn prepare(
     epochs: &mut Epochs,
     log: &mut Log,
     op: &Op,
+    near: Option<u64>,
 ) -> Result<Option<Renaming>, AllocError>
     requires may { MayPrepare epochs.old.epochs (entries_of document.old.blocks) op.now }
     requires author { op.now.author < stems.old.members }
@@ -113,7 +117,7 @@ fn prepare(
 {
     stems.reserve(op.author)?;
     log.reserve()?;
-    change(alloc, document, epochs, op)
+    change(alloc, document, epochs, op, near)
 }
 
 // Changes the text, and makes the renaming of a rename with room for its epoch.
@@ -122,6 +126,7 @@ fn change(
     document: &mut BlockTree,
     epochs: &mut Epochs,
     op: &Op,
+    near: Option<u64>,
 ) -> Result<Option<Renaming>, AllocError>
     requires may { MayPrepare epochs.old.epochs (entries_of document.old.blocks) op.now }
     ensures renaming { IfOk result (λ renaming. renaming ≡ renaming_in op.now op.now.body) }
@@ -132,7 +137,7 @@ fn change(
 {
     match &op.body {
         Body::Insert { first, text } => {
-            insert(document, epochs, op.epoch, first, text)?;
+            insert(document, epochs, op.epoch, first, text, near)?;
             Ok(None)
         }
         Body::Delete { targets } => {
@@ -154,6 +159,7 @@ fn insert(
     epoch: EpochName,
     first: &Ident,
     text: &Text,
+    near: Option<u64>,
 ) -> Result<(), AllocError>
     requires may { MayInsert epochs.now.epochs (entries_of document.old.blocks) epoch first.now text.now }
     ensures ok { OnOk result (entries_of document.new.blocks ≡ put_all (zip (map (translate epochs.now.epochs.nodes epoch (greatest epochs.now.epochs.top epochs.now.epochs.nodes)) (run_idents first.now (length text.now))) text.now) (entries_of document.old.blocks)) }
@@ -161,7 +167,7 @@ fn insert(
 {
     let run = run_of(first, text.len() as u32)?;
     let runs = epochs.translate_run(epoch, epochs.greatest(), &run)?;
-    document.insert_runs(&runs, text)
+    document.insert_near(near, &runs, text)
 }
 
 fn run_of(first: &Ident, len: u32) -> Result<Run, AllocError>

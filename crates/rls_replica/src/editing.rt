@@ -97,7 +97,7 @@ impl Replica {
         fits(edit);
         let op = self.made_exactly(edit)?;
         let seq = op.seq;
-        match self.apply(op) {
+        match self.apply(op, place_of(edit)) {
             Ok(()) => Ok(seq),
             Err(_) => Err(EditError::OutOfMemory),
         }
@@ -212,6 +212,14 @@ impl Replica {
             return Ok(None);
         }
         Ok(Some(self.document.ident_at(at)?))
+    }
+}
+
+// The place to which an insertion goes.
+fn place_of(edit: &Edit) -> Option<u64> {
+    match edit {
+        Edit::Insert { at, .. } => Some(*at),
+        _ => None,
     }
 }
 

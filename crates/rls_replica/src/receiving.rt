@@ -61,7 +61,7 @@ impl Replica {
         op.fits();
         match self.look(&op, own)? {
             Receipt::Applied => {
-                self.apply(op)?;
+                self.apply(op, None)?;
                 Ok(Receipt::Applied)
             }
             Receipt::Held => {

@@ -78,6 +78,12 @@ at_less (z ∷ xs) (suc k) y x r g h =
     let m = at_less xs k y x r.1 g h in
     omega (arith, n, m)
 
+-- what stands up to a place is less than what the one at the place is less than
+pub less_up_to : (xs : List (List Tuple)) (k : ℕ) (y x : List Tuple) → Rising xs → slice_get xs k ≡ Some y → Lt tuples y x → AllLess (take (suc k) xs) x
+less_up_to [] k y x r g h = absurd (cc)
+less_up_to (z ∷ xs) zero y x r g h = (subst (λ w. Lt tuples w x) (sym (some_is z y g)) h, tt)
+less_up_to (z ∷ xs) (suc k) y x r g h = (lt_trans (above_at xs k z y r.0 g) h, less_up_to xs k y x r.1 g h)
+
 pub read_err : (xs : List (List Tuple)) (x : List Tuple) (i : ℕ) → find_ident xs x ≡ Err i → (has_ident xs x ≡ false) × (below_count xs x ≡ i)
 read_err xs x i h = go (has_ident xs x) refl h
   where

@@ -14,12 +14,12 @@ use Rattle.rls_ident.proofs.Tuples.{tuples}
 use Rattle.rls_runs.specs.Runs.{run_idents, run_last, idents_of, are_apart, is_increasing}
 use Rattle.rls_runs.specs.Entries.{Entries, idents_in}
 use Rattle.rls_runs.proofs.Finding.{run_length}
-use Rattle.rls_runs.proofs.RunOrder.{Rising, first_more, of_lt, run_gets, all_idents, rising_of, rising_right, last_rising}
+use Rattle.rls_runs.proofs.RunOrder.{Rising, first_more, of_lt, all_idents, rising_of, rising_right, last_rising}
 use Rattle.rls_runs.proofs.RunJoins.{run_longer}
 use Rattle.rls_runs.proofs.Sorted.{Entry, Rises, AreAbove, rises_drop}
 use Rattle.rls_doc.proofs.Rising.{rising, increasing}
 use Rattle.rls_tree.specs.Trees.{Piece, ArePieces, piece_entries, entries_of, runs_in}
-use Rattle.rls_tree.specs.Edits.{part_of, inserted, removed, reach_of, located, Shows}
+use Rattle.rls_tree.specs.Edits.{part_of, inserted, removed, located, Shows}
 use Rattle.rls_tree.proofs.Pieces.{piece_length, idents_of_pieces, runs_sound}
 use Rattle.rls_tree.proofs.Loose.{apart_of}
 use Rattle.rls_tree.proofs.Changes.{halves, thirds, put_between, taken_out}
@@ -75,26 +75,6 @@ within_order f g b n at m k h l o r =
     let below = run_order n.0.0 y.0.0 n.0.1 (b.0.1 - at) (idents_in g) o (omega arith) (rising_right xs (ns ++ (ys ++ idents_in g)) rising) in
     (of_lt (shifted (pos (at - 1)) b.0.0) n.0.0 (subst (λ z. Lt tuples (shifted (pos (at - 1)) z) n.0.0) (shifted_none b.0.0) above), of_lt (run_last n.0) (shifted (pos at) b.0.0) below)
 
--- ---- reach
-
-pub are_left : (xs ys : List Piece) → ArePieces (xs ++ ys) → ArePieces xs
-are_left [] ys h = tt
-are_left (x ∷ xs) ys h = (h.0, are_left xs ys h.1)
-
-pub reach_behind : (f g : List Piece) (i j : ℕ) → ArePieces f → i ≡ length (entries_of f) + j → reach_of (f ++ g) i ≡ reach_of g j
-reach_behind [] g i j h e = ap (reach_of g) (omega arith)
-reach_behind (b ∷ f) g i j h e =
-    let l = length-append (piece_entries b) (entries_of f) in
-    let p = piece_length b h.0 in
-    let n : nat_lt i (length b.1) ≡ false = not_true (nat_lt i (length b.1)) (λ t. let k = lt_is i (length b.1) t in omega (arith, e, l, p, k)) in
-    ap (λ t. if t then length b.1 - i else reach_of (f ++ g) (i - length b.1)) n ∙ reach_behind f g (i - length b.1) j h.1 (omega (arith, e, l, p))
-
-pub reach_here : (b : Piece) (g : List Piece) (j : ℕ) → j < length b.1 → reach_of (b ∷ g) j ≡ length b.1 - j
-reach_here b g j h = ap (λ t. if t then length b.1 - j else reach_of g (j - length b.1)) (lt_test j (length b.1) h)
-
-pub reach_at : (f g : List Piece) (b : Piece) (i j : ℕ) → ArePieces f → i ≡ length (entries_of f) + j → j < length b.1 → reach_of (f ++ b ∷ g) i ≡ length b.1 - j
-reach_at f g b i j h e l = reach_behind f (b ∷ g) i j h e ∙ reach_here b g j l
-
 -- ---- the entries
 
 pub put_within : (f g : List Piece) (b n : Piece) (at i : ℕ) → length b.1 ≡ b.0.1 → at ≤ b.0.1 → length (entries_of f) + at ≡ i
@@ -120,18 +100,6 @@ taken_within f g b at k i m h e =
     ∙ ap (removed i k) (append_assoc (entries_of f) x (z ++ (y ++ entries_of g)) ∙ ap (λ es. entries_of f ++ (x ++ es)) (sym (append_assoc z y (entries_of g))) ∙ ap (λ es. entries_of f ++ es) (sym (append_assoc x (z ++ y) (entries_of g)))
     ∙ ap (λ es. entries_of f ++ (es ++ entries_of g)) (sym (thirds b at k m h)) ∙ sym (append_assoc (entries_of f) (piece_entries b) (entries_of g)) ∙ sym (middle_entries f g b))
 
-pub reach_front : (f g : List Piece) (i : ℕ) → ArePieces f → i < length (entries_of f) → reach_of (f ++ g) i ≡ reach_of f i
-reach_front [] g i h k = absurd (omega arith)
-reach_front (b ∷ f) g i h k = go (nat_lt i (length b.1)) refl (λ l. reach_front f g (i - length b.1) h.1 l)
-  where
-    go : (t : Bool) → nat_lt i (length b.1) ≡ t → (i - length b.1 < length (entries_of f) → reach_of (f ++ g) (i - length b.1) ≡ reach_of f (i - length b.1)) → reach_of (b ∷ (f ++ g)) i ≡ reach_of (b ∷ f) i
-    go true e ih = ap (λ t. if t then length b.1 - i else reach_of (f ++ g) (i - length b.1)) e ∙ sym (ap (λ t. if t then length b.1 - i else reach_of f (i - length b.1)) e)
-    go false e ih =
-        let l = length-append (piece_entries b) (entries_of f) in
-        let p = piece_length b h.0 in
-        let m = not_lt_is i (length b.1) e in
-        ap (λ t. if t then length b.1 - i else reach_of (f ++ g) (i - length b.1)) e ∙ ih (omega (arith, k, l, p, m)) ∙ sym (ap (λ t. if t then length b.1 - i else reach_of f (i - length b.1)) e)
-
 -- ---- identifiers in one block
 
 pub run_part : (x : List Tuple) (n i k : ℕ) → i + k ≤ n → take k (drop i (run_idents x n)) ≡ run_idents (shifted (pos i) x) k
@@ -145,35 +113,6 @@ run_part x n i k h =
     ∙ ap (take k) (drop-append_seam (run_idents x i) (run_idents (shifted (pos i) x) (k + (n - (i + k)))))
     ∙ ap (take k) (run_longer (shifted (pos i) x) k (n - (i + k))) ∙ ap (λ j. take j (run_idents (shifted (pos i) x) k ++ rest)) (sym m)
     ∙ take-append_seam (run_idents (shifted (pos i) x) k) rest
-
-reach_runs : (bs : List Piece) (i k : ℕ) (x : List Tuple) → ArePieces bs → slice_get (idents_of (runs_in bs)) i ≡ Some x → k ≤ reach_of bs i → take k (drop i (idents_of (runs_in bs))) ≡ run_idents x k
-reach_runs [] i k x h g l = absurd (cc)
-reach_runs (b ∷ bs) i k x h g l = go (nat_lt i (length b.1)) refl l (λ p q. reach_runs bs (i - length b.1) k x h.1 p q)
-  where
-    go : (t : Bool) → nat_lt i (length b.1) ≡ t → k ≤ (if t then length b.1 - i else reach_of bs (i - length b.1)) → (slice_get (idents_of (runs_in bs)) (i - length b.1) ≡ Some x → k ≤ reach_of bs (i - length b.1) → take k (drop (i - length b.1) (idents_of (runs_in bs))) ≡ run_idents x k)
-        → take k (drop i (run_idents b.0.0 b.0.1 ++ idents_of (runs_in bs))) ≡ run_idents x k
-    go true e m ih =
-        let w = lt_is i (length b.1) e in
-        let a = h.0.as_many in
-        let n = run_length b.0.0 b.0.1 in
-        let o = length-drop i (run_idents b.0.0 b.0.1) in
-        let is : shifted (pos i) b.0.0 ≡ x = some_is (shifted (pos i) b.0.0) x (sym (run_gets b.0.0 b.0.1 i (omega (arith, w, a))) ∙ sym (get_left (run_idents b.0.0 b.0.1) (idents_of (runs_in bs)) i (omega (arith, w, a, n))) ∙ g) in
-        ap (take k) (drop-append-le i (run_idents b.0.0 b.0.1) (idents_of (runs_in bs)) (omega (arith, w, a, n)))
-        ∙ take-append-le k (drop i (run_idents b.0.0 b.0.1)) (idents_of (runs_in bs)) (omega (arith, w, a, n, o, m))
-        ∙ run_part b.0.0 b.0.1 i k (omega (arith, w, a, m)) ∙ ap (λ z. run_idents z k) is
-    go false e m ih =
-        let w = not_lt_is i (length b.1) e in
-        let a = h.0.as_many in
-        let n = run_length b.0.0 b.0.1 in
-        let j : i ≡ length (run_idents b.0.0 b.0.1) + (i - length b.1) = omega (arith, w, a, n) in
-        ap (λ z. take k (drop z (run_idents b.0.0 b.0.1 ++ idents_of (runs_in bs)))) j
-        ∙ ap (take k) (drop-append-add (run_idents b.0.0 b.0.1) (idents_of (runs_in bs)) (i - length b.1))
-        ∙ ih (sym (get_right (run_idents b.0.0 b.0.1) (idents_of (runs_in bs)) (i - length b.1)) ∙ ap (slice_get (run_idents b.0.0 b.0.1 ++ idents_of (runs_in bs))) (sym j) ∙ g) m
-
-pub reach_idents : (bs : List Piece) (i k : ℕ) (x : List Tuple) → ArePieces bs → slice_get (idents_in (entries_of bs)) i ≡ Some x → k ≤ reach_of bs i → take k (drop i (idents_in (entries_of bs))) ≡ run_idents x k
-reach_idents bs i k x h g l =
-    let e = idents_of_pieces bs h in
-    ap (λ xs. take k (drop i xs)) e ∙ reach_runs bs i k x h (ap (λ xs. slice_get xs i) (sym e) ∙ g) l
 
 -- ---- what a tree keeps
 
@@ -224,6 +163,30 @@ located_behind (b ∷ f) g i j h e =
 
 pub located_here : (b : Piece) (g : List Piece) (j : ℕ) → j < length b.1 → located (b ∷ g) j ≡ Some (b, j)
 located_here b g j h = ap (λ t. if t then Some (b, j) else located g (j - length b.1)) (lt_test j (length b.1) h)
+
+pub located_none : (bs : List Piece) (i : ℕ) → ArePieces bs → length (entries_of bs) ≤ i → located bs i ≡ None
+located_none [] i h l = refl
+located_none (b ∷ bs) i h l =
+    let a = length-append (piece_entries b) (entries_of bs) in
+    let p = piece_length b h.0 in
+    let n : nat_lt i (length b.1) ≡ false = not_true (nat_lt i (length b.1)) (λ t. let k = lt_is i (length b.1) t in omega (arith, l, a, p, k)) in
+    ap (λ t. if t then Some (b, i) else located bs (i - length b.1)) n ∙ located_none bs (i - length b.1) h.1 (omega (arith, l, a, p))
+
+pub entry_located : (bs : List Piece) (i at : ℕ) (b : Piece) → ArePieces bs → located bs i ≡ Some (b, at) → slice_get (entries_of bs) i ≡ slice_get (piece_entries b) at
+entry_located [] i at b h e = absurd (cc)
+entry_located (c ∷ bs) i at b h e = go (nat_lt i (length c.1)) refl e (λ q. entry_located bs (i - length c.1) at b h.1 q)
+  where
+    go : (t : Bool) → nat_lt i (length c.1) ≡ t → (if t then Some (c, i) else located bs (i - length c.1)) ≡ Some (b, at) → (located bs (i - length c.1) ≡ Some (b, at) → slice_get (entries_of bs) (i - length c.1) ≡ slice_get (piece_entries b) at)
+        → slice_get (piece_entries c ++ entries_of bs) i ≡ slice_get (piece_entries b) at
+    go true t q ih =
+        let w = lt_is i (length c.1) t in
+        let n = piece_length c h.0 in
+        get_left (piece_entries c) (entries_of bs) i (omega (arith, w, n)) ∙ ap (λ (x : Piece × ℕ). slice_get (piece_entries x.0) x.1) (some_is (c, i) (b, at) q)
+    go false t q ih =
+        let w = not_lt_is i (length c.1) t in
+        let n = piece_length c h.0 in
+        let j : i ≡ length (piece_entries c) + (i - length c.1) = omega (arith, w, n) in
+        ap (slice_get (piece_entries c ++ entries_of bs)) j ∙ get_right (piece_entries c) (entries_of bs) (i - length c.1) ∙ ih q
 
 -- characters of the block of a place
 pub part_at : (bs : List Piece) (i at k : ℕ) (b : Piece) → ArePieces bs → located bs i ≡ Some (b, at) → at + k ≤ length b.1 → 0 < k → (take k (drop i (entries_of bs)) ≡ take k (drop at (piece_entries b))) × (i + k ≤ length (entries_of bs))

@@ -200,6 +200,16 @@ own_length b m =
 pub one_length : (b : Piece) → length (entries_of (b ∷ [])) ≡ length (piece_entries b)
 one_length b = ap length (alone_entries b)
 
+pub single_chars : (b : Piece) → IsPiece b.0 b.1 → length (entries_of (b ∷ [])) ≡ length b.1
+single_chars b p = let m = p.as_many in omega (arith, one_length b, own_length b m, m)
+
+pub joined_chars : (a b : Piece) → IsPiece a.0 a.1 → IsPiece b.0 b.1 → length (entries_of (joined a b ∷ [])) ≡ length a.1 + length b.1
+joined_chars a b p q =
+    let m = p.as_many in
+    let n = q.as_many in
+    let l = length-append a.1 b.1 in
+    omega (arith, one_length (joined a b), own_length (joined a b) (omega (arith, l, m, n)), m, n)
+
 -- ---- a node that stands alone, behind a reference
 
 pub lone : (s t : Seen) → t ≡ s → t.blocks ≡ t.left.blocks ++ t.block ∷ t.right.blocks → length s.blocks ≡ 1 → s.blocks ≡ s.block ∷ []

@@ -6,6 +6,8 @@ pub mod Loose
 pub mod Changes
 pub mod Cases
 pub mod AtPlaces
+pub mod Placed
+pub mod Insertions
 pub mod Ranges
 pub mod Puts
 pub mod Without

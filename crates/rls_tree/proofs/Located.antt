@@ -1,36 +1,13 @@
 -- Where a place stands among blocks.
-use Rattle.std.proofs.Common.{map, zip, get_or, Some, ◌≡◌, ℕ, zero, suc, ◌+◌, ◌<◌, List, [], ◌∷◌, ◌++◌, length, slice_get, ap, ◌∙◌, arith}
+use Rattle.std.proofs.Common.{map, zip, get_or, Some, ◌≡◌, ℕ, zero, suc, ◌<◌, List, [], ◌∷◌, length, slice_get, ap, ◌∙◌, arith}
 use Rattle.std.specs.Prelude.{pos}
 use Rattle.rls_ident.specs.declared.tuple.Tuple.{Tuple}
 use Rattle.rls_ident.specs.Identifiers.{shifted}
 use Rattle.rls_runs.specs.Runs.{run_idents}
 use Rattle.rls_runs.proofs.RunOrder.{run_gets}
-use Rattle.rls_tree.specs.Trees.{Piece, IsPiece, piece_entries, entries_of}
-use Rattle.rls_tree.proofs.Pieces.{entries_append, piece_length}
-use Rattle.rls_runs.proofs.RunPlaces.{get_left, get_right}
+use Rattle.rls_tree.specs.Trees.{Piece, IsPiece, piece_entries}
 use Rattle.std.proofs.lemmas.Option.{slice_get-map}
 use Rattle.std.specs.Option.{option_map}
-
--- in front of the block, in it, and behind it
-pub in_front : (l r : List Piece) (b : Piece) (i : ℕ) → i < length (entries_of l) → slice_get (entries_of (l ++ b ∷ r)) i ≡ slice_get (entries_of l) i
-in_front l r b i h = ap (λ es. slice_get es i) (entries_append l (b ∷ r)) ∙ get_left (entries_of l) (entries_of (b ∷ r)) i h
-
-pub in_block : (l r : List Piece) (b : Piece) (i j : ℕ) → IsPiece b.0 b.1 → i ≡ length (entries_of l) + j → j < length b.1 → slice_get (entries_of (l ++ b ∷ r)) i ≡ slice_get (piece_entries b) j
-in_block l r b i j p e h =
-    let n = piece_length b p in
-    ap (λ es. slice_get es i) (entries_append l (b ∷ r))
-    ∙ ap (slice_get (entries_of l ++ entries_of (b ∷ r))) e
-    ∙ get_right (entries_of l) (entries_of (b ∷ r)) j
-    ∙ get_left (piece_entries b) (entries_of r) j (omega (arith, n))
-
-pub behind_block : (l r : List Piece) (b : Piece) (i j : ℕ) → IsPiece b.0 b.1 → i ≡ length (entries_of l) + length b.1 + j → slice_get (entries_of (l ++ b ∷ r)) i ≡ slice_get (entries_of r) j
-behind_block l r b i j p e =
-    let n = piece_length b p in
-    let k : i ≡ length (entries_of l) + (length (piece_entries b) + j) = omega (arith, n, e) in
-    ap (λ es. slice_get es i) (entries_append l (b ∷ r))
-    ∙ ap (slice_get (entries_of l ++ entries_of (b ∷ r))) k
-    ∙ get_right (entries_of l) (entries_of (b ∷ r)) (length (piece_entries b) + j)
-    ∙ get_right (piece_entries b) (entries_of r) j
 
 pub mapped_at : {X Y : Type 0} (f : X → Y) (xs : List X) (i : ℕ) (x : X) → slice_get xs i ≡ Some x → slice_get (map f xs) i ≡ Some (f x)
 mapped_at f xs i x e = slice_get-map f xs i ∙ ap (option_map f) e

@@ -128,12 +128,5 @@ ends_right l r b bs e h =
 pub ends_own : (l r : List Piece) (b : Piece) (bs : List Piece) → bs ≡ l ++ b ∷ r → r ≡ [] → last_run bs ≡ Some b.0
 ends_own l r b bs e h = ap last_run e ∙ ap (λ rs. last_run (l ++ b ∷ rs)) h ∙ last_append l b
 
-pub begins_left : (a : Option (List Tuple × ℕ)) (l r : List Piece) (b : Piece) (bs : List Piece) → bs ≡ l ++ b ∷ r → 0 < length l → leads_to a (runs_in bs) ≡ leads_to a (runs_in l)
-begins_left a [] r b bs e h = absurd (omega arith)
-begins_left a (c ∷ l) r b bs e h = ap (λ cs. leads_to a (runs_in cs)) e
-
-pub begins_own : (a : Option (List Tuple × ℕ)) (l r : List Piece) (b : Piece) (bs : List Piece) → bs ≡ l ++ b ∷ r → l ≡ [] → leads_to a (runs_in bs) ≡ goes_on a b.0.0
-begins_own a l r b bs e h = ap (λ cs. leads_to a (runs_in cs)) e ∙ ap (λ cs. leads_to a (runs_in (cs ++ b ∷ r))) h
-
 pub node_some : (l r : List Piece) (b : Piece) (bs : List Piece) → bs ≡ l ++ b ∷ r → 0 < length bs
 node_some l r b bs e = let m = ap length e in let k = length-append l (b ∷ r) in omega (arith, m, k)

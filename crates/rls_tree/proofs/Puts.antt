@@ -7,21 +7,23 @@ use Rattle.std.proofs.Math.ListN.{drop_of_length-le}
 use Rattle.std.proofs.Math.Seq.{take-append_seam, drop-append_seam}
 use Rattle.rls_ident.specs.declared.tuple.Tuple.{Tuple}
 use Rattle.rls_ident.specs.Identifiers.{ident_lt, ident_eq, shifted}
-use Rattle.rls_runs.specs.Runs.{run_idents, idents_of, is_increasing, is_run, place_of}
+use Rattle.rls_runs.specs.Runs.{run_idents, run_last, idents_of, is_increasing, is_run, place_of}
 use Rattle.rls_runs.specs.Entries.{Entries, idents_in, has_ident, put, put_all}
 use Rattle.rls_runs.specs.Places.{below_count, find_ident}
 use Rattle.rls_runs.proofs.Finding.{run_length}
 use Rattle.rls_runs.proofs.RunEnds.{count_most}
 use Rattle.rls_runs.proofs.RunLists.{place_most}
 use Rattle.rls_runs.proofs.RunPlaces.{found_is, split_at}
+use Rattle.rls_ident.proofs.Lists.{Lt}
+use Rattle.rls_ident.proofs.Tuples.{tuples}
 use Rattle.rls_ident.proofs.Shifted.{shifted_none}
-use Rattle.rls_runs.proofs.RunOrder.{AllLess, AllMore, Rising, of_lt, increasing_of, run_rising, run_ident, run_gets, run_some, idents_append as runs_append, rising_left, rising_right, rising_of}
+use Rattle.rls_runs.proofs.RunOrder.{AllLess, AllMore, Rising, lt_of, of_lt, run_less, last_at, increasing_of, run_rising, run_ident, run_gets, run_some, idents_append as runs_append, rising_left, rising_right, rising_of}
 use Rattle.rls_runs.proofs.Sorted.{Entry, put_all_append}
 use Rattle.rls_doc.specs.Documents.{AreNew}
-use Rattle.rls_tree.specs.Trees.{Piece, piece_entries}
-use Rattle.rls_tree.specs.Edits.{part_of, inserted, gap_end}
+use Rattle.rls_tree.specs.Trees.{Piece, ArePieces, piece_entries, entries_of}
+use Rattle.rls_tree.specs.Edits.{part_of, inserted, gap_end, located}
 use Rattle.rls_tree.proofs.Changes.{thirds}
-use Rattle.rls_tree.proofs.AtPlaces.{part_exact, piece_idents, idents_append}
+use Rattle.rls_tree.proofs.AtPlaces.{part_exact, part_at, piece_idents, idents_append, run_part}
 use Rattle.rls_runs.proofs.Gaps.{lt_false, below_take, more_drop, at_less, read_err, read_ok, AreBelow, below_from, below_none, rising_three, rising_below, differs, firsts_less, rests_below, one_below, left_below, less_drop, rising_drop, rising_take}
 use Rattle.rls_ident.proofs.Loops.{drop_reads}
 use Rattle.std.proofs.lemmas.Option.{slice_get_within}
@@ -125,6 +127,29 @@ part_taken b k n m h =
     let l = part_exact b 0 k m (omega arith) in
     let o = part_exact b k n m h in
     sym (ap (λ es. take n (drop k es)) (thirds b k n m h) ∙ ap (λ j. take n (drop j (x ++ (z ++ y)))) (sym l) ∙ ap (take n) (drop-append_seam x (z ++ y)) ∙ ap (λ j. take j (z ++ y)) (sym o) ∙ take-append_seam z y)
+
+-- identifiers of the block of a place
+pub idents_located : (bs : List Piece) (i at k : ℕ) (b : Piece) → ArePieces bs → located bs i ≡ Some (b, at) → length b.1 ≡ b.0.1 → at + k ≤ b.0.1 → 0 < k → take k (drop i (idents_in (entries_of bs))) ≡ run_idents (shifted (pos at) b.0.0) k
+idents_located bs i at k b h e m l some =
+    let part = part_at bs i at k b h e (omega (arith, m, l)) some in
+    sym (idents_take k (drop i (entries_of bs)) ∙ ap (take k) (idents_drop i (entries_of bs))) ∙ ap idents_in part.0
+    ∙ idents_take k (drop at (piece_entries b)) ∙ ap (take k) (idents_drop at (piece_entries b) ∙ ap (drop at) (piece_idents b m)) ∙ run_part b.0.0 b.0.1 at k l
+
+-- ---- a run between two neighbours
+
+pub run_ends : (xs : List (List Tuple)) (i : ℕ) (x : List Tuple) (r : List Tuple × ℕ) → Rising xs → slice_get xs i ≡ Some x → is_run r ≡ true → ident_lt (run_last r) x ≡ true → AreBelow (run_idents r.0 r.1) (drop i xs)
+run_ends xs i x (y, zero) h g s e = absurd (let m = run_some (y, zero) s in omega (arith, m))
+run_ends xs i x (y, suc n) h g s e =
+    let at = headed i xs x g in
+    let less : AllLess (run_idents y (suc n)) x = run_less y n x (run_ident (y, suc n) s) (subst (λ z. Lt tuples z x) (last_at y n) (lt_of (run_last (y, suc n)) x e)) in
+    subst (AreBelow (run_idents y (suc n))) (sym at) (below_from (run_idents y (suc n)) x (drop (suc i) xs) less (subst Rising at (rising_drop i xs h)).0)
+
+pub run_fits : (xs : List (List Tuple)) (i : ℕ) (r : List Tuple × ℕ) → Rising xs → is_run r ≡ true → AllLess (take i xs) r.0 → AreBelow (run_idents r.0 r.1) (drop i xs) → is_increasing (take i xs ++ (run_idents r.0 r.1 ++ drop i xs)) ≡ true
+run_fits xs i (y, zero) h s f b = absurd (let m = run_some (y, zero) s in omega (arith, m))
+run_fits xs i (y, suc n) h s f b =
+    let own = run_rising y (suc n) (run_ident (y, suc n) s) in
+    let front = below_from (take i xs) y (run_idents (shifted (pos 1) y) n) f own.0 in
+    increasing_of (take i xs ++ (run_idents y (suc n) ++ drop i xs)) (rising_three (take i xs) (run_idents y (suc n)) (drop i xs) (subst Rising (sym (take-append-drop i xs)) h) own front b)
 
 -- ---- entries put in from a place of theirs on
 

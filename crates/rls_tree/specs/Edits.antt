@@ -1,10 +1,12 @@
 -- Changes of blocks.
-use Rattle.std.specs.Prelude.{◌≡◌, ℕ, ◌+◌, ◌-◌, pos, Bool, true, false, not, ◌&&◌, nat_lt, List, [], ◌∷◌, ◌++◌, length, take, drop, Option, Some, None, if◌then◌else◌, IsTrue}
+use Rattle.std.specs.Prelude.{◌≡◌, ℕ, ◌+◌, ◌-◌, pos, Bool, true, false, not, ◌&&◌, nat_eq, nat_lt, List, [], ◌∷◌, ◌++◌, length, take, drop, Option, Some, None, if◌then◌else◌, IsTrue}
 use Rattle.rls_ident.specs.declared.tuple.Tuple.{Tuple}
 use Rattle.rls_ident.specs.Identifiers.{shifted, follows}
 use Rattle.rls_runs.specs.Runs.{run_last}
 use Rattle.rls_runs.specs.Entries.{Entries}
 use Rattle.rls_runs.specs.Places.{below_count}
+use Rattle.rls_tree.specs.declared.side.Side.{Side}
+use Rattle.rls_tree.specs.declared.side.Side.TheVariants.{Front, Behind}
 use Rattle.rls_tree.specs.Trees.{Piece, runs_in, entries_of}
 
 -- so many characters of a block from a place on
@@ -30,11 +32,6 @@ abbrev pub are_loose : Option (List Tuple × ℕ) → List (List Tuple × ℕ) �
 are_loose before [] = true
 are_loose before (r ∷ rs) = not (goes_on before r.0) && are_loose (Some r) rs
 
--- how many characters stand in a block from a place on
-abbrev pub reach_of : List Piece → ℕ → ℕ
-reach_of [] i = 0
-reach_of (b ∷ bs) i = if nat_lt i (length b.1) then length b.1 - i else reach_of bs (i - length b.1)
-
 -- entries put in at a place
 abbrev pub inserted : ℕ → Entries → Entries → Entries
 inserted i added es = take i es ++ added ++ drop i es
@@ -42,6 +39,38 @@ inserted i added es = take i es ++ added ++ drop i es
 -- so many entries taken out from a place on
 abbrev pub removed : ℕ → ℕ → Entries → Entries
 removed i count es = take i es ++ drop (i + count) es
+
+-- the block in which a place stands, and the place within it
+abbrev pub located : List Piece → ℕ → Option (Piece × ℕ)
+located [] i = None
+located (b ∷ bs) i = if nat_lt i (length b.1) then Some (b, i) else located bs (i - length b.1)
+
+-- the block begins at the place, and goes on with the run
+abbrev pub begins_with : Option (Piece × ℕ) → List Tuple × ℕ → Bool
+begins_with None r = false
+begins_with (Some p) r = nat_eq p.1 0 && follows p.0.0.0 (run_last r)
+
+-- the place is the last one of the block, with which the identifier goes on
+abbrev pub ends_with : Option (Piece × ℕ) → List Tuple → Bool
+ends_with None x = false
+ends_with (Some p) x = nat_eq (p.1 + 1) (length p.0.1) && follows x (run_last p.0.0)
+
+-- the run with its characters goes in on this side of a place of a block
+abbrev pub may_put : Side → Piece → Option (Piece × ℕ) → Bool
+may_put Front n p = begins_with p n.0
+may_put Behind n p = true
+
+-- a block with a run and its characters on this side of a place
+abbrev pub put_in : Side → Piece → Piece → ℕ → List Piece
+put_in Front n b at = joined n b ∷ []
+put_in Behind n b at =
+    if nat_lt (at + 1) (length b.1) then part_of 0 (at + 1) b ∷ n ∷ part_of (at + 1) (b.0.1 - (at + 1)) b ∷ []
+    else (if follows n.0.0 (run_last b.0) then joined b n ∷ [] else b ∷ n ∷ [])
+
+-- the same among other blocks
+abbrev pub put_among : Side → Piece → List Piece → ℕ → List Piece
+put_among side n [] i = []
+put_among side n (b ∷ bs) i = if nat_lt i (length b.1) then put_in side n b i ++ bs else b ∷ put_among side n bs (i - length b.1)
 
 -- blocks with these entries, of which none goes on with the one before it
 pub record Shows (es : Entries) (bs : List Piece) : Type 0 where
@@ -52,8 +81,3 @@ pub record Shows (es : Entries) (bs : List Piece) : Type 0 where
 abbrev pub gap_end : List (List Tuple) → List (List Tuple) → ℕ
 gap_end ids [] = length ids
 gap_end ids (x ∷ rest) = below_count ids x
-
--- the block in which a place stands, and the place within it
-abbrev pub located : List Piece → ℕ → Option (Piece × ℕ)
-located [] i = None
-located (b ∷ bs) i = if nat_lt i (length b.1) then Some (b, i) else located bs (i - length b.1)

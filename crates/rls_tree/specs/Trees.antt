@@ -45,35 +45,34 @@ pub record Seen : Type 0 where
   pub block : Piece
   pub right : Tree
 
--- a tree that may be empty
-abbrev pub Link : Type 0
-Link = Option (Box Seen Global)
+-- a node, or none
+abbrev pub MaybeNode : Type 0
+MaybeNode = Option (Box Seen Global)
 
-abbrev pub pieces : Link → List Piece
+-- its blocks
+abbrev pub pieces : MaybeNode → List Piece
 pieces None = []
 pieces (Some b) = b.value.blocks
 
-abbrev pub levels : Link → ℕ
+abbrev pub levels : MaybeNode → ℕ
 levels None = 0
 levels (Some b) = b.value.height
-
--- the tree
-abbrev pub tree_of : Link → Tree
-tree_of link = record { blocks = pieces link; height = levels link }
 
 -- a tree of n blocks is not higher than h
 abbrev pub IsLow : ℕ → ℕ → Type 0
 IsLow h n = 2 ^ h ≤ (n + 1) * (n + 1)
 
 -- the numbers of a node are right, and its sides differ by one level at most
-pub record IsSound (left right : Link) (own : Piece) (sum count high : ℕ) : Type 0 where
+pub record IsSound (left right : Tree) (own : Piece) (front end sum count high : ℕ) : Type 0 where
   pub own_is : IsPiece own.0 own.1
-  pub left_are : ArePieces (pieces left)
-  pub right_are : ArePieces (pieces right)
-  pub sum_is : sum ≡ length (entries_of (pieces left)) + length own.1 + length (entries_of (pieces right))
-  pub count_is : count ≡ length (pieces left) + length (pieces right) + 1
+  pub left_are : ArePieces left.blocks
+  pub right_are : ArePieces right.blocks
+  pub front_is : front ≡ length (entries_of left.blocks)
+  pub end_is : end ≡ front + length own.1
+  pub sum_is : sum ≡ end + length (entries_of right.blocks)
+  pub count_is : count ≡ length left.blocks + length right.blocks + 1
   pub count_most : count ≤ sum
-  pub height_is : high ≡ max (levels left) (levels right) + 1
-  pub left_not_higher : levels left ≤ levels right + 1
-  pub right_not_higher : levels right ≤ levels left + 1
+  pub height_is : high ≡ max left.height right.height + 1
+  pub left_not_higher : left.height ≤ right.height + 1
+  pub right_not_higher : right.height ≤ left.height + 1
   pub low : IsLow high count

@@ -1,6 +1,6 @@
 //! The block tree as a document.
 
-ghost use Rattle.std.specs.Prelude.{◌≡◌, true, ◌+◌, ◌-◌, ◌<◌, ◌≤◌, ◌^◌, ◌++◌, length, take, drop, zip, slice_get, Some, IfOk, IfSome, OnOk, IsTrue};
+ghost use Rattle.std.specs.Prelude.{◌≡◌, true, ◌+◌, ◌-◌, ◌<◌, ◌≤◌, ◌^◌, ◌++◌, length, take, drop, zip, slice_get, Some, IfOk, IfSome, OnOk, OnErr, IsTrue};
 ghost use Rattle.std.specs.List.{list_all};
 ghost use Rattle.rls_ident.specs.Identifiers.{is_ident};
 ghost use Rattle.rls_runs.specs.Runs.{run_idents, runs_of, idents_of, is_increasing, place_of};
@@ -46,24 +46,9 @@ impl Document for BlockTree {
         self.place(id)
     }
 
-    /// One run that goes between two neighbours costs a step for each level and its own characters; where
-    /// it goes into the middle of a run, also those in front of it there or those behind it, whichever are
-    /// fewer. At the end or at the front of a run that it goes on with it moves none of that run's
-    /// characters; where it joins two runs, those of the shorter one. Other runs are put in one after
-    /// another, in a copy.
+    /// One run that goes between two neighbours costs a comparison of identifiers for each level, and else as `insert_near`.
     fn insert_runs(&mut self, runs: &RunList, text: &Text) -> Result<(), AllocError> {
-        if runs.len() == 1 {
-            let run = runs.get(0);
-            if let Some(i) = self.gap_for(run)? {
-                let own = run.copy()?;
-                let chars = text.copy()?;
-                return self.insert_piece(i, own, chars);
-            }
-        }
-        let mut fresh = self.copy()?;
-        fresh.insert_all(runs.as_slice(), text)?;
-        *self = fresh;
-        Ok(())
+        self.insert_near(None, runs, text)
     }
 
     /// Targets that stand in the tree one right behind another cost a comparison of identifiers for each level,
@@ -108,6 +93,45 @@ impl Document for BlockTree {
 }
 
 impl BlockTree {
+    /// Does what `insert_runs` does. Where all the characters go to the place that is told, if one is, it doesn't search for it.
+    ///
+    /// One run that goes between two neighbours costs a step for each level and its own characters; where
+    /// it goes into the middle of a run, also those in front of it there or those behind it, whichever are
+    /// fewer. At the end or at the front of a run that it goes on with it moves none of that run's
+    /// characters; where it joins two runs, those of the shorter one. Other runs are put in one after
+    /// another, in a copy.
+    ///
+    /// # Errors
+    ///
+    /// `AllocError` where it finds no memory. The tree is as before then.
+    pub fn insert_near(
+        &mut self,
+        near: Option<u64>,
+        runs: &RunList,
+        text: &Text,
+    ) -> Result<(), AllocError>
+        requires rises { IsTrue (is_increasing (idents_of runs.now)) }
+        requires as_many { length (idents_of runs.now) ≡ length text.now }
+        requires some { 0 < length text.now }
+        requires new { AreNew (idents_of runs.now) (idents_in (entries_of self.old.blocks)) }
+        requires room { length (entries_of self.old.blocks) + length text.now < 2 ^ 64 }
+        ensures ok { OnOk result (entries_of self.new.blocks ≡ put_all (zip (idents_of runs.now) text.now) (entries_of self.old.blocks)) }
+        ensures err { OnErr result (entries_of self.new.blocks ≡ entries_of self.old.blocks) }
+    {
+        if runs.len() == 1 {
+            let run = runs.get(0);
+            if let Some(i) = self.gap_near(near, run)? {
+                let own = run.copy()?;
+                let chars = text.copy()?;
+                return self.insert_piece(i, own, chars);
+            }
+        }
+        let mut fresh = self.copy()?;
+        fresh.insert_all(runs.as_slice(), text)?;
+        *self = fresh;
+        Ok(())
+    }
+
     // The place from which on the targets stand one right behind another, if they do. It costs a comparison of
     // identifiers for each level, and a step for each level and each run.
     fn range_of(&self, targets: &Runs) -> Result<Option<u64>, AllocError>

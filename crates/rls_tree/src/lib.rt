@@ -8,7 +8,9 @@ mod cut;
 mod document;
 mod insert;
 mod node;
+mod put;
 mod remove;
+mod side;
 mod split;
 mod tree;
 

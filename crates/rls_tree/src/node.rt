@@ -7,7 +7,7 @@ ghost use Rattle.rls_runs.specs.Entries.{chars_in};
 ghost use Rattle.rls_runs.specs.Places.{find_ident};
 ghost use Rattle.rls_runs.proofs.RunOrder.{Rising};
 ghost use Rattle.rls_tree.specs.Trees.{runs_in, IsLow, IsPiece, ArePieces, Tree, piece_entries, entries_of, pieces, levels};
-ghost use Rattle.rls_tree.specs.Edits.{joined, part_of, reach_of, located};
+ghost use Rattle.rls_tree.specs.Edits.{joined, part_of, located, begins_with, ends_with};
 
 use crate::block::Block;
 use rls_ident::Ident;
@@ -17,34 +17,228 @@ use std::marker::Model;
 use std::mem;
 
 /// A tree that may be empty.
-pub type Link = Option<Box<Node>>;
+#[cycle(tree)]
+#[derive(Drop)]
+pub struct Link {
+    node: Option<Box<Node>>,
+}
 
-/// A block between two trees, whose heights differ by at most one.
+impl Model for Link {
+    ghost use Rattle.std.specs.Prelude.{◌+◌, length};
+    ghost use Rattle.rls_tree.specs.Trees.{Tree, pieces, levels};
+
+    ghost Value = { Tree };
+
+    ghost view = { λ l. record { blocks = pieces l.node; height = levels l.node } };
+
+    ghost size = { λ t. length t.blocks + length t.blocks + 1 };
+
+    ghost use Rattle.std.proofs.Common.{arith};
+
+    ghost size_decreases = { λ a h. Prim.grind (arith) };
+}
+
+/// What a node tells of its tree: the places from which and to which its block's characters stand, the number of all characters
+/// and of all blocks, and the levels.
+#[derive(Clone, Copy)]
+pub(crate) struct Sums {
+    pub(crate) front: u64,
+    pub(crate) end: u64,
+    pub(crate) chars: u64,
+    pub(crate) blocks: u64,
+    pub(crate) height: u32,
+}
+
+/// A block between two trees, whose heights differ by at most one. It has the places of its own characters, so that a descent to
+/// a place reads nothing but its path.
+#[cycle(tree)]
 #[derive(Drop)]
 pub struct Node {
-    block: Block,
     left: Link,
     right: Link,
+    front: u64,
+    end: u64,
     chars: u64,
     blocks: u64,
     height: u32,
+    block: Block,
 }
 
 impl Model for Node {
-    ghost use Rattle.std.specs.Prelude.{◌++◌, ◌∷◌, length};
-    ghost use Rattle.rls_tree.specs.Trees.{Seen, IsSound, pieces, tree_of};
+    ghost use Rattle.std.specs.Prelude.{◌+◌, ◌++◌, ◌∷◌, length};
+    ghost use Rattle.rls_tree.specs.Trees.{Seen, IsSound};
 
     ghost Value = { Seen };
 
-    ghost view = { λ n. record { blocks = pieces n.left ++ n.block ∷ pieces n.right; height = n.height; left = tree_of n.left; block = n.block; right = tree_of n.right } };
+    ghost view = { λ n. record { blocks = n.left.blocks ++ n.block ∷ n.right.blocks; height = n.height; left = n.left; block = n.block; right = n.right } };
 
-    ghost invariant = { λ n. IsSound n.left n.right n.block n.chars n.blocks n.height };
+    ghost invariant = { λ n. IsSound n.left n.right n.block n.front n.end n.chars n.blocks n.height };
 
-    ghost size = { λ s. length s.blocks };
+    ghost size = { λ s. length s.blocks + length s.blocks };
 
     ghost use Rattle.std.proofs.Common.{arith, length-append};
 
     ghost size_decreases = { λ a h. Prim.grind (arith, length-append) };
+}
+
+impl Link {
+    /// The empty tree. It takes no memory.
+    pub(crate) fn empty() -> Link
+        ensures empty { result ≡ record { blocks = []; height = 0 } }
+    {
+        Link { node: None }
+    }
+
+    /// The tree of a node.
+    pub(crate) fn to(node: Box<Node>) -> Link
+        ensures blocks { result.blocks ≡ node.value.blocks }
+        ensures height { result.height ≡ node.value.height }
+    {
+        Link { node: Some(node) }
+    }
+
+    /// Its topmost block alone, between both its sides, if it isn't empty.
+    pub(crate) fn open(self) -> Option<(Link, Box<Node>, Link)>
+        ensures blocks { IfSome result (λ parts. self.blocks ≡ parts.0.blocks ++ parts.1.value.blocks ++ parts.2.blocks) }
+        ensures one { IfSome result (λ parts. length parts.1.value.blocks ≡ 1) }
+        ensures chars_fit { length (entries_of self.blocks) < 2 ^ 64 }
+        ensures height { IfSome result (λ parts. self.height ≡ max parts.0.height parts.2.height + 1) }
+        ensures left_not_higher { IfSome result (λ parts. parts.0.height ≤ parts.2.height + 1) }
+        ensures right_not_higher { IfSome result (λ parts. parts.2.height ≤ parts.0.height + 1) }
+        ensures empty { IfNone result (self ≡ record { blocks = []; height = 0 }) }
+    {
+        let _chars = self.chars();
+        let mut node = self.node?;
+        let (left, right) = node.take_sides();
+        Some((left, node, right))
+    }
+
+    /// The same, with the sums that the node had.
+    pub(crate) fn open_summed(self) -> Option<(Sums, Link, Box<Node>, Link)>
+        ensures blocks { IfSome result (λ parts. self.blocks ≡ parts.1.blocks ++ parts.2.value.blocks ++ parts.3.blocks) }
+        ensures one { IfSome result (λ parts. length parts.2.value.blocks ≡ 1) }
+        ensures chars_fit { length (entries_of self.blocks) < 2 ^ 64 }
+        ensures height { IfSome result (λ parts. self.height ≡ max parts.1.height parts.3.height + 1) }
+        ensures left_not_higher { IfSome result (λ parts. parts.1.height ≤ parts.3.height + 1) }
+        ensures right_not_higher { IfSome result (λ parts. parts.3.height ≤ parts.1.height + 1) }
+        ensures front_sum { IfSome result (λ parts. parts.0.front ≡ length (entries_of parts.1.blocks)) }
+        ensures end_sum { IfSome result (λ parts. parts.0.end ≡ parts.0.front + length (entries_of parts.2.value.blocks)) }
+        ensures chars_sum { IfSome result (λ parts. parts.0.chars ≡ length (entries_of self.blocks)) }
+        ensures blocks_sum { IfSome result (λ parts. parts.0.blocks ≡ length self.blocks) }
+        ensures height_sum { IfSome result (λ parts. parts.0.height ≡ self.height) }
+        ensures empty { IfNone result (self ≡ record { blocks = []; height = 0 }) }
+    {
+        let _chars = self.chars();
+        let mut node = self.node?;
+        let _blocks = node.blocks();
+        let sums = node.sums();
+        let (left, right) = node.take_sides();
+        Some((sums, left, node, right))
+    }
+
+    /// The topmost node, if there is one.
+    pub(crate) fn node(&self) -> Option<&Node>
+        ensures blocks { IfSome result (λ node. node.now.blocks ≡ self.now.blocks) }
+        ensures height { IfSome result (λ node. node.now.height ≡ self.now.height) }
+        ensures empty { IfNone result (self.now ≡ record { blocks = []; height = 0 }) }
+    {
+        match &self.node {
+            None => None,
+            Some(node) => Some(&**node),
+        }
+    }
+
+    /// How many levels it has.
+    pub(crate) fn height(&self) -> u32
+        ensures height { result ≡ self.now.height }
+        ensures low { IsLow self.now.height (length self.now.blocks) }
+        ensures small { result ≤ 128 }
+    {
+        match &self.node {
+            None => 0,
+            Some(node) => node.height(),
+        }
+    }
+
+    /// How many characters it has.
+    pub(crate) fn chars(&self) -> u64
+        ensures chars { result ≡ length (entries_of self.now.blocks) }
+        ensures most { length self.now.blocks ≤ result }
+        ensures pieces { ArePieces self.now.blocks }
+    {
+        match &self.node {
+            None => 0,
+            Some(node) => node.chars(),
+        }
+    }
+
+    /// How many blocks it has.
+    pub(crate) fn blocks(&self) -> u64
+        ensures blocks { result ≡ length self.now.blocks }
+    {
+        match &self.node {
+            None => 0,
+            Some(node) => node.blocks(),
+        }
+    }
+
+    /// The block in which a place stands, and the place within the block. It costs a step for each level.
+    pub(crate) fn locate(&self, i: u64) -> (&Block, u32)
+        requires place { i < length (entries_of self.now.blocks) }
+        ensures within { result.1 < length result.0.now.1 }
+        ensures located { located self.now.blocks i ≡ Some (result.0.now, result.1) }
+    {
+        let Some(node) = self.node() else {
+            unreachable!()
+        };
+        node.locate(i)
+    }
+
+    /// Whether a block begins at a place, and goes on with the run. It costs a step for each level.
+    pub(crate) fn begins_with(&self, i: u64, run: &Run) -> bool
+        requires place { i ≤ length (entries_of self.now.blocks) }
+        ensures begins { result ≡ begins_with (located self.now.blocks i) run.now }
+        ensures within { IsTrue result → i < length (entries_of self.now.blocks) }
+    {
+        if i == self.chars() {
+            return false;
+        }
+        let (block, at) = self.locate(i);
+        at == 0 && run.touches(block.run().first())
+    }
+
+    /// Whether a place is the last one of its block, and the identifier goes on with that. It costs a step for each level.
+    pub(crate) fn ends_with(&self, i: u64, first: &Ident) -> bool
+        requires place { i < length (entries_of self.now.blocks) }
+        ensures ends { result ≡ ends_with (located self.now.blocks i) first.now }
+    {
+        let (block, at) = self.locate(i);
+        let len = block.len();
+        at + 1 == len && block.run().touches(first)
+    }
+
+    /// Puts the characters behind those of a text.
+    #[cycle(push_text)]
+    pub(crate) fn push_text(&self, text: &mut Text) -> Result<(), AllocError>
+        ensures ok { OnOk result (text.new ≡ text.old ++ chars_in (entries_of self.now.blocks)) }
+    {
+        match self.node() {
+            None => Ok(()),
+            Some(node) => node.push_text(text),
+        }
+    }
+
+    /// The same again. It costs the number of characters and of blocks.
+    #[cycle(copy)]
+    pub(crate) fn copy(&self, alloc: Global) -> Result<Link, AllocError>
+        ensures blocks { IfOk result (λ copy. copy.blocks ≡ self.now.blocks) }
+        ensures height { IfOk result (λ copy. copy.height ≡ self.now.height) }
+    {
+        match self.node() {
+            None => Ok(Link::empty()),
+            Some(node) => Ok(Link::to(node.copy(alloc)?)),
+        }
+    }
 }
 
 impl Node {
@@ -53,11 +247,14 @@ impl Node {
         ensures blocks { result.blocks ≡ block ∷ [] }
         ensures height { result.height ≡ 1 }
     {
+        let len = block.len() as u64;
         Node {
-            chars: block.len() as u64,
+            front: 0,
+            end: len,
+            chars: len,
             block,
-            left: None,
-            right: None,
+            left: Link::empty(),
+            right: Link::empty(),
             blocks: 1,
             height: 1,
         }
@@ -116,10 +313,7 @@ impl Node {
         ensures height { IfSome result (λ node. node.now.height ≡ self.now.left.height) }
         ensures empty { IfNone result (self.now.left ≡ record { blocks = []; height = 0 }) }
     {
-        match &self.left {
-            None => None,
-            Some(node) => Some(&**node),
-        }
+        self.left.node()
     }
 
     /// The tree behind its block, if it isn't empty.
@@ -128,36 +322,30 @@ impl Node {
         ensures height { IfSome result (λ node. node.now.height ≡ self.now.right.height) }
         ensures empty { IfNone result (self.now.right ≡ record { blocks = []; height = 0 }) }
     {
-        match &self.right {
-            None => None,
-            Some(node) => Some(&**node),
-        }
+        self.right.node()
     }
 
-    // The block in which a place stands, and the place within the block. It costs a step for each level.
-    pub(crate) fn locate(&self, i: u64) -> (&Block, u32)
+    // The block in which a place stands, and the place within the block.
+    fn locate(&self, i: u64) -> (&Block, u32)
         requires place { i < length (entries_of self.now.blocks) }
         ensures within { result.1 < length result.0.now.1 }
-        ensures entry { slice_get (entries_of self.now.blocks) i ≡ slice_get (piece_entries result.0.now) result.1 }
-        ensures reach { reach_of self.now.blocks i ≡ length result.0.now.1 - result.1 }
         ensures located { located self.now.blocks i ≡ Some (result.0.now, result.1) }
     {
         let _chars = self.chars;
-        let front = chars_of(&self.left);
-        let end = front + self.block.len() as u64;
-        if i < front {
-            let Some(left) = &self.left else {
+        if i < self.front {
+            let Some(left) = self.left.node() else {
                 unreachable!()
             };
             return left.locate(i);
         }
-        if i < end {
-            return (&self.block, (i - front) as u32);
+        if i < self.end {
+            let _len = self.block.len();
+            return (&self.block, (i - self.front) as u32);
         }
-        let Some(right) = &self.right else {
+        let Some(right) = self.right.node() else {
             unreachable!()
         };
-        right.locate(i - end)
+        right.locate(i - self.end)
     }
 
     // The place of an identifier, or where it isn't there the number of identifiers less than it. It
@@ -167,27 +355,25 @@ impl Node {
         ensures find { result ≡ find_ident (idents_of (runs_in self.now.blocks)) id.now }
     {
         let _chars = self.chars;
-        let front = chars_of(&self.left);
-        let end = front + self.block.len() as u64;
         let below = match self.block.run().find(id) {
-            Ok(place) => return Ok(front + place as u64),
+            Ok(place) => return Ok(self.front + place as u64),
             Err(below) => below,
         };
         if below == 0 {
-            let Some(left) = &self.left else {
+            let Some(left) = self.left.node() else {
                 return Err(0);
             };
             return left.find(id);
         }
         if below < self.block.len() {
-            return Err(front + below as u64);
+            return Err(self.front + below as u64);
         }
-        let Some(right) = &self.right else {
-            return Err(end);
+        let Some(right) = self.right.node() else {
+            return Err(self.end);
         };
         match right.find(id) {
-            Ok(place) => Ok(end + place),
-            Err(below) => Err(end + below),
+            Ok(place) => Ok(self.end + place),
+            Err(below) => Err(self.end + below),
         }
     }
 
@@ -196,9 +382,9 @@ impl Node {
     pub(crate) fn push_text(&self, text: &mut Text) -> Result<(), AllocError>
         ensures ok { OnOk result (text.new ≡ text.old ++ chars_in (entries_of self.now.blocks)) }
     {
-        push_text_of(&self.left, text)?;
+        self.left.push_text(text)?;
         text.append(self.block.text().copy()?)?;
-        push_text_of(&self.right, text)?;
+        self.right.push_text(text)?;
         Ok(())
     }
 
@@ -209,26 +395,48 @@ impl Node {
         ensures height { IfOk result (λ copy. copy.value.height ≡ self.now.height) }
     {
         let _chars = self.chars;
-        let left = copy_link(alloc, &self.left)?;
-        let right = copy_link(alloc, &self.right)?;
+        let left = self.left.copy(alloc)?;
+        let right = self.right.copy(alloc)?;
         let mut node = Box::new(alloc, Node::leaf(self.block.copy()?))?;
         node.put_sides(left, right);
         Ok(node)
     }
 
+    // What it tells of its tree.
+    fn sums(&self) -> Sums
+        ensures front { result.front ≡ length (entries_of self.now.left.blocks) }
+        ensures end { result.end ≡ result.front + length self.now.block.1 }
+        ensures chars { result.chars ≡ length (entries_of self.now.blocks) }
+        ensures blocks { result.blocks ≡ length self.now.blocks }
+        ensures height { result.height ≡ self.now.height }
+    {
+        Sums {
+            front: self.front,
+            end: self.end,
+            chars: self.chars(),
+            blocks: self.blocks(),
+            height: self.height,
+        }
+    }
+
     // Keeps the block alone, and answers both sides.
     pub(crate) fn take_sides(&mut self) -> (Link, Link)
-        ensures blocks { self.old.blocks ≡ pieces result.0 ++ self.new.blocks ++ pieces result.1 }
+        ensures left { result.0.blocks ≡ self.old.left.blocks }
+        ensures own { length (entries_of self.new.blocks) ≡ length self.old.block.1 }
+        ensures blocks { self.old.blocks ≡ result.0.blocks ++ self.new.blocks ++ result.1.blocks }
         ensures one { length self.new.blocks ≡ 1 }
         ensures chars_fit { length (entries_of self.old.blocks) < 2 ^ 64 }
         ensures low { self.new.height ≡ 1 }
-        ensures height { self.old.height ≡ max (levels result.0) (levels result.1) + 1 }
-        ensures left_not_higher { levels result.0 ≤ levels result.1 + 1 }
-        ensures right_not_higher { levels result.1 ≤ levels result.0 + 1 }
+        ensures height { self.old.height ≡ max result.0.height result.1.height + 1 }
+        ensures left_not_higher { result.0.height ≤ result.1.height + 1 }
+        ensures right_not_higher { result.1.height ≤ result.0.height + 1 }
     {
-        let left = mem::replace(&mut self.left, None);
-        let right = mem::replace(&mut self.right, None);
-        self.chars = self.block.len() as u64;
+        let left = mem::replace(&mut self.left, Link::empty());
+        let right = mem::replace(&mut self.right, Link::empty());
+        let len = self.block.len() as u64;
+        self.front = 0;
+        self.end = len;
+        self.chars = len;
         self.blocks = 1;
         self.height = 1;
         (left, right)
@@ -243,7 +451,9 @@ impl Node {
         ensures err { OnErr result (self.new.blocks ≡ self.old.blocks) }
     {
         let done = self.block.extend(run, text);
-        self.chars = self.block.len() as u64;
+        let len = self.block.len() as u64;
+        self.end = len;
+        self.chars = len;
         done
     }
 
@@ -256,7 +466,9 @@ impl Node {
         ensures err { OnErr result (self.new.blocks ≡ self.old.blocks) }
     {
         let done = self.block.extend_front(run, text);
-        self.chars = self.block.len() as u64;
+        let len = self.block.len() as u64;
+        self.end = len;
+        self.chars = len;
         done
     }
 
@@ -269,7 +481,9 @@ impl Node {
         ensures err { OnErr result (self.new.blocks ≡ self.old.blocks) }
     {
         let done = self.block.keep_front(at);
-        self.chars = self.block.len() as u64;
+        let len = self.block.len() as u64;
+        self.end = len;
+        self.chars = len;
         done
     }
 
@@ -282,7 +496,9 @@ impl Node {
         ensures front { self.new.blocks ≡ part_of 0 front.1 self.old.block ∷ [] }
     {
         self.block.shorten(front);
-        self.chars = self.block.len() as u64;
+        let len = self.block.len() as u64;
+        self.end = len;
+        self.chars = len;
     }
 
     // A block that stands alone keeps its characters from a place on.
@@ -293,7 +509,9 @@ impl Node {
         ensures err { OnErr result (self.new.blocks ≡ self.old.blocks) }
     {
         let done = self.block.keep_back(from);
-        self.chars = self.block.len() as u64;
+        let len = self.block.len() as u64;
+        self.end = len;
+        self.chars = len;
         done
     }
 
@@ -309,73 +527,43 @@ impl Node {
     // Puts trees on both sides of a block that stands alone.
     pub(crate) fn put_sides(&mut self, left: Link, right: Link)
         requires one { length self.old.blocks ≡ 1 }
-        requires chars_fit { length (entries_of (pieces left)) + length (entries_of self.old.blocks) + length (entries_of (pieces right)) < 2 ^ 64 }
-        requires left_not_higher { levels left ≤ levels right + 1 }
-        requires right_not_higher { levels right ≤ levels left + 1 }
-        ensures blocks { self.new.blocks ≡ pieces left ++ self.old.blocks ++ pieces right }
-        ensures height { self.new.height ≡ max (levels left) (levels right) + 1 }
+        requires chars_fit { length (entries_of left.blocks) + length (entries_of self.old.blocks) + length (entries_of right.blocks) < 2 ^ 64 }
+        requires left_not_higher { left.height ≤ right.height + 1 }
+        requires right_not_higher { right.height ≤ left.height + 1 }
+        ensures blocks { self.new.blocks ≡ left.blocks ++ self.old.blocks ++ right.blocks }
+        ensures height { self.new.height ≡ max left.height right.height + 1 }
     {
-        self.chars = chars_of(&left) + self.block.len() as u64 + chars_of(&right);
-        self.blocks = blocks_of(&left) + blocks_of(&right) + 1;
-        self.height = height_of(&left).max(height_of(&right)) + 1;
+        self.front = left.chars();
+        self.end = self.front + self.block.len() as u64;
+        self.chars = self.end + right.chars();
+        self.blocks = left.blocks() + right.blocks() + 1;
+        self.height = left.height().max(right.height()) + 1;
         self.left = left;
         self.right = right;
     }
-}
 
-/// How many levels a tree has.
-pub(crate) fn height_of(link: &Link) -> u32
-    ensures height { result ≡ levels link.now }
-    ensures low { IsLow (levels link.now) (length (pieces link.now)) }
-    ensures small { result ≤ 128 }
-{
-    match link {
-        None => 0,
-        Some(node) => node.height(),
-    }
-}
-
-/// How many characters a tree has.
-pub(crate) fn chars_of(link: &Link) -> u64
-    ensures chars { result ≡ length (entries_of (pieces link.now)) }
-    ensures most { length (pieces link.now) ≤ result }
-    ensures pieces { ArePieces (pieces link.now) }
-{
-    match link {
-        None => 0,
-        Some(node) => node.chars(),
-    }
-}
-
-/// How many blocks a tree has.
-pub(crate) fn blocks_of(link: &Link) -> u64
-    ensures blocks { result ≡ length (pieces link.now) }
-{
-    match link {
-        None => 0,
-        Some(node) => node.blocks(),
-    }
-}
-
-// Puts a tree's characters behind those of a text.
-#[cycle(push_text)]
-pub(crate) fn push_text_of(link: &Link, text: &mut Text) -> Result<(), AllocError>
-    ensures ok { OnOk result (text.new ≡ text.old ++ chars_in (entries_of (pieces link.now))) }
-{
-    match link {
-        None => Ok(()),
-        Some(node) => node.push_text(text),
-    }
-}
-
-/// The same again. It costs the number of characters and of blocks.
-#[cycle(copy)]
-pub(crate) fn copy_link(alloc: Global, link: &Link) -> Result<Link, AllocError>
-    ensures blocks { IfOk result (λ copy. pieces copy ≡ pieces link.now) }
-    ensures height { IfOk result (λ copy. levels copy ≡ levels link.now) }
-{
-    match link {
-        None => Ok(None),
-        Some(node) => Ok(Some(node.copy(alloc)?)),
+    // The same, where the sums are told, so that it looks into neither tree.
+    pub(crate) fn hang_sides(&mut self, left: Link, right: Link, sums: Sums)
+        requires one { length self.old.blocks ≡ 1 }
+        requires chars_fit { length (entries_of left.blocks) + length (entries_of self.old.blocks) + length (entries_of right.blocks) < 2 ^ 64 }
+        requires left_not_higher { left.height ≤ right.height + 1 }
+        requires right_not_higher { right.height ≤ left.height + 1 }
+        requires front_sum { sums.front ≡ length (entries_of left.blocks) }
+        requires end_sum { sums.end ≡ sums.front + length (entries_of self.old.blocks) }
+        requires chars_sum { sums.chars ≡ length (entries_of left.blocks) + length (entries_of self.old.blocks) + length (entries_of right.blocks) }
+        requires blocks_sum { sums.blocks ≡ length left.blocks + length right.blocks + 1 }
+        requires height_sum { sums.height ≡ max left.height right.height + 1 }
+        ensures blocks { self.new.blocks ≡ left.blocks ++ self.old.blocks ++ right.blocks }
+        ensures height { self.new.height ≡ max left.height right.height + 1 }
+    {
+        let _left = (left.chars(), left.height());
+        let _right = (right.chars(), right.height());
+        self.front = sums.front;
+        self.end = sums.end;
+        self.chars = sums.chars;
+        self.blocks = sums.blocks;
+        self.height = sums.height;
+        self.left = left;
+        self.right = right;
     }
 }

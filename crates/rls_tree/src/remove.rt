@@ -4,12 +4,12 @@
 ghost use Rattle.std.specs.Prelude.{◌≡◌, ◌+◌, ◌-◌, ◌^◌, ◌<◌, ◌≤◌, [], ◌∷◌, ◌++◌, length, take, Some, None, IfOk, IfErr, IsTrue};
 ghost use Rattle.rls_ident.specs.Identifiers.{follows};
 ghost use Rattle.rls_runs.specs.Runs.{run_before, run_last, are_apart};
-ghost use Rattle.rls_tree.specs.Trees.{piece_entries, entries_of, pieces, runs_in};
+ghost use Rattle.rls_tree.specs.Trees.{piece_entries, entries_of, runs_in};
 ghost use Rattle.rls_tree.specs.Edits.{part_of, joined, removed, Shows};
 
 use crate::balance::join;
 use crate::cut::{cut, keep_ends};
-use crate::node::{Link, Node, chars_of};
+use crate::node::{Link, Node};
 use crate::split::{concat, ends_before, first_out, last_out, split};
 use std::alloc::{AllocError, Global};
 
@@ -18,15 +18,15 @@ use std::alloc::{AllocError, Global};
 /// blocks touch then, those of the shorter one.
 pub(crate) fn remove_range(alloc: Global, link: Link, i: u64, count: u64) -> Result<Link, Link>
     requires some { 0 < count }
-    requires within { i + count ≤ length (entries_of (pieces link)) }
-    requires apart { IsTrue (are_apart None (runs_in (pieces link))) }
-    ensures ok { IfOk result (λ new. Shows (removed i count (entries_of (pieces link))) (pieces new)) }
-    ensures err { IfErr result (λ old. pieces old ≡ pieces link) }
+    requires within { i + count ≤ length (entries_of link.blocks) }
+    requires apart { IsTrue (are_apart None (runs_in link.blocks)) }
+    ensures ok { IfOk result (λ new. Shows (removed i count (entries_of link.blocks)) new.blocks) }
+    ensures err { IfErr result (λ old. old.blocks ≡ link.blocks) }
 {
-    let _chars = chars_of(&link);
+    let _chars = link.chars();
     let end = i + count;
     let (near, last, behind) = split(link, end);
-    let before = chars_of(&near);
+    let before = near.chars();
     let Some(last) = last else {
         return remove_end(near, i, behind);
     };
@@ -40,14 +40,14 @@ pub(crate) fn remove_range(alloc: Global, link: Link, i: u64, count: u64) -> Res
 
 // What a tree has from a place on, in front of another tree.
 fn remove_end(near: Link, i: u64, behind: Link) -> Result<Link, Link>
-    requires place { i ≤ length (entries_of (pieces near)) }
-    requires chars_fit { length (entries_of (pieces near ++ pieces behind)) < 2 ^ 64 }
-    requires apart { IsTrue (are_apart None (runs_in (pieces near ++ pieces behind))) }
-    ensures ok { IfOk result (λ new. Shows (take i (entries_of (pieces near)) ++ entries_of (pieces behind)) (pieces new)) }
-    ensures err { IfErr result (λ old. pieces old ≡ pieces near ++ pieces behind) }
+    requires place { i ≤ length (entries_of near.blocks) }
+    requires chars_fit { length (entries_of (near.blocks ++ behind.blocks)) < 2 ^ 64 }
+    requires apart { IsTrue (are_apart None (runs_in (near.blocks ++ behind.blocks))) }
+    ensures ok { IfOk result (λ new. Shows (take i (entries_of near.blocks) ++ entries_of behind.blocks) new.blocks) }
+    ensures err { IfErr result (λ old. old.blocks ≡ near.blocks ++ behind.blocks) }
 {
     let (front, first, between) = split(near, i);
-    let before = chars_of(&front);
+    let before = front.chars();
     let Some(first) = first else {
         return remove_blocks(front, between, behind);
     };
@@ -57,17 +57,17 @@ fn remove_end(near: Link, i: u64, behind: Link) -> Result<Link, Link>
 
 // The same, and what the next block has in front of a place.
 fn remove_into(near: Link, i: u64, last: Box<Node>, end: u32, behind: Link) -> Result<Link, Link>
-    requires place { i ≤ length (entries_of (pieces near)) }
+    requires place { i ≤ length (entries_of near.blocks) }
     requires one { length last.value.blocks ≡ 1 }
     requires some { 0 < end }
     requires within { end < last.value.block.0.1 }
-    requires chars_fit { length (entries_of (pieces near ++ last.value.blocks ++ pieces behind)) < 2 ^ 64 }
-    requires apart { IsTrue (are_apart None (runs_in (pieces near ++ last.value.blocks ++ pieces behind))) }
-    ensures ok { IfOk result (λ new. Shows (take i (entries_of (pieces near)) ++ (piece_entries (part_of end (last.value.block.0.1 - end) last.value.block) ++ entries_of (pieces behind))) (pieces new)) }
-    ensures err { IfErr result (λ old. pieces old ≡ pieces near ++ last.value.blocks ++ pieces behind) }
+    requires chars_fit { length (entries_of (near.blocks ++ last.value.blocks ++ behind.blocks)) < 2 ^ 64 }
+    requires apart { IsTrue (are_apart None (runs_in (near.blocks ++ last.value.blocks ++ behind.blocks))) }
+    ensures ok { IfOk result (λ new. Shows (take i (entries_of near.blocks) ++ (piece_entries (part_of end (last.value.block.0.1 - end) last.value.block) ++ entries_of behind.blocks)) new.blocks) }
+    ensures err { IfErr result (λ old. old.blocks ≡ near.blocks ++ last.value.blocks ++ behind.blocks) }
 {
     let (front, first, between) = split(near, i);
-    let before = chars_of(&front);
+    let before = front.chars();
     let Some(first) = first else {
         return remove_front(front, between, last, end, behind);
     };
@@ -85,25 +85,25 @@ fn remove_into(near: Link, i: u64, last: Box<Node>, end: u32, behind: Link) -> R
 
 // Whole blocks. What stood on their sides may touch then.
 fn remove_blocks(front: Link, between: Link, behind: Link) -> Result<Link, Link>
-    requires chars_fit { length (entries_of (pieces front ++ pieces between ++ pieces behind)) < 2 ^ 64 }
-    requires apart { IsTrue (are_apart None (runs_in (pieces front ++ pieces between ++ pieces behind))) }
-    ensures ok { IfOk result (λ new. Shows (entries_of (pieces front) ++ entries_of (pieces behind)) (pieces new)) }
-    ensures err { IfErr result (λ old. pieces old ≡ pieces front ++ pieces between ++ pieces behind) }
+    requires chars_fit { length (entries_of (front.blocks ++ between.blocks ++ behind.blocks)) < 2 ^ 64 }
+    requires apart { IsTrue (are_apart None (runs_in (front.blocks ++ between.blocks ++ behind.blocks))) }
+    ensures ok { IfOk result (λ new. Shows (entries_of front.blocks ++ entries_of behind.blocks) new.blocks) }
+    ensures err { IfErr result (λ old. old.blocks ≡ front.blocks ++ between.blocks ++ behind.blocks) }
 {
-    let Some(after) = behind else {
+    let Some((first, far)) = first_out(behind) else {
         return Ok(front);
     };
-    let (first, far) = first_out(after);
     let _first = first.len();
     if !ends_before(&front, first.run().first()) {
-        return Ok(Some(join(front, first, far)));
+        return Ok(join(front, first, far));
     }
-    let Some(before) = front else { unreachable!() };
-    let (rest, last) = last_out(before);
+    let Some((rest, last)) = last_out(front) else {
+        unreachable!()
+    };
     let _last = last.len();
     match merge(last, first) {
-        Ok(both) => Ok(Some(join(rest, both, far))),
-        Err((last, first)) => Err(Some(join(Some(join(rest, last, between)), first, far))),
+        Ok(both) => Ok(join(rest, both, far)),
+        Err((last, first)) => Err(join(join(rest, last, between), first, far)),
     }
 }
 
@@ -119,16 +119,16 @@ fn remove_back(
     requires one { length first.value.blocks ≡ 1 }
     requires some { 0 < at }
     requires within { at < first.value.block.0.1 }
-    requires chars_fit { length (entries_of (pieces front ++ first.value.blocks ++ pieces between ++ pieces behind)) < 2 ^ 64 }
-    requires apart { IsTrue (are_apart None (runs_in (pieces front ++ first.value.blocks ++ pieces between ++ pieces behind))) }
-    ensures ok { IfOk result (λ new. Shows (entries_of (pieces front) ++ piece_entries (part_of 0 at first.value.block) ++ entries_of (pieces behind)) (pieces new)) }
-    ensures err { IfErr result (λ old. pieces old ≡ pieces front ++ first.value.blocks ++ pieces between ++ pieces behind) }
+    requires chars_fit { length (entries_of (front.blocks ++ first.value.blocks ++ between.blocks ++ behind.blocks)) < 2 ^ 64 }
+    requires apart { IsTrue (are_apart None (runs_in (front.blocks ++ first.value.blocks ++ between.blocks ++ behind.blocks))) }
+    ensures ok { IfOk result (λ new. Shows (entries_of front.blocks ++ piece_entries (part_of 0 at first.value.block) ++ entries_of behind.blocks) new.blocks) }
+    ensures err { IfErr result (λ old. old.blocks ≡ front.blocks ++ first.value.blocks ++ between.blocks ++ behind.blocks) }
 {
-    let _between = chars_of(&between);
+    let _between = between.chars();
     let _len = first.len();
     match first.keep_front(at) {
-        Ok(()) => Ok(Some(join(front, first, behind))),
-        Err(_) => Err(concat(Some(join(front, first, between)), behind)),
+        Ok(()) => Ok(join(front, first, behind)),
+        Err(_) => Err(concat(join(front, first, between), behind)),
     }
 }
 
@@ -144,16 +144,16 @@ fn remove_front(
     requires one { length last.value.blocks ≡ 1 }
     requires some { 0 < end }
     requires within { end < last.value.block.0.1 }
-    requires chars_fit { length (entries_of (pieces front ++ pieces between ++ last.value.blocks ++ pieces behind)) < 2 ^ 64 }
-    requires apart { IsTrue (are_apart None (runs_in (pieces front ++ pieces between ++ last.value.blocks ++ pieces behind))) }
-    ensures ok { IfOk result (λ new. Shows (entries_of (pieces front) ++ (piece_entries (part_of end (last.value.block.0.1 - end) last.value.block) ++ entries_of (pieces behind))) (pieces new)) }
-    ensures err { IfErr result (λ old. pieces old ≡ pieces front ++ pieces between ++ last.value.blocks ++ pieces behind) }
+    requires chars_fit { length (entries_of (front.blocks ++ between.blocks ++ last.value.blocks ++ behind.blocks)) < 2 ^ 64 }
+    requires apart { IsTrue (are_apart None (runs_in (front.blocks ++ between.blocks ++ last.value.blocks ++ behind.blocks))) }
+    ensures ok { IfOk result (λ new. Shows (entries_of front.blocks ++ (piece_entries (part_of end (last.value.block.0.1 - end) last.value.block) ++ entries_of behind.blocks)) new.blocks) }
+    ensures err { IfErr result (λ old. old.blocks ≡ front.blocks ++ between.blocks ++ last.value.blocks ++ behind.blocks) }
 {
-    let _between = chars_of(&between);
+    let _between = between.chars();
     let _len = last.len();
     match last.keep_back(end) {
-        Ok(()) => Ok(Some(join(front, last, behind))),
-        Err(_) => Err(Some(join(concat(front, between), last, behind))),
+        Ok(()) => Ok(join(front, last, behind)),
+        Err(_) => Err(join(concat(front, between), last, behind)),
     }
 }
 
@@ -173,18 +173,18 @@ fn remove_ends(
     requires within_first { at < first.value.block.0.1 }
     requires some_last { 0 < end }
     requires within_last { end < last.value.block.0.1 }
-    requires chars_fit { length (entries_of (pieces front ++ first.value.blocks ++ pieces between ++ last.value.blocks ++ pieces behind)) < 2 ^ 64 }
-    requires apart { IsTrue (are_apart None (runs_in (pieces front ++ first.value.blocks ++ pieces between ++ last.value.blocks ++ pieces behind))) }
-    ensures ok { IfOk result (λ new. Shows (entries_of (pieces front) ++ piece_entries (part_of 0 at first.value.block)
-        ++ (piece_entries (part_of end (last.value.block.0.1 - end) last.value.block) ++ entries_of (pieces behind))) (pieces new)) }
-    ensures err { IfErr result (λ old. pieces old ≡ pieces front ++ first.value.blocks ++ pieces between ++ last.value.blocks ++ pieces behind) }
+    requires chars_fit { length (entries_of (front.blocks ++ first.value.blocks ++ between.blocks ++ last.value.blocks ++ behind.blocks)) < 2 ^ 64 }
+    requires apart { IsTrue (are_apart None (runs_in (front.blocks ++ first.value.blocks ++ between.blocks ++ last.value.blocks ++ behind.blocks))) }
+    ensures ok { IfOk result (λ new. Shows (entries_of front.blocks ++ piece_entries (part_of 0 at first.value.block)
+        ++ (piece_entries (part_of end (last.value.block.0.1 - end) last.value.block) ++ entries_of behind.blocks)) new.blocks) }
+    ensures err { IfErr result (λ old. old.blocks ≡ front.blocks ++ first.value.blocks ++ between.blocks ++ last.value.blocks ++ behind.blocks) }
 {
-    let _between = chars_of(&between);
+    let _between = between.chars();
     let _first = first.len();
     let _last = last.len();
     match keep_ends(first, at, last, end) {
-        Ok((first, last)) => Ok(Some(join(Some(join(front, first, None)), last, behind))),
-        Err((first, last)) => Err(Some(join(Some(join(front, first, between)), last, behind))),
+        Ok((first, last)) => Ok(join(join(front, first, Link::empty()), last, behind)),
+        Err((first, last)) => Err(join(join(front, first, between), last, behind)),
     }
 }
 
@@ -201,16 +201,16 @@ fn remove_middle(
     requires some { 0 < at }
     requires order { at < end }
     requires within { end < node.value.block.0.1 }
-    requires chars_fit { length (entries_of (pieces front ++ node.value.blocks ++ pieces behind)) < 2 ^ 64 }
-    requires apart { IsTrue (are_apart None (runs_in (pieces front ++ node.value.blocks ++ pieces behind))) }
-    ensures ok { IfOk result (λ new. Shows (entries_of (pieces front) ++ piece_entries (part_of 0 at node.value.block)
-        ++ (piece_entries (part_of end (node.value.block.0.1 - end) node.value.block) ++ entries_of (pieces behind))) (pieces new)) }
-    ensures err { IfErr result (λ old. pieces old ≡ pieces front ++ node.value.blocks ++ pieces behind) }
+    requires chars_fit { length (entries_of (front.blocks ++ node.value.blocks ++ behind.blocks)) < 2 ^ 64 }
+    requires apart { IsTrue (are_apart None (runs_in (front.blocks ++ node.value.blocks ++ behind.blocks))) }
+    ensures ok { IfOk result (λ new. Shows (entries_of front.blocks ++ piece_entries (part_of 0 at node.value.block)
+        ++ (piece_entries (part_of end (node.value.block.0.1 - end) node.value.block) ++ entries_of behind.blocks)) new.blocks) }
+    ensures err { IfErr result (λ old. old.blocks ≡ front.blocks ++ node.value.blocks ++ behind.blocks) }
 {
     let _len = node.len();
     match cut(alloc, node, at, end) {
-        Ok((near, far)) => Ok(Some(join(Some(join(front, near, None)), far, behind))),
-        Err(node) => Err(Some(join(front, node, behind))),
+        Ok((near, far)) => Ok(join(join(front, near, Link::empty()), far, behind)),
+        Err(node) => Err(join(front, node, behind)),
     }
 }
 

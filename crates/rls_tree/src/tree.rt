@@ -8,9 +8,9 @@ ghost use Rattle.rls_runs.specs.Entries.{idents_in, chars_in, has_ident};
 ghost use Rattle.rls_tree.specs.Trees.{entries_of, piece_entries};
 ghost use Rattle.rls_tree.specs.Edits.{inserted, removed};
 
-use crate::block::{part_of_run, part_of_text};
+use crate::block::{Block, part_of_run, part_of_text};
 use crate::insert::insert_at;
-use crate::node::{Link, Node, blocks_of, chars_of, copy_link, height_of, push_text_of};
+use crate::node::{Link, Node};
 use crate::remove::remove_range;
 use rls_ident::Ident;
 use rls_runs::{Run, Text};
@@ -29,13 +29,13 @@ pub struct BlockTree {
 impl Model for BlockTree {
     ghost use Rattle.std.specs.Prelude.{None, IsTrue};
     ghost use Rattle.rls_runs.specs.Runs.{are_apart};
-    ghost use Rattle.rls_tree.specs.Trees.{Tree, pieces, runs_in, tree_of};
+    ghost use Rattle.rls_tree.specs.Trees.{Tree, runs_in};
 
     ghost Value = { Tree };
 
-    ghost view = { λ t. tree_of t.root };
+    ghost view = { λ t. t.root };
 
-    ghost invariant = { λ t. IsTrue (are_apart None (runs_in (pieces t.root))) };
+    ghost invariant = { λ t. IsTrue (are_apart None (runs_in t.root.blocks)) };
 }
 
 impl BlockTree {
@@ -43,7 +43,10 @@ impl BlockTree {
     pub fn new(alloc: Global) -> BlockTree
         ensures empty { result ≡ record { blocks = []; height = 0 } }
     {
-        BlockTree { root: None, alloc }
+        BlockTree {
+            root: Link::empty(),
+            alloc,
+        }
     }
 
     /// The tree's topmost node, if it isn't empty.
@@ -52,10 +55,7 @@ impl BlockTree {
         ensures height { IfSome result (λ node. node.now.height ≡ self.now.height) }
         ensures empty { IfNone result (self.now ≡ record { blocks = []; height = 0 }) }
     {
-        match &self.root {
-            None => None,
-            Some(node) => Some(&**node),
-        }
+        self.root.node()
     }
 
     /// How many levels the tree has. It takes no memory.
@@ -64,14 +64,14 @@ impl BlockTree {
         ensures low { 2 ^ result ≤ (length (runs_of (idents_in (entries_of self.now.blocks))) + 1) * (length (runs_of (idents_in (entries_of self.now.blocks))) + 1) }
     {
         let _count = self.blocks();
-        height_of(&self.root)
+        self.root.height()
     }
 
     // How many characters it has.
     pub(crate) fn chars(&self) -> u64
         ensures chars { result ≡ length (entries_of self.now.blocks) }
     {
-        chars_of(&self.root)
+        self.root.chars()
     }
 
     // How many maximal runs it has.
@@ -80,16 +80,16 @@ impl BlockTree {
         ensures runs { length self.now.blocks ≡ length (runs_of (idents_in (entries_of self.now.blocks))) }
         ensures rises { IsTrue (is_increasing (idents_in (entries_of self.now.blocks))) }
     {
-        let _chars = chars_of(&self.root);
-        blocks_of(&self.root)
+        let _chars = self.root.chars();
+        self.root.blocks()
     }
 
     // The place of an identifier, or where it isn't there the number of identifiers less than it.
     pub(crate) fn place(&self, id: &Ident) -> Result<u64, u64>
         ensures place { result ≡ place_of id.now (idents_in (entries_of self.now.blocks)) }
     {
-        let _chars = chars_of(&self.root);
-        match &self.root {
+        let _chars = self.root.chars();
+        match self.root.node() {
             None => Err(0),
             Some(node) => node.find(id),
         }
@@ -100,10 +100,8 @@ impl BlockTree {
         requires place { i < length (entries_of self.now.blocks) }
         ensures char { slice_get (chars_in (entries_of self.now.blocks)) i ≡ Some result }
     {
-        let Some(node) = &self.root else {
-            unreachable!()
-        };
-        let (block, at) = node.locate(i);
+        let _chars = self.root.chars();
+        let (block, at) = self.root.locate(i);
         block.text().get(at as usize)
     }
 
@@ -112,10 +110,8 @@ impl BlockTree {
         requires place { i < length (entries_of self.now.blocks) }
         ensures ident { IfOk result (λ x. slice_get (idents_in (entries_of self.now.blocks)) i ≡ Some x) }
     {
-        let Some(node) = &self.root else {
-            unreachable!()
-        };
-        let (block, at) = node.locate(i);
+        let _chars = self.root.chars();
+        let (block, at) = self.root.locate(i);
         let _len = block.len();
         let id = block.run().first().shifted(at)?;
         Ok(id)
@@ -130,11 +126,8 @@ impl BlockTree {
         ensures within { IfOk result (λ run. i + run.1 ≤ length (entries_of self.now.blocks)) }
         ensures idents { IfOk result (λ run. take run.1 (drop i (idents_in (entries_of self.now.blocks))) ≡ run_idents run.0 run.1) }
     {
-        let _chars = chars_of(&self.root);
-        let Some(node) = &self.root else {
-            unreachable!()
-        };
-        let (block, at) = node.locate(i);
+        let _chars = self.root.chars();
+        let (block, at) = self.root.locate(i);
         let len = (block.len() - at).min(most);
         part_of_run(block.run(), at, len)
     }
@@ -165,11 +158,8 @@ impl BlockTree {
         ensures within { IfOk result (λ part. i + part.0.1 ≤ length (entries_of self.now.blocks)) }
         ensures entries { IfOk result (λ part. piece_entries (part.0, part.1) ≡ take part.0.1 (drop i (entries_of self.now.blocks))) }
     {
-        let _chars = chars_of(&self.root);
-        let Some(node) = &self.root else {
-            unreachable!()
-        };
-        let (block, at) = node.locate(i);
+        let _chars = self.root.chars();
+        let (block, at) = self.root.locate(i);
         let len = block.len() - at;
         let run = part_of_run(block.run(), at, len)?;
         let text = part_of_text(self.alloc, block.text(), at as usize, len as usize)?;
@@ -180,7 +170,7 @@ impl BlockTree {
     pub(crate) fn are_idents(&self)
         ensures idents { IsTrue (list_all is_ident (idents_in (entries_of self.now.blocks))) }
     {
-        let _chars = chars_of(&self.root);
+        let _chars = self.root.chars();
     }
 
     // All characters.
@@ -188,7 +178,7 @@ impl BlockTree {
         ensures text { IfOk result (λ cs. cs ≡ chars_in (entries_of self.now.blocks)) }
     {
         let mut text = Text::new(self.alloc);
-        push_text_of(&self.root, &mut text)?;
+        self.root.push_text(&mut text)?;
         Ok(text)
     }
 
@@ -197,7 +187,7 @@ impl BlockTree {
         ensures copy { IfOk result (λ tree. tree.blocks ≡ self.now.blocks) }
     {
         Ok(BlockTree {
-            root: copy_link(self.alloc, &self.root)?,
+            root: self.root.copy(self.alloc)?,
             alloc: self.alloc,
         })
     }
@@ -216,10 +206,10 @@ impl BlockTree {
         ensures ok { OnOk result (entries_of self.new.blocks ≡ inserted i (piece_entries (run, text)) (entries_of self.old.blocks)) }
         ensures err { OnErr result (entries_of self.new.blocks ≡ entries_of self.old.blocks) }
     {
-        let link = mem::replace(&mut self.root, None);
-        match insert_at(self.alloc, link, i, run, text) {
+        let link = mem::replace(&mut self.root, Link::empty());
+        match insert_at(self.alloc, link, i, Block::new(run, text)) {
             Ok(root) => {
-                let _chars = chars_of(&root);
+                let _chars = root.chars();
                 self.root = root;
                 Ok(())
             }
@@ -237,11 +227,11 @@ impl BlockTree {
         ensures ok { OnOk result (entries_of self.new.blocks ≡ removed i count (entries_of self.old.blocks)) }
         ensures err { OnErr result (entries_of self.new.blocks ≡ entries_of self.old.blocks) }
     {
-        let link = mem::replace(&mut self.root, None);
-        let _chars = chars_of(&link);
+        let link = mem::replace(&mut self.root, Link::empty());
+        let _chars = link.chars();
         match remove_range(self.alloc, link, i, count) {
             Ok(root) => {
-                let _chars = chars_of(&root);
+                let _chars = root.chars();
                 self.root = root;
                 Ok(())
             }

@@ -15,16 +15,16 @@ use Rattle.rls_replica.proofs.applying.insert.Goals as goal
 pub translate_run-requires-clause-to : goal.translate_run-requires-clause-to
 translate_run-requires-clause-to c = rw c.greatest.ensures.greatest (greatest_kept c.args.epochs.now.epochs.top c.args.epochs.now.epochs.nodes)
 
-pub insert_runs-requires-clause-as_many : goal.insert_runs-requires-clause-as_many
-insert_runs-requires-clause-as_many c =
+pub insert_near-requires-clause-as_many : goal.insert_near-requires-clause-as_many
+insert_near-requires-clause-as_many c =
     let E = c.args.epochs.now.epochs in
     let first = c.args.first.now in
     let n = length c.args.text.now in
     let e = image_is E c.args.epoch first n c.greatest.result c.in_ok-run.run' c.in_ok-runs.runs c.greatest.ensures.greatest (rw c.len.ensures.len at c.in_ok-run.ensures.run) c.in_ok-runs.ensures.translated in
     ap length e ∙ (length-map (run_idents first n) (translate E.nodes c.args.epoch (greatest E.top E.nodes)) ∙ run_length first n)
 
-pub insert_runs-requires-clause-new : goal.insert_runs-requires-clause-new
-insert_runs-requires-clause-new c =
+pub insert_near-requires-clause-new : goal.insert_near-requires-clause-new
+insert_near-requires-clause-new c =
     let E = c.args.epochs.now.epochs in
     let first = c.args.first.now in
     let n = length c.args.text.now in

@@ -1,5 +1,4 @@
-use Rattle.rls_tree.specs.Trees.{levels}
 use Rattle.rls_tree.proofs.balance.+join_high.Given as goal
 
 abbrev pub decreases-join_high : goal.decreases-join_high
-decreases-join_high l = levels l.right
+decreases-join_high l = l.right.height

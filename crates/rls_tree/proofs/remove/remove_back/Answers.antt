@@ -1,6 +1,6 @@
 use Rattle.std.proofs.Common.{◌≡◌, ◌++◌, ◌∷◌, [], None, true, sym, ap, ◌∙◌, subst, arith}
 use Rattle.rls_runs.specs.Runs.{are_apart}
-use Rattle.rls_tree.specs.Trees.{entries_of, pieces, runs_in, piece_entries, IsPiece}
+use Rattle.rls_tree.specs.Trees.{entries_of, runs_in, piece_entries, IsPiece}
 use Rattle.rls_tree.specs.Edits.{part_of, Shows}
 use Rattle.rls_tree.proofs.Pieces.{runs_sound, chars_append}
 use Rattle.rls_tree.proofs.Cases.{lone, whole}
@@ -11,9 +11,9 @@ pub join-requires-clause-chars_fit : goal.join-requires-clause-chars_fit
 join-requires-clause-chars_fit c =
     let n = c.args.first.value in
     let b = n.block in
-    let f = pieces c.args.front in
-    let m = pieces c.args.between in
-    let g = pieces c.args.behind in
+    let f = c.args.front.blocks in
+    let m = c.args.between.blocks in
+    let g = c.args.behind.blocks in
     let own : n.blocks ≡ b ∷ [] = lone n c.deref.result.now c.deref.ensures c.len-len.ensures.blocks c.requires.one in
     let piece : IsPiece b.0 b.1 = whole n c.deref.result.now c.deref.ensures c.len-len.ensures.piece in
     let new = c.keep_front.new.self.blocks in
@@ -25,13 +25,13 @@ pub returns-in-Ok-clause-ok : goal.returns-in-Ok-clause-ok
 returns-in-Ok-clause-ok c =
     let n = c.args.first.value in
     let b = n.block in
-    let f = pieces c.args.front in
-    let m = pieces c.args.between in
-    let g = pieces c.args.behind in
+    let f = c.args.front.blocks in
+    let m = c.args.between.blocks in
+    let g = c.args.behind.blocks in
     let own : n.blocks ≡ b ∷ [] = lone n c.deref.result.now c.deref.ensures c.len-len.ensures.blocks c.requires.one in
     let piece : IsPiece b.0 b.1 = whole n c.deref.result.now c.deref.ensures c.len-len.ensures.piece in
     let new = c.keep_front.new.self.blocks in
     let kept : new ≡ part_of 0 c.args.at b ∷ [] = c.in-Ok.ensures.ok ∙ ap (λ s. part_of 0 c.args.at s.block ∷ []) c.deref_mut.ensures.value in
     let apart = subst (λ bs. are_apart None (runs_in (f ++ bs ++ m ++ g)) ≡ true) own c.requires.apart in
-    let shows = back_shows f m g b piece.sound (runs_sound m c.chars_of-between.ensures.pieces) apart c.args.at c.requires.some c.requires.within in
+    let shows = back_shows f m g b piece.sound (runs_sound m c.chars-between.ensures.pieces) apart c.args.at c.requires.some c.requires.within in
     subst (Shows (entries_of f ++ piece_entries (part_of 0 c.args.at b) ++ entries_of g)) (sym (c.join.ensures.blocks ∙ ap (λ bs. f ++ bs ++ g) kept)) shows

@@ -1,6 +1,5 @@
 use Rattle.std.proofs.Common.{length}
-use Rattle.rls_tree.specs.Trees.{pieces}
 use Rattle.rls_tree.proofs.split.+split.Given as goal
 
 abbrev pub decreases-split : goal.decreases-split
-decreases-split l = length (pieces l.link)
+decreases-split l = length l.link.blocks

@@ -3,20 +3,19 @@ use Rattle.rls_runs.specs.Runs.{idents_of, place_of}
 use Rattle.rls_runs.specs.Entries.{idents_in}
 use Rattle.rls_runs.specs.Places.{find_ident}
 use Rattle.rls_runs.proofs.RunOrder.{Rising}
-use Rattle.rls_tree.specs.Trees.{pieces, runs_in, entries_of}
+use Rattle.rls_tree.specs.Trees.{runs_in, entries_of}
 use Rattle.rls_tree.proofs.Parts.{pieces_rising, found_place}
 use Rattle.rls_tree.proofs.tree.BlockTree.place.Goals as goal
 
 pub find-requires : goal.find-requires
 find-requires c =
-    let r = subst (λ l. Rising (idents_of (runs_in (pieces l)))) c.in-Some.is (pieces_rising (pieces c.self.inside.root) c.chars_of-chars.ensures.pieces c.self.invariant) in
-    record { rises = subst (λ s. Rising (idents_of (runs_in s.blocks))) (sym c.deref.ensures) r }
+    record { rises = subst (λ bs. Rising (idents_of (runs_in bs))) (sym c.in-Some.ensures.blocks) (pieces_rising c.self.inside.root.blocks c.chars-chars.ensures.pieces c.self.invariant) }
 
 pub returns-in-None : goal.returns-in-None
 returns-in-None c =
     record {
-      place = ap (λ l. find_ident (idents_of (runs_in (pieces l))) c.args.id.now) (sym c.in-None.is)
-          ∙ found_place (pieces c.self.inside.root) c.args.id.now c.chars_of-chars.ensures.pieces c.self.invariant
+      place = ap (λ l. find_ident (idents_of (runs_in l.blocks)) c.args.id.now) (sym c.in-None.ensures.empty)
+          ∙ found_place c.self.inside.root.blocks c.args.id.now c.chars-chars.ensures.pieces c.self.invariant
           ∙ ap (λ s. place_of c.args.id.now (idents_in (entries_of s.blocks))) c.self.view_is;
     }
 
@@ -24,8 +23,7 @@ pub returns-in-Some : goal.returns-in-Some
 returns-in-Some c =
     record {
       place = c.find.ensures.find
-          ∙ ap (λ s. find_ident (idents_of (runs_in s.blocks)) c.args.id.now) c.deref.ensures
-          ∙ ap (λ l. find_ident (idents_of (runs_in (pieces l))) c.args.id.now) (sym c.in-Some.is)
-          ∙ found_place (pieces c.self.inside.root) c.args.id.now c.chars_of-chars.ensures.pieces c.self.invariant
+          ∙ ap (λ bs. find_ident (idents_of (runs_in bs)) c.args.id.now) c.in-Some.ensures.blocks
+          ∙ found_place c.self.inside.root.blocks c.args.id.now c.chars-chars.ensures.pieces c.self.invariant
           ∙ ap (λ s. place_of c.args.id.now (idents_in (entries_of s.blocks))) c.self.view_is;
     }

@@ -1,7 +1,7 @@
-use Rattle.std.proofs.Common.{◌≡◌, ◌-◌, take, drop, length, sym, ap, ◌∙◌, subst, arith}
+use Rattle.std.proofs.Common.{◌≡◌, ◌-◌, Some, take, drop, length, sym, ap, ◌∙◌, subst, arith}
 use Rattle.std.specs.Prelude.{pos}
 use Rattle.rls_ident.specs.Identifiers.{shifted}
-use Rattle.rls_tree.specs.Trees.{Piece, ArePieces, pieces, piece_entries, entries_of}
+use Rattle.rls_tree.specs.Trees.{Piece, ArePieces, piece_entries, entries_of}
 use Rattle.rls_tree.specs.Edits.{located, part_of}
 use Rattle.rls_tree.proofs.AtPlaces.{part_at, part_many}
 use Rattle.rls_tree.proofs.Puts.{part_taken}
@@ -14,10 +14,10 @@ returns-clause-as_many c =
     let i = c.args.i in
     let bs = c.args.self.now.blocks in
     let n = c.len.result - j in
-    let are : ArePieces bs = subst (λ s. ArePieces s.blocks) c.self.view_is c.chars_of-chars.ensures.pieces in
-    let down = sym (ap (λ s. s.blocks) c.self.view_is) ∙ ap pieces c.in-Some.is ∙ sym (ap (λ s. s.blocks) c.deref.ensures) in
+    let are : ArePieces bs = subst (λ s. ArePieces s.blocks) c.self.view_is c.chars-chars.ensures.pieces in
+    let there = subst (λ s. located s.blocks i ≡ Some (b, j)) c.self.view_is c.locate-at.ensures.located in
     let m : length b.1 ≡ b.0.1 = c.len.ensures.piece.as_many in
-    let at = part_at bs i j n b are (ap (λ ps. located ps i) down ∙ c.locate-at.ensures.located) (omega (arith, c.len.ensures.len, c.locate-at.ensures.within)) (omega (arith, c.len.ensures.len, c.locate-at.ensures.within)) in
+    let at = part_at bs i j n b are there (omega (arith, c.len.ensures.len, c.locate-at.ensures.within)) (omega (arith, c.len.ensures.len, c.locate-at.ensures.within)) in
     let part : Piece = (c.in_ok-run.run', c.in_ok-text.text) in
     let is : part ≡ part_of j n b =
     ap (λ r. (r, c.in_ok-text.text)) (c.in_ok-run.ensures.part ∙ ap (λ q. (shifted (pos j) q.0, n)) c.run.ensures.run) ∙ ap (λ cs. ((shifted (pos j) b.0.0, n), cs)) (c.in_ok-text.ensures.part ∙ ap (λ cs. take n (drop j cs)) c.text.ensures.text) in
@@ -30,10 +30,10 @@ returns-clause-within c =
     let i = c.args.i in
     let bs = c.args.self.now.blocks in
     let n = c.len.result - j in
-    let are : ArePieces bs = subst (λ s. ArePieces s.blocks) c.self.view_is c.chars_of-chars.ensures.pieces in
-    let down = sym (ap (λ s. s.blocks) c.self.view_is) ∙ ap pieces c.in-Some.is ∙ sym (ap (λ s. s.blocks) c.deref.ensures) in
+    let are : ArePieces bs = subst (λ s. ArePieces s.blocks) c.self.view_is c.chars-chars.ensures.pieces in
+    let there = subst (λ s. located s.blocks i ≡ Some (b, j)) c.self.view_is c.locate-at.ensures.located in
     let m : length b.1 ≡ b.0.1 = c.len.ensures.piece.as_many in
-    let at = part_at bs i j n b are (ap (λ ps. located ps i) down ∙ c.locate-at.ensures.located) (omega (arith, c.len.ensures.len, c.locate-at.ensures.within)) (omega (arith, c.len.ensures.len, c.locate-at.ensures.within)) in
+    let at = part_at bs i j n b are there (omega (arith, c.len.ensures.len, c.locate-at.ensures.within)) (omega (arith, c.len.ensures.len, c.locate-at.ensures.within)) in
     let part : Piece = (c.in_ok-run.run', c.in_ok-text.text) in
     let is : part ≡ part_of j n b =
     ap (λ r. (r, c.in_ok-text.text)) (c.in_ok-run.ensures.part ∙ ap (λ q. (shifted (pos j) q.0, n)) c.run.ensures.run) ∙ ap (λ cs. ((shifted (pos j) b.0.0, n), cs)) (c.in_ok-text.ensures.part ∙ ap (λ cs. take n (drop j cs)) c.text.ensures.text) in
@@ -48,10 +48,10 @@ returns-clause-entries c =
     let i = c.args.i in
     let bs = c.args.self.now.blocks in
     let n = c.len.result - j in
-    let are : ArePieces bs = subst (λ s. ArePieces s.blocks) c.self.view_is c.chars_of-chars.ensures.pieces in
-    let down = sym (ap (λ s. s.blocks) c.self.view_is) ∙ ap pieces c.in-Some.is ∙ sym (ap (λ s. s.blocks) c.deref.ensures) in
+    let are : ArePieces bs = subst (λ s. ArePieces s.blocks) c.self.view_is c.chars-chars.ensures.pieces in
+    let there = subst (λ s. located s.blocks i ≡ Some (b, j)) c.self.view_is c.locate-at.ensures.located in
     let m : length b.1 ≡ b.0.1 = c.len.ensures.piece.as_many in
-    let at = part_at bs i j n b are (ap (λ ps. located ps i) down ∙ c.locate-at.ensures.located) (omega (arith, c.len.ensures.len, c.locate-at.ensures.within)) (omega (arith, c.len.ensures.len, c.locate-at.ensures.within)) in
+    let at = part_at bs i j n b are there (omega (arith, c.len.ensures.len, c.locate-at.ensures.within)) (omega (arith, c.len.ensures.len, c.locate-at.ensures.within)) in
     let part : Piece = (c.in_ok-run.run', c.in_ok-text.text) in
     let is : part ≡ part_of j n b =
     ap (λ r. (r, c.in_ok-text.text)) (c.in_ok-run.ensures.part ∙ ap (λ q. (shifted (pos j) q.0, n)) c.run.ensures.run) ∙ ap (λ cs. ((shifted (pos j) b.0.0, n), cs)) (c.in_ok-text.ensures.part ∙ ap (λ cs. take n (drop j cs)) c.text.ensures.text) in

@@ -9,7 +9,7 @@ use Rattle.rls_tree.specs.Edits.{inserted}
 use Rattle.rls_tree.proofs.AtPlaces.{piece_idents}
 use Rattle.rls_tree.proofs.Mapping.{single_run}
 use Rattle.rls_tree.proofs.Puts.{idents_inserted, put_inserted}
-use Rattle.rls_tree.proofs.document.BlockTreeDocument.insert_runs.Goals as goal
+use Rattle.rls_tree.proofs.tree.BlockTree.insert_near.Goals as goal
 use Rattle.rls_runs.proofs.RunOrder.{rising_of}
 
 pub insert_piece-requires-clause-as_many : goal.insert_piece-requires-clause-as_many
