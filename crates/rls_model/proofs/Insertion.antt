@@ -145,10 +145,10 @@ any_snoc t [] y h = ap (λ b. b || false) h
 any_snoc t (x ∷ xs) y h = ap (λ b. t x || b) (any_snoc t xs y h)
 
 -- an operation whose body is an insertion, at the greatest epoch
-record Inserts (G : History) (o : Op) (x : List Tuple) (cs : List ℕ) : Type 0 where
-  legal : IsLegal (Then G (Accepted o))
-  body : o.body ≡ Insert x cs
-  here : o.epoch ≡ greatest G
+pub record Inserts (G : History) (o : Op) (x : List Tuple) (cs : List ℕ) : Type 0 where
+  pub legal : IsLegal (Then G (Accepted o))
+  pub body : o.body ≡ Insert x cs
+  pub here : o.epoch ≡ greatest G
 
 same_nodes : (G : History) (o : Op) (x : List Tuple) (cs : List ℕ) → o.body ≡ Insert x cs → epochs (Then G (Accepted o)) ≡ epochs G
 same_nodes G o x cs e = ap (nodes_after (epochs G) o) e
@@ -191,10 +191,10 @@ live_split G o x cs e c p =
     let r = live_is (Then G (Accepted o)) c p in
     ⊎_elim (λ q. inl (is_live G c q (sym (same_named G o x cs e c) ∙ not_is (is_named (Then G (Accepted o)) c) r.1))) (λ q. inr q) (char_split G o c r.0)
 
-live_old : (G : History) (o : Op) (x : List Tuple) (cs : List ℕ) → o.body ≡ Insert x cs → (c : Character) → IsIn c (live G) → IsIn c (live (Then G (Accepted o)))
+pub live_old : (G : History) (o : Op) (x : List Tuple) (cs : List ℕ) → o.body ≡ Insert x cs → (c : Character) → IsIn c (live G) → IsIn c (live (Then G (Accepted o)))
 live_old G o x cs e c p = let r = live_is G c p in is_live (Then G (Accepted o)) c (char_old G o c r.0) (same_named G o x cs e c ∙ not_is (is_named G c) r.1)
 
-live_new : (G : History) (o : Op) (x : List Tuple) (cs : List ℕ) → Inserts G o x cs → (c : Character) → IsIn c (chars_of o o.body) → IsIn c (live (Then G (Accepted o)))
+pub live_new : (G : History) (o : Op) (x : List Tuple) (cs : List ℕ) → Inserts G o x cs → (c : Character) → IsIn c (chars_of o o.body) → IsIn c (live (Then G (Accepted o)))
 live_new G o x cs i c p = is_live (Then G (Accepted o)) c (char_new G o c p) (new_unnamed G o x cs i.legal i.body c p)
 
 -- ---- the export
@@ -225,7 +225,7 @@ stays : (H : History) (f : EpochName) (c : Character) → IsLegal H → IsIdent 
 unfolding translate
 stays H f c l i e = ap (λ g. tree.translate (epochs H) c.epoch g c.ident) (sym e) ∙ translate_same (epochs H) c.epoch c.ident (nodes H l) i
 
-entry_new : (G : History) (o : Op) (x : List Tuple) (cs : List ℕ) → Inserts G o x cs → (c : Character) → IsIn c (chars_of o o.body) → entry_of (Then G (Accepted o)) c ≡ born c
+pub entry_new : (G : History) (o : Op) (x : List Tuple) (cs : List ℕ) → Inserts G o x cs → (c : Character) → IsIn c (chars_of o o.body) → entry_of (Then G (Accepted o)) c ≡ born c
 entry_new G o x cs i c p =
     let K = Then G (Accepted o) in
     let q = born_in o 0 x cs c (new_from_body o x cs i.body c p) in

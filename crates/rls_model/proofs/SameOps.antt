@@ -99,7 +99,7 @@ once (Then G (Accepted o)) l =
 abbrev pub node_of : Op → List (List Tuple) → Node
 node_of o xs = record { parent = o.epoch; renaming = renaming_of o xs }
 
-in_nodes : (H : History) (n : Node) → IsIn n (epochs H) → (o : Op) × (xs : List (List Tuple)) × IsIn o (ops H) × (o.body ≡ Rename xs) × (node_of o xs ≡ n)
+pub in_nodes : (H : History) (n : Node) → IsIn n (epochs H) → (o : Op) × (xs : List (List Tuple)) × IsIn o (ops H) × (o.body ≡ Rename xs) × (node_of o xs ≡ n)
 in_nodes (history.Fresh group me members) n p = absurd p
 in_nodes (Then G (Acknowledged b v)) n p = in_nodes G n p
 in_nodes (Then G (Accepted o)) n p = go o.body refl p (λ q. in_nodes G n q)
@@ -156,11 +156,11 @@ chars_in c o [] p q = absurd p
 chars_in c o (u ∷ os) (inl e) q = in_left c (chars_of u u.body) (chars_of_all os) (subst (λ (w : Op). IsIn c (chars_of w w.body)) (sym e) q)
 chars_in c o (u ∷ os) (inr p) q = in_right c (chars_of u u.body) (chars_of_all os) (chars_in c o os p q)
 
-same_chars : (G H : History) → ((o : Op) → IsIn o (ops G) → IsIn o (ops H)) → (c : Character) → IsIn c (chars G) → IsIn c (chars H)
+pub same_chars : (G H : History) → ((o : Op) → IsIn o (ops G) → IsIn o (ops H)) → (c : Character) → IsIn c (chars G) → IsIn c (chars H)
 unfolding chars
 same_chars G H f c p = let r = in_chars c (ops G) p in chars_in c r.0 (ops H) (f r.0 r.1) r.2
 
-same_ident : (G H : History) → IsLegal G → IsLegal H → ((o : Op) → IsIn o (ops G) → IsIn o (ops H)) → (c : Character) → IsIn c (chars G) → (e : EpochName) → is_kept Origin (epochs G) e ≡ true → ident_in G e c ≡ ident_in H e c
+pub same_ident : (G H : History) → IsLegal G → IsLegal H → ((o : Op) → IsIn o (ops G) → IsIn o (ops H)) → (c : Character) → IsIn c (chars G) → (e : EpochName) → is_kept Origin (epochs G) e ≡ true → ident_in G e c ≡ ident_in H e c
 unfolding translate
 same_ident G H l m f c p e k = translate_within Origin (epochs G) (epochs H) (nodes G l) (parents G l) (nodes H m) (parents H m) (same_epochs G H f) c.epoch e c.ident (known G l c p).1 k
 

@@ -130,7 +130,7 @@ filter_both s t u (x ∷ xs) h =
     go false true e ih = ih ∙ sym (ap (λ b. cond (not b) (x ∷ filter (λ c. not (t c)) (filter (λ c. not (s c)) xs)) (filter (λ c. not (t c)) (filter (λ c. not (s c)) xs))) e)
     go false false e ih = ap (λ zs. x ∷ zs) ih ∙ sym (ap (λ b. cond (not b) (x ∷ filter (λ c. not (t c)) (filter (λ c. not (s c)) xs)) (filter (λ c. not (t c)) (filter (λ c. not (s c)) xs))) e)
 
-live_delete : (G : History) (o : Op) (ts : List (List Tuple)) → o.body ≡ Delete ts → live (Then G (Accepted o)) ≡ filter (λ c. not (has_ident ts (ident_in G o.epoch c))) (live G)
+pub live_delete : (G : History) (o : Op) (ts : List (List Tuple)) → o.body ≡ Delete ts → live (Then G (Accepted o)) ≡ filter (λ c. not (has_ident ts (ident_in G o.epoch c))) (live G)
 unfolding live
 live_delete G o ts e =
     ap (filter (λ c. not (is_named (Then G (Accepted o)) c))) (delete_chars G o ts e)
@@ -243,7 +243,7 @@ pub export_acknowledged : (G : History) (a : ℕ) (v : List ℕ) → export (The
 unfolding export live chars is_named translate greatest
 export_acknowledged G a v = refl
 
-leave_live : (G : History) (o : Op) → o.body ≡ Leave → live (Then G (Accepted o)) ≡ live G
+pub leave_live : (G : History) (o : Op) → o.body ≡ Leave → live (Then G (Accepted o)) ≡ live G
 unfolding live chars is_named translate
 leave_live G o e =
     let K = Then G (Accepted o) in

@@ -3,7 +3,7 @@ use Rattle.std.proofs.Common.{◌≡◌, ℕ, ◌≤◌, ◌<◌, Bool, true, fa
 use Rattle.std.specs.Prelude.{if◌then◌else◌, not, ◌&&◌, ◌==◌, slice_index, Option, Some, None}
 use Rattle.rls_ident.specs.Lists.{IsIn}
 use Rattle.rls_ident.specs.Vectors.{at_most}
-use Rattle.rls_ident.proofs.Members.{bool_cases, found_in, in_left, neq_test, not_le_is}
+use Rattle.rls_ident.proofs.Members.{bool_cases, found_in, in_left, le_is, neq_test, not_le_is}
 use Rattle.rls_ops.specs.declared.op.Op.{Op}
 use Rattle.rls_ops.specs.Shapes.{shape_fault}
 use Rattle.rls_ops.specs.Same.{op_eq}
@@ -18,9 +18,9 @@ use Rattle.rls_model.specs.Worlds.{World}
 use Rattle.rls_model.specs.Laws.{IsAt}
 use Rattle.rls_model.proofs.Stable.{length-count}
 use Rattle.rls_model.proofs.WorldsNumbers.{number_counted, one_number, IsFront, front_legal, front_me, front_members, front_ops, op_front, IsAck, ack_counted, acks_below, not_yet}
-use Rattle.rls_model.proofs.WorldsLines.{Arrives, fits_here, next_here}
+use Rattle.rls_model.proofs.WorldsLines.{AreLiving, made_living, Arrives, fits_here, next_here}
 use Rattle.rls_model.proofs.WorldsWaiting.{numbered_is}
-use Rattle.rls_model.proofs.WorldsInvariant.{IsHome, IsMember, IsGood, one_state, living_front}
+use Rattle.rls_model.proofs.WorldsInvariant.{IsHome, IsMember, IsGood, one_state, made_front}
 
 -- ---- operations by their numbers
 
@@ -99,28 +99,28 @@ may_accept w i s o g h k other above causes = record { shape = (home_shape w i s
       next = above;
       causes = causes;
       row = row_below;
-      living = (living_front (Then P (Accepted o)) t.history front its.living).1 (sym its.me ∙ sym (front_me (Then P (Accepted o)) t.history front));
+      living = let r = (made_front (Then P (Accepted o)) t.history front its.own).1 (sym its.me ∙ sym (front_me (Then P (Accepted o)) t.history front)) in subst (AreLiving P) r.3 (made_living P r.0);
     }
 
 -- ---- the answer
 
 -- what may be answered to a home operation
 pub data Received (s : State) (o : Op) (r : Answer) : Type 0 where
-  Again : r ≡ Repeats → Received s o r
+  Again : r ≡ Repeats → o.seq ≤ count_of s.history o.author → Received s o r
   Held : r ≡ Waits → count_of s.history o.author < o.seq → Received s o r
   Taken : r ≡ Applies → MayAccept s.history o → Received s o r
 
-beside_none : (H : History) (o : Op) (b : Bool) → at_most o.context (count H) ≡ b → answer_beside H o None ≡ (if not b then Waits else verdict_of (refusal H o))
+pub beside_none : (H : History) (o : Op) (b : Bool) → at_most o.context (count H) ≡ b → answer_beside H o None ≡ (if not b then Waits else verdict_of (refusal H o))
 beside_none H o b e = ap (λ c. if not c then Waits else verdict_of (refusal H o)) e
 
-beside_same : (H : History) (o x : Op) → x ≡ o → answer_beside H o (Some x) ≡ answer_beside H o None
+pub beside_same : (H : History) (o x : Op) → x ≡ o → answer_beside H o (Some x) ≡ answer_beside H o None
 beside_same H o x e = ap (λ c. if not c then Refuses (Forked x) else (if not (at_most o.context (count H)) then Waits else verdict_of (refusal H o))) (ap (λ y. op_eq y o) e ∙ op_same o)
 
 pub received : (w : World) (i : ℕ) (s : State) (o : Op) → IsGood w → IsAt w i s → IsHome w o → Received s o (receive s o)
 unfolding answer
 received w i s o g h k =
     bool_cases (nat_le o.seq (count_of s.history o.author))
-    (λ e. Again (shape ∙ ap (λ b. if b then Repeats else (if not false && (o.author == me_of s.history) then Refuses (Own o.seq) else answer_beside s.history o (waiting_under s.waiting o.author o.seq))) e))
+    (λ e. Again (shape ∙ ap (λ b. if b then Repeats else (if not false && (o.author == me_of s.history) then Refuses (Own o.seq) else answer_beside s.history o (waiting_under s.waiting o.author o.seq))) e) (le_is o.seq (count_of s.history o.author) e))
     (λ e. new (not_le_is o.seq (count_of s.history o.author) e) (receive s o)
     (shape ∙ ap (λ b. if b then Repeats else (if not false && (o.author == me_of s.history) then Refuses (Own o.seq) else answer_beside s.history o (waiting_under s.waiting o.author o.seq))) e))
   where

@@ -1,19 +1,21 @@
 -- The invariant of worlds, and that what a step makes of one member's state keeps it.
 use Rattle.std.proofs.Common.{◌≡◌, ℕ, List, length, sym, ap, ◌∙◌, subst, inl, inr, ◌⊎◌, ⊎_elim}
-use Rattle.std.specs.Prelude.{◌==◌, slice_get, slice_set}
+use Rattle.std.specs.Prelude.{◌==◌, slice_get, slice_set, None}
 use Rattle.rls_ident.specs.Lists.{IsIn}
 use Rattle.rls_ident.proofs.Members.{bool_cases, eq_is, eq_not, some_is}
 use Rattle.rls_ops.specs.declared.op.Op.{Op}
 use Rattle.rls_ops.specs.declared.message.Message.{Message}
 use Rattle.rls_model.specs.History.{Accepted, Acknowledged, History, Then, ops, count, me_of, members_of}
 use Rattle.rls_model.specs.History as history
+use Rattle.rls_model.specs.declared.edit.Edit.{Edit}
+use Rattle.rls_model.specs.Editing.{made, edit_fault}
+use Rattle.rls_model.specs.WellFormed.{IsEdit}
 use Rattle.rls_model.specs.Receiving.{State}
 use Rattle.rls_model.specs.Legal.{IsLegal, IsSound}
 use Rattle.rls_model.specs.Worlds.{World, with_state}
 use Rattle.rls_model.specs.Laws.{IsAt}
 use Rattle.rls_model.proofs.WorldsLists.{get_set_same, get_set_other, length-set}
 use Rattle.rls_model.proofs.WorldsNumbers.{IsFront, front_self, front_trans, front_me, front_members, front_ops, IsAck}
-use Rattle.rls_model.proofs.WorldsLines.{AreLiving}
 
 -- the operation stands in its author's history
 abbrev pub IsHome : World → Op → Type 0
@@ -23,11 +25,15 @@ IsHome w o = (t : State) × IsAt w o.author t × IsIn o (ops t.history)
 abbrev pub WasCount : World → ℕ → List ℕ → Type 0
 WasCount w a v = (t : State) × (Q : History) × IsAt w a t × IsFront Q t.history × (count Q ≡ v)
 
--- the targets of each own operation lived right before it
-abbrev pub IsLiving : History → Type 0
-IsLiving (history.Fresh group me members) = Unit {0}
-IsLiving (Then G (Accepted o)) = IsLiving G × (o.author ≡ me_of G → AreLiving G o)
-IsLiving (Then G (Acknowledged a v)) = IsLiving G
+-- an edit without a fault makes the operation
+abbrev pub IsMadeAt : History → Op → Type 0
+IsMadeAt G o = (edit : Edit) × IsEdit edit × (edit_fault G edit ≡ None) × (made G edit ≡ o)
+
+-- each own operation was made by such an edit
+abbrev pub AreMade : History → Type 0
+AreMade (history.Fresh group me members) = Unit {0}
+AreMade (Then G (Accepted o)) = AreMade G × (o.author ≡ me_of G → IsMadeAt G o)
+AreMade (Then G (Acknowledged a v)) = AreMade G
 
 -- what holds of a member and its state
 pub record IsMember (w : World) (i : ℕ) (s : State) : Type 0 where
@@ -38,7 +44,7 @@ pub record IsMember (w : World) (i : ℕ) (s : State) : Type 0 where
   pub home : (o : Op) → IsIn o (ops s.history) → IsHome w o
   pub waits : (o : Op) → IsIn o s.waiting → IsHome w o
   pub acks : (a : ℕ) (v : List ℕ) → IsAck s.history a v → WasCount w a v
-  pub living : IsLiving s.history
+  pub own : AreMade s.history
 
 -- and of a sent message
 pub record IsMessage (w : World) (m : Message) : Type 0 where
@@ -58,16 +64,16 @@ pub record Becomes (w : World) (i : ℕ) (s t : State) : Type 0 where
   pub home : (o : Op) → IsIn o (ops t.history) → IsHome w o ⊎ (o.author ≡ i)
   pub waits : (o : Op) → IsIn o t.waiting → IsHome w o
   pub acks : (a : ℕ) (v : List ℕ) → IsAck t.history a v → WasCount w a v
-  pub living : IsLiving t.history
+  pub own : AreMade t.history
 
 pub one_state : (w : World) (i j : ℕ) (s t : State) → IsAt w i s → IsAt w j t → i ≡ j → s ≡ t
 one_state w i j s t h k e = some_is s t (sym h ∙ (ap (slice_get w.states) e ∙ k))
 
-pub living_front : (P H : History) → IsFront P H → IsLiving H → IsLiving P
-living_front P (history.Fresh group me members) h l = subst IsLiving (sym h) l
-living_front P (Then G e) (inl h) l = subst IsLiving (sym h) l
-living_front P (Then G (Accepted o)) (inr h) l = living_front P G h l.0
-living_front P (Then G (Acknowledged a v)) (inr h) l = living_front P G h l
+pub made_front : (P H : History) → IsFront P H → AreMade H → AreMade P
+made_front P (history.Fresh group me members) h l = subst AreMade (sym h) l
+made_front P (Then G e) (inl h) l = subst AreMade (sym h) l
+made_front P (Then G (Accepted o)) (inr h) l = made_front P G h l.0
+made_front P (Then G (Acknowledged a v)) (inr h) l = made_front P G h l
 
 -- ---- another state of one member
 
@@ -79,14 +85,14 @@ at_split w i j s t u h k =
     (λ e. inr (sym (get_set_other w.states i j t (eq_not i j e)) ∙ k))
 
 -- the state of member j has a later one, or itself, in the new world
-at_later : (w : World) (i j : ℕ) (s t u : State) → IsAt w i s → IsFront s.history t.history → IsAt w j u → (v : State) × IsAt (with_state w i t) j v × IsFront u.history v.history
+pub at_later : (w : World) (i j : ℕ) (s t u : State) → IsAt w i s → IsFront s.history t.history → IsAt w j u → (v : State) × IsAt (with_state w i t) j v × IsFront u.history v.history
 at_later w i j s t u h f k =
     bool_cases (i == j)
     (λ e. let g = eq_is i j e in
     (t, ap (slice_get (slice_set w.states i t)) (sym g) ∙ get_set_same w.states i s t h, subst (λ (x : State). IsFront x.history t.history) (one_state w i j s u h k g) f))
     (λ e. (u, get_set_other w.states i j t (eq_not i j e) ∙ k, front_self u.history))
 
-home_later : (w : World) (i : ℕ) (s t : State) (o : Op) → IsAt w i s → IsFront s.history t.history → IsHome w o → IsHome (with_state w i t) o
+pub home_later : (w : World) (i : ℕ) (s t : State) (o : Op) → IsAt w i s → IsFront s.history t.history → IsHome w o → IsHome (with_state w i t) o
 home_later w i s t o h f k = let r = at_later w i o.author s t k.0 h f k.1 in (r.0, r.1, front_ops (k.0).history (r.0).history r.2 o k.2)
 
 count_later : (w : World) (i : ℕ) (s t : State) (a : ℕ) (v : List ℕ) → IsAt w i s → IsFront s.history t.history → WasCount w a v → WasCount (with_state w i t) a v
@@ -106,7 +112,7 @@ becomes_good w i s t g h b = record { member = λ j u k. ⊎_elim (λ e. subst (
           home = λ o p. ⊎_elim (λ q. home_later w i s t o h b.grows q) (λ q. (t, ap (slice_get (slice_set w.states i t)) q ∙ get_set_same w.states i s t h, p)) (b.home o p);
           waits = λ o p. home_later w i s t o h b.grows (b.waits o p);
           acks = λ a v p. count_later w i s t a v h b.grows (b.acks a v p);
-          living = b.living;
+          own = b.own;
         }
 
     old : (j : ℕ) (u : State) → IsMember w j u → IsMember (with_state w i t) j u
@@ -118,7 +124,7 @@ becomes_good w i s t g h b = record { member = λ j u k. ⊎_elim (λ e. subst (
       home = λ o p. home_later w i s t o h b.grows (r.home o p);
       waits = λ o p. home_later w i s t o h b.grows (r.waits o p);
       acks = λ a v p. count_later w i s t a v h b.grows (r.acks a v p);
-      living = r.living;
+      own = r.own;
     }
 
     sent : (m : Message) → IsMessage w m → IsMessage (with_state w i t) m

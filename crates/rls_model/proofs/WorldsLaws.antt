@@ -19,7 +19,7 @@ use Rattle.rls_model.specs.WellFormed.{IsLarge, IsEdit, IsEvent}
 use Rattle.rls_model.specs.Taking.{Limit, front_within, missing_for, message_for, take_within}
 use Rattle.rls_model.specs.EditRun.{edit_within}
 use Rattle.rls_model.specs.Worlds.{World, fresh_states, empty_world, member_fault, or_else, of_edit, edit_fault_at, fault_of, with_state, edit_at, send_at, deliver_at, step_of, unless, happens, Happening, run, AreEvents, AreWhole}
-use Rattle.rls_model.specs.Laws.{IsAt, IsAfter, HaveSameOps, WorldsLegal, EqualVectors, NoRefusal}
+use Rattle.rls_model.specs.Laws.{IsAt, IsAfter, HaveSameOps, ShowSame, WorldsLegal, EqualVectors, NoRefusal}
 use Rattle.rls_model.proofs.SameOps as same_ops
 use Rattle.rls_model.proofs.WorldsNumbers.{number_counted, with_number, front_self}
 use Rattle.rls_model.proofs.WorldsInvariant.{IsMember, IsMessage, IsGood, at_split}
@@ -39,14 +39,14 @@ length-snoc : {A : Type 0} (xs : List A) (x : A) → length (xs ++ (x ∷ [])) �
 length-snoc [] x = refl
 length-snoc (y ∷ xs) x = ap suc (length-snoc xs x)
 
-fresh : ℕ → ℕ → ℕ → State
+unfoldable pub fresh : ℕ → ℕ → ℕ → State
 fresh group members i = record { history = Fresh group i members; waiting = [] }
 
-fresh_length : (group members n : ℕ) → length (fresh_states group members n) ≡ n
+pub fresh_length : (group members n : ℕ) → length (fresh_states group members n) ≡ n
 fresh_length group members zero = refl
 fresh_length group members (suc n) = length-snoc (fresh_states group members n) (record { history = Fresh group n members; waiting = [] }) ∙ ap suc (fresh_length group members n)
 
-fresh_at : (group members n i : ℕ) (s : State) → slice_get (fresh_states group members n) i ≡ Some s → (i < n) × (fresh group members i ≡ s)
+pub fresh_at : (group members n i : ℕ) (s : State) → slice_get (fresh_states group members n) i ≡ Some s → (i < n) × (fresh group members i ≡ s)
 unfolding fresh
 fresh_at group members zero i s h = absurd (cc)
 fresh_at group members (suc n) i s h =
@@ -68,7 +68,7 @@ empty_good group members g m = record {
         home = λ o p. absurd p;
         waits = λ o p. absurd p;
         acks = λ a v p. absurd p;
-        living = tt;
+        own = tt;
       });
   message = λ k p. absurd p;
 }
@@ -100,15 +100,15 @@ in_message H to o p =
     let r = (in_filter (λ o. not (is_covered (row H to) o)) o (unstable H) q).0 in
     (in_filter (λ o. not (is_covered (stable H) o)) o (ops H) r).0
 
-sends : (w : World) (i : ℕ) (s : State) (to : ℕ) → IsGood w → IsAt w i s → IsMessage w (message_for s.history to)
+pub sends : (w : World) (i : ℕ) (s : State) (to : ℕ) → IsGood w → IsAt w i s → IsMessage w (message_for s.history to)
 unfolding message_for
 sends w i s to g h =
     let r = g.member i s h in
     record { ops = λ o p. r.home o (in_message s.history to o p); vector = (s, s.history, ap (slice_get w.states) r.me ∙ h, front_self s.history, refl) }
 
-posts : (w : World) (m : Message) → IsGood w → IsMessage w m → IsGood (record w { sent = w.sent ++ m ∷ [] })
+pub posts : (w : World) (m : Message) → IsGood w → IsMessage w m → IsGood (record w { sent = w.sent ++ m ∷ [] })
 posts w m g k = record {
-  member = λ i s h. let r = g.member i s h in record { legal = r.legal; me = r.me; members = r.members; sound = r.sound; home = r.home; waits = r.waits; acks = r.acks; living = r.living };
+  member = λ i s h. let r = g.member i s h in record { legal = r.legal; me = r.me; members = r.members; sound = r.sound; home = r.home; waits = r.waits; acks = r.acks; own = r.own };
   message = λ n p. ⊎_elim (λ q. let r = g.message n q in record { ops = r.ops; vector = r.vector })
       (λ q. let r = subst (IsMessage w) q k in record { ops = r.ops; vector = r.vector })
       (snoc_split n m w.sent p);
@@ -204,11 +204,14 @@ has_op w i j s t g h k e o p =
     let x = with_number t.history q.legal o.author o.seq n.0 (omega arith) in
     subst (λ y. IsIn y (ops t.history)) (one_op w x.0 o g (q.home x.0 x.1) (r.home o p) x.2 x.3) x.1
 
-pub equal_vectors : EqualVectors
-equal_vectors w hs i j s t a h k e =
-    let g = good_after w hs a in
+-- two members of a good world that have equal counts show the same
+pub equal_good : (w : World) (i j : ℕ) (s t : State) → IsGood w → IsAt w i s → IsAt w j t → count s.history ≡ count t.history → HaveSameOps s.history t.history × ShowSame s.history t.history
+equal_good w i j s t g h k e =
     let same : HaveSameOps s.history t.history = λ o. (has_op w i j s t g h k e o, has_op w j i t s g k h (sym e) o) in
     (same, same_ops.law s.history t.history (g.member i s h).legal (g.member j t k).legal same)
+
+pub equal_vectors : EqualVectors
+equal_vectors w hs i j s t a h k e = equal_good w i j s t (good_after w hs a) h k e
 
 pub no_refusal : NoRefusal
 no_refusal w hs a =

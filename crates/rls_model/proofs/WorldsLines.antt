@@ -1,6 +1,6 @@
 -- What a member made behind the front P of its history is refused by no other member that has its causes.
 use Rattle.std.proofs.Common.{◌≡◌, ℕ, ◌+◌, ◌≤◌, ◌<◌, Bool, true, false, List, [], ◌∷◌, length, refl, sym, ap, ◌∙◌, subst, arith, inl, inr, ⊎_elim, nat_le}
-use Rattle.std.specs.Prelude.{if◌then◌else◌, not, ◌&&◌, ◌||◌, ◌==◌, slice_index, Option, Some, None}
+use Rattle.std.specs.Prelude.{if◌then◌else◌, not, ◌&&◌, ◌||◌, ◌==◌, slice_index, Option, Some, None, drop}
 use Rattle.std.specs.List.{list_any}
 use Rattle.std.specs.Ordering.{is_eq}
 use Rattle.std.proofs.lemmas.Cmp.{lists_total, tied_itself}
@@ -13,7 +13,7 @@ use Rattle.rls_ident.specs.Identifiers.{ident_eq, last_of}
 use Rattle.rls_ident.specs.Tuples.{replica_of, seq_of, offset_of}
 use Rattle.rls_ident.specs.Vectors.{at_most}
 use Rattle.rls_ident.proofs.Tuples.{tuple_total}
-use Rattle.rls_ident.proofs.Members.{any_in, bool_cases, eq_is, filter_in, in_any, in_filter, in_left, in_right, le_is, le_test, not_is, not_le_is, not_le_test, not_true, or_left, or_right, snoc_split, true_false}
+use Rattle.rls_ident.proofs.Members.{any_in, bool_cases, eq_is, filter_in, in_any, in_drop, in_filter, in_left, in_map, in_right, in_take, le_is, le_test, not_is, not_le_is, not_le_test, not_true, or_left, or_right, snoc_split, true_false}
 use Rattle.rls_ident.proofs.Vectors.{at_most_trans, index_le}
 use Rattle.rls_ident.proofs.Ends.{eq_same}
 use Rattle.rls_rename.specs.Tree.{Node, is_kept, has_node, names, name_of}
@@ -23,6 +23,8 @@ use Rattle.rls_rename.proofs.SameNodes.{translate_within}
 use Rattle.rls_ops.specs.declared.op.Op.{Op}
 use Rattle.rls_ops.specs.declared.op.Body.{Body}
 use Rattle.rls_ops.specs.declared.op.Body.TheVariants.{Insert, Delete, Rename, Leave}
+use Rattle.rls_model.specs.declared.edit.Edit.{Edit}
+use Rattle.rls_model.specs.declared.edit.Edit.TheVariants as edits
 use Rattle.rls_model.specs.declared.parts.Stem.{Stem}
 use Rattle.rls_model.specs.Answers as answers
 use Rattle.rls_model.specs.Answers.{Backward, WrongEpoch, WrongStem, UnknownTarget}
@@ -31,15 +33,16 @@ use Rattle.rls_model.specs.History as history
 use Rattle.rls_model.specs.Stability.{is_covered, stable, unstable}
 use Rattle.rls_model.specs.Stems.{stems, stem_of, due_of, due_offset, is_due, ends_at_low, may_use}
 use Rattle.rls_model.specs.Epochs.{epochs, nodes_after, greatest, greatest_within, translate}
-use Rattle.rls_model.specs.Document.{Character, chars, targets_of, ident_in, has_ident, is_named, live}
+use Rattle.rls_model.specs.Document.{Character, chars, targets_of, ident_in, has_ident, is_named, live, export, idents}
 use Rattle.rls_model.specs.Fitting.{is_known, first_unknown, body_refusal, refusal}
 use Rattle.rls_model.specs.Legal.{IsLegal}
+use Rattle.rls_model.specs.Editing.{made}
 use Rattle.rls_model.specs.Laws.{ops_of, MayBegin}
 use Rattle.rls_model.proofs.OneTree.{nodes, parents, epoch_kept, fits_epoch, author_below, named_le, history_translate}
 use Rattle.rls_model.proofs.Stable.{stable_row}
 use Rattle.rls_model.proofs.Fresh.{own_stems, may_begin}
 use Rattle.rls_model.proofs.Distinct.{known}
-use Rattle.rls_model.proofs.SameOps.{op_kept, same_epochs, in_chars, chars_in}
+use Rattle.rls_model.proofs.SameOps.{op_kept, same_epochs, in_chars, chars_in, in_export}
 use Rattle.rls_model.proofs.Made.{own_epoch, fit_chain}
 use Rattle.rls_model.proofs.WorldsNumbers.{number_counted, with_number, ops_from, same_from, fits_left, own_context, leave_of, left_by}
 use Rattle.rls_model.proofs.WorldsEpochs.{in_names, greatest_part}
@@ -47,6 +50,22 @@ use Rattle.rls_model.proofs.WorldsEpochs.{in_names, greatest_part}
 -- the operation's targets are identifiers of characters that live in P
 abbrev pub AreLiving : History → Op → Type 0
 AreLiving P o = (x : List Tuple) → IsIn x (targets_of o.body) → (c : Character) × IsIn c (live P) × (ident_in P o.epoch c ≡ x)
+
+-- an identifier of the text is a live character's
+text_lives : (H : History) (x : List Tuple) → IsIn x (idents H) → (c : Character) × IsIn c (live H) × (ident_in H (greatest H) c ≡ x)
+unfolding idents
+text_lives H x p =
+    let r = in_map (λ (y : List Tuple × ℕ). y.0) x (export H) p in
+    let q = in_export H r.0 r.1 in
+    (q.0, q.1, ap (λ (y : List Tuple × ℕ). y.0) q.2 ∙ r.2)
+
+-- what an edit deletes lives
+pub made_living : (H : History) (edit : Edit) → AreLiving H (made H edit)
+unfolding made
+made_living H (edits.Insert at text) x p = absurd p
+made_living H (edits.Delete at n) x p = text_lives H x (in_drop at x (idents H) (in_take n x (drop at (idents H)) p))
+made_living H edits.Rename x p = absurd p
+made_living H edits.Leave x p = absurd p
 
 -- an operation that its author made behind P and that a member with history H, which has its causes, hasn't accepted
 pub record Arrives (H P : History) (o : Op) : Type 0 where

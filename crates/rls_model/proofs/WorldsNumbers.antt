@@ -14,6 +14,7 @@ use Rattle.rls_model.specs.History as history
 use Rattle.rls_model.specs.Fitting.{refusal}
 use Rattle.rls_model.specs.Legal.{MayAccept, IsLegal}
 use Rattle.rls_model.specs.Laws.{ops_of}
+pub use Rattle.rls_model.specs.Laws.{IsFront}
 use Rattle.rls_model.proofs.OneTree.{none_else, not_not, author_below, count_next}
 use Rattle.rls_model.proofs.Stable.{length-count, count_grows}
 
@@ -114,11 +115,6 @@ same_from n (x ∷ xs) (y ∷ ys) h k e f =
     ap (λ z. z ∷ xs) (f x y (inl refl) (inl refl) (h.0 ∙ sym k.0)) ∙ ap (λ zs. y ∷ zs) (same_from (suc n) xs ys h.1 k.1 (omega arith) (λ u v p q g. f u v (inr p) (inr q) g))
 
 -- ---- fronts
-
--- the history or one that it came from
-abbrev pub IsFront : History → History → Type 0
-IsFront P (history.Fresh group me members) = P ≡ history.Fresh group me members
-IsFront P (Then G e) = (P ≡ Then G e) ⊎ IsFront P G
 
 pub front_self : (H : History) → IsFront H H
 front_self (history.Fresh group me members) = refl

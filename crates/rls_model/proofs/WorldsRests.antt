@@ -80,7 +80,7 @@ steps_rest (suc n) p e h = go (first_ready p.state) refl (λ q f k. steps_rest n
 abbrev pub IsDone : Progress → Type 0
 IsDone p = (p.limit ≡ None) × IsAtRest p.state
 
-released_done : (p : Progress) → p.limit ≡ None → IsDone (with_releases p)
+pub released_done : (p : Progress) → p.limit ≡ None → IsDone (with_releases p)
 released_done p e = steps_rest (length (p.state).waiting) p e (omega arith)
 
 answer_limit : (p : Progress) (o : Op) (r : Answer) → (with_answer p o r).limit ≡ p.limit
@@ -89,7 +89,7 @@ answer_limit p o Repeats = refl
 answer_limit p o Waits = refl
 answer_limit p o (Refuses r) = refl
 
-receive_limit : (p : Progress) (o : Op) → p.limit ≡ None → (receive_step p o).limit ≡ None
+pub receive_limit : (p : Progress) (o : Op) → p.limit ≡ None → (receive_step p o).limit ≡ None
 receive_limit p o e = go (has_room p.limit)
   where
     go : (b : Bool) → (if b then with_answer (moved p (receive_after p.state o)) o (receive p.state o) else p).limit ≡ None
@@ -157,6 +157,13 @@ made_rests w i s o g h r e =
     true_false (at_most x.context (count s.history))
     (below_raised x.context (count s.history) o.author c (subst (λ a. slice_index x.context a ≤ count_of s.history a) (sym e) (own_known w i s x g h ((g.member i s h).waits x q))))
     (not_found (λ y. at_most y.context (count s.history)) x s.waiting r q)))
+
+-- so an edit adds its operation alone
+pub made_alone : (w : World) (i : ℕ) (s : State) (edit : Edit) → IsGood w → IsAt w i s → IsAtRest s → (edit_within None s edit).state ≡ accept s (made s.history edit)
+unfolding edit_within made
+made_alone w i s edit g h r =
+    let q = moved (started None s) (accept s (made s.history edit)) in
+    ap (λ (p : Progress). p.state) (rest_steps (length (q.state).waiting) q (made_rests w i s (made s.history edit) g h r (g.member i s h).me))
 
 pub none_released : (w : World) (i : ℕ) (s : State) (edit : Edit) (limit : Limit) → IsGood w → IsAt w i s → IsAtRest s → (edit_within limit s edit).released ≡ 0
 unfolding edit_within made

@@ -63,7 +63,7 @@ read_well edit h s e k = go (edit_fault s.history edit) refl k
     go None f k = let q : edit ≡ e = cc in (subst IsEdit q h, ap (edit_fault s.history) (sym q) ∙ f)
     go (Some x) f k = absurd (cc)
 
-edits_read : (es : List Edit) → AreEdits es → AllReadWell read_edit es
+pub edits_read : (es : List Edit) → AreEdits es → AllReadWell read_edit es
 edits_read [] a = tt
 edits_read (e ∷ es) a = (read_well e a.0, edits_read es a.1)
 

@@ -1,19 +1,15 @@
 -- Each step of a member keeps the invariant and refuses nothing.
-use Rattle.std.proofs.Common.{◌≡◌, ℕ, zero, suc, ◌<◌, Bool, true, false, List, [], ◌∷◌, length, drop, refl, sym, ap, ◌∙◌, subst, arith, inl, inr, ◌⊎◌, ⊎_elim}
+use Rattle.std.proofs.Common.{◌≡◌, ℕ, zero, suc, ◌<◌, Bool, true, false, List, [], ◌∷◌, length, refl, sym, ap, ◌∙◌, subst, arith, inl, inr, ◌⊎◌, ⊎_elim}
 use Rattle.std.specs.Prelude.{if◌then◌else◌, All, Option, Some, None}
-use Rattle.rls_ident.specs.declared.tuple.Tuple.{Tuple}
 use Rattle.rls_ident.specs.Lists.{IsIn}
 use Rattle.rls_ident.specs.Vectors.{at_most}
-use Rattle.rls_ident.proofs.Members.{found_in, in_map, snoc_split, in_take, in_drop}
+use Rattle.rls_ident.proofs.Members.{found_in, snoc_split}
 use Rattle.rls_ops.specs.declared.op.Op.{Op}
 use Rattle.rls_ops.specs.declared.message.Message.{Message}
 use Rattle.rls_model.specs.declared.edit.Edit.{Edit}
-use Rattle.rls_model.specs.declared.edit.Edit.TheVariants as edits
 use Rattle.rls_model.specs.Answers.{Reason, Answer, Waits}
 use Rattle.rls_model.specs.History.{Acknowledged, History, Then, ops, count, count_of, me_of, members_of}
 use Rattle.rls_model.specs.Stability.{is_counted}
-use Rattle.rls_model.specs.Epochs.{greatest}
-use Rattle.rls_model.specs.Document.{Character, live, export, idents, ident_in}
 use Rattle.rls_model.specs.Fitting.{refusal}
 use Rattle.rls_model.specs.Receiving.{State, without, accept, after, receive, receive_after, first_ready, release, release_of, after_refusal, after_release}
 use Rattle.rls_model.specs.WellFormed.{IsSmall, IsOp, IsEdit}
@@ -25,19 +21,17 @@ use Rattle.rls_model.specs.Worlds.{World, with_state}
 use Rattle.rls_model.specs.Laws.{IsAt}
 use Rattle.rls_model.proofs.Stable.{length-count}
 use Rattle.rls_model.proofs.Ranges.{counts_small}
-use Rattle.rls_model.proofs.SameOps.{in_export}
 use Rattle.rls_model.proofs.Made as making
 use Rattle.rls_model.proofs.WorldsLists.{got_below, set_set, set_get, get_set_same}
 use Rattle.rls_model.proofs.WorldsNumbers.{front_self, front_legal, front_members}
-use Rattle.rls_model.proofs.WorldsLines.{AreLiving}
 use Rattle.rls_model.proofs.WorldsWaiting.{in_without, in_with, waiting_at, sound_grown, sound_accepted, sound_put}
-use Rattle.rls_model.proofs.WorldsInvariant.{IsHome, WasCount, IsMember, IsGood, Becomes, becomes_good}
+use Rattle.rls_model.proofs.WorldsInvariant.{IsHome, IsMadeAt, WasCount, IsMember, IsGood, Becomes, becomes_good}
 use Rattle.rls_model.proofs.WorldsArrivals.{own_counted, home_shape, may_accept, Received, Again, Held, Taken, received}
 
 -- ---- what a step makes of a state
 
--- an operation is accepted: one of another member, or an own one whose targets live
-accepts : (w : World) (i : ℕ) (s : State) (o : Op) → IsMember w i s → IsOp o → MayAccept s.history o → IsHome w o ⊎ (o.author ≡ i) → (o.author ≡ me_of s.history → AreLiving s.history o) → Becomes w i s (accept s o)
+-- an operation is accepted: one of another member, or an own one that an edit makes
+pub accepts : (w : World) (i : ℕ) (s : State) (o : Op) → IsMember w i s → IsOp o → MayAccept s.history o → IsHome w o ⊎ (o.author ≡ i) → (o.author ≡ me_of s.history → IsMadeAt s.history o) → Becomes w i s (accept s o)
 accepts w i s o r p m h l = record {
   grows = inr (front_self s.history);
   legal = (r.legal, p, m);
@@ -45,7 +39,7 @@ accepts w i s o r p m h l = record {
   home = λ x q. ⊎_elim (λ u. inl (r.home x u)) (λ u. subst (λ (y : Op). IsHome w y ⊎ (y.author ≡ i)) u h) (snoc_split x o (ops s.history) q);
   waits = λ x q. r.waits x (in_without o.author o.seq x s.waiting q).0;
   acks = r.acks;
-  living = (r.living, l);
+  own = (r.own, l);
 }
 
 -- one is put to those that wait
@@ -60,7 +54,7 @@ holds w i s o g a h c =
       home = λ x q. inl (r.home x q);
       waits = λ x q. ⊎_elim (λ u. subst (IsHome w) u h) (λ u. r.waits x (in_without o.author o.seq x s.waiting u).0) (in_with o x (without o.author o.seq s.waiting) q);
       acks = r.acks;
-      living = r.living;
+      own = r.own;
     }
 
 -- an acknowledgement is counted
@@ -78,26 +72,10 @@ notes w i s a v g h k c =
       home = λ x q. inl (r.home x q);
       waits = r.waits;
       acks = λ b u p. ⊎_elim (λ q. subst (WasCount w b) q.1 (subst (λ n. WasCount w n v) q.0 k)) (λ q. r.acks b u q) p;
-      living = r.living;
+      own = r.own;
     }
 
 -- ---- own operations
-
--- an identifier of the text is a live character's
-text_lives : (H : History) (x : List Tuple) → IsIn x (idents H) → (c : Character) × IsIn c (live H) × (ident_in H (greatest H) c ≡ x)
-unfolding idents
-text_lives H x p =
-    let r = in_map (λ (y : List Tuple × ℕ). y.0) x (export H) p in
-    let q = in_export H r.0 r.1 in
-    (q.0, q.1, ap (λ (y : List Tuple × ℕ). y.0) q.2 ∙ r.2)
-
--- what an edit deletes lives
-made_living : (H : History) (edit : Edit) → AreLiving H (made H edit)
-unfolding made
-made_living H (edits.Insert at text) x p = absurd p
-made_living H (edits.Delete at n) x p = text_lives H x (in_drop at x (idents H) (in_take n x (drop at (idents H)) p))
-made_living H edits.Rename x p = absurd p
-made_living H edits.Leave x p = absurd p
 
 made_own : (H : History) (edit : Edit) → (made H edit).author ≡ me_of H
 unfolding made
@@ -106,7 +84,7 @@ made_own H edit = refl
 pub edits_own : (w : World) (i : ℕ) (s : State) (edit : Edit) → IsMember w i s → IsEdit edit → edit_fault s.history edit ≡ None → Becomes w i s (accept s (made s.history edit))
 edits_own w i s edit r p f =
     let l = making.law s.history edit r.legal p f in
-    accepts w i s (made s.history edit) r l.1 l.2 (inr (made_own s.history edit ∙ r.me)) (λ e. made_living s.history edit)
+    accepts w i s (made s.history edit) r l.1 l.2 (inr (made_own s.history edit ∙ r.me)) (λ e. (edit, p, f, refl))
 
 -- ---- progress
 
@@ -129,7 +107,7 @@ pub received_going : (w : World) (i : ℕ) (s : State) (p : Progress) (o : Op) �
 received_going w i s p o h g k = go (has_room p.limit)
   where
     step : (r : Answer) → Received p.state o r → IsGoing w i (with_answer (moved p (after r p.state o)) o r)
-    step r (Again e) = subst (λ a. IsGoing w i (with_answer (moved p (after a p.state o)) o a)) (sym e) (record { good = g.good; clean = g.clean })
+    step r (Again e c) = subst (λ a. IsGoing w i (with_answer (moved p (after a p.state o)) o a)) (sym e) (record { good = g.good; clean = g.clean })
     step r (Held e c) =
         subst (λ a. IsGoing w i (with_answer (moved p (after a p.state o)) o a)) (sym e)
         (record { good = keep w i s p.state (after Waits p.state o) h g.good (holds (with_state w i p.state) i p.state o g.good (here w i s p.state h) k c); clean = g.clean })
@@ -152,6 +130,16 @@ pub release_is : (p : Progress) (m : Option Op) → first_ready p.state ≡ m �
 release_is p None e = ap (λ k. with_release p (release_of p.state k)) e
 release_is p (Some x) e = ap (λ k. with_release p (release_of p.state k)) e ∙ ap (λ k. with_refusal (moved p (after_release p.state k)) x.author x.seq (refusal (p.state).history x)) e
 
+-- what waits and has its causes is another member's and may be accepted
+pub ready_fits : (w : World) (i : ℕ) (s : State) (p : Progress) → IsAt w i s → IsGoing w i p → (x : Op) → IsIn x (p.state).waiting → at_most x.context (count (p.state).history) ≡ true → (x.author ≡ i → ⊥) × MayAccept (p.state).history x
+ready_fits w i s p h g x q c =
+    let v = with_state w i p.state in
+    let at : IsAt v i p.state = here w i s p.state h in
+    let r = (g.good).member i p.state at in
+    let f = waiting_at (p.state).history (p.state).waiting x r.sound q in
+    let n : x.author ≡ i → ⊥ = λ e. let d = own_counted v i p.state x g.good at (r.waits x q) e in let k = f.2 in omega arith in
+    (n, may_accept v i p.state x g.good at (r.waits x q) n f.2 c)
+
 pub released_going : (w : World) (i : ℕ) (s : State) (p : Progress) → IsAt w i s → IsGoing w i p → IsGoing w i (release_step p)
 released_going w i s p h g = go (has_room p.limit)
   where
@@ -161,16 +149,10 @@ released_going w i s p h g = go (has_room p.limit)
     r : IsMember (with_state w i p.state) i p.state
     r = (g.good).member i p.state at
 
-    fits : (x : Op) → IsIn x (p.state).waiting → at_most x.context (count (p.state).history) ≡ true → (x.author ≡ i → ⊥) × MayAccept (p.state).history x
-    fits x q c =
-        let f = waiting_at (p.state).history (p.state).waiting x r.sound q in
-        let n : x.author ≡ i → ⊥ = λ e. let d = own_counted (with_state w i p.state) i p.state x g.good at (r.waits x q) e in let k = f.2 in omega arith in
-        (n, may_accept (with_state w i p.state) i p.state x g.good at (r.waits x q) n f.2 c)
-
     step : (x : Op) → IsIn x (p.state).waiting → at_most x.context (count (p.state).history) ≡ true → (f : Option Reason) → f ≡ refusal (p.state).history x →
         IsGoing w i (with_refusal (moved p (after_refusal f p.state x)) x.author x.seq f)
     step x q c f e =
-        let m = fits x q c in
+        let m = ready_fits w i s p h g x q c in
         let b = accepts (with_state w i p.state) i p.state x r (home_shape (with_state w i p.state) i p.state x g.good at (r.waits x q)).0 (m.1) (inl (r.waits x q)) (λ k. absurd (m.0 (k ∙ r.me))) in
         subst (λ f. IsGoing w i (with_refusal (moved p (after_refusal f p.state x)) x.author x.seq f)) (sym (e ∙ (m.1).fits))
         (record { good = keep w i s p.state (accept p.state x) h g.good b; clean = g.clean })

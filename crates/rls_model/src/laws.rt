@@ -1,6 +1,7 @@
 //! Laws: facts over the definitions, for all values. Each call runs nothing and takes no memory; its contract states the fact.
 
 ghost use Rattle.rls_model.specs.Laws.{Meaning, OrderKept, Inverse, LastKept, PathFree, Spanned, WindowSame, TestsEqual};
+ghost use Rattle.rls_model.specs.Laws.{OneOrder, OrderAgreed, PastKept, EditAlone, MadeByEdits, Gathered, StrongList, ArrivalApplied, SentArrives, EditsAreEvents, OneGroup, CommandsClean};
 ghost use Rattle.rls_model.specs.Laws.{OneTree, NoneUsed, AllUsed, OwnStems, Distinct, Stable, MadeFits, RenamedRun, InsertionLands};
 ghost use Rattle.rls_model.specs.Laws.{KeptOn, ToldByWindow, Dropped, SameOperations, CutShort, EditApplied, WorldsLegal, EqualVectors, NoRefusal, EditsClean};
 
@@ -85,6 +86,17 @@ pub fn insertion_lands()
     ensures insertion_lands { InsertionLands }
 {}
 
+/// A legal history orders all characters that were ever inserted there: each legal history whose operations stand there shows its own
+/// ones in this order, an edit does to them what was asked, and a deletion names just what was asked wherever it was accepted.
+pub fn one_order()
+    ensures one_order { OneOrder }
+{}
+
+/// Two legal histories that agree on the operations with one author and number order the characters of both alike.
+pub fn order_agreed()
+    ensures order_agreed { OrderAgreed }
+{}
+
 /// All epochs of a legal history are a window that keeps the retained ones, and such a window is one again after each entry.
 pub fn kept_on()
     ensures kept_on { KeptOn }
@@ -116,6 +128,17 @@ pub fn edit_applied()
     ensures edit_applied { EditApplied }
 {}
 
+/// Another member's operation that arrives first under its number, has its shape and its causes, and fits, is applied and stands in the
+/// history from then on.
+pub fn arrival_applied()
+    ensures arrival_applied { ArrivalApplied }
+{}
+
+/// In a world a member that takes a sent message then has each of its operations, or holds it until its causes are there.
+pub fn sent_arrives()
+    ensures sent_arrives { SentArrives }
+{}
+
 /// In a world each member's history is legal, and its waiting operations fit to it.
 pub fn worlds_legal()
     ensures worlds_legal { WorldsLegal }
@@ -134,4 +157,44 @@ pub fn no_refusal()
 /// In a world edits of one member, of which none is refused, release nothing that is refused.
 pub fn edits_clean()
     ensures edits_clean { EditsClean }
+{}
+
+/// Whatever happens in a world, what a member's history was stays a front of it, and so does the history right after an edit.
+pub fn past_kept()
+    ensures past_kept { PastKept }
+{}
+
+/// In a world where no event was cut short an edit that isn't either adds its operation to the history, and nothing else.
+pub fn edit_alone()
+    ensures edit_alone { EditAlone }
+{}
+
+/// In a world each operation that a member knows was made by an edit of its author.
+pub fn made_by_edits()
+    ensures made_by_edits { MadeByEdits }
+{}
+
+/// The strong specification of lists: in a world some legal history has just the operations of all members, and it gives one total order
+/// of all characters that were ever inserted, which whatever happens later keeps. Each member at each moment shows just those that were
+/// inserted and not deleted as it knows, in this order; an edit does to its list what was asked; and a deletion deletes, at each member
+/// that knows it, just what was asked.
+pub fn strong_list()
+    ensures gathered { Gathered }
+    ensures strong_list { StrongList }
+{}
+
+/// Edits of one member, of which none is refused, lead to the world that their events lead to.
+pub fn edits_are_events()
+    ensures edits_are_events { EditsAreEvents }
+{}
+
+/// In a world each member has its own number, and all members and all sent messages have one group and one count of members.
+pub fn one_group()
+    ensures one_group { OneGroup }
+{}
+
+/// Whatever members that began afresh were told, runs of edits, messages to be sent and to be taken, each done whole or not at all, none
+/// tells a refused operation, and two that have equal counts show the same.
+pub fn commands_clean()
+    ensures commands_clean { CommandsClean }
 {}

@@ -56,15 +56,16 @@ not_among earlier n h q =
     let b = not_is (list_any (λ (f : EpochPart). name_eq f.name n) earlier) h in
     absurd (cc)
 
-pub behind_is : (p : Parts) (earlier : List EpochPart) (e : EpochPart) → is_epoch_behind p earlier e ≡ true → IsEntry p earlier e
-behind_is p earlier e h =
+-- but for its order
+pub entry_is : (p : Parts) (earlier : List EpochPart) (e : EpochPart)
+    → (is_new earlier e.name && is_opened p e.name && is_place_below (length earlier) e.parent && is_former_count (length e.former) && is_covered_by p.stems e.name (length e.former)) ≡ true
+    → IsEntry p earlier e
+entry_is p earlier e h5 =
     let a = is_new earlier e.name in
     let b = is_opened p e.name in
     let c = is_place_below (length earlier) e.parent in
     let d = is_former_count (length e.former) in
     let f = is_covered_by p.stems e.name (length e.former) in
-    let g = is_greater earlier e in
-    let h5 = and_left (a && b && c && d && f) g h in
     let h4 = and_left (a && b && c && d) f h5 in
     let h3 = and_left (a && b && c) d h4 in
     let h2 = and_left (a && b) c h3 in
@@ -86,6 +87,15 @@ behind_is p earlier e h =
       few = le_is (length e.former) 4194304 (and_right (nat_lt 0 (length e.former)) (nat_le (length e.former) 4194304) n);
       covered = ap (λ m. is_covered_by p.stems m (length e.former)) (sym o.2) ∙ and_right (a && b && c && d) f h5;
     }
+
+pub behind_is : (p : Parts) (earlier : List EpochPart) (e : EpochPart) → is_epoch_behind p earlier e ≡ true → IsEntry p earlier e
+behind_is p earlier e h =
+    let a = is_new earlier e.name in
+    let b = is_opened p e.name in
+    let c = is_place_below (length earlier) e.parent in
+    let d = is_former_count (length e.former) in
+    let f = is_covered_by p.stems e.name (length e.former) in
+    entry_is p earlier e (and_left (a && b && c && d && f) (is_greater earlier e) h)
 
 -- the first entry and one behind it
 pub first_top : (p : Parts) (e : EpochPart) (es : List EpochPart) → epoch_fault p [] (e ∷ es) ≡ None → (may_be_top p e.name ≡ true) × (epoch_fault p (e ∷ []) es ≡ None)
@@ -142,13 +152,13 @@ pub record IsNodeOf (all : List EpochPart) (e : EpochPart) (n : Node) : Type 0 w
   pub older : n.parent ≡ name_or_origin (slice_get all place)
   pub former : n.renaming.former ≡ e.former
 
-abbrev node_for : List EpochPart → EpochPart → ℕ → ℕ → ℕ → Node
+abbrev pub node_for : List EpochPart → EpochPart → ℕ → ℕ → ℕ → Node
 node_for all e r s k = record { parent = name_or_origin (slice_get all k); renaming = record { former = e.former; replica = r; seq = s } }
 
-node_made : (all : List EpochPart) (e : EpochPart) (r s k : ℕ) (older : List Node) → e.name ≡ Of r s → e.parent ≡ Some k → with_node all e e.name e.parent older ≡ node_for all e r s k ∷ older
+pub node_made : (all : List EpochPart) (e : EpochPart) (r s k : ℕ) (older : List Node) → e.name ≡ Of r s → e.parent ≡ Some k → with_node all e e.name e.parent older ≡ node_for all e r s k ∷ older
 node_made all e r s k older n h = ap (λ x. with_node all e x e.parent older) n ∙ ap (λ o. with_node all e (Of r s) o older) h
 
-none_made : (all : List EpochPart) (e : EpochPart) (x : EpochName) (older : List Node) → with_node all e x None older ≡ older
+pub none_made : (all : List EpochPart) (e : EpochPart) (x : EpochName) (older : List Node) → with_node all e x None older ≡ older
 none_made all e Origin older = refl
 none_made all e (Of r s) older = refl
 
@@ -251,20 +261,31 @@ module _ (p : Parts) (all : List EpochPart) (f : EpochPart) (fs : List EpochPart
   one_more : IsBuilt p all f (fs ++ e ∷ []) (with_node all e e.name e.parent ns)
   one_more = subst (IsBuilt p all f (fs ++ e ∷ [])) (sym (node_made all e c.replica c.seq c.place ns c.named c.parent)) grown
 
-built_on : (p : Parts) (all : List EpochPart) (f : EpochPart) (fs es : List EpochPart) (ns : List Node) → all ≡ (f ∷ fs) ++ es → epoch_fault p (f ∷ fs) es ≡ None → IsBuilt p all f fs ns → IsBuilt p all f (fs ++ es) (nodes_onto all ns es)
+-- each entry stands by the rule, but for the order, behind f and those before it
+abbrev pub AreEntries : Parts → EpochPart → List EpochPart → List EpochPart → Type 0
+AreEntries p f fs [] = Unit {0}
+AreEntries p f fs (e ∷ es) = IsEntry p (f ∷ fs) e × AreEntries p f (fs ++ e ∷ []) es
+
+pub are_entries : (p : Parts) (f : EpochPart) (fs es : List EpochPart) → epoch_fault p (f ∷ fs) es ≡ None → AreEntries p f fs es
+are_entries p f fs [] h = tt
+are_entries p f fs (e ∷ es) h = let r = next_behind p f fs e es h in (r.0, are_entries p f (fs ++ e ∷ []) es r.1)
+
+built_on : (p : Parts) (all : List EpochPart) (f : EpochPart) (fs es : List EpochPart) (ns : List Node) → all ≡ (f ∷ fs) ++ es → AreEntries p f fs es → IsBuilt p all f fs ns → IsBuilt p all f (fs ++ es) (nodes_onto all ns es)
 built_on p all f fs [] ns is h b = subst (λ gs. IsBuilt p all f gs ns) (sym (append-nil fs)) b
-built_on p all f fs (e ∷ es) ns is h b =
-    let r = next_behind p f fs e es h in
+built_on p all f fs (e ∷ es) ns is r b =
     let on = is ∙ sym (append_assoc (f ∷ fs) (e ∷ []) es) in
     subst (λ gs. IsBuilt p all f gs (nodes_onto all (with_node all e e.name e.parent ns) es)) (append_assoc fs (e ∷ []) es)
     (built_on p all f (fs ++ e ∷ []) es (with_node all e e.name e.parent ns) on r.1 (one_more p all f fs e es ns is r.0 b))
 
 -- all entries, of which the first has no parent
-pub built : (p : Parts) (f : EpochPart) (es : List EpochPart) → f.parent ≡ None → epoch_fault p [] (f ∷ es) ≡ None → IsBuilt p (f ∷ es) f es (nodes_of (f ∷ es))
+pub built_by : (p : Parts) (f : EpochPart) (es : List EpochPart) → f.parent ≡ None → AreEntries p f [] es → IsBuilt p (f ∷ es) f es (nodes_of (f ∷ es))
 unfolding nodes_of
-built p f es n h =
+built_by p f es n h =
     let start : with_node (f ∷ es) f f.name f.parent [] ≡ [] = ap (λ o. with_node (f ∷ es) f f.name o []) n ∙ none_made (f ∷ es) f f.name [] in
-    subst (λ ns. IsBuilt p (f ∷ es) f es (nodes_onto (f ∷ es) ns es)) (sym start) (built_on p (f ∷ es) f [] es [] refl (first_top p f es h).1 (one_top p f es))
+    subst (λ ns. IsBuilt p (f ∷ es) f es (nodes_onto (f ∷ es) ns es)) (sym start) (built_on p (f ∷ es) f [] es [] refl h (one_top p f es))
+
+pub built : (p : Parts) (f : EpochPart) (es : List EpochPart) → f.parent ≡ None → epoch_fault p [] (f ∷ es) ≡ None → IsBuilt p (f ∷ es) f es (nodes_of (f ∷ es))
+built p f es n h = built_by p f es n (are_entries p f [] es (first_top p f es h).1)
 
 -- with increasing former lists they are a tree
 pub are_nodes : (ns : List Node) → AreNamedOnce ns → ((n : Node) → IsIn n ns → IsFormer n.renaming.former) → AreNodes ns

@@ -64,7 +64,7 @@ counted_top p v (Of r s) h = counted_opened (opened_name p (Of r s) h)
 counted_entry : (p : Parts) → length p.vector ≡ p.members → (earlier : List EpochPart) (e : EpochPart) → IsEntry p earlier e → IsCounted p.vector e.name
 counted_entry p v earlier e c = subst (IsCounted p.vector) (sym c.named) (let l = c.member in omega arith, c.begun, c.counted)
 
-counted_named : (p : Parts) → length p.vector ≡ p.members → (es : List EpochPart) → IsTreeOf p es → (g : EpochName) → IsIn g (names_of es) → IsCounted p.vector g
+pub counted_named : (p : Parts) → length p.vector ≡ p.members → (es : List EpochPart) → IsTreeOf p es → (g : EpochName) → IsIn g (names_of es) → IsCounted p.vector g
 counted_named p v es t g q = go (subst (λ xs. IsIn g (names_of xs)) t.is q)
   where
     go : IsIn g (names_of (t.first ∷ t.rest)) → IsCounted p.vector g

@@ -172,7 +172,7 @@ behind_all p w i (x ∷ ws) h =
     let b = (waits p (Some w) x r.0).behind in
     and_true (comes_before w x) (list_all (comes_before w) ws) b (before_all p w x (suc i) ws b r.1)
 
-held_go : (p : Parts) (before : Option Op) (i : ℕ) (ws : List Op) → held_fault p before i ws ≡ None → ((o : Op) → IsIn o ws → IsOp o × IsInRange o.body) → AreHeld p.members p.vector ws
+pub held_go : (p : Parts) (before : Option Op) (i : ℕ) (ws : List Op) → held_fault p before i ws ≡ None → ((o : Op) → IsIn o ws → IsOp o × IsInRange o.body) → AreHeld p.members p.vector ws
 held_go p before i [] h w = tt
 held_go p before i (x ∷ ws) h w =
     let r = held_first p before i x ws h in

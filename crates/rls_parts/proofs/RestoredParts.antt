@@ -39,7 +39,7 @@ use Rattle.rls_parts.proofs.RestoredText.{text_restored}
 
 -- ---- rows and marks
 
-rows_are : (acks : AcksSeen) (n : ℕ) → other_rows acks n ≡ others_below (row_of acks) acks.me n
+pub rows_are : (acks : AcksSeen) (n : ℕ) → other_rows acks n ≡ others_below (row_of acks) acks.me n
 rows_are acks zero = refl
 rows_are acks (suc n) = ap (λ rs. rs ++ (if n == acks.me then [] else row_of acks n ∷ [])) (rows_are acks n)
 
@@ -53,7 +53,7 @@ rows_back p r m =
     ∙ (others_same (row_of (acks_of p)) (λ a. get_or w a []) p.me p.members (λ a h q. if_other (a == p.me) p.vector (get_or w a []) (neq_test a p.me q))
     ∙ (others_are (λ a. get_or w a []) p.me p.members ∙ (ap (without_at p.me) (all_below w p.members n) ∙ without_own p.me z p.rows l)))
 
-left_are : (acks : AcksSeen) (n : ℕ) → left_below acks n ≡ marked_below (left acks) n
+pub left_are : (acks : AcksSeen) (n : ℕ) → left_below acks n ≡ marked_below (left acks) n
 left_are acks zero = refl
 left_are acks (suc n) = ap (λ ms. ms ++ (if left acks n then n ∷ [] else [])) (left_are acks n)
 
@@ -88,7 +88,7 @@ node_found (m ∷ ns) d n (inr q) =
     ap (λ b. if b then Some m else node_of ns (name_of n.renaming)) f ∙ node_found ns d.1 n q
 
 -- a name is found at its place
-place_found : (es : List EpochName) (k : ℕ) (x : EpochName) → AreOnce es → k < length es → x ≡ get_or es k Origin → position (name_eq x) es ≡ Some k
+pub place_found : (es : List EpochName) (k : ℕ) (x : EpochName) → AreOnce es → k < length es → x ≡ get_or es k Origin → position (name_eq x) es ≡ Some k
 place_found es k x o l e =
     let h = position_or_len_is (name_eq x) es k Origin (omega arith) (λ j m. not_true (name_eq x (get_or es j Origin)) (λ q. once_at es j k o m l (sym (name_eq_is x (get_or es j Origin) q) ∙ e)))
     (λ m. ap (name_eq x) (sym e) ∙ name_eq_refl x) in

@@ -81,7 +81,7 @@ place_of_member p r a l n m =
     record { place = a - 1; within = omega arith; member = at_behind p.me (a - 1) (omega arith) ∙ e })
     (cases_lt a p.me)
 
-member_below : (me n i : ℕ) → suc i < n → me < n → member_at me i < n
+pub member_below : (me n i : ℕ) → suc i < n → me < n → member_at me i < n
 member_below me n i l m =
     ⊎_elim (λ h. let e = at_before me i h in omega arith) (λ h. let e = at_behind me i h in omega arith) (cases_lt i me)
 
@@ -143,9 +143,9 @@ none_left : (b : Bool) → b ≡ false → (false || not b) ≡ true
 none_left b e = ap not e
 
 -- the same is stable
-pub stable_given : (p : Parts) → AreGiven p → stable_of (acks_of p) ≡ stable_of_parts p
+pub stable_fits : (p : Parts) → p.me < p.members → length p.vector ≡ p.members → length p.rows + 1 ≡ p.members → stable_of (acks_of p) ≡ stable_of_parts p
 unfolding stable_of_parts
-stable_given p g =
+stable_fits p own v r =
     let acks = acks_of p in
     let ws = awaited_from p.me p.left 0 p.rows in
     at_most_antisym (stable_of acks) (least_of p.vector ws)
@@ -153,19 +153,20 @@ stable_given p g =
     (below_awaited (stable_of acks) p.me p.left 0 p.rows
     (λ k l h. let x : 0 + k ≡ k = omega arith in
     let a = member_at p.me k in
-    let r = g.rows in
-    let m = member_below p.me p.members k (omega arith) g.me in
-    let q : left acks a ≡ false = left_given p a m ∙ (ap (λ j. has_member p.left (member_at p.me j)) (sym x) ∙ h) in
+    let m = member_below p.me p.members k (omega arith) own in
+    let q : left acks a ≡ false = mark_at p.left p.members a m ∙ (ap (λ j. has_member p.left (member_at p.me j)) (sym x) ∙ h) in
     let w : awaits acks a ≡ true = ap (λ b. b || not (left acks a)) (neq_test a p.me (member_other p.me k)) ∙ none_left (left acks a) q in
-    ap (at_most (stable_of acks)) (sym (row_at p k)) ∙ stable_row acks a (let e = g.vector in omega arith) w)))
+    ap (at_most (stable_of acks)) (sym (row_at p k)) ∙ stable_row acks a (omega arith) w)))
     (stable_most (least_of p.vector ws) acks (at_most-least_of p.vector ws)
     (λ a l w. bool_cases (a == p.me)
     (λ e. let q : row_of acks a ≡ p.vector = ap (λ b. if b then p.vector else get_or acks.others a []) e in ap (at_most (least_of p.vector ws)) q ∙ at_most-least_of p.vector ws)
-    (λ e. let v = g.vector in
-    let m : a < p.members = omega arith in
-    let h = place_of_member p g.rows a m (eq_not a p.me e) g.me in
+    (λ e. let m : a < p.members = omega arith in
+    let h = place_of_member p r a m (eq_not a p.me e) own in
     let x : 0 + h.place ≡ h.place = omega arith in
     let n : left acks a ≡ false = not_is (left acks a) (sym (ap (λ b. b || not (left acks a)) e) ∙ w) in
-    let q : has_member p.left (member_at p.me (0 + h.place)) ≡ false = ap (λ j. has_member p.left (member_at p.me j)) x ∙ (ap (has_member p.left) h.member ∙ (sym (left_given p a m) ∙ n)) in
-    let r : get_or p.rows h.place [] ≡ row_of acks a = sym (row_at p h.place) ∙ ap (row_of acks) h.member in
-    subst (λ v. at_most (least_of p.vector ws) v ≡ true) r (least_of-each p.vector (get_or p.rows h.place []) ws (awaited_at p.me p.left 0 p.rows h.place h.within q)))))
+    let q : has_member p.left (member_at p.me (0 + h.place)) ≡ false = ap (λ j. has_member p.left (member_at p.me j)) x ∙ (ap (has_member p.left) h.member ∙ (sym (mark_at p.left p.members a m) ∙ n)) in
+    let same : get_or p.rows h.place [] ≡ row_of acks a = sym (row_at p h.place) ∙ ap (row_of acks) h.member in
+    subst (λ u. at_most (least_of p.vector ws) u ≡ true) same (least_of-each p.vector (get_or p.rows h.place []) ws (awaited_at p.me p.left 0 p.rows h.place h.within q)))))
+
+pub stable_given : (p : Parts) → AreGiven p → stable_of (acks_of p) ≡ stable_of_parts p
+stable_given p g = stable_fits p g.me g.vector g.rows

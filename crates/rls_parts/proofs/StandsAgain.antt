@@ -20,15 +20,21 @@ use Rattle.rls_model.specs.Document.{export}
 use Rattle.rls_model.specs.Epochs.{epochs, greatest}
 use Rattle.rls_model.specs.History.{History, me_of, members_of, count, has_left, acknowledged, row}
 use Rattle.rls_model.specs.Laws.{KeepsRetained}
-use Rattle.rls_model.specs.Legal.{IsLegal}
+use Rattle.rls_model.specs.Legal.{IsLegal, AreWaiting, IsSound}
 use Rattle.rls_model.specs.Parts.{other_rows, left_below, node_of, top_part, epoch_part, epoch_parts, parts}
 use Rattle.rls_model.specs.Receiving.{State}
 use Rattle.rls_model.specs.Retained.{retained}
 use Rattle.rls_model.specs.Stability.{stable, unstable}
+use Rattle.rls_model.proofs.Made.{foot}
 use Rattle.rls_model.proofs.Dropping.{greatest_retained, retained_kept}
 use Rattle.rls_model.proofs.OneTree as one_tree
 use Rattle.rls_model.proofs.Stable.{length-count, length-acknowledged}
-use Rattle.rls_parts.specs.PartsLaws.{StandsAgain}
+use Rattle.rls_ops.specs.declared.op.Op.{Op}
+use Rattle.rls_seen.specs.Sane.{AreHeld}
+use Rattle.rls_seen.specs.Stands.{StandsFor}
+use Rattle.rls_parts.specs.Given.{AreRanged}
+use Rattle.rls_parts.specs.PartsLaws.{StandsAgain, PartsStand}
+use Rattle.rls_parts.proofs.RestoredLog.{held_go}
 use Rattle.rls_parts.specs.Reading.{top_name, nodes_of, epochs_of, names_of, has_member}
 use Rattle.rls_parts.specs.Restored.{with_own, acks_of, seen_of}
 use Rattle.rls_parts.specs.Rules.{epoch_fault, broken}
@@ -99,11 +105,11 @@ places_again t l m = rows_fit (parts t) m (length-count t.history) (length-other
 
 -- ---- epochs
 
-part_name : (xs : List EpochName) (e : EpochName) (o : Option Node) → (epoch_part xs e o).name ≡ e
+pub part_name : (xs : List EpochName) (e : EpochName) (o : Option Node) → (epoch_part xs e o).name ≡ e
 part_name xs e None = refl
 part_name xs e (Some n) = refl
 
-part_names : (ns : List Node) (xs es : List EpochName) → names_of (map (λ e. epoch_part xs e (node_of ns e)) es) ≡ es
+pub part_names : (ns : List Node) (xs es : List EpochName) → names_of (map (λ e. epoch_part xs e (node_of ns e)) es) ≡ es
 part_names ns xs [] = refl
 part_names ns xs (e ∷ es) = ap (λ x. x ∷ names_of (map (λ f. epoch_part xs f (node_of ns f)) es)) (part_name xs e (node_of ns e)) ∙ ap (λ fs. e ∷ fs) (part_names ns xs es)
 
@@ -127,7 +133,7 @@ same_replica R S e = cc
 same_seq : (R S : Renaming) → name_of R ≡ name_of S → R.seq ≡ S.seq
 same_seq R S e = cc
 
-same_node : (n m : Node) → n.parent ≡ m.parent → n.renaming.former ≡ m.renaming.former → name_of n.renaming ≡ name_of m.renaming → n ≡ m
+pub same_node : (n m : Node) → n.parent ≡ m.parent → n.renaming.former ≡ m.renaming.former → name_of n.renaming ≡ name_of m.renaming → n ≡ m
 same_node n m a b c =
     ap (λ e. node_with e n.renaming.former n.renaming.replica n.renaming.seq) a
     ∙ (ap (λ f. node_with m.parent f n.renaming.replica n.renaming.seq) b
@@ -175,28 +181,37 @@ epochs_again t l b = window_go t.history l (parts t) (retained t.history) refl (
 
 -- ---- all
 
-pub again : StandsAgain
+stands_by : (t : State) → IsLegal t.history → IsSound t → broken (parts t) ≡ None → StandsFor (seen_of (parts t)) t
 unfolding seen_of parts unstable
-again s t h b =
+stands_by t l w b =
     let H = t.history in
-    let m : me_of H < members_of H =
-    let a = h.places.member in
-    let e = ap length h.vector in
-    let c = length-count H in
-    let d = h.me in
-    omega arith in
     record {
-      legal = h.legal;
-      sound = h.sound;
+      legal = l;
+      sound = w;
       group = refl;
       me = refl;
       vector = refl;
-      places = places_again t h.legal m;
+      places = places_again t l (foot H l).0;
       rows = rows_again t;
       left = left_again t;
       stems = refl;
-      epochs = epochs_again t h.legal b;
+      epochs = epochs_again t l b;
       text = entries_again (export H);
       waiting = refl;
       log = (stable H, record { stable = at_most_refl (stable H); kept = refl });
     }
+
+held_sound : (H : History) (ws : List Op) → AreHeld (members_of H) (count H) ws → AreWaiting H ws
+held_sound H [] h = tt
+held_sound H (w ∷ ws) h = (h.0, h.2, h.3, h.4, held_sound H ws h.5)
+
+-- what waits among parts that break no rule fits to their history
+sound_of : (t : State) → AreRanged (parts t) → broken (parts t) ≡ None → IsSound t
+unfolding parts
+sound_of t w b = held_sound t.history t.waiting (held_go (parts t) None 0 t.waiting (passes (parts t) b).held w.held)
+
+pub again : StandsAgain
+again s t h b = stands_by t h.legal h.sound b
+
+pub stand : PartsStand
+stand t l w b = stands_by t l (sound_of t w b) b

@@ -1,6 +1,6 @@
 //! Laws of the rules, and of the replica that has given parts, for all values. Each call runs nothing and takes no memory.
 
-ghost use Rattle.rls_parts.specs.PartsLaws.{RestoredSane, PartsBack, StandsAgain};
+ghost use Rattle.rls_parts.specs.PartsLaws.{RestoredSane, PartsBack, StandsAgain, PartsStand, SanePasses};
 ghost use Rattle.rls_parts.specs.Rules.{BrokenOrPasses};
 
 /// No rule is broken exactly where each of the eight passes.
@@ -22,4 +22,10 @@ pub fn parts_back()
 /// parts.
 pub fn stands_again()
     ensures again { StandsAgain }
+    ensures stand { PartsStand }
+{}
+
+/// The parts of a sane replica, whose waiting operations may wait, break no rule.
+pub fn sane_passes()
+    ensures passes { SanePasses }
 {}

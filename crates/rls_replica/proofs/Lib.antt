@@ -12,3 +12,5 @@ pub mod LeaveFaults
 pub mod KeptNames
 pub mod EditLaws
 pub mod Neighbours
+pub mod GivenPieces
+pub mod Marking

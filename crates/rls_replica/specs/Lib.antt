@@ -6,3 +6,5 @@ pub mod Steps
 pub mod Editing
 pub mod Names
 pub mod View
+pub mod Fitting
+pub mod KeptJust

@@ -3,14 +3,20 @@
 #![tactic(auto)]
 
 mod applying;
+mod counting;
 mod editing;
 mod looking;
 mod reading;
 mod receiving;
 mod renaming_text;
 mod replica;
+mod restoring;
 mod taking;
+mod translating;
 
+pub use counting::Kept;
 pub use replica::{NewError, Replica};
-pub use rls_model::{Edit, EditError, Receipt, Refusal, Refusals, Release, Taken};
+pub use rls_model::{Counts, Edit, EditError, Parts, Receipt, Refusal, Refusals, Release, Taken};
+pub use rls_rules::PartsError;
 pub use taking::{SendError, TakeError};
+pub use translating::PastError;

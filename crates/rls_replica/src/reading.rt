@@ -1,6 +1,6 @@
 //! What a replica tells of itself.
 
-ghost use Rattle.std.specs.Prelude.{◌≡◌, ◌+◌, ◌<◌, ◌≤◌, length, take, drop, slice_get, Some, IfOk};
+ghost use Rattle.std.specs.Prelude.{◌≡◌, ◌+◌, ◌-◌, ◌^◌, ◌<◌, ◌≤◌, length, take, drop, slice_get, Some, IfOk};
 ghost use Rattle.rls_ops.specs.Rows.{left};
 ghost use Rattle.rls_runs.specs.Runs.{place_of};
 ghost use Rattle.rls_tree.specs.Trees.{entries_of};
@@ -90,6 +90,7 @@ impl Replica {
     /// The number of characters.
     pub fn total(&self) -> u64
         ensures total { result ≡ length self.now.text }
+        ensures room { result < 2 ^ 64 - 1 }
     {
         self.document.total()
     }

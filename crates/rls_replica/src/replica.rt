@@ -116,8 +116,8 @@ impl Replica {
         })
     }
 
-    // What holds of each replica.
-    pub(crate) fn sane(&self)
+    /// What holds of each replica. It does nothing.
+    pub fn sane(&self)
         ensures sane { IsSane self.now }
     {
         let _group = &self.group;

@@ -51,6 +51,22 @@ impl Acks {
         Ok(Acks { rows, stable })
     }
 
+    /// These rows and marks, of which there is one for each member. The own place among the others isn't used.
+    pub fn given(
+        me: u32,
+        mine: Vector,
+        others: Vec<Vector>,
+        left: Vec<bool>,
+    ) -> Result<Acks, AllocError>
+        requires rows { AreRows (record { me = me; mine = mine; others = others.items; left = left.items }) }
+        ensures given { IfOk result (λ a. a ≡ record { me = me; mine = mine; others = others.items; left = left.items }) }
+    {
+        let mut stable = mine.copy()?;
+        let rows = Rows::given(me, mine, others, left);
+        rows.find_stable(&mut stable);
+        Ok(Acks { rows, stable })
+    }
+
     /// One's own number.
     pub fn me(&self) -> u32
         ensures me { result ≡ self.now.me }

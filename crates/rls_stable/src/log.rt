@@ -34,6 +34,15 @@ impl Log {
         }
     }
 
+    /// These operations. It takes no memory.
+    pub fn of(ops: Ops) -> Log
+        ensures ops { result.ops ≡ ops }
+    {
+        Log {
+            ops: ops.into_vec(),
+        }
+    }
+
     /// Makes room for one more operation.
     pub fn reserve(&mut self) -> Result<(), AllocError>
         ensures same { self.new.ops ≡ self.old.ops }

@@ -43,6 +43,19 @@ impl Rows {
         })
     }
 
+    // Those of these rows and marks, of which there is one for each member.
+    pub(crate) fn given(me: u32, mine: Vector, others: Vec<Vector>, left: Vec<bool>) -> Rows
+        requires rows { AreRows (record { me = me; mine = mine; others = others.items; left = left.items }) }
+        ensures given { result ≡ record { me = me; mine = mine; others = others.items; left = left.items } }
+    {
+        Rows {
+            me,
+            mine,
+            others,
+            left,
+        }
+    }
+
     pub(crate) fn me(&self) -> u32
         ensures me { result ≡ self.now.me }
         ensures rows { AreRows self.now }

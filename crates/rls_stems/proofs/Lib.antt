@@ -1,3 +1,4 @@
 pub mod Between
 pub mod Placing
 pub mod Tabled
+pub mod Behind

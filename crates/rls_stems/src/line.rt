@@ -104,6 +104,17 @@ impl Line {
 }
 
 impl Reach {
+    /// How far the stem reaches.
+    pub(crate) fn of(stem: &Stem) -> Reach
+        ensures reach { stem_at stem.now.author result ≡ stem.now }
+    {
+        Reach {
+            s0: stem.s0,
+            low: stem.low,
+            next: stem.next,
+        }
+    }
+
     /// The author's stem that reaches so far.
     pub(crate) fn as_stem(&self, author: u32) -> Stem
         ensures stem { result ≡ stem_at author self.now }

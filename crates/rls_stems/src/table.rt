@@ -1,12 +1,14 @@
 //! The stems of all authors.
 
-ghost use Rattle.std.specs.Prelude.{◌≡◌, ◌+◌, ◌^◌, ◌<◌, ◌≤◌, [], pos, OnOk, OnErr, IfOk, IfSome, IfNone, IsTrue, length, option_copied, slice_index, ◌+ℤ◌, ◌<ℤ◌};
+ghost use Rattle.std.specs.Prelude.{◌≡◌, ◌+◌, ◌^◌, ◌<◌, ◌≤◌, ◌++◌, ◌∷◌, [], pos, OnOk, OnErr, IfOk, IfSome, IfNone, IsTrue, length, option_copied, slice_index, ◌+ℤ◌, ◌<ℤ◌};
 ghost use Rattle.rls_ident.specs.Between.{are_bounds};
 ghost use Rattle.rls_ident.specs.Identifiers.{last_of};
 ghost use Rattle.rls_ident.specs.Tuples.{at_spot};
 ghost use Rattle.rls_ops.specs.Shapes.{body_len};
 ghost use Rattle.rls_model.specs.Editing.{own_stem, ends_below, begins_above, may_append, may_prepend, first_before, first_between};
-ghost use Rattle.rls_model.specs.Stems.{stem_of, due_of, due_offset, is_due, ends_at_low, may_use, new_stem, with_stem, with_extended, stems_after, stems_after_insert};
+ghost use Rattle.rls_ident.specs.Lists.{IsIn};
+ghost use Rattle.rls_model.specs.declared.parts.Stem.{Stem as StemSeen};
+ghost use Rattle.rls_model.specs.Stems.{stands_before, stem_of, due_of, due_offset, is_due, ends_at_low, may_use, new_stem, with_stem, with_extended, stems_after, stems_after_insert};
 ghost use Rattle.rls_stems.specs.Tables.{IsNewest};
 
 use crate::line::{Line, Reach};
@@ -46,6 +48,31 @@ impl StemTable {
             lines.push(Line::new(alloc))?;
         }
         Ok(StemTable { lines })
+    }
+
+    /// Puts a stem behind all others, which are of lesser authors, or of lesser numbers of its own. After an error the stems are as
+    /// before.
+    pub fn push(&mut self, stem: &Stem) -> Result<(), AllocError>
+        requires author { stem.now.author < self.old.members }
+        requires last { (t : StemSeen) → IsIn t self.old.stems → IsTrue (stands_before stem.now.author stem.now.s0 t) }
+        ensures ok { OnOk result (self.new.stems ≡ self.old.stems ++ stem.now ∷ []) }
+        ensures err { OnErr result (self.new.stems ≡ self.old.stems) }
+        ensures members { self.new.members ≡ self.old.members }
+    {
+        self.reserve(stem.author)?;
+        self.put(stem);
+        Ok(())
+    }
+
+    // The same, where there is room.
+    fn put(&mut self, stem: &Stem)
+        requires author { stem.now.author < self.old.members }
+        requires room { 0 < slice_index self.old.spare stem.now.author }
+        requires newest { IsNewest self.old.stems stem.now.author stem.now.s0 }
+        ensures stems { self.new.stems ≡ with_stem stem.now self.old.stems }
+        ensures members { self.new.members ≡ self.old.members }
+    {
+        self.lines[stem.author as usize].push(Reach::of(stem));
     }
 
     /// The stem of an author and a number. It costs a comparison of numbers for each halving of the author's stems, and takes no

@@ -3,6 +3,7 @@
 
 mod balance;
 mod block;
+mod build;
 mod bulk;
 mod cut;
 mod document;
@@ -14,5 +15,6 @@ mod side;
 mod split;
 mod tree;
 
+pub use block::Block;
 pub use node::Node;
 pub use tree::BlockTree;

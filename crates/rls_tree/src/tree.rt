@@ -1,14 +1,15 @@
 //! The block tree.
 
-ghost use Rattle.std.specs.Prelude.{◌≡◌, ℕ, ◌+◌, ◌*◌, ◌^◌, ◌≤◌, [], ◌<◌, pos, length, take, drop, slice_get, Some, IfSome, IfNone, IfOk, OnOk, OnErr, IsTrue, IsFalse};
+ghost use Rattle.std.specs.Prelude.{◌≡◌, ℕ, ◌+◌, ◌*◌, ◌^◌, ◌≤◌, [], ◌<◌, pos, None, length, take, drop, slice_get, Some, IfSome, IfNone, IfOk, OnOk, OnErr, IsTrue, IsFalse};
 ghost use Rattle.std.specs.List.{list_all};
 ghost use Rattle.rls_ident.specs.Identifiers.{is_ident, shifted};
-ghost use Rattle.rls_runs.specs.Runs.{run_idents, runs_of, is_increasing, place_of};
+ghost use Rattle.rls_runs.specs.Runs.{run_idents, runs_of, are_apart, is_increasing, place_of};
 ghost use Rattle.rls_runs.specs.Entries.{idents_in, chars_in, has_ident};
-ghost use Rattle.rls_tree.specs.Trees.{entries_of, piece_entries};
+ghost use Rattle.rls_tree.specs.Trees.{ArePieces, entries_of, piece_entries, runs_in};
 ghost use Rattle.rls_tree.specs.Edits.{inserted, removed};
 
 use crate::block::{Block, part_of_run, part_of_text};
+use crate::build::built;
 use crate::insert::insert_at;
 use crate::node::{Link, Node};
 use crate::remove::remove_range;
@@ -49,12 +50,30 @@ impl BlockTree {
         }
     }
 
+    /// The tree of these blocks, each of which stands behind the one before and doesn't touch it. It costs a step for each block, and
+    /// moves no character.
+    pub fn of_blocks(alloc: Global, blocks: Vec<Block>) -> Result<BlockTree, AllocError>
+        requires apart { IsTrue (are_apart None (runs_in blocks.items)) }
+        requires chars_fit { length (entries_of blocks.items) < 2 ^ 64 }
+        ensures blocks { IfOk result (λ tree. tree.blocks ≡ blocks.items) }
+    {
+        let mut blocks = blocks;
+        let count = blocks.len();
+        let root = built(alloc, &mut blocks, count)?;
+        Ok(BlockTree { root, alloc })
+    }
+
     /// The tree's topmost node, if it isn't empty.
     pub fn root(&self) -> Option<&Node>
         ensures blocks { IfSome result (λ node. node.now.blocks ≡ self.now.blocks) }
         ensures height { IfSome result (λ node. node.now.height ≡ self.now.height) }
         ensures empty { IfNone result (self.now ≡ record { blocks = []; height = 0 }) }
+
+        // Its blocks are the maximal runs of its identifiers, each with its characters.
+        ensures apart { IsTrue (are_apart None (runs_in self.now.blocks)) }
+        ensures pieces { ArePieces self.now.blocks }
     {
+        let _chars = self.root.chars();
         self.root.node()
     }
 

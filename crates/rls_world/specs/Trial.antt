@@ -10,7 +10,7 @@ use Rattle.rls_model.specs.Document.{idents}
 use Rattle.rls_model.specs.Receiving.{State}
 use Rattle.rls_model.specs.Retained.{counts}
 use Rattle.rls_model.specs.Worlds.{World, empty_world, whole, run}
-use Rattle.rls_world.specs.declared.Summary.{Summary}
+use Rattle.rls_world.specs.declared.trials.Summary.{Summary}
 use Rattle.rls_world.specs.Draws.{next_draw, drawn, letters, after_draws}
 
 -- the world on the way, and the state of the draws

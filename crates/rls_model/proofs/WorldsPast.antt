@@ -1,0 +1,185 @@
+-- What a member's history was stays a front of it.
+use Rattle.std.proofs.Common.{◌≡◌, ℕ, zero, suc, Bool, true, false, List, [], ◌∷◌, length, refl, sym, ap, ◌∙◌, subst, inr}
+use Rattle.std.specs.Prelude.{if◌then◌else◌, slice_get, Option, Some, None}
+use Rattle.rls_ident.proofs.Members.{lt_test}
+use Rattle.rls_ops.specs.declared.op.Op.{Op}
+use Rattle.rls_ops.specs.declared.message.Message.{Message}
+use Rattle.rls_model.specs.declared.edit.Edit.{Edit}
+use Rattle.rls_model.specs.declared.event.Event.{Event}
+use Rattle.rls_model.specs.declared.event.Event.TheVariants as events
+use Rattle.rls_model.specs.declared.event.StepError.{StepError}
+use Rattle.rls_model.specs.declared.event.StepError.TheVariants as faults
+use Rattle.rls_model.specs.Answers.{Reason, Answer, Applies, Repeats, Waits, Refuses, Released}
+use Rattle.rls_model.specs.History.{History}
+use Rattle.rls_model.specs.History as history
+use Rattle.rls_model.specs.Stability.{is_counted}
+use Rattle.rls_model.specs.Fitting.{refusal}
+use Rattle.rls_model.specs.Receiving.{State, accept, after, receive, receive_after, first_ready, release, after_refusal, after_release, release_after}
+use Rattle.rls_model.specs.Editing.{made, edit_fault}
+use Rattle.rls_model.specs.Taking.{Limit, has_room, Progress, started, moved, with_answer, with_refusal, with_release, receive_step, release_step, release_steps, with_releases, acknowledge, acknowledge_step, take_ops, take_within}
+use Rattle.rls_model.specs.EditRun.{edit_step, edit_within}
+use Rattle.rls_model.specs.Worlds.{World, of_edit, or_else, edit_fault_at, fault_of, with_state, edit_at, send_at, deliver_at, step_of, unless, happens, Happening, run}
+use Rattle.rls_model.specs.Laws.{edited, IsAt, IsFront, IsPast, PastKept}
+use Rattle.rls_model.proofs.WorldsLists.{get_set_same, got_below}
+use Rattle.rls_model.proofs.WorldsNumbers.{front_self, front_trans}
+use Rattle.rls_model.proofs.WorldsInvariant.{at_later}
+
+-- ---- steps
+
+-- the progress q goes on from p
+abbrev pub GoesOn : Progress → Progress → Type 0
+GoesOn p q = IsFront (p.state).history (q.state).history
+
+on_trans : (p q r : Progress) → GoesOn p q → GoesOn q r → GoesOn p r
+on_trans p q r h k = front_trans (p.state).history (q.state).history (r.state).history h k
+
+after_on : (r : Answer) (s : State) (o : Op) → IsFront s.history (after r s o).history
+after_on Applies s o = inr (front_self s.history)
+after_on Waits s o = front_self s.history
+after_on Repeats s o = front_self s.history
+after_on (Refuses r) s o = front_self s.history
+
+answer_on : (p q : Progress) (o : Op) (r : Answer) → GoesOn p q → GoesOn p (with_answer q o r)
+answer_on p q o Applies h = h
+answer_on p q o Waits h = h
+answer_on p q o Repeats h = h
+answer_on p q o (Refuses r) h = h
+
+pub receive_on : (p : Progress) (o : Op) → GoesOn p (receive_step p o)
+receive_on p o = go (has_room p.limit)
+  where
+    go : (b : Bool) → GoesOn p (if b then with_answer (moved p (receive_after p.state o)) o (receive p.state o) else p)
+    go true = answer_on p (moved p (receive_after p.state o)) o (receive p.state o) (after_on (receive p.state o) p.state o)
+    go false = front_self (p.state).history
+
+release_after_on : (s : State) → IsFront s.history (release_after s).history
+release_after_on s = ready (first_ready s)
+  where
+    fits : (w : Op) (r : Option Reason) → IsFront s.history (after_refusal r s w).history
+    fits w None = inr (front_self s.history)
+    fits w (Some r) = front_self s.history
+
+    ready : (w : Option Op) → IsFront s.history (after_release s w).history
+    ready None = front_self s.history
+    ready (Some w) = fits w (refusal s.history w)
+
+pub release_on : (p : Progress) → GoesOn p (release_step p)
+release_on p = go (has_room p.limit)
+  where
+    counted : (a n : ℕ) (r : Option Reason) (q : Progress) → GoesOn p q → GoesOn p (with_refusal q a n r)
+    counted a n None q h = h
+    counted a n (Some r) q h = h
+
+    released : (r : Option Released) → GoesOn p (with_release p r)
+    released None = front_self (p.state).history
+    released (Some r) = counted r.author r.seq r.refusal (moved p (release_after p.state)) (release_after_on p.state)
+
+    go : (b : Bool) → GoesOn p (if b then with_release p (release p.state) else p)
+    go true = released (release p.state)
+    go false = front_self (p.state).history
+
+pub steps_on : (n : ℕ) (p : Progress) → GoesOn p (release_steps n p)
+steps_on zero p = front_self (p.state).history
+steps_on (suc n) p = on_trans p (release_step p) (release_steps n (release_step p)) (release_on p) (steps_on n (release_step p))
+
+pub releases_on : (p : Progress) → GoesOn p (with_releases p)
+releases_on p = steps_on (length (p.state).waiting) p
+
+pub ops_on : (p : Progress) (os : List Op) → GoesOn p (take_ops p os)
+ops_on p [] = front_self (p.state).history
+ops_on p (o ∷ os) =
+    let q = receive_step p o in
+    on_trans p q (take_ops (with_releases q) os) (receive_on p o) (on_trans q (with_releases q) (take_ops (with_releases q) os) (releases_on q) (ops_on (with_releases q) os))
+
+pub noted_on : (p : Progress) (a : ℕ) (v : List ℕ) → GoesOn p (acknowledge_step p a v)
+noted_on p a v = go (has_room p.limit)
+  where
+    note : (b : Bool) → IsFront (p.state).history (if b then record { history = history.Then (p.state).history (history.Acknowledged a v); waiting = (p.state).waiting } else p.state).history
+    note true = inr (front_self (p.state).history)
+    note false = front_self (p.state).history
+
+    go : (b : Bool) → GoesOn p (if b then moved p (acknowledge p.state a v) else p)
+    go true = note (is_counted (p.state).history a v)
+    go false = front_self (p.state).history
+
+pub taken_on : (limit : Limit) (s : State) (m : Message) → IsFront s.history (take_within limit s m).state.history
+unfolding take_within
+taken_on limit s m =
+    let p = started limit s in
+    let q = take_ops p m.ops in
+    on_trans p q (acknowledge_step q m.from m.vector) (ops_on p m.ops) (noted_on q m.from m.vector)
+
+pub edit_on : (p : Progress) (edit : Edit) → GoesOn p (edit_step p edit)
+edit_on p edit = go (has_room p.limit)
+  where
+    go : (b : Bool) → GoesOn p (if b then moved p (accept p.state (made (p.state).history edit)) else p)
+    go true = inr (front_self (p.state).history)
+    go false = front_self (p.state).history
+
+pub edited_on : (limit : Limit) (s : State) (edit : Edit) → IsFront s.history (edit_within limit s edit).state.history
+unfolding edit_within
+edited_on limit s edit = let p = started limit s in let q = edit_step p edit in on_trans p q (with_releases q) (edit_on p edit) (releases_on q)
+
+-- the history right after the edit
+right_after : (limit : Limit) (s : State) (edit : Edit) → has_room limit ≡ true → IsFront (edited s.history edit) (edit_within limit s edit).state.history
+unfolding edit_within
+right_after limit s edit h =
+    let p = moved (started limit s) (accept s (made s.history edit)) in
+    subst (λ b. IsFront (edited s.history edit) ((with_releases (if b then p else started limit s)).state).history) (sym h) (releases_on p)
+
+-- ---- events
+
+past_set : (w : World) (i : ℕ) (s t : State) → IsAt w i s → IsFront s.history t.history → (j : ℕ) (H : History) → IsPast w j H → IsPast (with_state w i t) j H
+past_set w i s t h f j H k = let r = at_later w i j s t k.0 h f k.1 in (r.0, r.1, front_trans H (k.0).history (r.0).history k.2 r.2)
+
+edit_past : (limit : Limit) (w : World) (i : ℕ) (edit : Edit) (m : Option State) → slice_get w.states i ≡ m → (j : ℕ) (H : History) → IsPast w j H → IsPast (edit_at limit w i m edit) j H
+edit_past limit w i edit None e j H k = k
+edit_past limit w i edit (Some s) e j H k = past_set w i s (edit_within limit s edit).state e (edited_on limit s edit) j H k
+
+send_past : (limit : Limit) (w : World) (m : Option State) (to j : ℕ) (H : History) → IsPast w j H → IsPast (send_at limit w m to) j H
+send_past None w None to j H k = k
+send_past (Some zero) w None to j H k = k
+send_past (Some (suc n)) w None to j H k = k
+send_past None w (Some s) to j H k = k
+send_past (Some zero) w (Some s) to j H k = k
+send_past (Some (suc n)) w (Some s) to j H k = k
+
+deliver_past : (limit : Limit) (w : World) (i : ℕ) (a : Option State) (b : Option Message) → slice_get w.states i ≡ a → (j : ℕ) (H : History) → IsPast w j H → IsPast (deliver_at limit w i a b) j H
+deliver_past limit w i None None e j H k = k
+deliver_past limit w i None (Some m) e j H k = k
+deliver_past limit w i (Some s) None e j H k = k
+deliver_past limit w i (Some s) (Some m) e j H k = past_set w i s (take_within limit s m).state e (taken_on limit s m) j H k
+
+step_past : (limit : Limit) (w : World) (e : Event) (j : ℕ) (H : History) → IsPast w j H → IsPast (step_of limit w e) j H
+step_past limit w (events.Edit i edit) j H k = edit_past limit w i edit (slice_get w.states i) refl j H k
+step_past limit w (events.Send from to) j H k = send_past limit w (slice_get w.states from) to j H k
+step_past limit w (events.Deliver n to) j H k = deliver_past limit w to (slice_get w.states to) (slice_get w.sent n) refl j H k
+step_past limit w (events.Drop i) j H k = k
+
+happens_past : (limit : Limit) (w : World) (e : Event) (j : ℕ) (H : History) → IsPast w j H → IsPast (happens limit w e) j H
+unfolding happens
+happens_past limit w e j H k = go (fault_of w e)
+  where
+    go : (f : Option StepError) → IsPast (unless f w (step_of limit w e)) j H
+    go None = step_past limit w e j H k
+    go (Some x) = k
+
+pub run_past : (w : World) (hs : List Happening) (j : ℕ) (H : History) → IsPast w j H → IsPast (run w hs) j H
+run_past w [] j H k = k
+run_past w (h ∷ hs) j H k = run_past (happens h.limit w h.event) hs j H (happens_past h.limit w h.event j H k)
+
+pub edit_none : (w : World) (i : ℕ) (s : State) (edit : Edit) → IsAt w i s → edit_fault s.history edit ≡ None → fault_of w (events.Edit i edit) ≡ None
+edit_none w i s edit h f =
+    ap (λ b. or_else (if b then None else Some (faults.NoMember i)) (edit_fault_at (slice_get w.states i) edit)) (lt_test i (length w.states) (got_below w.states i s h))
+    ∙ (ap (λ m. edit_fault_at m edit) h ∙ ap of_edit f)
+
+edit_is_past : (w : World) (i : ℕ) (s : State) (edit : Edit) (limit : Limit) → IsAt w i s → edit_fault s.history edit ≡ None → has_room limit ≡ true → IsPast (happens limit w (events.Edit i edit)) i (edited s.history edit)
+unfolding happens
+edit_is_past w i s edit limit h f r =
+    let t = (edit_within limit s edit).state in
+    let e : happens limit w (events.Edit i edit) ≡ with_state w i t =
+    ap (λ x. unless x w (step_of limit w (events.Edit i edit))) (edit_none w i s edit h f) ∙ ap (λ m. edit_at limit w i m edit) h in
+    subst (λ v. IsPast v i (edited s.history edit)) (sym e) (t, get_set_same w.states i s t h, right_after limit s edit r)
+
+pub law : PastKept
+law = (run_past, edit_is_past)

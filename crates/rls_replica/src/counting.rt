@@ -1,0 +1,144 @@
+//! What a replica drops, and its numbers and parts.
+
+ghost use Rattle.std.specs.Prelude.{◌≡◌, ◌<◌, length, map, IfOk, IsTrue};
+ghost use Rattle.rls_ident.specs.declared.epoch_name.EpochName.{EpochName};
+ghost use Rattle.rls_ident.specs.Lists.{IsIn};
+ghost use Rattle.rls_rename.specs.Tree.{is_kept};
+ghost use Rattle.rls_epoch.specs.Seen.{is_marked};
+ghost use Rattle.rls_ops.specs.declared.op.Op.{Op};
+ghost use Rattle.rls_ops.specs.Rows.{missing_for};
+ghost use Rattle.rls_model.specs.Parts.{parts};
+ghost use Rattle.rls_model.specs.Receiving.{State};
+ghost use Rattle.rls_model.specs.Retained.{counts};
+ghost use Rattle.rls_seen.specs.Kept.{marked_over, retained_over, dropped, counts_over, parts_over, kept_operations, kept_epochs, kept_former};
+ghost use Rattle.rls_seen.specs.Stands.{StandsFor};
+ghost use Rattle.rls_replica.specs.KeptJust.{KeepsJust};
+
+use crate::replica::Replica;
+use rls_doc::Document;
+use rls_epoch::Epochs;
+use rls_ident::{EpochName, Vector};
+use rls_model::{Counts, Parts};
+use rls_snapshot::{epoch_parts, left_members, missing, other_rows, text_runs, waiting};
+use rls_stable::Log;
+use std::alloc::AllocError;
+
+/// What a replica keeps in memory beside its text and what waits.
+#[derive(Clone, Copy, Debug, PartialEq, Eq)]
+pub struct Kept {
+    /// The accepted operations that are kept.
+    pub operations: u64,
+    /// The epochs that are kept, the topmost among them.
+    pub epochs: u64,
+    /// The former identifiers of the kept epochs but the topmost.
+    pub former: u64,
+}
+
+impl Replica {
+    /// Drops the stable operations, and every epoch that isn't retained. No history or waiting operation that it stands for
+    /// changes by this, and so no answer does: only the epochs that it still names are fewer. It takes no memory, and goes over
+    /// the kept operations once and over the kept epochs a few times.
+    pub fn drop_stable(&mut self)
+        ensures after { self.new ≡ dropped self.old }
+
+        // What is kept then are as many operations and epochs as are counted, before and afterwards.
+        ensures kept { KeepsJust self.new (counts_over self.old) }
+
+        // For every history and waiting operations that the replica stands for.
+        ensures stands { (t : State) → StandsFor self.old t → StandsFor self.new t × KeepsJust self.new (counts t) }
+    {
+        mark_unstable(&mut self.epochs, &self.log, self.acks.stable());
+        self.epochs.keep(self.acks.stable());
+        self.log.drop_at_most(self.acks.stable());
+    }
+
+    /// How much is kept. It takes no memory.
+    pub fn kept(&self) -> Kept
+        ensures operations { result.operations ≡ kept_operations self.now }
+        ensures epochs { result.epochs ≡ kept_epochs self.now }
+        ensures former { result.former ≡ kept_former self.now }
+    {
+        Kept {
+            operations: self.log.len() as u64,
+            epochs: self.epochs.count(),
+            former: self.epochs.former_total(),
+        }
+    }
+
+    /// The numbers of the replica, whether or not anything was dropped. It goes over the kept operations once and over the kept
+    /// epochs a few times.
+    pub fn counts(&self) -> Result<Counts, AllocError>
+        ensures counts { IfOk result (λ c. c ≡ counts_over self.now) }
+
+        // For every history and waiting operations that the replica stands for.
+        ensures stands { IfOk result (λ c. (t : State) → StandsFor self.now t → c ≡ counts t) }
+    {
+        let marked = self.marked()?;
+        let retained = self.epochs.retained(self.acks.stable(), &marked)?;
+        Ok(Counts {
+            total: self.document.total(),
+            runs: self.document.run_count(),
+            held: self.held.len(),
+            unstable: marked.len() as u64,
+            epochs: retained.names.len() as u64,
+            former: retained.former,
+        })
+    }
+
+    /// The parts of the replica, whether or not anything was dropped. They are copies: it costs the memory that they take.
+    pub fn parts(&self) -> Result<Parts, AllocError>
+        ensures parts { IfOk result (λ p. p ≡ parts_over self.now) }
+
+        // For every history and waiting operations that the replica stands for.
+        ensures stands { IfOk result (λ p. (t : State) → StandsFor self.now t → p ≡ parts t) }
+    {
+        let members = self.members();
+        let marked = self.marked()?;
+        let retained = self.epochs.retained(self.acks.stable(), &marked)?;
+        Ok(Parts {
+            group: self.group,
+            members,
+            me: self.me(),
+            vector: self.acks.mine().copy()?,
+            rows: other_rows(self.alloc, &self.acks, members)?,
+            stems: self.stems.to_stems()?,
+            epochs: epoch_parts(self.alloc, &self.epochs, &retained.names)?,
+            text: text_runs(self.alloc, &self.document)?,
+            log: missing(self.alloc, &self.log, self.acks.stable())?,
+            held: waiting(self.alloc, &self.held)?,
+            left: left_members(self.alloc, &self.acks, members)?,
+        })
+    }
+
+    // The epochs of the unstable operations, in the order of these.
+    fn marked(&self) -> Result<Vec<EpochName>, AllocError>
+        ensures marked { IfOk result (λ names. names.items ≡ marked_over self.now) }
+    {
+        let mut names = Vec::new(self.alloc);
+        for i in 0..self.log.len() {
+            let op = self.log.op(i);
+            if op.seq <= self.acks.stable().get(op.author) {
+                continue;
+            }
+            names.push(op.epoch)?;
+        }
+        Ok(names)
+    }
+}
+
+// Marks the epochs of the operations that a vector doesn't cover, and no others.
+fn mark_unstable(epochs: &mut Epochs, log: &Log, stable: &Vector)
+    requires authors { (o : Op) → IsIn o log.now.ops → o.author < length stable.now }
+    requires kept { (o : Op) → IsIn o (missing_for stable.now log.now.ops) → IsTrue (is_kept epochs.old.epochs.top epochs.old.epochs.nodes o.epoch) }
+    ensures epochs { epochs.new.epochs ≡ epochs.old.epochs }
+    ensures marks { (e : EpochName) → is_marked epochs.new.marks e ≡ is_marked (map (λ o. o.epoch) (missing_for stable.now log.now.ops)) e }
+{
+    epochs.clear_marks();
+    for i in 0..log.len() {
+        let op = log.op(i);
+        if op.seq <= stable.get(op.author) {
+            continue;
+        }
+        epochs.mark(op.epoch);
+    }
+}

@@ -1,0 +1,133 @@
+//! The replica that has given parts.
+
+ghost use Rattle.std.specs.Prelude.{◌≡◌, ◌^◌, ◌<◌, ℕ, None, Some, length, map, IfOk, OnOk, IsErrOf, IsTrue};
+ghost use Rattle.std.specs.List.{list_all};
+ghost use Rattle.rls_runs.specs.Runs.{are_apart, is_run};
+ghost use Rattle.rls_ops.specs.Waiting.{is_in_order};
+ghost use Rattle.rls_model.specs.Legal.{IsLegal};
+ghost use Rattle.rls_model.specs.WellFormed.{IsLarge};
+ghost use Rattle.rls_model.specs.Parts.{parts as parts_of};
+ghost use Rattle.rls_model.specs.Receiving.{State};
+ghost use Rattle.rls_seen.specs.Kept.{parts_over};
+ghost use Rattle.rls_seen.specs.Stands.{StandsFor};
+ghost use Rattle.rls_tree.specs.Trees.{entries_of};
+ghost use Rattle.rls_parts.specs.Given.{AreGiven, AreRanged, HaveTexts};
+ghost use Rattle.rls_parts.specs.Restored.{entries_of as entries_in, seen_of};
+ghost use Rattle.rls_parts.specs.Rules.{broken};
+ghost use Rattle.rls_replica.specs.Fitting.{HaveFormer, AreFit};
+
+use crate::replica::Replica;
+use rls_causal::Held;
+use rls_model::{EpochPart, Parts, TextRun};
+use rls_ops::Op;
+use rls_rules::{PartsError, Tested, test_all};
+use rls_stable::Log;
+use rls_tree::{Block, BlockTree};
+use std::alloc::{AllocError, Global};
+
+impl Replica {
+    /// The replica that has these parts. Its text is made a tree in one pass, and rules 3 and 4 cost as `rls_rules` says.
+    ///
+    /// # Errors
+    ///
+    /// `Broken` with the first rule that is broken, and its first entry that breaks it, exactly where a rule is broken, unless
+    /// memory runs out.
+    pub fn from_parts(alloc: Global, parts: Parts) -> Result<Replica, PartsError>
+        requires given { AreGiven parts }
+        ensures replica { IfOk result (λ r. r ≡ seen_of parts) }
+        ensures unbroken { OnOk result (broken parts ≡ None) }
+        ensures broken { (rule index : ℕ) → IsErrOf result (PartsError.Broken rule index) → broken parts ≡ Some (record { rule = rule; index = index }) }
+        ensures back { IfOk result (λ r. parts_over r ≡ parts) }
+
+        // For every history and waiting operations of which these are the parts.
+        ensures stands { IfOk result (λ r. (t : State) → IsLegal t.history → parts_of t ≡ parts → StandsFor r t) }
+    {
+        fit(&parts);
+        let Tested {
+            acks,
+            stems,
+            epochs,
+        } = test_all(alloc, &parts)?;
+        let document = document(alloc, parts.text.as_slice())?;
+        let held = held(alloc, parts.held.as_slice())?;
+        Ok(Replica {
+            alloc,
+            group: parts.group,
+            acks,
+            stems,
+            epochs,
+            document,
+            held,
+            log: Log::of(parts.log),
+        })
+    }
+}
+
+// What the types of the parts promise.
+fn fit(parts: &Parts)
+    ensures ranged { AreRanged parts.now }
+{
+    large(parts.group);
+    let _len = parts.vector.len();
+    former_fit(parts.epochs.as_slice());
+    runs_fit(parts.text.as_slice());
+    ops_fit(parts.log.as_slice());
+    ops_fit(parts.held.as_slice());
+}
+
+fn large(n: u64)
+    ensures large { IsLarge n }
+{
+    let _n = n;
+}
+
+fn former_fit(list: &[EpochPart])
+    ensures former { HaveFormer list.now }
+{
+    for entry in list {
+        let _total = entry.former.total();
+    }
+}
+
+fn runs_fit(runs: &[TextRun])
+    ensures runs { IsTrue (list_all is_run (map (λ r. r.run) runs.now)) }
+{
+    for entry in runs {
+        let _len = entry.run.len();
+    }
+}
+
+fn ops_fit(ops: &[Op])
+    ensures ops { AreFit ops.now }
+{
+    for op in ops {
+        op.fits();
+    }
+}
+
+// The tree of these runs.
+fn document(alloc: Global, runs: &[TextRun]) -> Result<BlockTree, AllocError>
+    requires texts { HaveTexts runs.now }
+    requires apart { IsTrue (are_apart None (map (λ r. r.run) runs.now)) }
+    requires few { length runs.now < 2 ^ 32 }
+    ensures text { IfOk result (λ tree. entries_of tree.blocks ≡ entries_in runs.now) }
+{
+    runs_fit(runs);
+    let mut blocks = Vec::with_capacity(alloc, runs.len())?;
+    for entry in runs {
+        blocks.push(Block::new(entry.run.copy()?, entry.text.copy()?))?;
+    }
+    BlockTree::of_blocks(alloc, blocks)
+}
+
+// These waiting operations, which stand in order.
+fn held(alloc: Global, ops: &[Op]) -> Result<Held, AllocError>
+    requires order { IsTrue (is_in_order ops.now) }
+    ensures held { IfOk result (λ held. held ≡ ops.now) }
+{
+    let mut held = Held::new(alloc);
+    for op in ops {
+        held.put(op.copy()?)?;
+    }
+    Ok(held)
+}

@@ -1,0 +1,223 @@
+-- What is known of the entries of parts, place by place.
+use Rattle.std.proofs.Common.{◌≡◌, ℕ, suc, zero, ◌+◌, ◌<◌, ◌≤◌, ◌&&◌, Bool, true, false, List, [], ◌∷◌, ◌++◌, length, map, get_or, take, drop, refl, sym, ap, ◌∙◌, subst, arith, inl, inr, Option, Some, None, if◌then◌else◌, add-one, drop-cons}
+use Rattle.std.proofs.lemmas.List.{drop_all}
+use Rattle.std.specs.List.{list_all, list_any}
+use Rattle.rls_ident.specs.declared.tuple.Tuple.{Tuple}
+use Rattle.rls_ident.specs.declared.epoch_name.EpochName.{EpochName}
+use Rattle.rls_ident.specs.declared.epoch_name.EpochName.TheVariants.{Origin, Of}
+use Rattle.rls_ident.specs.EpochNames.{name_eq, is_of_member, is_within}
+use Rattle.rls_ident.specs.Identifiers.{is_ident, last_of}
+use Rattle.rls_ident.specs.Lists.{IsIn}
+use Rattle.rls_ident.specs.Vectors.{raise}
+use Rattle.rls_ident.proofs.Members.{all_in, in_all, and_none, any_in, in_any, in_map, lt_test, same_bool}
+use Rattle.rls_ident.proofs.Named.{name_eq_is, name_eq_refl}
+use Rattle.rls_runs.specs.Runs.{IsImage, idents_of, is_run, run_idents}
+use Rattle.rls_runs.proofs.RunOrder.{run_are_idents, run_ident}
+use Rattle.rls_rename.specs.Connected.{spanned}
+use Rattle.rls_rename.specs.Keeping.{reached}
+use Rattle.rls_rename.specs.Tree.{Node, Epochs, AreNodes, is_kept, greatest, translate}
+use Rattle.rls_rename.proofs.Growth.{translate_same}
+use Rattle.rls_ops.specs.declared.op.Op.{Op}
+use Rattle.rls_seen.proofs.Sending.{length-stable}
+use Rattle.rls_seen.specs.Sane.{IsStem, AreStems, IsCounted}
+use Rattle.rls_model.specs.declared.parts.EpochPart.{EpochPart}
+use Rattle.rls_model.specs.declared.parts.Parts.{Parts}
+use Rattle.rls_model.specs.declared.parts.Stem.{Stem}
+use Rattle.rls_model.specs.declared.parts.TextRun.{TextRun}
+use Rattle.rls_model.specs.Stems.{stands_before}
+use Rattle.rls_parts.specs.Given.{AreGiven, AreEpochParts, HaveCounts}
+use Rattle.rls_parts.specs.Reading.{top_name, nodes_of, epochs_of, greatest_of_parts, names_of, in_epoch, stable_of_parts}
+use Rattle.rls_parts.specs.Restored.{acks_of, with_own}
+use Rattle.rls_parts.specs.Rules.{are_retained, epoch_fault, has_stable, is_kept_name, is_next, is_text_of, is_used_everywhere, is_used_tuple, log_fault, names_eq, raised_by, retained_of_parts}
+use Rattle.rls_parts.proofs.RestoredEpochs.{tree_given, kept_named, named_kept, counted_named}
+use Rattle.rls_parts.proofs.RestoredRows.{rows_given, stable_given}
+
+pub counts_at : (n : ℕ) (vs : List (List ℕ)) (i : ℕ) (d : List ℕ) → HaveCounts n vs → i < length vs → length (get_or vs i d) ≡ n
+counts_at n [] i d h l = absurd (omega arith)
+counts_at n (v ∷ vs) zero d h l = h.0
+counts_at n (v ∷ vs) (suc i) d h l = counts_at n vs i d h.1 (omega arith)
+
+-- a test of each of these with each of those may go in either order
+pub all_swap : {A B : Type 0} (t : A → B → Bool) (xs : List A) (ys : List B) → list_all (λ x. list_all (t x) ys) xs ≡ list_all (λ y. list_all (λ x. t x y) xs) ys
+all_swap t xs ys =
+    same_bool (list_all (λ x. list_all (t x) ys) xs) (list_all (λ y. list_all (λ x. t x y) xs) ys)
+    (λ h. all_in (λ y. list_all (λ x. t x y) xs) ys (λ y q. all_in (λ x. t x y) xs (λ x p. in_all (t x) y ys (in_all (λ x. list_all (t x) ys) x xs h p) q)))
+    (λ h. all_in (λ x. list_all (t x) ys) xs (λ x p. all_in (t x) ys (λ y q. in_all (λ x. t x y) x xs (in_all (λ y. list_all (λ x. t x y) xs) y ys h q) p)))
+
+pub all_append : {A : Type 0} (t : A → Bool) (xs ys : List A) → list_all t (xs ++ ys) ≡ (list_all t xs && list_all t ys)
+all_append t [] ys = refl
+all_append t (x ∷ xs) ys = go (t x) (all_append t xs ys)
+  where
+    go : (b : Bool) → list_all t (xs ++ ys) ≡ (list_all t xs && list_all t ys) → (b && list_all t (xs ++ ys)) ≡ ((b && list_all t xs) && list_all t ys)
+    go true h = h
+    go false h = refl
+
+-- ---- epochs of the list
+
+pub name_at_place : (list es : List EpochPart) (i : ℕ) (d : EpochPart) → list ≡ es → i < length list → IsIn (get_or list i d).name (names_of es)
+name_at_place list es i d e l = subst (λ xs. IsIn (get_or list i d).name (names_of xs)) e (here list i l)
+  where
+    here : (xs : List EpochPart) (i : ℕ) → i < length xs → IsIn (get_or xs i d).name (names_of xs)
+    here [] i l = absurd (omega arith)
+    here (x ∷ xs) zero l = inl refl
+    here (x ∷ xs) (suc i) l = inr (here xs i (omega arith))
+
+pub kept_at : (p : Parts) (E : Epochs) → AreEpochParts p.epochs → epoch_fault p [] p.epochs ≡ None → E ≡ epochs_of p → (g : EpochName) → IsIn g (names_of p.epochs) → is_kept E.top E.nodes g ≡ true
+kept_at p E g r e n q = ap (λ (x : Epochs). is_kept x.top x.nodes n) e ∙ named_kept p p.epochs (tree_given p p.epochs g r) n q
+
+pub at_kept : (p : Parts) (E : Epochs) → AreEpochParts p.epochs → epoch_fault p [] p.epochs ≡ None → E ≡ epochs_of p → (g : EpochName) → is_kept E.top E.nodes g ≡ true → IsIn g (names_of p.epochs)
+at_kept p E g r e n k = kept_named p p.epochs (tree_given p p.epochs g r) n (ap (λ (x : Epochs). is_kept x.top x.nodes n) (sym e) ∙ k)
+
+pub kept_names : (p : Parts) (E : Epochs) (g : EpochName) → AreEpochParts p.epochs → epoch_fault p [] p.epochs ≡ None → E ≡ epochs_of p → is_kept E.top E.nodes g ≡ is_kept_name p g
+kept_names p E g a r e =
+    same_bool (is_kept E.top E.nodes g) (is_kept_name p g)
+    (λ k. any_in (λ f. name_eq f g) g (names_of p.epochs) (at_kept p E a r e g k) (name_eq_refl g))
+    (λ h. let q = in_any (λ f. name_eq f g) (names_of p.epochs) h in kept_at p E a r e g (subst (λ f. IsIn f (names_of p.epochs)) (name_eq_is q.0 g q.2) q.1))
+
+of_member : (n : ℕ) (v : List ℕ) (g : EpochName) → length v ≡ n → IsCounted v g → is_of_member n g ≡ true
+of_member n v Origin e c = refl
+of_member n v (Of r s) e c = lt_test r n (let l = c.0 in omega arith)
+
+pub length-stable_parts : (p : Parts) → AreGiven p → length (stable_of_parts p) ≡ p.members
+length-stable_parts p g = ap length (sym (stable_given p g)) ∙ (length-stable (acks_of p) (rows_given p g) ∙ g.vector)
+
+pub members_named : (p : Parts) (stable : List ℕ) → AreGiven p → epoch_fault p [] p.epochs ≡ None → stable ≡ stable_of_parts p → (g : EpochName) → IsIn g (names_of p.epochs) → is_of_member (length stable) g ≡ true
+members_named p stable a r s g q =
+    let n : length stable ≡ p.members = ap length s ∙ length-stable_parts p a in
+    ap (λ m. is_of_member m g) n ∙ of_member p.members p.vector g a.vector (counted_named p a.vector p.epochs (tree_given p p.epochs a.epochs r) g q)
+
+pub names_differ : (es : List EpochPart) (fs : List EpochName) → (length es ≡ length fs → ⊥) → names_eq (names_of es) fs ≡ false
+names_differ [] [] n = absurd (n refl)
+names_differ [] (f ∷ fs) n = refl
+names_differ (e ∷ es) [] n = refl
+names_differ (e ∷ es) (f ∷ fs) n = ap (λ b. name_eq e.name f && b) (names_differ es fs (λ h. n (ap suc h))) ∙ and_none (name_eq e.name f)
+
+retained_so : (p : Parts) (E : Epochs) (v : List ℕ) (ms names : List EpochName) → E ≡ epochs_of p → v ≡ stable_of_parts p → ms ≡ map (λ (o : Op). o.epoch) p.log
+    → names ≡ spanned E.top E.nodes (greatest E.top E.nodes) (reached E v ++ ms) → names ≡ retained_of_parts p
+unfolding retained_of_parts
+retained_so p E v ms names e s m n =
+    let F = epochs_of p in
+    n
+    ∙ (ap (λ (x : Epochs). spanned x.top x.nodes (greatest x.top x.nodes) (reached x v ++ ms)) e
+    ∙ (ap (λ u. spanned F.top F.nodes (greatest_of_parts p) (reached F u ++ ms)) s ∙ ap (λ es. spanned F.top F.nodes (greatest_of_parts p) (reached F (stable_of_parts p) ++ es)) m))
+
+pub retained_done : (p : Parts) (E : Epochs) (v : List ℕ) (ms names : List EpochName) (list : List EpochPart) (b : Bool) → E ≡ epochs_of p → v ≡ stable_of_parts p → ms ≡ map (λ (o : Op). o.epoch) p.log
+    → names ≡ spanned E.top E.nodes (greatest E.top E.nodes) (reached E v ++ ms) → list ≡ p.epochs → true ≡ list_any (λ e. is_within e v) (names_of p.epochs) → b ≡ names_eq (names_of list) names → b ≡ are_retained p
+retained_done p E v ms names list b e s m n l h k =
+    let stable : has_stable p ≡ true = ap (λ u. list_any (λ f. is_within f u) (names_of p.epochs)) (sym s) ∙ sym h in
+    k
+    ∙ (ap (λ xs. names_eq (names_of xs) names) l
+    ∙ (ap (names_eq (names_of p.epochs)) (retained_so p E v ms names e s m n) ∙ ap (λ c. c && names_eq (names_of p.epochs) (retained_of_parts p)) (sym stable)))
+
+-- ---- stems
+
+taken_before : (v : List ℕ) (ts : List Stem) (i : ℕ) (d : Stem) → AreStems v ts → i < length ts → (t : Stem) → IsIn t (take i ts) → stands_before (get_or ts i d).author (get_or ts i d).s0 t ≡ true
+taken_before v [] i d a l t q = absurd (omega arith)
+taken_before v (u ∷ ts) zero d a l t q = absurd q
+taken_before v (u ∷ ts) (suc i) d a l t (inl e) =
+    subst (λ x. stands_before (get_or ts i d).author (get_or ts i d).s0 x ≡ true) e (in_all (λ (x : Stem). stands_before x.author x.s0 u) (get_or ts i d) ts a.1 (there ts i (omega arith)))
+  where
+    there : (xs : List Stem) (i : ℕ) → i < length xs → IsIn (get_or xs i d) xs
+    there [] i l = absurd (omega arith)
+    there (x ∷ xs) zero l = inl refl
+    there (x ∷ xs) (suc i) l = inr (there xs i (omega arith))
+taken_before v (u ∷ ts) (suc i) d a l t (inr q) = taken_before v ts i d a.2 (omega arith) t q
+
+stem_there : (v : List ℕ) (ts : List Stem) (i : ℕ) (d : Stem) → AreStems v ts → i < length ts → IsStem v (get_or ts i d)
+stem_there v [] i d a l = absurd (omega arith)
+stem_there v (u ∷ ts) zero d a l = a.0
+stem_there v (u ∷ ts) (suc i) d a l = stem_there v ts i d a.2 (omega arith)
+
+pub author_there : (n : ℕ) (v : List ℕ) (list ts : List Stem) (i : ℕ) (d : Stem) → length v ≡ n → list ≡ ts → AreStems v ts → i < length list → (get_or list i d).author < n
+author_there n v list ts i d m e a l = let k = (stem_there v list i d (subst (AreStems v) (sym e) a) l).author in omega arith
+
+pub before_there : (v : List ℕ) (list ts so_far : List Stem) (i : ℕ) (d : Stem) → list ≡ ts → so_far ≡ take i ts → AreStems v ts → i < length list → (t : Stem) → IsIn t so_far → stands_before (get_or list i d).author (get_or list i d).s0 t ≡ true
+before_there v list ts so_far i d e f a l t q = taken_before v list i d (subst (AreStems v) (sym e) a) l t (subst (λ xs. IsIn t (take i xs)) (sym e) (subst (IsIn t) f q))
+
+-- ---- operations
+
+drop_there : {A : Type 0} (xs : List A) (i : ℕ) (d : A) → i < length xs → drop i xs ≡ get_or xs i d ∷ drop (i + 1) xs
+drop_there xs i d l = rw add-one (drop-cons xs i d l)
+
+pub log_on : (p : Parts) (v : List ℕ) (i : ℕ) (list os : List Op) (d : Op) → list ≡ os → i < length list → is_next p v (get_or list i d) ≡ true → log_fault p v i (drop i os) ≡ log_fault p (raise v (get_or list i d).author) (i + 1) (drop (i + 1) os)
+log_on p v i list os d e l n =
+    let o = get_or list i d in
+    let one : suc i ≡ i + 1 = omega arith in
+    ap (log_fault p v i) (ap (drop i) (sym e) ∙ drop_there list i d l)
+    ∙ (ap (λ b. if b then log_fault p (raise v o.author) (suc i) (drop (i + 1) list) else Some i) n
+    ∙ (ap (λ k. log_fault p (raise v o.author) k (drop (i + 1) list)) one ∙ ap (λ xs. log_fault p (raise v o.author) (i + 1) (drop (i + 1) xs)) e))
+
+pub raised_on : (v : List ℕ) (i : ℕ) (list os : List Op) (d : Op) → list ≡ os → i < length list → raised_by v (drop i os) ≡ raised_by (raise v (get_or list i d).author) (drop (i + 1) os)
+raised_on v i list os d e l = ap (raised_by v) (ap (drop i) (sym e) ∙ drop_there list i d l) ∙ ap (λ xs. raised_by (raise v (get_or list i d).author) (drop (i + 1) xs)) e
+
+pub log_done : (p : Parts) (v : List ℕ) (i : ℕ) (list os : List Op) → list ≡ os → length list ≤ i → log_fault p v i (drop i os) ≡ None
+log_done p v i list os e l = ap (log_fault p v i) (ap (drop i) (sym e) ∙ drop_all i list l)
+
+pub raised_done : (v : List ℕ) (i : ℕ) (list os : List Op) → list ≡ os → length list ≤ i → raised_by v (drop i os) ≡ v
+raised_done v i list os e l = ap (raised_by v) (ap (drop i) (sym e) ∙ drop_all i list l)
+
+-- ---- text
+
+-- in this epoch the last tuple of each identifier of the run was used
+abbrev pub used_in : Parts → TextRun → EpochName → Bool
+used_in p r f = list_all (λ x. is_used_tuple p (last_of (in_epoch p f x))) (run_idents r.run.0 r.run.1)
+
+text_is : (p : Parts) (r : TextRun) → is_text_of p r ≡ list_all (used_in p r) (names_of p.epochs)
+text_is p r = all_swap (λ x f. is_used_tuple p (last_of (in_epoch p f x))) (run_idents r.run.0 r.run.1) (names_of p.epochs)
+
+pub text_ends : (p : Parts) (r : TextRun) (list : List EpochPart) (i : ℕ) (d : EpochPart) → list ≡ p.epochs → i < length list → list_all (used_in p r) (names_of (drop i p.epochs)) ≡ list_all (used_in p r) (names_of p.epochs) → used_in p r (get_or list i d).name ≡ false → false ≡ is_text_of p r
+text_ends p r list i d e l h n =
+    let f = (get_or list i d).name in
+    sym (ap (λ b. b && list_all (used_in p r) (names_of (drop (i + 1) list))) n)
+    ∙ (ap (λ xs. list_all (used_in p r) (names_of xs)) (sym (drop_there list i d l) ∙ ap (drop i) e) ∙ (h ∙ sym (text_is p r)))
+
+pub text_done : (p : Parts) (r : TextRun) (list : List EpochPart) (i : ℕ) → list ≡ p.epochs → length list ≤ i → list_all (used_in p r) (names_of (drop i p.epochs)) ≡ list_all (used_in p r) (names_of p.epochs) → true ≡ is_text_of p r
+text_done p r list i e l h = ap (λ xs. list_all (used_in p r) (names_of xs)) (sym (drop_all i list l) ∙ ap (drop i) e) ∙ (h ∙ sym (text_is p r))
+
+pub all_same : {A : Type 0} (s t : A → Bool) (xs : List A) → ((x : A) → IsIn x xs → s x ≡ t x) → list_all s xs ≡ list_all t xs
+all_same s t [] f = refl
+all_same s t (x ∷ xs) f = ap (λ b. b && list_all s xs) (f x (inl refl)) ∙ ap (λ b. t x && b) (all_same s t xs (λ z q. f z (inr q)))
+
+pub all_map : {A B : Type 0} (t : B → Bool) (f : A → B) (xs : List A) → list_all t (map f xs) ≡ list_all (λ x. t (f x)) xs
+all_map t f [] = refl
+all_map t f (x ∷ xs) = ap (λ b. t (f x) && b) (all_map t f xs)
+
+-- the run in another epoch of the list
+pub used_moved : (p : Parts) (E : Epochs) (g name : EpochName) (run : List Tuple × ℕ) (images : List (List Tuple × ℕ)) (b : Bool) → epochs_of p ≡ E → g ≡ greatest E.top E.nodes → IsImage (translate E.nodes g name) run images
+    → b ≡ list_all (λ x. is_used_tuple p (last_of x)) (idents_of images) → b ≡ list_all (λ x. is_used_tuple p (last_of (in_epoch p name x))) (run_idents run.0 run.1)
+used_moved p E g name run images b e h m u =
+    let xs = run_idents run.0 run.1 in
+    u
+    ∙ (ap (list_all (λ x. is_used_tuple p (last_of x))) m.idents
+    ∙ (all_map (λ x. is_used_tuple p (last_of x)) (translate E.nodes g name) xs
+    ∙ (ap (λ f. list_all (λ x. is_used_tuple p (last_of (translate E.nodes f name x))) xs) h
+    ∙ ap (λ (y : Epochs). list_all (λ x. is_used_tuple p (last_of (translate y.nodes (greatest y.top y.nodes) name x))) xs) (sym e))))
+
+-- the run in the greatest one, in which it stands
+pub used_here : (p : Parts) (E : Epochs) (g name : EpochName) (run : List Tuple × ℕ) (b : Bool) → epochs_of p ≡ E → g ≡ greatest E.top E.nodes → name_eq g name ≡ true → AreNodes E.nodes → is_run run ≡ true
+    → b ≡ list_all (λ x. is_used_tuple p (last_of x)) (run_idents run.0 run.1) → b ≡ list_all (λ x. is_used_tuple p (last_of (in_epoch p name x))) (run_idents run.0 run.1)
+used_here p E g name run b e h same n r u =
+    let xs = run_idents run.0 run.1 in
+    let is : greatest E.top E.nodes ≡ name = sym h ∙ name_eq_is g name same in
+    u
+    ∙ (all_same (λ x. is_used_tuple p (last_of x)) (λ x. is_used_tuple p (last_of (translate E.nodes (greatest E.top E.nodes) name x))) xs
+    (λ x q. ap (λ y. is_used_tuple p (last_of y)) (sym (ap (λ f. translate E.nodes f name x) is ∙ translate_same E.nodes name x n (in_all is_ident x xs (run_are_idents run.0 run.1 (run_ident run r)) q))))
+    ∙ ap (λ (y : Epochs). list_all (λ x. is_used_tuple p (last_of (translate y.nodes (greatest y.top y.nodes) name x))) xs) (sym e))
+
+-- ---- rows
+
+own_put : (me : ℕ) (own : List ℕ) (rows : List (List ℕ)) → me ≤ length rows → take me rows ++ own ∷ drop me rows ≡ with_own me own rows
+own_put zero own rows l = refl
+own_put (suc me) own [] l = absurd (omega arith)
+own_put (suc me) own (row ∷ rows) l = ap (λ vs. row ∷ vs) (own_put me own rows (omega arith))
+
+taken_all : (rows : List (List ℕ)) (i : ℕ) → length rows ≤ i → take i rows ≡ rows
+taken_all [] zero l = refl
+taken_all [] (suc i) l = refl
+taken_all (row ∷ rows) zero l = absurd (omega arith)
+taken_all (row ∷ rows) (suc i) l = ap (λ vs. row ∷ vs) (taken_all rows i (omega arith))
+
+pub own_so : (me i : ℕ) (own zeros : List ℕ) (list rows so_far new : List (List ℕ)) → list ≡ rows → so_far ≡ take i list → length list ≤ i → me ≤ length rows → own ≡ zeros → new ≡ take me so_far ++ own ∷ drop me so_far → new ≡ with_own me zeros rows
+own_so me i own zeros list rows so_far new e f l m z h =
+    let all : so_far ≡ rows = f ∙ (taken_all list i l ∙ e) in
+    h ∙ (ap (λ vs. take me vs ++ own ∷ drop me vs) all ∙ (ap (λ v. take me rows ++ v ∷ drop me rows) z ∙ own_put me zeros rows m))

@@ -1,0 +1,4 @@
+pub mod UsedRuns
+pub mod Building
+pub mod Faults
+pub mod InOrder

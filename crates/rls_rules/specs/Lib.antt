@@ -1,0 +1,4 @@
+pub mod Tested
+pub mod Building
+pub mod Used
+pub mod Whole

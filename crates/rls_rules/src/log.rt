@@ -1,0 +1,96 @@
+//! Unstable operations.
+
+ghost use Rattle.std.specs.Prelude.{◌≡◌, ◌-◌, ◌^◌, ◌<◌, [], None, length, slice_index, IfOk, IsTrue};
+ghost use Rattle.rls_ops.specs.Same.{numbers_eq};
+ghost use Rattle.rls_parts.specs.Given.{AreEpochParts, AreGiven};
+ghost use Rattle.rls_parts.specs.Reading.{epochs_of, has_member, stable_of_parts};
+ghost use Rattle.rls_parts.specs.Rules.{epoch_fault, is_kept_name, is_last, is_next};
+ghost use Rattle.rls_rules.specs.Tested.{IsLogTested};
+
+use rls_epoch::Epochs;
+use rls_ident::{EpochName, Vector};
+use rls_model::{Members, Parts};
+use rls_ops::{Body, Op};
+use std::alloc::AllocError;
+
+/// Whether the member is one of these.
+pub(crate) fn has_member(members: &Members, member: u32) -> bool
+    ensures has { result ≡ has_member members.now member }
+{
+    members.as_slice().contains(&member)
+}
+
+// Whether the operation isn't a leave, or its author's last, and its author has left.
+fn is_last(parts: &Parts, op: &Op) -> bool
+    requires author { op.now.author < length parts.now.vector }
+    ensures last { result ≡ is_last parts.now op.now }
+{
+    match &op.body {
+        Body::Insert { .. } | Body::Delete { .. } | Body::Rename { .. } => true,
+        Body::Leave => {
+            has_member(&parts.left, op.author) && op.seq == parts.vector.get(op.author)
+        }
+    }
+}
+
+// Whether the operation comes next after those that the vector counts.
+fn is_next(parts: &Parts, epochs: &Epochs, running: &Vector, op: &Op) -> bool
+    requires counts { length parts.now.vector ≡ parts.now.members }
+    requires running { length running.now ≡ parts.now.members }
+    requires epochs_are { epochs.now.epochs ≡ epochs_of parts.now }
+    requires rule { epoch_fault parts.now [] parts.now.epochs ≡ None }
+    requires given { AreEpochParts parts.now.epochs }
+    ensures next { result ≡ is_next parts.now running.now op.now }
+    ensures author { IsTrue result → op.now.author < parts.now.members }
+    ensures room { IsTrue result → slice_index running.now op.now.author < 2 ^ 32 - 1 }
+{
+    if op.check_shape(parts.members).is_err() {
+        return false;
+    }
+    op.seq as u64 == running.get(op.author) as u64 + 1
+        && op.context.at_most(running)
+        && is_kept_name(parts, epochs, op.epoch)
+        && is_last(parts, op)
+}
+
+// Whether the epoch is one of the list.
+fn is_kept_name(parts: &Parts, epochs: &Epochs, name: EpochName) -> bool
+    requires epochs_are { epochs.now.epochs ≡ epochs_of parts.now }
+    requires rule { epoch_fault parts.now [] parts.now.epochs ≡ None }
+    requires given { AreEpochParts parts.now.epochs }
+    ensures kept { result ≡ is_kept_name parts.now name }
+{
+    epochs.kept(name)
+}
+
+// Whether both have equal counts.
+fn same_counts(vector: &Vector, other: &Vector) -> bool
+    ensures same { result ≡ numbers_eq vector.now other.now }
+{
+    vector.counts().cmp(other.counts()).is_eq()
+}
+
+/// Rules 5 and 6: whether the unstable operations, each of which comes next, lead from the stable vector to the own one, or the place
+/// of the first that doesn't come next.
+pub fn log_fault(
+    parts: &Parts,
+    epochs: &Epochs,
+    stable: &Vector,
+) -> Result<Result<bool, u64>, AllocError>
+    requires given { AreGiven parts.now }
+    requires epochs_are { epochs.now.epochs ≡ epochs_of parts.now }
+    requires rule { epoch_fault parts.now [] parts.now.epochs ≡ None }
+    requires stable_is { stable.now ≡ stable_of_parts parts.now }
+    ensures tested { IfOk result (IsLogTested parts.now) }
+{
+    let mut running = stable.copy()?;
+    let ops = parts.log.as_slice();
+    for i in 0..ops.len() {
+        let op = &ops[i];
+        if !is_next(parts, epochs, &running, op) {
+            return Ok(Err(i as u64));
+        }
+        running.raise(op.author);
+    }
+    Ok(Ok(same_counts(&running, &parts.vector)))
+}

@@ -1,0 +1,89 @@
+//! All rules, one after another.
+
+ghost use Rattle.std.specs.Prelude.{◌≡◌, ℕ, None, Some, IfOk, IsErrOf};
+ghost use Rattle.rls_parts.specs.Given.{AreGiven};
+ghost use Rattle.rls_parts.specs.Rules.{broken};
+ghost use Rattle.rls_rules.specs.Whole.{IsMade};
+
+use crate::epochs::tree;
+use crate::held::held_fault;
+use crate::log::log_fault;
+use crate::retained::are_retained;
+use crate::rows::{acks, row_fault};
+use crate::stems::{stem_fault, table};
+use crate::text::text_fault;
+use rls_epoch::Epochs;
+use rls_model::Parts;
+use rls_stable::Acks;
+use rls_stems::StemTable;
+use std::alloc::{AllocError, Global};
+
+/// Why parts are no replica's.
+#[derive(Clone, Copy, Debug, PartialEq, Eq)]
+pub enum PartsError {
+    /// The first rule that is broken, and the place in its list of the first entry that breaks it.
+    Broken { rule: u8, index: u64 },
+    OutOfMemory,
+}
+
+impl From<AllocError> for PartsError {
+    ghost use Rattle.std.specs.Prelude.{◌≡◌};
+    ghost use Rattle.rls_rules.specs.declared.tested.PartsError.TheVariants.{OutOfMemory};
+
+    ghost from_gives = { λ _ e. e ≡ OutOfMemory };
+
+    fn from(_: AllocError) -> PartsError {
+        PartsError::OutOfMemory
+    }
+}
+
+/// What is made of a replica where its parts are tested.
+#[derive(Drop)]
+pub struct Tested {
+    pub acks: Acks,
+    pub stems: StemTable,
+    pub epochs: Epochs,
+}
+
+/// Tests the rules in their order. Rules 3 and 4 cost what `tree` and `text_fault` say, each other one a step for each entry.
+///
+/// # Errors
+///
+/// `Broken` exactly where a rule is broken, unless memory runs out.
+pub fn test_all(alloc: Global, parts: &Parts) -> Result<Tested, PartsError>
+    requires given { AreGiven parts.now }
+    ensures made { IfOk result (IsMade parts.now) }
+    ensures broken { (rule index : ℕ) → IsErrOf result (PartsError.Broken rule index) → broken parts.now ≡ Some (record { rule = rule; index = index }) }
+{
+    if let Some(index) = row_fault(parts) {
+        return Err(PartsError::Broken { rule: 1, index });
+    }
+    if let Some(index) = stem_fault(parts) {
+        return Err(PartsError::Broken { rule: 2, index });
+    }
+    let stems = table(alloc, parts)?;
+    let epochs = match tree(alloc, parts, &stems)? {
+        Ok(epochs) => epochs,
+        Err(index) => return Err(PartsError::Broken { rule: 3, index }),
+    };
+    if let Some(index) = text_fault(parts, &stems, &epochs)? {
+        return Err(PartsError::Broken { rule: 4, index });
+    }
+    let acks = acks(alloc, parts)?;
+    match log_fault(parts, &epochs, acks.stable())? {
+        Err(index) => return Err(PartsError::Broken { rule: 5, index }),
+        Ok(false) => return Err(PartsError::Broken { rule: 6, index: 0 }),
+        Ok(true) => {}
+    }
+    if !are_retained(alloc, parts, &epochs, acks.stable())? {
+        return Err(PartsError::Broken { rule: 7, index: 0 });
+    }
+    if let Some(index) = held_fault(parts) {
+        return Err(PartsError::Broken { rule: 8, index });
+    }
+    Ok(Tested {
+        acks,
+        stems,
+        epochs,
+    })
+}

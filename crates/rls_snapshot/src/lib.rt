@@ -1,0 +1,10 @@
+//! The parts of a replica, as a snapshot holds them: given from what the replica keeps.
+#![tactic(auto)]
+
+mod epochs;
+mod lists;
+mod text;
+
+pub use epochs::epoch_parts;
+pub use lists::{left_members, missing, other_rows, waiting};
+pub use text::text_runs;

@@ -1,0 +1,70 @@
+//! Parts that are lists of rows, members and operations.
+
+ghost use Rattle.std.specs.Prelude.{◌≡◌, ◌<◌, length, IfOk};
+ghost use Rattle.rls_ident.specs.Lists.{IsIn};
+ghost use Rattle.rls_ops.specs.declared.op.Op.{Op};
+ghost use Rattle.rls_ops.specs.Rows.{missing_for};
+ghost use Rattle.rls_seen.specs.Kept.{other_rows, left_below};
+
+use rls_causal::Held;
+use rls_ident::Vector;
+use rls_model::{Members, Rows};
+use rls_ops::Ops;
+use rls_stable::{Acks, Log};
+use std::alloc::{AllocError, Global};
+
+/// The rows of all members but the own one, in order.
+pub fn other_rows(alloc: Global, acks: &Acks, members: u32) -> Result<Rows, AllocError>
+    requires members { members ≡ length acks.now.mine }
+    ensures rows { IfOk result (λ rows. rows ≡ other_rows acks.now members) }
+{
+    let mut rows = Rows::new(alloc);
+    for member in 0..members {
+        if member == acks.me() {
+            continue;
+        }
+        rows.push(acks.row(member).copy()?)?;
+    }
+    Ok(rows)
+}
+
+/// The members that have left, in increasing order.
+pub fn left_members(alloc: Global, acks: &Acks, members: u32) -> Result<Members, AllocError>
+    requires members { members ≡ length acks.now.mine }
+    ensures left { IfOk result (λ left. left ≡ left_below acks.now members) }
+{
+    let mut left = Members::new(alloc);
+    for member in 0..members {
+        if acks.left(member) {
+            left.push(member)?;
+        }
+    }
+    Ok(left)
+}
+
+/// The operations of a log that a vector doesn't cover, in order.
+pub fn missing(alloc: Global, log: &Log, vector: &Vector) -> Result<Ops, AllocError>
+    requires authors { (o : Op) → IsIn o log.now.ops → o.author < length vector.now }
+    ensures ops { IfOk result (λ ops. ops ≡ missing_for vector.now log.now.ops) }
+{
+    let mut ops = Ops::new(alloc);
+    for i in 0..log.len() {
+        let op = log.op(i);
+        if op.seq <= vector.get(op.author) {
+            continue;
+        }
+        ops.push(op.copy()?)?;
+    }
+    Ok(ops)
+}
+
+/// The waiting operations, in order.
+pub fn waiting(alloc: Global, held: &Held) -> Result<Ops, AllocError>
+    ensures ops { IfOk result (λ ops. ops ≡ held.now) }
+{
+    let mut ops = Ops::new(alloc);
+    for i in 0..held.len() {
+        ops.push(held.op(i).copy()?)?;
+    }
+    Ok(ops)
+}

@@ -1,0 +1,22 @@
+use Rattle.std.proofs.Common.{◌≡◌, ◌+◌, ◌∷◌, [], length, ap, ◌∙◌, arith, length-append}
+use Rattle.rls_tree.specs.Trees.{entries_of}
+use Rattle.rls_tree.proofs.Pieces.{chars_append}
+use Rattle.rls_tree.proofs.build.+built.Goals as goal
+
+-- what is left after the last blocks were taken
+pub built-requires-2 : goal.built-requires-2
+built-requires-2 t c =
+    let old = c.args.blocks.now.items in
+    let mid = c.built.new.blocks.items in
+    let new = c.pop.new.self.items in
+    let last = c.in-Some.block ∷ [] in
+    let right = c.in_ok-right.right.blocks in
+    let count : length old ≡ length mid + length right = ap length c.in_ok-right.ensures.blocks ∙ length-append mid right in
+    let chars : length (entries_of old) ≡ length (entries_of mid) + length (entries_of right) = ap (λ bs. length (entries_of bs)) c.in_ok-right.ensures.blocks ∙ chars_append mid right in
+    let one : length mid ≡ length new + 1 = ap length c.in-Some.ensures.items ∙ length-append new last in
+    let fewer : length (entries_of mid) ≡ length (entries_of new) + length (entries_of last) = ap (λ bs. length (entries_of bs)) c.in-Some.ensures.items ∙ chars_append new last in
+    let within = c.requires.within in
+    let fit = c.requires.chars_fit in
+    let behind = c.in_ok-right.ensures.count in
+    let before = c.decreases in
+    (omega arith, (omega arith, omega arith))

@@ -1,0 +1,36 @@
+//! Trees of blocks that stand in order already.
+
+ghost use Rattle.std.specs.Prelude.{◌≡◌, ◌<◌, ◌≤◌, ◌^◌, ◌++◌, length, IfOk};
+ghost use Rattle.rls_tree.specs.Trees.{entries_of};
+
+use crate::balance::join;
+use crate::block::Block;
+use crate::node::Link;
+use crate::put::new_node;
+use std::alloc::{AllocError, Global};
+
+/// Takes so many blocks from the end, and makes a tree of them. It costs a step for each, and takes memory for as many nodes. After an
+/// error some of them are gone.
+#[tactic(auto, using(crate::proofs::Pieces::chars_append))]
+pub(crate) fn built(
+    alloc: Global,
+    blocks: &mut Vec<Block>,
+    count: usize,
+) -> Result<Link, AllocError>
+    requires within { count ≤ length blocks.old.items }
+    requires chars_fit { length (entries_of blocks.old.items) < 2 ^ 64 }
+    ensures blocks { IfOk result (λ link. blocks.old.items ≡ blocks.new.items ++ link.blocks) }
+    ensures count { IfOk result (λ link. length link.blocks ≡ count) }
+{
+    if count == 0 {
+        return Ok(Link::empty());
+    }
+    let behind = count / 2;
+    let right = built(alloc, blocks, behind)?;
+    let Some(block) = blocks.pop() else {
+        unreachable!()
+    };
+    let node = new_node(alloc, block)?;
+    let left = built(alloc, blocks, count - 1 - behind)?;
+    Ok(join(left, node, right))
+}

@@ -1,0 +1,20 @@
+//! What is kept of an edit, so that it can be undone.
+
+use rls_ident::{EpochName, Ident};
+use rls_runs::{Runs, Text};
+
+/// What a member did to its text.
+#[derive(Drop)]
+pub enum Entry {
+    /// It inserted characters with these identifiers, of an epoch.
+    Inserted {
+        epoch: EpochName,
+        ids: Runs,
+    },
+    /// It deleted these characters, of which the first had this identifier, of an epoch.
+    Removed {
+        epoch: EpochName,
+        first: Ident,
+        text: Text,
+    },
+}

@@ -1,0 +1,188 @@
+//! Entries of edits, and entries at the greatest epoch.
+
+ghost use Rattle.std.specs.Prelude.{◌≡◌, ◌+◌, ◌≤◌, ◌∷◌, [], List, ℕ, ◌↔◌, length, map, take, drop, Some, None, IfOk, IfErr, OnOk, IsErrOf, IsTrue, IsFalse};
+ghost use Rattle.rls_ident.specs.declared.epoch_name.EpochName.{EpochName};
+ghost use Rattle.rls_ident.specs.declared.tuple.Tuple.{Tuple};
+ghost use Rattle.rls_ops.specs.declared.op.Body.TheVariants as body;
+ghost use Rattle.rls_model.specs.WellFormed.{IsEdit};
+ghost use Rattle.rls_seen.specs.Edits.{edit_fault_over, made_over, IsFault};
+ghost use Rattle.rls_seen.specs.Seen.{text_over, idents_over};
+ghost use Rattle.rls_replica.specs.Names.{keeps};
+ghost use Rattle.rls_undo.specs.declared.entry.Entry.{Entry};
+ghost use Rattle.rls_undo.specs.Plans.{epoch_in, entries_by, gone_by};
+ghost use Rattle.rls_undo.specs.UndoLaws.{AreWhole};
+ghost use Rattle.rls_undo.specs.Undoing.{entry_list, entries_over, settled_over, first_dropped};
+
+use crate::entry::Entry;
+use rls_ident::EpochName;
+use rls_ops::{Body, Op};
+use rls_replica::{Edit, EditError, PastError, Replica};
+use rls_runs::{Run, Runs, Text};
+use std::alloc::{AllocError, Global};
+
+/// The entry that an edit leaves here, if any.
+///
+/// # Errors
+///
+/// The first fault of the edit; or `OutOfMemory`.
+pub(crate) fn entry_for(
+    alloc: Global,
+    replica: &Replica,
+    edit: &Edit,
+) -> Result<Option<Entry>, EditError>
+    ensures entry { IfOk result (λ e. entry_list e ≡ entries_over replica.now edit.now) }
+    ensures whole { IfOk result (λ e. AreWhole (entry_list e)) }
+    ensures fault { IfErr result (λ e. IsFault e (edit_fault_over replica.now edit.now)) }
+{
+    match edit {
+        Edit::Insert { .. } => {
+            let op = replica.made(edit)?;
+            match insertion(alloc, op) {
+                Err(error) => Err(error),
+                Ok(entry) => Ok(entry),
+            }
+        }
+        Edit::Delete { at, count } => {
+            let op = replica.made(edit)?;
+            let Ok(gone) = replica.text_of(*at, *count) else {
+                return Err(EditError::OutOfMemory);
+            };
+            match deletion(op, gone) {
+                Err(error) => Err(error),
+                Ok(entry) => Ok(entry),
+            }
+        }
+        Edit::Rename => Ok(None),
+        Edit::Leave => Ok(None),
+    }
+}
+
+// That of an operation that inserts.
+fn insertion(alloc: Global, op: Op) -> Result<Option<Entry>, EditError>
+    ensures entry { IfOk result (λ e. (first : List Tuple) (cs : List ℕ) → op.body ≡ body.Insert first cs → entry_list e ≡ entries_by op.epoch op.body []) }
+    ensures whole { IfOk result (λ e. AreWhole (entry_list e)) }
+    ensures fault { IfErr result (λ e. e ≡ EditError.OutOfMemory) }
+{
+    let Op { epoch, body, .. } = op;
+    let Body::Insert { first, text } = body else {
+        return Ok(None);
+    };
+    // The identifiers of an insertion are a run, so there is always one.
+    let Ok(len) = u32::try_from(text.len()) else {
+        return Err(EditError::OutOfMemory);
+    };
+    let Ok(run) = Run::new(first, len) else {
+        return Err(EditError::OutOfMemory);
+    };
+    let mut ids = Runs::new(alloc);
+    match ids.append(run) {
+        Err(_) => Err(EditError::OutOfMemory),
+        Ok(()) => Ok(Some(Entry::Inserted { epoch, ids })),
+    }
+}
+
+// That of an operation that deletes these characters.
+fn deletion(op: Op, gone: Text) -> Result<Option<Entry>, EditError>
+    ensures entry { IfOk result (λ e. (targets : List (List Tuple)) → op.body ≡ body.Delete targets → entry_list e ≡ entries_by op.epoch op.body gone) }
+    ensures whole { IfOk result (λ e. AreWhole (entry_list e)) }
+    ensures fault { IfErr result (λ e. e ≡ EditError.OutOfMemory) }
+{
+    let _len = gone.len();
+    let Op { epoch, body, .. } = op;
+    let Body::Delete { targets } = body else {
+        return Ok(None);
+    };
+    if targets.total() == 0 {
+        return Ok(None);
+    }
+    match targets.get(0) {
+        Err(_) => Err(EditError::OutOfMemory),
+        Ok(first) => Ok(Some(Entry::Removed {
+            epoch,
+            first,
+            text: gone,
+        })),
+    }
+}
+
+/// Whether the replica keeps the epoch of each entry.
+///
+/// # Errors
+///
+/// `Dropped` exactly where it doesn't; the first such epoch.
+pub(crate) fn all_kept(replica: &Replica, entries: &[Entry]) -> Result<(), PastError>
+    ensures ok { OnOk result (first_dropped replica.now entries.now ≡ None) }
+    ensures dropped { (e : EpochName) → (IsErrOf result (PastError.Dropped e) ↔ (first_dropped replica.now entries.now ≡ Some e)) }
+{
+    'entries: for i in 0..entries.len() {
+        let epoch = epoch_of(&entries[i]);
+        if !replica.keeps(epoch) {
+            return Err(PastError::Dropped { epoch });
+        }
+    }
+    Ok(())
+}
+
+/// The epoch of an entry.
+pub(crate) fn epoch_of(entry: &Entry) -> EpochName
+    ensures epoch { result ≡ epoch_in entry.now }
+{
+    match entry {
+        Entry::Inserted { epoch, .. } | Entry::Removed { epoch, .. } => *epoch,
+    }
+}
+
+/// The entries at the greatest epoch, where their own are kept.
+pub(crate) fn settled(
+    alloc: Global,
+    replica: &Replica,
+    entries: &[Entry],
+) -> Result<Vec<Entry>, AllocError>
+    ensures settled { IfOk result (λ es. es.items ≡ map (settled_over replica.now) entries.now) }
+{
+    let mut there = Vec::with_capacity(alloc, entries.len())?;
+    for entry in entries {
+        there.push(settled_entry(replica, entry)?)?;
+    }
+    Ok(there)
+}
+
+// One entry.
+fn settled_entry(replica: &Replica, entry: &Entry) -> Result<Entry, AllocError>
+    ensures settled { IfOk result (λ e. e ≡ settled_over replica.now entry.now) }
+{
+    match entry {
+        Entry::Inserted { epoch, ids } => match replica.to_greatest(*epoch, ids) {
+            Err(_) => Err(AllocError),
+            Ok(ids) => Ok(Entry::Inserted {
+                epoch: replica.greatest(),
+                ids,
+            }),
+        },
+        Entry::Removed { epoch, first, text } => match replica.ident_to_greatest(*epoch, first) {
+            Err(_) => Err(AllocError),
+            Ok(first) => Ok(Entry::Removed {
+                epoch: replica.greatest(),
+                first,
+                text: text.copy()?,
+            }),
+        },
+    }
+}
+
+/// What the fields of an edit promise.
+pub(crate) fn fits(edit: &Edit)
+    ensures whole { IsEdit edit.now }
+{
+    match edit {
+        Edit::Insert { at, text } => {
+            let _at = *at;
+            let _len = text.len();
+        }
+        Edit::Delete { at, count } => {
+            let _at = *at;
+            let _count = *count;
+        }
+        Edit::Rename | Edit::Leave => {}
+    }
+}

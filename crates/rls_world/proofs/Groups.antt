@@ -1,0 +1,144 @@
+-- No step of a replica changes its group or its count of members.
+use Rattle.std.proofs.Common.{◌≡◌, ℕ, zero, suc, Bool, true, false, List, [], ◌∷◌, length, refl, sym, ◌∙◌, subst, Option, Some, None, if◌then◌else◌}
+use Rattle.std.specs.Prelude.{slice_get, slice_set}
+use Rattle.rls_ident.proofs.Members.{some_is}
+use Rattle.rls_ops.specs.declared.op.Op.{Op}
+use Rattle.rls_ops.specs.declared.message.Message.{Message}
+use Rattle.rls_model.specs.Answers.{Reason, Answer, Applies, Repeats, Waits, Refuses, Released}
+use Rattle.rls_model.specs.Taking.{has_room}
+use Rattle.rls_seen.specs.Seen.{Seen, members}
+use Rattle.rls_seen.specs.Over.{accepted, holding, after_answer, answer_over, received, refusal_over, first_ready, after_refusal, release_over, after_release, released, released_times, released_all, acknowledged}
+use Rattle.rls_seen.specs.Messages.{Course, started, moved, with_answer, with_refusal, with_release, receive_step, release_step, release_steps, with_releases, acknowledge_step, take_ops, taken_within, IsPartTaken}
+use Rattle.rls_seen.specs.Kept.{dropped}
+use Rattle.rls_seen.proofs.Counting.{members_accepted, members_acknowledged}
+use Rattle.rls_world.specs.Seen.{IsOfGroup, AreOfGroup}
+
+-- both are of one group and of as many members
+abbrev pub IsAlike : Seen → Seen → Type 0
+IsAlike r s = (s.group ≡ r.group) × (members s ≡ members r)
+
+pub alike_same : (s : Seen) → IsAlike s s
+alike_same s = (refl, refl)
+
+pub alike_on : (r s t : Seen) → IsAlike r s → IsAlike s t → IsAlike r t
+alike_on r s t h k = (k.0 ∙ h.0, k.1 ∙ h.1)
+
+-- ---- one step
+
+group_accepted : (s : Seen) (o : Op) → (accepted s o).group ≡ s.group
+unfolding accepted
+group_accepted s o = refl
+
+pub accepted_alike : (s : Seen) (o : Op) → IsAlike s (accepted s o)
+accepted_alike s o = (group_accepted s o, members_accepted s o)
+
+holding_alike : (s : Seen) (W : List Op) → IsAlike s (holding s W)
+unfolding holding
+holding_alike s W = (refl, refl)
+
+answered_alike : (a : Answer) (s : Seen) (o : Op) → IsAlike s (after_answer a s o)
+answered_alike Applies s o = accepted_alike s o
+answered_alike Repeats s o = alike_same s
+answered_alike Waits s o = holding_alike s _
+answered_alike (Refuses r) s o = alike_same s
+
+received_alike : (s : Seen) (o : Op) → IsAlike s (received s o)
+unfolding received
+received_alike s o = answered_alike (answer_over false s o) s o
+
+refused_alike : (r : Option Reason) (s : Seen) (w : Op) → IsAlike s (after_refusal r s w)
+refused_alike None s w = accepted_alike s w
+refused_alike (Some r) s w = holding_alike s _
+
+ready_alike : (w : Option Op) (s : Seen) → IsAlike s (after_release s w)
+ready_alike None s = alike_same s
+ready_alike (Some w) s = refused_alike (refusal_over s w) s w
+
+pub released_alike : (s : Seen) → IsAlike s (released s)
+unfolding released
+released_alike s = ready_alike (first_ready s) s
+
+group_acknowledged : (s : Seen) (a : ℕ) (v : List ℕ) → (acknowledged s a v).group ≡ s.group
+unfolding acknowledged
+group_acknowledged s a v = refl
+
+acknowledged_alike : (s : Seen) (a : ℕ) (v : List ℕ) → IsAlike s (acknowledged s a v)
+acknowledged_alike s a v = (group_acknowledged s a v, members_acknowledged s a v)
+
+pub dropped_alike : (s : Seen) → IsAlike s (dropped s)
+unfolding dropped
+dropped_alike s = (refl, refl)
+
+-- ---- many steps
+
+pub times_alike : (n : ℕ) (s : Seen) → IsAlike s (released_times n s)
+times_alike zero s = alike_same s
+times_alike (suc n) s = alike_on s (released s) (released_times n (released s)) (released_alike s) (times_alike n (released s))
+
+pub all_alike : (s : Seen) → IsAlike s (released_all s)
+unfolding released_all
+all_alike s = times_alike (length s.waiting) s
+
+receive_alike : (c : Course) (o : Op) → IsAlike c.seen (receive_step c o).seen
+receive_alike c o = go (has_room c.limit) (answer_over false c.seen o)
+  where
+    go : (b : Bool) (a : Answer) → IsAlike c.seen (if b then with_answer (moved c (received c.seen o)) o a else c).seen
+    go true Applies = received_alike c.seen o
+    go true Repeats = received_alike c.seen o
+    go true Waits = received_alike c.seen o
+    go true (Refuses r) = received_alike c.seen o
+    go false a = alike_same c.seen
+
+release_alike : (c : Course) → IsAlike c.seen (release_step c).seen
+release_alike c = go (has_room c.limit) (release_over c.seen)
+  where
+    more : (a q : ℕ) (x : Option Reason) → IsAlike c.seen (with_refusal (moved c (released c.seen)) a q x).seen
+    more a q None = released_alike c.seen
+    more a q (Some r) = released_alike c.seen
+
+    go : (b : Bool) (x : Option Released) → IsAlike c.seen (if b then with_release c x else c).seen
+    go true None = alike_same c.seen
+    go true (Some r) = more r.author r.seq r.refusal
+    go false x = alike_same c.seen
+
+releases_alike : (n : ℕ) (c : Course) → IsAlike c.seen (release_steps n c).seen
+releases_alike zero c = alike_same c.seen
+releases_alike (suc n) c = alike_on c.seen (release_step c).seen (release_steps n (release_step c)).seen (release_alike c) (releases_alike n (release_step c))
+
+ops_alike : (os : List Op) (c : Course) → IsAlike c.seen (take_ops c os).seen
+ops_alike [] c = alike_same c.seen
+ops_alike (o ∷ os) c =
+    let d = receive_step c o in
+    let r = with_releases d in
+    alike_on c.seen r.seen (take_ops r os).seen (alike_on c.seen d.seen r.seen (receive_alike c o) (releases_alike (length d.seen.waiting) d)) (ops_alike os r)
+
+noted_alike : (c : Course) (a : ℕ) (v : List ℕ) → IsAlike c.seen (acknowledge_step c a v).seen
+noted_alike c a v = go (has_room c.limit)
+  where
+    go : (b : Bool) → IsAlike c.seen (if b then moved c (acknowledged c.seen a v) else c).seen
+    go true = acknowledged_alike c.seen a v
+    go false = alike_same c.seen
+
+pub taken_alike : (limit : Option ℕ) (s : Seen) (m : Message) → IsAlike s (taken_within limit s m).seen
+unfolding taken_within
+taken_alike limit s m =
+    let c = take_ops (started limit s) m.ops in
+    alike_on s c.seen (acknowledge_step c m.from m.vector).seen (ops_alike m.ops (started limit s)) (noted_alike c m.from m.vector)
+
+pub part_alike : (s r : Seen) (m : Message) → IsPartTaken s m r → IsAlike s r
+part_alike s r m p = subst (IsAlike s) (sym p.1) (taken_alike (Some p.0) s m)
+
+-- ---- all replicas
+
+pub of_group : (group n : ℕ) (r s : Seen) → IsAlike r s → IsOfGroup group n r → IsOfGroup group n s
+of_group group n r s a h = record { group_is = a.0 ∙ h.group_is; members_are = a.1 ∙ h.members_are }
+
+pub group_at : (group n : ℕ) (ss : List Seen) (i : ℕ) (s : Seen) → AreOfGroup group n ss → slice_get ss i ≡ Some s → IsOfGroup group n s
+group_at group n [] i s h e = absurd (cc)
+group_at group n (x ∷ ss) zero s h e = subst (IsOfGroup group n) (some_is x s e) h.0
+group_at group n (x ∷ ss) (suc i) s h e = group_at group n ss i s h.1 e
+
+pub group_set : (group n : ℕ) (ss : List Seen) (i : ℕ) (s : Seen) → AreOfGroup group n ss → IsOfGroup group n s → AreOfGroup group n (slice_set ss i s)
+group_set group n [] i s h k = tt
+group_set group n (x ∷ ss) zero s h k = (k, h.1)
+group_set group n (x ∷ ss) (suc i) s h k = (h.0, group_set group n ss i s h.1 k)
