@@ -1,0 +1,276 @@
+"""A client of `rls`: a replica by commands, and messages through a shared folder.
+
+    replica = Commands.new("~/notes", group=7, me=0, members=4)     # once
+    replica.set_text("what the buffer holds")                       # the least edits that make it so
+    Mailbox("~/Dropbox/notes", replica.head()).sync(replica)        # take what came, send what is new
+    replica.text()
+
+The replica's own folder must not be in the shared one: docs/USE.md says why.
+Only the standard library is needed.  The program is RLS of the environment, or `rls` on the path.
+"""
+import difflib
+import fcntl
+import hashlib
+import os
+import struct
+import subprocess
+import tempfile
+from contextlib import contextmanager
+from typing import NamedTuple
+
+PROGRAM = os.environ.get("RLS", "rls")
+MOST_CHARACTERS = 1_048_576          # of one insertion
+MOST_DELETED = 4_194_304             # of one deletion
+MEANINGS = {
+    1: "the words are no command", 2: "there is no replica in this folder, or for `new` there is one", 3: "the replica's file is damaged",
+    4: "what was handed in is not right", 5: "done, but some operations were refused", 6: "an edit was refused", 7: "the replica's file can't be read or written",
+    8: "the input can't be read", 9: "the output can't be written", 10: "out of memory", 11: "too large", 12: "not built yet",
+    70: "the program couldn't be built", 71: "the launcher refused the command",
+}
+
+
+class RlsError(Exception):
+    """A command that ended with another status than 0."""
+
+    def __init__(self, status, line, words=()):
+        super().__init__(f"rls {' '.join(words)}: {MEANINGS.get(status, 'unknown status')} ({line or 'no line'}, status {status})")
+        self.status, self.line = status, line
+
+
+class Refused(RlsError):
+    """A line of a script that was refused."""
+
+
+class Stale(Exception):
+    """Another member has more of this member's own operations than this member itself: its files were put back from a copy, made
+    again with a number that was used, or two members have one number. Going on would part the texts for ever, with status 0."""
+
+
+class Report(NamedTuple):
+    applied: int
+    released: int
+    repeated: int
+    held: int
+    refused: int
+    refusals: tuple = ()
+
+
+class Head(NamedTuple):
+    group: int
+    members: int
+    sender: int
+    counts: tuple
+
+    @classmethod
+    def of(cls, message):
+        """The head of a message: `25 + 4 members` bytes of docs/FORMATS.md."""
+        if message[:4] != b"RLSM" or len(message) < 21:
+            raise ValueError("no message")
+        group, members, sender = struct.unpack(">QII", message[5:21])
+        return cls(group, members, sender, struct.unpack(f">{members}I", message[21:21 + 4 * members]))
+
+
+# ---------------------------------------------------------------------------- edits
+
+def escaped(text):
+    return text.replace("\\", "\\\\").replace("\n", "\\n").replace("\r", "\\r")
+
+
+def insertion(at, text):
+    """The lines that insert a text, which may be longer than one insertion may be."""
+    return [f"i {at + k} {escaped(text[k:k + MOST_CHARACTERS])}" for k in range(0, len(text), MOST_CHARACTERS)]
+
+
+def deletion(at, count):
+    return [f"d {at} {min(MOST_DELETED, count - k)}" for k in range(0, count, MOST_DELETED)]
+
+
+def changes(old, new):
+    """(at, count, text) that make `new` of `old`, one after another, from the end to the front so that places stay.
+    Equal fronts and ends are cut off first; difflib does the rest if that is small."""
+    a = 0
+    least = min(len(old), len(new))
+    if old[:least] == new[:least]:
+        a = least
+    else:
+        lo, hi = 0, least
+        while lo < hi:                      # the length of the common front, by halving
+            mid = (lo + hi + 1) // 2
+            if old[:mid] == new[:mid]:
+                lo = mid
+            else:
+                hi = mid - 1
+        a = lo
+    z, most = 0, least - a
+    lo, hi = 0, most
+    while lo < hi:
+        mid = (lo + hi + 1) // 2
+        if old[len(old) - mid:] == new[len(new) - mid:]:
+            lo = mid
+        else:
+            hi = mid - 1
+    z = lo
+    x, y = old[a:len(old) - z], new[a:len(new) - z]
+    if not x and not y:
+        return []
+    if not x or not y or len(x) * len(y) > 4_000_000:
+        return [(a, len(x), y)]
+    found = difflib.SequenceMatcher(None, x, y, autojunk=False).get_opcodes()
+    return [(a + i, j - i, y[k:m]) for kind, i, j, k, m in reversed(found) if kind != "equal"]
+
+
+def script(old, new):
+    lines = []
+    for at, count, text in changes(old, new):
+        lines += deletion(at, count) + insertion(at, text)
+    return lines
+
+
+def no_surrogates(text):
+    """Python's str may hold lone surrogates, which no text of rls has."""
+    text.encode("utf-8")
+    return text
+
+
+# ---------------------------------------------------------------------------- by commands
+
+class Commands:
+    """A replica in a folder.  Each call is one run of the program; what it stored is on the disk when it returns."""
+
+    def __init__(self, folder, program=None):
+        self.folder, self.program = os.path.expanduser(folder), program or PROGRAM
+
+    @classmethod
+    def new(cls, folder, group, me, members, program=None):
+        self = cls(folder, program)
+        os.makedirs(self.folder, exist_ok=True)
+        self._run("new", str(group), str(me), str(members))
+        return self
+
+    @contextmanager
+    def locked(self):
+        """Two programs may not use one folder at once, and the program doesn't look. So each call holds the folder, as the launcher does,
+        which is told so by RLS_LOCKED."""
+        fd = os.open(self.folder, os.O_RDONLY)
+        try:
+            fcntl.flock(fd, fcntl.LOCK_EX)
+            yield
+        finally:
+            os.close(fd)
+
+    def _run(self, *words, data=b"", fine=(0,)):
+        with self.locked():
+            env = {**os.environ, "RLS_LOCKED": "1"}
+            p = subprocess.run([self.program, *words], cwd=self.folder, input=data, capture_output=True, env=env)
+        line = p.stderr.decode("utf-8", "replace").strip()
+        if p.returncode not in fine:
+            raise (Refused if p.returncode == 6 else RlsError)(p.returncode, line, words)
+        return p.stdout, line
+
+    def edit(self, lines):
+        if lines:
+            self._run("edit", data="".join(x + "\n" for x in lines).encode("utf-8"), fine=(0, 5))
+
+    def insert(self, at, text):
+        self.edit(insertion(at, no_surrogates(text)))
+
+    def delete(self, at, count):
+        self.edit(deletion(at, count))
+
+    def set_text(self, new):
+        """Makes the least edits after which the text is this one."""
+        self.edit(script(self.text(), no_surrogates(new)))
+
+    def rename(self):
+        self.edit(["r"])
+
+    def text(self):
+        return self._run("text")[0].decode("utf-8")
+
+    def ids(self):
+        import json
+        return json.loads(self._run("ids")[0])
+
+    def message(self, to):
+        return self._run("send", str(to))[0]
+
+    def head(self):
+        """Who this is.  No command tells it (`stat` isn't built), so it is read from a message."""
+        return Head.of(self.message(0))
+
+    def take(self, message):
+        out, line = self._run("take", data=message, fine=(0, 5))
+        n = out.decode().split()[1::2]
+        return Report(*map(int, n), refusals=tuple(line.splitlines()))
+
+
+# ---------------------------------------------------------------------------- messages
+
+class Mailbox:
+    """A folder that all members see (Dropbox, Syncthing, a network drive, a clone of git, a stick).  A message holds all that its
+    receiver isn't known to have, so only the latest from each member to each other is kept: `GROUP-FROM-TO.rlsm`.  It may be
+    replaced, lost, or come late or twice."""
+
+    def __init__(self, folder, head):
+        self.folder, self.me, self.members = os.path.expanduser(folder), head.sender, head.members
+        self.group = head.group
+        self.taken, self.sent = {}, {}
+        os.makedirs(self.folder, exist_ok=True)
+
+    def path(self, sender, to):
+        return os.path.join(self.folder, f"{self.group}-{sender}-{to}.rlsm")
+
+    def receive(self, replica):
+        """The reports of all messages that are new here."""
+        reports, own = [], None
+        for sender in range(self.members):
+            if sender == self.me:
+                continue
+            try:
+                with open(self.path(sender, self.me), "rb") as f:
+                    message = f.read()
+            except FileNotFoundError:
+                continue
+            mark = hashlib.sha256(message).digest()
+            if self.taken.get(sender) == mark:
+                continue
+            own = own or replica.head()
+            try:
+                told = Head.of(message).counts[self.me]
+            except (ValueError, IndexError, struct.error):
+                told = 0                        # `take` says what is wrong with it
+            if told > own.counts[self.me]:
+                raise Stale(f"member {sender} has {told} operations of member {self.me}, who has made {own.counts[self.me]}")
+            try:
+                reports.append((sender, replica.take(message)))
+            except (RlsError, Refused) as e:
+                if e.status not in (4, 6):
+                    raise
+                reports.append((sender, e))     # half written by the folder's own program: it comes again whole
+                continue
+            self.taken[sender] = mark
+        return reports
+
+    def send(self, replica):
+        """To how many members something new was written."""
+        count = 0
+        for to in range(self.members):
+            if to == self.me:
+                continue
+            message = replica.message(to)
+            mark = hashlib.sha256(message).digest()
+            if self.sent.get(to) == mark:
+                continue
+            fd, path = tempfile.mkstemp(prefix=".new-", dir=self.folder)
+            with os.fdopen(fd, "wb") as f:
+                f.write(message)
+                f.flush()
+                os.fsync(f.fileno())
+            os.replace(path, self.path(self.me, to))
+            self.sent[to] = mark
+            count += 1
+        return count
+
+    def sync(self, replica):
+        reports = self.receive(replica)
+        return reports, self.send(replica)

@@ -1,0 +1,140 @@
+"""Tests of rls.py: `python3 -m unittest` in this folder. RLS names the program; it is bin/rls of this checkout otherwise."""
+import os
+import random
+import shutil
+import tempfile
+import unittest
+
+os.environ.setdefault("RLS", os.path.join(os.path.dirname(os.path.abspath(__file__)), "..", "..", "bin", "rls"))
+from rls import Commands, Head, Mailbox, Refused, RlsError, Stale, changes, script  # noqa: E402
+
+
+def applied(old, found):
+    for at, count, text in found:
+        old = old[:at] + text + old[at + count:]
+    return old
+
+
+class Room(unittest.TestCase):
+    def setUp(self):
+        self.room = tempfile.mkdtemp()
+
+    def tearDown(self):
+        shutil.rmtree(self.room)
+
+    def path(self, *names):
+        return os.path.join(self.room, *names)
+
+    def two(self, members=2):
+        return [Commands.new(self.path(f"m{k}"), 7, k, members) for k in range(members)]
+
+
+class Changes(unittest.TestCase):
+    def test_random(self):
+        r = random.Random(1)
+        for _ in range(500):
+            old = "".join(r.choice("ab\n😀") for _ in range(r.randrange(12)))
+            new = "".join(r.choice("ab\n😀") for _ in range(r.randrange(12)))
+            self.assertEqual(applied(old, changes(old, new)), new)
+
+    def test_least(self):
+        self.assertEqual(changes("hello", "hello!"), [(5, 0, "!")])
+        self.assertEqual(changes("aaa", "aaaa"), [(3, 0, "a")])
+        self.assertEqual(changes("x", "x"), [])
+        self.assertEqual(script("ab", "a\\\nb"), ["i 1 \\\\\\n"])
+
+
+class ByCommands(Room):
+    def test_editing(self):
+        a, b = self.two()
+        text = "one\r\ntwo \\ three\n\tsmile 😀 e\u0301 \0 end"
+        a.set_text(text)
+        self.assertEqual(a.text(), text)
+        b.take(a.message(1))
+        self.assertEqual(b.text(), text)
+        a.set_text("")
+        self.assertEqual(a.text(), "")
+
+    def test_head(self):
+        self.assertEqual(self.two()[1].head(), Head(7, 2, 1, (0, 0)))
+
+    def test_errors(self):
+        a, _ = self.two()
+        for call, kind, status in [
+            (lambda: Commands.new(a.folder, 7, 0, 2), RlsError, 2), (lambda: Commands.new(self.path("x"), 7, 2, 2), RlsError, 4),
+            (lambda: a.message(5), RlsError, 4), (lambda: a.take(b"junk"), RlsError, 4), (lambda: a.insert(9, "x"), Refused, 6),
+            (lambda: Commands(self.room).text(), RlsError, 2),
+        ]:
+            with self.assertRaises(kind) as e:
+                call()
+            self.assertEqual(e.exception.status, status)
+
+    def test_long(self):
+        a, _ = self.two()
+        a.set_text("x" * 1_500_000)
+        self.assertEqual(len(a.text()), 1_500_000)
+        a.set_text("y")
+        self.assertEqual(a.text(), "y")
+
+    def test_mailbox(self):
+        three = self.two(3)
+        boxes = [Mailbox(self.path("shared"), x.head()) for x in three]
+        r = random.Random(2)
+        for step in range(25):
+            k = r.randrange(3)
+            text = three[k].text()
+            at = r.randrange(len(text) + 1)
+            three[k].insert(at, r.choice(["ab", "😀", "\n"]))
+            if r.random() < 0.2:
+                three[k].rename()
+            if r.random() < 0.5:
+                boxes[k].sync(three[k])
+        for _ in range(3):
+            for k in range(3):
+                for _, report in boxes[k].sync(three[k])[0]:
+                    self.assertEqual(report.refused, 0)
+        self.assertEqual(len({x.text() for x in three}), 1)
+        self.assertEqual(len({str(x.ids()) for x in three}), 1)
+        # Quiet now: nothing is taken or sent any more.
+        for k in range(3):
+            boxes[k].sync(three[k])
+        self.assertEqual([boxes[k].sync(three[k]) for k in range(3)], [([], 0)] * 3)
+
+    def test_put_back(self):
+        """A replica that is put back from a copy is told so before it does harm; `rls take` alone says status 0."""
+        a, b = self.two()
+        boxes = [Mailbox(self.path("shared"), x.head()) for x in (a, b)]
+        a.insert(0, "one")
+        shutil.copytree(a.folder, self.path("copy"))
+        a.insert(3, "two")
+        boxes[0].sync(a), boxes[1].sync(b)
+        shutil.rmtree(a.folder)
+        shutil.copytree(self.path("copy"), a.folder)
+        with self.assertRaises(Stale):
+            boxes[0].sync(a)
+
+    def test_made_again(self):
+        a, b = self.two()
+        boxes = [Mailbox(self.path("shared"), x.head()) for x in (a, b)]
+        a.insert(0, "one")
+        boxes[0].sync(a), boxes[1].sync(b)
+        shutil.rmtree(a.folder)
+        a = Commands.new(a.folder, 7, 0, 2)
+        with self.assertRaises(Stale):
+            Mailbox(self.path("shared"), a.head()).sync(a)
+
+    def test_half_written(self):
+        a, b = self.two()
+        box = Mailbox(self.path("shared"), b.head())
+        a.set_text("hello")
+        with open(box.path(0, 1), "wb") as f:
+            f.write(a.message(1)[:50])
+        self.assertIsInstance(box.receive(b)[0][1], RlsError)
+        with open(box.path(0, 1), "wb") as f:
+            f.write(a.message(1))
+        box.receive(b)
+        self.assertEqual(b.text(), "hello")
+
+
+if __name__ == "__main__":
+    unittest.main()
