@@ -13,7 +13,7 @@ use Rattle.rls_model.specs.History.{History, me_of, members_of, count_of}
 use Rattle.rls_model.specs.History.{count as count_in}
 use Rattle.rls_model.specs.Fitting.{refusal}
 use Rattle.rls_model.specs.Legal.{MayAccept}
-use Rattle.rls_model.specs.Receiving.{answer, answer_beside, answer_after_shape, verdict_of, waiting_under}
+use Rattle.rls_model.specs.Receiving.{answer, answer_beside, answer_by, verdict_of, waiting_under}
 
 pub verdict_go : (r : Option Reason) → verdict_of r ≡ Applies → r ≡ None
 verdict_go None e = refl
@@ -27,7 +27,7 @@ pub forked_go : (b : Bool) (w : Op) (a : Answer) → (if not b then Refuses (For
 forked_go true w a e = e
 forked_go false w a e = absurd (cc)
 
-beside_go : (H : History) (o : Op) (w : Option Op) → answer_beside H o w ≡ Applies → (at_most o.context (count_in H) ≡ true) × (refusal H o ≡ None)
+beside_go : (H : History) (o : Op) (w : Option Op) → answer_beside (count_in H) (refusal H o) o w ≡ Applies → (at_most o.context (count_in H) ≡ true) × (refusal H o ≡ None)
 beside_go H o None e = causes_go (at_most o.context (count_in H)) (refusal H o) e
 beside_go H o (Some w) e =
     causes_go (at_most o.context (count_in H)) (refusal H o) (forked_go (op_eq w o) w (if not (at_most o.context (count_in H)) then Waits else verdict_of (refusal H o)) e)
@@ -45,10 +45,10 @@ number_waits false false n a e = (refl, refl)
 pub may_accept : (H : History) (o : Op) → shape_fault (members_of H) o ≡ None → count_of H o.author < o.seq → at_most o.context (count_in H) ≡ true → refusal H o ≡ None → MayAccept H o
 may_accept H o e above causes fits = record { shape = e; next = next_of (members_of H) (count_in H) o e above causes; causes = causes; fits = fits }
 
-shape_applies : (own : Bool) (H : History) (W : List Op) (o : Op) (f : Option Shape) → shape_fault (members_of H) o ≡ f → answer_after_shape own H W o f ≡ Applies → MayAccept H o
+shape_applies : (own : Bool) (H : History) (W : List Op) (o : Op) (f : Option Shape) → shape_fault (members_of H) o ≡ f → answer_by own (count_in H) (me_of H) W (refusal H o) o f ≡ Applies → MayAccept H o
 shape_applies own H W o (Some f) s e = absurd (cc)
 shape_applies own H W o None s e =
-    let p = number_go (nat_le o.seq (count_of H o.author)) (not own && (o.author == me_of H)) o.seq (answer_beside H o (waiting_under W o.author o.seq)) e in
+    let p = number_go (nat_le o.seq (count_of H o.author)) (not own && (o.author == me_of H)) o.seq (answer_beside (count_in H) (refusal H o) o (waiting_under W o.author o.seq)) e in
     let q = beside_go H o (waiting_under W o.author o.seq) p.1 in
     may_accept H o s (not_le_is o.seq (count_of H o.author) p.0) q.0 q.1
 
@@ -63,10 +63,10 @@ pub record IsHeld (H : History) (o : Op) : Type 0 where
   pub above : count_of H o.author < o.seq
   pub other : o.author ≡ me_of H → ⊥
 
-shape_waits : (H : History) (W : List Op) (o : Op) (f : Option Shape) → shape_fault (members_of H) o ≡ f → answer_after_shape false H W o f ≡ Waits → IsHeld H o
+shape_waits : (H : History) (W : List Op) (o : Op) (f : Option Shape) → shape_fault (members_of H) o ≡ f → answer_by false (count_in H) (me_of H) W (refusal H o) o f ≡ Waits → IsHeld H o
 shape_waits H W o (Some f) s e = absurd (cc)
 shape_waits H W o None s e =
-    let p = number_waits (nat_le o.seq (count_of H o.author)) (not false && (o.author == me_of H)) o.seq (answer_beside H o (waiting_under W o.author o.seq)) e in
+    let p = number_waits (nat_le o.seq (count_of H o.author)) (not false && (o.author == me_of H)) o.seq (answer_beside (count_in H) (refusal H o) o (waiting_under W o.author o.seq)) e in
     record { shape = s; above = not_le_is o.seq (count_of H o.author) p.0; other = eq_not o.author (me_of H) p.1 }
 
 pub answer_waits : (H : History) (W : List Op) (o : Op) → answer false H W o ≡ Waits → IsHeld H o

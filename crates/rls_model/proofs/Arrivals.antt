@@ -8,8 +8,9 @@ use Rattle.rls_ops.specs.declared.message.Message.{Message}
 use Rattle.rls_ops.specs.Shapes.{shape_fault}
 use Rattle.rls_ops.proofs.Waiting.{numbered_is}
 use Rattle.rls_model.specs.Answers.{Answer, Applies, Repeats, Refuses, Own}
-use Rattle.rls_model.specs.History.{ops, count_of, me_of, members_of}
-use Rattle.rls_model.specs.Receiving.{State, is_numbered, waiting_under, verdict_of, answer_beside, answer_after_shape, answer, accept, after, receive, receive_after}
+use Rattle.rls_model.specs.History.{ops, count, count_of, me_of, members_of}
+use Rattle.rls_model.specs.Fitting.{refusal}
+use Rattle.rls_model.specs.Receiving.{State, is_numbered, waiting_under, verdict_of, answer_beside, answer_by, answer, accept, after, receive, receive_after}
 use Rattle.rls_model.specs.Legal.{IsLegal}
 use Rattle.rls_model.specs.Taking.{Limit, has_room, Progress, started, moved, with_answer, receive_step, with_releases, acknowledge_step, take_ops, take_within}
 use Rattle.rls_model.specs.Laws.{MayArrive, ArrivalApplied}
@@ -23,26 +24,26 @@ unfolding answer
 applies s o a = shape ∙ (number ∙ (own ∙ (beside (waiting_under s.waiting o.author o.seq) refl ∙ (beside_none s.history o true a.causes ∙ ap verdict_of a.fits))))
   where
     rest : Answer
-    rest = answer_beside s.history o (waiting_under s.waiting o.author o.seq)
+    rest = answer_beside (count s.history) (refusal s.history o) o (waiting_under s.waiting o.author o.seq)
 
     at_own : Bool → Answer
     at_own b = if not false && b then Refuses (Own o.seq) else rest
 
-    shape : answer_after_shape false s.history s.waiting o (shape_fault (members_of s.history) o) ≡ answer_after_shape false s.history s.waiting o None
-    shape = ap (answer_after_shape false s.history s.waiting o) a.shape
+    shape : answer_by false (count s.history) (me_of s.history) s.waiting (refusal s.history o) o (shape_fault (members_of s.history) o) ≡ answer_by false (count s.history) (me_of s.history) s.waiting (refusal s.history o) o None
+    shape = ap (answer_by false (count s.history) (me_of s.history) s.waiting (refusal s.history o) o) a.shape
 
-    number : answer_after_shape false s.history s.waiting o None ≡ at_own (o.author == me_of s.history)
+    number : answer_by false (count s.history) (me_of s.history) s.waiting (refusal s.history o) o None ≡ at_own (o.author == me_of s.history)
     number = ap (λ b. if b then Repeats else at_own (o.author == me_of s.history)) (not_le_test o.seq (count_of s.history o.author) a.first)
 
     own : at_own (o.author == me_of s.history) ≡ rest
     own = ap at_own (neq_test o.author (me_of s.history) a.other)
 
-    beside : (m : Option Op) → waiting_under s.waiting o.author o.seq ≡ m → rest ≡ answer_beside s.history o None
-    beside None e = ap (answer_beside s.history o) e
+    beside : (m : Option Op) → waiting_under s.waiting o.author o.seq ≡ m → rest ≡ answer_beside (count s.history) (refusal s.history o) o None
+    beside None e = ap (answer_beside (count s.history) (refusal s.history o) o) e
     beside (Some x) e =
         let r = found_in (is_numbered o.author o.seq) x s.waiting e in
         let n = numbered_is o.author o.seq x r.1 in
-        ap (answer_beside s.history o) e ∙ beside_same s.history o x (a.alone x r.0 n.0 n.1)
+        ap (answer_beside (count s.history) (refusal s.history o) o) e ∙ beside_same s.history o x (a.alone x r.0 n.0 n.1)
 
 after_is : (s : State) (o : Op) → MayArrive s o → receive_after s o ≡ accept s o
 after_is s o a = ap (λ r. after r s o) (applies s o a)

@@ -72,7 +72,7 @@ unfolding computing
 hello_counts = refl
 
 -- what a list of edits counts where none is refused
-abbrev counted : Run EditError → Option Taken
+abbrev counted : Run State EditError → Option Taken
 counted (Done p) = Some (taken p)
 counted (Stopped line fault) = None
 

@@ -11,7 +11,7 @@ use Rattle.rls_ops.proofs.Equal.{op_same}
 use Rattle.rls_model.specs.Answers.{Answer, Applies, Repeats, Waits, Refuses, Own, Forked}
 use Rattle.rls_model.specs.History.{Accepted, History, Then, ops, count, count_of, me_of, members_of, acknowledged, row}
 use Rattle.rls_model.specs.Fitting.{refusal}
-use Rattle.rls_model.specs.Receiving.{State, is_numbered, waiting_under, verdict_of, answer_beside, answer_after_shape, answer, receive}
+use Rattle.rls_model.specs.Receiving.{State, is_numbered, waiting_under, verdict_of, answer_beside, answer_by, answer, receive}
 use Rattle.rls_model.specs.WellFormed.{IsOp}
 use Rattle.rls_model.specs.Legal.{MayAccept, IsLegal}
 use Rattle.rls_model.specs.Worlds.{World}
@@ -110,38 +110,38 @@ pub data Received (s : State) (o : Op) (r : Answer) : Type 0 where
   Held : r ≡ Waits → count_of s.history o.author < o.seq → Received s o r
   Taken : r ≡ Applies → MayAccept s.history o → Received s o r
 
-pub beside_none : (H : History) (o : Op) (b : Bool) → at_most o.context (count H) ≡ b → answer_beside H o None ≡ (if not b then Waits else verdict_of (refusal H o))
+pub beside_none : (H : History) (o : Op) (b : Bool) → at_most o.context (count H) ≡ b → answer_beside (count H) (refusal H o) o None ≡ (if not b then Waits else verdict_of (refusal H o))
 beside_none H o b e = ap (λ c. if not c then Waits else verdict_of (refusal H o)) e
 
-pub beside_same : (H : History) (o x : Op) → x ≡ o → answer_beside H o (Some x) ≡ answer_beside H o None
+pub beside_same : (H : History) (o x : Op) → x ≡ o → answer_beside (count H) (refusal H o) o (Some x) ≡ answer_beside (count H) (refusal H o) o None
 beside_same H o x e = ap (λ c. if not c then Refuses (Forked x) else (if not (at_most o.context (count H)) then Waits else verdict_of (refusal H o))) (ap (λ y. op_eq y o) e ∙ op_same o)
 
 pub received : (w : World) (i : ℕ) (s : State) (o : Op) → IsGood w → IsAt w i s → IsHome w o → Received s o (receive s o)
 unfolding answer
 received w i s o g h k =
     bool_cases (nat_le o.seq (count_of s.history o.author))
-    (λ e. Again (shape ∙ ap (λ b. if b then Repeats else (if not false && (o.author == me_of s.history) then Refuses (Own o.seq) else answer_beside s.history o (waiting_under s.waiting o.author o.seq))) e) (le_is o.seq (count_of s.history o.author) e))
+    (λ e. Again (shape ∙ ap (λ b. if b then Repeats else (if not false && (o.author == me_of s.history) then Refuses (Own o.seq) else answer_beside (count s.history) (refusal s.history o) o (waiting_under s.waiting o.author o.seq))) e) (le_is o.seq (count_of s.history o.author) e))
     (λ e. new (not_le_is o.seq (count_of s.history o.author) e) (receive s o)
-    (shape ∙ ap (λ b. if b then Repeats else (if not false && (o.author == me_of s.history) then Refuses (Own o.seq) else answer_beside s.history o (waiting_under s.waiting o.author o.seq))) e))
+    (shape ∙ ap (λ b. if b then Repeats else (if not false && (o.author == me_of s.history) then Refuses (Own o.seq) else answer_beside (count s.history) (refusal s.history o) o (waiting_under s.waiting o.author o.seq))) e))
   where
-    shape : answer_after_shape false s.history s.waiting o (shape_fault (members_of s.history) o) ≡ answer_after_shape false s.history s.waiting o None
-    shape = ap (answer_after_shape false s.history s.waiting o) (home_shape w i s o g h k).1
+    shape : answer_by false (count s.history) (me_of s.history) s.waiting (refusal s.history o) o (shape_fault (members_of s.history) o) ≡ answer_by false (count s.history) (me_of s.history) s.waiting (refusal s.history o) o None
+    shape = ap (answer_by false (count s.history) (me_of s.history) s.waiting (refusal s.history o) o) (home_shape w i s o g h k).1
 
-    beside : (m : Option Op) → waiting_under s.waiting o.author o.seq ≡ m → answer_beside s.history o m ≡ answer_beside s.history o None
+    beside : (m : Option Op) → waiting_under s.waiting o.author o.seq ≡ m → answer_beside (count s.history) (refusal s.history o) o m ≡ answer_beside (count s.history) (refusal s.history o) o None
     beside None e = refl
     beside (Some x) e =
         let r = found_in (is_numbered o.author o.seq) x s.waiting e in
         let n = numbered_is o.author o.seq x r.1 in
         beside_same s.history o x (one_op w x o g ((g.member i s h).waits x r.0) k n.0 n.1)
 
-    causes : count_of s.history o.author < o.seq → (o.author ≡ i → ⊥) → (r : Answer) → r ≡ answer_beside s.history o None → Received s o r
+    causes : count_of s.history o.author < o.seq → (o.author ≡ i → ⊥) → (r : Answer) → r ≡ answer_beside (count s.history) (refusal s.history o) o None → Received s o r
     causes c n r e =
         bool_cases (at_most o.context (count s.history))
         (λ f. let m = may_accept w i s o g h k n c f in Taken (e ∙ (beside_none s.history o true f ∙ ap verdict_of m.fits)) m)
         (λ f. Held (e ∙ beside_none s.history o false f) c)
 
-    new : count_of s.history o.author < o.seq → (r : Answer) → r ≡ (if not false && (o.author == me_of s.history) then Refuses (Own o.seq) else answer_beside s.history o (waiting_under s.waiting o.author o.seq)) → Received s o r
+    new : count_of s.history o.author < o.seq → (r : Answer) → r ≡ (if not false && (o.author == me_of s.history) then Refuses (Own o.seq) else answer_beside (count s.history) (refusal s.history o) o (waiting_under s.waiting o.author o.seq)) → Received s o r
     new c r e =
         let n : o.author ≡ i → ⊥ = λ f. let d = own_counted w i s o g h k f in absurd (omega arith) in
         let f : (o.author == me_of s.history) ≡ false = neq_test o.author (me_of s.history) (λ q. n (q ∙ (g.member i s h).me)) in
-        causes c n r (e ∙ (ap (λ b. if not false && b then Refuses (Own o.seq) else answer_beside s.history o (waiting_under s.waiting o.author o.seq)) f ∙ beside (waiting_under s.waiting o.author o.seq) refl))
+        causes c n r (e ∙ (ap (λ b. if not false && b then Refuses (Own o.seq) else answer_beside (count s.history) (refusal s.history o) o (waiting_under s.waiting o.author o.seq)) f ∙ beside (waiting_under s.waiting o.author o.seq) refl))

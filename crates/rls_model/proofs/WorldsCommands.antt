@@ -49,9 +49,9 @@ with_done w i t out = record { states = (with_state w i t).states; sent = w.sent
 -- where these messages were sent, a member comes from state s to state t, tells these refused operations, and sends this
 pub data Does {L F : Type 0} (reads : State → L → Result Edit F) (sent : List Message) (s t : State) (refused : List (ℕ × ℕ × Reason)) (out : List Message) : Type 0 where
   Rests : s ≡ t → refused ≡ [] → out ≡ [] → Does reads sent s t refused out
-  Runs : (ls : List L) → (p : Progress) → AllReadWell reads ls → run_lines reads s ls ≡ Done p → p.state ≡ t → refused ≡ p.refused → out ≡ [] → Does reads sent s t refused out
+  Runs : (ls : List L) → (p : Progress) → AllReadWell reads ls → run_lines reads s ls ≡ Done p → p.state ≡ t → refused ≡ p.counts.refused → out ≡ [] → Does reads sent s t refused out
   Writes : (to : ℕ) → s ≡ t → refused ≡ [] → out ≡ message_for s.history to ∷ [] → Does reads sent s t refused out
-  Reads : (m : Message) → IsIn m sent → (take_message s m).state ≡ t → refused ≡ (take_message s m).refused → out ≡ [] → Does reads sent s t refused out
+  Reads : (m : Message) → IsIn m sent → (take_message s m).state ≡ t → refused ≡ (take_message s m).counts.refused → out ≡ [] → Does reads sent s t refused out
 
 -- a good world of one group
 pub record Stands (g n : ℕ) (w : World) : Type 0 where
@@ -94,9 +94,9 @@ edits_stand : (g n : ℕ) (w : World) (i : ℕ) (m : Option State) (es : List Ed
 edits_stand g n w i None es e a b = (refl, a)
 edits_stand g n w i (Some s) es e a b = go (run_edits s es) refl
   where
-    go : (r : Run EditError) → run_edits s es ≡ r → (refused_run r ≡ []) × Stands g n (after_run w i r)
+    go : (r : Run State EditError) → run_edits s es ≡ r → (refused_run r ≡ []) × Stands g n (after_run w i r)
     go (Done p) k =
-        let d = does_stands read_edit g n w i s p.state p.refused [] a e (Runs es p (edits_read es b) k refl refl refl) in
+        let d = does_stands read_edit g n w i s p.state p.counts.refused [] a e (Runs es p (edits_read es b) k refl refl refl) in
         (d.0, subst (Stands g n) (done_none w i p.state) d.1)
     go (Stopped line fault) k = (refl, a)
 
@@ -112,7 +112,7 @@ takes_stand g n w i k None (Some x) e f a = (refl, a)
 takes_stand g n w i k (Some s) None e f a = (refl, a)
 takes_stand g n w i k (Some s) (Some x) e f a =
     let t = (take_message s x).state in
-    let d = does_stands read_edit g n w i s t (take_message s x).refused [] a e (Reads x (get_in w.sent k x f) refl refl refl) in
+    let d = does_stands read_edit g n w i s t (take_message s x).counts.refused [] a e (Reads x (get_in w.sent k x f) refl refl refl) in
     (d.0, subst (Stands g n) (done_none w i t) d.1)
 
 command_stands : (g n : ℕ) (w : World) (c : Command) → Stands g n w → IsCommand c → (told_refused w c ≡ []) × Stands g n (obeyed w c)

@@ -165,12 +165,12 @@ made_alone w i s edit g h r =
     let q = moved (started None s) (accept s (made s.history edit)) in
     ap (λ (p : Progress). p.state) (rest_steps (length (q.state).waiting) q (made_rests w i s (made s.history edit) g h r (g.member i s h).me))
 
-pub none_released : (w : World) (i : ℕ) (s : State) (edit : Edit) (limit : Limit) → IsGood w → IsAt w i s → IsAtRest s → (edit_within limit s edit).released ≡ 0
+pub none_released : (w : World) (i : ℕ) (s : State) (edit : Edit) (limit : Limit) → IsGood w → IsAt w i s → IsAtRest s → (edit_within limit s edit).counts.released ≡ 0
 unfolding edit_within made
 none_released w i s edit limit g h r = go (has_room limit)
   where
-    go : (b : Bool) → (with_releases (if b then moved (started limit s) (accept s (made s.history edit)) else started limit s)).released ≡ 0
+    go : (b : Bool) → (with_releases (if b then moved (started limit s) (accept s (made s.history edit)) else started limit s)).counts.released ≡ 0
     go true =
         let q = moved (started limit s) (accept s (made s.history edit)) in
-        ap (λ (p : Progress). p.released) (rest_steps (length (q.state).waiting) q (made_rests w i s (made s.history edit) g h r (g.member i s h).me))
-    go false = ap (λ (p : Progress). p.released) (rest_steps (length s.waiting) (started limit s) r)
+        ap (λ (p : Progress). p.counts.released) (rest_steps (length (q.state).waiting) q (made_rests w i s (made s.history edit) g h r (g.member i s h).me))
+    go false = ap (λ (p : Progress). p.counts.released) (rest_steps (length s.waiting) (started limit s) r)

@@ -27,7 +27,7 @@ edit_going w i s p edit h g e f = go (has_room p.limit)
     go false = g
 
 -- where all lines were run, else p
-abbrev pub end_or : {F : Type 0} → Progress → Run F → Progress
+abbrev pub end_or : {F : Type 0} → Progress → Run State F → Progress
 end_or p (Done q) = q
 end_or p (Stopped line fault) = p
 

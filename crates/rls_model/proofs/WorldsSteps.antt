@@ -91,7 +91,7 @@ edits_own w i s edit r p f =
 -- the world with the state reached so far is good, and nothing was refused
 pub record IsGoing (w : World) (i : ℕ) (p : Progress) : Type 0 where
   pub good : IsGood (with_state w i p.state)
-  pub clean : p.refused ≡ []
+  pub clean : p.counts.refused ≡ []
 
 pub here : (w : World) (i : ℕ) (s t : State) → IsAt w i s → IsAt (with_state w i t) i t
 here w i s t h = get_set_same w.states i s t h

@@ -269,7 +269,7 @@ EqualVectors = (w : World) (hs : List Happening) (i j : ℕ) (s t : State) → I
 
 -- no sent message is refused in any part, however far it is taken
 abbrev pub NoneTakenRefused : World → Type 0
-NoneTakenRefused w = (i : ℕ) (s : State) (m : Message) (limit : Limit) → IsAt w i s → IsIn m w.sent → (take_within limit s m).refused ≡ []
+NoneTakenRefused w = (i : ℕ) (s : State) (m : Message) (limit : Limit) → IsAt w i s → IsIn m w.sent → (take_within limit s m).counts.refused ≡ []
 
 -- the operation of an edit that isn't cut short behind no step stands in the history after it
 abbrev pub EditApplied : Type 0
@@ -294,11 +294,11 @@ ArrivalApplied =
 
 -- no edit releases what is refused
 abbrev pub NoneReleasedRefused : World → Type 0
-NoneReleasedRefused w = (i : ℕ) (s : State) (edit : Edit) (limit : Limit) → IsAt w i s → IsEdit edit → edit_fault s.history edit ≡ None → (edit_within limit s edit).refused ≡ []
+NoneReleasedRefused w = (i : ℕ) (s : State) (edit : Edit) (limit : Limit) → IsAt w i s → IsEdit edit → edit_fault s.history edit ≡ None → (edit_within limit s edit).counts.refused ≡ []
 
 -- no edit releases anything
 abbrev pub NoneReleased : World → Type 0
-NoneReleased w = (i : ℕ) (s : State) (edit : Edit) (limit : Limit) → IsAt w i s → IsEdit edit → edit_fault s.history edit ≡ None → (edit_within limit s edit).released ≡ 0
+NoneReleased w = (i : ℕ) (s : State) (edit : Edit) (limit : Limit) → IsAt w i s → IsEdit edit → edit_fault s.history edit ≡ None → (edit_within limit s edit).counts.released ≡ 0
 
 -- each waiting operation was made by its author
 abbrev pub WaitingMade : World → Type 0
@@ -315,7 +315,7 @@ AreEdits (e ∷ es) = IsEdit e × AreEdits es
 
 -- edits of one member, of which none is refused, release nothing that is refused
 abbrev pub EditsClean : Type 0
-EditsClean = (w : World) (hs : List Happening) (i : ℕ) (s : State) (p : Progress) (edits : List Edit) → IsAfter w hs → IsAt w i s → AreEdits edits → run_edits s edits ≡ Done p → p.refused ≡ []
+EditsClean = (w : World) (hs : List Happening) (i : ℕ) (s : State) (p : Progress) (edits : List Edit) → IsAfter w hs → IsAt w i s → AreEdits edits → run_edits s edits ≡ Done p → p.counts.refused ≡ []
 
 -- ---- lists in a world
 
@@ -406,7 +406,7 @@ pub data Command : Type 0 where
   Takes : (message to : ℕ) → Command
 
 -- the world after a run of the member's edits
-abbrev pub after_run : World → ℕ → Run EditError → World
+abbrev pub after_run : World → ℕ → Run State EditError → World
 after_run w i (Done p) = with_state w i p.state
 after_run w i (Stopped line fault) = w
 
@@ -426,8 +426,8 @@ obeyed_all w [] = w
 obeyed_all w (c ∷ cs) = obeyed_all (obeyed w c) cs
 
 -- the operations that a command tells to be refused
-abbrev pub refused_run : Run EditError → List (ℕ × ℕ × Reason)
-refused_run (Done p) = p.refused
+abbrev pub refused_run : Run State EditError → List (ℕ × ℕ × Reason)
+refused_run (Done p) = p.counts.refused
 refused_run (Stopped line fault) = []
 
 abbrev pub refused_edits : Option State → List Edit → List (ℕ × ℕ × Reason)
@@ -435,7 +435,7 @@ refused_edits None edits = []
 refused_edits (Some s) edits = refused_run (run_edits s edits)
 
 abbrev pub refused_taken : Option State → Option Message → List (ℕ × ℕ × Reason)
-refused_taken (Some s) (Some m) = (take_message s m).refused
+refused_taken (Some s) (Some m) = (take_message s m).counts.refused
 refused_taken _ _ = []
 
 abbrev pub told_refused : World → Command → List (ℕ × ℕ × Reason)

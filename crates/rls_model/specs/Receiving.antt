@@ -1,5 +1,5 @@
 -- What a replica does with an operation that arrives.
-use Rattle.std.specs.Prelude.{ℕ, zero, suc, Bool, true, false, not, ◌&&◌, List, length, ◌==◌, nat_le, find, Option, Some, None, if◌then◌else◌}
+use Rattle.std.specs.Prelude.{ℕ, zero, suc, Bool, true, false, not, ◌&&◌, List, length, ◌==◌, nat_le, slice_index, find, Option, Some, None, if◌then◌else◌}
 use Rattle.rls_ident.specs.Vectors.{at_most}
 use Rattle.rls_ops.specs.declared.op.Op.{Op}
 use Rattle.rls_ops.specs.declared.op.Shape.{Shape}
@@ -7,7 +7,7 @@ use Rattle.rls_ops.specs.Shapes.{shape_fault}
 use Rattle.rls_ops.specs.Same.{op_eq}
 pub use Rattle.rls_ops.specs.Waiting.{is_numbered, waiting_under, comes_before, with_waiting, without}
 use Rattle.rls_model.specs.Answers.{Reason, Misshapen, Own, Forked, Answer, Applies, Repeats, Waits, Refuses, Released}
-use Rattle.rls_model.specs.History.{Accepted, History, Then, count, count_of, me_of, members_of}
+use Rattle.rls_model.specs.History.{Accepted, History, Then, count, me_of, members_of}
 use Rattle.rls_model.specs.Fitting.{refusal}
 
 -- the answer to an operation whose causes are there
@@ -15,25 +15,25 @@ abbrev pub verdict_of : Option Reason → Answer
 verdict_of None = Applies
 verdict_of (Some r) = Refuses r
 
--- the answer where this operation waits under o's number, or none does
-abbrev pub answer_beside : History → Op → Option Op → Answer
-answer_beside H o None = if not (at_most o.context (count H)) then Waits else verdict_of (refusal H o)
-answer_beside H o (Some w) =
+-- by the vector and the reason to refuse it, where this operation waits under its number, or none does
+abbrev pub answer_beside : List ℕ → Option Reason → Op → Option Op → Answer
+answer_beside v reason o None = if not (at_most o.context v) then Waits else verdict_of reason
+answer_beside v reason o (Some w) =
     if not (op_eq w o) then Refuses (Forked w)
-    else if not (at_most o.context (count H)) then Waits
-    else verdict_of (refusal H o)
+    else if not (at_most o.context v) then Waits
+    else verdict_of reason
 
--- the answer where the shape has this fault, or none
-abbrev pub answer_after_shape : Bool → History → List Op → Op → Option Shape → Answer
-answer_after_shape own H W o (Some s) = Refuses (Misshapen s)
-answer_after_shape own H W o None =
-    if nat_le o.seq (count_of H o.author) then Repeats
-    else if not own && (o.author == me_of H) then Refuses (Own o.seq)
-    else answer_beside H o (waiting_under W o.author o.seq)
+-- by the vector, the own number, what waits and the reason to refuse it, where the shape has this fault, or none
+abbrev pub answer_by : Bool → List ℕ → ℕ → List Op → Option Reason → Op → Option Shape → Answer
+answer_by own v me W reason o (Some s) = Refuses (Misshapen s)
+answer_by own v me W reason o None =
+    if nat_le o.seq (slice_index v o.author) then Repeats
+    else if not own && (o.author == me) then Refuses (Own o.seq)
+    else answer_beside v reason o (waiting_under W o.author o.seq)
 
 -- the answer to an operation that arrives, where `own` says whether the replica's own ones are taken too
 unfoldable pub answer : Bool → History → List Op → Op → Answer
-answer own H W o = answer_after_shape own H W o (shape_fault (members_of H) o)
+answer own H W o = answer_by own (count H) (me_of H) W (refusal H o) o (shape_fault (members_of H) o)
 
 -- a history and the operations that wait, in increasing order of author and number
 pub record State : Type 0 where

@@ -11,9 +11,9 @@ use Rattle.rls_ops.specs.Shapes.{shape_fault}
 use Rattle.rls_ops.specs.Waiting.{comes_before, is_in_order, waiting_under, without}
 use Rattle.rls_ops.proofs.Equal.{op_is}
 use Rattle.rls_model.specs.Answers.{Reason, Answer, Repeats, Waits, Refuses, Own, Forked, Released}
-use Rattle.rls_model.specs.Receiving.{verdict_of}
+use Rattle.rls_model.specs.Receiving.{answer_beside, answer_by, verdict_of}
 use Rattle.rls_seen.specs.Seen.{Seen, vector, members}
-use Rattle.rls_seen.specs.Over.{answer_beside, answer_by, answer_over, refusal_over, first_ready, release_of, release_over, released, holding}
+use Rattle.rls_seen.specs.Over.{answer_over, refusal_over, first_ready, release_of, release_over, released, holding}
 use Rattle.rls_seen.specs.Sane.{AreHeld}
 use Rattle.rls_seen.proofs.Repeating.{released_refused}
 

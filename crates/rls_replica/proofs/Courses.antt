@@ -15,14 +15,14 @@ use Rattle.rls_model.proofs.OneTree.{author_below}
 use Rattle.rls_seen.specs.Seen.{Seen, vector, members}
 use Rattle.rls_seen.specs.Over.{accepted, holding, after_answer, answer_over, received, refusal_over, first_ready, release_of, release_over, after_refusal, after_release, released, released_times, acknowledged, IsPartReleased}
 use Rattle.rls_model.specs.WellFormed.{AreOps}
-use Rattle.rls_seen.specs.Messages.{Course, started, moved, with_answer, with_release, receive_step, release_step, release_steps, with_releases, take_ops, taken_within, taken_over, taken_of}
+use Rattle.rls_seen.specs.Messages.{Course, started, moved, with_release, receive_step, release_step, release_steps, with_releases, take_ops, taken_within, taken_over, taken_of}
 use Rattle.rls_seen.specs.Sane.{IsSane}
 use Rattle.rls_seen.proofs.Accepting.{acks_mine}
 use Rattle.rls_seen.proofs.Counting.{members_received, members_released}
 use Rattle.rls_seen.proofs.Repeating.{within, more_steps, no_ops, no_releases, acknowledged_seen, one_fewer, received_seen, received_limit, released_none, released_seen, released_limit, released_step_sane, Reaches, ReachesReady, reaches_received, reaches_released, reaches_rest, no_more, none_is}
 use Rattle.rls_seen.proofs.Sizes.{sum_small}
 use Rattle.rls_seen.proofs.Staying.{ready}
-use Rattle.rls_seen.proofs.Taking.{started_goes, ops_go, counted_alike}
+use Rattle.rls_seen.proofs.Taking.{started_goes, ops_go}
 use Rattle.rls_seen.specs.Stands.{StandsFor}
 use Rattle.rls_replica.specs.Steps.{course, CountsReleased, AreFew, IsPartOfOps, steps_more, IsOnWay, with_receipt, with_reason}
 use Rattle.rls_replica.proofs.Cut.{ops_part}
@@ -95,37 +95,31 @@ pub unreleased_course : (s : Seen) (t : Taken) → None ≡ release_over s → c
 unreleased_course s t e = ap (λ u. course u t) (released_none s (sym e)) ∙ ap (with_release (course s t)) e
 
 pub received_course : (s : Seen) (t : Taken) (o : Op) → course (received s o) (with_receipt t o.author o.seq (answer_over false s o)) ≡ receive_step (course s t) o
-received_course s t o = go (answer_over false s o)
-  where
-    go : (x : Answer) → course (received s o) (with_receipt t o.author o.seq x) ≡ with_answer (moved (course s t) (received s o)) o x
-    go Applies = refl
-    go Repeats = refl
-    go Waits = refl
-    go (Refuses r) = refl
+received_course s t o = refl
 
 -- ---- releases until none is ready
 
 pub none_released : (s : Seen) → is_some (release_over s) ≡ false → released s ≡ s
 none_released s f = released_none s (none_is (release_over s) f)
 
-pub step_done : (c : Course) → is_some (release_over c.seen) ≡ false → release_step c ≡ c
-step_done c e = ap (λ r. cond (has_room c.limit) (with_release c r) c) (none_is (release_over c.seen) e) ∙ same (has_room c.limit)
+pub step_done : (c : Course) → is_some (release_over c.state) ≡ false → release_step c ≡ c
+step_done c e = ap (λ r. cond (has_room c.limit) (with_release c r) c) (none_is (release_over c.state) e) ∙ same (has_room c.limit)
   where
     same : (b : Bool) → cond b c c ≡ c
     same true = refl
     same false = refl
 
-pub releases_done : (c : Course) → is_some (release_over c.seen) ≡ false → with_releases c ≡ c
-releases_done c e = go (length c.seen.waiting)
+pub releases_done : (c : Course) → is_some (release_over c.state) ≡ false → with_releases c ≡ c
+releases_done c e = go (length c.state.waiting)
   where
     go : (n : ℕ) → release_steps n c ≡ c
     go zero = refl
     go (suc n) = ap (release_steps n) (step_done c e) ∙ go n
 
-pub releases_more : (c : Course) → c.limit ≡ None → IsSane c.seen → is_some (release_over c.seen) ≡ true → with_releases (release_step c) ≡ with_releases c
+pub releases_more : (c : Course) → c.limit ≡ None → IsSane c.state → is_some (release_over c.state) ≡ true → with_releases (release_step c) ≡ with_releases c
 releases_more c e h i =
     ap (λ (u : Seen). release_steps (length u.waiting) (release_step c)) (released_seen c e)
-    ∙ ap (λ n. release_steps n c) (sym (one_fewer c.seen h i))
+    ∙ ap (λ n. release_steps n c) (sym (one_fewer c.state h i))
 
 -- ---- the way through operations
 
@@ -139,36 +133,36 @@ to_reach s os c rest w limit = ap (λ l. take_ops (started l s) os) (sym (more_i
 pub from_reach : (s : Seen) (os : List Op) (k : ℕ) (c : Course) (rest : List Op) → Reaches s os k c rest → IsOnWay s os c rest
 from_reach s os k c rest h = (k, λ limit. ap (λ l. take_ops (started l s) os) (more_is k limit) ∙ h limit)
 
-ready_done : (s : Seen) (os : List Op) (k : ℕ) (c : Course) (rest : List Op) → is_some (release_over c.seen) ≡ false → ReachesReady s os k c rest → IsOnWay s os (with_releases c) rest
+ready_done : (s : Seen) (os : List Op) (k : ℕ) (c : Course) (rest : List Op) → is_some (release_over c.state) ≡ false → ReachesReady s os k c rest → IsOnWay s os (with_releases c) rest
 ready_done s os k c rest f w = subst (λ d. IsOnWay s os d rest) (sym (releases_done c f)) (from_reach s os k c rest (reaches_rest s os k c rest f w))
 
 -- all that is ready is released
-pub on_way_ready : (n : ℕ) (s : Seen) (os : List Op) (k : ℕ) (c : Course) (rest : List Op) → length c.seen.waiting ≤ n → c.limit ≡ None → IsSane c.seen → ReachesReady s os k c rest
+pub on_way_ready : (n : ℕ) (s : Seen) (os : List Op) (k : ℕ) (c : Course) (rest : List Op) → length c.state.waiting ≤ n → c.limit ≡ None → IsSane c.state → ReachesReady s os k c rest
     → IsOnWay s os (with_releases c) rest
-on_way_ready zero s os k c rest l e h w = bool_cases (is_some (release_over c.seen)) (λ f. let x = one_fewer c.seen h f in absurd (omega arith)) (λ f. ready_done s os k c rest f w)
-on_way_ready (suc m) s os k c rest l e h w = bool_cases (is_some (release_over c.seen))
+on_way_ready zero s os k c rest l e h w = bool_cases (is_some (release_over c.state)) (λ f. let x = one_fewer c.state h f in absurd (omega arith)) (λ f. ready_done s os k c rest f w)
+on_way_ready (suc m) s os k c rest l e h w = bool_cases (is_some (release_over c.state))
     (λ f.
-    let x = one_fewer c.seen h f in
-    let y : length (release_step c).seen.waiting ≡ length (released c.seen).waiting = ap (λ (u : Seen). length u.waiting) (released_seen c e) in
+    let x = one_fewer c.state h f in
+    let y : length (release_step c).state.waiting ≡ length (released c.state).waiting = ap (λ (u : Seen). length u.waiting) (released_seen c e) in
     subst (λ d. IsOnWay s os d rest) (releases_more c e h f)
     (on_way_ready m s os (suc k) (release_step c) rest (omega arith) (released_limit c e) (released_step_sane c e h) (reaches_released s os k c rest e h f w)))
     (λ f. ready_done s os k c rest f w)
 
-part_now : (s : Seen) (os : List Op) (k : ℕ) (c : Course) (rest : List Op) → ReachesReady s os k c rest → IsPartOfOps s os c.seen
+part_now : (s : Seen) (os : List Op) (k : ℕ) (c : Course) (rest : List Op) → ReachesReady s os k c rest → IsPartOfOps s os c.state
 part_now s os k c rest h =
     let e : take_ops (started (Some k) s) os ≡ within (Some 0) c =
     ap (λ l. take_ops (started l s) os) (sym (no_more k))
-    ∙ (h (Some 0) ∙ (ap (λ d. take_ops d rest) (no_releases (length c.seen.waiting) (within (Some 0) c) refl) ∙ no_ops rest (within (Some 0) c) refl)) in
-    (k, ap (λ d. d.limit) e, sym (ap (λ d. d.seen) e))
+    ∙ (h (Some 0) ∙ (ap (λ d. take_ops d rest) (no_releases (length c.state.waiting) (within (Some 0) c) refl) ∙ no_ops rest (within (Some 0) c) refl)) in
+    (k, ap (λ d. d.limit) e, sym (ap (λ d. d.state) e))
 
 -- or only some of it
-pub part_ready : (n : ℕ) (s : Seen) (os : List Op) (k : ℕ) (c : Course) (rest : List Op) → c.limit ≡ None → IsSane c.seen → ReachesReady s os k c rest → IsPartOfOps s os (released_times n c.seen)
+pub part_ready : (n : ℕ) (s : Seen) (os : List Op) (k : ℕ) (c : Course) (rest : List Op) → c.limit ≡ None → IsSane c.state → ReachesReady s os k c rest → IsPartOfOps s os (released_times n c.state)
 part_ready zero s os k c rest e h w = part_now s os k c rest w
-part_ready (suc n) s os k c rest e h w = bool_cases (is_some (release_over c.seen))
+part_ready (suc n) s os k c rest e h w = bool_cases (is_some (release_over c.state))
     (λ f.
     subst (λ u. IsPartOfOps s os (released_times n u)) (released_seen c e)
     (part_ready n s os (suc k) (release_step c) rest (released_limit c e) (released_step_sane c e h) (reaches_released s os k c rest e h f w)))
-    (λ f. subst (λ u. IsPartOfOps s os (released_times n u)) (sym (released_none c.seen (none_is (release_over c.seen) f))) (part_ready n s os k c rest e h w))
+    (λ f. subst (λ u. IsPartOfOps s os (released_times n u)) (sym (released_none c.state (none_is (release_over c.state) f))) (part_ready n s os k c rest e h w))
 
 -- ---- releases in two parts
 
@@ -194,7 +188,7 @@ taken_none s r t os rest w = ops_part s os w.0 (course r t) rest (to_reach s os 
 taken_ready : (s r : Seen) (t : Taken) (o : Op) (os rest : List Op) → (w : IsOnWay s os (course r t) (o ∷ rest)) → ReachesReady s os (suc w.0) (receive_step (course r t) o) rest
 taken_ready s r t o os rest w = reaches_received s os w.0 (course r t) o rest refl (to_reach s os (course r t) (o ∷ rest) w)
 
-step_seen : (r : Seen) (t : Taken) (o : Op) → (receive_step (course r t) o).seen ≡ received r o
+step_seen : (r : Seen) (t : Taken) (o : Op) → (receive_step (course r t) o).state ≡ received r o
 step_seen r t o = received_seen (course r t) o refl
 
 -- it is received, and then some of what is ready is released
@@ -214,7 +208,7 @@ pub taken_all : (s r u : Seen) (t v : Taken) (o : Op) (os rest : List Op) → Is
 taken_all s r u t v o os rest h e w =
     let d = receive_step (course r t) o in
     subst (λ c. IsOnWay s os c rest) (sym (e ∙ ap with_releases (received_course r t o)))
-    (on_way_ready (length d.seen.waiting) s os (suc w.0) d rest (omega arith) (received_limit (course r t) o refl) (subst IsSane (sym (step_seen r t o)) h) (taken_ready s r t o os rest w))
+    (on_way_ready (length d.state.waiting) s os (suc w.0) d rest (omega arith) (received_limit (course r t) o refl) (subst IsSane (sym (step_seen r t o)) h) (taken_ready s r t o os rest w))
 
 -- what is counted then
 pub unreceived_counts : (s : Seen) (t : Taken) (o : Op) → CountsReleased s t → CountsReleased (received s o) t
@@ -246,8 +240,8 @@ pub ops_all_stands : (s u : Seen) (v : Taken) (t : State) (os : List Op) → Are
     → (v ≡ model.taken (model.take_ops (model.started None t) os)) × StandsFor u (model.take_ops (model.started None t) os).state
 ops_all_stands s u v t os w e h =
     let g = ops_go os (members s) (started None s) (model.started None t) w (started_goes None s t h) in (
-      ap taken_of (sym e) ∙ counted_alike (members s) (take_ops (started None s) os) (model.take_ops (model.started None t) os) g,
-      subst (λ (c : Course). StandsFor c.seen (model.take_ops (model.started None t) os).state) e g.stands,
+      ap taken_of (sym e) ∙ g.counts,
+      subst (λ (c : Course). StandsFor c.state (model.take_ops (model.started None t) os).state) e g.stands,
     )
 
 -- no limit is left behind
@@ -259,7 +253,7 @@ ops_limit : (os : List Op) (c : Course) → c.limit ≡ None → (take_ops c os)
 ops_limit [] c e = e
 ops_limit (o ∷ os) c e =
     let d = receive_step c o in
-    ops_limit os (with_releases d) (releases_limit (length d.seen.waiting) d (received_limit c o e))
+    ops_limit os (with_releases d) (releases_limit (length d.state.waiting) d (received_limit c o e))
 
 -- the message is taken
 pub message_counts : (s : Seen) (m : Message) → taken_of (taken_over s m) ≡ taken_of (take_ops (started None s) m.ops)
@@ -269,23 +263,23 @@ message_counts s m = go (has_room (take_ops (started None s) m.ops).limit)
     d : Course
     d = take_ops (started None s) m.ops
 
-    go : (b : Bool) → taken_of (cond b (moved d (acknowledged d.seen m.from m.vector)) d) ≡ taken_of d
+    go : (b : Bool) → taken_of (cond b (moved d (acknowledged d.state m.from m.vector)) d) ≡ taken_of d
     go true = refl
     go false = refl
 
-pub message_seen : (s : Seen) (m : Message) → (taken_over s m).seen ≡ acknowledged (take_ops (started None s) m.ops).seen m.from m.vector
+pub message_seen : (s : Seen) (m : Message) → (taken_over s m).state ≡ acknowledged (take_ops (started None s) m.ops).state m.from m.vector
 unfolding taken_within
 message_seen s m = acknowledged_seen (take_ops (started None s) m.ops) m.from m.vector (ops_limit m.ops (started None s) refl)
 
 -- the count of members stays
-members_releases : (n : ℕ) (c : Course) → c.limit ≡ None → members (release_steps n c).seen ≡ members c.seen
+members_releases : (n : ℕ) (c : Course) → c.limit ≡ None → members (release_steps n c).state ≡ members c.state
 members_releases zero c e = refl
-members_releases (suc n) c e = members_releases n (release_step c) (released_limit c e) ∙ (ap members (released_seen c e) ∙ members_released c.seen)
+members_releases (suc n) c e = members_releases n (release_step c) (released_limit c e) ∙ (ap members (released_seen c e) ∙ members_released c.state)
 
-pub members_ops : (os : List Op) (c : Course) → c.limit ≡ None → members (take_ops c os).seen ≡ members c.seen
+pub members_ops : (os : List Op) (c : Course) → c.limit ≡ None → members (take_ops c os).state ≡ members c.state
 members_ops [] c e = refl
 members_ops (o ∷ os) c e =
     let d = receive_step c o in
     let k = received_limit c o e in
-    members_ops os (with_releases d) (releases_limit (length d.seen.waiting) d k)
-    ∙ (members_releases (length d.seen.waiting) d k ∙ (ap members (received_seen c o e) ∙ members_received c.seen o))
+    members_ops os (with_releases d) (releases_limit (length d.state.waiting) d k)
+    ∙ (members_releases (length d.state.waiting) d k ∙ (ap members (received_seen c o e) ∙ members_received c.state o))

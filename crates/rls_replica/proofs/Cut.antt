@@ -17,10 +17,10 @@ use Rattle.rls_replica.specs.Steps.{IsPartOfOps}
 -- ---- cut short
 
 -- some of the steps were taken
-pub ops_part : (s : Seen) (os : List Op) (k : ℕ) (c : Course) (rest : List Op) → Reaches s os k c rest → IsPartOfOps s os c.seen
+pub ops_part : (s : Seen) (os : List Op) (k : ℕ) (c : Course) (rest : List Op) → Reaches s os k c rest → IsPartOfOps s os c.state
 ops_part s os k c rest h =
     let e : take_ops (started (Some k) s) os ≡ within (Some 0) c = ap (λ l. take_ops (started l s) os) (sym (no_more k)) ∙ (h (Some 0) ∙ no_ops rest (within (Some 0) c) refl) in
-    (k, ap (λ d. d.limit) e, sym (ap (λ d. d.seen) e))
+    (k, ap (λ d. d.limit) e, sym (ap (λ d. d.state) e))
 
 -- none was
 pub ops_none : (s : Seen) (os : List Op) → IsPartOfOps s os s
@@ -39,4 +39,4 @@ pub message_part : (s u : Seen) (m : Message) → IsPartOfOps s m.ops u → IsPa
 unfolding taken_within
 message_part s u m p =
     let d = take_ops (started (Some p.0) s) m.ops in
-    (p.0, p.2 ∙ sym (ap (λ b. (cond b (moved d (acknowledged d.seen m.from m.vector)) d).seen) (ap has_room p.1)))
+    (p.0, p.2 ∙ sym (ap (λ b. (cond b (moved d (acknowledged d.state m.from m.vector)) d).state) (ap has_room p.1)))

@@ -82,38 +82,38 @@ all_names s = times_names (length s.waiting) s
 pub part_released_names : (s r : Seen) → IsPartReleased s r → KeepsNames s r
 part_released_names s r p = subst (λ (u : Seen). KeepsNames s u) (sym p.1) (times_names p.0 s)
 
-receive_names : (c : Course) (o : Op) → KeepsNames c.seen (receive_step c o).seen
-receive_names c o = go (has_room c.limit) (answer_over false c.seen o)
+receive_names : (c : Course) (o : Op) → KeepsNames c.state (receive_step c o).state
+receive_names c o = go (has_room c.limit) (answer_over false c.state o)
   where
-    go : (b : Bool) (a : Answer) → KeepsNames c.seen (if b then with_answer (moved c (received c.seen o)) o a else c).seen
-    go true Applies = received_names c.seen o
-    go true Repeats = received_names c.seen o
-    go true Waits = received_names c.seen o
-    go true (Refuses r) = received_names c.seen o
+    go : (b : Bool) (a : Answer) → KeepsNames c.state (if b then with_answer (moved c (received c.state o)) o a else c).state
+    go true Applies = received_names c.state o
+    go true Repeats = received_names c.state o
+    go true Waits = received_names c.state o
+    go true (Refuses r) = received_names c.state o
     go false a = λ e k. k
 
-release_names : (c : Course) → KeepsNames c.seen (release_step c).seen
-release_names c = go (has_room c.limit) (release_over c.seen)
+release_names : (c : Course) → KeepsNames c.state (release_step c).state
+release_names c = go (has_room c.limit) (release_over c.state)
   where
-    more : (a q : ℕ) (x : Option Reason) → KeepsNames c.seen (with_refusal (moved c (released c.seen)) a q x).seen
-    more a q None = released_names c.seen
-    more a q (Some r) = released_names c.seen
+    more : (a q : ℕ) (x : Option Reason) → KeepsNames c.state (with_refusal (moved c (released c.state)) a q x).state
+    more a q None = released_names c.state
+    more a q (Some r) = released_names c.state
 
-    go : (b : Bool) (x : Option Released) → KeepsNames c.seen (if b then with_release c x else c).seen
+    go : (b : Bool) (x : Option Released) → KeepsNames c.state (if b then with_release c x else c).state
     go true None = λ e k. k
     go true (Some r) = more r.author r.seq r.refusal
     go false x = λ e k. k
 
-releases_names : (n : ℕ) (c : Course) → KeepsNames c.seen (release_steps n c).seen
+releases_names : (n : ℕ) (c : Course) → KeepsNames c.state (release_steps n c).state
 releases_names zero c = λ e k. k
-releases_names (suc n) c = names_on c.seen (release_step c).seen (release_steps n (release_step c)).seen (release_names c) (releases_names n (release_step c))
+releases_names (suc n) c = names_on c.state (release_step c).state (release_steps n (release_step c)).state (release_names c) (releases_names n (release_step c))
 
-pub ops_names : (os : List Op) (c : Course) → KeepsNames c.seen (take_ops c os).seen
+pub ops_names : (os : List Op) (c : Course) → KeepsNames c.state (take_ops c os).state
 ops_names [] c = λ e k. k
 ops_names (o ∷ os) c =
     let d = receive_step c o in
     let r = with_releases d in
-    names_on c.seen r.seen (take_ops r os).seen (names_on c.seen d.seen r.seen (receive_names c o) (releases_names (length d.seen.waiting) d)) (ops_names os r)
+    names_on c.state r.state (take_ops r os).state (names_on c.state d.state r.state (receive_names c o) (releases_names (length d.state.waiting) d)) (ops_names os r)
 
 pub part_of_ops_names : (s u : Seen) (os : List Op) → IsPartOfOps s os u → KeepsNames s u
 part_of_ops_names s u os p = subst (λ (v : Seen). KeepsNames s v) (sym p.2) (ops_names os (started (Some p.0) s))

@@ -1,15 +1,15 @@
 -- Steps that are counted while a message is taken.
-use Rattle.std.specs.Prelude.{◌≡◌, ℕ, ◌+◌, ◌-◌, ◌^◌, ◌<◌, ◌≤◌, List, [], ◌∷◌, ◌++◌, Option, Some, None, sum}
+use Rattle.std.specs.Prelude.{◌≡◌, ℕ, ◌+◌, ◌-◌, ◌^◌, ◌<◌, ◌≤◌, List, Some, None, sum}
 use Rattle.rls_ops.specs.declared.op.Op.{Op}
 use Rattle.rls_model.specs.declared.receipt.Taken.{Taken}
-use Rattle.rls_model.specs.Taking.{Limit}
-use Rattle.rls_model.specs.Answers.{Reason, Answer, Applies, Repeats, Waits, Refuses, Released}
+pub use Rattle.rls_model.specs.Machine.{with_receipt, with_reason}
+use Rattle.rls_model.specs.Machine.{Limit}
 use Rattle.rls_seen.specs.Seen.{Seen, vector}
 use Rattle.rls_seen.specs.Messages.{Course, started, take_ops}
 
 -- a replica on the way, with what was counted so far
 abbrev pub course : Seen → Taken → Course
-course s t = record { seen = s; limit = None; applied = t.applied; released = t.released; repeated = t.repeated; held = t.held; refused = t.refused }
+course s t = record { state = s; limit = None; counts = t }
 
 -- no more were counted as released than were accepted
 abbrev pub CountsReleased : Seen → Taken → Type 0
@@ -17,26 +17,9 @@ CountsReleased s t = t.released ≤ sum (vector s)
 
 -- after so many of the steps of taking these operations
 abbrev pub IsPartOfOps : Seen → List Op → Seen → Type 0
-IsPartOfOps old os new = (n : ℕ) × ((take_ops (started (Some n) old) os).limit ≡ Some 0) × (new ≡ (take_ops (started (Some n) old) os).seen)
+IsPartOfOps old os new = (n : ℕ) × ((take_ops (started (Some n) old) os).limit ≡ Some 0) × (new ≡ (take_ops (started (Some n) old) os).state)
 
 -- ---- counting
-
--- an operation that arrived was answered so
-abbrev pub with_receipt : Taken → ℕ → ℕ → Answer → Taken
-with_receipt t a q Applies = record t { applied = t.applied + 1 }
-with_receipt t a q Repeats = record t { repeated = t.repeated + 1 }
-with_receipt t a q Waits = record t { held = t.held + 1 }
-with_receipt t a q (Refuses r) = record t { refused = t.refused ++ (a, q, r) ∷ [] }
-
--- an operation that waited was released, and refused for this reason, if any
-abbrev pub with_reason : Taken → ℕ → ℕ → Option Reason → Taken
-with_reason t a q None = record t { released = t.released + 1 }
-with_reason t a q (Some r) = record t { refused = t.refused ++ (a, q, r) ∷ [] }
-
--- this was released, if anything was
-abbrev pub with_released : Taken → Option Released → Taken
-with_released t None = t
-with_released t (Some r) = with_reason t r.author r.seq r.refusal
 
 -- one more of each may be counted
 pub record HasRoom (t : Taken) : Type 0 where

@@ -125,7 +125,7 @@ impl Replica {
     /// Receives each operation in turn, and releases after it what is ready. After an error some of these steps were made.
     pub fn take_ops(&mut self, ops: Ops) -> Result<Taken, AllocError>
         ensures taken { IfOk result (λ taken. taken ≡ taken_of (take_ops (started None self.old) ops)) }
-        ensures after { OnOk result (self.new ≡ (take_ops (started None self.old) ops).seen) }
+        ensures after { OnOk result (self.new ≡ (take_ops (started None self.old) ops).state) }
         ensures err { OnErr result (IsPartOfOps self.old ops self.new) }
         ensures names { KeepsNames self.old self.new }
 
@@ -154,7 +154,7 @@ impl Replica {
         requires from { message.from < message.members }
         requires vector { length message.vector ≡ message.members }
         ensures taken { IfOk result (λ taken. taken ≡ taken_of (taken_over self.old message)) }
-        ensures after { OnOk result (self.new ≡ (taken_over self.old message).seen) }
+        ensures after { OnOk result (self.new ≡ (taken_over self.old message).state) }
         ensures other_group { (g n : ℕ) → (IsErrOf result (TakeError.OtherGroup g n) ↔ ((g ≡ message.group) × (n ≡ message.members) × IsForeign self.old message)) }
         ensures foreign { (g n : ℕ) → IsErrOf result (TakeError.OtherGroup g n) → self.new ≡ self.old }
         ensures cut { IsErrOf result TakeError.OutOfMemory → IsPartTaken self.old message self.new }

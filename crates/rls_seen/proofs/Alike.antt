@@ -1,5 +1,5 @@
 -- What a replica reads of itself is what the history says that it stands for.
-use Rattle.std.proofs.Common.{◌≡◌, ℕ, zero, suc, ◌<◌, ◌≤◌, ◌==◌, ◌||◌, ◌&&◌, ◌++◌, not, nat_le, slice_index, Bool, true, false, List, [], ◌∷◌, length, refl, sym, ap, ◌∙◌, subst, arith, Option, Some, None, if◌then◌else◌}
+use Rattle.std.proofs.Common.{◌≡◌, ℕ, zero, suc, ◌<◌, ◌≤◌, ◌==◌, ◌||◌, ◌++◌, not, slice_index, Bool, true, false, List, [], ◌∷◌, length, refl, sym, ap, ◌∙◌, subst, arith, Option, Some, None, if◌then◌else◌}
 use Rattle.std.specs.List.{list_any, list_all}
 use Rattle.rls_ident.specs.declared.tuple.Tuple.{Tuple}
 use Rattle.rls_ident.specs.declared.epoch_name.EpochName.{EpochName}
@@ -19,15 +19,14 @@ use Rattle.rls_ops.specs.declared.op.Body.{Body}
 use Rattle.rls_ops.specs.declared.op.Body.TheVariants.{Insert, Delete, Rename, Leave}
 use Rattle.rls_ops.specs.Rows.{row_of, left, awaits, awaited, least_of, stable_of, missing_for}
 use Rattle.rls_ops.specs.Shapes.{shape_fault}
-use Rattle.rls_model.specs.Answers.{Reason, Own, Left, Backward, WrongEpoch, WrongStem, UnknownTarget, Repeats, Refuses}
+use Rattle.rls_model.specs.Answers.{Reason, Left, Backward, WrongEpoch, WrongStem, UnknownTarget}
 use Rattle.rls_model.specs.Document.{targets_of, export}
 use Rattle.rls_model.specs.Epochs.{epochs, greatest, greatest_within}
 use Rattle.rls_model.specs.Fitting.{is_known, first_unknown, body_refusal, refusal}
 use Rattle.rls_model.specs.History.{History, me_of, members_of, count, count_of, has_left, row}
 use Rattle.rls_model.specs.Laws.{KeepsRetained}
 use Rattle.rls_model.specs.Legal.{IsLegal}
-use Rattle.rls_model.specs.Receiving.{State, answer, answer_after_shape, waiting_under}
-use Rattle.rls_model.specs.Receiving as model
+use Rattle.rls_model.specs.Receiving.{State, answer, answer_by}
 use Rattle.rls_model.specs.Stability.{is_awaited, awaited_rows, stable, unstable}
 use Rattle.rls_model.specs.Stems.{may_use, due_offset}
 use Rattle.rls_model.specs.WellFormed.{IsOp, IsBody}
@@ -38,7 +37,7 @@ use Rattle.rls_model.proofs.OneTree.{author_below}
 use Rattle.rls_model.proofs.Stable.{stable_row, length-count}
 use Rattle.rls_model.proofs.WindowAnswers.{known_window}
 use Rattle.rls_seen.specs.Seen.{Seen, members, stable_over, unstable_over, greatest_over, due_over}
-use Rattle.rls_seen.specs.Over.{is_known_over, first_unknown_over, body_refusal_over, refusal_over, answer_beside, answer_by, answer_over}
+use Rattle.rls_seen.specs.Over.{is_known_over, first_unknown_over, body_refusal_over, refusal_over, answer_over}
 use Rattle.rls_seen.specs.Stands.{StandsFor}
 
 -- ---- members, rows, what is stable
@@ -146,18 +145,9 @@ refusal_alike s t o w m h =
 
 -- ---- the answer
 
-beside_is : (H : History) (o : Op) (w : Option Op) → model.answer_beside H o w ≡ answer_beside (count H) (refusal H o) o w
-beside_is H o None = refl
-beside_is H o (Some w) = refl
-
-by_shape : (own : Bool) (H : History) (W : List Op) (o : Op) (f : Option Shape) → answer_after_shape own H W o f ≡ answer_by own (count H) (me_of H) W (refusal H o) o f
-by_shape own H W o (Some f) = refl
-by_shape own H W o None =
-    ap (λ a. if nat_le o.seq (count_of H o.author) then Repeats else if not own && (o.author == me_of H) then Refuses (Own o.seq) else a) (beside_is H o (waiting_under W o.author o.seq))
-
 answer_is : (own : Bool) (H : History) (W : List Op) (o : Op) → answer own H W o ≡ answer_by own (count H) (me_of H) W (refusal H o) o (shape_fault (members_of H) o)
 unfolding answer
-answer_is own H W o = by_shape own H W o (shape_fault (members_of H) o)
+answer_is own H W o = refl
 
 reason_same : (own : Bool) (v : List ℕ) (me : ℕ) (W : List Op) (r q : Option Reason) (o : Op) (f : Option Shape) → (f ≡ None → r ≡ q) → answer_by own v me W r o f ≡ answer_by own v me W q o f
 reason_same own v me W r q o (Some f) e = refl

@@ -10,13 +10,13 @@ use Rattle.rls_ops.proofs.Shaped.{next_of}
 use Rattle.rls_model.specs.Answers.{Reason, Answer, Applies, Repeats, Waits, Refuses}
 use Rattle.rls_model.specs.History.{count, count_of, members_of}
 use Rattle.rls_model.specs.Legal.{MayAccept, IsSound}
-use Rattle.rls_model.specs.Receiving.{State, answer, after, receive, receive_after, replay, replay_after, verdict_of, waiting_under, with_waiting, without}
+use Rattle.rls_model.specs.Receiving.{State, answer, answer_beside, answer_by, after, receive, receive_after, replay, replay_after, verdict_of, waiting_under, with_waiting, without}
 use Rattle.rls_model.specs.WellFormed.{IsOp}
 use Rattle.rls_model.proofs.OneTree.{author_below}
 use Rattle.rls_model.proofs.WorldsWaiting.{sound_put}
 use Rattle.rls_model.proofs.Answered.{causes_go, forked_go, number_go, number_waits}
 use Rattle.rls_seen.specs.Seen.{Seen, vector, members}
-use Rattle.rls_seen.specs.Over.{answer_beside, answer_by, answer_over, refusal_over, after_answer, holding, received, replayed}
+use Rattle.rls_seen.specs.Over.{answer_over, refusal_over, after_answer, holding, received, replayed}
 use Rattle.rls_seen.specs.Sane.{MayApply, MayWait}
 use Rattle.rls_seen.specs.Stands.{StandsFor}
 use Rattle.rls_seen.proofs.Alike.{members_alike, refusal_alike, answers_alike}

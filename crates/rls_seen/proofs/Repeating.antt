@@ -132,7 +132,7 @@ more_steps k (Some n) = Some (k + n)
 
 -- where no step is left, nothing more comes
 no_release : (c : Course) → c.limit ≡ Some 0 → release_step c ≡ c
-no_release c e = ap (λ b. cond b (with_release c (release_over c.seen)) c) (ap has_room e)
+no_release c e = ap (λ b. cond b (with_release c (release_over c.state)) c) (ap has_room e)
 
 pub no_releases : (n : ℕ) (c : Course) → c.limit ≡ Some 0 → release_steps n c ≡ c
 no_releases zero c e = refl
@@ -141,8 +141,8 @@ no_releases (suc n) c e = ap (release_steps n) (no_release c e) ∙ no_releases 
 pub no_ops : (os : List Op) (c : Course) → c.limit ≡ Some 0 → take_ops c os ≡ c
 no_ops [] c e = refl
 no_ops (o ∷ os) c e =
-    let r : receive_step c o ≡ c = ap (λ b. cond b (with_answer (moved c (received c.seen o)) o (answer_over false c.seen o)) c) (ap has_room e) in
-    ap (λ d. take_ops (with_releases d) os) r ∙ (ap (λ d. take_ops d os) (no_releases (length c.seen.waiting) c e) ∙ no_ops os c e)
+    let r : receive_step c o ≡ c = ap (λ b. cond b (with_answer (moved c (received c.state o)) o (answer_over false c.state o)) c) (ap has_room e) in
+    ap (λ d. take_ops (with_releases d) os) r ∙ (ap (λ d. take_ops d os) (no_releases (length c.state.waiting) c e) ∙ no_ops os c e)
 
 less : (n : ℕ) → 1 + n - 1 ≡ n
 less n = omega arith
@@ -152,65 +152,53 @@ room None = refl
 room (Some n) = lt_test 0 (1 + n) (omega arith)
 
 -- one more step with this limit is a step, and then the limit
-answer_within : (limit : Limit) (c : Course) (s : Seen) (o : Op) (a : Answer) → c.limit ≡ None → with_answer (moved (within (more_steps 1 limit) c) s) o a ≡ within limit (with_answer (moved c s) o a)
-answer_within None c s o Applies e = refl
-answer_within None c s o Repeats e = refl
-answer_within None c s o Waits e = refl
-answer_within None c s o (Refuses r) e = refl
-answer_within (Some n) c s o Applies e = ap (λ m. record (with_answer (moved c s) o Applies) { limit = Some m }) (less n)
-answer_within (Some n) c s o Repeats e = ap (λ m. record (with_answer (moved c s) o Repeats) { limit = Some m }) (less n)
-answer_within (Some n) c s o Waits e = ap (λ m. record (with_answer (moved c s) o Waits) { limit = Some m }) (less n)
-answer_within (Some n) c s o (Refuses r) e = ap (λ m. record (with_answer (moved c s) o (Refuses r)) { limit = Some m }) (less n)
+moved_within : (limit : Limit) (c : Course) (s : Seen) → c.limit ≡ None → moved (within (more_steps 1 limit) c) s ≡ within limit (moved c s)
+moved_within None c s e = refl
+moved_within (Some n) c s e = ap (λ m. record c { state = s; limit = Some m }) (less n)
 
 receive_within : (limit : Limit) (c : Course) (o : Op) → c.limit ≡ None → receive_step (within (more_steps 1 limit) c) o ≡ within limit (receive_step c o)
 receive_within limit c o e =
-    let s = received c.seen o in
-    let a = answer_over false c.seen o in
+    let s = received c.state o in
+    let a = answer_over false c.state o in
     ap (λ b. cond b (with_answer (moved (within (more_steps 1 limit) c) s) o a) (within (more_steps 1 limit) c)) (room limit)
-    ∙ (answer_within limit c s o a e
+    ∙ (ap (λ d. with_answer d o a) (moved_within limit c s e)
     ∙ ap (within limit) (sym (ap (λ b. cond b (with_answer (moved c s) o a) c) (ap has_room e))))
 
-refusal_within : (limit : Limit) (c : Course) (s : Seen) (a q : ℕ) (r : Option Reason) → with_refusal (moved (within (more_steps 1 limit) c) s) a q r ≡ within limit (with_refusal (moved c s) a q r)
-refusal_within None c s a q None = refl
-refusal_within None c s a q (Some r) = refl
-refusal_within (Some n) c s a q None = ap (λ m. record (with_refusal (moved c s) a q None) { limit = Some m }) (less n)
-refusal_within (Some n) c s a q (Some r) = ap (λ m. record (with_refusal (moved c s) a q (Some r)) { limit = Some m }) (less n)
-
-release_within : (limit : Limit) (c : Course) → c.limit ≡ None → is_some (release_over c.seen) ≡ true → release_step (within (more_steps 1 limit) c) ≡ within limit (release_step c)
+release_within : (limit : Limit) (c : Course) → c.limit ≡ None → is_some (release_over c.state) ≡ true → release_step (within (more_steps 1 limit) c) ≡ within limit (release_step c)
 release_within limit c e i =
-    let p = some_is (release_over c.seen) i in
+    let p = some_is (release_over c.state) i in
     let r = p.0 in
     let d = within (more_steps 1 limit) c in
-    ap (λ b. cond b (with_release d (release_over c.seen)) d) (room limit)
+    ap (λ b. cond b (with_release d (release_over c.state)) d) (room limit)
     ∙ (ap (with_release d) p.1
-    ∙ (refusal_within limit c (released c.seen) r.author r.seq r.refusal
-    ∙ ap (within limit) (sym (ap (λ b. cond b (with_release c (release_over c.seen)) c) (ap has_room e) ∙ ap (with_release c) p.1))))
+    ∙ (ap (λ d. with_refusal d r.author r.seq r.refusal) (moved_within limit c (released c.state) e)
+    ∙ ap (within limit) (sym (ap (λ b. cond b (with_release c (release_over c.state)) c) (ap has_room e) ∙ ap (with_release c) p.1))))
 
-refusal_seen : (c : Course) (a q : ℕ) (r : Option Reason) → (with_refusal c a q r).seen ≡ c.seen
+refusal_seen : (c : Course) (a q : ℕ) (r : Option Reason) → (with_refusal c a q r).state ≡ c.state
 refusal_seen c a q None = refl
 refusal_seen c a q (Some r) = refl
 
-answer_seen : (c : Course) (o : Op) (a : Answer) → (with_answer c o a).seen ≡ c.seen
+answer_seen : (c : Course) (o : Op) (a : Answer) → (with_answer c o a).state ≡ c.state
 answer_seen c o Applies = refl
 answer_seen c o Repeats = refl
 answer_seen c o Waits = refl
 answer_seen c o (Refuses r) = refl
 
 -- what is seen after a step without a limit
-pub received_seen : (c : Course) (o : Op) → c.limit ≡ None → (receive_step c o).seen ≡ received c.seen o
+pub received_seen : (c : Course) (o : Op) → c.limit ≡ None → (receive_step c o).state ≡ received c.state o
 received_seen c o e =
-    let x = with_answer (moved c (received c.seen o)) o (answer_over false c.seen o) in
-    ap (λ b. (cond b x c).seen) (ap has_room e) ∙ answer_seen (moved c (received c.seen o)) o (answer_over false c.seen o)
+    let x = with_answer (moved c (received c.state o)) o (answer_over false c.state o) in
+    ap (λ b. (cond b x c).state) (ap has_room e) ∙ answer_seen (moved c (received c.state o)) o (answer_over false c.state o)
 
-pub released_seen : (c : Course) → c.limit ≡ None → (release_step c).seen ≡ released c.seen
-released_seen c e = ap (λ b. (cond b (with_release c (release_over c.seen)) c).seen) (ap has_room e) ∙ go (release_over c.seen) refl
+pub released_seen : (c : Course) → c.limit ≡ None → (release_step c).state ≡ released c.state
+released_seen c e = ap (λ b. (cond b (with_release c (release_over c.state)) c).state) (ap has_room e) ∙ go (release_over c.state) refl
   where
-    go : (r : Option Released) → release_over c.seen ≡ r → (with_release c r).seen ≡ released c.seen
-    go None f = sym (released_none c.seen f)
-    go (Some r) f = refusal_seen (moved c (released c.seen)) r.author r.seq r.refusal
+    go : (r : Option Released) → release_over c.state ≡ r → (with_release c r).state ≡ released c.state
+    go None f = sym (released_none c.state f)
+    go (Some r) f = refusal_seen (moved c (released c.state)) r.author r.seq r.refusal
 
-pub acknowledged_seen : (c : Course) (a : ℕ) (v : List ℕ) → c.limit ≡ None → (acknowledge_step c a v).seen ≡ acknowledged c.seen a v
-acknowledged_seen c a v e = ap (λ b. (cond b (moved c (acknowledged c.seen a v)) c).seen) (ap has_room e)
+pub acknowledged_seen : (c : Course) (a : ℕ) (v : List ℕ) → c.limit ≡ None → (acknowledge_step c a v).state ≡ acknowledged c.state a v
+acknowledged_seen c a v e = ap (λ b. (cond b (moved c (acknowledged c.state a v)) c).state) (ap has_room e)
 
 answer_limit : (c : Course) (o : Op) (a : Answer) → (with_answer c o a).limit ≡ c.limit
 answer_limit c o Applies = refl
@@ -220,11 +208,11 @@ answer_limit c o (Refuses r) = refl
 
 pub received_limit : (c : Course) (o : Op) → c.limit ≡ None → (receive_step c o).limit ≡ None
 received_limit c o e =
-    let x = with_answer (moved c (received c.seen o)) o (answer_over false c.seen o) in
-    ap (λ b. (cond b x c).limit) (ap has_room e) ∙ (answer_limit (moved c (received c.seen o)) o (answer_over false c.seen o) ∙ ap one_less e)
+    let x = with_answer (moved c (received c.state o)) o (answer_over false c.state o) in
+    ap (λ b. (cond b x c).limit) (ap has_room e) ∙ (answer_limit (moved c (received c.state o)) o (answer_over false c.state o) ∙ ap one_less e)
 
 pub released_limit : (c : Course) → c.limit ≡ None → (release_step c).limit ≡ None
-released_limit c e = ap (λ b. (cond b (with_release c (release_over c.seen)) c).limit) (ap has_room e) ∙ go (release_over c.seen)
+released_limit c e = ap (λ b. (cond b (with_release c (release_over c.state)) c).limit) (ap has_room e) ∙ go (release_over c.state)
   where
     refusal_limit : (d : Course) (a q : ℕ) (r : Option Reason) → (with_refusal d a q r).limit ≡ d.limit
     refusal_limit d a q None = refl
@@ -232,7 +220,7 @@ released_limit c e = ap (λ b. (cond b (with_release c (release_over c.seen)) c)
 
     go : (r : Option Released) → (with_release c r).limit ≡ None
     go None = e
-    go (Some r) = refusal_limit (moved c (released c.seen)) r.author r.seq r.refusal ∙ ap one_less e
+    go (Some r) = refusal_limit (moved c (released c.state)) r.author r.seq r.refusal ∙ ap one_less e
 
 -- behind k steps the course is c, and these operations are left
 abbrev pub Reaches : Seen → List Op → ℕ → Course → List Op → Type 0
@@ -268,24 +256,24 @@ reaches_received s os k c o rest e h limit =
     ∙ ap (λ d. take_ops (with_releases d) rest) (receive_within limit c o e))
 
 -- one is released
-pub reaches_released : (s : Seen) (os : List Op) (k : ℕ) (c : Course) (rest : List Op) → c.limit ≡ None → IsSane c.seen → is_some (release_over c.seen) ≡ true → ReachesReady s os k c rest → ReachesReady s os (suc k) (release_step c) rest
+pub reaches_released : (s : Seen) (os : List Op) (k : ℕ) (c : Course) (rest : List Op) → c.limit ≡ None → IsSane c.state → is_some (release_over c.state) ≡ true → ReachesReady s os k c rest → ReachesReady s os (suc k) (release_step c) rest
 reaches_released s os k c rest e sane i h limit =
     let d = within (more_steps 1 limit) c in
     ap (λ l. take_ops (started l s) os) (more_twice k limit)
     ∙ (h (more_steps 1 limit)
-    ∙ (ap (λ n. take_ops (release_steps n d) rest) (one_fewer c.seen sane i)
-    ∙ (ap (λ x. take_ops (release_steps (length (released c.seen).waiting) x) rest) (release_within limit c e i)
+    ∙ (ap (λ n. take_ops (release_steps n d) rest) (one_fewer c.state sane i)
+    ∙ (ap (λ x. take_ops (release_steps (length (released c.state).waiting) x) rest) (release_within limit c e i)
     ∙ ap (λ x. take_ops (release_steps (length x.waiting) (within limit (release_step c))) rest) (sym (released_seen c e)))))
 
 -- none is ready any more
-pub reaches_rest : (s : Seen) (os : List Op) (k : ℕ) (c : Course) (rest : List Op) → is_some (release_over c.seen) ≡ false → ReachesReady s os k c rest → Reaches s os k c rest
-reaches_rest s os k c rest i h limit = h limit ∙ ap (λ d. take_ops d rest) (done (length c.seen.waiting))
+pub reaches_rest : (s : Seen) (os : List Op) (k : ℕ) (c : Course) (rest : List Op) → is_some (release_over c.state) ≡ false → ReachesReady s os k c rest → Reaches s os k c rest
+reaches_rest s os k c rest i h limit = h limit ∙ ap (λ d. take_ops d rest) (done (length c.state.waiting))
   where
     d : Course
     d = within limit c
 
     still : release_step d ≡ d
-    still = ap (λ r. cond (has_room limit) (with_release d r) d) (none_is (release_over c.seen) i) ∙ same (has_room limit)
+    still = ap (λ r. cond (has_room limit) (with_release d r) d) (none_is (release_over c.state) i) ∙ same (has_room limit)
       where
         same : (b : Bool) → cond b d d ≡ d
         same true = refl
@@ -305,71 +293,71 @@ no_more k = ap (λ m. Some m) (zero_more k)
     zero_more m = omega arith
 
 -- or a part of its steps was
-pub part_taken : (s : Seen) (m : Message) (k : ℕ) (c : Course) (rest : List Op) → Reaches s m.ops k c rest → IsPartTaken s m c.seen
+pub part_taken : (s : Seen) (m : Message) (k : ℕ) (c : Course) (rest : List Op) → Reaches s m.ops k c rest → IsPartTaken s m c.state
 unfolding taken_within
 part_taken s m k c rest h = (
   k,
-  sym (ap (λ l. (acknowledge_step (take_ops (started l s) m.ops) m.from m.vector).seen) (sym (no_more k))
-      ∙ ap (λ d. (acknowledge_step d m.from m.vector).seen) (h (Some 0) ∙ no_ops rest (within (Some 0) c) refl)),
+  sym (ap (λ l. (acknowledge_step (take_ops (started l s) m.ops) m.from m.vector).state) (sym (no_more k))
+      ∙ ap (λ d. (acknowledge_step d m.from m.vector).state) (h (Some 0) ∙ no_ops rest (within (Some 0) c) refl)),
 )
 
 -- ---- at each step
 
-pub released_step_sane : (c : Course) → c.limit ≡ None → IsSane c.seen → IsSane (release_step c).seen
-released_step_sane c e h = subst IsSane (sym (released_seen c e)) (released_sane c.seen h)
+pub released_step_sane : (c : Course) → c.limit ≡ None → IsSane c.state → IsSane (release_step c).state
+released_step_sane c e h = subst IsSane (sym (released_seen c e)) (released_sane c.state h)
 
 -- what is counted after n operations, where m waited at first
 pub record AreCounted (m n : ℕ) (c : Course) : Type 0 where
-  pub applied : c.applied ≤ n
-  pub repeated : c.repeated ≤ n
-  pub held : c.held ≤ n
-  pub released : c.released + length c.seen.waiting ≤ m + n
-  pub refused : length c.refused + length c.seen.waiting ≤ m + n + n
+  pub applied : c.counts.applied ≤ n
+  pub repeated : c.counts.repeated ≤ n
+  pub held : c.counts.held ≤ n
+  pub released : c.counts.released + length c.state.waiting ≤ m + n
+  pub refused : length c.counts.refused + length c.state.waiting ≤ m + n + n
 
 pub started_counted : (s : Seen) → AreCounted (length s.waiting) 0 (started None s)
 started_counted s = record { applied = omega arith; repeated = omega arith; held = omega arith; released = omega arith; refused = omega arith }
 
-step_counted : (m n : ℕ) (c : Course) (o : Op) (a : Answer) → AreCounted m n c → AreCounted m (suc n) (with_answer (moved c (after_answer a c.seen o)) o a)
+step_counted : (m n : ℕ) (c : Course) (o : Op) (a : Answer) → AreCounted m n c → AreCounted m (suc n) (with_answer (moved c (after_answer a c.state o)) o a)
 unfolding accepted holding
 step_counted m n c o Applies h =
-    let l = length-without o.author o.seq c.seen.waiting in
+    let l = length-without o.author o.seq c.state.waiting in
     let x = h.applied in let y = h.repeated in let z = h.held in let u = h.released in let v = h.refused in
     record { applied = omega arith; repeated = omega arith; held = omega arith; released = omega arith; refused = omega arith }
 step_counted m n c o Waits h =
-    let l = length-without o.author o.seq c.seen.waiting in
-    let k = length-with o (without o.author o.seq c.seen.waiting) in
+    let l = length-without o.author o.seq c.state.waiting in
+    let k = length-with o (without o.author o.seq c.state.waiting) in
     let x = h.applied in let y = h.repeated in let z = h.held in let u = h.released in let v = h.refused in
     record { applied = omega arith; repeated = omega arith; held = omega arith; released = omega arith; refused = omega arith }
 step_counted m n c o Repeats h =
     let x = h.applied in let y = h.repeated in let z = h.held in let u = h.released in let v = h.refused in
     record { applied = omega arith; repeated = omega arith; held = omega arith; released = omega arith; refused = omega arith }
 step_counted m n c o (Refuses r) h =
-    let k = length-append c.refused ((o.author, o.seq, r) ∷ []) in
+    let k = length-append c.counts.refused ((o.author, o.seq, r) ∷ []) in
     let x = h.applied in let y = h.repeated in let z = h.held in let u = h.released in let v = h.refused in
     record { applied = omega arith; repeated = omega arith; held = omega arith; released = omega arith; refused = omega arith }
 
 pub received_counted : (m n : ℕ) (c : Course) (o : Op) → c.limit ≡ None → AreCounted m n c → AreCounted m (suc n) (receive_step c o)
 unfolding received
 received_counted m n c o e h =
-    let x = with_answer (moved c (received c.seen o)) o (answer_over false c.seen o) in
-    subst (AreCounted m (suc n)) (sym (ap (λ b. cond b x c) (ap has_room e))) (step_counted m n c o (answer_over false c.seen o) h)
+    let x = with_answer (moved c (received c.state o)) o (answer_over false c.state o) in
+    subst (AreCounted m (suc n)) (sym (ap (λ b. cond b x c) (ap has_room e))) (step_counted m n c o (answer_over false c.state o) h)
 
-pub released_counted : (m n : ℕ) (c : Course) → c.limit ≡ None → IsSane c.seen → AreCounted m n c → AreCounted m n (release_step c)
+pub released_counted : (m n : ℕ) (c : Course) → c.limit ≡ None → IsSane c.state → AreCounted m n c → AreCounted m n (release_step c)
 released_counted m n c e sane h =
-    subst (AreCounted m n) (sym (ap (λ b. cond b (with_release c (release_over c.seen)) c) (ap has_room e))) (go (release_over c.seen) refl)
+    subst (AreCounted m n) (sym (ap (λ b. cond b (with_release c (release_over c.state)) c) (ap has_room e))) (go (release_over c.state) refl)
   where
-    shorter_by : (r : Released) → release_over c.seen ≡ Some r → length c.seen.waiting ≡ suc (length (released c.seen).waiting)
-    shorter_by r f = one_fewer c.seen sane (ap is_some f)
+    shorter_by : (r : Released) → release_over c.state ≡ Some r → length c.state.waiting ≡ suc (length (released c.state).waiting)
+    shorter_by r f = one_fewer c.state sane (ap is_some f)
 
-    refusal_counted : (s : Seen) (a q : ℕ) (r : Option Reason) → length c.seen.waiting ≡ suc (length s.waiting) → AreCounted m n (with_refusal (moved c s) a q r)
+    refusal_counted : (s : Seen) (a q : ℕ) (r : Option Reason) → length c.state.waiting ≡ suc (length s.waiting) → AreCounted m n (with_refusal (moved c s) a q r)
     refusal_counted s a q None l =
         let x = h.applied in let y = h.repeated in let z = h.held in let u = h.released in let v = h.refused in
         record { applied = x; repeated = y; held = z; released = omega arith; refused = omega arith }
     refusal_counted s a q (Some r) l =
-        let k = length-append c.refused ((a, q, r) ∷ []) in
+        let k = length-append c.counts.refused ((a, q, r) ∷ []) in
         let x = h.applied in let y = h.repeated in let z = h.held in let u = h.released in let v = h.refused in
         record { applied = x; repeated = y; held = z; released = omega arith; refused = omega arith }
 
-    go : (r : Option Released) → release_over c.seen ≡ r → AreCounted m n (with_release c r)
+    go : (r : Option Released) → release_over c.state ≡ r → AreCounted m n (with_release c r)
     go None f = h
-    go (Some r) f = refusal_counted (released c.seen) r.author r.seq r.refusal (shorter_by r f)
+    go (Some r) f = refusal_counted (released c.state) r.author r.seq r.refusal (shorter_by r f)

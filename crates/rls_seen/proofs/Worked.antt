@@ -157,7 +157,7 @@ abbrev sent : Message
 sent = message_over renamed 1
 
 abbrev got : Seen
-got = (taken_over second sent).seen
+got = (taken_over second sent).state
 
 same_runs : runs got ≡ runs renamed
 unfolding computing

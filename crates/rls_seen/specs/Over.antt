@@ -1,5 +1,5 @@
 -- What a replica answers to an operation, and how it changes, read over what it consists of.
-use Rattle.std.specs.Prelude.{◌≡◌, ℕ, zero, suc, Bool, true, false, not, ◌&&◌, ◌||◌, List, [], ◌∷◌, ◌++◌, length, ◌==◌, nat_le, slice_index, map, zip, find, Option, Some, None, if◌then◌else◌}
+use Rattle.std.specs.Prelude.{◌≡◌, ℕ, zero, suc, Bool, true, false, not, ◌||◌, List, [], ◌∷◌, ◌++◌, length, map, zip, find, Option, Some, None, if◌then◌else◌}
 use Rattle.std.specs.List.{list_any}
 use Rattle.rls_ident.specs.declared.tuple.Tuple.{Tuple}
 use Rattle.rls_ident.specs.declared.epoch_name.EpochName.{EpochName}
@@ -11,18 +11,16 @@ use Rattle.rls_runs.specs.Runs.{run_idents}
 use Rattle.rls_rename.specs.Renaming.{forward}
 use Rattle.rls_rename.specs.Tree.{Epochs, name_of, greatest}
 use Rattle.rls_ops.specs.declared.op.Op.{Op}
-use Rattle.rls_ops.specs.declared.op.Shape.{Shape}
 use Rattle.rls_ops.specs.declared.op.Body.{Body}
 use Rattle.rls_ops.specs.declared.op.Body.TheVariants.{Insert, Delete, Rename, Leave}
 use Rattle.rls_ops.specs.Shapes.{shape_fault}
-use Rattle.rls_ops.specs.Same.{op_eq}
 use Rattle.rls_ops.specs.Rows.{AcksSeen, row_of, left, raised, parted}
 use Rattle.rls_ops.specs.Rows as rows
-use Rattle.rls_model.specs.Answers.{Reason, Misshapen, Own, Forked, Left, Backward, WrongEpoch, WrongStem, UnknownTarget, Answer, Applies, Repeats, Waits, Refuses, Released}
+use Rattle.rls_model.specs.Answers.{Reason, Left, Backward, WrongEpoch, WrongStem, UnknownTarget, Answer, Applies, Waits, Released}
 use Rattle.rls_model.specs.Stems.{stems_after, due_offset, may_use}
 use Rattle.rls_model.specs.Epochs.{renaming_of, nodes_after}
 use Rattle.rls_model.specs.Document.{targets_of}
-use Rattle.rls_model.specs.Receiving.{without, with_waiting, waiting_under, verdict_of}
+use Rattle.rls_model.specs.Receiving.{without, with_waiting, answer_by}
 use Rattle.rls_seen.specs.Seen.{Seen, vector, members, count_over, unstable_over, greatest_over, due_over, translate_over}
 
 -- ---- why an operation whose causes are there is refused
@@ -55,22 +53,6 @@ refusal_over s o =
     else body_refusal_over s o o.body
 
 -- ---- the answer to an operation that arrives
-
--- by the vector and the reason to refuse it, where this operation waits under its number, or none does
-abbrev pub answer_beside : List ℕ → Option Reason → Op → Option Op → Answer
-answer_beside v reason o None = if not (at_most o.context v) then Waits else verdict_of reason
-answer_beside v reason o (Some w) =
-    if not (op_eq w o) then Refuses (Forked w)
-    else if not (at_most o.context v) then Waits
-    else verdict_of reason
-
--- by the vector, the own number, what waits and the reason to refuse it, where the shape has this fault, or none
-abbrev pub answer_by : Bool → List ℕ → ℕ → List Op → Option Reason → Op → Option Shape → Answer
-answer_by own v me W reason o (Some s) = Refuses (Misshapen s)
-answer_by own v me W reason o None =
-    if nat_le o.seq (slice_index v o.author) then Repeats
-    else if not own && (o.author == me) then Refuses (Own o.seq)
-    else answer_beside v reason o (waiting_under W o.author o.seq)
 
 -- where `own` says whether the replica's own operations are taken too
 unfoldable pub answer_over : Bool → Seen → Op → Answer

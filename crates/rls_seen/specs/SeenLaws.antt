@@ -65,7 +65,7 @@ EditedStands = (s : Seen) (t : State) (edit : Edit) → StandsFor s t →
 -- taking a message, in at most this many steps
 abbrev pub TakenStands : Type 0
 TakenStands = (limit : Limit) (s : Seen) (t : State) (m : Message) → IsMessage (members s) m → StandsFor s t →
-    (taken_of (taken_within limit s m) ≡ taken (take_within limit t m)) × StandsFor (taken_within limit s m).seen (take_within limit t m).state
+    (taken_of (taken_within limit s m) ≡ taken (take_within limit t m)) × StandsFor (taken_within limit s m).state (take_within limit t m).state
 
 -- the message for a member
 abbrev pub MessageAlike : Type 0

@@ -58,7 +58,7 @@ returns-clause-taken c =
 pub returns-clause-after : goal.returns-clause-after
 returns-clause-after c =
     let e : length c.taking.rest.items ≡ 0 = omega (arith, c.in_default.ensures.cases.0) in
-    sym (ap (λ d. d.seen) (none_left c.args.self.now c.taking.self c.taking.taken c.args.ops c.taking.rest.items (empty_is c.taking.rest.items e) c.taking.invariant.way))
+    sym (ap (λ d. d.state) (none_left c.args.self.now c.taking.self c.taking.taken c.args.ops c.taking.rest.items (empty_is c.taking.rest.items e) c.taking.invariant.way))
 
 pub returns-clause-stands : goal.returns-clause-stands
 returns-clause-stands c = λ t h.
