@@ -8,13 +8,14 @@ use Rattle.rls_model.specs.declared.edit.Edit.{Edit}
 use Rattle.rls_model.specs.declared.event.Event.{Event}
 use Rattle.rls_model.specs.declared.event.Event.TheVariants as events
 use Rattle.rls_model.specs.declared.event.StepError.{StepError}
-use Rattle.rls_model.specs.Answers.{Reason, Answer, Applies, Repeats, Waits, Refuses, Released}
+use Rattle.rls_model.specs.Answers.{Released}
 use Rattle.rls_model.specs.Receiving.{State, accept, receive, receive_after, release, release_after}
 use Rattle.rls_model.specs.Editing.{made}
-use Rattle.rls_model.specs.Taking.{Progress, started, moved, with_answer, with_refusal, with_release, receive_step, release_step, release_steps, with_releases, acknowledge, acknowledge_step, take_ops, take_within}
+use Rattle.rls_model.specs.Taking.{by_history, Progress, started, moved, with_answer, with_refusal, with_release, receive_step, release_step, release_steps, with_releases, acknowledge, acknowledge_step, take_ops, take_within}
 use Rattle.rls_model.specs.EditRun.{edit_step, edit_within}
 use Rattle.rls_model.specs.Worlds.{World, with_state, edit_at, send_at, deliver_at, step_of, unless, happens, fault_of}
 use Rattle.rls_model.specs.Laws.{CutShort}
+use Rattle.rls_model.proofs.Machines.{no_ops, no_releases}
 use Rattle.rls_model.proofs.WorldsLists.{set_get}
 
 -- the same progress with m more steps, or with no end
@@ -54,38 +55,15 @@ follows_nothing f p h e = record { steps = 0; same = λ m k. h m ∙ ap (λ n. w
 
 -- ---- the steps
 
-answer_within : (m : ℕ) (p : Progress) (o : Op) (a : Answer) → with_answer (within m p) o a ≡ within m (with_answer (endless p) o a)
-answer_within m p o Applies = refl
-answer_within m p o Repeats = refl
-answer_within m p o Waits = refl
-answer_within m p o (Refuses r) = refl
-
-answer_free : (p : Progress) (o : Op) (a : Answer) → endless (with_answer (endless p) o a) ≡ with_answer (endless p) o a
-answer_free p o Applies = refl
-answer_free p o Repeats = refl
-answer_free p o Waits = refl
-answer_free p o (Refuses r) = refl
-
-refusal_within : (m : ℕ) (p : Progress) (a n : ℕ) (r : Option Reason) → with_refusal (within m p) a n r ≡ within m (with_refusal (endless p) a n r)
-refusal_within m p a n None = refl
-refusal_within m p a n (Some r) = refl
-
-refusal_free : (p : Progress) (a n : ℕ) (r : Option Reason) → endless (with_refusal (endless p) a n r) ≡ with_refusal (endless p) a n r
-refusal_free p a n None = refl
-refusal_free p a n (Some r) = refl
-
 room : (m : ℕ) → 1 ≤ m → nat_lt 0 m ≡ true
 room m h = lt_test 0 m (omega arith)
 
 follows_receive : (o : Op) (p : Progress) → Follows (λ q. receive_step q o) p
 follows_receive o p =
-    let q = record p { state = receive_after p.state o } in
     record {
       steps = 1;
-      same = λ m h.
-          ap (λ b. if b then with_answer (moved (within m p) (receive_after p.state o)) o (receive p.state o) else within m p) (room m h)
-          ∙ answer_within (m - 1) q o (receive p.state o);
-      free = answer_free q o (receive p.state o);
+      same = λ m h. ap (λ b. if b then with_answer (moved (within m p) (receive_after p.state o)) o (receive p.state o) else within m p) (room m h);
+      free = refl;
     }
 
 follows_release : (p : Progress) → Follows release_step p
@@ -101,14 +79,13 @@ follows_release p = go (release p.state) refl
         same_both true x = refl
         same_both false x = refl
     go (Some r) e =
-        let q = record p { state = release_after p.state } in
         record {
           steps = 1;
           same = λ m h.
               ap (λ x. if nat_lt 0 m then with_release (within m p) x else within m p) e
               ∙ (ap (λ b. if b then with_refusal (moved (within m p) (release_after p.state)) r.author r.seq r.refusal else within m p) (room m h)
-              ∙ (refusal_within (m - 1) q r.author r.seq r.refusal ∙ ap (λ x. within (m - 1) (with_release (endless p) x)) (sym e)));
-          free = ap (λ x. endless (with_release (endless p) x)) e ∙ (refusal_free q r.author r.seq r.refusal ∙ ap (λ x. with_release (endless p) x) (sym e));
+              ∙ ap (λ x. within (m - 1) (with_release (endless p) x)) (sym e));
+          free = ap (λ x. endless (with_release (endless p) x)) e ∙ ap (λ x. with_release (endless p) x) (sym e);
         }
 
 follows_times : (n : ℕ) (p : Progress) → Follows (release_steps n) p
@@ -168,21 +145,13 @@ step_whole w (events.Drop i) = (0, λ m h. refl)
 
 -- ---- no step
 
-releases_none : (n : ℕ) (p : Progress) → release_steps n (within 0 p) ≡ within 0 p
-releases_none zero p = refl
-releases_none (suc n) p = releases_none n p
-
-ops_none : (os : List Op) (p : Progress) → take_ops (within 0 p) os ≡ within 0 p
-ops_none [] p = refl
-ops_none (o ∷ os) p = ap (λ q. take_ops q os) (releases_none (length (p.state).waiting) p) ∙ ops_none os p
-
 step_none : (w : World) (e : Event) → step_of (Some 0) w e ≡ w
 unfolding take_within edit_within
 step_none w (events.Edit i edit) = at (slice_get w.states i) refl
   where
     at : (o : Option State) → slice_get w.states i ≡ o → edit_at (Some 0) w i o edit ≡ w
     at None h = refl
-    at (Some s) h = ap (with_state w i) (ap (λ (q : Progress). q.state) (releases_none (length s.waiting) (started None s))) ∙ ap (λ ss. record w { states = ss }) (set_get w.states i s h)
+    at (Some s) h = ap (with_state w i) (ap (λ (q : Progress). q.state) (no_releases by_history (length s.waiting) (started (Some 0) s) refl)) ∙ ap (λ ss. record w { states = ss }) (set_get w.states i s h)
 step_none w (events.Send from to) = at (slice_get w.states from)
   where
     at : (o : Option State) → send_at (Some 0) w o to ≡ w
@@ -194,7 +163,7 @@ step_none w (events.Deliver k to) = at (slice_get w.states to) refl (slice_get w
     at None h g = refl
     at (Some s) h None = refl
     at (Some s) h (Some g) =
-        ap (with_state w to) (ap (λ (q : Progress). (acknowledge_step q g.from g.vector).state) (ops_none g.ops (started None s))) ∙ ap (λ ss. record w { states = ss }) (set_get w.states to s h)
+        ap (with_state w to) (ap (λ (q : Progress). (acknowledge_step q g.from g.vector).state) (no_ops by_history g.ops (started (Some 0) s) refl)) ∙ ap (λ ss. record w { states = ss }) (set_get w.states to s h)
 step_none w (events.Drop i) = refl
 
 pub cut_short : CutShort

@@ -1,5 +1,5 @@
 -- In a good world what a sent message brings stands in the history, or waits for its causes.
-use Rattle.std.proofs.Common.{◌≡◌, ℕ, zero, suc, ◌≤◌, Bool, true, false, List, [], ◌∷◌, length, refl, sym, ap, ◌∙◌, subst, inl, inr, ◌⊎◌, ⊎_elim}
+use Rattle.std.proofs.Common.{◌≡◌, ℕ, ◌≤◌, Bool, true, false, List, [], ◌∷◌, length, refl, sym, ap, ◌∙◌, subst, inl, inr, ◌⊎◌, ⊎_elim}
 use Rattle.std.specs.Prelude.{if◌then◌else◌, Option, Some, None}
 use Rattle.rls_ident.specs.Lists.{IsIn}
 use Rattle.rls_ident.specs.Vectors.{at_most}
@@ -13,14 +13,15 @@ use Rattle.rls_model.specs.History as history
 use Rattle.rls_model.specs.Stability.{is_counted}
 use Rattle.rls_model.specs.Fitting.{refusal}
 use Rattle.rls_model.specs.Receiving.{State, is_numbered, comes_before, with_waiting, without, accept, after, receive, receive_after, first_ready, release, after_refusal}
-use Rattle.rls_model.specs.Taking.{has_room, Progress, started, moved, with_answer, with_refusal, with_release, receive_step, release_step, release_steps, with_releases, acknowledge, acknowledge_step, take_ops, take_within}
+use Rattle.rls_model.specs.Taking.{by_history, has_room, Progress, started, moved, with_answer, with_refusal, with_release, receive_step, release_step, release_steps, with_releases, acknowledge, acknowledge_step, take_ops, take_within}
 use Rattle.rls_model.specs.Worlds.{World, with_state}
 use Rattle.rls_model.specs.Laws.{IsAt, SentArrives}
+use Rattle.rls_model.proofs.Machines.{ops_keep, received_limit, releases_keep}
 use Rattle.rls_model.proofs.WorldsNumbers.{number_counted, with_number}
 use Rattle.rls_model.proofs.WorldsInvariant.{IsHome, IsGood}
 use Rattle.rls_model.proofs.WorldsArrivals.{one_op, Received, Again, Held, Taken, received}
 use Rattle.rls_model.proofs.WorldsSteps.{IsGoing, here, start, ready_fits, received_going, released_by, release_is, released_going, releases_going}
-use Rattle.rls_model.proofs.WorldsRests.{released_done, receive_limit, taken_done}
+use Rattle.rls_model.proofs.WorldsRests.{released_done, taken_done}
 use Rattle.rls_model.proofs.WorldsLaws.{good_after, rests_after}
 
 -- ---- what waits
@@ -130,21 +131,20 @@ module _ (w : World) (i : ℕ) (s : State) (h : IsAt w i s) where
       go true = subst (λ (q : Progress). IsThere q.state o) (sym (release_is p (first_ready p.state) refl)) (found (first_ready p.state) refl)
       go false = t
 
-  releases_keep : (n : ℕ) (p : Progress) (o : Op) → IsGoing w i p → IsThere p.state o → IsThere (release_steps n p).state o
-  releases_keep zero p o g t = t
-  releases_keep (suc n) p o g t = releases_keep n (release_step p) o (released_going w i s p h g) (release_keeps p o g t)
+  -- and both hold on the way
+  abbrev Goes : Op → Progress → Type 0
+  Goes o p = IsGoing w i p × IsThere p.state o
+
+  releases_there : (n : ℕ) (p : Progress) (o : Op) → IsGoing w i p → IsThere p.state o → IsThere (release_steps n p).state o
+  releases_there n p o g t = (releases_keep by_history (Goes o) (λ q k. (released_going w i s q h k.0, release_keeps q o k.0 k.1)) n p (g, t)).1
 
   -- one operation after another
   going : (p : Progress) (m : Message) (x : Op) → IsGoing w i p → IsIn m w.sent → IsIn x m.ops → IsGoing w i (receive_step p x)
   going p m x g k q = received_going w i s p x h g (((g.good).message m k).ops x q)
 
-  ops_keep : (p : Progress) (m : Message) (os : List Op) (o : Op) → IsGoing w i p → IsIn m w.sent → ((x : Op) → IsIn x os → IsIn x m.ops) → IsThere p.state o → IsThere (take_ops p os).state o
-  ops_keep p m [] o g k f t = t
-  ops_keep p m (x ∷ os) o g k f t =
-      let q = receive_step p x in
-      let r = going p m x g k (f x (inl refl)) in
-      let n = length (q.state).waiting in
-      ops_keep (with_releases q) m os o (releases_going w i s n q h r) k (λ y u. f y (inr u)) (releases_keep n q o r (receive_keeps p o x g (((g.good).message m k).ops x (f x (inl refl))) t))
+  ops_stay : (p : Progress) (m : Message) (os : List Op) (o : Op) → IsGoing w i p → IsIn m w.sent → ((x : Op) → IsIn x os → IsIn x m.ops) → IsThere p.state o → IsThere (take_ops p os).state o
+  ops_stay p m os o g k f t =
+      (ops_keep by_history (λ x. IsIn x m.ops) (Goes o) (λ q x u r. (going q m x r.0 k u, receive_keeps q o x r.0 ((((r.0).good).message m k).ops x u) r.1)) (λ q r. (released_going w i s q h r.0, release_keeps q o r.0 r.1)) os p f (g, t)).1
 
   ops_there : (p : Progress) (m : Message) (os : List Op) (o : Op) → p.limit ≡ None → IsGoing w i p → IsIn m w.sent → ((x : Op) → IsIn x os → IsIn x m.ops) → IsIn o os → IsThere (take_ops p os).state o
   ops_there p m [] o e g k f u = absurd u
@@ -154,9 +154,9 @@ module _ (w : World) (i : ℕ) (s : State) (h : IsAt w i s) where
       let n = length (q.state).waiting in
       let next = releases_going w i s n q h r in
       ⊎_elim
-      (λ z. ops_keep (with_releases q) m os o next k (λ y v. f y (inr v))
-      (releases_keep n q o r (subst (λ y. IsThere (receive_step p x).state y) z (receive_there p x e g (((g.good).message m k).ops x (f x (inl refl)))))))
-      (λ z. ops_there (with_releases q) m os o (released_done q (receive_limit p x e)).0 next k (λ y v. f y (inr v)) z)
+      (λ z. ops_stay (with_releases q) m os o next k (λ y v. f y (inr v))
+      (releases_there n q o r (subst (λ y. IsThere (receive_step p x).state y) z (receive_there p x e g (((g.good).message m k).ops x (f x (inl refl)))))))
+      (λ z. ops_there (with_releases q) m os o (released_done q (received_limit by_history p x e)).0 next k (λ y v. f y (inr v)) z)
       u
 
 noted_keeps : (p : Progress) (a : ℕ) (v : List ℕ) (o : Op) → IsThere p.state o → IsThere (acknowledge_step p a v).state o

@@ -1,6 +1,6 @@
 -- Commands of members, each done whole or not at all, keep a good world and refuse nothing.
-use Rattle.std.proofs.Common.{◌≡◌, ◌≤◌, ℕ, suc, List, [], ◌∷◌, ◌++◌, refl, sym, ap, ◌∙◌, subst, append-nil}
-use Rattle.std.specs.Prelude.{slice_get, Option, Some, None, Result, Ok, Err}
+use Rattle.std.proofs.Common.{◌≡◌, ◌≤◌, ℕ, List, [], ◌∷◌, ◌++◌, refl, sym, ap, ◌∙◌, subst, append-nil}
+use Rattle.std.specs.Prelude.{slice_get, Option, Some, None, Result}
 use Rattle.rls_ident.specs.Lists.{IsIn}
 use Rattle.rls_ident.proofs.Members.{get_in}
 use Rattle.rls_ops.specs.declared.message.Message.{Message}
@@ -8,37 +8,31 @@ use Rattle.rls_model.specs.declared.edit.Edit.{Edit}
 use Rattle.rls_model.specs.declared.edit.EditError.{EditError}
 use Rattle.rls_model.specs.Answers.{Reason}
 use Rattle.rls_model.specs.Receiving.{State}
-use Rattle.rls_model.specs.Taking.{Progress, started, with_releases, message_for, take_message}
-use Rattle.rls_model.specs.EditRun.{edit_step, Run, Done, Stopped, go_on, run_from, run_lines, read_edit, run_edits}
+use Rattle.rls_model.specs.Taking.{by_history, Progress, started, with_releases, message_for, take_message}
+use Rattle.rls_model.specs.EditRun.{edit_step, Run, Done, Stopped, run_lines, read_edit, run_edits}
 use Rattle.rls_model.specs.Worlds.{World, empty_world, with_state, send_at, deliver_at}
 use Rattle.rls_model.specs.Laws.{IsAt, IsFront, AreEdits, Command, Edits, Sends, Takes, after_run, edits_at, obeyed, obeyed_all, refused_run, refused_edits, refused_taken, told_refused, IsCommand, AreCommands, CommandsClean}
 use Rattle.rls_model.specs.WellFormed.{IsLarge}
+use Rattle.rls_model.proofs.Machines.{running_keeps}
 use Rattle.rls_model.proofs.WorldsLists.{set_get}
 use Rattle.rls_model.proofs.WorldsNumbers.{front_self, front_trans}
 use Rattle.rls_model.proofs.WorldsInvariant.{IsGood}
 use Rattle.rls_model.proofs.WorldsSteps.{taken_going}
 use Rattle.rls_model.proofs.WorldsLaws.{empty_good, equal_good, sends, posts}
-use Rattle.rls_model.proofs.WorldsScripts.{AllReadWell, end_or, edits_read, lines_going}
-use Rattle.rls_model.proofs.WorldsPast.{edit_on, releases_on, taken_on}
+use Rattle.rls_model.proofs.WorldsScripts.{AllReadWell, edits_read, lines_going}
+use Rattle.rls_model.proofs.WorldsPast.{GoesOn, edit_on, releases_on, taken_on}
 use Rattle.rls_model.proofs.WorldsGroup.{Belongs, set_belongs, sent_belongs, empty_belongs}
 
 -- ---- lines go on from the history before them
 
-from_on : {L F : Type 0} (reads : State → L → Result Edit F) (line : ℕ) (p q : Progress) (ls : List L) → run_from reads line p ls ≡ Done q → IsFront (p.state).history (q.state).history
-from_on reads line p q [] e = subst (λ (x : Progress). IsFront (p.state).history (x.state).history) (ap (end_or p) e) (front_self (p.state).history)
-from_on {F = F} reads line p q (l ∷ ls) e = go (reads p.state l) e (λ r k. from_on reads (suc line) r q ls k)
-  where
-    go : (f : Result Edit F) → go_on line f (λ edit. run_from reads (suc line) (with_releases (edit_step p edit)) ls) ≡ Done q →
-        ((r : Progress) → run_from reads (suc line) r ls ≡ Done q → IsFront (r.state).history (q.state).history) → IsFront (p.state).history (q.state).history
-    go (Ok edit) k ih =
-        let r = edit_step p edit in
-        let v = with_releases r in
-        front_trans (p.state).history (v.state).history (q.state).history (front_trans (p.state).history (r.state).history (v.state).history (edit_on p edit) (releases_on r)) (ih v k)
-    go (Err x) k ih = absurd (cc)
-
 pub lines_on : {L F : Type 0} (reads : State → L → Result Edit F) (s : State) (q : Progress) (ls : List L) → run_lines reads s ls ≡ Done q → IsFront s.history (q.state).history
 unfolding run_lines
-lines_on reads s q ls e = from_on reads 1 (started None s) q ls e
+lines_on reads s q ls e = running_keeps by_history reads (GoesOn (started None s)) ls (λ l u p edit f h. goes_on p edit h) 1 (started None s) q e (front_self s.history)
+  where
+    goes_on : (p : Progress) (edit : Edit) → IsFront s.history (p.state).history → IsFront s.history (with_releases (edit_step p edit)).state.history
+    goes_on p edit h =
+        let r = edit_step p edit in
+        front_trans s.history (p.state).history ((with_releases r).state).history h (front_trans (p.state).history (r.state).history ((with_releases r).state).history (edit_on p edit) (releases_on r))
 
 -- ---- what a member does at its state
 

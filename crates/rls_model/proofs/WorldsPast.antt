@@ -9,17 +9,19 @@ use Rattle.rls_model.specs.declared.event.Event.{Event}
 use Rattle.rls_model.specs.declared.event.Event.TheVariants as events
 use Rattle.rls_model.specs.declared.event.StepError.{StepError}
 use Rattle.rls_model.specs.declared.event.StepError.TheVariants as faults
-use Rattle.rls_model.specs.Answers.{Reason, Answer, Applies, Repeats, Waits, Refuses, Released}
+use Rattle.rls_model.specs.Answers.{Reason, Answer, Applies, Repeats, Waits, Refuses}
 use Rattle.rls_model.specs.History.{History}
 use Rattle.rls_model.specs.History as history
 use Rattle.rls_model.specs.Stability.{is_counted}
 use Rattle.rls_model.specs.Fitting.{refusal}
-use Rattle.rls_model.specs.Receiving.{State, accept, after, receive, receive_after, first_ready, release, after_refusal, after_release, release_after}
+use Rattle.rls_model.specs.Receiving.{State, accept, after, receive, first_ready, after_refusal, after_release}
 use Rattle.rls_model.specs.Editing.{made, edit_fault}
-use Rattle.rls_model.specs.Taking.{Limit, has_room, Progress, started, moved, with_answer, with_refusal, with_release, receive_step, release_step, release_steps, with_releases, acknowledge, acknowledge_step, take_ops, take_within}
+use Rattle.rls_model.specs.Taking.{by_history, Limit, has_room, Progress, started, moved, with_releases, acknowledge_step, take_ops, take_within}
 use Rattle.rls_model.specs.EditRun.{edit_step, edit_within}
 use Rattle.rls_model.specs.Worlds.{World, of_edit, or_else, edit_fault_at, fault_of, with_state, edit_at, send_at, deliver_at, step_of, unless, happens, Happening, run}
 use Rattle.rls_model.specs.Laws.{edited, IsAt, IsFront, IsPast, PastKept}
+use Rattle.rls_model.specs.MachineLaws.{StepsKeep}
+use Rattle.rls_model.proofs.Machines.{acknowledge_keeps, edit_keeps, states_after_ops, states_after_releases}
 use Rattle.rls_model.proofs.WorldsLists.{get_set_same, got_below}
 use Rattle.rls_model.proofs.WorldsNumbers.{front_self, front_trans}
 use Rattle.rls_model.proofs.WorldsInvariant.{at_later}
@@ -33,74 +35,36 @@ GoesOn p q = IsFront (p.state).history (q.state).history
 on_trans : (p q r : Progress) → GoesOn p q → GoesOn q r → GoesOn p r
 on_trans p q r h k = front_trans (p.state).history (q.state).history (r.state).history h k
 
-after_on : (r : Answer) (s : State) (o : Op) → IsFront s.history (after r s o).history
-after_on Applies s o = inr (front_self s.history)
-after_on Waits s o = front_self s.history
-after_on Repeats s o = front_self s.history
-after_on (Refuses r) s o = front_self s.history
-
-answer_on : (p q : Progress) (o : Op) (r : Answer) → GoesOn p q → GoesOn p (with_answer q o r)
-answer_on p q o Applies h = h
-answer_on p q o Waits h = h
-answer_on p q o Repeats h = h
-answer_on p q o (Refuses r) h = h
-
-pub receive_on : (p : Progress) (o : Op) → GoesOn p (receive_step p o)
-receive_on p o = go (has_room p.limit)
+-- a history goes on through each step
+steps_on : (H : History) → StepsKeep by_history (λ o. Unit {0}) (λ t. IsFront H t.history)
+steps_on H = record { receives = λ s o u h. answered (receive s o) s o h; releases = λ s h. ready (first_ready s) s h }
   where
-    go : (b : Bool) → GoesOn p (if b then with_answer (moved p (receive_after p.state o)) o (receive p.state o) else p)
-    go true = answer_on p (moved p (receive_after p.state o)) o (receive p.state o) (after_on (receive p.state o) p.state o)
-    go false = front_self (p.state).history
+    answered : (r : Answer) (s : State) (o : Op) → IsFront H s.history → IsFront H (after r s o).history
+    answered Applies s o h = inr h
+    answered Waits s o h = h
+    answered Repeats s o h = h
+    answered (Refuses r) s o h = h
 
-release_after_on : (s : State) → IsFront s.history (release_after s).history
-release_after_on s = ready (first_ready s)
-  where
-    fits : (w : Op) (r : Option Reason) → IsFront s.history (after_refusal r s w).history
-    fits w None = inr (front_self s.history)
-    fits w (Some r) = front_self s.history
+    fits : (r : Option Reason) (s : State) (w : Op) → IsFront H s.history → IsFront H (after_refusal r s w).history
+    fits None s w h = inr h
+    fits (Some r) s w h = h
 
-    ready : (w : Option Op) → IsFront s.history (after_release s w).history
-    ready None = front_self s.history
-    ready (Some w) = fits w (refusal s.history w)
-
-pub release_on : (p : Progress) → GoesOn p (release_step p)
-release_on p = go (has_room p.limit)
-  where
-    counted : (a n : ℕ) (r : Option Reason) (q : Progress) → GoesOn p q → GoesOn p (with_refusal q a n r)
-    counted a n None q h = h
-    counted a n (Some r) q h = h
-
-    released : (r : Option Released) → GoesOn p (with_release p r)
-    released None = front_self (p.state).history
-    released (Some r) = counted r.author r.seq r.refusal (moved p (release_after p.state)) (release_after_on p.state)
-
-    go : (b : Bool) → GoesOn p (if b then with_release p (release p.state) else p)
-    go true = released (release p.state)
-    go false = front_self (p.state).history
-
-pub steps_on : (n : ℕ) (p : Progress) → GoesOn p (release_steps n p)
-steps_on zero p = front_self (p.state).history
-steps_on (suc n) p = on_trans p (release_step p) (release_steps n (release_step p)) (release_on p) (steps_on n (release_step p))
+    ready : (w : Option Op) (s : State) → IsFront H s.history → IsFront H (after_release s w).history
+    ready None s h = h
+    ready (Some w) s h = fits (refusal s.history w) s w h
 
 pub releases_on : (p : Progress) → GoesOn p (with_releases p)
-releases_on p = steps_on (length (p.state).waiting) p
+releases_on p = let H = (p.state).history in states_after_releases by_history (λ t. IsFront H t.history) (steps_on H).releases (length (p.state).waiting) p (front_self H)
 
 pub ops_on : (p : Progress) (os : List Op) → GoesOn p (take_ops p os)
-ops_on p [] = front_self (p.state).history
-ops_on p (o ∷ os) =
-    let q = receive_step p o in
-    on_trans p q (take_ops (with_releases q) os) (receive_on p o) (on_trans q (with_releases q) (take_ops (with_releases q) os) (releases_on q) (ops_on (with_releases q) os))
+ops_on p os = let H = (p.state).history in states_after_ops by_history (λ o. Unit {0}) (λ t. IsFront H t.history) (steps_on H) os p (λ o u. tt) (front_self H)
 
 pub noted_on : (p : Progress) (a : ℕ) (v : List ℕ) → GoesOn p (acknowledge_step p a v)
-noted_on p a v = go (has_room p.limit)
+noted_on p a v = let H = (p.state).history in acknowledge_keeps by_history (λ t. IsFront H t.history) p a v (note (is_counted H a v)) (front_self H)
   where
     note : (b : Bool) → IsFront (p.state).history (if b then record { history = history.Then (p.state).history (history.Acknowledged a v); waiting = (p.state).waiting } else p.state).history
     note true = inr (front_self (p.state).history)
     note false = front_self (p.state).history
-
-    go : (b : Bool) → GoesOn p (if b then moved p (acknowledge p.state a v) else p)
-    go true = note (is_counted (p.state).history a v)
-    go false = front_self (p.state).history
 
 pub taken_on : (limit : Limit) (s : State) (m : Message) → IsFront s.history (take_within limit s m).state.history
 unfolding take_within
@@ -110,11 +74,7 @@ taken_on limit s m =
     on_trans p q (acknowledge_step q m.from m.vector) (ops_on p m.ops) (noted_on q m.from m.vector)
 
 pub edit_on : (p : Progress) (edit : Edit) → GoesOn p (edit_step p edit)
-edit_on p edit = go (has_room p.limit)
-  where
-    go : (b : Bool) → GoesOn p (if b then moved p (accept p.state (made (p.state).history edit)) else p)
-    go true = inr (front_self (p.state).history)
-    go false = front_self (p.state).history
+edit_on p edit = let H = (p.state).history in edit_keeps by_history (λ t. IsFront H t.history) p edit (inr (front_self H)) (front_self H)
 
 pub edited_on : (limit : Limit) (s : State) (edit : Edit) → IsFront s.history (edit_within limit s edit).state.history
 unfolding edit_within

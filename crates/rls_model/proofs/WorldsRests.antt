@@ -9,17 +9,18 @@ use Rattle.rls_ident.proofs.Vectors.{below_raised}
 use Rattle.rls_ops.specs.declared.op.Op.{Op}
 use Rattle.rls_ops.specs.declared.message.Message.{Message}
 use Rattle.rls_model.specs.declared.edit.Edit.{Edit}
-use Rattle.rls_model.specs.Answers.{Reason, Answer, Applies, Repeats, Waits, Refuses}
+use Rattle.rls_model.specs.Answers.{Reason}
 use Rattle.rls_model.specs.History.{Accepted, Acknowledged, History, Then, ops, count, count_of}
 use Rattle.rls_model.specs.Stability.{is_counted}
 use Rattle.rls_model.specs.Fitting.{refusal}
-use Rattle.rls_model.specs.Receiving.{State, without, accept, after_refusal, receive, receive_after, first_ready, release}
+use Rattle.rls_model.specs.Receiving.{State, without, accept, after_refusal, first_ready, release, release_of}
 use Rattle.rls_model.specs.Legal.{IsLegal}
 use Rattle.rls_model.specs.Editing.{made}
-use Rattle.rls_model.specs.Taking.{Limit, has_room, one_less, Progress, started, moved, with_answer, with_refusal, with_release, receive_step, release_step, release_steps, with_releases, acknowledge, acknowledge_step, take_ops, take_within}
+use Rattle.rls_model.specs.Taking.{by_history, Limit, has_room, one_less, Progress, started, moved, with_refusal, with_release, receive_step, release_step, release_steps, with_releases, acknowledge, acknowledge_step, take_ops, take_within}
 use Rattle.rls_model.specs.EditRun.{edit_step, edit_within}
 use Rattle.rls_model.specs.Worlds.{World}
 use Rattle.rls_model.specs.Laws.{IsAt}
+use Rattle.rls_model.proofs.Machines.{none_ready, received_limit, releases_stay, taking_keeps}
 use Rattle.rls_model.proofs.WorldsNumbers.{IsFront, with_number, front_legal, front_me, front_ops, op_front, own_context}
 use Rattle.rls_model.proofs.WorldsWaiting.{in_without, less_without, numbered_test}
 use Rattle.rls_model.proofs.WorldsInvariant.{IsHome, IsMember, IsGood}
@@ -33,15 +34,10 @@ IsAtRest s = first_ready s ≡ None
 -- ---- releases
 
 rest_step : (p : Progress) → IsAtRest p.state → release_step p ≡ p
-rest_step p r = go (has_room p.limit)
-  where
-    go : (b : Bool) → (if b then with_release p (release p.state) else p) ≡ p
-    go true = release_is p None r
-    go false = refl
+rest_step p r = none_ready by_history p (ap (release_of p.state) r)
 
 pub rest_steps : (n : ℕ) (p : Progress) → IsAtRest p.state → release_steps n p ≡ p
-rest_steps zero p r = refl
-rest_steps (suc n) p r = ap (release_steps n) (rest_step p r) ∙ rest_steps n p r
+rest_steps n p r = releases_stay by_history n p (rest_step p r)
 
 empty_rests : (t : Op → Bool) (W : List Op) → length W ≤ 0 → find t W ≡ None
 empty_rests t [] h = refl
@@ -83,22 +79,8 @@ IsDone p = (p.limit ≡ None) × IsAtRest p.state
 pub released_done : (p : Progress) → p.limit ≡ None → IsDone (with_releases p)
 released_done p e = steps_rest (length (p.state).waiting) p e (omega arith)
 
-answer_limit : (p : Progress) (o : Op) (r : Answer) → (with_answer p o r).limit ≡ p.limit
-answer_limit p o Applies = refl
-answer_limit p o Repeats = refl
-answer_limit p o Waits = refl
-answer_limit p o (Refuses r) = refl
-
-pub receive_limit : (p : Progress) (o : Op) → p.limit ≡ None → (receive_step p o).limit ≡ None
-receive_limit p o e = go (has_room p.limit)
-  where
-    go : (b : Bool) → (if b then with_answer (moved p (receive_after p.state o)) o (receive p.state o) else p).limit ≡ None
-    go true = answer_limit (moved p (receive_after p.state o)) o (receive p.state o) ∙ ap one_less e
-    go false = e
-
 ops_done : (p : Progress) (os : List Op) → IsDone p → IsDone (take_ops p os)
-ops_done p [] d = d
-ops_done p (o ∷ os) d = ops_done (with_releases (receive_step p o)) os (released_done (receive_step p o) (receive_limit p o d.0))
+ops_done p os d = taking_keeps by_history (λ os. IsDone) (λ o os q e. released_done (receive_step q o) (received_limit by_history q o e.0)) os p d
 
 noted_done : (p : Progress) (a : ℕ) (v : List ℕ) → IsDone p → IsDone (acknowledge_step p a v)
 noted_done p a v d = go (has_room p.limit)

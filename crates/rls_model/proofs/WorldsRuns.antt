@@ -1,5 +1,5 @@
 -- Lines that are run to their end lead to the world that whole events lead to.
-use Rattle.std.proofs.Common.{◌≡◌, ℕ, zero, suc, List, [], ◌∷◌, ◌++◌, length, refl, sym, ap, ◌∙◌, subst}
+use Rattle.std.proofs.Common.{◌≡◌, ℕ, zero, suc, List, [], ◌∷◌, ◌++◌, length, refl, sym, ap, ◌∙◌, subst, inl, inr}
 use Rattle.std.specs.Prelude.{if◌then◌else◌, slice_get, Option, Some, None, Result, Ok, Err}
 use Rattle.rls_ident.proofs.Members.{lt_test}
 use Rattle.rls_ops.specs.declared.op.Op.{Op}
@@ -7,24 +7,19 @@ use Rattle.rls_model.specs.declared.edit.Edit.{Edit}
 use Rattle.rls_model.specs.declared.edit.EditError.{EditError}
 use Rattle.rls_model.specs.declared.event.Event.TheVariants as events
 use Rattle.rls_model.specs.declared.event.StepError.TheVariants as faults
-use Rattle.rls_model.specs.Answers.{Reason}
-use Rattle.rls_model.specs.Fitting.{refusal}
-use Rattle.rls_model.specs.Receiving.{State, accept, first_ready, release, after_refusal, after_release, release_after, released_times}
+use Rattle.rls_model.specs.Receiving.{State, accept, first_ready, after_release, release_after, released_times}
 use Rattle.rls_model.specs.WellFormed.{IsSmall}
 use Rattle.rls_model.specs.Editing.{made, edit_fault}
-use Rattle.rls_model.specs.Taking.{has_room, one_less, Progress, started, moved, with_refusal, with_release, release_step, release_steps, with_releases}
+use Rattle.rls_model.specs.Taking.{by_history, one_less, Progress, started, release_step, release_steps, with_releases}
 use Rattle.rls_model.specs.EditRun.{edit_step, edit_within, Done, go_on, run_from, run_lines, unless_fault, read_edit}
 use Rattle.rls_model.specs.Worlds.{World, or_else, of_edit, edit_fault_at, fault_of, with_state, edit_at, step_of, unless, happens, Happening, whole, run, AreEvents, AreWhole}
 use Rattle.rls_model.specs.Laws.{IsAt, IsAfter, edit_events, EditsAreEvents}
 use Rattle.rls_model.proofs.WorldsLists.{get_set_same, got_below, set_get, set_set}
 use Rattle.rls_model.proofs.WorldsSteps.{released_by, release_is}
-use Rattle.rls_model.proofs.WorldsScripts.{AllReadWell, end_or}
+use Rattle.rls_model.proofs.Machines.{end_or, edit_unlimited, release_unlimited}
+use Rattle.rls_model.proofs.WorldsScripts.{AllReadWell}
 
 -- ---- steps without a limit
-
-refusal_same : (p : Progress) (a q : ℕ) (r : Option Reason) → ((with_refusal p a q r).limit ≡ p.limit) × ((with_refusal p a q r).state ≡ p.state)
-refusal_same p a q None = (refl, refl)
-refusal_same p a q (Some r) = (refl, refl)
 
 -- without a limit, at this state
 abbrev pub IsWhole : Progress → State → Type 0
@@ -32,16 +27,12 @@ IsWhole p s = (p.limit ≡ None) × (p.state ≡ s)
 
 release_whole : (p : Progress) → p.limit ≡ None → IsWhole (release_step p) (release_after p.state)
 release_whole p e =
-    let step : release_step p ≡ released_by p (first_ready p.state) =
-    ap (λ l. if has_room l then with_release p (release p.state) else p) e ∙ release_is p (first_ready p.state) refl in
+    let step : release_step p ≡ released_by p (first_ready p.state) = release_unlimited by_history p e ∙ release_is p (first_ready p.state) refl in
     subst (λ (q : Progress). IsWhole q (release_after p.state)) (sym step) (go (first_ready p.state))
   where
     go : (m : Option Op) → IsWhole (released_by p m) (after_release p.state m)
     go None = (e, refl)
-    go (Some x) =
-        let r = refusal (p.state).history x in
-        let s = refusal_same (moved p (after_refusal r p.state x)) x.author x.seq r in
-        (s.0 ∙ ap one_less e, s.1)
+    go (Some x) = (ap one_less e, refl)
 
 steps_whole : (n : ℕ) (p : Progress) → p.limit ≡ None → IsWhole (release_steps n p) (released_times n p.state)
 steps_whole zero p e = (e, refl)
@@ -51,9 +42,7 @@ steps_whole (suc n) p e =
     (s.0, s.1 ∙ ap (released_times n) r.1)
 
 edit_whole : (p : Progress) (edit : Edit) → p.limit ≡ None → IsWhole (edit_step p edit) (accept p.state (made (p.state).history edit))
-edit_whole p edit e =
-    let q : Progress = moved p (accept p.state (made (p.state).history edit)) in
-    subst (λ (x : Progress). IsWhole x (accept p.state (made (p.state).history edit))) (sym (ap (λ l. if has_room l then q else p) e)) (ap one_less e, refl)
+edit_whole p edit e = subst (λ (x : Progress). IsWhole x (accept p.state (made (p.state).history edit))) (sym (edit_unlimited by_history p edit e)) (ap one_less e, refl)
 
 -- the state after an edit and what it releases
 abbrev pub state_after : State → Edit → State
@@ -90,12 +79,12 @@ from_lines : {L F : Type 0} (reads : State → L → Result Edit F) (w : World) 
 from_lines reads w i line p q [] m h l a e =
     let f : p ≡ q = ap (end_or p) e in
     ([], tt, tt, sym (same_world w i q.state (subst (λ (x : Progress). IsAt w i x.state) f h)))
-from_lines {L = L} {F = F} reads w i line p q (x ∷ ls) m h l a e = go (reads p.state x) refl e (λ r v k n c. from_lines reads v i (suc line) r q ls m k n a.1 c)
+from_lines {L = L} {F = F} reads w i line p q (x ∷ ls) m h l a e = go (reads p.state x) refl e (λ r v k n c. from_lines reads v i (suc line) r q ls m k n (λ y u. a y (inr u)) c)
   where
     go : (f : Result Edit F) → reads p.state x ≡ f → go_on line f (λ edit. run_from reads (suc line) (with_releases (edit_step p edit)) ls) ≡ Done q →
         ((r : Progress) (v : World) → IsAt v i r.state → r.limit ≡ None → run_from reads (suc line) r ls ≡ Done q → Leads v (with_state v i q.state)) → Leads w (with_state w i q.state)
     go (Ok edit) f k ih =
-        let b = a.0 p.state edit f in
+        let b = a x (inl refl) p.state edit f in
         let r = with_releases (edit_step p edit) in
         let v = with_state w i r.state in
         let n = ih r v (get_set_same w.states i p.state r.state h) (with_edit p edit l).0 k in

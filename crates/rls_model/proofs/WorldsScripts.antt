@@ -1,15 +1,17 @@
 -- In a good world the edits of a script refuse nothing that waits.
-use Rattle.std.proofs.Common.{◌≡◌, ℕ, suc, Bool, true, false, List, [], ◌∷◌, length, refl, sym, ap, ◌∙◌, subst}
-use Rattle.std.specs.Prelude.{if◌then◌else◌, Option, Some, None, Result, Ok, Err}
+use Rattle.std.proofs.Common.{◌≡◌, ℕ, Bool, true, false, List, [], ◌∷◌, length, refl, sym, ap, ◌∙◌, subst, inl, inr}
+use Rattle.std.specs.Prelude.{if◌then◌else◌, Option, Some, None, Result, Ok}
 use Rattle.rls_model.specs.declared.edit.Edit.{Edit}
 use Rattle.rls_model.specs.declared.edit.EditError.{EditError}
 use Rattle.rls_model.specs.Receiving.{State, accept}
 use Rattle.rls_model.specs.WellFormed.{IsEdit}
 use Rattle.rls_model.specs.Editing.{made, edit_fault}
-use Rattle.rls_model.specs.Taking.{has_room, Progress, started, moved, with_releases}
-use Rattle.rls_model.specs.EditRun.{edit_step, Run, Done, Stopped, go_on, run_from, run_lines, unless_fault, read_edit}
+use Rattle.rls_model.specs.Taking.{by_history, has_room, Progress, started, moved, with_releases}
+use Rattle.rls_model.specs.EditRun.{edit_step, Done, run_lines, unless_fault, read_edit}
 use Rattle.rls_model.specs.Worlds.{World, with_state}
 use Rattle.rls_model.specs.Laws.{IsAt, AreEdits, EditsClean}
+use Rattle.rls_ident.specs.Lists.{IsIn}
+use Rattle.rls_model.proofs.Machines.{running_keeps}
 use Rattle.rls_model.proofs.WorldsInvariant.{IsGood}
 use Rattle.rls_model.proofs.WorldsLaws.{good_after}
 use Rattle.rls_model.proofs.WorldsSteps.{IsGoing, here, keep, start, edits_own, releases_going}
@@ -26,35 +28,20 @@ edit_going w i s p edit h g e f = go (has_room p.limit)
     }
     go false = g
 
--- where all lines were run, else p
-abbrev pub end_or : {F : Type 0} → Progress → Run State F → Progress
-end_or p (Done q) = q
-end_or p (Stopped line fault) = p
-
 -- what a line is read as is well formed and has no fault
 abbrev pub ReadsWell : {L F : Type 0} → (State → L → Result Edit F) → L → Type 0
 ReadsWell {L} {F} reads l = (s : State) (edit : Edit) → reads s l ≡ Ok edit → IsEdit edit × (edit_fault s.history edit ≡ None)
 
 abbrev pub AllReadWell : {L F : Type 0} → (State → L → Result Edit F) → List L → Type 0
-AllReadWell reads [] = Unit {0}
-AllReadWell reads (l ∷ ls) = ReadsWell reads l × AllReadWell reads ls
-
-run_going : {L F : Type 0} (reads : State → L → Result Edit F) (w : World) (i : ℕ) (s : State) (line : ℕ) (p q : Progress) (ls : List L) → IsAt w i s → IsGoing w i p → AllReadWell reads ls → run_from reads line p ls ≡ Done q → IsGoing w i q
-run_going reads w i s line p q [] h g a e = subst (IsGoing w i) (ap (end_or p) e) g
-run_going {L = L} {F = F} reads w i s line p q (l ∷ ls) h g a e = go (reads p.state l) refl e (λ r k. run_going reads w i s (suc line) (with_releases r) q ls h k a.1)
-  where
-    go : (f : Result Edit F) → reads p.state l ≡ f → go_on line f (λ edit. run_from reads (suc line) (with_releases (edit_step p edit)) ls) ≡ Done q →
-        ((r : Progress) → IsGoing w i (with_releases r) → run_from reads (suc line) (with_releases r) ls ≡ Done q → IsGoing w i q) → IsGoing w i q
-    go (Ok edit) f k ih =
-        let r = edit_step p edit in
-        let b = a.0 p.state edit f in
-        ih r (releases_going w i s (length (r.state).waiting) r h (edit_going w i s p edit h g b.0 b.1)) k
-    go (Err x) f k ih = absurd (cc)
+AllReadWell {L} reads ls = (l : L) → IsIn l ls → ReadsWell reads l
 
 -- lines that are not stopped refuse nothing, and leave a good world
 pub lines_going : {L F : Type 0} (reads : State → L → Result Edit F) (w : World) (i : ℕ) (s : State) (q : Progress) (ls : List L) → IsGood w → IsAt w i s → AllReadWell reads ls → run_lines reads s ls ≡ Done q → IsGoing w i q
 unfolding run_lines
-lines_going reads w i s q ls g h a e = run_going reads w i s 1 (started None s) q ls h (start w i s None g h) a e
+lines_going {L} reads w i s q ls g h a e = running_keeps by_history reads (IsGoing w i) ls line 1 (started None s) q e (start w i s None g h)
+  where
+    line : (l : L) → IsIn l ls → (p : Progress) (edit : Edit) → reads p.state l ≡ Ok edit → IsGoing w i p → IsGoing w i (with_releases (edit_step p edit))
+    line l u p edit f k = let r = edit_step p edit in let b = a l u p.state edit f in releases_going w i s (length (r.state).waiting) r h (edit_going w i s p edit h k b.0 b.1)
 
 read_well : (edit : Edit) → IsEdit edit → ReadsWell read_edit edit
 read_well edit h s e k = go (edit_fault s.history edit) refl k
@@ -64,8 +51,9 @@ read_well edit h s e k = go (edit_fault s.history edit) refl k
     go (Some x) f k = absurd (cc)
 
 pub edits_read : (es : List Edit) → AreEdits es → AllReadWell read_edit es
-edits_read [] a = tt
-edits_read (e ∷ es) a = (read_well e a.0, edits_read es a.1)
+edits_read [] a l u = absurd u
+edits_read (e ∷ es) a l (inl f) = subst (ReadsWell read_edit) f (read_well e a.0)
+edits_read (e ∷ es) a l (inr u) = edits_read es a.1 l u
 
 -- edits that are not stopped refuse nothing
 pub edits_clean : EditsClean

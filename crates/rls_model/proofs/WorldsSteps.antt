@@ -1,5 +1,5 @@
 -- Each step of a member keeps the invariant and refuses nothing.
-use Rattle.std.proofs.Common.{◌≡◌, ℕ, zero, suc, ◌<◌, Bool, true, false, List, [], ◌∷◌, length, refl, sym, ap, ◌∙◌, subst, arith, inl, inr, ◌⊎◌, ⊎_elim}
+use Rattle.std.proofs.Common.{◌≡◌, ℕ, ◌<◌, Bool, true, false, List, [], length, refl, sym, ap, ◌∙◌, subst, arith, inl, inr, ◌⊎◌, ⊎_elim}
 use Rattle.std.specs.Prelude.{if◌then◌else◌, All, Option, Some, None}
 use Rattle.rls_ident.specs.Lists.{IsIn}
 use Rattle.rls_ident.specs.Vectors.{at_most}
@@ -15,10 +15,11 @@ use Rattle.rls_model.specs.Receiving.{State, without, accept, after, receive, re
 use Rattle.rls_model.specs.WellFormed.{IsSmall, IsOp, IsEdit}
 use Rattle.rls_model.specs.Legal.{MayAccept}
 use Rattle.rls_model.specs.Editing.{made, edit_fault}
-use Rattle.rls_model.specs.Taking.{Limit, has_room, Progress, started, moved, with_answer, with_refusal, with_release, receive_step, release_step, release_steps, with_releases, acknowledge, acknowledge_step, take_ops, take_within}
+use Rattle.rls_model.specs.Taking.{by_history, Limit, has_room, Progress, started, moved, with_answer, with_refusal, with_release, receive_step, release_step, release_steps, acknowledge, acknowledge_step, take_ops, take_within}
 use Rattle.rls_model.specs.EditRun.{edit_step, edit_within}
 use Rattle.rls_model.specs.Worlds.{World, with_state}
 use Rattle.rls_model.specs.Laws.{IsAt}
+use Rattle.rls_model.proofs.Machines.{ops_keep, releases_keep}
 use Rattle.rls_model.proofs.Stable.{length-count}
 use Rattle.rls_model.proofs.Ranges.{counts_small}
 use Rattle.rls_model.proofs.Made as making
@@ -166,17 +167,13 @@ released_going w i s p h g = go (has_room p.limit)
     go false = g
 
 pub releases_going : (w : World) (i : ℕ) (s : State) (n : ℕ) (p : Progress) → IsAt w i s → IsGoing w i p → IsGoing w i (release_steps n p)
-releases_going w i s zero p h g = g
-releases_going w i s (suc n) p h g = releases_going w i s n (release_step p) h (released_going w i s p h g)
+releases_going w i s n p h g = releases_keep by_history (IsGoing w i) (λ q r. released_going w i s q h r) n p g
 
 -- ---- whole events
 
 pub ops_going : (w : World) (i : ℕ) (s : State) (p : Progress) (m : Message) (os : List Op) → IsAt w i s → IsGoing w i p → IsIn m w.sent → ((o : Op) → IsIn o os → IsIn o m.ops) → IsGoing w i (take_ops p os)
-ops_going w i s p m [] h g k f = g
-ops_going w i s p m (o ∷ os) h g k f =
-    let q = receive_step p o in
-    let r = received_going w i s p o h g (((g.good).message m k).ops o (f o (inl refl))) in
-    ops_going w i s (with_releases q) m os h (releases_going w i s (length (q.state).waiting) q h r) k (λ u v. f u (inr v))
+ops_going w i s p m os h g k f =
+    ops_keep by_history (λ o. IsIn o m.ops) (IsGoing w i) (λ q o u r. received_going w i s q o h r (((r.good).message m k).ops o u)) (λ q r. released_going w i s q h r) os p f g
 
 pub noted_going : (w : World) (i : ℕ) (s : State) (p : Progress) (m : Message) → IsAt w i s → IsGoing w i p → IsIn m w.sent → IsGoing w i (acknowledge_step p m.from m.vector)
 noted_going w i s p m h g k = go (has_room p.limit)
