@@ -133,6 +133,16 @@ module _ {X : Type 0} (M : Machine X) where
 
 -- ---- two machines whose steps agree
 
+-- they still agree where what the one keeps is known too
+pub agree_keeping : {X Y : Type 0} (M : Machine X) (N : Machine Y) (A : Op → Type 0) (S : X → Y → Type 0) (P : X → Type 0) → StepsAgree M N A S → StepsKeep M A P → StepsAgree M N A (λ s t. P s × S s t)
+agree_keeping M N A S P f k = record {
+  answers = λ s t o w h. f.answers s t o w h.1;
+  receives = λ s t o w h. (k.receives s o w h.0, f.receives s t o w h.1);
+  waiting = λ s t h. f.waiting s t h.1;
+  next_releases = λ s t h. f.next_releases s t h.1;
+  releases = λ s t h. (k.releases s h.0, f.releases s t h.1);
+}
+
 module _ {X Y : Type 0} (S : X → Y → Type 0) where
   -- both take the step, or neither does
   step_alike : (p p' : Stage X) (q q' : Stage Y) → IsAlike S p q → IsAlike S p' q' → IsAlike S (cond (has_room p.limit) p' p) (cond (has_room q.limit) q' q)

@@ -11,15 +11,16 @@ use Rattle.rls_model.specs.Answers.{Reason, Answer, Applies, Repeats, Waits, Ref
 use Rattle.rls_model.specs.Receiving.{State}
 use Rattle.rls_model.specs.Taking.{Limit, has_room}
 use Rattle.rls_model.specs.Taking as model
+use Rattle.rls_model.proofs.Machines.{no_ops, no_releases, none_ready, ops_limit, received_limit, released_limit, releases_stay, states_after_ops}
 use Rattle.rls_model.proofs.OneTree.{author_below}
 use Rattle.rls_seen.specs.Seen.{Seen, vector, members}
 use Rattle.rls_seen.specs.Over.{accepted, holding, after_answer, answer_over, received, refusal_over, first_ready, release_of, release_over, after_refusal, after_release, released, released_times, acknowledged, IsPartReleased}
 use Rattle.rls_model.specs.WellFormed.{AreOps}
-use Rattle.rls_seen.specs.Messages.{Course, started, moved, with_release, receive_step, release_step, release_steps, with_releases, take_ops, taken_within, taken_over, taken_of}
+use Rattle.rls_seen.specs.Messages.{by_parts, Course, started, moved, with_release, receive_step, release_step, release_steps, with_releases, take_ops, taken_within, taken_over, taken_of}
 use Rattle.rls_seen.specs.Sane.{IsSane}
 use Rattle.rls_seen.proofs.Accepting.{acks_mine}
-use Rattle.rls_seen.proofs.Counting.{members_received, members_released}
-use Rattle.rls_seen.proofs.Repeating.{within, more_steps, no_ops, no_releases, acknowledged_seen, one_fewer, received_seen, received_limit, released_none, released_seen, released_limit, released_step_sane, Reaches, ReachesReady, reaches_received, reaches_released, reaches_rest, no_more, none_is}
+use Rattle.rls_seen.proofs.Counting.{members_kept}
+use Rattle.rls_seen.proofs.Repeating.{within, more_steps, acknowledged_seen, one_fewer, received_seen, released_none, released_seen, released_step_sane, Reaches, ReachesReady, reaches_received, reaches_released, reaches_rest, no_more, none_is}
 use Rattle.rls_seen.proofs.Sizes.{sum_small}
 use Rattle.rls_seen.proofs.Staying.{ready}
 use Rattle.rls_seen.proofs.Taking.{started_goes, ops_go}
@@ -103,18 +104,10 @@ pub none_released : (s : Seen) → is_some (release_over s) ≡ false → releas
 none_released s f = released_none s (none_is (release_over s) f)
 
 pub step_done : (c : Course) → is_some (release_over c.state) ≡ false → release_step c ≡ c
-step_done c e = ap (λ r. cond (has_room c.limit) (with_release c r) c) (none_is (release_over c.state) e) ∙ same (has_room c.limit)
-  where
-    same : (b : Bool) → cond b c c ≡ c
-    same true = refl
-    same false = refl
+step_done c e = none_ready by_parts c (none_is (release_over c.state) e)
 
 pub releases_done : (c : Course) → is_some (release_over c.state) ≡ false → with_releases c ≡ c
-releases_done c e = go (length c.state.waiting)
-  where
-    go : (n : ℕ) → release_steps n c ≡ c
-    go zero = refl
-    go (suc n) = ap (release_steps n) (step_done c e) ∙ go n
+releases_done c e = releases_stay by_parts (length c.state.waiting) c (step_done c e)
 
 pub releases_more : (c : Course) → c.limit ≡ None → IsSane c.state → is_some (release_over c.state) ≡ true → with_releases (release_step c) ≡ with_releases c
 releases_more c e h i =
@@ -145,14 +138,14 @@ on_way_ready (suc m) s os k c rest l e h w = bool_cases (is_some (release_over c
     let x = one_fewer c.state h f in
     let y : length (release_step c).state.waiting ≡ length (released c.state).waiting = ap (λ (u : Seen). length u.waiting) (released_seen c e) in
     subst (λ d. IsOnWay s os d rest) (releases_more c e h f)
-    (on_way_ready m s os (suc k) (release_step c) rest (omega arith) (released_limit c e) (released_step_sane c e h) (reaches_released s os k c rest e h f w)))
+    (on_way_ready m s os (suc k) (release_step c) rest (omega arith) (released_limit by_parts c e) (released_step_sane c e h) (reaches_released s os k c rest e h f w)))
     (λ f. ready_done s os k c rest f w)
 
 part_now : (s : Seen) (os : List Op) (k : ℕ) (c : Course) (rest : List Op) → ReachesReady s os k c rest → IsPartOfOps s os c.state
 part_now s os k c rest h =
     let e : take_ops (started (Some k) s) os ≡ within (Some 0) c =
     ap (λ l. take_ops (started l s) os) (sym (no_more k))
-    ∙ (h (Some 0) ∙ (ap (λ d. take_ops d rest) (no_releases (length c.state.waiting) (within (Some 0) c) refl) ∙ no_ops rest (within (Some 0) c) refl)) in
+    ∙ (h (Some 0) ∙ (ap (λ d. take_ops d rest) (no_releases by_parts (length c.state.waiting) (within (Some 0) c) refl) ∙ no_ops by_parts rest (within (Some 0) c) refl)) in
     (k, ap (λ d. d.limit) e, sym (ap (λ d. d.state) e))
 
 -- or only some of it
@@ -161,7 +154,7 @@ part_ready zero s os k c rest e h w = part_now s os k c rest w
 part_ready (suc n) s os k c rest e h w = bool_cases (is_some (release_over c.state))
     (λ f.
     subst (λ u. IsPartOfOps s os (released_times n u)) (released_seen c e)
-    (part_ready n s os (suc k) (release_step c) rest (released_limit c e) (released_step_sane c e h) (reaches_released s os k c rest e h f w)))
+    (part_ready n s os (suc k) (release_step c) rest (released_limit by_parts c e) (released_step_sane c e h) (reaches_released s os k c rest e h f w)))
     (λ f. subst (λ u. IsPartOfOps s os (released_times n u)) (sym (released_none c.state (none_is (release_over c.state) f))) (part_ready n s os k c rest e h w))
 
 -- ---- releases in two parts
@@ -196,7 +189,7 @@ pub taken_part : (s r u : Seen) (t : Taken) (o : Op) (os rest : List Op) → IsS
 taken_part s r u t o os rest h p w =
     let e = step_seen r t o in
     subst (IsPartOfOps s os) (ap (released_times p.0) e ∙ sym p.1)
-    (part_ready p.0 s os (suc w.0) (receive_step (course r t) o) rest (received_limit (course r t) o refl) (subst IsSane (sym e) h) (taken_ready s r t o os rest w))
+    (part_ready p.0 s os (suc w.0) (receive_step (course r t) o) rest (received_limit by_parts (course r t) o refl) (subst IsSane (sym e) h) (taken_ready s r t o os rest w))
 
 -- none of it
 pub taken_received : (s r : Seen) (t : Taken) (o : Op) (os rest : List Op) → IsSane (received r o) → IsOnWay s os (course r t) (o ∷ rest) → IsPartOfOps s os (received r o)
@@ -208,7 +201,7 @@ pub taken_all : (s r u : Seen) (t v : Taken) (o : Op) (os rest : List Op) → Is
 taken_all s r u t v o os rest h e w =
     let d = receive_step (course r t) o in
     subst (λ c. IsOnWay s os c rest) (sym (e ∙ ap with_releases (received_course r t o)))
-    (on_way_ready (length d.state.waiting) s os (suc w.0) d rest (omega arith) (received_limit (course r t) o refl) (subst IsSane (sym (step_seen r t o)) h) (taken_ready s r t o os rest w))
+    (on_way_ready (length d.state.waiting) s os (suc w.0) d rest (omega arith) (received_limit by_parts (course r t) o refl) (subst IsSane (sym (step_seen r t o)) h) (taken_ready s r t o os rest w))
 
 -- what is counted then
 pub unreceived_counts : (s : Seen) (t : Taken) (o : Op) → CountsReleased s t → CountsReleased (received s o) t
@@ -241,19 +234,8 @@ pub ops_all_stands : (s u : Seen) (v : Taken) (t : State) (os : List Op) → Are
 ops_all_stands s u v t os w e h =
     let g = ops_go os (members s) (started None s) (model.started None t) w (started_goes None s t h) in (
       ap taken_of (sym e) ∙ g.counts,
-      subst (λ (c : Course). StandsFor c.state (model.take_ops (model.started None t) os).state) e g.stands,
+      subst (λ (c : Course). StandsFor c.state (model.take_ops (model.started None t) os).state) e g.states.1,
     )
-
--- no limit is left behind
-releases_limit : (n : ℕ) (c : Course) → c.limit ≡ None → (release_steps n c).limit ≡ None
-releases_limit zero c e = e
-releases_limit (suc n) c e = releases_limit n (release_step c) (released_limit c e)
-
-ops_limit : (os : List Op) (c : Course) → c.limit ≡ None → (take_ops c os).limit ≡ None
-ops_limit [] c e = e
-ops_limit (o ∷ os) c e =
-    let d = receive_step c o in
-    ops_limit os (with_releases d) (releases_limit (length d.state.waiting) d (received_limit c o e))
 
 -- the message is taken
 pub message_counts : (s : Seen) (m : Message) → taken_of (taken_over s m) ≡ taken_of (take_ops (started None s) m.ops)
@@ -269,17 +251,8 @@ message_counts s m = go (has_room (take_ops (started None s) m.ops).limit)
 
 pub message_seen : (s : Seen) (m : Message) → (taken_over s m).state ≡ acknowledged (take_ops (started None s) m.ops).state m.from m.vector
 unfolding taken_within
-message_seen s m = acknowledged_seen (take_ops (started None s) m.ops) m.from m.vector (ops_limit m.ops (started None s) refl)
+message_seen s m = acknowledged_seen (take_ops (started None s) m.ops) m.from m.vector (ops_limit by_parts m.ops (started None s) refl)
 
 -- the count of members stays
-members_releases : (n : ℕ) (c : Course) → c.limit ≡ None → members (release_steps n c).state ≡ members c.state
-members_releases zero c e = refl
-members_releases (suc n) c e = members_releases n (release_step c) (released_limit c e) ∙ (ap members (released_seen c e) ∙ members_released c.state)
-
-pub members_ops : (os : List Op) (c : Course) → c.limit ≡ None → members (take_ops c os).state ≡ members c.state
-members_ops [] c e = refl
-members_ops (o ∷ os) c e =
-    let d = receive_step c o in
-    let k = received_limit c o e in
-    members_ops os (with_releases d) (releases_limit (length d.state.waiting) d k)
-    ∙ (members_releases (length d.state.waiting) d k ∙ (ap members (received_seen c o e) ∙ members_received c.state o))
+pub members_ops : (os : List Op) (c : Course) → members (take_ops c os).state ≡ members c.state
+members_ops os c = states_after_ops by_parts (λ o. Unit {0}) (λ s. members s ≡ members c.state) (members_kept (λ o. Unit {0}) (members c.state)) os c (λ o u. tt) refl

@@ -5,12 +5,13 @@ use Rattle.rls_ops.specs.declared.message.Message.{Message}
 use Rattle.rls_model.specs.Receiving.{State}
 use Rattle.rls_model.specs.Taking.{has_room, take_within}
 use Rattle.rls_model.specs.Taking as model
+use Rattle.rls_model.proofs.Machines.{no_ops}
 use Rattle.rls_seen.specs.Seen.{Seen, members}
 use Rattle.rls_seen.specs.Over.{acknowledged}
 use Rattle.rls_model.specs.WellFormed.{AreOps}
-use Rattle.rls_seen.specs.Messages.{Course, started, moved, take_ops, taken_within, IsMessage, IsPartTaken}
+use Rattle.rls_seen.specs.Messages.{by_parts, Course, started, moved, take_ops, taken_within, IsMessage, IsPartTaken}
 use Rattle.rls_seen.specs.Stands.{StandsFor}
-use Rattle.rls_seen.proofs.Repeating.{within, no_ops, Reaches, reaches_start, no_more}
+use Rattle.rls_seen.proofs.Repeating.{within, Reaches, reaches_start, no_more}
 use Rattle.rls_seen.proofs.Taking.{started_goes, ops_go, taken_alike}
 use Rattle.rls_replica.specs.Steps.{IsPartOfOps}
 
@@ -19,7 +20,7 @@ use Rattle.rls_replica.specs.Steps.{IsPartOfOps}
 -- some of the steps were taken
 pub ops_part : (s : Seen) (os : List Op) (k : ℕ) (c : Course) (rest : List Op) → Reaches s os k c rest → IsPartOfOps s os c.state
 ops_part s os k c rest h =
-    let e : take_ops (started (Some k) s) os ≡ within (Some 0) c = ap (λ l. take_ops (started l s) os) (sym (no_more k)) ∙ (h (Some 0) ∙ no_ops rest (within (Some 0) c) refl) in
+    let e : take_ops (started (Some k) s) os ≡ within (Some 0) c = ap (λ l. take_ops (started l s) os) (sym (no_more k)) ∙ (h (Some 0) ∙ no_ops by_parts rest (within (Some 0) c) refl) in
     (k, ap (λ d. d.limit) e, sym (ap (λ d. d.state) e))
 
 -- none was
@@ -29,7 +30,7 @@ ops_none s os = ops_part s os 0 (started None s) os (reaches_start s os)
 -- it stands for the history behind as many
 pub ops_part_stands : (s u : Seen) (t : State) (os : List Op) → AreOps os → IsPartOfOps s os u → StandsFor s t → (n : ℕ) × StandsFor u (model.take_ops (model.started (Some n) t) os).state
 ops_part_stands s u t os w p h =
-    (p.0, subst (λ x. StandsFor x (model.take_ops (model.started (Some p.0) t) os).state) (sym p.2) (ops_go os (members s) (started (Some p.0) s) (model.started (Some p.0) t) w (started_goes (Some p.0) s t h)).stands)
+    (p.0, subst (λ x. StandsFor x (model.take_ops (model.started (Some p.0) t) os).state) (sym p.2) (ops_go os (members s) (started (Some p.0) s) (model.started (Some p.0) t) w (started_goes (Some p.0) s t h)).states.1)
 
 pub message_part_stands : (s u : Seen) (t : State) (m : Message) → IsMessage (members s) m → IsPartTaken s m u → StandsFor s t → (n : ℕ) × StandsFor u (take_within (Some n) t m).state
 message_part_stands s u t m w p h = (p.0, subst (λ x. StandsFor x (take_within (Some p.0) t m).state) (sym p.1) (taken_alike (Some p.0) s t m w h).1)

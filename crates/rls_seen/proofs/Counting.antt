@@ -5,6 +5,8 @@ use Rattle.rls_ops.specs.declared.op.Op.{Op}
 use Rattle.rls_ops.specs.Rows.{noted}
 use Rattle.rls_ops.specs.Rows as rows
 use Rattle.rls_model.specs.Answers.{Reason, Answer, Applies, Repeats, Waits, Refuses}
+use Rattle.rls_model.specs.MachineLaws.{StepsKeep}
+use Rattle.rls_seen.specs.Messages.{by_parts}
 use Rattle.rls_seen.specs.Seen.{Seen, members}
 use Rattle.rls_seen.specs.Over.{accepted, holding, after_answer, answer_over, received, refusal_over, first_ready, after_refusal, after_release, released, acknowledged}
 use Rattle.rls_seen.proofs.Accepting.{acks_mine}
@@ -44,3 +46,7 @@ members_acknowledged s a v = go (rows.counts s.acks a v)
     go : (b : Bool) → length (cond b (noted s.acks a v) s.acks).mine ≡ length s.acks.mine
     go true = refl
     go false = refl
+
+-- receiving and releasing keep it
+pub members_kept : (A : Op → Type 0) (n : ℕ) → StepsKeep by_parts A (λ s. members s ≡ n)
+members_kept A n = record { receives = λ s o w e. members_received s o ∙ e; releases = λ s e. members_released s ∙ e }

@@ -6,6 +6,7 @@ pub mod Releasing
 pub mod Noting
 pub mod Editing
 pub mod Counting
+pub mod Agreeing
 pub mod Taking
 pub mod Sending
 pub mod Keeping

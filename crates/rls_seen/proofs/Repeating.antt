@@ -1,5 +1,5 @@
 -- Releasing one after another, and taking a message step by step, for code that does so in loops.
-use Rattle.std.proofs.Common.{◌≡◌, ℕ, zero, suc, ◌+◌, ◌-◌, ◌<◌, ◌≤◌, Bool, true, false, cond, List, [], ◌∷◌, length, refl, sym, ap, ◌∙◌, subst, arith, inl, inr, Option, Some, None, is_some, length-append}
+use Rattle.std.proofs.Common.{◌≡◌, ℕ, zero, suc, ◌+◌, ◌-◌, ◌<◌, ◌≤◌, true, false, cond, List, [], ◌∷◌, length, refl, sym, ap, ◌∙◌, subst, arith, inl, inr, Option, Some, None, is_some, length-append}
 use Rattle.std.proofs.lemmas.Bool.Decides.{nat_tests}
 use Rattle.rls_ident.specs.Lists.{IsIn}
 use Rattle.rls_ident.proofs.Members.{in_all, lt_test}
@@ -8,11 +8,12 @@ use Rattle.rls_ops.specs.declared.message.Message.{Message}
 use Rattle.rls_ops.proofs.Waiting.{before_other, length-without, length-with}
 use Rattle.rls_model.specs.Answers.{Reason, Answer, Applies, Repeats, Waits, Refuses, Released}
 use Rattle.rls_model.specs.Receiving.{without, waiting_under, is_numbered, comes_before}
-use Rattle.rls_model.specs.Taking.{Limit, has_room, one_less}
+use Rattle.rls_model.specs.Taking.{Limit, has_room}
+use Rattle.rls_model.proofs.Machines.{acknowledge_unlimited, no_ops, none_ready, receive_unlimited, release_unlimited, releases_stay}
 use Rattle.rls_model.proofs.WorldsWaiting.{numbered_test}
 use Rattle.rls_seen.specs.Seen.{Seen, vector, members}
 use Rattle.rls_seen.specs.Over.{accepted, holding, after_answer, answer_over, received, refusal_over, first_ready, release_of, release_over, after_refusal, after_release, released, released_times, released_all, acknowledged, IsPartReleased}
-use Rattle.rls_seen.specs.Messages.{Course, started, moved, with_answer, with_refusal, with_release, receive_step, release_step, release_steps, with_releases, acknowledge_step, take_ops, taken_within, IsPartTaken}
+use Rattle.rls_seen.specs.Messages.{by_parts, Course, started, moved, with_answer, with_refusal, with_release, receive_step, release_step, release_steps, with_releases, acknowledge_step, take_ops, taken_within, IsPartTaken}
 use Rattle.rls_seen.specs.Sane.{IsSane, AreHeld}
 use Rattle.rls_seen.proofs.Staying.{ready, released_sane}
 
@@ -130,20 +131,6 @@ abbrev pub more_steps : ℕ → Limit → Limit
 more_steps k None = None
 more_steps k (Some n) = Some (k + n)
 
--- where no step is left, nothing more comes
-no_release : (c : Course) → c.limit ≡ Some 0 → release_step c ≡ c
-no_release c e = ap (λ b. cond b (with_release c (release_over c.state)) c) (ap has_room e)
-
-pub no_releases : (n : ℕ) (c : Course) → c.limit ≡ Some 0 → release_steps n c ≡ c
-no_releases zero c e = refl
-no_releases (suc n) c e = ap (release_steps n) (no_release c e) ∙ no_releases n c e
-
-pub no_ops : (os : List Op) (c : Course) → c.limit ≡ Some 0 → take_ops c os ≡ c
-no_ops [] c e = refl
-no_ops (o ∷ os) c e =
-    let r : receive_step c o ≡ c = ap (λ b. cond b (with_answer (moved c (received c.state o)) o (answer_over false c.state o)) c) (ap has_room e) in
-    ap (λ d. take_ops (with_releases d) os) r ∙ (ap (λ d. take_ops d os) (no_releases (length c.state.waiting) c e) ∙ no_ops os c e)
-
 less : (n : ℕ) → 1 + n - 1 ≡ n
 less n = omega arith
 
@@ -162,7 +149,7 @@ receive_within limit c o e =
     let a = answer_over false c.state o in
     ap (λ b. cond b (with_answer (moved (within (more_steps 1 limit) c) s) o a) (within (more_steps 1 limit) c)) (room limit)
     ∙ (ap (λ d. with_answer d o a) (moved_within limit c s e)
-    ∙ ap (within limit) (sym (ap (λ b. cond b (with_answer (moved c s) o a) c) (ap has_room e))))
+    ∙ ap (within limit) (sym (receive_unlimited by_parts c o e)))
 
 release_within : (limit : Limit) (c : Course) → c.limit ≡ None → is_some (release_over c.state) ≡ true → release_step (within (more_steps 1 limit) c) ≡ within limit (release_step c)
 release_within limit c e i =
@@ -172,55 +159,21 @@ release_within limit c e i =
     ap (λ b. cond b (with_release d (release_over c.state)) d) (room limit)
     ∙ (ap (with_release d) p.1
     ∙ (ap (λ d. with_refusal d r.author r.seq r.refusal) (moved_within limit c (released c.state) e)
-    ∙ ap (within limit) (sym (ap (λ b. cond b (with_release c (release_over c.state)) c) (ap has_room e) ∙ ap (with_release c) p.1))))
-
-refusal_seen : (c : Course) (a q : ℕ) (r : Option Reason) → (with_refusal c a q r).state ≡ c.state
-refusal_seen c a q None = refl
-refusal_seen c a q (Some r) = refl
-
-answer_seen : (c : Course) (o : Op) (a : Answer) → (with_answer c o a).state ≡ c.state
-answer_seen c o Applies = refl
-answer_seen c o Repeats = refl
-answer_seen c o Waits = refl
-answer_seen c o (Refuses r) = refl
+    ∙ ap (within limit) (sym (release_unlimited by_parts c e ∙ ap (with_release c) p.1))))
 
 -- what is seen after a step without a limit
 pub received_seen : (c : Course) (o : Op) → c.limit ≡ None → (receive_step c o).state ≡ received c.state o
-received_seen c o e =
-    let x = with_answer (moved c (received c.state o)) o (answer_over false c.state o) in
-    ap (λ b. (cond b x c).state) (ap has_room e) ∙ answer_seen (moved c (received c.state o)) o (answer_over false c.state o)
+received_seen c o e = ap (λ (d : Course). d.state) (receive_unlimited by_parts c o e)
 
 pub released_seen : (c : Course) → c.limit ≡ None → (release_step c).state ≡ released c.state
-released_seen c e = ap (λ b. (cond b (with_release c (release_over c.state)) c).state) (ap has_room e) ∙ go (release_over c.state) refl
+released_seen c e = ap (λ (d : Course). d.state) (release_unlimited by_parts c e) ∙ go (release_over c.state) refl
   where
     go : (r : Option Released) → release_over c.state ≡ r → (with_release c r).state ≡ released c.state
     go None f = sym (released_none c.state f)
-    go (Some r) f = refusal_seen (moved c (released c.state)) r.author r.seq r.refusal
+    go (Some r) f = refl
 
 pub acknowledged_seen : (c : Course) (a : ℕ) (v : List ℕ) → c.limit ≡ None → (acknowledge_step c a v).state ≡ acknowledged c.state a v
-acknowledged_seen c a v e = ap (λ b. (cond b (moved c (acknowledged c.state a v)) c).state) (ap has_room e)
-
-answer_limit : (c : Course) (o : Op) (a : Answer) → (with_answer c o a).limit ≡ c.limit
-answer_limit c o Applies = refl
-answer_limit c o Repeats = refl
-answer_limit c o Waits = refl
-answer_limit c o (Refuses r) = refl
-
-pub received_limit : (c : Course) (o : Op) → c.limit ≡ None → (receive_step c o).limit ≡ None
-received_limit c o e =
-    let x = with_answer (moved c (received c.state o)) o (answer_over false c.state o) in
-    ap (λ b. (cond b x c).limit) (ap has_room e) ∙ (answer_limit (moved c (received c.state o)) o (answer_over false c.state o) ∙ ap one_less e)
-
-pub released_limit : (c : Course) → c.limit ≡ None → (release_step c).limit ≡ None
-released_limit c e = ap (λ b. (cond b (with_release c (release_over c.state)) c).limit) (ap has_room e) ∙ go (release_over c.state)
-  where
-    refusal_limit : (d : Course) (a q : ℕ) (r : Option Reason) → (with_refusal d a q r).limit ≡ d.limit
-    refusal_limit d a q None = refl
-    refusal_limit d a q (Some r) = refl
-
-    go : (r : Option Released) → (with_release c r).limit ≡ None
-    go None = e
-    go (Some r) = refusal_limit (moved c (released c.state)) r.author r.seq r.refusal ∙ ap one_less e
+acknowledged_seen c a v e = ap (λ (d : Course). d.state) (acknowledge_unlimited by_parts c a v e)
 
 -- behind k steps the course is c, and these operations are left
 abbrev pub Reaches : Seen → List Op → ℕ → Course → List Op → Type 0
@@ -267,21 +220,9 @@ reaches_released s os k c rest e sane i h limit =
 
 -- none is ready any more
 pub reaches_rest : (s : Seen) (os : List Op) (k : ℕ) (c : Course) (rest : List Op) → is_some (release_over c.state) ≡ false → ReachesReady s os k c rest → Reaches s os k c rest
-reaches_rest s os k c rest i h limit = h limit ∙ ap (λ d. take_ops d rest) (done (length c.state.waiting))
-  where
-    d : Course
-    d = within limit c
-
-    still : release_step d ≡ d
-    still = ap (λ r. cond (has_room limit) (with_release d r) d) (none_is (release_over c.state) i) ∙ same (has_room limit)
-      where
-        same : (b : Bool) → cond b d d ≡ d
-        same true = refl
-        same false = refl
-
-    done : (n : ℕ) → release_steps n d ≡ d
-    done zero = refl
-    done (suc n) = ap (release_steps n) still ∙ done n
+reaches_rest s os k c rest i h limit =
+    let d = within limit c in
+    h limit ∙ ap (λ x. take_ops x rest) (releases_stay by_parts (length c.state.waiting) d (none_ready by_parts d (none_is (release_over c.state) i)))
 
 within_none : (c : Course) → c.limit ≡ None → within None c ≡ c
 within_none c e = ap (λ l. within l c) (sym e)
@@ -298,7 +239,7 @@ unfolding taken_within
 part_taken s m k c rest h = (
   k,
   sym (ap (λ l. (acknowledge_step (take_ops (started l s) m.ops) m.from m.vector).state) (sym (no_more k))
-      ∙ ap (λ d. (acknowledge_step d m.from m.vector).state) (h (Some 0) ∙ no_ops rest (within (Some 0) c) refl)),
+      ∙ ap (λ d. (acknowledge_step d m.from m.vector).state) (h (Some 0) ∙ no_ops by_parts rest (within (Some 0) c) refl)),
 )
 
 -- ---- at each step
@@ -339,12 +280,11 @@ step_counted m n c o (Refuses r) h =
 pub received_counted : (m n : ℕ) (c : Course) (o : Op) → c.limit ≡ None → AreCounted m n c → AreCounted m (suc n) (receive_step c o)
 unfolding received
 received_counted m n c o e h =
-    let x = with_answer (moved c (received c.state o)) o (answer_over false c.state o) in
-    subst (AreCounted m (suc n)) (sym (ap (λ b. cond b x c) (ap has_room e))) (step_counted m n c o (answer_over false c.state o) h)
+    subst (AreCounted m (suc n)) (sym (receive_unlimited by_parts c o e)) (step_counted m n c o (answer_over false c.state o) h)
 
 pub released_counted : (m n : ℕ) (c : Course) → c.limit ≡ None → IsSane c.state → AreCounted m n c → AreCounted m n (release_step c)
 released_counted m n c e sane h =
-    subst (AreCounted m n) (sym (ap (λ b. cond b (with_release c (release_over c.state)) c) (ap has_room e))) (go (release_over c.state) refl)
+    subst (AreCounted m n) (sym (release_unlimited by_parts c e)) (go (release_over c.state) refl)
   where
     shorter_by : (r : Released) → release_over c.state ≡ Some r → length c.state.waiting ≡ suc (length (released c.state).waiting)
     shorter_by r f = one_fewer c.state sane (ap is_some f)

@@ -18,12 +18,16 @@ use Rattle.rls_model.specs.Parts.{parts}
 use Rattle.rls_model.specs.Receiving.{State, accept, receive, receive_after, replay, replay_after, release, release_after, release_all}
 use Rattle.rls_model.specs.Retained.{retained, counts}
 use Rattle.rls_model.specs.Stability.{is_counted}
-use Rattle.rls_model.specs.Taking.{Limit, acknowledge, take_within, taken, message_for}
+use Rattle.rls_model.specs.EditRun.{run_edits}
+use Rattle.rls_model.specs.Laws.{AreEdits}
+use Rattle.rls_model.specs.Machine.{started, run_on, read_edit_on}
+use Rattle.rls_model.specs.MachineLaws.{StepsAgree, EditsAgree, IsSameRun}
+use Rattle.rls_model.specs.Taking.{by_history, Limit, acknowledge, take_within, taken, message_for}
 use Rattle.rls_model.specs.WellFormed.{IsOp, IsEdit, IsVector}
 use Rattle.rls_seen.specs.Seen.{Seen, vector, members, fresh, text_over, idents_over, greatest_over, unstable_over}
 use Rattle.rls_seen.specs.Over.{answer_over, received, replayed, release_over, released, released_all, acknowledged}
 use Rattle.rls_seen.specs.Edits.{made_over, edit_fault_over, edited}
-use Rattle.rls_seen.specs.Messages.{message_over, taken_within, taken_of, IsMessage}
+use Rattle.rls_seen.specs.Messages.{by_parts, message_over, taken_within, taken_of, IsMessage}
 use Rattle.rls_seen.specs.Kept.{needed_over, dropped, retained_over, counts_over, kept_operations, kept_epochs, kept_former, parts_over}
 use Rattle.rls_seen.specs.Sane.{IsSane, IsInRange, MayApply, IsNewborn}
 use Rattle.rls_seen.specs.Stands.{StandsFor}
@@ -66,6 +70,14 @@ EditedStands = (s : Seen) (t : State) (edit : Edit) → StandsFor s t →
 abbrev pub TakenStands : Type 0
 TakenStands = (limit : Limit) (s : Seen) (t : State) (m : Message) → IsMessage (members s) m → StandsFor s t →
     (taken_of (taken_within limit s m) ≡ taken (take_within limit t m)) × StandsFor (taken_within limit s m).state (take_within limit t m).state
+
+-- the machines of parts and of histories agree, where the replica stands for the history and what waits
+abbrev pub MachinesAgree : Type 0
+MachinesAgree = StepsAgree by_parts by_history IsOp StandsFor × EditsAgree by_parts by_history IsEdit StandsFor
+
+-- edits, one after another, all run on both or stop on both at the same one for the same fault
+abbrev pub EditsRunAlike : Type 0
+EditsRunAlike = (s : Seen) (t : State) (edits : List Edit) → AreEdits edits → StandsFor s t → IsSameRun StandsFor (run_on by_parts (read_edit_on by_parts) 1 (started None s) edits) (run_edits t edits)
 
 -- the message for a member
 abbrev pub MessageAlike : Type 0

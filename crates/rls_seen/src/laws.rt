@@ -1,7 +1,7 @@
 //! Laws: facts over the definitions, for all values. Each call runs nothing and takes no memory; its contract states the fact.
 
 ghost use Rattle.rls_seen.specs.SeenLaws.{FreshStands, ReceivedStands, ReplayedStands, ReleasedStands, ReleasedAllStands};
-ghost use Rattle.rls_seen.specs.SeenLaws.{AcknowledgedStands, EditedStands, TakenStands, MessageAlike, ShownAlike, NumbersAlike, DroppedStands};
+ghost use Rattle.rls_seen.specs.SeenLaws.{AcknowledgedStands, EditedStands, TakenStands, MachinesAgree, EditsRunAlike, MessageAlike, ShownAlike, NumbersAlike, DroppedStands};
 ghost use Rattle.rls_seen.specs.SeenLaws.{FreshSane, ReceivedSane, ReleasedSane, AcknowledgedSane, EditedSane, DroppedSane, InsertsNew, EpochsKept};
 
 /// A fresh replica stands for the history in which nothing has happened, and is sane.
@@ -44,6 +44,14 @@ pub fn edited()
 /// for the history afterwards.
 pub fn taken()
     ensures stands { TakenStands }
+{}
+
+/// A replica and each history that it stands for, given the same operations, acknowledgements and edits, answer, release and refuse
+/// alike, one step after another: the parts of a replica implement what is specified by histories. So edits, one after another, are
+/// all made on both, or stop on both at the same one for the same fault.
+pub fn machines()
+    ensures agree { MachinesAgree }
+    ensures edits { EditsRunAlike }
 {}
 
 /// The message for a member is that of each history that the replica stands for, whatever was dropped.

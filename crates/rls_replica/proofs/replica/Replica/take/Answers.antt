@@ -1,4 +1,4 @@
-use Rattle.std.proofs.Common.{◌≡◌, ◌∙◌, ◌<◌, ℕ, None, sym, ap, subst, refl, arith}
+use Rattle.std.proofs.Common.{◌≡◌, ◌∙◌, ◌<◌, ℕ, None, sym, ap, subst, arith}
 use Rattle.rls_model.specs.Taking.{take_message}
 use Rattle.rls_seen.specs.Seen.{Seen, members}
 use Rattle.rls_seen.specs.Over.{acknowledged}
@@ -28,13 +28,13 @@ returns-in_err-taken-clause-part c = λ _ t h.
 pub acknowledge-requires-clause-member : goal.acknowledge-requires-clause-member
 acknowledge-requires-clause-member c =
     let s = c.args.self.now in
-    let k : members c.take_ops.new.self ≡ members s = ap members c.in_ok-taken.ensures.after ∙ members_ops c.args.message.ops (started None s) refl in
+    let k : members c.take_ops.new.self ≡ members s = ap members c.in_ok-taken.ensures.after ∙ members_ops c.args.message.ops (started None s) in
     omega (arith, c.if-message-members.false, c.members.ensures.members, c.requires.from)
 
 pub acknowledge-requires-clause-counts : goal.acknowledge-requires-clause-counts
 acknowledge-requires-clause-counts c =
     let s = c.args.self.now in
-    let k : members c.take_ops.new.self ≡ members s = ap members c.in_ok-taken.ensures.after ∙ members_ops c.args.message.ops (started None s) refl in
+    let k : members c.take_ops.new.self ≡ members s = ap members c.in_ok-taken.ensures.after ∙ members_ops c.args.message.ops (started None s) in
     omega (arith, c.if-message-members.false, c.members.ensures.members, c.requires.vector)
 
 pub returns-clause-taken : goal.returns-clause-taken
