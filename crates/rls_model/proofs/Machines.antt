@@ -3,8 +3,9 @@ use Rattle.std.proofs.Common.{◌≡◌, ◌∙◌, ℕ, zero, suc, Bool, true, 
 use Rattle.rls_ident.specs.Lists.{IsIn}
 use Rattle.rls_ops.specs.declared.op.Op.{Op}
 use Rattle.rls_model.specs.declared.edit.Edit.{Edit}
+use Rattle.rls_model.specs.declared.edit.EditError.{EditError}
 use Rattle.rls_model.specs.Answers.{Released}
-use Rattle.rls_model.specs.Machine.{Machine, has_room, one_less, Stage, moved, with_receipt, with_reason, with_answer, receive_on, with_release_on, release_on, releases_on, release_all_on, acknowledge_on, edit_on, take_on, Run, Done, Stopped, go_on, run_on}
+use Rattle.rls_model.specs.Machine.{Machine, has_room, one_less, Stage, moved, with_receipt, with_reason, with_answer, receive_on, with_release_on, release_on, releases_on, release_all_on, acknowledge_on, edit_on, take_on, Run, Done, Stopped, go_on, run_on, unless_fault, read_edit_on}
 use Rattle.rls_model.specs.MachineLaws.{StepsKeep, StepsAgree, IsAlike, IsSameRun}
 
 -- what holds of both holds of the chosen one
@@ -65,6 +66,14 @@ module _ {X : Type 0} (M : Machine X) where
           ((r : Stage X) → run_on M reads (suc line) r ls ≡ Done q → P r → P q) → P q
       go (Ok edit) k e rest = rest (release_all_on M (edit_on M p edit)) e (f l (inl refl) p edit k h)
       go (Err x) k e rest = absurd (cc)
+
+  -- what an edit is read as is it itself, and has no fault
+  pub read_is : (s : X) (x edit : Edit) → read_edit_on M s x ≡ Ok edit → (x ≡ edit) × (M.edit_fault s x ≡ None)
+  read_is s x edit e = go (M.edit_fault s x) refl e
+    where
+      go : (f : Option EditError) → M.edit_fault s x ≡ f → unless_fault f x ≡ Ok edit → (x ≡ edit) × (M.edit_fault s x ≡ None)
+      go None f e = (cc, f)
+      go (Some y) f e = absurd (cc)
 
   -- ---- and of the state alone
 

@@ -1,17 +1,16 @@
 -- In a good world the edits of a script refuse nothing that waits.
-use Rattle.std.proofs.Common.{◌≡◌, ℕ, Bool, true, false, List, [], ◌∷◌, length, refl, sym, ap, ◌∙◌, subst, inl, inr}
-use Rattle.std.specs.Prelude.{if◌then◌else◌, Option, Some, None, Result, Ok}
+use Rattle.std.proofs.Common.{◌≡◌, ℕ, Bool, true, false, List, [], ◌∷◌, length, sym, ap, ◌∙◌, subst, inl, inr}
+use Rattle.std.specs.Prelude.{if◌then◌else◌, None, Result, Ok}
 use Rattle.rls_model.specs.declared.edit.Edit.{Edit}
-use Rattle.rls_model.specs.declared.edit.EditError.{EditError}
 use Rattle.rls_model.specs.Receiving.{State, accept}
 use Rattle.rls_model.specs.WellFormed.{IsEdit}
 use Rattle.rls_model.specs.Editing.{made, edit_fault}
 use Rattle.rls_model.specs.Taking.{by_history, has_room, Progress, started, moved, with_releases}
-use Rattle.rls_model.specs.EditRun.{edit_step, Done, run_lines, unless_fault, read_edit}
+use Rattle.rls_model.specs.EditRun.{edit_step, Done, run_lines, read_edit}
 use Rattle.rls_model.specs.Worlds.{World, with_state}
 use Rattle.rls_model.specs.Laws.{IsAt, AreEdits, EditsClean}
 use Rattle.rls_ident.specs.Lists.{IsIn}
-use Rattle.rls_model.proofs.Machines.{running_keeps}
+use Rattle.rls_model.proofs.Machines.{read_is, running_keeps}
 use Rattle.rls_model.proofs.WorldsInvariant.{IsGood}
 use Rattle.rls_model.proofs.WorldsLaws.{good_after}
 use Rattle.rls_model.proofs.WorldsSteps.{IsGoing, here, keep, start, edits_own, releases_going}
@@ -43,17 +42,13 @@ lines_going {L} reads w i s q ls g h a e = running_keeps by_history reads (IsGoi
     line : (l : L) → IsIn l ls → (p : Progress) (edit : Edit) → reads p.state l ≡ Ok edit → IsGoing w i p → IsGoing w i (with_releases (edit_step p edit))
     line l u p edit f k = let r = edit_step p edit in let b = a l u p.state edit f in releases_going w i s (length (r.state).waiting) r h (edit_going w i s p edit h k b.0 b.1)
 
-read_well : (edit : Edit) → IsEdit edit → ReadsWell read_edit edit
-read_well edit h s e k = go (edit_fault s.history edit) refl k
-  where
-    go : (f : Option EditError) → edit_fault s.history edit ≡ f → unless_fault f edit ≡ Ok e → IsEdit e × (edit_fault s.history e ≡ None)
-    go None f k = let q : edit ≡ e = cc in (subst IsEdit q h, ap (edit_fault s.history) (sym q) ∙ f)
-    go (Some x) f k = absurd (cc)
+pub edit_in : (es : List Edit) (edit : Edit) → AreEdits es → IsIn edit es → IsEdit edit
+edit_in [] edit a u = absurd u
+edit_in (e ∷ es) edit a (inl f) = subst IsEdit f a.0
+edit_in (e ∷ es) edit a (inr u) = edit_in es edit a.1 u
 
 pub edits_read : (es : List Edit) → AreEdits es → AllReadWell read_edit es
-edits_read [] a l u = absurd u
-edits_read (e ∷ es) a l (inl f) = subst (ReadsWell read_edit) f (read_well e a.0)
-edits_read (e ∷ es) a l (inr u) = edits_read es a.1 l u
+edits_read es a l u s edit e = let r = read_is by_history s l edit e in (subst IsEdit r.0 (edit_in es l a u), ap (edit_fault s.history) (sym r.0) ∙ r.1)
 
 -- edits that are not stopped refuse nothing
 pub edits_clean : EditsClean

@@ -1,17 +1,15 @@
 -- The machines of parts and of histories agree.
-use Rattle.std.proofs.Common.{◌≡◌, List, [], ◌∷◌, Option, Some, None, Ok, refl, ap, subst, inl, inr}
-use Rattle.rls_ident.specs.Lists.{IsIn}
+use Rattle.std.proofs.Common.{◌≡◌, None, Ok, refl, ap, subst}
 use Rattle.rls_model.specs.declared.edit.Edit.{Edit}
-use Rattle.rls_model.specs.declared.edit.EditError.{EditError}
 use Rattle.rls_model.specs.EditRun.{run_lines}
-use Rattle.rls_model.specs.Laws.{AreEdits}
 use Rattle.rls_model.specs.Machine.{started, unless_fault, read_edit_on}
 use Rattle.rls_model.specs.MachineLaws.{EditsAgree}
 use Rattle.rls_model.specs.Receiving.{State}
 use Rattle.rls_model.specs.Taking.{by_history}
 use Rattle.rls_model.specs.WellFormed.{IsOp, IsEdit}
-use Rattle.rls_model.proofs.Machines.{running_alike}
-use Rattle.rls_seen.specs.Edits.{edited, edit_fault_over}
+use Rattle.rls_model.proofs.Machines.{read_is, running_alike}
+use Rattle.rls_model.proofs.WorldsScripts.{edit_in}
+use Rattle.rls_seen.specs.Edits.{edited}
 use Rattle.rls_seen.specs.Messages.{by_parts}
 use Rattle.rls_seen.specs.Seen.{Seen}
 use Rattle.rls_seen.specs.SeenLaws.{MachinesAgree, EditsRunAlike}
@@ -35,18 +33,11 @@ machines_agree = (
   edits_agree,
 )
 
-edit_in : (es : List Edit) (edit : Edit) → AreEdits es → IsIn edit es → IsEdit edit
-edit_in [] edit a p = absurd p
-edit_in (e ∷ es) edit a (inl f) = subst IsEdit f a.0
-edit_in (e ∷ es) edit a (inr p) = edit_in es edit a.1 p
-
 -- an edit that isn't refused leaves both alike
 read_stands : (s : Seen) (t : State) (x edit : Edit) → IsEdit x → read_edit_on by_parts s x ≡ Ok edit → StandsFor s t → StandsFor (edited s edit) (by_history.after_edit t edit)
-read_stands s t x edit w e h = go (edit_fault_over s x) refl e
-  where
-    go : (f : Option EditError) → edit_fault_over s x ≡ f → unless_fault f x ≡ Ok edit → StandsFor (edited s edit) (by_history.after_edit t edit)
-    go None f e = let q : x ≡ edit = cc in subst (λ y. StandsFor (edited s y) (by_history.after_edit t y)) q (edited_stands s t x w f h)
-    go (Some y) f e = absurd (cc)
+read_stands s t x edit w e h =
+    let r = read_is by_parts s x edit e in
+    subst (λ y. StandsFor (edited s y) (by_history.after_edit t y)) r.0 (edited_stands s t x w r.1 h)
 
 pub edits_run_alike : EditsRunAlike
 unfolding run_lines

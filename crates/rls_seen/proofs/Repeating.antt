@@ -1,19 +1,18 @@
 -- Releasing one after another, and taking a message step by step, for code that does so in loops.
-use Rattle.std.proofs.Common.{◌≡◌, ℕ, zero, suc, ◌+◌, ◌-◌, ◌<◌, ◌≤◌, true, false, cond, List, [], ◌∷◌, length, refl, sym, ap, ◌∙◌, subst, arith, inl, inr, Option, Some, None, is_some, length-append}
+use Rattle.std.proofs.Common.{◌≡◌, ℕ, zero, suc, ◌+◌, ◌-◌, ◌<◌, true, false, cond, List, [], ◌∷◌, length, refl, sym, ap, ◌∙◌, subst, arith, inl, inr, Option, Some, None, is_some}
 use Rattle.std.proofs.lemmas.Bool.Decides.{nat_tests}
 use Rattle.rls_ident.specs.Lists.{IsIn}
 use Rattle.rls_ident.proofs.Members.{in_all, lt_test}
 use Rattle.rls_ops.specs.declared.op.Op.{Op}
-use Rattle.rls_ops.specs.declared.message.Message.{Message}
-use Rattle.rls_ops.proofs.Waiting.{before_other, length-without, length-with}
-use Rattle.rls_model.specs.Answers.{Reason, Answer, Applies, Repeats, Waits, Refuses, Released}
+use Rattle.rls_ops.proofs.Waiting.{before_other}
+use Rattle.rls_model.specs.Answers.{Reason, Released}
 use Rattle.rls_model.specs.Receiving.{without, waiting_under, is_numbered, comes_before}
 use Rattle.rls_model.specs.Taking.{Limit, has_room}
-use Rattle.rls_model.proofs.Machines.{acknowledge_unlimited, no_ops, none_ready, receive_unlimited, release_unlimited, releases_stay}
+use Rattle.rls_model.proofs.Machines.{acknowledge_unlimited, none_ready, receive_unlimited, release_unlimited, releases_stay}
 use Rattle.rls_model.proofs.WorldsWaiting.{numbered_test}
 use Rattle.rls_seen.specs.Seen.{Seen, vector, members}
-use Rattle.rls_seen.specs.Over.{accepted, holding, after_answer, answer_over, received, refusal_over, first_ready, release_of, release_over, after_refusal, after_release, released, released_times, released_all, acknowledged, IsPartReleased}
-use Rattle.rls_seen.specs.Messages.{by_parts, Course, started, moved, with_answer, with_refusal, with_release, receive_step, release_step, release_steps, with_releases, acknowledge_step, take_ops, taken_within, IsPartTaken}
+use Rattle.rls_seen.specs.Over.{accepted, holding, answer_over, received, refusal_over, first_ready, release_of, release_over, after_refusal, after_release, released, released_times, released_all, acknowledged, IsPartReleased}
+use Rattle.rls_seen.specs.Messages.{by_parts, Course, started, moved, with_answer, with_refusal, with_release, receive_step, release_step, release_steps, with_releases, acknowledge_step, take_ops}
 use Rattle.rls_seen.specs.Sane.{IsSane, AreHeld}
 use Rattle.rls_seen.proofs.Staying.{ready, released_sane}
 
@@ -224,80 +223,13 @@ reaches_rest s os k c rest i h limit =
     let d = within limit c in
     h limit ∙ ap (λ x. take_ops x rest) (releases_stay by_parts (length c.state.waiting) d (none_ready by_parts d (none_is (release_over c.state) i)))
 
-within_none : (c : Course) → c.limit ≡ None → within None c ≡ c
-within_none c e = ap (λ l. within l c) (sym e)
-
 pub no_more : (k : ℕ) → more_steps k (Some 0) ≡ Some k
 no_more k = ap (λ m. Some m) (zero_more k)
   where
     zero_more : (m : ℕ) → m + 0 ≡ m
     zero_more m = omega arith
 
--- or a part of its steps was
-pub part_taken : (s : Seen) (m : Message) (k : ℕ) (c : Course) (rest : List Op) → Reaches s m.ops k c rest → IsPartTaken s m c.state
-unfolding taken_within
-part_taken s m k c rest h = (
-  k,
-  sym (ap (λ l. (acknowledge_step (take_ops (started l s) m.ops) m.from m.vector).state) (sym (no_more k))
-      ∙ ap (λ d. (acknowledge_step d m.from m.vector).state) (h (Some 0) ∙ no_ops by_parts rest (within (Some 0) c) refl)),
-)
-
 -- ---- at each step
 
 pub released_step_sane : (c : Course) → c.limit ≡ None → IsSane c.state → IsSane (release_step c).state
 released_step_sane c e h = subst IsSane (sym (released_seen c e)) (released_sane c.state h)
-
--- what is counted after n operations, where m waited at first
-pub record AreCounted (m n : ℕ) (c : Course) : Type 0 where
-  pub applied : c.counts.applied ≤ n
-  pub repeated : c.counts.repeated ≤ n
-  pub held : c.counts.held ≤ n
-  pub released : c.counts.released + length c.state.waiting ≤ m + n
-  pub refused : length c.counts.refused + length c.state.waiting ≤ m + n + n
-
-pub started_counted : (s : Seen) → AreCounted (length s.waiting) 0 (started None s)
-started_counted s = record { applied = omega arith; repeated = omega arith; held = omega arith; released = omega arith; refused = omega arith }
-
-step_counted : (m n : ℕ) (c : Course) (o : Op) (a : Answer) → AreCounted m n c → AreCounted m (suc n) (with_answer (moved c (after_answer a c.state o)) o a)
-unfolding accepted holding
-step_counted m n c o Applies h =
-    let l = length-without o.author o.seq c.state.waiting in
-    let x = h.applied in let y = h.repeated in let z = h.held in let u = h.released in let v = h.refused in
-    record { applied = omega arith; repeated = omega arith; held = omega arith; released = omega arith; refused = omega arith }
-step_counted m n c o Waits h =
-    let l = length-without o.author o.seq c.state.waiting in
-    let k = length-with o (without o.author o.seq c.state.waiting) in
-    let x = h.applied in let y = h.repeated in let z = h.held in let u = h.released in let v = h.refused in
-    record { applied = omega arith; repeated = omega arith; held = omega arith; released = omega arith; refused = omega arith }
-step_counted m n c o Repeats h =
-    let x = h.applied in let y = h.repeated in let z = h.held in let u = h.released in let v = h.refused in
-    record { applied = omega arith; repeated = omega arith; held = omega arith; released = omega arith; refused = omega arith }
-step_counted m n c o (Refuses r) h =
-    let k = length-append c.counts.refused ((o.author, o.seq, r) ∷ []) in
-    let x = h.applied in let y = h.repeated in let z = h.held in let u = h.released in let v = h.refused in
-    record { applied = omega arith; repeated = omega arith; held = omega arith; released = omega arith; refused = omega arith }
-
-pub received_counted : (m n : ℕ) (c : Course) (o : Op) → c.limit ≡ None → AreCounted m n c → AreCounted m (suc n) (receive_step c o)
-unfolding received
-received_counted m n c o e h =
-    subst (AreCounted m (suc n)) (sym (receive_unlimited by_parts c o e)) (step_counted m n c o (answer_over false c.state o) h)
-
-pub released_counted : (m n : ℕ) (c : Course) → c.limit ≡ None → IsSane c.state → AreCounted m n c → AreCounted m n (release_step c)
-released_counted m n c e sane h =
-    subst (AreCounted m n) (sym (release_unlimited by_parts c e)) (go (release_over c.state) refl)
-  where
-    shorter_by : (r : Released) → release_over c.state ≡ Some r → length c.state.waiting ≡ suc (length (released c.state).waiting)
-    shorter_by r f = one_fewer c.state sane (ap is_some f)
-
-    refusal_counted : (s : Seen) (a q : ℕ) (r : Option Reason) → length c.state.waiting ≡ suc (length s.waiting) → AreCounted m n (with_refusal (moved c s) a q r)
-    refusal_counted s a q None l =
-        let x = h.applied in let y = h.repeated in let z = h.held in let u = h.released in let v = h.refused in
-        record { applied = x; repeated = y; held = z; released = omega arith; refused = omega arith }
-    refusal_counted s a q (Some r) l =
-        let k = length-append c.counts.refused ((a, q, r) ∷ []) in
-        let x = h.applied in let y = h.repeated in let z = h.held in let u = h.released in let v = h.refused in
-        record { applied = x; repeated = y; held = z; released = omega arith; refused = omega arith }
-
-    go : (r : Option Released) → release_over c.state ≡ r → AreCounted m n (with_release c r)
-    go None f = h
-    go (Some r) f = refusal_counted (released c.state) r.author r.seq r.refusal (shorter_by r f)

@@ -37,7 +37,7 @@ Goes n c p = IsAlike (Stands n) c p
 pub started_goes : (limit : Limit) (s : Seen) (t : State) → StandsFor s t → Goes (members s) (started limit s) (started limit t)
 started_goes limit s t h = record { states = (refl, h); limit = refl; counts = refl }
 
-op_in : (os : List Op) (o : Op) → AreOps os → IsIn o os → IsOp o
+pub op_in : (os : List Op) (o : Op) → AreOps os → IsIn o os → IsOp o
 op_in [] o w u = absurd u
 op_in (x ∷ os) o w (inl e) = subst IsOp e w.0
 op_in (x ∷ os) o w (inr u) = op_in os o w.1 u
