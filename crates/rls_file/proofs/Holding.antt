@@ -21,7 +21,7 @@ use Rattle.rls_model.specs.Fitting.{refusal}
 use Rattle.rls_model.specs.History.{History, me_of, members_of, count_of}
 use Rattle.rls_model.specs.History.{count as count_in}
 use Rattle.rls_model.specs.Legal.{AreWaiting}
-use Rattle.rls_model.specs.Receiving.{State, verdict_of, answer_beside, answer_after_shape, answer, after, receive, receive_after}
+use Rattle.rls_model.specs.Receiving.{State, verdict_of, answer_beside, answer_by, answer, after, receive, receive_after}
 use Rattle.rls_parts.specs.Rules.{is_fine, waits_behind, may_wait}
 use Rattle.rls_file.specs.ReadingJournals.{waits, last_of, waiting_at, more_waiting_at}
 use Rattle.rls_file.specs.Journals.{JournalSeen, Tells, told}
@@ -101,9 +101,9 @@ answered_is : (H : History) (W : List Op) (o : Op) → waiting_under W o.author 
 unfolding answer
 answered_is H W o n = go (shape_fault (members_of H) o)
   where
-    go : (f : Option Shape) → answer_after_shape false H W o f ≡ answered f (nat_le o.seq (count_of H o.author)) (o.author == me_of H) (at_most o.context (count_in H)) (refusal H o) o.seq
+    go : (f : Option Shape) → answer_by false (count_in H) (me_of H) W (refusal H o) o f ≡ answered f (nat_le o.seq (count_of H o.author)) (o.author == me_of H) (at_most o.context (count_in H)) (refusal H o) o.seq
     go (Some f) = refl
-    go None = ap (λ u. cond (nat_le o.seq (count_of H o.author)) Repeats (cond (o.author == me_of H) (Refuses (Own o.seq)) (answer_beside H o u))) n
+    go None = ap (λ u. cond (nat_le o.seq (count_of H o.author)) Repeats (cond (o.author == me_of H) (Refuses (Own o.seq)) (answer_beside (count_in H) (refusal H o) o u))) n
 
 -- by the answer
 waits_go : (H : History) (W : List Op) (o : Op) (b : Bool) → waits_behind (last_of W) o ≡ b → (b ≡ true → AllBefore W o) → may_wait (members_of H) (me_of H) (count_in H) (last_of W) o ≡ (b && waits (receive (record { history = H; waiting = W }) o))

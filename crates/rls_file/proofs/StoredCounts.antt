@@ -1,5 +1,5 @@
 -- What is counted where a message is taken or lines are run.
-use Rattle.std.proofs.Common.{◌≡◌, ℕ, zero, suc, ◌+◌, true, false, Bool, List, [], ◌∷◌, length, Option, Some, None, Result, Ok, Err, refl, sym, ap, subst, arith, length-append}
+use Rattle.std.proofs.Common.{◌≡◌, ℕ, ◌+◌, true, false, Bool, List, [], ◌∷◌, length, Option, Some, None, refl, sym, subst, arith, length-append}
 use Rattle.std.specs.Prelude.{if◌then◌else◌}
 use Rattle.rls_ident.specs.Lists.{IsIn}
 use Rattle.rls_ident.specs.Vectors.{at_most}
@@ -13,11 +13,11 @@ use Rattle.rls_model.specs.Stability.{is_counted}
 use Rattle.rls_model.specs.Fitting.{refusal}
 use Rattle.rls_model.specs.Receiving.{State, without, accept, after, after_refusal, receive, receive_after, first_ready, release}
 use Rattle.rls_model.specs.Editing.{made}
-use Rattle.rls_model.specs.Taking.{has_room, Progress, started, moved, with_answer, with_refusal, with_release, receive_step, release_step, release_steps, with_releases, acknowledge, acknowledge_step, take_ops, take_within}
-use Rattle.rls_model.specs.EditRun.{edit_step, Done, go_on, run_from, run_lines}
+use Rattle.rls_model.specs.Taking.{by_history, has_room, Progress, started, moved, with_answer, with_refusal, with_release, receive_step, release_step, release_steps, with_releases, acknowledge, acknowledge_step, take_ops, take_within}
+use Rattle.rls_model.specs.EditRun.{edit_step, run_lines}
+use Rattle.rls_model.proofs.Machines.{releases_keep, running_keeps}
 use Rattle.rls_model.proofs.WorldsSteps.{released_by, release_is}
 use Rattle.rls_model.proofs.WorldsWaiting.{length-without, less_without, numbered_test}
-use Rattle.rls_model.proofs.WorldsScripts.{end_or}
 use Rattle.rls_file.specs.StoredLaws.{AreCounted, TakenCounted, LinesCounted, CountsFit}
 
 -- ---- steps
@@ -36,7 +36,7 @@ answer_counted w n p o Waits h =
     let x = h.applied in let y = h.repeated in let z = h.held in let u = h.released in let v = h.refused in
     record { applied = omega arith; repeated = omega arith; held = omega arith; released = omega arith; refused = omega arith }
 answer_counted w n p o (Refuses r) h =
-    let k = length-append p.refused ((o.author, o.seq, r) ∷ []) in
+    let k = length-append p.counts.refused ((o.author, o.seq, r) ∷ []) in
     let x = h.applied in let y = h.repeated in let z = h.held in let u = h.released in let v = h.refused in
     record { applied = omega arith; repeated = omega arith; held = omega arith; released = omega arith; refused = omega arith }
 
@@ -60,7 +60,7 @@ refusal_counted w n p x None q h =
     record { applied = omega arith; repeated = omega arith; held = omega arith; released = omega arith; refused = omega arith }
 refusal_counted w n p x (Some r) q h =
     let l = less_without x.author x.seq x (p.state).waiting q (numbered_test x.author x.seq x refl refl) in
-    let k = length-append p.refused ((x.author, x.seq, r) ∷ []) in
+    let k = length-append p.counts.refused ((x.author, x.seq, r) ∷ []) in
     let a = h.applied in let y = h.repeated in let z = h.held in let u = h.released in let v = h.refused in
     record { applied = omega arith; repeated = omega arith; held = omega arith; released = omega arith; refused = omega arith }
 
@@ -79,8 +79,7 @@ released_counted w n p h = go (has_room p.limit)
     go false = h
 
 pub releases_counted : (w n k : ℕ) (p : Progress) → AreCounted w n p → AreCounted w n (release_steps k p)
-releases_counted w n zero p h = h
-releases_counted w n (suc k) p h = releases_counted w n k (release_step p) (released_counted w n p h)
+releases_counted w n k p h = releases_keep by_history (AreCounted w n) (λ q c. released_counted w n q c) k p h
 
 pub noted_counted : (w n : ℕ) (p : Progress) (a : ℕ) (v : List ℕ) → AreCounted w n p → AreCounted w n (acknowledge_step p a v)
 noted_counted w n p a v h = go (has_room p.limit)
@@ -125,20 +124,12 @@ taken_counted t m =
     let p = take_ops (started None t) m.ops in
     noted_counted (length t.waiting) (length m.ops) p m.from m.vector (subst (λ k. AreCounted (length t.waiting) k p) e (ops_counted (length t.waiting) 0 (started None t) m.ops (started_counted t)))
 
-run_counted : {L F : Type 0} (reads : State → L → Result Edit F) (w : ℕ) (line : ℕ) (p q : Progress) (ls : List L) → AreCounted w 0 p → run_from reads line p ls ≡ Done q → AreCounted w 0 q
-run_counted reads w line p q [] h e = subst (AreCounted w 0) (ap (end_or p) e) h
-run_counted {F = F} reads w line p q (l ∷ ls) h e =
-    go (reads p.state l) e (λ edit k.
-    let r = edit_step p edit in run_counted reads w (suc line) (with_releases r) q ls (releases_counted w 0 (length (r.state).waiting) r (edited_counted w 0 p edit h)) k)
-  where
-    go : (f : Result Edit F) → go_on line f (λ edit. run_from reads (suc line) (with_releases (edit_step p edit)) ls) ≡ Done q →
-        ((edit : Edit) → run_from reads (suc line) (with_releases (edit_step p edit)) ls ≡ Done q → AreCounted w 0 q) → AreCounted w 0 q
-    go (Ok edit) k ih = ih edit k
-    go (Err x) k ih = absurd (cc)
-
 pub lines_counted : (L F : Type 0) → LinesCounted L F
 unfolding run_lines
-lines_counted L F reads t lines p e = run_counted reads (length t.waiting) 1 (started None t) p lines (started_counted t) e
+lines_counted L F reads t lines p e = running_keeps by_history reads (AreCounted (length t.waiting) 0) lines (λ l u q edit r h. edit_counted q edit h) 1 (started None t) p e (started_counted t)
+  where
+    edit_counted : (q : Progress) (edit : Edit) → AreCounted (length t.waiting) 0 q → AreCounted (length t.waiting) 0 (with_releases (edit_step q edit))
+    edit_counted q edit h = let r = edit_step q edit in releases_counted (length t.waiting) 0 (length (r.state).waiting) r (edited_counted (length t.waiting) 0 q edit h)
 
 pub counts_fit : CountsFit
 counts_fit t bytes m j f =

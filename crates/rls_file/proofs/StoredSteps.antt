@@ -1,5 +1,5 @@
 -- Each step of taking a message and of an edit leaves a state that may be stored, but for what is ready.
-use Rattle.std.proofs.Common.{◌≡◌, ℕ, zero, suc, ◌<◌, true, false, Bool, List, Option, Some, None, refl, sym, subst, arith, ⊎_elim}
+use Rattle.std.proofs.Common.{◌≡◌, ℕ, ◌<◌, true, false, Bool, List, Option, Some, None, refl, sym, subst, arith, ⊎_elim}
 use Rattle.std.specs.Prelude.{if◌then◌else◌}
 use Rattle.rls_ident.specs.Lists.{IsIn}
 use Rattle.rls_ident.specs.Vectors.{at_most}
@@ -12,15 +12,16 @@ use Rattle.rls_model.specs.Answers.{Reason, Answer, Applies, Repeats, Waits, Ref
 use Rattle.rls_model.specs.History.{Acknowledged, Then, count, me_of, members_of}
 use Rattle.rls_model.specs.Stability.{is_counted}
 use Rattle.rls_model.specs.Fitting.{refusal}
-use Rattle.rls_model.specs.Receiving.{State, without, accept, after, after_refusal, receive, receive_after, first_ready, release}
+use Rattle.rls_model.specs.Receiving.{State, without, accept, after, after_refusal, after_release, receive, receive_after, release_after, first_ready}
 use Rattle.rls_model.specs.WellFormed.{IsEdit}
 use Rattle.rls_model.specs.Legal.{MayAccept, IsLegal, IsSound}
 use Rattle.rls_model.specs.Editing.{made, edit_fault}
-use Rattle.rls_model.specs.Taking.{has_room, Progress, moved, with_answer, with_refusal, with_release, receive_step, release_step, release_steps, acknowledge, acknowledge_step}
+use Rattle.rls_model.specs.MachineLaws.{StepsKeep}
+use Rattle.rls_model.specs.Taking.{by_history, Progress, release_steps, acknowledge, acknowledge_step}
 use Rattle.rls_model.specs.EditRun.{edit_step}
+use Rattle.rls_model.proofs.Machines.{acknowledge_keeps, edit_keeps, states_after_releases}
 use Rattle.rls_model.proofs.Made as making
 use Rattle.rls_model.proofs.WorldsRests.{IsAtRest}
-use Rattle.rls_model.proofs.WorldsSteps.{released_by, release_is}
 use Rattle.rls_model.proofs.WorldsWaiting.{in_without, in_with, waiting_at, sound_without, sound_grown, sound_accepted, sound_put}
 use Rattle.rls_model.proofs.Answered.{may_accept, answer_applies, answer_waits, IsHeld}
 use Rattle.rls_file.specs.FileLaws.{AreSpelled}
@@ -118,52 +119,25 @@ made_storing n t edit s i f =
     let l = making.law t.history edit s.legal i f in
     accept_storing n t (made t.history edit) s (subst (λ k. IsSpelled k (made t.history edit)) s.members (made_spelled t.history edit s.legal s.accepted i f)) l.2
 
+-- the first ready operation is released
+release_storing : (n : ℕ) (t : State) → IsStoring n t → IsStoring n (release_after t)
+release_storing n t s = go (first_ready t) refl
+  where
+    go : (m : Option Op) → first_ready t ≡ m → IsStoring n (after_release t m)
+    go None e = s
+    go (Some w) e = let q = found_in (λ x. at_most x.context (count t.history)) w t.waiting e in refused_storing n t w s q.0 q.1
+
 -- ---- progress
 
-answer_state : (p : Progress) (o : Op) (r : Answer) → (with_answer p o r).state ≡ p.state
-answer_state p o Applies = refl
-answer_state p o Repeats = refl
-answer_state p o Waits = refl
-answer_state p o (Refuses r) = refl
-
-refusal_state : (p : Progress) (a q : ℕ) (r : Option Reason) → (with_refusal p a q r).state ≡ p.state
-refusal_state p a q None = refl
-refusal_state p a q (Some r) = refl
-
-pub received_storing : (n : ℕ) (p : Progress) (o : Op) → IsStoring n p.state → IsSpelled n o → IsStoring n (receive_step p o).state
-received_storing n p o s f = go (has_room p.limit)
-  where
-    go : (b : Bool) → IsStoring n (if b then with_answer (moved p (receive_after p.state o)) o (receive p.state o) else p).state
-    go true = subst (IsStoring n) (sym (answer_state (moved p (receive_after p.state o)) o (receive p.state o))) (receive_storing n p.state o s f)
-    go false = s
-
-pub released_storing : (n : ℕ) (p : Progress) → IsStoring n p.state → IsStoring n (release_step p).state
-released_storing n p s = go (has_room p.limit)
-  where
-    step : (m : Option Op) → first_ready p.state ≡ m → IsStoring n (released_by p m).state
-    step None e = s
-    step (Some w) e =
-        let q = found_in (λ x. at_most x.context (count (p.state).history)) w (p.state).waiting e in
-        subst (IsStoring n) (sym (refusal_state (moved p (after_refusal (refusal (p.state).history w) p.state w)) w.author w.seq (refusal (p.state).history w))) (refused_storing n p.state w s q.0 q.1)
-
-    go : (b : Bool) → IsStoring n (if b then with_release p (release p.state) else p).state
-    go true = subst (λ (q : Progress). IsStoring n q.state) (sym (release_is p (first_ready p.state) refl)) (step (first_ready p.state) refl)
-    go false = s
+-- receiving what has a spelling and releasing keep it
+pub steps_storing : (n : ℕ) → StepsKeep by_history (IsSpelled n) (IsStoring n)
+steps_storing n = record { receives = λ t o f s. receive_storing n t o s f; releases = release_storing n }
 
 pub releases_storing : (n k : ℕ) (p : Progress) → IsStoring n p.state → IsStoring n (release_steps k p).state
-releases_storing n zero p s = s
-releases_storing n (suc k) p s = releases_storing n k (release_step p) (released_storing n p s)
+releases_storing n k p s = states_after_releases by_history (IsStoring n) (release_storing n) k p s
 
 pub noted_storing : (n : ℕ) (p : Progress) (a : ℕ) (v : List ℕ) → IsStoring n p.state → a < n → FitsVector n v → IsStoring n (acknowledge_step p a v).state
-noted_storing n p a v s l f = go (has_room p.limit)
-  where
-    go : (b : Bool) → IsStoring n (if b then moved p (acknowledge p.state a v) else p).state
-    go true = acknowledge_storing n p.state a v s l f
-    go false = s
+noted_storing n p a v s l f = acknowledge_keeps by_history (IsStoring n) p a v (acknowledge_storing n p.state a v s l f) s
 
 pub edited_storing : (n : ℕ) (p : Progress) (edit : Edit) → IsStoring n p.state → IsEdit edit → edit_fault (p.state).history edit ≡ None → IsStoring n (edit_step p edit).state
-edited_storing n p edit s i f = go (has_room p.limit)
-  where
-    go : (b : Bool) → IsStoring n (if b then moved p (accept p.state (made (p.state).history edit)) else p).state
-    go true = made_storing n p.state edit s i f
-    go false = s
+edited_storing n p edit s i f = edit_keeps by_history (IsStoring n) p edit (made_storing n p.state edit s i f) s

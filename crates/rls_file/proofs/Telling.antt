@@ -1,5 +1,5 @@
 -- A journal that tells a history tells it after each step.
-use Rattle.std.proofs.Common.{◌≡◌, ℕ, zero, suc, ◌<◌, ◌++◌, ◌∷◌, Bool, true, false, cond, List, [], length, refl, sym, ap, ◌∙◌, subst, Option, Some, None}
+use Rattle.std.proofs.Common.{◌≡◌, ℕ, ◌<◌, ◌++◌, ◌∷◌, Bool, true, false, cond, List, [], length, refl, sym, ap, ◌∙◌, subst, Option, Some, None}
 use Rattle.rls_ops.specs.declared.op.Op.{Op}
 use Rattle.rls_ops.specs.Rows as rows
 use Rattle.rls_model.specs.declared.edit.Edit.{Edit}
@@ -13,22 +13,22 @@ use Rattle.rls_model.specs.Stability.{is_counted}
 use Rattle.rls_model.specs.declared.receipt.Taken.{Taken}
 use Rattle.rls_ops.specs.declared.message.Message.{Message}
 use Rattle.rls_replica.specs.Steps.{course, IsPartOfOps}
-use Rattle.rls_model.specs.Taking.{Limit, has_room, Progress, acknowledge, take_message, take_within}
+use Rattle.rls_model.specs.Machine.{Limit, has_room, started, moved}
+use Rattle.rls_model.specs.MachineLaws.{StepsAgree, IsAlike}
+use Rattle.rls_model.specs.Taking.{by_history, Progress, acknowledge, take_message, take_within}
 use Rattle.rls_model.specs.Taking as taking
 use Rattle.rls_model.specs.WellFormed.{IsOp, IsVector, AreOps}
+use Rattle.rls_model.proofs.Machines.{acknowledge_unlimited, ops_limit, release_all_alike, taking_alike}
 use Rattle.rls_seen.specs.Seen.{Seen, members}
 use Rattle.rls_seen.specs.Over.{answer_over, accepted, after_answer, received, replayed, holding, refusal_over, first_ready, after_refusal, after_release, release_of, release_over, released, acknowledged}
 use Rattle.rls_seen.specs.Edits.{made_over, edited}
-use Rattle.rls_seen.specs.Messages.{Course, started, with_answer, with_refusal, with_release, moved, receive_step, release_step, release_steps, with_releases, take_ops, taken_of}
+use Rattle.rls_seen.specs.Messages.{by_parts, Course, with_releases, take_ops, taken_of}
 use Rattle.rls_seen.specs.Stands.{StandsFor}
 use Rattle.rls_seen.proofs.Alike.{members_alike}
-use Rattle.rls_seen.proofs.Counting.{members_received, members_released}
-use Rattle.rls_seen.proofs.Repeating.{received_seen, released_seen, received_limit, released_limit}
-use Rattle.rls_seen.proofs.Receiving.{received_stands}
 use Rattle.rls_seen.proofs.Releasing.{released_stands, first_alike}
 use Rattle.rls_seen.proofs.Noting.{acknowledged_stands, counted_alike}
 use Rattle.rls_seen.proofs.Editing.{made_alike}
-use Rattle.rls_seen.proofs.Taking.{Goes, started_goes, receive_goes, release_goes, counted_alike as counted_same}
+use Rattle.rls_seen.proofs.Taking.{Stands, machines_agree, op_in}
 use Rattle.rls_file.specs.declared.journal.Note.{Note}
 use Rattle.rls_file.specs.Files.{entries_of}
 use Rattle.rls_file.specs.Journals.{JournalSeen, Tells, IsNoted, note, notes_of, woven, then_all, told}
@@ -133,75 +133,32 @@ edited_tells s new ns t edit e x h =
 
 -- ---- step after step
 
--- both have taken the same steps, and the log is whole
-pub record GoesOn (ns : List Note) (n : ℕ) (c : Course) (p : Progress) : Type 0 where
-  pub goes : Goes n c p
-  pub whole : IsWhole ns c.seen p.state.history
+-- the replica stands for the state, and the log is whole
+abbrev pub StandsWhole : List Note → ℕ → Seen → State → Type 0
+StandsWhole ns n s t = Stands n s t × IsWhole ns s t.history
 
-pub started_on : (limit : Limit) (s : Seen) (ns : List Note) (t : State) → Tells (journal s ns) t → GoesOn ns (members s) (started limit s) (taking.started limit t)
-started_on limit s ns t h = record { goes = started_goes limit s t h.stands; whole = is_whole s ns t h }
-
--- a step that is taken where there is room
-pick : (ns : List Note) (a b : Bool) (c d : Course) (p q : Progress) → a ≡ b → IsWhole ns c.seen p.state.history → IsWhole ns d.seen q.state.history → IsWhole ns (cond a d c).seen (cond b q p).state.history
-pick ns a b c d p q e g h = subst (λ (x : Bool). IsWhole ns (cond a d c).seen (cond x q p).state.history) e (go a)
-  where
-    go : (x : Bool) → IsWhole ns (cond x d c).seen (cond x q p).state.history
-    go true = h
-    go false = g
-
-answered_seen : (ns : List Note) (c : Course) (p : Progress) (o : Op) (a b : Answer) → a ≡ b → IsWhole ns c.seen p.state.history → IsWhole ns (with_answer c o a).seen (taking.with_answer p o b).state.history
-answered_seen ns c p o a b e w = subst (λ x. IsWhole ns (with_answer c o a).seen (taking.with_answer p o x).state.history) e (go a)
-  where
-    go : (x : Answer) → IsWhole ns (with_answer c o x).seen (taking.with_answer p o x).state.history
-    go Applies = w
-    go Repeats = w
-    go Waits = w
-    go (Refuses r) = w
-
-receive_on : (ns : List Note) (n : ℕ) (c : Course) (p : Progress) (o : Op) → IsOp o → GoesOn ns n c p → GoesOn ns n (receive_step c o) (taking.receive_step p o)
-receive_on ns n c p o w g =
-    let s = c.seen in
-    let t = p.state in
-    let x = received_whole ns s t o (received_stands s t o w g.goes.stands).0 g.whole in
+whole_agree : (ns : List Note) (n : ℕ) → StepsAgree by_parts by_history IsOp (StandsWhole ns n)
+whole_agree ns n =
+    let a = machines_agree n in
     record {
-      goes = receive_goes n c p o w g.goes;
-      whole = pick ns (has_room c.limit) (has_room p.limit) c (with_answer (moved c (received s o)) o (answer_over false s o)) p (taking.with_answer (taking.moved p (receive_after t o)) o (receive t o))
-          (ap has_room g.goes.limit) g.whole
-          (answered_seen ns (moved c (received s o)) (taking.moved p (receive_after t o)) o (answer_over false s o) (receive t o) (received_stands s t o w g.goes.stands).0 x);
+      answers = λ s t o w h. a.answers s t o w h.0;
+      receives = λ s t o w h. (a.receives s t o w h.0, received_whole ns s t o (a.answers s t o w h.0) h.1);
+      waiting = λ s t h. a.waiting s t h.0;
+      next_releases = λ s t h. a.next_releases s t h.0;
+      releases = λ s t h. (a.releases s t h.0, released_whole ns s t h.0.1 h.1);
     }
 
-with_on : (ns : List Note) (c : Course) (p : Progress) (r : Option Released) → IsWhole ns c.seen p.state.history → IsWhole ns (released c.seen) (release_after p.state).history → IsWhole ns (with_release c r).seen (taking.with_release p r).state.history
-with_on ns c p None g h = g
-with_on ns c p (Some r) g h = go r.refusal
-  where
-    go : (x : Option Reason) → IsWhole ns (with_refusal (moved c (released c.seen)) r.author r.seq x).seen (taking.with_refusal (taking.moved p (release_after p.state)) r.author r.seq x).state.history
-    go None = h
-    go (Some y) = h
+-- both have taken the same steps
+abbrev pub GoesOn : List Note → ℕ → Course → Progress → Type 0
+GoesOn ns n c p = IsAlike (StandsWhole ns n) c p
 
-release_on : (ns : List Note) (n : ℕ) (c : Course) (p : Progress) → GoesOn ns n c p → GoesOn ns n (release_step c) (taking.release_step p)
-release_on ns n c p g =
-    let x = released_whole ns c.seen p.state g.goes.stands g.whole in
-    let e = (released_stands c.seen p.state g.goes.stands).0 in
-    record {
-      goes = release_goes n c p g.goes;
-      whole = pick ns (has_room c.limit) (has_room p.limit) c (with_release c (release_over c.seen)) p (taking.with_release p (release p.state)) (ap has_room g.goes.limit) g.whole
-          (subst (λ r. IsWhole ns (with_release c (release_over c.seen)).seen (taking.with_release p r).state.history) e (with_on ns c p (release_over c.seen) g.whole x));
-    }
+ops_on : (ns : List Note) (limit : Limit) (s : Seen) (t : State) (os : List Op) → AreOps os → Tells (journal s ns) t → GoesOn ns (members s) (take_ops (started limit s) os) (taking.take_ops (started limit t) os)
+ops_on ns limit s t os w h =
+    taking_alike (StandsWhole ns (members s)) by_parts by_history IsOp (whole_agree ns (members s)) os (started limit s) (started limit t) (λ o u. op_in os o w u)
+    (record { states = ((refl, h.stands), is_whole s ns t h); limit = refl; counts = refl })
 
-steps_on : (m : ℕ) (ns : List Note) (n : ℕ) (c : Course) (p : Progress) → GoesOn ns n c p → GoesOn ns n (release_steps m c) (taking.release_steps m p)
-steps_on zero ns n c p g = g
-steps_on (suc m) ns n c p g = steps_on m ns n (release_step c) (taking.release_step p) (release_on ns n c p g)
-
-pub releases_on : (ns : List Note) (n : ℕ) (c : Course) (p : Progress) → GoesOn ns n c p → GoesOn ns n (with_releases c) (taking.with_releases p)
-releases_on ns n c p g = subst (λ m. GoesOn ns n (with_releases c) (taking.release_steps m p)) (ap length g.goes.stands.waiting) (steps_on (length c.seen.waiting) ns n c p g)
-
-pub ops_on : (os : List Op) (ns : List Note) (n : ℕ) (c : Course) (p : Progress) → AreOps os → GoesOn ns n c p → GoesOn ns n (take_ops c os) (taking.take_ops p os)
-ops_on [] ns n c p w g = g
-ops_on (o ∷ os) ns n c p w g =
-    ops_on os ns n (with_releases (receive_step c o)) (taking.with_releases (taking.receive_step p o)) w.1 (releases_on ns n (receive_step c o) (taking.receive_step p o) (receive_on ns n c p o w.0 g))
-
-pub on_tells : (ns : List Note) (n : ℕ) (c : Course) (p : Progress) → GoesOn ns n c p → Tells (journal c.seen ns) p.state
-on_tells ns n c p g = tells c.seen ns p.state g.goes.stands g.whole
+pub on_tells : (ns : List Note) (n : ℕ) (c : Course) (p : Progress) → GoesOn ns n c p → Tells (journal c.state ns) p.state
+on_tells ns n c p g = tells c.state ns p.state g.states.0.1 g.states.1
 
 -- some of the steps of taking these operations, and none behind them
 pub part_tells : (s new : Seen) (ns : List Note) (t : State) (m : Message) → AreOps m.ops → IsPartOfOps s m.ops new → Tells (journal s ns) t → (n : ℕ) × Tells (journal new ns) (take_within (Some n) t m).state
@@ -209,63 +166,31 @@ unfolding take_within
 part_tells s new ns t m w p h =
     let limit : Limit = Some p.0 in
     let c : Course = take_ops (started limit s) m.ops in
-    let q : Progress = taking.take_ops (taking.started limit t) m.ops in
-    let g = ops_on m.ops ns (members s) (started limit s) (taking.started limit t) w (started_on limit s ns t h) in
-    let last : taking.acknowledge_step q m.from m.vector ≡ q = ap (λ l. cond (has_room l) (taking.moved q (acknowledge q.state m.from m.vector)) q) (sym g.goes.limit ∙ p.1) in
+    let q : Progress = taking.take_ops (started limit t) m.ops in
+    let g = ops_on ns limit s t m.ops w h in
+    let last : taking.acknowledge_step q m.from m.vector ≡ q = ap (λ l. cond (has_room l) (moved q (acknowledge q.state m.from m.vector)) q) (sym g.limit ∙ p.1) in
     (p.0, subst (λ (x : Progress). Tells (journal new ns) x.state) (sym last) (subst (λ u. Tells (journal u ns) q.state) (sym p.2) (on_tells ns (members s) c q g)))
 
--- memory doesn't end, and the members stay
-abbrev Endless : ℕ → Course → Type 0
-Endless n c = (c.limit ≡ None) × (members c.seen ≡ n)
-
-steps_endless : (m n : ℕ) (c : Course) → Endless n c → Endless n (release_steps m c)
-steps_endless zero n c e = e
-steps_endless (suc m) n c e = steps_endless m n (release_step c) (released_limit c e.0, ap members (released_seen c e.0) ∙ members_released c.seen ∙ e.1)
-
-pub ops_endless : (os : List Op) (n : ℕ) (c : Course) → Endless n c → Endless n (take_ops c os)
-ops_endless [] n c e = e
-ops_endless (o ∷ os) n c e =
-    let d : Course = receive_step c o in
-    ops_endless os n (with_releases d) (steps_endless (length d.seen.waiting) n d (received_limit c o e.0, ap members (received_seen c o e.0) ∙ members_received c.seen o ∙ e.1))
-
--- the last step is made
-noted_last : (p : Progress) (a : ℕ) (v : List ℕ) → p.limit ≡ None → (taking.taken (taking.acknowledge_step p a v) ≡ taking.taken p) × ((taking.acknowledge_step p a v).state ≡ acknowledge p.state a v)
-noted_last p a v e = subst (λ l. (taking.taken (cond (has_room l) (taking.moved p (acknowledge p.state a v)) p) ≡ taking.taken p) × ((cond (has_room l) (taking.moved p (acknowledge p.state a v)) p).state ≡ acknowledge p.state a v)) (sym e) (refl, refl)
-
 -- a message was taken
-pub taken_tells : (s new : Seen) (ns after : List Note) (t : State) (m : Message) → m.from < members s → IsVector (members s) m.vector → AreOps m.ops → IsNoted (take_ops (started None s) m.ops).seen ns m.from m.vector new after
+pub taken_tells : (s new : Seen) (ns after : List Note) (t : State) (m : Message) → m.from < members s → IsVector (members s) m.vector → AreOps m.ops → IsNoted (take_ops (started None s) m.ops).state ns m.from m.vector new after
     → Tells (journal s ns) t → (taken_of (take_ops (started None s) m.ops) ≡ taking.taken (take_message t m)) × Tells (journal new after) (take_message t m).state
 unfolding take_within
 taken_tells s new ns after t m l w os n h =
-    let limit : Limit = None in
-    let c : Course = take_ops (started limit s) m.ops in
-    let p : Progress = taking.take_ops (taking.started limit t) m.ops in
-    let g = ops_on m.ops ns (members s) (started limit s) (taking.started limit t) os (started_on limit s ns t h) in
-    let told = on_tells ns (members s) c p g in
-    let k = g.goes.members_are in
-    let last = noted_last p m.from m.vector (sym g.goes.limit ∙ (ops_endless m.ops (members s) (started limit s) (refl, refl)).0) in
-    let noted = acknowledged_tells c.seen new ns after p.state m.from m.vector (subst (λ x. m.from < x) (sym k) l) (subst (λ x. IsVector x m.vector) (sym k) w) n told in
-    (counted_same (members s) c p g.goes ∙ sym last.0, subst (λ x. Tells (journal new after) x) (sym last.1) noted.1)
+    let c : Course = take_ops (started None s) m.ops in
+    let p : Progress = taking.take_ops (started None t) m.ops in
+    let g = ops_on ns None s t m.ops os h in
+    let k = g.states.0.0 in
+    let last = acknowledge_unlimited by_history p m.from m.vector (ops_limit by_history m.ops (started None t) refl) in
+    let noted = acknowledged_tells c.state new ns after p.state m.from m.vector (subst (λ x. m.from < x) (sym k) l) (subst (λ x. IsVector x m.vector) (sym k) w) n (on_tells ns (members s) c p g) in
+    (g.counts ∙ sym (ap taking.taken last), subst (λ (x : Progress). Tells (journal new after) x.state) (sym last) noted.1)
 
 -- releases that go on counting
 pub released_tells : (s new : Seen) (ns : List Note) (before after : Taken) (p : Progress) → course new after ≡ with_releases (course s before) → p.limit ≡ None → before ≡ taking.taken p → Tells (journal s ns) p.state
     → (after ≡ taking.taken (taking.with_releases p)) × Tells (journal new ns) (taking.with_releases p).state
 released_tells s new ns before after p e l b h =
-    let start : Goes (members s) (course s before) p = record {
-      members_are = refl;
-      stands = h.stands;
-      limit = sym l;
-      applied = ap (λ (x : Taken). x.applied) b;
-      released = ap (λ (x : Taken). x.released) b;
-      repeated = ap (λ (x : Taken). x.repeated) b;
-      held = ap (λ (x : Taken). x.held) b;
-      refused = ap (λ (x : Taken). x.refused) b;
-    } in
-    let g = releases_on ns (members s) (course s before) p (record { goes = start; whole = is_whole s ns p.state h }) in
-    let c : Course = with_releases (course s before) in (
-      ap taken_of e ∙ counted_same (members s) c (taking.with_releases p) g.goes,
-      subst (λ (x : Course). Tells (journal x.seen ns) (taking.with_releases p).state) (sym e) (on_tells ns (members s) c (taking.with_releases p) g),
-    )
+    let g = release_all_alike (StandsWhole ns (members s)) by_parts by_history IsOp (whole_agree ns (members s)) (course s before) p (record { states = ((refl, h.stands), is_whole s ns p.state h); limit = sym l; counts = b }) in
+    let c : Course = with_releases (course s before) in
+    (ap taken_of e ∙ g.counts, subst (λ (x : Course). Tells (journal x.state ns) (taking.with_releases p).state) (sym e) (on_tells ns (members s) c (taking.with_releases p) g))
 
 -- ---- what is told
 

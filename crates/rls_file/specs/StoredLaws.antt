@@ -99,11 +99,11 @@ SentIsMessage = (t : State) (to : ℕ) → IsStorable t → IsMessage (message_b
 
 -- what is counted where so many waited at first and so many arrived
 pub record AreCounted (waited arrived : ℕ) (p : Progress) : Type 0 where
-  pub applied : p.applied ≤ arrived
-  pub repeated : p.repeated ≤ arrived
-  pub held : p.held ≤ arrived
-  pub released : p.released + length (p.state).waiting ≤ waited + arrived
-  pub refused : length p.refused + length (p.state).waiting ≤ waited + arrived + arrived
+  pub applied : p.counts.applied ≤ arrived
+  pub repeated : p.counts.repeated ≤ arrived
+  pub held : p.counts.held ≤ arrived
+  pub released : p.counts.released + length (p.state).waiting ≤ waited + arrived
+  pub refused : length p.counts.refused + length (p.state).waiting ≤ waited + arrived + arrived
 
 abbrev pub TakenCounted : Type 0
 TakenCounted = (t : State) (m : Message) → AreCounted (length t.waiting) (length m.ops) (take_message t m)
@@ -113,11 +113,11 @@ LinesCounted L F = (reads : State → L → Result Edit F) (t : State) (lines : 
 
 -- each count fits eight bytes
 pub record AreLarge (p : Progress) : Type 0 where
-  pub applied : p.applied < 2 ^ 64
-  pub repeated : p.repeated < 2 ^ 64
-  pub held : p.held < 2 ^ 64
-  pub released : p.released < 2 ^ 64
-  pub refused : length p.refused < 2 ^ 64
+  pub applied : p.counts.applied < 2 ^ 64
+  pub repeated : p.counts.repeated < 2 ^ 64
+  pub held : p.counts.held < 2 ^ 64
+  pub released : p.counts.released < 2 ^ 64
+  pub refused : length p.counts.refused < 2 ^ 64
 
 abbrev pub CountsFit : Type 0
 CountsFit = (t : State) (bytes : List ℕ) (m : Message) → IsSpelledJournal t → IsMessage bytes m → AreLarge (take_message t m)

@@ -185,7 +185,7 @@ fn take_all(
     requires member { message.from < members replica.old }
     requires counts { length message.vector ≡ members replica.old }
     ensures taken { IfOk result (λ found. found ≡ taken_of (take_ops (started None replica.old) message.ops)) }
-    ensures noted { OnOk result (IsNoted (take_ops (started None replica.old) message.ops).seen notes.old.items message.from message.vector replica.new notes.new.items) }
+    ensures noted { OnOk result (IsNoted (take_ops (started None replica.old) message.ops).state notes.old.items message.from message.vector replica.new notes.new.items) }
     ensures part { OnErr result (IsPartOfOps replica.old message.ops replica.new × (notes.new.items ≡ notes.old.items)) }
     ensures ops { AreOps message.ops }
     ensures vector { IsVector (members replica.old) message.vector }

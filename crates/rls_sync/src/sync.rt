@@ -63,7 +63,7 @@ pub fn take_bytes(
     bytes: &[u8],
 ) -> Result<Taken, TakeBytesError>
     ensures taken { IfOk result (λ taken. (m : Message) × (message_of bytes.now ≡ Ok m) × (IsForeign replica.old m → ⊥)
-        × (taken ≡ taken_of (taken_over replica.old m)) × (replica.new ≡ (taken_over replica.old m).seen)) }
+        × (taken ≡ taken_of (taken_over replica.old m)) × (replica.new ≡ (taken_over replica.old m).state)) }
     ensures malformed { (at : ℕ) → IsErrOf result (TakeBytesError.Malformed at) → (message_of bytes.now ≡ Err at) × (replica.new ≡ replica.old) }
     ensures other_group { (g n : ℕ) → IsErrOf result (TakeBytesError.OtherGroup g n)
         → (m : Message) × (message_of bytes.now ≡ Ok m) × IsForeign replica.old m × (g ≡ m.group) × (n ≡ m.members) × (replica.new ≡ replica.old) }

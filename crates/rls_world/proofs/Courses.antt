@@ -63,7 +63,7 @@ happened_length s (events.Deliver k to) = go (slice_get s.replicas to) (slice_ge
     go : (r : Option Seen) (m : Option Message) → length (delivered_at s to r m).replicas ≡ length s.replicas
     go None m = refl
     go (Some r) None = refl
-    go (Some r) (Some m) = length-set s.replicas to (taken_over r m).seen
+    go (Some r) (Some m) = length-set s.replicas to (taken_over r m).state
 happened_length s (events.Drop i) = go (slice_get s.replicas i)
   where
     go : (r : Option Seen) → length (dropped_at s i r).replicas ≡ length s.replicas

@@ -1,14 +1,14 @@
 -- No step of a replica changes its group or its count of members.
-use Rattle.std.proofs.Common.{◌≡◌, ℕ, zero, suc, Bool, true, false, List, [], ◌∷◌, length, refl, sym, ◌∙◌, subst, Option, Some, None, if◌then◌else◌}
+use Rattle.std.proofs.Common.{◌≡◌, ℕ, zero, suc, false, List, [], ◌∷◌, length, refl, sym, ◌∙◌, subst, Option, Some, None}
 use Rattle.std.specs.Prelude.{slice_get, slice_set}
 use Rattle.rls_ident.proofs.Members.{some_is}
 use Rattle.rls_ops.specs.declared.op.Op.{Op}
 use Rattle.rls_ops.specs.declared.message.Message.{Message}
-use Rattle.rls_model.specs.Answers.{Reason, Answer, Applies, Repeats, Waits, Refuses, Released}
-use Rattle.rls_model.specs.Taking.{has_room}
+use Rattle.rls_model.specs.Answers.{Reason, Answer, Applies, Repeats, Waits, Refuses}
+use Rattle.rls_model.proofs.Machines.{acknowledge_keeps, states_after_ops}
 use Rattle.rls_seen.specs.Seen.{Seen, members}
-use Rattle.rls_seen.specs.Over.{accepted, holding, after_answer, answer_over, received, refusal_over, first_ready, after_refusal, release_over, after_release, released, released_times, released_all, acknowledged}
-use Rattle.rls_seen.specs.Messages.{Course, started, moved, with_answer, with_refusal, with_release, receive_step, release_step, release_steps, with_releases, acknowledge_step, take_ops, taken_within, IsPartTaken}
+use Rattle.rls_seen.specs.Over.{accepted, holding, after_answer, answer_over, received, refusal_over, first_ready, after_refusal, after_release, released, released_times, released_all, acknowledged}
+use Rattle.rls_seen.specs.Messages.{by_parts, Course, started, take_ops, taken_within, IsPartTaken}
 use Rattle.rls_seen.specs.Kept.{dropped}
 use Rattle.rls_seen.proofs.Counting.{members_accepted, members_acknowledged}
 use Rattle.rls_world.specs.Seen.{IsOfGroup, AreOfGroup}
@@ -79,51 +79,18 @@ pub all_alike : (s : Seen) → IsAlike s (released_all s)
 unfolding released_all
 all_alike s = times_alike (length s.waiting) s
 
-receive_alike : (c : Course) (o : Op) → IsAlike c.seen (receive_step c o).seen
-receive_alike c o = go (has_room c.limit) (answer_over false c.seen o)
-  where
-    go : (b : Bool) (a : Answer) → IsAlike c.seen (if b then with_answer (moved c (received c.seen o)) o a else c).seen
-    go true Applies = received_alike c.seen o
-    go true Repeats = received_alike c.seen o
-    go true Waits = received_alike c.seen o
-    go true (Refuses r) = received_alike c.seen o
-    go false a = alike_same c.seen
+ops_alike : (os : List Op) (c : Course) → IsAlike c.state (take_ops c os).state
+ops_alike os c =
+    states_after_ops by_parts (λ o. Unit {0}) (IsAlike c.state)
+    (record { receives = λ s o u h. alike_on c.state s (received s o) h (received_alike s o); releases = λ s h. alike_on c.state s (released s) h (released_alike s) })
+    os c (λ o u. tt) (alike_same c.state)
 
-release_alike : (c : Course) → IsAlike c.seen (release_step c).seen
-release_alike c = go (has_room c.limit) (release_over c.seen)
-  where
-    more : (a q : ℕ) (x : Option Reason) → IsAlike c.seen (with_refusal (moved c (released c.seen)) a q x).seen
-    more a q None = released_alike c.seen
-    more a q (Some r) = released_alike c.seen
-
-    go : (b : Bool) (x : Option Released) → IsAlike c.seen (if b then with_release c x else c).seen
-    go true None = alike_same c.seen
-    go true (Some r) = more r.author r.seq r.refusal
-    go false x = alike_same c.seen
-
-releases_alike : (n : ℕ) (c : Course) → IsAlike c.seen (release_steps n c).seen
-releases_alike zero c = alike_same c.seen
-releases_alike (suc n) c = alike_on c.seen (release_step c).seen (release_steps n (release_step c)).seen (release_alike c) (releases_alike n (release_step c))
-
-ops_alike : (os : List Op) (c : Course) → IsAlike c.seen (take_ops c os).seen
-ops_alike [] c = alike_same c.seen
-ops_alike (o ∷ os) c =
-    let d = receive_step c o in
-    let r = with_releases d in
-    alike_on c.seen r.seen (take_ops r os).seen (alike_on c.seen d.seen r.seen (receive_alike c o) (releases_alike (length d.seen.waiting) d)) (ops_alike os r)
-
-noted_alike : (c : Course) (a : ℕ) (v : List ℕ) → IsAlike c.seen (acknowledge_step c a v).seen
-noted_alike c a v = go (has_room c.limit)
-  where
-    go : (b : Bool) → IsAlike c.seen (if b then moved c (acknowledged c.seen a v) else c).seen
-    go true = acknowledged_alike c.seen a v
-    go false = alike_same c.seen
-
-pub taken_alike : (limit : Option ℕ) (s : Seen) (m : Message) → IsAlike s (taken_within limit s m).seen
+pub taken_alike : (limit : Option ℕ) (s : Seen) (m : Message) → IsAlike s (taken_within limit s m).state
 unfolding taken_within
 taken_alike limit s m =
     let c = take_ops (started limit s) m.ops in
-    alike_on s c.seen (acknowledge_step c m.from m.vector).seen (ops_alike m.ops (started limit s)) (noted_alike c m.from m.vector)
+    let h = ops_alike m.ops (started limit s) in
+    acknowledge_keeps by_parts (IsAlike s) c m.from m.vector (alike_on s c.state (acknowledged c.state m.from m.vector) h (acknowledged_alike c.state m.from m.vector)) h
 
 pub part_alike : (s r : Seen) (m : Message) → IsPartTaken s m r → IsAlike s r
 part_alike s r m p = subst (IsAlike s) (sym p.1) (taken_alike (Some p.0) s m)

@@ -1,5 +1,5 @@
 -- An edit and the releases behind it, whole or cut short.
-use Rattle.std.proofs.Common.{◌≡◌, ℕ, zero, suc, ◌-◌, ◌<◌, ◌≤◌, Bool, true, false, cond, length, refl, sym, ap, ◌∙◌, subst, arith, inl, inr, Option, Some, None, nat_le}
+use Rattle.std.proofs.Common.{◌≡◌, ℕ, zero, suc, ◌-◌, ◌<◌, ◌≤◌, cond, length, refl, sym, ap, ◌∙◌, subst, arith, inl, inr, Option, Some, None, nat_le}
 use Rattle.rls_ident.specs.Vectors.{at_most}
 use Rattle.rls_ident.proofs.Members.{bool_cases, found_in, le_is, lt_test, not_le_is}
 use Rattle.rls_ops.specs.declared.op.Op.{Op}
@@ -7,29 +7,25 @@ use Rattle.rls_ops.proofs.Waiting.{less_without, numbered_test}
 use Rattle.rls_model.specs.declared.edit.Edit.{Edit}
 use Rattle.rls_model.specs.Answers.{Reason, Released}
 use Rattle.rls_model.specs.EditRun.{edit_within}
-use Rattle.rls_model.specs.EditRun as model_edits
-use Rattle.rls_model.specs.Editing.{made}
-use Rattle.rls_model.specs.Receiving.{State, accept}
+use Rattle.rls_model.specs.Receiving.{State}
 use Rattle.rls_model.specs.Taking.{Limit, has_room, one_less}
-use Rattle.rls_model.specs.Taking as model
 use Rattle.rls_model.specs.WellFormed.{IsEdit}
+use Rattle.rls_model.proofs.Machines.{no_releases, released_limit}
 use Rattle.rls_seen.specs.Seen.{Seen, vector, members}
 use Rattle.rls_seen.specs.Over.{accepted, holding, refusal_over, first_ready, release_over, after_refusal, after_release, released, released_times, released_all}
-use Rattle.rls_seen.specs.Edits.{made_over, edited, edit_fault_over}
-use Rattle.rls_seen.specs.Messages.{Course, started, moved, with_release, with_refusal, release_step, release_steps, with_releases, edit_step}
+use Rattle.rls_seen.specs.Edits.{edited, edit_fault_over}
+use Rattle.rls_seen.specs.Messages.{by_parts, Course, started, moved, with_release, release_step, release_steps, with_releases, edit_step}
 use Rattle.rls_seen.specs.Stands.{StandsFor}
-use Rattle.rls_seen.proofs.Counting.{members_accepted}
-use Rattle.rls_seen.proofs.Editing.{edited_stands}
-use Rattle.rls_seen.proofs.Repeating.{released_none, released_seen, released_limit, no_releases}
-use Rattle.rls_seen.proofs.Taking.{Goes, started_goes, releases_go}
+use Rattle.rls_seen.proofs.Repeating.{released_none, released_seen}
+use Rattle.rls_seen.proofs.Taking.{Goes, edited_goes}
 use Rattle.rls_world.specs.Events.{IsPartEdited}
 
 -- ---- releases
 
 -- releases without an end
-pub steps_seen : (n : ℕ) (c : Course) → c.limit ≡ None → (release_steps n c).seen ≡ released_times n c.seen
+pub steps_seen : (n : ℕ) (c : Course) → c.limit ≡ None → (release_steps n c).state ≡ released_times n c.state
 steps_seen zero c e = refl
-steps_seen (suc n) c e = steps_seen n (release_step c) (released_limit c e) ∙ ap (released_times n) (released_seen c e)
+steps_seen (suc n) c e = steps_seen n (release_step c) (released_limit by_parts c e) ∙ ap (released_times n) (released_seen c e)
 
 times_same : (n : ℕ) (s : Seen) → released s ≡ s → released_times n s ≡ s
 times_same zero s e = refl
@@ -42,37 +38,20 @@ least (suc k) zero = zero
 least (suc k) (suc m) = suc (least k m)
 
 -- a release that takes a step
-cut_seen : (c : Course) (k : ℕ) (r : Option Released) → c.limit ≡ Some (suc k) → release_over c.seen ≡ r → (m : ℕ)
-    → ((d : Course) (j : ℕ) → d.limit ≡ Some j → (release_steps m d).seen ≡ released_times (least j m) d.seen)
-    → (release_steps m (with_release c r)).seen ≡ released_times (least k m) (released c.seen)
-cut_seen c k None e f m ih = ih c (suc k) e ∙ (times_same (least (suc k) m) c.seen (released_none c.seen f) ∙ (sym (times_same (least k m) c.seen (released_none c.seen f)) ∙ ap (released_times (least k m)) (sym (released_none c.seen f))))
-cut_seen c k (Some r) e f m ih = ih d k limit ∙ ap (released_times (least k m)) seen
-  where
-    d : Course
-    d = with_release c (Some r)
-
-    refusal_limit : (x : Course) (a q : ℕ) (y : Option Reason) → (with_refusal x a q y).limit ≡ x.limit
-    refusal_limit x a q None = refl
-    refusal_limit x a q (Some y) = refl
-
-    refusal_seen : (x : Course) (a q : ℕ) (y : Option Reason) → (with_refusal x a q y).seen ≡ x.seen
-    refusal_seen x a q None = refl
-    refusal_seen x a q (Some y) = refl
-
-    limit : d.limit ≡ Some k
-    limit = let q : suc k - 1 ≡ k = omega arith in refusal_limit (moved c (released c.seen)) r.author r.seq r.refusal ∙ (ap one_less e ∙ ap (λ j. Some j) q)
-
-    seen : d.seen ≡ released c.seen
-    seen = refusal_seen (moved c (released c.seen)) r.author r.seq r.refusal
+cut_seen : (c : Course) (k : ℕ) (r : Option Released) → c.limit ≡ Some (suc k) → release_over c.state ≡ r → (m : ℕ)
+    → ((d : Course) (j : ℕ) → d.limit ≡ Some j → (release_steps m d).state ≡ released_times (least j m) d.state)
+    → (release_steps m (with_release c r)).state ≡ released_times (least k m) (released c.state)
+cut_seen c k None e f m ih = ih c (suc k) e ∙ (times_same (least (suc k) m) c.state (released_none c.state f) ∙ (sym (times_same (least k m) c.state (released_none c.state f)) ∙ ap (released_times (least k m)) (sym (released_none c.state f))))
+cut_seen c k (Some r) e f m ih = let q : suc k - 1 ≡ k = omega arith in ih (with_release c (Some r)) k (ap one_less e ∙ ap (λ j. Some j) q)
 
 -- releases that are cut short
-pub steps_cut : (m : ℕ) (c : Course) (k : ℕ) → c.limit ≡ Some k → (release_steps m c).seen ≡ released_times (least k m) c.seen
+pub steps_cut : (m : ℕ) (c : Course) (k : ℕ) → c.limit ≡ Some k → (release_steps m c).state ≡ released_times (least k m) c.state
 steps_cut zero c zero e = refl
 steps_cut zero c (suc k) e = refl
-steps_cut (suc m) c zero e = ap (λ (d : Course). d.seen) (no_releases (suc m) c e)
+steps_cut (suc m) c zero e = ap (λ (d : Course). d.state) (no_releases by_parts (suc m) c e)
 steps_cut (suc m) c (suc k) e =
-    ap (λ b. (release_steps m (cond b (with_release c (release_over c.seen)) c)).seen) (ap has_room e ∙ lt_test 0 (suc k) (omega arith))
-    ∙ cut_seen c k (release_over c.seen) e refl m (λ d j f. steps_cut m d j f)
+    ap (λ b. (release_steps m (cond b (with_release c (release_over c.state)) c)).state) (ap has_room e ∙ lt_test 0 (suc k) (omega arith))
+    ∙ cut_seen c k (release_over c.state) e refl m (λ d j f. steps_cut m d j f)
 
 -- ---- no more than wait
 
@@ -123,21 +102,8 @@ edit_course : Limit → Seen → Edit → Course
 edit_course limit s edit = with_releases (edit_step (started limit s) edit)
 
 edit_goes : (limit : Limit) (s : Seen) (t : State) (edit : Edit) → IsEdit edit → edit_fault_over s edit ≡ None → StandsFor s t → Goes (members s) (edit_course limit s edit) (edit_within limit t edit)
-unfolding edit_course edit_within made_over
-edit_goes limit s t edit w f h = releases_go (members s) (edit_step (started limit s) edit) (model_edits.edit_step (model.started limit t) edit) (go (has_room limit))
-  where
-    go : (b : Bool) → Goes (members s) (cond b (moved (started limit s) (edited s edit)) (started limit s)) (cond b (model.moved (model.started limit t) (accept t (made t.history edit))) (model.started limit t))
-    go true = record {
-      members_are = members_accepted s (made_over s edit);
-      stands = edited_stands s t edit w f h;
-      limit = refl;
-      applied = refl;
-      released = refl;
-      repeated = refl;
-      held = refl;
-      refused = refl;
-    }
-    go false = started_goes limit s t h
+unfolding edit_course
+edit_goes limit s t edit w f h = edited_goes limit s t edit w f h
 
 -- whole
 pub edit_stands : (s : Seen) (t : State) (edit : Edit) → IsEdit edit → edit_fault_over s edit ≡ None → StandsFor s t → StandsFor (released_all (edited s edit)) (edit_within None t edit).state
@@ -145,13 +111,13 @@ unfolding edit_course released_all
 edit_stands s t edit w f h =
     subst (λ u. StandsFor u (edit_within None t edit).state)
     (steps_seen (length (edited s edit).waiting) (moved (started None s) (edited s edit)) refl)
-    (edit_goes None s t edit w f h).stands
+    (edit_goes None s t edit w f h).states.1
 
 -- cut short
 pub edit_part : (s r : Seen) (t : State) (edit : Edit) → IsEdit edit → edit_fault_over s edit ≡ None → StandsFor s t → IsPartEdited s edit r → (n : ℕ) × StandsFor r (edit_within (Some n) t edit).state
 unfolding edit_course
 edit_part s r t edit w f h (inl e) =
-    (0, subst (λ u. StandsFor u (edit_within (Some 0) t edit).state) (ap (λ (d : Course). d.seen) (no_releases (length s.waiting) (started (Some 0) s) refl) ∙ sym e) (edit_goes (Some 0) s t edit w f h).stands)
+    (0, subst (λ u. StandsFor u (edit_within (Some 0) t edit).state) (ap (λ (d : Course). d.state) (no_releases by_parts (length s.waiting) (started (Some 0) s) refl) ∙ sym e) (edit_goes (Some 0) s t edit w f h).states.1)
 edit_part s r t edit w f h (inr p) =
     let n = p.1.0 in
     let c = moved (started (Some (suc n)) s) (edited s edit) in
@@ -159,6 +125,6 @@ edit_part s r t edit w f h (inr p) =
     let first : edit_course (Some (suc n)) s edit ≡ with_releases c = ap (λ b. with_releases (cond b c (started (Some (suc n)) s))) (lt_test 0 (suc n) (omega arith)) in (
       suc n,
       subst (λ u. StandsFor u (edit_within (Some (suc n)) t edit).state)
-          (ap (λ (d : Course). d.seen) first ∙ steps_cut (length (edited s edit).waiting) c n k ∙ (times_least n (edited s edit) ∙ sym p.1.1))
-          (edit_goes (Some (suc n)) s t edit w f h).stands,
+          (ap (λ (d : Course). d.state) first ∙ steps_cut (length (edited s edit).waiting) c n k ∙ (times_least n (edited s edit) ∙ sym p.1.1))
+          (edit_goes (Some (suc n)) s t edit w f h).states.1,
     )

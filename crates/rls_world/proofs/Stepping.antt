@@ -93,7 +93,7 @@ deliver_there : (s : WorldSeen) (k to : ℕ) → to < length s.replicas → k < 
 deliver_there s k to a b = ap (λ x. or_else x (message_fault s k)) (member_there s to a) ∙ message_there s k b
 
 pub deliver_step : (s new : WorldSeen) (k to : ℕ) (r u : Seen) (m : Message) (t : Taken) → to < length s.replicas → k < length s.sent → slice_get s.replicas to ≡ Some r → slice_get s.sent k ≡ Some m → t ≡ taken_of (taken_over r m)
-    → u ≡ (taken_over r m).seen → new ≡ with_replica s to u → IsStep s (events.Deliver k to) (Ok (outcomes.Took t)) new
+    → u ≡ (taken_over r m).state → new ≡ with_replica s to u → IsStep s (events.Deliver k to) (Ok (outcomes.Took t)) new
 unfolding happened outcome_over
 deliver_step s new k to r u m t a b e f h j n = (
   deliver_there s k to a b,

@@ -21,8 +21,8 @@ NoneRefused _ = Unit {0}
 abbrev pub EditsOwn : World → List Happening → Event → Type 0
 EditsOwn w hs (events.Edit i edit) = (t : State) → IsAt w i t →
     IsIn (made t.history edit) (ops (edit_within None t edit).state.history)
-    × ((edit_within None t edit).refused ≡ [])
-    × (AreWhole hs → (edit_within None t edit).released ≡ 0)
+    × ((edit_within None t edit).counts.refused ≡ [])
+    × (AreWhole hs → (edit_within None t edit).counts.released ≡ 0)
 EditsOwn w hs _ = Unit {0}
 
 -- nothing is refused, and what waits afterwards was made by its authors

@@ -56,7 +56,7 @@ sent_at w (Some s) to = record { replicas = w.replicas; sent = w.sent ++ message
 
 -- a member takes a message
 abbrev pub delivered_at : WorldSeen → ℕ → Option Seen → Option Message → WorldSeen
-delivered_at w i (Some s) (Some m) = with_replica w i (taken_over s m).seen
+delivered_at w i (Some s) (Some m) = with_replica w i (taken_over s m).state
 delivered_at w i _ _ = w
 
 -- a member drops what is stable
@@ -133,7 +133,7 @@ IsEdited old edit _ new = ⊥
 
 -- a message is taken with this answer
 abbrev pub IsDelivered : Seen → Message → Result Outcome StepError → Seen → Type 0
-IsDelivered old m (Ok (outcomes.Took t)) new = (t ≡ taken_of (taken_over old m)) × (new ≡ (taken_over old m).seen)
+IsDelivered old m (Ok (outcomes.Took t)) new = (t ≡ taken_of (taken_over old m)) × (new ≡ (taken_over old m).state)
 IsDelivered old m (Err faults.OutOfMemory) new = (new ≡ old) ⊎ IsPartTaken old m new
 IsDelivered old m _ new = ⊥
 
