@@ -224,36 +224,36 @@ read_or_long input f = go (within_or_past input_limit (length input))
 
 pub edits_saved : (words : List (List ℕ)) (file new_file : Option (Option (List ℕ))) (left : Option (List ℕ)) (bytes script : List ℕ) (t : State) (lines : List Line) (p : Progress) (n : ℕ) (k i o : Type 0) (old new : Option (List ℕ))
     → Ends words file new_file left n k i o old new → Asks words Edit file bytes t → left ≡ Some script → script_of script ≡ Ok lines → run_script t lines ≡ Done p
-    → Saves n p.state (edit_text (length lines) p.released (length p.refused)) p.refused (IsTooLong bytes script p.state) new_file old new
+    → Saves n p.state (edit_text (length lines) p.counts.released (length p.counts.refused)) p.counts.refused (IsTooLong bytes script p.state) new_file old new
 edits_saved words file new_file left bytes script t lines p n k i o old new e a l parsed ran =
-    let report = edit_text (length lines) p.released (length p.refused) in
-    let after : due_of_script t (script_of script) ≡ stores (saved p.state) report p.refused = rw (parsed, ran) refl in
-    let stored = subst (λ (x : Due). StoresOrTooLong x p.state report p.refused (file_limit < length (journal_bytes p.state))) (sym after) (stored_or_long p.state report p.refused) in
-    let at_state = through (due_at Edit t script) (due_of_script t (script_of script)) p.state report p.refused (input_limit < length script) (file_limit < length (journal_bytes p.state))
+    let report = edit_text (length lines) p.counts.released (length p.counts.refused) in
+    let after : due_of_script t (script_of script) ≡ stores (saved p.state) report p.counts.refused = rw (parsed, ran) refl in
+    let stored = subst (λ (x : Due). StoresOrTooLong x p.state report p.counts.refused (file_limit < length (journal_bytes p.state))) (sym after) (stored_or_long p.state report p.counts.refused) in
+    let at_state = through (due_at Edit t script) (due_of_script t (script_of script)) p.state report p.counts.refused (input_limit < length script) (file_limit < length (journal_bytes p.state))
     (read_or_long script (λ bytes. due_of_script t (script_of bytes))) stored in
-    saved_at words Edit file new_file left bytes script report p.refused t p.state ((input_limit < length script) ⊎ (file_limit < length (journal_bytes p.state))) n k i o old new e a l refl at_state
+    saved_at words Edit file new_file left bytes script report p.counts.refused t p.state ((input_limit < length script) ⊎ (file_limit < length (journal_bytes p.state))) n k i o old new e a l refl at_state
     (script_storable bytes script t lines p a.stands parsed ran)
 
 pub leave_saved : (words : List (List ℕ)) (file new_file : Option (Option (List ℕ))) (left : Option (List ℕ)) (bytes : List ℕ) (t : State) (p : Progress) (n : ℕ) (k i o : Type 0) (old new : Option (List ℕ))
     → Ends words file new_file left n k i o old new → Asks words Leave file bytes t → run_leave t ≡ Done p
-    → Saves n p.state (edit_text 1 p.released (length p.refused)) p.refused (IsFileTooLong bytes p.state) new_file old new
+    → Saves n p.state (edit_text 1 p.counts.released (length p.counts.refused)) p.counts.refused (IsFileTooLong bytes p.state) new_file old new
 leave_saved words file new_file left bytes t p n k i o old new e a ran =
-    let report = edit_text 1 p.released (length p.refused) in
-    let after : due_at Leave t [] ≡ stores (saved p.state) report p.refused = rw ran refl in
-    let at_state = subst (λ (x : Due). StoresOrTooLong x p.state report p.refused (file_limit < length (journal_bytes p.state))) (sym after) (stored_or_long p.state report p.refused) in
-    saved_at words Leave file new_file left bytes [] report p.refused t p.state (file_limit < length (journal_bytes p.state)) n k i o old new e a refl refl at_state (leave_storable bytes t p a.stands ran)
+    let report = edit_text 1 p.counts.released (length p.counts.refused) in
+    let after : due_at Leave t [] ≡ stores (saved p.state) report p.counts.refused = rw ran refl in
+    let at_state = subst (λ (x : Due). StoresOrTooLong x p.state report p.counts.refused (file_limit < length (journal_bytes p.state))) (sym after) (stored_or_long p.state report p.counts.refused) in
+    saved_at words Leave file new_file left bytes [] report p.counts.refused t p.state (file_limit < length (journal_bytes p.state)) n k i o old new e a refl refl at_state (leave_storable bytes t p a.stands ran)
 
 pub message_saved : (words : List (List ℕ)) (file new_file : Option (Option (List ℕ))) (left : Option (List ℕ)) (bytes given : List ℕ) (t : State) (m : Message) (n : ℕ) (k i o : Type 0) (old new : Option (List ℕ))
     → Ends words file new_file left n k i o old new → Asks words Take file bytes t → left ≡ Some given → IsMessage given m → IsTrue (is_for t.history m) → let p = take_message t m in
-    Saves n p.state (take_text p.applied p.released p.repeated p.held (length p.refused)) p.refused (IsTooLong bytes given p.state) new_file old new
+    Saves n p.state (take_text p.counts.applied p.counts.released p.counts.repeated p.counts.held (length p.counts.refused)) p.counts.refused (IsTooLong bytes given p.state) new_file old new
 message_saved words file new_file left bytes given t m n k i o old new e a l is right =
     let p = take_message t m in
-    let report = take_text p.applied p.released p.repeated p.held (length p.refused) in
-    let after : due_of_message t (message_of given) ≡ stores (saved p.state) report p.refused = rw (message_again given m is, right) refl in
-    let stored = subst (λ (x : Due). StoresOrTooLong x p.state report p.refused (file_limit < length (journal_bytes p.state))) (sym after) (stored_or_long p.state report p.refused) in
-    let at_state = through (due_at Take t given) (due_of_message t (message_of given)) p.state report p.refused (input_limit < length given) (file_limit < length (journal_bytes p.state))
+    let report = take_text p.counts.applied p.counts.released p.counts.repeated p.counts.held (length p.counts.refused) in
+    let after : due_of_message t (message_of given) ≡ stores (saved p.state) report p.counts.refused = rw (message_again given m is, right) refl in
+    let stored = subst (λ (x : Due). StoresOrTooLong x p.state report p.counts.refused (file_limit < length (journal_bytes p.state))) (sym after) (stored_or_long p.state report p.counts.refused) in
+    let at_state = through (due_at Take t given) (due_of_message t (message_of given)) p.state report p.counts.refused (input_limit < length given) (file_limit < length (journal_bytes p.state))
     (read_or_long given (λ bytes. due_of_message t (message_of bytes))) stored in
-    saved_at words Take file new_file left bytes given report p.refused t p.state ((input_limit < length given) ⊎ (file_limit < length (journal_bytes p.state))) n k i o old new e a l refl at_state
+    saved_at words Take file new_file left bytes given report p.counts.refused t p.state ((input_limit < length given) ⊎ (file_limit < length (journal_bytes p.state))) n k i o old new e a l refl at_state
     (taken_stored t given m is (eqb-true m.members (members_of t.history) (and_right (m.group == group_of t.history) (m.members == members_of t.history) right)) (read_is_storable bytes t a.stands))
 
 -- ---- a fresh replica

@@ -93,7 +93,7 @@ taken_due t j new m found r tells none after made =
     let p = take_message t m in
     let there : told new ≡ p.state = told_is new p.state after.1 in
     let at_found = subst (λ (f : Taken). IsDue r (stores (saved (told new)) (take_text f.applied f.released f.repeated f.held (length f.refused)) f.refused)) after.0 made in
-    let at_state = subst (λ (s : State). IsDue r (stores (saved s) (take_text p.applied p.released p.repeated p.held (length p.refused)) p.refused)) there at_found in
+    let at_state = subst (λ (s : State). IsDue r (stores (saved s) (take_text p.counts.applied p.counts.released p.counts.repeated p.counts.held (length p.counts.refused)) p.counts.refused)) there at_found in
     rw (is_for_us t j m tells none) at_state
 
 -- the same numbers, the same end

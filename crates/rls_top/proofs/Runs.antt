@@ -1,5 +1,5 @@
 -- Runs of lines, step by step.
-use Rattle.std.proofs.Common.{◌≡◌, ◌∙◌, ◌+◌, ◌≤◌, ◌==◌, ℕ, Bool, true, false, cond, eqb, List, [], ◌∷◌, length, Option, Some, None, Result, Ok, Err, refl, sym, ap, subst, arith, ◌||◌, nat_lt, drop, sum, zero, suc, slice_get}
+use Rattle.std.proofs.Common.{◌≡◌, ◌∙◌, ◌+◌, ◌≤◌, ◌==◌, ℕ, Bool, true, false, cond, eqb, List, [], ◌∷◌, length, Option, Some, None, Result, Ok, Err, refl, sym, ap, subst, arith, ◌||◌, nat_lt, drop, sum, suc, slice_get}
 use Rattle.std.specs.Str.{chars}
 use Rattle.std.proofs.lemmas.Bool.{eqb-true}
 use Rattle.unicode_segmentation.specs.Grapheme.{graphemes}
@@ -9,11 +9,11 @@ use Rattle.rls_model.specs.declared.edit.EditError.{EditError}
 use Rattle.rls_model.specs.declared.edit.EditError.TheVariants as errors
 use Rattle.rls_model.specs.declared.receipt.Taken.{Taken}
 use Rattle.rls_model.specs.Editing.{made, edit_fault}
-use Rattle.rls_model.specs.Receiving.{State, accept, release, release_after}
-use Rattle.rls_model.specs.Answers.{Reason, Released}
+use Rattle.rls_model.specs.Receiving.{State, accept}
 use Rattle.rls_model.specs.EditRun.{Run, Done, Stopped, run_from, run_lines, go_on, edit_step}
 use Rattle.rls_model.specs.History.{count}
-use Rattle.rls_model.specs.Taking.{Limit, has_room, one_less, Progress, moved, taken, with_refusal, with_release, release_step, release_steps, with_releases}
+use Rattle.rls_model.specs.Taking.{by_history, Limit, Progress, taken, with_releases}
+use Rattle.rls_model.proofs.Machines.{releases_limit}
 use Rattle.rls_ident.specs.Vectors.{raise}
 use Rattle.rls_ident.proofs.Loops.{drop_reads}
 use Rattle.rls_ident.proofs.Vectors.{sum-raise_le}
@@ -41,7 +41,7 @@ use Rattle.rls_file.proofs.Telling.{tells_told}
 
 -- the state on the way, with what was counted
 abbrev pub course_of : State → Taken → Progress
-course_of s t = record { state = s; limit = None; applied = t.applied; released = t.released; repeated = t.repeated; held = t.held; refused = t.refused }
+course_of s t = record { state = s; limit = None; counts = t }
 
 -- the state that a journal tells
 pub told_is : (j : JournalSeen) (t : State) → Tells j t → told j ≡ t
@@ -111,22 +111,6 @@ counted_on old new t (Ok edit) n tells accepted h =
 
 -- ---- one line after another
 
--- as many steps are left
-refusal_limit : (p : Progress) (a s : ℕ) (r : Option Reason) → p.limit ≡ None → (with_refusal p a s r).limit ≡ None
-refusal_limit p a s None e = e
-refusal_limit p a s (Some r) e = e
-
-release_limit : (p : Progress) (r : Option Released) → p.limit ≡ None → (with_release p r).limit ≡ None
-release_limit p None e = e
-release_limit p (Some r) e = refusal_limit (moved p (release_after p.state)) r.author r.seq r.refusal (ap one_less e)
-
-step_limit : (p : Progress) → p.limit ≡ None → (release_step p).limit ≡ None
-step_limit p e = rw (ap has_room e) (release_limit p (release p.state) e)
-
-steps_limit : (n : ℕ) (p : Progress) → p.limit ≡ None → (release_steps n p).limit ≡ None
-steps_limit zero p e = e
-steps_limit (suc n) p e = steps_limit n (release_step p) (step_limit p e)
-
 -- the state and the counts make the progress
 course_is : (p : Progress) (found : Taken) (t : State) → p.limit ≡ None → found ≡ taken p → t ≡ p.state → course_of t found ≡ p
 course_is p found t l f e =
@@ -144,16 +128,16 @@ unfolding run_lines
 run_begins reads t found lines e = rw e refl
 
 -- what is left is the line and what comes behind it
-run_reads : {L : Type 0} (reads : Reading L) (n : ℕ) (p : Progress) (lines : List L) (i : ℕ) (line : L) (run : Run LineFault) → slice_get lines i ≡ Some line → run_from reads n p (drop i lines) ≡ run
+run_reads : {L : Type 0} (reads : Reading L) (n : ℕ) (p : Progress) (lines : List L) (i : ℕ) (line : L) (run : Run State LineFault) → slice_get lines i ≡ Some line → run_from reads n p (drop i lines) ≡ run
     → go_on n (reads p.state line) (λ edit. run_from reads (suc n) (with_releases (edit_step p edit)) (drop (i + 1) lines)) ≡ run
 run_reads {L} reads n p lines i line run s e = sym (ap (λ (ls : List L). run_from reads n p ls) (drop_reads lines i line s)) ∙ e
 
 -- a refused line stops the run
-pub run_stops : {L : Type 0} (reads : Reading L) (n : ℕ) (p : Progress) (lines : List L) (i : ℕ) (line : L) (run : Run LineFault) (stop : Stop) → slice_get lines i ≡ Some line
+pub run_stops : {L : Type 0} (reads : Reading L) (n : ℕ) (p : Progress) (lines : List L) (i : ℕ) (line : L) (run : Run State LineFault) (stop : Stop) → slice_get lines i ≡ Some line
     → run_from reads n p (drop i lines) ≡ run → IsRefused n stop (reads p.state line) → IsStopped stop run
 run_stops {L} reads n p lines i line run stop s e refused = go stop (reads p.state line) (run_reads reads n p lines i line run s e) refused
   where
-    rest : Edit → Run LineFault
+    rest : Edit → Run State LineFault
     rest edit = run_from reads (suc n) (with_releases (edit_step p edit)) (drop (i + 1) lines)
 
     go : (stop : Stop) (meant : Result Edit LineFault) → go_on n meant rest ≡ run → IsRefused n stop meant → IsStopped stop run
@@ -166,7 +150,7 @@ abbrev pub Releases : Taken → JournalSeen → Taken → JournalSeen → Type 0
 Releases found new last after = (q : Progress) → q.limit ≡ None → found ≡ taken q → Tells new q.state → (last ≡ taken (with_releases q)) × Tells after (with_releases q).state
 
 -- an accepted line, with what it makes ready, goes on
-pub run_goes_on : {L : Type 0} (reads : Reading L) (n m i : ℕ) (found last : Taken) (lines : List L) (line : L) (run : Run LineFault) (t : State) (new after : JournalSeen)
+pub run_goes_on : {L : Type 0} (reads : Reading L) (n m i : ℕ) (found last : Taken) (lines : List L) (line : L) (run : Run State LineFault) (t : State) (new after : JournalSeen)
     → m ≡ suc n → slice_get lines i ≡ Some line → run_from reads n (course_of t found) (drop i lines) ≡ run → IsAccepted t new (reads t line) → Releases found new last after
     → run_from reads m (course_of (told after) last) (drop (i + 1) lines) ≡ run
 run_goes_on {L} reads n m i found last lines line run t new after one_more s e accepted released =
@@ -181,7 +165,7 @@ run_goes_on {L} reads n m i found last lines line run t new after one_more s e a
     go (Ok edit) e accepted =
         let q = edit_step p edit in
         let r = released q refl refl accepted in
-        let there = course_is (with_releases q) last (told after) (steps_limit (length q.state.waiting) q refl) r.0 (told_is after (with_releases q).state r.1) in
+        let there = course_is (with_releases q) last (told after) (releases_limit by_history (length q.state.waiting) q refl) r.0 (told_is after (with_releases q).state r.1) in
         ap (λ (c : Progress). run_from reads (suc n) c (drop (i + 1) lines)) there ∙ e
 
 -- and the journal tells where it is
@@ -194,7 +178,7 @@ told_on found last t (Ok edit) new after accepted released =
 -- ---- one leave
 
 -- a stopped run calls for its end
-stopped_due : (n : ℕ) (stop : Stop) (run : Run LineFault) → IsStopped stop run → StopsAsDue stop (due_of_run n run)
+stopped_due : (n : ℕ) (stop : Stop) (run : Run State LineFault) → IsStopped stop run → StopsAsDue stop (due_of_run n run)
 stopped_due n (Failed OutOfMemory) run h = tt
 stopped_due n (Failed (failures.Edit l f)) run h = ap (due_of_run n) h
 stopped_due n stop run h = absurd h
@@ -214,9 +198,9 @@ leave_done t found last new after e accepted released =
 -- ---- the end of a script
 
 -- what was counted is reported, and the state that the journal tells is stored
-pub there_due : (n : ℕ) (found : Taken) (new : JournalSeen) (run : Run LineFault) (r : Result Made Stop) → IsThere found new run
+pub there_due : (n : ℕ) (found : Taken) (new : JournalSeen) (run : Run State LineFault) (r : Result Made Stop) → IsThere found new run
     → IsDue r (stores (saved (told new)) (edit_text n found.released (length found.refused)) found.refused) → IsDue r (due_of_run n run)
 there_due n found new (Stopped line fault) r there made = absurd there
 there_due n found new (Done p) r there made =
     let at_found = subst (λ (f : Taken). IsDue r (stores (saved (told new)) (edit_text n f.released (length f.refused)) f.refused)) there.0 made in
-    subst (λ (s : State). IsDue r (stores (saved s) (edit_text n p.released (length p.refused)) p.refused)) (told_is new p.state there.1) at_found
+    subst (λ (s : State). IsDue r (stores (saved s) (edit_text n p.counts.released (length p.counts.refused)) p.counts.refused)) (told_is new p.state there.1) at_found

@@ -96,8 +96,8 @@ abbrev pub due_of_send : History → ℕ → Due
 due_of_send H to = if nat_lt to (members_of H) then shows (message_bytes (message_for H to)) else Stops (Failed (NotMember to))
 
 -- after n edits
-abbrev pub due_of_run : ℕ → Run LineFault → Due
-due_of_run n (Done p) = stores (saved p.state) (edit_text n p.released (length p.refused)) p.refused
+abbrev pub due_of_run : ℕ → Run State LineFault → Due
+due_of_run n (Done p) = stores (saved p.state) (edit_text n p.counts.released (length p.counts.refused)) p.counts.refused
 due_of_run n (Stopped line fault) = Stops (Failed (failures.Edit line fault))
 
 -- the lines of a script, or the number of the first bad one
@@ -107,7 +107,7 @@ due_of_script s (Err line) = Stops (Failed (BadLine line))
 
 -- after a message was taken
 abbrev pub due_of_progress : Progress → Due
-due_of_progress p = stores (saved p.state) (take_text p.applied p.released p.repeated p.held (length p.refused)) p.refused
+due_of_progress p = stores (saved p.state) (take_text p.counts.applied p.counts.released p.counts.repeated p.counts.held (length p.counts.refused)) p.counts.refused
 
 -- the message is of this group and of as many members
 abbrev pub is_for : History → Message → Bool

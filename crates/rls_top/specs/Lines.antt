@@ -49,9 +49,9 @@ read_line s (Back at) = backward s at (cluster_before (encode_utf8_all (text s.h
 read_line s Rename = allowed s edits.Rename
 
 -- all lines, one after another
-abbrev pub run_script : State → List Line → Run LineFault
+abbrev pub run_script : State → List Line → Run State LineFault
 run_script s lines = run_lines read_line s lines
 
 -- one leave
-abbrev pub run_leave : State → Run LineFault
+abbrev pub run_leave : State → Run State LineFault
 run_leave s = run_lines allowed s (edits.Leave ∷ [])

@@ -43,17 +43,17 @@ IsPerformed n t (Ok u) new meant = IsAccepted t new meant
 IsPerformed n t (Err stop) new meant = IsRefused n stop meant
 
 -- the journal tells what the run leads to, and this was counted
-abbrev pub IsThere : Taken → JournalSeen → Run LineFault → Type 0
+abbrev pub IsThere : Taken → JournalSeen → Run State LineFault → Type 0
 IsThere found new (Done p) = (found ≡ taken p) × Tells new p.state
 IsThere found new (Stopped line fault) = ⊥
 
 -- a line is refused
-abbrev pub IsStopped : Stop → Run LineFault → Type 0
+abbrev pub IsStopped : Stop → Run State LineFault → Type 0
 IsStopped (Failed (failures.Edit line fault)) run = run ≡ Stopped line fault
 IsStopped (Failed OutOfMemory) run = Unit {0}
 IsStopped stop run = ⊥
 
 -- the run came to its end, or was stopped
-abbrev pub IsRun : Result Taken Stop → JournalSeen → Run LineFault → Type 0
+abbrev pub IsRun : Result Taken Stop → JournalSeen → Run State LineFault → Type 0
 IsRun (Ok found) new run = IsThere found new run
 IsRun (Err stop) new run = IsStopped stop run

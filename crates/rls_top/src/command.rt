@@ -215,12 +215,12 @@ pub fn run<K: Keeper, S: Source, W: Sink, E: Sink>(
         → Shows result bytes (message_bytes (message_for t.history to)) (W.told output.old) (W.told output.new) }
     ensures edit { (t : State) (bytes script : List ℕ) (lines : List Line) (p : Progress) → Asks (map string_bytes words.now) Command.Edit (K.file keeper.old) bytes t
         → S.left input.old ≡ Some script → script_of script ≡ Ok lines → run_script t lines ≡ Done p
-        → Saves result p.state (edit_text (length lines) p.released (length p.refused)) p.refused (IsTooLong bytes script p.state) (K.file keeper.new) (W.told output.old) (W.told output.new) }
+        → Saves result p.state (edit_text (length lines) p.counts.released (length p.counts.refused)) p.counts.refused (IsTooLong bytes script p.state) (K.file keeper.new) (W.told output.old) (W.told output.new) }
     ensures leave { (t : State) (bytes : List ℕ) (p : Progress) → Asks (map string_bytes words.now) Command.Leave (K.file keeper.old) bytes t → run_leave t ≡ Done p
-        → Saves result p.state (edit_text 1 p.released (length p.refused)) p.refused (IsFileTooLong bytes p.state) (K.file keeper.new) (W.told output.old) (W.told output.new) }
+        → Saves result p.state (edit_text 1 p.counts.released (length p.counts.refused)) p.counts.refused (IsFileTooLong bytes p.state) (K.file keeper.new) (W.told output.old) (W.told output.new) }
     ensures take { (t : State) (bytes given : List ℕ) (m : Message) → Asks (map string_bytes words.now) Command.Take (K.file keeper.old) bytes t
         → S.left input.old ≡ Some given → IsMessage given m → IsTrue (is_for t.history m) → let p = take_message t m in
-        Saves result p.state (take_text p.applied p.released p.repeated p.held (length p.refused)) p.refused (IsTooLong bytes given p.state) (K.file keeper.new) (W.told output.old) (W.told output.new) }
+        Saves result p.state (take_text p.counts.applied p.counts.released p.counts.repeated p.counts.held (length p.counts.refused)) p.counts.refused (IsTooLong bytes given p.state) (K.file keeper.new) (W.told output.old) (W.told output.new) }
 {
     let ending = perform(alloc, words, keeper, input, output);
     tell(alloc, ending, errors)
