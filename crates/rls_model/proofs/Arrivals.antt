@@ -17,7 +17,7 @@ use Rattle.rls_model.specs.Laws.{MayArrive, ArrivalApplied}
 use Rattle.rls_model.proofs.Answered.{may_accept}
 use Rattle.rls_model.proofs.WorldsNumbers.{front_ops}
 use Rattle.rls_model.proofs.WorldsArrivals.{beside_none, beside_same}
-use Rattle.rls_model.proofs.WorldsPast.{releases_on, ops_on, noted_on}
+use Rattle.rls_model.proofs.WorldsPast.{releases_go_on, ops_go_on, noting_goes_on}
 
 pub applies : (s : State) (o : Op) → MayArrive s o → receive s o ≡ Applies
 unfolding answer
@@ -68,10 +68,10 @@ taken_in s m limit before behind o e r a =
     let p = take_ops (started limit s) before in
     let q = receive_step p o in
     let u = take_ops (with_releases q) behind in
-    let h = front_ops (q.state).history ((with_releases q).state).history (releases_on q) o (received_in p o r a) in
-    let k = front_ops ((with_releases q).state).history (u.state).history (ops_on (with_releases q) behind) o h in
+    let h = front_ops (q.state).history ((with_releases q).state).history (releases_go_on q) o (received_in p o r a) in
+    let k = front_ops ((with_releases q).state).history (u.state).history (ops_go_on (with_releases q) behind) o h in
     let all = take_ops (started limit s) m.ops in
-    front_ops (all.state).history ((acknowledge_step all m.from m.vector).state).history (noted_on all m.from m.vector) o
+    front_ops (all.state).history ((acknowledge_step all m.from m.vector).state).history (noting_goes_on all m.from m.vector) o
     (subst (λ (x : Progress). IsIn o (ops (x.state).history)) (sym (ap (take_ops (started limit s)) e ∙ take_append (started limit s) before o behind)) k)
 
 pub law : ArrivalApplied

@@ -51,6 +51,7 @@ module _ {X : Type 0} (M : Machine X) where
   taking_keeps P f [] p h = h
   taking_keeps P f (o ∷ os) p h = taking_keeps P f os (release_all_on M (receive_on M p o)) (f o os p h)
 
+  -- where each of the operations is one of A
   pub ops_keep : (A : Op → Type 0) (P : Stage X → Type 0) → ((p : Stage X) (o : Op) → A o → P p → P (receive_on M p o)) → ((p : Stage X) → P p → P (release_on M p)) →
       (os : List Op) (p : Stage X) → ((o : Op) → IsIn o os → A o) → P p → P (take_on M p os)
   ops_keep A P f g os p a h =
@@ -67,7 +68,7 @@ module _ {X : Type 0} (M : Machine X) where
       go (Ok edit) k e rest = rest (release_all_on M (edit_on M p edit)) e (f l (inl refl) p edit k h)
       go (Err x) k e rest = absurd (cc)
 
-  -- what an edit is read as is it itself, and has no fault
+  -- an edit that isn't refused is read as itself, and has no fault
   pub read_is : (s : X) (x edit : Edit) → read_edit_on M s x ≡ Ok edit → (x ≡ edit) × (M.edit_fault s x ≡ None)
   read_is s x edit e = go (M.edit_fault s x) refl e
     where
@@ -142,7 +143,7 @@ module _ {X : Type 0} (M : Machine X) where
 
 -- ---- two machines whose steps agree
 
--- they still agree where what the one keeps is known too
+-- so do they on a relation that also says what the one keeps
 pub agree_keeping : {X Y : Type 0} (M : Machine X) (N : Machine Y) (A : Op → Type 0) (S : X → Y → Type 0) (P : X → Type 0) → StepsAgree M N A S → StepsKeep M A P → StepsAgree M N A (λ s t. P s × S s t)
 agree_keeping M N A S P f k = record {
   answers = λ s t o w h. f.answers s t o w h.1;

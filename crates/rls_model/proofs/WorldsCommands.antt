@@ -20,7 +20,7 @@ use Rattle.rls_model.proofs.WorldsInvariant.{IsGood}
 use Rattle.rls_model.proofs.WorldsSteps.{taken_going}
 use Rattle.rls_model.proofs.WorldsLaws.{empty_good, equal_good, sends, posts}
 use Rattle.rls_model.proofs.WorldsScripts.{AllReadWell, edits_read, lines_going}
-use Rattle.rls_model.proofs.WorldsPast.{GoesOn, edit_on, releases_on, taken_on}
+use Rattle.rls_model.proofs.WorldsPast.{GoesOn, edit_goes_on, releases_go_on, taking_goes_on}
 use Rattle.rls_model.proofs.WorldsGroup.{Belongs, set_belongs, sent_belongs, empty_belongs}
 
 -- ---- lines go on from the history before them
@@ -32,7 +32,7 @@ lines_on reads s q ls e = running_keeps by_history reads (GoesOn (started None s
     goes_on : (p : Progress) (edit : Edit) → IsFront s.history (p.state).history → IsFront s.history (with_releases (edit_step p edit)).state.history
     goes_on p edit h =
         let r = edit_step p edit in
-        front_trans s.history (p.state).history ((with_releases r).state).history h (front_trans (p.state).history (r.state).history ((with_releases r).state).history (edit_on p edit) (releases_on r))
+        front_trans s.history (p.state).history ((with_releases r).state).history h (front_trans (p.state).history (r.state).history ((with_releases r).state).history (edit_goes_on p edit) (releases_go_on r))
 
 -- ---- what a member does at its state
 
@@ -76,7 +76,7 @@ does_stands reads g n w i s t refused out a h (Writes to e f k) =
 does_stands reads g n w i s t refused out a h (Reads m p e f k) =
     let r = taken_going w i s m None a.good h p in
     let u = (take_message s m).state in
-    let v : Stands g n (with_state w i u) = record { good = r.good; belongs = set_belongs g n w i s u a.belongs h (taken_on None s m) } in
+    let v : Stands g n (with_state w i u) = record { good = r.good; belongs = set_belongs g n w i s u a.belongs h (taking_goes_on None s m) } in
     (f ∙ r.clean, subst (Stands g n) (ap (with_state w i) e ∙ (sym (done_none w i t) ∙ ap (with_done w i t) (sym k))) v)
 
 pub empty_stands : (g n : ℕ) → IsLarge g → n ≤ 64 → Stands g n (empty_world g n)

@@ -19,7 +19,7 @@ use Rattle.rls_model.proofs.WorldsLists.{length-set}
 use Rattle.rls_model.proofs.WorldsNumbers.{front_members}
 use Rattle.rls_model.proofs.WorldsInvariant.{at_split}
 use Rattle.rls_model.proofs.WorldsLaws.{fresh, fresh_at, fresh_length, good_after}
-use Rattle.rls_model.proofs.WorldsPast.{edited_on, taken_on}
+use Rattle.rls_model.proofs.WorldsPast.{editing_goes_on, taking_goes_on}
 
 front_group : (P H : History) → IsFront P H → group_of P ≡ group_of H
 front_group P (history.Fresh group me members) h = ap group_of h
@@ -50,7 +50,7 @@ sent_belongs g n w s to i b h = record {
 
 edit_belongs : (g n : ℕ) (limit : Limit) (w : World) (i : ℕ) (edit : Edit) (m : Option State) → slice_get w.states i ≡ m → Belongs g n w → Belongs g n (edit_at limit w i m edit)
 edit_belongs g n limit w i edit None e b = b
-edit_belongs g n limit w i edit (Some s) e b = set_belongs g n w i s (edit_within limit s edit).state b e (edited_on limit s edit)
+edit_belongs g n limit w i edit (Some s) e b = set_belongs g n w i s (edit_within limit s edit).state b e (editing_goes_on limit s edit)
 
 send_belongs : (g n : ℕ) (limit : Limit) (w : World) (i to : ℕ) (m : Option State) → slice_get w.states i ≡ m → Belongs g n w → Belongs g n (send_at limit w m to)
 send_belongs g n None w i to None e b = b
@@ -64,7 +64,7 @@ deliver_belongs : (g n : ℕ) (limit : Limit) (w : World) (i : ℕ) (a : Option 
 deliver_belongs g n limit w i None None e b = b
 deliver_belongs g n limit w i None (Some m) e b = b
 deliver_belongs g n limit w i (Some s) None e b = b
-deliver_belongs g n limit w i (Some s) (Some m) e b = set_belongs g n w i s (take_within limit s m).state b e (taken_on limit s m)
+deliver_belongs g n limit w i (Some s) (Some m) e b = set_belongs g n w i s (take_within limit s m).state b e (taking_goes_on limit s m)
 
 step_belongs : (g n : ℕ) (limit : Limit) (w : World) (e : Event) → Belongs g n w → Belongs g n (step_of limit w e)
 step_belongs g n limit w (events.Edit i edit) b = edit_belongs g n limit w i edit (slice_get w.states i) refl b

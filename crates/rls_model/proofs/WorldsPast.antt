@@ -36,8 +36,8 @@ on_trans : (p q r : Progress) → GoesOn p q → GoesOn q r → GoesOn p r
 on_trans p q r h k = front_trans (p.state).history (q.state).history (r.state).history h k
 
 -- a history goes on through each step
-steps_on : (H : History) → StepsKeep by_history (λ o. Unit {0}) (λ t. IsFront H t.history)
-steps_on H = record { receives = λ s o u h. answered (receive s o) s o h; releases = λ s h. ready (first_ready s) s h }
+steps_go_on : (H : History) → StepsKeep by_history (λ o. Unit {0}) (λ t. IsFront H t.history)
+steps_go_on H = record { receives = λ s o u h. answered (receive s o) s o h; releases = λ s h. ready (first_ready s) s h }
   where
     answered : (r : Answer) (s : State) (o : Op) → IsFront H s.history → IsFront H (after r s o).history
     answered Applies s o h = inr h
@@ -53,39 +53,39 @@ steps_on H = record { receives = λ s o u h. answered (receive s o) s o h; relea
     ready None s h = h
     ready (Some w) s h = fits (refusal s.history w) s w h
 
-pub releases_on : (p : Progress) → GoesOn p (with_releases p)
-releases_on p = let H = (p.state).history in states_after_releases by_history (λ t. IsFront H t.history) (steps_on H).releases (length (p.state).waiting) p (front_self H)
+pub releases_go_on : (p : Progress) → GoesOn p (with_releases p)
+releases_go_on p = let H = (p.state).history in states_after_releases by_history (λ t. IsFront H t.history) (steps_go_on H).releases (length (p.state).waiting) p (front_self H)
 
-pub ops_on : (p : Progress) (os : List Op) → GoesOn p (take_ops p os)
-ops_on p os = let H = (p.state).history in states_after_ops by_history (λ o. Unit {0}) (λ t. IsFront H t.history) (steps_on H) os p (λ o u. tt) (front_self H)
+pub ops_go_on : (p : Progress) (os : List Op) → GoesOn p (take_ops p os)
+ops_go_on p os = let H = (p.state).history in states_after_ops by_history (λ o. Unit {0}) (λ t. IsFront H t.history) (steps_go_on H) os p (λ o u. tt) (front_self H)
 
-pub noted_on : (p : Progress) (a : ℕ) (v : List ℕ) → GoesOn p (acknowledge_step p a v)
-noted_on p a v = let H = (p.state).history in acknowledge_keeps by_history (λ t. IsFront H t.history) p a v (note (is_counted H a v)) (front_self H)
+pub noting_goes_on : (p : Progress) (a : ℕ) (v : List ℕ) → GoesOn p (acknowledge_step p a v)
+noting_goes_on p a v = let H = (p.state).history in acknowledge_keeps by_history (λ t. IsFront H t.history) p a v (note (is_counted H a v)) (front_self H)
   where
     note : (b : Bool) → IsFront (p.state).history (if b then record { history = history.Then (p.state).history (history.Acknowledged a v); waiting = (p.state).waiting } else p.state).history
     note true = inr (front_self (p.state).history)
     note false = front_self (p.state).history
 
-pub taken_on : (limit : Limit) (s : State) (m : Message) → IsFront s.history (take_within limit s m).state.history
+pub taking_goes_on : (limit : Limit) (s : State) (m : Message) → IsFront s.history (take_within limit s m).state.history
 unfolding take_within
-taken_on limit s m =
+taking_goes_on limit s m =
     let p = started limit s in
     let q = take_ops p m.ops in
-    on_trans p q (acknowledge_step q m.from m.vector) (ops_on p m.ops) (noted_on q m.from m.vector)
+    on_trans p q (acknowledge_step q m.from m.vector) (ops_go_on p m.ops) (noting_goes_on q m.from m.vector)
 
-pub edit_on : (p : Progress) (edit : Edit) → GoesOn p (edit_step p edit)
-edit_on p edit = let H = (p.state).history in edit_keeps by_history (λ t. IsFront H t.history) p edit (inr (front_self H)) (front_self H)
+pub edit_goes_on : (p : Progress) (edit : Edit) → GoesOn p (edit_step p edit)
+edit_goes_on p edit = let H = (p.state).history in edit_keeps by_history (λ t. IsFront H t.history) p edit (inr (front_self H)) (front_self H)
 
-pub edited_on : (limit : Limit) (s : State) (edit : Edit) → IsFront s.history (edit_within limit s edit).state.history
+pub editing_goes_on : (limit : Limit) (s : State) (edit : Edit) → IsFront s.history (edit_within limit s edit).state.history
 unfolding edit_within
-edited_on limit s edit = let p = started limit s in let q = edit_step p edit in on_trans p q (with_releases q) (edit_on p edit) (releases_on q)
+editing_goes_on limit s edit = let p = started limit s in let q = edit_step p edit in on_trans p q (with_releases q) (edit_goes_on p edit) (releases_go_on q)
 
 -- the history right after the edit
 right_after : (limit : Limit) (s : State) (edit : Edit) → has_room limit ≡ true → IsFront (edited s.history edit) (edit_within limit s edit).state.history
 unfolding edit_within
 right_after limit s edit h =
     let p = moved (started limit s) (accept s (made s.history edit)) in
-    subst (λ b. IsFront (edited s.history edit) ((with_releases (if b then p else started limit s)).state).history) (sym h) (releases_on p)
+    subst (λ b. IsFront (edited s.history edit) ((with_releases (if b then p else started limit s)).state).history) (sym h) (releases_go_on p)
 
 -- ---- events
 
@@ -94,7 +94,7 @@ past_set w i s t h f j H k = let r = at_later w i j s t k.0 h f k.1 in (r.0, r.1
 
 edit_past : (limit : Limit) (w : World) (i : ℕ) (edit : Edit) (m : Option State) → slice_get w.states i ≡ m → (j : ℕ) (H : History) → IsPast w j H → IsPast (edit_at limit w i m edit) j H
 edit_past limit w i edit None e j H k = k
-edit_past limit w i edit (Some s) e j H k = past_set w i s (edit_within limit s edit).state e (edited_on limit s edit) j H k
+edit_past limit w i edit (Some s) e j H k = past_set w i s (edit_within limit s edit).state e (editing_goes_on limit s edit) j H k
 
 send_past : (limit : Limit) (w : World) (m : Option State) (to j : ℕ) (H : History) → IsPast w j H → IsPast (send_at limit w m to) j H
 send_past None w None to j H k = k
@@ -108,7 +108,7 @@ deliver_past : (limit : Limit) (w : World) (i : ℕ) (a : Option State) (b : Opt
 deliver_past limit w i None None e j H k = k
 deliver_past limit w i None (Some m) e j H k = k
 deliver_past limit w i (Some s) None e j H k = k
-deliver_past limit w i (Some s) (Some m) e j H k = past_set w i s (take_within limit s m).state e (taken_on limit s m) j H k
+deliver_past limit w i (Some s) (Some m) e j H k = past_set w i s (take_within limit s m).state e (taking_goes_on limit s m) j H k
 
 step_past : (limit : Limit) (w : World) (e : Event) (j : ℕ) (H : History) → IsPast w j H → IsPast (step_of limit w e) j H
 step_past limit w (events.Edit i edit) j H k = edit_past limit w i edit (slice_get w.states i) refl j H k
