@@ -1,5 +1,6 @@
 pub mod Areas
 pub mod Disk
+pub mod Files
 pub mod Keeper
 pub mod Memory
 pub mod MemoryLaws

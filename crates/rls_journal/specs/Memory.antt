@@ -2,7 +2,7 @@
 use Rattle.std.specs.Prelude.{◌≡◌, ◌⊎◌, ℕ, ◌+◌, ◌<◌, ◌≤◌, List, [], ◌∷◌, ◌++◌, length, take, replicate, nat_le, nat_lt, ◌==◌, if◌then◌else◌}
 use Rattle.std.specs.Bool.{MatchBool}
 use Rattle.std.specs.List.{Contains}
-use Rattle.rls_io.specs.Device.{after_call}
+use Rattle.rls_io.specs.Device.{one_more}
 use Rattle.rls_journal.specs.Areas.{Areas, spliced}
 use Rattle.rls_journal.specs.Disk.{Torn}
 
@@ -110,4 +110,4 @@ recorded s = record s { calls = if nat_lt (length s.calls) s.most then s.calls +
 
 -- after a call that failed
 abbrev pub refused : DiskState → DiskState
-refused s = record (recorded s) { faults = after_call s.faults }
+refused s = record (recorded s) { faults = one_more s.faults }

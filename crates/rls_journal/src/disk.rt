@@ -1,7 +1,7 @@
 //! A disk with three areas, and what a crash may leave of it.
 
 ghost use Rattle.std.specs.Prelude.{◌≡◌, ◌+◌, ◌<◌, ◌≤◌, ℕ, length, take, drop, Option, Some, IsErr, IfOk, OnOk, OnErr, IfSome};
-ghost use Rattle.rls_io.specs.Device.{Rose};
+ghost use Rattle.rls_io.specs.Device.{Rose, one_more};
 ghost use Rattle.rls_journal.specs.Areas.{Areas, area_of};
 ghost use Rattle.rls_journal.specs.Disk.{Tears, Writes, MayTear, Narrows, Follows, IsDurable, Elapses};
 
@@ -26,7 +26,8 @@ pub trait Disk {
     /// What a crash at some moment from that one on might have left, during a call or between two.
     ghost left_since: { Self → ℕ → Areas → Type 0 };
 
-    /// How often the disk has failed, or the greatest u64. The count never falls.
+    /// How many of its calls have failed, up to the greatest u64. A call that fails raises it by one, and no other call
+    /// changes it.
     ghost faults: { Self → ℕ };
 
     /// The count of bytes in an area, which is below 3. `Failed` comes only where the count of faults rose in this call.
@@ -36,6 +37,8 @@ pub trait Disk {
         ensures same { seen self.new ≡ seen self.old }
         ensures crash { Narrows (may_leave self.old) (may_leave self.new) }
         ensures time { Elapses (moment self.old) (moment self.new) (left_since self.old) (left_since self.new) (may_leave self.new) }
+        ensures counted { IsErr result → faults self.new ≡ one_more (faults self.old) }
+        ensures uncounted { OnOk result (faults self.new ≡ faults self.old) }
         ensures never_falls { faults self.old ≤ faults self.new }
         ensures cause { IsErr result → Rose (faults self.old) (faults self.new) };
 
@@ -48,6 +51,8 @@ pub trait Disk {
         ensures same { seen self.new ≡ seen self.old }
         ensures crash { Narrows (may_leave self.old) (may_leave self.new) }
         ensures time { Elapses (moment self.old) (moment self.new) (left_since self.old) (left_since self.new) (may_leave self.new) }
+        ensures counted { IsErr result → faults self.new ≡ one_more (faults self.old) }
+        ensures uncounted { OnOk result (faults self.new ≡ faults self.old) }
         ensures never_falls { faults self.old ≤ faults self.new }
         ensures cause { IsErr result → Rose (faults self.old) (faults self.new) };
 
@@ -61,6 +66,8 @@ pub trait Disk {
         ensures torn { OnErr result (MayTear area at (length bytes.now) (seen self.old) (seen self.new)) }
         ensures crash { Follows (Tears area at (length bytes.now)) (may_leave self.old) (may_leave self.new) }
         ensures time { Elapses (moment self.old) (moment self.new) (left_since self.old) (left_since self.new) (may_leave self.new) }
+        ensures counted { IsErr result → faults self.new ≡ one_more (faults self.old) }
+        ensures uncounted { OnOk result (faults self.new ≡ faults self.old) }
         ensures never_falls { faults self.old ≤ faults self.new }
         ensures cause { IsErr result → Rose (faults self.old) (faults self.new) };
 
@@ -72,6 +79,8 @@ pub trait Disk {
         ensures same { seen self.new ≡ seen self.old }
         ensures crash { Narrows (may_leave self.old) (may_leave self.new) }
         ensures time { Elapses (moment self.old) (moment self.new) (left_since self.old) (left_since self.new) (may_leave self.new) }
+        ensures counted { IsErr result → faults self.new ≡ one_more (faults self.old) }
+        ensures uncounted { OnOk result (faults self.new ≡ faults self.old) }
         ensures never_falls { faults self.old ≤ faults self.new }
         ensures cause { IsErr result → Rose (faults self.old) (faults self.new) };
 

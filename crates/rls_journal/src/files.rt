@@ -1,8 +1,9 @@
 //! The three areas as files of the system, in the current folder: the trusted edge. They tell no content, so that no clause
 //! says what they give or take, or what a stop leaves of them.
 
-ghost use Rattle.std.specs.Prelude.{◌≤◌, None, IsErr};
-ghost use Rattle.rls_io.specs.Device.{Rose};
+ghost use Rattle.std.specs.Prelude.{◌≡◌, ◌≤◌, None, IsErr, OnOk};
+ghost use Rattle.rls_io.specs.Device.{Rose, one_more};
+ghost use Rattle.rls_journal.specs.Files.{disk_faults};
 
 use crate::disk::Disk;
 use rls_io::Failed;
@@ -19,6 +20,14 @@ fn name_of(area: u8) -> &'static str {
     }
 }
 
+// Whether a file is there, but may not be opened to be written.
+fn is_forbidden(error: &io::Error) -> bool {
+    matches!(
+        error.kind(),
+        ErrorKind::PermissionDenied | ErrorKind::ReadOnlyFilesystem
+    )
+}
+
 /// The files that are there.
 #[derive(Drop)]
 struct AreaFiles<R: Files> {
@@ -27,18 +36,19 @@ struct AreaFiles<R: Files> {
     slot1: Option<R::File>,
     gate: Option<R::File>,
     is_open: bool,
-    // a file was made since the folder was synced
-    is_made: bool,
+    // no file was made since this process has synced the folder
+    is_folder_synced: bool,
 }
 
 impl<R: Files> AreaFiles<R> {
-    // A file, where there is one.
+    // A file, where there is one. A file that may not be written is opened to be read, and a write to it fails.
     fn found(&self, area: u8) -> io::Result<Option<R::File>> {
-        match File::options()
-            .read(true)
-            .write(true)
-            .open(&self.rt, name_of(area))
-        {
+        let name = name_of(area);
+        let mut file = File::options().read(true).write(true).open(&self.rt, name);
+        if file.as_ref().is_err_and(is_forbidden) {
+            file = File::open(&self.rt, name);
+        }
+        match file {
             Ok(file) => Ok(Some(file)),
             Err(e) if e.kind() == ErrorKind::NotFound => Ok(None),
             Err(e) => Err(e),
@@ -58,7 +68,7 @@ impl<R: Files> AreaFiles<R> {
 
     // Makes a file.
     fn make(&mut self, area: u8) -> io::Result<()> {
-        self.is_made = true;
+        self.is_folder_synced = false;
         let file = File::options()
             .read(true)
             .write(true)
@@ -115,15 +125,16 @@ impl<R: Files> AreaFiles<R> {
         }
     }
 
-    // Has the system write a file to the disk, and the folder too where a file was made.
+    // Has the system write a file to the disk. The names of the files too, unless this process has done so since the last
+    // was made: the process that made one may have been stopped right after.
     fn sync(&mut self, area: u8) -> io::Result<()> {
         self.open()?;
         if let Some(file) = self.slot(area) {
             file.sync_all()?;
         }
-        if self.is_made {
+        if !self.is_folder_synced {
             File::open(&self.rt, ".")?.sync_all()?;
-            self.is_made = false;
+            self.is_folder_synced = true;
         }
         Ok(())
     }
@@ -141,6 +152,8 @@ pub struct FileDisk<R: Files> {
 
 // Counts a failure.
 fn count<T>(faults: &mut u64, answer: io::Result<T>) -> Result<T, Failed>
+    ensures counted { IsErr result → faults.new ≡ one_more faults.old }
+    ensures uncounted { OnOk result (faults.new ≡ faults.old) }
     ensures never_falls { faults.old ≤ faults.new }
     ensures cause { IsErr result → Rose faults.old faults.new }
 {
@@ -155,7 +168,9 @@ fn count<T>(faults: &mut u64, answer: io::Result<T>) -> Result<T, Failed>
 
 impl<R: Files> FileDisk<R> {
     /// The disk of the current folder, with no fault. It opens nothing yet.
-    pub fn new(rt: R) -> FileDisk<R> {
+    pub fn new(rt: R) -> FileDisk<R>
+        ensures faults { disk_faults result ≡ 0 }
+    {
         FileDisk {
             files: AreaFiles {
                 rt,
@@ -163,7 +178,7 @@ impl<R: Files> FileDisk<R> {
                 slot1: None,
                 gate: None,
                 is_open: false,
-                is_made: false,
+                is_folder_synced: false,
             },
             faults: 0,
         }
@@ -179,7 +194,7 @@ impl<R: Files> Disk for FileDisk<R> {
 
     ghost left_since = { λ _ _ _. Unit {0} };
 
-    ghost faults = { λ d. d.faults };
+    ghost faults = { disk_faults };
 
     ghost reads_now = { λ d s is. tt };
 

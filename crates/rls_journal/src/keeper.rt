@@ -2,7 +2,7 @@
 
 ghost use Rattle.std.specs.Prelude.{◌≡◌, ◌≤◌, ℕ, IsErr, IfOk, OnOk, OnErr, IfSome, IsErrOf};
 ghost use Rattle.std.specs.Option.{option_map};
-ghost use Rattle.rls_io.specs.Device.{Rose, Loads, Stores, Keeps};
+ghost use Rattle.rls_io.specs.Device.{Rose, Loads, Stores, Keeps, one_more};
 ghost use Rattle.rls_io.specs.declared.devices.LoadError.TheVariants as load;
 ghost use Rattle.rls_io.specs.declared.devices.StoreError.TheVariants as store;
 ghost use Rattle.rls_journal.specs.Areas.{Areas, kept};
@@ -49,6 +49,8 @@ impl<D: Disk> DiskKeeper<D> {
 fn write_file<D: Disk>(disk: &mut D, bytes: &[u8]) -> Result<(), Failed>
     ensures stored { OnOk result (HasStored bytes.now (D.seen disk.old) (D.seen disk.new) (D.may_leave disk.new)) }
     ensures any_moment { IsAtRest D.seen D.may_leave disk.old → IfSome (D.seen disk.old) (λ s. LeavesOnly D.moment D.left_since disk.old disk.new (IsOldOrNew (kept s) bytes.now)) }
+    ensures counted { IsErr result → D.faults disk.new ≡ one_more (D.faults disk.old) }
+    ensures uncounted { OnOk result (D.faults disk.new ≡ D.faults disk.old) }
     ensures never_falls { D.faults disk.old ≤ D.faults disk.new }
     ensures cause { IsErr result → Rose (D.faults disk.old) (D.faults disk.new) }
 {
@@ -63,6 +65,8 @@ fn find<D: Disk>(alloc: Global, disk: &mut D, limit: u64) -> Result<Found, LoadE
     ensures found { IfOk result (λ found. IfSome (D.seen disk.old) (λ s. Loads (kept s) limit found)) }
     ensures rest { OnOk result (IsAtRest D.seen D.may_leave disk.new) }
     ensures unchanged { IsUnchanged D.seen D.may_leave D.moment D.left_since disk.old disk.new }
+    ensures counted { IsErrOf result load.Failed → D.faults disk.new ≡ one_more (D.faults disk.old) }
+    ensures uncounted { (IsErrOf result load.Failed → ⊥) → D.faults disk.new ≡ D.faults disk.old }
     ensures never_falls { D.faults disk.old ≤ D.faults disk.new }
     ensures cause { IsErrOf result load.Failed → Rose (D.faults disk.old) (D.faults disk.new) }
 {
@@ -81,6 +85,8 @@ impl<D: Disk> Keeper for DiskKeeper<D> {
         ensures found { IfOk result (λ found. IfSome (file_told D.seen self.old) (λ kept. Loads kept limit found)) }
         ensures told { IfOk result (λ found. IfSome (file_told D.seen self.new) (λ kept. Loads kept limit found)) }
         ensures same { Keeps (file_told D.seen self.old) (file_told D.seen self.new) }
+        ensures counted { IsErrOf result load.Failed → D.faults (disk_of self.new) ≡ one_more (D.faults (disk_of self.old)) }
+        ensures uncounted { (IsErrOf result load.Failed → ⊥) → D.faults (disk_of self.new) ≡ D.faults (disk_of self.old) }
         ensures never_falls { D.faults (disk_of self.old) ≤ D.faults (disk_of self.new) }
         ensures cause { IsErrOf result load.Failed → Rose (D.faults (disk_of self.old)) (D.faults (disk_of self.new)) }
 
@@ -99,6 +105,8 @@ impl<D: Disk> Keeper for DiskKeeper<D> {
     fn store(&mut self, _alloc: Global, bytes: &[u8]) -> Result<(), StoreError>
         ensures ok { OnOk result (Stores (file_told D.seen self.old) (file_told D.seen self.new) bytes.now) }
         ensures err { OnErr result (Keeps (file_told D.seen self.new) (file_told D.seen self.old)) }
+        ensures counted { IsErrOf result store.Failed → D.faults (disk_of self.new) ≡ one_more (D.faults (disk_of self.old)) }
+        ensures uncounted { (IsErrOf result store.Failed → ⊥) → D.faults (disk_of self.new) ≡ D.faults (disk_of self.old) }
         ensures never_falls { D.faults (disk_of self.old) ≤ D.faults (disk_of self.new) }
         ensures cause { IsErrOf result store.Failed → Rose (D.faults (disk_of self.old)) (D.faults (disk_of self.new)) }
 

@@ -1,7 +1,7 @@
 //! A disk in memory, which tells all that it holds, and what a crash would have left of it.
 
 ghost use Rattle.std.specs.Prelude.{◌≡◌, ◌+◌, ◌<◌, ◌≤◌, ◌↔◌, [], ◌∷◌, length, take, drop, Some, false, IsTrue, IsErr, IfOk, OnOk, OnErr};
-ghost use Rattle.rls_io.specs.Device.{Rose};
+ghost use Rattle.rls_io.specs.Device.{Rose, one_more};
 ghost use Rattle.rls_journal.specs.Areas.{area_of};
 ghost use Rattle.rls_journal.specs.Disk.{Writes, MayTear, Tears, Narrows, Follows, IsDurable, Elapses};
 ghost use Rattle.rls_journal.specs.Memory.{Looked, Wrote, Synced, MayLeave, written_at, seen_step, image_step, image_after, filled_after, bytes_written, reading, can_leave, might_have_left, Refuses, done, recorded, refused};
@@ -186,6 +186,8 @@ impl MemoryDisk {
         ensures same { reading self.new ≡ reading self.old }
         ensures crash { Narrows (can_leave self.old) (can_leave self.new) }
         ensures time { Elapses (length self.old.calls) (length self.new.calls) (might_have_left self.old) (might_have_left self.new) (can_leave self.new) }
+        ensures counted { IsErr result → self.new.faults ≡ one_more self.old.faults }
+        ensures uncounted { OnOk result (self.new.faults ≡ self.old.faults) }
         ensures never_falls { self.old.faults ≤ self.new.faults }
         ensures cause { IsErr result → Rose self.old.faults self.new.faults }
         ensures exact { IsErr result ↔ Refuses self.old 0 }
@@ -322,6 +324,8 @@ impl Disk for MemoryDisk {
         ensures same { Some (reading self.new) ≡ Some (reading self.old) }
         ensures crash { Narrows (can_leave self.old) (can_leave self.new) }
         ensures time { Elapses (length self.old.calls) (length self.new.calls) (might_have_left self.old) (might_have_left self.new) (can_leave self.new) }
+        ensures counted { IsErr result → self.new.faults ≡ one_more self.old.faults }
+        ensures uncounted { OnOk result (self.new.faults ≡ self.old.faults) }
         ensures never_falls { self.old.faults ≤ self.new.faults }
         ensures cause { IsErr result → Rose self.old.faults self.new.faults }
 
@@ -341,6 +345,8 @@ impl Disk for MemoryDisk {
         ensures same { Some (reading self.new) ≡ Some (reading self.old) }
         ensures crash { Narrows (can_leave self.old) (can_leave self.new) }
         ensures time { Elapses (length self.old.calls) (length self.new.calls) (might_have_left self.old) (might_have_left self.new) (can_leave self.new) }
+        ensures counted { IsErr result → self.new.faults ≡ one_more self.old.faults }
+        ensures uncounted { OnOk result (self.new.faults ≡ self.old.faults) }
         ensures never_falls { self.old.faults ≤ self.new.faults }
         ensures cause { IsErr result → Rose self.old.faults self.new.faults }
 
@@ -363,6 +369,8 @@ impl Disk for MemoryDisk {
         ensures torn { OnErr result (MayTear area at (length bytes.now) (Some (reading self.old)) (Some (reading self.new))) }
         ensures crash { Follows (Tears area at (length bytes.now)) (can_leave self.old) (can_leave self.new) }
         ensures time { Elapses (length self.old.calls) (length self.new.calls) (might_have_left self.old) (might_have_left self.new) (can_leave self.new) }
+        ensures counted { IsErr result → self.new.faults ≡ one_more self.old.faults }
+        ensures uncounted { OnOk result (self.new.faults ≡ self.old.faults) }
         ensures never_falls { self.old.faults ≤ self.new.faults }
         ensures cause { IsErr result → Rose self.old.faults self.new.faults }
 
@@ -382,6 +390,8 @@ impl Disk for MemoryDisk {
         ensures same { Some (reading self.new) ≡ Some (reading self.old) }
         ensures crash { Narrows (can_leave self.old) (can_leave self.new) }
         ensures time { Elapses (length self.old.calls) (length self.new.calls) (might_have_left self.old) (might_have_left self.new) (can_leave self.new) }
+        ensures counted { IsErr result → self.new.faults ≡ one_more self.old.faults }
+        ensures uncounted { OnOk result (self.new.faults ≡ self.old.faults) }
         ensures never_falls { self.old.faults ≤ self.new.faults }
         ensures cause { IsErr result → Rose self.old.faults self.new.faults }
 

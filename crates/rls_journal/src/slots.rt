@@ -1,7 +1,7 @@
 //! Loading and storing, in the device calls of which they consist.
 
 ghost use Rattle.std.specs.Prelude.{◌≡◌, ◌-◌, ◌<◌, ◌≤◌, [], ℕ, length, Option, Some, None, IsErr, IfOk, OnOk, IfSome, IsErrOf};
-ghost use Rattle.rls_io.specs.Device.{Rose, Loads};
+ghost use Rattle.rls_io.specs.Device.{Rose, Loads, one_more};
 ghost use Rattle.rls_io.specs.declared.devices.LoadError.TheVariants as load;
 ghost use Rattle.rls_journal.specs.Areas.{Areas, area_of, named_by, file_of, kept};
 ghost use Rattle.rls_journal.specs.Disk.{Tears, IsDurable, IsUnchanged, Changes, LeavesOnly};
@@ -21,6 +21,8 @@ fn gate_slot<D: Disk>(disk: &mut D) -> Result<Option<u8>, Failed>
     ensures small { IfOk result (λ slot. IfSome slot (λ n. n < 2)) }
     ensures durable { OnOk result (IfSome (D.seen disk.old) (λ s. IsDurable 2 s (D.may_leave disk.new))) }
     ensures unchanged { IsUnchanged D.seen D.may_leave D.moment D.left_since disk.old disk.new }
+    ensures counted { IsErr result → D.faults disk.new ≡ one_more (D.faults disk.old) }
+    ensures uncounted { OnOk result (D.faults disk.new ≡ D.faults disk.old) }
     ensures never_falls { D.faults disk.old ≤ D.faults disk.new }
     ensures cause { IsErr result → Rose (D.faults disk.old) (D.faults disk.new) }
 {
@@ -41,6 +43,8 @@ pub fn settle<D: Disk>(disk: &mut D) -> Result<Option<u8>, Failed>
     ensures small { IfOk result (λ slot. IfSome slot (λ n. n < 2)) }
     ensures settled { IfOk result (λ slot. IfSome (D.seen disk.old) (λ s. IsSettled slot s (D.may_leave disk.new))) }
     ensures unchanged { IsUnchanged D.seen D.may_leave D.moment D.left_since disk.old disk.new }
+    ensures counted { IsErr result → D.faults disk.new ≡ one_more (D.faults disk.old) }
+    ensures uncounted { OnOk result (D.faults disk.new ≡ D.faults disk.old) }
     ensures never_falls { D.faults disk.old ≤ D.faults disk.new }
     ensures cause { IsErr result → Rose (D.faults disk.old) (D.faults disk.new) }
 {
@@ -56,6 +60,8 @@ fn file_size<D: Disk>(disk: &mut D, slot: u8) -> Result<u64, Failed>
     requires slot { slot < 2 }
     ensures count { IfOk result (λ n. IfSome (D.seen disk.old) (λ s. n ≡ length (file_of (area_of s slot)))) }
     ensures unchanged { IsUnchanged D.seen D.may_leave D.moment D.left_since disk.old disk.new }
+    ensures counted { IsErr result → D.faults disk.new ≡ one_more (D.faults disk.old) }
+    ensures uncounted { OnOk result (D.faults disk.new ≡ D.faults disk.old) }
     ensures never_falls { D.faults disk.old ≤ D.faults disk.new }
     ensures cause { IsErr result → Rose (D.faults disk.old) (D.faults disk.new) }
 {
@@ -78,6 +84,8 @@ pub fn read_file<D: Disk>(
     requires slot { slot < 2 }
     ensures found { IfOk result (λ found. IfSome (D.seen disk.old) (λ s. Loads (Some (file_of (area_of s slot))) limit found)) }
     ensures unchanged { IsUnchanged D.seen D.may_leave D.moment D.left_since disk.old disk.new }
+    ensures counted { IsErrOf result load.Failed → D.faults disk.new ≡ one_more (D.faults disk.old) }
+    ensures uncounted { (IsErrOf result load.Failed → ⊥) → D.faults disk.new ≡ D.faults disk.old }
     ensures never_falls { D.faults disk.old ≤ D.faults disk.new }
     ensures cause { IsErrOf result load.Failed → Rose (D.faults disk.old) (D.faults disk.new) }
 {
@@ -97,6 +105,8 @@ fn put<D: Disk>(disk: &mut D, slot: u8, bytes: &[u8]) -> Result<(), Failed>
     requires slot { slot < 2 }
     ensures put { OnOk result (Puts slot bytes.now (D.seen disk.old) (D.seen disk.new)) }
     ensures changes { Changes D.may_leave D.moment D.left_since (Strays slot) disk.old disk.new }
+    ensures counted { IsErr result → D.faults disk.new ≡ one_more (D.faults disk.old) }
+    ensures uncounted { OnOk result (D.faults disk.new ≡ D.faults disk.old) }
     ensures never_falls { D.faults disk.old ≤ D.faults disk.new }
     ensures cause { IsErr result → Rose (D.faults disk.old) (D.faults disk.new) }
 {
@@ -110,6 +120,8 @@ fn name_slot<D: Disk>(disk: &mut D, slot: u8) -> Result<(), Failed>
     requires slot { slot < 2 }
     ensures names { OnOk result (Names slot (D.seen disk.old) (D.seen disk.new) (D.may_leave disk.new)) }
     ensures changes { Changes D.may_leave D.moment D.left_since (Tears 2 0 1) disk.old disk.new }
+    ensures counted { IsErr result → D.faults disk.new ≡ one_more (D.faults disk.old) }
+    ensures uncounted { OnOk result (D.faults disk.new ≡ D.faults disk.old) }
     ensures never_falls { D.faults disk.old ≤ D.faults disk.new }
     ensures cause { IsErr result → Rose (D.faults disk.old) (D.faults disk.new) }
 {
@@ -125,6 +137,8 @@ pub fn replace<D: Disk>(disk: &mut D, slot: u8, bytes: &[u8]) -> Result<(), Fail
     // Each crash leaves the file from before or these bytes.
     ensures any_moment { IfSome (D.seen disk.old) (λ s. named_by s.gate ≡ Some (1 - slot) → IsSettled (Some (1 - slot)) s (D.may_leave disk.old)
         → LeavesOnly D.moment D.left_since disk.old disk.new (IsOldOrNew (kept s) bytes.now)) }
+    ensures counted { IsErr result → D.faults disk.new ≡ one_more (D.faults disk.old) }
+    ensures uncounted { OnOk result (D.faults disk.new ≡ D.faults disk.old) }
     ensures never_falls { D.faults disk.old ≤ D.faults disk.new }
     ensures cause { IsErr result → Rose (D.faults disk.old) (D.faults disk.new) }
 {
@@ -140,6 +154,8 @@ pub fn begin<D: Disk>(disk: &mut D, bytes: &[u8]) -> Result<(), Failed>
     // Each crash leaves no file or these bytes.
     ensures any_moment { IfSome (D.seen disk.old) (λ s. named_by s.gate ≡ None → IsSettled None s (D.may_leave disk.old)
         → LeavesOnly D.moment D.left_since disk.old disk.new (IsOldOrNew (kept s) bytes.now)) }
+    ensures counted { IsErr result → D.faults disk.new ≡ one_more (D.faults disk.old) }
+    ensures uncounted { OnOk result (D.faults disk.new ≡ D.faults disk.old) }
     ensures never_falls { D.faults disk.old ≤ D.faults disk.new }
     ensures cause { IsErr result → Rose (D.faults disk.old) (D.faults disk.new) }
 {
