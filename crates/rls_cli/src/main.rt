@@ -2,14 +2,17 @@
 #![tactic(auto)]
 
 mod folder;
+mod streams;
 
-use folder::folder_keeper;
-use rls_io::{StdSink, StdSource};
+use folder::{FolderKeeper, folder_keeper};
+use rls_io::{StdSink, StdSource, write_all_of};
+use rls_report::out_of_memory_line;
 use rls_top::run;
 use std::alloc::AllocError;
 use std::io::ErrorKind;
 use std::process::ExitCode;
 use std::{env, io};
+use streams::{Guard, guard_streams};
 
 /// The status where memory runs out before the command is known.
 const OUT_OF_MEMORY: u8 = 10;
@@ -37,14 +40,28 @@ fn words(rt: &HostRuntime) -> Result<Vec<String>, AllocError> {
     }
 }
 
+/// The keeper of the current folder's file. Where the numbers of closed streams can't be taken, it is one that fails, so that
+/// no file of the folder is opened.
+fn keeper<'a>(
+    rt: &'a HostRuntime,
+    guard: &io::Result<Guard<HostRuntime>>,
+) -> FolderKeeper<&'a HostRuntime> {
+    match guard {
+        Ok(_) => folder_keeper(rt),
+        Err(_) => FolderKeeper::Unknown { faults: 0 },
+    }
+}
+
 fn main(rt: HostRuntime) -> ExitCode {
+    let guard = guard_streams(&rt);
+    let mut errors = StdSink::new(rt.stderr());
     let Ok(words) = words(&rt) else {
+        let _ = write_all_of(&mut errors, out_of_memory_line().as_bytes());
         return ExitCode::from(OUT_OF_MEMORY);
     };
-    let mut keeper = folder_keeper(&rt);
+    let mut keeper = keeper(&rt, &guard);
     let mut input = StdSource::new(rt.stdin().lock());
     let mut output = StdSink::new(rt.stdout());
-    let mut errors = StdSink::new(rt.stderr());
     let status = run(
         rt.alloc(),
         &words,
@@ -53,22 +70,11 @@ fn main(rt: HostRuntime) -> ExitCode {
         &mut output,
         &mut errors,
     );
+    drop(guard);
     ExitCode::from(status)
 }
 
 #[cfg(test)]
-mod tests {
-    use crate::folder::{FolderKeeper, folder_keeper};
-    use std::fs;
-    use std::test::Fail;
-
-    #[test]
-    fn the_file_of_the_folder_is_kept(rt: HostRuntime) -> Result<(), Fail> {
-        let _ = fs::remove_file(&rt, "replica.rls");
-        assert!(rt; matches!(&folder_keeper(&rt), FolderKeeper::Disk { .. }));
-        fs::write(&rt, "replica.rls", b"hello")?;
-        assert!(rt; matches!(&folder_keeper(&rt), FolderKeeper::File { .. }));
-        fs::remove_file(&rt, "replica.rls")?;
-        Ok(())
-    }
-}
+mod tests;
+#[cfg(test)]
+mod watched;
