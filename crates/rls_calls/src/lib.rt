@@ -18,3 +18,5 @@ mod replicas;
 mod spelled;
 #[cfg(test)]
 mod steps;
+#[cfg(test)]
+mod undoing;

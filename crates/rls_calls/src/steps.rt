@@ -70,7 +70,7 @@ pub enum Turn {
     BothTake(&'static str, &'static str),
 }
 
-fn edit_of(alloc: Global, change: Change) -> Result<Edit, AllocError> {
+pub(crate) fn edit_of(alloc: Global, change: Change) -> Result<Edit, AllocError> {
     Ok(match change {
         Change::Insert(at, text) => Edit::Insert {
             at,
@@ -145,7 +145,10 @@ fn acknowledges(replica: &mut Replica, from: u32, vector: &Vector) -> Result<boo
     Ok(replica.acknowledge(from, vector))
 }
 
-fn takes(replica: &mut Replica, message: Message) -> Result<Result<Taken, TakeError>, Fail> {
+pub(crate) fn takes(
+    replica: &mut Replica,
+    message: Message,
+) -> Result<Result<Taken, TakeError>, Fail> {
     if message.from >= message.members || message.vector.len() != message.members as usize {
         return Err(Fail::new("sender or vector"));
     }
@@ -255,7 +258,7 @@ fn reaches(
 }
 
 /// The message of the one for the other.
-fn letter(from: &Replica, to: &Replica) -> Result<Message, Fail> {
+pub(crate) fn letter(from: &Replica, to: &Replica) -> Result<Message, Fail> {
     Ok(from.message_for(to.me())?)
 }
 
