@@ -15,6 +15,7 @@ ghost use Rattle.rls_seen.specs.Messages.{started, take_ops, taken_of};
 ghost use Rattle.rls_seen.specs.Seen.{members, fresh, own_count, text_over};
 ghost use Rattle.rls_replica.specs.Editing.{edited_text};
 ghost use Rattle.rls_replica.specs.Faults.{IsNoCount, IsNoMember, IsForeign};
+ghost use Rattle.rls_replica.specs.Names.{KeepsNames};
 ghost use Rattle.rls_replica.specs.Steps.{CountsReleased, IsPartOfOps};
 ghost use Rattle.rls_file.specs.Journals.{Tells, IsNoted};
 
@@ -97,6 +98,7 @@ impl Journal {
         ensures ok { OnOk result (edit_fault_over self.old.seen edit.now ≡ None) }
         ensures seq { IfOk result (λ n. n ≡ own_count self.old.seen + 1) }
         ensures err { OnErr result (self.new ≡ self.old) }
+        ensures names { KeepsNames self.old.seen self.new.seen }
 
         // An insertion lands where it was asked for, a deletion takes out just what it was to, and nothing else changes the text.
         ensures text { OnOk result (text_over self.new.seen ≡ edited_text edit.now (text_over self.old.seen)) }
@@ -113,6 +115,7 @@ impl Journal {
     pub fn release_all(&mut self, taken: &mut Taken) -> Result<(), AllocError>
         requires counted { CountsReleased self.old.seen taken.old }
         ensures counted { CountsReleased self.new.seen taken.new }
+        ensures names { KeepsNames self.old.seen self.new.seen }
 
         // For every history and waiting operations that the journal tells.
         ensures tells { OnOk result ((p : Progress) → p.limit ≡ None → taken.old ≡ model.taken p → Tells self.old p.state → (taken.new ≡ model.taken (with_releases p)) × Tells self.new (with_releases p).state) }
@@ -159,6 +162,7 @@ impl Journal {
         requires vector { length message.vector ≡ message.members }
         ensures other_group { (g n : ℕ) → (IsErrOf result (TakeError.OtherGroup g n) ↔ ((g ≡ message.group) × (n ≡ message.members) × IsForeign self.old.seen message)) }
         ensures foreign { (g n : ℕ) → IsErrOf result (TakeError.OtherGroup g n) → self.new ≡ self.old }
+        ensures names { KeepsNames self.old.seen self.new.seen }
 
         // For every history and waiting operations that the journal tells.
         ensures tells { IfOk result (λ found. (t : State) → Tells self.old t → (found ≡ model.taken (take_message t message)) × Tells self.new (take_message t message).state) }
@@ -187,6 +191,7 @@ fn take_all(
     ensures taken { IfOk result (λ found. found ≡ taken_of (take_ops (started None replica.old) message.ops)) }
     ensures noted { OnOk result (IsNoted (take_ops (started None replica.old) message.ops).state notes.old.items message.from message.vector replica.new notes.new.items) }
     ensures part { OnErr result (IsPartOfOps replica.old message.ops replica.new × (notes.new.items ≡ notes.old.items)) }
+    ensures names { KeepsNames replica.old replica.new }
     ensures ops { AreOps message.ops }
     ensures vector { IsVector (members replica.old) message.vector }
 {
@@ -211,6 +216,7 @@ fn add_note(replica: &mut Replica, notes: &mut Vec<Note>, from: u32, vector: Vec
     requires room { vec_len notes.old < vec_capacity notes.old }
     ensures answer { result ≡ counts replica.old.acks from vector }
     ensures noted { IsNoted replica.old notes.old.items from vector replica.new notes.new.items }
+    ensures names { KeepsNames replica.old replica.new }
     ensures vector { IsVector (members replica.old) vector }
 {
     let _len = vector.len();
