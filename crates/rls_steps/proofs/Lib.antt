@@ -1,0 +1,7 @@
+pub mod Ranges
+pub mod Backing
+pub mod Exchanging
+pub mod Naming
+pub mod Putting
+pub mod Stepping
+pub mod Renaming

@@ -1,0 +1,5 @@
+pub mod Marks
+pub mod Back
+pub mod BackLaws
+pub mod Labelled
+pub mod StepLaws

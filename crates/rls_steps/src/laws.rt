@@ -1,0 +1,30 @@
+//! Laws of taking back, for all values. Each call runs nothing and takes no memory; its contract states the fact.
+
+ghost use Rattle.rls_steps.specs.BackLaws.{PutBack, CutBack, Exchanged};
+ghost use Rattle.rls_steps.specs.StepLaws.{LabelledLead, CutTakenBack, PutTakenBack, InsertionLeads, DeletionLeads, RenamingLeads};
+
+/// A step that is taken back leaves the text before it, and those below it as they were; the step that does it again stands on the other
+/// side.
+pub fn taken_back()
+    ensures put { PutBack }
+    ensures cut { CutBack }
+{}
+
+/// What steps lead back to doesn't depend on the names of characters: neither labels that further characters get nor renames change it.
+pub fn exchanged()
+    ensures exchanged { Exchanged }
+{}
+
+/// At a replica: neither labels that characters get nor a rename changes anything, and what was cut out comes back as it was.
+pub fn returned()
+    ensures labelled { LabelledLead }
+    ensures renamed { RenamingLeads }
+    ensures cut { CutTakenBack }
+{}
+
+/// At a replica: an own insertion and an own deletion are steps, and what was put in goes again.
+pub fn stepped()
+    ensures insertion { InsertionLeads }
+    ensures deletion { DeletionLeads }
+    ensures put { PutTakenBack }
+{}
