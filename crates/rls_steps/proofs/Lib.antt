@@ -5,3 +5,4 @@ pub mod Naming
 pub mod Putting
 pub mod Stepping
 pub mod Renaming
+pub mod Applied

@@ -5,6 +5,10 @@ use Rattle.rls_ident.specs.Identifiers.{IsIdent}
 use Rattle.rls_ident.specs.Lists.{IsIn}
 use Rattle.rls_model.specs.declared.edit.Edit.TheVariants as edits
 use Rattle.rls_model.specs.WellFormed.{IsEdit}
+use Rattle.rls_ops.specs.declared.op.Op.{Op}
+use Rattle.rls_ops.specs.declared.op.Body.TheVariants.{Rename}
+use Rattle.rls_seen.specs.Over.{accepted}
+use Rattle.rls_seen.specs.Sane.{IsSane, IsInRange, MayApply}
 use Rattle.rls_seen.specs.Edits.{edit_fault_over}
 use Rattle.rls_seen.specs.Seen.{Seen, text_over, greatest_over}
 use Rattle.rls_undo.specs.Plans.{ranges_of}
@@ -51,3 +55,7 @@ abbrev pub RenamingLeads : Type 0
 RenamingLeads = (h : Labelled) (s : Seen) (ps : List Piece) (ts : List (List ℕ)) → IsLabelled h → Leads h ps ts → IsRenamed h.seen s →
     let n = renamed_over h (greatest_over h.seen) s in
     IsLabelled n × (text_over s ≡ text_over h.seen) × Leads n ps ts
+
+-- so a rename that may be applied changes nothing, whoever made it
+abbrev pub AppliedRenames : Type 0
+AppliedRenames = (s : Seen) (o : Op) (former : List (List Tuple)) → IsSane s → MayApply s o → IsInRange o.body → o.body ≡ Rename former → IsRenamed s (accepted s o)

@@ -1,7 +1,7 @@
 //! Laws of taking back, for all values. Each call runs nothing and takes no memory; its contract states the fact.
 
 ghost use Rattle.rls_steps.specs.BackLaws.{PutBack, CutBack, Exchanged};
-ghost use Rattle.rls_steps.specs.StepLaws.{LabelledLead, CutTakenBack, PutTakenBack, InsertionLeads, DeletionLeads, RenamingLeads};
+ghost use Rattle.rls_steps.specs.StepLaws.{LabelledLead, CutTakenBack, PutTakenBack, InsertionLeads, DeletionLeads, RenamingLeads, AppliedRenames};
 
 /// A step that is taken back leaves the text before it, and those below it as they were; the step that does it again stands on the other
 /// side.
@@ -19,6 +19,7 @@ pub fn exchanged()
 pub fn returned()
     ensures labelled { LabelledLead }
     ensures renamed { RenamingLeads }
+    ensures applied { AppliedRenames }
     ensures cut { CutTakenBack }
 {}
 
