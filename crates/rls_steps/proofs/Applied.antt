@@ -1,11 +1,10 @@
 -- What a rename does to the text.
-use Rattle.std.proofs.Common.{◌≡◌, ℕ, List, [], ◌∷◌, map, refl, sym, ap, ◌∙◌, ◌⊎◌, inl, inr, ⊎_elim, subst}
+use Rattle.std.proofs.Common.{◌≡◌, List, [], ◌∷◌, map, refl, sym, ap, ◌∙◌, ◌⊎◌, inl, inr, ⊎_elim}
 use Rattle.std.specs.Prelude.{Bool, true, if◌then◌else◌}
 use Rattle.rls_ident.specs.declared.tuple.Tuple.{Tuple}
 use Rattle.rls_ident.specs.declared.epoch_name.EpochName.{EpochName}
 use Rattle.rls_ident.specs.declared.epoch_name.EpochName.TheVariants.{Of}
 use Rattle.rls_ident.specs.EpochNames.{name_eq}
-use Rattle.rls_ident.specs.Identifiers.{IsIdent}
 use Rattle.rls_ident.specs.Lists.{IsIn}
 use Rattle.rls_ident.proofs.Agreeing.{map_same}
 use Rattle.rls_ident.proofs.Members.{bool_cases, true_false, map_in}
@@ -17,13 +16,9 @@ use Rattle.rls_rename.proofs.Order.{older_cmp, level_same, kept_before}
 use Rattle.rls_rename.proofs.SameNodes.{greatest_top}
 use Rattle.rls_runs.specs.Entries.{Entries, with_idents}
 use Rattle.rls_runs.proofs.Sorted.{Entry}
-use Rattle.rls_ops.specs.declared.op.Op.{Op}
-use Rattle.rls_ops.specs.declared.op.Body.{Body}
-use Rattle.rls_ops.specs.declared.op.Body.TheVariants.{Rename}
 use Rattle.rls_model.specs.Epochs.{nodes_after, renaming_of}
-use Rattle.rls_seen.specs.Over.{accepted, placed_over, renamed_over, is_greatest_over, text_after}
-use Rattle.rls_seen.specs.Sane.{IsSane, IsInRange, MayApply}
-use Rattle.rls_seen.specs.Seen.{Seen, greatest_over, idents_over}
+use Rattle.rls_seen.specs.Over.{accepted, renamed_over, is_greatest_over, text_after}
+use Rattle.rls_seen.specs.Seen.{greatest_over, idents_over}
 use Rattle.rls_seen.proofs.Applied.{accepted_sane}
 use Rattle.rls_seen.proofs.TextLists.{ident_in}
 use Rattle.rls_seen.proofs.Written.{rename_tree}

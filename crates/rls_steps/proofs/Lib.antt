@@ -6,3 +6,4 @@ pub mod Putting
 pub mod Stepping
 pub mod Renaming
 pub mod Applied
+pub mod Courses

@@ -263,6 +263,9 @@ ready_is h at n same =
 near_idents : (h : Labelled) (at n : ℕ) → IsLabelled h → (x : List Tuple) → IsIn x (take (n + 2) (drop (at - 1) (idents_over h.seen))) → IsIdent x
 near_idents h at n i x p = ident_in (idents_over h.seen) i.sane.idents x (in_drop (at - 1) x (idents_over h.seen) (in_take (n + 2) x (drop (at - 1) (idents_over h.seen)) p))
 
+pub ready_seen : (h : Labelled) (at n : ℕ) (ps : List Piece) (ts : List (List ℕ)) → IsLabelled h → Leads h ps ts → (ready_over h at n).seen ≡ h.seen
+ready_seen h at n ps ts i l = (relabelled h (take (n + 2) (drop (at - 1) (idents_over h.seen))) (near_idents h at n i) ps ts i l).seen
+
 pub deletion_leads : DeletionLeads
 deletion_leads h at n ps ts i l some w f =
     let g = ready_over h at n in

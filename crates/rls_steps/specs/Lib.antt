@@ -3,3 +3,4 @@ pub mod Back
 pub mod BackLaws
 pub mod Labelled
 pub mod StepLaws
+pub mod Courses

@@ -1,6 +1,7 @@
 //! Laws of taking back, for all values. Each call runs nothing and takes no memory; its contract states the fact.
 
 ghost use Rattle.rls_steps.specs.BackLaws.{PutBack, CutBack, Exchanged};
+ghost use Rattle.rls_steps.specs.Courses.{AsCopied, AsCopiedFromFirst};
 ghost use Rattle.rls_steps.specs.StepLaws.{LabelledLead, CutTakenBack, PutTakenBack, InsertionLeads, DeletionLeads, RenamingLeads, AppliedRenames};
 
 /// A step that is taken back leaves the text before it, and those below it as they were; the step that does it again stands on the other
@@ -28,4 +29,10 @@ pub fn stepped()
     ensures insertion { InsertionLeads }
     ensures deletion { DeletionLeads }
     ensures put { PutTakenBack }
+{}
+
+/// Whatever own edits, undos, redos and renames follow one another, the text is that of an editor that keeps a copy of each text.
+pub fn as_copied()
+    ensures course { AsCopied }
+    ensures first { AsCopiedFromFirst }
 {}
