@@ -7,3 +7,4 @@ pub mod Stepping
 pub mod Renaming
 pub mod Applied
 pub mod Courses
+pub mod Own

@@ -1,7 +1,9 @@
 -- Courses of edits, undos and redos at a replica, and the same at an editor that keeps a copy of each text.
-use Rattle.std.specs.Prelude.{◌≡◌, ◌<◌, ◌+◌, ℕ, List, [], ◌∷◌, ◌++◌, length, take, drop, reverse, Option, Some, None, ◌==◌, if◌then◌else◌}
+use Rattle.std.specs.Prelude.{◌≡◌, ◌<◌, ◌+◌, ℕ, List, [], ◌∷◌, ◌++◌, length, take, drop, zip, filter, reverse, Option, Some, None, ◌==◌, if◌then◌else◌}
 use Rattle.rls_ident.specs.declared.tuple.Tuple.{Tuple}
+use Rattle.rls_runs.specs.Entries.{without_all}
 use Rattle.rls_runs.specs.Places.{below_count}
+use Rattle.rls_runs.specs.Runs.{run_idents}
 use Rattle.rls_model.specs.declared.edit.Edit.{Edit}
 use Rattle.rls_model.specs.declared.edit.Edit.TheVariants as edits
 use Rattle.rls_model.specs.WellFormed.{IsEdit}
@@ -9,8 +11,8 @@ use Rattle.rls_seen.specs.Edits.{edit_fault_over}
 use Rattle.rls_seen.specs.Sane.{IsSane}
 use Rattle.rls_seen.specs.Seen.{Seen, idents_over, text_over, greatest_over}
 use Rattle.rls_undo.specs.Plans.{ranges_of}
-use Rattle.rls_steps.specs.Marks.{marks, Piece, Put, Cut, label_places, return_place, numbers_from}
-use Rattle.rls_steps.specs.Labelled.{Names, Labelled, marked, IsLabelled, Leads, insert_over, put_over, ready_over, cut_over, cut_piece, renamed_over, IsRenamed}
+use Rattle.rls_steps.specs.Marks.{marks, is_one_of, Piece, Put, Cut, label_places, return_place, numbers_from}
+use Rattle.rls_steps.specs.Labelled.{Names, Labelled, mark, marked, IsLabelled, Leads, insert_over, put_over, ready_over, cut_over, cut_piece, renamed_over, IsRenamed}
 
 -- ---- a piece that is taken back
 
@@ -63,6 +65,21 @@ FitRanges h (r ∷ rs) = Fits h.seen (edits.Delete r.0 r.1) × FitRanges (cut_ov
 abbrev pub FitsBack : Labelled → Piece → Type 0
 FitsBack h (Put labels) = FitRanges h (ranges_over h labels)
 FitsBack h (Cut labels cs left right) = Fits h.seen (edits.Insert (place_over h left right) cs)
+
+-- the identifiers in the text that have one of these labels
+abbrev pub labelled_idents : Labelled → List ℕ → List (List Tuple)
+labelled_idents h labels = filter (λ x. is_one_of labels (mark h.names x)) (idents_over h.seen)
+
+-- just the characters with the piece's labels are gone; or its text stands at its place, and nothing else changed
+abbrev pub IsTakenBack : Labelled → Piece → Seen → Type 0
+IsTakenBack h (Put labels) new = new.text ≡ without_all (labelled_idents h labels) h.seen.text
+IsTakenBack h (Cut labels cs left right) new =
+    let at = place_over h left right in
+    (x : List Tuple) × (new.text ≡ take at h.seen.text ++ (zip (run_idents x (length cs)) cs ++ drop at h.seen.text))
+
+-- so it is in every state, whatever others did
+abbrev pub TakesOwnAlone : Type 0
+TakesOwnAlone = (h : Labelled) (p : Piece) (qs : List Piece) → IsSane h.seen → FitsBack h p → IsTakenBack h p (taken_back h p qs).held.seen
 
 -- ---- courses
 

@@ -1,7 +1,7 @@
 //! Laws of taking back, for all values. Each call runs nothing and takes no memory; its contract states the fact.
 
 ghost use Rattle.rls_steps.specs.BackLaws.{PutBack, CutBack, Exchanged};
-ghost use Rattle.rls_steps.specs.Courses.{AsCopied, AsCopiedFromFirst};
+ghost use Rattle.rls_steps.specs.Courses.{AsCopied, AsCopiedFromFirst, TakesOwnAlone};
 ghost use Rattle.rls_steps.specs.StepLaws.{LabelledLead, CutTakenBack, PutTakenBack, InsertionLeads, DeletionLeads, RenamingLeads, AppliedRenames};
 
 /// A step that is taken back leaves the text before it, and those below it as they were; the step that does it again stands on the other
@@ -35,4 +35,10 @@ pub fn stepped()
 pub fn as_copied()
     ensures course { AsCopied }
     ensures first { AsCopiedFromFirst }
+{}
+
+/// Whatever others did, a piece that is taken back takes out just its own characters that are still there, or puts its text in at its
+/// place, and changes nothing else.
+pub fn own_alone()
+    ensures own { TakesOwnAlone }
 {}
