@@ -1,0 +1,3 @@
+pub mod Fields
+pub mod ReadingFields
+pub mod Listed

@@ -1,0 +1,10 @@
+//! The parts of a replica as the fields of a snapshot file, read from bytes.
+#![tactic(auto)]
+
+mod read_epochs;
+mod read_rows;
+mod read_snapshot;
+mod read_stems;
+mod read_text;
+
+pub use read_snapshot::snapshot;

@@ -1,0 +1,92 @@
+//! Epochs.
+
+ghost use Rattle.std.specs.Prelude.{◌≡◌, None, Some, nat_lt, option_copied};
+ghost use Rattle.std.specs.Int.{w32};
+ghost use Rattle.rls_codec.specs.Gives.{Gives};
+ghost use Rattle.rls_codec.specs.Reading.{with_rule, number_at, chain_at};
+ghost use Rattle.rls_model.specs.declared.parts.EpochPart.{EpochPart as EpochPartSeen};
+ghost use Rattle.rls_fields.specs.ReadingFields.{epoch_at, epochs_at};
+
+use rls_codec::{ReadError, epoch_name, runs, u32_at};
+use rls_model::{EpochPart, EpochParts};
+use rls_runs::Runs;
+use std::alloc::Global;
+
+// The topmost epoch, by its name alone.
+#[tactic(auto, unfolding(crate::specs::ReadingFields::epoch_at))]
+fn top_epoch(alloc: Global, bytes: &[u8]) -> Result<(EpochPart, &[u8]), ReadError>
+    ensures read { Gives (λ x. (x.0, x.1.now)) result (epoch_at None bytes.now) }
+{
+    let (name, rest) = epoch_name(bytes)?;
+    let epoch = EpochPart {
+        name,
+        parent: None,
+        former: Runs::new(alloc),
+    };
+    Ok((epoch, rest))
+}
+
+// An epoch behind another, with the place of its parent and its former identifiers.
+#[tactic(auto, unfolding(crate::specs::ReadingFields::epoch_at))]
+fn next_epoch(alloc: Global, bytes: &[u8]) -> Result<(EpochPart, &[u8]), ReadError>
+    ensures read { (before : EpochPartSeen) → Gives (λ x. (x.0, x.1.now)) result (epoch_at (Some before) bytes.now) }
+{
+    let (name, rest) = epoch_name(bytes)?;
+    let (parent, rest) = u32_at(rest)?;
+    let (former, rest) = runs(alloc, rest)?;
+    let epoch = EpochPart {
+        name,
+        parent: Some(parent as u64),
+        former,
+    };
+    Ok((epoch, rest))
+}
+
+// An epoch behind the one before, where there is one.
+fn epoch<'a>(
+    alloc: Global,
+    before: Option<&EpochPart>,
+    bytes: &'a [u8],
+) -> Result<(EpochPart, &'a [u8]), ReadError>
+    ensures read { Gives (λ x. (x.0, x.1.now)) result (epoch_at (option_copied before.entry) bytes.now) }
+{
+    match before {
+        None => top_epoch(alloc, bytes),
+        Some(_) => next_epoch(alloc, bytes),
+    }
+}
+
+// So many epochs.
+fn epoch_list(alloc: Global, count: u32, bytes: &[u8]) -> Result<(EpochParts, &[u8]), ReadError>
+    ensures read { Gives (λ x. (x.0, x.1.now)) result (chain_at epoch_at None count bytes.now) }
+{
+    let mut list = EpochParts::new(alloc);
+    let mut rest = bytes;
+    for _ in 0..count {
+        let (found, after) = epoch(alloc, list.as_slice().last(), rest)?;
+        list.push(found)?;
+        rest = after;
+    }
+    Ok((list, rest))
+}
+
+// How many epochs there are, at least 1.
+fn epoch_count(bytes: &[u8]) -> Result<(u32, &[u8]), ReadError>
+    ensures read { Gives (λ x. (x.0, x.1.now)) result (with_rule (nat_lt 0) (number_at w32) bytes.now) }
+{
+    let (count, rest) = u32_at(bytes)?;
+    if count == 0 {
+        return Err(ReadError::Fault { left: bytes.len() });
+    }
+    Ok((count, rest))
+}
+
+/// The epochs behind their number, which is at least 1.
+#[tactic(auto, unfolding(crate::specs::ReadingFields::epochs_at))]
+pub(crate) fn epochs(alloc: Global, bytes: &[u8]) -> Result<(EpochParts, &[u8]), ReadError>
+    ensures read { Gives (λ x. (x.0, x.1.now)) result (epochs_at bytes.now) }
+{
+    let (count, rest) = epoch_count(bytes)?;
+    let (list, rest) = epoch_list(alloc, count, rest)?;
+    Ok((list, rest))
+}
