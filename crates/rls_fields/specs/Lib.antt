@@ -1,3 +1,4 @@
 pub mod Fields
 pub mod ReadingFields
 pub mod Listed
+pub mod FieldSizes

@@ -1,10 +1,13 @@
 //! The parts of a replica as the fields of a snapshot file, read from bytes.
 #![tactic(auto)]
 
+mod place;
 mod read_epochs;
 mod read_rows;
 mod read_snapshot;
 mod read_stems;
 mod read_text;
+mod sizes;
 
+pub use place::place_of_broken;
 pub use read_snapshot::snapshot;
