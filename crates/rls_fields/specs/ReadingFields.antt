@@ -49,10 +49,6 @@ epoch_at (Some before) bytes = do
   former ← runs_at parent.1
   Ok (record { name = name.0; parent = Some parent.0; former = former.0 }, former.1)
 
--- a number of epochs, at least 1, and the epochs
-unfoldable pub epochs_at : List ℕ → Read (List EpochPart)
-epochs_at bytes = with_rule (nat_lt 0) (number_at w32) bytes >>= λ n. chain_at epoch_at None n.0 n.1
-
 abbrev pub run_before : Option TextRun → Option (List Tuple × ℕ)
 run_before None = None
 run_before (Some r) = Some r.run
@@ -75,7 +71,8 @@ snapshot_at form group members me bytes = do
   rows ← many_at (vector_at members) (members - 1) vector.1
   left ← lefts_at form members rows.1
   stems ← stems_at form 0 members left.1
-  epochs ← epochs_at stems.1
+  epoch_count ← with_rule (nat_lt 0) (number_at w32) stems.1
+  epochs ← chain_at epoch_at None epoch_count.0 epoch_count.1
   text ← counted_at text_run_at epochs.1
   log ← ops_at members text.1
   held ← ops_at members log.1

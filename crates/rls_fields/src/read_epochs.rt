@@ -5,7 +5,7 @@ ghost use Rattle.std.specs.Int.{w32};
 ghost use Rattle.rls_codec.specs.Gives.{Gives};
 ghost use Rattle.rls_codec.specs.Reading.{with_rule, number_at, chain_at};
 ghost use Rattle.rls_model.specs.declared.parts.EpochPart.{EpochPart as EpochPartSeen};
-ghost use Rattle.rls_fields.specs.ReadingFields.{epoch_at, epochs_at};
+ghost use Rattle.rls_fields.specs.ReadingFields.{epoch_at};
 
 use rls_codec::{ReadError, epoch_name, runs, u32_at};
 use rls_model::{EpochPart, EpochParts};
@@ -56,8 +56,12 @@ fn epoch<'a>(
     }
 }
 
-// So many epochs.
-fn epoch_list(alloc: Global, count: u32, bytes: &[u8]) -> Result<(EpochParts, &[u8]), ReadError>
+/// So many epochs.
+pub(crate) fn epoch_list(
+    alloc: Global,
+    count: u32,
+    bytes: &[u8],
+) -> Result<(EpochParts, &[u8]), ReadError>
     ensures read { Gives (λ x. (x.0, x.1.now)) result (chain_at epoch_at None count bytes.now) }
 {
     let mut list = EpochParts::new(alloc);
@@ -70,8 +74,8 @@ fn epoch_list(alloc: Global, count: u32, bytes: &[u8]) -> Result<(EpochParts, &[
     Ok((list, rest))
 }
 
-// How many epochs there are, at least 1.
-fn epoch_count(bytes: &[u8]) -> Result<(u32, &[u8]), ReadError>
+/// How many epochs there are, at least 1.
+pub(crate) fn epoch_count(bytes: &[u8]) -> Result<(u32, &[u8]), ReadError>
     ensures read { Gives (λ x. (x.0, x.1.now)) result (with_rule (nat_lt 0) (number_at w32) bytes.now) }
 {
     let (count, rest) = u32_at(bytes)?;
@@ -79,14 +83,4 @@ fn epoch_count(bytes: &[u8]) -> Result<(u32, &[u8]), ReadError>
         return Err(ReadError::Fault { left: bytes.len() });
     }
     Ok((count, rest))
-}
-
-/// The epochs behind their number, which is at least 1.
-#[tactic(auto, unfolding(crate::specs::ReadingFields::epochs_at))]
-pub(crate) fn epochs(alloc: Global, bytes: &[u8]) -> Result<(EpochParts, &[u8]), ReadError>
-    ensures read { Gives (λ x. (x.0, x.1.now)) result (epochs_at bytes.now) }
-{
-    let (count, rest) = epoch_count(bytes)?;
-    let (list, rest) = epoch_list(alloc, count, rest)?;
-    Ok((list, rest))
 }

@@ -4,7 +4,7 @@ ghost use Rattle.std.specs.Prelude.{◌≡◌, ◌<◌};
 ghost use Rattle.rls_codec.specs.Gives.{Gives};
 ghost use Rattle.rls_fields.specs.ReadingFields.{snapshot_at};
 
-use crate::read_epochs::epochs;
+use crate::read_epochs::{epoch_count, epoch_list};
 use crate::read_rows::{left_members, rows};
 use crate::read_stems::stems;
 use crate::read_text::text_runs;
@@ -37,7 +37,8 @@ pub fn snapshot(
     let (rows, rest) = rows(alloc, members, members - 1, rest)?;
     let (left, rest) = left_members(alloc, form, members, rest)?;
     let (stems, rest) = stems(alloc, form, members, rest)?;
-    let (epochs, rest) = epochs(alloc, rest)?;
+    let (count, rest) = epoch_count(rest)?;
+    let (epochs, rest) = epoch_list(alloc, count, rest)?;
     let (text, rest) = text_runs(alloc, rest)?;
     let (log, rest) = ops(alloc, members, rest)?;
     let (held, rest) = ops(alloc, members, rest)?;
