@@ -1,2 +1,3 @@
 pub mod ReadOn
 pub mod PlaceSums
+pub mod Puts

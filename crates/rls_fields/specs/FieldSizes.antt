@@ -1,5 +1,7 @@
 -- How many bytes the fields of a snapshot have.
 use Rattle.std.specs.Prelude.{ℕ, ◌+◌, ◌*◌, List, ◌==◌, length, sum_by, Option, Some, None, if◌then◌else◌}
+use Rattle.std.specs.Option.{option_map}
+use Rattle.rls_ident.specs.declared.tuple.Tuple.{Tuple}
 use Rattle.rls_ops.specs.Sizes.{name_size, run_size, runs_size, char_size, op_size}
 use Rattle.rls_model.specs.declared.parts.EpochPart.{EpochPart}
 use Rattle.rls_model.specs.declared.parts.TextRun.{TextRun}
@@ -22,6 +24,10 @@ rest_size e (Some parent) = 4 + runs_size e.former
 
 abbrev pub epoch_size : EpochPart → ℕ
 epoch_size e = name_size e.name + rest_size e e.parent
+
+-- the place of its parent and its former identifiers, if it has a parent
+abbrev pub opening : EpochPart → Option (ℕ × List (List Tuple))
+opening e = option_map (λ k. (k, e.former)) e.parent
 
 -- a run with its characters
 abbrev pub text_run_size : TextRun → ℕ

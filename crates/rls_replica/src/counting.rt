@@ -111,7 +111,7 @@ impl Replica {
     }
 
     // The epochs of the unstable operations, in the order of these.
-    fn marked(&self) -> Result<Vec<EpochName>, AllocError>
+    pub(crate) fn marked(&self) -> Result<Vec<EpochName>, AllocError>
         ensures marked { IfOk result (λ names. names.items ≡ marked_over self.now) }
     {
         let mut names = Vec::new(self.alloc);

@@ -5,6 +5,7 @@
 mod applying;
 mod counting;
 mod editing;
+mod keeping;
 mod looking;
 mod reading;
 mod receiving;

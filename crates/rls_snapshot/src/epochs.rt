@@ -67,8 +67,8 @@ fn epoch_part(
     })
 }
 
-// The place of an epoch among these, if it is there.
-fn place_of(names: &[EpochName], name: EpochName) -> Option<u64>
+/// The place of an epoch among these, if it is there. It compares the name with each before it.
+pub fn place_of(names: &[EpochName], name: EpochName) -> Option<u64>
     ensures place { result ≡ position (name_eq name) names.now }
 {
     match names.iter().position(|other| name.same(other)) {

@@ -5,6 +5,6 @@ mod epochs;
 mod lists;
 mod text;
 
-pub use epochs::epoch_parts;
+pub use epochs::{epoch_parts, place_of};
 pub use lists::{left_members, missing, other_rows, waiting};
 pub use text::text_runs;

@@ -2,3 +2,4 @@ pub mod Between
 pub mod Placing
 pub mod Tabled
 pub mod Behind
+pub mod Owned

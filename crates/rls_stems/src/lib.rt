@@ -2,6 +2,7 @@
 #![tactic(auto)]
 
 mod line;
+mod own;
 mod table;
 
 pub use table::StemTable;

@@ -1,7 +1,8 @@
 //! The stems of one author.
 
-ghost use Rattle.std.specs.Prelude.{◌≡◌, ◌+◌, ◌^◌, ◌<◌, ◌≤◌, ◌++◌, ◌∷◌, [], pos, ◌≤ℤ◌, OnOk, IfOk, IfSome, IfNone, None, length, map, slice_get, slice_index};
+ghost use Rattle.std.specs.Prelude.{◌≡◌, ◌+◌, ◌^◌, ◌<◌, ◌≤◌, ◌++◌, ◌∷◌, [], pos, ◌≤ℤ◌, OnOk, IfOk, IfSome, IfNone, None, Some, length, map, slice_get, slice_index};
 ghost use Rattle.std.specs.Option.{option_map};
+ghost use Rattle.rls_stems.specs.declared.line.Reach.{Reach as ReachSeen};
 ghost use Rattle.rls_stems.specs.Reaches.{stem_at, reach_of, with_reach, grown, with_grown, AreBelow, AreRising, place_in, IsPlaceOf};
 
 use rls_ident::Spot;
@@ -44,6 +45,21 @@ impl Line {
         Line {
             reaches: Vec::new(alloc),
         }
+    }
+
+    /// How many stems there are.
+    pub(crate) fn count(&self) -> usize
+        ensures count { result ≡ length self.now.reaches }
+    {
+        self.reaches.len()
+    }
+
+    /// This author's stem at a place, by number.
+    pub(crate) fn nth(&self, author: u32, i: usize) -> Stem
+        requires place { i < length self.now.reaches }
+        ensures stem { (r : ReachSeen) → slice_get self.now.reaches i ≡ Some r → result ≡ stem_at author r }
+    {
+        self.reaches[i].as_stem(author)
     }
 
     /// This author's stem of this number. It costs a comparison of numbers for each halving of the stems.

@@ -22,7 +22,7 @@ use std::marker::Model;
 /// The stems of all authors: one list for each, to whose end each new stem goes.
 #[derive(Drop)]
 pub struct StemTable {
-    lines: Vec<Line>,
+    pub(crate) lines: Vec<Line>,
 }
 
 impl Model for StemTable {

@@ -1,0 +1,42 @@
+use Rattle.std.proofs.Common.{◌+◌, ◌++◌, List, length, drop, sum_by, sym, ap, ◌∙◌, arith}
+use Rattle.std.specs.List.{flat_map}
+use Rattle.std.proofs.lemmas.List.{drop_all}
+use Rattle.rls_ident.proofs.Members.{get_in}
+use Rattle.rls_ops.specs.declared.op.Op.{Op}
+use Rattle.rls_ops.specs.Rows.{missing_for}
+use Rattle.rls_ops.specs.Sizes.{op_size}
+use Rattle.rls_ops.specs.Spelling.{op_bytes}
+use Rattle.rls_snapshot.proofs.Uncovered.{covered_next, uncovered_next}
+use Rattle.rls_fields.proofs.Puts.{put_next, sum_next}
+use Rattle.rls_fields.proofs.write_ops.put_missing_list.Goals as goal
+
+pub get-requires : goal.get-requires
+get-requires c = record { member = c.requires.authors c.op-op.result.now (get_in c.args.log.now.ops c.loop-i.i c.op-op.result.now c.op-op.ensures.op) }
+
+pub loop-i-preserved-then-op-get : goal.loop-i-preserved-then-op-get
+loop-i-preserved-then-op-get c =
+    let same = covered_next c.args.vector.now c.args.log.now.ops c.loop-i.i c.op-op.result.now c.op-op.ensures.op (omega (arith, c.if-op-get.true, c.get.ensures.count)) in
+    record { bytes = ap (λ (os : List Op). c.loop-i.out.items ++ flat_map op_bytes os) same ∙ c.loop-i.invariant.bytes; small = omega (arith, ap (sum_by op_size) same, c.loop-i.invariant.small) }
+
+pub put_op-requires : goal.put_op-requires
+put_op-requires c =
+    let v = c.args.vector.now in
+    let os = c.args.log.now.ops in
+    let i = c.loop-i.i in
+    let o = c.op-op.result.now in
+    let next = uncovered_next v os i o c.op-op.ensures.op (omega (arith, c.if-op-get.false, c.get.ensures.count)) in
+    let more = sum_next op_size o (missing_for v (drop (i + 1) os)) (missing_for v (drop i os)) (sym next) in
+    record { small = omega (arith, more, c.loop-i.invariant.small) }
+
+pub loop-i-preserved : goal.loop-i-preserved
+loop-i-preserved c =
+    let v = c.args.vector.now in
+    let os = c.args.log.now.ops in
+    let i = c.loop-i.i in
+    let o = c.op-op.result.now in
+    let next = uncovered_next v os i o c.op-op.ensures.op (omega (arith, c.if-op-get.false, c.get.ensures.count)) in
+    let more = sum_next op_size o (missing_for v (drop (i + 1) os)) (missing_for v (drop i os)) (sym next) in
+    record {
+      bytes = put_next op_bytes o (missing_for v (drop (i + 1) os)) (missing_for v (drop i os)) c.loop-i.out.items c.put_op.new.out.items _ (sym next) c.in_ok-put_op.ensures.ok c.loop-i.invariant.bytes;
+      small = omega (arith, more, c.loop-i.invariant.small);
+    }

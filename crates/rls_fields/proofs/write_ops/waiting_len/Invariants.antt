@@ -1,0 +1,12 @@
+use Rattle.std.proofs.Common.{◌≡◌, ◌+◌, ◌-◌, ◌^◌, ◌<◌, ◌≤◌, ◌++◌, min, take, drop, length, sum_by}
+use Rattle.std.specs.List.{flat_map}
+use Rattle.rls_ops.specs.Rows.{missing_for}
+use Rattle.rls_ops.specs.Sizes.{op_size}
+use Rattle.rls_ops.specs.Spelling.{op_bytes}
+use Rattle.rls_fields.proofs.write_ops.waiting_len.Given as goal
+
+abbrev pub invariant-loop-i : goal.invariant-loop-i
+invariant-loop-i l = record {
+  size : min (l.total + sum_by op_size (drop l.i l.held)) (2 ^ 64 - 1) ≡ min (sum_by op_size l.held) (2 ^ 64 - 1);
+  fits : l.total ≤ 2 ^ 64 - 1;
+}

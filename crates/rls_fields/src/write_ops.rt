@@ -1,0 +1,106 @@
+//! Operations that are kept and that wait, written.
+
+ghost use Rattle.std.specs.Prelude.{◌≡◌, ◌<◌, ◌++◌, ◌-◌, ◌^◌, min, length, sum_by, OnOk};
+ghost use Rattle.std.specs.List.{flat_map};
+ghost use Rattle.rls_ident.specs.Lists.{IsIn};
+ghost use Rattle.rls_ops.specs.declared.op.Op.{Op as OpSeen};
+ghost use Rattle.rls_ops.specs.Rows.{missing_for};
+ghost use Rattle.rls_ops.specs.Sizes.{op_size};
+ghost use Rattle.rls_ops.specs.Spelling.{counted, op_bytes};
+
+use rls_causal::Held;
+use rls_codec::{put_op, put_u32};
+use rls_ident::Vector;
+use rls_stable::Log;
+use std::alloc::AllocError;
+
+// How many operations of a log a vector doesn't cover.
+fn missing_count(log: &Log, vector: &Vector) -> usize
+    requires authors { (o : OpSeen) → IsIn o log.now.ops → o.author < length vector.now }
+    ensures count { result ≡ length (missing_for vector.now log.now.ops) }
+{
+    let mut count: usize = 0;
+    for i in 0..log.len() {
+        let op = log.op(i);
+        if op.seq <= vector.get(op.author) {
+            continue;
+        }
+        count += 1;
+    }
+    count
+}
+
+/// How many bytes they have, or the greatest u64 where there are more.
+pub(crate) fn missing_len(log: &Log, vector: &Vector) -> u64
+    requires authors { (o : OpSeen) → IsIn o log.now.ops → o.author < length vector.now }
+    ensures size { result ≡ min (sum_by op_size (missing_for vector.now log.now.ops)) (2 ^ 64 - 1) }
+{
+    let mut total: u64 = 0;
+    for i in 0..log.len() {
+        let op = log.op(i);
+        if op.seq <= vector.get(op.author) {
+            continue;
+        }
+        total = total.saturating_add(op.encoded_len());
+    }
+    total
+}
+
+// These operations.
+fn put_missing_list(out: &mut Vec<u8>, log: &Log, vector: &Vector) -> Result<(), AllocError>
+    requires authors { (o : OpSeen) → IsIn o log.now.ops → o.author < length vector.now }
+    requires small { sum_by op_size (missing_for vector.now log.now.ops) < 2 ^ 32 }
+    ensures ok { OnOk result (out.new.items ≡ out.old.items ++ flat_map op_bytes (missing_for vector.now log.now.ops)) }
+{
+    for i in 0..log.len() {
+        let op = log.op(i);
+        if op.seq <= vector.get(op.author) {
+            continue;
+        }
+        put_op(out, op)?;
+    }
+    Ok(())
+}
+
+/// The operations of a log that a vector doesn't cover, in order, behind their number.
+pub(crate) fn put_missing(out: &mut Vec<u8>, log: &Log, vector: &Vector) -> Result<(), AllocError>
+    requires authors { (o : OpSeen) → IsIn o log.now.ops → o.author < length vector.now }
+    requires small { sum_by op_size (missing_for vector.now log.now.ops) < 2 ^ 32 }
+    ensures ok { OnOk result (out.new.items ≡ out.old.items ++ counted op_bytes (missing_for vector.now log.now.ops)) }
+{
+    put_u32(out, missing_count(log, vector) as u32)?;
+    put_missing_list(out, log, vector)?;
+    Ok(())
+}
+
+/// How many bytes the waiting operations have, or the greatest u64 where there are more.
+pub(crate) fn waiting_len(held: &Held) -> u64
+    ensures size { result ≡ min (sum_by op_size held.now) (2 ^ 64 - 1) }
+{
+    let mut total: u64 = 0;
+    for i in 0..held.len() {
+        total = total.saturating_add(held.op(i).encoded_len());
+    }
+    total
+}
+
+// The waiting operations, in order.
+fn put_waiting_list(out: &mut Vec<u8>, held: &Held) -> Result<(), AllocError>
+    requires small { sum_by op_size held.now < 2 ^ 32 }
+    ensures ok { OnOk result (out.new.items ≡ out.old.items ++ flat_map op_bytes held.now) }
+{
+    for i in 0..held.len() {
+        put_op(out, held.op(i))?;
+    }
+    Ok(())
+}
+
+/// The waiting operations, in order, behind their number.
+pub(crate) fn put_waiting(out: &mut Vec<u8>, held: &Held) -> Result<(), AllocError>
+    requires small { sum_by op_size held.now < 2 ^ 32 }
+    ensures ok { OnOk result (out.new.items ≡ out.old.items ++ counted op_bytes held.now) }
+{
+    put_u32(out, held.len() as u32)?;
+    put_waiting_list(out, held)?;
+    Ok(())
+}
