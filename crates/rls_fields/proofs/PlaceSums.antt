@@ -11,8 +11,8 @@ use Rattle.rls_model.specs.declared.parts.EpochPart.{EpochPart}
 use Rattle.rls_model.specs.declared.parts.TextRun.{TextRun}
 use Rattle.rls_model.specs.declared.parts.Stem.{Stem}
 use Rattle.rls_model.specs.declared.parts.Parts.{Parts}
-use Rattle.rls_fields.specs.Fields.{head_bytes, epoch_bytes, rest_of_epoch, text_run_bytes, bytes_before, rows_place, stems_place, epochs_place, text_place, log_place, held_place, stem_place, place_of_broken}
-use Rattle.rls_fields.specs.FieldSizes.{row_size, left_size, rest_size, epoch_size, text_run_size, before_rows, before_stems, before_epochs, before_text, before_log, before_held, stem_before}
+use Rattle.rls_fields.specs.Fields.{head_bytes, epoch_bytes, rest_of_epoch, text_run_bytes, bytes_before, rows_place, stems_place, epochs_place, text_place, log_place, held_place, stem_place, place_of_broken, stems_bytes, snapshot_bytes, file_bytes}
+use Rattle.rls_fields.specs.FieldSizes.{written_size, row_size, left_size, rest_size, epoch_size, text_run_size, before_rows, before_stems, before_epochs, before_text, before_log, before_held, stem_before}
 
 -- ---- entries
 
@@ -99,3 +99,32 @@ module _ (form : ℕ) (p : Parts) where
       → place_of_broken form p (record { rule = r; index = i }) ≡ before_held form p + 4 + sum_by op_size (take i p.held)
   unfolding place_of_broken
   at_other r i a b c d e f g = rw (ne_eqb r 1 a, ne_eqb r 2 b, ne_eqb r 3 c, ne_eqb r 4 d, ne_eqb r 5 e, ne_eqb r 6 f, ne_eqb r 7 g) (omega (arith, held_before, parts_length op_bytes op_size op_length (take i p.held)))
+
+-- ---- a whole file of form 4
+
+pub file_length : (p : Parts) → length (file_bytes p) ≡ written_size p
+unfolding snapshot_bytes
+file_length p =
+    let held = counted op_bytes p.held ++ [] in
+    let log = counted op_bytes p.log ++ held in
+    let text = counted text_run_bytes p.text ++ log in
+    let epochs = counted epoch_bytes p.epochs ++ text in
+    let stems = stems_bytes 4 0 p.members p.stems ++ epochs in
+    let left = counted four_bytes p.left ++ stems in
+    let rows = flat_map vector_bytes p.rows ++ left in
+    let a = length-append (vector_bytes p.vector) rows in
+    let b = length-append (flat_map vector_bytes p.rows) left in
+    let c = length-append (counted four_bytes p.left) stems in
+    let d = length-append (stems_bytes 4 0 p.members p.stems) epochs in
+    let e = length-append (counted epoch_bytes p.epochs) text in
+    let f = length-append (counted text_run_bytes p.text) log in
+    let g = length-append (counted op_bytes p.log) held in
+    let h = length-append (counted op_bytes p.held) [] in
+    let v = vector_length p.vector in
+    let r = rows_length p.rows in
+    let l = left_length 4 p.left in
+    let es = counted_length epoch_bytes epoch_size epoch_length p.epochs in
+    let ts = counted_length text_run_bytes text_run_size text_run_length p.text in
+    let os = counted_length op_bytes op_size op_length p.log in
+    let ws = counted_length op_bytes op_size op_length p.held in
+    omega (arith, a, b, c, d, e, f, g, h, v, r, l, es, ts, os, ws)

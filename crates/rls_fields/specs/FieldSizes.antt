@@ -7,7 +7,7 @@ use Rattle.rls_model.specs.declared.parts.EpochPart.{EpochPart}
 use Rattle.rls_model.specs.declared.parts.TextRun.{TextRun}
 use Rattle.rls_model.specs.declared.parts.Stem.{Stem}
 use Rattle.rls_model.specs.declared.parts.Parts.{Parts}
-use Rattle.rls_fields.specs.Fields.{stem_size}
+use Rattle.rls_fields.specs.Fields.{stem_size, stems_bytes}
 
 -- a row
 abbrev pub row_size : List ℕ → ℕ
@@ -56,6 +56,12 @@ before_held form p = before_log form p + 4 + sum_by op_size p.log
 -- a whole snapshot
 unfoldable pub snapshot_size : ℕ → Parts → ℕ
 snapshot_size form p = before_held form p + 4 + sum_by op_size p.held
+
+-- a whole snapshot of form 4, whatever authors its stems have
+abbrev pub written_size : Parts → ℕ
+written_size p =
+    before_rows p + sum_by row_size p.rows + left_size 4 p.left + length (stems_bytes 4 0 p.members p.stems)
+    + 4 + sum_by epoch_size p.epochs + 4 + sum_by text_run_size p.text + 4 + sum_by op_size p.log + 4 + sum_by op_size p.held
 
 -- how many bytes stand in front of the stem at this place, if there is one
 abbrev pub stem_before : ℕ → Parts → ℕ → Option Stem → ℕ

@@ -1,4 +1,6 @@
-//! The parts of a replica as the fields of a snapshot file, read from bytes.
+//! The fields of a snapshot file: the parts of a replica, read from bytes, and what a replica keeps, written as such.
+//!
+//! Each call that writes appends the bytes of its part. Where memory runs out, some of them may stand there.
 #![tactic(auto)]
 
 mod place;
@@ -16,3 +18,8 @@ mod write_text;
 
 pub use place::place_of_broken;
 pub use read_snapshot::snapshot;
+pub use write_epochs::{kept_epochs_len, put_epochs};
+pub use write_ops::{missing_len, put_missing, put_waiting, waiting_len};
+pub use write_rows::{left_count, other_rows_len, put_left, put_rows};
+pub use write_stems::{put_stems, stems_len};
+pub use write_text::{put_text_runs, tree_len};

@@ -85,11 +85,7 @@ fn put_epoch_list(out: &mut Vec<u8>, epochs: &Epochs, names: &[EpochName]) -> Re
 }
 
 /// These kept epochs behind their number, of which the first is kept by its name alone.
-pub(crate) fn put_epochs(
-    out: &mut Vec<u8>,
-    epochs: &Epochs,
-    names: &[EpochName],
-) -> Result<(), AllocError>
+pub fn put_epochs(out: &mut Vec<u8>, epochs: &Epochs, names: &[EpochName]) -> Result<(), AllocError>
     requires kept { (e : EpochNameSeen) → IsIn e names.now → IsTrue (is_kept epochs.now.epochs.top epochs.now.epochs.nodes e) }
     requires small { sum_by epoch_size (epoch_parts epochs.now.epochs.nodes names.now) < 2 ^ 32 }
     ensures ok { OnOk result (out.new.items ≡ out.old.items ++ counted epoch_bytes (epoch_parts epochs.now.epochs.nodes names.now)) }
@@ -100,7 +96,7 @@ pub(crate) fn put_epochs(
 }
 
 /// How many bytes these have without their number, or the greatest u64 where there are more.
-pub(crate) fn kept_epochs_len(epochs: &Epochs, names: &[EpochName]) -> u64
+pub fn kept_epochs_len(epochs: &Epochs, names: &[EpochName]) -> u64
     requires kept { (e : EpochNameSeen) → IsIn e names.now → IsTrue (is_kept epochs.now.epochs.top epochs.now.epochs.nodes e) }
     ensures size { result ≡ min (sum_by epoch_size (epoch_parts epochs.now.epochs.nodes names.now)) (2 ^ 64 - 1) }
 {

@@ -31,7 +31,7 @@ fn missing_count(log: &Log, vector: &Vector) -> usize
 }
 
 /// How many bytes they have, or the greatest u64 where there are more.
-pub(crate) fn missing_len(log: &Log, vector: &Vector) -> u64
+pub fn missing_len(log: &Log, vector: &Vector) -> u64
     requires authors { (o : OpSeen) → IsIn o log.now.ops → o.author < length vector.now }
     ensures size { result ≡ min (sum_by op_size (missing_for vector.now log.now.ops)) (2 ^ 64 - 1) }
 {
@@ -63,7 +63,7 @@ fn put_missing_list(out: &mut Vec<u8>, log: &Log, vector: &Vector) -> Result<(),
 }
 
 /// The operations of a log that a vector doesn't cover, in order, behind their number.
-pub(crate) fn put_missing(out: &mut Vec<u8>, log: &Log, vector: &Vector) -> Result<(), AllocError>
+pub fn put_missing(out: &mut Vec<u8>, log: &Log, vector: &Vector) -> Result<(), AllocError>
     requires authors { (o : OpSeen) → IsIn o log.now.ops → o.author < length vector.now }
     requires small { sum_by op_size (missing_for vector.now log.now.ops) < 2 ^ 32 }
     ensures ok { OnOk result (out.new.items ≡ out.old.items ++ counted op_bytes (missing_for vector.now log.now.ops)) }
@@ -74,7 +74,7 @@ pub(crate) fn put_missing(out: &mut Vec<u8>, log: &Log, vector: &Vector) -> Resu
 }
 
 /// How many bytes the waiting operations have, or the greatest u64 where there are more.
-pub(crate) fn waiting_len(held: &Held) -> u64
+pub fn waiting_len(held: &Held) -> u64
     ensures size { result ≡ min (sum_by op_size held.now) (2 ^ 64 - 1) }
 {
     let mut total: u64 = 0;
@@ -96,7 +96,7 @@ fn put_waiting_list(out: &mut Vec<u8>, held: &Held) -> Result<(), AllocError>
 }
 
 /// The waiting operations, in order, behind their number.
-pub(crate) fn put_waiting(out: &mut Vec<u8>, held: &Held) -> Result<(), AllocError>
+pub fn put_waiting(out: &mut Vec<u8>, held: &Held) -> Result<(), AllocError>
     requires small { sum_by op_size held.now < 2 ^ 32 }
     ensures ok { OnOk result (out.new.items ≡ out.old.items ++ counted op_bytes held.now) }
 {

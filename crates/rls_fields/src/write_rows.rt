@@ -12,7 +12,7 @@ use rls_stable::Acks;
 use std::alloc::AllocError;
 
 /// The rows of all members but the own one, in order.
-pub(crate) fn put_rows(out: &mut Vec<u8>, acks: &Acks, members: u32) -> Result<(), AllocError>
+pub fn put_rows(out: &mut Vec<u8>, acks: &Acks, members: u32) -> Result<(), AllocError>
     requires members { members ≡ length acks.now.mine }
     ensures ok { OnOk result (out.new.items ≡ out.old.items ++ flat_map vector_bytes (other_rows acks.now members)) }
 {
@@ -26,7 +26,7 @@ pub(crate) fn put_rows(out: &mut Vec<u8>, acks: &Acks, members: u32) -> Result<(
 }
 
 /// How many bytes these have.
-pub(crate) fn other_rows_len(acks: &Acks, members: u32) -> u64
+pub fn other_rows_len(acks: &Acks, members: u32) -> u64
     requires members { members ≡ length acks.now.mine }
     ensures size { result ≡ min (sum_by row_size (other_rows acks.now members)) (2 ^ 64 - 1) }
 {
@@ -41,7 +41,7 @@ pub(crate) fn other_rows_len(acks: &Acks, members: u32) -> u64
 }
 
 /// How many members have left.
-pub(crate) fn left_count(acks: &Acks, members: u32) -> u32
+pub fn left_count(acks: &Acks, members: u32) -> u32
     requires members { members ≡ length acks.now.mine }
     ensures count { result ≡ length (left_below acks.now members) }
 {
@@ -68,7 +68,7 @@ fn put_left_list(out: &mut Vec<u8>, acks: &Acks, members: u32) -> Result<(), All
 }
 
 /// How many members have left, and which.
-pub(crate) fn put_left(out: &mut Vec<u8>, acks: &Acks, members: u32) -> Result<(), AllocError>
+pub fn put_left(out: &mut Vec<u8>, acks: &Acks, members: u32) -> Result<(), AllocError>
     requires members { members ≡ length acks.now.mine }
     ensures ok { OnOk result (out.new.items ≡ out.old.items ++ counted four_bytes (left_below acks.now members)) }
 {

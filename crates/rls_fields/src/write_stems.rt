@@ -43,11 +43,7 @@ fn put_own(out: &mut Vec<u8>, stems: &StemTable, author: u32) -> Result<(), Allo
 }
 
 /// The stems of so many authors, author by author.
-pub(crate) fn put_stems(
-    out: &mut Vec<u8>,
-    stems: &StemTable,
-    members: u32,
-) -> Result<(), AllocError>
+pub fn put_stems(out: &mut Vec<u8>, stems: &StemTable, members: u32) -> Result<(), AllocError>
     requires members { members ≡ stems.now.members }
     requires few { length stems.now.stems < 2 ^ 32 }
     ensures ok { OnOk result (out.new.items ≡ out.old.items ++ stems_bytes 4 0 members stems.now.stems) }
@@ -59,7 +55,7 @@ pub(crate) fn put_stems(
 }
 
 /// How many bytes these have, or the greatest u64 where there are more.
-pub(crate) fn stems_len(stems: &StemTable, members: u32) -> u64
+pub fn stems_len(stems: &StemTable, members: u32) -> u64
     requires members { members ≡ stems.now.members }
     ensures size { result ≡ min (length (stems_bytes 4 0 members stems.now.stems)) (2 ^ 64 - 1) }
 {

@@ -74,7 +74,7 @@ fn blocks_len(node: &Node) -> u64
 }
 
 /// The maximal runs with their characters, behind their number.
-pub(crate) fn put_text_runs(out: &mut Vec<u8>, tree: &BlockTree) -> Result<(), AllocError>
+pub fn put_text_runs(out: &mut Vec<u8>, tree: &BlockTree) -> Result<(), AllocError>
     requires small { sum_by text_run_size (text_runs (entries_of tree.now.blocks)) < 2 ^ 32 }
     ensures ok { OnOk result (out.new.items ≡ out.old.items ++ counted text_run_bytes (text_runs (entries_of tree.now.blocks))) }
 {
@@ -87,7 +87,7 @@ pub(crate) fn put_text_runs(out: &mut Vec<u8>, tree: &BlockTree) -> Result<(), A
 }
 
 /// How many bytes these have without their number, or the greatest u64 where there are more.
-pub(crate) fn tree_len(tree: &BlockTree) -> u64
+pub fn tree_len(tree: &BlockTree) -> u64
     ensures size { result ≡ min (sum_by text_run_size (text_runs (entries_of tree.now.blocks))) (2 ^ 64 - 1) }
 {
     match tree.root() {

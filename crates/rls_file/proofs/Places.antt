@@ -134,7 +134,7 @@ grouped_stem form a (suc n) ss i s g e =
           }
     ]
 
-stems_length : (form a n : ℕ) (ss : List Stem) → Grouped form a n ss → length (stems_bytes form a n ss) ≡ 4 * n + stem_size form * length ss
+pub stems_length : (form a n : ℕ) (ss : List Stem) → Grouped form a n ss → length (stems_bytes form a n ss) ≡ 4 * n + stem_size form * length ss
 stems_length form a zero ss g = rw (ap (λ (ys : List Stem). length ys) g) (omega arith)
 stems_length form a (suc n) ss g =
     let own = own_of a ss in

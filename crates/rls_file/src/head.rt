@@ -20,8 +20,8 @@ fn form_byte(bytes: &[u8]) -> Result<(u8, &[u8]), ReadError>
     Ok((form, rest))
 }
 
-/// The magic text and the form.
-pub(crate) fn form(bytes: &[u8]) -> Result<(u8, &[u8]), ReadError>
+/// The form that stands behind the magic text, from 1 to 4.
+pub fn form(bytes: &[u8]) -> Result<(u8, &[u8]), ReadError>
     ensures read { Gives (λ x. (x.0, x.1.now)) result (form_at bytes.now) }
 {
     let rest = magic(b"RLSF", bytes)?;

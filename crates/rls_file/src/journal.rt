@@ -80,6 +80,15 @@ impl Journal {
         &self.replica
     }
 
+    /// The replica alone: the acknowledgements are given up.
+    pub fn into_replica(self) -> Replica
+        ensures replica { result ≡ self.seen }
+    {
+        let Journal { replica, notes } = self;
+        drop(notes);
+        replica
+    }
+
     /// The acknowledgements, in order.
     pub(crate) fn notes(&self) -> &[Note]
         ensures notes { result.now ≡ self.now.notes }

@@ -10,4 +10,5 @@ pub mod stored;
 mod writing;
 
 pub use file::{FileError, SaveError, decode_file, encode_file};
+pub use head::form;
 pub use journal::{Journal, Note};
