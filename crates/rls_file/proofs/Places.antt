@@ -106,7 +106,7 @@ pub record StemAt (form a n i : ℕ) (ss : List Stem) (s : Stem) : Type 0 where
   pub from : a ≤ s.author
   pub at : StandsAt (stems_bytes form a n ss) (4 * (s.author - a + 1) + stem_size form * i) (stem_bytes form s)
 
-grouped_stem : (form a n : ℕ) (ss : List Stem) (i : ℕ) (s : Stem) → Grouped form a n ss → slice_get ss i ≡ Some s → StemAt form a n i ss s
+pub grouped_stem : (form a n : ℕ) (ss : List Stem) (i : ℕ) (s : Stem) → Grouped form a n ss → slice_get ss i ≡ Some s → StemAt form a n i ss s
 grouped_stem form a zero ss i s g e = absurd (none (sym (ap (λ ys. slice_get ys i) g) ∙ e))
   where
     none : slice_get [] i ≡ Some s → ⊥

@@ -72,7 +72,7 @@ form_within = within.then (λ magic. with_rule is_file_form byte_at magic.1) (wi
 
 -- ---- behind the form
 
-abbrev behind_form : ℕ → List ℕ → Read Content
+abbrev pub behind_form : ℕ → List ℕ → Read Content
 behind_form form bytes =
     number_at w64 bytes >>= λ group. with_rule is_member_count (number_at w32) group.1 >>= λ members. with_rule (λ n. nat_lt n members.0) (number_at w32) members.1 >>= λ me. content_at form group.0 members.0 me.0 (form == 1) me.1
 
@@ -80,7 +80,7 @@ assoc : {A B C : Type 0} (r : Result A ℕ) (f : A → Result B ℕ) (g : B → 
 assoc (Ok x) f g = refl
 assoc (Err e) f g = refl
 
-file_is : (bytes : List ℕ) → file_at bytes ≡ (form_at bytes >>= λ form. behind_form form.0 form.1)
+pub file_is : (bytes : List ℕ) → file_at bytes ≡ (form_at bytes >>= λ form. behind_form form.0 form.1)
 unfolding file_at
 file_is bytes = sym (assoc (magic_at (codes "RLSF") bytes) (λ magic. with_rule is_file_form byte_at magic.1) (λ form. behind_form form.0 form.1))
 
@@ -104,7 +104,7 @@ no_snapshot bytes rest form h le = ap is_snapshot h ∙ le-ltb 1 form le
 
 -- ---- what decoding answers
 
-fault_of : (bytes : List ℕ) (left : ℕ) → file_at bytes ≡ Err left → file_of bytes ≡ Err (length bytes - left)
+pub fault_of : (bytes : List ℕ) (left : ℕ) → file_at bytes ≡ Err left → file_of bytes ≡ Err (length bytes - left)
 unfolding file_of
 fault_of bytes left h = ap (λ r. whole bytes r >>= tested) h
 

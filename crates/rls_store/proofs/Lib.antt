@@ -1,0 +1,4 @@
+pub mod Stored
+pub mod Bounded
+pub mod Loaded
+pub mod Saved

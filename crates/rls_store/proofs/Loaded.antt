@@ -1,0 +1,137 @@
+-- Whole files, loaded.
+use Rattle.std.proofs.Common.{◌≡◌, ℕ, ◌-◌, ◌<◌, ◌≤◌, ◌^◌, Bool, true, false, List, [], ◌∷◌, length, min, Some, None, Result, Ok, Err, refl, sym, ap, ◌∙◌, subst, arith, ◌⊎◌, inl, inr}
+use Rattle.std.specs.Prelude.{nat_lt, ◌==◌, IfOk, IsOkAnd}
+use Rattle.std.specs.Int.{w32, w64}
+use Rattle.rls_ident.proofs.Members.{neq_test}
+use Rattle.rls_codec.specs.declared.fault.ReadError.{ReadError}
+use Rattle.rls_codec.specs.declared.fault.ReadError.TheVariants.{Fault}
+use Rattle.rls_codec.specs.declared.fault.ReadError.TheVariants as read
+use Rattle.rls_codec.specs.CodecLaws.{IsBytes}
+use Rattle.rls_codec.specs.Gives.{Fails}
+use Rattle.rls_codec.specs.Reading.{Read, ◌>>=◌, with_rule, number_at, is_member_count, whole}
+use Rattle.rls_model.specs.declared.parts.Parts.{Parts}
+use Rattle.rls_model.specs.Legal.{IsLegal}
+use Rattle.rls_model.specs.Parts.{parts}
+use Rattle.rls_model.specs.Receiving.{State}
+use Rattle.rls_seen.specs.Seen.{Seen}
+use Rattle.rls_seen.specs.Stands.{StandsFor}
+use Rattle.rls_parts.specs.Given.{AreGiven}
+use Rattle.rls_parts.specs.Restored.{seen_of}
+use Rattle.rls_parts.specs.Rules.{Broken, broken}
+use Rattle.rls_fields.specs.Fields.{place_of_broken, snapshot_bytes}
+use Rattle.rls_fields.specs.ReadingFields.{snapshot_at}
+use Rattle.rls_file.specs.Files.{Content, Journal, Snapshot}
+use Rattle.rls_file.specs.ReadingFiles.{content_at, form_at, file_at, tested, unless_broken, file_of}
+use Rattle.rls_file.specs.SpelledFiles.{IsSpelledSnapshot}
+use Rattle.rls_file.proofs.FileFormats.{file, whole_takes}
+use Rattle.rls_file.proofs.GivenParts.{parts_are_given}
+use Rattle.rls_file.proofs.WholeFiles.{behind_form, file_is, fault_of}
+use Rattle.rls_store.specs.declared.loading.FileError.{FileError}
+use Rattle.rls_store.specs.declared.loading.FileError.TheVariants.{Damaged, OutOfMemory}
+use Rattle.rls_store.specs.Loading.{snapshot_behind, damage_of, ReadsParts, IsPlaceOf, IsLoaded, Loads, FileStandsFor}
+use Rattle.rls_store.proofs.Bounded.{whole_length, place_within}
+
+-- ---- behind the form
+
+-- what follows the form, where it is known whether that is a journal's
+abbrev behind_with : ℕ → Bool → List ℕ → Read Content
+behind_with form b bytes =
+    number_at w64 bytes >>= λ group. with_rule is_member_count (number_at w32) group.1 >>= λ members. with_rule (λ n. nat_lt n members.0) (number_at w32) members.1 >>= λ me. content_at form group.0 members.0 me.0 b me.1
+
+pub snapshot_is : (bytes rest : List ℕ) (form : ℕ) → form_at bytes ≡ Ok (form, rest) → 1 < form → file_at bytes ≡ snapshot_behind form rest
+unfolding snapshot_behind
+snapshot_is bytes rest form h lt =
+    file_is bytes ∙ ap (λ r. r >>= λ f. behind_form f.0 f.1) h ∙ ap (λ b. behind_with form b rest) (neq_test form 1 (λ e. omega (arith, e, lt)))
+
+-- ---- faults
+
+pub head_fails : (e : ReadError) (bytes : List ℕ) → Fails e (form_at bytes) → Loads (Err (damage_of (length bytes) e)) bytes
+head_fails read.OutOfMemory bytes h = tt
+head_fails (Fault left) bytes h = fault_of bytes left (file_is bytes ∙ ap (λ r. r >>= λ f. behind_form f.0 f.1) h)
+
+pub parts_fail : (e : ReadError) (bytes rest : List ℕ) (form : ℕ) → form_at bytes ≡ Ok (form, rest) → 1 < form → Fails e (snapshot_behind form rest) → ReadsParts form (Err (damage_of (length bytes) e)) bytes
+parts_fail read.OutOfMemory bytes rest form h lt f = tt
+parts_fail (Fault left) bytes rest form h lt f = ap (whole bytes) (snapshot_is bytes rest form h lt ∙ f)
+
+pub parts_surplus : (bytes rest after : List ℕ) (form : ℕ) (p : Parts) → form_at bytes ≡ Ok (form, rest) → 1 < form → snapshot_behind form rest ≡ Ok (Snapshot form p, after) → 0 < length after
+    → whole bytes (file_at bytes) ≡ Err (length bytes - length after)
+parts_surplus bytes rest [] form p h lt r some = absurd (omega (arith, some))
+parts_surplus bytes rest (b ∷ more) form p h lt r some = ap (whole bytes) (snapshot_is bytes rest form h lt ∙ r)
+
+pub parts_done : (bytes rest after : List ℕ) (form : ℕ) (p : Parts) → form_at bytes ≡ Ok (form, rest) → 1 < form → snapshot_behind form rest ≡ Ok (Snapshot form p, after) → length after ≤ 0 → whole bytes (file_at bytes) ≡ Ok (Snapshot form p)
+parts_done bytes rest [] form p h lt r none = ap (whole bytes) (snapshot_is bytes rest form h lt ∙ r)
+parts_done bytes rest (b ∷ more) form p h lt r none = absurd (omega (arith, none))
+
+-- ---- parts that were read
+
+abbrev said : ℕ → Parts → Result Content ℕ
+said form p = Ok (Snapshot form p)
+
+same_parts : (form : ℕ) (p q : Parts) → said form p ≡ said form q → p ≡ q
+same_parts form p q e = cc
+
+not_both : {A : Type 0} (r : Result A ℕ) (x : A) (e : ℕ) → r ≡ Ok x → r ≡ Err e → ⊥
+not_both r x e h k = let c = sym h ∙ k in cc
+
+spelled : (bytes : List ℕ) (form : ℕ) (p : Parts) → IsBytes bytes → whole bytes (file_at bytes) ≡ Ok (Snapshot form p) → (bytes ≡ snapshot_bytes form p) × IsSpelledSnapshot form p
+spelled bytes form p h e = whole_takes file bytes (Snapshot form p) h e
+
+pub given : (bytes : List ℕ) (form : ℕ) (p : Parts) → IsBytes bytes → whole bytes (file_at bytes) ≡ Ok (Snapshot form p) → AreGiven p
+given bytes form p h e = parts_are_given form p (spelled bytes form p h e).1
+
+pub parts_loaded : (bytes : List ℕ) (form : ℕ) (p : Parts) (r : Seen) → whole bytes (file_at bytes) ≡ Ok (Snapshot form p) → broken p ≡ None → r ≡ seen_of p → ((t : State) → IsLegal t.history → parts t ≡ p → StandsFor r t) → Loads (Ok r) bytes
+unfolding file_of
+parts_loaded bytes form p r e none is stands = (Snapshot form p, ap (λ x. x >>= tested) e ∙ ap (unless_broken form p) none, (is, stands))
+
+pub fault_loads : (form : ℕ) (e : FileError) (bytes : List ℕ) → ReadsParts form (Err e) bytes → Loads (Err e) bytes
+unfolding file_of
+fault_loads form (Damaged at) bytes h = ap (λ x. x >>= tested) h
+fault_loads form OutOfMemory bytes h = tt
+
+-- the place of a broken rule is what the file answers
+pub broken_loads : (bytes : List ℕ) (form rule index : ℕ) (p : Parts) (e : FileError) → IsBytes bytes → length bytes < 2 ^ 64 → whole bytes (file_at bytes) ≡ Ok (Snapshot form p) → broken p ≡ Some (record { rule = rule; index = index })
+    → IsPlaceOf form rule index e bytes → Loads (Err e) bytes
+unfolding file_of
+broken_loads bytes form rule index p OutOfMemory b l h broke place = tt
+broken_loads bytes form rule index p (Damaged at) b l h broke place =
+    let s = spelled bytes form p b h in
+    let within = place_within form p s.1.parts.stems rule index in
+    let all = ap length s.0 ∙ whole_length form p s.1.parts.stems in
+    let is : place_of_broken form p (record { rule = rule; index = index }) ≡ at = omega (arith, place p h, within, all, l) in
+    ap (λ x. x >>= tested) h ∙ ap (unless_broken form p) broke ∙ ap (λ n. Err n) is
+
+-- the place that was found in the parts that were read
+pub place_read : (bytes : List ℕ) (form rule index at : ℕ) (p : Parts) → whole bytes (file_at bytes) ≡ Ok (Snapshot form p) → at ≡ min (place_of_broken form p (record { rule = rule; index = index })) (2 ^ 64 - 1) → IsPlaceOf form rule index (Damaged at) bytes
+place_read bytes form rule index at p h e q k = e ∙ ap (λ x. min (place_of_broken form x (record { rule = rule; index = index })) (2 ^ 64 - 1)) (same_parts form p q (sym h ∙ k))
+
+pub place_fault : (form rule index : ℕ) (e : FileError) (bytes : List ℕ) → ReadsParts form (Err e) bytes → IsPlaceOf form rule index e bytes
+place_fault form rule index (Damaged at) bytes h = λ p k. absurd (not_both (whole bytes (file_at bytes)) (Snapshot form p) at k h)
+place_fault form rule index OutOfMemory bytes h = tt
+
+-- ---- clauses
+
+pub loads_ok : (r : Result Seen FileError) (bytes : List ℕ) → Loads r bytes → IfOk r (λ s. (c : Content) × (file_of bytes ≡ Ok c) × IsLoaded s c)
+loads_ok (Ok s) bytes h = h
+loads_ok (Err e) bytes h = tt
+
+pub loads_damaged : (r : Result Seen FileError) (bytes : List ℕ) → Loads r bytes → (at : ℕ) → r ≡ Err (Damaged at) → file_of bytes ≡ Err at
+loads_damaged r bytes h at e = subst (λ x. Loads x bytes) e h
+
+abbrev content_ok : Content → Result Content ℕ
+content_ok c = Ok c
+
+same_content : (c d : Content) → content_ok c ≡ content_ok d → c ≡ d
+same_content c d e = cc
+
+pub loads_found : (r : Result Seen FileError) (bytes : List ℕ) → Loads r bytes → (c : Content) → file_of bytes ≡ Ok c → IsOkAnd r (λ s. IsLoaded s c) ⊎ (r ≡ Err OutOfMemory)
+loads_found (Ok s) bytes h c e = inl (subst (IsLoaded s) (same_content h.0 c (sym h.1 ∙ e)) h.2)
+loads_found (Err (Damaged at)) bytes h c e = absurd (not_both (file_of bytes) c at e h)
+loads_found (Err OutOfMemory) bytes h c e = inr refl
+
+loaded_stands : (s : Seen) (c : Content) (bytes : List ℕ) (t : State) → file_of bytes ≡ Ok c → IsLoaded s c → FileStandsFor bytes t → StandsFor s t
+loaded_stands s c bytes t e l (inl f) = subst (IsLoaded s) (same_content c (Journal t) (sym e ∙ f)) l
+loaded_stands s c bytes t e l (inr f) = (subst (IsLoaded s) (same_content c (Snapshot f.1.0 (parts t)) (sym e ∙ f.1.1)) l).1 t f.0 refl
+
+pub loads_stands : (r : Result Seen FileError) (bytes : List ℕ) → Loads r bytes → IfOk r (λ s. (t : State) → FileStandsFor bytes t → StandsFor s t)
+loads_stands (Ok s) bytes h = λ t f. loaded_stands s h.0 bytes t h.1 h.2 f
+loads_stands (Err e) bytes h = tt

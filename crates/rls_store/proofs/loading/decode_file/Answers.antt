@@ -1,0 +1,14 @@
+use Rattle.rls_store.proofs.Loaded.{loads_ok, loads_damaged, loads_found, loads_stands}
+use Rattle.rls_store.proofs.loading.decode_file.Goals as goal
+
+pub returns-clause-ok : goal.returns-clause-ok
+returns-clause-ok c = loads_ok c.load.result c.args.bytes.now c.load.ensures.loads
+
+pub returns-clause-damaged : goal.returns-clause-damaged
+returns-clause-damaged c = loads_damaged c.load.result c.args.bytes.now c.load.ensures.loads
+
+pub returns-clause-found : goal.returns-clause-found
+returns-clause-found c = loads_found c.load.result c.args.bytes.now c.load.ensures.loads
+
+pub returns-clause-stands : goal.returns-clause-stands
+returns-clause-stands c = loads_stands c.load.result c.args.bytes.now c.load.ensures.loads

@@ -1,0 +1,60 @@
+-- What loading a file answers.
+use Rattle.std.specs.Prelude.{◌≡◌, ℕ, ◌-◌, ◌^◌, ◌⊎◌, min, List, nat_lt, Result, Ok, Err}
+use Rattle.std.specs.Int.{w32, w64}
+use Rattle.rls_codec.specs.declared.fault.ReadError.{ReadError}
+use Rattle.rls_codec.specs.declared.fault.ReadError.TheVariants as read
+use Rattle.rls_codec.specs.Reading.{Read, ◌>>=◌, with_rule, number_at, is_member_count, whole}
+use Rattle.rls_model.specs.declared.parts.Parts.{Parts}
+use Rattle.rls_model.specs.Legal.{IsLegal}
+use Rattle.rls_model.specs.Parts.{parts}
+use Rattle.rls_model.specs.Receiving.{State}
+use Rattle.rls_seen.specs.Seen.{Seen}
+use Rattle.rls_seen.specs.Stands.{StandsFor}
+use Rattle.rls_parts.specs.Restored.{seen_of}
+use Rattle.rls_fields.specs.Fields.{place_of_broken}
+use Rattle.rls_fields.specs.ReadingFields.{snapshot_at}
+use Rattle.rls_file.specs.Files.{Content, Journal, Snapshot}
+use Rattle.rls_file.specs.ReadingFiles.{file_at, file_of}
+use Rattle.rls_store.specs.declared.loading.FileError.{FileError}
+use Rattle.rls_store.specs.declared.loading.FileError.TheVariants.{Damaged, OutOfMemory}
+
+-- what follows the form of a snapshot
+unfoldable pub snapshot_behind : ℕ → List ℕ → Read Content
+snapshot_behind form bytes = do
+  group ← number_at w64 bytes
+  members ← with_rule is_member_count (number_at w32) group.1
+  me ← with_rule (λ n. nat_lt n members.0) (number_at w32) members.1
+  parts ← snapshot_at form group.0 members.0 me.0 me.1
+  Ok (Snapshot form parts.0, parts.1)
+
+-- the error of so many bytes
+abbrev pub damage_of : ℕ → ReadError → FileError
+damage_of total (read.Fault left) = Damaged (total - left)
+damage_of total read.OutOfMemory = OutOfMemory
+
+-- the parts stand in the bytes, or a field has a fault, unless memory ran out
+abbrev pub ReadsParts : ℕ → Result Parts FileError → List ℕ → Type 0
+ReadsParts form (Ok p) bytes = whole bytes (file_at bytes) ≡ Ok (Snapshot form p)
+ReadsParts form (Err (Damaged at)) bytes = whole bytes (file_at bytes) ≡ Err at
+ReadsParts form (Err OutOfMemory) bytes = Unit {0}
+
+-- the place of this broken rule in the parts that stand in the bytes, up to the greatest u64, unless memory ran out
+abbrev pub IsPlaceOf : ℕ → ℕ → ℕ → FileError → List ℕ → Type 0
+IsPlaceOf form rule index (Damaged at) bytes =
+    (p : Parts) → whole bytes (file_at bytes) ≡ Ok (Snapshot form p) → at ≡ min (place_of_broken form p (record { rule = rule; index = index })) (2 ^ 64 - 1)
+IsPlaceOf form rule index OutOfMemory bytes = Unit {0}
+
+-- the replica stands for the journal's state; or it has exactly the snapshot's parts, and stands for each legal state that has them
+abbrev pub IsLoaded : Seen → Content → Type 0
+IsLoaded r (Journal t) = StandsFor r t
+IsLoaded r (Snapshot form p) = (r ≡ seen_of p) × ((t : State) → IsLegal t.history → parts t ≡ p → StandsFor r t)
+
+-- what the file says was loaded, or its fault has its place, unless memory ran out
+abbrev pub Loads : Result Seen FileError → List ℕ → Type 0
+Loads (Ok r) bytes = (c : Content) × (file_of bytes ≡ Ok c) × IsLoaded r c
+Loads (Err (Damaged at)) bytes = file_of bytes ≡ Err at
+Loads (Err OutOfMemory) bytes = Unit {0}
+
+-- the bytes are the journal of this state, or a snapshot of it, which is legal
+abbrev pub FileStandsFor : List ℕ → State → Type 0
+FileStandsFor bytes t = (file_of bytes ≡ Ok (Journal t)) ⊎ (IsLegal t.history × ((form : ℕ) × (file_of bytes ≡ Ok (Snapshot form (parts t)))))

@@ -1,0 +1,10 @@
+//! A replica stored as a file, and loaded again.
+#![tactic(auto)]
+
+mod lengths;
+mod loading;
+mod puts;
+mod saving;
+
+pub use loading::{FileError, decode_file};
+pub use saving::{SaveError, encode_file};

@@ -1,0 +1,145 @@
+//! Loading a replica.
+
+ghost use Rattle.std.specs.Prelude.{◌≡◌, ◌<◌, ◌≤◌, ◌⊎◌, ℕ, length, false, IfOk, IsOkAnd, Ok, Err};
+ghost use Rattle.rls_codec.specs.Gives.{Gives};
+ghost use Rattle.rls_model.specs.Receiving.{State};
+ghost use Rattle.rls_seen.specs.Stands.{StandsFor};
+ghost use Rattle.rls_file.specs.Files.{Content, Snapshot};
+ghost use Rattle.rls_file.specs.ReadingFiles.{begins_snapshot, file_of, form_at};
+ghost use Rattle.rls_store.specs.Loading.{snapshot_behind, damage_of, ReadsParts, IsPlaceOf, IsLoaded, Loads, FileStandsFor};
+
+use rls_codec::{ReadError, member, member_count, u64_at};
+use rls_fields::{place_of_broken, snapshot};
+use rls_file::{FileError as JournalError, decode_file as decode_journal, form};
+use rls_model::Parts;
+use rls_replica::{PartsError, Replica};
+use std::alloc::Global;
+
+/// Why bytes aren't read as a file.
+#[derive(Clone, Copy, Debug, PartialEq, Eq)]
+pub enum FileError {
+    /// They are no file: the place of the first field that is cut off or breaks its rule, or of the first surplus byte, or else of
+    /// the entry that breaks the first broken rule of the parts.
+    Damaged { at: u64 },
+    OutOfMemory,
+}
+
+// The error of bytes of which so many were left.
+fn damage(bytes: &[u8], error: ReadError) -> FileError
+    ensures damage { result ≡ damage_of (length bytes.now) error }
+{
+    match error {
+        ReadError::Fault { left } => FileError::Damaged {
+            at: bytes.len().saturating_sub(left) as u64,
+        },
+        ReadError::OutOfMemory => FileError::OutOfMemory,
+    }
+}
+
+// What follows the form of a snapshot.
+#[tactic(auto, unfolding(crate::specs::Loading::snapshot_behind))]
+fn parts_behind(alloc: Global, form: u8, bytes: &[u8]) -> Result<(Parts, &[u8]), ReadError>
+    ensures read { Gives (λ x. (Snapshot form x.0, x.1.now)) result (snapshot_behind form bytes.now) }
+{
+    let (group, rest) = u64_at(bytes)?;
+    let (members, rest) = member_count(rest)?;
+    let (me, rest) = member(members, rest)?;
+    let (parts, rest) = snapshot(alloc, form, group, members, me, rest)?;
+    Ok((parts, rest))
+}
+
+// The parts in a snapshot of this form, whose rest follows it. Their rules aren't tested.
+fn parts_in(alloc: Global, form: u8, bytes: &[u8], rest: &[u8]) -> Result<Parts, FileError>
+    requires form { form_at bytes.now ≡ Ok (form, rest.now) }
+    requires later { 1 < form }
+    ensures read { ReadsParts form result bytes.now }
+{
+    match parts_behind(alloc, form, rest) {
+        Ok((parts, after)) => match after {
+            [] => Ok(parts),
+            [_, ..] => Err(FileError::Damaged {
+                at: bytes.len().saturating_sub(after.len()) as u64,
+            }),
+        },
+        Err(error) => Err(damage(bytes, error)),
+    }
+}
+
+// The place of a broken rule, for which the parts are read once more.
+fn broken_at(alloc: Global, form: u8, bytes: &[u8], rest: &[u8], rule: u8, index: u64) -> FileError
+    requires form { form_at bytes.now ≡ Ok (form, rest.now) }
+    requires later { 1 < form }
+    ensures place { IsPlaceOf form rule index result bytes.now }
+{
+    match parts_in(alloc, form, bytes, rest) {
+        Ok(parts) => FileError::Damaged {
+            at: place_of_broken(form, &parts, rule, index),
+        },
+        Err(error) => error,
+    }
+}
+
+fn load_snapshot(alloc: Global, form: u8, bytes: &[u8], rest: &[u8]) -> Result<Replica, FileError>
+    requires form { form_at bytes.now ≡ Ok (form, rest.now) }
+    requires later { 1 < form }
+    ensures loads { Loads result bytes.now }
+{
+    let _len = bytes.len();
+    let parts = parts_in(alloc, form, bytes, rest)?;
+    match Replica::from_parts(alloc, parts) {
+        Ok(replica) => Ok(replica),
+        Err(PartsError::Broken { rule, index }) => {
+            Err(broken_at(alloc, form, bytes, rest, rule, index))
+        }
+        Err(PartsError::OutOfMemory) => Err(FileError::OutOfMemory),
+    }
+}
+
+fn load_journal(alloc: Global, bytes: &[u8]) -> Result<Replica, FileError>
+    requires journal { begins_snapshot bytes.now ≡ false }
+    ensures loads { Loads result bytes.now }
+{
+    match decode_journal(alloc, bytes) {
+        Ok(journal) => {
+            let mut replica = journal.into_replica();
+            replica.drop_stable();
+            Ok(replica)
+        }
+        Err(JournalError::Damaged { at }) => Err(FileError::Damaged { at }),
+        Err(JournalError::NotBuilt) => unreachable!(),
+        Err(JournalError::OutOfMemory) => Err(FileError::OutOfMemory),
+    }
+}
+
+fn load(alloc: Global, bytes: &[u8]) -> Result<Replica, FileError>
+    ensures loads { Loads result bytes.now }
+{
+    let (form, rest) = match form(bytes) {
+        Ok(found) => found,
+        Err(error) => return Err(damage(bytes, error)),
+    };
+    if form > 1 {
+        return load_snapshot(alloc, form, bytes, rest);
+    }
+    load_journal(alloc, bytes)
+}
+
+/// The replica that the bytes are, in any of the forms 1 to 4. A snapshot is read in one pass, and its text is made a tree in one
+/// pass; a journal's events are replayed one after another, and what is stable then is dropped.
+///
+/// # Errors
+///
+/// `Damaged` with the place of the first fault exactly where the bytes are no file, and `OutOfMemory` for want of memory alone. If a
+/// rule of the parts is broken, the bytes are read once more to find its place.
+pub fn decode_file(alloc: Global, bytes: &[u8]) -> Result<Replica, FileError>
+    ensures ok { IfOk result (λ r. (c : Content) × (file_of bytes.now ≡ Ok c) × IsLoaded r c) }
+    ensures damaged { (at : ℕ) → result ≡ Err (FileError.Damaged at) → file_of bytes.now ≡ Err at }
+
+    // It is Ok wherever the bytes are a file, unless memory runs out.
+    ensures found { (c : Content) → file_of bytes.now ≡ Ok c → IsOkAnd result (λ r. IsLoaded r c) ⊎ (result ≡ Err FileError.OutOfMemory) }
+
+    // For every history and waiting operations of which the bytes are a file.
+    ensures stands { IfOk result (λ r. (t : State) → FileStandsFor bytes.now t → StandsFor r t) }
+{
+    load(alloc, bytes)
+}

@@ -1,0 +1,60 @@
+//! Storing a replica.
+
+ghost use Rattle.std.specs.Prelude.{◌≡◌, ◌<◌, ◌≤◌, ◌-◌, ◌^◌, ℕ, length, min, IfOk, Err};
+ghost use Rattle.rls_model.specs.Parts.{parts};
+ghost use Rattle.rls_model.specs.Receiving.{State};
+ghost use Rattle.rls_seen.specs.Kept.{parts_over};
+ghost use Rattle.rls_seen.specs.Stands.{StandsFor};
+ghost use Rattle.rls_fields.specs.Fields.{file_bytes};
+
+use crate::lengths::stored_len;
+use crate::puts::put_file;
+use rls_replica::Replica;
+use std::alloc::{AllocError, Global};
+
+/// The most bytes of a file.
+const FILE_LIMIT: u64 = 268_435_456;
+
+/// Why a replica isn't written as a file.
+#[derive(Clone, Copy, Debug, PartialEq, Eq)]
+pub enum SaveError {
+    /// It would have more bytes than a file may have; so many, or the greatest u64 where there would be more.
+    TooLarge { bytes: u64 },
+    OutOfMemory,
+}
+
+impl From<AllocError> for SaveError {
+    ghost use Rattle.std.specs.Prelude.{◌≡◌};
+    ghost use Rattle.rls_store.specs.declared.saving.SaveError.TheVariants.{OutOfMemory};
+
+    ghost from_gives = { λ _ e. e ≡ OutOfMemory };
+
+    fn from(_: AllocError) -> SaveError {
+        SaveError::OutOfMemory
+    }
+}
+
+/// The file of a replica, of the newest form: exactly its parts, that is the epochs that must stay and the operations that aren't
+/// stable, whether or not anything was dropped. It is one buffer of known size, and nothing of the replica is copied: the cost is
+/// that of its runs, characters and operations, and a few passes over its epochs.
+///
+/// # Errors
+///
+/// `TooLarge` exactly where the file would have more than 268,435,456 bytes, and `OutOfMemory` for want of memory alone.
+pub fn encode_file(alloc: Global, replica: &Replica) -> Result<Vec<u8>, SaveError>
+    ensures bytes { IfOk result (λ b. b.items ≡ file_bytes (parts_over replica.now)) }
+    ensures small { IfOk result (λ b. length b.items ≤ 268435456) }
+    ensures too_large { (n : ℕ) → result ≡ Err (SaveError.TooLarge n) → (268435456 < length (file_bytes (parts_over replica.now))) × (n ≡ min (length (file_bytes (parts_over replica.now))) (2 ^ 64 - 1)) }
+
+    // For every history and waiting operations that the replica stands for.
+    ensures stands { IfOk result (λ b. (t : State) → StandsFor replica.now t → b.items ≡ file_bytes (parts t)) }
+{
+    let names = replica.retained()?;
+    let bytes = stored_len(replica, &names);
+    if bytes > FILE_LIMIT {
+        return Err(SaveError::TooLarge { bytes });
+    }
+    let mut out = Vec::with_capacity(alloc, bytes as usize)?;
+    put_file(&mut out, replica, &names)?;
+    Ok(out)
+}
