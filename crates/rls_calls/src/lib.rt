@@ -22,3 +22,5 @@ mod spelled;
 mod steps;
 #[cfg(test)]
 mod undoing;
+#[cfg(test)]
+mod worlds;
