@@ -13,7 +13,7 @@ pub fn bytes(alloc: Global, digits: &str) -> Result<Vec<u8>, Fail> {
     Ok(all)
 }
 
-/// So many of the first bytes.
+/// this many of the first bytes.
 pub fn front(bytes: &[u8], len: usize) -> &[u8] {
     match bytes.get(..len) {
         Some(front) => front,

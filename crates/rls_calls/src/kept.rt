@@ -74,7 +74,7 @@ fn numbers(alloc: Global, ops: &[Op]) -> Result<Vec<(u32, u32)>, Fail> {
     Ok(list)
 }
 
-/// The authors and the numbers of the operations that this row lacks, as many as have so many bytes.
+/// The authors and the numbers of the operations that this row lacks, as many as have this many bytes.
 fn missing(alloc: Global, log: &Log, row: &[u32], limit: u32) -> Result<Vec<(u32, u32)>, Fail> {
     let ops = log.missing_for(&Vector::from_counts(alloc, row)?, limit as u64)?;
     numbers(alloc, ops.as_slice())

@@ -35,7 +35,7 @@ fn hello() -> Told {
     (0, 1, [0, 0], ORIGIN, Deed::Insert(old(0), "hello"))
 }
 
-/// An insertion by member 0 behind it, as its second operation.
+/// An insertion by member 0 after it, as its second operation.
 fn later(offset: i32, text: &'static str) -> Told {
     (0, 2, [1, 0], ORIGIN, Deed::Insert(old(offset), text))
 }

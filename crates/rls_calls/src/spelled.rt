@@ -12,7 +12,7 @@ use rls_sync::{TakeBytesError, message_bytes, take_bytes};
 use std::alloc::Global;
 use std::test::Fail;
 
-/// What an operation does, with its first identifier, which is of one tuple: it inserts this text, or deletes or renames so many
+/// What an operation does, with its first identifier, which is of one tuple: it inserts this text, or deletes or renames this many
 /// identifiers.
 #[derive(Clone, Copy)]
 pub enum Deed<'a> {
@@ -65,7 +65,7 @@ const FIELDS: [usize; 21] = [
     0, 4, 5, 13, 17, 21, 25, 29, 33, 37, 41, 45, 49, 50, 51, 55, 56, 60, 64, 68, 72,
 ];
 
-/// The place of the field that is cut off where so many of the 81 bytes are left.
+/// The place of the field that is cut off where this many of the 81 bytes are left.
 fn cut_at(len: usize) -> u64 {
     let mut at = 0;
     for field in FIELDS {
@@ -129,7 +129,7 @@ fn fields_break_their_rules(rt: HostRuntime) -> Result<(), Fail> {
     Ok(())
 }
 
-/// The bytes of the operation behind these.
+/// The bytes of the operation after these.
 fn spelled(mut out: Vec<u8>, op: &Op) -> Result<Vec<u8>, Fail> {
     if op.encoded_len() > 1000 {
         return Err(Fail::new("bytes"));

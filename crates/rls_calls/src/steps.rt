@@ -28,7 +28,7 @@ pub enum Question {
     Itself,
     /// Whether the member has left.
     Left(u32),
-    /// The characters from a place on, so many.
+    /// The characters from a place on, this many.
     Text(u64, u64),
     /// The last offset of the identifier at a place, and where this identifier is found.
     Ident(u64),

@@ -91,8 +91,8 @@ impl Held {
     }
 
     /// Puts an operation among those that wait, unless one waits under its author and number
-    /// already: then nothing changes, and the answer tells whether the two are equal. It takes time
-    /// in proportion to the operations that wait behind the new one.
+    /// already: then nothing changes, and the answer says whether the two are equal. It takes time
+    /// in proportion to the operations that wait after the new one.
     pub fn put(&mut self, op: Op) -> Result<Put, AllocError>
         ensures answer { IfOk result (λ put. IsAnswer put (waiting_under self.old op.author op.seq) op) }
         ensures after { OnOk result (self.new ≡ put_in op self.old) }
@@ -106,7 +106,7 @@ impl Held {
     }
 
     /// Takes out what waits under this author and number. `None` exactly where none does. It takes
-    /// time in proportion to the operations behind it, and no memory.
+    /// time in proportion to the operations after it, and no memory.
     pub fn remove(&mut self, author: u32, seq: u32) -> Option<Op>
         ensures found { result ≡ waiting_under self.old author seq }
         ensures others { self.new ≡ without author seq self.old }

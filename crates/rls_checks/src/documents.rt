@@ -93,7 +93,7 @@ fn of_place(trace: u64, place: Result<u64, u64>) -> u64 {
     }
 }
 
-/// An identifier: of one tuple, or behind a tuple with an offset of the first ones.
+/// An identifier: of one tuple, or after a tuple with an offset of the first ones.
 fn some_ident(alloc: Global, draws: &mut Draws) -> Result<Ident, Fail> {
     let outer = Tuple::At {
         pos: MIDDLE,
@@ -239,7 +239,7 @@ fn changes<D: Document>(alloc: Global, document: &mut D, draws: &mut Draws) -> R
     }
 }
 
-/// Makes so many changes that the seed decides, and tells all answers.
+/// Makes this many changes that the seed decides, and tells all answers.
 fn plays<D: Document>(
     alloc: Global,
     document: &mut D,

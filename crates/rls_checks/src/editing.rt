@@ -13,7 +13,7 @@ const BEGUN: &[Step<'static>] = &[
     ("edit", b"i 0 hello\n", 0, EDITED, ""),
 ];
 
-/// The first step behind `BEGUN` that goes otherwise than it has to.
+/// The first step after `BEGUN` that goes otherwise than it has to.
 fn fault(alloc: Global, steps: &[Step<'_>]) -> Result<Option<usize>, Fail> {
     let mut member = Member::new();
     let begun = member.fault_among(alloc, BEGUN)?;

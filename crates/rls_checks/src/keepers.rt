@@ -7,7 +7,7 @@ use rls_top::run;
 use std::alloc::Global;
 use std::test::Fail;
 
-/// What `text` writes over this keeper, behind its status.
+/// What `text` writes over this keeper, after its status.
 fn text_of(alloc: Global, keeper: &mut DiskKeeper<MemoryDisk>) -> Result<(u8, Vec<u8>), Fail> {
     let mut words = Vec::new(alloc);
     words.push(String::from_str(alloc, "text")?)?;

@@ -128,7 +128,7 @@ fn runs_go_forward_and_back(rt: HostRuntime) -> Result<(), Fail> {
     Ok(())
 }
 
-/// Whether the renaming of so many identifiers takes the first run to the second at once, and that one back.
+/// Whether the renaming of this many identifiers takes the first run to the second at once, and that one back.
 fn goes_at_once(
     alloc: Global,
     len: u32,

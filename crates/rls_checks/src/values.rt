@@ -131,7 +131,7 @@ fn runs_ascend(rt: HostRuntime) -> Result<(), Fail> {
     Ok(())
 }
 
-/// The list of one identifier and the four behind it.
+/// The list of one identifier and the four after it.
 fn joined(alloc: Global) -> Result<Runs, Fail> {
     let mut list = Runs::new(alloc);
     list.push(Run::new(first(alloc, 0)?, 1)?)?;

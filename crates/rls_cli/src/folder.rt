@@ -9,7 +9,7 @@ use std::alloc::Global;
 use std::fs;
 use std::rt::Files;
 
-/// The keeper of the replica file of the current folder. It tells no content.
+/// The keeper of the replica file of the current folder. Contracts know nothing of its content.
 #[derive(Drop)]
 pub enum FolderKeeper<R: Files> {
     /// The file `replica.rls`.

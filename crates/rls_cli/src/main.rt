@@ -26,7 +26,7 @@ fn given(rt: &HostRuntime) -> io::Result<Vec<String>> {
     Ok(words)
 }
 
-/// The words after the program's name. Where they can't be had, as where one isn't UTF-8, it is one empty word, which is no
+/// The words after the program's name. If they can't be had, as where one isn't UTF-8, it is one empty word, which is no
 /// command.
 fn words(rt: &HostRuntime) -> Result<Vec<String>, AllocError> {
     match given(rt) {

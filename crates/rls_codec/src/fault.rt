@@ -8,7 +8,7 @@ use std::alloc::{AllocError, AllocFailed};
 /// The first fault from the left.
 #[derive(Clone, Copy, Debug, PartialEq, Eq)]
 pub enum ReadError {
-    /// A field is cut off or breaks its rule; so many bytes were left at its first one.
+    /// A field is cut off or breaks its rule; this many bytes were left at its first byte.
     Fault { left: usize },
     OutOfMemory,
 }

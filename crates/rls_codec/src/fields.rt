@@ -1,6 +1,6 @@
 //! Single fields, and parts made of them.
 //!
-//! A reader takes its part from the front of the bytes, and answers it with the bytes behind it. Where a field is cut
+//! A reader takes its part from the front of the bytes, and answers it with the bytes after it. If a field is cut
 //! off or breaks its rule, the fault tells how many bytes were left at that field's first byte.
 
 ghost use Rattle.std.specs.Prelude.{◌≡◌, IfOk};
@@ -79,7 +79,7 @@ pub fn epoch_name(bytes: &[u8]) -> Result<(EpochName, &[u8]), ReadError>
     }
 }
 
-/// A number for each of so many members.
+/// A number for each of this many members.
 pub fn vector(alloc: Global, members: u32, bytes: &[u8]) -> Result<(Vector, &[u8]), ReadError>
     ensures read { Gives (λ x. (x.0, x.1.now)) result (vector_at members bytes.now) }
 {
@@ -100,7 +100,7 @@ fn text_of(alloc: Global, text: &str) -> Result<Text, AllocError>
     Text::from_str(alloc, text)
 }
 
-/// A text in UTF-8 behind its number of bytes. Bytes that aren't UTF-8 are a fault of the bytes, not of their number.
+/// A text in UTF-8 after its number of bytes. Bytes that aren't UTF-8 are a fault of the bytes, not of their number.
 #[tactic(auto, using(rls_runs::proofs::Texts::utf8_from_text, rls_runs::proofs::Texts::no_utf8), unfolding(crate::specs::Reading::text_at))]
 pub fn text(alloc: Global, bytes: &[u8]) -> Result<(Text, &[u8]), ReadError>
     ensures read { Gives (λ x. (x.0, x.1.now)) result (text_at bytes.now) }

@@ -23,7 +23,7 @@ fn is_offset(least: i32, offset: i32) -> bool
     least <= offset && offset <= GREATEST
 }
 
-/// An `At` behind its kind, with an offset from `least` on.
+/// An `At` after its kind, with an offset from `least` on.
 #[tactic(auto, unfolding(crate::specs::Reading::spot_at))]
 fn spot(least: i32, bytes: &[u8]) -> Result<(Spot, &[u8]), ReadError>
     ensures read { Gives (λ x. (at_spot x.0, x.1.now)) result (spot_at least bytes.now) }
@@ -117,7 +117,7 @@ pub fn run(alloc: Global, bytes: &[u8]) -> Result<(Run, &[u8]), ReadError>
     }
 }
 
-/// The run behind these, which is put behind them. After an error they are as they were.
+/// The run after these, which is put after them. After an error they are as they were.
 fn next_run<'a>(alloc: Global, runs: &mut Runs, bytes: &'a [u8]) -> Result<&'a [u8], ReadError>
     requires apart { IsTrue (are_apart None (runs_of runs.old)) }
     requires total { length runs.old + 2 ^ 32 ≤ 2 ^ 64 }

@@ -105,7 +105,7 @@ fn whole_message(alloc: Global, bytes: &[u8]) -> Result<Message, DecodeError>
 ///
 /// # Errors
 ///
-/// `Malformed` with the place of the first fault exactly where the bytes are no message, and `OutOfMemory` for want of memory alone.
+/// `Malformed` with the place of the first fault exactly where the bytes are no message, and `OutOfMemory` for running out of memory alone.
 pub fn decode_message(alloc: Global, bytes: &[u8]) -> Result<Message, DecodeError>
     ensures decoded { Decodes result (message_of bytes.now) }
 

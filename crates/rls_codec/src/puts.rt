@@ -1,6 +1,6 @@
-//! Fields, and parts made of them, put behind bytes.
+//! Fields, and parts made of them, put after bytes.
 //!
-//! Each call appends the bytes of its part. Where memory runs out, the bytes that stood there before still stand in
+//! Each call appends the bytes of its part. If memory runs out, the bytes that stood there before still stand in
 //! front, and some of the part's own may follow them.
 
 ghost use Rattle.std.specs.Prelude.{◌≡◌, ◌<◌, ◌^◌, ◌++◌, [], ◌∷◌, length, All, OnOk, encode_utf8, encode_utf8_all};

@@ -59,7 +59,7 @@ fn op_fields(alloc: Global, members: u32, bytes: &[u8]) -> Result<(Op, &[u8]), R
     Ok((op, rest))
 }
 
-/// An operation among so many members. As a whole it has at most 16,777,216 bytes.
+/// An operation among this many members. As a whole it has at most 16,777,216 bytes.
 #[tactic(auto, unfolding(crate::specs::Reading::op_at))]
 pub fn op(alloc: Global, members: u32, bytes: &[u8]) -> Result<(Op, &[u8]), ReadError>
     ensures read { Gives (λ x. (x.0, x.1.now)) result (op_at members bytes.now) }
@@ -107,11 +107,11 @@ fn placed_op(alloc: Global, bytes: &[u8], from: u64, members: u32) -> Result<(Op
     }
 }
 
-/// The operation that begins at a place, and the place after it, where there are so many members. The cost is that of its bytes.
+/// The operation that begins at a place, and the place after it, where there are this many members. The cost is that of its bytes.
 ///
 /// # Errors
 ///
-/// `Malformed` with the place of the first fault exactly where no operation begins there, and `OutOfMemory` for want of memory alone.
+/// `Malformed` with the place of the first fault exactly where no operation begins there, and `OutOfMemory` for running out of memory alone.
 pub fn decode_op(
     alloc: Global,
     bytes: &[u8],

@@ -75,7 +75,7 @@ impl Document for VecDocument {
         place(&self.entries, id)
     }
 
-    /// It costs a pass over the added characters where they all stand behind the last one, and a
+    /// It costs a pass over the added characters where they all stand after the last one, and a
     /// sort of all characters else.
     fn insert_runs(&mut self, runs: &RunList, text: &Text) -> Result<(), AllocError> {
         let mut added = added_entries(*self.entries.allocator(), runs.as_slice(), text)?;

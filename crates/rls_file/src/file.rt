@@ -31,7 +31,7 @@ pub enum FileError {
 /// Why a journal isn't written as a file.
 #[derive(Clone, Copy, Debug, PartialEq, Eq)]
 pub enum SaveError {
-    /// It would have more bytes than a file may have; so many, or the greatest u64 where there would be more.
+    /// It would have more bytes than a file may have: this many, or the greatest u64 if there would be more.
     TooLarge { bytes: u64 },
     OutOfMemory,
 }
@@ -86,7 +86,7 @@ fn read_file(alloc: Global, bytes: &[u8]) -> Result<Journal, FileError>
 /// # Errors
 ///
 /// `NotBuilt` exactly where the bytes begin as a snapshot: with the magic text and one of the forms 2 to 4. Else `Damaged` with the
-/// place of the first fault exactly where they are no file. `OutOfMemory` for want of memory alone.
+/// place of the first fault exactly where they are no file. `OutOfMemory` for running out of memory alone.
 pub fn decode_file(alloc: Global, bytes: &[u8]) -> Result<Journal, FileError>
     ensures ok { IfOk result (λ j. (file_of bytes.now ≡ Ok (Events (told j))) × Tells j (told j) × (begins_snapshot bytes.now ≡ false)) }
     ensures damaged { (at : ℕ) → result ≡ Err (FileError.Damaged at) → (file_of bytes.now ≡ Err at) × (begins_snapshot bytes.now ≡ false) }
@@ -102,7 +102,7 @@ pub fn decode_file(alloc: Global, bytes: &[u8]) -> Result<Journal, FileError>
 ///
 /// # Errors
 ///
-/// `TooLarge` exactly where the file would have more than 268,435,456 bytes, and `OutOfMemory` for want of memory alone.
+/// `TooLarge` exactly where the file would have more than 268,435,456 bytes, and `OutOfMemory` for running out of memory alone.
 pub fn encode_file(alloc: Global, journal: &Journal) -> Result<Vec<u8>, SaveError>
     ensures small { IfOk result (λ bytes. length bytes.items ≤ 268435456) }
 

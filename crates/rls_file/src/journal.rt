@@ -35,7 +35,7 @@ pub struct Note {
     pub vector: Vector,
 }
 
-/// A replica that has dropped nothing, with each acknowledgement that it counted; so it tells its whole history.
+/// A replica that has dropped nothing, with each acknowledgement that it counted: together they are its whole history.
 #[derive(Drop)]
 pub struct Journal {
     replica: Replica,
@@ -51,7 +51,7 @@ impl Model for Journal {
 }
 
 impl Journal {
-    /// The journal of member `me` of a group of so many members, to whom nothing has happened.
+    /// The journal of member `me` of a group of this many members, to whom nothing has happened.
     ///
     /// # Errors
     ///

@@ -1,6 +1,6 @@
 //! The parts of a journal, written.
 //!
-//! Each call but the sums appends the bytes of its part. Where memory runs out, some of them may stand there.
+//! Each call but the sums appends the bytes of its part. If memory runs out, some of them may stand there.
 
 ghost use Rattle.std.specs.Prelude.{◌≡◌, ◌<◌, ◌-◌, ◌^◌, ◌+◌, ◌≤◌, ◌++◌, codes, length, min, sum_by, All, OnOk};
 ghost use Rattle.std.specs.List.{flat_map};
@@ -95,7 +95,7 @@ fn put_note(out: &mut Vec<u8>, note: &Note) -> Result<(), AllocError>
     Ok(())
 }
 
-/// The events: the operations, with each acknowledgement behind its own.
+/// The events: the operations, with each acknowledgement after its own.
 pub(crate) fn put_events(out: &mut Vec<u8>, ops: &[Op], notes: &[Note]) -> Result<(), AllocError>
     requires small { All (λ o. op_size o < 2 ^ 32) ops.now }
     ensures ok { OnOk result (out.new.items ≡ out.old.items ++ flat_map entry_bytes (woven 0 ops.now notes.now)) }

@@ -211,7 +211,7 @@ impl Ident {
         })
     }
 
-    /// The identifier behind these tuples.
+    /// The identifier after these tuples.
     pub fn prefixed(&self, front: &[Tuple]) -> Result<Ident, AllocError>
         requires bounded { All (λ t. IsTrue (is_inner_bounded t)) front.now }
         ensures prefixed { IfOk result (λ ident. ident ≡ front.now ++ self.now) }

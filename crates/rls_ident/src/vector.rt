@@ -22,7 +22,7 @@ impl Model for Vector {
 }
 
 impl Vector {
-    /// The vector of so many members that counts nothing.
+    /// The vector of this many members that counts nothing.
     pub fn zero(alloc: Global, members: u32) -> Result<Vector, AllocError>
         ensures zero { IfOk result (λ v. v ≡ replicate members 0) }
     {

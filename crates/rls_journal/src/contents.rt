@@ -6,7 +6,7 @@ ghost use Rattle.rls_journal.specs.Records.{areas_of, len_of, HasRoom};
 
 use std::alloc::{AllocError, Global};
 
-/// The record of a call. The bytes of the writes stand elsewhere, one behind another.
+/// The record of a call. The bytes of the writes stand elsewhere, one after another.
 #[derive(Clone, Copy)]
 pub enum Entry {
     Looked,
@@ -59,7 +59,7 @@ impl Entry {
 }
 
 impl Contents {
-    /// A copy of the areas, with memory for so many bytes more in each.
+    /// A copy of the areas, with memory for this many bytes more in each.
     pub fn new(
         alloc: Global,
         slot0: &[u8],

@@ -14,7 +14,7 @@ use rls_io::Failed;
 /// stay. After a sync that succeeds a crash leaves what a read gives. This is known where the disk tells its content; a disk
 /// that doesn't lets a crash leave anything.
 pub trait Disk {
-    /// What reads give, where the disk tells it.
+    /// What reads give, if the disk tells it.
     ghost seen: { Self → Option Areas };
 
     /// What a crash now may leave.

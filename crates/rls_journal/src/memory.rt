@@ -77,7 +77,7 @@ impl MemoryDisk {
         self.entries.len() as u64
     }
 
-    /// The disk after a crash behind so many of the recorded calls, in which each byte that was pending is the filler, and
+    /// The disk after a crash after this many of the recorded calls, in which each byte that was pending is the filler, and
     /// each size the greatest. It has nothing pending, no record, and the same room for both, and no call fails.
     pub fn crashed(&self, calls: u64, filler: u8) -> Result<MemoryDisk, AllocError>
         requires calls { calls ≤ length self.now.calls }

@@ -7,7 +7,7 @@ use rls_runs::Text;
 pub enum Edit {
     /// Puts a text before the character at this place, or at the end.
     Insert { at: u64, text: Text },
-    /// Takes so many characters out, from this place on.
+    /// Takes this many characters out, from this place on.
     Delete { at: u64, count: u64 },
     /// Opens an epoch in which the identifiers of the text are one run.
     Rename,

@@ -36,8 +36,8 @@ pub enum StepError {
     NoMember { member: u32 },
     /// There is no such message.
     NoMessage { message: u64 },
-    /// The edit is refused, for another reason than want of memory.
+    /// The edit is refused, for another reason than running out of memory.
     Edit(EditError),
-    /// There is no memory. Each member then stands behind some of the event's steps.
+    /// There is no memory. Each member is then after some of the event's steps.
     OutOfMemory,
 }

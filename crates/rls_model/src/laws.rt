@@ -102,7 +102,7 @@ pub fn kept_on()
     ensures kept_on { KeptOn }
 {}
 
-/// A window that keeps the retained epochs tells the greatest epoch, the greatest one within what is at least stable and the retained
+/// A window that keeps the retained epochs gives the greatest epoch, the greatest one within what is at least stable and the retained
 /// ones, and keeps the epoch of each operation that is unstable or fits.
 pub fn told_by_window()
     ensures told_by_window { ToldByWindow }
@@ -118,12 +118,12 @@ pub fn same_operations()
     ensures same_operations { SameOperations }
 {}
 
-/// An event that is cut short behind no step changes nothing; behind enough of them it is whole.
+/// An event that is cut short after no step changes nothing; after enough of them it is whole.
 pub fn cut_short()
     ensures cut_short { CutShort }
 {}
 
-/// The operation that an edit makes stands in the history after it, whatever is released behind it.
+/// The operation that an edit makes is in the history after it, whatever is released after that.
 pub fn edit_applied()
     ensures edit_applied { EditApplied }
 {}
@@ -194,7 +194,7 @@ pub fn one_group()
 {}
 
 /// Whatever members that began afresh were told, runs of edits, messages to be sent and to be taken, each done whole or not at all, none
-/// tells a refused operation, and two that have equal counts show the same.
+/// reports a refused operation, and two that have equal counts show the same.
 pub fn commands_clean()
     ensures commands_clean { CommandsClean }
 {}

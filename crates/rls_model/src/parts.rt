@@ -46,7 +46,7 @@ impl Stems {
         }
     }
 
-    /// Puts a stem behind the last one. After an error the list is as before.
+    /// Puts a stem after the last one. After an error the list is as before.
     pub fn push(&mut self, stem: Stem) -> Result<(), AllocError>
         ensures ok { OnOk result (self.new ≡ self.old ++ stem ∷ []) }
         ensures err { OnErr result (self.new ≡ self.old) }
@@ -109,7 +109,7 @@ impl Rows {
         }
     }
 
-    /// Puts a row behind the last one. After an error the list is as before.
+    /// Puts a row after the last one. After an error the list is as before.
     pub fn push(&mut self, row: Vector) -> Result<(), AllocError>
         ensures ok { OnOk result (self.new ≡ self.old ++ row ∷ []) }
         ensures err { OnErr result (self.new ≡ self.old) }
@@ -183,7 +183,7 @@ impl EpochParts {
         }
     }
 
-    /// Puts an epoch behind the last one. After an error the list is as before.
+    /// Puts an epoch after the last one. After an error the list is as before.
     pub fn push(&mut self, epoch: EpochPart) -> Result<(), AllocError>
         ensures ok { OnOk result (self.new ≡ self.old ++ epoch ∷ []) }
         ensures err { OnErr result (self.new ≡ self.old) }
@@ -254,7 +254,7 @@ impl TextRuns {
         }
     }
 
-    /// Puts a run behind the last one. After an error the list is as before.
+    /// Puts a run after the last one. After an error the list is as before.
     pub fn push(&mut self, run: TextRun) -> Result<(), AllocError>
         ensures ok { OnOk result (self.new ≡ self.old ++ run ∷ []) }
         ensures err { OnErr result (self.new ≡ self.old) }
@@ -317,7 +317,7 @@ impl Members {
         }
     }
 
-    /// Puts a member behind the last one. After an error the list is as before.
+    /// Puts a member after the last one. After an error the list is as before.
     pub fn push(&mut self, member: u32) -> Result<(), AllocError>
         ensures ok { OnOk result (self.new ≡ self.old ++ member ∷ []) }
         ensures err { OnErr result (self.new ≡ self.old) }

@@ -19,7 +19,7 @@ pub enum Refusal {
     Forked { held: Box<Op> },
     /// Its author has left; the number of the leave.
     Left { seq: u32 },
-    /// Its context is behind what its author is known to have accepted; that vector.
+    /// Its context is older than what its author is known to have accepted; that vector.
     Backward { known: Vector },
     /// It wasn't made in the greatest epoch that its author knew; that epoch.
     WrongEpoch { due: EpochName },
@@ -76,7 +76,7 @@ impl Refusals {
         }
     }
 
-    /// Puts a refused operation behind the last one. After an error the refusal is given up, and the list is as before.
+    /// Puts a refused operation after the last one. After an error the refusal is given up, and the list is as before.
     pub fn push(&mut self, author: u32, seq: u32, refusal: Refusal) -> Result<(), AllocError>
         ensures ok { OnOk result (self.new ≡ self.old ++ (author, seq, reason_of refusal) ∷ []) }
         ensures err { OnErr result (self.new ≡ self.old) }

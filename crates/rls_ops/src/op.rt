@@ -62,7 +62,7 @@ impl Ops {
         }
     }
 
-    /// Puts an operation behind the last one. After an error it is given up, and the list is as before.
+    /// Puts an operation after the last one. After an error it is given up, and the list is as before.
     pub fn push(&mut self, op: Op) -> Result<(), AllocError>
         ensures ok { OnOk result (self.new ≡ self.old ++ op ∷ []) }
         ensures err { OnErr result (self.new ≡ self.old) }

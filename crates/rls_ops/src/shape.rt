@@ -15,11 +15,11 @@ const CHARACTERS: u64 = 1_048_576;
 /// The most identifiers that a deletion or a rename may have.
 const IDENTIFIERS: u64 = 4_194_304;
 
-/// The offset behind the greatest one.
+/// The offset after the greatest one.
 const PAST_OFFSETS: i64 = 1_073_741_824;
 
 impl Op {
-    /// Whether the operation has the right shape among so many members. It takes no memory.
+    /// Whether the operation has the right shape in a group of this many members. It takes no memory.
     ///
     /// # Errors
     ///

@@ -18,7 +18,7 @@ pub fn parts_back()
     ensures back { PartsBack }
 {}
 
-/// Where the parts of a history and of what waits break no rule, the replica that has them stands for both, as the one did that had the
+/// If the parts of a history and of what waits break no rule, the replica that has them stands for both, as the one did that had the
 /// parts.
 pub fn stands_again()
     ensures again { StandsAgain }

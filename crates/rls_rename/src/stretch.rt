@@ -54,7 +54,7 @@ impl Stretch {
         Stretch::front(run, less_count(run, limit))
     }
 
-    /// The identifiers of a run behind so many.
+    /// The identifiers of a run after this many.
     pub(crate) fn behind(run: &Run, done: u32) -> Result<Stretch, AllocError>
         requires some { done < run.now.1 }
         ensures first { IfOk result (λ x. x.first ≡ shifted (pos done) run.now.0) }
@@ -83,7 +83,7 @@ impl Stretch {
         next.first.follows_by(&self.first, self.len)
     }
 
-    /// With so many more at the end. It takes no memory.
+    /// With this many more at the end. It takes no memory.
     pub(crate) fn longer(self, by: u32) -> Stretch
         requires in_range { (offset_of (last_of self.first) +ℤ pos (self.len + by)) ≤ℤ past_offsets }
         ensures first { result.first ≡ self.first }
@@ -136,7 +136,7 @@ impl Stretch {
         Ok(low)
     }
 
-    /// Each behind these tuples.
+    /// Each after these tuples.
     pub(crate) fn prefixed(&self, front: &[Tuple]) -> Result<Stretch, AllocError>
         requires bounded { All (λ t. IsTrue (is_inner_bounded t)) front.now }
         ensures prefixed { IfOk result (λ x. GoesAlong (λ y. front.now ++ y) self.now.first self.now.len x.first x.len) }

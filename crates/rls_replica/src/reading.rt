@@ -106,7 +106,7 @@ impl Replica {
         Ok(text)
     }
 
-    /// The characters from the place `from` on, so many.
+    /// The characters from the place `from` on, this many.
     pub fn text_of(&self, from: u64, count: u64) -> Result<Text, AllocError>
         requires places { from + count ≤ length self.now.text }
         ensures text { IfOk result (λ cs. cs ≡ take count (drop from (text_over self.now))) }

@@ -21,7 +21,7 @@ impl Replica {
     /// the operation is given up.
     ///
     /// It costs a few look-ups, and where it is accepted the change of the text: a deletion also a look-up for each stretch of its
-    /// targets that stand in the text one behind another, and a rename that becomes the greatest epoch a pass over the runs of the
+    /// targets that are adjacent in the text, and a rename that becomes the greatest epoch a pass over the runs of the
     /// text.
     pub fn receive(&mut self, op: Op) -> Result<Receipt, AllocError>
         ensures answer { IfOk result (λ r. answer_of r ≡ answer_over false self.old op) }

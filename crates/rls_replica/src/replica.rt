@@ -73,7 +73,7 @@ impl From<AllocError> for NewError {
 }
 
 impl Replica {
-    /// A replica to which nothing has happened: member `me` of a group of so many members. It takes memory for the square of the
+    /// A replica to which nothing has happened: member `me` of a group of this many members. It takes memory for the square of the
     /// members.
     ///
     /// # Errors
@@ -123,8 +123,8 @@ impl Replica {
         let _group = &self.group;
     }
 
-    /// Notes that a member has accepted this much, where that counts, and answers whether it does: it is another member's, tells
-    /// no more of that member's operations than were accepted here, and tells something new. Where it doesn't count, nothing
+    /// Notes that a member has accepted this much, if that counts, and answers whether it does: it is another member's, says
+    /// no more of that member's operations than were accepted here, and says something new. If it doesn't count, nothing
     /// changes. It takes no memory, and time for the square of the members.
     pub fn acknowledge(&mut self, from: u32, vector: &Vector) -> bool
         requires member { from < members self.old }

@@ -104,14 +104,14 @@ fn usage_line(alloc: Global) -> Result<String, AllocError>
     )
 }
 
-/// The line that tells want of memory, with its line feed. It takes no memory.
+/// The line for running out of memory, with its line feed. It takes no memory.
 pub fn out_of_memory_line() -> &'static str
     ensures line { result.now ≡ failure_line OutOfMemory }
 {
     "out of memory\n"
 }
 
-/// The line that tells a failure, with its line feed.
+/// The line for a failure, with its line feed.
 pub fn failure_line(alloc: Global, failure: Failure) -> Result<String, AllocError>
     ensures line { IfOk result (λ text. string_bytes text ≡ failure_line failure) }
 {

@@ -91,7 +91,7 @@ fn ids_line(alloc: Global, epoch: EpochName, runs: &[Run]) -> Result<String, All
 ///
 /// # Errors
 ///
-/// Want of memory alone.
+/// Running out of memory alone.
 pub fn ids_json(alloc: Global, replica: &Replica) -> Result<String, AllocError>
     ensures line { IfOk result (λ line. string_bytes line ≡ ids_over replica.now) }
 

@@ -1,4 +1,4 @@
-//! Pieces of texts, which are put behind what stands there. After an error a part of the piece may stand there.
+//! Pieces of texts, which are put after what stands there. After an error a part of the piece may stand there.
 
 ghost use Rattle.std.specs.Prelude.{◌≡◌, ◌++◌, OnOk, string_bytes};
 ghost use Rattle.rls_report.specs.Texts.{spaced, tuple_text, ident_text, name_text};
@@ -6,7 +6,7 @@ ghost use Rattle.rls_report.specs.Texts.{spaced, tuple_text, ident_text, name_te
 use rls_ident::{EpochName, Ident, Tuple};
 use std::alloc::AllocError;
 
-/// Each number behind a space.
+/// Each number after a space.
 pub(crate) fn put_spaced(text: &mut String, numbers: &[u32]) -> Result<(), AllocError>
     ensures ok { OnOk result (string_bytes text.new ≡ string_bytes text.old ++ spaced numbers.now) }
 {

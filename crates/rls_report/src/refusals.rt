@@ -61,7 +61,7 @@ fn put_reason(text: &mut String, refusal: &Refusal) -> Result<(), AllocError>
     }
 }
 
-/// The line that tells a refused operation of this author and number, with its line feed. The time is
+/// The line for a refused operation of this author and number, with its line feed. The time is
 /// linear in the line's length.
 pub fn refusal_line(
     alloc: Global,

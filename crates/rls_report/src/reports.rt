@@ -92,7 +92,7 @@ fn put_members(text: &mut String, members: &[(u64, u64)]) -> Result<(), AllocErr
     Ok(())
 }
 
-/// The summary of a trial from this seed of so many steps: the accepted operations of member 0, the
+/// The summary of a trial from this seed of this many steps: the accepted operations of member 0, the
 /// total and the runs of each member, and the epochs and the former identifiers of member 0.
 pub fn trial_report(
     alloc: Global,

@@ -16,7 +16,7 @@ use std::alloc::{AllocError, Global};
 ///
 /// # Errors
 ///
-/// Want of memory alone.
+/// Running out of memory alone.
 pub fn stat_text(alloc: Global, replica: &Replica) -> Result<String, AllocError>
     ensures text { IfOk result (λ text. string_bytes text ≡ stat_over replica.now) }
 

@@ -30,7 +30,7 @@ fn may_wait(parts: &Parts, before: Option<&Op>, op: &Op) -> bool
         && !op.context.at_most(&parts.vector)
 }
 
-/// Rule 8: the place of the first waiting operation that has another shape, is one's own, was accepted, doesn't stand behind the one
+/// Rule 8: the place of the first waiting operation that has another shape, is one's own, was accepted, doesn't come after the one
 /// before, or has its causes there.
 pub fn held_fault(parts: &Parts) -> Option<u64>
     requires counts { length parts.now.vector ≡ parts.now.members }

@@ -29,7 +29,7 @@ fn is_row_of(vector: &Vector, member: u32, row: &Vector) -> bool
     row.get(member) <= vector.get(member)
 }
 
-/// Rule 1: the place of the first row that tells more of its own member than was accepted.
+/// Rule 1: the place of the first row that counts more of its own member than was accepted.
 pub fn row_fault(parts: &Parts) -> Option<u64>
     requires given { AreGiven parts.now }
     ensures fault { result ≡ row_fault parts.now 0 parts.now.rows }

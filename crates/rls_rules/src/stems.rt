@@ -8,7 +8,7 @@ use rls_model::{Parts, Stem};
 use rls_stems::StemTable;
 use std::alloc::{AllocError, Global};
 
-/// The offset behind the greatest one.
+/// The offset after the greatest one.
 const PAST_OFFSETS: u32 = 1_073_741_824;
 
 // Whether the stem is a member's, its number was accepted, and its offsets are in range.
@@ -37,7 +37,7 @@ fn stands_behind(before: Option<&Stem>, stem: &Stem) -> bool
     }
 }
 
-/// Rule 2: the place of the first stem that isn't an accepted number's with offsets in range, or doesn't stand behind the one before.
+/// Rule 2: the place of the first stem that isn't an accepted number's with offsets in range, or doesn't come after the one before.
 pub fn stem_fault(parts: &Parts) -> Option<u64>
     requires counts { length parts.now.vector ≡ parts.now.members }
     ensures fault { result ≡ stem_fault parts.now None 0 parts.now.stems }

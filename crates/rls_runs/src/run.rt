@@ -12,7 +12,7 @@ use std::alloc::AllocError;
 use std::cmp::Ordering;
 use std::marker::Model;
 
-/// The offset behind the greatest one.
+/// The offset after the greatest one.
 const PAST_OFFSETS: i64 = 1_073_741_824;
 
 /// Identifiers of one base with consecutive offsets, seen as the first and their number.
@@ -44,7 +44,7 @@ pub enum RunError {
 }
 
 impl Run {
-    /// The run of so many identifiers from this one on. It takes no memory.
+    /// The run of this many identifiers from this one on. It takes no memory.
     ///
     /// # Errors
     ///

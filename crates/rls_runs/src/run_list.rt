@@ -31,7 +31,7 @@ impl RunList {
         }
     }
 
-    /// Puts a run behind the last one.
+    /// Puts a run after the last one.
     pub fn push(&mut self, run: Run) -> Result<(), AllocError>
         ensures ok { OnOk result (self.new ≡ self.old ++ run ∷ []) }
         ensures err { OnErr result (self.new ≡ self.old) }

@@ -33,7 +33,7 @@ impl Model for Runs {
     ghost invariant = { λ r. AreRuns r.runs.items r.starts.items r.total };
 }
 
-/// Why a run can't be put behind the others.
+/// Why a run can't be put after the others.
 #[derive(Clone, Copy, Debug, PartialEq, Eq)]
 pub enum PushError {
     /// Its first identifier isn't above the last one.
@@ -66,7 +66,7 @@ impl Runs {
         }
     }
 
-    /// Puts a run behind the last identifier, from which it stands apart.
+    /// Puts a run after the last identifier, which it doesn't touch.
     ///
     /// # Errors
     ///
@@ -90,7 +90,7 @@ impl Runs {
         Ok(())
     }
 
-    /// Puts a run above the last identifier behind it, and joins the two where they touch.
+    /// Puts a run above the last identifier after it, and joins the two if they touch.
     pub fn append(&mut self, run: Run) -> Result<(), AllocError>
         requires above { IsTrue (is_above (last_ident self.old) run.0) }
         requires total { length self.old + run.1 < 2 ^ 64 }

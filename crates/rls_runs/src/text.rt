@@ -57,7 +57,7 @@ impl Text {
         Ok(Text::from_vec(chars))
     }
 
-    /// Puts a character behind the last one.
+    /// Puts a character after the last one.
     pub fn push(&mut self, c: char) -> Result<(), AllocError>
         ensures ok { OnOk result (self.new ≡ self.old ++ c ∷ []) }
         ensures err { OnErr result (self.new ≡ self.old) }
@@ -75,7 +75,7 @@ impl Text {
         Ok(())
     }
 
-    /// Puts a text behind the last character. It costs the length of that text. After an error the
+    /// Puts a text after the last character. It costs the length of that text. After an error the
     /// text is as it was, and the other is given up.
     pub fn append(&mut self, more: Text) -> Result<(), AllocError>
         ensures ok { OnOk result (self.new ≡ self.old ++ more) }
@@ -118,7 +118,7 @@ impl Text {
         self.chars.truncate(at);
     }
 
-    /// Drops so many characters at the front. It costs their number, and takes no memory.
+    /// Drops this many characters at the front. It costs their number, and takes no memory.
     pub fn drop_front(&mut self, count: usize)
         requires place { count ≤ length self.old }
         ensures rest { self.new ≡ drop count self.old }

@@ -10,7 +10,7 @@ use std::marker::Model;
 pub enum Line {
     /// Inserts the text at a position.
     Insert { at: u64, text: Text },
-    /// Deletes so many characters from a position on.
+    /// Deletes this many characters from a position on.
     Delete { at: u64, count: u64 },
     /// Deletes the grapheme cluster that ends at a position.
     Back { at: u64 },

@@ -31,7 +31,7 @@ impl Model for Acks {
 }
 
 impl Acks {
-    /// The rows of so many members before anything was accepted. They take memory for the square
+    /// The rows of this many members before anything was accepted. They take memory for the square
     /// of the members.
     pub fn new(alloc: Global, members: u32, me: u32) -> Result<Acks, AllocError>
         requires member { me < members }
@@ -129,8 +129,8 @@ impl Acks {
     }
 
     /// Joins an acknowledgement to its member's row where it counts, and answers whether it does:
-    /// it is another member's, tells no more of that member's operations than were accepted here,
-    /// and tells something new. Where it doesn't count, nothing changes.
+    /// it is another member's, says no more of that member's operations than were accepted here,
+    /// and says something new. If it doesn't count, nothing changes.
     pub fn note(&mut self, from: u32, vector: &Vector) -> bool
         requires member { from < length self.old.mine }
         requires counts { length vector.now ≡ length self.old.mine }

@@ -52,7 +52,7 @@ impl Log {
         Ok(())
     }
 
-    /// Puts an operation behind the last one. It takes no memory, and cannot fail.
+    /// Puts an operation after the last one. It takes no memory, and cannot fail.
     pub fn push(&mut self, op: Op)
         requires room { 0 < self.old.spare }
         ensures ops { self.new.ops ≡ self.old.ops ++ op ∷ [] }
@@ -83,7 +83,7 @@ impl Log {
     }
 
     /// Copies of the operations whose number is above the row's count of their author, in order: as
-    /// many of the first ones as have at most so many bytes by `encoded_len` together. It goes over
+    /// many of the first ones as have at most this many bytes by `encoded_len` together. It goes over
     /// the log up to the first one that is left out.
     pub fn missing_for(&self, row: &Vector, limit: u64) -> Result<Ops, AllocError>
         requires range { limit < 2 ^ 64 - 1 }

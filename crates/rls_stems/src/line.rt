@@ -88,7 +88,7 @@ impl Line {
         Ok(())
     }
 
-    /// Puts a stem of a greater number behind the last one. It takes no memory, and cannot fail.
+    /// Puts a stem of a greater number after the last one. It takes no memory, and cannot fail.
     pub(crate) fn push(&mut self, reach: Reach)
         requires room { 0 < self.old.spare }
         requires newest { AreBelow reach.s0 self.old.reaches }
@@ -108,7 +108,7 @@ impl Line {
         }
     }
 
-    /// Puts the stems, as this author's, behind others.
+    /// Puts the stems, as this author's, after others.
     pub(crate) fn copy_to(&self, author: u32, stems: &mut Stems) -> Result<(), AllocError>
         ensures ok { OnOk result (stems.new ≡ stems.old ++ map (stem_at author) self.now.reaches) }
     {

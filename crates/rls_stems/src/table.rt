@@ -38,7 +38,7 @@ impl Model for StemTable {
 }
 
 impl StemTable {
-    /// No stem, of so many authors. It takes a few words for each author.
+    /// No stem, of this many authors. It takes a few words for each author.
     pub fn new(alloc: Global, members: u32) -> Result<StemTable, AllocError>
         ensures stems { IfOk result (λ table. table.stems ≡ []) }
         ensures members { IfOk result (λ table. table.members ≡ members) }
@@ -50,7 +50,7 @@ impl StemTable {
         Ok(StemTable { lines })
     }
 
-    /// Puts a stem behind all others, which are of lesser authors, or of lesser numbers of its own. After an error the stems are as
+    /// Puts a stem after all others, which are of lesser authors, or of lesser numbers of its own. After an error the stems are as
     /// before.
     pub fn push(&mut self, stem: &Stem) -> Result<(), AllocError>
         requires author { stem.now.author < self.old.members }
@@ -86,7 +86,7 @@ impl StemTable {
         self.lines[author as usize].stem(author, s0)
     }
 
-    /// Whether an insertion of so many characters by this author with this number may begin with an identifier whose last tuple
+    /// Whether an insertion of this many characters by this author with this number may begin with an identifier whose last tuple
     /// this is: at the next offset of the stem, or right in front of its low. It costs as much as `get`.
     pub fn may_use(&self, author: u32, seq: u32, last: Spot, count: usize) -> bool
         ensures may_use { result ≡ may_use self.now.stems author seq (at_spot last) count }
@@ -145,8 +145,8 @@ impl StemTable {
         }
     }
 
-    /// The first identifier of an insertion of so many characters between these neighbours, by this member's operation with this
-    /// number: behind the left neighbour where its stem goes on there, else before the right one, else between the two. It costs as
+    /// The first identifier of an insertion of this many characters between these neighbours, by this member's operation with this
+    /// number: after the left neighbour where its stem goes on there, else before the right one, else between the two. It costs as
     /// much as `get`, and takes memory for a few identifiers.
     pub fn first_between(
         &self,

@@ -144,16 +144,16 @@ fn tell<E: Sink>(alloc: Global, ending: Result<Made, Stop>, errors: &mut E) -> u
 /// | 5 | done, but an operation of the message, or one that waited, was refused |
 /// | 6 | the first line of a script whose edit is refused |
 /// | 7, 8, 9 | the count of faults rose of the keeper, of the input, of the output |
-/// | 10 | want of memory |
+/// | 10 | out of memory |
 /// | 11 | the input has more than 67,108,864 bytes, or the file as kept or to be stored more than 268,435,456 |
 /// | 12 | not built yet |
 ///
-/// `IfTold` says what the words call for, where the keeper tells its file and the input is told as far as it is read; the work goes
-/// in the order of the definition, and the first thing that fails gives the status. The report and the lines for `errors` are made
-/// before the file is stored, which is done once; the report is written after that, and the lines last, where a fault changes no
-/// status. After any status but 0, 5 and 9 the file is as before, where the keeper tells it still, as it does after those that come
-/// before the store, so after all but 7 and 10. `text`, `ids` and `send` leave the file, and all but `edit` and `take` leave the
-/// input. Where the words alone end the command, the keeper isn't called.
+/// The specified outcome is `due`; `IfTold` applies it if the contents of the devices are known. The steps are: parse the words, load the
+/// file, read the input (`edit` and `take` alone), do the work, make the report and the lines for `errors`, store the file once, write the
+/// report, write the lines. The first step that fails gives the status, and no later step runs; a failure to write the lines is ignored.
+///
+/// The file changes with the statuses 0, 5 and 9 alone. With 7 or 10 it may be impossible to say: a keeper whose `store` failed doesn't
+/// tell its file until the next `load`. With every other status it is as before.
 ///
 /// The cost is that of reading the file, whose operations are received one after another, and of the work of the replica; a
 /// script's lines `b` each read the text up to their position. The file is written once, from one buffer.

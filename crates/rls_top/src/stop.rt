@@ -23,7 +23,7 @@ pub(crate) fn failed(failure: Failure) -> Stop
 }
 
 impl Stop {
-    /// Writes its line, and answers the status. Where no memory is found for the line, both are those of want of memory.
+    /// Writes its line, and answers the status. If no memory is found for the line, both are those of running out of memory.
     pub(crate) fn tell<E: Sink>(self, alloc: Global, errors: &mut E) -> u8
         ensures status { (result ≡ stop_status self) ⊎ (result ≡ 10) }
         ensures sure { IsTrue (is_sure self) → result ≡ stop_status self }

@@ -9,7 +9,7 @@ use crate::node::Link;
 use crate::put::new_node;
 use std::alloc::{AllocError, Global};
 
-/// Takes so many blocks from the end, and makes a tree of them. It costs a step for each, and takes memory for as many nodes. After an
+/// Takes this many blocks from the end, and makes a tree of them. It costs a step for each, and takes memory for as many nodes. After an
 /// error some of them are gone.
 #[tactic(auto, using(crate::proofs::Pieces::chars_append))]
 pub(crate) fn built(

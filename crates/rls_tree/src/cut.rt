@@ -8,7 +8,7 @@ use crate::node::Node;
 use std::alloc::{AllocError, Global};
 
 /// A block that stands alone as two: its characters in front of a place, and those from another place on.
-/// It costs the characters of the shorter one of these two, and those between the places. Where it finds no
+/// It costs the characters of the shorter one of these two, and those between the places. If it finds no
 /// memory it answers the block as it was.
 pub(crate) fn cut(
     alloc: Global,
@@ -43,8 +43,8 @@ pub(crate) fn cut(
     }
 }
 
-/// Two blocks that stand alone, the first with so many characters at its front, the last with those from a
-/// place on. It costs the characters that go. Where it finds no memory it answers both as they were.
+/// Two blocks that stand alone, the first with this many characters at its front, the last with those from a
+/// place on. It costs the characters that go. If it finds no memory it answers both as they were.
 pub(crate) fn keep_ends(
     mut first: Box<Node>,
     at: u32,

@@ -51,9 +51,9 @@ impl Document for BlockTree {
         self.insert_near(None, runs, text)
     }
 
-    /// Targets that stand in the tree one right behind another cost a comparison of identifiers for each level,
+    /// Targets that are adjacent in the tree cost a comparison of identifiers for each level,
     /// a step for each level and each of their runs, and their own characters; out of the middle of a run, also
-    /// those in front of them there or those behind them, whichever are fewer, and where two runs touch then,
+    /// those in front of them there or those after them, whichever are fewer, and where two runs touch then,
     /// those of the shorter one. Other targets are taken out one after another, in a copy.
     fn remove_all(&mut self, targets: &Runs) -> Result<u64, AllocError> {
         let count = targets.total();
@@ -93,10 +93,10 @@ impl Document for BlockTree {
 }
 
 impl BlockTree {
-    /// Does what `insert_runs` does. Where all the characters go to the place that is told, if one is, it doesn't search for it.
+    /// Does what `insert_runs` does. If all the characters go to the place that is told, if one is, it doesn't search for it.
     ///
     /// One run that goes between two neighbours costs a step for each level and its own characters; where
-    /// it goes into the middle of a run, also those in front of it there or those behind it, whichever are
+    /// it goes into the middle of a run, also those in front of it there or those after it, whichever are
     /// fewer. At the end or at the front of a run that it goes on with it moves none of that run's
     /// characters; where it joins two runs, those of the shorter one. Other runs are put in one after
     /// another, in a copy.

@@ -38,7 +38,7 @@ impl Model for Link {
     ghost size_decreases = { λ a h. Prim.grind (arith) };
 }
 
-/// What a node tells of its tree: the places from which and to which its block's characters stand, the number of all characters
+/// The sums that a node keeps of its tree: the places from which and to which its block's characters are, the number of all characters
 /// and of all blocks, and the levels.
 #[derive(Clone, Copy)]
 pub(crate) struct Sums {
@@ -217,7 +217,7 @@ impl Link {
         at + 1 == len && block.run().touches(first)
     }
 
-    /// Puts the characters behind those of a text.
+    /// Puts the characters after those of a text.
     #[cycle(push_text)]
     pub(crate) fn push_text(&self, text: &mut Text) -> Result<(), AllocError>
         ensures ok { OnOk result (text.new ≡ text.old ++ chars_in (entries_of self.now.blocks)) }
@@ -316,7 +316,7 @@ impl Node {
         self.left.node()
     }
 
-    /// The tree behind its block, if it isn't empty.
+    /// The tree after its block, if it isn't empty.
     pub fn right(&self) -> Option<&Node>
         ensures blocks { IfSome result (λ node. node.now.blocks ≡ self.now.right.blocks) }
         ensures height { IfSome result (λ node. node.now.height ≡ self.now.right.height) }

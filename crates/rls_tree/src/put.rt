@@ -64,8 +64,8 @@ pub(crate) fn put_at(
     }
 }
 
-// A block that stands alone, between two trees, of which the left one has so many characters more than when the node had these
-// sums, and it so many blocks and levels. It looks into the right one only where the left one has more levels than before.
+// Joins a node's block with the trees on both sides, after characters were added to the left one. `sums` are the node's sums from
+// before; `before` are the left tree's blocks and levels from before. It looks into the right tree only if the left one is higher now.
 #[tactic(auto, using(crate::proofs::Pieces::chars_append))]
 fn hang_left(
     left: Link,

@@ -13,7 +13,7 @@ use crate::node::{Link, Node};
 use crate::split::{concat, ends_before, first_out, last_out, split};
 use std::alloc::{AllocError, Global};
 
-/// Takes so many characters out from a place on. It costs a step for each level and for each block that goes,
+/// Takes this many characters out from a place on. It costs a step for each level and for each block that goes,
 /// and their number; where it cuts one block in two, also the characters of the shorter part, and where two
 /// blocks touch then, those of the shorter one.
 pub(crate) fn remove_range(alloc: Global, link: Link, i: u64, count: u64) -> Result<Link, Link>

@@ -10,7 +10,7 @@ use crate::node::{Link, Node};
 use rls_ident::Ident;
 
 /// A tree in front of a place, the block in which the place stands if it isn't in front of a block, and
-/// the tree behind it. It costs a step for each level.
+/// the tree after it. It costs a step for each level.
 #[tactic(auto, using(crate::proofs::Pieces::chars_append))]
 pub(crate) fn split(link: Link, i: u64) -> (Link, Option<Box<Node>>, Link)
     requires place { i ≤ length (entries_of link.blocks) }
@@ -68,7 +68,7 @@ pub(crate) fn first_out(link: Link) -> Option<(Box<Node>, Link)>
     }
 }
 
-/// Two trees, one behind the other. It costs a step for each level.
+/// Two trees, one after the other. It costs a step for each level.
 #[tactic(auto, using(crate::proofs::Pieces::chars_append))]
 pub(crate) fn concat(front: Link, behind: Link) -> Link
     requires chars_fit { length (entries_of (front.blocks ++ behind.blocks)) < 2 ^ 64 }

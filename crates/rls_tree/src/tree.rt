@@ -50,7 +50,7 @@ impl BlockTree {
         }
     }
 
-    /// The tree of these blocks, each of which stands behind the one before and doesn't touch it. It costs a step for each block, and
+    /// The tree of these blocks, each of which comes after the one before and doesn't touch it. It costs a step for each block, and
     /// moves no character.
     pub fn of_blocks(alloc: Global, blocks: Vec<Block>) -> Result<BlockTree, AllocError>
         requires apart { IsTrue (are_apart None (runs_in blocks.items)) }
@@ -151,7 +151,7 @@ impl BlockTree {
         part_of_run(block.run(), at, len)
     }
 
-    /// How many identifiers of a run, from a place of the run on, stand in the tree one right behind another. There is none where
+    /// How many identifiers of a run, from a place of the run on, are adjacent in the tree. There is none if
     /// the first of them isn't there. It costs a comparison of identifiers for each level, whatever their number.
     pub fn standing(&self, run: &Run, from: u32) -> Result<u32, AllocError>
         requires place { from < run.now.1 }

@@ -39,7 +39,7 @@ impl Draws {
         Ok(text)
     }
 
-    /// An insertion into a text of so many characters.
+    /// An insertion into a text of this many characters.
     pub(crate) fn insertion(&mut self, alloc: Global, total: u64) -> Result<Edit, AllocError>
         requires room { total < 2 ^ 64 - 1 }
         ensures edit { IfOk result (λ edit. edit ≡ drawn_insertion total self.old.state) }
@@ -51,7 +51,7 @@ impl Draws {
         Ok(Edit::Insert { at, text })
     }
 
-    /// A deletion of at most 8 characters from a text of so many.
+    /// A deletion of at most 8 characters from a text of this many.
     pub(crate) fn deletion(&mut self, total: u64) -> Edit
         requires some { 0 < total }
         ensures edit { result ≡ drawn_deletion total self.old.state }

@@ -28,7 +28,7 @@ pub struct Summary {
     pub former: u64,
 }
 
-/// The trial of a seed: so many steps of three members that edit, send, take and drop what is stable, and two rounds in which each
+/// The trial of a seed: this many steps of three members that edit, send, take and drop what is stable, and two rounds in which each
 /// sends to each. It keeps every message that was sent.
 pub fn trial(alloc: Global, seed: u32, steps: u32) -> Result<Summary, AllocError>
     ensures summary { IfOk result (λ summary. summary ≡ trial seed steps) }

@@ -44,7 +44,7 @@ impl Model for World {
 }
 
 impl World {
-    /// A world of so many members, to whom nothing has happened.
+    /// A world of this many members, to whom nothing has happened.
     ///
     /// # Errors
     ///
@@ -106,7 +106,7 @@ impl World {
     ///
     /// `NoMember` exactly where a named member isn't one, with the first such; else `NoMessage` exactly where the message's number
     /// isn't below the count of sent messages; else `Edit` exactly where the edit is refused, with its reason, which is never want of
-    /// memory. After these nothing has changed. After `OutOfMemory` the member stands behind some of the event's steps.
+    /// memory. After these nothing has changed. After `OutOfMemory` the member is after some of the event's steps.
     pub fn step(&mut self, event: &Event) -> Result<Outcome, StepError>
         ensures fault { IfErr result (λ e. IsFault e (fault_over self.old event.now)) }
         ensures fits { OnOk result (fault_over self.old event.now ≡ None) }
