@@ -1,4 +1,4 @@
--- A machine receives, releases, acknowledges and edits, whatever its states are; and what comes of messages and of lines of edits, step by step.
+-- A machine receives, releases, acknowledges and edits, whatever its states are. What comes of messages and of lines of edits, step by step.
 use Rattle.std.specs.Prelude.{ℕ, zero, suc, ◌+◌, ◌-◌, Bool, true, List, [], ◌∷◌, ◌++◌, length, nat_lt, Option, Some, None, Result, Ok, Err, if◌then◌else◌}
 use Rattle.rls_ops.specs.declared.op.Op.{Op}
 use Rattle.rls_model.specs.declared.edit.Edit.{Edit}
@@ -58,19 +58,19 @@ moved p s = record p { state = s; limit = one_less p.limit }
 
 -- ---- counting
 
--- an operation that arrived was answered so
+-- the operation of this author and number arrived and was answered so
 abbrev pub with_receipt : Taken → ℕ → ℕ → Answer → Taken
 with_receipt t a q Applies = record t { applied = t.applied + 1 }
 with_receipt t a q Repeats = record t { repeated = t.repeated + 1 }
 with_receipt t a q Waits = record t { held = t.held + 1 }
 with_receipt t a q (Refuses r) = record t { refused = t.refused ++ (a, q, r) ∷ [] }
 
--- an operation that waited was released, and refused for this reason, if any
+-- the one of this author and number waited and was released, and refused for this reason, if any
 abbrev pub with_reason : Taken → ℕ → ℕ → Option Reason → Taken
 with_reason t a q None = record t { released = t.released + 1 }
 with_reason t a q (Some r) = record t { refused = t.refused ++ (a, q, r) ∷ [] }
 
--- the same on the way
+-- a stage where this is counted too
 abbrev pub with_answer : {X : Type 0} → Stage X → Op → Answer → Stage X
 with_answer p o a = record p { counts = with_receipt p.counts o.author o.seq a }
 
@@ -83,7 +83,7 @@ with_refusal p a q r = record p { counts = with_reason p.counts a q r }
 abbrev pub receive_on : {X : Type 0} → Machine X → Stage X → Op → Stage X
 receive_on M p o = if has_room p.limit then with_answer (moved p (M.after_receive p.state o)) o (M.answer p.state o) else p
 
--- this was released, if anything was
+-- this is released, if anything is
 abbrev pub with_release_on : {X : Type 0} → Machine X → Stage X → Option Released → Stage X
 with_release_on M p None = p
 with_release_on M p (Some r) = with_refusal (moved p (M.after_release p.state)) r.author r.seq r.refusal
