@@ -1,5 +1,5 @@
 -- The sizes are the lengths of the spellings, and the places of broken rules are sums of them.
-use Rattle.std.proofs.Common.{◌≡◌, ℕ, ◌+◌, ◌*◌, Bool, true, false, List, [], ◌∷◌, ◌++◌, length, take, Option, Some, None, refl, sym, ap, ◌∙◌, arith}
+use Rattle.std.proofs.Common.{◌≡◌, ℕ, ◌+◌, ◌*◌, Bool, true, false, List, [], ◌++◌, length, take, Option, Some, None, refl, ap, arith}
 use Rattle.std.specs.Prelude.{sum_by, slice_get, cond, ◌==◌}
 use Rattle.std.specs.List.{flat_map}
 use Rattle.std.proofs.lemmas.Bool.{ne_eqb}
@@ -11,7 +11,7 @@ use Rattle.rls_model.specs.declared.parts.EpochPart.{EpochPart}
 use Rattle.rls_model.specs.declared.parts.TextRun.{TextRun}
 use Rattle.rls_model.specs.declared.parts.Stem.{Stem}
 use Rattle.rls_model.specs.declared.parts.Parts.{Parts}
-use Rattle.rls_fields.specs.Fields.{head_bytes, epoch_bytes, rest_of_epoch, text_run_bytes, bytes_before, rows_place, stems_place, epochs_place, text_place, log_place, held_place, stem_place, place_of_broken, stems_bytes, snapshot_bytes, file_bytes}
+use Rattle.rls_fields.specs.Fields.{head_bytes, epoch_bytes, rest_of_epoch, text_run_bytes, rows_place, stems_place, epochs_place, text_place, log_place, held_place, stem_place, place_of_broken, stems_bytes, snapshot_bytes, file_bytes}
 use Rattle.rls_fields.specs.FieldSizes.{written_size, row_size, left_size, rest_size, epoch_size, text_run_size, before_rows, before_stems, before_epochs, before_text, before_log, before_held, stem_before}
 
 -- ---- entries

@@ -1,28 +1,25 @@
 -- Parts that are put one after another.
-use Rattle.std.proofs.Common.{◌≡◌, ℕ, zero, suc, ◌+◌, ◌-◌, ◌*◌, ◌<◌, ◌≤◌, ◌^◌, Bool, true, false, List, [], ◌∷◌, ◌++◌, length, map, get_or, drop, Option, Some, None, refl, sym, ap, ◌∙◌, append_assoc, arith}
-use Rattle.std.specs.Prelude.{sum_by, slice_get, slice_index, min, filter, not, ◌==◌, if◌then◌else◌}
+use Rattle.std.proofs.Common.{◌≡◌, ℕ, zero, suc, ◌+◌, ◌-◌, ◌*◌, ◌<◌, ◌≤◌, ◌^◌, true, false, List, [], ◌∷◌, ◌++◌, length, map, get_or, drop, Option, Some, None, refl, sym, ap, ◌∙◌, append_assoc, arith}
+use Rattle.std.specs.Prelude.{sum_by, ◌==◌, if◌then◌else◌}
 use Rattle.std.specs.List.{flat_map, concat}
 use Rattle.std.specs.Option.{option_map}
 use Rattle.std.proofs.lemmas.List.{append-nil, length-append}
 use Rattle.std.proofs.lemmas.List.Sums.{sum_by-cons}
 use Rattle.std.proofs.lemmas.Bool.{ne_eqb, eq-eqb}
-use Rattle.rls_ident.proofs.Loops.{drop_reads}
 use Rattle.rls_ident.proofs.Members.{bool_cases, eq_is, some_is}
 use Rattle.rls_ident.specs.declared.epoch_name.EpochName.{EpochName}
 use Rattle.rls_ident.specs.declared.epoch_name.EpochName.TheVariants.{Origin, Of}
 use Rattle.rls_ident.specs.declared.tuple.Tuple.{Tuple}
 use Rattle.rls_rename.specs.Tree.{Node}
-use Rattle.rls_ops.specs.declared.op.Op.{Op}
-use Rattle.rls_ops.specs.Rows.{AcksSeen, row_of, left, missing_for}
-use Rattle.rls_ops.specs.Sizes.{op_size, name_size, runs_size}
-use Rattle.rls_ops.specs.Spelling.{four_bytes, vector_bytes, op_bytes, counted}
+use Rattle.rls_ops.specs.Rows.{AcksSeen, row_of, left}
+use Rattle.rls_ops.specs.Sizes.{name_size, runs_size}
+use Rattle.rls_ops.specs.Spelling.{four_bytes, counted}
 use Rattle.rls_model.specs.declared.parts.Stem.{Stem}
 use Rattle.rls_model.specs.declared.parts.EpochPart.{EpochPart}
 use Rattle.rls_model.specs.declared.parts.TextRun.{TextRun}
 use Rattle.rls_model.specs.Parts.{epoch_part, epoch_parts, node_of}
 use Rattle.rls_tree.specs.Trees.{Piece}
 use Rattle.rls_seen.specs.Kept.{other_rows, left_below}
-use Rattle.rls_snapshot.proofs.Uncovered.{covered_next, uncovered_next}
 use Rattle.rls_snapshot.specs.Blocks.{run_with_text, runs_with_texts}
 use Rattle.rls_fields.specs.FieldSizes.{epoch_size, rest_size, opening, text_run_size}
 use Rattle.rls_fields.specs.Fields.{stem_bytes, own_of, others_of, stems_bytes}

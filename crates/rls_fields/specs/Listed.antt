@@ -1,5 +1,5 @@
 -- Lists that are read part by part.
-use Rattle.std.specs.Prelude.{ℕ, ◌-◌, List, ◌++◌, length, slice_get, Option, Ok}
+use Rattle.std.specs.Prelude.{◌-◌, List, ◌++◌, length, slice_get, Option, Ok}
 use Rattle.rls_codec.specs.Reading.{Read, ◌>>=◌}
 
 -- the last of these, if there is one

@@ -1,9 +1,8 @@
 //! The places of broken rules.
 
-ghost use Rattle.std.specs.Prelude.{◌≡◌, ◌-◌, ◌+◌, ◌*◌, ◌^◌, min, sum_by, length, take, slice_get};
-ghost use Rattle.rls_ops.specs.Sizes.{op_size};
+ghost use Rattle.std.specs.Prelude.{◌≡◌, ◌-◌, ◌^◌, min, take, slice_get};
 ghost use Rattle.rls_fields.specs.Fields.{place_of_broken, stem_size};
-ghost use Rattle.rls_fields.specs.FieldSizes.{before_rows, before_stems, before_epochs, before_text, before_log, before_held, left_size, row_size, epoch_size, text_run_size, stem_before};
+ghost use Rattle.rls_fields.specs.FieldSizes.{before_rows, before_stems, before_epochs, before_text, before_log, before_held, left_size, stem_before};
 
 use crate::sizes::{epochs_len, ops_len, rows_len, text_runs_len};
 use rls_model::{Members, Parts};

@@ -1,6 +1,6 @@
 //! Epochs.
 
-ghost use Rattle.std.specs.Prelude.{◌≡◌, None, Some, nat_lt, option_copied};
+ghost use Rattle.std.specs.Prelude.{None, Some, nat_lt, option_copied};
 ghost use Rattle.std.specs.Int.{w32};
 ghost use Rattle.rls_codec.specs.Gives.{Gives};
 ghost use Rattle.rls_codec.specs.Reading.{with_rule, number_at, chain_at};

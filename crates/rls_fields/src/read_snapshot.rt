@@ -1,6 +1,6 @@
 //! A snapshot behind its head.
 
-ghost use Rattle.std.specs.Prelude.{◌≡◌, ◌<◌};
+ghost use Rattle.std.specs.Prelude.{◌<◌};
 ghost use Rattle.rls_codec.specs.Gives.{Gives};
 ghost use Rattle.rls_fields.specs.ReadingFields.{snapshot_at};
 

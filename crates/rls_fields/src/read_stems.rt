@@ -1,6 +1,6 @@
 //! Stems, by author.
 
-ghost use Rattle.std.specs.Prelude.{◌≡◌, ◌-◌, ◌≤◌, None};
+ghost use Rattle.std.specs.Prelude.{None};
 ghost use Rattle.rls_codec.specs.Gives.{Gives};
 ghost use Rattle.rls_codec.specs.Reading.{counted_at, chain_at};
 ghost use Rattle.rls_fields.specs.Listed.{behind};

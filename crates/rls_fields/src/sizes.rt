@@ -1,6 +1,6 @@
 //! How many bytes the entries of a snapshot have: each number is the greatest u64 where there are more.
 
-ghost use Rattle.std.specs.Prelude.{◌≡◌, ◌-◌, ◌+◌, ◌*◌, ◌^◌, min, sum_by, length};
+ghost use Rattle.std.specs.Prelude.{◌≡◌, ◌-◌, ◌+◌, ◌^◌, min, sum_by};
 ghost use Rattle.rls_ops.specs.Sizes.{tuple_size, ident_size, run_size, runs_size, char_size, name_size, op_size};
 ghost use Rattle.rls_fields.specs.FieldSizes.{row_size, epoch_size, text_run_size};
 

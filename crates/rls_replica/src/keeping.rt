@@ -1,7 +1,6 @@
 //! What a replica keeps, as it keeps it: lent, so that it is written without a copy.
 
 ghost use Rattle.std.specs.Prelude.{◌≡◌, IfOk};
-ghost use Rattle.rls_ident.specs.declared.epoch_name.EpochName.{EpochName as EpochNameSeen};
 ghost use Rattle.rls_seen.specs.Seen.{members};
 ghost use Rattle.rls_seen.specs.Kept.{retained_over};
 

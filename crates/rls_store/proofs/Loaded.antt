@@ -1,6 +1,6 @@
 -- Whole files, loaded.
-use Rattle.std.proofs.Common.{◌≡◌, ℕ, ◌-◌, ◌<◌, ◌≤◌, ◌^◌, Bool, true, false, List, [], ◌∷◌, length, min, Some, None, Result, Ok, Err, refl, sym, ap, ◌∙◌, subst, arith, ◌⊎◌, inl, inr}
-use Rattle.std.specs.Prelude.{nat_lt, ◌==◌, IfOk, IsOkAnd}
+use Rattle.std.proofs.Common.{◌≡◌, ℕ, ◌-◌, ◌<◌, ◌≤◌, ◌^◌, Bool, List, [], ◌∷◌, length, min, Some, None, Result, Ok, Err, refl, sym, ap, ◌∙◌, subst, arith, ◌⊎◌, inl, inr}
+use Rattle.std.specs.Prelude.{nat_lt, IfOk, IsOkAnd}
 use Rattle.std.specs.Int.{w32, w64}
 use Rattle.rls_ident.proofs.Members.{neq_test}
 use Rattle.rls_codec.specs.declared.fault.ReadError.{ReadError}
@@ -17,9 +17,8 @@ use Rattle.rls_seen.specs.Seen.{Seen}
 use Rattle.rls_seen.specs.Stands.{StandsFor}
 use Rattle.rls_parts.specs.Given.{AreGiven}
 use Rattle.rls_parts.specs.Restored.{seen_of}
-use Rattle.rls_parts.specs.Rules.{Broken, broken}
+use Rattle.rls_parts.specs.Rules.{broken}
 use Rattle.rls_fields.specs.Fields.{place_of_broken, snapshot_bytes}
-use Rattle.rls_fields.specs.ReadingFields.{snapshot_at}
 use Rattle.rls_file.specs.Files.{Content, Journal, Snapshot}
 use Rattle.rls_file.specs.ReadingFiles.{content_at, form_at, file_at, tested, unless_broken, file_of}
 use Rattle.rls_file.specs.SpelledFiles.{IsSpelledSnapshot}

@@ -1,5 +1,5 @@
 -- The bytes of a replica's parts, part by part.
-use Rattle.std.proofs.Common.{◌≡◌, ℕ, zero, suc, ◌+◌, ◌<◌, ◌≤◌, ◌^◌, false, inl, inr, List, [], ◌∷◌, ◌++◌, length, refl, sym, ap, ◌∙◌, subst, append_assoc, arith}
+use Rattle.std.proofs.Common.{◌≡◌, ℕ, zero, suc, ◌+◌, ◌<◌, ◌≤◌, ◌^◌, false, inl, inr, List, [], ◌∷◌, ◌++◌, length, refl, ◌∙◌, append_assoc, arith}
 use Rattle.std.specs.List.{flat_map, concat}
 use Rattle.std.proofs.lemmas.List.{append-nil, length-append}
 use Rattle.std.specs.Prelude.{◌==◌}
@@ -12,7 +12,6 @@ use Rattle.rls_seen.specs.Seen.{Seen, members, vector, unstable_over}
 use Rattle.rls_seen.specs.Sane.{IsSane, AreStems}
 use Rattle.rls_seen.specs.Kept.{parts_over, retained_over, other_rows, left_below}
 use Rattle.rls_fields.specs.Fields.{head_bytes, stem_bytes, own_of, others_of, stems_bytes, epoch_bytes, text_run_bytes, snapshot_bytes, file_bytes}
-use Rattle.rls_fields.specs.FieldSizes.{written_size}
 use Rattle.rls_fields.proofs.PlaceSums.{file_length}
 use Rattle.rls_store.specs.Sizes.{stored_size}
 

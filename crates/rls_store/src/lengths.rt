@@ -1,8 +1,7 @@
 //! How many bytes the file of a replica has: each number is the greatest u64 where there are more.
 
-ghost use Rattle.std.specs.Prelude.{◌≡◌, ◌-◌, ◌^◌, min, length};
-ghost use Rattle.rls_seen.specs.Kept.{parts_over, retained_over};
-ghost use Rattle.rls_fields.specs.Fields.{file_bytes};
+ghost use Rattle.std.specs.Prelude.{◌≡◌, ◌-◌, ◌^◌, min};
+ghost use Rattle.rls_seen.specs.Kept.{retained_over};
 ghost use Rattle.rls_store.specs.Sizes.{rows_size, stems_size, epochs_size, text_size, log_size, held_size, stored_size};
 
 use rls_fields::{

@@ -1,6 +1,6 @@
 //! Loading a replica.
 
-ghost use Rattle.std.specs.Prelude.{◌≡◌, ◌<◌, ◌≤◌, ◌⊎◌, ℕ, length, false, IfOk, IsOkAnd, Ok, Err};
+ghost use Rattle.std.specs.Prelude.{◌≡◌, ◌<◌, ◌⊎◌, ℕ, length, false, IfOk, IsOkAnd, Ok, Err};
 ghost use Rattle.rls_codec.specs.Gives.{Gives};
 ghost use Rattle.rls_model.specs.Receiving.{State};
 ghost use Rattle.rls_seen.specs.Stands.{StandsFor};

@@ -2,7 +2,7 @@
 //!
 //! Each call appends the bytes of its part. Where memory runs out, some of them may stand there.
 
-ghost use Rattle.std.specs.Prelude.{◌≡◌, ◌<◌, ◌++◌, ◌^◌, codes, length, OnOk};
+ghost use Rattle.std.specs.Prelude.{◌≡◌, ◌<◌, ◌++◌, ◌^◌, codes, OnOk};
 ghost use Rattle.rls_seen.specs.Kept.{parts_over, retained_over};
 ghost use Rattle.rls_fields.specs.Fields.{file_bytes, head_bytes};
 ghost use Rattle.rls_store.specs.Sizes.{stored_size};

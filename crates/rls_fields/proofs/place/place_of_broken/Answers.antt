@@ -1,7 +1,6 @@
-use Rattle.std.proofs.Common.{◌≡◌, ℕ, ◌-◌, ◌^◌, min, ◌∙◌, ap, sym, rules, arith, take}
+use Rattle.std.proofs.Common.{◌≡◌, ◌-◌, ◌^◌, min, ◌∙◌, ap, sym, rules, arith, take}
 use Rattle.std.specs.Prelude.{sum_by}
 use Rattle.rls_ops.specs.Sizes.{op_size}
-use Rattle.rls_fields.specs.Fields.{place_of_broken}
 use Rattle.rls_fields.specs.FieldSizes.{row_size, epoch_size, text_run_size}
 use Rattle.rls_fields.proofs.PlaceSums.{at_row, at_stem, at_epoch, at_text_run, at_logged, at_log, at_epochs, at_other, named}
 use Rattle.rls_fields.proofs.place.place_of_broken.Goals as goal

@@ -1,7 +1,5 @@
-use Rattle.std.proofs.Common.{◌≡◌, ◌+◌, ◌-◌, ◌^◌, ◌<◌, ◌≤◌, ◌++◌, min, take, drop, length, sum_by}
-use Rattle.std.specs.List.{flat_map}
+use Rattle.std.proofs.Common.{◌≡◌, ◌+◌, ◌-◌, ◌^◌, ◌≤◌, min, drop, sum_by}
 use Rattle.rls_model.specs.Parts.{epoch_part, epoch_parts, node_of}
-use Rattle.rls_fields.specs.Fields.{epoch_bytes}
 use Rattle.rls_fields.specs.FieldSizes.{epoch_size}
 use Rattle.std.specs.Prelude.{map}
 use Rattle.rls_fields.proofs.write_epochs.kept_epochs_len.Given as goal

@@ -1,12 +1,9 @@
-use Rattle.std.proofs.Common.{◌≡◌, ◌∙◌, List, length, sym, ap, subst, Some}
-use Rattle.std.specs.Prelude.{All, ◌^◌, ◌<◌, ℕ}
-use Rattle.std.specs.Option.{option_map}
+use Rattle.std.proofs.Common.{List, sym, subst}
+use Rattle.std.specs.Prelude.{◌^◌, ◌<◌}
 use Rattle.rls_ident.specs.declared.tuple.Tuple.{Tuple}
-use Rattle.rls_runs.specs.Runs.{runs_of}
 use Rattle.rls_codec.proofs.SizeLaws.{short_runs}
 use Rattle.rls_model.specs.Parts.{epoch_part, node_of}
 use Rattle.rls_ops.specs.Sizes.{runs_size}
-use Rattle.rls_fields.specs.FieldSizes.{opening}
 use Rattle.rls_fields.proofs.Puts.{small_opening}
 use Rattle.rls_fields.proofs.write_epochs.put_epoch.Goals as goal
 

@@ -1,15 +1,13 @@
-use Rattle.std.proofs.Common.{◌≡◌, ◌+◌, ◌∷◌, [], ◌∙◌, List, map, drop, get_or, sum_by, length, sym, ap, inr, subst, arith, rules}
-use Rattle.std.proofs.lemmas.List.{drop_all}
+use Rattle.std.proofs.Common.{◌≡◌, ◌+◌, ◌∷◌, List, map, drop, get_or, sym, inr, subst, arith, rules}
 use Rattle.std.proofs.lemmas.Option.{slice_get-get_or}
 use Rattle.rls_ident.specs.declared.epoch_name.EpochName.{EpochName}
 use Rattle.rls_ident.specs.declared.epoch_name.EpochName.TheVariants.{Origin}
 use Rattle.rls_ident.specs.Lists.{IsIn}
 use Rattle.rls_ident.proofs.Members.{get_in}
-use Rattle.rls_model.specs.declared.parts.EpochPart.{EpochPart}
 use Rattle.rls_model.specs.Parts.{epoch_part, node_of}
 use Rattle.rls_fields.specs.Fields.{epoch_bytes}
 use Rattle.rls_fields.specs.FieldSizes.{epoch_size}
-use Rattle.rls_fields.proofs.Puts.{put_next, sum_next, map_next, map_length, few_names}
+use Rattle.rls_fields.proofs.Puts.{put_next, sum_next, map_next, few_names}
 use Rattle.rls_fields.proofs.write_epochs.put_epoch_list.Goals as goal
 
 pub put_epoch-requires-clause-kept : goal.put_epoch-requires-clause-kept

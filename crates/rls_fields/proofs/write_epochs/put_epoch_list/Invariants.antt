@@ -1,4 +1,4 @@
-use Rattle.std.proofs.Common.{◌≡◌, ◌+◌, ◌-◌, ◌^◌, ◌<◌, ◌++◌, min, take, drop, length, sum_by}
+use Rattle.std.proofs.Common.{◌≡◌, ◌^◌, ◌<◌, ◌++◌, drop, sum_by}
 use Rattle.std.specs.List.{flat_map}
 use Rattle.rls_model.specs.Parts.{epoch_part, epoch_parts, node_of}
 use Rattle.rls_fields.specs.Fields.{epoch_bytes}

@@ -1,4 +1,4 @@
-use Rattle.std.proofs.Common.{sym, arith, ◌∙◌}
+use Rattle.std.proofs.Common.{sym, arith}
 use Rattle.rls_model.specs.Parts.{epoch_parts}
 use Rattle.rls_fields.specs.Fields.{epoch_bytes}
 use Rattle.rls_fields.proofs.Puts.{few_names, parts_count, counted_put}

@@ -1,9 +1,6 @@
-use Rattle.std.proofs.Common.{◌≡◌, ◌+◌, ◌-◌, ◌^◌, ◌<◌, ◌++◌, min, take, drop, length, sum_by}
-use Rattle.std.specs.List.{flat_map}
+use Rattle.std.proofs.Common.{◌≡◌, ◌+◌, drop, length}
 use Rattle.std.proofs.Common.{◌≤◌}
 use Rattle.rls_ops.specs.Rows.{missing_for}
-use Rattle.rls_ops.specs.Sizes.{op_size}
-use Rattle.rls_ops.specs.Spelling.{op_bytes}
 use Rattle.rls_fields.proofs.write_ops.missing_count.Given as goal
 
 abbrev pub invariant-loop-i : goal.invariant-loop-i

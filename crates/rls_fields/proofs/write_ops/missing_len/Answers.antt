@@ -1,13 +1,11 @@
-use Rattle.std.proofs.Common.{◌+◌, ◌++◌, List, length, drop, sum_by, sym, ap, ◌∙◌, arith}
-use Rattle.std.specs.List.{flat_map}
+use Rattle.std.proofs.Common.{◌+◌, List, drop, sum_by, sym, ap, arith}
 use Rattle.std.proofs.lemmas.List.{drop_all}
 use Rattle.rls_ident.proofs.Members.{get_in}
 use Rattle.rls_ops.specs.declared.op.Op.{Op}
 use Rattle.rls_ops.specs.Rows.{missing_for}
 use Rattle.rls_ops.specs.Sizes.{op_size}
-use Rattle.rls_ops.specs.Spelling.{op_bytes}
 use Rattle.rls_snapshot.proofs.Uncovered.{covered_next, uncovered_next}
-use Rattle.rls_fields.proofs.Puts.{put_next, sum_next}
+use Rattle.rls_fields.proofs.Puts.{sum_next}
 use Rattle.rls_fields.proofs.write_ops.missing_len.Goals as goal
 
 pub get-requires : goal.get-requires

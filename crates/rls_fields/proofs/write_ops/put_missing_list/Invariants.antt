@@ -1,4 +1,4 @@
-use Rattle.std.proofs.Common.{◌≡◌, ◌+◌, ◌-◌, ◌^◌, ◌<◌, ◌++◌, min, take, drop, length, sum_by}
+use Rattle.std.proofs.Common.{◌≡◌, ◌^◌, ◌<◌, ◌++◌, drop, sum_by}
 use Rattle.std.specs.List.{flat_map}
 use Rattle.rls_ops.specs.Rows.{missing_for}
 use Rattle.rls_ops.specs.Sizes.{op_size}

@@ -1,5 +1,4 @@
-use Rattle.std.proofs.Common.{◌≡◌, ◌+◌, ◌-◌, ◌^◌, ◌<◌, ◌++◌, min, take, drop, length, sum_by}
-use Rattle.std.specs.List.{flat_map}
+use Rattle.std.proofs.Common.{◌≡◌, length}
 use Rattle.std.proofs.Common.{◌≤◌}
 use Rattle.rls_seen.specs.Kept.{left_below}
 use Rattle.rls_fields.proofs.write_rows.left_count.Given as goal

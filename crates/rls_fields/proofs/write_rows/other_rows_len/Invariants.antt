@@ -1,5 +1,4 @@
-use Rattle.std.proofs.Common.{◌≡◌, ◌+◌, ◌-◌, ◌^◌, ◌<◌, ◌++◌, min, take, drop, length, sum_by}
-use Rattle.std.specs.List.{flat_map}
+use Rattle.std.proofs.Common.{◌≡◌, ◌-◌, ◌^◌, min, sum_by}
 use Rattle.rls_fields.specs.FieldSizes.{row_size}
 use Rattle.rls_seen.specs.Kept.{other_rows}
 use Rattle.rls_fields.proofs.write_rows.other_rows_len.Given as goal

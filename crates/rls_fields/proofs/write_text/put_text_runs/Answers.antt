@@ -1,4 +1,4 @@
-use Rattle.std.proofs.Common.{◌∙◌, ◌++◌, List, length, sum_by, sym, ap, arith}
+use Rattle.std.proofs.Common.{◌∙◌, ◌++◌, List, length, sum_by, ap, arith}
 use Rattle.std.specs.List.{flat_map}
 use Rattle.rls_model.specs.declared.parts.TextRun.{TextRun}
 use Rattle.rls_model.specs.Parts.{text_runs}

@@ -1,4 +1,4 @@
-use Rattle.std.proofs.Common.{◌≡◌, ◌++◌, ◌∙◌, sym, ap, length, arith}
+use Rattle.std.proofs.Common.{◌≡◌, ◌++◌, ◌∙◌, ap, length, arith}
 use Rattle.rls_model.specs.declared.parts.Parts.{Parts}
 use Rattle.rls_seen.specs.Kept.{parts_over}
 use Rattle.rls_seen.proofs.Keeping.{parts_alike}
