@@ -6,9 +6,9 @@ use Rattle.rls_ident.specs.Lists.{IsIn}
 use Rattle.rls_ident.proofs.Members.{in_left, in_right}
 use Rattle.rls_model.proofs.Spliced.{append_map}
 use Rattle.rls_undo.specs.Plans.{ranges_of}
-use Rattle.rls_steps.specs.Marks.{Mark, Known, Marked, marks, chars, known, label_places, label_place, first_of, behind_or, before_right, return_place, put_in, cut_out, numbers_from}
+use Rattle.rls_steps.specs.Marks.{Mark, Known, Marked, marks, chars, known, label_places, label_place, first_of, behind_or, place_or, before_right, return_place, put_in, cut_out, numbers_from}
 use Rattle.rls_steps.specs.Back.{AreDistinct, EndsIn, LeadBack}
-use Rattle.rls_steps.specs.BackLaws.{PutBack, CutBack}
+use Rattle.rls_steps.specs.BackLaws.{PutBack, CutBack, ReturnsBeside}
 use Rattle.rls_steps.proofs.Ranges.{one_range, in_one, places_none, places_all, places_append}
 
 -- ---- lists
@@ -174,3 +174,12 @@ cut_back m labels cs left right gone ps qs t ts us (front, rest, cut, same, back
         subst (λ k. LeadBack k qs us) cut.is forth,
       ),
     )
+
+-- ---- the place where it comes back
+
+pub returns_beside : ReturnsBeside
+returns_beside = record {
+  front = λ ms right gone. refl;
+  left = λ ms l i right gone h. ap (λ o. behind_or o (before_right ms right gone)) h;
+  right = λ ms l r j gone h k. ap (λ o. behind_or o (before_right ms (Some r) gone)) h ∙ ap (λ o. place_or o gone) k;
+}

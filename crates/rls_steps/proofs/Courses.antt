@@ -1,6 +1,6 @@
 -- Courses of steps.
-use Rattle.std.proofs.Common.{◌≡◌, ℕ, ◌+◌, List, [], ◌∷◌, ◌++◌, length, take, drop, inl, inr, refl, sym, ap, ◌∙◌, subst}
-use Rattle.std.specs.Prelude.{reverse, None}
+use Rattle.std.proofs.Common.{◌≡◌, ℕ, zero, suc, ◌≤◌, ◌+◌, arith, append_assoc, List, [], ◌∷◌, ◌++◌, length, take, drop, inl, inr, refl, sym, ap, ◌∙◌, subst}
+use Rattle.std.specs.Prelude.{reverse, replicate, slice_get, Some, None}
 use Rattle.rls_ident.specs.declared.tuple.Tuple.{Tuple}
 use Rattle.rls_ident.specs.Lists.{IsIn}
 use Rattle.rls_ident.proofs.Lists.{Lt, lt_irrefl}
@@ -16,7 +16,7 @@ use Rattle.rls_undo.specs.Plans.{ranges_of}
 use Rattle.rls_steps.specs.Marks.{Unknown, marks, Piece, Put, Cut, label_places}
 use Rattle.rls_steps.specs.Back.{AreDistinct}
 use Rattle.rls_steps.specs.Labelled.{Labelled, marked, marked_by, IsLabelled, Leads, ready_over, cut_over, cut_piece}
-use Rattle.rls_steps.specs.Courses.{Taken, cut_ranges, gone_place, taken_back, FitRanges, FitsBack, FitsFirst, Steps, Move, Insertion, Deletion, Back, Again, Renaming, stepped_back, stepped_again, moved, MayMove, at_first, Copies, copied_back, copied_again, copied, Shows, AsCopied, AsCopiedFromFirst}
+use Rattle.rls_steps.specs.Courses.{copies, UndoneAndRedone, Taken, cut_ranges, gone_place, taken_back, FitRanges, FitsBack, FitsFirst, Steps, Move, Insertion, Deletion, Back, Again, Renaming, stepped_back, stepped_again, moved, MayMove, at_first, Copies, copied_back, copied_again, copied, Shows, AsCopied, AsCopiedFromFirst}
 use Rattle.rls_steps.proofs.Putting.{cut_taken_back}
 use Rattle.rls_steps.proofs.Renaming.{renaming_leads}
 use Rattle.rls_steps.proofs.Stepping.{insertion_leads, deletion_leads, put_taken_back, ready_seen}
@@ -73,17 +73,17 @@ again_shows st c (p ∷ ps) (t ∷ ts) x l f =
 move_shows : (st : Steps) (c : Copies) (m : Move) → Shows st c → MayMove st m → Shows (moved st m) (copied c m)
 move_shows st c (Insertion at cs) x f =
     let h = st.held in
-    let r = insertion_leads h at cs st.past c.before x.labelled x.back f.0 f.1.0 f.1.1 in
+    let r = insertion_leads h at cs st.past c.before x.labelled x.back f.0 f.1 in
     let n = moved st (Insertion at cs) in
     record {
       labelled = r.0;
-      text = inserted h.seen at cs x.labelled.sane f.1.0 f.1.1 ∙ ap (λ (u : List ℕ). take at u ++ (cs ++ drop at u)) x.text;
+      text = inserted h.seen at cs x.labelled.sane f.0 f.1 ∙ ap (λ (u : List ℕ). take at u ++ (cs ++ drop at u)) x.text;
       back = subst (λ (u : List ℕ). Leads n.held n.past (u ∷ c.before)) x.text r.1;
       forth = none_leads n.held;
     }
 move_shows st c (Deletion at k) x f =
     let h = st.held in
-    let r = deletion_leads h at k st.past c.before x.labelled x.back f.0 f.1.0 f.1.1 in
+    let r = deletion_leads h at k st.past c.before x.labelled x.back f.0 f.1 in
     let g = ready_over h at k in
     let n = moved st (Deletion at k) in
     let same : g.seen ≡ h.seen = ready_seen h at k st.past c.before x.labelled x.back in
@@ -129,3 +129,31 @@ from_first s ms sane f =
       forth = none_leads st.held;
     } in
     (as_copied st c ms x f).text
+
+-- ---- k undos, and k redos
+
+now_undone : (k : ℕ) (now : List ℕ) (before after : List (List ℕ)) → k ≤ length before → slice_get (now ∷ before) k ≡ Some ((copies (record { now = now; before = before; after = after }) (replicate k Back)).now)
+now_undone zero now before after h = refl
+now_undone (suc k) now [] after h = absurd (omega (arith, h))
+now_undone (suc k) now (t ∷ ts) after h = now_undone k t ts (now ∷ after) (omega (arith, h))
+
+copies_append : (ms ns : List Move) (c : Copies) → copies c (ms ++ ns) ≡ copies (copies c ms) ns
+copies_append [] ns c = refl
+copies_append (m ∷ ms) ns c = copies_append ms ns (copied c m)
+
+again_last : (k : ℕ) → replicate (suc k) Again ≡ replicate k Again ++ Again ∷ []
+again_last zero = refl
+again_last (suc k) = ap (λ ms. Again ∷ ms) (again_last k)
+
+all_redone : (k : ℕ) (now : List ℕ) (before after : List (List ℕ)) → k ≤ length before →
+    copies (record { now = now; before = before; after = after }) (replicate k Back ++ replicate k Again) ≡ record { now = now; before = before; after = after }
+all_redone zero now before after h = refl
+all_redone (suc k) now [] after h = absurd (omega (arith, h))
+all_redone (suc k) now (t ∷ ts) after h =
+    let one : Copies = record { now = t; before = ts; after = now ∷ after } in
+    let same : replicate k Back ++ replicate (suc k) Again ≡ (replicate k Back ++ replicate k Again) ++ Again ∷ [] = ap (λ ms. replicate k Back ++ ms) (again_last k) ∙ sym (append_assoc (replicate k Back) (replicate k Again) (Again ∷ [])) in
+    ap (copies one) same
+    ∙ (copies_append (replicate k Back ++ replicate k Again) (Again ∷ []) one ∙ ap (λ (c : Copies). copied c Again) (all_redone k t ts (now ∷ after) (omega (arith, h))))
+
+pub undone_and_redone : UndoneAndRedone
+undone_and_redone c k h = (now_undone k c.now c.before c.after h, all_redone k c.now c.before c.after h)

@@ -1,15 +1,13 @@
 -- What taking back changes, whatever others did.
 use Rattle.std.proofs.Common.{◌≡◌, ℕ, suc, ◌+◌, ◌-◌, Bool, true, List, [], ◌∷◌, ◌++◌, map, length, take, drop, inl, inr, refl, sym, ap, ◌∙◌, subst}
-use Rattle.std.specs.Prelude.{None, Some, Option, reverse, filter, zip, if◌then◌else◌}
+use Rattle.std.specs.Prelude.{None, Some, Option, reverse, filter, if◌then◌else◌}
 use Rattle.rls_ident.specs.declared.tuple.Tuple.{Tuple}
 use Rattle.rls_ident.specs.Identifiers.{ident_eq}
 use Rattle.rls_ident.specs.Lists.{IsIn}
 use Rattle.rls_ident.proofs.Ends.{eq_same, ident_eq_refl}
 use Rattle.rls_ident.proofs.Members.{same_bool, in_any, any_in, in_filter, filter_in, map_in}
-use Rattle.rls_runs.specs.Entries.{Entries, has_ident, idents_in, without_all}
+use Rattle.rls_runs.specs.Entries.{Entries, has_ident, idents_in}
 use Rattle.rls_runs.proofs.Sorted.{Entry}
-use Rattle.rls_model.specs.declared.edit.Edit.TheVariants as edits
-use Rattle.rls_model.specs.declared.edit.EditError.{EditError}
 use Rattle.rls_seen.specs.Edits.{edit_fault_over, edited}
 use Rattle.rls_seen.specs.Seen.{Seen, idents_over}
 use Rattle.rls_seen.proofs.EditedText.{first_made, inserted_entries, zip_entries}
@@ -17,9 +15,9 @@ use Rattle.rls_undo.specs.Plans.{places_from, ranges_of, deletion}
 use Rattle.rls_undo.specs.Undoing.{performed_over, refusal_over}
 use Rattle.rls_undo.proofs.Cutting.{cuts, cut_targets}
 use Rattle.rls_undo.proofs.Performed.{performed_cuts}
-use Rattle.rls_steps.specs.Marks.{Mark, marks, is_one_of, label_places, Piece, Put, Cut}
+use Rattle.rls_steps.specs.Marks.{marks, is_one_of, label_places, Piece, Put, Cut}
 use Rattle.rls_steps.specs.Labelled.{Names, Labelled, label_of, mark, marked, marked_by, new_label, label_all, ready_over, cut_over, cut_piece}
-use Rattle.rls_steps.specs.Courses.{cut_ranges, place_over, taken_back, labelled_idents, FitRanges, FitsBack, TakesOwnAlone}
+use Rattle.rls_steps.specs.Courses.{cut_ranges, place_over, labelled_idents, FitRanges, TakesOwnAlone}
 
 -- labels leave the replica as it is
 one_seen : (h : Labelled) (x : List Tuple) (o : Option ℕ) → (new_label o h x).seen ≡ h.seen

@@ -1,18 +1,24 @@
 -- Own edits as steps.
 use Rattle.std.proofs.Common.{◌≡◌, ℕ, zero, suc, ◌+◌, ◌-◌, ◌<◌, ◌≤◌, List, [], ◌∷◌, ◌++◌, map, length, take, drop, inl, inr, refl, sym, ap, ◌∙◌, ◌⊎◌, subst, arith}
-use Rattle.std.specs.Prelude.{Bool, slice_get, Option, Some, None, if◌then◌else◌}
+use Rattle.std.specs.Prelude.{Bool, ◌==◌, slice_get, Option, Some, None, if◌then◌else◌}
 use Rattle.std.proofs.lemmas.List.{take-append-drop, length-map, length-drop}
 use Rattle.rls_ident.specs.declared.tuple.Tuple.{Tuple}
 use Rattle.rls_ident.specs.Identifiers.{ident_eq, IsIdent}
 use Rattle.rls_ident.specs.Lists.{IsIn}
 use Rattle.rls_ident.proofs.Ends.{ident_eq_refl}
-use Rattle.rls_ident.proofs.Members.{bool_cases, map_in, in_split, in_left, in_right, in_take, in_drop}
+use Rattle.rls_ident.proofs.Members.{bool_cases, map_in, in_split, in_left, in_right, in_take, in_drop, not_zero}
 use Rattle.rls_runs.specs.Entries.{Entries, chars_in}
 use Rattle.rls_runs.proofs.Sorted.{Entry}
+use Rattle.rls_ops.specs.Rows.{left}
+use Rattle.rls_model.specs.declared.edit.Edit.{Edit}
 use Rattle.rls_model.specs.declared.edit.Edit.TheVariants as edits
+use Rattle.rls_model.specs.declared.edit.EditError.TheVariants as faults
+use Rattle.rls_model.specs.Editing.{range_fault, or_fault}
+use Rattle.rls_model.proofs.Made.{or_none}
+use Rattle.rls_model.proofs.OneTree.{none_else}
 use Rattle.rls_model.specs.WellFormed.{IsEdit}
 use Rattle.rls_model.proofs.Spliced.{take_map, drop_map, append_map}
-use Rattle.rls_seen.specs.Edits.{edit_fault_over}
+use Rattle.rls_seen.specs.Edits.{edit_fault_over, op_fault_over}
 use Rattle.rls_seen.specs.Seen.{Seen, idents_over, text_over}
 use Rattle.rls_seen.proofs.EditedText.{deleted_entries, delete_place, take_drop_drop}
 use Rattle.rls_seen.proofs.Making.{edited_sane}
@@ -165,6 +171,20 @@ left_given : (next : ℕ) (ms : List Mark) (at : ℕ) → ((j : ℕ) → IsIn (K
 left_given next ms zero h = tt
 left_given next ms (suc k) h = label_at_given next ms k h
 
+-- ---- an edit that isn't refused isn't empty
+
+range_fits : (s : Seen) (edit : Edit) → edit_fault_over s edit ≡ None → range_fault (length (idents_over s)) edit ≡ None
+unfolding edit_fault_over
+range_fits s edit h =
+    let p = none_else (left s.acks s.acks.me) faults.Left (or_fault (range_fault (length (idents_over s)) edit) (op_fault_over s edit)) h in
+    (or_none (range_fault (length (idents_over s)) edit) (op_fault_over s edit) p.1).0
+
+some_inserted : (s : Seen) (at : ℕ) (cs : List ℕ) → edit_fault_over s (edits.Insert at cs) ≡ None → 0 < length cs
+some_inserted s at cs h = not_zero (length cs) (none_else (length cs == 0) faults.EmptyEdit _ (range_fits s (edits.Insert at cs) h)).0
+
+some_deleted : (s : Seen) (at n : ℕ) → edit_fault_over s (edits.Delete at n) ≡ None → 0 < n
+some_deleted s at n h = not_zero n (none_else (n == 0) faults.EmptyEdit _ (range_fits s (edits.Delete at n) h)).0
+
 -- ---- a range that is cut out
 
 distinct_without : (xs ys zs : List Mark) → AreDistinct (xs ++ (ys ++ zs)) → AreDistinct (xs ++ zs)
@@ -267,7 +287,8 @@ pub ready_seen : (h : Labelled) (at n : ℕ) (ps : List Piece) (ts : List (List 
 ready_seen h at n ps ts i l = (relabelled h (take (n + 2) (drop (at - 1) (idents_over h.seen))) (near_idents h at n i) ps ts i l).seen
 
 pub deletion_leads : DeletionLeads
-deletion_leads h at n ps ts i l some w f =
+deletion_leads h at n ps ts i l w f =
+    let some = some_deleted h.seen at n f in
     let g = ready_over h at n in
     let r = relabelled h (take (n + 2) (drop (at - 1) (idents_over h.seen))) (near_idents h at n i) ps ts i l in
     let f2 = subst (λ (s : Seen). edit_fault_over s (edits.Delete at n) ≡ None) (sym r.seen) f in
@@ -372,7 +393,8 @@ numbers_length i zero = refl
 numbers_length i (suc n) = ap suc (numbers_length (suc i) n)
 
 pub insertion_leads : InsertionLeads
-insertion_leads h at cs ps ts i l some w f =
+insertion_leads h at cs ps ts i l w f =
+    let some = some_inserted h.seen at cs f in
     let n = length cs in
     let g = with_next h n in
     let labels = numbers_from h.next n in

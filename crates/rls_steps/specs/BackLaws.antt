@@ -1,8 +1,8 @@
 -- The statements of the laws.
-use Rattle.std.specs.Prelude.{◌≡◌, ℕ, Bool, IsTrue, List, [], ◌∷◌, length, take, drop, Option}
+use Rattle.std.specs.Prelude.{◌≡◌, ℕ, suc, Bool, IsTrue, Some, None, List, [], ◌∷◌, length, take, drop, Option}
 use Rattle.rls_ident.specs.Lists.{IsIn}
 use Rattle.rls_undo.specs.Plans.{ranges_of}
-use Rattle.rls_steps.specs.Marks.{Marked, marks, chars, known, Piece, Put, Cut, label_places, return_place, put_in, cut_out, remarked, Mark}
+use Rattle.rls_steps.specs.Marks.{Marked, marks, chars, known, Piece, Put, Cut, label_places, label_place, return_place, put_in, cut_out, remarked, Mark}
 use Rattle.rls_steps.specs.Back.{EndsIn, LeadBack, ArePieces, Exchanges}
 
 -- what was put in stands in one range; without it the text is the one before, the pieces below lead on from there, and the piece that puts
@@ -29,3 +29,10 @@ abbrev pub Exchanged : Type 0
 Exchanged = (next : ℕ) (among : Mark → Bool) (f : Mark → Mark) → Exchanges next (λ k. IsTrue (among k)) f → (m : Marked) (ps : List Piece) (ts : List (List ℕ)) →
     ((k : Mark) → IsIn k (marks m) → IsTrue (among k)) → ArePieces next ps →
     LeadBack m ps ts → LeadBack (remarked f m) ps ts
+
+-- what was cut out comes back at the front if nothing stood before it, else right behind its left neighbour, if that is in the text, and else
+-- right before its right one, if that is
+pub record ReturnsBeside : Type 0 where
+  pub front : (ms : List Mark) (right : Option ℕ) (gone : ℕ) → return_place ms None right gone ≡ 0
+  pub left : (ms : List Mark) (l i : ℕ) (right : Option ℕ) (gone : ℕ) → label_place ms l ≡ Some i → return_place ms (Some l) right gone ≡ suc i
+  pub right : (ms : List Mark) (l r j : ℕ) (gone : ℕ) → label_place ms l ≡ None → label_place ms r ≡ Some j → return_place ms (Some l) (Some r) gone ≡ j

@@ -1,5 +1,5 @@
 -- Courses of edits, undos and redos at a replica, and the same at an editor that keeps a copy of each text.
-use Rattle.std.specs.Prelude.{◌≡◌, ◌<◌, ◌+◌, ℕ, List, [], ◌∷◌, ◌++◌, length, take, drop, zip, filter, reverse, Option, Some, None, ◌==◌, if◌then◌else◌}
+use Rattle.std.specs.Prelude.{◌≡◌, ◌≤◌, ◌+◌, ℕ, replicate, slice_get, List, [], ◌∷◌, ◌++◌, length, take, drop, zip, filter, reverse, Option, Some, None, ◌==◌, if◌then◌else◌}
 use Rattle.rls_ident.specs.declared.tuple.Tuple.{Tuple}
 use Rattle.rls_runs.specs.Entries.{without_all}
 use Rattle.rls_runs.specs.Places.{below_count}
@@ -119,8 +119,8 @@ FitsFirst h (p ∷ ps) = FitsBack h p
 
 -- it isn't refused
 abbrev pub MayMove : Steps → Move → Type 0
-MayMove st (Insertion at cs) = (0 < length cs) × Fits st.held.seen (edits.Insert at cs)
-MayMove st (Deletion at n) = (0 < n) × Fits st.held.seen (edits.Delete at n)
+MayMove st (Insertion at cs) = Fits st.held.seen (edits.Insert at cs)
+MayMove st (Deletion at n) = Fits st.held.seen (edits.Delete at n)
 MayMove st Back = FitsFirst st.held st.past
 MayMove st Again = FitsFirst st.held st.future
 MayMove st (Renaming s) = IsRenamed st.held.seen s
@@ -179,3 +179,8 @@ AsCopied = (st : Steps) (c : Copies) (ms : List Move) → Shows st c → MayRun 
 abbrev pub AsCopiedFromFirst : Type 0
 AsCopiedFromFirst = (s : Seen) (ms : List Move) → IsSane s → MayRun (at_first s) ms →
     text_over (course (at_first s) ms).held.seen ≡ (copies (record { now = text_over s; before = []; after = [] }) ms).now
+
+-- k undos give the text before the last k pieces, and k redos after them give all back
+abbrev pub UndoneAndRedone : Type 0
+UndoneAndRedone = (c : Copies) (k : ℕ) → k ≤ length c.before →
+    (slice_get (c.now ∷ c.before) k ≡ Some ((copies c (replicate k Back)).now)) × (copies c (replicate k Back ++ replicate k Again) ≡ c)

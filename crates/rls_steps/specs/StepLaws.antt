@@ -1,5 +1,5 @@
 -- The statements of the laws on replicas.
-use Rattle.std.specs.Prelude.{◌≡◌, ◌<◌, ℕ, List, [], ◌∷◌, length, Option, None}
+use Rattle.std.specs.Prelude.{◌≡◌, ℕ, List, [], ◌∷◌, length, Option, None}
 use Rattle.rls_ident.specs.declared.tuple.Tuple.{Tuple}
 use Rattle.rls_ident.specs.Identifiers.{IsIdent}
 use Rattle.rls_ident.specs.Lists.{IsIn}
@@ -40,12 +40,12 @@ PutTakenBack = (h : Labelled) (labels : List ℕ) (ps qs : List Piece) (t : List
 
 -- an own insertion and an own deletion are steps
 abbrev pub InsertionLeads : Type 0
-InsertionLeads = (h : Labelled) (at : ℕ) (cs : List ℕ) (ps : List Piece) (ts : List (List ℕ)) → IsLabelled h → Leads h ps ts → 0 < length cs → IsEdit (edits.Insert at cs) → edit_fault_over h.seen (edits.Insert at cs) ≡ None →
+InsertionLeads = (h : Labelled) (at : ℕ) (cs : List ℕ) (ps : List Piece) (ts : List (List ℕ)) → IsLabelled h → Leads h ps ts → IsEdit (edits.Insert at cs) → edit_fault_over h.seen (edits.Insert at cs) ≡ None →
     let n = insert_over h at cs in
     IsLabelled n × Leads n (Put (numbers_from h.next (length cs)) ∷ ps) (text_over h.seen ∷ ts)
 
 abbrev pub DeletionLeads : Type 0
-DeletionLeads = (h : Labelled) (at n : ℕ) (ps : List Piece) (ts : List (List ℕ)) → IsLabelled h → Leads h ps ts → 0 < n → IsEdit (edits.Delete at n) → edit_fault_over h.seen (edits.Delete at n) ≡ None →
+DeletionLeads = (h : Labelled) (at n : ℕ) (ps : List Piece) (ts : List (List ℕ)) → IsLabelled h → Leads h ps ts → IsEdit (edits.Delete at n) → edit_fault_over h.seen (edits.Delete at n) ≡ None →
     let g = ready_over h at n in
     let m = cut_over g at n in
     IsLabelled m × Leads m (cut_piece g at n ∷ ps) (text_over h.seen ∷ ts)

@@ -1,7 +1,7 @@
 //! Laws of taking back, for all values. Each call runs nothing and takes no memory; its contract states the fact.
 
-ghost use Rattle.rls_steps.specs.BackLaws.{PutBack, CutBack, Exchanged};
-ghost use Rattle.rls_steps.specs.Courses.{AsCopied, AsCopiedFromFirst, TakesOwnAlone};
+ghost use Rattle.rls_steps.specs.BackLaws.{PutBack, CutBack, Exchanged, ReturnsBeside};
+ghost use Rattle.rls_steps.specs.Courses.{AsCopied, AsCopiedFromFirst, UndoneAndRedone, TakesOwnAlone};
 ghost use Rattle.rls_steps.specs.StepLaws.{LabelledLead, CutTakenBack, PutTakenBack, InsertionLeads, DeletionLeads, RenamingLeads, AppliedRenames};
 
 /// A step that is taken back leaves the text before it, and those below it as they were; the step that does it again stands on the other
@@ -9,6 +9,7 @@ ghost use Rattle.rls_steps.specs.StepLaws.{LabelledLead, CutTakenBack, PutTakenB
 pub fn taken_back()
     ensures put { PutBack }
     ensures cut { CutBack }
+    ensures beside { ReturnsBeside }
 {}
 
 /// What steps lead back to doesn't depend on the names of characters: neither labels that further characters get nor renames change it.
@@ -31,10 +32,12 @@ pub fn stepped()
     ensures put { PutTakenBack }
 {}
 
-/// Whatever own edits, undos, redos and renames follow one another, the text is that of an editor that keeps a copy of each text.
+/// Whatever own edits, undos, redos and renames follow one another, the text is that of an editor that keeps a copy of each text; there
+/// k undos give the text before the last k pieces, and k redos after them give all back.
 pub fn as_copied()
     ensures course { AsCopied }
     ensures first { AsCopiedFromFirst }
+    ensures undone { UndoneAndRedone }
 {}
 
 /// Whatever others did, a piece that is taken back takes out just its own characters that are still there, or puts its text in at its
