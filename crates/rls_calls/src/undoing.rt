@@ -237,6 +237,35 @@ fn deletions_are_undone(rt: HostRuntime) -> Result<(), Fail> {
     Ok(())
 }
 
+/// Several undos needn't give the texts before them, since what comes back has new identifiers: two backspaces, three deletions
+/// forward, and typing with a backspace.
+#[test]
+fn undone_not_all_the_way(rt: HostRuntime) -> Result<(), Fail> {
+    let rows = &[
+        (HELLO, "1", "hello"),
+        (Move::Edit(Change::Delete(4, 1)), "2", "hell"),
+        (Move::Edit(Change::Delete(3, 1)), "3", "hel"),
+        (Move::Undo, "1 1", "hell"),
+        (Move::Undo, "1 1", "helol"),
+        (Move::Pass(Change::Delete(0, 5)), "6", ""),
+        (HELLO, "7", "hello"),
+        (Move::Edit(Change::Delete(1, 1)), "8", "hllo"),
+        (Move::Edit(Change::Delete(1, 1)), "9", "hlo"),
+        (Move::Edit(Change::Delete(1, 1)), "10", "ho"),
+        (Move::Undo, "1 1", "hlo"),
+        (Move::Undo, "1 1", "hllo"),
+        (Move::Undo, "1 1", "hlleo"),
+        (Move::Pass(Change::Delete(0, 5)), "14", ""),
+        (HELLO, "15", "hello"),
+        (Move::Edit(Change::Insert(5, "abc")), "16", "helloabc"),
+        (Move::Edit(Change::Delete(7, 1)), "17", "helloab"),
+        (Move::Undo, "1 1", "helloabc"),
+        (Move::Undo, "1 2", "helloc"),
+    ];
+    assert_eq!(rt; fault(rt.alloc(), 2, rows)?, None);
+    Ok(())
+}
+
 /// A cursor stays with its character, and at the character's place once that is gone.
 #[test]
 fn anchors_stay(rt: HostRuntime) -> Result<(), Fail> {
