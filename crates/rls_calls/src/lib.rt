@@ -15,6 +15,8 @@ mod lines;
 #[cfg(test)]
 mod ops;
 #[cfg(test)]
+mod paths;
+#[cfg(test)]
 mod replicas;
 #[cfg(test)]
 mod spelled;
