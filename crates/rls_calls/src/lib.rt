@@ -5,6 +5,8 @@
 mod answers;
 pub mod bytes;
 #[cfg(test)]
+mod days;
+#[cfg(test)]
 mod files;
 #[cfg(test)]
 mod idents;

@@ -11,7 +11,7 @@ use std::test::Fail;
 
 /// What happens in a world.
 #[derive(Clone, Copy)]
-enum Happening {
+pub enum Happening {
     Edit(u32, Change),
     Send(u32, u32),
     Deliver(u64, u32),
@@ -22,7 +22,7 @@ enum Happening {
 /// many operations, epochs and former identifiers it keeps; and how many are unstable or retained.
 type Row = (Happening, &'static str, &'static str);
 
-fn event_of(alloc: Global, happening: Happening) -> Result<Event, AllocError> {
+pub fn event_of(alloc: Global, happening: Happening) -> Result<Event, AllocError> {
     Ok(match happening {
         Happening::Edit(member, change) => Event::Edit {
             member,
@@ -68,7 +68,7 @@ fn state(alloc: Global, replica: &Replica) -> Result<String, AllocError> {
 }
 
 /// The replica of a member.
-fn replica(world: &World, member: u32) -> Result<&Replica, Fail> {
+pub fn replica(world: &World, member: u32) -> Result<&Replica, Fail> {
     if member as usize >= world.members() {
         return Err(Fail::new("member"));
     }
