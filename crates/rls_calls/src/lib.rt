@@ -7,8 +7,6 @@ pub mod bytes;
 #[cfg(test)]
 mod days;
 #[cfg(test)]
-mod files;
-#[cfg(test)]
 mod idents;
 #[cfg(test)]
 mod kept;
