@@ -24,7 +24,7 @@ MOST_DELETED = 4_194_304             # of one deletion
 MEANINGS = {
     1: "the words are no command", 2: "there is no replica in this folder, or for `new` there is one", 3: "the replica's file is damaged",
     4: "what was handed in is not right", 5: "done, but some operations were refused", 6: "an edit was refused", 7: "the replica's file can't be read or written",
-    8: "the input can't be read", 9: "the output can't be written", 10: "out of memory", 11: "too large", 12: "not built yet",
+    8: "the input can't be read", 9: "the output can't be written", 10: "out of memory", 11: "too large",
     70: "the program couldn't be built", 71: "the launcher refused the command",
 }
 

@@ -4,7 +4,7 @@ use rls_ident::{EpochName, Ident, Tuple, Vector};
 use rls_model::{Counts, Refusal};
 use rls_ops::{Body, Op, Shape};
 use rls_report::{
-    Failure, LineFault, edit_report, failure_line, new_report, out_of_memory_line, refusal_line,
+    CommandError, Failure, Fault, LineFault, edit_report, failure_line, new_report, refusal_line,
     stat_report, take_report, trial_report,
 };
 use std::alloc::{AllocError, Global};
@@ -15,35 +15,48 @@ fn failures(rt: HostRuntime) -> Result<(), Fail> {
     let alloc = rt.alloc();
     let usage =
         "usage: new GROUP ME MEMBERS | edit | text | ids | stat | send TO | take | leave | trial SEED STEPS\n";
-    let cases: &[(Failure, u8, &str)] = &[
-        (Failure::Usage, 1, usage),
-        (Failure::NoReplica, 2, "no replica\n"),
-        (Failure::ReplicaExists, 2, "replica exists\n"),
-        (Failure::Damaged { at: 71 }, 3, "damaged at 71\n"),
-        (Failure::BadMembers { members: 65 }, 4, "bad members 65\n"),
-        (Failure::BadMe { me: 2 }, 4, "bad me 2\n"),
-        (Failure::NotMember { to: 2 }, 4, "not a member 2\n"),
-        (Failure::BadLine { line: 2 }, 4, "bad line 2\n"),
-        (Failure::Malformed { at: 76 }, 4, "malformed at 76\n"),
+    let line = failure_line(alloc, Failure::NoCommand)?;
+    assert_eq!(rt; (Failure::NoCommand.status(), line.as_str()), (1, usage));
+    let errors: &[(CommandError, u8, &str)] = &[
+        (CommandError::NoReplica, 2, "no replica\n"),
+        (CommandError::ReplicaExists, 2, "replica exists\n"),
+        (CommandError::Damaged { at: 71 }, 3, "damaged at 71\n"),
         (
-            Failure::OtherGroup {
+            CommandError::BadMembers { members: 65 },
+            4,
+            "bad members 65\n",
+        ),
+        (CommandError::BadMe { me: 2 }, 4, "bad me 2\n"),
+        (CommandError::NotMember { to: 2 }, 4, "not a member 2\n"),
+        (CommandError::BadLine { line: 2 }, 4, "bad line 2\n"),
+        (CommandError::Malformed { at: 76 }, 4, "malformed at 76\n"),
+        (
+            CommandError::OtherGroup {
                 group: 8,
                 members: 2,
             },
             4,
             "other group 8 2\n",
         ),
-        (Failure::KeeperFault, 7, "keeper fault\n"),
-        (Failure::SourceFault, 8, "source fault\n"),
-        (Failure::SinkFault, 9, "sink fault\n"),
-        (Failure::OutOfMemory, 10, "out of memory\n"),
-        (Failure::TooLarge, 11, "too large\n"),
+        (CommandError::TooLarge, 11, "too large\n"),
     ];
-    for (failure, status, line) in cases {
+    for (error, status, line) in errors {
+        let failure = Failure::Command { error: *error };
         assert_eq!(rt; failure.status(), *status, "{line}");
-        assert_eq!(rt; failure_line(alloc, *failure)?.as_str(), *line);
+        assert_eq!(rt; failure_line(alloc, failure)?.as_str(), *line);
     }
-    assert_eq!(rt; out_of_memory_line(), "out of memory\n");
+    let faults: &[(Fault, u8, &str)] = &[
+        (Fault::Keeper, 7, "keeper fault\n"),
+        (Fault::Source, 8, "source fault\n"),
+        (Fault::Sink, 9, "sink fault\n"),
+        (Fault::Memory, 10, "out of memory\n"),
+    ];
+    for (fault, status, line) in faults {
+        let failure = Failure::Fault { fault: *fault };
+        assert_eq!(rt; failure.status(), *status, "{line}");
+        assert_eq!(rt; failure_line(alloc, failure)?.as_str(), *line);
+        assert_eq!(rt; fault.line(), *line);
+    }
     Ok(())
 }
 
@@ -70,10 +83,11 @@ fn refused_edits(rt: HostRuntime) -> Result<(), Fail> {
         ),
     ];
     for (fault, line) in cases {
-        let failure = Failure::Edit {
+        let error = CommandError::Edit {
             line: 3,
             fault: *fault,
         };
+        let failure = Failure::Command { error };
         assert_eq!(rt; failure.status(), 6);
         assert_eq!(rt; failure_line(alloc, failure)?.as_str(), *line);
     }

@@ -230,7 +230,13 @@ fn new_replicas(rt: HostRuntime) -> Result<(), Fail> {
         ("new 7 0 2", b"", 0, "new 7 0 2\n", ""),
         ("new 7 0 2", b"", 2, "", "replica exists\n"),
         ("text", b"", 0, "", ""),
-        ("stat", b"", 12, "", "not built\n"),
+        (
+            "stat",
+            b"",
+            0,
+            "group 7\nme 0\nmembers 2\naccepted 0 0\ntotal 0\nruns 0\nheld 0\nunstable 0\nepochs 1\nformer 0\n",
+            "",
+        ),
     ];
     assert_eq!(rt; Member::new().fault_among(alloc, steps)?, None);
     Ok(())

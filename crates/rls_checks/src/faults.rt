@@ -90,6 +90,7 @@ fn each_call_of_a_device_fails_in_turn(rt: HostRuntime) -> Result<(), Fail> {
         (file, "leave", b""),
         (file, "text", b""),
         (file, "ids", b""),
+        (file, "stat", b""),
         (file, "send 0", b""),
     ];
     for (file, words, input) in commands {

@@ -26,4 +26,6 @@ mod renamings;
 #[cfg(test)]
 mod spelling;
 #[cfg(test)]
+mod stored;
+#[cfg(test)]
 mod values;

@@ -6,7 +6,7 @@ mod streams;
 
 use folder::{FolderKeeper, folder_keeper};
 use rls_io::{StdSink, StdSource, write_all_of};
-use rls_report::out_of_memory_line;
+use rls_report::Fault;
 use rls_top::run;
 use std::alloc::AllocError;
 use std::io::ErrorKind;
@@ -56,7 +56,7 @@ fn main(rt: HostRuntime) -> ExitCode {
     let guard = guard_streams(&rt);
     let mut errors = StdSink::new(rt.stderr());
     let Ok(words) = words(&rt) else {
-        let _ = write_all_of(&mut errors, out_of_memory_line().as_bytes());
+        let _ = write_all_of(&mut errors, Fault::Memory.line().as_bytes());
         return ExitCode::from(OUT_OF_MEMORY);
     };
     let mut keeper = keeper(&rt, &guard);

@@ -1,9 +1,10 @@
 -- Parts that are put one after another.
-use Rattle.std.proofs.Common.{◌≡◌, ℕ, zero, suc, ◌+◌, ◌-◌, ◌*◌, ◌<◌, ◌≤◌, ◌^◌, true, false, List, [], ◌∷◌, ◌++◌, length, map, get_or, drop, Option, Some, None, refl, sym, ap, ◌∙◌, append_assoc, arith}
-use Rattle.std.specs.Prelude.{sum_by, ◌==◌, if◌then◌else◌}
+use Rattle.std.proofs.Common.{◌≡◌, ℕ, zero, suc, ◌+◌, ◌-◌, ◌*◌, ◌<◌, ◌≤◌, ◌^◌, true, false, List, [], ◌∷◌, ◌++◌, length, map, get_or, drop, Option, Some, None, refl, sym, ap, subst, ◌∙◌, append_assoc, arith}
+use Rattle.std.specs.Prelude.{All, sum_by, ◌==◌, if◌then◌else◌}
 use Rattle.std.specs.List.{flat_map, concat}
 use Rattle.std.specs.Option.{option_map}
-use Rattle.std.proofs.lemmas.List.{append-nil, length-append}
+use Rattle.std.proofs.lemmas.List.{append-nil, drop_all, length-append, map-append}
+use Rattle.std.proofs.lemmas.List.Elements.{All-append, All-cons, All-nil}
 use Rattle.std.proofs.lemmas.List.Sums.{sum_by-cons}
 use Rattle.std.proofs.lemmas.Bool.{ne_eqb, eq-eqb}
 use Rattle.rls_ident.proofs.Members.{bool_cases, eq_is, some_is}
@@ -17,12 +18,13 @@ use Rattle.rls_ops.specs.Spelling.{four_bytes, counted}
 use Rattle.rls_model.specs.declared.parts.Stem.{Stem}
 use Rattle.rls_model.specs.declared.parts.EpochPart.{EpochPart}
 use Rattle.rls_model.specs.declared.parts.TextRun.{TextRun}
-use Rattle.rls_model.specs.Parts.{epoch_part, epoch_parts, node_of}
+use Rattle.rls_model.specs.Parts.{epoch_part, epoch_parts, node_of, top_part}
 use Rattle.rls_tree.specs.Trees.{Piece}
 use Rattle.rls_seen.specs.Kept.{other_rows, left_below}
 use Rattle.rls_snapshot.specs.Blocks.{run_with_text, runs_with_texts}
 use Rattle.rls_fields.specs.FieldSizes.{epoch_size, rest_size, opening, text_run_size}
 use Rattle.rls_fields.specs.Fields.{stem_bytes, own_of, others_of, stems_bytes}
+use Rattle.rls_fields.specs.Written.{FitsChars, FitsFormer}
 
 pub pushed : {A : Type 0} (f : A → List ℕ) (xs : List A) (x : A) → flat_map f (xs ++ x ∷ []) ≡ flat_map f xs ++ f x
 pushed f [] x = append-nil (f x)
@@ -60,6 +62,13 @@ put_next f x xs ys before after total e g h = ap (λ w. w ++ flat_map f xs) g �
 
 pub sum_next : {A : Type 0} (f : A → ℕ) (x : A) (xs ys : List A) → ys ≡ x ∷ xs → sum_by f ys ≡ f x + sum_by f xs
 sum_next f x xs ys e = ap (sum_by f) e ∙ sum_by-cons f x xs
+
+-- a part fits, and the others do that follow
+pub fit_next : {A : Type 0} (F : A → Type 0) (x : A) (xs ys : List A) {T : Type 0} → ys ≡ x ∷ xs → F x → (All F ys → T) → All F xs → T
+fit_next F x xs ys e f h k = h (subst (All F) (sym e) (All-cons F x xs f k))
+
+pub none_left : {A : Type 0} (F : A → Type 0) (i : ℕ) (xs : List A) → length xs ≤ i → All F (drop i xs)
+none_left F i xs le = subst (All F) (sym (drop_all i xs le)) (All-nil F)
 
 -- ---- stems, author by author
 
@@ -159,6 +168,14 @@ parts_count nodes (top ∷ es) = ap suc (map_length (λ e. epoch_part (top ∷ e
 pub few_names : (nodes : List Node) (names : List EpochName) → sum_by epoch_size (epoch_parts nodes names) < 2 ^ 32 → length names < 2 ^ 32
 few_names nodes names h = omega (arith, h, epochs_within (epoch_parts nodes names), parts_count nodes names)
 
+-- the topmost epoch, and the others
+pub list_is : (nodes : List Node) (names others : List EpochName) (top : EpochName) → names ≡ top ∷ others → epoch_parts nodes names ≡ top_part top ∷ map (λ e. epoch_part names e (node_of nodes e)) others
+list_is nodes names others top e = ap (epoch_parts nodes) e ∙ ap (λ xs. top_part top ∷ map (λ f. epoch_part xs f (node_of nodes f)) others) (sym e)
+
+-- the topmost epoch keeps no former identifiers
+pub top_fits : (top : EpochName) → FitsFormer (top_part top)
+top_fits top k e = absurd cc
+
 pub map_next : {A B : Type 0} (f : A → B) (xs : List A) (i : ℕ) (d : A) → i < length xs → drop i (map f xs) ≡ f (get_or xs i d) ∷ drop (i + 1) (map f xs)
 map_next {A} f xs i d h = go xs i h ∙ (let e : suc i ≡ i + 1 = omega arith in ap (λ k. f (get_or xs i d) ∷ drop k (map f xs)) e)
   where
@@ -182,3 +199,9 @@ runs_within (r ∷ rs) = omega (arith, sum_by-cons text_run_size r rs, runs_with
 
 pub blocks_count : (bs : List Piece) → length (runs_with_texts bs) ≡ length bs
 blocks_count bs = map_length run_with_text bs
+
+-- those of a node, and those of both its sides
+pub blocks_fit : (bs ls rs : List Piece) (b : Piece) → bs ≡ ls ++ b ∷ rs → All FitsChars (runs_with_texts ls) → FitsChars (run_with_text b) → All FitsChars (runs_with_texts rs) → All FitsChars (runs_with_texts bs)
+blocks_fit bs ls rs b e f g h =
+    subst (λ (xs : List Piece). All FitsChars (runs_with_texts xs)) (sym e)
+    (subst (All FitsChars) (sym (map-append run_with_text ls (b ∷ rs))) (All-append FitsChars (runs_with_texts ls) (runs_with_texts (b ∷ rs)) f (All-cons FitsChars (run_with_text b) (runs_with_texts rs) g h)))

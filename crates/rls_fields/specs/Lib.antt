@@ -2,3 +2,4 @@ pub mod Fields
 pub mod ReadingFields
 pub mod Listed
 pub mod FieldSizes
+pub mod Written

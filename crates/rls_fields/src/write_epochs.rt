@@ -1,6 +1,6 @@
 //! Epochs, written.
 
-ghost use Rattle.std.specs.Prelude.{◌≡◌, ◌<◌, ◌++◌, ◌-◌, ◌^◌, min, length, sum_by, OnOk, IsTrue};
+ghost use Rattle.std.specs.Prelude.{◌≡◌, ◌<◌, ◌++◌, ◌-◌, ◌^◌, min, length, sum_by, All, OnOk, IsTrue};
 ghost use Rattle.std.specs.Option.{option_map};
 ghost use Rattle.std.specs.List.{flat_map};
 ghost use Rattle.rls_ident.specs.declared.epoch_name.EpochName.{EpochName as EpochNameSeen};
@@ -10,6 +10,7 @@ ghost use Rattle.rls_rename.specs.Tree.{is_kept};
 ghost use Rattle.rls_model.specs.Parts.{epoch_part, epoch_parts, node_of};
 ghost use Rattle.rls_fields.specs.Fields.{epoch_bytes};
 ghost use Rattle.rls_fields.specs.FieldSizes.{epoch_size, opening};
+ghost use Rattle.rls_fields.specs.Written.{FitsFormer};
 
 use crate::sizes::{name_len, runs_len};
 use rls_codec::{put_name, put_runs, put_u32};
@@ -45,6 +46,7 @@ fn put_epoch(
     requires few { length names.now < 2 ^ 32 }
     requires small { epoch_size (epoch_part names.now name (node_of epochs.now.epochs.nodes name)) < 2 ^ 32 }
     ensures ok { OnOk result (out.new.items ≡ out.old.items ++ epoch_bytes (epoch_part names.now name (node_of epochs.now.epochs.nodes name))) }
+    ensures fits { OnOk result (FitsFormer (epoch_part names.now name (node_of epochs.now.epochs.nodes name))) }
 {
     put_name(out, name)?;
     let Some((place, renaming)) = opening(epochs, names, name) else {
@@ -73,6 +75,7 @@ fn put_epoch_list(out: &mut Vec<u8>, epochs: &Epochs, names: &[EpochName]) -> Re
     requires kept { (e : EpochNameSeen) → IsIn e names.now → IsTrue (is_kept epochs.now.epochs.top epochs.now.epochs.nodes e) }
     requires small { sum_by epoch_size (epoch_parts epochs.now.epochs.nodes names.now) < 2 ^ 32 }
     ensures ok { OnOk result (out.new.items ≡ out.old.items ++ flat_map epoch_bytes (epoch_parts epochs.now.epochs.nodes names.now)) }
+    ensures fits { OnOk result (All FitsFormer (epoch_parts epochs.now.epochs.nodes names.now)) }
 {
     let Some((top, others)) = names.split_first() else {
         return Ok(());
@@ -89,6 +92,7 @@ pub fn put_epochs(out: &mut Vec<u8>, epochs: &Epochs, names: &[EpochName]) -> Re
     requires kept { (e : EpochNameSeen) → IsIn e names.now → IsTrue (is_kept epochs.now.epochs.top epochs.now.epochs.nodes e) }
     requires small { sum_by epoch_size (epoch_parts epochs.now.epochs.nodes names.now) < 2 ^ 32 }
     ensures ok { OnOk result (out.new.items ≡ out.old.items ++ counted epoch_bytes (epoch_parts epochs.now.epochs.nodes names.now)) }
+    ensures fits { OnOk result (All FitsFormer (epoch_parts epochs.now.epochs.nodes names.now)) }
 {
     put_u32(out, names.len() as u32)?;
     put_epoch_list(out, epochs, names)?;

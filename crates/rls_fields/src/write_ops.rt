@@ -1,12 +1,13 @@
 //! Operations that are kept and that wait, written.
 
-ghost use Rattle.std.specs.Prelude.{◌≡◌, ◌<◌, ◌++◌, ◌-◌, ◌^◌, min, length, sum_by, OnOk};
+ghost use Rattle.std.specs.Prelude.{◌≡◌, ◌<◌, ◌++◌, ◌-◌, ◌^◌, min, length, sum_by, All, OnOk};
 ghost use Rattle.std.specs.List.{flat_map};
 ghost use Rattle.rls_ident.specs.Lists.{IsIn};
 ghost use Rattle.rls_ops.specs.declared.op.Op.{Op as OpSeen};
 ghost use Rattle.rls_ops.specs.Rows.{missing_for};
 ghost use Rattle.rls_ops.specs.Sizes.{op_size};
 ghost use Rattle.rls_ops.specs.Spelling.{counted, op_bytes};
+ghost use Rattle.rls_codec.specs.Spelled.{IsSpelledIfFit};
 
 use rls_causal::Held;
 use rls_codec::{put_op, put_u32};
@@ -51,6 +52,7 @@ fn put_missing_list(out: &mut Vec<u8>, log: &Log, vector: &Vector) -> Result<(),
     requires authors { (o : OpSeen) → IsIn o log.now.ops → o.author < length vector.now }
     requires small { sum_by op_size (missing_for vector.now log.now.ops) < 2 ^ 32 }
     ensures ok { OnOk result (out.new.items ≡ out.old.items ++ flat_map op_bytes (missing_for vector.now log.now.ops)) }
+    ensures fits { OnOk result (All IsSpelledIfFit (missing_for vector.now log.now.ops)) }
 {
     for i in 0..log.len() {
         let op = log.op(i);
@@ -67,6 +69,7 @@ pub fn put_missing(out: &mut Vec<u8>, log: &Log, vector: &Vector) -> Result<(), 
     requires authors { (o : OpSeen) → IsIn o log.now.ops → o.author < length vector.now }
     requires small { sum_by op_size (missing_for vector.now log.now.ops) < 2 ^ 32 }
     ensures ok { OnOk result (out.new.items ≡ out.old.items ++ counted op_bytes (missing_for vector.now log.now.ops)) }
+    ensures fits { OnOk result (All IsSpelledIfFit (missing_for vector.now log.now.ops)) }
 {
     put_u32(out, missing_count(log, vector) as u32)?;
     put_missing_list(out, log, vector)?;
@@ -88,6 +91,7 @@ pub fn waiting_len(held: &Held) -> u64
 fn put_waiting_list(out: &mut Vec<u8>, held: &Held) -> Result<(), AllocError>
     requires small { sum_by op_size held.now < 2 ^ 32 }
     ensures ok { OnOk result (out.new.items ≡ out.old.items ++ flat_map op_bytes held.now) }
+    ensures fits { OnOk result (All IsSpelledIfFit held.now) }
 {
     for i in 0..held.len() {
         put_op(out, held.op(i))?;
@@ -99,6 +103,7 @@ fn put_waiting_list(out: &mut Vec<u8>, held: &Held) -> Result<(), AllocError>
 pub fn put_waiting(out: &mut Vec<u8>, held: &Held) -> Result<(), AllocError>
     requires small { sum_by op_size held.now < 2 ^ 32 }
     ensures ok { OnOk result (out.new.items ≡ out.old.items ++ counted op_bytes held.now) }
+    ensures fits { OnOk result (All IsSpelledIfFit held.now) }
 {
     put_u32(out, held.len() as u32)?;
     put_waiting_list(out, held)?;

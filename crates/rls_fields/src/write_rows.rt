@@ -1,10 +1,11 @@
 //! Rows, and the members that have left, written.
 
-ghost use Rattle.std.specs.Prelude.{◌≡◌, ◌++◌, ◌-◌, ◌^◌, min, length, sum_by, OnOk};
+ghost use Rattle.std.specs.Prelude.{◌≡◌, ◌++◌, ◌-◌, ◌^◌, min, length, sum_by, All, OnOk};
 ghost use Rattle.std.specs.List.{flat_map};
 ghost use Rattle.rls_ops.specs.Spelling.{counted, four_bytes, vector_bytes};
 ghost use Rattle.rls_seen.specs.Kept.{other_rows, left_below};
 ghost use Rattle.rls_fields.specs.FieldSizes.{row_size};
+ghost use Rattle.rls_fields.specs.Written.{FitsRow};
 
 use crate::sizes::row_len;
 use rls_codec::{put_u32, put_vector};
@@ -15,6 +16,7 @@ use std::alloc::AllocError;
 pub fn put_rows(out: &mut Vec<u8>, acks: &Acks, members: u32) -> Result<(), AllocError>
     requires members { members ≡ length acks.now.mine }
     ensures ok { OnOk result (out.new.items ≡ out.old.items ++ flat_map vector_bytes (other_rows acks.now members)) }
+    ensures fits { OnOk result (All FitsRow (other_rows acks.now members)) }
 {
     for member in 0..members {
         if member == acks.me() {

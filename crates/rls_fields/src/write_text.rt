@@ -1,6 +1,6 @@
 //! The text, written run by run.
 
-ghost use Rattle.std.specs.Prelude.{◌≡◌, ◌<◌, ◌++◌, ◌-◌, ◌^◌, min, length, sum_by, OnOk};
+ghost use Rattle.std.specs.Prelude.{◌≡◌, ◌<◌, ◌++◌, ◌-◌, ◌^◌, min, length, sum_by, All, OnOk};
 ghost use Rattle.std.specs.List.{flat_map};
 ghost use Rattle.rls_ops.specs.Spelling.{counted};
 ghost use Rattle.rls_model.specs.Parts.{text_runs};
@@ -8,6 +8,7 @@ ghost use Rattle.rls_tree.specs.Trees.{entries_of};
 ghost use Rattle.rls_snapshot.specs.Blocks.{runs_with_texts};
 ghost use Rattle.rls_fields.specs.Fields.{text_run_bytes};
 ghost use Rattle.rls_fields.specs.FieldSizes.{text_run_size};
+ghost use Rattle.rls_fields.specs.Written.{FitsChars};
 
 use crate::sizes::text_run_len;
 use rls_codec::{put_run, put_text, put_u32};
@@ -19,6 +20,7 @@ use std::alloc::AllocError;
 fn put_text_run(out: &mut Vec<u8>, run: &Run, text: &Text) -> Result<(), AllocError>
     requires small { text_run_size (record { run = run.now; text = text.now }) < 2 ^ 32 }
     ensures ok { OnOk result (out.new.items ≡ out.old.items ++ text_run_bytes (record { run = run.now; text = text.now })) }
+    ensures fits { OnOk result (FitsChars (record { run = run.now; text = text.now })) }
 {
     put_run(out, run)?;
     put_text(out, text)?;
@@ -29,6 +31,7 @@ fn put_text_run(out: &mut Vec<u8>, run: &Run, text: &Text) -> Result<(), AllocEr
 fn put_blocks(out: &mut Vec<u8>, node: &Node) -> Result<(), AllocError>
     requires small { sum_by text_run_size (runs_with_texts node.now.blocks) < 2 ^ 32 }
     ensures ok { OnOk result (out.new.items ≡ out.old.items ++ flat_map text_run_bytes (runs_with_texts node.now.blocks)) }
+    ensures fits { OnOk result (All FitsChars (runs_with_texts node.now.blocks)) }
 {
     let (run, text) = (node.run(), node.text());
     if let Some(left) = node.left() {
@@ -77,6 +80,7 @@ fn blocks_len(node: &Node) -> u64
 pub fn put_text_runs(out: &mut Vec<u8>, tree: &BlockTree) -> Result<(), AllocError>
     requires small { sum_by text_run_size (text_runs (entries_of tree.now.blocks)) < 2 ^ 32 }
     ensures ok { OnOk result (out.new.items ≡ out.old.items ++ counted text_run_bytes (text_runs (entries_of tree.now.blocks))) }
+    ensures fits { OnOk result (All FitsChars (text_runs (entries_of tree.now.blocks))) }
 {
     let Some(root) = tree.root() else {
         return put_u32(out, 0);

@@ -24,9 +24,10 @@ use Rattle.rls_model.specs.Legal.{AreWaiting}
 use Rattle.rls_model.specs.Receiving.{State, verdict_of, answer_beside, answer_by, answer, after, receive, receive_after}
 use Rattle.rls_parts.specs.Rules.{is_fine, waits_behind, may_wait}
 use Rattle.rls_file.specs.ReadingJournals.{waits, last_of, waiting_at, more_waiting_at}
-use Rattle.rls_file.specs.Journals.{JournalSeen, Tells, told}
+use Rattle.rls_seen.specs.Over.{after_answer, answer_over, received}
+use Rattle.rls_file.specs.Journals.{IsReplayed, JournalSeen, Tells, told}
 use Rattle.rls_file.proofs.Events.{fails_then, fails_before}
-use Rattle.rls_file.proofs.Telling.{told_is}
+use Rattle.rls_file.proofs.Telling.{holding_replayed, told_is}
 
 abbrev beside : History → List Op → State
 beside H W = record { history = H; waiting = W }
@@ -235,3 +236,8 @@ held_told old new o h b w n =
     let after_is = held_after t o h.stands.sound b w in
     let is = told_is new.seen new.notes (receive_after t o) n in
     (ap (λ (x : State). x.history) (is ∙ after_is), n.stands.waiting ∙ ap (λ (x : State). x.waiting) after_is)
+
+pub held_replayed : (old new : JournalSeen) (o : Op) → IsReplayed old → waits (answer_over false old.seen o) ≡ true → new.seen ≡ received old.seen o → (told new).history ≡ (told old).history → IsReplayed new
+unfolding received
+held_replayed old new o h w e same =
+    holding_replayed old new (with_waiting o (without o.author o.seq old.seen.waiting)) h (e ∙ ap (λ (a : Answer). after_answer a old.seen o) (waits_is (answer_over false old.seen o) w)) same

@@ -31,7 +31,7 @@ use Rattle.rls_seen.proofs.Editing.{made_alike}
 use Rattle.rls_seen.proofs.Taking.{Stands, machines_agree, op_in}
 use Rattle.rls_file.specs.declared.journal.Note.{Note}
 use Rattle.rls_file.specs.Files.{entries_of}
-use Rattle.rls_file.specs.Journals.{JournalSeen, Tells, IsNoted, note, notes_of, woven, then_all, told}
+use Rattle.rls_file.specs.Journals.{JournalSeen, Tells, IsNoted, IsReplayed, note, notes_of, seen_after, woven, then_all, told}
 use Rattle.rls_file.specs.ReadingFiles.{applies}
 use Rattle.rls_file.specs.ReadingJournals.{TellsAlone}
 use Rattle.rls_file.proofs.Weaving.{entries_woven, then_more}
@@ -238,22 +238,51 @@ none_waits j a = told_waiting j ∙ a.alone
 pub replay_alone : (j : JournalSeen) (o : Op) → TellsAlone j → replay (record { history = (told j).history; waiting = [] }) o ≡ replay (told j) o
 replay_alone j o a = ap (λ W. replay (record { history = (told j).history; waiting = W }) o) (sym (none_waits j a))
 
-pub alone_at : (j : JournalSeen) (H : History) (W : List Op) → W ≡ [] → Tells j (record { history = H; waiting = W }) → TellsAlone j × ((told j).history ≡ H)
-alone_at j H W e h =
+pub alone_at : (j : JournalSeen) (H : History) (W : List Op) → W ≡ [] → j.seen ≡ seen_after H → Tells j (record { history = H; waiting = W }) → TellsAlone j × ((told j).history ≡ H)
+alone_at j H W e same h =
     let is = told_is j.seen j.notes (record { history = H; waiting = W }) h in
-    (record { tells = tells_told j (record { history = H; waiting = W }) h; alone = h.stands.waiting ∙ e }, ap (λ (x : State). x.history) is)
+    let history : (told j).history ≡ H = ap (λ (x : State). x.history) is in
+    (record { tells = tells_told j (record { history = H; waiting = W }) h; alone = h.stands.waiting ∙ e; replayed = same ∙ ap seen_after (sym history) }, history)
+
+replayed_so : (s : Seen) (o : Op) (a : Answer) → applies a ≡ true → after_answer a s o ≡ accepted s o
+replayed_so s o a e = ap (λ (x : Answer). after_answer x s o) (applies_is a e)
 
 -- an operation was applied
-pub applied_alone : (old new : JournalSeen) (o : Op) → TellsAlone old → applies (replay (told old) o) ≡ true → Tells new (replay_after (told old) o) → TellsAlone new × ((told new).history ≡ Then (told old).history (Accepted o))
-applied_alone old new o a e h =
+pub applied_alone : (old new : JournalSeen) (o : Op) → TellsAlone old → applies (replay (told old) o) ≡ true → applies (answer_over true old.seen o) ≡ true → new.seen ≡ replayed old.seen o → Tells new (replay_after (told old) o)
+    → TellsAlone new × ((told new).history ≡ Then (told old).history (Accepted o))
+unfolding replayed
+applied_alone old new o a e f is h =
     let t = told old in
     let here : Tells new (accept t o) = subst (λ x. Tells new (after x t o)) (applies_is (replay t o) e) h in
-    alone_at new (Then t.history (Accepted o)) (model.without o.author o.seq t.waiting) (ap (model.without o.author o.seq) (none_waits old a)) here
+    let seen = is ∙ replayed_so old.seen o (answer_over true old.seen o) f ∙ ap (λ (s : Seen). accepted s o) a.replayed in
+    alone_at new (Then t.history (Accepted o)) (model.without o.author o.seq t.waiting) (ap (model.without o.author o.seq) (none_waits old a)) seen here
 
 -- an acknowledgement was counted
-pub counted_alone : (old new : JournalSeen) (a : ℕ) (v : List ℕ) → TellsAlone old → is_counted (told old).history a v ≡ true → Tells new (acknowledge (told old) a v) → TellsAlone new × ((told new).history ≡ Then (told old).history (Acknowledged a v))
-counted_alone old new a v w e h =
+pub counted_alone : (old new : JournalSeen) (a : ℕ) (v : List ℕ) → TellsAlone old → is_counted (told old).history a v ≡ true → new.seen ≡ acknowledged old.seen a v → Tells new (acknowledge (told old) a v)
+    → TellsAlone new × ((told new).history ≡ Then (told old).history (Acknowledged a v))
+counted_alone old new a v w e is h =
     let t = told old in
     let here : Tells new (record { history = Then t.history (Acknowledged a v); waiting = t.waiting }) =
     subst (λ b. Tells new (cond b (record { history = Then t.history (Acknowledged a v); waiting = t.waiting }) t)) e h in
-    alone_at new (Then t.history (Acknowledged a v)) t.waiting (none_waits old w) here
+    alone_at new (Then t.history (Acknowledged a v)) t.waiting (none_waits old w) (is ∙ ap (λ (s : Seen). acknowledged s a v) w.replayed) here
+
+-- ---- what waits
+
+held_again : (s : Seen) (V W : List Op) → holding (holding s V) W ≡ holding s W
+unfolding holding
+held_again s V W = refl
+
+held_same : (s : Seen) → s ≡ holding s s.waiting
+unfolding holding
+held_same s = refl
+
+-- nothing waits yet
+pub replayed_first : (j : JournalSeen) → TellsAlone j → IsReplayed j
+replayed_first j a = held_same j.seen ∙ ap (λ (s : Seen). holding s j.seen.waiting) a.replayed
+
+-- what waits has changed alone
+pub holding_replayed : (old new : JournalSeen) (W : List Op) → IsReplayed old → new.seen ≡ holding old.seen W → (told new).history ≡ (told old).history → IsReplayed new
+unfolding holding
+holding_replayed old new W h e same =
+    let there : new.seen.waiting ≡ W = ap (λ (s : Seen). s.waiting) e in
+    e ∙ ap (λ (s : Seen). holding s W) h ∙ ap (holding (seen_after (told old).history)) (sym there) ∙ ap (λ H. holding (seen_after H) new.seen.waiting) (sym same)

@@ -4,10 +4,16 @@ use Rattle.rls_ops.specs.declared.op.Op.{Op}
 use Rattle.rls_model.specs.History.{Entry, Accepted, Acknowledged, History, Fresh, Then, ops}
 use Rattle.rls_model.specs.Receiving.{State}
 use Rattle.rls_ops.specs.Rows.{counts}
-use Rattle.rls_seen.specs.Over.{acknowledged}
-use Rattle.rls_seen.specs.Seen.{Seen, members}
+use Rattle.rls_seen.specs.Over.{accepted, acknowledged, holding}
+use Rattle.rls_seen.specs.Seen.{Seen, fresh, members}
 use Rattle.rls_seen.specs.Stands.{StandsFor}
 use Rattle.rls_file.specs.declared.journal.Note.{Note}
+
+-- what a replica consists of to which this has happened, and that has dropped nothing
+abbrev pub seen_after : History → Seen
+seen_after (Fresh group me members) = fresh group me members
+seen_after (Then H (Accepted o)) = accepted (seen_after H) o
+seen_after (Then H (Acknowledged a v)) = acknowledged (seen_after H) a v
 
 -- what a journal consists of: a replica, and each counted acknowledgement with how many operations were accepted before it
 pub record JournalSeen : Type 0 where
@@ -61,3 +67,7 @@ told j = record {
   history = then_all (Fresh j.seen.group j.seen.acks.me (members j.seen)) (entries_in j);
   waiting = j.seen.waiting;
 }
+
+-- the replica is the one to which what the journal tells has happened, with what waits
+abbrev pub IsReplayed : JournalSeen → Type 0
+IsReplayed j = j.seen ≡ holding (seen_after (told j).history) j.seen.waiting

@@ -10,12 +10,13 @@ use Rattle.rls_model.specs.Receiving.{State}
 use Rattle.rls_parts.specs.Rules.{may_wait}
 use Rattle.rls_file.specs.Files.{Content}
 use Rattle.rls_file.specs.ReadingFiles.{content_at, steps_at, entry_at}
-use Rattle.rls_file.specs.Journals.{JournalSeen, Tells, told}
+use Rattle.rls_file.specs.Journals.{JournalSeen, Tells, seen_after, told}
 
 -- the journal tells a history beside which nothing waits
 pub record TellsAlone (j : JournalSeen) : Type 0 where
   pub tells : Tells j (told j)
   pub alone : j.seen.waiting ≡ []
+  pub replayed : j.seen ≡ seen_after (told j).history
 
 -- a member and its vector
 abbrev pub acknowledgement_at : ℕ → List ℕ → Read Entry

@@ -4,7 +4,7 @@ ghost use Rattle.std.specs.Prelude.{◌≡◌, ◌≢◌, ◌<◌, ◌≤◌, �
 ghost use Rattle.rls_model.specs.Receiving.{State};
 ghost use Rattle.rls_file.specs.Files.{Journal as Events, journal_bytes};
 ghost use Rattle.rls_file.specs.FileSizes.{bytes_in, journal_size};
-ghost use Rattle.rls_file.specs.Journals.{Tells, told};
+ghost use Rattle.rls_file.specs.Journals.{IsReplayed, Tells, told};
 ghost use Rattle.rls_file.specs.ReadingFiles.{begins_snapshot, file_of};
 ghost use Rattle.rls_file.specs.Decoded.{DecodesFile, left_of, damage_of};
 
@@ -62,6 +62,7 @@ fn damage(bytes: &[u8], error: ReadError) -> FileError
 
 fn read_file(alloc: Global, bytes: &[u8]) -> Result<Journal, FileError>
     ensures decoded { DecodesFile result bytes.now }
+    ensures replayed { IfOk result (λ j. IsReplayed j) }
 {
     let (form, rest) = match form(bytes) {
         Ok(found) => found,
@@ -89,6 +90,7 @@ fn read_file(alloc: Global, bytes: &[u8]) -> Result<Journal, FileError>
 /// place of the first fault exactly where they are no file. `OutOfMemory` for running out of memory alone.
 pub fn decode_file(alloc: Global, bytes: &[u8]) -> Result<Journal, FileError>
     ensures ok { IfOk result (λ j. (file_of bytes.now ≡ Ok (Events (told j))) × Tells j (told j) × (begins_snapshot bytes.now ≡ false)) }
+    ensures replayed { IfOk result (λ j. IsReplayed j) }
     ensures damaged { (at : ℕ) → result ≡ Err (FileError.Damaged at) → (file_of bytes.now ≡ Err at) × (begins_snapshot bytes.now ≡ false) }
     ensures not_built { result ≡ Err FileError.NotBuilt → begins_snapshot bytes.now ≡ true }
 

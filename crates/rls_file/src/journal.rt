@@ -1,6 +1,6 @@
 //! A journal: a replica and the acknowledgements that it counted.
 
-ghost use Rattle.std.specs.Prelude.{◌≡◌, ◌<◌, ◌≤◌, ◌↔◌, ◌+◌, [], ℕ, length, vec_len, vec_capacity, None, Some, IfOk, IfErr, OnOk, OnErr, IsErrOf};
+ghost use Rattle.std.specs.Prelude.{◌≡◌, ◌<◌, ◌≤◌, ◌↔◌, ◌+◌, [], ℕ, length, vec_len, vec_capacity, true, false, None, Some, IfOk, IfErr, OnOk, OnErr, IsErrOf};
 ghost use Rattle.rls_ops.specs.Rows.{counts};
 ghost use Rattle.rls_model.specs.Answers.{answer_of};
 ghost use Rattle.rls_model.specs.History.{Fresh};
@@ -12,6 +12,7 @@ ghost use Rattle.rls_model.specs.Taking as model;
 ghost use Rattle.rls_model.specs.WellFormed.{IsVector, AreOps};
 ghost use Rattle.rls_seen.specs.Edits.{edit_fault_over, IsFault};
 ghost use Rattle.rls_seen.specs.Messages.{started, take_ops, taken_of};
+ghost use Rattle.rls_seen.specs.Over.{acknowledged, answer_over, received, replayed};
 ghost use Rattle.rls_seen.specs.Seen.{members, fresh, own_count, text_over};
 ghost use Rattle.rls_replica.specs.Editing.{edited_text};
 ghost use Rattle.rls_replica.specs.Faults.{IsNoCount, IsNoMember, IsForeign};
@@ -135,6 +136,8 @@ impl Journal {
 
     /// Looks at an operation that arrives, and accepts it, lets it wait or refuses it.
     pub(crate) fn receive(&mut self, op: Op) -> Result<Receipt, AllocError>
+        ensures answer { IfOk result (λ r. answer_of r ≡ answer_over false self.old.seen op) }
+        ensures after { OnOk result (self.new.seen ≡ received self.old.seen op) }
         ensures tells { IfOk result (λ r. (t : State) → Tells self.old t → (answer_of r ≡ receive t op) × Tells self.new (receive_after t op)) }
     {
         let receipt = self.replica.receive(op)?;
@@ -143,6 +146,8 @@ impl Journal {
 
     /// Does the same, but takes the replica's own operations too.
     pub(crate) fn replay(&mut self, op: Op) -> Result<Receipt, AllocError>
+        ensures answer { IfOk result (λ r. answer_of r ≡ answer_over true self.old.seen op) }
+        ensures after { OnOk result (self.new.seen ≡ replayed self.old.seen op) }
         ensures tells { IfOk result (λ r. (t : State) → Tells self.old t → (answer_of r ≡ replay t op) × Tells self.new (replay_after t op)) }
     {
         let receipt = self.replica.replay(op)?;
@@ -153,6 +158,7 @@ impl Journal {
     pub(crate) fn acknowledge(&mut self, from: u32, vector: Vector) -> Result<bool, AllocError>
         requires member { from < members self.old.seen }
         requires counts { length vector ≡ members self.old.seen }
+        ensures after { OnOk result (self.new.seen ≡ acknowledged self.old.seen from vector) }
         ensures tells { IfOk result (λ counted. (t : State) → Tells self.old t → (counted ≡ is_counted t.history from vector) × Tells self.new (acknowledge t from vector)) }
     {
         self.notes.reserve(1)?;

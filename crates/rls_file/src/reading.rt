@@ -9,7 +9,7 @@ ghost use Rattle.rls_parts.specs.Rules.{waits_behind};
 ghost use Rattle.rls_file.specs.Files.{Journal as Events};
 ghost use Rattle.rls_file.specs.ReadingFiles.{steps_at, applies, entry_at, entry_of_kind};
 ghost use Rattle.rls_file.specs.ReadingJournals.{TellsAlone, acknowledgement_at, waits, grown, next_at, last_of, waiting_at, more_waiting_at, filled_at, behind_form_at};
-ghost use Rattle.rls_file.specs.Journals.{Tells, told};
+ghost use Rattle.rls_file.specs.Journals.{IsReplayed, Tells, told};
 
 use crate::journal::Journal;
 use rls_causal::Held;
@@ -130,7 +130,9 @@ fn stands_behind(held: &Held, op: &Op) -> bool
 // An operation that waits behind the last one.
 fn hold<'a>(alloc: Global, journal: &mut Journal, bytes: &'a [u8]) -> Result<&'a [u8], ReadError>
     requires tells { Tells journal.old (told journal.old) }
+    requires replayed { IsReplayed journal.old }
     ensures tells { OnOk result (Tells journal.new (told journal.new)) }
+    ensures replayed { OnOk result (IsReplayed journal.new) }
     ensures history { OnOk result ((told journal.new).history ≡ (told journal.old).history) }
     ensures read { Gives (λ rest. (journal.new.seen.waiting, rest.now)) result (more_waiting_at (told journal.old) bytes.now) }
 {
@@ -154,6 +156,7 @@ fn hold_all<'a>(
 ) -> Result<&'a [u8], ReadError>
     requires alone { TellsAlone journal.old }
     ensures tells { OnOk result (Tells journal.new (told journal.new)) }
+    ensures replayed { OnOk result (IsReplayed journal.new) }
     ensures history { OnOk result ((told journal.new).history ≡ (told journal.old).history) }
     ensures read { Gives (λ rest. (journal.new.seen.waiting, rest.now)) result (chain_at (waiting_at (told journal.old).history) None count bytes.now) }
 {
@@ -169,6 +172,7 @@ fn hold_all<'a>(
 fn fill<'a>(alloc: Global, journal: &mut Journal, bytes: &'a [u8]) -> Result<&'a [u8], ReadError>
     requires alone { TellsAlone journal.old }
     ensures tells { OnOk result (Tells journal.new (told journal.new)) }
+    ensures replayed { OnOk result (IsReplayed journal.new) }
     ensures read { Gives (λ rest. (told journal.new, rest.now)) result (filled_at (told journal.old).history bytes.now) }
 {
     let (count, rest) = u32_at(bytes)?;
@@ -182,6 +186,7 @@ fn fill<'a>(alloc: Global, journal: &mut Journal, bytes: &'a [u8]) -> Result<&'a
 #[tactic(auto, unfolding(crate::specs::ReadingJournals::behind_form_at))]
 pub(crate) fn journal(alloc: Global, bytes: &[u8]) -> Result<(Journal, &[u8]), ReadError>
     ensures tells { IfOk result (λ x. Tells x.0 (told x.0)) }
+    ensures replayed { IfOk result (λ x. IsReplayed x.0) }
     ensures read { Gives (λ x. (Events (told x.0), x.1.now)) result (behind_form_at bytes.now) }
 {
     let (group, rest) = u64_at(bytes)?;

@@ -7,7 +7,9 @@ use Rattle.rls_ident.specs.declared.epoch_name.EpochName.TheVariants.{Origin, Of
 use Rattle.rls_ops.specs.declared.op.Shape.TheVariants as shapes
 use Rattle.rls_model.specs.Answers.{Reason, Misshapen, Own, Left, Backward, WrongEpoch, WrongStem, UnknownTarget}
 use Rattle.rls_report.specs.declared.failures.Failure.{Failure}
-use Rattle.rls_report.specs.declared.failures.Failure.TheVariants.{Edit, OtherGroup, Damaged, NotMember, OutOfMemory}
+use Rattle.rls_report.specs.declared.failures.CommandError.TheVariants.{Edit, OtherGroup, Damaged, NotMember}
+use Rattle.rls_report.specs.declared.failures.Failure.TheVariants.{Command, Fault}
+use Rattle.rls_report.specs.declared.failures.Fault.TheVariants.{Memory}
 use Rattle.rls_report.specs.declared.failures.LineFault.TheVariants as faults
 use Rattle.rls_report.specs.Failures.{failure_line}
 use Rattle.rls_report.specs.Listing.{ids_text}
@@ -20,7 +22,7 @@ refusals : concat (map (λ (reason : Reason). refused_line 1 2 reason)
 unfolding digits
 refusals = refl
 
-failures : concat (map (λ (f : Failure). failure_line f) (Edit 2 (faults.Range 9 6) ∷ Edit 1 faults.EmptyEdit ∷ Edit 3 (faults.NotBoundary 1) ∷ OtherGroup 8 2 ∷ Damaged 30 ∷ NotMember 5 ∷ OutOfMemory ∷ []))
+failures : concat (map (λ (f : Failure). failure_line f) (Command (Edit 2 (faults.Range 9 6)) ∷ Command (Edit 1 faults.EmptyEdit) ∷ Command (Edit 3 (faults.NotBoundary 1)) ∷ Command (OtherGroup 8 2) ∷ Command (Damaged 30) ∷ Command (NotMember 5) ∷ Fault Memory ∷ []))
     ≡ codes "line 2: range 9 6\nline 1: empty edit\nline 3: not a boundary 1\nother group 8 2\ndamaged at 30\nnot a member 5\nout of memory\n"
 unfolding digits
 failures = refl

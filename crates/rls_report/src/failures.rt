@@ -1,8 +1,9 @@
 //! Endings of the program but success.
 
 ghost use Rattle.std.specs.Prelude.{◌≡◌, IfOk, string_bytes};
-ghost use Rattle.rls_report.specs.declared.failures.Failure.TheVariants.{Usage, Edit, OutOfMemory};
-ghost use Rattle.rls_report.specs.Failures.{status_of, fault_text, failure_line};
+ghost use Rattle.rls_report.specs.declared.failures.CommandError.TheVariants.{Edit};
+ghost use Rattle.rls_report.specs.declared.failures.Failure.TheVariants.{NoCommand};
+ghost use Rattle.rls_report.specs.Failures.{error_status, fault_status, status_of, fault_text, error_line, fault_line, failure_line};
 
 use std::alloc::{AllocError, Global};
 
@@ -25,11 +26,9 @@ pub enum LineFault {
     NotBoundary { at: u64 },
 }
 
-/// Why the program ends without success, but for refused operations.
+/// Why a command does not come to its end: something is wrong with its words, the kept file or the input. Each is told by these alone.
 #[derive(Clone, Copy, Debug, PartialEq, Eq)]
-pub enum Failure {
-    /// The words are no command.
-    Usage,
+pub enum CommandError {
     NoReplica,
     ReplicaExists,
     /// The kept file isn't in the grammar, from this place on.
@@ -45,11 +44,70 @@ pub enum Failure {
     OtherGroup { group: u64, members: u32 },
     /// A line of the script, counted from 1, is refused.
     Edit { line: u64, fault: LineFault },
-    KeeperFault,
-    SourceFault,
-    SinkFault,
-    OutOfMemory,
+    /// The input, the kept file, or the file that is to be stored.
     TooLarge,
+}
+
+/// A device has failed, or there was no memory.
+#[derive(Clone, Copy, Debug, PartialEq, Eq)]
+pub enum Fault {
+    Keeper,
+    Source,
+    Sink,
+    Memory,
+}
+
+/// Why the program ends without success, but for refused operations.
+#[derive(Clone, Copy, Debug, PartialEq, Eq)]
+pub enum Failure {
+    /// The words are no command.
+    NoCommand,
+    Command { error: CommandError },
+    Fault { fault: Fault },
+}
+
+impl CommandError {
+    fn status(&self) -> u8
+        ensures status { result ≡ error_status self.now }
+    {
+        match self {
+            CommandError::NoReplica | CommandError::ReplicaExists => 2,
+            CommandError::Damaged { .. } => 3,
+            CommandError::BadMembers { .. }
+            | CommandError::BadMe { .. }
+            | CommandError::NotMember { .. } => 4,
+            CommandError::BadLine { .. }
+            | CommandError::Malformed { .. }
+            | CommandError::OtherGroup { .. } => 4,
+            CommandError::Edit { .. } => 6,
+            CommandError::TooLarge => 11,
+        }
+    }
+}
+
+impl Fault {
+    fn status(&self) -> u8
+        ensures status { result ≡ fault_status self.now }
+    {
+        match self {
+            Fault::Keeper => 7,
+            Fault::Source => 8,
+            Fault::Sink => 9,
+            Fault::Memory => 10,
+        }
+    }
+
+    /// The line that tells it, with its line feed. It takes no memory.
+    pub fn line(&self) -> &'static str
+        ensures line { result.now ≡ fault_line self.now }
+    {
+        match self {
+            Fault::Keeper => "keeper fault\n",
+            Fault::Source => "source fault\n",
+            Fault::Sink => "sink fault\n",
+            Fault::Memory => "out of memory\n",
+        }
+    }
 }
 
 impl Failure {
@@ -58,17 +116,9 @@ impl Failure {
         ensures status { result ≡ status_of self.now }
     {
         match self {
-            Failure::Usage => 1,
-            Failure::NoReplica | Failure::ReplicaExists => 2,
-            Failure::Damaged { .. } => 3,
-            Failure::BadMembers { .. } | Failure::BadMe { .. } | Failure::NotMember { .. } => 4,
-            Failure::BadLine { .. } | Failure::Malformed { .. } | Failure::OtherGroup { .. } => 4,
-            Failure::Edit { .. } => 6,
-            Failure::KeeperFault => 7,
-            Failure::SourceFault => 8,
-            Failure::SinkFault => 9,
-            Failure::OutOfMemory => 10,
-            Failure::TooLarge => 11,
+            Failure::NoCommand => 1,
+            Failure::Command { error } => error.status(),
+            Failure::Fault { fault } => fault.status(),
         }
     }
 }
@@ -89,14 +139,14 @@ fn fault_text(alloc: Global, fault: LineFault) -> Result<String, AllocError>
 }
 
 fn edit_line(alloc: Global, line: u64, fault: LineFault) -> Result<String, AllocError>
-    ensures line { IfOk result (λ text. string_bytes text ≡ failure_line (Edit line fault)) }
+    ensures line { IfOk result (λ text. string_bytes text ≡ error_line (Edit line fault)) }
 {
     let fault = fault_text(alloc, fault)?;
     format!(in alloc; "line {line}: {fault}\n")
 }
 
 fn usage_line(alloc: Global) -> Result<String, AllocError>
-    ensures line { IfOk result (λ text. string_bytes text ≡ failure_line Usage) }
+    ensures line { IfOk result (λ text. string_bytes text ≡ failure_line NoCommand) }
 {
     String::from_str(
         alloc,
@@ -104,35 +154,33 @@ fn usage_line(alloc: Global) -> Result<String, AllocError>
     )
 }
 
-/// The line for running out of memory, with its line feed. It takes no memory.
-pub fn out_of_memory_line() -> &'static str
-    ensures line { result.now ≡ failure_line OutOfMemory }
+fn error_line(alloc: Global, error: CommandError) -> Result<String, AllocError>
+    ensures line { IfOk result (λ text. string_bytes text ≡ error_line error) }
 {
-    "out of memory\n"
+    match error {
+        CommandError::NoReplica => String::from_str(alloc, "no replica\n"),
+        CommandError::ReplicaExists => String::from_str(alloc, "replica exists\n"),
+        CommandError::Damaged { at } => format!(in alloc; "damaged at {at}\n"),
+        CommandError::BadMembers { members } => format!(in alloc; "bad members {members}\n"),
+        CommandError::BadMe { me } => format!(in alloc; "bad me {me}\n"),
+        CommandError::NotMember { to } => format!(in alloc; "not a member {to}\n"),
+        CommandError::BadLine { line } => format!(in alloc; "bad line {line}\n"),
+        CommandError::Malformed { at } => format!(in alloc; "malformed at {at}\n"),
+        CommandError::OtherGroup { group, members } => {
+            format!(in alloc; "other group {group} {members}\n")
+        }
+        CommandError::Edit { line, fault } => edit_line(alloc, line, fault),
+        CommandError::TooLarge => String::from_str(alloc, "too large\n"),
+    }
 }
 
-/// The line for a failure, with its line feed.
+/// The line that tells a failure, with its line feed. For a fault `Fault::line` gives it without memory.
 pub fn failure_line(alloc: Global, failure: Failure) -> Result<String, AllocError>
     ensures line { IfOk result (λ text. string_bytes text ≡ failure_line failure) }
 {
     match failure {
-        Failure::Usage => usage_line(alloc),
-        Failure::NoReplica => String::from_str(alloc, "no replica\n"),
-        Failure::ReplicaExists => String::from_str(alloc, "replica exists\n"),
-        Failure::Damaged { at } => format!(in alloc; "damaged at {at}\n"),
-        Failure::BadMembers { members } => format!(in alloc; "bad members {members}\n"),
-        Failure::BadMe { me } => format!(in alloc; "bad me {me}\n"),
-        Failure::NotMember { to } => format!(in alloc; "not a member {to}\n"),
-        Failure::BadLine { line } => format!(in alloc; "bad line {line}\n"),
-        Failure::Malformed { at } => format!(in alloc; "malformed at {at}\n"),
-        Failure::OtherGroup { group, members } => {
-            format!(in alloc; "other group {group} {members}\n")
-        }
-        Failure::Edit { line, fault } => edit_line(alloc, line, fault),
-        Failure::KeeperFault => String::from_str(alloc, "keeper fault\n"),
-        Failure::SourceFault => String::from_str(alloc, "source fault\n"),
-        Failure::SinkFault => String::from_str(alloc, "sink fault\n"),
-        Failure::OutOfMemory => String::from_str(alloc, "out of memory\n"),
-        Failure::TooLarge => String::from_str(alloc, "too large\n"),
+        Failure::NoCommand => usage_line(alloc),
+        Failure::Command { error } => error_line(alloc, error),
+        Failure::Fault { fault } => String::from_str(alloc, fault.line()),
     }
 }

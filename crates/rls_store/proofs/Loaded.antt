@@ -13,13 +13,16 @@ use Rattle.rls_model.specs.declared.parts.Parts.{Parts}
 use Rattle.rls_model.specs.Legal.{IsLegal}
 use Rattle.rls_model.specs.Parts.{parts}
 use Rattle.rls_model.specs.Receiving.{State}
+use Rattle.rls_seen.specs.Kept.{dropped}
 use Rattle.rls_seen.specs.Seen.{Seen}
 use Rattle.rls_seen.specs.Stands.{StandsFor}
+use Rattle.rls_seen.proofs.Keeping.{dropped_stands}
 use Rattle.rls_parts.specs.Given.{AreGiven}
 use Rattle.rls_parts.specs.Restored.{seen_of}
 use Rattle.rls_parts.specs.Rules.{broken}
 use Rattle.rls_fields.specs.Fields.{place_of_broken, snapshot_bytes}
 use Rattle.rls_file.specs.Files.{Content, Journal, Snapshot}
+use Rattle.rls_file.specs.Journals.{IsReplayed, JournalSeen, Tells, told}
 use Rattle.rls_file.specs.ReadingFiles.{content_at, form_at, file_at, tested, unless_broken, file_of}
 use Rattle.rls_file.specs.SpelledFiles.{IsSpelledSnapshot}
 use Rattle.rls_file.proofs.FileFormats.{file, whole_takes}
@@ -27,7 +30,7 @@ use Rattle.rls_file.proofs.GivenParts.{parts_are_given}
 use Rattle.rls_file.proofs.WholeFiles.{behind_form, file_is, fault_of}
 use Rattle.rls_store.specs.declared.loading.FileError.{FileError}
 use Rattle.rls_store.specs.declared.loading.FileError.TheVariants.{Damaged, OutOfMemory}
-use Rattle.rls_store.specs.Loading.{snapshot_behind, damage_of, ReadsParts, IsPlaceOf, IsLoaded, Loads, FileStandsFor}
+use Rattle.rls_store.specs.Loading.{snapshot_behind, damage_of, ReadsParts, IsPlaceOf, IsLoaded, StandsFrom, Loads, FileStandsFor, seen_in}
 use Rattle.rls_store.proofs.Bounded.{whole_length, place_within}
 
 -- ---- behind the form
@@ -107,10 +110,18 @@ pub place_fault : (form rule index : ℕ) (e : FileError) (bytes : List ℕ) →
 place_fault form rule index (Damaged at) bytes h = λ p k. absurd (not_both (whole bytes (file_at bytes)) (Snapshot form p) at k h)
 place_fault form rule index OutOfMemory bytes h = tt
 
+-- ---- journals
+
+-- a journal's replica, where what is stable was dropped
+pub journal_loaded : (j : JournalSeen) (r : Seen) (bytes : List ℕ) → file_of bytes ≡ Ok (Journal (told j)) → Tells j (told j) → IsReplayed j → r ≡ dropped j.seen → Loads (Ok r) bytes
+unfolding told
+journal_loaded j r bytes e h same is =
+    (Journal (told j), e, (is ∙ ap dropped same, subst (λ (s : Seen). StandsFor s (told j)) (sym is) (dropped_stands j.seen (told j) h.stands)))
+
 -- ---- clauses
 
-pub loads_ok : (r : Result Seen FileError) (bytes : List ℕ) → Loads r bytes → IfOk r (λ s. (c : Content) × (file_of bytes ≡ Ok c) × IsLoaded s c)
-loads_ok (Ok s) bytes h = h
+pub loads_ok : (r : Result Seen FileError) (bytes : List ℕ) → Loads r bytes → IfOk r (λ s. (c : Content) × (file_of bytes ≡ Ok c) × (s ≡ seen_in c))
+loads_ok (Ok s) bytes h = (h.0, h.1, h.2.0)
 loads_ok (Err e) bytes h = tt
 
 pub loads_damaged : (r : Result Seen FileError) (bytes : List ℕ) → Loads r bytes → (at : ℕ) → r ≡ Err (Damaged at) → file_of bytes ≡ Err at
@@ -122,14 +133,14 @@ content_ok c = Ok c
 same_content : (c d : Content) → content_ok c ≡ content_ok d → c ≡ d
 same_content c d e = cc
 
-pub loads_found : (r : Result Seen FileError) (bytes : List ℕ) → Loads r bytes → (c : Content) → file_of bytes ≡ Ok c → IsOkAnd r (λ s. IsLoaded s c) ⊎ (r ≡ Err OutOfMemory)
-loads_found (Ok s) bytes h c e = inl (subst (IsLoaded s) (same_content h.0 c (sym h.1 ∙ e)) h.2)
+pub loads_found : (r : Result Seen FileError) (bytes : List ℕ) → Loads r bytes → (c : Content) → file_of bytes ≡ Ok c → IsOkAnd r (λ s. s ≡ seen_in c) ⊎ (r ≡ Err OutOfMemory)
+loads_found (Ok s) bytes h c e = inl (h.2.0 ∙ ap seen_in (same_content h.0 c (sym h.1 ∙ e)))
 loads_found (Err (Damaged at)) bytes h c e = absurd (not_both (file_of bytes) c at e h)
 loads_found (Err OutOfMemory) bytes h c e = inr refl
 
 loaded_stands : (s : Seen) (c : Content) (bytes : List ℕ) (t : State) → file_of bytes ≡ Ok c → IsLoaded s c → FileStandsFor bytes t → StandsFor s t
-loaded_stands s c bytes t e l (inl f) = subst (IsLoaded s) (same_content c (Journal t) (sym e ∙ f)) l
-loaded_stands s c bytes t e l (inr f) = (subst (IsLoaded s) (same_content c (Snapshot f.1.0 (parts t)) (sym e ∙ f.1.1)) l).1 t f.0 refl
+loaded_stands s c bytes t e l (inl f) = subst (StandsFrom s) (same_content c (Journal t) (sym e ∙ f)) l.1
+loaded_stands s c bytes t e l (inr f) = subst (StandsFrom s) (same_content c (Snapshot f.1.0 (parts t)) (sym e ∙ f.1.1)) l.1 t f.0 refl
 
 pub loads_stands : (r : Result Seen FileError) (bytes : List ℕ) → Loads r bytes → IfOk r (λ s. (t : State) → FileStandsFor bytes t → StandsFor s t)
 loads_stands (Ok s) bytes h = λ t f. loaded_stands s h.0 bytes t h.1 h.2 f

@@ -2,10 +2,11 @@
 use Rattle.std.proofs.Common.{◌≡◌, ℕ, zero, suc, ◌+◌, ◌<◌, ◌≤◌, ◌^◌, false, inl, inr, List, [], ◌∷◌, ◌++◌, length, refl, ◌∙◌, append_assoc, arith}
 use Rattle.std.specs.List.{flat_map, concat}
 use Rattle.std.proofs.lemmas.List.{append-nil, length-append}
-use Rattle.std.specs.Prelude.{◌==◌}
+use Rattle.std.specs.Prelude.{All, ◌==◌}
 use Rattle.std.proofs.lemmas.Bool.{cases_lt}
 use Rattle.rls_ident.proofs.Members.{bool_cases, eq_not}
 use Rattle.rls_ops.specs.Spelling.{four_bytes, counted, vector_bytes, op_bytes}
+use Rattle.rls_codec.specs.Spelled.{IsSpelledIfFit}
 use Rattle.rls_model.specs.declared.parts.Stem.{Stem}
 use Rattle.rls_model.specs.Parts.{epoch_parts, text_runs}
 use Rattle.rls_seen.specs.Seen.{Seen, members, vector, unstable_over}
@@ -13,7 +14,9 @@ use Rattle.rls_seen.specs.Sane.{IsSane, AreStems}
 use Rattle.rls_seen.specs.Kept.{parts_over, retained_over, other_rows, left_below}
 use Rattle.rls_fields.specs.Fields.{head_bytes, stem_bytes, own_of, others_of, stems_bytes, epoch_bytes, text_run_bytes, snapshot_bytes, file_bytes}
 use Rattle.rls_fields.proofs.PlaceSums.{file_length}
+use Rattle.rls_fields.specs.Written.{FitsRow, FitsFormer, FitsChars}
 use Rattle.rls_store.specs.Sizes.{stored_size}
+use Rattle.rls_store.specs.Stored.{FitFields}
 
 pub stored_length : (s : Seen) → length (file_bytes (parts_over s)) ≡ stored_size s
 unfolding parts_over
@@ -33,17 +36,22 @@ pub nine_puts : (o p1 p2 p3 p4 p5 p6 p7 p8 p9 a1 a2 a3 a4 a5 a6 a7 a8 a9 : List 
     → p9 ≡ o ++ concat (a1 ∷ a2 ∷ a3 ∷ a4 ∷ a5 ∷ a6 ∷ a7 ∷ a8 ∷ a9 ∷ [])
 nine_puts o p1 p2 p3 p4 p5 p6 p7 p8 p9 a1 a2 a3 a4 a5 a6 a7 a8 a9 h1 h2 h3 h4 h5 h6 h7 h8 h9 = rw (h9, h8, h7, h6, h5, h4, h3, h2, h1) (simp (append_assoc, append-nil))
 
+-- what is known of the lists that were put
+pub fields_fit : (s : Seen) → All FitsRow (other_rows s.acks (members s)) → All FitsFormer (epoch_parts s.epochs.nodes (retained_over s)) → All FitsChars (text_runs s.text) → All IsSpelledIfFit (unstable_over s) → All IsSpelledIfFit s.waiting → FitFields (parts_over s)
+unfolding parts_over
+fields_fit s r e t l h = record { rows = r; epochs = e; text = t; log = l; held = h }
+
 -- ---- each stem of a replica is written
 
-abbrev AreFrom : ℕ → ℕ → List Stem → Type 0
+abbrev pub AreFrom : ℕ → ℕ → List Stem → Type 0
 AreFrom a n [] = Unit {0}
 AreFrom a n (s ∷ ss) = (a ≤ s.author) × (s.author < a + n) × AreFrom a n ss
 
-from_stems : (v : List ℕ) (ss : List Stem) → AreStems v ss → AreFrom 0 (length v) ss
+pub from_stems : (v : List ℕ) (ss : List Stem) → AreStems v ss → AreFrom 0 (length v) ss
 from_stems v [] h = tt
 from_stems v (s ∷ ss) h = (omega arith, omega (arith, h.0.author), from_stems v ss h.2)
 
-others_from : (a n : ℕ) (ss : List Stem) → AreFrom a (suc n) ss → AreFrom (suc a) n (others_of a ss)
+pub others_from : (a n : ℕ) (ss : List Stem) → AreFrom a (suc n) ss → AreFrom (suc a) n (others_of a ss)
 others_from a n [] h = tt
 others_from a n (s ∷ ss) h =
     let rest = others_from a n ss h.2 in
@@ -57,7 +65,7 @@ others_from a n (s ∷ ss) h =
       | inr le ↦ absurd (eq_not s.author a e (omega (arith, le, h.0)))
     ]
 
-both_counts : (a : ℕ) (ss : List Stem) → length ss ≡ length (own_of a ss) + length (others_of a ss)
+pub both_counts : (a : ℕ) (ss : List Stem) → length ss ≡ length (own_of a ss) + length (others_of a ss)
 both_counts a [] = refl
 both_counts a (s ∷ ss) =
     let rest = both_counts a ss in

@@ -8,12 +8,15 @@ use Rattle.rls_model.specs.declared.parts.Parts.{Parts}
 use Rattle.rls_model.specs.Legal.{IsLegal}
 use Rattle.rls_model.specs.Parts.{parts}
 use Rattle.rls_model.specs.Receiving.{State}
+use Rattle.rls_seen.specs.Kept.{dropped}
+use Rattle.rls_seen.specs.Over.{holding}
 use Rattle.rls_seen.specs.Seen.{Seen}
 use Rattle.rls_seen.specs.Stands.{StandsFor}
 use Rattle.rls_parts.specs.Restored.{seen_of}
 use Rattle.rls_fields.specs.Fields.{place_of_broken}
 use Rattle.rls_fields.specs.ReadingFields.{snapshot_at}
 use Rattle.rls_file.specs.Files.{Content, Journal, Snapshot}
+use Rattle.rls_file.specs.Journals.{seen_after}
 use Rattle.rls_file.specs.ReadingFiles.{file_at, file_of}
 use Rattle.rls_store.specs.declared.loading.FileError.{FileError}
 use Rattle.rls_store.specs.declared.loading.FileError.TheVariants.{Damaged, OutOfMemory}
@@ -44,10 +47,19 @@ IsPlaceOf form rule index (Damaged at) bytes =
     (p : Parts) → whole bytes (file_at bytes) ≡ Ok (Snapshot form p) → at ≡ min (place_of_broken form p (record { rule = rule; index = index })) (2 ^ 64 - 1)
 IsPlaceOf form rule index OutOfMemory bytes = Unit {0}
 
--- the replica stands for the journal's state; or it has exactly the snapshot's parts, and stands for each legal state that has them
+-- the replica that a file says: the one to which a journal's entries have happened, with what waits, after it has dropped what is stable; or the one
+-- with the parts of a snapshot
+abbrev pub seen_in : Content → Seen
+seen_in (Journal t) = dropped (holding (seen_after t.history) t.waiting)
+seen_in (Snapshot form p) = seen_of p
+
+-- it stands for the journal's state, or for each legal state that has the parts
+abbrev pub StandsFrom : Seen → Content → Type 0
+StandsFrom r (Journal t) = StandsFor r t
+StandsFrom r (Snapshot form p) = (t : State) → IsLegal t.history → parts t ≡ p → StandsFor r t
+
 abbrev pub IsLoaded : Seen → Content → Type 0
-IsLoaded r (Journal t) = StandsFor r t
-IsLoaded r (Snapshot form p) = (r ≡ seen_of p) × ((t : State) → IsLegal t.history → parts t ≡ p → StandsFor r t)
+IsLoaded r c = (r ≡ seen_in c) × StandsFrom r c
 
 -- what the file says was loaded, or its fault has its place, unless memory ran out
 abbrev pub Loads : Result Seen FileError → List ℕ → Type 0

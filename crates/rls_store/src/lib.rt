@@ -1,6 +1,7 @@
 //! A replica stored as a file, and loaded again.
 #![tactic(auto)]
 
+pub mod laws;
 mod lengths;
 mod loading;
 mod puts;

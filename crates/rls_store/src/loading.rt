@@ -6,7 +6,7 @@ ghost use Rattle.rls_model.specs.Receiving.{State};
 ghost use Rattle.rls_seen.specs.Stands.{StandsFor};
 ghost use Rattle.rls_file.specs.Files.{Content, Snapshot};
 ghost use Rattle.rls_file.specs.ReadingFiles.{begins_snapshot, file_of, form_at};
-ghost use Rattle.rls_store.specs.Loading.{snapshot_behind, damage_of, ReadsParts, IsPlaceOf, IsLoaded, Loads, FileStandsFor};
+ghost use Rattle.rls_store.specs.Loading.{snapshot_behind, damage_of, seen_in, ReadsParts, IsPlaceOf, Loads, FileStandsFor};
 
 use rls_codec::{ReadError, member, member_count, u64_at};
 use rls_fields::{place_of_broken, snapshot};
@@ -132,11 +132,11 @@ fn load(alloc: Global, bytes: &[u8]) -> Result<Replica, FileError>
 /// `Damaged` with the place of the first fault exactly where the bytes are no file, and `OutOfMemory` for want of memory alone. If a
 /// rule of the parts is broken, the bytes are read once more to find its place.
 pub fn decode_file(alloc: Global, bytes: &[u8]) -> Result<Replica, FileError>
-    ensures ok { IfOk result (λ r. (c : Content) × (file_of bytes.now ≡ Ok c) × IsLoaded r c) }
+    ensures ok { IfOk result (λ r. (c : Content) × (file_of bytes.now ≡ Ok c) × (r ≡ seen_in c)) }
     ensures damaged { (at : ℕ) → result ≡ Err (FileError.Damaged at) → file_of bytes.now ≡ Err at }
 
     // It is Ok wherever the bytes are a file, unless memory runs out.
-    ensures found { (c : Content) → file_of bytes.now ≡ Ok c → IsOkAnd result (λ r. IsLoaded r c) ⊎ (result ≡ Err FileError.OutOfMemory) }
+    ensures found { (c : Content) → file_of bytes.now ≡ Ok c → IsOkAnd result (λ r. r ≡ seen_in c) ⊎ (result ≡ Err FileError.OutOfMemory) }
 
     // For every history and waiting operations of which the bytes are a file.
     ensures stands { IfOk result (λ r. (t : State) → FileStandsFor bytes.now t → StandsFor r t) }

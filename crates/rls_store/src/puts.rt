@@ -6,6 +6,7 @@ ghost use Rattle.std.specs.Prelude.{◌≡◌, ◌<◌, ◌++◌, ◌^◌, codes
 ghost use Rattle.rls_seen.specs.Kept.{parts_over, retained_over};
 ghost use Rattle.rls_fields.specs.Fields.{file_bytes, head_bytes};
 ghost use Rattle.rls_store.specs.Sizes.{stored_size};
+ghost use Rattle.rls_store.specs.Stored.{FitFields};
 
 use rls_codec::{put_byte, put_u32, put_u64, put_vector};
 use rls_fields::{
@@ -45,6 +46,7 @@ pub(crate) fn put_file(
     requires names { names.now ≡ retained_over replica.now }
     requires small { stored_size replica.now < 2 ^ 32 }
     ensures ok { OnOk result (out.new.items ≡ out.old.items ++ file_bytes (parts_over replica.now)) }
+    ensures fits { OnOk result (FitFields (parts_over replica.now)) }
 {
     replica.sane();
     let (acks, members) = (replica.acks(), replica.members());

@@ -6,6 +6,9 @@ ghost use Rattle.rls_model.specs.Receiving.{State};
 ghost use Rattle.rls_seen.specs.Kept.{parts_over};
 ghost use Rattle.rls_seen.specs.Stands.{StandsFor};
 ghost use Rattle.rls_fields.specs.Fields.{file_bytes};
+ghost use Rattle.rls_file.specs.Files.{Snapshot, newest_form};
+ghost use Rattle.rls_file.specs.FileLaws.{IsFile};
+ghost use Rattle.rls_store.specs.Stored.{AreWritable};
 
 use crate::lengths::stored_len;
 use crate::puts::put_file;
@@ -44,11 +47,14 @@ impl From<AllocError> for SaveError {
 pub fn encode_file(alloc: Global, replica: &Replica) -> Result<Vec<u8>, SaveError>
     ensures bytes { IfOk result (λ b. b.items ≡ file_bytes (parts_over replica.now)) }
     ensures small { IfOk result (λ b. length b.items ≤ 268435456) }
+    // If its operations are within the limit and what waits may wait, it is read back with exactly these parts.
+    ensures file { IfOk result (λ b. AreWritable replica.now → IsFile b.items (Snapshot newest_form (parts_over replica.now))) }
     ensures too_large { (n : ℕ) → result ≡ Err (SaveError.TooLarge n) → (268435456 < length (file_bytes (parts_over replica.now))) × (n ≡ min (length (file_bytes (parts_over replica.now))) (2 ^ 64 - 1)) }
 
     // For every history and waiting operations that the replica stands for.
     ensures stands { IfOk result (λ b. (t : State) → StandsFor replica.now t → b.items ≡ file_bytes (parts t)) }
 {
+    replica.sane();
     let names = replica.retained()?;
     let bytes = stored_len(replica, &names);
     if bytes > FILE_LIMIT {

@@ -1,49 +1,77 @@
 -- What comes of a command where the kept file stands for a history, from what it calls for.
-use Rattle.std.proofs.Common.{lit≤, ◌≡◌, ◌∙◌, ◌⊎◌, ◌<◌, ◌≤◌, ℕ, Bool, true, false, ltb, List, [], ◌∷◌, length, Option, Some, None, Result, Ok, Err, IsTrue, refl, sym, ap, subst, arith, inl, inr}
-use Rattle.std.specs.Prelude.{encode_utf8_all, ◌==◌, nat_lt}
+use Rattle.std.proofs.Common.{◌≡◌, ◌∙◌, ◌⊎◌, ◌<◌, ◌≤◌, ℕ, Bool, true, false, ltb, List, [], ◌∷◌, length, Option, Some, None, IfSome, Result, Ok, IsTrue, refl, sym, ap, subst, arith, inl, inr}
+use Rattle.std.specs.Prelude.{encode_utf8_all, ◌&&◌, ◌==◌, nat_le, nat_lt}
 use Rattle.std.proofs.lemmas.Bool.{eqb-true}
 use Rattle.std.proofs.lemmas.Bool.Decides.{nat_tests}
-use Rattle.rls_io.specs.Device.{Appends}
+use Rattle.rls_io.specs.Device.{Appends, Stores}
 use Rattle.rls_ident.proofs.Members.{and_right}
 use Rattle.rls_ops.specs.declared.message.Message.{Message}
 use Rattle.rls_ops.specs.Spelling.{message_bytes}
 use Rattle.rls_codec.specs.CodecLaws.{IsMessage}
 use Rattle.rls_codec.specs.Reading.{message_of}
 use Rattle.rls_codec.proofs.MessageFormats.{message_again}
-use Rattle.rls_model.specs.Document.{text}
-use Rattle.rls_model.specs.EditRun.{Done}
-use Rattle.rls_model.specs.History.{Fresh, group_of, members_of}
-use Rattle.rls_model.specs.Taking.{Progress, message_for, take_message}
-use Rattle.rls_report.specs.Listing.{ids_of}
-use Rattle.rls_report.specs.Reports.{new_text, edit_text, take_text}
-use Rattle.rls_script.specs.Scripts.{script_of}
-use Rattle.rls_script.specs.declared.lines.Line.{Line}
-use Rattle.rls_file.proofs.StoredLegal.{read_is_storable}
-use Rattle.rls_file.proofs.StoredRuns.{lines_stored, taken_stored}
-use Rattle.rls_model.specs.declared.edit.Edit as model
+use Rattle.rls_ops.specs.declared.op.Op.{Op}
+use Rattle.rls_codec.specs.Spelled.{Chained, IsSpelled}
+use Rattle.rls_codec.proofs.SpelledSound.{fits_vector, spelled_op}
 use Rattle.rls_model.specs.declared.edit.Edit.TheVariants as edits
+use Rattle.rls_model.specs.declared.parts.Parts.{Parts}
+use Rattle.rls_model.specs.declared.receipt.Taken.{Taken}
+use Rattle.rls_model.specs.WellFormed.{AreOps, IsVector}
 use Rattle.rls_report.specs.declared.failures.LineFault.{LineFault}
 use Rattle.rls_model.specs.Answers.{Reason}
+use Rattle.rls_model.specs.Document.{text}
+use Rattle.rls_model.specs.Machine.{Run, Done}
+use Rattle.rls_model.specs.History.{group_of, members_of}
+use Rattle.rls_model.specs.Legal.{AreNumbers}
+use Rattle.rls_model.specs.Parts.{parts}
 use Rattle.rls_model.specs.Receiving.{State}
-use Rattle.rls_report.specs.declared.failures.Failure.TheVariants.{TooLarge}
-use Rattle.rls_file.specs.Files.{Journal, journal_bytes}
-use Rattle.rls_file.specs.ReadingFiles.{begins_snapshot}
+use Rattle.rls_model.specs.Taking.{Progress, message_for, take_message}
+use Rattle.rls_seen.specs.Kept.{parts_over}
+use Rattle.rls_seen.specs.Messages.{Course, message_over, taken_over}
+use Rattle.rls_seen.specs.Messages as seen
+use Rattle.rls_seen.specs.Sane.{IsSane}
+use Rattle.rls_seen.specs.Seen.{Seen, fresh, members, idents_over}
+use Rattle.rls_seen.specs.Stands.{StandsFor}
+use Rattle.rls_seen.proofs.Alike.{greatest_alike, members_alike}
+use Rattle.rls_seen.proofs.Keeping.{parts_alike, text_alike}
+use Rattle.rls_seen.proofs.Sending.{message_alike}
+use Rattle.rls_seen.proofs.Starting.{fresh_stands}
+use Rattle.rls_seen.proofs.Taking.{Goes, taken_stands}
+use Rattle.rls_report.specs.declared.failures.CommandError.{CommandError}
+use Rattle.rls_report.specs.declared.failures.CommandError.TheVariants.{TooLarge}
+use Rattle.rls_ident.specs.declared.epoch_name.EpochName.{EpochName}
+use Rattle.rls_ident.specs.declared.tuple.Tuple.{Tuple}
+use Rattle.rls_model.specs.Epochs.{greatest}
+use Rattle.rls_runs.specs.Runs.{runs_of}
+use Rattle.rls_seen.proofs.Editing.{idents_alike}
+use Rattle.rls_report.specs.Listing.{ids_of, ids_over, ids_text}
+use Rattle.rls_report.specs.Reports.{new_text, edit_text, take_text}
+use Rattle.rls_report.specs.Stat.{stat_of}
+use Rattle.rls_report.proofs.Numbers.{stat_alike}
+use Rattle.rls_script.specs.Scripts.{script_of}
+use Rattle.rls_script.specs.declared.lines.Line.{Line}
+use Rattle.rls_file.specs.Files.{Content, Journal, Snapshot, newest_form, file_bytes}
 use Rattle.rls_file.specs.FileLaws.{IsFile}
-use Rattle.rls_file.specs.StoredLaws.{IsStorable}
-use Rattle.rls_file.proofs.FileFormats.{file_reads}
-use Rattle.rls_file.proofs.StoredFiles.{storable_is_file, fresh_stored}
 use Rattle.rls_file.specs.SpelledFiles.{IsHead}
-use Rattle.rls_top.specs.declared.stop.Stop.{Stop}
-use Rattle.rls_top.specs.declared.stop.Stop.TheVariants.{Failed}
+use Rattle.rls_file.proofs.FileFormats.{file_reads}
+use Rattle.rls_store.specs.Loading.{seen_in}
+use Rattle.rls_store.specs.Stored.{AreWritable}
 use Rattle.rls_top.specs.declared.words.Command.{Command}
-use Rattle.rls_top.specs.declared.words.Command.TheVariants.{New, Edit, Text, Ids, Send, Take, Leave}
+use Rattle.rls_top.specs.declared.words.Command.TheVariants.{New, OnFile}
+use Rattle.rls_top.specs.declared.words.FileCommand.{FileCommand}
+use Rattle.rls_top.specs.declared.words.FileCommand.TheVariants.{Edit, Text, Ids, Stat, Send, Take, Leave}
 use Rattle.rls_top.specs.Words.{command_of}
-use Rattle.rls_top.specs.Due.{Due, Makes, Stops, file_limit, input_limit, loaded, read, saved, stores, state_in, due_at, due_on, due_of_command, due_of_words, due_of_input, due_of_script, due_of_message, due_of_new, is_for, due_status, heard}
-use Rattle.rls_top.specs.Endings.{Told, IfTold, IsStatus, IsDone, IsStored, IsWritten, IsKept}
-use Rattle.rls_top.specs.Headline.{Asks, StandsIn, EndsWith, Shows, Saves, IsFileTooLong, IsTooLong}
-use Rattle.rls_top.specs.Lines.{allowed, read_line, run_script, run_leave}
-use Rattle.rls_top.proofs.Beginnings.{journal_begins}
-use Rattle.rls_top.proofs.Scripts.{lines_read_well, leave_reads_well, script_fits}
+use Rattle.rls_top.specs.Due.{Due, Makes, Stops, due, due_at, due_of_run, due_of_taken, due_of_words, due_of_input, due_of_message, due_of_script, due_on, due_status, file_limit, input_limit, loaded, read, replica_in, saved, stores}
+use Rattle.rls_top.specs.Due as dues
+use Rattle.rls_top.specs.Endings.{IsDone, IsFault, IsKept, IsReadBack, IsStored, IsWritten}
+use Rattle.rls_top.specs.Headline.{Asks, EndsWith, IsFileTooLong, IsFileFor, IsTooLong, Saves, Shows, StandsIn, is_for, new_state}
+use Rattle.rls_top.specs.Lines.{allowed, allowed_by, fault_in, leave_in, line_by, read_line, script_in, text_in}
+use Rattle.rls_top.proofs.Alike.{allowed_alike, lines_alike, runs_alike}
+use Rattle.rls_top.proofs.Files.{IsOpenedAs, journal_opens, snapshot_opens}
+use Rattle.rls_top.proofs.Fresh.{fresh_short}
+use Rattle.rls_top.proofs.Pieces.{right_numbers}
+use Rattle.rls_top.proofs.Scripts.{leave_reads_well, lines_read_well, script_fits}
+use Rattle.rls_top.proofs.Storable.{fresh_writable, lines_writable, taken_writable}
 
 -- ---- limits
 
@@ -57,161 +85,171 @@ within_or_past limit n = go (nat_lt limit n) refl
 
 -- this is called for, or the end for what is too long
 abbrev OrTooLong : Due → Due → Type 0 → Type 0
-OrTooLong d due too_long = (d ≡ due) ⊎ (too_long × (d ≡ Stops (Failed TooLarge)))
+OrTooLong d due too_long = (d ≡ due) ⊎ (too_long × (d ≡ Stops TooLarge))
 
 -- ---- the end
 
 -- by the status that is called for
-ends_due : (n : ℕ) (d due : Due) (k i o too_long : Type 0) → OrTooLong d due too_long → IsStatus d n k i o → EndsWith n (due_status due) too_long
-ends_due n d due k i o too_long (inl e) (inl s) = inl (s ∙ ap due_status e)
-ends_due n d due k i o too_long (inr l) (inl s) = inr (inr (inr (inr (inr (s ∙ ap due_status l.1, l.0)))))
-ends_due n d due k i o too_long c (inr (inl f)) = inr (inl f.0)
-ends_due n d due k i o too_long c (inr (inr (inl f))) = inr (inr (inl f.0))
-ends_due n d due k i o too_long c (inr (inr (inr (inl f)))) = inr (inr (inr (inl f.0)))
-ends_due n d due k i o too_long c (inr (inr (inr (inr f)))) = inr (inr (inr (inr (inl f))))
+ends_due : (n : ℕ) (d due : Due) (too_long : Type 0) → OrTooLong d due too_long → (n ≡ due_status d) ⊎ IsFault n → EndsWith n (due_status due) too_long
+ends_due n d due too_long (inl e) (inl s) = inl (s ∙ ap due_status e)
+ends_due n d due too_long (inr l) (inl s) = inr (inr (s ∙ ap due_status l.1, l.0))
+ends_due n d due too_long c (inr f) = inr (inl f)
 
 -- by what was written
-written_due : (d : Due) (stored : Option (List ℕ)) (report : List ℕ) (refused : List (ℕ × ℕ × Reason)) (too_long : Type 0) (old new : Option (List ℕ)) → OrTooLong d (Makes stored report refused) too_long
+written_due : (d : Due) (stored : Option Seen) (report : List ℕ) (refused : List (ℕ × ℕ × Reason)) (too_long : Type 0) (old new : Option (List ℕ)) → OrTooLong d (Makes stored report refused) too_long
     → IsWritten d old new → Appends old new report
-written_due d stored report refused too_long old new (inl e) w = subst (λ x. IsWritten x old new) e w
-written_due d stored report refused too_long old new (inr l) w = absurd (subst (λ x. IsWritten x old new) l.1 w)
+written_due d stored report refused too_long old new (inl e) w = subst (λ (x : Due). IsWritten x old new) e w
+written_due d stored report refused too_long old new (inr l) w = absurd (subst (λ (x : Due). IsWritten x old new) l.1 w)
 
 -- ---- opening
 
--- a journal doesn't begin as a snapshot
-begins_plainly : (bytes : List ℕ) (t : State) → IsFile bytes (Journal t) → begins_snapshot bytes ≡ false
-begins_plainly bytes t f = journal_begins bytes t (file_reads bytes (Journal t) f)
+-- the replica of a file, with all that is known of it
+pub record IsOpened (bytes : List ℕ) (t : State) (s : Seen) : Type 0 where
+  pub found : replica_in (Ok (Some bytes)) ≡ Ok s
+  pub stands : StandsFor s t
+  pub sane : IsSane s
+  pub writable : AreWritable s
 
--- a file that stands for a state is opened, unless it is too long
-opened : (bytes : List ℕ) (t : State) → IsFile bytes (Journal t) → (state_in (loaded (Some bytes)) ≡ Ok t) ⊎ ((file_limit < length bytes) × (state_in (loaded (Some bytes)) ≡ Err (Failed TooLarge)))
-opened bytes t f = go (within_or_past file_limit (length bytes))
+opened_by : (bytes : List ℕ) (t : State) (c : Content) → IsFile bytes c → IsOpenedAs (seen_in c) t → IsOpened bytes t (seen_in c)
+opened_by bytes t c f k = record { found = rw (file_reads bytes c f) refl; stands = k.stands; sane = k.sane; writable = k.writable }
+
+-- a file that stands for a state is opened as a replica that does
+pub opened : (bytes : List ℕ) (t : State) → IsFileFor bytes t → (s : Seen) × IsOpened bytes t s
+opened bytes t (inl f) = (seen_in (Journal t), opened_by bytes t (Journal t) f (journal_opens t f.0))
+opened bytes t (inr f) = (seen_in (Snapshot f.1.0 (parts t)), opened_by bytes t (Snapshot f.1.0 (parts t)) f.1.1 (snapshot_opens f.1.0 t f.1.1.0 f.1.1.1 f.0))
+
+-- so a command on it calls for what it calls for at the replica, unless the file is too long
+opened_due : (c : FileCommand) (bytes : List ℕ) (left : Option (List ℕ)) (t : State) (s : Seen) (d : Due) → IsOpened bytes t s → due_at c s left ≡ Some d
+    → (e : Due) × (due_on c (replica_in (loaded (Some bytes))) left ≡ Some e) × OrTooLong e d (file_limit < length bytes)
+opened_due c bytes left t s d o at = go (within_or_past file_limit (length bytes))
   where
     go : ((length bytes ≤ file_limit) × (nat_lt file_limit (length bytes) ≡ false)) ⊎ ((file_limit < length bytes) × (nat_lt file_limit (length bytes) ≡ true))
-        → (state_in (loaded (Some bytes)) ≡ Ok t) ⊎ ((file_limit < length bytes) × (state_in (loaded (Some bytes)) ≡ Err (Failed TooLarge)))
-    go (inl h) = inl (rw (h.1, begins_plainly bytes t f, file_reads bytes (Journal t) f) refl)
-    go (inr h) = inr (h.0, rw (h.1) refl)
-
--- so a command on it calls for what it calls for at the state
-opened_due : (c : Command) (bytes input : List ℕ) (t : State) → IsFile bytes (Journal t)
-    → OrTooLong (due_on c (state_in (loaded (Some bytes))) input) (due_at c t input) (file_limit < length bytes)
-opened_due c bytes input t f = go (opened bytes t f)
-  where
-    go : (state_in (loaded (Some bytes)) ≡ Ok t) ⊎ ((file_limit < length bytes) × (state_in (loaded (Some bytes)) ≡ Err (Failed TooLarge)))
-        → OrTooLong (due_on c (state_in (loaded (Some bytes))) input) (due_at c t input) (file_limit < length bytes)
-    go (inl e) = inl (ap (λ (r : Result State Stop). due_on c r input) e)
-    go (inr l) = inr (l.0, ap (λ (r : Result State Stop). due_on c r input) l.1)
+        → (e : Due) × (due_on c (replica_in (loaded (Some bytes))) left ≡ Some e) × OrTooLong e d (file_limit < length bytes)
+    go (inl h) = (d, rw (h.1) (ap (λ (r : Result Seen CommandError). due_on c r left) o.found ∙ at), inl refl)
+    go (inr h) = (Stops TooLarge, rw (h.1) refl, inr (h.0, refl))
 
 -- ---- storing
 
--- the state is stored, or too long
-abbrev StoresOrTooLong : Due → State → List ℕ → List (ℕ × ℕ × Reason) → Type 0 → Type 0
-StoresOrTooLong d s report refused too_long = ((length (journal_bytes s) ≤ file_limit) × (d ≡ Makes (Some (journal_bytes s)) report refused)) ⊎ (too_long × (d ≡ Stops (Failed TooLarge)))
+-- this replica is stored, or too long
+abbrev StoresOrTooLong : Due → Seen → List ℕ → List (ℕ × ℕ × Reason) → Type 0 → Type 0
+StoresOrTooLong d s report refused too_long =
+    ((length (file_bytes (parts_over s)) ≤ file_limit) × (d ≡ Makes (Some s) report refused)) ⊎ (too_long × (d ≡ Stops TooLarge))
 
-stored_or_long : (s : State) (report : List ℕ) (refused : List (ℕ × ℕ × Reason)) → StoresOrTooLong (stores (saved s) report refused) s report refused (file_limit < length (journal_bytes s))
-stored_or_long s report refused = go (within_or_past file_limit (length (journal_bytes s)))
+stored_or_long : (s : Seen) (report : List ℕ) (refused : List (ℕ × ℕ × Reason)) → StoresOrTooLong (stores (saved s) report refused) s report refused (file_limit < length (file_bytes (parts_over s)))
+stored_or_long s report refused = go (within_or_past file_limit (length (file_bytes (parts_over s))))
   where
-    go : ((length (journal_bytes s) ≤ file_limit) × (nat_lt file_limit (length (journal_bytes s)) ≡ false)) ⊎ ((file_limit < length (journal_bytes s)) × (nat_lt file_limit (length (journal_bytes s)) ≡ true))
-        → StoresOrTooLong (stores (saved s) report refused) s report refused (file_limit < length (journal_bytes s))
+    go : ((length (file_bytes (parts_over s)) ≤ file_limit) × (nat_lt file_limit (length (file_bytes (parts_over s))) ≡ false)) ⊎ ((file_limit < length (file_bytes (parts_over s))) × (nat_lt file_limit (length (file_bytes (parts_over s))) ≡ true))
+        → StoresOrTooLong (stores (saved s) report refused) s report refused (file_limit < length (file_bytes (parts_over s)))
     go (inl h) = inl (h.0, rw (h.1) refl)
     go (inr h) = inr (h.0, rw (h.1) refl)
 
 -- what is called for at the end is called for at first, unless something before it is too long
-through : (d e : Due) (s : State) (report : List ℕ) (refused : List (ℕ × ℕ × Reason)) (before at_last : Type 0) → OrTooLong d e before → StoresOrTooLong e s report refused at_last
+through : (d e : Due) (s : Seen) (report : List ℕ) (refused : List (ℕ × ℕ × Reason)) (before at_last : Type 0) → OrTooLong d e before → StoresOrTooLong e s report refused at_last
     → StoresOrTooLong d s report refused (before ⊎ at_last)
 through d e s report refused before at_last (inl c) (inl h) = inl (h.0, c ∙ h.1)
 through d e s report refused before at_last (inl c) (inr h) = inr (inr (h.0), c ∙ h.1)
 through d e s report refused before at_last (inr l) h = inr (inl (l.0), l.1)
 
-plain : (d : Due) (s : State) (report : List ℕ) (refused : List (ℕ × ℕ × Reason)) (too_long : Type 0) → StoresOrTooLong d s report refused too_long → OrTooLong d (Makes (Some (journal_bytes s)) report refused) too_long
+plain : (d : Due) (s : Seen) (report : List ℕ) (refused : List (ℕ × ℕ × Reason)) (too_long : Type 0) → StoresOrTooLong d s report refused too_long → OrTooLong d (Makes (Some s) report refused) too_long
 plain d s report refused too_long (inl h) = inl (h.1)
 plain d s report refused too_long (inr l) = inr l
 
-saves_so : (n : ℕ) (d : Due) (s : State) (report : List ℕ) (refused : List (ℕ × ℕ × Reason)) (too_long k i o : Type 0) (kept : Option (List ℕ)) (file : Option (Option (List ℕ))) (old new : Option (List ℕ))
-    → StoresOrTooLong d s report refused too_long → IsStatus d n k i o → (IsStored n → IsKept d kept file) → (IsDone n → IsWritten d old new) → IsStorable s
-    → Saves n s report refused too_long file old new
-saves_so n d s report refused too_long k i o kept file old new c status keeps writes storable = record {
-  status = ends_due n d (Makes (Some (journal_bytes s)) report refused) k i o too_long (plain d s report refused too_long c) status;
-  stored = λ z. stands c (keeps z);
-  written = λ z. written_due d (Some (journal_bytes s)) report refused too_long old new (plain d s report refused too_long c) (writes z);
+-- a stored replica's file stands for what the replica stands for
+stands_stored : (s : Seen) (t : State) → StandsFor s t → IsFile (file_bytes (parts_over s)) (Snapshot newest_form (parts_over s)) → IsFileFor (file_bytes (parts_over s)) t
+stands_stored s t h f = inr (h.legal, (newest_form, subst (λ (p : Parts). IsFile (file_bytes (parts_over s)) (Snapshot newest_form p)) (parts_alike s t h) f))
+
+-- what the run of a command tells, where it is known what is called for
+pub record Ends (d : Option Due) (file new_file : Option (Option (List ℕ))) (n : ℕ) (old new : Option (List ℕ)) : Type 0 where
+  pub status : IfSome d (λ d. (n ≡ due_status d) ⊎ IsFault n)
+  pub report : IsDone n → IfSome d (λ d. IsWritten d old new)
+  pub keeps : IsStored n → IfSome d (λ d. IsKept d file new_file)
+
+-- at what is called for
+ends_at : (d : Option Due) (e : Due) (file new_file : Option (Option (List ℕ))) (n : ℕ) (old new : Option (List ℕ)) → d ≡ Some e → Ends d file new_file n old new → Ends (Some e) file new_file n old new
+ends_at d e file new_file n old new is h = subst (λ (x : Option Due). Ends x file new_file n old new) is h
+
+saves_so : (n : ℕ) (d : Due) (s : Seen) (t : State) (report : List ℕ) (refused : List (ℕ × ℕ × Reason)) (too_long : Type 0) (kept : Option (List ℕ)) (file new_file : Option (Option (List ℕ))) (old new : Option (List ℕ))
+    → StoresOrTooLong d s report refused too_long → Ends (Some d) file new_file n old new → file ≡ Some kept → StandsFor s t → AreWritable s → Saves n t report refused too_long new_file old new
+saves_so n d s t report refused too_long kept file new_file old new c e told h w = record {
+  status = ends_due n d (Makes (Some s) report refused) too_long (plain d s report refused too_long c) e.status;
+  stored = λ z. stands c (e.keeps z);
+  written = λ z. written_due d (Some s) report refused too_long old new (plain d s report refused too_long c) (e.report z);
 }
   where
-    stands : StoresOrTooLong d s report refused too_long → IsKept d kept file → StandsIn file s
-    stands (inl h) w = rw (subst (λ x. IsKept x kept file) h.1 w) (storable_is_file s storable h.0).0
-    stands (inr l) w = absurd (subst (λ x. IsKept x kept file) l.1 w)
+    stands : StoresOrTooLong d s report refused too_long → IsKept d file new_file → StandsIn new_file t
+    stands (inl l) k =
+        let at_due : Stores file new_file (file_bytes (parts_over s)) × IsReadBack s = subst (λ (x : Due). IsKept x file new_file) l.1 k in
+        let is : new_file ≡ Some (Some (file_bytes (parts_over s))) = subst (λ (f : Option (Option (List ℕ))). Stores f new_file (file_bytes (parts_over s))) told at_due.0 in
+        subst (λ (f : Option (Option (List ℕ))). StandsIn f t) (sym is) (stands_stored s t h (at_due.1 w))
+    stands (inr l) k = absurd (subst (λ (x : Due). IsKept x file new_file) l.1 k)
 
-shows_so : (n : ℕ) (d : Due) (bytes report : List ℕ) (k i o : Type 0) (old new : Option (List ℕ)) → OrTooLong d (Makes None report []) (file_limit < length bytes) → IsStatus d n k i o → (IsDone n → IsWritten d old new)
-    → Shows n bytes report old new
-shows_so n d bytes report k i o old new c status writes = record {
-  status = ends_due n d (Makes None report []) k i o (file_limit < length bytes) c status;
-  written = λ z. written_due d None report [] (file_limit < length bytes) old new c (writes (inl z));
+shows_so : (n : ℕ) (d : Due) (bytes report : List ℕ) (file new_file : Option (Option (List ℕ))) (old new : Option (List ℕ)) → OrTooLong d (Makes None report []) (file_limit < length bytes) → Ends (Some d) file new_file n old new → Shows n bytes report old new
+shows_so n d bytes report file new_file old new c e = record {
+  status = ends_due n d (Makes None report []) (file_limit < length bytes) c e.status;
+  written = λ z. written_due d None report [] (file_limit < length bytes) old new c (e.report (inl z));
 }
 
--- ---- where the devices tell
+-- ---- on a file
 
--- what holds where the file and the input are told, at these
-told_at : (words : List (List ℕ)) (c : Command) (file : Option (Option (List ℕ))) (left : Option (List ℕ)) (kept : Option (List ℕ)) (input : List ℕ) (P : Due → Option (List ℕ) → Type 0)
-    → command_of words ≡ Some c → file ≡ Some kept → heard (Some c) left ≡ Some input → IfTold words file left P → P (due_of_command c kept input) kept
-told_at words c file left kept input P command f h t =
-    let Q : Option (List ℕ) → List ℕ → Type 0 = λ k i. P (due_of_command c k i) k in
-    let at_command : Told file (heard (Some c) left) Q = subst (λ (w : Option Command). Told file (heard w left) (λ k i. P (due_of_words w k i) k)) command t in
-    let at_file : Told (Some kept) (heard (Some c) left) Q = subst (λ (x : Option (Option (List ℕ))). Told x (heard (Some c) left) Q) f at_command in
-    subst (λ (x : Option (List ℕ)). Told (Some kept) x Q) h at_file
+-- what the words call for is what the command calls for on the file
+on_file : (words : List (List ℕ)) (c : FileCommand) (file : Option (Option (List ℕ))) (left : Option (List ℕ)) (bytes : List ℕ) → command_of words ≡ Some (OnFile c) → file ≡ Some (Some bytes)
+    → due words file left ≡ due_on c (replica_in (loaded (Some bytes))) left
+on_file words c file left bytes e f = ap (λ (w : Option Command). due_of_words w file left) e ∙ ap (λ (x : Option (Option (List ℕ))). due_of_words (Some (OnFile c)) x left) f
 
--- what the run of a command tells, where the file and the input are told
-pub record Ends (words : List (List ℕ)) (file new_file : Option (Option (List ℕ))) (left : Option (List ℕ)) (n : ℕ) (k i o : Type 0) (old new : Option (List ℕ)) : Type 0 where
-  pub status : IfTold words file left (λ d kept. IsStatus d n k i o)
-  pub done : IsDone n → IfTold words file left (λ d kept. IsWritten d old new)
-  pub keeps : IsStored n → IfTold words file left (λ d kept. IsKept d kept new_file)
+shown_at : (words : List (List ℕ)) (c : FileCommand) (file new_file : Option (Option (List ℕ))) (left : Option (List ℕ)) (bytes report : List ℕ) (t : State) (n : ℕ) (old new : Option (List ℕ))
+    → Ends (due words file left) file new_file n old new → Asks words c file bytes t → ((s : Seen) → StandsFor s t → due_at c s left ≡ Some (Makes None report [])) → Shows n bytes report old new
+shown_at words c file new_file left bytes report t n old new e a at =
+    let o = opened bytes t a.stands in
+    let d = opened_due c bytes left t o.0 (Makes None report []) o.1 (at o.0 o.1.stands) in
+    shows_so n d.0 bytes report file new_file old new d.2 (ends_at (due words file left) d.0 file new_file n old new (on_file words c file left bytes a.command a.kept ∙ d.1) e)
 
-shown_at : (words : List (List ℕ)) (c : Command) (file new_file : Option (Option (List ℕ))) (left : Option (List ℕ)) (bytes report : List ℕ) (t : State) (n : ℕ) (k i o : Type 0) (old new : Option (List ℕ))
-    → Ends words file new_file left n k i o old new → Asks words c file bytes t → heard (Some c) left ≡ Some [] → due_of_command c (Some bytes) [] ≡ due_on c (state_in (loaded (Some bytes))) []
-    → due_at c t [] ≡ Makes None report [] → Shows n bytes report old new
-shown_at words c file new_file left bytes report t n k i o old new e a h on at_state =
-    let d = due_of_command c (Some bytes) [] in
-    let is_due : OrTooLong d (Makes None report []) (file_limit < length bytes) =
-    subst (λ (x : Due). OrTooLong x (Makes None report []) (file_limit < length bytes)) (sym on) (subst (λ (x : Due). OrTooLong (due_on c (state_in (loaded (Some bytes))) []) x (file_limit < length bytes)) at_state (opened_due c bytes [] t a.stands)) in
-    shows_so n d bytes report k i o old new is_due
-    (told_at words c file left (Some bytes) [] (λ d kept. IsStatus d n k i o) a.command a.kept h e.status)
-    (λ z. told_at words c file left (Some bytes) [] (λ d kept. IsWritten d old new) a.command a.kept h (e.done z))
+-- a command leads from a replica that stands for one state to one that stands for another
+pub record Leads (s : Seen) (r : Seen) (t : State) : Type 0 where
+  pub stands : StandsFor r t
+  pub writable : AreWritable r
 
-saved_at : (words : List (List ℕ)) (c : Command) (file new_file : Option (Option (List ℕ))) (left : Option (List ℕ)) (bytes input report : List ℕ) (refused : List (ℕ × ℕ × Reason)) (t s : State) (at_last : Type 0) (n : ℕ) (k i o : Type 0) (old new : Option (List ℕ))
-    → Ends words file new_file left n k i o old new → Asks words c file bytes t → heard (Some c) left ≡ Some input → due_of_command c (Some bytes) input ≡ due_on c (state_in (loaded (Some bytes))) input
-    → StoresOrTooLong (due_at c t input) s report refused at_last → IsStorable s → Saves n s report refused ((file_limit < length bytes) ⊎ at_last) new_file old new
-saved_at words c file new_file left bytes input report refused t s at_last n k i o old new e a h on at_state storable =
-    let d = due_of_command c (Some bytes) input in
-    let is_due : StoresOrTooLong d s report refused ((file_limit < length bytes) ⊎ at_last) =
-    through d (due_at c t input) s report refused (file_limit < length bytes) at_last
-    (subst (λ (x : Due). OrTooLong x (due_at c t input) (file_limit < length bytes)) (sym on) (opened_due c bytes input t a.stands)) at_state in
-    saves_so n d s report refused ((file_limit < length bytes) ⊎ at_last) k i o (Some bytes) new_file old new is_due
-    (told_at words c file left (Some bytes) input (λ d kept. IsStatus d n k i o) a.command a.kept h e.status)
-    (λ z. told_at words c file left (Some bytes) input (λ d kept. IsKept d kept new_file) a.command a.kept h (e.keeps z))
-    (λ z. told_at words c file left (Some bytes) input (λ d kept. IsWritten d old new) a.command a.kept h (e.done z))
-    storable
+saved_at : (words : List (List ℕ)) (c : FileCommand) (file new_file : Option (Option (List ℕ))) (left : Option (List ℕ)) (bytes report : List ℕ) (refused : List (ℕ × ℕ × Reason)) (t u : State) (s r : Seen) (d : Due) (too_long : Type 0) (n : ℕ) (old new : Option (List ℕ))
+    → Ends (due words file left) file new_file n old new → Asks words c file bytes t → IsOpened bytes t s → due_at c s left ≡ Some d → StoresOrTooLong d r report refused too_long → Leads s r u
+    → Saves n u report refused ((file_limit < length bytes) ⊎ too_long) new_file old new
+saved_at words c file new_file left bytes report refused t u s r d too_long n old new e a o at stored k =
+    let f = opened_due c bytes left t s d o at in
+    saves_so n f.0 r u report refused ((file_limit < length bytes) ⊎ too_long) (Some bytes) file new_file old new (through f.0 d r report refused (file_limit < length bytes) too_long f.2 stored)
+    (ends_at (due words file left) f.0 file new_file n old new (on_file words c file left bytes a.command a.kept ∙ f.1) e) a.kept k.stands k.writable
 
--- ---- the commands
+-- ---- what is shown
 
-script_storable : (bytes script : List ℕ) (t : State) (lines : List Line) (p : Progress) → IsFile bytes (Journal t) → script_of script ≡ Ok lines → run_script t lines ≡ Done p → IsStorable p.state
-script_storable bytes script t lines p f parsed ran =
-    lines_stored Line LineFault read_line t lines p (lines_read_well lines (script_fits script lines parsed)) (read_is_storable bytes t f) ran
+-- the listing is that of each history that the replica stands for
+ids_alike : (s : Seen) (t : State) → StandsFor s t → ids_over s ≡ ids_of t.history
+ids_alike s t h = ap (λ (e : EpochName). ids_text e (runs_of (idents_over s))) (greatest_alike s t h) ∙ ap (λ (xs : List (List Tuple)). ids_text (greatest t.history) (runs_of xs)) (idents_alike s t h)
 
-leave_storable : (bytes : List ℕ) (t : State) (p : Progress) → IsFile bytes (Journal t) → run_leave t ≡ Done p → IsStorable p.state
-leave_storable bytes t p f ran = lines_stored model.Edit LineFault allowed t (edits.Leave ∷ []) p leave_reads_well (read_is_storable bytes t f) ran
+pub text_shown : (words : List (List ℕ)) (file new_file : Option (Option (List ℕ))) (left : Option (List ℕ)) (bytes : List ℕ) (t : State) (n : ℕ) (old new : Option (List ℕ))
+    → Ends (due words file left) file new_file n old new → Asks words Text file bytes t → Shows n bytes (encode_utf8_all (text t.history)) old new
+text_shown words file new_file left bytes t n old new e a =
+    shown_at words Text file new_file left bytes (encode_utf8_all (text t.history)) t n old new e a (λ s h. ap (λ (cs : List ℕ). Some (Makes None (encode_utf8_all cs) [])) (text_alike s t h))
 
-pub text_shown : (words : List (List ℕ)) (file new_file : Option (Option (List ℕ))) (left : Option (List ℕ)) (bytes : List ℕ) (t : State) (n : ℕ) (k i o : Type 0) (old new : Option (List ℕ))
-    → Ends words file new_file left n k i o old new → Asks words Text file bytes t → Shows n bytes (encode_utf8_all (text t.history)) old new
-text_shown words file new_file left bytes t n k i o old new e a =
-    shown_at words Text file new_file left bytes (encode_utf8_all (text t.history)) t n k i o old new e a refl refl refl
+pub ids_shown : (words : List (List ℕ)) (file new_file : Option (Option (List ℕ))) (left : Option (List ℕ)) (bytes : List ℕ) (t : State) (n : ℕ) (old new : Option (List ℕ))
+    → Ends (due words file left) file new_file n old new → Asks words Ids file bytes t → Shows n bytes (ids_of t.history) old new
+ids_shown words file new_file left bytes t n old new e a =
+    shown_at words Ids file new_file left bytes (ids_of t.history) t n old new e a (λ s h. ap (λ (line : List ℕ). Some (Makes None line [])) (ids_alike s t h))
 
-pub ids_shown : (words : List (List ℕ)) (file new_file : Option (Option (List ℕ))) (left : Option (List ℕ)) (bytes : List ℕ) (t : State) (n : ℕ) (k i o : Type 0) (old new : Option (List ℕ))
-    → Ends words file new_file left n k i o old new → Asks words Ids file bytes t → Shows n bytes (ids_of t.history) old new
-ids_shown words file new_file left bytes t n k i o old new e a =
-    shown_at words Ids file new_file left bytes (ids_of t.history) t n k i o old new e a refl refl refl
+pub stat_shown : (words : List (List ℕ)) (file new_file : Option (Option (List ℕ))) (left : Option (List ℕ)) (bytes : List ℕ) (t : State) (n : ℕ) (old new : Option (List ℕ))
+    → Ends (due words file left) file new_file n old new → Asks words Stat file bytes t → Shows n bytes (stat_of t) old new
+stat_shown words file new_file left bytes t n old new e a =
+    shown_at words Stat file new_file left bytes (stat_of t) t n old new e a (λ s h. ap (λ (lines : List ℕ). Some (Makes None lines [])) (stat_alike s t h))
 
-pub message_shown : (words : List (List ℕ)) (file new_file : Option (Option (List ℕ))) (left : Option (List ℕ)) (bytes : List ℕ) (t : State) (to n : ℕ) (k i o : Type 0) (old new : Option (List ℕ))
-    → Ends words file new_file left n k i o old new → Asks words (Send to) file bytes t → to < members_of t.history → Shows n bytes (message_bytes (message_for t.history to)) old new
-message_shown words file new_file left bytes t to n k i o old new e a h =
-    let test : ltb to (members_of t.history) ≡ true = grind (arith, nat_tests) in
-    shown_at words (Send to) file new_file left bytes (message_bytes (message_for t.history to)) t n k i o old new e a refl refl (rw test refl)
+pub message_shown : (words : List (List ℕ)) (file new_file : Option (Option (List ℕ))) (left : Option (List ℕ)) (bytes : List ℕ) (t : State) (to n : ℕ) (old new : Option (List ℕ))
+    → Ends (due words file left) file new_file n old new → Asks words (Send to) file bytes t → to < members_of t.history → Shows n bytes (message_bytes (message_for t.history to)) old new
+message_shown words file new_file left bytes t to n old new e a l =
+    shown_at words (Send to) file new_file left bytes (message_bytes (message_for t.history to)) t n old new e a sent
+  where
+    sent : (s : Seen) → StandsFor s t → due_at (Send to) s left ≡ Some (Makes None (message_bytes (message_for t.history to)) [])
+    sent s h =
+        let k = members_alike s t h in
+        let below : to < members s = omega (arith, k, l) in
+        let test : ltb to (members s) ≡ true = grind (arith, nat_tests) in
+        rw test (ap (λ (m : Message). Some (Makes None (message_bytes m) [])) (message_alike s t to below h))
+
+-- ---- what is saved
 
 -- what is read of an input that isn't too long
 read_or_long : (input : List ℕ) (f : List ℕ → Due) → OrTooLong (due_of_input (read input) f) (f input) (input_limit < length input)
@@ -222,59 +260,111 @@ read_or_long input f = go (within_or_past input_limit (length input))
     go (inl h) = inl (rw (h.1) refl)
     go (inr h) = inr (h.0, rw (h.1) refl)
 
-pub edits_saved : (words : List (List ℕ)) (file new_file : Option (Option (List ℕ))) (left : Option (List ℕ)) (bytes script : List ℕ) (t : State) (lines : List Line) (p : Progress) (n : ℕ) (k i o : Type 0) (old new : Option (List ℕ))
-    → Ends words file new_file left n k i o old new → Asks words Edit file bytes t → left ≡ Some script → script_of script ≡ Ok lines → run_script t lines ≡ Done p
+-- what is due after a run that came to its end on both sides, where the state is stored
+run_stored : (n k : ℕ) (c : Course) (p : Progress) → Goes n c p → StoresOrTooLong (due_of_run k (Done c)) c.state (edit_text k p.counts.released (length p.counts.refused)) p.counts.refused (file_limit < length (file_bytes (parts p.state)))
+run_stored n k c p g =
+    let report = edit_text k p.counts.released (length p.counts.refused) in
+    let counts : due_of_run k (Done c) ≡ stores (saved c.state) report p.counts.refused = ap (λ (f : Taken). stores (saved c.state) (edit_text k f.released (length f.refused)) f.refused) g.counts in
+    let long = subst (λ (x : Parts). StoresOrTooLong (stores (saved c.state) report p.counts.refused) c.state report p.counts.refused (file_limit < length (file_bytes x))) (parts_alike c.state p.state g.states.1) (stored_or_long c.state report p.counts.refused) in
+    subst (λ (d : Due). StoresOrTooLong d c.state report p.counts.refused (file_limit < length (file_bytes (parts p.state)))) (sym counts) long
+
+pub edits_saved : (words : List (List ℕ)) (file new_file : Option (Option (List ℕ))) (left : Option (List ℕ)) (bytes script : List ℕ) (t : State) (lines : List Line) (p : Progress) (n : ℕ) (old new : Option (List ℕ))
+    → Ends (due words file left) file new_file n old new → Asks words Edit file bytes t → left ≡ Some script → script_of script ≡ Ok lines → script_in t lines ≡ Done p
     → Saves n p.state (edit_text (length lines) p.counts.released (length p.counts.refused)) p.counts.refused (IsTooLong bytes script p.state) new_file old new
-edits_saved words file new_file left bytes script t lines p n k i o old new e a l parsed ran =
+edits_saved words file new_file left bytes script t lines p n old new e a l parsed ran =
+    let o = opened bytes t a.stands in
+    let s = o.0 in
+    let well = lines_read_well lines (script_fits script lines parsed) in
+    let r = runs_alike read_line (line_by fault_in text_in) lines_alike s t lines p well o.1.stands ran in
+    let c = r.0 in
     let report = edit_text (length lines) p.counts.released (length p.counts.refused) in
-    let after : due_of_script t (script_of script) ≡ stores (saved p.state) report p.counts.refused = rw (parsed, ran) refl in
-    let stored = subst (λ (x : Due). StoresOrTooLong x p.state report p.counts.refused (file_limit < length (journal_bytes p.state))) (sym after) (stored_or_long p.state report p.counts.refused) in
-    let at_state = through (due_at Edit t script) (due_of_script t (script_of script)) p.state report p.counts.refused (input_limit < length script) (file_limit < length (journal_bytes p.state))
-    (read_or_long script (λ bytes. due_of_script t (script_of bytes))) stored in
-    saved_at words Edit file new_file left bytes script report p.counts.refused t p.state ((input_limit < length script) ⊎ (file_limit < length (journal_bytes p.state))) n k i o old new e a l refl at_state
-    (script_storable bytes script t lines p a.stands parsed ran)
+    let long = file_limit < length (file_bytes (parts p.state)) in
+    let done : due_of_script s (script_of script) ≡ due_of_run (length lines) (Done c) = ap (due_of_script s) parsed ∙ ap (due_of_run (length lines)) r.1 in
+    let stored = subst (λ (d : Due). StoresOrTooLong d c.state report p.counts.refused long) (sym done) (run_stored (members s) (length lines) c p r.2) in
+    let at_input = through (due_of_input (read script) (λ bytes. due_of_script s (script_of bytes))) (due_of_script s (script_of script)) c.state report p.counts.refused (input_limit < length script) long
+    (read_or_long script (λ bytes. due_of_script s (script_of bytes))) stored in
+    let w = lines_writable read_line s lines c well o.1.sane o.1.writable r.1 in
+    saved_at words Edit file new_file left bytes report p.counts.refused t p.state s c.state (due_of_input (read script) (λ bytes. due_of_script s (script_of bytes))) ((input_limit < length script) ⊎ long) n old new e a o.1
+    (ap (due_at Edit s) l) at_input (record { stands = r.2.states.1; writable = w.1 })
 
-pub leave_saved : (words : List (List ℕ)) (file new_file : Option (Option (List ℕ))) (left : Option (List ℕ)) (bytes : List ℕ) (t : State) (p : Progress) (n : ℕ) (k i o : Type 0) (old new : Option (List ℕ))
-    → Ends words file new_file left n k i o old new → Asks words Leave file bytes t → run_leave t ≡ Done p
+pub leave_saved : (words : List (List ℕ)) (file new_file : Option (Option (List ℕ))) (left : Option (List ℕ)) (bytes : List ℕ) (t : State) (p : Progress) (n : ℕ) (old new : Option (List ℕ))
+    → Ends (due words file left) file new_file n old new → Asks words Leave file bytes t → leave_in t ≡ Done p
     → Saves n p.state (edit_text 1 p.counts.released (length p.counts.refused)) p.counts.refused (IsFileTooLong bytes p.state) new_file old new
-leave_saved words file new_file left bytes t p n k i o old new e a ran =
+leave_saved words file new_file left bytes t p n old new e a ran =
+    let o = opened bytes t a.stands in
+    let s = o.0 in
+    let r = runs_alike allowed (allowed_by fault_in) allowed_alike s t (edits.Leave ∷ []) p leave_reads_well o.1.stands ran in
+    let c = r.0 in
     let report = edit_text 1 p.counts.released (length p.counts.refused) in
-    let after : due_at Leave t [] ≡ stores (saved p.state) report p.counts.refused = rw ran refl in
-    let at_state = subst (λ (x : Due). StoresOrTooLong x p.state report p.counts.refused (file_limit < length (journal_bytes p.state))) (sym after) (stored_or_long p.state report p.counts.refused) in
-    saved_at words Leave file new_file left bytes [] report p.counts.refused t p.state (file_limit < length (journal_bytes p.state)) n k i o old new e a refl refl at_state (leave_storable bytes t p a.stands ran)
+    let long = file_limit < length (file_bytes (parts p.state)) in
+    let done : due_at Leave s left ≡ Some (due_of_run 1 (Done c)) = ap (λ (x : Run Seen LineFault). Some (due_of_run 1 x)) r.1 in
+    let w = lines_writable allowed s (edits.Leave ∷ []) c leave_reads_well o.1.sane o.1.writable r.1 in
+    saved_at words Leave file new_file left bytes report p.counts.refused t p.state s c.state (due_of_run 1 (Done c)) long n old new e a o.1
+    done (run_stored (members s) 1 c p r.2) (record { stands = r.2.states.1; writable = w.1 })
 
-pub message_saved : (words : List (List ℕ)) (file new_file : Option (Option (List ℕ))) (left : Option (List ℕ)) (bytes given : List ℕ) (t : State) (m : Message) (n : ℕ) (k i o : Type 0) (old new : Option (List ℕ))
-    → Ends words file new_file left n k i o old new → Asks words Take file bytes t → left ≡ Some given → IsMessage given m → IsTrue (is_for t.history m) → let p = take_message t m in
-    Saves n p.state (take_text p.counts.applied p.counts.released p.counts.repeated p.counts.held (length p.counts.refused)) p.counts.refused (IsTooLong bytes given p.state) new_file old new
-message_saved words file new_file left bytes given t m n k i o old new e a l is right =
-    let p = take_message t m in
+-- the message is for the replica, as it is for the history
+for_alike : (s : Seen) (t : State) (m : Message) → StandsFor s t → is_for t.history m ≡ true → dues.is_for s m ≡ true
+for_alike s t m h e = ap (λ n. (m.group == n) && (m.members == members s)) h.group ∙ (ap (λ n. (m.group == group_of t.history) && (m.members == n)) (members_alike s t h) ∙ e)
+
+-- the operations of a message that has a spelling are well formed
+ops_given : (n : ℕ) (before : Option Op) (os : List Op) → Chained (λ b. IsSpelled n) before os → AreOps os
+ops_given n before [] c = tt
+ops_given n before (o ∷ os) c = (spelled_op n o c.0, ops_given n (Some o) os c.1)
+
+message_given : (bytes : List ℕ) (m : Message) (n : ℕ) → IsMessage bytes m → m.members ≡ n → seen.IsMessage n m
+message_given bytes m n is e =
+    let v = is.2 in
+    let from = v.from in
+    record { from = omega (arith, from, e); vector = subst (λ k. IsVector k m.vector) e (fits_vector m.members m.vector v.vector); ops = ops_given m.members None m.ops v.ops }
+
+-- what is due after a message that was taken on both sides
+taken_stored : (n : ℕ) (c : Course) (p : Progress) → Goes n c p
+    → StoresOrTooLong (due_of_taken c) c.state (take_text p.counts.applied p.counts.released p.counts.repeated p.counts.held (length p.counts.refused)) p.counts.refused (file_limit < length (file_bytes (parts p.state)))
+taken_stored n c p g =
     let report = take_text p.counts.applied p.counts.released p.counts.repeated p.counts.held (length p.counts.refused) in
-    let after : due_of_message t (message_of given) ≡ stores (saved p.state) report p.counts.refused = rw (message_again given m is, right) refl in
-    let stored = subst (λ (x : Due). StoresOrTooLong x p.state report p.counts.refused (file_limit < length (journal_bytes p.state))) (sym after) (stored_or_long p.state report p.counts.refused) in
-    let at_state = through (due_at Take t given) (due_of_message t (message_of given)) p.state report p.counts.refused (input_limit < length given) (file_limit < length (journal_bytes p.state))
-    (read_or_long given (λ bytes. due_of_message t (message_of bytes))) stored in
-    saved_at words Take file new_file left bytes given report p.counts.refused t p.state ((input_limit < length given) ⊎ (file_limit < length (journal_bytes p.state))) n k i o old new e a l refl at_state
-    (taken_stored t given m is (eqb-true m.members (members_of t.history) (and_right (m.group == group_of t.history) (m.members == members_of t.history) right)) (read_is_storable bytes t a.stands))
+    let counts : due_of_taken c ≡ stores (saved c.state) report p.counts.refused =
+    ap (λ (f : Taken). stores (saved c.state) (take_text f.applied f.released f.repeated f.held (length f.refused)) f.refused) g.counts in
+    let long = subst (λ (x : Parts). StoresOrTooLong (stores (saved c.state) report p.counts.refused) c.state report p.counts.refused (file_limit < length (file_bytes x))) (parts_alike c.state p.state g.states.1) (stored_or_long c.state report p.counts.refused) in
+    subst (λ (d : Due). StoresOrTooLong d c.state report p.counts.refused (file_limit < length (file_bytes (parts p.state)))) (sym counts) long
+
+pub message_saved : (words : List (List ℕ)) (file new_file : Option (Option (List ℕ))) (left : Option (List ℕ)) (bytes given : List ℕ) (t : State) (m : Message) (n : ℕ) (old new : Option (List ℕ))
+    → Ends (due words file left) file new_file n old new → Asks words Take file bytes t → left ≡ Some given → IsMessage given m → IsTrue (is_for t.history m) → let p = take_message t m in
+    Saves n p.state (take_text p.counts.applied p.counts.released p.counts.repeated p.counts.held (length p.counts.refused)) p.counts.refused (IsTooLong bytes given p.state) new_file old new
+message_saved words file new_file left bytes given t m n old new e a l is right =
+    let o = opened bytes t a.stands in
+    let s = o.0 in
+    let p = take_message t m in
+    let as_many : m.members ≡ members s = eqb-true m.members (members_of t.history) (and_right (m.group == group_of t.history) (m.members == members_of t.history) right) ∙ sym (members_alike s t o.1.stands) in
+    let g = taken_stands None s t m (message_given given m (members s) is as_many) o.1.stands in
+    let c = taken_over s m in
+    let report = take_text p.counts.applied p.counts.released p.counts.repeated p.counts.held (length p.counts.refused) in
+    let long = file_limit < length (file_bytes (parts p.state)) in
+    let done : due_of_message s (message_of given) ≡ due_of_taken c = rw (message_again given m is, for_alike s t m o.1.stands right) refl in
+    let stored = subst (λ (d : Due). StoresOrTooLong d c.state report p.counts.refused long) (sym done) (taken_stored (members s) c p g) in
+    let at_input = through (due_of_input (read given) (λ bytes. due_of_message s (message_of bytes))) (due_of_message s (message_of given)) c.state report p.counts.refused (input_limit < length given) long
+    (read_or_long given (λ bytes. due_of_message s (message_of bytes))) stored in
+    let w = taken_writable s given m o.1.sane o.1.writable is as_many in
+    saved_at words Take file new_file left bytes report p.counts.refused t p.state s c.state (due_of_input (read given) (λ bytes. due_of_message s (message_of bytes))) ((input_limit < length given) ⊎ long) n old new e a o.1
+    (ap (due_at Take s) l) at_input (record { stands = g.states.1; writable = w.1 })
 
 -- ---- a fresh replica
 
--- the file of a fresh replica is short
-fresh_short : (group me members : ℕ) → length (journal_bytes (record { history = Fresh group me members; waiting = [] })) ≤ file_limit
-unfolding journal_bytes
-fresh_short group me members = lit≤ tt
-
-pub new_saved : (words : List (List ℕ)) (file new_file : Option (Option (List ℕ))) (left : Option (List ℕ)) (group me members n : ℕ) (k i o : Type 0) (old new : Option (List ℕ))
-    → Ends words file new_file left n k i o old new → command_of words ≡ Some (New group me members) → file ≡ Some None → IsHead 1 group members me
-    → Saves n (record { history = Fresh group me members; waiting = [] }) (new_text group me members) [] ⊥ new_file old new
-new_saved words file new_file left group me members n k i o old new e command missing head =
-    let s : State = record { history = Fresh group me members; waiting = [] } in
-    let c : Command = New group me members in
-    let d = due_of_new group me members None in
-    let below : ltb me members ≡ true = let h = head.me_fits in grind (arith, nat_tests) in
-    let short : nat_lt file_limit (length (journal_bytes s)) ≡ false = let h = fresh_short group me members in grind (arith, nat_tests) in
-    let is : d ≡ Makes (Some (journal_bytes s)) (new_text group me members) [] = rw (head.members_fit, below, short) refl in
-    saves_so n d s (new_text group me members) [] ⊥ k i o None new_file old new (inl (fresh_short group me members, is))
-    (told_at words c file left None [] (λ d kept. IsStatus d n k i o) command missing refl e.status)
-    (λ z. told_at words c file left None [] (λ d kept. IsKept d kept new_file) command missing refl (e.keeps z))
-    (λ z. told_at words c file left None [] (λ d kept. IsWritten d old new) command missing refl (e.done z))
-    (fresh_stored group me members head)
+pub new_saved : (words : List (List ℕ)) (file new_file : Option (Option (List ℕ))) (left : Option (List ℕ)) (group me members n : ℕ) (old new : Option (List ℕ))
+    → Ends (due words file left) file new_file n old new → command_of words ≡ Some (New group me members) → file ≡ Some None → IsHead 1 group members me
+    → Saves n (new_state group me members) (new_text group me members) [] ⊥ new_file old new
+new_saved words file new_file left group me members n old new e command missing head =
+    let numbers = head_numbers group me members head in
+    let s = fresh group me members in
+    let right = right_numbers group me members numbers in
+    let few = fresh_short group me members numbers in
+    let short : nat_lt file_limit (length (file_bytes (parts_over s))) ≡ false = grind (arith, nat_tests) in
+    let d : Due = Makes (Some s) (new_text group me members) [] in
+    let is : due words file left ≡ Some d = ap (λ (w : Option Command). due_of_words w file left) command ∙ (ap (λ (x : Option (Option (List ℕ))). due_of_words (Some (New group me members)) x left) missing ∙ rw (right.0, short) refl) in
+    saves_so n d s (new_state group me members) (new_text group me members) [] ⊥ None file new_file old new (inl (few, refl)) (ends_at (due words file left) d file new_file n old new is e) missing
+    (fresh_stands group me members numbers) (fresh_writable group me members)
+  where
+    head_numbers : (group me members : ℕ) → IsHead 1 group members me → AreNumbers group me members
+    head_numbers group me members h =
+        let below = h.me_fits in
+        let fit : nat_le members 64 ≡ true = and_right (nat_lt 0 members) (nat_le members 64) h.members_fit in
+        (h.group_fits, below, (let k : members ≤ 64 = grind (arith, nat_tests) in k))

@@ -1,8 +1,14 @@
-pub mod Early
-pub mod Endings
-pub mod Pieces
-pub mod Beginnings
-pub mod Runs
-pub mod OnFiles
-pub mod Scripts
-pub mod Headlines
+mod Alike
+mod Clusters
+mod Files
+mod Finishing
+mod Fresh
+mod Headlines
+mod Messages
+mod OnFiles
+mod Pieces
+mod Runs
+mod Scripts
+mod Snapshots
+mod Statuses
+mod Storable

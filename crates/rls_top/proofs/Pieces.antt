@@ -1,20 +1,27 @@
 -- Steps on the way to what a command makes.
-use Rattle.std.proofs.Common.{◌≡◌, ◌∙◌, ◌++◌, ◌+◌, ◌<◌, ◌≤◌, ℕ, true, false, ltb, leb, Option, IfSome, inl, inr, List, [], drop, slice_get, Some, None, Ok, Err, sym, ap, append_assoc, arith, refl}
+use Rattle.std.proofs.Common.{◌≡◌, ◌∙◌, ◌++◌, ◌+◌, ◌<◌, ◌≤◌, ℕ, true, false, ltb, leb, Option, IfSome, inl, inr, List, [], drop, slice_get, Some, None, Result, Ok, Err, sym, ap, subst, append_assoc, arith, refl}
+use Rattle.std.specs.Prelude.{Vec, IsFalse}
+use Rattle.std.specs.declared.alloc.Global.{Global}
 use Rattle.std.proofs.lemmas.Bool.Decides.{nat_tests}
 use Rattle.rls_ident.proofs.Loops.{drop_reads}
+use Rattle.rls_io.specs.Memory.{bytes_of}
 use Rattle.rls_codec.specs.Reading.{is_member_count}
 use Rattle.rls_ops.specs.Spelling.{message_bytes}
 use Rattle.rls_model.specs.Answers.{Reason}
-use Rattle.rls_model.specs.History.{History, members_of}
-use Rattle.rls_model.specs.Taking.{message_for}
+use Rattle.rls_model.specs.Legal.{AreNumbers}
 use Rattle.rls_report.specs.Refused.{refused_line}
-use Rattle.rls_report.specs.declared.failures.Failure.TheVariants.{NotMember, BadMembers, BadMe}
-use Rattle.rls_top.specs.declared.made.Made.{Made}
-use Rattle.rls_top.specs.declared.stop.Stop.{Stop}
-use Rattle.rls_top.specs.declared.stop.Stop.TheVariants.{Failed}
-use Rattle.rls_top.specs.Due.{Stops, refused_lines, due_of_send, due_of_new, stop_of_numbers}
-use Rattle.rls_top.specs.Made.{EndsBy, IsMade, IsAsDue, StopsAsDue}
+use Rattle.rls_report.specs.Reports.{new_text}
+use Rattle.rls_report.specs.declared.failures.CommandError.{CommandError}
+use Rattle.rls_report.specs.declared.failures.CommandError.TheVariants.{NotMember, BadMembers, BadMe}
+use Rattle.rls_report.specs.declared.failures.Failure.{Failure}
+use Rattle.rls_report.specs.declared.failures.Failure.TheVariants.{NoCommand, Command, Fault}
 use Rattle.rls_replica.specs.Faults.{IsNoCount, IsNoMember}
+use Rattle.rls_seen.specs.Messages.{message_over}
+use Rattle.rls_seen.specs.Seen.{Seen, fresh, members}
+use Rattle.rls_top.specs.declared.made.Made.{Made}
+use Rattle.rls_top.specs.declared.words.Command.TheVariants.{New}
+use Rattle.rls_top.specs.Due.{Due, Stops, refused_lines, due_of_send, due_of_fresh, due_of_new, error_of_numbers, calls_keeper, loaded, saved, stores}
+use Rattle.rls_top.specs.Stages.{EndsAs, GivesError, IsMade, IsAsDue}
 
 -- an answer isn't an error
 pub ok_is_not_err : {X E : Type 0} (x : X) (e : E) → Ok x ≡ Err e → ⊥
@@ -27,22 +34,19 @@ more_lines text rs i r all s e =
     append_assoc text (refused_line r.0 r.1 r.2) (refused_lines (drop (i + 1) rs))
     ∙ (ap (λ (x : List (ℕ × ℕ × Reason)). text ++ refused_lines x) (sym (drop_reads rs i r s)) ∙ e)
 
+-- ---- messages
+
 -- the message is due where the member is one
-pub is_sent : (made : Made) (bytes : List ℕ) (H : History) (to : ℕ) → IsMade made None bytes [] → bytes ≡ message_bytes (message_for H to) → to < members_of H → IsAsDue made (due_of_send H to)
-is_sent made bytes H to m e h =
-    let test : ltb to (members_of H) ≡ true = grind (arith, nat_tests) in
+pub is_sent : (made : Made) (bytes : List ℕ) (s : Seen) (to : ℕ) → IsMade made None bytes [] → bytes ≡ message_bytes (message_over s to) → to < members s → IsAsDue made (due_of_send s to)
+is_sent made bytes s to m e h =
+    let test : ltb to (members s) ≡ true = grind (arith, nat_tests) in
     rw (test, ← e) m
 
 -- and none where it isn't
-pub is_not_sent : (H : History) (to : ℕ) → members_of H ≤ to → due_of_send H to ≡ Stops (Failed (NotMember to))
-is_not_sent H to h = let test : ltb to (members_of H) ≡ false = grind (arith, nat_tests) in rw test refl
+pub is_not_sent : (s : Seen) (to : ℕ) → members s ≤ to → due_of_send s to ≡ Stops (NotMember to)
+is_not_sent s to h = let test : ltb to (members s) ≡ false = grind (arith, nat_tests) in rw test refl
 
 -- ---- numbers of a fresh replica
-
--- what holds of each value holds of the one that is told
-pub for_told : {X : Type 0} (o : Option X) (P : X → Type 0) → ((x : X) → P x) → IfSome o P
-for_told None P h = tt
-for_told (Some x) P h = h x
 
 no_count : (n : ℕ) → IsNoCount n → is_member_count n ≡ false
 no_count n (inl e) = let none : ltb 0 n ≡ false = grind (arith, nat_tests) in rw none refl
@@ -52,22 +56,69 @@ no_count n (inr h) =
     rw (some, many) refl
 
 -- numbers out of range
-pub no_members : (me members : ℕ) → IsNoCount members → stop_of_numbers me members ≡ Some (Failed (BadMembers members))
+pub no_members : (me members : ℕ) → IsNoCount members → error_of_numbers me members ≡ Some (BadMembers members)
 no_members me members none = rw (no_count members none) refl
 
-pub no_me : (me members : ℕ) → IsNoMember me members → stop_of_numbers me members ≡ Some (Failed (BadMe me))
+pub no_me : (me members : ℕ) → IsNoMember me members → error_of_numbers me members ≡ Some (BadMe me)
 no_me me members none =
     let some : ltb 0 members ≡ true = let h = none.0 in grind (arith, nat_tests) in
     let few : leb members 64 ≡ true = let h = none.1 in grind (arith, nat_tests) in
     let past : ltb me members ≡ false = let h = none.2 in grind (arith, nat_tests) in
     rw (some, few, past) refl
 
--- they end the command
-pub ends_by_numbers : (me members : ℕ) (stop s : Stop) (X : Type 0) → stop_of_numbers me members ≡ Some s → stop ≡ s → X → IfSome (stop_of_numbers me members) (λ s. EndsBy (Err stop) s × X)
-ends_by_numbers me members stop s X e is x = rw e (inl (ap Err is), x)
+-- numbers in range
+pub right_numbers : (group me members : ℕ) → AreNumbers group me members → (error_of_numbers me members ≡ None) × (calls_keeper (Some (New group me members)) ≡ true)
+right_numbers group me members h =
+    let below = h.1 in
+    let most = h.2 in
+    let some : ltb 0 members ≡ true = grind (arith, nat_tests) in
+    let few : leb members 64 ≡ true = grind (arith, nat_tests) in
+    let test : ltb me members ≡ true = grind (arith, nat_tests) in
+    rw (some, few, test) (refl, refl)
 
-pub bad_members : (group me members n : ℕ) (stop : Stop) (kept : Option (List ℕ)) → n ≡ members → IsNoCount members → stop ≡ Failed (BadMembers n) → StopsAsDue stop (due_of_new group me members kept)
-bad_members group me members n stop kept e none is = rw (is, no_members me members none, e) refl
+-- so the keeper is called
+pub called : {X : Type 0} (group me members : ℕ) → AreNumbers group me members → IsFalse (calls_keeper (Some (New group me members))) → X
+called group me members h none = let yes = (right_numbers group me members h).1 in cc
 
-pub bad_me : (group me members n : ℕ) (stop : Stop) (kept : Option (List ℕ)) → n ≡ me → IsNoMember me members → stop ≡ Failed (BadMe n) → StopsAsDue stop (due_of_new group me members kept)
-bad_me group me members n stop kept e none is = rw (is, no_me me members none, e) refl
+-- numbers that are wrong end the command
+pub numbers_due : (group me members : ℕ) (file : Option (Option (List ℕ))) (e f : CommandError) → error_of_numbers me members ≡ Some f → e ≡ f → IfSome (due_of_new (error_of_numbers me members) group me members file) (EndsAs (Command e))
+numbers_due group me members file e f h same = rw (h, same) refl
+
+-- where the kept file is told
+new_due : (group me members : ℕ) (file : Option (Option (List ℕ))) (P : Due → Type 0) → AreNumbers group me members → IfSome file (λ kept. P (due_of_fresh group me members (loaded kept)))
+    → IfSome (due_of_new (error_of_numbers me members) group me members file) P
+new_due group me members None P h all = rw ((right_numbers group me members h).0) tt
+new_due group me members (Some kept) P h all = rw ((right_numbers group me members h).0) all
+
+-- what holds of one told value holds of another
+pub if_told : {X : Type 0} (o : Option X) (P Q : X → Type 0) → ((x : X) → P x → Q x) → IfSome o P → IfSome o Q
+if_told None P Q f h = tt
+if_told (Some x) P Q f h = f x h
+
+-- the file can't be loaded
+load_due : (group me members : ℕ) (f : Failure) (y : Result (Option (List ℕ)) CommandError) → GivesError f y → EndsAs f (due_of_fresh group me members y)
+load_due group me members (Command e) y h = rw h refl
+load_due group me members (Fault e) y h = tt
+load_due group me members NoCommand y h = absurd h
+
+pub unloaded_due : (group me members : ℕ) (file : Option (Option (List ℕ))) (f : Failure) → AreNumbers group me members → IfSome file (λ kept. GivesError f (loaded kept))
+    → IfSome (due_of_new (error_of_numbers me members) group me members file) (EndsAs f)
+unloaded_due group me members file f h opened =
+    new_due group me members file (EndsAs f) h (if_told file (λ kept. GivesError f (loaded kept)) (λ kept. EndsAs f (due_of_fresh group me members (loaded kept))) (λ kept. load_due group me members f (loaded kept)) opened)
+
+-- there is one already, or there is none
+pub loaded_due : (group me members : ℕ) (file : Option (Option (List ℕ))) (found : Option (List ℕ)) (P : Due → Type 0) → AreNumbers group me members → IfSome file (λ kept. loaded kept ≡ Ok found)
+    → P (due_of_fresh group me members (Ok found)) → IfSome (due_of_new (error_of_numbers me members) group me members file) P
+loaded_due group me members file found P h opened p =
+    new_due group me members file P h
+    (if_told file (λ kept. loaded kept ≡ Ok found) (λ kept. P (due_of_fresh group me members (loaded kept))) (λ kept e. subst (λ (y : Result (Option (List ℕ)) CommandError). P (due_of_fresh group me members y)) (sym e) p) opened)
+
+-- there is none, and the fresh replica is stored
+pub fresh_due : (group me members : ℕ) (file : Option (Option (List ℕ))) (found : Option (Vec ℕ Global)) (s : Seen) (report : List ℕ) (refused : List (ℕ × ℕ × Reason)) (P : Due → Type 0) → AreNumbers group me members
+    → IfSome file (λ kept. loaded kept ≡ Ok (bytes_of found)) → found ≡ None → s ≡ fresh group me members → report ≡ new_text group me members → refused ≡ [] → P (stores (saved s) report refused)
+    → IfSome (due_of_new (error_of_numbers me members) group me members file) P
+fresh_due group me members file found s report refused P h opened missing is written none p =
+    let at_fresh = subst (λ (x : Seen). P (stores (saved x) report refused)) is p in
+    let at_report = subst (λ (x : List ℕ). P (stores (saved (fresh group me members)) x refused)) written at_fresh in
+    let at_refused = subst (λ (x : List (ℕ × ℕ × Reason)). P (stores (saved (fresh group me members)) (new_text group me members) x)) none at_report in
+    loaded_due group me members file None P h (subst (λ (f : Option (Vec ℕ Global)). IfSome file (λ kept. loaded kept ≡ Ok (bytes_of f))) missing opened) at_refused

@@ -18,12 +18,8 @@ use Rattle.rls_ident.specs.Lists.{IsIn}
 use Rattle.rls_model.specs.declared.edit.Edit.{Edit}
 use Rattle.rls_model.specs.declared.edit.Edit.TheVariants as edits
 use Rattle.rls_model.specs.declared.edit.EditError.{EditError}
-use Rattle.rls_model.specs.Document.{text}
-use Rattle.rls_model.specs.Editing.{edit_fault}
 use Rattle.rls_model.specs.EditRun.{unless_fault}
-use Rattle.rls_model.specs.Receiving.{State}
 use Rattle.rls_model.specs.WellFormed.{IsEdit, IsLarge, IsText}
-use Rattle.rls_file.specs.StoredLaws.{ReadsWell}
 use Rattle.rls_report.specs.declared.failures.LineFault.{LineFault}
 use Rattle.rls_script.specs.Scripts.{script_of, lines_from, put_line, line_of, script_lines, is_space, parts_of, number_of, text_of, text_behind, is_opening, put_meaning, meaning_of, insertion_of, deletion_of, backward_of, line_of_parts, line_of_words, line_of_text}
 use Rattle.rls_script.specs.Clusters.{cluster_before}
@@ -31,8 +27,11 @@ use Rattle.rls_script.specs.declared.clusters.ClusterError.{ClusterError}
 use Rattle.rls_script.specs.declared.clusters.ClusterError.TheVariants as clusters
 use Rattle.rls_script.specs.declared.lines.Line.{Line}
 use Rattle.rls_script.specs.declared.lines.Line.TheVariants.{Insert, Delete, Back, Rename}
-use Rattle.rls_top.specs.Lines.{allowed, backward, line_fault_of, read_line}
-use Rattle.rls_top.proofs.Runs.{cluster_begins}
+use Rattle.rls_seen.specs.Edits.{edit_fault_over}
+use Rattle.rls_seen.specs.Seen.{Seen, text_over}
+use Rattle.rls_top.specs.Lines.{allowed, backward_by, line_fault_of, read_line}
+use Rattle.rls_top.proofs.Clusters.{cluster_begins}
+use Rattle.rls_top.proofs.Storable.{ReadsWell}
 
 -- ---- what lines mean
 
@@ -53,34 +52,34 @@ line_in (m ∷ ls) l a (inl e) = subst IsLine e a.0
 line_in (m ∷ ls) l a (inr p) = line_in ls l a.1 p
 
 -- what is meant, where this was read as an edit
-abbrev pub IsMeantWell : State → Result Edit LineFault → Type 0
-IsMeantWell s (Ok edit) = IsEdit edit × (edit_fault s.history edit ≡ None)
+abbrev pub IsMeantWell : Seen → Result Edit LineFault → Type 0
+IsMeantWell s (Ok edit) = IsEdit edit × (edit_fault_over s edit ≡ None)
 IsMeantWell s (Err fault) = Unit {0}
 
-allowed_well : (s : State) (edit : Edit) → IsEdit edit → IsMeantWell s (allowed s edit)
-allowed_well s edit w = go (edit_fault s.history edit) refl
+allowed_well : (s : Seen) (edit : Edit) → IsEdit edit → IsMeantWell s (allowed s edit)
+allowed_well s edit w = go (edit_fault_over s edit) refl
   where
-    go : (f : Option EditError) → edit_fault s.history edit ≡ f → IsMeantWell s (unless_fault (line_fault_of f) edit)
+    go : (f : Option EditError) → edit_fault_over s edit ≡ f → IsMeantWell s (unless_fault (line_fault_of f) edit)
     go None e = (w, e)
     go (Some f) e = tt
 
-backward_well : (s : State) (at : ℕ) (r : Result ℕ ClusterError) → IsLarge at → ((f : ℕ) → r ≡ Ok f → f ≤ at) → IsMeantWell s (backward s at r)
+backward_well : (s : Seen) (at : ℕ) (r : Result ℕ ClusterError) → IsLarge at → ((f : ℕ) → r ≡ Ok f → f ≤ at) → IsMeantWell s (backward_by edit_fault_over s at r)
 backward_well s at (Ok from) l begins = let b = begins from refl in allowed_well s (edits.Delete from (at - from)) (omega arith, omega arith)
 backward_well s at (Err (clusters.Range p total)) l begins = tt
 backward_well s at (Err (clusters.NotBoundary p)) l begins = tt
 
-line_well : (s : State) (l : Line) → IsLine l → IsMeantWell s (read_line s l)
+line_well : (s : Seen) (l : Line) → IsLine l → IsMeantWell s (read_line s l)
 line_well s (Insert at cs) w = allowed_well s (edits.Insert at cs) w
 line_well s (Delete at n) w = allowed_well s (edits.Delete at n) w
-line_well s (Back at) w = backward_well s at (cluster_before (encode_utf8_all (text s.history)) at) w (λ f e. cluster_begins (encode_utf8_all (text s.history)) at f e)
+line_well s (Back at) w = backward_well s at (cluster_before (encode_utf8_all (text_over s)) at) w (λ f e. cluster_begins (encode_utf8_all (text_over s)) at f e)
 line_well s Rename w = allowed_well s edits.Rename tt
 
 pub lines_read_well : (ls : List Line) → AreLines ls → ReadsWell read_line ls
-lines_read_well ls a s l edit storable p e = subst (IsMeantWell s) e (line_well s l (line_in ls l a p))
+lines_read_well ls a s l edit p e = subst (IsMeantWell s) e (line_well s l (line_in ls l a p))
 
 pub leave_reads_well : ReadsWell allowed (edits.Leave ∷ [])
-leave_reads_well s edit made storable (inl p) e = subst (IsMeantWell s) e (allowed_well s edit (subst IsEdit p tt))
-leave_reads_well s edit made storable (inr p) e = absurd p
+leave_reads_well s edit made (inl p) e = subst (IsMeantWell s) e (allowed_well s edit (subst IsEdit p tt))
+leave_reads_well s edit made (inr p) e = absurd p
 
 -- ---- characters
 

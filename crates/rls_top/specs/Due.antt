@@ -1,31 +1,35 @@
--- What a command calls for, by its words, the kept file and the input.
-use Rattle.std.specs.Prelude.{ℕ, Bool, true, false, not, ◌&&◌, ◌==◌, List, [], length, encode_utf8_all, Option, Some, None, Result, Ok, Err, nat_lt, if◌then◌else◌}
+-- What a command calls for, by its words, the kept file and the input, read over what the replica consists of that the file says.
+use Rattle.std.specs.Prelude.{ℕ, Bool, true, false, not, ◌&&◌, ◌==◌, List, [], length, zip, encode_utf8_all, Option, Some, None, option_map, Result, Ok, Err, nat_lt, if◌then◌else◌}
 use Rattle.std.specs.List.{flat_map}
 use Rattle.rls_ops.specs.declared.message.Message.{Message}
 use Rattle.rls_ops.specs.Spelling.{message_bytes}
 use Rattle.rls_codec.specs.Reading.{is_member_count, message_of}
 use Rattle.rls_model.specs.Answers.{Reason}
-use Rattle.rls_model.specs.Document.{text}
-use Rattle.rls_model.specs.EditRun.{Run, Done, Stopped}
-use Rattle.rls_model.specs.History.{History, Fresh, group_of, members_of}
-use Rattle.rls_model.specs.Receiving.{State}
-use Rattle.rls_model.specs.Taking.{Progress, message_for, take_message}
-use Rattle.rls_file.specs.Files.{Content, Journal, Snapshot, journal_bytes}
-use Rattle.rls_file.specs.ReadingFiles.{begins_snapshot, file_of}
+use Rattle.rls_model.specs.Machine.{Run, Done, Stopped}
+use Rattle.rls_seen.specs.Kept.{parts_over}
+use Rattle.rls_seen.specs.Messages.{Course, message_over, taken_over}
+use Rattle.rls_seen.specs.Seen.{Seen, fresh, members, text_over}
+use Rattle.rls_world.specs.declared.trials.Summary.{Summary}
+use Rattle.rls_world.specs.Trial.{trial}
+use Rattle.rls_file.specs.Files.{Content, file_bytes}
+use Rattle.rls_file.specs.ReadingFiles.{file_of}
+use Rattle.rls_store.specs.Loading.{seen_in}
 use Rattle.rls_report.specs.declared.failures.LineFault.{LineFault}
-use Rattle.rls_report.specs.declared.failures.Failure.TheVariants.{Usage, NoReplica, ReplicaExists, Damaged, BadMembers, BadMe, NotMember, BadLine, Malformed, OtherGroup, TooLarge}
-use Rattle.rls_report.specs.declared.failures.Failure.TheVariants as failures
-use Rattle.rls_report.specs.Listing.{ids_of}
+use Rattle.rls_report.specs.declared.failures.CommandError.{CommandError}
+use Rattle.rls_report.specs.declared.failures.CommandError.TheVariants.{NoReplica, ReplicaExists, Damaged, BadMembers, BadMe, NotMember, BadLine, Malformed, OtherGroup, TooLarge}
+use Rattle.rls_report.specs.declared.failures.CommandError.TheVariants as errors
+use Rattle.rls_report.specs.Failures.{error_status, error_line, usage_line}
+use Rattle.rls_report.specs.Listing.{ids_over}
 use Rattle.rls_report.specs.Refused.{refused_line}
-use Rattle.rls_report.specs.Reports.{new_text, edit_text, take_text}
+use Rattle.rls_report.specs.Reports.{new_text, edit_text, take_text, trial_text}
+use Rattle.rls_report.specs.Stat.{stat_over}
 use Rattle.rls_script.specs.Scripts.{script_of}
 use Rattle.rls_script.specs.declared.lines.Line.{Line}
-use Rattle.rls_top.specs.declared.stop.Stop.{Stop}
-use Rattle.rls_top.specs.declared.stop.Stop.TheVariants.{Failed, NotBuilt}
 use Rattle.rls_top.specs.declared.words.Command.{Command}
-use Rattle.rls_top.specs.declared.words.Command.TheVariants.{New, Edit, Text, Ids, Stat, Send, Take, Leave, Trial}
+use Rattle.rls_top.specs.declared.words.Command.TheVariants.{New, OnFile, Trial}
+use Rattle.rls_top.specs.declared.words.FileCommand.{FileCommand}
+use Rattle.rls_top.specs.declared.words.FileCommand.TheVariants.{Edit, Text, Ids, Stat, Send, Take, Leave}
 use Rattle.rls_top.specs.Lines.{run_script, run_leave}
-use Rattle.rls_top.specs.Stops.{stop_status, stop_line}
 use Rattle.rls_top.specs.Words.{command_of}
 
 -- the most bytes of a kept file, and of the input
@@ -37,9 +41,11 @@ input_limit = 67108864
 
 -- what a command makes, or why it ends early
 pub data Due : Type 0 where
-  -- the file to be stored, where the command stores one; what is written to the output; refused operations, each with its author and number
-  Makes : (stored : Option (List ℕ)) → (report : List ℕ) → (refused : List (ℕ × ℕ × Reason)) → Due
-  Stops : (stop : Stop) → Due
+  -- the words are no command
+  NoCommand : Due
+  -- the replica whose file is stored, if the command stores one; what is written to the output; refused operations, each with its author and number
+  Makes : (stored : Option Seen) → (report : List ℕ) → (refused : List (ℕ × ℕ × Reason)) → Due
+  Stops : (error : CommandError) → Due
 
 -- this report, and nothing is stored
 abbrev pub shows : List ℕ → Due
@@ -48,135 +54,166 @@ shows report = Makes None report []
 -- ---- reading and storing
 
 -- the bytes of the file, if there is one, unless they are too many
-abbrev pub loaded : Option (List ℕ) → Result (Option (List ℕ)) Stop
+abbrev pub loaded : Option (List ℕ) → Result (Option (List ℕ)) CommandError
 loaded None = Ok None
-loaded (Some bytes) = if nat_lt file_limit (length bytes) then Err (Failed TooLarge) else Ok (Some bytes)
+loaded (Some bytes) = if nat_lt file_limit (length bytes) then Err TooLarge else Ok (Some bytes)
 
--- what a file says, or why it can't be used
-abbrev pub state_of_content : Result Content ℕ → Result State Stop
-state_of_content (Ok (Journal s)) = Ok s
-state_of_content (Ok (Snapshot form parts)) = Err NotBuilt
-state_of_content (Err at) = Err (Failed (Damaged at))
+-- the replica that a file says
+abbrev pub replica_of : Result Content ℕ → Result Seen CommandError
+replica_of (Ok c) = Ok (seen_in c)
+replica_of (Err at) = Err (Damaged at)
 
--- what bytes say
-abbrev pub state_of : List ℕ → Result State Stop
-state_of bytes = if begins_snapshot bytes then Err NotBuilt else state_of_content (file_of bytes)
-
--- what the file says
-abbrev pub state_in : Result (Option (List ℕ)) Stop → Result State Stop
-state_in (Ok None) = Err (Failed NoReplica)
-state_in (Ok (Some bytes)) = state_of bytes
-state_in (Err stop) = Err stop
+-- the replica of the file that was loaded
+abbrev pub replica_in : Result (Option (List ℕ)) CommandError → Result Seen CommandError
+replica_in (Ok None) = Err NoReplica
+replica_in (Ok (Some bytes)) = replica_of (file_of bytes)
+replica_in (Err e) = Err e
 
 -- the input, unless it is too long
-abbrev pub read : List ℕ → Result (List ℕ) Stop
-read input = if nat_lt input_limit (length input) then Err (Failed TooLarge) else Ok input
+abbrev pub read : List ℕ → Result (List ℕ) CommandError
+read input = if nat_lt input_limit (length input) then Err TooLarge else Ok input
 
--- the bytes of a state, unless they are too many
-abbrev pub saved : State → Result (List ℕ) Stop
-saved s = if nat_lt file_limit (length (journal_bytes s)) then Err (Failed TooLarge) else Ok (journal_bytes s)
+-- the file of a replica, in the newest form
+abbrev pub bytes_over : Seen → List ℕ
+bytes_over s = file_bytes (parts_over s)
 
--- these bytes are stored, with this report
-abbrev pub stores : Result (List ℕ) Stop → List ℕ → List (ℕ × ℕ × Reason) → Due
-stores (Ok bytes) report refused = Makes (Some bytes) report refused
-stores (Err stop) report refused = Stops stop
+-- the replica, unless its file is too long
+abbrev pub saved : Seen → Result Seen CommandError
+saved s = if nat_lt file_limit (length (bytes_over s)) then Err TooLarge else Ok s
 
--- ---- commands on a state
+-- this replica is stored, with this report
+abbrev pub stores : Result Seen CommandError → List ℕ → List (ℕ × ℕ × Reason) → Due
+stores (Ok s) report refused = Makes (Some s) report refused
+stores (Err e) report refused = Stops e
+
+-- ---- commands on a replica
 
 -- the text
-abbrev pub due_of_text : History → Due
-due_of_text H = shows (encode_utf8_all (text H))
+abbrev pub due_of_text : Seen → Due
+due_of_text s = shows (encode_utf8_all (text_over s))
 
 -- the listing of its identifiers
-abbrev pub due_of_ids : History → Due
-due_of_ids H = shows (ids_of H)
+abbrev pub due_of_ids : Seen → Due
+due_of_ids s = shows (ids_over s)
+
+-- its numbers
+abbrev pub due_of_stat : Seen → Due
+due_of_stat s = shows (stat_over s)
 
 -- the message for a member
-abbrev pub due_of_send : History → ℕ → Due
-due_of_send H to = if nat_lt to (members_of H) then shows (message_bytes (message_for H to)) else Stops (Failed (NotMember to))
+abbrev pub due_of_send : Seen → ℕ → Due
+due_of_send s to = if nat_lt to (members s) then shows (message_bytes (message_over s to)) else Stops (NotMember to)
 
 -- after n edits
-abbrev pub due_of_run : ℕ → Run State LineFault → Due
-due_of_run n (Done p) = stores (saved p.state) (edit_text n p.counts.released (length p.counts.refused)) p.counts.refused
-due_of_run n (Stopped line fault) = Stops (Failed (failures.Edit line fault))
+abbrev pub due_of_run : ℕ → Run Seen LineFault → Due
+due_of_run n (Done c) = stores (saved c.state) (edit_text n c.counts.released (length c.counts.refused)) c.counts.refused
+due_of_run n (Stopped line fault) = Stops (errors.Edit line fault)
 
 -- the lines of a script, or the number of the first bad one
-abbrev pub due_of_script : State → Result (List Line) ℕ → Due
+abbrev pub due_of_script : Seen → Result (List Line) ℕ → Due
 due_of_script s (Ok lines) = due_of_run (length lines) (run_script s lines)
-due_of_script s (Err line) = Stops (Failed (BadLine line))
+due_of_script s (Err line) = Stops (BadLine line)
 
 -- after a message was taken
-abbrev pub due_of_progress : Progress → Due
-due_of_progress p = stores (saved p.state) (take_text p.counts.applied p.counts.released p.counts.repeated p.counts.held (length p.counts.refused)) p.counts.refused
+abbrev pub due_of_taken : Course → Due
+due_of_taken c = stores (saved c.state) (take_text c.counts.applied c.counts.released c.counts.repeated c.counts.held (length c.counts.refused)) c.counts.refused
 
 -- the message is of this group and of as many members
-abbrev pub is_for : History → Message → Bool
-is_for H m = (m.group == group_of H) && (m.members == members_of H)
+abbrev pub is_for : Seen → Message → Bool
+is_for s m = (m.group == s.group) && (m.members == members s)
 
 -- the message, or the place of its first fault
-abbrev pub due_of_message : State → Result Message ℕ → Due
-due_of_message s (Ok m) = if is_for s.history m then due_of_progress (take_message s m) else Stops (Failed (OtherGroup m.group m.members))
-due_of_message s (Err at) = Stops (Failed (Malformed at))
+abbrev pub due_of_message : Seen → Result Message ℕ → Due
+due_of_message s (Ok m) = if is_for s m then due_of_taken (taken_over s m) else Stops (OtherGroup m.group m.members)
+due_of_message s (Err at) = Stops (Malformed at)
 
 -- with the input that was read
-abbrev pub due_of_input : Result (List ℕ) Stop → (List ℕ → Due) → Due
+abbrev pub due_of_input : Result (List ℕ) CommandError → (List ℕ → Due) → Due
 due_of_input (Ok bytes) due = due bytes
-due_of_input (Err stop) due = Stops stop
+due_of_input (Err e) due = Stops e
 
--- what the command calls for at this state
-abbrev pub due_at : Command → State → List ℕ → Due
-due_at Text s input = due_of_text s.history
-due_at Ids s input = due_of_ids s.history
-due_at (Send to) s input = due_of_send s.history to
-due_at Edit s input = due_of_input (read input) (λ bytes. due_of_script s (script_of bytes))
-due_at Take s input = due_of_input (read input) (λ bytes. due_of_message s (message_of bytes))
-due_at Leave s input = due_of_run 1 (run_leave s)
-due_at _ s input = Stops NotBuilt
+-- what the command calls for at this replica, if the input is told or not read
+abbrev pub due_at : FileCommand → Seen → Option (List ℕ) → Option Due
+due_at Text s left = Some (due_of_text s)
+due_at Ids s left = Some (due_of_ids s)
+due_at Stat s left = Some (due_of_stat s)
+due_at (Send to) s left = Some (due_of_send s to)
+due_at Leave s left = Some (due_of_run 1 (run_leave s))
+due_at Edit s left = option_map (λ input. due_of_input (read input) (λ bytes. due_of_script s (script_of bytes))) left
+due_at Take s left = option_map (λ input. due_of_input (read input) (λ bytes. due_of_message s (message_of bytes))) left
 
 -- ---- commands on a file
 
--- at the state of the kept file
-abbrev pub due_on : Command → Result State Stop → List ℕ → Due
-due_on c (Ok s) input = due_at c s input
-due_on c (Err stop) input = Stops stop
+-- at the replica of the kept file, before the input is read
+abbrev pub due_on : FileCommand → Result Seen CommandError → Option (List ℕ) → Option Due
+due_on c (Ok s) left = due_at c s left
+due_on c (Err e) left = Some (Stops e)
 
--- a fresh replica, where there is no file
-abbrev pub due_of_fresh : ℕ → ℕ → ℕ → Result (Option (List ℕ)) Stop → Due
-due_of_fresh group me members (Ok None) = stores (saved (record { history = Fresh group me members; waiting = [] })) (new_text group me members) []
-due_of_fresh group me members (Ok (Some bytes)) = Stops (Failed ReplicaExists)
-due_of_fresh group me members (Err stop) = Stops stop
+-- if the kept file is told
+abbrev pub due_of_file : FileCommand → Option (Option (List ℕ)) → Option (List ℕ) → Option Due
+due_of_file c None left = None
+due_of_file c (Some kept) left = due_on c (replica_in (loaded kept)) left
 
--- the end for numbers that are out of range
-abbrev pub stop_of_numbers : ℕ → ℕ → Option Stop
-stop_of_numbers me members =
-    if not (is_member_count members) then Some (Failed (BadMembers members))
-    else if not (nat_lt me members) then Some (Failed (BadMe me))
+-- ---- commands without one
+
+-- a fresh replica, if there is no file
+abbrev pub due_of_fresh : ℕ → ℕ → ℕ → Result (Option (List ℕ)) CommandError → Due
+due_of_fresh group me members (Ok None) = stores (saved (fresh group me members)) (new_text group me members) []
+due_of_fresh group me members (Ok (Some bytes)) = Stops ReplicaExists
+due_of_fresh group me members (Err e) = Stops e
+
+-- what is wrong with the numbers of a replica
+abbrev pub error_of_numbers : ℕ → ℕ → Option CommandError
+error_of_numbers me members =
+    if not (is_member_count members) then Some (BadMembers members)
+    else if not (nat_lt me members) then Some (BadMe me)
     else None
 
--- what is called for, unless something ends the command before
-abbrev pub unless_stopped : Option Stop → Due → Due
-unless_stopped None d = d
-unless_stopped (Some stop) d = Stops stop
+-- the numbers decide before the kept file is looked at
+abbrev pub due_of_new : Option CommandError → ℕ → ℕ → ℕ → Option (Option (List ℕ)) → Option Due
+due_of_new (Some e) group me members file = Some (Stops e)
+due_of_new None group me members file = option_map (λ kept. due_of_fresh group me members (loaded kept)) file
 
--- and where its numbers are in range
-abbrev pub due_of_new : ℕ → ℕ → ℕ → Option (List ℕ) → Due
-due_of_new group me members kept = unless_stopped (stop_of_numbers me members) (due_of_fresh group me members (loaded kept))
+-- the summary of a trial
+abbrev pub summary_text : ℕ → ℕ → Summary → List ℕ
+summary_text seed steps s = trial_text seed steps s.accepted (zip s.totals s.runs) s.epochs s.former
 
 -- ---- commands
 
-abbrev pub due_of_command : Command → Option (List ℕ) → List ℕ → Due
-due_of_command (New group me members) kept input = due_of_new group me members kept
-due_of_command Stat kept input = Stops NotBuilt
-due_of_command (Trial seed steps) kept input = Stops NotBuilt
-due_of_command c kept input = due_on c (state_in (loaded kept)) input
+abbrev pub due_of_command : Command → Option (Option (List ℕ)) → Option (List ℕ) → Option Due
+due_of_command (New group me members) file left = due_of_new (error_of_numbers me members) group me members file
+due_of_command (OnFile c) file left = due_of_file c file left
+due_of_command (Trial seed steps) file left = Some (shows (summary_text seed steps (trial seed steps)))
 
-abbrev pub due_of_words : Option Command → Option (List ℕ) → List ℕ → Due
-due_of_words None kept input = Stops (Failed Usage)
-due_of_words (Some c) kept input = due_of_command c kept input
+abbrev pub due_of_words : Option Command → Option (Option (List ℕ)) → Option (List ℕ) → Option Due
+due_of_words None file left = Some NoCommand
+due_of_words (Some c) file left = due_of_command c file left
 
--- what these words call for, where this file is kept and this is the input
-abbrev pub due : List (List ℕ) → Option (List ℕ) → List ℕ → Due
-due words kept input = due_of_words (command_of words) kept input
+-- what these words call for, if the kept file and the input are told as far as the command looks at them
+abbrev pub due : List (List ℕ) → Option (Option (List ℕ)) → Option (List ℕ) → Option Due
+due words file left = due_of_words (command_of words) file left
+
+-- ---- which devices a command calls
+
+-- the command reads the input
+abbrev pub reads_input : Option Command → Bool
+reads_input (Some (OnFile Edit)) = true
+reads_input (Some (OnFile Take)) = true
+reads_input _ = false
+
+-- the command may store a file
+abbrev pub may_store : Option Command → Bool
+may_store (Some (New group me members)) = true
+may_store (Some (OnFile Edit)) = true
+may_store (Some (OnFile Take)) = true
+may_store (Some (OnFile Leave)) = true
+may_store _ = false
+
+-- the command calls the keeper
+abbrev pub calls_keeper : Option Command → Bool
+calls_keeper (Some (New group me members)) = is_member_count members && nat_lt me members
+calls_keeper (Some (OnFile c)) = true
+calls_keeper _ = false
 
 -- ---- what is seen of it
 
@@ -189,60 +226,12 @@ abbrev pub made_status : List (ℕ × ℕ × Reason) → ℕ
 made_status refused = if length refused == 0 then 0 else 5
 
 abbrev pub due_status : Due → ℕ
+due_status NoCommand = 1
 due_status (Makes stored report refused) = made_status refused
-due_status (Stops stop) = stop_status stop
+due_status (Stops e) = error_status e
 
 -- what is written to the errors
 abbrev pub due_line : Due → List ℕ
+due_line NoCommand = usage_line
 due_line (Makes stored report refused) = refused_lines refused
-due_line (Stops stop) = stop_line stop
-
--- the file afterwards, where this is stored, if anything
-abbrev pub stored_or : Option (List ℕ) → Option (List ℕ) → Option (List ℕ)
-stored_or None kept = kept
-stored_or (Some bytes) kept = Some bytes
-
--- ---- which commands read or store
-
--- the command reads the input
-abbrev pub reads_input : Option Command → Bool
-reads_input (Some Edit) = true
-reads_input (Some Take) = true
-reads_input _ = false
-
--- the command may store a file
-abbrev pub may_store : Option Command → Bool
-may_store (Some (New group me members)) = true
-may_store (Some Edit) = true
-may_store (Some Take) = true
-may_store (Some Leave) = true
-may_store _ = false
-
--- the command isn't built yet
-abbrev pub IsUnbuilt : Option Command → Type 0
-IsUnbuilt (Some Stat) = Unit {0}
-IsUnbuilt (Some (Trial seed steps)) = Unit {0}
-IsUnbuilt _ = ⊥
-
--- the input, as far as the command looks at it, where it is told
-abbrev pub heard : Option Command → Option (List ℕ) → Option (List ℕ)
-heard c left = if reads_input c then left else Some []
-
--- ---- what ends a command early
-
--- the end that the words call for alone, before the keeper is called, where they call for one
-abbrev pub stop_of_words : Option Command → Option Stop
-stop_of_words None = Some (Failed Usage)
-stop_of_words (Some (New group me members)) = stop_of_numbers me members
-stop_of_words (Some Stat) = Some NotBuilt
-stop_of_words (Some (Trial seed steps)) = Some NotBuilt
-stop_of_words _ = None
-
--- the end for a file that can't be used
-abbrev pub stop_in : Result State Stop → Option Stop
-stop_in (Ok s) = None
-stop_in (Err stop) = Some stop
-
--- the end that the kept file calls for before the input is read, of a command that reads it, where it calls for one
-abbrev pub stop_of_file : Option Command → Option (List ℕ) → Option Stop
-stop_of_file c kept = if reads_input c then stop_in (state_in (loaded kept)) else None
+due_line (Stops e) = error_line e

@@ -1,37 +1,22 @@
 -- How a command ends, given what it calls for.
-use Rattle.std.specs.Prelude.{◌≡◌, ◌⊎◌, ◌==◌, ℕ, List, Option, Some, None, if◌then◌else◌}
-use Rattle.rls_io.specs.Device.{Appends, Stores}
-use Rattle.rls_report.specs.declared.failures.Failure.TheVariants.{Usage, KeeperFault, SourceFault, SinkFault, OutOfMemory, TooLarge}
-use Rattle.rls_report.specs.Failures.{failure_line}
-use Rattle.rls_top.specs.Due.{Due, Makes, Stops, due, heard, due_status, due_line, stored_or}
-use Rattle.rls_top.specs.declared.stop.Stop.{Stop}
-use Rattle.rls_top.specs.declared.stop.Stop.TheVariants.{NotBuilt}
-use Rattle.rls_top.specs.Stops.{IsPart, stop_status, stop_line}
-use Rattle.rls_top.specs.Words.{command_of}
-
--- this holds of the kept file and of the input, where both are told
-abbrev pub Told : Option (Option (List ℕ)) → Option (List ℕ) → (Option (List ℕ) → List ℕ → Type 0) → Type 0
-Told None heard holds = Unit {0}
-Told (Some kept) None holds = Unit {0}
-Told (Some kept) (Some input) holds = holds kept input
-
--- this holds of what the words call for and of the kept file, where the file is told, and the input as far as it is read
-abbrev pub IfTold : List (List ℕ) → Option (Option (List ℕ)) → Option (List ℕ) → (Due → Option (List ℕ) → Type 0) → Type 0
-IfTold words file left holds = Told file (heard (command_of words) left) (λ kept input. holds (due words kept input) kept)
+use Rattle.std.specs.Prelude.{◌≡◌, ◌⊎◌, ◌≤◌, ◌==◌, ℕ, List, length, take, Option, Some, None, IfSome, option_map, IsTrue, if◌then◌else◌}
+use Rattle.rls_io.specs.Device.{Appends, Keeps, Stores}
+use Rattle.rls_report.specs.declared.failures.CommandError.TheVariants.{TooLarge}
+use Rattle.rls_report.specs.declared.failures.Fault.TheVariants.{Keeper, Source, Sink, Memory}
+use Rattle.rls_report.specs.Failures.{error_line, fault_line, usage_line}
+use Rattle.rls_seen.specs.Kept.{parts_over}
+use Rattle.rls_seen.specs.Seen.{Seen}
+use Rattle.rls_file.specs.FileLaws.{IsFile}
+use Rattle.rls_file.specs.Files.{Snapshot, newest_form}
+use Rattle.rls_store.specs.Stored.{AreWritable}
+use Rattle.rls_top.specs.declared.words.Command.{Command}
+use Rattle.rls_top.specs.Due.{Due, NoCommand, Makes, Stops, bytes_over, may_store, due_line}
 
 -- ---- the status
 
--- it is the one that is called for, or a device failed, or memory ran out
-abbrev pub IsStatus : Due → ℕ → Type 0 → Type 0 → Type 0 → Type 0
-IsStatus d n keeper input output = (n ≡ due_status d) ⊎ ((n ≡ 7) × keeper) ⊎ ((n ≡ 8) × input) ⊎ ((n ≡ 9) × output) ⊎ (n ≡ 10)
-
--- it is that of this end, or memory ran out
-abbrev pub IsStatusAt : Stop → ℕ → Type 0
-IsStatusAt stop n = (n ≡ stop_status stop) ⊎ (n ≡ 10)
-
--- or the keeper failed
-abbrev pub IsStatusAtFile : Stop → ℕ → Type 0 → Type 0
-IsStatusAtFile stop n keeper = (n ≡ stop_status stop) ⊎ ((n ≡ 7) × keeper) ⊎ (n ≡ 10)
+-- a device failed, or memory ran out
+abbrev pub IsFault : ℕ → Type 0
+IsFault n = (n ≡ 7) ⊎ (n ≡ 8) ⊎ (n ≡ 9) ⊎ (n ≡ 10)
 
 -- done, perhaps but for refused operations
 abbrev pub IsDone : ℕ → Type 0
@@ -41,53 +26,71 @@ IsDone n = (n ≡ 0) ⊎ (n ≡ 5)
 abbrev pub IsStored : ℕ → Type 0
 IsStored n = (n ≡ 0) ⊎ (n ≡ 5) ⊎ (n ≡ 9)
 
+-- the command may have stored a file if it ends so
+abbrev pub MayStore : Option Command → ℕ → Type 0
+MayStore c n = IsTrue (may_store c) × (IsStored n ⊎ (n ≡ 7) ⊎ (n ≡ 10))
+
 -- ---- what is written
+
+-- these bytes were written, or a part of them from the front
+abbrev pub IsPart : Option (List ℕ) → Option (List ℕ) → List ℕ → Type 0
+IsPart old new bytes = (n : ℕ) × (n ≤ length bytes) × Appends old new (take n bytes)
+
+-- these bytes were written, or a part of them if the sink failed
+abbrev pub Writes : Type 0 → Option (List ℕ) → Option (List ℕ) → List ℕ → Type 0
+Writes fails old new bytes = Appends old new bytes ⊎ (fails × IsPart old new bytes)
 
 -- the report that is called for was written
 abbrev pub IsWritten : Due → Option (List ℕ) → Option (List ℕ) → Type 0
+IsWritten NoCommand old new = ⊥
 IsWritten (Makes stored report refused) old new = Appends old new report
-IsWritten (Stops stop) old new = ⊥
+IsWritten (Stops e) old new = ⊥
 
 -- or a part of it, from the front
 abbrev pub IsPartWritten : Due → Option (List ℕ) → Option (List ℕ) → Type 0
+IsPartWritten NoCommand old new = ⊥
 IsPartWritten (Makes stored report refused) old new = IsPart old new report
-IsPartWritten (Stops stop) old new = ⊥
+IsPartWritten (Stops e) old new = ⊥
 
--- what is written to the errors at this status
-abbrev pub line_at : Due → ℕ → List ℕ
-line_at d n =
-    if n == 7 then failure_line KeeperFault
-    else if n == 8 then failure_line SourceFault
-    else if n == 9 then failure_line SinkFault
-    else if n == 10 then failure_line OutOfMemory
-    else due_line d
-
--- what is written to the errors at a status that has one line for all its causes
+-- the line of a status that has one line for all its causes
 abbrev pub own_line : ℕ → Option (List ℕ)
 own_line n =
-    if n == 1 then Some (failure_line Usage)
-    else if n == 7 then Some (failure_line KeeperFault)
-    else if n == 8 then Some (failure_line SourceFault)
-    else if n == 9 then Some (failure_line SinkFault)
-    else if n == 10 then Some (failure_line OutOfMemory)
-    else if n == 11 then Some (failure_line TooLarge)
-    else if n == 12 then Some (stop_line NotBuilt)
+    if n == 1 then Some usage_line
+    else if n == 7 then Some (fault_line Keeper)
+    else if n == 8 then Some (fault_line Source)
+    else if n == 9 then Some (fault_line Sink)
+    else if n == 10 then Some (fault_line Memory)
+    else if n == 11 then Some (error_line TooLarge)
     else None
+
+-- this, or else that
+abbrev pub or_else : {A : Type 0} → Option A → Option A → Option A
+or_else None y = y
+or_else (Some x) y = Some x
+
+-- what is written to the errors at a status, if it is told
+abbrev pub line_at : Option Due → ℕ → Option (List ℕ)
+line_at d n = or_else (own_line n) (option_map due_line d)
 
 -- ---- the kept file
 
--- the file that is called for is kept now
-abbrev pub IsKept : Due → Option (List ℕ) → Option (Option (List ℕ)) → Type 0
-IsKept (Makes stored report refused) kept new = new ≡ Some (stored_or stored kept)
-IsKept (Stops stop) kept new = ⊥
+-- these bytes are kept now, or if there are none the file is what it was
+abbrev pub LeavesFile : Option (List ℕ) → Option (Option (List ℕ)) → Option (Option (List ℕ)) → Type 0
+LeavesFile None old new = Keeps old new
+LeavesFile (Some bytes) old new = Stores old new bytes
 
--- the file is as before, where it is told before and afterwards
+-- the replica's file is read back with its parts, if the replica may be written
+abbrev pub IsReadBack : Seen → Type 0
+IsReadBack s = AreWritable s → IsFile (bytes_over s) (Snapshot newest_form (parts_over s))
+
+-- the file of the replica that is called for is kept, and is read back
+abbrev pub IsKept : Due → Option (Option (List ℕ)) → Option (Option (List ℕ)) → Type 0
+IsKept NoCommand old new = ⊥
+IsKept (Makes stored report refused) old new = LeavesFile (option_map bytes_over stored) old new × IfSome stored IsReadBack
+IsKept (Stops e) old new = ⊥
+
+-- the file is as before, if it is told before and afterwards
 abbrev pub Stays : Option (Option (List ℕ)) → Option (Option (List ℕ)) → Type 0
 Stays None new = Unit {0}
 Stays (Some kept) None = Unit {0}
 Stays (Some kept) (Some now) = now ≡ kept
-
--- these bytes are kept now, or where there are none the file is what it was
-abbrev pub LeavesFile : Option (List ℕ) → Option (Option (List ℕ)) → Option (Option (List ℕ)) → Type 0
-LeavesFile None old new = new ≡ old
-LeavesFile (Some bytes) old new = Stores old new bytes

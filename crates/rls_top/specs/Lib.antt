@@ -1,8 +1,7 @@
 pub mod Words
-pub mod Stops
 pub mod Lines
 pub mod Due
 pub mod Endings
-pub mod Made
-pub mod Steps
+pub mod Stages
+pub mod Uses
 pub mod Headline

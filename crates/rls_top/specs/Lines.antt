@@ -1,4 +1,4 @@
--- The lines of a script as edits.
+-- The lines of a script as edits, read over what a replica consists of, and over a history.
 use Rattle.std.specs.Prelude.{ℕ, ◌-◌, List, [], ◌∷◌, encode_utf8_all, Option, Some, None, Result, Ok, Err}
 use Rattle.rls_model.specs.declared.edit.Edit.{Edit}
 use Rattle.rls_model.specs.declared.edit.Edit.TheVariants as edits
@@ -6,7 +6,8 @@ use Rattle.rls_model.specs.declared.edit.EditError.{EditError}
 use Rattle.rls_model.specs.declared.edit.EditError.TheVariants as errors
 use Rattle.rls_model.specs.Document.{text}
 use Rattle.rls_model.specs.Editing.{edit_fault}
-use Rattle.rls_model.specs.EditRun.{Run, run_lines, unless_fault}
+use Rattle.rls_model.specs.EditRun as histories
+use Rattle.rls_model.specs.Machine.{Run, run_on, started, unless_fault}
 use Rattle.rls_model.specs.Receiving.{State}
 use Rattle.rls_report.specs.declared.failures.LineFault.{LineFault}
 use Rattle.rls_report.specs.declared.failures.LineFault.TheVariants as faults
@@ -15,6 +16,9 @@ use Rattle.rls_script.specs.declared.clusters.ClusterError.{ClusterError}
 use Rattle.rls_script.specs.declared.clusters.ClusterError.TheVariants as clusters
 use Rattle.rls_script.specs.declared.lines.Line.{Line}
 use Rattle.rls_script.specs.declared.lines.Line.TheVariants.{Insert, Delete, Back, Rename}
+use Rattle.rls_seen.specs.Edits.{edit_fault_over}
+use Rattle.rls_seen.specs.Messages.{by_parts}
+use Rattle.rls_seen.specs.Seen.{Seen, text_over}
 
 -- how a refused edit is told. Want of memory is none of these, and stands for itself elsewhere
 abbrev pub line_fault : EditError → LineFault
@@ -31,27 +35,55 @@ abbrev pub line_fault_of : Option EditError → Option LineFault
 line_fault_of None = None
 line_fault_of (Some e) = Some (line_fault e)
 
+-- ---- at any state, by the fault of an edit there and by its text
+
 -- the edit, or the fault for which it is refused
-abbrev pub allowed : State → Edit → Result Edit LineFault
-allowed s edit = unless_fault (line_fault_of (edit_fault s.history edit)) edit
+abbrev pub allowed_by : {X : Type 0} → (X → Edit → Option EditError) → X → Edit → Result Edit LineFault
+allowed_by fault x edit = unless_fault (line_fault_of (fault x edit)) edit
 
 -- a cluster is deleted from where it begins to where it ends
-abbrev pub backward : State → ℕ → Result ℕ ClusterError → Result Edit LineFault
-backward s at (Ok from) = allowed s (edits.Delete from (at - from))
-backward s at (Err (clusters.Range p total)) = Err (faults.Range p total)
-backward s at (Err (clusters.NotBoundary p)) = Err (faults.NotBoundary p)
+abbrev pub backward_by : {X : Type 0} → (X → Edit → Option EditError) → X → ℕ → Result ℕ ClusterError → Result Edit LineFault
+backward_by fault x at (Ok from) = allowed_by fault x (edits.Delete from (at - from))
+backward_by fault x at (Err (clusters.Range p total)) = Err (faults.Range p total)
+backward_by fault x at (Err (clusters.NotBoundary p)) = Err (faults.NotBoundary p)
 
--- what a line does at this state
-abbrev pub read_line : State → Line → Result Edit LineFault
-read_line s (Insert at cs) = allowed s (edits.Insert at cs)
-read_line s (Delete at n) = allowed s (edits.Delete at n)
-read_line s (Back at) = backward s at (cluster_before (encode_utf8_all (text s.history)) at)
-read_line s Rename = allowed s edits.Rename
+-- what a line does
+abbrev pub line_by : {X : Type 0} → (X → Edit → Option EditError) → (X → List ℕ) → X → Line → Result Edit LineFault
+line_by fault text x (Insert at cs) = allowed_by fault x (edits.Insert at cs)
+line_by fault text x (Delete at n) = allowed_by fault x (edits.Delete at n)
+line_by fault text x (Back at) = backward_by fault x at (cluster_before (encode_utf8_all (text x)) at)
+line_by fault text x Rename = allowed_by fault x edits.Rename
 
--- all lines, one after another
-abbrev pub run_script : State → List Line → Run State LineFault
+-- ---- over what a replica consists of
+
+abbrev pub allowed : Seen → Edit → Result Edit LineFault
+allowed s edit = allowed_by edit_fault_over s edit
+
+abbrev pub read_line : Seen → Line → Result Edit LineFault
+read_line s line = line_by edit_fault_over text_over s line
+
+-- all lines, counted from 1
+unfoldable pub run_lines : {L F : Type 0} → (Seen → L → Result Edit F) → Seen → List L → Run Seen F
+run_lines reads s lines = run_on by_parts reads 1 (started None s) lines
+
+-- all lines of a script, one after another
+abbrev pub run_script : Seen → List Line → Run Seen LineFault
 run_script s lines = run_lines read_line s lines
 
 -- one leave
-abbrev pub run_leave : State → Run State LineFault
+abbrev pub run_leave : Seen → Run Seen LineFault
 run_leave s = run_lines allowed s (edits.Leave ∷ [])
+
+-- ---- over a history
+
+abbrev pub fault_in : State → Edit → Option EditError
+fault_in t edit = edit_fault t.history edit
+
+abbrev pub text_in : State → List ℕ
+text_in t = text t.history
+
+abbrev pub script_in : State → List Line → Run State LineFault
+script_in t lines = histories.run_lines (line_by fault_in text_in) t lines
+
+abbrev pub leave_in : State → Run State LineFault
+leave_in t = histories.run_lines (allowed_by fault_in) t (edits.Leave ∷ [])

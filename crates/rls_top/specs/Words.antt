@@ -2,7 +2,9 @@
 use Rattle.std.specs.Prelude.{ℕ, List, [], ◌∷◌, codes, bytes_eq, nat_le, Option, Some, None, option_and_then, if◌then◌else◌}
 use Rattle.rls_script.specs.Scripts.{number_of}
 use Rattle.rls_top.specs.declared.words.Command.{Command}
-use Rattle.rls_top.specs.declared.words.Command.TheVariants.{New, Edit, Text, Ids, Stat, Send, Take, Leave, Trial}
+use Rattle.rls_top.specs.declared.words.Command.TheVariants.{New, OnFile, Trial}
+use Rattle.rls_top.specs.declared.words.FileCommand.{FileCommand}
+use Rattle.rls_top.specs.declared.words.FileCommand.TheVariants.{Edit, Text, Ids, Stat, Send, Take, Leave}
 
 -- a number of at most this
 abbrev pub number_up_to : ℕ → List ℕ → Option ℕ
@@ -12,8 +14,8 @@ abbrev pub u32_of : List ℕ → Option ℕ
 u32_of word = number_up_to 4294967295 word
 
 -- the command without further words
-abbrev pub alone : Command → List (List ℕ) → Option Command
-alone c [] = Some c
+abbrev pub alone : FileCommand → List (List ℕ) → Option Command
+alone c [] = Some (OnFile c)
 alone c (w ∷ ws) = None
 
 abbrev pub new_of : List (List ℕ) → Option Command
@@ -22,7 +24,7 @@ new_of (group ∷ me ∷ members ∷ []) =
 new_of _ = None
 
 abbrev pub send_of : List (List ℕ) → Option Command
-send_of (to ∷ []) = option_and_then (λ n. Some (Send n)) (u32_of to)
+send_of (to ∷ []) = option_and_then (λ n. Some (OnFile (Send n))) (u32_of to)
 send_of _ = None
 
 abbrev pub trial_of : List (List ℕ) → Option Command

@@ -7,10 +7,11 @@ mod loading;
 mod made;
 mod making;
 mod showing;
-mod stop;
+mod stages;
 mod taking;
+mod telling;
 mod words;
 
 pub use command::run;
-pub use rls_report::{Failure, LineFault};
-pub use words::Command;
+pub use rls_report::{CommandError, Failure, Fault, LineFault};
+pub use words::{Command, FileCommand};

@@ -1,16 +1,17 @@
 //! The kept file and the input.
 
-ghost use Rattle.std.specs.Prelude.{◌≡◌, ◌≢◌, ◌≤◌, Err, IfSome, IfOk, IfErr};
+ghost use Rattle.std.specs.Prelude.{◌≡◌, ◌≢◌, ◌≤◌, Err, IfSome};
 ghost use Rattle.rls_io.specs.Device.{Rose, Keeps};
 ghost use Rattle.rls_io.specs.Memory.{bytes_of};
-ghost use Rattle.rls_top.specs.Due.{loaded, state_of, state_in, read};
-ghost use Rattle.rls_top.specs.Made.{Gives, IsInner, IsOfKeeper, IsOfInput};
-ghost use Rattle.rls_file.specs.Journals.{Tells, told};
+ghost use Rattle.rls_file.specs.ReadingFiles.{file_of};
+ghost use Rattle.rls_top.specs.Due.{loaded, replica_of, replica_in, read};
+ghost use Rattle.rls_top.specs.Stages.{Gives, of_input, of_open};
 
-use crate::stop::{Stop, failed};
-use rls_file::{FileError, Journal, decode_file};
+use crate::stages::{InputError, OpenError};
 use rls_io::{Found, Keeper, LoadError, ReadError, Source, read_all};
-use rls_report::Failure;
+use rls_replica::Replica;
+use rls_report::CommandError;
+use rls_store::{FileError, decode_file};
 use std::alloc::Global;
 
 /// The most bytes of a kept file.
@@ -20,62 +21,64 @@ const FILE_LIMIT: u64 = 268_435_456;
 const INPUT_LIMIT: u64 = 67_108_864;
 
 /// The bytes of the kept file, if there is one.
-pub(crate) fn load<K: Keeper>(alloc: Global, keeper: &mut K) -> Result<Option<Vec<u8>>, Stop>
-    ensures loaded { IfSome (K.file keeper.old) (λ kept. Gives bytes_of result (loaded kept)) }
-    ensures of_keeper { IfErr result IsOfKeeper }
-    ensures keeper { result ≡ Err (Stop.Failed Failure.KeeperFault) → Rose (K.faults keeper.old) (K.faults keeper.new) }
+pub(crate) fn load<K: Keeper>(alloc: Global, keeper: &mut K) -> Result<Option<Vec<u8>>, OpenError>
+    ensures loaded { IfSome (K.file keeper.old) (λ kept. Gives of_open bytes_of result (loaded kept)) }
+    ensures keeper { result ≡ Err OpenError.KeeperFault → Rose (K.faults keeper.old) (K.faults keeper.new) }
     ensures never_falls { K.faults keeper.old ≤ K.faults keeper.new }
     ensures kept { Keeps (K.file keeper.old) (K.file keeper.new) }
 {
     match keeper.load(alloc, FILE_LIMIT) {
-        Err(LoadError::Failed) => Err(failed(Failure::KeeperFault)),
-        Err(LoadError::OutOfMemory) => Err(failed(Failure::OutOfMemory)),
+        Err(LoadError::Failed) => Err(OpenError::KeeperFault),
+        Err(LoadError::OutOfMemory) => Err(OpenError::OutOfMemory),
         Ok(Found::Missing) => Ok(None),
-        Ok(Found::Longer) => Err(failed(Failure::TooLarge)),
+        Ok(Found::Longer) => Err(OpenError::Command {
+            error: CommandError::TooLarge,
+        }),
         Ok(Found::Bytes(bytes)) => Ok(Some(bytes)),
     }
 }
 
-/// The journal that the kept file is.
-pub(crate) fn open<K: Keeper>(alloc: Global, keeper: &mut K) -> Result<Journal, Stop>
-    ensures opened { IfSome (K.file keeper.old) (λ kept. Gives told result (state_in (loaded kept))) }
-    ensures tells { IfOk result (λ journal. Tells journal (told journal)) }
-    ensures of_keeper { IfErr result IsOfKeeper }
-    ensures keeper { result ≡ Err (Stop.Failed Failure.KeeperFault) → Rose (K.faults keeper.old) (K.faults keeper.new) }
+/// The replica that the kept file says.
+pub(crate) fn open<K: Keeper>(alloc: Global, keeper: &mut K) -> Result<Replica, OpenError>
+    ensures opened { IfSome (K.file keeper.old) (λ kept. Gives of_open (λ replica. replica) result (replica_in (loaded kept))) }
+    ensures keeper { result ≡ Err OpenError.KeeperFault → Rose (K.faults keeper.old) (K.faults keeper.new) }
     ensures never_falls { K.faults keeper.old ≤ K.faults keeper.new }
     ensures kept { Keeps (K.file keeper.old) (K.file keeper.new) }
 {
     match load(alloc, keeper) {
-        Err(stop) => Err(stop),
-        Ok(None) => Err(failed(Failure::NoReplica)),
+        Err(error) => Err(error),
+        Ok(None) => Err(OpenError::Command {
+            error: CommandError::NoReplica,
+        }),
         Ok(Some(bytes)) => decoded(alloc, &bytes),
     }
 }
 
-// The journal that these bytes are.
-fn decoded(alloc: Global, bytes: &[u8]) -> Result<Journal, Stop>
-    ensures state { Gives told result (state_of bytes.now) }
-    ensures tells { IfOk result (λ journal. Tells journal (told journal)) }
-    ensures inner { IfErr result IsInner }
+// The replica that these bytes say.
+fn decoded(alloc: Global, bytes: &[u8]) -> Result<Replica, OpenError>
+    ensures replica { Gives of_open (λ replica. replica) result (replica_of (file_of bytes.now)) }
+    ensures memory { result ≢ Err OpenError.KeeperFault }
 {
     match decode_file(alloc, bytes) {
-        Ok(journal) => Ok(journal),
-        Err(FileError::Damaged { at }) => Err(failed(Failure::Damaged { at })),
-        Err(FileError::NotBuilt) => Err(Stop::NotBuilt),
-        Err(FileError::OutOfMemory) => Err(failed(Failure::OutOfMemory)),
+        Ok(replica) => Ok(replica),
+        Err(FileError::Damaged { at }) => Err(OpenError::Command {
+            error: CommandError::Damaged { at },
+        }),
+        Err(FileError::OutOfMemory) => Err(OpenError::OutOfMemory),
     }
 }
 
 /// The whole input.
-pub(crate) fn read<S: Source>(alloc: Global, input: &mut S) -> Result<Vec<u8>, Stop>
-    ensures read { IfSome (S.left input.old) (λ given. Gives (λ bytes. bytes.items) result (read given)) }
-    ensures of_input { IfErr result IsOfInput }
-    ensures input { result ≡ Err (Stop.Failed Failure.SourceFault) → Rose (S.faults input.old) (S.faults input.new) }
+pub(crate) fn read<S: Source>(alloc: Global, input: &mut S) -> Result<Vec<u8>, InputError>
+    ensures read { IfSome (S.left input.old) (λ given. Gives of_input (λ bytes. bytes.items) result (read given)) }
+    ensures input { result ≡ Err InputError.SourceFault → Rose (S.faults input.old) (S.faults input.new) }
 {
     match read_all(alloc, input, INPUT_LIMIT) {
         Ok(bytes) => Ok(bytes),
-        Err(ReadError::Fault) => Err(failed(Failure::SourceFault)),
-        Err(ReadError::TooLarge) => Err(failed(Failure::TooLarge)),
-        Err(ReadError::OutOfMemory) => Err(failed(Failure::OutOfMemory)),
+        Err(ReadError::Fault) => Err(InputError::SourceFault),
+        Err(ReadError::TooLarge) => Err(InputError::Command {
+            error: CommandError::TooLarge,
+        }),
+        Err(ReadError::OutOfMemory) => Err(InputError::OutOfMemory),
     }
 }

@@ -1,22 +1,23 @@
 //! What a command has made before anything of it is stored or written.
 
-ghost use Rattle.std.specs.Prelude.{◌≡◌, ◌++◌, [], None, IfOk, IfErr, OnOk, take, string_bytes};
+ghost use Rattle.std.specs.Prelude.{◌≡◌, ◌++◌, [], None, IfOk, OnOk, take, string_bytes};
 ghost use Rattle.rls_model.specs.Answers.{reason_of};
 ghost use Rattle.rls_report.specs.Refused.{refused_line};
-ghost use Rattle.rls_top.specs.Due.{stores, saved, refused_lines};
-ghost use Rattle.rls_top.specs.Made.{IsMade, IsDue, IsInner, Gives};
-ghost use Rattle.rls_file.specs.Journals.{Tells, told};
+ghost use Rattle.rls_top.specs.Due.{bytes_over, stores, saved, refused_lines};
+ghost use Rattle.rls_top.specs.Endings.{IsReadBack};
+ghost use Rattle.rls_top.specs.Stages.{Gives, IsDue, IsMade, of_work};
 
-use crate::stop::{Stop, failed};
-use rls_file::{Journal, SaveError, encode_file};
+use crate::stages::WorkError;
 use rls_model::Refusals;
-use rls_report::{Failure, refusal_line};
+use rls_replica::Replica;
+use rls_report::{CommandError, refusal_line};
+use rls_store::{SaveError, encode_file};
 use std::alloc::{AllocError, Global};
 
 /// What a command has made, before anything of it is stored or written.
 #[derive(Drop)]
 pub(crate) struct Made {
-    /// The file that is to be stored, where the command stores one.
+    /// The file that is to be stored, if the command stores one.
     pub(crate) stored: Option<Vec<u8>>,
     /// What is to be written to the output.
     pub(crate) report: Vec<u8>,
@@ -39,21 +40,19 @@ pub(crate) fn showing(alloc: Global, report: Vec<u8>) -> Made
     }
 }
 
-/// The file of a journal, with this report and the lines that tell the refused operations.
+/// The file of a replica, with this report and the lines that tell the refused operations.
 pub(crate) fn saving(
     alloc: Global,
-    journal: &Journal,
+    replica: &Replica,
     report: String,
     refused: &Refusals,
-) -> Result<Made, Stop>
-    requires tells { Tells journal.now (told journal.now) }
-    ensures due { IsDue result (stores (saved (told journal.now)) (string_bytes report) refused.now) }
-    ensures inner { IfErr result IsInner }
+) -> Result<Made, WorkError>
+    ensures due { IsDue of_work result (stores (saved replica.now) (string_bytes report) refused.now) }
 {
     match lines_of(alloc, refused) {
-        Err(_) => Err(failed(Failure::OutOfMemory)),
-        Ok(lines) => match file_of(alloc, journal) {
-            Err(stop) => Err(stop),
+        Err(_) => Err(WorkError::OutOfMemory),
+        Ok(lines) => match file_of(alloc, replica) {
+            Err(error) => Err(error),
             Ok(bytes) => Ok(Made {
                 stored: Some(bytes),
                 report: report.into_bytes(),
@@ -64,16 +63,18 @@ pub(crate) fn saving(
     }
 }
 
-// The file of a journal.
-fn file_of(alloc: Global, journal: &Journal) -> Result<Vec<u8>, Stop>
-    requires tells { Tells journal.now (told journal.now) }
-    ensures file { Gives (λ bytes. bytes.items) result (saved (told journal.now)) }
-    ensures inner { IfErr result IsInner }
+// The file of a replica.
+fn file_of(alloc: Global, replica: &Replica) -> Result<Vec<u8>, WorkError>
+    ensures saved { Gives of_work (λ _. replica.now) result (saved replica.now) }
+    ensures bytes { IfOk result (λ bytes. bytes.items ≡ bytes_over replica.now) }
+    ensures read_back { OnOk result (IsReadBack replica.now) }
 {
-    match encode_file(alloc, journal) {
+    match encode_file(alloc, replica) {
         Ok(bytes) => Ok(bytes),
-        Err(SaveError::TooLarge { .. }) => Err(failed(Failure::TooLarge)),
-        Err(SaveError::OutOfMemory) => Err(failed(Failure::OutOfMemory)),
+        Err(SaveError::TooLarge { .. }) => Err(WorkError::Command {
+            error: CommandError::TooLarge,
+        }),
+        Err(SaveError::OutOfMemory) => Err(WorkError::OutOfMemory),
     }
 }
 

@@ -1,64 +1,92 @@
-//! Commands that write something of the replica, and store nothing.
+//! Commands that write something of the replica, and store nothing; and the trial.
 
-ghost use Rattle.std.specs.Prelude.{◌≡◌, None, IfOk, IfErr, encode_utf8_all, string_bytes};
-ghost use Rattle.rls_model.specs.Document.{text};
-ghost use Rattle.rls_top.specs.Due.{due_of_text, due_of_ids, due_of_send};
-ghost use Rattle.rls_top.specs.Made.{IsDue, IsInner};
-ghost use Rattle.rls_file.specs.Journals.{Tells, told};
+ghost use Rattle.std.specs.Prelude.{◌≡◌, ◌≤◌, None, IfOk, encode_utf8_all, string_bytes};
+ghost use Rattle.rls_seen.specs.Seen.{text_over};
+ghost use Rattle.rls_world.specs.Trial.{trial};
+ghost use Rattle.rls_top.specs.Due.{due_of_text, due_of_ids, due_of_stat, due_of_send, shows, summary_text};
+ghost use Rattle.rls_top.specs.Stages.{IsDue, of_work};
 
 use crate::made::{Made, showing};
-use crate::stop::{Stop, failed};
-use rls_file::Journal;
-use rls_replica::SendError;
-use rls_report::{Failure, ids_json};
+use crate::stages::WorkError;
+use rls_replica::{Replica, SendError};
+use rls_report::{CommandError, ids_json, stat_text, trial_report};
 use rls_sync::message_bytes;
+use rls_world::{Summary, trial};
 use std::alloc::{AllocError, Global};
 
 /// The text in UTF-8.
-pub(crate) fn utf8_text(journal: &Journal) -> Result<String, AllocError>
-    requires tells { Tells journal.now (told journal.now) }
-    ensures utf8 { IfOk result (λ utf8. string_bytes utf8 ≡ encode_utf8_all (text (told journal.now).history)) }
+pub(crate) fn utf8_text(replica: &Replica) -> Result<String, AllocError>
+    ensures utf8 { IfOk result (λ utf8. string_bytes utf8 ≡ encode_utf8_all (text_over replica.now)) }
 {
-    let text = journal.replica().text()?;
+    let text = replica.text()?;
     text.to_utf8()
 }
 
 /// Shows the text.
-pub(crate) fn show_text(alloc: Global, journal: &Journal) -> Result<Made, Stop>
-    requires tells { Tells journal.now (told journal.now) }
-    ensures due { IsDue result (due_of_text (told journal.now).history) }
-    ensures inner { IfErr result IsInner }
+pub(crate) fn show_text(alloc: Global, replica: &Replica) -> Result<Made, WorkError>
+    ensures due { IsDue of_work result (due_of_text replica.now) }
     ensures unstored { IfOk result (λ made. made.stored ≡ None) }
 {
-    match utf8_text(journal) {
-        Ok(text) => Ok(showing(alloc, text.into_bytes())),
-        Err(_) => Err(failed(Failure::OutOfMemory)),
-    }
+    let text = utf8_text(replica)?;
+    Ok(showing(alloc, text.into_bytes()))
 }
 
 /// Shows the greatest epoch and the maximal runs of the identifiers of the text.
-pub(crate) fn show_ids(alloc: Global, journal: &Journal) -> Result<Made, Stop>
-    requires tells { Tells journal.now (told journal.now) }
-    ensures due { IsDue result (due_of_ids (told journal.now).history) }
-    ensures inner { IfErr result IsInner }
+pub(crate) fn show_ids(alloc: Global, replica: &Replica) -> Result<Made, WorkError>
+    ensures due { IsDue of_work result (due_of_ids replica.now) }
     ensures unstored { IfOk result (λ made. made.stored ≡ None) }
 {
-    match ids_json(alloc, journal.replica()) {
-        Err(_) => Err(failed(Failure::OutOfMemory)),
-        Ok(line) => Ok(showing(alloc, line.into_bytes())),
-    }
+    let line = ids_json(alloc, replica)?;
+    Ok(showing(alloc, line.into_bytes()))
+}
+
+/// Shows the replica's numbers.
+pub(crate) fn show_stat(alloc: Global, replica: &Replica) -> Result<Made, WorkError>
+    ensures due { IsDue of_work result (due_of_stat replica.now) }
+    ensures unstored { IfOk result (λ made. made.stored ≡ None) }
+{
+    let lines = stat_text(alloc, replica)?;
+    Ok(showing(alloc, lines.into_bytes()))
 }
 
 /// Shows the message for a member.
-pub(crate) fn show_message(alloc: Global, journal: &Journal, to: u32) -> Result<Made, Stop>
-    requires tells { Tells journal.now (told journal.now) }
-    ensures due { IsDue result (due_of_send (told journal.now).history to) }
-    ensures inner { IfErr result IsInner }
+pub(crate) fn show_message(alloc: Global, replica: &Replica, to: u32) -> Result<Made, WorkError>
+    ensures due { IsDue of_work result (due_of_send replica.now to) }
     ensures unstored { IfOk result (λ made. made.stored ≡ None) }
 {
-    match message_bytes(alloc, journal.replica(), to) {
+    match message_bytes(alloc, replica, to) {
         Ok(bytes) => Ok(showing(alloc, bytes)),
-        Err(SendError::NotMember) => Err(failed(Failure::NotMember { to })),
-        Err(SendError::OutOfMemory) => Err(failed(Failure::OutOfMemory)),
+        Err(SendError::NotMember) => Err(WorkError::Command {
+            error: CommandError::NotMember { to },
+        }),
+        Err(SendError::OutOfMemory) => Err(WorkError::OutOfMemory),
     }
+}
+
+/// Shows the summary of a trial.
+pub(crate) fn show_trial(alloc: Global, seed: u32, steps: u32) -> Result<Made, WorkError>
+    ensures due { IsDue of_work result (shows (summary_text seed steps (trial seed steps))) }
+    ensures unstored { IfOk result (λ made. made.stored ≡ None) }
+{
+    let text = summary_text(alloc, seed, steps)?;
+    Ok(showing(alloc, text.into_bytes()))
+}
+
+// The summary of a trial.
+fn summary_text(alloc: Global, seed: u32, steps: u32) -> Result<String, AllocError>
+    ensures text { IfOk result (λ text. string_bytes text ≡ summary_text seed steps (trial seed steps)) }
+{
+    let Summary {
+        accepted,
+        totals,
+        runs,
+        epochs,
+        former,
+    } = trial(alloc, seed, steps)?;
+    let members = [
+        (totals[0], runs[0]),
+        (totals[1], runs[1]),
+        (totals[2], runs[2]),
+    ];
+    trial_report(alloc, seed, steps, &accepted, &members, epochs, former)
 }

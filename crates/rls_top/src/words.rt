@@ -9,6 +9,13 @@ use rls_script::number;
 #[derive(Clone, Copy, Debug, PartialEq, Eq)]
 pub enum Command {
     New { group: u64, me: u32, members: u32 },
+    OnFile { command: FileCommand },
+    Trial { seed: u32, steps: u32 },
+}
+
+/// What it is asked to do with the kept replica.
+#[derive(Clone, Copy, Debug, PartialEq, Eq)]
+pub enum FileCommand {
     Edit,
     Text,
     Ids,
@@ -16,7 +23,6 @@ pub enum Command {
     Send { to: u32 },
     Take,
     Leave,
-    Trial { seed: u32, steps: u32 },
 }
 
 /// The command that these words are.
@@ -31,19 +37,19 @@ pub(crate) fn parsed(words: &[String]) -> Option<Command>
     if word == "new" {
         new(others)
     } else if word == "edit" {
-        alone(Command::Edit, others)
+        alone(FileCommand::Edit, others)
     } else if word == "text" {
-        alone(Command::Text, others)
+        alone(FileCommand::Text, others)
     } else if word == "ids" {
-        alone(Command::Ids, others)
+        alone(FileCommand::Ids, others)
     } else if word == "stat" {
-        alone(Command::Stat, others)
+        alone(FileCommand::Stat, others)
     } else if word == "send" {
         send(others)
     } else if word == "take" {
-        alone(Command::Take, others)
+        alone(FileCommand::Take, others)
     } else if word == "leave" {
-        alone(Command::Leave, others)
+        alone(FileCommand::Leave, others)
     } else if word == "trial" {
         trial(others)
     } else {
@@ -51,11 +57,11 @@ pub(crate) fn parsed(words: &[String]) -> Option<Command>
     }
 }
 
-fn alone(command: Command, others: &[String]) -> Option<Command>
+fn alone(command: FileCommand, others: &[String]) -> Option<Command>
     ensures { result ≡ alone command (map string_bytes others.now) }
 {
     if others.is_empty() {
-        Some(command)
+        Some(Command::OnFile { command })
     } else {
         None
     }
@@ -92,7 +98,9 @@ fn send(others: &[String]) -> Option<Command>
     match others {
         [to] => {
             let to = number_up_to(u32::MAX, to)?;
-            Some(Command::Send { to })
+            Some(Command::OnFile {
+                command: FileCommand::Send { to },
+            })
         }
         _ => None,
     }

@@ -1,13 +1,16 @@
-use Rattle.std.proofs.Common.{◌≡◌, ◌+◌, ◌∷◌, List, map, drop, get_or, sym, inr, subst, arith, rules}
+use Rattle.std.proofs.Common.{◌≡◌, ◌+◌, ◌∷◌, ◌∙◌, ◌++◌, refl, List, map, drop, get_or, sym, ap, inr, subst, arith, rules}
+use Rattle.std.proofs.lemmas.List.{append-nil}
 use Rattle.std.proofs.lemmas.Option.{slice_get-get_or}
 use Rattle.rls_ident.specs.declared.epoch_name.EpochName.{EpochName}
 use Rattle.rls_ident.specs.declared.epoch_name.EpochName.TheVariants.{Origin}
 use Rattle.rls_ident.specs.Lists.{IsIn}
 use Rattle.rls_ident.proofs.Members.{get_in}
-use Rattle.rls_model.specs.Parts.{epoch_part, node_of}
+use Rattle.rls_ops.specs.Spelling.{name_bytes}
+use Rattle.rls_model.specs.Parts.{epoch_part, epoch_parts, node_of, top_part}
 use Rattle.rls_fields.specs.Fields.{epoch_bytes}
 use Rattle.rls_fields.specs.FieldSizes.{epoch_size}
-use Rattle.rls_fields.proofs.Puts.{put_next, sum_next, map_next, few_names}
+use Rattle.rls_fields.specs.Written.{FitsFormer}
+use Rattle.rls_fields.proofs.Puts.{put_next, fit_next, list_is, top_fits, none_left, sum_next, map_next, map_length, few_names}
 use Rattle.rls_fields.proofs.write_epochs.put_epoch_list.Goals as goal
 
 pub put_epoch-requires-clause-kept : goal.put_epoch-requires-clause-kept
@@ -39,5 +42,26 @@ loop-name-preserved c =
     let more = sum_next epoch_size (part (get_or others i Origin)) (drop (i + 1) (map part others)) (drop i (map part others)) next in
     record {
       bytes = put_next epoch_bytes (part (get_or others i Origin)) (drop (i + 1) (map part others)) (drop i (map part others)) c.loop-name.out.items c.put_epoch.new.out.items _ next c.in_ok-put_epoch.ensures.ok c.loop-name.invariant.bytes;
+      fits = fit_next FitsFormer (part (get_or others i Origin)) (drop (i + 1) (map part others)) (drop i (map part others)) next c.in_ok-put_epoch.ensures.fits c.loop-name.invariant.fits;
       small = omega (arith, more, c.loop-name.invariant.small);
     }
+
+pub loop-name-init : goal.loop-name-init
+loop-name-init c =
+    let all : c.args.names.now ≡ c.in-Some.top.now ∷ c.in-Some.others.now = search (rules) in
+    let names = c.args.names.now in
+    let top = c.in-Some.top.now in
+    let nodes = c.args.epochs.now.epochs.nodes in
+    let rest = map (λ (e : EpochName). epoch_part names e (node_of nodes e)) c.in-Some.others.now in
+    let is = list_is nodes names c.in-Some.others.now top all in
+    record {
+      bytes = put_next epoch_bytes (top_part top) rest (epoch_parts nodes names) c.args.out.now.items c.put_name.new.out.items _ is (c.in_ok-put_name.ensures.ok ∙ ap (λ w. c.args.out.now.items ++ w) (sym (append-nil (name_bytes top)))) refl;
+      fits = fit_next FitsFormer (top_part top) rest (epoch_parts nodes names) is (top_fits top) (λ a. a);
+      small = omega (arith, sum_next epoch_size (top_part top) rest (epoch_parts nodes names) is, c.requires.small);
+    }
+
+pub returns-clause-fits : goal.returns-clause-fits
+returns-clause-fits c =
+    let others = c.in-Some.others.now in
+    let part = λ (e : EpochName). epoch_part c.args.names.now e (node_of c.args.epochs.now.epochs.nodes e) in
+    c.loop-name.invariant.fits (none_left FitsFormer c.loop-name.name-index (map part others) (omega (arith, map_length part others, c.loop-name-test.false)))

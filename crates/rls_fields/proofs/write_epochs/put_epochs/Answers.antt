@@ -13,4 +13,5 @@ returns c =
     record {
       ok = counted_put epoch_bytes parts _ c.args.out.now.items c.put_u32.new.out.items c.put_epoch_list.new.out.items (sym (parts_count c.args.epochs.now.epochs.nodes c.args.names.now)) c.in_ok-put_u32.ensures.ok
           c.in_ok-put_epoch_list.ensures.ok;
+      fits = c.in_ok-put_epoch_list.ensures.fits;
     }

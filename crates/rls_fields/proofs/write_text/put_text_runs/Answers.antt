@@ -1,4 +1,5 @@
-use Rattle.std.proofs.Common.{◌∙◌, ◌++◌, List, length, sum_by, ap, arith}
+use Rattle.std.proofs.Common.{◌∙◌, ◌++◌, List, length, sum_by, ap, subst, arith}
+use Rattle.std.specs.Prelude.{All}
 use Rattle.std.specs.List.{flat_map}
 use Rattle.rls_model.specs.declared.parts.TextRun.{TextRun}
 use Rattle.rls_model.specs.Parts.{text_runs}
@@ -7,6 +8,7 @@ use Rattle.rls_snapshot.specs.Blocks.{runs_with_texts}
 use Rattle.rls_snapshot.proofs.MaximalRuns.{blocks_are}
 use Rattle.rls_fields.specs.Fields.{text_run_bytes}
 use Rattle.rls_fields.specs.FieldSizes.{text_run_size}
+use Rattle.rls_fields.specs.Written.{FitsChars}
 use Rattle.rls_fields.proofs.Puts.{counted_put, runs_within, blocks_count}
 use Rattle.rls_fields.proofs.write_text.put_text_runs.Goals as goal
 
@@ -28,4 +30,5 @@ returns c =
     record {
       ok = counted_put text_run_bytes (text_runs (entries_of c.args.tree.now.blocks)) c.block_count.result c.args.out.now.items c.put_u32-2.new.out.items c.put_blocks.new.out.items
           (omega (arith, few, ap length same, ap (sum_by text_run_size) same, blocks_count c.in-Some.root.now.blocks, c.requires.small, c.block_count.ensures.count)) c.in_ok-put_u32.ensures.ok (c.in_ok-put_blocks.ensures.ok ∙ ap (λ (rs : List TextRun). c.put_u32-2.new.out.items ++ flat_map text_run_bytes rs) same);
+      fits = subst (All FitsChars) same c.in_ok-put_blocks.ensures.fits;
     }

@@ -29,7 +29,9 @@ pub returns-clause-alone : goal.returns-clause-alone
 returns-clause-alone c =
     let j = c.args.journal.now in
     let law = c.in_ok-replay.ensures.tells (told j) c.requires.alone.tells in
-    (applied_alone j c.replay.new.self c.in_ok-op.op c.requires.alone (ap applies (sym law.0) ∙ sym c.is_applied.ensures.applied ∙ c.if-not-is_applied.false) law.1).0
+    let e = c.in_ok-replay.ensures in
+    let applied = sym c.is_applied.ensures.applied ∙ c.if-not-is_applied.false in
+    (applied_alone j c.replay.new.self c.in_ok-op.op c.requires.alone (ap applies (sym law.0) ∙ applied) (ap applies (sym e.answer) ∙ applied) e.after law.1).0
 
 pub returns-clause-read : goal.returns-clause-read
 returns-clause-read c =
@@ -40,5 +42,6 @@ returns-clause-read c =
     let same : c.members.result ≡ members_of H = c.members.ensures.members ∙ ap members c.replica.ensures.replica ∙ told_members j c.requires.alone.tells in
     let law = c.in_ok-replay.ensures.tells (told j) c.requires.alone.tells in
     let applied = ap applies (sym law.0) ∙ sym c.is_applied.ensures.applied ∙ c.if-not-is_applied.false in
-    let next = applied_alone j c.replay.new.self o c.requires.alone applied law.1 in
+    let e = c.in_ok-replay.ensures in
+    let next = applied_alone j c.replay.new.self o c.requires.alone applied (ap applies (sym e.answer) ∙ sym c.is_applied.ensures.applied ∙ c.if-not-is_applied.false) e.after law.1 in
     op_applied H c.members.result c.args.bytes.now rest o same c.in_ok-op.ensures.read (ap applies (replay_alone j o c.requires.alone) ∙ applied) ∙ ap (λ K. history_ok K rest) (sym next.1)

@@ -38,7 +38,7 @@ pub returns-clause-alone : goal.returns-clause-alone
 returns-clause-alone c =
     let j = c.args.journal.now in
     let law = c.in_ok-counted.ensures.tells (told j) c.requires.alone.tells in
-    (counted_alone j c.acknowledge.new.self c.in_ok-from.from c.in_ok-from.vector c.requires.alone (sym law.0 ∙ c.if-not-counted.false) law.1).0
+    (counted_alone j c.acknowledge.new.self c.in_ok-from.from c.in_ok-from.vector c.requires.alone (sym law.0 ∙ c.if-not-counted.false) c.in_ok-counted.ensures.after law.1).0
 
 pub returns-clause-read : goal.returns-clause-read
 returns-clause-read c =
@@ -47,6 +47,6 @@ returns-clause-read c =
     let rest = c.in_ok-from.rest.now in
     let same : c.members.result ≡ members_of H = c.members.ensures.members ∙ ap members c.replica.ensures.replica ∙ told_members j c.requires.alone.tells in
     let law = c.in_ok-counted.ensures.tells (told j) c.requires.alone.tells in
-    let next = counted_alone j c.acknowledge.new.self c.in_ok-from.from c.in_ok-from.vector c.requires.alone (sym law.0 ∙ c.if-not-counted.false) law.1 in
+    let next = counted_alone j c.acknowledge.new.self c.in_ok-from.from c.in_ok-from.vector c.requires.alone (sym law.0 ∙ c.if-not-counted.false) c.in_ok-counted.ensures.after law.1 in
     noted_read H c.args.bytes.now c.in_ok-kind.rest.now rest c.in_ok-kind.kind c.members.result c.in_ok-from.from c.in_ok-from.vector true c.in_ok-kind.ensures.read c.if-kind-eq0.false same c.in_ok-from.ensures.read (sym c.if-not-counted.false ∙ law.0)
     ∙ ap (λ K. history_ok K rest) (sym next.1)

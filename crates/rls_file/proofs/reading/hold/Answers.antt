@@ -5,7 +5,7 @@ use Rattle.rls_model.specs.History.{members_of}
 use Rattle.rls_seen.specs.Seen.{Seen, members}
 use Rattle.rls_file.specs.Journals.{told}
 use Rattle.rls_file.specs.ReadingJournals.{waits, last_of}
-use Rattle.rls_file.proofs.Holding.{ops_ok, hold_fails, hold_before, hold_other, hold_done, held_told}
+use Rattle.rls_file.proofs.Holding.{ops_ok, hold_fails, hold_before, hold_other, hold_done, held_told, held_replayed}
 use Rattle.rls_file.proofs.Telling.{told_members, told_waiting, tells_told}
 use Rattle.rls_file.proofs.reading.hold.Goals as goal
 
@@ -61,3 +61,9 @@ returns-clause-read c =
     let held = ap waits (sym law.0) ∙ sym c.is_held.ensures.held ∙ c.if-not-is_held.false in
     hold_done (told j) c.members.result c.args.bytes.now rest o c.requires.tells.stands.sound same c.in_ok-op.ensures.read behind held
     ∙ ap (λ W. ops_ok W rest) (sym (held_told j c.receive.new.self o c.requires.tells behind held law.1).1)
+
+pub returns-clause-replayed : goal.returns-clause-replayed
+returns-clause-replayed c =
+    let j = c.args.journal.now in
+    let e = c.in_ok-receive.ensures in
+    held_replayed j c.receive.new.self c.in_ok-op.op c.requires.replayed (ap waits (sym e.answer) ∙ sym c.is_held.ensures.held ∙ c.if-not-is_held.false) e.after (returns-clause-history c)

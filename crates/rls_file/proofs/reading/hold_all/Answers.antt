@@ -2,12 +2,13 @@ use Rattle.std.proofs.Common.{refl, ◌∙◌}
 use Rattle.std.proofs.lemmas.Result.{err_from_is_err_and}
 use Rattle.rls_file.specs.Journals.{told}
 use Rattle.rls_file.proofs.Holding.{wait_on, wait_fails, wait_done, wait_start}
-use Rattle.rls_file.proofs.Telling.{told_waiting}
+use Rattle.rls_file.proofs.Telling.{replayed_first, told_waiting}
 use Rattle.rls_file.proofs.reading.hold_all.Goals as goal
 
 pub waiting-init : goal.waiting-init
 waiting-init c = record {
   tells = c.requires.alone.tells;
+  replayed = replayed_first c.args.journal.now c.requires.alone;
   history = refl;
   read = wait_start (told c.args.journal.now).history c.args.journal.now.seen.waiting c.args.count c.args.bytes.now c.requires.alone.alone;
 }
@@ -24,6 +25,7 @@ waiting-preserved c =
     let e = c.in_ok-after.ensures in
     record {
       tells = e.tells;
+      replayed = e.replayed;
       history = e.history ∙ c.waiting.invariant.history;
       read = wait_on (told c.args.journal.now).history (told j) j.seen.waiting c.hold.new.journal.seen.waiting c.args.count c.waiting.counter c.waiting.rest.now c.in_ok-after.after.now _ c.waiting.invariant.history (told_waiting j) c.waiting-test.true e.read c.waiting.invariant.read;
     }

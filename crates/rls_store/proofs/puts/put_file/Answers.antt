@@ -1,4 +1,5 @@
-use Rattle.std.proofs.Common.{◌≡◌, ◌++◌, ◌∙◌, ℕ, true, List, length, sum_by, sym, ap, subst, arith}
+use Rattle.std.proofs.Common.{◌≡◌, ◌+◌, ◌<◌, ◌++◌, ◌∷◌, [], ◌∙◌, ℕ, true, List, length, sum_by, refl, sym, ap, subst, arith}
+use Rattle.std.specs.Prelude.{All}
 use Rattle.std.specs.List.{flat_map}
 use Rattle.rls_ident.specs.declared.epoch_name.EpochName.{EpochName}
 use Rattle.rls_ident.specs.Lists.{IsIn}
@@ -7,6 +8,9 @@ use Rattle.rls_ops.specs.declared.op.Op.{Op}
 use Rattle.rls_ops.specs.Rows.{AcksSeen, stable_of, missing_for}
 use Rattle.rls_ops.specs.Sizes.{op_size}
 use Rattle.rls_ops.specs.Spelling.{four_bytes, counted, vector_bytes, op_bytes}
+use Rattle.rls_codec.specs.Spelled.{IsSpelledIfFit}
+use Rattle.rls_model.specs.declared.parts.EpochPart.{EpochPart}
+use Rattle.rls_model.specs.declared.parts.TextRun.{TextRun}
 use Rattle.rls_model.specs.declared.parts.Stem.{Stem}
 use Rattle.rls_model.specs.Parts.{epoch_parts, text_runs}
 use Rattle.rls_seen.specs.Seen.{members, vector, stable_over, unstable_over}
@@ -15,7 +19,8 @@ use Rattle.rls_seen.proofs.Needed.{log_author}
 use Rattle.rls_replica.proofs.Marking.{retained_kept}
 use Rattle.rls_fields.specs.Fields.{head_bytes, stems_bytes, epoch_bytes, text_run_bytes}
 use Rattle.rls_fields.specs.FieldSizes.{epoch_size, text_run_size}
-use Rattle.rls_store.proofs.Stored.{few_stems, nine_puts, file_is}
+use Rattle.rls_fields.specs.Written.{FitsRow, FitsFormer, FitsChars}
+use Rattle.rls_store.proofs.Stored.{few_stems, fields_fit, nine_puts, file_is}
 use Rattle.rls_store.proofs.puts.put_file.Goals as goal
 
 pub put_rows-requires : goal.put_rows-requires
@@ -91,4 +96,10 @@ returns c =
           (c.in_ok-put_missing.ensures.ok ∙ ap (λ os. p7 ++ counted op_bytes os) log)
           (c.in_ok-put_waiting.ensures.ok ∙ ap (λ os. p8 ++ counted op_bytes os) c.held.ensures.held)
           ∙ ap (λ w. o ++ w) (sym (file_is s));
+      fits = fields_fit s
+          (subst (All FitsRow) (ap (λ (a : AcksSeen). other_rows a n) c.acks-acks.ensures.acks ∙ ap (λ m. other_rows s.acks m) c.members-members.ensures.members) c.in_ok-put_rows.ensures.fits)
+          (subst (All FitsFormer) epochs c.in_ok-put_epochs.ensures.fits)
+          (subst (λ es. All FitsChars (text_runs es)) c.tree.ensures.text c.in_ok-put_text_runs.ensures.fits)
+          (subst (All IsSpelledIfFit) log c.in_ok-put_missing.ensures.fits)
+          (subst (All IsSpelledIfFit) c.held.ensures.held c.in_ok-put_waiting.ensures.fits);
     }

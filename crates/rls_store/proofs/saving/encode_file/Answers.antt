@@ -1,8 +1,11 @@
-use Rattle.std.proofs.Common.{◌≡◌, ◌++◌, ◌∙◌, ap, length, arith}
+use Rattle.std.proofs.Common.{◌≡◌, ◌++◌, ◌∙◌, ℕ, List, sym, ap, subst, length, arith}
 use Rattle.rls_model.specs.declared.parts.Parts.{Parts}
 use Rattle.rls_seen.specs.Kept.{parts_over}
 use Rattle.rls_seen.proofs.Keeping.{parts_alike}
 use Rattle.rls_fields.specs.Fields.{file_bytes}
+use Rattle.rls_file.specs.Files.{Snapshot, newest_form}
+use Rattle.rls_file.specs.FileLaws.{IsFile}
+use Rattle.rls_store.proofs.StoredAgain.{stored_again}
 use Rattle.rls_store.proofs.Stored.{stored_length}
 use Rattle.rls_store.proofs.Saved.{too_large, no_error}
 use Rattle.rls_store.proofs.saving.encode_file.Goals as goal
@@ -20,6 +23,9 @@ returns c =
     record {
       bytes = bytes;
       small = omega (arith, ap length bytes, stored_length s, c.stored_len-bytes.ensures.size, c.if-bytes-gt-FILE_LIMIT.false);
+      file = λ w.
+          subst (λ (b : List ℕ). IsFile b (Snapshot newest_form (parts_over s))) (sym bytes)
+          (stored_again s c.sane.ensures.sane w c.in_ok-put_file.ensures.fits (omega (arith, stored_length s, c.stored_len-bytes.ensures.size, c.if-bytes-gt-FILE_LIMIT.false)));
       too_large = λ n e. absurd (no_error c.put_file.new.out n e);
       stands = λ t h. bytes ∙ ap (λ (p : Parts). file_bytes p) (parts_alike s t h);
     }
@@ -28,6 +34,7 @@ pub returns-then-bytes-gt-FILE_LIMIT : goal.returns-then-bytes-gt-FILE_LIMIT
 returns-then-bytes-gt-FILE_LIMIT c = record {
   bytes = tt;
   small = tt;
+  file = tt;
   too_large = λ n e.
       let s = c.args.replica.now in
       let same = too_large c.stored_len-bytes.result n e in

@@ -1,37 +1,62 @@
-use Rattle.std.proofs.Common.{◌≡◌, Err, ap, map, string_bytes}
+use Rattle.std.proofs.Common.{◌∙◌, IfSome, IsFalse, Option, Err, map, string_bytes, sym, subst}
+use Rattle.rls_report.specs.declared.failures.Failure.{Failure}
+use Rattle.rls_top.specs.declared.words.Command.{Command}
+use Rattle.rls_top.specs.Due.{calls_keeper, due, due_of_command}
+use Rattle.rls_top.specs.Stages.{IsAsDue, IsDue, Leaves, Reports, of_failure}
 use Rattle.rls_top.specs.Words.{command_of}
-use Rattle.rls_top.proofs.Endings.{told_reports, told_leaves}
-use Rattle.rls_top.proofs.Early.{unmade_by_words, unmade_by_file, unreported, unleft, late_so}
+use Rattle.rls_top.proofs.Finishing.{cut_leaves, cut_reports, for_command, unmade_leaves, unmade_reports}
+use Rattle.rls_top.proofs.OnFiles.{device_so, keeper_so}
 use Rattle.rls_top.proofs.command.perform.Goals as goal
 
-pub returns-in-Ok-clause-reports : goal.returns-in-Ok-clause-reports
-returns-in-Ok-clause-reports g c =
-    told_reports (g.K.Keeper.file c.args.keeper.now) (g.S.Source.left c.args.input.now) c.in-Some.command (command_of (map string_bytes c.args.words.now)) c.finish.result c.in-Ok.made
-    (g.W.Sink.told c.args.output.now) (g.W.Sink.told c.finish.new.output) c.in-Some.ensures.command c.in-Ok.ensures.due c.finish.ensures.done c.finish.ensures.partly
-
-pub returns-in-Ok-clause-leaves : goal.returns-in-Ok-clause-leaves
-returns-in-Ok-clause-leaves g c =
-    told_leaves (g.K.Keeper.file c.args.keeper.now) (g.S.Source.left c.args.input.now) c.in-Some.command (command_of (map string_bytes c.args.words.now)) c.finish.result c.in-Ok.made
-    (g.K.Keeper.file c.make.new.keeper) (g.K.Keeper.file c.finish.new.keeper) c.in-Some.ensures.command c.in-Ok.ensures.due c.in-Ok.ensures.kept c.finish.ensures.file c.finish.ensures.file_partly
-
-pub returns-in-Ok-clause-by_words : goal.returns-in-Ok-clause-by_words
-returns-in-Ok-clause-by_words g c =
-    unmade_by_words c.in-Some.command (command_of (map string_bytes c.args.words.now)) c.in-Ok.made c.finish.result (c.make.new.keeper ≡ c.args.keeper.now) (c.finish.new.keeper ≡ c.args.keeper.now)
-    c.in-Some.ensures.command c.in-Ok.ensures.by_words
-
-pub returns-in-Ok-clause-by_file : goal.returns-in-Ok-clause-by_file
-returns-in-Ok-clause-by_file g c =
-    unmade_by_file (g.K.Keeper.file c.args.keeper.now) c.in-Some.command (command_of (map string_bytes c.args.words.now)) c.in-Ok.made c.finish.result c.in-Some.ensures.command c.in-Ok.ensures.by_file
-
-pub returns-in-Ok-clause-early : goal.returns-in-Ok-clause-early
-returns-in-Ok-clause-early g c = late_so c.finish.result _ c.finish.ensures.late
+pub returns-in-Err-clause-due : goal.returns-in-Err-clause-due
+returns-in-Err-clause-due g c =
+    let file = g.K.Keeper.file c.args.keeper.now in
+    let left = g.S.Source.left c.args.input.now in
+    for_command (command_of (map string_bytes c.args.words.now)) c.in-Some.command file left (IsDue of_failure (Err c.from.result)) c.in-Some.ensures.command
+    (subst (λ (f : Failure). IfSome (due_of_command c.in-Some.command file left) (IsDue of_failure (Err f))) (sym c.from.ensures) c.in-Err.ensures.due)
 
 pub returns-in-Err-clause-reports : goal.returns-in-Err-clause-reports
 returns-in-Err-clause-reports g c =
-    unreported (g.K.Keeper.file c.args.keeper.now) (g.S.Source.left c.args.input.now) (command_of (map string_bytes c.args.words.now)) c.in-Err.stop
-    (g.W.Sink.told c.args.output.now) (g.W.Sink.told c.args.output.now) (λ e. c.in-Err.ensures.no_output (ap Err e))
+    let d = due (map string_bytes c.args.words.now) (g.K.Keeper.file c.args.keeper.now) (g.S.Source.left c.args.input.now) in
+    let old = g.W.Sink.told c.args.output.now in
+    subst (λ (f : Failure). IfSome d (λ d. Reports (Err f) d old old)) (sym c.from.ensures) (unmade_reports d c.in-Err.error old)
 
 pub returns-in-Err-clause-leaves : goal.returns-in-Err-clause-leaves
 returns-in-Err-clause-leaves g c =
-    unleft (g.K.Keeper.file c.args.keeper.now) (g.K.Keeper.file c.make.new.keeper) (g.S.Source.left c.args.input.now) (command_of (map string_bytes c.args.words.now)) c.in-Err.stop
-    (λ e. c.in-Err.ensures.no_output (ap Err e))
+    let d = due (map string_bytes c.args.words.now) (g.K.Keeper.file c.args.keeper.now) (g.S.Source.left c.args.input.now) in
+    let old = g.K.Keeper.file c.args.keeper.now in
+    let new = g.K.Keeper.file c.make.new.keeper in
+    subst (λ (f : Failure). IfSome d (λ d. Leaves (Err f) d old new)) (sym c.from.ensures) (unmade_leaves d c.in-Err.error old new)
+
+pub returns-in-Err-finish-clause-reports : goal.returns-in-Err-finish-clause-reports
+returns-in-Err-finish-clause-reports g c =
+    let file = g.K.Keeper.file c.args.keeper.now in
+    let left = g.S.Source.left c.args.input.now in
+    let words = command_of (map string_bytes c.args.words.now) in
+    let d = due (map string_bytes c.args.words.now) file left in
+    let old = g.W.Sink.told c.args.output.now in
+    let new = g.W.Sink.told c.finish.new.output in
+    let made = for_command words c.in-Some.command file left (IsAsDue c.in-Ok.made) c.in-Some.ensures.command c.in-Ok.ensures.due in
+    subst (λ (f : Failure). IfSome d (λ d. Reports (Err f) d old new)) (sym c.from-in-Err-finish.ensures) (cut_reports d c.in-Ok.made c.in-Err-finish.error old new made c.in-Err-finish.ensures.partly c.in-Err-finish.ensures.nothing)
+
+pub returns-in-Err-finish-clause-leaves : goal.returns-in-Err-finish-clause-leaves
+returns-in-Err-finish-clause-leaves g c =
+    let file = g.K.Keeper.file c.args.keeper.now in
+    let left = g.S.Source.left c.args.input.now in
+    let words = command_of (map string_bytes c.args.words.now) in
+    let d = due (map string_bytes c.args.words.now) file left in
+    let mid = g.K.Keeper.file c.make.new.keeper in
+    let new = g.K.Keeper.file c.finish.new.keeper in
+    let made = for_command words c.in-Some.command file left (IsAsDue c.in-Ok.made) c.in-Some.ensures.command c.in-Ok.ensures.due in
+    subst (λ (f : Failure). IfSome d (λ d. Leaves (Err f) d file new)) (sym c.from-in-Err-finish.ensures) (cut_leaves d c.in-Ok.made c.in-Err-finish.error file mid new made c.in-Ok.ensures.kept c.in-Err-finish.ensures.file_partly)
+
+pub returns-in-Err-clause-uncalled : goal.returns-in-Err-clause-uncalled
+returns-in-Err-clause-uncalled g c = λ h.
+    let u = c.in-Err.ensures.uncalled (subst (λ (w : Option Command). IsFalse (calls_keeper w)) (sym c.in-Some.ensures.command) h) in
+    (u.0, keeper_so c.in-Err.error c.from.result c.from.ensures u.1)
+
+pub returns-in-Err-finish-clause-uncalled : goal.returns-in-Err-finish-clause-uncalled
+returns-in-Err-finish-clause-uncalled g c = λ h.
+    let u = c.in-Ok.ensures.uncalled (subst (λ (w : Option Command). IsFalse (calls_keeper w)) (sym c.in-Some.ensures.command) h) in
+    let f = c.in-Err-finish.ensures.unstored u.2 in
+    (f.0 ∙ u.0, device_so c.in-Err-finish.error c.from-in-Err-finish.result c.from-in-Err-finish.ensures f.1)

@@ -1,5 +1,5 @@
 use Rattle.std.proofs.Common.{sym}
-use Rattle.rls_top.proofs.Runs.{cluster_begins}
+use Rattle.rls_top.proofs.Clusters.{cluster_begins}
 use Rattle.rls_top.proofs.editing.backward.Goals as goal
 
 pub overflow_sub-result : goal.overflow_sub-result
