@@ -10,6 +10,7 @@ pub mod Characters
 pub mod EditFaults
 pub mod LeaveFaults
 pub mod KeptNames
+pub mod OwnRuns
 pub mod EditLaws
 pub mod Neighbours
 pub mod GivenPieces

@@ -1,6 +1,9 @@
 -- What is told of edits beside their operations.
-use Rattle.std.specs.Prelude.{◌≡◌, ℕ, ◌+◌, pos, List, [], ◌∷◌, ◌++◌, length, take, drop, ◌==◌, Option, Some, None, if◌then◌else◌}
+use Rattle.std.specs.Prelude.{◌≡◌, ℕ, ◌+◌, pos, ◌+ℤ◌, ◌≤ℤ◌, List, [], ◌∷◌, ◌++◌, length, take, drop, ◌==◌, Option, Some, None, if◌then◌else◌}
+use Rattle.rls_ident.specs.declared.tuple.Tuple.{Tuple}
 use Rattle.rls_ident.specs.declared.tuple.Tuple.TheVariants.{At}
+use Rattle.rls_ident.specs.Identifiers.{last_of}
+use Rattle.rls_ident.specs.Tuples.{offset_of}
 use Rattle.rls_runs.specs.Runs.{runs_of}
 use Rattle.rls_rename.specs.Renaming.{new_pos}
 use Rattle.rls_ops.specs.Rows.{left}
@@ -8,7 +11,8 @@ use Rattle.rls_model.specs.declared.edit.Edit.{Edit}
 use Rattle.rls_model.specs.declared.edit.Edit.TheVariants as edits
 use Rattle.rls_model.specs.declared.edit.EditError.{EditError}
 use Rattle.rls_model.specs.declared.edit.EditError.TheVariants as errors
-use Rattle.rls_model.specs.Editing.{range_fault, or_fault}
+use Rattle.rls_model.specs.declared.parts.Stem.{Stem}
+use Rattle.rls_model.specs.Editing.{own_stem, range_fault, or_fault}
 use Rattle.rls_seen.specs.Seen.{Seen, own_count, idents_over, text_over}
 
 -- the member's numbers are spent
@@ -34,7 +38,15 @@ edited_text (edits.Delete at n) old = take at old ++ drop (at + n) old
 edited_text edits.Rename old = old
 edited_text edits.Leave old = old
 
--- the text is one run from offset 0 on, in the stem that the next own operation begins
+-- the text is one run of n characters from this identifier on, and the next unused offset of its stem, which is the member's own, is the one after it
+pub record IsOwnRun (s : Seen) (first : List Tuple) (n : ℕ) : Type 0 where
+  pub run : runs_of (idents_over s) ≡ (first, n) ∷ []
+  pub stem : (w : Stem) × (own_stem s.stems s.acks.me (last_of first) ≡ Some w) × (pos w.next ≡ offset_of (last_of first) +ℤ pos n)
+
+-- n offsets from that of this identifier on are within the format's range
+abbrev pub HasRoom : List Tuple → ℕ → Type 0
+HasRoom first n = (offset_of (last_of first) +ℤ pos n) ≤ℤ pos 1073741824
+
+-- the text is such a run, from offset 0 on in the stem that the next own operation begins
 abbrev pub IsOneRun : Seen → Seen → Type 0
-IsOneRun old new =
-    runs_of (idents_over new) ≡ (At (new_pos (idents_over old)) old.acks.me (own_count old + 1) (pos 0) ∷ [], length (text_over old)) ∷ []
+IsOneRun old new = IsOwnRun new (At (new_pos (idents_over old)) old.acks.me (own_count old + 1) (pos 0) ∷ []) (length (text_over old))

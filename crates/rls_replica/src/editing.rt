@@ -11,7 +11,7 @@ ghost use Rattle.rls_seen.specs.Sane.{IsSane};
 ghost use Rattle.rls_seen.specs.Seen.{own_count, idents_over, text_over};
 ghost use Rattle.rls_seen.specs.Stands.{StandsFor};
 ghost use Rattle.rls_replica.specs.Names.{KeepsNames};
-ghost use Rattle.rls_replica.specs.Editing.{early_fault, edited_text, IsLeaveFault, IsOneRun};
+ghost use Rattle.rls_replica.specs.Editing.{early_fault, edited_text, IsLeaveFault, IsOneRun, IsOwnRun, HasRoom};
 
 use crate::replica::Replica;
 use rls_doc::Document;
@@ -55,6 +55,9 @@ impl Replica {
         ensures answer { IfOk result (λ n. (t : State) → StandsFor self.old t → (edit_fault t.history edit.now ≡ None) × (n ≡ next_seq t.history)) }
         ensures stands { OnOk result ((t : State) → StandsFor self.old t → StandsFor self.new (accept t (made t.history edit.now))) }
         ensures one_run { OnOk result (edit.now ≡ Rename → (t : State) → StandsFor self.old t → IsOneRun self.old self.new) }
+
+        // Typing at the end of a text that is one run of the member's own goes on with the run, as it does after a rename.
+        ensures typed { OnOk result ((first : List Tuple) (n : ℕ) (cs : List ℕ) → edit.now ≡ Insert n cs → IsOwnRun self.old first n → HasRoom first (n + length cs) → IsOwnRun self.new first (n + length cs)) }
     {
         let seq = self.edit_exactly(edit)?;
         Ok(seq)

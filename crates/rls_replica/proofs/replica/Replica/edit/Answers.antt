@@ -1,10 +1,13 @@
 use Rattle.std.proofs.Common.{◌≡◌, ◌+◌, ◌∙◌, ap, sym, subst, None}
 use Rattle.std.proofs.lemmas.Result.{err_from_is_err_and}
 use Rattle.rls_model.specs.declared.edit.Edit.{Edit}
+use Rattle.rls_model.specs.declared.edit.Edit.TheVariants as edits
+use Rattle.rls_model.specs.WellFormed.{IsEdit}
 use Rattle.rls_seen.specs.Edits.{edit_fault_over, made_over, IsFault}
 use Rattle.rls_seen.specs.Seen.{text_over}
 use Rattle.rls_seen.proofs.Editing.{edited_stands, edit_faults_alike, own_alike}
 use Rattle.rls_replica.proofs.EditLaws.{refused_alike, one_run, text-edited}
+use Rattle.rls_replica.proofs.OwnRuns.{goes_on}
 use Rattle.rls_replica.proofs.LeaveFaults.{leave_fault}
 use Rattle.rls_replica.proofs.KeptNames.{accepted_names, names_unchanged}
 use Rattle.rls_replica.proofs.replica.Replica.edit.Goals as goal
@@ -40,6 +43,13 @@ returns-clause-one_run c = λ is t h.
     let e = c.in_ok-seq.ensures in
     let f = subst (λ (x : Edit). edit_fault_over c.args.self.now x ≡ None) is e.fits in
     rw (e.after, is) (one_run c.args.self.now t h f)
+
+pub returns-clause-typed : goal.returns-clause-typed
+returns-clause-typed c = λ first n cs is run room.
+    let e = c.in_ok-seq.ensures in
+    let i : IsEdit (edits.Insert n cs) = subst IsEdit is e.whole in
+    let f = subst (λ (x : Edit). edit_fault_over c.args.self.now x ≡ None) is e.fits in
+    rw (e.after, is) (goes_on c.args.self.now n cs first e.sane i f run room)
 
 pub returns-in_err-seq-clause-names : goal.returns-in_err-seq-clause-names
 returns-in_err-seq-clause-names c = names_unchanged c.args.self.now _ c.in_err-seq.ensures.err
