@@ -1,6 +1,6 @@
 -- Typing at the end of a text that is one run of the member's own goes on with this run.
-use Rattle.std.proofs.Common.{◌≡◌, ℕ, zero, suc, ◌+◌, ◌≤◌, ◌<◌, Bool, true, false, List, [], ◌∷◌, ◌++◌, map, length, take, drop, refl, sym, ap, ◌∙◌, subst, arith, append-nil}
-use Rattle.std.specs.Prelude.{◌==◌, if◌then◌else◌, Option, Some, None, IsTrue, ℤ, pos, ◌+ℤ◌, slice_get, slice_index}
+use Rattle.std.proofs.Common.{◌≡◌, ℕ, zero, suc, ◌+◌, ◌≤◌, ◌<◌, Bool, true, false, List, [], ◌∷◌, ◌++◌, length, take, drop, refl, sym, ap, ◌∙◌, subst, arith, append-nil}
+use Rattle.std.specs.Prelude.{◌==◌, if◌then◌else◌, Some, None, IsTrue, ℤ, pos, ◌+ℤ◌, slice_get, slice_index}
 use Rattle.std.specs.List.{list_all}
 use Rattle.std.specs.Ordering.{int_eq}
 use Rattle.std.specs.Int.RustNames.{int_le}
@@ -9,7 +9,7 @@ use Rattle.std.proofs.lemmas.List.{take_all, drop_all, length-map}
 use Rattle.std.proofs.lemmas.Option.{slice_get_past}
 use Rattle.rls_ident.specs.declared.tuple.Tuple.{Tuple}
 use Rattle.rls_ident.specs.Identifiers.{IsIdent, is_ident, last_of, shifted, greatest_offset}
-use Rattle.rls_ident.specs.Tuples.{replica_of, seq_of, offset_of, raised}
+use Rattle.rls_ident.specs.Tuples.{replica_of, seq_of, offset_of}
 use Rattle.rls_ident.proofs.Members.{and_left, and_true, eq_is, int_test, int_le_test, neq_test, eq_refl}
 use Rattle.rls_ident.proofs.Shifted.{shifted_shifted, last_shifted, last_offset, raised_replica, raised_seq}
 use Rattle.rls_runs.specs.Entries.{Entries, idents_in}
@@ -19,19 +19,20 @@ use Rattle.rls_runs.proofs.RunJoins.{run_longer}
 use Rattle.rls_runs.proofs.RunsOf.{idents_of_runs}
 use Rattle.rls_runs.proofs.RunOrder.{run_gets}
 use Rattle.rls_runs.proofs.Sorted.{Entry}
+use Rattle.rls_ops.specs.declared.op.Body.TheVariants.{Insert}
 use Rattle.rls_model.specs.declared.edit.Edit.TheVariants as edits
 use Rattle.rls_model.specs.declared.parts.Stem.{Stem}
 use Rattle.rls_model.specs.Editing.{own_stem, may_append, first_before, first_between, get_before}
-use Rattle.rls_model.specs.Stems.{stem_of, with_stem, stems_after_insert, with_extended, extended}
+use Rattle.rls_model.specs.Stems.{stem_of, with_stem, new_stem, stems_after_insert, with_extended}
 use Rattle.rls_model.specs.WellFormed.{IsEdit}
 use Rattle.rls_model.proofs.RenamedRun.{one_run}
-use Rattle.rls_model.proofs.Spliced.{entries, take_map, drop_map, append_map}
+use Rattle.rls_model.proofs.Spliced.{entries, append_map}
 use Rattle.rls_model.proofs.StemLists.{found_is, found_same}
 use Rattle.rls_seen.specs.Edits.{edit_fault_over, edited, made_over}
 use Rattle.rls_seen.specs.Over.{accepted}
 use Rattle.rls_seen.specs.Sane.{IsSane}
 use Rattle.rls_seen.specs.Seen.{Seen, vector, own_count, idents_over}
-use Rattle.rls_seen.proofs.EditedText.{first_made, inserted_entries}
+use Rattle.rls_seen.proofs.EditedText.{first_made, insert_made, inserted_entries}
 use Rattle.rls_seen.proofs.StemNumbers.{found_stem}
 use Rattle.rls_replica.specs.Editing.{IsOwnRun, HasRoom}
 
@@ -46,6 +47,10 @@ first_ident xs x m e h = and_left (is_ident x) (list_all is_ident (run_idents (s
 ids_entries : (x : List Tuple) (cs : List ℕ) → idents_in (entries x cs) ≡ run_idents x (length cs)
 ids_entries x [] = refl
 ids_entries x (c ∷ cs) = ap (λ ys. x ∷ ys) (ids_entries (shifted (pos 1) x) cs)
+
+some_run : (x : List Tuple) (n : ℕ) → 0 < n → runs_of (run_idents x n) ≡ (x, n) ∷ []
+some_run x zero h = absurd (omega arith)
+some_run x (suc n) h = one_run x n
 
 -- entries that are put at the end of a run
 joined : (es : Entries) (x y : List Tuple) (n : ℕ) (cs : List ℕ) → idents_in es ≡ run_idents x n → y ≡ shifted (pos n) x →
@@ -100,9 +105,19 @@ after_last ss me seq x m c w i h n room =
     sum : (m : ℕ) → pos m +ℤ pos 1 ≡ pos (suc m)
     sum m = omega (arith, ints)
 
+-- the first identifier of an insertion of n characters
+abbrev first_at : Seen → ℕ → ℕ → List Tuple
+first_at s at n = first_between s.stems s.acks.me (own_count s + 1) (get_before (idents_over s) at) (slice_get (idents_over s) at) n
+
+first_is : (s : Seen) (at : ℕ) (cs : List ℕ) → first_made s at (length cs) ≡ first_at s at (length cs)
+unfolding made_over
+first_is s at cs = go (first_made s at (length cs)) (first_at s at (length cs)) (insert_made s at cs)
+  where
+    go : (x y : List Tuple) → Insert y cs ≡ Insert x cs → x ≡ y
+    go x y e = cc
+
 first_at_end : (s : Seen) (x : List Tuple) (m c : ℕ) (w : Stem) → IsIdent x → idents_over s ≡ run_idents x (suc m) → own_stem s.stems s.acks.me (last_of x) ≡ Some w → pos w.next ≡ offset_of (last_of x) +ℤ pos (suc m) → HasRoom x (suc m + c) →
-    first_made s (suc m) c ≡ shifted (pos (suc m)) x
-unfolding first_made
+    first_at s (suc m) c ≡ shifted (pos (suc m)) x
 first_at_end s x m c w i e h n room =
     let b : slice_get (idents_over s) m ≡ Some (shifted (pos m) x) = ap (λ xs. slice_get xs m) e ∙ run_gets x (suc m) m (omega arith) in
     let l : length (idents_over s) ≡ suc m = ap length e ∙ run_length x (suc m) in
@@ -127,16 +142,16 @@ longer_stem ss a seq x y n c w i h q e f =
     let other : (seq_of t == seq) ≡ false = neq_test (seq_of t) seq (λ k. let k1 = u.1 in absurd (omega arith)) in
     let found : stem_of ss a (seq_of t) ≡ Some w = ap (stem_of ss a) g ∙ p.1 in
     let after : stems_after_insert ss a seq t c ≡ with_stem v ss =
-    ap (λ b. if b == a then (if seq_of t == seq then with_stem _ ss else with_extended (stem_of ss a (seq_of t)) (offset_of t) c ss) else ss) r
-    ∙ ap (λ b. if b then (if seq_of t == seq then with_stem _ ss else with_extended (stem_of ss a (seq_of t)) (offset_of t) c ss) else ss) (eq_refl a)
-    ∙ ap (λ b. if b then with_stem _ ss else with_extended (stem_of ss a (seq_of t)) (offset_of t) c ss) other
+    ap (λ b. if b == a then (if seq_of t == seq then with_stem (new_stem a seq c) ss else with_extended (stem_of ss a (seq_of t)) (offset_of t) c ss) else ss) r
+    ∙ ap (λ b. if b then (if seq_of t == seq then with_stem (new_stem a seq c) ss else with_extended (stem_of ss a (seq_of t)) (offset_of t) c ss) else ss) (eq_refl a)
+    ∙ ap (λ b. if b then with_stem (new_stem a seq c) ss else with_extended (stem_of ss a (seq_of t)) (offset_of t) c ss) other
     ∙ ap (λ z. with_extended z (offset_of t) c ss) found
     ∙ ap (λ b. with_stem (if b then v else record w { low = offset_of t }) ss) (int_test (offset_of t) (pos w.next) o) in
     let same : stem_of (with_stem v ss) a (seq_of (last_of x)) ≡ Some v = subst (λ k. stem_of (with_stem v ss) a k ≡ Some v) u.1 (subst (λ k. stem_of (with_stem v ss) k w.s0 ≡ Some v) u.0 (found_same v ss)) in
     own_found (stems_after_insert ss a seq t c) a (last_of x) v p.0 (ap (λ zs. stem_of zs a (seq_of (last_of x))) after ∙ same)
 
-stems_inserted : (s : Seen) (at : ℕ) (cs : List ℕ) → (edited s (edits.Insert at cs)).stems ≡ stems_after_insert s.stems s.acks.me (own_count s + 1) (last_of (first_made s at (length cs))) (length cs)
-unfolding accepted made_over first_made
+stems_inserted : (s : Seen) (at : ℕ) (cs : List ℕ) → (edited s (edits.Insert at cs)).stems ≡ stems_after_insert s.stems s.acks.me (own_count s + 1) (last_of (first_at s at (length cs))) (length cs)
+unfolding accepted made_over
 stems_inserted s at cs = refl
 
 me_stays : (s : Seen) (at : ℕ) (cs : List ℕ) → (edited s (edits.Insert at cs)).acks.me ≡ s.acks.me
@@ -151,12 +166,13 @@ goes_on s (suc m) cs x sane i h run room =
     let e = idents_are (idents_over s) x n run.run in
     let w = run.stem.0 in
     let j : IsIdent x = first_ident (idents_over s) x m e sane.idents.0 in
-    let f = first_at_end s x m (length cs) w j e run.stem.1.0 run.stem.1.1 room in
-    let q = found_stem (vector s) s.stems s.acks.me (seq_of (last_of x)) w sane.stems (own_split s.stems s.acks.me (last_of x) w run.stem.1.0).1 in
-    let u = found_is s.stems s.acks.me (seq_of (last_of x)) w (own_split s.stems s.acks.me (last_of x) w run.stem.1.0).1 in
+    let f = first_at_end s x m (length cs) w j e run.stem.1 run.stem.2 room in
+    let g : first_made s n (length cs) ≡ shifted (pos n) x = first_is s n cs ∙ f in
+    let q = found_stem (vector s) s.stems s.acks.me (seq_of (last_of x)) w sane.stems (own_split s.stems s.acks.me (last_of x) w run.stem.1).1 in
+    let u = found_is s.stems s.acks.me (seq_of (last_of x)) w (own_split s.stems s.acks.me (last_of x) w run.stem.1).1 in
     let counted : w.s0 < own_count s + 1 = let k = subst (λ a. w.s0 ≤ slice_index (vector s) a) u.0 q.counted in omega arith in
-    let stem = longer_stem s.stems s.acks.me (own_count s + 1) x (first_made s n (length cs)) n (length cs) w j run.stem.1.0 counted run.stem.1.1 f in
+    let stem = longer_stem s.stems s.acks.me (own_count s + 1) x (first_at s n (length cs)) n (length cs) w j run.stem.1 counted run.stem.2 f in
     record {
-      run = ap runs_of (ap idents_in (inserted_entries s n cs sane i h) ∙ joined s.text x (first_made s n (length cs)) n cs e f) ∙ one_run x (m + length cs);
-      stem = (record w { next = w.next + length cs }, ap (λ a. own_stem K.stems a (last_of x)) (me_stays s n cs) ∙ (ap (λ zs. own_stem zs s.acks.me (last_of x)) (stems_inserted s n cs) ∙ stem), omega (arith, ints, run.stem.1.1));
+      run = ap runs_of (ap idents_in (inserted_entries s n cs sane i h) ∙ joined s.text x (first_made s n (length cs)) n cs e g) ∙ some_run x (n + length cs) (omega arith);
+      stem = (record w { next = w.next + length cs }, ap (λ a. own_stem K.stems a (last_of x)) (me_stays s n cs) ∙ (ap (λ zs. own_stem zs s.acks.me (last_of x)) (stems_inserted s n cs) ∙ stem), omega (arith, ints, run.stem.2));
     }

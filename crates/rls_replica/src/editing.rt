@@ -1,6 +1,7 @@
 //! What the member itself does.
 
 ghost use Rattle.std.specs.Prelude.{◌≡◌, ℕ, List, ◌+◌, ◌-◌, ◌<◌, ◌≤◌, ◌^◌, ◌≢◌, length, slice_get, Some, None, IfOk, IfErr, OnOk, OnErr};
+ghost use Rattle.rls_ident.specs.declared.tuple.Tuple.{Tuple};
 ghost use Rattle.rls_ops.specs.Sizes.{op_size};
 ghost use Rattle.rls_model.specs.declared.edit.Edit.TheVariants.{Insert, Delete, Rename, Leave};
 ghost use Rattle.rls_model.specs.Editing.{edit_fault, made, next_seq, get_before, first_between, range_fault, size_fault};
