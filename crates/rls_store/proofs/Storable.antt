@@ -1,5 +1,5 @@
 -- A replica that may be written as a file may be written after edits and after messages, whether or not a history stands behind it.
-use Rattle.std.proofs.Common.{◌≡◌, ◌≢◌, ◌∙◌, ◌<◌, ◌≤◌, ◌&&◌, ℕ, zero, suc, Bool, true, false, cond, not, eqb, nat_lt, List, [], ◌∷◌, length, Option, Some, None, Result, Ok, refl, sym, ap, subst, arith, ⊎_elim, inl, inr}
+use Rattle.std.proofs.Common.{◌≡◌, ◌≢◌, ◌∙◌, ◌<◌, ◌≤◌, ◌&&◌, ℕ, zero, suc, Bool, true, false, cond, not, eqb, nat_lt, List, [], ◌∷◌, length, Option, Some, None, Ok, refl, sym, ap, subst, arith, ⊎_elim, inl, inr}
 use Rattle.std.specs.Prelude.{◌≤ℤ◌, int_le, if◌then◌else◌}
 use Rattle.std.specs.List.{find}
 use Rattle.std.proofs.lemmas.Bool.Decides.{nat_tests}
@@ -14,13 +14,11 @@ use Rattle.rls_ops.specs.declared.op.Op.{Op}
 use Rattle.rls_ops.specs.declared.op.Body.{Body}
 use Rattle.rls_ops.specs.declared.op.Body.TheVariants.{Insert, Delete, Rename, Leave}
 use Rattle.rls_ops.specs.declared.op.Shape.{Shape}
-use Rattle.rls_ops.specs.declared.message.Message.{Message}
 use Rattle.rls_ops.specs.Rows.{AcksSeen, counts, left, noted}
 use Rattle.rls_ops.specs.Shapes.{shape_fault}
 use Rattle.rls_ops.specs.Sizes.{op_size}
 use Rattle.rls_ops.specs.WellFormed.{IsInRange, IsOp}
 use Rattle.rls_ops.proofs.Waiting.{in_with, in_without, less_without, numbered_test}
-use Rattle.rls_codec.specs.CodecLaws.{IsMessage}
 use Rattle.rls_codec.specs.Spelled.{Chained, FitTuples, FitsBody, IsSpelled}
 use Rattle.rls_codec.proofs.SizeLaws.{op_length}
 use Rattle.rls_codec.proofs.SpelledSound.{spelled_op}
@@ -30,21 +28,21 @@ use Rattle.rls_model.specs.declared.edit.EditError.TheVariants as errors
 use Rattle.rls_model.specs.Answers.{Reason, Answer, Applies, Repeats, Waits, Refuses}
 use Rattle.rls_model.specs.Editing.{or_fault, range_fault, size_fault}
 use Rattle.rls_model.specs.Receiving.{answer_beside, answer_by, waiting_under, without}
-use Rattle.rls_model.specs.Machine.{Done, one_less, run_on, started}
+use Rattle.rls_model.specs.Machine.{one_less, started}
 use Rattle.rls_model.proofs.Machines.{edit_unlimited, received_limit, released_limit, releases_keep, running_keeps, taking_keeps}
 use Rattle.rls_model.specs.WellFormed.{IsEdit}
 use Rattle.rls_model.proofs.Made.{or_none}
 use Rattle.rls_seen.specs.Edits.{edit_fault_over, edited, made_over, op_fault_over}
-use Rattle.rls_seen.specs.Messages.{by_parts, Course, receive_step, release_step, release_steps, with_releases, edit_step, take_ops, taken_over, taken_within}
+use Rattle.rls_seen.specs.Messages.{by_parts, Course, receive_step, release_step, release_steps, with_releases, edit_step, take_ops, taken_within}
 use Rattle.rls_seen.specs.Over.{acks_after, answer_over, accepted, holding, received, refusal_over, first_ready, after_refusal, after_release, released, released_times, acknowledged}
 use Rattle.rls_seen.specs.Sane.{IsSane}
-use Rattle.rls_seen.specs.Seen.{Seen, fresh, members, own_count, vector, idents_over}
+use Rattle.rls_seen.specs.Seen.{Seen, members, own_count, vector, idents_over}
 use Rattle.rls_seen.proofs.Counting.{members_accepted, members_received, members_released}
 use Rattle.rls_seen.proofs.Making.{edited_sane}
 use Rattle.rls_seen.proofs.Repeating.{acknowledged_seen, received_seen, released_seen}
 use Rattle.rls_seen.proofs.Staying.{acknowledged_sane, received_sane, released_sane}
 use Rattle.rls_store.specs.Stored.{AreWritable}
-use Rattle.rls_store.specs.Kept.{FreshIsWritable, LinesKeepWritable, ReadsWell, TakenIsWritable}
+use Rattle.rls_store.specs.Kept.{FreshIsWritable, LinesKeepWritable, TakenIsWritable}
 
 -- ---- operations
 
