@@ -12,7 +12,7 @@ use Rattle.rls_model.specs.Receiving.{State}
 use Rattle.rls_parts.specs.Rules.{may_wait}
 use Rattle.rls_file.specs.Files.{Content, Journal}
 use Rattle.rls_file.specs.ReadingFiles.{steps_at, entry_at, journal_at}
-use Rattle.rls_file.specs.ReadingJournals.{waiting_at, filled_at, behind_form_at}
+use Rattle.rls_file.specs.ReadingJournals.{waiting_at, filled_at, after_form_at}
 use Rattle.rls_file.proofs.Events.{fails_then, steps_members, steps_me}
 
 abbrev state_ok : History → List Op → List ℕ → Read State
@@ -50,10 +50,9 @@ pub fill_ends : (e : ReadError) (H K : History) (bytes rest middle later : List 
     → Fails e (chain_at (waiting_at K) None m later) → Fails e (filled_at H bytes)
 fill_ends e H K bytes rest middle later n m h s c f = subst (λ r. Fails e r) (sym (all_is H K bytes rest middle later n m h s c)) (fails_then e (chain_at (waiting_at K) None m later) _ f)
 
-pub fill_done : (H K : History) (W : List Op) (bytes rest middle later end : List ℕ) (n m : ℕ) (t : State) → number_at w32 bytes ≡ Ok (n, rest) → steps_at entry_at Then H n rest ≡ Ok (K, middle) → number_at w32 middle ≡ Ok (m, later)
-    → chain_at (waiting_at K) None m later ≡ Ok (W, end) → t.history ≡ K → t.waiting ≡ W → filled_at H bytes ≡ Ok (t, end)
-fill_done H K W bytes rest middle later end n m t h s c w a b =
-    all_is H K bytes rest middle later n m h s c ∙ ap (with_waiting K) w ∙ ap (λ G. state_ok G W end) (sym a) ∙ ap (λ V. state_ok t.history V end) (sym b)
+pub fill_done : (H K : History) (W : List Op) (bytes rest middle later end : List ℕ) (n m : ℕ) → number_at w32 bytes ≡ Ok (n, rest) → steps_at entry_at Then H n rest ≡ Ok (K, middle) → number_at w32 middle ≡ Ok (m, later)
+    → chain_at (waiting_at K) None m later ≡ Ok (W, end) → filled_at H bytes ≡ state_ok K W end
+fill_done H K W bytes rest middle later end n m h s c w = all_is H K bytes rest middle later n m h s c ∙ ap (with_waiting K) w
 
 -- ---- behind the head
 
@@ -89,19 +88,17 @@ pub content_done : (group me members : ℕ) (bytes rest : List ℕ) (t : State) 
 content_done group me members bytes rest t h = ap as_content (sym (filled_is group me members bytes) ∙ h)
 
 head_is : (group me members : ℕ) (bytes one two three : List ℕ) → number_at w64 bytes ≡ Ok (group, one) → with_rule is_member_count (number_at w32) one ≡ Ok (members, two)
-    → with_rule (λ n. nat_lt n members) (number_at w32) two ≡ Ok (me, three) → behind_form_at bytes ≡ as_content (journal_at group members me three)
-unfolding behind_form_at
+    → with_rule (λ n. nat_lt n members) (number_at w32) two ≡ Ok (me, three) → after_form_at bytes ≡ as_content (journal_at group members me three)
+unfolding after_form_at
 head_is group me members bytes one two three g n m =
     ap (λ r. r >>= λ x. with_rule is_member_count (number_at w32) x.1 >>= λ y. with_rule (λ k. nat_lt k y.0) (number_at w32) y.1 >>= λ z. as_content (journal_at x.0 y.0 z.0 z.1)) g
     ∙ ap (λ r. r >>= λ y. with_rule (λ k. nat_lt k y.0) (number_at w32) y.1 >>= λ z. as_content (journal_at group y.0 z.0 z.1)) n
     ∙ ap (λ r. r >>= λ z. as_content (journal_at group members z.0 z.1)) m
 
-pub journal_fails : (e : ReadError) (group me members : ℕ) (H : History) (bytes one two three : List ℕ) → number_at w64 bytes ≡ Ok (group, one) → with_rule is_member_count (number_at w32) one ≡ Ok (members, two)
-    → with_rule (λ n. nat_lt n members) (number_at w32) two ≡ Ok (me, three) → H ≡ Fresh group me members → Fails e (filled_at H three) → Fails e (behind_form_at bytes)
-journal_fails e group me members H bytes one two three g n m h f =
-    subst (λ r. Fails e r) (sym (head_is group me members bytes one two three g n m)) (content_fails e group me members three (subst (λ K. Fails e (filled_at K three)) h f))
+pub journal_fails : (e : ReadError) (group me members : ℕ) (bytes one two three : List ℕ) → number_at w64 bytes ≡ Ok (group, one) → with_rule is_member_count (number_at w32) one ≡ Ok (members, two)
+    → with_rule (λ n. nat_lt n members) (number_at w32) two ≡ Ok (me, three) → Fails e (filled_at (Fresh group me members) three) → Fails e (after_form_at bytes)
+journal_fails e group me members bytes one two three g n m f = subst (λ r. Fails e r) (sym (head_is group me members bytes one two three g n m)) (content_fails e group me members three f)
 
-pub journal_done : (group me members : ℕ) (H : History) (bytes one two three rest : List ℕ) (t : State) → number_at w64 bytes ≡ Ok (group, one) → with_rule is_member_count (number_at w32) one ≡ Ok (members, two)
-    → with_rule (λ n. nat_lt n members) (number_at w32) two ≡ Ok (me, three) → H ≡ Fresh group me members → filled_at H three ≡ Ok (t, rest) → behind_form_at bytes ≡ Ok (Journal t, rest)
-journal_done group me members H bytes one two three rest t g n m h f =
-    head_is group me members bytes one two three g n m ∙ content_done group me members three rest t (ap (λ K. filled_at K three) (sym h) ∙ f)
+pub journal_done : (group me members : ℕ) (bytes one two three rest : List ℕ) (t : State) → number_at w64 bytes ≡ Ok (group, one) → with_rule is_member_count (number_at w32) one ≡ Ok (members, two)
+    → with_rule (λ n. nat_lt n members) (number_at w32) two ≡ Ok (me, three) → filled_at (Fresh group me members) three ≡ Ok (t, rest) → after_form_at bytes ≡ Ok (Journal t, rest)
+journal_done group me members bytes one two three rest t g n m f = head_is group me members bytes one two three g n m ∙ content_done group me members three rest t f

@@ -24,12 +24,13 @@ use Rattle.rls_model.specs.Legal.{AreWaiting}
 use Rattle.rls_model.specs.Receiving.{State, verdict_of, answer_beside, answer_by, answer, after, receive, receive_after}
 use Rattle.rls_parts.specs.Rules.{is_fine, waits_behind, may_wait}
 use Rattle.rls_file.specs.ReadingJournals.{waits, last_of, waiting_at, more_waiting_at}
-use Rattle.rls_seen.specs.Over.{after_answer, answer_over, received}
-use Rattle.rls_file.specs.Journals.{IsReplayed, JournalSeen, Tells, told}
+use Rattle.rls_seen.specs.Over.{after_answer, answer_over, holding, received}
+use Rattle.rls_seen.specs.Seen.{Seen}
+use Rattle.rls_seen.specs.Stands.{StandsFor}
+use Rattle.rls_file.specs.Journals.{IsReplayOf, seen_after}
 use Rattle.rls_file.proofs.Events.{fails_then, fails_before}
-use Rattle.rls_file.proofs.Telling.{holding_replayed, told_is}
 
-abbrev beside : History → List Op → State
+abbrev pub beside : History → List Op → State
 beside H W = record { history = H; waiting = W }
 
 -- ---- all that wait come before what stands behind the last one
@@ -195,28 +196,24 @@ last_pushed W o =
     let e : length (W ++ o ∷ []) - 1 ≡ length W = omega (arith, length-append W (o ∷ [])) in
     ap (slice_get (W ++ o ∷ [])) e ∙ at_seam W o
 
-pub wait_on : (H : History) (t : State) (W V : List Op) (count i : ℕ) (bytes after : List ℕ) (total : Read (List Op)) → t.history ≡ H → t.waiting ≡ W → i < count → more_waiting_at t bytes ≡ Ok (V, after)
+pub wait_on : (H : History) (W V : List Op) (count i : ℕ) (bytes after : List ℕ) (total : Read (List Op)) → i < count → more_waiting_at (beside H W) bytes ≡ Ok (V, after)
     → with_front W (chain_at (waiting_at H) (last_of W) (count - i) bytes) ≡ total → with_front V (chain_at (waiting_at H) (last_of V) (count - (i + 1)) after) ≡ total
-wait_on H t W V count i bytes after total same is lt h so_far =
-    let b = bind_ok (waiting_at t.history (last_of t.waiting) bytes) (λ x. ops_ok (t.waiting ++ x.0 ∷ []) x.1) (V, after) h in
-    let pair = ok_is (t.waiting ++ b.0.0 ∷ [], b.0.1) (V, after) b.2 in
-    let read : waiting_at H (last_of W) bytes ≡ Ok b.0 = ap (λ K. waiting_at K (last_of W) bytes) (sym same) ∙ ap (λ U. waiting_at t.history (last_of U) bytes) (sym is) ∙ b.1 in
-    let now : W ++ b.0.0 ∷ [] ≡ V = ap (λ U. U ++ b.0.0 ∷ []) (sym is) ∙ ap (λ (q : List Op × List ℕ). q.0) pair in
-    let next = goes_on (waiting_at H) W (last_of W) count i bytes b.0.0 b.0.1 total lt read so_far in
+wait_on H W V count i bytes after total lt h so_far =
+    let b = bind_ok (waiting_at H (last_of W) bytes) (λ x. ops_ok (W ++ x.0 ∷ []) x.1) (V, after) h in
+    let pair = ok_is (W ++ b.0.0 ∷ [], b.0.1) (V, after) b.2 in
+    let now : W ++ b.0.0 ∷ [] ≡ V = ap (λ (q : List Op × List ℕ). q.0) pair in
+    let next = goes_on (waiting_at H) W (last_of W) count i bytes b.0.0 b.0.1 total lt b.1 so_far in
     let last : last_of V ≡ Some b.0.0 = ap last_of (sym now) ∙ last_pushed W b.0.0 in
     ap (λ l. with_front V (chain_at (waiting_at H) l (count - (i + 1)) after)) last
     ∙ ap (λ U. with_front U (chain_at (waiting_at H) (Some b.0.0) (count - (i + 1)) after)) (sym now)
     ∙ ap (λ r. with_front (W ++ b.0.0 ∷ []) (chain_at (waiting_at H) (Some b.0.0) (count - (i + 1)) r)) (sym (ap (λ (q : List Op × List ℕ). q.1) pair))
     ∙ next
 
-pub wait_fails : (e : ReadError) (H : History) (t : State) (W : List Op) (count i : ℕ) (bytes : List ℕ) (total : Read (List Op)) → t.history ≡ H → t.waiting ≡ W → i < count → Fails e (more_waiting_at t bytes)
+pub wait_fails : (e : ReadError) (H : History) (W : List Op) (count i : ℕ) (bytes : List ℕ) (total : Read (List Op)) → i < count → Fails e (more_waiting_at (beside H W) bytes)
     → with_front W (chain_at (waiting_at H) (last_of W) (count - i) bytes) ≡ total → Fails e total
-wait_fails e H t W count i bytes total same is lt h so_far =
-    let one : Fails e (waiting_at t.history (last_of t.waiting) bytes >>= λ x. op_ok x.0 x.1) =
-    fails_before e (waiting_at t.history (last_of t.waiting) bytes) (λ x. ops_ok (t.waiting ++ x.0 ∷ []) x.1) (λ x. op_ok x.0 x.1) (λ x left q. absurd cc) h in
-    let here : Fails e (waiting_at t.history (last_of t.waiting) bytes) = subst (λ r. Fails e r) (as_read (waiting_at t.history (last_of t.waiting) bytes)) one in
-    let there : Fails e (waiting_at H (last_of W) bytes) = subst (λ U. Fails e (waiting_at H (last_of U) bytes)) is (subst (λ K. Fails e (waiting_at K (last_of t.waiting) bytes)) same here) in
-    ends (waiting_at H) e W (last_of W) count i bytes total lt there so_far
+wait_fails e H W count i bytes total lt h so_far =
+    let one : Fails e (waiting_at H (last_of W) bytes >>= λ x. op_ok x.0 x.1) = fails_before e (waiting_at H (last_of W) bytes) (λ x. ops_ok (W ++ x.0 ∷ []) x.1) (λ x. op_ok x.0 x.1) (λ x left q. absurd cc) h in
+    ends (waiting_at H) e W (last_of W) count i bytes total lt (subst (λ r. Fails e r) (as_read (waiting_at H (last_of W) bytes)) one) so_far
 
 pub wait_done : (H : History) (W : List Op) (count i : ℕ) (bytes : List ℕ) (total : Read (List Op)) → count ≤ i → with_front W (chain_at (waiting_at H) (last_of W) (count - i) bytes) ≡ total → total ≡ Ok (W, bytes)
 wait_done H W count i bytes total le so_far = is_done (waiting_at H) W (last_of W) count i bytes total le so_far
@@ -227,17 +224,16 @@ wait_start H W count bytes e =
     let n : count - 0 ≡ count = omega arith in
     ap (λ k. with_front W (chain_at (waiting_at H) (last_of W) k bytes)) n ∙ ap (λ U. with_front U (chain_at (waiting_at H) (last_of U) count bytes)) e ∙ front_none (chain_at (waiting_at H) None count bytes)
 
--- ---- what is told then
+-- ---- the replica then
 
-pub held_told : (old new : JournalSeen) (o : Op) → Tells old (told old) → waits_behind (last_of (told old).waiting) o ≡ true → waits (receive (told old) o) ≡ true → Tells new (receive_after (told old) o)
-    → ((told new).history ≡ (told old).history) × (new.seen.waiting ≡ (told old).waiting ++ o ∷ [])
-held_told old new o h b w n =
-    let t = told old in
-    let after_is = held_after t o h.stands.sound b w in
-    let is = told_is new.seen new.notes (receive_after t o) n in
-    (ap (λ (x : State). x.history) (is ∙ after_is), n.stands.waiting ∙ ap (λ (x : State). x.waiting) after_is)
-
-pub held_replayed : (old new : JournalSeen) (o : Op) → IsReplayed old → waits (answer_over false old.seen o) ≡ true → new.seen ≡ received old.seen o → (told new).history ≡ (told old).history → IsReplayed new
-unfolding received
-held_replayed old new o h w e same =
-    holding_replayed old new (with_waiting o (without o.author o.seq old.seen.waiting)) h (e ∙ ap (λ (a : Answer). after_answer a old.seen o) (waits_is (answer_over false old.seen o) w)) same
+pub holds : (t : State) (s new : Seen) (o : Op) → IsReplayOf t s → new ≡ received s o → answer_over false s o ≡ receive t o → waits_behind (last_of t.waiting) o ≡ true → waits (receive t o) ≡ true → StandsFor new (receive_after t o)
+    → IsReplayOf (beside t.history (t.waiting ++ o ∷ [])) new
+unfolding received holding
+holds t s new o r e same b w h =
+    let after_is = held_after t o r.stands.sound b w in
+    let now = subst (StandsFor new) after_is h in
+    let held = e ∙ ap (λ (a : Answer). after_answer a s o) (same ∙ waits_is (receive t o) w) in
+    record {
+      is = held ∙ ap (λ (x : Seen). holding x (with_waiting o (without o.author o.seq s.waiting))) r.is ∙ ap (holding (seen_after t.history)) (sym (ap (λ (x : Seen). x.waiting) held) ∙ now.waiting);
+      stands = now;
+    }

@@ -20,9 +20,7 @@ use Rattle.rls_parts.proofs.RestoredLog.{MayWait, may_wait_is}
 use Rattle.rls_file.specs.ReadingFiles.{applies, may_be_next}
 use Rattle.rls_file.specs.SpelledFiles.{IsReadable, IsHead, IsSpelledJournal}
 use Rattle.rls_file.specs.FileLaws.{AreSpelled}
-use Rattle.rls_file.specs.Files.{Journal}
-use Rattle.rls_file.proofs.FileFormats.{file_takes}
-use Rattle.rls_file.specs.StoredLaws.{IsStorable, SpelledIsLegal, ReadIsLegal, ReadIsStorable, FoundIsStorable}
+use Rattle.rls_file.specs.Storable.{IsStorable}
 
 -- ---- what an answer says
 
@@ -93,15 +91,3 @@ spelled_storable t j =
       rest = none_found (λ w. at_most w.context (count_in H)) t.waiting
           (chain_each {P = λ w. at_most w.context (count_in H) ≡ false} (members_of H) (me_of H) (count_in H) (λ before w s m. m.causes) None t.waiting c);
     }
-
-pub spelled_is_legal : SpelledIsLegal
-spelled_is_legal t j = let s = spelled_storable t j in (s.legal, s.sound)
-
-pub read_is_legal : ReadIsLegal
-read_is_legal bytes t f = spelled_is_legal t f.0
-
-pub read_is_storable : ReadIsStorable
-read_is_storable bytes t f = spelled_storable t f.0
-
-pub found_is_storable : FoundIsStorable
-found_is_storable bytes t b e = read_is_storable bytes t (file_takes bytes (Journal t) b e)

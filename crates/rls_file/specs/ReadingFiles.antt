@@ -1,17 +1,13 @@
 -- Reading files.
-use Rattle.std.specs.Prelude.{ℕ, ℤ, pos, zero, suc, Bool, true, false, ◌&&◌, List, [], ◌++◌, ◌-◌, ◌==◌, length, codes, Option, Some, None, Result, Ok, Err, nat_lt, nat_le, if◌then◌else◌}
+use Rattle.std.specs.Prelude.{ℕ, zero, suc, Bool, true, false, ◌&&◌, List, [], ◌==◌, codes, Option, Some, None, Result, Ok, Err, nat_lt, nat_le}
 use Rattle.std.specs.Int.{w32, w64}
-use Rattle.rls_ident.specs.declared.tuple.Tuple.{Tuple}
 use Rattle.rls_ops.specs.declared.op.Op.{Op}
-use Rattle.rls_codec.specs.Reading.{Read, ◌>>=◌, with_rule, byte_at, number_at, signed_at, chain_at, many_at, counted_at, vector_at, name_at, runs_at, next_run_at, text_at, op_at, magic_at, is_member_count, whole}
+use Rattle.rls_codec.specs.Reading.{Read, ◌>>=◌, with_rule, byte_at, number_at, counted_at, vector_at, op_at, magic_at, is_member_count, whole}
 use Rattle.rls_model.specs.Answers.{Answer, Applies}
 use Rattle.rls_model.specs.History.{Entry, Accepted, Acknowledged, History, Fresh, Then, members_of}
 use Rattle.rls_model.specs.History.{count as count_in}
 use Rattle.rls_model.specs.Stability.{is_counted}
 use Rattle.rls_model.specs.Receiving.{State, replay}
-use Rattle.rls_model.specs.declared.parts.Stem.{Stem}
-use Rattle.rls_model.specs.declared.parts.EpochPart.{EpochPart}
-use Rattle.rls_model.specs.declared.parts.TextRun.{TextRun}
 use Rattle.rls_model.specs.declared.parts.Parts.{Parts}
 use Rattle.rls_parts.specs.Rules.{Broken, broken, may_wait}
 use Rattle.rls_file.specs.Files.{newest_form, Content, Journal, Snapshot, place_of_broken}
@@ -20,7 +16,7 @@ unfoldable pub use Rattle.rls_fields.specs.ReadingFields.{stem_at, stems_at, epo
 
 -- ---- a journal
 
--- so many parts, each read in a state: the state behind the last
+-- so many parts, each read in a state: the state after the last
 unfoldable pub steps_at : {S A : Type 0} → (S → List ℕ → Read A) → (S → A → S) → S → ℕ → List ℕ → Read S
 steps_at part next state zero bytes = Ok (state, bytes)
 steps_at part next state (suc n) bytes = part state bytes >>= λ first. steps_at part next (next state first.0) n first.1
@@ -48,7 +44,7 @@ entry_of_kind H (suc k) bytes = do
 abbrev pub any_entry_at : History → List ℕ → Read Entry
 any_entry_at H bytes = with_rule (λ k. nat_le k 1) byte_at bytes >>= λ kind. entry_of_kind H kind.0 kind.1
 
--- an entry behind this history; the rule of an acknowledgement has the place of its kind
+-- an entry after this history; the rule of an acknowledgement has the place of its kind
 unfoldable pub entry_at : History → List ℕ → Read Entry
 entry_at H bytes = with_rule (is_new H) (any_entry_at H) bytes
 
@@ -75,15 +71,6 @@ abbrev pub form_at : List ℕ → Read ℕ
 form_at bytes = do
   magic ← magic_at (codes "RLSF") bytes
   with_rule is_file_form byte_at magic.1
-
--- the form that was read is one of snapshots
-abbrev pub is_snapshot : Read ℕ → Bool
-is_snapshot (Ok form) = nat_lt 1 form.0
-is_snapshot (Err left) = false
-
--- the bytes begin as a snapshot: with the magic text and one of the forms 2 to 4
-abbrev pub begins_snapshot : List ℕ → Bool
-begins_snapshot bytes = is_snapshot (form_at bytes)
 
 unfoldable pub file_at : List ℕ → Read Content
 file_at bytes = do

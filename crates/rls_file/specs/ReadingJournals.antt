@@ -1,7 +1,9 @@
--- Reading a journal entry by entry, where what was read so far stands in a replica.
-use Rattle.std.specs.Prelude.{◌≡◌, ◌-◌, ◌∷◌, ◌++◌, ℕ, true, false, Bool, List, [], length, slice_get, nat_lt, Option, Ok}
+-- Reading a journal entry by entry into a replica, which decides whether the next one keeps its rule.
+use Rattle.std.specs.Prelude.{◌≡◌, ◌-◌, ◌∷◌, ◌++◌, ℕ, true, false, Bool, List, [], length, slice_get, nat_lt, Option, Result, Ok, Err}
 use Rattle.std.specs.Int.{w32, w64}
 use Rattle.rls_ops.specs.declared.op.Op.{Op}
+use Rattle.rls_codec.specs.declared.fault.ReadError.{ReadError}
+use Rattle.rls_codec.specs.Gives.{Fails}
 use Rattle.rls_codec.specs.Reading.{Read, ◌>>=◌, with_rule, number_at, counted_at, vector_at, op_at, is_member_count}
 use Rattle.rls_model.specs.Answers.{Answer, Waits}
 use Rattle.rls_model.specs.History.{Entry, Acknowledged, History, Then, me_of, members_of}
@@ -10,13 +12,19 @@ use Rattle.rls_model.specs.Receiving.{State}
 use Rattle.rls_parts.specs.Rules.{may_wait}
 use Rattle.rls_file.specs.Files.{Content}
 use Rattle.rls_file.specs.ReadingFiles.{content_at, steps_at, entry_at}
-use Rattle.rls_file.specs.Journals.{JournalSeen, Tells, seen_after, told}
+use Rattle.rls_file.specs.Journals.{seen_after}
+use Rattle.rls_seen.specs.Seen.{Seen}
+use Rattle.rls_seen.specs.Stands.{StandsFor}
 
--- the journal tells a history beside which nothing waits
-pub record TellsAlone (j : JournalSeen) : Type 0 where
-  pub tells : Tells j (told j)
-  pub alone : j.seen.waiting ≡ []
-  pub replayed : j.seen ≡ seen_after (told j).history
+-- the replica is the one to which the history has happened, where nothing waits, and stands for it
+pub record IsAfter (H : History) (s : Seen) : Type 0 where
+  pub is : s ≡ seen_after H
+  pub stands : StandsFor s (record { history = H; waiting = [] })
+
+-- reading gives something of which this holds, and what is left; or the fault; unless memory ran out
+abbrev pub Brings : {X A : Type 0} → (X → List ℕ) → (A → Type 0) → Result X ReadError → Read A → Type 0
+Brings {A = A} rest P (Ok x) read = (a : A) × (read ≡ Ok (a, rest x)) × P a
+Brings rest P (Err e) read = Fails e read
 
 -- a member and its vector
 abbrev pub acknowledgement_at : ℕ → List ℕ → Read Entry
@@ -30,7 +38,7 @@ abbrev pub waits : Answer → Bool
 waits Waits = true
 waits _ = false
 
--- the history and the entry that was read behind it
+-- the history and the entry that was read after it
 abbrev pub grown : History → Read Entry → Read History
 grown H read = read >>= λ e. Ok (Then H e.0, e.1)
 
@@ -42,7 +50,7 @@ next_at H bytes = grown H (entry_at H bytes)
 abbrev pub last_of : List Op → Option Op
 last_of W = slice_get W (length W - 1)
 
--- an operation that may wait behind the last one
+-- an operation that may wait after the last one
 abbrev pub waiting_at : History → Option Op → List ℕ → Read Op
 waiting_at H before bytes = with_rule (may_wait (members_of H) (me_of H) (count_in H) before) (op_at (members_of H)) bytes
 
@@ -50,7 +58,7 @@ waiting_at H before bytes = with_rule (may_wait (members_of H) (me_of H) (count_
 abbrev pub more_waiting_at : State → List ℕ → Read (List Op)
 more_waiting_at t bytes = waiting_at t.history (last_of t.waiting) bytes >>= λ o. Ok (t.waiting ++ o.0 ∷ [], o.1)
 
--- behind a history a number of entries, and these, and then a number of waiting operations, and these
+-- after a history a number of entries, and these, and then a number of waiting operations, and these
 unfoldable pub filled_at : History → List ℕ → Read State
 filled_at H bytes = do
   count ← number_at w32 bytes
@@ -59,8 +67,8 @@ filled_at H bytes = do
   Ok (record { history = history.0; waiting = waiting.0 }, waiting.1)
 
 -- what follows the form of a journal
-unfoldable pub behind_form_at : List ℕ → Read Content
-behind_form_at bytes = do
+unfoldable pub after_form_at : List ℕ → Read Content
+after_form_at bytes = do
   group ← number_at w64 bytes
   members ← with_rule is_member_count (number_at w32) group.1
   me ← with_rule (λ n. nat_lt n members.0) (number_at w32) members.1

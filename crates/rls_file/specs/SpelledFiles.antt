@@ -24,17 +24,17 @@ pub record IsHead (form group members me : ℕ) : Type 0 where
 
 -- ---- form 1
 
--- an entry behind this history
+-- an entry after this history
 abbrev pub FitsEntry : History → Entry → Type 0
 FitsEntry H (Accepted o) = IsSpelled (members_of H) o × IsTrue (may_be_next H o)
 FitsEntry H (Acknowledged from counts) = IsSmall from × (from < members_of H) × FitsVector (members_of H) counts × IsTrue (is_new H (Acknowledged from counts))
 
--- each entry fits behind those before
+-- each entry fits after those before
 abbrev pub IsReadable : History → Type 0
 IsReadable (Fresh group me members) = Unit {0}
 IsReadable (Then H e) = IsReadable H × FitsEntry H e
 
--- operations that wait one behind the other
+-- operations that wait one after the other
 abbrev pub FitWaiting : ℕ → ℕ → List ℕ → List Op → Type 0
 FitWaiting members me vector os = IsSmall (length os) × Chained (λ before o. IsSpelled members o × IsTrue (may_wait members me vector before o)) None os
 
@@ -62,12 +62,12 @@ abbrev pub Grouped : ℕ → ℕ → ℕ → List Stem → Type 0
 Grouped form a zero ss = ss ≡ []
 Grouped form a (suc n) ss = AreOwn form a (own_of a ss) × (ss ≡ own_of a ss ++ others_of a ss) × Grouped form (suc a) n (others_of a ss)
 
--- an epoch behind the one before
+-- an epoch after the one before
 abbrev pub FitsEpoch : Option EpochPart → EpochPart → Type 0
 FitsEpoch None e = FitsName e.name × (e.parent ≡ None) × (e.former ≡ [])
 FitsEpoch (Some before) e = FitsName e.name × ((k : ℕ) × (e.parent ≡ Some k) × IsSmall k) × FitRuns e.former
 
--- a text run behind the one before
+-- a text run after the one before
 abbrev pub FitsTextRun : Option TextRun → TextRun → Type 0
 FitsTextRun before r = FitsBehind (run_before before) r.run × FitsText r.text × IsTrue (length r.text == r.run.1)
 

@@ -20,7 +20,7 @@ fn form_byte(bytes: &[u8]) -> Result<(u8, &[u8]), ReadError>
     Ok((form, rest))
 }
 
-/// The form that stands behind the magic text, from 1 to 4.
+/// The form, from 1 to 4, which follows the magic text.
 pub fn form(bytes: &[u8]) -> Result<(u8, &[u8]), ReadError>
     ensures read { Gives (λ x. (x.0, x.1.now)) result (form_at bytes.now) }
 {

@@ -1,14 +1,9 @@
-//! Replica files of all forms.
+//! What replica files of all forms say, and the journals of form 1, read.
 #![tactic(auto)]
 
-mod file;
 mod head;
-mod journal;
 pub mod laws;
 mod reading;
-pub mod stored;
-mod writing;
 
-pub use file::{FileError, SaveError, decode_file, encode_file};
 pub use head::form;
-pub use journal::{Journal, Note};
+pub use reading::journal;

@@ -1,5 +1,8 @@
 pub mod Stored
 pub mod Bounded
+pub mod Storable
+pub mod Snapshots
+pub mod Files
 pub mod Loaded
 pub mod Saved
 pub mod Spelled

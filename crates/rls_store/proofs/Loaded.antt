@@ -22,16 +22,21 @@ use Rattle.rls_parts.specs.Restored.{seen_of}
 use Rattle.rls_parts.specs.Rules.{broken}
 use Rattle.rls_fields.specs.Fields.{place_of_broken, snapshot_bytes}
 use Rattle.rls_file.specs.Files.{Content, Journal, Snapshot}
-use Rattle.rls_file.specs.Journals.{IsReplayed, JournalSeen, Tells, told}
+use Rattle.rls_file.specs.Journals.{IsReplayOf}
+use Rattle.rls_file.specs.ReadingJournals.{after_form_at}
 use Rattle.rls_file.specs.ReadingFiles.{content_at, form_at, file_at, tested, unless_broken, file_of}
 use Rattle.rls_file.specs.SpelledFiles.{IsSpelledSnapshot}
-use Rattle.rls_file.proofs.FileFormats.{file, whole_takes}
+use Rattle.rls_file.specs.FileLaws.{IsFile}
+use Rattle.rls_file.proofs.FileFormats.{file, file_takes, whole_takes}
 use Rattle.rls_file.proofs.GivenParts.{parts_are_given}
-use Rattle.rls_file.proofs.WholeFiles.{behind_form, file_is, fault_of}
+use Rattle.rls_file.proofs.WholeFiles.{after_form, file_is, fault_of}
 use Rattle.rls_store.specs.declared.loading.FileError.{FileError}
 use Rattle.rls_store.specs.declared.loading.FileError.TheVariants.{Damaged, OutOfMemory}
 use Rattle.rls_store.specs.Loading.{snapshot_behind, damage_of, ReadsParts, IsPlaceOf, IsLoaded, StandsFrom, Loads, FileStandsFor, seen_in}
+use Rattle.rls_store.specs.Stored.{AreWritable}
 use Rattle.rls_store.proofs.Bounded.{whole_length, place_within}
+use Rattle.rls_store.proofs.Files.{journal_opens}
+use Rattle.rls_store.proofs.Snapshots.{snapshot_writable}
 
 -- ---- behind the form
 
@@ -43,13 +48,13 @@ behind_with form b bytes =
 pub snapshot_is : (bytes rest : List ℕ) (form : ℕ) → form_at bytes ≡ Ok (form, rest) → 1 < form → file_at bytes ≡ snapshot_behind form rest
 unfolding snapshot_behind
 snapshot_is bytes rest form h lt =
-    file_is bytes ∙ ap (λ r. r >>= λ f. behind_form f.0 f.1) h ∙ ap (λ b. behind_with form b rest) (neq_test form 1 (λ e. omega (arith, e, lt)))
+    file_is bytes ∙ ap (λ r. r >>= λ f. after_form f.0 f.1) h ∙ ap (λ b. behind_with form b rest) (neq_test form 1 (λ e. omega (arith, e, lt)))
 
 -- ---- faults
 
 pub head_fails : (e : ReadError) (bytes : List ℕ) → Fails e (form_at bytes) → Loads (Err (damage_of (length bytes) e)) bytes
 head_fails read.OutOfMemory bytes h = tt
-head_fails (Fault left) bytes h = fault_of bytes left (file_is bytes ∙ ap (λ r. r >>= λ f. behind_form f.0 f.1) h)
+head_fails (Fault left) bytes h = fault_of bytes left (file_is bytes ∙ ap (λ r. r >>= λ f. after_form f.0 f.1) h)
 
 pub parts_fail : (e : ReadError) (bytes rest : List ℕ) (form : ℕ) → form_at bytes ≡ Ok (form, rest) → 1 < form → Fails e (snapshot_behind form rest) → ReadsParts form (Err (damage_of (length bytes) e)) bytes
 parts_fail read.OutOfMemory bytes rest form h lt f = tt
@@ -112,11 +117,24 @@ place_fault form rule index OutOfMemory bytes h = tt
 
 -- ---- journals
 
--- a journal's replica, where what is stable was dropped
-pub journal_loaded : (j : JournalSeen) (r : Seen) (bytes : List ℕ) → file_of bytes ≡ Ok (Journal (told j)) → Tells j (told j) → IsReplayed j → r ≡ dropped j.seen → Loads (Ok r) bytes
-unfolding told
-journal_loaded j r bytes e h same is =
-    (Journal (told j), e, (is ∙ ap dropped same, subst (λ (s : Seen). StandsFor s (told j)) (sym is) (dropped_stands j.seen (told j) h.stands)))
+pub journal_fails : (e : ReadError) (bytes rest : List ℕ) → file_at bytes ≡ after_form_at rest → Fails e (after_form_at rest) → Loads (Err (damage_of (length bytes) e)) bytes
+journal_fails read.OutOfMemory bytes rest h f = tt
+journal_fails (Fault left) bytes rest h f = fault_of bytes left (h ∙ f)
+
+pub journal_surplus : (bytes rest after : List ℕ) (t : State) → file_at bytes ≡ after_form_at rest → after_form_at rest ≡ Ok (Journal t, after) → 0 < length after → file_of bytes ≡ Err (length bytes - length after)
+unfolding file_of
+journal_surplus bytes rest [] t h r some = absurd (omega (arith, some))
+journal_surplus bytes rest (b ∷ more) t h r some = ap (λ x. whole bytes x >>= tested) (h ∙ r)
+
+journal_is : (bytes rest after : List ℕ) (t : State) → file_at bytes ≡ after_form_at rest → after_form_at rest ≡ Ok (Journal t, after) → length after ≤ 0 → file_of bytes ≡ Ok (Journal t)
+unfolding file_of
+journal_is bytes rest [] t h r none = ap (λ x. whole bytes x >>= tested) (h ∙ r)
+journal_is bytes rest (b ∷ more) t h r none = absurd (omega (arith, none))
+
+-- a journal's replica, after it has dropped what is stable
+pub journal_loaded : (bytes rest after : List ℕ) (t : State) (s r : Seen) → file_at bytes ≡ after_form_at rest → after_form_at rest ≡ Ok (Journal t, after) → length after ≤ 0 → IsReplayOf t s → r ≡ dropped s → Loads (Ok r) bytes
+journal_loaded bytes rest after t s r h read none replay is =
+    (Journal t, journal_is bytes rest after t h read none, (is ∙ ap dropped replay.is, subst (λ (x : Seen). StandsFor x t) (sym is) (dropped_stands s t replay.stands)))
 
 -- ---- clauses
 
@@ -145,3 +163,11 @@ loaded_stands s c bytes t e l (inr f) = subst (StandsFrom s) (same_content c (Sn
 pub loads_stands : (r : Result Seen FileError) (bytes : List ℕ) → Loads r bytes → IfOk r (λ s. (t : State) → FileStandsFor bytes t → StandsFor s t)
 loads_stands (Ok s) bytes h = λ t f. loaded_stands s h.0 bytes t h.1 h.2 f
 loads_stands (Err e) bytes h = tt
+
+content_writable : (bytes : List ℕ) (c : Content) → IsFile bytes c → AreWritable (seen_in c)
+content_writable bytes (Journal t) f = (journal_opens t f.0).writable
+content_writable bytes (Snapshot form p) f = snapshot_writable form p f.0 f.1
+
+pub loads_writable : (r : Result Seen FileError) (bytes : List ℕ) → IsBytes bytes → Loads r bytes → IfOk r AreWritable
+loads_writable (Ok s) bytes b h = subst AreWritable (sym h.2.0) (content_writable bytes h.0 (file_takes bytes h.0 b h.1))
+loads_writable (Err e) bytes b h = tt

@@ -1,6 +1,6 @@
 -- The parts of a sane replica have a spelling, list by list, where their numbers, identifiers and characters fit.
-use Rattle.std.proofs.Common.{◌≡◌, ◌≢◌, ℕ, zero, suc, ◌+◌, ◌<◌, ◌≤◌, ◌^◌, Bool, true, false, List, [], ◌∷◌, ◌++◌, length, map, get_or, Option, Some, None, refl, sym, ap, ◌∙◌, subst, arith, inl, inr, ⊎_elim, if◌then◌else◌}
-use Rattle.std.specs.Prelude.{ℤ, pos, ◌≤ℤ◌, All, FitsSigned, filter, not, nat_lt, slice_index, ◌==◌, ◌&&◌, ◌||◌}
+use Rattle.std.proofs.Common.{◌≡◌, ◌≢◌, ℕ, zero, suc, ◌+◌, ◌<◌, ◌≤◌, ◌^◌, Bool, true, false, List, [], ◌∷◌, ◌++◌, length, Option, Some, None, refl, sym, ap, ◌∙◌, subst, arith, inl, inr, ⊎_elim, if◌then◌else◌}
+use Rattle.std.specs.Prelude.{ℤ, pos, ◌≤ℤ◌, All, FitsSigned, not, nat_lt, slice_index, ◌==◌, ◌&&◌}
 use Rattle.std.specs.Int.{w32}
 use Rattle.std.specs.List.{list_all}
 use Rattle.std.specs.Ordering.{is_lt}
@@ -13,7 +13,7 @@ use Rattle.rls_ident.specs.declared.epoch_name.EpochName.TheVariants.{Origin, Of
 use Rattle.rls_ident.specs.Identifiers.{is_ident, ident_lt, least_offset, follows}
 use Rattle.rls_ident.specs.Lists.{IsIn}
 use Rattle.rls_ident.specs.Vectors.{at_most, raise}
-use Rattle.rls_ident.proofs.Members.{and_left, and_right, and_true, bool_cases, eq_is, eq_not, eq_test, in_all, in_filter, lt_is, lt_test, le_test, neq_test, not_is, not_found, or_split, snoc_split, some_is}
+use Rattle.rls_ident.proofs.Members.{and_left, and_right, and_true, bool_cases, eq_is, eq_not, eq_test, in_all, in_filter, lt_is, lt_test, neq_test, or_split, snoc_split, some_is}
 use Rattle.rls_runs.specs.Entries.{Entries, idents_in}
 use Rattle.rls_runs.specs.Runs.{AreIdents, is_apart, are_apart, is_increasing, put_run, runs_of}
 use Rattle.rls_rename.specs.Renaming.{IsFormer}
@@ -47,7 +47,7 @@ use Rattle.rls_fields.specs.Fields.{own_of, others_of}
 use Rattle.rls_fields.specs.ReadingFields.{is_above, run_before}
 use Rattle.rls_fields.specs.Written.{FitsRow, FitsFormer, FitsChars}
 use Rattle.rls_fields.proofs.Puts.{few_own}
-use Rattle.rls_file.specs.SpelledFiles.{AreOwn, FitsEpoch, FitsStem, FitsTextRun, Grouped}
+use Rattle.rls_file.specs.SpelledFiles.{FitsEpoch, FitsStem, FitsTextRun, Grouped}
 use Rattle.rls_store.proofs.Stored.{AreFrom, both_counts, others_from}
 
 -- ---- operations

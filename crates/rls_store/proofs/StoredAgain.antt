@@ -1,5 +1,5 @@
 -- What is stored is a file again.
-use Rattle.std.proofs.Common.{◌≡◌, ℕ, ◌+◌, ◌<◌, ◌≤◌, ◌^◌, List, [], ◌∷◌, length, map, refl, sym, ap, ◌∙◌, subst, arith, inl, inr, None}
+use Rattle.std.proofs.Common.{◌≡◌, ◌<◌, ◌≤◌, ◌^◌, List, [], ◌∷◌, length, refl, ap, ◌∙◌, subst, arith, inl, inr, None}
 use Rattle.std.specs.Prelude.{All, nat_le, nat_lt, not}
 use Rattle.std.proofs.lemmas.List.Elements.{All-tail}
 use Rattle.rls_ident.specs.declared.epoch_name.EpochName.{EpochName}
@@ -17,7 +17,7 @@ use Rattle.rls_codec.proofs.Fits.{small_chain}
 use Rattle.rls_model.specs.declared.parts.EpochPart.{EpochPart}
 use Rattle.rls_model.specs.declared.parts.Parts.{Parts}
 use Rattle.rls_model.specs.Parts.{epoch_part, epoch_parts, node_of, text_runs, top_part}
-use Rattle.rls_seen.specs.Kept.{left_below, needed_over, parts_over, retained_over}
+use Rattle.rls_seen.specs.Kept.{needed_over, parts_over, retained_over}
 use Rattle.rls_seen.specs.Sane.{IsSane}
 use Rattle.rls_seen.specs.Seen.{Seen, greatest_over, idents_over, members, stable_over, vector}
 use Rattle.rls_seen.proofs.Held.{held_at}
@@ -26,7 +26,6 @@ use Rattle.rls_parts.proofs.EpochLists.{first_top}
 use Rattle.rls_parts.proofs.Passing.{passes}
 use Rattle.rls_parts.proofs.SaneEpochs.{retained_is}
 use Rattle.rls_parts.proofs.SanePasses.{sane_passes}
-use Rattle.rls_fields.specs.Fields.{file_bytes}
 use Rattle.rls_fields.specs.Written.{FitsFormer}
 use Rattle.rls_fields.proofs.Puts.{few_names, parts_count, runs_within}
 use Rattle.rls_file.specs.SpelledFiles.{FitsEpoch, IsSpelledSnapshot}

@@ -1,3 +1,4 @@
 pub mod Sizes
 pub mod Loading
 pub mod Stored
+pub mod Kept

@@ -9,14 +9,13 @@ use Rattle.rls_model.specs.Legal.{IsLegal}
 use Rattle.rls_model.specs.Parts.{parts}
 use Rattle.rls_model.specs.Receiving.{State}
 use Rattle.rls_seen.specs.Kept.{dropped}
-use Rattle.rls_seen.specs.Over.{holding}
 use Rattle.rls_seen.specs.Seen.{Seen}
 use Rattle.rls_seen.specs.Stands.{StandsFor}
 use Rattle.rls_parts.specs.Restored.{seen_of}
 use Rattle.rls_fields.specs.Fields.{place_of_broken}
 use Rattle.rls_fields.specs.ReadingFields.{snapshot_at}
 use Rattle.rls_file.specs.Files.{Content, Journal, Snapshot}
-use Rattle.rls_file.specs.Journals.{seen_after}
+use Rattle.rls_file.specs.Journals.{seen_with}
 use Rattle.rls_file.specs.ReadingFiles.{file_at, file_of}
 use Rattle.rls_store.specs.declared.loading.FileError.{FileError}
 use Rattle.rls_store.specs.declared.loading.FileError.TheVariants.{Damaged, OutOfMemory}
@@ -50,7 +49,7 @@ IsPlaceOf form rule index OutOfMemory bytes = Unit {0}
 -- the replica that a file says: the one to which a journal's entries have happened, with what waits, after it has dropped what is stable; or the one
 -- with the parts of a snapshot
 abbrev pub seen_in : Content → Seen
-seen_in (Journal t) = dropped (holding (seen_after t.history) t.waiting)
+seen_in (Journal t) = dropped (seen_with t)
 seen_in (Snapshot form p) = seen_of p
 
 -- it stands for the journal's state, or for each legal state that has the parts

@@ -1,8 +1,17 @@
 //! Laws of stored replicas. Each call runs nothing and takes no memory; its contract states the fact.
 
+ghost use Rattle.rls_store.specs.Kept.{FreshIsWritable, LinesKeepWritable, TakenIsWritable};
 ghost use Rattle.rls_store.specs.Stored.{StoredAgain};
 
 /// What is stored is a file again: the parts of a replica have a spelling and break no rule, so that they are read back.
 pub fn stored_again()
     ensures stored_again { StoredAgain }
+{}
+
+/// A fresh replica may be written as a file, and one that may be written still may after edits without a fault and after a message,
+/// each with the releases that follow it.
+pub fn stays_writable<L, F>()
+    ensures fresh { FreshIsWritable }
+    ensures lines { LinesKeepWritable L F }
+    ensures taken { TakenIsWritable }
 {}

@@ -1,16 +1,18 @@
 //! Loading a replica.
 
-ghost use Rattle.std.specs.Prelude.{◌≡◌, ◌<◌, ◌⊎◌, ℕ, length, false, IfOk, IsOkAnd, Ok, Err};
+ghost use Rattle.std.specs.Prelude.{◌≡◌, ◌<◌, ◌-◌, ◌⊎◌, ℕ, length, IfOk, IsOkAnd, Ok, Err};
 ghost use Rattle.rls_codec.specs.Gives.{Gives};
 ghost use Rattle.rls_model.specs.Receiving.{State};
 ghost use Rattle.rls_seen.specs.Stands.{StandsFor};
 ghost use Rattle.rls_file.specs.Files.{Content, Snapshot};
-ghost use Rattle.rls_file.specs.ReadingFiles.{begins_snapshot, file_of, form_at};
+ghost use Rattle.rls_file.specs.ReadingFiles.{file_at, file_of, form_at};
+ghost use Rattle.rls_file.specs.ReadingJournals.{after_form_at};
+ghost use Rattle.rls_store.specs.Stored.{AreWritable};
 ghost use Rattle.rls_store.specs.Loading.{snapshot_behind, damage_of, seen_in, ReadsParts, IsPlaceOf, Loads, FileStandsFor};
 
 use rls_codec::{ReadError, member, member_count, u64_at};
 use rls_fields::{place_of_broken, snapshot};
-use rls_file::{FileError as JournalError, decode_file as decode_journal, form};
+use rls_file::{form, journal};
 use rls_model::Parts;
 use rls_replica::{PartsError, Replica};
 use std::alloc::Global;
@@ -36,6 +38,15 @@ fn damage(bytes: &[u8], error: ReadError) -> FileError
     }
 }
 
+// The error of bytes that go on after the file.
+fn surplus(bytes: &[u8], after: &[u8]) -> FileError
+    ensures surplus { result ≡ FileError.Damaged (length bytes.now - length after.now) }
+{
+    FileError::Damaged {
+        at: bytes.len().saturating_sub(after.len()) as u64,
+    }
+}
+
 // What follows the form of a snapshot.
 #[tactic(auto, unfolding(crate::specs::Loading::snapshot_behind))]
 fn parts_behind(alloc: Global, form: u8, bytes: &[u8]) -> Result<(Parts, &[u8]), ReadError>
@@ -57,9 +68,7 @@ fn parts_in(alloc: Global, form: u8, bytes: &[u8], rest: &[u8]) -> Result<Parts,
     match parts_behind(alloc, form, rest) {
         Ok((parts, after)) => match after {
             [] => Ok(parts),
-            [_, ..] => Err(FileError::Damaged {
-                at: bytes.len().saturating_sub(after.len()) as u64,
-            }),
+            [_, ..] => Err(surplus(bytes, after)),
         },
         Err(error) => Err(damage(bytes, error)),
     }
@@ -95,20 +104,20 @@ fn load_snapshot(alloc: Global, form: u8, bytes: &[u8], rest: &[u8]) -> Result<R
     }
 }
 
-fn load_journal(alloc: Global, bytes: &[u8]) -> Result<Replica, FileError>
-    requires journal { begins_snapshot bytes.now ≡ false }
+// The journal whose rest follows its form, after its replica has dropped what is stable.
+fn load_journal(alloc: Global, bytes: &[u8], rest: &[u8]) -> Result<Replica, FileError>
+    requires form { file_at bytes.now ≡ after_form_at rest.now }
     ensures loads { Loads result bytes.now }
 {
-    match decode_journal(alloc, bytes) {
-        Ok(journal) => {
-            let mut replica = journal.into_replica();
-            replica.drop_stable();
-            Ok(replica)
-        }
-        Err(JournalError::Damaged { at }) => Err(FileError::Damaged { at }),
-        Err(JournalError::NotBuilt) => unreachable!(),
-        Err(JournalError::OutOfMemory) => Err(FileError::OutOfMemory),
+    let (mut replica, after) = match journal(alloc, rest) {
+        Ok(read) => read,
+        Err(error) => return Err(damage(bytes, error)),
+    };
+    if !after.is_empty() {
+        return Err(surplus(bytes, after));
     }
+    replica.drop_stable();
+    Ok(replica)
 }
 
 fn load(alloc: Global, bytes: &[u8]) -> Result<Replica, FileError>
@@ -121,7 +130,7 @@ fn load(alloc: Global, bytes: &[u8]) -> Result<Replica, FileError>
     if form > 1 {
         return load_snapshot(alloc, form, bytes, rest);
     }
-    load_journal(alloc, bytes)
+    load_journal(alloc, bytes, rest)
 }
 
 /// The replica that the bytes are, in any of the forms 1 to 4. A snapshot is read in one pass, and its text is made a tree in one
@@ -137,6 +146,9 @@ pub fn decode_file(alloc: Global, bytes: &[u8]) -> Result<Replica, FileError>
 
     // It is Ok wherever the bytes are a file, unless memory runs out.
     ensures found { (c : Content) → file_of bytes.now ≡ Ok c → IsOkAnd result (λ r. r ≡ seen_in c) ⊎ (result ≡ Err FileError.OutOfMemory) }
+
+    // It may be written again, also if nobody has written the file.
+    ensures writable { IfOk result (λ r. AreWritable r) }
 
     // For every history and waiting operations of which the bytes are a file.
     ensures stands { IfOk result (λ r. (t : State) → FileStandsFor bytes.now t → StandsFor r t) }

@@ -33,7 +33,7 @@ use Rattle.rls_file.specs.Files.{Journal, Snapshot}
 use Rattle.rls_file.specs.FileLaws.{AreSpelled}
 use Rattle.rls_file.specs.Journals.{seen_after}
 use Rattle.rls_file.specs.SpelledFiles.{IsSpelledJournal, IsSpelledSnapshot}
-use Rattle.rls_file.specs.StoredLaws.{IsStorable}
+use Rattle.rls_file.specs.Storable.{IsStorable}
 use Rattle.rls_file.proofs.StoredLegal.{spelled_storable}
 use Rattle.rls_store.specs.Loading.{seen_in}
 use Rattle.rls_store.specs.Stored.{AreWritable}

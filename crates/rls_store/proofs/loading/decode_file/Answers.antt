@@ -1,4 +1,5 @@
-use Rattle.rls_store.proofs.Loaded.{loads_ok, loads_damaged, loads_found, loads_stands}
+use Rattle.std.proofs.Common.{arith}
+use Rattle.rls_store.proofs.Loaded.{loads_ok, loads_damaged, loads_found, loads_stands, loads_writable}
 use Rattle.rls_store.proofs.loading.decode_file.Goals as goal
 
 pub returns-clause-ok : goal.returns-clause-ok
@@ -12,3 +13,6 @@ returns-clause-found c = loads_found c.load.result c.args.bytes.now c.load.ensur
 
 pub returns-clause-stands : goal.returns-clause-stands
 returns-clause-stands c = loads_stands c.load.result c.args.bytes.now c.load.ensures.loads
+
+pub returns-clause-writable : goal.returns-clause-writable
+returns-clause-writable c = loads_writable c.load.result c.args.bytes.now (λ i. omega (arith, c.type_inv.bytes i)) c.load.ensures.loads

@@ -1,4 +1,4 @@
-use Rattle.std.proofs.Common.{◌<◌, ◌≤◌, length, ap, sym, ◌∙◌, subst, arith, Err}
+use Rattle.std.proofs.Common.{◌<◌, ◌≤◌, length, sym, subst, arith, Err}
 use Rattle.rls_store.specs.declared.loading.FileError.{FileError}
 use Rattle.rls_store.specs.Loading.{ReadsParts}
 use Rattle.rls_store.proofs.Loaded.{parts_fail, parts_surplus, parts_done}
@@ -12,7 +12,10 @@ returns-in-empty c =
 pub returns-in-len1-up : goal.returns-in-len1-up
 returns-in-len1-up c =
     let some : 0 < length c.in-Ok.after.now = omega (arith, c.in-len1-up.len_at_least) in
-    record { read = parts_surplus c.args.bytes.now c.args.rest.now c.in-Ok.after.now c.args.form c.in-Ok.parts c.requires.form c.requires.later c.in-Ok.ensures.read some ∙ ap (λ n. Err n) (omega (arith, c.saturating_sub.ensures)) }
+    record {
+      read = subst (λ (e : FileError). ReadsParts c.args.form (Err e) c.args.bytes.now) (sym c.surplus.ensures.surplus)
+          (parts_surplus c.args.bytes.now c.args.rest.now c.in-Ok.after.now c.args.form c.in-Ok.parts c.requires.form c.requires.later c.in-Ok.ensures.read some);
+    }
 
 pub returns-in-Err : goal.returns-in-Err
 returns-in-Err c = record {

@@ -1,4 +1,4 @@
-use Rattle.std.proofs.Common.{◌≡◌, ◌+◌, ◌<◌, ◌++◌, ◌∷◌, [], ◌∙◌, ℕ, true, List, length, sum_by, refl, sym, ap, subst, arith}
+use Rattle.std.proofs.Common.{◌≡◌, ◌++◌, ◌∙◌, ℕ, true, List, length, sum_by, sym, ap, subst, arith}
 use Rattle.std.specs.Prelude.{All}
 use Rattle.std.specs.List.{flat_map}
 use Rattle.rls_ident.specs.declared.epoch_name.EpochName.{EpochName}
@@ -9,8 +9,6 @@ use Rattle.rls_ops.specs.Rows.{AcksSeen, stable_of, missing_for}
 use Rattle.rls_ops.specs.Sizes.{op_size}
 use Rattle.rls_ops.specs.Spelling.{four_bytes, counted, vector_bytes, op_bytes}
 use Rattle.rls_codec.specs.Spelled.{IsSpelledIfFit}
-use Rattle.rls_model.specs.declared.parts.EpochPart.{EpochPart}
-use Rattle.rls_model.specs.declared.parts.TextRun.{TextRun}
 use Rattle.rls_model.specs.declared.parts.Stem.{Stem}
 use Rattle.rls_model.specs.Parts.{epoch_parts, text_runs}
 use Rattle.rls_seen.specs.Seen.{members, vector, stable_over, unstable_over}
