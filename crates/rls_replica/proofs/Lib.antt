@@ -14,3 +14,4 @@ pub mod EditLaws
 pub mod Neighbours
 pub mod GivenPieces
 pub mod Marking
+pub mod Stretches
