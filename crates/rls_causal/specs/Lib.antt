@@ -1,2 +1,4 @@
 pub mod Numbered
 pub mod Putting
+pub mod Searching
+pub mod Trees

@@ -15,3 +15,4 @@ pub mod EditLaws
 pub mod Neighbours
 pub mod GivenPieces
 pub mod Marking
+pub mod Stretches

@@ -7,6 +7,7 @@ mod counting;
 mod editing;
 mod keeping;
 mod looking;
+mod naming;
 mod reading;
 mod receiving;
 mod renaming_text;

@@ -151,7 +151,7 @@ impl Replica {
         })
     }
 
-    // The first of these targets that isn't known. It takes those that stand in the text one behind another as one.
+    // The first of these targets that isn't known. It takes those that are adjacent in the text as one.
     fn first_unknown(&self, epoch: EpochName, targets: &Runs) -> Result<Option<Ident>, AllocError>
         requires kept { IsTrue (is_kept self.now.epochs.top self.now.epochs.nodes epoch) }
         ensures unknown { IfOk result (λ id. unknown_in id ≡ first_unknown_over self.now epoch targets.now) }
@@ -161,19 +161,37 @@ impl Replica {
             .translate_runs(epoch, self.epochs.greatest(), targets)?;
         let mut at = 0;
         while at < targets.total() {
-            let known = self.known_from(epoch, targets, &images, at)?;
-            if known == 0 {
-                let target = targets.get(at)?;
-                return Ok(Some(target));
+            let standing = self.standing_from(epoch, targets, &images, at)?;
+            if standing == 0 {
+                return self.first_unnamed(epoch, targets, &images, at);
             }
-            at += known;
+            at += standing;
         }
         Ok(None)
     }
 
-    // How many targets from a place on are known at once, which are these identifiers of the greatest epoch: those that stand in
-    // the text one behind another, or else the first one where an unstable deletion names it.
-    fn known_from(
+    // How many targets from a place on, which are these identifiers of the greatest epoch, are adjacent in the text.
+    fn standing_from(
+        &self,
+        epoch: EpochName,
+        targets: &Runs,
+        images: &Runs,
+        at: u64,
+    ) -> Result<u64, AllocError>
+        requires kept { IsTrue (is_kept self.now.epochs.top self.now.epochs.nodes epoch) }
+        requires place { at < length targets.now }
+        requires images { images.now ≡ map (translate_over self.now epoch (greatest_over self.now)) targets.now }
+        ensures within { IfOk result (λ n. at + n ≤ length targets.now) }
+        ensures known { IfOk result (λ n. first_unknown_over self.now epoch (drop (at + n) targets.now) ≡ first_unknown_over self.now epoch (drop at targets.now)) }
+    {
+        let (run, from) = images.locate(at);
+        let standing = self.document.standing(run, from)?;
+        Ok(standing as u64)
+    }
+
+    // How many targets from a place on, which are these identifiers of the greatest epoch, are known at once: those that are
+    // adjacent in the text, or else the first one if an unstable deletion names it.
+    pub(crate) fn known_from(
         &self,
         epoch: EpochName,
         targets: &Runs,

@@ -21,8 +21,8 @@ impl Replica {
     /// the operation is given up.
     ///
     /// It costs a few look-ups, and where it is accepted the change of the text: a deletion also a look-up for each stretch of its
-    /// targets that are adjacent in the text, and a rename that becomes the greatest epoch a pass over the runs of the
-    /// text.
+    /// targets that are adjacent in the text, and if some targets are gone a translation of each unstable deletion; a rename that
+    /// becomes the greatest epoch a pass over the runs of the text.
     pub fn receive(&mut self, op: Op) -> Result<Receipt, AllocError>
         ensures answer { IfOk result (λ r. answer_of r ≡ answer_over false self.old op) }
         ensures after { OnOk result (self.new ≡ received self.old op) }
@@ -89,7 +89,8 @@ impl Replica {
     /// number, and accepts or refuses it; it waits no longer. `None` exactly where none is ready. After an error the replica is as
     /// before.
     ///
-    /// It looks at each waiting operation up to that one, and then costs what `receive` does.
+    /// For each author it looks at the context of one waiting operation, which a few steps for each level of their tree find, and then
+    /// it costs what `receive` does.
     pub fn release(&mut self) -> Result<Option<Release>, AllocError>
         ensures answer { IfOk result (λ r. release_in r ≡ release_over self.old) }
         ensures after { OnOk result (self.new ≡ released self.old) }

@@ -1,36 +1,20 @@
-use Rattle.std.proofs.Common.{rules, of_calls, refl, ap, ◌∙◌}
-use Rattle.std.proofs.lemmas.Fn.{always_returns_same}
-use Rattle.std.specs.Map.{values_of}
-use Rattle.rls_ops.specs.Waiting.{comes_before, waiting_under, with_waiting, is_in_order}
-use Rattle.rls_causal.specs.contracts.held.NumberPartialEq.TheImpl.{eq-value}
-use Rattle.rls_causal.proofs.Numbered.{number, not_there, added, partitioned, placed, inserted_keyed, with_new}
+use Rattle.std.proofs.Common.{◌≡◌, true, sym, ap, ◌∙◌}
+use Rattle.std.specs.List.{list_all}
+use Rattle.rls_ops.specs.Waiting.{waiting_under, with_waiting, is_in_order}
+use Rattle.rls_causal.specs.Searching.{counts_own}
+use Rattle.rls_causal.proofs.Ordered.{with_counted, with_new}
 use Rattle.rls_causal.proofs.held.Held.add.Goals as goal
+use Rattle.rls_causal.proofs.held.Held.add.Goals.{then-self, else-self}
 
-pub shift_insert-requires-clause-below_len : goal.shift_insert-requires-clause-below_len
-shift_insert-requires-clause-below_len c there =
+pub invariant_of-self : goal.invariant_of-self
+invariant_of-self c =
     let o = c.args.op in
-    let absent = ap (λ W. waiting_under W o.author o.seq) c.self.view_is ∙ c.requires.absent in
-    absurd (not_there eq-value.it (λ j k. refl) c.self.inside.ops o c.self.invariant.keyed absent there)
-
-pub invariant_of-self-2 : goal.invariant_of-self-2
-invariant_of-self-2 c =
-    let o = c.args.op in
-    let es = c.self.inside.ops.entries in
-    let i = c.partition_point-place.result in
-    let absent = ap (λ W. waiting_under W o.author o.seq) c.self.view_is ∙ c.requires.absent in
-    let point = c.partition_point-place.ensures.partitioned (λ e. comes_before e.1 o) (always_returns_same _ _ _ (λ a r f k. search (rules, of_calls))) (partitioned o es c.self.invariant.order) in
-    let e = c.in_ok-shift_insert.ensures.entries ∙ added eq-value.it (λ j k. refl) c.self.inside.ops o c.self.invariant.keyed absent i in
-    rw e record {
-      keyed = inserted_keyed o es i c.self.invariant.keyed;
-      order = ap is_in_order (placed o (number o.author o.seq) es i c.partition_point-place.ensures.bound point) ∙ with_new o (values_of es) c.self.invariant.order absent;
+    let W = c.self.inside.tree.ops in
+    let absent = ap (λ V. waiting_under V o.author o.seq) c.self.view_is ∙ c.requires.absent in
+    let e : c.insert.result.ops ≡ with_waiting o W = c.insert.ensures.ops ∙ ap (λ p. with_waiting p c.replace-tree.result.ops) c.in_ok-node.ensures.op ∙ ap (λ t. with_waiting o t.ops) c.replace-tree.ensures.value in
+    let own : c.if-self.regular ≡ true → counts_own o ≡ true = λ h. elim c.if-self.branch [ then-self w ↦ w.counts_own-regular.ensures.counts (sym w.regular-is ∙ h) | else-self w ↦ absurd (cc) ] in
+    let regular : c.if-self.regular ≡ true → c.self.inside.regular ≡ true = λ h. elim c.if-self.branch [ then-self w ↦ w.if-self.true | else-self w ↦ absurd (cc) ] in
+    record {
+      order = ap is_in_order e ∙ with_new o W c.self.invariant.order absent;
+      counted = λ h. ap (list_all counts_own) e ∙ with_counted o W (own h) (c.self.invariant.counted (regular h));
     }
-
-pub returns-clause-ok : goal.returns-clause-ok
-returns-clause-ok c =
-    let o = c.args.op in
-    let es = c.self.inside.ops.entries in
-    let i = c.partition_point-place.result in
-    let absent = ap (λ W. waiting_under W o.author o.seq) c.self.view_is ∙ c.requires.absent in
-    let point = c.partition_point-place.ensures.partitioned (λ e. comes_before e.1 o) (always_returns_same _ _ _ (λ a r f k. search (rules, of_calls))) (partitioned o es c.self.invariant.order) in
-    let e = c.in_ok-shift_insert.ensures.entries ∙ added eq-value.it (λ j k. refl) c.self.inside.ops o c.self.invariant.keyed absent i in
-    ap values_of e ∙ placed o (number o.author o.seq) es i c.partition_point-place.ensures.bound point ∙ ap (with_waiting o) c.self.view_is

@@ -1,0 +1,110 @@
+#!/usr/bin/env python3
+"""Writes a message to member 0 of a group of three, group 7, that costs as much as it can: NAME N > MESSAGE. docs/FORMATS.md tells the
+bytes. Member 1 has made all operations of a message but the last ones of `gone`, `same` and `again`, which are member 2's."""
+import struct
+import sys
+
+GROUP, MEMBERS, SENDER = 7, 3, 1
+MIDDLE = 0x7FFFFFFF  # the position of the first identifier of an empty text
+ORIGIN, LEAVE = b"\0", b"\3"
+
+
+def u32(*numbers):
+    return struct.pack(f">{len(numbers)}I", *numbers)
+
+
+def ident(seq, offset, pos=MIDDLE, replica=1):
+    """An identifier of one tuple."""
+    return u32(1) + b"\1" + u32(pos, replica, seq) + struct.pack(">i", offset)
+
+
+def runs(*parts):
+    """Runs of the first insertion's identifiers, each told by its first offset and its length."""
+    return u32(len(parts)) + b"".join(ident(1, offset) + u32(length) for offset, length in parts)
+
+
+def op(author, seq, context, body, epoch=ORIGIN):
+    return u32(author, seq, *context) + epoch + body
+
+
+def insertion(first, text):
+    return b"\0" + first + u32(len(text)) + text
+
+
+def deletion(*parts):
+    return b"\1" + runs(*parts)
+
+
+def message(ops):
+    head = b"RLSM\3" + struct.pack(">QII", GROUP, MEMBERS, SENDER) + u32(*[0] * MEMBERS)
+    return head + u32(len(ops)) + b"".join(ops)
+
+
+def text(count):
+    """The first operation: one run."""
+    return op(1, 1, (0, 0, 0), insertion(ident(1, 0), b"a" * count))
+
+
+def later(k, body, epoch=ORIGIN):
+    """Operation k of member 1, who knows only its own."""
+    return op(1, k, (0, k - 1, 0), body, epoch)
+
+
+def in_order(n):
+    return [later(k, insertion(ident(1, k - 1), b"a")) for k in range(1, n + 1)]
+
+
+def reverse(n):
+    """Each operation waits for the next one in the message."""
+    return in_order(n)[::-1]
+
+
+def shuffled(n):
+    """They come in an order that has no long runs."""
+    return [op for _, op in sorted((k * 0x9E3779B1 % 2**32, op) for k, op in enumerate(in_order(n)))]
+
+
+def waiting(n):
+    """Each waits for an operation of member 2 that never comes."""
+    return [op(1, k, (0, k - 1, 1), LEAVE) for k in range(1, n + 1)]
+
+
+def waiting_reverse(n):
+    return waiting(n)[::-1]
+
+
+def gone(n):
+    """Member 1 deletes every second character, each alone; member 2 deletes the same, at once."""
+    alone = [later(k + 2, deletion((2 * k + 1, 1))) for k in range(n)]
+    return [text(2 * n), *alone, op(2, 1, (0, 1, 0), deletion(*[(2 * k + 1, 1) for k in range(n)]))]
+
+
+def same(n):
+    """After n deletions both delete the rest, at once."""
+    alone = [later(k + 2, deletion((2 * k, 1))) for k in range(n)]
+    rest = deletion(*[(2 * k + 1, 1) for k in range(n - 1)], (2 * n - 1, 8 * n))
+    return [text(10 * n), *alone, later(n + 2, rest), op(2, 1, (0, n + 1, 0), rest)]
+
+
+def again(n):
+    """An operation that is refused for its last target, whose others are gone, n times."""
+    alone = [later(k + 2, deletion((100 * k, 100))) for k in range(100)]
+    return [text(10_000), *alone, *[op(2, 1, (0, 1, 0), deletion((0, 10_001)))] * n]
+
+
+def small_renames(n):
+    """n runs, and 20 renames of one identifier: each makes all others longer."""
+    ops = [later(k, insertion(ident(k, 0, pos=1000 * k), b"a")) for k in range(1, n + 1)]
+    epoch = ORIGIN
+    for k in range(n + 1, n + 21):
+        ops.append(later(k, b"\2" + u32(1) + ident(1, 0, pos=1) + u32(1), epoch))
+        epoch = b"\1" + u32(1, k)
+    return ops
+
+
+def scattered(n):
+    """20 deletions of two characters that aren't adjacent, out of n."""
+    return [text(n), *[later(k + 2, deletion((10 * k, 1), (10 * k + 5, 1))) for k in range(20)]]
+
+
+sys.stdout.buffer.write(message(globals()[sys.argv[1]](int(sys.argv[2]))))
