@@ -57,7 +57,7 @@ fewer s t (y ∷ ys) w h e k = go (s y) (t y) refl e (h y) (not_more s t ys h) (
     go false true u f i l ih = omega arith
     go false false u f i l ih = ih f
 
--- ---- from a place on
+-- ---- from a bound on
 
 pub from_after : (b : Bound Number) (w x : Op) → is_from b w ≡ true → comes_before w x ≡ true → is_from b x ≡ true
 from_after (Included n) w x h k = grind (arith, nat_tests)

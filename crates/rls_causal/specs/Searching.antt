@@ -13,7 +13,7 @@ is_before n o = nat_lt o.author n.author || ((o.author == n.author) && nat_lt o.
 abbrev pub is_after : Number → Op → Bool
 is_after n o = nat_lt n.author o.author || ((n.author == o.author) && nat_lt n.seq o.seq)
 
--- the operation comes from there on
+-- the operation comes from the bound on
 abbrev pub is_from : Bound Number → Op → Bool
 is_from (Included n) o = not (is_before n o)
 is_from (Excluded n) o = is_after n o

@@ -44,7 +44,7 @@ impl Number {
 pub struct Held {
     alloc: Global,
     ops: BTreeMap<Number, Op>,
-    // If it is set, each context counts all operations of its author before its own.
+    // Whether each context that was put counts all operations of its author before its own.
     regular: bool,
 }
 
@@ -92,7 +92,8 @@ impl Held {
         self.ops.len() as u64
     }
 
-    /// The waiting operations, in increasing order of author and number.
+    /// The waiting operations, in increasing order of author and number. A pass over all of them takes a time linear in how many
+    /// wait, and no memory.
     pub fn ops(&self) -> HeldOps<'_>
         ensures ops { result ≡ self.now }
         ensures runs { ShowsInOrder (deref {X = Op}) }
@@ -102,8 +103,8 @@ impl Held {
         }
     }
 
-    /// The waiting operation at a place, in increasing order of author and number. It costs a step for each one before it: a
-    /// pass over all of them takes `ops`.
+    /// The waiting operation at a place, in increasing order of author and number. It costs a step for each one before it, so
+    /// a pass over all of them uses `ops`.
     pub fn op(&self, i: u64) -> &Op
         requires place { i < length self.now }
         ensures op { slice_get self.now i ≡ Some result.now }
@@ -131,8 +132,8 @@ impl Held {
     /// least number. `None` exactly where none is ready.
     ///
     /// If each context counts all operations of its author before its own, it looks at most at those with numbers up to the
-    /// vector's count of their author and at one more of each author; else at each operation up to the first ready one. For
-    /// each of these it searches once.
+    /// vector's count of their author and at one more of each author; else at each operation up to the first ready one. Each
+    /// costs a logarithm of how many wait.
     pub fn first_ready(&self, vector: &Vector) -> Option<&Op>
         ensures ready { option_copied result ≡ first_ready_at vector.now self.now }
     {
@@ -146,7 +147,7 @@ impl Held {
         None
     }
 
-    // The first operation from there on.
+    // The first operation from a bound on.
     fn first_from(&self, from: Bound<Number>) -> Option<&Op>
         ensures first { option_copied result ≡ find (is_from from) self.now }
         ensures order { IsTrue (is_in_order self.now) }
@@ -155,7 +156,7 @@ impl Held {
         Some(op)
     }
 
-    // Where a ready operation may be after one that isn't ready.
+    // The bound from which a ready operation may come after one that isn't ready.
     fn after(&self, op: &Op, vector: &Vector) -> Bound<Number>
         requires unready { at_most op.now.context vector.now ≡ false }
         ensures later { (x : Op) → is_from result x ≡ true → comes_before op.now x ≡ true }

@@ -10,8 +10,7 @@ use std::collections::btree_map::Values;
 use std::iter::Iterator;
 use std::marker::Model;
 
-/// The waiting operations in increasing order of author and number, seen as the list of those to come. The next one costs a
-/// constant amortized time, and no memory.
+/// The waiting operations in increasing order of author and number, seen as the list of those to come.
 #[derive(Drop)]
 pub struct HeldOps<'a> {
     pub(crate) ops: Values<'a, Number, Op>,
