@@ -1,2 +1,3 @@
-pub mod Ordered
+pub mod Numbered
 pub mod Putting
+pub mod Ready

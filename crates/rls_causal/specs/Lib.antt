@@ -1,4 +1,3 @@
 pub mod Numbered
 pub mod Putting
 pub mod Searching
-pub mod Trees

@@ -1,9 +1,8 @@
 //! Operations that wait for their causes.
 #![tactic(auto)]
 
-mod balance;
 mod held;
-mod node;
-mod search;
+mod iter;
 
 pub use held::{Held, Put};
+pub use iter::HeldOps;

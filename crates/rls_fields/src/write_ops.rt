@@ -81,8 +81,8 @@ pub fn waiting_len(held: &Held) -> u64
     ensures size { result ≡ min (sum_by op_size held.now) (2 ^ 64 - 1) }
 {
     let mut total: u64 = 0;
-    for i in 0..held.len() {
-        total = total.saturating_add(held.op(i).encoded_len());
+    for op in held.ops() {
+        total = total.saturating_add(op.encoded_len());
     }
     total
 }
@@ -93,8 +93,8 @@ fn put_waiting_list(out: &mut Vec<u8>, held: &Held) -> Result<(), AllocError>
     ensures ok { OnOk result (out.new.items ≡ out.old.items ++ flat_map op_bytes held.now) }
     ensures fits { OnOk result (All IsSpelledIfFit held.now) }
 {
-    for i in 0..held.len() {
-        put_op(out, held.op(i))?;
+    for op in held.ops() {
+        put_op(out, op)?;
     }
     Ok(())
 }

@@ -63,8 +63,8 @@ pub fn waiting(alloc: Global, held: &Held) -> Result<Ops, AllocError>
     ensures ops { IfOk result (λ ops. ops ≡ held.now) }
 {
     let mut ops = Ops::new(alloc);
-    for i in 0..held.len() {
-        ops.push(held.op(i).copy()?)?;
+    for op in held.ops() {
+        ops.push(op.copy()?)?;
     }
     Ok(ops)
 }

@@ -1,6 +1,6 @@
-use Rattle.std.proofs.Common.{◌≡◌, take}
+use Rattle.std.proofs.Common.{◌≡◌, ◌++◌}
 use Rattle.rls_snapshot.proofs.lists.waiting.Given as goal
 
--- those before the index
-abbrev pub invariant-loop-i : goal.invariant-loop-i
-invariant-loop-i l = l.ops ≡ take l.i l.held
+-- the others are still to come
+abbrev pub invariant-loop-op : goal.invariant-loop-op
+invariant-loop-op l = l.ops ++ l.op-iterator ≡ l.held
