@@ -113,11 +113,10 @@ fn events<'a>(
 fn comes_last(held: &Held, op: &Op) -> bool
     ensures last { result ≡ waits_behind (last_of held.now) op.now }
 {
-    let count = held.len();
-    if count == 0 {
-        return true;
+    match held.last() {
+        None => true,
+        Some(last) => last.precedes(op),
     }
-    held.op(count - 1).precedes(op)
 }
 
 // An operation that waits, after the last one.
