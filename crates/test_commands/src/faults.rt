@@ -35,12 +35,12 @@ impl Device {
         }
     }
 
-    /// Its calls with these numbers, as they are handed to a command: of the keeper, of the input, of the output.
-    fn failing(self, numbers: &[u64]) -> [&[u64]; 3] {
+    /// Its calls with these numbers, as they are handed to a command: of the keeper, of the input, of the output, of the errors.
+    fn failing(self, numbers: &[u64]) -> [&[u64]; 4] {
         match self {
-            Device::Keeper => [numbers, &[], &[]],
-            Device::Input => [&[], numbers, &[]],
-            Device::Output => [&[], &[], numbers],
+            Device::Keeper => [numbers, &[], &[], &[]],
+            Device::Input => [&[], numbers, &[], &[]],
+            Device::Output => [&[], &[], numbers, &[]],
         }
     }
 }
@@ -101,6 +101,41 @@ fn each_call_of_a_device_fails_in_turn(rt: HostRuntime) -> Result<(), Fail> {
                 "{words}"
             );
         }
+    }
+    Ok(())
+}
+
+/// The status of a command of a member with this file, while no line can be written on errors.
+fn status_without_errors(
+    alloc: Global,
+    file: Option<&[u8]>,
+    words: &str,
+    input: &[u8],
+) -> Result<u8, Fail> {
+    let mut member = member_of(alloc, file)?;
+    let answer = member.under_faults(alloc, words, input, [&[], &[], &[], &[0]])?;
+    match answer.errors.is_empty() {
+        true => Ok(answer.status),
+        false => Err(Fail::new("errors")),
+    }
+}
+
+#[test]
+fn a_status_needs_no_errors(rt: HostRuntime) -> Result<(), Fail> {
+    let alloc = rt.alloc();
+    let mut member = Member::new();
+    let _made = member.command(alloc, "new 7 1 2", b"")?;
+    let file = member.file.as_deref();
+    let commands: &[(Option<&[u8]>, &str, &[u8], u8)] = &[
+        (file, "text 1", b"", 1),
+        (None, "text", b"", 2),
+        (Some(b"RLSF"), "text", b"", 3),
+        (None, "new 7 2 2", b"", 4),
+        (file, "edit", b"i 9 x\n", 6),
+    ];
+    for (file, words, input, status) in commands {
+        let found = status_without_errors(alloc, *file, words, input)?;
+        assert_eq!(rt; found, *status, "{words}");
     }
     Ok(())
 }

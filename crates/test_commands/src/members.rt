@@ -1,4 +1,4 @@
-//! Members whose kept file stands in memory between commands.
+//! Members whose kept file is held in memory between commands.
 
 use rls_io::{MemoryKeeper, MemorySink, MemorySource};
 use rls_top::run;
@@ -40,19 +40,19 @@ impl Member {
     }
 
     /// Performs a command over devices in memory, of which calls with these numbers fail: of the keeper, of the input, of
-    /// the output.
+    /// the output, of the errors.
     pub fn under_faults(
         &mut self,
         alloc: Global,
         words: &str,
         bytes: &[u8],
-        failing: [&[u64]; 3],
+        failing: [&[u64]; 4],
     ) -> Result<Answer, Fail> {
         let words = words_of(alloc, words)?;
         let mut keeper = MemoryKeeper::new(alloc, self.file.as_deref(), failing[0])?;
         let mut input = MemorySource::new(alloc, bytes, failing[1])?;
         let mut output = MemorySink::new(alloc, ROOM, failing[2])?;
-        let mut errors = MemorySink::new(alloc, ROOM, &[])?;
+        let mut errors = MemorySink::new(alloc, ROOM, failing[3])?;
         let status = run(
             alloc,
             &words,
@@ -74,7 +74,7 @@ impl Member {
 
     /// Performs a command.
     pub fn command(&mut self, alloc: Global, words: &str, bytes: &[u8]) -> Result<Answer, Fail> {
-        self.under_faults(alloc, words, bytes, [&[], &[], &[]])
+        self.under_faults(alloc, words, bytes, [&[], &[], &[], &[]])
     }
 
     /// Performs the steps in turn, and answers the first that goes otherwise than it has to.

@@ -125,7 +125,7 @@ fn some_runs(alloc: Global, draws: &mut Draws) -> Result<Runs, Fail> {
     Ok(runs)
 }
 
-/// So many letters.
+/// This many letters.
 fn some_text(alloc: Global, draws: &mut Draws, count: u64) -> Result<Text, Fail> {
     let mut text = Text::new(alloc);
     for _ in 0..count {
@@ -145,7 +145,7 @@ fn runs_in(alloc: Global, idents: &Runs) -> Result<RunList, AllocError>
     Ok(list)
 }
 
-/// Takes these identifiers out where they are there, and puts all of them in with these characters.
+/// Takes out those of these identifiers that are there, and puts all of them in with these characters.
 fn replace<D: Document>(
     alloc: Global,
     document: &mut D,

@@ -182,7 +182,7 @@ fn runs_are_translated_and_renamed(rt: HostRuntime) -> Result<(), Fail> {
     Ok(())
 }
 
-/// Whether an epoch of this name would be the greatest, where it can be opened there.
+/// Whether an epoch of this name would be the greatest, if it can be opened there.
 fn opens_greatest(epochs: &Epochs, replica: u32, seq: u32, parent: EpochName) -> Option<bool> {
     if epochs.kept(EpochName::Of { replica, seq }) || !epochs.kept(parent) {
         return None;

@@ -1,11 +1,15 @@
 //! Files of all forms: read, stored again, cut off, and with broken rules.
 
+use rls_ident::{EpochName, Tuple};
+use rls_model::Parts;
 use rls_replica::{Edit, Replica};
 use rls_runs::Text;
 use rls_store::{FileError, decode_file, encode_file};
-use std::alloc::Global;
+use std::alloc::{AllocError, Global};
 use std::test::Fail;
 use test_steps::bytes::{HELLO_FILE, bytes, front};
+use test_steps::steps::{Change, edit_of};
+use test_steps::told::{Deed, Told, op_of};
 
 /// The file of 160 bytes, of form 4, of member 0 of 2 in group 7, which inserted `hello`.
 const TYPED_4: &str =
@@ -47,6 +51,15 @@ const SPENT_2: &str =
 const ALONE_4: &str =
     "524c5346 04 0000000000000007 00000001 00000000 00000001 00000000 00000001 00000001 00000000 00000005 00000001 00 00000001 00000001 01 7fffffff 00000000 00000001 00000000 00000005 00000005 68656c6c6f 00000000 00000000";
 
+/// The journal of member 0 of 2 in group 7: it inserted `hello`, member 1 told that it has that, and a leave of member 1 waits for an
+/// operation before it.
+const ACKNOWLEDGED_1: &str =
+    "524c5346 01 0000000000000007 00000002 00000000 00000002 00 00000000 00000001 00000000 00000000 00 00 00000001 01 7fffffff 00000000 00000001 00000000 00000005 68656c6c6f 01 00000001 00000001 00000000 00000001 00000001 00000002 00000000 00000001 00 03";
+
+/// The same in form 4, in 130 bytes: the insertion is stable.
+const ACKNOWLEDGED_4: &str =
+    "524c5346 04 0000000000000007 00000002 00000000 00000001 00000000 00000001 00000000 00000000 00000001 00000001 00000000 00000005 00000000 00000001 00 00000001 00000001 01 7fffffff 00000000 00000001 00000000 00000005 00000005 68656c6c6f 00000000 00000001 00000001 00000002 00000000 00000001 00 03";
+
 /// The place of the fault for which the bytes are no file, if they are none.
 fn damage(alloc: Global, file: &[u8]) -> Result<Option<u64>, Fail> {
     match decode_file(alloc, file) {
@@ -81,6 +94,9 @@ const STORED: &[(&str, &str, usize)] = &[
     (SPENT_2, SPENT_4, 50),
     (ALONE_4, ALONE_4, 96),
     (HELLO_FILE, ALONE_4, 96),
+    (ACKNOWLEDGED_1, ACKNOWLEDGED_4, 130),
+    (ACKNOWLEDGED_4, ACKNOWLEDGED_4, 130),
+    (LEFT_4, LEFT_4, 70),
 ];
 
 #[test]
@@ -89,6 +105,105 @@ fn files_are_stored_again(rt: HostRuntime) -> Result<(), Fail> {
         let stored = is_stored_as(rt.alloc(), file, expected, *len)?;
         assert!(rt; stored, "{file}");
     }
+    Ok(())
+}
+
+/// What a replica consists of: its group, the count of members, its own number, the vector, and how many rows, stems, epochs, text
+/// runs, unstable operations, waiting operations and members that left there are.
+fn numbers_of(alloc: Global, parts: &Parts) -> Result<String, AllocError> {
+    let (group, members, me, vector) = (
+        parts.group,
+        parts.members,
+        parts.me,
+        parts.vector.counts(),
+    );
+    let (rows, stems, epochs) = (parts.rows.len(), parts.stems.len(), parts.epochs.len());
+    let (text, log) = (parts.text.len(), parts.log.len());
+    let (held, left) = (parts.held.len(), parts.left.len());
+    format!(in alloc;
+        "{group} {members} {me} {vector:?} {rows} {stems} {epochs} {text} {log} {held} {left}"
+    )
+}
+
+/// Whether a replica that is read from these bytes has these numbers and this text.
+fn has(alloc: Global, file: &[u8], numbers: &str, text: &str) -> Result<bool, Fail> {
+    let replica = decode_file(alloc, file)?;
+    let (parts, shown) = (replica.parts()?, replica.text()?.to_utf8()?);
+    Ok(numbers_of(alloc, &parts)?.as_str() == numbers && shown.as_str() == text)
+}
+
+/// Files, and what the replicas in them consist of and show.
+const READ: &[(&str, &str, &str)] = &[
+    (TYPED_4, "7 2 0 [1, 0] 1 1 1 1 1 0 0", "hello"),
+    (TYPED_2, "7 2 0 [1, 0] 1 1 1 1 1 0 0", "hello"),
+    (HELLO_FILE, "7 1 0 [1] 0 1 1 1 0 0 0", "hello"),
+    (ACKNOWLEDGED_1, "7 2 0 [1, 0] 1 1 1 1 0 1 0", "hello"),
+    (LEFT_4, "7 2 0 [0, 1] 1 0 1 0 0 0 1", ""),
+];
+
+#[test]
+fn files_are_read(rt: HostRuntime) -> Result<(), Fail> {
+    for (file, numbers, text) in READ {
+        let right = has(rt.alloc(), &bytes(rt.alloc(), file)?, numbers, text)?;
+        assert!(rt; right, "{numbers}");
+    }
+    Ok(())
+}
+
+/// What happens to a replica before it is stored.
+#[derive(Clone, Copy)]
+enum Before {
+    Edit(Change),
+    Receive(Told<'static>),
+}
+
+fn edits(alloc: Global, replica: &mut Replica, change: Change) -> Result<(), Fail> {
+    let edit = edit_of(alloc, change)?;
+    let _seq = replica.edit(&edit)?;
+    Ok(())
+}
+
+fn receives(alloc: Global, replica: &mut Replica, told: Told<'_>) -> Result<(), Fail> {
+    let op = op_of(alloc, told)?;
+    let _receipt = replica.receive(op)?;
+    Ok(())
+}
+
+/// The file of member 0 of three in group 7 after all this.
+fn file_after_all(alloc: Global, all: &[Before]) -> Result<Vec<u8>, Fail> {
+    let mut replica = Replica::new(alloc, 7, 0, 3)?;
+    for what in all {
+        match *what {
+            Before::Edit(change) => edits(alloc, &mut replica, change)?,
+            Before::Receive(told) => receives(alloc, &mut replica, told)?,
+        }
+    }
+    Ok(encode_file(alloc, &replica)?)
+}
+
+/// Each kind of entry that a file may have: two epochs, text runs of three stems, each kind of unstable operation, an operation that
+/// waits, and a member that left.
+#[test]
+fn all_parts_are_read_back(rt: HostRuntime) -> Result<(), Fail> {
+    let first = Tuple::At {
+        pos: 9,
+        replica: 1,
+        seq: 1,
+        offset: 0,
+    };
+    let origin = EpochName::Origin;
+    let all: &[Before] = &[
+        Before::Edit(Change::Insert(0, "hello")),
+        Before::Edit(Change::Delete(1, 2)),
+        Before::Edit(Change::Rename),
+        Before::Receive((1, 1, &[1, 0, 0], origin, Deed::Insert(first, "ab"))),
+        Before::Receive((2, 1, &[0, 0, 0], origin, Deed::Leave)),
+        Before::Edit(Change::Insert(3, "X")),
+        Before::Receive((1, 3, &[1, 2, 0], origin, Deed::Delete(first, 1))),
+    ];
+    let file = file_after_all(rt.alloc(), all)?;
+    assert!(rt; has(rt.alloc(), &file, "7 3 0 [4, 1, 1] 2 4 2 4 6 1 1", "abhXlo")?);
+    assert!(rt; stored_again(rt.alloc(), &file)? == file);
     Ok(())
 }
 
@@ -150,27 +265,24 @@ fn fault_of_cuts(alloc: Global, digits: &str) -> Result<Option<usize>, Fail> {
 
 /// Files whose words are fields.
 const CUT: &[&str] = &[
-    TYPED_4, TYPED_3, TYPED_2, FRESH_4, FRESH_2, SPENT_4, SPENT_2,
+    TYPED_4,
+    TYPED_3,
+    TYPED_2,
+    FRESH_4,
+    FRESH_2,
+    SPENT_4,
+    SPENT_2,
+    ACKNOWLEDGED_4,
+    LEFT_4,
+    HELLO_FILE,
+    ACKNOWLEDGED_1,
 ];
 
 #[test]
-fn snapshots_are_cut_off(rt: HostRuntime) -> Result<(), Fail> {
+fn files_are_cut_off(rt: HostRuntime) -> Result<(), Fail> {
     for digits in CUT {
         let fault = fault_of_cuts(rt.alloc(), digits)?;
         assert_eq!(rt; fault, None, "{digits}");
-    }
-    Ok(())
-}
-
-/// Some of the first bytes of the journal, and the place of the fault. An operation that is cut off has the place of its field.
-const JOURNAL_CUT: &[(usize, u64)] = &[(0, 0), (4, 4), (30, 30), (69, 65), (73, 70)];
-
-#[test]
-fn journals_are_cut_off(rt: HostRuntime) -> Result<(), Fail> {
-    let file = bytes(rt.alloc(), HELLO_FILE)?;
-    for (len, at) in JOURNAL_CUT {
-        let found = damage(rt.alloc(), front(&file, *len))?;
-        assert_eq!(rt; found, Some(*at), "{len} bytes");
     }
     Ok(())
 }

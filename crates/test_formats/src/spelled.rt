@@ -16,7 +16,7 @@ const FIELDS: [usize; 21] = [
     0, 4, 5, 13, 17, 21, 25, 29, 33, 37, 41, 45, 49, 50, 51, 55, 56, 60, 64, 68, 72,
 ];
 
-/// The place of the field that is cut off where this many of the 81 bytes are left.
+/// The place of the field that is cut off if this many of the 81 bytes are left.
 fn cut_at(len: usize) -> u64 {
     let mut at = 0;
     for field in FIELDS {
@@ -47,7 +47,7 @@ fn messages_are_cut_off(rt: HostRuntime) -> Result<(), Fail> {
 #[test]
 fn fields_break_their_rules(rt: HostRuntime) -> Result<(), Fail> {
     let alloc = rt.alloc();
-    // A byte of the message of 81 bytes, what stands there instead, and the place of the fault.
+    // A byte of the message of 81 bytes, what is there instead, and the place of the fault.
     let cases: &[(usize, u8, u64)] = &[
         (0, 0, 0),
         (4, 0, 4),

@@ -86,7 +86,7 @@ fn a_rename_and_a_leave_that_waited_are_released(rt: HostRuntime) -> Result<(), 
     Ok(())
 }
 
-/// How many identifiers of a run stand one right behind another in the tree, from three places of the run on.
+/// How many identifiers of a run follow one another in the tree with none between, from three places of the run on.
 #[test]
 fn a_run_stands_as_far_as_its_text_goes(rt: HostRuntime) -> Result<(), Fail> {
     let alloc = rt.alloc();

@@ -1,4 +1,4 @@
-//! The core called by itself: what a replica answers, and how it stands afterwards.
+//! The core called by itself: what a replica answers, and how it is afterwards.
 
 use rls_ident::{EpochName, Tuple};
 use rls_replica::Replica;

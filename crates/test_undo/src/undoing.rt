@@ -166,7 +166,7 @@ fn fault_among(alloc: Global, pair: &mut Pair, rows: &[Row]) -> Result<Option<us
     Ok(None)
 }
 
-/// Leads two fresh members, the first of a group of so many, through the rows, and answers the first that goes otherwise than it
+/// Leads two fresh members, the first of a group of this many, through the rows, and answers the first that goes otherwise than it
 /// has to.
 fn fault(alloc: Global, members: u32, rows: &[Row]) -> Result<Option<usize>, Fail> {
     let mut pair = Pair {
