@@ -1,0 +1,20 @@
+//! Tests of the commands over devices in memory; and `members`, by which other crates of tests perform commands too.
+#![tactic(auto)]
+
+#[cfg(test)]
+mod commands;
+#[cfg(test)]
+mod editing;
+#[cfg(test)]
+mod exchanging;
+#[cfg(test)]
+mod faults;
+#[cfg(test)]
+mod files;
+#[cfg(test)]
+mod groups;
+#[cfg(test)]
+mod keepers;
+pub mod members;
+#[cfg(test)]
+mod stored;

@@ -1,0 +1,342 @@
+//! The two documents, to which the same calls are made.
+
+ghost use Rattle.std.specs.Prelude.{◌≡◌, ◌<◌, ◌≤◌, IfOk, length};
+ghost use Rattle.rls_doc.specs.Documents.{KeepsOrder};
+ghost use Rattle.rls_rename.specs.Renaming.{forward};
+ghost use Rattle.rls_runs.specs.Runs.{idents_of};
+
+use rls_doc::{Document, RunMap, VecDocument};
+use rls_ident::{Ident, Tuple};
+use rls_ops::Text;
+use rls_rename::Renaming;
+use rls_replica::{Edit, Replica};
+use rls_runs::{Run, RunList, Runs};
+use rls_tree::{BlockTree, Node};
+use std::alloc::{AllocError, Global};
+use std::test::Fail;
+
+/// The middle position.
+const MIDDLE: u32 = 2_147_483_647;
+
+/// What a document answers has to be the same for both, so it is told by one number for each step.
+type Trace = Vec<u64>;
+
+/// Numbers without a pattern, from a seed.
+#[derive(Drop)]
+struct Draws {
+    state: u64,
+}
+
+impl Draws {
+    /// A number below this one.
+    fn below(&mut self, limit: u64) -> u64
+        requires some { 0 < limit }
+        ensures below { result < limit }
+    {
+        self.state = self
+            .state
+            .wrapping_mul(6_364_136_223_846_793_005)
+            .wrapping_add(1_442_695_040_888_963_407);
+        (self.state >> 33) % limit
+    }
+}
+
+fn mixed(trace: u64, number: u64) -> u64 {
+    (trace ^ number).wrapping_mul(1_099_511_628_211)
+}
+
+fn of_tuple(trace: u64, tuple: Tuple) -> u64 {
+    match tuple {
+        Tuple::Low => mixed(trace, 1),
+        Tuple::High => mixed(trace, 2),
+        Tuple::At {
+            pos,
+            replica,
+            seq,
+            offset,
+        } => {
+            let place = (offset as i64 + 2_147_483_648) as u64;
+            let spot = mixed(mixed(trace, pos as u64), replica as u64);
+            mixed(mixed(spot, seq as u64), place)
+        }
+    }
+}
+
+fn of_ident(trace: u64, id: &Ident) -> u64 {
+    let mut trace = mixed(trace, id.len() as u64);
+    for i in 0..id.len() {
+        trace = of_tuple(trace, id.tuple(i));
+    }
+    trace
+}
+
+fn of_runs(trace: u64, runs: &Runs) -> u64 {
+    let mut trace = mixed(trace, runs.run_count());
+    for run in runs.as_slice() {
+        trace = mixed(of_ident(trace, run.first()), run.len() as u64);
+    }
+    trace
+}
+
+fn of_text(trace: u64, text: &Text) -> u64 {
+    let mut trace = mixed(trace, text.len() as u64);
+    for i in 0..text.len() {
+        trace = mixed(trace, text.get(i) as u64);
+    }
+    trace
+}
+
+fn of_place(trace: u64, place: Result<u64, u64>) -> u64 {
+    match place {
+        Ok(place) => mixed(trace, place),
+        Err(below) => mixed(mixed(trace, below), 1),
+    }
+}
+
+/// An identifier: of one tuple, or after a tuple with an offset of the first ones.
+fn some_ident(alloc: Global, draws: &mut Draws) -> Result<Ident, Fail> {
+    let outer = Tuple::At {
+        pos: MIDDLE,
+        replica: draws.below(2) as u32,
+        seq: 1,
+        offset: draws.below(40) as i32 - 8,
+    };
+    let inner = Tuple::At {
+        pos: MIDDLE,
+        replica: 0,
+        seq: 2,
+        offset: draws.below(6) as i32,
+    };
+    match draws.below(3) {
+        0 => Ok(Ident::from_tuples(alloc, &[outer, inner])?),
+        _ => Ok(Ident::from_tuples(alloc, &[outer])?),
+    }
+}
+
+/// A few runs, of which those count that stand above the one before and apart from it.
+fn some_runs(alloc: Global, draws: &mut Draws) -> Result<Runs, Fail> {
+    let mut runs = Runs::new(alloc);
+    for _ in 0..1 + draws.below(6) {
+        let run = Run::new(some_ident(alloc, draws)?, 1 + draws.below(5) as u32)?;
+        if runs.total() < 900 {
+            let _put = runs.push(run);
+        }
+    }
+    Ok(runs)
+}
+
+/// This many letters.
+fn some_text(alloc: Global, draws: &mut Draws, count: u64) -> Result<Text, Fail> {
+    let mut text = Text::new(alloc);
+    for _ in 0..count {
+        text.push((b'a' + draws.below(26) as u8) as char)?;
+    }
+    Ok(text)
+}
+
+/// The maximal runs.
+fn runs_in(alloc: Global, idents: &Runs) -> Result<RunList, AllocError>
+    ensures same { IfOk result (λ runs. idents_of runs ≡ idents.now) }
+{
+    let mut list = RunList::new(alloc);
+    for run in idents.as_slice() {
+        list.push(run.copy()?)?;
+    }
+    Ok(list)
+}
+
+/// Takes out those of these identifiers that are there, and puts all of them in with these characters.
+fn replace<D: Document>(
+    alloc: Global,
+    document: &mut D,
+    idents: &Runs,
+    text: &Text,
+) -> Result<u64, Fail>
+    requires as_many { length idents.now ≡ length text.now }
+    requires some { 0 < length text.now }
+    requires few { length text.now ≤ 10000 }
+{
+    let removed = document.remove_all(idents)?;
+    let runs = runs_in(alloc, idents)?;
+    let _total = idents.total();
+    if document.total() > 1_000_000 {
+        return Err(Fail::new("length"));
+    }
+    document.insert_runs(&runs, text)?;
+    Ok(removed)
+}
+
+/// Puts some runs in, and answers how many of their identifiers were there.
+fn inserts<D: Document>(alloc: Global, document: &mut D, draws: &mut Draws) -> Result<u64, Fail> {
+    let idents = some_runs(alloc, draws)?;
+    let text = some_text(alloc, draws, idents.total())?;
+    if text.len() == 0 || text.len() > 10_000 || idents.total() != text.len() as u64 {
+        return Ok(0);
+    }
+    replace(alloc, document, &idents, &text)
+}
+
+/// Renames identifiers.
+#[derive(Drop)]
+struct RenamedBy<'a> {
+    renaming: &'a Renaming,
+    ghost ordered: { KeepsOrder (forward renaming.now) },
+}
+
+impl<'a> RenamedBy<'a> {
+    fn new(renaming: &'a Renaming) -> RenamedBy<'a> {
+        let _total = renaming.total();
+        RenamedBy { renaming }
+    }
+}
+
+impl<'a> RunMap for RenamedBy<'a> {
+    ghost image = { λ m. forward m.renaming.now };
+
+    fn map(&self, _alloc: Global, run: &Run) -> Result<RunList, AllocError> {
+        self.renaming.forward_run(run)
+    }
+
+    ghost keeps_order = { λ m. m.ordered };
+}
+
+/// Renames a part of the identifiers, and answers how many.
+fn renames<D: Document>(alloc: Global, document: &mut D, draws: &mut Draws) -> Result<u64, Fail> {
+    let total = document.total();
+    if total == 0 {
+        return Ok(0);
+    }
+    let from = draws.below(total);
+    let count = 1 + draws.below(total - from);
+    let renaming = Renaming::new(alloc, document.runs_of(from, count)?, 1, 3)?;
+    let former = renaming.total();
+    document.map_runs(&RenamedBy::new(&renaming))?;
+    Ok(former)
+}
+
+/// All that a document tells, with a look at one place and at one identifier.
+fn looks<D: Document>(document: &D, id: &Ident, draws: &mut Draws) -> Result<u64, Fail> {
+    let total = document.total();
+    let mut trace = mixed(mixed(0, total), document.run_count());
+    trace = of_text(trace, &document.text()?);
+    trace = of_runs(trace, &document.runs_of(0, total)?);
+    trace = of_place(trace, document.find(id));
+    if total > 0 {
+        let i = draws.below(total);
+        trace = mixed(trace, document.char_at(i) as u64);
+        trace = of_ident(trace, &document.ident_at(i)?);
+        trace = of_runs(trace, &document.runs_of(i, draws.below(total - i))?);
+    }
+    Ok(trace)
+}
+
+/// A change of some kind, and how many characters it took out or renamed.
+fn changes<D: Document>(alloc: Global, document: &mut D, draws: &mut Draws) -> Result<u64, Fail> {
+    match draws.below(16) {
+        0..9 => inserts(alloc, document, draws),
+        9..15 => Ok(document.remove_all(&some_runs(alloc, draws)?)?),
+        _ => renames(alloc, document, draws),
+    }
+}
+
+/// Makes this many changes that the seed decides, and tells all answers.
+fn plays<D: Document>(
+    alloc: Global,
+    document: &mut D,
+    seed: u64,
+    steps: u32,
+) -> Result<Trace, Fail> {
+    let mut draws = Draws { state: seed };
+    let mut trace = Vec::new(alloc);
+    for _ in 0..steps {
+        let changed = changes(alloc, document, &mut draws)?;
+        let id = some_ident(alloc, &mut draws)?;
+        let look = looks(document, &id, &mut draws)?;
+        trace.push(mixed(look, changed))?;
+    }
+    Ok(trace)
+}
+
+#[test]
+fn both_documents_answer_the_same(rt: HostRuntime) -> Result<(), Fail> {
+    let alloc = rt.alloc();
+    for seed in 1..4 {
+        let mut plain = VecDocument::new(alloc);
+        let mut tree = BlockTree::new(alloc);
+        let expected = plays(alloc, &mut plain, seed, 200)?;
+        let answers = plays(alloc, &mut tree, seed, 200)?;
+        assert_eq!(rt; answers, expected, "seed {seed}");
+        assert!(rt; tree.total() > 0, "seed {seed}");
+    }
+    Ok(())
+}
+
+/// Whether the block of a node has this first identifier and these characters.
+fn is_block(alloc: Global, node: &Node, first: &[Tuple], text: &str) -> Result<bool, Fail> {
+    let first = Ident::from_tuples(alloc, first)?;
+    let characters = node.text().to_utf8()?;
+    Ok(
+        node.run().first().compare(&first).is_eq()
+            && node.run().len() as usize == text.len()
+            && characters.as_str() == text,
+    )
+}
+
+/// Whether there is such a node, and none below it.
+fn is_leaf(alloc: Global, node: Option<&Node>, first: &[Tuple], text: &str) -> Result<bool, Fail> {
+    match node {
+        None => Ok(false),
+        Some(node) => {
+            let alone = node.left().is_none() && node.right().is_none();
+            Ok(alone && node.height() == 1 && is_block(alloc, node, first, text)?)
+        }
+    }
+}
+
+/// Puts a text in.
+fn insert(alloc: Global, replica: &mut Replica, at: u64, text: &str) -> Result<u32, Fail> {
+    let text = Text::from_str(alloc, text)?;
+    Ok(replica.edit(&Edit::Insert { at, text })?)
+}
+
+/// A tuple of an operation of member 0.
+fn own(seq: u32, offset: i32) -> Tuple {
+    Tuple::At {
+        pos: MIDDLE,
+        replica: 0,
+        seq,
+        offset,
+    }
+}
+
+/// Whether the tree of `heXYllo` has the block of `XY` above the two others.
+fn is_balanced(alloc: Global, tree: &BlockTree) -> Result<bool, Fail> {
+    let Some(root) = tree.root() else {
+        return Ok(false);
+    };
+    let middle = is_block(alloc, root, &[own(1, 1), own(2, 0)], "XY")?;
+    let left = is_leaf(alloc, root.left(), &[own(1, 0)], "he")?;
+    let right = is_leaf(alloc, root.right(), &[own(1, 2)], "llo")?;
+    Ok(root.height() == 2 && middle && left && right)
+}
+
+/// Puts `hello` in, and `XY` between its characters. Answers both numbers, the height of the tree, and whether it is balanced.
+fn types(alloc: Global, replica: &mut Replica) -> Result<(u32, u32, u32, bool), Fail> {
+    let hello = insert(alloc, replica, 0, "hello")?;
+    let between = insert(alloc, replica, 2, "XY")?;
+    let tree = replica.tree();
+    Ok((hello, between, tree.height(), is_balanced(alloc, tree)?))
+}
+
+/// What a fresh member 0 of 2 in group 7 answers to that.
+fn typed(alloc: Global) -> Result<(u32, u32, u32, bool), Fail> {
+    let mut replica = Replica::new(alloc, 7, 0, 2)?;
+    types(alloc, &mut replica)
+}
+
+#[test]
+fn nodes_are_balanced(rt: HostRuntime) -> Result<(), Fail> {
+    let alloc = rt.alloc();
+    assert_eq!(rt; typed(alloc)?, (1, 2, 2, true));
+    Ok(())
+}

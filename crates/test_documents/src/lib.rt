@@ -1,0 +1,11 @@
+//! Tests of documents, of renamings and of trees of epochs.
+#![tactic(auto)]
+
+#[cfg(test)]
+mod documents;
+#[cfg(test)]
+mod epochs;
+#[cfg(test)]
+mod renamings;
+#[cfg(test)]
+mod spelling;

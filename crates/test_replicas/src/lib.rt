@@ -1,0 +1,9 @@
+//! Tests of the core called by itself.
+#![tactic(auto)]
+
+#[cfg(test)]
+mod paths;
+#[cfg(test)]
+mod replicas;
+#[cfg(test)]
+mod threes;

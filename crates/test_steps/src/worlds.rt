@@ -1,0 +1,176 @@
+//! Worlds of members that are led from event to event.
+
+use crate::answers::tally;
+use crate::steps::{Change, edit_of};
+use rls_model::{Event, Outcome, StepError};
+use rls_replica::Replica;
+use rls_report::ids_json;
+use rls_world::World;
+use std::alloc::{AllocError, Global};
+use std::test::Fail;
+
+/// What happens in a world.
+#[derive(Clone, Copy)]
+pub enum Happening {
+    Edit(u32, Change),
+    Send(u32, u32),
+    Deliver(u64, u32),
+    Drop(u32),
+}
+
+/// What happens, what comes of it, and how the member in question is afterwards: its text, its counts, how many operations wait, and
+/// how many operations are unstable and how many epochs and former identifiers are retained; then how many of these it keeps.
+pub type Row = (Happening, &'static str, &'static str, &'static str);
+
+/// The event.
+pub fn event_of(alloc: Global, happening: Happening) -> Result<Event, AllocError> {
+    Ok(match happening {
+        Happening::Edit(member, change) => Event::Edit {
+            member,
+            edit: edit_of(alloc, change)?,
+        },
+        Happening::Send(from, to) => Event::Send { from, to },
+        Happening::Deliver(message, to) => Event::Deliver { message, to },
+        Happening::Drop(member) => Event::Drop { member },
+    })
+}
+
+/// The member whose replica a row speaks of.
+fn member_of(happening: Happening) -> u32 {
+    match happening {
+        Happening::Edit(member, _) => member,
+        Happening::Send(from, _) => from,
+        Happening::Deliver(_, to) => to,
+        Happening::Drop(member) => member,
+    }
+}
+
+/// What came of an event: the number of an operation or a message, a tally, or why nothing happened.
+fn outcome(alloc: Global, answer: &Result<Outcome, StepError>) -> Result<String, AllocError> {
+    match answer {
+        Ok(Outcome::Made { seq }) => format!(in alloc; "{seq}"),
+        Ok(Outcome::Sent { message }) => format!(in alloc; "{message}"),
+        Ok(Outcome::Took(taken)) => tally(alloc, taken),
+        Ok(Outcome::Dropped) => String::from_str(alloc, "dropped"),
+        Err(error) => format!(in alloc; "{error:?}"),
+    }
+}
+
+/// How a replica is.
+fn state(alloc: Global, replica: &Replica) -> Result<String, AllocError> {
+    let text = replica.text()?.to_utf8()?;
+    let (counts, held) = (replica.vector().counts(), replica.held().len());
+    let retained = retained(alloc, replica)?;
+    format!(in alloc; "{text} {counts:?} {held} of {retained}")
+}
+
+/// How many operations are unstable, and how many epochs and former identifiers are retained.
+fn retained(alloc: Global, replica: &Replica) -> Result<String, AllocError> {
+    let numbers = replica.counts()?;
+    let (unstable, epochs, former) = (numbers.unstable, numbers.epochs, numbers.former);
+    format!(in alloc; "{unstable} {epochs} {former}")
+}
+
+/// How many of them the replica keeps.
+fn kept(alloc: Global, replica: &Replica) -> Result<String, AllocError> {
+    let numbers = replica.kept();
+    let (operations, epochs, former) = (numbers.operations, numbers.epochs, numbers.former);
+    format!(in alloc; "{operations} {epochs} {former}")
+}
+
+/// The replica of a member.
+pub fn replica(world: &World, member: u32) -> Result<&Replica, Fail> {
+    if member as usize >= world.members() {
+        return Err(Fail::new("member"));
+    }
+    Ok(world.replica(member))
+}
+
+/// Whether a member is so. If there is none, it is `none`.
+fn stands(alloc: Global, world: &World, member: u32, stand: &str) -> Result<bool, Fail> {
+    if member as usize >= world.members() {
+        return Ok(stand == "none");
+    }
+    Ok(state(alloc, world.replica(member))?.as_str() == stand)
+}
+
+/// Whether a member keeps this much.
+fn keeps(alloc: Global, world: &World, member: u32, expected: &str) -> Result<bool, Fail> {
+    if member as usize >= world.members() {
+        return Ok(expected == "none");
+    }
+    Ok(kept(alloc, world.replica(member))?.as_str() == expected)
+}
+
+/// Whether a member that drops what is stable keeps just what is retained.
+fn drops(alloc: Global, world: &mut World, member: u32) -> Result<bool, Fail> {
+    let dropped = world.step(&Event::Drop { member }).is_ok();
+    if member as usize >= world.members() {
+        return Ok(!dropped);
+    }
+    let replica = world.replica(member);
+    Ok(dropped && kept(alloc, replica)? == retained(alloc, replica)?)
+}
+
+/// Whether the event goes as it has to.
+fn happens(alloc: Global, world: &mut World, row: Row) -> Result<bool, Fail> {
+    let event = event_of(alloc, row.0)?;
+    let answer = outcome(alloc, &world.step(&event))?;
+    Ok(answer.as_str() == row.1)
+}
+
+/// Whether the event goes as it has to. Where the member in question drops what is stable after it, what it keeps is just what is
+/// retained, and all else is as without.
+fn goes(alloc: Global, world: &mut World, row: Row, dropping: bool) -> Result<bool, Fail> {
+    let member = member_of(row.0);
+    if !happens(alloc, world, row)? {
+        return Ok(false);
+    }
+    let keeps = match dropping {
+        true => drops(alloc, world, member)?,
+        false => keeps(alloc, world, member, row.3)?,
+    };
+    Ok(keeps && stands(alloc, world, member, row.2)?)
+}
+
+/// The first row that goes otherwise than it has to.
+fn fault(
+    alloc: Global,
+    world: &mut World,
+    rows: &[Row],
+    dropping: bool,
+) -> Result<Option<usize>, Fail> {
+    for (i, row) in rows.iter().enumerate() {
+        if !goes(alloc, world, *row, dropping)? {
+            return Ok(Some(i));
+        }
+    }
+    Ok(None)
+}
+
+/// Leads a world of group 7 with this count of members through the rows, and answers the first that goes otherwise than it has to.
+pub fn fault_among(alloc: Global, members: u32, rows: &[Row]) -> Result<Option<usize>, Fail> {
+    let mut world = World::new(alloc, 7, members)?;
+    fault(alloc, &mut world, rows, false)
+}
+
+/// The same, but after each event the member in question drops what is stable. What it keeps is then just what is retained, and
+/// all else has to be as the row says.
+pub fn fault_with_drops(alloc: Global, members: u32, rows: &[Row]) -> Result<Option<usize>, Fail> {
+    let mut world = World::new(alloc, 7, members)?;
+    fault(alloc, &mut world, rows, true)
+}
+
+/// Whether the rows go as they have to, and all members list these identifiers afterwards.
+pub fn all_list(alloc: Global, members: u32, rows: &[Row], ids: &str) -> Result<bool, Fail> {
+    let mut world = World::new(alloc, 7, members)?;
+    if let Some(_) = fault(alloc, &mut world, rows, false)? {
+        return Ok(false);
+    }
+    for member in 0..members {
+        if ids_json(alloc, replica(&world, member)?)?.as_str() != ids {
+            return Ok(false);
+        }
+    }
+    Ok(true)
+}

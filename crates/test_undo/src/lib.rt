@@ -1,0 +1,5 @@
+//! Tests of undo and of cursors.
+#![tactic(auto)]
+
+#[cfg(test)]
+mod undoing;
