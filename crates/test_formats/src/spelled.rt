@@ -5,7 +5,6 @@ use rls_ident::{EpochName, Tuple};
 use rls_ops::{Op, Text};
 use rls_replica::{Edit, Replica, SendError};
 use rls_script::{ClusterError, Line, ScriptError, cluster_before, number, parse};
-use rls_store::{FileError, decode_file, encode_file};
 use rls_sync::{TakeBytesError, message_bytes, take_bytes};
 use std::alloc::Global;
 use std::test::Fail;
