@@ -7,3 +7,4 @@ pub mod Loaded
 pub mod Saved
 pub mod Spelled
 pub mod StoredAgain
+pub mod InFlight

@@ -2,3 +2,4 @@ pub mod Sizes
 pub mod Loading
 pub mod Stored
 pub mod Kept
+pub mod InFlight

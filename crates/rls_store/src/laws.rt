@@ -1,5 +1,6 @@
 //! Laws of stored replicas. Each call runs nothing and takes no memory; its contract states the fact.
 
+ghost use Rattle.rls_store.specs.InFlight.{InFlight};
 ghost use Rattle.rls_store.specs.Kept.{FreshIsWritable, LinesKeepWritable, TakenIsWritable};
 ghost use Rattle.rls_store.specs.Stored.{StoredAgain};
 
@@ -14,4 +15,10 @@ pub fn stays_writable<L, F>()
     ensures fresh { FreshIsWritable }
     ensures lines { LinesKeepWritable L F }
     ensures taken { TakenIsWritable }
+{}
+
+/// A file keeps one operation for each count that isn't stable. If every member that hasn't left has acknowledged all, it keeps no
+/// operation and one epoch, without a former list.
+pub fn in_flight()
+    ensures in_flight { InFlight }
 {}
