@@ -1,6 +1,6 @@
 #!/usr/bin/env python3
 """Writes a message to member 0 of a group of three, group 7, that costs as much as it can: NAME N > MESSAGE. docs/FORMATS.md tells the
-bytes. Member 1 has made all operations of a message but the last ones of `gone`, `same` and `again`, which are member 2's."""
+bytes. Member 1 has made all operations of a message but the last ones of `gone`, `same`, `each` and `again`, which are member 2's."""
 import struct
 import sys
 
@@ -84,6 +84,12 @@ def same(n):
     alone = [later(k + 2, deletion((2 * k, 1))) for k in range(n)]
     rest = deletion(*[(2 * k + 1, 1) for k in range(n - 1)], (2 * n - 1, 8 * n))
     return [text(10 * n), *alone, later(n + 2, rest), op(2, 1, (0, n + 1, 0), rest)]
+
+
+def each(n):
+    """Two members delete the same characters at once, each alone."""
+    alone = [later(k + 2, deletion((2 * k + 1, 1))) for k in range(n)]
+    return [text(2 * n), *alone, *[op(2, k + 1, (0, 1, k), deletion((2 * k + 1, 1))) for k in range(n)]]
 
 
 def again(n):

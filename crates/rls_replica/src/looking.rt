@@ -163,7 +163,7 @@ impl Replica {
         while at < targets.total() {
             let standing = self.standing_from(epoch, targets, &images, at)?;
             if standing == 0 {
-                return self.first_unnamed(epoch, targets, &images, at);
+                return self.first_gone(epoch, targets, &images, at);
             }
             at += standing;
         }

@@ -24,9 +24,37 @@ pub(crate) struct Stretch {
 }
 
 impl Replica {
+    // The first target from a place on that isn't known. The one at the place, which may be the only one that is gone, is looked for
+    // alone.
+    pub(crate) fn first_gone(
+        &self,
+        epoch: EpochName,
+        targets: &Runs,
+        images: &Runs,
+        from: u64,
+    ) -> Result<Option<Ident>, AllocError>
+        requires kept { IsTrue (is_kept self.now.epochs.top self.now.epochs.nodes epoch) }
+        requires place { from < length targets.now }
+        requires images { images.now ≡ map (translate_over self.now epoch (greatest_over self.now)) targets.now }
+        ensures unknown { IfOk result (λ id. unknown_in id ≡ first_unknown_over self.now epoch (drop from targets.now)) }
+    {
+        let total = targets.total();
+        let known = self.known_from(epoch, targets, images, from)?;
+        if known == 0 {
+            let target = targets.get(from)?;
+            return Ok(Some(target));
+        }
+        let next = from + known;
+        if next >= total {
+            return Ok(None);
+        }
+        let unknown = self.first_unnamed(epoch, targets, images, next)?;
+        Ok(unknown)
+    }
+
     // The first target from a place on that isn't known. It looks at the unstable deletions once, stretch by stretch, and once more for
     // each target that was in none of the stretches.
-    pub(crate) fn first_unnamed(
+    fn first_unnamed(
         &self,
         epoch: EpochName,
         targets: &Runs,
