@@ -1,0 +1,312 @@
+-- What an edit or a message makes of a replica may be written as a file, whether or not a history stands behind it.
+use Rattle.std.proofs.Common.{◌≡◌, ◌≢◌, ◌∙◌, ◌<◌, ◌≤◌, ◌&&◌, ℕ, zero, suc, Bool, true, false, cond, not, eqb, nat_lt, List, [], ◌∷◌, length, Option, Some, None, Result, Ok, refl, sym, ap, subst, arith, ⊎_elim, inl, inr}
+use Rattle.std.specs.Prelude.{◌≤ℤ◌, int_le, if◌then◌else◌}
+use Rattle.std.specs.List.{find}
+use Rattle.std.proofs.lemmas.Bool.Decides.{nat_tests}
+use Rattle.rls_ident.specs.declared.tuple.Tuple.{Tuple}
+use Rattle.rls_ident.specs.declared.tuple.Tuple.TheVariants.{Low, At, High}
+use Rattle.rls_ident.specs.Identifiers.{last_of, least_offset}
+use Rattle.rls_ident.specs.Lists.{IsIn}
+use Rattle.rls_ident.specs.Tuples.{offset_of}
+use Rattle.rls_ident.specs.Vectors.{at_most}
+use Rattle.rls_ident.proofs.Members.{and_left, found_in, in_split, int_le_is}
+use Rattle.rls_ops.specs.declared.op.Op.{Op}
+use Rattle.rls_ops.specs.declared.op.Body.{Body}
+use Rattle.rls_ops.specs.declared.op.Body.TheVariants.{Insert, Delete, Rename, Leave}
+use Rattle.rls_ops.specs.declared.op.Shape.{Shape}
+use Rattle.rls_ops.specs.declared.message.Message.{Message}
+use Rattle.rls_ops.specs.Rows.{AcksSeen, counts, left, noted}
+use Rattle.rls_ops.specs.Shapes.{shape_fault}
+use Rattle.rls_ops.specs.Sizes.{op_size}
+use Rattle.rls_ops.specs.WellFormed.{IsInRange, IsOp}
+use Rattle.rls_ops.proofs.Waiting.{in_with, in_without, less_without, numbered_test}
+use Rattle.rls_codec.specs.CodecLaws.{IsMessage}
+use Rattle.rls_codec.specs.Spelled.{Chained, FitTuples, FitsBody, IsSpelled}
+use Rattle.rls_codec.proofs.SizeLaws.{op_length}
+use Rattle.rls_codec.proofs.SpelledSound.{spelled_op}
+use Rattle.rls_model.specs.declared.edit.Edit.{Edit}
+use Rattle.rls_model.specs.declared.edit.EditError.{EditError}
+use Rattle.rls_model.specs.declared.edit.EditError.TheVariants as errors
+use Rattle.rls_model.specs.Answers.{Reason, Answer, Applies, Repeats, Waits, Refuses}
+use Rattle.rls_model.specs.Editing.{or_fault, range_fault, size_fault}
+use Rattle.rls_model.specs.Receiving.{answer_beside, answer_by, waiting_under, without}
+use Rattle.rls_model.specs.Machine.{one_less, started}
+use Rattle.rls_model.proofs.Machines.{edit_unlimited, received_limit, released_limit, releases_keep, taking_keeps}
+use Rattle.rls_model.specs.WellFormed.{IsEdit}
+use Rattle.rls_model.proofs.Made.{or_none}
+use Rattle.rls_seen.specs.Edits.{edit_fault_over, edited, made_over, op_fault_over}
+use Rattle.rls_seen.specs.Messages.{by_parts, Course, receive_step, release_step, release_steps, with_releases, edit_step, take_ops, taken_over, taken_within}
+use Rattle.rls_seen.specs.Over.{acks_after, answer_over, accepted, holding, received, refusal_over, first_ready, after_refusal, after_release, released, released_times, acknowledged}
+use Rattle.rls_seen.specs.Sane.{IsSane}
+use Rattle.rls_seen.specs.Seen.{Seen, fresh, members, own_count, vector, idents_over}
+use Rattle.rls_seen.proofs.Counting.{members_accepted, members_received, members_released}
+use Rattle.rls_seen.proofs.Making.{edited_sane}
+use Rattle.rls_seen.proofs.Repeating.{acknowledged_seen, received_seen, released_seen}
+use Rattle.rls_seen.proofs.Staying.{acknowledged_sane, received_sane, released_sane}
+use Rattle.rls_store.specs.Stored.{AreWritable}
+
+-- ---- operations
+
+-- an operation that may be received and kept
+pub record IsGiven (o : Op) : Type 0 where
+  pub whole : IsOp o
+  pub ranged : IsInRange o.body
+  pub size : op_size o ≤ 16777216
+
+-- the last offset of what is spelled is in range
+least_last : (x : List Tuple) → FitTuples x → least_offset ≤ℤ offset_of (last_of x)
+least_last [] f = absurd f
+least_last (At p r s o ∷ []) f = int_le_is least_offset o (and_left (int_le least_offset o) _ f.3)
+least_last (Low ∷ []) f = absurd f
+least_last (High ∷ []) f = absurd f
+least_last (t ∷ (u ∷ x)) f = least_last (u ∷ x) f.1
+
+ranged_body : (b : Body) → FitsBody b → IsInRange b
+ranged_body (Insert first text) f = least_last first f.0.1
+ranged_body (Delete targets) f = tt
+ranged_body (Rename former) f = tt
+ranged_body Leave f = tt
+
+pub given_op : (n : ℕ) (o : Op) → IsSpelled n o → IsGiven o
+given_op n o s = let few = s.limit in record { whole = spelled_op n o s; ranged = ranged_body o.body s.body; size = omega (arith, op_length o, few) }
+
+-- ---- states
+
+-- what may be written as a file, but for what is ready
+pub record IsStoring (s : Seen) : Type 0 where
+  pub sane : IsSane s
+  pub log : (o : Op) → IsIn o s.log → op_size o ≤ 16777216
+  pub waiting : (w : Op) → IsIn w s.waiting → op_size w ≤ 16777216
+  pub others : (w : Op) → IsIn w s.waiting → w.author ≢ s.acks.me
+
+pub storing : (s : Seen) → IsSane s → AreWritable s → IsStoring s
+storing s h w = record { sane = h; log = w.log; waiting = w.waiting; others = w.others }
+
+pub writable : (s : Seen) → IsStoring s → first_ready s ≡ None → AreWritable s
+writable s h r = record { log = h.log; waiting = h.waiting; others = h.others; rest = r }
+
+me_after : (acks : AcksSeen) (a : ℕ) (b : Body) → (acks_after acks a b).me ≡ acks.me
+me_after acks a (Insert first text) = refl
+me_after acks a (Delete targets) = refl
+me_after acks a (Rename former) = refl
+me_after acks a Leave = refl
+
+pub accept_storing : (s : Seen) (o : Op) → IsStoring s → IsSane (accepted s o) → op_size o ≤ 16777216 → IsStoring (accepted s o)
+unfolding accepted
+accept_storing s o h sane few = record {
+  sane = sane;
+  log = λ x p. ⊎_elim (λ q. h.log x q) (λ q. last x q) (in_split x s.log (o ∷ []) p);
+  waiting = λ w p. h.waiting w (in_without o.author o.seq w s.waiting p).0;
+  others = λ w p. subst (λ m. w.author ≢ m) (sym (me_after s.acks o.author o.body)) (h.others w (in_without o.author o.seq w s.waiting p).0);
+}
+  where
+    last : (x : Op) → IsIn x (o ∷ []) → op_size x ≤ 16777216
+    last x (inl e) = subst (λ (y : Op). op_size y ≤ 16777216) e few
+    last x (inr q) = absurd q
+
+hold_storing : (s : Seen) (o : Op) (W : List Op) → IsStoring s → IsSane (holding s W) → ((w : Op) → IsIn w W → (op_size w ≤ 16777216) × (w.author ≢ s.acks.me)) → IsStoring (holding s W)
+unfolding holding
+hold_storing s o W h sane all = record { sane = sane; log = h.log; waiting = λ w p. (all w p).0; others = λ w p. (all w p).1 }
+
+-- what waits is of another member
+other_by : (v : List ℕ) (me : ℕ) (W : List Op) (r : Option Reason) (o : Op) (f : Option Shape) → answer_by false v me W r o f ≡ Waits → eqb o.author me ≡ false
+other_by v me W r o (Some f) e = cc
+other_by v me W r o None e = go _ (eqb o.author me) (answer_beside v r o (waiting_under W o.author o.seq)) e
+  where
+    go : (a b : Bool) (x : Answer) → (if a then Repeats else if not false && b then Refuses (Reason.Own o.seq) else x) ≡ Waits → b ≡ false
+    go true b x e = cc
+    go false true x e = cc
+    go false false x e = refl
+
+waits_other : (s : Seen) (o : Op) → answer_over false s o ≡ Waits → o.author ≢ s.acks.me
+unfolding answer_over
+waits_other s o e = λ same. let no = other_by (vector s) s.acks.me s.waiting (refusal_over s o) o (shape_fault (members s) o) e in grind (arith, nat_tests)
+
+pub received_storing : (s : Seen) (o : Op) → IsStoring s → IsGiven o → IsStoring (received s o)
+unfolding received
+received_storing s o h g = go (answer_over false s o) refl (received_sane s o h.sane g.whole g.ranged)
+  where
+    go : (a : Answer) → answer_over false s o ≡ a → IsSane (received s o) → IsStoring (received s o)
+    go Applies e k = rw e (accept_storing s o h (rw e at k) g.size)
+    go Waits e k = rw e (hold_storing s o _ h (rw e at k) (λ w p. ⊎_elim (λ q. subst (λ (x : Op). (op_size x ≤ 16777216) × (x.author ≢ s.acks.me)) q (g.size, waits_other s o e)) (λ q. (h.waiting w (in_without o.author o.seq w s.waiting q).0, h.others w (in_without o.author o.seq w s.waiting q).0)) (in_with o w (without o.author o.seq s.waiting) p)))
+    go Repeats e k = rw e h
+    go (Refuses r) e k = rw e h
+
+pub released_storing : (s : Seen) → IsStoring s → IsStoring (released s)
+unfolding released
+released_storing s h = go (first_ready s) refl (released_sane s h.sane)
+  where
+    by_reason : (w : Op) (r : Option Reason) → IsIn w s.waiting → IsSane (after_refusal r s w) → IsStoring (after_refusal r s w)
+    by_reason w None p k = accept_storing s w h k (h.waiting w p)
+    by_reason w (Some r) p k = hold_storing s w (without w.author w.seq s.waiting) h k (λ x q. (h.waiting x (in_without w.author w.seq x s.waiting q).0, h.others x (in_without w.author w.seq x s.waiting q).0))
+
+    go : (o : Option Op) → first_ready s ≡ o → IsSane (released s) → IsStoring (released s)
+    go None e k = rw e h
+    go (Some w) e k = rw e (by_reason w (refusal_over s w) (found_in (λ y. at_most y.context (vector s)) w s.waiting e).0 (rw e at k))
+
+same_log : (s : Seen) (a : ℕ) (v : List ℕ) → (acknowledged s a v).log ≡ s.log
+unfolding acknowledged
+same_log s a v = refl
+
+same_waiting : (s : Seen) (a : ℕ) (v : List ℕ) → (acknowledged s a v).waiting ≡ s.waiting
+unfolding acknowledged
+same_waiting s a v = refl
+
+same_me : (s : Seen) (a : ℕ) (v : List ℕ) → (acknowledged s a v).acks.me ≡ s.acks.me
+unfolding acknowledged
+same_me s a v = go (counts s.acks a v)
+  where
+    go : (b : Bool) → (if b then noted s.acks a v else s.acks).me ≡ s.acks.me
+    go true = refl
+    go false = refl
+
+pub acknowledged_storing : (s : Seen) (a : ℕ) (v : List ℕ) → IsStoring s → a < members s → length v ≡ members s → IsStoring (acknowledged s a v)
+acknowledged_storing s a v h l e = record {
+  sane = acknowledged_sane s a v h.sane l e;
+  log = λ o p. h.log o (subst (λ (x : List Op). IsIn o x) (same_log s a v) p);
+  waiting = λ w p. h.waiting w (subst (λ (x : List Op). IsIn w x) (same_waiting s a v) p);
+  others = λ w p. subst (λ m. w.author ≢ m) (sym (same_me s a v)) (h.others w (subst (λ (x : List Op). IsIn w x) (same_waiting s a v) p));
+}
+
+-- an edit without a fault makes an operation that isn't too large
+made_size : (s : Seen) (edit : Edit) → edit_fault_over s edit ≡ None → op_size (made_over s edit) ≤ 16777216
+unfolding edit_fault_over
+made_size s edit e = at_left (left s.acks s.acks.me) e
+  where
+    small : (n : ℕ) (b : Bool) → nat_lt 16777216 n ≡ b → cond b (Some (errors.OpTooLarge n)) None ≡ None → n ≤ 16777216
+    small n true t e = cc
+    small n false t e = grind (arith, nat_tests)
+
+    numbered : (b : Bool) (f : Option EditError) → cond b (Some errors.NumbersSpent) f ≡ None → f ≡ None
+    numbered true f e = cc
+    numbered false f e = e
+
+    at_left : (b : Bool) → cond b (Some errors.Left) (or_fault (range_fault (length (idents_over s)) edit) (op_fault_over s edit)) ≡ None → op_size (made_over s edit) ≤ 16777216
+    at_left true e = cc
+    at_left false e =
+        let f = (or_none (range_fault (length (idents_over s)) edit) (op_fault_over s edit) e).1 in
+        let n = op_size (made_over s edit) in
+        small n (nat_lt 16777216 n) refl (numbered (eqb (own_count s) 4294967295) (size_fault n) f)
+
+pub edited_storing : (s : Seen) (edit : Edit) → IsStoring s → IsEdit edit → edit_fault_over s edit ≡ None → IsStoring (edited s edit)
+edited_storing s edit h i f = accept_storing s (made_over s edit) h (edited_sane s edit h.sane i f) (made_size s edit f)
+
+-- ---- on the way
+
+-- on the way without a limit, among so many members
+pub record IsOnWay (n : ℕ) (c : Course) : Type 0 where
+  pub storing : IsStoring c.state
+  pub members_are : members c.state ≡ n
+  pub limit : c.limit ≡ None
+
+receive_way : (n : ℕ) (c : Course) (o : Op) → IsOnWay n c → IsGiven o → IsOnWay n (receive_step c o)
+receive_way n c o h g =
+    let e = received_seen c o h.limit in
+    record {
+      storing = subst IsStoring (sym e) (received_storing c.state o h.storing g);
+      members_are = ap members e ∙ (members_received c.state o ∙ h.members_are);
+      limit = received_limit by_parts c o h.limit;
+    }
+
+pub release_way : (n : ℕ) (c : Course) → IsOnWay n c → IsOnWay n (release_step c)
+release_way n c h =
+    let e = released_seen c h.limit in
+    record {
+      storing = subst IsStoring (sym e) (released_storing c.state h.storing);
+      members_are = ap members e ∙ (members_released c.state ∙ h.members_are);
+      limit = released_limit by_parts c h.limit;
+    }
+
+pub edit_way : (n : ℕ) (c : Course) (edit : Edit) → IsOnWay n c → IsEdit edit → edit_fault_over c.state edit ≡ None → IsOnWay n (edit_step c edit)
+edit_way n c edit h i f =
+    subst (IsOnWay n) (sym (edit_unlimited by_parts c edit h.limit))
+    (record { storing = edited_storing c.state edit h.storing i f; members_are = members_accepted c.state (made_over c.state edit) ∙ h.members_are; limit = ap one_less h.limit })
+
+-- nothing is ready behind as many releases as wait
+empty_rests : (t : Op → Bool) (W : List Op) → length W ≤ 0 → find t W ≡ None
+empty_rests t [] h = refl
+empty_rests t (w ∷ ws) h = absurd (omega arith)
+
+released_still : (s : Seen) → first_ready s ≡ None → released s ≡ s
+unfolding released
+released_still s e = ap (after_release s) e
+
+times_still : (k : ℕ) (s : Seen) → first_ready s ≡ None → first_ready (released_times k s) ≡ None
+times_still zero s e = e
+times_still (suc k) s e = times_still k (released s) (ap first_ready (released_still s e) ∙ e)
+
+fewer : (s : Seen) (w : Op) (r : Option Reason) → IsIn w s.waiting → length (after_refusal r s w).waiting < length s.waiting
+unfolding accepted holding
+fewer s w None p = less_without w.author w.seq w s.waiting p (numbered_test w.author w.seq w refl refl)
+fewer s w (Some r) p = less_without w.author w.seq w s.waiting p (numbered_test w.author w.seq w refl refl)
+
+released_fewer : (s : Seen) (w : Op) → first_ready s ≡ Some w → length (released s).waiting < length s.waiting
+unfolding released
+released_fewer s w e =
+    let f = fewer s w (refusal_over s w) (found_in (λ y. at_most y.context (vector s)) w s.waiting e).0 in
+    subst (λ (o : Option Op). length (after_release s o).waiting < length s.waiting) (sym e) f
+
+times_rest : (k : ℕ) (s : Seen) → length s.waiting ≤ k → first_ready (released_times k s) ≡ None
+times_rest zero s few = empty_rests (λ w. at_most w.context (vector s)) s.waiting few
+times_rest (suc k) s few = go (first_ready s) refl (λ l. times_rest k (released s) l)
+  where
+    go : (o : Option Op) → first_ready s ≡ o → (length (released s).waiting ≤ k → first_ready (released_times k (released s)) ≡ None) → first_ready (released_times k (released s)) ≡ None
+    go None e next = times_still k (released s) (ap first_ready (released_still s e) ∙ e)
+    go (Some w) e next = let l = released_fewer s w e in next (omega (arith, l, few))
+
+-- the steps are these releases
+steps_seen : (k n : ℕ) (c : Course) → IsOnWay n c → (release_steps k c).state ≡ released_times k c.state
+steps_seen zero n c h = refl
+steps_seen (suc k) n c h = steps_seen k n (release_step c) (release_way n c h) ∙ ap (released_times k) (released_seen c h.limit)
+
+-- at rest too
+pub record IsAtRest (n : ℕ) (c : Course) : Type 0 where
+  pub way : IsOnWay n c
+  pub rest : first_ready c.state ≡ None
+
+pub releases_rest : (n : ℕ) (c : Course) → IsOnWay n c → IsAtRest n (with_releases c)
+releases_rest n c h = record { way = releases_keep by_parts (IsOnWay n) (release_way n) (length c.state.waiting) c h; rest = ap first_ready (steps_seen (length c.state.waiting) n c h) ∙ times_rest (length c.state.waiting) c.state (omega arith) }
+
+pub started_rest : (s : Seen) → IsSane s → AreWritable s → IsAtRest (members s) (started None s)
+started_rest s h w = record { way = record { storing = storing s h w; members_are = refl; limit = refl }; rest = w.rest }
+
+pub rest_writable : (n : ℕ) (c : Course) → IsAtRest n c → IsSane c.state × AreWritable c.state
+rest_writable n c r = (r.way.storing.sane, writable c.state r.way.storing r.rest)
+
+-- ---- messages
+
+same_ready : (s : Seen) (a : ℕ) (v : List ℕ) → first_ready (acknowledged s a v) ≡ first_ready s
+unfolding acknowledged
+same_ready s a v = go (counts s.acks a v)
+  where
+    go : (b : Bool) → find (λ w. at_most w.context (if b then noted s.acks a v else s.acks).mine) s.waiting ≡ find (λ w. at_most w.context s.acks.mine) s.waiting
+    go true = refl
+    go false = refl
+
+-- an operation of a list that has a spelling
+pub op_spelled : (n : ℕ) (before : Option Op) (os : List Op) → Chained (λ b. IsSpelled n) before os → (o : Op) → IsIn o os → IsGiven o
+op_spelled n before (x ∷ os) f o (inl e) = subst IsGiven e (given_op n x f.0)
+op_spelled n before (x ∷ os) f o (inr p) = op_spelled n (Some x) os f.1 o p
+op_spelled n before [] f o p = absurd p
+
+ops_rest : (n : ℕ) (os : List Op) (c : Course) → ((o : Op) → IsIn o os → IsGiven o) → IsAtRest n c → IsAtRest n (take_ops c os)
+ops_rest n os c g r =
+    (taking_keeps by_parts (λ os c. ((o : Op) → IsIn o os → IsGiven o) × IsAtRest n c) (λ o os c h. (λ x p. h.0 x (inr p), releases_rest n (receive_step c o) (receive_way n c o h.1.way (h.0 o (inl refl))))) os c (g, r)).1
+
+pub taken_writable : (s : Seen) (bytes : List ℕ) (m : Message) → IsSane s → AreWritable s → IsMessage bytes m → m.members ≡ members s → IsSane (taken_over s m).state × AreWritable (taken_over s m).state
+unfolding taken_within
+taken_writable s bytes m h w f e =
+    let n = members s in
+    let v = f.2 in
+    let c = take_ops (started None s) m.ops in
+    let r = ops_rest n m.ops (started None s) (op_spelled n None m.ops (subst (λ k. Chained (λ b. IsSpelled k) None m.ops) e v.ops)) (started_rest s h w) in
+    let from = v.from in
+    let few : m.from < members c.state = let k = r.way.members_are in omega (arith, from, e, k) in
+    let long : length m.vector ≡ members c.state = v.vector.0 ∙ (e ∙ sym r.way.members_are) in
+    let noted = acknowledged_storing c.state m.from m.vector r.way.storing few long in
+    subst (λ (x : Seen). IsSane x × AreWritable x) (sym (acknowledged_seen c m.from m.vector r.way.limit)) (noted.sane, writable (acknowledged c.state m.from m.vector) noted (same_ready c.state m.from m.vector ∙ r.rest))
+
+-- ---- a fresh replica
+
+pub fresh_writable : (group me n : ℕ) → AreWritable (fresh group me n)
+fresh_writable group me n = record { log = λ o p. absurd p; waiting = λ o p. absurd p; others = λ o p. absurd p; rest = refl }
