@@ -1,6 +1,6 @@
 pub mod Alike
 mod Clusters
 pub mod Files
-pub mod Lines
+pub mod Meant
 mod Snapshots
 pub mod Storable
