@@ -123,7 +123,8 @@ impl Failure {
     }
 }
 
-fn fault_text(alloc: Global, fault: LineFault) -> Result<String, AllocError>
+/// Why an edit is refused, in words, without a line feed.
+pub fn fault_text(alloc: Global, fault: LineFault) -> Result<String, AllocError>
     ensures text { IfOk result (λ text. string_bytes text ≡ fault_text fault) }
 {
     match fault {

@@ -95,8 +95,8 @@ fn line(alloc: Global, bytes: &[u8]) -> Result<Option<Line>, AllocError>
     }
 }
 
-// The line that this text is.
-fn line_of(alloc: Global, text: &str) -> Result<Option<Line>, AllocError>
+/// The line of the grammar that this text is, without its line feed, if it is one. The time is linear in its length.
+pub fn line_of(alloc: Global, text: &str) -> Result<Option<Line>, AllocError>
     ensures line { IfOk result (λ found. found ≡ line_of_text text.now) }
 {
     let Some((word, others)) = parts(text) else {

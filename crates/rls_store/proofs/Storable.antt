@@ -207,7 +207,7 @@ receive_way n c o h g =
       limit = received_limit by_parts c o h.limit;
     }
 
-release_way : (n : ℕ) (c : Course) → IsOnWay n c → IsOnWay n (release_step c)
+pub release_way : (n : ℕ) (c : Course) → IsOnWay n c → IsOnWay n (release_step c)
 release_way n c h =
     let e = released_seen c h.limit in
     record {
@@ -216,7 +216,7 @@ release_way n c h =
       limit = released_limit by_parts c h.limit;
     }
 
-edit_way : (n : ℕ) (c : Course) (edit : Edit) → IsOnWay n c → IsEdit edit → edit_fault_over c.state edit ≡ None → IsOnWay n (edit_step c edit)
+pub edit_way : (n : ℕ) (c : Course) (edit : Edit) → IsOnWay n c → IsEdit edit → edit_fault_over c.state edit ≡ None → IsOnWay n (edit_step c edit)
 edit_way n c edit h i f =
     subst (IsOnWay n) (sym (edit_unlimited by_parts c edit h.limit))
     (record { storing = edited_storing c.state edit h.storing i f; members_are = members_accepted c.state (made_over c.state edit) ∙ h.members_are; limit = ap one_less h.limit })
@@ -245,7 +245,7 @@ released_fewer s w e =
     let f = fewer s w (refusal_over s w) (found_in (λ y. at_most y.context (vector s)) w s.waiting e).0 in
     subst (λ (o : Option Op). length (after_release s o).waiting < length s.waiting) (sym e) f
 
-times_rest : (k : ℕ) (s : Seen) → length s.waiting ≤ k → first_ready (released_times k s) ≡ None
+pub times_rest : (k : ℕ) (s : Seen) → length s.waiting ≤ k → first_ready (released_times k s) ≡ None
 times_rest zero s few = empty_rests (λ w. at_most w.context (vector s)) s.waiting few
 times_rest (suc k) s few = go (first_ready s) refl (λ l. times_rest k (released s) l)
   where
@@ -254,6 +254,17 @@ times_rest (suc k) s few = go (first_ready s) refl (λ l. times_rest k (released
     go (Some w) e next = let l = released_fewer s w e in next (omega (arith, l, few))
 
 -- the steps are these releases
+times_storing : (k : ℕ) (s : Seen) → IsStoring s → IsStoring (released_times k s)
+times_storing zero s h = h
+times_storing (suc k) s h = times_storing k (released s) (released_storing s h)
+
+-- a replica that has released all that is ready may be written
+pub all_writable : (s : Seen) → IsStoring s → IsSane (released_all s) × AreWritable (released_all s)
+unfolding released_all
+all_writable s h =
+    let k = times_storing (length s.waiting) s h in
+    (k.sane, writable (released_times (length s.waiting) s) k (times_rest (length s.waiting) s (omega arith)))
+
 steps_seen : (k n : ℕ) (c : Course) → IsOnWay n c → (release_steps k c).state ≡ released_times k c.state
 steps_seen zero n c h = refl
 steps_seen (suc k) n c h = steps_seen k n (release_step c) (release_way n c h) ∙ ap (released_times k) (released_seen c h.limit)
@@ -263,7 +274,7 @@ pub record IsAtRest (n : ℕ) (c : Course) : Type 0 where
   pub way : IsOnWay n c
   pub rest : first_ready c.state ≡ None
 
-releases_rest : (n : ℕ) (c : Course) → IsOnWay n c → IsAtRest n (with_releases c)
+pub releases_rest : (n : ℕ) (c : Course) → IsOnWay n c → IsAtRest n (with_releases c)
 releases_rest n c h = record { way = releases_keep by_parts (IsOnWay n) (release_way n) (length c.state.waiting) c h; rest = ap first_ready (steps_seen (length c.state.waiting) n c h) ∙ times_rest (length c.state.waiting) c.state (omega arith) }
 
 pub started_rest : (s : Seen) → IsSane s → AreWritable s → IsAtRest (members s) (started None s)

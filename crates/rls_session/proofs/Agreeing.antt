@@ -1,0 +1,463 @@
+-- A session over what a replica consists of is that over each history which the replica stands for.
+use Rattle.std.proofs.Common.{◌≡◌, ◌∙◌, ◌<◌, ◌+◌, ◌-◌, ◌++◌, ℕ, Bool, true, false, cond, ltb, zero, suc, List, [], ◌∷◌, length, take, drop, Option, Some, None, Result, Ok, Err, refl, sym, ap, subst, arith}
+use Rattle.std.specs.Prelude.{◌&&◌, ◌==◌, bytes_eq, codes, encode_utf8_all, slice_get, nat_le}
+use Rattle.std.specs.List.{before_first}
+use Rattle.std.specs.Str.{is_utf8}
+use Rattle.std.proofs.lemmas.Bool.{eqb-true}
+use Rattle.std.proofs.lemmas.Bool.Decides.{nat_tests}
+use Rattle.std.proofs.lemmas.List.Elements.{All-drop, All-nil, All-take}
+use Rattle.std.specs.Char.{IsScalar}
+use Rattle.rls_ident.specs.declared.epoch_name.EpochName.{EpochName}
+use Rattle.rls_ident.proofs.Members.{and_right}
+use Rattle.rls_ops.specs.declared.message.Message.{Message}
+use Rattle.rls_ops.specs.Spelling.{message_bytes}
+use Rattle.rls_ops.specs.declared.op.Body.{Body}
+use Rattle.rls_ops.specs.declared.op.Body.TheVariants as bodies
+use Rattle.rls_ops.specs.WellFormed.{AreOps, IsText, IsVector}
+use Rattle.rls_codec.specs.CodecLaws.{IsBytes, IsMessage}
+use Rattle.rls_codec.specs.Reading.{message_of}
+use Rattle.rls_codec.specs.Spelled.{Chained, IsSpelled}
+use Rattle.rls_codec.proofs.Formats.{IsBytes-drop, IsBytes-tail, IsBytes-take}
+use Rattle.rls_codec.proofs.MessageFormats.{message_takes}
+use Rattle.rls_codec.proofs.SpelledSound.{fits_vector, spelled_op}
+use Rattle.rls_ops.specs.declared.op.Op.{Op}
+use Rattle.rls_model.specs.declared.edit.Edit.{Edit}
+use Rattle.rls_model.specs.declared.edit.Edit.TheVariants as edits
+use Rattle.rls_model.specs.declared.edit.EditError.{EditError}
+use Rattle.rls_model.specs.declared.receipt.Taken.{Taken}
+use Rattle.rls_model.specs.Document.{idents, text}
+use Rattle.rls_model.specs.Editing.{made, next_seq}
+use Rattle.rls_model.specs.Epochs.{greatest}
+use Rattle.rls_model.specs.History.{group_of, members_of}
+use Rattle.rls_model.specs.Receiving.{State}
+use Rattle.rls_model.specs.Taking.{message_for, take_message}
+use Rattle.rls_seen.specs.Edits.{edit_fault_over, edited, made_over}
+use Rattle.rls_seen.specs.Messages.{message_over, taken_over}
+use Rattle.rls_seen.specs.Messages as seen
+use Rattle.rls_seen.specs.Over.{acknowledged, released_all}
+use Rattle.rls_seen.specs.Sane.{IsSane}
+use Rattle.rls_seen.specs.Seen.{Seen, members, own_count, idents_over, text_over}
+use Rattle.rls_seen.specs.Stands.{StandsFor}
+use Rattle.rls_seen.proofs.Alike.{greatest_alike, members_alike}
+use Rattle.rls_seen.proofs.Editing.{edited_stands, idents_alike, made_alike}
+use Rattle.rls_seen.proofs.Keeping.{text_alike}
+use Rattle.rls_seen.proofs.Releasing.{released_all_stands}
+use Rattle.rls_seen.proofs.Sending.{message_alike}
+use Rattle.rls_seen.proofs.Taking.{taken_stands}
+use Rattle.rls_replica.specs.Names.{KeepsNames}
+use Rattle.rls_replica.proofs.KeptNames.{accepted_names, all_names, acknowledged_names, names_on, ops_names}
+use Rattle.rls_report.specs.declared.failures.CommandError.TheVariants.{NotMember, OtherGroup}
+use Rattle.rls_report.specs.declared.failures.LineFault.{LineFault}
+use Rattle.rls_report.specs.declared.failures.LineFault.TheVariants.{Range}
+use Rattle.rls_report.specs.Reports.{take_text}
+use Rattle.rls_script.specs.Scripts.{is_line_feed, line_of, line_of_text, number_of, parts_of}
+use Rattle.rls_script.specs.declared.lines.Line.{Line}
+use Rattle.rls_store.specs.Stored.{AreWritable}
+use Rattle.rls_stages.specs.Lines.{fault_in, line_by, line_fault, text_in}
+use Rattle.rls_stages.specs.Lines as lines
+use Rattle.rls_stages.proofs.Alike.{lines_alike}
+use Rattle.rls_stages.proofs.Meant.{IsGood, IsLine, IsMeantWell, line_good, line_well}
+use Rattle.rls_store.proofs.Storable.{IsStoring, edited_storing, storing, taken_writable}
+use Rattle.rls_undo.specs.declared.entry.Entry.{Entry}
+use Rattle.rls_undo.specs.Plans.{entries_by, gone_by}
+use Rattle.rls_undo.specs.UndoLaws.{AreEdits, AreWhole, IsEntry}
+use Rattle.rls_undo.specs.Undoing.{entries_of, entries_over, last_of, performed, performed_over, planned, planned_over, refusal, refusal_over, without_last}
+use Rattle.rls_undo.proofs.Alike.{performed_stands, planned_alike}
+use Rattle.rls_undo.proofs.Histories.{plan_edits}
+use Rattle.rls_undo.proofs.Performed.{performed_names}
+use Rattle.rls_anchor.specs.Anchors.{anchor_over, before, behind, place}
+use Rattle.rls_anchor.proofs.Places.{place_alike}
+use Rattle.rls_session.specs.declared.orders.Order.{Order}
+use Rattle.rls_session.specs.declared.orders.Order.TheVariants as orders
+use Rattle.rls_session.specs.Answers.{Sitting, answer, done, pointed, rested, sent, sitting_at, taken, text_reply, undone}
+use Rattle.rls_session.specs.Answers as answers
+use Rattle.rls_session.specs.Courses.{Answered}
+use Rattle.rls_session.specs.Desks.{IsWhole, sitting_of}
+use Rattle.rls_session.specs.Orders.{edit_or_bad, member_of, order_of, order_of_letter, order_of_parts, order_of_words, point_or_bad, send_or_bad, take_or_bad}
+use Rattle.rls_session.specs.Replies.{bytes_text, cursor_text, failed_text, ok_text, refused_text}
+use Rattle.rls_session.specs.Requests.{Cut, Does, Request, Takes, cut, cut_after, line_size}
+use Rattle.rls_session.specs.Sessions.{by_history, by_parts, session, session_in}
+use Rattle.rls_session.proofs.Characters.{text_chars}
+use Rattle.rls_session.proofs.Courses.{IsSameCourse, courses_alike}
+use Rattle.rls_store.proofs.Storable.{all_writable}
+use Rattle.rls_session.proofs.Whole.{last_undoable, whole_edited, whole_on, whole_pointed, whole_undone}
+
+-- ---- sittings
+
+-- the texts of entries
+pub record IsAlike (d : Sitting Seen) (f : Sitting State) : Type 0 where
+  pub stands : StandsFor d.state f.state
+  pub sane : IsSane d.state
+  pub writable : AreWritable d.state
+  pub entries : d.entries ≡ f.entries
+  pub cursor : d.cursor ≡ f.cursor
+  pub whole : IsWhole d
+  pub texts : AreWhole d.entries
+
+-- the same is answered, and what follows is alike
+pub record AreAlike (a : Answered (Sitting Seen)) (b : Answered (Sitting State)) : Type 0 where
+  pub reply : a.reply ≡ b.reply
+  pub states : IsAlike a.state b.state
+
+-- before waiting operations are released it needn't be at rest
+record IsAlmost (d : Sitting Seen) (f : Sitting State) : Type 0 where
+  stands : StandsFor d.state f.state
+  storing_is : IsStoring d.state
+  entries : d.entries ≡ f.entries
+  cursor : d.cursor ≡ f.cursor
+  whole : IsWhole d
+  texts : AreWhole d.entries
+
+record AreAlmost (a : Answered (Sitting Seen)) (b : Answered (Sitting State)) : Type 0 where
+  reply : a.reply ≡ b.reply
+  states : IsAlmost a.state b.state
+
+almost : (d : Sitting Seen) (f : Sitting State) → IsAlike d f → IsAlmost d f
+almost d f h = record { stands = h.stands; storing_is = storing d.state h.sane h.writable; entries = h.entries; cursor = h.cursor; whole = h.whole; texts = h.texts }
+
+rested_alike : (a : Answered (Sitting Seen)) (b : Answered (Sitting State)) → AreAlmost a b → AreAlike (rested by_parts a) (rested by_history b)
+rested_alike a b h =
+    let k = h.states in
+    let w = all_writable (a.state).state k.storing_is in
+    record {
+      reply = h.reply;
+      states = record {
+        stands = released_all_stands (a.state).state (b.state).state k.stands;
+        sane = w.0;
+        writable = w.1;
+        entries = k.entries;
+        cursor = k.cursor;
+        whole = whole_on (a.state).state (released_all (a.state).state) (a.state).entries (a.state).cursor (all_names (a.state).state) k.whole;
+        texts = k.texts;
+      };
+    }
+
+-- ---- entries
+
+whole_more : (es fs : List Entry) → AreWhole es → AreWhole fs → AreWhole (es ++ fs)
+whole_more [] fs h k = k
+whole_more (e ∷ es) fs h k = (h.0, whole_more es fs h.1 k)
+
+whole_front : (n : ℕ) (es : List Entry) → AreWhole es → AreWhole (take n es)
+whole_front zero es h = tt
+whole_front (suc n) [] h = tt
+whole_front (suc n) (e ∷ es) h = (h.0, whole_front n es h.1)
+
+whole_at : (es : List Entry) (i : ℕ) (entry : Entry) → slice_get es i ≡ Some entry → AreWhole es → IsEntry entry
+whole_at [] i entry e h = absurd cc
+whole_at (x ∷ es) zero entry e h = let same : x ≡ entry = cc in subst IsEntry same h.0
+whole_at (x ∷ es) (suc i) entry e h = whole_at es i entry e h.1
+
+-- those of an edit of a text
+gone_text : (edit : Edit) (cs : List ℕ) → IsText cs → IsText (gone_by edit cs)
+gone_text (edits.Delete at n) cs h = All-take IsScalar n (drop at cs) (All-drop IsScalar at cs h)
+gone_text (edits.Insert at text) cs h = All-nil IsScalar
+gone_text edits.Rename cs h = All-nil IsScalar
+gone_text edits.Leave cs h = All-nil IsScalar
+
+entries_text : (e : EpochName) (b : Body) (gone : List ℕ) → IsText gone → AreWhole (entries_by e b gone)
+entries_text e (bodies.Insert first text) gone h = (tt, tt)
+entries_text e (bodies.Delete []) gone h = tt
+entries_text e (bodies.Delete (x ∷ xs)) gone h = (h, tt)
+entries_text e (bodies.Rename former) gone h = tt
+entries_text e bodies.Leave gone h = tt
+
+entries_whole : (s : Seen) (t : State) (edit : Edit) → StandsFor s t → AreWhole (entries_over s edit)
+unfolding entries_over
+entries_whole s t edit h =
+    entries_text (made_over s edit).epoch (made_over s edit).body (gone_by edit (text_over s)) (gone_text edit (text_over s) (subst IsText (sym (text_alike s t h)) (text_chars t.history h.legal)))
+
+entries_alike : (s : Seen) (t : State) (edit : Edit) → StandsFor s t → entries_over s edit ≡ entries_of t.history edit
+unfolding entries_over entries_of
+entries_alike s t edit h =
+    ap (λ o. entries_by o.epoch o.body (gone_by edit (text_over s))) (made_alike s t edit h)
+    ∙ ap (λ cs. entries_by (made t.history edit).epoch (made t.history edit).body (gone_by edit cs)) (text_alike s t h)
+
+-- ---- edits
+
+number_alike : (s : Seen) (t : State) (edit : Edit) → StandsFor s t → own_count s + 1 ≡ next_seq t.history
+unfolding made_over made
+number_alike s t edit h = ap (λ o. o.seq) (made_alike s t edit h)
+
+edited_almost : (d : Sitting Seen) (f : Sitting State) (r : Result Edit LineFault) → IsAlike d f → IsMeantWell d.state r → AreAlmost (answers.edited by_parts d r) (answers.edited by_history f r)
+edited_almost d f (Err fault) h w = record { reply = refl; states = almost d f h }
+edited_almost d f (Ok edit) h w =
+    let s = d.state in
+    let t = f.state in
+    record {
+      reply = ap ok_text (number_alike s t edit h.stands);
+      states = record {
+        stands = edited_stands s t edit w.0 w.1 h.stands;
+        storing_is = edited_storing s edit (storing s h.sane h.writable) w.0 w.1;
+        entries = ap (λ es. es ++ entries_over s edit) h.entries ∙ ap (λ es. f.entries ++ es) (entries_alike s t edit h.stands);
+        cursor = h.cursor;
+        whole = whole_edited s (edited s edit) d.entries (d.entries ++ entries_over s edit) d.cursor edit (accepted_names s (made_over s edit)) refl h.whole;
+        texts = whole_more d.entries (entries_over s edit) h.texts (entries_whole s t edit h.stands);
+      };
+    }
+
+line_almost : (d : Sitting Seen) (f : Sitting State) (line : Line) → IsAlike d f → IsLine line → AreAlmost (answers.edited by_parts d (answers.read_line by_parts d.state line)) (answers.edited by_history f (answers.read_line by_history f.state line))
+line_almost d f line h w =
+    let same : lines.read_line d.state line ≡ line_by fault_in text_in f.state line = lines_alike d.state f.state line h.stands in
+    subst (λ (r : Result Edit LineFault). AreAlmost (answers.edited by_parts d (lines.read_line d.state line)) (answers.edited by_history f r)) same (edited_almost d f (lines.read_line d.state line) h (line_well d.state line w))
+
+-- ---- undoing
+
+-- edits that may be made leave what may be stored
+performed_storing : (s : Seen) (es : List Edit) → AreEdits es → IsStoring s → IsStoring (performed_over s es)
+performed_storing s [] w h = h
+performed_storing s (e ∷ es) w h = go (edit_fault_over s e) refl (λ k. performed_storing (edited s e) es w.1 k)
+  where
+    go : (f : Option EditError) → edit_fault_over s e ≡ f → (IsStoring (edited s e) → IsStoring (performed_over (edited s e) es)) → IsStoring (performed_over s (e ∷ es))
+    go None q rest = rw q (rest (edited_storing s e h w.0 q))
+    go (Some x) q rest = rw q h
+
+-- what a plan comes to
+by_plan : (d : Sitting Seen) (f : Sitting State) (plan : List Edit) (o : Option EditError) → IsAlike d f → StandsFor (performed_over d.state plan) (performed f.state plan) → IsStoring (performed_over d.state plan)
+    → AreAlmost (answers.undone_by_plan by_parts d plan o) (answers.undone_by_plan by_history f plan o)
+by_plan d f plan None h k st = record {
+  reply = refl;
+  states = record {
+    stands = k;
+    storing_is = st;
+    entries = ap without_last h.entries;
+    cursor = h.cursor;
+    whole = whole_undone d.state (performed_over d.state plan) d.entries (without_last d.entries) d.cursor (performed_names plan d.state) refl h.whole;
+    texts = whole_front (length d.entries - 1) d.entries h.texts;
+  };
+}
+by_plan d f plan (Some e) h k st = record {
+  reply = refl;
+  states = record {
+    stands = k;
+    storing_is = st;
+    entries = h.entries;
+    cursor = h.cursor;
+    whole = whole_on d.state (performed_over d.state plan) d.entries d.cursor (performed_names plan d.state) h.whole;
+    texts = h.texts;
+  };
+}
+
+undone_almost : (d : Sitting Seen) (f : Sitting State) (o : Option Entry) → last_of d.entries ≡ o → IsAlike d f → AreAlmost (undone by_parts d o) (undone by_history f o)
+undone_almost d f None e h = record { reply = refl; states = almost d f h }
+undone_almost d f (Some entry) e h =
+    let s = d.state in
+    let t = f.state in
+    let kept = last_undoable s d.entries entry e (h.whole).undoable in
+    let plan = planned_over s entry in
+    let same : plan ≡ planned t.history entry = planned_alike s t entry h.stands kept in
+    let w = plan_edits s entry h.sane (whole_at d.entries (length d.entries - 1) entry e h.texts) in
+    let p = performed_stands s t plan w h.stands in
+    let here = by_plan d f plan (refusal_over s plan) h p.1 (performed_storing s plan w (storing s h.sane h.writable)) in
+    let there = subst (λ (x : Option EditError). AreAlmost (answers.undone_by_plan by_parts d plan (refusal_over s plan)) (answers.undone_by_plan by_history f plan x)) p.0 here in
+    subst (λ (es : List Edit). AreAlmost (answers.undone_by_plan by_parts d plan (refusal_over s plan)) (answers.undone_by_plan by_history f es (refusal t es))) same there
+
+undo_almost : (d : Sitting Seen) (f : Sitting State) → IsAlike d f → AreAlmost (undone by_parts d (last_of d.entries)) (undone by_history f (last_of f.entries))
+undo_almost d f h = subst (λ (es : List Entry). AreAlmost (undone by_parts d (last_of d.entries)) (undone by_history f (last_of es))) h.entries (undone_almost d f (last_of d.entries) refl h)
+
+-- ---- the cursor
+
+pointed_alike : (d : Sitting Seen) (f : Sitting State) (at : ℕ) → IsAlike d f → AreAlike (pointed by_parts d at) (pointed by_history f at)
+pointed_alike d f at h = subst (λ (cs : List ℕ). AreAlike (pointed by_parts d at) (by_text cs)) (text_alike s t h.stands) (go (ltb (length (text_over s)) at))
+  where
+    s : Seen
+    s = d.state
+
+    t : State
+    t = f.state
+
+    past : ℕ → List ℕ
+    past n = refused_text (Range at n)
+
+    by_text : List ℕ → Answered (Sitting State)
+    by_text cs =
+        cond (ltb (length cs) at) (answers.says (past (length cs)) f) (answers.says (cursor_text at) (record { state = t; entries = f.entries; cursor = behind (greatest t.history) (before (idents t.history) at) }))
+
+    made_same : anchor_over s at ≡ behind (greatest t.history) (before (idents t.history) at)
+    made_same = ap (λ g. behind g (before (idents_over s) at)) (greatest_alike s t h.stands) ∙ ap (λ xs. behind (greatest t.history) (before xs at)) (idents_alike s t h.stands)
+
+    go : (b : Bool) → AreAlike
+        (cond b (answers.says (past (length (text_over s))) d) (answers.says (cursor_text at) (sitting_of s d.entries (anchor_over s at))))
+        (cond b (answers.says (past (length (text_over s))) f) (answers.says (cursor_text at) (record { state = t; entries = f.entries; cursor = behind (greatest t.history) (before (idents t.history) at) })))
+    go true = record { reply = refl; states = h }
+    go false = record {
+      reply = refl;
+      states = record {
+        stands = h.stands;
+        sane = h.sane;
+        writable = h.writable;
+        entries = h.entries;
+        cursor = made_same;
+        whole = whole_pointed s d.entries d.cursor (anchor_over s at) at refl h.whole;
+        texts = h.texts;
+      };
+    }
+
+-- ---- messages
+
+-- the operations of a message that has a spelling are well formed
+ops_given : (n : ℕ) (before : Option Op) (os : List Op) → Chained (λ b. IsSpelled n) before os → AreOps os
+ops_given n before [] c = tt
+ops_given n before (o ∷ os) c = (spelled_op n o c.0, ops_given n (Some o) os c.1)
+
+message_given : (bytes : List ℕ) (m : Message) (n : ℕ) → IsMessage bytes m → m.members ≡ n → seen.IsMessage n m
+message_given bytes m n is e =
+    let v = is.2 in
+    let from = v.from in
+    record { from = omega (arith, from, e); vector = subst (λ k. IsVector k m.vector) e (fits_vector m.members m.vector v.vector); ops = ops_given m.members None m.ops v.ops }
+
+taken_names : (s : Seen) (m : Message) → KeepsNames s (taken_over s m).state
+unfolding seen.taken_within
+taken_names s m = go (seen.has_room c.limit)
+  where
+    c : seen.Course
+    c = seen.take_ops (seen.started None s) m.ops
+
+    go : (b : Bool) → KeepsNames s (cond b (seen.moved c (acknowledged c.state m.from m.vector)) c).state
+    go true = names_on s c.state (acknowledged c.state m.from m.vector) (ops_names m.ops (seen.started None s)) (acknowledged_names c.state m.from m.vector)
+    go false = ops_names m.ops (seen.started None s)
+
+taken_alike : (d : Sitting Seen) (f : Sitting State) (bytes : List ℕ) (r : Result Message ℕ) → IsBytes bytes → message_of bytes ≡ r → IsAlike d f → AreAlike (taken by_parts d r) (taken by_history f r)
+taken_alike d f bytes (Err at) b e h = record { reply = refl; states = h }
+taken_alike d f bytes (Ok m) b e h = subst (λ (x : Bool). AreAlike (taken by_parts d (Ok m)) (cond x (answers.taken_at f (take_message f.state m)) (answers.says other f))) same (go mine refl)
+  where
+    s : Seen
+    s = d.state
+
+    t : State
+    t = f.state
+
+    other : List ℕ
+    other = failed_text (OtherGroup m.group m.members)
+
+    mine : Bool
+    mine = (m.group == s.group) && (m.members == members s)
+
+    same : mine ≡ ((m.group == group_of t.history) && (m.members == members_of t.history))
+    same = ap (λ n. (m.group == n) && (m.members == members s)) (h.stands).group ∙ ap (λ n. (m.group == group_of t.history) && (m.members == n)) (members_alike s t h.stands)
+
+    ours : mine ≡ true → AreAlike (answers.taken_at d (taken_over s m)) (answers.taken_at f (take_message t m))
+    ours is =
+        let as_many : m.members ≡ members s = eqb-true m.members (members s) (and_right (m.group == s.group) (m.members == members s) is) in
+        let message = message_takes bytes m b e in
+        let g = taken_stands None s t m (message_given bytes m (members s) message as_many) h.stands in
+        let w = taken_writable s bytes m h.sane h.writable message as_many in
+        record {
+          reply = ap (λ (c : Taken). take_text c.applied c.released c.repeated c.held (length c.refused)) g.counts;
+          states = record {
+            stands = g.states.1;
+            sane = w.0;
+            writable = w.1;
+            entries = h.entries;
+            cursor = h.cursor;
+            whole = whole_on s (taken_over s m).state d.entries d.cursor (taken_names s m) h.whole;
+            texts = h.texts;
+          };
+        }
+
+    go : (x : Bool) → mine ≡ x → AreAlike (cond x (answers.taken_at d (taken_over s m)) (answers.says other d)) (cond x (answers.taken_at f (take_message t m)) (answers.says other f))
+    go true is = ours is
+    go false is = record { reply = refl; states = h }
+
+sent_alike : (s : Seen) (t : State) (to : ℕ) → StandsFor s t → sent by_parts s to ≡ sent by_history t to
+sent_alike s t to h =
+    let n = members_alike s t h in
+    go (ltb to (members s)) refl ∙ ap (λ k. cond (ltb to k) (bytes_text (codes "message") (message_bytes (message_for t.history to))) (failed_text (NotMember to))) n
+  where
+    go : (b : Bool) → ltb to (members s) ≡ b
+        → cond b (bytes_text (codes "message") (message_bytes (message_over s to))) (failed_text (NotMember to)) ≡ cond b (bytes_text (codes "message") (message_bytes (message_for t.history to))) (failed_text (NotMember to))
+    go true e =
+        let below : to < members s = grind (arith, nat_tests) in
+        ap (λ (m : Message). bytes_text (codes "message") (message_bytes m)) (message_alike s t to below h)
+    go false e = refl
+
+-- ---- all requests
+
+-- the line of an edit is one, and a message consists of bytes
+abbrev pub IsGiven : Request → Type 0
+IsGiven (Does (orders.Edit line)) = IsLine line
+IsGiven (Does order) = Unit {0}
+IsGiven (Takes message) = IsBytes message
+
+pub answer_alike : (d : Sitting Seen) (f : Sitting State) (r : Request) → IsGiven r → IsAlike d f → AreAlike (answer by_parts d r) (answer by_history f r)
+unfolding answer
+answer_alike d f (Does (orders.Edit line)) g h = rested_alike _ _ (line_almost d f line h g)
+answer_alike d f (Does orders.Undo) g h = rested_alike _ _ (undo_almost d f h)
+answer_alike d f (Does (orders.Point at)) g h = pointed_alike d f at h
+answer_alike d f (Does orders.Place) g h = record {
+  reply = ap cursor_text (place_alike d.state f.state d.cursor h.stands (h.whole).anchored ∙ ap (place (f.state).history) h.cursor);
+  states = h;
+}
+answer_alike d f (Does orders.Text) g h = record { reply = ap (λ cs. bytes_text (codes "text") (encode_utf8_all cs)) (text_alike d.state f.state h.stands); states = h }
+answer_alike d f (Does (orders.Take len)) g h = record { reply = refl; states = h }
+answer_alike d f (Does (orders.Send to)) g h = record { reply = sent_alike d.state f.state to h.stands; states = h }
+answer_alike d f (Does orders.Quit) g h = record { reply = refl; states = h }
+answer_alike d f (Does orders.Bad) g h = record { reply = refl; states = h }
+answer_alike d f (Takes message) g h = taken_alike d f message (message_of message) g refl h
+
+-- ---- what an input asks for
+
+-- the line of an edit
+edit_given : (bytes : List ℕ) (l : Option Line) → IsGood l → IsGiven (Does (edit_or_bad l))
+edit_given bytes None g = tt
+edit_given bytes (Some line) g = g
+
+line_same : (bytes : List ℕ) → is_utf8 bytes ≡ true → line_of bytes ≡ line_of_text bytes
+unfolding line_of
+line_same bytes e = rw e refl
+
+text_good : (bytes : List ℕ) → is_utf8 bytes ≡ true → IsGood (line_of_text bytes)
+text_good bytes e = subst IsGood (line_same bytes e) (line_good bytes)
+
+letter_given : (bytes : List ℕ) → IsGood (line_of_text bytes) → IsGiven (Does (order_of_letter bytes))
+letter_given bytes g = go (bytes_eq bytes (codes "u")) (bytes_eq bytes (codes "p")) (bytes_eq bytes (codes "t")) (bytes_eq bytes (codes "q"))
+  where
+    go : (a b c d : Bool) → IsGiven (Does (cond a orders.Undo (cond b orders.Place (cond c orders.Text (cond d orders.Quit (edit_or_bad (line_of_text bytes)))))))
+    go true b c d = tt
+    go false true c d = tt
+    go false false true d = tt
+    go false false false true = tt
+    go false false false false = edit_given bytes (line_of_text bytes) g
+
+parts_given : (bytes word others : List ℕ) → IsGood (line_of_text bytes) → IsGiven (Does (order_of_parts bytes word others))
+parts_given bytes word others g = go (bytes_eq word (codes "k")) (bytes_eq word (codes "m")) (bytes_eq word (codes "s")) (number_of others) (member_of others)
+  where
+    go : (a b c : Bool) (n m : Option ℕ) → IsGiven (Does (cond a (point_or_bad n) (cond b (take_or_bad n) (cond c (send_or_bad m) (edit_or_bad (line_of_text bytes))))))
+    go true b c None m = tt
+    go true b c (Some x) m = tt
+    go false true c None m = tt
+    go false true c (Some x) m = tt
+    go false false true n None = tt
+    go false false true n (Some x) = tt
+    go false false false n m = edit_given bytes (line_of_text bytes) g
+
+order_given : (bytes : List ℕ) → IsGiven (Does (order_of bytes))
+unfolding order_of
+order_given bytes = go (is_utf8 bytes) refl
+  where
+    words : IsGood (line_of_text bytes) → (p : Option (List ℕ × List ℕ)) → IsGiven (Does (order_of_words bytes p))
+    words g None = letter_given bytes g
+    words g (Some x) = parts_given bytes x.0 x.1 g
+
+    go : (b : Bool) → is_utf8 bytes ≡ b → IsGiven (Does (cond b (order_of_words bytes (parts_of bytes)) orders.Bad))
+    go false e = tt
+    go true e = words (text_good bytes e) (parts_of bytes)
+
+after_given : (order : Order) (rest : List ℕ) → IsBytes rest → IsGiven (Does order) → IsGiven (cut_after order rest).request
+after_given (orders.Take n) rest b g = go (nat_le n (length rest))
+  where
+    go : (x : Bool) → IsGiven (cond {A = Cut} x (record { request = Takes (take n rest); size = n }) (record { request = Does orders.Bad; size = length rest })).request
+    go true = IsBytes-take n rest b
+    go false = tt
+after_given order rest b g = g
+
+cut_given : (bytes : List ℕ) → IsBytes bytes → IsGiven (cut bytes).request
+unfolding cut
+cut_given bytes b = after_given (order_of (before_first is_line_feed bytes)) (drop (line_size bytes) bytes) (IsBytes-drop (line_size bytes) bytes b) (order_given (before_first is_line_feed bytes))
+
+-- ---- the session
+
+pub sessions_alike : (s : Seen) (t : State) (input : List ℕ) → IsBytes input → StandsFor s t → IsSane s → AreWritable s → IsSameCourse IsAlike (session s input) (session_in t input)
+sessions_alike s t input b h sane writable =
+    courses_alike (answer by_parts) (answer by_history) IsAlike IsGiven IsBytes (λ d f r g k. let a = answer_alike d f r g k in (a.reply, a.states)) (λ x bytes c. (cut_given (x ∷ bytes) c, IsBytes-tail x bytes c)) 0 (sitting_at s) (sitting_at t) input b
+    (record { stands = h; sane = sane; writable = writable; entries = refl; cursor = refl; whole = record { undoable = tt; anchored = tt }; texts = tt })

@@ -1,0 +1,177 @@
+-- What is answered, from its parts.
+use Rattle.std.proofs.Common.{◌≡◌, ◌≢◌, ◌∙◌, ◌<◌, ◌≤◌, ◌⊎◌, ◌+◌, ◌-◌, ℕ, suc, Bool, true, false, ltb, eqb, List, [], ◌∷◌, ◌++◌, length, Option, Some, None, Result, Ok, Err, IfOk, refl, sym, ap, subst, arith, inl, inr, get_or}
+use Rattle.std.specs.Prelude.{codes, ◌==◌, ◌&&◌}
+use Rattle.std.proofs.lemmas.Bool.Decides.{eqb_tells, nat_tests}
+use Rattle.std.proofs.lemmas.Option.{slice_get-get_or}
+use Rattle.rls_runs.specs.Entries.{Entries, chars_in}
+use Rattle.rls_ops.specs.declared.message.Message.{Message}
+use Rattle.rls_ops.specs.Spelling.{message_bytes}
+use Rattle.rls_model.specs.declared.edit.Edit.{Edit}
+use Rattle.rls_model.specs.declared.edit.EditError.{EditError}
+use Rattle.rls_model.specs.declared.edit.EditError.TheVariants as errors
+use Rattle.rls_model.specs.declared.receipt.Taken.{Taken}
+use Rattle.rls_seen.specs.Edits.{edit_fault_over, IsFault}
+use Rattle.rls_seen.specs.Edits as edits
+use Rattle.rls_seen.specs.Messages.{message_over, taken_over, taken_of}
+use Rattle.rls_seen.specs.Seen.{Seen, members, own_count, text_over}
+use Rattle.rls_replica.specs.Faults.{IsForeign}
+use Rattle.rls_report.specs.declared.failures.CommandError.TheVariants.{NotMember, Malformed, OtherGroup}
+use Rattle.rls_report.specs.declared.failures.LineFault.{LineFault}
+use Rattle.rls_report.specs.declared.failures.LineFault.TheVariants as faults
+use Rattle.rls_report.specs.Reports.{take_text}
+use Rattle.rls_stages.specs.Lines.{allowed, line_fault}
+use Rattle.rls_undo.specs.declared.entry.Entry.{Entry}
+use Rattle.rls_undo.specs.declared.undo.Undone.{Undone}
+use Rattle.rls_undo.specs.Undoing.{IsPart, entries_over, last_of, performed_over, plan_over, refusal_over, undone_by, without_last}
+use Rattle.rls_anchor.specs.declared.anchor.Anchor.{Anchor}
+use Rattle.rls_anchor.specs.Anchors.{anchor_over}
+use Rattle.rls_session.specs.Answering.{IsAnswered}
+use Rattle.rls_session.specs.Answers.{Sitting, edited, pointed, sent, taken, undone, with_state}
+use Rattle.rls_session.specs.Desks.{TellsFault, sitting_of}
+use Rattle.rls_session.specs.Replies.{ok_text, undone_text, nothing_text, cursor_text, bytes_text, refused_text, failed_text}
+use Rattle.rls_session.specs.Sessions.{by_parts}
+
+-- what holds of an answer
+pub on_ok : {X E : Type 0} (r : Result X E) (P Q : X → Type 0) → ((x : X) → P x → Q x) → IfOk r P → IfOk r Q
+on_ok (Ok x) P Q f h = f x h
+on_ok (Err e) P Q f h = tt
+
+-- an answer isn't an error
+pub ok_is_not_err : {X E : Type 0} (x : X) (e : E) → Ok x ≡ Err e → ⊥
+ok_is_not_err x e h = cc
+
+-- ---- edits
+
+pub edit_said : (d e : Sitting Seen) (edit : Edit) (seq : ℕ) (reply : List ℕ) → edit_fault_over d.state edit ≡ None → seq ≡ own_count d.state + 1
+    → e ≡ sitting_of (edits.edited d.state edit) (d.entries ++ entries_over d.state edit) d.cursor → reply ≡ ok_text seq → IsAnswered (edited by_parts d (allowed d.state edit)) reply e
+edit_said d e edit seq reply none number is text = rw none (record { reply_is = text ∙ ap ok_text number; state_is = is })
+
+pub edit_refused : (d e : Sitting Seen) (edit : Edit) (error : EditError) (reply : List ℕ) → IsFault error (edit_fault_over d.state edit) → TellsFault error reply → e ≡ d
+    → IsAnswered (edited by_parts d (allowed d.state edit)) reply e
+edit_refused d e edit errors.OutOfMemory reply fault told is = absurd told
+edit_refused d e edit error reply fault told is = rw fault (record { reply_is = told; state_is = is })
+
+pub line_refused : (d e : Sitting Seen) (r : Result Edit LineFault) (fault : LineFault) (reply : List ℕ) → r ≡ Err fault → e ≡ d → reply ≡ refused_text fault → IsAnswered (edited by_parts d r) reply e
+line_refused d e r fault reply is same text = rw is (record { reply_is = text; state_is = same })
+
+-- ---- undoing
+
+-- there is a last one if there is one
+last_is : (es : List Entry) → (es ≡ [] → ⊥) → last_of es ≡ None → ⊥
+last_is [] some none = some refl
+last_is (x ∷ es) some none =
+    let there = slice_get-get_or (x ∷ es) (length (x ∷ es) - 1) x (omega arith) in
+    let both : Some (get_or (x ∷ es) (length (x ∷ es) - 1) x) ≡ None = sym there ∙ none in
+    cc
+
+-- the plan was performed
+pub undone_said : (d e : Sitting Seen) (u : Undone) (reply : List ℕ) → (d.entries ≡ [] → ⊥) → refusal_over d.state (plan_over d.state (last_of d.entries)) ≡ None → u ≡ undone_by (plan_over d.state (last_of d.entries))
+    → e ≡ sitting_of (performed_over d.state (plan_over d.state (last_of d.entries))) (without_last d.entries) d.cursor → reply ≡ undone_text u.edits u.chars → IsAnswered (undone by_parts d (last_of d.entries)) reply e
+undone_said d e u reply some none counts is text = go (last_of d.entries) (last_is d.entries some) none counts is
+  where
+    go : (o : Option Entry) → (o ≡ None → ⊥) → refusal_over d.state (plan_over d.state o) ≡ None → u ≡ undone_by (plan_over d.state o) → e ≡ sitting_of (performed_over d.state (plan_over d.state o)) (without_last d.entries) d.cursor
+        → IsAnswered (undone by_parts d o) reply e
+    go None some none counts is = absurd (some refl)
+    go (Some entry) some none counts is = rw none (record { reply_is = text ∙ ap (λ (x : Undone). undone_text x.edits x.chars) counts; state_is = is })
+
+-- an edit of the plan was refused
+pub undo_refused : (d e : Sitting Seen) (f : EditError) (reply : List ℕ) → (d.entries ≡ [] → ⊥) → refusal_over d.state (plan_over d.state (last_of d.entries)) ≡ Some f
+    → e ≡ with_state d (performed_over d.state (plan_over d.state (last_of d.entries))) → TellsFault f reply → IsAnswered (undone by_parts d (last_of d.entries)) reply e
+undo_refused d e f reply some refused is told = go (last_of d.entries) (last_is d.entries some) refused is
+  where
+    text : (f : EditError) → TellsFault f reply → reply ≡ refused_text (line_fault f)
+    text errors.OutOfMemory h = absurd h
+    text g h = h
+
+    go : (o : Option Entry) → (o ≡ None → ⊥) → refusal_over d.state (plan_over d.state o) ≡ Some f → e ≡ with_state d (performed_over d.state (plan_over d.state o)) → IsAnswered (undone by_parts d o) reply e
+    go None some refused is = absurd (some refl)
+    go (Some entry) some refused is = rw refused (record { reply_is = text f told; state_is = is })
+
+-- nothing was planned, so nothing was done
+pub nothing_done : (s : Seen) (plan : List Edit) (new : Seen) → plan ≡ [] → IsPart s plan new → new ≡ s
+nothing_done s plan new none p = go p.front p.rest (sym none ∙ p.are) p.after
+  where
+    go : (front rest : List Edit) → [] ≡ front ++ rest → new ≡ performed_over s front → new ≡ s
+    go [] rest e after = after
+    go (x ∷ front) rest e after = absurd cc
+
+pub nothing_said : (d e : Sitting Seen) (reply : List ℕ) → d.entries ≡ [] → e ≡ d → reply ≡ nothing_text → IsAnswered (undone by_parts d (last_of d.entries)) reply e
+nothing_said d e reply none is text =
+    let last : last_of d.entries ≡ None = ap last_of none in
+    subst (λ (o : Option Entry). IsAnswered (undone by_parts d o) reply e) (sym last) (record { reply_is = text; state_is = is })
+
+-- sittings are the same if their parts are
+pub same_sitting : (s t : Seen) (xs ys : List Entry) (a : Anchor) → s ≡ t → xs ≡ ys → sitting_of s xs a ≡ sitting_of t ys a
+same_sitting s t xs ys a e f = rw (e, f) refl
+
+-- ---- the cursor
+
+text_length : (es : Entries) → length (chars_in es) ≡ length es
+text_length [] = refl
+text_length (e ∷ es) = ap suc (text_length es)
+
+pub pointed_past : (d e : Sitting Seen) (at n m : ℕ) (reply : List ℕ) → n ≡ at → m ≡ length (d.state).text → length (d.state).text < at → e ≡ d → reply ≡ refused_text (faults.Range n m) → IsAnswered (pointed by_parts d at) reply e
+pointed_past d e at n m reply f g past is text =
+    let len = text_length (d.state).text in
+    let test : ltb (length (text_over d.state)) at ≡ true = grind (arith, nat_tests, len) in
+    let total : m ≡ length (text_over d.state) = g ∙ sym len in
+    rw test (record { reply_is = rw (← f, ← total) text; state_is = is })
+
+pub pointed_there : (d e : Sitting Seen) (at : ℕ) (a : Anchor) (reply : List ℕ) → at ≤ length (d.state).text → a ≡ anchor_over d.state at → e ≡ sitting_of d.state d.entries a → reply ≡ cursor_text at → IsAnswered (pointed by_parts d at) reply e
+pointed_there d e at a reply within made is text =
+    let len = text_length (d.state).text in
+    let test : ltb (length (text_over d.state)) at ≡ false = grind (arith, nat_tests, len) in
+    rw test (record { reply_is = text; state_is = is ∙ ap (sitting_of d.state d.entries) made })
+
+-- ---- messages
+
+pub sent_bytes : (s : Seen) (to : ℕ) (bytes : List ℕ) → bytes ≡ message_bytes (message_over s to) → (members s ≤ to → ⊥) → bytes_text (codes "message") bytes ≡ sent by_parts s to
+sent_bytes s to bytes e h =
+    let below : to < members s = omega (arith, h) in
+    let test : ltb to (members s) ≡ true = grind (arith, nat_tests) in
+    rw (test, e) refl
+
+pub sent_none : (s : Seen) (to : ℕ) → members s ≤ to → failed_text (NotMember to) ≡ sent by_parts s to
+sent_none s to h =
+    let test : ltb to (members s) ≡ false = grind (arith, nat_tests) in
+    rw test refl
+
+-- the message comes from another group, or one with another count of members
+not_for : (s : Seen) (m : Message) → IsForeign s m → ((m.group == s.group) && (m.members == members s)) ≡ false
+not_for s m (inl other) = go (eqb_tells m.group s.group)
+  where
+    go : ((eqb m.group s.group ≡ true) × (m.group ≡ s.group)) ⊎ ((eqb m.group s.group ≡ false) × (m.group ≢ s.group)) → ((m.group == s.group) && (m.members == members s)) ≡ false
+    go (inl e) = absurd (other e.1)
+    go (inr e) = rw (e.0) refl
+not_for s m (inr other) = go (m.group == s.group) (eqb_tells m.members (members s))
+  where
+    go : (b : Bool) → ((eqb m.members (members s) ≡ true) × (m.members ≡ members s)) ⊎ ((eqb m.members (members s) ≡ false) × (m.members ≢ members s)) → (b && (m.members == members s)) ≡ false
+    go b (inl e) = absurd (other e.1)
+    go true (inr e) = e.0
+    go false (inr e) = refl
+
+-- it comes from neither
+is_ours : (s : Seen) (m : Message) → (IsForeign s m → ⊥) → ((m.group == s.group) && (m.members == members s)) ≡ true
+is_ours s m none = go (eqb_tells m.group s.group) (eqb_tells m.members (members s))
+  where
+    go : ((eqb m.group s.group ≡ true) × (m.group ≡ s.group)) ⊎ ((eqb m.group s.group ≡ false) × (m.group ≢ s.group))
+        → ((eqb m.members (members s) ≡ true) × (m.members ≡ members s)) ⊎ ((eqb m.members (members s) ≡ false) × (m.members ≢ members s))
+        → ((m.group == s.group) && (m.members == members s)) ≡ true
+    go (inl e) (inl f) = rw (e.0, f.0) refl
+    go (inl e) (inr f) = absurd (none (inr f.1))
+    go (inr e) f = absurd (none (inl e.1))
+
+pub malformed_said : (d e : Sitting Seen) (r : Result Message ℕ) (at : ℕ) (reply : List ℕ) → r ≡ Err at → e ≡ d → reply ≡ failed_text (Malformed at) → IsAnswered (taken by_parts d r) reply e
+malformed_said d e r at reply is same text = rw is (record { reply_is = text; state_is = same })
+
+pub foreign_said : (d e : Sitting Seen) (r : Result Message ℕ) (m : Message) (g n : ℕ) (reply : List ℕ) → r ≡ Ok m → IsForeign d.state m → g ≡ m.group → n ≡ m.members → e ≡ d → reply ≡ failed_text (OtherGroup g n)
+    → IsAnswered (taken by_parts d r) reply e
+foreign_said d e r m g n reply is foreign group count same text =
+    let said : failed_text (OtherGroup g n) ≡ failed_text (OtherGroup m.group m.members) = rw (group, count) refl in
+    rw (is, not_for d.state m foreign) (record { reply_is = text ∙ said; state_is = same })
+
+pub taken_said : (d e : Sitting Seen) (r : Result Message ℕ) (m : Message) (found : Taken) (reply : List ℕ) → r ≡ Ok m → (IsForeign d.state m → ⊥) → found ≡ taken_of (taken_over d.state m) → e ≡ with_state d (taken_over d.state m).state
+    → reply ≡ take_text found.applied found.released found.repeated found.held (length found.refused) → IsAnswered (taken by_parts d r) reply e
+taken_said d e r m found reply is ours counts same text =
+    let said = text ∙ ap (λ (f : Taken). take_text f.applied f.released f.repeated f.held (length f.refused)) counts in
+    rw (is, is_ours d.state m ours) (record { reply_is = said; state_is = same })

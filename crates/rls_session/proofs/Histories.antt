@@ -1,0 +1,171 @@
+-- How a session ends whose kept file stands for a history.
+use Rattle.std.proofs.Common.{◌≡◌, ◌≢◌, ◌∙◌, ◌⊎◌, ◌<◌, ◌≤◌, ◌+◌, ◌++◌, ℕ, zero, suc, Bool, true, false, ltb, eqb, List, [], length, take, Option, Some, IfSome, Result, Ok, Err, refl, sym, ap, subst, arith, inl, inr, length-append}
+use Rattle.std.proofs.lemmas.Bool.Decides.{eqb_tells, nat_tests}
+use Rattle.std.proofs.lemmas.List.{take-append-le}
+use Rattle.std.proofs.Math.Seq.{take-append-add}
+use Rattle.rls_io.specs.Device.{Appends, Stores}
+use Rattle.rls_codec.specs.CodecLaws.{IsBytes}
+use Rattle.rls_model.specs.declared.parts.Parts.{Parts}
+use Rattle.rls_model.specs.Receiving.{State}
+use Rattle.rls_seen.specs.Seen.{Seen}
+use Rattle.rls_seen.specs.Stands.{StandsFor}
+use Rattle.rls_seen.proofs.Keeping.{parts_alike}
+use Rattle.rls_file.specs.Files.{file_bytes}
+use Rattle.rls_report.specs.declared.failures.CommandError.{CommandError}
+use Rattle.rls_report.specs.declared.failures.CommandError.TheVariants.{TooLarge}
+use Rattle.rls_store.specs.Stored.{AreWritable}
+use Rattle.rls_stages.specs.Endings.{IsFault, IsPart, EndsWith}
+use Rattle.rls_stages.specs.KeptFile.{IsFileFor, IsReadBack, StandsIn, bytes_over, file_limit, loaded, replica_in, saved}
+use Rattle.rls_stages.proofs.Files.{opened, stands_stored}
+use Rattle.rls_session.specs.Answers.{Sitting}
+use Rattle.rls_session.specs.Courses.{Course}
+use Rattle.rls_session.specs.Due.{Due, due, due_of, due_on, ending_status, stops}
+use Rattle.rls_session.specs.Endings.{Ends, FailsAt, IsKept, IsTooLong, Serves}
+use Rattle.rls_session.specs.Intake.{input_limit}
+use Rattle.rls_session.specs.Replies.{saved_text}
+use Rattle.rls_session.specs.Sessions.{session, session_in}
+use Rattle.rls_session.proofs.Agreeing.{IsAlike, sessions_alike}
+use Rattle.rls_session.proofs.Courses.{IsSameCourse}
+use Rattle.rls_session.proofs.Served.{part_all}
+
+-- what is called for at the end of a course, or the end for what is too long
+EndingOf : Type 0 → Result Seen CommandError → Seen → Type 0
+EndingOf too_long r s = (r ≡ Ok s) ⊎ (too_long × (r ≡ Err TooLarge))
+
+-- a list is within a limit or past it
+within_or_past : (limit n : ℕ) → ((n ≤ limit) × (ltb limit n ≡ false)) ⊎ ((limit < n) × (ltb limit n ≡ true))
+within_or_past limit n = go (ltb limit n) refl
+  where
+    go : (b : Bool) → ltb limit n ≡ b → ((n ≤ limit) × (ltb limit n ≡ false)) ⊎ ((limit < n) × (ltb limit n ≡ true))
+    go true e = inr (let h : limit < n = grind (arith, nat_tests) in h, e)
+    go false e = inl (let h : n ≤ limit = grind (arith, nat_tests) in h, e)
+
+saved_or_long : (s : Seen) → (saved s ≡ Ok s) ⊎ ((file_limit < length (bytes_over s)) × (saved s ≡ Err TooLarge))
+saved_or_long s = go (within_or_past file_limit (length (bytes_over s)))
+  where
+    go : ((length (bytes_over s) ≤ file_limit) × (ltb file_limit (length (bytes_over s)) ≡ false)) ⊎ ((file_limit < length (bytes_over s)) × (ltb file_limit (length (bytes_over s)) ≡ true))
+        → (saved s ≡ Ok s) ⊎ ((file_limit < length (bytes_over s)) × (saved s ≡ Err TooLarge))
+    go (inl h) = inl (rw (h.1) refl)
+    go (inr h) = inr (h.0, rw (h.1) refl)
+
+ending_or_long : (c : Course (Sitting Seen)) → ((due_of c).ending ≡ Ok (c.state).state) ⊎ (((input_limit < c.used) ⊎ (file_limit < length (bytes_over (c.state).state))) × ((due_of c).ending ≡ Err TooLarge))
+ending_or_long c = go (within_or_past input_limit c.used)
+  where
+    go : ((c.used ≤ input_limit) × (ltb input_limit c.used ≡ false)) ⊎ ((input_limit < c.used) × (ltb input_limit c.used ≡ true))
+        → ((due_of c).ending ≡ Ok (c.state).state) ⊎ (((input_limit < c.used) ⊎ (file_limit < length (bytes_over (c.state).state))) × ((due_of c).ending ≡ Err TooLarge))
+    go (inr h) = inr (inl h.0, rw (h.1) refl)
+    go (inl h) = rest (saved_or_long (c.state).state)
+      where
+        rest : (saved (c.state).state ≡ Ok (c.state).state) ⊎ ((file_limit < length (bytes_over (c.state).state)) × (saved (c.state).state ≡ Err TooLarge))
+            → ((due_of c).ending ≡ Ok (c.state).state) ⊎ (((input_limit < c.used) ⊎ (file_limit < length (bytes_over (c.state).state))) × ((due_of c).ending ≡ Err TooLarge))
+        rest (inl e) = inl (rw (h.1) e)
+        rest (inr e) = inr (inr e.0, rw (h.1) e.1)
+
+-- ---- the parts of an end
+
+-- a part of the replies is a part of all
+part_of_all : (old new : Option (List ℕ)) (xs ys : List ℕ) → IsPart old new xs → IsPart old new (xs ++ ys)
+part_of_all old new xs ys p = (p.0, omega (arith, length-append xs ys, p.1), subst (Appends old new) (sym (take-append-le p.0 xs ys p.1)) p.2)
+
+part_behind : (old new : Option (List ℕ)) (xs ys : List ℕ) (n : ℕ) → n ≤ length ys → Appends old new (xs ++ take n ys) → IsPart old new (xs ++ ys)
+part_behind old new xs ys n h a = (length xs + n, omega (arith, length-append xs ys), subst (Appends old new) (sym (take-append-add xs ys n)) a)
+
+-- whatever the status
+any_part : (d : Due) (n : ℕ) (file new_file : Option (Option (List ℕ))) (old new : Option (List ℕ)) → Ends d n file new_file old new → IsPart old new (d.replies ++ saved_text)
+any_part d n file new_file old new e = at_zero (eqb_tells n 0)
+  where
+    fails : FailsAt d file new_file old new → IsPart old new (d.replies ++ saved_text)
+    fails (inl k) = part_of_all old new d.replies saved_text k.1
+    fails (inr k) = part_behind old new d.replies saved_text k.1.0 k.1.1 k.1.2
+
+    at_nine : n ≢ 0 → ((eqb n 9 ≡ true) × (n ≡ 9)) ⊎ ((eqb n 9 ≡ false) × (n ≢ 9)) → IsPart old new (d.replies ++ saved_text)
+    at_nine some (inl h) = fails (e.failing h.1)
+    at_nine some (inr h) = part_of_all old new d.replies saved_text (e.part some h.1)
+
+    at_zero : ((eqb n 0 ≡ true) × (n ≡ 0)) ⊎ ((eqb n 0 ≡ false) × (n ≢ 0)) → IsPart old new (d.replies ++ saved_text)
+    at_zero (inl h) = part_all old new (d.replies ++ saved_text) (e.written h.1)
+    at_zero (inr h) = at_nine h.1 (eqb_tells n 9)
+
+-- the file stands for what its replica stands for
+kept_stands : (r : Result Seen CommandError) (s : Seen) (t : State) (kept : Option (List ℕ)) (new_file : Option (Option (List ℕ))) (too_long : Type 0) → (r ≡ Ok s) ⊎ (too_long × (r ≡ Err TooLarge)) → StandsFor s t → AreWritable s → IsKept r (Some kept) new_file → StandsIn new_file t
+kept_stands r s t kept new_file too_long (inl e) h w k =
+    let here : Stores (Some kept) new_file (bytes_over s) × IsReadBack s = subst (λ (x : Result Seen CommandError). IsKept x (Some kept) new_file) e k in
+    subst (λ (f : Option (Option (List ℕ))). StandsIn f t) (sym here.0) (stands_stored s t h (here.1 w))
+kept_stands r s t kept new_file too_long (inr e) h w k = absurd (subst (λ (x : Result Seen CommandError). IsKept x (Some kept) new_file) e.1 k)
+
+-- ---- all
+
+-- the replica that stands for the state was found
+found_serves : (n : ℕ) (s : Seen) (t : State) (bytes given : List ℕ) (kept : Option (List ℕ)) (new_file : Option (Option (List ℕ))) (old new : Option (List ℕ)) → IsSameCourse IsAlike (session s given) (session_in t given)
+    → Ends (due_of (session s given)) n (Some kept) new_file old new → Serves n bytes (session_in t given) new_file old new
+found_serves n s t bytes given kept new_file old new same e =
+    let c = session s given in
+    let f = session_in t given in
+    let k = same.states in
+    let ending = ending_or_long c in
+    record {
+      status = status ending e.status;
+      stored = λ z. kept_stands (due_of c).ending (c.state).state (f.state).state kept new_file _ ending k.stands k.writable (e.stored z);
+      written = λ z. subst (λ (r : List ℕ). Appends old new (r ++ saved_text)) same.replies (e.written z);
+      part = subst (λ (r : List ℕ). IsPart old new (r ++ saved_text)) same.replies (any_part (due_of c) n (Some kept) new_file old new e);
+    }
+  where
+    long : (input_limit < (session s given).used) ⊎ (file_limit < length (bytes_over ((session s given).state).state)) → IsTooLong bytes (session_in t given)
+    long (inl h) = inr (inl (subst (λ m. input_limit < m) same.used h))
+    long (inr h) = inr (inr (subst (λ (p : Parts). file_limit < length (file_bytes p)) (parts_alike ((session s given).state).state ((session_in t given).state).state (same.states).stands) h))
+
+    status : ((due_of (session s given)).ending ≡ Ok ((session s given).state).state) ⊎ (((input_limit < (session s given).used) ⊎ (file_limit < length (bytes_over ((session s given).state).state))) × ((due_of (session s given)).ending ≡ Err TooLarge))
+        → (n ≡ ending_status (due_of (session s given)).ending) ⊎ IsFault n → EndsWith n 0 (IsTooLong bytes (session_in t given))
+    status (inl h) (inl st) = inl (st ∙ ap ending_status h)
+    status (inr h) (inl st) = inr (inr (st ∙ ap ending_status h.1, long h.0))
+    status h (inr f) = inr (inl f)
+
+-- the kept file is too long
+long_serves : (n : ℕ) (t : State) (bytes given : List ℕ) (kept : Option (List ℕ)) (new_file : Option (Option (List ℕ))) (old new : Option (List ℕ)) → file_limit < length bytes → Ends (stops TooLarge) n (Some kept) new_file old new
+    → Serves n bytes (session_in t given) new_file old new
+long_serves n t bytes given kept new_file old new h e = record {
+  status = status e.status;
+  stored = λ z. absurd (e.stored z);
+  written = λ z. absurd (e.stored z);
+  part = from_none (none (eqb_tells n 0));
+}
+  where
+    status : (n ≡ 11) ⊎ IsFault n → EndsWith n 0 (IsTooLong bytes (session_in t given))
+    status (inl st) = inr (inr (st, inl h))
+    status (inr f) = inr (inl f)
+
+    fails : FailsAt (stops TooLarge) (Some kept) new_file old new → IsPart old new []
+    fails (inl k) = k.1
+    fails (inr k) = absurd k.0
+
+    nine : n ≢ 0 → ((eqb n 9 ≡ true) × (n ≡ 9)) ⊎ ((eqb n 9 ≡ false) × (n ≢ 9)) → IsPart old new []
+    nine some (inl z) = fails (e.failing z.1)
+    nine some (inr z) = e.part some z.1
+
+    none : ((eqb n 0 ≡ true) × (n ≡ 0)) ⊎ ((eqb n 0 ≡ false) × (n ≢ 0)) → IsPart old new []
+    none (inl z) = absurd (e.stored z.1)
+    none (inr z) = nine z.1 (eqb_tells n 9)
+
+    take_none : (k : ℕ) → ◌≡◌ {A = List ℕ} (take k []) []
+    take_none zero = refl
+    take_none (suc k) = refl
+
+    from_none : IsPart old new [] → IsPart old new ((session_in t given).replies ++ saved_text)
+    from_none p = (0, omega arith, subst (Appends old new) (take_none p.0) p.2)
+
+pub history_serves : (n : ℕ) (file new_file : Option (Option (List ℕ))) (left old new : Option (List ℕ)) (t : State) (bytes given : List ℕ) → IfSome (due file left) (λ d. Ends d n file new_file old new) → file ≡ Some (Some bytes) → IsFileFor bytes t
+    → left ≡ Some given → IsBytes given → Serves n bytes (session_in t given) new_file old new
+history_serves n file new_file left old new t bytes given e f stands l b = go (within_or_past file_limit (length bytes))
+  where
+    told : IfSome (due (Some (Some bytes)) (Some given)) (λ d. Ends d n (Some (Some bytes)) new_file old new)
+    told = subst (λ (x : Option (List ℕ)). IfSome (due (Some (Some bytes)) x) (λ d. Ends d n (Some (Some bytes)) new_file old new)) l (subst (λ (x : Option (Option (List ℕ))). IfSome (due x left) (λ d. Ends d n x new_file old new)) f e)
+
+    go : ((length bytes ≤ file_limit) × (ltb file_limit (length bytes) ≡ false)) ⊎ ((file_limit < length bytes) × (ltb file_limit (length bytes) ≡ true)) → Serves n bytes (session_in t given) new_file old new
+    go (inl h) =
+        let o = opened bytes t stands in
+        let found : replica_in (loaded (Some bytes)) ≡ Ok o.0 = rw (h.1) (o.1.found) in
+        found_serves n o.0 t bytes given (Some bytes) new_file old new (sessions_alike o.0 t given b o.1.stands o.1.sane o.1.writable)
+        (subst (λ (r : Result Seen CommandError). IfSome (due_on r (Some given)) (λ d. Ends d n (Some (Some bytes)) new_file old new)) found told)
+    go (inr h) =
+        let long : replica_in (loaded (Some bytes)) ≡ Err TooLarge = rw (h.1) refl in
+        long_serves n t bytes given (Some bytes) new_file old new h.0 (subst (λ (r : Result Seen CommandError). IfSome (due_on r (Some given)) (λ d. Ends d n (Some (Some bytes)) new_file old new)) long told)

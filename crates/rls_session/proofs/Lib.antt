@@ -1,0 +1,13 @@
+pub mod Courses
+pub mod Cuts
+pub mod Positions
+pub mod Reading
+pub mod Limits
+pub mod Found
+pub mod Loop
+pub mod Whole
+pub mod Answered
+pub mod Served
+pub mod Characters
+pub mod Agreeing
+pub mod Histories

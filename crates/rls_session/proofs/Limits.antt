@@ -1,0 +1,249 @@
+-- How far a session goes.
+use Rattle.std.proofs.Common.{◌≡◌, ◌∙◌, ◌+◌, ◌<◌, ◌≤◌, ℕ, zero, suc, Bool, true, false, cond, leb, List, [], ◌∷◌, ◌++◌, length, take, drop, Option, Some, None, refl, sym, ap, subst, arith, length-append, length-drop, length-take}
+use Rattle.std.specs.Prelude.{bytes_eq, codes, nat_le}
+use Rattle.std.specs.List.{position_or_len, before_first}
+use Rattle.std.specs.Str.{is_utf8}
+use Rattle.std.proofs.lemmas.Bool.Decides.{nat_tests}
+use Rattle.std.proofs.lemmas.Grind.{common_steps}
+use Rattle.std.proofs.lemmas.List.{take-append-le}
+use Rattle.std.proofs.lemmas.Slice.Eq.{bytes_eq-Decides}
+use Rattle.rls_script.proofs.LineEnds.{position_or_len_le}
+use Rattle.rls_script.specs.Scripts.{is_line_feed, line_of_text, number_of, parts_of}
+use Rattle.rls_script.specs.declared.lines.Line.{Line}
+use Rattle.rls_session.specs.declared.orders.Order.{Order}
+use Rattle.rls_session.specs.declared.orders.Order.TheVariants.{Undo, Place, Text, Take, Quit, Bad}
+use Rattle.rls_session.specs.Answering.{HasAll, LacksPart}
+use Rattle.rls_session.specs.Courses.{Course, go_on, course}
+use Rattle.rls_session.specs.Orders.{edit_or_bad, point_or_bad, take_or_bad, send_or_bad, member_of, order_of_letter, order_of_parts, order_of_words, order_of}
+use Rattle.rls_session.specs.Requests.{Request, Does, Takes, Cut, line_size, cut_after, with_line, cut}
+use Rattle.rls_session.proofs.Courses.{Answers, course_begins}
+use Rattle.rls_session.proofs.Positions.{clear_then, in_front, position_front}
+
+-- ---- the order to quit is one letter
+
+letter_quit : (bs : List ℕ) → order_of_letter bs ≡ Quit → length bs ≡ 1
+letter_quit bs e = go (bytes_eq bs (codes "u")) (bytes_eq bs (codes "p")) (bytes_eq bs (codes "t")) (bytes_eq bs (codes "q")) refl (line_of_text bs) e
+  where
+    go : (a b c d : Bool) → bytes_eq bs (codes "q") ≡ d → (l : Option Line) → cond a Undo (cond b Place (cond c Text (cond d Quit (edit_or_bad l)))) ≡ Quit → length bs ≡ 1
+    go true b c d t l e = cc
+    go false true c d t l e = cc
+    go false false true d t l e = cc
+    go false false false true t l e = ap length ((bytes_eq-Decides bs (codes "q")).0 t)
+    go false false false false t None e = cc
+    go false false false false t (Some x) e = cc
+
+parts_quit : (bs word others : List ℕ) → order_of_parts bs word others ≡ Quit → length bs ≡ 1
+parts_quit bs word others e = go (bytes_eq word (codes "k")) (bytes_eq word (codes "m")) (bytes_eq word (codes "s")) (number_of others) (member_of others) (line_of_text bs) e
+  where
+    go : (a b c : Bool) (n m : Option ℕ) (l : Option Line) → cond a (point_or_bad n) (cond b (take_or_bad n) (cond c (send_or_bad m) (edit_or_bad l))) ≡ Quit → length bs ≡ 1
+    go true b c None m l e = cc
+    go true b c (Some x) m l e = cc
+    go false true c None m l e = cc
+    go false true c (Some x) m l e = cc
+    go false false true n None l e = cc
+    go false false true n (Some x) l e = cc
+    go false false false n m None e = cc
+    go false false false n m (Some x) e = cc
+
+quit_letter : (bs : List ℕ) → order_of bs ≡ Quit → length bs ≡ 1
+unfolding order_of
+quit_letter bs e = go (is_utf8 bs) (parts_of bs) e
+  where
+    go : (b : Bool) (p : Option (List ℕ × List ℕ)) → cond b (order_of_words bs p) Bad ≡ Quit → length bs ≡ 1
+    go false p e = cc
+    go true None e = letter_quit bs e
+    go true (Some x) e = parts_quit bs x.0 x.1 e
+
+-- so its line has a byte
+pub quit_letter_size : (bytes : List ℕ) → order_of (before_first is_line_feed bytes) ≡ Quit → 1 ≤ position_or_len is_line_feed bytes
+quit_letter_size bytes e =
+    let one = quit_letter (before_first is_line_feed bytes) e in
+    let front = length-take (position_or_len is_line_feed bytes) bytes in
+    omega arith
+
+-- the first request, by the order of its line
+pub cut_is : (bytes : List ℕ) (order : Order) → order ≡ order_of (before_first is_line_feed bytes) → cut bytes ≡ with_line (line_size bytes) (cut_after order (drop (line_size bytes) bytes))
+unfolding cut
+cut_is bytes order e = rw e refl
+
+-- the request to quit comes of this order alone
+pub cut_quit : (order : Order) (rest : List ℕ) → (cut_after order rest).request ≡ Does Quit → order ≡ Quit
+cut_quit (Take n) rest e = go (nat_le n (length rest)) e
+  where
+    go : (b : Bool) → (cond {A = Cut} b (record { request = Takes (take n rest); size = n }) (record { request = Does Bad; size = length rest })).request ≡ Does Quit → Take n ≡ Quit
+    go true e = cc
+    go false e = cc
+cut_quit Quit rest e = refl
+cut_quit order rest e = cc
+
+-- ---- what is used at least
+
+used_most : {S : Type 0} (answer : Answers S) (s : S) (bytes : List ℕ) (k : ℕ) → 0 < length bytes → ((cut bytes).request ≡ Does Quit → k ≤ 1) → k ≤ (cut bytes).size → k ≤ (course answer s bytes).used
+used_most {S} answer s bytes k some quit other =
+    subst (λ (c : Course S). k ≤ c.used) (sym (course_begins answer s bytes some)) (go (cut bytes).request (cut bytes).size (λ t. course answer t (drop (cut bytes).size bytes)) quit other)
+  where
+    go : (r : Request) (n : ℕ) (f : S → Course S) → (r ≡ Does Quit → k ≤ 1) → k ≤ n → k ≤ (go_on answer s r n f).used
+    go (Does Quit) n f q o = q refl
+    go (Does order) n f q o = omega arith
+    go (Takes message) n f q o = omega arith
+
+-- where no whole line waits, at least what waits
+pub used_no_line : {S : Type 0} (answer : Answers S) (s : S) (waiting rest : List ℕ) → position_or_len is_line_feed waiting ≡ length waiting → length waiting ≤ (course answer s (waiting ++ rest)).used
+unfolding cut
+used_no_line answer s [] rest none = omega arith
+used_no_line answer s (w ∷ ws) rest none =
+    let bytes = (w ∷ ws) ++ rest in
+    let p = position_or_len is_line_feed bytes in
+    let far : p ≡ length (w ∷ ws) + position_or_len is_line_feed rest = clear_then is_line_feed (w ∷ ws) rest none in
+    let len = length-append (w ∷ ws) rest in
+    let front = length-take p bytes in
+    used_most answer s bytes (length (w ∷ ws)) (omega arith)
+    (λ q. let one = quit_letter (before_first is_line_feed bytes) (cut_quit (order_of (before_first is_line_feed bytes)) (drop (line_size bytes) bytes) q) in omega arith)
+    (omega arith)
+
+-- where the message of the first line doesn't wait whole, at least the line and what waits
+pub used_no_message : {S : Type 0} (answer : Answers S) (s : S) (bytes waiting rest : List ℕ) (n : ℕ) → 0 < length bytes → order_of (before_first is_line_feed bytes) ≡ Take n → drop (line_size bytes) bytes ≡ waiting ++ rest → length waiting < n
+    → line_size bytes + length waiting ≤ (course answer s bytes).used
+unfolding cut
+used_no_message answer s bytes waiting rest n some is behind short =
+    used_most answer s bytes (line_size bytes + length waiting) some
+    (λ q. let no = cut_quit (order_of (before_first is_line_feed bytes)) (drop (line_size bytes) bytes) q in absurd (take_not_quit (sym is ∙ no)))
+    (subst (λ (o : Order). line_size bytes + length waiting ≤ line_size bytes + (cut_after o (drop (line_size bytes) bytes)).size) (sym is) (go (nat_le n (length (drop (line_size bytes) bytes)))))
+  where
+    take_not_quit : Take n ≡ Quit → ⊥
+    take_not_quit e = cc
+
+    go : (b : Bool) → line_size bytes + length waiting ≤ line_size bytes + (cond {A = Cut} b (record { request = Takes (take n (drop (line_size bytes) bytes)); size = n }) (record { request = Does Bad; size = length (drop (line_size bytes) bytes) })).size
+    go true = omega arith
+    go false = let len : length (drop (line_size bytes) bytes) ≡ length waiting + length rest = ap length behind ∙ length-append waiting rest in omega arith
+
+-- at least the first line, without its line feed
+pub used_line : {S : Type 0} (answer : Answers S) (s : S) (bytes : List ℕ) → position_or_len is_line_feed bytes ≤ (course answer s bytes).used
+unfolding cut
+used_line answer s [] = omega arith
+used_line answer s (b ∷ bytes) =
+    let all = b ∷ bytes in
+    let p = position_or_len is_line_feed all in
+    let le = position_or_len_le is_line_feed all in
+    let front = length-take p all in
+    used_most answer s all p (omega arith)
+    (λ q. let one = quit_letter (before_first is_line_feed all) (cut_quit (order_of (before_first is_line_feed all)) (drop (line_size all) all) q) in omega arith)
+    (omega arith)
+
+-- all of the first request, unless it is to quit
+pub used_request : {S : Type 0} (answer : Answers S) (s : S) (bytes : List ℕ) (order : Order) → 0 < length bytes → order ≡ order_of (before_first is_line_feed bytes) → (order ≡ Quit → ⊥)
+    → line_size bytes + (cut_after order (drop (line_size bytes) bytes)).size ≤ (course answer s bytes).used
+used_request answer s bytes order some is other =
+    let c = cut_is bytes order is in
+    let n = line_size bytes + (cut_after order (drop (line_size bytes) bytes)).size in
+    let size : (cut bytes).size ≡ n = ap (λ (x : Cut). x.size) c in
+    used_most answer s bytes n some
+    (λ q. absurd (other (cut_quit order (drop (line_size bytes) bytes) (sym (ap (λ (x : Cut). x.request) c) ∙ q))))
+    (omega arith)
+
+-- ---- the same bytes with others after them
+
+-- a request has no more bytes than there are
+after_within : (order : Order) (rest : List ℕ) → (cut_after order rest).size ≤ length rest
+after_within (Take n) rest = go (nat_le n (length rest)) refl
+  where
+    go : (b : Bool) → nat_le n (length rest) ≡ b → (cond {A = Cut} b (record { request = Takes (take n rest); size = n }) (record { request = Does Bad; size = length rest })).size ≤ length rest
+    go true t = let h : n ≤ length rest = grind (arith, nat_tests) in h
+    go false t = omega arith
+after_within order rest = omega arith
+
+pub size_within : (order : Order) (bytes : List ℕ) → line_size bytes + (cut_after order (drop (line_size bytes) bytes)).size ≤ length bytes
+size_within order bytes =
+    let k = after_within order (drop (line_size bytes) bytes) in
+    let d = length-drop (line_size bytes) bytes in
+    omega arith
+
+pub drop_front : (n : ℕ) (bytes x : List ℕ) → n ≤ length bytes → drop n (take n bytes ++ x) ≡ x
+drop_front n bytes x h =
+    let len : length (take n bytes) ≡ n = omega (arith, length-take n bytes) in
+    subst (λ (k : ℕ). drop k (take n bytes ++ x) ≡ x) len (drop-append-length (take n bytes) x)
+  where
+    drop-append-length : (xs ys : List ℕ) → drop (length xs) (xs ++ ys) ≡ ys
+    drop-append-length xs ys = grind (arith, common_steps)
+
+-- a line that has its line feed
+record Fed (bytes ys : List ℕ) : Type 0 where
+  size : line_size ys ≡ line_size bytes
+  first : before_first is_line_feed ys ≡ before_first is_line_feed bytes
+  there : position_or_len is_line_feed ys < length ys
+
+fed_front : (bytes x : List ℕ) (n : ℕ) → position_or_len is_line_feed bytes < length bytes → line_size bytes ≤ n → n ≤ length bytes → Fed bytes (take n bytes ++ x)
+fed_front bytes x n fed least most =
+    let p = position_or_len is_line_feed bytes in
+    let len : length (take n bytes) ≡ n = omega (arith, length-take n bytes) in
+    let at : position_or_len is_line_feed (take n bytes) ≡ p = position_front is_line_feed n bytes (omega arith) most in
+    let there : position_or_len is_line_feed (take n bytes ++ x) ≡ p = in_front is_line_feed (take n bytes) x (omega arith) ∙ at in
+    let within : p ≤ length (take n bytes) = omega arith in
+    let short : p ≤ n = omega arith in
+    record {
+      size = let l = length-append (take n bytes) x in omega arith;
+      there = let l = length-append (take n bytes) x in omega arith;
+      first = ap (λ k. take k (take n bytes ++ x)) there ∙ take-append-le p (take n bytes) x within ∙ take_take p n bytes short;
+    }
+  where
+    take_take : (p n : ℕ) (bytes : List ℕ) → p ≤ n → take p (take n bytes) ≡ take p bytes
+    take_take zero n bytes h = refl
+    take_take (suc p) zero bytes h = absurd (omega arith)
+    take_take (suc p) (suc n) [] h = refl
+    take_take (suc p) (suc n) (b ∷ bytes) h = ap (λ (l : List ℕ). b ∷ l) (take_take p n bytes (omega arith))
+
+-- what follows it
+after_front : (bytes x : List ℕ) (size k : ℕ) → size + k ≤ length bytes → drop size (take (size + k) bytes ++ x) ≡ take k (drop size bytes) ++ x
+after_front bytes x zero k h = refl_zero
+  where
+    refl_zero : take (zero + k) bytes ++ x ≡ take k bytes ++ x
+    refl_zero = ap (λ n. take n bytes ++ x) (omega arith)
+after_front [] x (suc size) k h = absurd (omega arith)
+after_front (b ∷ bytes) x (suc size) k h = ap (λ n. drop (suc size) (take n (b ∷ bytes) ++ x)) more ∙ after_front bytes x size k (omega arith)
+  where
+    more : suc size + k ≡ suc (size + k)
+    more = omega arith
+
+-- the request of an order
+after_same : (order : Order) (rest x : List ℕ) → HasAll order rest → cut_after order (take (cut_after order rest).size rest ++ x) ≡ cut_after order rest
+after_same (Take n) rest x h =
+    let whole : leb n (length rest) ≡ true = grind (arith, nat_tests) in
+    rw whole (at whole)
+  where
+    all_taken : (n : ℕ) (xs : List ℕ) → length xs ≤ n → take n xs ≡ xs
+    all_taken n xs h = grind (arith, common_steps)
+
+    at : leb n (length rest) ≡ true → cut_after (Take n) (take n rest ++ x) ≡ record { request = Takes (take n rest); size = n }
+    at whole =
+        let len : length (take n rest) ≡ n = omega (arith, length-take n rest) in
+        let there : leb n (length (take n rest ++ x)) ≡ true = let l = length-append (take n rest) x in let m : n ≤ length (take n rest ++ x) = omega arith in grind (arith, nat_tests) in
+        let same : take n (take n rest ++ x) ≡ take n rest = take-append-le n (take n rest) x (omega arith) ∙ all_taken n (take n rest) (omega arith) in
+        rw there (ap (λ (l : List ℕ). record { request = Takes l; size = n }) same)
+after_same order rest x h = refl
+
+-- a request that is whole stays so, whatever follows it
+pub cut_front : (bytes x : List ℕ) (order : Order) → order ≡ order_of (before_first is_line_feed bytes) → position_or_len is_line_feed bytes < length bytes → HasAll order (drop (line_size bytes) bytes)
+    → let k = cut_after order (drop (line_size bytes) bytes) in cut (take (line_size bytes + k.size) bytes ++ x) ≡ with_line (line_size bytes) k
+cut_front bytes x order is fed whole =
+    let size = line_size bytes in
+    let rest = drop size bytes in
+    let k = cut_after order rest in
+    let ys = take (size + k.size) bytes ++ x in
+    let f = fed_front bytes x (size + k.size) fed (omega arith) (size_within order bytes) in
+    let behind : drop (line_size ys) ys ≡ take k.size rest ++ x = ap (λ n. drop n ys) f.size ∙ after_front bytes x size k.size (size_within order bytes) in
+    cut_is ys order (is ∙ ap order_of (sym f.first)) ∙ ap (λ n. with_line n (cut_after order (drop (line_size ys) ys))) f.size ∙ ap (λ (l : List ℕ). with_line size (cut_after order l)) behind ∙ ap (with_line size) (after_same order rest x whole)
+
+-- and one that isn't, as far as it is there
+pub lacks_more : (bytes waiting : List ℕ) (order : Order) → order ≡ order_of (before_first is_line_feed bytes) → position_or_len is_line_feed bytes < length bytes → LacksPart order waiting
+    → let ys = take (line_size bytes) bytes ++ waiting in (position_or_len is_line_feed ys < length ys) × LacksPart (order_of (before_first is_line_feed ys)) (drop (line_size ys) ys)
+lacks_more bytes waiting order is fed lacks =
+    let size = line_size bytes in
+    let ys = take size bytes ++ waiting in
+    let few : size ≤ length bytes = omega arith in
+    let f = fed_front bytes waiting size fed (omega arith) few in
+    let l = length-append (take size bytes) waiting in
+    let m = length-take size bytes in
+    let behind : drop (line_size ys) ys ≡ waiting = ap (λ n. drop n ys) f.size ∙ drop_front size bytes waiting few in (
+      f.there,
+      subst (λ (o : Order). LacksPart o (drop (line_size ys) ys)) (is ∙ ap order_of (sym f.first)) (subst (LacksPart order) (sym behind) lacks),
+    )

@@ -1,0 +1,497 @@
+-- How a session ends, from its parts.
+use Rattle.std.proofs.Common.{◌≡◌, ◌≢◌, ◌∙◌, ◌⊎◌, ◌<◌, ◌≤◌, ◌||◌, ◌==◌, ℕ, Bool, true, false, eqb, ltb, List, [], ◌++◌, length, take, Option, Some, None, IfSome, IfErr, IfOk, Result, Ok, Err, refl, sym, ap, subst, arith, inl, inr, lit<, append_assoc}
+use Rattle.std.proofs.lemmas.Bool.Decides.{nat_tests}
+use Rattle.std.proofs.lemmas.Grind.{common_steps}
+use Rattle.std.proofs.lemmas.List.{append-nil}
+use Rattle.rls_io.specs.Device.{Appends, Keeps, Rose, Stores}
+use Rattle.rls_seen.specs.Seen.{Seen}
+use Rattle.rls_report.specs.declared.failures.CommandError.{CommandError}
+use Rattle.rls_report.specs.declared.failures.CommandError.TheVariants as errors
+use Rattle.rls_report.specs.declared.failures.Fault.TheVariants.{Keeper, Source, Sink, Memory}
+use Rattle.rls_report.specs.declared.failures.Failure.{Failure}
+use Rattle.rls_report.specs.declared.failures.Failure.TheVariants.{NoCommand, Command, Fault}
+use Rattle.rls_report.specs.Failures.{error_status}
+use Rattle.rls_stages.specs.declared.errors.OpenError.{OpenError}
+use Rattle.rls_stages.specs.declared.errors.OpenError.TheVariants as opening
+use Rattle.rls_stages.specs.declared.errors.WorkError.{WorkError}
+use Rattle.rls_stages.specs.declared.errors.WorkError.TheVariants as work
+use Rattle.rls_stages.specs.Endings.{IsFailureStatus, IsFault, IsPart, Writes, failure_line_at}
+use Rattle.rls_stages.specs.Errors.{GivesError, of_open, of_work}
+use Rattle.rls_stages.specs.KeptFile.{IsReadBack, IsUsable, Stays, bytes_over, loaded, replica_in, saved}
+use Rattle.rls_session.specs.declared.answering.AnswerError.{AnswerError}
+use Rattle.rls_session.specs.declared.answering.AnswerError.TheVariants.{SourceFault, SinkFault, TooLarge, OutOfMemory}
+use Rattle.rls_session.specs.Answering.{IsDone, IsNear, of_answer}
+use Rattle.rls_session.specs.Answers.{Sitting}
+use Rattle.rls_session.specs.Courses.{Course}
+use Rattle.rls_session.specs.Due.{Due, due, due_of, due_on, ending_status, line_at}
+use Rattle.rls_session.specs.Endings.{Ends, EndsAs, EndsNear, FailsAt, IsEarly, IsKept, IsStatusOf, Leaves, OnSession, Saves, line_of}
+use Rattle.rls_session.specs.Intake.{input_limit}
+use Rattle.rls_session.specs.Replies.{saved_text}
+use Rattle.rls_session.specs.Sessions.{session}
+
+-- ---- lists and files
+
+pub keeps_same : {A : Type 0} (a : Option A) → Keeps a a
+keeps_same None = tt
+keeps_same (Some x) = refl
+
+keeps_on : {A : Type 0} (a b c : Option A) → Keeps a b → Keeps b c → Keeps a c
+keeps_on None b c h k = tt
+keeps_on {A} (Some x) b c h k = subst (λ (o : Option A). Keeps o c) h k
+
+-- the file is as it was
+pub stays_on : (old mid new : Option (Option (List ℕ))) → Keeps old mid → Keeps new mid → Stays old new
+stays_on None mid new h k = tt
+stays_on (Some kept) mid None h k = tt
+stays_on (Some kept) mid (Some now) h k = let same : Some now ≡ Some kept = sym k ∙ h in cc
+
+pub stays_so : (old new : Option (Option (List ℕ))) → Keeps old new → Stays old new
+stays_so None new h = tt
+stays_so (Some kept) None h = tt
+stays_so (Some kept) (Some now) h = cc
+
+-- nothing was written
+pub part_none : (old : Option (List ℕ)) (bytes : List ℕ) → IsPart old old bytes
+part_none None bytes = (0, omega arith, tt)
+part_none (Some xs) bytes = (0, omega arith, ap (λ (l : List ℕ). Some l) (sym (append-nil xs)))
+
+-- all was written
+pub part_all : (old new : Option (List ℕ)) (bytes : List ℕ) → Appends old new bytes → IsPart old new bytes
+part_all old new bytes h = (length bytes, omega arith, subst (Appends old new) (sym front) h)
+  where
+    front : take (length bytes) bytes ≡ bytes
+    front = grind (arith, common_steps)
+
+-- more was written
+appends_more : (old mid new : Option (List ℕ)) (xs ys : List ℕ) → Appends old mid xs → Appends mid new ys → Appends old new (xs ++ ys)
+appends_more None mid new xs ys h k = tt
+appends_more (Some zs) mid new xs ys h k = subst (λ (m : Option (List ℕ)). Appends m new ys) h k ∙ ap (λ (l : List ℕ). Some l) (append_assoc zs xs ys)
+
+-- ---- storing
+
+-- there is no file to store
+pub unsaved : (e : WorkError) (r : Result Seen CommandError) (file new_file : Option (Option (List ℕ))) (old : Option (List ℕ)) → GivesError (of_work e) r → Saves (Err (of_work e)) r file new_file old old
+unsaved (work.Command e) r file new_file old h = (h, refl)
+unsaved work.OutOfMemory r file new_file old h = (tt, refl)
+
+-- it is stored
+pub is_kept : (s : Seen) (r : Result Seen CommandError) (bytes : List ℕ) (file new_file : Option (Option (List ℕ))) → r ≡ Ok s → bytes ≡ bytes_over s → IsReadBack s → Stores file new_file bytes → IsKept r file new_file
+is_kept s r bytes file new_file is same back stored = rw is (subst (Stores file new_file) same stored, back)
+
+pub saved_all : (s : Seen) (r : Result Seen CommandError) (bytes : List ℕ) (file new_file : Option (Option (List ℕ))) (old new : Option (List ℕ)) → r ≡ Ok s → bytes ≡ bytes_over s → IsReadBack s → Stores file new_file bytes → Appends old new saved_text
+    → Saves (Ok tt) r file new_file old new
+saved_all s r bytes file new_file old new is same back stored wrote = (is_kept s r bytes file new_file is same back stored, wrote)
+
+pub saved_part : (s : Seen) (r : Result Seen CommandError) (e : AnswerError) (bytes : List ℕ) (file new_file : Option (Option (List ℕ))) (old new : Option (List ℕ)) → e ≡ SinkFault → r ≡ Ok s → bytes ≡ bytes_over s → IsReadBack s
+    → Stores file new_file bytes → IsPart old new saved_text → Saves (Err (of_answer e)) r file new_file old new
+saved_part s r e bytes file new_file old new sink is same back stored wrote = rw sink (is_kept s r bytes file new_file is same back stored, wrote)
+
+-- ---- what is left
+
+ending_is : (c : Course (Sitting Seen)) → c.used ≤ input_limit → (due_of c).ending ≡ saved (c.state).state
+ending_is c h = let test : ltb input_limit c.used ≡ false = grind (arith, nat_tests) in rw test refl
+
+ending_long : (c : Course (Sitting Seen)) → input_limit < c.used → (due_of c).ending ≡ Err errors.TooLarge
+ending_long c h = let test : ltb input_limit c.used ≡ true = grind (arith, nat_tests) in rw test refl
+
+-- the session ended before the file was to be stored
+answer_leaves : (e : AnswerError) (c : Course (Sitting Seen)) (file : Option (Option (List ℕ))) (old new : Option (List ℕ)) → (e ≡ TooLarge → input_limit < c.used) → IsPart old new c.replies → Leaves (Err (of_answer e)) (due_of c) file file old new
+answer_leaves SourceFault c file old new long part = (tt, part)
+answer_leaves SinkFault c file old new long part = inl (keeps_same file, part)
+answer_leaves TooLarge c file old new long part = (ending_long c (long refl), part)
+answer_leaves OutOfMemory c file old new long part = (tt, part)
+
+pub answers_leave : (e : AnswerError) (s : Seen) (input : Option (List ℕ)) (file : Option (Option (List ℕ))) (old new : Option (List ℕ)) → (e ≡ TooLarge → IfSome input (λ given. input_limit < (session s given).used))
+    → IfSome input (λ given. IsPart old new (session s given).replies) → IfSome input (λ given. Leaves (Err (of_answer e)) (due_of (session s given)) file file old new)
+answers_leave e s None file old new long part = tt
+answers_leave e s (Some given) file old new long part = answer_leaves e (session s given) file old new long part
+
+-- the file was to be stored
+save_leaves : (r : Result (Unit {0}) Failure) (c : Course (Sitting Seen)) (s : Seen) (file new_file : Option (Option (List ℕ))) (old mid new : Option (List ℕ)) → (c.state).state ≡ s → c.used ≤ input_limit → Appends old mid c.replies
+    → r ≢ Err (Fault Source) → Saves r (saved s) file new_file mid new → Leaves r (due_of c) file new_file old new
+save_leaves r c s file new_file old mid new at within wrote inner saves = go r inner saves
+  where
+    ending : (due_of c).ending ≡ saved s
+    ending = ending_is c within ∙ ap saved at
+
+    kept : IsKept (saved s) file new_file → IsKept (due_of c).ending file new_file
+    kept h = subst (λ (x : Result Seen CommandError). IsKept x file new_file) (sym ending) h
+
+    same_end : (f : Failure) → EndsAs f (saved s) → EndsAs f (due_of c).ending
+    same_end f h = subst (EndsAs f) (sym ending) h
+
+    part : new ≡ mid → IsPart old new c.replies
+    part same = part_all old new c.replies (subst (λ (m : Option (List ℕ)). Appends old m c.replies) (sym same) wrote)
+
+    go : (r : Result (Unit {0}) Failure) → r ≢ Err (Fault Source) → Saves r (saved s) file new_file mid new → Leaves r (due_of c) file new_file old new
+    go (Ok u) inner h = (kept h.0, appends_more old mid new c.replies saved_text wrote h.1)
+    go (Err (Fault Sink)) inner h = inr (kept h.0, (h.1.0, h.1.1, appends_more old mid new c.replies (take h.1.0 saved_text) wrote h.1.2))
+    go (Err NoCommand) inner h = absurd h.0
+    go (Err (Command e)) inner h = (same_end (Command e) h.0, part h.1)
+    go (Err (Fault Keeper)) inner h = (tt, part h.1)
+    go (Err (Fault Source)) inner h = (tt, part h.1)
+    go (Err (Fault Memory)) inner h = (tt, part h.1)
+
+pub saves_leave : (r : Result (Unit {0}) Failure) (first : Seen) (d : Sitting Seen) (s : Seen) (input : Option (List ℕ)) (file new_file : Option (Option (List ℕ))) (old mid new : Option (List ℕ)) → s ≡ d.state
+    → IfSome input (λ given. IsDone (session first given) d old mid) → r ≢ Err (Fault Source) → Saves r (saved s) file new_file mid new → IfSome input (λ given. Leaves r (due_of (session first given)) file new_file old new)
+saves_leave r first d s None file new_file old mid new at done inner saves = tt
+saves_leave r first d s (Some given) file new_file old mid new at done inner saves =
+    save_leaves r (session first given) s file new_file old mid new (ap (λ (x : Sitting Seen). x.state) done.state_is ∙ sym at) done.within done.written inner saves
+
+-- ---- the kept file
+
+-- what holds whatever is called for
+for_all : (d : Option Due) (P : Due → Type 0) → ((d : Due) → P d) → IfSome d P
+for_all None P f = tt
+for_all (Some d) P f = f d
+
+-- the file can't be used
+pub open_leaves : (file : Option (Option (List ℕ))) (left : Option (List ℕ)) (e : OpenError) (new_file : Option (Option (List ℕ))) (old : Option (List ℕ)) → IfSome file (λ kept. GivesError (of_open e) (replica_in (loaded kept)))
+    → IfSome (due file left) (λ d. Leaves (Err (of_open e)) d file new_file old old)
+open_leaves None left e new_file old h = tt
+open_leaves (Some kept) left (opening.Command e) new_file old h = rw h (refl, part_none old [])
+open_leaves (Some kept) left opening.KeeperFault new_file old h = for_all (due_on (replica_in (loaded kept)) left) _ (λ d. (tt, part_none old d.replies))
+open_leaves (Some kept) left opening.OutOfMemory new_file old h = for_all (due_on (replica_in (loaded kept)) left) _ (λ d. (tt, part_none old d.replies))
+
+-- it was used
+leaves_as : (r : Result (Unit {0}) Failure) (d : Due) (old_file file new_file : Option (Option (List ℕ))) (old new : Option (List ℕ)) → Keeps old_file file → Leaves r d file new_file old new → Leaves r d old_file new_file old new
+leaves_as r d old_file file new_file old new same h = go r h
+  where
+    kept : (r : Result Seen CommandError) → IsKept r file new_file → IsKept r old_file new_file
+    kept (Ok s) k = (stored old_file same, k.1)
+      where
+        stored : (o : Option (Option (List ℕ))) → Keeps o file → Stores o new_file (bytes_over s)
+        stored None e = tt
+        stored (Some x) e = subst (λ (f : Option (Option (List ℕ))). Stores f new_file (bytes_over s)) e k.0
+    kept (Err e) k = absurd k
+
+    fails : FailsAt d file new_file old new → FailsAt d old_file new_file old new
+    fails (inl k) = inl (keeps_on old_file file new_file same k.0, k.1)
+    fails (inr k) = inr (kept d.ending k.0, k.1)
+
+    go : (r : Result (Unit {0}) Failure) → Leaves r d file new_file old new → Leaves r d old_file new_file old new
+    go (Ok u) h = (kept d.ending h.0, h.1)
+    go (Err (Fault Sink)) h = fails h
+    go (Err NoCommand) h = absurd h.0
+    go (Err (Command e)) h = h
+    go (Err (Fault Keeper)) h = h
+    go (Err (Fault Source)) h = h
+    go (Err (Fault Memory)) h = h
+
+pub opened_leaves : (r : Result (Unit {0}) Failure) (s : Seen) (old_file file new_file : Option (Option (List ℕ))) (left old new : Option (List ℕ)) → IfSome old_file (λ kept. replica_in (loaded kept) ≡ Ok s) → Keeps old_file file
+    → IfSome left (λ given. Leaves r (due_of (session s given)) file new_file old new) → IfSome (due old_file left) (λ d. Leaves r d old_file new_file old new)
+opened_leaves r s None file new_file left old new found same h = tt
+opened_leaves r s (Some kept) file new_file None old new found same h = rw found tt
+opened_leaves r s (Some kept) file new_file (Some given) old new found same h = rw found (leaves_as r (due_of (session s given)) (Some kept) file new_file old new same h)
+
+-- and so it can be
+pub opened_usable : (file : Option (Option (List ℕ))) (s : Seen) → IfSome file (λ kept. replica_in (loaded kept) ≡ Ok s) → IfSome file IsUsable
+opened_usable None s h = tt
+opened_usable (Some kept) s h = rw h refl
+
+pub usable_only : (file : Option (Option (List ℕ))) (X : Type 0) → IfSome file IsUsable → IfSome file (λ kept. (IsUsable kept → ⊥) → X)
+usable_only None X h = tt
+usable_only (Some kept) X h = λ none. absurd (none h)
+
+pub unused : (file : Option (Option (List ℕ))) (X : Type 0) → X → IfSome file (λ kept. (IsUsable kept → ⊥) → X)
+unused None X h = tt
+unused (Some kept) X h = λ none. h
+
+-- ---- which status is whose
+
+abbrev is_error : ℕ → Bool
+is_error n = (n == 2) || ((n == 3) || ((n == 4) || ((n == 6) || (n == 11))))
+
+error_is : (e : CommandError) → is_error (error_status e) ≡ true
+error_is errors.NoReplica = refl
+error_is errors.ReplicaExists = refl
+error_is (errors.Damaged at) = refl
+error_is (errors.BadMembers n) = refl
+error_is (errors.BadMe n) = refl
+error_is (errors.NotMember n) = refl
+error_is (errors.BadLine n) = refl
+error_is (errors.Malformed at) = refl
+error_is (errors.OtherGroup g n) = refl
+error_is (errors.Edit n f) = refl
+error_is errors.TooLarge = refl
+
+-- no error has another status
+not_error : {X : Type 0} (e : CommandError) (n k : ℕ) → n ≡ error_status e → n ≡ k → is_error k ≡ false → X
+not_error e n k s h none = let yes : is_error k ≡ true = subst (λ m. is_error m ≡ true) (sym s ∙ h) (error_is e) in let never : true ≡ false = sym yes ∙ none in cc
+
+-- two numbers that aren't the same
+apart : {X : Type 0} (n j k : ℕ) → n ≡ j → n ≡ k → eqb j k ≡ false → X
+apart n j k s h none = let yes : eqb j k ≡ true = subst (λ m. eqb j m ≡ true) (sym s ∙ h) (same j) in let never : true ≡ false = sym yes ∙ none in cc
+  where
+    same : (m : ℕ) → eqb m m ≡ true
+    same m = grind (arith, nat_tests)
+
+-- ---- at a status
+
+pub fault_of : (r : Result (Unit {0}) Failure) (n : ℕ) → IsStatusOf r n → (n ≡ 7 → r ≡ Err (Fault Keeper)) × (n ≡ 8 → r ≡ Err (Fault Source)) × (n ≡ 9 → r ≡ Err (Fault Sink))
+fault_of (Ok u) n s = (λ h. apart n 0 7 s h refl, λ h. apart n 0 8 s h refl, λ h. apart n 0 9 s h refl)
+fault_of (Err NoCommand) n (inl s) = (λ h. apart n 1 7 s h refl, λ h. apart n 1 8 s h refl, λ h. apart n 1 9 s h refl)
+fault_of (Err NoCommand) n (inr s) = (λ h. apart n 10 7 s h refl, λ h. apart n 10 8 s h refl, λ h. apart n 10 9 s h refl)
+fault_of (Err (Command e)) n (inl s) = (λ h. not_error e n 7 s h refl, λ h. not_error e n 8 s h refl, λ h. not_error e n 9 s h refl)
+fault_of (Err (Command e)) n (inr s) = (λ h. apart n 10 7 s h refl, λ h. apart n 10 8 s h refl, λ h. apart n 10 9 s h refl)
+fault_of (Err (Fault Keeper)) n s = (λ h. refl, λ h. apart n 7 8 s h refl, λ h. apart n 7 9 s h refl)
+fault_of (Err (Fault Source)) n s = (λ h. apart n 8 7 s h refl, λ h. refl, λ h. apart n 8 9 s h refl)
+fault_of (Err (Fault Sink)) n s = (λ h. apart n 9 7 s h refl, λ h. apart n 9 8 s h refl, λ h. refl)
+fault_of (Err (Fault Memory)) n s = (λ h. apart n 10 7 s h refl, λ h. apart n 10 8 s h refl, λ h. apart n 10 9 s h refl)
+
+-- an end before all was done isn't that of the output
+pub unstored_so : (r : Result (Unit {0}) Failure) (n : ℕ) (X : Type 0) → IsStatusOf r n → IfErr r (λ f. f ≢ Fault Sink → X) → n ≢ 0 → n ≢ 9 → X
+unstored_so (Ok u) n X s h some other = absurd (some s)
+unstored_so (Err f) n X s h some other = h (λ is. other (subst (λ (g : Failure). IsFailureStatus g n) is s))
+
+pub early_so : (r : Result (Unit {0}) Failure) (n : ℕ) (X : Type 0) → IsStatusOf r n → IfErr r (λ f. IsEarly f → X) → n ≢ 0 → n ≢ 7 → n ≢ 9 → n ≢ 10 → X
+early_so (Ok u) n X s h a b c d = absurd (a s)
+early_so (Err NoCommand) n X s h a b c d = h tt
+early_so (Err (Command e)) n X s h a b c d = h tt
+early_so (Err (Fault Keeper)) n X s h a b c d = absurd (b s)
+early_so (Err (Fault Source)) n X s h a b c d = h tt
+early_so (Err (Fault Sink)) n X s h a b c d = absurd (c s)
+early_so (Err (Fault Memory)) n X s h a b c d = absurd (d s)
+
+below_twelve : (e : CommandError) → error_status e < 12
+below_twelve errors.NoReplica = lit< tt
+below_twelve errors.ReplicaExists = lit< tt
+below_twelve (errors.Damaged at) = lit< tt
+below_twelve (errors.BadMembers n) = lit< tt
+below_twelve (errors.BadMe n) = lit< tt
+below_twelve (errors.NotMember n) = lit< tt
+below_twelve (errors.BadLine n) = lit< tt
+below_twelve (errors.Malformed at) = lit< tt
+below_twelve (errors.OtherGroup g n) = lit< tt
+below_twelve (errors.Edit n f) = lit< tt
+below_twelve errors.TooLarge = lit< tt
+
+at_most : (n m : ℕ) → n ≡ m → m < 12 → n < 12
+at_most n m e h = subst (λ k. k < 12) (sym e) h
+
+pub no_other : (r : Result (Unit {0}) Failure) (n : ℕ) → IsStatusOf r n → n < 12
+no_other (Ok u) n s = at_most n 0 s (lit< tt)
+no_other (Err NoCommand) n (inl s) = at_most n 1 s (lit< tt)
+no_other (Err NoCommand) n (inr s) = at_most n 10 s (lit< tt)
+no_other (Err (Command e)) n (inl s) = at_most n (error_status e) s (below_twelve e)
+no_other (Err (Command e)) n (inr s) = at_most n 10 s (lit< tt)
+no_other (Err (Fault Keeper)) n s = at_most n 7 s (lit< tt)
+no_other (Err (Fault Source)) n s = at_most n 8 s (lit< tt)
+no_other (Err (Fault Sink)) n s = at_most n 9 s (lit< tt)
+no_other (Err (Fault Memory)) n s = at_most n 10 s (lit< tt)
+
+-- ---- what is called for
+
+-- a replica is stored, so the status that is called for is 0
+kept_status : (r : Result Seen CommandError) (file new_file : Option (Option (List ℕ))) → IsKept r file new_file → 0 ≡ ending_status r
+kept_status (Ok s) file new_file h = refl
+kept_status (Err e) file new_file h = absurd h
+
+ends_before : (d : Due) (n m : ℕ) (file new_file : Option (Option (List ℕ))) (old new : Option (List ℕ)) → n ≡ m → eqb m 0 ≡ false → eqb m 9 ≡ false → (n ≡ ending_status d.ending) ⊎ IsFault n → IsPart old new d.replies → Ends d n file new_file old new
+ends_before d n m file new_file old new s none other status part = record {
+  status = status;
+  written = λ h. apart n m 0 s h none;
+  stored = λ h. apart n m 0 s h none;
+  part = λ a b. part;
+  failing = λ h. apart n m 9 s h other;
+}
+
+ends_so : (r : Result (Unit {0}) Failure) (n : ℕ) (d : Due) (file new_file : Option (Option (List ℕ))) (old new : Option (List ℕ)) → IsStatusOf r n → Leaves r d file new_file old new → Ends d n file new_file old new
+ends_so (Ok u) n d file new_file old new s h = record {
+  status = inl (s ∙ kept_status d.ending file new_file h.0);
+  written = λ e. h.1;
+  stored = λ e. h.0;
+  part = λ a b. absurd (a s);
+  failing = λ e. apart n 0 9 s e refl;
+}
+ends_so (Err NoCommand) n d file new_file old new s h = absurd h.0
+ends_so (Err (Command e)) n d file new_file old new (inl s) h = record {
+  status = inl (s ∙ sym (ap ending_status h.0));
+  written = λ k. not_error e n 0 s k refl;
+  stored = λ k. not_error e n 0 s k refl;
+  part = λ a b. h.1;
+  failing = λ k. not_error e n 9 s k refl;
+}
+ends_so (Err (Command e)) n d file new_file old new (inr s) h = ends_before d n 10 file new_file old new s refl refl (inr (inr (inr (inr s)))) h.1
+ends_so (Err (Fault Keeper)) n d file new_file old new s h = ends_before d n 7 file new_file old new s refl refl (inr (inl s)) h.1
+ends_so (Err (Fault Source)) n d file new_file old new s h = ends_before d n 8 file new_file old new s refl refl (inr (inr (inl s))) h.1
+ends_so (Err (Fault Memory)) n d file new_file old new s h = ends_before d n 10 file new_file old new s refl refl (inr (inr (inr (inr s)))) h.1
+ends_so (Err (Fault Sink)) n d file new_file old new s h = record {
+  status = inr (inr (inr (inl s)));
+  written = λ e. apart n 9 0 s e refl;
+  stored = λ e. apart n 9 0 s e refl;
+  part = λ a b. absurd (b s);
+  failing = λ e. h;
+}
+
+-- what holds of what is called for in one way holds in another
+for_due : (d : Option Due) (P Q : Due → Type 0) → ((d : Due) → P d → Q d) → IfSome d P → IfSome d Q
+for_due None P Q f h = tt
+for_due (Some d) P Q f h = f d h
+
+pub ends_due : (d : Option Due) (r : Result (Unit {0}) Failure) (n : ℕ) (file new_file : Option (Option (List ℕ))) (old new : Option (List ℕ)) → IsStatusOf r n → IfSome d (λ d. Leaves r d file new_file old new)
+    → IfSome d (λ d. Ends d n file new_file old new)
+ends_due d r n file new_file old new s h = for_due d (λ d. Leaves r d file new_file old new) (λ d. Ends d n file new_file old new) (λ d k. ends_so r n d file new_file old new s k) h
+
+-- ---- the line
+
+-- nothing is told of a session that ends well
+no_line : (P : List ℕ → Type 0) (d : Option Due) (file new_file : Option (Option (List ℕ))) (old new : Option (List ℕ)) → IfSome d (λ d. IsKept d.ending file new_file × Appends old new (d.replies ++ saved_text)) → P [] → IfSome (line_at d 0) P
+no_line P None file new_file old new h line = tt
+no_line P (Some d) file new_file old new h line = go d.ending h.0
+  where
+    go : (r : Result Seen CommandError) → IsKept r file new_file → IfSome (line_at (Some (record { replies = d.replies; ending = r })) 0) P
+    go (Ok s) k = line
+    go (Err e) k = absurd k
+
+-- at the status that it has
+at_status : (P : List ℕ → Type 0) (d : Option Due) (f : Failure) (n m : ℕ) → n ≡ m → P (failure_line_at f n) → (P (failure_line_at f m) → IfSome (line_at d m) P) → IfSome (line_at d n) P
+at_status P d f n m e line more = subst (λ (k : ℕ). IfSome (line_at d k) P) (sym e) (more (subst (λ (k : ℕ). P (failure_line_at f k)) e line))
+
+-- of an error
+error_line_so : (P : List ℕ → Type 0) (d : Option Due) (e : CommandError) → IfSome d (λ d. d.ending ≡ Err e) → P (failure_line_at (Command e) (error_status e)) → IfSome (line_at d (error_status e)) P
+error_line_so P None e h line = go e line
+  where
+    go : (e : CommandError) → P (failure_line_at (Command e) (error_status e)) → IfSome (line_at None (error_status e)) P
+    go errors.TooLarge l = l
+    go errors.NoReplica l = tt
+    go errors.ReplicaExists l = tt
+    go (errors.Damaged at) l = tt
+    go (errors.BadMembers n) l = tt
+    go (errors.BadMe n) l = tt
+    go (errors.NotMember n) l = tt
+    go (errors.BadLine n) l = tt
+    go (errors.Malformed at) l = tt
+    go (errors.OtherGroup g n) l = tt
+    go (errors.Edit n f) l = tt
+error_line_so P (Some d) e h line = subst (λ (x : Result Seen CommandError). IfSome (line_at (Some (record { replies = d.replies; ending = x })) (error_status e)) P) (sym h) (go e line)
+  where
+    go : (e : CommandError) → P (failure_line_at (Command e) (error_status e)) → IfSome (line_at (Some (record { replies = d.replies; ending = Err e })) (error_status e)) P
+    go errors.NoReplica l = l
+    go errors.ReplicaExists l = l
+    go (errors.Damaged at) l = l
+    go (errors.BadMembers n) l = l
+    go (errors.BadMe n) l = l
+    go (errors.NotMember n) l = l
+    go (errors.BadLine n) l = l
+    go (errors.Malformed at) l = l
+    go (errors.OtherGroup g n) l = l
+    go (errors.Edit n f) l = l
+    go errors.TooLarge l = l
+
+failed_line : (P : List ℕ → Type 0) (d : Option Due) (f : Failure) (n : ℕ) (file new_file : Option (Option (List ℕ))) (old new : Option (List ℕ)) → IsFailureStatus f n → IfSome d (λ d. Leaves (Err f) d file new_file old new)
+    → P (failure_line_at f n) → IfSome (line_at d n) P
+failed_line P d NoCommand n file new_file old new (inl s) h line = at_status P d NoCommand n 1 s line (λ l. l)
+failed_line P d NoCommand n file new_file old new (inr s) h line = at_status P d NoCommand n 10 s line (λ l. l)
+failed_line P d (Command e) n file new_file old new (inl s) h line =
+    at_status P d (Command e) n (error_status e) s line (error_line_so P d e (for_due d (λ d. Leaves (Err (Command e)) d file new_file old new) (λ d. d.ending ≡ Err e) (λ d k. k.0) h))
+failed_line P d (Command e) n file new_file old new (inr s) h line = at_status P d (Command e) n 10 s line (λ l. l)
+failed_line P d (Fault Keeper) n file new_file old new s h line = at_status P d (Fault Keeper) n 7 s line (λ l. l)
+failed_line P d (Fault Source) n file new_file old new s h line = at_status P d (Fault Source) n 8 s line (λ l. l)
+failed_line P d (Fault Sink) n file new_file old new s h line = at_status P d (Fault Sink) n 9 s line (λ l. l)
+failed_line P d (Fault Memory) n file new_file old new s h line = at_status P d (Fault Memory) n 10 s line (λ l. l)
+
+pub line_so : (P : List ℕ → Type 0) (d : Option Due) (r : Result (Unit {0}) Failure) (n : ℕ) (file new_file : Option (Option (List ℕ))) (old new : Option (List ℕ)) → IsStatusOf r n → IfSome d (λ d. Leaves r d file new_file old new)
+    → P (line_of r n) → IfSome (line_at d n) P
+line_so P d (Ok u) n file new_file old new s h line = subst (λ (k : ℕ). IfSome (line_at d k) P) (sym s) (no_line P d file new_file old new h line)
+line_so P d (Err f) n file new_file old new s h line = failed_line P d f n file new_file old new s h line
+
+-- nothing is written
+pub nothing_written : (old : Option (List ℕ)) → Appends old old []
+nothing_written None = tt
+nothing_written (Some xs) = ap (λ (l : List ℕ). Some l) (sym (append-nil xs))
+
+-- ---- how far the input is read
+
+-- it isn't read
+pub unread_near : (file : Option (Option (List ℕ))) (left : Option (List ℕ)) → EndsNear file left left
+unread_near None left = tt
+unread_near (Some kept) left = go left (replica_in (loaded kept))
+  where
+    go : (left : Option (List ℕ)) (r : Result Seen CommandError) → IfOk r (λ s. IfSome left (λ given. IsNear given left (session s given).used))
+    go None (Ok s) = tt
+    go (Some given) (Ok s) = omega arith
+    go left (Err e) = tt
+
+-- by the replica of the file
+pub on_session : (file : Option (Option (List ℕ))) (left : Option (List ℕ)) (s : Seen) (P : Seen → List ℕ → Type 0) → IfSome file (λ kept. replica_in (loaded kept) ≡ Ok s) → IfSome left (P s) → OnSession file left P
+on_session None left s P found h = tt
+on_session (Some kept) left s P found h = rw found h
+
+-- ---- errors of the stages
+
+-- an end, as a session tells it
+abbrev ended : Failure → Result (Unit {0}) Failure
+ended f = Err f
+
+-- the file of the replica isn't made
+pub work_inner : (e : WorkError) (f : Failure) → f ≡ of_work e → (ended f ≢ ended (Fault Keeper)) × (ended f ≢ ended (Fault Source)) × (ended f ≢ ended (Fault Sink))
+work_inner (work.Command e) f is = (
+  λ h. let same : f ≡ Fault Keeper = cc in let never : Command e ≡ Fault Keeper = sym is ∙ same in cc,
+  λ h. let same : f ≡ Fault Source = cc in let never : Command e ≡ Fault Source = sym is ∙ same in cc,
+  λ h. let same : f ≡ Fault Sink = cc in let never : Command e ≡ Fault Sink = sym is ∙ same in cc,
+)
+work_inner work.OutOfMemory f is = (
+  λ h. let same : f ≡ Fault Keeper = cc in let never : Fault Memory ≡ Fault Keeper = sym is ∙ same in cc,
+  λ h. let same : f ≡ Fault Source = cc in let never : Fault Memory ≡ Fault Source = sym is ∙ same in cc,
+  λ h. let same : f ≡ Fault Sink = cc in let never : Fault Memory ≡ Fault Sink = sym is ∙ same in cc,
+)
+
+-- answering fails for the input or the output
+pub answer_failed : (e : AnswerError) (f : Failure) → f ≡ of_answer e → (ended f ≢ ended (Fault Keeper)) × (ended f ≡ ended (Fault Source) → e ≡ SourceFault) × (ended f ≡ ended (Fault Sink) → e ≡ SinkFault)
+answer_failed SourceFault f is = (
+  λ h. let same : f ≡ Fault Keeper = cc in let never : Fault Source ≡ Fault Keeper = sym is ∙ same in cc,
+  λ h. refl,
+  λ h. let same : f ≡ Fault Sink = cc in let never : Fault Source ≡ Fault Sink = sym is ∙ same in cc,
+)
+answer_failed SinkFault f is = (
+  λ h. let same : f ≡ Fault Keeper = cc in let never : Fault Sink ≡ Fault Keeper = sym is ∙ same in cc,
+  λ h. let same : f ≡ Fault Source = cc in let never : Fault Sink ≡ Fault Source = sym is ∙ same in cc,
+  λ h. refl,
+)
+answer_failed TooLarge f is = (
+  λ h. let same : f ≡ Fault Keeper = cc in let never : Command errors.TooLarge ≡ Fault Keeper = sym is ∙ same in cc,
+  λ h. let same : f ≡ Fault Source = cc in let never : Command errors.TooLarge ≡ Fault Source = sym is ∙ same in cc,
+  λ h. let same : f ≡ Fault Sink = cc in let never : Command errors.TooLarge ≡ Fault Sink = sym is ∙ same in cc,
+)
+answer_failed OutOfMemory f is = (
+  λ h. let same : f ≡ Fault Keeper = cc in let never : Fault Memory ≡ Fault Keeper = sym is ∙ same in cc,
+  λ h. let same : f ≡ Fault Source = cc in let never : Fault Memory ≡ Fault Source = sym is ∙ same in cc,
+  λ h. let same : f ≡ Fault Sink = cc in let never : Fault Memory ≡ Fault Sink = sym is ∙ same in cc,
+)
+
+-- how opening fails
+pub open_failed : (e : OpenError) (f : Failure) → f ≡ of_open e → (ended f ≡ ended (Fault Keeper) → e ≡ opening.KeeperFault) × (ended f ≢ ended (Fault Source)) × (ended f ≢ ended (Fault Sink))
+open_failed (opening.Command e) f is = (
+  λ h. let same : f ≡ Fault Keeper = cc in let never : Command e ≡ Fault Keeper = sym is ∙ same in cc,
+  λ h. let same : f ≡ Fault Source = cc in let never : Command e ≡ Fault Source = sym is ∙ same in cc,
+  λ h. let same : f ≡ Fault Sink = cc in let never : Command e ≡ Fault Sink = sym is ∙ same in cc,
+)
+open_failed opening.KeeperFault f is = (
+  λ h. refl,
+  λ h. let same : f ≡ Fault Source = cc in let never : Fault Keeper ≡ Fault Source = sym is ∙ same in cc,
+  λ h. let same : f ≡ Fault Sink = cc in let never : Fault Keeper ≡ Fault Sink = sym is ∙ same in cc,
+)
+open_failed opening.OutOfMemory f is = (
+  λ h. let same : f ≡ Fault Keeper = cc in let never : Fault Memory ≡ Fault Keeper = sym is ∙ same in cc,
+  λ h. let same : f ≡ Fault Source = cc in let never : Fault Memory ≡ Fault Source = sym is ∙ same in cc,
+  λ h. let same : f ≡ Fault Sink = cc in let never : Fault Memory ≡ Fault Sink = sym is ∙ same in cc,
+)
+
+-- ---- what stays of the file
+
+pub stays_err : (r : Result (Unit {0}) Failure) (file mid new : Option (Option (List ℕ))) → Keeps file mid → IfErr r (λ f. f ≢ Fault Sink → Keeps new mid) → IfErr r (λ f. f ≢ Fault Sink → Stays file new)
+stays_err (Ok u) file mid new k h = tt
+stays_err (Err f) file mid new k h = λ other. stays_on file mid new k (h other)
+
+pub early_err : (r : Result (Unit {0}) Failure) (file mid new : Option (Option (List ℕ))) → Keeps file mid → IfErr r (λ f. IsEarly f → Keeps mid new) → IfErr r (λ f. IsEarly f → Keeps file new)
+early_err (Ok u) file mid new k h = tt
+early_err (Err f) file mid new k h = λ early. keeps_on file mid new k (h early)
+
+-- nothing is told
+pub told_none : (r : Result (Unit {0}) Failure) (u : Unit {0}) (fails : Type 0) (old : Option (List ℕ)) → r ≡ Ok u → Writes fails old old (line_of r 0)
+told_none r u fails old is = rw is (inl (nothing_written old))
+
+-- a count that rose later on
+pub rose_later : (a b c : ℕ) → a ≤ b → b ≤ c → Rose b c → Rose a c
+rose_later a b c h k rose = λ same. let top = rose (omega (arith, h, k, same)) in omega (arith, h, k, same, top)

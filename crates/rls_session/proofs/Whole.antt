@@ -1,0 +1,133 @@
+-- Nothing that a session goes back to is dropped.
+use Rattle.std.proofs.Common.{◌≡◌, ◌∙◌, ◌++◌, ℕ, suc, zero, List, [], ◌∷◌, length, take, Option, Some, None, Result, Ok, Err, OnOk, OnErr, true, false, refl, sym, subst, ◌-◌}
+use Rattle.std.specs.Prelude.{IsTrue, IsFalse, slice_get}
+use Rattle.rls_ident.specs.declared.epoch_name.EpochName.{EpochName}
+use Rattle.rls_ops.specs.declared.op.Body.{Body}
+use Rattle.rls_ops.specs.declared.op.Body.TheVariants.{Insert, Delete, Rename, Leave}
+use Rattle.rls_rename.proofs.Kept.{greatest_kept}
+use Rattle.rls_model.specs.declared.edit.Edit.{Edit}
+use Rattle.rls_model.specs.declared.edit.EditError.{EditError}
+use Rattle.rls_seen.specs.Edits.{made_over}
+use Rattle.rls_seen.specs.Seen.{Seen, greatest_over, text_over}
+use Rattle.rls_replica.specs.Names.{KeepsNames, keeps}
+use Rattle.rls_undo.specs.declared.entry.Entry.{Entry}
+use Rattle.rls_undo.specs.declared.undo.Undone.{Undone}
+use Rattle.rls_undo.specs.declared.undo.UndoError.{UndoError}
+use Rattle.rls_undo.specs.Plans.{entries_by, epoch_in, gone_by}
+use Rattle.rls_undo.specs.Undoing.{entries_over, epoch_of, last_of, without_last}
+use Rattle.rls_anchor.specs.declared.anchor.Anchor.{Anchor}
+use Rattle.rls_anchor.specs.declared.anchor.Anchor.TheVariants.{Beginning, After}
+use Rattle.rls_anchor.specs.AnchorLaws.{IsAnchored}
+use Rattle.rls_anchor.specs.Anchors.{anchor_over}
+use Rattle.rls_anchor.specs.Anchors as anchors
+use Rattle.rls_anchor.proofs.Places.{made_kept}
+use Rattle.rls_session.specs.Desks.{AreUndoable, IsWhole, sitting_of}
+
+-- ---- entries
+
+-- after more has happened
+pub undoable_on : (s n : Seen) (es : List Entry) → KeepsNames s n → AreUndoable s es → AreUndoable n es
+undoable_on s n [] k h = tt
+undoable_on s n (e ∷ es) k h = (k (epoch_in e) h.0, undoable_on s n es k h.1)
+
+pub undoable_more : (s : Seen) (es fs : List Entry) → AreUndoable s es → AreUndoable s fs → AreUndoable s (es ++ fs)
+undoable_more s [] fs h k = k
+undoable_more s (e ∷ es) fs h k = (h.0, undoable_more s es fs h.1 k)
+
+pub undoable_front : (s : Seen) (n : ℕ) (es : List Entry) → AreUndoable s es → AreUndoable s (take n es)
+undoable_front s zero es h = tt
+undoable_front s (suc n) [] h = tt
+undoable_front s (suc n) (e ∷ es) h = (h.0, undoable_front s n es h.1)
+
+-- one of them
+undoable_at : (s : Seen) (es : List Entry) (i : ℕ) (entry : Entry) → slice_get es i ≡ Some entry → AreUndoable s es → IsTrue (keeps s (epoch_in entry))
+undoable_at s [] i entry e h = absurd cc
+undoable_at s (x ∷ es) zero entry e h = let same : x ≡ entry = cc in subst (λ (y : Entry). IsTrue (keeps s (epoch_in y))) same h.0
+undoable_at s (x ∷ es) (suc i) entry e h = undoable_at s es i entry e h.1
+
+pub last_undoable : (s : Seen) (es : List Entry) (entry : Entry) → last_of es ≡ Some entry → AreUndoable s es → IsTrue (keeps s (epoch_in entry))
+last_undoable s es entry e h = undoable_at s es (length es - 1) entry e h
+
+-- those of an edit
+by_body : (s : Seen) (b : Body) (gone : List ℕ) → AreUndoable s (entries_by (greatest_over s) b gone)
+by_body s (Insert first text) gone = (greatest_kept s.epochs.top s.epochs.nodes, tt)
+by_body s (Delete []) gone = tt
+by_body s (Delete (x ∷ xs)) gone = (greatest_kept s.epochs.top s.epochs.nodes, tt)
+by_body s (Rename former) gone = tt
+by_body s Leave gone = tt
+
+pub entries_undoable : (s : Seen) (edit : Edit) → AreUndoable s (entries_over s edit)
+unfolding entries_over made_over
+entries_undoable s edit = by_body s (made_over s edit).body (gone_by edit (text_over s))
+
+-- ---- the cursor
+
+anchored_on : (s n : Seen) (a : Anchor) → KeepsNames s n → IsAnchored s a → IsAnchored n a
+anchored_on s n Beginning k h = tt
+anchored_on s n (After e x) k h = k e h
+
+-- ---- all
+
+-- after more has happened
+pub whole_on : (s n : Seen) (es : List Entry) (a : Anchor) → KeepsNames s n → IsWhole (sitting_of s es a) → IsWhole (sitting_of n es a)
+whole_on s n es a k h = record { undoable = undoable_on s n es k h.undoable; anchored = anchored_on s n a k h.anchored }
+
+-- after an edit
+pub whole_edited : (s n : Seen) (es fs : List Entry) (a : Anchor) (edit : Edit) → KeepsNames s n → fs ≡ es ++ entries_over s edit → IsWhole (sitting_of s es a) → IsWhole (sitting_of n fs a)
+whole_edited s n es fs a edit k is h =
+    record {
+      undoable = subst (AreUndoable n) (sym is) (undoable_on s n (es ++ entries_over s edit) k (undoable_more s es (entries_over s edit) h.undoable (entries_undoable s edit)));
+      anchored = anchored_on s n a k h.anchored;
+    }
+
+-- after an undo
+pub whole_undone : (s n : Seen) (es fs : List Entry) (a : Anchor) → KeepsNames s n → fs ≡ without_last es → IsWhole (sitting_of s es a) → IsWhole (sitting_of n fs a)
+whole_undone s n es fs a k is h =
+    record { undoable = subst (AreUndoable n) (sym is) (undoable_on s n (without_last es) k (undoable_front s (length es - 1) es h.undoable)); anchored = anchored_on s n a k h.anchored }
+
+-- with the same entries, or none
+pub whole_as : (s n : Seen) (es fs : List Entry) (a : Anchor) → KeepsNames s n → fs ≡ es → IsWhole (sitting_of s es a) → IsWhole (sitting_of n fs a)
+whole_as s n es fs a k is h = subst (λ (xs : List Entry). IsWhole (sitting_of n xs a)) (sym is) (whole_on s n es a k h)
+
+-- with a cursor that was just made
+pub whole_pointed : (s : Seen) (es : List Entry) (a b : Anchor) (at : ℕ) → b ≡ anchor_over s at → IsWhole (sitting_of s es a) → IsWhole (sitting_of s es b)
+whole_pointed s es a b at is h = record { undoable = h.undoable; anchored = subst (IsAnchored s) (sym is) (made_kept s at) }
+
+-- at the start
+pub whole_first : (s : Seen) (es : List Entry) → es ≡ [] → IsWhole (sitting_of s es Beginning)
+whole_first s es is = record { undoable = subst (AreUndoable s) (sym is) tt; anchored = tt }
+
+-- after an edit that was made or refused
+pub whole_made : (r : Result ℕ EditError) (s n : Seen) (es fs : List Entry) (a : Anchor) (edit : Edit) → KeepsNames s n → OnOk r (fs ≡ es ++ entries_over s edit) → OnErr r (fs ≡ es) → IsWhole (sitting_of s es a) → IsWhole (sitting_of n fs a)
+whole_made (Ok x) s n es fs a edit k made stays h = whole_edited s n es fs a edit k made h
+whole_made (Err e) s n es fs a edit k made stays h = whole_as s n es fs a k stays h
+
+-- the entries of an undo that was made to its end or wasn't
+pub undoable_undone : (r : Result Undone UndoError) (s n : Seen) (es fs : List Entry) → KeepsNames s n → OnOk r (fs ≡ without_last es) → OnErr r (fs ≡ es) → AreUndoable s es → AreUndoable n fs
+undoable_undone (Ok u) s n es fs k made stays h = subst (AreUndoable n) (sym made) (undoable_on s n (without_last es) k (undoable_front s (length es - 1) es h))
+undoable_undone (Err e) s n es fs k made stays h = subst (AreUndoable n) (sym stays) (undoable_on s n es k h)
+
+pub whole_with : (s n : Seen) (es fs : List Entry) (a : Anchor) → KeepsNames s n → AreUndoable n fs → IsWhole (sitting_of s es a) → IsWhole (sitting_of n fs a)
+whole_with s n es fs a k u h = record { undoable = u; anchored = anchored_on s n a k h.anchored }
+
+-- ---- nothing is dropped
+
+kept_not : (s : Seen) (e : EpochName) → keeps s e ≡ true → IsFalse (keeps s e) → ⊥
+kept_not s e k d = let both : true ≡ false = sym k ∙ d in cc
+
+-- the epoch of the last entry
+pub undo_not_dropped : (s : Seen) (es : List Entry) (e : EpochName) → AreUndoable s es → epoch_of (last_of es) ≡ Some e → IsFalse (keeps s e) → ⊥
+undo_not_dropped s es e h is d = go (last_of es) refl is
+  where
+    go : (o : Option Entry) → last_of es ≡ o → epoch_of o ≡ Some e → ⊥
+    go None l is = cc
+    go (Some entry) l is =
+        let same : epoch_in entry ≡ e = cc in
+        kept_not s e (subst (λ (x : EpochName). keeps s x ≡ true) same (last_undoable s es entry l h)) d
+
+-- the epoch of the cursor
+pub place_not_dropped : (s : Seen) (a : Anchor) (e : EpochName) → IsAnchored s a → anchors.epoch_of a ≡ Some e → IsFalse (keeps s e) → ⊥
+place_not_dropped s Beginning e h is d = cc
+place_not_dropped s (After f x) e h is d =
+    let same : f ≡ e = cc in
+    kept_not s e (subst (λ (y : EpochName). keeps s y ≡ true) same h) d

@@ -1,0 +1,42 @@
+use Rattle.std.proofs.Common.{IfSome, Err, ap, subst, sym}
+use Rattle.rls_report.specs.declared.failures.Failure.{Failure}
+use Rattle.rls_session.specs.Due.{due_of}
+use Rattle.rls_session.specs.Endings.{Leaves}
+use Rattle.rls_session.specs.Sessions.{session}
+use Rattle.rls_session.proofs.Served.{answer_failed, answers_leave, keeps_same, rose_later, saves_leave}
+use Rattle.rls_session.proofs.serving.answer_on.Goals as goal
+
+pub returns-in-Err-clause-leaves : goal.returns-in-Err-clause-leaves
+returns-in-Err-clause-leaves g c =
+    let input = g.S.Source.left c.args.input.now in
+    let file = g.K.Keeper.file c.args.keeper.now in
+    let old = g.W.Sink.told c.args.output.now in
+    let new = g.W.Sink.told c.answer_all.new.output in
+    subst (λ (f : Failure). IfSome input (λ given. Leaves (Err f) (due_of (session c.args.replica given)) file file old new)) (sym c.from.ensures)
+    (answers_leave c.in-Err.error c.args.replica input file old new (λ e. rw c.new-desk.ensures.sitting at (c.in-Err.ensures.too_large (ap Err e))) (rw c.new-desk.ensures.sitting at c.in-Err.ensures.part))
+
+pub returns-in-Err-clause-stays : goal.returns-in-Err-clause-stays
+returns-in-Err-clause-stays g c = λ other. keeps_same (g.K.Keeper.file c.args.keeper.now)
+
+pub returns-in-Err-clause-early : goal.returns-in-Err-clause-early
+returns-in-Err-clause-early g c = λ early. keeps_same (g.K.Keeper.file c.args.keeper.now)
+
+pub returns-in-Err-clause-keeper : goal.returns-in-Err-clause-keeper
+returns-in-Err-clause-keeper g c = λ e. absurd ((answer_failed c.in-Err.error c.from.result c.from.ensures).0 e)
+
+pub returns-in-Err-clause-input : goal.returns-in-Err-clause-input
+returns-in-Err-clause-input g c = λ e. c.in-Err.ensures.input (ap Err ((answer_failed c.in-Err.error c.from.result c.from.ensures).1 e))
+
+pub returns-in-Err-clause-output : goal.returns-in-Err-clause-output
+returns-in-Err-clause-output g c = λ e. c.in-Err.ensures.output (ap Err ((answer_failed c.in-Err.error c.from.result c.from.ensures).2 e))
+
+pub returns-in-Err-clause-prompt : goal.returns-in-Err-clause-prompt
+returns-in-Err-clause-prompt g c = λ e. rw c.new-desk.ensures.sitting at (c.in-Err.ensures.prompt (ap Err ((answer_failed c.in-Err.error c.from.result c.from.ensures).1 e)))
+
+pub returns-clause-leaves : goal.returns-clause-leaves
+returns-clause-leaves g c =
+    saves_leave c.save.result c.args.replica c.answer_all.new.desk c.replica.result.now (g.S.Source.left c.args.input.now) (g.K.Keeper.file c.args.keeper.now) (g.K.Keeper.file c.save.new.keeper)
+    (g.W.Sink.told c.args.output.now) (g.W.Sink.told c.answer_all.new.output) (g.W.Sink.told c.save.new.output) c.replica.ensures.replica (rw c.new-desk.ensures.sitting at c.in-Ok.ensures.done) c.save.ensures.inner c.save.ensures.saves
+
+pub returns-clause-output : goal.returns-clause-output
+returns-clause-output g c = λ e. rose_later _ _ _ c.in-Ok.ensures.never_falls c.save.ensures.output_never_falls (c.save.ensures.output e)

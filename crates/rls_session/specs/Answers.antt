@@ -1,0 +1,148 @@
+-- What a session answers to a request, and what it changes.
+use Rattle.std.specs.Prelude.{ℕ, Bool, ◌&&◌, ◌==◌, ◌++◌, List, [], length, encode_utf8_all, codes, nat_lt, Option, Some, None, Result, Ok, Err, if◌then◌else◌}
+use Rattle.rls_codec.specs.Reading.{message_of}
+use Rattle.rls_ops.specs.declared.message.Message.{Message}
+use Rattle.rls_ops.specs.Spelling.{message_bytes}
+use Rattle.rls_model.specs.declared.edit.Edit.{Edit}
+use Rattle.rls_model.specs.declared.edit.EditError.{EditError}
+use Rattle.rls_model.specs.Machine.{Stage}
+use Rattle.rls_report.specs.declared.failures.LineFault.{LineFault}
+use Rattle.rls_report.specs.declared.failures.LineFault.TheVariants as faults
+use Rattle.rls_report.specs.declared.failures.CommandError.TheVariants.{NotMember, Malformed, OtherGroup}
+use Rattle.rls_report.specs.Reports.{take_text}
+use Rattle.rls_script.specs.declared.lines.Line.{Line}
+use Rattle.rls_stages.specs.Lines.{line_by, line_fault}
+use Rattle.rls_undo.specs.declared.entry.Entry.{Entry}
+use Rattle.rls_undo.specs.Undoing.{undone_by, last_of, without_last}
+use Rattle.rls_anchor.specs.declared.anchor.Anchor.{Anchor}
+use Rattle.rls_anchor.specs.declared.anchor.Anchor.TheVariants.{Beginning}
+use Rattle.rls_session.specs.declared.orders.Order.{Order}
+use Rattle.rls_session.specs.declared.orders.Order.TheVariants as orders
+use Rattle.rls_session.specs.Requests.{Request, Does, Takes}
+use Rattle.rls_session.specs.Courses.{Answered, Course, course}
+use Rattle.rls_session.specs.Replies.{ok_text, undone_text, nothing_text, cursor_text, bytes_text, refused_text, failed_text, bad_text}
+
+-- what a session asks of a state, and how it changes one, whatever states are
+pub record Kind (X : Type 0) : Type 0 where
+  -- why an edit is refused, if it is; the state after one that isn't; the number of its operation
+  pub fault : X → Edit → Option EditError
+  pub edited : X → Edit → X
+  pub number : X → ℕ
+  -- what is kept of an edit, so that it can be undone
+  pub entries : X → Edit → List Entry
+  -- the edits that undo an entry; the first refusal among edits; the state after those before it
+  pub planned : X → Entry → List Edit
+  pub refusal : X → List Edit → Option EditError
+  pub performed : X → List Edit → X
+  -- the state after waiting operations are released until none is ready
+  pub released : X → X
+  -- the text
+  pub text : X → List ℕ
+  -- the anchor at a place, and the place of one
+  pub anchor : X → ℕ → Anchor
+  pub place : X → Anchor → ℕ
+  -- the group, and the count of its members
+  pub group : X → ℕ
+  pub members : X → ℕ
+  -- what comes of a message, and the message for a member
+  pub taken : X → Message → Stage X
+  pub message : X → ℕ → Message
+
+-- a state, what undoes the edits of this session, and the cursor
+pub record Sitting (X : Type 0) : Type 0 where
+  pub state : X
+  pub entries : List Entry
+  pub cursor : Anchor
+
+-- the one at the start of a session
+abbrev pub sitting_at : {X : Type 0} → X → Sitting X
+sitting_at s = record { state = s; entries = []; cursor = Beginning }
+
+-- this is answered, and this is the sitting after it
+abbrev pub says : {X : Type 0} → List ℕ → Sitting X → Answered (Sitting X)
+says reply d = record { reply = reply; state = d }
+
+-- the same at this state
+abbrev pub with_state : {X : Type 0} → Sitting X → X → Sitting X
+with_state d s = record { state = s; entries = d.entries; cursor = d.cursor }
+
+-- ---- edits
+
+-- an edit that is allowed is made
+abbrev pub edited : {X : Type 0} → Kind X → Sitting X → Result Edit LineFault → Answered (Sitting X)
+edited K d (Ok edit) = says (ok_text (K.number d.state)) (record { state = K.edited d.state edit; entries = d.entries ++ K.entries d.state edit; cursor = d.cursor })
+edited K d (Err fault) = says (refused_text fault) d
+
+-- the edit that a line means, or its fault
+abbrev pub read_line : {X : Type 0} → Kind X → X → Line → Result Edit LineFault
+read_line K s line = line_by K.fault K.text s line
+
+-- ---- undoing
+
+-- the planned edits are made, up to the first that is refused
+abbrev pub undone_by_plan : {X : Type 0} → Kind X → Sitting X → List Edit → Option EditError → Answered (Sitting X)
+undone_by_plan K d plan None = says (undone_text (undone_by plan).edits (undone_by plan).chars) (record { state = K.performed d.state plan; entries = without_last d.entries; cursor = d.cursor })
+undone_by_plan K d plan (Some e) = says (refused_text (line_fault e)) (with_state d (K.performed d.state plan))
+
+-- the last entry is undone, if there is one
+abbrev pub undone : {X : Type 0} → Kind X → Sitting X → Option Entry → Answered (Sitting X)
+undone K d None = says nothing_text d
+undone K d (Some entry) = undone_by_plan K d (K.planned d.state entry) (K.refusal d.state (K.planned d.state entry))
+
+-- after an edit and after an undo, accepted or not, waiting operations are released until none is ready
+abbrev pub rested : {X : Type 0} → Kind X → Answered (Sitting X) → Answered (Sitting X)
+rested K a = says a.reply (with_state a.state (K.released (a.state).state))
+
+-- ---- the cursor
+
+-- the cursor is put to a place, unless that lies past the end
+abbrev pub pointed : {X : Type 0} → Kind X → Sitting X → ℕ → Answered (Sitting X)
+pointed K d at =
+    if nat_lt (length (K.text d.state)) at then says (refused_text (faults.Range at (length (K.text d.state)))) d
+    else says (cursor_text at) (record { state = d.state; entries = d.entries; cursor = K.anchor d.state at })
+
+-- ---- messages
+
+-- the message is of this group and of as many members
+abbrev pub is_for : {X : Type 0} → Kind X → X → Message → Bool
+is_for K s m = (m.group == K.group s) && (m.members == K.members s)
+
+-- a message was taken
+abbrev pub taken_at : {X : Type 0} → Sitting X → Stage X → Answered (Sitting X)
+taken_at d p = says (take_text p.counts.applied p.counts.released p.counts.repeated p.counts.held (length p.counts.refused)) (with_state d p.state)
+
+-- the message, or the place of its first fault
+abbrev pub taken : {X : Type 0} → Kind X → Sitting X → Result Message ℕ → Answered (Sitting X)
+taken K d (Ok m) = if is_for K d.state m then taken_at d (K.taken d.state m) else says (failed_text (OtherGroup m.group m.members)) d
+taken K d (Err at) = says (failed_text (Malformed at)) d
+
+-- the message for a member
+abbrev pub sent : {X : Type 0} → Kind X → X → ℕ → List ℕ
+sent K s to = if nat_lt to (K.members s) then bytes_text (codes "message") (message_bytes (K.message s to)) else failed_text (NotMember to)
+
+-- ---- the text
+
+abbrev pub text_reply : {X : Type 0} → Kind X → X → List ℕ
+text_reply K s = bytes_text (codes "text") (encode_utf8_all (K.text s))
+
+-- ---- all
+
+-- an order to quit, and one to take what isn't there, are never answered
+abbrev pub done : {X : Type 0} → Kind X → Sitting X → Order → Answered (Sitting X)
+done K d (orders.Edit line) = rested K (edited K d (read_line K d.state line))
+done K d orders.Undo = rested K (undone K d (last_of d.entries))
+done K d (orders.Point at) = pointed K d at
+done K d orders.Place = says (cursor_text (K.place d.state d.cursor)) d
+done K d orders.Text = says (text_reply K d.state) d
+done K d (orders.Take len) = says [] d
+done K d (orders.Send to) = says (sent K d.state to) d
+done K d orders.Quit = says [] d
+done K d orders.Bad = says bad_text d
+
+unfoldable pub answer : {X : Type 0} → Kind X → Sitting X → Request → Answered (Sitting X)
+answer K d (Does order) = done K d order
+answer K d (Takes message) = taken K d (message_of message)
+
+-- the session from this state over this input
+abbrev pub session_from : {X : Type 0} → Kind X → X → List ℕ → Course (Sitting X)
+session_from K s input = course (answer K) (sitting_at s) input

@@ -1,0 +1,40 @@
+-- A session over a whole input, whatever answers its requests.
+use Rattle.std.specs.Prelude.{ℕ, ◌+◌, ◌-◌, suc, zero, List, [], ◌∷◌, ◌++◌}
+use Rattle.rls_session.specs.declared.orders.Order.TheVariants.{Quit}
+use Rattle.rls_session.specs.Requests.{Request, Does, cut}
+
+-- a reply, and the state after it
+pub record Answered (S : Type 0) : Type 0 where
+  pub reply : List ℕ
+  pub state : S
+
+-- all replies, one after another, the state after them, and how many bytes of the input come up to the end of the order to quit,
+-- without its line feed, or in all where it doesn't come
+pub record Course (S : Type 0) : Type 0 where
+  pub replies : List ℕ
+  pub state : S
+  pub used : ℕ
+
+-- nothing more is answered
+abbrev pub ended : {S : Type 0} → S → ℕ → Course S
+ended s used = record { replies = []; state = s; used = used }
+
+-- a request of so many bytes was answered, and this comes after it
+abbrev pub after : {S : Type 0} → List ℕ → ℕ → Course S → Course S
+after reply size c = record { replies = reply ++ c.replies; state = c.state; used = size + c.used }
+
+-- the request is answered, unless it ends the session
+abbrev pub go_on : {S : Type 0} → (S → Request → Answered S) → S → Request → ℕ → (S → Course S) → Course S
+go_on answer s (Does Quit) size rest = ended s 1
+go_on answer s request size rest = after (answer s request).reply size (rest (answer s request).state)
+
+-- the requests of what stands after so many bytes, answered one after another
+abbrev pub course_from : {S : Type 0} → (S → Request → Answered S) → ℕ → S → List ℕ → Course S
+course_from answer n s [] = ended s 0
+course_from answer (suc n) s (b ∷ bytes) = course_from answer n s bytes
+course_from answer zero s (b ∷ bytes) =
+    go_on answer s (cut (b ∷ bytes)).request (cut (b ∷ bytes)).size (λ t. course_from answer ((cut (b ∷ bytes)).size - 1) t bytes)
+
+-- the requests of the input, answered one after another up to the order to quit
+abbrev pub course : {S : Type 0} → (S → Request → Answered S) → S → List ℕ → Course S
+course answer s bytes = course_from answer 0 s bytes

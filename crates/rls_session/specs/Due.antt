@@ -1,0 +1,49 @@
+-- What a session calls for, by the kept file and the input, read over what the replica consists of that the file says.
+use Rattle.std.specs.Prelude.{ℕ, List, [], nat_lt, Option, Some, None, option_map, Result, Ok, Err, if◌then◌else◌}
+use Rattle.rls_report.specs.declared.failures.CommandError.{CommandError}
+use Rattle.rls_report.specs.declared.failures.CommandError.TheVariants.{TooLarge}
+use Rattle.rls_report.specs.Failures.{error_line, error_status}
+use Rattle.rls_seen.specs.Seen.{Seen}
+use Rattle.rls_stages.specs.Endings.{own_line, or_else}
+use Rattle.rls_stages.specs.KeptFile.{loaded, replica_in, saved}
+use Rattle.rls_session.specs.Answers.{Sitting}
+use Rattle.rls_session.specs.Courses.{Course}
+use Rattle.rls_session.specs.Intake.{input_limit}
+use Rattle.rls_session.specs.Sessions.{session}
+
+-- the replies to all requests, and the replica whose file is stored then, or why none is
+pub record Due : Type 0 where
+  pub replies : List ℕ
+  pub ending : Result Seen CommandError
+
+-- after this course. An input is too long if it comes neither to its end nor to the order to quit within the limit
+abbrev pub due_of : Course (Sitting Seen) → Due
+due_of c = record { replies = c.replies; ending = if nat_lt input_limit c.used then Err TooLarge else saved (c.state).state }
+
+-- nothing is answered
+abbrev pub stops : CommandError → Due
+stops e = record { replies = []; ending = Err e }
+
+-- at the replica of the kept file, before the input is read
+abbrev pub due_on : Result Seen CommandError → Option (List ℕ) → Option Due
+due_on (Ok s) left = option_map (λ input. due_of (session s input)) left
+due_on (Err e) left = Some (stops e)
+
+-- if the kept file is told, and the input or that it isn't read
+abbrev pub due : Option (Option (List ℕ)) → Option (List ℕ) → Option Due
+due None left = None
+due (Some kept) left = due_on (replica_in (loaded kept)) left
+
+-- ---- what is seen of it
+
+abbrev pub ending_status : Result Seen CommandError → ℕ
+ending_status (Ok s) = 0
+ending_status (Err e) = error_status e
+
+abbrev pub ending_line : Result Seen CommandError → List ℕ
+ending_line (Ok s) = []
+ending_line (Err e) = error_line e
+
+-- what is written to the errors at a status, if it is told
+abbrev pub line_at : Option Due → ℕ → Option (List ℕ)
+line_at d n = or_else (own_line n) (option_map (λ x. ending_line x.ending) d)

@@ -1,0 +1,108 @@
+-- How a session ends, given what it calls for.
+use Rattle.std.specs.Prelude.{◌≡◌, ◌≢◌, ◌≤◌, ◌<◌, ◌⊎◌, ◌++◌, ℕ, List, [], length, take, Option, IfSome, IfOk, Result, Ok, Err}
+use Rattle.rls_io.specs.Device.{Appends, Keeps, Stores}
+use Rattle.rls_model.specs.Parts.{parts}
+use Rattle.rls_model.specs.Receiving.{State}
+use Rattle.rls_seen.specs.Seen.{Seen}
+use Rattle.rls_file.specs.Files.{file_bytes}
+use Rattle.rls_report.specs.declared.failures.CommandError.{CommandError}
+use Rattle.rls_report.specs.declared.failures.Failure.{Failure}
+use Rattle.rls_report.specs.declared.failures.Failure.TheVariants.{NoCommand, Command, Fault}
+use Rattle.rls_report.specs.declared.failures.Fault.TheVariants.{Source, Sink}
+use Rattle.rls_stages.specs.Endings.{EndsWith, IsFailureStatus, IsFault, IsPart, failure_line_at}
+use Rattle.rls_stages.specs.KeptFile.{IsReadBack, StandsIn, bytes_over, file_limit, loaded, replica_in}
+use Rattle.rls_session.specs.Answering.{IsNear, IsPrompt}
+use Rattle.rls_session.specs.Answers.{Sitting, answer, sitting_at}
+use Rattle.rls_session.specs.Courses.{Course}
+use Rattle.rls_session.specs.Due.{Due, ending_status}
+use Rattle.rls_session.specs.Intake.{input_limit}
+use Rattle.rls_session.specs.Replies.{saved_text}
+use Rattle.rls_session.specs.Sessions.{by_parts, session}
+
+-- ---- storing
+
+-- the file of the replica that is called for is kept, and is read back
+abbrev pub IsKept : Result Seen CommandError → Option (Option (List ℕ)) → Option (Option (List ℕ)) → Type 0
+IsKept (Ok s) old new = Stores old new (bytes_over s) × IsReadBack s
+IsKept (Err e) old new = ⊥
+
+-- this end is called for, or a device failed, or memory ran out
+abbrev pub EndsAs : Failure → Result Seen CommandError → Type 0
+EndsAs NoCommand r = ⊥
+EndsAs (Command e) r = r ≡ Err e
+EndsAs (Fault f) r = Unit {0}
+
+-- the file is stored, and that is told; or only a part of the telling is written; or neither is done
+abbrev pub Saves : Result (Unit {0}) Failure → Result Seen CommandError → Option (Option (List ℕ)) → Option (Option (List ℕ)) → Option (List ℕ) → Option (List ℕ) → Type 0
+Saves (Ok u) r file new_file old new = IsKept r file new_file × Appends old new saved_text
+Saves (Err (Fault Sink)) r file new_file old new = IsKept r file new_file × IsPart old new saved_text
+Saves (Err f) r file new_file old new = EndsAs f r × (new ≡ old)
+
+-- the session ended before anything was stored
+abbrev pub IsEarly : Failure → Type 0
+IsEarly NoCommand = Unit {0}
+IsEarly (Command e) = Unit {0}
+IsEarly (Fault Source) = Unit {0}
+IsEarly (Fault f) = ⊥
+
+-- ---- what a session leaves
+
+-- the output failed: before the file was stored, after a part of the replies; or after that, within the last one
+abbrev pub FailsAt : Due → Option (Option (List ℕ)) → Option (Option (List ℕ)) → Option (List ℕ) → Option (List ℕ) → Type 0
+FailsAt d file new_file old new =
+    (Keeps file new_file × IsPart old new d.replies)
+    ⊎ (IsKept d.ending file new_file × ((n : ℕ) × (n ≤ length saved_text) × Appends old new (d.replies ++ take n saved_text)))
+
+-- all is written and stored; or the output failed; or the session ended before
+abbrev pub Leaves : Result (Unit {0}) Failure → Due → Option (Option (List ℕ)) → Option (Option (List ℕ)) → Option (List ℕ) → Option (List ℕ) → Type 0
+Leaves (Ok u) d file new_file old new = IsKept d.ending file new_file × Appends old new (d.replies ++ saved_text)
+Leaves (Err (Fault Sink)) d file new_file old new = FailsAt d file new_file old new
+Leaves (Err f) d file new_file old new = EndsAs f d.ending × IsPart old new d.replies
+
+-- a session that calls for this ends so, with this status
+pub record Ends (d : Due) (n : ℕ) (file new_file : Option (Option (List ℕ))) (old new : Option (List ℕ)) : Type 0 where
+  -- the status that is called for, unless a device failed or memory ran out
+  pub status : (n ≡ ending_status d.ending) ⊎ IsFault n
+  -- all replies, and `saved`, and the file of the replica after them
+  pub written : n ≡ 0 → Appends old new (d.replies ++ saved_text)
+  pub stored : n ≡ 0 → IsKept d.ending file new_file
+  -- a part of the replies, from the front, unless the output failed
+  pub part : n ≢ 0 → n ≢ 9 → IsPart old new d.replies
+  pub failing : n ≡ 9 → FailsAt d file new_file old new
+
+-- the status of an end
+abbrev pub IsStatusOf : Result (Unit {0}) Failure → ℕ → Type 0
+IsStatusOf (Ok u) n = n ≡ 0
+IsStatusOf (Err f) n = IsFailureStatus f n
+
+-- what is written to the errors with this status
+abbrev pub line_of : Result (Unit {0}) Failure → ℕ → List ℕ
+line_of (Ok u) n = []
+line_of (Err f) n = failure_line_at f n
+
+-- ---- if the kept file stands for a history and what waits beside it
+
+-- the kept file is too long, or the input before it ends or quits, or the file that is to be stored
+abbrev pub IsTooLong : List ℕ → Course (Sitting State) → Type 0
+IsTooLong bytes c = (file_limit < length bytes) ⊎ (input_limit < c.used) ⊎ (file_limit < length (file_bytes (parts (c.state).state)))
+
+-- a session over these bytes of a file, with this course, ends so
+pub record Serves (n : ℕ) (bytes : List ℕ) (c : Course (Sitting State)) (new_file : Option (Option (List ℕ))) (old new : Option (List ℕ)) : Type 0 where
+  pub status : EndsWith n 0 (IsTooLong bytes c)
+  pub stored : n ≡ 0 → StandsIn new_file (c.state).state
+  pub written : n ≡ 0 → Appends old new (c.replies ++ saved_text)
+  pub part : IsPart old new (c.replies ++ saved_text)
+
+-- ---- how far the input is read and answered
+
+-- what holds of the replica that the kept file says, and of the input, if both are told
+abbrev pub OnSession : Option (Option (List ℕ)) → Option (List ℕ) → (Seen → List ℕ → Type 0) → Type 0
+OnSession file left P = IfSome file (λ kept. IfOk (replica_in (loaded kept)) (λ s. IfSome left (λ given. P s given)))
+
+-- of the input no more is taken than the session uses, up to the end of the order to quit, and what one read may bring
+abbrev pub EndsNear : Option (Option (List ℕ)) → Option (List ℕ) → Option (List ℕ) → Type 0
+EndsNear file left new_left = OnSession file left (λ s given. IsNear given new_left (session s given).used)
+
+-- the replies to all requests that are whole in what was taken of the input are written, and nothing more
+abbrev pub EndsPromptly : Option (Option (List ℕ)) → Option (List ℕ) → Option (List ℕ) → Option (List ℕ) → Option (List ℕ) → Type 0
+EndsPromptly file left new_left old new = OnSession file left (λ s given. IsPrompt (answer by_parts) (sitting_at s) given new_left old new)

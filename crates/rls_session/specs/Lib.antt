@@ -1,0 +1,12 @@
+pub mod Orders
+pub mod Requests
+pub mod Courses
+pub mod Intake
+pub mod Replies
+pub mod Answers
+pub mod Sessions
+pub mod Desks
+pub mod Answering
+pub mod Due
+pub mod Endings
+pub mod Words

@@ -1,0 +1,40 @@
+-- What a session answers.
+use Rattle.std.specs.Prelude.{ℕ, List, [], ◌∷◌, ◌++◌, codes, length}
+use Rattle.std.specs.Fmt.{decimal}
+use Rattle.rls_report.specs.Texts.{line}
+use Rattle.rls_report.specs.Failures.{error_line, fault_text}
+use Rattle.rls_report.specs.declared.failures.LineFault.{LineFault}
+use Rattle.rls_report.specs.declared.failures.CommandError.{CommandError}
+
+-- the edit with this number was accepted
+abbrev pub ok_text : ℕ → List ℕ
+ok_text seq = line (codes "ok " ∷ decimal seq ∷ [])
+
+-- so many edits took one back, and inserted or deleted so many characters
+abbrev pub undone_text : ℕ → ℕ → List ℕ
+undone_text edits chars = line (codes "undone " ∷ decimal edits ∷ codes " " ∷ decimal chars ∷ [])
+
+abbrev pub nothing_text : List ℕ
+nothing_text = codes "no nothing\n"
+
+abbrev pub cursor_text : ℕ → List ℕ
+cursor_text at = line (codes "cursor " ∷ decimal at ∷ [])
+
+-- these bytes, after a line with their number
+abbrev pub bytes_text : List ℕ → List ℕ → List ℕ
+bytes_text word bytes = line (word ∷ codes " " ∷ decimal (length bytes) ∷ []) ++ (bytes ++ codes "\n")
+
+-- refused for the fault of an edit
+abbrev pub refused_text : LineFault → List ℕ
+refused_text fault = line (codes "no " ∷ fault_text fault ∷ [])
+
+-- refused for this error
+abbrev pub failed_text : CommandError → List ℕ
+failed_text error = codes "no " ++ error_line error
+
+abbrev pub bad_text : List ℕ
+bad_text = codes "bad\n"
+
+-- the file was stored
+abbrev pub saved_text : List ℕ
+saved_text = codes "saved\n"

@@ -1,0 +1,68 @@
+-- Sessions over what a replica consists of, and over a history and what waits beside it.
+use Rattle.std.specs.Prelude.{◌+◌, List, ℕ}
+use Rattle.rls_model.specs.Document.{idents}
+use Rattle.rls_model.specs.Editing.{made, next_seq}
+use Rattle.rls_model.specs.Epochs.{greatest}
+use Rattle.rls_model.specs.History.{group_of, members_of}
+use Rattle.rls_model.specs.Receiving.{State, accept, release_all}
+use Rattle.rls_model.specs.Taking.{message_for, take_message}
+use Rattle.rls_seen.specs.Edits.{edit_fault_over}
+use Rattle.rls_seen.specs.Edits as edits
+use Rattle.rls_seen.specs.Messages.{message_over, taken_over}
+use Rattle.rls_seen.specs.Over.{released_all}
+use Rattle.rls_seen.specs.Seen.{Seen, members, own_count, text_over}
+use Rattle.rls_stages.specs.Lines.{fault_in, text_in}
+use Rattle.rls_undo.specs.Undoing.{entries_of, entries_over, performed, performed_over, planned, planned_over, refusal, refusal_over}
+use Rattle.rls_anchor.specs.Anchors.{anchor_over, before, behind, place, place_over}
+use Rattle.rls_session.specs.Answers.{Kind, Sitting, session_from}
+use Rattle.rls_session.specs.Courses.{Course}
+
+-- ---- what a replica consists of
+
+abbrev pub by_parts : Kind Seen
+by_parts = record {
+  fault = edit_fault_over;
+  edited = edits.edited;
+  number = λ s. own_count s + 1;
+  entries = entries_over;
+  planned = planned_over;
+  refusal = refusal_over;
+  performed = performed_over;
+  released = released_all;
+  text = text_over;
+  anchor = anchor_over;
+  place = place_over;
+  group = λ s. s.group;
+  members = members;
+  taken = taken_over;
+  message = message_over;
+}
+
+-- the session from what a replica consists of over this input
+abbrev pub session : Seen → List ℕ → Course (Sitting Seen)
+session s input = session_from by_parts s input
+
+-- ---- a history and what waits beside it
+
+abbrev pub by_history : Kind State
+by_history = record {
+  fault = fault_in;
+  edited = λ t edit. accept t (made t.history edit);
+  number = λ t. next_seq t.history;
+  entries = λ t edit. entries_of t.history edit;
+  planned = λ t entry. planned t.history entry;
+  refusal = refusal;
+  performed = performed;
+  released = release_all;
+  text = text_in;
+  anchor = λ t at. behind (greatest t.history) (before (idents t.history) at);
+  place = λ t a. place t.history a;
+  group = λ t. group_of t.history;
+  members = λ t. members_of t.history;
+  taken = take_message;
+  message = λ t to. message_for t.history to;
+}
+
+-- the session from a history and what waits beside it
+abbrev pub session_in : State → List ℕ → Course (Sitting State)
+session_in t input = session_from by_history t input

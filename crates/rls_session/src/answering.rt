@@ -1,0 +1,223 @@
+//! The requests of an input, answered one after another.
+
+ghost use Rattle.std.specs.Prelude.{◌≡◌, ◌+◌, ◌≤◌, ◌<◌, IsTrue, IsFalse, length, take, Some, None, Ok, Err, IfOk, OnOk, OnErr, IfErr, IfSome};
+ghost use Rattle.std.specs.List.{position_or_len};
+ghost use Rattle.rls_io.specs.Device.{Rose, Appends};
+ghost use Rattle.rls_io.specs.declared.reading.ReadError.TheVariants as read;
+ghost use Rattle.rls_script.specs.Scripts.{is_line_feed};
+ghost use Rattle.rls_stages.specs.Endings.{IsPart};
+ghost use Rattle.rls_session.specs.Answering.{of_answer, of_read, HasNoLine, IsDone, IsNear, IsNext, IsPrompt, IsReplied, IsUnused, LacksPart};
+ghost use Rattle.rls_session.specs.Answers.{answer};
+ghost use Rattle.rls_session.specs.Courses.{course};
+ghost use Rattle.rls_session.specs.Intake.{input_limit, taken, to_come, KnowsEnd, KeepsEnd};
+ghost use Rattle.rls_session.specs.Requests.{cut_after};
+ghost use Rattle.rls_session.specs.Sessions.{by_parts};
+ghost use Rattle.rls_session.specs.declared.answering.AnswerError.TheVariants as AnswerError;
+ghost use Rattle.rls_session.specs.declared.orders.Order.TheVariants as Order;
+
+use crate::desk::Desk;
+use crate::intake::Intake;
+use crate::orders::{Order, order_of};
+use crate::replies::bad;
+use rls_io::{Failed, ReadError, Sink, Source, write_all_of};
+use rls_report::{CommandError, Failure, Fault};
+use std::alloc::Global;
+
+/// Why a session ends before its file is stored.
+#[derive(Clone, Copy, Debug, PartialEq, Eq)]
+pub(crate) enum AnswerError {
+    SourceFault,
+    SinkFault,
+    /// More of the input than a session goes through was taken.
+    TooLarge,
+    OutOfMemory,
+}
+
+impl From<ReadError> for AnswerError {
+    ghost from_gives = { λ error e. e ≡ of_read error };
+
+    fn from(error: ReadError) -> AnswerError {
+        match error {
+            ReadError::Fault => AnswerError::SourceFault,
+            ReadError::TooLarge => AnswerError::TooLarge,
+            ReadError::OutOfMemory => AnswerError::OutOfMemory,
+        }
+    }
+}
+
+impl From<AnswerError> for Failure {
+    ghost from_gives = { λ error e. e ≡ of_answer error };
+
+    fn from(error: AnswerError) -> Failure {
+        match error {
+            AnswerError::SourceFault => Failure::Fault {
+                fault: Fault::Source,
+            },
+            AnswerError::SinkFault => Failure::Fault { fault: Fault::Sink },
+            AnswerError::TooLarge => Failure::Command {
+                error: CommandError::TooLarge,
+            },
+            AnswerError::OutOfMemory => Failure::Fault {
+                fault: Fault::Memory,
+            },
+        }
+    }
+}
+
+// Takes the next line of the input, where there is one, and answers what it asks for.
+fn next_order<S: Source>(
+    alloc: Global,
+    intake: &mut Intake,
+    input: &mut S,
+) -> Result<Option<Order>, ReadError>
+    ensures next { IfOk result (λ order. KnowsEnd intake.old (S.left input.old) → IsNext (to_come intake.old (S.left input.old)) order intake.old intake.new (S.left input.new)) }
+    ensures known { KeepsEnd intake.old (S.left input.old) intake.new (S.left input.new) }
+    ensures advances { IfOk result (λ order. IfSome order (λ _. intake.old.used < intake.new.used)) }
+    ensures within { taken intake.new ≤ input_limit + 1 }
+    ensures too_large { result ≡ Err read.TooLarge → IsUnused intake.old intake.new (to_come intake.old (S.left input.old)) (to_come intake.new (S.left input.new)) × (taken intake.new ≡ input_limit + 1) × HasNoLine intake.new }
+    ensures unread { result ≡ Err read.Fault → IsUnused intake.old intake.new (to_come intake.old (S.left input.old)) (to_come intake.new (S.left input.new)) × IsFalse intake.new.ended × HasNoLine intake.new }
+    ensures fault { result ≡ Err read.Fault → Rose (S.faults input.old) (S.faults input.new) }
+    ensures stays_ended { IsTrue intake.old.ended → IsTrue intake.new.ended }
+    ensures few { length intake.old.waiting ≤ 4096 → OnOk result (length intake.new.waiting ≤ 4096) }
+    ensures near { length intake.old.waiting ≤ 4096 → IfSome (to_come intake.old (S.left input.old)) (λ bytes. IsNear bytes (S.left input.new) (position_or_len is_line_feed bytes)) }
+    ensures never_falls { S.faults input.old ≤ S.faults input.new }
+{
+    match intake.find_line(input) {
+        Err(error) => Err(error),
+        Ok(n) => {
+            let waiting = intake.waiting();
+            if waiting.is_empty() {
+                return Ok(None);
+            }
+            let size = (n + 1).min(waiting.len());
+            match order_of(alloc, &waiting[..n]) {
+                Err(_) => Err(ReadError::OutOfMemory),
+                Ok(order) => {
+                    intake.use_up(size);
+                    Ok(Some(order))
+                }
+            }
+        }
+    }
+}
+
+// Answers an order whose line is used, but not an order to quit.
+fn reply_to<S: Source>(
+    alloc: Global,
+    desk: &mut Desk,
+    intake: &mut Intake,
+    input: &mut S,
+    order: Order,
+) -> Result<Vec<u8>, ReadError>
+    ensures reply { IfOk result (λ reply. KnowsEnd intake.old (S.left input.old) → IfSome (to_come intake.old (S.left input.old)) (λ bytes.
+        IsReplied (answer by_parts desk.old) bytes order reply.items desk.new intake.old intake.new (S.left input.new))) }
+    ensures known { KeepsEnd intake.old (S.left input.old) intake.new (S.left input.new) }
+    ensures advances { intake.old.used ≤ intake.new.used }
+    ensures within { taken intake.old ≤ input_limit + 1 → taken intake.new ≤ input_limit + 1 }
+    ensures too_large { result ≡ Err read.TooLarge → IsUnused intake.old intake.new (to_come intake.old (S.left input.old)) (to_come intake.new (S.left input.new)) × (taken intake.new ≡ input_limit + 1) × LacksPart order intake.new.waiting }
+    ensures unread { result ≡ Err read.Fault → IsUnused intake.old intake.new (to_come intake.old (S.left input.old)) (to_come intake.new (S.left input.new)) × IsFalse intake.new.ended × LacksPart order intake.new.waiting }
+    ensures fault { result ≡ Err read.Fault → Rose (S.faults input.old) (S.faults input.new) }
+    ensures stays_ended { IsTrue intake.old.ended → IsTrue intake.new.ended }
+    ensures few { length intake.old.waiting ≤ 4096 → OnOk result (length intake.new.waiting ≤ 4096) }
+    ensures near { length intake.old.waiting ≤ 4096 → IfSome (to_come intake.old (S.left input.old)) (λ bytes. IsNear bytes (S.left input.new) (cut_after order bytes).size) }
+    ensures never_falls { S.faults input.old ≤ S.faults input.new }
+{
+    match order {
+        Order::Take { len } => reply_to_message(alloc, desk, intake, input, len),
+        order => match desk.answer(alloc, order) {
+            Err(_) => Err(ReadError::OutOfMemory),
+            Ok(reply) => Ok(reply),
+        },
+    }
+}
+
+// Takes a message of so many bytes, which follow what is used.
+fn reply_to_message<S: Source>(
+    alloc: Global,
+    desk: &mut Desk,
+    intake: &mut Intake,
+    input: &mut S,
+    len: u64,
+) -> Result<Vec<u8>, ReadError>
+    ensures reply { IfOk result (λ reply. KnowsEnd intake.old (S.left input.old) → IfSome (to_come intake.old (S.left input.old)) (λ bytes.
+        IsReplied (answer by_parts desk.old) bytes (Order.Take len) reply.items desk.new intake.old intake.new (S.left input.new))) }
+    ensures known { KeepsEnd intake.old (S.left input.old) intake.new (S.left input.new) }
+    ensures advances { intake.old.used ≤ intake.new.used }
+    ensures within { taken intake.new ≤ input_limit + 1 }
+    ensures too_large { result ≡ Err read.TooLarge → IsUnused intake.old intake.new (to_come intake.old (S.left input.old)) (to_come intake.new (S.left input.new)) × (taken intake.new ≡ input_limit + 1) × (length intake.new.waiting < len) }
+    ensures unread { result ≡ Err read.Fault → IsUnused intake.old intake.new (to_come intake.old (S.left input.old)) (to_come intake.new (S.left input.new)) × IsFalse intake.new.ended × (length intake.new.waiting < len) }
+    ensures fault { result ≡ Err read.Fault → Rose (S.faults input.old) (S.faults input.new) }
+    ensures stays_ended { IsTrue intake.old.ended → IsTrue intake.new.ended }
+    ensures few { length intake.old.waiting ≤ 4096 → OnOk result (length intake.new.waiting ≤ 4096) }
+    ensures near { length intake.old.waiting ≤ 4096 → IfSome (to_come intake.old (S.left input.old)) (λ bytes. IsNear bytes (S.left input.new) (cut_after (Order.Take len) bytes).size) }
+    ensures never_falls { S.faults input.old ≤ S.faults input.new }
+{
+    match intake.find_bytes(len, input) {
+        Err(error) => Err(error),
+        Ok(true) => match desk.take(alloc, &intake.waiting()[..len as usize]) {
+            Err(_) => Err(ReadError::OutOfMemory),
+            Ok(reply) => {
+                intake.use_up(len as usize);
+                Ok(reply)
+            }
+        },
+        Ok(false) => {
+            let n = intake.waiting().len();
+            intake.use_up(n);
+            match bad(alloc) {
+                Err(_) => Err(ReadError::OutOfMemory),
+                Ok(reply) => Ok(reply),
+            }
+        }
+    }
+}
+
+/// Writes a reply.
+pub(crate) fn write<W: Sink>(output: &mut W, reply: &[u8]) -> Result<(), AnswerError>
+    ensures ok { OnOk result (Appends (W.told output.old) (W.told output.new) reply.now) }
+    ensures err { OnErr result (IsPart (W.told output.old) (W.told output.new) reply.now) }
+    ensures error { IfErr result (λ e. e ≡ AnswerError.SinkFault) }
+    ensures never_falls { W.faults output.old ≤ W.faults output.new }
+    ensures fault { OnErr result (Rose (W.faults output.old) (W.faults output.new)) }
+{
+    match write_all_of(output, reply) {
+        Ok(()) => Ok(()),
+        Err(Failed) => Err(AnswerError::SinkFault),
+    }
+}
+
+/// Answers the requests of the input one after another, up to its end or to the order to quit. Each reply is written before more of
+/// the input is taken.
+pub(crate) fn answer_all<S: Source, W: Sink>(
+    alloc: Global,
+    desk: &mut Desk,
+    input: &mut S,
+    output: &mut W,
+) -> Result<(), AnswerError>
+    ensures done { OnOk result (IfSome (S.left input.old) (λ given. IsDone (course (answer by_parts) desk.old given) desk.new (W.told output.old) (W.told output.new))) }
+    ensures part { OnErr result (IfSome (S.left input.old) (λ given. IsPart (W.told output.old) (W.told output.new) (course (answer by_parts) desk.old given).replies)) }
+    ensures too_large { result ≡ Err AnswerError.TooLarge → IfSome (S.left input.old) (λ given. input_limit < (course (answer by_parts) desk.old given).used) }
+    ensures prompt { result ≡ Err AnswerError.SourceFault → IfSome (S.left input.old) (λ given. IsPrompt (answer by_parts) desk.old given (S.left input.new) (W.told output.old) (W.told output.new)) }
+    ensures near { IfSome (S.left input.old) (λ given. IsNear given (S.left input.new) (course (answer by_parts) desk.old given).used) }
+    ensures input { result ≡ Err AnswerError.SourceFault → Rose (S.faults input.old) (S.faults input.new) }
+    ensures output { result ≡ Err AnswerError.SinkFault → Rose (W.faults output.old) (W.faults output.new) }
+    ensures never_falls { W.faults output.old ≤ W.faults output.new }
+{
+    let mut intake = Intake::new(alloc);
+    loop {
+        match next_order(alloc, &mut intake, input) {
+            Err(error) => return Err(AnswerError::from(error)),
+            Ok(None) => return Ok(()),
+            Ok(Some(order)) => match order {
+                Order::Quit => return Ok(()),
+                order => match reply_to(alloc, desk, &mut intake, input, order) {
+                    Err(error) => return Err(AnswerError::from(error)),
+                    Ok(reply) => match write(output, &reply) {
+                        Err(error) => return Err(error),
+                        Ok(()) => {}
+                    },
+                },
+            },
+        }
+    }
+}

@@ -1,0 +1,13 @@
+//! An editor's line protocol over a replica file.
+#![tactic(auto)]
+
+mod answering;
+mod desk;
+mod intake;
+mod orders;
+mod replies;
+mod serving;
+mod words;
+
+pub use serving::serve;
+pub use words::begins_session;

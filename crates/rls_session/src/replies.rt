@@ -1,0 +1,87 @@
+//! What a session answers, in words.
+
+ghost use Rattle.std.specs.Prelude.{◌≡◌, length, IfOk};
+ghost use Rattle.rls_report.specs.Reports.{take_text};
+ghost use Rattle.rls_session.specs.Replies.{ok_text, undone_text, nothing_text, cursor_text, bytes_text, refused_text, failed_text, bad_text};
+
+use rls_model::Taken;
+use rls_report::{CommandError, Failure, LineFault, failure_line, fault_text, take_report};
+use std::alloc::{AllocError, Global};
+
+/// The edit with this number was accepted.
+pub(crate) fn ok(alloc: Global, seq: u32) -> Result<Vec<u8>, AllocError>
+    ensures text { IfOk result (λ text. text.items ≡ ok_text seq) }
+{
+    Ok(format!(in alloc; "ok {seq}\n")?.into_bytes())
+}
+
+/// So many edits took one back, and inserted or deleted so many characters.
+pub(crate) fn undone(alloc: Global, edits: u32, chars: u64) -> Result<Vec<u8>, AllocError>
+    ensures text { IfOk result (λ text. text.items ≡ undone_text edits chars) }
+{
+    Ok(format!(in alloc; "undone {edits} {chars}\n")?.into_bytes())
+}
+
+/// There is nothing to undo.
+pub(crate) fn nothing(alloc: Global) -> Result<Vec<u8>, AllocError>
+    ensures text { IfOk result (λ text. text.items ≡ nothing_text) }
+{
+    Vec::from_slice(alloc, b"no nothing\n")
+}
+
+/// The cursor is at this place.
+pub(crate) fn cursor(alloc: Global, at: u64) -> Result<Vec<u8>, AllocError>
+    ensures text { IfOk result (λ text. text.items ≡ cursor_text at) }
+{
+    Ok(format!(in alloc; "cursor {at}\n")?.into_bytes())
+}
+
+/// These bytes, after a line with this word and their number.
+pub(crate) fn counted(alloc: Global, word: &str, bytes: &[u8]) -> Result<Vec<u8>, AllocError>
+    ensures text { IfOk result (λ text. text.items ≡ bytes_text word.now bytes.now) }
+{
+    let len = bytes.len();
+    let mut reply = format!(in alloc; "{word} {len}\n")?.into_bytes();
+    reply.extend_from_slice(bytes)?;
+    reply.push(b'\n')?;
+    Ok(reply)
+}
+
+/// An edit was refused.
+pub(crate) fn refused(alloc: Global, fault: LineFault) -> Result<Vec<u8>, AllocError>
+    ensures text { IfOk result (λ text. text.items ≡ refused_text fault) }
+{
+    let fault = fault_text(alloc, fault)?;
+    Ok(format!(in alloc; "no {fault}\n")?.into_bytes())
+}
+
+/// Something else was refused.
+pub(crate) fn failed(alloc: Global, error: CommandError) -> Result<Vec<u8>, AllocError>
+    ensures text { IfOk result (λ text. text.items ≡ failed_text error) }
+{
+    let line = failure_line(alloc, Failure::Command { error })?;
+    Ok(format!(in alloc; "no {line}")?.into_bytes())
+}
+
+/// A message was taken, and this was counted.
+pub(crate) fn taken(alloc: Global, found: &Taken) -> Result<Vec<u8>, AllocError>
+    ensures text { IfOk result (λ text. text.items ≡ take_text found.now.applied found.now.released found.now.repeated found.now.held (length found.now.refused)) }
+{
+    let Taken {
+        applied,
+        released,
+        repeated,
+        held,
+        refused,
+    } = found;
+    let refused = refused.len() as u64;
+    let report = take_report(alloc, *applied, *released, *repeated, *held, refused)?;
+    Ok(report.into_bytes())
+}
+
+/// The line is nothing that a session knows.
+pub(crate) fn bad(alloc: Global) -> Result<Vec<u8>, AllocError>
+    ensures text { IfOk result (λ text. text.items ≡ bad_text) }
+{
+    Vec::from_slice(alloc, b"bad\n")
+}

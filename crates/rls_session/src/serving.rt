@@ -1,0 +1,158 @@
+//! A session over the kept file.
+
+ghost use Rattle.std.specs.Prelude.{◌≡◌, ◌≢◌, ◌<◌, ◌≤◌, ℕ, List, Some, Err, IfErr, IfSome};
+ghost use Rattle.rls_io.specs.Device.{Rose, Keeps};
+ghost use Rattle.rls_codec.specs.CodecLaws.{IsBytes};
+ghost use Rattle.rls_model.specs.Receiving.{State};
+ghost use Rattle.rls_report.specs.declared.failures.Failure.TheVariants as failures;
+ghost use Rattle.rls_report.specs.declared.failures.Fault.TheVariants.{Keeper, Source, Sink};
+ghost use Rattle.rls_stages.specs.Endings.{Writes};
+ghost use Rattle.rls_stages.specs.KeptFile.{IsFileFor, IsUsable, Stays, saved};
+ghost use Rattle.rls_session.specs.Answering.{IsNear, IsPrompt};
+ghost use Rattle.rls_session.specs.Answers.{answer, sitting_at};
+ghost use Rattle.rls_session.specs.Due.{due, due_of, line_at};
+ghost use Rattle.rls_session.specs.Endings.{Ends, EndsNear, EndsPromptly, IsEarly, IsStatusOf, Leaves, Saves, Serves, line_of};
+ghost use Rattle.rls_session.specs.Sessions.{by_parts, session, session_in};
+
+use crate::answering::{answer_all, write};
+use crate::desk::Desk;
+use rls_io::{Keeper, Sink, Source, StoreError};
+use rls_replica::Replica;
+use rls_report::{Failure, Fault};
+use rls_stages::{file_of, open, tell_failure};
+use std::alloc::Global;
+
+/// Answers the requests of the input on the keeper's file, one after another, and at the line `q` or at the input's end stores the
+/// file and answers `saved`. It answers the program's exit status.
+///
+/// | Status | Cause |
+/// |---|---|
+/// | 0 | done |
+/// | 2 | there is no file |
+/// | 3 | the file isn't in the grammar |
+/// | 7, 8, 9 | the count of faults rose of the keeper, of the input, of the output |
+/// | 10 | out of memory |
+/// | 11 | neither a line `q` nor the end lies within the first 67,108,864 bytes of the input, or the file as kept or to be stored has more than 268,435,456 bytes |
+///
+/// The kept file changes with the status 0, and with a 9 that comes of writing `saved`, alone.
+pub fn serve<K: Keeper, S: Source, W: Sink, E: Sink>(
+    alloc: Global,
+    keeper: &mut K,
+    input: &mut S,
+    output: &mut W,
+    errors: &mut E,
+) -> u8
+    // For every history, with what waits beside it, that the kept file stands for.
+    ensures session { (t : State) (bytes given : List ℕ) → K.file keeper.old ≡ Some (Some bytes) → IsFileFor bytes t → S.left input.old ≡ Some given → IsBytes given
+        → Serves result bytes (session_in t given) (K.file keeper.new) (W.told output.old) (W.told output.new) }
+
+    // For every file, whether or not a history stands behind it.
+    ensures ends { IfSome (due (K.file keeper.old) (S.left input.old)) (λ d. Ends d result (K.file keeper.old) (K.file keeper.new) (W.told output.old) (W.told output.new)) }
+    ensures keeper { result ≡ 7 → Rose (K.faults keeper.old) (K.faults keeper.new) }
+    ensures input { result ≡ 8 → IfSome (K.file keeper.old) IsUsable × Rose (S.faults input.old) (S.faults input.new) }
+    ensures output { result ≡ 9 → Rose (W.faults output.old) (W.faults output.new) }
+    ensures no_other { result < 12 }
+    ensures unread { IfSome (K.file keeper.old) (λ kept. (IsUsable kept → ⊥) → (input.new ≡ input.old) × (output.new ≡ output.old)) }
+    ensures line { IfSome (line_at (due (K.file keeper.old) (S.left input.old)) result) (λ line.
+        Writes (Rose (E.faults errors.old) (E.faults errors.new)) (E.told errors.old) (E.told errors.new) line) }
+    ensures stays { result ≢ 0 → result ≢ 9 → Stays (K.file keeper.old) (K.file keeper.new) }
+    // Of the input no more is taken than is used and one read brings, and each whole request is answered before a read.
+    ensures near { EndsNear (K.file keeper.old) (S.left input.old) (S.left input.new) }
+    ensures prompt { result ≡ 8 → EndsPromptly (K.file keeper.old) (S.left input.old) (S.left input.new) (W.told output.old) (W.told output.new) }
+    ensures early { result ≢ 0 → result ≢ 7 → result ≢ 9 → result ≢ 10 → Keeps (K.file keeper.old) (K.file keeper.new) }
+{
+    let ending = perform(alloc, keeper, input, output);
+    tell(alloc, ending, errors)
+}
+
+// Writes the line of a failure, if there is one, and answers the status.
+fn tell<E: Sink>(alloc: Global, ending: Result<(), Failure>, errors: &mut E) -> u8
+    ensures status { IsStatusOf ending result }
+    ensures line { Writes (Rose (E.faults errors.old) (E.faults errors.new)) (E.told errors.old) (E.told errors.new) (line_of ending result) }
+{
+    match ending {
+        Ok(()) => 0,
+        Err(failure) => tell_failure(alloc, failure, errors),
+    }
+}
+
+// Answers the input, and stores the file.
+fn perform<K: Keeper, S: Source, W: Sink>(
+    alloc: Global,
+    keeper: &mut K,
+    input: &mut S,
+    output: &mut W,
+) -> Result<(), Failure>
+    ensures leaves { IfSome (due (K.file keeper.old) (S.left input.old)) (λ d. Leaves result d (K.file keeper.old) (K.file keeper.new) (W.told output.old) (W.told output.new)) }
+    ensures unread { IfSome (K.file keeper.old) (λ kept. (IsUsable kept → ⊥) → (input.new ≡ input.old) × (output.new ≡ output.old)) }
+    ensures stays { IfErr result (λ f. f ≢ failures.Fault Sink → Stays (K.file keeper.old) (K.file keeper.new)) }
+    ensures early { IfErr result (λ f. IsEarly f → Keeps (K.file keeper.old) (K.file keeper.new)) }
+    ensures keeper { result ≡ Err (failures.Fault Keeper) → Rose (K.faults keeper.old) (K.faults keeper.new) }
+    ensures input { result ≡ Err (failures.Fault Source) → IfSome (K.file keeper.old) IsUsable × Rose (S.faults input.old) (S.faults input.new) }
+    ensures output { result ≡ Err (failures.Fault Sink) → Rose (W.faults output.old) (W.faults output.new) }
+    ensures near { EndsNear (K.file keeper.old) (S.left input.old) (S.left input.new) }
+    ensures prompt { result ≡ Err (failures.Fault Source) → EndsPromptly (K.file keeper.old) (S.left input.old) (S.left input.new) (W.told output.old) (W.told output.new) }
+{
+    match open(alloc, keeper) {
+        Err(error) => Err(Failure::from(error)),
+        Ok(replica) => answer_on(alloc, replica, keeper, input, output),
+    }
+}
+
+// Answers the input on this replica, and stores its file.
+fn answer_on<K: Keeper, S: Source, W: Sink>(
+    alloc: Global,
+    replica: Replica,
+    keeper: &mut K,
+    input: &mut S,
+    output: &mut W,
+) -> Result<(), Failure>
+    ensures leaves { IfSome (S.left input.old) (λ given. Leaves result (due_of (session replica given)) (K.file keeper.old) (K.file keeper.new) (W.told output.old) (W.told output.new)) }
+    ensures stays { IfErr result (λ f. f ≢ failures.Fault Sink → Keeps (K.file keeper.new) (K.file keeper.old)) }
+    ensures early { IfErr result (λ f. IsEarly f → Keeps (K.file keeper.old) (K.file keeper.new)) }
+    ensures keeper { result ≡ Err (failures.Fault Keeper) → Rose (K.faults keeper.old) (K.faults keeper.new) }
+    ensures input { result ≡ Err (failures.Fault Source) → Rose (S.faults input.old) (S.faults input.new) }
+    ensures output { result ≡ Err (failures.Fault Sink) → Rose (W.faults output.old) (W.faults output.new) }
+    ensures near { IfSome (S.left input.old) (λ given. IsNear given (S.left input.new) (session replica given).used) }
+    ensures prompt { result ≡ Err (failures.Fault Source) → IfSome (S.left input.old) (λ given. IsPrompt (answer by_parts) (sitting_at replica) given (S.left input.new) (W.told output.old) (W.told output.new)) }
+    ensures never_falls { K.faults keeper.old ≤ K.faults keeper.new }
+{
+    let mut desk = Desk::new(alloc, replica);
+    match answer_all(alloc, &mut desk, input, output) {
+        Err(error) => Err(Failure::from(error)),
+        Ok(()) => save(alloc, desk.replica(), keeper, output),
+    }
+}
+
+// Stores the file, and tells it.
+fn save<K: Keeper, W: Sink>(
+    alloc: Global,
+    replica: &Replica,
+    keeper: &mut K,
+    output: &mut W,
+) -> Result<(), Failure>
+    ensures saves { Saves result (saved replica.now) (K.file keeper.old) (K.file keeper.new) (W.told output.old) (W.told output.new) }
+    ensures stays { IfErr result (λ f. f ≢ failures.Fault Sink → Keeps (K.file keeper.new) (K.file keeper.old)) }
+    ensures early { IfErr result (λ f. IsEarly f → Keeps (K.file keeper.old) (K.file keeper.new)) }
+    ensures inner { result ≢ Err (failures.Fault Source) }
+    ensures keeper { result ≡ Err (failures.Fault Keeper) → Rose (K.faults keeper.old) (K.faults keeper.new) }
+    ensures output { result ≡ Err (failures.Fault Sink) → Rose (W.faults output.old) (W.faults output.new) }
+    ensures never_falls { K.faults keeper.old ≤ K.faults keeper.new }
+    ensures output_never_falls { W.faults output.old ≤ W.faults output.new }
+{
+    match file_of(alloc, replica) {
+        Err(error) => Err(Failure::from(error)),
+        Ok(bytes) => match keeper.store(alloc, &bytes) {
+            Err(StoreError::Failed) => Err(Failure::Fault {
+                fault: Fault::Keeper,
+            }),
+            Err(StoreError::OutOfMemory) => Err(Failure::Fault {
+                fault: Fault::Memory,
+            }),
+            Ok(()) => match write(output, b"saved\n") {
+                Err(error) => Err(Failure::from(error)),
+                Ok(()) => Ok(()),
+            },
+        },
+    }
+}

@@ -1,0 +1,4 @@
+pub mod Alike
+mod Clusters
+pub mod Files
+pub mod Meant

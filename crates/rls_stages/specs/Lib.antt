@@ -1,0 +1,4 @@
+pub mod Lines
+pub mod KeptFile
+pub mod Endings
+pub mod Errors
