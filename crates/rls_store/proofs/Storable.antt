@@ -34,7 +34,7 @@ use Rattle.rls_model.specs.WellFormed.{IsEdit}
 use Rattle.rls_model.proofs.Made.{or_none}
 use Rattle.rls_seen.specs.Edits.{edit_fault_over, edited, made_over, op_fault_over}
 use Rattle.rls_seen.specs.Messages.{by_parts, Course, receive_step, release_step, release_steps, with_releases, edit_step, take_ops, taken_within}
-use Rattle.rls_seen.specs.Over.{acks_after, answer_over, accepted, holding, received, refusal_over, first_ready, after_refusal, after_release, released, released_times, acknowledged}
+use Rattle.rls_seen.specs.Over.{acks_after, answer_over, accepted, holding, received, refusal_over, first_ready, after_refusal, after_release, released, released_all, released_times, acknowledged}
 use Rattle.rls_seen.specs.Sane.{IsSane}
 use Rattle.rls_seen.specs.Seen.{Seen, members, own_count, vector, idents_over}
 use Rattle.rls_seen.proofs.Counting.{members_accepted, members_received, members_released}
