@@ -2,6 +2,8 @@
 use Rattle.std.specs.Prelude.{◌≡◌, ◌⊎◌, ℕ, List, Bool, true, false, Option, Some, None, IfSome}
 use Rattle.std.specs.Option.{option_map}
 use Rattle.rls_journal.specs.Areas.{Areas, kept}
+use Rattle.rls_journal.specs.Disk.{IsUnchanged, LeavesOnly}
+use Rattle.rls_journal.specs.Slots.{HasStored}
 use Rattle.rls_journal.specs.declared.keeper.DiskKeeper.{DiskKeeper}
 
 -- the disk of a keeper
@@ -27,3 +29,15 @@ IsAtRest seen may_leave disk = IfSome (seen disk) (λ s. (c : Areas) → may_lea
 -- the kept file is the one from before, or these bytes
 abbrev pub IsOldOrNew : Option (List ℕ) → List ℕ → Areas → Type 0
 IsOldOrNew before bytes areas = (kept areas ≡ before) ⊎ (kept areas ≡ Some bytes)
+
+-- ---- what a call makes of the disk
+
+-- a load: nothing that is read changed, and a crash at any moment of it leaves what it might have left before. After an Ok the keeper is at rest
+pub record LoadGives {D : Type 0} (seen : D → Option Areas) (may_leave : D → Areas → Type 0) (moment : D → ℕ) (left_since : D → ℕ → Areas → Type 0) (ok : Bool) (old new : D) : Type 0 where
+  pub unchanged : IsUnchanged seen may_leave moment left_since old new
+  pub rest : ok ≡ true → IsAtRest seen may_leave new
+
+-- a store, at rest: a crash at any moment of it leaves the file from before or these bytes. After an Ok a crash leaves these bytes
+pub record StoreGives {D : Type 0} (seen : D → Option Areas) (may_leave : D → Areas → Type 0) (moment : D → ℕ) (left_since : D → ℕ → Areas → Type 0) (bytes : List ℕ) (ok : Bool) (old new : D) : Type 0 where
+  pub any_moment : IsAtRest seen may_leave old → IfSome (seen old) (λ s. LeavesOnly moment left_since old new (IsOldOrNew (kept s) bytes))
+  pub stored : ok ≡ true → HasStored bytes (seen old) (seen new) (may_leave new)

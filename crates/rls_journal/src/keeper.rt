@@ -1,6 +1,6 @@
 //! The keeper on a disk.
 
-ghost use Rattle.std.specs.Prelude.{◌≡◌, ◌≤◌, ℕ, IsErr, IfOk, OnOk, OnErr, IfSome, IsErrOf};
+ghost use Rattle.std.specs.Prelude.{◌≡◌, ◌≤◌, ℕ, is_ok, IsErr, IfOk, OnOk, OnErr, IfSome, IsErrOf};
 ghost use Rattle.std.specs.Option.{option_map};
 ghost use Rattle.rls_io.specs.Device.{Rose, Loads, Stores, Keeps, one_more};
 ghost use Rattle.rls_io.specs.declared.devices.LoadError.TheVariants as load;
@@ -8,7 +8,7 @@ ghost use Rattle.rls_io.specs.declared.devices.StoreError.TheVariants as store;
 ghost use Rattle.rls_journal.specs.Areas.{Areas, kept};
 ghost use Rattle.rls_journal.specs.Disk.{IsUnchanged, LeavesOnly};
 ghost use Rattle.rls_journal.specs.Slots.{HasStored};
-ghost use Rattle.rls_journal.specs.Keeper.{disk_of, file_told, IsStill, IsAtRest, IsOldOrNew};
+ghost use Rattle.rls_journal.specs.Keeper.{disk_of, file_told, IsStill, IsAtRest, IsOldOrNew, LoadGives, StoreGives};
 
 use crate::disk::Disk;
 use crate::slots::{begin, read_file, replace, settle};
@@ -81,10 +81,15 @@ impl<D: Disk> Keeper for DiskKeeper<D> {
 
     ghost faults = { λ k. D.faults (disk_of k) };
 
+    ghost load_gives = { λ old ok new. LoadGives D.seen D.may_leave D.moment D.left_since ok (disk_of old) (disk_of new) };
+
+    ghost store_gives = { λ old bytes ok new. StoreGives D.seen D.may_leave D.moment D.left_since bytes ok (disk_of old) (disk_of new) };
+
     fn load(&mut self, alloc: Global, limit: u64) -> Result<Found, LoadError>
         ensures found { IfOk result (λ found. IfSome (file_told D.seen self.old) (λ kept. Loads kept limit found)) }
         ensures told { IfOk result (λ found. IfSome (file_told D.seen self.new) (λ kept. Loads kept limit found)) }
         ensures same { Keeps (file_told D.seen self.old) (file_told D.seen self.new) }
+        ensures gives { LoadGives D.seen D.may_leave D.moment D.left_since (is_ok result) (disk_of self.old) (disk_of self.new) }
         ensures counted { IsErrOf result load.Failed → D.faults (disk_of self.new) ≡ one_more (D.faults (disk_of self.old)) }
         ensures uncounted { (IsErrOf result load.Failed → ⊥) → D.faults (disk_of self.new) ≡ D.faults (disk_of self.old) }
         ensures never_falls { D.faults (disk_of self.old) ≤ D.faults (disk_of self.new) }
@@ -105,6 +110,7 @@ impl<D: Disk> Keeper for DiskKeeper<D> {
     fn store(&mut self, _alloc: Global, bytes: &[u8]) -> Result<(), StoreError>
         ensures ok { OnOk result (Stores (file_told D.seen self.old) (file_told D.seen self.new) bytes.now) }
         ensures err { OnErr result (Keeps (file_told D.seen self.new) (file_told D.seen self.old)) }
+        ensures gives { StoreGives D.seen D.may_leave D.moment D.left_since bytes.now (is_ok result) (disk_of self.old) (disk_of self.new) }
         ensures counted { IsErrOf result store.Failed → D.faults (disk_of self.new) ≡ one_more (D.faults (disk_of self.old)) }
         ensures uncounted { (IsErrOf result store.Failed → ⊥) → D.faults (disk_of self.new) ≡ D.faults (disk_of self.old) }
         ensures never_falls { D.faults (disk_of self.old) ≤ D.faults (disk_of self.new) }

@@ -4,6 +4,7 @@ ghost use Rattle.std.specs.Prelude.{◌≡◌, ◌≢◌, ◌≤◌, Err, IfSome
 ghost use Rattle.rls_io.specs.Device.{Rose, Keeps};
 ghost use Rattle.rls_io.specs.Memory.{bytes_of};
 ghost use Rattle.rls_file.specs.ReadingFiles.{file_of};
+ghost use Rattle.rls_stages.specs.Calls.{HasLoaded};
 ghost use Rattle.rls_stages.specs.KeptFile.{loaded, replica_of, replica_in};
 ghost use Rattle.rls_stages.specs.Errors.{Gives, of_open};
 
@@ -23,6 +24,7 @@ pub fn load<K: Keeper>(alloc: Global, keeper: &mut K) -> Result<Option<Vec<u8>>,
     ensures keeper { result ≡ Err OpenError.KeeperFault → Rose (K.faults keeper.old) (K.faults keeper.new) }
     ensures never_falls { K.faults keeper.old ≤ K.faults keeper.new }
     ensures kept { Keeps (K.file keeper.old) (K.file keeper.new) }
+    ensures calls { HasLoaded K.load_gives result keeper.old keeper.new }
 {
     match keeper.load(alloc, FILE_LIMIT) {
         Err(LoadError::Failed) => Err(OpenError::KeeperFault),
@@ -44,6 +46,7 @@ pub fn open<K: Keeper>(alloc: Global, keeper: &mut K) -> Result<Replica, OpenErr
     ensures keeper { result ≡ Err OpenError.KeeperFault → Rose (K.faults keeper.old) (K.faults keeper.new) }
     ensures never_falls { K.faults keeper.old ≤ K.faults keeper.new }
     ensures kept { Keeps (K.file keeper.old) (K.file keeper.new) }
+    ensures calls { HasLoaded K.load_gives result keeper.old keeper.new }
 {
     match load(alloc, keeper) {
         Err(error) => Err(error),

@@ -2,15 +2,20 @@
 use Rattle.std.proofs.Common.{◌≡◌, ◌≢◌, ◌∙◌, ℕ, List, Option, Some, None, IfSome, Result, Ok, Err, refl, sym, subst}
 use Rattle.rls_io.specs.Device.{Appends, Keeps, Stores}
 use Rattle.rls_io.specs.Memory.{bytes_of}
+use Rattle.rls_stages.specs.declared.errors.OpenError.TheVariants as opening
+use Rattle.rls_stages.specs.declared.errors.WorkError.TheVariants as work
 use Rattle.rls_top.specs.declared.made.Made.{Made}
 use Rattle.rls_top.specs.declared.stages.DeviceError.{DeviceError}
 use Rattle.rls_top.specs.declared.stages.DeviceError.TheVariants.{KeeperFault, SinkFault, OutOfMemory}
+use Rattle.rls_top.specs.declared.stages.InputError.TheVariants as input
 use Rattle.rls_top.specs.declared.stages.MakeError.{MakeError}
 use Rattle.rls_top.specs.declared.stages.MakeError.TheVariants as make
 use Rattle.rls_top.specs.declared.words.Command as commands
 use Rattle.rls_top.specs.Due.{Due, Makes, Stops, due_of_command, due_of_words}
 use Rattle.rls_top.specs.Due as due
-use Rattle.rls_top.specs.Endings.{IsPart, IsWritten, IsPartWritten, IsKept, LeavesFile, Stays}
+use Rattle.rls_stages.specs.Endings.{IsPart}
+use Rattle.rls_stages.specs.KeptFile.{LeavesFile, Stays}
+use Rattle.rls_top.specs.Endings.{IsWritten, IsPartWritten, IsKept}
 use Rattle.rls_top.specs.Stages.{IsAsDue, Reports, Leaves, of_device, of_make}
 
 -- ---- the file
@@ -97,14 +102,18 @@ for_command words c file left P e h = subst (λ (w : Option commands.Command). I
 -- nothing was made
 pub unmade_reports : (d : Option Due) (e : MakeError) (old : Option (List ℕ)) → IfSome d (λ d. Reports (Err (of_make e)) d old old)
 unmade_reports None e old = tt
-unmade_reports (Some d) (make.Command e) old = refl
-unmade_reports (Some d) make.KeeperFault old = refl
-unmade_reports (Some d) make.SourceFault old = refl
-unmade_reports (Some d) make.OutOfMemory old = refl
+unmade_reports (Some d) (make.Open (opening.Command e)) old = refl
+unmade_reports (Some d) (make.Open opening.KeeperFault) old = refl
+unmade_reports (Some d) (make.Open opening.OutOfMemory) old = refl
+unmade_reports (Some d) (make.Input (input.Work (work.Command e))) old = refl
+unmade_reports (Some d) (make.Input (input.Work work.OutOfMemory)) old = refl
+unmade_reports (Some d) (make.Input input.SourceFault) old = refl
 
 pub unmade_leaves : (d : Option Due) (e : MakeError) (old new : Option (Option (List ℕ))) → IfSome d (λ d. Leaves (Err (of_make e)) d old new)
 unmade_leaves None e old new = tt
-unmade_leaves (Some d) (make.Command e) old new = tt
-unmade_leaves (Some d) make.KeeperFault old new = tt
-unmade_leaves (Some d) make.SourceFault old new = tt
-unmade_leaves (Some d) make.OutOfMemory old new = tt
+unmade_leaves (Some d) (make.Open (opening.Command e)) old new = tt
+unmade_leaves (Some d) (make.Open opening.KeeperFault) old new = tt
+unmade_leaves (Some d) (make.Open opening.OutOfMemory) old new = tt
+unmade_leaves (Some d) (make.Input (input.Work (work.Command e))) old new = tt
+unmade_leaves (Some d) (make.Input (input.Work work.OutOfMemory)) old new = tt
+unmade_leaves (Some d) (make.Input input.SourceFault) old new = tt

@@ -14,7 +14,7 @@ use Rattle.rls_model.specs.Parts.{epoch_parts}
 use Rattle.rls_seen.specs.Kept.{left_below, needed_over, other_rows, parts_over, retained_over}
 use Rattle.rls_seen.specs.Seen.{Seen, fresh, greatest_over}
 use Rattle.rls_file.specs.Files.{epoch_bytes, file_bytes, head_bytes, snapshot_bytes, stem_bytes, stems_bytes, text_run_bytes}
-use Rattle.rls_top.specs.Due.{file_limit}
+use Rattle.rls_stages.specs.KeptFile.{file_limit}
 
 -- ---- lists of lists
 

@@ -61,17 +61,21 @@ use Rattle.rls_top.specs.declared.words.Command.TheVariants.{New, OnFile}
 use Rattle.rls_top.specs.declared.words.FileCommand.{FileCommand}
 use Rattle.rls_top.specs.declared.words.FileCommand.TheVariants.{Edit, Text, Ids, Stat, Send, Take, Leave}
 use Rattle.rls_top.specs.Words.{command_of}
-use Rattle.rls_top.specs.Due.{Due, Makes, Stops, due, due_at, due_of_run, due_of_taken, due_of_words, due_of_input, due_of_message, due_of_script, due_on, due_status, file_limit, input_limit, loaded, read, replica_in, saved, stores}
+use Rattle.rls_stages.specs.KeptFile.{file_limit, loaded, replica_in, saved, IsReadBack, IsFileFor, StandsIn}
+use Rattle.rls_top.specs.Due.{Due, Makes, Stops, due, due_at, due_of_run, due_of_taken, due_of_words, due_of_input, due_of_message, due_of_script, due_on, due_status, input_limit, read, stores}
 use Rattle.rls_top.specs.Due as dues
-use Rattle.rls_top.specs.Endings.{IsDone, IsFault, IsKept, IsReadBack, IsStored, IsWritten}
-use Rattle.rls_top.specs.Headline.{Asks, EndsWith, IsFileTooLong, IsFileFor, IsTooLong, Saves, Shows, StandsIn, is_for, new_state}
-use Rattle.rls_top.specs.Lines.{allowed, allowed_by, fault_in, leave_in, line_by, read_line, script_in, text_in}
-use Rattle.rls_top.proofs.Alike.{allowed_alike, lines_alike, runs_alike}
-use Rattle.rls_top.proofs.Files.{IsOpenedAs, journal_opens, snapshot_opens}
+use Rattle.rls_stages.specs.Endings.{IsFault, EndsWith}
+use Rattle.rls_top.specs.Endings.{IsDone, IsKept, IsStored, IsWritten}
+use Rattle.rls_top.specs.Headline.{Asks, IsFileTooLong, IsTooLong, Saves, Shows, is_for, new_state}
+use Rattle.rls_stages.specs.Lines.{allowed, allowed_by, fault_in, line_by, read_line, text_in}
+use Rattle.rls_top.specs.Scripts.{leave_in, script_in}
+use Rattle.rls_stages.proofs.Alike.{allowed_alike, lines_alike}
+use Rattle.rls_stages.proofs.Files.{IsOpened, opened, stands_stored}
+use Rattle.rls_store.proofs.Storable.{fresh_writable, taken_writable}
+use Rattle.rls_top.proofs.Alike.{runs_alike}
 use Rattle.rls_top.proofs.Fresh.{fresh_short}
 use Rattle.rls_top.proofs.Pieces.{right_numbers}
-use Rattle.rls_top.proofs.Scripts.{leave_reads_well, lines_read_well, script_fits}
-use Rattle.rls_top.proofs.Storable.{fresh_writable, lines_writable, taken_writable}
+use Rattle.rls_top.proofs.Scripts.{leave_reads_well, lines_read_well, lines_writable, script_fits}
 
 -- ---- limits
 
@@ -103,22 +107,7 @@ written_due d stored report refused too_long old new (inr l) w = absurd (subst (
 
 -- ---- opening
 
--- the replica of a file, with all that is known of it
-pub record IsOpened (bytes : List ℕ) (t : State) (s : Seen) : Type 0 where
-  pub found : replica_in (Ok (Some bytes)) ≡ Ok s
-  pub stands : StandsFor s t
-  pub sane : IsSane s
-  pub writable : AreWritable s
-
-opened_by : (bytes : List ℕ) (t : State) (c : Content) → IsFile bytes c → IsOpenedAs (seen_in c) t → IsOpened bytes t (seen_in c)
-opened_by bytes t c f k = record { found = rw (file_reads bytes c f) refl; stands = k.stands; sane = k.sane; writable = k.writable }
-
--- a file that stands for a state is opened as a replica that does
-pub opened : (bytes : List ℕ) (t : State) → IsFileFor bytes t → (s : Seen) × IsOpened bytes t s
-opened bytes t (inl f) = (seen_in (Journal t), opened_by bytes t (Journal t) f (journal_opens t f.0))
-opened bytes t (inr f) = (seen_in (Snapshot f.1.0 (parts t)), opened_by bytes t (Snapshot f.1.0 (parts t)) f.1.1 (snapshot_opens f.1.0 t f.1.1.0 f.1.1.1 f.0))
-
--- so a command on it calls for what it calls for at the replica, unless the file is too long
+-- a command on a file that stands for a state calls for what it calls for at the replica of it, unless the file is too long
 opened_due : (c : FileCommand) (bytes : List ℕ) (left : Option (List ℕ)) (t : State) (s : Seen) (d : Due) → IsOpened bytes t s → due_at c s left ≡ Some d
     → (e : Due) × (due_on c (replica_in (loaded (Some bytes))) left ≡ Some e) × OrTooLong e d (file_limit < length bytes)
 opened_due c bytes left t s d o at = go (within_or_past file_limit (length bytes))
@@ -153,10 +142,6 @@ through d e s report refused before at_last (inr l) h = inr (inl (l.0), l.1)
 plain : (d : Due) (s : Seen) (report : List ℕ) (refused : List (ℕ × ℕ × Reason)) (too_long : Type 0) → StoresOrTooLong d s report refused too_long → OrTooLong d (Makes (Some s) report refused) too_long
 plain d s report refused too_long (inl h) = inl (h.1)
 plain d s report refused too_long (inr l) = inr l
-
--- a stored replica's file stands for what the replica stands for
-stands_stored : (s : Seen) (t : State) → StandsFor s t → IsFile (file_bytes (parts_over s)) (Snapshot newest_form (parts_over s)) → IsFileFor (file_bytes (parts_over s)) t
-stands_stored s t h f = inr (h.legal, (newest_form, subst (λ (p : Parts). IsFile (file_bytes (parts_over s)) (Snapshot newest_form p)) (parts_alike s t h) f))
 
 -- what the run of a command tells, where it is known what is called for
 pub record Ends (d : Option Due) (file new_file : Option (Option (List ℕ))) (n : ℕ) (old new : Option (List ℕ)) : Type 0 where

@@ -1,6 +1,5 @@
 mod Alike
-mod Clusters
-mod Files
+mod Called
 mod Finishing
 mod Fresh
 mod Headlines
@@ -9,6 +8,4 @@ mod OnFiles
 mod Pieces
 mod Runs
 mod Scripts
-mod Snapshots
 mod Statuses
-mod Storable

@@ -10,9 +10,11 @@ use Rattle.rls_report.specs.Reports.{take_text}
 use Rattle.rls_seen.specs.Messages.{taken_of, taken_over}
 use Rattle.rls_seen.specs.Seen.{Seen, members}
 use Rattle.rls_top.specs.declared.made.Made.{Made}
-use Rattle.rls_top.specs.declared.stages.WorkError.{WorkError}
-use Rattle.rls_top.specs.Due.{Stops, due_of_message, is_for, saved, stores}
-use Rattle.rls_top.specs.Stages.{IsDue, of_work}
+use Rattle.rls_stages.specs.declared.errors.WorkError.{WorkError}
+use Rattle.rls_stages.specs.KeptFile.{saved}
+use Rattle.rls_top.specs.Due.{Stops, due_of_message, is_for, stores}
+use Rattle.rls_stages.specs.Errors.{of_work}
+use Rattle.rls_top.specs.Stages.{IsDue}
 
 -- it comes from another group, or one with another count of members
 pub not_for : (s : Seen) (m : Message) → IsForeign s m → is_for s m ≡ false

@@ -8,14 +8,16 @@ use Rattle.rls_report.specs.declared.failures.Failure.TheVariants.{Command, Faul
 use Rattle.rls_top.specs.declared.made.Made.{Made}
 use Rattle.rls_top.specs.declared.stages.DeviceError.{DeviceError}
 use Rattle.rls_top.specs.declared.stages.DeviceError.TheVariants as device
+use Rattle.rls_stages.specs.declared.errors.OpenError.TheVariants as opening
+use Rattle.rls_stages.specs.declared.errors.WorkError.TheVariants as work
 use Rattle.rls_top.specs.declared.stages.InputError.{InputError}
 use Rattle.rls_top.specs.declared.stages.InputError.TheVariants as input
 use Rattle.rls_top.specs.declared.stages.MakeError.{MakeError}
 use Rattle.rls_top.specs.declared.stages.MakeError.TheVariants as make
 use Rattle.rls_top.specs.declared.words.FileCommand.{FileCommand}
-use Rattle.rls_top.specs.Due.{Due, due_at, due_of_file, due_on, loaded, replica_in}
-use Rattle.rls_top.specs.Uses.{IsUsable}
-use Rattle.rls_top.specs.Stages.{make_of_input, of_device, of_make}
+use Rattle.rls_stages.specs.KeptFile.{loaded, replica_in, IsUsable}
+use Rattle.rls_top.specs.Due.{Due, due_at, due_of_file, due_on}
+use Rattle.rls_top.specs.Stages.{of_device, of_make}
 
 pub made_on_file : (c : FileCommand) (file : Option (Option (List ℕ))) (left : Option (List ℕ)) (s : Seen) (P : Due → Type 0) → IfSome file (λ kept. replica_in (loaded kept) ≡ Ok s) → IfSome (due_at c s left) P
     → IfSome (due_of_file c file left) P
@@ -44,16 +46,16 @@ finished_by e = Err e
 abbrev ended_by : Failure → Result Made Failure
 ended_by f = Err f
 
-pub source_so : (e : InputError) (m : MakeError) → m ≡ make_of_input e → made_by m ≡ made_by make.SourceFault → given_by e ≡ given_by input.SourceFault
-source_so (input.Command e) m is h = absurd (let never : make.Command e ≡ make.SourceFault = sym is ∙ (cc) in cc)
-source_so input.SourceFault m is h = refl
-source_so input.OutOfMemory m is h = absurd (let never : make.OutOfMemory ≡ make.SourceFault = sym is ∙ (cc) in cc)
+pub source_so : (e : InputError) (m : MakeError) → m ≡ make.Input e → made_by m ≡ made_by (make.Input input.SourceFault) → given_by e ≡ given_by input.SourceFault
+source_so e m is h = cc
 
-pub keeper_so : (e : MakeError) (f : Failure) → f ≡ of_make e → made_by e ≢ made_by make.KeeperFault → ended_by f ≢ ended_by (Fault Keeper)
-keeper_so (make.Command e) f is other h = let same : f ≡ Fault Keeper = cc in let never : Command e ≡ Fault Keeper = sym is ∙ same in cc
-keeper_so make.KeeperFault f is other h = other refl
-keeper_so make.SourceFault f is other h = let same : f ≡ Fault Keeper = cc in let never : Fault Source ≡ Fault Keeper = sym is ∙ same in cc
-keeper_so make.OutOfMemory f is other h = let same : f ≡ Fault Keeper = cc in let never : Fault Memory ≡ Fault Keeper = sym is ∙ same in cc
+pub keeper_so : (e : MakeError) (f : Failure) → f ≡ of_make e → made_by e ≢ made_by (make.Open opening.KeeperFault) → ended_by f ≢ ended_by (Fault Keeper)
+keeper_so (make.Open (opening.Command e)) f is other h = let same : f ≡ Fault Keeper = cc in let never : Command e ≡ Fault Keeper = sym is ∙ same in cc
+keeper_so (make.Open opening.KeeperFault) f is other h = other refl
+keeper_so (make.Open opening.OutOfMemory) f is other h = let same : f ≡ Fault Keeper = cc in let never : Fault Memory ≡ Fault Keeper = sym is ∙ same in cc
+keeper_so (make.Input (input.Work (work.Command e))) f is other h = let same : f ≡ Fault Keeper = cc in let never : Command e ≡ Fault Keeper = sym is ∙ same in cc
+keeper_so (make.Input (input.Work work.OutOfMemory)) f is other h = let same : f ≡ Fault Keeper = cc in let never : Fault Memory ≡ Fault Keeper = sym is ∙ same in cc
+keeper_so (make.Input input.SourceFault) f is other h = let same : f ≡ Fault Keeper = cc in let never : Fault Source ≡ Fault Keeper = sym is ∙ same in cc
 
 pub device_so : (e : DeviceError) (f : Failure) → f ≡ of_device e → finished_by e ≢ finished_by device.KeeperFault → ended_by f ≢ ended_by (Fault Keeper)
 device_so device.KeeperFault f is other h = other refl

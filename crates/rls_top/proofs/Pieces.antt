@@ -1,9 +1,10 @@
 -- Steps on the way to what a command makes.
-use Rattle.std.proofs.Common.{◌≡◌, ◌∙◌, ◌++◌, ◌+◌, ◌<◌, ◌≤◌, ℕ, true, false, ltb, leb, Option, IfSome, inl, inr, List, [], drop, slice_get, Some, None, Result, Ok, Err, sym, ap, subst, append_assoc, arith, refl}
-use Rattle.std.specs.Prelude.{Vec, IsFalse}
+use Rattle.std.proofs.Common.{◌≡◌, ◌∙◌, ◌++◌, ◌+◌, ◌<◌, ◌≤◌, ℕ, Bool, true, false, ltb, leb, Option, IfSome, inl, inr, List, [], drop, slice_get, Some, None, Result, Ok, Err, sym, ap, subst, append_assoc, arith, refl}
+use Rattle.std.specs.Prelude.{Vec, IsFalse, IsTrue, ◌&&◌}
 use Rattle.std.specs.declared.alloc.Global.{Global}
 use Rattle.std.proofs.lemmas.Bool.Decides.{nat_tests}
 use Rattle.rls_ident.proofs.Loops.{drop_reads}
+use Rattle.rls_ident.proofs.Members.{and_right}
 use Rattle.rls_io.specs.Memory.{bytes_of}
 use Rattle.rls_codec.specs.Reading.{is_member_count}
 use Rattle.rls_ops.specs.Spelling.{message_bytes}
@@ -20,8 +21,10 @@ use Rattle.rls_seen.specs.Messages.{message_over}
 use Rattle.rls_seen.specs.Seen.{Seen, fresh, members}
 use Rattle.rls_top.specs.declared.made.Made.{Made}
 use Rattle.rls_top.specs.declared.words.Command.TheVariants.{New}
-use Rattle.rls_top.specs.Due.{Due, Stops, refused_lines, due_of_send, due_of_fresh, due_of_new, error_of_numbers, calls_keeper, loaded, saved, stores}
-use Rattle.rls_top.specs.Stages.{EndsAs, GivesError, IsMade, IsAsDue}
+use Rattle.rls_stages.specs.KeptFile.{loaded, saved}
+use Rattle.rls_top.specs.Due.{Due, Stops, refused_lines, due_of_send, due_of_fresh, due_of_new, error_of_numbers, calls_keeper, stores}
+use Rattle.rls_stages.specs.Errors.{GivesError}
+use Rattle.rls_top.specs.Stages.{EndsAs, IsMade, IsAsDue}
 
 -- an answer isn't an error
 pub ok_is_not_err : {X E : Type 0} (x : X) (e : E) → Ok x ≡ Err e → ⊥
@@ -79,6 +82,15 @@ right_numbers group me members h =
 -- so the keeper is called
 pub called : {X : Type 0} (group me members : ℕ) → AreNumbers group me members → IsFalse (calls_keeper (Some (New group me members))) → X
 called group me members h none = let yes = (right_numbers group me members h).1 in cc
+
+-- with numbers out of range it isn't
+pub uncounted : {X : Type 0} (group me members : ℕ) → IsNoCount members → IsTrue (calls_keeper (Some (New group me members))) → X
+uncounted group me members none h = absurd (let never : false ≡ true = subst (λ (b : Bool). (b && ltb me members) ≡ true) (no_count members none) h in cc)
+
+pub no_member : {X : Type 0} (group me members : ℕ) → IsNoMember me members → IsTrue (calls_keeper (Some (New group me members))) → X
+no_member group me members none h =
+    let past : ltb me members ≡ false = let k = none.2 in grind (arith, nat_tests) in
+    absurd (let never : false ≡ true = sym past ∙ and_right (is_member_count members) (ltb me members) h in cc)
 
 -- numbers that are wrong end the command
 pub numbers_due : (group me members : ℕ) (file : Option (Option (List ℕ))) (e f : CommandError) → error_of_numbers me members ≡ Some f → e ≡ f → IfSome (due_of_new (error_of_numbers me members) group me members file) (EndsAs (Command e))

@@ -11,12 +11,13 @@ use Rattle.rls_seen.specs.Edits.{edited, made_over}
 use Rattle.rls_seen.specs.Messages.{by_parts, Course, edit_step, with_releases}
 use Rattle.rls_seen.specs.Over.{accepted}
 use Rattle.rls_seen.specs.Seen.{Seen, vector}
-use Rattle.rls_top.specs.declared.stages.WorkError.{WorkError}
-use Rattle.rls_top.specs.declared.stages.WorkError.TheVariants as work
+use Rattle.rls_stages.specs.declared.errors.LineError.{LineError}
+use Rattle.rls_stages.specs.declared.errors.LineError.TheVariants.{Refused, OutOfMemory}
 use Rattle.rls_top.specs.Due.{due_of_run, Stops}
 use Rattle.rls_model.specs.Machine.{Run, Done, Stopped, go_on, run_on}
-use Rattle.rls_top.specs.Lines.{run_lines}
-use Rattle.rls_top.specs.Stages.{EndsAs, IsEdited, IsRefused, of_work}
+use Rattle.rls_top.specs.Scripts.{run_lines}
+use Rattle.rls_stages.specs.Errors.{IsEdited, IsRefused, of_work}
+use Rattle.rls_top.specs.Stages.{EndsAs, at_line}
 
 -- how lines are read
 abbrev pub Reading : Type 0 → Type 0
@@ -55,14 +56,14 @@ run_reads : {L : Type 0} (reads : Reading L) (n : ℕ) (c : Course) (lines : Lis
 run_reads {L} reads n c lines i line run s e = sym (ap (λ (ls : List L). run_on by_parts reads n c ls) (drop_reads lines i line s)) ∙ e
 
 -- a refused line stops the run, and the command
-pub run_stops : {L : Type 0} (reads : Reading L) (n : ℕ) (c : Course) (lines : List L) (i : ℕ) (line : L) (run : Run Seen LineFault) (e : WorkError) → slice_get lines i ≡ Some line
-    → run_on by_parts reads n c (drop i lines) ≡ run → IsRefused n e (reads c.state line) → (k : ℕ) → EndsAs (of_work e) (due_of_run k run)
-run_stops {L} reads n c lines i line run work.OutOfMemory s h refused k = tt
-run_stops {L} reads n c lines i line run (work.Command e) s h refused k =
+pub run_stops : {L : Type 0} (reads : Reading L) (n : ℕ) (c : Course) (lines : List L) (i : ℕ) (line : L) (run : Run Seen LineFault) (e : LineError) → slice_get lines i ≡ Some line
+    → run_on by_parts reads n c (drop i lines) ≡ run → IsRefused e (reads c.state line) → (k : ℕ) → EndsAs (of_work (at_line n e)) (due_of_run k run)
+run_stops {L} reads n c lines i line run OutOfMemory s h refused k = tt
+run_stops {L} reads n c lines i line run (Refused fault) s h refused k =
     let rest : Edit → Run Seen LineFault = λ edit. run_on by_parts reads (suc n) (with_releases (edit_step c edit)) (drop (i + 1) lines) in
-    let at_line = run_reads reads n c lines i line run s h in
-    let stopped : Stopped n refused.0 ≡ run = subst (λ (m : Result Edit LineFault). go_on n m rest ≡ run) refused.2 at_line in
-    sym (ap (due_of_run k) stopped) ∙ ap Stops (sym refused.1)
+    let at_stop = run_reads reads n c lines i line run s h in
+    let stopped : Stopped n fault ≡ run = subst (λ (m : Result Edit LineFault). go_on n m rest ≡ run) refused at_stop in
+    sym (ap (due_of_run k) stopped)
 
 -- an accepted line, with what it makes ready, goes on
 pub run_goes_on : {L : Type 0} (reads : Reading L) (n m i : ℕ) (s new after : Seen) (found last : Taken) (lines : List L) (line : L) (run : Run Seen LineFault)
@@ -79,7 +80,7 @@ run_goes_on {L} reads n m i s new after found last lines line run one_more get h
 
 -- ---- one leave
 
-pub leave_stops : {L : Type 0} (reads : Reading L) (s : Seen) (line : L) (e : WorkError) → IsRefused 1 e (reads s line) → EndsAs (of_work e) (due_of_run 1 (run_lines reads s (line ∷ [])))
+pub leave_stops : {L : Type 0} (reads : Reading L) (s : Seen) (line : L) (e : LineError) → IsRefused e (reads s line) → EndsAs (of_work (at_line 1 e)) (due_of_run 1 (run_lines reads s (line ∷ [])))
 leave_stops {L} reads s line e refused =
     run_stops reads 1 (course s nothing) (line ∷ []) 0 line (run_lines reads s (line ∷ [])) e refl (run_begins reads s nothing (line ∷ []) refl) refused 1
 

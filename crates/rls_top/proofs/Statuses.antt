@@ -12,7 +12,8 @@ use Rattle.rls_top.specs.declared.made.Made.{Made}
 use Rattle.rls_top.specs.declared.words.Command as words
 use Rattle.rls_top.specs.Due.{Due, Makes, Stops, due_status, may_store}
 use Rattle.rls_top.specs.Due as due
-use Rattle.rls_top.specs.Endings.{IsFault, IsDone, IsStored, IsWritten, IsPartWritten, IsKept, MayStore, line_at}
+use Rattle.rls_stages.specs.Endings.{IsFault}
+use Rattle.rls_top.specs.Endings.{IsDone, IsStored, IsWritten, IsPartWritten, IsKept, MayStore, line_at}
 use Rattle.rls_top.specs.Stages.{IsAsDue, IsDue, IsEarly, IsStatusOf, Leaves, Reports, line_of, of_failure}
 use Rattle.rls_top.proofs.Finishing.{for_due}
 
@@ -46,15 +47,15 @@ apart n j k s h none = let yes : eqb j k ≡ true = subst (λ m. eqb j m ≡ tru
     same m = grind (arith, nat_tests)
 
 -- the status of what was made
-made_apart : {X : Type 0} (b : Bool) (n k : ℕ) → n ≡ cond b 0 5 → n ≡ k → eqb 0 k ≡ false → eqb 5 k ≡ false → X
+pub made_apart : {X : Type 0} (b : Bool) (n k : ℕ) → n ≡ cond b 0 5 → n ≡ k → eqb 0 k ≡ false → eqb 5 k ≡ false → X
 made_apart true n k s h zero five = apart n 0 k s h zero
 made_apart false n k s h zero five = apart n 5 k s h five
 
-made_stored : (b : Bool) (n : ℕ) → n ≡ cond b 0 5 → IsDone n
+pub made_stored : (b : Bool) (n : ℕ) → n ≡ cond b 0 5 → IsDone n
 made_stored true n e = inl e
 made_stored false n e = inr e
 
-stored_done : (n : ℕ) → IsDone n → IsStored n
+pub stored_done : (n : ℕ) → IsDone n → IsStored n
 stored_done n (inl e) = inl e
 stored_done n (inr e) = inr (inl e)
 
@@ -156,7 +157,7 @@ due_status_so d r n s h = for_due d (IsDue of_failure r) (λ d. (n ≡ due_statu
 -- ---- what is written and kept
 
 -- a status at which all was done is that of what was made
-done_made : (r : Result Made Failure) (n : ℕ) → IsStatusOf r n → IsDone n → (made : Made) × (r ≡ Ok made)
+pub done_made : (r : Result Made Failure) (n : ℕ) → IsStatusOf r n → IsDone n → (made : Made) × (r ≡ Ok made)
 done_made (Ok made) n s h = (made, refl)
 done_made (Err NoCommand) n (inl s) (inl h) = apart n 1 0 s h refl
 done_made (Err NoCommand) n (inl s) (inr h) = apart n 1 5 s h refl

@@ -6,17 +6,13 @@ use Rattle.rls_ops.specs.Spelling.{message_bytes}
 use Rattle.rls_codec.specs.Reading.{is_member_count, message_of}
 use Rattle.rls_model.specs.Answers.{Reason}
 use Rattle.rls_model.specs.Machine.{Run, Done, Stopped}
-use Rattle.rls_seen.specs.Kept.{parts_over}
 use Rattle.rls_seen.specs.Messages.{Course, message_over, taken_over}
 use Rattle.rls_seen.specs.Seen.{Seen, fresh, members, text_over}
 use Rattle.rls_world.specs.declared.trials.Summary.{Summary}
 use Rattle.rls_world.specs.Trial.{trial}
-use Rattle.rls_file.specs.Files.{Content, file_bytes}
-use Rattle.rls_file.specs.ReadingFiles.{file_of}
-use Rattle.rls_store.specs.Loading.{seen_in}
 use Rattle.rls_report.specs.declared.failures.LineFault.{LineFault}
 use Rattle.rls_report.specs.declared.failures.CommandError.{CommandError}
-use Rattle.rls_report.specs.declared.failures.CommandError.TheVariants.{NoReplica, ReplicaExists, Damaged, BadMembers, BadMe, NotMember, BadLine, Malformed, OtherGroup, TooLarge}
+use Rattle.rls_report.specs.declared.failures.CommandError.TheVariants.{ReplicaExists, BadMembers, BadMe, NotMember, BadLine, Malformed, OtherGroup, TooLarge}
 use Rattle.rls_report.specs.declared.failures.CommandError.TheVariants as errors
 use Rattle.rls_report.specs.Failures.{error_status, error_line, usage_line}
 use Rattle.rls_report.specs.Listing.{ids_over}
@@ -25,17 +21,15 @@ use Rattle.rls_report.specs.Reports.{new_text, edit_text, take_text, trial_text}
 use Rattle.rls_report.specs.Stat.{stat_over}
 use Rattle.rls_script.specs.Scripts.{script_of}
 use Rattle.rls_script.specs.declared.lines.Line.{Line}
+use Rattle.rls_stages.specs.KeptFile.{loaded, replica_in, saved}
 use Rattle.rls_top.specs.declared.words.Command.{Command}
 use Rattle.rls_top.specs.declared.words.Command.TheVariants.{New, OnFile, Trial}
 use Rattle.rls_top.specs.declared.words.FileCommand.{FileCommand}
 use Rattle.rls_top.specs.declared.words.FileCommand.TheVariants.{Edit, Text, Ids, Stat, Send, Take, Leave}
-use Rattle.rls_top.specs.Lines.{run_script, run_leave}
+use Rattle.rls_top.specs.Scripts.{run_script, run_leave}
 use Rattle.rls_top.specs.Words.{command_of}
 
--- the most bytes of a kept file, and of the input
-abbrev pub file_limit : ℕ
-file_limit = 268435456
-
+-- the most bytes of the input
 abbrev pub input_limit : ℕ
 input_limit = 67108864
 
@@ -53,33 +47,9 @@ shows report = Makes None report []
 
 -- ---- reading and storing
 
--- the bytes of the file, if there is one, unless they are too many
-abbrev pub loaded : Option (List ℕ) → Result (Option (List ℕ)) CommandError
-loaded None = Ok None
-loaded (Some bytes) = if nat_lt file_limit (length bytes) then Err TooLarge else Ok (Some bytes)
-
--- the replica that a file says
-abbrev pub replica_of : Result Content ℕ → Result Seen CommandError
-replica_of (Ok c) = Ok (seen_in c)
-replica_of (Err at) = Err (Damaged at)
-
--- the replica of the file that was loaded
-abbrev pub replica_in : Result (Option (List ℕ)) CommandError → Result Seen CommandError
-replica_in (Ok None) = Err NoReplica
-replica_in (Ok (Some bytes)) = replica_of (file_of bytes)
-replica_in (Err e) = Err e
-
 -- the input, unless it is too long
 abbrev pub read : List ℕ → Result (List ℕ) CommandError
 read input = if nat_lt input_limit (length input) then Err TooLarge else Ok input
-
--- the file of a replica, in the newest form
-abbrev pub bytes_over : Seen → List ℕ
-bytes_over s = file_bytes (parts_over s)
-
--- the replica, unless its file is too long
-abbrev pub saved : Seen → Result Seen CommandError
-saved s = if nat_lt file_limit (length (bytes_over s)) then Err TooLarge else Ok s
 
 -- this replica is stored, with this report
 abbrev pub stores : Result Seen CommandError → List ℕ → List (ℕ × ℕ × Reason) → Due

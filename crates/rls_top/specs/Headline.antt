@@ -4,20 +4,16 @@ use Rattle.rls_io.specs.Device.{Appends}
 use Rattle.rls_ops.specs.declared.message.Message.{Message}
 use Rattle.rls_model.specs.Answers.{Reason}
 use Rattle.rls_model.specs.History.{History, Fresh, group_of, members_of}
-use Rattle.rls_model.specs.Legal.{IsLegal}
 use Rattle.rls_model.specs.Parts.{parts}
 use Rattle.rls_model.specs.Receiving.{State}
-use Rattle.rls_file.specs.Files.{Journal, Snapshot, file_bytes}
-use Rattle.rls_file.specs.FileLaws.{IsFile}
+use Rattle.rls_file.specs.Files.{file_bytes}
 use Rattle.rls_top.specs.declared.words.Command.TheVariants.{OnFile}
 use Rattle.rls_top.specs.declared.words.FileCommand.{FileCommand}
-use Rattle.rls_top.specs.Due.{file_limit, input_limit, made_status}
-use Rattle.rls_top.specs.Endings.{IsDone, IsFault, IsStored}
+use Rattle.rls_stages.specs.KeptFile.{IsFileFor, StandsIn, file_limit}
+use Rattle.rls_top.specs.Due.{input_limit, made_status}
+use Rattle.rls_stages.specs.Endings.{EndsWith}
+use Rattle.rls_top.specs.Endings.{IsDone, IsStored}
 use Rattle.rls_top.specs.Words.{command_of}
-
--- the bytes are the journal of this history and what waits beside it, or a snapshot with its parts, which is legal
-abbrev pub IsFileFor : List ℕ → State → Type 0
-IsFileFor bytes t = IsFile bytes (Journal t) ⊎ (IsLegal t.history × ((form : ℕ) × IsFile bytes (Snapshot form (parts t))))
 
 -- the words are this command, over these bytes of a file, which stands for this history and what waits beside it
 pub record Asks (words : List (List ℕ)) (c : FileCommand) (file : Option (Option (List ℕ))) (bytes : List ℕ) (t : State) : Type 0 where
@@ -33,18 +29,7 @@ new_state group me members = record { history = Fresh group me members; waiting 
 abbrev pub is_for : History → Message → Bool
 is_for H m = (m.group == group_of H) && (m.members == members_of H)
 
--- ---- what is kept
-
--- the file that is kept stands for this history and what waits beside it
-abbrev pub StandsIn : Option (Option (List ℕ)) → State → Type 0
-StandsIn (Some (Some bytes)) t = IsFileFor bytes t
-StandsIn _ t = ⊥
-
 -- ---- how it ends
-
--- the status is this one, or a device failed, memory ran out, or something was too long
-abbrev pub EndsWith : ℕ → ℕ → Type 0 → Type 0
-EndsWith n status too_long = (n ≡ status) ⊎ IsFault n ⊎ ((n ≡ 11) × too_long)
 
 -- a command over these bytes of a file ends with this status and writes this report
 pub record Shows (n : ℕ) (bytes report : List ℕ) (old new : Option (List ℕ)) : Type 0 where

@@ -1,7 +1,7 @@
 pub mod Words
-pub mod Lines
+pub mod Scripts
 pub mod Due
 pub mod Endings
 pub mod Stages
-pub mod Uses
+pub mod Calls
 pub mod Headline

@@ -1,6 +1,6 @@
 //! The commands.
 
-ghost use Rattle.std.specs.Prelude.{◌≡◌, ◌≢◌, ◌<◌, ◌≤◌, ◌⊎◌, ℕ, Option, List, [], ◌∷◌, length, map, encode_utf8_all, string_bytes, Some, None, Ok, Err, IfOk, OnOk, OnErr, IfErr, IsTrue, IfSome, IsFalse, Contains};
+ghost use Rattle.std.specs.Prelude.{◌≡◌, ◌≢◌, ◌<◌, ◌≤◌, ◌⊎◌, ℕ, Option, List, [], ◌∷◌, length, map, encode_utf8_all, string_bytes, Some, None, Ok, Err, is_ok, IfOk, OnOk, OnErr, IfErr, IsTrue, IfSome, IsFalse, Contains};
 ghost use Rattle.rls_io.specs.Device.{Rose, Appends, Keeps};
 ghost use Rattle.rls_io.specs.Memory.{bytes_of};
 ghost use Rattle.rls_ops.specs.declared.message.Message.{Message};
@@ -23,12 +23,14 @@ ghost use Rattle.rls_top.specs.declared.stages.DeviceError.TheVariants as device
 ghost use Rattle.rls_top.specs.declared.words.Command.TheVariants.{New, OnFile};
 ghost use Rattle.rls_top.specs.declared.words.FileCommand.{FileCommand};
 ghost use Rattle.rls_top.specs.declared.words.FileCommand.TheVariants.{Edit, Text, Ids, Stat, Send, Take, Leave};
+ghost use Rattle.rls_top.specs.Calls.{Calls, HasFinished};
 ghost use Rattle.rls_top.specs.Due.{due, due_status, calls_keeper, may_store, reads_input};
-ghost use Rattle.rls_top.specs.Endings.{IsFault, IsDone, IsStored, MayStore, IsPart, IsWritten, IsPartWritten, IsKept, LeavesFile, Stays, Writes, line_at};
+ghost use Rattle.rls_stages.specs.Endings.{IsFault, IsPart, Writes};
+ghost use Rattle.rls_stages.specs.KeptFile.{LeavesFile, Stays, IsUsable};
+ghost use Rattle.rls_top.specs.Endings.{IsDone, IsStored, MayStore, IsWritten, IsPartWritten, IsKept, line_at};
 ghost use Rattle.rls_top.specs.Headline.{Asks, Shows, Saves, IsFileTooLong, IsTooLong, is_for, new_state};
-ghost use Rattle.rls_top.specs.Lines.{leave_in, script_in};
-ghost use Rattle.rls_top.specs.Stages.{IsDue, IsEarly, Leaves, Reports, of_device, of_failure};
-ghost use Rattle.rls_top.specs.Uses.{IsUsable};
+ghost use Rattle.rls_top.specs.Scripts.{leave_in, script_in};
+ghost use Rattle.rls_top.specs.Stages.{IsDue, IsEarly, Leaves, Reports, IsStatusOf, of_device, of_failure};
 ghost use Rattle.rls_top.specs.Words.{command_of};
 
 use crate::made::Made;
@@ -120,6 +122,9 @@ pub fn run<K: Keeper, S: Source, W: Sink, E: Sink>(
     // Devices that a command doesn't call stay as they are.
     ensures uncalled { IsFalse (calls_keeper (command_of (map string_bytes words.now))) → (keeper.new ≡ keeper.old) × (result ≢ 7) }
     ensures unread { IsFalse (reads_input (command_of (map string_bytes words.now))) → input.new ≡ input.old }
+
+    // The keeper is called at most twice: to load, and then to store what is called for.
+    ensures calls { Calls K.load_gives K.store_gives (command_of (map string_bytes words.now)) (due (map string_bytes words.now) (K.file keeper.old) (S.left input.old)) (input.new ≡ input.old) result keeper.old keeper.new }
 {
     let ending = perform(alloc, words, keeper, input, output);
     tell(alloc, ending, errors)
@@ -146,6 +151,8 @@ fn perform<K: Keeper, S: Source, W: Sink>(
     ensures unstored { IsFalse (may_store (command_of (map string_bytes words.now))) → Keeps (K.file keeper.old) (K.file keeper.new) }
     ensures uncalled { IsFalse (calls_keeper (command_of (map string_bytes words.now))) → (keeper.new ≡ keeper.old) × (result ≢ Err (Fault Keeper)) }
     ensures unread { IsFalse (reads_input (command_of (map string_bytes words.now))) → input.new ≡ input.old }
+    ensures calls { (n : ℕ) → IsStatusOf result n
+        → Calls K.load_gives K.store_gives (command_of (map string_bytes words.now)) (due (map string_bytes words.now) (K.file keeper.old) (S.left input.old)) (input.new ≡ input.old) n keeper.old keeper.new }
 {
     match parsed(words) {
         None => Err(Failure::NoCommand),
@@ -176,6 +183,7 @@ fn finish<K: Keeper, W: Sink>(
     ensures keeper { result ≡ Err device.KeeperFault → Rose (K.faults keeper.old) (K.faults keeper.new) }
     ensures output { result ≡ Err device.SinkFault → Rose (W.faults output.old) (W.faults output.new) }
     ensures never_falls { K.faults keeper.old ≤ K.faults keeper.new }
+    ensures calls { IfSome (bytes_of made.now.stored) (λ bytes. HasFinished K.store_gives bytes result keeper.old keeper.new) }
 {
     match store(alloc, made, keeper) {
         Err(StoreError::Failed) => Err(DeviceError::KeeperFault),
@@ -194,6 +202,7 @@ fn store<K: Keeper>(alloc: Global, made: &Made, keeper: &mut K) -> Result<(), St
     ensures unstored { made.now.stored ≡ None → (keeper.new ≡ keeper.old) × (result ≢ Err StoreError.Failed) }
     ensures keeper { result ≡ Err StoreError.Failed → Rose (K.faults keeper.old) (K.faults keeper.new) }
     ensures never_falls { K.faults keeper.old ≤ K.faults keeper.new }
+    ensures calls { IfSome (bytes_of made.now.stored) (λ bytes. K.store_gives keeper.old bytes (is_ok result) keeper.new) }
 {
     match &made.stored {
         None => Ok(()),

@@ -3,9 +3,9 @@
 
 mod command;
 mod editing;
-mod loading;
 mod made;
 mod making;
+mod reading;
 mod showing;
 mod stages;
 mod taking;

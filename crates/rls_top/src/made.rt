@@ -1,17 +1,17 @@
 //! What a command has made before anything of it is stored or written.
 
-ghost use Rattle.std.specs.Prelude.{◌≡◌, ◌++◌, [], None, IfOk, OnOk, take, string_bytes};
+ghost use Rattle.std.specs.Prelude.{◌≡◌, ◌++◌, [], None, IfOk, IsSome, take, string_bytes};
 ghost use Rattle.rls_model.specs.Answers.{reason_of};
 ghost use Rattle.rls_report.specs.Refused.{refused_line};
-ghost use Rattle.rls_top.specs.Due.{bytes_over, stores, saved, refused_lines};
-ghost use Rattle.rls_top.specs.Endings.{IsReadBack};
-ghost use Rattle.rls_top.specs.Stages.{Gives, IsDue, IsMade, of_work};
+ghost use Rattle.rls_stages.specs.Errors.{of_work};
+ghost use Rattle.rls_stages.specs.KeptFile.{saved};
+ghost use Rattle.rls_top.specs.Due.{stores, refused_lines};
+ghost use Rattle.rls_top.specs.Stages.{IsDue, IsMade};
 
-use crate::stages::WorkError;
 use rls_model::Refusals;
 use rls_replica::Replica;
-use rls_report::{CommandError, refusal_line};
-use rls_store::{SaveError, encode_file};
+use rls_report::refusal_line;
+use rls_stages::{WorkError, file_of};
 use std::alloc::{AllocError, Global};
 
 /// What a command has made, before anything of it is stored or written.
@@ -48,6 +48,7 @@ pub(crate) fn saving(
     refused: &Refusals,
 ) -> Result<Made, WorkError>
     ensures due { IsDue of_work result (stores (saved replica.now) (string_bytes report) refused.now) }
+    ensures stored { IfOk result (λ made. IsSome made.stored) }
 {
     match lines_of(alloc, refused) {
         Err(_) => Err(WorkError::OutOfMemory),
@@ -60,21 +61,6 @@ pub(crate) fn saving(
                 refused: refused.len(),
             }),
         },
-    }
-}
-
-// The file of a replica.
-fn file_of(alloc: Global, replica: &Replica) -> Result<Vec<u8>, WorkError>
-    ensures saved { Gives of_work (λ _. replica.now) result (saved replica.now) }
-    ensures bytes { IfOk result (λ bytes. bytes.items ≡ bytes_over replica.now) }
-    ensures read_back { OnOk result (IsReadBack replica.now) }
-{
-    match encode_file(alloc, replica) {
-        Ok(bytes) => Ok(bytes),
-        Err(SaveError::TooLarge { .. }) => Err(WorkError::Command {
-            error: CommandError::TooLarge,
-        }),
-        Err(SaveError::OutOfMemory) => Err(WorkError::OutOfMemory),
     }
 }
 

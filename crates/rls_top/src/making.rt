@@ -1,23 +1,27 @@
 //! What a command makes.
 
-ghost use Rattle.std.specs.Prelude.{◌≡◌, ◌≢◌, ◌≤◌, Option, Some, None, Err, IfOk, IfErr, IfSome, IsErr, IsTrue, IsFalse};
+ghost use Rattle.std.specs.Prelude.{◌≡◌, ◌≢◌, ◌≤◌, Option, Some, None, Err, IfOk, IfErr, IfSome, IsErr, IsSome, IsTrue, IsFalse};
 ghost use Rattle.rls_io.specs.Device.{Rose, Keeps};
 ghost use Rattle.rls_top.specs.declared.words.Command.TheVariants as commands;
 ghost use Rattle.rls_top.specs.Due.{due_at, due_of_command, due_of_file, due_of_new, error_of_numbers, calls_keeper, may_store, reads_input};
-ghost use Rattle.rls_top.specs.Uses.{IsUncalled, IsUsable};
-ghost use Rattle.rls_top.specs.Stages.{IsDue, of_input, of_make, of_open};
+ghost use Rattle.rls_top.specs.Stages.{IsUncalled, IsDue, of_input, of_make};
+ghost use Rattle.rls_stages.specs.KeptFile.{IsUsable};
+ghost use Rattle.rls_stages.specs.Errors.{of_open};
+ghost use Rattle.rls_stages.specs.Calls.{HasLoaded};
+ghost use Rattle.rls_top.specs.Calls.{HasMade, UnlessOpened};
 
 use crate::editing::{edit, leave};
-use crate::loading::{load, open, read};
 use crate::made::{Made, saving};
+use crate::reading::read;
 use crate::showing::{show_ids, show_message, show_stat, show_text, show_trial};
-use crate::stages::{InputError, MakeError, OpenError};
+use crate::stages::{InputError, MakeError};
 use crate::taking::take;
 use crate::words::{Command, FileCommand};
 use rls_io::{Keeper, Source};
 use rls_model::Refusals;
 use rls_replica::{NewError, Replica};
 use rls_report::{CommandError, new_report};
+use rls_stages::{OpenError, load, open};
 use std::alloc::Global;
 
 /// What the command makes, before anything is stored or written.
@@ -28,13 +32,16 @@ pub(crate) fn make<K: Keeper, S: Source>(
     input: &mut S,
 ) -> Result<Made, MakeError>
     ensures due { IfSome (due_of_command command (K.file keeper.old) (S.left input.old)) (IsDue of_make result) }
-    ensures keeper { result ≡ Err MakeError.KeeperFault → Rose (K.faults keeper.old) (K.faults keeper.new) }
-    ensures input { result ≡ Err MakeError.SourceFault → IsTrue (reads_input (Some command)) × IfSome (K.file keeper.old) IsUsable × Rose (S.faults input.old) (S.faults input.new) }
+    ensures keeper { result ≡ Err (MakeError.Open OpenError.KeeperFault) → Rose (K.faults keeper.old) (K.faults keeper.new) }
+    ensures input { result ≡ Err (MakeError.Input InputError.SourceFault) → IsTrue (reads_input (Some command)) × IfSome (K.file keeper.old) IsUsable × Rose (S.faults input.old) (S.faults input.new) }
     ensures never_falls { K.faults keeper.old ≤ K.faults keeper.new }
     ensures kept { Keeps (K.file keeper.old) (K.file keeper.new) }
     ensures uncalled { IsFalse (calls_keeper (Some command)) → IsUncalled result keeper.old keeper.new }
     ensures unstored { IsFalse (may_store (Some command)) → IfOk result (λ made. made.stored ≡ None) }
     ensures unread { IsFalse (reads_input (Some command)) → input.new ≡ input.old }
+    ensures storing { IsTrue (may_store (Some command)) → IfOk result (λ made. IsSome made.stored) }
+    ensures calls { IsTrue (calls_keeper (Some command)) → HasMade K.load_gives result keeper.old keeper.new }
+    ensures unopened { IfErr result (λ e. UnlessOpened e (input.new ≡ input.old)) }
 {
     match command {
         Command::New { group, me, members } => {
@@ -64,6 +71,8 @@ fn make_new<K: Keeper>(
     ensures keeper { result ≡ Err OpenError.KeeperFault → Rose (K.faults keeper.old) (K.faults keeper.new) }
     ensures never_falls { K.faults keeper.old ≤ K.faults keeper.new }
     ensures kept { Keeps (K.file keeper.old) (K.file keeper.new) }
+    ensures storing { IfOk result (λ made. IsSome made.stored) }
+    ensures calls { IsTrue (calls_keeper (Some (commands.New group me members))) → HasLoaded K.load_gives result keeper.old keeper.new }
 {
     match Replica::new(alloc, group, me, members) {
         Err(NewError::Members { members }) => Err(OpenError::Command {
@@ -97,12 +106,15 @@ fn make_on_file<K: Keeper, S: Source>(
     input: &mut S,
 ) -> Result<Made, MakeError>
     ensures due { IfSome (due_of_file command (K.file keeper.old) (S.left input.old)) (IsDue of_make result) }
-    ensures keeper { result ≡ Err MakeError.KeeperFault → Rose (K.faults keeper.old) (K.faults keeper.new) }
-    ensures input { result ≡ Err MakeError.SourceFault → IsTrue (reads_input (Some (commands.OnFile command))) × IfSome (K.file keeper.old) IsUsable × Rose (S.faults input.old) (S.faults input.new) }
+    ensures keeper { result ≡ Err (MakeError.Open OpenError.KeeperFault) → Rose (K.faults keeper.old) (K.faults keeper.new) }
+    ensures input { result ≡ Err (MakeError.Input InputError.SourceFault) → IsTrue (reads_input (Some (commands.OnFile command))) × IfSome (K.file keeper.old) IsUsable × Rose (S.faults input.old) (S.faults input.new) }
     ensures never_falls { K.faults keeper.old ≤ K.faults keeper.new }
     ensures kept { Keeps (K.file keeper.old) (K.file keeper.new) }
     ensures unstored { IsFalse (may_store (Some (commands.OnFile command))) → IfOk result (λ made. made.stored ≡ None) }
     ensures unread { IsFalse (reads_input (Some (commands.OnFile command))) → input.new ≡ input.old }
+    ensures storing { IsTrue (may_store (Some (commands.OnFile command))) → IfOk result (λ made. IsSome made.stored) }
+    ensures calls { HasMade K.load_gives result keeper.old keeper.new }
+    ensures unopened { IfErr result (λ e. UnlessOpened e (input.new ≡ input.old)) }
 {
     match open(alloc, keeper) {
         Err(error) => Err(MakeError::from(error)),
@@ -124,6 +136,7 @@ fn make_of<S: Source>(
     ensures input { result ≡ Err InputError.SourceFault → IsTrue (reads_input (Some (commands.OnFile command))) × Rose (S.faults input.old) (S.faults input.new) }
     ensures unstored { IsFalse (may_store (Some (commands.OnFile command))) → IfOk result (λ made. made.stored ≡ None) }
     ensures unread { IsFalse (reads_input (Some (commands.OnFile command))) → input.new ≡ input.old }
+    ensures storing { IsTrue (may_store (Some (commands.OnFile command))) → IfOk result (λ made. IsSome made.stored) }
 {
     let made = match command {
         FileCommand::Text => show_text(alloc, replica)?,

@@ -4,23 +4,16 @@ ghost use Rattle.std.specs.Prelude.{◌≡◌, ◌≤◌, None, IfOk, encode_utf
 ghost use Rattle.rls_seen.specs.Seen.{text_over};
 ghost use Rattle.rls_world.specs.Trial.{trial};
 ghost use Rattle.rls_top.specs.Due.{due_of_text, due_of_ids, due_of_stat, due_of_send, shows, summary_text};
-ghost use Rattle.rls_top.specs.Stages.{IsDue, of_work};
+ghost use Rattle.rls_stages.specs.Errors.{of_work};
+ghost use Rattle.rls_top.specs.Stages.{IsDue};
 
 use crate::made::{Made, showing};
-use crate::stages::WorkError;
 use rls_replica::{Replica, SendError};
 use rls_report::{CommandError, ids_json, stat_text, trial_report};
+use rls_stages::{WorkError, utf8_text};
 use rls_sync::message_bytes;
 use rls_world::{Summary, trial};
 use std::alloc::{AllocError, Global};
-
-/// The text in UTF-8.
-pub(crate) fn utf8_text(replica: &Replica) -> Result<String, AllocError>
-    ensures utf8 { IfOk result (λ utf8. string_bytes utf8 ≡ encode_utf8_all (text_over replica.now)) }
-{
-    let text = replica.text()?;
-    text.to_utf8()
-}
 
 /// Shows the text.
 pub(crate) fn show_text(alloc: Global, replica: &Replica) -> Result<Made, WorkError>

@@ -2,45 +2,27 @@
 
 ghost use Rattle.std.specs.Prelude.{◌≡◌};
 ghost use Rattle.rls_report.specs.declared.failures.Failure.TheVariants as failures;
-ghost use Rattle.rls_top.specs.declared.stages.WorkError.TheVariants as work;
-ghost use Rattle.rls_top.specs.declared.stages.OpenError.TheVariants as opening;
+ghost use Rattle.rls_top.specs.declared.stages.InputError.TheVariants as input;
+ghost use Rattle.rls_top.specs.declared.stages.MakeError.TheVariants as make;
 ghost use Rattle.rls_top.specs.declared.stages.DeviceError.TheVariants as device;
-ghost use Rattle.rls_top.specs.Stages.{input_of_work, open_of_work, make_of_input, make_of_open, of_make, of_device};
+ghost use Rattle.rls_top.specs.Stages.{at_line, of_device, of_input, of_make};
 
 use rls_io::Failed;
 use rls_report::{CommandError, Failure, Fault};
-use std::alloc::AllocError;
-
-/// While a replica is worked on.
-#[derive(Clone, Copy, Debug, PartialEq, Eq)]
-pub(crate) enum WorkError {
-    Command { error: CommandError },
-    OutOfMemory,
-}
+use rls_stages::{LineError, OpenError, WorkError};
 
 /// While the input is read, or its content is worked on.
 #[derive(Clone, Copy, Debug, PartialEq, Eq)]
 pub(crate) enum InputError {
-    Command { error: CommandError },
+    Work { error: WorkError },
     SourceFault,
-    OutOfMemory,
 }
 
-/// While the kept file is read.
-#[derive(Clone, Copy, Debug, PartialEq, Eq)]
-pub(crate) enum OpenError {
-    Command { error: CommandError },
-    KeeperFault,
-    OutOfMemory,
-}
-
-/// At any of these stages, so before anything is stored or written.
+/// While the kept file or the input is read, or the replica is worked on: before anything is stored or written.
 #[derive(Clone, Copy, Debug, PartialEq, Eq)]
 pub(crate) enum MakeError {
-    Command { error: CommandError },
-    KeeperFault,
-    SourceFault,
-    OutOfMemory,
+    Open { error: OpenError },
+    Input { error: InputError },
 }
 
 /// While the file is stored or the report is written.
@@ -51,83 +33,47 @@ pub(crate) enum DeviceError {
     OutOfMemory,
 }
 
-impl From<CommandError> for WorkError {
-    ghost from_gives = { λ error e. e ≡ work.Command error };
-
-    fn from(error: CommandError) -> WorkError {
-        WorkError::Command { error }
-    }
-}
-
-impl From<AllocError> for WorkError {
-    ghost from_gives = { λ _ e. e ≡ work.OutOfMemory };
-
-    fn from(_: AllocError) -> WorkError {
-        WorkError::OutOfMemory
-    }
-}
-
 impl From<WorkError> for InputError {
-    ghost from_gives = { λ error e. e ≡ input_of_work error };
+    ghost from_gives = { λ error e. e ≡ input.Work error };
 
     fn from(error: WorkError) -> InputError {
-        match error {
-            WorkError::Command { error } => InputError::Command { error },
-            WorkError::OutOfMemory => InputError::OutOfMemory,
-        }
-    }
-}
-
-impl From<CommandError> for OpenError {
-    ghost from_gives = { λ error e. e ≡ opening.Command error };
-
-    fn from(error: CommandError) -> OpenError {
-        OpenError::Command { error }
-    }
-}
-
-impl From<WorkError> for OpenError {
-    ghost from_gives = { λ error e. e ≡ open_of_work error };
-
-    fn from(error: WorkError) -> OpenError {
-        match error {
-            WorkError::Command { error } => OpenError::Command { error },
-            WorkError::OutOfMemory => OpenError::OutOfMemory,
-        }
+        InputError::Work { error }
     }
 }
 
 impl From<WorkError> for MakeError {
-    ghost from_gives = { λ error e. e ≡ make_of_input (input_of_work error) };
+    ghost from_gives = { λ error e. e ≡ make.Input (input.Work error) };
 
     fn from(error: WorkError) -> MakeError {
-        match error {
-            WorkError::Command { error } => MakeError::Command { error },
-            WorkError::OutOfMemory => MakeError::OutOfMemory,
+        MakeError::Input {
+            error: InputError::Work { error },
         }
     }
 }
 
 impl From<InputError> for MakeError {
-    ghost from_gives = { λ error e. e ≡ make_of_input error };
+    ghost from_gives = { λ error e. e ≡ make.Input error };
 
     fn from(error: InputError) -> MakeError {
-        match error {
-            InputError::Command { error } => MakeError::Command { error },
-            InputError::SourceFault => MakeError::SourceFault,
-            InputError::OutOfMemory => MakeError::OutOfMemory,
-        }
+        MakeError::Input { error }
     }
 }
 
 impl From<OpenError> for MakeError {
-    ghost from_gives = { λ error e. e ≡ make_of_open error };
+    ghost from_gives = { λ error e. e ≡ make.Open error };
 
     fn from(error: OpenError) -> MakeError {
+        MakeError::Open { error }
+    }
+}
+
+impl From<InputError> for Failure {
+    ghost from_gives = { λ error e. e ≡ of_input error };
+
+    fn from(error: InputError) -> Failure {
         match error {
-            OpenError::Command { error } => MakeError::Command { error },
-            OpenError::KeeperFault => MakeError::KeeperFault,
-            OpenError::OutOfMemory => MakeError::OutOfMemory,
+            InputError::Work { error } => Failure::from(error),
+            InputError::SourceFault => fault(Fault::Source),
         }
     }
 }
@@ -137,10 +83,8 @@ impl From<MakeError> for Failure {
 
     fn from(error: MakeError) -> Failure {
         match error {
-            MakeError::Command { error } => Failure::Command { error },
-            MakeError::KeeperFault => fault(Fault::Keeper),
-            MakeError::SourceFault => fault(Fault::Source),
-            MakeError::OutOfMemory => fault(Fault::Memory),
+            MakeError::Open { error } => Failure::from(error),
+            MakeError::Input { error } => Failure::from(error),
         }
     }
 }
@@ -170,4 +114,19 @@ fn fault(fault: Fault) -> Failure
     ensures fault { result ≡ failures.Fault fault }
 {
     Failure::Fault { fault }
+}
+
+/// Why the line of this number isn't performed.
+pub(crate) fn at_line(number: u64, error: LineError) -> WorkError
+    ensures error { result ≡ at_line number error }
+{
+    match error {
+        LineError::Refused { fault } => WorkError::Command {
+            error: CommandError::Edit {
+                line: number,
+                fault,
+            },
+        },
+        LineError::OutOfMemory => WorkError::OutOfMemory,
+    }
 }

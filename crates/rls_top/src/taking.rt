@@ -1,22 +1,25 @@
 //! Messages that are taken.
 
-ghost use Rattle.std.specs.Prelude.{◌≡◌, length, string_bytes};
+ghost use Rattle.std.specs.Prelude.{◌≡◌, length, string_bytes, IfOk, IsSome};
 ghost use Rattle.rls_codec.specs.Reading.{message_of};
 ghost use Rattle.rls_report.specs.Reports.{take_text};
-ghost use Rattle.rls_top.specs.Due.{due_of_message, stores, saved};
-ghost use Rattle.rls_top.specs.Stages.{IsDue, of_work};
+ghost use Rattle.rls_stages.specs.KeptFile.{saved};
+ghost use Rattle.rls_top.specs.Due.{due_of_message, stores};
+ghost use Rattle.rls_stages.specs.Errors.{of_work};
+ghost use Rattle.rls_top.specs.Stages.{IsDue};
 
 use crate::made::{Made, saving};
-use crate::stages::WorkError;
 use rls_model::Taken;
 use rls_replica::Replica;
 use rls_report::{CommandError, take_report};
+use rls_stages::WorkError;
 use rls_sync::{TakeBytesError, take_bytes};
 use std::alloc::Global;
 
 /// Takes the message that these bytes are.
 pub(crate) fn take(alloc: Global, replica: &mut Replica, bytes: &[u8]) -> Result<Made, WorkError>
     ensures due { IsDue of_work result (due_of_message replica.old (message_of bytes.now)) }
+    ensures stored { IfOk result (λ made. IsSome made.stored) }
 {
     match take_bytes(alloc, replica, bytes) {
         Err(TakeBytesError::Malformed { at }) => Err(WorkError::Command {
@@ -33,6 +36,7 @@ pub(crate) fn take(alloc: Global, replica: &mut Replica, bytes: &[u8]) -> Result
 // The report of a message that was taken, the lines of what was refused, and the file.
 fn report_taken(alloc: Global, replica: &Replica, taken: &Taken) -> Result<Made, WorkError>
     ensures due { IsDue of_work result (stores (saved replica.now) (take_text taken.now.applied taken.now.released taken.now.repeated taken.now.held (length taken.now.refused)) taken.now.refused) }
+    ensures stored { IfOk result (λ made. IsSome made.stored) }
 {
     let Taken {
         applied,

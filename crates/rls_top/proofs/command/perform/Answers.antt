@@ -1,9 +1,10 @@
-use Rattle.std.proofs.Common.{◌∙◌, IfSome, IsFalse, Option, Err, map, string_bytes, sym, subst}
+use Rattle.std.proofs.Common.{◌≡◌, ◌∙◌, IfSome, IsFalse, IsTrue, Option, Err, map, string_bytes, sym, subst}
 use Rattle.rls_report.specs.declared.failures.Failure.{Failure}
 use Rattle.rls_top.specs.declared.words.Command.{Command}
-use Rattle.rls_top.specs.Due.{calls_keeper, due, due_of_command}
-use Rattle.rls_top.specs.Stages.{IsAsDue, IsDue, Leaves, Reports, of_failure}
+use Rattle.rls_top.specs.Due.{calls_keeper, due, due_of_command, may_store}
+use Rattle.rls_top.specs.Stages.{IsAsDue, IsDue, IsStatusOf, Leaves, Reports, of_failure}
 use Rattle.rls_top.specs.Words.{command_of}
+use Rattle.rls_top.proofs.Called.{made_calls, unmade_calls}
 use Rattle.rls_top.proofs.Finishing.{cut_leaves, cut_reports, for_command, unmade_leaves, unmade_reports}
 use Rattle.rls_top.proofs.OnFiles.{device_so, keeper_so}
 use Rattle.rls_top.proofs.command.perform.Goals as goal
@@ -60,3 +61,26 @@ returns-in-Err-finish-clause-uncalled g c = λ h.
     let u = c.in-Ok.ensures.uncalled (subst (λ (w : Option Command). IsFalse (calls_keeper w)) (sym c.in-Some.ensures.command) h) in
     let f = c.in-Err-finish.ensures.unstored u.2 in
     (f.0 ∙ u.0, device_so c.in-Err-finish.error c.from-in-Err-finish.result c.from-in-Err-finish.ensures f.1)
+
+pub returns-in-Err-clause-calls : goal.returns-in-Err-clause-calls
+returns-in-Err-clause-calls g c = λ n s.
+    let words = command_of (map string_bytes c.args.words.now) in
+    let d = due (map string_bytes c.args.words.now) (g.K.Keeper.file c.args.keeper.now) (g.S.Source.left c.args.input.now) in
+    let is = sym c.in-Some.ensures.command in
+    unmade_calls g.K.Keeper.load_gives g.K.Keeper.store_gives words d (c.make.new.input ≡ c.args.input.now) c.in-Err.error c.from.result c.args.keeper.now c.make.new.keeper c.from.ensures
+    (λ h. (c.in-Err.ensures.uncalled (subst (λ (w : Option Command). IsFalse (calls_keeper w)) is h)).0) (λ h. c.in-Err.ensures.calls (subst (λ (w : Option Command). IsTrue (calls_keeper w)) is h)) c.in-Err.ensures.unopened n s
+
+pub returns-in-Err-finish-clause-calls : goal.returns-in-Err-finish-clause-calls
+returns-in-Err-finish-clause-calls g c = λ n s.
+    let file = g.K.Keeper.file c.args.keeper.now in
+    let left = g.S.Source.left c.args.input.now in
+    let words = command_of (map string_bytes c.args.words.now) in
+    let d = due (map string_bytes c.args.words.now) file left in
+    let is = sym c.in-Some.ensures.command in
+    made_calls g.K.Keeper.load_gives g.K.Keeper.store_gives words d (c.make.new.input ≡ c.args.input.now) c.in-Ok.made (Err c.in-Err-finish.error) c.args.keeper.now c.make.new.keeper c.finish.new.keeper
+    (λ h. let u = c.in-Ok.ensures.uncalled (subst (λ (w : Option Command). IsFalse (calls_keeper w)) is h) in ((c.in-Err-finish.ensures.unstored u.2).0 ∙ u.0, u.2))
+    (λ h. c.in-Ok.ensures.calls (subst (λ (w : Option Command). IsTrue (calls_keeper w)) is h))
+    (λ h. c.in-Err-finish.ensures.unstored (c.in-Ok.ensures.unstored (subst (λ (w : Option Command). IsFalse (may_store w)) is h)))
+    (λ h. c.in-Ok.ensures.storing (subst (λ (w : Option Command). IsTrue (may_store w)) is h))
+    c.in-Err-finish.ensures.calls (for_command words c.in-Some.command file left (IsAsDue c.in-Ok.made) c.in-Some.ensures.command c.in-Ok.ensures.due) n
+    (subst (λ (f : Failure). IsStatusOf (Err f) n) c.from-in-Err-finish.ensures s)

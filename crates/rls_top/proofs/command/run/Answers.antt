@@ -1,7 +1,7 @@
 use Rattle.std.proofs.Common.{map, string_bytes}
 use Rattle.rls_io.specs.Device.{Rose}
 use Rattle.rls_top.specs.Due.{due}
-use Rattle.rls_top.specs.Endings.{Writes}
+use Rattle.rls_stages.specs.Endings.{Writes}
 use Rattle.rls_top.specs.Words.{command_of}
 use Rattle.rls_top.proofs.Headlines.{edits_saved, ids_shown, leave_saved, message_saved, message_shown, new_saved, stat_shown, text_shown}
 use Rattle.rls_top.proofs.Statuses.{due_status_so, early_so, file_so, keeper_fault, line_so, no_command, no_other, partly_so, report_so, sink_fault, source_fault, unstored_so}
@@ -106,3 +106,6 @@ returns-clause-new g c = λ group me members command missing head.
 
 pub returns-clause-uncalled : goal.returns-clause-uncalled
 returns-clause-uncalled g c = λ h. let u = c.perform-ending.ensures.uncalled h in (u.0, λ e. u.1 (keeper_fault c.perform-ending.result c.tell.result c.tell.ensures.status e))
+
+pub returns-clause-calls : goal.returns-clause-calls
+returns-clause-calls g c = c.perform-ending.ensures.calls c.tell.result c.tell.ensures.status

@@ -1,16 +1,23 @@
 use Rattle.std.proofs.Common.{sym, subst, ap}
+use Rattle.rls_stages.specs.declared.errors.WorkError.{WorkError}
 use Rattle.rls_model.specs.declared.edit.Edit.TheVariants as edits
 use Rattle.rls_top.specs.Due.{Due, due_of_run}
-use Rattle.rls_top.specs.Lines.{allowed}
-use Rattle.rls_top.specs.Stages.{IsDue, of_work}
+use Rattle.rls_stages.specs.Lines.{allowed}
+use Rattle.rls_stages.specs.Errors.{of_work}
+use Rattle.rls_top.specs.Scripts.{run_leave}
+use Rattle.rls_top.specs.Stages.{EndsAs, IsDue}
 use Rattle.rls_top.proofs.Runs.{leave_stops, leave_done}
 use Rattle.rls_top.proofs.editing.leave.Goals as goal
 
 pub returns-in-Err : goal.returns-in-Err
-returns-in-Err c = record { due = leave_stops allowed c.args.replica.now edits.Leave c.in-Err.error c.in-Err.ensures.refused }
+returns-in-Err c = record {
+  due = subst (λ (e : WorkError). EndsAs (of_work e) (due_of_run 1 (run_leave c.args.replica.now))) (sym c.at_line.ensures.error)
+      (leave_stops allowed c.args.replica.now edits.Leave c.in-Err.error c.in-Err.ensures.refused);
+  stored = tt;
+}
 
 pub returns : goal.returns
 returns c =
-    let run = leave_done allowed c.args.replica.now c.make_edit.new.replica c.release_all.new.self c.nothing_taken-taken.result c.release_all.new.taken edits.Leave
+    let run = leave_done allowed c.args.replica.now c.perform_edit.new.replica c.release_all.new.self c.nothing_taken-taken.result c.release_all.new.taken edits.Leave
     c.nothing_taken-taken.ensures.nothing c.in-Ok.ensures.made c.in-Ok-release_all.ensures.ok in
-    record { due = subst (λ (d : Due). IsDue of_work c.report_edits.result d) (sym (ap (due_of_run 1) run)) c.report_edits.ensures.due }
+    record { due = subst (λ (d : Due). IsDue of_work c.report_edits.result d) (sym (ap (due_of_run 1) run)) c.report_edits.ensures.due; stored = c.report_edits.ensures.stored }

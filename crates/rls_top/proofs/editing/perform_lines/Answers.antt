@@ -1,6 +1,11 @@
-use Rattle.std.proofs.Common.{◌≡◌, ◌+◌, suc, arith}
+use Rattle.std.proofs.Common.{◌≡◌, ◌+◌, suc, sym, subst, arith}
 use Rattle.rls_replica.specs.Steps.{course}
-use Rattle.rls_top.specs.Lines.{read_line, run_script}
+use Rattle.rls_stages.specs.declared.errors.WorkError.{WorkError}
+use Rattle.rls_stages.specs.Errors.{of_work}
+use Rattle.rls_stages.specs.Lines.{read_line}
+use Rattle.rls_top.specs.Due.{due_of_run}
+use Rattle.rls_top.specs.Scripts.{run_script}
+use Rattle.rls_top.specs.Stages.{EndsAs}
 use Rattle.rls_top.proofs.Runs.{run_begins, run_stops, run_goes_on, counted_on}
 use Rattle.rls_top.proofs.editing.perform_lines.Goals as goal
 
@@ -11,9 +16,10 @@ loop-i-init c = record {
 }
 
 pub returns-in-Err-clause-refused : goal.returns-in-Err-clause-refused
-returns-in-Err-clause-refused c =
-    run_stops read_line (c.loop-i.i + 1) (course c.loop-i.replica c.loop-i.taken) c.args.lines.now c.loop-i.i c.get.result.now (run_script c.args.replica.now c.args.lines.now) c.in-Err.error
-    c.get.ensures.line c.loop-i.invariant.run c.in-Err.ensures.refused
+returns-in-Err-clause-refused c = λ k.
+    let run = run_script c.args.replica.now c.args.lines.now in
+    subst (λ (e : WorkError). EndsAs (of_work e) (due_of_run k run)) (sym c.at_line.ensures.error)
+    (run_stops read_line (c.loop-i.i + 1) (course c.loop-i.replica c.loop-i.taken) c.args.lines.now c.loop-i.i c.get.result.now run c.in-Err.error c.get.ensures.line c.loop-i.invariant.run c.in-Err.ensures.refused k)
 
 pub release_all-requires : goal.release_all-requires
 release_all-requires c = record {

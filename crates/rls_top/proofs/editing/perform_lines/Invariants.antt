@@ -1,6 +1,7 @@
 use Rattle.std.proofs.Common.{◌≡◌, ◌+◌, drop}
 use Rattle.rls_replica.specs.Steps.{CountsReleased, course}
-use Rattle.rls_top.specs.Lines.{read_line, run_script}
+use Rattle.rls_stages.specs.Lines.{read_line}
+use Rattle.rls_top.specs.Scripts.{run_script}
 use Rattle.rls_model.specs.Machine.{run_on}
 use Rattle.rls_seen.specs.Messages.{by_parts}
 use Rattle.rls_top.proofs.editing.perform_lines.Given as goal

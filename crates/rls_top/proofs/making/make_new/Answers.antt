@@ -1,6 +1,6 @@
 use Rattle.std.proofs.Common.{◌∙◌, Err, ap}
 use Rattle.rls_report.specs.declared.failures.CommandError.TheVariants.{BadMembers, BadMe}
-use Rattle.rls_top.proofs.Pieces.{no_me, no_members, numbers_due}
+use Rattle.rls_top.proofs.Pieces.{no_me, no_member, no_members, numbers_due, uncounted}
 use Rattle.rls_top.proofs.making.make_new.Goals as goal
 
 pub returns-in-Err-Members-clause-due : goal.returns-in-Err-Members-clause-due
@@ -14,3 +14,9 @@ returns-in-Err-Me-clause-due g c =
     let e = c.in-Err-Me in
     let cause = (c.new.ensures.me e.me).0 (e.is ∙ ap Err e.field-0-is) in
     numbers_due c.args.group c.args.me c.args.members (g.K.Keeper.file c.args.keeper.now) _ (BadMe c.args.me) (no_me c.args.me c.args.members cause.1) (ap BadMe (e.me-is ∙ cause.0))
+
+pub returns-in-Err-Members-clause-calls : goal.returns-in-Err-Members-clause-calls
+returns-in-Err-Members-clause-calls g c = λ h. let e = c.in-Err-Members in uncounted c.args.group c.args.me c.args.members ((c.new.ensures.members e.members).0 (e.is ∙ ap Err e.field-0-is)).1 h
+
+pub returns-in-Err-Me-clause-calls : goal.returns-in-Err-Me-clause-calls
+returns-in-Err-Me-clause-calls g c = λ h. let e = c.in-Err-Me in no_member c.args.group c.args.me c.args.members ((c.new.ensures.me e.me).0 (e.is ∙ ap Err e.field-0-is)).1 h

@@ -7,9 +7,9 @@ pub returns-in-Err-OtherGroup : goal.returns-in-Err-OtherGroup
 returns-in-Err-OtherGroup c =
     let e = c.in-Err-OtherGroup in
     let cause = c.take_bytes.ensures.other_group e.group e.members (e.is ∙ ap Err e.field-0-is) in
-    record { due = foreign_due c.args.replica.now cause.0 (message_of c.args.bytes.now) e.group e.members _ _ cause.1 cause.2 cause.3 cause.4 e.group-is e.members-is }
+    record { due = foreign_due c.args.replica.now cause.0 (message_of c.args.bytes.now) e.group e.members _ _ cause.1 cause.2 cause.3 cause.4 e.group-is e.members-is; stored = tt }
 
 pub returns-in-Ok : goal.returns-in-Ok
 returns-in-Ok c =
     let t = c.in-Ok.ensures.taken in
-    record { due = taken_due c.args.replica.now c.take_bytes.new.replica t.0 (message_of c.args.bytes.now) c.in-Ok.taken c.report_taken.result t.1 t.2 t.3 t.4 c.report_taken.ensures.due }
+    record { due = taken_due c.args.replica.now c.take_bytes.new.replica t.0 (message_of c.args.bytes.now) c.in-Ok.taken c.report_taken.result t.1 t.2 t.3 t.4 c.report_taken.ensures.due; stored = c.report_taken.ensures.stored }

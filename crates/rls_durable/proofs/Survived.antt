@@ -1,0 +1,101 @@
+-- What a stop leaves of the disk, from the calls of the keeper that a command makes.
+use Rattle.std.proofs.Common.{◌≡◌, ◌≢◌, ◌∙◌, ⊎_elim, inl, inr, ℕ, Bool, true, false, List, Option, Some, None, IfSome, IsTrue, IsFalse, refl, sym, subst, arith}
+use Rattle.rls_journal.specs.Areas.{Areas, kept}
+use Rattle.rls_journal.specs.Disk.{LeavesOnly}
+use Rattle.rls_journal.specs.Keeper.{IsAtRest, IsOldOrNew, LoadGives, StoreGives}
+use Rattle.rls_journal.specs.Slots.{HasStored}
+use Rattle.rls_top.specs.Calls.{Calls, CallsNothing, FailsToLoad, FailsToStore, IsKeepersStatus, Loads, Stores}
+use Rattle.rls_top.specs.Due.{Due, calls_keeper, may_store}
+use Rattle.rls_top.specs.Endings.{IsStored}
+use Rattle.rls_top.specs.declared.words.Command.{Command}
+use Rattle.rls_durable.specs.Stops.{HasDue, IsOld, LeavesOldOrDue}
+
+-- what is said of a value that is there
+at_some : {A : Type 0} (o : Option A) (P : A → Type 0) (x : A) → o ≡ Some x → IfSome o P → P x
+at_some o P x e h = subst (λ o. IfSome o P) e h
+
+to_some : {A : Type 0} (o : Option A) (P : A → Type 0) → ((x : A) → o ≡ Some x → P x) → IfSome o P
+to_some None P f = tt
+to_some (Some x) P f = f x refl
+
+both : {X : Type 0} (b : Bool) → IsTrue b → IsFalse b → X
+both b is isnt = absurd (let never : true ≡ false = sym is ∙ isnt in cc)
+
+apart : (n : ℕ) → IsKeepersStatus n → IsStored n → ⊥
+apart n (inl a) (inl b) = omega (arith, a, b)
+apart n (inl a) (inr (inl b)) = omega (arith, a, b)
+apart n (inl a) (inr (inr b)) = omega (arith, a, b)
+apart n (inr a) (inl b) = omega (arith, a, b)
+apart n (inr a) (inr (inl b)) = omega (arith, a, b)
+apart n (inr a) (inr (inr b)) = omega (arith, a, b)
+
+module _ {D : Type 0} (seen : D → Option Areas) (may_leave : D → Areas → Type 0) (moment : D → ℕ) (left_since : D → ℕ → Areas → Type 0) (only : (disk : D) (c : Areas) → left_since disk (moment disk) c → may_leave disk c) where
+  -- a disk of which a stop leaves this file
+  abbrev Keeps : D → Option (List ℕ) → Type 0
+  Keeps disk file = (c : Areas) → may_leave disk c → kept c ≡ file
+
+  uncalled_only : (old : D) (before : Option (List ℕ)) → Keeps old before → LeavesOnly moment left_since old old (IsOld before)
+  uncalled_only old before rest = record { later = omega arith; each = λ c left. rest c (only old c left); before = λ t c le left. inl left }
+
+  loaded_only : (ok : Bool) (old new : D) (before : Option (List ℕ)) → Keeps old before → LoadGives seen may_leave moment left_since ok old new → LeavesOnly moment left_since old new (IsOld before)
+  loaded_only ok old new before rest load =
+      let u = load.unchanged in
+      record {
+        later = u.later;
+        each = λ c left. ⊎_elim (λ past. rest c (only old c past)) (rest c) (u.before (moment old) c (omega arith) left);
+        before = λ t c le left. ⊎_elim (λ past. inl past) (λ now. inr (rest c now)) (u.before t c le left);
+      }
+
+  stored_only : (bytes : List ℕ) (ok : Bool) (old mid new : D) (s : Areas) → seen old ≡ Some s → Keeps old (kept s) → LoadGives seen may_leave moment left_since true old mid → StoreGives seen may_leave moment left_since bytes ok mid new
+      → LeavesOnly moment left_since old new (IsOldOrNew (kept s) bytes)
+  stored_only bytes ok old mid new s is rest load store =
+      let front = loaded_only true old mid (kept s) rest load in
+      let back = at_some (seen mid) (λ s. LeavesOnly moment left_since mid new (IsOldOrNew (kept s) bytes)) s (load.unchanged.same ∙ is) (store.any_moment (load.rest refl)) in
+      record {
+        later = omega (arith, front.later, back.later);
+        each = λ c left. ⊎_elim (λ past. inl (front.each c past)) (λ p. p) (back.before (moment old) c front.later left);
+        before = λ t c le left. ⊎_elim (λ past. ⊎_elim (λ early. inl early) (λ same. inr (inl same)) (front.before t c le past)) (λ p. inr p) (back.before t c (omega (arith, le, front.later)) left);
+      }
+
+  -- after a store that answered Ok the keeper is at rest
+  stored_rest : (bytes : List ℕ) (mid new : D) → HasStored bytes (seen mid) (seen new) (may_leave new) → IsAtRest seen may_leave new
+  stored_rest bytes mid new h = go (seen mid) h
+    where
+      go : (o : Option Areas) → HasStored bytes o (seen new) (may_leave new) → IsAtRest seen may_leave new
+      go None h = subst (λ o. IfSome o (λ s. (c : Areas) → may_leave new c → kept c ≡ kept s)) (sym h) tt
+      go (Some old) h = subst (λ o. IfSome o (λ s. (c : Areas) → may_leave new c → kept c ≡ kept s)) (sym h.1) (λ c left. h.3 c left ∙ sym h.2)
+
+  module _ {K : Type 0} (disk : K → D) (c : Option Command) (d : Option Due) (unread : Type 0) (n : ℕ) (old new : K) where
+    abbrev load : K → Bool → K → Type 0
+    load before ok after = LoadGives seen may_leave moment left_since ok (disk before) (disk after)
+
+    abbrev store : K → List ℕ → Bool → K → Type 0
+    store before bytes ok after = StoreGives seen may_leave moment left_since bytes ok (disk before) (disk after)
+
+    survived_at : (s : Areas) → seen (disk old) ≡ Some s → Keeps (disk old) (kept s) → Calls load store c d unread n old new → LeavesOldOrDue moment left_since (may_store c) d (kept s) (disk old) (disk new)
+    survived_at s is rest (CallsNothing same none at) = inl (subst (λ (k : K). LeavesOnly moment left_since (disk old) (disk k) (IsOld (kept s))) (sym same) (uncalled_only (disk old) (kept s) rest))
+    survived_at s is rest (FailsToLoad l at u) = inl (loaded_only false (disk old) (disk new) (kept s) rest l)
+    survived_at s is rest (Loads l at u) = inl (loaded_only true (disk old) (disk new) (kept s) rest l)
+    survived_at s is rest (FailsToStore l may at) = inr (may, (l.bytes, l.due, stored_only l.bytes false (disk old) (disk l.between) (disk new) s is rest l.loaded l.stored))
+    survived_at s is rest (Stores l may at) = inr (may, (l.bytes, l.due, stored_only l.bytes true (disk old) (disk l.between) (disk new) s is rest l.loaded l.stored))
+
+    -- a stop at any moment
+    pub survived : Calls load store c d unread n old new → IsAtRest seen may_leave (disk old) → IfSome (seen (disk old)) (λ s. LeavesOldOrDue moment left_since (may_store c) d (kept s) (disk old) (disk new))
+    survived calls rest = to_some (seen (disk old)) (λ s. LeavesOldOrDue moment left_since (may_store c) d (kept s) (disk old) (disk new)) (λ s is. survived_at s is (at_some (seen (disk old)) (λ s. Keeps (disk old) (kept s)) s is rest) calls)
+
+    -- after a command that stored
+    pub kept_due : Calls load store c d unread n old new → IsTrue (may_store c) → IsStored n → HasDue seen may_leave d (disk old) (disk new)
+    kept_due (CallsNothing same none shows) may at = both (may_store c) may (shows at)
+    kept_due (FailsToLoad l fails u) may at = absurd (apart n fails at)
+    kept_due (Loads l at shows) may stored = both (may_store c) may (shows stored)
+    kept_due (FailsToStore l m fails) may at = absurd (apart n fails at)
+    kept_due (Stores l m at) may stored = (l.bytes, l.due, subst (λ o. HasStored l.bytes o (seen (disk new)) (may_leave (disk new))) l.loaded.unchanged.same (l.stored.stored refl))
+
+    -- at rest
+    pub rests_again : Calls load store c d unread n old new → IsTrue (calls_keeper c) → n ≢ 7 → n ≢ 10 → IsAtRest seen may_leave (disk new)
+    rests_again (CallsNothing same (inl none) shows) calls seven ten = both (calls_keeper c) calls none
+    rests_again (CallsNothing same (inr fails) shows) calls seven ten = absurd (ten fails)
+    rests_again (FailsToLoad l at u) calls seven ten = absurd (⊎_elim seven ten at)
+    rests_again (Loads l at u) calls seven ten = l.rest refl
+    rests_again (FailsToStore l may at) calls seven ten = absurd (⊎_elim seven ten at)
+    rests_again (Stores l may at) calls seven ten = stored_rest l.bytes (disk l.between) (disk new) (l.stored.stored refl)
