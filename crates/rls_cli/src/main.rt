@@ -1,13 +1,14 @@
-//! Runs the command that its words name, on the replica file of the current folder, and ends with the command's status.
+//! Runs the command that its words name, or a session, on the replica file of the current folder, and ends with its status.
 #![tactic(auto)]
 
 mod folder;
+mod performing;
 mod streams;
 
 use folder::{FolderKeeper, folder_keeper};
+use performing::perform;
 use rls_io::{StdSink, StdSource, write_all_of};
 use rls_report::Fault;
-use rls_top::run;
 use std::alloc::AllocError;
 use std::io::ErrorKind;
 use std::process::ExitCode;
@@ -62,7 +63,7 @@ fn main(rt: HostRuntime) -> ExitCode {
     let mut keeper = keeper(&rt, &guard);
     let mut input = StdSource::new(rt.stdin().lock());
     let mut output = StdSink::new(rt.stdout());
-    let status = run(
+    let status = perform(
         rt.alloc(),
         &words,
         &mut keeper,

@@ -1,7 +1,8 @@
 use crate::folder::folder_keeper;
+use crate::performing::perform;
 use crate::watched::{Watch, Watched};
-use rls_io::{Found, Keeper};
-use std::alloc::Global;
+use rls_io::{Found, Keeper, MemoryKeeper, MemorySink, MemorySource};
+use std::alloc::{AllocError, Global};
 use std::fs;
 use std::test::Fail;
 
@@ -123,5 +124,40 @@ fn the_folder_is_synced_before_its_file_is_loaded(rt: HostRuntime) -> Result<(),
     clear(&rt);
     assert_eq!(rt; (is_begun, found), (true, 'o'));
     assert_eq!(rt; watch.told()?.as_str(), " sync .");
+    Ok(())
+}
+
+/// What is printed if these words, with single spaces between them, are given with this input.
+fn printed(
+    alloc: Global,
+    keeper: &mut MemoryKeeper,
+    words: &str,
+    given: &[u8],
+) -> Result<Vec<u8>, AllocError> {
+    let mut list = Vec::new(alloc);
+    for word in words.split(' ') {
+        list.push(String::from_str(alloc, word)?)?;
+    }
+    let mut input = MemorySource::new(alloc, given, &[])?;
+    let mut output = MemorySink::new(alloc, 1000, &[])?;
+    let mut errors = MemorySink::new(alloc, 1000, &[])?;
+    let _status = perform(alloc, &list, keeper, &mut input, &mut output, &mut errors);
+    Vec::from_slice(alloc, output.written())
+}
+
+#[test]
+fn one_word_begins_a_session(rt: HostRuntime) -> Result<(), Fail> {
+    let alloc = rt.alloc();
+    let mut keeper = MemoryKeeper::new(alloc, None, &[])?;
+    for (words, given, wanted) in [
+        ("new 7 0 2", "", "new 7 0 2\n"),
+        ("session", "i 0 a\nt\n", "ok 1\ntext 1\na\nsaved\n"),
+        ("text", "t\n", "a"),
+        ("session now", "t\n", ""),
+        ("Session", "t\n", ""),
+    ] {
+        let answer = printed(alloc, &mut keeper, words, given.as_bytes())?;
+        assert_eq!(rt; answer.as_slice(), wanted.as_bytes(), "{words}");
+    }
     Ok(())
 }

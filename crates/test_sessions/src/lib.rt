@@ -1,0 +1,5 @@
+//! Tests of sessions, over devices in memory.
+#![tactic(auto)]
+
+#[cfg(test)]
+mod sessions;

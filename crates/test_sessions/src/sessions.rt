@@ -1,0 +1,259 @@
+use rls_io::{Failed, MemoryKeeper, MemorySink, MemorySource, Source};
+use rls_session::serve;
+use std::alloc::Global;
+use std::test::Fail;
+use test_steps::bytes::{HELLO_FILE, HELLO_MESSAGE, bytes, front};
+
+/// Member 0 of 2 in group 7 after its insertion of `hello`.
+const TYPED: &str =
+    "524c5346 04 0000000000000007 00000002 00000000 0000000100000000 0000000000000000 00000000 00000001 00000001 00000000 00000005 00000000 00000001 00 00000001 00000001 01 7fffffff 00000000 00000001 00000000 00000005 00000005 68656c6c6f 00000001 00000000 00000001 0000000000000000 00 00 00000001 01 7fffffff 00000000 00000001 00000000 00000005 68656c6c6f 00000000";
+
+/// A fresh member 1 of 2 in group 7.
+const FRESH: &str =
+    "524c5346 04 0000000000000007 00000002 00000001 0000000000000000 0000000000000000 00000000 0000000000000000 00000001 00 00000000 00000000 00000000";
+
+/// A source that gives at most one byte a call.
+#[derive(Drop)]
+struct Dribble {
+    source: MemorySource,
+}
+
+impl Source for Dribble {
+    ghost left = { λ d. Some d.source.left };
+
+    ghost faults = { λ d. d.source.faults };
+
+    fn read(&mut self, buf: &mut [u8]) -> Result<usize, Failed> {
+        self.source.read(&mut buf[..1])
+    }
+}
+
+/// What a session answered: its status, what it wrote, and the file that is kept afterwards, if there is one.
+#[derive(Drop)]
+struct Answer {
+    status: u8,
+    output: Vec<u8>,
+    errors: Vec<u8>,
+    file: Vec<u8>,
+}
+
+/// Holds a session over this file with this input, of which calls with these numbers fail: of the keeper, the input and the output.
+/// The input comes byte by byte, or in pieces as large as the session reads.
+fn held(
+    alloc: Global,
+    file: Option<&[u8]>,
+    input: &[u8],
+    failing: [&[u64]; 3],
+    is_slow: bool,
+) -> Result<Answer, Fail> {
+    let mut keeper = MemoryKeeper::new(alloc, file, failing[0])?;
+    let mut output = MemorySink::new(alloc, 10_000, failing[2])?;
+    let mut errors = MemorySink::new(alloc, 1_000, &[])?;
+    let mut source = MemorySource::new(alloc, input, failing[1])?;
+    let status = if is_slow {
+        let mut slow = Dribble { source };
+        serve(alloc, &mut keeper, &mut slow, &mut output, &mut errors)
+    } else {
+        serve(alloc, &mut keeper, &mut source, &mut output, &mut errors)
+    };
+    Ok(Answer {
+        status,
+        output: Vec::from_slice(alloc, output.written())?,
+        errors: Vec::from_slice(alloc, errors.written())?,
+        file: Vec::from_slice(alloc, keeper.file().unwrap_or(&[]))?,
+    })
+}
+
+/// Each row: the input, the replies, and whether the file is another one afterwards.
+type Row<'a> = (&'a [u8], &'a [u8], bool);
+
+const ROWS: &[Row<'_>] = &[
+    // An insertion in front of the cursor moves it, and is taken back.
+    (
+        b"k 3\ni 0 A\np\nu\nt\nq\n",
+        b"cursor 3\nok 2\ncursor 4\nundone 1 1\ntext 5\nhello\nsaved\n",
+        true,
+    ),
+    // Refused, unknown, nothing to undo, no such member, and the end without `q`.
+    (
+        b"i 9 x\nx\nu\ns 5\n",
+        b"no range 9 5\nbad\nno nothing\nno not a member 5\nsaved\n",
+        false,
+    ),
+    // No input, an empty line, a last line without its line feed.
+    (b"", b"saved\n", false),
+    (b"\n", b"bad\nsaved\n", false),
+    (b"p", b"cursor 0\nsaved\n", false),
+    (b"q", b"saved\n", false),
+    (b"qx\nq \n q\n", b"bad\nbad\nbad\nsaved\n", false),
+    // Nothing after `q` is looked at.
+    (b"q\ni 0 x\n", b"saved\n", false),
+    // Messages: none of its bytes, fewer than it says, and one that the end cuts off.
+    (b"m 0\np\n", b"no malformed at 0\ncursor 0\nsaved\n", false),
+    (b"m 0", b"no malformed at 0\nsaved\n", false),
+    (b"m 5", b"bad\nsaved\n", false),
+    (b"m 5\nabcd", b"bad\nsaved\n", false),
+    (
+        b"m 3\nq\n\np\n",
+        b"no malformed at 0\ncursor 0\nsaved\n",
+        false,
+    ),
+    (
+        b"m 18446744073709551616\np\n",
+        b"bad\ncursor 0\nsaved\n",
+        false,
+    ),
+    // Cursors, numbers, deletions, clusters, renames and line feeds.
+    (
+        b"k 6\nk 05\nk -1\nk 5\np\n",
+        b"no range 6 5\nbad\nbad\ncursor 5\ncursor 5\nsaved\n",
+        false,
+    ),
+    (
+        b"d 1 3\nt\nu\nt\n",
+        b"ok 2\ntext 2\nho\nundone 1 3\ntext 5\nhello\nsaved\n",
+        true,
+    ),
+    (b"b 5\nr\nt\n", b"ok 2\nok 3\ntext 4\nhell\nsaved\n", true),
+    (b"i 5 \\n\nt\n", b"ok 2\ntext 6\nhello\n\nsaved\n", true),
+];
+
+/// The first row that goes otherwise than it has to.
+fn other_row(alloc: Global, file: &[u8], is_slow: bool) -> Result<Option<usize>, Fail> {
+    for (i, (input, output, is_other)) in ROWS.iter().enumerate() {
+        let answer = held(alloc, Some(file), input, [&[], &[], &[]], is_slow)?;
+        if answer.status != 0
+            || answer.output.as_slice() != *output
+            || !answer.errors.is_empty()
+            || (answer.file.as_slice() != file) != *is_other
+        {
+            return Ok(Some(i));
+        }
+    }
+    Ok(None)
+}
+
+#[test]
+fn requests_are_answered_in_order(rt: HostRuntime) -> Result<(), Fail> {
+    let file = bytes(rt.alloc(), TYPED)?;
+    assert_eq!(rt; other_row(rt.alloc(), &file, false)?, None);
+    Ok(())
+}
+
+#[test]
+fn pieces_change_no_reply(rt: HostRuntime) -> Result<(), Fail> {
+    let file = bytes(rt.alloc(), TYPED)?;
+    assert_eq!(rt; other_row(rt.alloc(), &file, true)?, None);
+    Ok(())
+}
+
+#[test]
+fn messages_come_and_go(rt: HostRuntime) -> Result<(), Fail> {
+    let alloc = rt.alloc();
+    let message = bytes(alloc, HELLO_MESSAGE)?;
+    let mut input = Vec::from_slice(alloc, b"m 81\n")?;
+    input.extend_from_slice(&message)?;
+    input.extend_from_slice(b"t\n")?;
+    let fresh = bytes(alloc, FRESH)?;
+    let taken = held(alloc, Some(&fresh), &input, [&[], &[], &[]], true)?;
+    assert_eq!(rt;
+        taken.output.as_slice(),
+        b"applied 1 released 0 repeated 0 held 0 refused 0\ntext 5\nhello\nsaved\n".as_slice()
+    );
+    let mut reply = Vec::from_slice(alloc, b"message 81\n")?;
+    reply.extend_from_slice(&message)?;
+    reply.extend_from_slice(b"\nsaved\n")?;
+    let typed = bytes(alloc, TYPED)?;
+    let sent = held(alloc, Some(&typed), b"s 1\n", [&[], &[], &[]], false)?;
+    assert_eq!(rt; sent.output.as_slice(), reply.as_slice());
+    Ok(())
+}
+
+/// Each row: which calls fail, the status, the output, the errors, and whether the file is another one afterwards. The input is an
+/// insertion and a request for the text, in one piece.
+type Fault<'a> = ([&'a [u64]; 3], u8, &'a [u8], &'a [u8], bool);
+
+const FAULTS: &[Fault<'_>] = &[
+    ([&[0], &[], &[]], 7, b"", b"keeper fault\n", false),
+    (
+        [&[1], &[], &[]],
+        7,
+        b"ok 2\ntext 6\nAhello\n",
+        b"keeper fault\n",
+        false,
+    ),
+    ([&[], &[0], &[]], 8, b"", b"source fault\n", false),
+    (
+        [&[], &[1], &[]],
+        8,
+        b"ok 2\ntext 6\nAhello\n",
+        b"source fault\n",
+        false,
+    ),
+    ([&[], &[], &[0]], 9, b"", b"sink fault\n", false),
+    ([&[], &[], &[1]], 9, b"ok 2\n", b"sink fault\n", false),
+    (
+        [&[], &[], &[2]],
+        9,
+        b"ok 2\ntext 6\nAhello\n",
+        b"sink fault\n",
+        true,
+    ),
+];
+
+#[test]
+fn devices_fail(rt: HostRuntime) -> Result<(), Fail> {
+    let alloc = rt.alloc();
+    let file = bytes(alloc, TYPED)?;
+    for (i, (failing, status, output, errors, is_other)) in FAULTS.iter().enumerate() {
+        let answer = held(alloc, Some(&file), b"i 0 A\nt\n", *failing, false)?;
+        assert_eq!(rt; answer.status, *status, "{i}");
+        assert_eq!(rt; answer.output.as_slice(), *output, "{i}");
+        assert_eq!(rt; answer.errors.as_slice(), *errors, "{i}");
+        assert_eq!(rt; answer.file.as_slice() != file.as_slice(), *is_other, "{i}");
+    }
+    Ok(())
+}
+
+#[test]
+fn files_that_are_no_replica(rt: HostRuntime) -> Result<(), Fail> {
+    let alloc = rt.alloc();
+    let missing = held(alloc, None, b"t\n", [&[], &[], &[]], false)?;
+    assert_eq!(rt;
+        (missing.status, missing.errors.as_slice()),
+        (2, b"no replica\n".as_slice())
+    );
+    let typed = bytes(alloc, TYPED)?;
+    let cut = held(
+        alloc,
+        Some(front(&typed, 30)),
+        b"t\n",
+        [&[], &[], &[]],
+        false,
+    )?;
+    assert_eq!(rt;
+        (cut.status, cut.errors.as_slice()),
+        (3, b"damaged at 29\n".as_slice())
+    );
+    // A journal is stored in the newest form.
+    let journal = bytes(alloc, HELLO_FILE)?;
+    let taken_on = held(alloc, Some(&journal), b"", [&[], &[], &[]], false)?;
+    assert_eq!(rt; (taken_on.status, taken_on.file.len()), (0, 96));
+    Ok(())
+}
+
+/// One byte more than is read, without a whole request.
+#[test]
+fn inputs_are_too_large(rt: HostRuntime) -> Result<(), Fail> {
+    let alloc = rt.alloc();
+    let file = bytes(alloc, TYPED)?;
+    let input = Vec::from_elem(alloc, b'a', 67_108_865)?;
+    let answer = held(alloc, Some(&file), &input, [&[], &[], &[]], false)?;
+    assert_eq!(rt;
+        (answer.status, answer.errors.as_slice()),
+        (11, b"too large\n".as_slice())
+    );
+    assert!(rt; answer.output.is_empty());
+    assert_eq!(rt; answer.file.as_slice(), file.as_slice());
+    Ok(())
+}
