@@ -3,7 +3,7 @@ _rls() {
   local word=${COMP_WORDS[COMP_CWORD]}
   COMPREPLY=()
   if [ "$COMP_CWORD" = 1 ]; then
-    mapfile -t COMPREPLY < <(compgen -W 'new edit text ids stat send take leave trial build help --version' -- "$word")
+    mapfile -t COMPREPLY < <(compgen -W 'new edit text ids stat send take leave trial session build help --version' -- "$word")
   elif [ "$COMP_CWORD" = 2 ] && [ "${COMP_WORDS[1]}" = send ] && [ -e replica.gate ]; then
     # The numbers of the other members, from the head of the stored file.
     local slot=$(($(od -An -tu1 -N1 replica.gate) % 2)) head i others=()
