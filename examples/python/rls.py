@@ -1,4 +1,4 @@
-"""A client of `rls`: a replica by commands, and messages through a shared folder.
+"""A client of `rls`: a replica by commands, a replica by a session, and messages through a shared folder.
 
     replica = Commands.new("~/notes", group=7, me=0, members=4)     # once
     replica.set_text("what the buffer holds")                       # the least edits that make it so
@@ -21,6 +21,7 @@ from typing import NamedTuple
 PROGRAM = os.environ.get("RLS", "rls")
 MOST_CHARACTERS = 1_048_576          # of one insertion
 MOST_DELETED = 4_194_304             # of one deletion
+MOST_INPUT = 67_108_864              # of one command, and of one session's whole input
 MEANINGS = {
     1: "the words are no command", 2: "there is no replica in this folder, or for `new` there is one", 3: "the replica's file is damaged",
     4: "what was handed in is not right", 5: "done, but some operations were refused", 6: "an edit was refused", 7: "the replica's file can't be read or written",
@@ -38,7 +39,7 @@ class RlsError(Exception):
 
 
 class Refused(RlsError):
-    """A line of a script that was refused."""
+    """A line of a script, or of a session, that was refused."""
 
 
 class Stale(Exception):
@@ -202,6 +203,160 @@ class Commands:
         out, line = self._run("take", data=message, fine=(0, 5))
         n = out.decode().split()[1::2]
         return Report(*map(int, n), refusals=tuple(line.splitlines()))
+
+    def save(self):
+        """Nothing to do: each command has stored the file."""
+
+    def close(self):
+        """Nothing to do."""
+
+
+# ---------------------------------------------------------------------------- by a session
+
+class Session:
+    """A replica in a folder, held by one running `rls session` (docs/SESSION.md).
+
+    The file is stored only at the end of a session.  So a message that was handed out before that may hold operations that a
+    crash makes this member forget, and it would then give their numbers to other edits, which no member can tell.  So `message`
+    saves first if something was edited since; that ends the session and starts another, and what `undo` could take back is gone."""
+
+    def __init__(self, folder, program=None, timeout=30, safe=True):
+        self.folder, self.program = os.path.expanduser(folder), program or PROGRAM
+        self.timeout, self.safe = timeout, safe
+        self.process, self.saving = None, False
+        self._start()
+
+    def _start(self):
+        self.lock = os.open(self.folder, os.O_RDONLY)
+        try:
+            fcntl.flock(self.lock, fcntl.LOCK_EX | fcntl.LOCK_NB)
+        except OSError:
+            os.close(self.lock)
+            raise RlsError(7, "another program uses this replica", ("session",)) from None
+        env = {**os.environ, "RLS_LOCKED": "1"}
+        self.process = subprocess.Popen([self.program, "session"], cwd=self.folder, env=env, stdin=subprocess.PIPE, stdout=subprocess.PIPE, stderr=subprocess.PIPE)
+        self.given, self.unsaved = 0, False
+
+    # -- one line out, one reply in
+    def _put(self, data):
+        """All input of a session together may have 64 MiB, or everything since its start is lost: a new one in time."""
+        if not self.saving and self.given and self.given + len(data) > MOST_INPUT - 64:
+            self.save()
+        self.given += len(data)
+        try:
+            self.process.stdin.write(data)
+            self.process.stdin.flush()
+        except BrokenPipeError:
+            self._ended()
+
+    def _line(self):
+        line = self.process.stdout.readline()
+        if not line.endswith(b"\n"):
+            self._ended()
+        return line[:-1].decode("utf-8")
+
+    def _bytes(self, n):
+        data = self.process.stdout.read(n + 1)
+        if len(data) != n + 1:
+            self._ended()
+        return data[:-1]
+
+    def kill(self):
+        """Stops the program as a crash would: what was edited since the last save is lost."""
+        self.process.kill()
+        self._finish()
+
+    def _finish(self):
+        status = self.process.wait(self.timeout)
+        line = self.process.stderr.read().decode("utf-8", "replace").strip()
+        for pipe in self.process.stdin, self.process.stdout, self.process.stderr:
+            try:
+                pipe.close()
+            except OSError:
+                pass
+        os.close(self.lock)
+        return status, line
+
+    def _ended(self):
+        status, line = self._finish()
+        raise RlsError(status, line + "; what was edited since the last save is lost" * self.unsaved, ("session",))
+
+    def _ask(self, line, data=b""):
+        if "\n" in line:
+            raise ValueError("a line feed in a line")
+        self._put(line.encode("utf-8") + b"\n" + data)
+        reply = self._line()
+        if reply == "bad":
+            raise RlsError(4, f"bad: {line[:60]}", ("session",))
+        if reply.startswith("no "):
+            raise Refused(6, reply[3:], ("session", line[:20]))
+        return reply.split(" ")
+
+    def edit(self, lines):
+        for line in lines:
+            self._ask(line)
+            self.unsaved = True
+
+    insert, delete, set_text, rename = Commands.insert, Commands.delete, Commands.set_text, Commands.rename
+
+    def undo(self):
+        """How many characters came or went; 0 if nothing was to be taken back."""
+        try:
+            reply = self._ask("u")
+        except Refused as e:
+            if e.line == "nothing":
+                return 0
+            raise
+        self.unsaved = True
+        return int(reply[2])
+
+    @property
+    def cursor(self):
+        return int(self._ask("p")[1])
+
+    @cursor.setter
+    def cursor(self, at):
+        self._ask(f"k {at}")
+
+    def text(self):
+        return self._bytes(int(self._ask("t")[1])).decode("utf-8")
+
+    def take(self, message):
+        reply = self._ask(f"m {len(message)}", message)
+        self.unsaved = True
+        return Report(*map(int, reply[1::2]))
+
+    def message(self, to):
+        if self.safe and self.unsaved:
+            self.save()
+        return self._bytes(int(self._ask(f"s {to}")[1]))
+
+    def head(self):
+        """Who this is.  No line asks it, so it is read from a message."""
+        return Head.of(self._bytes(int(self._ask("s 0")[1])))
+
+    def save(self):
+        """Ends the session, which stores, and starts another.  The cursor is carried over; undo isn't."""
+        self.saving = True
+        at = self.cursor
+        self.close()
+        self._start()
+        self.cursor = at
+        self.saving = False
+
+    def close(self):
+        self._put(b"q\n")
+        if self._line() != "saved":
+            self._ended()
+        status, line = self._finish()
+        if status:
+            raise RlsError(status, line, ("session",))
+
+    def __enter__(self):
+        return self
+
+    def __exit__(self, *_):
+        self.close()
 
 
 # ---------------------------------------------------------------------------- messages

@@ -6,7 +6,8 @@ import tempfile
 import unittest
 
 os.environ.setdefault("RLS", os.path.join(os.path.dirname(os.path.abspath(__file__)), "..", "..", "bin", "rls"))
-from rls import Commands, Head, Mailbox, Refused, RlsError, Stale, changes, script  # noqa: E402
+import rls  # noqa: E402
+from rls import Commands, Head, Mailbox, Refused, RlsError, Session, Stale, changes, script  # noqa: E402
 
 
 def applied(old, found):
@@ -134,6 +135,96 @@ class ByCommands(Room):
             f.write(a.message(1))
         box.receive(b)
         self.assertEqual(b.text(), "hello")
+
+
+class BySession(Room):
+    def test_an_edit_is_undone(self):
+        a, _ = self.two()
+        a.set_text("hello")
+        with Session(a.folder) as s:
+            s.cursor = 3
+            s.insert(0, "A")
+            self.assertEqual(s.cursor, 4)
+            self.assertEqual(s.undo(), 1)
+            self.assertEqual(s.undo(), 0)
+            self.assertEqual(s.text(), "hello")
+        self.assertEqual(a.text(), "hello")
+
+    def test_refusals(self):
+        a, _ = self.two()
+        with Session(a.folder) as s:
+            with self.assertRaises(Refused):
+                s.delete(0, 1)
+            with self.assertRaises(Refused):
+                s.cursor = 5
+            with self.assertRaises(Refused):
+                s.message(2)
+            with self.assertRaises(Refused):
+                s.take(b"junk\nq\nq\n")
+            self.assertEqual(s.text(), "")
+
+    def test_two_sessions_on_one_folder(self):
+        a, _ = self.two()
+        with Session(a.folder):
+            with self.assertRaises(RlsError):
+                Session(a.folder)
+
+    def test_limit_of_input(self):
+        """The client begins a new session in time; the program alone would end with status 11 and forget the session."""
+        a, _ = self.two()
+        most, rls.MOST_INPUT = rls.MOST_INPUT, 200
+        try:
+            with Session(a.folder) as s:
+                for k in range(40):
+                    s.insert(k, "x")
+        finally:
+            rls.MOST_INPUT = most
+        self.assertEqual(a.text(), "x" * 40)
+
+    def test_mailbox(self):
+        folders = [x.folder for x in self.two()]
+        sessions = [Session(f) for f in folders]
+        boxes = [Mailbox(self.path("shared"), s.head()) for s in sessions]
+        r = random.Random(3)
+        for step in range(30):
+            k = r.randrange(2)
+            s = sessions[k]
+            text = s.text()
+            at = r.randrange(len(text) + 1)
+            s.set_text(text[:at] + r.choice(["ab", "😀", "\n"]) + text[at + r.randrange(2):])
+            if r.random() < 0.2 and text:
+                s.rename()
+            boxes[k].sync(s)
+        for _ in range(2):
+            for k in range(2):
+                boxes[k].sync(sessions[k])
+        self.assertEqual(sessions[0].text(), sessions[1].text())
+        for s in sessions:
+            s.close()
+        self.assertEqual(Commands(folders[0]).text(), Commands(folders[1]).text())
+
+    def crash(self, safe):
+        """A message is handed out, and the machine of its author stops.  What the two members show in the end."""
+        a, b = self.two()
+        s = Session(a.folder, safe=safe)
+        s.insert(0, "first")
+        message = s.message(1)
+        s.kill()
+        b.take(message)
+        with Session(a.folder, safe=safe) as s:
+            s.insert(0, "second ")
+            b.take(s.message(1))
+            s.take(b.message(0))
+            s.save()
+            b.take(s.message(1))
+        return Commands(a.folder).text(), b.text()
+
+    def test_crash_when_saved_first(self):
+        self.assertEqual(*self.crash(True))
+
+    def test_crash_as_the_protocol_is(self):
+        """What docs/SESSION.md warns of: both show status 0 throughout, and they differ for ever."""
+        self.assertEqual(self.crash(False), ("second ", "first"))
 
 
 if __name__ == "__main__":
