@@ -1,4 +1,4 @@
-use rls_io::{Failed, MemoryKeeper, MemorySink, MemorySource, Source};
+use rls_io::{MemoryKeeper, MemorySink, MemorySource};
 use rls_session::serve;
 use std::alloc::Global;
 use std::test::Fail;
@@ -12,21 +12,8 @@ const TYPED: &str =
 const FRESH: &str =
     "524c5346 04 0000000000000007 00000002 00000001 0000000000000000 0000000000000000 00000000 0000000000000000 00000001 00 00000000 00000000 00000000";
 
-/// A source that gives at most one byte a call.
-#[derive(Drop)]
-struct Dribble {
-    source: MemorySource,
-}
-
-impl Source for Dribble {
-    ghost left = { λ d. Some d.source.left };
-
-    ghost faults = { λ d. d.source.faults };
-
-    fn read(&mut self, buf: &mut [u8]) -> Result<usize, Failed> {
-        self.source.read(&mut buf[..1])
-    }
-}
+/// No call fails.
+const NO_FAULTS: [&[u64]; 3] = [&[], &[], &[]];
 
 /// What a session answered: its status, what it wrote, and the file that is kept afterwards, if there is one.
 #[derive(Drop)]
@@ -38,24 +25,17 @@ struct Answer {
 }
 
 /// Holds a session over this file with this input, of which calls with these numbers fail: of the keeper, the input and the output.
-/// The input comes byte by byte, or in pieces as large as the session reads.
 fn held(
     alloc: Global,
     file: Option<&[u8]>,
     input: &[u8],
     failing: [&[u64]; 3],
-    is_slow: bool,
 ) -> Result<Answer, Fail> {
     let mut keeper = MemoryKeeper::new(alloc, file, failing[0])?;
     let mut output = MemorySink::new(alloc, 10_000, failing[2])?;
     let mut errors = MemorySink::new(alloc, 1_000, &[])?;
     let mut source = MemorySource::new(alloc, input, failing[1])?;
-    let status = if is_slow {
-        let mut slow = Dribble { source };
-        serve(alloc, &mut keeper, &mut slow, &mut output, &mut errors)
-    } else {
-        serve(alloc, &mut keeper, &mut source, &mut output, &mut errors)
-    };
+    let status = serve(alloc, &mut keeper, &mut source, &mut output, &mut errors);
     Ok(Answer {
         status,
         output: Vec::from_slice(alloc, output.written())?,
@@ -119,9 +99,9 @@ const ROWS: &[Row<'_>] = &[
 ];
 
 /// The first row that goes otherwise than it has to.
-fn other_row(alloc: Global, file: &[u8], is_slow: bool) -> Result<Option<usize>, Fail> {
+fn other_row(alloc: Global, file: &[u8]) -> Result<Option<usize>, Fail> {
     for (i, (input, output, is_other)) in ROWS.iter().enumerate() {
-        let answer = held(alloc, Some(file), input, [&[], &[], &[]], is_slow)?;
+        let answer = held(alloc, Some(file), input, NO_FAULTS)?;
         if answer.status != 0
             || answer.output.as_slice() != *output
             || !answer.errors.is_empty()
@@ -136,14 +116,7 @@ fn other_row(alloc: Global, file: &[u8], is_slow: bool) -> Result<Option<usize>,
 #[test]
 fn requests_are_answered_in_order(rt: HostRuntime) -> Result<(), Fail> {
     let file = bytes(rt.alloc(), TYPED)?;
-    assert_eq!(rt; other_row(rt.alloc(), &file, false)?, None);
-    Ok(())
-}
-
-#[test]
-fn pieces_change_no_reply(rt: HostRuntime) -> Result<(), Fail> {
-    let file = bytes(rt.alloc(), TYPED)?;
-    assert_eq!(rt; other_row(rt.alloc(), &file, true)?, None);
+    assert_eq!(rt; other_row(rt.alloc(), &file)?, None);
     Ok(())
 }
 
@@ -155,7 +128,7 @@ fn messages_come_and_go(rt: HostRuntime) -> Result<(), Fail> {
     input.extend_from_slice(&message)?;
     input.extend_from_slice(b"t\n")?;
     let fresh = bytes(alloc, FRESH)?;
-    let taken = held(alloc, Some(&fresh), &input, [&[], &[], &[]], true)?;
+    let taken = held(alloc, Some(&fresh), &input, NO_FAULTS)?;
     assert_eq!(rt;
         taken.output.as_slice(),
         b"applied 1 released 0 repeated 0 held 0 refused 0\ntext 5\nhello\nsaved\n".as_slice()
@@ -164,7 +137,7 @@ fn messages_come_and_go(rt: HostRuntime) -> Result<(), Fail> {
     reply.extend_from_slice(&message)?;
     reply.extend_from_slice(b"\nsaved\n")?;
     let typed = bytes(alloc, TYPED)?;
-    let sent = held(alloc, Some(&typed), b"s 1\n", [&[], &[], &[]], false)?;
+    let sent = held(alloc, Some(&typed), b"s 1\n", NO_FAULTS)?;
     assert_eq!(rt; sent.output.as_slice(), reply.as_slice());
     Ok(())
 }
@@ -206,7 +179,7 @@ fn devices_fail(rt: HostRuntime) -> Result<(), Fail> {
     let alloc = rt.alloc();
     let file = bytes(alloc, TYPED)?;
     for (i, (failing, status, output, errors, is_other)) in FAULTS.iter().enumerate() {
-        let answer = held(alloc, Some(&file), b"i 0 A\nt\n", *failing, false)?;
+        let answer = held(alloc, Some(&file), b"i 0 A\nt\n", *failing)?;
         assert_eq!(rt; answer.status, *status, "{i}");
         assert_eq!(rt; answer.output.as_slice(), *output, "{i}");
         assert_eq!(rt; answer.errors.as_slice(), *errors, "{i}");
@@ -215,30 +188,51 @@ fn devices_fail(rt: HostRuntime) -> Result<(), Fail> {
     Ok(())
 }
 
-#[test]
-fn files_that_are_no_replica(rt: HostRuntime) -> Result<(), Fail> {
-    let alloc = rt.alloc();
-    let missing = held(alloc, None, b"t\n", [&[], &[], &[]], false)?;
-    assert_eq!(rt;
-        (missing.status, missing.errors.as_slice()),
-        (2, b"no replica\n".as_slice())
-    );
-    let typed = bytes(alloc, TYPED)?;
-    let cut = held(
+/// What a session over this file ends with: the status, the errors, and how many bytes are kept.
+fn end_of(alloc: Global, file: Option<&[u8]>) -> Result<(u8, Vec<u8>, usize), Fail> {
+    let answer = held(
         alloc,
-        Some(front(&typed, 30)),
-        b"t\n",
-        [&[], &[], &[]],
-        false,
+        file,
+        b"t
+",
+        NO_FAULTS,
     )?;
+    Ok((answer.status, answer.errors, answer.file.len()))
+}
+
+#[test]
+fn there_is_no_file(rt: HostRuntime) -> Result<(), Fail> {
+    let (status, errors, kept) = end_of(rt.alloc(), None)?;
+    assert_eq!(rt; (status, kept), (2, 0));
     assert_eq!(rt;
-        (cut.status, cut.errors.as_slice()),
-        (3, b"damaged at 29\n".as_slice())
+        errors.as_slice(),
+        b"no replica
+"
+            .as_slice()
     );
-    // A journal is stored in the newest form.
-    let journal = bytes(alloc, HELLO_FILE)?;
-    let taken_on = held(alloc, Some(&journal), b"", [&[], &[], &[]], false)?;
-    assert_eq!(rt; (taken_on.status, taken_on.file.len()), (0, 96));
+    Ok(())
+}
+
+#[test]
+fn a_file_is_cut_off(rt: HostRuntime) -> Result<(), Fail> {
+    let typed = bytes(rt.alloc(), TYPED)?;
+    let (status, errors, kept) = end_of(rt.alloc(), Some(front(&typed, 30)))?;
+    assert_eq!(rt; (status, kept), (3, 30));
+    assert_eq!(rt;
+        errors.as_slice(),
+        b"damaged at 29
+"
+            .as_slice()
+    );
+    Ok(())
+}
+
+/// A journal is stored in the newest form.
+#[test]
+fn a_journal_is_taken_on(rt: HostRuntime) -> Result<(), Fail> {
+    let journal = bytes(rt.alloc(), HELLO_FILE)?;
+    let (status, _errors, kept) = end_of(rt.alloc(), Some(&journal))?;
+    assert_eq!(rt; (status, kept), (0, 96));
     Ok(())
 }
 
@@ -248,7 +242,7 @@ fn inputs_are_too_large(rt: HostRuntime) -> Result<(), Fail> {
     let alloc = rt.alloc();
     let file = bytes(alloc, TYPED)?;
     let input = Vec::from_elem(alloc, b'a', 67_108_865)?;
-    let answer = held(alloc, Some(&file), &input, [&[], &[], &[]], false)?;
+    let answer = held(alloc, Some(&file), &input, NO_FAULTS)?;
     assert_eq!(rt;
         (answer.status, answer.errors.as_slice()),
         (11, b"too large\n".as_slice())
