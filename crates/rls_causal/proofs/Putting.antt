@@ -14,7 +14,7 @@ without_none a s (w ∷ ws) h =
     let rest : waiting_under ws a s ≡ None = sym (ap (λ b. cond b (Some w) (waiting_under ws a s)) e) ∙ h in
     ap (λ b. cond b (without a s ws) (w ∷ without a s ws)) e ∙ ap (λ xs. w ∷ xs) (without_none a s ws rest)
 
--- in front of those that come after it
+-- before those that come after it
 with_front : (o : Op) (W : List Op) → list_all (comes_before o) W ≡ true → with_waiting o W ≡ o ∷ W
 with_front o [] h = refl
 with_front o (w ∷ ws) h = ap (λ b. cond b (w ∷ with_waiting o ws) (o ∷ w ∷ ws)) (not_after o w (and_left (comes_before o w) (list_all (comes_before o) ws) h))

@@ -5,6 +5,7 @@ use Rattle.std.specs.Char.{IsScalar}
 use Rattle.std.specs.Int.RustNames.{int_le}
 use Rattle.std.proofs.lemmas.List.Elements.{All-head, All-tail}
 use Rattle.std.proofs.lemmas.List.{take_all}
+use Rattle.rls_ident.specs.declared.limits.TheConstants.{OPERATION_BYTES}
 use Rattle.rls_ident.specs.declared.tuple.Tuple.{Tuple}
 use Rattle.rls_ident.specs.declared.tuple.Tuple.TheVariants.{Low, At, High}
 use Rattle.rls_ident.specs.Tuples.{offset_of}
@@ -18,8 +19,8 @@ use Rattle.rls_ops.specs.declared.op.Op.{Op}
 use Rattle.rls_ops.specs.declared.message.Message.{Message}
 use Rattle.rls_ops.specs.Spelling.{message_bytes}
 use Rattle.rls_ops.specs.Sizes.{op_size}
-use Rattle.rls_codec.specs.Reading.{op_limit}
-use Rattle.rls_codec.specs.Spelled.{IsSmall, IsSmallTuple, Chained, FitsAt, FitsInner, FitTuples, FitsIdent, FitsRun, FitsBehind, FitRuns, FitsName, FitsText, FitsBody, IsSpelled, IsSpelledIfFit, IsFitAmong, IsFit}
+use Rattle.rls_ops.specs.WellFormed.{IsSmall}
+use Rattle.rls_codec.specs.Spelled.{IsSmallTuple, Chained, FitsAt, FitsInner, FitTuples, FitsIdent, FitsRun, FitsBehind, FitRuns, FitsName, FitsText, FitsBody, IsSpelled, IsSpelledIfFit, IsFitAmong, IsFit}
 use Rattle.rls_codec.specs.CodecLaws.{IsMessage}
 use Rattle.rls_codec.proofs.PartFormats.{pushed_fit}
 use Rattle.rls_codec.proofs.SizeLaws.{op_length}
@@ -71,7 +72,7 @@ pub small_chain : (before : Option ℕ) (v : List ℕ) → All IsSmall v → Cha
 small_chain before [] a = tt
 small_chain before (n ∷ v) a = (All-head IsSmall n v a, small_chain (Some n) v (All-tail IsSmall n v a))
 
-pub op_fits : (o : Op) → IsSmall o.author → IsSmall o.seq → All IsSmall o.context → FitsName o.epoch → FitsBody o.body → op_size o ≤ op_limit → IsSpelled (length o.context) o
+pub op_fits : (o : Op) → IsSmall o.author → IsSmall o.seq → All IsSmall o.context → FitsName o.epoch → FitsBody o.body → op_size o ≤ OPERATION_BYTES → IsSpelled (length o.context) o
 op_fits o a s c e b few = record { author = a; seq = s; context = (refl, small_chain None o.context c); epoch = e; body = b; limit = omega (arith, op_length o, few) }
 
 -- ---- loops

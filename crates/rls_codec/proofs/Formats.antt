@@ -5,9 +5,11 @@ use Rattle.std.specs.Int.{Width, w32, w64, byte_len, from_be_bytes, to_be_bytes}
 use Rattle.std.proofs.lemmas.Bool.{cases_lt, ltb-false, le-ltb, and_parts}
 use Rattle.std.proofs.lemmas.List.{append-nil, take_at, drop_at, take-append-drop, length-append, length-take, get_or-drop, get_or-take, get_or_past}
 use Rattle.std.proofs.lemmas.Nat.{be_bytes_4, be_bytes_8, from_be_bytes-to_be_bytes_4, from_be_bytes-to_be_bytes_8}
+use Rattle.rls_ident.specs.declared.limits.TheConstants.{MEMBERS}
 use Rattle.rls_ops.specs.Spelling.{counted}
+use Rattle.rls_ops.specs.WellFormed.{IsSmall}
 use Rattle.rls_codec.specs.CodecLaws.{IsBytes}
-use Rattle.rls_codec.specs.Spelled.{Chained, IsSmall}
+use Rattle.rls_codec.specs.Spelled.{Chained}
 use Rattle.rls_codec.specs.Reading.{◌>>=◌, Read, with_rule, byte_at, number_at, bytes_at, chain_at, counted_at, is_member_count}
 
 -- ---- lists of bytes
@@ -241,7 +243,7 @@ module _ {A : Type 0} (part : Option A → List ℕ → Read A) (spell : A → L
       (λ xs fits. (fits.0, fits.1.1)) (λ xs fits. (fits.0, (refl, fits.1)))
 
 pub small_count : (n : ℕ) → is_member_count n ≡ true → IsSmall n
-small_count n e = omega (arith, leb-true n 64 (and_parts (ltb 0 n) (leb n 64) e).1)
+small_count n e = omega (arith, leb-true n MEMBERS (and_parts (ltb 0 n) (leb n MEMBERS) e).1)
 
 pub small_from : (from n : ℕ) → is_member_count n ≡ true → from < n → IsSmall from
-small_from from n e h = omega (arith, leb-true n 64 (and_parts (ltb 0 n) (leb n 64) e).1)
+small_from from n e h = omega (arith, leb-true n MEMBERS (and_parts (ltb 0 n) (leb n MEMBERS) e).1)

@@ -2,6 +2,7 @@
 use Rattle.std.proofs.Common.{◌≡◌, ℕ, zero, suc, ◌+◌, ◌-◌, ◌<◌, ◌≤◌, true, false, cond, List, [], ◌∷◌, ◌++◌, length, drop, Option, Some, None, Result, Ok, Err, refl, sym, ap, subst, ◌∙◌, arith, lit<}
 use Rattle.std.specs.Prelude.{nat_le, nat_lt, pos, ◌+ℤ◌, ◌&&◌, IsTrue, codes, bytes_eq}
 use Rattle.std.proofs.lemmas.Slice.Eq.{bytes_eq-Decides}
+use Rattle.rls_ident.specs.declared.limits.TheConstants.{OPERATION_BYTES, OFFSETS_END}
 use Rattle.rls_ops.specs.declared.message.Message.{Message}
 use Rattle.std.specs.List.{flat_map, concat}
 use Rattle.std.specs.Int.{w32, to_be_bytes}
@@ -16,17 +17,18 @@ use Rattle.rls_ops.specs.declared.op.Op.{Op}
 use Rattle.rls_ops.specs.declared.op.Body.{Body}
 use Rattle.rls_ops.specs.declared.op.Body.TheVariants.{Insert, Delete, Rename, Leave}
 use Rattle.rls_ops.specs.Spelling.{runs_bytes, run_bytes, kind_of, name_bytes, body_bytes, op_bytes, ident_bytes, text_bytes, message_in_form}
-use Rattle.rls_codec.specs.Reading.{◌>>=◌, Read, runs_at, body_of_kind, body_at, op_fields_at, op_at, op_limit, next_run_at, magic_at, is_message_form, is_member_count, message_and_form_at, message_at, message_of, whole, placed, op_from}
-use Rattle.rls_codec.specs.Spelled.{IsSmall, Chained, FitsIdent, FitsBehind, FitRuns, FitsName, FitsText, FitsVector, FitsBody, IsSpelled, IsSpelledMessage}
+use Rattle.rls_ops.specs.WellFormed.{IsSmall}
+use Rattle.rls_codec.specs.Reading.{◌>>=◌, Read, runs_at, body_of_kind, body_at, op_fields_at, op_at, next_run_at, magic_at, is_message_form, is_member_count, message_and_form_at, message_at, message_of, whole, placed, op_from}
+use Rattle.rls_codec.specs.Spelled.{Chained, FitsIdent, FitsBehind, FitRuns, FitsName, FitsText, FitsVector, FitsBody, IsSpelled, IsSpelledMessage}
 use Rattle.rls_codec.specs.CodecLaws.{IsBytes, IsMessage, BeginsAt}
 use Rattle.rls_codec.proofs.Formats.{IsBytes-drop, Takes, Spells, only_one, done, field, fitting, spelling, seen, ruled, byte, bind_ok, kept_false, ok_is, counted_parts, raw, small_count, small_from}
 use Rattle.rls_codec.proofs.PartFormats.{small, large, ident, next_run, vector, name, text}
 use Rattle.rls_runs.proofs.RunsOf.{runs_of_idents}
 
--- runs that fit one behind the other are apart
+-- runs that fit one after the other are apart
 pub apart_from : (before : Option (List Tuple × ℕ)) (rs : List (List Tuple × ℕ)) → Chained FitsBehind before rs → are_apart before rs ≡ true
 apart_from before [] c = refl
-apart_from before (r ∷ rs) c = and_from (nat_lt 0 r.1 && is_apart before r) (are_apart (Some r) rs) (and_from (nat_lt 0 r.1) (is_apart before r) (and_parts (nat_lt 0 r.1) (int_le (offset_of (last_of r.0) +ℤ pos r.1) (pos 1073741824)) c.0.0.2).0 c.0.1) (apart_from (Some r) rs c.1)
+apart_from before (r ∷ rs) c = and_from (nat_lt 0 r.1 && is_apart before r) (are_apart (Some r) rs) (and_from (nat_lt 0 r.1) (is_apart before r) (and_parts (nat_lt 0 r.1) (int_le (offset_of (last_of r.0) +ℤ pos r.1) (pos OFFSETS_END)) c.0.0.2).0 c.0.1) (apart_from (Some r) rs c.1)
 
 pub runs : Spells runs_at runs_bytes FitRuns
 unfolding runs_at
@@ -157,7 +159,7 @@ op_fields members = spelling op_bytes
 
 pub op : (members : ℕ) → Spells (op_at members) op_bytes (IsSpelled members)
 unfolding op_at
-op members = fitting (IsSpelled members) (limited op_limit (op_fields members))
+op members = fitting (IsSpelled members) (limited OPERATION_BYTES (op_fields members))
     (λ o f. record { author = f.0.0; seq = f.0.1; context = f.0.2; epoch = f.0.3; body = f.0.4; limit = f.1 })
     (λ o f. ((f.author, f.seq, f.context, f.epoch, f.body), f.limit))
 

@@ -9,17 +9,19 @@ use Rattle.std.proofs.lemmas.Int.{to_z-of_z, of_z-to_z, ints}
 use Rattle.std.proofs.lemmas.Str.{chars-encodes, encodes-chars, scalars-chars, IsUtf8-from_is_utf8, is_utf8-from_IsUtf8}
 use Rattle.std.proofs.lemmas.List.{length-append}
 use Rattle.std.proofs.lemmas.Bool.{and_parts, leb-true, eqb-true, ltb-true, lt-ltb}
+use Rattle.rls_ident.specs.declared.limits.TheConstants.{OFFSETS_END}
 use Rattle.rls_ident.specs.declared.tuple.Tuple.{Tuple}
 use Rattle.rls_ident.specs.declared.tuple.Tuple.TheVariants.{Low, At, High}
 use Rattle.rls_ident.specs.declared.epoch_name.EpochName.{EpochName}
 use Rattle.rls_ident.specs.declared.epoch_name.EpochName.TheVariants.{Origin, Of}
 use Rattle.rls_ident.specs.Tuples.{pos_of, replica_of, seq_of, offset_of}
-use Rattle.rls_ident.specs.Identifiers.{least_offset, greatest_offset, last_of}
+use Rattle.rls_ident.specs.Identifiers.{least_offset, greatest_offset, last_of, least_inner}
 use Rattle.rls_ident.proofs.Ends.{last_of_pushed}
 use Rattle.rls_runs.specs.Runs.{is_apart}
 use Rattle.rls_ops.specs.Spelling.{four_bytes, eight_bytes, signed_bytes, tuple_bytes, ident_bytes, run_bytes, name_bytes, text_bytes, vector_bytes}
+use Rattle.rls_ops.specs.WellFormed.{IsSmall, IsLarge}
 use Rattle.rls_codec.specs.Reading.{with_rule, number_at, signed_at, is_offset, spot_at, inner_of_kind, inner_at, last_at, ident_at, is_run_len, run_at, next_run_at, vector_at, name_of_kind, name_at, text_at}
-use Rattle.rls_codec.specs.Spelled.{IsSmall, IsLarge, Chained, FitsAt, FitsInner, FitTuples, FitsIdent, FitsRun, FitsBehind, FitsName, FitsText, FitsVector}
+use Rattle.rls_codec.specs.Spelled.{Chained, FitsAt, FitsInner, FitTuples, FitsIdent, FitsRun, FitsBehind, FitsName, FitsText, FitsVector}
 use Rattle.rls_codec.proofs.Formats.{Spells, done, field, fitting, spelling, seen, ruled, byte, wide32, wide64, number, raw, chain}
 
 -- a number of four bytes
@@ -44,13 +46,13 @@ last_fits : (z : ℤ) → is_offset least_offset z ≡ true → FitsSigned w32 z
 last_fits (pos n) e = let p = and_parts (int_le least_offset (pos n)) (int_le (pos n) greatest_offset) e in omega (arith, ints, leb-true _ _ p.1)
 last_fits (negsuc n) e = let p = and_parts (int_le least_offset (negsuc n)) (int_le (negsuc n) greatest_offset) e in omega (arith, ints, leb-true n 1073741823 p.0)
 
-inner_fits : (z : ℤ) → is_offset (negsuc 1073741824) z ≡ true → FitsSigned w32 z
-inner_fits (pos n) e = let p = and_parts (int_le (negsuc 1073741824) (pos n)) (int_le (pos n) greatest_offset) e in omega (arith, ints, leb-true _ _ p.1)
-inner_fits (negsuc n) e = let p = and_parts (int_le (negsuc 1073741824) (negsuc n)) (int_le (negsuc n) greatest_offset) e in omega (arith, ints, leb-true n 1073741824 p.0)
+inner_fits : (z : ℤ) → is_offset least_inner z ≡ true → FitsSigned w32 z
+inner_fits (pos n) e = let p = and_parts (int_le least_inner (pos n)) (int_le (pos n) greatest_offset) e in omega (arith, ints, leb-true _ _ p.1)
+inner_fits (negsuc n) e = let p = and_parts (int_le least_inner (negsuc n)) (int_le (negsuc n) greatest_offset) e in omega (arith, ints, leb-true n OFFSETS_END p.0)
 
 -- ---- tuples
 
--- the fields of an `At` behind its kind
+-- the fields of an `At` after its kind
 abbrev at_bytes : Tuple → List ℕ
 at_bytes t = concat (four_bytes (pos_of t) ∷ four_bytes (replica_of t) ∷ four_bytes (seq_of t) ∷ signed_bytes (offset_of t) ∷ [])
 
@@ -77,7 +79,7 @@ tuple_kind Low = 0
 tuple_kind (At p r s o) = 1
 tuple_kind High = 2
 
--- the bytes behind the kind
+-- the bytes after the kind
 abbrev behind_kind : Tuple → List ℕ
 behind_kind Low = []
 behind_kind (At p r s o) = at_bytes (At p r s o)
@@ -95,14 +97,14 @@ inner_kinds zero h = spelling behind_kind (fitting (λ t. (tuple_kind t ≡ 0) �
     low_bytes Low f = refl
     low_bytes (At p r s o) f = absurd (omega (arith, f.0))
     low_bytes High f = refl
-inner_kinds (suc zero) h = spelling behind_kind (fitting (λ t. (tuple_kind t ≡ 1) × FitsInner t) (spot (negsuc 1073741824) inner_fits) to from) same
+inner_kinds (suc zero) h = spelling behind_kind (fitting (λ t. (tuple_kind t ≡ 1) × FitsInner t) (spot least_inner inner_fits) to from) same
   where
-    to : (t : Tuple) → FitsAt (negsuc 1073741824) t → (tuple_kind t ≡ 1) × FitsInner t
+    to : (t : Tuple) → FitsAt least_inner t → (tuple_kind t ≡ 1) × FitsInner t
     to (At p r s o) f = (refl, f)
     to Low f = absurd f
     to High f = absurd f
 
-    from : (t : Tuple) → (tuple_kind t ≡ 1) × FitsInner t → FitsAt (negsuc 1073741824) t
+    from : (t : Tuple) → (tuple_kind t ≡ 1) × FitsInner t → FitsAt least_inner t
     from (At p r s o) f = f.1
     from Low f = absurd (omega (arith, f.0))
     from High f = absurd (omega (arith, f.0))
@@ -226,7 +228,7 @@ run = fitting FitsRun
     (field (λ r. r.0) ident (λ x hx. field (λ r. r.1) (ruled (is_run_len x) small) (λ n hn. done (x, n)) (λ n r h f. ap (λ q. q.1) f)) (λ x r h f. ap (λ q. q.0) f.1))
     (λ r f. (f.0, f.1.0.0, f.1.0.1)) (λ r f. (f.0, ((f.1, f.2), refl)))
 
--- a run behind the run before
+-- a run after the run before
 pub next_run : (before : Option (List Tuple × ℕ)) → Spells (next_run_at before) run_bytes (FitsBehind before)
 next_run before = ruled (is_apart before) run
 

@@ -15,17 +15,18 @@ use Rattle.rls_ident.proofs.BetweenLaws.{below_ident, between_ident}
 use Rattle.rls_ident.proofs.Members.{and_left, and_right, and_true, int_le_is, int_le_test}
 use Rattle.rls_ident.proofs.Shifted.{ident_shifted, last_offset}
 use Rattle.rls_runs.specs.Runs.{run_idents, runs_of, idents_of}
+use Rattle.rls_ops.specs.WellFormed.{IsSmall}
 use Rattle.rls_codec.specs.Reading.{is_offset}
-use Rattle.rls_codec.specs.Spelled.{IsSmall, FitsInner, FitTuples, FitsBehind, FitRuns, Chained}
+use Rattle.rls_codec.specs.Spelled.{FitsInner, FitTuples, FitsBehind, FitRuns, Chained}
 use Rattle.rls_codec.proofs.SpelledSound.{tuples_ident}
 
--- each tuple may stand in front of others, and the last one has no offset below the least
+-- each tuple may stand before others, and the last one has no offset below the least
 abbrev pub IsRanged : List Tuple → Type 0
 IsRanged [] = Unit {0}
 IsRanged (t ∷ []) = FitsInner t × (least_offset ≤ℤ offset_of t)
 IsRanged (t ∷ (u ∷ x)) = FitsInner t × IsRanged (u ∷ x)
 
--- each tuple may stand in front of others
+-- each tuple may stand before others
 abbrev pub AreInner : List Tuple → Type 0
 AreInner [] = Unit {0}
 AreInner (t ∷ x) = FitsInner t × AreInner x

@@ -1,4 +1,4 @@
--- Runs put one behind the other, as reading a list of them does.
+-- Runs put one after the other, as reading a list of them does.
 use Rattle.std.proofs.Common.{◌≡◌, ℕ, zero, suc, ◌+◌, ◌-◌, ◌^◌, ◌<◌, ◌≤◌, true, false, List, [], ◌∷◌, ◌++◌, length, Some, None, Result, Ok, Err, refl, sym, ap, ◌∙◌, arith}
 use Rattle.std.specs.Prelude.{pos, nat_lt, not, ◌&&◌}
 use Rattle.std.specs.Int.{w32}
@@ -50,7 +50,7 @@ last_of_runs q (r ∷ rs) n h =
     let a = and_left (nat_lt 0 r.1 && is_apart (Some q) r) (are_apart (Some r) rs) h in
     last_append (run_idents q.0 q.1) (idents_of (r ∷ rs)) (run_last (end_of r rs)) (last_of_runs r rs (and_left (nat_lt 0 r.1) (is_apart (Some q) r) a) (and_right (nat_lt 0 r.1 && is_apart (Some q) r) (are_apart (Some r) rs) h))
 
--- the test of a run behind these, by their last identifier
+-- the test of a run after these, by their last identifier
 tests_apart : (rs : List (List Tuple × ℕ)) (r : List Tuple × ℕ) → are_apart None rs ≡ true → is_apart (run_before None rs) r ≡ (is_above (last_ident (idents_of rs)) r.0 && not (touches (last_ident (idents_of rs)) r.0))
 tests_apart [] r h = refl
 tests_apart (q ∷ rs) r h =
@@ -78,7 +78,7 @@ module _ (xs : List (List Tuple)) (r : List Tuple × ℕ) (bytes rest : List ℕ
   pub touching_fails : is_above (last_ident xs) r.0 ≡ true → touches (last_ident xs) r.0 ≡ true → next_run_at (run_before None (runs_of xs)) bytes ≡ Err (length bytes)
   touching_fails f t = read_bad (apart_is xs r h ∙ ap (λ b. b && not (touches (last_ident xs) r.0)) f ∙ ap not t)
 
-  -- it is put behind the others
+  -- it is put after the others
   pub put_run_behind : (ys : List (List Tuple)) → nat_lt 0 r.1 ≡ true → r.1 < 2 ^ 32 → ys ≡ xs ++ run_idents r.0 r.1 → (is_above (last_ident xs) r.0 ≡ false → ⊥) → (is_above (last_ident xs) r.0 ≡ true → touches (last_ident xs) r.0 ≡ true → ⊥) → PutsRun xs ys bytes rest
   put_run_behind ys some short put not_above not_touching =
       let above : is_above (last_ident xs) r.0 ≡ true = bool_cases (is_above (last_ident xs) r.0) (λ b. b) (λ b. absurd (not_above b)) in

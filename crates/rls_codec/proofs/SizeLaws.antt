@@ -6,6 +6,7 @@ use Rattle.std.proofs.lemmas.List.{length-append}
 use Rattle.std.proofs.lemmas.List.Elements.{All-cons}
 use Rattle.std.proofs.lemmas.List.Sums.{sum_by-cons}
 use Rattle.std.proofs.lemmas.Str.{length-encode}
+use Rattle.rls_ident.specs.declared.limits.TheConstants.{INPUT_BYTES}
 use Rattle.rls_ident.specs.declared.tuple.Tuple.{Tuple}
 use Rattle.rls_ident.specs.declared.tuple.Tuple.TheVariants.{Low, At, High}
 use Rattle.rls_ident.specs.declared.epoch_name.EpochName.{EpochName}
@@ -125,8 +126,8 @@ small_list (o ∷ os) h =
     let l = sum_by-cons op_size o os in
     All-cons (λ (p : Op). op_size p < 2 ^ 32) o os (omega (arith, h, l)) (small_list os (omega (arith, h, l)))
 
-pub few_ops : (m : Message) → message_size m ≤ 67108864 → length m.ops < 2 ^ 32
+pub few_ops : (m : Message) → message_size m ≤ INPUT_BYTES → length m.ops < 2 ^ 32
 few_ops m h = omega (arith, ops_within m.ops, h)
 
-pub small_ops : (m : Message) → message_size m ≤ 67108864 → All (λ o. op_size o < 2 ^ 32) m.ops
+pub small_ops : (m : Message) → message_size m ≤ INPUT_BYTES → All (λ o. op_size o < 2 ^ 32) m.ops
 small_ops m h = small_list m.ops (omega (arith, h))

@@ -16,9 +16,9 @@ use Rattle.rls_runs.proofs.Texts.{all_of_scalars}
 use Rattle.rls_ops.specs.declared.op.Op.{Op}
 use Rattle.rls_ops.specs.declared.op.Body.{Body}
 use Rattle.rls_ops.specs.declared.op.Body.TheVariants.{Insert, Delete, Rename, Leave}
-use Rattle.rls_codec.specs.Spelled.{IsSmall, Chained, FitsInner, FitTuples, FitsRun, FitsBehind, FitRuns, FitsName, FitsBody, FitsVector, IsSpelled}
+use Rattle.rls_codec.specs.Spelled.{Chained, FitsInner, FitTuples, FitsRun, FitsBehind, FitRuns, FitsName, FitsBody, FitsVector, IsSpelled}
 use Rattle.rls_codec.proofs.MessageFormats.{apart_from}
-use Rattle.rls_ops.specs.WellFormed.{IsName, IsBody, IsOp, IsVector}
+use Rattle.rls_ops.specs.WellFormed.{IsSmall, IsName, IsBody, IsOp, IsVector}
 
 chain_small : (before : Option ℕ) (v : List ℕ) → Chained (λ b. IsSmall) before v → All IsSmall v
 chain_small before [] c = All-nil IsSmall

@@ -3,10 +3,11 @@ use Rattle.std.proofs.Common.{◌≡◌, ℕ, zero, suc, ◌+◌, ◌≤◌, Boo
 use Rattle.std.specs.Prelude.{nat_lt, ℤ}
 use Rattle.std.specs.Int.{Width, w32, w64, byte_len}
 use Rattle.std.proofs.lemmas.List.{length-drop}
+use Rattle.rls_ident.specs.declared.limits.TheConstants.{OPERATION_BYTES}
 use Rattle.rls_ident.specs.declared.epoch_name.EpochName.TheVariants.{Origin}
 use Rattle.rls_ident.specs.declared.tuple.Tuple.TheVariants.{Low, High}
 use Rattle.rls_ops.specs.declared.op.Body.TheVariants.{Leave}
-use Rattle.rls_codec.specs.Reading.{◌>>=◌, Read, with_rule, byte_at, number_at, bytes_at, signed_at, chain_at, spot_at, inner_of_kind, inner_at, last_at, ident_at, run_at, next_run_at, runs_at, name_of_kind, name_at, text_at, body_of_kind, body_at, op_fields_at, op_at, op_limit, message_and_form_at, message_at}
+use Rattle.rls_codec.specs.Reading.{◌>>=◌, Read, with_rule, byte_at, number_at, bytes_at, signed_at, chain_at, spot_at, inner_of_kind, inner_at, last_at, ident_at, run_at, next_run_at, runs_at, name_of_kind, name_at, text_at, body_of_kind, body_at, op_fields_at, op_at, message_and_form_at, message_at}
 use Rattle.rls_codec.proofs.Formats.{bind_ok, ok_is}
 
 pub record Within {A : Type 0} (read : List ℕ → Read A) : Type 0 where
@@ -179,7 +180,7 @@ op_fields members = then _ (number w32) (λ a. then _ (number w32) (λ s. then _
 
 pub op : (members : ℕ) → Within (op_at members)
 unfolding op_at
-op members = limited op_limit (op_fields members)
+op members = limited OPERATION_BYTES (op_fields members)
 
 message_and_form : Within message_and_form_at
 unfolding message_and_form_at

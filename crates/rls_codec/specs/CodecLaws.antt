@@ -31,7 +31,7 @@ OpsAreReadFrom = (members : ℕ) (bytes : List ℕ) (from : ℕ) (o : Op) (next 
 abbrev pub ReadFromAreOps : Type 0
 ReadFromAreOps = (members : ℕ) (bytes : List ℕ) (from : ℕ) (o : Op) (next : ℕ) → from ≤ length bytes → IsBytes bytes → op_from members bytes from ≡ Ok (o, next) → BeginsAt members bytes from o next
 
--- no spelling of an operation stands in front of another's
+-- no spelling of an operation stands before another's
 abbrev pub NoneIsPrefix : Type 0
 NoneIsPrefix = (members : ℕ) (o p : Op) (rest : List ℕ) → IsSpelled members o → IsSpelled members p → op_bytes o ++ rest ≡ op_bytes p → (o ≡ p) × (rest ≡ [])
 

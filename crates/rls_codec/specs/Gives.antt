@@ -37,7 +37,7 @@ IsShort Leave = Unit {0}
 pub record IsFrontOf (a b : List ℕ) : Type 0 where
   pub front : take (length a) b ≡ a
 
--- a run was read, and put behind the runs of these identifiers
+-- a run was read, and put after the runs of these identifiers
 pub record PutsRun (old new : List (List Tuple)) (bytes rest : List ℕ) : Type 0 where
   pub run : List Tuple × ℕ
   pub read : next_run_at (run_before None (runs_of old)) bytes ≡ Ok (run, rest)

@@ -1,21 +1,22 @@
 -- Reading bytes from left to right. A fault is the number of bytes that are left at the first byte of the first field
 -- that is cut off or breaks its rule. A rule on a run or an operation as a whole has its first byte.
-use Rattle.std.specs.Prelude.{ℕ, ℤ, pos, negsuc, zero, suc, Bool, ◌&&◌, List, [], ◌∷◌, ◌++◌, ◌+◌, ◌-◌, ◌+ℤ◌, length, take, drop, chars, codes, Option, Some, None, Result, Ok, Err, nat_lt, nat_le, ◌==◌, bytes_eq, if◌then◌else◌}
+use Rattle.std.specs.Prelude.{ℕ, ℤ, pos, zero, suc, Bool, ◌&&◌, List, [], ◌∷◌, ◌++◌, ◌+◌, ◌-◌, ◌+ℤ◌, length, take, drop, chars, codes, Option, Some, None, Result, Ok, Err, nat_lt, nat_le, ◌==◌, bytes_eq, if◌then◌else◌}
 use Rattle.std.specs.Int.{Width, w32, w64, byte_len, from_be_bytes, cast_signed}
 use Rattle.std.specs.Int.RustNames.{int_le}
 use Rattle.std.specs.Str.{is_utf8}
+use Rattle.rls_ident.specs.declared.limits.TheConstants.{MEMBERS, OPERATION_BYTES, OFFSETS_END}
 use Rattle.rls_ident.specs.declared.tuple.Tuple.{Tuple}
 use Rattle.rls_ident.specs.declared.tuple.Tuple.TheVariants.{Low, At, High}
 use Rattle.rls_ident.specs.declared.epoch_name.EpochName.{EpochName}
 use Rattle.rls_ident.specs.declared.epoch_name.EpochName.TheVariants.{Origin, Of}
 use Rattle.rls_ident.specs.Tuples.{offset_of}
-use Rattle.rls_ident.specs.Identifiers.{last_of, least_offset, greatest_offset}
+use Rattle.rls_ident.specs.Identifiers.{last_of, least_offset, greatest_offset, least_inner}
 use Rattle.rls_runs.specs.Runs.{is_apart, idents_of}
 use Rattle.rls_ops.specs.declared.op.Op.{Op}
 use Rattle.rls_ops.specs.declared.op.Body.{Body}
 use Rattle.rls_ops.specs.declared.op.Body.TheVariants.{Insert, Delete, Rename, Leave}
 use Rattle.rls_ops.specs.declared.message.Message.{Message}
-use Rattle.rls_ops.specs.Spelling.{newest_form}
+use Rattle.rls_ops.specs.Spelling.{message_form}
 
 -- a value and the bytes after it, or a fault
 abbrev pub Read : Type 0 → Type 0
@@ -50,7 +51,7 @@ bytes_at n bytes = if nat_lt (length bytes) n then Err (length bytes) else Ok (t
 
 -- ---- lists of parts
 
--- so many parts, where each is read behind the one before
+-- so many parts, where each is read after the one before
 unfoldable pub chain_at : {A : Type 0} → (Option A → List ℕ → Read A) → Option A → ℕ → List ℕ → Read (List A)
 chain_at part before zero bytes = Ok ([], bytes)
 chain_at part before (suc n) bytes = do
@@ -71,7 +72,7 @@ counted_at part bytes = number_at w32 bytes >>= λ n. chain_at part None n.0 n.1
 abbrev pub is_offset : ℤ → ℤ → Bool
 is_offset least z = int_le least z && int_le z greatest_offset
 
--- an `At` behind its kind, with an offset from this one on
+-- an `At` after its kind, with an offset from this one on
 unfoldable pub spot_at : ℤ → List ℕ → Read Tuple
 spot_at least bytes = do
   p ← number_at w32 bytes
@@ -80,10 +81,10 @@ spot_at least bytes = do
   offset ← with_rule (is_offset least) signed_at seq.1
   Ok (At p.0 replica.0 seq.0 offset.0, offset.1)
 
--- a tuple of this kind, in front of another
+-- a tuple of this kind, before another
 abbrev pub inner_of_kind : ℕ → List ℕ → Read Tuple
 inner_of_kind zero bytes = Ok (Low, bytes)
-inner_of_kind (suc zero) bytes = spot_at (negsuc 1073741824) bytes
+inner_of_kind (suc zero) bytes = spot_at least_inner bytes
 inner_of_kind (suc (suc k)) bytes = Ok (High, bytes)
 
 unfoldable pub inner_at : List ℕ → Read Tuple
@@ -103,7 +104,7 @@ ident_at bytes = do
 
 -- the length leaves each offset within the greatest
 abbrev pub is_run_len : List Tuple → ℕ → Bool
-is_run_len first n = nat_lt 0 n && int_le (offset_of (last_of first) +ℤ pos n) (pos 1073741824)
+is_run_len first n = nat_lt 0 n && int_le (offset_of (last_of first) +ℤ pos n) (pos OFFSETS_END)
 
 -- a first identifier and a length
 unfoldable pub run_at : List ℕ → Read (List Tuple × ℕ)
@@ -112,7 +113,7 @@ run_at bytes = do
   len ← with_rule (is_run_len first.0) (number_at w32) first.1
   Ok ((first.0, len.0), len.1)
 
--- a run behind the run before
+-- a run after the run before
 abbrev pub next_run_at : Option (List Tuple × ℕ) → List ℕ → Read (List Tuple × ℕ)
 next_run_at before bytes = with_rule (is_apart before) run_at bytes
 
@@ -165,13 +166,9 @@ op_fields_at members bytes = do
   body ← body_at epoch.1
   Ok (record { author = author.0; seq = seq.0; context = context.0; epoch = epoch.0; body = body.0 }, body.1)
 
--- the most bytes of an operation
-abbrev pub op_limit : ℕ
-op_limit = 16777216
-
 -- an operation, which as a whole keeps the limit
 unfoldable pub op_at : ℕ → List ℕ → Read Op
-op_at members bytes = op_fields_at members bytes >>= λ o. if nat_lt (length o.1 + op_limit) (length bytes) then Err (length bytes) else Ok o
+op_at members bytes = op_fields_at members bytes >>= λ o. if nat_lt (length o.1 + OPERATION_BYTES) (length bytes) then Err (length bytes) else Ok o
 
 -- ---- places in a longer list of bytes
 
@@ -197,10 +194,10 @@ abbrev pub magic_at : List ℕ → List ℕ → Read (List ℕ)
 magic_at magic bytes = with_rule (λ found. bytes_eq found magic) (bytes_at (length magic)) bytes
 
 abbrev pub is_message_form : ℕ → Bool
-is_message_form n = nat_lt 0 n && nat_le n newest_form
+is_message_form n = nat_lt 0 n && nat_le n message_form
 
 abbrev pub is_member_count : ℕ → Bool
-is_member_count n = nat_lt 0 n && nat_le n 64
+is_member_count n = nat_lt 0 n && nat_le n MEMBERS
 
 -- a form and a message
 unfoldable pub message_and_form_at : List ℕ → Read (ℕ × Message)

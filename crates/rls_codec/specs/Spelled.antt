@@ -1,11 +1,12 @@
 -- Which values have a spelling: those that keep the rules of the format.
-use Rattle.std.specs.Prelude.{◌≡◌, ℕ, ◌^◌, ◌<◌, ◌≤◌, ℤ, negsuc, List, [], ◌∷◌, length, encode_utf8_all, All, Option, Some, None, IsTrue}
+use Rattle.std.specs.Prelude.{◌≡◌, ℕ, ◌<◌, ◌≤◌, ℤ, List, [], ◌∷◌, length, encode_utf8_all, All, Option, Some, None, IsTrue}
 use Rattle.std.specs.Str.{all_scalars}
+use Rattle.rls_ident.specs.declared.limits.TheConstants.{OPERATION_BYTES}
 use Rattle.rls_ident.specs.declared.tuple.Tuple.{Tuple}
 use Rattle.rls_ident.specs.declared.tuple.Tuple.TheVariants.{Low, At, High}
 use Rattle.rls_ident.specs.declared.epoch_name.EpochName.{EpochName}
 use Rattle.rls_ident.specs.declared.epoch_name.EpochName.TheVariants.{Origin, Of}
-use Rattle.rls_ident.specs.Identifiers.{least_offset}
+use Rattle.rls_ident.specs.Identifiers.{least_offset, least_inner}
 use Rattle.rls_runs.specs.Runs.{runs_of, is_apart, idents_of}
 use Rattle.rls_ops.specs.declared.op.Op.{Op}
 use Rattle.rls_ops.specs.declared.op.Body.{Body}
@@ -13,17 +14,10 @@ use Rattle.rls_ops.specs.declared.op.Body.TheVariants.{Insert, Delete, Rename, L
 use Rattle.rls_ops.specs.declared.message.Message.{Message}
 use Rattle.rls_ops.specs.Spelling.{op_bytes}
 use Rattle.rls_ops.specs.Sizes.{op_size}
-use Rattle.rls_ops.specs.WellFormed.{IsBody}
-use Rattle.rls_codec.specs.Reading.{is_offset, is_run_len, op_limit, is_member_count}
+use Rattle.rls_ops.specs.WellFormed.{IsSmall, IsLarge, IsBody}
+use Rattle.rls_codec.specs.Reading.{is_offset, is_run_len, is_member_count}
 
--- a number of four bytes, and of eight
-abbrev pub IsSmall : ℕ → Type 0
-IsSmall n = n < 2 ^ 32
-
-abbrev pub IsLarge : ℕ → Type 0
-IsLarge n = n < 2 ^ 64
-
--- each part fits behind the one before
+-- each part fits after the one before
 abbrev pub Chained : {A : Type 0} → (Option A → A → Type 0) → Option A → List A → Type 0
 Chained F before [] = Unit {0}
 Chained F before (x ∷ xs) = F before x × Chained F (Some x) xs
@@ -40,9 +34,9 @@ FitsAt least (At p r s o) = IsSmall p × IsSmall r × IsSmall s × IsTrue (is_of
 FitsAt least Low = ⊥
 FitsAt least High = ⊥
 
--- a tuple in front of another
+-- a tuple before another
 abbrev pub FitsInner : Tuple → Type 0
-FitsInner (At p r s o) = FitsAt (negsuc 1073741824) (At p r s o)
+FitsInner (At p r s o) = FitsAt least_inner (At p r s o)
 FitsInner Low = Unit {0}
 FitsInner High = Unit {0}
 
@@ -58,11 +52,11 @@ FitsIdent x = IsSmall (length x) × FitTuples x
 abbrev pub FitsRun : List Tuple × ℕ → Type 0
 FitsRun r = FitsIdent r.0 × IsSmall r.1 × IsTrue (is_run_len r.0 r.1)
 
--- a run behind the run before
+-- a run after the run before
 abbrev pub FitsBehind : Option (List Tuple × ℕ) → List Tuple × ℕ → Type 0
 FitsBehind before r = FitsRun r × IsTrue (is_apart before r)
 
--- the identifiers of runs that fit one behind the other
+-- the identifiers of runs that fit one after the other
 abbrev pub FitRuns : List (List Tuple) → Type 0
 FitRuns xs = IsSmall (length (runs_of xs)) × Chained FitsBehind None (runs_of xs) × (idents_of (runs_of xs) ≡ xs)
 
@@ -89,7 +83,7 @@ pub record IsSpelled (members : ℕ) (o : Op) : Type 0 where
   pub context : FitsVector members o.context
   pub epoch : FitsName o.epoch
   pub body : FitsBody o.body
-  pub limit : length (op_bytes o) ≤ op_limit
+  pub limit : length (op_bytes o) ≤ OPERATION_BYTES
 
 -- a message that has a spelling
 pub record IsSpelledMessage (m : Message) : Type 0 where
@@ -104,11 +98,11 @@ pub record IsSpelledMessage (m : Message) : Type 0 where
 
 -- an operation with a well formed body that keeps the limit has one
 abbrev pub IsSpelledIfFit : Op → Type 0
-IsSpelledIfFit o = IsBody o.body → op_size o ≤ op_limit → IsSpelled (length o.context) o
+IsSpelledIfFit o = IsBody o.body → op_size o ≤ OPERATION_BYTES → IsSpelled (length o.context) o
 
 -- a message's operation
 abbrev pub IsFitAmong : ℕ → Op → Type 0
-IsFitAmong members o = IsBody o.body × (op_size o ≤ op_limit) × (length o.context ≡ members)
+IsFitAmong members o = IsBody o.body × (op_size o ≤ OPERATION_BYTES) × (length o.context ≡ members)
 
 -- a message
 pub record IsFit (m : Message) : Type 0 where

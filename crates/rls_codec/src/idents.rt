@@ -1,6 +1,6 @@
 //! Tuples, identifiers and runs.
 
-ghost use Rattle.std.specs.Prelude.{◌≡◌, ◌+◌, ◌<◌, ◌≤◌, ◌^◌, List, length, nat_lt, None, IfOk, IfErr, IsTrue};
+ghost use Rattle.std.specs.Prelude.{◌≡◌, ◌+◌, ◌<◌, ◌≤◌, ◌^◌, length, nat_lt, None, IfOk, IfErr, IsTrue};
 ghost use Rattle.rls_runs.specs.Runs.{runs_of, are_apart, run_before};
 ghost use Rattle.std.specs.List.{All};
 ghost use Rattle.rls_ident.specs.Tuples.{at_spot};
@@ -10,17 +10,15 @@ ghost use Rattle.rls_codec.specs.Gives.{Gives, Fails, PutsRun};
 
 use crate::fault::ReadError;
 use crate::fields::{byte, i32_at, u32_at};
+use rls_ident::limits::{GREATEST_OFFSET, LEAST_OFFSET};
 use rls_ident::{Ident, Spot, Tuple};
 use rls_runs::{PushError, Run, Runs};
 use std::alloc::Global;
 
-/// The greatest offset.
-const GREATEST: i32 = 1_073_741_823;
-
 fn is_offset(least: i32, offset: i32) -> bool
     ensures offset { result ≡ is_offset least offset }
 {
-    least <= offset && offset <= GREATEST
+    least <= offset && offset <= GREATEST_OFFSET
 }
 
 /// An `At` after its kind, with an offset from `least` on.
@@ -54,7 +52,7 @@ fn inner(bytes: &[u8]) -> Result<(Tuple, &[u8]), ReadError>
     match kind {
         0 => Ok((Tuple::Low, rest)),
         1 => {
-            let (spot, after) = spot(-1_073_741_825, rest)?;
+            let (spot, after) = spot(LEAST_OFFSET - 1, rest)?;
             Ok((spot.as_tuple(), after))
         }
         2 => Ok((Tuple::High, rest)),
@@ -71,7 +69,7 @@ fn last(bytes: &[u8]) -> Result<(Spot, &[u8]), ReadError>
     if kind != 1 {
         return Err(ReadError::Fault { left: bytes.len() });
     }
-    spot(-1_073_741_824, rest)
+    spot(LEAST_OFFSET, rest)
 }
 
 fn inners(alloc: Global, count: u32, bytes: &[u8]) -> Result<(Vec<Tuple>, &[u8]), ReadError>

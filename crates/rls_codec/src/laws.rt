@@ -15,7 +15,7 @@ pub fn places()
     ensures read { ReadFromAreOps }
 {}
 
-/// No spelling of an operation stands in front of another's.
+/// No spelling of an operation stands before another's.
 pub fn no_prefix()
     ensures no_prefix { NoneIsPrefix }
 {}

@@ -10,11 +10,9 @@ ghost use Rattle.rls_codec.specs.CodecLaws.{IsMessage};
 use crate::fault::{DecodeError, ReadError};
 use crate::fields::{byte, u32_at, u64_at, vector};
 use crate::reading::ops;
+use rls_ident::limits::MEMBERS;
 use rls_ops::Message;
 use std::alloc::Global;
-
-/// The most members.
-const MOST_MEMBERS: u32 = 64;
 
 /// These bytes.
 pub fn magic<'a>(text: &[u8], bytes: &'a [u8]) -> Result<&'a [u8], ReadError>
@@ -45,7 +43,7 @@ pub fn member_count(bytes: &[u8]) -> Result<(u32, &[u8]), ReadError>
     ensures read { Gives (λ x. (x.0, x.1.now)) result (with_rule is_member_count (number_at w32) bytes.now) }
 {
     let (members, rest) = u32_at(bytes)?;
-    if members < 1 || members > MOST_MEMBERS {
+    if members < 1 || members > MEMBERS {
         return Err(ReadError::Fault { left: bytes.len() });
     }
     Ok((members, rest))

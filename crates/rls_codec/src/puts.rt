@@ -8,8 +8,9 @@ ghost use Rattle.std.specs.List.{flat_map};
 ghost use Rattle.std.specs.Char.{IsScalar};
 ghost use Rattle.rls_runs.specs.Runs.{runs_of, AreIdents};
 ghost use Rattle.rls_ops.specs.Spelling.{four_bytes, eight_bytes, signed_bytes, tuple_bytes, ident_bytes, run_bytes, runs_bytes, vector_bytes, name_bytes, text_bytes};
+ghost use Rattle.rls_ops.specs.WellFormed.{IsSmall};
 ghost use Rattle.rls_codec.specs.Gives.{IsFrontOf};
-ghost use Rattle.rls_codec.specs.Spelled.{IsSmall, IsSmallTuple, FitsIdent, FitsName, FitsText, FitsRun, FitRuns};
+ghost use Rattle.rls_codec.specs.Spelled.{IsSmallTuple, FitsIdent, FitsName, FitsText, FitsRun, FitRuns};
 
 use rls_ident::{EpochName, Ident, Tuple, Vector};
 use rls_runs::{Run, Runs, Text};

@@ -9,11 +9,9 @@ ghost use Rattle.rls_codec.specs.Gives.{Gives, Decodes};
 use crate::fault::{DecodeError, ReadError};
 use crate::fields::{byte, epoch_name, text, u32_at, vector};
 use crate::idents::{ident, runs};
+use rls_ident::limits::OPERATION_BYTES;
 use rls_ops::{Body, Op, Ops};
 use std::alloc::Global;
-
-/// The most bytes of an operation.
-const OP_LIMIT: usize = 16_777_216;
 
 /// A kind and a body.
 #[tactic(auto, unfolding(crate::specs::Reading::body_at))]
@@ -65,7 +63,7 @@ pub fn op(alloc: Global, members: u32, bytes: &[u8]) -> Result<(Op, &[u8]), Read
     ensures read { Gives (λ x. (x.0, x.1.now)) result (op_at members bytes.now) }
 {
     let (op, rest) = op_fields(alloc, members, bytes)?;
-    if rest.len() + OP_LIMIT < bytes.len() {
+    if rest.len() + (OPERATION_BYTES as usize) < bytes.len() {
         return Err(ReadError::Fault { left: bytes.len() });
     }
     Ok((op, rest))

@@ -2,11 +2,12 @@
 
 ghost use Rattle.std.specs.Prelude.{◌≡◌, ◌<◌, ◌≤◌, ◌^◌, ◌++◌, [], ◌∷◌, length, codes, All, IfOk, OnOk, OnErr};
 ghost use Rattle.std.specs.List.{flat_map};
+ghost use Rattle.rls_ident.specs.declared.limits.TheConstants.{INPUT_BYTES};
 ghost use Rattle.rls_ops.specs.Spelling.{counted, kind_of, body_bytes, op_bytes, message_bytes};
 ghost use Rattle.rls_ops.specs.Sizes.{op_size, message_size};
-ghost use Rattle.rls_ops.specs.WellFormed.{IsBody};
+ghost use Rattle.rls_ops.specs.WellFormed.{IsSmall, IsBody};
 ghost use Rattle.rls_codec.specs.Gives.{IsShort, IsFrontOf};
-ghost use Rattle.rls_codec.specs.Spelled.{IsSmall, FitsBody, IsSpelledIfFit, IsFit};
+ghost use Rattle.rls_codec.specs.Spelled.{FitsBody, IsSpelledIfFit, IsFit};
 ghost use Rattle.rls_codec.specs.CodecLaws.{IsMessage};
 
 use crate::puts::{
@@ -116,7 +117,7 @@ fn put_magic(out: &mut Vec<u8>) -> Result<(), AllocError>
 
 #[tactic(auto, using(crate::proofs::SizeLaws::few_ops, crate::proofs::SizeLaws::small_ops), unfolding(rls_ops::specs::Spelling::message_in_form))]
 fn written(alloc: Global, message: &Message) -> Result<Vec<u8>, AllocError>
-    requires limit { message_size message.now ≤ 67108864 }
+    requires limit { message_size message.now ≤ INPUT_BYTES }
     ensures bytes { IfOk result (λ bytes. bytes.items ≡ message_bytes message.now) }
     ensures group { OnOk result (message.now.group < 2 ^ 64) }
     ensures vector { OnOk result (All IsSmall message.now.vector) }
@@ -137,7 +138,7 @@ fn written(alloc: Global, message: &Message) -> Result<Vec<u8>, AllocError>
 /// The bytes of a message, in the newest form. They are a message where it keeps the rules of the format. The cost is that of its operations.
 #[tactic(auto, using(crate::proofs::Fits::message_fits))]
 pub fn encode_message(alloc: Global, message: &Message) -> Result<Vec<u8>, AllocError>
-    requires limit { message_size message.now ≤ 67108864 }
+    requires limit { message_size message.now ≤ INPUT_BYTES }
     ensures bytes { IfOk result (λ bytes. bytes.items ≡ message_bytes message.now) }
     ensures message { IfOk result (λ bytes. IsFit message.now → IsMessage bytes.items message.now) }
 {

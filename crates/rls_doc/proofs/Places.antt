@@ -19,7 +19,7 @@ in_from [] i e h = absurd (cc)
 in_from (x ∷ es) zero e h = inl (some_is x e h)
 in_from (x ∷ es) (suc i) e h = inr (in_from es i e h)
 
--- behind a lesser one
+-- after a lesser one
 less_at : (n : ℕ) (es : List Entry) (m : ℕ) (e : Entry) (x : List Tuple) → Rises es → slice_get es m ≡ Some e → Lt tuples e.0 x → place_from n x (idents_in es) ≡ place_from (n + suc m) x (idents_in (drop (suc m) es))
 less_at n [] m e x r g l = absurd (cc)
 less_at n (y ∷ es) zero e x r g l =

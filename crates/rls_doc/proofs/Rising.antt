@@ -30,7 +30,7 @@ increasing_mapped f k (x ∷ (y ∷ es)) i h =
     let l = k x.0 y.0 (and_left (is_ident x.0) (list_all is_ident (idents_in (y ∷ es))) i) (and_left (is_ident y.0) (list_all is_ident (idents_in es)) j) (and_left (ident_lt x.0 y.0) (is_increasing (idents_in (y ∷ es))) h) in
     and_true (ident_lt (f x.0) (f y.0)) (is_increasing (idents_in (with_idents f (y ∷ es)))) l (increasing_mapped f k (y ∷ es) j (and_right (ident_lt x.0 y.0) (is_increasing (idents_in (y ∷ es))) h))
 
--- ---- entries behind the last one
+-- ---- entries after the last one
 
 pub behind_last : (es added : List Entry) (last first : Entry) → is_increasing (idents_in es) ≡ true → is_increasing (idents_in added) ≡ true → slice_get es (length es - 1) ≡ Some last → slice_get added 0 ≡ Some first → ident_cmp last.0 first.0 ≡ Less → is_increasing (idents_in (es ++ added)) ≡ true
 behind_last [] added last first h a g f l = absurd (cc)
@@ -64,7 +64,7 @@ increasing_part from count es h = increasing_of_rises (take count (drop from es)
 pub idents_part : (from count : ℕ) (es : List Entry) → idents_in (take count (drop from es)) ≡ take count (drop from (idents_in es))
 idents_part from count es = sym (ap (take count) (drop-map (λ e. e.0) from es) ∙ take-map (λ e. e.0) count (drop from es))
 
--- each identifier is above the last one in front of it
+-- each identifier is above the last one before it
 pub above_taken : (es : List Entry) (i : ℕ) (e : Entry) → is_increasing (idents_in es) ≡ true → slice_get es i ≡ Some e → is_above (last_ident (idents_in (take i es))) e.0 ≡ true
 above_taken es zero e h g = refl
 above_taken [] (suc i) e h g = absurd (cc)

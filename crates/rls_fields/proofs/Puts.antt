@@ -138,7 +138,7 @@ own_fewer a (s ∷ ss) =
 pub few_own : (a : ℕ) (ss : List Stem) → length ss < 2 ^ 32 → length (own_of a ss) < 2 ^ 32
 few_own a ss h = omega (arith, own_fewer a ss)
 
--- ---- numbers in front of lists
+-- ---- numbers before lists
 
 pub counted_put : {A : Type 0} (f : A → List ℕ) (xs : List A) (n : ℕ) (out before after : List ℕ) → n ≡ length xs → before ≡ out ++ four_bytes n → after ≡ before ++ flat_map f xs → after ≡ out ++ counted f xs
 counted_put f xs n out before after e g h =

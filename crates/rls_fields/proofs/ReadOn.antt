@@ -1,4 +1,4 @@
--- Parts that are read one behind the other, each behind the last of those before it.
+-- Parts that are read one after the other, each after the last of those before it.
 use Rattle.std.proofs.Common.{◌≡◌, ℕ, suc, ◌-◌, ◌+◌, ◌≤◌, ◌<◌, List, [], ◌∷◌, ◌++◌, length, Option, Some, Ok, Err, refl, sym, ap, ◌∙◌, append_assoc, arith}
 use Rattle.std.specs.Prelude.{slice_get}
 use Rattle.std.proofs.lemmas.List.{length-append, append-nil}
@@ -28,7 +28,7 @@ pub reads_on : {A : Type 0} (part : Option A → List ℕ → Read A) (front : L
 reads_on part front count i bytes x after total lt h so_far =
     ap (λ b. behind (front ++ x ∷ []) (chain_at part b (count - (i + 1)) after)) (latest_pushed front x) ∙ goes_on part front (latest front) count i bytes x after total lt h so_far
 
--- ---- behind what was read before
+-- ---- after what was read before
 
 fails_behind : {A : Type 0} (front : List A) (read : Read (List A)) (left : ℕ) → behind front read ≡ Err left → read ≡ Err left
 fails_behind front (Ok x) left e = absurd cc
@@ -42,7 +42,7 @@ module _ (form n i : ℕ) (front : List Stem) (bytes : List ℕ) (total : Read (
   abbrev own : Read (List Stem)
   own = counted_at (λ before. stem_at form i) bytes
 
-  -- the stems of the members from the next one on, behind the own ones
+  -- the stems of the members from the next one on, after the own ones
   abbrev with_later : ℕ → Read (List Stem) → Read (List Stem)
   with_later m read = read >>= λ x. stems_at form (suc i) m x.1 >>= λ others. Ok (x.0 ++ others.0, others.1)
 

@@ -33,7 +33,7 @@ opening e = option_map (λ k. (k, e.former)) e.parent
 abbrev pub text_run_size : TextRun → ℕ
 text_run_size r = run_size r.run + (4 + sum_by char_size r.text)
 
--- ---- how many bytes stand in front of each section
+-- ---- how many bytes stand before each section
 
 abbrev pub before_rows : Parts → ℕ
 before_rows p = 21 + 4 * length p.vector
@@ -63,7 +63,7 @@ written_size p =
     before_rows p + sum_by row_size p.rows + left_size 4 p.left + length (stems_bytes 4 0 p.members p.stems)
     + 4 + sum_by epoch_size p.epochs + 4 + sum_by text_run_size p.text + 4 + sum_by op_size p.log + 4 + sum_by op_size p.held
 
--- how many bytes stand in front of the stem at this place, if there is one
+-- how many bytes stand before the stem at this place, if there is one
 abbrev pub stem_before : ℕ → Parts → ℕ → Option Stem → ℕ
 stem_before form p i None = 0
 stem_before form p i (Some s) = before_stems form p + 4 * (s.author + 1) + stem_size form * i

@@ -60,7 +60,7 @@ file_bytes p = snapshot_bytes newest_form p
 abbrev pub stem_size : ℕ → ℕ
 stem_size form = if form == 2 then 8 else 12
 
--- how many bytes stand in front of each section of a file
+-- how many bytes stand before each section of a file
 abbrev pub rows_place : Parts → ℕ
 rows_place p = length (head_bytes 0 p.group p.members p.me ++ vector_bytes p.vector)
 
@@ -79,11 +79,11 @@ log_place form p = text_place form p + length (counted text_run_bytes p.text)
 abbrev pub held_place : ℕ → Parts → ℕ
 held_place form p = log_place form p + length (counted op_bytes p.log)
 
--- how many bytes stand in front of part i of these, behind their number
+-- how many bytes stand before part i of these, after their number
 abbrev pub bytes_before : {A : Type 0} → (A → List ℕ) → List A → ℕ → ℕ
 bytes_before part xs i = 4 + length (flat_map part (take i xs))
 
--- a stem stands behind the numbers of the members up to its own
+-- a stem stands after the numbers of the members up to its own
 abbrev pub stem_place : ℕ → Parts → ℕ → Option Stem → ℕ
 stem_place form p i None = 0
 stem_place form p i (Some s) = stems_place form p + 4 * (s.author + 1) + stem_size form * i

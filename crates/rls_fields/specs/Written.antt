@@ -1,7 +1,8 @@
 -- What is known of fields that were written, beside their bytes: the numbers, identifiers and characters of the code's types fit them.
 use Rattle.std.specs.Prelude.{◌≡◌, ℕ, List, All, Some}
 use Rattle.rls_runs.specs.Runs.{AreIdents}
-use Rattle.rls_codec.specs.Spelled.{IsSmall, FitRuns, FitsRun, FitsText}
+use Rattle.rls_ops.specs.WellFormed.{IsSmall}
+use Rattle.rls_codec.specs.Spelled.{FitRuns, FitsRun, FitsText}
 use Rattle.rls_model.specs.declared.parts.EpochPart.{EpochPart}
 use Rattle.rls_model.specs.declared.parts.TextRun.{TextRun}
 

@@ -87,7 +87,7 @@ fn before_held(form: u8, parts: &Parts) -> u64
         .saturating_add(ops_len(parts.log.as_slice()))
 }
 
-// A stem stands behind the numbers of the members up to its own.
+// A stem stands after the numbers of the members up to its own.
 fn before_stem(form: u8, parts: &Parts, index: u64) -> u64
     ensures before { result ≡ min (stem_before form parts.now index (slice_get parts.now.stems index)) (2 ^ 64 - 1) }
 {
@@ -101,7 +101,7 @@ fn before_stem(form: u8, parts: &Parts, index: u64) -> u64
 }
 
 /// The place in a snapshot of this form of what breaks the rule: of the first byte of the entry at this place of its list, or, for
-/// the rules 6 and 7, of the number of unstable operations and of the number of epochs. It goes over the entries in front of it.
+/// the rules 6 and 7, of the number of unstable operations and of the number of epochs. It goes over the entries before it.
 pub fn place_of_broken(form: u8, parts: &Parts, rule: u8, index: u64) -> u64
     ensures place { result ≡ min (place_of_broken form parts.now (record { rule = rule; index = index })) (2 ^ 64 - 1) }
 {

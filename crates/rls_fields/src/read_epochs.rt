@@ -26,7 +26,7 @@ fn top_epoch(alloc: Global, bytes: &[u8]) -> Result<(EpochPart, &[u8]), ReadErro
     Ok((epoch, rest))
 }
 
-// An epoch behind another, with the place of its parent and its former identifiers.
+// An epoch after another, with the place of its parent and its former identifiers.
 #[tactic(auto, unfolding(crate::specs::ReadingFields::epoch_at))]
 fn next_epoch(alloc: Global, bytes: &[u8]) -> Result<(EpochPart, &[u8]), ReadError>
     ensures read { (before : EpochPartSeen) → Gives (λ x. (x.0, x.1.now)) result (epoch_at (Some before) bytes.now) }
@@ -42,7 +42,7 @@ fn next_epoch(alloc: Global, bytes: &[u8]) -> Result<(EpochPart, &[u8]), ReadErr
     Ok((epoch, rest))
 }
 
-// An epoch behind the one before, where there is one.
+// An epoch after the one before, where there is one.
 fn epoch<'a>(
     alloc: Global,
     before: Option<&EpochPart>,

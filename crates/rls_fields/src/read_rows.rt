@@ -75,7 +75,7 @@ fn member_list(
     Ok((list, rest))
 }
 
-// The members that have left, behind their number.
+// The members that have left, after their number.
 fn counted_members(alloc: Global, members: u32, bytes: &[u8]) -> Result<(Members, &[u8]), ReadError>
     ensures read { Gives (λ x. (x.0, x.1.now)) result (counted_at (left_at members) bytes.now) }
 {

@@ -1,4 +1,4 @@
-//! A snapshot behind its head.
+//! A snapshot after its head.
 
 ghost use Rattle.std.specs.Prelude.{◌<◌};
 ghost use Rattle.rls_codec.specs.Gives.{Gives};
@@ -12,8 +12,8 @@ use rls_codec::{ReadError, ops, vector};
 use rls_model::Parts;
 use std::alloc::Global;
 
-/// The parts of a replica, as they stand behind the head of a snapshot of this form: behind the group, the count of members and the
-/// own number. It takes them from the front of the bytes, in one pass, and answers the bytes behind them. Which rules the parts keep
+/// The parts of a replica, as they stand after the head of a snapshot of this form: after the group, the count of members and the
+/// own number. It takes them from the front of the bytes, in one pass, and answers the bytes after them. Which rules the parts keep
 /// with one another isn't looked at.
 ///
 /// # Errors

@@ -40,7 +40,7 @@ fn stem(form: u8, author: u32, bytes: &[u8]) -> Result<(Stem, &[u8]), ReadError>
     Ok((stem, rest))
 }
 
-// So many stems of this author, put behind others.
+// So many stems of this author, put after others.
 fn stem_list<'a>(
     form: u8,
     author: u32,
@@ -59,7 +59,7 @@ fn stem_list<'a>(
     Ok(rest)
 }
 
-// The stems of this author behind their number, put behind others.
+// The stems of this author after their number, put after others.
 fn own_stems<'a>(
     form: u8,
     author: u32,

@@ -21,7 +21,7 @@ fn is_apart(before: Option<&TextRun>, run: &Run) -> bool
     }
 }
 
-// A run behind the one before.
+// A run after the one before.
 fn next_run<'a>(
     alloc: Global,
     before: Option<&TextRun>,
@@ -47,7 +47,7 @@ fn text_of_len(alloc: Global, len: u32, bytes: &[u8]) -> Result<(Text, &[u8]), R
     Ok((found, rest))
 }
 
-// A run behind the one before, and its characters.
+// A run after the one before, and its characters.
 #[tactic(auto, unfolding(crate::specs::ReadingFields::text_run_at))]
 fn text_run<'a>(
     alloc: Global,
@@ -75,7 +75,7 @@ fn text_run_list(alloc: Global, count: u32, bytes: &[u8]) -> Result<(TextRuns, &
     Ok((list, rest))
 }
 
-/// The runs behind their number.
+/// The runs after their number.
 pub(crate) fn text_runs(alloc: Global, bytes: &[u8]) -> Result<(TextRuns, &[u8]), ReadError>
     ensures read { Gives (λ x. (x.0, x.1.now)) result (counted_at text_run_at bytes.now) }
 {

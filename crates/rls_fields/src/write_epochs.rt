@@ -87,7 +87,7 @@ fn put_epoch_list(out: &mut Vec<u8>, epochs: &Epochs, names: &[EpochName]) -> Re
     Ok(())
 }
 
-/// These kept epochs behind their number, of which the first is kept by its name alone.
+/// These kept epochs after their number, of which the first is kept by its name alone.
 pub fn put_epochs(out: &mut Vec<u8>, epochs: &Epochs, names: &[EpochName]) -> Result<(), AllocError>
     requires kept { (e : EpochNameSeen) → IsIn e names.now → IsTrue (is_kept epochs.now.epochs.top epochs.now.epochs.nodes e) }
     requires small { sum_by epoch_size (epoch_parts epochs.now.epochs.nodes names.now) < 2 ^ 32 }

@@ -64,7 +64,7 @@ fn put_missing_list(out: &mut Vec<u8>, log: &Log, vector: &Vector) -> Result<(),
     Ok(())
 }
 
-/// The operations of a log that a vector doesn't cover, in order, behind their number.
+/// The operations of a log that a vector doesn't cover, in order, after their number.
 pub fn put_missing(out: &mut Vec<u8>, log: &Log, vector: &Vector) -> Result<(), AllocError>
     requires authors { (o : OpSeen) → IsIn o log.now.ops → o.author < length vector.now }
     requires small { sum_by op_size (missing_for vector.now log.now.ops) < 2 ^ 32 }
@@ -99,7 +99,7 @@ fn put_waiting_list(out: &mut Vec<u8>, held: &Held) -> Result<(), AllocError>
     Ok(())
 }
 
-/// The waiting operations, in order, behind their number.
+/// The waiting operations, in order, after their number.
 pub fn put_waiting(out: &mut Vec<u8>, held: &Held) -> Result<(), AllocError>
     requires small { sum_by op_size held.now < 2 ^ 32 }
     ensures ok { OnOk result (out.new.items ≡ out.old.items ++ counted op_bytes held.now) }

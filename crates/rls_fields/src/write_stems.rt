@@ -31,7 +31,7 @@ fn put_own_list(out: &mut Vec<u8>, stems: &StemTable, author: u32) -> Result<(),
     Ok(())
 }
 
-// The stems of one author behind their number.
+// The stems of one author after their number.
 fn put_own(out: &mut Vec<u8>, stems: &StemTable, author: u32) -> Result<(), AllocError>
     requires author { author < stems.now.members }
     requires few { length (own_of author stems.now.stems) < 2 ^ 32 }

@@ -76,7 +76,7 @@ fn blocks_len(node: &Node) -> u64
     left.saturating_add(own).saturating_add(right)
 }
 
-/// The maximal runs with their characters, behind their number.
+/// The maximal runs with their characters, after their number.
 pub fn put_text_runs(out: &mut Vec<u8>, tree: &BlockTree) -> Result<(), AllocError>
     requires small { sum_by text_run_size (text_runs (entries_of tree.now.blocks)) < 2 ^ 32 }
     ensures ok { OnOk result (out.new.items ≡ out.old.items ++ counted text_run_bytes (text_runs (entries_of tree.now.blocks))) }

@@ -4,8 +4,8 @@ use Rattle.std.specs.Prelude.{nat_lt, nat_le, ◌==◌, codes}
 use Rattle.std.proofs.lemmas.List.{append-nil}
 use Rattle.std.proofs.lemmas.Bool.{and_parts, ltb-true, lt-ltb, leb-true, eqb-true}
 use Rattle.rls_ops.specs.Spelling.{four_bytes, eight_bytes}
+use Rattle.rls_ops.specs.WellFormed.{IsSmall, IsLarge}
 use Rattle.rls_codec.specs.Reading.{Read, ◌>>=◌, is_member_count, whole}
-use Rattle.rls_codec.specs.Spelled.{IsSmall, IsLarge}
 use Rattle.rls_codec.specs.CodecLaws.{IsBytes}
 use Rattle.rls_codec.proofs.Formats.{Spells, bind_ok, field, fitting, spelling, seen, ruled, byte, small_count, small_from}
 use Rattle.rls_codec.proofs.PartFormats.{small, large}
@@ -47,7 +47,7 @@ content_rest (Snapshot form p) = rest_bytes form p.members p
 abbrev IsHeaded : ℕ → ℕ → ℕ → ℕ → Content → Type 0
 IsHeaded form group members me c = (form_of c ≡ form) × (group_in c ≡ group) × (members_in c ≡ members) × (me_in c ≡ me)
 
--- the rules behind the head
+-- the rules after the head
 abbrev FitRest : Content → Type 0
 FitRest (Journal s) = IsSmall (length (entries_of s.history)) × IsReadable s.history × FitWaiting (members_of s.history) (me_of s.history) (count_in s.history) s.waiting
 FitRest (Snapshot form p) = ((form == 1) ≡ false) × IsSpelledParts form p.members p

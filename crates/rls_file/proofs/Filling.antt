@@ -1,4 +1,4 @@
--- A journal behind its head, part by part.
+-- A journal after its head, part by part.
 use Rattle.std.proofs.Common.{◌≡◌, ℕ, List, Option, None, Ok, Err, refl, sym, ap, ◌∙◌, subst}
 use Rattle.std.specs.Prelude.{nat_lt}
 use Rattle.std.specs.Int.{w32, w64}
@@ -54,7 +54,7 @@ pub fill_done : (H K : History) (W : List Op) (bytes rest middle later end : Lis
     → chain_at (waiting_at K) None m later ≡ Ok (W, end) → filled_at H bytes ≡ state_ok K W end
 fill_done H K W bytes rest middle later end n m h s c w = all_is H K bytes rest middle later n m h s c ∙ ap (with_waiting K) w
 
--- ---- behind the head
+-- ---- after the head
 
 abbrev journal_waiting : ℕ → ℕ → History → Option Op → List ℕ → Read Op
 journal_waiting members me K before bytes = with_rule (may_wait members me (count_in K) before) (op_at members) bytes

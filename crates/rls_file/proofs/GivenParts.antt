@@ -1,9 +1,11 @@
 -- Parts that are read from a file may be tested.
 use Rattle.std.proofs.Common.{◌≡◌, ℕ, suc, ◌<◌, ◌≤◌, Bool, true, false, List, [], ◌∷◌, length, Option, Some, None, sym, subst, arith}
 use Rattle.std.specs.Prelude.{MatchBool, map, nat_le, nat_lt, ◌==◌, ◌&&◌}
+use Rattle.rls_ident.specs.declared.limits.TheConstants.{MEMBERS}
 use Rattle.rls_ident.proofs.Members.{and_left, and_right, le_is, lt_is, eq_is}
 use Rattle.rls_ops.specs.declared.op.Op.{Op}
-use Rattle.rls_codec.specs.Spelled.{IsSmall, Chained, FitsVector, FitsBehind, IsSpelled}
+use Rattle.rls_ops.specs.WellFormed.{IsSmall}
+use Rattle.rls_codec.specs.Spelled.{Chained, FitsVector, FitsBehind, IsSpelled}
 use Rattle.rls_codec.proofs.MessageFormats.{apart_from}
 use Rattle.rls_model.specs.declared.parts.EpochPart.{EpochPart}
 use Rattle.rls_model.specs.declared.parts.TextRun.{TextRun}
@@ -36,7 +38,7 @@ have_texts : (before : Option TextRun) (rs : List TextRun) → Chained FitsTextR
 have_texts before [] c = tt
 have_texts before (r ∷ rs) c = (eq_is (length r.text) r.run.1 c.0.2, have_texts (Some r) rs c.1)
 
--- the least member that may stand behind this one
+-- the least member that may stand after this one
 abbrev above : Option ℕ → ℕ
 above None = 0
 above (Some n) = suc n
@@ -57,10 +59,10 @@ are_left members ns false h = subst (AreMembersFrom 0 members) (sym h) tt
 pub parts_are_given : (form : ℕ) (p : Parts) → IsSpelledSnapshot form p → AreGiven p
 parts_are_given form p f =
     let parts = f.parts in
-    let some : 0 < p.members = lt_is 0 p.members (and_left (nat_lt 0 p.members) (nat_le p.members 64) f.head.members_fit) in
+    let some : 0 < p.members = lt_is 0 p.members (and_left (nat_lt 0 p.members) (nat_le p.members MEMBERS) f.head.members_fit) in
     record {
       some = some;
-      few = le_is p.members 64 (and_right (nat_lt 0 p.members) (nat_le p.members 64) f.head.members_fit);
+      few = le_is p.members MEMBERS (and_right (nat_lt 0 p.members) (nat_le p.members MEMBERS) f.head.members_fit);
       me = f.head.me_fits;
       vector = parts.vector.0;
       rows = omega (arith, parts.rows.0, some);

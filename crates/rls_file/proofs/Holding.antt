@@ -1,4 +1,4 @@
--- One waiting operation more: it may wait behind the last one just where it is answered so.
+-- One waiting operation more: it may wait after the last one just where it is answered so.
 use Rattle.std.proofs.Common.{◌≡◌, ℕ, suc, ◌+◌, ◌-◌, ◌<◌, ◌≤◌, Bool, true, false, cond, if◌then◌else◌, not, ◌&&◌, ◌==◌, List, [], ◌∷◌, ◌++◌, length, Option, Some, None, Ok, Err, refl, sym, ap, ◌∙◌, subst, arith, inl, inr}
 use Rattle.std.specs.Prelude.{nat_lt, nat_le, slice_get, find}
 use Rattle.std.specs.List.{list_all}
@@ -33,7 +33,7 @@ use Rattle.rls_file.proofs.Events.{fails_then, fails_before}
 abbrev pub beside : History → List Op → State
 beside H W = record { history = H; waiting = W }
 
--- ---- all that wait come before what stands behind the last one
+-- ---- all that wait come before what stands after the last one
 
 last_tail : (w x : Op) (xs : List Op) → last_of (w ∷ x ∷ xs) ≡ last_of (x ∷ xs)
 last_tail w x xs =
@@ -151,7 +151,7 @@ hold_read t n bytes rest o b m h e =
     go true = refl
     go false = refl
 
--- it doesn't stand behind the last one
+-- it doesn't stand after the last one
 pub hold_before : (t : State) (n : ℕ) (bytes rest : List ℕ) (o : Op) → AreWaiting t.history t.waiting → n ≡ members_of t.history → op_at n bytes ≡ Ok (o, rest) → waits_behind (last_of t.waiting) o ≡ false → more_waiting_at t bytes ≡ Err (length bytes)
 hold_before t n bytes rest o s m h b = hold_read t n bytes rest o false m h (may_wait_is t o s ∙ ap (λ c. c && waits (receive t o)) b)
 

@@ -1,4 +1,4 @@
--- The formats of entries and of a journal behind its head.
+-- The formats of entries and of a journal after its head.
 use Rattle.std.proofs.Common.{◌≡◌, ℕ, zero, suc, ◌<◌, true, List, [], ◌∷◌, ◌++◌, length, Ok, refl, sym, ap, subst, ◌∙◌, append_assoc, arith, lit<}
 use Rattle.std.specs.Prelude.{nat_lt, nat_le, IsTrue}
 use Rattle.std.specs.List.{concat, flat_map}
@@ -8,8 +8,9 @@ use Rattle.rls_ops.specs.declared.op.Op.{Op}
 use Rattle.rls_ops.specs.declared.op.Body.TheVariants.{Leave}
 use Rattle.rls_ident.specs.declared.epoch_name.EpochName.TheVariants.{Origin}
 use Rattle.rls_ops.specs.Spelling.{four_bytes, vector_bytes, op_bytes, counted}
+use Rattle.rls_ops.specs.WellFormed.{IsSmall}
 use Rattle.rls_codec.specs.Reading.{Read, ◌>>=◌, with_rule, counted_at, op_at}
-use Rattle.rls_codec.specs.Spelled.{IsSmall, FitsVector, IsSpelled}
+use Rattle.rls_codec.specs.Spelled.{FitsVector, IsSpelled}
 use Rattle.rls_codec.specs.CodecLaws.{IsBytes}
 use Rattle.rls_codec.proofs.Formats.{Takes, Spells, bind_ok, ok_is, done, field, fitting, spelling, seen, ruled, byte, counted_parts}
 use Rattle.rls_codec.proofs.PartFormats.{small, vector}
@@ -95,7 +96,7 @@ any_entry H = spelling entry_bytes (fitting (FitsAnyEntry H) (field entry_kind (
     same (Accepted o) f = refl
     same (Acknowledged a v) f = refl
 
--- an entry behind this history
+-- an entry after this history
 pub entry : (H : History) → Spells (entry_at H) entry_bytes (FitsEntry H)
 unfolding entry_at
 entry H = fitting (FitsEntry H) (ruled (is_new H) (any_entry H)) to from
@@ -110,7 +111,7 @@ entry H = fitting (FitsEntry H) (ruled (is_new H) (any_entry H)) to from
 
 -- ---- parts that are read in a state
 
--- the state behind these
+-- the state after these
 abbrev pub behind : {S A : Type 0} → (S → A → S) → S → List A → S
 behind next state [] = state
 behind next state (x ∷ xs) = behind next (next state x) xs
@@ -229,7 +230,7 @@ waiting members me vector = counted_parts (λ before. with_rule (may_wait member
 abbrev pub journal_rest : State → List ℕ
 journal_rest s = concat (counted entry_bytes (entries_of s.history) ∷ counted op_bytes s.waiting ∷ [])
 
--- what fits behind the head
+-- what fits after the head
 abbrev pub FitsJournal : ℕ → ℕ → ℕ → State → Type 0
 FitsJournal group members me s = IsSmall (length (entries_of s.history)) × IsHistory group members me (length (entries_of s.history)) s.history × FitWaiting members me (count_in s.history) s.waiting
 

@@ -1,9 +1,10 @@
 -- A legal history's journal is read back.
 use Rattle.std.proofs.Common.{◌≡◌, true, false, length, None, Ok, refl, arith}
 use Rattle.std.specs.Prelude.{nat_le, nat_lt}
+use Rattle.rls_ident.specs.declared.limits.TheConstants.{MEMBERS}
 use Rattle.rls_ident.proofs.Members.{and_true, le_test, lt_test, not_le_test}
 use Rattle.rls_ops.specs.declared.op.Op.{Op}
-use Rattle.rls_codec.specs.Spelled.{IsSmall}
+use Rattle.rls_ops.specs.WellFormed.{IsSmall}
 use Rattle.rls_model.specs.History.{Accepted, Acknowledged, History, Fresh, Then, group_of, me_of, members_of, count_of}
 use Rattle.rls_model.specs.History.{count as count_in}
 use Rattle.rls_model.specs.Legal.{MayAccept, AreNumbers, IsLegal}
@@ -38,7 +39,7 @@ legal_head H l =
     record {
       form_fits = refl;
       group_fits = n.0;
-      members_fit = and_true (nat_lt 0 (members_of H)) (nat_le (members_of H) 64) (lt_test 0 (members_of H) (omega (arith, n.1))) (le_test (members_of H) 64 n.2);
+      members_fit = and_true (nat_lt 0 (members_of H)) (nat_le (members_of H) MEMBERS) (lt_test 0 (members_of H) (omega (arith, n.1))) (le_test (members_of H) MEMBERS n.2);
       me_fits = n.1;
     }
 

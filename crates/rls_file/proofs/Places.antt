@@ -18,7 +18,7 @@ use Rattle.rls_file.specs.FileLaws.{StandsAt, named_by}
 
 -- ---- parts of lists of bytes
 
--- behind these bytes
+-- after these bytes
 after : (a bytes part : List ℕ) (place : ℕ) → StandsAt bytes place part → StandsAt (a ++ bytes) (length a + place) part
 after a bytes part place s = record {
   front = a ++ s.front;
@@ -27,7 +27,7 @@ after a bytes part place s = record {
   place_is = omega (arith, s.place_is, length-append a s.front);
 }
 
--- in front of these bytes
+-- before these bytes
 before : (bytes b part : List ℕ) (place : ℕ) → StandsAt bytes place part → StandsAt (bytes ++ b) place part
 before bytes b part place s = record {
   front = s.front;
@@ -44,7 +44,7 @@ first part b = record { front = []; rest = b; parts = refl; place_is = refl }
 moved : (bytes part : List ℕ) (place there : ℕ) → place ≡ there → StandsAt bytes place part → StandsAt bytes there part
 moved bytes part place there e s = record { front = s.front; rest = s.rest; parts = s.parts; place_is = sym e ∙ s.place_is }
 
--- part i stands behind the parts before it
+-- part i stands after the parts before it
 listed : {A : Type 0} (part : A → List ℕ) (xs : List A) (i : ℕ) (x : A) → slice_get xs i ≡ Some x → StandsAt (flat_map part xs) (length (flat_map part (take i xs))) (part x)
 listed part xs i x e = record {
   front = flat_map part (take i xs);
@@ -53,7 +53,7 @@ listed part xs i x e = record {
   place_is = refl;
 }
 
--- the same behind their number
+-- the same after their number
 counted_part : {A : Type 0} (part : A → List ℕ) (xs : List A) (i : ℕ) (x : A) → slice_get xs i ≡ Some x → StandsAt (counted part xs) (bytes_before part xs i) (part x)
 counted_part part xs i x e = after (four_bytes (length xs)) (flat_map part xs) (part x) (length (flat_map part (take i xs))) (listed part xs i x e)
 
@@ -253,7 +253,7 @@ module _ (form : ℕ) (p : Parts) (g : Grouped form 0 p.members p.stems) where
       named_as (snapshot_bytes form p) (op_bytes x.0) named _ x.2
       (in_log (op_bytes x.0) (bytes_before op_bytes p.log i) (before (counted op_bytes p.log) (from_held p) (op_bytes x.0) _ (counted_part op_bytes p.log i x.0 x.1)))
 
-  -- the number field in front of a list
+  -- the number field before a list
   at_number : {A : Type 0} (part : A → List ℕ) (xs : List A) (rest : List ℕ) → StandsAt (counted part xs ++ rest) 0 (four_bytes (length xs))
   at_number part xs rest = before (counted part xs) rest (four_bytes (length xs)) 0 (first (four_bytes (length xs)) (flat_map part xs))
 

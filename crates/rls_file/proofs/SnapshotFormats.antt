@@ -1,4 +1,4 @@
--- The formats of the parts of a snapshot, and of a snapshot behind its head.
+-- The formats of the parts of a snapshot, and of a snapshot after its head.
 use Rattle.std.proofs.Common.{◌≡◌, ℕ, zero, suc, ◌-◌, ◌≤◌, Bool, true, false, cond, List, [], ◌∷◌, ◌++◌, length, Option, Some, None, Ok, refl, sym, ap, subst, ◌∙◌, arith}
 use Rattle.std.specs.Prelude.{pos, FitsSigned, MatchBool, ◌==◌, ◌&&◌, nat_lt}
 use Rattle.std.specs.List.{concat, flat_map}
@@ -6,8 +6,9 @@ use Rattle.std.specs.Int.{w32}
 use Rattle.std.proofs.lemmas.List.{append-nil}
 use Rattle.std.proofs.lemmas.Bool.{ne_eqb, eq-eqb}
 use Rattle.rls_ops.specs.Spelling.{four_bytes, signed_bytes, counted, runs_bytes, name_bytes, vector_bytes, op_bytes}
+use Rattle.rls_ops.specs.WellFormed.{IsSmall}
 use Rattle.rls_codec.specs.Reading.{signed_at, counted_at, vector_at, op_at}
-use Rattle.rls_codec.specs.Spelled.{IsSmall, Chained, FitsVector, IsSpelled}
+use Rattle.rls_codec.specs.Spelled.{Chained, FitsVector, IsSpelled}
 use Rattle.rls_codec.proofs.Formats.{Spells, done, field, fitting, spelling, seen, ruled, chain, counted_parts}
 use Rattle.rls_codec.proofs.PartFormats.{small, signed, next_run, vector, name, text}
 use Rattle.rls_codec.proofs.MessageFormats.{runs, op}
@@ -136,14 +137,14 @@ stems form a (suc n) = fitting (Grouped form a (suc n))
     back : (own : List Stem) (ss : List Stem) → (own_of a ss ≡ own) × (ss ≡ own ++ others_of a ss) × Grouped form (suc a) n (others_of a ss) → (own ++ others_of a ss ≡ ss) × Grouped form (suc a) n (others_of a ss)
     back own ss f = (sym f.1, f.2)
 
--- ---- snapshots behind their head
+-- ---- snapshots after their head
 
 -- the members that have left, which form 4 alone has
 lefts_by : (members : ℕ) (has : Bool) → Spells (λ bytes. cond has (counted_at (left_at members) bytes) (Ok ([], bytes))) (λ ns. cond has (counted four_bytes ns) []) (λ ns. MatchBool has (FitLefts members ns) (ns ≡ []))
 lefts_by members true = lefts members
 lefts_by members false = done []
 
--- the bytes behind the head
+-- the bytes after the head
 abbrev pub rest_bytes : ℕ → ℕ → Parts → List ℕ
 rest_bytes form members p = concat (vector_bytes p.vector ∷ flat_map vector_bytes p.rows ∷ cond (form == 4) (counted four_bytes p.left) []
     ∷ stems_bytes form 0 members p.stems ∷ four_bytes (length p.epochs) ∷ flat_map epoch_bytes p.epochs ∷ counted text_run_bytes p.text ∷ counted op_bytes p.log ∷ counted op_bytes p.held ∷ [])

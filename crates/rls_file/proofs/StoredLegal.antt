@@ -2,6 +2,7 @@
 use Rattle.std.proofs.Common.{◌≡◌, ℕ, true, false, List, [], ◌∷◌, Option, Some, None, refl, subst, inl, inr}
 use Rattle.std.specs.Prelude.{nat_le, nat_lt}
 use Rattle.std.specs.List.{list_all}
+use Rattle.rls_ident.specs.declared.limits.TheConstants.{MEMBERS}
 use Rattle.rls_ident.specs.Lists.{IsIn}
 use Rattle.rls_ident.specs.Vectors.{at_most}
 use Rattle.rls_ident.proofs.Members.{and_left, and_right, and_true, le_is, none_found}
@@ -36,7 +37,7 @@ next_accepted : (H : History) (o : Op) → may_be_next H o ≡ true → MayAccep
 next_accepted H o e = answer_applies true H [] o (applies_is (answer true H [] o) e)
 
 pub readable_legal : (H : History) → IsHead 1 (group_of H) (members_of H) (me_of H) → IsReadable H → IsLegal H
-readable_legal (Fresh group me members) h r = (h.group_fits, h.me_fits, le_is members 64 (and_right (nat_lt 0 members) (nat_le members 64) h.members_fit))
+readable_legal (Fresh group me members) h r = (h.group_fits, h.me_fits, le_is members MEMBERS (and_right (nat_lt 0 members) (nat_le members MEMBERS) h.members_fit))
 readable_legal (Then H (Accepted o)) h r = (readable_legal H h r.0, spelled_op (members_of H) o r.1.0, next_accepted H o r.1.1)
 readable_legal (Then H (Acknowledged a v)) h r = (readable_legal H h r.0, (r.1.1, fits_vector (members_of H) v r.1.2), r.1.3)
 
@@ -50,7 +51,7 @@ readable_spelled (Then H (Acknowledged a v)) r = readable_spelled H r.0
 abbrev IsNextWaiting : ℕ → ℕ → List ℕ → Option Op → Op → Type 0
 IsNextWaiting members me v before o = IsSpelled members o × (may_wait members me v before o ≡ true)
 
--- the first comes before each behind it
+-- the first comes before each after it
 first_before : (members me : ℕ) (v : List ℕ) (w : Op) (ws : List Op) → Chained (IsNextWaiting members me v) (Some w) ws → list_all (λ p. comes_before w p) ws ≡ true
 first_before members me v w [] c = refl
 first_before members me v w (x ∷ xs) c =

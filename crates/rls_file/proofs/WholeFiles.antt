@@ -9,7 +9,7 @@ use Rattle.rls_file.specs.Files.{Content}
 use Rattle.rls_file.specs.ReadingFiles.{is_file_form, content_at, form_at, file_at, tested, file_of}
 use Rattle.rls_file.specs.ReadingJournals.{after_form_at}
 
--- ---- behind the form
+-- ---- after the form
 
 abbrev pub after_form : ℕ → List ℕ → Read Content
 after_form form bytes =

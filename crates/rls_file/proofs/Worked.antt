@@ -36,7 +36,7 @@ history_74 = Then (Fresh 7 0 1) (Accepted (hello (0 ∷ [])))
 abbrev history_115 : History
 history_115 = Then history_74 (Accepted (op_of 2 (1 ∷ []) (Insert (At 2147483647 0 1 (pos 5) ∷ []) (codes "!"))))
 
--- nothing waits behind this history
+-- nothing waits after this history
 abbrev journal : History → State
 journal H = record { history = H; waiting = [] }
 

@@ -1,8 +1,9 @@
 -- The statements of the laws of files.
 use Rattle.std.specs.Prelude.{◌≡◌, ℕ, List, ◌++◌, length, slice_get, option_map, ◌==◌, if◌then◌else◌, Option, None, Some, Ok}
 use Rattle.rls_ops.specs.Spelling.{four_bytes, vector_bytes, op_bytes}
+use Rattle.rls_ops.specs.WellFormed.{IsSmall}
 use Rattle.rls_codec.specs.CodecLaws.{IsBytes}
-use Rattle.rls_codec.specs.Spelled.{IsSmall, IsSpelled}
+use Rattle.rls_codec.specs.Spelled.{IsSpelled}
 use Rattle.rls_model.specs.History.{Accepted, Acknowledged, History, Fresh, Then, members_of, me_of}
 use Rattle.rls_model.specs.History.{count as count_in}
 use Rattle.rls_model.specs.Legal.{IsLegal}

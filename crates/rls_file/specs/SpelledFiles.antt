@@ -2,8 +2,9 @@
 use Rattle.std.specs.Prelude.{◌≡◌, ◌<◌, ◌-◌, ℕ, zero, suc, Bool, pos, ◌&&◌, List, [], ◌++◌, ◌==◌, length, nat_lt, Option, Some, None, IsTrue, FitsSigned, MatchBool}
 use Rattle.std.specs.Int.{w32}
 use Rattle.rls_ops.specs.declared.op.Op.{Op}
+use Rattle.rls_ops.specs.WellFormed.{IsSmall, IsLarge}
 use Rattle.rls_codec.specs.Reading.{is_member_count}
-use Rattle.rls_codec.specs.Spelled.{IsSmall, IsLarge, Chained, FitsBehind, FitRuns, FitsName, FitsText, FitsVector, IsSpelled}
+use Rattle.rls_codec.specs.Spelled.{Chained, FitsBehind, FitRuns, FitsName, FitsText, FitsVector, IsSpelled}
 use Rattle.rls_model.specs.History.{Entry, Accepted, Acknowledged, History, Fresh, Then, group_of, me_of, members_of}
 use Rattle.rls_model.specs.History.{count as count_in}
 use Rattle.rls_model.specs.Receiving.{State}

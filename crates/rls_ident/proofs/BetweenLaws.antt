@@ -157,7 +157,7 @@ tail_over : (u : Tuple) (ts us : List Tuple) → IsIdent (u ∷ us) → Lt tuple
 tail_over u ts [] i h = absurd (lt_nil h)
 tail_over u ts (v ∷ us) i h = (i, h)
 
--- the bound that is left behind a copied tuple is above the rest of the lower one
+-- the bound that is left after a copied tuple is above the rest of the lower one
 over_behind : (t : Tuple) (ts hi : List Tuple) → IsOver (t ∷ ts) hi → IsOver ts (upper_behind t hi)
 over_behind t ts [] h = tt
 over_behind t ts (u ∷ us) h = go (tuple_eq t u) refl (heads t u ts us h.1)
@@ -175,7 +175,7 @@ some_behind : (ts us : List Tuple) → Lt tuples ts us → Lt tuples [] us
 some_behind ts [] h = absurd (lt_nil h)
 some_behind ts (u ∷ us) h = record { less = refl }
 
--- and what is below that is below the bound, behind the tuple
+-- and what is below that is below the bound, after the tuple
 under_behind : (t : Tuple) (ts hi x : List Tuple) → IsOver (t ∷ ts) hi → IsUnder x (upper_behind t hi) → IsUnder (t ∷ x) hi
 under_behind t ts [] x h k = tt
 under_behind t ts (u ∷ us) x h k = go (tuple_eq t u) refl (heads t u ts us h.1) k

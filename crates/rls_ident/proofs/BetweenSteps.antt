@@ -4,13 +4,12 @@ use Rattle.std.specs.Prelude.{if◌then◌else◌, negsuc, pos}
 use Rattle.std.specs.declared.cmp.Ordering.TheVariants.{Equal, Less, Greater}
 use Rattle.std.specs.declared.cmp.Ordering.{Ordering}
 use Rattle.std.specs.Ordering.{is_eq}
-use Rattle.std.proofs.Math.ListN.{drop_of_length-le}
 use Rattle.std.proofs.lemmas.Bool.{le-leb}
 use Rattle.rls_ident.specs.declared.tuple.Tuple.{Tuple}
 use Rattle.rls_ident.specs.declared.tuple.Tuple.TheVariants.{Low, At, High}
 use Rattle.rls_ident.specs.Tuples.{tuple_cmp, tuple_eq, raised}
 use Rattle.rls_ident.specs.Identifiers.{ident_lt, is_ident}
-use Rattle.rls_ident.specs.Between.{last_pos, lower_number, upper_number, middle, below, between, upper_behind, bound_tuples, are_bounds}
+use Rattle.rls_ident.specs.Between.{lower_number, upper_number, middle, below, between, upper_behind, bound_tuples, are_bounds}
 use Rattle.rls_ident.proofs.Lists.{Lt}
 use Rattle.rls_ident.proofs.Tuples.{tuples, lt_of, of_lt}
 use Rattle.rls_ident.proofs.Shifted.{shifted_none}
@@ -61,17 +60,11 @@ module _ (r s : ℕ) where
       let e = upper_at hi i t h in
       rw (drop_reads hi i t h) (last t (drop (i + 1) hi) (omega arith) (omega (arith, length-drop (i + 1) hi)))
 
-  pub under_end : (hi : List Tuple) (i : ℕ) → length hi ≤ i → below (drop i hi) r s ≡ middle 0 last_pos r s ∷ []
-  under_end hi i h = ap (λ x. below x r s) (drop_of_length-le hi h)
-
   pub over_room : (lo hi : List Tuple) (i : ℕ) (t : Tuple) → slice_get lo i ≡ Some t → lower_number (t ∷ []) + 2 ≤ upper_number hi → between (drop i lo) hi r s ≡ middle (lower_number (t ∷ [])) (upper_number hi) r s ∷ []
   over_room lo hi i t h l = rw (drop_reads lo i t h) (if_true _ _ _ (le-leb _ _ l))
 
   pub over_close : (lo hi : List Tuple) (i : ℕ) (t : Tuple) → slice_get lo i ≡ Some t → upper_number hi < lower_number (t ∷ []) + 2 → between (drop i lo) hi r s ≡ t ∷ between (drop (i + 1) lo) (upper_behind t hi) r s
   over_close lo hi i t h l = rw (drop_reads lo i t h) (if_false _ _ _ (not_le_test _ _ l))
-
-  pub over_end : (lo hi : List Tuple) (i : ℕ) → length lo ≤ i → between (drop i lo) hi r s ≡ below hi r s
-  over_end lo hi i h = ap (λ x. between x hi r s) (drop_of_length-le lo h)
 
 behind_same : (t u : Tuple) (us : List Tuple) → tuple_cmp t u ≡ Equal → upper_behind t (u ∷ us) ≡ us
 behind_same t u us e = if_true (tuple_eq t u) us [] (ap is_eq e)
@@ -84,7 +77,7 @@ behind_other t u us n = if_false (tuple_eq t u) us [] (go (tuple_cmp t u) n)
     go Equal m = absurd (m refl)
     go Greater m = refl
 
--- what is left of the upper bound behind a tuple that is copied
+-- what is left of the upper bound after a tuple that is copied
 pub upper_same : (hi : List Tuple) (i : ℕ) (t u : Tuple) → slice_get hi i ≡ Some u → tuple_cmp t u ≡ Equal → upper_behind t (drop i hi) ≡ drop (i + 1) hi
 upper_same hi i t u h e = ap (upper_behind t) (drop_reads hi i u h) ∙ behind_same t u (drop (i + 1) hi) e
 

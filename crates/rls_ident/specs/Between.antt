@@ -1,5 +1,6 @@
 -- A new identifier between two.
 use Rattle.std.specs.Prelude.{ℕ, ◌+◌, ◌/◌, pos, negsuc, List, [], ◌∷◌, nat_le, if◌then◌else◌, Bool, true, Option, Some, None}
+use Rattle.rls_ident.specs.declared.limits.TheConstants.{GREATEST_NUMBER}
 use Rattle.rls_ident.specs.declared.tuple.Tuple.{Tuple}
 use Rattle.rls_ident.specs.declared.tuple.Tuple.TheVariants.{Low, At, High}
 use Rattle.rls_ident.specs.Tuples.{tuple_eq, raised}
@@ -7,7 +8,7 @@ use Rattle.rls_ident.specs.Identifiers.{ident_lt}
 
 -- the greatest position
 abbrev pub last_pos : ℕ
-last_pos = 4294967295
+last_pos = GREATEST_NUMBER
 
 -- the number of the rest of the lower bound, where no tuple means that the bound is missing
 abbrev pub lower_number : List Tuple → ℕ
@@ -39,7 +40,7 @@ below (t ∷ u ∷ us) replica seq =
     then middle 0 (upper_number (t ∷ [])) replica seq ∷ []
     else t ∷ below (u ∷ us) replica seq
 
--- what is left of the upper bound behind a copied tuple
+-- what is left of the upper bound after a copied tuple
 abbrev pub upper_behind : Tuple → List Tuple → List Tuple
 upper_behind t [] = []
 upper_behind t (u ∷ us) = if tuple_eq t u then us else []

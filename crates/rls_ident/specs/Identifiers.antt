@@ -1,9 +1,10 @@
 -- Identifiers: lists of tuples whose last is an `At`, in lexicographic order.
-use Rattle.std.specs.Prelude.{◌≡◌, ℕ, ◌+◌, ℤ, pos, negsuc, Bool, true, false, ◌&&◌, List, [], ◌∷◌, Option, Some, None, if◌then◌else◌}
+use Rattle.std.specs.Prelude.{◌≡◌, ℕ, ◌+◌, ℤ, ◌-ℤ◌, pos, Bool, true, false, ◌&&◌, List, [], ◌∷◌, Option, Some, None, if◌then◌else◌}
 use Rattle.std.specs.declared.cmp.Ordering.{Ordering}
 use Rattle.std.specs.Ordering.{is_eq, is_lt, is_le}
 use Rattle.std.specs.Int.RustNames.{int_le}
 use Rattle.std.specs.Cmp.Lexicographic.{slice_cmp}
+use Rattle.rls_ident.specs.declared.limits.TheConstants.{LEAST_OFFSET, GREATEST_OFFSET}
 use Rattle.rls_ident.specs.declared.tuple.Tuple.{Tuple}
 use Rattle.rls_ident.specs.declared.tuple.Tuple.TheVariants.{Low, At}
 use Rattle.rls_ident.specs.Tuples.{tuple_cmp, is_at, raised, tuple_pred}
@@ -56,13 +57,17 @@ pred (t ∷ (u ∷ x)) = t ∷ pred (u ∷ x)
 abbrev pub follows : List Tuple → List Tuple → Bool
 follows y x = ident_eq y (shifted (pos 1) x)
 
--- the least offset of a last tuple in the program; an inner one may have one less
+-- the least offset of a last tuple in the program
 abbrev pub least_offset : ℤ
-least_offset = negsuc 1073741823
+least_offset = LEAST_OFFSET
 
 -- the greatest offset in the program
 abbrev pub greatest_offset : ℤ
-greatest_offset = pos 1073741823
+greatest_offset = GREATEST_OFFSET
+
+-- the least offset of an inner tuple in the program
+abbrev pub least_inner : ℤ
+least_inner = LEAST_OFFSET -ℤ pos 1
 
 -- a last tuple has an offset of the program
 abbrev pub is_last_bounded : Tuple → Bool
@@ -71,7 +76,7 @@ is_last_bounded _ = false
 
 -- any other tuple has one
 abbrev pub is_inner_bounded : Tuple → Bool
-is_inner_bounded (At p r s o) = int_le (negsuc 1073741824) o && int_le o greatest_offset
+is_inner_bounded (At p r s o) = int_le least_inner o && int_le o greatest_offset
 is_inner_bounded _ = true
 
 -- each offset is in the range that the program has

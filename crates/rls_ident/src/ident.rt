@@ -262,7 +262,7 @@ fn same_tuples(tuples: &[Tuple], others: &[Tuple]) -> bool
     true
 }
 
-// The place behind this one in a list that is repeated without end.
+// The place after this one in a list that is repeated without end.
 fn next_place(place: usize, len: usize) -> usize
     requires place { place < len }
     ensures within { result < len }

@@ -4,6 +4,7 @@
 mod epoch_name;
 mod ident;
 pub mod laws;
+pub mod limits;
 mod making;
 mod tuple;
 mod vector;
@@ -11,5 +12,5 @@ mod vector;
 pub use epoch_name::EpochName;
 pub use ident::{Ident, IdentError};
 pub use making::between;
-pub use tuple::{GREATEST_OFFSET, LEAST_OFFSET, Spot, Tuple};
+pub use tuple::{Spot, Tuple};
 pub use vector::Vector;

@@ -1,18 +1,16 @@
 //! A new identifier between two.
 
-ghost use Rattle.std.specs.Prelude.{◌≡◌, ℕ, length, drop, max, ◌+◌, ◌<◌, ◌≤◌, List, [], ◌∷◌, ◌++◌, Some, IfOk, IfSome, IsTrue, option_copied, negsuc};
+ghost use Rattle.std.specs.Prelude.{◌≡◌, ℕ, length, drop, max, ◌+◌, ◌<◌, ◌≤◌, [], ◌∷◌, ◌++◌, Some, IfOk, IfSome, IsTrue, option_copied, negsuc};
 ghost use Rattle.std.specs.List.{All};
 ghost use Rattle.rls_ident.specs.Tuples.{at_spot, raised};
 ghost use Rattle.rls_ident.specs.Identifiers.{is_ident, is_inner_bounded, is_last_bounded};
 ghost use Rattle.rls_ident.specs.Between.{lower_number, upper_number, middle, below, between, bound_tuples, are_bounds};
 
 use crate::ident::Ident;
+use crate::limits::GREATEST_NUMBER;
 use crate::tuple::{Spot, Tuple};
 use std::alloc::{AllocError, Global};
 use std::cmp::Ordering;
-
-/// The greatest position.
-const LAST_POS: u32 = 4_294_967_295;
 
 /// A new identifier between two bounds, of which each may be missing, with this replica and number
 /// in its last tuple and the offset 0: at the first place with room it takes the middle position.
@@ -47,7 +45,7 @@ fn make(
     ensures ident { IfSome (option_copied hi.entry) (λ x. IsTrue (is_ident x)) }
 {
     match (lo, hi) {
-        (None, None) => Ok(Ident::ending(Vec::new(alloc), middle(0, LAST_POS, replica, seq))),
+        (None, None) => Ok(Ident::ending(Vec::new(alloc), middle(0, GREATEST_NUMBER, replica, seq))),
         (None, Some(hi)) => under(Vec::new(alloc), hi, replica, seq),
         (Some(lo), None) => over(Vec::new(alloc), lo, replica, seq),
         (Some(lo), Some(hi)) => inside(alloc, lo, hi, replica, seq),
@@ -62,7 +60,7 @@ fn number(tuple: Tuple) -> u32
     match tuple {
         Tuple::Low => 0,
         Tuple::At { pos, .. } => pos,
-        Tuple::High => LAST_POS,
+        Tuple::High => GREATEST_NUMBER,
     }
 }
 
@@ -109,7 +107,7 @@ fn inside(
     }
 }
 
-// Goes on behind tuples that are fixed, where no upper bound is left.
+// Goes on after tuples that are fixed, where no upper bound is left.
 fn over(mut front: Vec<Tuple>, lo: &Ident, replica: u32, seq: u32) -> Result<Ident, AllocError>
     requires inner { All (λ t. IsTrue (is_inner_bounded t)) front.items }
     ensures over { IfOk result (λ ident. ident ≡ front.items ++ between (drop (length front.items) lo.now) [] replica seq) }
@@ -117,15 +115,15 @@ fn over(mut front: Vec<Tuple>, lo: &Ident, replica: u32, seq: u32) -> Result<Ide
     for i in front.len()..lo.len() {
         let tuple = lo.tuple(i);
         let lower = number(tuple);
-        if lower as u64 + 2 <= LAST_POS as u64 {
-            return Ok(Ident::ending(front, middle(lower, LAST_POS, replica, seq)));
+        if lower as u64 + 2 <= GREATEST_NUMBER as u64 {
+            return Ok(Ident::ending(front, middle(lower, GREATEST_NUMBER, replica, seq)));
         }
         front.push(tuple)?;
     }
-    Ok(Ident::ending(front, middle(0, LAST_POS, replica, seq)))
+    Ok(Ident::ending(front, middle(0, GREATEST_NUMBER, replica, seq)))
 }
 
-// Goes on behind tuples that are fixed, where no lower bound is left.
+// Goes on after tuples that are fixed, where no lower bound is left.
 fn under(mut front: Vec<Tuple>, hi: &Ident, replica: u32, seq: u32) -> Result<Ident, AllocError>
     requires inner { All (λ t. IsTrue (is_inner_bounded t)) front.items }
     ensures under { IfOk result (λ ident. ident ≡ front.items ++ below (drop (length front.items) hi.now) replica seq) }
@@ -138,7 +136,7 @@ fn under(mut front: Vec<Tuple>, hi: &Ident, replica: u32, seq: u32) -> Result<Id
         }
         front.push(kept_upper(hi, i))?;
     }
-    Ok(Ident::ending(front, middle(0, LAST_POS, replica, seq)))
+    Ok(Ident::ending(front, middle(0, GREATEST_NUMBER, replica, seq)))
 }
 
 // What is copied of the upper bound where its tuple leaves no room: that tuple, or at the end the one before it.

@@ -4,13 +4,8 @@ ghost use Rattle.std.specs.Prelude.{◌≡◌, ◌+ℤ◌, ◌-ℤ◌, ◌≤ℤ
 ghost use Rattle.rls_ident.specs.Tuples.{at_spot, spot_cmp, tuple_cmp};
 ghost use Rattle.rls_ident.specs.Identifiers.{least_offset, greatest_offset, is_inner_bounded, is_last_bounded};
 
+use crate::limits::{GREATEST_OFFSET, LEAST_OFFSET};
 use std::cmp::Ordering;
-
-/// The least offset of an identifier's last tuple. The tuples in front of it may have one less.
-pub const LEAST_OFFSET: i32 = -1_073_741_824;
-
-/// The greatest offset of a tuple.
-pub const GREATEST_OFFSET: i32 = 1_073_741_823;
 
 /// One tuple of an identifier.
 #[derive(Clone, Copy, Debug, PartialEq, Eq)]
@@ -59,7 +54,7 @@ impl Tuple {
         }
     }
 
-    /// Whether it may stand in front of another tuple: it is no `At`, or its offset is from
+    /// Whether it may stand before another tuple: it is no `At`, or its offset is from
     /// -1,073,741,825 to 1,073,741,823.
     pub fn is_inner(&self) -> bool
         ensures inner { result ≡ is_inner_bounded self.now }

@@ -15,7 +15,7 @@ use Rattle.rls_model.specs.Legal.{IsLegal}
 use Rattle.rls_model.specs.Taking.{Limit, has_room, Progress, started, moved, with_answer, receive_step, with_releases, acknowledge_step, take_ops, take_within}
 use Rattle.rls_model.specs.Laws.{MayArrive, ArrivalApplied}
 use Rattle.rls_model.proofs.Answered.{may_accept}
-use Rattle.rls_model.proofs.WorldsNumbers.{front_ops}
+use Rattle.rls_model.proofs.HistoryNumbers.{front_ops}
 use Rattle.rls_model.proofs.WorldsArrivals.{beside_none, beside_same}
 use Rattle.rls_model.proofs.WorldsPast.{releases_go_on, ops_go_on, noting_goes_on}
 

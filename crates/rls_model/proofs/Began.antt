@@ -4,6 +4,7 @@ use Rattle.std.specs.Prelude.{if◌then◌else◌, ◌&&◌, ◌==◌, Option, S
 use Rattle.std.specs.Int.RustNames.{int_le}
 use Rattle.std.specs.Ordering.{int_eq}
 use Rattle.std.proofs.lemmas.Int.{ints}
+use Rattle.rls_ident.specs.declared.limits.TheConstants.{CHARACTERS, OFFSETS_END, GREATEST_OFFSET}
 use Rattle.rls_ident.specs.declared.tuple.Tuple.{Tuple}
 use Rattle.rls_ident.specs.Tuples.{replica_of, seq_of, offset_of, raised}
 use Rattle.rls_ident.specs.Identifiers.{IsIdent, last_of, shifted, least_offset, greatest_offset}
@@ -19,7 +20,7 @@ use Rattle.rls_model.proofs.Grown.{AreEarlier}
 pub record Began (ss : List Stem) (a s : ℕ) (n : ℕ) (x : List Tuple) : Type 0 where
   pub ident : IsIdent x
   pub used : may_use ss a s (last_of x) n ≡ true
-  pub room : (offset_of (last_of x) +ℤ pos n) ≤ℤ pos 1073741824
+  pub room : (offset_of (last_of x) +ℤ pos n) ≤ℤ pos OFFSETS_END
 
 -- ---- between
 
@@ -54,7 +55,7 @@ between_ends (t ∷ ts) hi a s = go (nat_le (lower_number (t ∷ []) + 2) (upper
 
 -- ---- the three ways
 
-pub begins : (ss : List Stem) (a s n : ℕ) (x : List Tuple) → n ≤ 1048576 → EndsIn a s x → Began ss a s n x
+pub begins : (ss : List Stem) (a s n : ℕ) (x : List Tuple) → n ≤ CHARACTERS → EndsIn a s x → Began ss a s n x
 begins ss a s n x l h =
     let t = last_of x in
     let f = eq_test (replica_of t) a h.1 in
@@ -69,7 +70,7 @@ begins ss a s n x l h =
     }
 
 appends : (ss : List Stem) (a s n : ℕ) (l : List Tuple) → AreEarlier ss a s → IsIdent l → (u : Stem) → replica_of (last_of l) ≡ a → stem_of ss a (seq_of (last_of l)) ≡ Some u →
-    (offset_of (last_of l) +ℤ pos 1) ≡ pos u.next → (offset_of (last_of l) +ℤ pos n) ≤ℤ pos 1073741823 → Began ss a s n (shifted (pos 1) l)
+    (offset_of (last_of l) +ℤ pos 1) ≡ pos u.next → (offset_of (last_of l) +ℤ pos n) ≤ℤ GREATEST_OFFSET → Began ss a s n (shifted (pos 1) l)
 appends ss a s n l h i u r e o m =
     let t = last_of l in
     let v = last_of (shifted (pos 1) l) in
@@ -126,7 +127,7 @@ own_found ss a t u h = go (replica_of t == a) refl h
     go true e k = (eq_is (replica_of t) a e, k)
     go false e k = absurd (cc)
 
-pub before_began : (ss : List Stem) (a s : ℕ) (left right : Option (List Tuple)) (n : ℕ) → AreEarlier ss a s → n ≤ 1048576 → IsNeighbour right → Began ss a s n (first_before ss a s left right n)
+pub before_began : (ss : List Stem) (a s : ℕ) (left right : Option (List Tuple)) (n : ℕ) → AreEarlier ss a s → n ≤ CHARACTERS → IsNeighbour right → Began ss a s n (first_before ss a s left right n)
 before_began ss a s left None n h l i = begins ss a s n (between (or_missing left) [] a s) l (between_ends (or_missing left) [] a s)
 before_began ss a s left (Some x) n h l i = go (own_stem ss a (last_of x)) refl
   where
@@ -145,7 +146,7 @@ before_began ss a s left (Some x) n h l i = go (own_stem ss a (last_of x)) refl
         let c = int_le least_offset (offset_of (last_of x) -ℤ pos n) in
         prepends ss a s n x h i u r.0 r.1 (int_is (offset_of (last_of x)) u.low (and_left b c (and_left (b && c) (begins_above left (shifted (pos 0 -ℤ pos n) x)) k))))
 
-pub began : (ss : List Stem) (a s : ℕ) (left right : Option (List Tuple)) (n : ℕ) → AreEarlier ss a s → n ≤ 1048576 → IsNeighbour left → IsNeighbour right → Began ss a s n (first_between ss a s left right n)
+pub began : (ss : List Stem) (a s : ℕ) (left right : Option (List Tuple)) (n : ℕ) → AreEarlier ss a s → n ≤ CHARACTERS → IsNeighbour left → IsNeighbour right → Began ss a s n (first_between ss a s left right n)
 began ss a s None right n h l i j = before_began ss a s None right n h l j
 began ss a s (Some x) right n h l i j = go (own_stem ss a (last_of x)) refl
   where
@@ -163,4 +164,4 @@ began ss a s (Some x) right n h l i j = go (own_stem ss a (last_of x)) refl
         let b = int_eq (offset_of (last_of x) +ℤ pos 1) (pos u.next) in
         let c = int_le (offset_of (last_of x) +ℤ pos n) greatest_offset in
         let q = and_left (b && c) (ends_below (shifted (pos n) x) right) k in
-        appends ss a s n x h i u r.0 r.1 (int_is (offset_of (last_of x) +ℤ pos 1) (pos u.next) (and_left b c q)) (int_le_is (offset_of (last_of x) +ℤ pos n) (pos 1073741823) (and_right b c q)))
+        appends ss a s n x h i u r.0 r.1 (int_is (offset_of (last_of x) +ℤ pos 1) (pos u.next) (and_left b c q)) (int_le_is (offset_of (last_of x) +ℤ pos n) (GREATEST_OFFSET) (and_right b c q)))

@@ -1,4 +1,4 @@
--- An event that is cut short behind no step changes nothing; behind enough of them it is whole.
+-- An event that is cut short after no step changes nothing; after enough of them it is whole.
 use Rattle.std.proofs.Common.{◌≡◌, ℕ, zero, suc, ◌+◌, ◌-◌, ◌≤◌, Bool, true, false, List, [], ◌∷◌, length, refl, sym, ap, ◌∙◌, arith, nat_lt}
 use Rattle.std.specs.Prelude.{if◌then◌else◌, slice_get, Option, Some, None}
 use Rattle.rls_ident.proofs.Members.{lt_test}
@@ -16,7 +16,7 @@ use Rattle.rls_model.specs.EditRun.{edit_step, edit_within}
 use Rattle.rls_model.specs.Worlds.{World, with_state, edit_at, send_at, deliver_at, step_of, unless, happens, fault_of}
 use Rattle.rls_model.specs.Laws.{CutShort}
 use Rattle.rls_model.proofs.Machines.{no_ops, no_releases}
-use Rattle.rls_model.proofs.WorldsLists.{set_get}
+use Rattle.rls_model.proofs.OnePlace.{set_get}
 
 -- the same progress with m more steps, or with no end
 abbrev within : ℕ → Progress → Progress

@@ -220,14 +220,6 @@ drop_keeps_at H U A l k u ku e =
       },
     )
 
-pub drop_keeps : (H : History) (U : EpochName) (A : List Node) → IsLegal H → Keeps H U A →
-    (u : EpochName) × (IsIn u (retained H)) × Keeps H u (kept_nodes A (tree.greatest U A) (needed_over U A (stable H) (unstable H)))
-drop_keeps H U A l k =
-    let g = tree.greatest U A in
-    let es = needed_over U A (stable H) (unstable H) in
-    let t = spanned_top U A k.window.nodes k.window.below g es (over_kept H U A l k g (inl refl)) in
-    let r = drop_keeps_at H U A l k t.0 t.1 t.2 in (t.0, r.0, r.1)
-
 -- ---- one more entry
 
 -- the entry opens this epoch
@@ -292,7 +284,7 @@ node_cases G (Accepted o) l n p = go o.body (nodes (Then G (Accepted o)) l) p
     go (Rename xs) d (inr q) = inl (q, λ h. let x = ap (has_node (epochs G)) (sym h) ∙ node_named n (epochs G) q in let y = d.1 in absurd (cc))
     go Leave d q = inl (q, λ h. h)
 
--- what an epoch's path is behind, in the greater history
+-- what an epoch's path is after, in the greater history
 front_grows : (G : History) (e : Entry) → IsLegal (Then G e) → (u f : EpochName) → is_kept Origin (epochs G) u ≡ true → is_kept Origin (epochs G) f ≡ true → IsFront (path (epochs G) u) (path (epochs G) f) → IsFront (path (epochs (Then G e)) u) (path (epochs (Then G e)) f)
 front_grows G e l u f k h q = subst (λ p. IsFront p (path (epochs (Then G e)) f)) (sym (grown_path G e l u k)) (subst (IsFront (path (epochs G) u)) (sym (grown_path G e l f h)) q)
 

@@ -1,5 +1,5 @@
 -- After more entries: what is retained, its topmost epoch, the window and the log.
-use Rattle.std.proofs.Common.{◌≡◌, ℕ, Bool, true, false, List, [], ◌∷◌, ◌++◌, refl, sym, ap, ◌∙◌, subst, inl, inr, ◌⊎◌, ⊎_elim, arith}
+use Rattle.std.proofs.Common.{◌≡◌, ℕ, Bool, true, false, List, [], ◌∷◌, ◌++◌, refl, sym, ap, ◌∙◌, inl, inr, ◌⊎◌, ⊎_elim, arith}
 use Rattle.std.specs.Prelude.{not, cond, filter, slice_index}
 use Rattle.rls_ident.specs.declared.epoch_name.EpochName.{EpochName}
 use Rattle.rls_ident.specs.declared.epoch_name.EpochName.TheVariants.{Origin}
@@ -13,8 +13,8 @@ use Rattle.rls_rename.proofs.Growth.{kept_other}
 use Rattle.rls_rename.proofs.Kept.{kept_more}
 use Rattle.rls_rename.proofs.Order.{kept_here}
 use Rattle.rls_rename.proofs.SameNodes.{node_named}
-use Rattle.rls_rename.proofs.Hull.{IsFront, top_most, spanned_is, spanned_top, top_spanned, node_at, in_spanned, spanned_in, path_same}
-use Rattle.rls_rename.proofs.Windows.{Window, path_window, both_fronts}
+use Rattle.rls_rename.proofs.Hull.{top_most, spanned_is, node_at, in_spanned}
+use Rattle.rls_rename.proofs.Windows.{Window, both_fronts}
 use Rattle.rls_ops.specs.declared.op.Op.{Op}
 use Rattle.rls_ops.specs.declared.op.Body.{Body}
 use Rattle.rls_ops.specs.declared.op.Body.TheVariants.{Insert, Delete, Rename, Leave}
@@ -24,35 +24,8 @@ use Rattle.rls_model.specs.Epochs.{epochs, nodes_after, renaming_of, greatest}
 use Rattle.rls_model.specs.Legal.{IsLegal}
 use Rattle.rls_model.specs.Retained.{needed, retained}
 use Rattle.rls_model.proofs.OneTree.{nodes, parents, author_below}
-use Rattle.rls_model.proofs.SameOps.{top_kept}
 use Rattle.rls_model.proofs.Named.{grown_kept}
-use Rattle.rls_model.proofs.Dropping.{Keeps, AreUnder, opened, IsOpened, under_step, fits_retained, needed_retained, retained_kept, retained_step}
-
--- ---- histories that go on
-
--- the history after these entries
-abbrev pub after : History → List Entry → History
-after H [] = H
-after H (e ∷ es) = after (Then H e) es
-
--- one of these entries opens the epoch
-abbrev pub AreOpened : List Entry → EpochName → Type 0
-AreOpened [] f = ⊥
-AreOpened (e ∷ es) f = IsOpened e f ⊎ AreOpened es f
-
-pub legal_before : (H : History) (es : List Entry) → IsLegal (after H es) → IsLegal H
-legal_before H [] l = l
-legal_before H (e ∷ es) l = (legal_before (Then H e) es l).0
-
-pub kept_later : (H : History) (es : List Entry) (f : EpochName) → is_kept Origin (epochs H) f ≡ true → is_kept Origin (epochs (after H es)) f ≡ true
-kept_later H [] f k = k
-kept_later H (e ∷ es) f k = kept_later (Then H e) es f (grown_kept H e f k)
-
--- what is retained later was retained before or is opened on the way
-pub retained_later : (H : History) (es : List Entry) → IsLegal (after H es) → (f : EpochName) → IsIn f (retained (after H es)) → IsIn f (retained H) ⊎ AreOpened es f
-retained_later H [] l f p = inl p
-retained_later H (e ∷ es) l f p =
-    ⊎_elim (λ q. ⊎_elim (λ r. inl r) (λ r. inr (inl r)) (retained_step H e (legal_before (Then H e) es l) f q)) (λ q. inr (inr q)) (retained_later (Then H e) es l f p)
+use Rattle.rls_model.proofs.Dropping.{Keeps, AreUnder, opened, IsOpened, fits_retained, needed_retained, retained_kept, retained_step}
 
 -- ---- the topmost retained epoch
 
@@ -60,45 +33,12 @@ retained_later H (e ∷ es) l f p =
 abbrev pub IsTopmost : History → EpochName → Type 0
 IsTopmost H u = IsIn u (retained H) × AreUnder H u
 
-pub topmost : (H : History) → IsLegal H → (u : EpochName) × IsTopmost H u
-unfolding retained
-topmost H l =
-    let ns = epochs H in
-    let d = nodes H l in
-    let t = spanned_top Origin ns d (parents H l) (greatest H) (needed H) (top_kept H) in (
-      t.0,
-      (
-        spanned_in Origin ns (greatest H) (needed H) t.0 t.1 (top_spanned ns d (greatest H) (needed H) t.0 t.2),
-        λ f p. subst (λ x. IsFront x (path ns f)) (sym t.2) (spanned_is ns d (greatest H) (needed H) f (in_spanned Origin ns (greatest H) (needed H) f p).1).0,
-      ),
-    )
-
--- there is one
-pub one_topmost : (H : History) → IsLegal H → (u v : EpochName) → IsTopmost H u → IsTopmost H v → u ≡ v
-one_topmost H l u v h k =
-    path_same Origin (epochs H) (nodes H l) (parents H l) u v (retained_kept H u h.0) (retained_kept H v k.0) (both_fronts (path (epochs H) u) (path (epochs H) v) (h.1 v k.0) (k.1 u h.0))
-
 -- its path is the longest common front of those of the needed epochs
 pub topmost_path : (H : History) → IsLegal H → (u : EpochName) → IsTopmost H u → path (epochs H) u ≡ top_path (epochs H) (greatest H) (needed H)
 unfolding retained
 topmost_path H l u h =
     both_fronts (path (epochs H) u) (top_path (epochs H) (greatest H) (needed H)) (top_most (epochs H) (greatest H) (needed H) (path (epochs H) u) (λ g p. h.1 g (needed_retained H l g p)))
     (spanned_is (epochs H) (nodes H l) (greatest H) (needed H) u (in_spanned Origin (epochs H) (greatest H) (needed H) u h.0).1).0
-
--- what is retained stays at or below an epoch at or below which all that is retained stands
-pub under_later : (H : History) (es : List Entry) → IsLegal (after H es) → (u : EpochName) → is_kept Origin (epochs H) u ≡ true → AreUnder H u → AreUnder (after H es) u
-under_later H [] l u k a = a
-under_later H (e ∷ es) l u k a =
-    let m = legal_before (Then H e) es l in
-    under_later (Then H e) es l u (grown_kept H e u k) (λ f p. under_step H e m u k a f (retained_step H e m f p))
-
--- so while the topmost epoch is retained it stays the topmost, and its own renaming isn't asked for again
-pub topmost_stays : (H : History) (es : List Entry) → IsLegal (after H es) → (u : EpochName) → IsTopmost H u → AreUnder (after H es) u × (IsIn u (retained (after H es)) → IsTopmost (after H es) u)
-topmost_stays H es l u h = let a = under_later H es l u (retained_kept H u h.0) h.1 in (a, λ p. (p, a))
-
--- the topmost epoch of a window that keeps what is retained is the topmost one, where it is retained
-pub topmost_window : (H : History) (u : EpochName) (A : List Node) → Keeps H u A → IsIn u (retained H) → IsTopmost H u
-topmost_window H u A k p = (p, λ f q. (path A f, path_window k.window f (k.keeps f q)))
 
 -- ---- the window
 

@@ -115,9 +115,6 @@ module _ {X : Type 0} (M : Machine X) where
   pub ops_limit : (os : List Op) (p : Stage X) → p.limit ≡ None → (take_on M p os).limit ≡ None
   ops_limit os p e = taking_keeps (λ os (q : Stage X). q.limit ≡ None) (λ o os q k. releases_limit (length (M.waiting (receive_on M q o).state)) (receive_on M q o) (received_limit q o k)) os p e
 
-  pub edited_limit : (p : Stage X) (edit : Edit) → p.limit ≡ None → (edit_on M p edit).limit ≡ None
-  edited_limit p edit e = either (λ (q : Stage X). q.limit ≡ None) (has_room p.limit) (moved p (M.after_edit p.state edit)) p (ap one_less e) e
-
   -- ---- steps that change nothing
 
   -- where nothing is ready

@@ -5,6 +5,7 @@ use Rattle.std.specs.List.{list_all, list_any}
 use Rattle.std.specs.Ordering.{is_eq}
 use Rattle.std.proofs.lemmas.Cmp.{lists_total, tied_itself}
 use Rattle.std.proofs.lemmas.List.{length-take, length-drop}
+use Rattle.rls_ident.specs.declared.limits.TheConstants.{MEMBERS, CHARACTERS, IDENTIFIERS, GREATEST_NUMBER}
 use Rattle.rls_ident.specs.declared.tuple.Tuple.{Tuple}
 use Rattle.rls_ident.specs.declared.epoch_name.EpochName.{EpochName}
 use Rattle.rls_ident.specs.declared.epoch_name.EpochName.TheVariants.{Origin, Of}
@@ -53,7 +54,7 @@ use Rattle.rls_model.proofs.Began.{Began, IsNeighbour, began}
 abbrev pub own : History → Body → Op
 own H b = record { author = me_of H; seq = next_seq H; context = count H; epoch = greatest H; body = b }
 
-pub foot : (H : History) → IsLegal H → (me_of H < members_of H) × (members_of H ≤ 64)
+pub foot : (H : History) → IsLegal H → (me_of H < members_of H) × (members_of H ≤ MEMBERS)
 foot (history.Fresh group me members) l = (l.1, l.2)
 foot (Then G e) l = foot G l.0
 
@@ -104,7 +105,7 @@ own_fits H b l h r =
     fit_chain (has_left H (me_of H)) (at_most (row H (me_of H)) (count H)) (name_eq (greatest H) (greatest_within H (count H))) (Left (count_of H (me_of H))) (Backward (row H (me_of H))) (WrongEpoch (greatest_within H (count H)))
     (body_refusal H (own H b) b) h e2 e3 r
 
-pub own_legal : (H : History) (b : Body) → IsLegal H → has_left H (me_of H) ≡ false → (count_of H (me_of H) ≡ 4294967295 → ⊥) → IsBody b → is_empty b ≡ false → nat_lt (body_limit b) (body_len b) ≡ false → passes_end b ≡ false →
+pub own_legal : (H : History) (b : Body) → IsLegal H → has_left H (me_of H) ≡ false → (count_of H (me_of H) ≡ GREATEST_NUMBER → ⊥) → IsBody b → is_empty b ≡ false → nat_lt (body_limit b) (body_len b) ≡ false → passes_end b ≡ false →
     body_refusal H (own H b) b ≡ None → IsLegal (Then H (Accepted (own H b)))
 own_legal H b l h n i e3 e4 e5 r =
     let f = foot H l in
@@ -112,7 +113,7 @@ own_legal H b l h n i e3 e4 e5 r =
     let small : next_seq H < 2 ^ 32 = go (count_of H (me_of H)) c n in
     (l, record { author = omega (arith, f.0, f.1); seq = small; context = counts_small H l; epoch = greatest_small H l; body = i }, record { shape = own_shape H b l e3 e4 e5; next = refl; causes = at_most_refl (count H); fits = own_fits H b l h r })
   where
-    go : (m : ℕ) → m < 2 ^ 32 → (m ≡ 4294967295 → ⊥) → m + 1 < 2 ^ 32
+    go : (m : ℕ) → m < 2 ^ 32 → (m ≡ GREATEST_NUMBER → ⊥) → m + 1 < 2 ^ 32
     go m k q = omega arith
 
 -- ---- the bodies
@@ -128,8 +129,8 @@ fault_split H edit h =
     let q = or_none (range_fault (length (idents H)) edit) (op_fault H edit) p.1 in
     (p.0, q.0, q.1)
 
-unspent : (H : History) (edit : Edit) → op_fault H edit ≡ None → count_of H (me_of H) ≡ 4294967295 → ⊥
-unspent H edit h e = let p = none_else (count_of H (me_of H) == 4294967295) faults.NumbersSpent _ h in eq_not (count_of H (me_of H)) 4294967295 p.0 e
+unspent : (H : History) (edit : Edit) → op_fault H edit ≡ None → count_of H (me_of H) ≡ GREATEST_NUMBER → ⊥
+unspent H edit h e = let p = none_else (count_of H (me_of H) == GREATEST_NUMBER) faults.NumbersSpent _ h in eq_not (count_of H (me_of H)) GREATEST_NUMBER p.0 e
 
 pub neighbour : (xs : List (List Tuple)) → list_all is_ident xs ≡ true → (k : ℕ) → IsNeighbour (slice_get xs k)
 neighbour [] h zero = tt
@@ -163,10 +164,10 @@ insert_fits H at cs l i h =
     let s = fault_split H (edits.Insert at cs) h in
     let p = none_else (length cs == 0) faults.EmptyEdit _ s.1 in
     let q = none_else (nat_lt (length (idents H)) at) (faults.Range at (length (idents H))) _ p.1 in
-    let r = none_else (nat_lt 1048576 (length cs)) (faults.TooManyChars (length cs)) None q.1 in
+    let r = none_else (nat_lt CHARACTERS (length cs)) (faults.TooManyChars (length cs)) None q.1 in
     let g = idents_good H l in
     let b : Began (stems H) (me_of H) (next_seq H) (length cs) (first_between (stems H) (me_of H) (next_seq H) (get_before (idents H) at) (slice_get (idents H) at) (length cs)) =
-    began (stems H) (me_of H) (next_seq H) (get_before (idents H) at) (slice_get (idents H) at) (length cs) (earlier H l) (not_lt_is 1048576 (length cs) r.0) (neighbour_before (idents H) g.0 at) (neighbour (idents H) g.0 at) in
+    began (stems H) (me_of H) (next_seq H) (get_before (idents H) at) (slice_get (idents H) at) (length cs) (earlier H l) (not_lt_is CHARACTERS (length cs) r.0) (neighbour_before (idents H) g.0 at) (neighbour (idents H) g.0 at) in
     let x = first_between (stems H) (me_of H) (next_seq H) (get_before (idents H) at) (slice_get (idents H) at) (length cs) in
     own_legal H (Insert x cs) l s.0 (unspent H (edits.Insert at cs) s.2) (b.ident, i.1) p.0 r.0
     (not_int_lt_test (greatest_offset +ℤ pos 1) (offset_of (last_of x) +ℤ pos (length cs)) b.room)
@@ -177,19 +178,19 @@ delete_fits H at n l h =
     let s = fault_split H (edits.Delete at n) h in
     let p = none_else (n == 0) faults.EmptyEdit _ s.1 in
     let q = none_else (nat_lt (length (idents H)) (at + n)) (faults.Range at (length (idents H))) _ p.1 in
-    let r = none_else (nat_lt 4194304 n) (faults.TooManyChars n) None q.1 in
+    let r = none_else (nat_lt IDENTIFIERS n) (faults.TooManyChars n) None q.1 in
     let m = not_lt_is (length (idents H)) (at + n) q.0 in
     let xs = take n (drop at (idents H)) in
     let len : length xs ≡ n = omega (arith, length-take n (drop at (idents H)), length-drop at (idents H)) in
     own_legal H (Delete xs) l s.0 (unspent H (edits.Delete at n) s.2) (good_take n (drop at (idents H)) (good_drop at (idents H) (idents_good H l)))
-    (ap (λ k. k == 0) len ∙ p.0) (ap (nat_lt 4194304) len ∙ r.0) refl
+    (ap (λ k. k == 0) len ∙ p.0) (ap (nat_lt IDENTIFIERS) len ∙ r.0) refl
     (none_unknown H (greatest H) xs (λ x u. text_known H x (in_drop at x (idents H) (in_take n x (drop at (idents H)) u))))
 
 rename_fits : (H : History) → IsLegal H → edit_fault H edits.Rename ≡ None → IsLegal (Then H (Accepted (own H (made_body H edits.Rename))))
 rename_fits H l h =
     let s = fault_split H edits.Rename h in
     let p = none_else (length (idents H) == 0) faults.EmptyDocument _ s.1 in
-    let q = none_else (nat_lt 4194304 (length (idents H))) (faults.TooManyChars (length (idents H))) None p.1 in
+    let q = none_else (nat_lt IDENTIFIERS (length (idents H))) (faults.TooManyChars (length (idents H))) None p.1 in
     own_legal H (Rename (idents H)) l s.0 (unspent H edits.Rename s.2) (idents_good H l) p.0 q.0 refl refl
 
 leave_fits : (H : History) → IsLegal H → edit_fault H edits.Leave ≡ None → IsLegal (Then H (Accepted (own H (made_body H edits.Leave))))

@@ -41,7 +41,7 @@ map_map : {A B C : Type 0} (f : B → C) (g : A → B) (xs : List A) → map (λ
 map_map f g [] = refl
 map_map f g (x ∷ xs) = ap (λ ys. f (g x) ∷ ys) (map_map f g xs)
 
--- nothing stands both before and behind a place
+-- nothing stands both before and after a place
 apart_at : (lt : Character → Character → Bool) → ((c : Character) → lt c c ≡ false) → (n : ℕ) (cs : List Character) → AreInOrder lt cs → (c : Character) → IsIn c (take n cs) → IsIn c (drop n cs) → ⊥
 apart_at lt f zero cs h c p q = absurd p
 apart_at lt f (suc n) [] h c p q = absurd p

@@ -4,6 +4,7 @@ use Rattle.std.specs.Prelude.{not, ◌==◌, if◌then◌else◌, Some, None, �
 use Rattle.std.specs.Int.RustNames.{int_le}
 use Rattle.std.specs.Ordering.{int_eq}
 use Rattle.std.proofs.lemmas.Int.{ints}
+use Rattle.rls_ident.specs.declared.limits.TheConstants.{CHARACTERS, IDENTIFIERS, OFFSETS_END, GREATEST_OFFSET}
 use Rattle.rls_ident.specs.declared.tuple.Spot.{Spot}
 use Rattle.rls_ident.specs.declared.tuple.Tuple.{Tuple}
 use Rattle.rls_ident.specs.declared.tuple.Tuple.TheVariants.{At}
@@ -255,24 +256,24 @@ length-shown H = go (export H)
     go (x ∷ xs) = ap suc (go xs)
 
 -- a text that may be renamed has some characters, and not too many
-text_some : (H : History) → edit_fault H edits.Rename ≡ None → (0 < length (text H)) × (length (text H) ≤ 4194304)
+text_some : (H : History) → edit_fault H edits.Rename ≡ None → (0 < length (text H)) × (length (text H) ≤ IDENTIFIERS)
 text_some H h =
     let s = made.fault_split H edits.Rename h in
     let p = none_else (length (idents H) == 0) faults.EmptyDocument _ s.1 in
-    let q = none_else (nat_lt 4194304 (length (idents H))) (faults.TooManyChars (length (idents H))) None p.1 in
+    let q = none_else (nat_lt IDENTIFIERS (length (idents H))) (faults.TooManyChars (length (idents H))) None p.1 in
     let e = length-shown H in
     let a = not_zero (length (idents H)) p.0 in
-    let b = not_lt_is 4194304 (length (idents H)) q.0 in
+    let b = not_lt_is IDENTIFIERS (length (idents H)) q.0 in
     (omega arith, omega arith)
 
 -- so has an insertion
-insert_some : (H : History) (at : ℕ) (cs : List ℕ) → edit_fault H (edits.Insert at cs) ≡ None → (0 < length cs) × (length cs ≤ 1048576)
+insert_some : (H : History) (at : ℕ) (cs : List ℕ) → edit_fault H (edits.Insert at cs) ≡ None → (0 < length cs) × (length cs ≤ CHARACTERS)
 insert_some H at cs h =
     let s = made.fault_split H (edits.Insert at cs) h in
     let p = none_else (length cs == 0) faults.EmptyEdit _ s.1 in
     let q = none_else (nat_lt (length (idents H)) at) (faults.Range at (length (idents H))) _ p.1 in
-    let r = none_else (nat_lt 1048576 (length cs)) (faults.TooManyChars (length cs)) None q.1 in
-    (not_zero (length cs) p.0, not_lt_is 1048576 (length cs) r.0)
+    let r = none_else (nat_lt CHARACTERS (length cs)) (faults.TooManyChars (length cs)) None q.1 in
+    (not_zero (length cs) p.0, not_lt_is CHARACTERS (length cs) r.0)
 
 -- the stem of the rename
 renamed_stem : (H : History) → stem_of (stems (renamed H)) (me_of H) (next_seq H) ≡ Some (new_stem (me_of H) (next_seq H) (length (idents H)))
@@ -295,7 +296,7 @@ run_end x (suc n) = run_end (shifted (pos 1) x) n
 
 -- ---- at the end
 
-appends_at : (H : History) (n : ℕ) (seq : ℕ) (cs : List ℕ) → length (idents H) ≡ suc n → suc n + length cs ≤ 1073741824 →
+appends_at : (H : History) (n : ℕ) (seq : ℕ) (cs : List ℕ) → length (idents H) ≡ suc n → suc n + length cs ≤ OFFSETS_END →
     first_between (stems (renamed H)) (me_of H) seq (Some (shifted (pos n) (first_made H))) None (length cs) ≡ shifted (pos 1) (shifted (pos n) (first_made H))
 appends_at H n seq cs e m =
     let left = shifted (pos n) (first_made H) in
@@ -309,10 +310,10 @@ appends_at H n seq cs e m =
     sum : (n k : ℕ) → k ≡ suc n → (pos 0 +ℤ pos n) +ℤ pos 1 ≡ pos k
     sum n k h = omega (arith, ints)
 
-    most : (n k : ℕ) → suc n + k ≤ 1073741824 → ((pos 0 +ℤ pos n) +ℤ pos k) ≤ℤ pos 1073741823
+    most : (n k : ℕ) → suc n + k ≤ OFFSETS_END → ((pos 0 +ℤ pos n) +ℤ pos k) ≤ℤ GREATEST_OFFSET
     most n k h = omega (arith, ints)
 
-appended_first : (H : History) (cs : List ℕ) (n : ℕ) → idents (renamed H) ≡ run_idents (first_made H) n → length (idents H) ≡ n → 0 < n → n + length cs ≤ 1073741824 → made_first (renamed H) n cs ≡ shifted (pos n) (first_made H)
+appended_first : (H : History) (cs : List ℕ) (n : ℕ) → idents (renamed H) ≡ run_idents (first_made H) n → length (idents H) ≡ n → 0 < n → n + length cs ≤ OFFSETS_END → made_first (renamed H) n cs ≡ shifted (pos n) (first_made H)
 appended_first H cs zero e l h m = absurd (omega arith)
 appended_first H cs (suc n) e l h m =
     let K = renamed H in
@@ -342,7 +343,7 @@ drop_all zero (x ∷ xs) h = absurd (omega arith)
 drop_all (suc n) [] h = absurd (omega arith)
 drop_all (suc n) (x ∷ xs) h = drop_all n xs (omega arith)
 
-appended : (H : History) (cs : List ℕ) → IsLegal H → IsText cs → edit_fault H edits.Rename ≡ None → edit_fault (renamed H) (edits.Insert (length (text H)) cs) ≡ None → length (text H) + length cs ≤ 1073741824 →
+appended : (H : History) (cs : List ℕ) → IsLegal H → IsText cs → edit_fault H edits.Rename ≡ None → edit_fault (renamed H) (edits.Insert (length (text H)) cs) ≡ None → length (text H) + length cs ≤ OFFSETS_END →
     export (edited (renamed H) (edits.Insert (length (text H)) cs)) ≡ entries (first_made H) (text H ++ cs)
 appended H cs l i h k m =
     let K = renamed H in
@@ -362,7 +363,7 @@ appended H cs l i h k m =
 
 -- ---- at the front
 
-prepends_at : (H : History) (seq : ℕ) (cs : List ℕ) → length cs ≤ 1048576 → first_between (stems (renamed H)) (me_of H) seq None (Some (first_made H)) (length cs) ≡ shifted (pos 0 -ℤ pos (length cs)) (first_made H)
+prepends_at : (H : History) (seq : ℕ) (cs : List ℕ) → length cs ≤ CHARACTERS → first_between (stems (renamed H)) (me_of H) seq None (Some (first_made H)) (length cs) ≡ shifted (pos 0 -ℤ pos (length cs)) (first_made H)
 prepends_at H seq cs m =
     let x = first_made H in
     let d = pos 0 -ℤ pos (length cs) in
@@ -372,10 +373,10 @@ prepends_at H seq cs m =
     ap (λ o. may_prepend o None x (length cs)) (own_new H (pos 0)) ∙ and_true _ true (and_true _ _ a b) refl in
     ap (λ c. if c then shifted d x else between [] x (me_of H) seq) f
   where
-    least : (k : ℕ) → k ≤ 1048576 → least_offset ≤ℤ (pos 0 -ℤ pos k)
+    least : (k : ℕ) → k ≤ CHARACTERS → least_offset ≤ℤ (pos 0 -ℤ pos k)
     least k h = omega (arith, ints)
 
-prepended_first : (H : History) (cs : List ℕ) (n : ℕ) → idents (renamed H) ≡ run_idents (first_made H) n → 0 < n → length cs ≤ 1048576 → made_first (renamed H) 0 cs ≡ shifted (pos 0 -ℤ pos (length cs)) (first_made H)
+prepended_first : (H : History) (cs : List ℕ) (n : ℕ) → idents (renamed H) ≡ run_idents (first_made H) n → 0 < n → length cs ≤ CHARACTERS → made_first (renamed H) 0 cs ≡ shifted (pos 0 -ℤ pos (length cs)) (first_made H)
 prepended_first H cs zero e h m = absurd (omega arith)
 prepended_first H cs (suc n) e h m =
     let K = renamed H in

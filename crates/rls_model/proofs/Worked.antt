@@ -273,7 +273,7 @@ again_repeated : taken (take_message (take_message waits (message_of first_op)).
 unfolding computing
 again_repeated = refl
 
--- cut short behind one step, the second still waits
+-- cut short after one step, the second still waits
 cut_short : text (take_within (Some 1) waits (message_of first_op)).state.history ≡ codes "hello"
 unfolding computing
 cut_short = refl
@@ -366,7 +366,7 @@ delivered_twice_text_1 : text_at delivered_twice 1 ≡ Some (codes "hexllo")
 unfolding computing
 delivered_twice_text_1 = refl
 
--- two renames at once, and an insertion behind each
+-- two renames at once, and an insertion after each
 abbrev two_renames : World
 two_renames = of_two (shared ++ edits 0 Rename ∷ edits 1 Rename ∷ edits 0 (Insert 2 (codes "A")) ∷ edits 1 (Insert 2 (codes "B")) ∷ sends 0 1 ∷ sends 1 0 ∷ comes 1 1 ∷ comes 2 0 ∷ [])
 

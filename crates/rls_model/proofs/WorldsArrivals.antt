@@ -17,9 +17,9 @@ use Rattle.rls_model.specs.Legal.{MayAccept, IsLegal}
 use Rattle.rls_model.specs.Worlds.{World}
 use Rattle.rls_model.specs.Laws.{IsAt}
 use Rattle.rls_model.proofs.Stable.{length-count}
-use Rattle.rls_model.proofs.WorldsNumbers.{number_counted, one_number, IsFront, front_legal, front_me, front_members, front_ops, op_front, IsAck, ack_counted, acks_below, not_yet}
+use Rattle.rls_model.proofs.HistoryNumbers.{number_counted, one_number, IsFront, front_legal, front_me, front_members, front_ops, op_front, IsAck, ack_counted, acks_below, not_yet}
 use Rattle.rls_model.proofs.WorldsLines.{AreLiving, made_living, Arrives, fits_here, next_here}
-use Rattle.rls_model.proofs.WorldsWaiting.{numbered_is}
+use Rattle.rls_model.proofs.WaitingFits.{numbered_is}
 use Rattle.rls_model.proofs.WorldsInvariant.{IsHome, IsMember, IsGood, one_state, made_front}
 
 -- ---- operations by their numbers

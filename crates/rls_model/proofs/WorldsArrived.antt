@@ -17,11 +17,11 @@ use Rattle.rls_model.specs.Taking.{by_history, has_room, Progress, started, move
 use Rattle.rls_model.specs.Worlds.{World, with_state}
 use Rattle.rls_model.specs.Laws.{IsAt, SentArrives}
 use Rattle.rls_model.proofs.Machines.{ops_keep, received_limit, releases_keep}
-use Rattle.rls_model.proofs.WorldsNumbers.{number_counted, with_number}
+use Rattle.rls_model.proofs.HistoryNumbers.{number_counted, with_number}
 use Rattle.rls_model.proofs.WorldsInvariant.{IsHome, IsGood}
 use Rattle.rls_model.proofs.WorldsArrivals.{one_op, Received, Again, Held, Taken, received}
-use Rattle.rls_model.proofs.WorldsSteps.{IsGoing, here, start, ready_fits, received_going, released_by, release_is, released_going, releases_going}
-use Rattle.rls_model.proofs.WorldsRests.{released_done, taken_done}
+use Rattle.rls_model.proofs.MemberSteps.{IsGoing, here, start, ready_fits, received_going, released_by, release_is, released_going, releases_going}
+use Rattle.rls_model.proofs.NothingReady.{released_done, taken_done}
 use Rattle.rls_model.proofs.WorldsLaws.{good_after, rests_after}
 
 -- ---- what waits

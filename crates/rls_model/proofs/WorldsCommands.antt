@@ -1,6 +1,7 @@
 -- Commands of members, each done whole or not at all, keep a good world and refuse nothing.
 use Rattle.std.proofs.Common.{◌≡◌, ◌≤◌, ℕ, List, [], ◌∷◌, ◌++◌, refl, sym, ap, ◌∙◌, subst, append-nil}
 use Rattle.std.specs.Prelude.{slice_get, Option, Some, None, Result}
+use Rattle.rls_ident.specs.declared.limits.TheConstants.{MEMBERS}
 use Rattle.rls_ident.specs.Lists.{IsIn}
 use Rattle.rls_ident.proofs.Members.{get_in}
 use Rattle.rls_ops.specs.declared.message.Message.{Message}
@@ -14,12 +15,12 @@ use Rattle.rls_model.specs.Worlds.{World, empty_world, with_state, send_at, deli
 use Rattle.rls_model.specs.Laws.{IsAt, IsFront, AreEdits, Command, Edits, Sends, Takes, after_run, edits_at, obeyed, obeyed_all, refused_run, refused_edits, refused_taken, told_refused, IsCommand, AreCommands, CommandsClean}
 use Rattle.rls_model.specs.WellFormed.{IsLarge}
 use Rattle.rls_model.proofs.Machines.{running_keeps}
-use Rattle.rls_model.proofs.WorldsLists.{set_get}
-use Rattle.rls_model.proofs.WorldsNumbers.{front_self, front_trans}
+use Rattle.rls_model.proofs.OnePlace.{set_get}
+use Rattle.rls_model.proofs.HistoryNumbers.{front_self, front_trans}
 use Rattle.rls_model.proofs.WorldsInvariant.{IsGood}
-use Rattle.rls_model.proofs.WorldsSteps.{taken_going}
+use Rattle.rls_model.proofs.MemberSteps.{taken_going}
 use Rattle.rls_model.proofs.WorldsLaws.{empty_good, equal_good, sends, posts}
-use Rattle.rls_model.proofs.WorldsScripts.{AllReadWell, edits_read, lines_going}
+use Rattle.rls_model.proofs.WorldsEdits.{AllReadWell, edits_read, lines_going}
 use Rattle.rls_model.proofs.WorldsPast.{GoesOn, edit_goes_on, releases_go_on, taking_goes_on}
 use Rattle.rls_model.proofs.WorldsGroup.{Belongs, set_belongs, sent_belongs, empty_belongs}
 
@@ -79,7 +80,7 @@ does_stands reads g n w i s t refused out a h (Reads m p e f k) =
     let v : Stands g n (with_state w i u) = record { good = r.good; belongs = set_belongs g n w i s u a.belongs h (taking_goes_on None s m) } in
     (f ∙ r.clean, subst (Stands g n) (ap (with_state w i) e ∙ (sym (done_none w i t) ∙ ap (with_done w i t) (sym k))) v)
 
-pub empty_stands : (g n : ℕ) → IsLarge g → n ≤ 64 → Stands g n (empty_world g n)
+pub empty_stands : (g n : ℕ) → IsLarge g → n ≤ MEMBERS → Stands g n (empty_world g n)
 empty_stands g n l m = record { good = empty_good g n l m; belongs = empty_belongs g n }
 
 -- ---- commands

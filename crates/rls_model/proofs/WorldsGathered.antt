@@ -13,11 +13,11 @@ use Rattle.rls_model.specs.Legal.{IsLegal}
 use Rattle.rls_model.specs.Worlds.{World, with_state}
 use Rattle.rls_model.specs.Laws.{IsAt, IsFront, IsGathered, Gathered}
 use Rattle.rls_model.proofs.Stable.{length-count}
-use Rattle.rls_model.proofs.WorldsLists.{got_below, get_set_same, set_get}
-use Rattle.rls_model.proofs.WorldsNumbers.{number_counted, with_number, front_self, front_trans, front_members, front_ops}
+use Rattle.rls_model.proofs.OnePlace.{got_below, get_set_same, set_get}
+use Rattle.rls_model.proofs.HistoryNumbers.{number_counted, with_number, front_self, front_trans, front_members, front_ops}
 use Rattle.rls_model.proofs.WorldsInvariant.{IsHome, IsMember, IsGood, home_later}
 use Rattle.rls_model.proofs.WorldsArrivals.{one_op, own_counted, home_shape, may_accept}
-use Rattle.rls_model.proofs.WorldsSteps.{accepts, keep}
+use Rattle.rls_model.proofs.MemberSteps.{accepts, keep}
 use Rattle.rls_model.proofs.WorldsLaws.{good_after}
 
 -- ---- counts

@@ -15,8 +15,8 @@ use Rattle.rls_model.specs.Taking.{Limit, message_for, take_within}
 use Rattle.rls_model.specs.EditRun.{edit_within}
 use Rattle.rls_model.specs.Worlds.{World, empty_world, fault_of, with_state, edit_at, send_at, deliver_at, step_of, unless, happens, Happening, run}
 use Rattle.rls_model.specs.Laws.{IsAt, IsFront, OneGroup}
-use Rattle.rls_model.proofs.WorldsLists.{length-set}
-use Rattle.rls_model.proofs.WorldsNumbers.{front_members}
+use Rattle.rls_model.proofs.OnePlace.{length-set}
+use Rattle.rls_model.proofs.HistoryNumbers.{front_members}
 use Rattle.rls_model.proofs.WorldsInvariant.{at_split}
 use Rattle.rls_model.proofs.WorldsLaws.{fresh, fresh_at, fresh_length, good_after}
 use Rattle.rls_model.proofs.WorldsPast.{editing_goes_on, taking_goes_on}

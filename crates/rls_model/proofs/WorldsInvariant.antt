@@ -14,8 +14,8 @@ use Rattle.rls_model.specs.Receiving.{State}
 use Rattle.rls_model.specs.Legal.{IsLegal, IsSound}
 use Rattle.rls_model.specs.Worlds.{World, with_state}
 use Rattle.rls_model.specs.Laws.{IsAt}
-use Rattle.rls_model.proofs.WorldsLists.{get_set_same, get_set_other, length-set}
-use Rattle.rls_model.proofs.WorldsNumbers.{IsFront, front_self, front_trans, front_me, front_members, front_ops, IsAck}
+use Rattle.rls_model.proofs.OnePlace.{get_set_same, get_set_other, length-set}
+use Rattle.rls_model.proofs.HistoryNumbers.{IsFront, front_self, front_trans, front_me, front_members, front_ops, IsAck}
 
 -- the operation stands in its author's history
 abbrev pub IsHome : World → Op → Type 0

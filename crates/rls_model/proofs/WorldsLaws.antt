@@ -1,6 +1,7 @@
 -- The laws of worlds: each state is legal, equal counts show the same, and nothing is refused.
 use Rattle.std.proofs.Common.{◌≡◌, ℕ, zero, suc, ◌≤◌, ◌<◌, Bool, true, false, List, [], ◌∷◌, ◌++◌, length, refl, sym, ap, ◌∙◌, subst, arith, inl, inr, ◌⊎◌, ⊎_elim}
 use Rattle.std.specs.Prelude.{◌+◌, not, nat_le, if◌then◌else◌, slice_get, slice_index, Option, Some, None}
+use Rattle.rls_ident.specs.declared.limits.TheConstants.{MEMBERS, INPUT_BYTES}
 use Rattle.rls_ident.specs.Lists.{IsIn}
 use Rattle.rls_ident.proofs.Members.{in_filter, snoc_split, some_is, get_in}
 use Rattle.rls_ops.specs.declared.op.Op.{Op}
@@ -21,11 +22,11 @@ use Rattle.rls_model.specs.EditRun.{edit_within}
 use Rattle.rls_model.specs.Worlds.{World, fresh_states, empty_world, member_fault, or_else, of_edit, edit_fault_at, fault_of, with_state, edit_at, send_at, deliver_at, step_of, unless, happens, Happening, run, AreEvents, AreWhole}
 use Rattle.rls_model.specs.Laws.{IsAt, IsAfter, HaveSameOps, ShowSame, WorldsLegal, EqualVectors, NoRefusal}
 use Rattle.rls_model.proofs.SameOps as same_ops
-use Rattle.rls_model.proofs.WorldsNumbers.{number_counted, with_number, front_self}
+use Rattle.rls_model.proofs.HistoryNumbers.{number_counted, with_number, front_self}
 use Rattle.rls_model.proofs.WorldsInvariant.{IsMember, IsMessage, IsGood, at_split}
 use Rattle.rls_model.proofs.WorldsArrivals.{one_op}
-use Rattle.rls_model.proofs.WorldsSteps.{taken_going, edited_going}
-use Rattle.rls_model.proofs.WorldsRests.{IsAtRest, taken_done, edited_done, none_released}
+use Rattle.rls_model.proofs.MemberSteps.{taken_going, edited_going}
+use Rattle.rls_model.proofs.NothingReady.{IsAtRest, taken_done, edited_done, none_released}
 
 -- ---- the empty world
 
@@ -55,7 +56,7 @@ fresh_at group members (suc n) i s h =
     (get_snoc (fresh_states group members n) (record { history = Fresh group n members; waiting = [] }) s i h)
 
 -- it is good
-pub empty_good : (group members : ℕ) → IsLarge group → members ≤ 64 → IsGood (empty_world group members)
+pub empty_good : (group members : ℕ) → IsLarge group → members ≤ MEMBERS → IsGood (empty_world group members)
 unfolding fresh
 empty_good group members g m = record {
   member = λ i s h. let r = fresh_at group members members i s h in
@@ -96,7 +97,7 @@ in_front used limit (u ∷ os) o p = go (nat_le (used + op_size u) limit) p (λ 
 in_message : (H : History) (to : ℕ) (o : Op) → IsIn o (message_for H to).ops → IsIn o (ops H)
 unfolding message_for unstable
 in_message H to o p =
-    let q = in_front (head_size (members_of H)) 67108864 (missing_for (row H to) (unstable H)) o p in
+    let q = in_front (head_size (members_of H)) INPUT_BYTES (missing_for (row H to) (unstable H)) o p in
     let r = (in_filter (λ o. not (is_covered (row H to) o)) o (unstable H) q).0 in
     (in_filter (λ o. not (is_covered (stable H) o)) o (ops H) r).0
 

@@ -1,4 +1,4 @@
--- What a member made behind the front P of its history is refused by no other member that has its causes.
+-- What a member made after the front P of its history is refused by no other member that has its causes.
 use Rattle.std.proofs.Common.{◌≡◌, ℕ, ◌+◌, ◌≤◌, ◌<◌, Bool, true, false, List, [], ◌∷◌, length, refl, sym, ap, ◌∙◌, subst, arith, inl, inr, ⊎_elim, nat_le}
 use Rattle.std.specs.Prelude.{if◌then◌else◌, not, ◌&&◌, ◌||◌, ◌==◌, slice_index, Option, Some, None, drop}
 use Rattle.std.specs.List.{list_any}
@@ -44,8 +44,8 @@ use Rattle.rls_model.proofs.Fresh.{own_stems, may_begin}
 use Rattle.rls_model.proofs.Distinct.{known}
 use Rattle.rls_model.proofs.SameOps.{op_kept, same_epochs, in_chars, chars_in, in_export}
 use Rattle.rls_model.proofs.Made.{own_epoch, fit_chain}
-use Rattle.rls_model.proofs.WorldsNumbers.{number_counted, with_number, ops_from, same_from, fits_left, own_context, leave_of, left_by}
-use Rattle.rls_model.proofs.WorldsEpochs.{in_names, greatest_part}
+use Rattle.rls_model.proofs.HistoryNumbers.{number_counted, with_number, ops_from, same_from, fits_left, own_context, leave_of, left_by}
+use Rattle.rls_model.proofs.TreesWithin.{in_names, greatest_part}
 
 -- the operation's targets are identifiers of characters that live in P
 abbrev pub AreLiving : History → Op → Type 0
@@ -67,7 +67,7 @@ made_living H (edits.Delete at n) x p = text_lives H x (in_drop at x (idents H) 
 made_living H edits.Rename x p = absurd p
 made_living H edits.Leave x p = absurd p
 
--- an operation that its author made behind P and that a member with history H, which has its causes, hasn't accepted
+-- an operation that its author made after P and that a member with history H, which has its causes, hasn't accepted
 pub record Arrives (H P : History) (o : Op) : Type 0 where
   pub here : IsLegal H
   pub home : IsLegal (Then P (Accepted o))

@@ -11,11 +11,11 @@ use Rattle.rls_model.specs.declared.event.Event.TheVariants as events
 use Rattle.rls_model.specs.Laws.{edited, IsFront, IsPast, IsPartOf, WasInserted, WasMade, EditAlone, MadeByEdits, StrongList}
 use Rattle.rls_model.proofs.SameOps.{same_chars}
 use Rattle.rls_model.proofs.OneOrder as order
-use Rattle.rls_model.proofs.WorldsNumbers.{front_self, front_legal, front_me, front_ops, op_front}
+use Rattle.rls_model.proofs.HistoryNumbers.{front_self, front_legal, front_me, front_ops, op_front}
 use Rattle.rls_model.proofs.WorldsInvariant.{made_front}
 use Rattle.rls_model.proofs.WorldsLaws.{good_after, rests_after}
 use Rattle.rls_model.proofs.WorldsPast.{edit_none, run_past}
-use Rattle.rls_model.proofs.WorldsRests.{made_alone}
+use Rattle.rls_model.proofs.NothingReady.{made_alone}
 
 pub made_by_edits : MadeByEdits
 made_by_edits w hs o a k =

@@ -22,8 +22,8 @@ use Rattle.rls_model.specs.Worlds.{World, of_edit, or_else, edit_fault_at, fault
 use Rattle.rls_model.specs.Laws.{edited, IsAt, IsFront, IsPast, PastKept}
 use Rattle.rls_model.specs.MachineLaws.{StepsKeep}
 use Rattle.rls_model.proofs.Machines.{acknowledge_keeps, edit_keeps, states_after_ops, states_after_releases}
-use Rattle.rls_model.proofs.WorldsLists.{get_set_same, got_below}
-use Rattle.rls_model.proofs.WorldsNumbers.{front_self, front_trans}
+use Rattle.rls_model.proofs.OnePlace.{get_set_same, got_below}
+use Rattle.rls_model.proofs.HistoryNumbers.{front_self, front_trans}
 use Rattle.rls_model.proofs.WorldsInvariant.{at_later}
 
 -- ---- steps

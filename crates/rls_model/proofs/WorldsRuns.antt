@@ -1,6 +1,6 @@
 -- Lines that are run to their end lead to the world that whole events lead to.
-use Rattle.std.proofs.Common.{◌≡◌, ℕ, zero, suc, List, [], ◌∷◌, ◌++◌, length, refl, sym, ap, ◌∙◌, subst, inl, inr}
-use Rattle.std.specs.Prelude.{if◌then◌else◌, slice_get, Option, Some, None, Result, Ok, Err}
+use Rattle.std.proofs.Common.{◌≡◌, ℕ, zero, suc, List, [], ◌∷◌, ◌++◌, length, refl, sym, ap, ◌∙◌, subst}
+use Rattle.std.specs.Prelude.{if◌then◌else◌, slice_get, Option, Some, None}
 use Rattle.rls_ident.proofs.Members.{lt_test}
 use Rattle.rls_ops.specs.declared.op.Op.{Op}
 use Rattle.rls_model.specs.declared.edit.Edit.{Edit}
@@ -8,16 +8,14 @@ use Rattle.rls_model.specs.declared.edit.EditError.{EditError}
 use Rattle.rls_model.specs.declared.event.Event.TheVariants as events
 use Rattle.rls_model.specs.declared.event.StepError.TheVariants as faults
 use Rattle.rls_model.specs.Receiving.{State, accept, first_ready, after_release, release_after, released_times}
-use Rattle.rls_model.specs.WellFormed.{IsSmall}
 use Rattle.rls_model.specs.Editing.{made, edit_fault}
 use Rattle.rls_model.specs.Taking.{by_history, one_less, Progress, started, release_step, release_steps, with_releases}
 use Rattle.rls_model.specs.EditRun.{edit_step, edit_within, Done, go_on, run_from, run_lines, unless_fault, read_edit}
 use Rattle.rls_model.specs.Worlds.{World, or_else, of_edit, edit_fault_at, fault_of, with_state, edit_at, step_of, unless, happens, Happening, whole, run, AreEvents, AreWhole}
 use Rattle.rls_model.specs.Laws.{IsAt, IsAfter, edit_events, EditsAreEvents}
-use Rattle.rls_model.proofs.WorldsLists.{get_set_same, got_below, set_get, set_set}
-use Rattle.rls_model.proofs.WorldsSteps.{released_by, release_is}
+use Rattle.rls_model.proofs.OnePlace.{get_set_same, got_below, set_get, set_set}
+use Rattle.rls_model.proofs.MemberSteps.{released_by, release_is}
 use Rattle.rls_model.proofs.Machines.{end_or, edit_unlimited, release_unlimited}
-use Rattle.rls_model.proofs.WorldsScripts.{AllReadWell}
 
 -- ---- steps without a limit
 
@@ -73,29 +71,6 @@ same_world w i s h = ap (λ xs. record w { states = xs }) (set_get w.states i s 
 -- events that lead from one world to another
 abbrev pub Leads : World → World → Type 0
 Leads w v = (hs : List Happening) × AreEvents hs × AreWhole hs × (run w hs ≡ v)
-
-from_lines : {L F : Type 0} (reads : State → L → Result Edit F) (w : World) (i : ℕ) (line : ℕ) (p q : Progress) (ls : List L) → IsSmall i → IsAt w i p.state → p.limit ≡ None → AllReadWell reads ls → run_from reads line p ls ≡ Done q →
-    Leads w (with_state w i q.state)
-from_lines reads w i line p q [] m h l a e =
-    let f : p ≡ q = ap (end_or p) e in
-    ([], tt, tt, sym (same_world w i q.state (subst (λ (x : Progress). IsAt w i x.state) f h)))
-from_lines {L = L} {F = F} reads w i line p q (x ∷ ls) m h l a e = go (reads p.state x) refl e (λ r v k n c. from_lines reads v i (suc line) r q ls m k n (λ y u. a y (inr u)) c)
-  where
-    go : (f : Result Edit F) → reads p.state x ≡ f → go_on line f (λ edit. run_from reads (suc line) (with_releases (edit_step p edit)) ls) ≡ Done q →
-        ((r : Progress) (v : World) → IsAt v i r.state → r.limit ≡ None → run_from reads (suc line) r ls ≡ Done q → Leads v (with_state v i q.state)) → Leads w (with_state w i q.state)
-    go (Ok edit) f k ih =
-        let b = a x (inl refl) p.state edit f in
-        let r = with_releases (edit_step p edit) in
-        let v = with_state w i r.state in
-        let n = ih r v (get_set_same w.states i p.state r.state h) (with_edit p edit l).0 k in
-        let c = edit_event w i p edit h l b.1 in
-        (whole (events.Edit i edit) ∷ n.0, ((m, b.0), n.1), (refl, n.2), ap (λ u. run u n.0) c ∙ (n.3 ∙ ap (λ xs. record w { states = xs }) (set_set w.states i r.state q.state)))
-    go (Err y) f k ih = absurd (cc)
-
--- lines that are not stopped are a list of whole events
-pub lines_events : {L F : Type 0} (reads : State → L → Result Edit F) (w : World) (i : ℕ) (s : State) (q : Progress) (ls : List L) → IsSmall i → IsAt w i s → AllReadWell reads ls → run_lines reads s ls ≡ Done q → Leads w (with_state w i q.state)
-unfolding run_lines
-lines_events reads w i s q ls m h a e = from_lines reads w i 1 (started None s) q ls m h refl a e
 
 -- ---- edits
 

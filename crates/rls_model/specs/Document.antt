@@ -7,7 +7,7 @@ use Rattle.rls_ident.specs.Identifiers.{shifted}
 pub use Rattle.rls_runs.specs.Entries.{has_ident, put, put_all}
 use Rattle.rls_ops.specs.declared.op.Op.{Op}
 use Rattle.rls_ops.specs.declared.op.Body.{Body}
-use Rattle.rls_ops.specs.declared.op.Body.TheVariants.{Insert, Delete}
+use Rattle.rls_ops.specs.declared.op.Body.TheVariants.{Insert, Delete, Rename, Leave}
 use Rattle.rls_model.specs.History.{History, ops}
 use Rattle.rls_model.specs.Epochs.{greatest, translate}
 
@@ -30,7 +30,9 @@ chars_from o i x (c ∷ cs) =
 -- the characters of an operation with this body
 abbrev pub chars_of : Op → Body → List Character
 chars_of o (Insert first text) = chars_from o 0 first text
-chars_of o _ = []
+chars_of o (Delete targets) = []
+chars_of o (Rename former) = []
+chars_of o Leave = []
 
 -- the characters of these operations
 abbrev pub chars_of_all : List Op → List Character
@@ -43,8 +45,10 @@ chars H = chars_of_all (ops H)
 
 -- the identifiers that a body deletes
 abbrev pub targets_of : Body → List (List Tuple)
+targets_of (Insert first text) = []
 targets_of (Delete targets) = targets
-targets_of _ = []
+targets_of (Rename former) = []
+targets_of Leave = []
 
 -- the character's identifier in this epoch
 abbrev pub ident_in : History → EpochName → Character → List Tuple

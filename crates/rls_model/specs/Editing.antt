@@ -2,6 +2,7 @@
 use Rattle.std.specs.Prelude.{ℕ, zero, suc, ◌+◌, pos, ◌+ℤ◌, ◌-ℤ◌, Bool, true, false, ◌&&◌, List, [], length, take, drop, ◌==◌, nat_lt, slice_get, Option, Some, None, if◌then◌else◌}
 use Rattle.std.specs.Int.RustNames.{int_le}
 use Rattle.std.specs.Ordering.{int_eq}
+use Rattle.rls_ident.specs.declared.limits.TheConstants.{CHARACTERS, IDENTIFIERS, OPERATION_BYTES, GREATEST_NUMBER}
 use Rattle.rls_ident.specs.declared.tuple.Tuple.{Tuple}
 use Rattle.rls_ident.specs.Tuples.{replica_of, seq_of, offset_of}
 use Rattle.rls_ident.specs.Identifiers.{ident_lt, last_of, shifted, least_offset, greatest_offset}
@@ -109,16 +110,16 @@ abbrev pub range_fault : ℕ → Edit → Option EditError
 range_fault total (edits.Insert at text) =
     if length text == 0 then Some EmptyEdit
     else if nat_lt total at then Some (Range at total)
-    else if nat_lt 1048576 (length text) then Some (TooManyChars (length text))
+    else if nat_lt CHARACTERS (length text) then Some (TooManyChars (length text))
     else None
 range_fault total (edits.Delete at n) =
     if n == 0 then Some EmptyEdit
     else if nat_lt total (at + n) then Some (Range at total)
-    else if nat_lt 4194304 n then Some (TooManyChars n)
+    else if nat_lt IDENTIFIERS n then Some (TooManyChars n)
     else None
 range_fault total edits.Rename =
     if total == 0 then Some EmptyDocument
-    else if nat_lt 4194304 total then Some (TooManyChars total)
+    else if nat_lt IDENTIFIERS total then Some (TooManyChars total)
     else None
 range_fault total edits.Leave = None
 
@@ -129,11 +130,11 @@ or_fault None f = f
 
 -- the operation has too many bytes
 abbrev pub size_fault : ℕ → Option EditError
-size_fault n = if nat_lt 16777216 n then Some (OpTooLarge n) else None
+size_fault n = if nat_lt OPERATION_BYTES n then Some (OpTooLarge n) else None
 
 -- the number or the size of the operation is too great
 abbrev pub op_fault : History → Edit → Option EditError
-op_fault H edit = if count_of H (me_of H) == 4294967295 then Some NumbersSpent else size_fault (op_size (made H edit))
+op_fault H edit = if count_of H (me_of H) == GREATEST_NUMBER then Some NumbersSpent else size_fault (op_size (made H edit))
 
 -- the first fault of the edit
 unfoldable pub edit_fault : History → Edit → Option EditError

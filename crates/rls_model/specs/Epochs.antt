@@ -8,7 +8,7 @@ use Rattle.rls_rename.specs.Tree.{Node}
 use Rattle.rls_rename.specs.Tree as tree
 use Rattle.rls_ops.specs.declared.op.Op.{Op}
 use Rattle.rls_ops.specs.declared.op.Body.{Body}
-use Rattle.rls_ops.specs.declared.op.Body.TheVariants.{Rename}
+use Rattle.rls_ops.specs.declared.op.Body.TheVariants.{Insert, Delete, Rename, Leave}
 use Rattle.rls_model.specs.History.{Accepted, Acknowledged, History, Fresh, Then}
 
 -- the renaming of a rename
@@ -17,8 +17,10 @@ renaming_of o former = record { former = former; replica = o.author; seq = o.seq
 
 -- the nodes after this operation, of which this is the body
 abbrev pub nodes_after : List Node → Op → Body → List Node
+nodes_after older o (Insert first text) = older
+nodes_after older o (Delete targets) = older
 nodes_after older o (Rename former) = record { parent = o.epoch; renaming = renaming_of o former } ∷ older
-nodes_after older o _ = older
+nodes_after older o Leave = older
 
 -- the epochs below `Origin`, the latest first
 abbrev pub epochs : History → List Node

@@ -8,7 +8,7 @@ use Rattle.rls_ident.specs.Identifiers.{ident_eq, last_of}
 use Rattle.rls_ident.specs.Vectors.{at_most}
 use Rattle.rls_ops.specs.declared.op.Op.{Op}
 use Rattle.rls_ops.specs.declared.op.Body.{Body}
-use Rattle.rls_ops.specs.declared.op.Body.TheVariants.{Insert, Delete}
+use Rattle.rls_ops.specs.declared.op.Body.TheVariants.{Insert, Delete, Rename, Leave}
 use Rattle.rls_model.specs.Answers.{Reason, Left, Backward, WrongEpoch, WrongStem, UnknownTarget}
 use Rattle.rls_model.specs.History.{History, count_of, has_left, row}
 use Rattle.rls_model.specs.Stability.{unstable}
@@ -33,7 +33,8 @@ body_refusal H o (Insert first text) =
     if may_use (stems H) o.author o.seq (last_of first) (length text) then None
     else Some (WrongStem (due_offset (stems H) o.author o.seq (last_of first)))
 body_refusal H o (Delete targets) = first_unknown H o.epoch targets
-body_refusal H o _ = None
+body_refusal H o (Rename former) = None
+body_refusal H o Leave = None
 
 -- the first reason to refuse the operation. It fits where there is none
 unfoldable pub refusal : History → Op → Option Reason

@@ -3,7 +3,7 @@ use Rattle.std.specs.Prelude.{ℕ, Bool, true, false, ◌&&◌, ◌||◌, List, 
 use Rattle.rls_ident.specs.Vectors.{join, raise}
 use Rattle.rls_ops.specs.declared.op.Op.{Op}
 use Rattle.rls_ops.specs.declared.op.Body.{Body}
-use Rattle.rls_ops.specs.declared.op.Body.TheVariants.{Leave}
+use Rattle.rls_ops.specs.declared.op.Body.TheVariants.{Insert, Delete, Rename, Leave}
 
 -- an operation was accepted, or an acknowledgement of a member was counted
 pub data Entry : Type 0 where
@@ -48,8 +48,10 @@ count_of H a = slice_index (count H) a
 
 -- the operation is a leave
 abbrev pub is_leave : Body → Bool
+is_leave (Insert first text) = false
+is_leave (Delete targets) = false
+is_leave (Rename former) = false
 is_leave Leave = true
-is_leave _ = false
 
 -- a leave of the member was accepted
 abbrev pub has_left : History → ℕ → Bool

@@ -1,6 +1,7 @@
 -- The statements of the laws.
 use Rattle.std.specs.Prelude.{◌≡◌, ◌<◌, ◌≤◌, ◌⊎◌, ◌↔◌, ℕ, ◌+◌, ℤ, pos, ◌-ℤ◌, ◌≤ℤ◌, ◌<ℤ◌, Bool, List, [], ◌∷◌, ◌++◌, map, length, take, drop, filter, slice_get, ◌==◌, Option, Some, None, IsTrue, IsFalse}
 use Rattle.std.specs.List.{list_all}
+use Rattle.rls_ident.specs.declared.limits.TheConstants.{MEMBERS, OFFSETS_END}
 use Rattle.rls_ident.specs.declared.tuple.Tuple.{Tuple}
 use Rattle.rls_ident.specs.declared.tuple.Tuple.TheVariants.{At}
 use Rattle.rls_ident.specs.declared.epoch_name.EpochName.{EpochName}
@@ -121,7 +122,7 @@ abbrev pub RenamedRun : Type 0
 RenamedRun = (H : History) (cs : List ℕ) → IsLegal H → IsText cs → edit_fault H edits.Rename ≡ None →
     let K = edited H edits.Rename in let n = length (text H) in
     (IsOneRun H K (pos 0) n × (text K ≡ text H))
-    × (edit_fault K (edits.Insert n cs) ≡ None → n + length cs ≤ 1073741824 → IsOneRun H (edited K (edits.Insert n cs)) (pos 0) (n + length cs))
+    × (edit_fault K (edits.Insert n cs) ≡ None → n + length cs ≤ OFFSETS_END → IsOneRun H (edited K (edits.Insert n cs)) (pos 0) (n + length cs))
     × (edit_fault K (edits.Insert 0 cs) ≡ None → IsOneRun H (edited K (edits.Insert 0 cs)) (pos 0 -ℤ pos (length cs)) (n + length cs))
 
 -- an insertion lands where it was asked for
@@ -138,7 +139,7 @@ IsTotalOrder lt P =
     × ((c d e : Character) → IsTrue (lt c d) → IsTrue (lt d e) → IsTrue (lt c e))
     × ((c d : Character) → P c → P d → (c ≡ d) ⊎ IsTrue (lt c d) ⊎ IsTrue (lt d c))
 
--- each of these comes before all behind it
+-- each of these comes before all after it
 abbrev pub AreInOrder : (Character → Character → Bool) → List Character → Type 0
 AreInOrder lt [] = Unit {0}
 AreInOrder lt (c ∷ cs) = IsTrue (list_all (λ d. lt c d) cs) × AreInOrder lt cs
@@ -248,7 +249,7 @@ SameOperations = (G H : History) → IsLegal G → IsLegal H → HaveSameOps G H
 
 -- this is the world of members that began afresh, after these events
 abbrev pub IsAfter : World → List Happening → Type 0
-IsAfter w hs = (group members : ℕ) × IsLarge group × (0 < members) × (members ≤ 64) × AreEvents hs × (run (empty_world group members) hs ≡ w)
+IsAfter w hs = (group members : ℕ) × IsLarge group × (0 < members) × (members ≤ MEMBERS) × AreEvents hs × (run (empty_world group members) hs ≡ w)
 
 -- the member has this state
 abbrev pub IsAt : World → ℕ → State → Type 0
@@ -258,7 +259,7 @@ IsAt w i s = slice_get w.states i ≡ Some s
 abbrev pub WorldsLegal : Type 0
 WorldsLegal = (w : World) (hs : List Happening) (i : ℕ) (s : State) → IsAfter w hs → IsAt w i s → IsLegal s.history × IsSound s
 
--- an event that is cut short behind no step changes nothing; behind enough of them it is whole
+-- an event that is cut short after no step changes nothing; after enough of them it is whole
 abbrev pub CutShort : Type 0
 CutShort = (w : World) (e : Event) → (happens (Some 0) w e ≡ w) × ((n : ℕ) × ((m : ℕ) → n ≤ m → happens (Some m) w e ≡ happens None w e))
 
@@ -271,7 +272,7 @@ EqualVectors = (w : World) (hs : List Happening) (i j : ℕ) (s t : State) → I
 abbrev pub NoneTakenRefused : World → Type 0
 NoneTakenRefused w = (i : ℕ) (s : State) (m : Message) (limit : Limit) → IsAt w i s → IsIn m w.sent → (take_within limit s m).counts.refused ≡ []
 
--- the operation of an edit that isn't cut short behind no step stands in the history after it
+-- the operation of an edit that isn't cut short after no step stands in the history after it
 abbrev pub EditApplied : Type 0
 EditApplied = (s : State) (edit : Edit) (limit : Limit) → IsTrue (has_room limit) → IsIn (made s.history edit) (ops (edit_within limit s edit).state.history)
 
@@ -454,6 +455,6 @@ AreCommands (c ∷ cs) = IsCommand c × AreCommands cs
 
 -- whatever members that began afresh were told, none tells a refused operation, and two that have equal counts show the same
 abbrev pub CommandsClean : Type 0
-CommandsClean = (group members : ℕ) (cs : List Command) → IsLarge group → members ≤ 64 → AreCommands cs → let w = obeyed_all (empty_world group members) cs in
+CommandsClean = (group members : ℕ) (cs : List Command) → IsLarge group → members ≤ MEMBERS → AreCommands cs → let w = obeyed_all (empty_world group members) cs in
     ((c : Command) → IsCommand c → told_refused w c ≡ [])
     × ((i j : ℕ) (s t : State) → IsAt w i s → IsAt w j t → count s.history ≡ count t.history → HaveSameOps s.history t.history × ShowSame s.history t.history)

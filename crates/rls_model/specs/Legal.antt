@@ -1,6 +1,7 @@
 -- Legal histories: those that come about by the rules.
 use Rattle.std.specs.Prelude.{◌≡◌, ℕ, ◌+◌, ◌<◌, ◌≤◌, List, [], ◌∷◌, None, IsTrue}
 use Rattle.std.specs.List.{list_all}
+use Rattle.rls_ident.specs.declared.limits.TheConstants.{MEMBERS}
 use Rattle.rls_ident.specs.Vectors.{at_most}
 use Rattle.rls_ops.specs.Shapes.{shape_fault}
 use Rattle.rls_ops.specs.declared.op.Op.{Op}
@@ -24,14 +25,14 @@ MayFollow G (Acknowledged a v) = IsTrue (is_counted G a v)
 
 -- the numbers of a fresh replica
 abbrev pub AreNumbers : ℕ → ℕ → ℕ → Type 0
-AreNumbers group me members = IsLarge group × (me < members) × (members ≤ 64)
+AreNumbers group me members = IsLarge group × (me < members) × (members ≤ MEMBERS)
 
 -- nothing has happened, or a well formed entry that may follow has followed a legal history
 abbrev pub IsLegal : History → Type 0
 IsLegal (Fresh group me members) = AreNumbers group me members
 IsLegal (Then G e) = IsLegal G × IsEntry (members_of G) e × MayFollow G e
 
--- each waiting operation is well formed, has the right shape and a number above the count, and comes before all behind it
+-- each waiting operation is well formed, has the right shape and a number above the count, and comes before all after it
 abbrev pub AreWaiting : History → List Op → Type 0
 AreWaiting H [] = Unit {0}
 AreWaiting H (w ∷ ws) =

@@ -6,7 +6,7 @@ use Rattle.rls_ident.specs.declared.tuple.Tuple.{Tuple}
 use Rattle.rls_ident.specs.Tuples.{replica_of, seq_of, offset_of}
 use Rattle.rls_ident.specs.Identifiers.{last_of}
 use Rattle.rls_ops.specs.declared.op.Body.{Body}
-use Rattle.rls_ops.specs.declared.op.Body.TheVariants.{Insert, Rename}
+use Rattle.rls_ops.specs.declared.op.Body.TheVariants.{Insert, Delete, Rename, Leave}
 use Rattle.rls_model.specs.declared.parts.Stem.{Stem}
 use Rattle.rls_model.specs.History.{Accepted, Acknowledged, History, Fresh, Then}
 
@@ -44,7 +44,7 @@ with_stem new (stem ∷ stems) =
 abbrev pub new_stem : ℕ → ℕ → ℕ → Stem
 new_stem a s n = record { author = a; s0 = s; low = pos 0; next = n }
 
--- the stem after n more offsets from k on were used: behind its end, or else in front of its low
+-- the stem after n more offsets from k on were used: after its end, or else before its low
 abbrev pub extended : Stem → ℤ → ℕ → Stem
 extended stem k n = if int_eq k (pos stem.next) then record stem { next = stem.next + n } else record stem { low = k }
 
@@ -63,8 +63,9 @@ stems_after_insert ss a s t n =
 -- the stems after this body of an operation by a with its number s
 abbrev pub stems_after : List Stem → ℕ → ℕ → Body → List Stem
 stems_after ss a s (Insert first text) = stems_after_insert ss a s (last_of first) (length text)
+stems_after ss a s (Delete targets) = ss
 stems_after ss a s (Rename former) = with_stem (new_stem a s (length former)) ss
-stems_after ss a s _ = ss
+stems_after ss a s Leave = ss
 
 -- the stems of a history, by author and number
 abbrev pub stems : History → List Stem

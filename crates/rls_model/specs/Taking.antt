@@ -1,5 +1,6 @@
 -- Messages, and what comes of taking one, step by step.
 use Rattle.std.specs.Prelude.{◌≡◌, ℕ, List, Option, None, Some, if◌then◌else◌}
+use Rattle.rls_ident.specs.declared.limits.TheConstants.{INPUT_BYTES}
 use Rattle.rls_ops.specs.declared.op.Op.{Op}
 use Rattle.rls_ops.specs.declared.message.Message.{Message}
 use Rattle.rls_ops.specs.Sizes.{head_size}
@@ -23,7 +24,7 @@ message_for H to = record {
   members = members_of H;
   from = me_of H;
   vector = count H;
-  ops = front_within (head_size (members_of H)) 67108864 (missing_for (row H to) (unstable H));
+  ops = front_within (head_size (members_of H)) INPUT_BYTES (missing_for (row H to) (unstable H));
 }
 
 -- ---- a replica by its history

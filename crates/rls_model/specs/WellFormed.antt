@@ -1,15 +1,11 @@
 -- Which numbers and lists an event may have.
-use Rattle.std.specs.Prelude.{ℕ, ◌^◌, ◌<◌}
-pub use Rattle.rls_ops.specs.WellFormed.{IsSmall, IsVector, IsName, IsText, IsBody, IsOp, AreOps}
+use Rattle.std.specs.Prelude.{ℕ, ◌<◌}
+pub use Rattle.rls_ops.specs.WellFormed.{IsSmall, IsLarge, IsVector, IsName, IsText, IsBody, IsOp, AreOps}
 use Rattle.rls_model.specs.declared.edit.Edit.{Edit}
 use Rattle.rls_model.specs.declared.edit.Edit.TheVariants as edits
 use Rattle.rls_model.specs.declared.event.Event.{Event}
 use Rattle.rls_model.specs.declared.event.Event.TheVariants as events
 use Rattle.rls_model.specs.History.{Entry, Accepted, Acknowledged}
-
--- a u64
-abbrev pub IsLarge : ℕ → Type 0
-IsLarge n = n < 2 ^ 64
 
 -- an acknowledgement is a member's and has a count for each
 abbrev pub IsEntry : ℕ → Entry → Type 0

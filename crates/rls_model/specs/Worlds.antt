@@ -100,11 +100,11 @@ unless (Some e) w w' = w
 unfoldable pub happens : Limit → World → Event → World
 happens limit w e = unless (fault_of w e) w (step_of limit w e)
 
--- the world is one behind some number of the steps of the event, as want of memory leaves it
+-- the world is one after some number of the steps of the event, as want of memory leaves it
 abbrev pub IsPartHappened : World → Event → World → Type 0
 IsPartHappened w e v = (n : ℕ) × (happens (Some n) w e ≡ v)
 
--- an event, whole where it has no limit, else cut short behind that many of its steps
+-- an event, whole where it has no limit, else cut short after that many of its steps
 pub record Happening : Type 0 where
   pub event : Event
   pub limit : Limit

@@ -51,14 +51,6 @@ less_without a s x (w ∷ ws) p h = go (is_numbered a s w) refl p (length-withou
     go false e (inl q) k ih = absurd (true_false (is_numbered a s x) h (ap (is_numbered a s) (sym q) ∙ e))
     go false e (inr q) k ih = let m = ih q in omega arith
 
-pub length-with : (o : Op) (W : List Op) → length (with_waiting o W) ≡ suc (length W)
-length-with o [] = refl
-length-with o (w ∷ W) = go (comes_before w o) (length-with o W)
-  where
-    go : (b : Bool) → length (with_waiting o W) ≡ suc (length W) → length (cond b (w ∷ with_waiting o W) (o ∷ (w ∷ W))) ≡ suc (suc (length W))
-    go true h = ap suc h
-    go false h = refl
-
 -- ---- the order
 
 pub before_is : (o p : Op) → comes_before o p ≡ true → (o.author < p.author) ⊎ ((o.author ≡ p.author) × (o.seq < p.seq))
@@ -79,7 +71,7 @@ before_other o p h = grind (arith, nat_tests)
 
 -- ---- lists in order
 
--- what comes behind an operation has another number
+-- what comes after an operation has another number
 apart : (a s : ℕ) (w x : Op) → is_numbered a s w ≡ true → comes_before w x ≡ true → is_numbered a s x ≡ false
 apart a s w x h k = not_true (is_numbered a s x) (λ e. go (numbered_is a s w h) (numbered_is a s x e) (before_is w x k))
   where
@@ -87,7 +79,7 @@ apart a s w x h k = not_true (is_numbered a s x) (λ e. go (numbered_is a s w h)
     go p q (inl l) = let e = p.0 in let f = q.0 in absurd (omega arith)
     go p q (inr l) = let e = p.1 in let f = q.1 in let m = l.1 in absurd (omega arith)
 
--- nothing behind an operation stands under its number
+-- nothing after an operation stands under its number
 pub none_behind : (a s : ℕ) (w : Op) (W : List Op) → is_numbered a s w ≡ true → list_all (comes_before w) W ≡ true → without a s W ≡ W
 none_behind a s w [] h k = refl
 none_behind a s w (x ∷ xs) h k =

@@ -1,6 +1,7 @@
 -- The shape of an operation.
 use Rattle.std.specs.Prelude.{ℕ, ◌-◌, pos, ◌+ℤ◌, Bool, false, ◌&&◌, not, length, slice_index, ◌==◌, nat_lt, if◌then◌else◌, Option, Some, None}
 use Rattle.std.specs.Int.RustNames.{int_lt}
+use Rattle.rls_ident.specs.declared.limits.TheConstants.{CHARACTERS, IDENTIFIERS}
 use Rattle.rls_ident.specs.Tuples.{offset_of}
 use Rattle.rls_ident.specs.Identifiers.{last_of, greatest_offset}
 use Rattle.rls_ops.specs.declared.op.Op.{Op}
@@ -27,13 +28,17 @@ is_empty b = body_len b == 0
 
 -- the most characters or identifiers that a body may have
 abbrev pub body_limit : Body → ℕ
-body_limit (Insert first text) = 1048576
-body_limit _ = 4194304
+body_limit (Insert first text) = CHARACTERS
+body_limit (Delete targets) = IDENTIFIERS
+body_limit (Rename former) = IDENTIFIERS
+body_limit Leave = IDENTIFIERS
 
 -- the last character of an insertion has an offset above the greatest one
 abbrev pub passes_end : Body → Bool
 passes_end (Insert first text) = int_lt (greatest_offset +ℤ pos 1) (offset_of (last_of first) +ℤ pos (length text))
-passes_end _ = false
+passes_end (Delete targets) = false
+passes_end (Rename former) = false
+passes_end Leave = false
 
 -- the first fault of the body, if there is one
 abbrev pub body_fault : Body → Option Shape

@@ -36,7 +36,7 @@ abbrev pub name_size : EpochName → ℕ
 name_size Origin = 1
 name_size (Of r s) = 9
 
--- the body behind its kind
+-- the body after its kind
 abbrev pub body_size : Body → ℕ
 body_size (Insert first text) = ident_size first + 4 + sum_by char_size text
 body_size (Delete targets) = runs_size targets

@@ -77,8 +77,8 @@ message_in_form form m = concat
     (codes "RLSM" ∷ (form ∷ []) ∷ eight_bytes m.group ∷ four_bytes m.members ∷ four_bytes m.from ∷ vector_bytes m.vector ∷ counted op_bytes m.ops ∷ [])
 
 -- the form in which messages are written
-abbrev pub newest_form : ℕ
-newest_form = 3
+abbrev pub message_form : ℕ
+message_form = 3
 
 abbrev pub message_bytes : Message → List ℕ
-message_bytes m = message_in_form newest_form m
+message_bytes m = message_in_form message_form m

@@ -30,7 +30,7 @@ without a s (p ∷ ps) = if is_numbered a s p then without a s ps else p ∷ wit
 abbrev pub first_ready_at : List ℕ → List Op → Option Op
 first_ready_at v W = find (λ w. at_most w.context v) W
 
--- each operation comes before all behind it
+-- each operation comes before all after it
 abbrev pub is_in_order : List Op → Bool
 is_in_order [] = true
 is_in_order (w ∷ ws) = list_all (comes_before w) ws && is_in_order ws

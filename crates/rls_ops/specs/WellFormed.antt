@@ -10,9 +10,13 @@ use Rattle.rls_ops.specs.declared.op.Op.{Op}
 use Rattle.rls_ops.specs.declared.op.Body.{Body}
 use Rattle.rls_ops.specs.declared.op.Body.TheVariants.{Insert, Delete, Rename, Leave}
 
--- a u32
+-- a u32, which a format holds in four bytes
 abbrev pub IsSmall : ℕ → Type 0
 IsSmall n = n < 2 ^ 32
+
+-- a u64, which a format holds in eight bytes
+abbrev pub IsLarge : ℕ → Type 0
+IsLarge n = n < 2 ^ 64
 
 -- a count for each member
 abbrev pub IsVector : ℕ → List ℕ → Type 0

@@ -1,22 +1,15 @@
 //! The shape of operations.
 
-ghost use Rattle.std.specs.Prelude.{◌≡◌, ◌<◌, ◌==◌, OnOk, IfErr, None, Some, nat_lt, length, if◌then◌else◌};
+ghost use Rattle.std.specs.Prelude.{◌≡◌, ◌<◌, ◌==◌, OnOk, IfErr, None, Some, nat_lt, if◌then◌else◌};
+ghost use Rattle.rls_ident.specs.declared.limits.TheConstants.{IDENTIFIERS};
 ghost use Rattle.rls_ops.specs.Shapes.{is_next_of, body_fault, shape_fault};
 ghost use Rattle.rls_ops.specs.declared.op.Body.TheVariants.{Insert};
 ghost use Rattle.rls_ops.specs.declared.op.Shape.TheVariants.{EmptyBody, TooLong};
 
 use crate::op::{Body, Op, Shape};
 use rls_ident::Ident;
+use rls_ident::limits::{CHARACTERS, IDENTIFIERS, OFFSETS_END};
 use rls_runs::Text;
-
-/// The most characters that an insertion may have.
-const CHARACTERS: u64 = 1_048_576;
-
-/// The most identifiers that a deletion or a rename may have.
-const IDENTIFIERS: u64 = 4_194_304;
-
-/// The offset after the greatest one.
-const PAST_OFFSETS: i64 = 1_073_741_824;
 
 impl Op {
     /// Whether the operation has the right shape in a group of this many members. It takes no memory.
@@ -72,15 +65,15 @@ fn check_insertion(first: &Ident, text: &Text) -> Result<(), Shape>
     if n > CHARACTERS {
         return Err(Shape::TooLong { n });
     }
-    if first.last().offset as i64 + n as i64 > PAST_OFFSETS {
+    if first.last().offset as i64 + n as i64 > OFFSETS_END as i64 {
         return Err(Shape::OffsetEnd);
     }
     Ok(())
 }
 
 fn check_idents(n: u64) -> Result<(), Shape>
-    ensures ok { OnOk result ((if n == 0 then Some EmptyBody else if nat_lt 4194304 n then Some (TooLong n) else None) ≡ None) }
-    ensures fault { IfErr result (λ fault. (if n == 0 then Some EmptyBody else if nat_lt 4194304 n then Some (TooLong n) else None) ≡ Some fault) }
+    ensures ok { OnOk result ((if n == 0 then Some EmptyBody else if nat_lt IDENTIFIERS n then Some (TooLong n) else None) ≡ None) }
+    ensures fault { IfErr result (λ fault. (if n == 0 then Some EmptyBody else if nat_lt IDENTIFIERS n then Some (TooLong n) else None) ≡ Some fault) }
 {
     if n == 0 {
         return Err(Shape::EmptyBody);

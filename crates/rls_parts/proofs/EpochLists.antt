@@ -2,6 +2,7 @@
 use Rattle.std.proofs.Common.{◌≡◌, ℕ, zero, suc, ◌<◌, ◌≤◌, ◌&&◌, ◌||◌, nat_le, nat_lt, slice_index, true, false, List, [], ◌∷◌, ◌++◌, length, slice_get, get_or, append-nil, refl, sym, ap, ◌∙◌, subst, arith, inl, inr, ⊎_elim, Option, Some, None, append_assoc, length-append}
 use Rattle.std.specs.List.{list_any}
 use Rattle.std.proofs.lemmas.List.{map-append}
+use Rattle.rls_ident.specs.declared.limits.TheConstants.{IDENTIFIERS}
 use Rattle.rls_ident.specs.declared.epoch_name.EpochName.{EpochName}
 use Rattle.rls_ident.specs.declared.epoch_name.EpochName.TheVariants.{Origin, Of}
 use Rattle.rls_ident.specs.EpochNames.{name_eq}
@@ -33,7 +34,7 @@ pub record IsEntry (p : Parts) (earlier : List EpochPart) (e : EpochPart) : Type
   pub below : place < length earlier
   pub new : IsIn e.name (names_of earlier) → ⊥
   pub some : 0 < length e.former
-  pub few : length e.former ≤ 4194304
+  pub few : length e.former ≤ IDENTIFIERS
   pub covered : is_covered_by p.stems (Of replica seq) (length e.former) ≡ true
 
 pub opened_name : (p : Parts) (n : EpochName) → is_opened p n ≡ true → (r : ℕ) × (s : ℕ) × (n ≡ Of r s) × (r < p.members) × (0 < s) × (s ≤ slice_index p.vector r)
@@ -83,8 +84,8 @@ entry_is p earlier e h5 =
       parent = k.1;
       below = k.2;
       new = not_among earlier e.name (and_left a b h2);
-      some = lt_is 0 (length e.former) (and_left (nat_lt 0 (length e.former)) (nat_le (length e.former) 4194304) n);
-      few = le_is (length e.former) 4194304 (and_right (nat_lt 0 (length e.former)) (nat_le (length e.former) 4194304) n);
+      some = lt_is 0 (length e.former) (and_left (nat_lt 0 (length e.former)) (nat_le (length e.former) IDENTIFIERS) n);
+      few = le_is (length e.former) IDENTIFIERS (and_right (nat_lt 0 (length e.former)) (nat_le (length e.former) IDENTIFIERS) n);
       covered = ap (λ m. is_covered_by p.stems m (length e.former)) (sym o.2) ∙ and_right (a && b && c && d) f h5;
     }
 
@@ -97,7 +98,7 @@ behind_is p earlier e h =
     let f = is_covered_by p.stems e.name (length e.former) in
     entry_is p earlier e (and_left (a && b && c && d && f) (is_greater earlier e) h)
 
--- the first entry and one behind it
+-- the first entry and one after it
 pub first_top : (p : Parts) (e : EpochPart) (es : List EpochPart) → epoch_fault p [] (e ∷ es) ≡ None → (may_be_top p e.name ≡ true) × (epoch_fault p (e ∷ []) es ≡ None)
 first_top p e es h = epoch_first p [] e es h
 
@@ -261,7 +262,7 @@ module _ (p : Parts) (all : List EpochPart) (f : EpochPart) (fs : List EpochPart
   one_more : IsBuilt p all f (fs ++ e ∷ []) (with_node all e e.name e.parent ns)
   one_more = subst (IsBuilt p all f (fs ++ e ∷ [])) (sym (node_made all e c.replica c.seq c.place ns c.named c.parent)) grown
 
--- each entry stands by the rule, but for the order, behind f and those before it
+-- each entry stands by the rule, but for the order, after f and those before it
 abbrev pub AreEntries : Parts → EpochPart → List EpochPart → List EpochPart → Type 0
 AreEntries p f fs [] = Unit {0}
 AreEntries p f fs (e ∷ es) = IsEntry p (f ∷ fs) e × AreEntries p f (fs ++ e ∷ []) es

@@ -18,7 +18,7 @@ own_lengths n zero own rows e h = (e, h)
 own_lengths n (suc me) own [] e h = tt
 own_lengths n (suc me) own (row ∷ rows) e h = (h.0, own_lengths n me own rows e h.1)
 
--- each row in front of it stays at its place, and each behind it is at the next one
+-- each row before it stays at its place, and each after it is at the next one
 pub own_before : (me : ℕ) (own : List ℕ) (rows : List (List ℕ)) (a : ℕ) → a < me → get_or (with_own me own rows) a [] ≡ get_or rows a []
 own_before zero own rows a h = absurd (omega arith)
 own_before (suc me) own [] a h = refl

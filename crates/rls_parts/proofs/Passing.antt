@@ -29,7 +29,7 @@ holds : (b : Bool) → whole_fault b ≡ None → b ≡ true
 holds true h = refl
 holds false h = absurd (cc)
 
--- the first rule of those that are left passes, and those behind it are left
+-- the first rule of those that are left passes, and those after it are left
 abbrev rest_8 : Parts → Option Broken
 rest_8 p = or_broken 8 (held_fault p None 0 p.held) None
 

@@ -3,6 +3,7 @@ use Rattle.std.proofs.Common.{◌≡◌, ℕ, suc, ◌+◌, ◌*◌, ◌<◌, �
 use Rattle.std.specs.Prelude.{pos, sum_by}
 use Rattle.std.proofs.lemmas.Int.{ints}
 use Rattle.std.proofs.lemmas.List.Sums.{sum_by-cons}
+use Rattle.rls_ident.specs.declared.limits.TheConstants.{IDENTIFIERS}
 use Rattle.rls_ident.specs.declared.tuple.Tuple.{Tuple}
 use Rattle.rls_ident.specs.declared.epoch_name.EpochName.{EpochName}
 use Rattle.rls_ident.specs.declared.epoch_name.EpochName.TheVariants.{Origin, Of}
@@ -149,9 +150,9 @@ sum_few m (n ∷ ns) f =
     let d : suc (length ns) * m ≡ m + length ns * m = omega arith in
     omega arith
 
-pub former_restored : (es : List EpochPart) → ((n : Node) → IsIn n (nodes_of es) → length n.renaming.former ≤ 4194304) → sum_by (λ (n : Node). length n.renaming.former) (nodes_of es) ≤ length es * 4194304
+pub former_restored : (es : List EpochPart) → ((n : Node) → IsIn n (nodes_of es) → length n.renaming.former ≤ IDENTIFIERS) → sum_by (λ (n : Node). length n.renaming.former) (nodes_of es) ≤ length es * IDENTIFIERS
 unfolding nodes_of
 former_restored es f =
-    let a = sum_few 4194304 (nodes_onto es [] es) f in
+    let a = sum_few IDENTIFIERS (nodes_onto es [] es) f in
     let b = onto_length es [] es in
     omega arith

@@ -157,7 +157,7 @@ may_wait_is members me v before o e =
 waits : (p : Parts) (before : Option Op) (o : Op) → may_wait p.members p.me p.vector before o ≡ true → MayWait p.members p.me p.vector before o
 waits p before o h = may_wait_is p.members p.me p.vector before o h
 
--- what comes before one of them comes before all behind it
+-- what comes before one of them comes before all after it
 before_all : (p : Parts) (q w : Op) (i : ℕ) (ws : List Op) → comes_before q w ≡ true → held_fault p (Some w) i ws ≡ None → list_all (comes_before q) ws ≡ true
 before_all p q w i [] b h = refl
 before_all p q w i (x ∷ ws) b h =

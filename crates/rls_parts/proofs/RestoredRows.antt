@@ -44,7 +44,7 @@ left_given p a l = mark_at p.left p.members a l
 
 -- ---- the places of the rows
 
--- the member at a place in front of the own one, and at one from it on
+-- the member at a place before the own one, and at one from it on
 at_before : (me i : ℕ) → i < me → member_at me i ≡ i
 at_before me i h = ap (λ b. if b then i else i + 1) (lt_test i me h)
 

@@ -1,6 +1,7 @@
 -- The replica that has given parts, which break no rule, is sane.
 use Rattle.std.proofs.Common.{◌≡◌, ◌+◌, ◌*◌, ◌^◌, ◌≤◌, true, List, length, ap, ◌∙◌, subst, arith, None}
 use Rattle.std.specs.Prelude.{sum}
+use Rattle.rls_ident.specs.declared.limits.TheConstants.{IDENTIFIERS}
 use Rattle.rls_ident.specs.declared.tuple.Tuple.{Tuple}
 use Rattle.rls_ident.specs.declared.epoch_name.EpochName.{EpochName}
 use Rattle.rls_ident.specs.EpochNames.{is_within}
@@ -47,7 +48,7 @@ leaves_of : (p : Parts) → AreGiven p → Passes p → (o : Op) → IsIn o (see
 unfolding seen_of
 leaves_of p g h o q l = leave_restored p g (stable_of_parts p) h.log o q l
 
-total_of : (p : Parts) → AreGiven p → AreRanged p → length (seen_of p).text ≤ 2 ^ 63 + 4194304 * sum (vector (seen_of p))
+total_of : (p : Parts) → AreGiven p → AreRanged p → length (seen_of p).text ≤ 2 ^ 63 + IDENTIFIERS * sum (vector (seen_of p))
 unfolding seen_of
 total_of p g w = let a = total_restored p.text w.runs in let b = g.text_few in omega arith
 

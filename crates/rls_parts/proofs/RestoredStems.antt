@@ -3,6 +3,7 @@ use Rattle.std.proofs.Common.{◌≡◌, ℕ, suc, ◌<◌, ◌==◌, ◌&&◌, 
 use Rattle.std.specs.Prelude.{pos}
 use Rattle.std.specs.Int.RustNames.{int_le}
 use Rattle.std.specs.List.{list_all}
+use Rattle.rls_ident.specs.declared.limits.TheConstants.{OFFSETS_END}
 use Rattle.rls_ident.specs.Identifiers.{least_offset}
 use Rattle.rls_ident.proofs.Members.{and_left, and_right, and_true, eq_is, eq_test, le_is, lt_is, lt_test, or_left, or_right, or_split, int_le_is}
 use Rattle.rls_model.specs.declared.parts.Parts.{Parts}
@@ -22,7 +23,7 @@ stem_is p v t h =
     let d = int_le least_offset t.low in
     let e = int_le t.low (pos 0) in
     let f = nat_lt 0 t.next in
-    let g = nat_le t.next 1073741824 in
+    let g = nat_le t.next OFFSETS_END in
     let h6 = and_left (a && b && c && d && e && f) g h in
     let h5 = and_left (a && b && c && d && e) f h6 in
     let h4 = and_left (a && b && c && d) e h5 in
@@ -36,12 +37,12 @@ stem_is p v t h =
       bottom = int_le_is least_offset t.low (and_right (a && b && c) d h4);
       low = int_le_is t.low (pos 0) (and_right (a && b && c && d) e h5);
       some = lt_is 0 t.next (and_right (a && b && c && d && e) f h6);
-      end = le_is t.next 1073741824 (and_right (a && b && c && d && e && f) g h);
+      end = le_is t.next OFFSETS_END (and_right (a && b && c && d && e && f) g h);
     }
 
 -- ---- their order
 
--- the second stands behind the first
+-- the second stands after the first
 abbrev behind : Stem → Stem → Bool
 behind t u = stands_before u.author u.s0 t
 

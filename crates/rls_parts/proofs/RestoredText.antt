@@ -81,7 +81,7 @@ put_alone x c (r ∷ rs) free = ap (λ b. if b then record { run = (x, r.run.1 +
 put_before : (x : List Tuple) (c : ℕ) (r : TextRun) (rs : List TextRun) → follows r.run.0 x ≡ true → put_text (x, c) (r ∷ rs) ≡ record { run = (x, r.run.1 + 1); text = c ∷ r.text } ∷ rs
 put_before x c r rs e = ap (λ b. if b then record { run = (x, r.run.1 + 1); text = c ∷ r.text } ∷ rs else record { run = (x, 1); text = c ∷ [] } ∷ r ∷ rs) e
 
--- one run in front of others that it doesn't touch
+-- one run before others that it doesn't touch
 text_of_run : (n : ℕ) (x : List Tuple) (cs : List ℕ) (tail : Entries) (rs : List TextRun) → length cs ≡ suc n → text_runs tail ≡ rs → IsFree (shifted (pos n) x) (runs_in rs)
     → text_runs (zip (run_idents x (suc n)) cs ++ tail) ≡ record { run = (x, suc n); text = cs } ∷ rs
 text_of_run n x [] tail rs l e free = absurd (omega arith)

@@ -9,6 +9,7 @@ use Rattle.std.specs.Cmp.Lexicographic.{slice_cmp}
 use Rattle.std.proofs.lemmas.Int.{ints}
 use Rattle.std.proofs.lemmas.List.Quantifiers.{position-Some}
 use Rattle.std.proofs.lemmas.List.{length-map, map-append, get_or_append_left}
+use Rattle.rls_ident.specs.declared.limits.TheConstants.{IDENTIFIERS}
 use Rattle.rls_ident.specs.declared.tuple.Tuple.{Tuple}
 use Rattle.rls_ident.specs.declared.epoch_name.EpochName.{EpochName}
 use Rattle.rls_ident.specs.declared.epoch_name.EpochName.TheVariants.{Origin, Of}
@@ -78,7 +79,7 @@ entry_passes p f fs e c g =
     c.new (subst (λ y. IsIn y (names_of earlier)) (name_eq_is r.0.name e.name r.2) (map_in (λ (x : EpochPart). x.name) r.0 earlier r.1)))) in
     let opened : t2 ≡ true = ap (is_opened p) c.named ∙ opened_test p c.replica c.seq c.member c.begun c.counted in
     let place : t3 ≡ true = ap (is_place_below (length earlier)) c.parent ∙ lt_test c.place (length earlier) c.below in
-    let count : t4 ≡ true = and_true (nat_lt 0 (length e.former)) (nat_le (length e.former) 4194304) (lt_test 0 (length e.former) c.some) (le_test (length e.former) 4194304 c.few) in
+    let count : t4 ≡ true = and_true (nat_lt 0 (length e.former)) (nat_le (length e.former) IDENTIFIERS) (lt_test 0 (length e.former) c.some) (le_test (length e.former) IDENTIFIERS c.few) in
     let covered : t5 ≡ true = ap (λ x. is_covered_by p.stems x (length e.former)) c.named ∙ c.covered in
     and_true (t1 && t2 && t3 && t4 && t5) t6
     (and_true (t1 && t2 && t3 && t4) t5 (and_true (t1 && t2 && t3) t4 (and_true (t1 && t2) t3 (and_true t1 t2 new opened) place) count) covered) g
@@ -169,7 +170,7 @@ module _ (p : Parts) (top : EpochName) (ns : List Node) (u : EpochName) (gs : Li
   entry_name : (es : List EpochName) → names_of (map entry es) ≡ es
   entry_name es = part_names ns (u ∷ gs) es
 
-  -- ---- the node of an epoch behind the topmost
+  -- ---- the node of an epoch after the topmost
 
   other_than_u : (e : EpochName) → IsIn e gs → e ≡ u → ⊥
   other_than_u e q h = once.0 (subst (λ x. IsIn x gs) h q)
@@ -194,7 +195,7 @@ module _ (p : Parts) (top : EpochName) (ns : List Node) (u : EpochName) (gs : Li
 
   -- ---- each entry is one by the rule, but for its order
 
-  -- it stands behind its parent
+  -- it stands after its parent
   parent_place : (done rest : List EpochName) (e : EpochName) → gs ≡ done ++ e ∷ rest → Rises ns (u ∷ gs) → (x : EpochName) → IsIn x (u ∷ gs) → epoch_cmp ns x e ≡ Less → IsIn x (u ∷ done)
   parent_place done rest e is r x q l =
       let split : (u ∷ gs) ≡ (u ∷ done) ++ e ∷ rest = ap (λ xs. u ∷ xs) is in

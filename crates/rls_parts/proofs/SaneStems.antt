@@ -2,6 +2,7 @@
 use Rattle.std.proofs.Common.{◌≡◌, ℕ, suc, ◌&&◌, nat_le, nat_lt, slice_index, true, List, [], ◌∷◌, length, refl, ap, ◌∙◌, arith, inl, Option, Some, None, if◌then◌else◌}
 use Rattle.std.specs.Prelude.{pos}
 use Rattle.std.specs.Int.RustNames.{int_le}
+use Rattle.rls_ident.specs.declared.limits.TheConstants.{OFFSETS_END}
 use Rattle.rls_ident.specs.Identifiers.{least_offset}
 use Rattle.rls_ident.specs.Lists.{IsIn}
 use Rattle.rls_ident.proofs.Members.{and_true, in_all, int_le_test, le_test, lt_test}
@@ -20,7 +21,7 @@ stem_test p v t h =
     let d = int_le least_offset t.low in
     let e = int_le t.low (pos 0) in
     let f = nat_lt 0 t.next in
-    let g = nat_le t.next 1073741824 in
+    let g = nat_le t.next OFFSETS_END in
     and_true (a && b && c && d && e && f) g
     (and_true (a && b && c && d && e) f
     (and_true (a && b && c && d) e
@@ -31,7 +32,7 @@ stem_test p v t h =
     (int_le_test least_offset t.low h.bottom))
     (int_le_test t.low (pos 0) h.low))
     (lt_test 0 t.next h.some))
-    (le_test t.next 1073741824 h.end)
+    (le_test t.next OFFSETS_END h.end)
 
 pub stems_pass : (p : Parts) → length p.vector ≡ p.members → (before : Option Stem) (i : ℕ) (ts : List Stem) → AreStems p.vector ts → ((t : Stem) → IsIn t ts → stands_behind before t ≡ true) → stem_fault p before i ts ≡ None
 stems_pass p v before i [] h f = refl

@@ -1,6 +1,7 @@
 -- What is known of parts before their rules are tested.
 use Rattle.std.specs.Prelude.{◌≡◌, ℕ, suc, ◌+◌, ◌^◌, ◌<◌, ◌≤◌, List, [], ◌∷◌, length, map, All, Some, None, IsTrue}
 use Rattle.std.specs.List.{list_all}
+use Rattle.rls_ident.specs.declared.limits.TheConstants.{MEMBERS}
 use Rattle.rls_ident.specs.Lists.{IsIn}
 use Rattle.rls_runs.specs.Runs.{AreIdents, are_apart, is_run}
 use Rattle.rls_ops.specs.declared.op.Op.{Op}
@@ -42,7 +43,7 @@ AreMembersFrom low n (a ∷ ms) = (low ≤ a) × (a < n) × AreMembersFrom (suc 
 -- parts that may be tested
 pub record AreGiven (p : Parts) : Type 0 where
   pub some : 0 < p.members
-  pub few : p.members ≤ 64
+  pub few : p.members ≤ MEMBERS
   pub me : p.me < p.members
   pub vector : length p.vector ≡ p.members
   -- a row for each member but the own one

@@ -4,6 +4,7 @@ use Rattle.std.specs.Int.RustNames.{int_le}
 use Rattle.std.specs.Option.{is_some}
 use Rattle.std.specs.List.{list_all, list_any}
 use Rattle.std.specs.Ordering.{is_lt}
+use Rattle.rls_ident.specs.declared.limits.TheConstants.{IDENTIFIERS, OFFSETS_END}
 use Rattle.rls_ident.specs.declared.tuple.Tuple.{Tuple}
 use Rattle.rls_ident.specs.declared.epoch_name.EpochName.{EpochName}
 use Rattle.rls_ident.specs.declared.epoch_name.EpochName.TheVariants.{Origin, Of}
@@ -53,9 +54,9 @@ row_fault p i (row ∷ rows) = if is_row_of p.vector (member_at p.me i) row then
 abbrev pub is_stem_of : Parts → Stem → Bool
 is_stem_of p t =
     nat_lt t.author p.members && nat_lt 0 t.s0 && nat_le t.s0 (slice_index p.vector t.author)
-    && int_le least_offset t.low && int_le t.low (pos 0) && nat_lt 0 t.next && nat_le t.next 1073741824
+    && int_le least_offset t.low && int_le t.low (pos 0) && nat_lt 0 t.next && nat_le t.next OFFSETS_END
 
--- the stem stands behind the one before, where there is one, by author and number
+-- the stem stands after the one before, where there is one, by author and number
 abbrev pub stands_behind : Option Stem → Stem → Bool
 stands_behind None t = true
 stands_behind (Some before) t = stands_before t.author t.s0 before
@@ -88,7 +89,7 @@ is_place_below i (Some k) = nat_lt k i
 
 -- a rename may have so many former identifiers
 abbrev pub is_former_count : ℕ → Bool
-is_former_count n = nat_lt 0 n && nat_le n 4194304
+is_former_count n = nat_lt 0 n && nat_le n IDENTIFIERS
 
 -- the stem has used at least the first n offsets
 abbrev pub has_offsets : Option Stem → ℕ → Bool
@@ -106,7 +107,7 @@ last_name [] = Origin
 last_name (e ∷ []) = e.name
 last_name (e ∷ (f ∷ fs)) = last_name (f ∷ fs)
 
--- the entry, which stands behind these, is greater than the last of them
+-- the entry, which stands after these, is greater than the last of them
 abbrev pub is_greater : List EpochPart → EpochPart → Bool
 is_greater earlier e = is_lt (epoch_cmp (nodes_of (earlier ++ e ∷ [])) (last_name earlier) e.name)
 
@@ -116,7 +117,7 @@ is_epoch_behind p earlier e =
     is_new earlier e.name && is_opened p e.name && is_place_below (length earlier) e.parent
     && is_former_count (length e.former) && is_covered_by p.stems e.name (length e.former) && is_greater earlier e
 
--- an entry behind these
+-- an entry after these
 abbrev pub is_epoch_of : Parts → List EpochPart → EpochPart → Bool
 is_epoch_of p [] e = may_be_top p e.name
 is_epoch_of p (f ∷ fs) e = is_epoch_behind p (f ∷ fs) e
@@ -202,12 +203,12 @@ are_retained p = has_stable p && names_eq (names_of p.epochs) (retained_of_parts
 
 -- ---- rule 8: waiting operations
 
--- the operation stands behind the one before, where there is one, by author and number
+-- the operation stands after the one before, where there is one, by author and number
 abbrev pub waits_behind : Option Op → Op → Bool
 waits_behind None o = true
 waits_behind (Some before) o = comes_before before o
 
--- the operation may wait behind the one before: it has the right shape, another member made it, its number is above
+-- the operation may wait after the one before: it has the right shape, another member made it, its number is above
 -- the count, and its causes aren't all there
 abbrev pub may_wait : ℕ → ℕ → List ℕ → Option Op → Op → Bool
 may_wait members me vector before o =

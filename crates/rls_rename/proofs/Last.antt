@@ -5,7 +5,7 @@ use Rattle.rls_ident.specs.declared.tuple.Tuple.{Tuple}
 use Rattle.rls_ident.specs.declared.tuple.Tuple.TheVariants.{Low, High}
 use Rattle.rls_ident.specs.Identifiers.{IsIdent, last_of, pred}
 use Rattle.rls_ident.specs.Tuples.{tuple_cmp, at_offset}
-use Rattle.rls_rename.specs.Renaming.{IsFormer, IsNone, new_at, old_below, old_below_inverse, old_between_inverse, old_above_inverse, new_below, new_between, new_above, forward_above, forward_by, back_by, new_from}
+use Rattle.rls_rename.specs.Renaming.{IsFormer, IsNoneOf, new_at, old_below, old_below_inverse, old_between_inverse, old_above_inverse, new_below, new_between, new_above, forward_above, forward_by, back_by, new_from}
 use Rattle.rls_ident.specs.Maps.{under, low, high}
 use Rattle.rls_ident.proofs.Lists.{Lt}
 use Rattle.rls_ident.proofs.Glue.{Side, Before, Here, After, side}
@@ -63,34 +63,34 @@ last_at s n a b rest x h i l (Here q) e k = absurd (e q)
 last_at s n a b rest x h i l (After r) e k =
     ap last_of (skip b x (new_between s n (old_between_inverse a b x)) (new_at s (n + 1)) (forward_above s (n + 1) b rest x) r) ∙ k r
 
-above_kept : (s : Spot) (n : ℕ) (a : List Tuple) (rest : List (List Tuple)) (x : List Tuple) → IsFormer (a ∷ rest) → IsIdent x → Lt tuples a x → IsNone x rest → last_of (forward_above s n a rest x) ≡ last_of x
+above_kept : (s : Spot) (n : ℕ) (a : List Tuple) (rest : List (List Tuple)) (x : List Tuple) → IsFormer (a ∷ rest) → IsIdent x → Lt tuples a x → IsNoneOf x rest → last_of (forward_above s n a rest x) ≡ last_of x
 unfolding forward_above
 above_kept s n a [] x h i l e = above_last s n a x i l
 above_kept s n a (b ∷ rest) x h i l e = last_at s n a b rest x h i l (side tuples b x) e.0 (λ r. above_kept s (n + 1) b rest x h.2 i r e.1)
 
-kept_at : (s : Spot) (a : List Tuple) (rest : List (List Tuple)) (x : List Tuple) → IsFormer (a ∷ rest) → IsIdent x → Side tuples a x → IsNone x (a ∷ rest) → last_of (forward_by s (a ∷ rest) x) ≡ last_of x
+kept_at : (s : Spot) (a : List Tuple) (rest : List (List Tuple)) (x : List Tuple) → IsFormer (a ∷ rest) → IsIdent x → Side tuples a x → IsNoneOf x (a ∷ rest) → last_of (forward_by s (a ∷ rest) x) ≡ last_of x
 unfolding forward_by
 kept_at s a rest x h i (Before r) e = ap last_of (stop a x (new_below s (old_below_inverse a x)) (new_at s 0) (forward_above s 0 a rest x) r) ∙ below_last s a x (former_first a rest h) i r
 kept_at s a rest x h i (Here q) e = absurd (e.0 q)
 kept_at s a rest x h i (After r) e = ap last_of (skip a x (new_below s (old_below_inverse a x)) (new_at s 0) (forward_above s 0 a rest x) r) ∙ above_kept s 0 a rest x h i r e.1
 
-pub last_kept : (s : Spot) (former : List (List Tuple)) (x : List Tuple) → IsFormer former → IsIdent x → IsNone x former → last_of (forward_by s former x) ≡ last_of x
+pub last_kept : (s : Spot) (former : List (List Tuple)) (x : List Tuple) → IsFormer former → IsIdent x → IsNoneOf x former → last_of (forward_by s former x) ≡ last_of x
 last_kept s [] x h i e = absurd h
 last_kept s (a ∷ rest) x h i e = kept_at s a rest x h i (side tuples a x) e
 
 -- ---- back keeps it too: what back takes to a former identifier is a new one
 
-back_none : (s : Spot) (before rest : List (List Tuple)) (z : List Tuple) → IsFormer (before ++ rest) → IsIdent z → IsNone z (new_from s (length before) rest) → IsNone (back_by s (before ++ rest) z) rest
+back_none : (s : Spot) (before rest : List (List Tuple)) (z : List Tuple) → IsFormer (before ++ rest) → IsIdent z → IsNoneOf z (new_from s (length before) rest) → IsNoneOf (back_by s (before ++ rest) z) rest
 back_none s before [] z h i n = tt
 back_none s before (a ∷ rest) z h i n =
     let e : (before ++ (a ∷ [])) ++ rest ≡ before ++ (a ∷ rest) = append_assoc before (a ∷ []) rest in
     let l : length (before ++ (a ∷ [])) ≡ suc (length before) = let m = length-append before (a ∷ []) in omega arith in
-    let k = back_none s (before ++ (a ∷ [])) rest z (subst IsFormer (sym e) h) i (subst (λ m. IsNone z (new_from s m rest)) (sym l) n.1) in (
+    let k = back_none s (before ++ (a ∷ [])) rest z (subst IsFormer (sym e) h) i (subst (λ m. IsNoneOf z (new_from s m rest)) (sym l) n.1) in (
       (λ q. n.0 (sym ((forward_iso s (before ++ (a ∷ rest)) h).back z i) ∙ (ap (forward_by s (before ++ (a ∷ rest))) q ∙ forward_former s before a rest h))),
-      subst (λ f. IsNone (back_by s f z) rest) e k,
+      subst (λ f. IsNoneOf (back_by s f z) rest) e k,
     )
 
-pub last_kept_back : (s : Spot) (former : List (List Tuple)) (z : List Tuple) → IsFormer former → IsIdent z → IsNone z (new_from s 0 former) → last_of (back_by s former z) ≡ last_of z
+pub last_kept_back : (s : Spot) (former : List (List Tuple)) (z : List Tuple) → IsFormer former → IsIdent z → IsNoneOf z (new_from s 0 former) → last_of (back_by s former z) ≡ last_of z
 last_kept_back s former z h i n =
     let m = forward_iso s former h in
     sym (last_kept s former (back_by s former z) h (m.onto z i) (back_none s [] former z h i n)) ∙ ap last_of (m.back z i)

@@ -7,7 +7,7 @@ use Rattle.rls_ident.specs.Tuples.{replica_of, seq_of, offset_of}
 use Rattle.rls_ident.specs.Identifiers.{IsIdent, last_of}
 use Rattle.rls_ident.proofs.Lists.{Lt, lt_irrefl, tri}
 use Rattle.rls_ident.proofs.Tuples.{tuples}
-use Rattle.rls_rename.specs.Renaming.{Renaming, IsFormer, IsNone, new_spot, new_at, new_from, forward, back}
+use Rattle.rls_rename.specs.Renaming.{Renaming, IsFormer, IsNoneOf, new_spot, new_at, new_from, forward, back}
 use Rattle.rls_rename.specs.Tree.{Node, AreNodes, path, forward_all, back_all, translate}
 use Rattle.rls_rename.proofs.Laws.{meaning, last_kept}
 use Rattle.rls_rename.proofs.Paths.{IsAmong, AreAmong, former_among, path-among, renaming_iso, translate_is}
@@ -29,15 +29,15 @@ cons_split : (x a : List Tuple) (rest : List (List Tuple)) → (b : List (List T
 cons_split x a rest p = (a ∷ p.0, p.1, ap (λ r. a ∷ r) p.2)
 
 -- x is one of these, or none
-pub one_or_none : (x : List Tuple) (xs : List (List Tuple)) → IsNone x xs ⊎ ((b : List (List Tuple)) × (c : List (List Tuple)) × (xs ≡ b ++ (x ∷ c)))
+pub one_or_none : (x : List Tuple) (xs : List (List Tuple)) → IsNoneOf x xs ⊎ ((b : List (List Tuple)) × (c : List (List Tuple)) × (xs ≡ b ++ (x ∷ c)))
 one_or_none x [] = inl tt
 one_or_none x (a ∷ rest) = head (tri tuples x a) (one_or_none x rest)
   where
-    later : (x ≡ a → ⊥) → IsNone x rest ⊎ ((b : List (List Tuple)) × (c : List (List Tuple)) × (rest ≡ b ++ (x ∷ c))) → IsNone x (a ∷ rest) ⊎ ((b : List (List Tuple)) × (c : List (List Tuple)) × (a ∷ rest ≡ b ++ (x ∷ c)))
+    later : (x ≡ a → ⊥) → IsNoneOf x rest ⊎ ((b : List (List Tuple)) × (c : List (List Tuple)) × (rest ≡ b ++ (x ∷ c))) → IsNoneOf x (a ∷ rest) ⊎ ((b : List (List Tuple)) × (c : List (List Tuple)) × (a ∷ rest ≡ b ++ (x ∷ c)))
     later n (inl h) = inl (n, h)
     later n (inr p) = inr (cons_split x a rest p)
 
-    head : Lt tuples x a ⊎ (x ≡ a) ⊎ Lt tuples a x → IsNone x rest ⊎ ((b : List (List Tuple)) × (c : List (List Tuple)) × (rest ≡ b ++ (x ∷ c))) → IsNone x (a ∷ rest) ⊎ ((b : List (List Tuple)) × (c : List (List Tuple)) × (a ∷ rest ≡ b ++ (x ∷ c)))
+    head : Lt tuples x a ⊎ (x ≡ a) ⊎ Lt tuples a x → IsNoneOf x rest ⊎ ((b : List (List Tuple)) × (c : List (List Tuple)) × (rest ≡ b ++ (x ∷ c))) → IsNoneOf x (a ∷ rest) ⊎ ((b : List (List Tuple)) × (c : List (List Tuple)) × (a ∷ rest ≡ b ++ (x ∷ c)))
     head (inl l) r = later (λ e. lt_irrefl (subst (λ t. Lt tuples t a) e l)) r
     head (inr (inl e)) r = inr ([], rest, ap (λ t. t ∷ rest) (sym e))
     head (inr (inr l)) r = later (λ e. lt_irrefl (subst (λ t. Lt tuples a t) e l)) r
@@ -45,7 +45,7 @@ one_or_none x (a ∷ rest) = head (tri tuples x a) (one_or_none x rest)
 pub forward_in : (U : ℕ → ℕ → ℤ → Type 0) (R : Renaming) (x : List Tuple) → IsFormer R.former → IsIdent x → IsCovered U R → HasLast U x → HasLast U (forward R x)
 forward_in U R x h i c u = go (one_or_none x R.former)
   where
-    go : IsNone x R.former ⊎ ((b : List (List Tuple)) × (d : List (List Tuple)) × (R.former ≡ b ++ (x ∷ d))) → HasLast U (forward R x)
+    go : IsNoneOf x R.former ⊎ ((b : List (List Tuple)) × (d : List (List Tuple)) × (R.former ≡ b ++ (x ∷ d))) → HasLast U (forward R x)
     go (inl n) = let e = (last_kept R x h i).0 n in subst (λ t. U (replica_of t) (seq_of t) (offset_of t)) (sym e) u
     go (inr p) =
         let e : forward R x ≡ new_at (new_spot R) (length p.0) = (meaning R p.0 x x p.1 x h i).0 p.2 in
@@ -54,7 +54,7 @@ forward_in U R x h i c u = go (one_or_none x R.former)
         let l : length p.0 < length R.former = omega arith in
         subst (λ z. HasLast U z) (sym e) (c (length p.0) l)
 
-none_new : (U : ℕ → ℕ → ℤ → Type 0) (R : Renaming) (x : List Tuple) → (HasLast U x → ⊥) → (i : ℕ) (rest : List (List Tuple)) → ((j : ℕ) → j < i + length rest → U R.replica R.seq (pos j)) → IsNone x (new_from (new_spot R) i rest)
+none_new : (U : ℕ → ℕ → ℤ → Type 0) (R : Renaming) (x : List Tuple) → (HasLast U x → ⊥) → (i : ℕ) (rest : List (List Tuple)) → ((j : ℕ) → j < i + length rest → U R.replica R.seq (pos j)) → IsNoneOf x (new_from (new_spot R) i rest)
 none_new U R x n i [] c = tt
 none_new U R x n i (a ∷ rest) c =
     let l : i < i + length (a ∷ rest) = omega arith in

@@ -3,7 +3,7 @@ use Rattle.std.specs.Prelude.{ℕ, List, [], ◌∷◌, ◌++◌, length, ◌≡
 use Rattle.rls_ident.specs.declared.tuple.Tuple.{Tuple}
 use Rattle.rls_ident.specs.declared.epoch_name.EpochName.{EpochName}
 use Rattle.rls_ident.specs.Identifiers.{IsIdent, ident_cmp, last_of}
-use Rattle.rls_rename.specs.Renaming.{Renaming, IsFormer, IsNone, new_spot, new_at, new_idents, old_below, new_below, old_between, new_between, old_above, new_above, forward, back}
+use Rattle.rls_rename.specs.Renaming.{Renaming, IsFormer, IsNoneOf, new_spot, new_at, new_idents, old_below, new_below, old_between, new_between, old_above, new_above, forward, back}
 use Rattle.rls_ident.specs.Lists.{AreIn}
 use Rattle.rls_rename.specs.Tree.{Node, Epochs, is_kept, AreNodes, IsTree, IsWindow, epoch_cmp, greatest, greatest_within, translate}
 use Rattle.rls_rename.specs.Connected.{spanned, AreKept, AreConnected, AreRising}
@@ -29,7 +29,7 @@ Inverse = (R : Renaming) (x : List Tuple) → IsFormer R.former → IsIdent x �
 -- each direction keeps the last tuple of what it doesn't rename
 abbrev pub LastKept : Type 0
 LastKept = (R : Renaming) (x : List Tuple) → IsFormer R.former → IsIdent x →
-    (IsNone x R.former → last_of (forward R x) ≡ last_of x) × (IsNone x (new_idents R) → last_of (back R x) ≡ last_of x)
+    (IsNoneOf x R.former → last_of (forward R x) ≡ last_of x) × (IsNoneOf x (new_idents R) → last_of (back R x) ≡ last_of x)
 
 -- translation takes identifiers to identifiers, does not depend on the way and keeps the order
 abbrev pub PathFree : Type 0

@@ -134,6 +134,6 @@ unfoldable pub back : Renaming → List Tuple → List Tuple
 back R z = back_by (new_spot R) R.former z
 
 -- x is none of these
-abbrev pub IsNone : List Tuple → List (List Tuple) → Type 0
-IsNone x [] = Unit {0}
-IsNone x (a ∷ rest) = (x ≡ a → ⊥) × IsNone x rest
+abbrev pub IsNoneOf : List Tuple → List (List Tuple) → Type 0
+IsNoneOf x [] = Unit {0}
+IsNoneOf x (a ∷ rest) = (x ≡ a → ⊥) × IsNoneOf x rest

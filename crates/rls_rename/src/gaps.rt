@@ -1,6 +1,7 @@
 //! Fronts of runs, forward and back: as much of a run as goes along as one.
 
 ghost use Rattle.std.specs.Prelude.{◌≡◌, ◌<◌, ◌≤◌, length, IfOk, Ok, Err};
+ghost use Rattle.rls_ident.specs.declared.limits.TheConstants.{IDENTIFIERS};
 ghost use Rattle.rls_runs.specs.Runs.{place_of};
 ghost use Rattle.rls_rename.specs.Stretches.{GoesAlong, StandsAt};
 ghost use Rattle.rls_rename.specs.Renaming.{IsFormer, new_from, forward_by, back_by};
@@ -25,7 +26,7 @@ pub(crate) fn forward_front(
     run: &Run,
 ) -> Result<Stretch, AllocError>
     requires former { IsFormer former.now }
-    requires most { length former.now ≤ 4194304 }
+    requires most { length former.now ≤ IDENTIFIERS }
     ensures forward { IfOk result (λ z. GoesAlong (forward_by first former.now) run.now.0 run.now.1 z.first z.len) }
 {
     match former.find(run.first()) {
@@ -37,7 +38,7 @@ pub(crate) fn forward_front(
 // Forward of a run that begins with the former identifier at this place, to the end of the former run.
 fn forward_former(alloc: Global, former: &Runs, first: Spot, i: u64, run: &Run) -> Stretch
     requires former { IsFormer former.now }
-    requires most { length former.now ≤ 4194304 }
+    requires most { length former.now ≤ IDENTIFIERS }
     requires place { place_of run.now.0 former.now ≡ Ok i }
     ensures forward { GoesAlong (forward_by first former.now) run.now.0 run.now.1 result.first result.len }
 {
@@ -57,7 +58,7 @@ fn forward_gap(
     run: &Run,
 ) -> Result<Stretch, AllocError>
     requires former { IsFormer former.now }
-    requires most { length former.now ≤ 4194304 }
+    requires most { length former.now ≤ IDENTIFIERS }
     requires gap { place_of run.now.0 former.now ≡ Err gap }
     ensures forward { IfOk result (λ z. GoesAlong (forward_by first former.now) run.now.0 run.now.1 z.first z.len) }
 {
@@ -81,7 +82,7 @@ fn forward_gap(
 #[tactic(auto, using(crate::proofs::GapImages::new_run))]
 fn new_place(alloc: Global, former: &Runs, first: Spot, id: &Ident) -> Result<u64, u64>
     requires former { IsFormer former.now }
-    requires most { length former.now ≤ 4194304 }
+    requires most { length former.now ≤ IDENTIFIERS }
     ensures place { result ≡ place_of id.now (new_from first 0 former.now) }
 {
     let Ok(run) = Run::new(new_at(alloc, first, 0), former.total() as u32) else {
@@ -101,7 +102,7 @@ pub(crate) fn back_front(
     run: &Run,
 ) -> Result<Stretch, AllocError>
     requires former { IsFormer former.now }
-    requires most { length former.now ≤ 4194304 }
+    requires most { length former.now ≤ IDENTIFIERS }
     ensures back { IfOk result (λ x. GoesAlong (back_by first former.now) run.now.0 run.now.1 x.first x.len) }
 {
     match new_place(alloc, former, first, run.first()) {
@@ -132,7 +133,7 @@ fn back_gap(
     run: &Run,
 ) -> Result<Stretch, AllocError>
     requires former { IsFormer former.now }
-    requires most { length former.now ≤ 4194304 }
+    requires most { length former.now ≤ IDENTIFIERS }
     requires gap { place_of run.now.0 (new_from first 0 former.now) ≡ Err gap }
     ensures back { IfOk result (λ x. GoesAlong (back_by first former.now) run.now.0 run.now.1 x.first x.len) }
 {

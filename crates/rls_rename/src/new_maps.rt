@@ -2,6 +2,7 @@
 
 ghost use Rattle.std.specs.Prelude.{◌≡◌, ◌+◌, ◌<◌, IfOk, IsTrue, pos, negsuc};
 ghost use Rattle.std.specs.declared.cmp.Ordering.TheVariants.{Less};
+ghost use Rattle.rls_ident.specs.declared.limits.TheConstants.{IDENTIFIERS};
 ghost use Rattle.rls_ident.specs.Tuples.{at_offset};
 ghost use Rattle.rls_ident.specs.Identifiers.{ident_cmp, is_inner_bounded};
 ghost use Rattle.rls_rename.specs.Stretches.{GoesAlong};
@@ -14,7 +15,7 @@ use std::alloc::{AllocError, Global};
 
 // The new identifier at a place, by the tuple of the first one.
 pub(crate) fn new_at(alloc: Global, first: Spot, i: u64) -> Ident
-    requires place { i < 4194304 }
+    requires place { i < IDENTIFIERS }
     ensures new { result ≡ new_at first i }
 {
     Ident::ending(
@@ -28,7 +29,7 @@ pub(crate) fn new_at(alloc: Global, first: Spot, i: u64) -> Ident
 
 // Its tuple.
 fn tuple_at(first: Spot, i: u64) -> Tuple
-    requires place { i < 4194304 }
+    requires place { i < IDENTIFIERS }
     ensures tuple { result ≡ at_offset first (pos i) }
     ensures inner { IsTrue (is_inner_bounded result) }
 {
@@ -62,7 +63,7 @@ pub(crate) fn new_below(first: Spot, y: Stretch) -> Result<Stretch, AllocError>
 
 // The new map between two neighbours.
 pub(crate) fn new_between(first: Spot, i: u64, y: Stretch) -> Result<Stretch, AllocError>
-    requires place { i < 4194304 }
+    requires place { i < IDENTIFIERS }
     ensures new { IfOk result (λ z. GoesAlong (new_between first i) y.first y.len z.first z.len) }
 {
     y.prefixed(&[tuple_at(first, i)])
@@ -70,7 +71,7 @@ pub(crate) fn new_between(first: Spot, i: u64, y: Stretch) -> Result<Stretch, Al
 
 // The new map above the last one.
 pub(crate) fn new_above(first: Spot, i: u64, y: Stretch) -> Result<Stretch, AllocError>
-    requires place { i < 4194304 }
+    requires place { i < IDENTIFIERS }
     ensures new { IfOk result (λ z. GoesAlong (new_above first i) y.first y.len z.first z.len) }
 {
     low(&[tuple_at(first, i)], y)
@@ -88,7 +89,7 @@ pub(crate) fn new_below_inverse(first: Spot, z: Stretch) -> Result<Stretch, Allo
 // The inverse of the new map between the neighbours at the places i and i + 1.
 #[tactic(auto, using(crate::proofs::Patterns::new_between_longer))]
 pub(crate) fn new_between_inverse(first: Spot, i: u64, z: Stretch) -> Result<Stretch, AllocError>
-    requires place { i < 4194304 }
+    requires place { i < IDENTIFIERS }
     requires above { ident_cmp (new_at first i) z.first ≡ Less }
     requires below { ident_cmp z.first (new_at first (i + 1)) ≡ Less }
     ensures new { IfOk result (λ y. GoesAlong new_between_inverse z.first z.len y.first y.len) }
@@ -99,7 +100,7 @@ pub(crate) fn new_between_inverse(first: Spot, i: u64, z: Stretch) -> Result<Str
 
 // The inverse of the new map above the last one.
 pub(crate) fn new_above_inverse(first: Spot, i: u64, z: Stretch) -> Result<Stretch, AllocError>
-    requires place { i < 4194304 }
+    requires place { i < IDENTIFIERS }
     requires less { ident_cmp (new_at first i) z.first ≡ Less }
     ensures new { IfOk result (λ y. GoesAlong (new_above_inverse first i) z.first z.len y.first y.len) }
 {

@@ -1,6 +1,7 @@
 //! Renamings.
 
 ghost use Rattle.std.specs.Prelude.{◌≡◌, ℕ, ◌<◌, ◌≤◌, length, List, ◌∷◌, IfOk, IfSome, IfNone, IsErrOf, ◌↔◌};
+ghost use Rattle.rls_ident.specs.declared.limits.TheConstants.{IDENTIFIERS};
 ghost use Rattle.rls_ident.specs.declared.tuple.Tuple.{Tuple};
 ghost use Rattle.rls_runs.specs.Runs.{IsImage};
 ghost use Rattle.rls_rename.specs.Renaming.{IsFormer, first_pos, forward, back};
@@ -10,13 +11,11 @@ ghost use Rattle.rls_rename.specs.Ways.{renamed};
 use crate::gaps::{back_front, forward_front};
 use crate::images::Image;
 use crate::stretch::Stretch;
+use rls_ident::limits::IDENTIFIERS;
 use rls_ident::{Ident, Spot, Tuple};
 use rls_runs::{Run, RunList, Runs};
 use std::alloc::{AllocError, Global};
 use std::marker::Model;
-
-/// The greatest number of former identifiers.
-pub const MOST_FORMER: u64 = 4_194_304;
 
 /// The former identifiers of a rename, with the rename's author and number.
 #[derive(Drop)]
@@ -29,13 +28,14 @@ pub struct Renaming {
 
 impl Model for Renaming {
     ghost use Rattle.std.specs.Prelude.{◌≡◌, ◌≤◌, length, pos};
+    ghost use Rattle.rls_ident.specs.declared.limits.TheConstants.{IDENTIFIERS};
     ghost use Rattle.rls_rename.specs.Renaming.{Renaming, IsFormer, new_pos};
 
     ghost Value = { Renaming };
 
     ghost view = { λ a. record { former = a.former; replica = a.first.replica; seq = a.first.seq } };
 
-    ghost invariant = { λ a. IsFormer a.former × (length a.former ≤ 4194304) × (a.first.pos ≡ new_pos a.former) × (a.first.offset ≡ pos 0) };
+    ghost invariant = { λ a. IsFormer a.former × (length a.former ≤ IDENTIFIERS) × (a.first.pos ≡ new_pos a.former) × (a.first.offset ≡ pos 0) };
 }
 
 /// Why there is no such renaming.
@@ -70,13 +70,13 @@ impl Renaming {
     ) -> Result<Renaming, RenamingError>
         ensures ok { IfOk result (λ renaming. renaming ≡ record { former = former; replica = replica; seq = seq }) }
         ensures empty { IsErrOf result RenamingError.EmptyList ↔ (length former ≡ 0) }
-        ensures too_many { (total : ℕ) → (IsErrOf result (RenamingError.TooMany total) ↔ ((length former ≡ total) × (4194304 < total))) }
+        ensures too_many { (total : ℕ) → (IsErrOf result (RenamingError.TooMany total) ↔ ((length former ≡ total) × (IDENTIFIERS < total))) }
     {
         let total = former.total();
         if total == 0 {
             return Err(RenamingError::EmptyList);
         }
-        if total > MOST_FORMER {
+        if total > IDENTIFIERS {
             return Err(RenamingError::TooMany { total });
         }
         let pos = first_pos(former.run(0).first());
@@ -97,7 +97,7 @@ impl Renaming {
     pub fn total(&self) -> u64
         ensures total { result ≡ length self.now.former }
         ensures some { 0 < result }
-        ensures most { result ≤ 4194304 }
+        ensures most { result ≤ IDENTIFIERS }
         ensures former { IsFormer self.now.former }
     {
         self.former.total()

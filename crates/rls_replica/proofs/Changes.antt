@@ -2,6 +2,7 @@
 use Rattle.std.proofs.Common.{◌≡◌, ◌∙◌, ℕ, ◌+◌, ◌^◌, ◌<◌, ◌≤◌, false, List, length, map, IsSome, refl, sym, ap, subst, arith, nat_lt}
 use Rattle.std.specs.Prelude.{pos, ◌+ℤ◌}
 use Rattle.std.specs.Ordering.{is_lt}
+use Rattle.rls_ident.specs.declared.limits.TheConstants.{CHARACTERS, IDENTIFIERS}
 use Rattle.rls_ident.specs.declared.tuple.Tuple.{Tuple}
 use Rattle.rls_ident.specs.declared.epoch_name.EpochName.{EpochName}
 use Rattle.rls_ident.specs.Identifiers.{ident_cmp, last_of, greatest_offset}
@@ -49,7 +50,7 @@ pub insert_may : (s : Seen) (o : Op) (first : List Tuple) (text : List ℕ) → 
 insert_may s o first text sane m e =
     let f = facts s o m in
     let z : is_empty (Insert first text) ≡ false = ap is_empty (sym e) ∙ f.shaped.some in
-    let few : length text ≤ 1048576 = not_lt_is 1048576 (length text) (ap (λ b. nat_lt (body_limit b) (body_len b)) (sym e) ∙ f.shaped.few) in
+    let few : length text ≤ CHARACTERS = not_lt_is CHARACTERS (length text) (ap (λ b. nat_lt (body_limit b) (body_len b)) (sym e) ∙ f.shaped.few) in
     let p : passes_end (Insert first text) ≡ false = ap passes_end (sym e) ∙ f.shaped.room in
     let new = newborn s o first text sane m e in
     let room = total_room s sane in
@@ -77,7 +78,7 @@ rename_may s o former sane m e =
       fresh = name_new s o sane f;
       body = e;
       are_former = former_of former some b;
-      few = not_lt_is 4194304 (length former) (ap (λ b. nat_lt (body_limit b) (body_len b)) (sym e) ∙ f.shaped.few);
+      few = not_lt_is IDENTIFIERS (length former) (ap (λ b. nat_lt (body_limit b) (body_len b)) (sym e) ∙ f.shaped.few);
     }
 
 -- ---- what takes no memory
@@ -90,10 +91,10 @@ newest s o sane m t p e =
     let c : t.s0 ≤ count_over s o.author = subst (λ a. t.s0 ≤ count_over s a) e i.counted in
     omega arith
 
-brief_go : (b : Body) → nat_lt (body_limit b) (body_len b) ≡ false → body_len b ≤ 4194304
-brief_go (Insert first text) h = let l = not_lt_is 1048576 (length text) h in omega arith
-brief_go (Delete targets) h = not_lt_is 4194304 (length targets) h
-brief_go (Rename former) h = not_lt_is 4194304 (length former) h
+brief_go : (b : Body) → nat_lt (body_limit b) (body_len b) ≡ false → body_len b ≤ IDENTIFIERS
+brief_go (Insert first text) h = let l = not_lt_is CHARACTERS (length text) h in omega arith
+brief_go (Delete targets) h = not_lt_is IDENTIFIERS (length targets) h
+brief_go (Rename former) h = not_lt_is IDENTIFIERS (length former) h
 brief_go Leave h = omega arith
 
 pub brief : (s : Seen) (o : Op) → MayApply s o → body_len o.body < 2 ^ 31

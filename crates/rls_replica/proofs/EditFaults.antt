@@ -1,5 +1,6 @@
 -- Faults of edits, told before the operation is made and from its size.
 use Rattle.std.proofs.Common.{◌≡◌, ◌==◌, ◌+◌, length, Bool, true, false, refl, ap, subst, Option, Some, None, if◌then◌else◌}
+use Rattle.rls_ident.specs.declared.limits.TheConstants.{GREATEST_NUMBER}
 use Rattle.rls_ops.specs.declared.op.Op.{Op}
 use Rattle.rls_ops.specs.Rows.{left}
 use Rattle.rls_ops.specs.Sizes.{op_size}
@@ -41,12 +42,12 @@ early false None false z e h = absurd (cc)
 pub late_fault : (s : Seen) (edit : Edit) (o : Op) → o ≡ made_over s edit → early_fault s edit ≡ None → edit_fault_over s edit ≡ size_fault (op_size o)
 unfolding edit_fault_over
 late_fault s edit o e h =
-    subst (λ (p : Op). (if left s.acks s.acks.me then Some errors.Left else or_fault (range_fault (length (idents_over s)) edit) (if own_count s == 4294967295 then Some NumbersSpent else size_fault (op_size p))) ≡ size_fault (op_size o)) e
-    (late (left s.acks s.acks.me) (range_fault (length (idents_over s)) edit) (own_count s == 4294967295) (size_fault (op_size o)) h)
+    subst (λ (p : Op). (if left s.acks s.acks.me then Some errors.Left else or_fault (range_fault (length (idents_over s)) edit) (if own_count s == GREATEST_NUMBER then Some NumbersSpent else size_fault (op_size p))) ≡ size_fault (op_size o)) e
+    (late (left s.acks s.acks.me) (range_fault (length (idents_over s)) edit) (own_count s == GREATEST_NUMBER) (size_fault (op_size o)) h)
 
 pub told_early : (s : Seen) (edit : Edit) (e : EditError) → early_fault s edit ≡ Some e → edit_fault_over s edit ≡ Some e
 unfolding edit_fault_over
-told_early s edit e h = early (left s.acks s.acks.me) (range_fault (length (idents_over s)) edit) (own_count s == 4294967295) (size_fault (op_size (made_over s edit))) e h
+told_early s edit e h = early (left s.acks s.acks.me) (range_fault (length (idents_over s)) edit) (own_count s == GREATEST_NUMBER) (size_fault (op_size (made_over s edit))) e h
 
 -- a fault of the size is one of the edit
 pub late_is : (s : Seen) (edit : Edit) (o : Op) (e : EditError) → o ≡ made_over s edit → early_fault s edit ≡ None → IsFault e (size_fault (op_size o)) → IsFault e (edit_fault_over s edit)

@@ -1,6 +1,7 @@
 -- Why a leave is refused.
 use Rattle.std.proofs.Common.{◌≡◌, ℕ, ◌≤◌, ◌==◌, Bool, true, false, subst, Option, Some, None, if◌then◌else◌, arith}
 use Rattle.std.specs.Prelude.{nat_lt}
+use Rattle.rls_ident.specs.declared.limits.TheConstants.{MEMBERS, OPERATION_BYTES, GREATEST_NUMBER}
 use Rattle.rls_ident.specs.declared.epoch_name.EpochName.{EpochName}
 use Rattle.rls_ident.specs.declared.epoch_name.EpochName.TheVariants.{Origin, Of}
 use Rattle.rls_ident.proofs.Members.{bool_cases, lt_is}
@@ -19,11 +20,11 @@ short_name : (e : EpochName) → name_size e ≤ 9
 short_name Origin = omega arith
 short_name (Of r q) = omega arith
 
-no_fault : (n : ℕ) → n ≤ 16777216 → size_fault n ≡ None
-no_fault n h = bool_cases (nat_lt 16777216 n) (λ q. absurd (omega (arith, lt_is 16777216 n q))) (λ q. rw q)
+no_fault : (n : ℕ) → n ≤ OPERATION_BYTES → size_fault n ≡ None
+no_fault n h = bool_cases (nat_lt OPERATION_BYTES n) (λ q. absurd (omega (arith, lt_is OPERATION_BYTES n q))) (λ q. rw q)
 
 -- the operation of a leave isn't too large
-small : (s : Seen) → members s ≤ 64 → size_fault (op_size (made_over s edits.Leave)) ≡ None
+small : (s : Seen) → members s ≤ MEMBERS → size_fault (op_size (made_over s edits.Leave)) ≡ None
 unfolding made_over
 small s m = let n = short_name (greatest_over s) in no_fault (op_size (made_over s edits.Leave)) (omega arith)
 
@@ -32,12 +33,12 @@ by_tests true n z e none h = let q : errors.Left ≡ e = cc in subst IsLeaveFaul
 by_tests false true z e none h = let q : NumbersSpent ≡ e = cc in subst IsLeaveFault q tt
 by_tests false false z e none h = absurd (cc)
 
-told : (s : Seen) (e : EditError) → members s ≤ 64 → edit_fault_over s edits.Leave ≡ Some e → IsLeaveFault e
+told : (s : Seen) (e : EditError) → members s ≤ MEMBERS → edit_fault_over s edits.Leave ≡ Some e → IsLeaveFault e
 unfolding edit_fault_over
-told s e m h = by_tests (left s.acks s.acks.me) (own_count s == 4294967295) (size_fault (op_size (made_over s edits.Leave))) e (small s m) h
+told s e m h = by_tests (left s.acks s.acks.me) (own_count s == GREATEST_NUMBER) (size_fault (op_size (made_over s edits.Leave))) e (small s m) h
 
 -- a fault of a leave
-pub leave_fault : (s : Seen) (e : EditError) → members s ≤ 64 → IsFault e (edit_fault_over s edits.Leave) → IsLeaveFault e
+pub leave_fault : (s : Seen) (e : EditError) → members s ≤ MEMBERS → IsFault e (edit_fault_over s edits.Leave) → IsLeaveFault e
 leave_fault s errors.Left m f = tt
 leave_fault s NumbersSpent m f = tt
 leave_fault s OutOfMemory m f = tt

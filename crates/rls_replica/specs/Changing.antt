@@ -1,5 +1,6 @@
 -- What is known where an operation is accepted, and what it adds.
 use Rattle.std.specs.Prelude.{◌≡◌, ◌+◌, ℕ, ◌<◌, ◌≤◌, ◌^◌, pos, ◌+ℤ◌, ◌≤ℤ◌, Option, Some, None, List, [], length, map, IsTrue, IsFalse}
+use Rattle.rls_ident.specs.declared.limits.TheConstants.{CHARACTERS, IDENTIFIERS}
 use Rattle.rls_ident.specs.declared.tuple.Tuple.{Tuple}
 use Rattle.rls_ident.specs.declared.epoch_name.EpochName.{EpochName}
 use Rattle.rls_ident.specs.declared.epoch_name.EpochName.TheVariants.{Of}
@@ -59,7 +60,7 @@ renamed_from nodes e f R x = forward R (translate nodes e f x)
 pub record MayInsert (E : Epochs) (es : Entries) (e : EpochName) (first : List Tuple) (text : List ℕ) : Type 0 where
   pub kept : IsTrue (is_kept E.top E.nodes e)
   pub some : 0 < length text
-  pub few : length text ≤ 1048576
+  pub few : length text ≤ CHARACTERS
   pub end : (offset_of (last_of first) +ℤ pos (length text)) ≤ℤ past_offsets
   pub idents : AreIdents (map (translate E.nodes e (greatest E.top E.nodes)) (run_idents first (length text)))
   pub new : (x : List Tuple) → IsIn x (map (translate E.nodes e (greatest E.top E.nodes)) (run_idents first (length text))) → IsIn x (idents_in es) → ⊥
@@ -72,4 +73,4 @@ pub record MayRename (E : Epochs) (o : Op) (former : List (List Tuple)) : Type 0
   pub fresh : IsFalse (is_kept E.top E.nodes (Of o.author o.seq))
   pub body : o.body ≡ Rename former
   pub are_former : IsFormer former
-  pub few : length former ≤ 4194304
+  pub few : length former ≤ IDENTIFIERS

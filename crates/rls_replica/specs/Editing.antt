@@ -1,5 +1,6 @@
 -- What is told of edits beside their operations.
 use Rattle.std.specs.Prelude.{◌≡◌, ℕ, ◌+◌, pos, ◌+ℤ◌, ◌≤ℤ◌, List, [], ◌∷◌, ◌++◌, length, take, drop, ◌==◌, Option, Some, None, if◌then◌else◌}
+use Rattle.rls_ident.specs.declared.limits.TheConstants.{GREATEST_NUMBER, OFFSETS_END}
 use Rattle.rls_ident.specs.declared.tuple.Tuple.{Tuple}
 use Rattle.rls_ident.specs.declared.tuple.Tuple.TheVariants.{At}
 use Rattle.rls_ident.specs.Identifiers.{last_of}
@@ -17,7 +18,7 @@ use Rattle.rls_seen.specs.Seen.{Seen, own_count, idents_over, text_over}
 
 -- the member's numbers are spent
 abbrev pub spent_fault : Seen → Option EditError
-spent_fault s = if own_count s == 4294967295 then Some errors.NumbersSpent else None
+spent_fault s = if own_count s == GREATEST_NUMBER then Some errors.NumbersSpent else None
 
 -- the first fault of an edit that is told before its operation is made
 abbrev pub early_fault : Seen → Edit → Option EditError
@@ -45,7 +46,7 @@ pub record IsOwnRun (s : Seen) (first : List Tuple) (n : ℕ) : Type 0 where
 
 -- n offsets from that of this identifier on are within the format's range
 abbrev pub HasRoom : List Tuple → ℕ → Type 0
-HasRoom first n = (offset_of (last_of first) +ℤ pos n) ≤ℤ pos 1073741824
+HasRoom first n = (offset_of (last_of first) +ℤ pos n) ≤ℤ pos OFFSETS_END
 
 -- the text is such a run, from offset 0 on in the stem that the next own operation begins
 abbrev pub IsOneRun : Seen → Seen → Type 0

@@ -1,6 +1,7 @@
 //! How an operation is accepted: first all that may want memory, of which the change of the text is the last step, and then the rest.
 
 ghost use Rattle.std.specs.Prelude.{◌≡◌, ◌+◌, ◌-◌, ◌<◌, ◌≤◌, ◌^◌, ◌++◌, ◌∷◌, [], pos, ◌+ℤ◌, ◌≤ℤ◌, IsSome, IfOk, OnOk, OnErr, IsTrue, length, map, slice_index, zip, None, IsSomeAnd};
+ghost use Rattle.rls_ident.specs.declared.limits.TheConstants.{IDENTIFIERS};
 ghost use Rattle.rls_ident.specs.Identifiers.{last_of};
 ghost use Rattle.rls_ident.specs.Tuples.{offset_of};
 ghost use Rattle.rls_runs.specs.Entries.{put_all, without_all};
@@ -220,7 +221,7 @@ fn rename(
 
 fn renaming_of(alloc: Global, op: &Op, former: &Runs) -> Result<Renaming, AllocError>
     requires some { 0 < length former.now }
-    requires few { length former.now ≤ 4194304 }
+    requires few { length former.now ≤ IDENTIFIERS }
     ensures renaming { IfOk result (λ renaming. renaming ≡ renaming_of op.now former.now) }
 {
     match Renaming::new(alloc, former.copy()?, op.author, op.seq) {

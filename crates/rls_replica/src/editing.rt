@@ -1,6 +1,7 @@
 //! What the member itself does.
 
 ghost use Rattle.std.specs.Prelude.{◌≡◌, ℕ, List, ◌+◌, ◌-◌, ◌<◌, ◌≤◌, ◌^◌, ◌≢◌, length, slice_get, Some, None, IfOk, IfErr, OnOk, OnErr};
+ghost use Rattle.rls_ident.specs.declared.limits.TheConstants.{GREATEST_NUMBER};
 ghost use Rattle.rls_ident.specs.declared.tuple.Tuple.{Tuple};
 ghost use Rattle.rls_ops.specs.Sizes.{op_size};
 ghost use Rattle.rls_model.specs.declared.edit.Edit.TheVariants.{Insert, Delete, Rename, Leave};
@@ -17,18 +18,10 @@ ghost use Rattle.rls_replica.specs.Editing.{early_fault, edited_text, IsLeaveFau
 use crate::replica::Replica;
 use rls_doc::Document;
 use rls_ident::Ident;
+use rls_ident::limits::{CHARACTERS, GREATEST_NUMBER, IDENTIFIERS, OPERATION_BYTES};
 use rls_model::{Edit, EditError};
 use rls_ops::{Body, Op};
 use std::alloc::AllocError;
-
-/// The most characters that an insertion may have.
-const CHARACTERS: u64 = 1_048_576;
-
-/// The most characters that a deletion or a rename may have.
-const IDENTIFIERS: u64 = 4_194_304;
-
-/// The most bytes that an operation may have.
-const BYTES: u64 = 16_777_216;
 
 impl Replica {
     /// Performs an edit of this member: makes its operation, accepts it, and answers its number. After an error the replica is as
@@ -131,7 +124,7 @@ impl Replica {
             return Err(EditError::Left);
         }
         check_range(self.total(), edit)?;
-        if self.own_count() == u32::MAX {
+        if self.own_count() == GREATEST_NUMBER {
             return Err(EditError::NumbersSpent);
         }
         Ok(())
@@ -181,7 +174,7 @@ impl Replica {
         requires place { at ≤ length self.now.text }
         requires some { 0 < count }
         requires brief { count < 2 ^ 31 }
-        requires unspent { own_count self.now ≢ 4294967295 }
+        requires unspent { own_count self.now ≢ GREATEST_NUMBER }
         ensures first { IfOk result (λ x. x ≡ first_between self.now.stems self.now.acks.me (own_count self.now + 1) (get_before (idents_over self.now) at) (slice_get (idents_over self.now) at) count) }
     {
         let left = self.ident_before(at)?;
@@ -311,7 +304,7 @@ fn check_size(op: &Op) -> Result<(), EditError>
     if bytes == u64::MAX {
         return Err(EditError::OutOfMemory);
     }
-    if bytes > BYTES {
+    if bytes > OPERATION_BYTES {
         return Err(EditError::OpTooLarge { bytes });
     }
     Ok(())

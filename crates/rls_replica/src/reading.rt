@@ -1,6 +1,7 @@
 //! What a replica tells of itself.
 
 ghost use Rattle.std.specs.Prelude.{◌≡◌, ◌+◌, ◌-◌, ◌^◌, ◌<◌, ◌≤◌, length, take, drop, slice_get, Some, IfOk};
+ghost use Rattle.rls_ident.specs.declared.limits.TheConstants.{MEMBERS};
 ghost use Rattle.rls_ops.specs.Rows.{left};
 ghost use Rattle.rls_runs.specs.Runs.{place_of};
 ghost use Rattle.rls_tree.specs.Trees.{entries_of};
@@ -40,7 +41,7 @@ impl Replica {
     pub fn members(&self) -> u32
         ensures members { result ≡ members self.now }
         ensures some { 0 < result }
-        ensures few { result ≤ 64 }
+        ensures few { result ≤ MEMBERS }
     {
         self.acks.mine().len() as u32
     }

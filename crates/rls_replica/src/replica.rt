@@ -1,6 +1,7 @@
 //! What a replica consists of, and its start.
 
 ghost use Rattle.std.specs.Prelude.{◌≡◌, ◌<◌, ◌≤◌, ◌↔◌, ℕ, [], length, IfOk, IsErrOf};
+ghost use Rattle.rls_ident.specs.declared.limits.TheConstants.{MEMBERS};
 ghost use Rattle.rls_ops.specs.Rows.{counts};
 ghost use Rattle.rls_model.specs.History.{Fresh};
 ghost use Rattle.rls_model.specs.Receiving.{State};
@@ -15,15 +16,13 @@ ghost use Rattle.rls_replica.specs.Names.{KeepsNames};
 
 use rls_causal::Held;
 use rls_epoch::Epochs;
+use rls_ident::limits::MEMBERS;
 use rls_ident::{EpochName, Vector};
 use rls_stable::{Acks, Log};
 use rls_stems::StemTable;
 use rls_tree::BlockTree;
 use std::alloc::{AllocError, Global};
 use std::marker::Model;
-
-/// The most members that a group may have.
-const MOST_MEMBERS: u32 = 64;
 
 /// What one member of a group has of the text: the text with its identifiers, what each member is known to have accepted, the
 /// operations and the epochs that are kept, and the operations that wait. It is seen as these parts.
@@ -87,7 +86,7 @@ impl Replica {
         // It stands for the history in which nothing has happened.
         ensures stands { IfOk result (λ r. StandsFor r (record { history = Fresh group me members; waiting = [] })) }
     {
-        if members == 0 || members > MOST_MEMBERS {
+        if members == 0 || members > MEMBERS {
             return Err(NewError::Members { members });
         }
         if me >= members {
@@ -100,7 +99,7 @@ impl Replica {
     // The same, where the numbers are right.
     fn start(alloc: Global, group: u64, me: u32, members: u32) -> Result<Replica, AllocError>
         requires me { me < members }
-        requires few { members ≤ 64 }
+        requires few { members ≤ MEMBERS }
         ensures fresh { IfOk result (λ r. r ≡ fresh group me members) }
         ensures stands { IfOk result (λ r. StandsFor r (record { history = Fresh group me members; waiting = [] })) }
     {

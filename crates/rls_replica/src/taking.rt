@@ -1,6 +1,7 @@
 //! Messages, sent and taken.
 
 ghost use Rattle.std.specs.Prelude.{◌≡◌, ◌+◌, ◌-◌, ◌^◌, ◌<◌, ◌≤◌, ◌↔◌, ◌∷◌, [], List, ℕ, length, Some, None, is_some, IfOk, OnOk, OnErr, IsErrOf};
+ghost use Rattle.rls_ident.specs.declared.limits.TheConstants.{MEMBERS};
 ghost use Rattle.rls_ops.specs.declared.op.Op.{Op};
 ghost use Rattle.rls_ops.specs.Sizes.{head_size};
 ghost use Rattle.rls_model.specs.Answers.{answer_of};
@@ -18,12 +19,10 @@ ghost use Rattle.rls_replica.specs.Names.{KeepsNames};
 ghost use Rattle.rls_replica.specs.Faults.{IsForeign};
 
 use crate::replica::Replica;
+use rls_ident::limits::INPUT_BYTES;
 use rls_model::{Receipt, Refusals, Release, Taken};
 use rls_ops::{Message, Op, Ops};
 use std::alloc::{AllocError, Global};
-
-/// The most bytes that a message has.
-const MOST_BYTES: u64 = 67_108_864;
 
 /// Why there is no message for a member.
 #[derive(Clone, Copy, Debug, PartialEq, Eq)]
@@ -202,7 +201,7 @@ impl Replica {
         }
         let mut known = self.acks.row(to).copy()?;
         known.join_in(self.acks.stable());
-        let room = MOST_BYTES - head_len(members);
+        let room = INPUT_BYTES - head_len(members);
         let message = Message {
             group: self.group,
             members,
@@ -216,7 +215,7 @@ impl Replica {
 
 // How many bytes a message has beside its operations.
 fn head_len(members: u32) -> u64
-    requires few { members ≤ 64 }
+    requires few { members ≤ MEMBERS }
     ensures size { result ≡ head_size members }
 {
     25 + 4 * members as u64

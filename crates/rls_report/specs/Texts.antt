@@ -11,7 +11,7 @@ use Rattle.rls_ident.specs.declared.epoch_name.EpochName.TheVariants.{Origin, Of
 abbrev pub line : List (List ℕ) → List ℕ
 line pieces = concat (pieces ++ codes "\n" ∷ [])
 
--- each number behind a space
+-- each number after a space
 abbrev pub spaced : List ℕ → List ℕ
 spaced numbers = flat_map (λ n. 32 ∷ decimal n) numbers
 

@@ -1,8 +1,9 @@
 -- The tree of epochs grows entry by entry.
-use Rattle.std.proofs.Common.{◌≡◌, ℕ, zero, suc, ◌+◌, ◌-◌, ◌*◌, ◌^◌, ◌<◌, ◌≤◌, ◌&&◌, not, Bool, true, false, List, [], ◌∷◌, ◌++◌, length, get_or, take, drop, refl, sym, ap, ◌∙◌, subst, arith, inl, inr, Option, Some, None, append-nil, append_assoc, length-append}
+use Rattle.std.proofs.Common.{◌≡◌, ℕ, zero, suc, ◌+◌, ◌-◌, ◌*◌, ◌^◌, ◌<◌, ◌≤◌, ◌&&◌, not, Bool, true, false, List, [], ◌∷◌, ◌++◌, length, get_or, take, drop, refl, sym, ap, ◌∙◌, subst, arith, inl, inr, Some, None, append-nil, append_assoc, length-append}
 use Rattle.std.specs.Prelude.{slice_get, sum_by, if◌then◌else◌}
 use Rattle.std.specs.List.{list_any}
 use Rattle.std.specs.Ordering.{is_lt}
+use Rattle.rls_ident.specs.declared.limits.TheConstants.{IDENTIFIERS}
 use Rattle.rls_ident.specs.declared.epoch_name.EpochName.{EpochName}
 use Rattle.rls_ident.specs.declared.epoch_name.EpochName.TheVariants.{Of}
 use Rattle.rls_ident.specs.EpochNames.{name_eq}
@@ -115,17 +116,17 @@ pub record MayAdd (p : Parts) (i : ℕ) (E : Epochs) (e : EpochPart) : Type 0 wh
   pub below : place < i
   pub fresh : is_kept E.top E.nodes (Of replica seq) ≡ false
   pub kept : is_kept E.top E.nodes (name_or_origin (slice_get p.epochs place)) ≡ true
-  pub total : sum_by (λ (n : Node). length n.renaming.former) E.nodes + length e.former ≤ suc i * 4194304
+  pub total : sum_by (λ (n : Node). length n.renaming.former) E.nodes + length e.former ≤ suc i * IDENTIFIERS
   pub grown : IsTreeBefore p (i + 1) (record { top = E.top; nodes = record { parent = name_or_origin (slice_get p.epochs place); renaming = record { former = e.former; replica = replica; seq = seq } } ∷ E.nodes })
 
-sum_before : (p : Parts) (i : ℕ) (E : Epochs) → IsTreeBefore p i E → i ≤ length p.epochs → sum_by (λ (n : Node). length n.renaming.former) E.nodes ≤ i * 4194304
+sum_before : (p : Parts) (i : ℕ) (E : Epochs) → IsTreeBefore p i E → i ≤ length p.epochs → sum_by (λ (n : Node). length n.renaming.former) E.nodes ≤ i * IDENTIFIERS
 sum_before p i E t l =
     let es = t.first ∷ t.rest in
     let b = built_before p i E t in
     let few = former_restored es (λ n q. let r = b.made n q in let c = r.3.1 in let x = c.few in let y = ap length r.2.former in omega arith) in
     let len : length es ≡ i = ap length (sym t.is) ∙ length-take_of i p.epochs l in
     let same : sum_by (λ (n : Node). length n.renaming.former) E.nodes ≡ sum_by (λ (n : Node). length n.renaming.former) (nodes_of es) = ap (λ (x : Epochs). sum_by (λ (n : Node). length n.renaming.former) x.nodes) t.tree in
-    let scaled : length es * 4194304 ≡ i * 4194304 = ap (λ n. n * 4194304) len in
+    let scaled : length es * IDENTIFIERS ≡ i * IDENTIFIERS = ap (λ n. n * IDENTIFIERS) len in
     omega arith
 
 pub may_add : (p : Parts) (i : ℕ) (E : Epochs) (e : EpochPart) → IsTreeBefore p i E → slice_get p.epochs i ≡ Some e → i < length p.epochs → opens p (take i p.epochs) e ≡ true → MayAdd p i E e

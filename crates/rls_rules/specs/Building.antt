@@ -7,7 +7,7 @@ use Rattle.rls_parts.specs.Reading.{nodes_of}
 use Rattle.rls_parts.specs.Rules.{is_new, is_opened, is_place_below, is_former_count, is_covered_by}
 use Rattle.rls_parts.proofs.EpochLists.{AreEntries}
 
--- an entry behind others keeps its rule, but for its order
+-- an entry after others keeps its rule, but for its order
 abbrev pub opens : Parts → List EpochPart → EpochPart → Bool
 opens p earlier e =
     is_new earlier e.name && is_opened p e.name && is_place_below (length earlier) e.parent

@@ -1,6 +1,7 @@
 //! Epochs.
 
 ghost use Rattle.std.specs.Prelude.{◌≡◌, ◌+◌, ◌^◌, ◌<◌, ◌≤◌, Some, length, slice_get, take, IfOk, OnOk, IsTrue};
+ghost use Rattle.rls_ident.specs.declared.limits.TheConstants.{IDENTIFIERS};
 ghost use Rattle.rls_parts.specs.Given.{AreGiven};
 ghost use Rattle.rls_parts.specs.Rules.{is_new, is_opened, may_be_top, is_former_count, is_covered_by, is_greater, is_place_below};
 ghost use Rattle.rls_rules.specs.Building.{IsTreeBefore, opens};
@@ -8,8 +9,9 @@ ghost use Rattle.rls_rules.specs.Tested.{AreTested};
 
 use rls_epoch::Epochs;
 use rls_ident::EpochName;
+use rls_ident::limits::IDENTIFIERS;
 use rls_model::{EpochPart, Parts};
-use rls_rename::{MOST_FORMER, Renaming, RenamingError};
+use rls_rename::{Renaming, RenamingError};
 use rls_runs::Runs;
 use rls_stems::StemTable;
 use std::alloc::{AllocError, Global};
@@ -80,7 +82,7 @@ fn is_new(parts: &Parts, tree: &Epochs, i: usize, name: EpochName) -> bool
 fn is_former_count(count: u64) -> bool
     ensures may { result ≡ is_former_count count }
 {
-    count > 0 && count <= MOST_FORMER
+    count > 0 && count <= IDENTIFIERS
 }
 
 // Whether the parent stands before this place.
@@ -97,7 +99,7 @@ fn is_place_below(parts: &Parts, i: usize, parent: Option<u64>) -> bool
 // The renaming of a former list that isn't empty and isn't too long.
 fn renaming_of(alloc: Global, former: &Runs, replica: u32, seq: u32) -> Result<Renaming, AllocError>
     requires some { 0 < length former.now }
-    requires few { length former.now ≤ 4194304 }
+    requires few { length former.now ≤ IDENTIFIERS }
     ensures renaming { IfOk result (λ r. r ≡ record { former = former.now; replica = replica; seq = seq }) }
 {
     match Renaming::new(alloc, former.copy()?, replica, seq) {

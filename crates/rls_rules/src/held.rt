@@ -6,7 +6,7 @@ ghost use Rattle.rls_parts.specs.Rules.{held_fault, may_wait, waits_behind};
 use rls_model::Parts;
 use rls_ops::Op;
 
-// Whether the operation stands behind the one before, where there is one, by author and number.
+// Whether the operation stands after the one before, where there is one, by author and number.
 fn waits_behind(before: Option<&Op>, op: &Op) -> bool
     ensures behind { result ≡ waits_behind (option_copied before.entry) op.now }
 {
@@ -16,7 +16,7 @@ fn waits_behind(before: Option<&Op>, op: &Op) -> bool
     }
 }
 
-// Whether the operation may wait behind the one before.
+// Whether the operation may wait after the one before.
 fn may_wait(parts: &Parts, before: Option<&Op>, op: &Op) -> bool
     requires counts { length parts.now.vector ≡ parts.now.members }
     ensures may { result ≡ may_wait parts.now.members parts.now.me parts.now.vector (option_copied before.entry) op.now }

@@ -1,6 +1,7 @@
 //! Rows, and who has left.
 
 ghost use Rattle.std.specs.Prelude.{◌≡◌, ◌<◌, length, replicate, IfOk};
+ghost use Rattle.rls_ident.specs.declared.limits.TheConstants.{MEMBERS};
 ghost use Rattle.rls_parts.specs.Given.{AreGiven};
 ghost use Rattle.rls_parts.specs.Reading.{member_at};
 ghost use Rattle.rls_parts.specs.Restored.{with_own, marks_of, acks_of};
@@ -14,7 +15,7 @@ use std::alloc::{AllocError, Global};
 
 // The member whose row stands at a place.
 fn member_at(me: u32, i: u32) -> u32
-    requires small { i < 64 }
+    requires small { i < MEMBERS }
     ensures member { result ≡ member_at me i }
 {
     if i < me { i } else { i + 1 }

@@ -3,13 +3,10 @@
 ghost use Rattle.std.specs.Prelude.{◌≡◌, None, option_copied, length, IfOk};
 ghost use Rattle.rls_parts.specs.Rules.{is_stem_of, stands_behind, stem_fault};
 
-use rls_ident::LEAST_OFFSET;
+use rls_ident::limits::{LEAST_OFFSET, OFFSETS_END};
 use rls_model::{Parts, Stem};
 use rls_stems::StemTable;
 use std::alloc::{AllocError, Global};
-
-/// The offset after the greatest one.
-const PAST_OFFSETS: u32 = 1_073_741_824;
 
 // Whether the stem is a member's, its number was accepted, and its offsets are in range.
 fn is_stem_of(parts: &Parts, stem: &Stem) -> bool
@@ -22,10 +19,10 @@ fn is_stem_of(parts: &Parts, stem: &Stem) -> bool
         && stem.low >= LEAST_OFFSET
         && stem.low <= 0
         && stem.next > 0
-        && stem.next <= PAST_OFFSETS
+        && stem.next <= OFFSETS_END
 }
 
-// Whether the stem stands behind the one before, where there is one, by author and number.
+// Whether the stem stands after the one before, where there is one, by author and number.
 fn stands_behind(before: Option<&Stem>, stem: &Stem) -> bool
     ensures behind { result ≡ stands_behind (option_copied before.entry) stem.now }
 {

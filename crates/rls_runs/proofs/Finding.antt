@@ -140,7 +140,7 @@ eq_cmp a b h = int_equal a b (int_cmp a b) (int_ranked a b (int_cmp a b) refl) h
 gt_cmp : (a b : ℤ) → b <ℤ a → int_cmp a b ≡ Greater
 gt_cmp a b h = int_greater a b (int_cmp a b) (int_ranked a b (int_cmp a b) refl) h
 
--- what an offset tells: the end is the offset behind which the identifiers aren't less any more
+-- what an offset tells: the end is the offset after which the identifiers aren't less any more
 module _ (p r q : ℕ) (k : ℤ) where
   at_end : List Tuple → ℤ
   at_end [] = k
@@ -169,14 +169,14 @@ module _ (p r q : ℕ) (k : ℤ) where
   all_higher o zero y h = (refl, refl)
   all_higher o (suc n) y h = one_above (At p r q o ∷ []) (spots p r q (o +ℤ pos 1) n) (At p r q k ∷ y) 0 (higher o y h) (all_higher (o +ℤ pos 1) n y (omega (arith, ints)))
 
-  -- so many are, where something stands behind
+  -- so many are, where something stands after
   some_longer : (o : ℤ) (n m : ℕ) (u : Tuple) (us : List Tuple) → (o +ℤ pos m) ≡ (k +ℤ pos 1) → m ≤ n → Tells (spots p r q o n) (At p r q k ∷ (u ∷ us)) false m
   unfolding at_end
   some_longer o n zero u us e h = all_higher o n (u ∷ us) (omega (arith, ints))
   some_longer o zero (suc m) u us e h = absurd (omega arith)
   some_longer o (suc n) (suc m) u us e h = one_less (At p r q o ∷ []) (spots p r q (o +ℤ pos 1) n) (At p r q k ∷ (u ∷ us)) false m (lower o (u ∷ us) (omega (arith, ints))) (some_longer (o +ℤ pos 1) n m u us (omega (arith, ints)) (omega arith))
 
-  -- so many are, and the next one is there where nothing stands behind
+  -- so many are, and the next one is there where nothing stands after
   some_lower : (o : ℤ) (n m : ℕ) → (o +ℤ pos m) ≡ k → m < n → Tells (spots p r q o n) (At p r q k ∷ []) true m
   unfolding at_end
   some_lower o zero m e h = absurd (omega arith)

@@ -55,7 +55,7 @@ more_drop (y ∷ ys) x r h = go (ident_lt y x) refl (λ k. more_drop ys x r.1 k)
         let more : Lt tuples x y = ⊎_elim (λ l. let k = of_lt y x l in absurd (cc)) (λ q. ⊎_elim (λ s. let k = same_eq y x s in let m = (or_parts (ident_eq y x) (has_ident ys x) h).0 in absurd (cc)) (λ m. m) q) (tri tuples y x) in
         subst (λ n. AllMore x (drop n (y ∷ ys))) (sym (first_stops y ys x r e)) (more, more_trans x y ys more r.0)
 
--- the one at a place is less exactly where more are less than stand in front of it
+-- the one at a place is less exactly where more are less than stand before it
 pub less_at : (xs : List (List Tuple)) (k : ℕ) (y x : List Tuple) → Rising xs → slice_get xs k ≡ Some y → k < below_count xs x → Lt tuples y x
 less_at [] k y x r g h = absurd (cc)
 less_at (z ∷ xs) k y x r g h = go (ident_lt z x) refl k g h (λ j p q. less_at xs j y x r.1 p q)
@@ -98,7 +98,7 @@ read_ok xs x i h = go (has_ident xs x) refl h
     go true e k = (e, cc)
     go false e k = absurd (cc)
 
--- ---- three lists behind one another
+-- ---- three lists after one another
 
 -- each of the first list is less than each of the second
 abbrev pub AreBelow : List (List Tuple) → List (List Tuple) → Type 0
@@ -160,7 +160,7 @@ rising_drop (suc k) (x ∷ xs) h = rising_drop k xs h.1
 pub rising_take : (k : ℕ) (xs : List (List Tuple)) → Rising xs → Rising (take k xs)
 rising_take k xs h = rising_left (take k xs) (drop k xs) (subst Rising (sym (take-append-drop k xs)) h)
 
--- each stands behind as many as are less
+-- each stands after as many as are less
 pub at_same : (xs : List (List Tuple)) (k : ℕ) (y : List Tuple) → Rising xs → slice_get xs k ≡ Some y → below_count xs y ≡ k
 at_same [] k y r g = absurd (cc)
 at_same (z ∷ xs) zero y r g = first_stops z xs y r (subst (λ w. ident_lt z w ≡ false) (some_is z y g) (same_false z))

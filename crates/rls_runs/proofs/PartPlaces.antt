@@ -17,7 +17,7 @@ use Rattle.rls_runs.proofs.RunPlaces.{moved, tells_append, tells_less, tells_mor
 abbrev pub Within : List (List Tuple) → List Tuple → Type 0
 Within xs y = (has_ident xs y ≡ true) ⊎ (below_count xs y < length xs)
 
--- what is behind is more
+-- what is after is more
 beyond : (xs zs : List (List Tuple)) (y : List Tuple) → Rising (xs ++ zs) → Within xs y → AllMore y zs
 beyond [] zs y h w = ⊎_elim (λ e. absurd (cc)) (λ l. absurd (omega arith)) w
 beyond (x ∷ xs) zs y h w =

@@ -70,7 +70,7 @@ ends_below (x, suc m) y h = go (ident_lt (shifted (pos m) x) y) refl ∙ ap (λ 
         ∙ ap (λ k. k == suc m) (run_length x (suc m)) ∙ eq_refl (suc m) ∙ sym e
     go false e = not_all (run_idents x (suc m)) y (suc m) (not_counted x m y e) ∙ sym e
 
--- ---- what is right behind it
+-- ---- what is right after it
 
 pub behind_last : (r : List Tuple × ℕ) → 0 < r.1 → shifted (pos 1) (run_last r) ≡ shifted (pos r.1) r.0
 behind_last r h = shifted_shifted (pos 1) (pos (r.1 - 1)) r.0 ∙ ap (λ k. shifted k r.0) (let e : (r.1 - 1) + 1 ≡ r.1 = omega arith in omega (arith, ints))

@@ -1,4 +1,4 @@
--- One more run behind the others, which may join the last one.
+-- One more run after the others, which may join the last one.
 use Rattle.std.proofs.Common.{◌≡◌, ℕ, zero, suc, ◌+◌, ◌-◌, ◌<◌, true, false, List, [], ◌∷◌, ◌++◌, length, Option, Some, None, refl, sym, ap, ◌∙◌, arith, append_assoc, length-append}
 use Rattle.std.specs.Prelude.{pos, ◌&&◌, nat_lt, not}
 use Rattle.std.specs.List.{list_all}

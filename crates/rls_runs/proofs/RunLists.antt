@@ -74,7 +74,7 @@ module _ (rs : List (List Tuple × ℕ)) (starts : List ℕ) (total : ℕ) (a : 
       ∙ sym (find_among (take k rs) r (drop (k + 1) rs) y p q n (first_dropped y (k + 1) rs h))
       ∙ ap (λ xs. find_ident (idents_of xs) y) e
 
-  -- a place from the start of a run on, and in front of the next one's start
+  -- a place from the start of a run on, and before the next one's start
   pub in_run : (k d e i : ℕ) (r : List Tuple × ℕ) → slice_get rs k ≡ Some r → (k + 1 < length starts → i < get_or starts (k + 1) e) → i < length (idents_of rs) → i < get_or starts k d + r.1
   in_run k d e i r g h l =
       let s = start_is k d (slice_get_within rs k r g) in

@@ -100,7 +100,7 @@ run_less x (suc n) z i h =
     let on : Lt tuples (shifted (pos n) (shifted (pos 1) x)) z = subst (λ y. Lt tuples y z) (sym (next_shifted n x)) h in
     (lt_trans (less_shifted x (shifted (pos 1) x) n (ident_shifted (pos 1) x i) (next_less x i)) on, run_less (shifted (pos 1) x) n z (ident_shifted (pos 1) x i) on)
 
--- a run in front of identifiers above it
+-- a run before identifiers above it
 rising_run : (n : ℕ) (x : List Tuple) (rest : List (List Tuple)) → IsIdent x → AllMore (shifted (pos n) x) rest → Rising rest → Rising (run_idents x (suc n) ++ rest)
 rising_run zero x rest i h r = (subst (λ y. AllMore y rest) (shifted_none x) h, r)
 rising_run (suc n) x rest i h r =
@@ -117,7 +117,7 @@ pub run_rising : (x : List Tuple) (n : ℕ) → IsIdent x → Rising (run_idents
 run_rising x zero i = tt
 run_rising x (suc n) i = subst Rising (append-nil (run_idents x (suc n))) (rising_run n x [] i tt tt)
 
--- what stands behind a run is greater than its last identifier
+-- what stands after a run is greater than its last identifier
 pub last_rising : (m : ℕ) (x : List Tuple) (rest : List (List Tuple)) → Rising (run_idents x (suc m) ++ rest) → AllMore (shifted (pos m) x) rest
 last_rising zero x rest h = subst (λ y. AllMore y rest) (sym (shifted_none x)) h.0
 last_rising (suc m) x rest h = subst (λ y. AllMore y rest) (next_shifted m x) (last_rising m (shifted (pos 1) x) rest h.1)

@@ -63,7 +63,7 @@ find_first rs y h k f = told (idents_of rs) y false 0 (tells_more (idents_of rs)
 not_less : (xs : List (List Tuple)) (x y : List Tuple) → ident_lt y x ≡ false → AllLess xs x → AllLess xs y
 not_less xs x y n h = ⊎_elim (λ l. less_trans xs x y h l) (λ r. ⊎_elim (λ e. subst (AllLess xs) e h) (λ l. let f = of_lt y x l in absurd (cc)) r) (tri tuples x y)
 
--- in a run, or behind it
+-- in a run, or after it
 pub find_among : (fs : List (List Tuple × ℕ)) (r : List Tuple × ℕ) (bs : List (List Tuple × ℕ)) (y : List Tuple) → are_apart None (fs ++ r ∷ bs) ≡ true → list_all is_run (fs ++ r ∷ bs) ≡ true → ident_lt y r.0 ≡ false → IsFirst y bs →
     find_ident (idents_of (fs ++ r ∷ bs)) y ≡ moved (length (idents_of fs)) (find_ident (run_idents r.0 r.1) y)
 find_among fs r bs y h k n f =
@@ -118,7 +118,7 @@ next_suc (q ∷ rs) (suc k) r g =
 pub next_start : (rs : List (List Tuple × ℕ)) (k : ℕ) (r : List Tuple × ℕ) → slice_get rs k ≡ Some r → length (idents_of (take (k + 1) rs)) ≡ length (idents_of (take k rs)) + r.1
 next_start rs k r g = ap (λ n. length (idents_of (take n rs))) (add-one k) ∙ next_suc rs k r g
 
--- what stands in front of a run and in it is not more than all
+-- what stands before a run and in it is not more than all
 pub within_total : (rs : List (List Tuple × ℕ)) (k : ℕ) (r : List Tuple × ℕ) → slice_get rs k ≡ Some r → length (idents_of (take k rs)) + r.1 ≤ length (idents_of rs)
 within_total rs k r g =
     let e = ap (λ xs. length (idents_of xs)) (split_at rs k r g) in

@@ -1,4 +1,4 @@
--- Runs that stand apart: the maximal ones of a strictly increasing list, and what stands behind others.
+-- Runs that stand apart: the maximal ones of a strictly increasing list, and what stands after others.
 use Rattle.std.proofs.Common.{◌≡◌, ℕ, ◌+◌, ◌-◌, true, false, List, [], ◌∷◌, ◌++◌, Option, Some, None, refl, sym, ap, ◌∙◌, arith}
 use Rattle.std.specs.Prelude.{ℤ, pos, ◌+ℤ◌, not, ◌&&◌, nat_lt}
 use Rattle.std.specs.List.{list_all}
@@ -66,13 +66,13 @@ apart_runs (x ∷ []) h = apart_put x [] tt refl
 apart_runs (x ∷ (y ∷ ys)) h =
     apart_put x (runs_of (y ∷ ys)) (above x y (runs_of (y ∷ ys)) (and_left (ident_lt x y) (is_increasing (y ∷ ys)) h) (begins y (runs_of ys))) (apart_runs (y ∷ ys) (and_right (ident_lt x y) (is_increasing (y ∷ ys)) h))
 
--- ---- what stands behind others
+-- ---- what stands after others
 
 pub apart_right : (before : Option (List Tuple × ℕ)) (xs ys : List (List Tuple × ℕ)) → are_apart before (xs ++ ys) ≡ true → are_apart (run_before before xs) ys ≡ true
 apart_right before [] ys h = h
 apart_right before (x ∷ xs) ys h = apart_right (Some x) xs ys (apart_rest before x (xs ++ ys) h)
 
--- a run ends below each that stands behind it
+-- a run ends below each that stands after it
 pub ahead : (r : List Tuple × ℕ) (xs : List (List Tuple × ℕ)) (s : List Tuple × ℕ) (ys : List (List Tuple × ℕ)) → list_all is_run xs ≡ true → are_apart (Some r) (xs ++ s ∷ ys) ≡ true → Lt tuples (run_last r) s.0
 ahead r [] s ys i h = (apart_head r s ys h).0
 ahead r (x ∷ xs) s ys i h =

@@ -19,7 +19,7 @@ follows_next x = ap is_eq (tied_itself (lists_total tuple_total) (shifted (pos 1
 
 -- ---- runs that don't touch are the maximal ones
 
--- the first of these runs, if there is one, isn't right behind x
+-- the first of these runs, if there is one, isn't right after x
 abbrev pub IsFree : List Tuple → List (List Tuple × ℕ) → Type 0
 IsFree x [] = Unit {0}
 IsFree x (r ∷ rs) = follows r.0 x ≡ false
@@ -52,7 +52,7 @@ runs_of_idents before ((x, suc n) ∷ rs) c =
     let p = and_parts (nat_lt 0 (suc n) && is_apart before (x, suc n)) (are_apart (Some (x, suc n)) rs) c in
     runs_of_run n x (idents_of rs) rs (runs_of_idents (Some (x, suc n)) rs p.1) (subst (λ k. IsFree (shifted (pos k) x) rs) (omega arith) (free_of (x, suc n) rs p.1))
 
--- one more run behind these
+-- one more run after these
 pub apart_more : (before : Option (List Tuple × ℕ)) (rs : List (List Tuple × ℕ)) (r : List Tuple × ℕ) → are_apart before rs ≡ true → nat_lt 0 r.1 ≡ true → is_apart (run_before before rs) r ≡ true → are_apart before (rs ++ r ∷ []) ≡ true
 apart_more before [] r h n a = and_from (nat_lt 0 r.1 && is_apart before r) true (and_from (nat_lt 0 r.1) (is_apart before r) n a) refl
 apart_more before (q ∷ rs) r h n a =

@@ -1,6 +1,7 @@
 -- Lists of identifiers and their runs. A run is a first identifier and a length.
 use Rattle.std.specs.Prelude.{◌≡◌, length, ℕ, zero, suc, ◌+◌, ℤ, pos, ◌+ℤ◌, int_le, Bool, true, ◌&&◌, not, List, [], ◌∷◌, ◌++◌, ◌-◌, nat_lt, map, Option, Some, None, Result, Ok, Err, if◌then◌else◌, IsTrue}
 use Rattle.std.specs.List.{list_all}
+use Rattle.rls_ident.specs.declared.limits.TheConstants.{OFFSETS_END}
 use Rattle.rls_ident.specs.declared.tuple.Tuple.{Tuple}
 use Rattle.std.specs.declared.cmp.Ordering.{Ordering}
 use Rattle.std.specs.declared.cmp.Ordering.TheVariants.{Less, Equal, Greater}
@@ -61,14 +62,14 @@ pub record IsImage (f : List Tuple → List Tuple) (run : List Tuple × ℕ) (ru
   pub idents : idents_of runs ≡ map f (run_idents run.0 run.1)
   pub apart : IsTrue (are_apart None runs)
 
--- the run behind which the next one stands, after these runs
+-- the run after which the next one stands, after these runs
 abbrev pub run_before : Option (List Tuple × ℕ) → List (List Tuple × ℕ) → Option (List Tuple × ℕ)
 run_before before [] = before
 run_before before (r ∷ rs) = run_before (Some r) rs
 
--- the offset behind the greatest one
+-- the offset after the greatest one
 abbrev pub past_offsets : ℤ
-past_offsets = pos 1073741824
+past_offsets = pos OFFSETS_END
 
 -- an identifier of the program's range and a length, from 1 on, with no offset above the greatest one
 abbrev pub is_run : List Tuple × ℕ → Bool
@@ -89,12 +90,12 @@ place_from i x (y ∷ ys) = placed (ident_cmp y x) i (place_from (suc i) x ys)
 unfoldable pub place_of : List Tuple → List (List Tuple) → Result ℕ ℕ
 place_of x ys = place_from 0 x ys
 
--- how many identifiers stand in front of each run, where n stand in front of the first one
+-- how many identifiers stand before each run, where n stand before the first one
 abbrev pub starts_of : ℕ → List (List Tuple × ℕ) → List ℕ
 starts_of n [] = []
 starts_of n (r ∷ rs) = n ∷ starts_of (n + r.1) rs
 
--- maximal runs, with the number of identifiers in front of each and in all
+-- maximal runs, with the number of identifiers before each and in all
 pub record AreRuns (runs : List (List Tuple × ℕ)) (starts : List ℕ) (total : ℕ) : Type 0 where
   pub apart : IsTrue (are_apart None runs)
   pub sound : IsTrue (list_all is_run runs)

@@ -7,13 +7,11 @@ ghost use Rattle.rls_ident.specs.Identifiers.{last_of, ident_lt, follows};
 ghost use Rattle.rls_runs.specs.Runs.{run_idents, run_last, place_of, is_run, past_offsets};
 ghost use Rattle.rls_runs.specs.Places.{find_ident};
 
+use rls_ident::limits::OFFSETS_END;
 use rls_ident::{Ident, Spot, Tuple};
 use std::alloc::AllocError;
 use std::cmp::Ordering;
 use std::marker::Model;
-
-/// The offset after the greatest one.
-const PAST_OFFSETS: i64 = 1_073_741_824;
 
 /// Identifiers of one base with consecutive offsets, seen as the first and their number.
 #[derive(Drop)]
@@ -59,7 +57,7 @@ impl Run {
         if len == 0 {
             return Err(RunError::Empty);
         }
-        if end > PAST_OFFSETS {
+        if end > OFFSETS_END as i64 {
             return Err(RunError::OffsetEnd);
         }
         Ok(Run { first, len })
@@ -144,7 +142,7 @@ fn find_behind(front: &[Tuple], first: Spot, len: u32, id: &Ident) -> Result<u32
     find_by_tuple(first, len, id.tuple(front.len()), longer)
 }
 
-// The place among so many identifiers of one tuple, by the first tuple and whether more stand behind it.
+// The place among so many identifiers of one tuple, by the first tuple and whether more stand after it.
 fn find_by_tuple(first: Spot, len: u32, tuple: Tuple, longer: bool) -> Result<u32, u32>
     ensures find { (rest : List Tuple) → (IsTrue longer ↔ (0 < length rest)) → result ≡ find_ident (run_idents (at_spot first ∷ []) len) (tuple ∷ rest) }
 {

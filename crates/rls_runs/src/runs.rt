@@ -13,7 +13,7 @@ use std::cmp::Ordering;
 use std::marker::Model;
 
 /// A strictly increasing list of identifiers, kept as its maximal runs, with the number of
-/// identifiers in front of each run.
+/// identifiers before each run.
 #[derive(Drop)]
 pub struct Runs {
     runs: Vec<Run>,

@@ -66,7 +66,7 @@ impl Text {
         Ok(())
     }
 
-    /// Puts a character in front of the first one.
+    /// Puts a character before the first one.
     pub fn push_front(&mut self, c: char) -> Result<(), AllocError>
         ensures ok { OnOk result (self.new ≡ c ∷ self.old) }
         ensures err { OnErr result (self.new ≡ self.old) }
@@ -85,7 +85,7 @@ impl Text {
         self.chars.append(&mut more.chars)
     }
 
-    /// Puts a text in front of the first character. It costs the length of that text. After an error
+    /// Puts a text before the first character. It costs the length of that text. After an error
     /// the text is as it was, and the other is given up.
     pub fn prepend(&mut self, front: Text) -> Result<(), AllocError>
         ensures ok { OnOk result (self.new ≡ front ++ self.old) }
@@ -97,7 +97,7 @@ impl Text {
         Ok(())
     }
 
-    /// Keeps the characters in front of a place, and answers the others. It costs the number of these.
+    /// Keeps the characters before a place, and answers the others. It costs the number of these.
     /// After an error the text is as it was.
     pub fn split_off(&mut self, at: usize) -> Result<Text, AllocError>
         requires place { at ≤ length self.old }
@@ -110,7 +110,7 @@ impl Text {
         })
     }
 
-    /// Keeps the characters in front of a place. It costs the number of the others, and takes no memory.
+    /// Keeps the characters before a place. It costs the number of the others, and takes no memory.
     pub fn truncate(&mut self, at: usize)
         requires place { at ≤ length self.old }
         ensures kept { self.new ≡ take at self.old }
@@ -181,7 +181,7 @@ fn push_chars(text: &mut String, chars: &[char]) -> Result<(), AllocError>
     Ok(())
 }
 
-// Moves all characters of the first list in front of those of the second, which has room for them.
+// Moves all characters of the first list before those of the second, which has room for them.
 fn move_in_front(front: &mut VecDeque<char>, chars: &mut VecDeque<char>)
     requires room { deque_len chars.old + deque_len front.old ≤ deque_capacity chars.old }
     ensures items { chars.new.items ≡ front.old.items ++ chars.old.items }

@@ -47,7 +47,7 @@ splits : (b : ℕ) (bytes : List ℕ) → Splits (b ∷ bytes)
 splits b [] = last_line b (is_line_feed b) refl
 splits b (c ∷ bytes) = longer_line b c bytes (is_line_feed b) refl (splits c bytes)
 
--- the lines of bytes are the first line and the lines behind it
+-- the lines of bytes are the first line and the lines after it
 pub first_then_others : (bytes : List ℕ) → 0 < length bytes → script_lines bytes ≡ before_first is_line_feed bytes ∷ script_lines (after_first is_line_feed bytes)
 first_then_others [] h = absurd (omega (arith, h))
 first_then_others (b ∷ bytes) h = splits b bytes

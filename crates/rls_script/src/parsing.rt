@@ -72,7 +72,7 @@ fn line_end(script: &[u8]) -> usize
         .unwrap_or(script.len())
 }
 
-// The first line, without its line feed, and what stands behind it.
+// The first line, without its line feed, and what stands after it.
 fn first_line(script: &[u8]) -> (&[u8], &[u8])
     ensures front { result.0.now ≡ before_first is_line_feed script.now }
     ensures back { result.1.now ≡ after_first is_line_feed script.now }
@@ -157,7 +157,7 @@ fn renaming(text: &str) -> Option<Line>
     }
 }
 
-// What stands before the first space and behind it.
+// What stands before the first space and after it.
 fn parts(text: &str) -> Option<(&str, &str)>
     ensures parts { option_map (λ x. (x.0.now, x.1.now)) result ≡ parts_of text.now }
 {
@@ -186,14 +186,14 @@ pub fn number(digits: &str) -> Option<u64>
     digits.parse().ok()
 }
 
-// Whether a character is a backslash that waits for the next one, behind such a backslash or not.
+// Whether a character is a backslash that waits for the next one, after such a backslash or not.
 fn is_opening(is_escaped: bool, character: char) -> bool
     ensures opening { result ≡ is_opening is_escaped character }
 {
     !is_escaped && character == '\\'
 }
 
-// What a character stands for, behind a backslash or not.
+// What a character stands for, after a backslash or not.
 fn meaning(is_escaped: bool, character: char) -> Option<char>
     ensures meaning { result ≡ meaning_of is_escaped character }
 {

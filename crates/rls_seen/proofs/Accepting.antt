@@ -38,7 +38,7 @@ use Rattle.rls_model.proofs.Spliced.{entries}
 use Rattle.rls_model.proofs.Stable.{stable_count, stable_grows}
 use Rattle.rls_model.proofs.TextSteps.{placed, aims, renamed_entry, export_put, export_delete, export_stays, export_renamed, export_leave}
 use Rattle.rls_model.proofs.WindowAnswers.{greatest_cases}
-use Rattle.rls_model.proofs.WorldsWaiting.{sound_accepted}
+use Rattle.rls_model.proofs.WaitingFits.{sound_accepted}
 use Rattle.rls_seen.specs.Seen.{Seen}
 use Rattle.rls_seen.specs.Over.{acks_after, epochs_after, placed_over, added_over, renamed_over, is_greatest_over, text_after, accepted}
 use Rattle.rls_seen.specs.Stands.{StandsFor}

@@ -8,7 +8,7 @@ use Rattle.rls_model.specs.Receiving.{State}
 use Rattle.rls_model.specs.Taking.{by_history}
 use Rattle.rls_model.specs.WellFormed.{IsOp, IsEdit}
 use Rattle.rls_model.proofs.Machines.{read_is, running_alike}
-use Rattle.rls_model.proofs.WorldsScripts.{edit_in}
+use Rattle.rls_model.proofs.WorldsEdits.{edit_in}
 use Rattle.rls_seen.specs.Edits.{edited}
 use Rattle.rls_seen.specs.Messages.{by_parts}
 use Rattle.rls_seen.specs.Seen.{Seen}

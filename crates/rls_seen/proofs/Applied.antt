@@ -2,6 +2,7 @@
 use Rattle.std.proofs.Common.{◌≡◌, ℕ, ◌+◌, ◌^◌, ◌<◌, ◌≤◌, ◌==◌, ◌||◌, ◌++◌, not, slice_index, Bool, true, false, cond, List, [], ◌∷◌, length, get_or, refl, sym, ap, ◌∙◌, subst, arith, inl, inr, ◌⊎◌, ⊎_elim}
 use Rattle.std.specs.Prelude.{All, ◌&&◌, nat_lt, pos, sum, sum_by, ◌*◌}
 use Rattle.std.proofs.lemmas.Grind.{get_or_default_zero}
+use Rattle.rls_ident.specs.declared.limits.TheConstants.{IDENTIFIERS}
 use Rattle.rls_ident.specs.declared.epoch_name.EpochName.{EpochName}
 use Rattle.rls_ident.specs.declared.epoch_name.EpochName.TheVariants.{Origin, Of}
 use Rattle.rls_ident.specs.EpochNames.{name_eq}
@@ -94,7 +95,7 @@ epochs_go s o (Rename former) sane m e =
     let next = f.next in
     let in_vector = f.shaped.author in
     let new : IsCounted (raise v o.author) (Of o.author o.seq) = (omega arith, omega arith, omega arith) in
-    let few : length former ≤ 4194304 = not_lt_is 4194304 (length former) (ap (λ b. nat_lt (body_limit b) (body_len b)) (sym e) ∙ f.shaped.few) in
+    let few : length former ≤ IDENTIFIERS = not_lt_is IDENTIFIERS (length former) (ap (λ b. nat_lt (body_limit b) (body_len b)) (sym e) ∙ f.shaped.few) in
     record {
       nodes = t.0;
       below = t.1;
@@ -102,7 +103,7 @@ epochs_go s o (Rename former) sane m e =
           (λ h. subst (IsCounted (raise v o.author)) (name_eq_is (Of o.author o.seq) g h) new)
           (λ h. counted_raised v o.author g (sane.epochs.counted g h))
           (new_or_old s.epochs.top g node s.epochs.nodes k);
-      few = λ n p. ⊎_elim (λ h. subst (λ (x : Node). length x.renaming.former ≤ 4194304) h few) (λ h. sane.epochs.few n h) p;
+      few = λ n p. ⊎_elim (λ h. subst (λ (x : Node). length x.renaming.former ≤ IDENTIFIERS) h few) (λ h. sane.epochs.few n h) p;
       covered = λ n p. ⊎_elim
           (λ h. subst (IsCovered (stems_after s.stems o.author o.seq o.body)) h (rename_covered s o former sane f e))
           (λ h. still_covered s o sane f n h)
@@ -210,6 +211,6 @@ accepted_sane s o sane m r =
           (λ q. last_before s o x sane f (sane.leaves x q l))
           (λ e. subst (IsLast new) e (last_now s o sane f (subst (λ (y : Op). is_leave y.body ≡ true) (sym e) l)))
           (snoc_split x o s.log p);
-      total = subst (λ x. length (text_after s o b) ≤ 2 ^ 63 + 4194304 * sum x) (sym mine) (total_after s o f.shaped.author f.shaped.few sane.total);
-      former = subst (λ x. sum_by (λ (n : Node). length n.renaming.former) (nodes_after s.epochs.nodes o b) ≤ 2 ^ 54 + 4194304 * sum x) (sym mine) (former_after s o f.shaped.author f.shaped.few sane.former);
+      total = subst (λ x. length (text_after s o b) ≤ 2 ^ 63 + IDENTIFIERS * sum x) (sym mine) (total_after s o f.shaped.author f.shaped.few sane.total);
+      former = subst (λ x. sum_by (λ (n : Node). length n.renaming.former) (nodes_after s.epochs.nodes o b) ≤ 2 ^ 54 + IDENTIFIERS * sum x) (sym mine) (former_after s o f.shaped.author f.shaped.few sane.former);
     }

@@ -4,6 +4,7 @@ use Rattle.std.proofs.Common.{arith, ◌≡◌, ℕ, not, true, List, [], ◌∷
 use Rattle.std.specs.declared.cmp.Ordering.TheVariants.{Less}
 use Rattle.std.specs.Cmp.Lexicographic.{slice_cmp}
 use Rattle.std.specs.Ordering.{is_lt}
+use Rattle.rls_ident.specs.declared.limits.TheConstants.{IDENTIFIERS}
 use Rattle.rls_ident.specs.declared.epoch_name.EpochName.{EpochName}
 use Rattle.rls_ident.specs.EpochNames.{is_within}
 use Rattle.rls_ident.specs.Lists.{IsIn}
@@ -93,7 +94,7 @@ part_left s sane =
 
 -- ---- all
 
-former_less : (s : Seen) → IsSane s → kept_former (dropped s) ≤ 2 ^ 54 + 4194304 * sum (vector s)
+former_less : (s : Seen) → IsSane s → kept_former (dropped s) ≤ 2 ^ 54 + IDENTIFIERS * sum (vector s)
 unfolding dropped part
 former_less s sane =
     let h = sane.former in

@@ -1,5 +1,6 @@
 -- Edits, seen by a history that the replica stands for.
 use Rattle.std.proofs.Common.{◌≡◌, ℕ, ◌+◌, ◌==◌, slice_index, slice_get, List, length, map, take, drop, refl, sym, ap, ◌∙◌, subst, Option, Some, None, if◌then◌else◌}
+use Rattle.rls_ident.specs.declared.limits.TheConstants.{GREATEST_NUMBER}
 use Rattle.rls_ident.specs.declared.tuple.Tuple.{Tuple}
 use Rattle.rls_ident.specs.declared.epoch_name.EpochName.{EpochName}
 use Rattle.rls_ops.specs.declared.op.Op.{Op}
@@ -83,8 +84,8 @@ made_alike s t edit h =
 
 op_fault_alike : (s : Seen) (t : State) (edit : Edit) → StandsFor s t → op_fault_over s edit ≡ op_fault t.history edit
 op_fault_alike s t edit h =
-    ap (λ n. if n == 4294967295 then Some errors.NumbersSpent else size_fault (op_size (made_over s edit))) (own_alike s t h)
-    ∙ ap (λ o. if count_of t.history (me_of t.history) == 4294967295 then Some errors.NumbersSpent else size_fault (op_size o)) (made_alike s t edit h)
+    ap (λ n. if n == GREATEST_NUMBER then Some errors.NumbersSpent else size_fault (op_size (made_over s edit))) (own_alike s t h)
+    ∙ ap (λ o. if count_of t.history (me_of t.history) == GREATEST_NUMBER then Some errors.NumbersSpent else size_fault (op_size o)) (made_alike s t edit h)
 
 -- the same fault
 pub edit_faults_alike : (s : Seen) (t : State) (edit : Edit) → StandsFor s t → edit_fault_over s edit ≡ edit_fault t.history edit

@@ -1,6 +1,7 @@
 -- What is known of an operation that may be applied.
 use Rattle.std.proofs.Common.{◌≡◌, ℕ, ◌+◌, ◌<◌, not, nat_lt, Bool, true, false, List, length, refl, sym, ap, ◌∙◌, arith, Some, None, IsTrue, if◌then◌else◌}
 use Rattle.std.specs.Prelude.{pos, ◌+ℤ◌}
+use Rattle.rls_ident.specs.declared.limits.TheConstants.{CHARACTERS, IDENTIFIERS}
 use Rattle.rls_ident.specs.declared.tuple.Tuple.{Tuple}
 use Rattle.rls_ident.specs.declared.epoch_name.EpochName.TheVariants.{Of}
 use Rattle.rls_ident.specs.EpochNames.{name_eq}
@@ -75,17 +76,17 @@ stems_go s o (Insert first text) sane f e r =
     let h = f.shaped in
     let z : is_empty (Insert first text) ≡ false = ap is_empty (sym e) ∙ h.some in
     let w : 0 < length text = let k = eq_not (length text) 0 z in omega arith in
-    let l : nat_lt 1048576 (length text) ≡ false = ap (λ b. nat_lt (body_limit b) (body_len b)) (sym e) ∙ h.few in
+    let l : nat_lt CHARACTERS (length text) ≡ false = ap (λ b. nat_lt (body_limit b) (body_len b)) (sym e) ∙ h.few in
     let p : passes_end (Insert first text) ≡ false = ap passes_end (sym e) ∙ h.room in
-    stems_inserted (vector s) s.stems o.author o.seq (last_of first) (length text) sane.stems h.author f.next (may_begin s o f first text e) w (not_lt_is 1048576 (length text) l) r
+    stems_inserted (vector s) s.stems o.author o.seq (last_of first) (length text) sane.stems h.author f.next (may_begin s o f first text e) w (not_lt_is CHARACTERS (length text) l) r
     (not_int_lt_is (greatest_offset +ℤ pos 1) (offset_of (last_of first) +ℤ pos (length text)) p)
 stems_go s o (Delete targets) sane f e r = stems_raised (vector s) o.author s.stems sane.stems
 stems_go s o (Rename former) sane f e r =
     let h = f.shaped in
     let z : is_empty (Rename former) ≡ false = ap is_empty (sym e) ∙ h.some in
     let w : 0 < length former = let k = eq_not (length former) 0 z in omega arith in
-    let l : nat_lt 4194304 (length former) ≡ false = ap (λ b. nat_lt (body_limit b) (body_len b)) (sym e) ∙ h.few in
-    let m = not_lt_is 4194304 (length former) l in
+    let l : nat_lt IDENTIFIERS (length former) ≡ false = ap (λ b. nat_lt (body_limit b) (body_len b)) (sym e) ∙ h.few in
+    let m = not_lt_is IDENTIFIERS (length former) l in
     stems_with (raise (vector s) o.author) (new_stem o.author o.seq (length former)) s.stems (new_in_range (vector s) o.author o.seq (length former) h.author f.next w (omega arith)) (stems_raised (vector s) o.author s.stems sane.stems)
 stems_go s o Leave sane f e r = stems_raised (vector s) o.author s.stems sane.stems
 

@@ -10,7 +10,7 @@ use Rattle.rls_ops.specs.Shapes.{shape_fault}
 use Rattle.rls_ops.proofs.Waiting.{before_trans, before_total}
 use Rattle.rls_model.specs.Receiving.{is_numbered, comes_before, with_waiting, without}
 use Rattle.rls_model.specs.WellFormed.{IsOp}
-use Rattle.rls_model.proofs.WorldsWaiting.{numbered_test, in_without, in_with}
+use Rattle.rls_model.proofs.WaitingFits.{numbered_test, in_without, in_with}
 use Rattle.rls_seen.specs.Sane.{IsInRange, AreHeld}
 
 -- what holds of each

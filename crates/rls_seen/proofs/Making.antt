@@ -7,6 +7,7 @@ use Rattle.std.specs.Ordering.{int_eq, is_eq}
 use Rattle.std.proofs.lemmas.Cmp.{lists_total, tied_itself}
 use Rattle.std.proofs.lemmas.Int.{ints}
 use Rattle.std.proofs.lemmas.List.{length-take, length-drop}
+use Rattle.rls_ident.specs.declared.limits.TheConstants.{CHARACTERS, IDENTIFIERS, GREATEST_NUMBER}
 use Rattle.rls_ident.specs.declared.tuple.Tuple.{Tuple}
 use Rattle.rls_ident.specs.declared.epoch_name.EpochName.{EpochName}
 use Rattle.rls_ident.specs.declared.epoch_name.EpochName.TheVariants.{Origin, Of}
@@ -93,7 +94,7 @@ name_of_counted s sane (Of r q) c =
     (omega arith, omega arith)
 
 -- it may be applied
-own_may : (s : Seen) (b : Body) → IsSane s → left s.acks s.acks.me ≡ false → (own_count s ≡ 4294967295 → ⊥) → IsBody b → is_empty b ≡ false → nat_lt (body_limit b) (body_len b) ≡ false → passes_end b ≡ false
+own_may : (s : Seen) (b : Body) → IsSane s → left s.acks s.acks.me ≡ false → (own_count s ≡ GREATEST_NUMBER → ⊥) → IsBody b → is_empty b ≡ false → nat_lt (body_limit b) (body_len b) ≡ false → passes_end b ≡ false
     → body_refusal_over s (own s b) b ≡ None → MayApply s (own s b)
 unfolding own refusal_over
 own_may s b sane h n i e3 e4 e5 r =
@@ -119,7 +120,7 @@ own_may s b sane h n i e3 e4 e5 r =
           (body_refusal_over s (own s b) b) h e2 d r;
     }
   where
-    next_small : (m : ℕ) → m < 2 ^ 32 → (m ≡ 4294967295 → ⊥) → m + 1 < 2 ^ 32
+    next_small : (m : ℕ) → m < 2 ^ 32 → (m ≡ GREATEST_NUMBER → ⊥) → m + 1 < 2 ^ 32
     next_small m k q = omega arith
 
 -- ---- the bodies
@@ -131,8 +132,8 @@ fault_split s edit h =
     let q = or_none (range_fault (length (idents_over s)) edit) (op_fault_over s edit) p.1 in
     (p.0, q.0, q.1)
 
-unspent : (s : Seen) (edit : Edit) → op_fault_over s edit ≡ None → own_count s ≡ 4294967295 → ⊥
-unspent s edit h = let p = none_else (own_count s == 4294967295) faults.NumbersSpent _ h in eq_not (own_count s) 4294967295 p.0
+unspent : (s : Seen) (edit : Edit) → op_fault_over s edit ≡ None → own_count s ≡ GREATEST_NUMBER → ⊥
+unspent s edit h = let p = none_else (own_count s == GREATEST_NUMBER) faults.NumbersSpent _ h in eq_not (own_count s) GREATEST_NUMBER p.0
 
 -- targets of the text are known
 text_known : (s : Seen) → IsSane s → (x : List Tuple) → IsIn x (idents_over s) → is_known_over s (greatest_over s) x ≡ true
@@ -153,7 +154,7 @@ none_unknown s e (x ∷ xs) f = ap (λ b. if b then first_unknown_over s e xs el
 first_of_insert : Seen → ℕ → ℕ → List Tuple
 first_of_insert s at n = first_between s.stems s.acks.me (own_count s + 1) (get_before (idents_over s) at) (slice_get (idents_over s) at) n
 
-first_began : (s : Seen) (at n : ℕ) → IsSane s → n ≤ 1048576 → Began s.stems s.acks.me (own_count s + 1) n (first_of_insert s at n)
+first_began : (s : Seen) (at n : ℕ) → IsSane s → n ≤ CHARACTERS → Began s.stems s.acks.me (own_count s + 1) n (first_of_insert s at n)
 unfolding first_of_insert
 first_began s at n sane l =
     began s.stems s.acks.me (own_count s + 1) (get_before (idents_over s) at) (slice_get (idents_over s) at) n (earlier (vector s) s.stems s.acks.me (own_count s + 1) sane.stems refl) l
@@ -165,9 +166,9 @@ insert_may s at cs sane i h =
     let f = fault_split s (edits.Insert at cs) h in
     let p = none_else (length cs == 0) faults.EmptyEdit _ f.1 in
     let q = none_else (nat_lt (length (idents_over s)) at) (faults.Range at (length (idents_over s))) _ p.1 in
-    let r = none_else (nat_lt 1048576 (length cs)) (faults.TooManyChars (length cs)) None q.1 in
+    let r = none_else (nat_lt CHARACTERS (length cs)) (faults.TooManyChars (length cs)) None q.1 in
     let x = first_of_insert s at (length cs) in
-    let b = first_began s at (length cs) sane (not_lt_is 1048576 (length cs) r.0) in
+    let b = first_began s at (length cs) sane (not_lt_is CHARACTERS (length cs) r.0) in
     own_may s (Insert x cs) sane f.0 (unspent s (edits.Insert at cs) f.2) (b.ident, i.1) p.0 r.0
     (not_int_lt_test (greatest_offset +ℤ pos 1) (offset_of (last_of x) +ℤ pos (length cs)) b.room)
     (ap (λ c. if c then None else Some (WrongStem (due_offset s.stems s.acks.me (own_count s + 1) (last_of x)))) b.used)
@@ -179,12 +180,12 @@ delete_may s at n sane h =
     let f = fault_split s (edits.Delete at n) h in
     let p = none_else (n == 0) faults.EmptyEdit _ f.1 in
     let q = none_else (nat_lt (length ids) (at + n)) (faults.Range at (length ids)) _ p.1 in
-    let r = none_else (nat_lt 4194304 n) (faults.TooManyChars n) None q.1 in
+    let r = none_else (nat_lt IDENTIFIERS n) (faults.TooManyChars n) None q.1 in
     let m = not_lt_is (length ids) (at + n) q.0 in
     let xs = take n (drop at ids) in
     let len : length xs ≡ n = omega (arith, length-take n (drop at ids), length-drop at ids) in
     own_may s (Delete xs) sane f.0 (unspent s (edits.Delete at n) f.2) (good_take n (drop at ids) (good_drop at ids sane.idents))
-    (ap (λ k. k == 0) len ∙ p.0) (ap (nat_lt 4194304) len ∙ r.0) refl
+    (ap (λ k. k == 0) len ∙ p.0) (ap (nat_lt IDENTIFIERS) len ∙ r.0) refl
     (none_unknown s (greatest_over s) xs (λ x u. text_known s sane x (in_drop at x ids (in_take n x (drop at ids) u))))
 
 rename_may : (s : Seen) → IsSane s → edit_fault_over s edits.Rename ≡ None → MayApply s (own s (made_body s edits.Rename))
@@ -193,7 +194,7 @@ rename_may s sane h =
     let f = fault_split s edits.Rename h in
     let n = length (idents_over s) in
     let p = none_else (n == 0) faults.EmptyDocument _ f.1 in
-    let q = none_else (nat_lt 4194304 n) (faults.TooManyChars n) None p.1 in
+    let q = none_else (nat_lt IDENTIFIERS n) (faults.TooManyChars n) None p.1 in
     own_may s (Rename (idents_over s)) sane f.0 (unspent s edits.Rename f.2) sane.idents p.0 q.0 refl refl
 
 leave_may : (s : Seen) → IsSane s → edit_fault_over s edits.Leave ≡ None → MayApply s (own s (made_body s edits.Leave))

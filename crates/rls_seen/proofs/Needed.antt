@@ -1,5 +1,6 @@
 -- What calls need that a replica makes of its parts.
 use Rattle.std.proofs.Common.{ℕ, ◌+◌, ◌^◌, ◌<◌, List, [], ◌∷◌, length, subst, inl, inr}
+use Rattle.rls_ident.specs.declared.limits.TheConstants.{IDENTIFIERS}
 use Rattle.rls_ident.specs.Lists.{IsIn}
 use Rattle.rls_ident.specs.Vectors.{raise}
 use Rattle.rls_ops.specs.declared.op.Op.{Op}
@@ -12,10 +13,10 @@ use Rattle.rls_seen.proofs.Sizes.{total_fits, former_fits}
 -- ---- room
 
 -- one more operation has room for its characters and former identifiers
-pub total_room : (s : Seen) → IsSane s → length s.text + 4194304 < 2 ^ 64
+pub total_room : (s : Seen) → IsSane s → length s.text + IDENTIFIERS < 2 ^ 64
 total_room s h = total_fits s h.few h.small (length s.text) h.total
 
-pub former_room : (s : Seen) → IsSane s → kept_former s + 4194304 < 2 ^ 64
+pub former_room : (s : Seen) → IsSane s → kept_former s + IDENTIFIERS < 2 ^ 64
 former_room s h = former_fits s h.few h.small (kept_former s) h.former
 
 -- ---- members

@@ -17,7 +17,7 @@ use Rattle.rls_model.specs.WellFormed.{IsVector}
 use Rattle.rls_model.proofs.Later.{window_step}
 use Rattle.rls_model.proofs.Stable.{stable_grows}
 use Rattle.rls_model.proofs.TextSteps.{export_acknowledged}
-use Rattle.rls_model.proofs.WorldsWaiting.{waiting_at, sound_grown}
+use Rattle.rls_model.proofs.WaitingFits.{waiting_at, sound_grown}
 use Rattle.rls_seen.specs.Seen.{Seen, members}
 use Rattle.rls_seen.specs.Over.{acknowledged}
 use Rattle.rls_seen.specs.Stands.{StandsFor}

@@ -13,7 +13,7 @@ use Rattle.rls_model.specs.Legal.{MayAccept, IsSound}
 use Rattle.rls_model.specs.Receiving.{State, answer, answer_beside, answer_by, after, receive, receive_after, replay, replay_after, verdict_of, waiting_under, with_waiting, without}
 use Rattle.rls_model.specs.WellFormed.{IsOp}
 use Rattle.rls_model.proofs.OneTree.{author_below}
-use Rattle.rls_model.proofs.WorldsWaiting.{sound_put}
+use Rattle.rls_model.proofs.WaitingFits.{sound_put}
 use Rattle.rls_model.proofs.Answered.{causes_go, forked_go, number_go, number_waits}
 use Rattle.rls_seen.specs.Seen.{Seen, vector, members}
 use Rattle.rls_seen.specs.Over.{answer_over, refusal_over, after_answer, holding, received, replayed}

@@ -14,9 +14,9 @@ use Rattle.rls_model.specs.Receiving.{State, without, release, release_after, re
 use Rattle.rls_model.specs.Receiving as model
 use Rattle.rls_model.specs.WellFormed.{IsOp}
 use Rattle.rls_model.proofs.OneTree.{author_below}
-use Rattle.rls_model.proofs.WorldsWaiting.{waiting_at, sound_without}
+use Rattle.rls_model.proofs.WaitingFits.{waiting_at, sound_without}
 use Rattle.rls_seen.specs.Seen.{Seen}
-use Rattle.rls_seen.specs.Over.{holding, first_ready, release_of, release_over, after_refusal, after_release, released, released_times, released_all, IsPartReleased}
+use Rattle.rls_seen.specs.Over.{holding, first_ready, release_of, release_over, after_refusal, after_release, released, released_times, released_all}
 use Rattle.rls_seen.specs.Stands.{StandsFor}
 use Rattle.rls_seen.proofs.Alike.{refusal_alike}
 use Rattle.rls_seen.proofs.Accepting.{accepted_stands}
@@ -78,7 +78,3 @@ pub released_all_stands : (s : Seen) (t : State) → StandsFor s t → StandsFor
 unfolding released_all release_all
 released_all_stands s t h =
     subst (λ n. StandsFor (released_times (length s.waiting) s) (model.released_times n t)) (ap length h.waiting) (times_stand (length s.waiting) s t h)
-
--- after some of these releases, in case of want of memory
-pub part_released_stands : (s r : Seen) (t : State) → IsPartReleased s r → StandsFor s t → (n : ℕ) × StandsFor r (model.released_times n t)
-part_released_stands s r t p h = (p.0, subst (λ x. StandsFor x (model.released_times p.0 t)) (sym p.1) (times_stand p.0 s t h))

@@ -9,7 +9,7 @@ use Rattle.rls_model.specs.Answers.{Reason, Released}
 use Rattle.rls_model.specs.Receiving.{without, waiting_under, is_numbered, comes_before}
 use Rattle.rls_model.specs.Taking.{Limit, has_room}
 use Rattle.rls_model.proofs.Machines.{acknowledge_unlimited, none_ready, receive_unlimited, release_unlimited, releases_stay}
-use Rattle.rls_model.proofs.WorldsWaiting.{numbered_test}
+use Rattle.rls_model.proofs.WaitingFits.{numbered_test}
 use Rattle.rls_seen.specs.Seen.{Seen, vector, members}
 use Rattle.rls_seen.specs.Over.{accepted, holding, answer_over, received, refusal_over, first_ready, release_of, release_over, after_refusal, after_release, released, released_times, released_all, acknowledged, IsPartReleased}
 use Rattle.rls_seen.specs.Messages.{by_parts, Course, started, moved, with_answer, with_refusal, with_release, receive_step, release_step, release_steps, with_releases, acknowledge_step, take_ops}
@@ -174,11 +174,11 @@ released_seen c e = ap (λ (d : Course). d.state) (release_unlimited by_parts c 
 pub acknowledged_seen : (c : Course) (a : ℕ) (v : List ℕ) → c.limit ≡ None → (acknowledge_step c a v).state ≡ acknowledged c.state a v
 acknowledged_seen c a v e = ap (λ (d : Course). d.state) (acknowledge_unlimited by_parts c a v e)
 
--- behind k steps the course is c, and these operations are left
+-- after k steps the course is c, and these operations are left
 abbrev pub Reaches : Seen → List Op → ℕ → Course → List Op → Type 0
 Reaches s os k c rest = (limit : Limit) → take_ops (started (more_steps k limit) s) os ≡ take_ops (within limit c) rest
 
--- behind k steps the course is c, some may be ready, and then these operations are left
+-- after k steps the course is c, some may be ready, and then these operations are left
 abbrev pub ReachesReady : Seen → List Op → ℕ → Course → List Op → Type 0
 ReachesReady s os k c rest = (limit : Limit) → take_ops (started (more_steps k limit) s) os ≡ take_ops (with_releases (within limit c)) rest
 

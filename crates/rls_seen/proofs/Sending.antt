@@ -1,6 +1,7 @@
 -- The message for a member, seen by a history that the replica stands for.
 use Rattle.std.proofs.Common.{◌≡◌, ℕ, zero, suc, ◌<◌, ◌≤◌, ◌||◌, not, nat_le, slice_index, Bool, true, false, cond, List, [], ◌∷◌, length, max, refl, sym, ap, ◌∙◌, subst, arith, if◌then◌else◌}
 use Rattle.std.proofs.lemmas.Bool.Decides.{nat_tests}
+use Rattle.rls_ident.specs.declared.limits.TheConstants.{MEMBERS, INPUT_BYTES}
 use Rattle.rls_ident.specs.Vectors.{join, meet}
 use Rattle.rls_ident.proofs.Vectors.{length-meet, index-join}
 use Rattle.rls_ops.specs.declared.op.Op.{Op}
@@ -63,7 +64,7 @@ missing_joined v w (o ∷ os) e =
 -- ---- the message
 
 message_of : ℕ → ℕ → ℕ → List ℕ → List Op → Message
-message_of g n me v os = record { group = g; members = n; from = me; vector = v; ops = front_within (head_size n) 67108864 os }
+message_of g n me v os = record { group = g; members = n; from = me; vector = v; ops = front_within (head_size n) INPUT_BYTES os }
 
 -- the same message
 pub message_alike : (s : Seen) (t : State) (to : ℕ) → to < members s → StandsFor s t → message_over s to ≡ message_for t.history to
@@ -85,6 +86,6 @@ message_alike s t to l h =
 
 -- ---- its size
 
-pub message_fits : (s : Seen) (to : ℕ) → members s ≤ 64 → message_size (message_over s to) ≤ 67108864
+pub message_fits : (s : Seen) (to : ℕ) → members s ≤ MEMBERS → message_size (message_over s to) ≤ INPUT_BYTES
 unfolding message_over
-message_fits s to h = front_fits (head_size (members s)) 67108864 _ (omega (arith, h))
+message_fits s to h = front_fits (head_size (members s)) INPUT_BYTES _ (omega (arith, h))

@@ -5,6 +5,7 @@ use Rattle.std.specs.List.{list_all}
 use Rattle.std.specs.Ordering.{int_eq}
 use Rattle.std.proofs.lemmas.Bool.Decides.{nat_tests}
 use Rattle.std.proofs.lemmas.Int.{ints}
+use Rattle.rls_ident.specs.declared.limits.TheConstants.{CHARACTERS, OFFSETS_END}
 use Rattle.rls_ident.specs.declared.tuple.Tuple.{Tuple}
 use Rattle.rls_ident.specs.Identifiers.{least_offset}
 use Rattle.rls_ident.specs.Lists.{IsIn}
@@ -98,14 +99,14 @@ stems_raised v a [] h = tt
 stems_raised v a (t ∷ ss) h = (raised_stem v a t h.0, h.1, stems_raised v a ss h.2)
 
 -- a new stem
-pub new_in_range : (v : List ℕ) (a s n : ℕ) → a < length v → s ≡ slice_index v a + 1 → 0 < n → n ≤ 1073741824 → IsStem (raise v a) (new_stem a s n)
+pub new_in_range : (v : List ℕ) (a s n : ℕ) → a < length v → s ≡ slice_index v a + 1 → 0 < n → n ≤ OFFSETS_END → IsStem (raise v a) (new_stem a s n)
 new_in_range v a s n l e z m =
     let k : length (raise v a) ≡ length v = length-raise v a in
     let i = index-raise_same v a l in
     record { author = omega arith; begun = omega arith; counted = omega arith; bottom = omega (arith, ints); low = omega (arith, ints); some = z; end = m }
 
 -- a stem with more offsets
-extended_in_range : (v : List ℕ) (u : Stem) (k : ℤ) (n : ℕ) → IsStem v u → least_offset ≤ℤ k → (k +ℤ pos n) ≤ℤ pos 1073741824 → (k ≡ pos u.next) ⊎ (k +ℤ pos n ≡ u.low) → IsStem v (extended u k n)
+extended_in_range : (v : List ℕ) (u : Stem) (k : ℤ) (n : ℕ) → IsStem v u → least_offset ≤ℤ k → (k +ℤ pos n) ≤ℤ pos OFFSETS_END → (k ≡ pos u.next) ⊎ (k +ℤ pos n ≡ u.low) → IsStem v (extended u k n)
 extended_in_range v u k n i l m w = go (int_eq k (pos u.next)) refl w
   where
     go : (b : Bool) → int_eq k (pos u.next) ≡ b → (k ≡ pos u.next) ⊎ (k +ℤ pos n ≡ u.low) → IsStem v (if b then record u { next = u.next + n } else record u { low = k })
@@ -118,7 +119,7 @@ extended_in_range v u k n i l m w = go (int_eq k (pos u.next)) refl w
 
 -- ---- after an insertion
 
-inserted_go : (v : List ℕ) (ss : List Stem) (a s : ℕ) (t : Tuple) (n : ℕ) → AreStems (raise v a) ss → Use ss a s t n → (seq_of t ≡ s → ⊥) → least_offset ≤ℤ offset_of t → (offset_of t +ℤ pos n) ≤ℤ pos 1073741824
+inserted_go : (v : List ℕ) (ss : List Stem) (a s : ℕ) (t : Tuple) (n : ℕ) → AreStems (raise v a) ss → Use ss a s t n → (seq_of t ≡ s → ⊥) → least_offset ≤ℤ offset_of t → (offset_of t +ℤ pos n) ≤ℤ pos OFFSETS_END
     → (o : Option Stem) → stem_of ss a (seq_of t) ≡ o → AreStems (raise v a) (with_extended o (offset_of t) n ss)
 inserted_go v ss a s t n h u d l m None e = h
 inserted_go v ss a s t n h u d l m (Some w) e =
@@ -132,8 +133,8 @@ inserted_go v ss a s t n h u d l m (Some w) e =
     way (Appends x r q f k) = inl (subst (λ (y : Stem). offset_of t ≡ pos y.next) (one x f) k)
     way (Prepends x r f k) = inr (subst (λ (y : Stem). offset_of t +ℤ pos n ≡ y.low) (one x f) k)
 
-pub stems_inserted : (v : List ℕ) (ss : List Stem) (a s : ℕ) (t : Tuple) (n : ℕ) → AreStems v ss → a < length v → s ≡ slice_index v a + 1 → IsTrue (may_use ss a s t n) → 0 < n → n ≤ 1048576
-    → least_offset ≤ℤ offset_of t → (offset_of t +ℤ pos n) ≤ℤ pos 1073741824 → AreStems (raise v a) (stems_after_insert ss a s t n)
+pub stems_inserted : (v : List ℕ) (ss : List Stem) (a s : ℕ) (t : Tuple) (n : ℕ) → AreStems v ss → a < length v → s ≡ slice_index v a + 1 → IsTrue (may_use ss a s t n) → 0 < n → n ≤ CHARACTERS
+    → least_offset ≤ℤ offset_of t → (offset_of t +ℤ pos n) ≤ℤ pos OFFSETS_END → AreStems (raise v a) (stems_after_insert ss a s t n)
 stems_inserted v ss a s t n h l e u z m b c = go (replica_of t == a) (seq_of t == s) refl
   where
     k : AreStems (raise v a) ss

@@ -51,7 +51,7 @@ appended : runs (edited hello (Insert 5 (codes "!"))) ≡ (At mid 0 1 (pos 0) �
 unfolding computing
 appended = refl
 
--- and in front of it
+-- and before it
 prepended : runs (edited hello (Insert 0 (codes "oh "))) ≡ (At mid 0 1 (negsuc 2) ∷ [], 8) ∷ []
 unfolding computing
 prepended = refl

@@ -1,5 +1,6 @@
 -- The operation that an edit makes, and why an edit is refused, read over what a replica consists of.
 use Rattle.std.specs.Prelude.{◌≡◌, ◌+◌, length, take, drop, ◌==◌, slice_get, Option, Some, if◌then◌else◌}
+use Rattle.rls_ident.specs.declared.limits.TheConstants.{GREATEST_NUMBER}
 use Rattle.rls_ops.specs.declared.op.Op.{Op}
 use Rattle.rls_ops.specs.declared.op.Body.{Body}
 use Rattle.rls_ops.specs.declared.op.Body.TheVariants.{Insert, Delete, Rename, Leave}
@@ -34,7 +35,7 @@ made_over s edit = record {
 
 -- the number or the size of the operation is too great
 abbrev pub op_fault_over : Seen → Edit → Option EditError
-op_fault_over s edit = if own_count s == 4294967295 then Some NumbersSpent else size_fault (op_size (made_over s edit))
+op_fault_over s edit = if own_count s == GREATEST_NUMBER then Some NumbersSpent else size_fault (op_size (made_over s edit))
 
 -- the first fault of the edit
 unfoldable pub edit_fault_over : Seen → Edit → Option EditError

@@ -1,5 +1,6 @@
 -- The message for a member, and what comes of taking one, read over what a replica consists of.
 use Rattle.std.specs.Prelude.{◌≡◌, ℕ, ◌<◌, false, List, Option, Some, None}
+use Rattle.rls_ident.specs.declared.limits.TheConstants.{INPUT_BYTES}
 use Rattle.rls_ident.specs.Vectors.{join}
 use Rattle.rls_ops.specs.declared.op.Op.{Op}
 use Rattle.rls_ops.specs.declared.message.Message.{Message}
@@ -25,7 +26,7 @@ message_over s to = record {
   members = members s;
   from = s.acks.me;
   vector = vector s;
-  ops = front_within (head_size (members s)) 67108864 (missing_for (join (row_of s.acks to) (stable_over s)) s.log);
+  ops = front_within (head_size (members s)) INPUT_BYTES (missing_for (join (row_of s.acks to) (stable_over s)) s.log);
 }
 
 -- ---- a replica by what it consists of

@@ -42,7 +42,8 @@ body_refusal_over s o (Insert first text) =
     if may_use s.stems o.author o.seq (last_of first) (length text) then None
     else Some (WrongStem (due_offset s.stems o.author o.seq (last_of first)))
 body_refusal_over s o (Delete targets) = first_unknown_over s o.epoch targets
-body_refusal_over s o _ = None
+body_refusal_over s o (Rename former) = None
+body_refusal_over s o Leave = None
 
 -- the first reason to refuse the operation. It fits where there is none
 unfoldable pub refusal_over : Seen → Op → Option Reason
@@ -62,8 +63,10 @@ answer_over own s o = answer_by own (vector s) s.acks.me s.waiting (refusal_over
 
 -- the rows
 abbrev pub acks_after : AcksSeen → ℕ → Body → AcksSeen
+acks_after acks a (Insert first text) = raised acks a
+acks_after acks a (Delete targets) = raised acks a
+acks_after acks a (Rename former) = raised acks a
 acks_after acks a Leave = parted (raised acks a) a
-acks_after acks a _ = raised acks a
 
 -- the epochs
 abbrev pub epochs_after : Epochs → Op → Epochs

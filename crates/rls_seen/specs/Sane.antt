@@ -1,6 +1,7 @@
--- What holds of each replica, whether or not a history stands behind it.
+-- What holds of each replica, whether or not it stands for a history.
 use Rattle.std.specs.Prelude.{◌≡◌, ℕ, ◌+◌, ◌<◌, ◌≤◌, pos, ◌≤ℤ◌, List, [], ◌∷◌, length, slice_index, All, None, IsTrue, map, ◌*◌, ◌^◌, sum}
 use Rattle.std.specs.List.{list_all}
+use Rattle.rls_ident.specs.declared.limits.TheConstants.{MEMBERS, IDENTIFIERS, OFFSETS_END}
 use Rattle.rls_ident.specs.declared.tuple.Tuple.{Tuple}
 use Rattle.rls_ident.specs.declared.epoch_name.EpochName.{EpochName}
 use Rattle.rls_ident.specs.declared.epoch_name.EpochName.TheVariants.{Origin, Of}
@@ -34,7 +35,7 @@ pub record IsStem (v : List ℕ) (t : Stem) : Type 0 where
   pub bottom : least_offset ≤ℤ t.low
   pub low : t.low ≤ℤ pos 0
   pub some : 0 < t.next
-  pub end : t.next ≤ 1073741824
+  pub end : t.next ≤ OFFSETS_END
 
 -- such stems, in increasing order of author and number
 abbrev pub AreStems : List ℕ → List Stem → Type 0
@@ -61,12 +62,12 @@ pub record AreEpochs (v : List ℕ) (ss : List Stem) (E : Epochs) : Type 0 where
   pub nodes : AreNodes E.nodes
   pub below : AreBelow E.top E.nodes
   pub counted : (e : EpochName) → IsTrue (is_kept E.top E.nodes e) → IsCounted v e
-  pub few : (n : Node) → IsIn n E.nodes → length n.renaming.former ≤ 4194304
+  pub few : (n : Node) → IsIn n E.nodes → length n.renaming.former ≤ IDENTIFIERS
   pub covered : (n : Node) → IsIn n E.nodes → IsCovered ss n
 
 -- ---- operations
 
--- well formed operations with numbers above the vector, each before all behind it
+-- well formed operations with numbers above the vector, each before all after it
 abbrev pub AreHeld : ℕ → List ℕ → List Op → Type 0
 AreHeld n v [] = Unit {0}
 AreHeld n v (w ∷ ws) =
@@ -92,7 +93,7 @@ pub record IsLast (acks : AcksSeen) (o : Op) : Type 0 where
 
 pub record IsSane (s : Seen) : Type 0 where
   pub group : IsLarge s.group
-  pub few : members s ≤ 64
+  pub few : members s ≤ MEMBERS
   pub small : All IsSmall (vector s)
   pub rows : AreRows s.acks
   -- no row counts more of its own member than was accepted
@@ -109,8 +110,8 @@ pub record IsSane (s : Seen) : Type 0 where
   pub unstable : (o : Op) → IsIn o (unstable_over s) → IsTrue (is_kept s.epochs.top s.epochs.nodes o.epoch)
   pub leaves : (o : Op) → IsIn o s.log → IsTrue (is_leave o.body) → IsLast s.acks o
   -- no more characters and former identifiers than parts and operations may bring
-  pub total : length s.text ≤ 2 ^ 63 + 4194304 * sum (vector s)
-  pub former : kept_former s ≤ 2 ^ 54 + 4194304 * sum (vector s)
+  pub total : length s.text ≤ 2 ^ 63 + IDENTIFIERS * sum (vector s)
+  pub former : kept_former s ≤ 2 ^ 54 + IDENTIFIERS * sum (vector s)
 
 -- ---- what a step needs
 

@@ -4,6 +4,7 @@ use Rattle.std.specs.Prelude.{min}
 use Rattle.std.specs.List.{position_or_len, before_first}
 use Rattle.std.proofs.lemmas.Bool.Decides.{nat_tests}
 use Rattle.std.proofs.lemmas.List.{append-nil, take-append-le, drop-append-le}
+use Rattle.rls_ident.specs.declared.limits.TheConstants.{INPUT_BYTES}
 use Rattle.rls_codec.specs.Reading.{message_of}
 use Rattle.rls_io.specs.Device.{Keeps}
 use Rattle.rls_script.specs.Scripts.{is_line_feed}
@@ -13,7 +14,7 @@ use Rattle.rls_session.specs.declared.orders.Order.TheVariants.{Bad, Take}
 use Rattle.rls_session.specs.Answering.{HasAll, IsAnswered, IsNear, IsNext, IsPast, IsReplied}
 use Rattle.rls_session.specs.Answers.{Kind, Sitting, answer, done, taken}
 use Rattle.rls_session.specs.Intake as intake
-use Rattle.rls_session.specs.Intake.{IntakeSeen, input_limit, to_come, KnowsEnd, TellsEnd}
+use Rattle.rls_session.specs.Intake.{IntakeSeen, to_come, KnowsEnd, TellsEnd}
 use Rattle.rls_session.specs.Orders.{order_of}
 use Rattle.rls_session.specs.Replies.{bad_text}
 use Rattle.rls_session.specs.Requests.{Cut, Does, Takes, line_size, cut_after}
@@ -60,7 +61,7 @@ line_found w rest n e none = go (ltb n (length w)) refl
         }
 
 pub found_order : (a0 a b : IntakeSeen) (x0 y : Option (List ℕ)) (n size : ℕ) (ws line : List ℕ) (order : Order) → Keeps (to_come a0 x0) (to_come a y) → a.used ≡ a0.used → n ≡ position_or_len is_line_feed a.waiting
-    → intake.taken a ≤ input_limit + 1 → (n ≡ length a.waiting → intake.taken a ≤ input_limit) → (n ≡ length a.waiting → TellsEnd a0 x0 y) → 0 < length a.waiting → ws ≡ a.waiting → line ≡ take n ws → order ≡ order_of line
+    → intake.taken a ≤ INPUT_BYTES + 1 → (n ≡ length a.waiting → intake.taken a ≤ INPUT_BYTES) → (n ≡ length a.waiting → TellsEnd a0 x0 y) → 0 < length a.waiting → ws ≡ a.waiting → line ≡ take n ws → order ≡ order_of line
     → size ≡ min (n + 1) (length ws) → b.waiting ≡ drop size a.waiting → b.used ≡ a.used + size → (n ≡ length a.waiting → IsTrue a.ended) → b.ended ≡ a.ended → KnowsEnd a0 x0 → IsNext (to_come a0 x0) (Some order) a0 b y
 found_order a0 a b None y n size ws line order keeps used e few few_end ends some whole is ord len waits uses over same known = tt
 found_order a0 a b (Some xs) None n size ws line order keeps used e few few_end ends some whole is ord len waits uses over same known = absurd (cc)
@@ -82,10 +83,10 @@ found_order a0 a b (Some xs) (Some rest) n size ws line order keeps used e few f
       past = record { rest = ap (λ (l : List ℕ). Some l) left; used = uses ∙ ap (λ k. k + size) used ∙ ap (λ k. a0.used + k) (sym line_len) };
     }
   where
-    line_within : (a : IntakeSeen) (n : ℕ) → intake.taken a ≤ input_limit + 1 → (n ≡ length a.waiting → intake.taken a ≤ input_limit) → n ≡ position_or_len is_line_feed a.waiting → (u : ℕ) → u ≡ a.used → (p : ℕ) → p ≡ n → u + p ≤ input_limit
+    line_within : (a : IntakeSeen) (n : ℕ) → intake.taken a ≤ INPUT_BYTES + 1 → (n ≡ length a.waiting → intake.taken a ≤ INPUT_BYTES) → n ≡ position_or_len is_line_feed a.waiting → (u : ℕ) → u ≡ a.used → (p : ℕ) → p ≡ n → u + p ≤ INPUT_BYTES
     line_within a n few few_end e u f p g = go (ltb n (length a.waiting)) refl
       where
-        go : (b : Bool) → ltb n (length a.waiting) ≡ b → u + p ≤ input_limit
+        go : (b : Bool) → ltb n (length a.waiting) ≡ b → u + p ≤ INPUT_BYTES
         go true t = let less : n < length a.waiting = grind (arith, nat_tests) in omega arith
         go false t =
             let le = position_or_len_le is_line_feed a.waiting in

@@ -3,6 +3,7 @@ use Rattle.std.proofs.Common.{◌≡◌, ◌≢◌, ◌∙◌, ◌⊎◌, ◌<�
 use Rattle.std.proofs.lemmas.Bool.Decides.{eqb_tells, nat_tests}
 use Rattle.std.proofs.lemmas.List.{take-append-le}
 use Rattle.std.proofs.Math.Seq.{take-append-add}
+use Rattle.rls_ident.specs.declared.limits.TheConstants.{INPUT_BYTES, FILE_BYTES}
 use Rattle.rls_io.specs.Device.{Appends, Stores}
 use Rattle.rls_codec.specs.CodecLaws.{IsBytes}
 use Rattle.rls_model.specs.declared.parts.Parts.{Parts}
@@ -15,13 +16,12 @@ use Rattle.rls_report.specs.declared.failures.CommandError.{CommandError}
 use Rattle.rls_report.specs.declared.failures.CommandError.TheVariants.{TooLarge}
 use Rattle.rls_store.specs.Stored.{AreWritable}
 use Rattle.rls_stages.specs.Endings.{IsFault, IsPart, EndsWith}
-use Rattle.rls_stages.specs.KeptFile.{IsFileFor, IsReadBack, StandsIn, bytes_over, file_limit, loaded, replica_in, saved}
+use Rattle.rls_stages.specs.KeptFile.{IsFileFor, IsReadBack, StandsIn, bytes_over, loaded, replica_in, saved}
 use Rattle.rls_stages.proofs.Files.{opened, stands_stored}
 use Rattle.rls_session.specs.Answers.{Sitting}
 use Rattle.rls_session.specs.Courses.{Course}
 use Rattle.rls_session.specs.Due.{Due, due, due_of, due_on, ending_status, stops}
 use Rattle.rls_session.specs.Endings.{Ends, FailsAt, IsKept, IsTooLong, Serves}
-use Rattle.rls_session.specs.Intake.{input_limit}
 use Rattle.rls_session.specs.Replies.{saved_text}
 use Rattle.rls_session.specs.Sessions.{session, session_in}
 use Rattle.rls_session.proofs.Agreeing.{IsAlike, sessions_alike}
@@ -40,24 +40,24 @@ within_or_past limit n = go (ltb limit n) refl
     go true e = inr (let h : limit < n = grind (arith, nat_tests) in h, e)
     go false e = inl (let h : n ≤ limit = grind (arith, nat_tests) in h, e)
 
-saved_or_long : (s : Seen) → (saved s ≡ Ok s) ⊎ ((file_limit < length (bytes_over s)) × (saved s ≡ Err TooLarge))
-saved_or_long s = go (within_or_past file_limit (length (bytes_over s)))
+saved_or_long : (s : Seen) → (saved s ≡ Ok s) ⊎ ((FILE_BYTES < length (bytes_over s)) × (saved s ≡ Err TooLarge))
+saved_or_long s = go (within_or_past FILE_BYTES (length (bytes_over s)))
   where
-    go : ((length (bytes_over s) ≤ file_limit) × (ltb file_limit (length (bytes_over s)) ≡ false)) ⊎ ((file_limit < length (bytes_over s)) × (ltb file_limit (length (bytes_over s)) ≡ true))
-        → (saved s ≡ Ok s) ⊎ ((file_limit < length (bytes_over s)) × (saved s ≡ Err TooLarge))
+    go : ((length (bytes_over s) ≤ FILE_BYTES) × (ltb FILE_BYTES (length (bytes_over s)) ≡ false)) ⊎ ((FILE_BYTES < length (bytes_over s)) × (ltb FILE_BYTES (length (bytes_over s)) ≡ true))
+        → (saved s ≡ Ok s) ⊎ ((FILE_BYTES < length (bytes_over s)) × (saved s ≡ Err TooLarge))
     go (inl h) = inl (rw (h.1) refl)
     go (inr h) = inr (h.0, rw (h.1) refl)
 
-ending_or_long : (c : Course (Sitting Seen)) → ((due_of c).ending ≡ Ok (c.state).state) ⊎ (((input_limit < c.used) ⊎ (file_limit < length (bytes_over (c.state).state))) × ((due_of c).ending ≡ Err TooLarge))
-ending_or_long c = go (within_or_past input_limit c.used)
+ending_or_long : (c : Course (Sitting Seen)) → ((due_of c).ending ≡ Ok (c.state).state) ⊎ (((INPUT_BYTES < c.used) ⊎ (FILE_BYTES < length (bytes_over (c.state).state))) × ((due_of c).ending ≡ Err TooLarge))
+ending_or_long c = go (within_or_past INPUT_BYTES c.used)
   where
-    go : ((c.used ≤ input_limit) × (ltb input_limit c.used ≡ false)) ⊎ ((input_limit < c.used) × (ltb input_limit c.used ≡ true))
-        → ((due_of c).ending ≡ Ok (c.state).state) ⊎ (((input_limit < c.used) ⊎ (file_limit < length (bytes_over (c.state).state))) × ((due_of c).ending ≡ Err TooLarge))
+    go : ((c.used ≤ INPUT_BYTES) × (ltb INPUT_BYTES c.used ≡ false)) ⊎ ((INPUT_BYTES < c.used) × (ltb INPUT_BYTES c.used ≡ true))
+        → ((due_of c).ending ≡ Ok (c.state).state) ⊎ (((INPUT_BYTES < c.used) ⊎ (FILE_BYTES < length (bytes_over (c.state).state))) × ((due_of c).ending ≡ Err TooLarge))
     go (inr h) = inr (inl h.0, rw (h.1) refl)
     go (inl h) = rest (saved_or_long (c.state).state)
       where
-        rest : (saved (c.state).state ≡ Ok (c.state).state) ⊎ ((file_limit < length (bytes_over (c.state).state)) × (saved (c.state).state ≡ Err TooLarge))
-            → ((due_of c).ending ≡ Ok (c.state).state) ⊎ (((input_limit < c.used) ⊎ (file_limit < length (bytes_over (c.state).state))) × ((due_of c).ending ≡ Err TooLarge))
+        rest : (saved (c.state).state ≡ Ok (c.state).state) ⊎ ((FILE_BYTES < length (bytes_over (c.state).state)) × (saved (c.state).state ≡ Err TooLarge))
+            → ((due_of c).ending ≡ Ok (c.state).state) ⊎ (((INPUT_BYTES < c.used) ⊎ (FILE_BYTES < length (bytes_over (c.state).state))) × ((due_of c).ending ≡ Err TooLarge))
         rest (inl e) = inl (rw (h.1) e)
         rest (inr e) = inr (inr e.0, rw (h.1) e.1)
 
@@ -110,18 +110,18 @@ found_serves n s t bytes given kept new_file old new same e =
       part = subst (λ (r : List ℕ). IsPart old new (r ++ saved_text)) same.replies (any_part (due_of c) n (Some kept) new_file old new e);
     }
   where
-    long : (input_limit < (session s given).used) ⊎ (file_limit < length (bytes_over ((session s given).state).state)) → IsTooLong bytes (session_in t given)
-    long (inl h) = inr (inl (subst (λ m. input_limit < m) same.used h))
-    long (inr h) = inr (inr (subst (λ (p : Parts). file_limit < length (file_bytes p)) (parts_alike ((session s given).state).state ((session_in t given).state).state (same.states).stands) h))
+    long : (INPUT_BYTES < (session s given).used) ⊎ (FILE_BYTES < length (bytes_over ((session s given).state).state)) → IsTooLong bytes (session_in t given)
+    long (inl h) = inr (inl (subst (λ m. INPUT_BYTES < m) same.used h))
+    long (inr h) = inr (inr (subst (λ (p : Parts). FILE_BYTES < length (file_bytes p)) (parts_alike ((session s given).state).state ((session_in t given).state).state (same.states).stands) h))
 
-    status : ((due_of (session s given)).ending ≡ Ok ((session s given).state).state) ⊎ (((input_limit < (session s given).used) ⊎ (file_limit < length (bytes_over ((session s given).state).state))) × ((due_of (session s given)).ending ≡ Err TooLarge))
+    status : ((due_of (session s given)).ending ≡ Ok ((session s given).state).state) ⊎ (((INPUT_BYTES < (session s given).used) ⊎ (FILE_BYTES < length (bytes_over ((session s given).state).state))) × ((due_of (session s given)).ending ≡ Err TooLarge))
         → (n ≡ ending_status (due_of (session s given)).ending) ⊎ IsFault n → EndsWith n 0 (IsTooLong bytes (session_in t given))
     status (inl h) (inl st) = inl (st ∙ ap ending_status h)
     status (inr h) (inl st) = inr (inr (st ∙ ap ending_status h.1, long h.0))
     status h (inr f) = inr (inl f)
 
 -- the kept file is too long
-long_serves : (n : ℕ) (t : State) (bytes given : List ℕ) (kept : Option (List ℕ)) (new_file : Option (Option (List ℕ))) (old new : Option (List ℕ)) → file_limit < length bytes → Ends (stops TooLarge) n (Some kept) new_file old new
+long_serves : (n : ℕ) (t : State) (bytes given : List ℕ) (kept : Option (List ℕ)) (new_file : Option (Option (List ℕ))) (old new : Option (List ℕ)) → FILE_BYTES < length bytes → Ends (stops TooLarge) n (Some kept) new_file old new
     → Serves n bytes (session_in t given) new_file old new
 long_serves n t bytes given kept new_file old new h e = record {
   status = status e.status;
@@ -155,12 +155,12 @@ long_serves n t bytes given kept new_file old new h e = record {
 
 pub history_serves : (n : ℕ) (file new_file : Option (Option (List ℕ))) (left old new : Option (List ℕ)) (t : State) (bytes given : List ℕ) → IfSome (due file left) (λ d. Ends d n file new_file old new) → file ≡ Some (Some bytes) → IsFileFor bytes t
     → left ≡ Some given → IsBytes given → Serves n bytes (session_in t given) new_file old new
-history_serves n file new_file left old new t bytes given e f stands l b = go (within_or_past file_limit (length bytes))
+history_serves n file new_file left old new t bytes given e f stands l b = go (within_or_past FILE_BYTES (length bytes))
   where
     told : IfSome (due (Some (Some bytes)) (Some given)) (λ d. Ends d n (Some (Some bytes)) new_file old new)
     told = subst (λ (x : Option (List ℕ)). IfSome (due (Some (Some bytes)) x) (λ d. Ends d n (Some (Some bytes)) new_file old new)) l (subst (λ (x : Option (Option (List ℕ))). IfSome (due x left) (λ d. Ends d n x new_file old new)) f e)
 
-    go : ((length bytes ≤ file_limit) × (ltb file_limit (length bytes) ≡ false)) ⊎ ((file_limit < length bytes) × (ltb file_limit (length bytes) ≡ true)) → Serves n bytes (session_in t given) new_file old new
+    go : ((length bytes ≤ FILE_BYTES) × (ltb FILE_BYTES (length bytes) ≡ false)) ⊎ ((FILE_BYTES < length bytes) × (ltb FILE_BYTES (length bytes) ≡ true)) → Serves n bytes (session_in t given) new_file old new
     go (inl h) =
         let o = opened bytes t stands in
         let found : replica_in (loaded (Some bytes)) ≡ Ok o.0 = rw (h.1) (o.1.found) in

@@ -4,6 +4,7 @@ use Rattle.std.specs.List.{position_or_len, before_first}
 use Rattle.std.proofs.lemmas.Grind.{common_steps}
 use Rattle.std.proofs.Math.Seq.{take-append-add}
 use Rattle.std.proofs.lemmas.List.{append-nil, take-append-drop, take-append-le}
+use Rattle.rls_ident.specs.declared.limits.TheConstants.{INPUT_BYTES}
 use Rattle.rls_io.specs.Device.{Appends, Keeps}
 use Rattle.rls_script.specs.Scripts.{is_line_feed}
 use Rattle.rls_stages.specs.Endings.{IsPart}
@@ -15,7 +16,7 @@ use Rattle.rls_session.specs.declared.orders.Order.{Order}
 use Rattle.rls_session.specs.declared.orders.Order.TheVariants.{Take, Quit}
 use Rattle.rls_session.specs.Answering.{of_read, HasNoLine, IsDone, IsNear, IsNext, IsPrompt, IsReplied, IsUnused, LacksPart}
 use Rattle.rls_session.specs.Courses.{Course, course}
-use Rattle.rls_session.specs.Intake.{IntakeSeen, input_limit, taken, to_come, KnowsEnd, KeepsEnd}
+use Rattle.rls_session.specs.Intake.{IntakeSeen, taken, to_come, KnowsEnd, KeepsEnd}
 use Rattle.rls_session.specs.Orders.{order_of}
 use Rattle.rls_session.specs.Requests.{line_size, cut_after, with_line, cut}
 use Rattle.rls_session.proofs.Courses.{Answers, Comes, comes_first, comes_next, comes_end, comes_quit}
@@ -49,7 +50,7 @@ pub record IsBetween {S : Type 0} (answer : Answers S) (first : S) (given : List
   pub replies : List ℕ
   pub before : ℕ
   pub used : a.used ≡ before + line_size bytes
-  pub within : before + position_or_len is_line_feed bytes ≤ input_limit
+  pub within : before + position_or_len is_line_feed bytes ≤ INPUT_BYTES
   pub comes : Comes answer (course answer first given) replies before s bytes
   pub written : Appends old new replies
   pub front : List ℕ
@@ -185,12 +186,12 @@ way_quit answer first s input order a x old new between is = more input _ _ step
         let q : order_of (before_first is_line_feed w.bytes) ≡ Quit = sym w.order_is ∙ is in
         let all = comes_quit answer (course answer first given) w.replies w.before s w.bytes w.comes w.some (ap (λ c. c.request) (cut_is w.bytes Quit (sym q))) in
         let one = quit_letter_size w.bytes q in
-        let within : w.before + 1 ≤ input_limit = omega (arith, w.within) in
+        let within : w.before + 1 ≤ INPUT_BYTES = omega (arith, w.within) in
         rw all (record { state_is = refl; within = within; written = w.written })
 
 -- ---- an input that is too long
 
-full_between : {S : Type 0} (answer : Answers S) (whole : Course S) (replies : List ℕ) (used : ℕ) (s : S) (bytes : List ℕ) (k : ℕ) → Comes answer whole replies used s bytes → k ≤ (course answer s bytes).used → input_limit < used + k → input_limit < whole.used
+full_between : {S : Type 0} (answer : Answers S) (whole : Course S) (replies : List ℕ) (used : ℕ) (s : S) (bytes : List ℕ) (k : ℕ) → Comes answer whole replies used s bytes → k ≤ (course answer s bytes).used → INPUT_BYTES < used + k → INPUT_BYTES < whole.used
 full_between answer whole replies used s bytes k comes h past = rw (comes.course_is) (omega arith)
 
 -- what waits, and what is left of the input
@@ -204,10 +205,10 @@ come_split a (Some rest) bytes e = (rest, cc)
 
 -- no whole line waits
 pub way_full : {S : Type 0} (answer : Answers S) (first s : S) (input : Option (List ℕ)) (a b : IntakeSeen) (x y old new : Option (List ℕ)) → OnWay answer first input s a x old new
-    → IsUnused a b (to_come a x) (to_come b y) → taken b ≡ input_limit + 1 → HasNoLine b → IfSome input (λ given. input_limit < (course answer first given).used)
+    → IsUnused a b (to_come a x) (to_come b y) → taken b ≡ INPUT_BYTES + 1 → HasNoLine b → IfSome input (λ given. INPUT_BYTES < (course answer first given).used)
 way_full answer first s input a b x y old new way unused full none = more input _ _ step way
   where
-    step : (given : List ℕ) → input ≡ Some given → IsOnWay answer first given s a x old new → input_limit < (course answer first given).used
+    step : (given : List ℕ) → input ≡ Some given → IsOnWay answer first given s a x old new → INPUT_BYTES < (course answer first given).used
     step given e w =
         let same = subst (λ (o : Option (List ℕ)). Keeps o (to_come b y)) w.to_come_is unused.same in
         let split = come_split b y w.bytes same in
@@ -216,10 +217,10 @@ way_full answer first s input a b x y old new way unused full none = more input 
 
 -- the message of an order doesn't wait whole
 pub between_full : {S : Type 0} (answer : Answers S) (first s : S) (input : Option (List ℕ)) (order : Order) (a b : IntakeSeen) (x y old new : Option (List ℕ)) → Between answer first input s order a x old new
-    → IsUnused a b (to_come a x) (to_come b y) → taken b ≡ input_limit + 1 → LacksPart order b.waiting → IfSome input (λ given. input_limit < (course answer first given).used)
+    → IsUnused a b (to_come a x) (to_come b y) → taken b ≡ INPUT_BYTES + 1 → LacksPart order b.waiting → IfSome input (λ given. INPUT_BYTES < (course answer first given).used)
 between_full answer first s input (Take n) a b x y old new between unused full none = more input _ _ step between
   where
-    step : (given : List ℕ) → input ≡ Some given → IsBetween answer first given s (Take n) a x old new → input_limit < (course answer first given).used
+    step : (given : List ℕ) → input ≡ Some given → IsBetween answer first given s (Take n) a x old new → INPUT_BYTES < (course answer first given).used
     step given e w =
         let same = subst (λ (o : Option (List ℕ)). Keeps o (to_come b y)) w.to_come_is unused.same in
         let split = come_split b y (drop (line_size w.bytes) w.bytes) same in

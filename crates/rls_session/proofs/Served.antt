@@ -3,6 +3,7 @@ use Rattle.std.proofs.Common.{◌≡◌, ◌≢◌, ◌∙◌, ◌⊎◌, ◌<�
 use Rattle.std.proofs.lemmas.Bool.Decides.{nat_tests}
 use Rattle.std.proofs.lemmas.Grind.{common_steps}
 use Rattle.std.proofs.lemmas.List.{append-nil}
+use Rattle.rls_ident.specs.declared.limits.TheConstants.{INPUT_BYTES}
 use Rattle.rls_io.specs.Device.{Appends, Keeps, Rose, Stores}
 use Rattle.rls_seen.specs.Seen.{Seen}
 use Rattle.rls_report.specs.declared.failures.CommandError.{CommandError}
@@ -25,7 +26,6 @@ use Rattle.rls_session.specs.Answers.{Sitting}
 use Rattle.rls_session.specs.Courses.{Course}
 use Rattle.rls_session.specs.Due.{Due, due, due_of, due_on, ending_status, line_at}
 use Rattle.rls_session.specs.Endings.{Ends, EndsAs, EndsNear, FailsAt, IsEarly, IsKept, IsStatusOf, Leaves, OnSession, Saves, line_of}
-use Rattle.rls_session.specs.Intake.{input_limit}
 use Rattle.rls_session.specs.Replies.{saved_text}
 use Rattle.rls_session.specs.Sessions.{session}
 
@@ -88,26 +88,26 @@ saved_part s r e bytes file new_file old new sink is same back stored wrote = rw
 
 -- ---- what is left
 
-ending_is : (c : Course (Sitting Seen)) → c.used ≤ input_limit → (due_of c).ending ≡ saved (c.state).state
-ending_is c h = let test : ltb input_limit c.used ≡ false = grind (arith, nat_tests) in rw test refl
+ending_is : (c : Course (Sitting Seen)) → c.used ≤ INPUT_BYTES → (due_of c).ending ≡ saved (c.state).state
+ending_is c h = let test : ltb INPUT_BYTES c.used ≡ false = grind (arith, nat_tests) in rw test refl
 
-ending_long : (c : Course (Sitting Seen)) → input_limit < c.used → (due_of c).ending ≡ Err errors.TooLarge
-ending_long c h = let test : ltb input_limit c.used ≡ true = grind (arith, nat_tests) in rw test refl
+ending_long : (c : Course (Sitting Seen)) → INPUT_BYTES < c.used → (due_of c).ending ≡ Err errors.TooLarge
+ending_long c h = let test : ltb INPUT_BYTES c.used ≡ true = grind (arith, nat_tests) in rw test refl
 
 -- the session ended before the file was to be stored
-answer_leaves : (e : AnswerError) (c : Course (Sitting Seen)) (file : Option (Option (List ℕ))) (old new : Option (List ℕ)) → (e ≡ TooLarge → input_limit < c.used) → IsPart old new c.replies → Leaves (Err (of_answer e)) (due_of c) file file old new
+answer_leaves : (e : AnswerError) (c : Course (Sitting Seen)) (file : Option (Option (List ℕ))) (old new : Option (List ℕ)) → (e ≡ TooLarge → INPUT_BYTES < c.used) → IsPart old new c.replies → Leaves (Err (of_answer e)) (due_of c) file file old new
 answer_leaves SourceFault c file old new long part = (tt, part)
 answer_leaves SinkFault c file old new long part = inl (keeps_same file, part)
 answer_leaves TooLarge c file old new long part = (ending_long c (long refl), part)
 answer_leaves OutOfMemory c file old new long part = (tt, part)
 
-pub answers_leave : (e : AnswerError) (s : Seen) (input : Option (List ℕ)) (file : Option (Option (List ℕ))) (old new : Option (List ℕ)) → (e ≡ TooLarge → IfSome input (λ given. input_limit < (session s given).used))
+pub answers_leave : (e : AnswerError) (s : Seen) (input : Option (List ℕ)) (file : Option (Option (List ℕ))) (old new : Option (List ℕ)) → (e ≡ TooLarge → IfSome input (λ given. INPUT_BYTES < (session s given).used))
     → IfSome input (λ given. IsPart old new (session s given).replies) → IfSome input (λ given. Leaves (Err (of_answer e)) (due_of (session s given)) file file old new)
 answers_leave e s None file old new long part = tt
 answers_leave e s (Some given) file old new long part = answer_leaves e (session s given) file old new long part
 
 -- the file was to be stored
-save_leaves : (r : Result (Unit {0}) Failure) (c : Course (Sitting Seen)) (s : Seen) (file new_file : Option (Option (List ℕ))) (old mid new : Option (List ℕ)) → (c.state).state ≡ s → c.used ≤ input_limit → Appends old mid c.replies
+save_leaves : (r : Result (Unit {0}) Failure) (c : Course (Sitting Seen)) (s : Seen) (file new_file : Option (Option (List ℕ))) (old mid new : Option (List ℕ)) → (c.state).state ≡ s → c.used ≤ INPUT_BYTES → Appends old mid c.replies
     → r ≢ Err (Fault Source) → Saves r (saved s) file new_file mid new → Leaves r (due_of c) file new_file old new
 save_leaves r c s file new_file old mid new at within wrote inner saves = go r inner saves
   where

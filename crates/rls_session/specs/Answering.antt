@@ -1,6 +1,7 @@
 -- The requests of an input, answered one after another by what was taken of it.
 use Rattle.std.specs.Prelude.{◌≡◌, ◌<◌, ◌≤◌, ◌⊎◌, ◌+◌, ◌++◌, ℕ, IsFalse, List, [], length, drop, Option, Some, None, IfSome}
 use Rattle.std.specs.List.{position_or_len, before_first}
+use Rattle.rls_ident.specs.declared.limits.TheConstants.{INPUT_BYTES}
 use Rattle.rls_io.specs.Device.{Appends, Keeps}
 use Rattle.rls_io.specs.declared.reading.ReadError.{ReadError}
 use Rattle.rls_io.specs.declared.reading.ReadError.TheVariants as read
@@ -14,7 +15,7 @@ use Rattle.rls_session.specs.declared.answering.AnswerError.TheVariants.{SourceF
 use Rattle.rls_session.specs.declared.orders.Order.{Order}
 use Rattle.rls_session.specs.declared.orders.Order.TheVariants as orders
 use Rattle.rls_session.specs.Courses.{Answered, Course, course}
-use Rattle.rls_session.specs.Intake.{IntakeSeen, input_limit, to_come}
+use Rattle.rls_session.specs.Intake.{IntakeSeen, to_come}
 use Rattle.rls_session.specs.Orders.{order_of}
 use Rattle.rls_session.specs.Requests.{Request, line_size, cut_after}
 
@@ -50,7 +51,7 @@ pub record IsPast (bytes : List ℕ) (n : ℕ) (old new : IntakeSeen) (left : Op
 pub record IsOrder (bytes : List ℕ) (order : Order) (old new : IntakeSeen) (left : Option (List ℕ)) : Type 0 where
   pub some : 0 < length bytes
   pub order_is : order ≡ order_of (before_first is_line_feed bytes)
-  pub within : old.used + position_or_len is_line_feed bytes ≤ input_limit
+  pub within : old.used + position_or_len is_line_feed bytes ≤ INPUT_BYTES
   -- unless the input has ended, its line feed is there
   pub fed : IsFalse new.ended → position_or_len is_line_feed bytes < length bytes
   pub past : IsPast bytes (line_size bytes) old new left
@@ -58,7 +59,7 @@ pub record IsOrder (bytes : List ℕ) (order : Order) (old new : IntakeSeen) (le
 -- nothing is to come, and no more was taken than a session goes through
 pub record IsOver (bytes : List ℕ) (old : IntakeSeen) : Type 0 where
   pub none : bytes ≡ []
-  pub within : old.used ≤ input_limit
+  pub within : old.used ≤ INPUT_BYTES
 
 abbrev pub IsNextOf : List ℕ → Option Order → IntakeSeen → IntakeSeen → Option (List ℕ) → Type 0
 IsNextOf bytes None old new left = IsOver bytes old
@@ -118,5 +119,5 @@ pub record IsPrompt {S : Type 0} (answer : S → Request → Answered S) (first 
 -- the session came to its end here
 pub record IsDone {S : Type 0} (c : Course S) (s : S) (old new : Option (List ℕ)) : Type 0 where
   pub state_is : c.state ≡ s
-  pub within : c.used ≤ input_limit
+  pub within : c.used ≤ INPUT_BYTES
   pub written : Appends old new c.replies

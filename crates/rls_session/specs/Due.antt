@@ -1,5 +1,6 @@
 -- What a session calls for, by the kept file and the input, read over what the replica consists of that the file says.
 use Rattle.std.specs.Prelude.{ℕ, List, [], nat_lt, Option, Some, None, option_map, Result, Ok, Err, if◌then◌else◌}
+use Rattle.rls_ident.specs.declared.limits.TheConstants.{INPUT_BYTES}
 use Rattle.rls_report.specs.declared.failures.CommandError.{CommandError}
 use Rattle.rls_report.specs.declared.failures.CommandError.TheVariants.{TooLarge}
 use Rattle.rls_report.specs.Failures.{error_line, error_status}
@@ -8,7 +9,6 @@ use Rattle.rls_stages.specs.Endings.{own_line, or_else}
 use Rattle.rls_stages.specs.KeptFile.{loaded, replica_in, saved}
 use Rattle.rls_session.specs.Answers.{Sitting}
 use Rattle.rls_session.specs.Courses.{Course}
-use Rattle.rls_session.specs.Intake.{input_limit}
 use Rattle.rls_session.specs.Sessions.{session}
 
 -- the replies to all requests, and the replica whose file is stored then, or why none is
@@ -18,7 +18,7 @@ pub record Due : Type 0 where
 
 -- after this course. An input is too long if it comes neither to its end nor to the order to quit within the limit
 abbrev pub due_of : Course (Sitting Seen) → Due
-due_of c = record { replies = c.replies; ending = if nat_lt input_limit c.used then Err TooLarge else saved (c.state).state }
+due_of c = record { replies = c.replies; ending = if nat_lt INPUT_BYTES c.used then Err TooLarge else saved (c.state).state }
 
 -- nothing is answered
 abbrev pub stops : CommandError → Due

@@ -1,5 +1,6 @@
 -- How a session ends, given what it calls for.
 use Rattle.std.specs.Prelude.{◌≡◌, ◌≢◌, ◌≤◌, ◌<◌, ◌⊎◌, ◌++◌, ℕ, List, [], length, take, Option, IfSome, IfOk, Result, Ok, Err}
+use Rattle.rls_ident.specs.declared.limits.TheConstants.{INPUT_BYTES, FILE_BYTES}
 use Rattle.rls_io.specs.Device.{Appends, Keeps, Stores}
 use Rattle.rls_model.specs.Parts.{parts}
 use Rattle.rls_model.specs.Receiving.{State}
@@ -10,12 +11,11 @@ use Rattle.rls_report.specs.declared.failures.Failure.{Failure}
 use Rattle.rls_report.specs.declared.failures.Failure.TheVariants.{NoCommand, Command, Fault}
 use Rattle.rls_report.specs.declared.failures.Fault.TheVariants.{Source, Sink}
 use Rattle.rls_stages.specs.Endings.{EndsWith, IsFailureStatus, IsFault, IsPart, failure_line_at}
-use Rattle.rls_stages.specs.KeptFile.{IsReadBack, StandsIn, bytes_over, file_limit, loaded, replica_in}
+use Rattle.rls_stages.specs.KeptFile.{IsReadBack, StandsIn, bytes_over, loaded, replica_in}
 use Rattle.rls_session.specs.Answering.{IsNear, IsPrompt}
 use Rattle.rls_session.specs.Answers.{Sitting, answer, sitting_at}
 use Rattle.rls_session.specs.Courses.{Course}
 use Rattle.rls_session.specs.Due.{Due, ending_status}
-use Rattle.rls_session.specs.Intake.{input_limit}
 use Rattle.rls_session.specs.Replies.{saved_text}
 use Rattle.rls_session.specs.Sessions.{by_parts, session}
 
@@ -84,7 +84,7 @@ line_of (Err f) n = failure_line_at f n
 
 -- the kept file is too long, or the input before it ends or quits, or the file that is to be stored
 abbrev pub IsTooLong : List ℕ → Course (Sitting State) → Type 0
-IsTooLong bytes c = (file_limit < length bytes) ⊎ (input_limit < c.used) ⊎ (file_limit < length (file_bytes (parts (c.state).state)))
+IsTooLong bytes c = (FILE_BYTES < length bytes) ⊎ (INPUT_BYTES < c.used) ⊎ (FILE_BYTES < length (file_bytes (parts (c.state).state)))
 
 -- a session over these bytes of a file, with this course, ends so
 pub record Serves (n : ℕ) (bytes : List ℕ) (c : Course (Sitting State)) (new_file : Option (Option (List ℕ))) (old new : Option (List ℕ)) : Type 0 where

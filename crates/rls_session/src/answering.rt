@@ -2,6 +2,7 @@
 
 ghost use Rattle.std.specs.Prelude.{◌≡◌, ◌+◌, ◌≤◌, ◌<◌, IsTrue, IsFalse, length, take, Some, None, Ok, Err, IfOk, OnOk, OnErr, IfErr, IfSome};
 ghost use Rattle.std.specs.List.{position_or_len};
+ghost use Rattle.rls_ident.specs.declared.limits.TheConstants.{INPUT_BYTES};
 ghost use Rattle.rls_io.specs.Device.{Rose, Appends};
 ghost use Rattle.rls_io.specs.declared.reading.ReadError.TheVariants as read;
 ghost use Rattle.rls_script.specs.Scripts.{is_line_feed};
@@ -9,7 +10,7 @@ ghost use Rattle.rls_stages.specs.Endings.{IsPart};
 ghost use Rattle.rls_session.specs.Answering.{of_answer, of_read, HasNoLine, IsDone, IsNear, IsNext, IsPrompt, IsReplied, IsUnused, LacksPart};
 ghost use Rattle.rls_session.specs.Answers.{answer};
 ghost use Rattle.rls_session.specs.Courses.{course};
-ghost use Rattle.rls_session.specs.Intake.{input_limit, taken, to_come, KnowsEnd, KeepsEnd};
+ghost use Rattle.rls_session.specs.Intake.{taken, to_come, KnowsEnd, KeepsEnd};
 ghost use Rattle.rls_session.specs.Requests.{cut_after};
 ghost use Rattle.rls_session.specs.Sessions.{by_parts};
 ghost use Rattle.rls_session.specs.declared.answering.AnswerError.TheVariants as AnswerError;
@@ -73,8 +74,8 @@ fn next_order<S: Source>(
     ensures next { IfOk result (λ order. KnowsEnd intake.old (S.left input.old) → IsNext (to_come intake.old (S.left input.old)) order intake.old intake.new (S.left input.new)) }
     ensures known { KeepsEnd intake.old (S.left input.old) intake.new (S.left input.new) }
     ensures advances { IfOk result (λ order. IfSome order (λ _. intake.old.used < intake.new.used)) }
-    ensures within { taken intake.new ≤ input_limit + 1 }
-    ensures too_large { result ≡ Err read.TooLarge → IsUnused intake.old intake.new (to_come intake.old (S.left input.old)) (to_come intake.new (S.left input.new)) × (taken intake.new ≡ input_limit + 1) × HasNoLine intake.new }
+    ensures within { taken intake.new ≤ INPUT_BYTES + 1 }
+    ensures too_large { result ≡ Err read.TooLarge → IsUnused intake.old intake.new (to_come intake.old (S.left input.old)) (to_come intake.new (S.left input.new)) × (taken intake.new ≡ INPUT_BYTES + 1) × HasNoLine intake.new }
     ensures unread { result ≡ Err read.Fault → IsUnused intake.old intake.new (to_come intake.old (S.left input.old)) (to_come intake.new (S.left input.new)) × IsFalse intake.new.ended × HasNoLine intake.new }
     ensures fault { result ≡ Err read.Fault → Rose (S.faults input.old) (S.faults input.new) }
     ensures stays_ended { IsTrue intake.old.ended → IsTrue intake.new.ended }
@@ -113,8 +114,8 @@ fn reply_to<S: Source>(
         IsReplied (answer by_parts desk.old) bytes order reply.items desk.new intake.old intake.new (S.left input.new))) }
     ensures known { KeepsEnd intake.old (S.left input.old) intake.new (S.left input.new) }
     ensures advances { intake.old.used ≤ intake.new.used }
-    ensures within { taken intake.old ≤ input_limit + 1 → taken intake.new ≤ input_limit + 1 }
-    ensures too_large { result ≡ Err read.TooLarge → IsUnused intake.old intake.new (to_come intake.old (S.left input.old)) (to_come intake.new (S.left input.new)) × (taken intake.new ≡ input_limit + 1) × LacksPart order intake.new.waiting }
+    ensures within { taken intake.old ≤ INPUT_BYTES + 1 → taken intake.new ≤ INPUT_BYTES + 1 }
+    ensures too_large { result ≡ Err read.TooLarge → IsUnused intake.old intake.new (to_come intake.old (S.left input.old)) (to_come intake.new (S.left input.new)) × (taken intake.new ≡ INPUT_BYTES + 1) × LacksPart order intake.new.waiting }
     ensures unread { result ≡ Err read.Fault → IsUnused intake.old intake.new (to_come intake.old (S.left input.old)) (to_come intake.new (S.left input.new)) × IsFalse intake.new.ended × LacksPart order intake.new.waiting }
     ensures fault { result ≡ Err read.Fault → Rose (S.faults input.old) (S.faults input.new) }
     ensures stays_ended { IsTrue intake.old.ended → IsTrue intake.new.ended }
@@ -143,8 +144,8 @@ fn reply_to_message<S: Source>(
         IsReplied (answer by_parts desk.old) bytes (Order.Take len) reply.items desk.new intake.old intake.new (S.left input.new))) }
     ensures known { KeepsEnd intake.old (S.left input.old) intake.new (S.left input.new) }
     ensures advances { intake.old.used ≤ intake.new.used }
-    ensures within { taken intake.new ≤ input_limit + 1 }
-    ensures too_large { result ≡ Err read.TooLarge → IsUnused intake.old intake.new (to_come intake.old (S.left input.old)) (to_come intake.new (S.left input.new)) × (taken intake.new ≡ input_limit + 1) × (length intake.new.waiting < len) }
+    ensures within { taken intake.new ≤ INPUT_BYTES + 1 }
+    ensures too_large { result ≡ Err read.TooLarge → IsUnused intake.old intake.new (to_come intake.old (S.left input.old)) (to_come intake.new (S.left input.new)) × (taken intake.new ≡ INPUT_BYTES + 1) × (length intake.new.waiting < len) }
     ensures unread { result ≡ Err read.Fault → IsUnused intake.old intake.new (to_come intake.old (S.left input.old)) (to_come intake.new (S.left input.new)) × IsFalse intake.new.ended × (length intake.new.waiting < len) }
     ensures fault { result ≡ Err read.Fault → Rose (S.faults input.old) (S.faults input.new) }
     ensures stays_ended { IsTrue intake.old.ended → IsTrue intake.new.ended }
@@ -196,7 +197,7 @@ pub(crate) fn answer_all<S: Source, W: Sink>(
 ) -> Result<(), AnswerError>
     ensures done { OnOk result (IfSome (S.left input.old) (λ given. IsDone (course (answer by_parts) desk.old given) desk.new (W.told output.old) (W.told output.new))) }
     ensures part { OnErr result (IfSome (S.left input.old) (λ given. IsPart (W.told output.old) (W.told output.new) (course (answer by_parts) desk.old given).replies)) }
-    ensures too_large { result ≡ Err AnswerError.TooLarge → IfSome (S.left input.old) (λ given. input_limit < (course (answer by_parts) desk.old given).used) }
+    ensures too_large { result ≡ Err AnswerError.TooLarge → IfSome (S.left input.old) (λ given. INPUT_BYTES < (course (answer by_parts) desk.old given).used) }
     ensures prompt { result ≡ Err AnswerError.SourceFault → IfSome (S.left input.old) (λ given. IsPrompt (answer by_parts) desk.old given (S.left input.new) (W.told output.old) (W.told output.new)) }
     ensures near { IfSome (S.left input.old) (λ given. IsNear given (S.left input.new) (course (answer by_parts) desk.old given).used) }
     ensures input { result ≡ Err AnswerError.SourceFault → Rose (S.faults input.old) (S.faults input.new) }

@@ -2,17 +2,16 @@
 
 ghost use Rattle.std.specs.Prelude.{◌≡◌, ◌+◌, ◌<◌, ◌≤◌, length, drop, [], true, false, Ok, Err, IfOk, OnErr, IsTrue, IsFalse};
 ghost use Rattle.std.specs.List.{position_or_len};
+ghost use Rattle.rls_ident.specs.declared.limits.TheConstants.{INPUT_BYTES};
 ghost use Rattle.rls_io.specs.Device.{Rose, Keeps};
 ghost use Rattle.rls_io.specs.declared.reading.ReadError.TheVariants as read;
 ghost use Rattle.rls_script.specs.Scripts.{is_line_feed};
-ghost use Rattle.rls_session.specs.Intake.{input_limit, taken, to_come, TellsEnd, KeepsEnd, Grows};
+ghost use Rattle.rls_session.specs.Intake.{taken, to_come, TellsEnd, KeepsEnd, Grows};
 
+use rls_ident::limits::INPUT_BYTES;
 use rls_io::{ReadError, Source};
 use std::alloc::Global;
 use std::marker::Model;
-
-/// The most bytes of an input that a session goes through.
-const LIMIT: u64 = 67_108_864;
 
 /// How many bytes one call asks the source for, at most.
 const STEP: usize = 4096;
@@ -31,13 +30,14 @@ pub(crate) struct Intake {
 
 impl Model for Intake {
     ghost use Rattle.std.specs.Prelude.{◌≤◌, ◌+◌, length, drop, IsTrue};
-    ghost use Rattle.rls_session.specs.Intake.{IntakeSeen, input_limit};
+    ghost use Rattle.rls_ident.specs.declared.limits.TheConstants.{INPUT_BYTES};
+    ghost use Rattle.rls_session.specs.Intake.{IntakeSeen};
 
     ghost Value = { IntakeSeen };
 
     ghost view = { λ a. record { waiting = drop a.at a.bytes.items; used = a.used; ended = a.ended } };
 
-    ghost invariant = { λ a. (a.at ≤ length a.bytes.items) × (a.used + length (drop a.at a.bytes.items) ≤ input_limit + 1) × (IsTrue a.ended → a.used + length (drop a.at a.bytes.items) ≤ input_limit) };
+    ghost invariant = { λ a. (a.at ≤ length a.bytes.items) × (a.used + length (drop a.at a.bytes.items) ≤ INPUT_BYTES + 1) × (IsTrue a.ended → a.used + length (drop a.at a.bytes.items) ≤ INPUT_BYTES) };
 }
 
 // The place of the first line feed, or the length.
@@ -66,7 +66,7 @@ impl Intake {
     /// What waits.
     pub(crate) fn waiting(&self) -> &[u8]
         ensures waiting { result.now ≡ self.now.waiting }
-        ensures few { taken self.now ≤ input_limit + 1 }
+        ensures few { taken self.now ≤ INPUT_BYTES + 1 }
     {
         let (_, waiting) = self.bytes.split_at(self.at);
         waiting
@@ -97,7 +97,7 @@ impl Intake {
         ensures same { Keeps (to_come self.old (S.left source.old)) (to_come self.new (S.left source.new)) }
         ensures grows { Grows self.old self.new }
         ensures more { result ≡ Ok true → length self.old.waiting < length self.new.waiting }
-        ensures few_at_end { result ≡ Ok false → taken self.new ≤ input_limit }
+        ensures few_at_end { result ≡ Ok false → taken self.new ≤ INPUT_BYTES }
         ensures end { result ≡ Ok false → (self.new.waiting ≡ self.old.waiting) × TellsEnd self.old (S.left source.old) (S.left source.new) }
         ensures err { OnErr result (self.new ≡ self.old) }
         ensures ended { result ≡ Ok false → IsTrue self.new.ended }
@@ -105,8 +105,8 @@ impl Intake {
         ensures stays_ended { IsTrue self.old.ended → IsTrue self.new.ended }
         ensures step { length self.new.waiting ≤ length self.old.waiting + 4096 }
         ensures known { KeepsEnd self.old (S.left source.old) self.new (S.left source.new) }
-        ensures few { taken self.new ≤ input_limit + 1 }
-        ensures too_large { result ≡ Err read.TooLarge → taken self.old ≡ input_limit + 1 }
+        ensures few { taken self.new ≤ INPUT_BYTES + 1 }
+        ensures too_large { result ≡ Err read.TooLarge → taken self.old ≡ INPUT_BYTES + 1 }
         ensures fault { result ≡ Err read.Fault → Rose (S.faults source.old) (S.faults source.new) }
         ensures never_falls { S.faults source.old ≤ S.faults source.new }
     {
@@ -114,11 +114,11 @@ impl Intake {
             return Ok(false);
         }
         let taken = self.used + self.waiting().len() as u64;
-        if taken > LIMIT {
+        if taken > INPUT_BYTES {
             return Err(ReadError::TooLarge);
         }
         self.forget();
-        let step = (LIMIT + 1 - taken).min(STEP as u64) as usize;
+        let step = (INPUT_BYTES + 1 - taken).min(STEP as u64) as usize;
         self.bytes.reserve(step)?;
         let mut buffer = [0; STEP];
         let n = source.read(&mut buffer[..step])?;
@@ -139,10 +139,10 @@ impl Intake {
         ensures open { OnErr result (IsFalse self.new.ended) }
         ensures stays_ended { IsTrue self.old.ended → IsTrue self.new.ended }
         ensures ahead { length self.old.waiting ≤ 4096 → length self.new.waiting ≤ position_or_len is_line_feed self.new.waiting + 4096 }
-        ensures few { taken self.new ≤ input_limit + 1 }
-        ensures few_at_end { IfOk result (λ n. n ≡ length self.new.waiting → taken self.new ≤ input_limit) }
+        ensures few { taken self.new ≤ INPUT_BYTES + 1 }
+        ensures few_at_end { IfOk result (λ n. n ≡ length self.new.waiting → taken self.new ≤ INPUT_BYTES) }
         ensures end { IfOk result (λ n. n ≡ length self.new.waiting → TellsEnd self.old (S.left source.old) (S.left source.new)) }
-        ensures too_large { result ≡ Err read.TooLarge → (taken self.new ≡ input_limit + 1) × (position_or_len is_line_feed self.new.waiting ≡ length self.new.waiting) }
+        ensures too_large { result ≡ Err read.TooLarge → (taken self.new ≡ INPUT_BYTES + 1) × (position_or_len is_line_feed self.new.waiting ≡ length self.new.waiting) }
         ensures fault { result ≡ Err read.Fault → Rose (S.faults source.old) (S.faults source.new) }
         ensures never_falls { S.faults source.old ≤ S.faults source.new }
     {
@@ -173,7 +173,7 @@ impl Intake {
         ensures same { Keeps (to_come self.old (S.left source.old)) (to_come self.new (S.left source.new)) }
         ensures used { self.new.used ≡ self.old.used }
         ensures known { KeepsEnd self.old (S.left source.old) self.new (S.left source.new) }
-        ensures few { taken self.new ≤ input_limit + 1 }
+        ensures few { taken self.new ≤ INPUT_BYTES + 1 }
         ensures there { result ≡ Ok true → n ≤ length self.new.waiting }
         ensures short { OnErr result (length self.new.waiting < n) }
         ensures ended { result ≡ Ok false → IsTrue self.new.ended }
@@ -181,7 +181,7 @@ impl Intake {
         ensures stays_ended { IsTrue self.old.ended → IsTrue self.new.ended }
         ensures ahead { length self.old.waiting ≤ 4096 → length self.new.waiting ≤ n + 4096 }
         ensures end { result ≡ Ok false → (length self.new.waiting < n) × TellsEnd self.old (S.left source.old) (S.left source.new) }
-        ensures too_large { result ≡ Err read.TooLarge → (taken self.new ≡ input_limit + 1) × (length self.new.waiting < n) }
+        ensures too_large { result ≡ Err read.TooLarge → (taken self.new ≡ INPUT_BYTES + 1) × (length self.new.waiting < n) }
         ensures fault { result ≡ Err read.Fault → Rose (S.faults source.old) (S.faults source.new) }
         ensures never_falls { S.faults source.old ≤ S.faults source.new }
     {

@@ -21,7 +21,7 @@ pub fn text_runs(alloc: Global, tree: &BlockTree) -> Result<TextRuns, AllocError
     Ok(runs)
 }
 
-// Puts the blocks of a node and of both its sides behind others.
+// Puts the blocks of a node and of both its sides after others.
 fn push_blocks(node: &Node, runs: &mut TextRuns) -> Result<(), AllocError>
     ensures ok { OnOk result (runs.new ≡ runs.old ++ runs_with_texts node.now.blocks) }
 {

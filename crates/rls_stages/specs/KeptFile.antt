@@ -1,5 +1,6 @@
 -- The kept file: the replica that it says, the one whose file is stored, and the history that it stands for.
 use Rattle.std.specs.Prelude.{◌≡◌, ◌⊎◌, ℕ, List, length, Option, Some, None, IsOk, Result, Ok, Err, nat_lt, if◌then◌else◌}
+use Rattle.rls_ident.specs.declared.limits.TheConstants.{FILE_BYTES}
 use Rattle.rls_io.specs.Device.{Keeps, Stores}
 use Rattle.rls_model.specs.Legal.{IsLegal}
 use Rattle.rls_model.specs.Parts.{parts}
@@ -14,16 +15,12 @@ use Rattle.rls_store.specs.Stored.{AreWritable}
 use Rattle.rls_report.specs.declared.failures.CommandError.{CommandError}
 use Rattle.rls_report.specs.declared.failures.CommandError.TheVariants.{NoReplica, Damaged, TooLarge}
 
--- the most bytes of a kept file
-abbrev pub file_limit : ℕ
-file_limit = 268435456
-
 -- ---- reading
 
 -- the bytes of the file, if there is one, unless they are too many
 abbrev pub loaded : Option (List ℕ) → Result (Option (List ℕ)) CommandError
 loaded None = Ok None
-loaded (Some bytes) = if nat_lt file_limit (length bytes) then Err TooLarge else Ok (Some bytes)
+loaded (Some bytes) = if nat_lt FILE_BYTES (length bytes) then Err TooLarge else Ok (Some bytes)
 
 -- the replica that a file says
 abbrev pub replica_of : Result Content ℕ → Result Seen CommandError
@@ -48,7 +45,7 @@ bytes_over s = file_bytes (parts_over s)
 
 -- the replica, unless its file is too long
 abbrev pub saved : Seen → Result Seen CommandError
-saved s = if nat_lt file_limit (length (bytes_over s)) then Err TooLarge else Ok s
+saved s = if nat_lt FILE_BYTES (length (bytes_over s)) then Err TooLarge else Ok s
 
 -- the replica's file is read back with its parts, if the replica may be written
 abbrev pub IsReadBack : Seen → Type 0

@@ -9,14 +9,12 @@ ghost use Rattle.rls_stages.specs.KeptFile.{loaded, replica_of, replica_in};
 ghost use Rattle.rls_stages.specs.Errors.{Gives, of_open};
 
 use crate::errors::OpenError;
+use rls_ident::limits::FILE_BYTES;
 use rls_io::{Found, Keeper, LoadError};
 use rls_replica::Replica;
 use rls_report::CommandError;
 use rls_store::{FileError, decode_file};
 use std::alloc::Global;
-
-/// The most bytes of a kept file.
-const FILE_LIMIT: u64 = 268_435_456;
 
 /// The bytes of the kept file, if there is one. It is too large with more than 268,435,456 bytes. The keeper's file stays as it is.
 pub fn load<K: Keeper>(alloc: Global, keeper: &mut K) -> Result<Option<Vec<u8>>, OpenError>
@@ -26,7 +24,7 @@ pub fn load<K: Keeper>(alloc: Global, keeper: &mut K) -> Result<Option<Vec<u8>>,
     ensures kept { Keeps (K.file keeper.old) (K.file keeper.new) }
     ensures calls { HasLoaded K.load_gives result keeper.old keeper.new }
 {
-    match keeper.load(alloc, FILE_LIMIT) {
+    match keeper.load(alloc, FILE_BYTES) {
         Err(LoadError::Failed) => Err(OpenError::KeeperFault),
         Err(LoadError::OutOfMemory) => Err(OpenError::OutOfMemory),
         Ok(Found::Missing) => Ok(None),

@@ -1,8 +1,8 @@
--- A stem that stands behind all others.
+-- A stem that stands after all others.
 use Rattle.std.proofs.Common.{◌≡◌, ℕ, ◌<◌, ◌&&◌, ◌||◌, true, false, List, [], ◌∷◌, ◌++◌, refl, ap, ◌∙◌, arith, inl, inr, ⊎_elim}
 use Rattle.std.specs.Prelude.{◌==◌, nat_lt, if◌then◌else◌}
 use Rattle.rls_ident.specs.Lists.{IsIn}
-use Rattle.rls_ident.proofs.Members.{and_left, and_right, eq_is, lt_is, neq_test, not_true, or_split}
+use Rattle.rls_ident.proofs.Members.{and_left, and_right, eq_is, lt_is, not_true, or_split}
 use Rattle.rls_model.specs.declared.parts.Stem.{Stem}
 use Rattle.rls_model.specs.Stems.{is_stem, stands_before, with_stem}
 

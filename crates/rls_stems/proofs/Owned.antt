@@ -11,7 +11,7 @@ use Rattle.rls_stems.specs.Seen.{StemsSeen}
 use Rattle.rls_stems.specs.Tables.{stems_from, seen_of}
 use Rattle.rls_stems.proofs.Tabled.{reaches_at, reaches_read}
 
--- behind the stems of another author
+-- after the stems of another author
 skipped : (b a : ℕ) (rs : List Reach) (ss : List Stem) → (b == a) ≡ false → own_of a (map (stem_at b) rs ++ ss) ≡ own_of a ss
 skipped b a [] ss n = refl
 skipped b a (r ∷ rs) ss n = rw n (skipped b a rs ss n)

@@ -23,7 +23,7 @@ place_most (q ∷ rs) s = go (nat_lt q.s0 s) (place_most rs s)
     go true h = omega arith
     go false h = omega arith
 
--- the place is behind each lesser number
+-- the place is after each lesser number
 pub place_behind : (rs : List Reach) (k : ℕ) (r : Reach) (s : ℕ) → AreRising rs → slice_get rs k ≡ Some r → r.s0 < s → k < place_in rs s
 place_behind [] k r s h e l = absurd (cc)
 place_behind (q ∷ rs) zero r s h e l =
@@ -36,7 +36,7 @@ place_behind (q ∷ rs) (suc k) r s h e l =
     let i = place_behind rs k r s h.1 e l in
     rw t (omega arith)
 
--- it is in front of each other number
+-- it is before each other number
 pub place_up_to : (rs : List Reach) (k : ℕ) (r : Reach) (s : ℕ) → slice_get rs k ≡ Some r → s ≤ r.s0 → place_in rs s ≤ k
 place_up_to [] k r s e l = absurd (cc)
 place_up_to (q ∷ rs) zero r s e l =

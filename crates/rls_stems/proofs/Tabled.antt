@@ -43,7 +43,7 @@ spare_read ls i l h = let k : i < length (set ls i l) = omega (arith, length-set
 
 -- ---- finding
 
--- behind the stems of another author
+-- after the stems of another author
 skipped : (b a s : ℕ) (rs : List Reach) (ss : List Stem) → (b == a) ≡ false → stem_of (map (stem_at b) rs ++ ss) a s ≡ stem_of ss a s
 skipped b a s [] ss n = refl
 skipped b a s (r ∷ rs) ss n = rw n (skipped b a s rs ss n)
@@ -81,7 +81,7 @@ none_read ls t a s v h =
 
 -- ---- putting in
 
--- behind the stems of a lesser author
+-- after the stems of a lesser author
 passed : (b a : ℕ) (w : Reach) (rs : List Reach) (ss : List Stem) → b < a → with_stem (stem_at a w) (map (stem_at b) rs ++ ss) ≡ map (stem_at b) rs ++ with_stem (stem_at a w) ss
 passed b a w [] ss l = refl
 passed b a w (r ∷ rs) ss l =
@@ -89,7 +89,7 @@ passed b a w (r ∷ rs) ss l =
     let m = lt_test b a l in
     rw (n, m) (ap (λ ts. stem_at b r ∷ ts) (passed b a w rs ss l))
 
--- in front of the stems of greater authors
+-- before the stems of greater authors
 ahead : (k a : ℕ) (w : Reach) (ls : List LineSeen) → a < k → with_stem (stem_at a w) (stems_from k ls) ≡ stem_at a w ∷ stems_from k ls
 ahead k a w [] l = refl
 ahead k a w (m ∷ ls) l = go m.reaches (ahead (suc k) a w ls (omega arith))
@@ -207,7 +207,7 @@ gap_test k l g n e =
 pub no_gap : (k l : ℤ) (n : ℕ) → l <ℤ k → int_eq (k +ℤ pos n) l ≡ false
 no_gap k l n h = not_true (int_eq (k +ℤ pos n) l) (λ e. let f = int_is (k +ℤ pos n) l e in absurd (omega (arith, ints)))
 
--- ---- a line behind the others
+-- ---- a line after the others
 
 pub one_further : (ss : List Stem) (i : ℕ) (ls : List LineSeen) (l : LineSeen) (all : List Stem) → i < length ls → l ≡ get_or ls i l → ss ++ stems_from i (drop i ls) ≡ all → (ss ++ map (stem_at i) l.reaches) ++ stems_from (i + 1) (drop (i + 1) ls) ≡ all
 one_further ss i ls l all h e f =

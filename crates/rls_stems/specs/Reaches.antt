@@ -26,7 +26,7 @@ with_reach new (r ∷ rs) =
 abbrev pub begun : ℕ → ℕ → Reach
 begun s n = record { s0 = s; low = pos 0; next = n }
 
--- n more offsets from k on are used: behind the end, or else in front of the low
+-- n more offsets from k on are used: after the end, or else before the low
 abbrev pub grown : Reach → ℤ → ℕ → Reach
 grown r k n = if int_eq k (pos r.next) then record r { next = r.next + n } else record r { low = k }
 

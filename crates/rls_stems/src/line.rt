@@ -1,6 +1,6 @@
 //! The stems of one author.
 
-ghost use Rattle.std.specs.Prelude.{◌≡◌, ◌+◌, ◌^◌, ◌<◌, ◌≤◌, ◌++◌, ◌∷◌, [], pos, ◌≤ℤ◌, OnOk, IfOk, IfSome, IfNone, None, Some, length, map, slice_get, slice_index};
+ghost use Rattle.std.specs.Prelude.{◌≡◌, ◌+◌, ◌^◌, ◌<◌, ◌≤◌, ◌++◌, ◌∷◌, [], ◌≤ℤ◌, OnOk, IfSome, IfNone, None, Some, length, map, slice_get};
 ghost use Rattle.std.specs.Option.{option_map};
 ghost use Rattle.rls_stems.specs.declared.line.Reach.{Reach as ReachSeen};
 ghost use Rattle.rls_stems.specs.Reaches.{stem_at, reach_of, with_reach, grown, with_grown, AreBelow, AreRising, place_in, IsPlaceOf};
@@ -143,7 +143,7 @@ impl Reach {
         }
     }
 
-    // With so many more offsets from this tuple's on: behind the end, or else in front of the low.
+    // With so many more offsets from this tuple's on: after the end, or else before the low.
     fn grown(&self, last: Spot, count: u32) -> Reach
         requires brief { count < 2 ^ 31 }
         ensures grown { result ≡ grown self.now last.offset count }

@@ -12,7 +12,8 @@ ghost use Rattle.rls_model.specs.Stems.{stands_before, stem_of, due_of, due_offs
 ghost use Rattle.rls_stems.specs.Tables.{IsNewest};
 
 use crate::line::{Line, Reach};
-use rls_ident::{GREATEST_OFFSET, Ident, LEAST_OFFSET, Spot, between};
+use rls_ident::limits::{GREATEST_OFFSET, LEAST_OFFSET};
+use rls_ident::{Ident, Spot, between};
 use rls_model::{Stem, Stems};
 use rls_ops::Body;
 use std::alloc::{AllocError, Global};
@@ -87,7 +88,7 @@ impl StemTable {
     }
 
     /// Whether an insertion of this many characters by this author with this number may begin with an identifier whose last tuple
-    /// this is: at the next offset of the stem, or right in front of its low. It costs as much as `get`.
+    /// this is: at the next offset of the stem, or right before its low. It costs as much as `get`.
     pub fn may_use(&self, author: u32, seq: u32, last: Spot, count: usize) -> bool
         ensures may_use { result ≡ may_use self.now.stems author seq (at_spot last) count }
     {

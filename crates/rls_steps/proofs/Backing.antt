@@ -117,7 +117,7 @@ put_back m labels ps qs t ts us (front, cs, rest, put, same, back) forth =
 
 -- ---- what was cut out
 
--- right behind the left neighbour
+-- right after the left neighbour
 place_is : (front rest mid : Marked) (left right : Option ℕ) (gone : ℕ) → EndsIn front left → AreDistinct (marks (front ++ (mid ++ rest))) → return_place (marks (front ++ rest)) left right gone ≡ length front
 place_is front rest mid None right gone e d = sym (ap length e)
 place_is front rest mid (Some l) right gone (more, c, e) d =

@@ -25,7 +25,7 @@ use Rattle.rls_steps.specs.StepLaws.{CutTakenBack}
 use Rattle.rls_steps.proofs.Backing.{cut_back}
 use Rattle.rls_steps.proofs.Naming.{chars_marked}
 
--- ---- names in front of others
+-- ---- names before others
 
 apart_eq : (x y : List Tuple) → (x ≡ y → ⊥) → ident_eq x y ≡ false
 apart_eq x y h = not_true (ident_eq x y) (λ t. h (eq_same x y t))

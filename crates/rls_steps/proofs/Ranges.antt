@@ -1,4 +1,4 @@
--- The places of labels that stand one right behind another.
+-- The places of labels that stand one right after another.
 use Rattle.std.proofs.Common.{◌≡◌, ℕ, zero, suc, ◌+◌, Bool, true, false, List, [], ◌∷◌, ◌++◌, map, length, inl, inr, refl, ap, ◌∙◌, arith}
 use Rattle.std.specs.Prelude.{◌==◌, if◌then◌else◌}
 use Rattle.rls_ident.specs.Lists.{IsIn}

@@ -8,7 +8,7 @@ abbrev pub AreDistinct : List Mark → Type 0
 AreDistinct [] = Unit {0}
 AreDistinct (m ∷ ms) = (IsIn m ms → ⊥) × AreDistinct ms
 
--- the characters with these labels stand in the text one right behind another
+-- the characters with these labels stand in the text one right after another
 pub record IsPut (m : Marked) (labels : List ℕ) (front : Marked) (cs : List ℕ) (rest : Marked) : Type 0 where
   pub is : m ≡ front ++ (known labels cs ++ rest)
   pub fit : length labels ≡ length cs
@@ -20,7 +20,7 @@ abbrev pub EndsIn : Marked → Option ℕ → Type 0
 EndsIn front None = front ≡ []
 EndsIn front (Some l) = (more : Marked) × (c : ℕ) × (front ≡ more ++ (Known l, c) ∷ [])
 
--- characters with these labels are missing behind this front
+-- characters with these labels are missing after this front
 pub record IsCut (m : Marked) (labels : List ℕ) (cs : List ℕ) (left : Option ℕ) (front : Marked) (rest : Marked) : Type 0 where
   pub is : m ≡ front ++ rest
   pub fit : length labels ≡ length cs

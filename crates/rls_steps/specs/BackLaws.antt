@@ -30,7 +30,7 @@ Exchanged = (next : ℕ) (among : Mark → Bool) (f : Mark → Mark) → Exchang
     ((k : Mark) → IsIn k (marks m) → IsTrue (among k)) → ArePieces next ps →
     LeadBack m ps ts → LeadBack (remarked f m) ps ts
 
--- what was cut out comes back at the front if nothing stood before it, else right behind its left neighbour, if that is in the text, and else
+-- what was cut out comes back at the front if nothing stood before it, else right after its left neighbour, if that is in the text, and else
 -- right before its right one, if that is
 pub record ReturnsBeside : Type 0 where
   pub front : (ms : List Mark) (right : Option ℕ) (gone : ℕ) → return_place ms None right gone ≡ 0

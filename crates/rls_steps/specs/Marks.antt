@@ -23,7 +23,7 @@ chars m = map (λ e. e.1) m
 abbrev pub known : List ℕ → List ℕ → Marked
 known labels cs = zip (map Known labels) cs
 
--- what a member did at one place, by labels: it put characters in; or cut them out, behind a left neighbour and before a right one, but
+-- what a member did at one place, by labels: it put characters in; or cut them out, after a left neighbour and before a right one, but
 -- for the ends of the text
 pub data Piece : Type 0 where
   Put : (labels : List ℕ) → Piece
@@ -60,7 +60,7 @@ abbrev pub before_right : List Mark → Option ℕ → ℕ → ℕ
 before_right ms None gone = gone
 before_right ms (Some r) gone = place_or (label_place ms r) gone
 
--- where cut characters come back: right behind the left neighbour, if that is in the text, and at the front if there was none; else right
+-- where cut characters come back: right after the left neighbour, if that is in the text, and at the front if there was none; else right
 -- before the right neighbour, if that is in the text; else where the left one would be
 abbrev pub return_place : List Mark → Option ℕ → Option ℕ → ℕ → ℕ
 return_place ms None right gone = 0

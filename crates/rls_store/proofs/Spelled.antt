@@ -7,6 +7,7 @@ use Rattle.std.specs.Ordering.{is_lt}
 use Rattle.std.proofs.lemmas.Int.{ints}
 use Rattle.std.proofs.lemmas.List.{append-nil, length-append}
 use Rattle.std.proofs.lemmas.List.Elements.{All-head, All-tail}
+use Rattle.rls_ident.specs.declared.limits.TheConstants.{MEMBERS, OPERATION_BYTES}
 use Rattle.rls_ident.specs.declared.tuple.Tuple.{Tuple}
 use Rattle.rls_ident.specs.declared.epoch_name.EpochName.{EpochName}
 use Rattle.rls_ident.specs.declared.epoch_name.EpochName.TheVariants.{Origin, Of}
@@ -25,7 +26,8 @@ use Rattle.rls_ops.specs.Shapes.{shape_fault}
 use Rattle.rls_ops.specs.Sizes.{op_size}
 use Rattle.rls_ops.proofs.KeptRows.{length-row, lengths_append}
 use Rattle.rls_ops.proofs.Shaped.{shaped}
-use Rattle.rls_codec.specs.Spelled.{IsSmall, Chained, FitsName, FitsVector, IsFitAmong, IsSpelled, IsSpelledIfFit}
+use Rattle.rls_ops.specs.WellFormed.{IsSmall}
+use Rattle.rls_codec.specs.Spelled.{Chained, FitsName, FitsVector, IsFitAmong, IsSpelled, IsSpelledIfFit}
 use Rattle.rls_codec.proofs.Fits.{small_chain}
 use Rattle.rls_model.specs.declared.parts.EpochPart.{EpochPart}
 use Rattle.rls_model.specs.declared.parts.Parts.{Parts}
@@ -58,7 +60,7 @@ ops_spelled n before (o ∷ os) f s =
     let fit = f o (inl refl) in
     (subst (λ k. IsSpelled k o) fit.2 (All-head IsSpelledIfFit o os s fit.0 fit.1), ops_spelled n (Some o) os (λ x p. f x (inr p)) (All-tail IsSpelledIfFit o os s))
 
-pub ops_fit : (n : ℕ) (os : List Op) → ((o : Op) → IsIn o os → IsOp o × (shape_fault n o ≡ None) × (op_size o ≤ 16777216)) → All IsSpelledIfFit os → Chained (λ b. IsSpelled n) None os
+pub ops_fit : (n : ℕ) (os : List Op) → ((o : Op) → IsIn o os → IsOp o × (shape_fault n o ≡ None) × (op_size o ≤ OPERATION_BYTES)) → All IsSpelledIfFit os → Chained (λ b. IsSpelled n) None os
 ops_fit n os f s = ops_spelled n None os (λ o p. let g = f o p in (g.0.body, g.2, (shaped n o g.1).context)) s
 
 pub follow_each : (n : ℕ) (from : List ℕ) (os : List Op) (to : List ℕ) (o : Op) → Follow n from os to → IsIn o os → IsOp o × (shape_fault n o ≡ None)
@@ -119,7 +121,7 @@ left_push n before (m ∷ ms) k s l a all c = (c.0, left_push n (Some m) ms k s 
 abbrev AreLeft : ℕ → ℕ → List ℕ → Type 0
 AreLeft n k ms = Chained (IsLeft n) None ms × ((m : ℕ) → IsIn m ms → m < k)
 
-pub left_fit : (acks : AcksSeen) (n k : ℕ) → n ≤ 64 → k ≤ n → AreLeft n k (left_below acks k)
+pub left_fit : (acks : AcksSeen) (n k : ℕ) → n ≤ MEMBERS → k ≤ n → AreLeft n k (left_below acks k)
 left_fit acks n zero few l = (tt, λ m p. absurd p)
 left_fit acks n (suc k) few l = go (left acks k) (left_fit acks n k few (omega arith))
   where
@@ -224,14 +226,14 @@ part_idents ns es e d = go (node_of ns e) refl
     go (Some n) h = former_idents n.renaming.former (former_in ns d n (node_in ns e n h))
 
 -- the name of an epoch that an accepted operation opened
-name_fits : (p : Parts) (e : EpochName) (r s : ℕ) → p.members ≤ 64 → All IsSmall p.vector → length p.vector ≡ p.members → e ≡ Of r s → r < p.members → s ≤ slice_index p.vector r → FitsName e
+name_fits : (p : Parts) (e : EpochName) (r s : ℕ) → p.members ≤ MEMBERS → All IsSmall p.vector → length p.vector ≡ p.members → e ≡ Of r s → r < p.members → s ≤ slice_index p.vector r → FitsName e
 name_fits p e r s few small count is l c = subst FitsName (sym is) (omega (arith, few, l), (let n = small r 0 (omega (arith, l, count)) in omega (arith, n, c)))
 
-pub top_fits : (p : Parts) (e : EpochName) → p.members ≤ 64 → All IsSmall p.vector → length p.vector ≡ p.members → may_be_top p e ≡ true → FitsName e
+pub top_fits : (p : Parts) (e : EpochName) → p.members ≤ MEMBERS → All IsSmall p.vector → length p.vector ≡ p.members → may_be_top p e ≡ true → FitsName e
 top_fits p Origin few small count h = tt
 top_fits p (Of r s) few small count h = let o = opened_name p (Of r s) h in name_fits p (Of r s) o.0 o.1 few small count o.2 o.3 o.5
 
-pub epochs_fit : (p : Parts) (f : EpochPart) (fs es : List EpochPart) (before : EpochPart) → p.members ≤ 64 → All IsSmall p.vector → length p.vector ≡ p.members → length (f ∷ fs) + length es < 2 ^ 32 → epoch_fault p (f ∷ fs) es ≡ None
+pub epochs_fit : (p : Parts) (f : EpochPart) (fs es : List EpochPart) (before : EpochPart) → p.members ≤ MEMBERS → All IsSmall p.vector → length p.vector ≡ p.members → length (f ∷ fs) + length es < 2 ^ 32 → epoch_fault p (f ∷ fs) es ≡ None
     → All FitsFormer es → ((e : EpochPart) → IsIn e es → AreIdents e.former) → Chained FitsEpoch (Some before) es
 epochs_fit p f fs [] before few small count total h a g = tt
 epochs_fit p f fs (e ∷ es) before few small count total h a g =

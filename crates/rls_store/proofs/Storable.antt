@@ -3,6 +3,7 @@ use Rattle.std.proofs.Common.{◌≡◌, ◌≢◌, ◌∙◌, ◌<◌, ◌≤�
 use Rattle.std.specs.Prelude.{◌≤ℤ◌, int_le, if◌then◌else◌}
 use Rattle.std.specs.List.{find}
 use Rattle.std.proofs.lemmas.Bool.Decides.{nat_tests}
+use Rattle.rls_ident.specs.declared.limits.TheConstants.{OPERATION_BYTES, GREATEST_NUMBER}
 use Rattle.rls_ident.specs.declared.tuple.Tuple.{Tuple}
 use Rattle.rls_ident.specs.declared.tuple.Tuple.TheVariants.{Low, At, High}
 use Rattle.rls_ident.specs.Identifiers.{last_of, least_offset}
@@ -50,7 +51,7 @@ use Rattle.rls_store.specs.Kept.{FreshIsWritable, LinesKeepWritable, TakenIsWrit
 pub record IsGiven (o : Op) : Type 0 where
   pub whole : IsOp o
   pub ranged : IsInRange o.body
-  pub size : op_size o ≤ 16777216
+  pub size : op_size o ≤ OPERATION_BYTES
 
 -- the last offset of what is spelled is in range
 least_last : (x : List Tuple) → FitTuples x → least_offset ≤ℤ offset_of (last_of x)
@@ -74,8 +75,8 @@ given_op n o s = let few = s.limit in record { whole = spelled_op n o s; ranged 
 -- what may be written as a file, but for what is ready
 pub record IsStoring (s : Seen) : Type 0 where
   pub sane : IsSane s
-  pub log : (o : Op) → IsIn o s.log → op_size o ≤ 16777216
-  pub waiting : (w : Op) → IsIn w s.waiting → op_size w ≤ 16777216
+  pub log : (o : Op) → IsIn o s.log → op_size o ≤ OPERATION_BYTES
+  pub waiting : (w : Op) → IsIn w s.waiting → op_size w ≤ OPERATION_BYTES
   pub others : (w : Op) → IsIn w s.waiting → w.author ≢ s.acks.me
 
 pub storing : (s : Seen) → IsSane s → AreWritable s → IsStoring s
@@ -90,7 +91,7 @@ me_after acks a (Delete targets) = refl
 me_after acks a (Rename former) = refl
 me_after acks a Leave = refl
 
-pub accept_storing : (s : Seen) (o : Op) → IsStoring s → IsSane (accepted s o) → op_size o ≤ 16777216 → IsStoring (accepted s o)
+pub accept_storing : (s : Seen) (o : Op) → IsStoring s → IsSane (accepted s o) → op_size o ≤ OPERATION_BYTES → IsStoring (accepted s o)
 unfolding accepted
 accept_storing s o h sane few = record {
   sane = sane;
@@ -99,11 +100,11 @@ accept_storing s o h sane few = record {
   others = λ w p. subst (λ m. w.author ≢ m) (sym (me_after s.acks o.author o.body)) (h.others w (in_without o.author o.seq w s.waiting p).0);
 }
   where
-    last : (x : Op) → IsIn x (o ∷ []) → op_size x ≤ 16777216
-    last x (inl e) = subst (λ (y : Op). op_size y ≤ 16777216) e few
+    last : (x : Op) → IsIn x (o ∷ []) → op_size x ≤ OPERATION_BYTES
+    last x (inl e) = subst (λ (y : Op). op_size y ≤ OPERATION_BYTES) e few
     last x (inr q) = absurd q
 
-hold_storing : (s : Seen) (o : Op) (W : List Op) → IsStoring s → IsSane (holding s W) → ((w : Op) → IsIn w W → (op_size w ≤ 16777216) × (w.author ≢ s.acks.me)) → IsStoring (holding s W)
+hold_storing : (s : Seen) (o : Op) (W : List Op) → IsStoring s → IsSane (holding s W) → ((w : Op) → IsIn w W → (op_size w ≤ OPERATION_BYTES) × (w.author ≢ s.acks.me)) → IsStoring (holding s W)
 unfolding holding
 hold_storing s o W h sane all = record { sane = sane; log = h.log; waiting = λ w p. (all w p).0; others = λ w p. (all w p).1 }
 
@@ -127,7 +128,7 @@ received_storing s o h g = go (answer_over false s o) refl (received_sane s o h.
   where
     go : (a : Answer) → answer_over false s o ≡ a → IsSane (received s o) → IsStoring (received s o)
     go Applies e k = rw e (accept_storing s o h (rw e at k) g.size)
-    go Waits e k = rw e (hold_storing s o _ h (rw e at k) (λ w p. ⊎_elim (λ q. subst (λ (x : Op). (op_size x ≤ 16777216) × (x.author ≢ s.acks.me)) q (g.size, waits_other s o e)) (λ q. (h.waiting w (in_without o.author o.seq w s.waiting q).0, h.others w (in_without o.author o.seq w s.waiting q).0)) (in_with o w (without o.author o.seq s.waiting) p)))
+    go Waits e k = rw e (hold_storing s o _ h (rw e at k) (λ w p. ⊎_elim (λ q. subst (λ (x : Op). (op_size x ≤ OPERATION_BYTES) × (x.author ≢ s.acks.me)) q (g.size, waits_other s o e)) (λ q. (h.waiting w (in_without o.author o.seq w s.waiting q).0, h.others w (in_without o.author o.seq w s.waiting q).0)) (in_with o w (without o.author o.seq s.waiting) p)))
     go Repeats e k = rw e h
     go (Refuses r) e k = rw e h
 
@@ -168,11 +169,11 @@ acknowledged_storing s a v h l e = record {
 }
 
 -- an edit without a fault makes an operation that isn't too large
-made_size : (s : Seen) (edit : Edit) → edit_fault_over s edit ≡ None → op_size (made_over s edit) ≤ 16777216
+made_size : (s : Seen) (edit : Edit) → edit_fault_over s edit ≡ None → op_size (made_over s edit) ≤ OPERATION_BYTES
 unfolding edit_fault_over
 made_size s edit e = at_left (left s.acks s.acks.me) e
   where
-    small : (n : ℕ) (b : Bool) → nat_lt 16777216 n ≡ b → cond b (Some (errors.OpTooLarge n)) None ≡ None → n ≤ 16777216
+    small : (n : ℕ) (b : Bool) → nat_lt OPERATION_BYTES n ≡ b → cond b (Some (errors.OpTooLarge n)) None ≡ None → n ≤ OPERATION_BYTES
     small n true t e = cc
     small n false t e = grind (arith, nat_tests)
 
@@ -180,12 +181,12 @@ made_size s edit e = at_left (left s.acks s.acks.me) e
     numbered true f e = cc
     numbered false f e = e
 
-    at_left : (b : Bool) → cond b (Some errors.Left) (or_fault (range_fault (length (idents_over s)) edit) (op_fault_over s edit)) ≡ None → op_size (made_over s edit) ≤ 16777216
+    at_left : (b : Bool) → cond b (Some errors.Left) (or_fault (range_fault (length (idents_over s)) edit) (op_fault_over s edit)) ≡ None → op_size (made_over s edit) ≤ OPERATION_BYTES
     at_left true e = cc
     at_left false e =
         let f = (or_none (range_fault (length (idents_over s)) edit) (op_fault_over s edit) e).1 in
         let n = op_size (made_over s edit) in
-        small n (nat_lt 16777216 n) refl (numbered (eqb (own_count s) 4294967295) (size_fault n) f)
+        small n (nat_lt OPERATION_BYTES n) refl (numbered (eqb (own_count s) GREATEST_NUMBER) (size_fault n) f)
 
 pub edited_storing : (s : Seen) (edit : Edit) → IsStoring s → IsEdit edit → edit_fault_over s edit ≡ None → IsStoring (edited s edit)
 edited_storing s edit h i f = accept_storing s (made_over s edit) h (edited_sane s edit h.sane i f) (made_size s edit f)

@@ -2,6 +2,7 @@
 use Rattle.std.proofs.Common.{◌≡◌, ◌<◌, ◌≤◌, ◌^◌, List, [], ◌∷◌, length, refl, ap, ◌∙◌, subst, arith, inl, inr, None}
 use Rattle.std.specs.Prelude.{All, nat_le, nat_lt, not}
 use Rattle.std.proofs.lemmas.List.Elements.{All-tail}
+use Rattle.rls_ident.specs.declared.limits.TheConstants.{MEMBERS}
 use Rattle.rls_ident.specs.declared.epoch_name.EpochName.{EpochName}
 use Rattle.rls_ident.specs.Lists.{IsIn}
 use Rattle.rls_ident.specs.Vectors.{at_most}
@@ -44,7 +45,7 @@ former_each s h (u ∷ us) e (inr q) =
     subst (λ (x : EpochPart). AreIdents x.former) m.2 (part_idents s.epochs.nodes (u ∷ us) m.0 h.epochs.nodes)
 
 -- the entries of a list that begins with the topmost epoch
-epochs_chain : (p : Parts) (es : List EpochPart) → 0 < length es → length es < 2 ^ 32 → p.members ≤ 64 → All (λ n. n < 2 ^ 32) p.vector → length p.vector ≡ p.members → epoch_fault p [] es ≡ None → All FitsFormer es → ((e : EpochPart) → IsIn e es → AreIdents e.former)
+epochs_chain : (p : Parts) (es : List EpochPart) → 0 < length es → length es < 2 ^ 32 → p.members ≤ MEMBERS → All (λ n. n < 2 ^ 32) p.vector → length p.vector ≡ p.members → epoch_fault p [] es ≡ None → All FitsFormer es → ((e : EpochPart) → IsIn e es → AreIdents e.former)
     → ((e : EpochPart) (rest : List EpochPart) → es ≡ e ∷ rest → (e.parent ≡ None) × (e.former ≡ [])) → Chained FitsEpoch None es
 epochs_chain p [] some few m small count h a g top = absurd (omega (arith, some))
 epochs_chain p (e ∷ es) some few m small count h a g top =
@@ -85,7 +86,7 @@ spelled s h w f none few =
     let held = ops_within s.waiting in
     let text = runs_within (text_runs s.text) in
     record {
-      head = record { form_fits = refl; group_fits = h.group; members_fit = and_true (nat_lt 0 n) (nat_le n 64) (lt_test 0 n (omega (arith, member))) (le_test n 64 h.few); me_fits = member };
+      head = record { form_fits = refl; group_fits = h.group; members_fit = and_true (nat_lt 0 n) (nat_le n MEMBERS) (lt_test 0 n (omega (arith, member))) (le_test n MEMBERS h.few); me_fits = member };
       later = refl;
       parts = record {
         vector = (refl, small_chain None (vector s) h.small);

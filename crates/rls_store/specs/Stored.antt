@@ -1,5 +1,6 @@
 -- What is stored is a file again.
 use Rattle.std.specs.Prelude.{◌≡◌, ◌≢◌, ◌≤◌, ℕ, All, None, length}
+use Rattle.rls_ident.specs.declared.limits.TheConstants.{OPERATION_BYTES, FILE_BYTES}
 use Rattle.rls_ident.specs.Lists.{IsIn}
 use Rattle.rls_ops.specs.declared.op.Op.{Op}
 use Rattle.rls_ops.specs.Sizes.{op_size}
@@ -13,15 +14,11 @@ use Rattle.rls_fields.specs.Written.{FitsRow, FitsFormer, FitsChars}
 use Rattle.rls_file.specs.Files.{Snapshot, newest_form, file_bytes}
 use Rattle.rls_file.specs.FileLaws.{IsFile}
 
--- the most bytes of a file
-abbrev pub file_limit : ℕ
-file_limit = 268435456
-
 -- what must hold of a sane replica so that it may be written: no operation that is kept or waits has more bytes than an operation may
 -- have, and those that wait are of other members and have causes that aren't all there
 pub record AreWritable (s : Seen) : Type 0 where
-  pub log : (o : Op) → IsIn o s.log → op_size o ≤ 16777216
-  pub waiting : (w : Op) → IsIn w s.waiting → op_size w ≤ 16777216
+  pub log : (o : Op) → IsIn o s.log → op_size o ≤ OPERATION_BYTES
+  pub waiting : (w : Op) → IsIn w s.waiting → op_size w ≤ OPERATION_BYTES
   pub others : (w : Op) → IsIn w s.waiting → w.author ≢ s.acks.me
   pub rest : first_ready s ≡ None
 
@@ -36,5 +33,5 @@ pub record FitFields (p : Parts) : Type 0 where
 
 -- the parts of a sane replica that may be written are a file, unless that is too long
 abbrev pub StoredAgain : Type 0
-StoredAgain = (s : Seen) → IsSane s → AreWritable s → FitFields (parts_over s) → length (file_bytes (parts_over s)) ≤ file_limit
+StoredAgain = (s : Seen) → IsSane s → AreWritable s → FitFields (parts_over s) → length (file_bytes (parts_over s)) ≤ FILE_BYTES
     → IsFile (file_bytes (parts_over s)) (Snapshot newest_form (parts_over s))

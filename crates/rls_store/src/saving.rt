@@ -1,6 +1,7 @@
 //! Storing a replica.
 
 ghost use Rattle.std.specs.Prelude.{◌≡◌, ◌<◌, ◌≤◌, ◌-◌, ◌^◌, ℕ, length, min, IfOk, Err};
+ghost use Rattle.rls_ident.specs.declared.limits.TheConstants.{FILE_BYTES};
 ghost use Rattle.rls_model.specs.Parts.{parts};
 ghost use Rattle.rls_model.specs.Receiving.{State};
 ghost use Rattle.rls_seen.specs.Kept.{parts_over};
@@ -12,11 +13,9 @@ ghost use Rattle.rls_store.specs.Stored.{AreWritable};
 
 use crate::lengths::stored_len;
 use crate::puts::put_file;
+use rls_ident::limits::FILE_BYTES;
 use rls_replica::Replica;
 use std::alloc::{AllocError, Global};
-
-/// The most bytes of a file.
-const FILE_LIMIT: u64 = 268_435_456;
 
 /// Why a replica isn't written as a file.
 #[derive(Clone, Copy, Debug, PartialEq, Eq)]
@@ -46,10 +45,10 @@ impl From<AllocError> for SaveError {
 /// `TooLarge` exactly where the file would have more than 268,435,456 bytes, and `OutOfMemory` for want of memory alone.
 pub fn encode_file(alloc: Global, replica: &Replica) -> Result<Vec<u8>, SaveError>
     ensures bytes { IfOk result (λ b. b.items ≡ file_bytes (parts_over replica.now)) }
-    ensures small { IfOk result (λ b. length b.items ≤ 268435456) }
+    ensures small { IfOk result (λ b. length b.items ≤ FILE_BYTES) }
     // If its operations are within the limit and what waits may wait, it is read back with exactly these parts.
     ensures file { IfOk result (λ b. AreWritable replica.now → IsFile b.items (Snapshot newest_form (parts_over replica.now))) }
-    ensures too_large { (n : ℕ) → result ≡ Err (SaveError.TooLarge n) → (268435456 < length (file_bytes (parts_over replica.now))) × (n ≡ min (length (file_bytes (parts_over replica.now))) (2 ^ 64 - 1)) }
+    ensures too_large { (n : ℕ) → result ≡ Err (SaveError.TooLarge n) → (FILE_BYTES < length (file_bytes (parts_over replica.now))) × (n ≡ min (length (file_bytes (parts_over replica.now))) (2 ^ 64 - 1)) }
 
     // For every history and waiting operations that the replica stands for.
     ensures stands { IfOk result (λ b. (t : State) → StandsFor replica.now t → b.items ≡ file_bytes (parts t)) }
@@ -57,7 +56,7 @@ pub fn encode_file(alloc: Global, replica: &Replica) -> Result<Vec<u8>, SaveErro
     replica.sane();
     let names = replica.retained()?;
     let bytes = stored_len(replica, &names);
-    if bytes > FILE_LIMIT {
+    if bytes > FILE_BYTES {
         return Err(SaveError::TooLarge { bytes });
     }
     let mut out = Vec::with_capacity(alloc, bytes as usize)?;

@@ -3,6 +3,7 @@ use Rattle.std.proofs.Common.{◌≡◌, ◌∙◌, ◌+◌, ◌*◌, ◌≤◌,
 use Rattle.std.specs.List.{concat}
 use Rattle.std.proofs.lemmas.Grind.{flat_map-append}
 use Rattle.std.proofs.lemmas.List.{get_or-replicate, get_or_past, length-replicate}
+use Rattle.rls_ident.specs.declared.limits.TheConstants.{MEMBERS, FILE_BYTES}
 use Rattle.rls_ident.specs.declared.epoch_name.EpochName.TheVariants.{Origin}
 use Rattle.rls_ident.proofs.Members.{bool_cases, le_is, not_le_is}
 use Rattle.rls_ops.specs.Rows.{AcksSeen, left, row_of, starting_at}
@@ -14,7 +15,6 @@ use Rattle.rls_model.specs.Parts.{epoch_parts}
 use Rattle.rls_seen.specs.Kept.{left_below, needed_over, other_rows, parts_over, retained_over}
 use Rattle.rls_seen.specs.Seen.{Seen, fresh, greatest_over}
 use Rattle.rls_file.specs.Files.{epoch_bytes, file_bytes, head_bytes, snapshot_bytes, stem_bytes, stems_bytes, text_run_bytes}
-use Rattle.rls_stages.specs.KeptFile.{file_limit}
 
 -- ---- lists of lists
 
@@ -23,7 +23,7 @@ joined f xs ys = ap length (flat_map-append f xs ys) ∙ length-append (flat_map
 
 -- nine parts that are short
 nine : (a b c d e f g h i : List ℕ) → length a ≤ 21 → length b ≤ 256 → length c ≤ 16384 → length d ≤ 260 → length e ≤ 256 → length f ≤ 5 → length g ≤ 4 → length h ≤ 4 → length i ≤ 4
-    → length (concat (a ∷ b ∷ c ∷ d ∷ e ∷ f ∷ g ∷ h ∷ i ∷ [])) ≤ file_limit
+    → length (concat (a ∷ b ∷ c ∷ d ∷ e ∷ f ∷ g ∷ h ∷ i ∷ [])) ≤ FILE_BYTES
 nine a b c d e f g h i ka kb kc kd ke kf kg kh ki =
     let wi = i ++ [] in
     let wh = h ++ wi in
@@ -41,23 +41,23 @@ nine a b c d e f g h i ka kb kc kd ke kf kg kh ki =
 abbrev zeros : ℕ → List ℕ
 zeros n = replicate n 0
 
-other_few : (k a : ℕ) → k ≤ 64 → length (get_or (replicate k (zeros k)) a []) ≤ 64
+other_few : (k a : ℕ) → k ≤ MEMBERS → length (get_or (replicate k (zeros k)) a []) ≤ MEMBERS
 other_few k a h =
     bool_cases (nat_le k a)
     (λ e. let x = le_is k a e in let y : length (replicate k (zeros k)) ≡ k = length-replicate k (zeros k) in let z : length (get_or (replicate k (zeros k)) a []) ≡ 0 = ap (λ (r : List ℕ). length r) (get_or_past (replicate k (zeros k)) a [] (omega (arith, x, y))) in omega (arith, z))
     (λ e. let y : length (zeros k) ≡ k = length-replicate {A = ℕ} k 0 in let z : length (get_or (replicate k (zeros k)) a []) ≡ length (zeros k) = ap (λ (r : List ℕ). length r) (get_or-replicate k a (zeros k) [] (not_le_is k a e)) in omega (arith, z, y, h))
 
-row_few : (n me a : ℕ) → n ≤ 64 → length (row_of (starting_at me (zeros n)) a) ≤ 64
+row_few : (n me a : ℕ) → n ≤ MEMBERS → length (row_of (starting_at me (zeros n)) a) ≤ MEMBERS
 row_few n me a h =
     let e : length (zeros n) ≡ n = length-replicate {A = ℕ} n 0 in
-    let own : length (zeros n) ≤ 64 = omega (arith, e, h) in
+    let own : length (zeros n) ≤ MEMBERS = omega (arith, e, h) in
     go (a == me) own (other_few (length (zeros n)) a own)
   where
-    go : (b : Bool) → length (zeros n) ≤ 64 → length (get_or (replicate (length (zeros n)) (zeros (length (zeros n)))) a []) ≤ 64 → length (if b then zeros n else get_or (replicate (length (zeros n)) (zeros (length (zeros n)))) a []) ≤ 64
+    go : (b : Bool) → length (zeros n) ≤ MEMBERS → length (get_or (replicate (length (zeros n)) (zeros (length (zeros n)))) a []) ≤ MEMBERS → length (if b then zeros n else get_or (replicate (length (zeros n)) (zeros (length (zeros n)))) a []) ≤ MEMBERS
     go true own other = own
     go false own other = other
 
-rows_short : (acks : AcksSeen) (n : ℕ) → ((a : ℕ) → length (row_of acks a) ≤ 64) → length (flat_map vector_bytes (other_rows acks n)) ≤ 256 * n
+rows_short : (acks : AcksSeen) (n : ℕ) → ((a : ℕ) → length (row_of acks a) ≤ MEMBERS) → length (flat_map vector_bytes (other_rows acks n)) ≤ 256 * n
 rows_short acks zero h = lit≤ tt
 rows_short acks (suc n) h = go (n == acks.me) (rows_short acks n h)
   where
@@ -98,13 +98,13 @@ epochs_short false = lit≤ tt
 
 -- ---- the file
 
-pub fresh_short : (group me members : ℕ) → AreNumbers group me members → length (file_bytes (parts_over (fresh group me members))) ≤ file_limit
+pub fresh_short : (group me members : ℕ) → AreNumbers group me members → length (file_bytes (parts_over (fresh group me members))) ≤ FILE_BYTES
 unfolding snapshot_bytes parts_over retained_over spanned
 fresh_short group me n h =
     let s : Seen = fresh group me n in
     let acks : AcksSeen = starting_at me (zeros n) in
     let k = length (zeros n) in
-    let few : n ≤ 64 = h.2 in
+    let few : n ≤ MEMBERS = h.2 in
     let e : k ≡ n = length-replicate {A = ℕ} n 0 in
     let b = is_spanned [] (greatest_over s) (needed_over s) Origin in
     let rows = rows_short acks k (λ a. row_few n me a few) in

@@ -3,6 +3,7 @@ use Rattle.std.proofs.Common.{◌≡◌, ◌∙◌, ◌⊎◌, ◌<◌, ◌≤�
 use Rattle.std.specs.Prelude.{encode_utf8_all, ◌&&◌, ◌==◌, nat_le, nat_lt}
 use Rattle.std.proofs.lemmas.Bool.{eqb-true}
 use Rattle.std.proofs.lemmas.Bool.Decides.{nat_tests}
+use Rattle.rls_ident.specs.declared.limits.TheConstants.{MEMBERS, INPUT_BYTES, FILE_BYTES}
 use Rattle.rls_io.specs.Device.{Appends, Stores}
 use Rattle.rls_ident.proofs.Members.{and_right}
 use Rattle.rls_ops.specs.declared.message.Message.{Message}
@@ -27,9 +28,8 @@ use Rattle.rls_model.specs.Parts.{parts}
 use Rattle.rls_model.specs.Receiving.{State}
 use Rattle.rls_model.specs.Taking.{Progress, message_for, take_message}
 use Rattle.rls_seen.specs.Kept.{parts_over}
-use Rattle.rls_seen.specs.Messages.{Course, message_over, taken_over}
+use Rattle.rls_seen.specs.Messages.{Course, taken_over}
 use Rattle.rls_seen.specs.Messages as seen
-use Rattle.rls_seen.specs.Sane.{IsSane}
 use Rattle.rls_seen.specs.Seen.{Seen, fresh, members, idents_over}
 use Rattle.rls_seen.specs.Stands.{StandsFor}
 use Rattle.rls_seen.proofs.Alike.{greatest_alike, members_alike}
@@ -50,19 +50,16 @@ use Rattle.rls_report.specs.Stat.{stat_of}
 use Rattle.rls_report.proofs.Numbers.{stat_alike}
 use Rattle.rls_script.specs.Scripts.{script_of}
 use Rattle.rls_script.specs.declared.lines.Line.{Line}
-use Rattle.rls_file.specs.Files.{Content, Journal, Snapshot, newest_form, file_bytes}
-use Rattle.rls_file.specs.FileLaws.{IsFile}
+use Rattle.rls_file.specs.Files.{file_bytes}
 use Rattle.rls_file.specs.SpelledFiles.{IsHead}
-use Rattle.rls_file.proofs.FileFormats.{file_reads}
-use Rattle.rls_store.specs.Loading.{seen_in}
 use Rattle.rls_store.specs.Stored.{AreWritable}
 use Rattle.rls_top.specs.declared.words.Command.{Command}
 use Rattle.rls_top.specs.declared.words.Command.TheVariants.{New, OnFile}
 use Rattle.rls_top.specs.declared.words.FileCommand.{FileCommand}
 use Rattle.rls_top.specs.declared.words.FileCommand.TheVariants.{Edit, Text, Ids, Stat, Send, Take, Leave}
 use Rattle.rls_top.specs.Words.{command_of}
-use Rattle.rls_stages.specs.KeptFile.{file_limit, loaded, replica_in, saved, IsReadBack, IsFileFor, StandsIn}
-use Rattle.rls_top.specs.Due.{Due, Makes, Stops, due, due_at, due_of_run, due_of_taken, due_of_words, due_of_input, due_of_message, due_of_script, due_on, due_status, input_limit, read, stores}
+use Rattle.rls_stages.specs.KeptFile.{loaded, replica_in, saved, IsReadBack, StandsIn}
+use Rattle.rls_top.specs.Due.{Due, Makes, Stops, due, due_at, due_of_run, due_of_taken, due_of_words, due_of_input, due_of_message, due_of_script, due_on, due_status, read, stores}
 use Rattle.rls_top.specs.Due as dues
 use Rattle.rls_stages.specs.Endings.{IsFault, EndsWith}
 use Rattle.rls_top.specs.Endings.{IsDone, IsKept, IsStored, IsWritten}
@@ -109,11 +106,11 @@ written_due d stored report refused too_long old new (inr l) w = absurd (subst (
 
 -- a command on a file that stands for a state calls for what it calls for at the replica of it, unless the file is too long
 opened_due : (c : FileCommand) (bytes : List ℕ) (left : Option (List ℕ)) (t : State) (s : Seen) (d : Due) → IsOpened bytes t s → due_at c s left ≡ Some d
-    → (e : Due) × (due_on c (replica_in (loaded (Some bytes))) left ≡ Some e) × OrTooLong e d (file_limit < length bytes)
-opened_due c bytes left t s d o at = go (within_or_past file_limit (length bytes))
+    → (e : Due) × (due_on c (replica_in (loaded (Some bytes))) left ≡ Some e) × OrTooLong e d (FILE_BYTES < length bytes)
+opened_due c bytes left t s d o at = go (within_or_past FILE_BYTES (length bytes))
   where
-    go : ((length bytes ≤ file_limit) × (nat_lt file_limit (length bytes) ≡ false)) ⊎ ((file_limit < length bytes) × (nat_lt file_limit (length bytes) ≡ true))
-        → (e : Due) × (due_on c (replica_in (loaded (Some bytes))) left ≡ Some e) × OrTooLong e d (file_limit < length bytes)
+    go : ((length bytes ≤ FILE_BYTES) × (nat_lt FILE_BYTES (length bytes) ≡ false)) ⊎ ((FILE_BYTES < length bytes) × (nat_lt FILE_BYTES (length bytes) ≡ true))
+        → (e : Due) × (due_on c (replica_in (loaded (Some bytes))) left ≡ Some e) × OrTooLong e d (FILE_BYTES < length bytes)
     go (inl h) = (d, rw (h.1) (ap (λ (r : Result Seen CommandError). due_on c r left) o.found ∙ at), inl refl)
     go (inr h) = (Stops TooLarge, rw (h.1) refl, inr (h.0, refl))
 
@@ -122,13 +119,13 @@ opened_due c bytes left t s d o at = go (within_or_past file_limit (length bytes
 -- this replica is stored, or too long
 abbrev StoresOrTooLong : Due → Seen → List ℕ → List (ℕ × ℕ × Reason) → Type 0 → Type 0
 StoresOrTooLong d s report refused too_long =
-    ((length (file_bytes (parts_over s)) ≤ file_limit) × (d ≡ Makes (Some s) report refused)) ⊎ (too_long × (d ≡ Stops TooLarge))
+    ((length (file_bytes (parts_over s)) ≤ FILE_BYTES) × (d ≡ Makes (Some s) report refused)) ⊎ (too_long × (d ≡ Stops TooLarge))
 
-stored_or_long : (s : Seen) (report : List ℕ) (refused : List (ℕ × ℕ × Reason)) → StoresOrTooLong (stores (saved s) report refused) s report refused (file_limit < length (file_bytes (parts_over s)))
-stored_or_long s report refused = go (within_or_past file_limit (length (file_bytes (parts_over s))))
+stored_or_long : (s : Seen) (report : List ℕ) (refused : List (ℕ × ℕ × Reason)) → StoresOrTooLong (stores (saved s) report refused) s report refused (FILE_BYTES < length (file_bytes (parts_over s)))
+stored_or_long s report refused = go (within_or_past FILE_BYTES (length (file_bytes (parts_over s))))
   where
-    go : ((length (file_bytes (parts_over s)) ≤ file_limit) × (nat_lt file_limit (length (file_bytes (parts_over s))) ≡ false)) ⊎ ((file_limit < length (file_bytes (parts_over s))) × (nat_lt file_limit (length (file_bytes (parts_over s))) ≡ true))
-        → StoresOrTooLong (stores (saved s) report refused) s report refused (file_limit < length (file_bytes (parts_over s)))
+    go : ((length (file_bytes (parts_over s)) ≤ FILE_BYTES) × (nat_lt FILE_BYTES (length (file_bytes (parts_over s))) ≡ false)) ⊎ ((FILE_BYTES < length (file_bytes (parts_over s))) × (nat_lt FILE_BYTES (length (file_bytes (parts_over s))) ≡ true))
+        → StoresOrTooLong (stores (saved s) report refused) s report refused (FILE_BYTES < length (file_bytes (parts_over s)))
     go (inl h) = inl (h.0, rw (h.1) refl)
     go (inr h) = inr (h.0, rw (h.1) refl)
 
@@ -168,10 +165,10 @@ saves_so n d s t report refused too_long kept file new_file old new c e told h w
         subst (λ (f : Option (Option (List ℕ))). StandsIn f t) (sym is) (stands_stored s t h (at_due.1 w))
     stands (inr l) k = absurd (subst (λ (x : Due). IsKept x file new_file) l.1 k)
 
-shows_so : (n : ℕ) (d : Due) (bytes report : List ℕ) (file new_file : Option (Option (List ℕ))) (old new : Option (List ℕ)) → OrTooLong d (Makes None report []) (file_limit < length bytes) → Ends (Some d) file new_file n old new → Shows n bytes report old new
+shows_so : (n : ℕ) (d : Due) (bytes report : List ℕ) (file new_file : Option (Option (List ℕ))) (old new : Option (List ℕ)) → OrTooLong d (Makes None report []) (FILE_BYTES < length bytes) → Ends (Some d) file new_file n old new → Shows n bytes report old new
 shows_so n d bytes report file new_file old new c e = record {
-  status = ends_due n d (Makes None report []) (file_limit < length bytes) c e.status;
-  written = λ z. written_due d None report [] (file_limit < length bytes) old new c (e.report (inl z));
+  status = ends_due n d (Makes None report []) (FILE_BYTES < length bytes) c e.status;
+  written = λ z. written_due d None report [] (FILE_BYTES < length bytes) old new c (e.report (inl z));
 }
 
 -- ---- on a file
@@ -195,10 +192,10 @@ pub record Leads (s : Seen) (r : Seen) (t : State) : Type 0 where
 
 saved_at : (words : List (List ℕ)) (c : FileCommand) (file new_file : Option (Option (List ℕ))) (left : Option (List ℕ)) (bytes report : List ℕ) (refused : List (ℕ × ℕ × Reason)) (t u : State) (s r : Seen) (d : Due) (too_long : Type 0) (n : ℕ) (old new : Option (List ℕ))
     → Ends (due words file left) file new_file n old new → Asks words c file bytes t → IsOpened bytes t s → due_at c s left ≡ Some d → StoresOrTooLong d r report refused too_long → Leads s r u
-    → Saves n u report refused ((file_limit < length bytes) ⊎ too_long) new_file old new
+    → Saves n u report refused ((FILE_BYTES < length bytes) ⊎ too_long) new_file old new
 saved_at words c file new_file left bytes report refused t u s r d too_long n old new e a o at stored k =
     let f = opened_due c bytes left t s d o at in
-    saves_so n f.0 r u report refused ((file_limit < length bytes) ⊎ too_long) (Some bytes) file new_file old new (through f.0 d r report refused (file_limit < length bytes) too_long f.2 stored)
+    saves_so n f.0 r u report refused ((FILE_BYTES < length bytes) ⊎ too_long) (Some bytes) file new_file old new (through f.0 d r report refused (FILE_BYTES < length bytes) too_long f.2 stored)
     (ends_at (due words file left) f.0 file new_file n old new (on_file words c file left bytes a.command a.kept ∙ f.1) e) a.kept k.stands k.writable
 
 -- ---- what is shown
@@ -237,21 +234,21 @@ message_shown words file new_file left bytes t to n old new e a l =
 -- ---- what is saved
 
 -- what is read of an input that isn't too long
-read_or_long : (input : List ℕ) (f : List ℕ → Due) → OrTooLong (due_of_input (read input) f) (f input) (input_limit < length input)
-read_or_long input f = go (within_or_past input_limit (length input))
+read_or_long : (input : List ℕ) (f : List ℕ → Due) → OrTooLong (due_of_input (read input) f) (f input) (INPUT_BYTES < length input)
+read_or_long input f = go (within_or_past INPUT_BYTES (length input))
   where
-    go : ((length input ≤ input_limit) × (nat_lt input_limit (length input) ≡ false)) ⊎ ((input_limit < length input) × (nat_lt input_limit (length input) ≡ true))
-        → OrTooLong (due_of_input (read input) f) (f input) (input_limit < length input)
+    go : ((length input ≤ INPUT_BYTES) × (nat_lt INPUT_BYTES (length input) ≡ false)) ⊎ ((INPUT_BYTES < length input) × (nat_lt INPUT_BYTES (length input) ≡ true))
+        → OrTooLong (due_of_input (read input) f) (f input) (INPUT_BYTES < length input)
     go (inl h) = inl (rw (h.1) refl)
     go (inr h) = inr (h.0, rw (h.1) refl)
 
 -- what is due after a run that came to its end on both sides, where the state is stored
-run_stored : (n k : ℕ) (c : Course) (p : Progress) → Goes n c p → StoresOrTooLong (due_of_run k (Done c)) c.state (edit_text k p.counts.released (length p.counts.refused)) p.counts.refused (file_limit < length (file_bytes (parts p.state)))
+run_stored : (n k : ℕ) (c : Course) (p : Progress) → Goes n c p → StoresOrTooLong (due_of_run k (Done c)) c.state (edit_text k p.counts.released (length p.counts.refused)) p.counts.refused (FILE_BYTES < length (file_bytes (parts p.state)))
 run_stored n k c p g =
     let report = edit_text k p.counts.released (length p.counts.refused) in
     let counts : due_of_run k (Done c) ≡ stores (saved c.state) report p.counts.refused = ap (λ (f : Taken). stores (saved c.state) (edit_text k f.released (length f.refused)) f.refused) g.counts in
-    let long = subst (λ (x : Parts). StoresOrTooLong (stores (saved c.state) report p.counts.refused) c.state report p.counts.refused (file_limit < length (file_bytes x))) (parts_alike c.state p.state g.states.1) (stored_or_long c.state report p.counts.refused) in
-    subst (λ (d : Due). StoresOrTooLong d c.state report p.counts.refused (file_limit < length (file_bytes (parts p.state)))) (sym counts) long
+    let long = subst (λ (x : Parts). StoresOrTooLong (stores (saved c.state) report p.counts.refused) c.state report p.counts.refused (FILE_BYTES < length (file_bytes x))) (parts_alike c.state p.state g.states.1) (stored_or_long c.state report p.counts.refused) in
+    subst (λ (d : Due). StoresOrTooLong d c.state report p.counts.refused (FILE_BYTES < length (file_bytes (parts p.state)))) (sym counts) long
 
 pub edits_saved : (words : List (List ℕ)) (file new_file : Option (Option (List ℕ))) (left : Option (List ℕ)) (bytes script : List ℕ) (t : State) (lines : List Line) (p : Progress) (n : ℕ) (old new : Option (List ℕ))
     → Ends (due words file left) file new_file n old new → Asks words Edit file bytes t → left ≡ Some script → script_of script ≡ Ok lines → script_in t lines ≡ Done p
@@ -263,13 +260,13 @@ edits_saved words file new_file left bytes script t lines p n old new e a l pars
     let r = runs_alike read_line (line_by fault_in text_in) lines_alike s t lines p well o.1.stands ran in
     let c = r.0 in
     let report = edit_text (length lines) p.counts.released (length p.counts.refused) in
-    let long = file_limit < length (file_bytes (parts p.state)) in
+    let long = FILE_BYTES < length (file_bytes (parts p.state)) in
     let done : due_of_script s (script_of script) ≡ due_of_run (length lines) (Done c) = ap (due_of_script s) parsed ∙ ap (due_of_run (length lines)) r.1 in
     let stored = subst (λ (d : Due). StoresOrTooLong d c.state report p.counts.refused long) (sym done) (run_stored (members s) (length lines) c p r.2) in
-    let at_input = through (due_of_input (read script) (λ bytes. due_of_script s (script_of bytes))) (due_of_script s (script_of script)) c.state report p.counts.refused (input_limit < length script) long
+    let at_input = through (due_of_input (read script) (λ bytes. due_of_script s (script_of bytes))) (due_of_script s (script_of script)) c.state report p.counts.refused (INPUT_BYTES < length script) long
     (read_or_long script (λ bytes. due_of_script s (script_of bytes))) stored in
     let w = lines_writable read_line s lines c well o.1.sane o.1.writable r.1 in
-    saved_at words Edit file new_file left bytes report p.counts.refused t p.state s c.state (due_of_input (read script) (λ bytes. due_of_script s (script_of bytes))) ((input_limit < length script) ⊎ long) n old new e a o.1
+    saved_at words Edit file new_file left bytes report p.counts.refused t p.state s c.state (due_of_input (read script) (λ bytes. due_of_script s (script_of bytes))) ((INPUT_BYTES < length script) ⊎ long) n old new e a o.1
     (ap (due_at Edit s) l) at_input (record { stands = r.2.states.1; writable = w.1 })
 
 pub leave_saved : (words : List (List ℕ)) (file new_file : Option (Option (List ℕ))) (left : Option (List ℕ)) (bytes : List ℕ) (t : State) (p : Progress) (n : ℕ) (old new : Option (List ℕ))
@@ -281,7 +278,7 @@ leave_saved words file new_file left bytes t p n old new e a ran =
     let r = runs_alike allowed (allowed_by fault_in) allowed_alike s t (edits.Leave ∷ []) p leave_reads_well o.1.stands ran in
     let c = r.0 in
     let report = edit_text 1 p.counts.released (length p.counts.refused) in
-    let long = file_limit < length (file_bytes (parts p.state)) in
+    let long = FILE_BYTES < length (file_bytes (parts p.state)) in
     let done : due_at Leave s left ≡ Some (due_of_run 1 (Done c)) = ap (λ (x : Run Seen LineFault). Some (due_of_run 1 x)) r.1 in
     let w = lines_writable allowed s (edits.Leave ∷ []) c leave_reads_well o.1.sane o.1.writable r.1 in
     saved_at words Leave file new_file left bytes report p.counts.refused t p.state s c.state (due_of_run 1 (Done c)) long n old new e a o.1
@@ -304,13 +301,13 @@ message_given bytes m n is e =
 
 -- what is due after a message that was taken on both sides
 taken_stored : (n : ℕ) (c : Course) (p : Progress) → Goes n c p
-    → StoresOrTooLong (due_of_taken c) c.state (take_text p.counts.applied p.counts.released p.counts.repeated p.counts.held (length p.counts.refused)) p.counts.refused (file_limit < length (file_bytes (parts p.state)))
+    → StoresOrTooLong (due_of_taken c) c.state (take_text p.counts.applied p.counts.released p.counts.repeated p.counts.held (length p.counts.refused)) p.counts.refused (FILE_BYTES < length (file_bytes (parts p.state)))
 taken_stored n c p g =
     let report = take_text p.counts.applied p.counts.released p.counts.repeated p.counts.held (length p.counts.refused) in
     let counts : due_of_taken c ≡ stores (saved c.state) report p.counts.refused =
     ap (λ (f : Taken). stores (saved c.state) (take_text f.applied f.released f.repeated f.held (length f.refused)) f.refused) g.counts in
-    let long = subst (λ (x : Parts). StoresOrTooLong (stores (saved c.state) report p.counts.refused) c.state report p.counts.refused (file_limit < length (file_bytes x))) (parts_alike c.state p.state g.states.1) (stored_or_long c.state report p.counts.refused) in
-    subst (λ (d : Due). StoresOrTooLong d c.state report p.counts.refused (file_limit < length (file_bytes (parts p.state)))) (sym counts) long
+    let long = subst (λ (x : Parts). StoresOrTooLong (stores (saved c.state) report p.counts.refused) c.state report p.counts.refused (FILE_BYTES < length (file_bytes x))) (parts_alike c.state p.state g.states.1) (stored_or_long c.state report p.counts.refused) in
+    subst (λ (d : Due). StoresOrTooLong d c.state report p.counts.refused (FILE_BYTES < length (file_bytes (parts p.state)))) (sym counts) long
 
 pub message_saved : (words : List (List ℕ)) (file new_file : Option (Option (List ℕ))) (left : Option (List ℕ)) (bytes given : List ℕ) (t : State) (m : Message) (n : ℕ) (old new : Option (List ℕ))
     → Ends (due words file left) file new_file n old new → Asks words Take file bytes t → left ≡ Some given → IsMessage given m → IsTrue (is_for t.history m) → let p = take_message t m in
@@ -323,13 +320,13 @@ message_saved words file new_file left bytes given t m n old new e a l is right 
     let g = taken_stands None s t m (message_given given m (members s) is as_many) o.1.stands in
     let c = taken_over s m in
     let report = take_text p.counts.applied p.counts.released p.counts.repeated p.counts.held (length p.counts.refused) in
-    let long = file_limit < length (file_bytes (parts p.state)) in
+    let long = FILE_BYTES < length (file_bytes (parts p.state)) in
     let done : due_of_message s (message_of given) ≡ due_of_taken c = rw (message_again given m is, for_alike s t m o.1.stands right) refl in
     let stored = subst (λ (d : Due). StoresOrTooLong d c.state report p.counts.refused long) (sym done) (taken_stored (members s) c p g) in
-    let at_input = through (due_of_input (read given) (λ bytes. due_of_message s (message_of bytes))) (due_of_message s (message_of given)) c.state report p.counts.refused (input_limit < length given) long
+    let at_input = through (due_of_input (read given) (λ bytes. due_of_message s (message_of bytes))) (due_of_message s (message_of given)) c.state report p.counts.refused (INPUT_BYTES < length given) long
     (read_or_long given (λ bytes. due_of_message s (message_of bytes))) stored in
     let w = taken_writable s given m o.1.sane o.1.writable is as_many in
-    saved_at words Take file new_file left bytes report p.counts.refused t p.state s c.state (due_of_input (read given) (λ bytes. due_of_message s (message_of bytes))) ((input_limit < length given) ⊎ long) n old new e a o.1
+    saved_at words Take file new_file left bytes report p.counts.refused t p.state s c.state (due_of_input (read given) (λ bytes. due_of_message s (message_of bytes))) ((INPUT_BYTES < length given) ⊎ long) n old new e a o.1
     (ap (due_at Take s) l) at_input (record { stands = g.states.1; writable = w.1 })
 
 -- ---- a fresh replica
@@ -342,7 +339,7 @@ new_saved words file new_file left group me members n old new e command missing 
     let s = fresh group me members in
     let right = right_numbers group me members numbers in
     let few = fresh_short group me members numbers in
-    let short : nat_lt file_limit (length (file_bytes (parts_over s))) ≡ false = grind (arith, nat_tests) in
+    let short : nat_lt FILE_BYTES (length (file_bytes (parts_over s))) ≡ false = grind (arith, nat_tests) in
     let d : Due = Makes (Some s) (new_text group me members) [] in
     let is : due words file left ≡ Some d = ap (λ (w : Option Command). due_of_words w file left) command ∙ (ap (λ (x : Option (Option (List ℕ))). due_of_words (Some (New group me members)) x left) missing ∙ rw (right.0, short) refl) in
     saves_so n d s (new_state group me members) (new_text group me members) [] ⊥ None file new_file old new (inl (few, refl)) (ends_at (due words file left) d file new_file n old new is e) missing
@@ -351,5 +348,5 @@ new_saved words file new_file left group me members n old new e command missing 
     head_numbers : (group me members : ℕ) → IsHead 1 group members me → AreNumbers group me members
     head_numbers group me members h =
         let below = h.me_fits in
-        let fit : nat_le members 64 ≡ true = and_right (nat_lt 0 members) (nat_le members 64) h.members_fit in
-        (h.group_fits, below, (let k : members ≤ 64 = grind (arith, nat_tests) in k))
+        let fit : nat_le members MEMBERS ≡ true = and_right (nat_lt 0 members) (nat_le members MEMBERS) h.members_fit in
+        (h.group_fits, below, (let k : members ≤ MEMBERS = grind (arith, nat_tests) in k))

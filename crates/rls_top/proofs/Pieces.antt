@@ -3,6 +3,7 @@ use Rattle.std.proofs.Common.{◌≡◌, ◌∙◌, ◌++◌, ◌+◌, ◌<◌, 
 use Rattle.std.specs.Prelude.{Vec, IsFalse, IsTrue, ◌&&◌}
 use Rattle.std.specs.declared.alloc.Global.{Global}
 use Rattle.std.proofs.lemmas.Bool.Decides.{nat_tests}
+use Rattle.rls_ident.specs.declared.limits.TheConstants.{MEMBERS}
 use Rattle.rls_ident.proofs.Loops.{drop_reads}
 use Rattle.rls_ident.proofs.Members.{and_right}
 use Rattle.rls_io.specs.Memory.{bytes_of}
@@ -54,7 +55,7 @@ is_not_sent s to h = let test : ltb to (members s) ≡ false = grind (arith, nat
 no_count : (n : ℕ) → IsNoCount n → is_member_count n ≡ false
 no_count n (inl e) = let none : ltb 0 n ≡ false = grind (arith, nat_tests) in rw none refl
 no_count n (inr h) =
-    let many : leb n 64 ≡ false = grind (arith, nat_tests) in
+    let many : leb n MEMBERS ≡ false = grind (arith, nat_tests) in
     let some : ltb 0 n ≡ true = grind (arith, nat_tests) in
     rw (some, many) refl
 
@@ -65,7 +66,7 @@ no_members me members none = rw (no_count members none) refl
 pub no_me : (me members : ℕ) → IsNoMember me members → error_of_numbers me members ≡ Some (BadMe me)
 no_me me members none =
     let some : ltb 0 members ≡ true = let h = none.0 in grind (arith, nat_tests) in
-    let few : leb members 64 ≡ true = let h = none.1 in grind (arith, nat_tests) in
+    let few : leb members MEMBERS ≡ true = let h = none.1 in grind (arith, nat_tests) in
     let past : ltb me members ≡ false = let h = none.2 in grind (arith, nat_tests) in
     rw (some, few, past) refl
 
@@ -75,7 +76,7 @@ right_numbers group me members h =
     let below = h.1 in
     let most = h.2 in
     let some : ltb 0 members ≡ true = grind (arith, nat_tests) in
-    let few : leb members 64 ≡ true = grind (arith, nat_tests) in
+    let few : leb members MEMBERS ≡ true = grind (arith, nat_tests) in
     let test : ltb me members ≡ true = grind (arith, nat_tests) in
     rw (some, few, test) (refl, refl)
 

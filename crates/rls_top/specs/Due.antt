@@ -1,6 +1,7 @@
 -- What a command calls for, by its words, the kept file and the input, read over what the replica consists of that the file says.
 use Rattle.std.specs.Prelude.{ℕ, Bool, true, false, not, ◌&&◌, ◌==◌, List, [], length, zip, encode_utf8_all, Option, Some, None, option_map, Result, Ok, Err, nat_lt, if◌then◌else◌}
 use Rattle.std.specs.List.{flat_map}
+use Rattle.rls_ident.specs.declared.limits.TheConstants.{INPUT_BYTES}
 use Rattle.rls_ops.specs.declared.message.Message.{Message}
 use Rattle.rls_ops.specs.Spelling.{message_bytes}
 use Rattle.rls_codec.specs.Reading.{is_member_count, message_of}
@@ -29,10 +30,6 @@ use Rattle.rls_top.specs.declared.words.FileCommand.TheVariants.{Edit, Text, Ids
 use Rattle.rls_top.specs.Scripts.{run_script, run_leave}
 use Rattle.rls_top.specs.Words.{command_of}
 
--- the most bytes of the input
-abbrev pub input_limit : ℕ
-input_limit = 67108864
-
 -- what a command makes, or why it ends early
 pub data Due : Type 0 where
   -- the words are no command
@@ -49,7 +46,7 @@ shows report = Makes None report []
 
 -- the input, unless it is too long
 abbrev pub read : List ℕ → Result (List ℕ) CommandError
-read input = if nat_lt input_limit (length input) then Err TooLarge else Ok input
+read input = if nat_lt INPUT_BYTES (length input) then Err TooLarge else Ok input
 
 -- this replica is stored, with this report
 abbrev pub stores : Result Seen CommandError → List ℕ → List (ℕ × ℕ × Reason) → Due

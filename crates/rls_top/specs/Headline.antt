@@ -1,5 +1,6 @@
 -- What comes of a command if the kept file stands for a history.
 use Rattle.std.specs.Prelude.{◌≡◌, ◌<◌, ◌⊎◌, ◌&&◌, ◌==◌, ℕ, Bool, List, [], Option, Some, length}
+use Rattle.rls_ident.specs.declared.limits.TheConstants.{INPUT_BYTES, FILE_BYTES}
 use Rattle.rls_io.specs.Device.{Appends}
 use Rattle.rls_ops.specs.declared.message.Message.{Message}
 use Rattle.rls_model.specs.Answers.{Reason}
@@ -9,8 +10,8 @@ use Rattle.rls_model.specs.Receiving.{State}
 use Rattle.rls_file.specs.Files.{file_bytes}
 use Rattle.rls_top.specs.declared.words.Command.TheVariants.{OnFile}
 use Rattle.rls_top.specs.declared.words.FileCommand.{FileCommand}
-use Rattle.rls_stages.specs.KeptFile.{IsFileFor, StandsIn, file_limit}
-use Rattle.rls_top.specs.Due.{input_limit, made_status}
+use Rattle.rls_stages.specs.KeptFile.{IsFileFor, StandsIn}
+use Rattle.rls_top.specs.Due.{made_status}
 use Rattle.rls_stages.specs.Endings.{EndsWith}
 use Rattle.rls_top.specs.Endings.{IsDone, IsStored}
 use Rattle.rls_top.specs.Words.{command_of}
@@ -33,7 +34,7 @@ is_for H m = (m.group == group_of H) && (m.members == members_of H)
 
 -- a command over these bytes of a file ends with this status and writes this report
 pub record Shows (n : ℕ) (bytes report : List ℕ) (old new : Option (List ℕ)) : Type 0 where
-  pub status : EndsWith n 0 (file_limit < length bytes)
+  pub status : EndsWith n 0 (FILE_BYTES < length bytes)
   pub written : n ≡ 0 → Appends old new report
 
 -- a command ends with this status, writes this report, and stores a file that stands for this state
@@ -44,8 +45,8 @@ pub record Saves (n : ℕ) (t : State) (report : List ℕ) (refused : List (ℕ 
 
 -- the kept file is too long, or the one that is to be stored
 abbrev pub IsFileTooLong : List ℕ → State → Type 0
-IsFileTooLong bytes t = (file_limit < length bytes) ⊎ (file_limit < length (file_bytes (parts t)))
+IsFileTooLong bytes t = (FILE_BYTES < length bytes) ⊎ (FILE_BYTES < length (file_bytes (parts t)))
 
 -- one of them is, or the input
 abbrev pub IsTooLong : List ℕ → List ℕ → State → Type 0
-IsTooLong bytes input t = (file_limit < length bytes) ⊎ (input_limit < length input) ⊎ (file_limit < length (file_bytes (parts t)))
+IsTooLong bytes input t = (FILE_BYTES < length bytes) ⊎ (INPUT_BYTES < length input) ⊎ (FILE_BYTES < length (file_bytes (parts t)))

@@ -3,6 +3,7 @@
 ghost use Rattle.std.specs.Prelude.{◌≡◌, map, string_bytes};
 ghost use Rattle.rls_top.specs.Words.{number_up_to, alone, new_of, send_of, trial_of, command_of};
 
+use rls_ident::limits::GREATEST_NUMBER;
 use rls_script::number;
 
 /// What the program is asked to do.
@@ -84,8 +85,8 @@ fn new(others: &[String]) -> Option<Command>
     match others {
         [group, me, members] => {
             let group = number(group.as_str())?;
-            let me = number_up_to(u32::MAX, me)?;
-            let members = number_up_to(u32::MAX, members)?;
+            let me = number_up_to(GREATEST_NUMBER, me)?;
+            let members = number_up_to(GREATEST_NUMBER, members)?;
             Some(Command::New { group, me, members })
         }
         _ => None,
@@ -97,7 +98,7 @@ fn send(others: &[String]) -> Option<Command>
 {
     match others {
         [to] => {
-            let to = number_up_to(u32::MAX, to)?;
+            let to = number_up_to(GREATEST_NUMBER, to)?;
             Some(Command::OnFile {
                 command: FileCommand::Send { to },
             })

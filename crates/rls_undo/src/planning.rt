@@ -48,7 +48,7 @@ fn put_target(ranges: &mut Vec<(u64, u64)>, replica: &Replica, id: &Ident) -> Re
     }
 }
 
-// One more place, in front of those of the last range of the list.
+// One more place, before those of the last range of the list.
 fn put_range(ranges: &mut Vec<(u64, u64)>, at: u64) -> Result<(), AllocError>
     requires place { at < 2 ^ 64 - 1 }
     requires short { (r : ℕ × ℕ) → IsIn r ranges.old.items → r.1 < 2 ^ 64 - 1 }

@@ -1,6 +1,7 @@
 -- A world to which nothing has happened.
 use Rattle.std.proofs.Common.{◌≡◌, ℕ, zero, suc, ◌<◌, ◌≤◌, ◌++◌, List, [], ◌∷◌, length, refl, sym, ap, ◌∙◌, subst, arith}
 use Rattle.std.proofs.lemmas.List.{length-replicate}
+use Rattle.rls_ident.specs.declared.limits.TheConstants.{MEMBERS}
 use Rattle.rls_model.specs.Laws.{IsAfter}
 use Rattle.rls_model.specs.Receiving.{State}
 use Rattle.rls_model.specs.WellFormed.{IsLarge}
@@ -20,15 +21,15 @@ stand_snoc [] (x ∷ ts) s t h l = absurd h
 stand_snoc (x ∷ ss) [] s t h l = absurd h
 stand_snoc (x ∷ ss) (y ∷ ts) s t h l = (h.0, stand_snoc ss ts s t h.1 l)
 
-all_fresh : (group members n : ℕ) → IsLarge group → members ≤ 64 → n ≤ members → AllStand (fresh_replicas group members n) (fresh_states group members n)
+all_fresh : (group members n : ℕ) → IsLarge group → members ≤ MEMBERS → n ≤ members → AllStand (fresh_replicas group members n) (fresh_states group members n)
 all_fresh group members zero g l b = tt
 all_fresh group members (suc n) g l b =
     stand_snoc (fresh_replicas group members n) (fresh_states group members n) (fresh group n members) _ (all_fresh group members n g l (omega arith)) (fresh_stands group n members (g, omega arith, l))
 
-pub fresh_world_stands : (group members : ℕ) → IsLarge group → members ≤ 64 → StandsForWorld (fresh_world group members) (empty_world group members)
+pub fresh_world_stands : (group members : ℕ) → IsLarge group → members ≤ MEMBERS → StandsForWorld (fresh_world group members) (empty_world group members)
 fresh_world_stands group members g l = record { states = all_fresh group members members g l (omega arith); sent = refl }
 
-pub start_after : (group members : ℕ) → IsLarge group → 0 < members → members ≤ 64 → IsAfter (empty_world group members) []
+pub start_after : (group members : ℕ) → IsLarge group → 0 < members → members ≤ MEMBERS → IsAfter (empty_world group members) []
 start_after group members g p l = (group, members, g, p, l, tt, refl)
 
 pub fresh_length : (group members n : ℕ) → length (fresh_replicas group members n) ≡ n

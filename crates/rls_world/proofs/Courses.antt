@@ -12,7 +12,7 @@ use Rattle.rls_model.specs.History.{count}
 use Rattle.rls_model.specs.declared.counts.Counts.{Counts}
 use Rattle.rls_model.specs.Retained.{counts}
 use Rattle.rls_model.specs.Worlds.{World, fault_of, happens}
-use Rattle.rls_model.proofs.WorldsLists.{length-set}
+use Rattle.rls_model.proofs.OnePlace.{length-set}
 use Rattle.rls_seen.specs.Seen.{Seen}
 use Rattle.rls_seen.specs.Over.{released_all}
 use Rattle.rls_seen.specs.Edits.{edited}

@@ -1,4 +1,4 @@
--- An edit and the releases behind it, whole or cut short.
+-- An edit and the releases after it, whole or cut short.
 use Rattle.std.proofs.Common.{◌≡◌, ℕ, zero, suc, ◌-◌, ◌<◌, ◌≤◌, cond, length, refl, sym, ap, ◌∙◌, subst, arith, inl, inr, Option, Some, None, nat_le}
 use Rattle.rls_ident.specs.Vectors.{at_most}
 use Rattle.rls_ident.proofs.Members.{bool_cases, found_in, le_is, lt_test, not_le_is}
@@ -97,7 +97,7 @@ times_least n s =
 
 -- ---- an edit
 
--- an edit and the releases behind it, in at most this many steps
+-- an edit and the releases after it, in at most this many steps
 edit_course : Limit → Seen → Edit → Course
 edit_course limit s edit = with_releases (edit_step (started limit s) edit)
 

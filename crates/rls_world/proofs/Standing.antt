@@ -29,7 +29,7 @@ use Rattle.rls_seen.proofs.Taking.{taken_alike}
 use Rattle.rls_world.specs.Events.{member_fault, message_fault, edit_fault_at, fault_over, edited_at, sent_at, delivered_at, dropped_at, happened, outcome_over, edit_outcome, deliver_outcome, IsFault, IsPartEdited, HasPart, PartTaken, IsPart}
 use Rattle.rls_world.specs.Seen.{WorldSeen, AllStand, StandsForWorld, IsOneGroup}
 use Rattle.rls_model.proofs.CutShort.{cut_short}
-use Rattle.rls_model.proofs.WorldsLists.{set_get}
+use Rattle.rls_model.proofs.OnePlace.{set_get}
 use Rattle.rls_world.proofs.Groups.{group_at}
 use Rattle.rls_world.proofs.Releases.{edit_stands, edit_part}
 

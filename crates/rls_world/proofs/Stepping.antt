@@ -13,7 +13,7 @@ use Rattle.rls_model.specs.declared.event.StepError.TheVariants as faults
 use Rattle.rls_model.specs.declared.receipt.Taken.{Taken}
 use Rattle.rls_model.specs.Worlds.{or_else, of_edit}
 use Rattle.rls_model.specs.WellFormed.{AreOps}
-use Rattle.rls_model.proofs.WorldsLists.{length-set, set_get}
+use Rattle.rls_model.proofs.OnePlace.{length-set, set_get}
 use Rattle.rls_seen.specs.Seen.{Seen, members, own_count}
 use Rattle.rls_seen.specs.Edits.{edited, made_over, edit_fault_over}
 use Rattle.rls_seen.specs.Kept.{dropped}

@@ -95,7 +95,7 @@ IsFault e fault = fault ≡ Some e
 
 -- ---- cut short, in case of want of memory
 
--- after some of the steps of an edit and of the releases behind it
+-- after some of the steps of an edit and of the releases after it
 abbrev pub IsPartEdited : Seen → Edit → Seen → Type 0
 IsPartEdited old edit new = (new ≡ old) ⊎ ((edit_fault_over old edit ≡ None) × IsPartReleased (edited old edit) new)
 
@@ -137,7 +137,7 @@ IsDelivered old m (Ok (outcomes.Took t)) new = (t ≡ taken_of (taken_over old m
 IsDelivered old m (Err faults.OutOfMemory) new = (new ≡ old) ⊎ IsPartTaken old m new
 IsDelivered old m _ new = ⊥
 
--- a message is put behind others with this answer
+-- a message is put after others with this answer
 abbrev pub IsPut : List Message → Message → Result Outcome StepError → List Message → Type 0
 IsPut old m (Ok (outcomes.Sent k)) new = (k ≡ length old) × (new ≡ old ++ m ∷ [])
 IsPut old m (Err faults.OutOfMemory) new = new ≡ old

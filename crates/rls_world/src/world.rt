@@ -1,6 +1,7 @@
 //! Worlds of members that edit and exchange messages.
 
 ghost use Rattle.std.specs.Prelude.{◌≡◌, ◌≢◌, ◌+◌, ◌<◌, ◌≤◌, ◌↔◌, ◌++◌, ◌∷◌, ℕ, List, [], length, nat_lt, slice_get, Some, None, Err, IfOk, IfErr, OnOk, OnErr, IsErrOf, if◌then◌else◌};
+ghost use Rattle.rls_ident.specs.declared.limits.TheConstants.{MEMBERS};
 ghost use Rattle.rls_model.specs.declared.event.Event.TheVariants as events;
 ghost use Rattle.rls_model.specs.Laws.{IsAfter, IsAt};
 ghost use Rattle.rls_model.specs.Receiving.{State};
@@ -15,14 +16,12 @@ ghost use Rattle.rls_world.specs.Clean.{IsClean};
 ghost use Rattle.rls_world.specs.Events.{fault_over, happened, outcome_over, member_fault, IsFault, IsStep, IsPut, IsEdited, IsDelivered};
 ghost use Rattle.rls_world.specs.Seen.{StandsForWorld, IsOneGroup, IsSent, fresh_world, fresh_replicas};
 
+use rls_ident::limits::MEMBERS;
 use rls_model::{Edit, EditError, Event, Outcome, Refusals, StepError, Taken};
 use rls_ops::{Message, Ops};
 use rls_replica::{NewError, Replica, SendError, TakeError};
 use std::alloc::{AllocError, Global};
 use std::marker::Model;
-
-/// The most members that a group may have.
-const MOST_MEMBERS: u32 = 64;
 
 /// A replica for each member of one group, and every message that was ever sent.
 #[derive(Drop)]
@@ -58,7 +57,7 @@ impl World {
         ensures stands { IfOk result (λ w. StandsForWorld w (empty_world group members)) }
         ensures start { OnOk result (IsAfter (empty_world group members) []) }
     {
-        if members == 0 || members > MOST_MEMBERS {
+        if members == 0 || members > MEMBERS {
             return Err(NewError::Members { members });
         }
         let replicas = all_fresh(alloc, group, members)?;
@@ -236,7 +235,7 @@ impl World {
 // A replica for each of so many members.
 fn all_fresh(alloc: Global, group: u64, members: u32) -> Result<Vec<Replica>, AllocError>
     requires some { 0 < members }
-    requires most { members ≤ 64 }
+    requires most { members ≤ MEMBERS }
     ensures all { IfOk result (λ replicas. replicas.items ≡ fresh_replicas group members members) }
 {
     let mut replicas = Vec::new(alloc);
@@ -249,7 +248,7 @@ fn all_fresh(alloc: Global, group: u64, members: u32) -> Result<Vec<Replica>, Al
 // One of them.
 fn fresh(alloc: Global, group: u64, me: u32, members: u32) -> Result<Replica, AllocError>
     requires some { 0 < members }
-    requires most { members ≤ 64 }
+    requires most { members ≤ MEMBERS }
     requires me { me < members }
     ensures fresh { IfOk result (λ replica. replica ≡ fresh group me members) }
 {
@@ -261,7 +260,7 @@ fn fresh(alloc: Global, group: u64, me: u32, members: u32) -> Result<Replica, Al
     }
 }
 
-// Puts a message behind the others.
+// Puts a message after the others.
 fn put_message(sent: &mut Vec<Message>, message: Message) -> Result<Outcome, StepError>
     ensures put { IsPut sent.old.items message result sent.new.items }
 {

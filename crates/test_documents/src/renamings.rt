@@ -1,8 +1,9 @@
 //! Renamings on worked values: identifiers and whole runs, forward and back.
 
 use crate::spelling::{Spelled, are, list_of, run_of};
+use rls_ident::limits::IDENTIFIERS;
 use rls_ident::{Ident, Tuple};
-use rls_rename::{MOST_FORMER, Renaming, RenamingError};
+use rls_rename::{Renaming, RenamingError};
 use rls_runs::Runs;
 use std::alloc::Global;
 use std::cmp::Ordering;
@@ -145,7 +146,7 @@ fn goes_at_once(
 fn long_runs_go_at_once(rt: HostRuntime) -> Result<(), Fail> {
     let alloc = rt.alloc();
     let most = 4_194_304;
-    assert_eq!(rt; most as u64, MOST_FORMER);
+    assert_eq!(rt; most as u64, IDENTIFIERS);
     assert!(rt; goes_at_once(alloc, most, (&[old(0)], most), (&[new(0)], most))?);
     let long = 1_073_741_819;
     assert!(rt; goes_at_once(alloc, 5, (&[old(5)], long), (&[new(4), old(5)], long))?);

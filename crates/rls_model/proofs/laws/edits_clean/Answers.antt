@@ -1,4 +1,4 @@
-use Rattle.rls_model.proofs.WorldsScripts as laws
+use Rattle.rls_model.proofs.WorldsEdits as laws
 use Rattle.rls_model.proofs.laws.edits_clean.Goals as goal
 
 pub returns : goal.returns

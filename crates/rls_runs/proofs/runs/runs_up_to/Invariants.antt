@@ -4,7 +4,7 @@ use Rattle.rls_ident.specs.declared.tuple.Tuple.{Tuple}
 use Rattle.rls_ident.specs.Identifiers.{ident_lt}
 use Rattle.rls_runs.proofs.runs.runs_up_to.Given as goal
 
--- the run in front of low begins at the identifier or below it, and that at high above it
+-- the run before low begins at the identifier or below it, and that at high above it
 abbrev pub invariant-loop-low : goal.invariant-loop-low
 invariant-loop-low l = record {
   order : l.low ≤ l.high;

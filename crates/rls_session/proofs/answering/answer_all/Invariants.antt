@@ -1,6 +1,7 @@
 use Rattle.std.proofs.Common.{◌≤◌, ◌-◌, ◌+◌, length}
+use Rattle.rls_ident.specs.declared.limits.TheConstants.{INPUT_BYTES}
 use Rattle.rls_session.specs.Answers.{answer}
-use Rattle.rls_session.specs.Intake.{input_limit, taken}
+use Rattle.rls_session.specs.Intake.{taken}
 use Rattle.rls_session.specs.Sessions.{by_parts}
 use Rattle.rls_session.proofs.Loop.{OnWay}
 use Rattle.rls_session.proofs.answering.answer_all.Given as goal
@@ -8,7 +9,7 @@ use Rattle.rls_session.proofs.answering.answer_all.Given as goal
 -- what was answered so far, and what is to come
 abbrev pub invariant-loop-error : goal.invariant-loop-error
 invariant-loop-error g l = record {
-  few : taken l.intake ≤ input_limit + 1;
+  few : taken l.intake ≤ INPUT_BYTES + 1;
   short : length l.intake.waiting ≤ 4096;
   way : OnWay (answer by_parts) l.fn.desk (g.S.Source.left l.fn.input) l.desk l.intake (g.S.Source.left l.input) (g.W.Sink.told l.fn.output) (g.W.Sink.told l.output);
   input_never_falls : g.S.Source.faults l.fn.input ≤ g.S.Source.faults l.input;
@@ -16,4 +17,4 @@ invariant-loop-error g l = record {
 }
 
 abbrev pub decreases-loop-error : goal.decreases-loop-error
-decreases-loop-error g l = input_limit + 2 - l.intake.used
+decreases-loop-error g l = INPUT_BYTES + 2 - l.intake.used

@@ -1,13 +1,14 @@
 use Rattle.std.proofs.Common.{◌≡◌, ◌+◌, ◌≤◌, ◌-◌, length, IsTrue}
+use Rattle.rls_ident.specs.declared.limits.TheConstants.{INPUT_BYTES}
 use Rattle.rls_io.specs.Device.{Keeps}
-use Rattle.rls_session.specs.Intake.{input_limit, taken, to_come, KeepsEnd}
+use Rattle.rls_session.specs.Intake.{taken, to_come, KeepsEnd}
 use Rattle.rls_session.proofs.intake.Intake.find_bytes.Given as goal
 
 abbrev pub invariant-loop-self : goal.invariant-loop-self
 invariant-loop-self g l = record {
   same : Keeps (to_come l.fn.self (g.S.Source.left l.fn.source)) (to_come l.self (g.S.Source.left l.source));
   used : l.self.used ≡ l.fn.self.used;
-  few : taken l.self ≤ input_limit + 1;
+  few : taken l.self ≤ INPUT_BYTES + 1;
   known : KeepsEnd l.fn.self (g.S.Source.left l.fn.source) l.self (g.S.Source.left l.source);
   stays_ended : IsTrue l.fn.self.ended → IsTrue l.self.ended;
   ahead : length l.fn.self.waiting ≤ 4096 → length l.self.waiting ≤ l.n + 4096;

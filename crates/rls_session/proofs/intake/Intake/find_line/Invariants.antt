@@ -1,8 +1,9 @@
 use Rattle.std.proofs.Common.{◌≡◌, ◌+◌, ◌≤◌, ◌-◌, length, take, IsTrue}
 use Rattle.std.specs.List.{position_or_len}
+use Rattle.rls_ident.specs.declared.limits.TheConstants.{INPUT_BYTES}
 use Rattle.rls_io.specs.Device.{Keeps}
 use Rattle.rls_script.specs.Scripts.{is_line_feed}
-use Rattle.rls_session.specs.Intake.{input_limit, taken, to_come, KeepsEnd}
+use Rattle.rls_session.specs.Intake.{taken, to_come, KeepsEnd}
 use Rattle.rls_session.proofs.intake.Intake.find_line.Given as goal
 
 -- no line feed is in front of the index
@@ -12,7 +13,7 @@ invariant-loop-clear g l = record {
   clear : position_or_len is_line_feed (take l.clear l.self.waiting) ≡ l.clear;
   same : Keeps (to_come l.fn.self (g.S.Source.left l.fn.source)) (to_come l.self (g.S.Source.left l.source));
   used : l.self.used ≡ l.fn.self.used;
-  few : taken l.self ≤ input_limit + 1;
+  few : taken l.self ≤ INPUT_BYTES + 1;
   known : KeepsEnd l.fn.self (g.S.Source.left l.fn.source) l.self (g.S.Source.left l.source);
   stays_ended : IsTrue l.fn.self.ended → IsTrue l.self.ended;
   ahead : length l.fn.self.waiting ≤ 4096 → length l.self.waiting ≤ l.clear + 4096;
@@ -20,4 +21,4 @@ invariant-loop-clear g l = record {
 }
 
 abbrev pub decreases-loop-clear : goal.decreases-loop-clear
-decreases-loop-clear g l = input_limit + 1 - (l.self.used + length l.self.waiting)
+decreases-loop-clear g l = INPUT_BYTES + 1 - (l.self.used + length l.self.waiting)

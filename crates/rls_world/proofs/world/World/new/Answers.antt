@@ -14,7 +14,7 @@ pub returns-clause-stands : goal.returns-clause-stands
 returns-clause-stands c =
     let sent = ap (λ ms. record { replicas = c.in_ok-replicas.replicas.items; sent = ms }) c.new.ensures.items in
     let all = ap (λ rs. record { replicas = rs; sent = [] }) c.in_ok-replicas.ensures.all in
-    subst (λ (w : WorldSeen). StandsForWorld w (empty_world c.args.group c.args.members)) (sym (sent ∙ all)) (fresh_world_stands c.args.group c.args.members c.ranges.group.fits c.if-members-gt-MOST_MEMBERS.false)
+    subst (λ (w : WorldSeen). StandsForWorld w (empty_world c.args.group c.args.members)) (sym (sent ∙ all)) (fresh_world_stands c.args.group c.args.members c.ranges.group.fits c.if-members-gt-MEMBERS.false)
 
 pub returns-clause-start : goal.returns-clause-start
-returns-clause-start c = let some = c.if-members-eq0.false in start_after c.args.group c.args.members c.ranges.group.fits (omega arith) c.if-members-gt-MOST_MEMBERS.false
+returns-clause-start c = let some = c.if-members-eq0.false in start_after c.args.group c.args.members c.ranges.group.fits (omega arith) c.if-members-gt-MEMBERS.false

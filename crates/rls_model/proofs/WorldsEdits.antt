@@ -13,7 +13,7 @@ use Rattle.rls_ident.specs.Lists.{IsIn}
 use Rattle.rls_model.proofs.Machines.{read_is, running_keeps}
 use Rattle.rls_model.proofs.WorldsInvariant.{IsGood}
 use Rattle.rls_model.proofs.WorldsLaws.{good_after}
-use Rattle.rls_model.proofs.WorldsSteps.{IsGoing, here, keep, start, edits_own, releases_going}
+use Rattle.rls_model.proofs.MemberSteps.{IsGoing, here, keep, start, edits_own, releases_going}
 
 -- one more edit without a fault
 pub edit_going : (w : World) (i : ℕ) (s : State) (p : Progress) (edit : Edit) → IsAt w i s → IsGoing w i p → IsEdit edit → edit_fault (p.state).history edit ≡ None → IsGoing w i (edit_step p edit)

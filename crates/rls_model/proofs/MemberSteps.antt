@@ -23,9 +23,9 @@ use Rattle.rls_model.proofs.Machines.{ops_keep, releases_keep}
 use Rattle.rls_model.proofs.Stable.{length-count}
 use Rattle.rls_model.proofs.Ranges.{counts_small}
 use Rattle.rls_model.proofs.Made as making
-use Rattle.rls_model.proofs.WorldsLists.{got_below, set_set, set_get, get_set_same}
-use Rattle.rls_model.proofs.WorldsNumbers.{front_self, front_legal, front_members}
-use Rattle.rls_model.proofs.WorldsWaiting.{in_without, in_with, waiting_at, sound_grown, sound_accepted, sound_put}
+use Rattle.rls_model.proofs.OnePlace.{got_below, set_set, set_get, get_set_same}
+use Rattle.rls_model.proofs.HistoryNumbers.{front_self, front_legal, front_members}
+use Rattle.rls_model.proofs.WaitingFits.{in_without, in_with, waiting_at, sound_grown, sound_accepted, sound_put}
 use Rattle.rls_model.proofs.WorldsInvariant.{IsHome, IsMadeAt, WasCount, IsMember, IsGood, Becomes, becomes_good}
 use Rattle.rls_model.proofs.WorldsArrivals.{own_counted, home_shape, may_accept, Received, Again, Held, Taken, received}
 

@@ -1,4 +1,4 @@
--- Behind a whole event nothing that waits is ready, and an edit makes nothing ready.
+-- After a whole event nothing that waits is ready, and an edit makes nothing ready.
 use Rattle.std.proofs.Common.{◌≡◌, ℕ, zero, suc, ◌≤◌, ◌<◌, Bool, true, false, List, [], ◌∷◌, length, refl, sym, ap, ◌∙◌, subst, arith, nat_lt}
 use Rattle.std.specs.Prelude.{if◌then◌else◌, slice_index, Option, Some, None}
 use Rattle.std.specs.List.{find}
@@ -21,11 +21,11 @@ use Rattle.rls_model.specs.EditRun.{edit_step, edit_within}
 use Rattle.rls_model.specs.Worlds.{World}
 use Rattle.rls_model.specs.Laws.{IsAt}
 use Rattle.rls_model.proofs.Machines.{none_ready, received_limit, releases_stay, taking_keeps}
-use Rattle.rls_model.proofs.WorldsNumbers.{IsFront, with_number, front_legal, front_me, front_ops, op_front, own_context}
-use Rattle.rls_model.proofs.WorldsWaiting.{in_without, less_without, numbered_test}
+use Rattle.rls_model.proofs.HistoryNumbers.{IsFront, with_number, front_legal, front_me, front_ops, op_front, own_context}
+use Rattle.rls_model.proofs.WaitingFits.{in_without, less_without, numbered_test}
 use Rattle.rls_model.proofs.WorldsInvariant.{IsHome, IsMember, IsGood}
 use Rattle.rls_model.proofs.WorldsArrivals.{own_counted}
-use Rattle.rls_model.proofs.WorldsSteps.{released_by, release_is}
+use Rattle.rls_model.proofs.MemberSteps.{released_by, release_is}
 
 -- nothing that waits is ready
 abbrev pub IsAtRest : State → Type 0
