@@ -45,11 +45,14 @@ pub struct Ops {
 
 impl Model for Ops {
     ghost use Rattle.std.specs.Prelude.{List};
+    ghost use Rattle.rls_ops.specs.WellFormed.{AreOps};
     ghost use Rattle.rls_ops.specs.declared.op.Op.{Op};
 
     ghost Value = { List Op };
 
     ghost view = { λ a. a.ops.items };
+
+    ghost invariant = { λ a. AreOps a.ops.items };
 }
 
 impl Ops {
@@ -67,6 +70,7 @@ impl Ops {
         ensures ok { OnOk result (self.new ≡ self.old ++ op ∷ []) }
         ensures err { OnErr result (self.new ≡ self.old) }
     {
+        op.fits();
         self.ops.push(op)?;
         Ok(())
     }
@@ -108,14 +112,11 @@ impl Ops {
         ops
     }
 
-    /// What the operations promise: each is well formed. It only looks at each.
+    /// What the list promises: each of its operations is well formed.
     pub fn fits(&self)
         ensures whole { AreOps self.now }
     {
-        let ops = self.as_slice();
-        for op in ops {
-            op.fits();
-        }
+        let _len = self.ops.len();
     }
 }
 
