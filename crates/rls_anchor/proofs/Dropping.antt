@@ -1,27 +1,18 @@
 -- Anchors at the greatest epoch, where what is stable is dropped.
-use Rattle.std.proofs.Common.{◌≡◌, inl, refl, ap, subst}
+use Rattle.std.proofs.Common.{◌≡◌, refl, ap, subst}
 use Rattle.std.specs.Prelude.{true}
 use Rattle.rls_ident.specs.declared.epoch_name.EpochName.{EpochName}
 use Rattle.rls_rename.proofs.Growth.{translate_same}
 use Rattle.rls_rename.proofs.Kept.{greatest_kept}
 use Rattle.rls_rename.proofs.Paths.{translate_ident}
-use Rattle.rls_rename.proofs.Windows.{greatest_window}
 use Rattle.rls_seen.specs.Kept.{dropped}
-use Rattle.rls_seen.specs.Seen.{Seen, greatest_over, idents_over}
+use Rattle.rls_seen.specs.Seen.{greatest_over, idents_over}
 use Rattle.rls_seen.specs.Over.{placed_over}
-use Rattle.rls_seen.specs.Sane.{IsSane}
-use Rattle.rls_seen.proofs.Dropped.{part_left, dropped_sane}
+use Rattle.rls_seen.proofs.Dropped.{greatest_left, dropped_sane}
 use Rattle.rls_replica.specs.Names.{keeps}
 use Rattle.rls_anchor.specs.declared.anchor.Anchor.TheVariants.{Beginning, After}
 use Rattle.rls_anchor.specs.Anchors.{count_upto, place_over}
 use Rattle.rls_anchor.specs.AnchorLaws.{SettledLasts}
-
--- the greatest epoch is the same
-greatest_left : (s : Seen) → IsSane s → greatest_over (dropped s) ≡ greatest_over s
-unfolding dropped
-greatest_left s sane =
-    let w = part_left s sane in
-    greatest_window w.window (w.needed (greatest_over s) (inl refl))
 
 pub settled_lasts : SettledLasts
 unfolding place_over dropped

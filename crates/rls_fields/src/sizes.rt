@@ -1,84 +1,14 @@
 //! How many bytes the entries of a snapshot have: each number is the greatest u64 where there are more.
 
 ghost use Rattle.std.specs.Prelude.{◌≡◌, ◌-◌, ◌+◌, ◌^◌, min, sum_by};
-ghost use Rattle.rls_ops.specs.Sizes.{tuple_size, ident_size, run_size, runs_size, char_size, name_size, op_size};
+ghost use Rattle.rls_ops.specs.Sizes.{run_size, char_size, op_size};
 ghost use Rattle.rls_fields.specs.FieldSizes.{row_size, epoch_size, text_run_size};
 
-use rls_ident::{EpochName, Ident, Tuple, Vector};
+use rls_ident::Vector;
 use rls_model::{EpochPart, TextRun};
 use rls_ops::Op;
-use rls_runs::{Run, Runs, Text};
-
-fn tuple_len(tuple: &Tuple) -> u64
-    ensures size { result ≡ tuple_size tuple.now }
-{
-    match tuple {
-        Tuple::At { .. } => 17,
-        _ => 1,
-    }
-}
-
-fn ident_len(ident: &Ident) -> u64
-    ensures size { result ≡ min (ident_size ident.now) (2 ^ 64 - 1) }
-{
-    let mut total: u64 = 4;
-    for i in 0..ident.len() {
-        total = total.saturating_add(tuple_len(&ident.tuple(i)));
-    }
-    total
-}
-
-fn run_len(run: &Run) -> u64
-    ensures size { result ≡ min (run_size run.now) (2 ^ 64 - 1) }
-{
-    ident_len(run.first()).saturating_add(4)
-}
-
-fn run_list_len(runs: &[Run]) -> u64
-    ensures size { result ≡ min (4 + sum_by run_size runs.now) (2 ^ 64 - 1) }
-{
-    let mut total: u64 = 4;
-    for run in runs {
-        total = total.saturating_add(run_len(run));
-    }
-    total
-}
-
-/// Runs of identifiers.
-pub(crate) fn runs_len(runs: &Runs) -> u64
-    ensures size { result ≡ min (runs_size runs.now) (2 ^ 64 - 1) }
-{
-    run_list_len(runs.as_slice())
-}
-
-fn chars_len(chars: &[char]) -> u64
-    ensures size { result ≡ min (sum_by char_size chars.now) (2 ^ 64 - 1) }
-{
-    let mut total: u64 = 0;
-    for c in chars {
-        total = total.saturating_add(c.len_utf8() as u64);
-    }
-    total
-}
-
-fn text_len(text: &Text) -> u64
-    ensures size { result ≡ min (4 + sum_by char_size text.now) (2 ^ 64 - 1) }
-{
-    let (front, back) = text.as_slices();
-    chars_len(front)
-        .saturating_add(chars_len(back))
-        .saturating_add(4)
-}
-
-/// The name of an epoch.
-pub(crate) fn name_len(name: EpochName) -> u64
-    ensures size { result ≡ name_size name }
-{
-    match name {
-        EpochName::Origin => 1,
-        EpochName::Of { .. } => 9,
-    }
-}
+use rls_ops::size::{name_len, run_len, runs_len, text_len};
+use rls_runs::{Run, Text};
 
 /// A row.
 pub(crate) fn row_len(row: &Vector) -> u64
@@ -102,10 +32,10 @@ pub(crate) fn rows_len(rows: &[Vector]) -> u64
 fn epoch_len(epoch: &EpochPart) -> u64
     ensures size { result ≡ min (epoch_size epoch.now) (2 ^ 64 - 1) }
 {
-    let name = name_len(epoch.name);
+    let name = name_len(&epoch.name);
     match epoch.parent {
         None => name,
-        Some(_) => runs_len(&epoch.former)
+        Some(_) => runs_len(epoch.former.as_slice())
             .saturating_add(4)
             .saturating_add(name),
     }

@@ -12,7 +12,6 @@ ghost use Rattle.rls_fields.specs.Fields.{epoch_bytes};
 ghost use Rattle.rls_fields.specs.FieldSizes.{epoch_size, opening};
 ghost use Rattle.rls_fields.specs.Written.{FitsFormer};
 
-use crate::sizes::{name_len, runs_len};
 use rls_codec::{put_name, put_runs, put_u32};
 use rls_epoch::Epochs;
 use rls_ident::EpochName;
@@ -63,10 +62,10 @@ fn epoch_len(epochs: &Epochs, names: &[EpochName], name: EpochName) -> u64
     ensures size { result ≡ min (epoch_size (epoch_part names.now name (node_of epochs.now.epochs.nodes name))) (2 ^ 64 - 1) }
 {
     match opening(epochs, names, name) {
-        None => name_len(name),
-        Some((_, renaming)) => runs_len(renaming.former())
+        None => name_len(&name),
+        Some((_, renaming)) => runs_len(renaming.former().as_slice())
             .saturating_add(4)
-            .saturating_add(name_len(name)),
+            .saturating_add(name_len(&name)),
     }
 }
 
@@ -107,7 +106,7 @@ pub fn kept_epochs_len(epochs: &Epochs, names: &[EpochName]) -> u64
     let Some((top, others)) = names.split_first() else {
         return 0;
     };
-    let mut total = name_len(*top);
+    let mut total = name_len(top);
     for name in others {
         total = total.saturating_add(epoch_len(epochs, names, *name));
     }

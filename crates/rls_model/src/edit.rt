@@ -1,5 +1,7 @@
 //! Edits, and why they are refused.
 
+ghost use Rattle.rls_model.specs.WellFormed.{IsEdit};
+
 use rls_runs::Text;
 
 /// What a member may do to its text, or with itself. Places and counts are in characters.
@@ -13,6 +15,25 @@ pub enum Edit {
     Rename,
     /// Ends the member's own part.
     Leave,
+}
+
+impl Edit {
+    /// What its fields promise: numbers in range and a text that is well formed.
+    pub fn fits(&self)
+        ensures whole { IsEdit self.now }
+    {
+        match self {
+            Edit::Insert { at, text } => {
+                let _at = *at;
+                let _len = text.len();
+            }
+            Edit::Delete { at, count } => {
+                let _at = *at;
+                let _count = *count;
+            }
+            Edit::Rename | Edit::Leave => {}
+        }
+    }
 }
 
 /// Why an edit is refused. Of several reasons the first in this order counts. A refused edit changes nothing.

@@ -5,7 +5,7 @@ mod message;
 mod op;
 mod same;
 mod shape;
-mod size;
+pub mod size;
 
 pub use message::Message;
 pub use op::{Body, Op, Ops, Shape};

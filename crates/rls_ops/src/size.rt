@@ -1,4 +1,4 @@
-//! How many bytes an operation has.
+//! How many bytes an operation and its fields have where they are written. Each number is the greatest u64 if there are more.
 
 ghost use Rattle.std.specs.Prelude.{◌≡◌, ◌-◌, ◌+◌, ◌^◌, min, sum_by};
 ghost use Rattle.rls_ops.specs.Sizes.{tuple_size, ident_size, run_size, runs_size, char_size, name_size, body_size, op_size};
@@ -8,7 +8,7 @@ use rls_ident::{EpochName, Ident, Tuple};
 use rls_runs::{Run, Text};
 
 impl Op {
-    /// The number of its bytes where it is written, or the greatest u64 where there are more.
+    /// The number of its bytes where it is written, or the greatest u64 if there are more.
     /// It goes over the tuples of each run and over each character, and takes no memory.
     pub fn encoded_len(&self) -> u64
         ensures size { result ≡ min (op_size self.now) (2 ^ 64 - 1) }
@@ -30,7 +30,8 @@ fn tuple_len(tuple: &Tuple) -> u64
     }
 }
 
-fn name_len(name: &EpochName) -> u64
+/// The bytes of an epoch's name: 1 for `Origin`, 9 for others.
+pub fn name_len(name: &EpochName) -> u64
     ensures size { result ≡ name_size name.now }
 {
     match name {
@@ -49,13 +50,15 @@ fn ident_len(ident: &Ident) -> u64
     total
 }
 
-fn run_len(run: &Run) -> u64
+/// The bytes of a run: its first identifier and its length. It goes over the tuples.
+pub fn run_len(run: &Run) -> u64
     ensures size { result ≡ min (run_size run.now) (2 ^ 64 - 1) }
 {
     ident_len(run.first()).saturating_add(4)
 }
 
-fn runs_len(runs: &[Run]) -> u64
+/// The bytes of a list of runs, with their number. It goes over the tuples of each.
+pub fn runs_len(runs: &[Run]) -> u64
     ensures size { result ≡ min (4 + sum_by run_size runs.now) (2 ^ 64 - 1) }
 {
     let mut total: u64 = 4;
@@ -75,7 +78,8 @@ fn chars_len(chars: &[char]) -> u64
     total
 }
 
-fn text_len(text: &Text) -> u64
+/// The bytes of a text in UTF-8, with their number. It goes over each character.
+pub fn text_len(text: &Text) -> u64
     ensures size { result ≡ min (4 + sum_by char_size text.now) (2 ^ 64 - 1) }
 {
     let (front, back) = text.as_slices();

@@ -91,7 +91,7 @@ impl Replica {
         ensures whole { IsEdit edit.now }
     {
         self.sane();
-        fits(edit);
+        edit.fits();
         let op = self.made_exactly(edit)?;
         let seq = op.seq;
         match self.apply(op, place_of(edit)) {
@@ -217,23 +217,6 @@ fn place_of(edit: &Edit) -> Option<u64> {
     match edit {
         Edit::Insert { at, .. } => Some(*at),
         _ => None,
-    }
-}
-
-// What the fields of an edit promise.
-fn fits(edit: &Edit)
-    ensures whole { IsEdit edit.now }
-{
-    match edit {
-        Edit::Insert { at, text } => {
-            let _at = *at;
-            let _len = text.len();
-        }
-        Edit::Delete { at, count } => {
-            let _at = *at;
-            let _count = *count;
-        }
-        Edit::Rename | Edit::Leave => {}
     }
 }
 

@@ -92,6 +92,13 @@ part_left s sane =
       needed = λ f p. keep_kept E.top E.nodes n b g es t.0 t.1 t.2 f (needed_kept s sane f p) (needed_spanned E.nodes n g es f p);
     })
 
+-- the greatest epoch is the same
+pub greatest_left : (s : Seen) → IsSane s → greatest_over (dropped s) ≡ greatest_over s
+unfolding dropped
+greatest_left s sane =
+    let w = part_left s sane in
+    greatest_window w.window (w.needed (greatest_over s) (inl refl))
+
 -- ---- all
 
 former_less : (s : Seen) → IsSane s → kept_former (dropped s) ≤ 2 ^ 54 + IDENTIFIERS * sum (vector s)

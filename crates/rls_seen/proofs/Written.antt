@@ -232,7 +232,7 @@ inserted s o first text sane f e i =
     }
 
 -- the greatest epoch after a rename
-next_greatest : (top : EpochName) (node : Node) (older : List Node) → AreNodes (node ∷ older) → AreBelow top (node ∷ older)
+pub next_greatest : (top : EpochName) (node : Node) (older : List Node) → AreNodes (node ∷ older) → AreBelow top (node ∷ older)
     → (greatest top (node ∷ older) ≡ name_of node.renaming) ⊎ (greatest top (node ∷ older) ≡ greatest top older)
 next_greatest top node older n b =
     let k = greatest top (node ∷ older) in

@@ -1,5 +1,5 @@
 -- What a rename does to the text.
-use Rattle.std.proofs.Common.{◌≡◌, List, [], ◌∷◌, map, refl, sym, ap, ◌∙◌, ◌⊎◌, inl, inr, ⊎_elim}
+use Rattle.std.proofs.Common.{◌≡◌, List, [], ◌∷◌, map, refl, sym, ap, ◌∙◌, ◌⊎◌, ⊎_elim}
 use Rattle.std.specs.Prelude.{Bool, true, if◌then◌else◌}
 use Rattle.rls_ident.specs.declared.tuple.Tuple.{Tuple}
 use Rattle.rls_ident.specs.declared.epoch_name.EpochName.{EpochName}
@@ -9,11 +9,9 @@ use Rattle.rls_ident.specs.Lists.{IsIn}
 use Rattle.rls_ident.proofs.Agreeing.{map_same}
 use Rattle.rls_ident.proofs.Members.{bool_cases, true_false, map_in}
 use Rattle.rls_ident.proofs.Named.{name_eq_is, name_eq_refl}
-use Rattle.rls_rename.specs.Tree.{Node, is_kept, is_of, name_of, AreNodes, AreBelow, greatest, translate}
+use Rattle.rls_rename.specs.Tree.{Node, is_kept, greatest, translate}
 use Rattle.rls_rename.proofs.Growth.{kept_other, translate_child, translate_same}
-use Rattle.rls_rename.proofs.Kept.{greatest_kept, kept_more}
-use Rattle.rls_rename.proofs.Order.{older_cmp, level_same, kept_before}
-use Rattle.rls_rename.proofs.SameNodes.{greatest_top}
+use Rattle.rls_rename.proofs.Kept.{greatest_kept}
 use Rattle.rls_runs.specs.Entries.{Entries, with_idents}
 use Rattle.rls_runs.proofs.Sorted.{Entry}
 use Rattle.rls_model.specs.Epochs.{nodes_after, renaming_of}
@@ -21,21 +19,8 @@ use Rattle.rls_seen.specs.Over.{accepted, renamed_over, is_greatest_over, text_a
 use Rattle.rls_seen.specs.Seen.{greatest_over, idents_over}
 use Rattle.rls_seen.proofs.Applied.{accepted_sane}
 use Rattle.rls_seen.proofs.TextLists.{ident_in}
-use Rattle.rls_seen.proofs.Written.{rename_tree}
+use Rattle.rls_seen.proofs.Written.{next_greatest, rename_tree}
 use Rattle.rls_steps.specs.StepLaws.{AppliedRenames}
-
--- the greatest epoch after a rename
-next_greatest : (top : EpochName) (node : Node) (older : List Node) → AreNodes (node ∷ older) → AreBelow top (node ∷ older)
-    → (greatest top (node ∷ older) ≡ name_of node.renaming) ⊎ (greatest top (node ∷ older) ≡ greatest top older)
-next_greatest top node older n b =
-    let k = greatest top (node ∷ older) in
-    let g = greatest top older in
-    let gk = kept_more top node older g (greatest_kept top older) in
-    bool_cases (is_of node k)
-    (λ e. inl (sym (name_eq_is (name_of node.renaming) k e)))
-    (λ e. let h = kept_before top node older k e (greatest_kept top (node ∷ older)) in
-    inr (level_same top (node ∷ older) n b k g (greatest_kept top (node ∷ older)) gk (greatest_top top (node ∷ older) g gk)
-    (λ q. greatest_top top older k h (sym (older_cmp top node older n b g k (greatest_kept top older) h) ∙ q))))
 
 -- a map of identifiers that agrees with another on those of the text
 with_same : (f g : List Tuple → List Tuple) (es : Entries) → ((x : List Tuple) → IsIn x (map (λ (e : Entry). e.0) es) → f x ≡ g x) → with_idents f es ≡ with_idents g es

@@ -8,7 +8,6 @@ use Rattle.rls_ident.specs.Lists.{IsIn}
 use Rattle.rls_rename.proofs.Growth.{translate_same}
 use Rattle.rls_rename.proofs.Kept.{greatest_kept}
 use Rattle.rls_rename.proofs.Paths.{translate_ident}
-use Rattle.rls_rename.proofs.Windows.{greatest_window}
 use Rattle.rls_runs.specs.Places.{below_count}
 use Rattle.rls_model.specs.declared.edit.Edit.{Edit}
 use Rattle.rls_model.specs.declared.edit.Edit.TheVariants as edits
@@ -16,19 +15,12 @@ use Rattle.rls_seen.specs.Kept.{dropped}
 use Rattle.rls_seen.specs.Seen.{Seen, greatest_over, idents_over}
 use Rattle.rls_seen.specs.Over.{placed_over}
 use Rattle.rls_seen.specs.Sane.{IsSane}
-use Rattle.rls_seen.proofs.Dropped.{part_left, dropped_sane}
+use Rattle.rls_seen.proofs.Dropped.{greatest_left, dropped_sane}
 use Rattle.rls_replica.specs.Names.{keeps}
 use Rattle.rls_undo.specs.declared.entry.Entry.TheVariants.{Inserted, Removed}
 use Rattle.rls_undo.specs.Plans.{places_from, ranges_of, deletions}
 use Rattle.rls_undo.specs.Undoing.{planned_over}
 use Rattle.rls_undo.specs.UndoLaws.{SettledLasts}
-
--- the greatest epoch is the same
-pub greatest_left : (s : Seen) → IsSane s → greatest_over (dropped s) ≡ greatest_over s
-unfolding dropped
-greatest_left s sane =
-    let w = part_left s sane in
-    greatest_window w.window (w.needed (greatest_over s) (inl refl))
 
 -- and it is kept
 pub greatest_stays : (s : Seen) → IsSane s → keeps (dropped s) (greatest_over s) ≡ true

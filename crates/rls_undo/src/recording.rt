@@ -1,15 +1,13 @@
 //! Entries of edits, and entries at the greatest epoch.
 
-ghost use Rattle.std.specs.Prelude.{◌≡◌, ◌+◌, ◌≤◌, ◌∷◌, [], List, ℕ, ◌↔◌, length, map, take, drop, Some, None, IfOk, IfErr, OnOk, IsErrOf, IsTrue, IsFalse};
+ghost use Rattle.std.specs.Prelude.{◌≡◌, ◌+◌, ◌≤◌, ◌∷◌, [], List, ℕ, ◌↔◌, map, Some, None, IfOk, IfErr, OnOk, IsErrOf};
 ghost use Rattle.rls_ident.specs.declared.epoch_name.EpochName.{EpochName};
 ghost use Rattle.rls_ident.specs.declared.tuple.Tuple.{Tuple};
 ghost use Rattle.rls_ops.specs.declared.op.Body.TheVariants as body;
-ghost use Rattle.rls_model.specs.WellFormed.{IsEdit};
-ghost use Rattle.rls_seen.specs.Edits.{edit_fault_over, made_over, IsFault};
-ghost use Rattle.rls_seen.specs.Seen.{text_over, idents_over};
+ghost use Rattle.rls_seen.specs.Edits.{edit_fault_over, IsFault};
 ghost use Rattle.rls_replica.specs.Names.{keeps};
 ghost use Rattle.rls_undo.specs.declared.entry.Entry.{Entry};
-ghost use Rattle.rls_undo.specs.Plans.{epoch_in, entries_by, gone_by};
+ghost use Rattle.rls_undo.specs.Plans.{epoch_in, entries_by};
 ghost use Rattle.rls_undo.specs.UndoLaws.{AreWhole};
 ghost use Rattle.rls_undo.specs.Undoing.{entry_list, entries_over, settled_over, first_dropped};
 
@@ -167,22 +165,5 @@ fn settled_entry(replica: &Replica, entry: &Entry) -> Result<Entry, AllocError>
                 text: text.copy()?,
             }),
         },
-    }
-}
-
-/// What the fields of an edit promise.
-pub(crate) fn fits(edit: &Edit)
-    ensures whole { IsEdit edit.now }
-{
-    match edit {
-        Edit::Insert { at, text } => {
-            let _at = *at;
-            let _len = text.len();
-        }
-        Edit::Delete { at, count } => {
-            let _at = *at;
-            let _count = *count;
-        }
-        Edit::Rename | Edit::Leave => {}
     }
 }

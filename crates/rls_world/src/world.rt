@@ -5,7 +5,7 @@ ghost use Rattle.rls_ident.specs.declared.limits.TheConstants.{MEMBERS};
 ghost use Rattle.rls_model.specs.declared.event.Event.TheVariants as events;
 ghost use Rattle.rls_model.specs.Laws.{IsAfter, IsAt};
 ghost use Rattle.rls_model.specs.Receiving.{State};
-ghost use Rattle.rls_model.specs.WellFormed.{IsEdit, IsEvent};
+ghost use Rattle.rls_model.specs.WellFormed.{IsEvent};
 ghost use Rattle.rls_model.specs.Worlds.{World as WorldOf, Happening, empty_world, fault_of, outcome_of, happens};
 ghost use Rattle.rls_seen.specs.Messages.{message_over};
 ghost use Rattle.rls_seen.specs.Seen.{Seen, members, vector, fresh};
@@ -349,7 +349,7 @@ fn fits(event: &Event)
     match event {
         Event::Edit { member, edit } => {
             let _member = *member;
-            edit_fits(edit);
+            edit.fits();
         }
         Event::Send { from, to } => {
             let (_from, _to) = (*from, *to);
@@ -360,22 +360,5 @@ fn fits(event: &Event)
         Event::Drop { member } => {
             let _member = *member;
         }
-    }
-}
-
-// What the fields of an edit promise.
-fn edit_fits(edit: &Edit)
-    ensures whole { IsEdit edit.now }
-{
-    match edit {
-        Edit::Insert { at, text } => {
-            let _at = *at;
-            let _len = text.len();
-        }
-        Edit::Delete { at, count } => {
-            let _at = *at;
-            let _count = *count;
-        }
-        Edit::Rename | Edit::Leave => {}
     }
 }
