@@ -45,7 +45,10 @@ fn make(
     ensures ident { IfSome (option_copied hi.entry) (λ x. IsTrue (is_ident x)) }
 {
     match (lo, hi) {
-        (None, None) => Ok(Ident::ending(Vec::new(alloc), middle(0, GREATEST_NUMBER, replica, seq))),
+        (None, None) => Ok(Ident::ending(
+            Vec::new(alloc),
+            middle(0, GREATEST_NUMBER, replica, seq),
+        )),
         (None, Some(hi)) => under(Vec::new(alloc), hi, replica, seq),
         (Some(lo), None) => over(Vec::new(alloc), lo, replica, seq),
         (Some(lo), Some(hi)) => inside(alloc, lo, hi, replica, seq),
