@@ -15,6 +15,7 @@ ghost use Rattle.rls_fields.specs.Written.{FitsFormer};
 use rls_codec::{put_name, put_runs, put_u32};
 use rls_epoch::Epochs;
 use rls_ident::EpochName;
+use rls_ops::size::{name_len, runs_len};
 use rls_rename::Renaming;
 use rls_snapshot::place_of;
 use std::alloc::AllocError;
