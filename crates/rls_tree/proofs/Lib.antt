@@ -13,3 +13,6 @@ pub mod Puts
 pub mod Without
 pub mod Mapping
 pub mod Standing
+pub mod Patches
+pub mod Targets
+pub mod Planned

@@ -117,7 +117,7 @@ leads_not a (r ∷ rs) h = not_is (goes_on a r.0) (and_left (not (goes_on a r.0)
 
 -- ---- the ends of a node
 
-run_irrelevant : (a b : Option (List Tuple × ℕ)) (rs : List Piece) → 0 < length rs → run_before a (runs_in rs) ≡ run_before b (runs_in rs)
+pub run_irrelevant : (a b : Option (List Tuple × ℕ)) (rs : List Piece) → 0 < length rs → run_before a (runs_in rs) ≡ run_before b (runs_in rs)
 run_irrelevant a b [] h = absurd (omega arith)
 run_irrelevant a b (r ∷ rs) h = refl
 

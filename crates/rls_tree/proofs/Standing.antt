@@ -13,7 +13,7 @@ use Rattle.rls_runs.specs.Entries.{has_ident}
 use Rattle.rls_runs.proofs.RunOrder.{run_gets}
 
 -- what stands at a place is there
-has_got : (xs : List (List Tuple)) (i : ℕ) (x : List Tuple) → slice_get xs i ≡ Some x → has_ident xs x ≡ true
+pub has_got : (xs : List (List Tuple)) (i : ℕ) (x : List Tuple) → slice_get xs i ≡ Some x → has_ident xs x ≡ true
 has_got [] i x h = absurd (cc)
 has_got (y ∷ ys) zero x h = or_left (ident_eq y x) (has_ident ys x) (ap (λ z. ident_eq z x) (some_is y x h) ∙ ap is_eq (tied_itself (lists_total tuple_total) x))
 has_got (y ∷ ys) (suc i) x h = or_right (ident_eq y x) (has_ident ys x) (has_got ys i x h)

@@ -1,4 +1,4 @@
-//! Many runs put in and taken out, one piece after another. After an error the tree has some of the changes.
+//! Many runs put in, one piece after another. After an error the tree has some of the changes.
 
 ghost use Rattle.std.specs.Prelude.{◌≡◌, ◌+◌, ◌-◌, ◌^◌, ◌<◌, ◌≤◌, ◌++◌, length, take, drop, zip, IfOk, IfSome, OnOk, IsTrue};
 ghost use Rattle.rls_runs.specs.Runs.{run_idents, idents_of, is_increasing};
@@ -177,7 +177,7 @@ impl BlockTree {
     }
 
     // How many identifiers of the tree are less than this one.
-    fn count_below(&self, id: &Ident) -> u64
+    pub(crate) fn count_below(&self, id: &Ident) -> u64
         ensures count { result ≡ below_count (idents_in (entries_of self.now.blocks)) id.now }
     {
         let _blocks = self.blocks();
@@ -185,51 +185,5 @@ impl BlockTree {
             Ok(i) => i,
             Err(i) => i,
         }
-    }
-
-    // Takes out the first characters with identifiers of a run from a place of the run on that stand in one
-    // block, and answers the place behind them in the run.
-    fn remove_next(&mut self, run: &Run, done: u32) -> Result<u32, AllocError>
-        requires place { done < run.now.1 }
-        ensures more { IfOk result (λ end. done < end) }
-        ensures within { IfOk result (λ end. end ≤ run.now.1) }
-        ensures ok { IfOk result (λ end. without_all (drop done (run_idents run.now.0 run.now.1)) (entries_of self.old.blocks) ≡ without_all (drop end (run_idents run.now.0 run.now.1)) (entries_of self.new.blocks)) }
-    {
-        let _blocks = self.blocks();
-        let len = run.len();
-        let first = run.first().shifted(done)?;
-        let i = self.count_below(&first);
-        if i == self.chars() {
-            return Ok(len);
-        }
-        match run.find(&self.ident(i)?) {
-            Err(next) => Ok(next),
-            Ok(place) => {
-                let part = self.run_from(i, len - place)?;
-                self.remove_range(i, part.len() as u64)?;
-                Ok(place + part.len())
-            }
-        }
-    }
-
-    // Takes out the characters with identifiers of a run, where they are there.
-    pub(crate) fn remove_run(&mut self, run: &Run) -> Result<(), AllocError>
-        ensures ok { OnOk result (entries_of self.new.blocks ≡ without_all (run_idents run.now.0 run.now.1) (entries_of self.old.blocks)) }
-    {
-        let mut done = 0;
-        while done < run.len() {
-            done = self.remove_next(run, done)?;
-        }
-        Ok(())
-    }
-
-    // Takes out the characters with identifiers of these runs, where they are there.
-    pub(crate) fn remove_runs(&mut self, runs: &[Run]) -> Result<(), AllocError>
-        ensures ok { OnOk result (entries_of self.new.blocks ≡ without_all (idents_of runs.now) (entries_of self.old.blocks)) }
-    {
-        for run in runs {
-            self.remove_run(run)?;
-        }
-        Ok(())
     }
 }

@@ -9,6 +9,7 @@ ghost use Rattle.rls_doc.specs.Documents.{AreNew};
 ghost use Rattle.rls_tree.specs.Trees.{entries_of, piece_entries};
 ghost use Rattle.rls_tree.specs.Edits.{removed};
 
+use crate::removal::most_of;
 use crate::tree::BlockTree;
 use rls_doc::{Document, RunMap};
 use rls_ident::Ident;
@@ -54,7 +55,8 @@ impl Document for BlockTree {
     /// Targets that are adjacent in the tree cost a comparison of identifiers for each level,
     /// a step for each level and each of their runs, and their own characters; out of the middle of a run, also
     /// those in front of them there or those after them, whichever are fewer, and where two runs touch then,
-    /// those of the shorter one. Other targets are taken out one after another, in a copy.
+    /// those of the shorter one. Other targets cost a few comparisons of identifiers for each level and each stretch that is
+    /// adjacent in one block, and the characters of the blocks that lose some and of those just before one that loses its first.
     fn remove_all(&mut self, targets: &Runs) -> Result<u64, AllocError> {
         let count = targets.total();
         if count == 0 {
@@ -64,12 +66,11 @@ impl Document for BlockTree {
             self.remove_range(i, count)?;
             return Ok(count);
         }
+        let _blocks = self.blocks();
         let before = self.chars();
-        let mut fresh = self.copy()?;
-        fresh.remove_runs(targets.as_slice())?;
-        let removed = before - fresh.chars();
-        *self = fresh;
-        Ok(removed)
+        let patches = self.patches_without(targets)?;
+        self.put_patches(patches);
+        Ok(before - self.chars())
     }
 
     /// It costs a step for each level and each run that it answers.
@@ -216,19 +217,10 @@ impl BlockTree {
         let _blocks = self.blocks();
         let _chars = self.chars();
         self.are_idents();
-        let (run, text) = self.stretch(at)?;
+        let (run, text) = self.stretch(at, 4_294_967_295)?;
         let len = run.len();
         let runs = map.map(self.alloc(), &run)?;
         fresh.put_runs(runs.as_slice(), text)?;
         Ok(len as u64)
     }
-}
-
-// The number, or the greatest u32 below it.
-fn most_of(left: u64) -> u32
-    requires some { 0 < left }
-    ensures some { 0 < result }
-    ensures most { result ≤ left }
-{
-    left.min(4_294_967_295) as u32
 }

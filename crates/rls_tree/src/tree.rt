@@ -1,17 +1,19 @@
 //! The block tree.
 
-ghost use Rattle.std.specs.Prelude.{◌≡◌, ℕ, ◌+◌, ◌*◌, ◌^◌, ◌≤◌, [], ◌<◌, pos, None, length, take, drop, slice_get, Some, IfSome, IfNone, IfOk, OnOk, OnErr, IsTrue, IsFalse};
+ghost use Rattle.std.specs.Prelude.{◌≡◌, ℕ, ◌+◌, ◌*◌, ◌^◌, ◌≤◌, [], ◌<◌, pos, None, length, take, drop, reverse, slice_get, Some, IfSome, IfNone, IfOk, OnOk, OnErr, IsTrue, IsFalse};
 ghost use Rattle.std.specs.List.{list_all};
 ghost use Rattle.rls_ident.specs.Identifiers.{is_ident, shifted};
 ghost use Rattle.rls_runs.specs.Runs.{run_idents, runs_of, are_apart, is_increasing, place_of};
 ghost use Rattle.rls_runs.specs.Entries.{idents_in, chars_in, has_ident};
 ghost use Rattle.rls_tree.specs.Trees.{ArePieces, entries_of, piece_entries, runs_in};
-ghost use Rattle.rls_tree.specs.Edits.{inserted, removed};
+ghost use Rattle.rls_tree.specs.Edits.{are_loose, inserted, located, removed};
+ghost use Rattle.rls_tree.specs.Patches.{patched, ArePatches};
 
 use crate::block::{Block, part_of_run, part_of_text};
 use crate::build::built;
 use crate::insert::insert_at;
 use crate::node::{Link, Node};
+use crate::patch::{Patch, with_patches};
 use crate::remove::remove_range;
 use rls_ident::Ident;
 use rls_runs::{Run, Text};
@@ -89,6 +91,7 @@ impl BlockTree {
     // How many characters it has.
     pub(crate) fn chars(&self) -> u64
         ensures chars { result ≡ length (entries_of self.now.blocks) }
+        ensures pieces { ArePieces self.now.blocks }
     {
         self.root.chars()
     }
@@ -98,6 +101,7 @@ impl BlockTree {
         ensures blocks { result ≡ length self.now.blocks }
         ensures runs { length self.now.blocks ≡ length (runs_of (idents_in (entries_of self.now.blocks))) }
         ensures rises { IsTrue (is_increasing (idents_in (entries_of self.now.blocks))) }
+        ensures apart { IsTrue (are_apart None (runs_in self.now.blocks)) }
     {
         let _chars = self.root.chars();
         self.root.blocks()
@@ -112,6 +116,15 @@ impl BlockTree {
             None => Err(0),
             Some(node) => node.find(id),
         }
+    }
+
+    // The block that holds a place, and the place in it. It costs a step for each level.
+    pub(crate) fn locate(&self, i: u64) -> (&Block, u32)
+        requires place { i < length (entries_of self.now.blocks) }
+        ensures within { result.1 < length result.0.now.1 }
+        ensures located { located self.now.blocks i ≡ Some (result.0.now, result.1) }
+    {
+        self.root.locate(i)
     }
 
     // The character at a place.
@@ -169,9 +182,12 @@ impl BlockTree {
         Ok(part.len())
     }
 
-    // The rest of a run from a place on, with its characters. It costs a step for each level, and their number.
-    pub(crate) fn stretch(&self, i: u64) -> Result<(Run, Text), AllocError>
+    // The rest of a run from a place on, and of no more than this many characters, with them. It costs a step for each level, and
+    // their number.
+    pub(crate) fn stretch(&self, i: u64, most: u32) -> Result<(Run, Text), AllocError>
         requires place { i < length (entries_of self.now.blocks) }
+        requires some { 0 < most }
+        ensures most { IfOk result (λ part. part.0.1 ≤ most) }
         ensures some { IfOk result (λ part. 0 < part.0.1) }
         ensures as_many { IfOk result (λ part. length part.1 ≡ part.0.1) }
         ensures within { IfOk result (λ part. i + part.0.1 ≤ length (entries_of self.now.blocks)) }
@@ -179,7 +195,7 @@ impl BlockTree {
     {
         let _chars = self.root.chars();
         let (block, at) = self.root.locate(i);
-        let len = block.len() - at;
+        let len = (block.len() - at).min(most);
         let run = part_of_run(block.run(), at, len)?;
         let text = part_of_text(self.alloc, block.text(), at as usize, len as usize)?;
         Ok((run, text))
@@ -237,6 +253,20 @@ impl BlockTree {
                 Err(AllocError)
             }
         }
+    }
+
+    // Puts blocks in the place of others. It costs a few steps for each level and each patch, and takes no memory.
+    pub(crate) fn put_patches(&mut self, patches: Vec<Patch>)
+        requires patches { ArePatches (reverse patches.items) self.old.blocks }
+        requires chars_fit { length (entries_of (patched (reverse patches.items) self.old.blocks)) < 2 ^ 64 }
+        requires loose { IsTrue (are_loose None (runs_in (patched (reverse patches.items) self.old.blocks))) }
+        requires rises { IsTrue (is_increasing (idents_in (entries_of (patched (reverse patches.items) self.old.blocks)))) }
+        ensures blocks { self.new.blocks ≡ patched (reverse patches.items) self.old.blocks }
+    {
+        let link = mem::replace(&mut self.root, Link::empty());
+        let root = with_patches(link, patches);
+        let _chars = root.chars();
+        self.root = root;
     }
 
     // Takes so many characters out from a place on.

@@ -1,13 +1,13 @@
 use Rattle.std.proofs.Common.{◌≡◌, ℕ, List, [], ◌∷◌, Option, IfSome, length, sym, ap, ◌∙◌, subst, arith}
 use Rattle.rls_ident.specs.declared.tuple.Tuple.{Tuple}
-use Rattle.rls_runs.specs.Runs.{idents_of}
-use Rattle.rls_runs.specs.Entries.{Entries, without_all}
+use Rattle.rls_runs.specs.Entries.{Entries, idents_in, without_all}
 use Rattle.rls_tree.specs.Trees.{entries_of}
 use Rattle.rls_tree.specs.Edits.{removed}
 use Rattle.std.specs.Prelude.{not}
 use Rattle.rls_runs.specs.Entries.{has_ident}
 use Rattle.rls_runs.proofs.Sorted.{Entry}
-use Rattle.rls_runs.proofs.RunsOf.{idents_of_runs}
+use Rattle.rls_runs.specs.Runs.{is_increasing}
+use Rattle.rls_doc.proofs.Rising.{increasing_filter}
 use Rattle.rls_tree.proofs.Without.{filter_short, without_none}
 use Rattle.rls_tree.proofs.document.BlockTreeDocument.remove_all.Goals as goal
 
@@ -25,32 +25,27 @@ returns-in-Some-clause-ok c =
     let Gone : Option ℕ → Type 0 = λ o. IfSome o (λ i. removed i (length ts) es ≡ without_all ts es) in
     c.in_ok-remove_range.ensures.ok ∙ ap (λ n. removed c.in-Some.i n es) c.total-count.ensures.total ∙ subst Gone c.in-Some.is c.in_ok-i.ensures.removed
 
-pub overflow_sub-removed : goal.overflow_sub-removed
-overflow_sub-removed c =
-    let es = entries_of c.args.self.now.blocks in
-    let ts = c.args.targets.now in
-    let cut : entries_of c.remove_runs.new.self.blocks ≡ without_all ts es =
-    c.in_ok-remove_runs.ensures.ok ∙ ap (λ rs. without_all (idents_of rs) (entries_of c.in_ok-fresh.fresh.blocks)) c.as_slice.ensures.runs ∙ ap (λ xs. without_all xs (entries_of c.in_ok-fresh.fresh.blocks)) (idents_of_runs ts) ∙ ap (λ bs. without_all ts (entries_of bs)) c.in_ok-fresh.ensures.copy in
-    let short = filter_short (λ (e : Entry). not (has_ident ts e.0)) es in
-    let n = ap length cut in
+pub put_patches-requires-clause-chars_fit : goal.put_patches-requires-clause-chars_fit
+put_patches-requires-clause-chars_fit c =
+    let n = ap length c.in_ok-patches.ensures.entries in
+    let short = filter_short (λ (e : Entry). not (has_ident c.args.targets.now e.0)) (entries_of c.args.self.now.blocks) in
+    omega (arith, short, n, c.chars-before.ensures.chars)
+
+pub put_patches-requires-clause-rises : goal.put_patches-requires-clause-rises
+put_patches-requires-clause-rises c =
+    ap (λ es. is_increasing (idents_in es)) c.in_ok-patches.ensures.entries ∙ increasing_filter (λ (e : Entry). not (has_ident c.args.targets.now e.0)) (entries_of c.args.self.now.blocks) c.blocks-blocks.ensures.rises
+
+pub overflow_sub-result : goal.overflow_sub-result
+overflow_sub-result c =
+    let n = ap length (ap entries_of c.put_patches.ensures.blocks ∙ c.in_ok-patches.ensures.entries) in
+    let short = filter_short (λ (e : Entry). not (has_ident c.args.targets.now e.0)) (entries_of c.args.self.now.blocks) in
     omega (arith, short, n, c.chars.ensures.chars, c.chars-before.ensures.chars)
 
 pub returns-clause-ok : goal.returns-clause-ok
-returns-clause-ok c =
-    let es = entries_of c.args.self.now.blocks in
-    let ts = c.args.targets.now in
-    let cut : entries_of c.remove_runs.new.self.blocks ≡ without_all ts es =
-    c.in_ok-remove_runs.ensures.ok ∙ ap (λ rs. without_all (idents_of rs) (entries_of c.in_ok-fresh.fresh.blocks)) c.as_slice.ensures.runs ∙ ap (λ xs. without_all xs (entries_of c.in_ok-fresh.fresh.blocks)) (idents_of_runs ts) ∙ ap (λ bs. without_all ts (entries_of bs)) c.in_ok-fresh.ensures.copy in
-    let short = filter_short (λ (e : Entry). not (has_ident ts e.0)) es in
-    let n = ap length cut in
-    cut
+returns-clause-ok c = ap entries_of c.put_patches.ensures.blocks ∙ c.in_ok-patches.ensures.entries
 
 pub returns-clause-removed : goal.returns-clause-removed
 returns-clause-removed c =
-    let es = entries_of c.args.self.now.blocks in
-    let ts = c.args.targets.now in
-    let cut : entries_of c.remove_runs.new.self.blocks ≡ without_all ts es =
-    c.in_ok-remove_runs.ensures.ok ∙ ap (λ rs. without_all (idents_of rs) (entries_of c.in_ok-fresh.fresh.blocks)) c.as_slice.ensures.runs ∙ ap (λ xs. without_all xs (entries_of c.in_ok-fresh.fresh.blocks)) (idents_of_runs ts) ∙ ap (λ bs. without_all ts (entries_of bs)) c.in_ok-fresh.ensures.copy in
-    let short = filter_short (λ (e : Entry). not (has_ident ts e.0)) es in
-    let n = ap length cut in
+    let n = ap length (ap entries_of c.put_patches.ensures.blocks ∙ c.in_ok-patches.ensures.entries) in
+    let short = filter_short (λ (e : Entry). not (has_ident c.args.targets.now e.0)) (entries_of c.args.self.now.blocks) in
     omega (arith, short, n, c.chars.ensures.chars, c.chars-before.ensures.chars)

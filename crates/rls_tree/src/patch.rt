@@ -1,0 +1,82 @@
+//! Blocks that take the place of others.
+
+ghost use Rattle.std.specs.Prelude.{◌≡◌, ◌+◌, ◌^◌, ◌<◌, ◌≤◌, ◌++◌, length, reverse, None, OnOk, IsTrue};
+ghost use Rattle.rls_tree.specs.Trees.{entries_of, piece_entries, runs_in};
+ghost use Rattle.rls_tree.specs.Edits.{are_loose};
+ghost use Rattle.rls_tree.specs.Patches.{before, after, IsBetween, patched, ArePatches};
+
+use crate::block::Block;
+use crate::node::Link;
+use crate::split::{concat, split};
+use std::alloc::AllocError;
+
+/// Blocks that take the place of those between two places.
+#[derive(Drop)]
+pub(crate) struct Patch {
+    pub(crate) from: u64,
+    pub(crate) to: u64,
+    pub(crate) fresh: Link,
+}
+
+/// Puts a block after others, and joins it to the last one if it goes on with that. It costs the block's characters.
+/// After an error some of the others are gone.
+pub(crate) fn push_block(blocks: &mut Vec<Block>, block: Block) -> Result<(), AllocError>
+    requires loose { IsTrue (are_loose None (runs_in blocks.old.items)) }
+    ensures entries { OnOk result (entries_of blocks.new.items ≡ entries_of blocks.old.items ++ piece_entries block) }
+    ensures loose { OnOk result (IsTrue (are_loose None (runs_in blocks.new.items))) }
+{
+    let _len = block.len();
+    let Some(mut last) = blocks.pop() else {
+        blocks.push(block)?;
+        return Ok(());
+    };
+    let _last = last.len();
+    if last.run().touches(block.run().first()) {
+        let (run, text) = block.into_parts();
+        last.extend(&run, text)?;
+        blocks.push(last)?;
+        return Ok(());
+    }
+    blocks.push(last)?;
+    blocks.push(block)?;
+    Ok(())
+}
+
+/// The tree with each patch in the place of the blocks between its places. It costs a few steps for each level and each
+/// patch, and takes no memory.
+pub(crate) fn with_patches(link: Link, patches: Vec<Patch>) -> Link
+    requires patches { ArePatches (reverse patches.items) link.blocks }
+    requires chars_fit { length (entries_of (patched (reverse patches.items) link.blocks)) < 2 ^ 64 }
+    ensures blocks { result.blocks ≡ patched (reverse patches.items) link.blocks }
+{
+    let mut patches = patches;
+    let mut front = link;
+    let mut behind = Link::empty();
+    while let Some(patch) = patches.pop() {
+        let (near, far) = split_between(front, patch.to);
+        let (kept, _gone) = split_between(near, patch.from);
+        behind = concat(concat(patch.fresh, far), behind);
+        front = kept;
+    }
+    concat(front, behind)
+}
+
+// A tree as two, at a place between its blocks.
+fn split_between(link: Link, i: u64) -> (Link, Link)
+    requires between { IsBetween i link.blocks }
+    ensures front { result.0.blocks ≡ before i link.blocks }
+    ensures behind { result.1.blocks ≡ after i link.blocks }
+    ensures both { link.blocks ≡ result.0.blocks ++ result.1.blocks }
+{
+    let _chars = link.chars();
+    let (front, own, behind) = split(link, i);
+    let _front = front.chars();
+    let _behind = behind.chars();
+    match own {
+        None => (front, behind),
+        Some(node) => {
+            let _len = node.len();
+            unreachable!()
+        }
+    }
+}
