@@ -1,7 +1,7 @@
 -- Blocks that take the place of others.
-use Rattle.std.proofs.Common.{◌≡◌, ℕ, suc, ◌+◌, ◌-◌, ◌<◌, ◌≤◌, Bool, true, false, List, [], ◌∷◌, ◌++◌, length, Option, Some, None, slice_get, refl, sym, ap, ◌∙◌, subst, arith, length-append, append_assoc}
-use Rattle.std.specs.Prelude.{pos, nat_lt, if◌then◌else◌}
-use Rattle.std.proofs.lemmas.List.{append-nil}
+use Rattle.std.proofs.Common.{◌≡◌, ℕ, suc, ◌+◌, ◌-◌, ◌<◌, ◌≤◌, ◌^◌, Bool, true, false, List, [], ◌∷◌, ◌++◌, length, Option, Some, None, slice_get, refl, sym, ap, ◌∙◌, subst, arith, length-append, append_assoc}
+use Rattle.std.specs.Prelude.{pos, reverse, nat_lt, if◌then◌else◌}
+use Rattle.std.proofs.lemmas.List.{append-nil, reverse-append}
 use Rattle.rls_ident.proofs.Members.{lt_is, lt_test, not_lt_is, not_true}
 use Rattle.rls_tree.specs.declared.patch.Patch.{Patch}
 use Rattle.rls_tree.specs.Trees.{Piece, IsPiece, ArePieces, piece_entries, entries_of, runs_in}
@@ -164,12 +164,39 @@ before_both i k (b ∷ bs) h = go (nat_lt i (length b.1)) (nat_lt k (length b.1)
         ap (λ t. before i (inner t)) q ∙ ap (λ t. if t then [] else b ∷ before (i - length b.1) (before (k - length b.1) bs)) p
         ∙ ap (λ xs. b ∷ xs) (ih (omega (arith, h))) ∙ sym (ap (λ t. if t then [] else b ∷ before (i - length b.1) bs) p)
 
--- the last patch put in, before what is after it
-pub last_put : (p : Patch) (ps : List Patch) (front behind kept done total : List Piece) → ArePatches (p ∷ ps) front → kept ≡ before p.from front → done ≡ (p.fresh.blocks ++ after p.to front) ++ behind → patched (p ∷ ps) front ++ behind ≡ total
-    → ArePatches ps kept × (patched ps kept ++ done ≡ total)
-last_put p ps front behind kept done total h k d e =
-    let x = patched ps (before p.from front) in
-    (subst (ArePatches ps) (sym k) h.3, ap (λ bs. patched ps bs ++ done) k ∙ ap (λ bs. x ++ bs) d ∙ sym (append_assoc x (p.fresh.blocks ++ after p.to front) behind) ∙ e)
+-- the last patch put in
+module _ (items rest : List Patch) (p : Patch) (front behind total : List Piece) (is : items ≡ rest ++ p ∷ []) (h : ArePatches (reverse items) front) (e : patched (reverse items) front ++ behind ≡ total) where
+  order : reverse items ≡ p ∷ reverse rest
+  order = ap reverse is ∙ reverse-append rest (p ∷ [])
+
+  patches : ArePatches (p ∷ reverse rest) front
+  patches = subst (λ ps. ArePatches ps front) order h
+
+  -- the blocks before it
+  pub kept_is : (near kept : List Piece) → near ≡ before p.to front → kept ≡ before p.from near → kept ≡ before p.from front
+  kept_is near kept n k = k ∙ ap (before p.from) n ∙ before_both p.from p.to front patches.0
+
+  pub from_between : (near : List Piece) → near ≡ before p.to front → IsBetween p.from near
+  from_between near n = ap (λ bs. length (entries_of (before p.from bs))) n ∙ ap (λ bs. length (entries_of bs)) (before_both p.from p.to front patches.0) ∙ patches.1
+
+  value : (patched (reverse rest) (before p.from front) ++ (p.fresh.blocks ++ after p.to front)) ++ behind ≡ total
+  value = ap (λ ps. patched ps front ++ behind) (sym order) ∙ e
+
+  -- no part is longer than all
+  pub parts_fit : (far : List Piece) → far ≡ after p.to front → length (entries_of total) < 2 ^ 64 → (length (entries_of (p.fresh.blocks ++ far)) < 2 ^ 64) × (length (entries_of ((p.fresh.blocks ++ far) ++ behind)) < 2 ^ 64)
+  parts_fit far f l =
+      let first = patched (reverse rest) (before p.from front) in
+      let last = p.fresh.blocks ++ after p.to front in
+      let all = ap (λ bs. length (entries_of bs)) value in
+      let own = ap (λ bs. length (entries_of (p.fresh.blocks ++ bs))) f in
+      let both = ap (λ bs. length (entries_of ((p.fresh.blocks ++ bs) ++ behind))) f in
+      (omega (arith, all, own, chars_append (first ++ last) behind, chars_append first last, l), omega (arith, all, both, chars_append (first ++ last) behind, chars_append first last, chars_append last behind, l))
+
+  pub last_put : (near far kept done : List Piece) → near ≡ before p.to front → far ≡ after p.to front → kept ≡ before p.from near → done ≡ (p.fresh.blocks ++ far) ++ behind → ArePatches (reverse rest) kept × (patched (reverse rest) kept ++ done ≡ total)
+  last_put near far kept done n f k d =
+      let x = patched (reverse rest) (before p.from front) in
+      let own = kept_is near kept n k in
+      (subst (ArePatches (reverse rest)) (sym own) patches.3, ap (λ bs. patched (reverse rest) bs ++ done) own ∙ ap (λ bs. x ++ bs) (d ∙ ap (λ bs. (p.fresh.blocks ++ bs) ++ behind) f) ∙ sym (append_assoc x (p.fresh.blocks ++ after p.to front) behind) ∙ value)
 
 -- ---- the block of a place
 

@@ -11,7 +11,7 @@ use Rattle.rls_runs.proofs.RunOrder.{run_some}
 use Rattle.rls_runs.proofs.Sorted.{Entry}
 use Rattle.rls_tree.specs.declared.patch.Patch.{Patch}
 use Rattle.rls_tree.specs.Trees.{Piece, IsPiece, ArePieces, entries_of, runs_in}
-use Rattle.rls_tree.specs.Edits.{goes_on, leads_to, are_loose}
+use Rattle.rls_tree.specs.Edits.{goes_on, leads_to, are_loose, Shows}
 use Rattle.rls_tree.specs.Patches.{before, after, IsBetween, patched, ArePatches, AreMembers}
 use Rattle.rls_tree.proofs.Pieces.{entries_append, chars_append}
 use Rattle.rls_tree.proofs.Loose.{last_run, replaced, were_loose, leads_not, loose_again, run_irrelevant}
@@ -21,6 +21,11 @@ use Rattle.rls_tree.proofs.Puts.{headed}
 use Rattle.rls_tree.proofs.Without.{without_append}
 use Rattle.rls_tree.proofs.Patches.{none_before, before_more, after_more, seam, are_left, are_right, before_both, all_before, patched_more, patches_more}
 use Rattle.rls_tree.proofs.Targets.{part_stays}
+
+-- the place after the last patch, which is the first one here
+abbrev pub end_of : List Patch → ℕ
+end_of [] = 0
+end_of (p ∷ ps) = p.to
 
 -- the patches leave of the characters up to a place those that are no targets
 pub record Planned (ts : List (List Tuple)) (bs : List Piece) (ps : List Patch) (at : ℕ) : Type 0 where
@@ -217,10 +222,7 @@ module _ (ts : List (List Tuple)) (bs : List Piece) (ps : List Patch) (at : ℕ)
   all_is : patched ps bs ≡ patched ps (before at bs) ++ after at bs
   all_is = ap (patched ps) (sym (seam at bs)) ∙ patched_more ps (before at bs) (after at bs) pieces was.are
 
-  pub all_loose : are_loose None (runs_in (patched ps bs)) ≡ true
-  all_loose = ap (λ xs. are_loose None (runs_in xs)) all_is ∙ was.loose
-
-  pub all_entries : entries_of (patched ps bs) ≡ without_all ts (entries_of bs)
+  all_entries : entries_of (patched ps bs) ≡ without_all ts (entries_of bs)
   all_entries =
       let es = entries_of bs in
       let n = length es - at in
@@ -230,6 +232,9 @@ module _ (ts : List (List Tuple)) (bs : List Piece) (ps : List Patch) (at : ℕ)
       let same : without_all ts (drop at es) ≡ drop at es = ap (without_all ts) (sym rest) ∙ part_stays ts es at n (subst (AreMembers false ts (idents_in es) at) (sym m) none) ∙ rest in
       ap entries_of all_is ∙ entries_append (patched ps (before at bs)) (after at bs) ∙ ap (λ zs. zs ++ entries_of (after at bs)) was.entries
       ∙ ap (λ zs. without_all ts (take at es) ++ zs) (rest_entries at bs was.between ∙ sym same) ∙ sym (without_append ts (take at es) (drop at es)) ∙ ap (without_all ts) (take-append-drop at es)
+
+  pub all_shows : Shows (without_all ts (entries_of bs)) (patched ps bs)
+  all_shows = record { entries_are = all_entries; loose = ap (λ xs. are_loose None (runs_in xs)) all_is ∙ was.loose }
 
 -- ---- from one patch to the next
 

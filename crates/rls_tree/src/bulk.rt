@@ -2,7 +2,7 @@
 
 ghost use Rattle.std.specs.Prelude.{◌≡◌, ◌+◌, ◌-◌, ◌^◌, ◌<◌, ◌≤◌, ◌++◌, length, take, drop, zip, IfOk, IfSome, OnOk, IsTrue};
 ghost use Rattle.rls_runs.specs.Runs.{run_idents, idents_of, is_increasing};
-ghost use Rattle.rls_runs.specs.Entries.{idents_in, put_all, without_all};
+ghost use Rattle.rls_runs.specs.Entries.{idents_in, put_all};
 ghost use Rattle.rls_runs.specs.Places.{below_count};
 ghost use Rattle.rls_runs.proofs.RunOrder.{AllLess};
 ghost use Rattle.rls_runs.proofs.Gaps.{AreBelow};

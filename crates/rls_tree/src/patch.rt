@@ -2,7 +2,7 @@
 
 ghost use Rattle.std.specs.Prelude.{◌≡◌, ◌+◌, ◌^◌, ◌<◌, ◌≤◌, ◌++◌, length, reverse, None, OnOk, IsTrue};
 ghost use Rattle.rls_tree.specs.Trees.{entries_of, piece_entries, runs_in};
-ghost use Rattle.rls_tree.specs.Edits.{are_loose};
+ghost use Rattle.rls_tree.specs.Edits.{are_loose, Shows};
 ghost use Rattle.rls_tree.specs.Patches.{before, after, IsBetween, patched, ArePatches};
 
 use crate::block::Block;
@@ -22,8 +22,7 @@ pub(crate) struct Patch {
 /// After an error some of the others are gone.
 pub(crate) fn push_block(blocks: &mut Vec<Block>, block: Block) -> Result<(), AllocError>
     requires loose { IsTrue (are_loose None (runs_in blocks.old.items)) }
-    ensures entries { OnOk result (entries_of blocks.new.items ≡ entries_of blocks.old.items ++ piece_entries block) }
-    ensures loose { OnOk result (IsTrue (are_loose None (runs_in blocks.new.items))) }
+    ensures shows { OnOk result (Shows (entries_of blocks.old.items ++ piece_entries block) blocks.new.items) }
 {
     let _len = block.len();
     let Some(mut last) = blocks.pop() else {

@@ -4,7 +4,7 @@ ghost use Rattle.std.specs.Prelude.{◌≡◌, ℕ, ◌+◌, ◌-◌, ◌^◌, �
 ghost use Rattle.rls_runs.specs.Runs.{run_before};
 ghost use Rattle.rls_runs.specs.Entries.{idents_in, without_all};
 ghost use Rattle.rls_tree.specs.Trees.{ArePieces, entries_of, runs_in};
-ghost use Rattle.rls_tree.specs.Edits.{are_loose, goes_on, leads_to};
+ghost use Rattle.rls_tree.specs.Edits.{are_loose, goes_on, leads_to, Shows};
 ghost use Rattle.rls_tree.specs.Patches.{after, IsBetween, patched, ArePatches, AreMembers};
 
 use crate::block::Block;
@@ -21,20 +21,15 @@ impl BlockTree {
     /// characters of these blocks.
     pub(crate) fn patches_without(&self, targets: &Runs) -> Result<Vec<Patch>, AllocError>
         ensures patches { IfOk result (λ patches. ArePatches (reverse patches.items) self.now.blocks) }
-        ensures entries { IfOk result (λ patches. entries_of (patched (reverse patches.items) self.now.blocks) ≡ without_all targets.now (entries_of self.now.blocks)) }
-        ensures loose { IfOk result (λ patches. IsTrue (are_loose None (runs_in (patched (reverse patches.items) self.now.blocks)))) }
+        ensures shows { IfOk result (λ patches. Shows (without_all targets.now (entries_of self.now.blocks)) (patched (reverse patches.items) self.now.blocks)) }
     {
         let _blocks = self.blocks();
-        let _chars = self.chars();
+        let total = self.chars();
         let mut patches = Vec::new(self.alloc());
-        let mut at = 0;
-        while at < self.chars() {
-            let i = self.next_target(targets, at)?;
-            if i == self.chars() {
-                return Ok(patches);
-            }
+        let mut i = self.next_target(targets, 0)?;
+        while i < total {
             let patch = self.patch_from(targets, self.start_before(i))?;
-            at = patch.to;
+            i = self.next_target(targets, patch.to)?;
             patches.push(patch)?;
         }
         Ok(patches)

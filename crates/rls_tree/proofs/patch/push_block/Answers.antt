@@ -7,8 +7,8 @@ use Rattle.rls_tree.proofs.Loose.{last_append}
 use Rattle.rls_tree.proofs.Patches.{pushed_new, pushed_last}
 use Rattle.rls_tree.proofs.patch.push_block.Goals as goal
 
-pub returns-then-touches-clause-entries : goal.returns-then-touches-clause-entries
-returns-then-touches-clause-entries c =
+pub returns-then-touches : goal.returns-then-touches
+returns-then-touches c =
     let rest = c.pop.new.self.items in
     let p : Piece = c.in-Some.last in
     let n : Piece = c.args.block in
@@ -16,35 +16,14 @@ returns-then-touches-clause-entries c =
     let t : follows n.0.0 (run_last p.0) ≡ true = ap (λ r. follows n.0.0 (run_last r)) (sym c.run.ensures.run) ∙ ap (λ x. follows x (run_last c.run.result.now)) (sym (c.first.ensures.first ∙ ap (λ r. r.0) c.run-2.ensures.run)) ∙ sym c.touches.ensures.touches ∙ c.if-touches.true in
     let s = pushed_last rest p n (ap (λ bs. are_loose None (runs_in bs)) (sym old) ∙ c.requires.loose) c.len-last.ensures.piece c.len-len.ensures.piece t in
     let e : c.push-then-touches.new.self.items ≡ rest ++ joined p n ∷ [] = c.in_ok-push-2.ensures.items ∙ ap (λ q. rest ++ q ∷ []) (c.in_ok-extend.ensures.ok ∙ ap (joined p) c.into_parts-run.ensures.parts) in
-    ap entries_of e ∙ s.entries_are ∙ ap (λ bs. entries_of bs ++ piece_entries n) (sym old)
+    record { shows = record { entries_are = ap entries_of e ∙ s.entries_are ∙ ap (λ bs. entries_of bs ++ piece_entries n) (sym old); loose = ap (λ bs. are_loose None (runs_in bs)) e ∙ s.loose } }
 
-pub returns-then-touches-clause-loose : goal.returns-then-touches-clause-loose
-returns-then-touches-clause-loose c =
-    let rest = c.pop.new.self.items in
-    let p : Piece = c.in-Some.last in
-    let n : Piece = c.args.block in
-    let old : c.args.blocks.now.items ≡ rest ++ p ∷ [] = c.in-Some.ensures.items in
-    let t : follows n.0.0 (run_last p.0) ≡ true = ap (λ r. follows n.0.0 (run_last r)) (sym c.run.ensures.run) ∙ ap (λ x. follows x (run_last c.run.result.now)) (sym (c.first.ensures.first ∙ ap (λ r. r.0) c.run-2.ensures.run)) ∙ sym c.touches.ensures.touches ∙ c.if-touches.true in
-    let s = pushed_last rest p n (ap (λ bs. are_loose None (runs_in bs)) (sym old) ∙ c.requires.loose) c.len-last.ensures.piece c.len-len.ensures.piece t in
-    let e : c.push-then-touches.new.self.items ≡ rest ++ joined p n ∷ [] = c.in_ok-push-2.ensures.items ∙ ap (λ q. rest ++ q ∷ []) (c.in_ok-extend.ensures.ok ∙ ap (joined p) c.into_parts-run.ensures.parts) in
-    ap (λ bs. are_loose None (runs_in bs)) e ∙ s.loose
-
-pub returns-clause-entries : goal.returns-clause-entries
-returns-clause-entries c =
+pub returns : goal.returns
+returns c =
     let rest = c.pop.new.self.items in
     let p : Piece = c.in-Some.last in
     let n : Piece = c.args.block in
     let old : c.args.blocks.now.items ≡ rest ++ p ∷ [] = c.in-Some.ensures.items in
     let t : goes_on (Some p.0) n.0.0 ≡ false = ap (λ r. follows n.0.0 (run_last r)) (sym c.run.ensures.run) ∙ ap (λ x. follows x (run_last c.run.result.now)) (sym (c.first.ensures.first ∙ ap (λ r. r.0) c.run-2.ensures.run)) ∙ sym c.touches.ensures.touches ∙ c.if-touches.false in
     let s = pushed_new (rest ++ p ∷ []) n (ap (λ bs. are_loose None (runs_in bs)) (sym old) ∙ c.requires.loose) (ap (λ r. goes_on r n.0.0) (last_append rest p) ∙ t) in
-    ap entries_of (c.in_ok-push-4.ensures.items ∙ ap (λ bs. bs ++ n ∷ []) c.in_ok-push-3.ensures.items) ∙ s.entries_are ∙ ap (λ bs. entries_of bs ++ piece_entries n) (sym old)
-
-pub returns-clause-loose : goal.returns-clause-loose
-returns-clause-loose c =
-    let rest = c.pop.new.self.items in
-    let p : Piece = c.in-Some.last in
-    let n : Piece = c.args.block in
-    let old : c.args.blocks.now.items ≡ rest ++ p ∷ [] = c.in-Some.ensures.items in
-    let t : goes_on (Some p.0) n.0.0 ≡ false = ap (λ r. follows n.0.0 (run_last r)) (sym c.run.ensures.run) ∙ ap (λ x. follows x (run_last c.run.result.now)) (sym (c.first.ensures.first ∙ ap (λ r. r.0) c.run-2.ensures.run)) ∙ sym c.touches.ensures.touches ∙ c.if-touches.false in
-    let s = pushed_new (rest ++ p ∷ []) n (ap (λ bs. are_loose None (runs_in bs)) (sym old) ∙ c.requires.loose) (ap (λ r. goes_on r n.0.0) (last_append rest p) ∙ t) in
-    ap (λ bs. are_loose None (runs_in bs)) (c.in_ok-push-4.ensures.items ∙ ap (λ bs. bs ++ n ∷ []) c.in_ok-push-3.ensures.items) ∙ s.loose
+    record { shows = record { entries_are = ap entries_of (c.in_ok-push-4.ensures.items ∙ ap (λ bs. bs ++ n ∷ []) c.in_ok-push-3.ensures.items) ∙ s.entries_are ∙ ap (λ bs. entries_of bs ++ piece_entries n) (sym old); loose = ap (λ bs. are_loose None (runs_in bs)) (c.in_ok-push-4.ensures.items ∙ ap (λ bs. bs ++ n ∷ []) c.in_ok-push-3.ensures.items) ∙ s.loose } }

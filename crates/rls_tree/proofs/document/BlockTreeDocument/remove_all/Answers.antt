@@ -27,25 +27,28 @@ returns-in-Some-clause-ok c =
 
 pub put_patches-requires-clause-chars_fit : goal.put_patches-requires-clause-chars_fit
 put_patches-requires-clause-chars_fit c =
-    let n = ap length c.in_ok-patches.ensures.entries in
+    let n = ap length c.in_ok-patches.ensures.shows.entries_are in
     let short = filter_short (λ (e : Entry). not (has_ident c.args.targets.now e.0)) (entries_of c.args.self.now.blocks) in
     omega (arith, short, n, c.chars-before.ensures.chars)
 
 pub put_patches-requires-clause-rises : goal.put_patches-requires-clause-rises
 put_patches-requires-clause-rises c =
-    ap (λ es. is_increasing (idents_in es)) c.in_ok-patches.ensures.entries ∙ increasing_filter (λ (e : Entry). not (has_ident c.args.targets.now e.0)) (entries_of c.args.self.now.blocks) c.blocks-blocks.ensures.rises
+    ap (λ es. is_increasing (idents_in es)) c.in_ok-patches.ensures.shows.entries_are ∙ increasing_filter (λ (e : Entry). not (has_ident c.args.targets.now e.0)) (entries_of c.args.self.now.blocks) c.blocks-blocks.ensures.rises
 
 pub overflow_sub-result : goal.overflow_sub-result
 overflow_sub-result c =
-    let n = ap length (ap entries_of c.put_patches.ensures.blocks ∙ c.in_ok-patches.ensures.entries) in
+    let n = ap length (ap entries_of c.put_patches.ensures.blocks ∙ c.in_ok-patches.ensures.shows.entries_are) in
     let short = filter_short (λ (e : Entry). not (has_ident c.args.targets.now e.0)) (entries_of c.args.self.now.blocks) in
     omega (arith, short, n, c.chars.ensures.chars, c.chars-before.ensures.chars)
 
 pub returns-clause-ok : goal.returns-clause-ok
-returns-clause-ok c = ap entries_of c.put_patches.ensures.blocks ∙ c.in_ok-patches.ensures.entries
+returns-clause-ok c = ap entries_of c.put_patches.ensures.blocks ∙ c.in_ok-patches.ensures.shows.entries_are
 
 pub returns-clause-removed : goal.returns-clause-removed
 returns-clause-removed c =
-    let n = ap length (ap entries_of c.put_patches.ensures.blocks ∙ c.in_ok-patches.ensures.entries) in
+    let n = ap length (ap entries_of c.put_patches.ensures.blocks ∙ c.in_ok-patches.ensures.shows.entries_are) in
     let short = filter_short (λ (e : Entry). not (has_ident c.args.targets.now e.0)) (entries_of c.args.self.now.blocks) in
     omega (arith, short, n, c.chars.ensures.chars, c.chars-before.ensures.chars)
+
+pub put_patches-requires-clause-loose : goal.put_patches-requires-clause-loose
+put_patches-requires-clause-loose c = c.in_ok-patches.ensures.shows.loose

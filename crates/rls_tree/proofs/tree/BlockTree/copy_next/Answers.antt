@@ -25,5 +25,8 @@ returns-clause-entries c =
     let len = c.len-len.ensures.len in
     let m : n ≡ at + c.len-len.result - at = omega (arith, len) in
     let stay = part_stays ts es at n (members_less false ts (idents_in es) at at (at + n) c.in_ok-next.next (omega arith) (omega (arith, c.in_ok-run.ensures.most, c.most_of.ensures.most, c.in_ok-next.ensures.order)) c.in_ok-next.ensures.none) in
-    c.in_ok-push_block.ensures.entries ∙ ap (λ (q : Piece). own ++ piece_entries q) c.new.ensures.block
+    c.in_ok-push_block.ensures.shows.entries_are ∙ ap (λ (q : Piece). own ++ piece_entries q) c.new.ensures.block
     ∙ ap (λ zs. own ++ zs) (c.in_ok-run.ensures.entries ∙ sym stay ∙ ap (λ k. without_all ts (take k (drop at es))) m)
+
+pub returns-clause-loose : goal.returns-clause-loose
+returns-clause-loose c = c.in_ok-push_block.ensures.shows.loose
