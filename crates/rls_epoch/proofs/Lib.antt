@@ -8,6 +8,7 @@ pub mod Sorting
 pub mod Ordering
 pub mod Orders
 pub mod Steps
+pub mod Turning
 pub mod Whole
 pub mod Counting
 pub mod Spreading

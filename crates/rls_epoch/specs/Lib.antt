@@ -5,3 +5,4 @@ pub mod Marks
 pub mod Seen
 pub mod Sorted
 pub mod Ways
+pub mod Heads

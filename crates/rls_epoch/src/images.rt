@@ -1,12 +1,13 @@
 //! Runs and lists of identifiers over the steps of a way, whole runs at a time.
 
-ghost use Rattle.std.specs.Prelude.{◌≡◌, ◌+◌, ◌<◌, ◌^◌, [], ◌∷◌, ◌++◌, map, length, IfOk, OnOk, IsTrue};
+ghost use Rattle.std.specs.Prelude.{◌≡◌, ◌+◌, ◌<◌, ◌≤◌, ◌^◌, [], ◌∷◌, ◌++◌, map, length, drop, IfOk, OnOk, IsTrue};
 ghost use Rattle.rls_rename.specs.Renaming.{forward};
 ghost use Rattle.rls_rename.specs.Tree.{AreNodes};
 ghost use Rattle.rls_runs.specs.Runs.{run_idents, runs_of, idents_of, is_increasing, IsImage};
 ghost use Rattle.rls_epoch.specs.Seen.{nodes_of};
 ghost use Rattle.rls_epoch.specs.Ways.{AreWithin, place_of_step, step_map, led};
 
+use crate::heads::run_ahead;
 use crate::placed::Placed;
 use crate::ways::Step;
 use rls_rename::Renaming;
@@ -44,6 +45,9 @@ pub(crate) fn run_led_by(
     requires within { AreWithin (length nodes.now) steps.now }
     ensures led { IfOk result (λ runs. IsImage (λ x. forward renaming.now (led nodes.now steps.now x)) run.now runs) }
 {
+    if steps.is_empty() {
+        return renaming.forward_run(run);
+    }
     let ids = runs_led(alloc, nodes, steps, &alone(alloc, run)?)?;
     maximal(alloc, &runs_renamed(alloc, renaming, &ids)?)
 }
@@ -71,14 +75,38 @@ pub(crate) fn runs_led(
     requires within { AreWithin (length nodes.now) steps.now }
     ensures led { IfOk result (λ xs. xs ≡ map (led nodes.now steps.now) ids.now) }
 {
-    let Some((first, rest)) = steps.split_first() else {
+    if steps.is_empty() {
         return ids.copy();
-    };
-    let mut at = runs_moved(alloc, nodes, *first, ids)?;
-    for step in rest {
-        at = runs_moved(alloc, nodes, *step, &at)?;
+    }
+    let (mut at, mut done) = runs_ahead(alloc, nodes, steps, ids)?;
+    while done < steps.len() {
+        let (_, rest) = steps.split_at(done);
+        let (next, count) = runs_ahead(alloc, nodes, rest, &at)?;
+        at = next;
+        done += count;
     }
     Ok(at)
+}
+
+// A strictly increasing list some steps on, and how many.
+fn runs_ahead(
+    alloc: Global,
+    nodes: &[Placed],
+    steps: &[Step],
+    ids: &Runs,
+) -> Result<(Runs, usize), AllocError>
+    requires nodes { AreNodes (nodes_of nodes.now) }
+    requires within { AreWithin (length nodes.now) steps.now }
+    requires some { 0 < length steps.now }
+    ensures some { IfOk result (λ r. 0 < r.1) }
+    ensures within { IfOk result (λ r. r.1 ≤ length steps.now) }
+    ensures led { IfOk result (λ r. map (led nodes.now (drop r.1 steps.now)) r.0 ≡ map (led nodes.now steps.now) ids.now) }
+{
+    if let Some(ahead) = run_ahead(alloc, nodes, steps, ids)? {
+        return Ok(ahead);
+    }
+    let moved = runs_moved(alloc, nodes, steps[0], ids)?;
+    Ok((moved, 1))
 }
 
 // A strictly increasing list one step on.

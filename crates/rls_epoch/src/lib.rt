@@ -5,6 +5,7 @@
 mod climb;
 mod epochs;
 mod greatest;
+mod heads;
 mod images;
 mod keeping;
 mod listing;

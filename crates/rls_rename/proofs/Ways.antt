@@ -13,6 +13,7 @@ use Rattle.rls_runs.proofs.RunJoins.{run_longer}
 use Rattle.rls_rename.specs.declared.renaming.Way.{Way}
 use Rattle.rls_rename.specs.declared.renaming.Way.TheVariants.{Forward, Back}
 use Rattle.rls_rename.specs.Renaming.{Renaming, IsFormer, new_pos, new_spot, forward_by, back_by, forward, back}
+use Rattle.rls_rename.specs.Heads.{Replaces}
 use Rattle.rls_rename.specs.Stretches.{GoesAlong}
 use Rattle.rls_rename.specs.Ways.{renamed}
 use Rattle.rls_rename.proofs.Laws.{order_kept}
@@ -26,6 +27,10 @@ module _ (s : Spot) (f : List (List Tuple)) (at : s.pos ≡ new_pos f) (first : 
   pub forward_way : GoesAlong (forward_by s f) x n z m → GoesAlong (forward R) x n z m
   unfolding forward
   forward_way g = subst (λ Q. GoesAlong (forward Q) x n z m) view (subst (λ t. GoesAlong (forward_by t f) x n z m) (spot_is s f at first) g)
+
+  pub head_way : Replaces (forward_by s f) x z → Replaces (forward R) x z
+  unfolding forward
+  head_way g = subst (λ Q. Replaces (forward Q) x z) view (subst (λ t. Replaces (forward_by t f) x z) (spot_is s f at first) g)
 
   pub back_way : GoesAlong (back_by s f) x n z m → GoesAlong (back R) x n z m
   unfolding back

@@ -15,7 +15,7 @@ use rls_ident::{Ident, Spot, Tuple};
 use std::alloc::{AllocError, Global};
 
 // An identifier's tuples and `Low`.
-fn above_pattern(alloc: Global, a: &Ident) -> Result<Vec<Tuple>, AllocError>
+pub(crate) fn above_pattern(alloc: Global, a: &Ident) -> Result<Vec<Tuple>, AllocError>
     ensures pattern { IfOk result (λ p. p.items ≡ a.now ++ Tuple.Low ∷ []) }
     ensures bounded { IfOk result (λ p. All (λ t. IsTrue (is_inner_bounded t)) p.items) }
 {
@@ -24,7 +24,7 @@ fn above_pattern(alloc: Global, a: &Ident) -> Result<Vec<Tuple>, AllocError>
 
 // The tuples of an identifier's predecessor and `High`.
 #[tactic(auto, using(crate::proofs::Patterns::pred_is))]
-fn below_pattern(alloc: Global, a: &Ident) -> Result<Vec<Tuple>, AllocError>
+pub(crate) fn below_pattern(alloc: Global, a: &Ident) -> Result<Vec<Tuple>, AllocError>
     ensures pattern { IfOk result (λ p. p.items ≡ pred a.now ++ Tuple.High ∷ []) }
     ensures bounded { IfOk result (λ p. All (λ t. IsTrue (is_inner_bounded t)) p.items) }
 {
@@ -131,7 +131,7 @@ pub(crate) fn old_above(alloc: Global, a: &Ident, y: Stretch) -> Result<Stretch,
 }
 
 // The identifier that the old map above a takes to b.
-fn inner_end(alloc: Global, a: &Ident, b: Ident) -> Result<Ident, AllocError>
+pub(crate) fn inner_end(alloc: Global, a: &Ident, b: Ident) -> Result<Ident, AllocError>
     requires less { ident_cmp a.now b ≡ Less }
     ensures inner { IfOk result (λ c. c ≡ old_above_inverse a.now b) }
 {

@@ -28,7 +28,7 @@ pub(crate) fn new_at(alloc: Global, first: Spot, i: u64) -> Ident
 }
 
 // Its tuple.
-fn tuple_at(first: Spot, i: u64) -> Tuple
+pub(crate) fn tuple_at(first: Spot, i: u64) -> Tuple
     requires place { i < IDENTIFIERS }
     ensures tuple { result ≡ at_offset first (pos i) }
     ensures inner { IsTrue (is_inner_bounded result) }

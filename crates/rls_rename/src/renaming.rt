@@ -5,10 +5,12 @@ ghost use Rattle.rls_ident.specs.declared.limits.TheConstants.{IDENTIFIERS};
 ghost use Rattle.rls_ident.specs.declared.tuple.Tuple.{Tuple};
 ghost use Rattle.rls_runs.specs.Runs.{IsImage};
 ghost use Rattle.rls_rename.specs.Renaming.{IsFormer, first_pos, forward, back};
+ghost use Rattle.rls_rename.specs.Heads.{Replaces};
 ghost use Rattle.rls_rename.specs.Stretches.{GoesAlong};
 ghost use Rattle.rls_rename.specs.Ways.{renamed};
 
 use crate::gaps::{back_front, forward_front};
+use crate::heads::forward_head;
 use crate::images::Image;
 use crate::stretch::Stretch;
 use rls_ident::limits::IDENTIFIERS;
@@ -162,6 +164,18 @@ impl Renaming {
         ensures image { IfOk result (λ runs. IsImage (back self.now) run.now runs) }
     {
         self.renamed_run(Way::Back, run)
+    }
+
+    /// What `forward` puts in the place of an identifier's first tuples, whatever follows them, if it
+    /// is seen from these alone. Mostly they have to be two more than a former identifier has. It
+    /// costs what `forward` does at these tuples, so that a long identifier needn't be copied.
+    pub fn forward_head(&self, head: &Ident) -> Result<Option<Ident>, AllocError>
+        ensures replaces { IfOk result (λ z. IfSome z (λ z. Replaces (forward self.now) head.now z)) }
+    {
+        let Some(moved) = forward_head(self.alloc, &self.former, self.first, head)? else {
+            return Ok(None);
+        };
+        Ok(Some(moved))
     }
 
     // Of one identifier.

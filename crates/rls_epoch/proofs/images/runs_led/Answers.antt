@@ -1,18 +1,17 @@
-use Rattle.std.proofs.Common.{rules, ◌≡◌, ◌+◌, ◌<◌, ◌≤◌, get_or, ◌∷◌, List, map, length, drop, ap, sym, ◌∙◌, subst, arith}
+use Rattle.std.proofs.Common.{◌≡◌, ◌<◌, ◌≤◌, List, map, length, ap, sym, ◌∙◌, subst, arith}
 use Rattle.std.specs.Prelude.{IfOk}
 use Rattle.std.proofs.lemmas.Grind.{common_steps}
-use Rattle.std.proofs.lemmas.List.{drop_more}
 use Rattle.std.proofs.Math.ListN.{drop_of_length-le}
 use Rattle.rls_ident.specs.declared.tuple.Tuple.{Tuple}
 use Rattle.rls_epoch.specs.declared.ways.Step.{Step}
-use Rattle.rls_epoch.specs.Ways.{AreWithin, led}
-use Rattle.rls_epoch.specs.declared.ways.Step.TheVariants.{Back}
+use Rattle.rls_epoch.specs.Ways.{led}
 use Rattle.rls_epoch.proofs.Sorting.{nothing}
-use Rattle.rls_epoch.proofs.Moving.{map_none, map_step}
+use Rattle.rls_epoch.proofs.Moving.{map_none}
+use Rattle.rls_epoch.proofs.Turning.{within_drop, lists_ahead}
 use Rattle.rls_epoch.proofs.images.runs_led.Goals as goal
 
-pub returns-in_default : goal.returns-in_default
-returns-in_default c =
+pub returns-then-is_empty : goal.returns-then-is_empty
+returns-then-is_empty c =
     let ps = c.args.nodes.now in
     let short : length c.args.steps.now < 1 = grind (arith, common_steps) in
     let none = nothing c.args.steps.now short in
@@ -21,32 +20,22 @@ returns-in_default c =
           (subst (λ (ys : List (List Tuple)). IfOk c.copy.result (λ xs. xs ≡ ys)) (sym (map_none ps c.args.ids.now)) c.copy.ensures.copy);
     }
 
-pub loop-step-init : goal.loop-step-init
-loop-step-init c =
-    let ps = c.args.nodes.now in
-    let some : c.args.steps.now ≡ c.in-Some.first.now ∷ c.in-Some.rest.now = search rules in
-    let within = subst (AreWithin (length ps)) some c.requires.within in
-    record {
-      within = within.1;
-      rest = ap (map (led ps c.in-Some.rest.now)) c.in_ok-at.ensures.moved ∙ (map_step ps c.in-Some.first.now c.in-Some.rest.now c.args.ids.now ∙ ap (λ (ss : List Step). map (led ps ss) c.args.ids.now) (sym some));
-    }
+pub runs_ahead-requires-in-loop-done-clause-within : goal.runs_ahead-requires-in-loop-done-clause-within
+runs_ahead-requires-in-loop-done-clause-within c = rw c.split_at.ensures.back (within_drop (length c.args.nodes.now) c.args.steps.now c.loop-done.done c.requires.within)
 
-pub loop-step-preserved : goal.loop-step-preserved
-loop-step-preserved c =
-    let ps = c.args.nodes.now in
-    let k = c.loop-step.step-index in
-    let step = get_or c.in-Some.rest.now k (Back 0) in
-    let later = drop (k + 1) c.in-Some.rest.now in
-    let next : drop k c.in-Some.rest.now ≡ step ∷ later = drop_more c.in-Some.rest.now k (Back 0) c.loop-step-test.true in
-    let within = subst (AreWithin (length ps)) next c.loop-step.invariant.within in
+pub loop-done-preserved : goal.loop-done-preserved
+loop-done-preserved c =
+    let l = rw c.split_at.ensures.back at c.in_ok-next.ensures.led in
+    let w = c.in_ok-next.ensures.within in
+    let b = c.split_at.ensures.back_len in
     record {
-      within = within.1;
-      rest = ap (map (led ps later)) c.in_ok-at-2.ensures.moved ∙ (map_step ps step later c.loop-step.at ∙ (ap (λ (ss : List Step). map (led ps ss) c.loop-step.at) (sym next) ∙ c.loop-step.invariant.rest));
+      within = omega arith;
+      rest = lists_ahead c.args.nodes.now c.args.steps.now c.in_ok-next.count c.loop-done.done c.args.ids.now c.loop-done.at c.in_ok-next.next c.loop-done.invariant.rest l;
     }
 
 pub returns : goal.returns
 returns c =
     let ps = c.args.nodes.now in
-    let all : length c.in-Some.rest.now ≤ c.loop-step.step-index = omega arith in
-    let none = drop_of_length-le c.in-Some.rest.now all in
-    record { led = sym (map_none ps c.loop-step.at) ∙ (ap (λ (ss : List Step). map (led ps ss) c.loop-step.at) (sym none) ∙ c.loop-step.invariant.rest) }
+    let all : length c.args.steps.now ≤ c.loop-done.done = omega arith in
+    let none = drop_of_length-le c.args.steps.now all in
+    record { led = sym (map_none ps c.loop-done.at) ∙ (ap (λ (ss : List Step). map (led ps ss) c.loop-done.at) (sym none) ∙ c.loop-done.invariant.rest) }

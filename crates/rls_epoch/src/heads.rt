@@ -1,0 +1,156 @@
+//! Long identifiers over the steps of a way. Mostly a step changes a few of the first tuples and leaves the others, so these aren't
+//! copied at each step: the tuples stand in reverse, the first one at the end.
+
+ghost use Rattle.std.specs.Prelude.{◌≡◌, ◌<◌, ◌≤◌, ◌++◌, length, map, drop, reverse, IfOk, IfSome, IsTrue, IsFalse, OnOk};
+ghost use Rattle.rls_rename.specs.Heads.{Replaces};
+ghost use Rattle.rls_epoch.specs.Heads.{Moves, IsAhead};
+ghost use Rattle.rls_epoch.specs.Ways.{AreWithin, place_of_step, step_map, led};
+ghost use Rattle.rls_epoch.specs.declared.ways.Step.TheVariants.{Forward};
+
+use crate::placed::Placed;
+use crate::ways::Step;
+use rls_ident::{Ident, IdentError, Tuple};
+use rls_runs::{Run, Runs};
+use std::alloc::{AllocError, Global};
+
+// The number of first tuples that are tried first.
+const FEWEST: usize = 2;
+
+// One run, a few steps on, and how many steps, if its first tuples alone decide the first step.
+pub(crate) fn run_ahead(
+    alloc: Global,
+    nodes: &[Placed],
+    steps: &[Step],
+    ids: &Runs,
+) -> Result<Option<(Runs, usize)>, AllocError>
+    requires within { AreWithin (length nodes.now) steps.now }
+    ensures some { IfOk result (λ ahead. IfSome ahead (λ r. 0 < r.1)) }
+    ensures within { IfOk result (λ ahead. IfSome ahead (λ r. r.1 ≤ length steps.now)) }
+    ensures led { IfOk result (λ ahead. IfSome ahead (λ r. map (led nodes.now (drop r.1 steps.now)) r.0 ≡ map (led nodes.now steps.now) ids.now)) }
+{
+    if ids.run_count() != 1 {
+        return Ok(None);
+    }
+    let run = ids.run(0);
+    if run.first().len() <= FEWEST {
+        return Ok(None);
+    }
+    let mut turned = turned_tuples(alloc, run.first())?;
+    let count = move_heads(alloc, nodes, steps, &mut turned)?;
+    if count == 0 {
+        return Ok(None);
+    }
+    let Some(first) = ident_of(alloc, &turned)? else {
+        return Ok(None);
+    };
+    let Ok(run) = Run::new(first, run.len()) else {
+        return Ok(None);
+    };
+    let mut ahead = Runs::new(alloc);
+    ahead.append(run)?;
+    Ok(Some((ahead, count)))
+}
+
+// Changes the tuples to those of the identifier as many steps on as its first tuples decide, and answers how many.
+fn move_heads(
+    alloc: Global,
+    nodes: &[Placed],
+    steps: &[Step],
+    turned: &mut Vec<Tuple>,
+) -> Result<usize, AllocError>
+    requires within { AreWithin (length nodes.now) steps.now }
+    ensures within { IfOk result (λ n. n ≤ length steps.now) }
+    ensures ahead { IfOk result (λ n. IsAhead nodes.now steps.now (reverse turned.old.items) n (reverse turned.new.items)) }
+{
+    let mut count = 0;
+    while count < steps.len() {
+        if !move_head(alloc, nodes, steps[count], turned)? {
+            return Ok(count);
+        }
+        count += 1;
+    }
+    Ok(count)
+}
+
+// Changes the tuples to those of the identifier one step on, if the first ones decide it: two of them, or four, and so on.
+fn move_head(
+    alloc: Global,
+    nodes: &[Placed],
+    step: Step,
+    turned: &mut Vec<Tuple>,
+) -> Result<bool, AllocError>
+    requires within { place_of_step step < length nodes.now }
+    ensures moved { IfOk result (λ b. IsTrue b → Moves nodes.now step (reverse turned.old.items) (reverse turned.new.items)) }
+    ensures same { IfOk result (λ b. IsFalse b → turned.new.items ≡ turned.old.items) }
+{
+    let mut count = FEWEST;
+    while count < turned.len() {
+        if move_first(alloc, nodes, step, turned, count)? {
+            return Ok(true);
+        }
+        count = count.saturating_add(count);
+    }
+    Ok(false)
+}
+
+// The same, if so many first tuples decide it.
+fn move_first(
+    alloc: Global,
+    nodes: &[Placed],
+    step: Step,
+    turned: &mut Vec<Tuple>,
+    count: usize,
+) -> Result<bool, AllocError>
+    requires within { place_of_step step < length nodes.now }
+    requires fewer { count < length turned.old.items }
+    ensures moved { IfOk result (λ b. IsTrue b → Moves nodes.now step (reverse turned.old.items) (reverse turned.new.items)) }
+    ensures same { IfOk result (λ b. IsFalse b → turned.new.items ≡ turned.old.items) }
+{
+    let rest = turned.len() - count;
+    let (_, first) = turned.as_slice().split_at(rest);
+    let Some(head) = ident_of(alloc, first)? else {
+        return Ok(false);
+    };
+    let Some(moved) = head_moved(nodes, step, &head)? else {
+        return Ok(false);
+    };
+    let front = turned_tuples(alloc, &moved)?;
+    turned.truncate(rest);
+    turned.extend_from_slice(&front)?;
+    Ok(true)
+}
+
+// What a step down puts in the place of the first tuples, if these decide it. It isn't tried for a step up.
+#[tactic(auto, using(crate::proofs::Turning::forward_replaces))]
+fn head_moved(nodes: &[Placed], step: Step, head: &Ident) -> Result<Option<Ident>, AllocError>
+    requires within { place_of_step step < length nodes.now }
+    ensures replaces { IfOk result (λ z. IfSome z (λ z. Replaces (step_map nodes.now step) head.now z)) }
+{
+    match step {
+        Step::Back { .. } => Ok(None),
+        Step::Forward { place } => nodes[place].renaming.forward_head(head),
+    }
+}
+
+// The identifier whose tuples stand here in reverse, if they are one.
+fn ident_of(alloc: Global, turned: &[Tuple]) -> Result<Option<Ident>, AllocError>
+    ensures ident { IfOk result (λ id. IfSome id (λ id. id ≡ reverse turned.now)) }
+{
+    let mut tuples = Vec::from_slice(alloc, turned)?;
+    tuples.reverse();
+    match Ident::from_tuples(alloc, &tuples) {
+        Ok(id) => Ok(Some(id)),
+        Err(IdentError::OutOfMemory) => Err(AllocError),
+        Err(_) => Ok(None),
+    }
+}
+
+fn turned_tuples(alloc: Global, id: &Ident) -> Result<Vec<Tuple>, AllocError>
+    ensures turned { IfOk result (λ tuples. tuples.items ≡ reverse id.now) }
+{
+    let mut tuples = Vec::with_capacity(alloc, id.len())?;
+    tuples.extend_from_slice(id.front())?;
+    tuples.push(id.last().as_tuple())?;
+    tuples.reverse();
+    Ok(tuples)
+}

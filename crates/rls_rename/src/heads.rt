@@ -1,0 +1,123 @@
+//! Heads: the first tuples of an identifier. Often they alone decide what a renaming does to it, so that the rest needn't be looked at.
+
+ghost use Rattle.std.specs.Prelude.{◌≡◌, ◌≤◌, length, drop, true, Some, IfOk, IfSome, IsTrue};
+ghost use Rattle.std.specs.declared.cmp.Ordering.TheVariants.{Less};
+ghost use Rattle.rls_ident.specs.Tuples.{tuple_cmp};
+ghost use Rattle.rls_ident.specs.Maps.{low_inverse, high_inverse};
+ghost use Rattle.rls_ident.specs.Identifiers.{ident_cmp};
+ghost use Rattle.rls_rename.specs.Heads.{head_less, Replaces};
+ghost use Rattle.rls_rename.specs.Renaming.{IsFormer, forward_by, old_between_inverse};
+
+use crate::gap_maps::{above_pattern, below_pattern, inner_end};
+use crate::new_maps::tuple_at;
+use rls_ident::{Ident, Spot, Tuple};
+use rls_runs::Runs;
+use std::alloc::{AllocError, Global};
+use std::cmp::Ordering;
+
+// What forward puts in the place of the head, by the tuple of the first new identifier, if the head alone decides it. It isn't tried
+// below all former identifiers and above them.
+pub(crate) fn forward_head(
+    alloc: Global,
+    former: &Runs,
+    first: Spot,
+    head: &Ident,
+) -> Result<Option<Ident>, AllocError>
+    requires former { IsFormer former.now }
+    requires most { length former.now ≤ 4194304 }
+    ensures replaces { IfOk result (λ z. IfSome z (λ z. Replaces (forward_by first former.now) head.now z)) }
+{
+    let Err(gap) = former.find(head) else {
+        return Ok(None);
+    };
+    if gap == 0 || gap >= former.total() {
+        return Ok(None);
+    }
+    let a = former.get(gap - 1)?;
+    let b = former.get(gap)?;
+    let Some(inner) = head_between(alloc, &a, b, head)? else {
+        return Ok(None);
+    };
+    Ok(Some(inner.prefixed(&[tuple_at(first, gap - 1)])?))
+}
+
+// What the inverse of the old map between a and b puts in the place of the head, if the head alone decides it, and that it is below b.
+fn head_between(
+    alloc: Global,
+    a: &Ident,
+    b: Ident,
+    head: &Ident,
+) -> Result<Option<Ident>, AllocError>
+    requires less { ident_cmp a.now b ≡ Less }
+    ensures below { IfOk result (λ z. IfSome z (λ z. head_less head.now b ≡ Some true)) }
+    ensures replaces { IfOk result (λ z. IfSome z (λ z. Replaces (old_between_inverse a.now b) head.now z)) }
+{
+    let Some(true) = less(head, &tuples_of(alloc, &b)?) else {
+        return Ok(None);
+    };
+    let above = above_pattern(alloc, a)?;
+    let Some(rest) = low_rest(&above, head.copy()?)? else {
+        return Ok(None);
+    };
+    let end = inner_end(alloc, a, b)?;
+    let below = below_pattern(alloc, &end)?;
+    high_rest(&below, rest)
+}
+
+// What the inverse of the low map puts in the place of the head, if the head alone decides it.
+#[tactic(auto, using(crate::proofs::Replacing::low_strips, crate::proofs::Replacing::low_stays))]
+fn low_rest(pattern: &[Tuple], head: Ident) -> Result<Option<Ident>, AllocError>
+    ensures replaces { IfOk result (λ z. IfSome z (λ z. Replaces (low_inverse tuple_cmp pattern.now) head z)) }
+{
+    match less(&head, pattern) {
+        None => Ok(None),
+        Some(true) => behind(&head, pattern.len()),
+        Some(false) => Ok(Some(head)),
+    }
+}
+
+// What the inverse of the high map puts in the place of the head, if the head alone decides it.
+#[tactic(auto, using(crate::proofs::Replacing::high_strips, crate::proofs::Replacing::high_stays))]
+fn high_rest(pattern: &[Tuple], head: Ident) -> Result<Option<Ident>, AllocError>
+    ensures replaces { IfOk result (λ z. IfSome z (λ z. Replaces (high_inverse tuple_cmp pattern.now) head z)) }
+{
+    match less(&head, pattern) {
+        None => Ok(None),
+        Some(true) => Ok(Some(head)),
+        Some(false) => behind(&head, pattern.len()),
+    }
+}
+
+// The head without its first n tuples, if it has more.
+fn behind(head: &Ident, n: usize) -> Result<Option<Ident>, AllocError>
+    ensures rest { IfOk result (λ z. IfSome z (λ z. z ≡ drop n head.now)) }
+    ensures within { IfOk result (λ z. IfSome z (λ z. n ≤ length head.now)) }
+{
+    if head.len() <= n {
+        return Ok(None);
+    }
+    Ok(Some(head.stripped(n)?))
+}
+
+// Whether the head is less than the other tuples at the first place where they differ, if there is one within both.
+fn less(head: &Ident, other: &[Tuple]) -> Option<bool>
+    ensures less { result ≡ head_less head.now other.now }
+{
+    for i in 0..head.len().min(other.len()) {
+        match head.tuple(i).compare(&other[i]) {
+            Ordering::Less => return Some(true),
+            Ordering::Greater => return Some(false),
+            Ordering::Equal => {}
+        }
+    }
+    None
+}
+
+fn tuples_of(alloc: Global, id: &Ident) -> Result<Vec<Tuple>, AllocError>
+    ensures tuples { IfOk result (λ tuples. tuples.items ≡ id.now) }
+{
+    let mut tuples = Vec::with_capacity(alloc, id.len())?;
+    tuples.extend_from_slice(id.front())?;
+    tuples.push(id.last().as_tuple())?;
+    Ok(tuples)
+}
