@@ -1,26 +1,24 @@
 -- Texts of lists, piece by piece.
-use Rattle.std.proofs.Common.{◌≡◌, ℕ, List, [], ◌∷◌, ◌++◌, refl, sym, ap, ◌∙◌, append_assoc, ◌+◌, ◌<◌, ◌≤◌, length, get_or, drop, add-one, drop-cons}
+use Rattle.std.proofs.Common.{◌≡◌, ℕ, List, [], ◌∷◌, ◌++◌, map, refl, sym, ap, ◌∙◌, append_assoc, ◌+◌, ◌<◌, ◌≤◌, length, get_or, drop, add-one, drop-cons}
 use Rattle.std.proofs.lemmas.List.{append-nil, drop_all}
-use Rattle.std.specs.List.{flat_map}
-use Rattle.rls_ident.specs.declared.tuple.Tuple.{Tuple}
-use Rattle.rls_report.specs.Texts.{tuple_text, ident_text}
+use Rattle.std.specs.List.{flat_map, join_with_byte}
 use Rattle.rls_report.specs.Reports.{member_line, member_lines}
-
--- a tuple and a slash
-abbrev pub with_slash : Tuple → List ℕ
-with_slash t = tuple_text t ++ 47 ∷ []
-
--- the tuples but the last each have a slash after them
-pub ident_text_of_pushed : (front : List Tuple) (last : Tuple) → ident_text (front ++ last ∷ []) ≡ flat_map with_slash front ++ tuple_text last
-ident_text_of_pushed [] last = refl
-ident_text_of_pushed (t ∷ []) last = simp (append-nil, append_assoc) refl
-ident_text_of_pushed (t ∷ u ∷ front) last =
-    ap (λ (bytes : List ℕ). tuple_text t ++ (47 ∷ bytes)) (ident_text_of_pushed (u ∷ front) last)
-    ∙ sym (append_assoc (with_slash t) (flat_map with_slash (u ∷ front)) (tuple_text last) ∙ append_assoc (tuple_text t) (47 ∷ []) (flat_map with_slash (u ∷ front) ++ tuple_text last))
 
 -- a piece after another
 pub two_pieces : (before first second middle after : List ℕ) → middle ≡ before ++ first → after ≡ middle ++ second → after ≡ before ++ (first ++ second)
 two_pieces before first second middle after h k = k ∙ ap (λ (bytes : List ℕ). bytes ++ second) h ∙ append_assoc before first second
+
+-- parts of a list, with a byte between two: those but the last each have it behind them
+module _ {X : Type 0} (text_of : X → List ℕ) (byte : ℕ) where
+  abbrev pub with_byte : X → List ℕ
+  with_byte x = text_of x ++ byte ∷ []
+
+  pub joined_pushed : (front : List X) (last : X) → join_with_byte byte (map text_of (front ++ last ∷ [])) ≡ flat_map with_byte front ++ text_of last
+  joined_pushed [] last = refl
+  joined_pushed (x ∷ []) last = simp (append-nil, append_assoc) refl
+  joined_pushed (x ∷ y ∷ front) last =
+      ap (λ (bytes : List ℕ). text_of x ++ (byte ∷ bytes)) (joined_pushed (y ∷ front) last)
+      ∙ sym (append_assoc (with_byte x) (flat_map with_byte (y ∷ front)) (text_of last) ∙ append_assoc (text_of x) (byte ∷ []) (flat_map with_byte (y ∷ front) ++ text_of last))
 
 -- ---- lines of members
 

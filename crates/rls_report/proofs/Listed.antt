@@ -67,3 +67,13 @@ ids_listed epoch runs =
     let name = name_writes epoch in
     let list = list_writes run_data json_run run_writes runs in
     (rw (name.1, list.1) refl, ap₂ (λ (first : List ℕ) (second : List ℕ). (codes "{\"epoch\":" ++ (first ++ (codes ",\"runs\":" ++ (second ++ codes "}")))) ++ 10 ∷ []) name.0 list.0 ∙ simp append_assoc refl)
+
+-- the line, piece by piece
+pub pieces_listed : (epoch : EpochName) (runs : List (List Tuple × ℕ)) (a b c d e : List ℕ) → a ≡ codes "{\"epoch\":" → b ≡ a ++ json_name epoch → c ≡ b ++ codes ",\"runs\":[" → d ≡ c ++ join_with_byte 44 (map json_run runs) → e ≡ d ++ codes "]}\n" → e ≡ ids_text epoch runs
+unfolding ids_text
+pieces_listed epoch runs a b c d e f g h i j =
+    let one : b ≡ codes "{\"epoch\":" ++ json_name epoch = g ∙ ap (λ (bytes : List ℕ). bytes ++ json_name epoch) f in
+    let two : c ≡ (codes "{\"epoch\":" ++ json_name epoch) ++ codes ",\"runs\":[" = h ∙ ap (λ (bytes : List ℕ). bytes ++ codes ",\"runs\":[") one in
+    let list = join_with_byte 44 (map json_run runs) in
+    let three : d ≡ ((codes "{\"epoch\":" ++ json_name epoch) ++ codes ",\"runs\":[") ++ list = i ∙ ap (λ (bytes : List ℕ). bytes ++ list) two in
+    j ∙ ap (λ (bytes : List ℕ). bytes ++ codes "]}\n") three ∙ simp append_assoc refl

@@ -1,93 +1,99 @@
 //! The listing of identifiers.
 
-ghost use Rattle.std.specs.Prelude.{◌≡◌, IfOk, map, string_bytes};
-ghost use Rattle.serde_json.specs.Data.{array};
-ghost use Rattle.serde_json.specs.View.{view, items_of};
+ghost use Rattle.std.specs.Prelude.{◌≡◌, ◌++◌, ◌∷◌, [], IfOk, OnOk, map, string_bytes};
+ghost use Rattle.std.specs.List.{join_with_byte};
+ghost use Rattle.serde_json.specs.Written.{compact_text};
 ghost use Rattle.rls_model.specs.Receiving.{State};
 ghost use Rattle.rls_seen.specs.Stands.{StandsFor};
-ghost use Rattle.rls_report.specs.Listing.{tuple_data, ident_data, name_data, run_data, ids_data, ids_text, ids_of, ids_over};
+ghost use Rattle.rls_report.specs.Listing.{json_tuple, json_name, json_run, ids_data, ids_text, ids_of, ids_over};
 
 use rls_ident::{EpochName, Ident, Tuple};
 use rls_replica::Replica;
 use rls_runs::Run;
-use serde_json::{Value, json};
 use std::alloc::{AllocError, Global};
 
-fn tuple_value(alloc: Global, tuple: Tuple) -> Result<Value, AllocError>
-    ensures data { IfOk result (λ value. view value ≡ tuple_data tuple) }
+fn put_tuple(text: &mut String, tuple: Tuple) -> Result<(), AllocError>
+    ensures ok { OnOk result (string_bytes text.new ≡ string_bytes text.old ++ json_tuple tuple) }
 {
     match tuple {
-        Tuple::Low => json!(in alloc; "low"),
+        Tuple::Low => text.push_str("\"low\""),
         Tuple::At {
             pos,
             replica,
             seq,
             offset,
-        } => json!(in alloc; [pos, replica, seq, offset]),
-        Tuple::High => json!(in alloc; "high"),
+        } => write!(text, "[{pos},{replica},{seq},{offset}]"),
+        Tuple::High => text.push_str("\"high\""),
     }
 }
 
-fn ident_value(alloc: Global, ident: &Ident) -> Result<Value, AllocError>
-    ensures data { IfOk result (λ value. view value ≡ ident_data ident.now) }
+// The tuples, with a comma between two.
+fn put_tuples(text: &mut String, ident: &Ident) -> Result<(), AllocError>
+    ensures ok { OnOk result (string_bytes text.new ≡ string_bytes text.old ++ join_with_byte 44 (map json_tuple ident.now)) }
 {
-    let mut tuples = Vec::with_capacity(alloc, ident.len())?;
     for tuple in ident.front() {
-        tuples.push(tuple_value(alloc, *tuple)?)?;
+        put_tuple(text, *tuple)?;
+        text.push(',')?;
     }
-    tuples.push(tuple_value(alloc, ident.last().as_tuple())?)?;
-    Ok(Value::Array(tuples))
+    put_tuple(text, ident.last().as_tuple())?;
+    Ok(())
 }
 
-fn name_value(alloc: Global, name: EpochName) -> Result<Value, AllocError>
-    ensures data { IfOk result (λ value. view value ≡ name_data name) }
+fn put_name(text: &mut String, name: EpochName) -> Result<(), AllocError>
+    ensures ok { OnOk result (string_bytes text.new ≡ string_bytes text.old ++ json_name name) }
 {
     match name {
-        EpochName::Origin => Ok(Value::Null),
-        EpochName::Of { replica, seq } => json!(in alloc; [replica, seq]),
+        EpochName::Origin => text.push_str("null"),
+        EpochName::Of { replica, seq } => write!(text, "[{replica},{seq}]"),
     }
 }
 
-fn run_value(alloc: Global, run: &Run) -> Result<Value, AllocError>
-    ensures data { IfOk result (λ value. view value ≡ run_data run.now) }
+fn put_run(text: &mut String, run: &Run) -> Result<(), AllocError>
+    ensures ok { OnOk result (string_bytes text.new ≡ string_bytes text.old ++ json_run run.now) }
 {
-    let first = ident_value(alloc, run.first())?;
+    text.push_str("{\"first\":[")?;
+    put_tuples(text, run.first())?;
+    text.push_str("],\"length\":")?;
     let length = run.len();
-    json!(in alloc; {"first": first, "length": length})
+    write!(text, "{length}")?;
+    text.push('}')?;
+    Ok(())
 }
 
-fn runs_value(alloc: Global, runs: &[Run]) -> Result<Value, AllocError>
-    ensures data { IfOk result (λ value. view value ≡ array (items_of (map run_data runs.now))) }
+// The runs, with a comma between two.
+fn put_runs(text: &mut String, runs: &[Run]) -> Result<(), AllocError>
+    ensures ok { OnOk result (string_bytes text.new ≡ string_bytes text.old ++ join_with_byte 44 (map json_run runs.now)) }
 {
-    let mut values = Vec::with_capacity(alloc, runs.len())?;
-    for run in runs {
-        values.push(run_value(alloc, run)?)?;
+    let Some((last, front)) = runs.split_last() else {
+        return Ok(());
+    };
+    for run in front {
+        put_run(text, run)?;
+        text.push(',')?;
     }
-    Ok(Value::Array(values))
+    put_run(text, last)?;
+    Ok(())
 }
 
-fn ids_value(alloc: Global, epoch: EpochName, runs: &[Run]) -> Result<Value, AllocError>
-    ensures data { IfOk result (λ value. view value ≡ ids_data epoch runs.now) }
-{
-    let epoch = name_value(alloc, epoch)?;
-    let runs = runs_value(alloc, runs)?;
-    json!(in alloc; {"epoch": epoch, "runs": runs})
-}
-
-// The line of JSON that lists an epoch and runs, with its line feed.
+// The line of JSON that lists an epoch and runs, with its line feed: the compact text of the data.
 #[tactic(auto, using(crate::proofs::Listed::ids_listed))]
 fn ids_line(alloc: Global, epoch: EpochName, runs: &[Run]) -> Result<String, AllocError>
     ensures line { IfOk result (λ line. string_bytes line ≡ ids_text epoch runs.now) }
+    ensures data { IfOk result (λ line. string_bytes line ≡ compact_text (ids_data epoch runs.now) ++ 10 ∷ []) }
 {
-    let value = ids_value(alloc, epoch, runs)?;
-    let mut line = value.to_string(alloc)?;
-    line.push('\n')?;
+    let mut line = String::new(alloc);
+    line.push_str("{\"epoch\":")?;
+    put_name(&mut line, epoch)?;
+    line.push_str(",\"runs\":[")?;
+    put_runs(&mut line, runs)?;
+    line.push_str("]}\n")?;
     Ok(line)
 }
 
 /// The line of JSON that lists the replica's greatest epoch and the maximal runs of the identifiers of its text, with its line feed.
 ///
-/// The time is that of `Replica::runs`, and linear in the number of tuples of the runs' first identifiers.
+/// The time is that of `Replica::runs`, and linear in the number of tuples of the runs' first identifiers. Beside the line it takes
+/// memory for one copy of these identifiers.
 ///
 /// # Errors
 ///

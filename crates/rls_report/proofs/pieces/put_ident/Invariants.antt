@@ -1,7 +1,8 @@
 use Rattle.std.proofs.Common.{◌≡◌, ◌++◌, string_bytes, take}
 use Rattle.std.specs.List.{flat_map}
-use Rattle.rls_report.proofs.Joined.{with_slash}
+use Rattle.rls_report.specs.Texts.{tuple_text}
+use Rattle.rls_report.proofs.Joined.{with_byte}
 use Rattle.rls_report.proofs.pieces.put_ident.Given as goal
 
 abbrev pub invariant-loop-tuple : goal.invariant-loop-tuple
-invariant-loop-tuple l = string_bytes l.text ≡ string_bytes l.fn.text ++ flat_map with_slash (take l.tuple-index l.tuple-items)
+invariant-loop-tuple l = string_bytes l.text ≡ string_bytes l.fn.text ++ flat_map (with_byte tuple_text 47) (take l.tuple-index l.tuple-items)

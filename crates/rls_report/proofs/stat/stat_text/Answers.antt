@@ -1,4 +1,4 @@
-use Rattle.std.proofs.Common.{rules, ◌≡◌, ◌∙◌, IfOk, Result, Ok, Err, string_bytes}
+use Rattle.std.proofs.Common.{rules, ◌∙◌, IfOk, Result, Ok, Err}
 use Rattle.rls_report.proofs.Numbers.{stat_alike}
 use Rattle.rls_report.proofs.stat.stat_text.Goals as goal
 
