@@ -1,8 +1,9 @@
 //! Grapheme clusters before a position.
 
-ghost use Rattle.std.specs.Prelude.{◌≡◌, length};
+ghost use Rattle.std.specs.Prelude.{◌≡◌, true, map, length};
 ghost use Rattle.std.specs.Str.{IsUtf8, chars};
-ghost use Rattle.rls_script.specs.Clusters.{cluster_before};
+ghost use Rattle.unicode_segmentation.specs.Grapheme.{graphemes};
+ghost use Rattle.rls_script.specs.Clusters.{cluster_before, clusters_of};
 
 use thiserror::Error;
 use unicode_segmentation::UnicodeSegmentation;
@@ -32,7 +33,10 @@ fn char_count(text: &str) -> u64
 /// `at` is elsewhere and no extended grapheme cluster ends there. It takes no memory, and reads the
 /// text once, no further than `at` but where it fails by `Range`.
 pub fn cluster_before(text: &str, at: u64) -> Result<u64, ClusterError>
-    ensures cluster { result ≡ cluster_before text.now at }
+    ensures cluster { result ≡ cluster_before (chars text.now) at }
+
+    // The clusters are those that `unicode_segmentation` tells of the bytes.
+    ensures clusters { map chars (graphemes true text.now) ≡ clusters_of (chars text.now) }
 {
     if at == 0 {
         return Err(ClusterError::Range {

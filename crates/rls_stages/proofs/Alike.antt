@@ -1,6 +1,5 @@
 -- A line of a script is read alike over what a replica consists of and over a history that it stands for.
 use Rattle.std.proofs.Common.{◌≡◌, ◌∙◌, ℕ, List, Option, Result, Ok, Err, refl, ap}
-use Rattle.std.specs.Prelude.{encode_utf8_all}
 use Rattle.rls_model.specs.declared.edit.Edit.{Edit}
 use Rattle.rls_model.specs.declared.edit.Edit.TheVariants as edits
 use Rattle.rls_model.specs.declared.edit.EditError.{EditError}
@@ -31,7 +30,7 @@ lines_alike s t (Insert at cs) h = allowed_alike s t (edits.Insert at cs) h
 lines_alike s t (Delete at n) h = allowed_alike s t (edits.Delete at n) h
 lines_alike s t Rename h = allowed_alike s t edits.Rename h
 lines_alike s t (Back at) h =
-    go (cluster_before (encode_utf8_all (text_over s)) at) ∙ ap (λ (cs : List ℕ). backward_by fault_in t at (cluster_before (encode_utf8_all cs) at)) (text_alike s t h)
+    go (cluster_before (text_over s) at) ∙ ap (λ (cs : List ℕ). backward_by fault_in t at (cluster_before cs at)) (text_alike s t h)
   where
     go : (r : Result ℕ ClusterError) → backward_by edit_fault_over s at r ≡ backward_by fault_in t at r
     go (Ok from) = allowed_alike s t (edits.Delete from _) h

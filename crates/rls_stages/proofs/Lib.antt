@@ -1,4 +1,3 @@
 pub mod Alike
-mod Clusters
 pub mod Files
 pub mod Meant

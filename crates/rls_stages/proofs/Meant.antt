@@ -1,6 +1,6 @@
 -- A line of a script is a well formed edit, and none that is refused is made.
-use Rattle.std.proofs.Common.{◌≡◌, ◌∙◌, ◌<◌, ◌≤◌, ◌-◌, ◌^◌, ℕ, suc, Bool, true, false, cond, List, [], ◌∷◌, ◌++◌, length, Option, Some, None, Result, Ok, Err, refl, sym, ap, subst, arith, inl, inr, zero, lit<, append_assoc, get_or}
-use Rattle.std.specs.Prelude.{slice_index, ◌&&◌, ◌==◌, nat_lt, bytes_eq, codes, encode_utf8_all, option_and_then}
+use Rattle.std.proofs.Common.{◌≡◌, ◌∙◌, ◌<◌, ◌≤◌, ◌-◌, ◌^◌, ℕ, suc, Bool, true, false, cond, List, [], ◌∷◌, ◌++◌, length, Option, Some, None, Result, Ok, Err, refl, sym, ap, subst, arith, zero, lit<, append_assoc, get_or}
+use Rattle.std.specs.Prelude.{slice_index, ◌&&◌, ◌==◌, nat_lt, bytes_eq, codes, option_and_then}
 use Rattle.std.proofs.lemmas.Bool.Decides.{nat_tests}
 use Rattle.std.proofs.Math.Utf8.{scalar}
 use Rattle.std.specs.Fmt.{decimal}
@@ -29,7 +29,7 @@ use Rattle.rls_script.specs.declared.lines.Line.TheVariants.{Insert, Delete, Bac
 use Rattle.rls_seen.specs.Edits.{edit_fault_over}
 use Rattle.rls_seen.specs.Seen.{Seen, text_over}
 use Rattle.rls_stages.specs.Lines.{allowed, backward_by, line_fault_of, read_line}
-use Rattle.rls_stages.proofs.Clusters.{cluster_begins}
+use Rattle.rls_script.proofs.Begins.{cluster_begins}
 
 -- ---- what lines mean
 
@@ -60,7 +60,7 @@ backward_well s at (Err (clusters.NotBoundary p)) l begins = tt
 pub line_well : (s : Seen) (l : Line) → IsLine l → IsMeantWell s (read_line s l)
 line_well s (Insert at cs) w = allowed_well s (edits.Insert at cs) w
 line_well s (Delete at n) w = allowed_well s (edits.Delete at n) w
-line_well s (Back at) w = backward_well s at (cluster_before (encode_utf8_all (text_over s)) at) w (λ f e. cluster_begins (encode_utf8_all (text_over s)) at f e)
+line_well s (Back at) w = backward_well s at (cluster_before (text_over s) at) w (λ f e. cluster_begins (text_over s) at f e)
 line_well s Rename w = allowed_well s edits.Rename tt
 
 -- ---- characters

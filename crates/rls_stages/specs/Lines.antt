@@ -1,5 +1,5 @@
 -- A line of a script as an edit, read over what a replica consists of, and over a history.
-use Rattle.std.specs.Prelude.{ℕ, ◌-◌, List, [], ◌∷◌, encode_utf8_all, Option, Some, None, Result, Ok, Err}
+use Rattle.std.specs.Prelude.{ℕ, ◌-◌, List, Option, Some, None, Result, Ok, Err}
 use Rattle.rls_model.specs.declared.edit.Edit.{Edit}
 use Rattle.rls_model.specs.declared.edit.Edit.TheVariants as edits
 use Rattle.rls_model.specs.declared.edit.EditError.{EditError}
@@ -49,7 +49,7 @@ backward_by fault x at (Err (clusters.NotBoundary p)) = Err (faults.NotBoundary 
 abbrev pub line_by : {X : Type 0} → (X → Edit → Option EditError) → (X → List ℕ) → X → Line → Result Edit LineFault
 line_by fault text x (Insert at cs) = allowed_by fault x (edits.Insert at cs)
 line_by fault text x (Delete at n) = allowed_by fault x (edits.Delete at n)
-line_by fault text x (Back at) = backward_by fault x at (cluster_before (encode_utf8_all (text x)) at)
+line_by fault text x (Back at) = backward_by fault x at (cluster_before (text x) at)
 line_by fault text x Rename = allowed_by fault x edits.Rename
 
 -- ---- over what a replica consists of

@@ -11,8 +11,11 @@ use crate::errors::{LineError, refused};
 use rls_model::Edit;
 use rls_replica::Replica;
 use rls_report::LineFault;
-use rls_script::{ClusterError, Line, cluster_before};
+use rls_script::{ClusterError, Line, cluster_in};
 use std::alloc::AllocError;
+
+/// How far before a position its grapheme cluster is looked for first, in characters.
+const FIRST_REACH: u64 = 8;
 
 /// The text in UTF-8. The time is linear in its length.
 pub fn utf8_text(replica: &Replica) -> Result<String, AllocError>
@@ -24,7 +27,9 @@ pub fn utf8_text(replica: &Replica) -> Result<String, AllocError>
 
 /// Performs a line: makes the edit that it means. After an error the replica is as before.
 ///
-/// The time is that of the edit, and for a line `b` also linear in the length of the text up to its position.
+/// The time is that of the edit. A line `b` also reads the text before its position, at most four times as far as to the last
+/// character before the cluster past which no rule on clusters looks, and a few characters more; each costs a step for each level
+/// of the tree.
 pub fn perform_line(replica: &mut Replica, line: &Line) -> Result<(), LineError>
     ensures made { OnOk result (IsEdited replica.old (read_line replica.old line.now) replica.new) }
     ensures refused { IfErr result (λ e. IsRefused e (read_line replica.old line.now)) }
@@ -58,12 +63,12 @@ pub fn edit_of(replica: &Replica, line: &Line) -> Result<Edit, LineError>
 
 // The deletion of the grapheme cluster that ends at this position.
 fn backward(replica: &Replica, at: u64) -> Result<Edit, LineError>
-    ensures meant { IfOk result (λ edit. backward_by edit_fault_over replica.now at (cluster_before (encode_utf8_all (text_over replica.now)) at) ≡ allowed replica.now edit) }
-    ensures refused { IfErr result (λ e. IsRefused e (backward_by edit_fault_over replica.now at (cluster_before (encode_utf8_all (text_over replica.now)) at))) }
+    ensures meant { IfOk result (λ edit. backward_by edit_fault_over replica.now at (cluster_before (text_over replica.now) at) ≡ allowed replica.now edit) }
+    ensures refused { IfErr result (λ e. IsRefused e (backward_by edit_fault_over replica.now at (cluster_before (text_over replica.now) at))) }
 {
-    match utf8_text(replica) {
+    match cluster_at(replica, at) {
         Err(_) => Err(LineError::OutOfMemory),
-        Ok(text) => match cluster_before(text.as_str(), at) {
+        Ok(found) => match found {
             Ok(from) => Ok(Edit::Delete {
                 at: from,
                 count: at - from,
@@ -71,6 +76,27 @@ fn backward(replica: &Replica, at: u64) -> Result<Edit, LineError>
             Err(ClusterError::Range { at, total }) => Err(refused(LineFault::Range { at, total })),
             Err(ClusterError::NotBoundary { at }) => Err(refused(LineFault::NotBoundary { at })),
         },
+    }
+}
+
+// Where the grapheme cluster that ends at this position begins. A window of the text is read, from a few characters before the
+// position to the one after it, and then one that reaches twice as far back, until the window tells it.
+fn cluster_at(replica: &Replica, at: u64) -> Result<Result<u64, ClusterError>, AllocError>
+    ensures found { IfOk result (λ found. found ≡ cluster_before (text_over replica.now) at) }
+{
+    let total = replica.total();
+    if at == 0 || at > total {
+        return Ok(Err(ClusterError::Range { at, total }));
+    }
+    let end = total.min(at + 1);
+    let mut reach = FIRST_REACH;
+    loop {
+        let from = at.saturating_sub(reach);
+        let window = replica.text_of(from, end - from)?;
+        if let Some(found) = cluster_in(window, from, at)? {
+            return Ok(found);
+        }
+        reach = reach.saturating_mul(2);
     }
 }
 

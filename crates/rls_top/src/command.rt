@@ -69,7 +69,8 @@ use std::alloc::Global;
 /// The file changes with the statuses 0, 5 and 9 alone. With 7 or 10 it may be impossible to say: a keeper whose `store` failed doesn't
 /// tell its file until the next `load`. With every other status it is as before.
 ///
-/// The cost is that of reading the file and of the work of the replica; a script's lines `b` each read the text up to their position.
+/// The cost is that of reading the file and of the work of the replica; a script's lines `b` each read the text around
+/// the grapheme cluster that they delete (`perform_line` of `rls_stages`).
 /// A file of form 1 is read by receiving its operations one after another. The file is written once, from one buffer.
 pub fn run<K: Keeper, S: Source, W: Sink, E: Sink>(
     alloc: Global,

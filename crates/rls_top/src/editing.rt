@@ -20,7 +20,7 @@ use std::alloc::Global;
 
 /// Performs a script.
 ///
-/// The time is that of the edits, and for each line `b` also linear in the length of the text up to its position.
+/// The time is that of the edits, and for each line `b` that of the characters before its position that it reads (`perform_line`).
 pub(crate) fn edit(alloc: Global, replica: &mut Replica, script: &[u8]) -> Result<Made, WorkError>
     ensures due { IsDue of_work result (due_of_script replica.old (script_of script.now)) }
     ensures stored { IfOk result (λ made. IsSome made.stored) }

@@ -1,10 +1,10 @@
 use Rattle.std.proofs.Common.{sym, arith}
 use Rattle.unicode_segmentation.specs.Iter.{graphemes_left}
-use Rattle.rls_script.proofs.Places.{starts, goes_on, ends, passes, is_zero, is_above}
+use Rattle.rls_script.proofs.Places.{clusters_read, starts, goes_on, ends, passes, is_zero, is_above}
 use Rattle.rls_script.proofs.clusters.cluster_before.Goals as goal
 
 pub returns-then-at-eq0 : goal.returns-then-at-eq0
-returns-then-at-eq0 c = record { cluster = rw c.char_count.ensures.count (sym (is_zero c.args.text.now c.args.at c.if-at-eq0.true)) }
+returns-then-at-eq0 c = record { cluster = rw c.char_count.ensures.count (sym (is_zero c.args.text.now c.args.at c.if-at-eq0.true)); clusters = clusters_read c.args.text.now c.utf8.text }
 
 pub loop-cluster-init : goal.loop-cluster-init
 loop-cluster-init c =
@@ -16,6 +16,7 @@ returns-then-len-at c =
     record {
       cluster = sym (ends c.args.text.now c.args.at c.loop-cluster.begin c.in-Some.cluster.now (graphemes_left c.next.new.self) c.char_count-len.ensures.utf8 place
           (omega (arith, place.below, c.char_count-len.ensures.count, c.if-len-at.true)));
+      clusters = clusters_read c.args.text.now c.utf8.text;
     }
 
 pub returns-then-len-at-2 : goal.returns-then-len-at-2
@@ -24,6 +25,7 @@ returns-then-len-at-2 c =
     record {
       cluster = sym (passes c.args.text.now c.args.at c.loop-cluster.begin c.in-Some.cluster.now (graphemes_left c.next.new.self) c.char_count-len.ensures.utf8 place
           (omega (arith, place.below, c.char_count-len.ensures.count, c.if-len-at-2.true)));
+      clusters = clusters_read c.args.text.now c.utf8.text;
     }
 
 pub loop-cluster-preserved : goal.loop-cluster-preserved
@@ -34,4 +36,4 @@ loop-cluster-preserved c =
     (omega (arith, place.below, c.char_count-len.ensures.count, c.if-len-at.false, c.if-len-at-2.false)))
 
 pub returns : goal.returns
-returns c = record { cluster = sym (is_above c.args.text.now c.args.at c.loop-cluster.begin (rw c.in-None.ensures.steps.0 at c.loop-cluster.invariant)) }
+returns c = record { cluster = sym (is_above c.args.text.now c.args.at c.loop-cluster.begin (rw c.in-None.ensures.steps.0 at c.loop-cluster.invariant)); clusters = clusters_read c.args.text.now c.utf8.text }
