@@ -1,13 +1,10 @@
--- What a stop leaves of the disk, from the calls of the keeper that a command makes.
+-- What a stop leaves of the disk, from the calls of the keeper that a command or a session makes.
 use Rattle.std.proofs.Common.{◌≡◌, ◌≢◌, ◌∙◌, ⊎_elim, inl, inr, ℕ, Bool, true, false, List, Option, Some, None, IfSome, IsTrue, IsFalse, refl, sym, subst, arith}
 use Rattle.rls_journal.specs.Areas.{Areas, kept}
 use Rattle.rls_journal.specs.Disk.{LeavesOnly}
 use Rattle.rls_journal.specs.Keeper.{IsAtRest, IsOldOrNew, LoadGives, StoreGives}
 use Rattle.rls_journal.specs.Slots.{HasStored}
-use Rattle.rls_top.specs.Calls.{Calls, CallsNothing, FailsToLoad, FailsToStore, IsKeepersStatus, Loads, Stores}
-use Rattle.rls_top.specs.Due.{Due, calls_keeper, may_store}
-use Rattle.rls_top.specs.Endings.{IsStored}
-use Rattle.rls_top.specs.declared.words.Command.{Command}
+use Rattle.rls_stages.specs.Calls.{CallsNothing, CallsOf, FailsToLoad, FailsToStore, IsKeepersStatus, Loads, Stores}
 use Rattle.rls_durable.specs.Stops.{HasDue, IsOld, LeavesOldOrDue}
 
 -- what is said of a value that is there
@@ -20,14 +17,6 @@ to_some (Some x) P f = f x refl
 
 both : {X : Type 0} (b : Bool) → IsTrue b → IsFalse b → X
 both b is isnt = absurd (let never : true ≡ false = sym is ∙ isnt in cc)
-
-apart : (n : ℕ) → IsKeepersStatus n → IsStored n → ⊥
-apart n (inl a) (inl b) = omega (arith, a, b)
-apart n (inl a) (inr (inl b)) = omega (arith, a, b)
-apart n (inl a) (inr (inr b)) = omega (arith, a, b)
-apart n (inr a) (inl b) = omega (arith, a, b)
-apart n (inr a) (inr (inl b)) = omega (arith, a, b)
-apart n (inr a) (inr (inr b)) = omega (arith, a, b)
 
 module _ {D : Type 0} (seen : D → Option Areas) (may_leave : D → Areas → Type 0) (moment : D → ℕ) (left_since : D → ℕ → Areas → Type 0) (only : (disk : D) (c : Areas) → left_since disk (moment disk) c → may_leave disk c) where
   -- a disk of which a stop leaves this file
@@ -65,37 +54,40 @@ module _ {D : Type 0} (seen : D → Option Areas) (may_leave : D → Areas → T
       go None h = subst (λ o. IfSome o (λ s. (c : Areas) → may_leave new c → kept c ≡ kept s)) (sym h) tt
       go (Some old) h = subst (λ o. IfSome o (λ s. (c : Areas) → may_leave new c → kept c ≡ kept s)) (sym h.1) (λ c left. h.3 c left ∙ sym h.2)
 
-  module _ {K : Type 0} (disk : K → D) (c : Option Command) (d : Option Due) (unread : Type 0) (n : ℕ) (old new : K) where
+  module _ {K : Type 0} (disk : K → D) (needs stores : Bool) (IsDue : List ℕ → Type 0) (Surely Perhaps : ℕ → Type 0) (untouched : Type 0) (n : ℕ) (old new : K) where
     abbrev load : K → Bool → K → Type 0
     load before ok after = LoadGives seen may_leave moment left_since ok (disk before) (disk after)
 
     abbrev store : K → List ℕ → Bool → K → Type 0
     store before bytes ok after = StoreGives seen may_leave moment left_since bytes ok (disk before) (disk after)
 
-    survived_at : (s : Areas) → seen (disk old) ≡ Some s → Keeps (disk old) (kept s) → Calls load store c d unread n old new → LeavesOldOrDue moment left_since (may_store c) d (kept s) (disk old) (disk new)
+    abbrev Leaves : Option (List ℕ) → Type 0
+    Leaves before = LeavesOldOrDue moment left_since stores IsDue before (disk old) (disk new)
+
+    survived_at : (s : Areas) → seen (disk old) ≡ Some s → Keeps (disk old) (kept s) → CallsOf load store needs stores IsDue Surely Perhaps untouched n old new → Leaves (kept s)
     survived_at s is rest (CallsNothing same none at) = inl (subst (λ (k : K). LeavesOnly moment left_since (disk old) (disk k) (IsOld (kept s))) (sym same) (uncalled_only (disk old) (kept s) rest))
     survived_at s is rest (FailsToLoad l at u) = inl (loaded_only false (disk old) (disk new) (kept s) rest l)
     survived_at s is rest (Loads l at u) = inl (loaded_only true (disk old) (disk new) (kept s) rest l)
-    survived_at s is rest (FailsToStore l may at) = inr (may, (l.bytes, l.due, stored_only l.bytes false (disk old) (disk l.between) (disk new) s is rest l.loaded l.stored))
-    survived_at s is rest (Stores l may at) = inr (may, (l.bytes, l.due, stored_only l.bytes true (disk old) (disk l.between) (disk new) s is rest l.loaded l.stored))
+    survived_at s is rest (FailsToStore l some at) = inr (some, (l.bytes, l.due, stored_only l.bytes false (disk old) (disk l.between) (disk new) s is rest l.loaded l.stored))
+    survived_at s is rest (Stores l some at) = inr (some, (l.bytes, l.due, stored_only l.bytes true (disk old) (disk l.between) (disk new) s is rest l.loaded l.stored))
 
     -- a stop at any moment
-    pub survived : Calls load store c d unread n old new → IsAtRest seen may_leave (disk old) → IfSome (seen (disk old)) (λ s. LeavesOldOrDue moment left_since (may_store c) d (kept s) (disk old) (disk new))
-    survived calls rest = to_some (seen (disk old)) (λ s. LeavesOldOrDue moment left_since (may_store c) d (kept s) (disk old) (disk new)) (λ s is. survived_at s is (at_some (seen (disk old)) (λ s. Keeps (disk old) (kept s)) s is rest) calls)
+    pub survived : CallsOf load store needs stores IsDue Surely Perhaps untouched n old new → IsAtRest seen may_leave (disk old) → IfSome (seen (disk old)) (λ s. LeavesOldOrDue moment left_since stores IsDue (kept s) (disk old) (disk new))
+    survived calls rest = to_some (seen (disk old)) (λ s. Leaves (kept s)) (λ s is. survived_at s is (at_some (seen (disk old)) (λ s. Keeps (disk old) (kept s)) s is rest) calls)
 
-    -- after a command that stored
-    pub kept_due : Calls load store c d unread n old new → IsTrue (may_store c) → IsStored n → HasDue seen may_leave d (disk old) (disk new)
-    kept_due (CallsNothing same none shows) may at = both (may_store c) may (shows at)
-    kept_due (FailsToLoad l fails u) may at = absurd (apart n fails at)
-    kept_due (Loads l at shows) may stored = both (may_store c) may (shows stored)
-    kept_due (FailsToStore l m fails) may at = absurd (apart n fails at)
-    kept_due (Stores l m at) may stored = (l.bytes, l.due, subst (λ o. HasStored l.bytes o (seen (disk new)) (may_leave (disk new))) l.loaded.unchanged.same (l.stored.stored refl))
+    -- after a status with which the file is stored
+    pub kept_due : CallsOf load store needs stores IsDue Surely Perhaps untouched n old new → (IsKeepersStatus n → Surely n → ⊥) → IsTrue stores → Surely n → HasDue seen may_leave IsDue (disk old) (disk new)
+    kept_due (CallsNothing same none shows) apart some at = both stores some (shows at)
+    kept_due (FailsToLoad l fails u) apart some at = absurd (apart fails at)
+    kept_due (Loads l other shows) apart some at = both stores some (shows at)
+    kept_due (FailsToStore l m fails) apart some at = absurd (apart fails at)
+    kept_due (Stores l m perhaps) apart some at = (l.bytes, l.due, subst (λ o. HasStored l.bytes o (seen (disk new)) (may_leave (disk new))) l.loaded.unchanged.same (l.stored.stored refl))
 
     -- at rest
-    pub rests_again : Calls load store c d unread n old new → IsTrue (calls_keeper c) → n ≢ 7 → n ≢ 10 → IsAtRest seen may_leave (disk new)
-    rests_again (CallsNothing same (inl none) shows) calls seven ten = both (calls_keeper c) calls none
+    pub rests_again : CallsOf load store needs stores IsDue Surely Perhaps untouched n old new → IsTrue needs → n ≢ 7 → n ≢ 10 → IsAtRest seen may_leave (disk new)
+    rests_again (CallsNothing same (inl none) shows) calls seven ten = both needs calls none
     rests_again (CallsNothing same (inr fails) shows) calls seven ten = absurd (ten fails)
     rests_again (FailsToLoad l at u) calls seven ten = absurd (⊎_elim seven ten at)
     rests_again (Loads l at u) calls seven ten = l.rest refl
-    rests_again (FailsToStore l may at) calls seven ten = absurd (⊎_elim seven ten at)
-    rests_again (Stores l may at) calls seven ten = stored_rest l.bytes (disk l.between) (disk new) (l.stored.stored refl)
+    rests_again (FailsToStore l some at) calls seven ten = absurd (⊎_elim seven ten at)
+    rests_again (Stores l some at) calls seven ten = stored_rest l.bytes (disk l.between) (disk new) (l.stored.stored refl)

@@ -3,6 +3,7 @@
 ghost use Rattle.std.specs.Prelude.{◌≢◌, map, string_bytes, IfSome, IsTrue};
 ghost use Rattle.rls_journal.specs.Areas.{kept};
 ghost use Rattle.rls_journal.specs.Keeper.{IsAtRest, disk_of, file_told};
+ghost use Rattle.rls_top.specs.Calls.{IsDueOf};
 ghost use Rattle.rls_top.specs.Due.{calls_keeper, due, may_store};
 ghost use Rattle.rls_top.specs.Endings.{IsStored};
 ghost use Rattle.rls_top.specs.Words.{command_of};
@@ -30,11 +31,11 @@ pub fn run_on_disk<D: Disk, S: Source, W: Sink, E: Sink>(
 ) -> u8
     // Within the command and after it.
     ensures any_moment { IsAtRest D.seen D.may_leave (disk_of keeper.old) → IfSome (D.seen (disk_of keeper.old)) (λ s.
-        LeavesOldOrDue D.moment D.left_since (may_store (command_of (map string_bytes words.now))) (due (map string_bytes words.now) (file_told D.seen keeper.old) (S.left input.old)) (kept s) (disk_of keeper.old) (disk_of keeper.new)) }
+        LeavesOldOrDue D.moment D.left_since (may_store (command_of (map string_bytes words.now))) (IsDueOf (due (map string_bytes words.now) (file_told D.seen keeper.old) (S.left input.old))) (kept s) (disk_of keeper.old) (disk_of keeper.new)) }
 
     // After it.
     ensures stored { IsTrue (may_store (command_of (map string_bytes words.now))) → IsStored result
-        → HasDue D.seen D.may_leave (due (map string_bytes words.now) (file_told D.seen keeper.old) (S.left input.old)) (disk_of keeper.old) (disk_of keeper.new) }
+        → HasDue D.seen D.may_leave (IsDueOf (due (map string_bytes words.now) (file_told D.seen keeper.old) (S.left input.old))) (disk_of keeper.old) (disk_of keeper.new) }
     ensures rest { IsTrue (calls_keeper (command_of (map string_bytes words.now))) → result ≢ 7 → result ≢ 10 → IsAtRest D.seen D.may_leave (disk_of keeper.new) }
 {
     run(alloc, words, keeper, input, output, errors)

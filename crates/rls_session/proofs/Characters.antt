@@ -16,7 +16,7 @@ use Rattle.rls_model.specs.History.{History, Fresh, Then, Accepted, Acknowledged
 use Rattle.rls_model.specs.Legal.{IsLegal}
 use Rattle.rls_model.proofs.Distinct.{all_append}
 
--- it holds of all where it holds of each
+-- it holds of all if it holds of each
 all_of : {A : Type 0} (P : A → Type 0) (xs : List A) → ((x : A) → IsIn x xs → P x) → All P xs
 all_of P [] f = All-nil P
 all_of P (x ∷ xs) f = All-cons P x xs (f x (inl refl)) (all_of P xs (λ y p. f y (inr p)))

@@ -10,7 +10,7 @@ use Rattle.rls_session.proofs.Cuts.{cut_some}
 abbrev pub Answers : Type 0 → Type 0
 Answers S = S → Request → Answered S
 
--- a course after so many bytes is that of what stands after them
+-- a course after n bytes is that of what comes after them
 pub skipped : {S : Type 0} (answer : Answers S) (n : ℕ) (s : S) (bytes : List ℕ) → course_from answer n s bytes ≡ course answer s (drop n bytes)
 skipped answer zero s bytes = refl
 skipped answer (suc n) s [] = refl
@@ -25,7 +25,7 @@ go_on_alike answer s (Does Quit) size f g e = refl
 go_on_alike answer s (Does order) size f g e = ap (after (answer s (Does order)).reply size) (e (answer s (Does order)).state)
 go_on_alike answer s (Takes message) size f g e = ap (after (answer s (Takes message)).reply size) (e (answer s (Takes message)).state)
 
--- the first request, and what stands after it
+-- the first request, and what comes after it
 pub course_begins : {S : Type 0} (answer : Answers S) (s : S) (bytes : List ℕ) → 0 < length bytes
     → course answer s bytes ≡ go_on answer s (cut bytes).request (cut bytes).size (λ t. course answer t (drop (cut bytes).size bytes))
 course_begins answer s [] h = absurd (omega arith)
@@ -35,7 +35,7 @@ course_begins {S} answer s (b ∷ bytes) h = go_on_alike answer s (cut (b ∷ by
     rest t zero h = absurd (omega arith)
     rest t (suc n) h = ap (λ k. course_from answer k t bytes) (one_less n) ∙ skipped answer n t bytes
 
--- courses are the same where their parts are
+-- courses are the same if their parts are
 same_course : {S : Type 0} (c : Course S) (replies : List ℕ) (s : S) (used : ℕ) → c.replies ≡ replies → c.state ≡ s → c.used ≡ used → c ≡ record { replies = replies; state = s; used = used }
 same_course c replies s used e f g = rw (← e, ← f, ← g) refl
 

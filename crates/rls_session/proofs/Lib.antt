@@ -8,6 +8,7 @@ pub mod Loop
 pub mod Whole
 pub mod Answered
 pub mod Served
+pub mod Called
 pub mod Characters
 pub mod Agreeing
 pub mod Histories

@@ -87,7 +87,7 @@ used_most {S} answer s bytes k some quit other =
     go (Does order) n f q o = omega arith
     go (Takes message) n f q o = omega arith
 
--- where no whole line waits, at least what waits
+-- if no whole line waits, at least what waits
 pub used_no_line : {S : Type 0} (answer : Answers S) (s : S) (waiting rest : List ℕ) → position_or_len is_line_feed waiting ≡ length waiting → length waiting ≤ (course answer s (waiting ++ rest)).used
 unfolding cut
 used_no_line answer s [] rest none = omega arith
@@ -101,7 +101,7 @@ used_no_line answer s (w ∷ ws) rest none =
     (λ q. let one = quit_letter (before_first is_line_feed bytes) (cut_quit (order_of (before_first is_line_feed bytes)) (drop (line_size bytes) bytes) q) in omega arith)
     (omega arith)
 
--- where the message of the first line doesn't wait whole, at least the line and what waits
+-- if the message of the first line doesn't wait whole, at least the line and what waits
 pub used_no_message : {S : Type 0} (answer : Answers S) (s : S) (bytes waiting rest : List ℕ) (n : ℕ) → 0 < length bytes → order_of (before_first is_line_feed bytes) ≡ Take n → drop (line_size bytes) bytes ≡ waiting ++ rest → length waiting < n
     → line_size bytes + length waiting ≤ (course answer s bytes).used
 unfolding cut

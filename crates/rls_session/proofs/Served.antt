@@ -1,5 +1,6 @@
 -- How a session ends, from its parts.
-use Rattle.std.proofs.Common.{◌≡◌, ◌≢◌, ◌∙◌, ◌⊎◌, ◌<◌, ◌≤◌, ◌||◌, ◌==◌, ℕ, Bool, true, false, eqb, ltb, List, [], ◌++◌, length, take, Option, Some, None, IfSome, IfErr, IfOk, Result, Ok, Err, refl, sym, ap, subst, arith, inl, inr, lit<, append_assoc}
+use Rattle.std.proofs.Common.{◌≡◌, ◌≢◌, ◌∙◌, ◌⊎◌, ◌<◌, ◌≤◌, ℕ, Bool, true, false, eqb, ltb, List, [], ◌++◌, length, take, Option, Some, None, IfSome, IfErr, IfOk, Result, Ok, Err, refl, sym, ap, subst, arith, inl, inr, append_assoc}
+use Rattle.std.specs.Prelude.{option_map, if◌then◌else◌}
 use Rattle.std.proofs.lemmas.Bool.Decides.{nat_tests}
 use Rattle.std.proofs.lemmas.Grind.{common_steps}
 use Rattle.std.proofs.lemmas.List.{append-nil}
@@ -11,21 +12,22 @@ use Rattle.rls_report.specs.declared.failures.CommandError.TheVariants as errors
 use Rattle.rls_report.specs.declared.failures.Fault.TheVariants.{Keeper, Source, Sink, Memory}
 use Rattle.rls_report.specs.declared.failures.Failure.{Failure}
 use Rattle.rls_report.specs.declared.failures.Failure.TheVariants.{NoCommand, Command, Fault}
-use Rattle.rls_report.specs.Failures.{error_status}
+use Rattle.rls_report.specs.Failures.{error_line, error_status}
 use Rattle.rls_stages.specs.declared.errors.OpenError.{OpenError}
 use Rattle.rls_stages.specs.declared.errors.OpenError.TheVariants as opening
 use Rattle.rls_stages.specs.declared.errors.WorkError.{WorkError}
 use Rattle.rls_stages.specs.declared.errors.WorkError.TheVariants as work
 use Rattle.rls_stages.specs.Endings.{IsFailureStatus, IsFault, IsPart, Writes, failure_line_at}
-use Rattle.rls_stages.specs.Errors.{GivesError, of_open, of_work}
-use Rattle.rls_stages.specs.KeptFile.{IsReadBack, IsUsable, Stays, bytes_over, loaded, replica_in, saved}
+use Rattle.rls_stages.specs.Errors.{GivesError, IsOfFile, IsOpenError, of_open, of_work}
+use Rattle.rls_stages.specs.KeptFile.{IsReadBack, IsUsable, Stays, bytes_over, file_limit, loaded, replica_in, saved}
+use Rattle.rls_stages.proofs.Statuses.{apart, failure_at_7, failure_at_8, failure_at_9, failure_line_told, not_error, not_failure}
 use Rattle.rls_session.specs.declared.answering.AnswerError.{AnswerError}
 use Rattle.rls_session.specs.declared.answering.AnswerError.TheVariants.{SourceFault, SinkFault, TooLarge, OutOfMemory}
 use Rattle.rls_session.specs.Answering.{IsDone, IsNear, of_answer}
 use Rattle.rls_session.specs.Answers.{Sitting}
 use Rattle.rls_session.specs.Courses.{Course}
-use Rattle.rls_session.specs.Due.{Due, due, due_of, due_on, ending_status, line_at}
-use Rattle.rls_session.specs.Endings.{Ends, EndsAs, EndsNear, FailsAt, IsEarly, IsKept, IsStatusOf, Leaves, OnSession, Saves, line_of}
+use Rattle.rls_session.specs.Due.{Due, due, due_of, due_on, ending_line, ending_status, line_at}
+use Rattle.rls_session.specs.Endings.{Ends, EndsAs, EndsNear, FailsAt, IsEarly, IsKept, IsSessionsOwn, IsSessionStatus, IsStatusOf, Leaves, OnSession, Saves, line_of}
 use Rattle.rls_session.specs.Replies.{saved_text}
 use Rattle.rls_session.specs.Sessions.{session}
 
@@ -88,7 +90,7 @@ saved_part s r e bytes file new_file old new sink is same back stored wrote = rw
 
 -- ---- what is left
 
-ending_is : (c : Course (Sitting Seen)) → c.used ≤ INPUT_BYTES → (due_of c).ending ≡ saved (c.state).state
+pub ending_is : (c : Course (Sitting Seen)) → c.used ≤ INPUT_BYTES → (due_of c).ending ≡ saved (c.state).state
 ending_is c h = let test : ltb INPUT_BYTES c.used ≡ false = grind (arith, nat_tests) in rw test refl
 
 ending_long : (c : Course (Sitting Seen)) → INPUT_BYTES < c.used → (due_of c).ending ≡ Err errors.TooLarge
@@ -197,47 +199,19 @@ pub unused : (file : Option (Option (List ℕ))) (X : Type 0) → X → IfSome f
 unused None X h = tt
 unused (Some kept) X h = λ none. h
 
--- ---- which status is whose
-
-abbrev is_error : ℕ → Bool
-is_error n = (n == 2) || ((n == 3) || ((n == 4) || ((n == 6) || (n == 11))))
-
-error_is : (e : CommandError) → is_error (error_status e) ≡ true
-error_is errors.NoReplica = refl
-error_is errors.ReplicaExists = refl
-error_is (errors.Damaged at) = refl
-error_is (errors.BadMembers n) = refl
-error_is (errors.BadMe n) = refl
-error_is (errors.NotMember n) = refl
-error_is (errors.BadLine n) = refl
-error_is (errors.Malformed at) = refl
-error_is (errors.OtherGroup g n) = refl
-error_is (errors.Edit n f) = refl
-error_is errors.TooLarge = refl
-
--- no error has another status
-not_error : {X : Type 0} (e : CommandError) (n k : ℕ) → n ≡ error_status e → n ≡ k → is_error k ≡ false → X
-not_error e n k s h none = let yes : is_error k ≡ true = subst (λ m. is_error m ≡ true) (sym s ∙ h) (error_is e) in let never : true ≡ false = sym yes ∙ none in cc
-
--- two numbers that aren't the same
-apart : {X : Type 0} (n j k : ℕ) → n ≡ j → n ≡ k → eqb j k ≡ false → X
-apart n j k s h none = let yes : eqb j k ≡ true = subst (λ m. eqb j m ≡ true) (sym s ∙ h) (same j) in let never : true ≡ false = sym yes ∙ none in cc
-  where
-    same : (m : ℕ) → eqb m m ≡ true
-    same m = grind (arith, nat_tests)
-
 -- ---- at a status
+
+-- an end, as a session tells it
+abbrev ended : Failure → Result (Unit {0}) Failure
+ended f = Err f
 
 pub fault_of : (r : Result (Unit {0}) Failure) (n : ℕ) → IsStatusOf r n → (n ≡ 7 → r ≡ Err (Fault Keeper)) × (n ≡ 8 → r ≡ Err (Fault Source)) × (n ≡ 9 → r ≡ Err (Fault Sink))
 fault_of (Ok u) n s = (λ h. apart n 0 7 s h refl, λ h. apart n 0 8 s h refl, λ h. apart n 0 9 s h refl)
-fault_of (Err NoCommand) n (inl s) = (λ h. apart n 1 7 s h refl, λ h. apart n 1 8 s h refl, λ h. apart n 1 9 s h refl)
-fault_of (Err NoCommand) n (inr s) = (λ h. apart n 10 7 s h refl, λ h. apart n 10 8 s h refl, λ h. apart n 10 9 s h refl)
-fault_of (Err (Command e)) n (inl s) = (λ h. not_error e n 7 s h refl, λ h. not_error e n 8 s h refl, λ h. not_error e n 9 s h refl)
-fault_of (Err (Command e)) n (inr s) = (λ h. apart n 10 7 s h refl, λ h. apart n 10 8 s h refl, λ h. apart n 10 9 s h refl)
-fault_of (Err (Fault Keeper)) n s = (λ h. refl, λ h. apart n 7 8 s h refl, λ h. apart n 7 9 s h refl)
-fault_of (Err (Fault Source)) n s = (λ h. apart n 8 7 s h refl, λ h. refl, λ h. apart n 8 9 s h refl)
-fault_of (Err (Fault Sink)) n s = (λ h. apart n 9 7 s h refl, λ h. apart n 9 8 s h refl, λ h. refl)
-fault_of (Err (Fault Memory)) n s = (λ h. apart n 10 7 s h refl, λ h. apart n 10 8 s h refl, λ h. apart n 10 9 s h refl)
+fault_of (Err f) n s = (λ h. ap ended (failure_at_7 f n s h), λ h. ap ended (failure_at_8 f n s h), λ h. ap ended (failure_at_9 f n s h))
+
+-- with another status the keeper hasn't failed
+pub no_keeper_fault : (r : Result (Unit {0}) Failure) (n : ℕ) → IsStatusOf r n → n ≢ 7 → r ≢ Err (Fault Keeper)
+no_keeper_fault r n s other is = other (subst (λ (x : Result (Unit {0}) Failure). IsStatusOf x n) is s)
 
 -- an end before all was done isn't that of the output
 pub unstored_so : (r : Result (Unit {0}) Failure) (n : ℕ) (X : Type 0) → IsStatusOf r n → IfErr r (λ f. f ≢ Fault Sink → X) → n ≢ 0 → n ≢ 9 → X
@@ -253,32 +227,46 @@ early_so (Err (Fault Source)) n X s h a b c d = h tt
 early_so (Err (Fault Sink)) n X s h a b c d = absurd (c s)
 early_so (Err (Fault Memory)) n X s h a b c d = absurd (d s)
 
-below_twelve : (e : CommandError) → error_status e < 12
-below_twelve errors.NoReplica = lit< tt
-below_twelve errors.ReplicaExists = lit< tt
-below_twelve (errors.Damaged at) = lit< tt
-below_twelve (errors.BadMembers n) = lit< tt
-below_twelve (errors.BadMe n) = lit< tt
-below_twelve (errors.NotMember n) = lit< tt
-below_twelve (errors.BadLine n) = lit< tt
-below_twelve (errors.Malformed at) = lit< tt
-below_twelve (errors.OtherGroup g n) = lit< tt
-below_twelve (errors.Edit n f) = lit< tt
-below_twelve errors.TooLarge = lit< tt
+-- a session ends by no other failure
+pub opened_own : (e : OpenError) → IsOpenError e → IsSessionsOwn (Err (of_open e))
+opened_own (opening.Command e) h = h
+opened_own opening.KeeperFault h = tt
+opened_own opening.OutOfMemory h = tt
 
-at_most : (n m : ℕ) → n ≡ m → m < 12 → n < 12
-at_most n m e h = subst (λ k. k < 12) (sym e) h
+pub answered_own : (e : AnswerError) → IsSessionsOwn (Err (of_answer e))
+answered_own SourceFault = tt
+answered_own SinkFault = tt
+answered_own TooLarge = tt
+answered_own OutOfMemory = tt
 
-pub no_other : (r : Result (Unit {0}) Failure) (n : ℕ) → IsStatusOf r n → n < 12
-no_other (Ok u) n s = at_most n 0 s (lit< tt)
-no_other (Err NoCommand) n (inl s) = at_most n 1 s (lit< tt)
-no_other (Err NoCommand) n (inr s) = at_most n 10 s (lit< tt)
-no_other (Err (Command e)) n (inl s) = at_most n (error_status e) s (below_twelve e)
-no_other (Err (Command e)) n (inr s) = at_most n 10 s (lit< tt)
-no_other (Err (Fault Keeper)) n s = at_most n 7 s (lit< tt)
-no_other (Err (Fault Source)) n s = at_most n 8 s (lit< tt)
-no_other (Err (Fault Sink)) n s = at_most n 9 s (lit< tt)
-no_other (Err (Fault Memory)) n s = at_most n 10 s (lit< tt)
+pub saved_own : (e : WorkError) (s : Seen) → GivesError (of_work e) (saved s) → IsSessionsOwn (Err (of_work e))
+saved_own work.OutOfMemory s h = tt
+saved_own (work.Command e) s h = go (ltb file_limit (length (bytes_over s))) h
+  where
+    go : (b : Bool) → (if b then Err errors.TooLarge else Ok s) ≡ Err e → IsOfFile e
+    go true h = let same : errors.TooLarge ≡ e = cc in subst IsOfFile same tt
+    go false h = let never : Ok s ≡ Err e = h in cc
+
+-- a session has no other status
+pub no_other : (r : Result (Unit {0}) Failure) (n : ℕ) → IsSessionsOwn r → IsStatusOf r n → IsSessionStatus n
+no_other (Ok u) n own s = inl s
+no_other (Err NoCommand) n own s = absurd own
+no_other (Err (Command errors.NoReplica)) n own (inl s) = inr (inl s)
+no_other (Err (Command (errors.Damaged at))) n own (inl s) = inr (inr (inl s))
+no_other (Err (Command errors.TooLarge)) n own (inl s) = inr (inr (inr (inl s)))
+no_other (Err (Command errors.ReplicaExists)) n own (inl s) = absurd own
+no_other (Err (Command (errors.BadMembers m))) n own (inl s) = absurd own
+no_other (Err (Command (errors.BadMe m))) n own (inl s) = absurd own
+no_other (Err (Command (errors.NotMember m))) n own (inl s) = absurd own
+no_other (Err (Command (errors.BadLine m))) n own (inl s) = absurd own
+no_other (Err (Command (errors.Malformed at))) n own (inl s) = absurd own
+no_other (Err (Command (errors.OtherGroup g m))) n own (inl s) = absurd own
+no_other (Err (Command (errors.Edit m f))) n own (inl s) = absurd own
+no_other (Err (Command e)) n own (inr s) = inr (inr (inr (inr (inr (inr (inr s))))))
+no_other (Err (Fault Keeper)) n own s = inr (inr (inr (inr (inl s))))
+no_other (Err (Fault Source)) n own s = inr (inr (inr (inr (inr (inl s)))))
+no_other (Err (Fault Sink)) n own s = inr (inr (inr (inr (inr (inr (inl s))))))
+no_other (Err (Fault Memory)) n own s = inr (inr (inr (inr (inr (inr (inr s))))))
 
 -- ---- what is called for
 
@@ -344,57 +332,16 @@ no_line P (Some d) file new_file old new h line = go d.ending h.0
     go (Ok s) k = line
     go (Err e) k = absurd k
 
--- at the status that it has
-at_status : (P : List ℕ → Type 0) (d : Option Due) (f : Failure) (n m : ℕ) → n ≡ m → P (failure_line_at f n) → (P (failure_line_at f m) → IfSome (line_at d m) P) → IfSome (line_at d n) P
-at_status P d f n m e line more = subst (λ (k : ℕ). IfSome (line_at d k) P) (sym e) (more (subst (λ (k : ℕ). P (failure_line_at f k)) e line))
-
--- of an error
-error_line_so : (P : List ℕ → Type 0) (d : Option Due) (e : CommandError) → IfSome d (λ d. d.ending ≡ Err e) → P (failure_line_at (Command e) (error_status e)) → IfSome (line_at d (error_status e)) P
-error_line_so P None e h line = go e line
-  where
-    go : (e : CommandError) → P (failure_line_at (Command e) (error_status e)) → IfSome (line_at None (error_status e)) P
-    go errors.TooLarge l = l
-    go errors.NoReplica l = tt
-    go errors.ReplicaExists l = tt
-    go (errors.Damaged at) l = tt
-    go (errors.BadMembers n) l = tt
-    go (errors.BadMe n) l = tt
-    go (errors.NotMember n) l = tt
-    go (errors.BadLine n) l = tt
-    go (errors.Malformed at) l = tt
-    go (errors.OtherGroup g n) l = tt
-    go (errors.Edit n f) l = tt
-error_line_so P (Some d) e h line = subst (λ (x : Result Seen CommandError). IfSome (line_at (Some (record { replies = d.replies; ending = x })) (error_status e)) P) (sym h) (go e line)
-  where
-    go : (e : CommandError) → P (failure_line_at (Command e) (error_status e)) → IfSome (line_at (Some (record { replies = d.replies; ending = Err e })) (error_status e)) P
-    go errors.NoReplica l = l
-    go errors.ReplicaExists l = l
-    go (errors.Damaged at) l = l
-    go (errors.BadMembers n) l = l
-    go (errors.BadMe n) l = l
-    go (errors.NotMember n) l = l
-    go (errors.BadLine n) l = l
-    go (errors.Malformed at) l = l
-    go (errors.OtherGroup g n) l = l
-    go (errors.Edit n f) l = l
-    go errors.TooLarge l = l
-
-failed_line : (P : List ℕ → Type 0) (d : Option Due) (f : Failure) (n : ℕ) (file new_file : Option (Option (List ℕ))) (old new : Option (List ℕ)) → IsFailureStatus f n → IfSome d (λ d. Leaves (Err f) d file new_file old new)
-    → P (failure_line_at f n) → IfSome (line_at d n) P
-failed_line P d NoCommand n file new_file old new (inl s) h line = at_status P d NoCommand n 1 s line (λ l. l)
-failed_line P d NoCommand n file new_file old new (inr s) h line = at_status P d NoCommand n 10 s line (λ l. l)
-failed_line P d (Command e) n file new_file old new (inl s) h line =
-    at_status P d (Command e) n (error_status e) s line (error_line_so P d e (for_due d (λ d. Leaves (Err (Command e)) d file new_file old new) (λ d. d.ending ≡ Err e) (λ d k. k.0) h))
-failed_line P d (Command e) n file new_file old new (inr s) h line = at_status P d (Command e) n 10 s line (λ l. l)
-failed_line P d (Fault Keeper) n file new_file old new s h line = at_status P d (Fault Keeper) n 7 s line (λ l. l)
-failed_line P d (Fault Source) n file new_file old new s h line = at_status P d (Fault Source) n 8 s line (λ l. l)
-failed_line P d (Fault Sink) n file new_file old new s h line = at_status P d (Fault Sink) n 9 s line (λ l. l)
-failed_line P d (Fault Memory) n file new_file old new s h line = at_status P d (Fault Memory) n 10 s line (λ l. l)
+-- the line of what is called for is that of the error
+told_line : (d : Option Due) (f : Failure) (e : CommandError) (file new_file : Option (Option (List ℕ))) (old new : Option (List ℕ)) → IfSome d (λ d. Leaves (Err f) d file new_file old new) → f ≡ Command e
+    → IfSome (option_map (λ (x : Due). ending_line x.ending) d) (λ l. l ≡ error_line e)
+told_line None f e file new_file old new h is = tt
+told_line (Some d) f e file new_file old new h is = let k = subst (λ (g : Failure). Leaves (Err g) d file new_file old new) is h in ap ending_line k.0
 
 pub line_so : (P : List ℕ → Type 0) (d : Option Due) (r : Result (Unit {0}) Failure) (n : ℕ) (file new_file : Option (Option (List ℕ))) (old new : Option (List ℕ)) → IsStatusOf r n → IfSome d (λ d. Leaves r d file new_file old new)
     → P (line_of r n) → IfSome (line_at d n) P
 line_so P d (Ok u) n file new_file old new s h line = subst (λ (k : ℕ). IfSome (line_at d k) P) (sym s) (no_line P d file new_file old new h line)
-line_so P d (Err f) n file new_file old new s h line = failed_line P d f n file new_file old new s h line
+line_so P d (Err f) n file new_file old new s h line = failure_line_told P (option_map (λ (x : Due). ending_line x.ending) d) f n s (λ e is. told_line d f e file new_file old new h is) line
 
 -- nothing is written
 pub nothing_written : (old : Option (List ℕ)) → Appends old old []
@@ -419,10 +366,6 @@ on_session None left s P found h = tt
 on_session (Some kept) left s P found h = rw found h
 
 -- ---- errors of the stages
-
--- an end, as a session tells it
-abbrev ended : Failure → Result (Unit {0}) Failure
-ended f = Err f
 
 -- the file of the replica isn't made
 pub work_inner : (e : WorkError) (f : Failure) → f ≡ of_work e → (ended f ≢ ended (Fault Keeper)) × (ended f ≢ ended (Fault Source)) × (ended f ≢ ended (Fault Sink))
@@ -460,6 +403,10 @@ answer_failed OutOfMemory f is = (
   λ h. let same : f ≡ Fault Sink = cc in let never : Fault Memory ≡ Fault Sink = sym is ∙ same in cc,
 )
 
+-- an end of opening
+abbrev pub opened_by : {X : Type 0} → OpenError → Result X OpenError
+opened_by e = Err e
+
 -- how opening fails
 pub open_failed : (e : OpenError) (f : Failure) → f ≡ of_open e → (ended f ≡ ended (Fault Keeper) → e ≡ opening.KeeperFault) × (ended f ≢ ended (Fault Source)) × (ended f ≢ ended (Fault Sink))
 open_failed (opening.Command e) f is = (
@@ -477,6 +424,13 @@ open_failed opening.OutOfMemory f is = (
   λ h. let same : f ≡ Fault Source = cc in let never : Fault Memory ≡ Fault Source = sym is ∙ same in cc,
   λ h. let same : f ≡ Fault Sink = cc in let never : Fault Memory ≡ Fault Sink = sym is ∙ same in cc,
 )
+
+-- opening failed for the keeper only if the session did
+pub open_other : {X : Type 0} (e : OpenError) (f : Failure) → f ≡ of_open e → ended f ≢ ended (Fault Keeper) → opened_by {X = X} e ≢ opened_by opening.KeeperFault
+open_other e f is other h = other (ap ended (is ∙ ap of_open (same_error e opening.KeeperFault h)))
+  where
+    same_error : {X : Type 0} (e k : OpenError) → opened_by {X = X} e ≡ opened_by k → e ≡ k
+    same_error e k h = cc
 
 -- ---- what stays of the file
 

@@ -9,7 +9,7 @@ pub record Answered (S : Type 0) : Type 0 where
   pub state : S
 
 -- all replies, one after another, the state after them, and how many bytes of the input come up to the end of the order to quit,
--- without its line feed, or in all where it doesn't come
+-- without its line feed, or in all if it doesn't come
 pub record Course (S : Type 0) : Type 0 where
   pub replies : List ℕ
   pub state : S
@@ -19,7 +19,7 @@ pub record Course (S : Type 0) : Type 0 where
 abbrev pub ended : {S : Type 0} → S → ℕ → Course S
 ended s used = record { replies = []; state = s; used = used }
 
--- a request of so many bytes was answered, and this comes after it
+-- a request of `size` bytes was answered, and this comes after it
 abbrev pub after : {S : Type 0} → List ℕ → ℕ → Course S → Course S
 after reply size c = record { replies = reply ++ c.replies; state = c.state; used = size + c.used }
 
@@ -28,7 +28,7 @@ abbrev pub go_on : {S : Type 0} → (S → Request → Answered S) → S → Req
 go_on answer s (Does Quit) size rest = ended s 1
 go_on answer s request size rest = after (answer s request).reply size (rest (answer s request).state)
 
--- the requests of what stands after so many bytes, answered one after another
+-- the requests of what comes after n bytes, answered one after another
 abbrev pub course_from : {S : Type 0} → (S → Request → Answered S) → ℕ → S → List ℕ → Course S
 course_from answer n s [] = ended s 0
 course_from answer (suc n) s (b ∷ bytes) = course_from answer n s bytes

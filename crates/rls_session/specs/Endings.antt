@@ -11,6 +11,7 @@ use Rattle.rls_report.specs.declared.failures.Failure.{Failure}
 use Rattle.rls_report.specs.declared.failures.Failure.TheVariants.{NoCommand, Command, Fault}
 use Rattle.rls_report.specs.declared.failures.Fault.TheVariants.{Source, Sink}
 use Rattle.rls_stages.specs.Endings.{EndsWith, IsFailureStatus, IsFault, IsPart, failure_line_at}
+use Rattle.rls_stages.specs.Errors.{IsOfFile}
 use Rattle.rls_stages.specs.KeptFile.{IsReadBack, StandsIn, bytes_over, loaded, replica_in}
 use Rattle.rls_session.specs.Answering.{IsNear, IsPrompt}
 use Rattle.rls_session.specs.Answers.{Sitting, answer, sitting_at}
@@ -74,6 +75,17 @@ pub record Ends (d : Due) (n : ℕ) (file new_file : Option (Option (List ℕ)))
 abbrev pub IsStatusOf : Result (Unit {0}) Failure → ℕ → Type 0
 IsStatusOf (Ok u) n = n ≡ 0
 IsStatusOf (Err f) n = IsFailureStatus f n
+
+-- a failure that a session may end with: of a device, of memory, or of what it reads
+abbrev pub IsSessionsOwn : Result (Unit {0}) Failure → Type 0
+IsSessionsOwn (Ok u) = Unit {0}
+IsSessionsOwn (Err NoCommand) = ⊥
+IsSessionsOwn (Err (Command e)) = IsOfFile e
+IsSessionsOwn (Err (Fault f)) = Unit {0}
+
+-- the statuses of a session
+abbrev pub IsSessionStatus : ℕ → Type 0
+IsSessionStatus n = (n ≡ 0) ⊎ (n ≡ 2) ⊎ (n ≡ 3) ⊎ (n ≡ 11) ⊎ IsFault n
 
 -- what is written to the errors with this status
 abbrev pub line_of : Result (Unit {0}) Failure → ℕ → List ℕ

@@ -9,4 +9,5 @@ pub mod Desks
 pub mod Answering
 pub mod Due
 pub mod Endings
+pub mod Calls
 pub mod Words

@@ -10,7 +10,7 @@ use Rattle.rls_report.specs.declared.failures.CommandError.{CommandError}
 abbrev pub ok_text : ℕ → List ℕ
 ok_text seq = line (codes "ok " ∷ decimal seq ∷ [])
 
--- so many edits took one back, and inserted or deleted so many characters
+-- how many edits took one back, and how many characters they inserted or deleted
 abbrev pub undone_text : ℕ → ℕ → List ℕ
 undone_text edits chars = line (codes "undone " ∷ decimal edits ∷ codes " " ∷ decimal chars ∷ [])
 

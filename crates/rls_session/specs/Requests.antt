@@ -6,7 +6,7 @@ use Rattle.rls_session.specs.declared.orders.Order.{Order}
 use Rattle.rls_session.specs.declared.orders.Order.TheVariants.{Take, Bad}
 use Rattle.rls_session.specs.Orders.{order_of}
 
--- an order that is whole in its line, or the bytes of a message that stood behind its line
+-- an order that is whole in its line, or the bytes of a message that came after its line
 pub data Request : Type 0 where
   Does : (order : Order) → Request
   Takes : (message : List ℕ) → Request
@@ -20,7 +20,7 @@ pub record Cut : Type 0 where
 abbrev pub line_size : List ℕ → ℕ
 line_size bytes = min (position_or_len is_line_feed bytes + 1) (length bytes)
 
--- the request of an order, where this stands behind its line, and how much of that belongs to it. A message that isn't there whole is
+-- the request of an order, if this comes after its line, and how much of that belongs to it. A message that isn't there whole is
 -- bad, and takes what there is
 abbrev pub cut_after : Order → List ℕ → Cut
 cut_after (Take n) rest =
@@ -28,7 +28,7 @@ cut_after (Take n) rest =
     else record { request = Does Bad; size = length rest }
 cut_after order rest = record { request = Does order; size = 0 }
 
--- where the line has so many bytes
+-- if the line has n bytes
 abbrev pub with_line : ℕ → Cut → Cut
 with_line n c = record { request = c.request; size = n + c.size }
 

@@ -65,7 +65,7 @@ impl From<AnswerError> for Failure {
     }
 }
 
-// Takes the next line of the input, where there is one, and answers what it asks for.
+// Takes the next line of the input, if there is one, and answers what it asks for.
 fn next_order<S: Source>(
     alloc: Global,
     intake: &mut Intake,
@@ -132,7 +132,7 @@ fn reply_to<S: Source>(
     }
 }
 
-// Takes a message of so many bytes, which follow what is used.
+// Takes a message of `len` bytes, which follow what is used.
 fn reply_to_message<S: Source>(
     alloc: Global,
     desk: &mut Desk,

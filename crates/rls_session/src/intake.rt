@@ -72,7 +72,7 @@ impl Intake {
         waiting
     }
 
-    /// So many bytes of what waits are used.
+    /// The next `n` bytes of what waits are used.
     pub(crate) fn use_up(&mut self, n: usize)
         requires there { n ≤ length self.old.waiting }
         ensures waiting { self.new.waiting ≡ drop n self.old.waiting }
@@ -127,8 +127,8 @@ impl Intake {
         Ok(n > 0)
     }
 
-    /// Takes bytes until a line feed waits or the input ends, and answers how many bytes stand in front of it, or wait. Nothing is
-    /// taken where a line feed waits already. Each byte is looked at once.
+    /// Takes bytes until a line feed waits or the input ends, and answers how many bytes are before it, or wait. Nothing is
+    /// taken if a line feed waits already. Each byte is looked at once.
     pub(crate) fn find_line<S: Source>(&mut self, source: &mut S) -> Result<usize, ReadError>
         ensures same { Keeps (to_come self.old (S.left source.old)) (to_come self.new (S.left source.new)) }
         ensures used { self.new.used ≡ self.old.used }
@@ -164,7 +164,7 @@ impl Intake {
         }
     }
 
-    /// Takes bytes until so many wait, and answers whether they do. Nothing is taken where they wait already.
+    /// Takes bytes until `n` wait, and answers whether they do. Nothing is taken if they wait already.
     pub(crate) fn find_bytes<S: Source>(
         &mut self,
         n: u64,

@@ -15,7 +15,7 @@ pub(crate) fn ok(alloc: Global, seq: u32) -> Result<Vec<u8>, AllocError>
     Ok(format!(in alloc; "ok {seq}\n")?.into_bytes())
 }
 
-/// So many edits took one back, and inserted or deleted so many characters.
+/// How many edits took one back, and how many characters they inserted or deleted.
 pub(crate) fn undone(alloc: Global, edits: u32, chars: u64) -> Result<Vec<u8>, AllocError>
     ensures text { IfOk result (λ text. text.items ≡ undone_text edits chars) }
 {

@@ -1,6 +1,6 @@
 //! A session over the kept file.
 
-ghost use Rattle.std.specs.Prelude.{◌≡◌, ◌≢◌, ◌<◌, ◌≤◌, ℕ, List, Some, Err, IfErr, IfSome};
+ghost use Rattle.std.specs.Prelude.{◌≡◌, ◌≢◌, ◌≤◌, ℕ, List, Some, Err, IfErr, IfSome};
 ghost use Rattle.rls_io.specs.Device.{Rose, Keeps};
 ghost use Rattle.rls_codec.specs.CodecLaws.{IsBytes};
 ghost use Rattle.rls_model.specs.Receiving.{State};
@@ -10,8 +10,9 @@ ghost use Rattle.rls_stages.specs.Endings.{Writes};
 ghost use Rattle.rls_stages.specs.KeptFile.{IsFileFor, IsUsable, Stays, saved};
 ghost use Rattle.rls_session.specs.Answering.{IsNear, IsPrompt};
 ghost use Rattle.rls_session.specs.Answers.{answer, sitting_at};
+ghost use Rattle.rls_session.specs.Calls.{Calls, HasServed, IsFileOf};
 ghost use Rattle.rls_session.specs.Due.{due, due_of, line_at};
-ghost use Rattle.rls_session.specs.Endings.{Ends, EndsNear, EndsPromptly, IsEarly, IsStatusOf, Leaves, Saves, Serves, line_of};
+ghost use Rattle.rls_session.specs.Endings.{Ends, EndsNear, EndsPromptly, IsEarly, IsSessionsOwn, IsSessionStatus, IsStatusOf, Leaves, Saves, Serves, line_of};
 ghost use Rattle.rls_session.specs.Sessions.{by_parts, session, session_in};
 
 use crate::answering::{answer_all, write};
@@ -25,6 +26,14 @@ use std::alloc::Global;
 /// Answers the requests of the input on the keeper's file, one after another, and at the line `q` or at the input's end stores the
 /// file and answers `saved`. It answers the program's exit status.
 ///
+/// The replies are a function of the kept file and the input (`session`, `due`): the input is cut into requests from its beginning, and
+/// the n-th reply is the one that the definition gives to the n-th request after those before it. So each request is answered once, in
+/// order, and none is passed over. An undo is a request like any other: it takes back the last entry that isn't taken back yet, or is
+/// refused and leaves that entry the last one, so that none is skipped.
+///
+/// The keeper is called once to load, before the input is read, and once to store, after the last request, if the session comes that
+/// far. The first device that fails ends the session, and gives the status: no device is called after it, but for the error line.
+///
 /// | Status | Cause |
 /// |---|---|
 /// | 0 | done |
@@ -34,7 +43,8 @@ use std::alloc::Global;
 /// | 10 | out of memory |
 /// | 11 | neither a line `q` nor the end lies within the first 67,108,864 bytes of the input, or the file as kept or to be stored has more than 268,435,456 bytes |
 ///
-/// The kept file changes with the status 0, and with a 9 that comes of writing `saved`, alone.
+/// The kept file is the new one with the status 0, and with a 9 that comes of writing `saved`. With a 7 or a 10 it may be impossible to
+/// say, since a keeper whose `store` failed doesn't tell its file until the next `load`. With every other status it is as before.
 pub fn serve<K: Keeper, S: Source, W: Sink, E: Sink>(
     alloc: Global,
     keeper: &mut K,
@@ -42,16 +52,17 @@ pub fn serve<K: Keeper, S: Source, W: Sink, E: Sink>(
     output: &mut W,
     errors: &mut E,
 ) -> u8
-    // For every history, with what waits beside it, that the kept file stands for.
+    // For every history, with what waits, that the kept file stands for: the replies are those of the definition, in order, and so is the file.
     ensures session { (t : State) (bytes given : List ℕ) → K.file keeper.old ≡ Some (Some bytes) → IsFileFor bytes t → S.left input.old ≡ Some given → IsBytes given
         → Serves result bytes (session_in t given) (K.file keeper.new) (W.told output.old) (W.told output.new) }
 
-    // For every file, whether or not a history stands behind it.
+    // The same for every file, whether or not it is that of a history.
     ensures ends { IfSome (due (K.file keeper.old) (S.left input.old)) (λ d. Ends d result (K.file keeper.old) (K.file keeper.new) (W.told output.old) (W.told output.new)) }
     ensures keeper { result ≡ 7 → Rose (K.faults keeper.old) (K.faults keeper.new) }
+    ensures uncounted { result ≢ 7 → K.faults keeper.new ≡ K.faults keeper.old }
     ensures input { result ≡ 8 → IfSome (K.file keeper.old) IsUsable × Rose (S.faults input.old) (S.faults input.new) }
     ensures output { result ≡ 9 → Rose (W.faults output.old) (W.faults output.new) }
-    ensures no_other { result < 12 }
+    ensures no_other { IsSessionStatus result }
     ensures unread { IfSome (K.file keeper.old) (λ kept. (IsUsable kept → ⊥) → (input.new ≡ input.old) × (output.new ≡ output.old)) }
     ensures line { IfSome (line_at (due (K.file keeper.old) (S.left input.old)) result) (λ line.
         Writes (Rose (E.faults errors.old) (E.faults errors.new)) (E.told errors.old) (E.told errors.new) line) }
@@ -60,6 +71,9 @@ pub fn serve<K: Keeper, S: Source, W: Sink, E: Sink>(
     ensures near { EndsNear (K.file keeper.old) (S.left input.old) (S.left input.new) }
     ensures prompt { result ≡ 8 → EndsPromptly (K.file keeper.old) (S.left input.old) (S.left input.new) (W.told output.old) (W.told output.new) }
     ensures early { result ≢ 0 → result ≢ 7 → result ≢ 9 → result ≢ 10 → Keeps (K.file keeper.old) (K.file keeper.new) }
+
+    // The keeper is called at most twice: to load before all else, and to store what is called for after the last request.
+    ensures calls { Calls K.load_gives K.store_gives (due (K.file keeper.old) (S.left input.old)) ((input.new ≡ input.old) × (output.new ≡ output.old)) result keeper.old keeper.new }
 {
     let ending = perform(alloc, keeper, input, output);
     tell(alloc, ending, errors)
@@ -88,10 +102,13 @@ fn perform<K: Keeper, S: Source, W: Sink>(
     ensures stays { IfErr result (λ f. f ≢ failures.Fault Sink → Stays (K.file keeper.old) (K.file keeper.new)) }
     ensures early { IfErr result (λ f. IsEarly f → Keeps (K.file keeper.old) (K.file keeper.new)) }
     ensures keeper { result ≡ Err (failures.Fault Keeper) → Rose (K.faults keeper.old) (K.faults keeper.new) }
+    ensures uncounted { result ≢ Err (failures.Fault Keeper) → K.faults keeper.new ≡ K.faults keeper.old }
     ensures input { result ≡ Err (failures.Fault Source) → IfSome (K.file keeper.old) IsUsable × Rose (S.faults input.old) (S.faults input.new) }
     ensures output { result ≡ Err (failures.Fault Sink) → Rose (W.faults output.old) (W.faults output.new) }
     ensures near { EndsNear (K.file keeper.old) (S.left input.old) (S.left input.new) }
     ensures prompt { result ≡ Err (failures.Fault Source) → EndsPromptly (K.file keeper.old) (S.left input.old) (S.left input.new) (W.told output.old) (W.told output.new) }
+    ensures own { IsSessionsOwn result }
+    ensures calls { (n : ℕ) → IsStatusOf result n → Calls K.load_gives K.store_gives (due (K.file keeper.old) (S.left input.old)) ((input.new ≡ input.old) × (output.new ≡ output.old)) n keeper.old keeper.new }
 {
     match open(alloc, keeper) {
         Err(error) => Err(Failure::from(error)),
@@ -111,11 +128,14 @@ fn answer_on<K: Keeper, S: Source, W: Sink>(
     ensures stays { IfErr result (λ f. f ≢ failures.Fault Sink → Keeps (K.file keeper.new) (K.file keeper.old)) }
     ensures early { IfErr result (λ f. IsEarly f → Keeps (K.file keeper.old) (K.file keeper.new)) }
     ensures keeper { result ≡ Err (failures.Fault Keeper) → Rose (K.faults keeper.old) (K.faults keeper.new) }
+    ensures uncounted { result ≢ Err (failures.Fault Keeper) → K.faults keeper.new ≡ K.faults keeper.old }
     ensures input { result ≡ Err (failures.Fault Source) → Rose (S.faults input.old) (S.faults input.new) }
     ensures output { result ≡ Err (failures.Fault Sink) → Rose (W.faults output.old) (W.faults output.new) }
     ensures near { IfSome (S.left input.old) (λ given. IsNear given (S.left input.new) (session replica given).used) }
     ensures prompt { result ≡ Err (failures.Fault Source) → IfSome (S.left input.old) (λ given. IsPrompt (answer by_parts) (sitting_at replica) given (S.left input.new) (W.told output.old) (W.told output.new)) }
     ensures never_falls { K.faults keeper.old ≤ K.faults keeper.new }
+    ensures own { IsSessionsOwn result }
+    ensures calls { HasServed K.store_gives (λ bytes. IfSome (S.left input.old) (λ given. IsFileOf (due_of (session replica given)).ending bytes)) result keeper.old keeper.new }
 {
     let mut desk = Desk::new(alloc, replica);
     match answer_all(alloc, &mut desk, input, output) {
@@ -136,9 +156,12 @@ fn save<K: Keeper, W: Sink>(
     ensures early { IfErr result (λ f. IsEarly f → Keeps (K.file keeper.old) (K.file keeper.new)) }
     ensures inner { result ≢ Err (failures.Fault Source) }
     ensures keeper { result ≡ Err (failures.Fault Keeper) → Rose (K.faults keeper.old) (K.faults keeper.new) }
+    ensures uncounted { result ≢ Err (failures.Fault Keeper) → K.faults keeper.new ≡ K.faults keeper.old }
     ensures output { result ≡ Err (failures.Fault Sink) → Rose (W.faults output.old) (W.faults output.new) }
     ensures never_falls { K.faults keeper.old ≤ K.faults keeper.new }
     ensures output_never_falls { W.faults output.old ≤ W.faults output.new }
+    ensures own { IsSessionsOwn result }
+    ensures calls { HasServed K.store_gives (IsFileOf (saved replica.now)) result keeper.old keeper.new }
 {
     match file_of(alloc, replica) {
         Err(error) => Err(Failure::from(error)),

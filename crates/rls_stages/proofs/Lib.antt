@@ -1,3 +1,4 @@
 pub mod Alike
 pub mod Files
 pub mod Meant
+pub mod Statuses

@@ -4,6 +4,7 @@ use Rattle.rls_model.specs.declared.edit.EditError.{EditError}
 use Rattle.rls_model.specs.declared.edit.EditError.TheVariants as edit
 use Rattle.rls_model.specs.declared.edit.Edit.{Edit}
 use Rattle.rls_report.specs.declared.failures.CommandError.{CommandError}
+use Rattle.rls_report.specs.declared.failures.CommandError.TheVariants.{NoReplica, Damaged, TooLarge}
 use Rattle.rls_report.specs.declared.failures.Failure.{Failure}
 use Rattle.rls_report.specs.declared.failures.Failure.TheVariants.{NoCommand, Command, Fault}
 use Rattle.rls_report.specs.declared.failures.Fault.TheVariants.{Keeper, Memory}
@@ -32,6 +33,21 @@ of_open opening.OutOfMemory = Fault Memory
 abbrev pub open_of_work : WorkError → OpenError
 open_of_work (work.Command e) = opening.Command e
 open_of_work work.OutOfMemory = opening.OutOfMemory
+
+-- ---- what may be wrong with a file
+
+-- there is none, it isn't in the grammar, or it is too large
+abbrev pub IsOfFile : CommandError → Type 0
+IsOfFile NoReplica = Unit {0}
+IsOfFile (Damaged at) = Unit {0}
+IsOfFile TooLarge = Unit {0}
+IsOfFile _ = ⊥
+
+-- the kept file can't be used for no other reason, unless the keeper failed or memory ran out
+abbrev pub IsOpenError : OpenError → Type 0
+IsOpenError (opening.Command e) = IsOfFile e
+IsOpenError opening.KeeperFault = Unit {0}
+IsOpenError opening.OutOfMemory = Unit {0}
 
 -- ---- a part of the way
 

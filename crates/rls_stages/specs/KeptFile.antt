@@ -62,7 +62,7 @@ Stays None new = Unit {0}
 Stays (Some kept) None = Unit {0}
 Stays (Some kept) (Some now) = now ≡ kept
 
--- ---- the history behind it
+-- ---- the history that it stands for
 
 -- the bytes are the journal of this history and what waits beside it, or a snapshot with its parts, which is legal
 abbrev pub IsFileFor : List ℕ → State → Type 0

@@ -18,7 +18,7 @@ use Rattle.rls_script.specs.declared.lines.Line.TheVariants.{Insert, Delete, Bac
 use Rattle.rls_seen.specs.Edits.{edit_fault_over}
 use Rattle.rls_seen.specs.Seen.{Seen, text_over}
 
--- how a refused edit is told. Want of memory is none of these, and stands for itself elsewhere
+-- how a refused edit is told. Want of memory is none of these, and is told apart elsewhere
 abbrev pub line_fault : EditError → LineFault
 line_fault errors.Left = faults.Left
 line_fault errors.EmptyEdit = faults.EmptyEdit

@@ -1,12 +1,12 @@
 //! The kept file, loaded and opened.
 
-ghost use Rattle.std.specs.Prelude.{◌≡◌, ◌≢◌, ◌≤◌, Err, IfSome};
+ghost use Rattle.std.specs.Prelude.{◌≡◌, ◌≢◌, ◌≤◌, Err, IfErr, IfSome};
 ghost use Rattle.rls_io.specs.Device.{Rose, Keeps};
 ghost use Rattle.rls_io.specs.Memory.{bytes_of};
 ghost use Rattle.rls_file.specs.ReadingFiles.{file_of};
 ghost use Rattle.rls_stages.specs.Calls.{HasLoaded};
 ghost use Rattle.rls_stages.specs.KeptFile.{loaded, replica_of, replica_in};
-ghost use Rattle.rls_stages.specs.Errors.{Gives, of_open};
+ghost use Rattle.rls_stages.specs.Errors.{Gives, IsOpenError, of_open};
 
 use crate::errors::OpenError;
 use rls_ident::limits::FILE_BYTES;
@@ -20,8 +20,10 @@ use std::alloc::Global;
 pub fn load<K: Keeper>(alloc: Global, keeper: &mut K) -> Result<Option<Vec<u8>>, OpenError>
     ensures loaded { IfSome (K.file keeper.old) (λ kept. Gives of_open bytes_of result (loaded kept)) }
     ensures keeper { result ≡ Err OpenError.KeeperFault → Rose (K.faults keeper.old) (K.faults keeper.new) }
+    ensures uncounted { result ≢ Err OpenError.KeeperFault → K.faults keeper.new ≡ K.faults keeper.old }
     ensures never_falls { K.faults keeper.old ≤ K.faults keeper.new }
     ensures kept { Keeps (K.file keeper.old) (K.file keeper.new) }
+    ensures errors { IfErr result IsOpenError }
     ensures calls { HasLoaded K.load_gives result keeper.old keeper.new }
 {
     match keeper.load(alloc, FILE_BYTES) {
@@ -42,8 +44,10 @@ pub fn load<K: Keeper>(alloc: Global, keeper: &mut K) -> Result<Option<Vec<u8>>,
 pub fn open<K: Keeper>(alloc: Global, keeper: &mut K) -> Result<Replica, OpenError>
     ensures opened { IfSome (K.file keeper.old) (λ kept. Gives of_open (λ replica. replica) result (replica_in (loaded kept))) }
     ensures keeper { result ≡ Err OpenError.KeeperFault → Rose (K.faults keeper.old) (K.faults keeper.new) }
+    ensures uncounted { result ≢ Err OpenError.KeeperFault → K.faults keeper.new ≡ K.faults keeper.old }
     ensures never_falls { K.faults keeper.old ≤ K.faults keeper.new }
     ensures kept { Keeps (K.file keeper.old) (K.file keeper.new) }
+    ensures errors { IfErr result IsOpenError }
     ensures calls { HasLoaded K.load_gives result keeper.old keeper.new }
 {
     match load(alloc, keeper) {
@@ -59,6 +63,7 @@ pub fn open<K: Keeper>(alloc: Global, keeper: &mut K) -> Result<Replica, OpenErr
 fn decoded(alloc: Global, bytes: &[u8]) -> Result<Replica, OpenError>
     ensures replica { Gives of_open (λ replica. replica) result (replica_of (file_of bytes.now)) }
     ensures memory { result ≢ Err OpenError.KeeperFault }
+    ensures errors { IfErr result IsOpenError }
 {
     match decode_file(alloc, bytes) {
         Ok(replica) => Ok(replica),

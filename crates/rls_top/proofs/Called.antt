@@ -17,18 +17,16 @@ use Rattle.rls_top.specs.declared.stages.InputError.TheVariants as input
 use Rattle.rls_top.specs.declared.stages.MakeError.{MakeError}
 use Rattle.rls_top.specs.declared.stages.MakeError.TheVariants as make
 use Rattle.rls_top.specs.declared.words.Command as words
-use Rattle.rls_top.specs.Calls.{Calls, CallsNothing, FailsToLoad, FailsToStore, HasFinished, HasMade, IsDueFile, Loads, LoadsAndStores, Stores, UnlessOpened}
+use Rattle.rls_stages.specs.Calls.{CallsNothing, FailsToLoad, FailsToStore, Loads, Stores}
+use Rattle.rls_top.specs.Calls.{Calls, HasFinished, HasMade, IsDueFile, UnlessOpened}
 use Rattle.rls_top.specs.Due.{Due, Makes, Stops, calls_keeper, may_store}
 use Rattle.rls_top.specs.Due as due
 use Rattle.rls_top.specs.Endings.{IsStored}
 use Rattle.rls_top.specs.Stages.{IsAsDue, IsStatusOf, of_device, of_make}
 use Rattle.rls_top.proofs.Finishing.{for_due}
-use Rattle.rls_top.proofs.Statuses.{done_made, keeper_fault, made_apart, made_stored, sink_fault, stored_done}
+use Rattle.rls_top.proofs.Statuses.{done_made, ended_by, keeper_fault, made_apart, made_stored, sink_fault, stored_done}
 
 -- ---- which status is whose
-
-abbrev ended_by : Failure → Result Made Failure
-ended_by f = Err f
 
 abbrev made_by : Made → Result Made Failure
 made_by made = Ok made

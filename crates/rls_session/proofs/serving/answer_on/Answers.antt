@@ -1,9 +1,11 @@
 use Rattle.std.proofs.Common.{IfSome, Err, ap, subst, sym}
 use Rattle.rls_report.specs.declared.failures.Failure.{Failure}
 use Rattle.rls_session.specs.Due.{due_of}
-use Rattle.rls_session.specs.Endings.{Leaves}
+use Rattle.rls_session.specs.Calls.{HasServed, IsFileOf}
+use Rattle.rls_session.specs.Endings.{IsSessionsOwn, Leaves}
 use Rattle.rls_session.specs.Sessions.{session}
-use Rattle.rls_session.proofs.Served.{answer_failed, answers_leave, keeps_same, rose_later, saves_leave}
+use Rattle.rls_session.proofs.Called.{saved_served, unanswered_served}
+use Rattle.rls_session.proofs.Served.{answer_failed, answered_own, answers_leave, keeps_same, rose_later, saves_leave}
 use Rattle.rls_session.proofs.serving.answer_on.Goals as goal
 
 pub returns-in-Err-clause-leaves : goal.returns-in-Err-clause-leaves
@@ -40,3 +42,18 @@ returns-clause-leaves g c =
 
 pub returns-clause-output : goal.returns-clause-output
 returns-clause-output g c = λ e. rose_later _ _ _ c.in-Ok.ensures.never_falls c.save.ensures.output_never_falls (c.save.ensures.output e)
+
+pub returns-in-Err-clause-own : goal.returns-in-Err-clause-own
+returns-in-Err-clause-own g c = subst (λ (f : Failure). IsSessionsOwn (Err f)) (sym c.from.ensures) (answered_own c.in-Err.error)
+
+pub returns-in-Err-clause-calls : goal.returns-in-Err-clause-calls
+returns-in-Err-clause-calls g c =
+    let keeper = c.args.keeper.now in
+    let left = g.S.Source.left c.args.input.now in
+    subst (λ (f : Failure). HasServed g.K.Keeper.store_gives (λ bytes. IfSome left (λ given. IsFileOf (due_of (session c.args.replica given)).ending bytes)) (Err f) keeper keeper) (sym c.from.ensures)
+    (unanswered_served g.K.Keeper.store_gives (λ bytes. IfSome left (λ given. IsFileOf (due_of (session c.args.replica given)).ending bytes)) c.in-Err.error keeper)
+
+pub returns-clause-calls : goal.returns-clause-calls
+returns-clause-calls g c =
+    saved_served g.K.Keeper.store_gives c.save.result c.args.replica c.answer_all.new.desk c.replica.result.now (g.S.Source.left c.args.input.now) (g.W.Sink.told c.args.output.now) (g.W.Sink.told c.answer_all.new.output)
+    c.args.keeper.now c.save.new.keeper c.replica.ensures.replica (rw c.new-desk.ensures.sitting at c.in-Ok.ensures.done) c.save.ensures.calls

@@ -1,11 +1,12 @@
-use Rattle.std.proofs.Common.{IfSome, Err, ap, subst, sym}
+use Rattle.std.proofs.Common.{◌≡◌, IfSome, Err, ap, refl, subst, sym}
 use Rattle.rls_report.specs.declared.failures.Failure.{Failure}
 use Rattle.rls_session.specs.Answering.{IsNear, IsPrompt}
 use Rattle.rls_session.specs.Answers.{answer, sitting_at}
 use Rattle.rls_session.specs.Due.{due}
-use Rattle.rls_session.specs.Endings.{Leaves}
+use Rattle.rls_session.specs.Endings.{IsSessionsOwn, Leaves}
 use Rattle.rls_session.specs.Sessions.{by_parts, session}
-use Rattle.rls_session.proofs.Served.{early_err, on_session, open_failed, open_leaves, opened_leaves, opened_usable, stays_err, stays_so, unread_near, usable_only}
+use Rattle.rls_session.proofs.Called.{opened_served, served_calls, unopened_calls}
+use Rattle.rls_session.proofs.Served.{early_err, on_session, open_failed, open_leaves, open_other, opened_own, opened_leaves, opened_usable, stays_err, stays_so, unread_near, usable_only}
 use Rattle.rls_session.proofs.serving.perform.Goals as goal
 
 pub returns-in-Err-clause-leaves : goal.returns-in-Err-clause-leaves
@@ -62,3 +63,21 @@ pub returns-in-Ok-clause-prompt : goal.returns-in-Ok-clause-prompt
 returns-in-Ok-clause-prompt g c = λ e.
     on_session (g.K.Keeper.file c.args.keeper.now) (g.S.Source.left c.args.input.now) c.in-Ok.replica
     (λ s given. IsPrompt (answer by_parts) (sitting_at s) given (g.S.Source.left c.answer_on.new.input) (g.W.Sink.told c.args.output.now) (g.W.Sink.told c.answer_on.new.output)) c.in-Ok.ensures.opened (c.answer_on.ensures.prompt e)
+
+pub returns-in-Err-clause-own : goal.returns-in-Err-clause-own
+returns-in-Err-clause-own g c = subst (λ (f : Failure). IsSessionsOwn (Err f)) (sym c.from.ensures) (opened_own c.in-Err.error c.in-Err.ensures.errors)
+
+pub returns-in-Err-clause-calls : goal.returns-in-Err-clause-calls
+returns-in-Err-clause-calls g c = λ n s.
+    unopened_calls g.K.Keeper.load_gives g.K.Keeper.store_gives (due (g.K.Keeper.file c.args.keeper.now) (g.S.Source.left c.args.input.now))
+    ((c.args.input.now ≡ c.args.input.now) × (c.args.output.now ≡ c.args.output.now)) n c.args.keeper.now c.in-Err.error c.from.result c.«open».new.keeper c.from.ensures c.in-Err.ensures.calls (refl, refl) s
+
+pub returns-in-Ok-clause-calls : goal.returns-in-Ok-clause-calls
+returns-in-Ok-clause-calls g c = λ n s.
+    let file = g.K.Keeper.file c.args.keeper.now in
+    let left = g.S.Source.left c.args.input.now in
+    served_calls g.K.Keeper.load_gives g.K.Keeper.store_gives (due file left) ((c.answer_on.new.input ≡ c.args.input.now) × (c.answer_on.new.output ≡ c.args.output.now)) n c.args.keeper.now c.answer_on.result c.«open».new.keeper
+    c.answer_on.new.keeper c.in-Ok.ensures.calls (opened_served g.K.Keeper.store_gives c.answer_on.result c.in-Ok.replica file left c.«open».new.keeper c.answer_on.new.keeper c.in-Ok.ensures.opened c.answer_on.ensures.calls) s
+
+pub returns-in-Err-clause-uncounted : goal.returns-in-Err-clause-uncounted
+returns-in-Err-clause-uncounted g c = λ other. c.in-Err.ensures.uncounted (open_other c.in-Err.error c.from.result c.from.ensures other)

@@ -2,7 +2,7 @@ use Rattle.rls_io.specs.Device.{Rose}
 use Rattle.rls_stages.specs.Endings.{Writes}
 use Rattle.rls_session.specs.Due.{due}
 use Rattle.rls_session.proofs.Histories.{history_serves}
-use Rattle.rls_session.proofs.Served.{early_so, ends_due, fault_of, line_so, no_other, unstored_so}
+use Rattle.rls_session.proofs.Served.{early_so, ends_due, fault_of, line_so, no_keeper_fault, no_other, unstored_so}
 use Rattle.rls_session.proofs.serving.serve.Goals as goal
 
 pub returns-clause-ends : goal.returns-clause-ends
@@ -28,7 +28,7 @@ pub returns-clause-prompt : goal.returns-clause-prompt
 returns-clause-prompt g c = λ e. c.perform-ending.ensures.prompt ((fault_of c.perform-ending.result c.tell.result c.tell.ensures.status).1 e)
 
 pub returns-clause-no_other : goal.returns-clause-no_other
-returns-clause-no_other g c = no_other c.perform-ending.result c.tell.result c.tell.ensures.status
+returns-clause-no_other g c = no_other c.perform-ending.result c.tell.result c.perform-ending.ensures.own c.tell.ensures.status
 
 pub returns-clause-line : goal.returns-clause-line
 returns-clause-line g c =
@@ -41,3 +41,9 @@ returns-clause-stays g c = unstored_so c.perform-ending.result c.tell.result _ c
 
 pub returns-clause-early : goal.returns-clause-early
 returns-clause-early g c = early_so c.perform-ending.result c.tell.result _ c.tell.ensures.status c.perform-ending.ensures.early
+
+pub returns-clause-calls : goal.returns-clause-calls
+returns-clause-calls g c = c.perform-ending.ensures.calls c.tell.result c.tell.ensures.status
+
+pub returns-clause-uncounted : goal.returns-clause-uncounted
+returns-clause-uncounted g c = λ other. c.perform-ending.ensures.uncounted (no_keeper_fault c.perform-ending.result c.tell.result c.tell.ensures.status other)

@@ -1,0 +1,38 @@
+//! A session over the keeper with two slots.
+
+ghost use Rattle.std.specs.Prelude.{◌≡◌, ◌≢◌, IfSome, true};
+ghost use Rattle.rls_journal.specs.Areas.{kept};
+ghost use Rattle.rls_journal.specs.Keeper.{IsAtRest, disk_of, file_told};
+ghost use Rattle.rls_session.specs.Calls.{IsDueOf};
+ghost use Rattle.rls_session.specs.Due.{due};
+ghost use Rattle.rls_durable.specs.Stops.{HasDue, LeavesOldOrDue};
+
+use rls_io::{Sink, Source};
+use rls_journal::{Disk, DiskKeeper};
+use rls_session::serve;
+use std::alloc::Global;
+
+/// Holds a session by `rls_session::serve`, on the file that the keeper with two slots has, and answers the program's exit status. The
+/// clauses of `serve` hold of it too.
+///
+/// If the keeper was at rest, as one over a disk on which nothing is pending, a stop at any moment of the session leaves a disk whose
+/// kept file is the one from before or the one that the session is to store at its end, so that the next command finds the one or the
+/// other. With status 0 each later stop leaves the new file, until the next `store`. After the statuses 7, 9 and 10 the file may be
+/// either. With every status but 7 and 10 the keeper is at rest again.
+pub fn serve_on_disk<D: Disk, S: Source, W: Sink, E: Sink>(
+    alloc: Global,
+    keeper: &mut DiskKeeper<D>,
+    input: &mut S,
+    output: &mut W,
+    errors: &mut E,
+) -> u8
+    // Within the session and after it.
+    ensures any_moment { IsAtRest D.seen D.may_leave (disk_of keeper.old) → IfSome (D.seen (disk_of keeper.old)) (λ s.
+        LeavesOldOrDue D.moment D.left_since true (IsDueOf (due (file_told D.seen keeper.old) (S.left input.old))) (kept s) (disk_of keeper.old) (disk_of keeper.new)) }
+
+    // After it.
+    ensures stored { result ≡ 0 → HasDue D.seen D.may_leave (IsDueOf (due (file_told D.seen keeper.old) (S.left input.old))) (disk_of keeper.old) (disk_of keeper.new) }
+    ensures rest { result ≢ 7 → result ≢ 10 → IsAtRest D.seen D.may_leave (disk_of keeper.new) }
+{
+    serve(alloc, keeper, input, output, errors)
+}
