@@ -56,6 +56,7 @@ use Rattle.rls_store.specs.Stored.{AreWritable}
 use Rattle.rls_stages.specs.Lines.{fault_in, line_by, line_fault, text_in}
 use Rattle.rls_stages.specs.Lines as lines
 use Rattle.rls_stages.proofs.Alike.{lines_alike}
+use Rattle.rls_store.proofs.Characters.{text_chars}
 use Rattle.rls_stages.proofs.Meant.{IsGood, IsLine, IsMeantWell, line_good, line_well}
 use Rattle.rls_store.proofs.Storable.{IsStoring, edited_storing, storing, taken_writable}
 use Rattle.rls_undo.specs.declared.entry.Entry.{Entry}
@@ -77,7 +78,6 @@ use Rattle.rls_session.specs.Orders.{edit_or_bad, member_of, order_of, order_of_
 use Rattle.rls_session.specs.Replies.{bytes_text, cursor_text, failed_text, ok_text, refused_text}
 use Rattle.rls_session.specs.Requests.{Cut, Does, Request, Takes, cut, cut_after, line_size}
 use Rattle.rls_session.specs.Sessions.{by_history, by_parts, session, session_in}
-use Rattle.rls_session.proofs.Characters.{text_chars}
 use Rattle.rls_session.proofs.Courses.{IsSameCourse, courses_alike}
 use Rattle.rls_store.proofs.Storable.{all_writable}
 use Rattle.rls_session.proofs.Whole.{last_undoable, whole_edited, whole_on, whole_pointed, whole_undone}

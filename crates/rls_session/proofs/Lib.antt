@@ -9,6 +9,5 @@ pub mod Whole
 pub mod Answered
 pub mod Served
 pub mod Called
-pub mod Characters
 pub mod Agreeing
 pub mod Histories

@@ -8,3 +8,11 @@ pub mod Saved
 pub mod Spelled
 pub mod StoredAgain
 pub mod InFlight
+pub mod Characters
+pub mod RangedIdents
+pub mod HistoryIdents
+pub mod MadeOps
+pub mod HistorySteps
+pub mod HistoryRuns
+pub mod HistoryMessages
+pub mod HistoryFields

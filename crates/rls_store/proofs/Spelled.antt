@@ -203,7 +203,7 @@ grouped v a (suc n) ts s r f g few =
 
 -- ---- epochs
 
-node_in : (ns : List Node) (e : EpochName) (n : Node) → node_of ns e ≡ Some n → IsIn n ns
+pub node_in : (ns : List Node) (e : EpochName) (n : Node) → node_of ns e ≡ Some n → IsIn n ns
 node_in [] e n h = absurd cc
 node_in (m ∷ ns) e n h = go (is_of m e) (node_in ns e n) h
   where

@@ -122,7 +122,7 @@ waits_other : (s : Seen) (o : Op) → answer_over false s o ≡ Waits → o.auth
 unfolding answer_over
 waits_other s o e = λ same. let no = other_by (vector s) s.acks.me s.waiting (refusal_over s o) o (shape_fault (members s) o) e in grind (arith, nat_tests)
 
-pub received_storing : (s : Seen) (o : Op) → IsStoring s → IsGiven o → IsStoring (received s o)
+received_storing : (s : Seen) (o : Op) → IsStoring s → IsGiven o → IsStoring (received s o)
 unfolding received
 received_storing s o h g = go (answer_over false s o) refl (received_sane s o h.sane g.whole g.ranged)
   where
@@ -132,7 +132,7 @@ received_storing s o h g = go (answer_over false s o) refl (received_sane s o h.
     go Repeats e k = rw e h
     go (Refuses r) e k = rw e h
 
-pub released_storing : (s : Seen) → IsStoring s → IsStoring (released s)
+released_storing : (s : Seen) → IsStoring s → IsStoring (released s)
 unfolding released
 released_storing s h = go (first_ready s) refl (released_sane s h.sane)
   where
@@ -208,7 +208,7 @@ receive_way n c o h g =
       limit = received_limit by_parts c o h.limit;
     }
 
-pub release_way : (n : ℕ) (c : Course) → IsOnWay n c → IsOnWay n (release_step c)
+release_way : (n : ℕ) (c : Course) → IsOnWay n c → IsOnWay n (release_step c)
 release_way n c h =
     let e = released_seen c h.limit in
     record {
@@ -217,7 +217,7 @@ release_way n c h =
       limit = released_limit by_parts c h.limit;
     }
 
-pub edit_way : (n : ℕ) (c : Course) (edit : Edit) → IsOnWay n c → IsEdit edit → edit_fault_over c.state edit ≡ None → IsOnWay n (edit_step c edit)
+edit_way : (n : ℕ) (c : Course) (edit : Edit) → IsOnWay n c → IsEdit edit → edit_fault_over c.state edit ≡ None → IsOnWay n (edit_step c edit)
 edit_way n c edit h i f =
     subst (IsOnWay n) (sym (edit_unlimited by_parts c edit h.limit))
     (record { storing = edited_storing c.state edit h.storing i f; members_are = members_accepted c.state (made_over c.state edit) ∙ h.members_are; limit = ap one_less h.limit })
@@ -246,7 +246,7 @@ released_fewer s w e =
     let f = fewer s w (refusal_over s w) (found_in (λ y. at_most y.context (vector s)) w s.waiting e).0 in
     subst (λ (o : Option Op). length (after_release s o).waiting < length s.waiting) (sym e) f
 
-pub times_rest : (k : ℕ) (s : Seen) → length s.waiting ≤ k → first_ready (released_times k s) ≡ None
+times_rest : (k : ℕ) (s : Seen) → length s.waiting ≤ k → first_ready (released_times k s) ≡ None
 times_rest zero s few = empty_rests (λ w. at_most w.context (vector s)) s.waiting few
 times_rest (suc k) s few = go (first_ready s) refl (λ l. times_rest k (released s) l)
   where
@@ -275,13 +275,13 @@ pub record IsAtRest (n : ℕ) (c : Course) : Type 0 where
   pub way : IsOnWay n c
   pub rest : first_ready c.state ≡ None
 
-pub releases_rest : (n : ℕ) (c : Course) → IsOnWay n c → IsAtRest n (with_releases c)
+releases_rest : (n : ℕ) (c : Course) → IsOnWay n c → IsAtRest n (with_releases c)
 releases_rest n c h = record { way = releases_keep by_parts (IsOnWay n) (release_way n) (length c.state.waiting) c h; rest = ap first_ready (steps_seen (length c.state.waiting) n c h) ∙ times_rest (length c.state.waiting) c.state (omega arith) }
 
-pub started_rest : (s : Seen) → IsSane s → AreWritable s → IsAtRest (members s) (started None s)
+started_rest : (s : Seen) → IsSane s → AreWritable s → IsAtRest (members s) (started None s)
 started_rest s h w = record { way = record { storing = storing s h w; members_are = refl; limit = refl }; rest = w.rest }
 
-pub rest_writable : (n : ℕ) (c : Course) → IsAtRest n c → IsSane c.state × AreWritable c.state
+rest_writable : (n : ℕ) (c : Course) → IsAtRest n c → IsSane c.state × AreWritable c.state
 rest_writable n c r = (r.way.storing.sane, writable c.state r.way.storing r.rest)
 
 -- ---- messages

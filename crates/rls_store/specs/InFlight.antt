@@ -1,5 +1,5 @@
 -- Operations that some member that hasn't left may not have, and what a file keeps for them.
-use Rattle.std.specs.Prelude.{◌≡◌, ◌<◌, ◌+◌, ℕ, List, [], ◌∷◌, length, sum, IsTrue, IsFalse}
+use Rattle.std.specs.Prelude.{◌≡◌, ◌<◌, ◌+◌, ℕ, [], ◌∷◌, length, sum, IsTrue, IsFalse}
 use Rattle.rls_ident.specs.Vectors.{at_most}
 use Rattle.rls_ops.specs.Rows.{left, row_of}
 use Rattle.rls_model.specs.Parts.{top_part}

@@ -3,3 +3,4 @@ pub mod Loading
 pub mod Stored
 pub mod Kept
 pub mod InFlight
+pub mod Histories

@@ -1,5 +1,6 @@
 //! Laws of stored replicas. Each call runs nothing and takes no memory; its contract states the fact.
 
+ghost use Rattle.rls_store.specs.Histories.{FreshIsStorable, LinesKeepStorable, SentIsMessage, StorableIsReadBack, TakenIsStorable};
 ghost use Rattle.rls_store.specs.InFlight.{InFlight};
 ghost use Rattle.rls_store.specs.Kept.{FreshIsWritable, LinesKeepWritable, TakenIsWritable};
 ghost use Rattle.rls_store.specs.Stored.{StoredAgain};
@@ -15,6 +16,16 @@ pub fn stays_writable<L, F>()
     ensures fresh { FreshIsWritable }
     ensures lines { LinesKeepWritable L F }
     ensures taken { TakenIsWritable }
+{}
+
+/// A history of which each operation has a spelling goes on as one, from the one in which nothing has happened, by edits without a fault
+/// and by messages. What it sends has a spelling, and what is stored of a replica that stands for it is read back.
+pub fn histories_are_stored<L, F>()
+    ensures fresh { FreshIsStorable }
+    ensures lines { LinesKeepStorable L F }
+    ensures taken { TakenIsStorable }
+    ensures sent { SentIsMessage }
+    ensures read_back { StorableIsReadBack }
 {}
 
 /// A file keeps one operation for each count that isn't stable. If every member that hasn't left has acknowledged all, it keeps no

@@ -49,10 +49,10 @@ live_chars : (H : History) → IsLegal H → All IsChar (live H)
 unfolding live chars
 live_chars H l = All-filter (λ c. not (is_named H c)) IsChar (chars H) (ops_chars H l)
 
-abbrev IsCharOf : List Tuple × ℕ → Type 0
+abbrev pub IsCharOf : List Tuple × ℕ → Type 0
 IsCharOf y = IsScalar y.1
 
-export_chars : (H : History) → IsLegal H → All IsCharOf (export H)
+pub export_chars : (H : History) → IsLegal H → All IsCharOf (export H)
 unfolding export
 export_chars H l =
     let es = map (λ c. (ident_in H (greatest H) c, c.char)) (live H) in
