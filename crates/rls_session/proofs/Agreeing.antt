@@ -179,7 +179,7 @@ number_alike : (s : Seen) (t : State) (edit : Edit) → StandsFor s t → own_co
 unfolding made_over made
 number_alike s t edit h = ap (λ o. o.seq) (made_alike s t edit h)
 
-edited_almost : (d : Sitting Seen) (f : Sitting State) (r : Result Edit LineFault) → IsAlike d f → IsMeantWell d.state r → AreAlmost (answers.edited by_parts d r) (answers.edited by_history f r)
+edited_almost : (d : Sitting Seen) (f : Sitting State) (r : Result Edit LineFault) → IsAlike d f → IsMeantWell edit_fault_over d.state r → AreAlmost (answers.edited by_parts d r) (answers.edited by_history f r)
 edited_almost d f (Err fault) h w = record { reply = refl; states = almost d f h }
 edited_almost d f (Ok edit) h w =
     let s = d.state in
@@ -199,7 +199,7 @@ edited_almost d f (Ok edit) h w =
 line_almost : (d : Sitting Seen) (f : Sitting State) (line : Line) → IsAlike d f → IsLine line → AreAlmost (answers.edited by_parts d (answers.read_line by_parts d.state line)) (answers.edited by_history f (answers.read_line by_history f.state line))
 line_almost d f line h w =
     let same : lines.read_line d.state line ≡ line_by fault_in text_in f.state line = lines_alike d.state f.state line h.stands in
-    subst (λ (r : Result Edit LineFault). AreAlmost (answers.edited by_parts d (lines.read_line d.state line)) (answers.edited by_history f r)) same (edited_almost d f (lines.read_line d.state line) h (line_well d.state line w))
+    subst (λ (r : Result Edit LineFault). AreAlmost (answers.edited by_parts d (lines.read_line d.state line)) (answers.edited by_history f r)) same (edited_almost d f (lines.read_line d.state line) h (line_well edit_fault_over text_over d.state line w))
 
 -- ---- undoing
 

@@ -26,9 +26,7 @@ use Rattle.rls_script.specs.declared.clusters.ClusterError.{ClusterError}
 use Rattle.rls_script.specs.declared.clusters.ClusterError.TheVariants as clusters
 use Rattle.rls_script.specs.declared.lines.Line.{Line}
 use Rattle.rls_script.specs.declared.lines.Line.TheVariants.{Insert, Delete, Back, Rename}
-use Rattle.rls_seen.specs.Edits.{edit_fault_over}
-use Rattle.rls_seen.specs.Seen.{Seen, text_over}
-use Rattle.rls_stages.specs.Lines.{allowed, backward_by, line_fault_of, read_line}
+use Rattle.rls_stages.specs.Lines.{allowed_by, backward_by, line_by, line_fault_of}
 use Rattle.rls_script.proofs.Begins.{cluster_begins}
 
 -- ---- what lines mean
@@ -40,28 +38,29 @@ IsLine (Delete at n) = IsLarge at × IsLarge n
 IsLine (Back at) = IsLarge at
 IsLine Rename = Unit {0}
 
--- what is meant, if this was read as an edit
-abbrev pub IsMeantWell : Seen → Result Edit LineFault → Type 0
-IsMeantWell s (Ok edit) = IsEdit edit × (edit_fault_over s edit ≡ None)
-IsMeantWell s (Err fault) = Unit {0}
+-- what is meant, if this was read as an edit, has no fault there
+abbrev pub IsMeantWell : {X : Type 0} → (X → Edit → Option EditError) → X → Result Edit LineFault → Type 0
+IsMeantWell fault x (Ok edit) = IsEdit edit × (fault x edit ≡ None)
+IsMeantWell fault x (Err e) = Unit {0}
 
-pub allowed_well : (s : Seen) (edit : Edit) → IsEdit edit → IsMeantWell s (allowed s edit)
-allowed_well s edit w = go (edit_fault_over s edit) refl
-  where
-    go : (f : Option EditError) → edit_fault_over s edit ≡ f → IsMeantWell s (unless_fault (line_fault_of f) edit)
-    go None e = (w, e)
-    go (Some f) e = tt
+module _ {X : Type 0} (fault : X → Edit → Option EditError) (text : X → List ℕ) (x : X) where
+  pub allowed_well : (edit : Edit) → IsEdit edit → IsMeantWell fault x (allowed_by fault x edit)
+  allowed_well edit w = go (fault x edit) refl
+    where
+      go : (f : Option EditError) → fault x edit ≡ f → IsMeantWell fault x (unless_fault (line_fault_of f) edit)
+      go None e = (w, e)
+      go (Some f) e = tt
 
-backward_well : (s : Seen) (at : ℕ) (r : Result ℕ ClusterError) → IsLarge at → ((f : ℕ) → r ≡ Ok f → f ≤ at) → IsMeantWell s (backward_by edit_fault_over s at r)
-backward_well s at (Ok from) l begins = let b = begins from refl in allowed_well s (edits.Delete from (at - from)) (omega arith, omega arith)
-backward_well s at (Err (clusters.Range p total)) l begins = tt
-backward_well s at (Err (clusters.NotBoundary p)) l begins = tt
+  backward_well : (at : ℕ) (r : Result ℕ ClusterError) → IsLarge at → ((f : ℕ) → r ≡ Ok f → f ≤ at) → IsMeantWell fault x (backward_by fault x at r)
+  backward_well at (Ok from) l begins = let b = begins from refl in allowed_well (edits.Delete from (at - from)) (omega arith, omega arith)
+  backward_well at (Err (clusters.Range p total)) l begins = tt
+  backward_well at (Err (clusters.NotBoundary p)) l begins = tt
 
-pub line_well : (s : Seen) (l : Line) → IsLine l → IsMeantWell s (read_line s l)
-line_well s (Insert at cs) w = allowed_well s (edits.Insert at cs) w
-line_well s (Delete at n) w = allowed_well s (edits.Delete at n) w
-line_well s (Back at) w = backward_well s at (cluster_before (text_over s) at) w (λ f e. cluster_begins (text_over s) at f e)
-line_well s Rename w = allowed_well s edits.Rename tt
+  pub line_well : (l : Line) → IsLine l → IsMeantWell fault x (line_by fault text x l)
+  line_well (Insert at cs) w = allowed_well (edits.Insert at cs) w
+  line_well (Delete at n) w = allowed_well (edits.Delete at n) w
+  line_well (Back at) w = backward_well at (cluster_before (text x) at) w (λ f e. cluster_begins (text x) at f e)
+  line_well Rename w = allowed_well edits.Rename tt
 
 -- ---- characters
 

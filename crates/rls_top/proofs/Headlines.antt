@@ -201,7 +201,7 @@ saved_at words c file new_file left bytes report refused t u s r d too_long n ol
 -- ---- what is shown
 
 -- the listing is that of each history that the replica stands for
-ids_alike : (s : Seen) (t : State) → StandsFor s t → ids_over s ≡ ids_of t.history
+pub ids_alike : (s : Seen) (t : State) → StandsFor s t → ids_over s ≡ ids_of t.history
 ids_alike s t h = ap (λ (e : EpochName). ids_text e (runs_of (idents_over s))) (greatest_alike s t h) ∙ ap (λ (xs : List (List Tuple)). ids_text (greatest t.history) (runs_of xs)) (idents_alike s t h)
 
 pub text_shown : (words : List (List ℕ)) (file new_file : Option (Option (List ℕ))) (left : Option (List ℕ)) (bytes : List ℕ) (t : State) (n : ℕ) (old new : Option (List ℕ))
@@ -257,7 +257,7 @@ edits_saved words file new_file left bytes script t lines p n old new e a l pars
     let o = opened bytes t a.stands in
     let s = o.0 in
     let well = lines_read_well lines (script_fits script lines parsed) in
-    let r = runs_alike read_line (line_by fault_in text_in) lines_alike s t lines p well o.1.stands ran in
+    let r = runs_alike read_line (line_by fault_in text_in) lines_alike s t lines well o.1.stands p ran in
     let c = r.0 in
     let report = edit_text (length lines) p.counts.released (length p.counts.refused) in
     let long = FILE_BYTES < length (file_bytes (parts p.state)) in
@@ -275,7 +275,7 @@ pub leave_saved : (words : List (List ℕ)) (file new_file : Option (Option (Lis
 leave_saved words file new_file left bytes t p n old new e a ran =
     let o = opened bytes t a.stands in
     let s = o.0 in
-    let r = runs_alike allowed (allowed_by fault_in) allowed_alike s t (edits.Leave ∷ []) p leave_reads_well o.1.stands ran in
+    let r = runs_alike allowed (allowed_by fault_in) allowed_alike s t (edits.Leave ∷ []) leave_reads_well o.1.stands p ran in
     let c = r.0 in
     let report = edit_text 1 p.counts.released (length p.counts.refused) in
     let long = FILE_BYTES < length (file_bytes (parts p.state)) in
@@ -285,7 +285,7 @@ leave_saved words file new_file left bytes t p n old new e a ran =
     done (run_stored (members s) 1 c p r.2) (record { stands = r.2.states.1; writable = w.1 })
 
 -- the message is for the replica, as it is for the history
-for_alike : (s : Seen) (t : State) (m : Message) → StandsFor s t → is_for t.history m ≡ true → dues.is_for s m ≡ true
+pub for_alike : (s : Seen) (t : State) (m : Message) → StandsFor s t → is_for t.history m ≡ true → dues.is_for s m ≡ true
 for_alike s t m h e = ap (λ n. (m.group == n) && (m.members == members s)) h.group ∙ (ap (λ n. (m.group == group_of t.history) && (m.members == n)) (members_alike s t h) ∙ e)
 
 -- the operations of a message that has a spelling are well formed
@@ -293,7 +293,7 @@ ops_given : (n : ℕ) (before : Option Op) (os : List Op) → Chained (λ b. IsS
 ops_given n before [] c = tt
 ops_given n before (o ∷ os) c = (spelled_op n o c.0, ops_given n (Some o) os c.1)
 
-message_given : (bytes : List ℕ) (m : Message) (n : ℕ) → IsMessage bytes m → m.members ≡ n → seen.IsMessage n m
+pub message_given : (bytes : List ℕ) (m : Message) (n : ℕ) → IsMessage bytes m → m.members ≡ n → seen.IsMessage n m
 message_given bytes m n is e =
     let v = is.2 in
     let from = v.from in
