@@ -2,6 +2,8 @@ mod Alike
 mod Called
 mod Finishing
 mod Fresh
+mod GroupCommands
+mod Groups
 mod Headlines
 mod Messages
 mod OnFiles

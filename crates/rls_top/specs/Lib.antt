@@ -5,3 +5,4 @@ pub mod Endings
 pub mod Stages
 pub mod Calls
 pub mod Headline
+pub mod Groups

@@ -3,6 +3,7 @@
 
 mod command;
 mod editing;
+pub mod laws;
 mod made;
 mod making;
 mod reading;
