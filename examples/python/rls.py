@@ -196,8 +196,9 @@ class Commands:
         return self._run("send", str(to))[0]
 
     def head(self):
-        """Who this is.  No command tells it (`stat` isn't built), so it is read from a message."""
-        return Head.of(self.message(0))
+        """Who this is, and how many operations of each member were accepted."""
+        told = dict(line.split(" ", 1) for line in self._run("stat")[0].decode().splitlines())
+        return Head(int(told["group"]), int(told["members"]), int(told["me"]), tuple(map(int, told["accepted"].split())))
 
     def take(self, message):
         out, line = self._run("take", data=message, fine=(0, 5))

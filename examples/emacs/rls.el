@@ -1,0 +1,296 @@
+;;; rls.el --- Edits a replica of rls in a buffer  -*- lexical-binding: t -*-
+
+;; Package-Requires: ((emacs "28.1"))
+
+;;; Commentary:
+
+;; M-x rls-open FOLDER SHARED opens the replica of a folder; messages go to other members and come from them through the folder SHARED.
+;; C-x C-s stores, takes what came and sends what is new; a timer does so too.  M-x rls-undo takes back the last own edit that isn't
+;; stored yet, whatever others did since.  README.md tells how to use it.
+;;
+;; It speaks `rls session', which docs/SESSION.md describes.  The session counts characters as Emacs does, from 0.
+
+;;; Code:
+
+(defgroup rls nil "Texts that several people write, by rls." :group 'applications)
+(defcustom rls-program "rls" "The program." :type 'string)
+(defcustom rls-every 0.5 "Seconds between two looks into the shared folder; nil for none." :type '(choice number (const nil)))
+(defcustom rls-idle 2 "Seconds without an edit, after which edits are stored and sent." :type 'number)
+
+(defconst rls--most-input (- 67108864 4096) "Bytes that one session may read, less some.")
+(defvar rls--silent nil "Whether a change of the buffer comes from the session.")
+(defvar-local rls--process nil "The session.")
+(defvar-local rls--given 0 "Bytes that the session was given.")
+(defvar-local rls--folder nil)
+(defvar-local rls--shared nil)
+(defvar-local rls--head nil "The head of a message of this replica.")
+(defvar-local rls--group nil)
+(defvar-local rls--members nil)
+(defvar-local rls--me nil)
+(defvar-local rls--unsaved nil "Whether something isn't stored yet.")
+(defvar-local rls--edited 0 "When this member edited last.")
+(defvar-local rls--taken nil "The last message from each member.")
+(defvar-local rls--sent nil "The last message to each member.")
+(defvar-local rls--timer nil)
+(defvar-local rls--problem "" "What a message of another member lacked.")
+(defvar-local rls--failed nil "Why nothing more is done with this buffer.")
+
+;;;; The session
+
+(defun rls--start ()
+  (let* ((default-directory rls--folder) (process-connection-type nil) (errors (generate-new-buffer " *rls-errors*" t)))
+    (setq rls--process (make-process :name "rls" :buffer (generate-new-buffer " *rls*" t) :command (list rls-program "session")
+                                     :coding 'binary :noquery t :sentinel #'ignore :stderr errors)
+          rls--given 0 rls--unsaved nil)
+    (process-put rls--process 'errors errors)
+    (set-process-query-on-exit-flag (get-buffer-process errors) nil)
+    (set-process-sentinel (get-buffer-process errors) #'ignore)
+    (with-current-buffer (process-buffer rls--process) (set-buffer-multibyte nil))))
+
+(defun rls--end-process ()
+  "Waits until the session has ended, and removes what it left."
+  (let ((process rls--process))
+    (while (accept-process-output process 5 nil 1))
+    (kill-buffer (process-get process 'errors))
+    (kill-buffer (process-buffer process))))
+
+(defun rls--wait (test)
+  "Waits until TEST answers something in the buffer of the session's output.
+No timer runs meanwhile."
+  (let ((process rls--process) found)
+    (with-current-buffer (process-buffer process)
+      (while (not (setq found (funcall test)))
+        (unless (accept-process-output process 10 nil 1)
+          (error "rls: the session %s: %s" (if (process-live-p process) "gives no answer" "ended")
+                 (with-current-buffer (process-get process 'errors) (string-trim (buffer-string)))))))
+    found))
+
+(defun rls--line ()
+  "The next line of a reply."
+  (rls--wait (lambda ()
+               (goto-char (point-min))
+               (when (search-forward "\n" nil t)
+                 (prog1 (buffer-substring (point-min) (1- (point)))
+                   (delete-region (point-min) (point)))))))
+
+(defun rls--bytes (count)
+  "The next COUNT bytes of a reply, after which a line feed comes."
+  (rls--wait (lambda ()
+               (when (> (buffer-size) count)
+                 (prog1 (buffer-substring 1 (1+ count))
+                   (delete-region 1 (+ count 2)))))))
+
+(defun rls--ask (request &optional data)
+  "The first line of the reply to REQUEST, with the bytes DATA that belong to it."
+  (let ((sent (concat (encode-coding-string request 'utf-8-unix) "\n" data)))
+    (setq rls--given (+ rls--given (length sent)))
+    (process-send-string rls--process sent)
+    (rls--line)))
+
+(defun rls--number (reply word)
+  "The number after WORD in REPLY; any other reply is an error."
+  (if (string-match (concat "\\`" word " \\([0-9]+\\)") reply)
+      (string-to-number (match-string 1 reply))
+    (error "rls: %s" reply)))
+
+(defun rls--message (to) (rls--bytes (rls--number (rls--ask (format "s %d" to)) "message")))
+
+(defun rls--save ()
+  "Stores: only the end of a session writes the file, so another one begins.
+The cursor goes over, and what `u' could take back doesn't."
+  (let ((at (rls--number (rls--ask "p") "cursor")))
+    (unless (equal (rls--ask "q") "saved") (error "rls: not stored"))
+    (rls--end-process)
+    (rls--start)
+    (rls--number (rls--ask (format "k %d" at)) "cursor")))
+
+;;;; The text
+
+(defun rls--escaped (text)
+  (replace-regexp-in-string "[\\\n\r]" (lambda (c) (pcase c ("\\" "\\\\") ("\n" "\\n") (_ "\\r"))) text t t))
+
+(defun rls--changed (from to gone)
+  "Hands a change of the buffer to the session."
+  (unless (or rls--silent rls--failed)
+    (save-match-data
+      (rls--try (lambda ()
+                  (when (> gone 0) (rls--number (rls--ask (format "d %d %d" (1- from) gone)) "ok"))
+                  (when (> to from)
+                    (let ((come (save-restriction (widen) (buffer-substring-no-properties from to))))
+                      (rls--number (rls--ask (format "i %d %s" (1- from) (rls--escaped come))) "ok")))
+                  (setq rls--unsaved t rls--edited (float-time)))))))
+
+(defun rls--show ()
+  "Shows the session's text.
+Only what differs is changed, so marks elsewhere stay.  Emacs' own undo goes
+back to here and no further: it would take back what others wrote."
+  (let ((text (decode-coding-string (rls--bytes (rls--number (rls--ask "t") "text")) 'utf-8-unix))
+        (rls--silent t) (other (generate-new-buffer " *rls-text*" t)))
+    (with-current-buffer other (insert text))
+    (save-restriction
+      (widen)
+      (replace-buffer-contents other 1))
+    (kill-buffer other)
+    (setq buffer-undo-list nil)))
+
+;;;; Messages.  One file for each sender and receiver: a message has all that its receiver isn't known to have, so the latest is enough.
+
+(defun rls--path (from to) (expand-file-name (format "%d-%d-%d.rlsm" rls--group from to) rls--shared))
+
+(defun rls--u32 (data at)
+  "The number in the four bytes of DATA from AT on."
+  (let ((number 0))
+    (dotimes (k 4) (setq number (+ (* 256 number) (aref data (+ at k)))))
+    number))
+
+(defun rls--read (path)
+  (with-temp-buffer
+    (set-buffer-multibyte nil)
+    (insert-file-contents-literally path)
+    (buffer-string)))
+
+(defun rls--write (path data)
+  "Writes a file so that whoever reads it sees the old one or the new one."
+  (let ((coding-system-for-write 'binary) (write-region-inhibit-fsync nil))
+    (with-temp-buffer
+      (set-buffer-multibyte nil)
+      (insert data)
+      (write-region nil nil (concat path ".new") nil 'silent))
+    (rename-file (concat path ".new") path t)))
+
+(defun rls--guard (message from)
+  "Refuses a MESSAGE that knows more operations of this member than were made.
+Then the replica's files are old, or two members have its number."
+  (let ((at (+ 21 (* 4 rls--me))))
+    (when (and (>= (length message) (+ at 4))
+               (equal (substring message 5 17) (substring rls--head 5 17))
+               (> (rls--u32 message at) (rls--u32 (rls--message rls--me) at)))
+      (error "rls: member %d knows more edits of member %d than this replica has: the files in its folder are old" from rls--me))))
+
+(defun rls--take-from (from)
+  "Takes what came from a member.  Answers whether there was anything."
+  (let* ((path (rls--path from rls--me))
+         (message (and (/= from rls--me) (file-readable-p path) (rls--read path))))
+    (unless (or (null message) (equal message (alist-get from rls--taken)) (> (length message) rls--most-input))
+      (when (> (+ rls--given (length message)) rls--most-input) (rls--save))
+      (rls--guard message from)
+      (let* ((reply (rls--ask (format "m %d" (length message)) message))
+             (is-refused (string-prefix-p "no " reply)))
+        (setq rls--problem (if (and (not is-refused) (string-match "held 0 refused 0" reply)) "" (format ", message of %d: %s" from reply)))
+        (unless is-refused
+          (setf (alist-get from rls--taken) message)
+          (setq rls--unsaved t))))))
+
+(defun rls--take ()
+  (let* ((window (get-buffer-window)) (taken nil)
+         (at (1- (if window (window-point window) (point)))))
+    (rls--number (rls--ask (format "k %d" at)) "cursor")
+    (dotimes (from rls--members)
+      (when (rls--take-from from) (setq taken t)))
+    (when taken
+      (rls--show)
+      (let ((now (1+ (rls--number (rls--ask "p") "cursor"))))
+        (goto-char now)
+        (when window (set-window-point window now))))))
+
+(defun rls--send ()
+  "Stores, and then writes the messages.
+What isn't stored may be sent to nobody, since a crash would give its numbers
+to other edits."
+  (rls--save)
+  (dotimes (to rls--members)
+    (unless (= to rls--me)
+      (let ((message (rls--message to)))
+        (unless (equal message (alist-get to rls--sent))
+          (rls--write (rls--path rls--me to) message)
+          (setf (alist-get to rls--sent) message)))))
+  (set-buffer-modified-p nil))
+
+(defun rls--tick ()
+  "What the timer does."
+  (rls--take)
+  (when (and rls--unsaved (>= (- (float-time) rls--edited) rls-idle)) (rls--send)))
+
+;;;; The buffer
+
+(defun rls--try (what)
+  "Calls WHAT.
+After a fault nothing more is done with the buffer, which keeps what it shows."
+  (unless rls--failed
+    (condition-case fault (funcall what)
+      (error (setq rls--failed (error-message-string fault))
+             (message "%s" rls--failed))))
+  (force-mode-line-update))
+
+(defun rls-sync ()
+  "Stores, takes what came and sends what is new."
+  (interactive)
+  (rls--try (lambda () (rls--take) (rls--send)))
+  t)
+
+(defun rls-undo ()
+  "Takes back the last own edit that isn't stored yet, whatever others did since."
+  (interactive)
+  (rls--try (lambda ()
+              (let ((reply (rls--ask "u")))
+                (if (string-prefix-p "no " reply) (message "rls: %s" reply)
+                  (rls--number reply "undone")
+                  (setq rls--unsaved t rls--edited (float-time))
+                  (rls--show))))))
+
+(defun rls--close ()
+  "Stores what isn't stored.  It isn't sent before the replica is opened again."
+  (when rls--timer (cancel-timer rls--timer))
+  (when (and rls--process (not rls--failed))
+    (rls--try (lambda () (rls--ask "q") (rls--end-process)))))
+
+(defun rls--close-all ()
+  (dolist (buffer (buffer-list))
+    (when (and (buffer-live-p buffer) (buffer-local-value 'rls--process buffer))
+      (with-current-buffer buffer (rls--close)))))
+
+(defun rls--status ()
+  (or rls--failed (format "member %s of %s%s%s" rls--me rls--members (if rls--unsaved ", not stored" "") rls--problem)))
+
+(define-minor-mode rls-mode
+  "What `rls-open' turns on in its buffers."
+  :lighter (" " (:eval (rls--status)))
+  :keymap (make-sparse-keymap)
+  (when rls-mode
+    (add-hook 'after-change-functions #'rls--changed nil t)
+    (add-hook 'write-contents-functions #'rls-sync nil t)
+    (add-hook 'kill-buffer-hook #'rls--close nil t)
+    (add-hook 'kill-emacs-hook #'rls--close-all)))
+
+(defun rls--begin-timer (buffer)
+  (setq rls--timer (run-with-timer rls-every rls-every
+                                   (lambda ()
+                                     (when (buffer-live-p buffer)
+                                       (with-current-buffer buffer (rls--try #'rls--tick)))))))
+
+;;;###autoload
+(defun rls-open (folder shared)
+  "Opens the replica of FOLDER; messages go through the folder SHARED."
+  (interactive "DReplica: \nDShared folder: ")
+  (unless (file-directory-p folder) (user-error "There is no folder %s" folder))
+  (let ((buffer (generate-new-buffer (concat "rls:" (file-name-nondirectory (directory-file-name folder))))))
+    (with-current-buffer buffer
+      (text-mode)
+      (setq-local require-final-newline nil)
+      (setq rls--folder (file-name-as-directory (expand-file-name folder)) rls--shared (expand-file-name shared))
+      (make-directory rls--shared t)
+      (rls--start)
+      ;; Which member this is: the head of a message tells it.
+      (setq rls--head (rls--message 0)
+            rls--group (+ (ash (rls--u32 rls--head 5) 32) (rls--u32 rls--head 9))
+            rls--members (rls--u32 rls--head 13) rls--me (rls--u32 rls--head 17))
+      (rls--show)
+      (goto-char (point-min))
+      (rls-mode 1)
+      (when rls-every (rls--begin-timer buffer))
+      (rls-sync))
+    (when (called-interactively-p 'any) (switch-to-buffer buffer))
+    buffer))
+
+(provide 'rls)
+;;; rls.el ends here

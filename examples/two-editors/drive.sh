@@ -1,0 +1,112 @@
+# Functions for tests that type into a real editor in tmux. It is read by bash; RLS names the program.
+# Member 0 is in the editor. Member 1 is here and works by commands. Their messages go through the folder $room/shared.
+# shellcheck shell=bash
+
+RLS=${RLS:-$(cd -P "$(dirname "${BASH_SOURCE[0]}")/../../bin" && pwd)/rls}
+export RLS
+room=$(mktemp -d)
+socket=rls-$$
+leave_tmux() { tmux -L "$socket" kill-server 2>/dev/null || true; }
+trap 'leave_tmux; rm -rf "$room"' EXIT
+
+# Two fresh replicas and the folder between them.
+replicas() {
+  mkdir -p "$room/ada" "$room/ben" "$room/shared"
+  (cd "$room/ada" && "$RLS" new 7 0 2 >/dev/null)
+  (cd "$room/ben" && "$RLS" new 7 1 2 >/dev/null)
+}
+
+# Opens a pane of tmux with this command.
+begin() { tmux -L "$socket" -f /dev/null new-session -d -s test -x 100 -y 24 "$1"; }
+
+# Types into the pane: each word is a name of a key, such as Escape, or a text.
+keys() {
+  tmux -L "$socket" send-keys -t "${pane:-test}" "$@"
+  sleep "${pause:-0.1}"
+}
+
+# Types a text as it is.
+type_text() {
+  tmux -L "$socket" send-keys -t "${pane:-test}" -l "$1"
+  sleep "${pause:-0.1}"
+}
+
+screen() { tmux -L "$socket" capture-pane -p -t "${pane:-test}"; }
+
+# Member 1 takes what came.
+ben_takes() {
+  local message=$room/shared/7-0-1.rlsm
+  [ ! -f "$message" ] || (cd "$room/ben" && "$RLS" take <"$message" >/dev/null)
+}
+
+# Member 1 edits and sends.
+ben_edits() {
+  ben_takes
+  (cd "$room/ben" && printf '%s\n' "$@" | "$RLS" edit >/dev/null && "$RLS" send 0 >"$room/shared/.new" && mv "$room/shared/.new" "$room/shared/7-1-0.rlsm")
+}
+
+ben_text() { (cd "$room/ben" && "$RLS" text); }
+
+# Waits until a command prints this, for 30 seconds; $1 says what is looked at.
+wait_for() {
+  local found
+  for _ in $(seq 150); do
+    found=$("${@:3}" && echo .) || true
+    [ "$found" = "$2." ] && { echo "ok      $1"; return 0; }
+    sleep 0.2
+  done
+  printf 'FAILED  %s: wanted %q, found %q\n' "$1" "$2" "${found%.}"
+  screen
+  exit 1
+}
+
+taken_text() { ben_takes && ben_text; }
+
+# Waits until member 1 has this text.
+ben_has() { wait_for "$1" "$2" taken_text; }
+
+screen_has() { screen | grep -qF -- "$1" && printf yes; }
+
+# Waits until the editor shows this.
+shows() { wait_for "$1" yes screen_has "$2"; }
+
+stored_text() { (cd "$room/ada" && "$RLS" text); }
+
+# What member 0 types into its editor, and what both members then have. An editor's test says how, by these functions: append TEXT (types at
+# the place where the editor waits), to_end (goes to the end of the text's first line), replace_last_line TEXT, delete_first_line,
+# hold_back (nothing is sent from now on, unless `store` asks for it), take_back, store and leave_editor.
+play() {
+  shows 'the status line' 'member 0 of 2'
+  append 'Bread and tea'
+  ben_has 'what was typed is sent' 'Bread and tea'
+  ben_edits 'i 0 Butter, ' 'i 21 \nJam'
+  shows 'what others typed is shown' 'Butter, Bread and tea'
+  append '!'
+  ben_has 'the cursor has moved with its character' $'Butter, Bread and tea!\nJam'
+  replace_last_line 'Salt \ é😀'
+  ben_has 'lines, a backslash, and characters of two and four bytes' $'Butter, Bread and tea!\nSalt \\ é😀'
+  hold_back
+  delete_first_line
+  shows 'a deletion that is not stored' 'not stored'
+  ben_edits 'i 32 ?'
+  shows 'what others typed meanwhile' '?'
+  take_back
+  store
+  wait_for 'an undo leaves what others did' $'Butter, Bread and tea!\nSalt \\ é😀?' stored_text
+  to_end
+  append end
+  leave_editor
+  wait_for 'the last edits are stored' $'Butter, Bread and tea!end\nSalt \\ é😀?' stored_text
+}
+
+# How that is typed in Vim and in Neovim.
+append() {
+  type_text "$begin_typing$1"
+  begin_typing=
+}
+begin_typing=i
+replace_last_line() { keys Escape; type_text 'Gdd'; type_text "o$1"; keys Escape; }
+delete_first_line() { type_text 'ggdd'; }
+store() { keys ':w' Enter; }
+to_end() { type_text 'ggA'; }
+leave_editor() { keys Escape ':qa!' Enter; }

@@ -1,0 +1,414 @@
+" Edits a replica of rls in a buffer, and exchanges messages with other members through a shared folder. README.md tells how to use it.
+"
+"   :RlsOpen FOLDER SHARED     opens the replica of FOLDER; messages go through the folder SHARED
+"   :w                         stores, takes what came and sends what is new; a timer does so too
+"   :RlsUndo                   takes back the last own edit that isn't stored yet, whatever others did since
+"
+" It speaks `rls session`, which docs/SESSION.md describes. The session counts characters, and Vim counts bytes and lines.
+if exists('g:loaded_rls') || !has('channel') || !has('timers') || !exists('*blob2list')
+  finish
+endif
+let g:loaded_rls = 1
+let g:rls_program = get(g:, 'rls_program', 'rls')
+let g:rls_every = get(g:, 'rls_every', 500)     " milliseconds between two looks into the shared folder
+let g:rls_idle = get(g:, 'rls_idle', 2000)      " milliseconds without an edit, after which edits are stored and sent
+let s:most_input = 67108864 - 4096              " bytes that one session may read, less some
+let s:open = {}                                 " what is known of each buffer's replica
+
+" --- The session
+
+function s:start(r) abort
+  let a:r.errors = tempname()
+  let a:r.job = job_start([g:rls_program, 'session'], {'cwd': a:r.folder, 'mode': 'raw', 'noblock': 1, 'err_io': 'file', 'err_name': a:r.errors})
+  let a:r.have = 0z
+  let a:r.given = 0
+  let a:r.unsaved = 0
+endfunction
+
+" Waits for more of the session's output.
+function s:read_more(r) abort
+  let more = ch_readblob(a:r.job, {'timeout': 10000})
+  if len(more) == 0
+    let why = filereadable(a:r.errors) ? join(readfile(a:r.errors), ' ') : ''
+    throw 'rls: the session ' . (job_status(a:r.job) ==# 'dead' ? 'ended' : 'gives no answer') . (why ==# '' ? '' : ': ' . why)
+  endif
+  let a:r.have = a:r.have + more
+endfunction
+
+" The next line of a reply.
+function s:line(r) abort
+  let from = 0
+  while index(a:r.have, 10, from) < 0
+    let from = len(a:r.have)
+    call s:read_more(a:r)
+  endwhile
+  let at = index(a:r.have, 10, from)
+  let line = at == 0 ? '' : list2str(blob2list(a:r.have[0 : at - 1]))
+  let a:r.have = a:r.have[at + 1 :]
+  return line
+endfunction
+
+" The next bytes of a reply, after which a line feed comes.
+function s:bytes(r, count) abort
+  while len(a:r.have) < a:count + 1
+    call s:read_more(a:r)
+  endwhile
+  let bytes = a:count == 0 ? 0z : a:r.have[0 : a:count - 1]
+  let a:r.have = a:r.have[a:count + 1 :]
+  return bytes
+endfunction
+
+" Sends a request, a string or a blob without its line feed, and answers the first line of the reply.
+function s:ask(r, request) abort
+  call ch_sendraw(a:r.job, a:request)
+  call ch_sendraw(a:r.job, "\n")
+  let a:r.given += len(a:request) + 1
+  return s:line(a:r)
+endfunction
+
+" The number after this word in a reply; any other reply is an error.
+function s:number(reply, word) abort
+  if a:reply !~# '^' . a:word . ' \d\+'
+    throw 'rls: ' . a:reply
+  endif
+  return str2nr(matchstr(a:reply, '\d\+'))
+endfunction
+
+function s:message(r, to) abort
+  return s:bytes(a:r, s:number(s:ask(a:r, 's ' . a:to), 'message'))
+endfunction
+
+" Stores: only the end of a session writes the file, so another one begins. The cursor goes over, and what `u` could take back doesn't.
+function s:save(r) abort
+  let at = s:number(s:ask(a:r, 'p'), 'cursor')
+  if s:ask(a:r, 'q') !=# 'saved'
+    throw 'rls: not stored'
+  endif
+  call s:start(a:r)
+  call s:number(s:ask(a:r, 'k ' . at), 'cursor')
+endfunction
+
+" --- Text. In Vim's strings a line feed within a line means a NUL of the text.
+
+function s:lines_of(blob) abort
+  let file = tempname()
+  call writefile(a:blob, file)
+  let lines = readfile(file, 'b')
+  call delete(file)
+  return empty(lines) ? [''] : lines
+endfunction
+
+" The characters of lines as numbers, with a line feed between two lines.
+function s:characters(lines) abort
+  let all = []
+  for line in a:lines
+    let characters = str2list(line)
+    call extend(all, stridx(line, "\n") < 0 ? characters : map(characters, {_, c -> c == 10 ? 0 : c}))
+    call add(all, 10)
+  endfor
+  return empty(all) ? [] : all[: -2]
+endfunction
+
+" How many characters lines have, each with its line feed.
+function s:count(lines) abort
+  let total = len(a:lines)
+  for line in a:lines
+    let total += strchars(line)
+  endfor
+  return total
+endfunction
+
+function s:utf8(c) abort
+  if a:c < 0x80
+    return [a:c]
+  elseif a:c < 0x800
+    return [0xc0 + a:c / 64, 0x80 + a:c % 64]
+  elseif a:c < 0x10000
+    return [0xe0 + a:c / 4096, 0x80 + a:c / 64 % 64, 0x80 + a:c % 64]
+  endif
+  return [0xf0 + a:c / 262144, 0x80 + a:c / 4096 % 64, 0x80 + a:c / 64 % 64, 0x80 + a:c % 64]
+endfunction
+
+" The request that inserts these characters: a string, or a blob if there is a NUL, which no string of Vim has.
+function s:insertion(at, characters) abort
+  let head = 'i ' . a:at . ' '
+  if index(a:characters, 0) < 0
+    return head . substitute(substitute(escape(list2str(a:characters), '\'), "\n", '\\n', 'g'), "\r", '\\r', 'g')
+  endif
+  let bytes = str2list(head)
+  for c in a:characters
+    call extend(bytes, c == 10 ? [92, 110] : c == 13 ? [92, 114] : c == 92 ? [92, 92] : s:utf8(c))
+  endfor
+  return list2blob(bytes)
+endfunction
+
+" How many members are equal at the front and at the end of two lists.
+function s:common(old, new) abort
+  let least = min([len(a:old), len(a:new)])
+  let front = 0
+  while front < least && a:old[front] ==# a:new[front]
+    let front += 1
+  endwhile
+  let end = 0
+  while end < least - front && a:old[-1 - end] ==# a:new[-1 - end]
+    let end += 1
+  endwhile
+  return [front, end]
+endfunction
+
+function s:middle(list, front, end) abort
+  let last = len(a:list) - a:end - 1
+  return last < a:front ? [] : a:list[a:front : last]
+endfunction
+
+" Hands what has changed in the buffer to the session: at most one deletion and one insertion.
+function s:flush(buf) abort
+  let r = s:open[a:buf]
+  let new = getbufline(a:buf, 1, '$')
+  if new ==# r.lines
+    return
+  endif
+  let [front, end] = s:common(r.lines, new)
+  " One line of each, so that what is compared next are whole lines of both.
+  if front + end >= min([len(r.lines), len(new)])
+    let [front, end] = end > 0 ? [front, end - 1] : [front - 1, end]
+  endif
+  let gone = s:characters(s:middle(r.lines, front, end))
+  let come = s:characters(s:middle(new, front, end))
+  let at = s:count(front == 0 ? [] : r.lines[: front - 1])
+  let [front, end] = s:common(gone, come)
+  if len(gone) > front + end
+    call s:number(s:ask(r, printf('d %d %d', at + front, len(gone) - front - end)), 'ok')
+  endif
+  if len(come) > front + end
+    call s:number(s:ask(r, s:insertion(at + front, s:middle(come, front, end))), 'ok')
+  endif
+  let r.lines = new
+  let r.unsaved = 1
+  let r.edited = reltime()
+endfunction
+
+" Shows the session's text. Only lines that differ are changed, so marks and folds elsewhere stay. Vim's own undo goes back to here and no
+" further: it would take back what others wrote.
+function s:show(buf) abort
+  let r = s:open[a:buf]
+  let new = s:lines_of(s:bytes(r, s:number(s:ask(r, 't'), 'text')))
+  if new !=# r.lines
+    let levels = getbufvar(a:buf, '&undolevels')
+    call setbufvar(a:buf, '&undolevels', -1)
+    let [front, end] = s:common(r.lines, new)
+    let put = s:middle(new, front, end)
+    let old = len(r.lines) - front - end
+    let same = min([old, len(put)])
+    if same > 0
+      call setbufline(a:buf, front + 1, put[: same - 1])
+    endif
+    if len(put) > same
+      call appendbufline(a:buf, front + same, put[same :])
+    elseif old > same
+      call deletebufline(a:buf, front + same + 1, front + old)
+    endif
+    call setbufvar(a:buf, '&undolevels', levels)
+    let r.lines = getbufline(a:buf, 1, '$')
+  endif
+endfunction
+
+" The characters before the cursor, or -1 if another buffer is the current one.
+function s:place(buf) abort
+  if bufnr('%') != a:buf
+    return -1
+  endif
+  return s:count(getline(1, line('.') - 1)) + strchars(strpart(getline('.'), 0, col('.') - 1))
+endfunction
+
+function s:go_to(place) abort
+  let [number, left] = [1, a:place]
+  while number < line('$') && left > strchars(getline(number))
+    let left -= strchars(getline(number)) + 1
+    let number += 1
+  endwhile
+  call cursor(number, byteidxcomp(getline(number) . ' ', min([left, strchars(getline(number))])) + 1)
+endfunction
+
+" --- Messages. One file for each sender and receiver: a message has all that its receiver isn't known to have, so the latest is enough.
+
+function s:path(r, from, to) abort
+  return printf('%s/%s-%d-%d.rlsm', a:r.shared, a:r.group, a:from, a:to)
+endfunction
+
+" The number in the four bytes from here on.
+function s:u32(blob, at) abort
+  return ((a:blob[a:at] * 256 + a:blob[a:at + 1]) * 256 + a:blob[a:at + 2]) * 256 + a:blob[a:at + 3]
+endfunction
+
+" Refuses a message that knows more operations of this member than the replica has made: then its files are old, or two members have its number.
+function s:guard(r, message, from) abort
+  let at = 21 + 4 * a:r.me
+  if len(a:message) >= at + 4 && a:message[5:16] == a:r.head[5:16] && s:u32(a:message, at) > s:u32(s:message(a:r, a:r.me), at)
+    throw 'rls: member ' . a:from . ' knows more edits of member ' . a:r.me . ' than this replica has: the files in its folder are old'
+  endif
+endfunction
+
+" Takes what came from one member. Answers whether there was anything.
+function s:take_from(r, from) abort
+  let path = s:path(a:r, a:from, a:r.me)
+  if a:from == a:r.me || !filereadable(path)
+    return 0
+  endif
+  let message = readblob(path)
+  if message ==# get(a:r.taken, a:from, 0z) || len(message) > s:most_input
+    return 0
+  endif
+  if a:r.given + len(message) > s:most_input
+    call s:save(a:r)
+  endif
+  call s:guard(a:r, message, a:from)
+  call ch_sendraw(a:r.job, 'm ' . len(message) . "\n")
+  call ch_sendraw(a:r.job, message)
+  let a:r.given += len(message) + 20
+  let reply = s:line(a:r)
+  if reply =~# '^no '
+    let a:r.problem = ', message of ' . a:from . ': ' . reply
+    return 0
+  endif
+  let a:r.problem = reply =~# 'held 0 refused 0' ? '' : ', message of ' . a:from . ': ' . reply
+  let a:r.taken[a:from] = message
+  let a:r.unsaved = 1
+  return 1
+endfunction
+
+function s:take(buf) abort
+  let r = s:open[a:buf]
+  call s:flush(a:buf)
+  let place = s:place(a:buf)
+  if place >= 0
+    call s:number(s:ask(r, 'k ' . place), 'cursor')
+  endif
+  let taken = 0
+  for from in range(r.members)
+    let taken += s:take_from(r, from)
+  endfor
+  if taken
+    call s:show(a:buf)
+    if place >= 0
+      call s:go_to(s:number(s:ask(r, 'p'), 'cursor'))
+    endif
+  endif
+endfunction
+
+" Stores, and then writes the messages: what isn't stored may be sent to nobody, since a crash would give its numbers to other edits.
+function s:send(buf) abort
+  let r = s:open[a:buf]
+  call s:save(r)
+  for to in range(r.members)
+    if to == r.me
+      continue
+    endif
+    let message = s:message(r, to)
+    if message !=# get(r.sent, to, 0z)
+      let path = s:path(r, r.me, to)
+      call writefile(message, path . '.new', 's')
+      call rename(path . '.new', path)
+      let r.sent[to] = message
+    endif
+  endfor
+  call setbufvar(a:buf, '&modified', 0)
+endfunction
+
+" What `:w` does.
+function s:sync(buf) abort
+  call s:take(a:buf)
+  call s:send(a:buf)
+endfunction
+
+" What the timer does.
+function s:tick(buf) abort
+  let r = s:open[a:buf]
+  call s:take(a:buf)
+  if r.unsaved && reltimefloat(reltime(r.edited)) * 1000 >= g:rls_idle
+    call s:send(a:buf)
+  endif
+endfunction
+
+function s:undo(buf) abort
+  let r = s:open[a:buf]
+  call s:flush(a:buf)
+  let reply = s:ask(r, 'u')
+  if reply =~# '^no '
+    echo 'rls: ' . reply
+    return
+  endif
+  call s:number(reply, 'undone')
+  let r.unsaved = 1
+  let r.edited = reltime()
+  call s:show(a:buf)
+endfunction
+
+" --- The buffer
+
+function s:open_replica(folder, shared) abort
+  let r = {'folder': fnamemodify(expand(a:folder), ':p'), 'shared': substitute(fnamemodify(expand(a:shared), ':p'), '/$', '', ''),
+        \ 'taken': {}, 'sent': {}, 'lines': [''], 'problem': '', 'failed': '', 'edited': reltime()}
+  if !isdirectory(r.folder)
+    throw 'rls: there is no folder ' . r.folder
+  endif
+  call mkdir(r.shared, 'p')
+  call s:start(r)
+  " Which member this is: the head of a message tells it.
+  let r.head = s:message(r, 0)
+  let [r.members, r.me, r.group] = [s:u32(r.head, 13), s:u32(r.head, 17), 0]
+  for byte in blob2list(r.head[5:12])
+    let r.group = r.group * 256 + byte
+  endfor
+  let r.group = printf('%u', r.group)
+  enew
+  execute 'silent file' fnameescape('rls:' . r.folder)
+  setlocal buftype=acwrite bufhidden=hide noswapfile noendofline nofixendofline fileformat=unix
+  let buf = bufnr('%')
+  let s:open[buf] = r
+  call s:show(buf)
+  setlocal nomodified statusline=%f%m\ %{RlsStatus()}%=%l,%c
+  augroup rls
+    execute 'autocmd TextChanged,TextChangedI,TextChangedP <buffer=' . buf . '> call s:try("s:flush", ' . buf . ')'
+    execute 'autocmd BufWriteCmd <buffer=' . buf . '> call s:try("s:sync", ' . buf . ')'
+    execute 'autocmd BufUnload <buffer=' . buf . '> call s:close(' . buf . ')'
+  augroup END
+  let r.timer = timer_start(g:rls_every, {_ -> s:try('s:tick', buf)}, {'repeat': -1})
+  call s:try('s:sync', buf)
+endfunction
+
+" After a fault nothing more is done with the buffer, which keeps what it shows.
+function s:try(what, buf) abort
+  if !has_key(s:open, a:buf) || s:open[a:buf].failed !=# ''
+    return
+  endif
+  try
+    call call(function(a:what), [a:buf])
+  catch
+    let s:open[a:buf].failed = v:exception
+    call timer_stop(get(s:open[a:buf], 'timer', -1))
+    echohl ErrorMsg | echomsg v:exception | echohl None
+  endtry
+  redrawstatus!
+endfunction
+
+" Stores what isn't stored. It isn't sent before the replica is opened again.
+function s:close(buf) abort
+  let r = remove(s:open, a:buf)
+  call timer_stop(get(r, 'timer', -1))
+  if r.failed ==# ''
+    call ch_sendraw(r.job, "q\n")
+    call s:line(r)
+  endif
+endfunction
+
+function RlsStatus() abort
+  let r = get(s:open, bufnr('%'), {})
+  if empty(r)
+    return ''
+  endif
+  return r.failed !=# '' ? r.failed : printf('member %d of %d%s%s', r.me, r.members, r.unsaved ? ', not stored' : '', r.problem)
+endfunction
+
+command -nargs=+ -complete=dir RlsOpen call s:open_replica(<f-args>)
+command RlsUndo call s:try('s:undo', bufnr('%'))
