@@ -5,11 +5,12 @@ use Rattle.std.specs.Int.RustNames.{int_le}
 use Rattle.std.specs.declared.cmp.Ordering.{Ordering}
 use Rattle.std.specs.declared.cmp.Ordering.TheVariants.{Less, Equal, Greater}
 use Rattle.std.proofs.lemmas.Int.{ints}
+use Rattle.rls_ident.specs.declared.limits.TheConstants.{OFFSETS_END}
 use Rattle.rls_ident.specs.declared.tuple.Tuple.{Tuple}
 use Rattle.rls_ident.specs.declared.tuple.Tuple.TheVariants.{Low, At, High}
 use Rattle.rls_ident.specs.Maps.{by_order, under, low, high, low_inverse, high_inverse}
 use Rattle.rls_ident.specs.Tuples.{offset_of, raised, tuple_pred, tuple_cmp}
-use Rattle.rls_ident.specs.Identifiers.{IsIdent, last_of, least_offset, greatest_offset, pred, shifted}
+use Rattle.rls_ident.specs.Identifiers.{IsIdent, last_of, least_offset, greatest_offset, pred, shifted, least_inner}
 use Rattle.rls_ident.specs.Between.{last_pos, lower_number, upper_number, middle, below, upper_behind, between}
 use Rattle.rls_ident.proofs.BetweenLaws.{below_ident, between_ident}
 use Rattle.rls_ident.proofs.Members.{and_left, and_right, and_true, int_le_is, int_le_test}
@@ -45,9 +46,6 @@ offset_least least z h = int_le_is least z (and_left (int_le least z) (int_le z 
 
 offset_most : (least z : ℤ) → is_offset least z ≡ true → z ≤ℤ greatest_offset
 offset_most least z h = int_le_is z greatest_offset (and_right (int_le least z) (int_le z greatest_offset) h)
-
-least_inner : ℤ
-least_inner = negsuc 1073741824
 
 -- ---- parts of an identifier
 
@@ -90,21 +88,21 @@ pub tuples_ranged : (x : List Tuple) → FitTuples x → IsRanged x
 tuples_ranged [] f = tt
 tuples_ranged (At p r s o ∷ []) f =
     let a = offset_least least_offset o f.3 in
-    ((f.0, f.1, f.2, offset_to (negsuc 1073741824) o (omega (arith, ints)) (offset_most least_offset o f.3)), a)
+    ((f.0, f.1, f.2, offset_to least_inner o (omega (arith, ints)) (offset_most least_offset o f.3)), a)
 tuples_ranged (Low ∷ []) f = absurd f
 tuples_ranged (High ∷ []) f = absurd f
 tuples_ranged (t ∷ (u ∷ x)) f = (f.0, tuples_ranged (u ∷ x) f.1)
 
 pub ranged_tuples : (x : List Tuple) → IsIdent x → IsRanged x → FitTuples x
 ranged_tuples [] i h = absurd (cc)
-ranged_tuples (At p r s o ∷ []) i h = (h.0.0, h.0.1, h.0.2, offset_to least_offset o h.1 (offset_most (negsuc 1073741824) o h.0.3))
+ranged_tuples (At p r s o ∷ []) i h = (h.0.0, h.0.1, h.0.2, offset_to least_offset o h.1 (offset_most least_inner o h.0.3))
 ranged_tuples (Low ∷ []) i h = absurd (cc)
 ranged_tuples (High ∷ []) i h = absurd (cc)
 ranged_tuples (t ∷ (u ∷ x)) i h = (h.0, ranged_tuples (u ∷ x) i h.1)
 
 pub last_most : (x : List Tuple) → IsRanged x → offset_of (last_of x) ≤ℤ greatest_offset
 last_most [] h = omega (arith, ints)
-last_most (At p r s o ∷ []) h = offset_most (negsuc 1073741824) o h.0.3
+last_most (At p r s o ∷ []) h = offset_most least_inner o h.0.3
 last_most (Low ∷ []) h = omega (arith, ints)
 last_most (High ∷ []) h = omega (arith, ints)
 last_most (t ∷ (u ∷ x)) h = last_most (u ∷ x) h.1
@@ -112,7 +110,7 @@ last_most (t ∷ (u ∷ x)) h = last_most (u ∷ x) h.1
 -- ---- one less, and shifted
 
 pred_fits : (t : Tuple) → FitsInner t → least_offset ≤ℤ offset_of t → FitsInner (tuple_pred t)
-pred_fits (At p r s o) f l = let m = offset_most (negsuc 1073741824) o f.3 in (f.0, f.1, f.2, offset_to (negsuc 1073741824) (o -ℤ pos 1) (omega (arith, ints)) (omega (arith, ints)))
+pred_fits (At p r s o) f l = let m = offset_most least_inner o f.3 in (f.0, f.1, f.2, offset_to least_inner (o -ℤ pos 1) (omega (arith, ints)) (omega (arith, ints)))
 pred_fits Low f l = tt
 pred_fits High f l = tt
 
@@ -132,7 +130,7 @@ then_low a h = ranged_append a (Low ∷ []) h (tt, zero_least)
 
 pub shifted_ranged : (k : ℤ) (x : List Tuple) → IsRanged x → least_offset ≤ℤ (offset_of (last_of x) +ℤ k) → (offset_of (last_of x) +ℤ k) ≤ℤ greatest_offset → IsRanged (shifted k x)
 shifted_ranged k [] h l m = tt
-shifted_ranged k (At p r s o ∷ []) h l m = ((h.0.0, h.0.1, h.0.2, offset_to (negsuc 1073741824) (o +ℤ k) (omega (arith, ints)) m), l)
+shifted_ranged k (At p r s o ∷ []) h l m = ((h.0.0, h.0.1, h.0.2, offset_to least_inner (o +ℤ k) (omega (arith, ints)) m), l)
 shifted_ranged k (Low ∷ []) h l m = h
 shifted_ranged k (High ∷ []) h l m = h
 shifted_ranged k (t ∷ (u ∷ [])) h l m = (h.0, shifted_ranged k (u ∷ []) h.1 l m)
@@ -152,7 +150,7 @@ all_append : (xs ys : List (List Tuple)) → AllRanged xs → AllRanged ys → A
 all_append [] ys a b = b
 all_append (x ∷ xs) ys a b = (a.0, all_append xs ys a.1 b)
 
-pub run_ranged : (n : ℕ) (x : List Tuple) → IsIdent x → IsRanged x → (offset_of (last_of x) +ℤ pos n) ≤ℤ pos 1073741824 → AllRanged (run_idents x n)
+pub run_ranged : (n : ℕ) (x : List Tuple) → IsIdent x → IsRanged x → (offset_of (last_of x) +ℤ pos n) ≤ℤ pos OFFSETS_END → AllRanged (run_idents x n)
 run_ranged zero x i h m = tt
 run_ranged (suc zero) x i h m = (h, tt)
 run_ranged (suc (suc n)) x i h m =
@@ -165,7 +163,7 @@ fits_ranged before (r ∷ rs) c =
     let f = c.0.0 in
     let i = tuples_ident r.0 f.0.1 in
     all_append (run_idents r.0 r.1) (idents_of rs)
-    (run_ranged r.1 r.0 i (tuples_ranged r.0 f.0.1) (int_le_is (offset_of (last_of r.0) +ℤ pos r.1) (pos 1073741824) (and_right _ (int_le (offset_of (last_of r.0) +ℤ pos r.1) (pos 1073741824)) f.2)))
+    (run_ranged r.1 r.0 i (tuples_ranged r.0 f.0.1) (int_le_is (offset_of (last_of r.0) +ℤ pos r.1) (pos OFFSETS_END) (and_right _ (int_le (offset_of (last_of r.0) +ℤ pos r.1) (pos OFFSETS_END)) f.2)))
     (fits_ranged (Some r) rs c.1)
 
 pub runs_ranged : (xs : List (List Tuple)) → FitRuns xs → AllRanged xs
@@ -220,10 +218,10 @@ half_small : (l u : ℕ) → l ≤ last_pos → u ≤ last_pos → (l + u) / 2 <
 half_small l u h k = omega arith
 
 middle_ranged : (l u a s : ℕ) → l ≤ last_pos → u ≤ last_pos → IsSmall a → IsSmall s → IsRanged (middle l u a s ∷ [])
-middle_ranged l u a s h k f g = ((half_small l u h k, f, g, offset_to (negsuc 1073741824) (pos 0) (omega (arith, ints)) (omega (arith, ints))), zero_least)
+middle_ranged l u a s h k f g = ((half_small l u h k, f, g, offset_to least_inner (pos 0) (omega (arith, ints)) (omega (arith, ints))), zero_least)
 
 lowered_fits : (t : Tuple) → FitsInner t → least_offset ≤ℤ offset_of t → FitsInner (raised (negsuc 0) t)
-lowered_fits (At p r s o) f l = let m = offset_most (negsuc 1073741824) o f.3 in (f.0, f.1, f.2, offset_to (negsuc 1073741824) (o +ℤ negsuc 0) (omega (arith, ints)) (omega (arith, ints)))
+lowered_fits (At p r s o) f l = let m = offset_most least_inner o f.3 in (f.0, f.1, f.2, offset_to least_inner (o +ℤ negsuc 0) (omega (arith, ints)) (omega (arith, ints)))
 lowered_fits Low f l = tt
 lowered_fits High f l = tt
 

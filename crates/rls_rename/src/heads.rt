@@ -2,6 +2,7 @@
 
 ghost use Rattle.std.specs.Prelude.{◌≡◌, ◌≤◌, length, drop, true, Some, IfOk, IfSome, IsTrue};
 ghost use Rattle.std.specs.declared.cmp.Ordering.TheVariants.{Less};
+ghost use Rattle.rls_ident.specs.declared.limits.TheConstants.{IDENTIFIERS};
 ghost use Rattle.rls_ident.specs.Tuples.{tuple_cmp};
 ghost use Rattle.rls_ident.specs.Maps.{low_inverse, high_inverse};
 ghost use Rattle.rls_ident.specs.Identifiers.{ident_cmp};
@@ -24,7 +25,7 @@ pub(crate) fn forward_head(
     head: &Ident,
 ) -> Result<Option<Ident>, AllocError>
     requires former { IsFormer former.now }
-    requires most { length former.now ≤ 4194304 }
+    requires most { length former.now ≤ IDENTIFIERS }
     ensures replaces { IfOk result (λ z. IfSome z (λ z. Replaces (forward_by first former.now) head.now z)) }
 {
     let Err(gap) = former.find(head) else {

@@ -4,7 +4,7 @@ use Rattle.std.specs.Prelude.{option_map, if◌then◌else◌}
 use Rattle.std.proofs.lemmas.Bool.Decides.{nat_tests}
 use Rattle.std.proofs.lemmas.Grind.{common_steps}
 use Rattle.std.proofs.lemmas.List.{append-nil}
-use Rattle.rls_ident.specs.declared.limits.TheConstants.{INPUT_BYTES}
+use Rattle.rls_ident.specs.declared.limits.TheConstants.{FILE_BYTES, INPUT_BYTES}
 use Rattle.rls_io.specs.Device.{Appends, Keeps, Rose, Stores}
 use Rattle.rls_seen.specs.Seen.{Seen}
 use Rattle.rls_report.specs.declared.failures.CommandError.{CommandError}
@@ -19,7 +19,7 @@ use Rattle.rls_stages.specs.declared.errors.WorkError.{WorkError}
 use Rattle.rls_stages.specs.declared.errors.WorkError.TheVariants as work
 use Rattle.rls_stages.specs.Endings.{IsFailureStatus, IsFault, IsPart, Writes, failure_line_at}
 use Rattle.rls_stages.specs.Errors.{GivesError, IsOfFile, IsOpenError, of_open, of_work}
-use Rattle.rls_stages.specs.KeptFile.{IsReadBack, IsUsable, Stays, bytes_over, file_limit, loaded, replica_in, saved}
+use Rattle.rls_stages.specs.KeptFile.{IsReadBack, IsUsable, Stays, bytes_over, loaded, replica_in, saved}
 use Rattle.rls_stages.proofs.Statuses.{apart, failure_at_7, failure_at_8, failure_at_9, failure_line_told, not_error, not_failure}
 use Rattle.rls_session.specs.declared.answering.AnswerError.{AnswerError}
 use Rattle.rls_session.specs.declared.answering.AnswerError.TheVariants.{SourceFault, SinkFault, TooLarge, OutOfMemory}
@@ -241,7 +241,7 @@ answered_own OutOfMemory = tt
 
 pub saved_own : (e : WorkError) (s : Seen) → GivesError (of_work e) (saved s) → IsSessionsOwn (Err (of_work e))
 saved_own work.OutOfMemory s h = tt
-saved_own (work.Command e) s h = go (ltb file_limit (length (bytes_over s))) h
+saved_own (work.Command e) s h = go (ltb FILE_BYTES (length (bytes_over s))) h
   where
     go : (b : Bool) → (if b then Err errors.TooLarge else Ok s) ≡ Err e → IsOfFile e
     go true h = let same : errors.TooLarge ≡ e = cc in subst IsOfFile same tt

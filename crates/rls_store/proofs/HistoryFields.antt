@@ -4,6 +4,7 @@ use Rattle.std.specs.Prelude.{All, sum_by}
 use Rattle.std.specs.Char.{IsScalar}
 use Rattle.std.proofs.lemmas.List.Elements.{All-append, All-cons, All-head, All-nil, All-replicate, All-tail}
 use Rattle.std.proofs.lemmas.List.Sums.{sum_by-cons}
+use Rattle.rls_ident.specs.declared.limits.TheConstants.{FILE_BYTES}
 use Rattle.rls_ident.specs.declared.tuple.Tuple.{Tuple}
 use Rattle.rls_ident.specs.declared.epoch_name.EpochName.{EpochName}
 use Rattle.rls_ident.specs.Identifiers.{follows}
@@ -13,7 +14,8 @@ use Rattle.rls_runs.specs.Entries.{Entries}
 use Rattle.rls_runs.specs.Runs.{runs_of}
 use Rattle.rls_rename.specs.Tree.{Node}
 use Rattle.rls_ops.specs.declared.op.Op.{Op}
-use Rattle.rls_codec.specs.Spelled.{FitRuns, FitsBody, FitsRun, IsSmall, IsSpelled, IsSpelledIfFit}
+use Rattle.rls_ops.specs.WellFormed.{IsSmall}
+use Rattle.rls_codec.specs.Spelled.{FitRuns, FitsBody, FitsRun, IsSpelled, IsSpelledIfFit}
 use Rattle.rls_codec.proofs.Fits.{text_fits}
 use Rattle.rls_codec.proofs.SizeLaws.{chars_length, short_ident}
 use Rattle.rls_model.specs.declared.parts.EpochPart.{EpochPart}
@@ -39,7 +41,7 @@ use Rattle.rls_fields.proofs.Puts.{top_fits}
 use Rattle.rls_file.specs.FileLaws.{AreSpelled}
 use Rattle.rls_file.specs.Storable.{IsStorable}
 use Rattle.rls_store.specs.Histories.{StorableIsReadBack}
-use Rattle.rls_store.specs.Stored.{FitFields, file_limit}
+use Rattle.rls_store.specs.Stored.{FitFields}
 use Rattle.rls_store.proofs.Characters.{IsCharOf, export_chars}
 use Rattle.rls_store.proofs.HistoryIdents.{IsShortRun, all_ranged, idents_ranged, ranged_runs_fit}
 use Rattle.rls_store.proofs.HistoryMessages.{accepted_spelled, unstable_in}
@@ -151,7 +153,7 @@ text_fits_file H l s h =
 
 -- ---- all
 
-storable_fits : (t : State) → IsStorable t → length (file_bytes (parts t)) ≤ file_limit → FitFields (parts t)
+storable_fits : (t : State) → IsStorable t → length (file_bytes (parts t)) ≤ FILE_BYTES → FitFields (parts t)
 unfolding parts
 storable_fits t k few =
     let H = t.history in
@@ -169,4 +171,4 @@ storable_fits t k few =
 pub storable_again : StorableIsReadBack
 storable_again s t h sane w k few =
     let e = parts_alike s t h in
-    stored_again s sane w (subst FitFields (sym e) (storable_fits t k (subst (λ (p : Parts). length (file_bytes p) ≤ file_limit) e few))) few
+    stored_again s sane w (subst FitFields (sym e) (storable_fits t k (subst (λ (p : Parts). length (file_bytes p) ≤ FILE_BYTES) e few))) few

@@ -6,6 +6,7 @@ use Rattle.std.specs.List.{list_all}
 use Rattle.std.proofs.lemmas.Int.{ints}
 use Rattle.std.proofs.lemmas.List.Elements.{All-cons, All-head, All-nil, All-tail}
 use Rattle.std.proofs.lemmas.List.Folds.{list_all-append}
+use Rattle.rls_ident.specs.declared.limits.TheConstants.{IDENTIFIERS, OFFSETS_END}
 use Rattle.rls_ident.specs.declared.tuple.Tuple.{Tuple}
 use Rattle.rls_ident.specs.Identifiers.{IsIdent, follows, is_ident, last_of, shifted}
 use Rattle.rls_ident.specs.Lists.{IsIn}
@@ -34,8 +35,8 @@ use Rattle.rls_store.proofs.RangedIdents.{AreRangedNodes, IsRangedRenaming, tran
 
 -- ---- the epochs and the characters of a history
 
-few_of : (b : Body) (xs : List (List Tuple)) → b ≡ Rename xs → nat_lt (body_limit b) (body_len b) ≡ false → length xs ≤ 4194304
-few_of b xs e h = not_lt_is 4194304 (length xs) (subst (λ c. nat_lt (body_limit c) (body_len c) ≡ false) e h)
+few_of : (b : Body) (xs : List (List Tuple)) → b ≡ Rename xs → nat_lt (body_limit b) (body_len b) ≡ false → length xs ≤ IDENTIFIERS
+few_of b xs e h = not_lt_is IDENTIFIERS (length xs) (subst (λ c. nat_lt (body_limit c) (body_len c) ≡ false) e h)
 
 nodes_ranged : (H : History) → IsLegal H → AreSpelled H → AreRangedNodes (epochs H)
 nodes_ranged (Fresh group me members) l s R p = absurd p
@@ -54,7 +55,7 @@ nodes_ranged (Then G (Accepted o)) l s R p = go o.body refl p (nodes_ranged G l.
     go (Rename xs) e (inr q) ih = ih q
     go Leave e q ih = ih q
 
-from_ranged : (o : Op) (i : ℕ) (x : List Tuple) (cs : List ℕ) → IsIdent x → IsRanged x → (offset_of (last_of x) +ℤ pos (length cs)) ≤ℤ pos 1073741824 → (c : Character) → IsIn c (chars_from o i x cs) → IsRanged c.ident
+from_ranged : (o : Op) (i : ℕ) (x : List Tuple) (cs : List ℕ) → IsIdent x → IsRanged x → (offset_of (last_of x) +ℤ pos (length cs)) ≤ℤ pos OFFSETS_END → (c : Character) → IsIn c (chars_from o i x cs) → IsRanged c.ident
 from_ranged o i x [] d h m c p = absurd p
 from_ranged o i x (k ∷ ks) d h m c (inl e) = subst (λ (y : Character). IsRanged y.ident) e h
 from_ranged o i x (k ∷ []) d h m c (inr p) = absurd p
@@ -62,7 +63,7 @@ from_ranged o i x (k ∷ (j ∷ ks)) d h m c (inr p) =
     let e = last_offset (pos 1) x d in
     from_ranged o (suc i) (shifted (pos 1) x) (j ∷ ks) (ident_shifted (pos 1) x d) (next_ranged x h (omega (arith, ints))) (omega (arith, ints)) c p
 
-room_of : (first : List Tuple) (text : List ℕ) → passes_end (Insert first text) ≡ false → (offset_of (last_of first) +ℤ pos (length text)) ≤ℤ pos 1073741824
+room_of : (first : List Tuple) (text : List ℕ) → passes_end (Insert first text) ≡ false → (offset_of (last_of first) +ℤ pos (length text)) ≤ℤ pos OFFSETS_END
 room_of first text h = omega (arith, ints)
 
 no_chars : (group me members : ℕ) (c : Character) → IsIn c (chars (Fresh group me members)) → ⊥
@@ -118,8 +119,8 @@ one_fits x n i few a =
     let least = last_least x a.0 in
     let most = last_most (shifted (pos n) x) (last_ranged n x a) in
     let e = last_offset (pos n) x i in
-    let end = int_le (offset_of (last_of x) +ℤ pos (suc n)) (pos 1073741824) in
-    ((few, ranged_tuples x i a.0), omega (arith, ints), and_true (nat_lt 0 (suc n)) end (lt_test 0 (suc n) (omega arith)) (int_le_test (offset_of (last_of x) +ℤ pos (suc n)) (pos 1073741824) (omega (arith, ints))))
+    let end = int_le (offset_of (last_of x) +ℤ pos (suc n)) (pos OFFSETS_END) in
+    ((few, ranged_tuples x i a.0), omega (arith, ints), and_true (nat_lt 0 (suc n)) end (lt_test 0 (suc n) (omega arith)) (int_le_test (offset_of (last_of x) +ℤ pos (suc n)) (pos OFFSETS_END) (omega (arith, ints))))
 
 -- each run has a length
 abbrev AreSome : List (List Tuple × ℕ) → Type 0

@@ -1,6 +1,7 @@
 -- The message for a member of a state that may be stored has a spelling.
 use Rattle.std.proofs.Common.{◌≡◌, ℕ, ◌+◌, ◌≤◌, true, false, Bool, List, [], ◌∷◌, length, Option, Some, None, refl, subst, arith, inl, inr, ⊎_elim}
 use Rattle.std.specs.Prelude.{not, nat_le, if◌then◌else◌}
+use Rattle.rls_ident.specs.declared.limits.TheConstants.{INPUT_BYTES}
 use Rattle.rls_ident.specs.Lists.{IsIn}
 use Rattle.rls_ident.proofs.Members.{in_filter, le_is, snoc_split}
 use Rattle.rls_ops.specs.declared.op.Op.{Op}
@@ -57,13 +58,13 @@ sent_is_message t to s =
     let head = legal_head H s.legal in
     let most = (foot H s.legal).1 in
     let missing = missing_for (row H to) (unstable H) in
-    let few = front_few (head_size n) 67108864 missing (omega arith) in
+    let few = front_few (head_size n) INPUT_BYTES missing (omega arith) in
     let m : IsSpelledMessage (message_for H to) = record {
       group = head.group_fits;
       members = head.members_fit;
       from = head.me_fits;
       vector = (length-count H, small_chain None (count H) (counts_small H s.legal));
       count = omega arith;
-      ops = front_each {P = IsSpelled n} (head_size n) 67108864 None missing (λ o p. accepted_spelled H s.accepted o (unstable_in H o (in_filter (λ x. not (is_covered (row H to) x)) o (unstable H) p).0));
+      ops = front_each {P = IsSpelled n} (head_size n) INPUT_BYTES None missing (λ o p. accepted_spelled H s.accepted o (unstable_in H o (in_filter (λ x. not (is_covered (row H to) x)) o (unstable H) p).0));
     } in
     (3, refl, m, refl)

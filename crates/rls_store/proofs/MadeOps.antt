@@ -1,6 +1,7 @@
 -- An edit that has no fault makes an operation that has a spelling.
 use Rattle.std.proofs.Common.{◌≡◌, ℕ, zero, suc, ◌^◌, ◌<◌, ◌≤◌, false, List, length, take, drop, Option, Some, None, refl, subst, arith}
 use Rattle.std.specs.Prelude.{◌==◌, All, nat_lt, slice_get}
+use Rattle.rls_ident.specs.declared.limits.TheConstants.{OPERATION_BYTES, GREATEST_NUMBER}
 use Rattle.rls_ident.specs.declared.tuple.Tuple.{Tuple}
 use Rattle.rls_ident.specs.declared.epoch_name.EpochName.{EpochName}
 use Rattle.rls_ident.specs.declared.epoch_name.EpochName.TheVariants.{Origin, Of}
@@ -11,8 +12,9 @@ use Rattle.rls_ops.specs.declared.op.Body.{Body}
 use Rattle.rls_ops.specs.Shapes.{is_empty}
 use Rattle.rls_ops.specs.Sizes.{op_size}
 use Rattle.rls_ops.proofs.Shaped.{shaped}
+use Rattle.rls_ops.specs.WellFormed.{IsSmall}
 use Rattle.rls_codec.specs.Gives.{IsShort}
-use Rattle.rls_codec.specs.Spelled.{FitRuns, FitsBody, FitsName, IsSmall, IsSpelled}
+use Rattle.rls_codec.specs.Spelled.{FitRuns, FitsBody, FitsName, IsSpelled}
 use Rattle.rls_codec.proofs.Fits.{op_fits, runs_fit, text_fits}
 use Rattle.rls_codec.proofs.Ranged.{AllRanged, IsRanged, ranged_tuples}
 use Rattle.rls_codec.proofs.SizeLaws.{short_op}
@@ -71,15 +73,15 @@ body_fits H (edits.Delete at n) m =
 body_fits H edits.Rename m = list_fits (idents H) m.body (all_ranged (idents H) (idents_ranged H m.legal m.spelled)) m.short
 body_fits H edits.Leave m = tt
 
-size_of : (n : ℕ) → size_fault n ≡ None → n ≤ 16777216
-size_of n h = not_lt_is 16777216 n (none_else (nat_lt 16777216 n) (faults.OpTooLarge n) None h).0
+size_of : (n : ℕ) → size_fault n ≡ None → n ≤ OPERATION_BYTES
+size_of n h = not_lt_is OPERATION_BYTES n (none_else (nat_lt OPERATION_BYTES n) (faults.OpTooLarge n) None h).0
 
 pub made_spelled : (H : History) (edit : Edit) → IsLegal H → AreSpelled H → IsEdit edit → edit_fault H edit ≡ None → IsSpelled (members_of H) (made H edit)
 unfolding made
 made_spelled H edit l s i f =
     let o = made H edit in
     let fits = making.law H edit l i f in
-    let size = size_of (op_size o) (none_else (count_of H (me_of H) == 4294967295) faults.NumbersSpent _ (fault_split H edit f).2).1 in
+    let size = size_of (op_size o) (none_else (count_of H (me_of H) == GREATEST_NUMBER) faults.NumbersSpent _ (fault_split H edit f).2).1 in
     let w = fits.1 in
     let shape = shaped (members_of H) o fits.2.shape in
     let m : IsMade H (made_body H edit) = record { legal = l; spelled = s; me = w.author; seq = w.seq; body = w.body; some = shape.some; short = short_op o (omega arith) } in

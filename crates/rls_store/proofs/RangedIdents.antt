@@ -4,18 +4,19 @@ use Rattle.std.specs.Prelude.{pos, negsuc, ◌+ℤ◌, ◌-ℤ◌, ◌≤ℤ◌,
 use Rattle.std.specs.Int.RustNames.{int_le}
 use Rattle.std.specs.Ordering.{int_eq}
 use Rattle.std.proofs.lemmas.Int.{ints}
+use Rattle.rls_ident.specs.declared.limits.TheConstants.{OFFSETS_END}
 use Rattle.rls_ident.specs.declared.tuple.Spot.{Spot}
 use Rattle.rls_ident.specs.declared.tuple.Tuple.{Tuple}
 use Rattle.rls_ident.specs.declared.tuple.Tuple.TheVariants.{Low, At, High}
 use Rattle.rls_ident.specs.declared.epoch_name.EpochName.{EpochName}
 use Rattle.rls_ident.specs.Tuples.{offset_of, at_offset}
-use Rattle.rls_ident.specs.Identifiers.{last_of, least_offset, greatest_offset, ident_cmp, pred, shifted}
+use Rattle.rls_ident.specs.Identifiers.{last_of, least_offset, greatest_offset, ident_cmp, pred, shifted, least_inner}
 use Rattle.rls_ident.specs.Between.{between}
 use Rattle.rls_ident.proofs.Members.{and_left, and_right, int_le_is}
 use Rattle.rls_rename.specs.Renaming.{Renaming, new_pos, first_pos, new_spot, new_at, old_below, old_above, old_above_inverse, old_between, old_below_inverse, old_between_inverse, new_below, new_between, new_below_inverse, new_between_inverse, new_above_inverse, forward_above, forward_by, back_above, back_by, forward, back}
 use Rattle.rls_rename.specs.Tree.{Node, path, same_name, forward_all, back_all, along, translate}
 use Rattle.rls_rename.proofs.Paths.{IsAmong, AreAmong, path-among}
-use Rattle.rls_codec.specs.Spelled.{IsSmall}
+use Rattle.rls_ops.specs.WellFormed.{IsSmall}
 use Rattle.rls_codec.proofs.Ranged.{IsRanged, AreInner, AllRanged, offset_to, head_inner, rest_ranged, all_inner, ranged_append, ranged_drop, last_most, pred_high, then_low, shifted_ranged, next_ranged, ranged_if, ranged_order, low_ranged, high_ranged, low_inverse_ranged, high_inverse_ranged, between_ranged}
 use Rattle.rls_model.specs.declared.parts.Stem.{Stem}
 use Rattle.rls_model.specs.Editing.{own_stem, ends_below, begins_above, may_append, may_prepend, or_missing, first_before, first_between}
@@ -26,10 +27,10 @@ abbrev IsSpot : Spot → Type 0
 IsSpot s = IsSmall s.pos × IsSmall s.replica × IsSmall s.seq
 
 below_at : (s : Spot) → IsSpot s → IsRanged (at_offset s (negsuc 0) ∷ [])
-below_at s h = ((h.0, h.1, h.2, offset_to (negsuc 1073741824) (negsuc 0) (omega (arith, ints)) (omega (arith, ints))), omega (arith, ints))
+below_at s h = ((h.0, h.1, h.2, offset_to least_inner (negsuc 0) (omega (arith, ints)) (omega (arith, ints))), omega (arith, ints))
 
 at_ranged : (s : Spot) (i : ℕ) → IsSpot s → i ≤ 1073741823 → IsRanged (new_at s i)
-at_ranged s i h l = ((h.0, h.1, h.2, offset_to (negsuc 1073741824) (pos i) (omega (arith, ints)) (omega (arith, ints))), omega (arith, ints))
+at_ranged s i h l = ((h.0, h.1, h.2, offset_to least_inner (pos i) (omega (arith, ints)) (omega (arith, ints))), omega (arith, ints))
 
 inverse_ranged : (a x : List Tuple) → IsRanged x → IsRanged (old_above_inverse a x)
 inverse_ranged a x h = low_inverse_ranged (a ++ (Low ∷ [])) x h
@@ -43,7 +44,7 @@ forward_above_ranged s i a (b ∷ rest) x h l r =
     ranged_order (ident_cmp x b) (new_between s i y) (new_at s (i + 1)) (forward_above s (i + 1) b rest x) (ranged_append (new_at s i) y (at_ranged s i h (omega arith)) between)
     (at_ranged s (i + 1) h (omega arith)) (forward_above_ranged s (i + 1) b rest x h (omega arith) r)
 
-forward_by_ranged : (s : Spot) (xs : List (List Tuple)) (x : List Tuple) → IsSpot s → length xs ≤ 1073741824 → IsRanged x → IsRanged (forward_by s xs x)
+forward_by_ranged : (s : Spot) (xs : List (List Tuple)) (x : List Tuple) → IsSpot s → length xs ≤ OFFSETS_END → IsRanged x → IsRanged (forward_by s xs x)
 unfolding forward_by
 forward_by_ranged s [] x h l r = r
 forward_by_ranged s (a ∷ rest) x h l r =
@@ -75,7 +76,7 @@ back_by_ranged s (a ∷ rest) z g r =
 pub record IsRangedRenaming (R : Renaming) : Type 0 where
   pub replica : IsSmall R.replica
   pub seq : IsSmall R.seq
-  pub few : length R.former ≤ 1073741824
+  pub few : length R.former ≤ OFFSETS_END
   pub former : AllRanged R.former
 
 first_small : (x : List Tuple) → IsRanged x → IsSmall (first_pos x)

@@ -1,5 +1,6 @@
 -- What is stored of a history of which each operation has a spelling.
 use Rattle.std.specs.Prelude.{◌≡◌, ◌≤◌, ℕ, List, [], length, None, Result, Ok}
+use Rattle.rls_ident.specs.declared.limits.TheConstants.{FILE_BYTES}
 use Rattle.rls_ident.specs.Lists.{IsIn}
 use Rattle.rls_ops.specs.declared.message.Message.{Message}
 use Rattle.rls_ops.specs.Spelling.{message_bytes}
@@ -19,7 +20,7 @@ use Rattle.rls_seen.specs.Stands.{StandsFor}
 use Rattle.rls_file.specs.Files.{Snapshot, file_bytes, newest_form}
 use Rattle.rls_file.specs.FileLaws.{IsFile}
 use Rattle.rls_file.specs.Storable.{IsStorable}
-use Rattle.rls_store.specs.Stored.{AreWritable, file_limit}
+use Rattle.rls_store.specs.Stored.{AreWritable}
 
 -- the history in which nothing has happened is one
 abbrev pub FreshIsStorable : Type 0
@@ -42,4 +43,4 @@ SentIsMessage = (t : State) (to : ℕ) → IsStorable t → IsMessage (message_b
 -- a sane replica that stands for it and may be written is read back, unless its file is too long: its numbers, identifiers and characters
 -- fit the fields of the format
 abbrev pub StorableIsReadBack : Type 0
-StorableIsReadBack = (s : Seen) (t : State) → StandsFor s t → IsSane s → AreWritable s → IsStorable t → length (file_bytes (parts_over s)) ≤ file_limit → IsFile (file_bytes (parts_over s)) (Snapshot newest_form (parts_over s))
+StorableIsReadBack = (s : Seen) (t : State) → StandsFor s t → IsSane s → AreWritable s → IsStorable t → length (file_bytes (parts_over s)) ≤ FILE_BYTES → IsFile (file_bytes (parts_over s)) (Snapshot newest_form (parts_over s))

@@ -1,6 +1,7 @@
 -- A command of a member of a group: what it calls for, and the history that the stored file stands for.
 use Rattle.std.proofs.Common.{◌≡◌, ◌≤◌, ℕ, Bool, true, false, List, [], ◌∷◌, length, refl, sym, ap, ◌∙◌, subst, inl, inr, ⊎_elim}
 use Rattle.std.specs.Prelude.{Option, Some, None, IsSomeAnd, Result, Ok, Err, ◌==◌, nat_lt, if◌then◌else◌}
+use Rattle.rls_ident.specs.declared.limits.TheConstants.{INPUT_BYTES, FILE_BYTES}
 use Rattle.rls_ident.specs.Lists.{IsIn}
 use Rattle.rls_ident.proofs.Members.{and_true, eq_test, lt_is, not_lt_is, not_lt_test}
 use Rattle.rls_ops.specs.declared.message.Message.{Message}
@@ -43,7 +44,7 @@ use Rattle.rls_report.specs.declared.failures.CommandError.TheVariants.{NotMembe
 use Rattle.rls_report.specs.declared.failures.LineFault.{LineFault}
 use Rattle.rls_script.specs.Scripts.{script_of}
 use Rattle.rls_script.specs.declared.lines.Line.{Line}
-use Rattle.rls_stages.specs.KeptFile.{IsFileFor, bytes_over, file_limit, loaded, replica_in, saved}
+use Rattle.rls_stages.specs.KeptFile.{IsFileFor, bytes_over, loaded, replica_in, saved}
 use Rattle.rls_stages.specs.Lines.{allowed, allowed_by, fault_in, line_by, read_line, text_in}
 use Rattle.rls_stages.proofs.Alike.{ReadsAlike, allowed_alike, lines_alike}
 use Rattle.rls_stages.proofs.Files.{IsOpened, opened, stands_stored}
@@ -52,7 +53,7 @@ use Rattle.rls_top.specs.declared.words.Command.{Command}
 use Rattle.rls_top.specs.declared.words.Command.TheVariants.{New, OnFile, Trial}
 use Rattle.rls_top.specs.declared.words.FileCommand.{FileCommand}
 use Rattle.rls_top.specs.declared.words.FileCommand.TheVariants.{Edit, Text, Ids, Stat, Send, Take, Leave}
-use Rattle.rls_top.specs.Due.{Due, Stops, NoCommand, due_at, due_of_fresh, due_of_ids, due_of_input, due_of_message, due_of_new, due_of_run, due_of_script, due_of_send, due_of_stat, due_of_taken, due_of_text, due_of_words, due_on, error_of_numbers, input_limit, shows, stores}
+use Rattle.rls_top.specs.Due.{Due, Stops, NoCommand, due_at, due_of_fresh, due_of_ids, due_of_input, due_of_message, due_of_new, due_of_run, due_of_script, due_of_send, due_of_stat, due_of_taken, due_of_text, due_of_words, due_on, error_of_numbers, shows, stores}
 use Rattle.rls_top.specs.Groups.{IsMadeOrLong, messages_in, messages_of, refused_in, stored_in}
 use Rattle.rls_top.specs.Headline.{is_for}
 use Rattle.rls_top.specs.Scripts.{run_lines}
@@ -65,11 +66,11 @@ use Rattle.rls_top.proofs.Scripts.{AreLines, leave_reads_well, line_in, lines_re
 -- a file that a member keeps at this state
 pub record IsKeptFor (bytes : List ℕ) (t : State) : Type 0 where
   pub stands : IsFileFor bytes t
-  pub short : length bytes ≤ file_limit
+  pub short : length bytes ≤ FILE_BYTES
   pub storable : IsStorable t
 
 -- a replica whose file is short is stored as such a file
-pub kept_for : (s : Seen) (t : State) → StandsFor s t → IsSane s → AreWritable s → IsStorable t → length (bytes_over s) ≤ file_limit → IsKeptFor (bytes_over s) t
+pub kept_for : (s : Seen) (t : State) → StandsFor s t → IsSane s → AreWritable s → IsStorable t → length (bytes_over s) ≤ FILE_BYTES → IsKeptFor (bytes_over s) t
 kept_for s t h sane w k few = record { stands = stands_stored s t h (storable_again s t h sane w k few); short = few; storable = k }
 
 -- the bytes that are kept when this replica's file is stored, if one is
@@ -78,8 +79,8 @@ bytes_with None bytes = bytes
 bytes_with (Some s) bytes = bytes_over s
 
 -- a file that isn't too long is opened as a replica
-pub opened_at : (bytes : List ℕ) (s : Seen) → length bytes ≤ file_limit → replica_in (Ok (Some bytes)) ≡ Ok s → replica_in (loaded (Some bytes)) ≡ Ok s
-opened_at bytes s short e = rw (not_lt_test file_limit (length bytes) short) e
+pub opened_at : (bytes : List ℕ) (s : Seen) → length bytes ≤ FILE_BYTES → replica_in (Ok (Some bytes)) ≡ Ok s → replica_in (loaded (Some bytes)) ≡ Ok s
+opened_at bytes s short e = rw (not_lt_test FILE_BYTES (length bytes) short) e
 
 -- ---- lines over a history
 
@@ -132,9 +133,9 @@ module _ (g n : ℕ) (w : World) (i : ℕ) (t : State) (bytes : List ℕ) (a : S
 
   saves : {L F : Type 0} (reads : State → L → Result model.Edit F) (c : Option Command) (s : Seen) (u : State) (report : List ℕ) (refused : List (ℕ × ℕ × Reason)) → messages_of c report ≡ [] → IsNext reads s u refused →
       Leads g n w i t bytes c (stores (saved s) report refused)
-  saves reads c s u report refused e x = go (nat_lt file_limit (length (bytes_over s))) refl
+  saves reads c s u report refused e x = go (nat_lt FILE_BYTES (length (bytes_over s))) refl
     where
-      go : (long : Bool) → nat_lt file_limit (length (bytes_over s)) ≡ long → Leads g n w i t bytes c (stores (if long then Err TooLarge else Ok s) report refused)
+      go : (long : Bool) → nat_lt FILE_BYTES (length (bytes_over s)) ≡ long → Leads g n w i t bytes c (stores (if long then Err TooLarge else Ok s) report refused)
       go true f = stops c TooLarge
       go false f =
           let r = does_stands reads g n w i t u refused [] a h x.does in
@@ -144,7 +145,7 @@ module _ (g n : ℕ) (w : World) (i : ℕ) (t : State) (bytes : List ℕ) (a : S
             clean = r.0;
             stands = r.1;
             front = x.front;
-            kept = kept_for s u x.stands x.sane x.writable x.storable (not_lt_is file_limit (length (bytes_over s)) f);
+            kept = kept_for s u x.stands x.sane x.writable x.storable (not_lt_is FILE_BYTES (length (bytes_over s)) f);
             written = λ b p. absurd (subst (λ (xs : List (List ℕ)). IsIn b xs) e p);
           }
 
@@ -173,7 +174,7 @@ module _ (g n : ℕ) (w : World) (i : ℕ) (t : State) (bytes : List ℕ) (a : S
             })
 
     edits_lead : (input : List ℕ) → LeadsTo (Some (OnFile Edit)) (due_at Edit s (Some input))
-    edits_lead input = (_, refl, go (nat_lt input_limit (length input)))
+    edits_lead input = (_, refl, go (nat_lt INPUT_BYTES (length input)))
       where
         c : Option Command
         c = Some (OnFile Edit)
@@ -241,7 +242,7 @@ module _ (g n : ℕ) (w : World) (i : ℕ) (t : State) (bytes : List ℕ) (a : S
           })
 
       take_leads : LeadsTo (Some (OnFile Take)) (due_at Take s (Some input))
-      take_leads = (_, refl, go (nat_lt input_limit (length input)))
+      take_leads = (_, refl, go (nat_lt INPUT_BYTES (length input)))
         where
           go : (long : Bool) → Leads g n w i t bytes (Some (OnFile Take)) (due_of_input (if long then Err TooLarge else Ok input) (λ bytes. due_of_message s (message_of bytes)))
           go true = stops (Some (OnFile Take)) TooLarge
@@ -249,7 +250,7 @@ module _ (g n : ℕ) (w : World) (i : ℕ) (t : State) (bytes : List ℕ) (a : S
 
       -- and it is taken, unless something is too long
       pub take_makes : IsSomeAnd (due_at Take s (Some input)) IsMadeOrLong
-      take_makes = go (nat_lt input_limit (length input))
+      take_makes = go (nat_lt INPUT_BYTES (length input))
         where
           kept : (x : Seen) (report : List ℕ) (refused : List (ℕ × ℕ × Reason)) (long : Bool) → IsMadeOrLong (stores (if long then Err TooLarge else Ok x) report refused)
           kept x report refused true = refl
@@ -259,7 +260,7 @@ module _ (g n : ℕ) (w : World) (i : ℕ) (t : State) (bytes : List ℕ) (a : S
           go true = refl
           go false =
               let x = taken_over s m in
-              subst IsMadeOrLong (sym message_due) (kept x.state (take_text x.counts.applied x.counts.released x.counts.repeated x.counts.held (length x.counts.refused)) x.counts.refused (nat_lt file_limit (length (bytes_over x.state))))
+              subst IsMadeOrLong (sym message_due) (kept x.state (take_text x.counts.applied x.counts.released x.counts.repeated x.counts.held (length x.counts.refused)) x.counts.refused (nat_lt FILE_BYTES (length (bytes_over x.state))))
 
   -- ---- by the command
 
@@ -275,7 +276,7 @@ module _ (g n : ℕ) (w : World) (i : ℕ) (t : State) (bytes : List ℕ) (a : S
 
       go : (e : Option CommandError) → LeadsTo c (due_of_new e group me members (Some (Some bytes)))
       go (Some e) = (_, refl, stops c e)
-      go None = (_, refl, on_file (nat_lt file_limit (length bytes)))
+      go None = (_, refl, on_file (nat_lt FILE_BYTES (length bytes)))
 
   file_leads : (c : FileCommand) (input : List ℕ) → (c ≡ Take → (m : Message) × IsIn m w.sent × IsMessage input m) → (s : Seen) → IsOpened bytes t s → LeadsTo (Some (OnFile c)) (due_at c s (Some input))
   file_leads Text input f s o = (_, refl, quiet (Some (OnFile Text)) (due_of_text s) refl refl refl)

@@ -2,6 +2,7 @@
 use Rattle.std.proofs.Common.{◌≡◌, ◌≤◌, ◌<◌, ◌+◌, ℕ, zero, suc, List, [], ◌∷◌, ◌++◌, length, refl, sym, ap, ◌∙◌, subst, arith, inl, inr, ⊎_elim}
 use Rattle.std.specs.Prelude.{slice_get, slice_set, Option, Some, None, IsSomeAnd, Result, Ok, ◌==◌, encode_utf8_all}
 use Rattle.std.proofs.lemmas.List.{length-map}
+use Rattle.rls_ident.specs.declared.limits.TheConstants.{MEMBERS, FILE_BYTES}
 use Rattle.rls_ident.specs.Lists.{IsIn}
 use Rattle.rls_ident.proofs.Members.{bool_cases, eq_is, eq_not, in_left, in_right, in_split, not_lt_test, some_is}
 use Rattle.rls_ops.specs.declared.message.Message.{Message}
@@ -37,7 +38,7 @@ use Rattle.rls_report.specs.declared.failures.CommandError.{CommandError}
 use Rattle.rls_top.specs.declared.words.Command.{Command}
 use Rattle.rls_top.specs.declared.words.Command.TheVariants.{OnFile}
 use Rattle.rls_top.specs.declared.words.FileCommand.TheVariants.{Text, Ids, Take}
-use Rattle.rls_stages.specs.KeptFile.{IsFileFor, StandsIn, bytes_over, file_limit, replica_in}
+use Rattle.rls_stages.specs.KeptFile.{IsFileFor, StandsIn, bytes_over, replica_in}
 use Rattle.rls_stages.proofs.Files.{opened}
 use Rattle.rls_top.specs.Due.{Due, due_of_words, due_on, shows}
 use Rattle.rls_top.specs.Headline.{new_state}
@@ -254,7 +255,7 @@ file_at g n i l = get_map bytes_over (fresh_replicas g n n) i (fresh g i n) (rep
 fresh_kept : (g n i : ℕ) → AreNumbers g i n → IsKeptFor (bytes_over (fresh g i n)) (new_state g i n)
 fresh_kept g n i h = kept_for (fresh g i n) (new_state g i n) (fresh_stands g i n h) (fresh_sane g i n h) (fresh_writable g i n) (fresh_storable g i n h) (fresh_short g i n h)
 
-fresh_matches : (g n : ℕ) → IsLarge g → n ≤ 64 → Matches g n (fresh_group g n) (empty_world g n)
+fresh_matches : (g n : ℕ) → IsLarge g → n ≤ MEMBERS → Matches g n (fresh_group g n) (empty_world g n)
 unfolding worlds.fresh
 fresh_matches g n large few = record {
   stands = empty_stands g n large few;
@@ -263,12 +264,12 @@ fresh_matches g n large few = record {
   written = λ b p. absurd p;
 }
 
-begins : (g n : ℕ) → IsLarge g → n ≤ 64 → BeginsWithNew g n
+begins : (g n : ℕ) → IsLarge g → n ≤ MEMBERS → BeginsWithNew g n
 begins g n large few i words input l e =
     let h : AreNumbers g i n = (large, l, few) in
     let s = fresh g i n in
     let right = right_numbers g i n h in
-    let short = not_lt_test file_limit (length (bytes_over s)) (fresh_short g i n h) in (
+    let short = not_lt_test FILE_BYTES (length (bytes_over s)) (fresh_short g i n h) in (
       s,
       ap (λ (c : Option Command). due_of_words c (Some None) (Some input)) e ∙ rw (right.0, short) refl,
       file_at g n i l,

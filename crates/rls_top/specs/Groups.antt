@@ -1,5 +1,6 @@
 -- A group: members that each keep a file of their own, and the messages that they write to each other.
 use Rattle.std.specs.Prelude.{◌≡◌, ◌<◌, ◌≤◌, ◌⊎◌, ℕ, List, [], ◌∷◌, ◌++◌, map, length, slice_get, slice_set, encode_utf8_all, Option, Some, None, IsSomeAnd}
+use Rattle.rls_ident.specs.declared.limits.TheConstants.{MEMBERS}
 use Rattle.rls_ident.specs.Lists.{IsIn}
 use Rattle.rls_model.specs.Answers.{Reason}
 use Rattle.rls_model.specs.Document.{Character, chars, text}
@@ -155,5 +156,5 @@ InOneOrder group members cs = (M : History) × IsLegal M × IsTotalOrder (preced
 -- command calls for a refused operation, each written message is taken unless something is too long, members whose counts are equal show
 -- the same, and one order orders the texts of all files at all times.
 abbrev pub GroupsClean : Type 0
-GroupsClean = (group members : ℕ) (cs : List MemberCommand) → IsLarge group → 0 < members → members ≤ 64 → AreOfGroup (fresh_group group members) cs → let g = after_commands (fresh_group group members) cs in
+GroupsClean = (group members : ℕ) (cs : List MemberCommand) → IsLarge group → 0 < members → members ≤ MEMBERS → AreOfGroup (fresh_group group members) cs → let g = after_commands (fresh_group group members) cs in
     BeginsWithNew group members × NoneRefused g × AllTaken g × EqualCountsShowSame g × InOneOrder group members cs
