@@ -1,12 +1,14 @@
 -- The message for a member of a state that may be stored has a spelling.
-use Rattle.std.proofs.Common.{◌≡◌, ℕ, ◌+◌, ◌≤◌, true, false, Bool, List, [], ◌∷◌, length, Option, Some, None, refl, subst, arith, inl, inr, ⊎_elim}
+use Rattle.std.proofs.Common.{ℕ, ◌+◌, true, false, Bool, List, [], ◌∷◌, Option, Some, None, refl, subst, arith, inl, inr, ⊎_elim}
 use Rattle.std.specs.Prelude.{not, nat_le, if◌then◌else◌}
 use Rattle.rls_ident.specs.declared.limits.TheConstants.{INPUT_BYTES}
 use Rattle.rls_ident.specs.Lists.{IsIn}
-use Rattle.rls_ident.proofs.Members.{in_filter, le_is, snoc_split}
+use Rattle.rls_ident.proofs.Members.{in_filter, snoc_split}
 use Rattle.rls_ops.specs.declared.op.Op.{Op}
 use Rattle.rls_ops.specs.Sizes.{head_size, op_size, front_within}
 use Rattle.rls_ops.specs.Rows.{is_covered, missing_for}
+use Rattle.rls_ops.proofs.Fronts.{front_fits}
+use Rattle.rls_ops.proofs.Sizes.{ops_within}
 use Rattle.rls_codec.specs.Spelled.{Chained, IsSpelled, IsSpelledMessage}
 use Rattle.rls_codec.proofs.Fits.{small_chain}
 use Rattle.rls_model.specs.History.{Accepted, Acknowledged, History, Fresh, Then, count, members_of, ops, row}
@@ -26,15 +28,6 @@ accepted_spelled (Then G (Accepted x)) s o p = ⊎_elim (λ q. accepted_spelled 
 accepted_spelled (Then G (Acknowledged a v)) s o p = accepted_spelled G s o p
 
 -- ---- the front of a list of operations
-
-front_few : (used limit : ℕ) (os : List Op) → used ≤ limit → (length (front_within used limit os) + used) ≤ limit
-front_few used limit [] l = omega arith
-front_few used limit (o ∷ os) l = go (nat_le (used + op_size o) limit) refl (front_few (used + op_size o) limit os)
-  where
-    go : (b : Bool) → nat_le (used + op_size o) limit ≡ b → ((used + op_size o) ≤ limit → (length (front_within (used + op_size o) limit os) + (used + op_size o)) ≤ limit) →
-        (length (if b then o ∷ front_within (used + op_size o) limit os else []) + used) ≤ limit
-    go true e ih = let k = ih (le_is (used + op_size o) limit e) in omega arith
-    go false e ih = omega arith
 
 front_each : {P : Op → Type 0} (used limit : ℕ) (before : Option Op) (os : List Op) → ((o : Op) → IsIn o os → P o) → Chained (λ b. P) before (front_within used limit os)
 front_each used limit before [] f = tt
@@ -58,13 +51,14 @@ sent_is_message t to s =
     let head = legal_head H s.legal in
     let most = (foot H s.legal).1 in
     let missing = missing_for (row H to) (unstable H) in
-    let few = front_few (head_size n) INPUT_BYTES missing (omega arith) in
+    let few = front_fits (head_size n) INPUT_BYTES missing (omega arith) in
+    let counted = ops_within (front_within (head_size n) INPUT_BYTES missing) in
     let m : IsSpelledMessage (message_for H to) = record {
       group = head.group_fits;
       members = head.members_fit;
       from = head.me_fits;
       vector = (length-count H, small_chain None (count H) (counts_small H s.legal));
-      count = omega arith;
+      count = omega (arith, few, counted);
       ops = front_each {P = IsSpelled n} (head_size n) INPUT_BYTES None missing (λ o p. accepted_spelled H s.accepted o (unstable_in H o (in_filter (λ x. not (is_covered (row H to) x)) o (unstable H) p).0));
     } in
     (3, refl, m, refl)

@@ -1,15 +1,13 @@
 -- Which calls of the keeper a command made, from what its stages called.
-use Rattle.std.proofs.Common.{◌≡◌, ◌≢◌, ◌⊎◌, ℕ, Bool, true, false, eqb, List, Option, Some, None, IfSome, IsSome, IsTrue, IsFalse, Result, Ok, Err, refl, sym, ◌∙◌, subst, inl, inr}
+use Rattle.std.proofs.Common.{◌≡◌, ◌≢◌, ℕ, Bool, true, false, eqb, List, Option, Some, None, IfSome, IsSome, IsTrue, IsFalse, Result, Ok, Err, refl, sym, ◌∙◌, subst, inl, inr}
 use Rattle.std.specs.Prelude.{Vec}
 use Rattle.std.specs.declared.alloc.Global.{Global}
 use Rattle.rls_io.specs.Memory.{bytes_of}
 use Rattle.rls_report.specs.declared.failures.Fault.TheVariants.{Keeper, Source, Sink, Memory}
 use Rattle.rls_report.specs.declared.failures.Failure.{Failure}
-use Rattle.rls_report.specs.declared.failures.Failure.TheVariants.{NoCommand, Command, Fault}
-use Rattle.rls_seen.specs.Seen.{Seen}
+use Rattle.rls_report.specs.declared.failures.Failure.TheVariants.{Command, Fault}
 use Rattle.rls_stages.specs.declared.errors.OpenError.TheVariants as opening
 use Rattle.rls_stages.specs.declared.errors.WorkError.TheVariants as work
-use Rattle.rls_stages.specs.KeptFile.{bytes_over}
 use Rattle.rls_top.specs.declared.made.Made.{Made}
 use Rattle.rls_top.specs.declared.stages.DeviceError.{DeviceError}
 use Rattle.rls_top.specs.declared.stages.DeviceError.TheVariants as device

@@ -13,7 +13,7 @@ use Rattle.rls_seen.specs.Over.{accepted}
 use Rattle.rls_seen.specs.Seen.{Seen, vector}
 use Rattle.rls_stages.specs.declared.errors.LineError.{LineError}
 use Rattle.rls_stages.specs.declared.errors.LineError.TheVariants.{Refused, OutOfMemory}
-use Rattle.rls_top.specs.Due.{due_of_run, Stops}
+use Rattle.rls_top.specs.Due.{due_of_run}
 use Rattle.rls_model.specs.Machine.{Run, Done, Stopped, go_on, run_on}
 use Rattle.rls_top.specs.Scripts.{run_lines}
 use Rattle.rls_stages.specs.Errors.{IsEdited, IsRefused, of_work}
