@@ -1,4 +1,5 @@
-use rls_io::{MemoryKeeper, MemorySink, MemorySource};
+use crate::pieces::Pieces;
+use rls_io::{MemoryKeeper, MemorySink};
 use rls_session::serve;
 use std::alloc::Global;
 use std::test::Fail;
@@ -15,32 +16,40 @@ const FRESH: &str =
 /// No call fails.
 const NO_FAULTS: [&[u64]; 3] = [&[], &[], &[]];
 
-/// What a session answered: its status, what it wrote, and the file that is kept afterwards, if there is one.
+/// More than a session asks for at once.
+const WHOLE: usize = 10_000;
+
+/// What a session answered: its status, what it wrote, the file that is kept afterwards, if there is one, and how many bytes of its
+/// input it left.
 #[derive(Drop)]
 struct Answer {
     status: u8,
     output: Vec<u8>,
     errors: Vec<u8>,
     file: Vec<u8>,
+    left: usize,
 }
 
-/// Holds a session over this file with this input, of which calls with these numbers fail: of the keeper, the input and the output.
+/// Holds a session over this file with this input, of which a read brings at most this many bytes. The calls with these numbers fail:
+/// of the keeper, the input and the output.
 fn held(
     alloc: Global,
     file: Option<&[u8]>,
     input: &[u8],
+    step: usize,
     failing: [&[u64]; 3],
 ) -> Result<Answer, Fail> {
     let mut keeper = MemoryKeeper::new(alloc, file, failing[0])?;
     let mut output = MemorySink::new(alloc, 10_000, failing[2])?;
     let mut errors = MemorySink::new(alloc, 1_000, &[])?;
-    let mut source = MemorySource::new(alloc, input, failing[1])?;
+    let mut source = Pieces::new(alloc, input, step, failing[1])?;
     let status = serve(alloc, &mut keeper, &mut source, &mut output, &mut errors);
     Ok(Answer {
         status,
         output: Vec::from_slice(alloc, output.written())?,
         errors: Vec::from_slice(alloc, errors.written())?,
         file: Vec::from_slice(alloc, keeper.file().unwrap_or(&[]))?,
+        left: source.left(),
     })
 }
 
@@ -68,11 +77,14 @@ const ROWS: &[Row<'_>] = &[
     (b"qx\nq \n q\n", b"bad\nbad\nbad\nsaved\n", false),
     // Nothing after `q` is looked at.
     (b"q\ni 0 x\n", b"saved\n", false),
+    (b"p\nq\nm 9\nabc", b"cursor 0\nsaved\n", false),
     // Messages: none of its bytes, fewer than it says, and one that the end cuts off.
     (b"m 0\np\n", b"no malformed at 0\ncursor 0\nsaved\n", false),
     (b"m 0", b"no malformed at 0\nsaved\n", false),
     (b"m 5", b"bad\nsaved\n", false),
+    (b"m 5\n", b"bad\nsaved\n", false),
     (b"m 5\nabcd", b"bad\nsaved\n", false),
+    (b"p\nm 3\n\n\n", b"cursor 0\nbad\nsaved\n", false),
     (
         b"m 3\nq\n\np\n",
         b"no malformed at 0\ncursor 0\nsaved\n",
@@ -98,10 +110,10 @@ const ROWS: &[Row<'_>] = &[
     (b"i 5 \\n\nt\n", b"ok 2\ntext 6\nhello\n\nsaved\n", true),
 ];
 
-/// The first row that goes otherwise than it has to.
-fn other_row(alloc: Global, file: &[u8]) -> Result<Option<usize>, Fail> {
+/// The first row that goes otherwise than it has to, if a read brings at most this many bytes.
+fn other_row(alloc: Global, file: &[u8], step: usize) -> Result<Option<usize>, Fail> {
     for (i, (input, output, is_other)) in ROWS.iter().enumerate() {
-        let answer = held(alloc, Some(file), input, NO_FAULTS)?;
+        let answer = held(alloc, Some(file), input, step, NO_FAULTS)?;
         if answer.status != 0
             || answer.output.as_slice() != *output
             || !answer.errors.is_empty()
@@ -116,7 +128,26 @@ fn other_row(alloc: Global, file: &[u8]) -> Result<Option<usize>, Fail> {
 #[test]
 fn requests_are_answered_in_order(rt: HostRuntime) -> Result<(), Fail> {
     let file = bytes(rt.alloc(), TYPED)?;
-    assert_eq!(rt; other_row(rt.alloc(), &file)?, None);
+    assert_eq!(rt; other_row(rt.alloc(), &file, WHOLE)?, None);
+    Ok(())
+}
+
+#[test]
+fn requests_come_byte_by_byte(rt: HostRuntime) -> Result<(), Fail> {
+    let file = bytes(rt.alloc(), TYPED)?;
+    assert_eq!(rt; other_row(rt.alloc(), &file, 1)?, None);
+    Ok(())
+}
+
+/// How many bytes a session leaves that gets its input byte by byte.
+fn left_of(alloc: Global, input: &[u8]) -> Result<usize, Fail> {
+    let file = bytes(alloc, TYPED)?;
+    Ok(held(alloc, Some(&file), input, 1, NO_FAULTS)?.left)
+}
+
+#[test]
+fn nothing_is_read_after_the_last_request(rt: HostRuntime) -> Result<(), Fail> {
+    assert_eq!(rt; left_of(rt.alloc(), b"m 2\nq\nq\ni 0 x\n")?, 6);
     Ok(())
 }
 
@@ -128,7 +159,7 @@ fn messages_come_and_go(rt: HostRuntime) -> Result<(), Fail> {
     input.extend_from_slice(&message)?;
     input.extend_from_slice(b"t\n")?;
     let fresh = bytes(alloc, FRESH)?;
-    let taken = held(alloc, Some(&fresh), &input, NO_FAULTS)?;
+    let taken = held(alloc, Some(&fresh), &input, 7, NO_FAULTS)?;
     assert_eq!(rt;
         taken.output.as_slice(),
         b"applied 1 released 0 repeated 0 held 0 refused 0\ntext 5\nhello\nsaved\n".as_slice()
@@ -137,54 +168,83 @@ fn messages_come_and_go(rt: HostRuntime) -> Result<(), Fail> {
     reply.extend_from_slice(&message)?;
     reply.extend_from_slice(b"\nsaved\n")?;
     let typed = bytes(alloc, TYPED)?;
-    let sent = held(alloc, Some(&typed), b"s 1\n", NO_FAULTS)?;
+    let sent = held(alloc, Some(&typed), b"s 1\n", WHOLE, NO_FAULTS)?;
     assert_eq!(rt; sent.output.as_slice(), reply.as_slice());
     Ok(())
 }
 
-/// Each row: which calls fail, the status, the output, the errors, and whether the file is another one afterwards. The input is an
-/// insertion and a request for the text, in one piece.
-type Fault<'a> = ([&'a [u64]; 3], u8, &'a [u8], &'a [u8], bool);
+/// Each row: how many bytes a read brings at most, which calls of the keeper, the input and the output fail, the status, the output,
+/// and whether the file is another one afterwards. The input is an insertion and a request for the text.
+type Fault<'a> = (usize, [&'a [u64]; 3], u8, &'a [u8], bool);
 
 const FAULTS: &[Fault<'_>] = &[
-    ([&[0], &[], &[]], 7, b"", b"keeper fault\n", false),
+    // In one piece: each call of each device.
+    (WHOLE, [&[0], &[], &[]], 7, b"", false),
+    (WHOLE, [&[1], &[], &[]], 7, b"ok 2\ntext 6\nAhello\n", false),
+    (WHOLE, [&[], &[0], &[]], 8, b"", false),
+    (WHOLE, [&[], &[1], &[]], 8, b"ok 2\ntext 6\nAhello\n", false),
+    (WHOLE, [&[], &[], &[0]], 9, b"", false),
+    (WHOLE, [&[], &[], &[1]], 9, b"ok 2\n", false),
+    (WHOLE, [&[], &[], &[2]], 9, b"ok 2\ntext 6\nAhello\n", true),
+    // Byte by byte: each whole request has its reply before the next read.
+    (1, [&[], &[0], &[]], 8, b"", false),
+    (1, [&[], &[1], &[]], 8, b"", false),
+    (1, [&[], &[2], &[]], 8, b"", false),
+    (1, [&[], &[3], &[]], 8, b"", false),
+    (1, [&[], &[4], &[]], 8, b"", false),
+    (1, [&[], &[5], &[]], 8, b"", false),
+    (1, [&[], &[6], &[]], 8, b"ok 2\n", false),
+    (1, [&[], &[7], &[]], 8, b"ok 2\n", false),
+    (1, [&[], &[8], &[]], 8, b"ok 2\ntext 6\nAhello\n", false),
+    // Several devices: the first in the order of work decides the status.
+    (WHOLE, [&[0], &[0], &[0]], 7, b"", false),
+    (WHOLE, [&[1], &[0], &[0]], 8, b"", false),
+    (WHOLE, [&[1], &[1], &[0]], 9, b"", false),
+    (WHOLE, [&[1], &[1], &[1]], 9, b"ok 2\n", false),
     (
-        [&[1], &[], &[]],
-        7,
-        b"ok 2\ntext 6\nAhello\n",
-        b"keeper fault\n",
-        false,
-    ),
-    ([&[], &[0], &[]], 8, b"", b"source fault\n", false),
-    (
-        [&[], &[1], &[]],
+        WHOLE,
+        [&[1], &[1], &[2]],
         8,
         b"ok 2\ntext 6\nAhello\n",
-        b"source fault\n",
         false,
     ),
-    ([&[], &[], &[0]], 9, b"", b"sink fault\n", false),
-    ([&[], &[], &[1]], 9, b"ok 2\n", b"sink fault\n", false),
     (
-        [&[], &[], &[2]],
-        9,
+        WHOLE,
+        [&[1], &[], &[2]],
+        7,
         b"ok 2\ntext 6\nAhello\n",
-        b"sink fault\n",
-        true,
+        false,
     ),
 ];
 
+/// The line on errors for the status of a device that failed.
+fn fault_line(status: u8) -> &'static [u8] {
+    match status {
+        7 => b"keeper fault\n",
+        8 => b"source fault\n",
+        _ => b"sink fault\n",
+    }
+}
+
+/// The first row that goes otherwise than it has to.
+fn other_fault(alloc: Global, file: &[u8]) -> Result<Option<usize>, Fail> {
+    for (i, (step, failing, status, output, is_other)) in FAULTS.iter().enumerate() {
+        let answer = held(alloc, Some(file), b"i 0 A\nt\n", *step, *failing)?;
+        if answer.status != *status
+            || answer.output.as_slice() != *output
+            || answer.errors.as_slice() != fault_line(*status)
+            || (answer.file.as_slice() != file) != *is_other
+        {
+            return Ok(Some(i));
+        }
+    }
+    Ok(None)
+}
+
 #[test]
 fn devices_fail(rt: HostRuntime) -> Result<(), Fail> {
-    let alloc = rt.alloc();
-    let file = bytes(alloc, TYPED)?;
-    for (i, (failing, status, output, errors, is_other)) in FAULTS.iter().enumerate() {
-        let answer = held(alloc, Some(&file), b"i 0 A\nt\n", *failing)?;
-        assert_eq!(rt; answer.status, *status, "{i}");
-        assert_eq!(rt; answer.output.as_slice(), *output, "{i}");
-        assert_eq!(rt; answer.errors.as_slice(), *errors, "{i}");
-        assert_eq!(rt; answer.file.as_slice() != file.as_slice(), *is_other, "{i}");
-    }
+    let file = bytes(rt.alloc(), TYPED)?;
+    assert_eq!(rt; other_fault(rt.alloc(), &file)?, None);
     Ok(())
 }
 
@@ -195,6 +255,7 @@ fn end_of(alloc: Global, file: Option<&[u8]>) -> Result<(u8, Vec<u8>, usize), Fa
         file,
         b"t
 ",
+        WHOLE,
         NO_FAULTS,
     )?;
     Ok((answer.status, answer.errors, answer.file.len()))
@@ -242,7 +303,7 @@ fn inputs_are_too_large(rt: HostRuntime) -> Result<(), Fail> {
     let alloc = rt.alloc();
     let file = bytes(alloc, TYPED)?;
     let input = Vec::from_elem(alloc, b'a', 67_108_865)?;
-    let answer = held(alloc, Some(&file), &input, NO_FAULTS)?;
+    let answer = held(alloc, Some(&file), &input, WHOLE, NO_FAULTS)?;
     assert_eq!(rt;
         (answer.status, answer.errors.as_slice()),
         (11, b"too large\n".as_slice())
