@@ -1,14 +1,15 @@
 -- A history of which each accepted operation has a spelling stays one, and goes on as what is stored, where a replica is made, edits and takes messages.
-use Rattle.std.proofs.Common.{◌≡◌, ℕ, List, [], ◌∷◌, length, Option, Some, None, Ok, refl, subst, arith}
+use Rattle.std.proofs.Common.{◌≡◌, ◌∙◌, ℕ, List, [], ◌∷◌, length, Option, Some, None, Ok, refl, ap, subst, arith}
 use Rattle.rls_ident.specs.Lists.{IsIn}
 use Rattle.rls_ops.specs.declared.op.Op.{Op}
 use Rattle.rls_codec.specs.Spelled.{Chained, FitsVector, IsSpelled}
 use Rattle.rls_model.specs.declared.edit.Edit.{Edit}
 use Rattle.rls_model.specs.EditRun.{edit_step, run_lines}
 use Rattle.rls_model.specs.History.{members_of}
+use Rattle.rls_model.specs.Machine.{one_less}
 use Rattle.rls_model.specs.Taking.{Progress, by_history, receive_step, started, take_ops, take_within, with_releases}
-use Rattle.rls_model.proofs.Machines.{edited_limit, receive_keeps, running_keeps}
-use Rattle.rls_model.proofs.WorldsRests.{steps_rest, taken_done}
+use Rattle.rls_model.proofs.Machines.{edit_unlimited, receive_keeps, running_keeps}
+use Rattle.rls_model.proofs.NothingReady.{steps_rest, taken_done}
 use Rattle.rls_file.specs.Storable.{IsStorable}
 use Rattle.rls_store.specs.Histories.{FreshIsStorable, LinesKeepStorable, TakenIsStorable}
 use Rattle.rls_store.proofs.HistorySteps.{IsStoring, edited_storing, noted_storing, releases_storing, steps_storing, stored, storing}
@@ -52,5 +53,6 @@ lines_storable {L} reads t lines p w s e = (running_keeps by_history reads IsOnW
         let n = members_of (q.state).history in
         let x = edit_step q edit in
         let k = length (x.state).waiting in
-        let d = steps_rest k x (edited_limit by_history q edit h.limit) (omega arith) in
+        let none : x.limit ≡ None = ap (λ (p : Progress). p.limit) (edit_unlimited by_history q edit h.limit) ∙ ap one_less h.limit in
+        let d = steps_rest k x none (omega arith) in
         record { storable = stored n (with_releases x).state (releases_storing n k x (edited_storing n q edit (storing q.state h.storable) b.0 b.1)) d.1; limit = d.0 }

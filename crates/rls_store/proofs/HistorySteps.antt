@@ -21,11 +21,12 @@ use Rattle.rls_model.specs.Taking.{by_history, Progress, release_steps, acknowle
 use Rattle.rls_model.specs.EditRun.{edit_step}
 use Rattle.rls_model.proofs.Machines.{acknowledge_keeps, edit_keeps, states_after_releases}
 use Rattle.rls_model.proofs.Made as making
-use Rattle.rls_model.proofs.WorldsRests.{IsAtRest}
-use Rattle.rls_model.proofs.WorldsWaiting.{in_without, in_with, waiting_at, sound_without, sound_grown, sound_accepted, sound_put}
-use Rattle.rls_model.proofs.Answered.{may_accept, answer_applies, answer_waits, IsHeld}
+use Rattle.rls_model.proofs.NothingReady.{IsAtRest}
+use Rattle.rls_model.proofs.WaitingFits.{in_without, in_with, waiting_at, sound_without, sound_grown, sound_accepted, sound_put}
+use Rattle.rls_model.proofs.Answered.{may_accept, answer_applies, IsHeld}
 use Rattle.rls_file.specs.FileLaws.{AreSpelled}
 use Rattle.rls_file.specs.Storable.{IsStorable}
+use Rattle.rls_store.proofs.Holding.{answer_waits}
 use Rattle.rls_store.proofs.MadeOps.{made_spelled}
 
 -- what may be stored, but for what is ready, among so many members

@@ -21,9 +21,9 @@ use Rattle.rls_model.specs.Receiving.{State}
 use Rattle.rls_model.specs.Taking.{message_for, take_message}
 use Rattle.rls_model.specs.Worlds.{World}
 use Rattle.rls_model.proofs.WorldsCommands.{Does, Rests, Runs, Writes, Reads, Stands, does_stands, lines_on, with_done}
-use Rattle.rls_model.proofs.WorldsNumbers.{front_self}
+use Rattle.rls_model.proofs.HistoryNumbers.{front_self}
 use Rattle.rls_model.proofs.WorldsPast.{taking_goes_on}
-use Rattle.rls_model.proofs.WorldsScripts.{AllReadWell}
+use Rattle.rls_model.proofs.WorldsEdits.{AllReadWell}
 use Rattle.rls_seen.specs.Messages.{message_over, taken_over}
 use Rattle.rls_seen.specs.Sane.{IsSane}
 use Rattle.rls_seen.specs.Seen.{Seen, members}

@@ -1,6 +1,6 @@
 -- In a group of members that each keep a file of their own no operation is refused.
 use Rattle.std.proofs.Common.{◌≡◌, ◌≤◌, ◌<◌, ◌+◌, ℕ, zero, suc, List, [], ◌∷◌, ◌++◌, length, refl, sym, ap, ◌∙◌, subst, arith, inl, inr, ⊎_elim}
-use Rattle.std.specs.Prelude.{slice_get, slice_set, Option, Some, None, IsSomeAnd, Result, Ok, ◌==◌, encode_utf8_all}
+use Rattle.std.specs.Prelude.{map, slice_get, slice_set, Option, Some, None, IsSomeAnd, Result, Ok, ◌==◌, encode_utf8_all}
 use Rattle.std.proofs.lemmas.List.{length-map}
 use Rattle.rls_ident.specs.declared.limits.TheConstants.{MEMBERS, FILE_BYTES}
 use Rattle.rls_ident.specs.Lists.{IsIn}
@@ -21,8 +21,8 @@ use Rattle.rls_model.proofs.WorldsGathered.{one_history}
 use Rattle.rls_model.proofs.WorldsInvariant.{at_later}
 use Rattle.rls_model.proofs.WorldsLaws.{equal_good, fresh_at, fresh_length}
 use Rattle.rls_model.proofs.WorldsLaws as worlds
-use Rattle.rls_model.proofs.WorldsLists.{get_map, get_set_other, get_set_same, get_some, got_below, length-set}
-use Rattle.rls_model.proofs.WorldsNumbers.{front_ops, front_self, front_trans}
+use Rattle.rls_model.proofs.OnePlace.{get_set_other, get_set_same, got_below, length-set}
+use Rattle.rls_model.proofs.HistoryNumbers.{front_ops, front_self, front_trans}
 use Rattle.rls_runs.specs.Runs.{runs_of}
 use Rattle.rls_runs.proofs.RunPlaces.{get_left, get_right}
 use Rattle.rls_seen.specs.Seen.{Seen, fresh}
@@ -48,6 +48,18 @@ use Rattle.rls_top.proofs.GroupCommands.{IsKeptFor, Leads, bytes_with, command_l
 use Rattle.rls_top.proofs.Fresh.{fresh_short}
 use Rattle.rls_top.proofs.Headlines.{ids_alike}
 use Rattle.rls_top.proofs.Pieces.{right_numbers}
+
+-- ---- one place of a list
+
+get_map : {A B : Type 0} (f : A → B) (xs : List A) (i : ℕ) (x : A) → slice_get xs i ≡ Some x → slice_get (map f xs) i ≡ Some (f x)
+get_map f [] i x h = absurd (cc)
+get_map f (y ∷ ys) zero x h = ap (λ z. Some (f z)) (some_is y x h)
+get_map f (y ∷ ys) (suc i) x h = get_map f ys i x h
+
+get_some : {A : Type 0} (xs : List A) (i : ℕ) → i < length xs → (x : A) × (slice_get xs i ≡ Some x)
+get_some [] i h = absurd (omega arith)
+get_some (x ∷ xs) zero h = (x, refl)
+get_some (x ∷ xs) (suc i) h = get_some xs i (omega arith)
 
 -- ---- what a group and a world have in common
 
