@@ -1,34 +1,28 @@
 -- What is known of the entries of parts, place by place.
-use Rattle.std.proofs.Common.{◌≡◌, ℕ, suc, zero, ◌+◌, ◌<◌, ◌≤◌, ◌&&◌, Bool, true, false, List, [], ◌∷◌, ◌++◌, length, map, get_or, take, drop, refl, sym, ap, ◌∙◌, subst, arith, inl, inr, Option, Some, None, if◌then◌else◌, add-one, drop-cons}
+use Rattle.std.proofs.Common.{◌≡◌, ℕ, suc, zero, ◌+◌, ◌<◌, ◌≤◌, ◌&&◌, Bool, true, false, List, [], ◌∷◌, ◌++◌, length, map, get_or, take, drop, refl, sym, ap, ◌∙◌, subst, arith, inl, inr, Some, None, if◌then◌else◌, add-one, drop-cons}
 use Rattle.std.proofs.lemmas.List.{drop_all}
 use Rattle.std.specs.List.{list_all, list_any}
-use Rattle.rls_ident.specs.declared.tuple.Tuple.{Tuple}
 use Rattle.rls_ident.specs.declared.epoch_name.EpochName.{EpochName}
 use Rattle.rls_ident.specs.declared.epoch_name.EpochName.TheVariants.{Origin, Of}
 use Rattle.rls_ident.specs.EpochNames.{name_eq, is_of_member, is_within}
-use Rattle.rls_ident.specs.Identifiers.{is_ident, last_of}
 use Rattle.rls_ident.specs.Lists.{IsIn}
 use Rattle.rls_ident.specs.Vectors.{raise}
-use Rattle.rls_ident.proofs.Members.{all_in, in_all, and_none, any_in, in_any, in_map, lt_test, same_bool}
+use Rattle.rls_ident.proofs.Members.{and_none, any_in, in_all, in_any, lt_test, same_bool}
 use Rattle.rls_ident.proofs.Named.{name_eq_is, name_eq_refl}
-use Rattle.rls_runs.specs.Runs.{IsImage, idents_of, is_run, run_idents}
-use Rattle.rls_runs.proofs.RunOrder.{run_are_idents, run_ident}
 use Rattle.rls_rename.specs.Connected.{spanned}
 use Rattle.rls_rename.specs.Keeping.{reached}
-use Rattle.rls_rename.specs.Tree.{Node, Epochs, AreNodes, is_kept, greatest, translate}
-use Rattle.rls_rename.proofs.Growth.{translate_same}
+use Rattle.rls_rename.specs.Tree.{Epochs, is_kept, greatest}
 use Rattle.rls_ops.specs.declared.op.Op.{Op}
 use Rattle.rls_seen.proofs.Sending.{length-stable}
 use Rattle.rls_seen.specs.Sane.{IsStem, AreStems, IsCounted}
 use Rattle.rls_model.specs.declared.parts.EpochPart.{EpochPart}
 use Rattle.rls_model.specs.declared.parts.Parts.{Parts}
 use Rattle.rls_model.specs.declared.parts.Stem.{Stem}
-use Rattle.rls_model.specs.declared.parts.TextRun.{TextRun}
 use Rattle.rls_model.specs.Stems.{stands_before}
 use Rattle.rls_parts.specs.Given.{AreGiven, AreEpochParts, HaveCounts}
-use Rattle.rls_parts.specs.Reading.{top_name, nodes_of, epochs_of, greatest_of_parts, names_of, in_epoch, stable_of_parts}
+use Rattle.rls_parts.specs.Reading.{epochs_of, greatest_of_parts, names_of, stable_of_parts}
 use Rattle.rls_parts.specs.Restored.{acks_of, with_own}
-use Rattle.rls_parts.specs.Rules.{are_retained, epoch_fault, has_stable, is_kept_name, is_next, is_text_of, is_used_everywhere, is_used_tuple, log_fault, names_eq, raised_by, retained_of_parts}
+use Rattle.rls_parts.specs.Rules.{are_retained, epoch_fault, has_stable, is_kept_name, is_next, log_fault, names_eq, raised_by, retained_of_parts}
 use Rattle.rls_parts.proofs.RestoredEpochs.{tree_given, kept_named, named_kept, counted_named}
 use Rattle.rls_parts.proofs.RestoredRows.{rows_given, stable_given}
 
@@ -36,13 +30,6 @@ pub counts_at : (n : ℕ) (vs : List (List ℕ)) (i : ℕ) (d : List ℕ) → Ha
 counts_at n [] i d h l = absurd (omega arith)
 counts_at n (v ∷ vs) zero d h l = h.0
 counts_at n (v ∷ vs) (suc i) d h l = counts_at n vs i d h.1 (omega arith)
-
--- a test of each of these with each of those may go in either order
-pub all_swap : {A B : Type 0} (t : A → B → Bool) (xs : List A) (ys : List B) → list_all (λ x. list_all (t x) ys) xs ≡ list_all (λ y. list_all (λ x. t x y) xs) ys
-all_swap t xs ys =
-    same_bool (list_all (λ x. list_all (t x) ys) xs) (list_all (λ y. list_all (λ x. t x y) xs) ys)
-    (λ h. all_in (λ y. list_all (λ x. t x y) xs) ys (λ y q. all_in (λ x. t x y) xs (λ x p. in_all (t x) y ys (in_all (λ x. list_all (t x) ys) x xs h p) q)))
-    (λ h. all_in (λ x. list_all (t x) ys) xs (λ x p. all_in (t x) ys (λ y q. in_all (λ x. t x y) x xs (in_all (λ y. list_all (λ x. t x y) xs) y ys h q) p)))
 
 pub all_append : {A : Type 0} (t : A → Bool) (xs ys : List A) → list_all t (xs ++ ys) ≡ (list_all t xs && list_all t ys)
 all_append t [] ys = refl
@@ -155,54 +142,6 @@ log_done p v i list os e l = ap (log_fault p v i) (ap (drop i) (sym e) ∙ drop_
 
 pub raised_done : (v : List ℕ) (i : ℕ) (list os : List Op) → list ≡ os → length list ≤ i → raised_by v (drop i os) ≡ v
 raised_done v i list os e l = ap (raised_by v) (ap (drop i) (sym e) ∙ drop_all i list l)
-
--- ---- text
-
--- in this epoch the last tuple of each identifier of the run was used
-abbrev pub used_in : Parts → TextRun → EpochName → Bool
-used_in p r f = list_all (λ x. is_used_tuple p (last_of (in_epoch p f x))) (run_idents r.run.0 r.run.1)
-
-text_is : (p : Parts) (r : TextRun) → is_text_of p r ≡ list_all (used_in p r) (names_of p.epochs)
-text_is p r = all_swap (λ x f. is_used_tuple p (last_of (in_epoch p f x))) (run_idents r.run.0 r.run.1) (names_of p.epochs)
-
-pub text_ends : (p : Parts) (r : TextRun) (list : List EpochPart) (i : ℕ) (d : EpochPart) → list ≡ p.epochs → i < length list → list_all (used_in p r) (names_of (drop i p.epochs)) ≡ list_all (used_in p r) (names_of p.epochs) → used_in p r (get_or list i d).name ≡ false → false ≡ is_text_of p r
-text_ends p r list i d e l h n =
-    let f = (get_or list i d).name in
-    sym (ap (λ b. b && list_all (used_in p r) (names_of (drop (i + 1) list))) n)
-    ∙ (ap (λ xs. list_all (used_in p r) (names_of xs)) (sym (drop_there list i d l) ∙ ap (drop i) e) ∙ (h ∙ sym (text_is p r)))
-
-pub text_done : (p : Parts) (r : TextRun) (list : List EpochPart) (i : ℕ) → list ≡ p.epochs → length list ≤ i → list_all (used_in p r) (names_of (drop i p.epochs)) ≡ list_all (used_in p r) (names_of p.epochs) → true ≡ is_text_of p r
-text_done p r list i e l h = ap (λ xs. list_all (used_in p r) (names_of xs)) (sym (drop_all i list l) ∙ ap (drop i) e) ∙ (h ∙ sym (text_is p r))
-
-pub all_same : {A : Type 0} (s t : A → Bool) (xs : List A) → ((x : A) → IsIn x xs → s x ≡ t x) → list_all s xs ≡ list_all t xs
-all_same s t [] f = refl
-all_same s t (x ∷ xs) f = ap (λ b. b && list_all s xs) (f x (inl refl)) ∙ ap (λ b. t x && b) (all_same s t xs (λ z q. f z (inr q)))
-
-pub all_map : {A B : Type 0} (t : B → Bool) (f : A → B) (xs : List A) → list_all t (map f xs) ≡ list_all (λ x. t (f x)) xs
-all_map t f [] = refl
-all_map t f (x ∷ xs) = ap (λ b. t (f x) && b) (all_map t f xs)
-
--- the run in another epoch of the list
-pub used_moved : (p : Parts) (E : Epochs) (g name : EpochName) (run : List Tuple × ℕ) (images : List (List Tuple × ℕ)) (b : Bool) → epochs_of p ≡ E → g ≡ greatest E.top E.nodes → IsImage (translate E.nodes g name) run images
-    → b ≡ list_all (λ x. is_used_tuple p (last_of x)) (idents_of images) → b ≡ list_all (λ x. is_used_tuple p (last_of (in_epoch p name x))) (run_idents run.0 run.1)
-used_moved p E g name run images b e h m u =
-    let xs = run_idents run.0 run.1 in
-    u
-    ∙ (ap (list_all (λ x. is_used_tuple p (last_of x))) m.idents
-    ∙ (all_map (λ x. is_used_tuple p (last_of x)) (translate E.nodes g name) xs
-    ∙ (ap (λ f. list_all (λ x. is_used_tuple p (last_of (translate E.nodes f name x))) xs) h
-    ∙ ap (λ (y : Epochs). list_all (λ x. is_used_tuple p (last_of (translate y.nodes (greatest y.top y.nodes) name x))) xs) (sym e))))
-
--- the run in the greatest one, in which it stands
-pub used_here : (p : Parts) (E : Epochs) (g name : EpochName) (run : List Tuple × ℕ) (b : Bool) → epochs_of p ≡ E → g ≡ greatest E.top E.nodes → name_eq g name ≡ true → AreNodes E.nodes → is_run run ≡ true
-    → b ≡ list_all (λ x. is_used_tuple p (last_of x)) (run_idents run.0 run.1) → b ≡ list_all (λ x. is_used_tuple p (last_of (in_epoch p name x))) (run_idents run.0 run.1)
-used_here p E g name run b e h same n r u =
-    let xs = run_idents run.0 run.1 in
-    let is : greatest E.top E.nodes ≡ name = sym h ∙ name_eq_is g name same in
-    u
-    ∙ (all_same (λ x. is_used_tuple p (last_of x)) (λ x. is_used_tuple p (last_of (translate E.nodes (greatest E.top E.nodes) name x))) xs
-    (λ x q. ap (λ y. is_used_tuple p (last_of y)) (sym (ap (λ f. translate E.nodes f name x) is ∙ translate_same E.nodes name x n (in_all is_ident x xs (run_are_idents run.0 run.1 (run_ident run r)) q))))
-    ∙ ap (λ (y : Epochs). list_all (λ x. is_used_tuple p (last_of (translate y.nodes (greatest y.top y.nodes) name x))) xs) (sym e))
 
 -- ---- rows
 

@@ -2,3 +2,4 @@ pub mod UsedRuns
 pub mod Building
 pub mod Faults
 pub mod InOrder
+pub mod TextEpochs

@@ -66,7 +66,7 @@ pub fn test_all(alloc: Global, parts: &Parts) -> Result<Tested, PartsError>
         Ok(epochs) => epochs,
         Err(index) => return Err(PartsError::Broken { rule: 3, index }),
     };
-    if let Some(index) = text_fault(parts, &stems, &epochs)? {
+    if let Some(index) = text_fault(alloc, parts, &stems, &epochs)? {
         return Err(PartsError::Broken { rule: 4, index });
     }
     let acks = acks(alloc, parts)?;

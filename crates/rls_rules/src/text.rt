@@ -2,21 +2,23 @@
 
 ghost use Rattle.std.specs.Prelude.{◌≡◌, [], None, IfOk, IsTrue};
 ghost use Rattle.std.specs.List.{list_all};
+ghost use Rattle.rls_ident.specs.declared.epoch_name.EpochName.{EpochName};
 ghost use Rattle.rls_ident.specs.Identifiers.{last_of};
+ghost use Rattle.rls_ident.specs.Lists.{IsIn};
 ghost use Rattle.rls_rename.specs.Tree.{is_kept};
 ghost use Rattle.rls_runs.specs.Runs.{run_idents, idents_of};
 ghost use Rattle.rls_model.specs.declared.parts.Parts.{Parts as PartsSeen};
 ghost use Rattle.rls_parts.specs.Given.{AreGiven};
-ghost use Rattle.rls_parts.specs.Reading.{epochs_of, in_epoch};
+ghost use Rattle.rls_parts.specs.Reading.{epochs_of, in_epoch, names_of};
 ghost use Rattle.rls_rules.specs.Used.{covers};
 ghost use Rattle.rls_parts.specs.Rules.{epoch_fault, is_used_tuple, is_text_of, text_fault};
 
 use rls_epoch::Epochs;
-use rls_ident::{EpochName, Spot};
-use rls_model::{Parts, Stem, TextRun};
-use rls_runs::Run;
+use rls_ident::Spot;
+use rls_model::{EpochPart, Parts, Stem, TextRun};
+use rls_runs::{Run, Runs};
 use rls_stems::StemTable;
-use std::alloc::AllocError;
+use std::alloc::{AllocError, Global};
 
 // Whether the last tuple of each identifier of the run was used.
 fn is_used_run(stems: &StemTable, run: &Run) -> bool
@@ -39,6 +41,13 @@ fn covers(stem: Option<Stem>, last: Spot, len: u32) -> bool
     }
 }
 
+// The same for each of these identifiers.
+fn are_used(stems: &StemTable, ids: &Runs) -> bool
+    ensures used { (p : PartsSeen) → p.stems ≡ stems.now.stems → result ≡ list_all (λ x. is_used_tuple p (last_of x)) ids.now }
+{
+    are_used_runs(stems, ids.as_slice())
+}
+
 // The same for each of these runs.
 fn are_used_runs(stems: &StemTable, runs: &[Run]) -> bool
     ensures used { (p : PartsSeen) → p.stems ≡ stems.now.stems → result ≡ list_all (λ x. is_used_tuple p (last_of x)) (idents_of runs.now) }
@@ -51,29 +60,36 @@ fn are_used_runs(stems: &StemTable, runs: &[Run]) -> bool
     true
 }
 
-// Whether in this epoch of the list the last tuple of each identifier of the run was used.
-fn is_used_in(
+// Whether in each of these epochs the last tuple of each of these identifiers, which are of the greatest epoch, was used. It goes
+// from the last of these epochs to the first, from each to the one before it. Since they stand in the order of their paths, these ways
+// have no more than two steps for each epoch in all.
+fn are_used_everywhere(
     stems: &StemTable,
     epochs: &Epochs,
-    name: EpochName,
-    run: &Run,
+    list: &[EpochPart],
+    ids: Runs,
 ) -> Result<bool, AllocError>
-    requires kept { IsTrue (is_kept epochs.now.epochs.top epochs.now.epochs.nodes name) }
+    requires kept { (f : EpochName) → IsIn f (names_of list.now) → IsTrue (is_kept epochs.now.epochs.top epochs.now.epochs.nodes f) }
     ensures used { (p : PartsSeen) → p.stems ≡ stems.now.stems → epochs_of p ≡ epochs.now.epochs
-        → IfOk result (λ b. b ≡ list_all (λ x. is_used_tuple p (last_of (in_epoch p name x))) (run_idents run.now.0 run.now.1)) }
+        → IfOk result (λ b. b ≡ list_all (λ f. list_all (λ x. is_used_tuple p (last_of (in_epoch p f x))) ids) (names_of list.now)) }
 {
-    let _count = epochs.count();
-    let _len = run.len();
-    let greatest = epochs.greatest();
-    if greatest.same(&name) {
-        return Ok(is_used_run(stems, run));
+    let (_count, _total) = (epochs.count(), ids.total());
+    let (mut here, mut images, mut left) = (epochs.greatest(), ids, list.len());
+    while 0 < left {
+        left -= 1;
+        let name = list[left].name;
+        images = epochs.translate_runs(here, name, &images)?;
+        here = name;
+        if !are_used(stems, &images) {
+            return Ok(false);
+        }
     }
-    let images = epochs.translate_run(greatest, name, run)?;
-    Ok(are_used_runs(stems, images.as_slice()))
+    Ok(true)
 }
 
 // Whether in each epoch of the list the last tuple of each identifier of the run was used.
 fn is_text_of(
+    alloc: Global,
     parts: &Parts,
     stems: &StemTable,
     epochs: &Epochs,
@@ -85,19 +101,20 @@ fn is_text_of(
     requires rule { epoch_fault parts.now [] parts.now.epochs ≡ None }
     ensures used { IfOk result (λ b. b ≡ is_text_of parts.now run.now) }
 {
-    let list = parts.epochs.as_slice();
-    for i in 0..list.len() {
-        if !is_used_in(stems, epochs, list[i].name, &run.run)? {
-            return Ok(false);
-        }
+    let (_count, _len) = (epochs.count(), run.run.len());
+    if parts.epochs.len() == 1 {
+        return Ok(is_used_run(stems, &run.run));
     }
-    Ok(true)
+    let mut ids = Runs::new(alloc);
+    ids.append(run.run.copy()?)?;
+    are_used_everywhere(stems, epochs, parts.epochs.as_slice(), ids)
 }
 
 /// Rule 4: the place of the first run of which some identifier has, in some epoch of the list, a last tuple that wasn't used. It costs
-/// the renaming of each run for each epoch on the way from the greatest to each epoch of the list, and nothing is renamed where the
-/// list has one epoch.
+/// the renaming of each run from each epoch of the list to the one before it, which are at most two steps for each epoch, and nothing is
+/// renamed where the list has one epoch.
 pub fn text_fault(
+    alloc: Global,
     parts: &Parts,
     stems: &StemTable,
     epochs: &Epochs,
@@ -110,7 +127,7 @@ pub fn text_fault(
 {
     let runs = parts.text.as_slice();
     for i in 0..runs.len() {
-        if !is_text_of(parts, stems, epochs, &runs[i])? {
+        if !is_text_of(alloc, parts, stems, epochs, &runs[i])? {
             return Ok(Some(i as u64));
         }
     }

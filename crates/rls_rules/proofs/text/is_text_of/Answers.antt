@@ -1,19 +1,36 @@
-use Rattle.std.proofs.Common.{sym, ap, ◌∙◌}
-use Rattle.rls_rules.proofs.Faults.{kept_at, name_at_place, text_ends, text_done, used_in}
+use Rattle.std.proofs.Common.{◌≡◌, ◌++◌, List, ℕ, length, sym, ap, ◌∙◌, subst, arith}
+use Rattle.std.specs.Prelude.{IfOk}
+use Rattle.rls_ident.specs.declared.tuple.Tuple.{Tuple}
+use Rattle.rls_ident.specs.Lists.{IsIn}
+use Rattle.rls_runs.specs.Runs.{run_idents}
+use Rattle.rls_parts.specs.Reading.{names_of}
+use Rattle.rls_rules.proofs.Faults.{kept_at}
+use Rattle.rls_rules.proofs.TextEpochs.{text_alone, text_of}
 use Rattle.rls_rules.proofs.text.is_text_of.Goals as goal
 
-pub is_used_in-requires : goal.is_used_in-requires
-is_used_in-requires c =
+pub returns-then-len-eq1 : goal.returns-then-len-eq1
+returns-then-len-eq1 c =
     let p = c.args.parts.now in
     let r = c.requires in
-    record { kept = kept_at p c.args.epochs.now.epochs r.given.epochs r.rule r.epochs_are _ (name_at_place c.as_slice-list.result.now p.epochs c.loop-i.i c.index-list-i.result c.as_slice-list.ensures.epochs c.loop-i-test.true) }
+    let one : length p.epochs ≡ 1 = omega (arith, c.if-len-eq1.true, c.len.ensures.len) in
+    record {
+      used = text_alone p c.args.epochs.now.epochs c.args.run.now c.is_used_run.result r.given.epochs r.rule r.epochs_are c.count-count.ensures.tree.0 c.len-len.ensures.run one (c.is_used_run.ensures.used p (sym r.stems_are));
+    }
 
-pub returns-then-not-branch : goal.returns-then-not-branch
-returns-then-not-branch c =
-    let p = c.args.parts.now in
+pub are_used_everywhere-requires : goal.are_used_everywhere-requires
+are_used_everywhere-requires c =
     let r = c.requires in
-    let used = c.in_ok-is_used_in.ensures.used p (sym r.stems_are) (sym r.epochs_are) in
-    record { used = text_ends p c.args.run.now c.as_slice-list.result.now c.loop-i.i c.index-list-i.result c.as_slice-list.ensures.epochs c.loop-i-test.true c.loop-i.invariant (sym used ∙ c.if-not-branch.true) }
+    record { kept = λ f q. kept_at c.args.parts.now c.args.epochs.now.epochs r.given.epochs r.rule r.epochs_are f (subst (λ es. IsIn f (names_of es)) c.as_slice.ensures.epochs q) }
 
 pub returns : goal.returns
-returns c = record { used = text_done c.args.parts.now c.args.run.now c.as_slice-list.result.now c.loop-i.i c.as_slice-list.ensures.epochs c.loop-i-test.false c.loop-i.invariant }
+returns c =
+    let p = c.args.parts.now in
+    let r = c.requires in
+    let copy = c.in_ok-copy.field-0 in
+    let ids =
+    c.in_ok-append.ensures.ok
+    ∙ (ap (λ (xs : List (List Tuple)). xs ++ run_idents copy.0 copy.1) c.new-ids.ensures.empty ∙ ap (λ (q : List Tuple × ℕ). run_idents q.0 q.1) c.in_ok-copy.ensures.copy) in
+    record {
+      used = subst (λ used. IfOk c.are_used_everywhere.result (λ b. b ≡ used)) (text_of p c.args.run.now _ c.as_slice.result.now ids c.as_slice.ensures.epochs)
+          (c.are_used_everywhere.ensures.used p (sym r.stems_are) (sym r.epochs_are));
+    }
