@@ -1,5 +1,5 @@
 -- Whether the last tuple of each identifier of a run was used.
-use Rattle.std.proofs.Common.{◌≡◌, ℕ, suc, zero, ◌<◌, ◌&&◌, Bool, true, false, List, [], ◌∷◌, ◌++◌, refl, sym, ap, ◌∙◌, arith, Option, Some, None}
+use Rattle.std.proofs.Common.{◌≡◌, ℕ, suc, zero, ◌<◌, ◌&&◌, Bool, true, List, refl, sym, ap, ◌∙◌, arith, Option, Some, None}
 use Rattle.std.specs.Prelude.{ℤ, pos, ◌+ℤ◌, ◌<ℤ◌}
 use Rattle.std.specs.Int.RustNames.{int_le, int_lt}
 use Rattle.std.specs.List.{list_all}
@@ -7,9 +7,9 @@ use Rattle.std.proofs.lemmas.Int.{ints}
 use Rattle.rls_ident.specs.declared.tuple.Tuple.{Tuple}
 use Rattle.rls_ident.specs.Identifiers.{IsIdent, last_of, shifted}
 use Rattle.rls_ident.specs.Tuples.{raised, replica_of, seq_of, offset_of}
-use Rattle.rls_ident.proofs.Members.{and_left, and_right, and_true, and_none, int_le_is, int_le_test, int_lt_test, same_bool}
+use Rattle.rls_ident.proofs.Members.{and_left, and_right, and_true, int_le_is, int_le_test, int_lt_test, same_bool}
 use Rattle.rls_ident.proofs.Shifted.{ident_shifted, last_shifted, last_offset, raised_replica, raised_seq}
-use Rattle.rls_runs.specs.Runs.{run_idents, idents_of}
+use Rattle.rls_runs.specs.Runs.{run_idents}
 use Rattle.rls_model.specs.declared.parts.Parts.{Parts}
 use Rattle.rls_model.specs.declared.parts.Stem.{Stem}
 use Rattle.rls_model.specs.Stems.{stem_of, has_used}

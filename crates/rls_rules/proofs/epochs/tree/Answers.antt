@@ -1,8 +1,5 @@
-use Rattle.std.proofs.Common.{◌≡◌, ◌+◌, ◌&&◌, true, false, take, sym, ap, ◌∙◌, arith}
-use Rattle.rls_ident.proofs.Members.{and_none}
-use Rattle.rls_parts.specs.Rules.{is_greater}
-use Rattle.rls_rules.specs.Building.{opens}
-use Rattle.rls_rules.proofs.Building.{at_index, broken_at, entry_on, first_so, whole_at}
+use Rattle.std.proofs.Common.{sym, arith}
+use Rattle.rls_rules.proofs.Building.{at_index, first_so}
 use Rattle.rls_rules.proofs.epochs.tree.Goals as goal
 
 pub loop-i-init : goal.loop-i-init

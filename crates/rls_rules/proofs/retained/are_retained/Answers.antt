@@ -1,14 +1,8 @@
-use Rattle.std.proofs.Common.{◌≡◌, ◌++◌, ◌&&◌, true, map, refl, sym, ap, ◌∙◌, subst}
-use Rattle.std.specs.List.{list_any}
-use Rattle.rls_ident.specs.EpochNames.{is_within}
+use Rattle.std.proofs.Common.{map, ap, ◌∙◌, subst}
 use Rattle.rls_ident.specs.Lists.{IsIn}
 use Rattle.rls_ident.proofs.Members.{in_map}
-use Rattle.rls_rename.specs.Connected.{spanned}
-use Rattle.rls_rename.specs.Keeping.{reached}
-use Rattle.rls_rename.specs.Tree.{Epochs, greatest}
 use Rattle.rls_ops.specs.declared.op.Op.{Op}
 use Rattle.rls_parts.specs.Reading.{names_of, stable_of_parts}
-use Rattle.rls_parts.specs.Rules.{has_stable, names_eq, retained_of_parts}
 use Rattle.rls_parts.proofs.RestoredLog.{epoch_named}
 use Rattle.rls_rules.proofs.Faults.{at_kept, kept_at, members_named, retained_done}
 use Rattle.rls_rules.proofs.retained.are_retained.Goals as goal

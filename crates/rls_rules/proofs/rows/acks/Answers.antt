@@ -1,5 +1,5 @@
 use Rattle.std.proofs.Common.{sym, ap, ◌∙◌, subst}
-use Rattle.rls_ops.specs.Rows.{AcksSeen, AreRows}
+use Rattle.rls_ops.specs.Rows.{AreRows}
 use Rattle.rls_parts.specs.Restored.{acks_of}
 use Rattle.rls_parts.proofs.RestoredRows.{rows_given}
 use Rattle.rls_rules.proofs.rows.acks.Goals as goal

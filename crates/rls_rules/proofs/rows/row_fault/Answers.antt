@@ -1,4 +1,4 @@
-use Rattle.std.proofs.Common.{length, slice_index_or, sym, ap, ◌∙◌, subst, arith}
+use Rattle.std.proofs.Common.{length, slice_index_or, sym, ap, ◌∙◌, arith}
 use Rattle.rls_rules.proofs.Faults.{counts_at}
 use Rattle.rls_rules.proofs.rows.row_fault.Goals as goal
 
