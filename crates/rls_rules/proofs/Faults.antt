@@ -1,7 +1,7 @@
 -- What is known of the entries of parts, place by place.
 use Rattle.std.proofs.Common.{◌≡◌, ℕ, suc, zero, ◌+◌, ◌<◌, ◌≤◌, ◌&&◌, Bool, true, false, List, [], ◌∷◌, ◌++◌, length, map, get_or, take, drop, refl, sym, ap, ◌∙◌, subst, arith, inl, inr, Some, None, if◌then◌else◌, add-one, drop-cons}
 use Rattle.std.proofs.lemmas.List.{drop_all}
-use Rattle.std.specs.List.{list_all, list_any}
+use Rattle.std.specs.List.{list_any}
 use Rattle.rls_ident.specs.declared.epoch_name.EpochName.{EpochName}
 use Rattle.rls_ident.specs.declared.epoch_name.EpochName.TheVariants.{Origin, Of}
 use Rattle.rls_ident.specs.EpochNames.{name_eq, is_of_member, is_within}
@@ -30,14 +30,6 @@ pub counts_at : (n : ℕ) (vs : List (List ℕ)) (i : ℕ) (d : List ℕ) → Ha
 counts_at n [] i d h l = absurd (omega arith)
 counts_at n (v ∷ vs) zero d h l = h.0
 counts_at n (v ∷ vs) (suc i) d h l = counts_at n vs i d h.1 (omega arith)
-
-pub all_append : {A : Type 0} (t : A → Bool) (xs ys : List A) → list_all t (xs ++ ys) ≡ (list_all t xs && list_all t ys)
-all_append t [] ys = refl
-all_append t (x ∷ xs) ys = go (t x) (all_append t xs ys)
-  where
-    go : (b : Bool) → list_all t (xs ++ ys) ≡ (list_all t xs && list_all t ys) → (b && list_all t (xs ++ ys)) ≡ ((b && list_all t xs) && list_all t ys)
-    go true h = h
-    go false h = refl
 
 -- ---- epochs of the list
 
