@@ -43,14 +43,14 @@ tuples_ident (Low ∷ []) f = absurd f
 tuples_ident (High ∷ []) f = absurd f
 tuples_ident (t ∷ (u ∷ x)) f = tuples_ident (u ∷ x) f.1
 
-tuples_bounded : (x : List Tuple) → FitTuples x → is_bounded x ≡ true
+pub tuples_bounded : (x : List Tuple) → FitTuples x → is_bounded x ≡ true
 tuples_bounded [] f = absurd f
 tuples_bounded (At p r s o ∷ []) f = f.3
 tuples_bounded (Low ∷ []) f = absurd f
 tuples_bounded (High ∷ []) f = absurd f
 tuples_bounded (t ∷ (u ∷ x)) f = and_true (is_inner_bounded t) (is_bounded (u ∷ x)) (inner_bounded t f.0) (tuples_bounded (u ∷ x) f.1)
 
-run_sound : (r : List Tuple × ℕ) → FitsRun r → is_run r ≡ true
+pub run_sound : (r : List Tuple × ℕ) → FitsRun r → is_run r ≡ true
 run_sound r f =
     let a = is_ident r.0 in
     let b = is_bounded r.0 in

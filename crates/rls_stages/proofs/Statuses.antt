@@ -1,5 +1,5 @@
 -- Which status is whose, and which line goes with it.
-use Rattle.std.proofs.Common.{◌≡◌, ◌∙◌, ◌<◌, ◌||◌, ◌==◌, ℕ, Bool, true, false, eqb, List, Option, Some, None, IfSome, refl, sym, subst, inl, inr, lit<, arith}
+use Rattle.std.proofs.Common.{◌≡◌, ◌∙◌, ◌<◌, ◌||◌, ◌==◌, ℕ, Bool, true, false, eqb, List, Option, Some, None, IfSome, refl, sym, ap, subst, inl, inr, lit<, arith}
 use Rattle.std.proofs.lemmas.Bool.Decides.{nat_tests}
 use Rattle.rls_report.specs.declared.failures.CommandError.{CommandError}
 use Rattle.rls_report.specs.declared.failures.CommandError.TheVariants as errors
@@ -38,8 +38,11 @@ error_is errors.TooLarge = refl
 pub not_error : {X : Type 0} (e : CommandError) (n k : ℕ) → n ≡ error_status e → n ≡ k → is_error k ≡ false → X
 not_error e n k s h none = let yes : is_error k ≡ true = subst (λ m. is_error m ≡ true) (sym s ∙ h) (error_is e) in let never : true ≡ false = sym yes ∙ none in cc
 
+abbrev is_other : ℕ → Bool
+is_other n = (n == 1) || ((n == 7) || ((n == 8) || ((n == 9) || (n == 10))))
+
 abbrev is_failure : ℕ → Bool
-is_failure n = is_error n || ((n == 1) || ((n == 7) || ((n == 8) || ((n == 9) || (n == 10)))))
+is_failure n = is_error n || is_other n
 
 -- no failure has another status
 pub not_failure : {X : Type 0} (f : Failure) (n k : ℕ) → IsFailureStatus f n → n ≡ k → is_failure k ≡ false → X
@@ -48,23 +51,10 @@ not_failure f n k s h none = let yes : is_failure k ≡ true = subst (λ m. is_f
     at : (m : ℕ) → n ≡ m → is_failure m ≡ true → is_failure n ≡ true
     at m e is = subst (λ k. is_failure k ≡ true) (sym e) is
 
-    is_errors : (e : CommandError) → is_failure (error_status e) ≡ true
-    is_errors errors.NoReplica = refl
-    is_errors errors.ReplicaExists = refl
-    is_errors (errors.Damaged at) = refl
-    is_errors (errors.BadMembers n) = refl
-    is_errors (errors.BadMe n) = refl
-    is_errors (errors.NotMember n) = refl
-    is_errors (errors.BadLine n) = refl
-    is_errors (errors.Malformed at) = refl
-    is_errors (errors.OtherGroup g n) = refl
-    is_errors (errors.Edit n f) = refl
-    is_errors errors.TooLarge = refl
-
     is_one : (f : Failure) → IsFailureStatus f n → is_failure n ≡ true
     is_one NoCommand (inl s) = at 1 s refl
     is_one NoCommand (inr s) = at 10 s refl
-    is_one (Command e) (inl s) = at (error_status e) s (is_errors e)
+    is_one (Command e) (inl s) = at (error_status e) s (ap (λ b. b || is_other (error_status e)) (error_is e))
     is_one (Command e) (inr s) = at 10 s refl
     is_one (Fault Keeper) s = at 7 s refl
     is_one (Fault Source) s = at 8 s refl

@@ -23,10 +23,9 @@ use Rattle.rls_model.proofs.Machines.{acknowledge_keeps, edit_keeps, states_afte
 use Rattle.rls_model.proofs.Made as making
 use Rattle.rls_model.proofs.NothingReady.{IsAtRest}
 use Rattle.rls_model.proofs.WaitingFits.{in_without, in_with, waiting_at, sound_without, sound_grown, sound_accepted, sound_put}
-use Rattle.rls_model.proofs.Answered.{may_accept, answer_applies, IsHeld}
+use Rattle.rls_model.proofs.Answered.{may_accept, answer_applies, answer_waits, IsHeld}
 use Rattle.rls_file.specs.FileLaws.{AreSpelled}
 use Rattle.rls_file.specs.Storable.{IsStorable}
-use Rattle.rls_store.proofs.Holding.{answer_waits}
 use Rattle.rls_store.proofs.MadeOps.{made_spelled}
 
 -- what may be stored, but for what is ready, among so many members

@@ -1,20 +1,16 @@
 -- What a file of the forms 2 to 4 says: a sane replica that may be written again, and that stands for each legal state with these parts.
 use Rattle.std.proofs.Common.{◌≡◌, ◌≢◌, ◌∙◌, ◌&&◌, ℕ, suc, Bool, true, false, not, eqb, nat_lt, List, [], ◌∷◌, map, Option, Some, None, refl, sym, ap, subst, arith, inl, inr}
-use Rattle.std.specs.Prelude.{◌+ℤ◌, int_le, pos, slice_index, if◌then◌else◌}
+use Rattle.std.specs.Prelude.{slice_index}
 use Rattle.std.specs.List.{find, list_all}
 use Rattle.std.proofs.lemmas.Bool.Decides.{nat_tests}
-use Rattle.rls_ident.specs.declared.tuple.Tuple.{Tuple}
-use Rattle.rls_ident.specs.declared.tuple.Tuple.TheVariants.{Low, At, High}
-use Rattle.rls_ident.specs.Identifiers.{is_bounded, is_ident, is_inner_bounded, last_of}
 use Rattle.rls_ident.specs.Lists.{IsIn}
-use Rattle.rls_ident.specs.Tuples.{offset_of}
 use Rattle.rls_ident.specs.Vectors.{at_most}
-use Rattle.rls_ident.proofs.Members.{and_left, and_right, and_true}
-use Rattle.rls_runs.specs.Runs.{AreIdents, is_run, past_offsets}
+use Rattle.rls_ident.proofs.Members.{and_true}
+use Rattle.rls_runs.specs.Runs.{AreIdents, is_run}
 use Rattle.rls_ops.specs.declared.op.Op.{Op}
 use Rattle.rls_ops.specs.Shapes.{shape_fault}
-use Rattle.rls_codec.specs.Spelled.{Chained, FitsRun, FitTuples}
-use Rattle.rls_codec.proofs.SpelledSound.{fits_idents, fits_vector, inner_bounded, tuples_ident}
+use Rattle.rls_codec.specs.Spelled.{Chained}
+use Rattle.rls_codec.proofs.SpelledSound.{fits_idents, fits_vector, run_sound}
 use Rattle.rls_model.specs.declared.parts.EpochPart.{EpochPart}
 use Rattle.rls_model.specs.declared.parts.TextRun.{TextRun}
 use Rattle.rls_model.specs.declared.parts.Parts.{Parts}
@@ -41,21 +37,6 @@ former_ranged before [] c e p = absurd p
 former_ranged None (x ∷ es) c e (inl q) = subst (λ (y : EpochPart). AreIdents y.former) q (subst AreIdents (sym c.0.2) (refl, refl))
 former_ranged (Some before) (x ∷ es) c e (inl q) = subst (λ (y : EpochPart). AreIdents y.former) q (fits_idents x.former c.0.2)
 former_ranged before (x ∷ es) c e (inr p) = former_ranged (Some x) es c.1 e p
-
-tuples_bounded : (x : List Tuple) → FitTuples x → is_bounded x ≡ true
-tuples_bounded [] f = absurd f
-tuples_bounded (At p r s o ∷ []) f = f.3
-tuples_bounded (Low ∷ []) f = absurd f
-tuples_bounded (High ∷ []) f = absurd f
-tuples_bounded (t ∷ (u ∷ x)) f = and_true (is_inner_bounded t) (is_bounded (u ∷ x)) (inner_bounded t f.0) (tuples_bounded (u ∷ x) f.1)
-
-run_sound : (r : List Tuple × ℕ) → FitsRun r → is_run r ≡ true
-run_sound r f =
-    let a = is_ident r.0 in
-    let b = is_bounded r.0 in
-    let c = nat_lt 0 r.1 in
-    let d = int_le (offset_of (last_of r.0) +ℤ pos r.1) past_offsets in
-    and_true (a && b && c) d (and_true (a && b) c (and_true a b (tuples_ident r.0 f.0.1) (tuples_bounded r.0 f.0.1)) (and_left c d f.2)) (and_right c d f.2)
 
 runs_ranged : (before : Option TextRun) (rs : List TextRun) → Chained FitsTextRun before rs → list_all is_run (map (λ r. r.run) rs) ≡ true
 runs_ranged before [] c = refl

@@ -1,7 +1,8 @@
 -- In a group of members that each keep a file of their own no operation is refused.
 use Rattle.std.proofs.Common.{◌≡◌, ◌≤◌, ◌<◌, ◌+◌, ℕ, zero, suc, List, [], ◌∷◌, ◌++◌, length, refl, sym, ap, ◌∙◌, subst, arith, inl, inr, ⊎_elim}
-use Rattle.std.specs.Prelude.{map, slice_get, slice_set, Option, Some, None, IsSomeAnd, Result, Ok, ◌==◌, encode_utf8_all}
+use Rattle.std.specs.Prelude.{option_map, slice_get, slice_set, Option, Some, None, IsSomeAnd, Result, Ok, ◌==◌, encode_utf8_all}
 use Rattle.std.proofs.lemmas.List.{length-map}
+use Rattle.std.proofs.lemmas.Option.{slice_get-map}
 use Rattle.rls_ident.specs.declared.limits.TheConstants.{MEMBERS, FILE_BYTES}
 use Rattle.rls_ident.specs.Lists.{IsIn}
 use Rattle.rls_ident.proofs.Members.{bool_cases, eq_is, eq_not, in_left, in_right, in_split, not_lt_test, some_is}
@@ -31,6 +32,7 @@ use Rattle.rls_seen.proofs.Starting.{fresh_stands}
 use Rattle.rls_seen.proofs.Staying.{fresh_sane}
 use Rattle.rls_world.specs.Seen.{fresh_replicas}
 use Rattle.rls_world.proofs.Beginning.{fresh_length as replicas_length}
+use Rattle.rls_world.proofs.Stepping.{place_of}
 use Rattle.rls_store.proofs.HistoryRuns.{fresh_storable}
 use Rattle.rls_store.proofs.Storable.{fresh_writable}
 use Rattle.rls_report.specs.Listing.{ids_of, ids_text}
@@ -48,18 +50,6 @@ use Rattle.rls_top.proofs.GroupCommands.{IsKeptFor, Leads, bytes_with, command_l
 use Rattle.rls_top.proofs.Fresh.{fresh_short}
 use Rattle.rls_top.proofs.Headlines.{ids_alike}
 use Rattle.rls_top.proofs.Pieces.{right_numbers}
-
--- ---- one place of a list
-
-get_map : {A B : Type 0} (f : A → B) (xs : List A) (i : ℕ) (x : A) → slice_get xs i ≡ Some x → slice_get (map f xs) i ≡ Some (f x)
-get_map f [] i x h = absurd (cc)
-get_map f (y ∷ ys) zero x h = ap (λ z. Some (f z)) (some_is y x h)
-get_map f (y ∷ ys) (suc i) x h = get_map f ys i x h
-
-get_some : {A : Type 0} (xs : List A) (i : ℕ) → i < length xs → (x : A) × (slice_get xs i ≡ Some x)
-get_some [] i h = absurd (omega arith)
-get_some (x ∷ xs) zero h = (x, refl)
-get_some (x ∷ xs) (suc i) h = get_some xs i (omega arith)
 
 -- ---- what a group and a world have in common
 
@@ -107,7 +97,7 @@ module _ (g n : ℕ) (G : Group) (w : World) (x : Matches g n G w) where
 
   there : (i : ℕ) → i < length G.files → IsThere i
   there i l =
-      let r = get_some w.states i (omega (arith, l, x.count)) in
+      let r = place_of w.states i (omega (arith, l, x.count)) in
       let f = x.file i r.0 r.1 in
       record { state = r.0; at = r.1; bytes = f.0; file = f.1; kept = f.2 }
 
@@ -262,7 +252,7 @@ replica_at g n (suc k) i l =
     get_left xs (fresh g k n ∷ []) i (omega (arith, below, size)) ∙ replica_at g n k i below)
 
 file_at : (g n i : ℕ) → i < n → slice_get (fresh_group g n).files i ≡ Some (bytes_over (fresh g i n))
-file_at g n i l = get_map bytes_over (fresh_replicas g n n) i (fresh g i n) (replica_at g n n i l)
+file_at g n i l = slice_get-map bytes_over (fresh_replicas g n n) i ∙ ap (option_map bytes_over) (replica_at g n n i l)
 
 fresh_kept : (g n i : ℕ) → AreNumbers g i n → IsKeptFor (bytes_over (fresh g i n)) (new_state g i n)
 fresh_kept g n i h = kept_for (fresh g i n) (new_state g i n) (fresh_stands g i n h) (fresh_sane g i n h) (fresh_writable g i n) (fresh_storable g i n h) (fresh_short g i n h)
@@ -306,7 +296,7 @@ moment g n G u v M i x later all l =
 
 ordered : (g n : ℕ) (cs : List MemberCommand) (v : World) → 0 < length v.states → Stands g n v → AtEach g n (fresh_group g n) cs v → InOneOrder g n cs
 ordered g n cs v some a each =
-    let s = get_some v.states 0 some in
+    let s = place_of v.states 0 some in
     let all = one_history v 0 s.0 a.good s.1 in
     let M = all.0 in
     (M, (all.1).0, (order.law M (all.1).0).0, λ before after i e l. let r = each before after e in moment g n (after_commands (fresh_group g n) before) r.0 v M i r.1 r.2 all.1 l)
