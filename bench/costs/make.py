@@ -1,6 +1,7 @@
 #!/usr/bin/env python3
 """Writes a message to member 0 of a group of three, group 7, that costs as much as it can: NAME N > MESSAGE. docs/FORMATS.md tells the
-bytes. Member 1 has made all operations of a message but the last ones of `gone`, `same`, `each` and `again`, which are member 2's."""
+bytes. Member 1 has made all operations of a message but the last ones of `gone`, `same`, `each`, `again`, `wrong_epoch` and
+`old_deletions`, which are member 2's."""
 import struct
 import sys
 
@@ -106,6 +107,28 @@ def small_renames(n):
         ops.append(later(k, b"\2" + u32(1) + ident(1, 0, pos=1) + u32(1), epoch))
         epoch = b"\1" + u32(1, k)
     return ops
+
+
+def renames(n):
+    """A text of one run, and n renames of it: the operations, and the epoch that the last one opens."""
+    ops, epoch = [text(2 * n)], ORIGIN
+    first = ident(1, 0)
+    for k in range(2, n + 2):
+        ops.append(later(k, b"\2" + u32(1) + first + u32(2 * n), epoch))
+        epoch, first = b"\1" + u32(1, k), ident(k, 0)
+    return ops, epoch
+
+
+def wrong_epoch(n):
+    """After n renames comes an operation n times that knows of none of them, but names the epoch of the last one, and is refused."""
+    ops, epoch = renames(n)
+    return [*ops, *[op(2, 1, (0, 1, 0), deletion((0, 1)), epoch)] * n]
+
+
+def old_deletions(n):
+    """After n renames come n deletions of one character each whose author knew of none of them."""
+    ops, _ = renames(n)
+    return [*ops, *[op(2, k + 1, (0, 1, k), deletion((2 * k, 1))) for k in range(n)]]
 
 
 def scattered(n):
