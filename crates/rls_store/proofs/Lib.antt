@@ -12,7 +12,6 @@ pub mod Characters
 pub mod RangedIdents
 pub mod HistoryIdents
 pub mod MadeOps
-pub mod Holding
 pub mod HistorySteps
 pub mod HistoryRuns
 pub mod HistoryMessages

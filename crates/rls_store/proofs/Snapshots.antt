@@ -1,6 +1,6 @@
 -- What a file of the forms 2 to 4 says: a sane replica that may be written again, and that stands for each legal state with these parts.
 use Rattle.std.proofs.Common.{◌≡◌, ◌≢◌, ◌∙◌, ◌&&◌, ℕ, suc, Bool, true, false, not, eqb, nat_lt, List, [], ◌∷◌, map, Option, Some, None, refl, sym, ap, subst, arith, inl, inr}
-use Rattle.std.specs.Prelude.{slice_index}
+use Rattle.std.specs.Prelude.{slice_index, if◌then◌else◌}
 use Rattle.std.specs.List.{find, list_all}
 use Rattle.std.proofs.lemmas.Bool.Decides.{nat_tests}
 use Rattle.rls_ident.specs.Lists.{IsIn}
