@@ -3,6 +3,7 @@
 
 pub mod answers;
 pub mod bytes;
+pub mod rows;
 pub mod steps;
 pub mod told;
 pub mod worlds;

@@ -1,6 +1,7 @@
 //! Worlds of members that are led from event to event.
 
 use crate::answers::tally;
+use crate::rows::{change_of, cut, number, word};
 use crate::steps::{Change, edit_of};
 use rls_model::{Event, Outcome, StepError};
 use rls_replica::Replica;
@@ -19,8 +20,22 @@ pub enum Happening {
 }
 
 /// What happens, what comes of it, and how the member in question is afterwards: its text, its counts, how many operations wait, and
-/// how many operations are unstable and how many epochs and former identifiers are retained; then how many of these it keeps.
-pub type Row = (Happening, &'static str, &'static str, &'static str);
+/// how many operations are unstable and how many epochs and former identifiers are retained; then how many of these it keeps. These
+/// are four parts with ` | ` between them, as in `edit 0 insert 0 hello | 1 | hello [1, 0] 0 of 1 1 0 | 1 1 0`.
+pub type Row = &'static str;
+
+/// What happens: `edit 0 insert 2 XY`, `send 0 1`, `deliver 0 1` or `drop 1`.
+fn happening_of(words: &'static str) -> Result<Happening, Fail> {
+    let (verb, rest) = word(words);
+    let (first, rest) = number::<u32>(rest)?;
+    match verb {
+        "edit" => Ok(Happening::Edit(first, change_of(rest)?)),
+        "send" => Ok(Happening::Send(first, number(rest)?.0)),
+        "deliver" => Ok(Happening::Deliver(u64::from(first), number(rest)?.0)),
+        "drop" => Ok(Happening::Drop(first)),
+        _ => Err(Fail::new(words)),
+    }
+}
 
 /// The event.
 pub fn event_of(alloc: Global, happening: Happening) -> Result<Event, AllocError> {
@@ -112,25 +127,34 @@ fn drops(alloc: Global, world: &mut World, member: u32) -> Result<bool, Fail> {
     Ok(dropped && kept(alloc, replica)? == retained(alloc, replica)?)
 }
 
-/// Whether the event goes as it has to.
-fn happens(alloc: Global, world: &mut World, row: Row) -> Result<bool, Fail> {
-    let event = event_of(alloc, row.0)?;
+/// Whether what happens is answered so.
+fn happens(
+    alloc: Global,
+    world: &mut World,
+    happening: Happening,
+    expected: &str,
+) -> Result<bool, Fail> {
+    let event = event_of(alloc, happening)?;
     let answer = outcome(alloc, &world.step(&event))?;
-    Ok(answer.as_str() == row.1)
+    Ok(answer.as_str() == expected)
 }
 
 /// Whether the event goes as it has to. Where the member in question drops what is stable after it, what it keeps is just what is
 /// retained, and all else is as without.
 fn goes(alloc: Global, world: &mut World, row: Row, dropping: bool) -> Result<bool, Fail> {
-    let member = member_of(row.0);
-    if !happens(alloc, world, row)? {
+    let (words, rest) = cut(row)?;
+    let (expected, rest) = cut(rest)?;
+    let (stand, kept) = cut(rest)?;
+    let happening = happening_of(words)?;
+    let member = member_of(happening);
+    if !happens(alloc, world, happening, expected)? {
         return Ok(false);
     }
     let keeps = match dropping {
         true => drops(alloc, world, member)?,
-        false => keeps(alloc, world, member, row.3)?,
+        false => keeps(alloc, world, member, kept)?,
     };
-    Ok(keeps && stands(alloc, world, member, row.2)?)
+    Ok(keeps && stands(alloc, world, member, stand)?)
 }
 
 /// The first row that goes otherwise than it has to.
