@@ -6,6 +6,7 @@ use rls_undo::{Undo, UndoError, Undone};
 use std::alloc::{AllocError, Global};
 use std::test::Fail;
 use test_steps::answers::edited;
+use test_steps::rows::{change_of, cut, number, word};
 use test_steps::steps::{Change, edit_of, letter, takes};
 
 /// What is done.
@@ -35,8 +36,36 @@ enum Move {
     SettleAnchor,
 }
 
-/// A move, its answer, and the text that the first member then shows.
-type Row = (Move, &'static str, &'static str);
+/// A move, its answer, and the text that the first member then shows, with ` | ` between them.
+type Row = &'static str;
+
+/// The move: `edit`, `pass` or `other` with an edit after it, `set 3`, or the words for the others.
+fn move_of(words: &'static str) -> Result<Move, Fail> {
+    let (verb, rest) = word(words);
+    match verb {
+        "edit" => Ok(Move::Edit(change_of(rest)?)),
+        "pass" => Ok(Move::Pass(change_of(rest)?)),
+        "other" => Ok(Move::Other(change_of(rest)?)),
+        "set" => Ok(Move::Set(number(rest)?.0)),
+        _ => plain_move(words).ok_or_else(|| Fail::new(words)),
+    }
+}
+
+/// The move that has just a name.
+fn plain_move(words: &str) -> Option<Move> {
+    Some(match words {
+        "give" => Move::Give,
+        "take" => Move::Take,
+        "drop" => Move::Drop,
+        "undo" => Move::Undo,
+        "skip" => Move::Skip,
+        "settle entries" => Move::SettleEntries,
+        "place" => Move::Place,
+        "show" => Move::Show,
+        "settle anchor" => Move::SettleAnchor,
+        _ => return None,
+    })
+}
 
 /// The two members, and what the first one keeps.
 #[derive(Drop)]
@@ -151,8 +180,9 @@ fn look(alloc: Global, pair: &mut Pair, what: Move) -> Result<String, AllocError
 
 /// Whether the move goes as it has to.
 fn goes(alloc: Global, pair: &mut Pair, row: Row) -> Result<bool, Fail> {
-    let (what, expected, text) = row;
-    let told = change(alloc, pair, what)?;
+    let (words, rest) = cut(row)?;
+    let (expected, text) = cut(rest)?;
+    let told = change(alloc, pair, move_of(words)?)?;
     let shown = pair.first.text()?.to_utf8()?;
     Ok(told.as_str() == expected && shown.as_str() == text)
 }
@@ -178,35 +208,33 @@ fn fault(alloc: Global, members: u32, rows: &[Row]) -> Result<Option<usize>, Fai
     fault_among(alloc, &mut pair, rows)
 }
 
-const HELLO: Move = Move::Pass(Change::Insert(0, "hello"));
-
 /// An insertion is undone whole, around what another member wrote into it, also through that member's rename, and when all of it is
 /// gone.
 #[test]
 fn insertions_are_undone(rt: HostRuntime) -> Result<(), Fail> {
     let rows = &[
-        (Move::Undo, "Nothing", ""),
-        (Move::Skip, "false", ""),
-        (HELLO, "1", "hello"),
-        (Move::Edit(Change::Insert(2, "XY")), "2", "heXYllo"),
-        (Move::Undo, "1 2", "hello"),
-        (Move::Edit(Change::Insert(2, "XY")), "4", "heXYllo"),
-        (Move::Give, "true", "heXYllo"),
-        (Move::Other(Change::Insert(3, "z")), "1", "heXYllo"),
-        (Move::Take, "true", "heXzYllo"),
-        (Move::Undo, "2 2", "hezllo"),
-        (Move::Edit(Change::Insert(0, "ab")), "7", "abhezllo"),
-        (Move::Pass(Change::Delete(0, 2)), "8", "hezllo"),
-        (Move::Undo, "0 0", "hezllo"),
-        (Move::Edit(Change::Insert(0, "c")), "9", "chezllo"),
-        (Move::Skip, "true", "chezllo"),
-        (Move::Edit(Change::Insert(3, "XY")), "10", "cheXYzllo"),
-        (Move::Give, "true", "cheXYzllo"),
-        (Move::Other(Change::Rename), "2", "cheXYzllo"),
-        (Move::Other(Change::Insert(4, "q")), "3", "cheXYzllo"),
-        (Move::Take, "true", "cheXqYzllo"),
-        (Move::Undo, "2 2", "cheqzllo"),
-        (Move::Undo, "Nothing", "cheqzllo"),
+        "undo | Nothing | ",
+        "skip | false | ",
+        "pass insert 0 hello | 1 | hello",
+        "edit insert 2 XY | 2 | heXYllo",
+        "undo | 1 2 | hello",
+        "edit insert 2 XY | 4 | heXYllo",
+        "give | true | heXYllo",
+        "other insert 3 z | 1 | heXYllo",
+        "take | true | heXzYllo",
+        "undo | 2 2 | hezllo",
+        "edit insert 0 ab | 7 | abhezllo",
+        "pass delete 0 2 | 8 | hezllo",
+        "undo | 0 0 | hezllo",
+        "edit insert 0 c | 9 | chezllo",
+        "skip | true | chezllo",
+        "edit insert 3 XY | 10 | cheXYzllo",
+        "give | true | cheXYzllo",
+        "other rename | 2 | cheXYzllo",
+        "other insert 4 q | 3 | cheXYzllo",
+        "take | true | cheXqYzllo",
+        "undo | 2 2 | cheqzllo",
+        "undo | Nothing | cheqzllo",
     ];
     assert_eq!(rt; fault(rt.alloc(), 2, rows)?, None);
     Ok(())
@@ -216,22 +244,22 @@ fn insertions_are_undone(rt: HostRuntime) -> Result<(), Fail> {
 #[test]
 fn deletions_are_undone(rt: HostRuntime) -> Result<(), Fail> {
     let rows = &[
-        (HELLO, "1", "hello"),
-        (Move::Edit(Change::Delete(1, 3)), "2", "ho"),
-        (Move::Give, "true", "ho"),
-        (Move::Other(Change::Insert(1, "q")), "1", "ho"),
-        (Move::Take, "true", "hqo"),
-        (Move::Undo, "1 3", "hqello"),
-        (Move::Edit(Change::Delete(0, 2)), "4", "ello"),
-        (Move::Pass(Change::Rename), "5", "ello"),
-        (Move::SettleEntries, "Ok(())", "ello"),
-        (Move::Undo, "1 2", "hqello"),
-        (Move::Edit(Change::Delete(4, 2)), "7", "hqel"),
-        (Move::Give, "true", "hqel"),
-        (Move::Other(Change::Rename), "2", "hqel"),
-        (Move::Other(Change::Delete(0, 1)), "3", "hqel"),
-        (Move::Take, "true", "qel"),
-        (Move::Undo, "1 2", "qello"),
+        "pass insert 0 hello | 1 | hello",
+        "edit delete 1 3 | 2 | ho",
+        "give | true | ho",
+        "other insert 1 q | 1 | ho",
+        "take | true | hqo",
+        "undo | 1 3 | hqello",
+        "edit delete 0 2 | 4 | ello",
+        "pass rename | 5 | ello",
+        "settle entries | Ok(()) | ello",
+        "undo | 1 2 | hqello",
+        "edit delete 4 2 | 7 | hqel",
+        "give | true | hqel",
+        "other rename | 2 | hqel",
+        "other delete 0 1 | 3 | hqel",
+        "take | true | qel",
+        "undo | 1 2 | qello",
     ];
     assert_eq!(rt; fault(rt.alloc(), 2, rows)?, None);
     Ok(())
@@ -242,25 +270,25 @@ fn deletions_are_undone(rt: HostRuntime) -> Result<(), Fail> {
 #[test]
 fn undone_not_all_the_way(rt: HostRuntime) -> Result<(), Fail> {
     let rows = &[
-        (HELLO, "1", "hello"),
-        (Move::Edit(Change::Delete(4, 1)), "2", "hell"),
-        (Move::Edit(Change::Delete(3, 1)), "3", "hel"),
-        (Move::Undo, "1 1", "hell"),
-        (Move::Undo, "1 1", "helol"),
-        (Move::Pass(Change::Delete(0, 5)), "6", ""),
-        (HELLO, "7", "hello"),
-        (Move::Edit(Change::Delete(1, 1)), "8", "hllo"),
-        (Move::Edit(Change::Delete(1, 1)), "9", "hlo"),
-        (Move::Edit(Change::Delete(1, 1)), "10", "ho"),
-        (Move::Undo, "1 1", "hlo"),
-        (Move::Undo, "1 1", "hllo"),
-        (Move::Undo, "1 1", "hlleo"),
-        (Move::Pass(Change::Delete(0, 5)), "14", ""),
-        (HELLO, "15", "hello"),
-        (Move::Edit(Change::Insert(5, "abc")), "16", "helloabc"),
-        (Move::Edit(Change::Delete(7, 1)), "17", "helloab"),
-        (Move::Undo, "1 1", "helloabc"),
-        (Move::Undo, "1 2", "helloc"),
+        "pass insert 0 hello | 1 | hello",
+        "edit delete 4 1 | 2 | hell",
+        "edit delete 3 1 | 3 | hel",
+        "undo | 1 1 | hell",
+        "undo | 1 1 | helol",
+        "pass delete 0 5 | 6 | ",
+        "pass insert 0 hello | 7 | hello",
+        "edit delete 1 1 | 8 | hllo",
+        "edit delete 1 1 | 9 | hlo",
+        "edit delete 1 1 | 10 | ho",
+        "undo | 1 1 | hlo",
+        "undo | 1 1 | hllo",
+        "undo | 1 1 | hlleo",
+        "pass delete 0 5 | 14 | ",
+        "pass insert 0 hello | 15 | hello",
+        "edit insert 5 abc | 16 | helloabc",
+        "edit delete 7 1 | 17 | helloab",
+        "undo | 1 1 | helloabc",
+        "undo | 1 2 | helloc",
     ];
     assert_eq!(rt; fault(rt.alloc(), 2, rows)?, None);
     Ok(())
@@ -270,17 +298,17 @@ fn undone_not_all_the_way(rt: HostRuntime) -> Result<(), Fail> {
 #[test]
 fn anchors_stay(rt: HostRuntime) -> Result<(), Fail> {
     let rows = &[
-        (HELLO, "1", "hello"),
-        (Move::Set(9), "9 5", "hello"),
-        (Move::Place, "Ok(0)", "hello"),
-        (Move::Set(3), "set", "hello"),
-        (Move::Place, "Ok(3)", "hello"),
-        (Move::Pass(Change::Insert(1, "XY")), "2", "hXYello"),
-        (Move::Place, "Ok(5)", "hXYello"),
-        (Move::Pass(Change::Delete(0, 7)), "3", ""),
-        (Move::Place, "Ok(0)", ""),
-        (Move::Pass(Change::Insert(0, "ab")), "4", "ab"),
-        (Move::Place, "Ok(0)", "ab"),
+        "pass insert 0 hello | 1 | hello",
+        "set 9 | 9 5 | hello",
+        "place | Ok(0) | hello",
+        "set 3 | set | hello",
+        "place | Ok(3) | hello",
+        "pass insert 1 XY | 2 | hXYello",
+        "place | Ok(5) | hXYello",
+        "pass delete 0 7 | 3 | ",
+        "place | Ok(0) | ",
+        "pass insert 0 ab | 4 | ab",
+        "place | Ok(0) | ab",
     ];
     assert_eq!(rt; fault(rt.alloc(), 2, rows)?, None);
     Ok(())
@@ -290,25 +318,21 @@ fn anchors_stay(rt: HostRuntime) -> Result<(), Fail> {
 #[test]
 fn anchors_are_renamed(rt: HostRuntime) -> Result<(), Fail> {
     let rows = &[
-        (HELLO, "1", "hello"),
-        (Move::Show, "beginning", "hello"),
-        (Move::Set(3), "set", "hello"),
-        (Move::Pass(Change::Rename), "2", "hello"),
-        (Move::Place, "Ok(3)", "hello"),
-        (Move::SettleAnchor, "Ok(())", "hello"),
-        (Move::Place, "Ok(3)", "hello"),
-        (
-            Move::Show,
-            "Of { replica: 0, seq: 2 } 1 Spot { pos: 2147483647, replica: 0, seq: 2, offset: 2 }",
-            "hello",
-        ),
-        (Move::Give, "true", "hello"),
-        (Move::Other(Change::Insert(1, "q")), "1", "hello"),
-        (Move::Other(Change::Rename), "2", "hello"),
-        (Move::Take, "true", "hqello"),
-        (Move::Place, "Ok(4)", "hqello"),
-        (Move::Pass(Change::Insert(4, "!")), "3", "hqel!lo"),
-        (Move::Place, "Ok(4)", "hqel!lo"),
+        "pass insert 0 hello | 1 | hello",
+        "show | beginning | hello",
+        "set 3 | set | hello",
+        "pass rename | 2 | hello",
+        "place | Ok(3) | hello",
+        "settle anchor | Ok(()) | hello",
+        "place | Ok(3) | hello",
+        "show | Of { replica: 0, seq: 2 } 1 Spot { pos: 2147483647, replica: 0, seq: 2, offset: 2 } | hello",
+        "give | true | hello",
+        "other insert 1 q | 1 | hello",
+        "other rename | 2 | hello",
+        "take | true | hqello",
+        "place | Ok(4) | hqello",
+        "pass insert 4 ! | 3 | hqel!lo",
+        "place | Ok(4) | hqel!lo",
     ];
     assert_eq!(rt; fault(rt.alloc(), 2, rows)?, None);
     Ok(())
@@ -318,33 +342,25 @@ fn anchors_are_renamed(rt: HostRuntime) -> Result<(), Fail> {
 #[test]
 fn dropped_epochs(rt: HostRuntime) -> Result<(), Fail> {
     let rows = &[
-        (HELLO, "1", "hello"),
-        (Move::Edit(Change::Insert(2, "XY")), "2", "heXYllo"),
-        (Move::Set(3), "set", "heXYllo"),
-        (Move::Pass(Change::Rename), "3", "heXYllo"),
-        (Move::Drop, "dropped", "heXYllo"),
-        (Move::Undo, "Dropped { epoch: Origin }", "heXYllo"),
-        (
-            Move::SettleEntries,
-            "Err(Dropped { epoch: Origin })",
-            "heXYllo",
-        ),
-        (Move::Place, "Err(Dropped { epoch: Origin })", "heXYllo"),
-        (
-            Move::SettleAnchor,
-            "Err(Dropped { epoch: Origin })",
-            "heXYllo",
-        ),
-        (Move::Skip, "true", "heXYllo"),
-        (Move::Edit(Change::Delete(0, 2)), "4", "XYllo"),
-        (Move::Set(1), "set", "XYllo"),
-        (Move::Pass(Change::Rename), "5", "XYllo"),
-        (Move::SettleEntries, "Ok(())", "XYllo"),
-        (Move::SettleAnchor, "Ok(())", "XYllo"),
-        (Move::Drop, "dropped", "XYllo"),
-        (Move::Place, "Ok(1)", "XYllo"),
-        (Move::Undo, "1 2", "heXYllo"),
-        (Move::Place, "Ok(3)", "heXYllo"),
+        "pass insert 0 hello | 1 | hello",
+        "edit insert 2 XY | 2 | heXYllo",
+        "set 3 | set | heXYllo",
+        "pass rename | 3 | heXYllo",
+        "drop | dropped | heXYllo",
+        "undo | Dropped { epoch: Origin } | heXYllo",
+        "settle entries | Err(Dropped { epoch: Origin }) | heXYllo",
+        "place | Err(Dropped { epoch: Origin }) | heXYllo",
+        "settle anchor | Err(Dropped { epoch: Origin }) | heXYllo",
+        "skip | true | heXYllo",
+        "edit delete 0 2 | 4 | XYllo",
+        "set 1 | set | XYllo",
+        "pass rename | 5 | XYllo",
+        "settle entries | Ok(()) | XYllo",
+        "settle anchor | Ok(()) | XYllo",
+        "drop | dropped | XYllo",
+        "place | Ok(1) | XYllo",
+        "undo | 1 2 | heXYllo",
+        "place | Ok(3) | heXYllo",
     ];
     assert_eq!(rt; fault(rt.alloc(), 1, rows)?, None);
     Ok(())
