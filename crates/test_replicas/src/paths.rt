@@ -1,28 +1,12 @@
 //! What a member answers on paths that a function which always lacks memory would shut.
 
-use rls_ident::{EpochName, Ident, Tuple};
+use rls_ident::{EpochName, Ident};
 use rls_ops::Text;
 use rls_replica::{Edit, Replica};
 use rls_runs::Run;
 use std::test::Fail;
-use test_steps::steps::{Change, Row, Step, Turn, fault, fault_of_two};
-use test_steps::told::{Deed, Told};
-
-/// The first epoch.
-const ORIGIN: EpochName = EpochName::Origin;
-
-/// A tuple of member 0's first operation.
-fn old(offset: i32) -> Tuple {
-    Tuple::At {
-        pos: 2_147_483_647,
-        replica: 0,
-        seq: 1,
-        offset,
-    }
-}
-
-/// The edit that inserts `hello` into an empty text.
-const HELLO: Step = Step::Edit(Change::Insert(0, "hello"));
+use test_steps::steps::{Change, Row, Step, Turn, fault, fault_after_hello};
+use test_steps::told::{Deed, ORIGIN, Told, old};
 
 const RENAME: Step = Step::Edit(Change::Rename);
 
@@ -30,16 +14,12 @@ const DELETION: Step = Step::Edit(Change::Delete(0, 1));
 
 #[test]
 fn a_deletion_of_an_older_epoch_is_accepted(rt: HostRuntime) -> Result<(), Fail> {
-    let stand = "hello [1, 0] 0 1 Origin";
     let turns: &[Turn] = &[
-        Turn::First((HELLO, "1", stand)),
-        Turn::SecondTakes("1 0 0 0 0", stand),
-        Turn::FirstTakes("0 0 0 0 0", stand),
         Turn::First((RENAME, "2", "hello [2, 0] 0 2 Of { replica: 0, seq: 2 }")),
         Turn::Second((DELETION, "1", "ello [1, 1] 0 2 Origin")),
         Turn::BothTake("1 0 0 0 0", "ello [2, 1] 0 3 Of { replica: 0, seq: 2 }"),
     ];
-    assert_eq!(rt; fault_of_two(rt.alloc(), 7, turns)?, None);
+    assert_eq!(rt; fault_after_hello(rt.alloc(), turns)?, None);
     Ok(())
 }
 
@@ -47,19 +27,15 @@ fn a_deletion_of_an_older_epoch_is_accepted(rt: HostRuntime) -> Result<(), Fail>
 /// epoch than the one that makes its target known.
 #[test]
 fn a_target_is_known_through_a_deletion_of_another_epoch(rt: HostRuntime) -> Result<(), Fail> {
-    let stand = "hello [1, 0] 0 1 Origin";
     let end = "ello [2, 2] 0 4 Of { replica: 1, seq: 1 }";
     let turns: &[Turn] = &[
-        Turn::First((HELLO, "1", stand)),
-        Turn::SecondTakes("1 0 0 0 0", stand),
-        Turn::FirstTakes("0 0 0 0 0", stand),
         Turn::Second((RENAME, "1", "hello [1, 1] 0 2 Of { replica: 1, seq: 1 }")),
         Turn::Second((DELETION, "2", "ello [1, 2] 0 3 Of { replica: 1, seq: 1 }")),
         Turn::First((DELETION, "2", "ello [2, 0] 0 2 Origin")),
         Turn::SecondTakes("1 0 0 0 0", end),
         Turn::FirstTakes("2 0 0 0 0", end),
     ];
-    assert_eq!(rt; fault_of_two(rt.alloc(), 7, turns)?, None);
+    assert_eq!(rt; fault_after_hello(rt.alloc(), turns)?, None);
     Ok(())
 }
 
@@ -69,16 +45,13 @@ fn a_rename_and_a_leave_that_waited_are_released(rt: HostRuntime) -> Result<(), 
     let hello: Told<'static> = (0, 1, &[0, 0], ORIGIN, Deed::Insert(old(0), "hello"));
     let rename: Told<'static> = (0, 2, &[1, 0], ORIGIN, Deed::Rename(old(0), 5));
     let leave: Told<'static> = (0, 3, &[2, 0], renamed, Deed::Leave);
+    let next = "hello [2, 0] 1 2 Of { replica: 0, seq: 2 }";
     let end = "hello [3, 0] 0 3 Of { replica: 0, seq: 2 }";
     let rows: &[Row] = &[
         (Step::Receive(leave), "held", " [0, 0] 1 0 Origin"),
         (Step::Receive(rename), "held", " [0, 0] 2 0 Origin"),
         (Step::Receive(hello), "applied", "hello [1, 0] 2 1 Origin"),
-        (
-            Step::Release,
-            "0 2 applied",
-            "hello [2, 0] 1 2 Of { replica: 0, seq: 2 }",
-        ),
+        (Step::Release, "0 2 applied", next),
         (Step::Release, "0 3 applied", end),
         (Step::Release, "none", end),
     ];

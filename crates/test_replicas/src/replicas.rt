@@ -1,34 +1,16 @@
 //! The core called by itself: what a replica answers, and how it is afterwards.
 
-use rls_ident::{EpochName, Tuple};
+use rls_ident::EpochName;
 use rls_replica::Replica;
 use std::alloc::Global;
 use std::test::Fail;
-use test_steps::steps::{Change, Question, Row, Step, Turn, fault, fault_of_two};
-use test_steps::told::{Deed, Told};
-
-/// The middle position.
-const MIDDLE: u32 = 2_147_483_647;
-
-/// The first epoch.
-const ORIGIN: EpochName = EpochName::Origin;
+use test_steps::steps::{
+    Change, HELLO, Question, Row, Step, Turn, fault, fault_after_hello, fault_of_two,
+};
+use test_steps::told::{Deed, MIDDLE, ORIGIN, Told, at, old};
 
 /// The epoch of member 0's second operation.
 const RENAMED: EpochName = EpochName::Of { replica: 0, seq: 2 };
-
-fn at(pos: u32, replica: u32, seq: u32, offset: i32) -> Tuple {
-    Tuple::At {
-        pos,
-        replica,
-        seq,
-        offset,
-    }
-}
-
-/// A tuple of member 0's first operation.
-fn old(offset: i32) -> Tuple {
-    at(MIDDLE, 0, 1, offset)
-}
 
 /// The insertion of `hello` by member 0, as its first operation.
 fn hello() -> Told<'static> {
@@ -39,9 +21,6 @@ fn hello() -> Told<'static> {
 fn later(offset: i32, text: &'static str) -> Told<'static> {
     (0, 2, &[1, 0], ORIGIN, Deed::Insert(old(offset), text))
 }
-
-/// The edit that inserts `hello` into an empty text.
-const HELLO: Step = Step::Edit(Change::Insert(0, "hello"));
 
 #[test]
 fn operations_wait_for_their_causes(rt: HostRuntime) -> Result<(), Fail> {
@@ -65,14 +44,11 @@ fn operations_wait_for_their_causes(rt: HostRuntime) -> Result<(), Fail> {
 #[test]
 fn what_waited_is_refused(rt: HostRuntime) -> Result<(), Fail> {
     let (cause, late) = (hello(), later(4, "!"));
+    let (waits, end) = ("hello [1, 0] 1 1 Origin", "hello [1, 0] 0 1 Origin");
     let rows: &[Row] = &[
         (Step::Receive(late), "held", " [0, 0] 1 0 Origin"),
-        (Step::Receive(cause), "applied", "hello [1, 0] 1 1 Origin"),
-        (
-            Step::Release,
-            "0 2 wrong stem Some(5)",
-            "hello [1, 0] 0 1 Origin",
-        ),
+        (Step::Receive(cause), "applied", waits),
+        (Step::Release, "0 2 wrong stem Some(5)", end),
     ];
     assert_eq!(rt; fault(rt.alloc(), 1, rows)?, None);
     Ok(())
@@ -82,14 +58,11 @@ fn what_waited_is_refused(rt: HostRuntime) -> Result<(), Fail> {
 fn one_character_is_deleted_by_both(rt: HostRuntime) -> Result<(), Fail> {
     let deletion = Step::Edit(Change::Delete(0, 1));
     let turns: &[Turn] = &[
-        Turn::First((HELLO, "1", "hello [1, 0] 0 1 Origin")),
-        Turn::SecondTakes("1 0 0 0 0", "hello [1, 0] 0 1 Origin"),
-        Turn::FirstTakes("0 0 0 0 0", "hello [1, 0] 0 1 Origin"),
         Turn::First((deletion, "2", "ello [2, 0] 0 2 Origin")),
         Turn::Second((deletion, "1", "ello [1, 1] 0 2 Origin")),
         Turn::BothTake("1 0 0 0 0", "ello [2, 1] 0 3 Origin"),
     ];
-    assert_eq!(rt; fault_of_two(rt.alloc(), 7, turns)?, None);
+    assert_eq!(rt; fault_after_hello(rt.alloc(), turns)?, None);
     Ok(())
 }
 
@@ -156,14 +129,11 @@ fn later_operations_are_refused(rt: HostRuntime) -> Result<(), Fail> {
     let right: Told<'static> = (1, 1, &[2, 0], RENAMED, insert);
     let target = "unknown target 1 Spot { pos: 2147483647, replica: 0, seq: 1, offset: 5 }";
     let due = "wrong epoch Of { replica: 0, seq: 2 }";
+    let fresh = " [0, 0] 0 0 Origin";
     let stand = "hello [2, 0] 0 2 Of { replica: 0, seq: 2 }";
     let stand_behind = "ahello [2, 1] 0 3 Of { replica: 0, seq: 2 }";
     let turns: &[Turn] = &[
-        Turn::First((
-            Step::Receive(early),
-            "wrong epoch Origin",
-            " [0, 0] 0 0 Origin",
-        )),
+        Turn::First((Step::Receive(early), "wrong epoch Origin", fresh)),
         Turn::First((HELLO, "1", "hello [1, 0] 0 1 Origin")),
         Turn::SecondTakes("1 0 0 0 0", "hello [1, 0] 0 1 Origin"),
         Turn::FirstTakes("0 0 0 0 0", "hello [1, 0] 0 1 Origin"),
@@ -183,13 +153,10 @@ fn stems_grow_at_both_ends(rt: HostRuntime) -> Result<(), Fail> {
     let begun: Told<'static> = (1, 1, &[0, 0], ORIGIN, Deed::Insert(first, "hello"));
     let two: Told<'static> = (1, 2, &[0, 1], ORIGIN, Deed::Insert(front, "ab"));
     let one: Told<'static> = (1, 2, &[0, 1], ORIGIN, Deed::Insert(front, "a"));
+    let stand = "hello [0, 1] 0 1 Origin";
     let rows: &[Row] = &[
-        (Step::Receive(begun), "applied", "hello [0, 1] 0 1 Origin"),
-        (
-            Step::Receive(two),
-            "wrong stem Some(5)",
-            "hello [0, 1] 0 1 Origin",
-        ),
+        (Step::Receive(begun), "applied", stand),
+        (Step::Receive(two), "wrong stem Some(5)", stand),
         (Step::Receive(one), "applied", "ahello [0, 2] 0 2 Origin"),
         (Step::Ask(Question::Runs), "1 1", "ahello [0, 2] 0 2 Origin"),
     ];
@@ -205,6 +172,7 @@ fn members_leave(rt: HostRuntime) -> Result<(), Fail> {
     let after: Told<'static> = (1, 3, &[0, 2], ORIGIN, Deed::Insert(next, "a"));
     let (own, other) = (Question::Left(0), Question::Left(1));
     let insert = Change::Insert(0, "a");
+    let end = "hello [1, 2] 0 3 Origin";
     let rows: &[Row] = &[
         (Step::Ask(own), "false", " [0, 0] 0 0 Origin"),
         (Step::Edit(Change::Leave), "1", " [1, 0] 0 1 Origin"),
@@ -212,15 +180,11 @@ fn members_leave(rt: HostRuntime) -> Result<(), Fail> {
         (Step::Edit(Change::Leave), "Left", " [1, 0] 0 1 Origin"),
         (Step::Receive(begun), "applied", "hello [1, 1] 0 2 Origin"),
         (Step::Ask(other), "false", "hello [1, 1] 0 2 Origin"),
-        (Step::Receive(leave), "applied", "hello [1, 2] 0 3 Origin"),
-        (Step::Receive(after), "left 2", "hello [1, 2] 0 3 Origin"),
-        (Step::Ask(own), "true", "hello [1, 2] 0 3 Origin"),
-        (Step::Ask(other), "true", "hello [1, 2] 0 3 Origin"),
-        (
-            Step::Ask(Question::Itself),
-            "7 0 2 5",
-            "hello [1, 2] 0 3 Origin",
-        ),
+        (Step::Receive(leave), "applied", end),
+        (Step::Receive(after), "left 2", end),
+        (Step::Ask(own), "true", end),
+        (Step::Ask(other), "true", end),
+        (Step::Ask(Question::Itself), "7 0 2 5", end),
     ];
     assert_eq!(rt; fault(rt.alloc(), 0, rows)?, None);
     Ok(())
@@ -251,6 +215,7 @@ fn acknowledgements_count(rt: HostRuntime) -> Result<(), Fail> {
 fn edits_are_refused(rt: HostRuntime) -> Result<(), Fail> {
     let stand = "hello [1, 0] 0 1 Origin";
     let most = "Range { at: 18446744073709551615, total: 5 }";
+    let within = "Range { at: 2, total: 5 }";
     let (none, past) = ("EmptyEdit", "Range { at: 6, total: 5 }");
     let (all, empty) = (Change::Delete(u64::MAX, u64::MAX), Change::Insert(6, ""));
     let fresh = " [0, 0] 0 0 Origin";
@@ -259,11 +224,7 @@ fn edits_are_refused(rt: HostRuntime) -> Result<(), Fail> {
         (HELLO, "1", stand),
         (Step::Edit(Change::Delete(9, 0)), none, stand),
         (Step::Edit(Change::Delete(6, 1)), past, stand),
-        (
-            Step::Edit(Change::Delete(2, 4)),
-            "Range { at: 2, total: 5 }",
-            stand,
-        ),
+        (Step::Edit(Change::Delete(2, 4)), within, stand),
         (Step::Edit(all), most, stand),
         (Step::Edit(Change::Insert(6, "a")), past, stand),
         (Step::Edit(empty), none, stand),
@@ -313,13 +274,10 @@ fn messages_are_for_members(rt: HostRuntime) -> Result<(), Fail> {
     let (nobody, other) = (Question::Message(2), Question::Message(1));
     let stand = "hello [1, 0] 0 1 Origin";
     let turns: &[Turn] = &[
-        Turn::First((HELLO, "1", stand)),
-        Turn::SecondTakes("1 0 0 0 0", stand),
-        Turn::FirstTakes("0 0 0 0 0", stand),
         Turn::First((Step::Ask(nobody), "NotMember", stand)),
         Turn::First((Step::Ask(other), "7 2 0 [1, 0] 0", stand)),
     ];
-    assert_eq!(rt; fault_of_two(rt.alloc(), 7, turns)?, None);
+    assert_eq!(rt; fault_after_hello(rt.alloc(), turns)?, None);
     let error = "OtherGroup { group: 7, members: 2 }";
     let strange: &[Turn] = &[
         Turn::SecondTakes(error, " [0, 0] 0 0 Origin"),
@@ -360,15 +318,12 @@ fn replicas_tell_of_themselves(rt: HostRuntime) -> Result<(), Fail> {
     let stand = "hello [1, 0] 0 1 Origin";
     let renamed = "hello [1, 1] 0 2 Of { replica: 1, seq: 1 }";
     let turns: &[Turn] = &[
-        Turn::First((HELLO, "1", stand)),
-        Turn::SecondTakes("1 0 0 0 0", stand),
-        Turn::FirstTakes("0 0 0 0 0", stand),
         Turn::Second((Step::Edit(Change::Rename), "1", renamed)),
         Turn::First((Step::Ask(Question::Itself), "7 0 2 5", stand)),
         Turn::First((Step::Ask(Question::Text(1, 3)), "ell", stand)),
         Turn::First((Step::Ask(Question::Ident(4)), "4 Ok(4)", stand)),
         Turn::First((Step::Ask(Question::Runs), "1 1", stand)),
     ];
-    assert_eq!(rt; fault_of_two(rt.alloc(), 7, turns)?, None);
+    assert_eq!(rt; fault_after_hello(rt.alloc(), turns)?, None);
     Ok(())
 }

@@ -342,3 +342,25 @@ pub fn fault_of_two(alloc: Global, group: u64, all: &[Turn]) -> Result<Option<us
     let mut second = Replica::new(alloc, group, 1, 2)?;
     fault_between(alloc, &mut first, &mut second, all)
 }
+
+/// The edit that inserts `hello` into an empty text.
+pub const HELLO: Step = Step::Edit(Change::Insert(0, "hello"));
+
+/// Member 0 inserts `hello`, and each takes the other's message.
+const BEGUN: &[Turn] = &[
+    Turn::First((HELLO, "1", "hello [1, 0] 0 1 Origin")),
+    Turn::SecondTakes("1 0 0 0 0", "hello [1, 0] 0 1 Origin"),
+    Turn::FirstTakes("0 0 0 0 0", "hello [1, 0] 0 1 Origin"),
+];
+
+/// Leads two in group 7, both of whom have `hello` by member 0 and know it of each other, through the turns, and answers the first
+/// that goes otherwise than it has to.
+pub fn fault_after_hello(alloc: Global, all: &[Turn]) -> Result<Option<usize>, Fail> {
+    let mut first = Replica::new(alloc, 7, 0, 2)?;
+    let mut second = Replica::new(alloc, 7, 1, 2)?;
+    let begun = fault_between(alloc, &mut first, &mut second, BEGUN)?;
+    if begun.is_some() {
+        return Ok(begun);
+    }
+    fault_between(alloc, &mut first, &mut second, all)
+}

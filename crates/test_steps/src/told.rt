@@ -6,6 +6,27 @@ use rls_runs::{Run, Runs};
 use std::alloc::Global;
 use std::test::Fail;
 
+/// The middle position.
+pub const MIDDLE: u32 = 2_147_483_647;
+
+/// The first epoch.
+pub const ORIGIN: EpochName = EpochName::Origin;
+
+/// A tuple between others.
+pub fn at(pos: u32, replica: u32, seq: u32, offset: i32) -> Tuple {
+    Tuple::At {
+        pos,
+        replica,
+        seq,
+        offset,
+    }
+}
+
+/// A tuple of member 0's first operation.
+pub fn old(offset: i32) -> Tuple {
+    at(MIDDLE, 0, 1, offset)
+}
+
 /// What an operation does, with its first identifier, which is of one tuple: it inserts this text, or deletes or renames this many
 /// identifiers.
 #[derive(Clone, Copy)]
