@@ -8,131 +8,79 @@ const NEW: Step<'static> = ("new 7 0 1", b"", 0, "new 7 0 1\n", "");
 
 const EDITED: &str = "edits 2 released 0 refused 0\n";
 
-/// A text: a front, then a piece so many times, then a back.
-#[derive(Clone, Copy)]
-struct Pieces(&'static str, &'static str, u32, &'static str);
+/// A text: a front, then a piece this many times, then a back.
+type Pieces = (&'static str, &'static str, u32, &'static str);
 
-/// The text that is put in, and where a cluster is to end in it. Then the text that is left, or none if no cluster ends there.
-type Case = (Pieces, &'static str, Option<Pieces>);
+/// What comes of a line `b`.
+#[derive(Clone, Copy)]
+enum End {
+    /// No cluster ends there.
+    Refused,
+    /// This text is left.
+    Leaves(&'static str),
+    /// This text of pieces is left.
+    Keeps(&'static str, &'static str, u32, &'static str),
+}
+
+use End::{Keeps, Leaves, Refused};
+
+/// The text that is put in, where a cluster is to end in it, and what comes of this.
+type Case = (Pieces, &'static str, End);
 
 const ACCENT: &str = "\u{301}";
 
-const HALF_FLAG: &str = "\u{1F1EB}";
+/// Half of a flag.
+const FLAG: &str = "\u{1F1EB}";
 
-const JOINED: &str = "\u{200D}\u{1F469}";
+/// A joiner and a woman.
+const WOMEN: &str = "\u{200D}\u{1F469}";
 
-const CONJUNCT: &str = "\u{94D}\u{915}";
+/// A virama and a consonant.
+const VIRAMA: &str = "\u{94D}\u{915}";
 
+/// A leading consonant.
 const LEADING: &str = "\u{1112}";
 
 const CASES: &[Case] = &[
     // A letter with sixty accents: in the text, at both its ends, and within.
-    (
-        Pieces("xe", ACCENT, 60, "y"),
-        "62",
-        Some(Pieces("x", "", 0, "y")),
-    ),
-    (
-        Pieces("xe", ACCENT, 60, "y"),
-        "63",
-        Some(Pieces("xe", ACCENT, 60, "")),
-    ),
-    (
-        Pieces("xe", ACCENT, 60, "y"),
-        "1",
-        Some(Pieces("e", ACCENT, 60, "y")),
-    ),
-    (Pieces("xe", ACCENT, 60, "y"), "61", None),
-    (Pieces("xe", ACCENT, 60, "y"), "9", None),
-    (Pieces("xe", ACCENT, 60, "y"), "2", None),
-    (
-        Pieces("xe", ACCENT, 60, ""),
-        "62",
-        Some(Pieces("x", "", 0, "")),
-    ),
-    (
-        Pieces("e", ACCENT, 60, "y"),
-        "61",
-        Some(Pieces("", "", 0, "y")),
-    ),
-    (Pieces("e", ACCENT, 60, "y"), "60", None),
+    (("xe", ACCENT, 60, "y"), "62", Leaves("xy")),
+    (("xe", ACCENT, 60, "y"), "63", Keeps("xe", ACCENT, 60, "")),
+    (("xe", ACCENT, 60, "y"), "1", Keeps("e", ACCENT, 60, "y")),
+    (("xe", ACCENT, 60, "y"), "61", Refused),
+    (("xe", ACCENT, 60, "y"), "9", Refused),
+    (("xe", ACCENT, 60, "y"), "2", Refused),
+    (("xe", ACCENT, 60, ""), "62", Leaves("x")),
+    (("e", ACCENT, 60, "y"), "61", Leaves("y")),
+    (("e", ACCENT, 60, "y"), "60", Refused),
     // Accents alone.
-    (
-        Pieces("", ACCENT, 20, ""),
-        "20",
-        Some(Pieces("", "", 0, "")),
-    ),
-    (Pieces("", ACCENT, 20, ""), "8", None),
+    (("", ACCENT, 20, ""), "20", Leaves("")),
+    (("", ACCENT, 20, ""), "8", Refused),
     // Rows of halves of flags: two make a flag, counted from the row's start.
-    (
-        Pieces("x", HALF_FLAG, 70, "y"),
-        "71",
-        Some(Pieces("x", HALF_FLAG, 68, "y")),
-    ),
-    (Pieces("x", HALF_FLAG, 70, "y"), "70", None),
-    (
-        Pieces("x", HALF_FLAG, 71, "y"),
-        "72",
-        Some(Pieces("x", HALF_FLAG, 70, "y")),
-    ),
-    (
-        Pieces("x", HALF_FLAG, 71, "y"),
-        "71",
-        Some(Pieces("x", HALF_FLAG, 69, "y")),
-    ),
-    (Pieces("x", HALF_FLAG, 71, "y"), "70", None),
-    (
-        Pieces("", HALF_FLAG, 70, ""),
-        "70",
-        Some(Pieces("", HALF_FLAG, 68, "")),
-    ),
-    (Pieces("", HALF_FLAG, 70, ""), "69", None),
-    (
-        Pieces("", HALF_FLAG, 71, ""),
-        "71",
-        Some(Pieces("", HALF_FLAG, 70, "")),
-    ),
+    (("x", FLAG, 70, "y"), "71", Keeps("x", FLAG, 68, "y")),
+    (("x", FLAG, 70, "y"), "70", Refused),
+    (("x", FLAG, 71, "y"), "72", Keeps("x", FLAG, 70, "y")),
+    (("x", FLAG, 71, "y"), "71", Keeps("x", FLAG, 69, "y")),
+    (("x", FLAG, 71, "y"), "70", Refused),
+    (("", FLAG, 70, ""), "70", Keeps("", FLAG, 68, "")),
+    (("", FLAG, 70, ""), "69", Refused),
+    (("", FLAG, 71, ""), "71", Keeps("", FLAG, 70, "")),
     // Women joined by joiners.
-    (
-        Pieces("x\u{1F469}", JOINED, 10, "y"),
-        "22",
-        Some(Pieces("x", "", 0, "y")),
-    ),
-    (Pieces("x\u{1F469}", JOINED, 10, "y"), "21", None),
-    (Pieces("x\u{1F469}", JOINED, 10, "y"), "20", None),
-    (
-        Pieces("\u{1F469}", JOINED, 10, ""),
-        "21",
-        Some(Pieces("", "", 0, "")),
-    ),
+    (("x\u{1F469}", WOMEN, 10, "y"), "22", Leaves("xy")),
+    (("x\u{1F469}", WOMEN, 10, "y"), "21", Refused),
+    (("x\u{1F469}", WOMEN, 10, "y"), "20", Refused),
+    (("\u{1F469}", WOMEN, 10, ""), "21", Leaves("")),
     // A joiner joins nothing to a letter.
-    (
-        Pieces("x", JOINED, 10, "y"),
-        "21",
-        Some(Pieces("x", "", 0, "\u{200D}y")),
-    ),
+    (("x", WOMEN, 10, "y"), "21", Leaves("x\u{200D}y")),
     // Consonants with viramas between.
-    (
-        Pieces("x\u{915}", CONJUNCT, 10, "y"),
-        "22",
-        Some(Pieces("x", "", 0, "y")),
-    ),
-    (Pieces("x\u{915}", CONJUNCT, 10, "y"), "21", None),
-    (Pieces("x\u{915}", CONJUNCT, 10, "y"), "20", None),
+    (("x\u{915}", VIRAMA, 10, "y"), "22", Leaves("xy")),
+    (("x\u{915}", VIRAMA, 10, "y"), "21", Refused),
+    (("x\u{915}", VIRAMA, 10, "y"), "20", Refused),
     // Leading consonants of Hangul and a vowel.
-    (
-        Pieces("x", LEADING, 20, "\u{1161}y"),
-        "22",
-        Some(Pieces("x", "", 0, "y")),
-    ),
-    (Pieces("x", LEADING, 20, "\u{1161}y"), "21", None),
+    (("x", LEADING, 20, "\u{1161}y"), "22", Leaves("xy")),
+    (("x", LEADING, 20, "\u{1161}y"), "21", Refused),
     // Letters alone.
-    (Pieces("", "a", 20, ""), "20", Some(Pieces("", "a", 19, ""))),
-    (
-        Pieces("", "a", 20, "e\u{301}"),
-        "22",
-        Some(Pieces("", "a", 20, "")),
-    ),
+    (("", "a", 20, ""), "20", Keeps("", "a", 19, "")),
+    (("", "a", 20, "e\u{301}"), "22", Keeps("", "a", 20, "")),
 ];
 
 /// A line end of two characters, which a script escapes.
@@ -156,11 +104,12 @@ const LINE_ENDS: &[Step<'static>] = &[
 ];
 
 fn put(text: &mut String, pieces: Pieces) -> Result<(), AllocError> {
-    text.push_str(pieces.0)?;
-    for _ in 0..pieces.2 {
-        text.push_str(pieces.1)?;
+    let (front, piece, count, back) = pieces;
+    text.push_str(front)?;
+    for _ in 0..count {
+        text.push_str(piece)?;
     }
-    text.push_str(pieces.3)
+    text.push_str(back)
 }
 
 /// The script that puts the text in, and has a line `b`.
@@ -186,28 +135,35 @@ fn refusal_at(alloc: Global, at: &str) -> Result<String, AllocError> {
     Ok(refusal)
 }
 
-/// The first step that goes otherwise than it has to.
+/// The first step that goes otherwise than it has to, of a member whose script gets this status, and whose text is this then.
+fn fault_after(
+    alloc: Global,
+    script: &str,
+    status: u8,
+    report: &str,
+    refusal: &str,
+    left: &str,
+) -> Result<Option<usize>, Fail> {
+    let steps: &[Step<'_>] = &[
+        NEW,
+        ("edit", script.as_bytes(), status, report, refusal),
+        ("text", b"", 0, left, ""),
+    ];
+    Member::new().fault_among(alloc, steps)
+}
+
 fn fault_of(alloc: Global, case: &Case) -> Result<Option<usize>, Fail> {
-    let (text, at, left) = case;
+    let (text, at, end) = case;
     let script = script_of(alloc, *text, at)?;
-    match left {
-        None => {
+    match *end {
+        Refused => {
             let refusal = refusal_at(alloc, at)?;
-            let steps: &[Step<'_>] = &[
-                NEW,
-                ("edit", script.as_bytes(), 6, "", refusal.as_str()),
-                ("text", b"", 0, "", ""),
-            ];
-            Member::new().fault_among(alloc, steps)
+            fault_after(alloc, &script, 6, "", &refusal, "")
         }
-        Some(left) => {
-            let left = text_of(alloc, *left)?;
-            let steps: &[Step<'_>] = &[
-                NEW,
-                ("edit", script.as_bytes(), 0, EDITED, ""),
-                ("text", b"", 0, left.as_str(), ""),
-            ];
-            Member::new().fault_among(alloc, steps)
+        Leaves(left) => fault_after(alloc, &script, 0, EDITED, "", left),
+        Keeps(front, piece, count, back) => {
+            let left = text_of(alloc, (front, piece, count, back))?;
+            fault_after(alloc, &script, 0, EDITED, "", &left)
         }
     }
 }

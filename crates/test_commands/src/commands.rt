@@ -1,8 +1,7 @@
 //! Commands over devices in memory.
 
 use crate::files::{FRESH_IN_FORM_2, HELLO, MARK, USED_MARK, journal};
-use rls_io::{MemoryKeeper, MemorySink, MemorySource};
-use rls_top::run;
+use crate::members::Member;
 use std::alloc::Global;
 use std::test::Fail;
 use test_steps::bytes::front;
@@ -36,33 +35,22 @@ impl<'a> Case<'a> {
 
 /// Runs the command, and tells what is other than it has to be. The file has to stay as it is.
 fn difference(alloc: Global, case: &Case<'_>) -> Result<Option<&'static str>, Fail> {
-    let mut words = Vec::new(alloc);
-    words.push(String::from_str(alloc, case.word)?)?;
-    let mut keeper = MemoryKeeper::new(alloc, case.file, case.failing_loads)?;
-    let mut input = MemorySource::new(alloc, b"", &[])?;
-    let mut output = MemorySink::new(alloc, 1000, case.failing_writes)?;
-    let mut errors = MemorySink::new(alloc, 1000, &[])?;
-    let status = run(
-        alloc,
-        &words,
-        &mut keeper,
-        &mut input,
-        &mut output,
-        &mut errors,
-    );
-    if status != case.status {
+    let mut member = Member::new();
+    if let Some(file) = case.file {
+        member.file = Some(Vec::from_slice(alloc, file)?);
+    }
+    let failing = [case.failing_loads, &[], case.failing_writes, &[]];
+    let answer = member.under_faults(alloc, case.word, b"", failing)?;
+    if answer.status != case.status {
         return Ok(Some("status"));
     }
-    if output.written() != case.output {
+    if answer.output.as_slice() != case.output {
         return Ok(Some("output"));
     }
-    if errors.written() != case.errors {
+    if answer.errors.as_slice() != case.errors {
         return Ok(Some("errors"));
     }
-    if !input.left().is_empty() {
-        return Ok(Some("input"));
-    }
-    if keeper.file() != case.file {
+    if member.file.as_deref() != case.file {
         return Ok(Some("file"));
     }
     Ok(None)

@@ -23,88 +23,66 @@ fn fault(alloc: Global, steps: &[Step<'_>]) -> Result<Option<usize>, Fail> {
     member.fault_among(alloc, steps)
 }
 
-#[test]
-fn insertions(rt: HostRuntime) -> Result<(), Fail> {
-    let alloc = rt.alloc();
-    let one_run = "{\"epoch\":null,\"runs\":[{\"first\":[[2147483647,0,1,0]],\"length\":5}]}\n";
-    assert_eq!(rt;
-        fault(
-            alloc,
-            &[("text", b"", 0, "hello", ""), ("ids", b"", 0, one_run, "")]
-        )?,
-        None
-    );
-    let longer = "{\"epoch\":null,\"runs\":[{\"first\":[[2147483647,0,1,0]],\"length\":6}]}\n";
-    assert_eq!(rt;
-        fault(
-            alloc,
-            &[
-                ("edit", b"i 5 !\n", 0, EDITED, ""),
-                ("text", b"", 0, "hello!", ""),
-                ("ids", b"", 0, longer, "")
-            ]
-        )?,
-        None
-    );
-    let between =
-        "{\"epoch\":null,\"runs\":[{\"first\":[[2147483647,0,1,0]],\"length\":2},{\"first\":[[2147483647,0,1,1],[2147483647,0,2,0]],\"length\":2},{\"first\":[[2147483647,0,1,2]],\"length\":3}]}\n";
-    assert_eq!(rt;
-        fault(
-            alloc,
-            &[
-                ("edit", b"i 2 XY\n", 0, EDITED, ""),
-                ("text", b"", 0, "heXYllo", ""),
-                ("ids", b"", 0, between, "")
-            ]
-        )?,
-        None
-    );
-    let in_front = "{\"epoch\":null,\"runs\":[{\"first\":[[2147483647,0,1,-1]],\"length\":6}]}\n";
-    assert_eq!(rt;
-        fault(
-            alloc,
-            &[
-                ("edit", b"i 0 A\n", 0, EDITED, ""),
-                ("text", b"", 0, "Ahello", ""),
-                ("ids", b"", 0, in_front, "")
-            ]
-        )?,
-        None
-    );
-    Ok(())
+/// A script, its report, and the text and the listing that a member shows after it.
+type Case = (&'static [u8], &'static str, &'static str, &'static str);
+
+/// The report of two edits.
+const TWO: &str = "edits 2 released 0 refused 0\n";
+
+const CASES: &[Case] = &[
+    // After the last character, within, and before the first.
+    (
+        b"i 5 !\n",
+        EDITED,
+        "hello!",
+        "{\"epoch\":null,\"runs\":[{\"first\":[[2147483647,0,1,0]],\"length\":6}]}\n",
+    ),
+    (
+        b"i 2 XY\n",
+        EDITED,
+        "heXYllo",
+        "{\"epoch\":null,\"runs\":[{\"first\":[[2147483647,0,1,0]],\"length\":2},{\"first\":[[2147483647,0,1,1],[2147483647,0,2,0]],\"length\":2},{\"first\":[[2147483647,0,1,2]],\"length\":3}]}\n",
+    ),
+    (
+        b"i 0 A\n",
+        EDITED,
+        "Ahello",
+        "{\"epoch\":null,\"runs\":[{\"first\":[[2147483647,0,1,-1]],\"length\":6}]}\n",
+    ),
+    // Where the offsets beside the text were used before.
+    (
+        b"d 4 1\ni 4 X\n",
+        TWO,
+        "hellX",
+        "{\"epoch\":null,\"runs\":[{\"first\":[[2147483647,0,1,0]],\"length\":4},{\"first\":[[3221225471,0,3,0]],\"length\":1}]}\n",
+    ),
+    (
+        b"i 0 A\nd 0 1\ni 0 B\n",
+        "edits 3 released 0 refused 0\n",
+        "Bhello",
+        "{\"epoch\":null,\"runs\":[{\"first\":[[1073741823,0,4,0]],\"length\":1},{\"first\":[[2147483647,0,1,0]],\"length\":5}]}\n",
+    ),
+];
+
+/// The first step after `BEGUN` that goes otherwise than it has to: the script, the text, the listing.
+fn fault_of(alloc: Global, case: Case) -> Result<Option<usize>, Fail> {
+    let (script, report, text, ids) = case;
+    let steps: &[Step<'_>] = &[
+        ("edit", script, 0, report, ""),
+        ("text", b"", 0, text, ""),
+        ("ids", b"", 0, ids, ""),
+    ];
+    fault(alloc, steps)
 }
 
 #[test]
-fn used_offsets(rt: HostRuntime) -> Result<(), Fail> {
-    let alloc = rt.alloc();
-    let two = "edits 2 released 0 refused 0\n";
-    let behind =
-        "{\"epoch\":null,\"runs\":[{\"first\":[[2147483647,0,1,0]],\"length\":4},{\"first\":[[3221225471,0,3,0]],\"length\":1}]}\n";
-    assert_eq!(rt;
-        fault(
-            alloc,
-            &[
-                ("edit", b"d 4 1\ni 4 X\n", 0, two, ""),
-                ("text", b"", 0, "hellX", ""),
-                ("ids", b"", 0, behind, "")
-            ]
-        )?,
-        None
-    );
-    let three = "edits 3 released 0 refused 0\n";
-    let before =
-        "{\"epoch\":null,\"runs\":[{\"first\":[[1073741823,0,4,0]],\"length\":1},{\"first\":[[2147483647,0,1,0]],\"length\":5}]}\n";
-    assert_eq!(rt;
-        fault(
-            alloc,
-            &[
-                ("edit", b"i 0 A\nd 0 1\ni 0 B\n", 0, three, ""),
-                ("text", b"", 0, "Bhello", ""),
-                ("ids", b"", 0, before, "")
-            ]
-        )?,
-        None
-    );
+fn insertions(rt: HostRuntime) -> Result<(), Fail> {
+    let one_run = "{\"epoch\":null,\"runs\":[{\"first\":[[2147483647,0,1,0]],\"length\":5}]}\n";
+    let steps: &[Step<'_>] = &[("text", b"", 0, "hello", ""), ("ids", b"", 0, one_run, "")];
+    assert_eq!(rt; fault(rt.alloc(), steps)?, None);
+    for (i, case) in CASES.iter().enumerate() {
+        assert_eq!(rt; fault_of(rt.alloc(), *case)?, None, "case {i}");
+    }
     Ok(())
 }
 
@@ -135,13 +113,7 @@ fn renames(rt: HostRuntime) -> Result<(), Fail> {
     let behind = "{\"epoch\":[0,3],\"runs\":[{\"first\":[[2147483647,0,3,0]],\"length\":8}]}\n";
     let in_front = "{\"epoch\":[0,3],\"runs\":[{\"first\":[[2147483647,0,3,-2]],\"length\":10}]}\n";
     let steps: &[Step<'_>] = &[
-        (
-            "edit",
-            b"i 2 XY\nr\n",
-            0,
-            "edits 2 released 0 refused 0\n",
-            "",
-        ),
+        ("edit", b"i 2 XY\nr\n", 0, TWO, ""),
         ("text", b"", 0, "heXYllo", ""),
         ("ids", b"", 0, renamed, ""),
         ("edit", b"i 7 !\n", 0, EDITED, ""),
