@@ -4,6 +4,7 @@ use rls_session::serve;
 use std::alloc::Global;
 use std::test::Fail;
 use test_steps::bytes::{HELLO_FILE, HELLO_MESSAGE, bytes, front};
+use test_steps::rows::cut;
 
 /// Member 0 of 2 in group 7 after its insertion of `hello`.
 const TYPED: &str =
@@ -53,72 +54,55 @@ fn held(
     })
 }
 
-/// Each row: the input, the replies, and whether the file is another one afterwards.
-type Row<'a> = (&'a [u8], &'a [u8], bool);
-
-const ROWS: &[Row<'_>] = &[
+/// Each row: the input, the replies, and whether the file is another one afterwards, with ` | ` between them.
+const ROWS: &[&str] = &[
     // An insertion in front of the cursor moves it, and is taken back.
-    (
-        b"k 3\ni 0 A\np\nu\nt\nq\n",
-        b"cursor 3\nok 2\ncursor 4\nundone 1 1\ntext 5\nhello\nsaved\n",
-        true,
-    ),
+    "k 3\ni 0 A\np\nu\nt\nq\n | cursor 3\nok 2\ncursor 4\nundone 1 1\ntext 5\nhello\nsaved\n | other",
     // Refused, unknown, nothing to undo, no such member, and the end without `q`.
-    (
-        b"i 9 x\nx\nu\ns 5\n",
-        b"no range 9 5\nbad\nno nothing\nno not a member 5\nsaved\n",
-        false,
-    ),
+    "i 9 x\nx\nu\ns 5\n | no range 9 5\nbad\nno nothing\nno not a member 5\nsaved\n | same",
     // No input, an empty line, a last line without its line feed.
-    (b"", b"saved\n", false),
-    (b"\n", b"bad\nsaved\n", false),
-    (b"p", b"cursor 0\nsaved\n", false),
-    (b"q", b"saved\n", false),
-    (b"qx\nq \n q\n", b"bad\nbad\nbad\nsaved\n", false),
+    " | saved\n | same",
+    "\n | bad\nsaved\n | same",
+    "p | cursor 0\nsaved\n | same",
+    "q | saved\n | same",
+    "qx\nq \n q\n | bad\nbad\nbad\nsaved\n | same",
     // Nothing after `q` is looked at.
-    (b"q\ni 0 x\n", b"saved\n", false),
-    (b"p\nq\nm 9\nabc", b"cursor 0\nsaved\n", false),
+    "q\ni 0 x\n | saved\n | same",
+    "p\nq\nm 9\nabc | cursor 0\nsaved\n | same",
     // Messages: none of its bytes, fewer than it says, and one that the end cuts off.
-    (b"m 0\np\n", b"no malformed at 0\ncursor 0\nsaved\n", false),
-    (b"m 0", b"no malformed at 0\nsaved\n", false),
-    (b"m 5", b"bad\nsaved\n", false),
-    (b"m 5\n", b"bad\nsaved\n", false),
-    (b"m 5\nabcd", b"bad\nsaved\n", false),
-    (b"p\nm 3\n\n\n", b"cursor 0\nbad\nsaved\n", false),
-    (
-        b"m 3\nq\n\np\n",
-        b"no malformed at 0\ncursor 0\nsaved\n",
-        false,
-    ),
-    (
-        b"m 18446744073709551616\np\n",
-        b"bad\ncursor 0\nsaved\n",
-        false,
-    ),
+    "m 0\np\n | no malformed at 0\ncursor 0\nsaved\n | same",
+    "m 0 | no malformed at 0\nsaved\n | same",
+    "m 5 | bad\nsaved\n | same",
+    "m 5\n | bad\nsaved\n | same",
+    "m 5\nabcd | bad\nsaved\n | same",
+    "p\nm 3\n\n\n | cursor 0\nbad\nsaved\n | same",
+    "m 3\nq\n\np\n | no malformed at 0\ncursor 0\nsaved\n | same",
+    "m 18446744073709551616\np\n | bad\ncursor 0\nsaved\n | same",
     // Cursors, numbers, deletions, clusters, renames and line feeds.
-    (
-        b"k 6\nk 05\nk -1\nk 5\np\n",
-        b"no range 6 5\nbad\nbad\ncursor 5\ncursor 5\nsaved\n",
-        false,
-    ),
-    (
-        b"d 1 3\nt\nu\nt\n",
-        b"ok 2\ntext 2\nho\nundone 1 3\ntext 5\nhello\nsaved\n",
-        true,
-    ),
-    (b"b 5\nr\nt\n", b"ok 2\nok 3\ntext 4\nhell\nsaved\n", true),
-    (b"i 5 \\n\nt\n", b"ok 2\ntext 6\nhello\n\nsaved\n", true),
+    "k 6\nk 05\nk -1\nk 5\np\n | no range 6 5\nbad\nbad\ncursor 5\ncursor 5\nsaved\n | same",
+    "d 1 3\nt\nu\nt\n | ok 2\ntext 2\nho\nundone 1 3\ntext 5\nhello\nsaved\n | other",
+    "b 5\nr\nt\n | ok 2\nok 3\ntext 4\nhell\nsaved\n | other",
+    "i 5 \\n\nt\n | ok 2\ntext 6\nhello\n\nsaved\n | other",
 ];
+
+/// Whether a row goes as it has to, if a read brings at most this many bytes.
+fn goes(alloc: Global, file: &[u8], step: usize, row: &'static str) -> Result<bool, Fail> {
+    let (input, rest) = cut(row)?;
+    let (replies, end) = cut(rest)?;
+    let answer = held(alloc, Some(file), input.as_bytes(), step, NO_FAULTS)?;
+    let is_other = answer.file.as_slice() != file;
+    Ok(
+        answer.status == 0
+            && answer.output.as_slice() == replies.as_bytes()
+            && answer.errors.is_empty()
+            && is_other == (end == "other"),
+    )
+}
 
 /// The first row that goes otherwise than it has to, if a read brings at most this many bytes.
 fn other_row(alloc: Global, file: &[u8], step: usize) -> Result<Option<usize>, Fail> {
-    for (i, (input, output, is_other)) in ROWS.iter().enumerate() {
-        let answer = held(alloc, Some(file), input, step, NO_FAULTS)?;
-        if answer.status != 0
-            || answer.output.as_slice() != *output
-            || !answer.errors.is_empty()
-            || (answer.file.as_slice() != file) != *is_other
-        {
+    for (i, row) in ROWS.iter().enumerate() {
+        if !goes(alloc, file, step, row)? {
             return Ok(Some(i));
         }
     }
@@ -250,14 +234,7 @@ fn devices_fail(rt: HostRuntime) -> Result<(), Fail> {
 
 /// What a session over this file ends with: the status, the errors, and how many bytes are kept.
 fn end_of(alloc: Global, file: Option<&[u8]>) -> Result<(u8, Vec<u8>, usize), Fail> {
-    let answer = held(
-        alloc,
-        file,
-        b"t
-",
-        WHOLE,
-        NO_FAULTS,
-    )?;
+    let answer = held(alloc, file, b"t\n", WHOLE, NO_FAULTS)?;
     Ok((answer.status, answer.errors, answer.file.len()))
 }
 
@@ -265,12 +242,7 @@ fn end_of(alloc: Global, file: Option<&[u8]>) -> Result<(u8, Vec<u8>, usize), Fa
 fn there_is_no_file(rt: HostRuntime) -> Result<(), Fail> {
     let (status, errors, kept) = end_of(rt.alloc(), None)?;
     assert_eq!(rt; (status, kept), (2, 0));
-    assert_eq!(rt;
-        errors.as_slice(),
-        b"no replica
-"
-            .as_slice()
-    );
+    assert_eq!(rt; errors.as_slice(), b"no replica\n".as_slice());
     Ok(())
 }
 
@@ -279,12 +251,7 @@ fn a_file_is_cut_off(rt: HostRuntime) -> Result<(), Fail> {
     let typed = bytes(rt.alloc(), TYPED)?;
     let (status, errors, kept) = end_of(rt.alloc(), Some(front(&typed, 30)))?;
     assert_eq!(rt; (status, kept), (3, 30));
-    assert_eq!(rt;
-        errors.as_slice(),
-        b"damaged at 29
-"
-            .as_slice()
-    );
+    assert_eq!(rt; errors.as_slice(), b"damaged at 29\n".as_slice());
     Ok(())
 }
 
