@@ -123,15 +123,8 @@ fn identifiers_are_translated(rt: HostRuntime) -> Result<(), Fail> {
     assert!(rt; list_moves(alloc, &epochs, up, (&new, 1), (&old, 1))?);
     let both = (EpochName::Origin, SECOND);
     assert!(rt; ident_moves(alloc, &epochs, both, &old, &[tuple(3, 3)])?);
-    assert!(rt;
-        run_moves(
-            alloc,
-            &epochs,
-            both,
-            (&[tuple(1, 0)], 5),
-            &[(&[tuple(3, 0)], 5)]
-        )?
-    );
+    let (all, moved) = ([tuple(1, 0)], [tuple(3, 0)]);
+    assert!(rt; run_moves(alloc, &epochs, both, (&all, 5), &[(&moved, 5)])?);
     Ok(())
 }
 
@@ -170,15 +163,8 @@ fn runs_are_translated_and_renamed(rt: HostRuntime) -> Result<(), Fail> {
     let alloc = rt.alloc();
     let epochs = tree(alloc)?;
     let way = (EpochName::Origin, SECOND);
-    assert!(rt;
-        run_renamed(
-            alloc,
-            &epochs,
-            way,
-            (&[tuple(1, 0)], 5),
-            &[(&[tuple(4, 0)], 5)]
-        )?
-    );
+    let (all, renamed) = ([tuple(1, 0)], [tuple(4, 0)]);
+    assert!(rt; run_renamed(alloc, &epochs, way, (&all, 5), &[(&renamed, 5)])?);
     Ok(())
 }
 

@@ -110,20 +110,21 @@ fn leave(alloc: Global) -> Result<Op, AllocError> {
     })
 }
 
+const SHAPES: &[(Shape, &str)] = &[
+    (Shape::Author, "refused 1 2 author\n"),
+    (Shape::Context, "refused 1 2 context\n"),
+    (Shape::EmptyBody, "refused 1 2 empty\n"),
+    (
+        Shape::TooLong { n: 1_048_577 },
+        "refused 1 2 too long 1048577\n",
+    ),
+    (Shape::OffsetEnd, "refused 1 2 offset end\n"),
+];
+
 #[test]
 fn refused_shapes_and_places(rt: HostRuntime) -> Result<(), Fail> {
     let alloc = rt.alloc();
-    let shapes: &[(Shape, &str)] = &[
-        (Shape::Author, "refused 1 2 author\n"),
-        (Shape::Context, "refused 1 2 context\n"),
-        (Shape::EmptyBody, "refused 1 2 empty\n"),
-        (
-            Shape::TooLong { n: 1_048_577 },
-            "refused 1 2 too long 1048577\n",
-        ),
-        (Shape::OffsetEnd, "refused 1 2 offset end\n"),
-    ];
-    for (shape, line) in shapes {
+    for (shape, line) in SHAPES {
         let text = refused(alloc, Refusal::Shape(*shape))?;
         assert_eq!(rt; text.as_str(), *line);
     }
