@@ -210,158 +210,146 @@ fn fault(alloc: Global, members: u32, rows: &[Row]) -> Result<Option<usize>, Fai
 
 /// An insertion is undone whole, around what another member wrote into it, also through that member's rename, and when all of it is
 /// gone.
-#[test]
-fn insertions_are_undone(rt: HostRuntime) -> Result<(), Fail> {
-    let rows = &[
-        "undo | Nothing | ",
-        "skip | false | ",
-        "pass insert 0 hello | 1 | hello",
-        "edit insert 2 XY | 2 | heXYllo",
-        "undo | 1 2 | hello",
-        "edit insert 2 XY | 4 | heXYllo",
-        "give | true | heXYllo",
-        "other insert 3 z | 1 | heXYllo",
-        "take | true | heXzYllo",
-        "undo | 2 2 | hezllo",
-        "edit insert 0 ab | 7 | abhezllo",
-        "pass delete 0 2 | 8 | hezllo",
-        "undo | 0 0 | hezllo",
-        "edit insert 0 c | 9 | chezllo",
-        "skip | true | chezllo",
-        "edit insert 3 XY | 10 | cheXYzllo",
-        "give | true | cheXYzllo",
-        "other rename | 2 | cheXYzllo",
-        "other insert 4 q | 3 | cheXYzllo",
-        "take | true | cheXqYzllo",
-        "undo | 2 2 | cheqzllo",
-        "undo | Nothing | cheqzllo",
-    ];
-    assert_eq!(rt; fault(rt.alloc(), 2, rows)?, None);
-    Ok(())
-}
+const INSERTIONS_ARE_UNDONE: &[Row] = &[
+    "undo | Nothing | ",
+    "skip | false | ",
+    "pass insert 0 hello | 1 | hello",
+    "edit insert 2 XY | 2 | heXYllo",
+    "undo | 1 2 | hello",
+    "edit insert 2 XY | 4 | heXYllo",
+    "give | true | heXYllo",
+    "other insert 3 z | 1 | heXYllo",
+    "take | true | heXzYllo",
+    "undo | 2 2 | hezllo",
+    "edit insert 0 ab | 7 | abhezllo",
+    "pass delete 0 2 | 8 | hezllo",
+    "undo | 0 0 | hezllo",
+    "edit insert 0 c | 9 | chezllo",
+    "skip | true | chezllo",
+    "edit insert 3 XY | 10 | cheXYzllo",
+    "give | true | cheXYzllo",
+    "other rename | 2 | cheXYzllo",
+    "other insert 4 q | 3 | cheXYzllo",
+    "take | true | cheXqYzllo",
+    "undo | 2 2 | cheqzllo",
+    "undo | Nothing | cheqzllo",
+];
 
 /// What was deleted comes back where it was, beside what another member wrote there, also through renames of both, settled or not.
-#[test]
-fn deletions_are_undone(rt: HostRuntime) -> Result<(), Fail> {
-    let rows = &[
-        "pass insert 0 hello | 1 | hello",
-        "edit delete 1 3 | 2 | ho",
-        "give | true | ho",
-        "other insert 1 q | 1 | ho",
-        "take | true | hqo",
-        "undo | 1 3 | hqello",
-        "edit delete 0 2 | 4 | ello",
-        "pass rename | 5 | ello",
-        "settle entries | Ok(()) | ello",
-        "undo | 1 2 | hqello",
-        "edit delete 4 2 | 7 | hqel",
-        "give | true | hqel",
-        "other rename | 2 | hqel",
-        "other delete 0 1 | 3 | hqel",
-        "take | true | qel",
-        "undo | 1 2 | qello",
-    ];
-    assert_eq!(rt; fault(rt.alloc(), 2, rows)?, None);
-    Ok(())
-}
+const DELETIONS_ARE_UNDONE: &[Row] = &[
+    "pass insert 0 hello | 1 | hello",
+    "edit delete 1 3 | 2 | ho",
+    "give | true | ho",
+    "other insert 1 q | 1 | ho",
+    "take | true | hqo",
+    "undo | 1 3 | hqello",
+    "edit delete 0 2 | 4 | ello",
+    "pass rename | 5 | ello",
+    "settle entries | Ok(()) | ello",
+    "undo | 1 2 | hqello",
+    "edit delete 4 2 | 7 | hqel",
+    "give | true | hqel",
+    "other rename | 2 | hqel",
+    "other delete 0 1 | 3 | hqel",
+    "take | true | qel",
+    "undo | 1 2 | qello",
+];
 
 /// Several undos needn't give the texts before them, since what comes back has new identifiers: two backspaces, three deletions
 /// forward, and typing with a backspace.
-#[test]
-fn undone_not_all_the_way(rt: HostRuntime) -> Result<(), Fail> {
-    let rows = &[
-        "pass insert 0 hello | 1 | hello",
-        "edit delete 4 1 | 2 | hell",
-        "edit delete 3 1 | 3 | hel",
-        "undo | 1 1 | hell",
-        "undo | 1 1 | helol",
-        "pass delete 0 5 | 6 | ",
-        "pass insert 0 hello | 7 | hello",
-        "edit delete 1 1 | 8 | hllo",
-        "edit delete 1 1 | 9 | hlo",
-        "edit delete 1 1 | 10 | ho",
-        "undo | 1 1 | hlo",
-        "undo | 1 1 | hllo",
-        "undo | 1 1 | hlleo",
-        "pass delete 0 5 | 14 | ",
-        "pass insert 0 hello | 15 | hello",
-        "edit insert 5 abc | 16 | helloabc",
-        "edit delete 7 1 | 17 | helloab",
-        "undo | 1 1 | helloabc",
-        "undo | 1 2 | helloc",
-    ];
-    assert_eq!(rt; fault(rt.alloc(), 2, rows)?, None);
-    Ok(())
-}
+const UNDONE_NOT_ALL_THE_WAY: &[Row] = &[
+    "pass insert 0 hello | 1 | hello",
+    "edit delete 4 1 | 2 | hell",
+    "edit delete 3 1 | 3 | hel",
+    "undo | 1 1 | hell",
+    "undo | 1 1 | helol",
+    "pass delete 0 5 | 6 | ",
+    "pass insert 0 hello | 7 | hello",
+    "edit delete 1 1 | 8 | hllo",
+    "edit delete 1 1 | 9 | hlo",
+    "edit delete 1 1 | 10 | ho",
+    "undo | 1 1 | hlo",
+    "undo | 1 1 | hllo",
+    "undo | 1 1 | hlleo",
+    "pass delete 0 5 | 14 | ",
+    "pass insert 0 hello | 15 | hello",
+    "edit insert 5 abc | 16 | helloabc",
+    "edit delete 7 1 | 17 | helloab",
+    "undo | 1 1 | helloabc",
+    "undo | 1 2 | helloc",
+];
 
 /// A cursor stays with its character, and at the character's place once that is gone.
-#[test]
-fn anchors_stay(rt: HostRuntime) -> Result<(), Fail> {
-    let rows = &[
-        "pass insert 0 hello | 1 | hello",
-        "set 9 | 9 5 | hello",
-        "place | Ok(0) | hello",
-        "set 3 | set | hello",
-        "place | Ok(3) | hello",
-        "pass insert 1 XY | 2 | hXYello",
-        "place | Ok(5) | hXYello",
-        "pass delete 0 7 | 3 | ",
-        "place | Ok(0) | ",
-        "pass insert 0 ab | 4 | ab",
-        "place | Ok(0) | ab",
-    ];
-    assert_eq!(rt; fault(rt.alloc(), 2, rows)?, None);
-    Ok(())
-}
+const ANCHORS_STAY: &[Row] = &[
+    "pass insert 0 hello | 1 | hello",
+    "set 9 | 9 5 | hello",
+    "place | Ok(0) | hello",
+    "set 3 | set | hello",
+    "place | Ok(3) | hello",
+    "pass insert 1 XY | 2 | hXYello",
+    "place | Ok(5) | hXYello",
+    "pass delete 0 7 | 3 | ",
+    "place | Ok(0) | ",
+    "pass insert 0 ab | 4 | ab",
+    "place | Ok(0) | ab",
+];
 
 /// Renames don't move a cursor; once settled it names the same character in the new epoch.
-#[test]
-fn anchors_are_renamed(rt: HostRuntime) -> Result<(), Fail> {
-    let rows = &[
-        "pass insert 0 hello | 1 | hello",
-        "show | beginning | hello",
-        "set 3 | set | hello",
-        "pass rename | 2 | hello",
-        "place | Ok(3) | hello",
-        "settle anchor | Ok(()) | hello",
-        "place | Ok(3) | hello",
-        "show | Of { replica: 0, seq: 2 } 1 Spot { pos: 2147483647, replica: 0, seq: 2, offset: 2 } | hello",
-        "give | true | hello",
-        "other insert 1 q | 1 | hello",
-        "other rename | 2 | hello",
-        "take | true | hqello",
-        "place | Ok(4) | hqello",
-        "pass insert 4 ! | 3 | hqel!lo",
-        "place | Ok(4) | hqel!lo",
-    ];
-    assert_eq!(rt; fault(rt.alloc(), 2, rows)?, None);
-    Ok(())
-}
+const ANCHORS_ARE_RENAMED: &[Row] = &[
+    "pass insert 0 hello | 1 | hello",
+    "show | beginning | hello",
+    "set 3 | set | hello",
+    "pass rename | 2 | hello",
+    "place | Ok(3) | hello",
+    "settle anchor | Ok(()) | hello",
+    "place | Ok(3) | hello",
+    "show | Of { replica: 0, seq: 2 } 1 Spot { pos: 2147483647, replica: 0, seq: 2, offset: 2 } | hello",
+    "give | true | hello",
+    "other insert 1 q | 1 | hello",
+    "other rename | 2 | hello",
+    "take | true | hqello",
+    "place | Ok(4) | hqello",
+    "pass insert 4 ! | 3 | hqel!lo",
+    "place | Ok(4) | hqel!lo",
+];
 
 /// What names a dropped epoch says so; what was settled before is as good as ever.
+const DROPPED_EPOCHS: &[Row] = &[
+    "pass insert 0 hello | 1 | hello",
+    "edit insert 2 XY | 2 | heXYllo",
+    "set 3 | set | heXYllo",
+    "pass rename | 3 | heXYllo",
+    "drop | dropped | heXYllo",
+    "undo | Dropped { epoch: Origin } | heXYllo",
+    "settle entries | Err(Dropped { epoch: Origin }) | heXYllo",
+    "place | Err(Dropped { epoch: Origin }) | heXYllo",
+    "settle anchor | Err(Dropped { epoch: Origin }) | heXYllo",
+    "skip | true | heXYllo",
+    "edit delete 0 2 | 4 | XYllo",
+    "set 1 | set | XYllo",
+    "pass rename | 5 | XYllo",
+    "settle entries | Ok(()) | XYllo",
+    "settle anchor | Ok(()) | XYllo",
+    "drop | dropped | XYllo",
+    "place | Ok(1) | XYllo",
+    "undo | 1 2 | heXYllo",
+    "place | Ok(3) | heXYllo",
+];
+
+/// The tables, each with the size of the first member's group.
+const TABLES: &[(u32, &[Row])] = &[
+    (2, INSERTIONS_ARE_UNDONE),
+    (2, DELETIONS_ARE_UNDONE),
+    (2, UNDONE_NOT_ALL_THE_WAY),
+    (2, ANCHORS_STAY),
+    (2, ANCHORS_ARE_RENAMED),
+    (1, DROPPED_EPOCHS),
+];
+
 #[test]
-fn dropped_epochs(rt: HostRuntime) -> Result<(), Fail> {
-    let rows = &[
-        "pass insert 0 hello | 1 | hello",
-        "edit insert 2 XY | 2 | heXYllo",
-        "set 3 | set | heXYllo",
-        "pass rename | 3 | heXYllo",
-        "drop | dropped | heXYllo",
-        "undo | Dropped { epoch: Origin } | heXYllo",
-        "settle entries | Err(Dropped { epoch: Origin }) | heXYllo",
-        "place | Err(Dropped { epoch: Origin }) | heXYllo",
-        "settle anchor | Err(Dropped { epoch: Origin }) | heXYllo",
-        "skip | true | heXYllo",
-        "edit delete 0 2 | 4 | XYllo",
-        "set 1 | set | XYllo",
-        "pass rename | 5 | XYllo",
-        "settle entries | Ok(()) | XYllo",
-        "settle anchor | Ok(()) | XYllo",
-        "drop | dropped | XYllo",
-        "place | Ok(1) | XYllo",
-        "undo | 1 2 | heXYllo",
-        "place | Ok(3) | heXYllo",
-    ];
-    assert_eq!(rt; fault(rt.alloc(), 1, rows)?, None);
+fn moves_are_answered(rt: HostRuntime) -> Result<(), Fail> {
+    for (i, (members, rows)) in TABLES.iter().enumerate() {
+        assert_eq!(rt; fault(rt.alloc(), *members, rows)?, None, "table {i}");
+    }
     Ok(())
 }
