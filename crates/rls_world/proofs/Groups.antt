@@ -1,17 +1,18 @@
 -- No step of a replica changes its group or its count of members.
-use Rattle.std.proofs.Common.{◌≡◌, ℕ, zero, suc, false, List, [], ◌∷◌, length, refl, sym, ◌∙◌, subst, Option, Some, None}
-use Rattle.std.specs.Prelude.{slice_get, slice_set}
-use Rattle.rls_ident.proofs.Members.{some_is}
+use Rattle.std.proofs.Common.{◌≡◌, ℕ, zero, suc, true, false, ◌<◌, List, [], ◌∷◌, length, get_or, refl, sym, ◌∙◌, ap, subst, Option, Some, None}
+use Rattle.std.specs.Prelude.{slice_get, slice_set, nat_lt}
+use Rattle.std.proofs.lemmas.Option.{slice_get-get_or}
+use Rattle.rls_ident.proofs.Members.{some_is, lt_is, get_in}
 use Rattle.rls_ops.specs.declared.op.Op.{Op}
 use Rattle.rls_ops.specs.declared.message.Message.{Message}
 use Rattle.rls_model.specs.Answers.{Reason, Answer, Applies, Repeats, Waits, Refuses}
 use Rattle.rls_model.proofs.Machines.{acknowledge_keeps, states_after_ops}
 use Rattle.rls_seen.specs.Seen.{Seen, members}
 use Rattle.rls_seen.specs.Over.{accepted, holding, after_answer, answer_over, received, refusal_over, first_ready, after_refusal, after_release, released, released_times, released_all, acknowledged}
-use Rattle.rls_seen.specs.Messages.{by_parts, Course, started, take_ops, taken_within, IsPartTaken}
+use Rattle.rls_seen.specs.Messages.{IsMessage, by_parts, Course, started, take_ops, taken_within, IsPartTaken}
 use Rattle.rls_seen.specs.Kept.{dropped}
 use Rattle.rls_seen.proofs.Counting.{members_accepted, members_acknowledged}
-use Rattle.rls_world.specs.Seen.{IsOfGroup, AreOfGroup}
+use Rattle.rls_world.specs.Seen.{WorldSeen, IsOfGroup, AreOfGroup, IsSent, IsOneGroup}
 
 -- both are of one group and of as many members
 abbrev pub IsAlike : Seen → Seen → Type 0
@@ -109,3 +110,36 @@ pub group_set : (group n : ℕ) (ss : List Seen) (i : ℕ) (s : Seen) → AreOfG
 group_set group n [] i s h k = tt
 group_set group n (x ∷ ss) zero s h k = (k, h.1)
 group_set group n (x ∷ ss) (suc i) s h k = (h.0, group_set group n ss i s h.1 k)
+
+-- ---- what is there, of a world that is read in parts
+
+-- the replica is the one of this member
+pub record IsThere (s : WorldSeen) (i : ℕ) (r : Seen) : Type 0 where
+  pub below : i < length s.replicas
+  pub at : slice_get s.replicas i ≡ Some r
+
+pub there : (s w : WorldSeen) (i : ℕ) (r : Seen) → s ≡ w → nat_lt i (length w.replicas) ≡ true → r ≡ get_or s.replicas i r → IsThere s i r
+there s w i r same has is =
+    let below : i < length s.replicas = subst (λ (x : WorldSeen). i < length x.replicas) (sym same) (lt_is i (length w.replicas) has) in
+    record { below = below; at = slice_get-get_or s.replicas i r below ∙ ap (λ (x : Seen). Some x) (sym is) }
+
+-- a message that was sent, and a replica that is there, are of one group
+pub record IsSentTo (s : WorldSeen) (k : ℕ) (m : Message) (r : Seen) : Type 0 where
+  pub below : k < length s.sent
+  pub at : slice_get s.sent k ≡ Some m
+  pub group_is : m.group ≡ r.group
+  pub members_are : m.members ≡ members r
+  pub whole : IsMessage m.members m
+
+pub sent_to : (s : WorldSeen) (g i k : ℕ) (r : Seen) (m : Message) → IsOneGroup s g → IsThere s i r → k < length s.sent → m ≡ get_or s.sent k m → IsSentTo s k m r
+sent_to s g i k r m one p below is =
+    let at : slice_get s.sent k ≡ Some m = slice_get-get_or s.sent k m below ∙ ap (λ (x : Message). Some x) (sym is) in
+    let sent : IsSent g (length s.replicas) m = one.sent m (get_in s.sent k m at) in
+    let of_group : IsOfGroup g (length s.replicas) r = group_at g (length s.replicas) s.replicas i r one.replicas p.at in
+    record {
+      below = below;
+      at = at;
+      group_is = sent.group_is ∙ sym of_group.group_is;
+      members_are = sent.members_are ∙ sym of_group.members_are;
+      whole = subst (λ n. IsMessage n m) (sym sent.members_are) sent.whole;
+    }

@@ -5,30 +5,13 @@ use Rattle.rls_world.specs.Draws.{next_draw, drawn, after_draws}
 use Rattle.rls_world.specs.Trial.{rounds, course, trial}
 use Rattle.rls_world.specs.Computing.{computing}
 
--- the first four states of the draws: member 1, an insertion, at the front, of 8 characters
-first_state : next_draw 42 ≡ 1250496027
-first_state = refl
+-- the first four states of the draws
+first_states : (next_draw 42 ≡ 1250496027) × (after_draws 2 42 ≡ 1116302264) × (after_draws 3 42 ≡ 1000676753) × (after_draws 4 42 ≡ 1668674806)
+first_states = (refl, refl, refl, refl)
 
-second_state : after_draws 2 42 ≡ 1116302264
-second_state = refl
-
-third_state : after_draws 3 42 ≡ 1000676753
-third_state = refl
-
-fourth_state : after_draws 4 42 ≡ 1668674806
-fourth_state = refl
-
-first_member : drawn 3 1250496027 ≡ 1
-first_member = refl
-
-first_kind : drawn 16 1116302264 ≡ 6
-first_kind = refl
-
-first_place : drawn 1 1000676753 ≡ 0
-first_place = refl
-
-first_count : 1 + drawn 8 1668674806 ≡ 8
-first_count = refl
+-- what they choose: member 1, an insertion, at the front, of 8 characters
+first_choices : (drawn 3 1250496027 ≡ 1) × (drawn 16 1116302264 ≡ 6) × (drawn 1 1000676753 ≡ 0) × (1 + drawn 8 1668674806 ≡ 8)
+first_choices = (refl, refl, refl, refl)
 
 no_step : trial 42 0 ≡ record { accepted = 0 ∷ 0 ∷ 0 ∷ []; totals = 0 ∷ 0 ∷ 0 ∷ []; runs = 0 ∷ 0 ∷ 0 ∷ []; epochs = 1; former = 0 }
 unfolding computing

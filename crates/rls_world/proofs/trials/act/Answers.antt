@@ -35,7 +35,6 @@ returns-then-kind-le11-clause-world c =
     on_ok c.happen-then-kind-le11.result c.happen-then-kind-le11.ensures.ok (λ f w h.
     let r = c.replica.ensures.stands w h in
     let e = total_alike c.replica.result.now w c.args.member r.0 c.total-total.result r.1 r.2 c.total-total.ensures.total in
-    let some = c.if-total-eq0.false in
     subst (λ (es : List Event). StandsForWorld c.happen-then-kind-le11.new.world (after_events w es)) (sym (deleted w c.args.member (total_of (slice_get w.states c.args.member)) c.args.kind c.args.draws.now.state c.if-kind-le8.false c.if-kind-le11.true (subst (λ n. 0 < n) e (omega arith)) ∙ ap (λ (x : Edit). events.Edit c.args.member x ∷ []) (ap (λ n. drawn_deletion n c.args.draws.now.state) (sym e) ∙ sym c.deletion-edit.ensures.edit))) (f w h))
 
 pub returns-then-kind-le11-clause-draws : goal.returns-then-kind-le11-clause-draws
@@ -43,7 +42,6 @@ returns-then-kind-le11-clause-draws c =
     on_ok c.happen-then-kind-le11.result c.happen-then-kind-le11.ensures.ok (λ f w h.
     let r = c.replica.ensures.stands w h in
     let e = total_alike c.replica.result.now w c.args.member r.0 c.total-total.result r.1 r.2 c.total-total.ensures.total in
-    let some = c.if-total-eq0.false in
     c.deletion-edit.ensures.state ∙ sym (two_drawn (total_of (slice_get w.states c.args.member)) c.args.kind c.args.draws.now.state c.if-kind-le8.false c.if-kind-le11.true (subst (λ n. 0 < n) e (omega arith))))
 
 pub returns-then-total-eq0-2-clause-world : goal.returns-then-total-eq0-2-clause-world
@@ -58,7 +56,6 @@ returns-then-kind-eq12-clause-world c =
     on_ok c.happen-then-kind-eq12.result c.happen-then-kind-eq12.ensures.ok (λ f w h.
     let r = c.replica.ensures.stands w h in
     let e = total_alike c.replica.result.now w c.args.member r.0 c.total-total.result r.1 r.2 c.total-total.ensures.total in
-    let some = c.if-total-eq0-2.false in
     subst (λ (es : List Event). StandsForWorld c.happen-then-kind-eq12.new.world (after_events w es)) (sym (ap (λ k. kind_events w c.args.member (total_of (slice_get w.states c.args.member)) k c.args.draws.now.state) c.if-kind-eq12.true ∙ renamed w c.args.member (total_of (slice_get w.states c.args.member)) c.args.draws.now.state (subst (λ n. 0 < n) e (omega arith)))) (f w h))
 
 pub returns-clause-world : goal.returns-clause-world
