@@ -86,59 +86,81 @@ fn insertions(rt: HostRuntime) -> Result<(), Fail> {
     Ok(())
 }
 
-#[test]
-fn deletions(rt: HostRuntime) -> Result<(), Fail> {
-    let alloc = rt.alloc();
-    let apart =
-        "{\"epoch\":null,\"runs\":[{\"first\":[[2147483647,0,1,0]],\"length\":1},{\"first\":[[2147483647,0,1,4]],\"length\":1}]}\n";
-    let none = "{\"epoch\":null,\"runs\":[]}\n";
-    let steps: &[Step<'_>] = &[
-        ("edit", b"d 1 3\n", 0, EDITED, ""),
-        ("text", b"", 0, "ho", ""),
-        ("ids", b"", 0, apart, ""),
-        ("edit", b"d 0 2\n", 0, EDITED, ""),
-        ("text", b"", 0, "", ""),
-        ("ids", b"", 0, none, ""),
-        ("edit", b"r\n", 6, "", "line 1: empty document\n"),
-        ("edit", b"d 9 0\n", 6, "", "line 1: empty edit\n"),
-    ];
-    assert_eq!(rt; fault(alloc, steps)?, None);
-    Ok(())
-}
+/// Deletions, and edits that a text of none refuses.
+const DELETIONS: &[Step<'static>] = &[
+    ("edit", b"d 1 3\n", 0, EDITED, ""),
+    ("text", b"", 0, "ho", ""),
+    (
+        "ids",
+        b"",
+        0,
+        "{\"epoch\":null,\"runs\":[{\"first\":[[2147483647,0,1,0]],\"length\":1},{\"first\":[[2147483647,0,1,4]],\"length\":1}]}\n",
+        "",
+    ),
+    ("edit", b"d 0 2\n", 0, EDITED, ""),
+    ("text", b"", 0, "", ""),
+    ("ids", b"", 0, "{\"epoch\":null,\"runs\":[]}\n", ""),
+    ("edit", b"r\n", 6, "", "line 1: empty document\n"),
+    ("edit", b"d 9 0\n", 6, "", "line 1: empty edit\n"),
+];
+
+/// A rename, and insertions at both ends after it.
+const RENAMES: &[Step<'static>] = &[
+    ("edit", b"i 2 XY\nr\n", 0, TWO, ""),
+    ("text", b"", 0, "heXYllo", ""),
+    (
+        "ids",
+        b"",
+        0,
+        "{\"epoch\":[0,3],\"runs\":[{\"first\":[[2147483647,0,3,0]],\"length\":7}]}\n",
+        "",
+    ),
+    ("edit", b"i 7 !\n", 0, EDITED, ""),
+    ("text", b"", 0, "heXYllo!", ""),
+    (
+        "ids",
+        b"",
+        0,
+        "{\"epoch\":[0,3],\"runs\":[{\"first\":[[2147483647,0,3,0]],\"length\":8}]}\n",
+        "",
+    ),
+    ("edit", b"i 0 AB\n", 0, EDITED, ""),
+    (
+        "ids",
+        b"",
+        0,
+        "{\"epoch\":[0,3],\"runs\":[{\"first\":[[2147483647,0,3,-2]],\"length\":10}]}\n",
+        "",
+    ),
+];
+
+/// Scripts that are refused leave the text as it is.
+const REFUSED_SCRIPTS: &[Step<'static>] = &[
+    ("edit", b"i 0 A\ni 9 x\n", 6, "", "line 2: range 9 6\n"),
+    ("edit", b"i 0 A\nq\n", 4, "", "bad line 2\n"),
+    ("edit", b"i 01 A\n", 4, "", "bad line 1\n"),
+    ("edit", b"b 0\n", 6, "", "line 1: range 0 5\n"),
+    ("edit", b"b 6\n", 6, "", "line 1: range 6 5\n"),
+    ("edit", b"", 0, "edits 0 released 0 refused 0\n", ""),
+    ("text", b"", 0, "hello", ""),
+];
+
+/// A member that leaves edits no more.
+const LEAVES: &[Step<'static>] = &[
+    ("leave", b"", 0, EDITED, ""),
+    ("leave", b"", 6, "", "line 1: left\n"),
+    ("edit", b"i 0 a\n", 6, "", "line 1: left\n"),
+    ("text", b"", 0, "hello", ""),
+];
 
 #[test]
-fn renames(rt: HostRuntime) -> Result<(), Fail> {
-    let alloc = rt.alloc();
-    let renamed = "{\"epoch\":[0,3],\"runs\":[{\"first\":[[2147483647,0,3,0]],\"length\":7}]}\n";
-    let behind = "{\"epoch\":[0,3],\"runs\":[{\"first\":[[2147483647,0,3,0]],\"length\":8}]}\n";
-    let in_front = "{\"epoch\":[0,3],\"runs\":[{\"first\":[[2147483647,0,3,-2]],\"length\":10}]}\n";
-    let steps: &[Step<'_>] = &[
-        ("edit", b"i 2 XY\nr\n", 0, TWO, ""),
-        ("text", b"", 0, "heXYllo", ""),
-        ("ids", b"", 0, renamed, ""),
-        ("edit", b"i 7 !\n", 0, EDITED, ""),
-        ("text", b"", 0, "heXYllo!", ""),
-        ("ids", b"", 0, behind, ""),
-        ("edit", b"i 0 AB\n", 0, EDITED, ""),
-        ("ids", b"", 0, in_front, ""),
-    ];
-    assert_eq!(rt; fault(alloc, steps)?, None);
-    Ok(())
-}
-
-#[test]
-fn refused_scripts(rt: HostRuntime) -> Result<(), Fail> {
-    let alloc = rt.alloc();
-    let steps: &[Step<'_>] = &[
-        ("edit", b"i 0 A\ni 9 x\n", 6, "", "line 2: range 9 6\n"),
-        ("edit", b"i 0 A\nq\n", 4, "", "bad line 2\n"),
-        ("edit", b"i 01 A\n", 4, "", "bad line 1\n"),
-        ("edit", b"b 0\n", 6, "", "line 1: range 0 5\n"),
-        ("edit", b"b 6\n", 6, "", "line 1: range 6 5\n"),
-        ("edit", b"", 0, "edits 0 released 0 refused 0\n", ""),
-        ("text", b"", 0, "hello", ""),
-    ];
-    assert_eq!(rt; fault(alloc, steps)?, None);
+fn steps_after_an_insertion(rt: HostRuntime) -> Result<(), Fail> {
+    for (i, steps) in [DELETIONS, RENAMES, REFUSED_SCRIPTS, LEAVES]
+        .iter()
+        .enumerate()
+    {
+        assert_eq!(rt; fault(rt.alloc(), steps)?, None, "table {i}");
+    }
     Ok(())
 }
 
@@ -168,19 +190,6 @@ fn clusters(rt: HostRuntime) -> Result<(), Fail> {
         ("text", b"", 0, "", ""),
     ];
     assert_eq!(rt; accents.fault_among(alloc, accent_steps)?, None);
-    Ok(())
-}
-
-#[test]
-fn leaves(rt: HostRuntime) -> Result<(), Fail> {
-    let alloc = rt.alloc();
-    let steps: &[Step<'_>] = &[
-        ("leave", b"", 0, EDITED, ""),
-        ("leave", b"", 6, "", "line 1: left\n"),
-        ("edit", b"i 0 a\n", 6, "", "line 1: left\n"),
-        ("text", b"", 0, "hello", ""),
-    ];
-    assert_eq!(rt; fault(alloc, steps)?, None);
     Ok(())
 }
 
