@@ -15,6 +15,9 @@ use rls_ident::{Ident, Spot, Tuple};
 use rls_runs::{PushError, Run, Runs};
 use std::alloc::Global;
 
+/// How many bytes an `At` has: a kind and four numbers.
+const AT_BYTES: usize = 17;
+
 fn is_offset(least: i32, offset: i32) -> bool
     ensures offset { result ≡ is_offset least offset }
 {
@@ -72,11 +75,17 @@ fn last(bytes: &[u8]) -> Result<(Spot, &[u8]), ReadError>
     spot(LEAST_OFFSET, rest)
 }
 
+// How many tuples memory is taken for at once, where there is said to be this many: no more than the bytes hold if each is an `At`.
+fn room_for(count: u32, bytes: &[u8]) -> usize {
+    (count as usize).min(bytes.len() / AT_BYTES)
+}
+
+// So many tuples that may stand before the last one of an identifier.
 fn inners(alloc: Global, count: u32, bytes: &[u8]) -> Result<(Vec<Tuple>, &[u8]), ReadError>
     ensures read { Gives (λ x. (x.0.items, x.1.now)) result (many_at inner_at count bytes.now) }
     ensures bounded { IfOk result (λ x. All (λ t. IsTrue (is_inner_bounded t)) x.0.items) }
 {
-    let mut tuples = Vec::new(alloc);
+    let mut tuples = Vec::with_capacity(alloc, room_for(count, bytes))?;
     let mut rest = bytes;
     for _ in 0..count {
         let (tuple, after) = inner(rest)?;
