@@ -62,12 +62,12 @@ fn put_tuple(out: &mut Vec<u8>, tuple: Tuple) -> Result<(), AllocError>
             seq,
             offset,
         } => {
-            put_byte(out, 1)?;
-            put_u32(out, pos)?;
-            put_u32(out, replica)?;
-            put_u32(out, seq)?;
-            put_i32(out, offset)?;
-            Ok(())
+            let (p, r) = (pos.to_be_bytes(), replica.to_be_bytes());
+            let (s, o) = (seq.to_be_bytes(), offset.to_be_bytes());
+            out.extend_from_slice(&[
+                1, p[0], p[1], p[2], p[3], r[0], r[1], r[2], r[3], s[0], s[1], s[2], s[3], o[0],
+                o[1], o[2], o[3],
+            ])
         }
         Tuple::High => put_byte(out, 2),
     }
