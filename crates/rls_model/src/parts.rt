@@ -291,6 +291,14 @@ impl TextRuns {
     {
         &self.runs
     }
+
+    /// The runs, to be taken one by one.
+    pub fn into_vec(self) -> Vec<TextRun>
+        ensures runs { result.items ≡ self }
+    {
+        let TextRuns { runs } = self;
+        runs
+    }
 }
 
 /// A list of members.
