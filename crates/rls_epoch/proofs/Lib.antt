@@ -20,3 +20,4 @@ pub mod GreatestAdded
 pub mod Opened
 pub mod Left
 pub mod Listed
+pub mod Parting

@@ -1,16 +1,15 @@
 -- What becomes of identifiers whose first tuples change.
-use Rattle.std.proofs.Common.{◌≡◌, ℕ, zero, suc, ◌+◌, ◌<◌, ◌≤◌, List, [], ◌∷◌, ◌++◌, map, length, get_or, take, drop, reverse, refl, sym, ap, ◌∙◌, Some, arith}
-use Rattle.std.specs.Prelude.{pos, slice_get}
+use Rattle.std.proofs.Common.{◌≡◌, ℕ, zero, suc, ◌+◌, ◌<◌, ◌≤◌, List, [], ◌∷◌, ◌++◌, map, length, get_or, take, drop, reverse, refl, sym, ap, ◌∙◌, arith}
+use Rattle.std.specs.Prelude.{pos}
 use Rattle.std.proofs.lemmas.Int.{ints}
-use Rattle.std.proofs.lemmas.List.{append-nil, drop_more, take-append-drop, length-take, reverse-append, reverse-reverse, length-reverse}
+use Rattle.std.proofs.lemmas.List.{drop_more, take-append-drop, length-take, reverse-append, reverse-reverse, length-reverse}
 use Rattle.rls_ident.specs.declared.tuple.Tuple.{Tuple}
 use Rattle.rls_ident.specs.Identifiers.{shifted}
 use Rattle.rls_ident.proofs.Shifted.{shifted_shifted, shifted_none}
 use Rattle.rls_rename.specs.Heads.{Replaces}
 use Rattle.rls_rename.specs.Renaming.{forward}
 use Rattle.rls_rename.proofs.Stretches.{prefixed_goes}
-use Rattle.rls_runs.specs.Runs.{run_idents, runs_of, idents_of}
-use Rattle.rls_runs.proofs.RunsOf.{idents_of_runs}
+use Rattle.rls_runs.specs.Runs.{run_idents}
 use Rattle.rls_epoch.specs.declared.placed.Placed.{Placed}
 use Rattle.rls_epoch.specs.declared.ways.Step.{Step}
 use Rattle.rls_epoch.specs.declared.ways.Step.TheVariants.{Back, Forward}
@@ -63,19 +62,12 @@ within_at n [] k d w l = absurd (omega arith)
 within_at n (s ∷ steps) zero d w l = w.0
 within_at n (s ∷ steps) (suc k) d w l = within_at n steps k d w.1 (omega arith)
 
--- one run alone
-one_run : (rs : List (List Tuple × ℕ)) (r : List Tuple × ℕ) → length rs ≡ 1 → slice_get rs 0 ≡ Some r → idents_of rs ≡ run_idents r.0 r.1
-one_run [] r l e = cc
-one_run (q ∷ []) r l e = let s : q ≡ r = cc in append-nil (run_idents q.0 q.1) ∙ ap (λ (t : List Tuple × ℕ). run_idents t.0 t.1) s
-one_run (q ∷ (p ∷ rs)) r l e = absurd (omega arith)
-
-pub list_ahead : (ps : List Placed) (steps : List Step) (n : ℕ) (ids ahead : List (List Tuple)) (r : List Tuple × ℕ) (t u y : List Tuple) → length (runs_of ids) ≡ 1 → slice_get (runs_of ids) 0 ≡ Some r → t ≡ reverse r.0 → IsAhead ps steps (reverse t) n (reverse u) → y ≡ reverse u → ahead ≡ run_idents y r.1 →
-    map (led ps (drop n steps)) ahead ≡ map (led ps steps) ids
-list_ahead ps steps n ids ahead r t u y l g e a f i =
+pub run_led_ahead : (ps : List Placed) (steps : List Step) (n : ℕ) (ahead : List (List Tuple)) (r : List Tuple × ℕ) (t u y : List Tuple) → t ≡ reverse r.0 → IsAhead ps steps (reverse t) n (reverse u) → y ≡ reverse u → ahead ≡ run_idents y r.1 →
+    map (led ps (drop n steps)) ahead ≡ map (led ps steps) (run_idents r.0 r.1)
+run_led_ahead ps steps n ahead r t u y e a f i =
     let first : reverse t ≡ r.0 = ap reverse e ∙ reverse-reverse r.0 in
-    let all : run_idents r.0 r.1 ≡ ids = sym (one_run (runs_of ids) r l g) ∙ idents_of_runs ids in
     let same : (k : ℕ) → led ps (drop n steps) (shifted (pos k) y) ≡ led ps steps (shifted (pos k) r.0) = λ k. ap (λ x. led ps (drop n steps) (shifted (pos k) x)) f ∙ (a k ∙ ap (λ x. led ps steps (shifted (pos k) x)) first) in
-    ap (map (led ps (drop n steps))) i ∙ (run_alike (led ps (drop n steps)) (led ps steps) r.1 r.0 y same ∙ ap (map (led ps steps)) all)
+    ap (map (led ps (drop n steps))) i ∙ run_alike (led ps (drop n steps)) (led ps steps) r.1 r.0 y same
 
 -- ---- several steps at once
 
@@ -93,9 +85,6 @@ drop_twice j zero xs = let n : j ≡ 0 + j = omega arith in ap (λ m. drop m xs)
 drop_twice zero (suc k) [] = sym (nothing_left (suc k + 0))
 drop_twice (suc j) (suc k) [] = sym (nothing_left (suc k + suc j))
 drop_twice j (suc k) (x ∷ xs) = let n : suc (k + j) ≡ suc k + j = omega arith in drop_twice j k xs ∙ ap (λ m. drop m (x ∷ xs)) n
-
-pub lists_ahead : (ps : List Placed) (steps : List Step) (j k : ℕ) (ids at next : List (List Tuple)) → map (led ps (drop k steps)) at ≡ map (led ps steps) ids → map (led ps (drop j (drop k steps))) next ≡ map (led ps (drop k steps)) at → map (led ps (drop (k + j) steps)) next ≡ map (led ps steps) ids
-lists_ahead ps steps j k ids at next e f = ap (λ (ss : List Step). map (led ps ss) next) (sym (drop_twice j k steps)) ∙ (f ∙ e)
 
 pub one_ahead : (ps : List Placed) (steps : List Step) (ids moved : List (List Tuple)) (d : Step) → 0 < length steps → moved ≡ map (step_map ps (get_or steps 0 d)) ids → map (led ps (drop 1 steps)) moved ≡ map (led ps steps) ids
 one_ahead ps [] ids moved d l e = absurd (omega arith)

@@ -6,3 +6,4 @@ pub mod Seen
 pub mod Sorted
 pub mod Ways
 pub mod Heads
+pub mod Parts

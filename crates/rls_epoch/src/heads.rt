@@ -3,6 +3,7 @@
 
 ghost use Rattle.std.specs.Prelude.{◌≡◌, ◌<◌, ◌≤◌, ◌++◌, length, map, drop, reverse, IfOk, IfSome, IsTrue, IsFalse, OnOk};
 ghost use Rattle.rls_rename.specs.Heads.{Replaces};
+ghost use Rattle.rls_runs.specs.Runs.{run_idents};
 ghost use Rattle.rls_epoch.specs.Heads.{Moves, IsAhead};
 ghost use Rattle.rls_epoch.specs.Ways.{AreWithin, place_of_step, step_map, led};
 ghost use Rattle.rls_epoch.specs.declared.ways.Step.TheVariants.{Forward};
@@ -16,22 +17,34 @@ use std::alloc::{AllocError, Global};
 // The number of first tuples that are tried first.
 const FEWEST: usize = 2;
 
-// One run, a few steps on, and how many steps, if its first tuples alone decide the first step.
+// Whether the first tuples of a long run alone decide a step.
+pub(crate) fn is_decided(
+    alloc: Global,
+    nodes: &[Placed],
+    step: Step,
+    run: &Run,
+) -> Result<bool, AllocError>
+    requires within { place_of_step step < length nodes.now }
+{
+    if run.first().len() <= FEWEST {
+        return Ok(false);
+    }
+    let mut turned = turned_tuples(alloc, run.first())?;
+    move_head(alloc, nodes, step, &mut turned)
+}
+
+// A run a few steps on, and how many steps, if its first tuples alone decide the first step.
 pub(crate) fn run_ahead(
     alloc: Global,
     nodes: &[Placed],
     steps: &[Step],
-    ids: &Runs,
+    run: &Run,
 ) -> Result<Option<(Runs, usize)>, AllocError>
     requires within { AreWithin (length nodes.now) steps.now }
     ensures some { IfOk result (λ ahead. IfSome ahead (λ r. 0 < r.1)) }
     ensures within { IfOk result (λ ahead. IfSome ahead (λ r. r.1 ≤ length steps.now)) }
-    ensures led { IfOk result (λ ahead. IfSome ahead (λ r. map (led nodes.now (drop r.1 steps.now)) r.0 ≡ map (led nodes.now steps.now) ids.now)) }
+    ensures led { IfOk result (λ ahead. IfSome ahead (λ r. map (led nodes.now (drop r.1 steps.now)) r.0 ≡ map (led nodes.now steps.now) (run_idents run.now.0 run.now.1))) }
 {
-    if ids.run_count() != 1 {
-        return Ok(None);
-    }
-    let run = ids.run(0);
     if run.first().len() <= FEWEST {
         return Ok(None);
     }

@@ -3,11 +3,11 @@
 ghost use Rattle.std.specs.Prelude.{◌≡◌, ◌+◌, ◌<◌, ◌≤◌, ◌^◌, [], ◌∷◌, ◌++◌, map, length, drop, IfOk, OnOk, IsTrue};
 ghost use Rattle.rls_rename.specs.Renaming.{forward};
 ghost use Rattle.rls_rename.specs.Tree.{AreNodes};
-ghost use Rattle.rls_runs.specs.Runs.{run_idents, runs_of, idents_of, is_increasing, IsImage};
+ghost use Rattle.rls_runs.specs.Runs.{run_idents, runs_of, idents_of, is_increasing, AreIdents, IsImage};
 ghost use Rattle.rls_epoch.specs.Seen.{nodes_of};
 ghost use Rattle.rls_epoch.specs.Ways.{AreWithin, place_of_step, step_map, led};
 
-use crate::heads::run_ahead;
+use crate::parts::{Part, push_parts};
 use crate::placed::Placed;
 use crate::ways::Step;
 use rls_rename::Renaming;
@@ -59,7 +59,7 @@ fn runs_renamed(alloc: Global, renaming: &Renaming, ids: &Runs) -> Result<Runs, 
     let (_total, _some) = (ids.total(), renaming.total());
     let mut renamed = Runs::new(alloc);
     for run in ids.as_slice() {
-        append_all(&mut renamed, &renaming.forward_run(run)?)?;
+        append_all(&mut renamed, renaming.forward_run(run)?.as_slice())?;
     }
     Ok(renamed)
 }
@@ -78,58 +78,62 @@ pub(crate) fn runs_led(
     if steps.is_empty() {
         return ids.copy();
     }
-    let (mut at, mut done) = runs_ahead(alloc, nodes, steps, ids)?;
-    while done < steps.len() {
-        let (_, rest) = steps.split_at(done);
-        let (next, count) = runs_ahead(alloc, nodes, rest, &at)?;
-        at = next;
-        done += count;
+    let _total = ids.total();
+    let mut parts = Vec::new(alloc);
+    push_parts(alloc, nodes, steps, 0, ids.as_slice(), &mut parts)?;
+    let mut at_end = Runs::new(alloc);
+    while let Some(Part { ids, done }) = parts.pop() {
+        let _total = ids.total();
+        if done < steps.len() {
+            push_parts(alloc, nodes, steps, done, ids.as_slice(), &mut parts)?;
+        } else {
+            at_end = with_all(at_end, ids)?;
+        }
     }
-    Ok(at)
+    Ok(at_end)
 }
 
-// A strictly increasing list some steps on, and how many.
-fn runs_ahead(
+// These identifiers and those above them.
+fn with_all(ids: Runs, more: Runs) -> Result<Runs, AllocError>
+    requires above { IsTrue (is_increasing (ids ++ more)) }
+    requires total { length ids + length more < 2 ^ 64 }
+    ensures all { IfOk result (λ all. all ≡ ids ++ more) }
+{
+    if ids.run_count() == 0 {
+        return Ok(more);
+    }
+    let mut all = ids;
+    append_all(&mut all, more.as_slice())?;
+    Ok(all)
+}
+
+// Runs one step on.
+pub(crate) fn runs_moved(
     alloc: Global,
     nodes: &[Placed],
-    steps: &[Step],
-    ids: &Runs,
-) -> Result<(Runs, usize), AllocError>
-    requires nodes { AreNodes (nodes_of nodes.now) }
-    requires within { AreWithin (length nodes.now) steps.now }
-    requires some { 0 < length steps.now }
-    ensures some { IfOk result (λ r. 0 < r.1) }
-    ensures within { IfOk result (λ r. r.1 ≤ length steps.now) }
-    ensures led { IfOk result (λ r. map (led nodes.now (drop r.1 steps.now)) r.0 ≡ map (led nodes.now steps.now) ids.now) }
-{
-    if let Some(ahead) = run_ahead(alloc, nodes, steps, ids)? {
-        return Ok(ahead);
-    }
-    let moved = runs_moved(alloc, nodes, steps[0], ids)?;
-    Ok((moved, 1))
-}
-
-// A strictly increasing list one step on.
-fn runs_moved(alloc: Global, nodes: &[Placed], step: Step, ids: &Runs) -> Result<Runs, AllocError>
+    step: Step,
+    runs: &[Run],
+) -> Result<Runs, AllocError>
     requires nodes { AreNodes (nodes_of nodes.now) }
     requires within { place_of_step step < length nodes.now }
-    ensures moved { IfOk result (λ xs. xs ≡ map (step_map nodes.now step) ids.now) }
+    requires idents { AreIdents (idents_of runs.now) }
+    requires total { length (idents_of runs.now) < 2 ^ 64 }
+    ensures moved { IfOk result (λ xs. xs ≡ map (step_map nodes.now step) (idents_of runs.now)) }
 {
-    let _total = ids.total();
     let mut moved = Runs::new(alloc);
-    for run in ids.as_slice() {
-        append_all(&mut moved, &run_moved(nodes, step, run)?)?;
+    for run in runs {
+        append_all(&mut moved, run_moved(nodes, step, run)?.as_slice())?;
     }
     Ok(moved)
 }
 
 // Puts runs above the last identifier behind it, and joins those that touch.
-fn append_all(ids: &mut Runs, more: &RunList) -> Result<(), AllocError>
+fn append_all(ids: &mut Runs, more: &[Run]) -> Result<(), AllocError>
     requires above { IsTrue (is_increasing (ids.old ++ idents_of more.now)) }
     requires total { length ids.old + length (idents_of more.now) < 2 ^ 64 }
     ensures ok { OnOk result (ids.new ≡ ids.old ++ idents_of more.now) }
 {
-    for run in more.as_slice() {
+    for run in more {
         let _len = run.len();
         ids.append(run.copy()?)?;
     }

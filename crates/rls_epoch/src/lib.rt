@@ -11,6 +11,7 @@ mod keeping;
 mod listing;
 mod marks;
 mod nodes;
+mod parts;
 mod placed;
 mod retaining;
 mod ways;

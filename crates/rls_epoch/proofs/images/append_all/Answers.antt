@@ -1,4 +1,4 @@
-use Rattle.std.proofs.Common.{◌≡◌, ◌++◌, List, ℕ, take, Some, ap, sym, ◌∙◌, subst, append_assoc, length, arith}
+use Rattle.std.proofs.Common.{refl, ◌≡◌, ◌++◌, List, ℕ, take, Some, ap, sym, ◌∙◌, subst, append_assoc, length, arith}
 use Rattle.std.specs.Prelude.{slice_get, IsTrue}
 use Rattle.std.proofs.lemmas.Option.{slice_get_read}
 use Rattle.rls_ident.specs.declared.tuple.Tuple.{Tuple}
@@ -12,8 +12,7 @@ append-requires-clause-above c =
     let rs = c.args.more.now in
     let k = c.loop-run.run-index in
     let r = c.run-item.result in
-    let same = c.as_slice-run-items.ensures.runs in
-    let g : slice_get rs k ≡ Some r = slice_get_read rs _ k r (ap length same) c.loop-run-test.true (rw same at c.run-item.is) in
+    let g : slice_get rs k ≡ Some r = slice_get_read rs _ k r refl c.loop-run-test.true c.run-item.is in
     let h = run_above c.args.ids.now rs k r c.requires.above g c.len-len.ensures.run in
     subst (λ (q : List Tuple × ℕ). IsTrue (is_above (last_ident c.loop-run.ids) q.0)) (sym c.in_ok-copy.ensures.copy)
     (subst (λ (xs : List (List Tuple)). IsTrue (is_above (last_ident xs) r.0)) (sym c.loop-run.invariant) h)
@@ -23,8 +22,7 @@ append-requires-clause-total c =
     let rs = c.args.more.now in
     let k = c.loop-run.run-index in
     let r = c.run-item.result in
-    let same = c.as_slice-run-items.ensures.runs in
-    let g : slice_get rs k ≡ Some r = slice_get_read rs _ k r (ap length same) c.loop-run-test.true (rw same at c.run-item.is) in
+    let g : slice_get rs k ≡ Some r = slice_get_read rs _ k r refl c.loop-run-test.true c.run-item.is in
     let h = run_fits c.args.ids.now rs k r _ c.requires.total g in
     let e : c.in_ok-copy.field-0.1 ≡ r.1 = ap (λ (q : List Tuple × ℕ). q.1) c.in_ok-copy.ensures.copy in
     let f : length c.loop-run.ids ≡ length (c.args.ids.now ++ idents_of (take k rs)) = ap length c.loop-run.invariant in
@@ -35,8 +33,7 @@ loop-run-preserved c =
     let rs = c.args.more.now in
     let k = c.loop-run.run-index in
     let r = c.run-item.result in
-    let same = c.as_slice-run-items.ensures.runs in
-    let g : slice_get rs k ≡ Some r = slice_get_read rs _ k r (ap length same) c.loop-run-test.true (rw same at c.run-item.is) in
+    let g : slice_get rs k ≡ Some r = slice_get_read rs _ k r refl c.loop-run-test.true c.run-item.is in
     c.in_ok-append.ensures.ok
     ∙ (ap (λ (xs : List (List Tuple)). xs ++ run_idents c.in_ok-copy.field-0.0 c.in_ok-copy.field-0.1) c.loop-run.invariant
     ∙ (ap (λ (q : List Tuple × ℕ). (c.args.ids.now ++ idents_of (take k rs)) ++ run_idents q.0 q.1) c.in_ok-copy.ensures.copy

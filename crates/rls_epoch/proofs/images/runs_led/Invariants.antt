@@ -1,13 +1,14 @@
-use Rattle.std.proofs.Common.{◌≡◌, ◌≤◌, ◌-◌, length, drop, map}
+use Rattle.std.proofs.Common.{◌≡◌, ◌++◌, length, map}
+use Rattle.rls_epoch.specs.Parts.{ends, work, AreUnderWay}
 use Rattle.rls_epoch.specs.Ways.{led}
 use Rattle.rls_epoch.proofs.images.runs_led.Given as goal
 
--- what is left leads to where all steps lead
-abbrev pub invariant-loop-done : goal.invariant-loop-done
-invariant-loop-done l = record {
-  within : l.done ≤ length l.steps;
-  rest : map (led l.nodes (drop l.done l.steps)) l.at ≡ map (led l.nodes l.steps) l.ids;
+-- what is at the end, and where the parts lead
+abbrev pub invariant-loop-ids : goal.invariant-loop-ids
+invariant-loop-ids l = record {
+  under_way : AreUnderWay (length l.steps) l.parts.items;
+  ends : l.at_end ++ ends l.nodes l.steps l.parts.items ≡ map (led l.nodes l.steps) l.ids;
 }
 
-abbrev pub decreases-loop-done : goal.decreases-loop-done
-decreases-loop-done l = length l.steps - l.done
+abbrev pub decreases-loop-ids : goal.decreases-loop-ids
+decreases-loop-ids l = work (length l.steps) l.parts.items

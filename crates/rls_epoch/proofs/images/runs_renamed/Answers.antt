@@ -19,7 +19,7 @@ append_all-requires-clause-above c =
     let g : slice_get rs k ≡ Some r = slice_get_read rs _ k r (ap length same) c.loop-run-test.true (rw same at c.run-item.is) in
     let e = image_more f rs k r g c.loop-run.renamed (idents_of c.in_ok-forward_run.field-0) c.loop-run.invariant c.in_ok-forward_run.ensures.image.idents in
     let a = subst (λ (xs : List (List Tuple)). AreIdents xs) (sym (idents_of_runs c.args.ids.now)) c.total-total.ensures.idents in
-    ap is_increasing e ∙ increasing_taken f (renaming_order c.args.renaming.now c.total-some.ensures.former) rs (k + 1) a
+    rw c.as_slice.ensures.runs (ap is_increasing e ∙ increasing_taken f (renaming_order c.args.renaming.now c.total-some.ensures.former) rs (k + 1) a)
 
 pub append_all-requires-clause-total : goal.append_all-requires-clause-total
 append_all-requires-clause-total c =
@@ -34,7 +34,7 @@ append_all-requires-clause-total c =
     let h = fewer_taken f rs (k + 1) in
     let a = ap length (idents_of_runs c.args.ids.now) in
     let t = c.total-total.ensures.total in
-    omega (arith, e, h, a, t, length-append c.loop-run.renamed more)
+    rw c.as_slice.ensures.runs (omega (arith, e, h, a, t, length-append c.loop-run.renamed more))
 
 pub loop-run-preserved : goal.loop-run-preserved
 loop-run-preserved c =
@@ -44,7 +44,7 @@ loop-run-preserved c =
     let f = forward c.args.renaming.now in
     let same = c.as_slice-run-items.ensures.runs in
     let g : slice_get rs k ≡ Some r = slice_get_read rs _ k r (ap length same) c.loop-run-test.true (rw same at c.run-item.is) in
-    c.in_ok-append_all.ensures.ok ∙ image_more f rs k r g c.loop-run.renamed (idents_of c.in_ok-forward_run.field-0) c.loop-run.invariant c.in_ok-forward_run.ensures.image.idents
+    (rw c.as_slice.ensures.runs at c.in_ok-append_all.ensures.ok) ∙ image_more f rs k r g c.loop-run.renamed (idents_of c.in_ok-forward_run.field-0) c.loop-run.invariant c.in_ok-forward_run.ensures.image.idents
 
 pub returns : goal.returns
 returns c =
