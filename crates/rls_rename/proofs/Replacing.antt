@@ -9,14 +9,14 @@ use Rattle.rls_ident.specs.declared.tuple.Spot.{Spot}
 use Rattle.rls_ident.specs.declared.tuple.Tuple.{Tuple}
 use Rattle.rls_ident.specs.declared.tuple.Tuple.TheVariants.{Low, High}
 use Rattle.rls_ident.specs.Tuples.{tuple_cmp, at_offset}
-use Rattle.rls_ident.specs.Maps.{by_order, under, low_inverse, high_inverse}
+use Rattle.rls_ident.specs.Maps.{by_order, under, low, high, low_inverse, high_inverse}
 use Rattle.rls_ident.specs.Identifiers.{ident_cmp, pred}
 use Rattle.rls_ident.proofs.Loops.{drop_reads}
 use Rattle.rls_runs.specs.Runs.{place_of}
 use Rattle.rls_rename.specs.Heads.{head_less, Replaces}
-use Rattle.rls_rename.specs.Renaming.{IsFormer, old_above_inverse, old_between_inverse, forward_by}
+use Rattle.rls_rename.specs.Renaming.{IsFormer, new_above, new_below, old_above_inverse, old_below_inverse, old_between_inverse, forward_by}
 use Rattle.rls_rename.proofs.GapPlaces.{gap_below}
-use Rattle.rls_rename.proofs.GapImages.{forward_inside}
+use Rattle.rls_rename.proofs.GapImages.{forward_end, forward_first, forward_inside}
 
 -- ---- comparisons
 
@@ -88,6 +88,32 @@ high_strips p h e l y = ap (λ u. cond u (h ++ y) (drop (length p) (h ++ y))) (u
 pub high_stays : (p h : List Tuple) → head_less h p ≡ Some true → Replaces (high_inverse tuple_cmp p) h h
 unfolding high_inverse
 high_stays p h e y = ap (λ u. cond u (h ++ y) (drop (length p) (h ++ y))) (under_head h p y true e)
+
+pub low_puts : (p h : List Tuple) → head_less h p ≡ Some true → Replaces (low tuple_cmp p) h (p ++ h)
+unfolding low
+low_puts p h e y = ap (λ u. cond u (p ++ (h ++ y)) (h ++ y)) (under_head h p y true e) ∙ sym (append_assoc p h y)
+
+pub low_keeps : (p h : List Tuple) → head_less h p ≡ Some false → Replaces (low tuple_cmp p) h h
+unfolding low
+low_keeps p h e y = ap (λ u. cond u (p ++ (h ++ y)) (h ++ y)) (under_head h p y false e)
+
+pub high_puts : (p h : List Tuple) → head_less h p ≡ Some false → Replaces (high tuple_cmp p) h (p ++ h)
+unfolding high
+high_puts p h e y = ap (λ u. cond u (h ++ y) (p ++ (h ++ y))) (under_head h p y false e) ∙ sym (append_assoc p h y)
+
+pub high_keeps : (p h : List Tuple) → head_less h p ≡ Some true → Replaces (high tuple_cmp p) h h
+unfolding high
+high_keeps p h e y = ap (λ u. cond u (h ++ y) (p ++ (h ++ y))) (under_head h p y true e)
+
+-- one map after another
+pub then_replaced : (f g : List Tuple → List Tuple) (h x z : List Tuple) → Replaces f h x → Replaces g x z → Replaces (λ t. g (f t)) h z
+then_replaced f g h x z r q y = ap g (r y) ∙ q y
+
+pub first_replaced : (s : Spot) (f : List (List Tuple)) (h a z : List Tuple) → slice_get f 0 ≡ Some a → head_less h a ≡ Some true → Replaces (λ x. new_below s (old_below_inverse a x)) h z → Replaces (forward_by s f) h z
+first_replaced s f h a z g n r y = forward_first s f (h ++ y) a g (less_head h a y n) ∙ r y
+
+pub end_replaced : (s : Spot) (f : List (List Tuple)) (h a z : List Tuple) (k : ℕ) → IsFormer f → place_of h f ≡ Err k → k ≡ length f → 0 < k → slice_get f (k - 1) ≡ Some a → Replaces (λ x. new_above s (k - 1) (old_above_inverse a x)) h z → Replaces (forward_by s f) h z
+end_replaced s f h a z k d e m l g r y = forward_end s f (h ++ y) a k d m l g (above_head a h y (gap_below f h k a e l g)) ∙ r y
 
 pub between_replaced : (a b h x z p c q : List Tuple) → p ≡ a ++ (Low ∷ []) → c ≡ old_above_inverse a b → q ≡ pred c ++ (High ∷ []) → Replaces (low_inverse tuple_cmp p) h x → Replaces (high_inverse tuple_cmp q) x z → Replaces (old_between_inverse a b) h z
 between_replaced a b h x z p c q i j k f g y =

@@ -1,23 +1,23 @@
 //! Heads: the first tuples of an identifier. Often they alone decide what a renaming does to it, so that the rest needn't be looked at.
 
-ghost use Rattle.std.specs.Prelude.{◌≡◌, ◌≤◌, length, drop, true, Some, IfOk, IfSome, IsTrue};
+ghost use Rattle.std.specs.List.{All};
+ghost use Rattle.std.specs.Prelude.{◌≡◌, ◌<◌, ◌≤◌, length, drop, true, Some, IfOk, IfSome, IsTrue};
 ghost use Rattle.std.specs.declared.cmp.Ordering.TheVariants.{Less};
 ghost use Rattle.rls_ident.specs.declared.limits.TheConstants.{IDENTIFIERS};
 ghost use Rattle.rls_ident.specs.Tuples.{tuple_cmp};
-ghost use Rattle.rls_ident.specs.Maps.{low_inverse, high_inverse};
-ghost use Rattle.rls_ident.specs.Identifiers.{ident_cmp};
+ghost use Rattle.rls_ident.specs.Maps.{low, high, low_inverse, high_inverse};
+ghost use Rattle.rls_ident.specs.Identifiers.{ident_cmp, is_inner_bounded};
 ghost use Rattle.rls_rename.specs.Heads.{head_less, Replaces};
-ghost use Rattle.rls_rename.specs.Renaming.{IsFormer, forward_by, old_between_inverse};
+ghost use Rattle.rls_rename.specs.Renaming.{IsFormer, forward_by, new_above, new_below, old_above_inverse, old_below_inverse, old_between_inverse};
 
 use crate::gap_maps::{above_pattern, below_pattern, inner_end};
-use crate::new_maps::tuple_at;
+use crate::new_maps::{tuple_at, tuple_before};
 use rls_ident::{Ident, Spot, Tuple};
 use rls_runs::Runs;
 use std::alloc::{AllocError, Global};
 use std::cmp::Ordering;
 
-// What forward puts in the place of the head, by the tuple of the first new identifier, if the head alone decides it. It isn't tried
-// below all former identifiers and above them.
+// What forward puts in the place of the head, by the tuple of the first new identifier, if the head alone decides it.
 pub(crate) fn forward_head(
     alloc: Global,
     former: &Runs,
@@ -31,15 +31,70 @@ pub(crate) fn forward_head(
     let Err(gap) = former.find(head) else {
         return Ok(None);
     };
-    if gap == 0 || gap >= former.total() {
-        return Ok(None);
+    let total = former.total();
+    if gap == 0 {
+        let a = former.get(0)?;
+        let Some(moved) = head_below(alloc, first, &a, head)? else {
+            return Ok(None);
+        };
+        return Ok(Some(moved));
     }
     let a = former.get(gap - 1)?;
+    if gap == total {
+        let Some(moved) = head_above(alloc, first, gap - 1, &a, head)? else {
+            return Ok(None);
+        };
+        return Ok(Some(moved));
+    }
     let b = former.get(gap)?;
     let Some(inner) = head_between(alloc, &a, b, head)? else {
         return Ok(None);
     };
     Ok(Some(inner.prefixed(&[tuple_at(first, gap - 1)])?))
+}
+
+// What forward puts in the place of a head below the first former identifier a, if the head alone decides it, and that it is below a.
+fn head_below(
+    alloc: Global,
+    first: Spot,
+    a: &Ident,
+    head: &Ident,
+) -> Result<Option<Ident>, AllocError>
+    ensures below { IfOk result (λ z. IfSome z (λ z. head_less head.now a.now ≡ Some true)) }
+    ensures replaces { IfOk result (λ z. IfSome z (λ z. Replaces (λ x. new_below first (old_below_inverse a.now x)) head.now z)) }
+{
+    let Some(true) = less(head, &tuples_of(alloc, a)?) else {
+        return Ok(None);
+    };
+    let pattern = below_pattern(alloc, a)?;
+    let Some(rest) = high_rest(&pattern, head.copy()?)? else {
+        return Ok(None);
+    };
+    let Some(moved) = high_put(&[tuple_before(first)], rest)? else {
+        return Ok(None);
+    };
+    Ok(Some(moved))
+}
+
+// What forward puts in the place of a head above the last former identifier a, which is at this place, if the head alone decides it.
+fn head_above(
+    alloc: Global,
+    first: Spot,
+    i: u64,
+    a: &Ident,
+    head: &Ident,
+) -> Result<Option<Ident>, AllocError>
+    requires place { i < IDENTIFIERS }
+    ensures replaces { IfOk result (λ z. IfSome z (λ z. Replaces (λ x. new_above first i (old_above_inverse a.now x)) head.now z)) }
+{
+    let pattern = above_pattern(alloc, a)?;
+    let Some(rest) = low_rest(&pattern, head.copy()?)? else {
+        return Ok(None);
+    };
+    let Some(moved) = low_put(&[tuple_at(first, i)], rest)? else {
+        return Ok(None);
+    };
+    Ok(Some(moved))
 }
 
 // What the inverse of the old map between a and b puts in the place of the head, if the head alone decides it, and that it is below b.
@@ -86,6 +141,32 @@ fn high_rest(pattern: &[Tuple], head: Ident) -> Result<Option<Ident>, AllocError
         None => Ok(None),
         Some(true) => Ok(Some(head)),
         Some(false) => behind(&head, pattern.len()),
+    }
+}
+
+// What the low map puts in the place of the head, if the head alone decides it.
+#[tactic(auto, using(crate::proofs::Replacing::low_puts, crate::proofs::Replacing::low_keeps))]
+fn low_put(pattern: &[Tuple], head: Ident) -> Result<Option<Ident>, AllocError>
+    requires bounded { All (λ t. IsTrue (is_inner_bounded t)) pattern.now }
+    ensures replaces { IfOk result (λ z. IfSome z (λ z. Replaces (low tuple_cmp pattern.now) head z)) }
+{
+    match less(&head, pattern) {
+        None => Ok(None),
+        Some(true) => Ok(Some(head.prefixed(pattern)?)),
+        Some(false) => Ok(Some(head)),
+    }
+}
+
+// What the high map puts in the place of the head, if the head alone decides it.
+#[tactic(auto, using(crate::proofs::Replacing::high_puts, crate::proofs::Replacing::high_keeps))]
+fn high_put(pattern: &[Tuple], head: Ident) -> Result<Option<Ident>, AllocError>
+    requires bounded { All (λ t. IsTrue (is_inner_bounded t)) pattern.now }
+    ensures replaces { IfOk result (λ z. IfSome z (λ z. Replaces (high tuple_cmp pattern.now) head z)) }
+{
+    match less(&head, pattern) {
+        None => Ok(None),
+        Some(true) => Ok(Some(head)),
+        Some(false) => Ok(Some(head.prefixed(pattern)?)),
     }
 }
 

@@ -42,7 +42,7 @@ pub(crate) fn tuple_at(first: Spot, i: u64) -> Tuple
 }
 
 // The tuple before the first one.
-fn tuple_before(first: Spot) -> Tuple
+pub(crate) fn tuple_before(first: Spot) -> Tuple
     ensures tuple { result ≡ at_offset first (negsuc 0) }
     ensures inner { IsTrue (is_inner_bounded result) }
 {
