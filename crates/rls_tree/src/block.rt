@@ -166,11 +166,14 @@ pub(crate) fn part_of_text(
     ensures part { IfOk result (λ part. part ≡ take len (drop from text.now)) }
 {
     let _len = text.len();
-    let mut part = Text::new(alloc);
-    for i in 0..len {
-        part.push(text.get(from + i))?;
-    }
-    Ok(part)
+    let (front, back) = text.as_slices();
+    let end = from + len;
+    let (front_from, front_end) = (from.min(front.len()), end.min(front.len()));
+    let (back_from, back_end) = (from - front_from, end - front_end);
+    let mut part = Vec::with_capacity(alloc, len)?;
+    part.extend_from_slice(&front[front_from..front_end])?;
+    part.extend_from_slice(&back[back_from..back_end])?;
+    Ok(Text::from_vec(part))
 }
 
 // Two runs of which the second goes on with the first, as one.

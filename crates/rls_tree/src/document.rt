@@ -217,7 +217,7 @@ impl BlockTree {
         let _blocks = self.blocks();
         let _chars = self.chars();
         self.are_idents();
-        let (run, text) = self.stretch(at, 4_294_967_295)?;
+        let (run, text) = self.stretch(at, u32::MAX)?;
         let len = run.len();
         let runs = map.map(self.alloc(), &run)?;
         fresh.put_runs(runs.as_slice(), text)?;

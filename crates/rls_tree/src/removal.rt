@@ -172,7 +172,7 @@ impl BlockTree {
         ensures within { IfOk result (λ n. at + n ≤ length (entries_of self.now.blocks)) }
         ensures targets { IfOk result (λ n. AreMembers true targets.now (idents_in (entries_of self.now.blocks)) at (at + n)) }
     {
-        let run = self.run_from(at, 4_294_967_295)?;
+        let run = self.run_from(at, u32::MAX)?;
         let Ok(place) = targets.find(run.first()) else {
             unreachable!()
         };
@@ -197,5 +197,5 @@ pub(crate) fn most_of(left: u64) -> u32
     ensures some { 0 < result }
     ensures most { result ≤ left }
 {
-    left.min(4_294_967_295) as u32
+    left.min(u32::MAX as u64) as u32
 }
