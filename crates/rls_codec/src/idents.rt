@@ -75,12 +75,12 @@ fn last(bytes: &[u8]) -> Result<(Spot, &[u8]), ReadError>
     spot(LEAST_OFFSET, rest)
 }
 
-// How many tuples memory is taken for at once, where there is said to be this many: no more than the bytes hold if each is an `At`.
+// For how many of this many tuples memory is taken at once: for no more than the bytes hold if each is an `At`.
 fn room_for(count: u32, bytes: &[u8]) -> usize {
     (count as usize).min(bytes.len() / AT_BYTES)
 }
 
-// So many tuples that may stand before the last one of an identifier.
+// This many tuples before the last one of an identifier.
 fn inners(alloc: Global, count: u32, bytes: &[u8]) -> Result<(Vec<Tuple>, &[u8]), ReadError>
     ensures read { Gives (λ x. (x.0.items, x.1.now)) result (many_at inner_at count bytes.now) }
     ensures bounded { IfOk result (λ x. All (λ t. IsTrue (is_inner_bounded t)) x.0.items) }

@@ -6,17 +6,17 @@ use Rattle.rls_epoch.specs.declared.placed.Placed.{Placed}
 use Rattle.rls_epoch.specs.declared.ways.Step.{Step}
 use Rattle.rls_epoch.specs.Ways.{led}
 
--- where the steps that are left lead these lists, of which the last one stands first
+-- where the steps that are left lead these lists, of which the last one comes first
 abbrev pub ends : List Placed → List Step → List Part → List (List Tuple)
 ends ps steps [] = []
 ends ps steps (p ∷ parts) = ends ps steps parts ++ map (led ps (drop p.done steps)) p.ids
 
--- each list has identifiers, and has gone so many steps at most
+-- each list has identifiers, and has gone at most n steps
 abbrev pub AreUnderWay : ℕ → List Part → Type 0
 AreUnderWay n [] = Unit {0}
 AreUnderWay n (p ∷ parts) = (0 < length p.ids) × (p.done ≤ n) × AreUnderWay n parts
 
--- so many single steps of single identifiers are left at most, and one more for each identifier
+-- a bound of the single steps of single identifiers that are left, and of the identifiers
 abbrev pub work : ℕ → List Part → ℕ
 work n [] = 0
 work n (p ∷ parts) = work n parts + length p.ids * suc (n - p.done)

@@ -127,7 +127,7 @@ pub(crate) fn runs_moved(
     Ok(moved)
 }
 
-// Puts runs above the last identifier behind it, and joins those that touch.
+// Puts runs above the last identifier after it, and joins those that touch.
 fn append_all(ids: &mut Runs, more: &[Run]) -> Result<(), AllocError>
     requires above { IsTrue (is_increasing (ids.old ++ idents_of more.now)) }
     requires total { length ids.old + length (idents_of more.now) < 2 ^ 64 }

@@ -22,7 +22,7 @@ pub(crate) struct Part {
     pub(crate) done: usize,
 }
 
-// Puts runs that have gone some steps, and now go at least one more, behind other parts. The last runs stand first.
+// Puts runs that have gone some steps, and now go at least one more, after other parts, the last runs first.
 pub(crate) fn push_parts(
     alloc: Global,
     nodes: &[Placed],
