@@ -16,3 +16,6 @@ pub mod Standing
 pub mod Patches
 pub mod Targets
 pub mod Planned
+pub mod Kept
+pub mod Filled
+pub mod Grown

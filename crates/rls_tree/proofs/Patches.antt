@@ -10,8 +10,8 @@ use Rattle.rls_ident.specs.Identifiers.{follows}
 use Rattle.rls_runs.specs.Runs.{run_last}
 use Rattle.rls_runs.proofs.RunOrder.{run_some}
 use Rattle.rls_tree.specs.Edits.{joined, goes_on, are_loose, Shows}
-use Rattle.rls_tree.proofs.Loose.{last_run}
-use Rattle.rls_tree.proofs.Cases.{new_shows, grown_last}
+use Rattle.rls_tree.proofs.Loose.{last_run, last_append}
+use Rattle.rls_tree.proofs.Cases.{new_shows, grown_last, single_chars}
 use Rattle.rls_runs.specs.Entries.{idents_in}
 use Rattle.rls_ident.specs.Identifiers.{shifted}
 use Rattle.rls_tree.specs.Edits.{located}
@@ -241,6 +241,22 @@ begins bs i at b h l e =
         let k = ap (λ xs. length (entries_of xs)) f in
         absurd (omega (arith, k, t, m))
     go j t u false q n p place w = let m = not_lt_is (length (entries_of (around bs i h l).front)) j q in omega (arith, m, n)
+
+-- after the last character of a block another one begins
+pub next_between : (bs : List Piece) (i at : ℕ) (b : Piece) → ArePieces bs → i < length (entries_of bs) → located bs i ≡ Some (b, at) → at + 1 ≡ length b.1 → IsBetween (i + 1) bs × (last_run (before (i + 1) bs) ≡ Some b.0)
+next_between bs i at b h l e m =
+    let r = around bs i h l in
+    let own : r.own ≡ b = ap (λ o. own_of o b) (sym r.there ∙ e) in
+    let place : r.at ≡ at = ap (λ o. place_of o at) (sym r.there ∙ e) in
+    let p = r.place_is in
+    let f = r.front ++ r.own ∷ [] in
+    let all : bs ≡ f ++ r.behind = r.blocks_are ∙ sym (append_assoc r.front (r.own ∷ []) r.behind) in
+    let c = chars_append r.front (r.own ∷ []) in
+    let k = single_chars r.own r.own_is in
+    let o = ap (λ (q : Piece). length q.1) own in
+    let n : length (entries_of f) ≡ i + 1 = omega (arith, p, place, c, k, o, m) in
+    let s : before (i + 1) bs ≡ f = ap (before (i + 1)) all ∙ before_seam f r.behind (i + 1) (are_left f r.behind (subst ArePieces all h)) r.behind_are n in
+    (ap (λ xs. length (entries_of xs)) s ∙ n, ap last_run s ∙ last_append r.front r.own ∙ ap (λ (q : Piece). Some q.0) own)
 
 pub ident_located : (bs : List Piece) (i at : ℕ) (b : Piece) → ArePieces bs → located bs i ≡ Some (b, at) → IsPiece b.0 b.1 → at < length b.1 → slice_get (idents_in (entries_of bs)) i ≡ Some (shifted (pos at) b.0.0)
 ident_located bs i at b h e p l = mapped_at (λ u. u.0) (entries_of bs) i _ (entry_located bs i at b h e ∙ entry_at b at p l)

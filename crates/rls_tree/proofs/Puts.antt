@@ -178,7 +178,7 @@ new_all : (p : Entries) (xs : List (List Tuple)) (es : Entries) → AreBelow (id
 new_all [] xs es m h = h
 new_all (e ∷ p) xs es m h = new_all p xs (put e es) m.1 (new_put e xs es m.0 h)
 
-new_second : (xs ys zs : List (List Tuple)) → AreNew (xs ++ ys) zs → AreNew ys zs
+pub new_second : (xs ys zs : List (List Tuple)) → AreNew (xs ++ ys) zs → AreNew ys zs
 new_second [] ys zs h = h
 new_second (x ∷ xs) ys zs h = new_second xs ys zs h.1
 
@@ -222,13 +222,16 @@ module _ (es : Entries) (b : Piece) (i done : ℕ) (many : length b.1 ≡ b.0.1)
     next_within = let w = ends_within (idents_in es) (run_idents b.0.0 b.0.1) i done first (rising_of (idents_in es) incr) own_rising first_at found in let l = run_length b.0.0 b.0.1 in omega (arith, w, l)
 
     module _ (end : ℕ) (end_is : end ≡ gap_end (run_idents b.0.0 b.0.1) (drop i (idents_in es))) (p : Piece) (p_is : p ≡ part_of done (end - done) b) where
-      part_is : piece_entries p ≡ take (end - done) (drop done (piece_entries b))
+      pub part_is : piece_entries p ≡ take (end - done) (drop done (piece_entries b))
       part_is = ap piece_entries p_is ∙ part_taken b done (end - done) many (let l = next_later in let w = next_within in omega (arith, l, w, end_is))
 
       part_idents : idents_in (piece_entries p) ≡ take (gap_end (run_idents b.0.0 b.0.1) (drop i (idents_in es)) - done) (drop done (run_idents b.0.0 b.0.1))
       part_idents =
           ap idents_in part_is ∙ idents_take (end - done) (drop done (piece_entries b)) ∙ ap (take (end - done)) (idents_drop done (piece_entries b) ∙ ap (drop done) (piece_idents b many))
           ∙ ap (λ n. take (n - done) (drop done (run_idents b.0.0 b.0.1))) end_is
+
+      pub next_below : AreBelow (idents_in (piece_entries p)) (drop i (idents_in es))
+      next_below = subst (λ zs. AreBelow zs (drop i (idents_in es))) (sym part_idents) (part_below (idents_in es) (run_idents b.0.0 b.0.1) i done first (rising_of (idents_in es) incr) own_rising first_at found)
 
       rises : Rising (take i (idents_in es) ++ (idents_in (piece_entries p) ++ drop i (idents_in es)))
       rises =

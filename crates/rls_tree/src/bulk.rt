@@ -18,7 +18,7 @@ use std::alloc::AllocError;
 
 impl BlockTree {
     // How many identifiers of a run stand in front of the one at a place of the tree, where there is one.
-    fn end_of_gap(&self, i: u64, run: &Run) -> Result<u32, AllocError>
+    pub(crate) fn end_of_gap(&self, i: u64, run: &Run) -> Result<u32, AllocError>
         requires place { i ≤ length (entries_of self.now.blocks) }
         ensures end { IfOk result (λ end. end ≡ gap_end (run_idents run.now.0 run.now.1) (drop i (idents_in (entries_of self.now.blocks)))) }
     {

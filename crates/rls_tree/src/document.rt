@@ -47,7 +47,7 @@ impl Document for BlockTree {
         self.place(id)
     }
 
-    /// One run that goes between two neighbours costs a comparison of identifiers for each level, and else as `insert_near`.
+    /// One run that goes between two neighbours costs a comparison of identifiers for each level, and other runs what `insert_near` says.
     fn insert_runs(&mut self, runs: &RunList, text: &Text) -> Result<(), AllocError> {
         self.insert_near(None, runs, text)
     }
@@ -99,8 +99,8 @@ impl BlockTree {
     /// One run that goes between two neighbours costs a step for each level and its own characters; where
     /// it goes into the middle of a run, also those in front of it there or those after it, whichever are
     /// fewer. At the end or at the front of a run that it goes on with it moves none of that run's
-    /// characters; where it joins two runs, those of the shorter one. Other runs are put in one after
-    /// another, in a copy.
+    /// characters; where it joins two runs, those of the shorter one. Other runs cost two comparisons of identifiers for each level and
+    /// each gap into which a part of them goes, their own characters, and those of the runs that are cut there or that they go on with.
     ///
     /// # Errors
     ///
@@ -127,9 +127,10 @@ impl BlockTree {
                 return self.insert_piece(i, own, chars);
             }
         }
-        let mut fresh = self.copy()?;
-        fresh.insert_all(runs.as_slice(), text)?;
-        *self = fresh;
+        let _blocks = self.blocks();
+        let gaps = self.gaps_for(runs.as_slice(), text)?;
+        let patches = self.patches_with(gaps)?;
+        self.put_patches(patches);
         Ok(())
     }
 

@@ -8,6 +8,7 @@ mod bulk;
 mod cut;
 mod document;
 mod insert;
+mod insertion;
 mod node;
 mod patch;
 mod put;

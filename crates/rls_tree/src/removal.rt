@@ -61,7 +61,7 @@ impl BlockTree {
     }
 
     // The place at which the block of a place begins.
-    fn block_start(&self, i: u64) -> u64
+    pub(crate) fn block_start(&self, i: u64) -> u64
         requires place { i < length (entries_of self.now.blocks) }
         ensures between { IsBetween result self.now.blocks }
         ensures order { result ≤ i }
@@ -182,7 +182,7 @@ impl BlockTree {
 }
 
 // Whether the identifier goes on with the last of some blocks, if there is one.
-fn ends_before(blocks: &[Block], first: &Ident) -> bool
+pub(crate) fn ends_before(blocks: &[Block], first: &Ident) -> bool
     ensures goes_on { result ≡ goes_on (run_before None (runs_in blocks.now)) first.now }
 {
     match blocks.last() {

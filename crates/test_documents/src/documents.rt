@@ -5,6 +5,7 @@ ghost use Rattle.rls_doc.specs.Documents.{KeepsOrder};
 ghost use Rattle.rls_rename.specs.Renaming.{forward};
 ghost use Rattle.rls_runs.specs.Runs.{idents_of};
 
+use crate::spelling::{Spelled, run_of};
 use rls_doc::{Document, RunMap, VecDocument};
 use rls_ident::{Ident, Tuple};
 use rls_ops::Text;
@@ -268,6 +269,136 @@ fn both_documents_answer_the_same(rt: HostRuntime) -> Result<(), Fail> {
         assert_eq!(rt; answers, expected, "seed {seed}");
         assert!(rt; tree.total() > 0, "seed {seed}");
     }
+    Ok(())
+}
+
+/// Runs and their characters that are put in one after another, the text that comes of it, and how many runs it has.
+type Row<'a> = (&'a [(&'a [Spelled<'a>], &'a str)], &'a str, u64);
+
+/// Puts runs in, and tells whether none of their identifiers was there.
+fn puts<D: Document>(
+    alloc: Global,
+    document: &mut D,
+    runs: &[Spelled<'_>],
+    characters: &str,
+) -> Result<bool, Fail> {
+    let mut idents = Runs::new(alloc);
+    for run in runs {
+        if idents.total() < 900 {
+            idents.push(run_of(alloc, *run)?)?;
+        }
+    }
+    let text = Text::from_str(alloc, characters)?;
+    if text.len() == 0 || text.len() > 10_000 || idents.total() != text.len() as u64 {
+        return Ok(false);
+    }
+    Ok(replace(alloc, document, &idents, &text)? == 0)
+}
+
+/// Whether the steps of a row lead to its text.
+fn leads<D: Document>(alloc: Global, document: &mut D, row: &Row<'_>) -> Result<bool, Fail> {
+    for (runs, characters) in row.0 {
+        if !puts(alloc, document, runs, characters)? {
+            return Ok(false);
+        }
+    }
+    let text = document.text()?.to_utf8()?;
+    Ok(text.as_str() == row.1 && document.run_count() == row.2)
+}
+
+/// The first row that doesn't lead to its text, in one of the two documents.
+fn fault_among(alloc: Global, rows: &[Row<'_>]) -> Result<Option<usize>, Fail> {
+    for (i, row) in rows.iter().enumerate() {
+        let plain = leads(alloc, &mut VecDocument::new(alloc), row)?;
+        let tree = leads(alloc, &mut BlockTree::new(alloc), row)?;
+        if !plain || !tree {
+            return Ok(Some(i));
+        }
+    }
+    Ok(None)
+}
+
+#[test]
+fn runs_go_into_gaps(rt: HostRuntime) -> Result<(), Fail> {
+    let alloc = rt.alloc();
+    let rows: &[Row<'_>] = &[
+        // a run is cut at two places, and goes on at its end
+        (
+            &[
+                (&[(&[own(1, 0)], 10)], "abcdefghij"),
+                (
+                    &[
+                        (&[own(1, 1), own(2, 0)], 2),
+                        (&[own(1, 5), own(2, 0)], 1),
+                        (&[own(1, 10)], 2),
+                    ],
+                    "XYZkl",
+                ),
+            ],
+            "abXYcdefZghijkl",
+            5,
+        ),
+        // others are between the identifiers of a run
+        (
+            &[
+                (&[(&[own(1, 1), own(2, 0)], 2)], "XY"),
+                (&[(&[own(1, 0)], 4)], "abcd"),
+            ],
+            "abXYcd",
+            3,
+        ),
+        // one run before all, and a gap that is filled
+        (
+            &[
+                (&[(&[own(1, 0)], 2), (&[own(1, 4)], 2)], "abef"),
+                (&[(&[own(1, -3)], 1), (&[own(1, 2)], 2)], "*cd"),
+            ],
+            "*abcdef",
+            2,
+        ),
+        // each new run touches both neighbours
+        (
+            &[
+                (&[(&[own(1, 2)], 1), (&[own(1, 5)], 1)], "cf"),
+                (
+                    &[(&[own(1, 0)], 2), (&[own(1, 3)], 2), (&[own(1, 6)], 2)],
+                    "abdegh",
+                ),
+            ],
+            "abcdefgh",
+            1,
+        ),
+        // a run touches two blocks, of which the second one is cut
+        (
+            &[
+                (&[(&[own(1, 0)], 2), (&[own(1, 5)], 4)], "abfghi"),
+                (&[(&[own(1, 2)], 3), (&[own(1, 6), own(2, 0)], 1)], "cdeX"),
+            ],
+            "abcdefgXhi",
+            3,
+        ),
+        // before and after all, touching nothing
+        (
+            &[
+                (&[(&[own(1, 0)], 2)], "ab"),
+                (&[(&[own(1, -5)], 1), (&[own(1, 9)], 1)], "<>"),
+            ],
+            "<ab>",
+            3,
+        ),
+        // two runs in one gap, of which one touches the block after it
+        (
+            &[
+                (&[(&[own(1, 0)], 1), (&[own(1, 9)], 2)], "ajk"),
+                (&[(&[own(1, 3)], 1), (&[own(1, 8)], 1)], "di"),
+            ],
+            "adijk",
+            3,
+        ),
+        // into nothing
+        (&[(&[(&[own(1, 0)], 1), (&[own(1, 3)], 1)], "ad")], "ad", 2),
+    ];
+    assert_eq!(rt; fault_among(alloc, rows)?, None);
     Ok(())
 }
 

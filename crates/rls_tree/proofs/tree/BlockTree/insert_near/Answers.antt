@@ -1,8 +1,12 @@
-use Rattle.std.proofs.Common.{◌≡◌, ℕ, ◌++◌, true, Option, IfSome, length, take, drop, sym, ap, ◌∙◌, subst}
+use Rattle.std.proofs.Common.{◌≡◌, ℕ, ◌++◌, true, Option, IfSome, length, take, drop, sym, ap, ◌∙◌, subst, arith}
 use Rattle.std.specs.Prelude.{zip}
 use Rattle.std.proofs.lemmas.Result.{on_ok_weaker}
 use Rattle.rls_runs.specs.Runs.{run_idents, idents_of, is_increasing}
 use Rattle.rls_runs.specs.Entries.{idents_in, put_all}
+use Rattle.std.proofs.lemmas.Slice.Zip.{length-zip}
+use Rattle.rls_runs.proofs.Sorted.{length-put_all}
+use Rattle.rls_doc.specs.Documents.{AreNew}
+use Rattle.rls_tree.proofs.Filled.{put_rises}
 use Rattle.rls_runs.proofs.Finding.{run_length}
 use Rattle.rls_tree.specs.Trees.{Piece, entries_of, piece_entries}
 use Rattle.rls_tree.specs.Edits.{inserted}
@@ -66,3 +70,39 @@ returns-in-Some-clause-ok c =
     let own : is_increasing (take i xs ++ (idents_in p ++ drop i xs)) ≡ true = subst (λ zs. is_increasing (take i xs ++ (zs ++ drop i xs)) ≡ true) (sym (piece_idents (r, cs) many)) gap in
     let put : inserted i p es ≡ put_all (zip (idents_of rs) cs) es = sym (put_inserted i p es (rising_of (take i xs ++ (idents_in p ++ drop i xs)) own)) ∙ ap (λ ids. put_all (zip ids cs) es) (sym one) in
     on_ok_weaker c.insert_piece.result (λ e. e ∙ ap (λ (q : Piece). inserted i (piece_entries q) es) is ∙ put) c.insert_piece.ensures.ok
+
+pub patches_with-requires-clause-room : goal.patches_with-requires-clause-room
+patches_with-requires-clause-room c =
+    let es = entries_of c.args.self.now.blocks in
+    let rs = c.as_slice.result.now in
+    let cs = c.args.text.now in
+    let n = ap length c.in_ok-gaps.ensures.filled in
+    let l = length-put_all (zip (idents_of rs) cs) es in
+    let z = length-zip (idents_of rs) cs in
+    omega (arith, n, l, z, c.requires.room)
+
+pub put_patches-requires-clause-chars_fit : goal.put_patches-requires-clause-chars_fit
+put_patches-requires-clause-chars_fit c =
+    let es = entries_of c.args.self.now.blocks in
+    let rs = c.as_slice.result.now in
+    let cs = c.args.text.now in
+    let n = ap length (c.in_ok-patches.ensures.shows.entries_are ∙ c.in_ok-gaps.ensures.filled) in
+    let l = length-put_all (zip (idents_of rs) cs) es in
+    let z = length-zip (idents_of rs) cs in
+    omega (arith, n, l, z, c.requires.room)
+
+pub put_patches-requires-clause-loose : goal.put_patches-requires-clause-loose
+put_patches-requires-clause-loose c = c.in_ok-patches.ensures.shows.loose
+
+pub put_patches-requires-clause-rises : goal.put_patches-requires-clause-rises
+put_patches-requires-clause-rises c =
+    let es = entries_of c.args.self.now.blocks in
+    let rs = c.as_slice.result.now in
+    let e = c.as_slice.ensures.runs in
+    ap (λ zs. is_increasing (idents_in zs)) (c.in_ok-patches.ensures.shows.entries_are ∙ c.in_ok-gaps.ensures.filled)
+    ∙ put_rises (idents_of rs) c.args.text.now es (ap (λ qs. length (idents_of qs)) e ∙ c.requires.as_many) (ap (λ qs. is_increasing (idents_of qs)) e ∙ c.requires.rises) (subst (λ qs. AreNew (idents_of qs) (idents_in es)) (sym e) c.requires.new) c.blocks-blocks.ensures.rises
+
+pub returns-clause-ok : goal.returns-clause-ok
+returns-clause-ok c =
+    ap entries_of c.put_patches.ensures.blocks ∙ c.in_ok-patches.ensures.shows.entries_are ∙ c.in_ok-gaps.ensures.filled
+    ∙ ap (λ qs. put_all (zip (idents_of qs) c.args.text.now) (entries_of c.args.self.now.blocks)) c.as_slice.ensures.runs

@@ -5,7 +5,7 @@ use Rattle.rls_runs.proofs.Sorted.{Entry}
 use Rattle.rls_tree.specs.Trees.{entries_of}
 use Rattle.rls_tree.proofs.Puts.{taken_length}
 use Rattle.rls_tree.proofs.Without.{filter_short}
-use Rattle.rls_tree.proofs.Planned.{without_more}
+use Rattle.rls_tree.proofs.Kept.{without_more}
 use Rattle.rls_tree.proofs.tree.BlockTree.patch_from.Goals as goal
 
 pub loop-blocks-preserved : goal.loop-blocks-preserved
