@@ -1,7 +1,7 @@
 -- Patches that take characters out.
 use Rattle.std.proofs.Common.{◌≡◌, ℕ, suc, ◌+◌, ◌-◌, ◌<◌, ◌≤◌, Bool, true, false, cond, List, [], ◌∷◌, ◌++◌, length, take, drop, get_or, Some, None, slice_get, refl, sym, ap, ◌∙◌, subst, arith, length-drop}
 use Rattle.std.specs.Prelude.{not, nat_lt}
-use Rattle.std.proofs.lemmas.List.{append-nil, take-append-drop, take_all, drop-drop}
+use Rattle.std.proofs.lemmas.List.{take-append-drop, take_all, drop-drop}
 use Rattle.std.proofs.lemmas.Option.{slice_get-get_or}
 use Rattle.std.proofs.Math.Seq.{take-add}
 use Rattle.rls_ident.specs.declared.tuple.Tuple.{Tuple}
@@ -11,7 +11,7 @@ use Rattle.rls_runs.proofs.Sorted.{Entry}
 use Rattle.rls_tree.specs.declared.patch.Patch.{Patch}
 use Rattle.rls_tree.specs.Trees.{Piece, ArePieces, entries_of, runs_in}
 use Rattle.rls_tree.specs.Edits.{leads_to, are_loose, Shows}
-use Rattle.rls_tree.specs.Patches.{before, after, IsBetween, patched, ArePatches, AreMembers}
+use Rattle.rls_tree.specs.Patches.{before, after, IsBetween, patched, AreMembers}
 use Rattle.rls_tree.proofs.Loose.{last_run}
 use Rattle.rls_tree.proofs.Located.{mapped_at}
 use Rattle.rls_tree.proofs.Puts.{headed}

@@ -1,5 +1,4 @@
 use Rattle.std.proofs.Common.{◌≡◌, ◌+◌, ◌-◌, ◌++◌, ◌∷◌, length, take, drop, sym, ap, ◌∙◌, subst, arith, append_assoc, length-append}
-use Rattle.rls_runs.specs.Entries.{Entries}
 use Rattle.rls_tree.specs.Trees.{Piece, entries_of, piece_entries}
 use Rattle.rls_tree.specs.Gaps.{filled, is_gap, AreGaps}
 use Rattle.rls_tree.proofs.Pieces.{piece_length, piece_some}

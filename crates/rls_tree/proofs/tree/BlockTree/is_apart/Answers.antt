@@ -1,4 +1,4 @@
-use Rattle.std.proofs.Common.{◌≡◌, ◌+◌, ◌-◌, None, false, length, sym, ap, ◌∙◌, subst, arith}
+use Rattle.std.proofs.Common.{◌≡◌, ◌-◌, None, length, sym, ap, ◌∙◌, subst, arith}
 use Rattle.rls_ident.proofs.Members.{not_is}
 use Rattle.rls_runs.specs.Runs.{run_before}
 use Rattle.rls_tree.specs.Trees.{entries_of, runs_in}

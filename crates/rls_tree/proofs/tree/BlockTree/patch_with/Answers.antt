@@ -1,4 +1,4 @@
-use Rattle.std.proofs.Common.{◌+◌, ◌-◌, ◌++◌, length, drop, ap, ◌∙◌, arith, length-append}
+use Rattle.std.proofs.Common.{length, drop, ap, ◌∙◌, arith, length-append}
 use Rattle.rls_tree.specs.Trees.{entries_of}
 use Rattle.rls_tree.specs.Gaps.{filled}
 use Rattle.rls_tree.proofs.Filled.{gap_within, gaps_within}

@@ -1,9 +1,8 @@
-use Rattle.std.proofs.Common.{◌≡◌, ◌+◌, ◌-◌, ◌++◌, ◌∷◌, [], length, take, drop, Err, sym, ap, ◌∙◌, subst, arith}
+use Rattle.std.proofs.Common.{◌≡◌, ◌+◌, ◌-◌, ◌++◌, ◌∷◌, [], length, take, drop, sym, ap, ◌∙◌, subst, arith}
 use Rattle.std.specs.Prelude.{pos}
 use Rattle.std.proofs.lemmas.List.{take-append-drop}
 use Rattle.rls_ident.specs.Identifiers.{shifted}
-use Rattle.rls_runs.specs.Runs.{place_of}
-use Rattle.rls_runs.specs.Entries.{Entries, idents_in}
+use Rattle.rls_runs.specs.Entries.{idents_in}
 use Rattle.rls_doc.specs.Documents.{AreNew}
 use Rattle.rls_tree.specs.declared.insertion.Gap.{Gap}
 use Rattle.rls_tree.specs.Trees.{Piece, entries_of, piece_entries}

@@ -1,4 +1,4 @@
-use Rattle.std.proofs.Common.{◌≡◌, ◌++◌, [], drop, ap, subst, arith}
+use Rattle.std.proofs.Common.{◌≡◌, ◌++◌, [], drop, subst, arith}
 use Rattle.std.proofs.Math.ListN.{drop_of_length-le}
 use Rattle.rls_tree.specs.Trees.{Piece, entries_of, piece_entries}
 use Rattle.rls_tree.specs.Gaps.{Leaves}
