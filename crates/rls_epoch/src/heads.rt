@@ -17,7 +17,15 @@ use std::alloc::{AllocError, Global};
 // The number of first tuples that are tried first.
 const FEWEST: usize = 2;
 
-// Whether the first tuples of a long run alone decide a step.
+// The most tuples of a run that is copied at each step together with others.
+const MOST_TOGETHER: usize = 16;
+
+// The most tuples with which a run, the last of so many, is copied at each step.
+pub(crate) fn most_copied(runs: usize) -> usize {
+    if runs > 1 { MOST_TOGETHER } else { FEWEST }
+}
+
+// Whether the first tuples of a long run alone decide a step. It is asked of a run beside others.
 pub(crate) fn is_decided(
     alloc: Global,
     nodes: &[Placed],
@@ -26,26 +34,27 @@ pub(crate) fn is_decided(
 ) -> Result<bool, AllocError>
     requires within { place_of_step step < length nodes.now }
 {
-    if run.first().len() <= FEWEST {
+    if run.first().len() <= MOST_TOGETHER {
         return Ok(false);
     }
     let mut turned = turned_tuples(alloc, run.first())?;
     move_head(alloc, nodes, step, &mut turned)
 }
 
-// A run a few steps on, and how many steps, if its first tuples alone decide the first step.
+// A run a few steps on, and how many steps, if it has more tuples than this and its first ones alone decide the first step.
 pub(crate) fn run_ahead(
     alloc: Global,
     nodes: &[Placed],
     steps: &[Step],
     run: &Run,
+    most: usize,
 ) -> Result<Option<(Runs, usize)>, AllocError>
     requires within { AreWithin (length nodes.now) steps.now }
     ensures some { IfOk result (λ ahead. IfSome ahead (λ r. 0 < r.1)) }
     ensures within { IfOk result (λ ahead. IfSome ahead (λ r. r.1 ≤ length steps.now)) }
     ensures led { IfOk result (λ ahead. IfSome ahead (λ r. map (led nodes.now (drop r.1 steps.now)) r.0 ≡ map (led nodes.now steps.now) (run_idents run.now.0 run.now.1))) }
 {
-    if run.first().len() <= FEWEST {
+    if run.first().len() <= most {
         return Ok(None);
     }
     let mut turned = turned_tuples(alloc, run.first())?;

@@ -8,7 +8,7 @@ ghost use Rattle.rls_epoch.specs.Parts.{ends, work, AreUnderWay};
 ghost use Rattle.rls_epoch.specs.Seen.{nodes_of};
 ghost use Rattle.rls_epoch.specs.Ways.{AreWithin, place_of_step, led};
 
-use crate::heads::{is_decided, run_ahead};
+use crate::heads::{is_decided, most_copied, run_ahead};
 use crate::images::runs_moved;
 use crate::placed::Placed;
 use crate::ways::Step;
@@ -77,7 +77,13 @@ fn last_part(
 {
     let end = runs.len() - 1;
     let _len = runs[end].len();
-    if let Some((ids, count)) = run_ahead(alloc, nodes, steps, &runs[end])? {
+    if let Some((ids, count)) = run_ahead(
+        alloc,
+        nodes,
+        steps,
+        &runs[end],
+        most_copied(runs.len()),
+    )? {
         return Ok((end, ids, count));
     }
     let start = group_start(alloc, nodes, steps[0], runs)?;
