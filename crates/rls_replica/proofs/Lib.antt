@@ -2,6 +2,7 @@ pub mod Whole
 pub mod Cut
 pub mod Targets
 pub mod Changes
+pub mod SameEpoch
 pub mod Accepted
 pub mod Answered
 pub mod Courses

@@ -5,7 +5,7 @@ ghost use Rattle.rls_ident.specs.declared.limits.TheConstants.{IDENTIFIERS};
 ghost use Rattle.rls_ident.specs.Identifiers.{last_of};
 ghost use Rattle.rls_ident.specs.Tuples.{offset_of};
 ghost use Rattle.rls_runs.specs.Entries.{put_all, without_all};
-ghost use Rattle.rls_runs.specs.Runs.{run_idents, past_offsets};
+ghost use Rattle.rls_runs.specs.Runs.{run_idents, past_offsets, IsImage};
 ghost use Rattle.rls_rename.specs.Tree.{is_kept, greatest, translate};
 ghost use Rattle.rls_ops.specs.declared.op.Body.TheVariants.{Rename};
 ghost use Rattle.rls_model.specs.Epochs.{renaming_of};
@@ -23,7 +23,7 @@ use rls_epoch::Epochs;
 use rls_ident::{EpochName, Ident};
 use rls_ops::{Body, Op};
 use rls_rename::{Renaming, RenamingError};
-use rls_runs::{Run, Runs, Text};
+use rls_runs::{Run, RunList, Runs, Text};
 use rls_stable::{Acks, Log};
 use rls_stems::StemTable;
 use rls_tree::BlockTree;
@@ -138,7 +138,7 @@ fn change(
 {
     match &op.body {
         Body::Insert { first, text } => {
-            insert(document, epochs, op.epoch, first, text, near)?;
+            insert(alloc, document, epochs, op.epoch, first, text, near)?;
             Ok(None)
         }
         Body::Delete { targets } => {
@@ -155,6 +155,7 @@ fn change(
 
 // Adds the characters of an insertion.
 fn insert(
+    alloc: Global,
     document: &mut BlockTree,
     epochs: &Epochs,
     epoch: EpochName,
@@ -167,8 +168,28 @@ fn insert(
     ensures err { OnErr result (entries_of document.new.blocks ≡ entries_of document.old.blocks) }
 {
     let run = run_of(first, text.len() as u32)?;
-    let runs = epochs.translate_run(epoch, epochs.greatest(), &run)?;
+    let runs = images_of(alloc, epochs, epoch, run)?;
     document.insert_near(near, &runs, text)
+}
+
+// The identifiers of a run of this epoch in the greatest one, as runs. If it is the greatest, the run is moved.
+fn images_of(
+    alloc: Global,
+    epochs: &Epochs,
+    epoch: EpochName,
+    run: Run,
+) -> Result<RunList, AllocError>
+    requires kept { IsTrue (is_kept epochs.now.epochs.top epochs.now.epochs.nodes epoch) }
+    ensures images { IfOk result (λ runs. IsImage (translate epochs.now.epochs.nodes epoch (greatest epochs.now.epochs.top epochs.now.epochs.nodes)) run runs) }
+{
+    let _len = run.len();
+    let greatest = epochs.greatest();
+    if !epoch.same(&greatest) {
+        return epochs.translate_run(epoch, greatest, &run);
+    }
+    let mut runs = RunList::new(alloc);
+    runs.push(run)?;
+    Ok(runs)
 }
 
 fn run_of(first: &Ident, len: u32) -> Result<Run, AllocError>
@@ -193,6 +214,10 @@ fn delete(
     ensures ok { OnOk result (entries_of document.new.blocks ≡ without_all (map (translate epochs.now.epochs.nodes epoch (greatest epochs.now.epochs.top epochs.now.epochs.nodes)) targets.now) (entries_of document.old.blocks)) }
     ensures err { OnErr result (entries_of document.new.blocks ≡ entries_of document.old.blocks) }
 {
+    if epoch.same(&epochs.greatest()) {
+        let _removed = document.remove_all(targets)?;
+        return Ok(());
+    }
     let images = epochs.translate_runs(epoch, epochs.greatest(), targets)?;
     let _removed = document.remove_all(&images)?;
     Ok(())
