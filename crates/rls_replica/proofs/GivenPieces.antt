@@ -1,13 +1,11 @@
 -- The replica that has given parts, piece by piece.
-use Rattle.std.proofs.Common.{◌≡◌, ℕ, zero, suc, ◌+◌, ◌*◌, ◌^◌, ◌<◌, ◌≤◌, ◌&&◌, ◌||◌, ◌==◌, Bool, true, false, List, [], ◌∷◌, ◌++◌, length, map, get_or, take, drop, refl, sym, ap, ◌∙◌, subst, arith, inl, inr, ◌⊎◌, ⊎_elim, Option, Some, None, add-one, if◌then◌else◌}
-use Rattle.std.specs.Prelude.{nat_lt, find, zip, IfOk, Result, Ok, Err}
-use Rattle.std.proofs.lemmas.List.{map-append}
+use Rattle.std.proofs.Common.{append_assoc, append-nil, ◌≡◌, ℕ, zero, suc, ◌+◌, ◌<◌, ◌&&◌, ◌==◌, true, false, List, [], ◌∷◌, ◌++◌, length, map, get_or, take, refl, sym, ap, ◌∙◌, subst, arith, inl, inr, ⊎_elim, None, if◌then◌else◌}
+use Rattle.std.specs.Prelude.{nat_lt, zip, IfOk, Result, Ok, Err}
 use Rattle.std.specs.List.{list_all}
-use Rattle.rls_ident.specs.declared.tuple.Tuple.{Tuple}
 use Rattle.rls_ident.specs.Lists.{IsIn}
-use Rattle.rls_ident.proofs.Members.{all_in, and_left, and_right, and_true, eq_is, in_all, lt_is, none_found, not_true, or_split, snoc_split}
+use Rattle.rls_ident.proofs.Members.{and_left, and_right, and_true, eq_is, in_all, lt_is, none_found, not_true, or_split, snoc_split}
 use Rattle.rls_runs.specs.Entries.{Entries}
-use Rattle.rls_runs.specs.Runs.{is_run, run_idents}
+use Rattle.rls_runs.specs.Runs.{run_idents}
 use Rattle.rls_ops.specs.declared.op.Op.{Op}
 use Rattle.rls_ops.specs.Waiting.{comes_before, is_in_order, is_numbered, waiting_under, with_waiting}
 use Rattle.rls_model.specs.declared.parts.TextRun.{TextRun}
@@ -38,12 +36,6 @@ take_more {A = A} xs i d l = let one : i + 1 ≡ suc i = omega arith in ap (λ k
     go (y ∷ ys) zero l = refl
     go (y ∷ ys) (suc i) l = ap (λ zs. y ∷ zs) (go ys i (omega arith))
 
-pub take_whole : {A : Type 0} (xs : List A) (i : ℕ) → length xs ≤ i → take i xs ≡ xs
-take_whole [] zero l = refl
-take_whole [] (suc i) l = refl
-take_whole (x ∷ xs) zero l = absurd (omega arith)
-take_whole (x ∷ xs) (suc i) l = ap (λ ys. x ∷ ys) (take_whole xs i (omega arith))
-
 -- what holds of those so far and of the next one
 pub each_more : {A : Type 0} (P : A → Type 0) (xs : List A) (i : ℕ) (d : A) → i < length xs → ((x : A) → IsIn x (take i xs) → P x) → P (get_or xs i d) → (x : A) → IsIn x (take (i + 1) xs) → P x
 each_more P xs i d l f h x q = ⊎_elim (λ p. f x p) (λ e. subst P e h) (snoc_split x (get_or xs i d) (take i xs) (subst (IsIn x) (take_more xs i d l) q))
@@ -61,13 +53,19 @@ pub pieces_runs : (rs : List TextRun) → runs_in (map piece_of rs) ≡ map (λ 
 pieces_runs [] = refl
 pieces_runs (r ∷ rs) = ap (λ xs. r.run ∷ xs) (pieces_runs rs)
 
-pub map_more : (rs : List TextRun) (i : ℕ) (d : TextRun) → i < length rs → map piece_of (take (i + 1) rs) ≡ map piece_of (take i rs) ++ piece_of (get_or rs i d) ∷ []
-map_more rs i d l = ap (map piece_of) (take_more rs i d l) ∙ map-append piece_of (take i rs) (get_or rs i d ∷ [])
+-- one more of those that are moved, and all of them
+pub pieces_moved : (bs new : List Piece) (r : TextRun) (rest all : List TextRun) → bs ++ map piece_of (r ∷ rest) ≡ map piece_of all → new ≡ bs ++ piece_of r ∷ [] → new ++ map piece_of rest ≡ map piece_of all
+pieces_moved bs new r rest all h e = ap (λ xs. xs ++ map piece_of rest) e ∙ (append_assoc bs (piece_of r ∷ []) (map piece_of rest) ∙ h)
 
-pub text_there : (rs : List TextRun) (i : ℕ) (d : TextRun) → HaveTexts rs → i < length rs → length (get_or rs i d).text ≡ (get_or rs i d).run.1
-text_there [] i d h l = absurd (omega arith)
-text_there (r ∷ rs) zero d h l = h.0
-text_there (r ∷ rs) (suc i) d h l = text_there rs i d h.1 (omega arith)
+pub all_moved : (bs : List Piece) (left all : List TextRun) → bs ++ map piece_of left ≡ map piece_of all → length left ≡ 0 → bs ≡ map piece_of all
+all_moved bs [] all h l = sym (append-nil bs) ∙ h
+all_moved bs (r ∷ rs) all h l = absurd (omega arith)
+
+pub texts_first : (r : TextRun) (rest : List TextRun) → HaveTexts (r ∷ rest) → length r.text ≡ r.run.1
+texts_first r rest h = h.0
+
+pub texts_rest : (r : TextRun) (rest : List TextRun) → HaveTexts (r ∷ rest) → HaveTexts rest
+texts_rest r rest h = h.1
 
 -- ---- waiting operations
 

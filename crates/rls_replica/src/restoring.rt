@@ -48,17 +48,24 @@ impl Replica {
             stems,
             epochs,
         } = test_all(alloc, &parts)?;
-        let document = document(alloc, parts.text.as_slice())?;
-        let held = held(alloc, parts.held.as_slice())?;
+        let Parts {
+            group,
+            text,
+            log,
+            held: waiting,
+            ..
+        } = parts;
+        let document = document(alloc, text.into_vec())?;
+        let held = held(alloc, waiting.as_slice())?;
         Ok(Replica {
             alloc,
-            group: parts.group,
+            group,
             acks,
             stems,
             epochs,
             document,
             held,
-            log: Log::of(parts.log),
+            log: Log::of(log),
         })
     }
 }
@@ -106,16 +113,17 @@ fn ops_fit(ops: &[Op])
 }
 
 // The tree of these runs.
-fn document(alloc: Global, runs: &[TextRun]) -> Result<BlockTree, AllocError>
-    requires texts { HaveTexts runs.now }
-    requires apart { IsTrue (are_apart None (map (λ r. r.run) runs.now)) }
-    requires few { length runs.now < 2 ^ 32 }
-    ensures text { IfOk result (λ tree. entries_of tree.blocks ≡ entries_in runs.now) }
+fn document(alloc: Global, runs: Vec<TextRun>) -> Result<BlockTree, AllocError>
+    requires texts { HaveTexts runs.items }
+    requires apart { IsTrue (are_apart None (map (λ r. r.run) runs.items)) }
+    requires few { length runs.items < 2 ^ 32 }
+    ensures text { IfOk result (λ tree. entries_of tree.blocks ≡ entries_in runs.items) }
 {
-    runs_fit(runs);
+    runs_fit(&runs);
     let mut blocks = Vec::with_capacity(alloc, runs.len())?;
     for entry in runs {
-        blocks.push(Block::new(entry.run.copy()?, entry.text.copy()?))?;
+        let TextRun { run, text } = entry;
+        blocks.push(Block::new(run, text))?;
     }
     BlockTree::of_blocks(alloc, blocks)
 }

@@ -1,4 +1,4 @@
-use Rattle.std.proofs.Common.{◌≡◌, true, map, sym, ap, ◌∙◌, subst}
+use Rattle.std.proofs.Common.{◌≡◌, true, map, subst}
 use Rattle.std.specs.List.{list_all}
 use Rattle.rls_runs.specs.Runs.{is_run}
 use Rattle.rls_model.specs.declared.parts.TextRun.{TextRun}
