@@ -1,4 +1,5 @@
 pub mod Alike
 pub mod Files
+pub mod Kept
 pub mod Meant
 pub mod Statuses

@@ -1,5 +1,5 @@
 -- Which status is whose, and which line goes with it.
-use Rattle.std.proofs.Common.{◌≡◌, ◌∙◌, ◌<◌, ◌||◌, ◌==◌, ℕ, Bool, true, false, eqb, List, Option, Some, None, IfSome, refl, sym, ap, subst, inl, inr, lit<, arith}
+use Rattle.std.proofs.Common.{◌≡◌, ◌∙◌, ◌<◌, ◌⊎◌, ◌||◌, ◌==◌, ℕ, Bool, true, false, eqb, List, Option, Some, None, IfSome, refl, sym, ap, subst, inl, inr, lit<, arith}
 use Rattle.std.proofs.lemmas.Bool.Decides.{nat_tests}
 use Rattle.rls_report.specs.declared.failures.CommandError.{CommandError}
 use Rattle.rls_report.specs.declared.failures.CommandError.TheVariants as errors
@@ -61,45 +61,44 @@ not_failure f n k s h none = let yes : is_failure k ≡ true = subst (λ m. is_f
     is_one (Fault Sink) s = at 9 s refl
     is_one (Fault Memory) s = at 10 s refl
 
+-- no failure but this one has the status j
+record IsAlone (f : Failure) (j : ℕ) : Type 0 where
+  error : is_error j ≡ false
+  memory : eqb 10 j ≡ false
+  usage : (eqb 1 j ≡ false) ⊎ (NoCommand ≡ f)
+  keeper : (eqb 7 j ≡ false) ⊎ (Fault Keeper ≡ f)
+  source : (eqb 8 j ≡ false) ⊎ (Fault Source ≡ f)
+  sink : (eqb 9 j ≡ false) ⊎ (Fault Sink ≡ f)
+
+failure_alone : {f : Failure} {j : ℕ} → IsAlone f j → (g : Failure) (n : ℕ) → IsFailureStatus g n → n ≡ j → g ≡ f
+failure_alone {f} {j} alone g n s h = go g s
+  where
+    this : (k : ℕ) (g : Failure) → (eqb k j ≡ false) ⊎ (g ≡ f) → n ≡ k → g ≡ f
+    this k g (inl other) e = apart n k j e h other
+    this k g (inr same) e = same
+
+    go : (g : Failure) → IsFailureStatus g n → g ≡ f
+    go NoCommand (inl s) = this 1 NoCommand alone.usage s
+    go NoCommand (inr s) = apart n 10 j s h alone.memory
+    go (Command e) (inl s) = not_error e n j s h alone.error
+    go (Command e) (inr s) = apart n 10 j s h alone.memory
+    go (Fault Keeper) s = this 7 (Fault Keeper) alone.keeper s
+    go (Fault Source) s = this 8 (Fault Source) alone.source s
+    go (Fault Sink) s = this 9 (Fault Sink) alone.sink s
+    go (Fault Memory) s = apart n 10 j s h alone.memory
+
 -- the failure of a status that has one alone
 pub failure_at_1 : (f : Failure) (n : ℕ) → IsFailureStatus f n → n ≡ 1 → f ≡ NoCommand
-failure_at_1 NoCommand n s h = refl
-failure_at_1 (Command e) n (inl s) h = not_error e n 1 s h refl
-failure_at_1 (Command e) n (inr s) h = apart n 10 1 s h refl
-failure_at_1 (Fault Keeper) n s h = apart n 7 1 s h refl
-failure_at_1 (Fault Source) n s h = apart n 8 1 s h refl
-failure_at_1 (Fault Sink) n s h = apart n 9 1 s h refl
-failure_at_1 (Fault Memory) n s h = apart n 10 1 s h refl
+failure_at_1 = failure_alone (record { error = refl; memory = refl; usage = inr refl; keeper = inl refl; source = inl refl; sink = inl refl })
 
 pub failure_at_7 : (f : Failure) (n : ℕ) → IsFailureStatus f n → n ≡ 7 → f ≡ Fault Keeper
-failure_at_7 NoCommand n (inl s) h = apart n 1 7 s h refl
-failure_at_7 NoCommand n (inr s) h = apart n 10 7 s h refl
-failure_at_7 (Command e) n (inl s) h = not_error e n 7 s h refl
-failure_at_7 (Command e) n (inr s) h = apart n 10 7 s h refl
-failure_at_7 (Fault Keeper) n s h = refl
-failure_at_7 (Fault Source) n s h = apart n 8 7 s h refl
-failure_at_7 (Fault Sink) n s h = apart n 9 7 s h refl
-failure_at_7 (Fault Memory) n s h = apart n 10 7 s h refl
+failure_at_7 = failure_alone (record { error = refl; memory = refl; usage = inl refl; keeper = inr refl; source = inl refl; sink = inl refl })
 
 pub failure_at_8 : (f : Failure) (n : ℕ) → IsFailureStatus f n → n ≡ 8 → f ≡ Fault Source
-failure_at_8 NoCommand n (inl s) h = apart n 1 8 s h refl
-failure_at_8 NoCommand n (inr s) h = apart n 10 8 s h refl
-failure_at_8 (Command e) n (inl s) h = not_error e n 8 s h refl
-failure_at_8 (Command e) n (inr s) h = apart n 10 8 s h refl
-failure_at_8 (Fault Keeper) n s h = apart n 7 8 s h refl
-failure_at_8 (Fault Source) n s h = refl
-failure_at_8 (Fault Sink) n s h = apart n 9 8 s h refl
-failure_at_8 (Fault Memory) n s h = apart n 10 8 s h refl
+failure_at_8 = failure_alone (record { error = refl; memory = refl; usage = inl refl; keeper = inl refl; source = inr refl; sink = inl refl })
 
 pub failure_at_9 : (f : Failure) (n : ℕ) → IsFailureStatus f n → n ≡ 9 → f ≡ Fault Sink
-failure_at_9 NoCommand n (inl s) h = apart n 1 9 s h refl
-failure_at_9 NoCommand n (inr s) h = apart n 10 9 s h refl
-failure_at_9 (Command e) n (inl s) h = not_error e n 9 s h refl
-failure_at_9 (Command e) n (inr s) h = apart n 10 9 s h refl
-failure_at_9 (Fault Keeper) n s h = apart n 7 9 s h refl
-failure_at_9 (Fault Source) n s h = apart n 8 9 s h refl
-failure_at_9 (Fault Sink) n s h = refl
-failure_at_9 (Fault Memory) n s h = apart n 10 9 s h refl
+failure_at_9 = failure_alone (record { error = refl; memory = refl; usage = inl refl; keeper = inl refl; source = inl refl; sink = inr refl })
 
 -- each failure has a status below 12
 below_twelve : (e : CommandError) → error_status e < 12
