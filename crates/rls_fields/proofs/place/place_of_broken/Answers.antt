@@ -6,10 +6,7 @@ use Rattle.rls_fields.proofs.PlaceSums.{at_row, at_stem, at_epoch, at_text_run, 
 use Rattle.rls_fields.proofs.place.place_of_broken.Goals as goal
 
 pub returns-in-1 : goal.returns-in-1
-returns-in-1 c =
-    let place = named c.args.form c.args.parts.now c.args.rule 1 c.args.index c.in-1.is ∙ at_row c.args.form c.args.parts.now c.args.index in
-    let front = ap (sum_by row_size) (c.front.ensures.front ∙ ap (take c.args.index) c.as_slice.ensures.rows) in
-    record { place = omega (arith, place, front) }
+returns-in-1 c = record { place = omega (arith, named c.args.form c.args.parts.now c.args.rule 1 c.args.index c.in-1.is ∙ at_row c.args.form c.args.parts.now c.args.index, ap (sum_by row_size) (c.front.ensures.front ∙ ap (take c.args.index) c.as_slice.ensures.rows)) }
 
 pub returns-in-2 : goal.returns-in-2
 returns-in-2 c =
@@ -17,32 +14,19 @@ returns-in-2 c =
     record { place = c.before_stem.ensures.before ∙ ap (λ n. min n (2 ^ 64 - 1)) (sym place) }
 
 pub returns-in-3 : goal.returns-in-3
-returns-in-3 c =
-    let place = named c.args.form c.args.parts.now c.args.rule 3 c.args.index c.in-3.is ∙ at_epoch c.args.form c.args.parts.now c.args.index in
-    let front = ap (sum_by epoch_size) (c.front-in-3.ensures.front ∙ ap (take c.args.index) c.as_slice-in-3.ensures.epochs) in
-    record { place = omega (arith, place, front) }
+returns-in-3 c = record { place = omega (arith, named c.args.form c.args.parts.now c.args.rule 3 c.args.index c.in-3.is ∙ at_epoch c.args.form c.args.parts.now c.args.index, ap (sum_by epoch_size) (c.front-in-3.ensures.front ∙ ap (take c.args.index) c.as_slice-in-3.ensures.epochs)) }
 
 pub returns-in-4 : goal.returns-in-4
-returns-in-4 c =
-    let place = named c.args.form c.args.parts.now c.args.rule 4 c.args.index c.in-4.is ∙ at_text_run c.args.form c.args.parts.now c.args.index in
-    let front = ap (sum_by text_run_size) (c.front-in-4.ensures.front ∙ ap (take c.args.index) c.as_slice-in-4.ensures.runs) in
-    record { place = omega (arith, place, front) }
+returns-in-4 c = record { place = omega (arith, named c.args.form c.args.parts.now c.args.rule 4 c.args.index c.in-4.is ∙ at_text_run c.args.form c.args.parts.now c.args.index, ap (sum_by text_run_size) (c.front-in-4.ensures.front ∙ ap (take c.args.index) c.as_slice-in-4.ensures.runs)) }
 
 pub returns-in-5 : goal.returns-in-5
-returns-in-5 c =
-    let place = named c.args.form c.args.parts.now c.args.rule 5 c.args.index c.in-5.is ∙ at_logged c.args.form c.args.parts.now c.args.index in
-    let front = ap (sum_by op_size) (c.front-in-5.ensures.front ∙ ap (take c.args.index) c.as_slice-in-5.ensures.ops) in
-    record { place = omega (arith, place, front) }
+returns-in-5 c = record { place = omega (arith, named c.args.form c.args.parts.now c.args.rule 5 c.args.index c.in-5.is ∙ at_logged c.args.form c.args.parts.now c.args.index, ap (sum_by op_size) (c.front-in-5.ensures.front ∙ ap (take c.args.index) c.as_slice-in-5.ensures.ops)) }
 
 pub returns-in-6 : goal.returns-in-6
-returns-in-6 c =
-    let place = named c.args.form c.args.parts.now c.args.rule 6 c.args.index c.in-6.is ∙ at_log c.args.form c.args.parts.now c.args.index in
-    record { place = omega (arith, place) }
+returns-in-6 c = record { place = omega (arith, named c.args.form c.args.parts.now c.args.rule 6 c.args.index c.in-6.is ∙ at_log c.args.form c.args.parts.now c.args.index) }
 
 pub returns-in-7 : goal.returns-in-7
-returns-in-7 c =
-    let place = named c.args.form c.args.parts.now c.args.rule 7 c.args.index c.in-7.is ∙ at_epochs c.args.form c.args.parts.now c.args.index in
-    record { place = omega (arith, place) }
+returns-in-7 c = record { place = omega (arith, named c.args.form c.args.parts.now c.args.rule 7 c.args.index c.in-7.is ∙ at_epochs c.args.form c.args.parts.now c.args.index) }
 
 pub returns-in_default : goal.returns-in_default
 returns-in_default c =

@@ -13,9 +13,5 @@ loop-i-preserved-then-op-get c =
 
 pub loop-i-preserved : goal.loop-i-preserved
 loop-i-preserved c =
-    let v = c.args.vector.now in
-    let os = c.args.log.now.ops in
-    let i = c.loop-i.i in
-    let o = c.op-op.result.now in
-    let next = uncovered_next v os i o c.op-op.ensures.op (omega (arith, c.if-op-get.false, c.get.ensures.count)) in
+    let next = uncovered_next c.args.vector.now c.args.log.now.ops c.loop-i.i c.op-op.result.now c.op-op.ensures.op (omega (arith, c.if-op-get.false, c.get.ensures.count)) in
     record { count = omega (arith, ap length next, c.loop-i.invariant.count); few = omega (arith, c.loop-i.invariant.few) }

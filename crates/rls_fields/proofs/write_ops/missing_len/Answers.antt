@@ -1,4 +1,4 @@
-use Rattle.std.proofs.Common.{◌+◌, List, drop, sum_by, sym, ap, arith}
+use Rattle.std.proofs.Common.{List, sum_by, sym, ap, arith}
 use Rattle.std.proofs.lemmas.List.{drop_all}
 use Rattle.rls_ident.proofs.Members.{get_in}
 use Rattle.rls_ops.specs.declared.op.Op.{Op}
@@ -18,13 +18,8 @@ loop-i-preserved-then-op-get c =
 
 pub loop-i-preserved : goal.loop-i-preserved
 loop-i-preserved c =
-    let v = c.args.vector.now in
-    let os = c.args.log.now.ops in
-    let i = c.loop-i.i in
-    let o = c.op-op.result.now in
-    let next = uncovered_next v os i o c.op-op.ensures.op (omega (arith, c.if-op-get.false, c.get.ensures.count)) in
-    let more = sum_next op_size o (missing_for v (drop (i + 1) os)) (missing_for v (drop i os)) (sym next) in
-    record { size = omega (arith, more, c.encoded_len.ensures.size, c.saturating_add-total.ensures, c.loop-i.invariant.size); fits = omega (arith, c.saturating_add-total.ensures) }
+    let next = sym (uncovered_next c.args.vector.now c.args.log.now.ops c.loop-i.i c.op-op.result.now c.op-op.ensures.op (omega (arith, c.if-op-get.false, c.get.ensures.count))) in
+    record { size = omega (arith, sum_next op_size _ _ _ next, c.encoded_len.ensures.size, c.saturating_add-total.ensures, c.loop-i.invariant.size); fits = omega (arith, c.saturating_add-total.ensures) }
 
 pub returns : goal.returns
 returns c =

@@ -1,9 +1,8 @@
-use Rattle.std.proofs.Common.{◌+◌, ◌++◌, List, drop, sum_by, sym, ap, subst, ◌∙◌, arith}
+use Rattle.std.proofs.Common.{◌++◌, List, sum_by, sym, ap, subst, ◌∙◌, arith}
 use Rattle.std.specs.Prelude.{All}
 use Rattle.std.specs.List.{flat_map}
 use Rattle.rls_ident.proofs.Members.{get_in}
 use Rattle.rls_ops.specs.declared.op.Op.{Op}
-use Rattle.rls_ops.specs.Rows.{missing_for}
 use Rattle.rls_ops.specs.Sizes.{op_size}
 use Rattle.rls_ops.specs.Spelling.{op_bytes}
 use Rattle.rls_codec.specs.Spelled.{IsSpelledIfFit}
@@ -21,24 +20,14 @@ loop-i-preserved-then-op-get c =
 
 pub put_op-requires : goal.put_op-requires
 put_op-requires c =
-    let v = c.args.vector.now in
-    let os = c.args.log.now.ops in
-    let i = c.loop-i.i in
-    let o = c.op-op.result.now in
-    let next = uncovered_next v os i o c.op-op.ensures.op (omega (arith, c.if-op-get.false, c.get.ensures.count)) in
-    let more = sum_next op_size o (missing_for v (drop (i + 1) os)) (missing_for v (drop i os)) (sym next) in
-    record { small = omega (arith, more, c.loop-i.invariant.small) }
+    let next = sym (uncovered_next c.args.vector.now c.args.log.now.ops c.loop-i.i c.op-op.result.now c.op-op.ensures.op (omega (arith, c.if-op-get.false, c.get.ensures.count))) in
+    record { small = omega (arith, sum_next op_size _ _ _ next, c.loop-i.invariant.small) }
 
 pub loop-i-preserved : goal.loop-i-preserved
 loop-i-preserved c =
-    let v = c.args.vector.now in
-    let os = c.args.log.now.ops in
-    let i = c.loop-i.i in
-    let o = c.op-op.result.now in
-    let next = uncovered_next v os i o c.op-op.ensures.op (omega (arith, c.if-op-get.false, c.get.ensures.count)) in
-    let more = sum_next op_size o (missing_for v (drop (i + 1) os)) (missing_for v (drop i os)) (sym next) in
+    let next = sym (uncovered_next c.args.vector.now c.args.log.now.ops c.loop-i.i c.op-op.result.now c.op-op.ensures.op (omega (arith, c.if-op-get.false, c.get.ensures.count))) in
     record {
-      bytes = put_next op_bytes o (missing_for v (drop (i + 1) os)) (missing_for v (drop i os)) c.loop-i.out.items c.put_op.new.out.items _ (sym next) c.in_ok-put_op.ensures.ok c.loop-i.invariant.bytes;
-      fits = fit_next IsSpelledIfFit o (missing_for v (drop (i + 1) os)) (missing_for v (drop i os)) (sym next) c.in_ok-put_op.ensures.fits c.loop-i.invariant.fits;
-      small = omega (arith, more, c.loop-i.invariant.small);
+      bytes = put_next op_bytes _ _ _ _ _ _ next c.in_ok-put_op.ensures.ok c.loop-i.invariant.bytes;
+      fits = fit_next IsSpelledIfFit _ _ _ next c.in_ok-put_op.ensures.fits c.loop-i.invariant.fits;
+      small = omega (arith, sum_next op_size _ _ _ next, c.loop-i.invariant.small);
     }
