@@ -49,25 +49,13 @@ runs H = runs_of (idents H)
 abbrev hello : History
 hello = edit fresh (Insert 0 (codes "hello"))
 
-hello_text : text hello ≡ codes "hello"
+hello_shows : (text hello ≡ codes "hello")
+    × (runs hello ≡ (At mid 0 1 (pos 0) ∷ [], 5) ∷ [])
+    × (greatest hello ≡ Origin)
+    × (count hello ≡ 1 ∷ 0 ∷ [])
+    × (counts (record { history = hello; waiting = [] }) ≡ record { total = 5; runs = 1; held = 0; unstable = 1; epochs = 1; former = 0 })
 unfolding computing
-hello_text = refl
-
-hello_runs : runs hello ≡ (At mid 0 1 (pos 0) ∷ [], 5) ∷ []
-unfolding computing
-hello_runs = refl
-
-hello_greatest : greatest hello ≡ Origin
-unfolding computing
-hello_greatest = refl
-
-hello_count : count hello ≡ 1 ∷ 0 ∷ []
-unfolding computing
-hello_count = refl
-
-hello_counts : counts (record { history = hello; waiting = [] }) ≡ record { total = 5; runs = 1; held = 0; unstable = 1; epochs = 1; former = 0 }
-unfolding computing
-hello_counts = refl
+hello_shows = (refl, refl, refl, refl, refl)
 
 -- what a list of edits counts where none is refused
 abbrev counted : Run State EditError → Option Taken
@@ -84,42 +72,27 @@ unfolding computing
 appended = refl
 
 -- and in front
-prepended : runs (edit hello (Insert 0 (codes "A"))) ≡ (At mid 0 1 (negsuc 0) ∷ [], 6) ∷ []
+prepended_shows : (runs (edit hello (Insert 0 (codes "A"))) ≡ (At mid 0 1 (negsuc 0) ∷ [], 6) ∷ [])
+    × (stems (edit hello (Insert 0 (codes "A"))) ≡ record { author = 0; s0 = 1; low = negsuc 0; next = 5 } ∷ [])
 unfolding computing
-prepended = refl
-
-prepended_stem : stems (edit hello (Insert 0 (codes "A"))) ≡ record { author = 0; s0 = 1; low = negsuc 0; next = 5 } ∷ []
-unfolding computing
-prepended_stem = refl
+prepended_shows = (refl, refl)
 
 -- inside, a new stem begins
 abbrev heXYllo : History
 heXYllo = edit hello (Insert 2 (codes "XY"))
 
-inserted_text : text heXYllo ≡ codes "heXYllo"
+inserted_shows : (text heXYllo ≡ codes "heXYllo") × (runs heXYllo ≡ (At mid 0 1 (pos 0) ∷ [], 2) ∷ (At mid 0 1 (pos 1) ∷ At mid 0 2 (pos 0) ∷ [], 2) ∷ (At mid 0 1 (pos 2) ∷ [], 3) ∷ [])
 unfolding computing
-inserted_text = refl
-
-inserted_runs : runs heXYllo ≡ (At mid 0 1 (pos 0) ∷ [], 2) ∷ (At mid 0 1 (pos 1) ∷ At mid 0 2 (pos 0) ∷ [], 2) ∷ (At mid 0 1 (pos 2) ∷ [], 3) ∷ []
-unfolding computing
-inserted_runs = refl
+inserted_shows = (refl, refl)
 
 -- a deletion leaves two runs, and an offset that was used is not used again
-deleted_text : text (edit hello (Delete 1 3)) ≡ codes "ho"
+deleted_shows : (text (edit hello (Delete 1 3)) ≡ codes "ho") × (runs (edit hello (Delete 1 3)) ≡ (At mid 0 1 (pos 0) ∷ [], 1) ∷ (At mid 0 1 (pos 4) ∷ [], 1) ∷ [])
 unfolding computing
-deleted_text = refl
+deleted_shows = (refl, refl)
 
-deleted_runs : runs (edit hello (Delete 1 3)) ≡ (At mid 0 1 (pos 0) ∷ [], 1) ∷ (At mid 0 1 (pos 4) ∷ [], 1) ∷ []
+emptied_shows : (text (edit (edit hello (Delete 1 3)) (Delete 0 2)) ≡ []) × (runs (edit (edit hello (Delete 1 3)) (Delete 0 2)) ≡ [])
 unfolding computing
-deleted_runs = refl
-
-emptied_text : text (edit (edit hello (Delete 1 3)) (Delete 0 2)) ≡ []
-unfolding computing
-emptied_text = refl
-
-emptied_runs : runs (edit (edit hello (Delete 1 3)) (Delete 0 2)) ≡ []
-unfolding computing
-emptied_runs = refl
+emptied_shows = (refl, refl)
 
 empty_edit : edit_fault hello (Delete 9 0) ≡ Some edit_errors.EmptyEdit
 unfolding computing
@@ -132,42 +105,26 @@ no_text = refl
 abbrev end_replaced : History
 end_replaced = edit (edit hello (Delete 4 1)) (Insert 4 (codes "X"))
 
-end_replaced_text : text end_replaced ≡ codes "hellX"
+end_replaced_shows : (text end_replaced ≡ codes "hellX") × (runs end_replaced ≡ (At mid 0 1 (pos 0) ∷ [], 4) ∷ (At 3221225471 0 3 (pos 0) ∷ [], 1) ∷ [])
 unfolding computing
-end_replaced_text = refl
-
-end_replaced_runs : runs end_replaced ≡ (At mid 0 1 (pos 0) ∷ [], 4) ∷ (At 3221225471 0 3 (pos 0) ∷ [], 1) ∷ []
-unfolding computing
-end_replaced_runs = refl
+end_replaced_shows = (refl, refl)
 
 -- the same in front: the right neighbour's offset isn't the stem's low
-front_replaced : runs (edit (edit (edit hello (Insert 0 (codes "A"))) (Delete 0 1)) (Insert 0 (codes "B"))) ≡ (At 1073741823 0 4 (pos 0) ∷ [], 1) ∷ (At mid 0 1 (pos 0) ∷ [], 5) ∷ []
+front_replaced_shows : (runs (edit (edit (edit hello (Insert 0 (codes "A"))) (Delete 0 1)) (Insert 0 (codes "B"))) ≡ (At 1073741823 0 4 (pos 0) ∷ [], 1) ∷ (At mid 0 1 (pos 0) ∷ [], 5) ∷ [])
+    × (stem_of (stems (edit (edit hello (Insert 0 (codes "A"))) (Delete 0 1))) 0 1 ≡ Some (record { author = 0; s0 = 1; low = negsuc 0; next = 5 }))
 unfolding computing
-front_replaced = refl
-
-front_replaced_stem : stem_of (stems (edit (edit hello (Insert 0 (codes "A"))) (Delete 0 1))) 0 1 ≡ Some (record { author = 0; s0 = 1; low = negsuc 0; next = 5 })
-unfolding computing
-front_replaced_stem = refl
+front_replaced_shows = (refl, refl)
 
 -- a rename makes one run, which goes on at both ends
 abbrev renamed : History
 renamed = edit heXYllo Rename
 
-renamed_runs : runs renamed ≡ (At mid 0 3 (pos 0) ∷ [], 7) ∷ []
+renamed_shows : (runs renamed ≡ (At mid 0 3 (pos 0) ∷ [], 7) ∷ [])
+    × (greatest renamed ≡ Of 0 3)
+    × (runs (edit renamed (Insert 7 (codes "!"))) ≡ (At mid 0 3 (pos 0) ∷ [], 8) ∷ [])
+    × (runs (edit renamed (Insert 0 (codes "AB"))) ≡ (At mid 0 3 (negsuc 1) ∷ [], 9) ∷ [])
 unfolding computing
-renamed_runs = refl
-
-renamed_greatest : greatest renamed ≡ Of 0 3
-unfolding computing
-renamed_greatest = refl
-
-renamed_appended : runs (edit renamed (Insert 7 (codes "!"))) ≡ (At mid 0 3 (pos 0) ∷ [], 8) ∷ []
-unfolding computing
-renamed_appended = refl
-
-renamed_prepended : runs (edit renamed (Insert 0 (codes "AB"))) ≡ (At mid 0 3 (negsuc 1) ∷ [], 9) ∷ []
-unfolding computing
-renamed_prepended = refl
+renamed_shows = (refl, refl, refl, refl)
 
 -- a list of edits ends at the first that is refused
 refused_line : run_edits (record { history = hello; waiting = [] }) (Insert 0 (codes "A") ∷ Insert 9 (codes "x") ∷ []) ≡ Stopped 2 (edit_errors.Range 9 6)
@@ -199,21 +156,15 @@ at_fresh = record { history = fresh; waiting = [] }
 abbrev by_1 : EpochName → Body → Op
 by_1 e b = record { author = 1; seq = 1; context = 0 ∷ 0 ∷ []; epoch = e; body = b }
 
-unknown_target : receive at_fresh (by_1 Origin (body.Delete ((At 5 1 1 (pos 0) ∷ []) ∷ []))) ≡ Refuses (UnknownTarget (At 5 1 1 (pos 0) ∷ []))
+unknown_targets : (receive at_fresh (by_1 Origin (body.Delete ((At 5 1 1 (pos 0) ∷ []) ∷ []))) ≡ Refuses (UnknownTarget (At 5 1 1 (pos 0) ∷ [])))
+    × (taken (take_message at_fresh (record { group = 7; members = 2; from = 1; vector = 0 ∷ 0 ∷ []; ops = by_1 Origin (body.Delete ((At 5 1 1 (pos 0) ∷ []) ∷ [])) ∷ [] })) ≡ record { applied = 0; released = 0; repeated = 0; held = 0; refused = (1, 1, UnknownTarget (At 5 1 1 (pos 0) ∷ [])) ∷ [] })
 unfolding computing
-unknown_target = refl
+unknown_targets = (refl, refl)
 
-unknown_target_taken : taken (take_message at_fresh (record { group = 7; members = 2; from = 1; vector = 0 ∷ 0 ∷ []; ops = by_1 Origin (body.Delete ((At 5 1 1 (pos 0) ∷ []) ∷ [])) ∷ [] })) ≡ record { applied = 0; released = 0; repeated = 0; held = 0; refused = (1, 1, UnknownTarget (At 5 1 1 (pos 0) ∷ [])) ∷ [] }
+wrong_stems : (receive at_fresh (by_1 Origin (body.Insert (At 9 1 1 (pos 3) ∷ []) (codes "a"))) ≡ Refuses (WrongStem (Some 0)))
+    × (receive at_fresh (by_1 (Of 0 1) (body.Insert (At 9 1 1 (pos 3) ∷ []) (codes "a"))) ≡ Refuses (WrongEpoch Origin))
 unfolding computing
-unknown_target_taken = refl
-
-wrong_stem : receive at_fresh (by_1 Origin (body.Insert (At 9 1 1 (pos 3) ∷ []) (codes "a"))) ≡ Refuses (WrongStem (Some 0))
-unfolding computing
-wrong_stem = refl
-
-wrong_epoch : receive at_fresh (by_1 (Of 0 1) (body.Insert (At 9 1 1 (pos 3) ∷ []) (codes "a"))) ≡ Refuses (WrongEpoch Origin)
-unfolding computing
-wrong_epoch = refl
+wrong_stems = (refl, refl)
 
 backward : receive (record { history = Then hello (Acknowledged 1 (1 ∷ 0 ∷ [])); waiting = [] }) (by_1 Origin (body.Insert (At 9 1 1 (pos 0) ∷ []) (codes "a"))) ≡ Refuses (Backward (1 ∷ 0 ∷ []))
 unfolding computing
@@ -227,13 +178,10 @@ abbrev hello_of_1 : State
 hello_of_1 = record { history = Then fresh (Accepted (by_1 Origin (body.Insert (At mid 1 1 (pos 0) ∷ []) (codes "hello")))); waiting = [] }
 
 -- two characters from offset -1 on don't end right before the low, which is 0
-prepends_wrong : receive hello_of_1 (then_by_1 (body.Insert (At mid 1 1 (negsuc 0) ∷ []) (codes "ab"))) ≡ Refuses (WrongStem (Some 5))
+wrong_at_the_front : (receive hello_of_1 (then_by_1 (body.Insert (At mid 1 1 (negsuc 0) ∷ []) (codes "ab"))) ≡ Refuses (WrongStem (Some 5)))
+    × (receive hello_of_1 (then_by_1 (body.Insert (At mid 1 1 (negsuc 1) ∷ []) (codes "ab"))) ≡ Applies)
 unfolding computing
-prepends_wrong = refl
-
-prepends_right : receive hello_of_1 (then_by_1 (body.Insert (At mid 1 1 (negsuc 1) ∷ []) (codes "ab"))) ≡ Applies
-unfolding computing
-prepends_right = refl
+wrong_at_the_front = (refl, refl)
 
 has_left : receive (record { history = Then fresh (Accepted (by_1 Origin body.Leave)); waiting = [] }) (then_by_1 (body.Insert (At mid 1 2 (pos 0) ∷ []) (codes "a"))) ≡ Refuses (Left 1)
 unfolding computing
@@ -255,13 +203,10 @@ at_member_1 = record { history = Fresh 7 1 2; waiting = [] }
 abbrev waits : State
 waits = (take_message at_member_1 (message_of second_op)).state
 
-second_held : taken (take_message at_member_1 (message_of second_op)) ≡ record { applied = 0; released = 0; repeated = 0; held = 1; refused = [] }
+second_taken : (taken (take_message at_member_1 (message_of second_op)) ≡ record { applied = 0; released = 0; repeated = 0; held = 1; refused = [] })
+    × (taken (take_message waits (message_of first_op)) ≡ record { applied = 1; released = 1; repeated = 0; held = 0; refused = [] })
 unfolding computing
-second_held = refl
-
-second_released : taken (take_message waits (message_of first_op)) ≡ record { applied = 1; released = 1; repeated = 0; held = 0; refused = [] }
-unfolding computing
-second_released = refl
+second_taken = (refl, refl)
 
 both_there : text (take_message waits (message_of first_op)).state.history ≡ codes "hello!"
 unfolding computing

@@ -61,93 +61,46 @@ counts_at w i = option_map (λ s. counts s) (slice_get w.states i)
 abbrev rename_and_insert : World
 rename_and_insert = of_two (shared ++ edits 0 Rename ∷ edits 1 (Insert 2 (codes "x")) ∷ sends 0 1 ∷ sends 1 0 ∷ comes 1 1 ∷ comes 2 0 ∷ [])
 
-rename_and_insert_text : text_at rename_and_insert 0 ≡ Some (codes "hexllo")
+rename_and_insert_shows : (text_at rename_and_insert 0 ≡ Some (codes "hexllo"))
+    × (text_at rename_and_insert 1 ≡ Some (codes "hexllo"))
+    × (runs_at rename_and_insert 0 ≡ Some ((At mid 0 2 (pos 0) ∷ [], 2) ∷ (At mid 0 2 (pos 1) ∷ At mid 0 1 (pos 1) ∷ At mid 1 1 (pos 0) ∷ [], 1) ∷ (At mid 0 2 (pos 2) ∷ [], 3) ∷ []))
+    × (runs_at rename_and_insert 1 ≡ runs_at rename_and_insert 0)
+    × (greatest_at rename_and_insert 0 ≡ Some (Of 0 2))
+    × (greatest_at rename_and_insert 1 ≡ Some (Of 0 2))
 unfolding computing
-rename_and_insert_text = refl
-
-rename_and_insert_text_1 : text_at rename_and_insert 1 ≡ Some (codes "hexllo")
-unfolding computing
-rename_and_insert_text_1 = refl
-
-rename_and_insert_runs : runs_at rename_and_insert 0 ≡ Some ((At mid 0 2 (pos 0) ∷ [], 2) ∷ (At mid 0 2 (pos 1) ∷ At mid 0 1 (pos 1) ∷ At mid 1 1 (pos 0) ∷ [], 1) ∷ (At mid 0 2 (pos 2) ∷ [], 3) ∷ [])
-unfolding computing
-rename_and_insert_runs = refl
-
-rename_and_insert_runs_1 : runs_at rename_and_insert 1 ≡ runs_at rename_and_insert 0
-unfolding computing
-rename_and_insert_runs_1 = refl
-
-rename_and_insert_greatest : greatest_at rename_and_insert 0 ≡ Some (Of 0 2)
-unfolding computing
-rename_and_insert_greatest = refl
-
-rename_and_insert_greatest_1 : greatest_at rename_and_insert 1 ≡ Some (Of 0 2)
-unfolding computing
-rename_and_insert_greatest_1 = refl
+rename_and_insert_shows = (refl, refl, refl, refl, refl, refl)
 
 -- each message delivered twice, and what is stable dropped between
 abbrev delivered_twice : World
 delivered_twice = of_two (shared ++ edits 0 Rename ∷ edits 1 (Insert 2 (codes "x")) ∷ sends 0 1 ∷ sends 1 0 ∷ comes 1 1 ∷ drops 1 ∷ comes 1 1 ∷ comes 2 0 ∷ drops 0 ∷ comes 2 0 ∷ [])
 
-delivered_twice_runs : runs_at delivered_twice 0 ≡ runs_at rename_and_insert 0
+delivered_twice_shows : (runs_at delivered_twice 0 ≡ runs_at rename_and_insert 0)
+    × (runs_at delivered_twice 1 ≡ runs_at rename_and_insert 0)
+    × (text_at delivered_twice 0 ≡ Some (codes "hexllo"))
+    × (text_at delivered_twice 1 ≡ Some (codes "hexllo"))
 unfolding computing
-delivered_twice_runs = refl
-
-delivered_twice_runs_1 : runs_at delivered_twice 1 ≡ runs_at rename_and_insert 0
-unfolding computing
-delivered_twice_runs_1 = refl
-
-delivered_twice_text : text_at delivered_twice 0 ≡ Some (codes "hexllo")
-unfolding computing
-delivered_twice_text = refl
-
-delivered_twice_text_1 : text_at delivered_twice 1 ≡ Some (codes "hexllo")
-unfolding computing
-delivered_twice_text_1 = refl
+delivered_twice_shows = (refl, refl, refl, refl)
 
 -- two renames at once, and an insertion after each
 abbrev two_renames : World
 two_renames = of_two (shared ++ edits 0 Rename ∷ edits 1 Rename ∷ edits 0 (Insert 2 (codes "A")) ∷ edits 1 (Insert 2 (codes "B")) ∷ sends 0 1 ∷ sends 1 0 ∷ comes 1 1 ∷ comes 2 0 ∷ [])
 
-two_renames_text : text_at two_renames 0 ≡ Some (codes "heABllo")
+two_renames_shows : (text_at two_renames 0 ≡ Some (codes "heABllo"))
+    × (text_at two_renames 1 ≡ Some (codes "heABllo"))
+    × (runs_at two_renames 0 ≡ Some ((At mid 1 1 (pos 0) ∷ [], 2) ∷ (At mid 1 1 (pos 1) ∷ At mid 0 3 (pos 0) ∷ [], 1) ∷ (At mid 1 1 (pos 1) ∷ At mid 1 2 (pos 0) ∷ [], 1) ∷ (At mid 1 1 (pos 2) ∷ [], 3) ∷ []))
+    × (runs_at two_renames 1 ≡ runs_at two_renames 0)
+    × (greatest_at two_renames 0 ≡ Some (Of 1 1))
+    × (greatest_at two_renames 1 ≡ Some (Of 1 1))
 unfolding computing
-two_renames_text = refl
-
-two_renames_text_1 : text_at two_renames 1 ≡ Some (codes "heABllo")
-unfolding computing
-two_renames_text_1 = refl
-
-two_renames_runs : runs_at two_renames 0 ≡ Some ((At mid 1 1 (pos 0) ∷ [], 2) ∷ (At mid 1 1 (pos 1) ∷ At mid 0 3 (pos 0) ∷ [], 1) ∷ (At mid 1 1 (pos 1) ∷ At mid 1 2 (pos 0) ∷ [], 1) ∷ (At mid 1 1 (pos 2) ∷ [], 3) ∷ [])
-unfolding computing
-two_renames_runs = refl
-
-two_renames_runs_1 : runs_at two_renames 1 ≡ runs_at two_renames 0
-unfolding computing
-two_renames_runs_1 = refl
-
-two_renames_greatest : greatest_at two_renames 0 ≡ Some (Of 1 1)
-unfolding computing
-two_renames_greatest = refl
-
-two_renames_greatest_1 : greatest_at two_renames 1 ≡ Some (Of 1 1)
-unfolding computing
-two_renames_greatest_1 = refl
+two_renames_shows = (refl, refl, refl, refl, refl, refl)
 
 -- taken in the other order
 abbrev two_renames_turned : World
 two_renames_turned = of_two (shared ++ edits 1 Rename ∷ edits 0 Rename ∷ edits 1 (Insert 2 (codes "B")) ∷ edits 0 (Insert 2 (codes "A")) ∷ sends 1 0 ∷ sends 0 1 ∷ comes 1 0 ∷ comes 2 1 ∷ [])
 
-two_renames_turned_runs : runs_at two_renames_turned 0 ≡ runs_at two_renames 0
+two_renames_turned_shows : (runs_at two_renames_turned 0 ≡ runs_at two_renames 0) × (runs_at two_renames_turned 1 ≡ runs_at two_renames 0) × (text_at two_renames_turned 0 ≡ Some (codes "heABllo"))
 unfolding computing
-two_renames_turned_runs = refl
-
-two_renames_turned_runs_1 : runs_at two_renames_turned 1 ≡ runs_at two_renames 0
-unfolding computing
-two_renames_turned_runs_1 = refl
-
-two_renames_turned_text : text_at two_renames_turned 0 ≡ Some (codes "heABllo")
-unfolding computing
-two_renames_turned_text = refl
+two_renames_turned_shows = (refl, refl, refl)
 
 -- A's identifier at the origin
 two_renames_origin : option_map (λ s. translate s.history (Of 0 2) Origin (At mid 0 2 (pos 1) ∷ At mid 0 3 (pos 0) ∷ [])) (slice_get two_renames.states 0) ≡ Some (At mid 0 1 (pos 1) ∷ High ∷ At mid 0 3 (pos 0) ∷ [])
@@ -158,21 +111,12 @@ two_renames_origin = refl
 abbrev both_delete : List Happening
 both_delete = shared ++ edits 0 (Delete 0 1) ∷ edits 1 (Delete 0 1) ∷ sends 0 1 ∷ sends 1 0 ∷ comes 1 1 ∷ []
 
-both_delete_text : text_at (of_two (both_delete ++ comes 2 0 ∷ [])) 0 ≡ Some (codes "ello")
+both_delete_shows : (text_at (of_two (both_delete ++ comes 2 0 ∷ [])) 0 ≡ Some (codes "ello"))
+    × (text_at (of_two (both_delete ++ comes 2 0 ∷ [])) 1 ≡ Some (codes "ello"))
+    × (outcome_of (of_two both_delete) (events.Deliver 2 0) ≡ outcomes.Took (record { applied = 1; released = 0; repeated = 0; held = 0; refused = [] }))
+    × (outcome_of (of_two (shared ++ edits 0 (Delete 0 1) ∷ edits 1 (Delete 0 1) ∷ sends 0 1 ∷ sends 1 0 ∷ [])) (events.Deliver 1 1) ≡ outcomes.Took (record { applied = 1; released = 0; repeated = 1; held = 0; refused = [] }))
 unfolding computing
-both_delete_text = refl
-
-both_delete_text_1 : text_at (of_two (both_delete ++ comes 2 0 ∷ [])) 1 ≡ Some (codes "ello")
-unfolding computing
-both_delete_text_1 = refl
-
-both_delete_outcome : outcome_of (of_two both_delete) (events.Deliver 2 0) ≡ outcomes.Took (record { applied = 1; released = 0; repeated = 0; held = 0; refused = [] })
-unfolding computing
-both_delete_outcome = refl
-
-both_delete_outcome_1 : outcome_of (of_two (shared ++ edits 0 (Delete 0 1) ∷ edits 1 (Delete 0 1) ∷ sends 0 1 ∷ sends 1 0 ∷ [])) (events.Deliver 1 1) ≡ outcomes.Took (record { applied = 1; released = 0; repeated = 1; held = 0; refused = [] })
-unfolding computing
-both_delete_outcome_1 = refl
+both_delete_shows = (refl, refl, refl, refl)
 
 -- faults
 no_message : fault_of (of_two shared) (events.Deliver 9 0) ≡ Some (step_errors.NoMessage 9)
@@ -204,17 +148,9 @@ after_all = run (empty_world 7 3) all_at_once
 abbrev reversed : List ℕ
 reversed = 7 ∷ 6 ∷ 5 ∷ 4 ∷ 3 ∷ 2 ∷ 7 ∷ 6 ∷ 5 ∷ 4 ∷ 3 ∷ 2 ∷ []
 
-none_refused_0 : refused_by 0 after_all reversed ≡ []
+none_refused : (refused_by 0 after_all reversed ≡ []) × (refused_by 1 after_all reversed ≡ []) × (refused_by 2 after_all reversed ≡ [])
 unfolding computing
-none_refused_0 = refl
-
-none_refused_1 : refused_by 1 after_all reversed ≡ []
-unfolding computing
-none_refused_1 = refl
-
-none_refused_2 : refused_by 2 after_all reversed ≡ []
-unfolding computing
-none_refused_2 = refl
+none_refused = (refl, refl, refl)
 
 -- the former identifiers stay until all members have answered
 abbrev of_three : List Happening → World
@@ -239,13 +175,10 @@ all_answered = refl
 abbrev one_leaves : List Happening
 one_leaves = sends 0 1 ∷ comes 0 1 ∷ sends 1 0 ∷ comes 1 0 ∷ edits 2 Leave ∷ sends 2 0 ∷ sends 2 1 ∷ comes 2 0 ∷ []
 
-one_leaves_count : count_at (of_three one_leaves) 0 ≡ Some (3 ∷ 0 ∷ 1 ∷ [])
+one_leaves_shows : (count_at (of_three one_leaves) 0 ≡ Some (3 ∷ 0 ∷ 1 ∷ []))
+    × (counts_at (of_three one_leaves) 0 ≡ Some (record { total = 7; runs = 1; held = 0; unstable = 1; epochs = 2; former = 7 }))
 unfolding computing
-one_leaves_count = refl
-
-one_leaves_counts : counts_at (of_three one_leaves) 0 ≡ Some (record { total = 7; runs = 1; held = 0; unstable = 1; epochs = 2; former = 7 })
-unfolding computing
-one_leaves_counts = refl
+one_leaves_shows = (refl, refl)
 
 leave_answered : counts_at (of_three (one_leaves ++ comes 3 1 ∷ sends 1 0 ∷ comes 4 0 ∷ [])) 0 ≡ Some (record { total = 7; runs = 1; held = 0; unstable = 0; epochs = 1; former = 0 })
 unfolding computing
