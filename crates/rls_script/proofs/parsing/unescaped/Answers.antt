@@ -14,42 +14,30 @@ loop-character-init c = record {
 
 pub loop-character-preserved-then-is_opening : goal.loop-character-preserved-then-is_opening
 loop-character-preserved-then-is_opening c =
-    let bs = chars_rest c.loop-character.character-iterator in
-    let rest = chars_rest c.next.new.self in
-    let character = c.in-Some.character in
-    let utf8 = c.loop-character.invariant.utf8 in
-    let step = c.in-Some.ensures.steps.0 in
+    let past = chars_past_char _ _ _ c.loop-character.invariant.utf8 c.in-Some.ensures.steps.0 in
     record {
-      utf8 = IsUtf8-past_char bs rest character utf8 step;
-      text = opens c.loop-character.plain c.loop-character.is_escaped character (chars rest) (text_behind false (chars c.args.escaped.now))
-          (rw (chars_past_char bs rest character utf8 step) at c.loop-character.invariant.text) (sym c.is_opening.ensures.opening ∙ c.if-is_opening.true);
+      utf8 = IsUtf8-past_char _ _ _ c.loop-character.invariant.utf8 c.in-Some.ensures.steps.0;
+      text = opens c.loop-character.plain c.loop-character.is_escaped c.in-Some.character (chars (chars_rest c.next.new.self)) (text_behind false (chars c.args.escaped.now))
+          (rw past at c.loop-character.invariant.text) (sym c.is_opening.ensures.opening ∙ c.if-is_opening.true);
     }
 
 pub returns-in_default : goal.returns-in_default
 unfolding text_of
 returns-in_default c =
-    let bs = chars_rest c.loop-character.character-iterator in
-    let rest = chars_rest c.next.new.self in
-    let character = c.in-Some.character in
-    let utf8 = c.loop-character.invariant.utf8 in
-    let step = c.in-Some.ensures.steps.0 in
+    let past = chars_past_char _ _ _ c.loop-character.invariant.utf8 c.in-Some.ensures.steps.0 in
     record {
-      text = sym (is_bad c.loop-character.plain c.loop-character.is_escaped character (chars rest) (text_behind false (chars c.args.escaped.now))
-          (rw (chars_past_char bs rest character utf8 step) at c.loop-character.invariant.text) (sym c.is_opening.ensures.opening ∙ c.if-is_opening.false)
+      text = sym (is_bad c.loop-character.plain c.loop-character.is_escaped c.in-Some.character (chars (chars_rest c.next.new.self)) (text_behind false (chars c.args.escaped.now))
+          (rw past at c.loop-character.invariant.text) (sym c.is_opening.ensures.opening ∙ c.if-is_opening.false)
           (sym c.meaning.ensures.meaning ∙ c.in_default.is));
     }
 
 pub loop-character-preserved : goal.loop-character-preserved
 loop-character-preserved c =
-    let bs = chars_rest c.loop-character.character-iterator in
-    let rest = chars_rest c.next.new.self in
-    let character = c.in-Some.character in
-    let utf8 = c.loop-character.invariant.utf8 in
-    let step = c.in-Some.ensures.steps.0 in
+    let past = chars_past_char _ _ _ c.loop-character.invariant.utf8 c.in-Some.ensures.steps.0 in
     record {
-      utf8 = IsUtf8-past_char bs rest character utf8 step;
-      text = rw c.in_ok-push.ensures.ok (means c.loop-character.plain c.loop-character.is_escaped character (chars rest) (text_behind false (chars c.args.escaped.now))
-          (rw (chars_past_char bs rest character utf8 step) at c.loop-character.invariant.text) c.in-Some-meaning.meant (sym c.is_opening.ensures.opening ∙ c.if-is_opening.false)
+      utf8 = IsUtf8-past_char _ _ _ c.loop-character.invariant.utf8 c.in-Some.ensures.steps.0;
+      text = rw c.in_ok-push.ensures.ok (means c.loop-character.plain c.loop-character.is_escaped c.in-Some.character (chars (chars_rest c.next.new.self)) (text_behind false (chars c.args.escaped.now))
+          (rw past at c.loop-character.invariant.text) c.in-Some-meaning.meant (sym c.is_opening.ensures.opening ∙ c.if-is_opening.false)
           (sym c.meaning.ensures.meaning ∙ c.in-Some-meaning.is));
     }
 
