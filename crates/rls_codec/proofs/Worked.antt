@@ -32,21 +32,13 @@ has_33_bytes = refl
 has_81_bytes : length hello_message ≡ 81
 has_81_bytes = refl
 
-writes_33 : message_bytes (message 0 []) ≡ empty_message
+messages_written : (message_bytes (message 0 []) ≡ empty_message) × (message_bytes (message 1 (hello ∷ [])) ≡ hello_message)
 unfolding computing
-writes_33 = refl
+messages_written = (refl, refl)
 
-writes_81 : message_bytes (message 1 (hello ∷ [])) ≡ hello_message
+messages_read : (message_of empty_message ≡ Ok (message 0 [])) × (message_of hello_message ≡ Ok (message 1 (hello ∷ [])))
 unfolding computing
-writes_81 = refl
-
-reads_33 : message_of empty_message ≡ Ok (message 0 [])
-unfolding computing
-reads_33 = refl
-
-reads_81 : message_of hello_message ≡ Ok (message 1 (hello ∷ []))
-unfolding computing
-reads_81 = refl
+messages_read = (refl, refl)
 
 -- the 81 bytes with another byte at this place
 abbrev with_byte : ℕ → ℕ → List ℕ
