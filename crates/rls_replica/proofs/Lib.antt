@@ -16,4 +16,4 @@ pub mod EditLaws
 pub mod Neighbours
 pub mod GivenPieces
 pub mod Marking
-pub mod Stretches
+pub mod Fronts

@@ -1,7 +1,7 @@
 -- How the targets of a deletion are looked up.
 use Rattle.std.proofs.Common.{◌≡◌, ◌∙◌, ◌⊎◌, ℕ, zero, suc, ◌+◌, ◌<◌, ◌≤◌, ◌||◌, ◌&&◌, not, Bool, true, false, List, [], ◌∷◌, length, map, drop, get_or, Some, None, refl, sym, ap, inl, inr, arith}
 use Rattle.std.proofs.lemmas.Option.{slice_get_cases}
-use Rattle.std.specs.Prelude.{pos, slice_get, slice_index, if◌then◌else◌}
+use Rattle.std.specs.Prelude.{pos, slice_get, if◌then◌else◌}
 use Rattle.std.specs.List.{list_any}
 use Rattle.std.specs.Ordering.{is_eq}
 use Rattle.rls_ident.specs.declared.tuple.Tuple.{Tuple}
@@ -9,7 +9,8 @@ use Rattle.rls_ident.specs.declared.epoch_name.EpochName.{EpochName}
 use Rattle.rls_ident.specs.Identifiers.{IsIdent, ident_eq, shifted}
 use Rattle.rls_ident.specs.Lists.{IsIn}
 use Rattle.rls_ident.proofs.Loops.{drop_reads}
-use Rattle.rls_ident.proofs.Members.{filter_in, not_le_test, some_is}
+use Rattle.rls_ident.proofs.Ends.{same_eq}
+use Rattle.rls_ident.proofs.Members.{any_in, filter_in, or_right, some_is}
 use Rattle.rls_ident.proofs.Agreeing.{any_same}
 use Rattle.rls_runs.specs.Runs.{AreIdents}
 use Rattle.rls_runs.specs.Entries.{Entries, has_ident, idents_in}
@@ -58,11 +59,20 @@ named_there s e x d ts n i ids b =
 
 -- ---- unstable operations
 
-pub uncovered : (s : Seen) (o : Op) → slice_index (stable_over s) o.author < o.seq → is_covered (stable_over s) o ≡ false
-uncovered s o l = not_le_test o.seq (slice_index (stable_over s) o.author) l
+-- one that isn't covered
+pub unstable_of : (s : Seen) (o : Op) → IsIn o s.log → is_covered (stable_over s) o ≡ false → IsIn o (unstable_over s)
+unstable_of s o p h = filter_in (λ x. not (is_covered (stable_over s) x)) o s.log p (ap not h)
 
-pub unstable_in : (s : Seen) (o : Op) → IsIn o s.log → slice_index (stable_over s) o.author < o.seq → IsIn o (unstable_over s)
-unstable_in s o p l = filter_in (λ x. not (is_covered (stable_over s) x)) o s.log p (ap not (uncovered s o l))
+-- what an unstable deletion names is known
+pub known_if_named : (s : Seen) (e : EpochName) (x : List Tuple) → is_named_over s e x s.log ≡ true → is_known_over s e x ≡ true
+known_if_named s e x h = known_here s e x ∙ or_right (has_ident (idents_in s.text) (translate_over s e (greatest_over s) x)) (is_named_over s e x s.log) h
+
+-- what is among its targets in its epoch is known
+pub known_there : (s : Seen) (e : EpochName) (x : List Tuple) (d : Op) (ts : List (List Tuple)) → AreNodes s.epochs.nodes → IsIdent x → AreIdents ts → IsIn d (unstable_over s) → d.body ≡ Delete ts
+    → IsIn (translate s.epochs.nodes e d.epoch x) ts → is_known_over s e x ≡ true
+known_there s e x d ts n i ids p b q =
+    let y = translate s.epochs.nodes e d.epoch x in
+    known_if_named s e x (any_in (is_named_by s e x) d (unstable_over s) p (sym (named_there s e x d ts n i ids b) ∙ any_in (λ t. ident_eq t y) y ts q (same_eq y y refl)))
 
 -- ---- one after another
 

@@ -50,6 +50,7 @@ impl Replica {
         mark_unstable(&mut self.epochs, &self.log, self.acks.stable());
         self.epochs.keep(self.acks.stable());
         self.log.drop_at_most(self.acks.stable());
+        self.hints.set(None);
     }
 
     /// How much is kept. It takes no memory.

@@ -5,6 +5,7 @@
 mod applying;
 mod counting;
 mod editing;
+mod hints;
 mod keeping;
 mod looking;
 mod naming;

@@ -151,7 +151,7 @@ impl Replica {
         })
     }
 
-    // The first of these targets that isn't known. It takes those that are adjacent in the text as one.
+    // The first of these targets that isn't known. It takes as one those that are adjacent in the text, or that one deletion names.
     fn first_unknown(&self, epoch: EpochName, targets: &Runs) -> Result<Option<Ident>, AllocError>
         requires kept { IsTrue (is_kept self.now.epochs.top self.now.epochs.nodes epoch) }
         ensures unknown { IfOk result (λ id. unknown_in id ≡ first_unknown_over self.now epoch targets.now) }
@@ -161,37 +161,19 @@ impl Replica {
             .translate_runs(epoch, self.epochs.greatest(), targets)?;
         let mut at = 0;
         while at < targets.total() {
-            let standing = self.standing_from(epoch, targets, &images, at)?;
-            if standing == 0 {
-                return self.first_gone(epoch, targets, &images, at);
+            let known = self.known_from(epoch, targets, &images, at)?;
+            if known == 0 {
+                let target = targets.get(at)?;
+                return Ok(Some(target));
             }
-            at += standing;
+            at += known;
         }
         Ok(None)
     }
 
-    // How many targets from a place on, which are these identifiers of the greatest epoch, are adjacent in the text.
-    fn standing_from(
-        &self,
-        epoch: EpochName,
-        targets: &Runs,
-        images: &Runs,
-        at: u64,
-    ) -> Result<u64, AllocError>
-        requires kept { IsTrue (is_kept self.now.epochs.top self.now.epochs.nodes epoch) }
-        requires place { at < length targets.now }
-        requires images { images.now ≡ map (translate_over self.now epoch (greatest_over self.now)) targets.now }
-        ensures within { IfOk result (λ n. at + n ≤ length targets.now) }
-        ensures known { IfOk result (λ n. first_unknown_over self.now epoch (drop (at + n) targets.now) ≡ first_unknown_over self.now epoch (drop at targets.now)) }
-    {
-        let (run, from) = images.locate(at);
-        let standing = self.document.standing(run, from)?;
-        Ok(standing as u64)
-    }
-
     // How many targets from a place on, which are these identifiers of the greatest epoch, are known at once: those that are
-    // adjacent in the text, or else the first one if an unstable deletion names it.
-    pub(crate) fn known_from(
+    // adjacent in the text, or else those that an unstable deletion names.
+    fn known_from(
         &self,
         epoch: EpochName,
         targets: &Runs,
@@ -210,40 +192,7 @@ impl Replica {
         if standing > 0 {
             return Ok(standing as u64);
         }
-        let target = targets.get(at)?;
-        if self.is_named(epoch, &target)? {
-            return Ok(1);
-        }
-        Ok(0)
-    }
-
-    // Whether an unstable deletion names the target.
-    fn is_named(&self, epoch: EpochName, target: &Ident) -> Result<bool, AllocError>
-        requires kept { IsTrue (is_kept self.now.epochs.top self.now.epochs.nodes epoch) }
-        ensures named { IfOk result (λ b. b ≡ is_named_over self.now epoch target.now self.now.log) }
-    {
-        for i in 0..self.log.len() {
-            if self.names(self.log.op(i), epoch, target)? {
-                return Ok(true);
-            }
-        }
-        Ok(false)
-    }
-
-    // Whether this operation of the log is an unstable deletion that names the target.
-    fn names(&self, op: &Op, epoch: EpochName, target: &Ident) -> Result<bool, AllocError>
-        requires logged { IsIn op.now self.now.log }
-        requires kept { IsTrue (is_kept self.now.epochs.top self.now.epochs.nodes epoch) }
-        ensures names { IfOk result (λ b. b ≡ (not (is_covered (stable_over self.now) op.now) && is_named_by self.now epoch target.now op.now)) }
-    {
-        if op.seq <= self.acks.stable().get(op.author) {
-            return Ok(false);
-        }
-        let Body::Delete { targets } = &op.body else {
-            return Ok(false);
-        };
-        let (_total, _last) = (targets.total(), target.last());
-        let there = self.epochs.translate(epoch, op.epoch, target)?;
-        Ok(targets.find(&there).is_ok())
+        let named = self.named_from(epoch, targets, at)?;
+        Ok(named)
     }
 }

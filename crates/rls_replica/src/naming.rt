@@ -1,199 +1,300 @@
-//! Which targets the unstable deletions name, stretch by stretch.
+//! Which targets unstable deletions name, run by run.
 
-ghost use Rattle.std.specs.Prelude.{◌≡◌, ℕ, ◌+◌, ◌-◌, ◌<◌, ◌≤◌, All, IfOk, IsTrue, length, map, drop, slice_get};
+ghost use Rattle.std.specs.Prelude.{◌≡◌, ℕ, pos, List, ◌+◌, ◌<◌, ◌≤◌, ◌&&◌, not, false, true, Some, IfOk, IfSome, IsTrue, length, drop, slice_get};
+ghost use Rattle.rls_ident.specs.declared.tuple.Tuple.{Tuple};
+ghost use Rattle.rls_ident.specs.Identifiers.{shifted};
 ghost use Rattle.rls_ident.specs.Lists.{IsIn};
+ghost use Rattle.rls_runs.specs.Runs.{run_idents};
 ghost use Rattle.rls_rename.specs.Tree.{is_kept};
-ghost use Rattle.rls_seen.specs.Seen.{greatest_over, translate_over};
-ghost use Rattle.rls_seen.specs.Over.{first_unknown_over};
-ghost use Rattle.rls_replica.specs.Lookups.{unknown_in, IsCommon, AreKnown, HasPlace};
+ghost use Rattle.rls_ops.specs.Rows.{is_covered};
+ghost use Rattle.rls_seen.specs.Seen.{stable_over};
+ghost use Rattle.rls_seen.specs.Over.{is_known_over, first_unknown_over};
+ghost use Rattle.rls_replica.specs.Lookups.{is_named_by, is_named_over};
 
+use crate::hints::{Hint, Hints};
 use crate::replica::Replica;
 use rls_ident::{EpochName, Ident};
 use rls_ops::{Body, Op};
-use rls_runs::Runs;
+use rls_runs::{Run, RunError, Runs};
 use std::alloc::{AllocError, Global};
 
-// How many steps an unstable deletion has beside one for each of its runs, for each run of the targets and for each operation of the log.
-const MORE_STEPS: u64 = 16;
-
-/// Targets from a place up to another one.
-#[derive(Clone, Copy, PartialEq, Eq, PartialOrd, Ord)]
-pub(crate) struct Stretch {
-    pub(crate) from: u64,
-    pub(crate) end: u64,
-}
-
 impl Replica {
-    // The first target from a place on that isn't known. The one at the place, which may be the only one that is gone, is looked for
-    // alone.
-    pub(crate) fn first_gone(
+    // How many targets from a place on unstable deletions are found to name at once: none exactly where none names the first one.
+    pub(crate) fn named_from(
         &self,
         epoch: EpochName,
         targets: &Runs,
-        images: &Runs,
-        from: u64,
-    ) -> Result<Option<Ident>, AllocError>
+        at: u64,
+    ) -> Result<u64, AllocError>
         requires kept { IsTrue (is_kept self.now.epochs.top self.now.epochs.nodes epoch) }
-        requires place { from < length targets.now }
-        requires images { images.now ≡ map (translate_over self.now epoch (greatest_over self.now)) targets.now }
-        ensures unknown { IfOk result (λ id. unknown_in id ≡ first_unknown_over self.now epoch (drop from targets.now)) }
+        requires place { at < length targets.now }
+        ensures within { IfOk result (λ n. at + n ≤ length targets.now) }
+        ensures known { IfOk result (λ n. first_unknown_over self.now epoch (drop (at + n) targets.now) ≡ first_unknown_over self.now epoch (drop at targets.now)) }
+        ensures none { IfOk result (λ n. n ≡ 0 → (x : List Tuple) → slice_get targets.now at ≡ Some x → is_named_over self.now epoch x self.now.log ≡ false) }
     {
-        let total = targets.total();
-        let known = self.known_from(epoch, targets, images, from)?;
-        if known == 0 {
-            let target = targets.get(from)?;
-            return Ok(Some(target));
+        let target = targets.get(at)?;
+        let hinted = self.hinted_from(epoch, targets, at, &target)?;
+        if hinted > 0 {
+            return Ok(hinted);
         }
-        let next = from + known;
-        if next >= total {
+        if self.is_named(epoch, &target)? {
+            return Ok(1);
+        }
+        Ok(0)
+    }
+
+    // How many targets from a place on, of which the first is given, the deletion names at which a hint points. A hint that points at
+    // an operation that is stable by now is out of date: then all are made anew, once.
+    fn hinted_from(
+        &self,
+        epoch: EpochName,
+        targets: &Runs,
+        at: u64,
+        target: &Ident,
+    ) -> Result<u64, AllocError>
+        requires kept { IsTrue (is_kept self.now.epochs.top self.now.epochs.nodes epoch) }
+        requires place { at < length targets.now }
+        ensures within { IfOk result (λ n. at + n ≤ length targets.now) }
+        ensures known { IfOk result (λ n. first_unknown_over self.now epoch (drop (at + n) targets.now) ≡ first_unknown_over self.now epoch (drop at targets.now)) }
+    {
+        let Some(hint) = self.hint(epoch, target)? else {
+            return Ok(0);
+        };
+        if !self.is_stable(self.log.op(hint.place)) {
+            return self.names_run(hint, epoch, targets, at);
+        }
+        self.hints.set(None);
+        let Some(hint) = self.hint(epoch, target)? else {
+            return Ok(0);
+        };
+        self.names_run(hint, epoch, targets, at)
+    }
+
+    // Which operation of the log the hints tell for a target.
+    fn hint(&self, epoch: EpochName, target: &Ident) -> Result<Option<Hint>, AllocError>
+        requires kept { IsTrue (is_kept self.now.epochs.top self.now.epochs.nodes epoch) }
+        ensures within { IfOk result (λ found. IfSome found (λ hint. hint.place < length self.now.log)) }
+    {
+        let hints = self.hints_up_to_date(epoch)?;
+        let there = self.epochs.translate(epoch, hints.epoch, target)?;
+        let found = hints.namings.find(there.last());
+        self.hints.set(Some(hints));
+        match found {
+            Some(hint) if hint.place < self.log.len() => Ok(Some(hint)),
+            _ => Ok(None),
+        }
+    }
+
+    // The hints, taken out, with the operations that were accepted since. Where there are none they are in this epoch.
+    fn hints_up_to_date(&self, epoch: EpochName) -> Result<Hints, AllocError>
+        requires kept { IsTrue (is_kept self.now.epochs.top self.now.epochs.nodes epoch) }
+        ensures kept { IfOk result (λ hints. IsTrue (is_kept self.now.epochs.top self.now.epochs.nodes hints.epoch)) }
+    {
+        let Hints {
+            epoch: to,
+            noted,
+            mut namings,
+        } = self.hints_taken(epoch);
+        for i in noted..self.log.len() {
+            let op = self.log.op(i);
+            if let Some(ids) = self.named_ids(op, to)? {
+                namings.note(&ids, i)?;
+            }
+        }
+        Ok(Hints {
+            epoch: to,
+            noted: self.log.len(),
+            namings,
+        })
+    }
+
+    // The hints, taken out, or new ones in this epoch.
+    fn hints_taken(&self, epoch: EpochName) -> Hints
+        requires kept { IsTrue (is_kept self.now.epochs.top self.now.epochs.nodes epoch) }
+        ensures kept { IsTrue (is_kept self.now.epochs.top self.now.epochs.nodes result.epoch) }
+    {
+        if let Some(hints) = self.hints.replace(None) {
+            if self.epochs.kept(hints.epoch) {
+                return hints;
+            }
+        }
+        Hints::new(self.alloc, epoch)
+    }
+
+    // The identifiers in an epoch that this operation of the log names, if it is an unstable deletion.
+    fn named_ids(&self, op: &Op, to: EpochName) -> Result<Option<Runs>, AllocError>
+        requires logged { IsIn op.now self.now.log }
+        requires kept { IsTrue (is_kept self.now.epochs.top self.now.epochs.nodes to) }
+    {
+        if self.is_stable(op) {
             return Ok(None);
         }
-        let unknown = self.first_unnamed(epoch, targets, images, next)?;
-        Ok(unknown)
+        let Body::Delete { targets } = &op.body else {
+            return Ok(None);
+        };
+        let ids = self.epochs.translate_runs(op.epoch, to, targets)?;
+        Ok(Some(ids))
     }
 
-    // The first target from a place on that isn't known. It looks at the unstable deletions once, stretch by stretch, and once more for
-    // each target that was in none of the stretches.
-    fn first_unnamed(
+    // Whether this operation of the log is stable.
+    fn is_stable(&self, op: &Op) -> bool
+        requires logged { IsIn op.now self.now.log }
+        ensures covered { result ≡ is_covered (stable_over self.now) op.now }
+    {
+        op.seq <= self.acks.stable().get(op.author)
+    }
+
+    // How many targets from a place on, within their run, the operation names that a hint tells. It tries one, two, four and so on, up
+    // to the number that the hint tells, since those that follow may be elsewhere in the operation's epoch.
+    fn names_run(
         &self,
+        hint: Hint,
         epoch: EpochName,
         targets: &Runs,
-        images: &Runs,
-        from: u64,
-    ) -> Result<Option<Ident>, AllocError>
+        at: u64,
+    ) -> Result<u64, AllocError>
+        requires logged { hint.place < length self.now.log }
         requires kept { IsTrue (is_kept self.now.epochs.top self.now.epochs.nodes epoch) }
-        requires place { from ≤ length targets.now }
-        requires images { images.now ≡ map (translate_over self.now epoch (greatest_over self.now)) targets.now }
-        ensures unknown { IfOk result (λ id. unknown_in id ≡ first_unknown_over self.now epoch (drop from targets.now)) }
+        requires place { at < length targets.now }
+        ensures within { IfOk result (λ n. at + n ≤ length targets.now) }
+        ensures known { IfOk result (λ n. first_unknown_over self.now epoch (drop (at + n) targets.now) ≡ first_unknown_over self.now epoch (drop at targets.now)) }
     {
-        let named = self.named_stretches(epoch, targets)?;
-        let (mut next, mut at) = skip(&named, 0, from);
-        while at < targets.total() {
-            let known = self.known_from(epoch, targets, images, at)?;
-            if known == 0 {
-                let target = targets.get(at)?;
-                return Ok(Some(target));
+        let op = self.log.op(hint.place);
+        let (run, from) = targets.locate(at);
+        let most = hint.count.min(run.len() - from);
+        let mut named = 0;
+        for doublings in 0..32u32 {
+            let count = most.min(1 << doublings);
+            named = self.names_so_many(op, epoch, targets, at, count)?;
+            if named < count as u64 || count == most {
+                break;
             }
-            (next, at) = skip(&named, next, at + known);
         }
-        Ok(None)
-    }
-
-    // Targets that unstable deletions name, stretch by stretch, in order of where the stretches begin. It costs the sum of the runs of
-    // the targets and of these deletions, and gives up when that is spent, so that it may miss some.
-    fn named_stretches(&self, epoch: EpochName, targets: &Runs) -> Result<Vec<Stretch>, AllocError>
-        requires kept { IsTrue (is_kept self.now.epochs.top self.now.epochs.nodes epoch) }
-        ensures known { IfOk result (λ named. All (AreKnown self.now epoch targets.now) named.items) }
-    {
-        let mut left = targets
-            .run_count()
-            .saturating_add(self.log.len() as u64)
-            .saturating_mul(MORE_STEPS);
-        let mut named = Vec::new(self.alloc);
-        for i in 0..self.log.len() {
-            let more = self.named_by(self.log.op(i), epoch, targets, &mut left)?;
-            named.extend_from_slice(&more)?;
-        }
-        named.sort_unstable();
         Ok(named)
     }
 
-    // Those that this operation of the log names, if it is an unstable deletion, with so many steps left beside one for each of its runs.
-    fn named_by(
+    // How many of so many targets from a place on, all of one run, it names from the first one on.
+    fn names_so_many(
         &self,
         op: &Op,
         epoch: EpochName,
         targets: &Runs,
-        left: &mut u64,
-    ) -> Result<Vec<Stretch>, AllocError>
+        at: u64,
+        count: u32,
+    ) -> Result<u64, AllocError>
         requires logged { IsIn op.now self.now.log }
         requires kept { IsTrue (is_kept self.now.epochs.top self.now.epochs.nodes epoch) }
-        ensures known { IfOk result (λ named. All (AreKnown self.now epoch targets.now) named.items) }
+        requires place { at < length targets.now }
+        ensures within { IfOk result (λ n. at + n ≤ length targets.now) }
+        ensures known { IfOk result (λ n. first_unknown_over self.now epoch (drop (at + n) targets.now) ≡ first_unknown_over self.now epoch (drop at targets.now)) }
     {
-        if op.seq <= self.acks.stable().get(op.author) {
-            return Ok(Vec::new(self.alloc));
+        let part = part_of(self.alloc, targets, at, count)?;
+        let named = self.names_front(op, epoch, &part)?;
+        Ok(named)
+    }
+
+    // How many of these identifiers it names from the first one on, at most those of one run.
+    fn names_front(&self, op: &Op, epoch: EpochName, ids: &Runs) -> Result<u64, AllocError>
+        requires logged { IsIn op.now self.now.log }
+        requires kept { IsTrue (is_kept self.now.epochs.top self.now.epochs.nodes epoch) }
+        requires some { 0 < length ids.now }
+        ensures within { IfOk result (λ n. n ≤ length ids.now) }
+        ensures known { IfOk result (λ n. (k : ℕ) (x : List Tuple) → k < n → slice_get ids.now k ≡ Some x → is_known_over self.now epoch x ≡ true) }
+    {
+        if self.is_stable(op) {
+            return Ok(0);
         }
-        let Body::Delete { targets: others } = &op.body else {
-            return Ok(Vec::new(self.alloc));
+        let Body::Delete { targets } = &op.body else {
+            return Ok(0);
         };
-        let others = self.epochs.translate_runs(op.epoch, epoch, others)?;
-        *left = left.saturating_add(others.run_count());
-        let stretches = common_stretches(self.alloc, targets, &others, left)?;
-        Ok(stretches)
-    }
-}
-
-// Targets that are among other identifiers, stretch by stretch, as far as the steps go that are left. Each step costs a few searches.
-fn common_stretches(
-    alloc: Global,
-    targets: &Runs,
-    others: &Runs,
-    left: &mut u64,
-) -> Result<Vec<Stretch>, AllocError>
-    ensures common { IfOk result (λ stretches. All (IsCommon targets.now others.now) stretches.items) }
-{
-    let mut stretches = Vec::new(alloc);
-    let mut i = 0;
-    while i < others.total() && *left > 0 {
-        *left -= 1;
-        let id = others.get(i)?;
-        match targets.find(&id) {
-            Ok(at) => {
-                let stretch = common_at(targets, at, others, i);
-                stretches.push(stretch)?;
-                i += stretch.end - at;
-            }
-            Err(below) => i = next_place(targets, below, others, i)?,
+        let (_ids, _targets) = (ids.total(), targets.total());
+        let there = self.epochs.translate_runs(epoch, op.epoch, ids)?;
+        let first = there.get(0)?;
+        match targets.find(&first) {
+            Ok(i) => Ok(common_front(&there, targets, i)),
+            Err(_) => Ok(0),
         }
     }
-    Ok(stretches)
-}
 
-// The stretch of targets from a place on that are the other identifiers from a place on.
-fn common_at(targets: &Runs, at: u64, others: &Runs, i: u64) -> Stretch
-    requires place { at < length targets.now }
-    requires other_place { i < length others.now }
-    requires same { slice_get targets.now at ≡ slice_get others.now i }
-    ensures some { at < result.end }
-    ensures within { i + (result.end - at) ≤ length others.now }
-    ensures common { IsCommon targets.now others.now result }
-{
-    let (_targets, _others) = (targets.total(), others.total());
-    let (target, place) = targets.locate(at);
-    let (other, from) = others.locate(i);
-    let count = (target.len() - place).min(other.len() - from);
-    Stretch {
-        from: at,
-        end: at + count as u64,
+    // Whether an unstable deletion names the target.
+    fn is_named(&self, epoch: EpochName, target: &Ident) -> Result<bool, AllocError>
+        requires kept { IsTrue (is_kept self.now.epochs.top self.now.epochs.nodes epoch) }
+        ensures named { IfOk result (λ b. b ≡ is_named_over self.now epoch target.now self.now.log) }
+    {
+        for i in 0..self.log.len() {
+            if self.names(self.log.op(i), epoch, target)? {
+                return Ok(true);
+            }
+        }
+        Ok(false)
+    }
+
+    // Whether this operation of the log is an unstable deletion that names the target.
+    fn names(&self, op: &Op, epoch: EpochName, target: &Ident) -> Result<bool, AllocError>
+        requires logged { IsIn op.now self.now.log }
+        requires kept { IsTrue (is_kept self.now.epochs.top self.now.epochs.nodes epoch) }
+        ensures names { IfOk result (λ b. b ≡ (not (is_covered (stable_over self.now) op.now) && is_named_by self.now epoch target.now op.now)) }
+    {
+        if self.is_stable(op) {
+            return Ok(false);
+        }
+        let Body::Delete { targets } = &op.body else {
+            return Ok(false);
+        };
+        let (_total, _last) = (targets.total(), target.last());
+        let there = self.epochs.translate(epoch, op.epoch, target)?;
+        Ok(targets.find(&there).is_ok())
     }
 }
 
-// The next place of the other identifiers that may be a target's, if so many targets are less than the one at this place, and it is none.
-fn next_place(targets: &Runs, below: u64, others: &Runs, i: u64) -> Result<u64, AllocError>
+// So many identifiers from a place on, or as many as their run has, but at least one.
+fn part_of(alloc: Global, ids: &Runs, at: u64, count: u32) -> Result<Runs, AllocError>
+    requires place { at < length ids.now }
+    ensures some { IfOk result (λ part. 0 < length part) }
+    ensures within { IfOk result (λ part. at + length part ≤ length ids.now) }
+    ensures part { IfOk result (λ part. (k : ℕ) → k < length part → slice_get part k ≡ slice_get ids.now (at + k)) }
+{
+    let (run, from) = ids.locate(at);
+    let len = count.max(1).min(run.len() - from);
+    let piece = part_of_run(run, from, len)?;
+    let part = alone(alloc, piece)?;
+    Ok(part)
+}
+
+// The list of one run's identifiers.
+fn alone(alloc: Global, run: Run) -> Result<Runs, AllocError>
+    ensures runs { IfOk result (λ runs. runs ≡ run_idents run.0 run.1) }
+{
+    let _len = run.len();
+    let mut runs = Runs::new(alloc);
+    runs.append(run)?;
+    Ok(runs)
+}
+
+// So many identifiers of a run from a place on.
+fn part_of_run(run: &Run, from: u32, len: u32) -> Result<Run, AllocError>
+    requires some { 0 < len }
+    requires within { from + len ≤ run.now.1 }
+    ensures part { IfOk result (λ part. part ≡ (shifted (pos from) run.now.0, len)) }
+{
+    let _len = run.len();
+    match Run::new(run.first().shifted(from)?, len) {
+        Ok(part) => Ok(part),
+        Err(RunError::Empty) => unreachable!(),
+        Err(RunError::OffsetEnd) => unreachable!(),
+    }
+}
+
+// How many identifiers from the first one on, within its run, are others from a place on.
+fn common_front(ids: &Runs, others: &Runs, i: u64) -> u64
+    requires some { 0 < length ids.now }
     requires place { i < length others.now }
-    ensures later { IfOk result (λ next. i < next) }
+    requires same { slice_get ids.now 0 ≡ slice_get others.now i }
+    ensures within { result ≤ length ids.now }
+    ensures among { (k : ℕ) (x : List Tuple) → k < result → slice_get ids.now k ≡ Some x → IsIn x others.now }
 {
-    let total = others.total();
-    if below >= targets.total() {
-        return Ok(total);
-    }
-    let target = targets.get(below)?;
-    let next = match others.find(&target) {
-        Ok(place) => place,
-        Err(place) => place,
-    };
-    Ok(next.max(i + 1))
-}
-
-// Skips the stretches, from one on, that begin at a place or before it, and the places that they have.
-fn skip(stretches: &[Stretch], first: usize, at: u64) -> (usize, u64)
-    ensures later { at ≤ result.1 }
-    ensures skipped { (k : ℕ) → at ≤ k → k < result.1 → HasPlace stretches.now k }
-{
-    let (mut next, mut place) = (first, at);
-    while next < stretches.len() && stretches[next].from <= place {
-        place = place.max(stretches[next].end);
-        next += 1;
-    }
-    (next, place)
+    let (_ids, _others) = (ids.total(), others.total());
+    let (run, start) = ids.locate(0);
+    let (other, from) = others.locate(i);
+    (run.len() - start).min(other.len() - from) as u64
 }

@@ -14,6 +14,7 @@ ghost use Rattle.rls_seen.specs.Stands.{StandsFor};
 ghost use Rattle.rls_replica.specs.Faults.{IsNoCount, IsNoMember};
 ghost use Rattle.rls_replica.specs.Names.{KeepsNames};
 
+use crate::hints::Hints;
 use rls_causal::Held;
 use rls_epoch::Epochs;
 use rls_ident::limits::MEMBERS;
@@ -22,10 +23,12 @@ use rls_stable::{Acks, Log};
 use rls_stems::StemTable;
 use rls_tree::BlockTree;
 use std::alloc::{AllocError, Global};
+use std::cell::Cell;
 use std::marker::Model;
 
 /// What one member of a group has of the text: the text with its identifiers, what each member is known to have accepted, the
-/// operations and the epochs that are kept, and the operations that wait. It is seen as these parts.
+/// operations and the epochs that are kept, and the operations that wait. It is seen as these parts. The hints, which `&self` may
+/// change too, are no part of it: they tell where to look first, and no answer depends on them.
 #[derive(Drop)]
 pub struct Replica {
     pub(crate) alloc: Global,
@@ -36,6 +39,7 @@ pub struct Replica {
     pub(crate) document: BlockTree,
     pub(crate) held: Held,
     pub(crate) log: Log,
+    pub(crate) hints: Cell<Option<Hints>>,
 }
 
 impl Model for Replica {
@@ -112,6 +116,7 @@ impl Replica {
             document: BlockTree::new(alloc),
             held: Held::new(alloc),
             log: Log::new(alloc),
+            hints: Cell::new(None),
         })
     }
 

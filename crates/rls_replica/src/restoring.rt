@@ -24,6 +24,7 @@ use rls_rules::{PartsError, Tested, test_all};
 use rls_stable::Log;
 use rls_tree::{Block, BlockTree};
 use std::alloc::{AllocError, Global};
+use std::cell::Cell;
 
 impl Replica {
     /// The replica that has these parts. Its text is made a tree in one pass, and rules 3 and 4 cost as `rls_rules` says.
@@ -66,6 +67,7 @@ impl Replica {
             document,
             held,
             log: Log::of(log),
+            hints: Cell::new(None),
         })
     }
 }

@@ -3,11 +3,9 @@ use Rattle.std.proofs.lemmas.List.{length-map}
 use Rattle.std.proofs.lemmas.Option.{slice_get_within}
 use Rattle.std.specs.Prelude.{pos, slice_get}
 use Rattle.rls_ident.specs.Identifiers.{shifted}
-use Rattle.rls_ident.proofs.Members.{some_is}
 use Rattle.rls_runs.specs.Entries.{has_ident, idents_in}
 use Rattle.rls_seen.specs.Seen.{greatest_over, translate_over}
-use Rattle.rls_replica.specs.Lookups.{is_named_over}
-use Rattle.rls_replica.proofs.Targets.{got_mapped, known_in_text, known_many, known_one, out_of_text, unknown_at}
+use Rattle.rls_replica.proofs.Targets.{got_mapped, known_in_text, known_many, out_of_text, unknown_at}
 use Rattle.rls_replica.proofs.replica.Replica.known_from.Goals as goal
 
 -- the targets of a run that stand in the text
@@ -29,26 +27,13 @@ returns-then-standing-gt0-clause-known c =
     let there : has_ident (idents_in s.text) (shifted (pos (from + k)) run.0) ≡ true = rw (← c.self.view_is) (c.in_ok-standing.ensures.there k l) in
     known_in_text s e x (ap (has_ident (idents_in s.text)) (sym is) ∙ there))
 
--- the target at the place isn't in the text
-pub returns-then-branch-clause-known : goal.returns-then-branch-clause-known
-returns-then-branch-clause-known c =
-    let s = c.args.self.now in
-    let xs = c.args.targets.now in
-    let x = c.in_ok-target.target in
-    let run = c.locate-from.result.0.now in
-    let from = c.locate-from.result.1 in
-    let out : has_ident (idents_in s.text) (shifted (pos from) run.0) ≡ false = rw (← c.self.view_is) (c.in_ok-standing.ensures.none (omega (arith, c.if-standing-gt0.false))) in
-    let named = out_of_text s c.args.epoch xs c.args.images.now c.args.at from run.0 x c.requires.images (c.locate-from.ensures.idents 0 (omega (arith, c.locate-from.ensures.within))) out c.in_ok-target.ensures.found in
-    known_one s c.args.epoch xs c.args.at x c.in_ok-target.ensures.found (named ∙ sym c.in_ok-is_named.ensures.named ∙ c.if-branch.true)
-
+-- none at the place is in the text, and no unstable deletion names it
 pub returns-clause-unknown : goal.returns-clause-unknown
 returns-clause-unknown c z x g =
     let s = c.args.self.now in
     let xs = c.args.targets.now in
-    let y = c.in_ok-target.target in
     let run = c.locate-from.result.0.now in
     let from = c.locate-from.result.1 in
     let out : has_ident (idents_in s.text) (shifted (pos from) run.0) ≡ false = rw (← c.self.view_is) (c.in_ok-standing.ensures.none (omega (arith, c.if-standing-gt0.false))) in
     let named = out_of_text s c.args.epoch xs c.args.images.now c.args.at from run.0 x c.requires.images (c.locate-from.ensures.idents 0 (omega (arith, c.locate-from.ensures.within))) out g in
-    let same : y ≡ x = some_is y x (sym c.in_ok-target.ensures.found ∙ g) in
-    unknown_at s c.args.epoch xs c.args.at x g (named ∙ ap (λ u. is_named_over s c.args.epoch u s.log) (sym same) ∙ sym c.in_ok-is_named.ensures.named ∙ c.if-branch.false)
+    unknown_at s c.args.epoch xs c.args.at x g (named ∙ c.in_ok-named.ensures.none z x g)

@@ -1,0 +1,159 @@
+//! Where an unstable deletion that names an identifier is likely to stand in the log.
+
+ghost use Rattle.std.specs.Prelude.{◌≡◌};
+
+use rls_ident::{EpochName, Spot};
+use rls_runs::Runs;
+use std::alloc::{AllocError, Global};
+use std::collections::BTreeMap;
+use std::ops::Bound;
+
+/// The last tuple of an identifier, but for its position: who made the identifier, in which of its operations, and the offset. Among
+/// the identifiers that a text had in one epoch no two have the same.
+#[derive(Clone, Copy, PartialEq, Eq, PartialOrd, Ord, Drop)]
+struct Mark {
+    replica: u32,
+    seq: u32,
+    offset: i64,
+}
+
+impl Mark {
+    fn of(last: Spot) -> Mark {
+        Mark {
+            replica: last.replica,
+            seq: last.seq,
+            offset: last.offset as i64,
+        }
+    }
+
+    // Whether the two differ at most in their offsets.
+    fn is_beside(&self, other: &Mark) -> bool {
+        self.replica == other.replica && self.seq == other.seq
+    }
+}
+
+/// The offset at which a run of identifiers has ended, and the place in the log of the last deletion that names them.
+#[derive(Clone, Copy, Drop)]
+struct Naming {
+    end: i64,
+    place: usize,
+}
+
+/// The place in the log of a deletion that names an identifier, and how many identifiers it names in a row from that one on.
+#[derive(Clone, Copy, Drop)]
+pub(crate) struct Hint {
+    pub(crate) place: usize,
+    pub(crate) count: u32,
+}
+
+/// For each identifier that deletions of the log name, the last of these: runs of them, of which no two have an identifier in common,
+/// each under the mark of its first one.
+#[derive(Drop)]
+pub(crate) struct Namings {
+    runs: BTreeMap<Mark, Naming>,
+}
+
+impl Namings {
+    // The last deletion that names the identifier that ends so. It takes a logarithm of the runs.
+    pub(crate) fn find(&self, last: Spot) -> Option<Hint> {
+        let mark = Mark::of(last);
+        let (first, naming) = self.last_up_to(Bound::Included(mark))?;
+        if !first.is_beside(&mark) || naming.end <= mark.offset {
+            return None;
+        }
+        let count = naming.end.saturating_sub(mark.offset);
+        Some(Hint {
+            place: naming.place,
+            count: u32::try_from(count).unwrap_or(u32::MAX),
+        })
+    }
+
+    // Notes that the deletion at a place of the log, which comes after those that were noted, names these identifiers. It takes a
+    // logarithm of the runs for each of theirs and for each that it replaces.
+    pub(crate) fn note(&mut self, ids: &Runs, place: usize) -> Result<(), AllocError> {
+        for run in ids.as_slice() {
+            let first = Mark::of(run.first().last());
+            let end = first.offset.saturating_add(run.len() as i64);
+            self.make_room(first, end)?;
+            self.runs.insert(first, Naming { end, place })?;
+        }
+        Ok(())
+    }
+
+    // Takes out what there is from a mark up to an end.
+    fn make_room(&mut self, first: Mark, end: i64) -> Result<(), AllocError> {
+        let past = Mark {
+            offset: end,
+            ..first
+        };
+        self.cut_at(first)?;
+        self.cut_at(past)?;
+        for _ in 0..self.runs.len() {
+            let Some(inner) = self.first_between(first, past) else {
+                break;
+            };
+            let _naming = self.runs.remove(&inner);
+        }
+        Ok(())
+    }
+
+    // Makes two runs of the one that goes on past a mark, if there is one.
+    fn cut_at(&mut self, mark: Mark) -> Result<(), AllocError> {
+        let Some((first, naming)) = self.last_up_to(Bound::Excluded(mark)) else {
+            return Ok(());
+        };
+        if !first.is_beside(&mark) || naming.end <= mark.offset {
+            return Ok(());
+        }
+        self.runs.insert(mark, naming)?;
+        let front = Naming {
+            end: mark.offset,
+            ..naming
+        };
+        self.runs.insert(first, front)?;
+        Ok(())
+    }
+
+    // The last run that begins within a bound.
+    fn last_up_to(&self, bound: Bound<Mark>) -> Option<(Mark, Naming)> {
+        let (first, naming) = self.runs.range((Bound::Unbounded, bound)).next_back()?;
+        Some((*first, *naming))
+    }
+
+    // Where the first run begins from a mark on and before another one, if there is one.
+    fn first_between(&self, from: Mark, past: Mark) -> Option<Mark> {
+        let (first, _) = self
+            .runs
+            .range((Bound::Included(from), Bound::Unbounded))
+            .next()?;
+        if *first < past {
+            return Some(*first);
+        }
+        None
+    }
+}
+
+/// What is kept of the log so that gone targets are found in it: the identifiers that deletions among its first operations name, in
+/// one epoch. It is only a hint: where it is out of date, it takes longer to find a target.
+#[derive(Drop)]
+pub(crate) struct Hints {
+    pub(crate) epoch: EpochName,
+    // How many operations of the log were noted.
+    pub(crate) noted: usize,
+    pub(crate) namings: Namings,
+}
+
+impl Hints {
+    // Nothing is noted.
+    pub(crate) fn new(alloc: Global, epoch: EpochName) -> Hints
+        ensures epoch { result.epoch ≡ epoch }
+    {
+        Hints {
+            epoch,
+            noted: 0,
+            namings: Namings {
+                runs: BTreeMap::new(alloc),
+            },
+        }
+    }
+}
