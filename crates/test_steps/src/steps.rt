@@ -49,6 +49,8 @@ pub enum Step {
     TakeOps(Told<'static>, Told<'static>, Told<'static>),
     /// The member is said to have accepted this much.
     Acknowledge(u32, &'static [u32]),
+    /// What is stable is dropped.
+    Drop,
     Ask(Question),
 }
 
@@ -145,6 +147,11 @@ fn acknowledges(
     Ok(format!(in alloc; "{counts}")?)
 }
 
+fn drops(alloc: Global, replica: &mut Replica) -> Result<String, Fail> {
+    replica.drop_stable();
+    Ok(String::from_str(alloc, "dropped")?)
+}
+
 /// What the replica answers to the message.
 pub fn takes(replica: &mut Replica, message: Message) -> Result<Result<Taken, TakeError>, Fail> {
     if message.from >= message.members || message.vector.len() != message.members as usize {
@@ -219,6 +226,7 @@ fn answer(alloc: Global, replica: &mut Replica, step: Step) -> Result<String, Fa
         Step::ReleaseAll => releases_all(alloc, replica),
         Step::TakeOps(one, two, three) => takes_ops(alloc, replica, &[one, two, three]),
         Step::Acknowledge(from, row) => acknowledges(alloc, replica, from, row),
+        Step::Drop => drops(alloc, replica),
         Step::Ask(question) => answer_to(alloc, replica, question),
     }
 }
