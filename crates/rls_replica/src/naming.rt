@@ -165,7 +165,7 @@ impl Replica {
         let mut named = 0;
         for doublings in 0..32u32 {
             let count = most.min(1 << doublings);
-            named = self.names_so_many(op, epoch, targets, at, count)?;
+            named = self.names_count(op, epoch, targets, at, count)?;
             if named < count as u64 || count == most {
                 break;
             }
@@ -173,8 +173,8 @@ impl Replica {
         Ok(named)
     }
 
-    // How many of so many targets from a place on, all of one run, it names from the first one on.
-    fn names_so_many(
+    // How many of `count` targets from a place on, all of one run, it names from the first one on.
+    fn names_count(
         &self,
         op: &Op,
         epoch: EpochName,
@@ -247,7 +247,7 @@ impl Replica {
     }
 }
 
-// So many identifiers from a place on, or as many as their run has, but at least one.
+// `count` identifiers from a place on, or as many as their run has, but at least one.
 fn part_of(alloc: Global, ids: &Runs, at: u64, count: u32) -> Result<Runs, AllocError>
     requires place { at < length ids.now }
     ensures some { IfOk result (λ part. 0 < length part) }

@@ -4,6 +4,6 @@ use Rattle.rls_ident.proofs.Members.{get_in}
 use Rattle.rls_seen.specs.Seen.{Seen}
 use Rattle.rls_replica.proofs.replica.Replica.names_run.Goals as goal
 
-pub names_so_many-requires-clause-logged : goal.names_so_many-requires-clause-logged
-names_so_many-requires-clause-logged c =
+pub names_count-requires-clause-logged : goal.names_count-requires-clause-logged
+names_count-requires-clause-logged c =
     subst (λ (s : Seen). IsIn c.op-op.result.now s.log) c.self.view_is (get_in c.self.inside.log.ops c.args.hint.place c.op-op.result.now c.op-op.ensures.op)

@@ -1,6 +1,6 @@
 use Rattle.std.proofs.Common.{◌∙◌, ◌+◌, ◌<◌, ◌≤◌, length, arith}
 use Rattle.rls_replica.proofs.Targets.{known_many}
-use Rattle.rls_replica.proofs.replica.Replica.names_so_many.Goals as goal
+use Rattle.rls_replica.proofs.replica.Replica.names_count.Goals as goal
 
 pub returns : goal.returns
 returns c =
