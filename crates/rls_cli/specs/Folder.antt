@@ -1,5 +1,5 @@
 -- The keeper of a folder's replica file: its faults, and what a call makes of it.
-use Rattle.std.specs.Prelude.{◌≡◌, ◌⊎◌, ℕ, Bool, true, false, List}
+use Rattle.std.specs.Prelude.{◌≡◌, ◌≢◌, ◌⊎◌, ℕ, Bool, true, false, List}
 use Rattle.rls_io.specs.Device.{one_more}
 use Rattle.rls_io.specs.Folder.{keeper_faults}
 use Rattle.rls_journal.specs.Files.{disk_faults}
@@ -40,3 +40,7 @@ StoreGives (File old) bytes ok (File new) = Counts ok (keeper_faults old) (keepe
 StoreGives (Disk old) bytes ok (Disk new) = CountsAll ok (disk_faults (disk_of old)) (disk_faults (disk_of new))
 StoreGives (Unknown old) bytes ok (Unknown new) = Fails ok old new
 StoreGives _ bytes ok _ = ⊥
+
+-- the keeper failed at one call with status 7, and with none if the status isn't 10 either
+abbrev pub CountsWith : ℕ → ℕ → ℕ → Type 0
+CountsWith n before after = (n ≡ 7 → after ≡ one_more before) × (n ≢ 7 → n ≢ 10 → after ≡ before)

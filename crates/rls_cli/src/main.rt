@@ -6,7 +6,7 @@ mod performing;
 mod streams;
 
 use folder::{FolderKeeper, folder_keeper};
-use performing::perform;
+use performing::perform_in_folder;
 use rls_io::{StdSink, StdSource, write_all_of};
 use rls_report::Fault;
 use std::alloc::AllocError;
@@ -63,7 +63,7 @@ fn main(rt: HostRuntime) -> ExitCode {
     let mut keeper = keeper(&rt, &guard);
     let mut input = StdSource::new(rt.stdin().lock());
     let mut output = StdSink::new(rt.stdout());
-    let status = perform(
+    let status = perform_in_folder(
         rt.alloc(),
         &words,
         &mut keeper,

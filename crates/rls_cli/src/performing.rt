@@ -1,9 +1,17 @@
 //! The choice between a session and a command.
 
+ghost use Rattle.std.specs.Prelude.{◌≡◌, map, string_bytes, IfSome, IsTrue, IsFalse};
+ghost use Rattle.rls_io.specs.Device.{Rose};
+ghost use Rattle.rls_top.specs.Words.{command_of};
+ghost use Rattle.rls_cli.specs.Folder.{CountsWith, faults_of};
+ghost use Rattle.rls_cli.specs.Performing.{CommandCalls, CommandEnds, SessionCalls, SessionEnds, begins_session};
+
+use crate::folder::FolderKeeper;
 use rls_io::{Keeper, Sink, Source};
 use rls_session::{begins_session, serve};
 use rls_top::run;
 use std::alloc::Global;
+use std::rt::Files;
 
 /// Does what the words ask for over these devices, and answers the program's exit status: a session if the only word is `session`, and
 /// otherwise a command.
@@ -14,9 +22,37 @@ pub(crate) fn perform<K: Keeper, S: Source, W: Sink, E: Sink>(
     input: &mut S,
     output: &mut W,
     errors: &mut E,
-) -> u8 {
+) -> u8
+    // How it ends, and which calls of the keeper it makes.
+    ensures session { IsTrue (begins_session (map string_bytes words.now)) → SessionEnds (K.file keeper.old) (S.left input.old) result (K.file keeper.new) (W.told output.old) (W.told output.new) }
+    ensures session_calls { IsTrue (begins_session (map string_bytes words.now)) → SessionCalls K.load_gives K.store_gives (K.file keeper.old) (S.left input.old) ((input.new ≡ input.old) × (output.new ≡ output.old)) result keeper.old keeper.new }
+    ensures command { IsFalse (begins_session (map string_bytes words.now)) → CommandEnds (map string_bytes words.now) (K.file keeper.old) (S.left input.old) result }
+    ensures command_calls { IsFalse (begins_session (map string_bytes words.now)) → CommandCalls K.load_gives K.store_gives (map string_bytes words.now) (K.file keeper.old) (S.left input.old) (input.new ≡ input.old) result keeper.old keeper.new }
+
+    // The device of the status has failed.
+    ensures keeper { result ≡ 7 → Rose (K.faults keeper.old) (K.faults keeper.new) }
+    ensures input { result ≡ 8 → Rose (S.faults input.old) (S.faults input.new) }
+    ensures output { result ≡ 9 → Rose (W.faults output.old) (W.faults output.new) }
+{
     if begins_session(words) {
         return serve(alloc, keeper, input, output, errors);
     }
     run(alloc, words, keeper, input, output, errors)
+}
+
+/// The same over the keeper of the current folder, as the program does it. With status 7 the keeper has failed at one call, the last;
+/// with every other status but 10 it hasn't failed, so another device that failed was the first.
+pub(crate) fn perform_in_folder<R: Files, S: Source, W: Sink, E: Sink>(
+    alloc: Global,
+    words: &[String],
+    keeper: &mut FolderKeeper<R>,
+    input: &mut S,
+    output: &mut W,
+    errors: &mut E,
+) -> u8
+    ensures keeper { CountsWith result (faults_of keeper.old) (faults_of keeper.new) }
+    ensures input { result ≡ 8 → Rose (S.faults input.old) (S.faults input.new) }
+    ensures output { result ≡ 9 → Rose (W.faults output.old) (W.faults output.new) }
+{
+    perform(alloc, words, keeper, input, output, errors)
 }

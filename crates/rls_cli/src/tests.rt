@@ -1,5 +1,5 @@
 use crate::folder::folder_keeper;
-use crate::performing::perform;
+use crate::performing::{perform, perform_in_folder};
 use crate::watched::{Watch, Watched};
 use rls_io::{Found, Keeper, MemoryKeeper, MemorySink, MemorySource};
 use std::alloc::{AllocError, Global};
@@ -158,6 +158,85 @@ fn one_word_begins_a_session(rt: HostRuntime) -> Result<(), Fail> {
     ] {
         let answer = printed(alloc, &mut keeper, words, given.as_bytes())?;
         assert_eq!(rt; answer.as_slice(), wanted.as_bytes(), "{words}");
+    }
+    Ok(())
+}
+
+/// Puts the replica of a fresh member into the folder, by the keeper that is meant.
+fn begin_replica(rt: &HostRuntime, kind: Kind) -> Result<(), Fail> {
+    clear(rt);
+    let mut memory = MemoryKeeper::new(rt.alloc(), None, &[])?;
+    let _printed = printed(rt.alloc(), &mut memory, "new 7 0 2", b"")?;
+    let file = memory.file().unwrap_or(&[]);
+    if kind == Kind::File {
+        fs::write(rt, "replica.rls", file)?;
+    } else if folder_keeper(rt).store(rt.alloc(), file).is_err() {
+        return Err(Fail::new("not stored"));
+    }
+    Ok(())
+}
+
+/// The status of a session of one insertion in a real folder, and how many bytes it answered. The call of the file system with this
+/// number fails, and these of the input and of the output.
+fn session_end(
+    rt: &HostRuntime,
+    kind: Kind,
+    failing: u64,
+    failing_reads: &[u64],
+    failing_writes: &[u64],
+) -> Result<(u8, usize), Fail> {
+    begin_replica(rt, kind)?;
+    let alloc = rt.alloc();
+    let watch = Watch::new(alloc, failing);
+    let mut keeper = folder_keeper(Watched { rt, watch: &watch });
+    let mut words = Vec::new(alloc);
+    words.push(String::from_str(alloc, "session")?)?;
+    let mut input = MemorySource::new(alloc, b"i 0 a\n", failing_reads)?;
+    let mut output = MemorySink::new(alloc, 1000, failing_writes)?;
+    let mut errors = MemorySink::new(alloc, 1000, &[])?;
+    let status = perform_in_folder(
+        alloc,
+        &words,
+        &mut keeper,
+        &mut input,
+        &mut output,
+        &mut errors,
+    );
+    let answered = output.written().len();
+    clear(rt);
+    Ok((status, answered))
+}
+
+/// Each row: the keeper, the call of the file system, the reads and the writes that fail, the status, and how many bytes are answered.
+type End<'a> = (Kind, u64, &'a [u64], &'a [u64], u8, usize);
+
+const NEVER: u64 = u64::MAX;
+
+const ENDS: &[End<'_>] = &[
+    // The choice of the keeper, its load, and its store, each with all later devices.
+    (Kind::File, 0, &[0], &[0], 7, 0),
+    (Kind::File, 1, &[0], &[0], 7, 0),
+    (Kind::File, 7, &[], &[1], 7, 5),
+    (Kind::Slots, 0, &[0], &[0], 7, 0),
+    (Kind::Slots, 1, &[0], &[0], 7, 0),
+    (Kind::Slots, 25, &[], &[1], 7, 5),
+    // The input before the output, and both before the store.
+    (Kind::File, 7, &[0], &[0], 8, 0),
+    (Kind::File, 7, &[1], &[0], 9, 0),
+    (Kind::Slots, 25, &[0], &[0], 8, 0),
+    (Kind::Slots, 25, &[1], &[0], 9, 0),
+    // The output after the store, and no device.
+    (Kind::File, NEVER, &[], &[1], 9, 5),
+    (Kind::File, NEVER, &[], &[], 0, 11),
+    (Kind::Slots, NEVER, &[], &[1], 9, 5),
+    (Kind::Slots, NEVER, &[], &[], 0, 11),
+];
+
+#[test]
+fn the_first_device_that_fails_decides_the_status(rt: HostRuntime) -> Result<(), Fail> {
+    for (i, (kind, failing, reads, writes, status, answered)) in ENDS.iter().enumerate() {
+        let end = session_end(&rt, *kind, *failing, reads, writes)?;
+        assert_eq!(rt; end, (*status, *answered), "{i}");
     }
     Ok(())
 }
