@@ -2,7 +2,6 @@
 
 ghost use Rattle.std.specs.Prelude.{◌≡◌, map, string_bytes, IfSome, IsTrue, IsFalse};
 ghost use Rattle.rls_io.specs.Device.{Rose};
-ghost use Rattle.rls_top.specs.Words.{command_of};
 ghost use Rattle.rls_cli.specs.Folder.{CountsWith, faults_of};
 ghost use Rattle.rls_cli.specs.Performing.{CommandCalls, CommandEnds, SessionCalls, SessionEnds, begins_session};
 
