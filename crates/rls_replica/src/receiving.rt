@@ -21,7 +21,7 @@ impl Replica {
     /// the operation is given up.
     ///
     /// It costs a few look-ups, and where it is accepted the change of the text: a deletion also a look-up for each stretch of its
-    /// targets that are adjacent in the text, and if some targets are gone a translation of each unstable deletion; a rename that
+    /// targets that are adjacent in the text or gone, and at the first gone one a translation of each unstable deletion; a rename that
     /// becomes the greatest epoch a pass over the runs of the text.
     pub fn receive(&mut self, op: Op) -> Result<Receipt, AllocError>
         ensures answer { IfOk result (λ r. answer_of r ≡ answer_over false self.old op) }

@@ -1,4 +1,4 @@
-use Rattle.std.proofs.Common.{◌∙◌, ◌+◌, ◌<◌, ◌≤◌, length, arith}
+use Rattle.std.proofs.Common.{◌∙◌, ◌+◌, ◌≤◌, length, arith}
 use Rattle.rls_replica.proofs.Targets.{known_many}
 use Rattle.rls_replica.proofs.replica.Replica.names_count.Goals as goal
 

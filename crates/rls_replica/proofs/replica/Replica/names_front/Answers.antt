@@ -1,5 +1,5 @@
 use Rattle.rls_ident.proofs.Members.{get_in}
-use Rattle.std.proofs.Common.{◌≡◌, ◌∙◌, ◌<◌, ◌≤◌, Some, length, false, true, sym, subst, ap}
+use Rattle.std.proofs.Common.{◌≡◌, ◌∙◌, ◌<◌, ◌≤◌, length, false, true, sym, subst, ap}
 use Rattle.rls_ident.specs.Lists.{IsIn}
 use Rattle.rls_ops.specs.Rows.{is_covered}
 use Rattle.rls_seen.specs.Seen.{Seen, stable_over, translate_over}
