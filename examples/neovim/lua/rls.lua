@@ -309,14 +309,19 @@ function Replica:close()
   self:ask('q')
 end
 
-function M.open(folder, shared)
+local function opened(folder, shared)
   local self = setmetatable({ folder = vim.fn.fnamemodify(folder, ':p'), shared = vim.fn.fnamemodify(shared, ':p'):gsub('/$', ''),
     taken = {}, sent = {}, lines = { '' }, problem = '', edited = uv.now() }, Replica)
   if vim.fn.isdirectory(self.folder) == 0 then error('rls: there is no folder ' .. self.folder, 0) end
   vim.fn.mkdir(self.shared, 'p')
   self:start()
   -- Which member this is: the head of a message tells it.
-  self.head = self:message(0)
+  local done, head = pcall(self.message, self, 0)
+  if not done then
+    self.session.input:close()
+    error(head, 0)
+  end
+  self.head = head
   self.group, self.members, self.me = decimal(self.head:sub(6, 13)), u32(self.head, 13), u32(self.head, 17)
   self.buf = api.nvim_create_buf(true, false)
   replicas[self.buf] = self
@@ -342,6 +347,13 @@ function M.open(folder, shared)
   end))
   self:try('sync')
   return self
+end
+
+-- Opens a replica. If it can't be opened, one line says why, and the answer is nil.
+function M.open(folder, shared)
+  local done, answer = pcall(opened, folder, shared)
+  if done then return answer end
+  vim.notify(tostring(answer), vim.log.levels.ERROR)
 end
 
 function M.undo()

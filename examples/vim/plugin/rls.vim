@@ -29,10 +29,15 @@ endfunction
 function s:read_more(r) abort
   let more = ch_readblob(a:r.job, {'timeout': 10000})
   if len(more) == 0
-    let why = filereadable(a:r.errors) ? join(readfile(a:r.errors), ' ') : ''
-    throw 'rls: the session ' . (job_status(a:r.job) ==# 'dead' ? 'ended' : 'gives no answer') . (why ==# '' ? '' : ': ' . why)
+    call s:silent(a:r)
   endif
   let a:r.have = a:r.have + more
+endfunction
+
+" Says why there is no session to talk with.
+function s:silent(r) abort
+  let why = filereadable(a:r.errors) ? join(readfile(a:r.errors), ' ') : ''
+  throw 'rls: the session ' . (job_status(a:r.job) ==# 'dead' ? 'ended' : 'gives no answer') . (why ==# '' ? '' : ': ' . why)
 endfunction
 
 " The next line of a reply.
@@ -60,6 +65,9 @@ endfunction
 
 " Sends a request, a string or a blob without its line feed, and answers the first line of the reply.
 function s:ask(r, request) abort
+  if ch_status(a:r.job) !=# 'open'
+    call s:silent(a:r)
+  endif
   call ch_sendraw(a:r.job, a:request)
   call ch_sendraw(a:r.job, "\n")
   let a:r.given += len(a:request) + 1
@@ -355,7 +363,12 @@ function s:open_replica(folder, shared) abort
   call mkdir(r.shared, 'p')
   call s:start(r)
   " Which member this is: the head of a message tells it.
-  let r.head = s:message(r, 0)
+  try
+    let r.head = s:message(r, 0)
+  catch
+    call job_stop(r.job)
+    throw v:exception
+  endtry
   let [r.members, r.me, r.group] = [s:u32(r.head, 13), s:u32(r.head, 17), 0]
   for byte in blob2list(r.head[5:12])
     let r.group = r.group * 256 + byte
@@ -368,6 +381,10 @@ function s:open_replica(folder, shared) abort
   let s:open[buf] = r
   call s:show(buf)
   setlocal nomodified statusline=%f%m\ %{RlsStatus()}%=%l,%c
+  " Faults are told in the status line, and by default Vim shows none for a lone window.
+  if &laststatus == 1
+    set laststatus=2
+  endif
   augroup rls
     execute 'autocmd TextChanged,TextChangedI,TextChangedP <buffer=' . buf . '> call s:try("s:flush", ' . buf . ')'
     execute 'autocmd BufWriteCmd <buffer=' . buf . '> call s:try("s:sync", ' . buf . ')'
@@ -375,6 +392,15 @@ function s:open_replica(folder, shared) abort
   augroup END
   let r.timer = timer_start(g:rls_every, {_ -> s:try('s:tick', buf)}, {'repeat': -1})
   call s:try('s:sync', buf)
+endfunction
+
+" What `:RlsOpen` does: a replica that can't be opened is told in one line.
+function s:try_open(folder, shared) abort
+  try
+    call s:open_replica(a:folder, a:shared)
+  catch
+    echohl ErrorMsg | echomsg v:exception | echohl None
+  endtry
 endfunction
 
 " After a fault nothing more is done with the buffer, which keeps what it shows.
@@ -410,5 +436,5 @@ function RlsStatus() abort
   return r.failed !=# '' ? r.failed : printf('member %d of %d%s%s', r.me, r.members, r.unsaved ? ', not stored' : '', r.problem)
 endfunction
 
-command -nargs=+ -complete=dir RlsOpen call s:open_replica(<f-args>)
+command -nargs=+ -complete=dir RlsOpen call s:try_open(<f-args>)
 command RlsUndo call s:try('s:undo', bufnr('%'))
