@@ -1,6 +1,6 @@
 """A client of `rls`: a replica by commands, a replica by a session, and messages through a shared folder.
 
-    replica = Commands.new("~/notes", group=7, me=0, members=4)     # once
+    replica = Commands.new("~/notes", group=7, me=0, members=4)     # once, and from then on Commands("~/notes")
     replica.set_text("what the buffer holds")                       # the least edits that make it so
     Mailbox("~/Dropbox/notes", replica.head()).sync(replica)        # take what came, send what is new
     replica.text()
@@ -34,7 +34,7 @@ class RlsError(Exception):
     """A command that ended with another status than 0."""
 
     def __init__(self, status, line, words=()):
-        super().__init__(f"rls {' '.join(words)}: {MEANINGS.get(status, 'unknown status')} ({line or 'no line'}, status {status})")
+        super().__init__(f"{' '.join(('rls', *words))}: {MEANINGS.get(status, 'unknown status')} ({line or 'no line'}, status {status})")
         self.status, self.line = status, line
 
 
@@ -133,6 +133,14 @@ def no_surrogates(text):
     return text
 
 
+def opened(folder):
+    """The folder of a replica, opened to be locked."""
+    try:
+        return os.open(folder, os.O_RDONLY | os.O_DIRECTORY)
+    except (FileNotFoundError, NotADirectoryError):
+        raise RlsError(2, f"there is no folder {folder}") from None
+
+
 # ---------------------------------------------------------------------------- by commands
 
 class Commands:
@@ -143,6 +151,8 @@ class Commands:
 
     @classmethod
     def new(cls, folder, group, me, members, program=None):
+        """Begins a replica, with a number that nobody has used. If the folder has one already, this is an RlsError with status 2;
+        then Commands(folder) is that replica."""
         self = cls(folder, program)
         os.makedirs(self.folder, exist_ok=True)
         self._run("new", str(group), str(me), str(members))
@@ -152,7 +162,7 @@ class Commands:
     def locked(self):
         """Two programs may not use one folder at once, and the program doesn't look. So each call holds the folder, as the launcher does,
         which is told so by RLS_LOCKED."""
-        fd = os.open(self.folder, os.O_RDONLY)
+        fd = opened(self.folder)
         try:
             fcntl.flock(fd, fcntl.LOCK_EX)
             yield
@@ -228,7 +238,7 @@ class Session:
         self._start()
 
     def _start(self):
-        self.lock = os.open(self.folder, os.O_RDONLY)
+        self.lock = opened(self.folder)
         try:
             fcntl.flock(self.lock, fcntl.LOCK_EX | fcntl.LOCK_NB)
         except OSError:
@@ -428,5 +438,7 @@ class Mailbox:
         return count
 
     def sync(self, replica):
+        """Takes what came and sends what is new. Answers the reports, each a pair of the sender and a Report, or the RlsError if its
+        message couldn't be taken, and to how many members something was written."""
         reports = self.receive(replica)
         return reports, self.send(replica)

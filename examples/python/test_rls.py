@@ -56,6 +56,12 @@ class ByCommands(Room):
         a.set_text("")
         self.assertEqual(a.text(), "")
 
+    def test_no_folder(self):
+        for begin in (lambda: Commands(self.path("nowhere")).text(), lambda: Session(self.path("nowhere"))):
+            with self.assertRaises(RlsError) as caught:
+                begin()
+            self.assertEqual(caught.exception.status, 2)
+
     def test_head(self):
         self.assertEqual(self.two()[1].head(), Head(7, 2, 1, (0, 0)))
 
