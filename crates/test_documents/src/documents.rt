@@ -5,7 +5,6 @@ ghost use Rattle.rls_doc.specs.Documents.{KeepsOrder};
 ghost use Rattle.rls_rename.specs.Renaming.{forward};
 ghost use Rattle.rls_runs.specs.Runs.{idents_of};
 
-use crate::spelling::{Spelled, run_of};
 use rls_doc::{Document, RunMap, VecDocument};
 use rls_ident::{Ident, Tuple};
 use rls_ops::Text;
@@ -272,20 +271,99 @@ fn both_documents_answer_the_same(rt: HostRuntime) -> Result<(), Fail> {
     Ok(())
 }
 
-/// Runs and their characters that are put in one after another, the text that comes of it, and how many runs it has.
-type Row<'a> = (&'a [(&'a [Spelled<'a>], &'a str)], &'a str, u64);
+/// A run: the offset of its first identifier among those of the first operation, whether it is within the text of that one, right after
+/// this identifier, and its length.
+type Place = (i32, bool, u32);
+
+/// Runs, and their characters, that are put in at once.
+type Put = (&'static [Place], &'static str);
+
+/// What is put in, one after another, the text that comes of it, and how many runs it has.
+type Row = (&'static [Put], &'static str, u64);
+
+const ROWS: &[Row] = &[
+    // A run is cut at two places, and goes on at its end.
+    (
+        &[
+            (&[(0, false, 10)], "abcdefghij"),
+            (&[(1, true, 2), (5, true, 1), (10, false, 2)], "XYZkl"),
+        ],
+        "abXYcdefZghijkl",
+        5,
+    ),
+    // Others are between the identifiers of a run.
+    (
+        &[(&[(1, true, 2)], "XY"), (&[(0, false, 4)], "abcd")],
+        "abXYcd",
+        3,
+    ),
+    // One run before all, and a gap that is filled.
+    (
+        &[
+            (&[(0, false, 2), (4, false, 2)], "abef"),
+            (&[(-3, false, 1), (2, false, 2)], "*cd"),
+        ],
+        "*abcdef",
+        2,
+    ),
+    // Each new run touches both neighbours.
+    (
+        &[
+            (&[(2, false, 1), (5, false, 1)], "cf"),
+            (&[(0, false, 2), (3, false, 2), (6, false, 2)], "abdegh"),
+        ],
+        "abcdefgh",
+        1,
+    ),
+    // A run touches two blocks, of which the second one is cut.
+    (
+        &[
+            (&[(0, false, 2), (5, false, 4)], "abfghi"),
+            (&[(2, false, 3), (6, true, 1)], "cdeX"),
+        ],
+        "abcdefgXhi",
+        3,
+    ),
+    // Before and after all, touching nothing.
+    (
+        &[
+            (&[(0, false, 2)], "ab"),
+            (&[(-5, false, 1), (9, false, 1)], "<>"),
+        ],
+        "<ab>",
+        3,
+    ),
+    // Two runs in one gap, of which one touches the block after it.
+    (
+        &[
+            (&[(0, false, 1), (9, false, 2)], "ajk"),
+            (&[(3, false, 1), (8, false, 1)], "di"),
+        ],
+        "adijk",
+        3,
+    ),
+    // Into nothing.
+    (&[(&[(0, false, 1), (3, false, 1)], "ad")], "ad", 2),
+];
+
+/// The run at a place.
+fn placed(alloc: Global, place: Place) -> Result<Run, Fail> {
+    let (offset, is_within, len) = place;
+    let first = if is_within {
+        Ident::from_tuples(alloc, &[own(1, offset), own(2, 0)])?
+    } else {
+        Ident::from_tuples(alloc, &[own(1, offset)])?
+    };
+    Ok(Run::new(first, len)?)
+}
 
 /// Puts runs in, and tells whether none of their identifiers was there.
-fn puts<D: Document>(
-    alloc: Global,
-    document: &mut D,
-    runs: &[Spelled<'_>],
-    characters: &str,
-) -> Result<bool, Fail> {
+fn puts<D: Document>(alloc: Global, document: &mut D, put: Put) -> Result<bool, Fail> {
+    let (places, characters) = put;
     let mut idents = Runs::new(alloc);
-    for run in runs {
+    for place in places {
         if idents.total() < 900 {
-            idents.push(run_of(alloc, *run)?)?;
+            idents.push(placed(alloc, *place)?)?;
         }
     }
     let text = Text::from_str(alloc, characters)?;
@@ -295,10 +373,10 @@ fn puts<D: Document>(
     Ok(replace(alloc, document, &idents, &text)? == 0)
 }
 
-/// Whether the steps of a row lead to its text.
-fn leads<D: Document>(alloc: Global, document: &mut D, row: &Row<'_>) -> Result<bool, Fail> {
-    for (runs, characters) in row.0 {
-        if !puts(alloc, document, runs, characters)? {
+/// Whether what is put in leads to the text of a row.
+fn leads<D: Document>(alloc: Global, document: &mut D, row: &Row) -> Result<bool, Fail> {
+    for put in row.0 {
+        if !puts(alloc, document, *put)? {
             return Ok(false);
         }
     }
@@ -306,99 +384,14 @@ fn leads<D: Document>(alloc: Global, document: &mut D, row: &Row<'_>) -> Result<
     Ok(text.as_str() == row.1 && document.run_count() == row.2)
 }
 
-/// The first row that doesn't lead to its text, in one of the two documents.
-fn fault_among(alloc: Global, rows: &[Row<'_>]) -> Result<Option<usize>, Fail> {
-    for (i, row) in rows.iter().enumerate() {
-        let plain = leads(alloc, &mut VecDocument::new(alloc), row)?;
-        let tree = leads(alloc, &mut BlockTree::new(alloc), row)?;
-        if !plain || !tree {
-            return Ok(Some(i));
-        }
-    }
-    Ok(None)
-}
-
 #[test]
 fn runs_go_into_gaps(rt: HostRuntime) -> Result<(), Fail> {
     let alloc = rt.alloc();
-    let rows: &[Row<'_>] = &[
-        // a run is cut at two places, and goes on at its end
-        (
-            &[
-                (&[(&[own(1, 0)], 10)], "abcdefghij"),
-                (
-                    &[
-                        (&[own(1, 1), own(2, 0)], 2),
-                        (&[own(1, 5), own(2, 0)], 1),
-                        (&[own(1, 10)], 2),
-                    ],
-                    "XYZkl",
-                ),
-            ],
-            "abXYcdefZghijkl",
-            5,
-        ),
-        // others are between the identifiers of a run
-        (
-            &[
-                (&[(&[own(1, 1), own(2, 0)], 2)], "XY"),
-                (&[(&[own(1, 0)], 4)], "abcd"),
-            ],
-            "abXYcd",
-            3,
-        ),
-        // one run before all, and a gap that is filled
-        (
-            &[
-                (&[(&[own(1, 0)], 2), (&[own(1, 4)], 2)], "abef"),
-                (&[(&[own(1, -3)], 1), (&[own(1, 2)], 2)], "*cd"),
-            ],
-            "*abcdef",
-            2,
-        ),
-        // each new run touches both neighbours
-        (
-            &[
-                (&[(&[own(1, 2)], 1), (&[own(1, 5)], 1)], "cf"),
-                (
-                    &[(&[own(1, 0)], 2), (&[own(1, 3)], 2), (&[own(1, 6)], 2)],
-                    "abdegh",
-                ),
-            ],
-            "abcdefgh",
-            1,
-        ),
-        // a run touches two blocks, of which the second one is cut
-        (
-            &[
-                (&[(&[own(1, 0)], 2), (&[own(1, 5)], 4)], "abfghi"),
-                (&[(&[own(1, 2)], 3), (&[own(1, 6), own(2, 0)], 1)], "cdeX"),
-            ],
-            "abcdefgXhi",
-            3,
-        ),
-        // before and after all, touching nothing
-        (
-            &[
-                (&[(&[own(1, 0)], 2)], "ab"),
-                (&[(&[own(1, -5)], 1), (&[own(1, 9)], 1)], "<>"),
-            ],
-            "<ab>",
-            3,
-        ),
-        // two runs in one gap, of which one touches the block after it
-        (
-            &[
-                (&[(&[own(1, 0)], 1), (&[own(1, 9)], 2)], "ajk"),
-                (&[(&[own(1, 3)], 1), (&[own(1, 8)], 1)], "di"),
-            ],
-            "adijk",
-            3,
-        ),
-        // into nothing
-        (&[(&[(&[own(1, 0)], 1), (&[own(1, 3)], 1)], "ad")], "ad", 2),
-    ];
-    assert_eq!(rt; fault_among(alloc, rows)?, None);
+    for (i, row) in ROWS.iter().enumerate() {
+        let plain = leads(alloc, &mut VecDocument::new(alloc), row)?;
+        let tree = leads(alloc, &mut BlockTree::new(alloc), row)?;
+        assert!(rt; plain && tree, "row {i}");
+    }
     Ok(())
 }
 
