@@ -136,13 +136,13 @@ fn refusal_at(alloc: Global, at: &str) -> Result<String, AllocError> {
 }
 
 /// The first step that goes otherwise than it has to, of a member whose script gets this status, and whose text is this then.
-fn fault_after(
+fn fault_after<'x>(
     alloc: Global,
-    script: &str,
+    script: &'x str,
     status: u8,
-    report: &str,
-    refusal: &str,
-    left: &str,
+    report: &'x str,
+    refusal: &'x str,
+    left: &'x str,
 ) -> Result<Option<usize>, Fail> {
     let steps: &[Step<'_>] = &[
         NEW,
