@@ -1,5 +1,6 @@
 pub mod Low
 pub mod Pieces
+pub mod Splits
 pub mod Located
 pub mod Parts
 pub mod Loose

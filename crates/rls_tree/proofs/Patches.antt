@@ -183,14 +183,13 @@ module _ (items rest : List Patch) (p : Patch) (front behind total : List Piece)
   value = ap (λ ps. patched ps front ++ behind) (sym order) ∙ e
 
   -- no part is longer than all
-  pub parts_fit : (far : List Piece) → far ≡ after p.to front → length (entries_of total) < 2 ^ 64 → (length (entries_of (p.fresh.blocks ++ far)) < 2 ^ 64) × (length (entries_of ((p.fresh.blocks ++ far) ++ behind)) < 2 ^ 64)
+  pub parts_fit : (far : List Piece) → far ≡ after p.to front → length (entries_of total) < 2 ^ 64 → length (entries_of p.fresh.blocks) + length (entries_of far) + length (entries_of behind) < 2 ^ 64
   parts_fit far f l =
       let first = patched (reverse rest) (before p.from front) in
       let last = p.fresh.blocks ++ after p.to front in
       let all = ap (λ bs. length (entries_of bs)) value in
-      let own = ap (λ bs. length (entries_of (p.fresh.blocks ++ bs))) f in
-      let both = ap (λ bs. length (entries_of ((p.fresh.blocks ++ bs) ++ behind))) f in
-      (omega (arith, all, own, chars_append (first ++ last) behind, chars_append first last, l), omega (arith, all, both, chars_append (first ++ last) behind, chars_append first last, chars_append last behind, l))
+      let own = ap (λ bs. length (entries_of bs)) f in
+      omega (arith, all, own, chars_append (first ++ last) behind, chars_append first last, chars_append p.fresh.blocks (after p.to front), l)
 
   pub last_put : (near far kept done : List Piece) → near ≡ before p.to front → far ≡ after p.to front → kept ≡ before p.from near → done ≡ (p.fresh.blocks ++ far) ++ behind → ArePatches (reverse rest) kept × (patched (reverse rest) kept ++ done ≡ total)
   last_put near far kept done n f k d =

@@ -1,5 +1,5 @@
 -- How many characters blocks have.
-use Rattle.std.proofs.Common.{◌≡◌, ◌+◌, ◌<◌, List, [], ◌∷◌, ◌++◌, length, refl, sym, ap, ◌∙◌, arith, length-append, append_assoc, true, None}
+use Rattle.std.proofs.Common.{◌≡◌, ◌+◌, ◌<◌, ◌≤◌, List, [], ◌∷◌, ◌++◌, length, refl, sym, ap, ◌∙◌, arith, length-append, append_assoc, true, None}
 use Rattle.std.proofs.lemmas.List.{map-append, length-map}
 use Rattle.std.proofs.lemmas.Slice.Zip.{length-zip, firsts-zip}
 use Rattle.std.specs.List.{list_all}
@@ -58,6 +58,11 @@ piece_some b h =
     let r = run_some b.0 h.sound in
     let m = h.as_many in
     omega (arith, r, m)
+
+-- each block has a character
+pub count_most : (bs : List Piece) → ArePieces bs → length bs ≤ length (entries_of bs)
+count_most [] h = omega arith
+count_most (b ∷ bs) h = omega (arith, node_length [] bs b h.0, piece_some b h.0, count_most bs h.1)
 
 pub are_append : (xs : List Piece) (b : Piece) (ys : List Piece) → ArePieces xs → IsPiece b.0 b.1 → ArePieces ys → ArePieces (xs ++ b ∷ ys)
 are_append [] b ys h p k = (p, k)

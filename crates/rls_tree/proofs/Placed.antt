@@ -7,10 +7,10 @@ use Rattle.rls_ident.proofs.Members.{and_left, and_right, eq_is, eq_test, lt_is,
 use Rattle.rls_runs.specs.Runs.{run_last}
 use Rattle.rls_tree.specs.declared.side.Side.{Side}
 use Rattle.rls_tree.specs.Trees.{Piece, IsPiece, ArePieces, piece_entries, entries_of, runs_in}
-use Rattle.rls_tree.specs.Edits.{located, put_in, put_among, begins_with, ends_with, goes_on, leads_to}
+use Rattle.rls_tree.specs.Edits.{located, may_put, put_in, put_among, begins_with, ends_with, goes_on, leads_to}
 use Rattle.rls_tree.proofs.Pieces.{piece_length, piece_some}
 use Rattle.rls_tree.proofs.Loose.{last_run}
-use Rattle.rls_tree.proofs.AtPlaces.{located_behind, located_here}
+use Rattle.rls_tree.proofs.AtPlaces.{located_front, located_behind, located_here}
 use Rattle.rls_tree.proofs.Cases.{single_chars}
 
 module _ (side : Side) (n : Piece) where
@@ -149,3 +149,30 @@ pub begun : (bs : List Piece) (i : ℕ) (r : Around bs i) (q : List Tuple × ℕ
 begun bs i r q e =
     let both : (nat_eq r.at 0 && follows r.own.0.0 (run_last q)) ≡ true = ap (λ p. begins_with p q) (sym r.there) ∙ e in
     (eq_is r.at 0 (and_left (nat_eq r.at 0) (follows r.own.0.0 (run_last q)) both), and_right (nat_eq r.at 0) (follows r.own.0.0 (run_last q)) both)
+
+-- ---- around the block of a node
+
+module _ (side : Side) (n b : Piece) (l r link : List Piece) (i : ℕ) (is : link ≡ l ++ b ∷ r) (front : ArePieces l) (own : IsPiece b.0 b.1) where
+  -- in front of the block
+  pub may_front : i < length (entries_of l) → may_put side n (located l i) ≡ may_put side n (located link i)
+  may_front h = ap (may_put side n) (sym (ap (λ bs. located bs i) is ∙ located_front l (b ∷ r) i front h))
+
+  pub put_front : i < length (entries_of l) → put_among side n l i ++ b ∷ r ≡ put_among side n link i
+  put_front h = sym (ap (λ bs. put_among side n bs i) is ∙ among_front side n l (b ∷ r) i front h)
+
+  -- in the block
+  pub may_own : (j : ℕ) → i ≡ length (entries_of l) + j → j < length b.1 → may_put side n (Some (b, j)) ≡ may_put side n (located link i)
+  may_own j e h = ap (may_put side n) (sym (ap (λ bs. located bs i) is ∙ located_behind l (b ∷ r) i j front e ∙ located_here b r j h))
+
+  pub put_own : (j : ℕ) → i ≡ length (entries_of l) + j → j < length b.1 → l ++ put_in side n b j ++ r ≡ put_among side n link i
+  put_own j e h = append_assoc l (put_in side n b j) r ∙ ap (λ bs. l ++ bs) (sym (among_here side n b r j h)) ∙ sym (ap (λ bs. put_among side n bs i) is ∙ among_behind side n l (b ∷ r) i j front e)
+
+  -- after the block
+  pub may_behind : (j : ℕ) → i ≡ length (entries_of l) + (length b.1 + j) → may_put side n (located r j) ≡ may_put side n (located link i)
+  may_behind j e =
+      ap (may_put side n) (sym (ap (λ bs. located bs i) is ∙ located_behind l (b ∷ r) i (length b.1 + j) front e ∙ located_behind (b ∷ []) r (length b.1 + j) j (own, tt) (omega (arith, single_chars b own))))
+
+  pub put_behind : (j : ℕ) → i ≡ length (entries_of l) + (length b.1 + j) → l ++ b ∷ put_among side n r j ≡ put_among side n link i
+  put_behind j e =
+      ap (λ bs. l ++ bs) (sym (among_behind side n (b ∷ []) r (length b.1 + j) j (own, tt) (omega (arith, single_chars b own))))
+      ∙ sym (ap (λ bs. put_among side n bs i) is ∙ among_behind side n l (b ∷ r) i (length b.1 + j) front e)

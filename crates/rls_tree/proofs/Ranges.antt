@@ -13,15 +13,16 @@ use Rattle.rls_ident.proofs.Members.{and_true, not_true}
 use Rattle.rls_ident.proofs.Shifted.{shifted_none, shifted_less}
 use Rattle.rls_ident.proofs.Tuples.{tuples}
 use Rattle.rls_runs.specs.Runs.{run_last, is_run, are_apart}
-use Rattle.rls_runs.proofs.RunOrder.{less_shifted, run_ident, apart_rest}
+use Rattle.rls_runs.proofs.RunOrder.{less_shifted, run_ident, run_some, apart_rest}
 use Rattle.rls_runs.proofs.RunsApart.{apart_right, ahead}
-use Rattle.rls_tree.specs.Trees.{Piece, runs_in, piece_entries, entries_of}
+use Rattle.rls_tree.specs.Splits.{IsBetweenLists, IsWithin}
+use Rattle.rls_tree.specs.Trees.{Piece, IsPiece, runs_in, piece_entries, entries_of}
 use Rattle.rls_tree.specs.Edits.{part_of, joined, goes_on, leads_to, are_loose, removed, Shows}
-use Rattle.rls_tree.proofs.Pieces.{entries_append}
-use Rattle.rls_tree.proofs.Loose.{last_run, runs_append, replaced, loose_of}
+use Rattle.rls_tree.proofs.Pieces.{entries_append, runs_sound}
+use Rattle.rls_tree.proofs.Loose.{last_run, last_append, runs_append, replaced, loose_of}
 use Rattle.rls_tree.proofs.Changes.{entries_joined, follows_is, back, halves}
-use Rattle.rls_tree.proofs.Cases.{alone_entries, middle_entries, three_entries, part_last, touch, joined_last, leads_alike, last_more, one_replaced, own_loose, both_loose, part_length, own_length, one_length}
-use Rattle.rls_tree.proofs.AtPlaces.{part_exact}
+use Rattle.rls_tree.proofs.Cases.{alone_entries, middle_entries, three_entries, part_last, touch, joined_last, leads_alike, last_more, one_replaced, own_loose, both_loose, middle_shows}
+use Rattle.rls_tree.proofs.AtPlaces.{part_exact, taken_within}
 
 -- ---- what doesn't go on with a run
 
@@ -170,12 +171,95 @@ into_out f g b at i k n h l e =
     ap (λ es. es ++ (y ++ entries_of g)) (sym front ∙ ap (take i) (sym all))
     ∙ ap (λ es. take i (entries_of (f ++ (b ∷ []) ++ g)) ++ es) (sym (drop-append_seam (entries_of f ++ x) (y ++ entries_of g)) ∙ ap (λ j. drop j ((entries_of f ++ x) ++ (y ++ entries_of g))) q ∙ ap (drop (i + k)) (sym all))
 
--- ---- numbers of characters
+-- ---- a range taken out of split trees
 
-pub part_less : (b : Piece) (k n : ℕ) (old new : List Piece) → old ≡ b ∷ [] → new ≡ part_of k n b ∷ [] → length b.1 ≡ b.0.1 → n ≤ b.0.1 → length (entries_of new) ≤ length (entries_of old)
-part_less b k n old new e d m l =
-    let o = ap (λ bs. length (entries_of bs)) e in
-    let w = ap (λ bs. length (entries_of bs)) d in
-    let p = part_length b k n in
-    let q = own_length b m in
-    omega (arith, o, w, p, q, one_length b, one_length (part_of k n b), l)
+-- the blocks from which the range goes are split at its end and at its start
+module _ (link near f m g : List Piece) (i n : ℕ) where
+  -- whole blocks go
+  pub gap_out : IsBetweenLists link (i + n) near g → IsBetweenLists near i f m → entries_of f ++ entries_of g ≡ removed i n (entries_of link)
+  gap_out h k =
+      ap (λ es. es ++ entries_of g) (sym (taken_between f m i k.place) ∙ ap (λ bs. take i (entries_of bs)) (sym k.blocks))
+      ∙ end_out near g i n h.place ∙ ap (λ bs. removed i n (entries_of bs)) (sym h.blocks)
+
+  -- the first block keeps its front
+  pub back_out : (b : Piece) (at : ℕ) → IsBetweenLists link (i + n) near g → IsWithin near i f b at m → are_apart None (runs_in link) ≡ true → Shows (removed i n (entries_of link)) (f ++ part_of 0 at b ∷ g)
+  back_out b at h k apart =
+      let many = k.piece.as_many in
+      let own : near ≡ f ++ (b ∷ []) ++ m = k.blocks ∙ sym (append_assoc f (b ∷ []) m) in
+      let all : link ≡ f ++ (b ∷ []) ++ m ++ g = h.blocks ∙ ap (λ bs. bs ++ g) own in
+      let between = runs_sound m k.behind_are in
+      let shows = back_shows f m g b k.piece.sound between (subst (λ bs. are_apart None (runs_in bs) ≡ true) all apart) at k.some (omega (arith, k.within, many)) in
+      let out = ap (λ es. es ++ entries_of g) (sym (taken_in f m b at i many (omega (arith, k.within, many)) k.place) ∙ ap (λ bs. take i (entries_of bs)) (sym own))
+      ∙ end_out near g i n h.place ∙ ap (λ bs. removed i n (entries_of bs)) (sym h.blocks) in
+      subst (Shows (removed i n (entries_of link))) (append_assoc f (part_of 0 at b ∷ []) g) (subst (λ es. Shows es (f ++ (part_of 0 at b ∷ []) ++ g)) out shows)
+
+  -- the last block keeps its back
+  pub front_out : (d : Piece) (end : ℕ) → IsWithin link (i + n) near d end g → IsBetweenLists near i f m → are_apart None (runs_in link) ≡ true → Shows (removed i n (entries_of link)) (f ++ part_of end (d.0.1 - end) d ∷ g)
+  front_out d end h k apart =
+      let many = h.piece.as_many in
+      let own : link ≡ near ++ (d ∷ []) ++ g = h.blocks ∙ sym (append_assoc near (d ∷ []) g) in
+      let all : link ≡ f ++ m ++ (d ∷ []) ++ g = own ∙ ap (λ bs. bs ++ (d ∷ []) ++ g) k.blocks in
+      let between = runs_sound m k.behind_are in
+      let shows = front_shows f m g d h.piece.sound between (subst (λ bs. are_apart None (runs_in bs) ≡ true) all apart) end h.some (omega (arith, h.within, many)) in
+      let y = piece_entries (part_of end (d.0.1 - end) d) in
+      let out = ap (λ es. es ++ (y ++ entries_of g)) (sym (taken_between f m i k.place) ∙ ap (λ bs. take i (entries_of bs)) (sym k.blocks))
+      ∙ into_out near g d end i n many (omega (arith, h.within, many)) (omega (arith, k.place, k.chars)) h.place ∙ ap (λ bs. removed i n (entries_of bs)) (sym own) in
+      subst (Shows (removed i n (entries_of link))) (append_assoc f (part_of end (d.0.1 - end) d ∷ []) g) (subst (λ es. Shows es (f ++ (part_of end (d.0.1 - end) d ∷ []) ++ g)) out shows)
+
+  -- both
+  pub ends_out : (b d : Piece) (at end : ℕ) → IsWithin link (i + n) near d end g → IsWithin near i f b at m → are_apart None (runs_in link) ≡ true
+      → Shows (removed i n (entries_of link)) (f ++ part_of 0 at b ∷ part_of end (d.0.1 - end) d ∷ g)
+  ends_out b d at end h k apart =
+      let many = k.piece.as_many in
+      let other = h.piece.as_many in
+      let first : near ≡ f ++ (b ∷ []) ++ m = k.blocks ∙ sym (append_assoc f (b ∷ []) m) in
+      let last : link ≡ near ++ (d ∷ []) ++ g = h.blocks ∙ sym (append_assoc near (d ∷ []) g) in
+      let all : link ≡ f ++ (b ∷ []) ++ m ++ (d ∷ []) ++ g = last ∙ ap (λ bs. bs ++ (d ∷ []) ++ g) first in
+      let between = runs_sound m k.behind_are in
+      let shows = ends_shows f m g b k.piece.sound between d h.piece.sound (subst (λ bs. are_apart None (runs_in bs) ≡ true) all apart) at end k.some (omega (arith, k.within, many)) h.some (omega (arith, h.within, other)) in
+      let x = part_of 0 at b in
+      let y = part_of end (d.0.1 - end) d in
+      let out = ap (λ es. es ++ (piece_entries y ++ entries_of g)) (sym (taken_in f m b at i many (omega (arith, k.within, many)) k.place) ∙ ap (λ bs. take i (entries_of bs)) (sym first))
+      ∙ into_out near g d end i n other (omega (arith, h.within, other)) (omega (arith, k.place, k.chars, k.within)) h.place ∙ ap (λ bs. removed i n (entries_of bs)) (sym last) in
+      subst (Shows (removed i n (entries_of link))) (append_assoc f (x ∷ y ∷ []) g) (subst (λ es. Shows es (f ++ (x ∷ y ∷ []) ++ g)) out shows)
+
+-- characters go out of the middle of one block
+pub middle_out : (link f g : List Piece) (b : Piece) (at end i n : ℕ) → IsWithin link (i + n) f b end g → 0 < at → 0 < n → length (entries_of f) + at ≡ i → are_apart None (runs_in link) ≡ true
+    → Shows (removed i n (entries_of link)) (f ++ part_of 0 at b ∷ part_of end (b.0.1 - end) b ∷ g)
+middle_out link f g b at end i n h o p e apart =
+    let many = h.piece.as_many in
+    let x = part_of 0 at b in
+    let y = part_of end (b.0.1 - end) b in
+    let all : link ≡ f ++ (b ∷ []) ++ g = h.blocks ∙ sym (append_assoc f (b ∷ []) g) in
+    let k : at + n ≡ end = omega (arith, h.place, e) in
+    let shows = middle_shows f g b h.piece.sound (subst (λ bs. are_apart None (runs_in bs) ≡ true) all apart) at end o (omega (arith, k, p)) (omega (arith, h.within, many)) in
+    let out = ap (λ j. entries_of f ++ piece_entries x ++ (piece_entries (part_of j (b.0.1 - j) b) ++ entries_of g)) (sym k)
+    ∙ taken_within f g b at n i many (omega (arith, k, h.within, many)) e ∙ ap (λ bs. removed i n (entries_of bs)) (sym all) in
+    subst (Shows (removed i n (entries_of link))) (append_assoc f (x ∷ y ∷ []) g) (subst (λ es. Shows es (f ++ (x ∷ y ∷ []) ++ g)) out shows)
+
+-- ---- what stood on both sides of blocks that go
+
+-- nothing stands after them
+pub gap_last : (f m g : List Piece) → g ≡ [] → are_apart None (runs_in (f ++ m ++ g)) ≡ true → Shows (entries_of f ++ entries_of g) f
+gap_last f m g e apart =
+    subst (λ bs. Shows (entries_of f ++ entries_of g) bs) (ap (λ bs. f ++ bs) e ∙ append-nil f) (gone_shows f m g apart (ap (λ bs. leads_to (last_run f) (runs_in bs)) e))
+
+-- it doesn't touch
+pub gap_free : (f m g far : List Piece) (s : Piece) → g ≡ s ∷ far → are_apart None (runs_in (f ++ m ++ g)) ≡ true → goes_on (last_run f) s.0.0 ≡ false → Shows (entries_of f ++ entries_of g) (f ++ s ∷ far)
+gap_free f m g far s e apart n =
+    subst (λ bs. Shows (entries_of f ++ entries_of g) (f ++ bs)) e (gone_shows f m g apart (ap (λ bs. leads_to (last_run f) (runs_in bs)) e ∙ n))
+
+-- it is one block then
+pub gap_merged : (f m g rest far : List Piece) (p s : Piece) → f ≡ rest ++ p ∷ [] → g ≡ s ∷ far → are_apart None (runs_in (f ++ m ++ g)) ≡ true → IsPiece p.0 p.1 → IsPiece s.0 s.1 → follows s.0.0 (run_last p.0) ≡ true → Shows (entries_of f ++ entries_of g) (rest ++ joined p s ∷ far)
+gap_merged f m g rest far p s e d apart x y t =
+    let parted : are_apart None (runs_in (rest ++ (p ∷ []) ++ (m ++ (s ∷ []) ++ far))) ≡ true =
+    subst (λ bs. are_apart None (runs_in bs) ≡ true)
+    (ap (λ bs. bs ++ m ++ g) e ∙ ap (λ bs. (rest ++ p ∷ []) ++ m ++ bs) d ∙ append_assoc (rest ++ p ∷ []) m (s ∷ far) ∙ ap (λ bs. (rest ++ p ∷ []) ++ bs) (sym (append_assoc m (s ∷ []) far))) apart in
+    let shows = merged_shows rest m far p s parted x.as_many (run_some p.0 x.sound) (run_some s.0 y.sound) t in
+    subst (λ bs. Shows (entries_of bs ++ entries_of g) (rest ++ joined p s ∷ far)) (sym e)
+    (subst (λ bs. Shows (entries_of (rest ++ p ∷ []) ++ entries_of bs) (rest ++ joined p s ∷ far)) (sym d)
+    (subst (Shows (entries_of (rest ++ p ∷ []) ++ entries_of (s ∷ far))) (append_assoc rest (joined p s ∷ []) far) shows))
+
+-- whether the block after some blocks goes on with the last of them
+pub last_touches : (f rest : List Piece) (p : Piece) (x : List Tuple) → f ≡ rest ++ p ∷ [] → goes_on (last_run f) x ≡ follows x (run_last p.0)
+last_touches f rest p x e = ap (λ bs. goes_on (last_run bs) x) e ∙ ap (λ r. goes_on r x) (last_append rest p)

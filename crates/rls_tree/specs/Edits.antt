@@ -17,6 +17,21 @@ part_of from len b = ((shifted (pos from) b.0.0, len), take len (drop from b.1))
 abbrev pub joined : Piece → Piece → Piece
 joined a b = ((a.0.0, a.0.1 + b.0.1), a.1 ++ b.1)
 
+-- of two things the one on a side
+abbrev pub on : {A : Type 0} → Side → A → A → A
+on Front a b = a
+on Behind a b = b
+
+-- the block touches the other on this side of it
+abbrev pub may_grow : Side → Piece → Piece → Bool
+may_grow Front n b = follows b.0.0 (run_last n.0)
+may_grow Behind n b = follows n.0.0 (run_last b.0)
+
+-- both as one
+abbrev pub grown : Side → Piece → Piece → Piece
+grown Front n b = joined n b
+grown Behind n b = joined b n
+
 -- the identifier goes on with the run before it, where there is one
 abbrev pub goes_on : Option (List Tuple × ℕ) → List Tuple → Bool
 goes_on None x = false

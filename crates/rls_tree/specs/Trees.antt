@@ -1,6 +1,7 @@
 -- Trees of blocks, each a run with its characters.
 use Rattle.std.specs.Prelude.{◌≡◌, ℕ, ◌+◌, ◌*◌, ◌^◌, ◌≤◌, max, List, [], ◌∷◌, ◌++◌, length, map, zip, Option, Some, None, Box, IsTrue}
 use Rattle.std.specs.declared.alloc.Global.{Global}
+use Rattle.std.proofs.Props as below
 use Rattle.rls_ident.specs.declared.tuple.Tuple.{Tuple}
 use Rattle.rls_runs.specs.Runs.{run_idents, is_run}
 use Rattle.rls_runs.specs.Entries.{Entries}
@@ -32,6 +33,11 @@ abbrev pub ArePieces : List Piece → Type 0
 ArePieces [] = Unit {0}
 ArePieces (b ∷ bs) = IsPiece b.0 b.1 × ArePieces bs
 
+-- a proof of that is as good as any other
+pub pieces_prop : (bs : List Piece) → IsProp (ArePieces bs)
+pieces_prop [] = hlevel
+pieces_prop (b ∷ bs) = hlevel (below.props, pieces_prop bs)
+
 -- a tree: its blocks in order, and how high it is
 pub record Tree : Type 0 where
   pub blocks : List Piece
@@ -48,6 +54,11 @@ pub record Seen : Type 0 where
 -- a node, or none
 abbrev pub MaybeNode : Type 0
 MaybeNode = Option (Box Seen Global)
+
+-- a node whose block is the only one of its tree
+pub record IsAlone (node : Seen) : Type 0 where
+  pub only : node.blocks ≡ node.block ∷ []
+  pub piece : IsPiece node.block.0 node.block.1
 
 -- its blocks
 abbrev pub pieces : MaybeNode → List Piece
@@ -75,4 +86,6 @@ pub record IsSound (left right : Tree) (own : Piece) (front end sum count high :
   pub height_is : high ≡ max left.height right.height + 1
   pub left_not_higher : left.height ≤ right.height + 1
   pub right_not_higher : right.height ≤ left.height + 1
+  pub left_low : IsLow left.height (length left.blocks)
+  pub right_low : IsLow right.height (length right.blocks)
   pub low : IsLow high count

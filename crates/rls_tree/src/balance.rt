@@ -1,31 +1,29 @@
 //! Trees joined and kept in balance.
 
-ghost use Rattle.std.specs.Prelude.{◌≡◌, ◌+◌, ◌^◌, ◌<◌, ◌≤◌, max, ◌++◌, length};
+ghost use Rattle.std.specs.Prelude.{◌≡◌, ◌+◌, ◌^◌, ◌<◌, ◌≤◌, max, ◌∷◌, ◌++◌, length};
 ghost use Rattle.rls_tree.specs.Trees.{entries_of};
 
-use crate::node::{Link, Node};
+use crate::node::{Link, Opened, Single};
 
 /// A block that stands alone, between two trees whose heights differ by one level at most.
-pub(crate) fn make(left: Link, mut middle: Box<Node>, right: Link) -> Link
-    requires one { length middle.value.blocks ≡ 1 }
-    requires chars_fit { length (entries_of (left.blocks ++ middle.value.blocks ++ right.blocks)) < 2 ^ 64 }
+pub(crate) fn make(left: Link, middle: Single, right: Link) -> Link
+    requires chars_fit { length (entries_of left.blocks) + length middle.1 + length (entries_of right.blocks) < 2 ^ 64 }
     requires left_not_higher { left.height ≤ right.height + 1 }
     requires right_not_higher { right.height ≤ left.height + 1 }
-    ensures blocks { result.blocks ≡ left.blocks ++ middle.value.blocks ++ right.blocks }
+    ensures blocks { result.blocks ≡ left.blocks ++ middle ∷ right.blocks }
+    ensures chars { length (entries_of result.blocks) ≡ length (entries_of left.blocks) + length middle.1 + length (entries_of right.blocks) }
     ensures height { result.height ≡ max left.height right.height + 1 }
 {
-    middle.put_sides(left, right);
-    Link::to(middle)
+    Opened::new(left, middle, right).close()
 }
 
 /// The same, where the right tree may be two levels higher.
-#[tactic(auto, using(crate::proofs::Pieces::chars_append))]
-pub(crate) fn lean_right(left: Link, middle: Box<Node>, right: Link) -> Link
-    requires one { length middle.value.blocks ≡ 1 }
-    requires chars_fit { length (entries_of (left.blocks ++ middle.value.blocks ++ right.blocks)) < 2 ^ 64 }
+pub(crate) fn lean_right(left: Link, middle: Single, right: Link) -> Link
+    requires chars_fit { length (entries_of left.blocks) + length middle.1 + length (entries_of right.blocks) < 2 ^ 64 }
     requires left_not_higher { left.height ≤ right.height + 1 }
     requires right_not_higher { right.height ≤ left.height + 2 }
-    ensures blocks { result.blocks ≡ left.blocks ++ middle.value.blocks ++ right.blocks }
+    ensures blocks { result.blocks ≡ left.blocks ++ middle ∷ right.blocks }
+    ensures chars { length (entries_of result.blocks) ≡ length (entries_of left.blocks) + length middle.1 + length (entries_of right.blocks) }
     ensures not_lower { max left.height right.height ≤ result.height }
     ensures at_most_one_higher { result.height ≤ max left.height right.height + 1 }
     ensures stays { right.height ≤ left.height + 1 → result.height ≡ max left.height right.height + 1 }
@@ -33,26 +31,27 @@ pub(crate) fn lean_right(left: Link, middle: Box<Node>, right: Link) -> Link
     if right.height() <= left.height() + 1 {
         return make(left, middle, right);
     }
-    let Some((near, outer, far)) = right.open() else {
+    let Some(outer) = right.open() else {
         unreachable!()
     };
-    if near.height() <= far.height() {
-        return make(make(left, middle, near), outer, far);
+    if outer.left.height() <= outer.right.height() {
+        return make(make(left, middle, outer.left), outer.own, outer.right);
     }
-    let Some((low, inner, high)) = near.open() else {
+    let Some(inner) = outer.left.open() else {
         unreachable!()
     };
-    make(make(left, middle, low), inner, make(high, outer, far))
+    let near = make(left, middle, inner.left);
+    let far = make(inner.right, outer.own, outer.right);
+    make(near, inner.own, far)
 }
 
 /// The same, where the left tree may be two levels higher.
-#[tactic(auto, using(crate::proofs::Pieces::chars_append))]
-pub(crate) fn lean_left(left: Link, middle: Box<Node>, right: Link) -> Link
-    requires one { length middle.value.blocks ≡ 1 }
-    requires chars_fit { length (entries_of (left.blocks ++ middle.value.blocks ++ right.blocks)) < 2 ^ 64 }
+pub(crate) fn lean_left(left: Link, middle: Single, right: Link) -> Link
+    requires chars_fit { length (entries_of left.blocks) + length middle.1 + length (entries_of right.blocks) < 2 ^ 64 }
     requires right_not_higher { right.height ≤ left.height + 1 }
     requires left_not_higher { left.height ≤ right.height + 2 }
-    ensures blocks { result.blocks ≡ left.blocks ++ middle.value.blocks ++ right.blocks }
+    ensures blocks { result.blocks ≡ left.blocks ++ middle ∷ right.blocks }
+    ensures chars { length (entries_of result.blocks) ≡ length (entries_of left.blocks) + length middle.1 + length (entries_of right.blocks) }
     ensures not_lower { max left.height right.height ≤ result.height }
     ensures at_most_one_higher { result.height ≤ max left.height right.height + 1 }
     ensures stays { left.height ≤ right.height + 1 → result.height ≡ max left.height right.height + 1 }
@@ -60,24 +59,26 @@ pub(crate) fn lean_left(left: Link, middle: Box<Node>, right: Link) -> Link
     if left.height() <= right.height() + 1 {
         return make(left, middle, right);
     }
-    let Some((far, outer, near)) = left.open() else {
+    let Some(outer) = left.open() else {
         unreachable!()
     };
-    if near.height() <= far.height() {
-        return make(far, outer, make(near, middle, right));
+    if outer.right.height() <= outer.left.height() {
+        return make(outer.left, outer.own, make(outer.right, middle, right));
     }
-    let Some((low, inner, high)) = near.open() else {
+    let Some(inner) = outer.right.open() else {
         unreachable!()
     };
-    make(make(far, outer, low), inner, make(high, middle, right))
+    let far = make(outer.left, outer.own, inner.left);
+    let near = make(inner.right, middle, right);
+    make(far, inner.own, near)
 }
 
 /// Two trees with a block that stands alone between them. It costs the difference of their heights,
 /// and takes no memory.
-pub(crate) fn join(left: Link, middle: Box<Node>, right: Link) -> Link
-    requires one { length middle.value.blocks ≡ 1 }
-    requires chars_fit { length (entries_of (left.blocks ++ middle.value.blocks ++ right.blocks)) < 2 ^ 64 }
-    ensures blocks { result.blocks ≡ left.blocks ++ middle.value.blocks ++ right.blocks }
+pub(crate) fn join(left: Link, middle: Single, right: Link) -> Link
+    requires chars_fit { length (entries_of left.blocks) + length middle.1 + length (entries_of right.blocks) < 2 ^ 64 }
+    ensures blocks { result.blocks ≡ left.blocks ++ middle ∷ right.blocks }
+    ensures chars { length (entries_of result.blocks) ≡ length (entries_of left.blocks) + length middle.1 + length (entries_of right.blocks) }
     ensures not_lower { max left.height right.height ≤ result.height }
     ensures at_most_one_higher { result.height ≤ max left.height right.height + 1 }
 {
@@ -88,39 +89,37 @@ pub(crate) fn join(left: Link, middle: Box<Node>, right: Link) -> Link
 }
 
 // The same, where the right tree is at most one level higher.
-#[tactic(auto, using(crate::proofs::Pieces::chars_append))]
-fn join_low(left: Link, middle: Box<Node>, right: Link) -> Link
-    requires one { length middle.value.blocks ≡ 1 }
-    requires chars_fit { length (entries_of (left.blocks ++ middle.value.blocks ++ right.blocks)) < 2 ^ 64 }
+fn join_low(left: Link, middle: Single, right: Link) -> Link
+    requires chars_fit { length (entries_of left.blocks) + length middle.1 + length (entries_of right.blocks) < 2 ^ 64 }
     requires not_higher { right.height ≤ left.height + 1 }
-    ensures blocks { result.blocks ≡ left.blocks ++ middle.value.blocks ++ right.blocks }
+    ensures blocks { result.blocks ≡ left.blocks ++ middle ∷ right.blocks }
+    ensures chars { length (entries_of result.blocks) ≡ length (entries_of left.blocks) + length middle.1 + length (entries_of right.blocks) }
     ensures not_lower { max left.height right.height ≤ result.height }
     ensures at_most_one_higher { result.height ≤ max left.height right.height + 1 }
 {
     if left.height() <= right.height() + 1 {
         return make(left, middle, right);
     }
-    let Some((far, outer, near)) = left.open() else {
+    let Some(outer) = left.open() else {
         unreachable!()
     };
-    lean_right(far, outer, join_low(near, middle, right))
+    lean_right(outer.left, outer.own, join_low(outer.right, middle, right))
 }
 
 // The same, where the left tree is at most one level higher.
-#[tactic(auto, using(crate::proofs::Pieces::chars_append))]
-fn join_high(left: Link, middle: Box<Node>, right: Link) -> Link
-    requires one { length middle.value.blocks ≡ 1 }
-    requires chars_fit { length (entries_of (left.blocks ++ middle.value.blocks ++ right.blocks)) < 2 ^ 64 }
+fn join_high(left: Link, middle: Single, right: Link) -> Link
+    requires chars_fit { length (entries_of left.blocks) + length middle.1 + length (entries_of right.blocks) < 2 ^ 64 }
     requires not_higher { left.height ≤ right.height + 1 }
-    ensures blocks { result.blocks ≡ left.blocks ++ middle.value.blocks ++ right.blocks }
+    ensures blocks { result.blocks ≡ left.blocks ++ middle ∷ right.blocks }
+    ensures chars { length (entries_of result.blocks) ≡ length (entries_of left.blocks) + length middle.1 + length (entries_of right.blocks) }
     ensures not_lower { max left.height right.height ≤ result.height }
     ensures at_most_one_higher { result.height ≤ max left.height right.height + 1 }
 {
     if right.height() <= left.height() + 1 {
         return make(left, middle, right);
     }
-    let Some((near, outer, far)) = right.open() else {
+    let Some(outer) = right.open() else {
         unreachable!()
     };
-    lean_left(join_high(left, middle, near), outer, far)
+    lean_left(join_high(left, middle, outer.left), outer.own, outer.right)
 }

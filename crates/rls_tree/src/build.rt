@@ -5,8 +5,7 @@ ghost use Rattle.rls_tree.specs.Trees.{entries_of};
 
 use crate::balance::join;
 use crate::block::Block;
-use crate::node::Link;
-use crate::put::new_node;
+use crate::node::{Link, Single};
 use std::alloc::{AllocError, Global};
 
 /// Takes this many blocks from the end, and makes a tree of them. It costs a step for each, and takes memory for as many nodes. After an
@@ -30,7 +29,7 @@ pub(crate) fn built(
     let Some(block) = blocks.pop() else {
         unreachable!()
     };
-    let node = new_node(alloc, block)?;
+    let node = Single::new(alloc, block)?;
     let left = built(alloc, blocks, count - 1 - behind)?;
     Ok(join(left, node, right))
 }

@@ -1,65 +1,67 @@
 //! Blocks cut.
 
-ghost use Rattle.std.specs.Prelude.{◌≡◌, ◌+◌, ◌-◌, ◌<◌, ◌≤◌, [], ◌∷◌, length, IfOk, IfErr};
+ghost use Rattle.std.specs.Prelude.{◌≡◌, ◌+◌, ◌-◌, ◌<◌, ◌≤◌, length, IfOk, IfErr};
 ghost use Rattle.rls_tree.specs.Edits.{part_of};
 
 use crate::block::{Block, part_of_run, part_of_text};
-use crate::node::Node;
+use crate::node::Single;
 use std::alloc::{AllocError, Global};
 
-/// A block that stands alone as two: its characters in front of a place, and those from another place on.
-/// It costs the characters of the shorter one of these two, and those between the places. If it finds no
-/// memory it answers the block as it was.
+/// A block as two: its characters in front of a place, and those from another place on. It costs the characters of the shorter one of
+/// these two, and those between the places. If it finds no memory it answers the block as it was.
 pub(crate) fn cut(
     alloc: Global,
-    mut node: Box<Node>,
+    mut own: Single,
     at: u32,
     from: u32,
-) -> Result<(Box<Node>, Box<Node>), Box<Node>>
-    requires one { length node.value.blocks ≡ 1 }
+) -> Result<(Single, Single), Single>
     requires some { 0 < at }
     requires order { at ≤ from }
-    requires within { from < node.value.block.0.1 }
-    ensures front { IfOk result (λ parts. parts.0.value.blocks ≡ part_of 0 at node.value.block ∷ []) }
-    ensures back { IfOk result (λ parts. parts.1.value.blocks ≡ part_of from (node.value.block.0.1 - from) node.value.block ∷ []) }
-    ensures err { IfErr result (λ old. old.value.blocks ≡ node.value.blocks) }
+    requires within { from < length own.1 }
+    ensures front { IfOk result (λ parts. parts.0 ≡ part_of 0 at own) }
+    ensures back { IfOk result (λ parts. parts.1 ≡ part_of from (own.0.1 - from) own) }
+    ensures front_chars { IfOk result (λ parts. length parts.0.1 ≡ at) }
+    ensures back_chars { IfOk result (λ parts. length parts.1.1 + from ≡ length own.1) }
+    ensures err { IfErr result (λ old. old ≡ own) }
 {
-    let len = node.len();
+    let len = own.len();
     if at < len - from {
-        let Ok(front) = part_node(alloc, &node, 0, at) else {
-            return Err(node);
+        let Ok(front) = part_alone(alloc, &own, 0, at) else {
+            return Err(own);
         };
-        return match node.keep_back(from) {
-            Ok(()) => Ok((front, node)),
-            Err(_) => Err(node),
+        return match own.keep_back(from) {
+            Ok(()) => Ok((front, own)),
+            Err(_) => Err(own),
         };
     }
-    let Ok(back) = part_node(alloc, &node, from, len - from) else {
-        return Err(node);
+    let Ok(back) = part_alone(alloc, &own, from, len - from) else {
+        return Err(own);
     };
-    match node.keep_front(at) {
-        Ok(()) => Ok((node, back)),
-        Err(_) => Err(node),
+    match own.keep_front(at) {
+        Ok(()) => Ok((own, back)),
+        Err(_) => Err(own),
     }
 }
 
-/// Two blocks that stand alone, the first with this many characters at its front, the last with those from a
-/// place on. It costs the characters that go. If it finds no memory it answers both as they were.
+/// Two blocks, the first with this many characters at its front, the last with those from a place on. It costs the characters that go.
+/// If it finds no memory it answers both as they were.
 pub(crate) fn keep_ends(
-    mut first: Box<Node>,
+    mut first: Single,
     at: u32,
-    mut last: Box<Node>,
+    mut last: Single,
     from: u32,
-) -> Result<(Box<Node>, Box<Node>), (Box<Node>, Box<Node>)>
-    requires first { length first.value.blocks ≡ 1 }
-    requires last { length last.value.blocks ≡ 1 }
+) -> Result<(Single, Single), (Single, Single)>
     requires some { 0 < at }
-    requires front { at ≤ first.value.block.0.1 }
-    requires back { from < last.value.block.0.1 }
-    ensures front { IfOk result (λ ends. ends.0.value.blocks ≡ part_of 0 at first.value.block ∷ []) }
-    ensures back { IfOk result (λ ends. ends.1.value.blocks ≡ part_of from (last.value.block.0.1 - from) last.value.block ∷ []) }
-    ensures err { IfErr result (λ old. (old.0.value.blocks ≡ first.value.blocks) × (old.1.value.blocks ≡ last.value.blocks)) }
+    requires front { at ≤ length first.1 }
+    requires back { from < length last.1 }
+    ensures front { IfOk result (λ ends. ends.0 ≡ part_of 0 at first) }
+    ensures back { IfOk result (λ ends. ends.1 ≡ part_of from (last.0.1 - from) last) }
+    ensures front_chars { IfOk result (λ ends. length ends.0.1 ≡ at) }
+    ensures back_chars { IfOk result (λ ends. length ends.1.1 + from ≡ length last.1) }
+    ensures err { IfErr result (λ old. (old.0 ≡ first) × (old.1 ≡ last)) }
 {
+    let _first = first.len();
+    let _last = last.len();
     let Ok(front) = part_of_run(first.run(), 0, at) else {
         return Err((first, last));
     };
@@ -72,14 +74,14 @@ pub(crate) fn keep_ends(
     }
 }
 
-// A block of its own with so many characters of a node's block from a place on. It costs their number.
-fn part_node(alloc: Global, node: &Node, from: u32, len: u32) -> Result<Box<Node>, AllocError>
+// A block of its own with this many characters of a block from a place on. It costs their number.
+fn part_alone(alloc: Global, own: &Single, from: u32, len: u32) -> Result<Single, AllocError>
     requires some { 0 < len }
-    requires within { from + len ≤ node.now.block.0.1 }
-    ensures node { IfOk result (λ part. part.value.blocks ≡ part_of from len node.now.block ∷ []) }
+    requires within { from + len ≤ length own.now.1 }
+    ensures part { IfOk result (λ part. part ≡ part_of from len own.now) }
 {
-    let _len = node.len();
-    let run = part_of_run(node.run(), from, len)?;
-    let text = part_of_text(alloc, node.text(), from as usize, len as usize)?;
-    Ok(Box::new(alloc, Node::leaf(Block::new(run, text)))?)
+    let _len = own.len();
+    let run = part_of_run(own.run(), from, len)?;
+    let text = part_of_text(alloc, own.text(), from as usize, len as usize)?;
+    Single::new(alloc, Block::new(run, text))
 }

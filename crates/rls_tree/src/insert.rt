@@ -9,10 +9,10 @@ ghost use Rattle.rls_tree.specs.Edits.{joined, goes_on, leads_to, are_loose, ins
 
 use crate::balance::join;
 use crate::block::Block;
-use crate::node::{Link, Node};
-use crate::put::{new_node, put_at};
+use crate::node::{Link, Single};
+use crate::put::put_at;
 use crate::side::Side;
-use crate::split::{first_out, last_out, split};
+use crate::split::{Halves, first_out, last_out, split};
 use rls_runs::{Run, Text};
 use std::alloc::{AllocError, Global};
 
@@ -68,8 +68,8 @@ fn put_first(alloc: Global, link: Link, piece: Block) -> Result<Link, Link>
 {
     let _chars = link.chars();
     let _len = piece.len();
-    match new_node(alloc, piece) {
-        Ok(node) => Ok(join(Link::empty(), node, link)),
+    match Single::new(alloc, piece) {
+        Ok(new) => Ok(join(Link::empty(), new, link)),
         Err(_) => Err(link),
     }
 }
@@ -87,22 +87,16 @@ fn fill_at(link: Link, i: u64, piece: Block) -> Result<Link, Link>
 {
     let _chars = link.chars();
     let (run, text) = piece.into_parts();
-    let (front, own, behind) = split(link, i);
-    let _front = front.chars();
-    let _behind = behind.chars();
-    match own {
-        None => fill_gap(front, behind, run, text),
-        Some(node) => {
-            let _len = node.len();
-            unreachable!()
-        }
+    match split(link, i) {
+        Halves::Between(front, behind) => fill_gap(front, behind, run, text),
+        Halves::Within(_, _, _, _) => unreachable!(),
     }
 }
 
 // Between the last run and the first one, which it joins.
 fn fill_gap(front: Link, behind: Link, run: Run, text: Text) -> Result<Link, Link>
     requires as_many { length text ≡ run.1 }
-    requires chars_fit { length (entries_of (front.blocks ++ behind.blocks)) + length text < 2 ^ 64 }
+    requires chars_fit { length (entries_of front.blocks) + length (entries_of behind.blocks) + length text < 2 ^ 64 }
     requires loose { IsTrue (are_loose None (runs_in (front.blocks ++ behind.blocks))) }
     requires ends { IsTrue (goes_on (run_before None (runs_in front.blocks)) run.0) }
     requires begins { IsTrue (leads_to (Some run) (runs_in behind.blocks)) }
@@ -124,21 +118,18 @@ fn fill_gap(front: Link, behind: Link, run: Run, text: Text) -> Result<Link, Lin
     }
 }
 
-// Two blocks that stand alone, and a run between them that joins them, as one. It costs the run's characters
-// and those of the shorter block.
+// Two blocks, and a run between them that joins them, as one. It costs the run's characters and those of the shorter block.
 fn fill(
-    mut last: Box<Node>,
+    mut last: Single,
     run: Run,
     text: Text,
-    mut first: Box<Node>,
-) -> Result<Box<Node>, (Box<Node>, Box<Node>)>
-    requires last { length last.value.blocks ≡ 1 }
-    requires first { length first.value.blocks ≡ 1 }
+    mut first: Single,
+) -> Result<Single, (Single, Single)>
     requires as_many { length text ≡ run.1 }
-    requires ends { IsTrue (follows run.0 (run_last last.value.block.0)) }
-    requires begins { IsTrue (follows first.value.block.0.0 (run_last run)) }
-    ensures ok { IfOk result (λ both. both.value.blocks ≡ joined last.value.block (joined (run, text) first.value.block) ∷ []) }
-    ensures err { IfErr result (λ both. (both.0.value.blocks ≡ last.value.blocks) × (both.1.value.blocks ≡ first.value.blocks)) }
+    requires ends { IsTrue (follows run.0 (run_last last.0)) }
+    requires begins { IsTrue (follows first.0.0 (run_last run)) }
+    ensures ok { IfOk result (λ both. both ≡ joined last (joined (run, text) first)) }
+    ensures err { IfErr result (λ both. (both.0 ≡ last) × (both.1 ≡ first)) }
 {
     let _run = run.len();
     let middle = Block::new(run, text);
@@ -146,7 +137,7 @@ fn fill(
         let Ok((run, text)) = with_next(middle, &first) else {
             return Err((last, first));
         };
-        return match last.extend(&run, text) {
+        return match last.grow(Side::Behind, &run, text) {
             Ok(()) => Ok(last),
             Err(_) => Err((last, first)),
         };
@@ -154,16 +145,16 @@ fn fill(
     let Ok((run, text)) = with_last(&last, middle) else {
         return Err((last, first));
     };
-    match first.extend_front(&run, text) {
+    match first.grow(Side::Front, &run, text) {
         Ok(()) => Ok(first),
         Err(_) => Err((last, first)),
     }
 }
 
 // A block, grown by the block behind it.
-fn with_next(mut block: Block, next: &Node) -> Result<(Run, Text), AllocError>
-    requires touches { IsTrue (follows next.now.block.0.0 (run_last block.0)) }
-    ensures both { IfOk result (λ both. (both.0, both.1) ≡ joined block next.now.block) }
+fn with_next(mut block: Block, next: &Single) -> Result<(Run, Text), AllocError>
+    requires touches { IsTrue (follows next.now.0.0 (run_last block.0)) }
+    ensures both { IfOk result (λ both. (both.0, both.1) ≡ joined block next.now) }
     ensures as_many { IfOk result (λ both. length both.1 ≡ both.0.1) }
 {
     let text = next.text().copy()?;
@@ -172,9 +163,9 @@ fn with_next(mut block: Block, next: &Node) -> Result<(Run, Text), AllocError>
 }
 
 // A block, grown by the block in front of it.
-fn with_last(last: &Node, mut block: Block) -> Result<(Run, Text), AllocError>
-    requires touches { IsTrue (follows block.0.0 (run_last last.now.block.0)) }
-    ensures both { IfOk result (λ both. (both.0, both.1) ≡ joined last.now.block block) }
+fn with_last(last: &Single, mut block: Block) -> Result<(Run, Text), AllocError>
+    requires touches { IsTrue (follows block.0.0 (run_last last.now.0)) }
+    ensures both { IfOk result (λ both. (both.0, both.1) ≡ joined last.now block) }
     ensures as_many { IfOk result (λ both. length both.1 ≡ both.0.1) }
 {
     let text = last.text().copy()?;

@@ -8,14 +8,16 @@ ghost use Rattle.rls_runs.proofs.RunOrder.{Rising};
 ghost use Rattle.rls_tree.specs.Trees.{runs_in, IsLow, IsPiece, ArePieces, Tree, piece_entries, entries_of, pieces, levels};
 ghost use Rattle.rls_tree.specs.Edits.{located, begins_with, ends_with};
 
-mod own_block;
+mod opened;
+mod single;
 
 use crate::block::Block;
+pub(crate) use opened::{Frame, Opened};
 use rls_ident::Ident;
 use rls_runs::{Run, Text};
+pub(crate) use single::Single;
 use std::alloc::{AllocError, Global};
 use std::marker::Model;
-use std::mem;
 
 /// A tree that may be empty.
 #[cycle(tree)]
@@ -37,17 +39,6 @@ impl Model for Link {
     ghost use Rattle.std.proofs.Common.{arith};
 
     ghost size_decreases = { λ a h. Prim.grind (arith) };
-}
-
-/// The sums that a node keeps of its tree: the places from which and to which its block's characters are, the number of all characters
-/// and of all blocks, and the levels.
-#[derive(Clone, Copy)]
-pub(crate) struct Sums {
-    pub(crate) front: u64,
-    pub(crate) end: u64,
-    pub(crate) chars: u64,
-    pub(crate) blocks: u64,
-    pub(crate) height: u32,
 }
 
 /// A block between two trees, whose heights differ by at most one. It has the places of its own characters, so that a descent to
@@ -98,43 +89,15 @@ impl Link {
         Link { node: Some(node) }
     }
 
-    /// Its topmost block alone, between both its sides, if it isn't empty.
-    pub(crate) fn open(self) -> Option<(Link, Box<Node>, Link)>
-        ensures blocks { IfSome result (λ parts. self.blocks ≡ parts.0.blocks ++ parts.1.value.blocks ++ parts.2.blocks) }
-        ensures one { IfSome result (λ parts. length parts.1.value.blocks ≡ 1) }
-        ensures chars_fit { length (entries_of self.blocks) < 2 ^ 64 }
-        ensures height { IfSome result (λ parts. self.height ≡ max parts.0.height parts.2.height + 1) }
-        ensures left_not_higher { IfSome result (λ parts. parts.0.height ≤ parts.2.height + 1) }
-        ensures right_not_higher { IfSome result (λ parts. parts.2.height ≤ parts.0.height + 1) }
+    /// Its topmost node taken apart, if it isn't empty.
+    pub(crate) fn open(self) -> Option<Opened>
+        ensures blocks { IfSome result (λ opened. self.blocks ≡ opened.left.blocks ++ opened.own ∷ opened.right.blocks) }
+        ensures chars { IfSome result (λ opened. length (entries_of self.blocks) ≡ opened.front + length opened.own.1 + opened.behind) }
+        ensures chars_fit { IfSome result (λ opened. length (entries_of self.blocks) < 2 ^ 64) }
+        ensures height { IfSome result (λ opened. self.height ≡ opened.height) }
         ensures empty { IfNone result (self ≡ record { blocks = []; height = 0 }) }
     {
-        let _chars = self.chars();
-        let mut node = self.node?;
-        let (left, right) = node.take_sides();
-        Some((left, node, right))
-    }
-
-    /// The same, with the sums that the node had.
-    pub(crate) fn open_summed(self) -> Option<(Sums, Link, Box<Node>, Link)>
-        ensures blocks { IfSome result (λ parts. self.blocks ≡ parts.1.blocks ++ parts.2.value.blocks ++ parts.3.blocks) }
-        ensures one { IfSome result (λ parts. length parts.2.value.blocks ≡ 1) }
-        ensures chars_fit { length (entries_of self.blocks) < 2 ^ 64 }
-        ensures height { IfSome result (λ parts. self.height ≡ max parts.1.height parts.3.height + 1) }
-        ensures left_not_higher { IfSome result (λ parts. parts.1.height ≤ parts.3.height + 1) }
-        ensures right_not_higher { IfSome result (λ parts. parts.3.height ≤ parts.1.height + 1) }
-        ensures front_sum { IfSome result (λ parts. parts.0.front ≡ length (entries_of parts.1.blocks)) }
-        ensures end_sum { IfSome result (λ parts. parts.0.end ≡ parts.0.front + length (entries_of parts.2.value.blocks)) }
-        ensures chars_sum { IfSome result (λ parts. parts.0.chars ≡ length (entries_of self.blocks)) }
-        ensures blocks_sum { IfSome result (λ parts. parts.0.blocks ≡ length self.blocks) }
-        ensures height_sum { IfSome result (λ parts. parts.0.height ≡ self.height) }
-        ensures empty { IfNone result (self ≡ record { blocks = []; height = 0 }) }
-    {
-        let _chars = self.chars();
-        let mut node = self.node?;
-        let _blocks = node.blocks();
-        let sums = node.sums();
-        let (left, right) = node.take_sides();
-        Some((sums, left, node, right))
+        Some(Opened::of(self.node?))
     }
 
     /// The topmost node, if there is one.
@@ -237,7 +200,7 @@ impl Link {
     {
         match self.node() {
             None => Ok(Link::empty()),
-            Some(node) => Ok(Link::to(node.copy(alloc)?)),
+            Some(node) => node.copy(alloc),
         }
     }
 }
@@ -246,6 +209,7 @@ impl Node {
     /// The block alone.
     pub(crate) fn leaf(block: Block) -> Node
         ensures blocks { result.blocks ≡ block ∷ [] }
+        ensures block { result.block ≡ block }
         ensures height { result.height ≡ 1 }
     {
         let len = block.len() as u64;
@@ -391,107 +355,23 @@ impl Node {
 
     // The same again.
     #[cycle(copy)]
-    fn copy(&self, alloc: Global) -> Result<Box<Node>, AllocError>
-        ensures blocks { IfOk result (λ copy. copy.value.blocks ≡ self.now.blocks) }
-        ensures height { IfOk result (λ copy. copy.value.height ≡ self.now.height) }
+    fn copy(&self, alloc: Global) -> Result<Link, AllocError>
+        ensures blocks { IfOk result (λ copy. copy.blocks ≡ self.now.blocks) }
+        ensures height { IfOk result (λ copy. copy.height ≡ self.now.height) }
     {
         let _chars = self.chars;
         let left = self.left.copy(alloc)?;
         let right = self.right.copy(alloc)?;
-        let mut node = Box::new(alloc, Node::leaf(self.block.copy()?))?;
-        node.put_sides(left, right);
-        Ok(node)
-    }
-
-    // What it tells of its tree.
-    fn sums(&self) -> Sums
-        ensures front { result.front ≡ length (entries_of self.now.left.blocks) }
-        ensures end { result.end ≡ result.front + length self.now.block.1 }
-        ensures chars { result.chars ≡ length (entries_of self.now.blocks) }
-        ensures blocks { result.blocks ≡ length self.now.blocks }
-        ensures height { result.height ≡ self.now.height }
-    {
-        Sums {
-            front: self.front,
-            end: self.end,
-            chars: self.chars(),
-            blocks: self.blocks(),
-            height: self.height,
-        }
-    }
-
-    // Keeps the block alone, and answers both sides.
-    pub(crate) fn take_sides(&mut self) -> (Link, Link)
-        ensures left { result.0.blocks ≡ self.old.left.blocks }
-        ensures own { length (entries_of self.new.blocks) ≡ length self.old.block.1 }
-        ensures blocks { self.old.blocks ≡ result.0.blocks ++ self.new.blocks ++ result.1.blocks }
-        ensures one { length self.new.blocks ≡ 1 }
-        ensures chars_fit { length (entries_of self.old.blocks) < 2 ^ 64 }
-        ensures low { self.new.height ≡ 1 }
-        ensures height { self.old.height ≡ max result.0.height result.1.height + 1 }
-        ensures left_not_higher { result.0.height ≤ result.1.height + 1 }
-        ensures right_not_higher { result.1.height ≤ result.0.height + 1 }
-    {
-        let left = mem::replace(&mut self.left, Link::empty());
-        let right = mem::replace(&mut self.right, Link::empty());
-        let len = self.block.len() as u64;
-        self.front = 0;
-        self.end = len;
-        self.chars = len;
-        self.blocks = 1;
-        self.height = 1;
-        (left, right)
+        let own = Single::new(alloc, self.block.copy()?)?;
+        Ok(Opened::new(left, own, right).close())
     }
 
     // How many characters its own block has.
-    pub(crate) fn len(&self) -> u32
-        ensures len { result ≡ self.now.block.0.1 }
-        ensures blocks { self.now.blocks ≡ self.now.left.blocks ++ self.now.block ∷ self.now.right.blocks }
+    fn len(&self) -> u32
+        ensures len { result ≡ length self.now.block.1 }
+        ensures run { result ≡ self.now.block.0.1 }
         ensures piece { IsPiece self.now.block.0 self.now.block.1 }
     {
         self.block.len()
-    }
-
-    // Puts trees on both sides of a block that stands alone.
-    pub(crate) fn put_sides(&mut self, left: Link, right: Link)
-        requires one { length self.old.blocks ≡ 1 }
-        requires chars_fit { length (entries_of left.blocks) + length (entries_of self.old.blocks) + length (entries_of right.blocks) < 2 ^ 64 }
-        requires left_not_higher { left.height ≤ right.height + 1 }
-        requires right_not_higher { right.height ≤ left.height + 1 }
-        ensures blocks { self.new.blocks ≡ left.blocks ++ self.old.blocks ++ right.blocks }
-        ensures height { self.new.height ≡ max left.height right.height + 1 }
-    {
-        self.front = left.chars();
-        self.end = self.front + self.block.len() as u64;
-        self.chars = self.end + right.chars();
-        self.blocks = left.blocks() + right.blocks() + 1;
-        self.height = left.height().max(right.height()) + 1;
-        self.left = left;
-        self.right = right;
-    }
-
-    // The same, where the sums are told, so that it looks into neither tree.
-    pub(crate) fn hang_sides(&mut self, left: Link, right: Link, sums: Sums)
-        requires one { length self.old.blocks ≡ 1 }
-        requires chars_fit { length (entries_of left.blocks) + length (entries_of self.old.blocks) + length (entries_of right.blocks) < 2 ^ 64 }
-        requires left_not_higher { left.height ≤ right.height + 1 }
-        requires right_not_higher { right.height ≤ left.height + 1 }
-        requires front_sum { sums.front ≡ length (entries_of left.blocks) }
-        requires end_sum { sums.end ≡ sums.front + length (entries_of self.old.blocks) }
-        requires chars_sum { sums.chars ≡ length (entries_of left.blocks) + length (entries_of self.old.blocks) + length (entries_of right.blocks) }
-        requires blocks_sum { sums.blocks ≡ length left.blocks + length right.blocks + 1 }
-        requires height_sum { sums.height ≡ max left.height right.height + 1 }
-        ensures blocks { self.new.blocks ≡ left.blocks ++ self.old.blocks ++ right.blocks }
-        ensures height { self.new.height ≡ max left.height right.height + 1 }
-    {
-        let _left = (left.chars(), left.height());
-        let _right = (right.chars(), right.height());
-        self.front = sums.front;
-        self.end = sums.end;
-        self.chars = sums.chars;
-        self.blocks = sums.blocks;
-        self.height = sums.height;
-        self.left = left;
-        self.right = right;
     }
 }

@@ -7,7 +7,7 @@ ghost use Rattle.rls_tree.specs.Patches.{before, after, IsBetween, patched, AreP
 
 use crate::block::Block;
 use crate::node::Link;
-use crate::split::{concat, split};
+use crate::split::{Halves, concat, split};
 use std::alloc::AllocError;
 
 /// Blocks that take the place of those between two places.
@@ -68,14 +68,8 @@ fn split_between(link: Link, i: u64) -> (Link, Link)
     ensures both { link.blocks ≡ result.0.blocks ++ result.1.blocks }
 {
     let _chars = link.chars();
-    let (front, own, behind) = split(link, i);
-    let _front = front.chars();
-    let _behind = behind.chars();
-    match own {
-        None => (front, behind),
-        Some(node) => {
-            let _len = node.len();
-            unreachable!()
-        }
+    match split(link, i) {
+        Halves::Between(front, behind) => (front, behind),
+        Halves::Within(_, _, _, _) => unreachable!(),
     }
 }

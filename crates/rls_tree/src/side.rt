@@ -1,10 +1,10 @@
-//! Sides of a character.
+//! Sides.
 
-/// The side of a character on which a run goes in.
+/// A side of a character, or of a block.
 #[derive(Clone, Copy)]
 pub(crate) enum Side {
-    /// In front of it, where its block begins with it and goes on with the run.
+    /// In front of it.
     Front,
-    /// Behind it.
+    /// After it.
     Behind,
 }

@@ -1,78 +1,100 @@
 //! Trees taken apart and put together. Nothing here takes memory.
 
-ghost use Rattle.std.specs.Prelude.{◌≡◌, ◌+◌, ◌^◌, ◌<◌, ◌≤◌, [], ◌++◌, length, None, IfSome, IfNone};
+ghost use Rattle.std.specs.Prelude.{◌≡◌, ◌+◌, ◌^◌, ◌<◌, ◌≤◌, [], ◌∷◌, ◌++◌, length, None, IfSome, IfNone};
 ghost use Rattle.rls_runs.specs.Runs.{run_before};
-ghost use Rattle.rls_tree.specs.Trees.{entries_of, pieces, runs_in};
+ghost use Rattle.rls_tree.specs.Trees.{IsPiece, entries_of, runs_in};
 ghost use Rattle.rls_tree.specs.Edits.{goes_on};
+ghost use Rattle.rls_tree.specs.Splits.{Splits};
 
 use crate::balance::join;
-use crate::node::{Link, Node};
+use crate::node::{Link, Node, Single};
 use rls_ident::Ident;
 
-/// A tree in front of a place, the block in which the place stands if it isn't in front of a block, and
-/// the tree after it. It costs a step for each level.
-#[tactic(auto, using(crate::proofs::Pieces::chars_append))]
-pub(crate) fn split(link: Link, i: u64) -> (Link, Option<Box<Node>>, Link)
+/// A tree split at a place.
+#[derive(Drop)]
+pub(crate) enum Halves {
+    /// Between two blocks, or at an end: the trees in front of the place and after it.
+    Between(Link, Link),
+    /// Within a block: the tree in front of the block, the block, the place counted from its start, and the tree after it.
+    Within(Link, Single, u32, Link),
+}
+
+/// The tree split at a place. It costs a step for each level.
+pub(crate) fn split(link: Link, i: u64) -> Halves
     requires place { i ≤ length (entries_of link.blocks) }
-    ensures blocks { link.blocks ≡ result.0.blocks ++ pieces result.1 ++ result.2.blocks }
-    ensures one { IfSome result.1 (λ own. length own.value.blocks ≡ 1) }
-    ensures behind { IfSome result.1 (λ own. length (entries_of result.0.blocks) < i) }
-    ensures within { IfSome result.1 (λ own. i < length (entries_of result.0.blocks) + length (entries_of own.value.blocks)) }
-    ensures between { IfNone result.1 (length (entries_of result.0.blocks) ≡ i) }
+    ensures splits { Splits link.blocks i result }
 {
-    let total = link.chars();
-    let Some((left, node, right)) = link.open() else {
-        return (Link::empty(), None, Link::empty());
+    let _chars = link.chars();
+    let Some(opened) = link.open() else {
+        return Halves::Between(Link::empty(), Link::empty());
     };
-    let front = left.chars();
+    let front = opened.front;
+    let end = front + opened.own.len() as u64;
     if i == front {
-        return (left, None, join(Link::empty(), node, right));
+        let far = join(Link::empty(), opened.own, opened.right);
+        return Halves::Between(opened.left, far);
     }
     if i < front {
-        let (near, own, far) = split(left, i);
-        return (near, own, join(far, node, right));
+        return match split(opened.left, i) {
+            Halves::Between(near, far) => Halves::Between(
+                near,
+                join(far, opened.own, opened.right),
+            ),
+            Halves::Within(near, own, at, far) => {
+                Halves::Within(near, own, at, join(far, opened.own, opened.right))
+            }
+        };
     }
-    let end = total - right.chars();
     if i < end {
-        return (left, Some(node), right);
+        return Halves::Within(opened.left, opened.own, (i - front) as u32, opened.right);
     }
-    let (near, own, far) = split(right, i - end);
-    (join(left, node, near), own, far)
+    match split(opened.right, i - end) {
+        Halves::Between(near, far) => Halves::Between(join(opened.left, opened.own, near), far),
+        Halves::Within(near, own, at, far) => {
+            Halves::Within(join(opened.left, opened.own, near), own, at, far)
+        }
+    }
 }
 
 /// All blocks but the last, and the last alone, if there is one. It costs a step for each level.
-#[tactic(auto, using(crate::proofs::Pieces::chars_append))]
-pub(crate) fn last_out(link: Link) -> Option<(Link, Box<Node>)>
-    ensures blocks { IfSome result (λ parts. link.blocks ≡ parts.0.blocks ++ parts.1.value.blocks) }
-    ensures one { IfSome result (λ parts. length parts.1.value.blocks ≡ 1) }
+pub(crate) fn last_out(link: Link) -> Option<(Link, Single)>
+    ensures blocks { IfSome result (λ parts. link.blocks ≡ parts.0.blocks ++ parts.1 ∷ []) }
+    ensures chars { IfSome result (λ parts. length (entries_of link.blocks) ≡ length (entries_of parts.0.blocks) + length parts.1.1) }
+    ensures piece { IfSome result (λ parts. IsPiece parts.1.0 parts.1.1) }
+    ensures chars_fit { length (entries_of link.blocks) < 2 ^ 64 }
     ensures empty { IfNone result (link.blocks ≡ []) }
 {
-    let (left, node, right) = link.open()?;
-    match last_out(right) {
-        None => Some((left, node)),
-        Some((rest, last)) => Some((join(left, node, rest), last)),
+    let _chars = link.chars();
+    let opened = link.open()?;
+    let _len = opened.own.len();
+    match last_out(opened.right) {
+        None => Some((opened.left, opened.own)),
+        Some((rest, last)) => Some((join(opened.left, opened.own, rest), last)),
     }
 }
 
 /// The first block alone, and all others, if there is one. It costs a step for each level.
-#[tactic(auto, using(crate::proofs::Pieces::chars_append))]
-pub(crate) fn first_out(link: Link) -> Option<(Box<Node>, Link)>
-    ensures blocks { IfSome result (λ parts. link.blocks ≡ parts.0.value.blocks ++ parts.1.blocks) }
-    ensures one { IfSome result (λ parts. length parts.0.value.blocks ≡ 1) }
+pub(crate) fn first_out(link: Link) -> Option<(Single, Link)>
+    ensures blocks { IfSome result (λ parts. link.blocks ≡ parts.0 ∷ parts.1.blocks) }
+    ensures chars { IfSome result (λ parts. length (entries_of link.blocks) ≡ length parts.0.1 + length (entries_of parts.1.blocks)) }
+    ensures piece { IfSome result (λ parts. IsPiece parts.0.0 parts.0.1) }
+    ensures chars_fit { length (entries_of link.blocks) < 2 ^ 64 }
     ensures empty { IfNone result (link.blocks ≡ []) }
 {
-    let (left, node, right) = link.open()?;
-    match first_out(left) {
-        None => Some((node, right)),
-        Some((first, rest)) => Some((first, join(rest, node, right))),
+    let _chars = link.chars();
+    let opened = link.open()?;
+    let _len = opened.own.len();
+    match first_out(opened.left) {
+        None => Some((opened.own, opened.right)),
+        Some((first, rest)) => Some((first, join(rest, opened.own, opened.right))),
     }
 }
 
 /// Two trees, one after the other. It costs a step for each level.
-#[tactic(auto, using(crate::proofs::Pieces::chars_append))]
 pub(crate) fn concat(front: Link, behind: Link) -> Link
-    requires chars_fit { length (entries_of (front.blocks ++ behind.blocks)) < 2 ^ 64 }
+    requires chars_fit { length (entries_of front.blocks) + length (entries_of behind.blocks) < 2 ^ 64 }
     ensures blocks { result.blocks ≡ front.blocks ++ behind.blocks }
+    ensures chars { length (entries_of result.blocks) ≡ length (entries_of front.blocks) + length (entries_of behind.blocks) }
 {
     match last_out(front) {
         None => behind,

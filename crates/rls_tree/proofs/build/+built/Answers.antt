@@ -1,6 +1,7 @@
 use Rattle.std.proofs.Common.{◌≡◌, ◌+◌, ◌∷◌, [], length, ap, ◌∙◌, arith, length-append}
-use Rattle.rls_tree.specs.Trees.{entries_of}
+use Rattle.rls_tree.specs.Trees.{Piece, entries_of}
 use Rattle.rls_tree.proofs.Pieces.{chars_append}
+use Rattle.rls_tree.proofs.Cases.{single_chars}
 use Rattle.rls_tree.proofs.build.+built.Goals as goal
 
 -- what is left after the last blocks were taken
@@ -20,3 +21,18 @@ built-requires-2 t c =
     let behind = c.in_ok-right.ensures.count in
     let before = c.decreases in
     (omega arith, (omega arith, omega arith))
+
+pub join-requires : goal.join-requires
+join-requires t c =
+    let old = c.args.blocks.now.items in
+    let mid = c.built.new.blocks.items in
+    let new = c.pop.new.self.items in
+    let block = c.in-Some.block in
+    let right = c.in_ok-right.right.blocks in
+    let left = c.in_ok-left.left.blocks in
+    let all = ap (λ bs. length (entries_of bs)) c.in_ok-right.ensures.blocks ∙ chars_append mid right in
+    let fewer = ap (λ bs. length (entries_of bs)) c.in-Some.ensures.items ∙ chars_append new (block ∷ []) in
+    let rest = ap (λ bs. length (entries_of bs)) c.in_ok-left.ensures.blocks ∙ chars_append c.built-2.new.blocks.items left in
+    let own = single_chars c.in_ok-node.node c.in_ok-node.ensures.piece in
+    let same = ap (λ (b : Piece). length (entries_of (b ∷ []))) c.in_ok-node.ensures.block in
+    record { chars_fit = omega (arith, all, fewer, rest, own, same, c.requires.chars_fit) }

@@ -1,5 +1,7 @@
-use Rattle.std.proofs.Common.{◌++◌, length, ap, ◌∙◌, arith}
+use Rattle.std.proofs.Common.{◌<◌, ◌^◌, ◌++◌, length, ap, ◌∙◌, arith, rules}
+use Rattle.std.proofs.lemmas.Grind.{common_steps}
 use Rattle.rls_tree.specs.Trees.{entries_of}
+use Rattle.rls_tree.proofs.Pieces.{chars_append}
 use Rattle.rls_tree.proofs.Patches.{from_between, parts_fit, last_put}
 use Rattle.rls_tree.proofs.patch.with_patches.Goals as goal
 
@@ -12,13 +14,19 @@ pub concat-requires : goal.concat-requires
 concat-requires c =
     let l = c.loop-patch in
     let fit = parts_fit l.patches.items c.pop.new.self.items c.in-Some.patch l.front.blocks l.behind.blocks _ c.in-Some.ensures.items l.invariant.patches l.invariant.blocks c.split_between-near.result.1.blocks c.split_between-near.ensures.behind c.requires.chars_fit in
-    record { chars_fit = fit.0 }
+    record { chars_fit = omega (arith, fit) }
 
 pub concat-behind-requires : goal.concat-behind-requires
 concat-behind-requires c =
     let l = c.loop-patch in
     let fit = parts_fit l.patches.items c.pop.new.self.items c.in-Some.patch l.front.blocks l.behind.blocks _ c.in-Some.ensures.items l.invariant.patches l.invariant.blocks c.split_between-near.result.1.blocks c.split_between-near.ensures.behind c.requires.chars_fit in
-    record { chars_fit = omega (arith, fit.1, ap (λ bs. length (entries_of (bs ++ l.behind.blocks))) c.concat.ensures.blocks) }
+    record { chars_fit = omega (arith, fit, c.concat.ensures.chars) }
+
+pub concat-requires-2 : goal.concat-requires-2
+concat-requires-2 c =
+    let l = c.loop-patch in
+    let fit : length (entries_of (l.front.blocks ++ l.behind.blocks)) < 2 ^ 64 = first_of (search rules, grind (arith, common_steps)) in
+    record { chars_fit = omega (arith, fit, chars_append l.front.blocks l.behind.blocks) }
 
 pub loop-patch-preserved-in-Some : goal.loop-patch-preserved-in-Some
 loop-patch-preserved-in-Some c =
