@@ -1,5 +1,5 @@
 -- The blocks that each kind of change leaves.
-use Rattle.std.proofs.Common.{◌≡◌, ℕ, suc, ◌+◌, ◌-◌, ◌<◌, ◌≤◌, ◌^◌, true, false, List, [], ◌∷◌, ◌++◌, length, Some, None, refl, sym, ap, ◌∙◌, subst, arith, length-append, append_assoc}
+use Rattle.std.proofs.Common.{◌≡◌, ℕ, suc, ◌+◌, ◌-◌, ◌<◌, true, false, List, [], ◌∷◌, ◌++◌, length, Some, None, refl, sym, ap, ◌∙◌, subst, arith, append_assoc}
 use Rattle.std.specs.Prelude.{pos, not}
 use Rattle.std.proofs.lemmas.Int.{ints}
 use Rattle.std.proofs.lemmas.List.{append-nil}
@@ -14,9 +14,9 @@ use Rattle.rls_runs.specs.Runs.{run_idents, run_last, is_run, are_apart, run_bef
 use Rattle.rls_runs.proofs.Finding.{run_length}
 use Rattle.rls_runs.proofs.RunOrder.{lt_of, less_shifted, run_less, run_ident}
 use Rattle.rls_runs.proofs.RunEnds.{behind_last}
-use Rattle.rls_tree.specs.Trees.{Piece, IsPiece, Seen, piece_entries, entries_of, runs_in}
+use Rattle.rls_tree.specs.Trees.{Piece, IsPiece, piece_entries, entries_of, runs_in}
 use Rattle.rls_tree.specs.Edits.{part_of, joined, goes_on, leads_to, are_loose, Shows}
-use Rattle.rls_tree.proofs.Pieces.{entries_append, chars_append, alone}
+use Rattle.rls_tree.proofs.Pieces.{entries_append}
 use Rattle.rls_tree.proofs.Loose.{last_run, last_append, runs_append, before_append, replaced, were_loose, followed_loosely, loose_first, leads_not, loose_of}
 use Rattle.rls_tree.proofs.Changes.{entries_joined, follows_is, back}
 
@@ -185,12 +185,6 @@ module _ (f g : List Piece) (b : Piece) (sound : is_run b.0 ≡ true) (apart : a
 
 -- ---- numbers of characters
 
-pub part_length : (b : Piece) (k n : ℕ) → length (piece_entries (part_of k n b)) ≤ n
-part_length b k n =
-    let z = length-zip (run_idents (part_of k n b).0.0 n) (part_of k n b).1 in
-    let r = run_length (part_of k n b).0.0 n in
-    omega (arith, z, r)
-
 pub own_length : (b : Piece) → length b.1 ≡ b.0.1 → length (piece_entries b) ≡ b.0.1
 own_length b m =
     let z = length-zip (run_idents b.0.0 b.0.1) b.1 in
@@ -202,31 +196,6 @@ one_length b = ap length (alone_entries b)
 
 pub single_chars : (b : Piece) → IsPiece b.0 b.1 → length (entries_of (b ∷ [])) ≡ length b.1
 single_chars b p = let m = p.as_many in omega (arith, one_length b, own_length b m, m)
-
-pub joined_chars : (a b : Piece) → IsPiece a.0 a.1 → IsPiece b.0 b.1 → length (entries_of (joined a b ∷ [])) ≡ length a.1 + length b.1
-joined_chars a b p q =
-    let m = p.as_many in
-    let n = q.as_many in
-    let l = length-append a.1 b.1 in
-    omega (arith, one_length (joined a b), own_length (joined a b) (omega (arith, l, m, n)), m, n)
-
--- ---- a node that stands alone, behind a reference
-
-pub lone : (s t : Seen) → t ≡ s → t.blocks ≡ t.left.blocks ++ t.block ∷ t.right.blocks → length s.blocks ≡ 1 → s.blocks ≡ s.block ∷ []
-lone s t e h o = alone s.left.blocks s.right.blocks s.block s.blocks (sym (subst (λ u. u.blocks ≡ u.left.blocks ++ u.block ∷ u.right.blocks) e h)) o
-
-pub whole : (s t : Seen) → t ≡ s → IsPiece t.block.0 t.block.1 → IsPiece s.block.0 s.block.1
-whole s t e p = subst (λ u. IsPiece u.block.0 u.block.1) e p
-
--- what shows a run put in has as many characters more
-pub shown_fits : (f g new : List Piece) (n : Piece) → Shows (entries_of f ++ piece_entries n ++ entries_of g) new → length n.1 ≡ n.0.1 → length (entries_of (f ++ g)) + length n.1 < 2 ^ 64 → length (entries_of new) < 2 ^ 64
-shown_fits f g new n s m h =
-    let e = ap length s.entries_are in
-    let p = length-append (entries_of f ++ piece_entries n) (entries_of g) in
-    let q = length-append (entries_of f) (piece_entries n) in
-    let r = chars_append f g in
-    let o = own_length n m in
-    omega (arith, e, p, q, r, o, m, h)
 
 -- ---- the order of a run's ends
 

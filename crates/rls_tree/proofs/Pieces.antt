@@ -34,25 +34,6 @@ node_length l r b h =
     let p = piece_length b h in
     omega (arith, e, f, g, p)
 
--- a list of one block
-pub alone : (l r : List Piece) (b : Piece) (bs : List Piece) → l ++ b ∷ r ≡ bs → length bs ≡ 1 → bs ≡ b ∷ []
-alone [] [] b bs e h = sym e
-alone [] (c ∷ r) b bs e h = let m = ap length e in absurd (omega (arith, m, h))
-alone (c ∷ l) r b bs e h = let m = ap length e in let k = length-append l (b ∷ r) in absurd (omega (arith, m, k, h))
-
-pub alone_chars : (l r : List Piece) (b : Piece) (bs : List Piece) → l ++ b ∷ r ≡ bs → length bs ≡ 1 → IsPiece b.0 b.1 → length (entries_of bs) ≡ length b.1
-alone_chars l r b bs e h p =
-    let a = ap (λ cs. length (entries_of cs)) (alone l r b bs e h) in
-    let n = node_length [] [] b p in
-    omega (arith, a, n)
-
--- three lists behind one another
-pub three_chars : (xs ys zs : List Piece) → length (entries_of (xs ++ ys ++ zs)) ≡ length (entries_of xs) + length (entries_of ys) + length (entries_of zs)
-three_chars xs ys zs =
-    let e = ap length (entries_append (xs ++ ys) zs) in
-    let f = ap length (entries_append xs ys) in
-    omega (arith, e, f, length-append (entries_of (xs ++ ys)) (entries_of zs), length-append (entries_of xs) (entries_of ys))
-
 pub piece_some : (b : Piece) → IsPiece b.0 b.1 → 0 < length b.1
 piece_some b h =
     let r = run_some b.0 h.sound in

@@ -1,12 +1,11 @@
 -- Entries put in where there is a gap for them, and one after another.
-use Rattle.std.proofs.Common.{◌≡◌, ℕ, zero, suc, ◌+◌, ◌-◌, ◌<◌, ◌≤◌, inr, Bool, true, false, List, [], ◌∷◌, ◌++◌, length, take, drop, Some, Ok, Err, slice_get, refl, sym, ap, ◌∙◌, subst, arith, length-drop, append_assoc}
-use Rattle.std.specs.Prelude.{◌||◌, if◌then◌else◌, pos, zip}
+use Rattle.std.proofs.Common.{◌≡◌, ℕ, zero, suc, ◌+◌, ◌-◌, ◌<◌, ◌≤◌, inr, true, false, List, [], ◌∷◌, ◌++◌, length, take, drop, Some, Ok, Err, slice_get, refl, sym, ap, ◌∙◌, subst, arith, length-drop, append_assoc}
+use Rattle.std.specs.Prelude.{if◌then◌else◌, pos, zip}
 use Rattle.std.proofs.lemmas.List.{take-append-drop, append-nil, drop-take, take_all, length-take-le, length-map, drop-drop, take-map, drop-map}
-use Rattle.std.proofs.lemmas.Bool.{or_parts}
 use Rattle.std.proofs.Math.ListN.{drop_of_length-le}
 use Rattle.std.proofs.Math.Seq.{take-append_seam, drop-append_seam}
 use Rattle.rls_ident.specs.declared.tuple.Tuple.{Tuple}
-use Rattle.rls_ident.specs.Identifiers.{ident_lt, ident_eq, shifted}
+use Rattle.rls_ident.specs.Identifiers.{ident_lt, shifted}
 use Rattle.rls_runs.specs.Runs.{run_idents, run_last, idents_of, is_increasing, is_run, place_of}
 use Rattle.rls_runs.specs.Entries.{Entries, idents_in, has_ident, put, put_all}
 use Rattle.rls_runs.specs.Places.{below_count, find_ident}
@@ -18,13 +17,13 @@ use Rattle.rls_ident.proofs.Lists.{Lt}
 use Rattle.rls_ident.proofs.Tuples.{tuples}
 use Rattle.rls_ident.proofs.Shifted.{shifted_none}
 use Rattle.rls_runs.proofs.RunOrder.{AllLess, AllMore, Rising, lt_of, of_lt, run_less, last_at, increasing_of, run_rising, run_ident, run_gets, run_some, idents_append as runs_append, rising_left, rising_right, rising_of}
-use Rattle.rls_runs.proofs.Sorted.{Entry, put_all_append}
+use Rattle.rls_runs.proofs.Sorted.{Entry}
 use Rattle.rls_doc.specs.Documents.{AreNew}
 use Rattle.rls_tree.specs.Trees.{Piece, ArePieces, piece_entries, entries_of}
 use Rattle.rls_tree.specs.Edits.{part_of, inserted, gap_end, located}
 use Rattle.rls_tree.proofs.Changes.{thirds}
 use Rattle.rls_tree.proofs.AtPlaces.{part_exact, part_at, piece_idents, idents_append, run_part}
-use Rattle.rls_runs.proofs.Gaps.{lt_false, below_take, more_drop, at_less, read_err, read_ok, AreBelow, below_from, below_none, rising_three, rising_below, differs, firsts_less, rests_below, one_below, left_below, less_drop, rising_drop, rising_take}
+use Rattle.rls_runs.proofs.Gaps.{lt_false, below_take, more_drop, at_less, read_err, read_ok, AreBelow, below_from, below_none, rising_three, rising_below, firsts_less, rests_below, one_below, left_below, less_drop, rising_drop, rising_take}
 use Rattle.rls_ident.proofs.Loops.{drop_reads}
 use Rattle.std.proofs.lemmas.Option.{slice_get_within}
 
@@ -156,40 +155,11 @@ run_fits xs i (y, suc n) h s f b =
 pub parted : (at n : ℕ) (es : Entries) → drop at es ≡ take n (drop at es) ++ drop (at + n) es
 parted at n es = sym (take-append-drop n (drop at es)) ∙ ap (λ zs. take n (drop at es) ++ zs) (drop-drop n at es)
 
-pub put_step : (added cur new all : Entries) (at n : ℕ) → new ≡ put_all (take n (drop at added)) cur → put_all (drop at added) cur ≡ all → put_all (drop (at + n) added) new ≡ all
-put_step added cur new all at n e h =
-    ap (put_all (drop (at + n) added)) e ∙ sym (put_all_append (take n (drop at added)) (drop (at + n) added) cur) ∙ ap (λ p. put_all p cur) (sym (parted at n added)) ∙ h
-
 -- ---- none of the rest is there yet
-
-has_put : (e : Entry) (es : Entries) (x : List Tuple) → ident_eq e.0 x ≡ false → has_ident (idents_in es) x ≡ false → has_ident (idents_in (put e es)) x ≡ false
-has_put e [] x h k = ap (λ b. b || false) h
-has_put e (y ∷ es) x h k = go (ident_lt y.0 e.0) (has_put e es x h (or_parts (ident_eq y.0 x) (has_ident (idents_in es) x) k).1)
-  where
-    go : (b : Bool) → has_ident (idents_in (put e es)) x ≡ false → has_ident (idents_in (if b then y ∷ put e es else e ∷ y ∷ es)) x ≡ false
-    go true ih = ap (λ b. b || has_ident (idents_in (put e es)) x) (or_parts (ident_eq y.0 x) (has_ident (idents_in es) x) k).0 ∙ ih
-    go false ih = ap (λ b. b || has_ident (idents_in (y ∷ es)) x) h ∙ k
-
-new_put : (e : Entry) (xs : List (List Tuple)) (es : Entries) → AllMore e.0 xs → AreNew xs (idents_in es) → AreNew xs (idents_in (put e es))
-new_put e [] es m h = tt
-new_put e (x ∷ xs) es m h = (has_put e es x (differs e.0 x m.0) h.0, new_put e xs es m.1 h.1)
-
-new_all : (p : Entries) (xs : List (List Tuple)) (es : Entries) → AreBelow (idents_in p) xs → AreNew xs (idents_in es) → AreNew xs (idents_in (put_all p es))
-new_all [] xs es m h = h
-new_all (e ∷ p) xs es m h = new_all p xs (put e es) m.1 (new_put e xs es m.0 h)
 
 pub new_second : (xs ys zs : List (List Tuple)) → AreNew (xs ++ ys) zs → AreNew ys zs
 new_second [] ys zs h = h
 new_second (x ∷ xs) ys zs h = new_second xs ys zs h.1
-
-pub new_step : (added cur new : Entries) (at n : ℕ) → Rising (idents_in added) → new ≡ put_all (take n (drop at added)) cur → AreNew (idents_in (drop at added)) (idents_in cur) → AreNew (idents_in (drop (at + n) added)) (idents_in new)
-new_step added cur new at n r e h =
-    let p = take n (drop at added) in
-    let q = drop (at + n) added in
-    let both : idents_in (drop at added) ≡ idents_in p ++ idents_in q = ap idents_in (parted at n added) ∙ idents_append p q in
-    let rest : Rising (idents_in (drop at added)) = subst Rising (sym (idents_drop at added)) (rising_drop at (idents_in added) r) in
-    subst (λ es. AreNew (idents_in q) (idents_in es)) (sym e)
-    (new_all p (idents_in q) cur (rising_below (idents_in p) (idents_in q) (subst Rising both rest)) (new_second (idents_in p) (idents_in q) (idents_in cur) (subst (λ xs. AreNew xs (idents_in cur)) both h)))
 
 -- ---- the next identifiers of a run that go into one gap
 
@@ -232,17 +202,6 @@ module _ (es : Entries) (b : Piece) (i done : ℕ) (many : length b.1 ≡ b.0.1)
 
       pub next_below : AreBelow (idents_in (piece_entries p)) (drop i (idents_in es))
       next_below = subst (λ zs. AreBelow zs (drop i (idents_in es))) (sym part_idents) (part_below (idents_in es) (run_idents b.0.0 b.0.1) i done first (rising_of (idents_in es) incr) own_rising first_at found)
-
-      rises : Rising (take i (idents_in es) ++ (idents_in (piece_entries p) ++ drop i (idents_in es)))
-      rises =
-          subst (λ zs. Rising (take i (idents_in es) ++ (zs ++ drop i (idents_in es)))) (sym part_idents)
-          (gap_rises (idents_in es) (run_idents b.0.0 b.0.1) i done first (rising_of (idents_in es) incr) own_rising first_at found)
-
-      pub next_rises : is_increasing (idents_in (inserted i (piece_entries p) es)) ≡ true
-      next_rises = ap is_increasing (idents_inserted i (piece_entries p) es) ∙ increasing_of (take i (idents_in es) ++ (idents_in (piece_entries p) ++ drop i (idents_in es))) rises
-
-      pub next_ok : inserted i (piece_entries p) es ≡ put_all (take (end - done) (drop done (piece_entries b))) es
-      next_ok = sym (put_inserted i (piece_entries p) es rises) ∙ ap (λ q. put_all q es) part_is
 
 -- a whole run that goes into one gap
 pub whole_rises : (es : Entries) (r : List Tuple × ℕ) (i end : ℕ) (first : List Tuple) → is_increasing (idents_in es) ≡ true → is_run r ≡ true → first ≡ r.0 → place_of first (idents_in es) ≡ Err i → end ≡ gap_end (run_idents r.0 r.1) (drop i (idents_in es)) → end ≡ r.1

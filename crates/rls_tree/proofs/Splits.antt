@@ -1,5 +1,5 @@
 -- Blocks split at a place.
-use Rattle.std.proofs.Common.{◌≡◌, ℕ, ◌+◌, ◌<◌, List, [], ◌∷◌, ◌++◌, length, ap, ◌∙◌, subst, arith}
+use Rattle.std.proofs.Common.{◌≡◌, ℕ, ◌+◌, ◌<◌, List, [], ◌∷◌, ◌++◌, length, ap, ◌∙◌, subst}
 use Rattle.rls_tree.specs.Trees.{Piece, ArePieces, entries_of}
 use Rattle.rls_tree.specs.Splits.{IsBetweenLists, IsWithin}
 use Rattle.rls_tree.proofs.Pieces.{chars_append, node_length}

@@ -14,7 +14,6 @@ use Rattle.rls_runs.proofs.RunOrder.{Rising, rising_right, idents_append as runs
 use Rattle.std.proofs.Math.Seq.{take-add}
 use Rattle.rls_runs.proofs.RunPlaces.{tells_less, tells_more}
 use Rattle.rls_runs.proofs.Sorted.{Entry}
-use Rattle.rls_doc.specs.Documents.{AreNew}
 use Rattle.rls_tree.specs.Edits.{removed}
 use Rattle.rls_tree.proofs.AtPlaces.{idents_append}
 use Rattle.rls_runs.proofs.Gaps.{AreBelow, rising_below, firsts_less, rests_below, left_below}
@@ -94,8 +93,3 @@ taken_more xs rs i at n k r o h e g =
 
 pub filter_short : {X : Type 0} (t : X → Bool) (xs : List X) → length (filter t xs) ≤ length xs
 filter_short t xs = let n = length-filter t xs in let m = count_by-le-length t xs in omega (arith, n, m)
-
--- what stands behind others is none of them
-pub below_new : (ys xs : List (List Tuple)) → AreBelow ys xs → AreNew xs ys
-below_new ys [] h = tt
-below_new ys (x ∷ xs) h = ((tells_less ys x (firsts_less ys x xs h)).0, below_new ys xs (rests_below ys x xs h))

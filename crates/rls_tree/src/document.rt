@@ -1,14 +1,16 @@
 //! The block tree as a document.
 
-ghost use Rattle.std.specs.Prelude.{◌≡◌, true, ◌+◌, ◌-◌, ◌<◌, ◌≤◌, ◌^◌, ◌++◌, length, take, drop, zip, slice_get, Some, IfOk, IfSome, OnOk, OnErr, IsTrue};
+ghost use Rattle.std.specs.Prelude.{◌≡◌, true, ◌+◌, ◌-◌, ◌<◌, ◌≤◌, ◌^◌, ◌++◌, length, take, drop, zip, slice_get, Some, None, IfOk, IfSome, OnOk, OnErr, IsTrue};
 ghost use Rattle.std.specs.List.{list_all};
 ghost use Rattle.rls_ident.specs.Identifiers.{is_ident};
 ghost use Rattle.rls_runs.specs.Runs.{run_idents, runs_of, idents_of, is_increasing, place_of};
 ghost use Rattle.rls_runs.specs.Entries.{Entries, idents_in, chars_in, put_all, without_all, with_idents};
 ghost use Rattle.rls_doc.specs.Documents.{AreNew};
-ghost use Rattle.rls_tree.specs.Trees.{entries_of, piece_entries};
-ghost use Rattle.rls_tree.specs.Edits.{removed};
+ghost use Rattle.rls_tree.specs.Trees.{entries_of, piece_entries, runs_in};
+ghost use Rattle.rls_tree.specs.Edits.{are_loose, removed, Shows};
 
+use crate::block::Block;
+use crate::patch::push_runs;
 use crate::removal::most_of;
 use crate::tree::BlockTree;
 use rls_doc::{Document, RunMap};
@@ -84,8 +86,8 @@ impl Document for BlockTree {
         self.chars_text()
     }
 
-    /// It maps whole runs, and joins those that touch then. It costs the number of characters, and a step
-    /// for each level and each run before and after.
+    /// It maps whole runs, and joins those that touch then. It costs the number of characters, a step for each level and each run
+    /// before, and a step for each run after.
     fn map_runs<F: RunMap>(&mut self, map: &F) -> Result<(), AllocError> {
         let fresh = self.mapped(map)?;
         *self = fresh;
@@ -193,35 +195,33 @@ impl BlockTree {
     fn mapped<F: RunMap>(&self, map: &F) -> Result<BlockTree, AllocError>
         ensures mapped { IfOk result (λ tree. entries_of tree.blocks ≡ with_idents (F.image map.now) (entries_of self.now.blocks)) }
     {
-        let mut fresh = BlockTree::new(self.alloc());
+        let _blocks = self.blocks();
+        self.are_idents();
+        let mut blocks = Vec::new(self.alloc());
         let mut at = 0;
         while at < self.chars() {
-            at += self.map_next(map, at, &mut fresh)?;
+            at += self.map_next(map, at, &mut blocks)?;
         }
-        Ok(fresh)
+        BlockTree::of_loose_blocks(self.alloc(), blocks)
     }
 
-    // Puts the characters of a run from a place on, mapped, behind those that are mapped already, and
-    // answers how many.
+    // Puts the characters of a run from a place on, mapped, after some blocks, and answers how many.
     fn map_next<F: RunMap>(
         &self,
         map: &F,
         at: u64,
-        fresh: &mut BlockTree,
+        blocks: &mut Vec<Block>,
     ) -> Result<u64, AllocError>
         requires place { at < length (entries_of self.now.blocks) }
-        requires mapped { entries_of fresh.old.blocks ≡ with_idents (F.image map.now) (take at (entries_of self.now.blocks)) }
+        requires loose { IsTrue (are_loose None (runs_in blocks.old.items)) }
         ensures some { IfOk result (λ n. 0 < n) }
         ensures within { IfOk result (λ n. at + n ≤ length (entries_of self.now.blocks)) }
-        ensures mapped { IfOk result (λ n. entries_of fresh.new.blocks ≡ with_idents (F.image map.now) (take (at + n) (entries_of self.now.blocks))) }
+        ensures shows { IfOk result (λ n. Shows (entries_of blocks.old.items ++ with_idents (F.image map.now) (take n (drop at (entries_of self.now.blocks)))) blocks.new.items) }
     {
-        let _blocks = self.blocks();
-        let _chars = self.chars();
-        self.are_idents();
         let (run, text) = self.stretch(at, u32::MAX)?;
         let len = run.len();
         let runs = map.map(self.alloc(), &run)?;
-        fresh.put_runs(runs.as_slice(), text)?;
+        push_runs(self.alloc(), blocks, runs.as_slice(), text)?;
         Ok(len as u64)
     }
 }

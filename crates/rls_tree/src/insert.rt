@@ -1,6 +1,6 @@
 //! One more run in a tree. Each call answers the new tree, or where it finds no memory the old one.
 
-ghost use Rattle.std.specs.Prelude.{◌≡◌, ◌+◌, ◌-◌, ◌^◌, ◌<◌, ◌≤◌, [], ◌∷◌, ◌++◌, length, Some, None, IfOk, IfErr, OnOk, OnErr, IsTrue, false};
+ghost use Rattle.std.specs.Prelude.{◌≡◌, ◌+◌, ◌-◌, ◌^◌, ◌<◌, ◌≤◌, ◌++◌, length, Some, None, IfOk, IfErr, IsTrue, false};
 ghost use Rattle.rls_ident.specs.Identifiers.{follows};
 ghost use Rattle.rls_runs.specs.Runs.{run_before, run_last, is_increasing};
 ghost use Rattle.rls_runs.specs.Entries.{idents_in};

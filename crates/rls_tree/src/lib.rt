@@ -4,13 +4,13 @@
 mod balance;
 mod block;
 mod build;
-mod bulk;
 mod cut;
 mod document;
 mod insert;
 mod insertion;
 mod node;
 mod patch;
+mod places;
 mod put;
 mod removal;
 mod remove;

@@ -1,11 +1,11 @@
 //! Nodes of the tree.
 
-ghost use Rattle.std.specs.Prelude.{◌≡◌, ℕ, ◌+◌, ◌^◌, ◌<◌, ◌≤◌, max, [], ◌∷◌, ◌++◌, length, slice_get, Some, None, IfSome, IfNone, IfOk, OnOk, IsTrue};
+ghost use Rattle.std.specs.Prelude.{◌≡◌, ℕ, ◌+◌, ◌^◌, ◌<◌, ◌≤◌, max, [], ◌∷◌, ◌++◌, length, Some, None, IfSome, IfNone, OnOk, IsTrue};
 ghost use Rattle.rls_runs.specs.Runs.{idents_of};
 ghost use Rattle.rls_runs.specs.Entries.{chars_in};
 ghost use Rattle.rls_runs.specs.Places.{find_ident};
 ghost use Rattle.rls_runs.proofs.RunOrder.{Rising};
-ghost use Rattle.rls_tree.specs.Trees.{runs_in, IsLow, IsPiece, ArePieces, Tree, piece_entries, entries_of, pieces, levels};
+ghost use Rattle.rls_tree.specs.Trees.{runs_in, IsLow, IsPiece, ArePieces, Tree, entries_of, pieces, levels};
 ghost use Rattle.rls_tree.specs.Edits.{located, begins_with, ends_with};
 
 mod opened;
@@ -16,7 +16,7 @@ pub(crate) use opened::{Frame, Opened};
 use rls_ident::Ident;
 use rls_runs::{Run, Text};
 pub(crate) use single::Single;
-use std::alloc::{AllocError, Global};
+use std::alloc::AllocError;
 use std::marker::Model;
 
 /// A tree that may be empty.
@@ -191,18 +191,6 @@ impl Link {
             Some(node) => node.push_text(text),
         }
     }
-
-    /// The same again. It costs the number of characters and of blocks.
-    #[cycle(copy)]
-    pub(crate) fn copy(&self, alloc: Global) -> Result<Link, AllocError>
-        ensures blocks { IfOk result (λ copy. copy.blocks ≡ self.now.blocks) }
-        ensures height { IfOk result (λ copy. copy.height ≡ self.now.height) }
-    {
-        match self.node() {
-            None => Ok(Link::empty()),
-            Some(node) => node.copy(alloc),
-        }
-    }
 }
 
 impl Node {
@@ -351,19 +339,6 @@ impl Node {
         text.append(self.block.text().copy()?)?;
         self.right.push_text(text)?;
         Ok(())
-    }
-
-    // The same again.
-    #[cycle(copy)]
-    fn copy(&self, alloc: Global) -> Result<Link, AllocError>
-        ensures blocks { IfOk result (λ copy. copy.blocks ≡ self.now.blocks) }
-        ensures height { IfOk result (λ copy. copy.height ≡ self.now.height) }
-    {
-        let _chars = self.chars;
-        let left = self.left.copy(alloc)?;
-        let right = self.right.copy(alloc)?;
-        let own = Single::new(alloc, self.block.copy()?)?;
-        Ok(Opened::new(left, own, right).close())
     }
 
     // How many characters its own block has.

@@ -1,14 +1,16 @@
 //! Blocks that take the place of others.
 
-ghost use Rattle.std.specs.Prelude.{◌≡◌, ◌+◌, ◌^◌, ◌<◌, ◌≤◌, ◌++◌, length, reverse, None, OnOk, IsTrue};
+ghost use Rattle.std.specs.Prelude.{◌≡◌, ◌+◌, ◌^◌, ◌<◌, ◌≤◌, ◌++◌, length, reverse, zip, None, OnOk, IsTrue};
+ghost use Rattle.rls_runs.specs.Runs.{idents_of};
 ghost use Rattle.rls_tree.specs.Trees.{entries_of, piece_entries, runs_in};
 ghost use Rattle.rls_tree.specs.Edits.{are_loose, Shows};
 ghost use Rattle.rls_tree.specs.Patches.{before, after, IsBetween, patched, ArePatches};
 
-use crate::block::Block;
+use crate::block::{Block, part_of_text};
 use crate::node::Link;
 use crate::split::{Halves, concat, split};
-use std::alloc::AllocError;
+use rls_runs::{Run, Text};
+use std::alloc::{AllocError, Global};
 
 /// Blocks that take the place of those between two places.
 #[derive(Drop)]
@@ -38,6 +40,33 @@ pub(crate) fn push_block(blocks: &mut Vec<Block>, block: Block) -> Result<(), Al
     }
     blocks.push(last)?;
     blocks.push(block)?;
+    Ok(())
+}
+
+/// Puts runs with the characters of a text after other blocks, and joins those that touch. It costs the characters, and moves them if
+/// it is one run. After an error some of the others are gone.
+pub(crate) fn push_runs(
+    alloc: Global,
+    blocks: &mut Vec<Block>,
+    runs: &[Run],
+    text: Text,
+) -> Result<(), AllocError>
+    requires loose { IsTrue (are_loose None (runs_in blocks.old.items)) }
+    requires as_many { length (idents_of runs.now) ≡ length text }
+    ensures shows { OnOk result (Shows (entries_of blocks.old.items ++ zip (idents_of runs.now) text) blocks.new.items) }
+{
+    if runs.len() == 1 {
+        let own = runs[0].copy()?;
+        return push_block(blocks, Block::new(own, text));
+    }
+    let _chars = text.len();
+    let mut at = 0;
+    for run in runs {
+        let own = run.copy()?;
+        let part = part_of_text(alloc, &text, at, run.len() as usize)?;
+        push_block(blocks, Block::new(own, part))?;
+        at += run.len() as usize;
+    }
     Ok(())
 }
 

@@ -1,7 +1,7 @@
 //! A run put in beside a character, in place: one descent, and the same path back. Each call answers the new tree, or where it finds no
 //! memory the old one.
 
-ghost use Rattle.std.specs.Prelude.{◌≡◌, ◌+◌, ◌-◌, ◌^◌, ◌<◌, [], ◌∷◌, ◌++◌, length, Some, IfOk, IfErr, IsTrue};
+ghost use Rattle.std.specs.Prelude.{◌≡◌, ◌+◌, ◌-◌, ◌^◌, ◌<◌, ◌∷◌, ◌++◌, length, Some, IfOk, IfErr, IsTrue};
 ghost use Rattle.rls_tree.specs.Trees.{entries_of};
 ghost use Rattle.rls_tree.specs.Edits.{part_of, grown, may_grow, located, may_put, put_in, put_among};
 

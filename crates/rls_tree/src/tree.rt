@@ -65,6 +65,24 @@ impl BlockTree {
         Ok(BlockTree { root, alloc })
     }
 
+    // The tree of these blocks, of which none goes on with the one before it, and whose identifiers strictly increase. It costs a step
+    // for each block.
+    pub(crate) fn of_loose_blocks(
+        alloc: Global,
+        blocks: Vec<Block>,
+    ) -> Result<BlockTree, AllocError>
+        requires loose { IsTrue (are_loose None (runs_in blocks.items)) }
+        requires rises { IsTrue (is_increasing (idents_in (entries_of blocks.items))) }
+        requires chars_fit { length (entries_of blocks.items) < 2 ^ 64 }
+        ensures blocks { IfOk result (λ tree. tree.blocks ≡ blocks.items) }
+    {
+        let mut blocks = blocks;
+        let count = blocks.len();
+        let root = built(alloc, &mut blocks, count)?;
+        let _chars = root.chars();
+        Ok(BlockTree { root, alloc })
+    }
+
     /// The tree's topmost node, if it isn't empty.
     pub fn root(&self) -> Option<&Node>
         ensures blocks { IfSome result (λ node. node.now.blocks ≡ self.now.blocks) }
@@ -215,16 +233,6 @@ impl BlockTree {
         let mut text = Text::new(self.alloc);
         self.root.push_text(&mut text)?;
         Ok(text)
-    }
-
-    // The same again. It costs the number of characters and of blocks.
-    pub(crate) fn copy(&self) -> Result<BlockTree, AllocError>
-        ensures copy { IfOk result (λ tree. tree.blocks ≡ self.now.blocks) }
-    {
-        Ok(BlockTree {
-            root: self.root.copy(self.alloc)?,
-            alloc: self.alloc,
-        })
     }
 
     // The tree's allocator.

@@ -1,10 +1,9 @@
 //! Nodes that stand alone.
 
 ghost use Rattle.std.specs.Prelude.{◌≡◌, ◌-◌, ◌<◌, ◌≤◌, pos, length, IfOk, OnOk, OnErr, IsTrue};
-ghost use Rattle.rls_ident.specs.Identifiers.{follows, shifted};
-ghost use Rattle.rls_runs.specs.Runs.{run_last};
+ghost use Rattle.rls_ident.specs.Identifiers.{shifted};
 ghost use Rattle.rls_tree.specs.Trees.{IsPiece};
-ghost use Rattle.rls_tree.specs.Edits.{joined, part_of, grown, may_grow};
+ghost use Rattle.rls_tree.specs.Edits.{part_of, grown, may_grow};
 
 use super::Node;
 use crate::block::Block;

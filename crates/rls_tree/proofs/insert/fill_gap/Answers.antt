@@ -1,7 +1,5 @@
 use Rattle.std.proofs.Common.{◌≡◌, ◌++◌, ◌∷◌, [], Some, true, length, sym, ap, ◌∙◌, subst, arith, append_assoc, length-append}
 use Rattle.std.specs.Prelude.{None}
-use Rattle.rls_ident.specs.Identifiers.{follows}
-use Rattle.rls_runs.specs.Runs.{run_last}
 use Rattle.rls_runs.proofs.RunOrder.{run_some}
 use Rattle.rls_tree.specs.Trees.{Piece, entries_of, piece_entries, runs_in}
 use Rattle.rls_tree.specs.Edits.{joined, leads_to, are_loose, Shows}

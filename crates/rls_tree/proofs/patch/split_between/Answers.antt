@@ -1,4 +1,4 @@
-use Rattle.std.proofs.Common.{◌≡◌, length, sym, ap, ◌∙◌, arith, append_assoc}
+use Rattle.std.proofs.Common.{length, sym, ap, ◌∙◌, arith}
 use Rattle.rls_tree.specs.Trees.{entries_of}
 use Rattle.rls_tree.specs.Patches.{before, after}
 use Rattle.rls_tree.proofs.Patches.{before_seam, after_seam, before_within, between_most}

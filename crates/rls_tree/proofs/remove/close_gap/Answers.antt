@@ -1,6 +1,4 @@
-use Rattle.std.proofs.Common.{◌≡◌, ◌++◌, ◌∷◌, [], false, length, sym, ap, ◌∙◌, subst, arith, append_assoc, length-append}
-use Rattle.rls_ident.specs.Identifiers.{follows}
-use Rattle.rls_runs.specs.Runs.{run_last}
+use Rattle.std.proofs.Common.{◌≡◌, ◌++◌, ◌∷◌, false, length, sym, ap, ◌∙◌, subst, arith, length-append}
 use Rattle.rls_tree.specs.Trees.{Piece, entries_of}
 use Rattle.rls_tree.specs.Edits.{goes_on, Shows}
 use Rattle.rls_tree.proofs.Loose.{last_run}

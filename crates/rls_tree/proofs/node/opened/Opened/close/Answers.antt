@@ -1,4 +1,4 @@
-use Rattle.std.proofs.Common.{◌≡◌, ◌∷◌, ◌++◌, length, ap, ◌∙◌, arith}
+use Rattle.std.proofs.Common.{length, ap, ◌∙◌, arith}
 use Rattle.rls_tree.specs.Trees.{Piece, entries_of}
 use Rattle.rls_tree.proofs.Pieces.{node_length, piece_some, count_most}
 use Rattle.rls_tree.proofs.Low.{make_low}
