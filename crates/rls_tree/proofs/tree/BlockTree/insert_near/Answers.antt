@@ -16,60 +16,41 @@ use Rattle.rls_tree.proofs.Puts.{idents_inserted, put_inserted}
 use Rattle.rls_tree.proofs.tree.BlockTree.insert_near.Goals as goal
 use Rattle.rls_runs.proofs.RunOrder.{rising_of}
 
+-- what goes in, and between which identifiers
+module _ (c : goal.After-insert_piece-arg-1) where
+  is : ◌≡◌ {A = Piece} (c.in_ok-own.own, c.in_ok-chars.chars) (c.get-run.result.now, c.args.text.now)
+  is = ap (λ q. (q, c.in_ok-chars.chars)) c.in_ok-own.ensures.copy ∙ ap (λ q. (c.get-run.result.now, q)) c.in_ok-chars.ensures.copy
+
+  one : idents_of c.args.runs.now ≡ run_idents c.get-run.result.now.0 c.get-run.result.now.1
+  one = single_run c.args.runs.now c.get-run.result.now (sym c.len.ensures.len ∙ c.if-len-eq1.true) c.get-run.ensures.run
+
+  many : length c.args.text.now ≡ c.get-run.result.now.1
+  many = sym c.requires.as_many ∙ ap length one ∙ run_length c.get-run.result.now.0 c.get-run.result.now.1
+
+  rises : is_increasing (take c.in-Some.i (idents_in (entries_of c.args.self.now.blocks)) ++ (idents_in (piece_entries (c.get-run.result.now, c.args.text.now)) ++ drop c.in-Some.i (idents_in (entries_of c.args.self.now.blocks)))) ≡ true
+  rises =
+      let xs = idents_in (entries_of c.args.self.now.blocks) in
+      let r = c.get-run.result.now in
+      let Rises : Option ℕ → Type 0 = λ o. IfSome o (λ j. is_increasing (take j xs ++ (run_idents r.0 r.1 ++ drop j xs)) ≡ true) in
+      subst (λ zs. is_increasing (take c.in-Some.i xs ++ (zs ++ drop c.in-Some.i xs)) ≡ true) (sym (piece_idents (r, c.args.text.now) many)) (subst Rises c.in-Some.is c.in_ok-i.ensures.rises)
+
 pub insert_piece-requires-clause-as_many : goal.insert_piece-requires-clause-as_many
-insert_piece-requires-clause-as_many c =
-    let es = entries_of c.args.self.now.blocks in
-    let xs = idents_in es in
-    let rs = c.args.runs.now in
-    let r = c.get-run.result.now in
-    let cs = c.args.text.now in
-    let p = piece_entries (r, cs) in
-    let i = c.in-Some.i in
-    let put_in : Piece = (c.in_ok-own.own, c.in_ok-chars.chars) in
-    let is : put_in ≡ (r, cs) = ap (λ q. (q, c.in_ok-chars.chars)) c.in_ok-own.ensures.copy ∙ ap (λ q. (r, q)) c.in_ok-chars.ensures.copy in
-    let one : idents_of rs ≡ run_idents r.0 r.1 = single_run rs r (sym c.len.ensures.len ∙ c.if-len-eq1.true) c.get-run.ensures.run in
-    let many : length cs ≡ r.1 = sym c.requires.as_many ∙ ap length one ∙ run_length r.0 r.1 in
-    let Rises : Option ℕ → Type 0 = λ o. IfSome o (λ j. is_increasing (take j xs ++ (run_idents r.0 r.1 ++ drop j xs)) ≡ true) in
-    let gap : is_increasing (take i xs ++ (run_idents r.0 r.1 ++ drop i xs)) ≡ true = subst Rises c.in-Some.is c.in_ok-i.ensures.rises in
-    let own : is_increasing (take i xs ++ (idents_in p ++ drop i xs)) ≡ true = subst (λ zs. is_increasing (take i xs ++ (zs ++ drop i xs)) ≡ true) (sym (piece_idents (r, cs) many)) gap in
-    ap (λ (q : Piece). length q.1) is ∙ many ∙ sym (ap (λ (q : Piece). q.0.1) is)
+insert_piece-requires-clause-as_many c = ap (λ (q : Piece). length q.1) (is c) ∙ many c ∙ sym (ap (λ (q : Piece). q.0.1) (is c))
 
 pub insert_piece-requires-clause-rises : goal.insert_piece-requires-clause-rises
 insert_piece-requires-clause-rises c =
     let es = entries_of c.args.self.now.blocks in
-    let xs = idents_in es in
-    let rs = c.args.runs.now in
-    let r = c.get-run.result.now in
-    let cs = c.args.text.now in
-    let p = piece_entries (r, cs) in
-    let i = c.in-Some.i in
-    let put_in : Piece = (c.in_ok-own.own, c.in_ok-chars.chars) in
-    let is : put_in ≡ (r, cs) = ap (λ q. (q, c.in_ok-chars.chars)) c.in_ok-own.ensures.copy ∙ ap (λ q. (r, q)) c.in_ok-chars.ensures.copy in
-    let one : idents_of rs ≡ run_idents r.0 r.1 = single_run rs r (sym c.len.ensures.len ∙ c.if-len-eq1.true) c.get-run.ensures.run in
-    let many : length cs ≡ r.1 = sym c.requires.as_many ∙ ap length one ∙ run_length r.0 r.1 in
-    let Rises : Option ℕ → Type 0 = λ o. IfSome o (λ j. is_increasing (take j xs ++ (run_idents r.0 r.1 ++ drop j xs)) ≡ true) in
-    let gap : is_increasing (take i xs ++ (run_idents r.0 r.1 ++ drop i xs)) ≡ true = subst Rises c.in-Some.is c.in_ok-i.ensures.rises in
-    let own : is_increasing (take i xs ++ (idents_in p ++ drop i xs)) ≡ true = subst (λ zs. is_increasing (take i xs ++ (zs ++ drop i xs)) ≡ true) (sym (piece_idents (r, cs) many)) gap in
-    ap (λ (q : Piece). is_increasing (idents_in (inserted i (piece_entries q) es))) is ∙ ap is_increasing (idents_inserted i p es) ∙ own
+    ap (λ (q : Piece). is_increasing (idents_in (inserted c.in-Some.i (piece_entries q) es))) (is c) ∙ ap is_increasing (idents_inserted c.in-Some.i (piece_entries (c.get-run.result.now, c.args.text.now)) es) ∙ rises c
 
 pub returns-in-Some-clause-ok : goal.returns-in-Some-clause-ok
 returns-in-Some-clause-ok c =
     let es = entries_of c.args.self.now.blocks in
     let xs = idents_in es in
-    let rs = c.args.runs.now in
-    let r = c.get-run.result.now in
     let cs = c.args.text.now in
-    let p = piece_entries (r, cs) in
+    let p = piece_entries (c.get-run.result.now, cs) in
     let i = c.in-Some.i in
-    let put_in : Piece = (c.in_ok-own.own, c.in_ok-chars.chars) in
-    let is : put_in ≡ (r, cs) = ap (λ q. (q, c.in_ok-chars.chars)) c.in_ok-own.ensures.copy ∙ ap (λ q. (r, q)) c.in_ok-chars.ensures.copy in
-    let one : idents_of rs ≡ run_idents r.0 r.1 = single_run rs r (sym c.len.ensures.len ∙ c.if-len-eq1.true) c.get-run.ensures.run in
-    let many : length cs ≡ r.1 = sym c.requires.as_many ∙ ap length one ∙ run_length r.0 r.1 in
-    let Rises : Option ℕ → Type 0 = λ o. IfSome o (λ j. is_increasing (take j xs ++ (run_idents r.0 r.1 ++ drop j xs)) ≡ true) in
-    let gap : is_increasing (take i xs ++ (run_idents r.0 r.1 ++ drop i xs)) ≡ true = subst Rises c.in-Some.is c.in_ok-i.ensures.rises in
-    let own : is_increasing (take i xs ++ (idents_in p ++ drop i xs)) ≡ true = subst (λ zs. is_increasing (take i xs ++ (zs ++ drop i xs)) ≡ true) (sym (piece_idents (r, cs) many)) gap in
-    let put : inserted i p es ≡ put_all (zip (idents_of rs) cs) es = sym (put_inserted i p es (rising_of (take i xs ++ (idents_in p ++ drop i xs)) own)) ∙ ap (λ ids. put_all (zip ids cs) es) (sym one) in
-    on_ok_weaker c.insert_piece.result (λ e. e ∙ ap (λ (q : Piece). inserted i (piece_entries q) es) is ∙ put) c.insert_piece.ensures.ok
+    let put = sym (put_inserted i p es (rising_of (take i xs ++ (idents_in p ++ drop i xs)) (rises c.before))) ∙ ap (λ ids. put_all (zip ids cs) es) (sym (one c.before)) in
+    on_ok_weaker c.insert_piece.result (λ e. e ∙ ap (λ (q : Piece). inserted i (piece_entries q) es) (is c.before) ∙ put) c.insert_piece.ensures.ok
 
 pub patches_with-requires-clause-room : goal.patches_with-requires-clause-room
 patches_with-requires-clause-room c =

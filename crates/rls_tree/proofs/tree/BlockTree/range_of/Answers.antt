@@ -47,8 +47,8 @@ loop-run-preserved c =
       idents = taken_more xs rs c.in-Ok.from c.loop-run.at c.len.result c.loop-run.run-index r inv.order inv.idents e g;
     }
 
-pub returns-clause-within : goal.returns-clause-within
-returns-clause-within c =
+pub returns : goal.returns
+returns c =
     let es = entries_of c.args.self.now.blocks in
     let xs = idents_in es in
     let ts = c.args.targets.now in
@@ -59,18 +59,7 @@ returns-clause-within c =
     let d = length-drop c.in-Ok.from xs in
     let l = length-map es (λ e. e.0) in
     let long = sym (length-take-le n (drop c.in-Ok.from xs) (omega (arith, d, l, inv.within))) ∙ ap length own in
-    omega (arith, long, inv.within, inv.order)
-
-pub returns-clause-removed : goal.returns-clause-removed
-returns-clause-removed c =
-    let es = entries_of c.args.self.now.blocks in
-    let xs = idents_in es in
-    let ts = c.args.targets.now in
-    let rs = c.as_slice-runs.result.now in
-    let n = c.loop-run.at - c.in-Ok.from in
-    let inv = c.loop-run.invariant in
-    let own : take n (drop c.in-Ok.from xs) ≡ ts = inv.idents ∙ ap idents_of (take_all c.loop-run.run-index rs c.loop-run-test.false ∙ c.as_slice-runs.ensures.runs) ∙ idents_of_runs ts in
-    let d = length-drop c.in-Ok.from xs in
-    let l = length-map es (λ e. e.0) in
-    let long = sym (length-take-le n (drop c.in-Ok.from xs) (omega (arith, d, l, inv.within))) ∙ ap length own in
-    ap (λ k. removed c.in-Ok.from k es) (sym long) ∙ whole_gone es c.in-Ok.from n ts (rising_of xs c.blocks-blocks.ensures.rises) own
+    record {
+      within = omega (arith, long, inv.within, inv.order);
+      removed = ap (λ k. removed c.in-Ok.from k es) (sym long) ∙ whole_gone es c.in-Ok.from n ts (rising_of xs c.blocks-blocks.ensures.rises) own;
+    }

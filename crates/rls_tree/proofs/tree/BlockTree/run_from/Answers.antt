@@ -1,4 +1,4 @@
-use Rattle.std.proofs.Common.{◌≡◌, ℕ, List, take, drop, length, Some, ap, ◌∙◌, sym, subst, arith}
+use Rattle.std.proofs.Common.{◌≡◌, ℕ, ◌<◌, List, take, drop, length, Some, ap, ◌∙◌, sym, subst, arith}
 use Rattle.std.specs.Prelude.{pos}
 use Rattle.std.proofs.lemmas.Result.{IfOk-weaker}
 use Rattle.rls_ident.specs.declared.tuple.Tuple.{Tuple}
@@ -11,21 +11,8 @@ use Rattle.rls_tree.proofs.AtPlaces.{part_at}
 use Rattle.rls_tree.proofs.Puts.{idents_located}
 use Rattle.rls_tree.proofs.tree.BlockTree.run_from.Goals as goal
 
-pub returns-clause-within : goal.returns-clause-within
-returns-clause-within c =
-    let b = c.locate-at.result.0.now in
-    let j = c.locate-at.result.1 in
-    let i = c.args.i in
-    let bs = c.args.self.now.blocks in
-    let n = c.min-len.result in
-    let are : ArePieces bs = subst (λ s. ArePieces s.blocks) c.self.view_is c.chars-chars.ensures.pieces in
-    let there = subst (λ s. located s.blocks i ≡ Some (b, j)) c.self.view_is c.locate-at.ensures.located in
-    let at = part_at bs i j n b are there (omega (arith, c.len.ensures.len, c.locate-at.ensures.within, c.min-len.ensures)) (omega (arith, c.len.ensures.len, c.locate-at.ensures.within, c.min-len.ensures, c.requires.some)) in
-    let w = at.1 in
-    IfOk-weaker c.part_of_run.result _ _ (λ r h. let l = ap (λ (q : List Tuple × ℕ). q.1) h in omega (arith, l, w)) c.part_of_run.ensures.part
-
-pub returns-clause-idents : goal.returns-clause-idents
-returns-clause-idents c =
+pub returns : goal.returns
+returns c =
     let b = c.locate-at.result.0.now in
     let j = c.locate-at.result.1 in
     let i = c.args.i in
@@ -34,6 +21,15 @@ returns-clause-idents c =
     let are : ArePieces bs = subst (λ s. ArePieces s.blocks) c.self.view_is c.chars-chars.ensures.pieces in
     let there = subst (λ s. located s.blocks i ≡ Some (b, j)) c.self.view_is c.locate-at.ensures.located in
     let many : length b.1 ≡ b.0.1 = c.len.ensures.piece.as_many in
-    let all : take n (drop i (idents_in (entries_of bs))) ≡ run_idents (shifted (pos j) b.0.0) n = idents_located bs i j n b are there many (omega (arith, many, c.len.ensures.len, c.locate-at.ensures.within, c.min-len.ensures)) (omega (arith, c.len.ensures.len, c.locate-at.ensures.within, c.min-len.ensures, c.requires.some)) in
-    IfOk-weaker c.part_of_run.result _ _ (λ r h. let k = h ∙ ap (λ q. (shifted (pos j) q.0, n)) c.run.ensures.run in
-    ap (λ (q : List Tuple × ℕ). take q.1 (drop i (idents_in (entries_of bs)))) k ∙ all ∙ ap (λ (q : List Tuple × ℕ). run_idents q.0 q.1) (sym k)) c.part_of_run.ensures.part
+    let some : 0 < n = omega (arith, c.len.ensures.len, c.locate-at.ensures.within, c.min-len.ensures, c.requires.some) in
+    let at = part_at bs i j n b are there (omega (arith, c.len.ensures.len, c.locate-at.ensures.within, c.min-len.ensures)) some in
+    let w = at.1 in
+    let all = idents_located bs i j n b are there many (omega (arith, many, c.len.ensures.len, c.locate-at.ensures.within, c.min-len.ensures)) some in
+    let len = IfOk-weaker c.part_of_run.result _ (λ (q : List Tuple × ℕ). q.1 ≡ n) (λ r h. ap (λ (q : List Tuple × ℕ). q.1) h) c.part_of_run.ensures.part in
+    record {
+      some = IfOk-weaker c.part_of_run.result _ _ (λ r l. omega (arith, l, some)) len;
+      most = IfOk-weaker c.part_of_run.result _ _ (λ r l. omega (arith, l, c.min-len.ensures)) len;
+      within = IfOk-weaker c.part_of_run.result _ _ (λ r l. omega (arith, l, w)) len;
+      idents = IfOk-weaker c.part_of_run.result _ _ (λ r h. let k = h ∙ ap (λ q. (shifted (pos j) q.0, n)) c.run.ensures.run in
+          ap (λ (q : List Tuple × ℕ). take q.1 (drop i (idents_in (entries_of bs)))) k ∙ all ∙ ap (λ (q : List Tuple × ℕ). run_idents q.0 q.1) (sym k)) c.part_of_run.ensures.part;
+    }
