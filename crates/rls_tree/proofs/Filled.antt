@@ -23,7 +23,7 @@ use Rattle.rls_tree.specs.Trees.{Piece, piece_entries}
 use Rattle.rls_tree.specs.Edits.{part_of, gap_end}
 use Rattle.rls_tree.specs.Gaps.{filled, AreGaps, is_gap, last_gap, Leaves}
 use Rattle.rls_tree.proofs.AtPlaces.{idents_append, piece_idents}
-use Rattle.rls_tree.proofs.Puts.{put_gap, parted, headed, idents_take, idents_drop, next_place, next_later, next_below, part_is}
+use Rattle.rls_tree.proofs.Puts.{put_gap, parted, headed, idents_take, idents_drop, whole_place, next_later, next_below, part_is}
 
 -- ---- places
 
@@ -172,9 +172,9 @@ module _ (es : Entries) (b : Piece) (done end : ℕ) (g : Gap) (many : length b.
 
   parts : drop done (piece_entries b) ++ more ≡ new ++ left
   parts =
-      let l = next_later es b g.at done many incr sound short first first_is gap in
+      let l = next_later es b.0 g.at done incr sound short first first_is gap in
       let n : done + (end - done) ≡ end = omega (arith, l, end_is) in
-      ap (λ zs. zs ++ more) (parted done (end - done) (piece_entries b) ∙ ap (λ zs. zs ++ drop (done + (end - done)) (piece_entries b)) (sym (part_is es b g.at done many incr sound short first first_is gap end end_is g.block block_is)) ∙ ap (λ k. new ++ drop k (piece_entries b)) n)
+      ap (λ zs. zs ++ more) (parted done (end - done) (piece_entries b) ∙ ap (λ zs. zs ++ drop (done + (end - done)) (piece_entries b)) (sym (part_is es b.0 g.at done incr sound short first first_is gap b.1 many end end_is g.block block_is)) ∙ ap (λ k. new ++ drop k (piece_entries b)) n)
       ∙ append_assoc new (drop end (piece_entries b)) more
 
   head : idents_in (new ++ left) ≡ first ∷ (drop (suc done) (run_idents b.0.0 b.0.1) ++ idents_in more)
@@ -185,8 +185,8 @@ module _ (es : Entries) (b : Piece) (done end : ℕ) (g : Gap) (many : length b.
   pub run_gap : Leaves es (gs ++ g ∷ []) left all
   run_gap =
       gap_put es gs g left all (subst (λ zs. Leaves es gs zs all) parts was) first (drop (suc done) (run_idents b.0.0 b.0.1) ++ idents_in more) (rising_of (idents_in es) incr) head
-      (next_place es b g.at done many incr sound short first first_is gap) (read_err (idents_in es) first g.at (found_is (idents_in es) first (rising_of (idents_in es) incr) ∙ gap)).1
-      (next_below es b g.at done many incr sound short first first_is gap end end_is g.block block_is)
+      (whole_place es g.at first incr gap) (read_err (idents_in es) first g.at (found_is (idents_in es) first (rising_of (idents_in es) incr) ∙ gap)).1
+      (next_below es b.0 g.at done incr sound short first first_is gap b.1 many end end_is g.block block_is)
 
 -- ---- all entries rise
 

@@ -1,5 +1,5 @@
 -- Patches that put runs in.
-use Rattle.std.proofs.Common.{◌≡◌, ℕ, suc, ◌-◌, ◌<◌, ◌≤◌, ◌⊎◌, inl, inr, Bool, true, false, List, [], ◌∷◌, ◌++◌, length, take, drop, get_or, Some, None, slice_get, refl, sym, ap, ◌∙◌, ⊎_elim, arith, append_assoc, length-append}
+use Rattle.std.proofs.Common.{◌≡◌, ℕ, suc, ◌-◌, ◌<◌, ◌≤◌, ◌⊎◌, inl, inr, Bool, true, false, List, [], ◌∷◌, ◌++◌, length, take, drop, get_or, Some, None, slice_get, slice_index_or, refl, sym, ap, ◌∙◌, subst, ⊎_elim, arith, append_assoc, length-append}
 use Rattle.std.specs.Prelude.{nat_lt}
 use Rattle.std.proofs.lemmas.List.{append-nil}
 use Rattle.std.proofs.lemmas.Option.{slice_get-get_or}
@@ -17,7 +17,7 @@ use Rattle.rls_tree.proofs.Pieces.{piece_length, piece_some}
 use Rattle.rls_tree.proofs.Puts.{headed}
 use Rattle.rls_tree.proofs.Patches.{none_before}
 use Rattle.rls_tree.proofs.Planned.{Planned, unplanned, end_of, old, led, some_blocks, entries_more, begins_alike, begins_first, begins_apart, ends_apart, planned_more, all_entries, all_loose}
-use Rattle.rls_tree.proofs.Filled.{filled_later, gaps_within, gap_later}
+use Rattle.rls_tree.proofs.Filled.{filled_later, first_gap, gaps_within, gap_later}
 
 -- what the patches leave up to the last one, and the gaps after it, come to these entries
 pub record Grown (all : Entries) (bs : List Piece) (gs : List Gap) (ps : List Patch) : Type 0 where
@@ -47,6 +47,10 @@ head_of (x ∷ xs) s = (x, xs, refl)
 earlier : (ps : List Patch) (g : Gap) (gs : List Gap) → (0 < length ps → is_gap (end_of ps) (g ∷ gs) ≡ false) → end_of ps ≤ g.at → (end_of ps < g.at) ⊎ (ps ≡ [])
 earlier [] g gs f l = inr refl
 earlier (q ∷ ps) g gs f l = inl (gap_later gs g q.to (f (omega arith)) l)
+
+-- the first gap is taken out
+pub first_grown : {all : Entries} {bs : List Piece} {gs : List Gap} {ps : List Patch} (g : Gap) → 0 < length gs → g ≡ slice_index_or gs 0 g → Grown all bs gs ps → Grown all bs (g ∷ drop 1 gs) ps
+first_grown {all = all} {bs = bs} {gs = gs} {ps = ps} g some first was = subst (λ xs. Grown all bs xs ps) (first_gap gs g some first) was
 
 pub low_of : (all : Entries) (bs : List Piece) (ps : List Patch) (g : Gap) (gs : List Gap) (from : ℕ) → Grown all bs (g ∷ gs) ps → ((at : ℕ) → IsBetween at bs → at < g.at → at ≤ from) → end_of ps ≤ from
 low_of all bs ps g gs from was last = ⊎_elim (λ l. last (end_of ps) was.plan.between l) (λ e. let z = ap end_of e in omega (arith, z)) (earlier ps g gs was.later was.places.0)

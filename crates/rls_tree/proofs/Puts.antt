@@ -163,45 +163,41 @@ new_second (x ∷ xs) ys zs h = new_second xs ys zs h.1
 
 -- ---- the next identifiers of a run that go into one gap
 
-module _ (es : Entries) (b : Piece) (i done : ℕ) (many : length b.1 ≡ b.0.1) (incr : is_increasing (idents_in es) ≡ true) (sound : is_run b.0 ≡ true) (short : done < b.0.1) (first : List Tuple) (first_is : first ≡ shifted (pos done) b.0.0) where
-  own_rising : Rising (run_idents b.0.0 b.0.1)
-  own_rising = run_rising b.0.0 b.0.1 (run_ident b.0 sound)
+module _ (es : Entries) (r : List Tuple × ℕ) (i done : ℕ) (incr : is_increasing (idents_in es) ≡ true) (sound : is_run r ≡ true) (short : done < r.1) (first : List Tuple) (first_is : first ≡ shifted (pos done) r.0) where
+  own_rising : Rising (run_idents r.0 r.1)
+  own_rising = run_rising r.0 r.1 (run_ident r sound)
 
-  first_at : slice_get (run_idents b.0.0 b.0.1) done ≡ Some first
-  first_at = run_gets b.0.0 b.0.1 done short ∙ ap Some (sym first_is)
+  first_at : slice_get (run_idents r.0 r.1) done ≡ Some first
+  first_at = run_gets r.0 r.1 done short ∙ ap Some (sym first_is)
 
   -- it isn't there
-  pub not_there : (k : ℕ) → place_of first (idents_in es) ≡ Ok k → AreNew (idents_in (drop done (piece_entries b))) (idents_in es) → ⊥
+  pub not_there : (k : ℕ) → place_of first (idents_in es) ≡ Ok k → AreNew (drop done (run_idents r.0 r.1)) (idents_in es) → ⊥
   not_there k h new =
       let f = read_ok (idents_in es) first k (found_is (idents_in es) first (rising_of (idents_in es) incr) ∙ h) in
-      let e : idents_in (drop done (piece_entries b)) ≡ first ∷ drop (suc done) (run_idents b.0.0 b.0.1) = idents_drop done (piece_entries b) ∙ ap (drop done) (piece_idents b many) ∙ headed done (run_idents b.0.0 b.0.1) first first_at in
-      let n = subst (λ zs. AreNew zs (idents_in es)) e new in
+      let n = subst (λ zs. AreNew zs (idents_in es)) (headed done (run_idents r.0 r.1) first first_at) new in
       let g = f.0 in let m = n.0 in absurd (cc)
 
   module _ (gap : place_of first (idents_in es) ≡ Err i) where
     found : find_ident (idents_in es) first ≡ Err i
     found = found_is (idents_in es) first (rising_of (idents_in es) incr) ∙ gap
 
-    pub next_place : i ≤ length es
-    next_place = let m = place_most (idents_in es) first i (inr found) in let l = length-map es (λ e. e.0) in omega (arith, m, l)
+    pub next_later : done < gap_end (run_idents r.0 r.1) (drop i (idents_in es))
+    next_later = ends_later (idents_in es) (run_idents r.0 r.1) i done first (rising_of (idents_in es) incr) own_rising first_at found
 
-    pub next_later : done < gap_end (run_idents b.0.0 b.0.1) (drop i (idents_in es))
-    next_later = ends_later (idents_in es) (run_idents b.0.0 b.0.1) i done first (rising_of (idents_in es) incr) own_rising first_at found
+    pub next_within : gap_end (run_idents r.0 r.1) (drop i (idents_in es)) ≤ r.1
+    next_within = let w = ends_within (idents_in es) (run_idents r.0 r.1) i done first (rising_of (idents_in es) incr) own_rising first_at found in let l = run_length r.0 r.1 in omega (arith, w, l)
 
-    pub next_within : gap_end (run_idents b.0.0 b.0.1) (drop i (idents_in es)) ≤ b.0.1
-    next_within = let w = ends_within (idents_in es) (run_idents b.0.0 b.0.1) i done first (rising_of (idents_in es) incr) own_rising first_at found in let l = run_length b.0.0 b.0.1 in omega (arith, w, l)
+    module _ (text : List ℕ) (many : length text ≡ r.1) (end : ℕ) (end_is : end ≡ gap_end (run_idents r.0 r.1) (drop i (idents_in es))) (p : Piece) (p_is : p ≡ part_of done (end - done) (r, text)) where
+      pub part_is : piece_entries p ≡ take (end - done) (drop done (piece_entries (r, text)))
+      part_is = ap piece_entries p_is ∙ part_taken (r, text) done (end - done) many (let l = next_later in let w = next_within in omega (arith, l, w, end_is))
 
-    module _ (end : ℕ) (end_is : end ≡ gap_end (run_idents b.0.0 b.0.1) (drop i (idents_in es))) (p : Piece) (p_is : p ≡ part_of done (end - done) b) where
-      pub part_is : piece_entries p ≡ take (end - done) (drop done (piece_entries b))
-      part_is = ap piece_entries p_is ∙ part_taken b done (end - done) many (let l = next_later in let w = next_within in omega (arith, l, w, end_is))
-
-      part_idents : idents_in (piece_entries p) ≡ take (gap_end (run_idents b.0.0 b.0.1) (drop i (idents_in es)) - done) (drop done (run_idents b.0.0 b.0.1))
+      part_idents : idents_in (piece_entries p) ≡ take (gap_end (run_idents r.0 r.1) (drop i (idents_in es)) - done) (drop done (run_idents r.0 r.1))
       part_idents =
-          ap idents_in part_is ∙ idents_take (end - done) (drop done (piece_entries b)) ∙ ap (take (end - done)) (idents_drop done (piece_entries b) ∙ ap (drop done) (piece_idents b many))
-          ∙ ap (λ n. take (n - done) (drop done (run_idents b.0.0 b.0.1))) end_is
+          ap idents_in part_is ∙ idents_take (end - done) (drop done (piece_entries (r, text))) ∙ ap (take (end - done)) (idents_drop done (piece_entries (r, text)) ∙ ap (drop done) (piece_idents (r, text) many))
+          ∙ ap (λ n. take (n - done) (drop done (run_idents r.0 r.1))) end_is
 
       pub next_below : AreBelow (idents_in (piece_entries p)) (drop i (idents_in es))
-      next_below = subst (λ zs. AreBelow zs (drop i (idents_in es))) (sym part_idents) (part_below (idents_in es) (run_idents b.0.0 b.0.1) i done first (rising_of (idents_in es) incr) own_rising first_at found)
+      next_below = subst (λ zs. AreBelow zs (drop i (idents_in es))) (sym part_idents) (part_below (idents_in es) (run_idents r.0 r.1) i done first (rising_of (idents_in es) incr) own_rising first_at found)
 
 -- a whole run that goes into one gap
 pub whole_rises : (es : Entries) (r : List Tuple × ℕ) (i end : ℕ) (first : List Tuple) → is_increasing (idents_in es) ≡ true → is_run r ≡ true → first ≡ r.0 → place_of first (idents_in es) ≡ Err i → end ≡ gap_end (run_idents r.0 r.1) (drop i (idents_in es)) → end ≡ r.1

@@ -1,11 +1,12 @@
 //! Runs put in at many places: first all that takes memory, without a change, and then the changes, which take none.
 
-ghost use Rattle.std.specs.Prelude.{◌≡◌, ℕ, ◌+◌, ◌-◌, ◌^◌, ◌<◌, ◌≤◌, ◌++◌, length, drop, reverse, zip, false, None, IfOk, OnOk, IsTrue, IsFalse};
-ghost use Rattle.rls_runs.specs.Runs.{run_before, run_idents, idents_of, is_increasing};
+ghost use Rattle.std.specs.Prelude.{◌≡◌, ℕ, ◌+◌, ◌-◌, ◌^◌, ◌<◌, ◌≤◌, ◌++◌, length, drop, reverse, zip, pos, false, None, Err, IfOk, OnOk, IsTrue, IsFalse};
+ghost use Rattle.rls_ident.specs.Identifiers.{shifted};
+ghost use Rattle.rls_runs.specs.Runs.{run_before, run_idents, idents_of, is_increasing, place_of};
 ghost use Rattle.rls_runs.specs.Entries.{Entries, idents_in, put_all};
 ghost use Rattle.rls_doc.specs.Documents.{AreNew};
 ghost use Rattle.rls_tree.specs.Trees.{ArePieces, entries_of, piece_entries, runs_in};
-ghost use Rattle.rls_tree.specs.Edits.{are_loose, goes_on, leads_to, Shows};
+ghost use Rattle.rls_tree.specs.Edits.{are_loose, goes_on, leads_to, Shows, gap_end};
 ghost use Rattle.rls_tree.specs.Patches.{before, after, IsBetween, patched, ArePatches};
 ghost use Rattle.rls_tree.specs.Gaps.{AreGaps, filled, is_gap, Leaves};
 
@@ -77,16 +78,31 @@ impl BlockTree {
     {
         let _blocks = self.blocks();
         let _len = run.len();
-        let first = run.first().shifted(done)?;
-        let Err(at) = self.place(&first) else {
-            unreachable!()
-        };
-        let end = self.end_of_gap(at, run)?;
+        let (at, end) = self.gap_of(run, done)?;
         let part = part_of_run(run, done, end - done)?;
         let chars = part_of_text(self.alloc(), text, done as usize, (end - done) as usize)?;
         let block = Block::new(part, chars);
         gaps.push_back(Gap { at, block })?;
         Ok(end - done)
+    }
+
+    // The gap into which the identifiers of a run go from a place of the run on, and the place of the run after them.
+    fn gap_of(&self, run: &Run, done: u32) -> Result<(u64, u32), AllocError>
+        requires place { done < run.now.1 }
+        requires new { AreNew (drop done (run_idents run.now.0 run.now.1)) (idents_in (entries_of self.now.blocks)) }
+        ensures later { IfOk result (λ gap. done < gap.1) }
+        ensures within { IfOk result (λ gap. gap.1 ≤ run.now.1) }
+        ensures place { IfOk result (λ gap. place_of (shifted (pos done) run.now.0) (idents_in (entries_of self.now.blocks)) ≡ Err gap.0) }
+        ensures end { IfOk result (λ gap. gap.1 ≡ gap_end (run_idents run.now.0 run.now.1) (drop gap.0 (idents_in (entries_of self.now.blocks)))) }
+    {
+        let _blocks = self.blocks();
+        let _len = run.len();
+        let first = run.first().shifted(done)?;
+        let Err(at) = self.place(&first) else {
+            unreachable!()
+        };
+        let end = self.end_of_gap(at, run)?;
+        Ok((at, end))
     }
 
     /// The blocks that take the place of those that gaps cut, and of those that touch what goes in.

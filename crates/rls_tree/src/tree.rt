@@ -150,8 +150,8 @@ impl BlockTree {
         requires place { i < length (entries_of self.now.blocks) }
         ensures char { slice_get (chars_in (entries_of self.now.blocks)) i ≡ Some result }
     {
-        let _chars = self.root.chars();
-        let (block, at) = self.root.locate(i);
+        let _chars = self.chars();
+        let (block, at) = self.locate(i);
         block.text().get(at as usize)
     }
 
@@ -160,8 +160,8 @@ impl BlockTree {
         requires place { i < length (entries_of self.now.blocks) }
         ensures ident { IfOk result (λ x. slice_get (idents_in (entries_of self.now.blocks)) i ≡ Some x) }
     {
-        let _chars = self.root.chars();
-        let (block, at) = self.root.locate(i);
+        let _chars = self.chars();
+        let (block, at) = self.locate(i);
         let _len = block.len();
         let id = block.run().first().shifted(at)?;
         Ok(id)
@@ -176,8 +176,8 @@ impl BlockTree {
         ensures within { IfOk result (λ run. i + run.1 ≤ length (entries_of self.now.blocks)) }
         ensures idents { IfOk result (λ run. take run.1 (drop i (idents_in (entries_of self.now.blocks))) ≡ run_idents run.0 run.1) }
     {
-        let _chars = self.root.chars();
-        let (block, at) = self.root.locate(i);
+        let _chars = self.chars();
+        let (block, at) = self.locate(i);
         let len = (block.len() - at).min(most);
         part_of_run(block.run(), at, len)
     }
@@ -211,8 +211,8 @@ impl BlockTree {
         ensures within { IfOk result (λ part. i + part.0.1 ≤ length (entries_of self.now.blocks)) }
         ensures entries { IfOk result (λ part. piece_entries (part.0, part.1) ≡ take part.0.1 (drop i (entries_of self.now.blocks))) }
     {
-        let _chars = self.root.chars();
-        let (block, at) = self.root.locate(i);
+        let _chars = self.chars();
+        let (block, at) = self.locate(i);
         let len = (block.len() - at).min(most);
         let run = part_of_run(block.run(), at, len)?;
         let text = part_of_text(self.alloc, block.text(), at as usize, len as usize)?;

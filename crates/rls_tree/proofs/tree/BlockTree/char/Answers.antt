@@ -1,4 +1,4 @@
-use Rattle.std.proofs.Common.{sym, ap, ◌∙◌, slice_get, Some, get_or}
+use Rattle.std.proofs.Common.{sym, ap, ◌∙◌, Some, get_or}
 use Rattle.rls_tree.specs.Trees.{entries_of}
 use Rattle.rls_tree.proofs.AtPlaces.{entry_located}
 use Rattle.rls_tree.proofs.Located.{mapped_at, entry_at}
@@ -8,5 +8,5 @@ pub returns : goal.returns
 returns c =
     let b = c.locate-at.result.0.now in
     let j = c.locate-at.result.1 in
-    let e = sym (ap (λ s. slice_get (entries_of s.blocks) c.args.i) c.self.view_is) ∙ entry_located c.self.inside.root.blocks c.args.i j b c.chars-chars.ensures.pieces c.locate-at.ensures.located ∙ entry_at b j c.text.ensures.piece c.locate-at.ensures.within in
+    let e = entry_located c.args.self.now.blocks c.args.i j b c.chars-chars.ensures.pieces c.locate-at.ensures.located ∙ entry_at b j c.text.ensures.piece c.locate-at.ensures.within in
     record { char = mapped_at (λ u. u.1) (entries_of c.args.self.now.blocks) c.args.i _ e ∙ ap Some (sym (c.get.ensures.char ∙ ap (λ xs. get_or xs j 0) c.text.ensures.text)) }

@@ -1,12 +1,11 @@
-use Rattle.std.proofs.Common.{◌≡◌, ℕ, ◌<◌, List, take, drop, length, Some, ap, ◌∙◌, sym, subst, arith}
+use Rattle.std.proofs.Common.{◌≡◌, ℕ, ◌<◌, List, take, drop, length, ap, ◌∙◌, sym, arith}
 use Rattle.std.specs.Prelude.{pos}
 use Rattle.std.proofs.lemmas.Result.{IfOk-weaker}
 use Rattle.rls_ident.specs.declared.tuple.Tuple.{Tuple}
 use Rattle.rls_ident.specs.Identifiers.{shifted}
 use Rattle.rls_runs.specs.Runs.{run_idents}
 use Rattle.rls_runs.specs.Entries.{idents_in}
-use Rattle.rls_tree.specs.Trees.{entries_of, ArePieces}
-use Rattle.rls_tree.specs.Edits.{located}
+use Rattle.rls_tree.specs.Trees.{entries_of}
 use Rattle.rls_tree.proofs.AtPlaces.{part_at}
 use Rattle.rls_tree.proofs.Puts.{idents_located}
 use Rattle.rls_tree.proofs.tree.BlockTree.run_from.Goals as goal
@@ -18,13 +17,11 @@ returns c =
     let i = c.args.i in
     let bs = c.args.self.now.blocks in
     let n = c.min-len.result in
-    let are : ArePieces bs = subst (λ s. ArePieces s.blocks) c.self.view_is c.chars-chars.ensures.pieces in
-    let there = subst (λ s. located s.blocks i ≡ Some (b, j)) c.self.view_is c.locate-at.ensures.located in
     let many : length b.1 ≡ b.0.1 = c.len.ensures.piece.as_many in
     let some : 0 < n = omega (arith, c.len.ensures.len, c.locate-at.ensures.within, c.min-len.ensures, c.requires.some) in
-    let at = part_at bs i j n b are there (omega (arith, c.len.ensures.len, c.locate-at.ensures.within, c.min-len.ensures)) some in
+    let at = part_at bs i j n b c.chars-chars.ensures.pieces c.locate-at.ensures.located (omega (arith, c.len.ensures.len, c.locate-at.ensures.within, c.min-len.ensures)) some in
     let w = at.1 in
-    let all = idents_located bs i j n b are there many (omega (arith, many, c.len.ensures.len, c.locate-at.ensures.within, c.min-len.ensures)) some in
+    let all = idents_located bs i j n b c.chars-chars.ensures.pieces c.locate-at.ensures.located many (omega (arith, many, c.len.ensures.len, c.locate-at.ensures.within, c.min-len.ensures)) some in
     let len = IfOk-weaker c.part_of_run.result _ (λ (q : List Tuple × ℕ). q.1 ≡ n) (λ r h. ap (λ (q : List Tuple × ℕ). q.1) h) c.part_of_run.ensures.part in
     record {
       some = IfOk-weaker c.part_of_run.result _ _ (λ r l. omega (arith, l, some)) len;
