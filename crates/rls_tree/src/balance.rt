@@ -17,7 +17,7 @@ pub(crate) fn make(left: Link, middle: Single, right: Link) -> Link
     Opened::new(left, middle, right).close()
 }
 
-/// The same, where the right tree may be two levels higher.
+/// The same, but the right tree may be two levels higher.
 pub(crate) fn lean_right(left: Link, middle: Single, right: Link) -> Link
     requires chars_fit { length (entries_of left.blocks) + length middle.1 + length (entries_of right.blocks) < 2 ^ 64 }
     requires left_not_higher { left.height ≤ right.height + 1 }
@@ -45,7 +45,7 @@ pub(crate) fn lean_right(left: Link, middle: Single, right: Link) -> Link
     make(near, inner.own, far)
 }
 
-/// The same, where the left tree may be two levels higher.
+/// The same, but the left tree may be two levels higher.
 pub(crate) fn lean_left(left: Link, middle: Single, right: Link) -> Link
     requires chars_fit { length (entries_of left.blocks) + length middle.1 + length (entries_of right.blocks) < 2 ^ 64 }
     requires right_not_higher { right.height ≤ left.height + 1 }
@@ -88,7 +88,7 @@ pub(crate) fn join(left: Link, middle: Single, right: Link) -> Link
     join_low(left, middle, right)
 }
 
-// The same, where the right tree is at most one level higher.
+// The same, if the right tree is at most one level higher.
 fn join_low(left: Link, middle: Single, right: Link) -> Link
     requires chars_fit { length (entries_of left.blocks) + length middle.1 + length (entries_of right.blocks) < 2 ^ 64 }
     requires not_higher { right.height ≤ left.height + 1 }
@@ -106,7 +106,7 @@ fn join_low(left: Link, middle: Single, right: Link) -> Link
     lean_right(outer.left, outer.own, join_low(outer.right, middle, right))
 }
 
-// The same, where the left tree is at most one level higher.
+// The same, if the left tree is at most one level higher.
 fn join_high(left: Link, middle: Single, right: Link) -> Link
     requires chars_fit { length (entries_of left.blocks) + length middle.1 + length (entries_of right.blocks) < 2 ^ 64 }
     requires not_higher { left.height ≤ right.height + 1 }

@@ -106,7 +106,7 @@ impl Block {
         Ok(())
     }
 
-    // Keeps so many characters at its front.
+    // Keeps this many characters at its front.
     pub(crate) fn keep_front(&mut self, at: u32) -> Result<(), AllocError>
         requires some { 0 < at }
         requires within { at ≤ self.old.0.1 }

@@ -1,4 +1,4 @@
-//! One more run in a tree. Each call answers the new tree, or where it finds no memory the old one.
+//! One more run in a tree. Each call answers the new tree, or if it finds no memory the old one.
 
 ghost use Rattle.std.specs.Prelude.{◌≡◌, ◌+◌, ◌-◌, ◌^◌, ◌<◌, ◌≤◌, ◌++◌, length, Some, None, IfOk, IfErr, IsTrue, false};
 ghost use Rattle.rls_ident.specs.Identifiers.{follows};
@@ -17,7 +17,7 @@ use rls_runs::{Run, Text};
 use std::alloc::{AllocError, Global};
 
 /// Puts a run and its characters in at a place. It costs a step for each level and the run's characters;
-/// where a block is cut in two there, the characters of the shorter part, and where it joins two blocks,
+/// if a block is cut in two there, the characters of the shorter part, and if it joins two blocks,
 /// those of the shorter one.
 pub(crate) fn insert_at(alloc: Global, link: Link, i: u64, piece: Block) -> Result<Link, Link>
     requires place { i ≤ length (entries_of link.blocks) }
@@ -151,7 +151,7 @@ fn fill(
     }
 }
 
-// A block, grown by the block behind it.
+// A block, grown by the block after it.
 fn with_next(mut block: Block, next: &Single) -> Result<(Run, Text), AllocError>
     requires touches { IsTrue (follows next.now.0.0 (run_last block.0)) }
     ensures both { IfOk result (λ both. (both.0, both.1) ≡ joined block next.now) }

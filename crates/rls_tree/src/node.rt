@@ -301,7 +301,7 @@ impl Node {
         right.locate(i - self.end)
     }
 
-    // The place of an identifier, or where it isn't there the number of identifiers less than it. It
+    // The place of an identifier, or if it isn't there the number of identifiers less than it. It
     // costs a comparison of identifiers for each level.
     pub(crate) fn find(&self, id: &Ident) -> Result<u64, u64>
         requires rises { Rising (idents_of (runs_in self.now.blocks)) }
@@ -330,7 +330,7 @@ impl Node {
         }
     }
 
-    // Puts its characters behind those of a text. It costs their number.
+    // Puts its characters after those of a text. It costs their number.
     #[cycle(push_text)]
     pub(crate) fn push_text(&self, text: &mut Text) -> Result<(), AllocError>
         ensures ok { OnOk result (text.new ≡ text.old ++ chars_in (entries_of self.now.blocks)) }

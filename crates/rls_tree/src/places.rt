@@ -15,7 +15,7 @@ use rls_runs::Run;
 use std::alloc::AllocError;
 
 impl BlockTree {
-    // How many identifiers of a run stand in front of the one at a place of the tree, where there is one.
+    // How many identifiers of a run stand in front of the one at a place of the tree, if there is one.
     pub(crate) fn end_of_gap(&self, i: u64, run: &Run) -> Result<u32, AllocError>
         requires place { i ≤ length (entries_of self.now.blocks) }
         ensures end { IfOk result (λ end. end ≡ gap_end (run_idents run.now.0 run.now.1) (drop i (idents_in (entries_of self.now.blocks)))) }
@@ -79,7 +79,7 @@ impl BlockTree {
         Ok(self.begins_at(i, run.first())? && self.ends_at(i, run)?)
     }
 
-    // The same as `gap_for`, where one place is looked at first.
+    // The same as `gap_for`, but one place is looked at first.
     pub(crate) fn gap_near(&self, near: Option<u64>, run: &Run) -> Result<Option<u64>, AllocError>
         ensures place { IfOk result (λ gap. IfSome gap (λ i. i ≤ length (entries_of self.now.blocks))) }
         ensures rises { IfOk result (λ gap. IfSome gap (λ i. IsTrue (is_increasing (take i (idents_in (entries_of self.now.blocks)) ++ (run_idents run.now.0 run.now.1 ++ drop i (idents_in (entries_of self.now.blocks))))))) }

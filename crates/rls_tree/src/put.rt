@@ -1,4 +1,4 @@
-//! A run put in beside a character, in place: one descent, and the same path back. Each call answers the new tree, or where it finds no
+//! A run put in beside a character, in place: one descent, and the same path back. Each call answers the new tree, or if it finds no
 //! memory the old one.
 
 ghost use Rattle.std.specs.Prelude.{◌≡◌, ◌+◌, ◌-◌, ◌^◌, ◌<◌, ◌∷◌, ◌++◌, length, Some, IfOk, IfErr, IsTrue};
@@ -13,7 +13,7 @@ use crate::side::Side;
 use std::alloc::Global;
 
 /// Puts a run and its characters in on a side of the character at a place. It costs a step for each level and the run's
-/// characters, and where a block is cut in two there, the characters of the shorter part.
+/// characters, and if a block is cut in two there, the characters of the shorter part.
 pub(crate) fn put_at(
     alloc: Global,
     link: Link,

@@ -1,4 +1,4 @@
-//! Characters taken out of a tree. Each call answers the new tree, or where it finds no memory
+//! Characters taken out of a tree. Each call answers the new tree, or if it finds no memory
 //! the old one.
 
 ghost use Rattle.std.specs.Prelude.{◌≡◌, ◌+◌, ◌-◌, ◌^◌, ◌<◌, ◌≤◌, ◌∷◌, ◌++◌, length, None, IfOk, IfErr, IsTrue};
@@ -15,7 +15,7 @@ use crate::split::{Halves, concat, ends_before, first_out, last_out, split};
 use std::alloc::Global;
 
 /// Takes this many characters out from a place on. It costs a step for each level and for each block that goes,
-/// and their number; where it cuts one block in two, also the characters of the shorter part, and where two
+/// and their number; if it cuts one block in two, also the characters of the shorter part, and if two
 /// blocks touch then, those of the shorter one.
 pub(crate) fn remove_range(alloc: Global, link: Link, i: u64, count: u64) -> Result<Link, Link>
     requires some { 0 < count }

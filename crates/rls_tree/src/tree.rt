@@ -125,7 +125,7 @@ impl BlockTree {
         self.root.blocks()
     }
 
-    // The place of an identifier, or where it isn't there the number of identifiers less than it.
+    // The place of an identifier, or if it isn't there the number of identifiers less than it.
     pub(crate) fn place(&self, id: &Ident) -> Result<u64, u64>
         ensures place { result ≡ place_of id.now (idents_in (entries_of self.now.blocks)) }
     {
@@ -167,7 +167,7 @@ impl BlockTree {
         Ok(id)
     }
 
-    // The run of so many identifiers from a place on, and of no more than stand in one block there.
+    // The run of this many identifiers from a place on, or of fewer if no more stand in one block there.
     pub(crate) fn run_from(&self, i: u64, most: u32) -> Result<Run, AllocError>
         requires place { i < length (entries_of self.now.blocks) }
         requires some { 0 < most }
@@ -277,7 +277,7 @@ impl BlockTree {
         self.root = root;
     }
 
-    // Takes so many characters out from a place on.
+    // Takes this many characters out from a place on.
     pub(crate) fn remove_range(&mut self, i: u64, count: u64) -> Result<(), AllocError>
         requires some { 0 < count }
         requires within { i + count ≤ length (entries_of self.old.blocks) }
