@@ -18,22 +18,26 @@ use rls_script::{Lines, ScriptError, parse};
 use rls_stages::{WorkError, perform_edit, perform_line};
 use std::alloc::Global;
 
-/// Performs a script.
+/// Performs a script. Its bytes are given up once they are read, and its lines before the file is made.
 ///
 /// The time is that of the edits, and for each line `b` that of the characters before its position that it reads (`perform_line`).
-pub(crate) fn edit(alloc: Global, replica: &mut Replica, script: &[u8]) -> Result<Made, WorkError>
-    ensures due { IsDue of_work result (due_of_script replica.old (script_of script.now)) }
+pub(crate) fn edit(alloc: Global, replica: &mut Replica, script: Vec<u8>) -> Result<Made, WorkError>
+    ensures due { IsDue of_work result (due_of_script replica.old (script_of script.items)) }
     ensures stored { IfOk result (λ made. IsSome made.stored) }
 {
-    match parse(alloc, script) {
+    let parsed = parse(alloc, &script);
+    drop(script);
+    match parsed {
         Err(ScriptError::BadLine { line }) => Err(WorkError::Command {
             error: CommandError::BadLine { line },
         }),
         Err(ScriptError::OutOfMemory) => Err(WorkError::OutOfMemory),
-        Ok(lines) => match perform_lines(alloc, replica, &lines) {
-            Err(error) => Err(error),
-            Ok(taken) => report_edits(alloc, replica, lines.len(), &taken),
-        },
+        Ok(lines) => {
+            let edits = lines.len();
+            let taken = perform_lines(alloc, replica, &lines)?;
+            drop(lines);
+            report_edits(alloc, replica, edits, &taken)
+        }
     }
 }
 

@@ -146,11 +146,11 @@ fn make_of<S: Source>(
         FileCommand::Leave => leave(alloc, replica)?,
         FileCommand::Edit => {
             let script = read(alloc, input)?;
-            edit(alloc, replica, &script)?
+            edit(alloc, replica, script)?
         }
         FileCommand::Take => {
             let message = read(alloc, input)?;
-            take(alloc, replica, &message)?
+            take(alloc, replica, message)?
         }
     };
     Ok(made)

@@ -16,12 +16,14 @@ use rls_stages::WorkError;
 use rls_sync::{TakeBytesError, take_bytes};
 use std::alloc::Global;
 
-/// Takes the message that these bytes are.
-pub(crate) fn take(alloc: Global, replica: &mut Replica, bytes: &[u8]) -> Result<Made, WorkError>
-    ensures due { IsDue of_work result (due_of_message replica.old (message_of bytes.now)) }
+/// Takes the message that these bytes are. They are given up before the file is made.
+pub(crate) fn take(alloc: Global, replica: &mut Replica, bytes: Vec<u8>) -> Result<Made, WorkError>
+    ensures due { IsDue of_work result (due_of_message replica.old (message_of bytes.items)) }
     ensures stored { IfOk result (λ made. IsSome made.stored) }
 {
-    match take_bytes(alloc, replica, bytes) {
+    let found = take_bytes(alloc, replica, &bytes);
+    drop(bytes);
+    match found {
         Err(TakeBytesError::Malformed { at }) => Err(WorkError::Command {
             error: CommandError::Malformed { at },
         }),
