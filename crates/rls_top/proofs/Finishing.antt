@@ -1,5 +1,5 @@
 -- What is stored and written of what was made.
-use Rattle.std.proofs.Common.{◌≡◌, ◌≢◌, ◌∙◌, ℕ, List, Option, Some, None, IfSome, Result, Ok, Err, refl, sym, subst}
+use Rattle.std.proofs.Common.{◌≡◌, ◌≢◌, ℕ, List, Option, Some, None, IfSome, Result, Ok, Err, refl, subst}
 use Rattle.rls_io.specs.Device.{Appends, Keeps, Stores}
 use Rattle.rls_io.specs.Memory.{bytes_of}
 use Rattle.rls_stages.specs.declared.errors.OpenError.TheVariants as opening
@@ -14,32 +14,18 @@ use Rattle.rls_top.specs.declared.words.Command as commands
 use Rattle.rls_top.specs.Due.{Due, Makes, Stops, due_of_command, due_of_words}
 use Rattle.rls_top.specs.Due as due
 use Rattle.rls_stages.specs.Endings.{IsPart}
-use Rattle.rls_stages.specs.KeptFile.{LeavesFile, Stays}
+use Rattle.rls_stages.specs.KeptFile.{LeavesFile}
+use Rattle.rls_stages.proofs.Kept.{keeps_on}
 use Rattle.rls_top.specs.Endings.{IsWritten, IsPartWritten, IsKept}
 use Rattle.rls_top.specs.Stages.{IsAsDue, Reports, Leaves, of_device, of_make}
 
 -- ---- the file
-
-pub keeps_on : {A : Type 0} (a b c : Option A) → Keeps a b → Keeps b c → Keeps a c
-keeps_on None b c h k = tt
-keeps_on {A} (Some x) b c h k = subst (λ (o : Option A). Keeps o c) h k
 
 -- what is stored where the file was kept so far
 leaves_on : (bytes : Option (List ℕ)) (old mid new : Option (Option (List ℕ))) → Keeps old mid → LeavesFile bytes mid new → LeavesFile bytes old new
 leaves_on None old mid new h k = keeps_on old mid new h k
 leaves_on (Some b) None mid new h k = tt
 leaves_on (Some b) (Some kept) mid new h k = subst (λ (o : Option (Option (List ℕ))). Stores o new b) h k
-
--- the file is as it was
-pub stays_on : (old mid new : Option (Option (List ℕ))) → Keeps old mid → Keeps new mid → Stays old new
-stays_on None mid new h k = tt
-stays_on (Some kept) mid None h k = tt
-stays_on (Some kept) mid (Some now) h k = let same : Some now ≡ Some kept = sym k ∙ h in cc
-
-pub stays_so : (old new : Option (Option (List ℕ))) → Keeps old new → Stays old new
-stays_so None new h = tt
-stays_so (Some kept) None h = tt
-stays_so (Some kept) (Some now) h = cc
 
 kept_so : (made : Made) (d : Due) (old mid new : Option (Option (List ℕ))) → IsAsDue made d → Keeps old mid → LeavesFile (bytes_of made.stored) mid new → IsKept d old new
 kept_so made due.NoCommand old mid new m h k = absurd m

@@ -1,5 +1,5 @@
 -- What comes of a command where the kept file stands for a history, from what it calls for.
-use Rattle.std.proofs.Common.{◌≡◌, ◌∙◌, ◌⊎◌, ◌<◌, ◌≤◌, ℕ, Bool, true, false, ltb, List, [], ◌∷◌, length, Option, Some, None, IfSome, Result, Ok, IsTrue, refl, sym, ap, subst, arith, inl, inr}
+use Rattle.std.proofs.Common.{◌≡◌, ◌∙◌, ◌⊎◌, ◌<◌, ◌≤◌, ℕ, true, false, ltb, List, [], ◌∷◌, length, Option, Some, None, IfSome, Result, Ok, IsTrue, refl, sym, ap, subst, arith, inl, inr}
 use Rattle.std.specs.Prelude.{encode_utf8_all, ◌&&◌, ◌==◌, nat_le, nat_lt}
 use Rattle.std.proofs.lemmas.Bool.{eqb-true}
 use Rattle.std.proofs.lemmas.Bool.Decides.{nat_tests}
@@ -67,6 +67,7 @@ use Rattle.rls_top.specs.Headline.{Asks, IsFileTooLong, IsTooLong, Saves, Shows,
 use Rattle.rls_stages.specs.Lines.{allowed, allowed_by, fault_in, line_by, read_line, text_in}
 use Rattle.rls_top.specs.Scripts.{leave_in, script_in}
 use Rattle.rls_stages.proofs.Alike.{allowed_alike, lines_alike}
+use Rattle.rls_stages.proofs.Kept.{WithinOrPast, within_or_past}
 use Rattle.rls_stages.proofs.Files.{IsOpened, opened, stands_stored}
 use Rattle.rls_store.proofs.Storable.{fresh_writable, taken_writable}
 use Rattle.rls_top.proofs.Alike.{runs_alike}
@@ -75,14 +76,6 @@ use Rattle.rls_top.proofs.Pieces.{right_numbers}
 use Rattle.rls_top.proofs.Scripts.{leave_reads_well, lines_read_well, lines_writable, script_fits}
 
 -- ---- limits
-
--- a list is within a limit or past it
-within_or_past : (limit n : ℕ) → ((n ≤ limit) × (nat_lt limit n ≡ false)) ⊎ ((limit < n) × (nat_lt limit n ≡ true))
-within_or_past limit n = go (nat_lt limit n) refl
-  where
-    go : (b : Bool) → nat_lt limit n ≡ b → ((n ≤ limit) × (nat_lt limit n ≡ false)) ⊎ ((limit < n) × (nat_lt limit n ≡ true))
-    go true e = inr (let h : limit < n = grind (arith, nat_tests) in h, e)
-    go false e = inl (let h : n ≤ limit = grind (arith, nat_tests) in h, e)
 
 -- this is called for, or the end for what is too long
 abbrev OrTooLong : Due → Due → Type 0 → Type 0
@@ -109,7 +102,7 @@ opened_due : (c : FileCommand) (bytes : List ℕ) (left : Option (List ℕ)) (t 
     → (e : Due) × (due_on c (replica_in (loaded (Some bytes))) left ≡ Some e) × OrTooLong e d (FILE_BYTES < length bytes)
 opened_due c bytes left t s d o at = go (within_or_past FILE_BYTES (length bytes))
   where
-    go : ((length bytes ≤ FILE_BYTES) × (nat_lt FILE_BYTES (length bytes) ≡ false)) ⊎ ((FILE_BYTES < length bytes) × (nat_lt FILE_BYTES (length bytes) ≡ true))
+    go : WithinOrPast FILE_BYTES (length bytes)
         → (e : Due) × (due_on c (replica_in (loaded (Some bytes))) left ≡ Some e) × OrTooLong e d (FILE_BYTES < length bytes)
     go (inl h) = (d, rw (h.1) (ap (λ (r : Result Seen CommandError). due_on c r left) o.found ∙ at), inl refl)
     go (inr h) = (Stops TooLarge, rw (h.1) refl, inr (h.0, refl))
@@ -124,7 +117,7 @@ StoresOrTooLong d s report refused too_long =
 stored_or_long : (s : Seen) (report : List ℕ) (refused : List (ℕ × ℕ × Reason)) → StoresOrTooLong (stores (saved s) report refused) s report refused (FILE_BYTES < length (file_bytes (parts_over s)))
 stored_or_long s report refused = go (within_or_past FILE_BYTES (length (file_bytes (parts_over s))))
   where
-    go : ((length (file_bytes (parts_over s)) ≤ FILE_BYTES) × (nat_lt FILE_BYTES (length (file_bytes (parts_over s))) ≡ false)) ⊎ ((FILE_BYTES < length (file_bytes (parts_over s))) × (nat_lt FILE_BYTES (length (file_bytes (parts_over s))) ≡ true))
+    go : WithinOrPast FILE_BYTES (length (file_bytes (parts_over s)))
         → StoresOrTooLong (stores (saved s) report refused) s report refused (FILE_BYTES < length (file_bytes (parts_over s)))
     go (inl h) = inl (h.0, rw (h.1) refl)
     go (inr h) = inr (h.0, rw (h.1) refl)
@@ -237,7 +230,7 @@ message_shown words file new_file left bytes t to n old new e a l =
 read_or_long : (input : List ℕ) (f : List ℕ → Due) → OrTooLong (due_of_input (read input) f) (f input) (INPUT_BYTES < length input)
 read_or_long input f = go (within_or_past INPUT_BYTES (length input))
   where
-    go : ((length input ≤ INPUT_BYTES) × (nat_lt INPUT_BYTES (length input) ≡ false)) ⊎ ((INPUT_BYTES < length input) × (nat_lt INPUT_BYTES (length input) ≡ true))
+    go : WithinOrPast INPUT_BYTES (length input)
         → OrTooLong (due_of_input (read input) f) (f input) (INPUT_BYTES < length input)
     go (inl h) = inl (rw (h.1) refl)
     go (inr h) = inr (h.0, rw (h.1) refl)
