@@ -74,7 +74,7 @@ use Rattle.rls_session.specs.Answers.{Sitting, answer, done, pointed, rested, se
 use Rattle.rls_session.specs.Answers as answers
 use Rattle.rls_session.specs.Courses.{Answered}
 use Rattle.rls_session.specs.Desks.{IsWhole, sitting_of}
-use Rattle.rls_session.specs.Orders.{edit_or_bad, member_of, order_of, order_of_letter, order_of_parts, order_of_words, point_or_bad, send_or_bad, take_or_bad}
+use Rattle.rls_session.specs.Orders.{member_of, order_of, order_of_letter, order_of_parts, order_of_words, order_or_bad}
 use Rattle.rls_session.specs.Replies.{bytes_text, cursor_text, failed_text, ok_text, refused_text}
 use Rattle.rls_session.specs.Requests.{Cut, Does, Request, Takes, cut, cut_after, line_size}
 use Rattle.rls_session.specs.Sessions.{by_history, by_parts, session, session_in}
@@ -398,7 +398,7 @@ answer_alike d f (Takes message) g h = taken_alike d f message (message_of messa
 -- ---- what an input asks for
 
 -- the line of an edit
-edit_given : (bytes : List ℕ) (l : Option Line) → IsGood l → IsGiven (Does (edit_or_bad l))
+edit_given : (bytes : List ℕ) (l : Option Line) → IsGood l → IsGiven (Does (order_or_bad orders.Edit l))
 edit_given bytes None g = tt
 edit_given bytes (Some line) g = g
 
@@ -412,7 +412,7 @@ text_good bytes e = subst IsGood (line_same bytes e) (line_good bytes)
 letter_given : (bytes : List ℕ) → IsGood (line_of_text bytes) → IsGiven (Does (order_of_letter bytes))
 letter_given bytes g = go (bytes_eq bytes (codes "u")) (bytes_eq bytes (codes "p")) (bytes_eq bytes (codes "t")) (bytes_eq bytes (codes "q"))
   where
-    go : (a b c d : Bool) → IsGiven (Does (cond a orders.Undo (cond b orders.Place (cond c orders.Text (cond d orders.Quit (edit_or_bad (line_of_text bytes)))))))
+    go : (a b c d : Bool) → IsGiven (Does (cond a orders.Undo (cond b orders.Place (cond c orders.Text (cond d orders.Quit (order_or_bad orders.Edit (line_of_text bytes)))))))
     go true b c d = tt
     go false true c d = tt
     go false false true d = tt
@@ -422,7 +422,7 @@ letter_given bytes g = go (bytes_eq bytes (codes "u")) (bytes_eq bytes (codes "p
 parts_given : (bytes word others : List ℕ) → IsGood (line_of_text bytes) → IsGiven (Does (order_of_parts bytes word others))
 parts_given bytes word others g = go (bytes_eq word (codes "k")) (bytes_eq word (codes "m")) (bytes_eq word (codes "s")) (number_of others) (member_of others)
   where
-    go : (a b c : Bool) (n m : Option ℕ) → IsGiven (Does (cond a (point_or_bad n) (cond b (take_or_bad n) (cond c (send_or_bad m) (edit_or_bad (line_of_text bytes))))))
+    go : (a b c : Bool) (n m : Option ℕ) → IsGiven (Does (cond a (order_or_bad orders.Point n) (cond b (order_or_bad orders.Take n) (cond c (order_or_bad orders.Send m) (order_or_bad orders.Edit (line_of_text bytes))))))
     go true b c None m = tt
     go true b c (Some x) m = tt
     go false true c None m = tt

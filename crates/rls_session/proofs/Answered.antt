@@ -1,7 +1,7 @@
 -- What is answered, from its parts.
-use Rattle.std.proofs.Common.{◌≡◌, ◌≢◌, ◌∙◌, ◌<◌, ◌≤◌, ◌⊎◌, ◌+◌, ◌-◌, ℕ, suc, Bool, true, false, ltb, eqb, List, [], ◌∷◌, ◌++◌, length, Option, Some, None, Result, Ok, Err, IfOk, refl, sym, ap, subst, arith, inl, inr, get_or}
-use Rattle.std.specs.Prelude.{codes, ◌==◌, ◌&&◌}
-use Rattle.std.proofs.lemmas.Bool.Decides.{eqb_tells, nat_tests}
+use Rattle.std.proofs.Common.{◌≡◌, ◌∙◌, ◌<◌, ◌≤◌, ◌+◌, ◌-◌, ℕ, suc, true, false, ltb, List, [], ◌∷◌, ◌++◌, length, Option, Some, None, Result, Ok, Err, IfOk, refl, sym, ap, subst, arith, get_or}
+use Rattle.std.specs.Prelude.{codes}
+use Rattle.std.proofs.lemmas.Bool.Decides.{nat_tests}
 use Rattle.std.proofs.lemmas.Option.{slice_get-get_or}
 use Rattle.rls_runs.specs.Entries.{Entries, chars_in}
 use Rattle.rls_ops.specs.declared.message.Message.{Message}
@@ -25,6 +25,7 @@ use Rattle.rls_undo.specs.declared.undo.Undone.{Undone}
 use Rattle.rls_undo.specs.Undoing.{IsPart, entries_over, last_of, performed_over, plan_over, refusal_over, undone_by, without_last}
 use Rattle.rls_anchor.specs.declared.anchor.Anchor.{Anchor}
 use Rattle.rls_anchor.specs.Anchors.{anchor_over}
+use Rattle.rls_stages.proofs.Kept.{is_ours, not_for}
 use Rattle.rls_session.specs.Answering.{IsAnswered}
 use Rattle.rls_session.specs.Answers.{Sitting, edited, pointed, sent, taken, undone, with_state}
 use Rattle.rls_session.specs.Desks.{TellsFault, sitting_of}
@@ -135,31 +136,6 @@ pub sent_none : (s : Seen) (to : ℕ) → members s ≤ to → failed_text (NotM
 sent_none s to h =
     let test : ltb to (members s) ≡ false = grind (arith, nat_tests) in
     rw test refl
-
--- the message comes from another group, or one with another count of members
-not_for : (s : Seen) (m : Message) → IsForeign s m → ((m.group == s.group) && (m.members == members s)) ≡ false
-not_for s m (inl other) = go (eqb_tells m.group s.group)
-  where
-    go : ((eqb m.group s.group ≡ true) × (m.group ≡ s.group)) ⊎ ((eqb m.group s.group ≡ false) × (m.group ≢ s.group)) → ((m.group == s.group) && (m.members == members s)) ≡ false
-    go (inl e) = absurd (other e.1)
-    go (inr e) = rw (e.0) refl
-not_for s m (inr other) = go (m.group == s.group) (eqb_tells m.members (members s))
-  where
-    go : (b : Bool) → ((eqb m.members (members s) ≡ true) × (m.members ≡ members s)) ⊎ ((eqb m.members (members s) ≡ false) × (m.members ≢ members s)) → (b && (m.members == members s)) ≡ false
-    go b (inl e) = absurd (other e.1)
-    go true (inr e) = e.0
-    go false (inr e) = refl
-
--- it comes from neither
-is_ours : (s : Seen) (m : Message) → (IsForeign s m → ⊥) → ((m.group == s.group) && (m.members == members s)) ≡ true
-is_ours s m none = go (eqb_tells m.group s.group) (eqb_tells m.members (members s))
-  where
-    go : ((eqb m.group s.group ≡ true) × (m.group ≡ s.group)) ⊎ ((eqb m.group s.group ≡ false) × (m.group ≢ s.group))
-        → ((eqb m.members (members s) ≡ true) × (m.members ≡ members s)) ⊎ ((eqb m.members (members s) ≡ false) × (m.members ≢ members s))
-        → ((m.group == s.group) && (m.members == members s)) ≡ true
-    go (inl e) (inl f) = rw (e.0, f.0) refl
-    go (inl e) (inr f) = absurd (none (inr f.1))
-    go (inr e) f = absurd (none (inl e.1))
 
 pub malformed_said : (d e : Sitting Seen) (r : Result Message ℕ) (at : ℕ) (reply : List ℕ) → r ≡ Err at → e ≡ d → reply ≡ failed_text (Malformed at) → IsAnswered (taken by_parts d r) reply e
 malformed_said d e r at reply is same text = rw is (record { reply_is = text; state_is = same })

@@ -1,5 +1,5 @@
 -- Which calls of the keeper a session made, from what its stages called.
-use Rattle.std.proofs.Common.{◌≡◌, ◌≢◌, ◌⊎◌, ◌∙◌, ⊎_elim, ℕ, Bool, true, false, IsFalse, List, Option, Some, None, IfSome, Result, Ok, Err, refl, sym, subst, inl, inr}
+use Rattle.std.proofs.Common.{◌≡◌, ◌≢◌, ⊎_elim, ℕ, Bool, true, false, List, Option, Some, None, IfSome, Result, Ok, Err, refl, sym, subst, inl, inr}
 use Rattle.rls_report.specs.declared.failures.CommandError.{CommandError}
 use Rattle.rls_report.specs.declared.failures.Fault.TheVariants.{Keeper, Source, Sink, Memory}
 use Rattle.rls_report.specs.declared.failures.Failure.{Failure}
@@ -10,7 +10,7 @@ use Rattle.rls_stages.specs.declared.errors.OpenError.TheVariants as opening
 use Rattle.rls_stages.specs.declared.errors.WorkError.{WorkError}
 use Rattle.rls_stages.specs.declared.errors.WorkError.TheVariants as work
 use Rattle.rls_stages.specs.Calls.{CallsNothing, FailsToLoad, FailsToStore, HasLoaded, Loads, Stores}
-use Rattle.rls_stages.specs.Errors.{IsOfFile, of_open, of_work}
+use Rattle.rls_stages.specs.Errors.{of_open, of_work}
 use Rattle.rls_stages.specs.KeptFile.{bytes_over, loaded, replica_in, saved}
 use Rattle.rls_stages.proofs.Statuses.{failure_at_7, not_failure}
 use Rattle.rls_session.specs.declared.answering.AnswerError.{AnswerError}
@@ -18,7 +18,7 @@ use Rattle.rls_session.specs.declared.answering.AnswerError.TheVariants.{SourceF
 use Rattle.rls_session.specs.Answering.{IsDone, of_answer}
 use Rattle.rls_session.specs.Answers.{Sitting}
 use Rattle.rls_session.specs.Calls.{Calls, HasServed, HasStored, IsDueOf, IsFileOf}
-use Rattle.rls_session.specs.Due.{Due, due, due_of, due_on}
+use Rattle.rls_session.specs.Due.{Due, due, due_of}
 use Rattle.rls_session.specs.Endings.{IsStatusOf}
 use Rattle.rls_session.specs.Sessions.{session}
 use Rattle.rls_session.proofs.Served.{ending_is}

@@ -1,6 +1,6 @@
 -- How a session ends whose kept file stands for a history.
-use Rattle.std.proofs.Common.{◌≡◌, ◌≢◌, ◌∙◌, ◌⊎◌, ◌<◌, ◌≤◌, ◌+◌, ◌++◌, ℕ, zero, suc, Bool, true, false, ltb, eqb, List, [], length, take, Option, Some, IfSome, Result, Ok, Err, refl, sym, ap, subst, arith, inl, inr, length-append}
-use Rattle.std.proofs.lemmas.Bool.Decides.{eqb_tells, nat_tests}
+use Rattle.std.proofs.Common.{◌≡◌, ◌≢◌, ◌∙◌, ◌⊎◌, ◌<◌, ◌≤◌, ◌+◌, ◌++◌, ℕ, zero, suc, true, false, eqb, List, [], length, take, Option, Some, IfSome, Result, Ok, Err, refl, sym, ap, subst, arith, inl, inr, length-append}
+use Rattle.std.proofs.lemmas.Bool.Decides.{eqb_tells}
 use Rattle.std.proofs.lemmas.List.{take-append-le}
 use Rattle.std.proofs.Math.Seq.{take-append-add}
 use Rattle.rls_ident.specs.declared.limits.TheConstants.{INPUT_BYTES, FILE_BYTES}
@@ -17,6 +17,7 @@ use Rattle.rls_report.specs.declared.failures.CommandError.TheVariants.{TooLarge
 use Rattle.rls_store.specs.Stored.{AreWritable}
 use Rattle.rls_stages.specs.Endings.{IsFault, IsPart, EndsWith}
 use Rattle.rls_stages.specs.KeptFile.{IsFileFor, IsReadBack, StandsIn, bytes_over, loaded, replica_in, saved}
+use Rattle.rls_stages.proofs.Kept.{WithinOrPast, within_or_past}
 use Rattle.rls_stages.proofs.Files.{opened, stands_stored}
 use Rattle.rls_session.specs.Answers.{Sitting}
 use Rattle.rls_session.specs.Courses.{Course}
@@ -32,18 +33,10 @@ use Rattle.rls_session.proofs.Served.{part_all}
 EndingOf : Type 0 → Result Seen CommandError → Seen → Type 0
 EndingOf too_long r s = (r ≡ Ok s) ⊎ (too_long × (r ≡ Err TooLarge))
 
--- a list is within a limit or past it
-within_or_past : (limit n : ℕ) → ((n ≤ limit) × (ltb limit n ≡ false)) ⊎ ((limit < n) × (ltb limit n ≡ true))
-within_or_past limit n = go (ltb limit n) refl
-  where
-    go : (b : Bool) → ltb limit n ≡ b → ((n ≤ limit) × (ltb limit n ≡ false)) ⊎ ((limit < n) × (ltb limit n ≡ true))
-    go true e = inr (let h : limit < n = grind (arith, nat_tests) in h, e)
-    go false e = inl (let h : n ≤ limit = grind (arith, nat_tests) in h, e)
-
 saved_or_long : (s : Seen) → (saved s ≡ Ok s) ⊎ ((FILE_BYTES < length (bytes_over s)) × (saved s ≡ Err TooLarge))
 saved_or_long s = go (within_or_past FILE_BYTES (length (bytes_over s)))
   where
-    go : ((length (bytes_over s) ≤ FILE_BYTES) × (ltb FILE_BYTES (length (bytes_over s)) ≡ false)) ⊎ ((FILE_BYTES < length (bytes_over s)) × (ltb FILE_BYTES (length (bytes_over s)) ≡ true))
+    go : WithinOrPast FILE_BYTES (length (bytes_over s))
         → (saved s ≡ Ok s) ⊎ ((FILE_BYTES < length (bytes_over s)) × (saved s ≡ Err TooLarge))
     go (inl h) = inl (rw (h.1) refl)
     go (inr h) = inr (h.0, rw (h.1) refl)
@@ -51,7 +44,7 @@ saved_or_long s = go (within_or_past FILE_BYTES (length (bytes_over s)))
 ending_or_long : (c : Course (Sitting Seen)) → ((due_of c).ending ≡ Ok (c.state).state) ⊎ (((INPUT_BYTES < c.used) ⊎ (FILE_BYTES < length (bytes_over (c.state).state))) × ((due_of c).ending ≡ Err TooLarge))
 ending_or_long c = go (within_or_past INPUT_BYTES c.used)
   where
-    go : ((c.used ≤ INPUT_BYTES) × (ltb INPUT_BYTES c.used ≡ false)) ⊎ ((INPUT_BYTES < c.used) × (ltb INPUT_BYTES c.used ≡ true))
+    go : WithinOrPast INPUT_BYTES c.used
         → ((due_of c).ending ≡ Ok (c.state).state) ⊎ (((INPUT_BYTES < c.used) ⊎ (FILE_BYTES < length (bytes_over (c.state).state))) × ((due_of c).ending ≡ Err TooLarge))
     go (inr h) = inr (inl h.0, rw (h.1) refl)
     go (inl h) = rest (saved_or_long (c.state).state)
@@ -160,7 +153,7 @@ history_serves n file new_file left old new t bytes given e f stands l b = go (w
     told : IfSome (due (Some (Some bytes)) (Some given)) (λ d. Ends d n (Some (Some bytes)) new_file old new)
     told = subst (λ (x : Option (List ℕ)). IfSome (due (Some (Some bytes)) x) (λ d. Ends d n (Some (Some bytes)) new_file old new)) l (subst (λ (x : Option (Option (List ℕ))). IfSome (due x left) (λ d. Ends d n x new_file old new)) f e)
 
-    go : ((length bytes ≤ FILE_BYTES) × (ltb FILE_BYTES (length bytes) ≡ false)) ⊎ ((FILE_BYTES < length bytes) × (ltb FILE_BYTES (length bytes) ≡ true)) → Serves n bytes (session_in t given) new_file old new
+    go : WithinOrPast FILE_BYTES (length bytes) → Serves n bytes (session_in t given) new_file old new
     go (inl h) =
         let o = opened bytes t stands in
         let found : replica_in (loaded (Some bytes)) ≡ Ok o.0 = rw (h.1) (o.1.found) in

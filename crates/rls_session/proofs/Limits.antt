@@ -11,10 +11,10 @@ use Rattle.rls_script.proofs.LineEnds.{position_or_len_le}
 use Rattle.rls_script.specs.Scripts.{is_line_feed, line_of_text, number_of, parts_of}
 use Rattle.rls_script.specs.declared.lines.Line.{Line}
 use Rattle.rls_session.specs.declared.orders.Order.{Order}
-use Rattle.rls_session.specs.declared.orders.Order.TheVariants.{Undo, Place, Text, Take, Quit, Bad}
+use Rattle.rls_session.specs.declared.orders.Order.TheVariants.{Edit, Undo, Point, Place, Text, Take, Send, Quit, Bad}
 use Rattle.rls_session.specs.Answering.{HasAll, LacksPart}
 use Rattle.rls_session.specs.Courses.{Course, go_on, course}
-use Rattle.rls_session.specs.Orders.{edit_or_bad, point_or_bad, take_or_bad, send_or_bad, member_of, order_of_letter, order_of_parts, order_of_words, order_of}
+use Rattle.rls_session.specs.Orders.{order_or_bad, member_of, order_of_letter, order_of_parts, order_of_words, order_of}
 use Rattle.rls_session.specs.Requests.{Request, Does, Takes, Cut, line_size, cut_after, with_line, cut}
 use Rattle.rls_session.proofs.Courses.{Answers, course_begins}
 use Rattle.rls_session.proofs.Positions.{clear_then, in_front, position_front}
@@ -24,7 +24,7 @@ use Rattle.rls_session.proofs.Positions.{clear_then, in_front, position_front}
 letter_quit : (bs : List ℕ) → order_of_letter bs ≡ Quit → length bs ≡ 1
 letter_quit bs e = go (bytes_eq bs (codes "u")) (bytes_eq bs (codes "p")) (bytes_eq bs (codes "t")) (bytes_eq bs (codes "q")) refl (line_of_text bs) e
   where
-    go : (a b c d : Bool) → bytes_eq bs (codes "q") ≡ d → (l : Option Line) → cond a Undo (cond b Place (cond c Text (cond d Quit (edit_or_bad l)))) ≡ Quit → length bs ≡ 1
+    go : (a b c d : Bool) → bytes_eq bs (codes "q") ≡ d → (l : Option Line) → cond a Undo (cond b Place (cond c Text (cond d Quit (order_or_bad Edit l)))) ≡ Quit → length bs ≡ 1
     go true b c d t l e = cc
     go false true c d t l e = cc
     go false false true d t l e = cc
@@ -35,7 +35,7 @@ letter_quit bs e = go (bytes_eq bs (codes "u")) (bytes_eq bs (codes "p")) (bytes
 parts_quit : (bs word others : List ℕ) → order_of_parts bs word others ≡ Quit → length bs ≡ 1
 parts_quit bs word others e = go (bytes_eq word (codes "k")) (bytes_eq word (codes "m")) (bytes_eq word (codes "s")) (number_of others) (member_of others) (line_of_text bs) e
   where
-    go : (a b c : Bool) (n m : Option ℕ) (l : Option Line) → cond a (point_or_bad n) (cond b (take_or_bad n) (cond c (send_or_bad m) (edit_or_bad l))) ≡ Quit → length bs ≡ 1
+    go : (a b c : Bool) (n m : Option ℕ) (l : Option Line) → cond a (order_or_bad Point n) (cond b (order_or_bad Take n) (cond c (order_or_bad Send m) (order_or_bad Edit l))) ≡ Quit → length bs ≡ 1
     go true b c None m l e = cc
     go true b c (Some x) m l e = cc
     go false true c None m l e = cc

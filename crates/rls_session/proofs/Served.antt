@@ -12,15 +12,16 @@ use Rattle.rls_report.specs.declared.failures.CommandError.TheVariants as errors
 use Rattle.rls_report.specs.declared.failures.Fault.TheVariants.{Keeper, Source, Sink, Memory}
 use Rattle.rls_report.specs.declared.failures.Failure.{Failure}
 use Rattle.rls_report.specs.declared.failures.Failure.TheVariants.{NoCommand, Command, Fault}
-use Rattle.rls_report.specs.Failures.{error_line, error_status}
+use Rattle.rls_report.specs.Failures.{error_line}
 use Rattle.rls_stages.specs.declared.errors.OpenError.{OpenError}
 use Rattle.rls_stages.specs.declared.errors.OpenError.TheVariants as opening
 use Rattle.rls_stages.specs.declared.errors.WorkError.{WorkError}
 use Rattle.rls_stages.specs.declared.errors.WorkError.TheVariants as work
-use Rattle.rls_stages.specs.Endings.{IsFailureStatus, IsFault, IsPart, Writes, failure_line_at}
+use Rattle.rls_stages.specs.Endings.{IsFailureStatus, IsFault, IsPart, Writes}
 use Rattle.rls_stages.specs.Errors.{GivesError, IsOfFile, IsOpenError, of_open, of_work}
 use Rattle.rls_stages.specs.KeptFile.{IsReadBack, IsUsable, Stays, bytes_over, loaded, replica_in, saved}
-use Rattle.rls_stages.proofs.Statuses.{apart, failure_at_7, failure_at_8, failure_at_9, failure_line_told, not_error, not_failure}
+use Rattle.rls_stages.proofs.Kept.{keeps_on, stays_on}
+use Rattle.rls_stages.proofs.Statuses.{apart, failure_at_7, failure_at_8, failure_at_9, failure_line_told, not_error}
 use Rattle.rls_session.specs.declared.answering.AnswerError.{AnswerError}
 use Rattle.rls_session.specs.declared.answering.AnswerError.TheVariants.{SourceFault, SinkFault, TooLarge, OutOfMemory}
 use Rattle.rls_session.specs.Answering.{IsDone, IsNear, of_answer}
@@ -36,21 +37,6 @@ use Rattle.rls_session.specs.Sessions.{session}
 pub keeps_same : {A : Type 0} (a : Option A) → Keeps a a
 keeps_same None = tt
 keeps_same (Some x) = refl
-
-keeps_on : {A : Type 0} (a b c : Option A) → Keeps a b → Keeps b c → Keeps a c
-keeps_on None b c h k = tt
-keeps_on {A} (Some x) b c h k = subst (λ (o : Option A). Keeps o c) h k
-
--- the file is as it was
-pub stays_on : (old mid new : Option (Option (List ℕ))) → Keeps old mid → Keeps new mid → Stays old new
-stays_on None mid new h k = tt
-stays_on (Some kept) mid None h k = tt
-stays_on (Some kept) mid (Some now) h k = let same : Some now ≡ Some kept = sym k ∙ h in cc
-
-pub stays_so : (old new : Option (Option (List ℕ))) → Keeps old new → Stays old new
-stays_so None new h = tt
-stays_so (Some kept) None h = tt
-stays_so (Some kept) (Some now) h = cc
 
 -- nothing was written
 pub part_none : (old : Option (List ℕ)) (bytes : List ℕ) → IsPart old old bytes
@@ -367,41 +353,21 @@ on_session (Some kept) left s P found h = rw found h
 
 -- ---- errors of the stages
 
+-- failures that end a session alike are the same, and what follows from that holds
+other_end : {X : Type 0} {f g h : Failure} → f ≡ g → (g ≡ h → X) → ended f ≡ ended h → X
+other_end {f = f} {h = h} is none e = let same : f ≡ h = cc in none (sym is ∙ same)
+
 -- the file of the replica isn't made
 pub work_inner : (e : WorkError) (f : Failure) → f ≡ of_work e → (ended f ≢ ended (Fault Keeper)) × (ended f ≢ ended (Fault Source)) × (ended f ≢ ended (Fault Sink))
-work_inner (work.Command e) f is = (
-  λ h. let same : f ≡ Fault Keeper = cc in let never : Command e ≡ Fault Keeper = sym is ∙ same in cc,
-  λ h. let same : f ≡ Fault Source = cc in let never : Command e ≡ Fault Source = sym is ∙ same in cc,
-  λ h. let same : f ≡ Fault Sink = cc in let never : Command e ≡ Fault Sink = sym is ∙ same in cc,
-)
-work_inner work.OutOfMemory f is = (
-  λ h. let same : f ≡ Fault Keeper = cc in let never : Fault Memory ≡ Fault Keeper = sym is ∙ same in cc,
-  λ h. let same : f ≡ Fault Source = cc in let never : Fault Memory ≡ Fault Source = sym is ∙ same in cc,
-  λ h. let same : f ≡ Fault Sink = cc in let never : Fault Memory ≡ Fault Sink = sym is ∙ same in cc,
-)
+work_inner (work.Command e) f is = (other_end is (λ q. cc), other_end is (λ q. cc), other_end is (λ q. cc))
+work_inner work.OutOfMemory f is = (other_end is (λ q. cc), other_end is (λ q. cc), other_end is (λ q. cc))
 
 -- answering fails for the input or the output
 pub answer_failed : (e : AnswerError) (f : Failure) → f ≡ of_answer e → (ended f ≢ ended (Fault Keeper)) × (ended f ≡ ended (Fault Source) → e ≡ SourceFault) × (ended f ≡ ended (Fault Sink) → e ≡ SinkFault)
-answer_failed SourceFault f is = (
-  λ h. let same : f ≡ Fault Keeper = cc in let never : Fault Source ≡ Fault Keeper = sym is ∙ same in cc,
-  λ h. refl,
-  λ h. let same : f ≡ Fault Sink = cc in let never : Fault Source ≡ Fault Sink = sym is ∙ same in cc,
-)
-answer_failed SinkFault f is = (
-  λ h. let same : f ≡ Fault Keeper = cc in let never : Fault Sink ≡ Fault Keeper = sym is ∙ same in cc,
-  λ h. let same : f ≡ Fault Source = cc in let never : Fault Sink ≡ Fault Source = sym is ∙ same in cc,
-  λ h. refl,
-)
-answer_failed TooLarge f is = (
-  λ h. let same : f ≡ Fault Keeper = cc in let never : Command errors.TooLarge ≡ Fault Keeper = sym is ∙ same in cc,
-  λ h. let same : f ≡ Fault Source = cc in let never : Command errors.TooLarge ≡ Fault Source = sym is ∙ same in cc,
-  λ h. let same : f ≡ Fault Sink = cc in let never : Command errors.TooLarge ≡ Fault Sink = sym is ∙ same in cc,
-)
-answer_failed OutOfMemory f is = (
-  λ h. let same : f ≡ Fault Keeper = cc in let never : Fault Memory ≡ Fault Keeper = sym is ∙ same in cc,
-  λ h. let same : f ≡ Fault Source = cc in let never : Fault Memory ≡ Fault Source = sym is ∙ same in cc,
-  λ h. let same : f ≡ Fault Sink = cc in let never : Fault Memory ≡ Fault Sink = sym is ∙ same in cc,
-)
+answer_failed SourceFault f is = (other_end is (λ q. cc), λ h. refl, other_end is (λ q. cc))
+answer_failed SinkFault f is = (other_end is (λ q. cc), other_end is (λ q. cc), λ h. refl)
+answer_failed TooLarge f is = (other_end is (λ q. cc), other_end is (λ q. cc), other_end is (λ q. cc))
+answer_failed OutOfMemory f is = (other_end is (λ q. cc), other_end is (λ q. cc), other_end is (λ q. cc))
 
 -- an end of opening
 abbrev pub opened_by : {X : Type 0} → OpenError → Result X OpenError
@@ -409,21 +375,9 @@ opened_by e = Err e
 
 -- how opening fails
 pub open_failed : (e : OpenError) (f : Failure) → f ≡ of_open e → (ended f ≡ ended (Fault Keeper) → e ≡ opening.KeeperFault) × (ended f ≢ ended (Fault Source)) × (ended f ≢ ended (Fault Sink))
-open_failed (opening.Command e) f is = (
-  λ h. let same : f ≡ Fault Keeper = cc in let never : Command e ≡ Fault Keeper = sym is ∙ same in cc,
-  λ h. let same : f ≡ Fault Source = cc in let never : Command e ≡ Fault Source = sym is ∙ same in cc,
-  λ h. let same : f ≡ Fault Sink = cc in let never : Command e ≡ Fault Sink = sym is ∙ same in cc,
-)
-open_failed opening.KeeperFault f is = (
-  λ h. refl,
-  λ h. let same : f ≡ Fault Source = cc in let never : Fault Keeper ≡ Fault Source = sym is ∙ same in cc,
-  λ h. let same : f ≡ Fault Sink = cc in let never : Fault Keeper ≡ Fault Sink = sym is ∙ same in cc,
-)
-open_failed opening.OutOfMemory f is = (
-  λ h. let same : f ≡ Fault Keeper = cc in let never : Fault Memory ≡ Fault Keeper = sym is ∙ same in cc,
-  λ h. let same : f ≡ Fault Source = cc in let never : Fault Memory ≡ Fault Source = sym is ∙ same in cc,
-  λ h. let same : f ≡ Fault Sink = cc in let never : Fault Memory ≡ Fault Sink = sym is ∙ same in cc,
-)
+open_failed (opening.Command e) f is = (other_end is (λ q. cc), other_end is (λ q. cc), other_end is (λ q. cc))
+open_failed opening.KeeperFault f is = (λ h. refl, other_end is (λ q. cc), other_end is (λ q. cc))
+open_failed opening.OutOfMemory f is = (other_end is (λ q. cc), other_end is (λ q. cc), other_end is (λ q. cc))
 
 -- opening failed for the keeper only if the session did
 pub open_other : {X : Type 0} (e : OpenError) (f : Failure) → f ≡ of_open e → ended f ≢ ended (Fault Keeper) → opened_by {X = X} e ≢ opened_by opening.KeeperFault

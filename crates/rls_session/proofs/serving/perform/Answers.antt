@@ -6,7 +6,8 @@ use Rattle.rls_session.specs.Due.{due}
 use Rattle.rls_session.specs.Endings.{IsSessionsOwn, Leaves}
 use Rattle.rls_session.specs.Sessions.{by_parts, session}
 use Rattle.rls_session.proofs.Called.{opened_served, served_calls, unopened_calls}
-use Rattle.rls_session.proofs.Served.{early_err, on_session, open_failed, open_leaves, open_other, opened_own, opened_leaves, opened_usable, stays_err, stays_so, unread_near, usable_only}
+use Rattle.rls_stages.proofs.Kept.{stays_so}
+use Rattle.rls_session.proofs.Served.{early_err, on_session, open_failed, open_leaves, open_other, opened_own, opened_leaves, opened_usable, stays_err, unread_near, usable_only}
 use Rattle.rls_session.proofs.serving.perform.Goals as goal
 
 pub returns-in-Err-clause-leaves : goal.returns-in-Err-clause-leaves

@@ -3,9 +3,10 @@ use Rattle.std.specs.List.{position_or_len}
 use Rattle.rls_io.specs.declared.reading.ReadError.TheVariants as read
 use Rattle.rls_script.specs.Scripts.{is_line_feed}
 use Rattle.rls_script.proofs.LineEnds.{position_or_len_le}
+use Rattle.rls_stages.proofs.Kept.{keeps_on}
 use Rattle.rls_session.specs.Intake.{IntakeSeen}
 use Rattle.rls_session.proofs.Positions.{looked_on, looked_at, none_found}
-use Rattle.rls_session.proofs.Reading.{keeps_on, end_kept_on}
+use Rattle.rls_session.proofs.Reading.{end_kept_on}
 use Rattle.rls_session.proofs.intake.Intake.find_line.Goals as goal
 
 pub overflow_add-clear : goal.overflow_add-clear
