@@ -21,3 +21,6 @@ pub mod Opened
 pub mod Left
 pub mod Listed
 pub mod Parting
+pub mod Indices
+pub mod Ranking
+pub mod Looking

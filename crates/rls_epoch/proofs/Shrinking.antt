@@ -21,6 +21,7 @@ use Rattle.rls_epoch.specs.declared.placed.Placed.{Placed}
 use Rattle.rls_epoch.specs.Climbing.{name_cmp}
 use Rattle.rls_epoch.specs.Links.{name_at, epoch_at, AreLinked}
 use Rattle.rls_epoch.specs.Marks.{has_mark, mark_count, AreNamed, AreNumbered, AreSpread, numbered, moved, kept_placed, kept_places, kept_sum}
+use Rattle.rls_epoch.specs.Ranks.{AreRanked}
 use Rattle.rls_epoch.specs.Seen.{node_of, nodes_of, marked_of, marks_of, epochs_by_number, AreLaid, IsWhole}
 use Rattle.rls_epoch.specs.Sorted.{place_name, names_at, AreRising, AreSorted}
 use Rattle.rls_epoch.proofs.Compacting.{numbered_length}
@@ -279,7 +280,7 @@ module _ (top : EpochName) (ps : List Placed) (l : AreLaid top ps) (ms : List �
 
 -- ---- the whole, with these numbers
 
-module _ (top : EpochName) (ps : List Placed) (by_name order marks : List ℕ) (total : ℕ) (w : IsWhole top ps by_name order marks total) (xs : List ℕ) (t : ℕ) (tl : t ≤ length ps) (lx : length xs ≡ length marks) (e : EpochName) (es : List EpochName) (n : AreNumbered top ps xs t e es) where
+module _ (top : EpochName) (ps : List Placed) (by_name order ranks marks : List ℕ) (total : ℕ) (w : IsWhole top ps by_name order ranks marks total) (xs : List ℕ) (t : ℕ) (tl : t ≤ length ps) (lx : length xs ≡ length marks) (e : EpochName) (es : List EpochName) (n : AreNumbered top ps xs t e es) where
   pub marks_are : length n.marks ≡ suc (length ps)
   marks_are = let a = numbered_length 0 n.marks in let b = ap length n.numbers_are in let c = w.marks_whole in omega arith
 
@@ -292,20 +293,28 @@ module _ (top : EpochName) (ps : List Placed) (by_name order marks : List ℕ) (
       subst (λ (zs : List ℕ). record { top = epoch_at top ps t; nodes = nodes_of (kept_placed zs (drop 1 zs) ps) } ≡ part (record { top = top; nodes = nodes_of ps }) e es) (sym n.numbers_are)
       (part_kept top ps w.laid n.marks marks_are t tl e es n.spread)
 
-  pub whole_left : (zs : List ℕ) → length zs ≡ suc (length (kept_placed xs (drop 1 xs) ps)) →
-      IsWhole (epoch_at top ps t) (kept_placed xs (drop 1 xs) ps) (kept_places xs by_name) (kept_places xs order) zs (kept_sum (drop 1 xs) ps)
-  whole_left =
-      subst
-      (λ (ys : List ℕ). (zs : List ℕ) → length zs ≡ suc (length (kept_placed ys (drop 1 ys) ps)) →
-      IsWhole (epoch_at top ps t) (kept_placed ys (drop 1 ys) ps) (kept_places ys by_name) (kept_places ys order) zs (kept_sum (drop 1 ys) ps))
-      (sym n.numbers_are)
-      (λ zs h. record {
-        laid = laid_kept top ps w.laid n.marks marks_are t tl e es n.spread;
-        by_name_is = names_kept top ps w.laid n.marks marks_are t tl e es n.spread by_name w.by_name_is;
-        order_is = order_kept top ps w.laid n.marks marks_are t tl e es n.spread order w.order_is;
-        marks_whole = h;
-        sum = kept_former (numbered 0 n.marks) (drop 1 (numbered 0 n.marks)) ps;
-      })
+  abbrev left : List Placed
+  left = kept_placed xs (drop 1 xs) ps
+
+  pub by_name_left : AreSorted name_cmp left (kept_places xs by_name)
+  by_name_left =
+      subst (λ (ys : List ℕ). AreSorted name_cmp (kept_placed ys (drop 1 ys) ps) (kept_places ys by_name)) (sym n.numbers_are)
+      (names_kept top ps w.laid n.marks marks_are t tl e es n.spread by_name w.by_name_is)
+
+  pub order_left : AreSorted (epoch_cmp (nodes_of left)) left (kept_places xs order)
+  order_left =
+      subst (λ (ys : List ℕ). AreSorted (epoch_cmp (nodes_of (kept_placed ys (drop 1 ys) ps))) (kept_placed ys (drop 1 ys) ps) (kept_places ys order)) (sym n.numbers_are)
+      (order_kept top ps w.laid n.marks marks_are t tl e es n.spread order w.order_is)
+
+  pub whole_left : (rs zs : List ℕ) → AreRanked left (kept_places xs order) rs → length zs ≡ suc (length left) → IsWhole (epoch_at top ps t) left (kept_places xs by_name) (kept_places xs order) rs zs (kept_sum (drop 1 xs) ps)
+  whole_left rs zs r h = record {
+    laid = subst (λ (ys : List ℕ). AreLaid (epoch_at top ps t) (kept_placed ys (drop 1 ys) ps)) (sym n.numbers_are) (laid_kept top ps w.laid n.marks marks_are t tl e es n.spread);
+    by_name_is = by_name_left;
+    order_is = order_left;
+    ranked = r;
+    marks_whole = h;
+    sum = kept_former xs (drop 1 xs) ps;
+  }
 
 -- what was written over the whole of it
 pub written : (xs old : List ℕ) (n : ℕ) → n ≡ length old → length xs ≡ length old → take n (xs ++ drop (length xs) old) ≡ xs

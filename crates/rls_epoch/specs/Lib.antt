@@ -7,3 +7,4 @@ pub mod Sorted
 pub mod Ways
 pub mod Heads
 pub mod Parts
+pub mod Ranks

@@ -8,6 +8,7 @@ use Rattle.rls_rename.specs.Connected.{in_order}
 use Rattle.rls_epoch.specs.declared.placed.Placed.{Placed}
 use Rattle.rls_epoch.specs.Climbing.{name_cmp}
 use Rattle.rls_epoch.specs.Links.{AreLinked}
+use Rattle.rls_epoch.specs.Ranks.{AreRanked}
 use Rattle.rls_epoch.specs.Sorted.{AreSorted}
 
 -- the epochs, those that are marked, and for how many more nodes there is room
@@ -67,10 +68,11 @@ pub record AreLaid (top : EpochName) (placed : List Placed) : Type 0 where
   pub below : AreBelow top (nodes_of placed)
   pub links : AreLinked top placed
 
--- with the places of the nodes in the order of names and in that of the epochs, a mark for each epoch, and this number of former identifiers
-pub record IsWhole (top : EpochName) (placed : List Placed) (by_name order marks : List ℕ) (total : ℕ) : Type 0 where
+-- with the places of the nodes in the order of names and in that of the epochs, their ranks, a mark for each epoch, and this number of former identifiers
+pub record IsWhole (top : EpochName) (placed : List Placed) (by_name order ranks marks : List ℕ) (total : ℕ) : Type 0 where
   pub laid : AreLaid top placed
   pub by_name_is : AreSorted name_cmp placed by_name
   pub order_is : AreSorted (epoch_cmp (nodes_of placed)) placed order
+  pub ranked : AreRanked placed order ranks
   pub marks_whole : length marks ≡ suc (length placed)
   pub sum : total ≡ former_sum (nodes_of placed)

@@ -20,6 +20,7 @@ use crate::keeping::{former_kept, keep_nodes, keep_places, number_needed};
 use crate::listing::{number_at, parent_name, parent_place, renaming_at};
 use crate::nodes::{copied, epochs_below, find, names_below, number_of};
 use crate::placed::{Placed, epoch_of};
+use crate::ranks::{rank_added, rank_all};
 use crate::retaining::{Retained, retained_part};
 use crate::ways::{ident_led, way_between};
 use rls_ident::{EpochName, Ident, Vector};
@@ -38,6 +39,8 @@ pub struct Epochs {
     by_name: Vec<usize>,
     // the places of the nodes, in increasing order of the epochs
     order: Vec<usize>,
+    // for each node the rank of the greatest epoch that its member opened up to it
+    ranks: Vec<usize>,
     // a mark for each epoch, by its number: 0 where it isn't marked
     marks: Vec<usize>,
     total: u64,
@@ -52,10 +55,10 @@ impl Model for Epochs {
     ghost view = { λ a. record {
       epochs = record { top = a.top; nodes = nodes_of a.nodes.items };
       marks = marks_of a.top a.nodes.items a.marks.items;
-      spare = min (min (vec_capacity a.nodes - length a.nodes.items) (vec_capacity a.marks - length a.marks.items)) (min (vec_capacity a.by_name - length a.by_name.items) (vec_capacity a.order - length a.order.items));
+      spare = min (min (vec_capacity a.nodes - length a.nodes.items) (vec_capacity a.marks - length a.marks.items)) (min (vec_capacity a.by_name - length a.by_name.items) (min (vec_capacity a.order - length a.order.items) (vec_capacity a.ranks - length a.ranks.items)));
     } };
 
-    ghost invariant = { λ a. IsWhole a.top a.nodes.items a.by_name.items a.order.items a.marks.items a.total };
+    ghost invariant = { λ a. IsWhole a.top a.nodes.items a.by_name.items a.order.items a.ranks.items a.marks.items a.total };
 }
 
 impl Epochs {
@@ -71,6 +74,7 @@ impl Epochs {
             nodes: Vec::new(alloc),
             by_name: Vec::new(alloc),
             order: Vec::new(alloc),
+            ranks: Vec::new(alloc),
             marks,
             total: 0,
         })
@@ -85,13 +89,15 @@ impl Epochs {
         self.nodes.reserve(1)?;
         self.by_name.reserve(1)?;
         self.order.reserve(1)?;
+        self.ranks.reserve(1)?;
         self.marks.reserve(1)?;
         Ok(())
     }
 
     /// Adds the epoch that a rename opened in another. The new one isn't marked. It takes no memory,
     /// and cannot fail. It costs a comparison of epochs for each halving of them, and moves the
-    /// numbers of those that are greater.
+    /// numbers of those that are greater. If one is greater, or its member has opened a later one that
+    /// is kept, it goes over all of them.
     pub fn add(&mut self, replica: u32, seq: u32, parent: EpochName, renaming: Renaming)
         requires room { 0 < self.old.spare }
         requires fresh { IsFalse (is_kept self.old.epochs.top self.old.epochs.nodes (EpochName.Of replica seq)) }
@@ -125,9 +131,19 @@ impl Epochs {
             self.order.as_slice(),
             place + 1,
         );
+        let last = order == self.order.len();
         self.by_name.insert(by_name, place).unwrap();
         self.order.insert(order, place).unwrap();
+        self.ranks.push(self.order.len()).unwrap();
         self.marks.push(0).unwrap();
+        rank_added(
+            self.nodes.as_slice(),
+            self.by_name.as_slice(),
+            self.order.as_slice(),
+            self.ranks.as_mut_slice(),
+            by_name,
+            last,
+        );
     }
 
     /// Whether the epoch is kept. It costs a comparison of names for each halving of the nodes.
@@ -181,12 +197,20 @@ impl Epochs {
     }
 
     /// The greatest epoch within a vector that counts the replica of each kept epoch, or the topmost
-    /// one where none is. It takes no memory, and looks at the greatest epochs first.
+    /// one where none is. It takes no memory, and costs a few comparisons of names for each halving of
+    /// the nodes, for each replica that opened a kept epoch.
     pub fn greatest_in(&self, v: &Vector) -> EpochName
         requires members { (e : EpochName) → IsTrue (is_kept self.now.epochs.top self.now.epochs.nodes e) → IsTrue (is_of_member (length v.now) e) }
         ensures greatest { result ≡ greatest_within self.now.epochs.top self.now.epochs.nodes v.now }
     {
-        greatest_in(self.top, self.nodes.as_slice(), self.order.as_slice(), v)
+        greatest_in(
+            self.top,
+            self.nodes.as_slice(),
+            self.by_name.as_slice(),
+            self.order.as_slice(),
+            self.ranks.as_slice(),
+            v,
+        )
     }
 
     /// An identifier of the one epoch in the other: back by the renamings up to the nearest common
@@ -303,6 +327,13 @@ impl Epochs {
         keep_nodes(&mut self.nodes, self.marks.as_slice());
         keep_places(&mut self.by_name, self.marks.as_slice());
         keep_places(&mut self.order, self.marks.as_slice());
+        self.ranks.truncate(self.nodes.len());
+        rank_all(
+            self.nodes.as_slice(),
+            self.by_name.as_slice(),
+            self.order.as_slice(),
+            self.ranks.as_mut_slice(),
+        );
         self.marks.truncate(self.nodes.len() + 1);
         self.marks.fill(0);
     }
@@ -407,6 +438,7 @@ impl Epochs {
             nodes: copied(*self.nodes.allocator(), &self.nodes)?,
             by_name: self.by_name.clone()?,
             order: self.order.clone()?,
+            ranks: self.ranks.clone()?,
             marks: self.marks.clone()?,
             total: self.total,
         })

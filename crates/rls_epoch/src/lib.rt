@@ -13,6 +13,7 @@ mod marks;
 mod nodes;
 mod parts;
 mod placed;
+mod ranks;
 mod retaining;
 mod ways;
 

@@ -1,56 +1,79 @@
-use Rattle.std.proofs.Common.{rules, ◌≡◌, ◌<◌, ◌++◌, ◌∷◌, [], List, ℕ, true, length, sym, ap, subst, ◌∙◌, inl, refl, arith, append_assoc}
-use Rattle.std.proofs.lemmas.Grind.{common_steps}
+use Rattle.std.proofs.Common.{◌≡◌, ◌-◌, true, length, sym, ap, ◌∙◌, subst, inl, inr, ◌⊎◌, ⊎_elim, arith}
+use Rattle.std.proofs.lemmas.Bool.{cases_lt}
+use Rattle.std.proofs.lemmas.List.{length-map}
 use Rattle.rls_ident.specs.declared.epoch_name.EpochName.{EpochName}
-use Rattle.rls_ident.specs.EpochNames.{is_of_member, is_within, name_eq}
-use Rattle.rls_ident.specs.Lists.{IsIn}
-use Rattle.rls_ident.proofs.Members.{in_right, or_right}
-use Rattle.rls_rename.specs.Tree.{has_node}
-use Rattle.rls_epoch.specs.Seen.{nodes_of}
-use Rattle.rls_epoch.specs.Sorted.{place_name, names_at}
-use Rattle.rls_epoch.proofs.Sorting.{nothing}
-use Rattle.rls_epoch.proofs.Orders.{place_kept, within_at, within_none}
+use Rattle.rls_ident.specs.EpochNames.{is_of_member}
+use Rattle.rls_epoch.specs.Climbing.{name_cmp}
+use Rattle.rls_epoch.specs.Ranks.{counted, first_of, IsRank}
+use Rattle.rls_epoch.specs.Sorted.{place_name, names_at, IsCut}
+use Rattle.rls_epoch.proofs.Found.{read_in}
+use Rattle.rls_epoch.proofs.Looking.{looked_at, looked_none, looking_begins, looking_fewer, looking_more, member_at, IsLooking}
+use Rattle.rls_epoch.proofs.Ranking.{at_place}
 use Rattle.rls_epoch.proofs.greatest.greatest_in.Goals as goal
 
-pub name_of-name-requires : goal.name_of-name-requires
-name_of-name-requires c =
-    let i = c.loop-place.invariant in
-    let k = c.in-Some.place.now in
-    let lesser = c.in-Some.lesser.now in
-    let q : c.loop-place.rest.now ≡ lesser ++ (k ∷ []) = search rules in
-    let whole = i.1 ∙ (ap (λ (xs : List ℕ). xs ++ i.0) q ∙ append_assoc lesser (k ∷ []) i.0) in
-    record { place = c.requires.sorted.within k (subst (λ (xs : List ℕ). IsIn k xs) (sym whole) (in_right k lesser (k ∷ i.0) (inl refl))) }
+pub loop-rest-init : goal.loop-rest-init
+loop-rest-init c = looking_begins c.args.top c.args.nodes.now c.requires.laid c.args.by_name.now c.args.order.now c.args.v.now c.requires.by_name_is c.requires.order_is
 
-pub within-requires : goal.within-requires
-within-requires c =
-    let i = c.loop-place.invariant in
+pub name_of-last-requires : goal.name_of-last-requires
+name_of-last-requires c =
+    let w = c.loop-rest.invariant.in_range in
+    record { place = at_place c.args.nodes.now c.args.by_name.now c.requires.by_name_is (c.loop-rest.rest - 1) (omega arith) }
+
+pub counted-requires : goal.counted-requires
+counted-requires c =
+    let w = c.loop-rest.invariant.in_range in
+    record {
+      member = subst (λ (e : EpochName). is_of_member (length c.args.v.now) e ≡ true) (sym c.name_of-last.ensures.name)
+          (member_at c.args.top c.args.nodes.now c.args.by_name.now c.requires.by_name_is (length c.args.v.now) c.requires.members (c.loop-rest.rest - 1) (omega arith));
+    }
+
+pub loop-rest-smaller : goal.loop-rest-smaller
+loop-rest-smaller c =
     let ps = c.args.nodes.now in
-    let k = c.in-Some.place.now in
-    let lesser = c.in-Some.lesser.now in
-    let q : c.loop-place.rest.now ≡ lesser ++ (k ∷ []) = search rules in
-    let whole = i.1 ∙ (ap (λ (xs : List ℕ). xs ++ i.0) q ∙ append_assoc lesser (k ∷ []) i.0) in
-    let w = c.requires.sorted.within k (subst (λ (xs : List ℕ). IsIn k xs) (sym whole) (in_right k lesser (k ∷ i.0) (inl refl))) in
-    let e = place_name ps k in
-    let m = c.requires.members e (or_right (name_eq e c.args.top) (has_node (nodes_of ps) e) (place_kept ps k w)) in
-    record { member = subst (λ (f : EpochName). is_of_member (length c.args.v.now) f ≡ true) (sym c.name_of-name.ensures.name) m }
+    let names = c.args.by_name.now in
+    let rest = c.loop-rest.rest in
+    let next = c.names_below-rest.result in
+    let cut = subst (λ (e : EpochName). IsCut name_cmp (names_at ps names) e next) (c.first_of.ensures.first ∙ ap first_of c.name_of-last.ensures.name) c.names_below-rest.ensures.cut in
+    let r = cut.in_range in
+    let m = length-map names (place_name ps) in
+    looking_fewer c.args.top ps c.requires.laid names c.args.order.now c.args.v.now c.requires.by_name_is c.requires.order_is rest c.loop-rest.rank c.loop-rest.invariant (omega arith) next cut (omega arith)
 
-pub returns-then-within : goal.returns-then-within
-returns-then-within c =
-    let i = c.loop-place.invariant in
-    let k = c.in-Some.place.now in
-    let lesser = c.in-Some.lesser.now in
-    let q : c.loop-place.rest.now ≡ lesser ++ (k ∷ []) = search rules in
-    let whole = i.1 ∙ (ap (λ (xs : List ℕ). xs ++ i.0) q ∙ append_assoc lesser (k ∷ []) i.0) in
-    let e = c.name_of-name.ensures.name in
-    let w = ap (λ (f : EpochName). is_within f c.args.v.now) (sym e) ∙ (sym c.within.ensures.within ∙ c.if-within.true) in
-    record { greatest = e ∙ within_at c.args.top c.args.nodes.now c.requires.laid c.args.order.now c.requires.sorted c.args.v.now lesser k i.0 whole w i.2 }
+pub loop-rest-preserved : goal.loop-rest-preserved
+loop-rest-preserved c =
+    let ps = c.args.nodes.now in
+    let names = c.args.by_name.now in
+    let order = c.args.order.now in
+    let v = c.args.v.now in
+    let rest = c.loop-rest.rest in
+    let rank = c.loop-rest.rank in
+    let next = c.names_below-rest.result in
+    let found = c.rank_up_to.result in
+    let best = c.max-rank.result in
+    let cut = subst (λ (e : EpochName). IsCut name_cmp (names_at ps names) e next) (c.first_of.ensures.first ∙ ap first_of c.name_of-last.ensures.name) c.names_below-rest.ensures.cut in
+    let r = cut.in_range in
+    let m = length-map names (place_name ps) in
+    let e = c.max-rank.ensures in
+    let is = subst (λ (f : EpochName). IsRank ps order f found) (c.counted.ensures.counted ∙ ap (counted v) c.name_of-last.ensures.name) (c.rank_up_to.ensures.rank order c.requires.order_is.within c.requires.ranked) in
+    let either : (best ≡ found) ⊎ (best ≡ rank) = ⊎_elim (λ h. inr (omega arith)) (λ h. inl (omega arith)) (cases_lt found rank) in
+    looking_more c.args.top ps c.requires.laid names order v c.requires.by_name_is c.requires.order_is rest rank c.loop-rest.invariant (omega arith) next cut (omega arith) found best is (omega arith) (omega arith) either
+
+pub returns-then-rank-eq0 : goal.returns-then-rank-eq0
+returns-then-rank-eq0 c =
+    let z : c.loop-rest.rest ≡ 0 = omega arith in
+    let k = subst (λ n. IsLooking c.args.nodes.now c.args.by_name.now c.args.order.now c.args.v.now n c.loop-rest.rank) z c.loop-rest.invariant in
+    record { greatest = looked_none c.args.top c.args.nodes.now c.requires.laid c.args.by_name.now c.args.order.now c.args.v.now c.requires.by_name_is c.requires.order_is c.loop-rest.rank k (omega arith) }
+
+pub name_of-requires : goal.name_of-requires
+name_of-requires c =
+    let order = c.args.order.now in
+    let r = c.loop-rest.invariant.ranked in
+    record { place = c.requires.order_is.within _ (read_in order (c.loop-rest.rank - 1) (omega arith)) }
 
 pub returns : goal.returns
 returns c =
-    let i = c.loop-place.invariant in
-    let short : length c.loop-place.rest.now < 1 = grind (arith, common_steps) in
-    let none = nothing c.loop-place.rest.now short in
-    let whole = i.1 ∙ ap (λ (xs : List ℕ). xs ++ i.0) none in
+    let z : c.loop-rest.rest ≡ 0 = omega arith in
+    let k = subst (λ n. IsLooking c.args.nodes.now c.args.by_name.now c.args.order.now c.args.v.now n c.loop-rest.rank) z c.loop-rest.invariant in
     record {
-      greatest = within_none c.args.top c.args.nodes.now c.requires.laid c.args.order.now c.requires.sorted c.args.v.now
-          (λ e p. i.2 e (subst (λ (xs : List ℕ). IsIn e (names_at c.args.nodes.now xs)) whole p));
+      greatest = c.name_of.ensures.name
+          ∙ looked_at c.args.top c.args.nodes.now c.requires.laid c.args.by_name.now c.args.order.now c.args.v.now c.requires.by_name_is c.requires.order_is c.loop-rest.rank k (omega arith);
     }

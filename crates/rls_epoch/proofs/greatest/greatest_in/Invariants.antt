@@ -1,13 +1,9 @@
-use Rattle.std.proofs.Common.{◌≡◌, ◌++◌, List, ℕ, false, length}
-use Rattle.rls_ident.specs.declared.epoch_name.EpochName.{EpochName}
-use Rattle.rls_ident.specs.EpochNames.{is_within}
-use Rattle.rls_ident.specs.Lists.{IsIn}
-use Rattle.rls_epoch.specs.Sorted.{names_at}
+use Rattle.rls_epoch.proofs.Looking.{IsLooking}
 use Rattle.rls_epoch.proofs.greatest.greatest_in.Given as goal
 
--- none of those that were passed is within the vector
-abbrev pub invariant-loop-place : goal.invariant-loop-place
-invariant-loop-place l = (later : List ℕ) × (l.order ≡ l.rest ++ later) × ((e : EpochName) → IsIn e (names_at l.nodes later) → is_within e l.v ≡ false)
+-- what is within the vector was found or lies among the rest
+abbrev pub invariant-loop-rest : goal.invariant-loop-rest
+invariant-loop-rest l = IsLooking l.nodes l.by_name l.order l.v l.rest l.rank
 
-abbrev pub decreases-loop-place : goal.decreases-loop-place
-decreases-loop-place l = length l.rest
+abbrev pub decreases-loop-rest : goal.decreases-loop-rest
+decreases-loop-rest l = l.rest

@@ -1,0 +1,48 @@
+use Rattle.std.proofs.Common.{◌≡◌, ◌+◌, ◌-◌, ◌/◌, ℕ, get_or, sym, ap, ◌∙◌, subst, arith, ⊎_elim}
+use Rattle.std.specs.declared.cmp.Ordering.TheVariants.{Less}
+use Rattle.std.proofs.lemmas.Bool.{cases_lt}
+use Rattle.rls_epoch.specs.Climbing.{name_cmp}
+use Rattle.rls_epoch.specs.Ranks.{name_in}
+use Rattle.rls_epoch.proofs.Found.{read_in}
+use Rattle.rls_epoch.proofs.Indices.{rising_at}
+use Rattle.rls_epoch.proofs.Ordering.{names_order}
+use Rattle.rls_epoch.proofs.ranks.names_up_to.Goals as goal
+
+pub name_of-requires : goal.name_of-requires
+name_of-requires c =
+    let m = c.loop-low.low + (c.loop-low.high - c.loop-low.low) / 2 in
+    record { place = c.requires.sorted.within (get_or c.args.by_name.now m 0) (read_in c.args.by_name.now m (omega arith)) }
+
+pub loop-low-preserved-in-Less : goal.loop-low-preserved-in-Less
+loop-low-preserved-in-Less c =
+    let i = c.loop-low.invariant in
+    let ps = c.args.nodes.now in
+    let places = c.args.by_name.now in
+    let e = c.args.name in
+    let m = c.loop-low.low + (c.loop-low.high - c.loop-low.low) / 2 in
+    let h : name_cmp e (name_in ps places m) ≡ Less = ap (name_cmp e) (sym c.name_of.ensures.name) ∙ sym c.in-Less.ensures.order in
+    record {
+      order = omega arith;
+      in_range = omega arith;
+      below = i.below;
+      above = λ a l w.
+          ⊎_elim (λ g. names_order.trans e (name_in ps places m) (name_in ps places a) h (rising_at name_cmp ps places c.requires.sorted.rising m a g w))
+          (λ g. let q : m ≡ a = omega arith in subst (λ (j : ℕ). name_cmp e (name_in ps places j) ≡ Less) q h) (cases_lt m a);
+    }
+
+pub loop-low-preserved : goal.loop-low-preserved
+loop-low-preserved c =
+    let i = c.loop-low.invariant in
+    let ps = c.args.nodes.now in
+    let places = c.args.by_name.now in
+    let e = c.args.name in
+    let m = c.loop-low.low + (c.loop-low.high - c.loop-low.low) / 2 in
+    let here : name_cmp e (name_in ps places m) ≡ Less → ⊥ = λ k. c.in_default.not-Less (c.compare_names.ensures.order ∙ (ap (name_cmp e) c.name_of.ensures.name ∙ k)) in
+    record {
+      order = omega arith;
+      in_range = i.in_range;
+      below = λ a l k.
+          ⊎_elim (λ g. here (names_order.trans e (name_in ps places a) (name_in ps places m) k (rising_at name_cmp ps places c.requires.sorted.rising a m g (omega arith))))
+          (λ g. let q : a ≡ m = omega arith in here (subst (λ (j : ℕ). name_cmp e (name_in ps places j) ≡ Less) q k)) (cases_lt a m);
+      above = i.above;
+    }

@@ -1,0 +1,63 @@
+use Rattle.std.proofs.Common.{◌≡◌, ◌-◌, ◌≤◌, true, false, sym, ap, ◌∙◌, subst, inl, inr, ◌⊎◌, ⊎_elim, arith}
+use Rattle.std.specs.Prelude.{slice_index}
+use Rattle.std.proofs.lemmas.Bool.{cases_lt}
+use Rattle.rls_epoch.specs.Ranks.{name_in, up_to, IsRank}
+use Rattle.rls_epoch.proofs.Ranking.{at_place, raised_first, raised_more, raised_other}
+use Rattle.rls_epoch.proofs.ranks.raised_rank.Goals as goal
+
+pub rank_of-rank-requires : goal.rank_of-rank-requires
+rank_of-rank-requires c =
+    let p = at_place c.args.nodes.now c.args.by_name.now c.requires.sorted c.args.i c.requires.within in
+    let w = c.requires.whole in
+    record { within = omega arith }
+
+pub returns-then-i-eq0 : goal.returns-then-i-eq0
+returns-then-i-eq0 c = record {
+  rank = λ order o a.
+      subst (IsRank c.args.nodes.now order (name_in c.args.nodes.now c.args.by_name.now c.args.i)) (sym c.rank_of-rank.ensures.rank)
+      (raised_first c.args.nodes.now c.args.by_name.now c.requires.sorted order c.args.ranks.now o c.args.i c.requires.within a (omega arith));
+}
+
+pub name_of-requires : goal.name_of-requires
+name_of-requires c = record { place = at_place c.args.nodes.now c.args.by_name.now c.requires.sorted c.args.i c.requires.within }
+
+pub name_of-requires-2 : goal.name_of-requires-2
+name_of-requires-2 c =
+    let w = c.requires.within in
+    record { place = at_place c.args.nodes.now c.args.by_name.now c.requires.sorted (c.args.i - 1) (omega arith) }
+
+pub returns-then-not-is_up_to : goal.returns-then-not-is_up_to
+returns-then-not-is_up_to c =
+    let ps = c.args.nodes.now in
+    let names = c.args.by_name.now in
+    let i = c.args.i in
+    let u : up_to (name_in ps names i) (name_in ps names (i - 1)) ≡ false =
+    ap (λ e. up_to e (name_in ps names (i - 1))) (sym c.name_of.ensures.name) ∙ (ap (up_to c.name_of.result) (sym c.name_of-2.ensures.name) ∙ (sym c.is_up_to.ensures.up_to ∙ c.if-not-is_up_to.true)) in
+    record {
+      rank = λ order o a. subst (IsRank ps order (name_in ps names i)) (sym c.rank_of-rank.ensures.rank) (raised_other ps names c.requires.sorted order c.args.ranks.now o i c.requires.within a (omega arith) u);
+    }
+
+pub rank_of-requires : goal.rank_of-requires
+rank_of-requires c =
+    let w = c.requires.within in
+    let p = at_place c.args.nodes.now c.args.by_name.now c.requires.sorted (c.args.i - 1) (omega arith) in
+    let n = c.requires.whole in
+    record { within = omega arith }
+
+pub returns : goal.returns
+returns c =
+    let ps = c.args.nodes.now in
+    let names = c.args.by_name.now in
+    let i = c.args.i in
+    let ranks = c.args.ranks.now in
+    let u : up_to (name_in ps names i) (name_in ps names (i - 1)) ≡ true =
+    ap (λ e. up_to e (name_in ps names (i - 1))) (sym c.name_of.ensures.name) ∙ (ap (up_to c.name_of.result) (sym c.name_of-2.ensures.name) ∙ (sym c.is_up_to.ensures.up_to ∙ c.if-not-is_up_to.false)) in
+    let a = c.rank_of-rank.ensures.rank in
+    let b = c.rank_of.ensures.rank in
+    let m = c.max.ensures in
+    let mine = slice_index ranks (slice_index names i) in
+    let before = slice_index ranks (slice_index names (i - 1)) in
+    let least : mine ≤ c.max.result = omega arith in
+    let most : before ≤ c.max.result = omega arith in
+    let either : (c.max.result ≡ mine) ⊎ (c.max.result ≡ before) = ⊎_elim (λ h. inr (omega arith)) (λ h. inl (omega arith)) (cases_lt mine before) in
+    record { rank = λ order o r. raised_more ps names c.requires.sorted order ranks o i c.requires.within r (omega arith) u c.max.result least most either }

@@ -1,0 +1,201 @@
+//! Ranks: the places of the epochs in increasing order of all of them, in which the topmost one has
+//! place 0. With each node stands the rank of the greatest epoch that its member opened up to it.
+
+ghost use Rattle.std.specs.Prelude.{◌≡◌, ℕ, ◌+◌, ◌<◌, List, suc, length, slice_index, slice_set, IsTrue, IsFalse};
+ghost use Rattle.rls_ident.specs.EpochNames.{is_of_member};
+ghost use Rattle.rls_ident.specs.Lists.{IsIn};
+ghost use Rattle.rls_rename.specs.Tree.{epoch_cmp};
+ghost use Rattle.rls_epoch.specs.Climbing.{name_cmp};
+ghost use Rattle.rls_epoch.specs.Ranks.{counted, first_of, name_in, up_to, AreDistinct, AreRaised, AreRanked, IsEnd, IsLastAdded, IsRank};
+ghost use Rattle.rls_epoch.specs.Seen.{nodes_of};
+ghost use Rattle.rls_epoch.specs.Sorted.{AreSorted};
+
+use crate::climb::compare_names;
+use crate::placed::{Placed, name_of};
+use rls_ident::{EpochName, Vector};
+use std::cmp::Ordering;
+
+// Whether the second epoch is of the member of the first, with its number or a lesser one.
+fn is_up_to(name: EpochName, other: EpochName) -> bool
+    ensures up_to { result ≡ up_to name other }
+{
+    match (name, other) {
+        (
+            EpochName::Of { replica, seq },
+            EpochName::Of {
+                replica: other_replica,
+                seq: other_seq,
+            },
+        ) => other_replica == replica && other_seq <= seq,
+        _ => false,
+    }
+}
+
+// The epoch of the same member with the number that the vector counts.
+pub(crate) fn counted(name: EpochName, v: &Vector) -> EpochName
+    requires member { IsTrue (is_of_member (length v.now) name) }
+    ensures counted { result ≡ counted v.now name }
+{
+    match name {
+        EpochName::Origin => EpochName::Origin,
+        EpochName::Of { replica, .. } => {
+            let count = v.get(replica);
+            EpochName::Of {
+                replica,
+                seq: count,
+            }
+        }
+    }
+}
+
+// The epoch of the same member with the number 0.
+pub(crate) fn first_of(name: EpochName) -> EpochName
+    ensures first { result ≡ first_of name }
+{
+    match name {
+        EpochName::Origin => EpochName::Origin,
+        EpochName::Of { replica, .. } => EpochName::Of { replica, seq: 0 },
+    }
+}
+
+// How many of these places, in increasing order of names, have this name or a lesser one.
+fn names_up_to(nodes: &[Placed], by_name: &[usize], name: EpochName) -> usize
+    requires sorted { AreSorted name_cmp nodes.now by_name.now }
+    ensures end { IsEnd nodes.now by_name.now name result }
+{
+    let (mut low, mut high) = (0, by_name.len());
+    while low < high {
+        let middle = low + (high - low) / 2;
+        match compare_names(name, name_of(nodes, by_name[middle])) {
+            Ordering::Less => high = middle,
+            _ => low = middle + 1,
+        }
+    }
+    low
+}
+
+// The rank of the greatest of the epochs up to this one, or 0 if there is none. It costs a comparison
+// of names for each halving of the nodes.
+pub(crate) fn rank_up_to(
+    nodes: &[Placed],
+    by_name: &[usize],
+    ranks: &[usize],
+    name: EpochName,
+) -> usize
+    requires sorted { AreSorted name_cmp nodes.now by_name.now }
+    requires whole { length ranks.now ≡ length nodes.now }
+    ensures rank { (order : List ℕ) → ((k : ℕ) → IsIn k order → k < length nodes.now) → AreRanked nodes.now order ranks.now → IsRank nodes.now order name result }
+{
+    let end = names_up_to(nodes, by_name, name);
+    if end == 0 {
+        return 0;
+    }
+    let before = by_name[end - 1];
+    if is_up_to(name, name_of(nodes, before)) {
+        rank_of(ranks, before)
+    } else {
+        0
+    }
+}
+
+// The rank that stands with a node.
+fn rank_of(ranks: &[usize], place: usize) -> usize
+    requires within { place < length ranks.now }
+    ensures rank { result ≡ slice_index ranks.now place }
+{
+    ranks[place]
+}
+
+// Puts a rank with a node.
+fn set_rank(ranks: &mut [usize], place: usize, rank: usize)
+    requires within { place < length ranks.old }
+    ensures put { ranks.new ≡ slice_set ranks.old place rank }
+{
+    ranks[place] = rank;
+}
+
+// Ranks the last node, which stands at an index in order of names. It takes no memory, and costs
+// nothing if that node is the greatest epoch and the last one of its member.
+pub(crate) fn rank_added(
+    nodes: &[Placed],
+    by_name: &[usize],
+    order: &[usize],
+    ranks: &mut [usize],
+    index: usize,
+    last: bool,
+)
+    requires by_name_is { AreSorted name_cmp nodes.now by_name.now }
+    requires order_is { AreSorted (epoch_cmp (nodes_of nodes.now)) nodes.now order.now }
+    requires whole { length ranks.old ≡ length nodes.now }
+    requires within { index < length by_name.now }
+    requires index { suc (slice_index by_name.now index) ≡ length nodes.now }
+    requires added { IsTrue last → IsLastAdded nodes.now order.now ranks.old }
+    ensures ranked { AreRanked nodes.now order.now ranks.new }
+{
+    if last && !has_later(nodes, by_name, index) {
+        return;
+    }
+    rank_all(nodes, by_name, order, ranks);
+}
+
+// Whether a later epoch of the same member is kept.
+fn has_later(nodes: &[Placed], by_name: &[usize], index: usize) -> bool
+    requires sorted { AreSorted name_cmp nodes.now by_name.now }
+    requires within { index < length by_name.now }
+    ensures alone { IsFalse result → (a : ℕ) → a < length by_name.now → IsTrue (up_to (name_in nodes.now by_name.now a) (name_in nodes.now by_name.now index)) → a ≡ index }
+{
+    let next = index + 1;
+    if next >= by_name.len() {
+        return false;
+    }
+    is_up_to(
+        name_of(nodes, by_name[next]),
+        name_of(nodes, by_name[index]),
+    )
+}
+
+// Ranks all nodes. It takes no memory, and goes over them twice.
+pub(crate) fn rank_all(nodes: &[Placed], by_name: &[usize], order: &[usize], ranks: &mut [usize])
+    requires by_name_is { AreSorted name_cmp nodes.now by_name.now }
+    requires order_is { AreSorted (epoch_cmp (nodes_of nodes.now)) nodes.now order.now }
+    requires whole { length ranks.old ≡ length nodes.now }
+    ensures ranked { AreRanked nodes.now order.now ranks.new }
+{
+    rank_alone(order, ranks);
+    for i in 0..by_name.len() {
+        let rank = raised_rank(nodes, by_name, ranks, i);
+        set_rank(ranks, by_name[i], rank);
+    }
+}
+
+// Gives each node the rank of its own epoch.
+fn rank_alone(order: &[usize], ranks: &mut [usize])
+    requires within { (k : ℕ) → IsIn k order.now → k < length ranks.old }
+    requires distinct { AreDistinct order.now }
+    ensures whole { length ranks.new ≡ length ranks.old }
+    ensures own { (a : ℕ) → a < length order.now → slice_index ranks.new (slice_index order.now a) ≡ suc a }
+{
+    for i in 0..order.len() {
+        set_rank(ranks, order[i], i + 1);
+    }
+}
+
+// The rank of the greatest epoch up to the node at this index in order of names, if those before it
+// have such ranks and it has its own.
+fn raised_rank(nodes: &[Placed], by_name: &[usize], ranks: &[usize], i: usize) -> usize
+    requires sorted { AreSorted name_cmp nodes.now by_name.now }
+    requires whole { length ranks.now ≡ length nodes.now }
+    requires within { i < length by_name.now }
+    ensures rank { (order : List ℕ) → AreSorted (epoch_cmp (nodes_of nodes.now)) nodes.now order → AreRaised nodes.now by_name.now order i ranks.now → IsRank nodes.now order (name_in nodes.now by_name.now i) result }
+{
+    let place = by_name[i];
+    let rank = rank_of(ranks, place);
+    if i == 0 {
+        return rank;
+    }
+    let before = by_name[i - 1];
+    if !is_up_to(name_of(nodes, place), name_of(nodes, before)) {
+        return rank;
+    }
+    rank.max(rank_of(ranks, before))
+}
