@@ -1,9 +1,8 @@
 -- One more node in the order of names, and in that of the epochs.
-use Rattle.std.proofs.Common.{◌≡◌, ◌≤◌, ℕ, ◌+◌, true, false, List, [], ◌∷◌, ◌++◌, length, Some, refl, sym, ap, ◌∙◌, subst, arith}
+use Rattle.std.proofs.Common.{◌≡◌, ◌≤◌, ℕ, ◌+◌, true, false, List, [], ◌∷◌, ◌++◌, length, Some, refl, sym, ap, ◌∙◌, subst}
 use Rattle.std.specs.Prelude.{insert}
 use Rattle.std.specs.declared.cmp.Ordering.TheVariants.{Less}
 use Rattle.std.specs.Ordering.{is_lt}
-use Rattle.std.proofs.lemmas.List.{length-map}
 use Rattle.rls_ident.specs.declared.epoch_name.EpochName.{EpochName}
 use Rattle.rls_ident.specs.EpochNames.{name_eq}
 use Rattle.rls_ident.specs.Lists.{IsIn}
@@ -16,7 +15,7 @@ use Rattle.rls_epoch.specs.declared.placed.Placed.{Placed}
 use Rattle.rls_epoch.specs.Climbing.{name_cmp}
 use Rattle.rls_epoch.specs.Links.{name_at, epoch_at}
 use Rattle.rls_epoch.specs.Seen.{AreLaid, IsWhole, node_of, nodes_of}
-use Rattle.rls_epoch.specs.Sorted.{place_name, names_at, AreSorted, IsCut}
+use Rattle.rls_epoch.specs.Sorted.{names_at, AreSorted, IsCut}
 use Rattle.rls_epoch.proofs.Found.{next_at}
 use Rattle.rls_epoch.proofs.Laid.{nodes_last}
 use Rattle.rls_epoch.proofs.Ordering.{names_level, names_order}
@@ -69,8 +68,6 @@ pub record IsGrown (top : EpochName) (ps : List Placed) (by_name order : List �
   pub laid : AreLaid top (ps ++ p ∷ [])
   pub by_name_is : AreSorted name_cmp (ps ++ p ∷ []) (insert by_name i (length ps))
   pub order_is : AreSorted (epoch_cmp (nodes_of (ps ++ p ∷ []))) (ps ++ p ∷ []) (insert order j (length ps))
-  pub name_within : i ≤ length by_name
-  pub epoch_within : j ≤ length order
 
 pub grown : (top : EpochName) (ps : List Placed) (by_name order ranks marks : List ℕ) (total : ℕ) (p : Placed) (i j n : ℕ) → IsWhole top ps by_name order ranks marks total → n ≡ length ps → p.up ≤ length ps → name_at top ps p.up ≡ Some p.parent →
     IsFormer p.renaming.former → is_kept top (nodes_of ps) (name_of p.renaming) ≡ false → is_kept top (nodes_of ps) p.parent ≡ true → IsCut name_cmp (names_at ps by_name) (name_of p.renaming) i →
@@ -78,14 +75,8 @@ pub grown : (top : EpochName) (ps : List Placed) (by_name order ranks marks : Li
 grown top ps by_name order ranks marks total p i j n w e u a f k q c d =
     let l = laid_more top ps p w.laid u a f k q in
     let g = subst (λ (m : ℕ). IsCut (epoch_cmp (nodes_of (ps ++ p ∷ []))) (names_at (ps ++ p ∷ []) order) (epoch_at top (ps ++ p ∷ []) (m + 1)) j) e d in
-    let x = c.in_range in
-    let y = d.in_range in
-    let z = length-map by_name (place_name ps) in
-    let v = length-map order (place_name (ps ++ p ∷ [])) in
     record {
       laid = l;
       by_name_is = names_added top ps p k by_name i w.by_name_is c;
       order_is = epochs_added top ps p k order j l w.order_is g;
-      name_within = omega arith;
-      epoch_within = omega arith;
     }

@@ -12,7 +12,7 @@ use Rattle.rls_ident.proofs.Members.{le_is, le_test, not_true, or_right}
 use Rattle.rls_rename.specs.Tree.{epoch_cmp, greatest_within, has_node, is_kept}
 use Rattle.rls_epoch.specs.declared.placed.Placed.{Placed}
 use Rattle.rls_epoch.specs.Climbing.{name_cmp}
-use Rattle.rls_epoch.specs.Ranks.{counted, first_of, name_in, up_to, IsRank}
+use Rattle.rls_epoch.specs.Ranks.{last_counted, first_of, name_in, up_to, IsRank}
 use Rattle.rls_epoch.specs.Seen.{nodes_of, AreLaid}
 use Rattle.rls_epoch.specs.Sorted.{place_name, names_at, AreSorted, IsCut}
 use Rattle.rls_epoch.proofs.Found.{read_in}
@@ -25,7 +25,7 @@ use Rattle.rls_epoch.proofs.Sorting.{get_of, get_split}
 
 -- ---- epochs within a vector
 
-pub within_counted : (v : List ℕ) (e f : EpochName) → up_to (counted v e) f ≡ true → is_within f v ≡ true
+pub within_counted : (v : List ℕ) (e f : EpochName) → up_to (last_counted v e) f ≡ true → is_within f v ≡ true
 within_counted v Origin f h = absurd (cc)
 within_counted v (Of r s) Origin h = refl
 within_counted v (Of r s) (Of q t) h =
@@ -33,7 +33,7 @@ within_counted v (Of r s) (Of q t) h =
     le_test t (slice_index v q) (subst (λ (m : ℕ). t ≤ slice_index v m) (sym a.0) a.1)
 
 -- what isn't above an epoch is of its member, or before the first one of that
-pub within_either : (v : List ℕ) (r s : ℕ) (f : EpochName) → is_within f v ≡ true → (name_cmp f (Of r s) ≡ Less) ⊎ (f ≡ Of r s) → (up_to (counted v (Of r s)) f ≡ true) ⊎ (name_cmp f (first_of (Of r s)) ≡ Less)
+pub within_either : (v : List ℕ) (r s : ℕ) (f : EpochName) → is_within f v ≡ true → (name_cmp f (Of r s) ≡ Less) ⊎ (f ≡ Of r s) → (up_to (last_counted v (Of r s)) f ≡ true) ⊎ (name_cmp f (first_of (Of r s)) ≡ Less)
 within_either v r s Origin h l = inr refl
 within_either v r s (Of q t) h (inl l) =
     ⊎_elim (λ x. inr (less_first q t r 0 x))
@@ -87,14 +87,14 @@ module _ (top : EpochName) (ps : List Placed) (l : AreLaid top ps) (by_name orde
         absurd (first_not_above e.0 e.1 (subst (λ f. name_cmp f (first_of f) ≡ Less) e.2 x)))
         (λ h. let m : next < rest = omega arith in m) (cases_lt (rest - 1) next)
 
-    pub looking_more : (found best : ℕ) → IsRank ps order (counted v last) found → found ≤ best → rank ≤ best → (best ≡ found) ⊎ (best ≡ rank) → IsLooking ps by_name order v next best
+    pub looking_more : (found best : ℕ) → IsRank ps order (last_counted v last) found → found ≤ best → rank ≤ best → (best ≡ found) ⊎ (best ≡ rank) → IsLooking ps by_name order v next best
     looking_more found best r fm rm either =
         let w = k.in_range in
         record {
           in_range = n;
           ranked = let x = k.ranked in let y = r.in_range in ⊎_elim (λ e. omega arith) (λ e. omega arith) either;
           held = λ h.
-              ⊎_elim (λ e. within_counted v last (name_in ps order (best - 1)) (subst (λ (m : ℕ). up_to (counted v last) (name_in ps order (m - 1)) ≡ true) (sym e) (r.held (omega arith))))
+              ⊎_elim (λ e. within_counted v last (name_in ps order (best - 1)) (subst (λ (m : ℕ). up_to (last_counted v last) (name_in ps order (m - 1)) ≡ true) (sym e) (r.held (omega arith))))
               (λ e. subst (λ (m : ℕ). is_within (name_in ps order (m - 1)) v ≡ true) (sym e) (k.held (omega arith))) either;
           most = λ i h x.
               ⊎_elim (λ g. inl (omega arith))
@@ -102,7 +102,7 @@ module _ (top : EpochName) (ps : List Placed) (l : AreLaid top ps) (by_name orde
               let e = last_is rest z w in
               let low = subst (λ f. (name_cmp (name_in ps by_name b.0) f ≡ Less) ⊎ (name_in ps by_name b.0 ≡ f)) e.2 (low_or_same ps by_name s b.0 (rest - 1) (omega arith) (omega arith)) in
               let inside = subst (λ f. is_within f v ≡ true) (sym b.2) x in
-              ⊎_elim (λ u. let m = r.most i h (subst (λ f. up_to (counted v last) f ≡ true) b.2 (subst (λ f. up_to (counted v f) (name_in ps by_name b.0) ≡ true) (sym e.2) u)) in inl (omega arith))
+              ⊎_elim (λ u. let m = r.most i h (subst (λ f. up_to (last_counted v last) f ≡ true) b.2 (subst (λ f. up_to (last_counted v f) (name_in ps by_name b.0) ≡ true) (sym e.2) u)) in inl (omega arith))
               (λ u. inr (b.0, before b.0 (omega arith) (subst (λ f. name_cmp (name_in ps by_name b.0) (first_of f) ≡ Less) (sym e.2) u), b.2))
               (within_either v e.0 e.1 (name_in ps by_name b.0) inside low)) (k.most i h x);
         }

@@ -1,11 +1,10 @@
 -- A whole tree alone, and with one more node.
 use Rattle.std.proofs.Common.{◌≡◌, ◌≤◌, ◌<◌, ℕ, zero, suc, ◌+◌, true, false, List, [], ◌∷◌, ◌++◌, map, length, set, take, drop, Option, Some, None, refl, sym, ap, ◌∙◌, subst, inl, inr, ◌⊎◌, ⊎_elim, arith, length-append}
-use Rattle.std.specs.Prelude.{◌||◌, replicate, slice_get, slice_index, insert}
+use Rattle.std.specs.Prelude.{◌||◌, replicate, slice_get, insert}
 use Rattle.std.specs.Option.{option_map}
 use Rattle.std.specs.declared.cmp.Ordering.TheVariants.{Less}
 use Rattle.std.proofs.lemmas.Bool.{cases_lt}
-use Rattle.std.proofs.Math.ListN.{drop_of_length-le}
-use Rattle.std.proofs.lemmas.List.{get_or_at, length-drop, length-map, length-take-le, map-append, take_all}
+use Rattle.std.proofs.lemmas.List.{length-map, map-append}
 use Rattle.std.proofs.lemmas.List.Sums.{sum_by-cons}
 use Rattle.std.proofs.lemmas.Option.{slice_get-map}
 use Rattle.rls_ident.specs.declared.epoch_name.EpochName.{EpochName}
@@ -17,7 +16,7 @@ use Rattle.rls_rename.specs.Tree.{Node, name_of, has_node, is_kept, AreNodes, Ar
 use Rattle.rls_epoch.specs.declared.placed.Placed.{Placed}
 use Rattle.rls_epoch.specs.Climbing.{name_cmp}
 use Rattle.rls_epoch.specs.Links.{name_at, AreLinked}
-use Rattle.rls_epoch.specs.Ranks.{AreRanked, IsLastAdded}
+use Rattle.rls_epoch.specs.Ranks.{AreRanked}
 use Rattle.rls_epoch.specs.Seen.{AreLaid, IsWhole, node_of, nodes_of, former_sum, epochs_by_number, is_marked, marked_of, marks_of}
 use Rattle.rls_epoch.specs.Sorted.{place_name, names_at, AreRising, AreSorted, IsCut}
 use Rattle.rls_epoch.proofs.Laid.{nodes_last}
@@ -149,28 +148,4 @@ whole_more top ps by_name order ranks marks total n p i j w l h a b new r = reco
   ranked = r;
   marks_whole = omega (arith, w.marks_whole, length-append marks (0 ∷ []), length-append ps (p ∷ []));
   sum = omega (arith, w.sum, h, sum_by-cons (λ node. length node.renaming.former) (node_of p) (nodes_of ps)) ∙ ap (λ ns. former_sum ns) (sym (nodes_last ps p));
-}
-
--- ---- the places of one more node
-
-pub inserted_length : (places : List ℕ) (i n : ℕ) → i ≤ length places → length (insert places i n) ≡ length places + 1
-inserted_length places i n h = let a = length-append (take i places) (n ∷ drop i places) in let b = length-take-le i places h in let c = length-drop i places in omega arith
-
-pub inserted_at : (places : List ℕ) (i n : ℕ) → i ≤ length places → slice_index (insert places i n) i ≡ n
-inserted_at places i n h = get_or_at (take i places) n (drop i places) 0 i (length-take-le i places h)
-
--- ranked as the last one
-pub last_added : (ps : List Placed) (p : Placed) (order ranks : List ℕ) (j : ℕ) → AreRanked ps order ranks → ((k : ℕ) → IsIn k order → k < length ps) → j ≡ length order →
-    IsLastAdded (ps ++ p ∷ []) (insert order j (length ps)) (ranks ++ (length (insert order j (length ps)) ∷ []))
-last_added ps p order ranks j r w e = record {
-  older = ps;
-  node = p;
-  front = order;
-  before = ranks;
-  nodes_are = refl;
-  order_is = ap (λ (n : ℕ). insert order n (length ps)) e
-      ∙ (ap (λ xs. xs ++ (length ps ∷ drop (length order) order)) (take_all (length order) order (omega arith)) ∙ ap (λ xs. order ++ (length ps ∷ xs)) (drop_of_length-le order (omega arith)));
-  ranks_are = refl;
-  within = w;
-  ranked = r;
 }

@@ -15,9 +15,9 @@ up_to (Of r s) Origin = false
 up_to (Of r s) (Of q t) = nat_eq q r && nat_le t s
 
 -- the epoch of the same member with the number that the vector counts
-abbrev pub counted : List ℕ → EpochName → EpochName
-counted v Origin = Origin
-counted v (Of r s) = Of r (slice_index v r)
+abbrev pub last_counted : List ℕ → EpochName → EpochName
+last_counted v Origin = Origin
+last_counted v (Of r s) = Of r (slice_index v r)
 
 -- the epoch of the same member with the number 0
 abbrev pub first_of : EpochName → EpochName

@@ -11,7 +11,7 @@ ghost use Rattle.rls_epoch.specs.Sorted.{AreSorted};
 
 use crate::nodes::names_below;
 use crate::placed::{Placed, name_of};
-use crate::ranks::{counted, first_of, rank_up_to};
+use crate::ranks::{first_of, last_counted, rank_up_to};
 use rls_ident::{EpochName, Vector};
 
 // The greatest epoch.
@@ -47,7 +47,7 @@ pub(crate) fn greatest_in(
     let (mut rest, mut rank) = (by_name.len(), 0);
     while rest > 0 {
         let last = name_of(nodes, by_name[rest - 1]);
-        rank = rank_up_to(nodes, by_name, ranks, counted(last, v)).max(rank);
+        rank = rank_up_to(nodes, by_name, ranks, last_counted(last, v)).max(rank);
         rest = names_below(nodes, by_name, first_of(last));
     }
     if rank == 0 {

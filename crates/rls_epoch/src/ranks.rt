@@ -6,7 +6,7 @@ ghost use Rattle.rls_ident.specs.EpochNames.{is_of_member};
 ghost use Rattle.rls_ident.specs.Lists.{IsIn};
 ghost use Rattle.rls_rename.specs.Tree.{epoch_cmp};
 ghost use Rattle.rls_epoch.specs.Climbing.{name_cmp};
-ghost use Rattle.rls_epoch.specs.Ranks.{counted, first_of, name_in, up_to, AreDistinct, AreRaised, AreRanked, IsEnd, IsLastAdded, IsRank};
+ghost use Rattle.rls_epoch.specs.Ranks.{last_counted, first_of, name_in, up_to, AreDistinct, AreRaised, AreRanked, IsEnd, IsLastAdded, IsRank};
 ghost use Rattle.rls_epoch.specs.Seen.{nodes_of};
 ghost use Rattle.rls_epoch.specs.Sorted.{AreSorted};
 
@@ -32,9 +32,9 @@ fn is_up_to(name: EpochName, other: EpochName) -> bool
 }
 
 // The epoch of the same member with the number that the vector counts.
-pub(crate) fn counted(name: EpochName, v: &Vector) -> EpochName
+pub(crate) fn last_counted(name: EpochName, v: &Vector) -> EpochName
     requires member { IsTrue (is_of_member (length v.now) name) }
-    ensures counted { result ≡ counted v.now name }
+    ensures counted { result ≡ last_counted v.now name }
 {
     match name {
         EpochName::Origin => EpochName::Origin,

@@ -4,7 +4,7 @@ use Rattle.std.proofs.lemmas.List.{length-map}
 use Rattle.rls_ident.specs.declared.epoch_name.EpochName.{EpochName}
 use Rattle.rls_ident.specs.EpochNames.{is_of_member}
 use Rattle.rls_epoch.specs.Climbing.{name_cmp}
-use Rattle.rls_epoch.specs.Ranks.{counted, first_of, IsRank}
+use Rattle.rls_epoch.specs.Ranks.{last_counted, first_of, IsRank}
 use Rattle.rls_epoch.specs.Sorted.{place_name, names_at, IsCut}
 use Rattle.rls_epoch.proofs.Found.{read_in}
 use Rattle.rls_epoch.proofs.Looking.{looked_at, looked_none, looking_begins, looking_fewer, looking_more, member_at, IsLooking}
@@ -19,8 +19,8 @@ name_of-last-requires c =
     let w = c.loop-rest.invariant.in_range in
     record { place = at_place c.args.nodes.now c.args.by_name.now c.requires.by_name_is (c.loop-rest.rest - 1) (omega arith) }
 
-pub counted-requires : goal.counted-requires
-counted-requires c =
+pub last_counted-requires : goal.last_counted-requires
+last_counted-requires c =
     let w = c.loop-rest.invariant.in_range in
     record {
       member = subst (λ (e : EpochName). is_of_member (length c.args.v.now) e ≡ true) (sym c.name_of-last.ensures.name)
@@ -53,7 +53,7 @@ loop-rest-preserved c =
     let r = cut.in_range in
     let m = length-map names (place_name ps) in
     let e = c.max-rank.ensures in
-    let is = subst (λ (f : EpochName). IsRank ps order f found) (c.counted.ensures.counted ∙ ap (counted v) c.name_of-last.ensures.name) (c.rank_up_to.ensures.rank order c.requires.order_is.within c.requires.ranked) in
+    let is = subst (λ (f : EpochName). IsRank ps order f found) (c.last_counted.ensures.counted ∙ ap (last_counted v) c.name_of-last.ensures.name) (c.rank_up_to.ensures.rank order c.requires.order_is.within c.requires.ranked) in
     let either : (best ≡ found) ⊎ (best ≡ rank) = ⊎_elim (λ h. inr (omega arith)) (λ h. inl (omega arith)) (cases_lt found rank) in
     looking_more c.args.top ps c.requires.laid names order v c.requires.by_name_is c.requires.order_is rest rank c.loop-rest.invariant (omega arith) next cut (omega arith) found best is (omega arith) (omega arith) either
 
