@@ -1,5 +1,5 @@
 -- Ranks: the places of the epochs in increasing order of all of them, in which the topmost one has place 0.
-use Rattle.std.specs.Prelude.{◌≡◌, ℕ, ◌-◌, ◌<◌, ◌≤◌, Bool, true, false, ◌&&◌, List, [], ◌∷◌, ◌++◌, length, nat_eq, nat_le, slice_index}
+use Rattle.std.specs.Prelude.{◌≡◌, ℕ, ◌-◌, ◌<◌, ◌≤◌, Bool, true, false, ◌&&◌, List, [], ◌∷◌, ◌++◌, length, nat_eq, nat_le, nat_lt, slice_index, insert, if◌then◌else◌, suc}
 use Rattle.std.specs.declared.cmp.Ordering.TheVariants.{Less}
 use Rattle.rls_ident.specs.declared.epoch_name.EpochName.{EpochName}
 use Rattle.rls_ident.specs.declared.epoch_name.EpochName.TheVariants.{Origin, Of}
@@ -63,14 +63,19 @@ pub record AreRaised (ps : List Placed) (by_name order : List ℕ) (i : ℕ) (ra
 abbrev pub AreDistinct : List ℕ → Type 0
 AreDistinct xs = (a b : ℕ) → a < length xs → b < length xs → slice_index xs a ≡ slice_index xs b → a ≡ b
 
--- the last node is the greatest epoch, and those before it were ranked without it
-pub record IsLastAdded (ps : List Placed) (order ranks : List ℕ) : Type 0 where
+-- the new rank of an epoch after another was put at this place of the order
+abbrev pub rank_after : ℕ → ℕ → ℕ
+rank_after at n = if nat_lt at n then suc n else n
+
+-- the last node was put at this place of the order, and those before it were ranked without it
+pub record IsAdded (ps : List Placed) (order ranks : List ℕ) (at : ℕ) : Type 0 where
   pub older : List Placed
   pub node : Placed
   pub front : List ℕ
   pub before : List ℕ
   pub nodes_are : ps ≡ older ++ (node ∷ [])
-  pub order_is : order ≡ front ++ (length older ∷ [])
-  pub ranks_are : ranks ≡ before ++ (length order ∷ [])
+  pub order_is : order ≡ insert front at (length older)
+  pub ranks_are : ranks ≡ before ++ (0 ∷ [])
+  pub place : at ≤ length front
   pub within : (k : ℕ) → IsIn k front → k < length older
   pub ranked : AreRanked older front before

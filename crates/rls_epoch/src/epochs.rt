@@ -96,8 +96,7 @@ impl Epochs {
 
     /// Adds the epoch that a rename opened in another. The new one isn't marked. It takes no memory,
     /// and cannot fail. It costs a comparison of epochs for each halving of them, and moves the
-    /// numbers of those that are greater. If one is greater, or its member has opened a later one that
-    /// is kept, it goes over all of them.
+    /// numbers of those that are greater. If one is greater, it goes over the numbers of all.
     pub fn add(&mut self, replica: u32, seq: u32, parent: EpochName, renaming: Renaming)
         requires room { 0 < self.old.spare }
         requires fresh { IsFalse (is_kept self.old.epochs.top self.old.epochs.nodes (EpochName.Of replica seq)) }
@@ -131,10 +130,9 @@ impl Epochs {
             self.order.as_slice(),
             place + 1,
         );
-        let last = order == self.order.len();
         self.by_name.insert(by_name, place).unwrap();
         self.order.insert(order, place).unwrap();
-        self.ranks.push(self.order.len()).unwrap();
+        self.ranks.push(0).unwrap();
         self.marks.push(0).unwrap();
         rank_added(
             self.nodes.as_slice(),
@@ -142,7 +140,7 @@ impl Epochs {
             self.order.as_slice(),
             self.ranks.as_mut_slice(),
             by_name,
-            last,
+            order,
         );
     }
 

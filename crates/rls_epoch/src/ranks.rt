@@ -1,12 +1,12 @@
 //! Ranks: the places of the epochs in increasing order of all of them, in which the topmost one has
 //! place 0. With each node stands the rank of the greatest epoch that its member opened up to it.
 
-ghost use Rattle.std.specs.Prelude.{◌≡◌, ℕ, ◌+◌, ◌<◌, List, suc, length, slice_index, slice_set, IsTrue, IsFalse};
+ghost use Rattle.std.specs.Prelude.{◌≡◌, ℕ, ◌+◌, ◌-◌, ◌^◌, ◌<◌, ◌≤◌, List, suc, length, slice_index, slice_set, IsTrue, IsFalse};
 ghost use Rattle.rls_ident.specs.EpochNames.{is_of_member};
 ghost use Rattle.rls_ident.specs.Lists.{IsIn};
 ghost use Rattle.rls_rename.specs.Tree.{epoch_cmp};
 ghost use Rattle.rls_epoch.specs.Climbing.{name_cmp};
-ghost use Rattle.rls_epoch.specs.Ranks.{last_counted, first_of, name_in, up_to, AreDistinct, AreRaised, AreRanked, IsEnd, IsLastAdded, IsRank};
+ghost use Rattle.rls_epoch.specs.Ranks.{last_counted, first_of, name_in, rank_after, up_to, AreDistinct, AreRanked, IsAdded, IsEnd, IsOwn, IsRank};
 ghost use Rattle.rls_epoch.specs.Seen.{nodes_of};
 ghost use Rattle.rls_epoch.specs.Sorted.{AreSorted};
 
@@ -114,28 +114,58 @@ fn set_rank(ranks: &mut [usize], place: usize, rank: usize)
     ranks[place] = rank;
 }
 
-// Ranks the last node, which stands at an index in order of names. It takes no memory, and costs
-// nothing if that node is the greatest epoch and the last one of its member.
+// Ranks the last node, which was put at an index in order of names and at a place of the order. It
+// takes no memory, and costs nothing more if that is the last place. Else it goes over the ranks.
 pub(crate) fn rank_added(
     nodes: &[Placed],
     by_name: &[usize],
     order: &[usize],
     ranks: &mut [usize],
     index: usize,
-    last: bool,
+    at: usize,
 )
     requires by_name_is { AreSorted name_cmp nodes.now by_name.now }
     requires order_is { AreSorted (epoch_cmp (nodes_of nodes.now)) nodes.now order.now }
-    requires whole { length ranks.old ≡ length nodes.now }
     requires within { index < length by_name.now }
     requires index { suc (slice_index by_name.now index) ≡ length nodes.now }
-    requires added { IsTrue last → IsLastAdded nodes.now order.now ranks.old }
+    requires added { IsAdded nodes.now order.now ranks.old at }
     ensures ranked { AreRanked nodes.now order.now ranks.new }
 {
-    if last && !has_later(nodes, by_name, index) {
+    if has_later(nodes, by_name, index) {
+        rank_all(nodes, by_name, order, ranks);
         return;
     }
-    rank_all(nodes, by_name, order, ranks);
+    let place = by_name[index];
+    let count = order.len() - 1;
+    let own = at + 1;
+    shift_ranks(ranks, at, count);
+    set_rank(ranks, place, own);
+    let rank = raised_rank(nodes, by_name, ranks, index);
+    set_rank(ranks, place, rank);
+}
+
+// The new rank of an epoch after another was put at a place of the order.
+fn rank_after(rank: usize, at: usize) -> usize
+    requires room { rank < 2 ^ 64 - 1 }
+    ensures after { result ≡ rank_after at rank }
+{
+    if rank > at { rank + 1 } else { rank }
+}
+
+// The new ranks after an epoch was put at a place of the order, which has so many places before.
+fn shift_ranks(ranks: &mut [usize], at: usize, count: usize)
+    requires most { (k : ℕ) → k < length ranks.old → slice_index ranks.old k ≤ count }
+    requires room { count < 2 ^ 64 - 1 }
+    ensures whole { length ranks.new ≡ length ranks.old }
+    ensures after { (k : ℕ) → k < length ranks.old → slice_index ranks.new k ≡ rank_after at (slice_index ranks.old k) }
+{
+    if at >= count {
+        return;
+    }
+    for i in 0..ranks.len() {
+        let rank = rank_after(rank_of(ranks, i), at);
+        set_rank(ranks, i, rank);
+    }
 }
 
 // Whether a later epoch of the same member is kept.
@@ -180,13 +210,13 @@ fn rank_alone(order: &[usize], ranks: &mut [usize])
     }
 }
 
-// The rank of the greatest epoch up to the node at this index in order of names, if those before it
-// have such ranks and it has its own.
+// The rank of the greatest epoch up to the node at this index in order of names, if that has the rank
+// of its own epoch and the one before has such a rank.
 fn raised_rank(nodes: &[Placed], by_name: &[usize], ranks: &[usize], i: usize) -> usize
     requires sorted { AreSorted name_cmp nodes.now by_name.now }
     requires whole { length ranks.now ≡ length nodes.now }
     requires within { i < length by_name.now }
-    ensures rank { (order : List ℕ) → AreSorted (epoch_cmp (nodes_of nodes.now)) nodes.now order → AreRaised nodes.now by_name.now order i ranks.now → IsRank nodes.now order (name_in nodes.now by_name.now i) result }
+    ensures rank { (order : List ℕ) → AreSorted (epoch_cmp (nodes_of nodes.now)) nodes.now order → IsOwn order (slice_index by_name.now i) (slice_index ranks.now (slice_index by_name.now i)) → (0 < i → IsRank nodes.now order (name_in nodes.now by_name.now (i - 1)) (slice_index ranks.now (slice_index by_name.now (i - 1)))) → IsRank nodes.now order (name_in nodes.now by_name.now i) result }
 {
     let place = by_name[i];
     let rank = rank_of(ranks, place);

@@ -13,9 +13,9 @@ rank_of-rank-requires c =
 
 pub returns-then-i-eq0 : goal.returns-then-i-eq0
 returns-then-i-eq0 c = record {
-  rank = λ order o a.
+  rank = λ order o own before.
       subst (IsRank c.args.nodes.now order (name_in c.args.nodes.now c.args.by_name.now c.args.i)) (sym c.rank_of-rank.ensures.rank)
-      (raised_first c.args.nodes.now c.args.by_name.now c.requires.sorted order c.args.ranks.now o c.args.i c.requires.within a (omega arith));
+      (raised_first c.args.nodes.now c.args.by_name.now c.requires.sorted order o c.args.i c.requires.within (slice_index c.args.ranks.now (slice_index c.args.by_name.now c.args.i)) own (omega arith));
 }
 
 pub name_of-requires : goal.name_of-requires
@@ -34,7 +34,7 @@ returns-then-not-is_up_to c =
     let u : up_to (name_in ps names i) (name_in ps names (i - 1)) ≡ false =
     ap (λ e. up_to e (name_in ps names (i - 1))) (sym c.name_of.ensures.name) ∙ (ap (up_to c.name_of.result) (sym c.name_of-2.ensures.name) ∙ (sym c.is_up_to.ensures.up_to ∙ c.if-not-is_up_to.true)) in
     record {
-      rank = λ order o a. subst (IsRank ps order (name_in ps names i)) (sym c.rank_of-rank.ensures.rank) (raised_other ps names c.requires.sorted order c.args.ranks.now o i c.requires.within a (omega arith) u);
+      rank = λ order o own before. subst (IsRank ps order (name_in ps names i)) (sym c.rank_of-rank.ensures.rank) (raised_other ps names c.requires.sorted order o i c.requires.within (slice_index c.args.ranks.now (slice_index names i)) own (omega arith) u);
     }
 
 pub rank_of-requires : goal.rank_of-requires
@@ -60,4 +60,4 @@ returns c =
     let least : mine ≤ c.max.result = omega arith in
     let most : before ≤ c.max.result = omega arith in
     let either : (c.max.result ≡ mine) ⊎ (c.max.result ≡ before) = ⊎_elim (λ h. inr (omega arith)) (λ h. inl (omega arith)) (cases_lt mine before) in
-    record { rank = λ order o r. raised_more ps names c.requires.sorted order ranks o i c.requires.within r (omega arith) u c.max.result least most either }
+    record { rank = λ order o own is. raised_more ps names c.requires.sorted order o i c.requires.within mine own (omega arith) u before (is (omega arith)) c.max.result least most either }

@@ -1,4 +1,4 @@
-use Rattle.std.proofs.Common.{◌+◌, ◌<◌, length, sym, subst, ◌∙◌, arith}
+use Rattle.std.proofs.Common.{◌+◌, ◌-◌, ◌<◌, length, sym, subst, ◌∙◌, arith}
 use Rattle.rls_rename.specs.Tree.{epoch_cmp}
 use Rattle.rls_epoch.specs.Ranks.{AreRaised}
 use Rattle.rls_epoch.specs.Seen.{nodes_of}
@@ -35,9 +35,10 @@ loop-i-preserved c =
     let order = c.args.order.now in
     let i = c.loop-i.i in
     let wi : i < length names = omega arith in
-    let r = c.raised_rank-rank.ensures.rank order c.requires.order_is c.loop-i.invariant in
+    let v = c.loop-i.invariant in
+    let r = c.raised_rank-rank.ensures.rank order c.requires.order_is (v.own i (omega arith) wi) (λ z. v.ranked (i - 1) (omega arith) (omega arith)) in
     subst (AreRaised ps names order (i + 1)) (sym c.set_rank.ensures.put)
-    (raised_next ps names c.requires.by_name_is order c.loop-i.ranks c.requires.order_is i wi c.loop-i.invariant c.raised_rank-rank.result r)
+    (raised_next ps names c.requires.by_name_is order c.loop-i.ranks i wi v c.raised_rank-rank.result r)
 
 pub returns : goal.returns
 returns c = record { ranked = raised_ends c.args.nodes.now c.args.by_name.now c.requires.by_name_is c.args.order.now c.loop-i.ranks c.loop-i.i c.loop-i.invariant (omega arith) }

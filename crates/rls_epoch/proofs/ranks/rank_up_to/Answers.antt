@@ -6,7 +6,7 @@ use Rattle.rls_epoch.proofs.ranks.rank_up_to.Goals as goal
 
 pub returns-then-end-eq0 : goal.returns-then-end-eq0
 returns-then-end-eq0 c = record {
-  rank = λ order w a. rank_none c.args.nodes.now c.args.by_name.now c.requires.sorted order c.args.ranks.now w a c.args.name c.names_up_to-end.result c.names_up_to-end.ensures.end (omega arith);
+  rank = λ order w a. rank_none c.args.nodes.now c.args.by_name.now c.requires.sorted order w c.args.ranks.now a c.args.name c.names_up_to-end.result c.names_up_to-end.ensures.end (omega arith);
 }
 
 pub name_of-requires : goal.name_of-requires
@@ -28,11 +28,11 @@ returns-then-is_up_to c =
     record {
       rank = λ order w a.
           subst (IsRank c.args.nodes.now order c.args.name) (sym c.rank_of.ensures.rank)
-          (rank_before c.args.nodes.now c.args.by_name.now c.requires.sorted order c.args.ranks.now w a c.args.name n c.names_up_to-end.ensures.end (omega arith) u);
+          (rank_before c.args.nodes.now c.args.by_name.now c.requires.sorted order w c.args.ranks.now a c.args.name n c.names_up_to-end.ensures.end (omega arith) u);
     }
 
 pub returns-else-is_up_to : goal.returns-else-is_up_to
 returns-else-is_up_to c =
     let n = c.names_up_to-end.result in
     let u = ap (up_to c.args.name) (sym c.name_of.ensures.name) ∙ (sym c.is_up_to.ensures.up_to ∙ c.if-is_up_to.false) in
-    record { rank = λ order w a. rank_other c.args.nodes.now c.args.by_name.now c.requires.sorted order c.args.ranks.now w a c.args.name n c.names_up_to-end.ensures.end (omega arith) u }
+    record { rank = λ order w a. rank_other c.args.nodes.now c.args.by_name.now c.requires.sorted order w c.args.ranks.now a c.args.name n c.names_up_to-end.ensures.end (omega arith) u }

@@ -1,5 +1,6 @@
 use Rattle.std.proofs.Common.{rules, ◌≡◌, ℕ, List, [], ◌∷◌, ◌++◌, length, refl, sym, ap, ◌∙◌, subst, arith, length-append}
 use Rattle.std.specs.Prelude.{insert}
+use Rattle.std.proofs.lemmas.List.{length-map}
 use Rattle.rls_ident.specs.declared.epoch_name.EpochName.{EpochName}
 use Rattle.rls_ident.specs.declared.epoch_name.EpochName.TheVariants.{Of}
 use Rattle.rls_rename.specs.Tree.{name_of, is_kept}
@@ -7,7 +8,7 @@ use Rattle.rls_epoch.specs.declared.placed.Placed.{Placed}
 use Rattle.rls_epoch.specs.Climbing.{name_cmp}
 use Rattle.rls_epoch.specs.Ranks.{AreRanked}
 use Rattle.rls_epoch.specs.Seen.{AreLaid, EpochsSeen, marks_of, nodes_of}
-use Rattle.rls_epoch.specs.Sorted.{names_at, IsCut}
+use Rattle.rls_epoch.specs.Sorted.{place_name, names_at, IsCut}
 use Rattle.rls_epoch.proofs.Added.{grown}
 use Rattle.rls_epoch.proofs.Shrinking.{written}
 use Rattle.rls_epoch.proofs.Whole.{laid_more, marks_more, whole_more}
@@ -81,6 +82,35 @@ rank_added-requires-clause-order_is c =
     let ordered_in : c.insert-2.new.self.items ≡ insert order j c.len-place.result = search rules in
     rw (c.as_slice-7.ensures.value, c.as_slice-9.ensures.value, pushed, ordered_in, place) g.order_is
 
+pub rank_added-requires-clause-added : goal.rank_added-requires-clause-added
+rank_added-requires-clause-added c =
+    let ps = c.self.inside.nodes.items in
+    let order = c.self.inside.order.items in
+    let j = c.epochs_below-order.result in
+    let R = c.args.renaming in
+    let p : Placed = record { parent = c.args.parent; up = c.number_of-up.result; renaming = R } in
+    let place : c.len-place.result ≡ length ps = search rules in
+    let pushed : c.push.new.self.items ≡ ps ++ p ∷ [] = search rules in
+    let after = c.as_slice-5.ensures.value ∙ pushed in
+    let ordered_in : c.insert-2.new.self.items ≡ insert order j c.len-place.result = search rules in
+    let ranked_in : c.push-2.new.self.items ≡ c.self.inside.ranks.items ++ 0 ∷ [] = search rules in
+    let cut = rw (after, c.as_slice-6.ensures.value) at c.epochs_below-order.ensures.cut in
+    let y = cut.in_range in
+    let v = length-map order (place_name (ps ++ p ∷ [])) in
+    rw (c.as_slice-7.ensures.value, c.as_slice-9.ensures.value, c.as_mut_slice.ensures.value, pushed, ordered_in, ranked_in, place)
+    (record {
+      older = ps;
+      node = p;
+      front = order;
+      before = c.self.inside.ranks.items;
+      nodes_are = refl;
+      order_is = refl;
+      ranks_are = refl;
+      place = omega arith;
+      within = c.self.invariant.order_is.within;
+      ranked = c.self.invariant.ranked;
+    })
+
 pub returns-clause-marks : goal.returns-clause-marks
 returns-clause-marks c =
     let ps = c.self.inside.nodes.items in
@@ -114,14 +144,14 @@ invariant_of-self c =
     let named_in : c.insert.new.self.items ≡ insert names i c.len-place.result = search rules in
     let ordered_in : c.insert-2.new.self.items ≡ insert order j c.len-place.result = search rules in
     let ms = c.self.inside.marks.items in
-    let ranked_in : c.push-2.new.self.items ≡ c.self.inside.ranks.items ++ c.len-2.result ∷ [] = search rules in
+    let ranked_in : c.push-2.new.self.items ≡ c.self.inside.ranks.items ++ 0 ∷ [] = search rules in
     let marked : c.push-3.new.self.items ≡ ms ++ 0 ∷ [] = search rules in
     let new = c.rank_added.new.ranks in
     let r = c.rank_added.ensures.ranked in
     let nodes = c.as_slice-7.ensures.value ∙ pushed in
     let orders = c.as_slice-9.ensures.value ∙ (ordered_in ∙ ap (insert order j) place) in
     let ranked = subst (λ (xs : List ℕ). AreRanked (ps ++ p ∷ []) xs new) orders (subst (λ (xs : List Placed). AreRanked xs c.as_slice-9.result.now new) nodes r) in
-    let long = ap length ranked_in ∙ length-append c.self.inside.ranks.items (c.len-2.result ∷ []) in
+    let long = ap length ranked_in ∙ length-append c.self.inside.ranks.items (0 ∷ []) in
     let more = length-append ps (p ∷ []) in
     let w = c.self.invariant.ranked.whole in
     let w2 = ranked.whole in
