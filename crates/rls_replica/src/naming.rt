@@ -15,7 +15,7 @@ use crate::hints::{Hint, Hints};
 use crate::replica::Replica;
 use rls_ident::{EpochName, Ident};
 use rls_ops::{Body, Op};
-use rls_runs::{Run, RunError, Runs};
+use rls_runs::{Run, Runs};
 use std::alloc::{AllocError, Global};
 
 impl Replica {
@@ -256,7 +256,7 @@ fn part_of(alloc: Global, ids: &Runs, at: u64, count: u32) -> Result<Runs, Alloc
 {
     let (run, from) = ids.locate(at);
     let len = count.max(1).min(run.len() - from);
-    let piece = part_of_run(run, from, len)?;
+    let piece = run.part(from, len)?;
     let part = alone(alloc, piece)?;
     Ok(part)
 }
@@ -269,20 +269,6 @@ fn alone(alloc: Global, run: Run) -> Result<Runs, AllocError>
     let mut runs = Runs::new(alloc);
     runs.append(run)?;
     Ok(runs)
-}
-
-// So many identifiers of a run from a place on.
-fn part_of_run(run: &Run, from: u32, len: u32) -> Result<Run, AllocError>
-    requires some { 0 < len }
-    requires within { from + len ≤ run.now.1 }
-    ensures part { IfOk result (λ part. part ≡ (shifted (pos from) run.now.0, len)) }
-{
-    let _len = run.len();
-    match Run::new(run.first().shifted(from)?, len) {
-        Ok(part) => Ok(part),
-        Err(RunError::Empty) => unreachable!(),
-        Err(RunError::OffsetEnd) => unreachable!(),
-    }
 }
 
 // How many identifiers from the first one on, within its run, are others from a place on.

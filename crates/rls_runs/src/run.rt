@@ -1,9 +1,9 @@
 //! Runs.
 
-ghost use Rattle.std.specs.Prelude.{◌≡◌, ℕ, ◌+◌, ◌<◌, ◌⊎◌, List, ◌∷◌, ◌++◌, [], length, ◌+ℤ◌, ◌<ℤ◌, ◌≤ℤ◌, pos, ◌↔◌, IfOk, IfErr, IsErrOf, IsTrue};
+ghost use Rattle.std.specs.Prelude.{◌≡◌, ℕ, ◌+◌, ◌<◌, ◌≤◌, ◌⊎◌, List, ◌∷◌, ◌++◌, [], length, ◌+ℤ◌, ◌<ℤ◌, ◌≤ℤ◌, pos, ◌↔◌, IfOk, IfErr, IsErrOf, IsTrue};
 ghost use Rattle.rls_ident.specs.declared.tuple.Tuple.{Tuple};
 ghost use Rattle.rls_ident.specs.Tuples.{at_spot, offset_of};
-ghost use Rattle.rls_ident.specs.Identifiers.{last_of, ident_lt, follows};
+ghost use Rattle.rls_ident.specs.Identifiers.{last_of, ident_lt, shifted, follows};
 ghost use Rattle.rls_runs.specs.Runs.{run_idents, run_last, place_of, is_run, past_offsets};
 ghost use Rattle.rls_runs.specs.Places.{find_ident};
 
@@ -103,6 +103,20 @@ impl Run {
         ensures touches { result ≡ follows id.now (run_last self.now) }
     {
         id.follows_by(&self.first, self.len)
+    }
+
+    /// `len` of its identifiers, from a place on.
+    pub fn part(&self, from: u32, len: u32) -> Result<Run, AllocError>
+        requires some { 0 < len }
+        requires within { from + len ≤ self.now.1 }
+        ensures part { IfOk result (λ part. part ≡ (shifted (pos from) self.now.0, len)) }
+    {
+        let _len = self.len();
+        match Run::new(self.first().shifted(from)?, len) {
+            Ok(part) => Ok(part),
+            Err(RunError::Empty) => unreachable!(),
+            Err(RunError::OffsetEnd) => unreachable!(),
+        }
     }
 
     // Has so many more identifiers at its end.

@@ -113,7 +113,7 @@ impl Block {
         ensures ok { OnOk result (self.new ≡ part_of 0 at self.old) }
         ensures err { OnErr result (self.new ≡ self.old) }
     {
-        let front = part_of_run(&self.run, 0, at)?;
+        let front = self.run.part(0, at)?;
         self.shorten(front);
         Ok(())
     }
@@ -134,24 +134,10 @@ impl Block {
         ensures ok { OnOk result (self.new ≡ part_of from (self.old.0.1 - from) self.old) }
         ensures err { OnErr result (self.new ≡ self.old) }
     {
-        let run = part_of_run(&self.run, from, self.run.len() - from)?;
+        let run = self.run.part(from, self.run.len() - from)?;
         self.text.drop_front(from as usize);
         self.run = run;
         Ok(())
-    }
-}
-
-/// So many identifiers of a run from a place on.
-pub(crate) fn part_of_run(run: &Run, from: u32, len: u32) -> Result<Run, AllocError>
-    requires some { 0 < len }
-    requires within { from + len ≤ run.now.1 }
-    ensures part { IfOk result (λ part. part ≡ (shifted (pos from) run.now.0, len)) }
-{
-    let _len = run.len();
-    match Run::new(run.first().shifted(from)?, len) {
-        Ok(part) => Ok(part),
-        Err(RunError::Empty) => unreachable!(),
-        Err(RunError::OffsetEnd) => unreachable!(),
     }
 }
 

@@ -3,7 +3,7 @@
 ghost use Rattle.std.specs.Prelude.{◌≡◌, ◌+◌, ◌-◌, ◌<◌, ◌≤◌, length, IfOk, IfErr};
 ghost use Rattle.rls_tree.specs.Edits.{part_of};
 
-use crate::block::{Block, part_of_run, part_of_text};
+use crate::block::{Block, part_of_text};
 use crate::node::Single;
 use std::alloc::{AllocError, Global};
 
@@ -62,7 +62,7 @@ pub(crate) fn keep_ends(
 {
     let _first = first.len();
     let _last = last.len();
-    let Ok(front) = part_of_run(first.run(), 0, at) else {
+    let Ok(front) = first.run().part(0, at) else {
         return Err((first, last));
     };
     match last.keep_back(from) {
@@ -81,7 +81,7 @@ fn part_alone(alloc: Global, own: &Single, from: u32, len: u32) -> Result<Single
     ensures part { IfOk result (λ part. part ≡ part_of from len own.now) }
 {
     let _len = own.len();
-    let run = part_of_run(own.run(), from, len)?;
+    let run = own.run().part(from, len)?;
     let text = part_of_text(alloc, own.text(), from as usize, len as usize)?;
     Single::new(alloc, Block::new(run, text))
 }

@@ -10,7 +10,7 @@ ghost use Rattle.rls_tree.specs.Edits.{are_loose, goes_on, leads_to, Shows, gap_
 ghost use Rattle.rls_tree.specs.Patches.{before, after, IsBetween, patched, ArePatches};
 ghost use Rattle.rls_tree.specs.Gaps.{AreGaps, filled, is_gap, Leaves};
 
-use crate::block::{Block, part_of_run, part_of_text};
+use crate::block::{Block, part_of_text};
 use crate::build::built;
 use crate::patch::{Patch, push_block};
 use crate::removal::{ends_before, most_of};
@@ -79,7 +79,7 @@ impl BlockTree {
         let _blocks = self.blocks();
         let _len = run.len();
         let (at, end) = self.gap_of(run, done)?;
-        let part = part_of_run(run, done, end - done)?;
+        let part = run.part(done, end - done)?;
         let chars = part_of_text(self.alloc(), text, done as usize, (end - done) as usize)?;
         let block = Block::new(part, chars);
         gaps.push_back(Gap { at, block })?;

@@ -9,7 +9,7 @@ ghost use Rattle.rls_tree.specs.Trees.{ArePieces, entries_of, piece_entries, run
 ghost use Rattle.rls_tree.specs.Edits.{are_loose, inserted, located, removed};
 ghost use Rattle.rls_tree.specs.Patches.{patched, ArePatches};
 
-use crate::block::{Block, part_of_run, part_of_text};
+use crate::block::{Block, part_of_text};
 use crate::build::built;
 use crate::insert::insert_at;
 use crate::node::{Link, Node};
@@ -179,7 +179,7 @@ impl BlockTree {
         let _chars = self.chars();
         let (block, at) = self.locate(i);
         let len = (block.len() - at).min(most);
-        part_of_run(block.run(), at, len)
+        block.run().part(at, len)
     }
 
     /// How many identifiers of a run, from a place of the run on, are adjacent in the tree. There is none if
@@ -214,7 +214,7 @@ impl BlockTree {
         let _chars = self.chars();
         let (block, at) = self.locate(i);
         let len = (block.len() - at).min(most);
-        let run = part_of_run(block.run(), at, len)?;
+        let run = block.run().part(at, len)?;
         let text = part_of_text(self.alloc, block.text(), at as usize, len as usize)?;
         Ok((run, text))
     }

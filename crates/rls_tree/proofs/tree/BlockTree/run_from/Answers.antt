@@ -22,11 +22,11 @@ returns c =
     let at = part_at bs i j n b c.chars-chars.ensures.pieces c.locate-at.ensures.located (omega (arith, c.len.ensures.len, c.locate-at.ensures.within, c.min-len.ensures)) some in
     let w = at.1 in
     let all = idents_located bs i j n b c.chars-chars.ensures.pieces c.locate-at.ensures.located many (omega (arith, many, c.len.ensures.len, c.locate-at.ensures.within, c.min-len.ensures)) some in
-    let len = IfOk-weaker c.part_of_run.result _ (λ (q : List Tuple × ℕ). q.1 ≡ n) (λ r h. ap (λ (q : List Tuple × ℕ). q.1) h) c.part_of_run.ensures.part in
+    let len = IfOk-weaker c.part.result _ (λ (q : List Tuple × ℕ). q.1 ≡ n) (λ r h. ap (λ (q : List Tuple × ℕ). q.1) h) c.part.ensures.part in
     record {
-      some = IfOk-weaker c.part_of_run.result _ _ (λ r l. omega (arith, l, some)) len;
-      most = IfOk-weaker c.part_of_run.result _ _ (λ r l. omega (arith, l, c.min-len.ensures)) len;
-      within = IfOk-weaker c.part_of_run.result _ _ (λ r l. omega (arith, l, w)) len;
-      idents = IfOk-weaker c.part_of_run.result _ _ (λ r h. let k = h ∙ ap (λ q. (shifted (pos j) q.0, n)) c.run.ensures.run in
-          ap (λ (q : List Tuple × ℕ). take q.1 (drop i (idents_in (entries_of bs)))) k ∙ all ∙ ap (λ (q : List Tuple × ℕ). run_idents q.0 q.1) (sym k)) c.part_of_run.ensures.part;
+      some = IfOk-weaker c.part.result _ _ (λ r l. omega (arith, l, some)) len;
+      most = IfOk-weaker c.part.result _ _ (λ r l. omega (arith, l, c.min-len.ensures)) len;
+      within = IfOk-weaker c.part.result _ _ (λ r l. omega (arith, l, w)) len;
+      idents = IfOk-weaker c.part.result _ _ (λ r h. let k = h ∙ ap (λ q. (shifted (pos j) q.0, n)) c.run.ensures.run in
+          ap (λ (q : List Tuple × ℕ). take q.1 (drop i (idents_in (entries_of bs)))) k ∙ all ∙ ap (λ (q : List Tuple × ℕ). run_idents q.0 q.1) (sym k)) c.part.ensures.part;
     }
