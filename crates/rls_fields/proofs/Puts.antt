@@ -19,7 +19,7 @@ use Rattle.rls_model.specs.declared.parts.Stem.{Stem}
 use Rattle.rls_model.specs.declared.parts.EpochPart.{EpochPart}
 use Rattle.rls_model.specs.declared.parts.TextRun.{TextRun}
 use Rattle.rls_model.specs.Parts.{epoch_part, epoch_parts, node_of, top_part}
-use Rattle.rls_tree.specs.Trees.{Piece}
+use Rattle.rls_blocks.specs.Trees.{Piece}
 use Rattle.rls_seen.specs.Kept.{other_rows, left_below}
 use Rattle.rls_snapshot.specs.Blocks.{run_with_text, runs_with_texts}
 use Rattle.rls_fields.specs.FieldSizes.{epoch_size, rest_size, opening, text_run_size}

@@ -11,7 +11,7 @@ use Rattle.rls_ops.specs.Waiting.{comes_before, is_in_order, is_numbered, waitin
 use Rattle.rls_model.specs.declared.parts.TextRun.{TextRun}
 use Rattle.rls_seen.specs.Sane.{AreHeld}
 use Rattle.rls_causal.specs.Putting.{put_beside, put_in}
-use Rattle.rls_tree.specs.Trees.{Piece, Tree, entries_of, runs_in}
+use Rattle.rls_blocks.specs.Trees.{Piece, Tree, entries_of, runs_in}
 use Rattle.rls_parts.specs.Given.{HaveTexts}
 use Rattle.rls_parts.specs.Reading.{epochs_of}
 use Rattle.rls_parts.specs.Restored.{acks_of, seen_of}

@@ -1,6 +1,6 @@
 -- What a replica is seen as.
 use Rattle.std.specs.Prelude.{◌≡◌, ℕ}
-use Rattle.rls_tree.specs.Trees.{entries_of}
+use Rattle.rls_blocks.specs.Trees.{entries_of}
 use Rattle.rls_seen.specs.Seen.{Seen, members}
 use Rattle.rls_seen.specs.Sane.{IsSane}
 use Rattle.rls_replica.specs.declared.replica.Replica.TheInside.{Inside}

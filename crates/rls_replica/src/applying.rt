@@ -13,7 +13,7 @@ ghost use Rattle.rls_model.specs.Stems.{stems_after};
 ghost use Rattle.rls_seen.specs.Over.{accepted, acks_after, epochs_after, first_ready, refusal_over, released};
 ghost use Rattle.rls_seen.specs.Sane.{MayApply};
 ghost use Rattle.rls_epoch.specs.Seen.{former_sum};
-ghost use Rattle.rls_tree.specs.Trees.{entries_of};
+ghost use Rattle.rls_blocks.specs.Trees.{entries_of};
 ghost use Rattle.rls_replica.specs.Changing.{former_in, renaming_in, MayPrepare, IsTextAfter, MayFinish, MayInsert, MayRename};
 
 use crate::renaming_text::RenamingText;

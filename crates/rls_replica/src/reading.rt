@@ -4,7 +4,7 @@ ghost use Rattle.std.specs.Prelude.{◌≡◌, ◌+◌, ◌-◌, ◌^◌, ◌<�
 ghost use Rattle.rls_ident.specs.declared.limits.TheConstants.{MEMBERS};
 ghost use Rattle.rls_ops.specs.Rows.{left};
 ghost use Rattle.rls_runs.specs.Runs.{place_of};
-ghost use Rattle.rls_tree.specs.Trees.{entries_of};
+ghost use Rattle.rls_blocks.specs.Trees.{entries_of};
 ghost use Rattle.rls_model.specs.Document.{export, text, idents};
 ghost use Rattle.rls_model.specs.Epochs.{greatest};
 ghost use Rattle.rls_model.specs.History.{count};

@@ -10,7 +10,7 @@ ghost use Rattle.rls_model.specs.Parts.{parts as parts_of};
 ghost use Rattle.rls_model.specs.Receiving.{State};
 ghost use Rattle.rls_seen.specs.Kept.{parts_over};
 ghost use Rattle.rls_seen.specs.Stands.{StandsFor};
-ghost use Rattle.rls_tree.specs.Trees.{entries_of};
+ghost use Rattle.rls_blocks.specs.Trees.{entries_of};
 ghost use Rattle.rls_parts.specs.Given.{AreGiven, AreRanged, HaveTexts};
 ghost use Rattle.rls_parts.specs.Restored.{entries_of as entries_in, seen_of};
 ghost use Rattle.rls_parts.specs.Rules.{broken};

@@ -3,7 +3,7 @@ use Rattle.std.proofs.Common.{◌≡◌, ◌∙◌, List, [], ◌∷◌, ◌++�
 use Rattle.std.specs.Prelude.{zip, None}
 use Rattle.rls_runs.specs.Runs.{are_apart, run_idents}
 use Rattle.rls_model.specs.Parts.{text_runs}
-use Rattle.rls_tree.specs.Trees.{Piece, ArePieces, entries_of, runs_in}
+use Rattle.rls_blocks.specs.Trees.{Piece, ArePieces, entries_of, runs_in}
 use Rattle.rls_parts.specs.Given.{HaveTexts}
 use Rattle.rls_parts.specs.Restored as restored
 use Rattle.rls_parts.proofs.RestoredText.{text_restored}

@@ -1,7 +1,7 @@
 -- The blocks of a tree as parts.
 use Rattle.std.specs.Prelude.{List, map}
 use Rattle.rls_model.specs.declared.parts.TextRun.{TextRun}
-use Rattle.rls_tree.specs.Trees.{Piece}
+use Rattle.rls_blocks.specs.Trees.{Piece}
 
 -- a run with its characters
 abbrev pub run_with_text : Piece → TextRun

@@ -2,7 +2,7 @@
 
 ghost use Rattle.std.specs.Prelude.{◌≡◌, ◌++◌, IfOk, OnOk};
 ghost use Rattle.rls_model.specs.Parts.{text_runs};
-ghost use Rattle.rls_tree.specs.Trees.{entries_of};
+ghost use Rattle.rls_blocks.specs.Trees.{entries_of};
 ghost use Rattle.rls_snapshot.specs.Blocks.{runs_with_texts};
 
 use rls_model::{TextRun, TextRuns};

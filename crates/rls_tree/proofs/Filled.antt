@@ -19,10 +19,10 @@ use Rattle.rls_runs.proofs.RunPlaces.{found_is}
 use Rattle.rls_runs.proofs.Sorted.{Entry, AreApart, AllApart, put_all_append, rises_all, distinct_of, rises_of_increasing, increasing_of_rises}
 use Rattle.rls_runs.proofs.Gaps.{AreBelow, below_take, below_from, firsts_less, rests_below, rising_below, less_drop, read_err}
 use Rattle.rls_tree.specs.declared.insertion.Gap.{Gap}
-use Rattle.rls_tree.specs.Trees.{Piece, piece_entries}
-use Rattle.rls_tree.specs.Edits.{part_of, gap_end}
-use Rattle.rls_tree.specs.Gaps.{filled, AreGaps, is_gap, last_gap, Leaves}
-use Rattle.rls_tree.proofs.AtPlaces.{idents_append, piece_idents}
+use Rattle.rls_blocks.specs.Trees.{Piece, piece_entries}
+use Rattle.rls_blocks.specs.Edits.{part_of}
+use Rattle.rls_tree.specs.Gaps.{gap_end, filled, AreGaps, is_gap, last_gap, Leaves}
+use Rattle.rls_blocks.proofs.AtPlaces.{idents_append, piece_idents}
 use Rattle.rls_tree.proofs.Puts.{put_gap, parted, headed, idents_take, idents_drop, whole_place, next_later, next_below, part_is}
 
 -- ---- places

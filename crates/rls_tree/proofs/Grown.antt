@@ -6,16 +6,16 @@ use Rattle.std.proofs.lemmas.Option.{slice_get-get_or}
 use Rattle.rls_ident.proofs.Members.{lt_is, not_lt_is}
 use Rattle.rls_runs.specs.Entries.{Entries}
 use Rattle.rls_runs.proofs.Sorted.{Entry}
-use Rattle.rls_tree.specs.declared.patch.Patch.{Patch}
+use Rattle.rls_blocks.specs.declared.patch.Patch.{Patch}
 use Rattle.rls_tree.specs.declared.insertion.Gap.{Gap}
-use Rattle.rls_tree.specs.Trees.{Piece, IsPiece, ArePieces, piece_entries, entries_of, runs_in}
-use Rattle.rls_tree.specs.Edits.{goes_on, leads_to, are_loose, Shows}
-use Rattle.rls_tree.specs.Patches.{before, after, IsBetween, patched}
+use Rattle.rls_blocks.specs.Trees.{Piece, IsPiece, ArePieces, piece_entries, entries_of, runs_in}
+use Rattle.rls_blocks.specs.Edits.{goes_on, leads_to, are_loose, Shows}
+use Rattle.rls_blocks.specs.Patches.{before, after, IsBetween, patched}
 use Rattle.rls_tree.specs.Gaps.{filled, AreGaps, is_gap}
-use Rattle.rls_tree.proofs.Loose.{last_run}
-use Rattle.rls_tree.proofs.Pieces.{piece_length, piece_some}
+use Rattle.rls_blocks.proofs.Loose.{last_run}
+use Rattle.rls_blocks.proofs.Pieces.{piece_length, piece_some}
 use Rattle.rls_tree.proofs.Puts.{headed}
-use Rattle.rls_tree.proofs.Patches.{none_before}
+use Rattle.rls_blocks.proofs.Patches.{none_before}
 use Rattle.rls_tree.proofs.Planned.{Planned, unplanned, end_of, old, led, some_blocks, entries_more, begins_alike, begins_first, begins_apart, ends_apart, planned_more, all_entries, all_loose}
 use Rattle.rls_tree.proofs.Filled.{filled_later, first_gap, gaps_within, gap_later}
 

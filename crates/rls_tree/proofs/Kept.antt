@@ -8,15 +8,16 @@ use Rattle.rls_ident.specs.declared.tuple.Tuple.{Tuple}
 use Rattle.rls_ident.proofs.Members.{lt_is, not_lt_is}
 use Rattle.rls_runs.specs.Entries.{Entries, idents_in, has_ident, without_all}
 use Rattle.rls_runs.proofs.Sorted.{Entry}
-use Rattle.rls_tree.specs.declared.patch.Patch.{Patch}
-use Rattle.rls_tree.specs.Trees.{Piece, ArePieces, entries_of, runs_in}
-use Rattle.rls_tree.specs.Edits.{leads_to, are_loose, Shows}
-use Rattle.rls_tree.specs.Patches.{before, after, IsBetween, patched, AreMembers}
-use Rattle.rls_tree.proofs.Loose.{last_run}
+use Rattle.rls_blocks.specs.declared.patch.Patch.{Patch}
+use Rattle.rls_blocks.specs.Trees.{Piece, ArePieces, entries_of, runs_in}
+use Rattle.rls_blocks.specs.Edits.{leads_to, are_loose, Shows}
+use Rattle.rls_blocks.specs.Patches.{before, after, IsBetween, patched}
+use Rattle.rls_tree.specs.Targets.{AreMembers}
+use Rattle.rls_blocks.proofs.Loose.{last_run}
 use Rattle.rls_tree.proofs.Located.{mapped_at}
 use Rattle.rls_tree.proofs.Puts.{headed}
 use Rattle.rls_tree.proofs.Without.{without_append}
-use Rattle.rls_tree.proofs.Patches.{none_before}
+use Rattle.rls_blocks.proofs.Patches.{none_before}
 use Rattle.rls_tree.proofs.Targets.{part_stays}
 use Rattle.rls_tree.proofs.Planned.{Planned, unplanned, old, entries_more, begins_alike, begins_first, ends_apart, planned_more, some_blocks, all_entries, all_loose}
 

@@ -5,7 +5,7 @@ use Rattle.rls_ident.specs.declared.tuple.Tuple.{Tuple}
 use Rattle.rls_ident.specs.Identifiers.{shifted}
 use Rattle.rls_runs.specs.Runs.{run_idents}
 use Rattle.rls_runs.proofs.RunOrder.{run_gets}
-use Rattle.rls_tree.specs.Trees.{Piece, IsPiece, piece_entries}
+use Rattle.rls_blocks.specs.Trees.{Piece, IsPiece, piece_entries}
 use Rattle.std.proofs.lemmas.Option.{slice_get-map}
 use Rattle.std.specs.Option.{option_map}
 

@@ -6,14 +6,15 @@ use Rattle.rls_ident.specs.declared.tuple.Tuple.{Tuple}
 use Rattle.rls_runs.specs.Entries.{Entries}
 use Rattle.rls_runs.proofs.RunOrder.{run_some}
 use Rattle.rls_runs.proofs.Sorted.{Entry}
-use Rattle.rls_tree.specs.declared.patch.Patch.{Patch}
-use Rattle.rls_tree.specs.Trees.{Piece, IsPiece, ArePieces, entries_of, runs_in}
-use Rattle.rls_tree.specs.Edits.{goes_on, leads_to, are_loose}
-use Rattle.rls_tree.specs.Patches.{before, after, IsBetween, patched, ArePatches}
-use Rattle.rls_tree.proofs.Pieces.{entries_append, chars_append}
-use Rattle.rls_tree.proofs.Loose.{last_run, replaced, leads_not, loose_again, loose_right, run_irrelevant, runs_append}
-use Rattle.rls_tree.proofs.Cases.{last_more}
-use Rattle.rls_tree.proofs.Patches.{none_before, before_more, after_more, seam, are_left, are_right, before_both, all_before, patched_more, patches_more}
+use Rattle.rls_blocks.specs.declared.patch.Patch.{Patch}
+use Rattle.rls_blocks.specs.Trees.{Piece, IsPiece, ArePieces, entries_of, runs_in}
+use Rattle.rls_blocks.specs.Edits.{goes_on, leads_to, are_loose}
+use Rattle.rls_blocks.specs.Patches.{before, after, IsBetween, patched, ArePatches}
+use Rattle.rls_blocks.proofs.Pieces.{entries_append, chars_append}
+use Rattle.rls_blocks.proofs.Loose.{last_run, replaced, leads_not, loose_again, loose_right, run_irrelevant, runs_append}
+use Rattle.rls_blocks.proofs.Cases.{last_more}
+use Rattle.rls_blocks.proofs.Patches.{none_before, before_more, after_more, seam, before_both, all_before, patched_more, patches_more}
+use Rattle.rls_blocks.proofs.Splits.{are_left, are_right}
 
 -- the place after the last patch, which is the first one here
 abbrev pub end_of : List Patch → ℕ

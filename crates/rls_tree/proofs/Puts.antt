@@ -1,28 +1,29 @@
 -- Entries put in where there is a gap for them, and one after another.
 use Rattle.std.proofs.Common.{◌≡◌, ℕ, zero, suc, ◌+◌, ◌-◌, ◌<◌, ◌≤◌, inr, true, false, List, [], ◌∷◌, ◌++◌, length, take, drop, Some, Ok, Err, slice_get, refl, sym, ap, ◌∙◌, subst, arith, length-drop, append_assoc}
-use Rattle.std.specs.Prelude.{if◌then◌else◌, pos, zip}
+use Rattle.std.specs.Prelude.{if◌then◌else◌, pos}
 use Rattle.std.proofs.lemmas.List.{take-append-drop, append-nil, drop-take, take_all, length-take-le, length-map, drop-drop, take-map, drop-map}
 use Rattle.std.proofs.Math.ListN.{drop_of_length-le}
 use Rattle.std.proofs.Math.Seq.{take-append_seam, drop-append_seam}
 use Rattle.rls_ident.specs.declared.tuple.Tuple.{Tuple}
 use Rattle.rls_ident.specs.Identifiers.{ident_lt, shifted}
-use Rattle.rls_runs.specs.Runs.{run_idents, run_last, idents_of, is_increasing, is_run, place_of}
+use Rattle.rls_runs.specs.Runs.{run_idents, run_last, is_increasing, is_run, place_of}
 use Rattle.rls_runs.specs.Entries.{Entries, idents_in, has_ident, put, put_all}
 use Rattle.rls_runs.specs.Places.{below_count, find_ident}
 use Rattle.rls_runs.proofs.Finding.{run_length}
 use Rattle.rls_runs.proofs.RunEnds.{count_most}
 use Rattle.rls_runs.proofs.RunLists.{place_most}
-use Rattle.rls_runs.proofs.RunPlaces.{found_is, split_at}
+use Rattle.rls_runs.proofs.RunPlaces.{found_is}
 use Rattle.rls_ident.proofs.Lists.{Lt}
 use Rattle.rls_ident.proofs.Tuples.{tuples}
 use Rattle.rls_ident.proofs.Shifted.{shifted_none}
-use Rattle.rls_runs.proofs.RunOrder.{AllLess, AllMore, Rising, lt_of, of_lt, run_less, last_at, increasing_of, run_rising, run_ident, run_gets, run_some, idents_append as runs_append, rising_left, rising_right, rising_of}
+use Rattle.rls_runs.proofs.RunOrder.{AllLess, AllMore, Rising, lt_of, of_lt, run_less, last_at, increasing_of, run_rising, run_ident, run_gets, run_some, rising_left, rising_right, rising_of}
 use Rattle.rls_runs.proofs.Sorted.{Entry}
 use Rattle.rls_doc.specs.Documents.{AreNew}
-use Rattle.rls_tree.specs.Trees.{Piece, ArePieces, piece_entries, entries_of}
-use Rattle.rls_tree.specs.Edits.{part_of, inserted, gap_end, located}
-use Rattle.rls_tree.proofs.Changes.{thirds}
-use Rattle.rls_tree.proofs.AtPlaces.{part_exact, part_at, piece_idents, idents_append, run_part}
+use Rattle.rls_blocks.specs.Trees.{Piece, ArePieces, piece_entries, entries_of}
+use Rattle.rls_blocks.specs.Edits.{part_of, inserted, located}
+use Rattle.rls_tree.specs.Gaps.{gap_end}
+use Rattle.rls_blocks.proofs.Changes.{thirds}
+use Rattle.rls_blocks.proofs.AtPlaces.{part_exact, part_at, piece_idents, idents_append, run_part}
 use Rattle.rls_runs.proofs.Gaps.{lt_false, below_take, more_drop, at_less, read_err, read_ok, AreBelow, below_from, below_none, rising_three, rising_below, firsts_less, rests_below, one_below, left_below, less_drop, rising_drop, rising_take}
 use Rattle.rls_ident.proofs.Loops.{drop_reads}
 use Rattle.std.proofs.lemmas.Option.{slice_get_within}
@@ -225,32 +226,7 @@ end_none es ids i h = ap (gap_end ids) (drop_of_length-le (idents_in es) (let l 
 pub end_some : (es : Entries) (ids : List (List Tuple)) (i : ℕ) (x : List Tuple) → slice_get (idents_in es) i ≡ Some x → gap_end ids (drop i (idents_in es)) ≡ below_count ids x
 end_some es ids i x g = ap (gap_end ids) (headed i (idents_in es) x g)
 
--- ---- entries of runs one after another
-
-pub run_taken : (rs : List (List Tuple × ℕ)) (k at : ℕ) (r : List Tuple × ℕ) (cs part : List ℕ) → slice_get rs k ≡ Some r → at ≡ length (idents_of (take k rs)) → length (idents_of rs) ≡ length cs → part ≡ take r.1 (drop at cs) → piece_entries (r, part) ≡ take r.1 (drop at (zip (idents_of rs) cs))
-run_taken rs k at r cs part g h m p =
-    let ids = idents_of rs in
-    let e : drop at ids ≡ run_idents r.0 r.1 ++ idents_of (drop (k + 1) rs) =
-    ap (λ xs. drop at (idents_of xs)) (sym (split_at rs k r g)) ∙ ap (drop at) (runs_append (take k rs) (r ∷ drop (k + 1) rs)) ∙ ap (λ n. drop n (idents_of (take k rs) ++ idents_of (r ∷ drop (k + 1) rs))) h ∙ drop-append_seam (idents_of (take k rs)) (idents_of (r ∷ drop (k + 1) rs)) in
-    let l = run_length r.0 r.1 in
-    let own : take r.1 (drop at ids) ≡ run_idents r.0 r.1 = ap (take r.1) e ∙ ap (λ n. take n (run_idents r.0 r.1 ++ idents_of (drop (k + 1) rs))) (sym l) ∙ take-append_seam (run_idents r.0 r.1) (idents_of (drop (k + 1) rs)) in
-    ap (λ xs. zip xs part) (sym own) ∙ ap (zip (take r.1 (drop at ids))) p ∙ sym (zip_take r.1 (drop at ids) (drop at cs)) ∙ ap (take r.1) (sym (zip_drop at ids cs))
-  where
-    zip_take : (n : ℕ) (xs : List (List Tuple)) (cs : List ℕ) → take n (zip xs cs) ≡ zip (take n xs) (take n cs)
-    zip_take zero xs cs = refl
-    zip_take (suc n) [] cs = refl
-    zip_take (suc n) (x ∷ xs) [] = refl
-    zip_take (suc n) (x ∷ xs) (c ∷ cs) = ap (λ es. (x, c) ∷ es) (zip_take n xs cs)
-
-    zip_none : (xs : List (List Tuple)) → zip {X = ℕ} xs [] ≡ []
-    zip_none [] = refl
-    zip_none (x ∷ xs) = refl
-
-    zip_drop : (n : ℕ) (xs : List (List Tuple)) (cs : List ℕ) → drop n (zip xs cs) ≡ zip (drop n xs) (drop n cs)
-    zip_drop zero xs cs = refl
-    zip_drop (suc n) [] cs = refl
-    zip_drop (suc n) (x ∷ xs) [] = sym (zip_none (drop n xs))
-    zip_drop (suc n) (x ∷ xs) (c ∷ cs) = zip_drop n xs cs
+-- ---- entries taken from a place on
 
 pub taken_length : (at n : ℕ) (es : Entries) → at + n ≤ length es → length (take n (drop at es)) ≡ n
 taken_length at n es h = let l = length-drop at es in length-take-le n (drop at es) (omega (arith, h, l))

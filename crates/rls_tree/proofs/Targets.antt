@@ -19,7 +19,7 @@ use Rattle.rls_runs.specs.Runs.{run_idents}
 use Rattle.rls_runs.proofs.RunOrder.{run_gets, AllLess, AllMore, Rising, less_trans, more_trans}
 use Rattle.rls_runs.proofs.RunPlaces.{tells_less, tells_more}
 use Rattle.rls_runs.proofs.Gaps.{below_take, more_drop, less_at, at_less, at_same, read_err, rising_drop}
-use Rattle.rls_tree.specs.Patches.{AreMembers}
+use Rattle.rls_tree.specs.Targets.{AreMembers}
 use Rattle.rls_tree.proofs.Puts.{headed, idents_take, idents_drop, get_drop}
 
 -- ---- from a place to another

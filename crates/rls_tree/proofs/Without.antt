@@ -9,13 +9,14 @@ use Rattle.rls_ident.specs.Identifiers.{ident_eq}
 use Rattle.rls_ident.proofs.Members.{or_left}
 use Rattle.rls_ident.proofs.Ends.{same_eq}
 use Rattle.rls_runs.specs.Entries.{Entries, idents_in, has_ident, without_all}
-use Rattle.rls_runs.specs.Runs.{run_idents, idents_of}
+use Rattle.rls_runs.specs.Runs.{run_idents, idents_of, is_increasing}
 use Rattle.rls_runs.proofs.RunOrder.{Rising, rising_right, idents_append as runs_append}
 use Rattle.std.proofs.Math.Seq.{take-add}
 use Rattle.rls_runs.proofs.RunPlaces.{tells_less, tells_more}
-use Rattle.rls_runs.proofs.Sorted.{Entry}
-use Rattle.rls_tree.specs.Edits.{removed}
-use Rattle.rls_tree.proofs.AtPlaces.{idents_append}
+use Rattle.rls_runs.proofs.Sorted.{Entry, Rises, AreAbove, rises_drop}
+use Rattle.rls_doc.proofs.Rising.{rising, increasing}
+use Rattle.rls_blocks.specs.Edits.{removed}
+use Rattle.rls_blocks.proofs.AtPlaces.{idents_append}
 use Rattle.rls_runs.proofs.Gaps.{AreBelow, rising_below, firsts_less, rests_below, left_below}
 use Rattle.rls_tree.proofs.Puts.{idents_drop, idents_take, parted, headed}
 
@@ -93,3 +94,23 @@ taken_more xs rs i at n k r o h e g =
 
 pub filter_short : {X : Type 0} (t : X → Bool) (xs : List X) → length (filter t xs) ≤ length xs
 filter_short t xs = let n = length-filter t xs in let m = count_by-le-length t xs in omega (arith, n, m)
+
+-- ---- what a range taken out leaves rises
+
+above_drop : (e : Entry) (k : ℕ) (es : Entries) → AreAbove e es → AreAbove e (drop k es)
+above_drop e zero es h = h
+above_drop e (suc k) [] h = tt
+above_drop e (suc k) (x ∷ es) h = above_drop e k es h.1
+
+above_removed : (e : Entry) (i k : ℕ) (es : Entries) → AreAbove e es → AreAbove e (take i es ++ drop (i + k) es)
+above_removed e zero k es h = above_drop e (0 + k) es h
+above_removed e (suc i) k [] h = above_drop e (suc i + k) [] tt
+above_removed e (suc i) k (x ∷ es) h = let s : suc (i + k) ≡ suc i + k = omega arith in (h.0, subst (λ n. AreAbove e (take i es ++ drop n (x ∷ es))) s (above_removed e i k es h.1))
+
+rises_removed : (i k : ℕ) (es : Entries) → Rises es → Rises (take i es ++ drop (i + k) es)
+rises_removed zero k es h = rises_drop (0 + k) es h
+rises_removed (suc i) k [] h = rises_drop (suc i + k) [] tt
+rises_removed (suc i) k (x ∷ es) h = let s : suc (i + k) ≡ suc i + k = omega arith in (subst (λ n. AreAbove x (take i es ++ drop n (x ∷ es))) s (above_removed x i k es h.0), subst (λ n. Rises (take i es ++ drop n (x ∷ es))) s (rises_removed i k es h.1))
+
+pub increasing_removed : (i k : ℕ) (es : Entries) → is_increasing (idents_in es) ≡ true → is_increasing (idents_in (removed i k es)) ≡ true
+increasing_removed i k es h = increasing (removed i k es) (rises_removed i k es (rising es h))

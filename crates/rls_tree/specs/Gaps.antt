@@ -1,10 +1,17 @@
 -- What goes in between entries.
 use Rattle.std.specs.Prelude.{◌≡◌, ℕ, ◌-◌, ◌≤◌, Bool, false, nat_eq, List, [], ◌∷◌, ◌++◌, length, take, drop}
+use Rattle.rls_ident.specs.declared.tuple.Tuple.{Tuple}
 use Rattle.rls_runs.specs.Entries.{Entries, idents_in, put_all}
+use Rattle.rls_runs.specs.Places.{below_count}
 use Rattle.rls_runs.proofs.RunOrder.{Rising}
 use Rattle.rls_runs.proofs.Gaps.{AreBelow}
 use Rattle.rls_tree.specs.declared.insertion.Gap.{Gap}
-use Rattle.rls_tree.specs.Trees.{piece_entries}
+use Rattle.rls_blocks.specs.Trees.{piece_entries}
+
+-- how many of these identifiers stand in front of the first of the others, where there is one
+abbrev pub gap_end : List (List Tuple) → List (List Tuple) → ℕ
+gap_end ids [] = length ids
+gap_end ids (x ∷ rest) = below_count ids x
 
 -- entries from a place on, with what goes in at each gap, and after the last gap what there is from there on
 abbrev pub filled : ℕ → List Gap → Entries → (ℕ → Entries) → Entries

@@ -1,5 +1,2 @@
-pub mod Trees
-pub mod Edits
-pub mod Patches
 pub mod Gaps
-pub mod Splits
+pub mod Targets

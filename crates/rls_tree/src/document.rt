@@ -6,13 +6,12 @@ ghost use Rattle.rls_ident.specs.Identifiers.{is_ident};
 ghost use Rattle.rls_runs.specs.Runs.{run_idents, runs_of, idents_of, is_increasing, place_of};
 ghost use Rattle.rls_runs.specs.Entries.{Entries, idents_in, chars_in, put_all, without_all, with_idents};
 ghost use Rattle.rls_doc.specs.Documents.{AreNew};
-ghost use Rattle.rls_tree.specs.Trees.{entries_of, piece_entries, runs_in};
-ghost use Rattle.rls_tree.specs.Edits.{are_loose, removed, Shows};
+ghost use Rattle.rls_blocks.specs.Trees.{entries_of, piece_entries, runs_in};
+ghost use Rattle.rls_blocks.specs.Edits.{are_loose, removed, Shows};
 
-use crate::block::Block;
-use crate::patch::push_runs;
 use crate::removal::most_of;
 use crate::tree::BlockTree;
+use rls_blocks::{Block, push_runs};
 use rls_doc::{Document, RunMap};
 use rls_ident::Ident;
 use rls_runs::{Run, RunList, Runs, Text};

@@ -5,16 +5,14 @@ ghost use Rattle.rls_ident.specs.Identifiers.{shifted};
 ghost use Rattle.rls_runs.specs.Runs.{run_before, run_idents, idents_of, is_increasing, place_of};
 ghost use Rattle.rls_runs.specs.Entries.{Entries, idents_in, put_all};
 ghost use Rattle.rls_doc.specs.Documents.{AreNew};
-ghost use Rattle.rls_tree.specs.Trees.{ArePieces, entries_of, piece_entries, runs_in};
-ghost use Rattle.rls_tree.specs.Edits.{are_loose, goes_on, leads_to, Shows, gap_end};
-ghost use Rattle.rls_tree.specs.Patches.{before, after, IsBetween, patched, ArePatches};
-ghost use Rattle.rls_tree.specs.Gaps.{AreGaps, filled, is_gap, Leaves};
+ghost use Rattle.rls_blocks.specs.Trees.{ArePieces, entries_of, piece_entries, runs_in};
+ghost use Rattle.rls_blocks.specs.Edits.{are_loose, goes_on, leads_to, Shows};
+ghost use Rattle.rls_tree.specs.Gaps.{gap_end, AreGaps, filled, is_gap, Leaves};
+ghost use Rattle.rls_blocks.specs.Patches.{before, after, IsBetween, patched, ArePatches};
 
-use crate::block::{Block, part_of_text};
-use crate::build::built;
-use crate::patch::{Patch, push_block};
 use crate::removal::{ends_before, most_of};
 use crate::tree::BlockTree;
+use rls_blocks::{Block, Patch, part_of_text, push_block, tree_of};
 use rls_runs::{Run, Text};
 use std::alloc::AllocError;
 use std::collections::VecDeque;
@@ -174,13 +172,10 @@ impl BlockTree {
         while !self.is_filled(gaps, at, &blocks) {
             at = self.fill_next(gaps, at, &mut blocks)?;
         }
-        let count = blocks.len();
-        let fresh = built(self.alloc(), &mut blocks, count)?;
-        let _fresh = fresh.chars();
         Ok(Patch {
             from,
             to: at,
-            fresh,
+            fresh: tree_of(self.alloc(), blocks)?,
         })
     }
 

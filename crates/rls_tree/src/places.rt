@@ -6,8 +6,8 @@ ghost use Rattle.rls_runs.specs.Entries.{idents_in};
 ghost use Rattle.rls_runs.specs.Places.{below_count};
 ghost use Rattle.rls_runs.proofs.RunOrder.{AllLess};
 ghost use Rattle.rls_runs.proofs.Gaps.{AreBelow};
-ghost use Rattle.rls_tree.specs.Trees.{entries_of};
-ghost use Rattle.rls_tree.specs.Edits.{gap_end};
+ghost use Rattle.rls_blocks.specs.Trees.{entries_of};
+ghost use Rattle.rls_tree.specs.Gaps.{gap_end};
 
 use crate::tree::BlockTree;
 use rls_ident::Ident;

@@ -3,14 +3,13 @@
 ghost use Rattle.std.specs.Prelude.{◌≡◌, ℕ, ◌+◌, ◌-◌, ◌^◌, ◌<◌, ◌≤◌, ◌++◌, length, take, drop, reverse, true, false, None, IfOk, IsTrue, IsFalse};
 ghost use Rattle.rls_runs.specs.Runs.{run_before};
 ghost use Rattle.rls_runs.specs.Entries.{idents_in, without_all};
-ghost use Rattle.rls_tree.specs.Trees.{ArePieces, entries_of, runs_in};
-ghost use Rattle.rls_tree.specs.Edits.{are_loose, goes_on, leads_to, Shows};
-ghost use Rattle.rls_tree.specs.Patches.{after, IsBetween, patched, ArePatches, AreMembers};
+ghost use Rattle.rls_blocks.specs.Trees.{ArePieces, entries_of, runs_in};
+ghost use Rattle.rls_blocks.specs.Edits.{are_loose, goes_on, leads_to, Shows};
+ghost use Rattle.rls_blocks.specs.Patches.{after, IsBetween, patched, ArePatches};
+ghost use Rattle.rls_tree.specs.Targets.{AreMembers};
 
-use crate::block::Block;
-use crate::build::built;
-use crate::patch::{Patch, push_block};
 use crate::tree::BlockTree;
+use rls_blocks::{Block, Patch, push_block, tree_of};
 use rls_ident::Ident;
 use rls_runs::Runs;
 use std::alloc::AllocError;
@@ -106,13 +105,10 @@ impl BlockTree {
         while !self.is_done(targets, at, &blocks) {
             at = self.copy_next(targets, at, &mut blocks)?;
         }
-        let count = blocks.len();
-        let fresh = built(self.alloc(), &mut blocks, count)?;
-        let _fresh = fresh.chars();
         Ok(Patch {
             from,
             to: at,
-            fresh,
+            fresh: tree_of(self.alloc(), blocks)?,
         })
     }
 

@@ -5,16 +5,13 @@ ghost use Rattle.std.specs.List.{list_all};
 ghost use Rattle.rls_ident.specs.Identifiers.{is_ident, shifted};
 ghost use Rattle.rls_runs.specs.Runs.{run_idents, runs_of, are_apart, is_increasing, place_of};
 ghost use Rattle.rls_runs.specs.Entries.{idents_in, chars_in, has_ident};
-ghost use Rattle.rls_tree.specs.Trees.{ArePieces, entries_of, piece_entries, runs_in};
-ghost use Rattle.rls_tree.specs.Edits.{are_loose, inserted, located, removed};
-ghost use Rattle.rls_tree.specs.Patches.{patched, ArePatches};
+ghost use Rattle.rls_blocks.specs.Trees.{ArePieces, entries_of, piece_entries, runs_in};
+ghost use Rattle.rls_blocks.specs.Edits.{are_loose, inserted, located, removed};
+ghost use Rattle.rls_blocks.specs.Patches.{patched, ArePatches};
 
-use crate::block::{Block, part_of_text};
-use crate::build::built;
-use crate::insert::insert_at;
-use crate::node::{Link, Node};
-use crate::patch::{Patch, with_patches};
-use crate::remove::remove_range;
+use rls_blocks::{
+    Block, Link, Node, Patch, insert_at, part_of_text, remove_range, tree_of, with_patches,
+};
 use rls_ident::Ident;
 use rls_runs::{Run, Text};
 use std::alloc::{AllocError, Global};
@@ -32,7 +29,7 @@ pub struct BlockTree {
 impl Model for BlockTree {
     ghost use Rattle.std.specs.Prelude.{None, IsTrue};
     ghost use Rattle.rls_runs.specs.Runs.{are_apart};
-    ghost use Rattle.rls_tree.specs.Trees.{Tree, runs_in};
+    ghost use Rattle.rls_blocks.specs.Trees.{Tree, runs_in};
 
     ghost Value = { Tree };
 
@@ -59,9 +56,7 @@ impl BlockTree {
         requires chars_fit { length (entries_of blocks.items) < 2 ^ 64 }
         ensures blocks { IfOk result (λ tree. tree.blocks ≡ blocks.items) }
     {
-        let mut blocks = blocks;
-        let count = blocks.len();
-        let root = built(alloc, &mut blocks, count)?;
+        let root = tree_of(alloc, blocks)?;
         Ok(BlockTree { root, alloc })
     }
 
@@ -76,10 +71,7 @@ impl BlockTree {
         requires chars_fit { length (entries_of blocks.items) < 2 ^ 64 }
         ensures blocks { IfOk result (λ tree. tree.blocks ≡ blocks.items) }
     {
-        let mut blocks = blocks;
-        let count = blocks.len();
-        let root = built(alloc, &mut blocks, count)?;
-        let _chars = root.chars();
+        let root = tree_of(alloc, blocks)?;
         Ok(BlockTree { root, alloc })
     }
 

@@ -4,7 +4,7 @@ use Rattle.rls_runs.specs.Entries.{Entries}
 use Rattle.rls_seen.proofs.Fitting.{facts}
 use Rattle.rls_replica.specs.Changing.{MayInsert, MayRename}
 use Rattle.rls_replica.proofs.Changes.{insert_may, rename_may}
-use Rattle.rls_tree.specs.Trees.{entries_of}
+use Rattle.rls_blocks.specs.Trees.{entries_of}
 use Rattle.rls_replica.proofs.applying.change.Goals as goal
 
 pub insert-requires : goal.insert-requires

@@ -1,7 +1,7 @@
 use Rattle.std.proofs.Common.{◌∙◌, sym, ap}
 use Rattle.rls_ident.proofs.Named.{name_eq_is}
 use Rattle.rls_runs.specs.Entries.{without_all}
-use Rattle.rls_tree.specs.Trees.{entries_of}
+use Rattle.rls_blocks.specs.Trees.{entries_of}
 use Rattle.rls_replica.proofs.SameEpoch.{unmoved}
 use Rattle.rls_rename.proofs.Kept.{greatest_kept}
 use Rattle.rls_replica.proofs.applying.delete.Goals as goal

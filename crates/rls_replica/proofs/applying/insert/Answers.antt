@@ -8,7 +8,7 @@ use Rattle.rls_runs.proofs.Finding.{run_length}
 use Rattle.rls_doc.specs.Documents.{AreNew}
 use Rattle.rls_doc.proofs.Added.{are_new}
 use Rattle.rls_replica.proofs.Changes.{image_is}
-use Rattle.rls_tree.specs.Trees.{entries_of}
+use Rattle.rls_blocks.specs.Trees.{entries_of}
 use Rattle.rls_replica.proofs.applying.insert.Goals as goal
 
 pub insert_near-requires-clause-as_many : goal.insert_near-requires-clause-as_many

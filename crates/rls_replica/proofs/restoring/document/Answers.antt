@@ -3,7 +3,7 @@ use Rattle.std.specs.List.{list_all}
 use Rattle.rls_model.specs.declared.parts.TextRun.{TextRun}
 use Rattle.rls_runs.specs.Runs.{are_apart, is_run}
 use Rattle.rls_parts.specs.Given.{HaveTexts}
-use Rattle.rls_tree.specs.Trees.{entries_of, runs_in}
+use Rattle.rls_blocks.specs.Trees.{entries_of, runs_in}
 use Rattle.rls_parts.proofs.RestoredText.{total_restored}
 use Rattle.rls_replica.proofs.GivenPieces.{piece_of, pieces_entries, pieces_runs, pieces_moved, all_moved, texts_first, texts_rest, tree_so}
 use Rattle.rls_replica.proofs.restoring.document.Goals as goal

@@ -1,6 +1,6 @@
 use Rattle.std.proofs.Common.{Some, sym, ap, ◌∙◌}
-use Rattle.rls_tree.specs.Edits.{goes_on}
-use Rattle.rls_tree.proofs.Patches.{last_of}
+use Rattle.rls_blocks.specs.Edits.{goes_on}
+use Rattle.rls_blocks.proofs.Patches.{last_of}
 use Rattle.rls_tree.proofs.removal.ends_before.Goals as goal
 
 pub returns-in-Some : goal.returns-in-Some

@@ -11,7 +11,7 @@ use Rattle.rls_seen.proofs.Counting.{members_accepted}
 use Rattle.rls_replica.specs.View.{seen}
 use Rattle.rls_replica.proofs.Accepted.{accepted_is}
 use Rattle.rls_replica.proofs.Whole.{whole_next}
-use Rattle.rls_tree.specs.Trees.{entries_of}
+use Rattle.rls_blocks.specs.Trees.{entries_of}
 use Rattle.rls_replica.proofs.replica.Replica.apply.Goals as goal
 
 after : goal.returns-clause-ok

@@ -13,7 +13,7 @@ use Rattle.rls_replica.specs.Changing.{renaming_in}
 use Rattle.rls_replica.specs.View.{seen}
 use Rattle.rls_replica.proofs.Accepted.{accepted_is, next_is, same_one}
 use Rattle.rls_replica.proofs.Whole.{whole_next}
-use Rattle.rls_tree.specs.Trees.{entries_of}
+use Rattle.rls_blocks.specs.Trees.{entries_of}
 use Rattle.rls_replica.proofs.replica.Replica.apply_ready.Goals as goal
 
 pub prepare-requires-clause-may : goal.prepare-requires-clause-may

@@ -4,7 +4,7 @@ use Rattle.rls_ops.specs.Waiting.{is_in_order}
 use Rattle.rls_seen.specs.Kept.{parts_over}
 use Rattle.rls_seen.specs.Sane.{IsSane}
 use Rattle.rls_seen.specs.Stands.{StandsFor}
-use Rattle.rls_tree.specs.Trees.{entries_of}
+use Rattle.rls_blocks.specs.Trees.{entries_of}
 use Rattle.rls_parts.specs.Given.{AreRanged}
 use Rattle.rls_parts.specs.Restored.{seen_of}
 use Rattle.rls_parts.specs.Restored.{entries_of as entries_in}

@@ -3,7 +3,7 @@ use Rattle.std.proofs.lemmas.List.{length-map, take_all}
 use Rattle.rls_runs.specs.Entries.{idents_in}
 use Rattle.rls_seen.specs.Seen.{idents_over}
 use Rattle.rls_seen.proofs.Editing.{idents_alike}
-use Rattle.rls_tree.specs.Trees.{entries_of}
+use Rattle.rls_blocks.specs.Trees.{entries_of}
 use Rattle.rls_replica.proofs.replica.Replica.runs.Goals as goal
 
 runs_is : goal.returns-clause-runs

@@ -1,8 +1,8 @@
 use Rattle.std.proofs.Common.{◌≡◌, ℕ, List, [], ◌∷◌, Option, IfSome, length, sym, ap, ◌∙◌, subst, arith}
 use Rattle.rls_ident.specs.declared.tuple.Tuple.{Tuple}
 use Rattle.rls_runs.specs.Entries.{Entries, idents_in, without_all}
-use Rattle.rls_tree.specs.Trees.{entries_of}
-use Rattle.rls_tree.specs.Edits.{removed}
+use Rattle.rls_blocks.specs.Trees.{entries_of}
+use Rattle.rls_blocks.specs.Edits.{removed}
 use Rattle.std.specs.Prelude.{not}
 use Rattle.rls_runs.specs.Entries.{has_ident}
 use Rattle.rls_runs.proofs.Sorted.{Entry}

@@ -4,7 +4,7 @@ use Rattle.rls_ident.specs.Identifiers.{ident_lt}
 use Rattle.rls_runs.specs.Entries.{idents_in}
 use Rattle.rls_runs.proofs.RunOrder.{AllLess, lt_of, rising_of}
 use Rattle.rls_runs.proofs.Gaps.{less_up_to}
-use Rattle.rls_tree.specs.Trees.{entries_of}
+use Rattle.rls_blocks.specs.Trees.{entries_of}
 use Rattle.rls_tree.proofs.tree.BlockTree.begins_at.Goals as goal
 
 pub returns : goal.returns

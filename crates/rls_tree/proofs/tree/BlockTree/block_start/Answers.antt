@@ -1,4 +1,4 @@
-use Rattle.rls_tree.proofs.Patches.{begins}
+use Rattle.rls_tree.proofs.Starts.{begins}
 use Rattle.rls_tree.proofs.tree.BlockTree.block_start.Goals as goal
 
 pub overflow_sub-result : goal.overflow_sub-result

@@ -1,8 +1,8 @@
 use Rattle.std.proofs.Common.{subst, length, ◌≡◌, true}
 use Rattle.rls_runs.specs.Runs.{runs_of, is_increasing}
 use Rattle.rls_runs.specs.Entries.{idents_in}
-use Rattle.rls_tree.specs.Trees.{entries_of}
-use Rattle.rls_tree.proofs.Pieces.{runs_count, pieces_rise}
+use Rattle.rls_blocks.specs.Trees.{entries_of}
+use Rattle.rls_blocks.proofs.Pieces.{runs_count, pieces_rise}
 use Rattle.rls_tree.proofs.tree.BlockTree.blocks.Goals as goal
 
 pub returns-clause-runs : goal.returns-clause-runs

@@ -1,6 +1,6 @@
 use Rattle.std.proofs.Common.{sym, ap, ◌∙◌, Some, get_or}
-use Rattle.rls_tree.specs.Trees.{entries_of}
-use Rattle.rls_tree.proofs.AtPlaces.{entry_located}
+use Rattle.rls_blocks.specs.Trees.{entries_of}
+use Rattle.rls_blocks.proofs.AtPlaces.{entry_located}
 use Rattle.rls_tree.proofs.Located.{mapped_at, entry_at}
 use Rattle.rls_tree.proofs.tree.BlockTree.char.Goals as goal
 

@@ -1,7 +1,7 @@
 use Rattle.std.proofs.Common.{◌≡◌, ◌+◌, ◌-◌, ◌++◌, false, take, drop, sym, ap, ◌∙◌, arith}
 use Rattle.std.proofs.lemmas.List.{append-nil}
 use Rattle.rls_runs.specs.Entries.{idents_in, without_all}
-use Rattle.rls_tree.specs.Trees.{Piece, entries_of, piece_entries}
+use Rattle.rls_blocks.specs.Trees.{Piece, entries_of, piece_entries}
 use Rattle.rls_tree.proofs.Targets.{part_stays, part_goes, members_less}
 use Rattle.rls_tree.proofs.tree.BlockTree.copy_next.Goals as goal
 

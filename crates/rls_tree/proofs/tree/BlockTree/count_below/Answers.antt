@@ -1,6 +1,6 @@
 use Rattle.std.proofs.Common.{sym, ◌∙◌}
 use Rattle.rls_runs.specs.Entries.{idents_in}
-use Rattle.rls_tree.specs.Trees.{entries_of}
+use Rattle.rls_blocks.specs.Trees.{entries_of}
 use Rattle.rls_runs.proofs.RunPlaces.{found_is}
 use Rattle.rls_runs.proofs.Gaps.{read_ok, read_err}
 use Rattle.rls_tree.proofs.tree.BlockTree.count_below.Goals as goal

@@ -1,7 +1,7 @@
 use Rattle.std.proofs.Common.{sym, ◌∙◌}
 use Rattle.rls_runs.specs.Runs.{run_idents}
 use Rattle.rls_runs.proofs.Finding.{run_length}
-use Rattle.rls_tree.specs.Trees.{entries_of}
+use Rattle.rls_blocks.specs.Trees.{entries_of}
 use Rattle.rls_runs.proofs.Gaps.{read_ok, read_err}
 use Rattle.rls_tree.proofs.Puts.{end_none, end_some}
 use Rattle.rls_tree.proofs.tree.BlockTree.end_of_gap.Goals as goal

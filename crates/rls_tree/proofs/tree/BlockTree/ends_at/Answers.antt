@@ -5,7 +5,7 @@ use Rattle.rls_runs.specs.Runs.{run_idents}
 use Rattle.rls_runs.specs.Entries.{idents_in}
 use Rattle.rls_runs.proofs.RunOrder.{rising_of}
 use Rattle.rls_runs.proofs.Gaps.{AreBelow, below_none}
-use Rattle.rls_tree.specs.Trees.{entries_of}
+use Rattle.rls_blocks.specs.Trees.{entries_of}
 use Rattle.rls_tree.proofs.Puts.{run_ends}
 use Rattle.rls_tree.proofs.tree.BlockTree.ends_at.Goals as goal
 

@@ -1,7 +1,7 @@
 use Rattle.std.proofs.Common.{◌≡◌, ◌+◌, ◌-◌, ◌++◌, ◌∷◌, length, take, drop, sym, ap, ◌∙◌, subst, arith, append_assoc, length-append}
-use Rattle.rls_tree.specs.Trees.{entries_of, piece_entries}
+use Rattle.rls_blocks.specs.Trees.{entries_of, piece_entries}
 use Rattle.rls_tree.specs.Gaps.{filled, is_gap, AreGaps}
-use Rattle.rls_tree.proofs.Pieces.{piece_length, piece_some}
+use Rattle.rls_blocks.proofs.Pieces.{piece_length, piece_some}
 use Rattle.rls_tree.proofs.Puts.{taken_length}
 use Rattle.rls_tree.proofs.Filled.{gap_here, gaps_lower, filled_later}
 use Rattle.rls_tree.proofs.tree.BlockTree.fill_next.Goals as goal

@@ -1,5 +1,5 @@
 use Rattle.std.proofs.Common.{sym, ◌∙◌}
-use Rattle.rls_tree.specs.Trees.{entries_of}
+use Rattle.rls_blocks.specs.Trees.{entries_of}
 use Rattle.rls_tree.proofs.Puts.{whole_rises, whole_place}
 use Rattle.rls_tree.proofs.tree.BlockTree.gap_for.Goals as goal
 

@@ -3,7 +3,7 @@ use Rattle.std.specs.Prelude.{pos}
 use Rattle.rls_ident.specs.Identifiers.{shifted}
 use Rattle.rls_runs.specs.Runs.{place_of}
 use Rattle.rls_runs.specs.Entries.{idents_in}
-use Rattle.rls_tree.specs.Trees.{entries_of}
+use Rattle.rls_blocks.specs.Trees.{entries_of}
 use Rattle.rls_tree.proofs.Puts.{not_there, whole_place, next_later, next_within}
 use Rattle.rls_tree.proofs.tree.BlockTree.gap_of.Goals as goal
 

@@ -9,10 +9,11 @@ use Rattle.rls_runs.specs.Entries.{idents_in, put_all}
 use Rattle.rls_runs.proofs.RunOrder.{Rising, rising_of}
 use Rattle.rls_runs.proofs.RunPlaces.{within_total, next_start}
 use Rattle.rls_doc.specs.Documents.{AreNew}
-use Rattle.rls_tree.specs.Trees.{entries_of, piece_entries}
+use Rattle.rls_blocks.specs.Trees.{entries_of, piece_entries}
 use Rattle.rls_tree.specs.Gaps.{Leaves}
-use Rattle.rls_tree.proofs.AtPlaces.{idents_append}
-use Rattle.rls_tree.proofs.Puts.{new_now, new_second, parted, run_taken}
+use Rattle.rls_blocks.proofs.AtPlaces.{idents_append}
+use Rattle.rls_tree.proofs.Puts.{new_now, new_second, parted}
+use Rattle.rls_blocks.proofs.Taken.{run_taken}
 use Rattle.rls_tree.proofs.tree.BlockTree.gaps_for.Goals as goal
 
 pub loop-run-init : goal.loop-run-init

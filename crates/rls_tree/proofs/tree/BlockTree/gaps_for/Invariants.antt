@@ -2,7 +2,7 @@ use Rattle.std.proofs.Common.{◌≡◌, length, drop, take}
 use Rattle.std.specs.Prelude.{zip}
 use Rattle.rls_runs.specs.Runs.{idents_of}
 use Rattle.rls_runs.specs.Entries.{put_all}
-use Rattle.rls_tree.specs.Trees.{entries_of}
+use Rattle.rls_blocks.specs.Trees.{entries_of}
 use Rattle.rls_tree.specs.Gaps.{Leaves}
 use Rattle.rls_tree.proofs.tree.BlockTree.gaps_for.Given as goal
 

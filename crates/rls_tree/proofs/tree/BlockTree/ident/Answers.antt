@@ -1,8 +1,8 @@
 use Rattle.std.proofs.Common.{sym, ap, ◌∙◌, Some}
 use Rattle.std.specs.Prelude.{pos}
 use Rattle.rls_ident.specs.Identifiers.{shifted}
-use Rattle.rls_tree.specs.Trees.{entries_of}
-use Rattle.rls_tree.proofs.AtPlaces.{entry_located}
+use Rattle.rls_blocks.specs.Trees.{entries_of}
+use Rattle.rls_blocks.proofs.AtPlaces.{entry_located}
 use Rattle.rls_tree.proofs.Located.{mapped_at, entry_at}
 use Rattle.rls_tree.proofs.tree.BlockTree.ident.Goals as goal
 

@@ -8,10 +8,10 @@ use Rattle.rls_runs.proofs.Sorted.{length-put_all}
 use Rattle.rls_doc.specs.Documents.{AreNew}
 use Rattle.rls_tree.proofs.Filled.{put_rises}
 use Rattle.rls_runs.proofs.Finding.{run_length}
-use Rattle.rls_tree.specs.Trees.{Piece, entries_of, piece_entries}
-use Rattle.rls_tree.specs.Edits.{inserted}
-use Rattle.rls_tree.proofs.AtPlaces.{piece_idents}
-use Rattle.rls_tree.proofs.Mapping.{single_run}
+use Rattle.rls_blocks.specs.Trees.{Piece, entries_of, piece_entries}
+use Rattle.rls_blocks.specs.Edits.{inserted}
+use Rattle.rls_blocks.proofs.AtPlaces.{piece_idents}
+use Rattle.rls_blocks.proofs.Taken.{single_run}
 use Rattle.rls_tree.proofs.Puts.{idents_inserted, put_inserted}
 use Rattle.rls_tree.proofs.tree.BlockTree.insert_near.Goals as goal
 use Rattle.rls_runs.proofs.RunOrder.{rising_of}

@@ -1,10 +1,10 @@
 use Rattle.std.proofs.Common.{◌≡◌, None, true, sym, ap, ◌∙◌, subst}
 use Rattle.rls_runs.specs.Runs.{is_increasing}
 use Rattle.rls_runs.specs.Entries.{idents_in}
-use Rattle.rls_tree.specs.Trees.{Piece, entries_of, runs_in, piece_entries}
-use Rattle.rls_tree.specs.Edits.{inserted, are_loose, Shows}
-use Rattle.rls_tree.proofs.Loose.{loose_of}
-use Rattle.rls_tree.proofs.AtPlaces.{apart_shows}
+use Rattle.rls_blocks.specs.Trees.{Piece, entries_of, runs_in, piece_entries}
+use Rattle.rls_blocks.specs.Edits.{inserted, are_loose, Shows}
+use Rattle.rls_blocks.proofs.Loose.{loose_of}
+use Rattle.rls_blocks.proofs.AtPlaces.{apart_shows}
 use Rattle.rls_tree.proofs.tree.BlockTree.insert_piece.Goals as goal
 
 pub insert_at-requires-clause-loose : goal.insert_at-requires-clause-loose

@@ -1,10 +1,11 @@
 use Rattle.std.proofs.Common.{◌≡◌, ◌-◌, None, length, sym, ap, ◌∙◌, subst, arith}
 use Rattle.rls_ident.proofs.Members.{not_is}
 use Rattle.rls_runs.specs.Runs.{run_before}
-use Rattle.rls_tree.specs.Trees.{entries_of, runs_in}
-use Rattle.rls_tree.specs.Edits.{goes_on, leads_to}
-use Rattle.rls_tree.specs.Patches.{IsBetween, after}
-use Rattle.rls_tree.proofs.Patches.{begins, all_before}
+use Rattle.rls_blocks.specs.Trees.{entries_of, runs_in}
+use Rattle.rls_blocks.specs.Edits.{goes_on, leads_to}
+use Rattle.rls_blocks.specs.Patches.{IsBetween, after}
+use Rattle.rls_blocks.proofs.Patches.{all_before}
+use Rattle.rls_tree.proofs.Starts.{begins}
 use Rattle.rls_tree.proofs.tree.BlockTree.is_apart.Goals as goal
 
 pub returns-then-at-chars-clause-between : goal.returns-then-at-chars-clause-between

@@ -7,10 +7,11 @@ use Rattle.rls_ident.proofs.Shifted.{shifted_none}
 use Rattle.rls_runs.specs.Runs.{run_before}
 use Rattle.rls_runs.specs.Entries.{idents_in, has_ident}
 use Rattle.rls_runs.proofs.Gaps.{read_err}
-use Rattle.rls_tree.specs.Trees.{entries_of, runs_in}
-use Rattle.rls_tree.specs.Edits.{goes_on, leads_to}
-use Rattle.rls_tree.specs.Patches.{IsBetween, after}
-use Rattle.rls_tree.proofs.Patches.{begins, all_before, ident_located}
+use Rattle.rls_blocks.specs.Trees.{entries_of, runs_in}
+use Rattle.rls_blocks.specs.Edits.{goes_on, leads_to}
+use Rattle.rls_blocks.specs.Patches.{IsBetween, after}
+use Rattle.rls_blocks.proofs.Patches.{all_before}
+use Rattle.rls_tree.proofs.Starts.{begins, ident_located}
 use Rattle.rls_tree.proofs.Targets.{none_behind}
 use Rattle.rls_tree.proofs.tree.BlockTree.is_done.Goals as goal
 

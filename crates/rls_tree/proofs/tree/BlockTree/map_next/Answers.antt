@@ -4,8 +4,8 @@ use Rattle.std.proofs.lemmas.List.{length-map}
 use Rattle.rls_runs.specs.Runs.{run_idents, idents_of}
 use Rattle.rls_runs.specs.Entries.{with_idents}
 use Rattle.rls_runs.proofs.Finding.{run_length}
-use Rattle.rls_tree.specs.Trees.{entries_of}
-use Rattle.rls_tree.specs.Edits.{Shows}
+use Rattle.rls_blocks.specs.Trees.{entries_of}
+use Rattle.rls_blocks.specs.Edits.{Shows}
 use Rattle.rls_tree.proofs.Mapping.{zip_mapped}
 use Rattle.rls_tree.proofs.tree.BlockTree.map_next.Goals as goal
 

@@ -6,8 +6,8 @@ use Rattle.rls_runs.specs.Runs.{is_increasing}
 use Rattle.rls_runs.specs.Entries.{idents_in, with_idents}
 use Rattle.rls_runs.proofs.Sorted.{Entry}
 use Rattle.rls_doc.proofs.Rising.{increasing_mapped}
-use Rattle.rls_tree.specs.Trees.{entries_of}
-use Rattle.rls_tree.specs.Edits.{Shows}
+use Rattle.rls_blocks.specs.Trees.{entries_of}
+use Rattle.rls_blocks.specs.Edits.{Shows}
 use Rattle.rls_tree.proofs.tree.BlockTree.mapped.Goals as goal
 
 pub loop-at-preserved : goal.loop-at-preserved

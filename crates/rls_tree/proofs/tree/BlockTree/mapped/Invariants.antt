@@ -1,7 +1,7 @@
 use Rattle.std.proofs.Common.{◌-◌, ◌≤◌, length, take}
 use Rattle.rls_runs.specs.Entries.{with_idents}
-use Rattle.rls_tree.specs.Trees.{entries_of}
-use Rattle.rls_tree.specs.Edits.{Shows}
+use Rattle.rls_blocks.specs.Trees.{entries_of}
+use Rattle.rls_blocks.specs.Edits.{Shows}
 use Rattle.rls_tree.proofs.tree.BlockTree.mapped.Given as goal
 
 abbrev pub invariant-loop-at : goal.invariant-loop-at

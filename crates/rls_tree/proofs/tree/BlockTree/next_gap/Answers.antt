@@ -1,5 +1,5 @@
 use Rattle.std.proofs.Common.{length, drop, subst}
-use Rattle.rls_tree.specs.Trees.{entries_of}
+use Rattle.rls_blocks.specs.Trees.{entries_of}
 use Rattle.rls_tree.specs.Gaps.{AreGaps}
 use Rattle.rls_tree.proofs.Filled.{first_gap, gaps_within}
 use Rattle.rls_tree.proofs.tree.BlockTree.next_gap.Goals as goal

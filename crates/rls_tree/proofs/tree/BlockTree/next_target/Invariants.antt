@@ -1,7 +1,7 @@
 use Rattle.std.proofs.Common.{◌≤◌, ◌-◌, false, length}
 use Rattle.rls_runs.specs.Entries.{idents_in}
-use Rattle.rls_tree.specs.Trees.{entries_of}
-use Rattle.rls_tree.specs.Patches.{AreMembers}
+use Rattle.rls_blocks.specs.Trees.{entries_of}
+use Rattle.rls_tree.specs.Targets.{AreMembers}
 use Rattle.rls_tree.proofs.tree.BlockTree.next_target.Given as goal
 
 abbrev pub invariant-loop-i : goal.invariant-loop-i

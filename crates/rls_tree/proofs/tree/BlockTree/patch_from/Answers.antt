@@ -2,7 +2,7 @@ use Rattle.std.proofs.Common.{◌-◌, ◌++◌, length, take, drop, ap, ◌∙�
 use Rattle.std.specs.Prelude.{not}
 use Rattle.rls_runs.specs.Entries.{has_ident, without_all}
 use Rattle.rls_runs.proofs.Sorted.{Entry}
-use Rattle.rls_tree.specs.Trees.{entries_of}
+use Rattle.rls_blocks.specs.Trees.{entries_of}
 use Rattle.rls_tree.proofs.Puts.{taken_length}
 use Rattle.rls_tree.proofs.Without.{filter_short}
 use Rattle.rls_tree.proofs.Kept.{without_more}
@@ -24,8 +24,8 @@ loop-blocks-preserved c =
       loose = c.in_ok-at-2.ensures.loose;
     }
 
-pub built-requires-clause-chars_fit : goal.built-requires-clause-chars_fit
-built-requires-clause-chars_fit c =
+pub tree_of-requires : goal.tree_of-requires
+tree_of-requires c =
     let es = entries_of c.args.self.now.blocks in
     let ts = c.args.targets.now in
     let inv = c.loop-blocks.invariant in
@@ -34,4 +34,4 @@ built-requires-clause-chars_fit c =
     let e = ap length inv.entries in
     let short = filter_short (λ (q : Entry). not (has_ident ts q.0)) (take n (drop from es)) in
     let long = taken_length from n es (omega (arith, inv.order, inv.within)) in
-    omega (arith, e, short, long, inv.order, inv.within, c.chars-chars.ensures.chars)
+    record { chars_fit = omega (arith, e, short, long, inv.order, inv.within, c.chars-chars.ensures.chars) }

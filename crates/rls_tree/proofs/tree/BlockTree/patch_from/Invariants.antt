@@ -1,7 +1,7 @@
 use Rattle.std.proofs.Common.{◌≡◌, ◌-◌, ◌<◌, ◌≤◌, None, true, length, take, drop}
 use Rattle.rls_runs.specs.Entries.{without_all}
-use Rattle.rls_tree.specs.Trees.{entries_of, runs_in}
-use Rattle.rls_tree.specs.Edits.{are_loose}
+use Rattle.rls_blocks.specs.Trees.{entries_of, runs_in}
+use Rattle.rls_blocks.specs.Edits.{are_loose}
 use Rattle.rls_tree.proofs.tree.BlockTree.patch_from.Given as goal
 
 -- the blocks have what stays of the characters up to the place

@@ -1,5 +1,5 @@
 use Rattle.std.proofs.Common.{length, drop, ap, ◌∙◌, arith, length-append}
-use Rattle.rls_tree.specs.Trees.{entries_of}
+use Rattle.rls_blocks.specs.Trees.{entries_of}
 use Rattle.rls_tree.specs.Gaps.{filled}
 use Rattle.rls_tree.proofs.Filled.{gap_within, gaps_within}
 use Rattle.rls_tree.proofs.tree.BlockTree.patch_with.Goals as goal
@@ -25,10 +25,10 @@ loop-gaps-preserved c =
       loose = given.loose;
     }
 
-pub built-requires-clause-chars_fit : goal.built-requires-clause-chars_fit
-built-requires-clause-chars_fit c =
+pub tree_of-requires : goal.tree_of-requires
+tree_of-requires c =
     let es = entries_of c.args.self.now.blocks in
     let l = c.loop-gaps in
     let e = ap length l.invariant.entries in
     let m = length-append (entries_of l.blocks.items) (filled l.at l.gaps.items es (λ k. drop k es)) in
-    omega (arith, e, m, c.requires.room)
+    record { chars_fit = omega (arith, e, m, c.requires.room) }

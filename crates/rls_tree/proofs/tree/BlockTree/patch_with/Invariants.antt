@@ -1,6 +1,6 @@
 use Rattle.std.proofs.Common.{◌≡◌, ◌+◌, ◌-◌, ◌<◌, ◌≤◌, ◌++◌, None, true, length, drop}
-use Rattle.rls_tree.specs.Trees.{entries_of, runs_in}
-use Rattle.rls_tree.specs.Edits.{are_loose}
+use Rattle.rls_blocks.specs.Trees.{entries_of, runs_in}
+use Rattle.rls_blocks.specs.Edits.{are_loose}
 use Rattle.rls_tree.specs.Gaps.{AreGaps, filled}
 use Rattle.rls_tree.proofs.tree.BlockTree.patch_with.Given as goal
 

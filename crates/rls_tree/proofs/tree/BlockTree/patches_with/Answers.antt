@@ -2,11 +2,11 @@ use Rattle.std.proofs.Common.{◌≡◌, ℕ, ◌<◌, ◌≤◌, ◌∷◌, [],
 use Rattle.std.specs.Prelude.{reverse, None}
 use Rattle.std.proofs.lemmas.List.{reverse-append}
 use Rattle.rls_tree.specs.declared.insertion.Gap.{Gap}
-use Rattle.rls_tree.specs.Trees.{entries_of, runs_in}
-use Rattle.rls_tree.specs.Edits.{goes_on}
-use Rattle.rls_tree.specs.Patches.{before, IsBetween}
+use Rattle.rls_blocks.specs.Trees.{entries_of, runs_in}
+use Rattle.rls_blocks.specs.Edits.{goes_on}
+use Rattle.rls_blocks.specs.Patches.{before, IsBetween}
 use Rattle.rls_tree.specs.Gaps.{filled, AreGaps}
-use Rattle.rls_tree.proofs.Loose.{last_run, loose_of}
+use Rattle.rls_blocks.proofs.Loose.{last_run, loose_of}
 use Rattle.rls_tree.proofs.Planned.{end_of, all_patches}
 use Rattle.rls_tree.proofs.Filled.{first_gap, gaps_within}
 use Rattle.rls_tree.proofs.Grown.{Grown, start, first_grown, low_of, rest_fits, next, all_shows}

@@ -1,6 +1,6 @@
 use Rattle.std.proofs.Common.{◌+◌, ◌-◌, length, drop}
 use Rattle.std.specs.Prelude.{reverse}
-use Rattle.rls_tree.specs.Trees.{entries_of}
+use Rattle.rls_blocks.specs.Trees.{entries_of}
 use Rattle.rls_tree.specs.Gaps.{filled}
 use Rattle.rls_tree.proofs.Planned.{end_of}
 use Rattle.rls_tree.proofs.Grown.{Grown}

@@ -2,10 +2,11 @@ use Rattle.std.proofs.Common.{◌+◌, ◌<◌, ◌≤◌, ◌∷◌, [], None, 
 use Rattle.std.specs.Prelude.{reverse}
 use Rattle.std.proofs.lemmas.List.{reverse-append, length-map}
 use Rattle.rls_runs.specs.Entries.{idents_in}
-use Rattle.rls_tree.specs.Trees.{entries_of, runs_in}
-use Rattle.rls_tree.specs.Patches.{IsBetween, AreMembers}
-use Rattle.rls_tree.proofs.Loose.{loose_of}
-use Rattle.rls_tree.proofs.Patches.{between_most}
+use Rattle.rls_blocks.specs.Trees.{entries_of, runs_in}
+use Rattle.rls_blocks.specs.Patches.{IsBetween}
+use Rattle.rls_tree.specs.Targets.{AreMembers}
+use Rattle.rls_blocks.proofs.Loose.{loose_of}
+use Rattle.rls_blocks.proofs.Patches.{between_most}
 use Rattle.rls_tree.proofs.Targets.{members_less}
 use Rattle.rls_tree.proofs.Planned.{end_of, all_patches}
 use Rattle.rls_tree.proofs.Kept.{Kept, start, next, all_shows, from_later}

@@ -1,8 +1,8 @@
 use Rattle.std.proofs.Common.{◌+◌, ◌-◌, ◌≤◌, true, false, length}
 use Rattle.std.specs.Prelude.{reverse}
 use Rattle.rls_runs.specs.Entries.{idents_in}
-use Rattle.rls_tree.specs.Trees.{entries_of}
-use Rattle.rls_tree.specs.Patches.{AreMembers}
+use Rattle.rls_blocks.specs.Trees.{entries_of}
+use Rattle.rls_tree.specs.Targets.{AreMembers}
 use Rattle.rls_tree.proofs.Planned.{end_of}
 use Rattle.rls_tree.proofs.Kept.{Kept}
 use Rattle.rls_tree.proofs.tree.BlockTree.patches_without.Given as goal

@@ -3,8 +3,8 @@ use Rattle.rls_runs.specs.Runs.{idents_of, place_of}
 use Rattle.rls_runs.specs.Entries.{idents_in}
 use Rattle.rls_runs.specs.Places.{find_ident}
 use Rattle.rls_runs.proofs.RunOrder.{Rising}
-use Rattle.rls_tree.specs.Trees.{runs_in, entries_of}
-use Rattle.rls_tree.proofs.Parts.{pieces_rising, found_place}
+use Rattle.rls_blocks.specs.Trees.{runs_in, entries_of}
+use Rattle.rls_blocks.proofs.Parts.{pieces_rising, found_place}
 use Rattle.rls_tree.proofs.tree.BlockTree.place.Goals as goal
 
 pub find-requires : goal.find-requires

@@ -6,10 +6,10 @@ use Rattle.rls_runs.specs.Runs.{run_idents}
 use Rattle.rls_runs.specs.Entries.{idents_in}
 use Rattle.rls_doc.specs.Documents.{AreNew}
 use Rattle.rls_tree.specs.declared.insertion.Gap.{Gap}
-use Rattle.rls_tree.specs.Trees.{Piece, entries_of, piece_entries}
-use Rattle.rls_tree.specs.Edits.{part_of}
+use Rattle.rls_blocks.specs.Trees.{Piece, entries_of, piece_entries}
+use Rattle.rls_blocks.specs.Edits.{part_of}
 use Rattle.rls_tree.specs.Gaps.{Leaves}
-use Rattle.rls_tree.proofs.AtPlaces.{part_many, piece_idents}
+use Rattle.rls_blocks.proofs.AtPlaces.{part_many, piece_idents}
 use Rattle.rls_tree.proofs.Puts.{new_second}
 use Rattle.rls_tree.proofs.Filled.{run_gap}
 use Rattle.rls_tree.proofs.tree.BlockTree.push_gap.Goals as goal

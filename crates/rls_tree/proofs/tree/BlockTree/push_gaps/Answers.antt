@@ -1,8 +1,8 @@
 use Rattle.std.proofs.Common.{◌≡◌, ◌++◌, [], drop, subst, arith}
 use Rattle.std.proofs.Math.ListN.{drop_of_length-le}
-use Rattle.rls_tree.specs.Trees.{Piece, entries_of, piece_entries}
+use Rattle.rls_blocks.specs.Trees.{Piece, entries_of, piece_entries}
 use Rattle.rls_tree.specs.Gaps.{Leaves}
-use Rattle.rls_tree.proofs.Cases.{own_length}
+use Rattle.rls_blocks.proofs.Cases.{own_length}
 use Rattle.rls_tree.proofs.tree.BlockTree.push_gaps.Goals as goal
 
 pub loop-done-preserved : goal.loop-done-preserved

@@ -1,6 +1,6 @@
 use Rattle.std.proofs.Common.{◌-◌, ◌≤◌, ◌++◌, drop}
 use Rattle.rls_runs.specs.Entries.{Entries}
-use Rattle.rls_tree.specs.Trees.{entries_of, piece_entries}
+use Rattle.rls_blocks.specs.Trees.{entries_of, piece_entries}
 use Rattle.rls_tree.specs.Gaps.{Leaves}
 use Rattle.rls_tree.proofs.tree.BlockTree.push_gaps.Given as goal
 

@@ -2,10 +2,10 @@ use Rattle.std.proofs.Common.{None, refl, ap, ◌∙◌}
 use Rattle.std.specs.Prelude.{reverse}
 use Rattle.rls_runs.specs.Runs.{is_increasing}
 use Rattle.rls_runs.specs.Entries.{idents_in}
-use Rattle.rls_tree.specs.Trees.{entries_of, runs_in}
-use Rattle.rls_tree.specs.Edits.{are_loose, Shows}
-use Rattle.rls_tree.specs.Patches.{patched}
-use Rattle.rls_tree.proofs.AtPlaces.{apart_shows}
+use Rattle.rls_blocks.specs.Trees.{entries_of, runs_in}
+use Rattle.rls_blocks.specs.Edits.{are_loose, Shows}
+use Rattle.rls_blocks.specs.Patches.{patched}
+use Rattle.rls_blocks.proofs.AtPlaces.{apart_shows}
 use Rattle.rls_tree.proofs.tree.BlockTree.put_patches.Goals as goal
 
 pub invariant_of-self : goal.invariant_of-self

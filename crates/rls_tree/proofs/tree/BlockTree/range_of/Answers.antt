@@ -6,8 +6,8 @@ use Rattle.rls_runs.specs.Entries.{idents_in}
 use Rattle.rls_runs.proofs.RunOrder.{rising_of}
 use Rattle.rls_runs.proofs.RunPlaces.{found_is, found_there}
 use Rattle.rls_runs.proofs.RunsOf.{idents_of_runs, some_runs}
-use Rattle.rls_tree.specs.Trees.{entries_of}
-use Rattle.rls_tree.specs.Edits.{removed}
+use Rattle.rls_blocks.specs.Trees.{entries_of}
+use Rattle.rls_blocks.specs.Edits.{removed}
 use Rattle.rls_tree.proofs.Without.{whole_gone, taken_more}
 use Rattle.rls_tree.proofs.tree.BlockTree.range_of.Goals as goal
 

@@ -1,9 +1,10 @@
 use Rattle.std.proofs.Common.{◌≡◌, None, true, sym, subst}
 use Rattle.rls_runs.specs.Runs.{are_apart}
-use Rattle.rls_tree.specs.Trees.{entries_of, runs_in}
-use Rattle.rls_tree.specs.Edits.{removed}
-use Rattle.rls_tree.proofs.Pieces.{pieces_rise}
-use Rattle.rls_tree.proofs.AtPlaces.{apart_shows, increasing_removed}
+use Rattle.rls_blocks.specs.Trees.{entries_of, runs_in}
+use Rattle.rls_blocks.specs.Edits.{removed}
+use Rattle.rls_blocks.proofs.Pieces.{pieces_rise}
+use Rattle.rls_blocks.proofs.AtPlaces.{apart_shows}
+use Rattle.rls_tree.proofs.Without.{increasing_removed}
 use Rattle.rls_tree.proofs.tree.BlockTree.remove_range.Goals as goal
 
 pub invariant_of-self : goal.invariant_of-self

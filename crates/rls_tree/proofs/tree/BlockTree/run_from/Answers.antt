@@ -5,8 +5,8 @@ use Rattle.rls_ident.specs.declared.tuple.Tuple.{Tuple}
 use Rattle.rls_ident.specs.Identifiers.{shifted}
 use Rattle.rls_runs.specs.Runs.{run_idents}
 use Rattle.rls_runs.specs.Entries.{idents_in}
-use Rattle.rls_tree.specs.Trees.{entries_of}
-use Rattle.rls_tree.proofs.AtPlaces.{part_at}
+use Rattle.rls_blocks.specs.Trees.{entries_of}
+use Rattle.rls_blocks.proofs.AtPlaces.{part_at}
 use Rattle.rls_tree.proofs.Puts.{idents_located}
 use Rattle.rls_tree.proofs.tree.BlockTree.run_from.Goals as goal
 

@@ -3,7 +3,7 @@ use Rattle.rls_runs.specs.Runs.{run_idents, is_increasing}
 use Rattle.rls_runs.specs.Entries.{idents_in}
 use Rattle.rls_runs.specs.Places.{is_above, last_ident}
 use Rattle.rls_runs.proofs.RunOrder.{increasing_of, rising_of}
-use Rattle.rls_tree.specs.Trees.{entries_of}
+use Rattle.rls_blocks.specs.Trees.{entries_of}
 use Rattle.std.proofs.lemmas.Option.{slice_get-get_or}
 use Rattle.std.proofs.Math.Seq.{take-add}
 use Rattle.rls_runs.proofs.Sorted.{Entry}

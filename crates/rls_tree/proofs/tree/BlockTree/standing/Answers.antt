@@ -5,7 +5,7 @@ use Rattle.rls_ident.specs.Identifiers.{shifted}
 use Rattle.rls_runs.specs.Runs.{run_idents}
 use Rattle.rls_runs.specs.Entries.{has_ident, idents_in}
 use Rattle.rls_runs.proofs.RunPlaces.{found_is, found_there}
-use Rattle.rls_tree.specs.Trees.{entries_of}
+use Rattle.rls_blocks.specs.Trees.{entries_of}
 use Rattle.rls_runs.proofs.RunOrder.{rising_of}
 use Rattle.rls_runs.proofs.Gaps.{read_err}
 use Rattle.std.proofs.lemmas.Option.{slice_get_within}

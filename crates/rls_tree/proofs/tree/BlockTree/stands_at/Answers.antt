@@ -4,7 +4,7 @@ use Rattle.rls_ident.specs.Identifiers.{ident_eq}
 use Rattle.rls_ident.proofs.Ends.{eq_same}
 use Rattle.rls_runs.specs.Runs.{run_idents}
 use Rattle.rls_runs.specs.Entries.{idents_in}
-use Rattle.rls_tree.specs.Trees.{entries_of}
+use Rattle.rls_blocks.specs.Trees.{entries_of}
 use Rattle.rls_tree.proofs.tree.BlockTree.stands_at.Goals as goal
 
 pub returns-clause-idents : goal.returns-clause-idents

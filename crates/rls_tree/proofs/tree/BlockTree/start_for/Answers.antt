@@ -1,11 +1,12 @@
 use Rattle.std.proofs.Common.{◌≡◌, ◌+◌, ◌-◌, length, sym, ap, ◌∙◌, subst, arith}
 use Rattle.rls_ident.specs.Identifiers.{follows}
 use Rattle.rls_runs.specs.Runs.{run_last}
-use Rattle.rls_tree.specs.Trees.{entries_of}
-use Rattle.rls_tree.specs.Edits.{goes_on}
-use Rattle.rls_tree.specs.Patches.{IsBetween, before}
-use Rattle.rls_tree.proofs.Loose.{last_run}
-use Rattle.rls_tree.proofs.Patches.{next_between, none_before}
+use Rattle.rls_blocks.specs.Trees.{entries_of}
+use Rattle.rls_blocks.specs.Edits.{goes_on}
+use Rattle.rls_blocks.specs.Patches.{IsBetween, before}
+use Rattle.rls_blocks.proofs.Loose.{last_run}
+use Rattle.rls_blocks.proofs.Patches.{none_before}
+use Rattle.rls_tree.proofs.Starts.{next_between}
 use Rattle.rls_tree.proofs.tree.BlockTree.start_for.Goals as goal
 
 pub returns-then-i-eq0-clause-between : goal.returns-then-i-eq0-clause-between

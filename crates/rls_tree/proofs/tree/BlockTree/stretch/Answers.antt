@@ -1,9 +1,9 @@
 use Rattle.std.proofs.Common.{◌≡◌, ◌+◌, ◌≤◌, take, drop, length, sym, ap, ◌∙◌, arith}
 use Rattle.std.specs.Prelude.{pos}
 use Rattle.rls_ident.specs.Identifiers.{shifted}
-use Rattle.rls_tree.specs.Trees.{Piece, piece_entries, entries_of}
-use Rattle.rls_tree.specs.Edits.{part_of}
-use Rattle.rls_tree.proofs.AtPlaces.{part_at, part_many}
+use Rattle.rls_blocks.specs.Trees.{Piece, piece_entries, entries_of}
+use Rattle.rls_blocks.specs.Edits.{part_of}
+use Rattle.rls_blocks.proofs.AtPlaces.{part_at, part_many}
 use Rattle.rls_tree.proofs.Puts.{part_taken}
 use Rattle.rls_tree.proofs.tree.BlockTree.stretch.Goals as goal
 

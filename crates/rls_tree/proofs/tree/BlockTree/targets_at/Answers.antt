@@ -5,7 +5,7 @@ use Rattle.rls_ident.specs.Identifiers.{shifted}
 use Rattle.rls_ident.proofs.Shifted.{shifted_none, shifted_shifted}
 use Rattle.rls_runs.specs.Entries.{idents_in, has_ident}
 use Rattle.rls_runs.proofs.Gaps.{read_err}
-use Rattle.rls_tree.specs.Trees.{entries_of}
+use Rattle.rls_blocks.specs.Trees.{entries_of}
 use Rattle.rls_tree.proofs.Standing.{has_got}
 use Rattle.rls_tree.proofs.Targets.{run_at}
 use Rattle.rls_tree.proofs.tree.BlockTree.targets_at.Goals as goal

@@ -1,0 +1,13 @@
+pub mod Low
+pub mod Pieces
+pub mod Splits
+pub mod Parts
+pub mod Loose
+pub mod Changes
+pub mod Cases
+pub mod AtPlaces
+pub mod Placed
+pub mod Insertions
+pub mod Ranges
+pub mod Taken
+pub mod Patches

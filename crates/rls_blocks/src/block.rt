@@ -1,0 +1,170 @@
+//! Blocks.
+
+ghost use Rattle.std.specs.Prelude.{◌≡◌, ◌+◌, ◌-◌, ◌<◌, ◌≤◌, pos, length, take, drop, IsTrue, IfOk, OnOk, OnErr};
+ghost use Rattle.rls_ident.specs.Identifiers.{shifted, follows};
+ghost use Rattle.rls_runs.specs.Runs.{is_run, run_last};
+ghost use Rattle.rls_blocks.specs.Trees.{IsPiece};
+ghost use Rattle.rls_blocks.specs.Edits.{part_of, joined};
+
+use rls_ident::Ident;
+use rls_runs::{Run, RunError, Text};
+use std::alloc::{AllocError, Global};
+use std::marker::Model;
+
+/// A run with a character for each of its identifiers, seen as the pair of both.
+#[derive(Drop)]
+pub struct Block {
+    run: Run,
+    text: Text,
+}
+
+impl Model for Block {
+    ghost use Rattle.rls_blocks.specs.Trees.{Piece, IsPiece};
+
+    ghost Value = { Piece };
+
+    ghost view = { λ b. (b.run, b.text) };
+
+    ghost invariant = { λ b. IsPiece b.run b.text };
+}
+
+impl Block {
+    /// The block of this run and this text. It takes no memory.
+    pub fn new(run: Run, text: Text) -> Block
+        requires as_many { length text ≡ run.1 }
+        ensures block { result ≡ (run, text) }
+    {
+        let _len = run.len();
+        Block { run, text }
+    }
+
+    /// The run.
+    pub fn run(&self) -> &Run
+        ensures run { result.now ≡ self.now.0 }
+        ensures piece { IsPiece self.now.0 self.now.1 }
+    {
+        &self.run
+    }
+
+    /// The characters.
+    pub fn text(&self) -> &Text
+        ensures text { result.now ≡ self.now.1 }
+        ensures piece { IsPiece self.now.0 self.now.1 }
+    {
+        &self.text
+    }
+
+    /// How many characters there are.
+    pub fn len(&self) -> u32
+        ensures len { result ≡ length self.now.1 }
+        ensures piece { IsPiece self.now.0 self.now.1 }
+    {
+        self.run.len()
+    }
+
+    /// The same again.
+    pub fn copy(&self) -> Result<Block, AllocError>
+        ensures copy { IfOk result (λ block. block ≡ self.now) }
+    {
+        Ok(Block {
+            run: self.run.copy()?,
+            text: self.text.copy()?,
+        })
+    }
+
+    // The run and the characters.
+    pub(crate) fn into_parts(self) -> (Run, Text)
+        ensures parts { (result.0, result.1) ≡ self }
+        ensures piece { IsPiece self.0 self.1 }
+    {
+        (self.run, self.text)
+    }
+
+    // Grows at its end by a run that goes on with its own, and the run's characters. It costs their number.
+    pub(crate) fn extend(&mut self, run: &Run, text: Text) -> Result<(), AllocError>
+        requires as_many { length text ≡ run.now.1 }
+        requires touches { IsTrue (follows run.now.0 (run_last self.old.0)) }
+        ensures ok { OnOk result (self.new ≡ joined self.old (run.now, text)) }
+        ensures err { OnErr result (self.new ≡ self.old) }
+    {
+        let longer = joined_run(&self.run, run)?;
+        self.text.append(text)?;
+        self.run = longer;
+        Ok(())
+    }
+
+    // Grows at its front by a run with which its own goes on, and the run's characters. It costs their number.
+    pub(crate) fn extend_front(&mut self, run: &Run, text: Text) -> Result<(), AllocError>
+        requires as_many { length text ≡ run.now.1 }
+        requires touches { IsTrue (follows self.old.0.0 (run_last run.now)) }
+        ensures ok { OnOk result (self.new ≡ joined (run.now, text) self.old) }
+        ensures err { OnErr result (self.new ≡ self.old) }
+    {
+        let longer = joined_run(run, &self.run)?;
+        self.text.prepend(text)?;
+        self.run = longer;
+        Ok(())
+    }
+
+    // Keeps this many characters at its front.
+    pub(crate) fn keep_front(&mut self, at: u32) -> Result<(), AllocError>
+        requires some { 0 < at }
+        requires within { at ≤ self.old.0.1 }
+        ensures ok { OnOk result (self.new ≡ part_of 0 at self.old) }
+        ensures err { OnErr result (self.new ≡ self.old) }
+    {
+        let front = self.run.part(0, at)?;
+        self.shorten(front);
+        Ok(())
+    }
+
+    // Keeps the characters of the run, which is a front part of its own. It takes no memory.
+    pub(crate) fn shorten(&mut self, front: Run)
+        requires front { front.0 ≡ shifted (pos 0) self.old.0.0 }
+        requires within { front.1 ≤ self.old.0.1 }
+        ensures front { self.new ≡ part_of 0 front.1 self.old }
+    {
+        self.text.truncate(front.len() as usize);
+        self.run = front;
+    }
+
+    // Keeps its characters from a place on.
+    pub(crate) fn keep_back(&mut self, from: u32) -> Result<(), AllocError>
+        requires some { from < self.old.0.1 }
+        ensures ok { OnOk result (self.new ≡ part_of from (self.old.0.1 - from) self.old) }
+        ensures err { OnErr result (self.new ≡ self.old) }
+    {
+        let run = self.run.part(from, self.run.len() - from)?;
+        self.text.drop_front(from as usize);
+        self.run = run;
+        Ok(())
+    }
+}
+
+/// So many characters of a text from a place on. It costs their number.
+pub fn part_of_text(alloc: Global, text: &Text, from: usize, len: usize) -> Result<Text, AllocError>
+    requires within { from + len ≤ length text.now }
+    ensures part { IfOk result (λ part. part ≡ take len (drop from text.now)) }
+{
+    let _len = text.len();
+    let (front, back) = text.as_slices();
+    let end = from + len;
+    let (front_from, front_end) = (from.min(front.len()), end.min(front.len()));
+    let (back_from, back_end) = (from - front_from, end - front_end);
+    let mut part = Vec::with_capacity(alloc, len)?;
+    part.extend_from_slice(&front[front_from..front_end])?;
+    part.extend_from_slice(&back[back_from..back_end])?;
+    Ok(Text::from_vec(part))
+}
+
+// Two runs of which the second goes on with the first, as one.
+fn joined_run(run: &Run, next: &Run) -> Result<Run, AllocError>
+    requires touches { IsTrue (follows next.now.0 (run_last run.now)) }
+    ensures joined { IfOk result (λ longer. longer ≡ (run.now.0, run.now.1 + next.now.1)) }
+{
+    match Run::new(run.first().copy()?, run.len() + next.len()) {
+        Ok(longer) => Ok(longer),
+        Err(RunError::Empty) => unreachable!(),
+        Err(RunError::OffsetEnd) => unreachable!(),
+    }
+}

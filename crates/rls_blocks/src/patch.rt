@@ -1,0 +1,107 @@
+//! Blocks that take the place of others.
+
+ghost use Rattle.std.specs.Prelude.{◌≡◌, ◌+◌, ◌^◌, ◌<◌, ◌≤◌, ◌++◌, length, reverse, zip, None, OnOk, IsTrue};
+ghost use Rattle.rls_runs.specs.Runs.{idents_of};
+ghost use Rattle.rls_blocks.specs.Trees.{entries_of, piece_entries, runs_in};
+ghost use Rattle.rls_blocks.specs.Edits.{are_loose, Shows};
+ghost use Rattle.rls_blocks.specs.Patches.{before, after, IsBetween, patched, ArePatches};
+
+use crate::block::{Block, part_of_text};
+use crate::node::Link;
+use crate::split::{Halves, concat, split};
+use rls_runs::{Run, Text};
+use std::alloc::{AllocError, Global};
+
+/// Blocks that take the place of those between two places.
+#[derive(Drop)]
+pub struct Patch {
+    /// The place where the blocks begin that go.
+    pub from: u64,
+    /// The place where they end.
+    pub to: u64,
+    /// The blocks that take their place.
+    pub fresh: Link,
+}
+
+/// Puts a block after others, and joins it to the last one if it goes on with that. It costs the block's characters.
+/// After an error some of the others are gone.
+pub fn push_block(blocks: &mut Vec<Block>, block: Block) -> Result<(), AllocError>
+    requires loose { IsTrue (are_loose None (runs_in blocks.old.items)) }
+    ensures shows { OnOk result (Shows (entries_of blocks.old.items ++ piece_entries block) blocks.new.items) }
+{
+    let _len = block.len();
+    let Some(mut last) = blocks.pop() else {
+        blocks.push(block)?;
+        return Ok(());
+    };
+    let _last = last.len();
+    if last.run().touches(block.run().first()) {
+        let (run, text) = block.into_parts();
+        last.extend(&run, text)?;
+        blocks.push(last)?;
+        return Ok(());
+    }
+    blocks.push(last)?;
+    blocks.push(block)?;
+    Ok(())
+}
+
+/// Puts runs with the characters of a text after other blocks, and joins those that touch. It costs the characters, and moves them if
+/// it is one run. After an error some of the others are gone.
+pub fn push_runs(
+    alloc: Global,
+    blocks: &mut Vec<Block>,
+    runs: &[Run],
+    text: Text,
+) -> Result<(), AllocError>
+    requires loose { IsTrue (are_loose None (runs_in blocks.old.items)) }
+    requires as_many { length (idents_of runs.now) ≡ length text }
+    ensures shows { OnOk result (Shows (entries_of blocks.old.items ++ zip (idents_of runs.now) text) blocks.new.items) }
+{
+    if runs.len() == 1 {
+        let own = runs[0].copy()?;
+        return push_block(blocks, Block::new(own, text));
+    }
+    let _chars = text.len();
+    let mut at = 0;
+    for run in runs {
+        let own = run.copy()?;
+        let part = part_of_text(alloc, &text, at, run.len() as usize)?;
+        push_block(blocks, Block::new(own, part))?;
+        at += run.len() as usize;
+    }
+    Ok(())
+}
+
+/// The tree with each patch in the place of the blocks between its places. It costs a few steps for each level and each
+/// patch, and takes no memory.
+pub fn with_patches(link: Link, patches: Vec<Patch>) -> Link
+    requires patches { ArePatches (reverse patches.items) link.blocks }
+    requires chars_fit { length (entries_of (patched (reverse patches.items) link.blocks)) < 2 ^ 64 }
+    ensures blocks { result.blocks ≡ patched (reverse patches.items) link.blocks }
+{
+    let mut patches = patches;
+    let mut front = link;
+    let mut behind = Link::empty();
+    while let Some(patch) = patches.pop() {
+        let (near, far) = split_between(front, patch.to);
+        let (kept, _gone) = split_between(near, patch.from);
+        behind = concat(concat(patch.fresh, far), behind);
+        front = kept;
+    }
+    concat(front, behind)
+}
+
+// A tree as two, at a place between its blocks.
+fn split_between(link: Link, i: u64) -> (Link, Link)
+    requires between { IsBetween i link.blocks }
+    ensures front { result.0.blocks ≡ before i link.blocks }
+    ensures behind { result.1.blocks ≡ after i link.blocks }
+    ensures both { link.blocks ≡ result.0.blocks ++ result.1.blocks }
+{
+    let _chars = link.chars();
+    match split(link, i) {
+        Halves::Between(front, behind) => (front, behind),
+        Halves::Within(_, _, _, _) => unreachable!(),
+    }
+}
