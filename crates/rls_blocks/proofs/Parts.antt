@@ -1,5 +1,5 @@
 -- The identifiers of a node: those of its left side, of its block and of its right side.
-use Rattle.std.proofs.Common.{None, Ok, Err, true, ◌≡◌, ℕ, ◌+◌, ◌<◌, ◌≤◌, List, ◌∷◌, ◌++◌, ◌⊎◌, length, inr, sym, ap, ◌∙◌, subst, arith}
+use Rattle.std.proofs.Common.{None, Result, Ok, Err, true, ◌≡◌, ℕ, ◌+◌, ◌<◌, ◌≤◌, List, ◌∷◌, ◌++◌, ◌⊎◌, length, inr, sym, ap, ◌∙◌, subst, arith}
 use Rattle.std.proofs.lemmas.List.{map-append, length-map}
 use Rattle.rls_ident.specs.declared.tuple.Tuple.{Tuple}
 use Rattle.rls_runs.specs.Runs.{run_idents, idents_of, are_apart, place_of}
@@ -67,3 +67,6 @@ module _ (l r : List Piece) (b : Piece) (bs : List Piece) (y : List Tuple) (is :
       let end : length (entries_of l) + length b.1 ≡ length (idents_of (runs_in l)) + k = omega (arith, as_many_idents l front, most, more, own.as_many, run_length b.0.0 b.0.1) in
       ap (λ i. moved i (find_ident (idents_of (runs_in r)) y)) end
       ∙ found_right (idents_of (runs_in l)) (run_idents b.0.0 b.0.1) (idents_of (runs_in r)) y k parts e (omega (arith, more, piece_some b own)) ∙ all
+
+  pub after_found : (answer : Result ℕ ℕ) → answer ≡ find_ident (idents_of (runs_in r)) y → (k : ℕ) → Err k ≡ find_ident (run_idents b.0.0 b.0.1) y → length b.1 ≤ k → moved (length (entries_of l) + length b.1) answer ≡ find_ident (idents_of (runs_in bs)) y
+  after_found answer f k e more = ap (moved (length (entries_of l) + length b.1)) f ∙ after_own k e more

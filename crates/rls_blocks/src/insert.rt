@@ -12,7 +12,7 @@ use crate::block::Block;
 use crate::node::{Link, Single};
 use crate::put::put_at;
 use crate::side::Side;
-use crate::split::{Halves, first_out, last_out, split};
+use crate::split::{Halves, end_out, split};
 use rls_runs::{Run, Text};
 use std::alloc::{AllocError, Global};
 
@@ -103,10 +103,10 @@ fn fill_gap(front: Link, behind: Link, run: Run, text: Text) -> Result<Link, Lin
     ensures ok { IfOk result (λ new. Shows (entries_of front.blocks ++ piece_entries (run, text) ++ entries_of behind.blocks) new.blocks) }
     ensures err { IfErr result (λ old. old.blocks ≡ front.blocks ++ behind.blocks) }
 {
-    let Some((rest, last)) = last_out(front) else {
+    let Some((last, rest)) = end_out(front, Side::Behind) else {
         unreachable!()
     };
-    let Some((first, far)) = first_out(behind) else {
+    let Some((first, far)) = end_out(behind, Side::Front) else {
         unreachable!()
     };
     let _last = last.len();

@@ -1,12 +1,13 @@
 //! Blocks that take the place of others.
 
-ghost use Rattle.std.specs.Prelude.{◌≡◌, ◌+◌, ◌^◌, ◌<◌, ◌≤◌, ◌++◌, length, reverse, zip, None, OnOk, IsTrue};
+ghost use Rattle.std.specs.Prelude.{◌≡◌, ◌+◌, ◌^◌, ◌<◌, ◌≤◌, ◌++◌, length, reverse, zip, None, IfOk, OnOk, IsTrue};
 ghost use Rattle.rls_runs.specs.Runs.{idents_of};
-ghost use Rattle.rls_blocks.specs.Trees.{entries_of, piece_entries, runs_in};
+ghost use Rattle.rls_blocks.specs.Trees.{ArePieces, entries_of, piece_entries, runs_in};
 ghost use Rattle.rls_blocks.specs.Edits.{are_loose, Shows};
 ghost use Rattle.rls_blocks.specs.Patches.{before, after, IsBetween, patched, ArePatches};
 
 use crate::block::{Block, part_of_text};
+use crate::build::tree_of;
 use crate::node::Link;
 use crate::split::{Halves, concat, split};
 use rls_runs::{Run, Text};
@@ -21,6 +22,21 @@ pub struct Patch {
     pub to: u64,
     /// The blocks that take their place.
     pub fresh: Link,
+}
+
+impl Patch {
+    /// These blocks in the place of those between two places. It costs a step for each, and takes memory for as many nodes; it moves
+    /// no character.
+    pub fn new(alloc: Global, from: u64, to: u64, blocks: Vec<Block>) -> Result<Patch, AllocError>
+        requires chars_fit { length (entries_of blocks.items) < 2 ^ 64 }
+        ensures from { IfOk result (λ patch. patch.from ≡ from) }
+        ensures to { IfOk result (λ patch. patch.to ≡ to) }
+        ensures blocks { IfOk result (λ patch. patch.fresh.blocks ≡ blocks.items) }
+        ensures pieces { IfOk result (λ patch. ArePieces patch.fresh.blocks) }
+    {
+        let fresh = tree_of(alloc, blocks)?;
+        Ok(Patch { from, to, fresh })
+    }
 }
 
 /// Puts a block after others, and joins it to the last one if it goes on with that. It costs the block's characters.

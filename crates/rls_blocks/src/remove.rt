@@ -11,7 +11,7 @@ use crate::balance::join;
 use crate::cut::{cut, keep_ends};
 use crate::node::{Link, Single};
 use crate::side::Side;
-use crate::split::{Halves, concat, ends_before, first_out, last_out, split};
+use crate::split::{Halves, concat, end_out, ends_before, split};
 use std::alloc::Global;
 
 /// Takes this many characters out from a place on. It costs a step for each level and for each block that goes,
@@ -53,13 +53,13 @@ fn close_gap(front: Link, gone: Link, behind: Link) -> Result<Link, Link>
     ensures ok { IfOk result (λ new. Shows (entries_of front.blocks ++ entries_of behind.blocks) new.blocks) }
     ensures err { IfErr result (λ old. old.blocks ≡ front.blocks ++ gone.blocks ++ behind.blocks) }
 {
-    let Some((first, far)) = first_out(behind) else {
+    let Some((first, far)) = end_out(behind, Side::Front) else {
         return Ok(front);
     };
     if !ends_before(&front, first.run().first()) {
         return Ok(join(front, first, far));
     }
-    let Some((rest, last)) = last_out(front) else {
+    let Some((last, rest)) = end_out(front, Side::Behind) else {
         unreachable!()
     };
     match merge(last, first) {

@@ -3,11 +3,12 @@
 ghost use Rattle.std.specs.Prelude.{◌≡◌, ◌+◌, ◌^◌, ◌<◌, ◌≤◌, [], ◌∷◌, ◌++◌, length, None, IfSome, IfNone};
 ghost use Rattle.rls_runs.specs.Runs.{run_before};
 ghost use Rattle.rls_blocks.specs.Trees.{IsPiece, entries_of, runs_in};
-ghost use Rattle.rls_blocks.specs.Edits.{goes_on};
+ghost use Rattle.rls_blocks.specs.Edits.{goes_on, on};
 ghost use Rattle.rls_blocks.specs.Splits.{Splits};
 
 use crate::balance::join;
 use crate::node::{Link, Node, Single};
+use crate::side::Side;
 use rls_ident::Ident;
 
 /// A tree split at a place.
@@ -56,26 +57,9 @@ pub(crate) fn split(link: Link, i: u64) -> Halves
     }
 }
 
-/// All blocks but the last, and the last alone, if there is one. It costs a step for each level.
-pub(crate) fn last_out(link: Link) -> Option<(Link, Single)>
-    ensures blocks { IfSome result (λ parts. link.blocks ≡ parts.0.blocks ++ parts.1 ∷ []) }
-    ensures chars { IfSome result (λ parts. length (entries_of link.blocks) ≡ length (entries_of parts.0.blocks) + length parts.1.1) }
-    ensures piece { IfSome result (λ parts. IsPiece parts.1.0 parts.1.1) }
-    ensures chars_fit { length (entries_of link.blocks) < 2 ^ 64 }
-    ensures empty { IfNone result (link.blocks ≡ []) }
-{
-    let _chars = link.chars();
-    let opened = link.open()?;
-    let _len = opened.own.len();
-    match last_out(opened.right) {
-        None => Some((opened.left, opened.own)),
-        Some((rest, last)) => Some((join(opened.left, opened.own, rest), last)),
-    }
-}
-
-/// The first block alone, and all others, if there is one. It costs a step for each level.
-pub(crate) fn first_out(link: Link) -> Option<(Single, Link)>
-    ensures blocks { IfSome result (λ parts. link.blocks ≡ parts.0 ∷ parts.1.blocks) }
+/// The block at an end alone, and all others, if there is one. It costs a step for each level.
+pub(crate) fn end_out(link: Link, side: Side) -> Option<(Single, Link)>
+    ensures blocks { IfSome result (λ parts. link.blocks ≡ on side (parts.0 ∷ parts.1.blocks) (parts.1.blocks ++ parts.0 ∷ [])) }
     ensures chars { IfSome result (λ parts. length (entries_of link.blocks) ≡ length parts.0.1 + length (entries_of parts.1.blocks)) }
     ensures piece { IfSome result (λ parts. IsPiece parts.0.0 parts.0.1) }
     ensures chars_fit { length (entries_of link.blocks) < 2 ^ 64 }
@@ -84,9 +68,15 @@ pub(crate) fn first_out(link: Link) -> Option<(Single, Link)>
     let _chars = link.chars();
     let opened = link.open()?;
     let _len = opened.own.len();
-    match first_out(opened.left) {
-        None => Some((opened.own, opened.right)),
-        Some((first, rest)) => Some((first, join(rest, opened.own, opened.right))),
+    match side {
+        Side::Front => match end_out(opened.left, side) {
+            None => Some((opened.own, opened.right)),
+            Some((first, rest)) => Some((first, join(rest, opened.own, opened.right))),
+        },
+        Side::Behind => match end_out(opened.right, side) {
+            None => Some((opened.own, opened.left)),
+            Some((last, rest)) => Some((last, join(opened.left, opened.own, rest))),
+        },
     }
 }
 
@@ -96,9 +86,9 @@ pub(crate) fn concat(front: Link, behind: Link) -> Link
     ensures blocks { result.blocks ≡ front.blocks ++ behind.blocks }
     ensures chars { length (entries_of result.blocks) ≡ length (entries_of front.blocks) + length (entries_of behind.blocks) }
 {
-    match last_out(front) {
+    match end_out(front, Side::Behind) {
         None => behind,
-        Some((rest, last)) => join(rest, last, behind),
+        Some((last, rest)) => join(rest, last, behind),
     }
 }
 

@@ -6,7 +6,7 @@ use Rattle.rls_runs.proofs.RunOrder.{Rising}
 use Rattle.rls_runs.proofs.RunLists.{place_most}
 use Rattle.rls_runs.proofs.RunPlaces.{moved}
 use Rattle.rls_blocks.specs.Trees.{entries_of, runs_in}
-use Rattle.rls_blocks.proofs.Parts.{found_most, left_rises, right_rises, in_own, within_own, before_own, after_own}
+use Rattle.rls_blocks.proofs.Parts.{found_most, left_rises, right_rises, in_own, within_own, before_own, after_own, after_found}
 use Rattle.rls_blocks.proofs.node.Node.+find.Goals as goal
 
 pub overflow_add-result : goal.overflow_add-result
@@ -58,19 +58,19 @@ overflow_add-result-in-Ok-find t c =
     let found = c.in-Ok-find.ensures.find ∙ ap (λ bs. find_ident (idents_of (runs_in bs)) c.args.id.now) c.in-Some-node.ensures.blocks in
     omega (arith, c.self.invariant.sum_is, found_most c.self.inside.right.blocks c.args.id.now c.in-Ok-find.place c.self.invariant.right_are (inl (sym found)))
 
-pub returns-in-Ok-find : goal.returns-in-Ok-find
-returns-in-Ok-find t c =
-    let s = c.self.inside in
-    let found = c.in-Ok-find.ensures.find ∙ ap (λ bs. find_ident (idents_of (runs_in bs)) c.args.id.now) c.in-Some-node.ensures.blocks in
-    record { find = ap (λ i. Ok (i + c.in-Ok-find.place)) (omega arith) ∙ ap (moved (length (entries_of s.left.blocks) + length s.block.1)) found ∙ after_own s.left.blocks s.right.blocks s.block c.args.self.now.blocks c.args.id.now (ap (λ v. v.blocks) c.self.view_is) c.self.invariant.left_are c.self.invariant.own_is c.requires.rises c.in-Err.below (c.in-Err.ensures.find ∙ ap (λ q. find_ident (run_idents q.0 q.1) c.args.id.now) c.run.ensures.run) (omega arith) }
-
 pub overflow_add-result-in-Err-find : goal.overflow_add-result-in-Err-find
 overflow_add-result-in-Err-find t c =
     let found = c.in-Err-find.ensures.find ∙ ap (λ bs. find_ident (idents_of (runs_in bs)) c.args.id.now) c.in-Some-node.ensures.blocks in
     omega (arith, c.self.invariant.sum_is, found_most c.self.inside.right.blocks c.args.id.now c.in-Err-find.below c.self.invariant.right_are (inr (sym found)))
 
+pub returns-in-Ok-find : goal.returns-in-Ok-find
+returns-in-Ok-find t c =
+    let s = c.self.inside in
+    let found = c.in-Ok-find.ensures.find ∙ ap (λ bs. find_ident (idents_of (runs_in bs)) c.args.id.now) c.in-Some-node.ensures.blocks in
+    record { find = ap (λ i. Ok (i + c.in-Ok-find.place)) (omega arith) ∙ after_found s.left.blocks s.right.blocks s.block c.args.self.now.blocks c.args.id.now (ap (λ v. v.blocks) c.self.view_is) c.self.invariant.left_are c.self.invariant.own_is c.requires.rises (Ok c.in-Ok-find.place) found c.in-Err.below (c.in-Err.ensures.find ∙ ap (λ q. find_ident (run_idents q.0 q.1) c.args.id.now) c.run.ensures.run) (omega arith) }
+
 pub returns-in-Err-find : goal.returns-in-Err-find
 returns-in-Err-find t c =
     let s = c.self.inside in
     let found = c.in-Err-find.ensures.find ∙ ap (λ bs. find_ident (idents_of (runs_in bs)) c.args.id.now) c.in-Some-node.ensures.blocks in
-    record { find = ap (λ i. Err (i + c.in-Err-find.below)) (omega arith) ∙ ap (moved (length (entries_of s.left.blocks) + length s.block.1)) found ∙ after_own s.left.blocks s.right.blocks s.block c.args.self.now.blocks c.args.id.now (ap (λ v. v.blocks) c.self.view_is) c.self.invariant.left_are c.self.invariant.own_is c.requires.rises c.in-Err.below (c.in-Err.ensures.find ∙ ap (λ q. find_ident (run_idents q.0 q.1) c.args.id.now) c.run.ensures.run) (omega arith) }
+    record { find = ap (λ i. Err (i + c.in-Err-find.below)) (omega arith) ∙ after_found s.left.blocks s.right.blocks s.block c.args.self.now.blocks c.args.id.now (ap (λ v. v.blocks) c.self.view_is) c.self.invariant.left_are c.self.invariant.own_is c.requires.rises (Err c.in-Err-find.below) found c.in-Err.below (c.in-Err.ensures.find ∙ ap (λ q. find_ident (run_idents q.0 q.1) c.args.id.now) c.run.ensures.run) (omega arith) }
