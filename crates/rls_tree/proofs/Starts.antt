@@ -2,19 +2,20 @@
 use Rattle.std.proofs.Common.{◌≡◌, ℕ, ◌+◌, ◌-◌, ◌<◌, ◌≤◌, Bool, true, false, List, [], ◌∷◌, ◌++◌, length, Option, Some, None, slice_get, refl, sym, ap, ◌∙◌, subst, arith, append_assoc}
 use Rattle.std.specs.Prelude.{pos, nat_lt}
 use Rattle.rls_ident.proofs.Members.{lt_is, not_lt_is}
-use Rattle.rls_blocks.specs.Trees.{Piece, IsPiece, ArePieces, entries_of}
+use Rattle.rls_blocks.specs.Trees.{Piece, IsPiece, ArePieces, entries_of, runs_in}
 use Rattle.rls_blocks.specs.Patches.{before, after, IsBetween}
-use Rattle.rls_blocks.specs.Edits.{located}
+use Rattle.rls_blocks.specs.Edits.{located, goes_on, leads_to}
 use Rattle.rls_blocks.proofs.Loose.{last_run, last_append}
 use Rattle.rls_blocks.proofs.Cases.{single_chars}
 use Rattle.rls_runs.specs.Entries.{idents_in}
+use Rattle.rls_ident.specs.declared.tuple.Tuple.{Tuple}
 use Rattle.rls_ident.specs.Identifiers.{shifted}
 use Rattle.rls_blocks.proofs.AtPlaces.{entry_located}
 use Rattle.rls_tree.proofs.Located.{mapped_at, entry_at}
 use Rattle.rls_blocks.proofs.Placed.{around}
 use Rattle.rls_blocks.proofs.Pieces.{chars_append}
 use Rattle.rls_blocks.proofs.Splits.{are_left}
-use Rattle.rls_blocks.proofs.Patches.{before_seam, after_seam, before_within}
+use Rattle.rls_blocks.proofs.Patches.{before_seam, after_seam, before_within, all_before}
 
 pub record Begins (bs : List Piece) (i at : ℕ) (b : Piece) : Type 0 where
   pub within : at ≤ i
@@ -57,6 +58,24 @@ begins bs i at b h l e =
         let k = ap (λ xs. length (entries_of xs)) f in
         absurd (omega (arith, k, t, m))
     go j t u false q n p place w = let m = not_lt_is (length (entries_of (around bs i h l).front)) j q in omega (arith, m, n)
+
+-- at the end of all blocks
+pub end_between : (bs : List Piece) (i : ℕ) → ArePieces bs → i ≡ length (entries_of bs) → IsBetween i bs
+end_between bs i h e = ap (λ cs. length (entries_of cs)) (all_before bs i h e).0 ∙ sym e
+
+pub end_apart : (bs : List Piece) (i : ℕ) (last : Option (List Tuple × ℕ)) → ArePieces bs → i ≡ length (entries_of bs) → leads_to last (runs_in (after i bs)) ≡ false
+end_apart bs i last h e = ap (λ cs. leads_to last (runs_in cs)) (all_before bs i h e).1
+
+-- at the first place of a block
+module _ (bs : List Piece) (i at : ℕ) (b : Piece) (are : ArePieces bs) (within : i < length (entries_of bs)) (there : located bs i ≡ Some (b, at)) (first : at ≡ 0) where
+  same : i - at ≡ i
+  same = omega (arith, first)
+
+  pub first_between : IsBetween i bs
+  first_between = subst (λ k. IsBetween k bs) same (begins bs i at b are within there).between
+
+  pub first_leads : (last : Option (List Tuple × ℕ)) → leads_to last (runs_in (after i bs)) ≡ goes_on last b.0.0
+  first_leads last = ap (λ k. leads_to last (runs_in (after k bs))) (sym same) ∙ ap (λ cs. leads_to last (runs_in cs)) (begins bs i at b are within there).after_is
 
 -- after the last character of a block another one begins
 pub next_between : (bs : List Piece) (i at : ℕ) (b : Piece) → ArePieces bs → i < length (entries_of bs) → located bs i ≡ Some (b, at) → at + 1 ≡ length b.1 → IsBetween (i + 1) bs × (last_run (before (i + 1) bs) ≡ Some b.0)

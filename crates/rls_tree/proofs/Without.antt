@@ -1,7 +1,8 @@
 -- Entries without those of some identifiers.
-use Rattle.std.proofs.Common.{◌≡◌, ℕ, zero, suc, ◌+◌, ◌-◌, ◌<◌, ◌≤◌, Bool, true, false, cond, List, [], ◌∷◌, ◌++◌, length, take, drop, Some, slice_get, refl, sym, ap, ◌∙◌, subst, arith, append_assoc}
+use Rattle.std.proofs.Common.{◌≡◌, ℕ, zero, suc, ◌+◌, ◌-◌, ◌<◌, ◌≤◌, Bool, true, false, cond, List, [], ◌∷◌, ◌++◌, length, take, drop, get_or, Some, slice_get, refl, sym, ap, ◌∙◌, subst, arith, append_assoc}
 use Rattle.std.specs.Prelude.{not, filter, ◌||◌}
 use Rattle.std.proofs.lemmas.List.{take-append-drop, append-nil, drop-drop}
+use Rattle.std.proofs.lemmas.Option.{slice_get-get_or}
 use Rattle.std.proofs.lemmas.List.Elements.{filter-append}
 use Rattle.std.proofs.lemmas.List.Sums.{length-filter, count_by-le-length}
 use Rattle.rls_ident.specs.declared.tuple.Tuple.{Tuple}
@@ -9,16 +10,18 @@ use Rattle.rls_ident.specs.Identifiers.{ident_eq}
 use Rattle.rls_ident.proofs.Members.{or_left}
 use Rattle.rls_ident.proofs.Ends.{same_eq}
 use Rattle.rls_runs.specs.Entries.{Entries, idents_in, has_ident, without_all}
+use Rattle.rls_runs.specs.Places.{is_above, last_ident}
 use Rattle.rls_runs.specs.Runs.{run_idents, idents_of, is_increasing}
-use Rattle.rls_runs.proofs.RunOrder.{Rising, rising_right, idents_append as runs_append}
+use Rattle.rls_runs.proofs.RunOrder.{Rising, rising_right, rising_of, increasing_of, idents_append as runs_append}
 use Rattle.std.proofs.Math.Seq.{take-add}
 use Rattle.rls_runs.proofs.RunPlaces.{tells_less, tells_more}
 use Rattle.rls_runs.proofs.Sorted.{Entry, Rises, AreAbove, rises_drop}
-use Rattle.rls_doc.proofs.Rising.{rising, increasing}
+use Rattle.rls_doc.proofs.Rising.{rising, increasing, above_taken, idents_part}
+use Rattle.rls_doc.proofs.Steps.{ident_there}
 use Rattle.rls_blocks.specs.Edits.{removed}
 use Rattle.rls_blocks.proofs.AtPlaces.{idents_append}
-use Rattle.rls_runs.proofs.Gaps.{AreBelow, rising_below, firsts_less, rests_below, left_below}
-use Rattle.rls_tree.proofs.Puts.{idents_drop, idents_take, parted, headed}
+use Rattle.rls_runs.proofs.Gaps.{rising_drop, AreBelow, rising_below, firsts_less, rests_below, left_below}
+use Rattle.rls_tree.proofs.Puts.{get_drop, idents_drop, idents_take, parted, headed}
 
 -- ---- lists of identifiers to take out
 
@@ -94,6 +97,19 @@ taken_more xs rs i at n k r o h e g =
 
 pub filter_short : {X : Type 0} (t : X → Bool) (xs : List X) → length (filter t xs) ≤ length xs
 filter_short t xs = let n = length-filter t xs in let m = count_by-le-length t xs in omega (arith, n, m)
+
+-- the identifiers of a run from a place on are above those just before it
+pub above_next : (es : Entries) (from at : ℕ) (r : List Tuple × ℕ) → is_increasing (idents_in es) ≡ true → from ≤ at → at < length es → 0 < r.1 → take r.1 (drop at (idents_in es)) ≡ run_idents r.0 r.1 → is_above (last_ident (take (at - from) (drop from (idents_in es)))) r.0 ≡ true
+above_next es from at r up order within some own =
+    let xs = idents_in es in
+    let d : Entry = ([], 0) in
+    let e = get_or es at d in
+    let there : slice_get es at ≡ Some e = slice_get-get_or es at d within in
+    let first : r.0 ≡ e.0 = run_head xs at r.1 r.0 e.0 some (ident_there es at e there) own in
+    let n : from + (at - from) ≡ at = omega (arith, order) in
+    let here : slice_get (drop from es) (at - from) ≡ Some e = get_drop from (at - from) es ∙ ap (slice_get es) n ∙ there in
+    let rises : is_increasing (idents_in (drop from es)) ≡ true = ap is_increasing (idents_drop from es) ∙ increasing_of (drop from xs) (rising_drop from xs (rising_of xs up)) in
+    ap (λ ys. is_above (last_ident ys) r.0) (sym (idents_part from (at - from) es)) ∙ ap (is_above (last_ident (idents_in (take (at - from) (drop from es))))) first ∙ above_taken (drop from es) (at - from) e rises here
 
 -- ---- what a range taken out leaves rises
 

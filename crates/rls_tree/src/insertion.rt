@@ -12,7 +12,7 @@ ghost use Rattle.rls_blocks.specs.Patches.{before, after, IsBetween, patched, Ar
 
 use crate::removal::{ends_before, most_of};
 use crate::tree::BlockTree;
-use rls_blocks::{Block, Patch, part_of_text, push_block, tree_of};
+use rls_blocks::{Block, Patch, part_of_text, push_block};
 use rls_runs::{Run, Text};
 use std::alloc::AllocError;
 use std::collections::VecDeque;
@@ -172,11 +172,7 @@ impl BlockTree {
         while !self.is_filled(gaps, at, &blocks) {
             at = self.fill_next(gaps, at, &mut blocks)?;
         }
-        Ok(Patch {
-            from,
-            to: at,
-            fresh: tree_of(self.alloc(), blocks)?,
-        })
+        Patch::new(self.alloc(), from, at, blocks)
     }
 
     // Puts what goes in at a place after some blocks, or if there is no gap the characters up to the next one, as far as they are in

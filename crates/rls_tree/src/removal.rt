@@ -9,7 +9,7 @@ ghost use Rattle.rls_blocks.specs.Patches.{after, IsBetween, patched, ArePatches
 ghost use Rattle.rls_tree.specs.Targets.{AreMembers};
 
 use crate::tree::BlockTree;
-use rls_blocks::{Block, Patch, push_block, tree_of};
+use rls_blocks::{Block, Patch, push_block};
 use rls_ident::Ident;
 use rls_runs::Runs;
 use std::alloc::AllocError;
@@ -105,11 +105,7 @@ impl BlockTree {
         while !self.is_done(targets, at, &blocks) {
             at = self.copy_next(targets, at, &mut blocks)?;
         }
-        Ok(Patch {
-            from,
-            to: at,
-            fresh: tree_of(self.alloc(), blocks)?,
-        })
+        Patch::new(self.alloc(), from, at, blocks)
     }
 
     // Whether a block begins at a place, or none, that doesn't lose its first character and doesn't go on with the last of these.

@@ -24,8 +24,8 @@ loop-blocks-preserved c =
       loose = c.in_ok-at-2.ensures.loose;
     }
 
-pub tree_of-requires : goal.tree_of-requires
-tree_of-requires c =
+pub new-requires : goal.new-requires
+new-requires c =
     let es = entries_of c.args.self.now.blocks in
     let ts = c.args.targets.now in
     let inv = c.loop-blocks.invariant in

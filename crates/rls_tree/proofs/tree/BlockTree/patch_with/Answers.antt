@@ -25,8 +25,8 @@ loop-gaps-preserved c =
       loose = given.loose;
     }
 
-pub tree_of-requires : goal.tree_of-requires
-tree_of-requires c =
+pub new-requires : goal.new-requires
+new-requires c =
     let es = entries_of c.args.self.now.blocks in
     let l = c.loop-gaps in
     let e = ap length l.invariant.entries in
