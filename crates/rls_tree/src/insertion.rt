@@ -10,7 +10,7 @@ ghost use Rattle.rls_blocks.specs.Edits.{are_loose, goes_on, leads_to, Shows};
 ghost use Rattle.rls_tree.specs.Gaps.{gap_end, AreGaps, filled, is_gap, Leaves};
 ghost use Rattle.rls_blocks.specs.Patches.{before, after, IsBetween, patched, ArePatches};
 
-use crate::removal::{ends_before, most_of};
+use crate::removal::most_of;
 use crate::tree::BlockTree;
 use rls_blocks::{Block, Patch, part_of_text, push_block};
 use rls_runs::{Run, Text};
@@ -235,27 +235,7 @@ impl BlockTree {
         if has_gap(gaps, at) {
             return false;
         }
-        self.is_apart(at, blocks)
-    }
-
-    // Whether a block begins at a place, or none, that doesn't go on with the last of these.
-    fn is_apart(&self, at: u64, blocks: &[Block]) -> bool
-        requires place { at ≤ length (entries_of self.now.blocks) }
-        ensures more { IsFalse result → at < length (entries_of self.now.blocks) }
-        ensures between { IsTrue result → IsBetween at self.now.blocks }
-        ensures apart { IsTrue result → leads_to (run_before None (runs_in blocks.now)) (runs_in (after at self.now.blocks)) ≡ false }
-    {
-        let _chars = self.chars();
-        if at == self.chars() {
-            return true;
-        }
-        let (block, place) = self.locate(at);
-        let _len = block.len();
-        let first = block.run().first();
-        if place > 0 {
-            return false;
-        }
-        !ends_before(blocks, first)
+        self.begins_apart(at, blocks).is_some()
     }
 }
 

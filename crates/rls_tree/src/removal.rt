@@ -1,10 +1,10 @@
 //! Characters taken out at many places: first all that takes memory, without a change, and then the changes, which take none.
 
-ghost use Rattle.std.specs.Prelude.{◌≡◌, ℕ, ◌+◌, ◌-◌, ◌^◌, ◌<◌, ◌≤◌, ◌++◌, length, take, drop, reverse, true, false, None, IfOk, IsTrue, IsFalse};
+ghost use Rattle.std.specs.Prelude.{◌≡◌, ℕ, ◌+◌, ◌-◌, ◌^◌, ◌<◌, ◌≤◌, ◌++◌, length, take, drop, reverse, true, false, Some, None, IfSome, IfNone, IfOk, IsTrue, IsFalse};
 ghost use Rattle.rls_runs.specs.Runs.{run_before};
 ghost use Rattle.rls_runs.specs.Entries.{idents_in, without_all};
 ghost use Rattle.rls_blocks.specs.Trees.{ArePieces, entries_of, runs_in};
-ghost use Rattle.rls_blocks.specs.Edits.{are_loose, goes_on, leads_to, Shows};
+ghost use Rattle.rls_blocks.specs.Edits.{are_loose, goes_on, leads_to, located, Shows};
 ghost use Rattle.rls_blocks.specs.Patches.{after, IsBetween, patched, ArePatches};
 ghost use Rattle.rls_tree.specs.Targets.{AreMembers};
 
@@ -119,19 +119,39 @@ impl BlockTree {
         let _blocks = self.blocks();
         let _chars = self.chars();
         let _total = targets.total();
+        match self.begins_apart(at, blocks) {
+            None => false,
+            Some(None) => true,
+            Some(Some(block)) => {
+                let _len = block.len();
+                targets.find(block.run().first()).is_err()
+            }
+        }
+    }
+
+    // What begins at a place, if it doesn't go on with the last of these blocks: a block, or nothing at the end.
+    pub(crate) fn begins_apart(&self, at: u64, blocks: &[Block]) -> Option<Option<&Block>>
+        requires place { at ≤ length (entries_of self.now.blocks) }
+        ensures more { IfNone result (at < length (entries_of self.now.blocks)) }
+        ensures between { IfSome result (λ begins. IsBetween at self.now.blocks) }
+        ensures apart { IfSome result (λ begins. leads_to (run_before None (runs_in blocks.now)) (runs_in (after at self.now.blocks)) ≡ false) }
+        ensures end { IfSome result (λ begins. IfNone begins (at ≡ length (entries_of self.now.blocks))) }
+        ensures within { IfSome result (λ begins. IfSome begins (λ block. at < length (entries_of self.now.blocks))) }
+        ensures located { IfSome result (λ begins. IfSome begins (λ block. located self.now.blocks at ≡ Some (block.now, 0))) }
+    {
+        let _chars = self.chars();
         if at == self.chars() {
-            return true;
+            return Some(None);
         }
         let (block, place) = self.locate(at);
         let _len = block.len();
-        let first = block.run().first();
         if place > 0 {
-            return false;
+            return None;
         }
-        match targets.find(first) {
-            Ok(_) => false,
-            Err(_) => !ends_before(blocks, first),
+        if ends_before(blocks, block.run().first()) {
+            return None;
         }
+        Some(Some(block))
     }
 
     // Puts the characters from a place on that stay, or none if they go, after those of some blocks, as far as all of them stay or
