@@ -141,7 +141,7 @@ impl Block {
     }
 }
 
-/// So many characters of a text from a place on. It costs their number.
+/// A part of a text: this many characters from a place on. It costs their number.
 pub fn part_of_text(alloc: Global, text: &Text, from: usize, len: usize) -> Result<Text, AllocError>
     requires within { from + len ≤ length text.now }
     ensures part { IfOk result (λ part. part ≡ take len (drop from text.now)) }

@@ -1,4 +1,4 @@
-//! One more run in a tree. Each call answers the new tree, or if it finds no memory the old one.
+//! One more run in a tree.
 
 ghost use Rattle.std.specs.Prelude.{◌≡◌, ◌+◌, ◌-◌, ◌^◌, ◌<◌, ◌≤◌, ◌++◌, length, Some, None, IfOk, IfErr, IsTrue, false};
 ghost use Rattle.rls_ident.specs.Identifiers.{follows};
@@ -18,7 +18,11 @@ use std::alloc::{AllocError, Global};
 
 /// Puts a run and its characters in at a place. It costs a step for each level and the run's characters;
 /// if a block is cut in two there, the characters of the shorter part, and if it joins two blocks,
-/// those of the shorter one.
+/// those of the shorter one. It answers the new tree.
+///
+/// # Errors
+///
+/// The tree with the blocks that it had, if there is no memory.
 pub fn insert_at(alloc: Global, link: Link, i: u64, piece: Block) -> Result<Link, Link>
     requires place { i ≤ length (entries_of link.blocks) }
     requires chars_fit { length (entries_of link.blocks) + length piece.1 < 2 ^ 64 }

@@ -19,7 +19,7 @@ pub(crate) use single::Single;
 use std::alloc::AllocError;
 use std::marker::Model;
 
-/// A tree that may be empty.
+/// A balanced tree of blocks, which may be empty. In contracts it is its blocks in order, and how many levels it has.
 #[cycle(tree)]
 #[derive(Drop)]
 pub struct Link {
@@ -146,7 +146,7 @@ impl Link {
         }
     }
 
-    /// The block in which a place stands, and the place within the block. It costs a step for each level.
+    /// The block that has a place, and the place within the block. It costs a step for each level.
     pub fn locate(&self, i: u64) -> (&Block, u32)
         requires place { i < length (entries_of self.now.blocks) }
         ensures within { result.1 < length result.0.now.1 }
@@ -181,7 +181,7 @@ impl Link {
         at + 1 == len && block.run().touches(first)
     }
 
-    /// Puts the characters after those of a text.
+    /// Puts the characters after those of a text. It costs their number. After an error some of them are there.
     #[cycle(push_text)]
     pub fn push_text(&self, text: &mut Text) -> Result<(), AllocError>
         ensures ok { OnOk result (text.new ≡ text.old ++ chars_in (entries_of self.now.blocks)) }
@@ -278,7 +278,7 @@ impl Node {
         self.right.node()
     }
 
-    // The block in which a place stands, and the place within the block.
+    // The block that has a place, and the place within the block.
     fn locate(&self, i: u64) -> (&Block, u32)
         requires place { i < length (entries_of self.now.blocks) }
         ensures within { result.1 < length result.0.now.1 }

@@ -16,11 +16,11 @@ use std::alloc::{AllocError, Global};
 /// Blocks that take the place of those between two places.
 #[derive(Drop)]
 pub struct Patch {
-    /// The place where the blocks begin that go.
+    /// The place where the blocks begin that it replaces.
     pub from: u64,
-    /// The place where they end.
+    /// The place where these end.
     pub to: u64,
-    /// The blocks that take their place.
+    /// The blocks that replace them.
     pub fresh: Link,
 }
 

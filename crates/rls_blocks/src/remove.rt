@@ -1,5 +1,4 @@
-//! Characters taken out of a tree. Each call answers the new tree, or if it finds no memory
-//! the old one.
+//! Characters taken out of a tree.
 
 ghost use Rattle.std.specs.Prelude.{◌≡◌, ◌+◌, ◌-◌, ◌^◌, ◌<◌, ◌≤◌, ◌∷◌, ◌++◌, length, None, IfOk, IfErr, IsTrue};
 ghost use Rattle.rls_ident.specs.Identifiers.{follows};
@@ -16,7 +15,11 @@ use std::alloc::Global;
 
 /// Takes this many characters out from a place on. It costs a step for each level and for each block that goes,
 /// and their number; if it cuts one block in two, also the characters of the shorter part, and if two
-/// blocks touch then, those of the shorter one.
+/// blocks touch then, those of the shorter one. It answers the new tree.
+///
+/// # Errors
+///
+/// The tree with the blocks that it had, if there is no memory.
 pub fn remove_range(alloc: Global, link: Link, i: u64, count: u64) -> Result<Link, Link>
     requires some { 0 < count }
     requires within { i + count ≤ length (entries_of link.blocks) }
