@@ -5,6 +5,7 @@ use Rattle.rls_ident.specs.declared.tuple.Tuple.{Tuple}
 use Rattle.rls_ident.specs.declared.epoch_name.EpochName.{EpochName}
 use Rattle.rls_ident.specs.EpochNames.{name_eq}
 use Rattle.rls_ident.specs.Identifiers.{IsIdent, ident_cmp}
+use Rattle.rls_ident.specs.Lists.{IsIn}
 use Rattle.rls_ident.proofs.Iso.{Iso, inverse, compose, kept}
 use Rattle.rls_ident.proofs.Tuples.{tuples}
 use Rattle.rls_ident.proofs.Members.{or_left, or_right}
@@ -23,6 +24,11 @@ IsAmong (node ∷ older) R = (node.renaming ≡ R) ⊎ IsAmong older R
 abbrev pub AreAmong : List Node → List Renaming → Type 0
 AreAmong nodes [] = Unit {0}
 AreAmong nodes (R ∷ Rs) = IsAmong nodes R × AreAmong nodes Rs
+
+pub among_node : (nodes : List Node) (R : Renaming) → IsAmong nodes R → (node : Node) × IsIn node nodes × (node.renaming ≡ R)
+among_node [] R p = absurd p
+among_node (node ∷ older) R (inl e) = (node, inl refl, e)
+among_node (node ∷ older) R (inr p) = let r = among_node older R p in (r.0, inr r.1, r.2)
 
 -- a node that is there has its name there
 pub named : (nodes : List Node) (R : Renaming) → IsAmong nodes R → has_node nodes (name_of R) ≡ true

@@ -1,10 +1,13 @@
--- What is new to a set of last tuples is not renamed on the way up, and what is in the set stays in it on the way down.
+-- What is new to a set of last tuples is not renamed on the way up, and what is in the set stays in it on the way down. On the way up it stays in it
+-- if the set holds all former identifiers.
 use Rattle.std.proofs.Common.{◌≡◌, ℕ, suc, ◌+◌, ◌<◌, length, List, [], ◌∷◌, ◌++◌, refl, sym, ap, ◌∙◌, subst, arith, inl, inr, ◌⊎◌, length-append}
 use Rattle.std.specs.Prelude.{ℤ, pos}
 use Rattle.rls_ident.specs.declared.tuple.Tuple.{Tuple}
 use Rattle.rls_ident.specs.declared.epoch_name.EpochName.{EpochName}
 use Rattle.rls_ident.specs.Tuples.{replica_of, seq_of, offset_of}
 use Rattle.rls_ident.specs.Identifiers.{IsIdent, last_of}
+use Rattle.rls_ident.specs.Lists.{IsIn}
+use Rattle.rls_ident.proofs.Members.{in_right}
 use Rattle.rls_ident.proofs.Lists.{Lt, lt_irrefl, tri}
 use Rattle.rls_ident.proofs.Tuples.{tuples}
 use Rattle.rls_rename.specs.Renaming.{Renaming, IsFormer, IsNoneOf, new_spot, new_at, new_from, forward, back}
@@ -22,6 +25,13 @@ IsCovered U R = (j : ℕ) → j < length R.former → U R.replica R.seq (pos j)
 
 abbrev pub AreCovered : (ℕ → ℕ → ℤ → Type 0) → List Node → Type 0
 AreCovered U nodes = (R : Renaming) → IsAmong nodes R → IsCovered U R
+
+-- each former identifier of a renaming has its last tuple in the set
+abbrev pub HasFormer : (ℕ → ℕ → ℤ → Type 0) → Renaming → Type 0
+HasFormer U R = (x : List Tuple) → IsIn x R.former → HasLast U x
+
+abbrev pub HaveFormer : (ℕ → ℕ → ℤ → Type 0) → List Node → Type 0
+HaveFormer U nodes = (R : Renaming) → IsAmong nodes R → HasFormer U R
 
 -- ---- one renaming
 
@@ -64,6 +74,17 @@ none_new U R x n i (a ∷ rest) c =
 pub back_new : (U : ℕ → ℕ → ℤ → Type 0) (R : Renaming) (x : List Tuple) → IsFormer R.former → IsIdent x → IsCovered U R → (HasLast U x → ⊥) → last_of (back R x) ≡ last_of x
 back_new U R x h i c n = (last_kept R x h i).1 (none_new U R x n 0 R.former (λ j l. c j (omega arith)))
 
+-- back from a new identifier to a former one, which is in the set, and else the last tuple is kept
+pub back_in : (U : ℕ → ℕ → ℤ → Type 0) (R : Renaming) (x : List Tuple) → IsFormer R.former → IsIdent x → HasFormer U R → HasLast U x → HasLast U (back R x)
+back_in U R x h i c u = go (one_or_none (back R x) R.former)
+  where
+    go : IsNoneOf (back R x) R.former ⊎ ((b : List (List Tuple)) × (d : List (List Tuple)) × (R.former ≡ b ++ (back R x ∷ d))) → HasLast U (back R x)
+    go (inl n) =
+        let m = renaming_iso R h in
+        let e = sym ((last_kept R (back R x) h (m.onto x i)).0 n) ∙ ap last_of (m.back x i) in
+        subst (λ t. U (replica_of t) (seq_of t) (offset_of t)) (sym e) u
+    go (inr p) = c (back R x) (subst (IsIn (back R x)) (sym p.2) (in_right (back R x) p.0 (back R x ∷ p.1) (inl refl)))
+
 -- ---- paths
 
 pub up_new : (U : ℕ → ℕ → ℤ → Type 0) (nodes : List Node) → AreNodes nodes → AreCovered U nodes → (Rs : List Renaming) → AreAmong nodes Rs → (x : List Tuple) → IsIdent x → (HasLast U x → ⊥) →
@@ -90,3 +111,17 @@ newborn_in U V nodes e f x n c d i h u =
     let p = up_new U nodes n c (path nodes e) (path-among nodes e) x i h in
     let v = subst (λ t. V (replica_of t) (seq_of t) (offset_of t)) (sym p.1) u in
     subst (λ z. HasLast V z) (sym (translate_is nodes e f x n i)) (down_in V nodes n d (path nodes f) (path-among nodes f) (back_all (path nodes e) x) p.0 v)
+
+up_in : (U : ℕ → ℕ → ℤ → Type 0) (nodes : List Node) → AreNodes nodes → HaveFormer U nodes → (Rs : List Renaming) → AreAmong nodes Rs → (x : List Tuple) → IsIdent x → HasLast U x → IsIdent (back_all Rs x) × HasLast U (back_all Rs x)
+unfolding back_all
+up_in U nodes n c [] a x i u = (i, u)
+up_in U nodes n c (R ∷ Rs) a x i u =
+    let f = former_among nodes n R a.0 in
+    let p = up_in U nodes n c Rs a.1 x i u in
+    ((renaming_iso R f).onto (back_all Rs x) p.0, back_in U R (back_all Rs x) f p.0 (c R a.0) p.1)
+
+-- where a set holds the last tuples of all former and all new identifiers, what is in it in one epoch is in it in every epoch
+pub stays_in : (U : ℕ → ℕ → ℤ → Type 0) (nodes : List Node) (e f : EpochName) (x : List Tuple) → AreNodes nodes → HaveFormer U nodes → AreCovered U nodes → IsIdent x → HasLast U x → HasLast U (translate nodes e f x)
+stays_in U nodes e f x n c d i u =
+    let p = up_in U nodes n c (path nodes e) (path-among nodes e) x i u in
+    subst (λ z. HasLast U z) (sym (translate_is nodes e f x n i)) (down_in U nodes n d (path nodes f) (path-among nodes f) (back_all (path nodes e) x) p.0 p.1)

@@ -19,7 +19,7 @@ use Rattle.rls_rename.proofs.Former.{former_of}
 use Rattle.rls_rename.proofs.Growth.{kept_other, translate_other, translate_child, translate_back}
 use Rattle.rls_rename.proofs.Kept.{greatest_kept, kept_more}
 use Rattle.rls_rename.proofs.Order.{older_cmp, level_same, kept_before}
-use Rattle.rls_rename.proofs.Paths.{IsAmong, name_eq_is, name_eq_refl, translate_ident, translate_translate, translate_order}
+use Rattle.rls_rename.proofs.Paths.{among_node, name_eq_is, name_eq_refl, translate_ident, translate_translate, translate_order}
 use Rattle.rls_rename.proofs.SameNodes.{greatest_top}
 use Rattle.rls_rename.proofs.Triples.{HasLast, AreCovered, forward_in, newborn_in}
 use Rattle.rls_rename.proofs.Triples as triples
@@ -48,11 +48,6 @@ use Rattle.rls_seen.proofs.TextLists.{ids, moved, ident_in, idents_of, rises_map
 
 abbrev pub Used : List Stem → ℕ → ℕ → ℤ → Type 0
 Used ss a q k = is_used ss a q k ≡ true
-
-among_node : (ns : List Node) (R : Renaming) → IsAmong ns R → (n : Node) × IsIn n ns × (n.renaming ≡ R)
-among_node [] R p = absurd p
-among_node (n ∷ ns) R (inl e) = (n, inl refl, e)
-among_node (n ∷ ns) R (inr p) = let r = among_node ns R p in (r.0, inr r.1, r.2)
 
 -- the nodes of a replica are covered
 pub covered : (ss : List Stem) (ns : List Node) → ((n : Node) → IsIn n ns → IsCovered ss n) → AreCovered (Used ss) ns
