@@ -1,4 +1,5 @@
 pub mod UsedRuns
+pub mod UsedRenamings
 pub mod Building
 pub mod Faults
 pub mod InOrder

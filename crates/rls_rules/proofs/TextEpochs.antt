@@ -1,5 +1,5 @@
 -- The identifiers of a text in the epochs of the list.
-use Rattle.std.proofs.Common.{◌≡◌, ℕ, suc, zero, ◌<◌, ◌&&◌, Bool, true, false, List, [], ◌∷◌, length, map, get_or, take, refl, sym, ap, ◌∙◌, subst, arith, inl, inr, None}
+use Rattle.std.proofs.Common.{◌≡◌, ℕ, suc, zero, ◌<◌, ◌&&◌, Bool, true, false, List, [], ◌∷◌, length, map, get_or, take, drop, refl, sym, ap, ◌∙◌, subst, arith, inl, inr, None}
 use Rattle.std.specs.List.{list_all}
 use Rattle.rls_ident.specs.declared.tuple.Tuple.{Tuple}
 use Rattle.rls_ident.specs.declared.epoch_name.EpochName.{EpochName}
@@ -17,8 +17,10 @@ use Rattle.rls_model.specs.declared.parts.Parts.{Parts}
 use Rattle.rls_model.specs.declared.parts.TextRun.{TextRun}
 use Rattle.rls_parts.specs.Given.{AreEpochParts}
 use Rattle.rls_parts.specs.Reading.{epochs_of, in_epoch, names_of}
-use Rattle.rls_parts.specs.Rules.{epoch_fault, is_text_of, is_used_tuple}
+use Rattle.rls_parts.specs.Rules.{epoch_fault, is_text_of, is_used_everywhere, is_used_tuple}
+use Rattle.rls_rules.specs.Used.{is_used_renaming}
 use Rattle.rls_rules.proofs.Faults.{at_kept}
+use Rattle.rls_rules.proofs.UsedRenamings.{used_always}
 
 -- ---- tests of lists
 
@@ -109,20 +111,19 @@ used_here p g ids n h i =
     all_same (λ x. is_used_tuple p (last_of x)) (λ x. is_used_tuple p (last_of (in_epoch p g x))) ids
     (λ x q. ap (λ y. is_used_tuple p (last_of y)) (sym (ap (λ f. translate E.nodes f g x) (sym h) ∙ translate_same E.nodes g x n (in_all is_ident x ids i q))))
 
-only_name : (es : List EpochPart) (g : EpochName) → length es ≡ 1 → IsIn g (names_of es) → names_of es ≡ g ∷ []
-only_name [] g l q = absurd (omega arith)
-only_name (f ∷ []) g l (inl e) = ap (λ h. h ∷ []) e
-only_name (f ∷ []) g l (inr q) = absurd q
-only_name (f ∷ (h ∷ es)) g l q = absurd (omega arith)
-
--- where the list has one epoch, nothing is renamed
-pub text_alone : (p : Parts) (E : Epochs) (r : TextRun) (b : Bool) → AreEpochParts p.epochs → epoch_fault p [] p.epochs ≡ None → E ≡ epochs_of p → AreNodes E.nodes → is_run r.run ≡ true → length p.epochs ≡ 1
-    → b ≡ list_all (λ x. is_used_tuple p (last_of x)) (run_idents r.run.0 r.run.1) → b ≡ is_text_of p r
-text_alone p E r b a rule e n i l u =
+-- if each renaming's identifiers were used, the greatest epoch decides
+pub text_there : (p : Parts) (E : Epochs) (r : TextRun) (b all : Bool) → AreEpochParts p.epochs → epoch_fault p [] p.epochs ≡ None → E ≡ epochs_of p → AreNodes E.nodes → is_run r.run ≡ true
+    → all ≡ list_all (is_used_renaming p) (drop 1 p.epochs) → all ≡ true → b ≡ list_all (λ x. is_used_tuple p (last_of x)) (run_idents r.run.0 r.run.1) → b ≡ is_text_of p r
+text_there p E r b all a rule e n i l h u =
     let F = epochs_of p in
     let g = greatest F.top F.nodes in
     let xs = run_idents r.run.0 r.run.1 in
-    let names = only_name p.epochs g l (at_kept p F a rule refl g (greatest_kept F.top F.nodes)) in
+    let ids = run_are_idents r.run.0 r.run.1 (run_ident r.run i) in
+    let nodes = subst (λ (y : Epochs). AreNodes y.nodes) e n in
+    let settled : list_all (is_used_renaming p) (drop 1 p.epochs) ≡ true = sym l ∙ h in
     u
-    ∙ (used_here p g xs (subst (λ (y : Epochs). AreNodes y.nodes) e n) refl (run_are_idents r.run.0 r.run.1 (run_ident r.run i))
-    ∙ (sym (and_one (used_in p xs g)) ∙ (ap (list_all (used_in p xs)) (sym names) ∙ sym (text_is p r))))
+    ∙ same_bool (list_all (λ x. is_used_tuple p (last_of x)) xs) (is_text_of p r)
+    (λ k. all_in (is_used_everywhere p) xs
+    (λ x q. all_in (λ f. is_used_tuple p (last_of (in_epoch p f x))) (names_of p.epochs)
+    (λ f w. used_always p g f x a rule nodes settled (in_all is_ident x xs ids q) (in_all (λ y. is_used_tuple p (last_of y)) x xs k q))))
+    (λ k. used_here p g xs nodes refl ids ∙ in_all (used_in p xs) g (names_of p.epochs) (sym (text_is p r) ∙ k) (at_kept p F a rule refl g (greatest_kept F.top F.nodes)))

@@ -1,20 +1,19 @@
-use Rattle.std.proofs.Common.{◌≡◌, ◌++◌, List, ℕ, length, sym, ap, ◌∙◌, subst, arith}
+use Rattle.std.proofs.Common.{◌≡◌, ◌++◌, List, ℕ, sym, ap, ◌∙◌, subst}
 use Rattle.std.specs.Prelude.{IfOk}
 use Rattle.rls_ident.specs.declared.tuple.Tuple.{Tuple}
 use Rattle.rls_ident.specs.Lists.{IsIn}
 use Rattle.rls_runs.specs.Runs.{run_idents}
 use Rattle.rls_parts.specs.Reading.{names_of}
 use Rattle.rls_rules.proofs.Faults.{kept_at}
-use Rattle.rls_rules.proofs.TextEpochs.{text_alone, text_of}
+use Rattle.rls_rules.proofs.TextEpochs.{text_of, text_there}
 use Rattle.rls_rules.proofs.text.is_text_of.Goals as goal
 
-pub returns-then-len-eq1 : goal.returns-then-len-eq1
-returns-then-len-eq1 c =
+pub returns-then-are_all_used : goal.returns-then-are_all_used
+returns-then-are_all_used c =
     let p = c.args.parts.now in
     let r = c.requires in
-    let one : length p.epochs ≡ 1 = omega (arith, c.if-len-eq1.true, c.len.ensures.len) in
     record {
-      used = text_alone p c.args.epochs.now.epochs c.args.run.now c.is_used_run.result r.given.epochs r.rule r.epochs_are c.count-count.ensures.tree.0 c.len-len.ensures.run one (c.is_used_run.ensures.used p (sym r.stems_are));
+      used = text_there p c.args.epochs.now.epochs c.args.run.now c.is_used_run.result c.args.are_all_used r.given.epochs r.rule r.epochs_are c.count-count.ensures.tree.0 c.len-len.ensures.run r.all c.if-are_all_used.true (c.is_used_run.ensures.used p (sym r.stems_are));
     }
 
 pub are_used_everywhere-requires : goal.are_used_everywhere-requires
