@@ -21,6 +21,16 @@ abbrev pub on : {A : Type 0} → Side → A → A → A
 on Front a b = a
 on Behind a b = b
 
+-- the other side
+abbrev pub opposite : Side → Side
+opposite Front = Behind
+opposite Behind = Front
+
+-- a block between others, of which the first are on this side of it
+abbrev pub around : Side → List Piece → Piece → List Piece → List Piece
+around Front first b other = first ++ b ∷ other
+around Behind first b other = other ++ b ∷ first
+
 -- the block touches the other on this side of it
 abbrev pub may_grow : Side → Piece → Piece → Bool
 may_grow Front n b = follows b.0.0 (run_last n.0)

@@ -2,8 +2,10 @@
 
 ghost use Rattle.std.specs.Prelude.{◌≡◌, ◌+◌, ◌^◌, ◌<◌, ◌≤◌, max, ◌∷◌, ◌++◌, length};
 ghost use Rattle.rls_blocks.specs.Trees.{entries_of};
+ghost use Rattle.rls_blocks.specs.Edits.{around};
 
 use crate::node::{Link, Opened, Single};
+use crate::side::Side;
 
 /// A block that stands alone, between two trees whose heights differ by one level at most.
 pub(crate) fn make(left: Link, middle: Single, right: Link) -> Link
@@ -17,60 +19,47 @@ pub(crate) fn make(left: Link, middle: Single, right: Link) -> Link
     Opened::new(left, middle, right).close()
 }
 
-/// The same, but the right tree may be two levels higher.
-pub(crate) fn lean_right(left: Link, middle: Single, right: Link) -> Link
-    requires chars_fit { length (entries_of left.blocks) + length middle.1 + length (entries_of right.blocks) < 2 ^ 64 }
-    requires left_not_higher { left.height ≤ right.height + 1 }
-    requires right_not_higher { right.height ≤ left.height + 2 }
-    ensures blocks { result.blocks ≡ left.blocks ++ middle ∷ right.blocks }
-    ensures chars { length (entries_of result.blocks) ≡ length (entries_of left.blocks) + length middle.1 + length (entries_of right.blocks) }
-    ensures not_lower { max left.height right.height ≤ result.height }
-    ensures at_most_one_higher { result.height ≤ max left.height right.height + 1 }
-    ensures stays { right.height ≤ left.height + 1 → result.height ≡ max left.height right.height + 1 }
+// The same, with the first of the trees on a side of the block.
+fn make_at(side: Side, first: Link, middle: Single, other: Link) -> Link
+    requires chars_fit { length (entries_of first.blocks) + length middle.1 + length (entries_of other.blocks) < 2 ^ 64 }
+    requires not_higher { first.height ≤ other.height + 1 }
+    requires other_not_higher { other.height ≤ first.height + 1 }
+    ensures blocks { result.blocks ≡ around side first.blocks middle other.blocks }
+    ensures chars { length (entries_of result.blocks) ≡ length (entries_of first.blocks) + length middle.1 + length (entries_of other.blocks) }
+    ensures height { result.height ≡ max first.height other.height + 1 }
 {
-    if right.height() <= left.height() + 1 {
-        return make(left, middle, right);
+    match side {
+        Side::Front => make(first, middle, other),
+        Side::Behind => make(other, middle, first),
     }
-    let Some(outer) = right.open() else {
-        unreachable!()
-    };
-    if outer.left.height() <= outer.right.height() {
-        return make(make(left, middle, outer.left), outer.own, outer.right);
-    }
-    let Some(inner) = outer.left.open() else {
-        unreachable!()
-    };
-    let near = make(left, middle, inner.left);
-    let far = make(inner.right, outer.own, outer.right);
-    make(near, inner.own, far)
 }
 
-/// The same, but the left tree may be two levels higher.
-pub(crate) fn lean_left(left: Link, middle: Single, right: Link) -> Link
-    requires chars_fit { length (entries_of left.blocks) + length middle.1 + length (entries_of right.blocks) < 2 ^ 64 }
-    requires right_not_higher { right.height ≤ left.height + 1 }
-    requires left_not_higher { left.height ≤ right.height + 2 }
-    ensures blocks { result.blocks ≡ left.blocks ++ middle ∷ right.blocks }
-    ensures chars { length (entries_of result.blocks) ≡ length (entries_of left.blocks) + length middle.1 + length (entries_of right.blocks) }
-    ensures not_lower { max left.height right.height ≤ result.height }
-    ensures at_most_one_higher { result.height ≤ max left.height right.height + 1 }
-    ensures stays { left.height ≤ right.height + 1 → result.height ≡ max left.height right.height + 1 }
+// The same, but the first tree may be two levels higher.
+fn lean(side: Side, high: Link, middle: Single, low: Link) -> Link
+    requires chars_fit { length (entries_of high.blocks) + length middle.1 + length (entries_of low.blocks) < 2 ^ 64 }
+    requires low_not_higher { low.height ≤ high.height + 1 }
+    requires high_not_higher { high.height ≤ low.height + 2 }
+    ensures blocks { result.blocks ≡ around side high.blocks middle low.blocks }
+    ensures chars { length (entries_of result.blocks) ≡ length (entries_of high.blocks) + length middle.1 + length (entries_of low.blocks) }
+    ensures not_lower { max high.height low.height ≤ result.height }
+    ensures at_most_one_higher { result.height ≤ max high.height low.height + 1 }
+    ensures stays { high.height ≤ low.height + 1 → result.height ≡ max high.height low.height + 1 }
 {
-    if left.height() <= right.height() + 1 {
-        return make(left, middle, right);
+    if high.height() <= low.height() + 1 {
+        return make_at(side, high, middle, low);
     }
-    let Some(outer) = left.open() else {
+    let Some((outer, own, inner)) = high.open_at(side) else {
         unreachable!()
     };
-    if outer.right.height() <= outer.left.height() {
-        return make(outer.left, outer.own, make(outer.right, middle, right));
+    if inner.height() <= outer.height() {
+        return make_at(side, outer, own, make_at(side, inner, middle, low));
     }
-    let Some(inner) = outer.right.open() else {
+    let Some((far, core, near)) = inner.open_at(side) else {
         unreachable!()
     };
-    let far = make(outer.left, outer.own, inner.left);
-    let near = make(inner.right, middle, right);
-    make(far, inner.own, near)
+    let kept = make_at(side, outer, own, far);
+    let moved = make_at(side, near, middle, low);
+    make_at(side, kept, core, moved)
 }
 
 /// Two trees with a block that stands alone between them. It costs the difference of their heights,
@@ -83,43 +72,26 @@ pub(crate) fn join(left: Link, middle: Single, right: Link) -> Link
     ensures at_most_one_higher { result.height ≤ max left.height right.height + 1 }
 {
     if left.height() < right.height() {
-        return join_high(left, middle, right);
+        return join_to(Side::Behind, right, middle, left);
     }
-    join_low(left, middle, right)
+    join_to(Side::Front, left, middle, right)
 }
 
-// The same, if the right tree is at most one level higher.
-fn join_low(left: Link, middle: Single, right: Link) -> Link
-    requires chars_fit { length (entries_of left.blocks) + length middle.1 + length (entries_of right.blocks) < 2 ^ 64 }
-    requires not_higher { right.height ≤ left.height + 1 }
-    ensures blocks { result.blocks ≡ left.blocks ++ middle ∷ right.blocks }
-    ensures chars { length (entries_of result.blocks) ≡ length (entries_of left.blocks) + length middle.1 + length (entries_of right.blocks) }
-    ensures not_lower { max left.height right.height ≤ result.height }
-    ensures at_most_one_higher { result.height ≤ max left.height right.height + 1 }
+// The same, with the tree on a side first, if the other is at most one level higher.
+fn join_to(side: Side, high: Link, middle: Single, low: Link) -> Link
+    requires chars_fit { length (entries_of high.blocks) + length middle.1 + length (entries_of low.blocks) < 2 ^ 64 }
+    requires not_higher { low.height ≤ high.height + 1 }
+    ensures blocks { result.blocks ≡ around side high.blocks middle low.blocks }
+    ensures chars { length (entries_of result.blocks) ≡ length (entries_of high.blocks) + length middle.1 + length (entries_of low.blocks) }
+    ensures not_lower { max high.height low.height ≤ result.height }
+    ensures at_most_one_higher { result.height ≤ max high.height low.height + 1 }
 {
-    if left.height() <= right.height() + 1 {
-        return make(left, middle, right);
+    if high.height() <= low.height() + 1 {
+        return make_at(side, high, middle, low);
     }
-    let Some(outer) = left.open() else {
+    let Some((outer, own, inner)) = high.open_at(side) else {
         unreachable!()
     };
-    lean_right(outer.left, outer.own, join_low(outer.right, middle, right))
-}
-
-// The same, if the left tree is at most one level higher.
-fn join_high(left: Link, middle: Single, right: Link) -> Link
-    requires chars_fit { length (entries_of left.blocks) + length middle.1 + length (entries_of right.blocks) < 2 ^ 64 }
-    requires not_higher { left.height ≤ right.height + 1 }
-    ensures blocks { result.blocks ≡ left.blocks ++ middle ∷ right.blocks }
-    ensures chars { length (entries_of result.blocks) ≡ length (entries_of left.blocks) + length middle.1 + length (entries_of right.blocks) }
-    ensures not_lower { max left.height right.height ≤ result.height }
-    ensures at_most_one_higher { result.height ≤ max left.height right.height + 1 }
-{
-    if right.height() <= left.height() + 1 {
-        return make(left, middle, right);
-    }
-    let Some(outer) = right.open() else {
-        unreachable!()
-    };
-    lean_left(join_high(left, middle, outer.left), outer.own, outer.right)
+    let joined = join_to(side, inner, middle, low);
+    lean(side.other(), joined, own, outer)
 }

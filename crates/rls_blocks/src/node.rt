@@ -6,12 +6,13 @@ ghost use Rattle.rls_runs.specs.Entries.{chars_in};
 ghost use Rattle.rls_runs.specs.Places.{find_ident};
 ghost use Rattle.rls_runs.proofs.RunOrder.{Rising};
 ghost use Rattle.rls_blocks.specs.Trees.{runs_in, IsLow, IsPiece, ArePieces, Tree, entries_of};
-ghost use Rattle.rls_blocks.specs.Edits.{located, begins_with, ends_with};
+ghost use Rattle.rls_blocks.specs.Edits.{around, located, begins_with, ends_with};
 
 mod opened;
 mod single;
 
 use crate::block::Block;
+use crate::side::Side;
 pub(crate) use opened::{Frame, Opened};
 use rls_ident::Ident;
 use rls_runs::{Run, Text};
@@ -98,6 +99,22 @@ impl Link {
         ensures empty { IfNone result (self ≡ record { blocks = []; height = 0 }) }
     {
         Some(Opened::of(self.node?))
+    }
+
+    /// The tree on a side of its topmost block, that block and the tree on the other side, if it isn't empty.
+    pub(crate) fn open_at(self, side: Side) -> Option<(Link, Single, Link)>
+        ensures blocks { IfSome result (λ parts. self.blocks ≡ around side parts.0.blocks parts.1 parts.2.blocks) }
+        ensures chars { IfSome result (λ parts. length (entries_of self.blocks) ≡ length (entries_of parts.0.blocks) + length parts.1.1 + length (entries_of parts.2.blocks)) }
+        ensures height { IfSome result (λ parts. self.height ≡ max parts.0.height parts.2.height + 1) }
+        ensures not_higher { IfSome result (λ parts. parts.0.height ≤ parts.2.height + 1) }
+        ensures other_not_higher { IfSome result (λ parts. parts.2.height ≤ parts.0.height + 1) }
+        ensures empty { IfNone result (self ≡ record { blocks = []; height = 0 }) }
+    {
+        let opened = self.open()?;
+        match side {
+            Side::Front => Some((opened.left, opened.own, opened.right)),
+            Side::Behind => Some((opened.right, opened.own, opened.left)),
+        }
     }
 
     /// The topmost node, if there is one.
