@@ -7,20 +7,8 @@ ghost use Rattle.rls_blocks.specs.Edits.{around};
 use crate::node::{Link, Opened, Single};
 use crate::side::Side;
 
-/// A block that stands alone, between two trees whose heights differ by one level at most.
-pub(crate) fn make(left: Link, middle: Single, right: Link) -> Link
-    requires chars_fit { length (entries_of left.blocks) + length middle.1 + length (entries_of right.blocks) < 2 ^ 64 }
-    requires left_not_higher { left.height ≤ right.height + 1 }
-    requires right_not_higher { right.height ≤ left.height + 1 }
-    ensures blocks { result.blocks ≡ left.blocks ++ middle ∷ right.blocks }
-    ensures chars { length (entries_of result.blocks) ≡ length (entries_of left.blocks) + length middle.1 + length (entries_of right.blocks) }
-    ensures height { result.height ≡ max left.height right.height + 1 }
-{
-    Opened::new(left, middle, right).close()
-}
-
-// The same, with the first of the trees on a side of the block.
-fn make_at(side: Side, first: Link, middle: Single, other: Link) -> Link
+// A block that stands alone, between two trees whose heights differ by one level at most; the first is on this side of it.
+fn make(side: Side, first: Link, middle: Single, other: Link) -> Link
     requires chars_fit { length (entries_of first.blocks) + length middle.1 + length (entries_of other.blocks) < 2 ^ 64 }
     requires not_higher { first.height ≤ other.height + 1 }
     requires other_not_higher { other.height ≤ first.height + 1 }
@@ -29,8 +17,8 @@ fn make_at(side: Side, first: Link, middle: Single, other: Link) -> Link
     ensures height { result.height ≡ max first.height other.height + 1 }
 {
     match side {
-        Side::Front => make(first, middle, other),
-        Side::Behind => make(other, middle, first),
+        Side::Front => Opened::new(first, middle, other).close(),
+        Side::Behind => Opened::new(other, middle, first).close(),
     }
 }
 
@@ -46,20 +34,20 @@ fn lean(side: Side, high: Link, middle: Single, low: Link) -> Link
     ensures stays { high.height ≤ low.height + 1 → result.height ≡ max high.height low.height + 1 }
 {
     if high.height() <= low.height() + 1 {
-        return make_at(side, high, middle, low);
+        return make(side, high, middle, low);
     }
     let Some((outer, own, inner)) = high.open_at(side) else {
         unreachable!()
     };
     if inner.height() <= outer.height() {
-        return make_at(side, outer, own, make_at(side, inner, middle, low));
+        return make(side, outer, own, make(side, inner, middle, low));
     }
     let Some((far, core, near)) = inner.open_at(side) else {
         unreachable!()
     };
-    let kept = make_at(side, outer, own, far);
-    let moved = make_at(side, near, middle, low);
-    make_at(side, kept, core, moved)
+    let kept = make(side, outer, own, far);
+    let moved = make(side, near, middle, low);
+    make(side, kept, core, moved)
 }
 
 /// Two trees with a block that stands alone between them. It costs the difference of their heights,
@@ -87,7 +75,7 @@ fn join_to(side: Side, high: Link, middle: Single, low: Link) -> Link
     ensures at_most_one_higher { result.height ≤ max high.height low.height + 1 }
 {
     if high.height() <= low.height() + 1 {
-        return make_at(side, high, middle, low);
+        return make(side, high, middle, low);
     }
     let Some((outer, own, inner)) = high.open_at(side) else {
         unreachable!()
