@@ -7,7 +7,7 @@ ghost use Rattle.rls_blocks.specs.Edits.{around};
 use crate::node::{Link, Opened, Single};
 use crate::side::Side;
 
-// A block that stands alone, between two trees whose heights differ by one level at most; the first is on this side of it.
+// A block between two trees whose heights differ by at most one level. The first tree is on this side of the block.
 fn make(side: Side, first: Link, middle: Single, other: Link) -> Link
     requires chars_fit { length (entries_of first.blocks) + length middle.1 + length (entries_of other.blocks) < 2 ^ 64 }
     requires not_higher { first.height ≤ other.height + 1 }
@@ -50,7 +50,7 @@ fn lean(side: Side, high: Link, middle: Single, low: Link) -> Link
     make(side, kept, core, moved)
 }
 
-/// Two trees with a block that stands alone between them. It costs the difference of their heights,
+/// Two trees with a block between them, as one tree. It costs the difference of their heights,
 /// and takes no memory.
 pub(crate) fn join(left: Link, middle: Single, right: Link) -> Link
     requires chars_fit { length (entries_of left.blocks) + length middle.1 + length (entries_of right.blocks) < 2 ^ 64 }
@@ -65,7 +65,7 @@ pub(crate) fn join(left: Link, middle: Single, right: Link) -> Link
     join_to(Side::Front, left, middle, right)
 }
 
-// The same, with the tree on a side first, if the other is at most one level higher.
+// The same. The first tree is on this side of the block, and the other is at most one level higher.
 fn join_to(side: Side, high: Link, middle: Single, low: Link) -> Link
     requires chars_fit { length (entries_of high.blocks) + length middle.1 + length (entries_of low.blocks) < 2 ^ 64 }
     requires not_higher { low.height ≤ high.height + 1 }

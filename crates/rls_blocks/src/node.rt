@@ -101,7 +101,7 @@ impl Link {
         Some(Opened::of(self.node?))
     }
 
-    /// The tree on a side of its topmost block, that block and the tree on the other side, if it isn't empty.
+    /// The tree on a side of its topmost block, that block, and the tree on the other side, if it isn't empty.
     pub(crate) fn open_at(self, side: Side) -> Option<(Link, Single, Link)>
         ensures blocks { IfSome result (λ parts. self.blocks ≡ around side parts.0.blocks parts.1 parts.2.blocks) }
         ensures chars { IfSome result (λ parts. length (entries_of self.blocks) ≡ length (entries_of parts.0.blocks) + length parts.1.1 + length (entries_of parts.2.blocks)) }

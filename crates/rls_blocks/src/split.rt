@@ -57,7 +57,7 @@ pub(crate) fn split(link: Link, i: u64) -> Halves
     }
 }
 
-/// The block at an end alone, and all others, if there is one. It costs a step for each level.
+/// The block at an end, and the tree of all others, if there is one. It costs a step for each level.
 pub(crate) fn end_out(link: Link, side: Side) -> Option<(Single, Link)>
     ensures blocks { IfSome result (λ parts. link.blocks ≡ on side (parts.0 ∷ parts.1.blocks) (parts.1.blocks ++ parts.0 ∷ [])) }
     ensures chars { IfSome result (λ parts. length (entries_of link.blocks) ≡ length parts.0.1 + length (entries_of parts.1.blocks)) }

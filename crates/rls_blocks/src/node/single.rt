@@ -76,7 +76,7 @@ impl Single {
             Side::Front => node.block.extend_front(run, text),
             Side::Behind => node.block.extend(run, text),
         };
-        follow(&node.block, &mut node.end, &mut node.chars);
+        set_numbers(&node.block, &mut node.end, &mut node.chars);
         done
     }
 
@@ -89,7 +89,7 @@ impl Single {
     {
         let node: &mut Node = &mut self.node;
         let done = node.block.keep_front(at);
-        follow(&node.block, &mut node.end, &mut node.chars);
+        set_numbers(&node.block, &mut node.end, &mut node.chars);
         done
     }
 
@@ -101,7 +101,7 @@ impl Single {
     {
         let node: &mut Node = &mut self.node;
         node.block.shorten(front);
-        follow(&node.block, &mut node.end, &mut node.chars);
+        set_numbers(&node.block, &mut node.end, &mut node.chars);
     }
 
     /// The block keeps its characters from a place on.
@@ -112,13 +112,13 @@ impl Single {
     {
         let node: &mut Node = &mut self.node;
         let done = node.block.keep_back(from);
-        follow(&node.block, &mut node.end, &mut node.chars);
+        set_numbers(&node.block, &mut node.end, &mut node.chars);
         done
     }
 }
 
-// The numbers of a node that stands alone follow from its block.
-fn follow(block: &Block, end: &mut u64, chars: &mut u64)
+// The numbers of a node with no tree on either side, from its block.
+fn set_numbers(block: &Block, end: &mut u64, chars: &mut u64)
     ensures end { end.new ≡ length block.now.1 }
     ensures chars { chars.new ≡ length block.now.1 }
     ensures piece { IsPiece block.now.0 block.now.1 }
