@@ -60,7 +60,7 @@ fn are_used_runs(stems: &StemTable, runs: &[Run]) -> bool
     true
 }
 
-// Whether the first offsets of a stem, so many, were used.
+// Whether the first n offsets of a stem, from 0 on, were used.
 fn covers_first(stem: Option<Stem>, count: u64) -> bool
     ensures covers { result ≡ covers stem (pos 0) count }
 {
@@ -70,7 +70,7 @@ fn covers_first(stem: Option<Stem>, count: u64) -> bool
     }
 }
 
-// Whether the last tuple of each of the first new identifiers of an epoch's renaming, so many, was used.
+// Whether the last tuples of the first n new identifiers of an epoch's renaming were used.
 fn covers_new(stems: &StemTable, name: EpochName, count: u64) -> bool
     ensures covers { result ≡ covers_new stems.now.stems name count }
 {
