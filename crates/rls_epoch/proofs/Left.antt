@@ -22,11 +22,10 @@ use Rattle.rls_epoch.specs.Seen.{former_sum, nodes_of, rising_epochs, AreLaid}
 use Rattle.rls_epoch.specs.Sorted.{place_name, names_at, IsBefore, AreRising, AreSorted}
 use Rattle.rls_epoch.proofs.Added.{epoch_after}
 use Rattle.rls_epoch.proofs.Needed.{places_not_top}
-use Rattle.rls_epoch.proofs.Compacting.{numbered_length}
 use Rattle.rls_epoch.proofs.Counting.{mark_kept, mark_set, set_from}
 use Rattle.rls_epoch.proofs.Numbers.{kept_former}
 use Rattle.rls_epoch.proofs.Orders.{in_sorted, sorted_in}
-use Rattle.rls_epoch.proofs.Shrinking.{laid_kept, nodes_kept, order_kept, place_new, top_is_kept, window}
+use Rattle.rls_epoch.proofs.Shrinking.{laid_kept, marks_are, nodes_kept, order_kept, place_new, top_is_kept, window}
 use Rattle.rls_epoch.proofs.Sorting.{before_all, rising_same}
 
 -- ---- a whole tree in increasing order
@@ -137,7 +136,7 @@ module _ (top : EpochName) (ps : List Placed) (l : AreLaid top ps) (ms : List �
 -- the same, by these numbers
 module _ (top : EpochName) (ps : List Placed) (order : List ℕ) (l : AreLaid top ps) (s : AreSorted (epoch_cmp (nodes_of ps)) ps order) (xs : List ℕ) (t : ℕ) (tl : t ≤ length ps) (lx : length xs ≡ suc (length ps)) (e : EpochName) (es : List EpochName) (n : AreNumbered top ps xs t e es) where
   counted : length n.marks ≡ suc (length ps)
-  counted = let a = numbered_length 0 n.marks in let b = ap length n.numbers_are in omega arith
+  counted = marks_are top ps l xs t tl lx e es n
 
   pub names_retained : epoch_at top ps t ∷ kept_names ps xs order ≡ spanned top (nodes_of ps) e es
   names_retained =

@@ -7,7 +7,7 @@ use Rattle.std.proofs.lemmas.Option.{slice_get-get_or, slice_get-map, slice_get_
 use Rattle.rls_ident.specs.declared.epoch_name.EpochName.{EpochName}
 use Rattle.rls_ident.specs.EpochNames.{name_eq}
 use Rattle.rls_ident.specs.Lists.{IsIn}
-use Rattle.rls_ident.proofs.Members.{map_in, not_true}
+use Rattle.rls_ident.proofs.Members.{map_in, not_true, some_is}
 use Rattle.rls_ident.proofs.Named.{name_eq_is, name_eq_refl}
 use Rattle.rls_rename.specs.Tree.{Node, name_of, is_of, has_node, AreNodes, AreBelow, epoch_cmp, names}
 use Rattle.rls_rename.proofs.SameNodes.{node_named}
@@ -87,9 +87,9 @@ pub node_first : (top : EpochName) (ps : List Placed) → AreLaid top ps → (n 
 node_first top ps l zero h = top_none top (nodes_of ps) l.below
 node_first top ps l (suc k) h = absurd (omega arith)
 
-pub node_later : (top : EpochName) (ps : List Placed) → AreLaid top ps → (n : ℕ) (p : Placed) → (n ≡ 0 → ⊥) → n ≤ length ps → p ≡ get_or ps (n - 1) p → node_for (nodes_of ps) (epoch_at top ps n) ≡ Some (node_of p)
+pub node_later : (top : EpochName) (ps : List Placed) → AreLaid top ps → (n : ℕ) (p : Placed) → (n ≡ 0 → ⊥) → n ≤ length ps → slice_get ps (n - 1) ≡ Some p → node_for (nodes_of ps) (epoch_at top ps n) ≡ Some (node_of p)
 node_later top ps l zero p h w g = absurd (h refl)
-node_later top ps l (suc k) p h w g = place_node top ps l k p (slice_get_read ps (length ps) k p refl (omega arith) (let e : suc k - 1 ≡ k = omega arith in g ∙ ap (λ (j : ℕ). get_or ps j p) e))
+node_later top ps l (suc k) p h w g = let e : k ≡ suc k - 1 = omega arith in place_node top ps l k p (ap (slice_get ps) e ∙ g)
 
 pub number_read : (order : List ℕ) (i : ℕ) → (i ≡ 0 → ⊥) → i ≤ length order → slice_get (0 ∷ map suc order) i ≡ Some (get_or order (i - 1) 0 + 1)
 number_read order zero h w = absurd (h refl)
@@ -118,8 +118,6 @@ parent_found top ps l n o h w e = ap Some e ∙ (ap (option_map (λ (f : EpochNa
 pub rising_named : (top : EpochName) (ps : List Placed) → AreLaid top ps → (order : List ℕ) → AreSorted (epoch_cmp (nodes_of ps)) ps order → (i n : ℕ) → slice_get (0 ∷ map suc order) i ≡ Some n → slice_get (rising_epochs (record { top = top; nodes = nodes_of ps })) i ≡ Some (epoch_at top ps n)
 rising_named top ps l order s i n g = ap (λ es. slice_get es i) (rising_is top ps l order s) ∙ number_named top ps order i n g
 
--- what is read doesn't hang on what stands in for nothing
-pub got : {A : Type 0} (xs : List A) (i : ℕ) (d : A) → i < length xs → get_or xs i d ≡ get_or xs i (get_or xs i d)
-got [] i d h = absurd (omega arith)
-got (x ∷ xs) zero d h = refl
-got (x ∷ xs) (suc i) d h = got xs i d (omega arith)
+-- what is said of an epoch that was read holds for any that is read there
+pub of_read : {A : Type 0} {o : Option EpochName} {d : EpochName} {x : A} (f : EpochName → A) → o ≡ Some d → x ≡ f d → (e : EpochName) → o ≡ Some e → x ≡ f e
+of_read {d = d} f h g e q = g ∙ ap f (some_is d e (sym h ∙ q))

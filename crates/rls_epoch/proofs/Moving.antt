@@ -6,11 +6,12 @@ use Rattle.std.specs.Ordering.{is_lt}
 use Rattle.std.proofs.lemmas.List.{append-nil, length-map, map-append, take-append-drop, take_more}
 use Rattle.std.proofs.lemmas.Option.{slice_get_within, get_or_from_slice_get}
 use Rattle.rls_ident.specs.declared.tuple.Tuple.{Tuple}
+use Rattle.rls_ident.specs.declared.epoch_name.EpochName.{EpochName}
 use Rattle.rls_ident.specs.Identifiers.{is_ident, IsIdent, ident_cmp, ident_lt}
 use Rattle.rls_ident.proofs.Iso.{inverse, kept}
 use Rattle.rls_ident.proofs.Members.{and_left, and_right, and_true, lt_test}
 use Rattle.rls_rename.specs.Renaming.{IsFormer, Renaming, back, forward}
-use Rattle.rls_rename.specs.Tree.{AreNodes}
+use Rattle.rls_rename.specs.Tree.{AreNodes, translate}
 use Rattle.rls_rename.proofs.Paths.{renaming_iso}
 use Rattle.rls_rename.proofs.Former.{former_in}
 use Rattle.rls_runs.specs.Runs.{run_idents, runs_of, idents_of, is_increasing, is_run, AreIdents, IsImage}
@@ -23,7 +24,7 @@ use Rattle.rls_epoch.specs.declared.placed.Placed.{Placed}
 use Rattle.rls_epoch.specs.declared.ways.Step.{Step}
 use Rattle.rls_epoch.specs.declared.ways.Step.TheVariants.{Back, Forward}
 use Rattle.rls_epoch.specs.Seen.{node_of, nodes_of}
-use Rattle.rls_epoch.specs.Ways.{place_of_step, step_map, led}
+use Rattle.rls_epoch.specs.Ways.{IsWay, place_of_step, step_map, led}
 use Rattle.rls_epoch.proofs.Steps.{back_read, forward_read, node_in, back_step, forward_step}
 use Rattle.rls_epoch.proofs.Sorting.{get_of}
 
@@ -160,18 +161,31 @@ pub if_ok : {A E : Type 0} (P Q : A → Type 0) → ((x : A) → P x → Q x) �
 if_ok P Q f (Ok x) h = f x h
 if_ok P Q f (Err e) h = tt
 
+-- ---- over a way
+
+-- an image at the end of a way, and then by a map, is that of the translation
+pub image_on : {ps : List Placed} {steps : List Step} {e f : EpochName} {ss : List Step} {E : Type 0} (g : List Tuple → List Tuple) (r : List Tuple × ℕ) (o : Result (List (List Tuple × ℕ)) E) → IsWay ps steps e f → ss ≡ steps → is_run r ≡ true → IfOk o (λ runs. IsImage (λ x. g (led ps ss x)) r runs) →
+    IfOk o (λ runs. IsImage (λ x. g (translate (nodes_of ps) e f x)) r runs)
+image_on {ps = ps} {e = e} {f = f} {ss = ss} g r o way same u h =
+    if_ok (λ runs. IsImage (λ x. g (led ps ss x)) r runs) (λ runs. IsImage (λ x. g (translate (nodes_of ps) e f x)) r runs)
+    (λ runs i. image_agrees (λ x. g (led ps ss x)) (λ x. g (translate (nodes_of ps) e f x)) (λ x j. ap (λ (zs : List Step). g (led ps zs x)) same ∙ ap g (way.leads x j)) r runs u i) o h
+
+pub map_on : {ps : List Placed} {steps : List Step} {e f : EpochName} {ss : List Step} {E : Type 0} (ids : List (List Tuple)) (o : Result (List (List Tuple)) E) → IsWay ps steps e f → ss ≡ steps → list_all is_ident ids ≡ true → IfOk o (λ xs. xs ≡ map (led ps ss) ids) → IfOk o (λ xs. xs ≡ map (translate (nodes_of ps) e f) ids)
+map_on {ps = ps} {e = e} {f = f} {ss = ss} ids o way same a h =
+    if_ok (λ xs. xs ≡ map (led ps ss) ids) (λ xs. xs ≡ map (translate (nodes_of ps) e f) ids) (λ xs q. q ∙ map_agrees (led ps ss) (translate (nodes_of ps) e f) (λ x j. ap (λ (zs : List Step). led ps zs x) same ∙ way.leads x j) ids a) o h
+
 -- ---- a node that was read
 
-pub back_image : (ps : List Placed) (k : ℕ) (p : Placed) (r : List Tuple × ℕ) (runs : List (List Tuple × ℕ)) → k < length ps → p ≡ get_or ps k p → IsImage (back p.renaming) r runs → IsImage (step_map ps (Back k)) r runs
-back_image ps k p r runs h g i = record { idents = i.idents ∙ map_same (run_idents r.0 r.1); apart = i.apart }
+-- a step over runs is the renaming that it goes by
+image_step : (ps : List Placed) (s : Step) (f : List Tuple → List Tuple) → ((x : List Tuple) → step_map ps s x ≡ f x) → (r : List Tuple × ℕ) (runs : List (List Tuple × ℕ)) → IsImage f r runs → IsImage (step_map ps s) r runs
+image_step ps s f e r runs i = record { idents = i.idents ∙ map_same (run_idents r.0 r.1); apart = i.apart }
   where
-    map_same : (xs : List (List Tuple)) → map (back p.renaming) xs ≡ map (step_map ps (Back k)) xs
+    map_same : (xs : List (List Tuple)) → map f xs ≡ map (step_map ps s) xs
     map_same [] = refl
-    map_same (x ∷ xs) = ap (λ y. y ∷ map (back p.renaming) xs) (sym (back_read ps k p x h g)) ∙ ap (λ ys. step_map ps (Back k) x ∷ ys) (map_same xs)
+    map_same (x ∷ xs) = ap (λ y. y ∷ map f xs) (sym (e x)) ∙ ap (λ ys. step_map ps s x ∷ ys) (map_same xs)
 
-pub forward_image : (ps : List Placed) (k : ℕ) (p : Placed) (r : List Tuple × ℕ) (runs : List (List Tuple × ℕ)) → k < length ps → p ≡ get_or ps k p → IsImage (forward p.renaming) r runs → IsImage (step_map ps (Forward k)) r runs
-forward_image ps k p r runs h g i = record { idents = i.idents ∙ map_same (run_idents r.0 r.1); apart = i.apart }
-  where
-    map_same : (xs : List (List Tuple)) → map (forward p.renaming) xs ≡ map (step_map ps (Forward k)) xs
-    map_same [] = refl
-    map_same (x ∷ xs) = ap (λ y. y ∷ map (forward p.renaming) xs) (sym (forward_read ps k p x h g)) ∙ ap (λ ys. step_map ps (Forward k) x ∷ ys) (map_same xs)
+pub back_image : (ps : List Placed) (k : ℕ) (p : Placed) (r : List Tuple × ℕ) (runs : List (List Tuple × ℕ)) → slice_get ps k ≡ Some p → IsImage (back p.renaming) r runs → IsImage (step_map ps (Back k)) r runs
+back_image ps k p r runs h i = image_step ps (Back k) (back p.renaming) (λ x. back_read ps k p x h) r runs i
+
+pub forward_image : (ps : List Placed) (k : ℕ) (p : Placed) (r : List Tuple × ℕ) (runs : List (List Tuple × ℕ)) → slice_get ps k ≡ Some p → IsImage (forward p.renaming) r runs → IsImage (step_map ps (Forward k)) r runs
+forward_image ps k p r runs h i = image_step ps (Forward k) (forward p.renaming) (λ x. forward_read ps k p x h) r runs i

@@ -1,7 +1,6 @@
 -- Names and parents of nodes that are read.
-use Rattle.std.proofs.Common.{◌≡◌, ℕ, zero, suc, ◌<◌, List, [], ◌∷◌, Some, length, get_or, refl, ap}
+use Rattle.std.proofs.Common.{◌≡◌, ℕ, zero, suc, List, [], ◌∷◌, Some, ap}
 use Rattle.std.specs.Prelude.{slice_get}
-use Rattle.std.proofs.lemmas.Option.{slice_get_read}
 use Rattle.rls_ident.proofs.Members.{some_is}
 use Rattle.rls_rename.specs.Tree.{name_of}
 use Rattle.rls_epoch.specs.declared.placed.Placed.{Placed}
@@ -13,13 +12,7 @@ name_read [] k p h = absurd (cc)
 name_read (q ∷ ps) zero p h = ap (λ (z : Placed). name_of z.renaming) (some_is q p h)
 name_read (q ∷ ps) (suc k) p h = name_read ps k p h
 
-pub name_got : (ps : List Placed) (k : ℕ) (p : Placed) → k < length ps → p ≡ get_or ps k p → place_name ps k ≡ name_of p.renaming
-name_got ps k p h g = name_read ps k p (slice_get_read ps (length ps) k p refl h g)
-
 pub up_read : (ps : List Placed) (k : ℕ) (p : Placed) → slice_get ps k ≡ Some p → up_at ps k ≡ p.up
 up_read [] k p h = absurd (cc)
 up_read (q ∷ ps) zero p h = ap (λ (r : Placed). r.up) (some_is q p h)
 up_read (q ∷ ps) (suc k) p h = up_read ps k p h
-
-pub up_got : (ps : List Placed) (k : ℕ) (p : Placed) → k < length ps → p ≡ get_or ps k p → up_at ps k ≡ p.up
-up_got ps k p h g = up_read ps k p (slice_get_read ps (length ps) k p refl h g)

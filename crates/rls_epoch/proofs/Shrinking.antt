@@ -13,7 +13,7 @@ use Rattle.rls_ident.specs.Lists.{IsIn}
 use Rattle.rls_ident.proofs.Members.{and_true, in_map, lt_is, lt_test, map_in, or_right, same_bool, some_is}
 use Rattle.rls_rename.specs.Tree.{Node, name_of, has_node, is_kept, path, epoch_cmp, greatest}
 use Rattle.rls_rename.specs.Connected.{begins_with, top_path, is_spanned}
-use Rattle.rls_rename.specs.Keeping.{end_of, is_below, kept_nodes, part, reached}
+use Rattle.rls_rename.specs.Keeping.{end_of, is_below, kept_nodes, kept_part, part, reached}
 use Rattle.rls_rename.proofs.Hull.{IsFront, parent_spanned, spanned_is, top_spanned}
 use Rattle.rls_rename.proofs.Smallest.{path_end}
 use Rattle.rls_rename.proofs.Windows.{Window, cmp_window, keep_window, low_or_top, stays_is}
@@ -21,8 +21,7 @@ use Rattle.rls_epoch.specs.declared.placed.Placed.{Placed}
 use Rattle.rls_epoch.specs.Climbing.{name_cmp}
 use Rattle.rls_epoch.specs.Links.{name_at, epoch_at, AreLinked}
 use Rattle.rls_epoch.specs.Marks.{has_mark, mark_count, AreNamed, AreNumbered, AreSpread, numbered, moved, kept_placed, kept_places, kept_sum}
-use Rattle.rls_epoch.specs.Ranks.{AreRanked}
-use Rattle.rls_epoch.specs.Seen.{node_of, nodes_of, marked_of, marks_of, epochs_by_number, AreLaid, IsWhole}
+use Rattle.rls_epoch.specs.Seen.{former_sum, node_of, nodes_of, marked_of, marks_of, epochs_by_number, AreLaid, IsWhole}
 use Rattle.rls_epoch.specs.Sorted.{place_name, names_at, AreRising, AreSorted}
 use Rattle.rls_epoch.proofs.Compacting.{numbered_length}
 use Rattle.rls_epoch.proofs.Counting.{count_some, some_count}
@@ -278,43 +277,32 @@ module _ (top : EpochName) (ps : List Placed) (l : AreLaid top ps) (ms : List �
         complete = complete_kept order s.complete;
       }
 
--- ---- the whole, with these numbers
+-- ---- the same, by these numbers
 
-module _ (top : EpochName) (ps : List Placed) (by_name order ranks marks : List ℕ) (total : ℕ) (w : IsWhole top ps by_name order ranks marks total) (xs : List ℕ) (t : ℕ) (tl : t ≤ length ps) (lx : length xs ≡ length marks) (e : EpochName) (es : List EpochName) (n : AreNumbered top ps xs t e es) where
+module _ (top : EpochName) (ps : List Placed) (l : AreLaid top ps) (xs : List ℕ) (t : ℕ) (tl : t ≤ length ps) (lx : length xs ≡ suc (length ps)) (e : EpochName) (es : List EpochName) (n : AreNumbered top ps xs t e es) where
   pub marks_are : length n.marks ≡ suc (length ps)
-  marks_are = let a = numbered_length 0 n.marks in let b = ap length n.numbers_are in let c = w.marks_whole in omega arith
+  marks_are = let a = numbered_length 0 n.marks in let b = ap length n.numbers_are in omega arith
+
+  abbrev left : List ℕ → List Placed
+  left ys = kept_placed ys (drop 1 ys) ps
 
   pub parents_numbered : (k : ℕ) (p : Placed) → slice_get ps k ≡ Some p → 1 < slice_index xs (suc k) → 0 < slice_index xs p.up
   parents_numbered =
-      subst (λ (zs : List ℕ). (k : ℕ) (p : Placed) → slice_get ps k ≡ Some p → 1 < slice_index zs (suc k) → 0 < slice_index zs p.up) (sym n.numbers_are) (parent_numbered top ps w.laid n.marks marks_are t tl e es n.spread)
+      subst (λ (ys : List ℕ). (k : ℕ) (p : Placed) → slice_get ps k ≡ Some p → 1 < slice_index ys (suc k) → 0 < slice_index ys p.up) (sym n.numbers_are) (parent_numbered top ps l n.marks marks_are t tl e es n.spread)
 
-  pub part_left : record { top = epoch_at top ps t; nodes = nodes_of (kept_placed xs (drop 1 xs) ps) } ≡ part (record { top = top; nodes = nodes_of ps }) e es
+  pub part_left : record { top = epoch_at top ps t; nodes = nodes_of (left xs) } ≡ part (record { top = top; nodes = nodes_of ps }) e es
   part_left =
-      subst (λ (zs : List ℕ). record { top = epoch_at top ps t; nodes = nodes_of (kept_placed zs (drop 1 zs) ps) } ≡ part (record { top = top; nodes = nodes_of ps }) e es) (sym n.numbers_are)
-      (part_kept top ps w.laid n.marks marks_are t tl e es n.spread)
+      subst (λ (ys : List ℕ). record { top = epoch_at top ps t; nodes = nodes_of (left ys) } ≡ part (record { top = top; nodes = nodes_of ps }) e es) (sym n.numbers_are)
+      (part_kept top ps l n.marks marks_are t tl e es n.spread)
 
-  abbrev left : List Placed
-  left = kept_placed xs (drop 1 xs) ps
+  pub laid_left : AreLaid (epoch_at top ps t) (left xs)
+  laid_left = subst (λ (ys : List ℕ). AreLaid (epoch_at top ps t) (left ys)) (sym n.numbers_are) (laid_kept top ps l n.marks marks_are t tl e es n.spread)
 
-  pub by_name_left : AreSorted name_cmp left (kept_places xs by_name)
-  by_name_left =
-      subst (λ (ys : List ℕ). AreSorted name_cmp (kept_placed ys (drop 1 ys) ps) (kept_places ys by_name)) (sym n.numbers_are)
-      (names_kept top ps w.laid n.marks marks_are t tl e es n.spread by_name w.by_name_is)
+  pub by_name_left : (by_name : List ℕ) → AreSorted name_cmp ps by_name → AreSorted name_cmp (left xs) (kept_places xs by_name)
+  by_name_left by_name s = subst (λ (ys : List ℕ). AreSorted name_cmp (left ys) (kept_places ys by_name)) (sym n.numbers_are) (names_kept top ps l n.marks marks_are t tl e es n.spread by_name s)
 
-  pub order_left : AreSorted (epoch_cmp (nodes_of left)) left (kept_places xs order)
-  order_left =
-      subst (λ (ys : List ℕ). AreSorted (epoch_cmp (nodes_of (kept_placed ys (drop 1 ys) ps))) (kept_placed ys (drop 1 ys) ps) (kept_places ys order)) (sym n.numbers_are)
-      (order_kept top ps w.laid n.marks marks_are t tl e es n.spread order w.order_is)
-
-  pub whole_left : (rs zs : List ℕ) → AreRanked left (kept_places xs order) rs → length zs ≡ suc (length left) → IsWhole (epoch_at top ps t) left (kept_places xs by_name) (kept_places xs order) rs zs (kept_sum (drop 1 xs) ps)
-  whole_left rs zs r h = record {
-    laid = subst (λ (ys : List ℕ). AreLaid (epoch_at top ps t) (kept_placed ys (drop 1 ys) ps)) (sym n.numbers_are) (laid_kept top ps w.laid n.marks marks_are t tl e es n.spread);
-    by_name_is = by_name_left;
-    order_is = order_left;
-    ranked = r;
-    marks_whole = h;
-    sum = kept_former xs (drop 1 xs) ps;
-  }
+  pub order_left : (order : List ℕ) → AreSorted (epoch_cmp (nodes_of ps)) ps order → AreSorted (epoch_cmp (nodes_of (left xs))) (left xs) (kept_places xs order)
+  order_left order s = subst (λ (ys : List ℕ). AreSorted (epoch_cmp (nodes_of (left ys))) (left ys) (kept_places ys order)) (sym n.numbers_are) (order_kept top ps l n.marks marks_are t tl e es n.spread order s)
 
 -- what was written over the whole of it
 pub written : (xs old : List ℕ) (n : ℕ) → n ≡ length old → length xs ≡ length old → take n (xs ++ drop (length xs) old) ≡ xs
@@ -327,5 +315,26 @@ needed_by top ps marks v = reached (record { top = top; nodes = nodes_of ps }) v
 abbrev pub NumberedFor : EpochName → List Placed → List ℕ → List ℕ → ℕ → List ℕ → Type 0
 NumberedFor top ps marks xs t v = (es : List EpochName) → AreNamed top ps marks es → AreNumbered top ps xs t (greatest top (nodes_of ps)) (reached (record { top = top; nodes = nodes_of ps }) v ++ es)
 
-pub numbers_of : (top : EpochName) (ps qs : List Placed) (ms ns xs : List ℕ) (t : ℕ) (v : List ℕ) → qs ≡ ps → ns ≡ ms → NumberedFor top qs ns xs t v → AreNumbered top ps xs t (greatest top (nodes_of ps)) (needed_by top ps ms v)
-numbers_of top ps qs ms ns xs t v e f h = subst (λ (zs : List Placed). NumberedFor top zs ms xs t v) e (subst (λ (zs : List ℕ). NumberedFor top qs zs xs t v) f h) (marks_of top ps ms) (named_marks top ps ms)
+-- what is left by these numbers, with its places
+pub record IsLeft (top : EpochName) (ps : List Placed) (by_name order marks : List ℕ) (xs : List ℕ) (t : ℕ) (v : List ℕ) : Type 0 where
+  pub numbers : AreNumbered top ps xs t (greatest top (nodes_of ps)) (needed_by top ps marks v)
+  pub laid : AreLaid (epoch_at top ps t) (kept_placed xs (drop 1 xs) ps)
+  pub by_name_is : AreSorted name_cmp (kept_placed xs (drop 1 xs) ps) (kept_places xs by_name)
+  pub order_is : AreSorted (epoch_cmp (nodes_of (kept_placed xs (drop 1 xs) ps))) (kept_placed xs (drop 1 xs) ps) (kept_places xs order)
+  pub sum : kept_sum (drop 1 xs) ps ≡ former_sum (nodes_of (kept_placed xs (drop 1 xs) ps))
+  pub part_is : record { top = epoch_at top ps t; nodes = nodes_of (kept_placed xs (drop 1 xs) ps) } ≡ kept_part (record { top = top; nodes = nodes_of ps }) v (marks_of top ps marks)
+
+pub left_of : {top : EpochName} {ps : List Placed} {by_name order ranks marks : List ℕ} {total : ℕ} → IsWhole top ps by_name order ranks marks total → (ns xs : List ℕ) (t : ℕ) (v : List ℕ) → ns ≡ marks → length xs ≡ length ns → t ≤ length ps → NumberedFor top ps ns xs t v → IsLeft top ps by_name order marks xs t v
+left_of {top = top} {ps = ps} {by_name = by_name} {order = order} {marks = marks} w ns xs t v e lx tl h =
+    let g = greatest top (nodes_of ps) in
+    let es = needed_by top ps marks v in
+    let lw : length xs ≡ suc (length ps) = lx ∙ (ap length e ∙ w.marks_whole) in
+    let n : AreNumbered top ps xs t g es = subst (λ (zs : List ℕ). NumberedFor top ps zs xs t v) e h (marks_of top ps marks) (named_marks top ps marks) in
+    record {
+      numbers = n;
+      laid = laid_left top ps w.laid xs t tl lw g es n;
+      by_name_is = by_name_left top ps w.laid xs t tl lw g es n by_name w.by_name_is;
+      order_is = order_left top ps w.laid xs t tl lw g es n order w.order_is;
+      sum = kept_former xs (drop 1 xs) ps;
+      part_is = part_left top ps w.laid xs t tl lw g es n;
+    }

@@ -29,13 +29,13 @@ use Rattle.rls_epoch.proofs.Sorting.{get_of}
 
 -- ---- a node that was read
 
-pub back_read : (ps : List Placed) (k : ℕ) (p : Placed) (x : List Tuple) → k < length ps → p ≡ get_or ps k p → step_map ps (Back k) x ≡ back p.renaming x
+pub back_read : (ps : List Placed) (k : ℕ) (p : Placed) (x : List Tuple) → slice_get ps k ≡ Some p → step_map ps (Back k) x ≡ back p.renaming x
 unfolding step_map
-back_read ps k p x h g = ap (λ o. back_at o x) (slice_get_read ps (length ps) k p refl h g)
+back_read ps k p x h = ap (λ o. back_at o x) h
 
-pub forward_read : (ps : List Placed) (k : ℕ) (p : Placed) (x : List Tuple) → k < length ps → p ≡ get_or ps k p → step_map ps (Forward k) x ≡ forward p.renaming x
+pub forward_read : (ps : List Placed) (k : ℕ) (p : Placed) (x : List Tuple) → slice_get ps k ≡ Some p → step_map ps (Forward k) x ≡ forward p.renaming x
 unfolding step_map
-forward_read ps k p x h g = ap (λ o. forward_at o x) (slice_get_read ps (length ps) k p refl h g)
+forward_read ps k p x h = ap (λ o. forward_at o x) h
 
 -- ---- the way
 

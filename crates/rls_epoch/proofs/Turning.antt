@@ -1,6 +1,6 @@
 -- What becomes of identifiers whose first tuples change.
-use Rattle.std.proofs.Common.{◌≡◌, ℕ, zero, suc, ◌+◌, ◌<◌, ◌≤◌, List, [], ◌∷◌, ◌++◌, map, length, get_or, take, drop, reverse, refl, sym, ap, ◌∙◌, arith}
-use Rattle.std.specs.Prelude.{pos}
+use Rattle.std.proofs.Common.{◌≡◌, ℕ, zero, suc, ◌+◌, ◌<◌, ◌≤◌, List, [], ◌∷◌, ◌++◌, Some, map, length, get_or, take, drop, reverse, refl, sym, ap, ◌∙◌, arith}
+use Rattle.std.specs.Prelude.{pos, slice_get}
 use Rattle.std.proofs.lemmas.Int.{ints}
 use Rattle.std.proofs.lemmas.List.{drop_more, take-append-drop, length-take, reverse-append, reverse-reverse, length-reverse}
 use Rattle.rls_ident.specs.declared.tuple.Tuple.{Tuple}
@@ -19,8 +19,8 @@ use Rattle.rls_epoch.proofs.Moving.{map_step}
 use Rattle.rls_epoch.proofs.Steps.{forward_read}
 
 -- a node that was read
-pub forward_replaces : (ps : List Placed) (k : ℕ) (p : Placed) (h z : List Tuple) → k < length ps → p ≡ get_or ps k p → Replaces (forward p.renaming) h z → Replaces (step_map ps (Forward k)) h z
-forward_replaces ps k p h z l g r y = forward_read ps k p (h ++ y) l g ∙ r y
+pub forward_replaces : (ps : List Placed) (k : ℕ) (p : Placed) (h z : List Tuple) → slice_get ps k ≡ Some p → Replaces (forward p.renaming) h z → Replaces (step_map ps (Forward k)) h z
+forward_replaces ps k p h z g r y = forward_read ps k p (h ++ y) g ∙ r y
 
 shifted_after : (p x : List Tuple) (k : ℕ) → 0 < length x → p ++ shifted (pos k) x ≡ shifted (pos k) (p ++ x)
 shifted_after p x k l = (prefixed_goes p x (suc k) l).each k (omega arith)

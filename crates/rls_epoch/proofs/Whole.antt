@@ -149,3 +149,24 @@ whole_more top ps by_name order ranks marks total n p i j w l h a b new r = reco
   marks_whole = omega (arith, w.marks_whole, length-append marks (0 ∷ []), length-append ps (p ∷ []));
   sum = omega (arith, w.sum, h, sum_by-cons (λ node. length node.renaming.former) (node_of p) (nodes_of ps)) ∙ ap (λ ns. former_sum ns) (sym (nodes_last ps p));
 }
+
+-- ---- the same facts of equal lists
+
+pub names_as : {ps qs : List Placed} {xs ys : List ℕ} → qs ≡ ps → ys ≡ xs → AreSorted name_cmp ps xs → AreSorted name_cmp qs ys
+names_as {qs = qs} {xs = xs} e f s = subst (λ (zs : List ℕ). AreSorted name_cmp qs zs) (sym f) (subst (λ (rs : List Placed). AreSorted name_cmp rs xs) (sym e) s)
+
+pub order_as : {ps qs : List Placed} {xs ys : List ℕ} → qs ≡ ps → ys ≡ xs → AreSorted (epoch_cmp (nodes_of ps)) ps xs → AreSorted (epoch_cmp (nodes_of qs)) qs ys
+order_as {qs = qs} {xs = xs} e f s = subst (λ (zs : List ℕ). AreSorted (epoch_cmp (nodes_of qs)) qs zs) (sym f) (subst (λ (rs : List Placed). AreSorted (epoch_cmp (nodes_of rs)) rs xs) (sym e) s)
+
+pub ranked_as : {ps qs : List Placed} {xs ys : List ℕ} {ranks : List ℕ} → qs ≡ ps → ys ≡ xs → AreRanked ps xs ranks → AreRanked qs ys ranks
+ranked_as {qs = qs} {xs = xs} {ranks = ranks} e f r = subst (λ (zs : List ℕ). AreRanked qs zs ranks) (sym f) (subst (λ (rs : List Placed). AreRanked rs xs ranks) (sym e) r)
+
+pub whole_as : {top u : EpochName} {ps qs : List Placed} {names ns order os ranks rs marks ms : List ℕ} {total t : ℕ} → u ≡ top → qs ≡ ps → ns ≡ names → os ≡ order → rs ≡ ranks → ms ≡ marks → t ≡ total → IsWhole top ps names order ranks marks total → IsWhole u qs ns os rs ms t
+whole_as {u = u} {ps = ps} {qs = qs} {os = os} {ranks = ranks} a b c d e f g w = record {
+  laid = subst (λ (n : EpochName). AreLaid n qs) (sym a) (subst (AreLaid _) (sym b) w.laid);
+  by_name_is = names_as b c w.by_name_is;
+  order_is = order_as b d w.order_is;
+  ranked = subst (AreRanked qs os) (sym e) (ranked_as b d w.ranked);
+  marks_whole = ap length f ∙ (w.marks_whole ∙ ap suc (sym (ap length b)));
+  sum = g ∙ (w.sum ∙ sym (ap (λ (xs : List Placed). former_sum (nodes_of xs)) b));
+}

@@ -68,6 +68,12 @@ pub record AreLaid (top : EpochName) (placed : List Placed) : Type 0 where
   pub below : AreBelow top (nodes_of placed)
   pub links : AreLinked top placed
 
+-- a topmost epoch and the nodes below it, of which the latest stands last, and for how many more there is room
+pub record NodesSeen : Type 0 where
+  pub top : EpochName
+  pub placed : List Placed
+  pub spare : ℕ
+
 -- with the places of the nodes in the order of names and in that of the epochs, their ranks, a mark for each epoch, and this number of former identifiers
 pub record IsWhole (top : EpochName) (placed : List Placed) (by_name order ranks marks : List ℕ) (total : ℕ) : Type 0 where
   pub laid : AreLaid top placed

@@ -7,10 +7,10 @@ ghost use Rattle.rls_rename.specs.Tree.{Node, epoch_cmp};
 ghost use Rattle.rls_epoch.specs.Climbing.{name_cmp, side_cmp};
 ghost use Rattle.rls_epoch.specs.Climbs.{IsAbove, AreTwo, IsOpened, below_or};
 ghost use Rattle.rls_epoch.specs.Links.{epoch_at, up_at};
-ghost use Rattle.rls_epoch.specs.Seen.{nodes_of, AreLaid};
+ghost use Rattle.rls_epoch.specs.Seen.{nodes_of};
 ghost use Rattle.rls_epoch.specs.Sorted.{place_name};
 
-use crate::placed::{Placed, name_of, up_of};
+use crate::nodes::Nodes;
 use rls_ident::EpochName;
 use std::cmp::Ordering;
 
@@ -23,105 +23,102 @@ struct Climb {
 
 impl Climb {
     // One step up.
-    fn climbed(self, nodes: &[Placed]) -> Climb
+    fn climbed(self, nodes: &Nodes) -> Climb
         requires some { 0 < self.at }
-        requires within { self.at ≤ length nodes.now }
-        ensures at { result.at ≡ up_at nodes.now (self.at - 1) }
+        requires within { self.at ≤ length nodes.now.placed }
+        ensures at { result.at ≡ up_at nodes.now.placed (self.at - 1) }
         ensures below { result.below ≡ Some (self.at - 1) }
     {
         let place = self.at - 1;
         Climb {
-            at: up_of(nodes, place),
+            at: nodes.up_of(place),
             below: Some(place),
         }
     }
 }
 
-// The order of two epochs, by their numbers. It costs a step for each epoch on the way between them.
-pub(crate) fn compare(top: EpochName, nodes: &[Placed], a: usize, b: usize) -> Ordering
-    requires laid { AreLaid top nodes.now }
-    requires first { a ≤ length nodes.now }
-    requires second { b ≤ length nodes.now }
-    ensures order { result ≡ epoch_cmp (nodes_of nodes.now) (epoch_at top nodes.now a) (epoch_at top nodes.now b) }
-{
-    let (left, right) = climb_both(top, nodes, a, b);
-    compare_sides(nodes, left.below, right.below)
-}
-
-// Whether an epoch of this name, which is to be opened in another, is greater than an epoch, by their numbers. It costs a step for
-// each epoch on the way between them.
-pub(crate) fn opens_above(
-    top: EpochName,
-    nodes: &[Placed],
-    a: usize,
-    parent: usize,
-    name: EpochName,
-) -> bool
-    requires laid { AreLaid top nodes.now }
-    requires first { a ≤ length nodes.now }
-    requires second { parent ≤ length nodes.now }
-    ensures above { (node : Node) → node.parent ≡ epoch_at top nodes.now parent → IsOpened (nodes_of nodes.now) node (epoch_at top nodes.now a) name → result ≡ is_lt (epoch_cmp (node ∷ nodes_of nodes.now) (epoch_at top nodes.now a) name) }
-{
-    let (left, right) = climb_both(top, nodes, a, parent);
-    stands_before(nodes, left.below, name_below(nodes, right.below, name))
-}
-
-// The name of the child at a place, or else this one.
-fn name_below(nodes: &[Placed], below: Option<usize>, name: EpochName) -> EpochName
-    requires within { IfSome below (λ k. k < length nodes.now) }
-    ensures name { result ≡ below_or nodes.now below name }
-{
-    match below {
-        None => name,
-        Some(place) => name_of(nodes, place),
+impl Nodes {
+    // The order of two epochs, by their numbers. It costs a step for each epoch on the way between them.
+    pub(crate) fn compare(&self, a: usize, b: usize) -> Ordering
+        requires first { a ≤ length self.now.placed }
+        requires second { b ≤ length self.now.placed }
+        ensures order { result ≡ epoch_cmp (nodes_of self.now.placed) (epoch_at self.now.top self.now.placed a) (epoch_at self.now.top self.now.placed b) }
+    {
+        let _count = self.count();
+        let (left, right) = self.climb_both(a, b);
+        self.compare_sides(left.below, right.below)
     }
-}
 
-// Whether the way that has this child of an epoch, or ends there, stands before the one that has the child of this name.
-fn stands_before(nodes: &[Placed], below: Option<usize>, name: EpochName) -> bool
-    requires within { IfSome below (λ k. k < length nodes.now) }
-    ensures before { result ≡ is_lt (side_cmp (option_map (place_name nodes.now) below) (Some name)) }
-{
-    match below {
-        None => true,
-        Some(place) => compare_names(name_of(nodes, place), name).is_lt(),
+    // Whether an epoch of this name, which is to be opened in another, is greater than an epoch, by
+    // their numbers. It costs a step for each epoch on the way between them.
+    pub(crate) fn opens_above(&self, a: usize, parent: usize, name: EpochName) -> bool
+        requires first { a ≤ length self.now.placed }
+        requires second { parent ≤ length self.now.placed }
+        ensures above { (node : Node) → node.parent ≡ epoch_at self.now.top self.now.placed parent → IsOpened (nodes_of self.now.placed) node (epoch_at self.now.top self.now.placed a) name → result ≡ is_lt (epoch_cmp (node ∷ nodes_of self.now.placed) (epoch_at self.now.top self.now.placed a) name) }
+    {
+        let _count = self.count();
+        let (left, right) = self.climb_both(a, parent);
+        self.is_before(left.below, self.name_below(right.below, name))
     }
-}
 
-// Both ways up, until they meet.
-fn climb_both(top: EpochName, nodes: &[Placed], a: usize, b: usize) -> (Climb, Climb)
-    requires laid { AreLaid top nodes.now }
-    requires first { a ≤ length nodes.now }
-    requires second { b ≤ length nodes.now }
-    ensures met { result.0.at ≡ result.1.at }
-    ensures two { AreTwo result.0.below result.1.below }
-    ensures left { IsAbove top nodes.now (epoch_at top nodes.now a) result.0 }
-    ensures right { IsAbove top nodes.now (epoch_at top nodes.now b) result.1 }
-    ensures left_within { IfSome result.0.below (λ k. k < length nodes.now) }
-    ensures right_within { IfSome result.1.below (λ k. k < length nodes.now) }
-{
-    let (mut left, mut right) = (Climb { at: a, below: None }, Climb { at: b, below: None });
-    while left.at != right.at {
-        if right.at < left.at {
-            left = left.climbed(nodes);
-        } else {
-            right = right.climbed(nodes);
+    // The name of the child at a place, or else this one.
+    fn name_below(&self, below: Option<usize>, name: EpochName) -> EpochName
+        requires within { IfSome below (λ k. k < length self.now.placed) }
+        ensures name { result ≡ below_or self.now.placed below name }
+    {
+        match below {
+            None => name,
+            Some(place) => self.name_of(place),
         }
     }
-    (left, right)
-}
 
-// The order of the children at these places of the epoch at which two ways meet.
-fn compare_sides(nodes: &[Placed], a: Option<usize>, b: Option<usize>) -> Ordering
-    requires first { IfSome a (λ k. k < length nodes.now) }
-    requires second { IfSome b (λ k. k < length nodes.now) }
-    ensures order { result ≡ side_cmp (option_map (place_name nodes.now) a) (option_map (place_name nodes.now) b) }
-{
-    match (a, b) {
-        (None, None) => Ordering::Equal,
-        (None, Some(_)) => Ordering::Less,
-        (Some(_), None) => Ordering::Greater,
-        (Some(x), Some(y)) => compare_names(name_of(nodes, x), name_of(nodes, y)),
+    // Whether the way that has this child of an epoch, or ends there, comes before the one that has
+    // the child of this name.
+    fn is_before(&self, below: Option<usize>, name: EpochName) -> bool
+        requires within { IfSome below (λ k. k < length self.now.placed) }
+        ensures before { result ≡ is_lt (side_cmp (option_map (place_name self.now.placed) below) (Some name)) }
+    {
+        match below {
+            None => true,
+            Some(place) => compare_names(self.name_of(place), name).is_lt(),
+        }
+    }
+
+    // Both ways up, until they meet.
+    fn climb_both(&self, a: usize, b: usize) -> (Climb, Climb)
+        requires first { a ≤ length self.now.placed }
+        requires second { b ≤ length self.now.placed }
+        ensures met { result.0.at ≡ result.1.at }
+        ensures two { AreTwo result.0.below result.1.below }
+        ensures left { IsAbove self.now.top self.now.placed (epoch_at self.now.top self.now.placed a) result.0 }
+        ensures right { IsAbove self.now.top self.now.placed (epoch_at self.now.top self.now.placed b) result.1 }
+        ensures left_within { IfSome result.0.below (λ k. k < length self.now.placed) }
+        ensures right_within { IfSome result.1.below (λ k. k < length self.now.placed) }
+    {
+        let _count = self.count();
+        let (mut left, mut right) = (Climb { at: a, below: None }, Climb { at: b, below: None });
+        while left.at != right.at {
+            if right.at < left.at {
+                left = left.climbed(self);
+            } else {
+                right = right.climbed(self);
+            }
+        }
+        (left, right)
+    }
+
+    // The order of the children at these places of the epoch at which two ways meet.
+    fn compare_sides(&self, a: Option<usize>, b: Option<usize>) -> Ordering
+        requires first { IfSome a (λ k. k < length self.now.placed) }
+        requires second { IfSome b (λ k. k < length self.now.placed) }
+        ensures order { result ≡ side_cmp (option_map (place_name self.now.placed) a) (option_map (place_name self.now.placed) b) }
+    {
+        match (a, b) {
+            (None, None) => Ordering::Equal,
+            (None, Some(_)) => Ordering::Less,
+            (Some(_), None) => Ordering::Greater,
+            (Some(x), Some(y)) => compare_names(self.name_of(x), self.name_of(y)),
+        }
     }
 }
 

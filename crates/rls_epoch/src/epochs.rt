@@ -13,16 +13,13 @@ ghost use Rattle.rls_rename.specs.Keeping.{kept_part, reached};
 ghost use Rattle.rls_rename.specs.Renaming.{IsFormer, forward};
 ghost use Rattle.rls_epoch.specs.Seen.{former_sum, is_marked, node_for, rising_epochs, OpensGreatest};
 
-use crate::climb::{compare, opens_above};
 use crate::greatest::{greatest, greatest_in};
-use crate::images::{run_led, run_led_by, runs_led};
-use crate::keeping::{former_kept, keep_nodes, keep_places, number_needed};
-use crate::listing::{number_at, parent_name, parent_place, renaming_at};
-use crate::nodes::{copied, epochs_below, find, names_below, number_of};
-use crate::placed::{Placed, epoch_of};
+use crate::keeping::{keep_places, number_needed};
+use crate::listing::{number_at, parent_place};
+use crate::nodes::Nodes;
+use crate::placed::Placed;
 use crate::ranks::{rank_added, rank_all};
 use crate::retaining::{Retained, retained_part};
-use crate::ways::{ident_led, way_between};
 use rls_ident::{EpochName, Ident, Vector};
 use rls_rename::Renaming;
 use rls_runs::{Run, RunList, Runs};
@@ -33,8 +30,7 @@ use std::marker::Model;
 /// A topmost epoch and the nodes below it, some of which are marked. The earliest node stands first.
 #[derive(Drop)]
 pub struct Epochs {
-    top: EpochName,
-    nodes: Vec<Placed>,
+    nodes: Nodes,
     // the places of the nodes, in increasing order of names
     by_name: Vec<usize>,
     // the places of the nodes, in increasing order of the epochs
@@ -53,12 +49,12 @@ impl Model for Epochs {
     ghost Value = { EpochsSeen };
 
     ghost view = { λ a. record {
-      epochs = record { top = a.top; nodes = nodes_of a.nodes.items };
-      marks = marks_of a.top a.nodes.items a.marks.items;
-      spare = min (min (vec_capacity a.nodes - length a.nodes.items) (vec_capacity a.marks - length a.marks.items)) (min (vec_capacity a.by_name - length a.by_name.items) (min (vec_capacity a.order - length a.order.items) (vec_capacity a.ranks - length a.ranks.items)));
+      epochs = record { top = a.nodes.top; nodes = nodes_of a.nodes.placed };
+      marks = marks_of a.nodes.top a.nodes.placed a.marks.items;
+      spare = min (min a.nodes.spare (vec_capacity a.marks - length a.marks.items)) (min (vec_capacity a.by_name - length a.by_name.items) (min (vec_capacity a.order - length a.order.items) (vec_capacity a.ranks - length a.ranks.items)));
     } };
 
-    ghost invariant = { λ a. IsWhole a.top a.nodes.items a.by_name.items a.order.items a.ranks.items a.marks.items a.total };
+    ghost invariant = { λ a. IsWhole a.nodes.top a.nodes.placed a.by_name.items a.order.items a.ranks.items a.marks.items a.total };
 }
 
 impl Epochs {
@@ -70,8 +66,7 @@ impl Epochs {
         let mut marks = Vec::new(alloc);
         marks.push(0)?;
         Ok(Epochs {
-            top: name,
-            nodes: Vec::new(alloc),
+            nodes: Nodes::starting_at(alloc, name),
             by_name: Vec::new(alloc),
             order: Vec::new(alloc),
             ranks: Vec::new(alloc),
@@ -86,7 +81,7 @@ impl Epochs {
         ensures marks { self.new.marks ≡ self.old.marks }
         ensures ok { OnOk result (0 < self.new.spare) }
     {
-        self.nodes.reserve(1)?;
+        self.nodes.reserve()?;
         self.by_name.reserve(1)?;
         self.order.reserve(1)?;
         self.ranks.reserve(1)?;
@@ -108,37 +103,25 @@ impl Epochs {
         ensures marks { self.new.marks ≡ self.old.marks }
     {
         let name = EpochName::Of { replica, seq };
-        let place = self.nodes.len();
-        let up = number_of(
-            self.top,
-            self.nodes.as_slice(),
-            self.by_name.as_slice(),
-            parent,
-        );
-        let by_name = names_below(self.nodes.as_slice(), self.by_name.as_slice(), name);
+        let place = self.nodes.count();
+        let up = self.nodes.number_of(&self.by_name, parent);
+        let by_name = self.nodes.names_below(&self.by_name, name);
         self.total += renaming.total();
-        self.nodes
-            .push(Placed {
-                parent,
-                up,
-                renaming,
-            })
-            .unwrap();
-        let order = epochs_below(
-            self.top,
-            self.nodes.as_slice(),
-            self.order.as_slice(),
-            place + 1,
-        );
+        self.nodes.push(Placed {
+            parent,
+            up,
+            renaming,
+        });
+        let order = self.nodes.epochs_below(&self.order, place + 1);
         self.by_name.insert(by_name, place).unwrap();
         self.order.insert(order, place).unwrap();
         self.ranks.push(0).unwrap();
         self.marks.push(0).unwrap();
         rank_added(
-            self.nodes.as_slice(),
-            self.by_name.as_slice(),
-            self.order.as_slice(),
-            self.ranks.as_mut_slice(),
+            &self.nodes,
+            &self.by_name,
+            &self.order,
+            &mut self.ranks,
             by_name,
             order,
         );
@@ -149,12 +132,7 @@ impl Epochs {
         ensures kept { result ≡ is_kept self.now.epochs.top self.now.epochs.nodes name }
         ensures tree { IsTree self.now.epochs }
     {
-        match find(
-            self.top,
-            self.nodes.as_slice(),
-            self.by_name.as_slice(),
-            name,
-        ) {
+        match self.nodes.find(&self.by_name, name) {
             Some(_) => true,
             None => false,
         }
@@ -167,17 +145,16 @@ impl Epochs {
         requires second { IsTrue (is_kept self.now.epochs.top self.now.epochs.nodes b) }
         ensures order { result ≡ epoch_cmp self.now.epochs.nodes a b }
     {
-        let (nodes, by_name) = (self.nodes.as_slice(), self.by_name.as_slice());
-        let left = number_of(self.top, nodes, by_name, a);
-        let right = number_of(self.top, nodes, by_name, b);
-        compare(self.top, nodes, left, right)
+        let left = self.nodes.number_of(&self.by_name, a);
+        let right = self.nodes.number_of(&self.by_name, b);
+        self.nodes.compare(left, right)
     }
 
     /// The greatest epoch. It takes no memory.
     pub fn greatest(&self) -> EpochName
         ensures greatest { result ≡ greatest self.now.epochs.top self.now.epochs.nodes }
     {
-        greatest(self.top, self.nodes.as_slice(), self.order.as_slice())
+        greatest(&self.nodes, &self.order)
     }
 
     /// Whether the epoch that a rename would open in another is greater than all that are kept. It
@@ -188,10 +165,10 @@ impl Epochs {
         requires parent { IsTrue (is_kept self.now.epochs.top self.now.epochs.nodes parent) }
         ensures greatest { (former : List (List Tuple)) → IsFormer former → OpensGreatest result self.now.epochs parent (record { former = former; replica = replica; seq = seq }) }
     {
-        let (nodes, by_name) = (self.nodes.as_slice(), self.by_name.as_slice());
-        let last = number_of(self.top, nodes, by_name, self.greatest());
-        let up = number_of(self.top, nodes, by_name, parent);
-        opens_above(self.top, nodes, last, up, EpochName::Of { replica, seq })
+        let last = self.nodes.number_of(&self.by_name, self.greatest());
+        let up = self.nodes.number_of(&self.by_name, parent);
+        self.nodes
+            .opens_above(last, up, EpochName::Of { replica, seq })
     }
 
     /// The greatest epoch within a vector that counts the replica of each kept epoch, or the topmost
@@ -201,14 +178,7 @@ impl Epochs {
         requires members { (e : EpochName) → IsTrue (is_kept self.now.epochs.top self.now.epochs.nodes e) → IsTrue (is_of_member (length v.now) e) }
         ensures greatest { result ≡ greatest_within self.now.epochs.top self.now.epochs.nodes v.now }
     {
-        greatest_in(
-            self.top,
-            self.nodes.as_slice(),
-            self.by_name.as_slice(),
-            self.order.as_slice(),
-            self.ranks.as_slice(),
-            v,
-        )
+        greatest_in(&self.nodes, &self.by_name, &self.order, &self.ranks, v)
     }
 
     /// An identifier of the one epoch in the other: back by the renamings up to the nearest common
@@ -218,10 +188,9 @@ impl Epochs {
         requires to { IsTrue (is_kept self.now.epochs.top self.now.epochs.nodes to) }
         ensures translated { IfOk result (λ x. x ≡ translate self.now.epochs.nodes from to id.now) }
     {
-        let (alloc, nodes) = (*self.nodes.allocator(), self.nodes.as_slice());
         let _len = id.len();
-        let steps = way_between(alloc, self.top, nodes, self.by_name.as_slice(), from, to)?;
-        ident_led(nodes, &steps, id)
+        let steps = self.nodes.way_between(&self.by_name, from, to)?;
+        self.nodes.ident_led(&steps, id)
     }
 
     /// The identifiers of a run of the one epoch in the other, as runs of which none touches the one
@@ -236,10 +205,9 @@ impl Epochs {
         requires to { IsTrue (is_kept self.now.epochs.top self.now.epochs.nodes to) }
         ensures translated { IfOk result (λ runs. IsImage (translate self.now.epochs.nodes from to) run.now runs) }
     {
-        let (alloc, nodes) = (*self.nodes.allocator(), self.nodes.as_slice());
         let _len = run.len();
-        let steps = way_between(alloc, self.top, nodes, self.by_name.as_slice(), from, to)?;
-        run_led(alloc, nodes, &steps, run)
+        let steps = self.nodes.way_between(&self.by_name, from, to)?;
+        self.nodes.run_led(&steps, run)
     }
 
     /// The identifiers of a run of the one epoch in the other, and then by a renaming that opens an
@@ -256,10 +224,9 @@ impl Epochs {
         requires to { IsTrue (is_kept self.now.epochs.top self.now.epochs.nodes to) }
         ensures renamed { IfOk result (λ runs. IsImage (λ x. forward renaming.now (translate self.now.epochs.nodes from to x)) run.now runs) }
     {
-        let (alloc, nodes) = (*self.nodes.allocator(), self.nodes.as_slice());
         let _len = run.len();
-        let steps = way_between(alloc, self.top, nodes, self.by_name.as_slice(), from, to)?;
-        run_led_by(alloc, nodes, &steps, renaming, run)
+        let steps = self.nodes.way_between(&self.by_name, from, to)?;
+        self.nodes.run_led_by(&steps, renaming, run)
     }
 
     /// A strictly increasing list of identifiers of the one epoch in the other. It costs the renaming
@@ -274,10 +241,9 @@ impl Epochs {
         requires to { IsTrue (is_kept self.now.epochs.top self.now.epochs.nodes to) }
         ensures translated { IfOk result (λ xs. xs ≡ map (translate self.now.epochs.nodes from to) ids.now) }
     {
-        let (alloc, nodes) = (*self.nodes.allocator(), self.nodes.as_slice());
         let _total = ids.total();
-        let steps = way_between(alloc, self.top, nodes, self.by_name.as_slice(), from, to)?;
-        runs_led(alloc, nodes, &steps, ids)
+        let steps = self.nodes.way_between(&self.by_name, from, to)?;
+        self.nodes.runs_led(&steps, ids)
     }
 
     /// Takes all marks away. It takes no memory.
@@ -295,13 +261,8 @@ impl Epochs {
         ensures epochs { self.new.epochs ≡ self.old.epochs }
         ensures marks { (e : EpochName) → is_marked self.new.marks e ≡ (name_eq name e || is_marked self.old.marks e) }
     {
-        let number = number_of(
-            self.top,
-            self.nodes.as_slice(),
-            self.by_name.as_slice(),
-            name,
-        );
-        let _count = self.nodes.len();
+        let number = self.nodes.number_of(&self.by_name, name);
+        let _count = self.nodes.count();
         self.marks[number] = 1;
     }
 
@@ -313,26 +274,15 @@ impl Epochs {
         ensures epochs { self.new.epochs ≡ kept_part self.old.epochs stable.now self.old.marks }
         ensures marks { self.new.marks ≡ [] }
     {
-        let number = number_needed(
-            self.top,
-            self.nodes.as_slice(),
-            self.order.as_slice(),
-            self.marks.as_mut_slice(),
-            stable,
-        );
-        self.total = former_kept(self.nodes.as_slice(), self.marks.as_slice());
-        self.top = epoch_of(self.top, self.nodes.as_slice(), number);
-        keep_nodes(&mut self.nodes, self.marks.as_slice());
-        keep_places(&mut self.by_name, self.marks.as_slice());
-        keep_places(&mut self.order, self.marks.as_slice());
-        self.ranks.truncate(self.nodes.len());
-        rank_all(
-            self.nodes.as_slice(),
-            self.by_name.as_slice(),
-            self.order.as_slice(),
-            self.ranks.as_mut_slice(),
-        );
-        self.marks.truncate(self.nodes.len() + 1);
+        let number = number_needed(&self.nodes, &self.order, &mut self.marks, stable);
+        self.total = self.nodes.former_kept(&self.marks);
+        self.nodes.keep(number, &self.marks);
+        keep_places(&mut self.by_name, &self.marks);
+        keep_places(&mut self.order, &self.marks);
+        let count = self.nodes.count();
+        self.ranks.truncate(count);
+        rank_all(&self.nodes, &self.by_name, &self.order, &mut self.ranks);
+        self.marks.truncate(count + 1);
         self.marks.fill(0);
     }
 
@@ -346,15 +296,7 @@ impl Epochs {
         ensures former { IfOk result (λ part. part.former ≡ sum_by (λ R. length R.former) (spanned_renamings self.now.epochs.nodes (greatest self.now.epochs.top self.now.epochs.nodes) (reached self.now.epochs stable.now ++ marked.now))) }
     {
         let _total = self.former_total();
-        retained_part(
-            *self.nodes.allocator(),
-            self.top,
-            self.nodes.as_slice(),
-            self.by_name.as_slice(),
-            self.order.as_slice(),
-            stable,
-            marked,
-        )
+        retained_part(&self.nodes, &self.by_name, &self.order, stable, marked)
     }
 
     /// The epoch at a place in increasing order of the epochs. The topmost one is at place 0.
@@ -362,8 +304,7 @@ impl Epochs {
         requires place { i < suc (length self.now.epochs.nodes) }
         ensures name { slice_get (rising_epochs self.now.epochs) i ≡ Some result }
     {
-        let (nodes, order) = (self.nodes.as_slice(), self.order.as_slice());
-        epoch_of(self.top, nodes, number_at(nodes, order, i))
+        self.nodes.epoch_of(number_at(&self.nodes, &self.order, i))
     }
 
     /// The place of the parent of the epoch at a place in increasing order of the epochs, or `None`
@@ -375,8 +316,8 @@ impl Epochs {
         ensures none { IfNone result (i ≡ 0) }
         ensures some { IfSome result (λ p. 0 < i) }
     {
-        let (nodes, order) = (self.nodes.as_slice(), self.order.as_slice());
-        parent_place(self.top, nodes, order, number_at(nodes, order, i))
+        let number = number_at(&self.nodes, &self.order, i);
+        parent_place(&self.nodes, &self.order, number)
     }
 
     /// The renaming that opened the epoch at a place in increasing order of the epochs, or `None` for
@@ -387,8 +328,8 @@ impl Epochs {
         ensures none { IfNone result (i ≡ 0) }
         ensures some { IfSome result (λ p. 0 < i) }
     {
-        let (nodes, order) = (self.nodes.as_slice(), self.order.as_slice());
-        renaming_at(nodes, number_at(nodes, order, i))
+        self.nodes
+            .renaming_at(number_at(&self.nodes, &self.order, i))
     }
 
     /// The parent of a kept epoch, or `None` for the topmost one. It takes no memory, and costs a
@@ -397,8 +338,8 @@ impl Epochs {
         requires kept { IsTrue (is_kept self.now.epochs.top self.now.epochs.nodes name) }
         ensures parent { result ≡ option_map (λ node. node.parent) (node_for self.now.epochs.nodes name) }
     {
-        let (nodes, by_name) = (self.nodes.as_slice(), self.by_name.as_slice());
-        parent_name(nodes, number_of(self.top, nodes, by_name, name))
+        self.nodes
+            .parent_name(self.nodes.number_of(&self.by_name, name))
     }
 
     /// The renaming that opened a kept epoch, or `None` for the topmost one. It takes no memory, and
@@ -407,8 +348,8 @@ impl Epochs {
         requires kept { IsTrue (is_kept self.now.epochs.top self.now.epochs.nodes name) }
         ensures renaming { option_copied result ≡ option_map (λ node. node.renaming) (node_for self.now.epochs.nodes name) }
     {
-        let (nodes, by_name) = (self.nodes.as_slice(), self.by_name.as_slice());
-        renaming_at(nodes, number_of(self.top, nodes, by_name, name))
+        self.nodes
+            .renaming_at(self.nodes.number_of(&self.by_name, name))
     }
 
     /// The number of epochs, the topmost one among them.
@@ -416,7 +357,7 @@ impl Epochs {
         ensures count { result ≡ suc (length self.now.epochs.nodes) }
         ensures tree { IsTree self.now.epochs }
     {
-        self.nodes.len() as u64 + 1
+        self.nodes.count() as u64 + 1
     }
 
     /// The number of former identifiers of all nodes.
@@ -432,8 +373,7 @@ impl Epochs {
         ensures marks { IfOk result (λ copy. copy.marks ≡ self.now.marks) }
     {
         Ok(Epochs {
-            top: self.top,
-            nodes: copied(*self.nodes.allocator(), &self.nodes)?,
+            nodes: self.nodes.copy()?,
             by_name: self.by_name.clone()?,
             order: self.order.clone()?,
             ranks: self.ranks.clone()?,

@@ -8,7 +8,7 @@ ghost use Rattle.rls_epoch.specs.Heads.{Moves, IsAhead};
 ghost use Rattle.rls_epoch.specs.Ways.{AreWithin, place_of_step, step_map, led};
 ghost use Rattle.rls_epoch.specs.declared.ways.Step.TheVariants.{Forward};
 
-use crate::placed::Placed;
+use crate::nodes::Nodes;
 use crate::ways::Step;
 use rls_ident::{Ident, IdentError, Tuple};
 use rls_runs::{Run, Runs};
@@ -25,132 +25,117 @@ pub(crate) fn most_copied(runs: usize) -> usize {
     if runs > 1 { MOST_TOGETHER } else { FEWEST }
 }
 
-// Whether the first tuples of a long run alone decide a step. It is asked of a run beside others.
-pub(crate) fn is_decided(
-    alloc: Global,
-    nodes: &[Placed],
-    step: Step,
-    run: &Run,
-) -> Result<bool, AllocError>
-    requires within { place_of_step step < length nodes.now }
-{
-    if run.first().len() <= MOST_TOGETHER {
-        return Ok(false);
-    }
-    let mut turned = turned_tuples(alloc, run.first())?;
-    move_head(alloc, nodes, step, &mut turned)
-}
-
-// A run a few steps on, and how many steps, if it has more tuples than this and its first ones alone decide the first step.
-pub(crate) fn run_ahead(
-    alloc: Global,
-    nodes: &[Placed],
-    steps: &[Step],
-    run: &Run,
-    most: usize,
-) -> Result<Option<(Runs, usize)>, AllocError>
-    requires within { AreWithin (length nodes.now) steps.now }
-    ensures some { IfOk result (λ ahead. IfSome ahead (λ r. 0 < r.1)) }
-    ensures within { IfOk result (λ ahead. IfSome ahead (λ r. r.1 ≤ length steps.now)) }
-    ensures led { IfOk result (λ ahead. IfSome ahead (λ r. map (led nodes.now (drop r.1 steps.now)) r.0 ≡ map (led nodes.now steps.now) (run_idents run.now.0 run.now.1))) }
-{
-    if run.first().len() <= most {
-        return Ok(None);
-    }
-    let mut turned = turned_tuples(alloc, run.first())?;
-    let count = move_heads(alloc, nodes, steps, &mut turned)?;
-    if count == 0 {
-        return Ok(None);
-    }
-    let Some(first) = ident_of(alloc, &turned)? else {
-        return Ok(None);
-    };
-    let Ok(run) = Run::new(first, run.len()) else {
-        return Ok(None);
-    };
-    let mut ahead = Runs::new(alloc);
-    ahead.append(run)?;
-    Ok(Some((ahead, count)))
-}
-
-// Changes the tuples to those of the identifier as many steps on as its first tuples decide, and answers how many.
-fn move_heads(
-    alloc: Global,
-    nodes: &[Placed],
-    steps: &[Step],
-    turned: &mut Vec<Tuple>,
-) -> Result<usize, AllocError>
-    requires within { AreWithin (length nodes.now) steps.now }
-    ensures within { IfOk result (λ n. n ≤ length steps.now) }
-    ensures ahead { IfOk result (λ n. IsAhead nodes.now steps.now (reverse turned.old.items) n (reverse turned.new.items)) }
-{
-    let mut count = 0;
-    while count < steps.len() {
-        if !move_head(alloc, nodes, steps[count], turned)? {
-            return Ok(count);
+impl Nodes {
+    // Whether the first tuples of a long run alone decide a step. It is asked of a run beside others.
+    pub(crate) fn is_decided(&self, step: Step, run: &Run) -> Result<bool, AllocError>
+        requires within { place_of_step step < length self.now.placed }
+    {
+        if run.first().len() <= MOST_TOGETHER {
+            return Ok(false);
         }
-        count += 1;
+        let mut turned = turned_tuples(self.allocator(), run.first())?;
+        self.move_head(step, &mut turned)
     }
-    Ok(count)
-}
 
-// Changes the tuples to those of the identifier one step on, if the first ones decide it: two of them, or four, and so on.
-fn move_head(
-    alloc: Global,
-    nodes: &[Placed],
-    step: Step,
-    turned: &mut Vec<Tuple>,
-) -> Result<bool, AllocError>
-    requires within { place_of_step step < length nodes.now }
-    ensures moved { IfOk result (λ b. IsTrue b → Moves nodes.now step (reverse turned.old.items) (reverse turned.new.items)) }
-    ensures same { IfOk result (λ b. IsFalse b → turned.new.items ≡ turned.old.items) }
-{
-    let mut count = FEWEST;
-    while count < turned.len() {
-        if move_first(alloc, nodes, step, turned, count)? {
-            return Ok(true);
+    // A run a few steps on, and how many steps, if it has more tuples than this and its first ones alone decide the first step.
+    pub(crate) fn run_ahead(
+        &self,
+        steps: &[Step],
+        run: &Run,
+        most: usize,
+    ) -> Result<Option<(Runs, usize)>, AllocError>
+        requires within { AreWithin (length self.now.placed) steps.now }
+        ensures some { IfOk result (λ ahead. IfSome ahead (λ r. 0 < r.1)) }
+        ensures within { IfOk result (λ ahead. IfSome ahead (λ r. r.1 ≤ length steps.now)) }
+        ensures led { IfOk result (λ ahead. IfSome ahead (λ r. map (led self.now.placed (drop r.1 steps.now)) r.0 ≡ map (led self.now.placed steps.now) (run_idents run.now.0 run.now.1))) }
+    {
+        if run.first().len() <= most {
+            return Ok(None);
         }
-        count = count.saturating_add(count);
+        let mut turned = turned_tuples(self.allocator(), run.first())?;
+        let count = self.move_heads(steps, &mut turned)?;
+        if count == 0 {
+            return Ok(None);
+        }
+        let Some(first) = ident_of(self.allocator(), &turned)? else {
+            return Ok(None);
+        };
+        let Ok(run) = Run::new(first, run.len()) else {
+            return Ok(None);
+        };
+        let mut ahead = Runs::new(self.allocator());
+        ahead.append(run)?;
+        Ok(Some((ahead, count)))
     }
-    Ok(false)
-}
 
-// The same, if so many first tuples decide it.
-fn move_first(
-    alloc: Global,
-    nodes: &[Placed],
-    step: Step,
-    turned: &mut Vec<Tuple>,
-    count: usize,
-) -> Result<bool, AllocError>
-    requires within { place_of_step step < length nodes.now }
-    requires fewer { count < length turned.old.items }
-    ensures moved { IfOk result (λ b. IsTrue b → Moves nodes.now step (reverse turned.old.items) (reverse turned.new.items)) }
-    ensures same { IfOk result (λ b. IsFalse b → turned.new.items ≡ turned.old.items) }
-{
-    let rest = turned.len() - count;
-    let (_, first) = turned.as_slice().split_at(rest);
-    let Some(head) = ident_of(alloc, first)? else {
-        return Ok(false);
-    };
-    let Some(moved) = head_moved(nodes, step, &head)? else {
-        return Ok(false);
-    };
-    let front = turned_tuples(alloc, &moved)?;
-    turned.truncate(rest);
-    turned.extend_from_slice(&front)?;
-    Ok(true)
-}
+    // Changes the tuples to those of the identifier as many steps on as its first tuples decide, and answers how many.
+    fn move_heads(&self, steps: &[Step], turned: &mut Vec<Tuple>) -> Result<usize, AllocError>
+        requires within { AreWithin (length self.now.placed) steps.now }
+        ensures within { IfOk result (λ n. n ≤ length steps.now) }
+        ensures ahead { IfOk result (λ n. IsAhead self.now.placed steps.now (reverse turned.old.items) n (reverse turned.new.items)) }
+    {
+        let mut count = 0;
+        while count < steps.len() {
+            if !self.move_head(steps[count], turned)? {
+                return Ok(count);
+            }
+            count += 1;
+        }
+        Ok(count)
+    }
 
-// What a step down puts in the place of the first tuples, if these decide it. It isn't tried for a step up.
-#[tactic(auto, using(crate::proofs::Turning::forward_replaces))]
-fn head_moved(nodes: &[Placed], step: Step, head: &Ident) -> Result<Option<Ident>, AllocError>
-    requires within { place_of_step step < length nodes.now }
-    ensures replaces { IfOk result (λ z. IfSome z (λ z. Replaces (step_map nodes.now step) head.now z)) }
-{
-    match step {
-        Step::Back { .. } => Ok(None),
-        Step::Forward { place } => nodes[place].renaming.forward_head(head),
+    // Changes the tuples to those of the identifier one step on, if the first ones decide it: two of them, or four, and so on.
+    fn move_head(&self, step: Step, turned: &mut Vec<Tuple>) -> Result<bool, AllocError>
+        requires within { place_of_step step < length self.now.placed }
+        ensures moved { IfOk result (λ b. IsTrue b → Moves self.now.placed step (reverse turned.old.items) (reverse turned.new.items)) }
+        ensures same { IfOk result (λ b. IsFalse b → turned.new.items ≡ turned.old.items) }
+    {
+        let mut count = FEWEST;
+        while count < turned.len() {
+            if self.move_first(step, turned, count)? {
+                return Ok(true);
+            }
+            count = count.saturating_add(count);
+        }
+        Ok(false)
+    }
+
+    // The same, if so many first tuples decide it.
+    fn move_first(
+        &self,
+        step: Step,
+        turned: &mut Vec<Tuple>,
+        count: usize,
+    ) -> Result<bool, AllocError>
+        requires within { place_of_step step < length self.now.placed }
+        requires fewer { count < length turned.old.items }
+        ensures moved { IfOk result (λ b. IsTrue b → Moves self.now.placed step (reverse turned.old.items) (reverse turned.new.items)) }
+        ensures same { IfOk result (λ b. IsFalse b → turned.new.items ≡ turned.old.items) }
+    {
+        let rest = turned.len() - count;
+        let (_, first) = turned.as_slice().split_at(rest);
+        let Some(head) = ident_of(self.allocator(), first)? else {
+            return Ok(false);
+        };
+        let Some(moved) = self.head_moved(step, &head)? else {
+            return Ok(false);
+        };
+        let front = turned_tuples(self.allocator(), &moved)?;
+        turned.truncate(rest);
+        turned.extend_from_slice(&front)?;
+        Ok(true)
+    }
+
+    // What a step down puts in the place of the first tuples, if these decide it. It isn't tried for a step up.
+    #[tactic(auto, using(crate::proofs::Turning::forward_replaces))]
+    fn head_moved(&self, step: Step, head: &Ident) -> Result<Option<Ident>, AllocError>
+        requires within { place_of_step step < length self.now.placed }
+        ensures replaces { IfOk result (λ z. IfSome z (λ z. Replaces (step_map self.now.placed step) head.now z)) }
+    {
+        match step {
+            Step::Back { .. } => Ok(None),
+            Step::Forward { place } => self.at(place).renaming.forward_head(head),
+        }
     }
 }
 

@@ -2,54 +2,102 @@
 
 ghost use Rattle.std.specs.Prelude.{◌≡◌, ◌+◌, ◌<◌, ◌≤◌, ◌^◌, [], ◌∷◌, ◌++◌, map, length, drop, IfOk, OnOk, IsTrue};
 ghost use Rattle.rls_rename.specs.Renaming.{forward};
-ghost use Rattle.rls_rename.specs.Tree.{AreNodes};
 ghost use Rattle.rls_runs.specs.Runs.{run_idents, runs_of, idents_of, is_increasing, AreIdents, IsImage};
-ghost use Rattle.rls_epoch.specs.Seen.{nodes_of};
 ghost use Rattle.rls_epoch.specs.Ways.{AreWithin, place_of_step, step_map, led};
 
-use crate::parts::{Part, push_parts};
-use crate::placed::Placed;
+use crate::nodes::Nodes;
+use crate::parts::Part;
 use crate::ways::Step;
 use rls_rename::Renaming;
 use rls_runs::{Run, RunList, Runs};
 use std::alloc::{AllocError, Global};
 
-// A run at the end of the way.
-pub(crate) fn run_led(
-    alloc: Global,
-    nodes: &[Placed],
-    steps: &[Step],
-    run: &Run,
-) -> Result<RunList, AllocError>
-    requires nodes { AreNodes (nodes_of nodes.now) }
-    requires within { AreWithin (length nodes.now) steps.now }
-    ensures led { IfOk result (λ runs. IsImage (led nodes.now steps.now) run.now runs) }
-{
-    let _len = run.len();
-    match steps {
-        [] => listed(alloc, run),
-        [step] => run_moved(nodes, *step, run),
-        _ => maximal(alloc, &runs_led(alloc, nodes, steps, &alone(alloc, run)?)?),
+impl Nodes {
+    // A run at the end of the way.
+    pub(crate) fn run_led(&self, steps: &[Step], run: &Run) -> Result<RunList, AllocError>
+        requires within { AreWithin (length self.now.placed) steps.now }
+        ensures led { IfOk result (λ runs. IsImage (led self.now.placed steps.now) run.now runs) }
+    {
+        let _len = run.len();
+        match steps {
+            [] => listed(self.allocator(), run),
+            [step] => self.run_moved(*step, run),
+            _ => maximal(
+                self.allocator(),
+                &self.runs_led(steps, &alone(self.allocator(), run)?)?,
+            ),
+        }
     }
-}
 
-// A run at the end of the way, and then by a renaming.
-pub(crate) fn run_led_by(
-    alloc: Global,
-    nodes: &[Placed],
-    steps: &[Step],
-    renaming: &Renaming,
-    run: &Run,
-) -> Result<RunList, AllocError>
-    requires nodes { AreNodes (nodes_of nodes.now) }
-    requires within { AreWithin (length nodes.now) steps.now }
-    ensures led { IfOk result (λ runs. IsImage (λ x. forward renaming.now (led nodes.now steps.now x)) run.now runs) }
-{
-    if steps.is_empty() {
-        return renaming.forward_run(run);
+    // A run at the end of the way, and then by a renaming.
+    pub(crate) fn run_led_by(
+        &self,
+        steps: &[Step],
+        renaming: &Renaming,
+        run: &Run,
+    ) -> Result<RunList, AllocError>
+        requires within { AreWithin (length self.now.placed) steps.now }
+        ensures led { IfOk result (λ runs. IsImage (λ x. forward renaming.now (led self.now.placed steps.now x)) run.now runs) }
+    {
+        if steps.is_empty() {
+            return renaming.forward_run(run);
+        }
+        let ids = self.runs_led(steps, &alone(self.allocator(), run)?)?;
+        maximal(
+            self.allocator(),
+            &runs_renamed(self.allocator(), renaming, &ids)?,
+        )
     }
-    let ids = runs_led(alloc, nodes, steps, &alone(alloc, run)?)?;
-    maximal(alloc, &runs_renamed(alloc, renaming, &ids)?)
+
+    // A strictly increasing list at the end of the way.
+    pub(crate) fn runs_led(&self, steps: &[Step], ids: &Runs) -> Result<Runs, AllocError>
+        requires within { AreWithin (length self.now.placed) steps.now }
+        ensures led { IfOk result (λ xs. xs ≡ map (led self.now.placed steps.now) ids.now) }
+    {
+        if steps.is_empty() {
+            return ids.copy();
+        }
+        let (_count, _total) = (self.count(), ids.total());
+        let mut parts = Vec::new(self.allocator());
+        self.push_parts(steps, 0, ids.as_slice(), &mut parts)?;
+        let mut at_end = Runs::new(self.allocator());
+        while let Some(Part { ids, done }) = parts.pop() {
+            let _total = ids.total();
+            if done < steps.len() {
+                self.push_parts(steps, done, ids.as_slice(), &mut parts)?;
+            } else {
+                at_end = with_all(at_end, ids)?;
+            }
+        }
+        Ok(at_end)
+    }
+
+    // Runs one step on.
+    pub(crate) fn runs_moved(&self, step: Step, runs: &[Run]) -> Result<Runs, AllocError>
+        requires within { place_of_step step < length self.now.placed }
+        requires idents { AreIdents (idents_of runs.now) }
+        requires total { length (idents_of runs.now) < 2 ^ 64 }
+        ensures moved { IfOk result (λ xs. xs ≡ map (step_map self.now.placed step) (idents_of runs.now)) }
+    {
+        let _count = self.count();
+        let mut moved = Runs::new(self.allocator());
+        for run in runs {
+            append_all(&mut moved, self.run_moved(step, run)?.as_slice())?;
+        }
+        Ok(moved)
+    }
+
+    // A run one step on.
+    #[tactic(auto, using(crate::proofs::Moving::back_image, crate::proofs::Moving::forward_image))]
+    fn run_moved(&self, step: Step, run: &Run) -> Result<RunList, AllocError>
+        requires within { place_of_step step < length self.now.placed }
+        ensures moved { IfOk result (λ runs. IsImage (step_map self.now.placed step) run.now runs) }
+    {
+        match step {
+            Step::Back { place } => self.at(place).renaming.back_run(run),
+            Step::Forward { place } => self.at(place).renaming.forward_run(run),
+        }
+    }
 }
 
 // The renaming of each identifier of a strictly increasing list.
@@ -62,35 +110,6 @@ fn runs_renamed(alloc: Global, renaming: &Renaming, ids: &Runs) -> Result<Runs, 
         append_all(&mut renamed, renaming.forward_run(run)?.as_slice())?;
     }
     Ok(renamed)
-}
-
-// A strictly increasing list at the end of the way.
-pub(crate) fn runs_led(
-    alloc: Global,
-    nodes: &[Placed],
-    steps: &[Step],
-    ids: &Runs,
-) -> Result<Runs, AllocError>
-    requires nodes { AreNodes (nodes_of nodes.now) }
-    requires within { AreWithin (length nodes.now) steps.now }
-    ensures led { IfOk result (λ xs. xs ≡ map (led nodes.now steps.now) ids.now) }
-{
-    if steps.is_empty() {
-        return ids.copy();
-    }
-    let _total = ids.total();
-    let mut parts = Vec::new(alloc);
-    push_parts(alloc, nodes, steps, 0, ids.as_slice(), &mut parts)?;
-    let mut at_end = Runs::new(alloc);
-    while let Some(Part { ids, done }) = parts.pop() {
-        let _total = ids.total();
-        if done < steps.len() {
-            push_parts(alloc, nodes, steps, done, ids.as_slice(), &mut parts)?;
-        } else {
-            at_end = with_all(at_end, ids)?;
-        }
-    }
-    Ok(at_end)
 }
 
 // These identifiers and those above them.
@@ -107,26 +126,6 @@ fn with_all(ids: Runs, more: Runs) -> Result<Runs, AllocError>
     Ok(all)
 }
 
-// Runs one step on.
-pub(crate) fn runs_moved(
-    alloc: Global,
-    nodes: &[Placed],
-    step: Step,
-    runs: &[Run],
-) -> Result<Runs, AllocError>
-    requires nodes { AreNodes (nodes_of nodes.now) }
-    requires within { place_of_step step < length nodes.now }
-    requires idents { AreIdents (idents_of runs.now) }
-    requires total { length (idents_of runs.now) < 2 ^ 64 }
-    ensures moved { IfOk result (λ xs. xs ≡ map (step_map nodes.now step) (idents_of runs.now)) }
-{
-    let mut moved = Runs::new(alloc);
-    for run in runs {
-        append_all(&mut moved, run_moved(nodes, step, run)?.as_slice())?;
-    }
-    Ok(moved)
-}
-
 // Puts runs above the last identifier after it, and joins those that touch.
 fn append_all(ids: &mut Runs, more: &[Run]) -> Result<(), AllocError>
     requires above { IsTrue (is_increasing (ids.old ++ idents_of more.now)) }
@@ -138,18 +137,6 @@ fn append_all(ids: &mut Runs, more: &[Run]) -> Result<(), AllocError>
         ids.append(run.copy()?)?;
     }
     Ok(())
-}
-
-// A run one step on.
-#[tactic(auto, using(crate::proofs::Moving::back_image, crate::proofs::Moving::forward_image))]
-fn run_moved(nodes: &[Placed], step: Step, run: &Run) -> Result<RunList, AllocError>
-    requires within { place_of_step step < length nodes.now }
-    ensures moved { IfOk result (λ runs. IsImage (step_map nodes.now step) run.now runs) }
-{
-    match step {
-        Step::Back { place } => nodes[place].renaming.back_run(run),
-        Step::Forward { place } => nodes[place].renaming.forward_run(run),
-    }
 }
 
 // The run alone, in a list of runs.

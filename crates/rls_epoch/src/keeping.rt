@@ -7,14 +7,16 @@ ghost use Rattle.rls_ident.specs.Lists.{IsIn};
 ghost use Rattle.rls_rename.specs.Keeping.{reached};
 ghost use Rattle.rls_rename.specs.Tree.{epoch_cmp, greatest, is_kept};
 ghost use Rattle.rls_epoch.specs.declared.placed.Placed.{Placed};
+ghost use Rattle.rls_epoch.specs.Links.{epoch_at};
 ghost use Rattle.rls_epoch.specs.Marks.{AreNamed, AreNumbered, numbered, mark_count, kept_placed, kept_places, kept_names, kept_sum};
 ghost use Rattle.rls_epoch.specs.Seen.{former_sum, nodes_of, AreLaid};
 ghost use Rattle.rls_epoch.specs.Sorted.{place_name, AreSorted};
 
-use crate::marks::mark_needed;
-use crate::placed::{Placed, name_of};
+use crate::marks::mark_reached;
+use crate::nodes::Nodes;
+use crate::placed::Placed;
 use rls_ident::{EpochName, Vector};
-use std::alloc::{AllocError, Global};
+use std::alloc::AllocError;
 
 // Numbers the marks, from 1 on.
 fn number_marks(marks: &mut [usize])
@@ -32,20 +34,20 @@ fn number_marks(marks: &mut [usize])
 
 // Marks what is needed, numbers the marks from 1 on, and answers the number of the topmost epoch of it.
 pub(crate) fn number_needed(
-    top: EpochName,
-    nodes: &[Placed],
+    nodes: &Nodes,
     order: &[usize],
     marks: &mut [usize],
     v: &Vector,
 ) -> usize
-    requires laid { AreLaid top nodes.now }
-    requires sorted { AreSorted (epoch_cmp (nodes_of nodes.now)) nodes.now order.now }
-    requires members { (e : EpochName) → IsTrue (is_kept top (nodes_of nodes.now) e) → IsTrue (is_of_member (length v.now) e) }
-    requires whole { length marks.old ≡ suc (length nodes.now) }
-    ensures within { result ≤ length nodes.now }
-    ensures needed { (es : List EpochName) → AreNamed top nodes.now marks.old es → AreNumbered top nodes.now marks.new result (greatest top (nodes_of nodes.now)) (reached (record { top = top; nodes = nodes_of nodes.now }) v.now ++ es) }
+    requires sorted { AreSorted (epoch_cmp (nodes_of nodes.now.placed)) nodes.now.placed order.now }
+    requires members { (e : EpochName) → IsTrue (is_kept nodes.now.top (nodes_of nodes.now.placed) e) → IsTrue (is_of_member (length v.now) e) }
+    requires whole { length marks.old ≡ suc (length nodes.now.placed) }
+    ensures within { result ≤ length nodes.now.placed }
+    ensures needed { (es : List EpochName) → AreNamed nodes.now.top nodes.now.placed marks.old es → AreNumbered nodes.now.top nodes.now.placed marks.new result (greatest nodes.now.top (nodes_of nodes.now.placed)) (reached (record { top = nodes.now.top; nodes = nodes_of nodes.now.placed }) v.now ++ es) }
 {
-    let number = mark_needed(top, nodes, order, marks, v);
+    let _count = nodes.count();
+    mark_reached(nodes, order, marks, v);
+    let number = nodes.spread(marks);
     number_marks(marks);
     number
 }
@@ -59,7 +61,7 @@ fn mark_of(marks: &[usize], number: usize) -> usize
 }
 
 // Keeps the nodes whose marks are greater than 1.
-pub(crate) fn keep_nodes(nodes: &mut Vec<Placed>, marks: &[usize])
+fn keep_nodes(nodes: &mut Vec<Placed>, marks: &[usize])
     requires whole { length marks.now ≡ suc (length nodes.old.items) }
     requires parents { (k : ℕ) (p : Placed) → slice_get nodes.old.items k ≡ Some p → p.up ≤ k }
     requires marked { (k : ℕ) (p : Placed) → slice_get nodes.old.items k ≡ Some p → 1 < slice_index marks.now (suc k) → 0 < slice_index marks.now p.up }
@@ -95,42 +97,56 @@ pub(crate) fn keep_places(places: &mut Vec<usize>, marks: &[usize])
     places.truncate(count);
 }
 
-// The epochs at these places whose marks are greater than 1, behind the topmost one.
-pub(crate) fn list_kept(
-    alloc: Global,
-    top: EpochName,
-    nodes: &[Placed],
-    marks: &[usize],
-    places: &[usize],
-) -> Result<Vec<EpochName>, AllocError>
-    requires whole { length marks.now ≡ suc (length nodes.now) }
-    requires within { (k : ℕ) → IsIn k places.now → k < length nodes.now }
-    ensures names { IfOk result (λ names. names.items ≡ top ∷ kept_names nodes.now marks.now places.now) }
-{
-    let _count = nodes.len();
-    let mut names = Vec::new(alloc);
-    names.push(top)?;
-    for place in places {
-        if mark_of(marks, *place + 1) <= 1 {
-            continue;
-        }
-        names.push(name_of(nodes, *place))?;
+impl Nodes {
+    // Keeps the part that has marks, which are numbered, and of which the epoch with this number is the
+    // topmost.
+    pub(crate) fn keep(&mut self, number: usize, marks: &[usize])
+        requires within { number ≤ length self.old.placed }
+        requires whole { length marks.now ≡ suc (length self.old.placed) }
+        requires numbered { (e : EpochName) × (es : List EpochName) × AreNumbered self.old.top self.old.placed marks.now number e es }
+        ensures top { self.new.top ≡ epoch_at self.old.top self.old.placed number }
+        ensures placed { self.new.placed ≡ kept_placed marks.now (drop 1 marks.now) self.old.placed }
+    {
+        self.top = self.epoch_of(number);
+        keep_nodes(&mut self.list, marks);
     }
-    Ok(names)
-}
 
-// The number of former identifiers of the nodes whose marks are greater than 1.
-pub(crate) fn former_kept(nodes: &[Placed], marks: &[usize]) -> u64
-    requires whole { length marks.now ≡ suc (length nodes.now) }
-    requires total { former_sum (nodes_of nodes.now) < 2 ^ 64 }
-    ensures former { result ≡ kept_sum (drop 1 marks.now) nodes.now }
-{
-    let mut former = 0;
-    for i in 0..nodes.len() {
-        if mark_of(marks, i + 1) <= 1 {
-            continue;
+    // The epochs at these places whose marks are greater than 1, after the topmost one.
+    pub(crate) fn list_kept(
+        &self,
+        first: EpochName,
+        marks: &[usize],
+        places: &[usize],
+    ) -> Result<Vec<EpochName>, AllocError>
+        requires whole { length marks.now ≡ suc (length self.now.placed) }
+        requires within { (k : ℕ) → IsIn k places.now → k < length self.now.placed }
+        ensures names { IfOk result (λ names. names.items ≡ first ∷ kept_names self.now.placed marks.now places.now) }
+    {
+        let _count = self.count();
+        let mut names = Vec::new(self.allocator());
+        names.push(first)?;
+        for place in places {
+            if mark_of(marks, *place + 1) <= 1 {
+                continue;
+            }
+            names.push(self.name_of(*place))?;
         }
-        former += nodes[i].renaming.total();
+        Ok(names)
     }
-    former
+
+    // The number of former identifiers of the nodes whose marks are greater than 1.
+    pub(crate) fn former_kept(&self, marks: &[usize]) -> u64
+        requires whole { length marks.now ≡ suc (length self.now.placed) }
+        requires total { former_sum (nodes_of self.now.placed) < 2 ^ 64 }
+        ensures former { result ≡ kept_sum (drop 1 marks.now) self.now.placed }
+    {
+        let mut former = 0;
+        for i in 0..self.count() {
+            if mark_of(marks, i + 1) <= 1 {
+                continue;
+            }
+            former += self.at(i).renaming.total();
+        }
+        former
+    }
 }

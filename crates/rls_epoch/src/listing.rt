@@ -1,28 +1,25 @@
 //! The epochs in increasing order, of which the topmost is the first, and what opened them.
 
-ghost use Rattle.std.specs.Prelude.{◌≡◌, ℕ, ◌≤◌, ◌<◌, suc, ◌∷◌, length, map, slice_get, Some, IfSome, IfNone};
+ghost use Rattle.std.specs.Prelude.{◌≡◌, suc, ◌≤◌, ◌<◌, ◌∷◌, length, slice_get, Some, IfSome, IfNone};
 ghost use Rattle.std.specs.Option.{option_copied, option_map};
-ghost use Rattle.rls_ident.specs.declared.epoch_name.EpochName.{EpochName};
-ghost use Rattle.rls_ident.specs.Lists.{IsIn};
 ghost use Rattle.rls_rename.specs.Tree.{epoch_cmp};
 ghost use Rattle.rls_epoch.specs.Links.{epoch_at};
-ghost use Rattle.rls_epoch.specs.Seen.{node_for, nodes_of, AreLaid};
+ghost use Rattle.rls_epoch.specs.Seen.{node_for, nodes_of, rising_epochs};
 ghost use Rattle.rls_epoch.specs.Sorted.{names_at, AreSorted};
 
-use crate::nodes::epochs_below;
-use crate::placed::{Placed, up_of};
+use crate::nodes::Nodes;
 use rls_ident::EpochName;
 use rls_rename::Renaming;
 
 // The number of the epoch at a place of the order.
-pub(crate) fn number_at(nodes: &[Placed], order: &[usize], i: u64) -> usize
-    requires within { (k : ℕ) → IsIn k order.now → k < length nodes.now }
-    requires place { i ≤ length order.now }
-    ensures number { slice_get (0 ∷ map suc order.now) i ≡ Some result }
-    ensures within { result ≤ length nodes.now }
+pub(crate) fn number_at(nodes: &Nodes, order: &[usize], i: u64) -> usize
+    requires sorted { AreSorted (epoch_cmp (nodes_of nodes.now.placed)) nodes.now.placed order.now }
+    requires place { i < suc (length (nodes_of nodes.now.placed)) }
+    ensures epoch { slice_get (rising_epochs (record { top = nodes.now.top; nodes = nodes_of nodes.now.placed })) i ≡ Some (epoch_at nodes.now.top nodes.now.placed result) }
+    ensures within { result ≤ length nodes.now.placed }
     ensures first { (result ≡ 0 → i ≡ 0) × (0 < result → 0 < i) }
 {
-    let _count = nodes.len();
+    let _count = nodes.count();
     if i == 0 {
         return 0;
     }
@@ -30,59 +27,57 @@ pub(crate) fn number_at(nodes: &[Placed], order: &[usize], i: u64) -> usize
 }
 
 // The place in the order of the epoch with a number.
-fn place_at(top: EpochName, nodes: &[Placed], order: &[usize], number: usize) -> u64
-    requires laid { AreLaid top nodes.now }
-    requires sorted { AreSorted (epoch_cmp (nodes_of nodes.now)) nodes.now order.now }
-    requires within { number ≤ length nodes.now }
-    ensures place { slice_get (top ∷ names_at nodes.now order.now) result ≡ Some (epoch_at top nodes.now number) }
+fn place_at(nodes: &Nodes, order: &[usize], number: usize) -> u64
+    requires sorted { AreSorted (epoch_cmp (nodes_of nodes.now.placed)) nodes.now.placed order.now }
+    requires within { number ≤ length nodes.now.placed }
+    ensures place { slice_get (nodes.now.top ∷ names_at nodes.now.placed order.now) result ≡ Some (epoch_at nodes.now.top nodes.now.placed number) }
 {
     let _count = order.len();
     if number == 0 {
         return 0;
     }
-    epochs_below(top, nodes, order, number) as u64 + 1
+    nodes.epochs_below(order, number) as u64 + 1
 }
 
 // The place in the order of the parent of the epoch with a number, which the topmost one hasn't.
-pub(crate) fn parent_place(
-    top: EpochName,
-    nodes: &[Placed],
-    order: &[usize],
-    number: usize,
-) -> Option<u64>
-    requires laid { AreLaid top nodes.now }
-    requires sorted { AreSorted (epoch_cmp (nodes_of nodes.now)) nodes.now order.now }
-    requires within { number ≤ length nodes.now }
-    ensures parent { option_map (slice_get (top ∷ names_at nodes.now order.now)) result ≡ option_map (λ node. Some node.parent) (node_for (nodes_of nodes.now) (epoch_at top nodes.now number)) }
+pub(crate) fn parent_place(nodes: &Nodes, order: &[usize], number: usize) -> Option<u64>
+    requires sorted { AreSorted (epoch_cmp (nodes_of nodes.now.placed)) nodes.now.placed order.now }
+    requires within { number ≤ length nodes.now.placed }
+    ensures parent { option_map (slice_get (rising_epochs (record { top = nodes.now.top; nodes = nodes_of nodes.now.placed }))) result ≡ option_map (λ node. Some node.parent) (node_for (nodes_of nodes.now.placed) (epoch_at nodes.now.top nodes.now.placed number)) }
     ensures none { IfNone result (number ≡ 0) }
     ensures some { IfSome result (λ p. 0 < number) }
 {
+    let _count = nodes.count();
     if number == 0 {
         return None;
     }
-    Some(place_at(top, nodes, order, up_of(nodes, number - 1)))
+    Some(place_at(nodes, order, nodes.up_of(number - 1)))
 }
 
-// The parent of the epoch with a number, which the topmost one hasn't.
-pub(crate) fn parent_name(nodes: &[Placed], number: usize) -> Option<EpochName>
-    requires within { number ≤ length nodes.now }
-    ensures parent { (top : EpochName) → AreLaid top nodes.now → result ≡ option_map (λ node. node.parent) (node_for (nodes_of nodes.now) (epoch_at top nodes.now number)) }
-{
-    if number == 0 {
-        return None;
+impl Nodes {
+    // The parent of the epoch with a number, which the topmost one hasn't.
+    pub(crate) fn parent_name(&self, number: usize) -> Option<EpochName>
+        requires within { number ≤ length self.now.placed }
+        ensures parent { result ≡ option_map (λ node. node.parent) (node_for (nodes_of self.now.placed) (epoch_at self.now.top self.now.placed number)) }
+    {
+        let _count = self.count();
+        if number == 0 {
+            return None;
+        }
+        Some(self.at(number - 1).parent)
     }
-    Some(nodes[number - 1].parent)
-}
 
-// The renaming that opened the epoch with a number, which the topmost one hasn't.
-pub(crate) fn renaming_at(nodes: &[Placed], number: usize) -> Option<&Renaming>
-    requires within { number ≤ length nodes.now }
-    ensures renaming { (top : EpochName) → AreLaid top nodes.now → option_copied result ≡ option_map (λ node. node.renaming) (node_for (nodes_of nodes.now) (epoch_at top nodes.now number)) }
-    ensures none { IfNone result (number ≡ 0) }
-    ensures some { IfSome result (λ p. 0 < number) }
-{
-    if number == 0 {
-        return None;
+    // The renaming that opened the epoch with a number, which the topmost one hasn't.
+    pub(crate) fn renaming_at(&self, number: usize) -> Option<&Renaming>
+        requires within { number ≤ length self.now.placed }
+        ensures renaming { option_copied result ≡ option_map (λ node. node.renaming) (node_for (nodes_of self.now.placed) (epoch_at self.now.top self.now.placed number)) }
+        ensures none { IfNone result (number ≡ 0) }
+        ensures some { IfSome result (λ p. 0 < number) }
+    {
+        let _count = self.count();
+        if number == 0 {
+            return None;
+        }
+        Some(&self.at(number - 1).renaming)
     }
-    Some(&nodes[number - 1].renaming)
 }

@@ -1,112 +1,216 @@
-//! The nodes of a tree, of which the latest stands last, and their places in increasing order.
+//! A topmost epoch and the nodes below it, of which the latest stands last.
 
-ghost use Rattle.std.specs.Prelude.{◌≡◌, ℕ, ◌≤◌, ◌<◌, Some, IfOk, IfSome, IfNone, IsTrue, false, length};
+ghost use Rattle.std.specs.Prelude.{◌≡◌, ℕ, ◌-◌, ◌^◌, ◌≤◌, ◌<◌, slice_get, ◌∷◌, [], ◌++◌, Some, IfOk, IfSome, IfNone, OnOk, IsTrue, IsFalse, false, length};
 ghost use Rattle.rls_ident.specs.Lists.{IsIn};
-ghost use Rattle.rls_rename.specs.Tree.{is_kept, epoch_cmp};
+ghost use Rattle.rls_rename.specs.Tree.{name_of, is_kept, epoch_cmp};
 ghost use Rattle.rls_epoch.specs.Climbing.{name_cmp};
-ghost use Rattle.rls_epoch.specs.Links.{name_at, epoch_at};
+ghost use Rattle.rls_epoch.specs.Links.{name_at, epoch_at, up_at};
 ghost use Rattle.rls_epoch.specs.Seen.{nodes_of, AreLaid};
-ghost use Rattle.rls_epoch.specs.Sorted.{names_at, AreSorted, IsCut};
+ghost use Rattle.rls_epoch.specs.Sorted.{names_at, place_name, AreSorted, IsCut};
 
-use crate::climb::{compare, compare_names};
-use crate::placed::{Placed, name_of};
+use crate::climb::compare_names;
+use crate::placed::Placed;
 use rls_ident::EpochName;
 use std::alloc::{AllocError, Global};
 use std::cmp::Ordering;
+use std::marker::Model;
 
-// How many of these places, in increasing order of names, have a lesser name.
-pub(crate) fn names_below(nodes: &[Placed], places: &[usize], name: EpochName) -> usize
-    requires within { (k : ℕ) → IsIn k places.now → k < length nodes.now }
-    ensures cut { IsCut name_cmp (names_at nodes.now places.now) name result }
-{
-    let (mut low, mut high) = (0, places.len());
-    while low < high {
-        let middle = low + (high - low) / 2;
-        match compare_names(name_of(nodes, places[middle]), name) {
-            Ordering::Less => low = middle + 1,
-            _ => high = middle,
+// One tree: each parent is the topmost epoch or an earlier node. The number of the topmost epoch is
+// 0, and any other's is one more than the place of its node.
+#[derive(Drop)]
+pub(crate) struct Nodes {
+    pub(crate) top: EpochName,
+    pub(crate) list: Vec<Placed>,
+}
+
+impl Model for Nodes {
+    ghost use Rattle.std.specs.Prelude.{◌-◌, length, vec_capacity};
+    ghost use Rattle.rls_epoch.specs.Seen.{NodesSeen, AreLaid};
+
+    ghost Value = { NodesSeen };
+
+    ghost view = { λ a. record { top = a.top; placed = a.list.items; spare = vec_capacity a.list - length a.list.items } };
+
+    ghost invariant = { λ a. AreLaid a.top a.list.items };
+}
+
+impl Nodes {
+    // The topmost epoch alone.
+    pub(crate) fn starting_at(alloc: Global, top: EpochName) -> Nodes
+        ensures top { result.top ≡ top }
+        ensures none { result.placed ≡ [] }
+    {
+        Nodes {
+            top,
+            list: Vec::new(alloc),
         }
     }
-    low
-}
 
-// How many of these places, in increasing order of the epochs, have a lesser epoch than this number.
-pub(crate) fn epochs_below(
-    top: EpochName,
-    nodes: &[Placed],
-    places: &[usize],
-    number: usize,
-) -> usize
-    requires laid { AreLaid top nodes.now }
-    requires within { (k : ℕ) → IsIn k places.now → k < length nodes.now }
-    requires number { number ≤ length nodes.now }
-    ensures cut { IsCut (epoch_cmp (nodes_of nodes.now)) (names_at nodes.now places.now) (epoch_at top nodes.now number) result }
-{
-    let _count = nodes.len();
-    let (mut low, mut high) = (0, places.len());
-    while low < high {
-        let middle = low + (high - low) / 2;
-        match compare(top, nodes, places[middle] + 1, number) {
-            Ordering::Less => low = middle + 1,
-            _ => high = middle,
+    // Makes room for one more node.
+    pub(crate) fn reserve(&mut self) -> Result<(), AllocError>
+        ensures top { self.new.top ≡ self.old.top }
+        ensures placed { self.new.placed ≡ self.old.placed }
+        ensures ok { OnOk result (0 < self.new.spare) }
+    {
+        self.list.reserve(1)?;
+        Ok(())
+    }
+
+    // Adds a node. It takes no memory.
+    pub(crate) fn push(&mut self, node: Placed)
+        requires room { 0 < self.old.spare }
+        requires up { name_at self.old.top self.old.placed node.up ≡ Some node.parent }
+        requires within { node.up ≤ length self.old.placed }
+        requires fresh { IsFalse (is_kept self.old.top (nodes_of self.old.placed) (name_of node.renaming)) }
+        ensures top { self.new.top ≡ self.old.top }
+        ensures placed { self.new.placed ≡ self.old.placed ++ node ∷ [] }
+    {
+        let _total = node.renaming.total();
+        self.list.push(node).unwrap();
+    }
+
+    pub(crate) fn allocator(&self) -> Global {
+        *self.list.allocator()
+    }
+
+    // The topmost epoch.
+    pub(crate) fn top(&self) -> EpochName
+        ensures top { result ≡ self.now.top }
+    {
+        self.top
+    }
+
+    // The number of nodes.
+    pub(crate) fn count(&self) -> usize
+        ensures count { result ≡ length self.now.placed }
+        ensures room { result < 2 ^ 64 - 1 }
+        ensures laid { AreLaid self.now.top self.now.placed }
+    {
+        self.list.len()
+    }
+
+    // The node at a place.
+    pub(crate) fn at(&self, place: usize) -> &Placed
+        requires place { place < length self.now.placed }
+        ensures node { slice_get self.now.placed place ≡ Some result.now }
+    {
+        &self.list[place]
+    }
+
+    // The epoch of the node at a place.
+    #[tactic(auto, using(crate::proofs::Reading::name_read))]
+    pub(crate) fn name_of(&self, place: usize) -> EpochName
+        requires place { place < length self.now.placed }
+        ensures name { result ≡ place_name self.now.placed place }
+    {
+        self.at(place).name()
+    }
+
+    // The number of the parent of the node at a place.
+    #[tactic(auto, using(crate::proofs::Reading::up_read))]
+    pub(crate) fn up_of(&self, place: usize) -> usize
+        requires place { place < length self.now.placed }
+        ensures up { result ≡ up_at self.now.placed place }
+    {
+        self.at(place).up
+    }
+
+    // The epoch of a number.
+    pub(crate) fn epoch_of(&self, number: usize) -> EpochName
+        requires within { number ≤ length self.now.placed }
+        ensures name { result ≡ epoch_at self.now.top self.now.placed number }
+    {
+        if number == 0 {
+            return self.top();
+        }
+        self.name_of(number - 1)
+    }
+
+    // How many of these places, in increasing order of names, have a lesser name.
+    pub(crate) fn names_below(&self, places: &[usize], name: EpochName) -> usize
+        requires within { (k : ℕ) → IsIn k places.now → k < length self.now.placed }
+        ensures cut { IsCut name_cmp (names_at self.now.placed places.now) name result }
+    {
+        let (mut low, mut high) = (0, places.len());
+        while low < high {
+            let middle = low + (high - low) / 2;
+            match compare_names(self.name_of(places[middle]), name) {
+                Ordering::Less => low = middle + 1,
+                _ => high = middle,
+            }
+        }
+        low
+    }
+
+    // How many of these places, in increasing order of the epochs, have a lesser epoch than this number.
+    pub(crate) fn epochs_below(&self, places: &[usize], number: usize) -> usize
+        requires within { (k : ℕ) → IsIn k places.now → k < length self.now.placed }
+        requires number { number ≤ length self.now.placed }
+        ensures cut { IsCut (epoch_cmp (nodes_of self.now.placed)) (names_at self.now.placed places.now) (epoch_at self.now.top self.now.placed number) result }
+    {
+        let _count = self.count();
+        let (mut low, mut high) = (0, places.len());
+        while low < high {
+            let middle = low + (high - low) / 2;
+            match self.compare(places[middle] + 1, number) {
+                Ordering::Less => low = middle + 1,
+                _ => high = middle,
+            }
+        }
+        low
+    }
+
+    // The number of an epoch, where it is kept. It costs a comparison of names for each halving of the nodes.
+    pub(crate) fn find(&self, by_name: &[usize], name: EpochName) -> Option<usize>
+        requires sorted { AreSorted name_cmp self.now.placed by_name.now }
+        ensures some { IfSome result (λ n. name_at self.now.top self.now.placed n ≡ Some name) }
+        ensures within { IfSome result (λ n. n ≤ length self.now.placed) }
+        ensures none { IfNone result (is_kept self.now.top (nodes_of self.now.placed) name ≡ false) }
+    {
+        let _count = self.count();
+        let top = self.top();
+        if name.same(&top) {
+            return Some(0);
+        }
+        let i = self.names_below(by_name, name);
+        if by_name.len() <= i {
+            return None;
+        }
+        let place = by_name[i];
+        if self.name_of(place).same(&name) {
+            Some(place + 1)
+        } else {
+            None
         }
     }
-    low
-}
 
-// The number of an epoch, where it is kept. It costs a comparison of names for each halving of the nodes.
-pub(crate) fn find(
-    top: EpochName,
-    nodes: &[Placed],
-    by_name: &[usize],
-    name: EpochName,
-) -> Option<usize>
-    requires sorted { AreSorted name_cmp nodes.now by_name.now }
-    ensures some { IfSome result (λ n. name_at top nodes.now n ≡ Some name) }
-    ensures within { IfSome result (λ n. n ≤ length nodes.now) }
-    ensures none { IfNone result (is_kept top (nodes_of nodes.now) name ≡ false) }
-{
-    let _count = nodes.len();
-    if name.same(&top) {
-        return Some(0);
+    // The number of a kept epoch.
+    #[tactic(auto, using(crate::proofs::Meeting::at_is))]
+    pub(crate) fn number_of(&self, by_name: &[usize], name: EpochName) -> usize
+        requires sorted { AreSorted name_cmp self.now.placed by_name.now }
+        requires kept { IsTrue (is_kept self.now.top (nodes_of self.now.placed) name) }
+        ensures number { name_at self.now.top self.now.placed result ≡ Some name }
+        ensures epoch { epoch_at self.now.top self.now.placed result ≡ name }
+        ensures within { result ≤ length self.now.placed }
+    {
+        match self.find(by_name, name) {
+            Some(number) => number,
+            None => unreachable!(),
+        }
     }
-    let i = names_below(nodes, by_name, name);
-    if by_name.len() <= i {
-        return None;
-    }
-    let place = by_name[i];
-    if name_of(nodes, place).same(&name) {
-        Some(place + 1)
-    } else {
-        None
-    }
-}
 
-// The number of a kept epoch.
-pub(crate) fn number_of(
-    top: EpochName,
-    nodes: &[Placed],
-    by_name: &[usize],
-    name: EpochName,
-) -> usize
-    requires sorted { AreSorted name_cmp nodes.now by_name.now }
-    requires kept { IsTrue (is_kept top (nodes_of nodes.now) name) }
-    ensures number { name_at top nodes.now result ≡ Some name }
-    ensures within { result ≤ length nodes.now }
-{
-    match find(top, nodes, by_name, name) {
-        Some(number) => number,
-        None => unreachable!(),
+    // The same again.
+    pub(crate) fn copy(&self) -> Result<Nodes, AllocError>
+        ensures top { IfOk result (λ copy. copy.top ≡ self.now.top) }
+        ensures placed { IfOk result (λ copy. copy.placed ≡ self.now.placed) }
+    {
+        let mut list = Vec::with_capacity(self.allocator(), self.count())?;
+        for node in &self.list {
+            list.push(node.copy()?)?;
+        }
+        Ok(Nodes {
+            top: self.top,
+            list,
+        })
     }
-}
-
-// The same again.
-pub(crate) fn copied(alloc: Global, nodes: &[Placed]) -> Result<Vec<Placed>, AllocError>
-    ensures copied { IfOk result (λ copy. copy.items ≡ nodes.now) }
-{
-    let mut copy = Vec::with_capacity(alloc, nodes.len())?;
-    for node in nodes {
-        copy.push(node.copy()?)?;
-    }
-    Ok(copy)
 }

@@ -1,10 +1,8 @@
 //! One node of a tree of epochs.
 
-ghost use Rattle.std.specs.Prelude.{◌≡◌, ◌<◌, ◌≤◌, IfOk, length};
+ghost use Rattle.std.specs.Prelude.{◌≡◌, IfOk};
 ghost use Rattle.rls_ident.specs.EpochNames.{name_eq};
 ghost use Rattle.rls_rename.specs.Tree.{name_of};
-ghost use Rattle.rls_epoch.specs.Links.{epoch_at, up_at};
-ghost use Rattle.rls_epoch.specs.Sorted.{place_name};
 
 use rls_ident::EpochName;
 use rls_rename::Renaming;
@@ -47,33 +45,4 @@ impl Placed {
             renaming: self.renaming.copy()?,
         })
     }
-}
-
-// The epoch of the node at a place.
-#[tactic(auto, using(crate::proofs::Reading::name_got))]
-pub(crate) fn name_of(nodes: &[Placed], place: usize) -> EpochName
-    requires place { place < length nodes.now }
-    ensures name { result ≡ place_name nodes.now place }
-{
-    nodes[place].name()
-}
-
-// The number of the parent of the node at a place.
-#[tactic(auto, using(crate::proofs::Reading::up_got))]
-pub(crate) fn up_of(nodes: &[Placed], place: usize) -> usize
-    requires place { place < length nodes.now }
-    ensures up { result ≡ up_at nodes.now place }
-{
-    nodes[place].up
-}
-
-// The epoch of a number.
-pub(crate) fn epoch_of(top: EpochName, nodes: &[Placed], number: usize) -> EpochName
-    requires within { number ≤ length nodes.now }
-    ensures name { result ≡ epoch_at top nodes.now number }
-{
-    if number == 0 {
-        return top;
-    }
-    name_of(nodes, number - 1)
 }

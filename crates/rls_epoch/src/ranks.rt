@@ -11,7 +11,7 @@ ghost use Rattle.rls_epoch.specs.Seen.{nodes_of};
 ghost use Rattle.rls_epoch.specs.Sorted.{AreSorted};
 
 use crate::climb::compare_names;
-use crate::placed::{Placed, name_of};
+use crate::nodes::Nodes;
 use rls_ident::{EpochName, Vector};
 use std::cmp::Ordering;
 
@@ -59,14 +59,14 @@ pub(crate) fn first_of(name: EpochName) -> EpochName
 }
 
 // How many of these places, in increasing order of names, have this name or a lesser one.
-fn names_up_to(nodes: &[Placed], by_name: &[usize], name: EpochName) -> usize
-    requires sorted { AreSorted name_cmp nodes.now by_name.now }
-    ensures end { IsEnd nodes.now by_name.now name result }
+fn names_up_to(nodes: &Nodes, by_name: &[usize], name: EpochName) -> usize
+    requires sorted { AreSorted name_cmp nodes.now.placed by_name.now }
+    ensures end { IsEnd nodes.now.placed by_name.now name result }
 {
     let (mut low, mut high) = (0, by_name.len());
     while low < high {
         let middle = low + (high - low) / 2;
-        match compare_names(name, name_of(nodes, by_name[middle])) {
+        match compare_names(name, nodes.name_of(by_name[middle])) {
             Ordering::Less => high = middle,
             _ => low = middle + 1,
         }
@@ -77,21 +77,21 @@ fn names_up_to(nodes: &[Placed], by_name: &[usize], name: EpochName) -> usize
 // The rank of the greatest of the epochs up to this one, or 0 if there is none. It costs a comparison
 // of names for each halving of the nodes.
 pub(crate) fn rank_up_to(
-    nodes: &[Placed],
+    nodes: &Nodes,
     by_name: &[usize],
     ranks: &[usize],
     name: EpochName,
 ) -> usize
-    requires sorted { AreSorted name_cmp nodes.now by_name.now }
-    requires whole { length ranks.now ≡ length nodes.now }
-    ensures rank { (order : List ℕ) → ((k : ℕ) → IsIn k order → k < length nodes.now) → AreRanked nodes.now order ranks.now → IsRank nodes.now order name result }
+    requires sorted { AreSorted name_cmp nodes.now.placed by_name.now }
+    requires whole { length ranks.now ≡ length nodes.now.placed }
+    ensures rank { (order : List ℕ) → ((k : ℕ) → IsIn k order → k < length nodes.now.placed) → AreRanked nodes.now.placed order ranks.now → IsRank nodes.now.placed order name result }
 {
     let end = names_up_to(nodes, by_name, name);
     if end == 0 {
         return 0;
     }
     let before = by_name[end - 1];
-    if is_up_to(name, name_of(nodes, before)) {
+    if is_up_to(name, nodes.name_of(before)) {
         rank_of(ranks, before)
     } else {
         0
@@ -117,19 +117,19 @@ fn set_rank(ranks: &mut [usize], place: usize, rank: usize)
 // Ranks the last node, which was put at an index in order of names and at a place of the order. It
 // takes no memory, and costs nothing more if that is the last place. Else it goes over the ranks.
 pub(crate) fn rank_added(
-    nodes: &[Placed],
+    nodes: &Nodes,
     by_name: &[usize],
     order: &[usize],
     ranks: &mut [usize],
     index: usize,
     at: usize,
 )
-    requires by_name_is { AreSorted name_cmp nodes.now by_name.now }
-    requires order_is { AreSorted (epoch_cmp (nodes_of nodes.now)) nodes.now order.now }
+    requires by_name_is { AreSorted name_cmp nodes.now.placed by_name.now }
+    requires order_is { AreSorted (epoch_cmp (nodes_of nodes.now.placed)) nodes.now.placed order.now }
     requires within { index < length by_name.now }
-    requires index { suc (slice_index by_name.now index) ≡ length nodes.now }
-    requires added { IsAdded nodes.now order.now ranks.old at }
-    ensures ranked { AreRanked nodes.now order.now ranks.new }
+    requires index { suc (slice_index by_name.now index) ≡ length nodes.now.placed }
+    requires added { IsAdded nodes.now.placed order.now ranks.old at }
+    ensures ranked { AreRanked nodes.now.placed order.now ranks.new }
 {
     if has_later(nodes, by_name, index) {
         rank_all(nodes, by_name, order, ranks);
@@ -169,27 +169,24 @@ fn shift_ranks(ranks: &mut [usize], at: usize, count: usize)
 }
 
 // Whether a later epoch of the same member is kept.
-fn has_later(nodes: &[Placed], by_name: &[usize], index: usize) -> bool
-    requires sorted { AreSorted name_cmp nodes.now by_name.now }
+fn has_later(nodes: &Nodes, by_name: &[usize], index: usize) -> bool
+    requires sorted { AreSorted name_cmp nodes.now.placed by_name.now }
     requires within { index < length by_name.now }
-    ensures alone { IsFalse result → (a : ℕ) → a < length by_name.now → IsTrue (up_to (name_in nodes.now by_name.now a) (name_in nodes.now by_name.now index)) → a ≡ index }
+    ensures alone { IsFalse result → (a : ℕ) → a < length by_name.now → IsTrue (up_to (name_in nodes.now.placed by_name.now a) (name_in nodes.now.placed by_name.now index)) → a ≡ index }
 {
     let next = index + 1;
     if next >= by_name.len() {
         return false;
     }
-    is_up_to(
-        name_of(nodes, by_name[next]),
-        name_of(nodes, by_name[index]),
-    )
+    is_up_to(nodes.name_of(by_name[next]), nodes.name_of(by_name[index]))
 }
 
 // Ranks all nodes. It takes no memory, and goes over them twice.
-pub(crate) fn rank_all(nodes: &[Placed], by_name: &[usize], order: &[usize], ranks: &mut [usize])
-    requires by_name_is { AreSorted name_cmp nodes.now by_name.now }
-    requires order_is { AreSorted (epoch_cmp (nodes_of nodes.now)) nodes.now order.now }
-    requires whole { length ranks.old ≡ length nodes.now }
-    ensures ranked { AreRanked nodes.now order.now ranks.new }
+pub(crate) fn rank_all(nodes: &Nodes, by_name: &[usize], order: &[usize], ranks: &mut [usize])
+    requires by_name_is { AreSorted name_cmp nodes.now.placed by_name.now }
+    requires order_is { AreSorted (epoch_cmp (nodes_of nodes.now.placed)) nodes.now.placed order.now }
+    requires whole { length ranks.old ≡ length nodes.now.placed }
+    ensures ranked { AreRanked nodes.now.placed order.now ranks.new }
 {
     rank_alone(order, ranks);
     for i in 0..by_name.len() {
@@ -212,11 +209,11 @@ fn rank_alone(order: &[usize], ranks: &mut [usize])
 
 // The rank of the greatest epoch up to the node at this index in order of names, if that has the rank
 // of its own epoch and the one before has such a rank.
-fn raised_rank(nodes: &[Placed], by_name: &[usize], ranks: &[usize], i: usize) -> usize
-    requires sorted { AreSorted name_cmp nodes.now by_name.now }
-    requires whole { length ranks.now ≡ length nodes.now }
+fn raised_rank(nodes: &Nodes, by_name: &[usize], ranks: &[usize], i: usize) -> usize
+    requires sorted { AreSorted name_cmp nodes.now.placed by_name.now }
+    requires whole { length ranks.now ≡ length nodes.now.placed }
     requires within { i < length by_name.now }
-    ensures rank { (order : List ℕ) → AreSorted (epoch_cmp (nodes_of nodes.now)) nodes.now order → IsOwn order (slice_index by_name.now i) (slice_index ranks.now (slice_index by_name.now i)) → (0 < i → IsRank nodes.now order (name_in nodes.now by_name.now (i - 1)) (slice_index ranks.now (slice_index by_name.now (i - 1)))) → IsRank nodes.now order (name_in nodes.now by_name.now i) result }
+    ensures rank { (order : List ℕ) → AreSorted (epoch_cmp (nodes_of nodes.now.placed)) nodes.now.placed order → IsOwn order (slice_index by_name.now i) (slice_index ranks.now (slice_index by_name.now i)) → (0 < i → IsRank nodes.now.placed order (name_in nodes.now.placed by_name.now (i - 1)) (slice_index ranks.now (slice_index by_name.now (i - 1)))) → IsRank nodes.now.placed order (name_in nodes.now.placed by_name.now i) result }
 {
     let place = by_name[i];
     let rank = rank_of(ranks, place);
@@ -224,7 +221,7 @@ fn raised_rank(nodes: &[Placed], by_name: &[usize], ranks: &[usize], i: usize) -
         return rank;
     }
     let before = by_name[i - 1];
-    if !is_up_to(name_of(nodes, place), name_of(nodes, before)) {
+    if !is_up_to(nodes.name_of(place), nodes.name_of(before)) {
         return rank;
     }
     rank.max(rank_of(ranks, before))

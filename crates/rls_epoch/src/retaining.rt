@@ -9,14 +9,13 @@ ghost use Rattle.rls_rename.specs.Keeping.{reached};
 ghost use Rattle.rls_rename.specs.Tree.{epoch_cmp, greatest, is_kept};
 ghost use Rattle.rls_epoch.specs.Climbing.{name_cmp};
 ghost use Rattle.rls_epoch.specs.Marks.{AreNamed};
-ghost use Rattle.rls_epoch.specs.Seen.{former_sum, nodes_of, AreLaid};
+ghost use Rattle.rls_epoch.specs.Seen.{former_sum, nodes_of};
 ghost use Rattle.rls_epoch.specs.Sorted.{AreSorted};
 
-use crate::keeping::{former_kept, list_kept, number_needed};
-use crate::nodes::number_of;
-use crate::placed::{Placed, epoch_of};
+use crate::keeping::number_needed;
+use crate::nodes::Nodes;
 use rls_ident::{EpochName, Vector};
-use std::alloc::{AllocError, Global};
+use std::alloc::AllocError;
 
 /// The smallest connected part of a tree that holds what is needed.
 #[derive(Drop)]
@@ -30,47 +29,43 @@ pub struct Retained {
 // What is retained where these epochs are needed beside the greatest and those that are at least the
 // greatest one within the vector.
 pub(crate) fn retained_part(
-    alloc: Global,
-    top: EpochName,
-    nodes: &[Placed],
+    nodes: &Nodes,
     by_name: &[usize],
     order: &[usize],
     stable: &Vector,
     marked: &[EpochName],
 ) -> Result<Retained, AllocError>
-    requires laid { AreLaid top nodes.now }
-    requires by_name_is { AreSorted name_cmp nodes.now by_name.now }
-    requires order_is { AreSorted (epoch_cmp (nodes_of nodes.now)) nodes.now order.now }
-    requires members { (e : EpochName) → IsTrue (is_kept top (nodes_of nodes.now) e) → IsTrue (is_of_member (length stable.now) e) }
-    requires marked { (e : EpochName) → IsIn e marked.now → IsTrue (is_kept top (nodes_of nodes.now) e) }
-    requires total { former_sum (nodes_of nodes.now) < 2 ^ 64 }
-    ensures names { IfOk result (λ part. part.names.items ≡ spanned top (nodes_of nodes.now) (greatest top (nodes_of nodes.now)) (reached (record { top = top; nodes = nodes_of nodes.now }) stable.now ++ marked.now)) }
-    ensures former { IfOk result (λ part. part.former ≡ sum_by (λ R. length R.former) (spanned_renamings (nodes_of nodes.now) (greatest top (nodes_of nodes.now)) (reached (record { top = top; nodes = nodes_of nodes.now }) stable.now ++ marked.now))) }
+    requires by_name_is { AreSorted name_cmp nodes.now.placed by_name.now }
+    requires order_is { AreSorted (epoch_cmp (nodes_of nodes.now.placed)) nodes.now.placed order.now }
+    requires members { (e : EpochName) → IsTrue (is_kept nodes.now.top (nodes_of nodes.now.placed) e) → IsTrue (is_of_member (length stable.now) e) }
+    requires marked { (e : EpochName) → IsIn e marked.now → IsTrue (is_kept nodes.now.top (nodes_of nodes.now.placed) e) }
+    requires total { former_sum (nodes_of nodes.now.placed) < 2 ^ 64 }
+    ensures names { IfOk result (λ part. part.names.items ≡ spanned nodes.now.top (nodes_of nodes.now.placed) (greatest nodes.now.top (nodes_of nodes.now.placed)) (reached (record { top = nodes.now.top; nodes = nodes_of nodes.now.placed }) stable.now ++ marked.now)) }
+    ensures former { IfOk result (λ part. part.former ≡ sum_by (λ R. length R.former) (spanned_renamings (nodes_of nodes.now.placed) (greatest nodes.now.top (nodes_of nodes.now.placed)) (reached (record { top = nodes.now.top; nodes = nodes_of nodes.now.placed }) stable.now ++ marked.now))) }
 {
-    let mut marks = marks_for(alloc, top, nodes, by_name, marked)?;
-    let number = number_needed(top, nodes, order, marks.as_mut_slice(), stable);
-    let first = epoch_of(top, nodes, number);
-    let names = list_kept(alloc, first, nodes, marks.as_slice(), order)?;
-    let former = former_kept(nodes, marks.as_slice());
+    let _count = nodes.count();
+    let mut marks = marks_for(nodes, by_name, marked)?;
+    let number = number_needed(nodes, order, marks.as_mut_slice(), stable);
+    let first = nodes.epoch_of(number);
+    let names = nodes.list_kept(first, marks.as_slice(), order)?;
+    let former = nodes.former_kept(marks.as_slice());
     Ok(Retained { names, former })
 }
 
 // The marks of these epochs alone.
 fn marks_for(
-    alloc: Global,
-    top: EpochName,
-    nodes: &[Placed],
+    nodes: &Nodes,
     by_name: &[usize],
     marked: &[EpochName],
 ) -> Result<Vec<usize>, AllocError>
-    requires by_name_is { AreSorted name_cmp nodes.now by_name.now }
-    requires marked { (e : EpochName) → IsIn e marked.now → IsTrue (is_kept top (nodes_of nodes.now) e) }
-    ensures whole { IfOk result (λ marks. length marks.items ≡ suc (length nodes.now)) }
-    ensures named { IfOk result (λ marks. AreNamed top nodes.now marks.items marked.now) }
+    requires by_name_is { AreSorted name_cmp nodes.now.placed by_name.now }
+    requires marked { (e : EpochName) → IsIn e marked.now → IsTrue (is_kept nodes.now.top (nodes_of nodes.now.placed) e) }
+    ensures whole { IfOk result (λ marks. length marks.items ≡ suc (length nodes.now.placed)) }
+    ensures named { IfOk result (λ marks. AreNamed nodes.now.top nodes.now.placed marks.items marked.now) }
 {
-    let mut marks = vec![in alloc; 0; nodes.len() + 1]?;
+    let mut marks = vec![in nodes.allocator(); 0; nodes.count() + 1]?;
     for name in marked {
-        let number = number_of(top, nodes, by_name, *name);
+        let number = nodes.number_of(by_name, *name);
         marks[number] = 1;
     }
     Ok(marks)

@@ -16,11 +16,11 @@ name_of-requires c =
 pub returns-in-None : goal.returns-in-None
 returns-in-None c =
     let short : length c.args.order.now < 1 = grind (arith, common_steps) in
-    record { greatest = greatest_none c.args.top c.args.nodes.now c.requires.laid c.args.order.now c.requires.sorted (nothing c.args.order.now short) }
+    record { greatest = c.top.ensures.top ∙ greatest_none c.args.nodes.now.top c.args.nodes.now.placed c.count-count.ensures.laid c.args.order.now c.requires.sorted (nothing c.args.order.now short) }
 
 pub returns-in-Some : goal.returns-in-Some
 returns-in-Some c =
     let k = c.in-Some.place.now in
     let lesser = c.in-Some.field-0-1.now in
     let q : c.args.order.now ≡ lesser ++ (k ∷ []) = search rules in
-    record { greatest = c.name_of.ensures.name ∙ greatest_last c.args.top c.args.nodes.now c.requires.laid c.args.order.now c.requires.sorted lesser k q }
+    record { greatest = c.name_of.ensures.name ∙ greatest_last c.args.nodes.now.top c.args.nodes.now.placed c.count-count.ensures.laid c.args.order.now c.requires.sorted lesser k q }

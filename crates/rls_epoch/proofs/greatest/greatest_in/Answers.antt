@@ -12,35 +12,35 @@ use Rattle.rls_epoch.proofs.Ranking.{at_place}
 use Rattle.rls_epoch.proofs.greatest.greatest_in.Goals as goal
 
 pub loop-rest-init : goal.loop-rest-init
-loop-rest-init c = looking_begins c.args.top c.args.nodes.now c.requires.laid c.args.by_name.now c.args.order.now c.args.v.now c.requires.by_name_is c.requires.order_is
+loop-rest-init c = looking_begins c.args.nodes.now.top c.args.nodes.now.placed c.count.ensures.laid c.args.by_name.now c.args.order.now c.args.v.now c.requires.by_name_is c.requires.order_is
 
 pub name_of-last-requires : goal.name_of-last-requires
 name_of-last-requires c =
     let w = c.loop-rest.invariant.in_range in
-    record { place = at_place c.args.nodes.now c.args.by_name.now c.requires.by_name_is (c.loop-rest.rest - 1) (omega arith) }
+    record { place = at_place c.args.nodes.now.placed c.args.by_name.now c.requires.by_name_is (c.loop-rest.rest - 1) (omega arith) }
 
 pub last_counted-requires : goal.last_counted-requires
 last_counted-requires c =
     let w = c.loop-rest.invariant.in_range in
     record {
       member = subst (λ (e : EpochName). is_of_member (length c.args.v.now) e ≡ true) (sym c.name_of-last.ensures.name)
-          (member_at c.args.top c.args.nodes.now c.args.by_name.now c.requires.by_name_is (length c.args.v.now) c.requires.members (c.loop-rest.rest - 1) (omega arith));
+          (member_at c.args.nodes.now.top c.args.nodes.now.placed c.args.by_name.now c.requires.by_name_is (length c.args.v.now) c.requires.members (c.loop-rest.rest - 1) (omega arith));
     }
 
 pub loop-rest-smaller : goal.loop-rest-smaller
 loop-rest-smaller c =
-    let ps = c.args.nodes.now in
+    let ps = c.args.nodes.now.placed in
     let names = c.args.by_name.now in
     let rest = c.loop-rest.rest in
     let next = c.names_below-rest.result in
     let cut = subst (λ (e : EpochName). IsCut name_cmp (names_at ps names) e next) (c.first_of.ensures.first ∙ ap first_of c.name_of-last.ensures.name) c.names_below-rest.ensures.cut in
     let r = cut.in_range in
     let m = length-map names (place_name ps) in
-    looking_fewer c.args.top ps c.requires.laid names c.args.order.now c.args.v.now c.requires.by_name_is c.requires.order_is rest c.loop-rest.rank c.loop-rest.invariant (omega arith) next cut (omega arith)
+    looking_fewer c.args.nodes.now.top ps c.count.ensures.laid names c.args.order.now c.args.v.now c.requires.by_name_is c.requires.order_is rest c.loop-rest.rank c.loop-rest.invariant (omega arith) next cut (omega arith)
 
 pub loop-rest-preserved : goal.loop-rest-preserved
 loop-rest-preserved c =
-    let ps = c.args.nodes.now in
+    let ps = c.args.nodes.now.placed in
     let names = c.args.by_name.now in
     let order = c.args.order.now in
     let v = c.args.v.now in
@@ -55,13 +55,13 @@ loop-rest-preserved c =
     let e = c.max-rank.ensures in
     let is = subst (λ (f : EpochName). IsRank ps order f found) (c.last_counted.ensures.counted ∙ ap (last_counted v) c.name_of-last.ensures.name) (c.rank_up_to.ensures.rank order c.requires.order_is.within c.requires.ranked) in
     let either : (best ≡ found) ⊎ (best ≡ rank) = ⊎_elim (λ h. inr (omega arith)) (λ h. inl (omega arith)) (cases_lt found rank) in
-    looking_more c.args.top ps c.requires.laid names order v c.requires.by_name_is c.requires.order_is rest rank c.loop-rest.invariant (omega arith) next cut (omega arith) found best is (omega arith) (omega arith) either
+    looking_more c.args.nodes.now.top ps c.count.ensures.laid names order v c.requires.by_name_is c.requires.order_is rest rank c.loop-rest.invariant (omega arith) next cut (omega arith) found best is (omega arith) (omega arith) either
 
 pub returns-then-rank-eq0 : goal.returns-then-rank-eq0
 returns-then-rank-eq0 c =
     let z : c.loop-rest.rest ≡ 0 = omega arith in
-    let k = subst (λ n. IsLooking c.args.nodes.now c.args.by_name.now c.args.order.now c.args.v.now n c.loop-rest.rank) z c.loop-rest.invariant in
-    record { greatest = looked_none c.args.top c.args.nodes.now c.requires.laid c.args.by_name.now c.args.order.now c.args.v.now c.requires.by_name_is c.requires.order_is c.loop-rest.rank k (omega arith) }
+    let k = subst (λ n. IsLooking c.args.nodes.now.placed c.args.by_name.now c.args.order.now c.args.v.now n c.loop-rest.rank) z c.loop-rest.invariant in
+    record { greatest = c.top.ensures.top ∙ looked_none c.args.nodes.now.top c.args.nodes.now.placed c.count.ensures.laid c.args.by_name.now c.args.order.now c.args.v.now c.requires.by_name_is c.requires.order_is c.loop-rest.rank k (omega arith) }
 
 pub name_of-requires : goal.name_of-requires
 name_of-requires c =
@@ -72,8 +72,8 @@ name_of-requires c =
 pub returns : goal.returns
 returns c =
     let z : c.loop-rest.rest ≡ 0 = omega arith in
-    let k = subst (λ n. IsLooking c.args.nodes.now c.args.by_name.now c.args.order.now c.args.v.now n c.loop-rest.rank) z c.loop-rest.invariant in
+    let k = subst (λ n. IsLooking c.args.nodes.now.placed c.args.by_name.now c.args.order.now c.args.v.now n c.loop-rest.rank) z c.loop-rest.invariant in
     record {
       greatest = c.name_of.ensures.name
-          ∙ looked_at c.args.top c.args.nodes.now c.requires.laid c.args.by_name.now c.args.order.now c.args.v.now c.requires.by_name_is c.requires.order_is c.loop-rest.rank k (omega arith);
+          ∙ looked_at c.args.nodes.now.top c.args.nodes.now.placed c.count.ensures.laid c.args.by_name.now c.args.order.now c.args.v.now c.requires.by_name_is c.requires.order_is c.loop-rest.rank k (omega arith);
     }

@@ -6,8 +6,8 @@ use Rattle.rls_epoch.proofs.listing.place_at.Goals as goal
 
 pub returns : goal.returns
 returns c =
-    let top = c.args.top in
-    let ps = c.args.nodes.now in
+    let top = c.args.nodes.now.top in
+    let ps = c.args.nodes.now.placed in
     let order = c.args.order.now in
     let i = c.epochs_below.result in
     let next : i + 1 ≡ suc i = omega arith in

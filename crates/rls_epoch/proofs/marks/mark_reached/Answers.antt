@@ -35,14 +35,14 @@ overflow_add-place c =
 pub within-requires : goal.within-requires
 within-requires c =
     let i = c.loop-place.invariant in
-    let ps = c.args.nodes.now in
+    let ps = c.args.nodes.now.placed in
     let k = c.in-Some.place.now in
     let lesser = c.in-Some.lesser.now in
     let q : c.loop-place.rest.now ≡ lesser ++ (k ∷ []) = search rules in
     let whole = i.1 ∙ (ap (λ (xs : List ℕ). xs ++ i.0) q ∙ append_assoc lesser (k ∷ []) i.0) in
     let w = c.requires.sorted.within k (subst (λ (xs : List ℕ). IsIn k xs) (sym whole) (in_right k lesser (k ∷ i.0) (inl refl))) in
     let e = place_name ps k in
-    let m = c.requires.members e (or_right (name_eq e c.args.top) (has_node (nodes_of ps) e) (place_kept ps k w)) in
+    let m = c.requires.members e (or_right (name_eq e c.args.nodes.now.top) (has_node (nodes_of ps) e) (place_kept ps k w)) in
     record { member = subst (λ (f : EpochName). is_of_member (length c.args.v.now) f ≡ true) (sym c.name_of-name.ensures.name) m }
 
 pub set_mark-requires : goal.set_mark-requires
@@ -59,8 +59,8 @@ set_mark-requires c =
 pub returns-then-within : goal.returns-then-within
 returns-then-within c =
     let i = c.loop-place.invariant in
-    let top = c.args.top in
-    let ps = c.args.nodes.now in
+    let top = c.args.nodes.now.top in
+    let ps = c.args.nodes.now.placed in
     let old = c.args.marks.now in
     let ms = c.loop-place.marks in
     let k = c.in-Some.place.now in
@@ -74,12 +74,12 @@ returns-then-within c =
     let reached = ap (λ (f : EpochName). is_within f c.args.v.now) (sym e) ∙ (sym c.within.ensures.within ∙ c.if-within.true) in
     let passed = passed_more old ms k i.0 (omega arith) i.3 in
     let new : c.set_mark.new.marks ≡ set ms (suc k) 1 = c.set_mark.ensures.marked ∙ ap (λ (j : ℕ). set ms j 1) next in
-    record { reached = reached_at top ps c.requires.laid c.args.order.now c.requires.sorted c.args.v.now old c.set_mark.new.marks lesser k i.0 whole reached i.2 (subst (λ (xs : List ℕ). ArePassed old xs (k ∷ i.0)) (sym new) passed) }
+    record { reached = reached_at top ps c.count-count.ensures.laid c.args.order.now c.requires.sorted c.args.v.now old c.set_mark.new.marks lesser k i.0 whole reached i.2 (subst (λ (xs : List ℕ). ArePassed old xs (k ∷ i.0)) (sym new) passed) }
 
 pub loop-place-preserved : goal.loop-place-preserved
 loop-place-preserved c =
     let i = c.loop-place.invariant in
-    let ps = c.args.nodes.now in
+    let ps = c.args.nodes.now.placed in
     let old = c.args.marks.now in
     let ms = c.loop-place.marks in
     let k = c.in-Some.place.now in
@@ -102,14 +102,14 @@ loop-place-preserved c =
 pub returns : goal.returns
 returns c =
     let i = c.loop-place.invariant in
-    let top = c.args.top in
-    let ps = c.args.nodes.now in
+    let top = c.args.nodes.now.top in
+    let ps = c.args.nodes.now.placed in
     let old = c.args.marks.now in
     let ms = c.loop-place.marks in
     let short : length c.loop-place.rest.now < 1 = grind (arith, common_steps) in
     let none = nothing c.loop-place.rest.now short in
     let whole = i.1 ∙ ap (λ (xs : List ℕ). xs ++ i.0) none in
     let n = c.requires.whole in
-    let all = reached_all top ps c.requires.laid c.args.order.now c.requires.sorted c.args.v.now old ms
+    let all = reached_all top ps c.count-count.ensures.laid c.args.order.now c.requires.sorted c.args.v.now old ms
     (λ e p. i.2 e (subst (λ (xs : List ℕ). IsIn e (names_at ps xs)) whole p)) (subst (λ (xs : List ℕ). ArePassed old ms xs) (sym whole) i.3) (omega arith) in
     record { reached = subst (λ (xs : List ℕ). AreReached top ps old xs (greatest_within top (nodes_of ps) c.args.v.now)) (sym c.set_mark-2.ensures.marked) all }

@@ -8,7 +8,7 @@ use Rattle.rls_epoch.proofs.marks.mark_reached.Given as goal
 
 -- none of those that were passed is within the vector, and they are marked
 abbrev pub invariant-loop-place : goal.invariant-loop-place
-invariant-loop-place l = (later : List ℕ) × (l.order ≡ l.rest ++ later) × ((e : EpochName) → IsIn e (names_at l.nodes later) → is_within e l.v ≡ false) × ArePassed l.fn.marks l.marks later
+invariant-loop-place l = (later : List ℕ) × (l.order ≡ l.rest ++ later) × ((e : EpochName) → IsIn e (names_at l.nodes.placed later) → is_within e l.v ≡ false) × ArePassed l.fn.marks l.marks later
 
 abbrev pub decreases-loop-place : goal.decreases-loop-place
 decreases-loop-place l = length l.rest

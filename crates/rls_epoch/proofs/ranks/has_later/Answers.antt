@@ -4,17 +4,17 @@ use Rattle.rls_epoch.proofs.Ranking.{alone_last, alone_next, at_place}
 use Rattle.rls_epoch.proofs.ranks.has_later.Goals as goal
 
 pub returns-then-next-by_name : goal.returns-then-next-by_name
-returns-then-next-by_name c = record { alone = λ f. alone_last c.args.nodes.now c.args.by_name.now c.requires.sorted c.args.index c.requires.within (omega arith) }
+returns-then-next-by_name c = record { alone = λ f. alone_last c.args.nodes.now.placed c.args.by_name.now c.requires.sorted c.args.index c.requires.within (omega arith) }
 
 pub name_of-requires : goal.name_of-requires
-name_of-requires c = record { place = at_place c.args.nodes.now c.args.by_name.now c.requires.sorted (c.args.index + 1) (omega arith) }
+name_of-requires c = record { place = at_place c.args.nodes.now.placed c.args.by_name.now c.requires.sorted (c.args.index + 1) (omega arith) }
 
 pub name_of-requires-2 : goal.name_of-requires-2
-name_of-requires-2 c = record { place = at_place c.args.nodes.now c.args.by_name.now c.requires.sorted c.args.index c.requires.within }
+name_of-requires-2 c = record { place = at_place c.args.nodes.now.placed c.args.by_name.now c.requires.sorted c.args.index c.requires.within }
 
 pub returns : goal.returns
 returns c =
-    let ps = c.args.nodes.now in
+    let ps = c.args.nodes.now.placed in
     let names = c.args.by_name.now in
     let i = c.args.index in
     record {

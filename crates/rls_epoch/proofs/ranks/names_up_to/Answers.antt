@@ -16,7 +16,7 @@ name_of-requires c =
 pub loop-low-preserved-in-Less : goal.loop-low-preserved-in-Less
 loop-low-preserved-in-Less c =
     let i = c.loop-low.invariant in
-    let ps = c.args.nodes.now in
+    let ps = c.args.nodes.now.placed in
     let places = c.args.by_name.now in
     let e = c.args.name in
     let m = c.loop-low.low + (c.loop-low.high - c.loop-low.low) / 2 in
@@ -33,7 +33,7 @@ loop-low-preserved-in-Less c =
 pub loop-low-preserved : goal.loop-low-preserved
 loop-low-preserved c =
     let i = c.loop-low.invariant in
-    let ps = c.args.nodes.now in
+    let ps = c.args.nodes.now.placed in
     let places = c.args.by_name.now in
     let e = c.args.name in
     let m = c.loop-low.low + (c.loop-low.high - c.loop-low.low) / 2 in

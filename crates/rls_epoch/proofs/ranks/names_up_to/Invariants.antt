@@ -9,8 +9,8 @@ abbrev pub invariant-loop-low : goal.invariant-loop-low
 invariant-loop-low l = record {
   order : l.low ≤ l.high;
   in_range : l.high ≤ length l.by_name;
-  below : (a : ℕ) → a < l.low → name_cmp l.name (name_in l.nodes l.by_name a) ≡ Less → ⊥;
-  above : (a : ℕ) → l.high ≤ a → a < length l.by_name → name_cmp l.name (name_in l.nodes l.by_name a) ≡ Less;
+  below : (a : ℕ) → a < l.low → name_cmp l.name (name_in l.nodes.placed l.by_name a) ≡ Less → ⊥;
+  above : (a : ℕ) → l.high ≤ a → a < length l.by_name → name_cmp l.name (name_in l.nodes.placed l.by_name a) ≡ Less;
 }
 
 abbrev pub decreases-loop-low : goal.decreases-loop-low

@@ -7,28 +7,28 @@ use Rattle.rls_epoch.proofs.ranks.raised_rank.Goals as goal
 
 pub rank_of-rank-requires : goal.rank_of-rank-requires
 rank_of-rank-requires c =
-    let p = at_place c.args.nodes.now c.args.by_name.now c.requires.sorted c.args.i c.requires.within in
+    let p = at_place c.args.nodes.now.placed c.args.by_name.now c.requires.sorted c.args.i c.requires.within in
     let w = c.requires.whole in
     record { within = omega arith }
 
 pub returns-then-i-eq0 : goal.returns-then-i-eq0
 returns-then-i-eq0 c = record {
   rank = λ order o own before.
-      subst (IsRank c.args.nodes.now order (name_in c.args.nodes.now c.args.by_name.now c.args.i)) (sym c.rank_of-rank.ensures.rank)
-      (raised_first c.args.nodes.now c.args.by_name.now c.requires.sorted order o c.args.i c.requires.within (slice_index c.args.ranks.now (slice_index c.args.by_name.now c.args.i)) own (omega arith));
+      subst (IsRank c.args.nodes.now.placed order (name_in c.args.nodes.now.placed c.args.by_name.now c.args.i)) (sym c.rank_of-rank.ensures.rank)
+      (raised_first c.args.nodes.now.placed c.args.by_name.now c.requires.sorted order o c.args.i c.requires.within (slice_index c.args.ranks.now (slice_index c.args.by_name.now c.args.i)) own (omega arith));
 }
 
 pub name_of-requires : goal.name_of-requires
-name_of-requires c = record { place = at_place c.args.nodes.now c.args.by_name.now c.requires.sorted c.args.i c.requires.within }
+name_of-requires c = record { place = at_place c.args.nodes.now.placed c.args.by_name.now c.requires.sorted c.args.i c.requires.within }
 
 pub name_of-requires-2 : goal.name_of-requires-2
 name_of-requires-2 c =
     let w = c.requires.within in
-    record { place = at_place c.args.nodes.now c.args.by_name.now c.requires.sorted (c.args.i - 1) (omega arith) }
+    record { place = at_place c.args.nodes.now.placed c.args.by_name.now c.requires.sorted (c.args.i - 1) (omega arith) }
 
 pub returns-then-not-is_up_to : goal.returns-then-not-is_up_to
 returns-then-not-is_up_to c =
-    let ps = c.args.nodes.now in
+    let ps = c.args.nodes.now.placed in
     let names = c.args.by_name.now in
     let i = c.args.i in
     let u : up_to (name_in ps names i) (name_in ps names (i - 1)) ≡ false =
@@ -40,13 +40,13 @@ returns-then-not-is_up_to c =
 pub rank_of-requires : goal.rank_of-requires
 rank_of-requires c =
     let w = c.requires.within in
-    let p = at_place c.args.nodes.now c.args.by_name.now c.requires.sorted (c.args.i - 1) (omega arith) in
+    let p = at_place c.args.nodes.now.placed c.args.by_name.now c.requires.sorted (c.args.i - 1) (omega arith) in
     let n = c.requires.whole in
     record { within = omega arith }
 
 pub returns : goal.returns
 returns c =
-    let ps = c.args.nodes.now in
+    let ps = c.args.nodes.now.placed in
     let names = c.args.by_name.now in
     let i = c.args.i in
     let ranks = c.args.ranks.now in

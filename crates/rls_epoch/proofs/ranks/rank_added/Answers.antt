@@ -6,47 +6,47 @@ use Rattle.rls_epoch.proofs.Ranking.{added_ranked, at_place, before_added, old_w
 use Rattle.rls_epoch.proofs.ranks.rank_added.Goals as goal
 
 pub rank_all-requires-clause-whole : goal.rank_all-requires-clause-whole
-rank_all-requires-clause-whole c = old_whole c.args.nodes.now c.args.by_name.now c.requires.by_name_is c.args.order.now c.args.ranks.now c.args.at c.requires.added
+rank_all-requires-clause-whole c = old_whole c.args.nodes.now.placed c.args.by_name.now c.requires.by_name_is c.args.order.now c.args.ranks.now c.args.at c.requires.added
 
 pub overflow_sub-count : goal.overflow_sub-count
-overflow_sub-count c = let l = order_length c.args.nodes.now c.args.by_name.now c.requires.by_name_is c.args.order.now c.args.ranks.now c.args.at c.requires.added in omega arith
+overflow_sub-count c = let l = order_length c.args.nodes.now.placed c.args.by_name.now c.requires.by_name_is c.args.order.now c.args.ranks.now c.args.at c.requires.added in omega arith
 
 pub overflow_add-own : goal.overflow_add-own
 overflow_add-own c =
-    let l = order_length c.args.nodes.now c.args.by_name.now c.requires.by_name_is c.args.order.now c.args.ranks.now c.args.at c.requires.added in
+    let l = order_length c.args.nodes.now.placed c.args.by_name.now c.requires.by_name_is c.args.order.now c.args.ranks.now c.args.at c.requires.added in
     let p = c.requires.added.place in
     omega arith
 
 pub shift_ranks-requires-clause-most : goal.shift_ranks-requires-clause-most
 shift_ranks-requires-clause-most c = λ k h.
-    let l = order_length c.args.nodes.now c.args.by_name.now c.requires.by_name_is c.args.order.now c.args.ranks.now c.args.at c.requires.added in
-    let m = ranks_most c.args.nodes.now c.args.by_name.now c.requires.by_name_is c.args.order.now c.args.ranks.now c.args.at c.requires.added k h in
+    let l = order_length c.args.nodes.now.placed c.args.by_name.now c.requires.by_name_is c.args.order.now c.args.ranks.now c.args.at c.requires.added in
+    let m = ranks_most c.args.nodes.now.placed c.args.by_name.now c.requires.by_name_is c.args.order.now c.args.ranks.now c.args.at c.requires.added k h in
     omega arith
 
 pub set_rank-requires : goal.set_rank-requires
 set_rank-requires c =
-    let w = old_whole c.args.nodes.now c.args.by_name.now c.requires.by_name_is c.args.order.now c.args.ranks.now c.args.at c.requires.added in
+    let w = old_whole c.args.nodes.now.placed c.args.by_name.now c.requires.by_name_is c.args.order.now c.args.ranks.now c.args.at c.requires.added in
     let s = c.shift_ranks.ensures.whole in
-    let p = at_place c.args.nodes.now c.args.by_name.now c.requires.by_name_is c.args.index c.requires.within in
+    let p = at_place c.args.nodes.now.placed c.args.by_name.now c.requires.by_name_is c.args.index c.requires.within in
     record { within = omega arith }
 
 pub raised_rank-rank-requires-clause-whole : goal.raised_rank-rank-requires-clause-whole
 raised_rank-rank-requires-clause-whole c =
     let k = slice_index c.args.by_name.now c.args.index in
-    let w = old_whole c.args.nodes.now c.args.by_name.now c.requires.by_name_is c.args.order.now c.args.ranks.now c.args.at c.requires.added in
+    let w = old_whole c.args.nodes.now.placed c.args.by_name.now c.requires.by_name_is c.args.order.now c.args.ranks.now c.args.at c.requires.added in
     ap length c.set_rank.ensures.put ∙ (length-set c.shift_ranks.new.ranks k (c.args.at + 1) ∙ (c.shift_ranks.ensures.whole ∙ w))
 
 pub set_rank-requires-2 : goal.set_rank-requires-2
 set_rank-requires-2 c =
     let k = slice_index c.args.by_name.now c.args.index in
-    let w = old_whole c.args.nodes.now c.args.by_name.now c.requires.by_name_is c.args.order.now c.args.ranks.now c.args.at c.requires.added in
+    let w = old_whole c.args.nodes.now.placed c.args.by_name.now c.requires.by_name_is c.args.order.now c.args.ranks.now c.args.at c.requires.added in
     let s = ap length c.set_rank.ensures.put ∙ (length-set c.shift_ranks.new.ranks k (c.args.at + 1) ∙ (c.shift_ranks.ensures.whole ∙ w)) in
-    let p = at_place c.args.nodes.now c.args.by_name.now c.requires.by_name_is c.args.index c.requires.within in
+    let p = at_place c.args.nodes.now.placed c.args.by_name.now c.requires.by_name_is c.args.index c.requires.within in
     record { within = omega arith }
 
 pub returns : goal.returns
 returns c =
-    let ps = c.args.nodes.now in
+    let ps = c.args.nodes.now.placed in
     let names = c.args.by_name.now in
     let s = c.requires.by_name_is in
     let order = c.args.order.now in

@@ -12,25 +12,25 @@ rank_alone-requires-clause-within c = λ k p. let l = c.requires.order_is.within
 
 pub rank_alone-requires-clause-distinct : goal.rank_alone-requires-clause-distinct
 rank_alone-requires-clause-distinct c =
-    let ns = nodes_of c.args.nodes.now in
-    rising_distinct (epoch_cmp ns) (epochs_order ns) c.args.nodes.now c.args.order.now c.requires.order_is.rising
+    let ns = nodes_of c.args.nodes.now.placed in
+    rising_distinct (epoch_cmp ns) (epochs_order ns) c.args.nodes.now.placed c.args.order.now c.requires.order_is.rising
 
 pub loop-i-init : goal.loop-i-init
 loop-i-init c =
-    raised_begins c.args.nodes.now c.args.by_name.now c.requires.by_name_is c.args.order.now c.rank_alone.new.ranks c.requires.order_is (c.rank_alone.ensures.whole ∙ c.requires.whole) c.rank_alone.ensures.own
+    raised_begins c.args.nodes.now.placed c.args.by_name.now c.requires.by_name_is c.args.order.now c.rank_alone.new.ranks c.requires.order_is (c.rank_alone.ensures.whole ∙ c.requires.whole) c.rank_alone.ensures.own
 
 pub raised_rank-rank-requires-clause-whole : goal.raised_rank-rank-requires-clause-whole
 raised_rank-rank-requires-clause-whole c = c.loop-i.invariant.whole
 
 pub set_rank-requires : goal.set_rank-requires
 set_rank-requires c =
-    let p = at_place c.args.nodes.now c.args.by_name.now c.requires.by_name_is c.loop-i.i (omega arith) in
+    let p = at_place c.args.nodes.now.placed c.args.by_name.now c.requires.by_name_is c.loop-i.i (omega arith) in
     let w = c.loop-i.invariant.whole in
     record { within = omega arith }
 
 pub loop-i-preserved : goal.loop-i-preserved
 loop-i-preserved c =
-    let ps = c.args.nodes.now in
+    let ps = c.args.nodes.now.placed in
     let names = c.args.by_name.now in
     let order = c.args.order.now in
     let i = c.loop-i.i in
@@ -41,4 +41,4 @@ loop-i-preserved c =
     (raised_next ps names c.requires.by_name_is order c.loop-i.ranks i wi v c.raised_rank-rank.result r)
 
 pub returns : goal.returns
-returns c = record { ranked = raised_ends c.args.nodes.now c.args.by_name.now c.requires.by_name_is c.args.order.now c.loop-i.ranks c.loop-i.i c.loop-i.invariant (omega arith) }
+returns c = record { ranked = raised_ends c.args.nodes.now.placed c.args.by_name.now c.requires.by_name_is c.args.order.now c.loop-i.ranks c.loop-i.i c.loop-i.invariant (omega arith) }

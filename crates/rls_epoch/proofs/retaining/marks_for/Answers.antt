@@ -6,7 +6,6 @@ use Rattle.rls_ident.specs.declared.epoch_name.EpochName.TheVariants.{Origin}
 use Rattle.rls_ident.proofs.Members.{get_in}
 use Rattle.rls_epoch.specs.Marks.{AreNamed}
 use Rattle.rls_epoch.proofs.Left.{named_more}
-use Rattle.rls_epoch.proofs.Meeting.{at_is}
 use Rattle.rls_epoch.proofs.Sorting.{take_get}
 use Rattle.rls_epoch.proofs.retaining.marks_for.Goals as goal
 
@@ -18,8 +17,8 @@ number_of-number-requires-clause-kept c =
 
 pub loop-name-preserved : goal.loop-name-preserved
 loop-name-preserved c =
-    let top = c.args.top in
-    let ps = c.args.nodes.now in
+    let top = c.args.nodes.now.top in
+    let ps = c.args.nodes.now.placed in
     let names = c.args.marked.now in
     let i = c.loop-name.name-index in
     let ms = c.loop-name.marks.items in
@@ -28,7 +27,7 @@ loop-name-preserved c =
     let w = c.loop-name.invariant.whole in
     let h = c.number_of-number.ensures.within in
     let next : i + 1 ≡ suc i = omega arith in
-    let more = named_more top ps ms (take i names) n f (omega arith) h (at_is top ps n f c.number_of-number.ensures.number) c.loop-name.invariant.named in
+    let more = named_more top ps ms (take i names) n f (omega arith) h c.number_of-number.ensures.epoch c.loop-name.invariant.named in
     record {
       whole = length-set ms n 1 ∙ w;
       named = subst (λ (es : List EpochName). AreNamed top ps (set ms n 1) es) (sym (take_get names i f (slice_get-get_or names i Origin (omega arith))) ∙ ap (λ (j : ℕ). take j names) (sym next)) more;

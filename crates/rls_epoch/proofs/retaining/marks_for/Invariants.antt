@@ -5,6 +5,6 @@ use Rattle.rls_epoch.proofs.retaining.marks_for.Given as goal
 -- those before the index are marked
 abbrev pub invariant-loop-name : goal.invariant-loop-name
 invariant-loop-name l = record {
-  whole : length l.marks.items ≡ suc (length l.nodes);
-  named : AreNamed l.top l.nodes l.marks.items (take l.name-index l.marked);
+  whole : length l.marks.items ≡ suc (length l.nodes.placed);
+  named : AreNamed l.nodes.top l.nodes.placed l.marks.items (take l.name-index l.marked);
 }

@@ -1,50 +1,50 @@
-use Rattle.std.proofs.Common.{◌≡◌, ℕ, List, ◌∷◌, ◌++◌, drop, length, ap, ◌∙◌, subst, arith}
+use Rattle.std.proofs.Common.{◌≡◌, ℕ, suc, List, ◌∷◌, ◌++◌, take, drop, length, ap, ◌∙◌, subst, arith}
 use Rattle.rls_ident.specs.declared.epoch_name.EpochName.{EpochName}
 use Rattle.rls_rename.specs.Tree.{greatest}
 use Rattle.rls_rename.specs.Keeping.{reached}
-use Rattle.rls_epoch.specs.Marks.{kept_names, kept_sum}
+use Rattle.rls_epoch.specs.declared.placed.Placed.{Placed}
+use Rattle.rls_epoch.specs.Marks.{AreNumbered, kept_names, kept_sum}
 use Rattle.rls_epoch.specs.Seen.{nodes_of}
 use Rattle.rls_epoch.proofs.Left.{former_retained, names_retained}
 use Rattle.rls_epoch.proofs.Shrinking.{NumberedFor, written}
 use Rattle.rls_epoch.proofs.retaining.retained_part.Goals as goal
 
+-- the numbers that the marks have in the end
+module _ (c : goal.After-drop-marks-2) where
+  abbrev top : EpochName
+  top = c.args.nodes.now.top
+
+  abbrev ps : List Placed
+  ps = c.args.nodes.now.placed
+
+  abbrev xs : List ℕ
+  xs = c.number_needed-number.new.marks
+
+  abbrev needed : List EpochName
+  needed = reached (record { top = top; nodes = nodes_of ps }) c.args.stable.now ++ c.args.marked.now
+
+  numbers : AreNumbered top ps xs c.number_needed-number.result (greatest top (nodes_of ps)) needed
+  numbers = subst (λ (zs : List ℕ). NumberedFor top ps zs xs c.number_needed-number.result c.args.stable.now) c.as_mut_slice.ensures.value c.number_needed-number.ensures.needed c.args.marked.now c.in_ok-marks.ensures.named
+
+  as_many : length xs ≡ length c.in_ok-marks.marks.items
+  as_many = let m = c.as_mut_slice.ensures.value in omega arith
+
+  whole : length xs ≡ suc (length ps)
+  whole = as_many ∙ c.in_ok-marks.ensures.whole
+
+  all : (zs : List ℕ) → zs ≡ take c.in_ok-marks.marks.len (xs ++ drop (length xs) c.in_ok-marks.marks.items) → zs ≡ xs
+  all zs e = e ∙ written xs c.in_ok-marks.marks.items c.in_ok-marks.marks.len (omega arith) as_many
+
 pub returns-clause-names : goal.returns-clause-names
 returns-clause-names c =
-    let top = c.args.top in
-    let ps = c.args.nodes.now in
     let order = c.args.order.now in
-    let v = c.args.stable.now in
-    let marked = c.args.marked.now in
-    let marks = c.in_ok-marks.marks in
-    let ms = marks.items in
-    let xs = c.number_needed-number.new.marks in
-    let t = c.number_needed-number.result in
-    let m1 = c.as_mut_slice.ensures.value in
-    let whole = c.in_ok-marks.ensures.whole in
-    let n = subst (λ (zs : List ℕ). NumberedFor top ps zs xs t v) m1 c.number_needed-number.ensures.needed marked c.in_ok-marks.ensures.named in
-    let lx : length xs ≡ length ms = omega arith in
-    let all : c.as_slice.result.now ≡ xs = c.as_slice.ensures.value ∙ written xs ms marks.len (omega arith) lx in
     c.in_ok-names.ensures.names
-    ∙ (ap (λ (zs : List ℕ). c.epoch_of-first.result ∷ kept_names ps zs order) all
-    ∙ (ap (λ (f : EpochName). f ∷ kept_names ps xs order) c.epoch_of-first.ensures.name
-    ∙ names_retained top ps order c.requires.laid c.requires.order_is xs t c.number_needed-number.ensures.within (lx ∙ whole) (greatest top (nodes_of ps)) (reached (record { top = top; nodes = nodes_of ps }) v ++ marked) n))
+    ∙ (ap (λ (zs : List ℕ). c.epoch_of-first.result ∷ kept_names (ps c) zs order) (all c c.as_slice.result.now c.as_slice.ensures.value)
+    ∙ (ap (λ (f : EpochName). f ∷ kept_names (ps c) (xs c) order) c.epoch_of-first.ensures.name
+    ∙ names_retained (top c) (ps c) order c.count-count.ensures.laid c.requires.order_is (xs c) c.number_needed-number.result c.number_needed-number.ensures.within (whole c) (greatest (top c) (nodes_of (ps c))) (needed c) (numbers c)))
 
 pub returns-clause-former : goal.returns-clause-former
 returns-clause-former c =
-    let top = c.args.top in
-    let ps = c.args.nodes.now in
-    let order = c.args.order.now in
-    let v = c.args.stable.now in
-    let marked = c.args.marked.now in
-    let marks = c.in_ok-marks.marks in
-    let ms = marks.items in
-    let xs = c.number_needed-number.new.marks in
-    let t = c.number_needed-number.result in
-    let m1 = c.as_mut_slice.ensures.value in
-    let whole = c.in_ok-marks.ensures.whole in
-    let n = subst (λ (zs : List ℕ). NumberedFor top ps zs xs t v) m1 c.number_needed-number.ensures.needed marked c.in_ok-marks.ensures.named in
-    let lx : length xs ≡ length ms = omega arith in
-    let all : c.as_slice-2.result.now ≡ xs = c.as_slice-2.ensures.value ∙ written xs ms marks.len (omega arith) lx in
     c.former_kept-former.ensures.former
-    ∙ (ap (λ (zs : List ℕ). kept_sum (drop 1 zs) ps) all
-    ∙ former_retained top ps order c.requires.laid c.requires.order_is xs t c.number_needed-number.ensures.within (lx ∙ whole) (greatest top (nodes_of ps)) (reached (record { top = top; nodes = nodes_of ps }) v ++ marked) n)
+    ∙ (ap (λ (zs : List ℕ). kept_sum (drop 1 zs) (ps c)) (all c c.as_slice-2.result.now c.as_slice-2.ensures.value)
+    ∙ former_retained (top c) (ps c) c.args.order.now c.count-count.ensures.laid c.requires.order_is (xs c) c.number_needed-number.result c.number_needed-number.ensures.within (whole c) (greatest (top c) (nodes_of (ps c))) (needed c) (numbers c))

@@ -8,8 +8,7 @@ use Rattle.rls_epoch.proofs.epochs.Epochs.mark.Goals as goal
 pub returns-clause-marks : goal.returns-clause-marks
 returns-clause-marks c =
     let s = c.self.inside in
-    let n = c.number_of-number.result in
-    let at = rw c.as_slice.ensures.value at c.number_of-number.ensures.number in
-    let within = rw c.as_slice.ensures.value at c.number_of-number.ensures.within in
-    λ e. marks_set s.top s.nodes.items s.marks.items n c.args.name e at (omega (arith, within, c.self.invariant.marks_whole))
+    let n = c.number_of-number in
+    let within = n.ensures.within in
+    λ e. marks_set s.nodes.top s.nodes.placed s.marks.items n.result c.args.name e n.ensures.number (omega (arith, within, c.self.invariant.marks_whole))
     ∙ ap (λ (x : EpochsSeen). name_eq c.args.name e || is_marked x.marks e) c.self.view_is

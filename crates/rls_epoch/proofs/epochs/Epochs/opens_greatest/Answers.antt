@@ -6,39 +6,31 @@ use Rattle.rls_ident.specs.EpochNames.{name_eq}
 use Rattle.rls_ident.proofs.Members.{or_false}
 use Rattle.rls_rename.specs.Tree.{Node, Epochs, has_node, is_kept, epoch_cmp, greatest, AreNodes, AreBelow}
 use Rattle.rls_rename.proofs.Kept.{greatest_kept}
-use Rattle.rls_epoch.specs.declared.placed.Placed.{Placed}
 use Rattle.rls_epoch.specs.Links.{epoch_at}
-use Rattle.rls_epoch.specs.Seen.{EpochsSeen, nodes_of, AreLaid, OpensGreatest}
-use Rattle.rls_epoch.proofs.Meeting.{at_is}
+use Rattle.rls_epoch.specs.Seen.{EpochsSeen, nodes_of, OpensGreatest}
 use Rattle.rls_epoch.proofs.Opened.{apart, greatest_opened}
 use Rattle.rls_epoch.proofs.epochs.Epochs.opens_greatest.Goals as goal
 
 pub number_of-last-requires-clause-kept : goal.number_of-last-requires-clause-kept
-number_of-last-requires-clause-kept c =
-    rw (c.greatest.ensures.greatest, ← c.self.view_is, c.as_slice-nodes.ensures.value) (greatest_kept c.self.inside.top (nodes_of c.self.inside.nodes.items))
+number_of-last-requires-clause-kept c = rw (c.greatest.ensures.greatest, ← c.self.view_is) (greatest_kept c.self.inside.nodes.top (nodes_of c.self.inside.nodes.placed))
 
 pub returns : goal.returns
 returns c = record {
   greatest = λ former f.
-      let top = c.self.inside.top in
-      let ps = c.as_slice-nodes.result.now in
+      let top = c.self.inside.nodes.top in
+      let ps = c.self.inside.nodes.placed in
       let ns = nodes_of ps in
       let n : EpochName = Of c.args.replica c.args.seq in
       let node : Node = record { parent = c.args.parent; renaming = record { former = former; replica = c.args.replica; seq = c.args.seq } } in
-      let value = c.as_slice-nodes.ensures.value in
-      let e : c.args.self.now.epochs ≡ record { top = top; nodes = ns } =
-      sym (ap (λ (v : EpochsSeen). v.epochs) c.self.view_is) ∙ ap (λ (xs : List Placed). record { top = top; nodes = nodes_of xs }) (sym value) in
+      let e : c.args.self.now.epochs ≡ record { top = top; nodes = ns } = sym (ap (λ (v : EpochsSeen). v.epochs) c.self.view_is) in
       let fresh : is_kept top ns n ≡ false = subst (λ (E : Epochs). is_kept E.top E.nodes n ≡ false) e c.requires.fresh in
       let parent : is_kept top ns c.args.parent ≡ true = subst (λ (E : Epochs). is_kept E.top E.nodes c.args.parent ≡ true) e c.requires.parent in
-      let laid : AreLaid top ps = subst (AreLaid top) (sym value) c.self.invariant.laid in
-      let last : epoch_at top ps c.number_of-last.result ≡ greatest top ns =
-      at_is top ps c.number_of-last.result c.greatest.result c.number_of-last.ensures.number ∙ (c.greatest.ensures.greatest ∙ ap (λ (E : Epochs). greatest E.top E.nodes) e) in
-      let up = at_is top ps c.number_of-up.result c.args.parent c.number_of-up.ensures.number in
+      let last : epoch_at top ps c.number_of-last.result ≡ greatest top ns = c.number_of-last.ensures.epoch ∙ (c.greatest.ensures.greatest ∙ ap (λ (E : Epochs). greatest E.top E.nodes) e) in
       let two = or_false (name_eq n top) (has_node ns n) fresh in
-      let d : AreNodes (node ∷ ns) = (f, two.1, laid.nodes) in
-      let b : AreBelow top (node ∷ ns) = (parent, two.0, laid.below) in
+      let d : AreNodes (node ∷ ns) = (f, two.1, c.self.invariant.laid.nodes) in
+      let b : AreBelow top (node ∷ ns) = (parent, two.0, c.self.invariant.laid.below) in
       let kept : is_kept top ns (epoch_at top ps c.number_of-last.result) ≡ true = ap (is_kept top ns) last ∙ greatest_kept top ns in
       subst (λ (E : Epochs). OpensGreatest c.opens_above.result E c.args.parent node.renaming) (sym e)
-      (c.opens_above.ensures.above node (sym up) (record { named = refl; apart = apart top ns n (epoch_at top ps c.number_of-last.result) fresh kept; fresh = two.1 })
+      (c.opens_above.ensures.above node (sym c.number_of-up.ensures.epoch) (record { named = refl; apart = apart top ns n (epoch_at top ps c.number_of-last.result) fresh kept; fresh = two.1 })
       ∙ (ap (λ (g : EpochName). is_lt (epoch_cmp (node ∷ ns) g n)) last ∙ greatest_opened top node ns d b));
 }

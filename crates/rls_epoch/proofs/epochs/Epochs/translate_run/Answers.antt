@@ -1,21 +1,5 @@
-use Rattle.std.proofs.Common.{List, sym, subst}
-use Rattle.rls_rename.specs.Tree.{translate}
-use Rattle.rls_runs.specs.Runs.{IsImage}
-use Rattle.rls_epoch.specs.declared.ways.Step.{Step}
-use Rattle.rls_epoch.specs.Seen.{nodes_of}
-use Rattle.rls_epoch.specs.Ways.{IsWay, led}
-use Rattle.rls_epoch.proofs.Moving.{image_agrees, if_ok}
+use Rattle.rls_epoch.proofs.Moving.{image_on}
 use Rattle.rls_epoch.proofs.epochs.Epochs.translate_run.Goals as goal
 
 pub returns : goal.returns
-returns c =
-    let ps = c.as_slice-nodes.result.now in
-    let run = c.args.run.now in
-    let way = subst (λ (ss : List Step). IsWay ps ss c.args.from c.args.to) (sym c.deref.ensures.value) c.in_ok-steps.ensures.way in
-    let f = led ps c.deref.result.now in
-    let g = translate (nodes_of ps) c.args.from c.args.to in
-    rw (← c.self.view_is, ← c.as_slice-nodes.ensures.value) record {
-      translated = if_ok (λ runs. IsImage f run runs) (λ runs. IsImage g run runs)
-          (λ runs i. image_agrees f g way.leads run runs c.len-len.ensures.run i)
-          c.run_led.result c.run_led.ensures.led;
-    }
+returns c = rw (← c.self.view_is) record { translated = image_on (λ x. x) c.args.run.now c.run_led.result c.in_ok-steps.ensures.way c.deref-2.ensures.value c.len-len.ensures.run c.run_led.ensures.led }

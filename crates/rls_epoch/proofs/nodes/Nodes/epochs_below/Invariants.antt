@@ -1,0 +1,21 @@
+use Rattle.std.proofs.Common.{◌≡◌, ◌<◌, ◌≤◌, ◌-◌, Some, length}
+use Rattle.std.specs.Prelude.{slice_get}
+use Rattle.std.specs.declared.cmp.Ordering.TheVariants.{Less}
+use Rattle.rls_ident.specs.declared.epoch_name.EpochName.{EpochName}
+use Rattle.rls_rename.specs.Tree.{epoch_cmp}
+use Rattle.rls_epoch.specs.Links.{epoch_at}
+use Rattle.rls_epoch.specs.Seen.{nodes_of}
+use Rattle.rls_epoch.specs.Sorted.{names_at}
+use Rattle.rls_epoch.proofs.nodes.Nodes.epochs_below.Given as goal
+
+-- the one before the lower end is less, and the one at the upper end isn't
+abbrev pub invariant-loop-low : goal.invariant-loop-low
+invariant-loop-low l = record {
+  order : l.low ≤ l.high;
+  in_range : l.high ≤ length l.places;
+  below : (f : EpochName) → 0 < l.low → slice_get (names_at l.self.placed l.places) (l.low - 1) ≡ Some f → epoch_cmp (nodes_of l.self.placed) f (epoch_at l.self.top l.self.placed l.number) ≡ Less;
+  above : (f : EpochName) → slice_get (names_at l.self.placed l.places) l.high ≡ Some f → epoch_cmp (nodes_of l.self.placed) f (epoch_at l.self.top l.self.placed l.number) ≡ Less → ⊥;
+}
+
+abbrev pub decreases-loop-low : goal.decreases-loop-low
+decreases-loop-low l = l.high - l.low

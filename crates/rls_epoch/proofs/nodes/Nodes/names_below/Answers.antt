@@ -1,0 +1,40 @@
+use Rattle.std.proofs.Common.{◌+◌, ◌-◌, ◌/◌, get_or, sym, ap, ◌∙◌, arith}
+use Rattle.std.proofs.lemmas.Option.{slice_get-get_or}
+use Rattle.rls_epoch.specs.Climbing.{name_cmp}
+use Rattle.rls_epoch.proofs.Found.{read_in}
+use Rattle.rls_epoch.proofs.Sorting.{cut_low, cut_high}
+use Rattle.rls_epoch.proofs.nodes.Nodes.names_below.Goals as goal
+
+pub name_of-requires : goal.name_of-requires
+name_of-requires c =
+    let m = c.loop-low.low + (c.loop-low.high - c.loop-low.low) / 2 in
+    record { place = c.requires.within (get_or c.args.places.now m 0) (read_in c.args.places.now m (omega arith)) }
+
+pub loop-low-preserved-in-Less : goal.loop-low-preserved-in-Less
+loop-low-preserved-in-Less c =
+    let i = c.loop-low.invariant in
+    let ps = c.args.self.now.placed in
+    let places = c.args.places.now in
+    let m = c.loop-low.low + (c.loop-low.high - c.loop-low.low) / 2 in
+    let g = slice_get-get_or places m 0 (omega arith) in
+    let h = ap (λ e. name_cmp e c.args.name) (sym c.name_of.ensures.name) ∙ sym c.in-Less.ensures.order in
+    record {
+      order = omega arith;
+      in_range = i.in_range;
+      below = cut_low name_cmp ps places c.args.name m (get_or places m 0) g h;
+      above = i.above;
+    }
+
+pub loop-low-preserved : goal.loop-low-preserved
+loop-low-preserved c =
+    let i = c.loop-low.invariant in
+    let ps = c.args.self.now.placed in
+    let places = c.args.places.now in
+    let m = c.loop-low.low + (c.loop-low.high - c.loop-low.low) / 2 in
+    let g = slice_get-get_or places m 0 (omega arith) in
+    record {
+      order = omega arith;
+      in_range = omega arith;
+      below = i.below;
+      above = cut_high name_cmp ps places c.args.name m (get_or places m 0) g (λ l. c.in_default.not-Less (c.compare_names.ensures.order ∙ (ap (λ e. name_cmp e c.args.name) c.name_of.ensures.name ∙ l)));
+    }

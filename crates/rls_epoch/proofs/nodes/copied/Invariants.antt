@@ -1,6 +1,0 @@
-use Rattle.std.proofs.Common.{◌≡◌, take}
-use Rattle.rls_epoch.proofs.nodes.copied.Given as goal
-
--- those in front of the index were copied
-abbrev pub invariant-loop-node : goal.invariant-loop-node
-invariant-loop-node l = l.copy.items ≡ take l.node-index l.nodes
