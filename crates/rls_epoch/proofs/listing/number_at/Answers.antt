@@ -1,4 +1,4 @@
-use Rattle.std.proofs.Common.{rules, ◌-◌, ◌+◌, ◌<◌, ℕ, suc, ◌∷◌, Some, map, get_or, length, sym, ap, arith}
+use Rattle.std.proofs.Common.{rules, ◌-◌, ◌+◌, ◌<◌, suc, ◌∷◌, map, get_or, length, ap, arith}
 use Rattle.std.specs.Prelude.{slice_get}
 use Rattle.rls_epoch.proofs.Found.{read_in}
 use Rattle.rls_epoch.proofs.Listed.{nodes_length, number_read, order_length, rising_named}

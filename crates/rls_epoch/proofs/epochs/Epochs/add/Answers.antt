@@ -1,4 +1,4 @@
-use Rattle.std.proofs.Common.{rules, ◌≡◌, ◌+◌, ℕ, List, [], ◌∷◌, ◌++◌, false, true, length, refl, sym, ap, ◌∙◌, subst, arith, length-append}
+use Rattle.std.proofs.Common.{rules, ◌≡◌, ◌+◌, List, [], ◌∷◌, ◌++◌, false, true, length, refl, sym, ap, ◌∙◌, subst, arith, length-append}
 use Rattle.std.specs.Prelude.{insert}
 use Rattle.rls_ident.specs.declared.epoch_name.EpochName.{EpochName}
 use Rattle.rls_ident.specs.declared.epoch_name.EpochName.TheVariants.{Of}
@@ -7,7 +7,7 @@ use Rattle.rls_epoch.specs.declared.placed.Placed.{Placed}
 use Rattle.rls_epoch.specs.Climbing.{name_cmp}
 use Rattle.rls_epoch.specs.Links.{epoch_at}
 use Rattle.rls_epoch.specs.Seen.{EpochsSeen, marks_of, nodes_of}
-use Rattle.rls_epoch.specs.Sorted.{names_at, AreSorted, IsCut}
+use Rattle.rls_epoch.specs.Sorted.{names_at, IsCut}
 use Rattle.rls_epoch.proofs.Added.{IsGrown, grown}
 use Rattle.rls_epoch.proofs.Shrinking.{written}
 use Rattle.rls_epoch.proofs.Whole.{marks_more, names_as, order_as, ranked_as, whole_as, whole_more}

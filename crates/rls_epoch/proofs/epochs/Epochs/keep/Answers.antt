@@ -1,4 +1,4 @@
-use Rattle.std.proofs.Common.{vec_len, ◌≡◌, ℕ, ◌≤◌, suc, List, length, drop, replicate, refl, sym, ap, ◌∙◌, arith}
+use Rattle.std.proofs.Common.{vec_len, ◌≡◌, ℕ, suc, List, length, drop, replicate, refl, sym, ap, ◌∙◌, arith}
 use Rattle.rls_rename.specs.Keeping.{kept_part}
 use Rattle.rls_ident.specs.declared.epoch_name.EpochName.{EpochName}
 use Rattle.rls_epoch.specs.declared.placed.Placed.{Placed}

@@ -1,5 +1,5 @@
-use Rattle.std.proofs.Common.{◌≡◌, ◌+◌, ℕ, suc, Some, Bool, length, take, drop, get_or, sym, ap, ◌∙◌, arith}
-use Rattle.std.specs.Prelude.{if◌then◌else◌, slice_get}
+use Rattle.std.proofs.Common.{◌≡◌, ◌+◌, ℕ, suc, Bool, length, take, drop, get_or, sym, ap, ◌∙◌, arith}
+use Rattle.std.specs.Prelude.{if◌then◌else◌}
 use Rattle.rls_ident.proofs.Members.{lt_test}
 use Rattle.rls_epoch.specs.Marks.{kept_sum}
 use Rattle.rls_epoch.proofs.Compacting.{at_most_one, dropped_get, kept_sum_more, kept_sum_most, kept_sum_none, kept_sum_taken}

@@ -1,7 +1,3 @@
-use Rattle.std.proofs.Common.{◌≡◌, sym, ◌∙◌, subst}
-use Rattle.rls_ident.specs.declared.epoch_name.EpochName.{EpochName}
-use Rattle.rls_epoch.specs.declared.placed.Placed.{Placed}
-use Rattle.rls_epoch.specs.Seen.{AreLaid}
 use Rattle.rls_epoch.proofs.Shrinking.{laid_left, parents_numbered}
 use Rattle.rls_epoch.proofs.nodes.Nodes.keep.Goals as goal
 
