@@ -9,8 +9,9 @@ use Rattle.std.proofs.lemmas.List.{append-nil, length-take, reverse-append, map-
 use Rattle.std.proofs.lemmas.Grind.{drop_more_same}
 use Rattle.rls_ident.specs.declared.epoch_name.EpochName.{EpochName}
 use Rattle.std.proofs.Math.ListN.{drop_of_length-le}
-use Rattle.std.proofs.lemmas.Option.{slice_get-get_or}
-use Rattle.rls_ident.proofs.Members.{lt_is, lt_test, not_true, some_is}
+use Rattle.std.proofs.lemmas.Option.{slice_get-get_or, slice_get_read}
+use Rattle.rls_ident.proofs.Members.{get_in, lt_is, lt_test, not_true, some_is}
+use Rattle.rls_ident.specs.Lists.{IsIn}
 use Rattle.rls_epoch.specs.declared.placed.Placed.{Placed}
 use Rattle.rls_epoch.specs.Marks.{mark_count, numbered, moved, kept_placed, kept_places, kept_names, kept_sum}
 use Rattle.rls_epoch.specs.Seen.{former_sum, node_of, nodes_of}
@@ -262,3 +263,35 @@ at_most_one m h = not_true (nat_lt 1 m) (λ q. let x = lt_is 1 m q in absurd (om
 pub dropped_get : (ms : List ℕ) (i : ℕ) → i + 1 < length ms → slice_get (drop 1 ms) i ≡ Some (get_or ms (i + 1) 0)
 dropped_get [] i h = absurd (omega arith)
 dropped_get (m ∷ ms) i h = let e : i + 1 ≡ suc i = omega arith in slice_get-get_or ms i 0 (omega arith) ∙ ap (λ (j : ℕ). Some (get_or (m ∷ ms) j 0)) (sym e)
+
+-- ---- one place of a list that is gone through
+
+-- what is read at the index is one of those that were there
+pub rest_in : (xs old : List ℕ) (i k : ℕ) → length xs ≡ length old → i < length old → drop i xs ≡ drop i old → k ≡ get_or xs i k → IsIn k old
+rest_in xs old i k l w r e = get_in old i k (slice_get_read old (length old) i k refl w (e ∙ read_rest xs old i k l w r))
+
+-- a place without a mark above 1 is left out, and any other is taken
+module _ (ps : List Placed) (ms ks : List ℕ) (i k m : ℕ) (g : slice_get ks i ≡ Some k) (is : m ≡ get_or ms (k + 1) 0) where
+  at : get_or ms (suc k) 0 ≡ m
+  at = let e : suc k ≡ k + 1 = omega arith in ap (λ (j : ℕ). get_or ms j 0) e ∙ sym is
+
+  abbrev tail : Bool → List EpochName
+  tail b = if b then place_name ps k ∷ [] else []
+
+  names_then : (b : Bool) → nat_lt 1 m ≡ b → kept_names ps ms (take i ks) ++ tail b ≡ kept_names ps ms (take (i + 1) ks)
+  names_then b h =
+      let next : suc i ≡ i + 1 = omega arith in
+      let c : nat_lt 1 (get_or ms (suc k) 0) ≡ b = ap (nat_lt 1) at ∙ h in
+      ap (λ z. kept_names ps ms (take i ks) ++ tail z) (sym c) ∙ (sym (kept_names_more ps ms ks i k g) ∙ ap (λ (j : ℕ). kept_names ps ms (take j ks)) next)
+
+  pub names_left_out : m ≤ 1 → kept_names ps ms (take i ks) ≡ kept_names ps ms (take (i + 1) ks)
+  names_left_out h = sym (append-nil (kept_names ps ms (take i ks))) ∙ names_then false (at_most_one m h)
+
+  pub names_taken : 1 < m → kept_names ps ms (take i ks) ++ (place_name ps k ∷ []) ≡ kept_names ps ms (take (i + 1) ks)
+  names_taken h = names_then true (lt_test 1 m h)
+
+-- the sum over one node more
+pub sum_next : (ms : List ℕ) (ps : List Placed) (i m : ℕ) (p : Placed) → slice_get ps i ≡ Some p → slice_get ms i ≡ Some m → (b : Bool) → nat_lt 1 m ≡ b → kept_sum ms (take (i + 1) ps) ≡ kept_sum ms (take i ps) + (if b then length p.renaming.former else 0)
+sum_next ms ps i m p g h b e =
+    let next : i + 1 ≡ suc i = omega arith in
+    ap (λ (j : ℕ). kept_sum ms (take j ps)) next ∙ (kept_sum_more ms ps i m p g h ∙ ap (λ z. kept_sum ms (take i ps) + (if z then length p.renaming.former else 0)) e)

@@ -73,14 +73,14 @@ module _ (top : EpochName) (ps : List Placed) (l : AreLaid top ps) (order : List
 -- ---- what is left
 
 module _ (top : EpochName) (ps : List Placed) (l : AreLaid top ps) (ms : List ℕ) (w : length ms ≡ suc (length ps)) (t : ℕ) (tl : t ≤ length ps) (e : EpochName) (es : List EpochName) (a : AreSpread top ps ms t e es) where
+  abbrev u : EpochName
+  u = epoch_at top ps t
+
   abbrev M : List ℕ
   M = numbered 0 ms
 
   abbrev new : List Placed
   new = kept_placed M (drop 1 M) ps
-
-  abbrev u : EpochName
-  u = epoch_at top ps t
 
   names_left : (places : List ℕ) → ((k : ℕ) → IsIn k places → k < length ps) → kept_names ps M places ≡ names_at new (kept_places M places)
   names_left [] h = refl

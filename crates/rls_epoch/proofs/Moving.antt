@@ -25,7 +25,7 @@ use Rattle.rls_epoch.specs.declared.ways.Step.{Step}
 use Rattle.rls_epoch.specs.declared.ways.Step.TheVariants.{Back, Forward}
 use Rattle.rls_epoch.specs.Seen.{node_of, nodes_of}
 use Rattle.rls_epoch.specs.Ways.{IsWay, place_of_step, step_map, led}
-use Rattle.rls_epoch.proofs.Steps.{back_read, forward_read, node_in, back_step, forward_step}
+use Rattle.rls_epoch.proofs.Steps.{node_in, back_step, forward_step}
 use Rattle.rls_epoch.proofs.Sorting.{get_of}
 
 -- ---- the order of lists
@@ -132,6 +132,14 @@ fewer_taken f rs n =
     let e = ap length (ap idents_of (sym (take-append-drop n rs)) ∙ idents_append (take n rs) (drop n rs)) in
     omega (arith, e, length-append A B, length-map A f)
 
+-- the image of one run more comes above those of the runs before, and all fit
+pub more_fits : (f : List Tuple → List Tuple) → KeepsOrder f → (rs : List (List Tuple × ℕ)) (k : ℕ) (r : List Tuple × ℕ) → slice_get rs k ≡ Some r → (xs ys : List (List Tuple)) → xs ≡ map f (idents_of (take k rs)) → ys ≡ map f (run_idents r.0 r.1) → AreIdents (idents_of rs) → (is_increasing (xs ++ ys) ≡ true) × (length xs + length ys ≤ length (idents_of rs))
+more_fits f o rs k r g xs ys e h a =
+    let m = image_more f rs k r g xs ys e h in
+    let n = ap length m in
+    let t = fewer_taken f rs (k + 1) in
+    (ap is_increasing m ∙ increasing_taken f o rs (k + 1) a, omega (arith, n, t, length-append xs ys))
+
 -- maps that agree at identifiers
 pub map_agrees : (f g : List Tuple → List Tuple) → ((x : List Tuple) → IsIdent x → f x ≡ g x) → (xs : List (List Tuple)) → list_all is_ident xs ≡ true → map f xs ≡ map g xs
 map_agrees f g h [] a = refl
@@ -185,7 +193,7 @@ image_step ps s f e r runs i = record { idents = i.idents ∙ map_same (run_iden
     map_same (x ∷ xs) = ap (λ y. y ∷ map f xs) (sym (e x)) ∙ ap (λ ys. step_map ps s x ∷ ys) (map_same xs)
 
 pub back_image : (ps : List Placed) (k : ℕ) (p : Placed) (r : List Tuple × ℕ) (runs : List (List Tuple × ℕ)) → slice_get ps k ≡ Some p → IsImage (back p.renaming) r runs → IsImage (step_map ps (Back k)) r runs
-back_image ps k p r runs h i = image_step ps (Back k) (back p.renaming) (λ x. back_read ps k p x h) r runs i
+back_image ps k p r runs h i = image_step ps (Back k) (back p.renaming) (back_step ps k p h) r runs i
 
 pub forward_image : (ps : List Placed) (k : ℕ) (p : Placed) (r : List Tuple × ℕ) (runs : List (List Tuple × ℕ)) → slice_get ps k ≡ Some p → IsImage (forward p.renaming) r runs → IsImage (step_map ps (Forward k)) r runs
-forward_image ps k p r runs h i = image_step ps (Forward k) (forward p.renaming) (λ x. forward_read ps k p x h) r runs i
+forward_image ps k p r runs h i = image_step ps (Forward k) (forward p.renaming) (forward_step ps k p h) r runs i

@@ -1,6 +1,7 @@
 -- The epochs that are needed: those that are marked, and each that is at least the greatest one within a vector.
-use Rattle.std.proofs.Common.{◌≡◌, ℕ, zero, suc, ◌<◌, ◌≤◌, Bool, true, false, List, ◌∷◌, ◌++◌, length, set, refl, sym, ap, ◌∙◌, subst, inl, inr, ◌⊎◌, ⊎_elim, arith}
+use Rattle.std.proofs.Common.{◌≡◌, ℕ, zero, suc, ◌+◌, ◌<◌, ◌≤◌, Bool, true, false, List, [], ◌∷◌, ◌++◌, length, set, refl, sym, ap, ◌∙◌, subst, inl, inr, ◌⊎◌, ⊎_elim, arith, append_assoc}
 use Rattle.std.specs.Prelude.{not}
+use Rattle.std.specs.declared.cmp.Ordering.{Ordering}
 use Rattle.std.specs.declared.cmp.Ordering.TheVariants.{Less}
 use Rattle.std.specs.Ordering.{is_lt}
 use Rattle.std.proofs.lemmas.List.{map-append, take_all}
@@ -101,6 +102,18 @@ passed_more old ms k later h a = record {
   from = λ n q. ⊎_elim (λ e. inr (k, e, inl refl)) (λ g. ⊎_elim (λ x. inl x) (λ x. inr (x.0, x.1, inr x.2)) (a.from n g)) (set_from ms (suc k) n q);
   onto = λ j p. ⊎_elim (λ e. subst (λ (i : ℕ). has_mark (set ms (suc k) 1) (suc i) ≡ true) e (mark_set ms (suc k) h)) (λ g. mark_kept ms (suc k) (suc j) (a.onto j g)) p;
 }
+
+-- the same, of a place that is marked by its number
+pub passed_set : {old ms : List ℕ} (new : List ℕ) (k : ℕ) {later : List ℕ} → new ≡ set ms (k + 1) 1 → k + 1 < length ms → ArePassed old ms later → ArePassed old new (k ∷ later)
+passed_set {old = old} {ms = ms} new k {later = later} e h a =
+    let next : suc k ≡ k + 1 = omega arith in
+    subst (λ (xs : List ℕ). ArePassed old xs (k ∷ later)) (ap (λ (j : ℕ). set ms j 1) next ∙ sym e) (passed_more old ms k later (omega arith) a)
+
+-- the last place that is left, and the places before it
+pub last_left : {cmp : EpochName → EpochName → Ordering} {ps : List Placed} {places : List ℕ} → AreSorted cmp ps places → (rest lesser : List ℕ) (k : ℕ) (later : List ℕ) → places ≡ rest ++ later → rest ≡ lesser ++ (k ∷ []) → (places ≡ lesser ++ (k ∷ later)) × (k < length ps)
+last_left s rest lesser k later e q =
+    let whole = e ∙ (ap (λ (xs : List ℕ). xs ++ later) q ∙ append_assoc lesser (k ∷ []) later) in
+    (whole, s.within k (subst (λ (xs : List ℕ). IsIn k xs) (sym whole) (in_right k lesser (k ∷ later) (inl refl))))
 
 module _ (top : EpochName) (ps : List Placed) (l : AreLaid top ps) (order : List ℕ) (s : AreSorted (epoch_cmp (nodes_of ps)) ps order) (v old ms : List ℕ) where
   -- the greatest one within the vector was reached

@@ -29,14 +29,6 @@ use Rattle.rls_epoch.proofs.Sorting.{get_of}
 
 -- ---- a node that was read
 
-pub back_read : (ps : List Placed) (k : ℕ) (p : Placed) (x : List Tuple) → slice_get ps k ≡ Some p → step_map ps (Back k) x ≡ back p.renaming x
-unfolding step_map
-back_read ps k p x h = ap (λ o. back_at o x) h
-
-pub forward_read : (ps : List Placed) (k : ℕ) (p : Placed) (x : List Tuple) → slice_get ps k ≡ Some p → step_map ps (Forward k) x ≡ forward p.renaming x
-unfolding step_map
-forward_read ps k p x h = ap (λ o. forward_at o x) h
-
 -- ---- the way
 
 -- one way after another
@@ -130,11 +122,11 @@ module _ (top : EpochName) (ps : List Placed) (d : AreNodes (nodes_of ps)) (b : 
       ∙ translate_translate (nodes_of ps) e (p.0).parent f x d i))
   led_is (Forward j ∷ ss) n m e f h g k x i =
       let p = get_of ps j h.0 in
+      let q : (p.0).parent ≡ e = some_is (p.0).parent e (sym (l.parents j p.0 p.1) ∙ (ap (name_at top ps) (sym (up_read ps j p.0 p.1) ∙ h.1) ∙ g)) in
       let R = (p.0).renaming in
       let r = former_in (nodes_of ps) d (node_of p.0) (node_in ps j p.0 p.1) in
       let y = forward R x in
       let iy : IsIdent y = (renaming_iso R r).into x i in
-      let q : (p.0).parent ≡ e = some_is (p.0).parent e (sym (l.parents j p.0 p.1) ∙ (ap (name_at top ps) (sym (up_read ps j p.0 p.1) ∙ h.1) ∙ g)) in
       let one : translate (nodes_of ps) e (name_of R) x ≡ y = ap (λ z. translate (nodes_of ps) z (name_of R) x) (sym q) ∙ forward_is top (nodes_of ps) d b (node_of p.0) (node_in ps j p.0 p.1) r x i in
       ap (led ps ss) (forward_step ps j p.0 p.1 x)
       ∙ (led_is ss (suc j) m (name_of R) f h.2 (ap (option_map (λ z. name_of z.renaming)) p.1) k y iy

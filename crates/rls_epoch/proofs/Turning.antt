@@ -16,11 +16,11 @@ use Rattle.rls_epoch.specs.declared.ways.Step.TheVariants.{Back, Forward}
 use Rattle.rls_epoch.specs.Heads.{Moves, IsAhead}
 use Rattle.rls_epoch.specs.Ways.{AreWithin, place_of_step, step_map, led}
 use Rattle.rls_epoch.proofs.Moving.{map_step}
-use Rattle.rls_epoch.proofs.Steps.{forward_read}
+use Rattle.rls_epoch.proofs.Steps.{forward_step}
 
 -- a node that was read
 pub forward_replaces : (ps : List Placed) (k : ℕ) (p : Placed) (h z : List Tuple) → slice_get ps k ≡ Some p → Replaces (forward p.renaming) h z → Replaces (step_map ps (Forward k)) h z
-forward_replaces ps k p h z g r y = forward_read ps k p (h ++ y) g ∙ r y
+forward_replaces ps k p h z g r y = forward_step ps k p g (h ++ y) ∙ r y
 
 shifted_after : (p x : List Tuple) (k : ℕ) → 0 < length x → p ++ shifted (pos k) x ≡ shifted (pos k) (p ++ x)
 shifted_after p x k l = (prefixed_goes p x (suc k) l).each k (omega arith)

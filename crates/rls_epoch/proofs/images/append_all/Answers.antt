@@ -19,13 +19,10 @@ append-requires-clause-above c =
 
 pub append-requires-clause-total : goal.append-requires-clause-total
 append-requires-clause-total c =
-    let rs = c.args.more.now in
-    let k = c.loop-run.run-index in
     let r = c.run-item.result in
-    let g : slice_get rs k ≡ Some r = slice_get_read rs _ k r refl c.loop-run-test.true c.run-item.is in
-    let h = run_fits c.args.ids.now rs k r _ c.requires.total g in
+    let h = run_fits c.args.ids.now c.args.more.now c.loop-run.run-index r _ c.requires.total (slice_get_read c.args.more.now _ c.loop-run.run-index r refl c.loop-run-test.true c.run-item.is) in
     let e : c.in_ok-copy.field-0.1 ≡ r.1 = ap (λ (q : List Tuple × ℕ). q.1) c.in_ok-copy.ensures.copy in
-    let f : length c.loop-run.ids ≡ length (c.args.ids.now ++ idents_of (take k rs)) = ap length c.loop-run.invariant in
+    let f : length c.loop-run.ids ≡ length (c.args.ids.now ++ idents_of (take c.loop-run.run-index c.args.more.now)) = ap length c.loop-run.invariant in
     omega (arith, h, e, f)
 
 pub loop-run-preserved : goal.loop-run-preserved

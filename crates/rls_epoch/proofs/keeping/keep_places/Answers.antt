@@ -3,29 +3,23 @@ use Rattle.std.specs.Prelude.{if◌then◌else◌, slice_get}
 use Rattle.std.proofs.Math.ListN.{length-set}
 use Rattle.std.proofs.lemmas.Grind.{drop_more_same}
 use Rattle.std.proofs.lemmas.Option.{slice_get_read}
-use Rattle.rls_ident.proofs.Members.{lt_test, get_in}
+use Rattle.rls_ident.proofs.Members.{lt_test}
 use Rattle.rls_epoch.specs.Marks.{kept_places}
-use Rattle.rls_epoch.proofs.Compacting.{at_most_one, kept_places_more, put_front, put_rest, read_rest}
+use Rattle.rls_epoch.proofs.Compacting.{at_most_one, kept_places_more, put_front, put_rest, read_rest, rest_in}
 use Rattle.rls_epoch.proofs.keeping.keep_places.Goals as goal
 
 pub overflow_add-index : goal.overflow_add-index
 overflow_add-index c =
     let v = c.loop-i.invariant in
-    let old = c.args.places.now.items in
-    let i = c.loop-i.i in
     let k = c.index.result.now in
-    let g : slice_get old i ≡ Some k = slice_get_read old (length old) i k refl (omega arith) (c.index.ensures ∙ read_rest c.loop-i.places.items old i k v.same (omega arith) v.rest) in
-    let w = c.requires.within k (get_in old i k g) in
+    let w = c.requires.within k (rest_in c.loop-i.places.items c.args.places.now.items c.loop-i.i k v.same (omega arith) v.rest c.index.ensures) in
     omega (arith, w)
 
 pub mark_of-mark-requires : goal.mark_of-mark-requires
 mark_of-mark-requires c =
-    let v = c.loop-i.invariant in
-    let old = c.args.places.now.items in
-    let i = c.loop-i.i in
     let k = c.index.result.now in
-    let g : slice_get old i ≡ Some k = slice_get_read old (length old) i k refl (omega arith) (c.index.ensures ∙ read_rest c.loop-i.places.items old i k v.same (omega arith) v.rest) in
-    let w = c.requires.within k (get_in old i k g) in
+    let v = c.loop-i.invariant in
+    let w = c.requires.within k (rest_in c.loop-i.places.items c.args.places.now.items c.loop-i.i k v.same (omega arith) v.rest c.index.ensures) in
     record { within = omega (arith, w) }
 
 pub loop-i-preserved-then-mark-le1 : goal.loop-i-preserved-then-mark-le1

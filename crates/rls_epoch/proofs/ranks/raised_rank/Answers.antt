@@ -49,14 +49,13 @@ returns c =
     let ps = c.args.nodes.now.placed in
     let names = c.args.by_name.now in
     let i = c.args.i in
-    let ranks = c.args.ranks.now in
+    let mine = slice_index c.args.ranks.now (slice_index names i) in
+    let before = slice_index c.args.ranks.now (slice_index names (i - 1)) in
     let u : up_to (name_in ps names i) (name_in ps names (i - 1)) ≡ true =
     ap (λ e. up_to e (name_in ps names (i - 1))) (sym c.name_of.ensures.name) ∙ (ap (up_to c.name_of.result) (sym c.name_of-2.ensures.name) ∙ (sym c.is_up_to.ensures.up_to ∙ c.if-not-is_up_to.false)) in
     let a = c.rank_of-rank.ensures.rank in
     let b = c.rank_of.ensures.rank in
     let m = c.max.ensures in
-    let mine = slice_index ranks (slice_index names i) in
-    let before = slice_index ranks (slice_index names (i - 1)) in
     let least : mine ≤ c.max.result = omega arith in
     let most : before ≤ c.max.result = omega arith in
     let either : (c.max.result ≡ mine) ⊎ (c.max.result ≡ before) = ⊎_elim (λ h. inr (omega arith)) (λ h. inl (omega arith)) (cases_lt mine before) in

@@ -11,9 +11,6 @@ use Rattle.rls_epoch.proofs.retaining.retained_part.Goals as goal
 
 -- the numbers that the marks have in the end
 module _ (c : goal.After-drop-marks-2) where
-  abbrev top : EpochName
-  top = c.args.nodes.now.top
-
   abbrev ps : List Placed
   ps = c.args.nodes.now.placed
 
@@ -21,10 +18,10 @@ module _ (c : goal.After-drop-marks-2) where
   xs = c.number_needed-number.new.marks
 
   abbrev needed : List EpochName
-  needed = reached (record { top = top; nodes = nodes_of ps }) c.args.stable.now ++ c.args.marked.now
+  needed = reached (record { top = c.args.nodes.now.top; nodes = nodes_of ps }) c.args.stable.now ++ c.args.marked.now
 
-  numbers : AreNumbered top ps xs c.number_needed-number.result (greatest top (nodes_of ps)) needed
-  numbers = subst (λ (zs : List ℕ). NumberedFor top ps zs xs c.number_needed-number.result c.args.stable.now) c.as_mut_slice.ensures.value c.number_needed-number.ensures.needed c.args.marked.now c.in_ok-marks.ensures.named
+  numbers : AreNumbered c.args.nodes.now.top ps xs c.number_needed-number.result (greatest c.args.nodes.now.top (nodes_of ps)) needed
+  numbers = subst (λ (zs : List ℕ). NumberedFor c.args.nodes.now.top ps zs xs c.number_needed-number.result c.args.stable.now) c.as_mut_slice.ensures.value c.number_needed-number.ensures.needed c.args.marked.now c.in_ok-marks.ensures.named
 
   as_many : length xs ≡ length c.in_ok-marks.marks.items
   as_many = let m = c.as_mut_slice.ensures.value in omega arith
@@ -41,10 +38,10 @@ returns-clause-names c =
     c.in_ok-names.ensures.names
     ∙ (ap (λ (zs : List ℕ). c.epoch_of-first.result ∷ kept_names (ps c) zs order) (all c c.as_slice.result.now c.as_slice.ensures.value)
     ∙ (ap (λ (f : EpochName). f ∷ kept_names (ps c) (xs c) order) c.epoch_of-first.ensures.name
-    ∙ names_retained (top c) (ps c) order c.count-count.ensures.laid c.requires.order_is (xs c) c.number_needed-number.result c.number_needed-number.ensures.within (whole c) (greatest (top c) (nodes_of (ps c))) (needed c) (numbers c)))
+    ∙ names_retained c.args.nodes.now.top (ps c) order c.count-count.ensures.laid c.requires.order_is (xs c) c.number_needed-number.result c.number_needed-number.ensures.within (whole c) (greatest c.args.nodes.now.top (nodes_of (ps c))) (needed c) (numbers c)))
 
 pub returns-clause-former : goal.returns-clause-former
 returns-clause-former c =
     c.former_kept-former.ensures.former
     ∙ (ap (λ (zs : List ℕ). kept_sum (drop 1 zs) (ps c)) (all c c.as_slice-2.result.now c.as_slice-2.ensures.value)
-    ∙ former_retained (top c) (ps c) c.args.order.now c.count-count.ensures.laid c.requires.order_is (xs c) c.number_needed-number.result c.number_needed-number.ensures.within (whole c) (greatest (top c) (nodes_of (ps c))) (needed c) (numbers c))
+    ∙ former_retained c.args.nodes.now.top (ps c) c.args.order.now c.count-count.ensures.laid c.requires.order_is (xs c) c.number_needed-number.result c.number_needed-number.ensures.within (whole c) (greatest c.args.nodes.now.top (nodes_of (ps c))) (needed c) (numbers c))

@@ -41,18 +41,16 @@ loop-left-smaller c =
 
 pub loop-left-preserved : goal.loop-left-preserved
 loop-left-preserved c =
+    let at = c.climbed-right.ensures.at in
+    let below = c.climbed-right.ensures.below in
+    let u = up_earlier c.args.self.now.top c.args.self.now.placed c.count-count.ensures.laid (c.loop-left.right.at - 1) (omega arith) in
     let i = c.loop-left.invariant in
-    let ps = c.args.self.now.placed in
-    let k = c.loop-left.right.at - 1 in
-    let u = up_earlier c.args.self.now.top ps c.count-count.ensures.laid k (omega arith) in
-    let a = c.climbed-right.ensures.at in
-    let b = c.climbed-right.ensures.below in
     record {
       left_within = i.left_within;
       right_within = omega arith;
       left_below = λ h e. let q = i.left_below h e in (omega arith, omega arith, omega arith);
-      right_below = λ h e. let q : k ≡ h = some_is k h (sym b ∙ e) in (omega arith, omega arith, omega arith);
-      two = two_right c.loop-left.left.below c.climbed-right.result.below k b (λ h e. let q = i.left_below h e in omega arith);
+      right_below = λ h e. let q : c.loop-left.right.at - 1 ≡ h = some_is (c.loop-left.right.at - 1) h (sym below ∙ e) in (omega arith, omega arith, omega arith);
+      two = two_right c.loop-left.left.below c.climbed-right.result.below (c.loop-left.right.at - 1) below (λ h e. let q = i.left_below h e in omega arith);
       left_above = i.left_above;
-      right_above = above_more c.args.self.now.top ps c.count-count.ensures.laid (epoch_at c.args.self.now.top ps c.args.b) c.loop-left.right c.climbed-right.result (omega arith) i.right_within a b i.right_above;
+      right_above = above_more c.args.self.now.top c.args.self.now.placed c.count-count.ensures.laid (epoch_at c.args.self.now.top c.args.self.now.placed c.args.b) c.loop-left.right c.climbed-right.result (omega arith) i.right_within at below i.right_above;
     }

@@ -39,17 +39,14 @@ loop-low-preserved-in-Less c =
 
 pub loop-low-preserved : goal.loop-low-preserved
 loop-low-preserved c =
-    let i = c.loop-low.invariant in
-    let top = c.args.self.now.top in
-    let ps = c.args.self.now.placed in
-    let places = c.args.places.now in
     let m = c.loop-low.low + (c.loop-low.high - c.loop-low.low) / 2 in
-    let k = get_or places m 0 in
-    let e = epoch_at top ps c.args.number in
-    let g = slice_get-get_or places m 0 (omega arith) in
+    let ps = c.args.self.now.placed in
+    let ks = c.args.places.now in
+    let e = epoch_at c.args.self.now.top ps c.args.number in
     record {
       order = omega arith;
       in_range = omega arith;
-      below = i.below;
-      above = cut_high (epoch_cmp (nodes_of ps)) ps places e m k g (λ l. c.in_default.not-Less (c.compare.ensures.order ∙ (ap (λ f. epoch_cmp (nodes_of ps) f e) (next_at top ps k) ∙ l)));
+      below = c.loop-low.invariant.below;
+      above = cut_high (epoch_cmp (nodes_of ps)) ps ks e m (get_or ks m 0) (slice_get-get_or ks m 0 (omega arith))
+          (λ l. c.in_default.not-Less (c.compare.ensures.order ∙ (ap (λ f. epoch_cmp (nodes_of ps) f e) (next_at c.args.self.now.top ps (get_or ks m 0)) ∙ l)));
     }

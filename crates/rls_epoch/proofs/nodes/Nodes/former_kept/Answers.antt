@@ -1,8 +1,8 @@
-use Rattle.std.proofs.Common.{◌≡◌, ◌+◌, ℕ, suc, Bool, length, take, drop, get_or, sym, ap, ◌∙◌, arith}
+use Rattle.std.proofs.Common.{◌≡◌, ◌+◌, true, false, take, drop, get_or, sym, arith}
 use Rattle.std.specs.Prelude.{if◌then◌else◌}
 use Rattle.rls_ident.proofs.Members.{lt_test}
 use Rattle.rls_epoch.specs.Marks.{kept_sum}
-use Rattle.rls_epoch.proofs.Compacting.{at_most_one, dropped_get, kept_sum_more, kept_sum_most, kept_sum_none, kept_sum_taken}
+use Rattle.rls_epoch.proofs.Compacting.{at_most_one, dropped_get, kept_sum_most, kept_sum_none, kept_sum_taken, sum_next}
 use Rattle.rls_epoch.proofs.nodes.Nodes.former_kept.Goals as goal
 use Rattle.rls_epoch.proofs.Sorting.{get_of}
 
@@ -11,52 +11,35 @@ loop-i-init c = sym (kept_sum_none (drop 1 c.args.marks.now))
 
 pub loop-i-preserved-then-mark_of-le1 : goal.loop-i-preserved-then-mark_of-le1
 loop-i-preserved-then-mark_of-le1 c =
-    let ms = drop 1 c.args.marks.now in
     let ps = c.args.self.now.placed in
     let i = c.loop-i.i in
     let w = c.requires.whole in
     let e = c.mark_of.ensures.mark in
-    let g = dropped_get c.args.marks.now i (omega arith) in
     let p = get_of ps i (omega arith) in
-    let next : i + 1 ≡ suc i = omega arith in
-    let m = kept_sum_more ms ps i (get_or c.args.marks.now (i + 1) 0) p.0 p.1 g in
-    let none = ap (λ (b : Bool). if b then length p.0.renaming.former else 0) (at_most_one (get_or c.args.marks.now (i + 1) 0) (omega arith)) in
-    let same : kept_sum ms (take i ps) ≡ kept_sum ms (take (suc i) ps) = omega arith in
-    c.loop-i.invariant ∙ (same ∙ ap (λ (j : ℕ). kept_sum ms (take j ps)) (sym next))
+    let s = sum_next (drop 1 c.args.marks.now) ps i (get_or c.args.marks.now (i + 1) 0) p.0 p.1 (dropped_get c.args.marks.now i (omega arith)) false (at_most_one (get_or c.args.marks.now (i + 1) 0) (omega arith)) in
+    let v = c.loop-i.invariant in
+    omega (arith, s, v)
+
+-- the sum with the node
+module _ (c : goal.After-total-former) where
+  longer : kept_sum (drop 1 c.args.marks.now) (take (c.loop-i.i + 1) c.args.self.now.placed) ≡ c.loop-i.former + c.total-former.result
+  longer =
+      let i = c.loop-i.i in
+      let w = c.requires.whole in
+      let e = c.mark_of.ensures.mark in
+      let m = get_or c.args.marks.now (i + 1) 0 in
+      let s = sum_next (drop 1 c.args.marks.now) c.args.self.now.placed i m c.at.result.now c.at.ensures.node (dropped_get c.args.marks.now i (omega arith)) true (lt_test 1 m (omega arith)) in
+      let total = c.total-former.ensures.total in
+      let v = c.loop-i.invariant in
+      omega (arith, s, v, total)
 
 pub overflow_add-former : goal.overflow_add-former
 overflow_add-former c =
-    let ms = drop 1 c.args.marks.now in
-    let ps = c.args.self.now.placed in
-    let i = c.loop-i.i in
-    let w = c.requires.whole in
     let t = c.requires.total in
-    let e = c.mark_of.ensures.mark in
-    let g = dropped_get c.args.marks.now i (omega arith) in
-    let p = c.at.result.now in
-    let r = c.at.ensures.node in
-    let m = kept_sum_more ms ps i (get_or c.args.marks.now (i + 1) 0) p r g in
-    let some = ap (λ (b : Bool). if b then length p.renaming.former else 0) (lt_test 1 (get_or c.args.marks.now (i + 1) 0) (omega arith)) in
-    let total = c.total-former.ensures.total in
-    let before = c.loop-i.invariant in
-    let a = kept_sum_taken ms ps (suc i) in
-    let b = kept_sum_most ms ps in
-    omega (arith, before)
+    let a = kept_sum_taken (drop 1 c.args.marks.now) c.args.self.now.placed (c.loop-i.i + 1) in
+    let b = kept_sum_most (drop 1 c.args.marks.now) c.args.self.now.placed in
+    let l = longer c in
+    omega (arith, t, a, b, l)
 
 pub loop-i-preserved : goal.loop-i-preserved
-loop-i-preserved c =
-    let ms = drop 1 c.args.marks.now in
-    let ps = c.args.self.now.placed in
-    let i = c.loop-i.i in
-    let w = c.requires.whole in
-    let e = c.mark_of.ensures.mark in
-    let g = dropped_get c.args.marks.now i (omega arith) in
-    let p = c.at.result.now in
-    let r = c.at.ensures.node in
-    let next : i + 1 ≡ suc i = omega arith in
-    let m = kept_sum_more ms ps i (get_or c.args.marks.now (i + 1) 0) p r g in
-    let some = ap (λ (b : Bool). if b then length p.renaming.former else 0) (lt_test 1 (get_or c.args.marks.now (i + 1) 0) (omega arith)) in
-    let total = c.total-former.ensures.total in
-    let before = c.loop-i.invariant in
-    let sum : c.loop-i.former + c.total-former.result ≡ kept_sum ms (take (suc i) ps) = omega (arith, before) in
-    sum ∙ ap (λ (j : ℕ). kept_sum ms (take j ps)) (sym next)
+loop-i-preserved c = sym (longer c)

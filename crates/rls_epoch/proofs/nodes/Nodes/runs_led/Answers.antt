@@ -94,12 +94,10 @@ with_all-requires-clause-above c =
 
 pub with_all-requires-clause-total : goal.with_all-requires-clause-total
 with_all-requires-clause-total c =
-    let ps = c.args.self.now.placed in
-    let steps = c.args.steps.now in
-    let x : Part = c.in-Some.field-0 in
-    let h = end_popped ps steps c.loop-ids.parts.items c.pop.new.self.items x _ c.loop-ids.at_end c.in-Some.ensures.items (omega arith) c.loop-ids.invariant.ends in
+    let after = ends c.args.self.now.placed c.args.steps.now c.pop.new.self.items in
+    let h = end_popped c.args.self.now.placed c.args.steps.now c.loop-ids.parts.items c.pop.new.self.items c.in-Some.field-0 _ c.loop-ids.at_end c.in-Some.ensures.items (omega arith) c.loop-ids.invariant.ends in
     let t = c.total-total.ensures.total in
-    end_fits ps steps c.args.ids.now c.loop-ids.at_end x.ids (ends ps steps c.pop.new.self.items) (2 ^ 64) (omega arith) h
+    end_fits c.args.self.now.placed c.args.steps.now c.args.ids.now c.loop-ids.at_end c.in-Some.field-0.ids after (2 ^ 64) (omega arith) h
 
 pub loop-ids-smaller : goal.loop-ids-smaller
 loop-ids-smaller c =

@@ -21,12 +21,8 @@ loop-left-preserved-then-right-left c =
 
 pub loop-left-smaller : goal.loop-left-smaller
 loop-left-smaller c =
-    let ps = c.args.self.now.placed in
-    let k = c.loop-left.right - 1 in
-    let p = c.at-else-right-left.result.now in
-    let g = c.at-else-right-left.ensures.node in
-    let e = c.count-count.ensures.laid.links.earlier k p g in
-    let h : c.loop-left.left + p.up < c.loop-left.left + c.loop-left.right = omega arith in
+    let e = c.count-count.ensures.laid.links.earlier (c.loop-left.right - 1) c.at-else-right-left.result.now c.at-else-right-left.ensures.node in
+    let h : c.loop-left.left + c.at-else-right-left.result.now.up < c.loop-left.left + c.loop-left.right = omega arith in
     h
 
 pub loop-left-preserved : goal.loop-left-preserved
