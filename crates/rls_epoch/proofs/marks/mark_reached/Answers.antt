@@ -1,9 +1,9 @@
-use Rattle.std.proofs.Common.{rules, ◌≡◌, ◌+◌, ◌<◌, ◌++◌, ◌∷◌, [], List, ℕ, suc, true, set, length, sym, ap, subst, ◌∙◌, inl, refl, arith, append_assoc, ⊎_elim}
+use Rattle.std.proofs.Common.{rules, ◌≡◌, ◌<◌, ◌++◌, ◌∷◌, [], List, ℕ, true, length, sym, ap, subst, ◌∙◌, arith, ⊎_elim}
 use Rattle.std.proofs.lemmas.Grind.{common_steps}
 use Rattle.rls_ident.specs.declared.epoch_name.EpochName.{EpochName}
 use Rattle.rls_ident.specs.EpochNames.{is_of_member, is_within, name_eq}
 use Rattle.rls_ident.specs.Lists.{IsIn}
-use Rattle.rls_ident.proofs.Members.{in_right, or_right}
+use Rattle.rls_ident.proofs.Members.{or_right}
 use Rattle.rls_rename.specs.Tree.{has_node, greatest_within}
 use Rattle.rls_epoch.specs.Marks.{AreReached}
 use Rattle.rls_epoch.specs.Seen.{nodes_of}

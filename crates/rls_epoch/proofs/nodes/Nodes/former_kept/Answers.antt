@@ -1,5 +1,4 @@
 use Rattle.std.proofs.Common.{◌≡◌, ◌+◌, true, false, take, drop, get_or, sym, arith}
-use Rattle.std.specs.Prelude.{if◌then◌else◌}
 use Rattle.rls_ident.proofs.Members.{lt_test}
 use Rattle.rls_epoch.specs.Marks.{kept_sum}
 use Rattle.rls_epoch.proofs.Compacting.{at_most_one, dropped_get, kept_sum_most, kept_sum_none, kept_sum_taken, sum_next}
