@@ -20,7 +20,7 @@ pub(crate) fn greatest(nodes: &Nodes, order: &[usize]) -> EpochName
 {
     let _count = nodes.count();
     match order.split_last() {
-        None => nodes.top(),
+        None => nodes.epoch_of(0),
         Some((place, _)) => nodes.name_of(*place),
     }
 }
@@ -48,7 +48,7 @@ pub(crate) fn greatest_in(
         rest = nodes.names_below(by_name, first_of(last));
     }
     if rank == 0 {
-        return nodes.top();
+        return nodes.epoch_of(0);
     }
     nodes.name_of(order[rank - 1])
 }

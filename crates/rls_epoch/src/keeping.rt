@@ -12,6 +12,7 @@ ghost use Rattle.rls_epoch.specs.Marks.{AreNamed, AreNumbered, numbered, mark_co
 ghost use Rattle.rls_epoch.specs.Seen.{former_sum, nodes_of, AreLaid};
 ghost use Rattle.rls_epoch.specs.Sorted.{place_name, AreSorted};
 
+use crate::entries::entry;
 use crate::marks::mark_reached;
 use crate::nodes::Nodes;
 use crate::placed::Placed;
@@ -52,14 +53,6 @@ pub(crate) fn number_needed(
     number
 }
 
-// The mark of a number.
-fn mark_of(marks: &[usize], number: usize) -> usize
-    requires within { number < length marks.now }
-    ensures mark { result ≡ slice_index marks.now number }
-{
-    marks[number]
-}
-
 // Keeps the nodes whose marks are greater than 1.
 fn keep_nodes(nodes: &mut Vec<Placed>, marks: &[usize])
     requires whole { length marks.now ≡ suc (length nodes.old.items) }
@@ -69,10 +62,10 @@ fn keep_nodes(nodes: &mut Vec<Placed>, marks: &[usize])
 {
     let mut count = 0;
     for i in 0..nodes.len() {
-        if mark_of(marks, i + 1) <= 1 {
+        if entry(marks, i + 1) <= 1 {
             continue;
         }
-        nodes[i].up = mark_of(marks, nodes[i].up) - 1;
+        nodes[i].up = entry(marks, nodes[i].up) - 1;
         nodes.swap(count, i);
         count += 1;
     }
@@ -87,7 +80,7 @@ pub(crate) fn keep_places(places: &mut Vec<usize>, marks: &[usize])
     let _count = marks.len();
     let mut count = 0;
     for i in 0..places.len() {
-        let mark = mark_of(marks, places[i] + 1);
+        let mark = entry(marks, places[i] + 1);
         if mark <= 1 {
             continue;
         }
@@ -126,7 +119,7 @@ impl Nodes {
         let mut names = Vec::new(self.allocator());
         names.push(first)?;
         for place in places {
-            if mark_of(marks, *place + 1) <= 1 {
+            if entry(marks, *place + 1) <= 1 {
                 continue;
             }
             names.push(self.name_of(*place))?;
@@ -142,7 +135,7 @@ impl Nodes {
     {
         let mut former = 0;
         for i in 0..self.count() {
-            if mark_of(marks, i + 1) <= 1 {
+            if entry(marks, i + 1) <= 1 {
                 continue;
             }
             former += self.at(i).renaming.total();

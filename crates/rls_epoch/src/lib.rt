@@ -3,6 +3,7 @@
 #![tactic(auto)]
 
 mod climb;
+mod entries;
 mod epochs;
 mod greatest;
 mod heads;

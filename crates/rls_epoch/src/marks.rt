@@ -10,6 +10,7 @@ ghost use Rattle.rls_ident.specs.EpochNames.{is_of_member};
 ghost use Rattle.rls_rename.specs.Keeping.{reached};
 ghost use Rattle.rls_rename.specs.Tree.{epoch_cmp, greatest, greatest_within, is_kept};
 
+use crate::entries::set_entry;
 use crate::nodes::Nodes;
 use rls_ident::{EpochName, Vector};
 
@@ -24,13 +25,13 @@ pub(crate) fn mark_reached(nodes: &Nodes, order: &[usize], marks: &mut [usize], 
     let mut rest = order;
     while let Some((place, lesser)) = rest.split_last() {
         let name = nodes.name_of(*place);
-        set_mark(marks, *place + 1);
+        set_entry(marks, *place + 1, 1);
         if name.within(v) {
             return;
         }
         rest = lesser;
     }
-    set_mark(marks, 0);
+    set_entry(marks, 0, 1);
 }
 
 impl Nodes {
@@ -69,14 +70,6 @@ impl Nodes {
         marks[up] = 1;
         was.min(1)
     }
-}
-
-// Marks the epoch of this number.
-pub(crate) fn set_mark(marks: &mut [usize], number: usize)
-    requires within { number < length marks.old }
-    ensures marked { marks.new ≡ slice_set marks.old number 1 }
-{
-    marks[number] = 1;
 }
 
 // How many are marked.

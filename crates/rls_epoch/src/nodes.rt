@@ -73,13 +73,6 @@ impl Nodes {
         *self.list.allocator()
     }
 
-    // The topmost epoch.
-    pub(crate) fn top(&self) -> EpochName
-        ensures top { result ≡ self.now.top }
-    {
-        self.top
-    }
-
     // The number of nodes.
     pub(crate) fn count(&self) -> usize
         ensures count { result ≡ length self.now.placed }
@@ -121,7 +114,7 @@ impl Nodes {
         ensures name { result ≡ epoch_at self.now.top self.now.placed number }
     {
         if number == 0 {
-            return self.top();
+            return self.top;
         }
         self.name_of(number - 1)
     }
@@ -168,7 +161,7 @@ impl Nodes {
         ensures none { IfNone result (is_kept self.now.top (nodes_of self.now.placed) name ≡ false) }
     {
         let _count = self.count();
-        let top = self.top();
+        let top = self.epoch_of(0);
         if name.same(&top) {
             return Some(0);
         }

@@ -1,7 +1,6 @@
 //! One node of a tree of epochs.
 
 ghost use Rattle.std.specs.Prelude.{◌≡◌, IfOk};
-ghost use Rattle.rls_ident.specs.EpochNames.{name_eq};
 ghost use Rattle.rls_rename.specs.Tree.{name_of};
 
 use rls_ident::EpochName;
@@ -26,13 +25,6 @@ impl Placed {
             replica: self.renaming.replica(),
             seq: self.renaming.seq(),
         }
-    }
-
-    // Whether it is the node of the epoch.
-    pub(crate) fn is_of(&self, name: EpochName) -> bool
-        ensures is_of { result ≡ name_eq (name_of self.now.renaming) name }
-    {
-        self.name().same(&name)
     }
 
     // The same again.

@@ -11,6 +11,7 @@ ghost use Rattle.rls_epoch.specs.Seen.{nodes_of};
 ghost use Rattle.rls_epoch.specs.Sorted.{AreSorted};
 
 use crate::climb::compare_names;
+use crate::entries::{entry, set_entry};
 use crate::nodes::Nodes;
 use rls_ident::{EpochName, Vector};
 use std::cmp::Ordering;
@@ -92,26 +93,10 @@ pub(crate) fn rank_up_to(
     }
     let before = by_name[end - 1];
     if is_up_to(name, nodes.name_of(before)) {
-        rank_of(ranks, before)
+        entry(ranks, before)
     } else {
         0
     }
-}
-
-// The rank that stands with a node.
-fn rank_of(ranks: &[usize], place: usize) -> usize
-    requires within { place < length ranks.now }
-    ensures rank { result ≡ slice_index ranks.now place }
-{
-    ranks[place]
-}
-
-// Puts a rank with a node.
-fn set_rank(ranks: &mut [usize], place: usize, rank: usize)
-    requires within { place < length ranks.old }
-    ensures put { ranks.new ≡ slice_set ranks.old place rank }
-{
-    ranks[place] = rank;
 }
 
 // Ranks the last node, which was put at an index in order of names and at a place of the order. It
@@ -139,9 +124,9 @@ pub(crate) fn rank_added(
     let count = order.len() - 1;
     let own = at + 1;
     shift_ranks(ranks, at, count);
-    set_rank(ranks, place, own);
+    set_entry(ranks, place, own);
     let rank = raised_rank(nodes, by_name, ranks, index);
-    set_rank(ranks, place, rank);
+    set_entry(ranks, place, rank);
 }
 
 // The new rank of an epoch after another was put at a place of the order.
@@ -163,8 +148,8 @@ fn shift_ranks(ranks: &mut [usize], at: usize, count: usize)
         return;
     }
     for i in 0..ranks.len() {
-        let rank = rank_after(rank_of(ranks, i), at);
-        set_rank(ranks, i, rank);
+        let rank = rank_after(entry(ranks, i), at);
+        set_entry(ranks, i, rank);
     }
 }
 
@@ -191,7 +176,7 @@ pub(crate) fn rank_all(nodes: &Nodes, by_name: &[usize], order: &[usize], ranks:
     rank_alone(order, ranks);
     for i in 0..by_name.len() {
         let rank = raised_rank(nodes, by_name, ranks, i);
-        set_rank(ranks, by_name[i], rank);
+        set_entry(ranks, by_name[i], rank);
     }
 }
 
@@ -203,7 +188,7 @@ fn rank_alone(order: &[usize], ranks: &mut [usize])
     ensures own { (a : ℕ) → a < length order.now → slice_index ranks.new (slice_index order.now a) ≡ suc a }
 {
     for i in 0..order.len() {
-        set_rank(ranks, order[i], i + 1);
+        set_entry(ranks, order[i], i + 1);
     }
 }
 
@@ -216,7 +201,7 @@ fn raised_rank(nodes: &Nodes, by_name: &[usize], ranks: &[usize], i: usize) -> u
     ensures rank { (order : List ℕ) → AreSorted (epoch_cmp (nodes_of nodes.now.placed)) nodes.now.placed order → IsOwn order (slice_index by_name.now i) (slice_index ranks.now (slice_index by_name.now i)) → (0 < i → IsRank nodes.now.placed order (name_in nodes.now.placed by_name.now (i - 1)) (slice_index ranks.now (slice_index by_name.now (i - 1)))) → IsRank nodes.now.placed order (name_in nodes.now.placed by_name.now i) result }
 {
     let place = by_name[i];
-    let rank = rank_of(ranks, place);
+    let rank = entry(ranks, place);
     if i == 0 {
         return rank;
     }
@@ -224,5 +209,5 @@ fn raised_rank(nodes: &Nodes, by_name: &[usize], ranks: &[usize], i: usize) -> u
     if !is_up_to(nodes.name_of(place), nodes.name_of(before)) {
         return rank;
     }
-    rank.max(rank_of(ranks, before))
+    rank.max(entry(ranks, before))
 }

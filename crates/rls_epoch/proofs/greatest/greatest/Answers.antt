@@ -16,7 +16,7 @@ name_of-requires c =
 pub returns-in-None : goal.returns-in-None
 returns-in-None c =
     let short : length c.args.order.now < 1 = grind (arith, common_steps) in
-    record { greatest = c.top.ensures.top ∙ greatest_none c.args.nodes.now.top c.args.nodes.now.placed c.count-count.ensures.laid c.args.order.now c.requires.sorted (nothing c.args.order.now short) }
+    record { greatest = c.epoch_of.ensures.name ∙ greatest_none c.args.nodes.now.top c.args.nodes.now.placed c.count-count.ensures.laid c.args.order.now c.requires.sorted (nothing c.args.order.now short) }
 
 pub returns-in-Some : goal.returns-in-Some
 returns-in-Some c =

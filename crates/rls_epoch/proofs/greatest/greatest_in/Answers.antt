@@ -61,7 +61,7 @@ pub returns-then-rank-eq0 : goal.returns-then-rank-eq0
 returns-then-rank-eq0 c =
     let z : c.loop-rest.rest ≡ 0 = omega arith in
     let k = subst (λ n. IsLooking c.args.nodes.now.placed c.args.by_name.now c.args.order.now c.args.v.now n c.loop-rest.rank) z c.loop-rest.invariant in
-    record { greatest = c.top.ensures.top ∙ looked_none c.args.nodes.now.top c.args.nodes.now.placed c.count.ensures.laid c.args.by_name.now c.args.order.now c.args.v.now c.requires.by_name_is c.requires.order_is c.loop-rest.rank k (omega arith) }
+    record { greatest = c.epoch_of.ensures.name ∙ looked_none c.args.nodes.now.top c.args.nodes.now.placed c.count.ensures.laid c.args.by_name.now c.args.order.now c.args.v.now c.requires.by_name_is c.requires.order_is c.loop-rest.rank k (omega arith) }
 
 pub name_of-requires : goal.name_of-requires
 name_of-requires c =

@@ -14,8 +14,8 @@ use Rattle.rls_epoch.proofs.Sorting.{get_of}
 pub loop-i-init : goal.loop-i-init
 loop-i-init c = record { fewer = omega arith; same = refl; front = sym (kept_placed_none c.args.marks.now (drop 1 c.args.marks.now)); rest = refl }
 
-pub loop-i-preserved-then-mark_of-le1 : goal.loop-i-preserved-then-mark_of-le1
-loop-i-preserved-then-mark_of-le1 c =
+pub loop-i-preserved-then-entry-le1 : goal.loop-i-preserved-then-entry-le1
+loop-i-preserved-then-entry-le1 c =
     let v = c.loop-i.invariant in
     let all = c.args.marks.now in
     let ms = drop 1 all in
@@ -24,7 +24,7 @@ loop-i-preserved-then-mark_of-le1 c =
     let w : i < length old = omega arith in
     let h = c.requires.whole in
     let p = get_of old i w in
-    let e = c.mark_of.ensures.mark in
+    let e = c.entry.ensures.entry in
     let next : i + 1 ≡ suc i = omega arith in
     let m = kept_placed_more all ms old i (get_or all (i + 1) 0) p.0 p.1 (dropped_get all i (omega arith)) in
     let none = ap (λ (b : Bool). kept_placed all ms (take i old) ++ (if b then moved all p.0 ∷ [] else [])) (at_most_one (get_or all (i + 1) 0) (omega arith)) in
@@ -35,8 +35,8 @@ loop-i-preserved-then-mark_of-le1 c =
       rest = drop_more_same c.loop-i.nodes.items old i v.rest;
     }
 
-pub mark_of-requires-in-loop-i : goal.mark_of-requires-in-loop-i
-mark_of-requires-in-loop-i c =
+pub entry-requires-in-loop-i : goal.entry-requires-in-loop-i
+entry-requires-in-loop-i c =
     let v = c.loop-i.invariant in
     let old = c.args.nodes.now.items in
     let i = c.loop-i.i in
@@ -47,8 +47,8 @@ mark_of-requires-in-loop-i c =
     let h = c.requires.whole in
     record { within = omega arith }
 
-pub overflow_sub-mark_of : goal.overflow_sub-mark_of
-overflow_sub-mark_of c =
+pub overflow_sub-entry : goal.overflow_sub-entry
+overflow_sub-entry c =
     let v = c.loop-i.invariant in
     let all = c.args.marks.now in
     let old = c.args.nodes.now.items in
@@ -57,9 +57,9 @@ overflow_sub-mark_of c =
     let p = c.index.result.now in
     let g : slice_get old i ≡ Some p = slice_get_read old (length old) i p refl w (c.index.ensures ∙ read_rest c.loop-i.nodes.items old i p v.same w v.rest) in
     let next : i + 1 ≡ suc i = omega arith in
-    let e = c.mark_of.ensures.mark ∙ ap (λ (j : ℕ). get_or all j 0) next in
+    let e = c.entry.ensures.entry ∙ ap (λ (j : ℕ). get_or all j 0) next in
     let b = c.requires.marked i p g (omega arith) in
-    let f = c.mark_of-in-loop-i.ensures.mark in
+    let f = c.entry-in-loop-i.ensures.entry in
     omega arith
 
 pub loop-i-preserved : goal.loop-i-preserved
@@ -79,11 +79,11 @@ loop-i-preserved c =
     let f : slice_get old i ≡ Some q = slice_get_read old (length old) i q refl w (c.index_mut.ensures.value ∙ read_rest xs old i q v.same w v.rest) in
     let same : q ≡ p = some_is q p (sym f ∙ g) in
     let next : i + 1 ≡ suc i = omega arith in
-    let e = c.mark_of.ensures.mark ∙ ap (λ (j : ℕ). get_or all j 0) next in
+    let e = c.entry.ensures.entry ∙ ap (λ (j : ℕ). get_or all j 0) next in
     let m = kept_placed_more all ms old i (get_or all (i + 1) 0) p g (dropped_get all i (omega arith)) in
-    let y : Placed = record { parent = q.parent; up = c.mark_of-in-loop-i.result - 1; renaming = q.renaming } in
-    let is : y ≡ moved all p = ap (λ (z : Placed). record { parent = z.parent; up = c.mark_of-in-loop-i.result - 1; renaming = z.renaming }) same ∙ ap (λ (j : ℕ). record { parent = p.parent; up = j - 1; renaming = p.renaming }) c.mark_of-in-loop-i.ensures.mark in
-    let some = ap (λ (b : Bool). kept_placed all ms (take i old) ++ (if b then moved all p ∷ [] else [])) (lt_test 1 (get_or all (i + 1) 0) (let z = c.mark_of.ensures.mark in omega arith)) in
+    let y : Placed = record { parent = q.parent; up = c.entry-in-loop-i.result - 1; renaming = q.renaming } in
+    let is : y ≡ moved all p = ap (λ (z : Placed). record { parent = z.parent; up = c.entry-in-loop-i.result - 1; renaming = z.renaming }) same ∙ ap (λ (j : ℕ). record { parent = p.parent; up = j - 1; renaming = p.renaming }) c.entry-in-loop-i.ensures.entry in
+    let some = ap (λ (b : Bool). kept_placed all ms (take i old) ++ (if b then moved all p ∷ [] else [])) (lt_test 1 (get_or all (i + 1) 0) (let z = c.entry.ensures.entry in omega arith)) in
     let new = c.swap.ensures.items in
     record {
       fewer = let f = v.fewer in omega arith;

@@ -15,8 +15,8 @@ overflow_add-index c =
     let w = c.requires.within k (rest_in c.loop-i.places.items c.args.places.now.items c.loop-i.i k v.same (omega arith) v.rest c.index.ensures) in
     omega (arith, w)
 
-pub mark_of-mark-requires : goal.mark_of-mark-requires
-mark_of-mark-requires c =
+pub entry-mark-requires : goal.entry-mark-requires
+entry-mark-requires c =
     let k = c.index.result.now in
     let v = c.loop-i.invariant in
     let w = c.requires.within k (rest_in c.loop-i.places.items c.args.places.now.items c.loop-i.i k v.same (omega arith) v.rest c.index.ensures) in
@@ -32,7 +32,7 @@ loop-i-preserved-then-mark-le1 c =
     let g : slice_get old i ≡ Some k = slice_get_read old (length old) i k refl (omega arith) (c.index.ensures ∙ read_rest c.loop-i.places.items old i k v.same (omega arith) v.rest) in
     let next : i + 1 ≡ suc i = omega arith in
     let up : k + 1 ≡ suc k = omega arith in
-    let e = c.mark_of-mark.ensures.mark ∙ ap (λ (j : ℕ). get_or ms j 0) up in
+    let e = c.entry-mark.ensures.entry ∙ ap (λ (j : ℕ). get_or ms j 0) up in
     let m = kept_places_more ms old i k g in
     let none = ap (λ (b : Bool). kept_places ms (take i old) ++ (if b then (get_or ms (suc k) 0 - 2) ∷ [] else [])) (at_most_one (get_or ms (suc k) 0) (omega arith)) in
     record {
@@ -55,9 +55,9 @@ loop-i-preserved c =
     let g : slice_get old i ≡ Some k = slice_get_read old (length old) i k refl w (c.index.ensures ∙ read_rest xs old i k v.same w v.rest) in
     let next : i + 1 ≡ suc i = omega arith in
     let up : k + 1 ≡ suc k = omega arith in
-    let e = c.mark_of-mark.ensures.mark ∙ ap (λ (j : ℕ). get_or ms j 0) up in
+    let e = c.entry-mark.ensures.entry ∙ ap (λ (j : ℕ). get_or ms j 0) up in
     let m = kept_places_more ms old i k g in
-    let y = c.mark_of-mark.result - 2 in
+    let y = c.entry-mark.result - 2 in
     let some = ap (λ (b : Bool). kept_places ms (take i old) ++ (if b then (get_or ms (suc k) 0 - 2) ∷ [] else [])) (lt_test 1 (get_or ms (suc k) 0) (omega arith)) in
     record {
       fewer = let f = v.fewer in omega arith;

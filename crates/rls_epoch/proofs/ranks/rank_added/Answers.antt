@@ -23,8 +23,8 @@ shift_ranks-requires-clause-most c = λ k h.
     let m = ranks_most c.args.nodes.now.placed c.args.by_name.now c.requires.by_name_is c.args.order.now c.args.ranks.now c.args.at c.requires.added k h in
     omega arith
 
-pub set_rank-requires : goal.set_rank-requires
-set_rank-requires c =
+pub set_entry-requires : goal.set_entry-requires
+set_entry-requires c =
     let w = old_whole c.args.nodes.now.placed c.args.by_name.now c.requires.by_name_is c.args.order.now c.args.ranks.now c.args.at c.requires.added in
     let s = c.shift_ranks.ensures.whole in
     let p = at_place c.args.nodes.now.placed c.args.by_name.now c.requires.by_name_is c.args.index c.requires.within in
@@ -34,13 +34,13 @@ pub raised_rank-rank-requires-clause-whole : goal.raised_rank-rank-requires-clau
 raised_rank-rank-requires-clause-whole c =
     let k = slice_index c.args.by_name.now c.args.index in
     let w = old_whole c.args.nodes.now.placed c.args.by_name.now c.requires.by_name_is c.args.order.now c.args.ranks.now c.args.at c.requires.added in
-    ap length c.set_rank.ensures.put ∙ (length-set c.shift_ranks.new.ranks k (c.args.at + 1) ∙ (c.shift_ranks.ensures.whole ∙ w))
+    ap length c.set_entry.ensures.set ∙ (length-set c.shift_ranks.new.ranks k (c.args.at + 1) ∙ (c.shift_ranks.ensures.whole ∙ w))
 
-pub set_rank-requires-2 : goal.set_rank-requires-2
-set_rank-requires-2 c =
+pub set_entry-requires-2 : goal.set_entry-requires-2
+set_entry-requires-2 c =
     let k = slice_index c.args.by_name.now c.args.index in
     let w = old_whole c.args.nodes.now.placed c.args.by_name.now c.requires.by_name_is c.args.order.now c.args.ranks.now c.args.at c.requires.added in
-    let s = ap length c.set_rank.ensures.put ∙ (length-set c.shift_ranks.new.ranks k (c.args.at + 1) ∙ (c.shift_ranks.ensures.whole ∙ w)) in
+    let s = ap length c.set_entry.ensures.set ∙ (length-set c.shift_ranks.new.ranks k (c.args.at + 1) ∙ (c.shift_ranks.ensures.whole ∙ w)) in
     let p = at_place c.args.nodes.now.placed c.args.by_name.now c.requires.by_name_is c.args.index c.requires.within in
     record { within = omega arith }
 
@@ -61,13 +61,13 @@ returns c =
     let new = c.shift_ranks.new.ranks in
     let alone = c.has_later.ensures.alone c.if-has_later.false in
     let whole = c.shift_ranks.ensures.whole in
-    let put : c.set_rank.new.ranks ≡ set new k (at + 1) = c.set_rank.ensures.put in
+    let put : c.set_entry.new.list ≡ set new k (at + 1) = c.set_entry.ensures.set in
     let w = old_whole ps names s order old at x in
     let p = at_place ps names s index wi in
-    let mine : slice_index c.set_rank.new.ranks k ≡ at + 1 = ap (λ zs. slice_index zs k) put ∙ get_or-set_same new k (at + 1) 0 (omega arith) in
+    let mine : slice_index c.set_entry.new.list k ≡ at + 1 = ap (λ zs. slice_index zs k) put ∙ get_or-set_same new k (at + 1) 0 (omega arith) in
     let rank = c.raised_rank-rank.result in
     let r = c.raised_rank-rank.ensures.rank order o (subst (IsOwn order k) (sym mine) (own_added ps names s order old at x o index wi here alone))
     (λ z. subst (λ (zs : List ℕ). IsRank ps order (name_in ps names (index - 1)) (slice_index zs (slice_index names (index - 1)))) (sym put) (before_added ps names s order old at x o index wi here alone new c.shift_ranks.ensures.after (at + 1) z)) in
     record {
-      ranked = subst (AreRanked ps order) (sym (c.set_rank-2.ensures.put ∙ ap (λ (zs : List ℕ). set zs k rank) put)) (added_ranked ps names s order old at x o index wi here alone new c.shift_ranks.ensures.after whole (at + 1) rank r);
+      ranked = subst (AreRanked ps order) (sym (c.set_entry-2.ensures.set ∙ ap (λ (zs : List ℕ). set zs k rank) put)) (added_ranked ps names s order old at x o index wi here alone new c.shift_ranks.ensures.after whole (at + 1) rank r);
     }

@@ -22,8 +22,8 @@ loop-i-init c =
 pub raised_rank-rank-requires-clause-whole : goal.raised_rank-rank-requires-clause-whole
 raised_rank-rank-requires-clause-whole c = c.loop-i.invariant.whole
 
-pub set_rank-requires : goal.set_rank-requires
-set_rank-requires c =
+pub set_entry-requires : goal.set_entry-requires
+set_entry-requires c =
     let p = at_place c.args.nodes.now.placed c.args.by_name.now c.requires.by_name_is c.loop-i.i (omega arith) in
     let w = c.loop-i.invariant.whole in
     record { within = omega arith }
@@ -37,7 +37,7 @@ loop-i-preserved c =
     let wi : i < length names = omega arith in
     let v = c.loop-i.invariant in
     let r = c.raised_rank-rank.ensures.rank order c.requires.order_is (v.own i (omega arith) wi) (λ z. v.ranked (i - 1) (omega arith) (omega arith)) in
-    subst (AreRaised ps names order (i + 1)) (sym c.set_rank.ensures.put)
+    subst (AreRaised ps names order (i + 1)) (sym c.set_entry.ensures.set)
     (raised_next ps names c.requires.by_name_is order c.loop-i.ranks i wi v c.raised_rank-rank.result r)
 
 pub returns : goal.returns

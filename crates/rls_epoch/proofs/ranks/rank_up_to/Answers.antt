@@ -14,8 +14,8 @@ name_of-requires c =
     let r = c.names_up_to-end.ensures.end.in_range in
     record { place = at_place c.args.nodes.now.placed c.args.by_name.now c.requires.sorted (c.names_up_to-end.result - 1) (omega arith) }
 
-pub rank_of-requires : goal.rank_of-requires
-rank_of-requires c =
+pub entry-requires : goal.entry-requires
+entry-requires c =
     let r = c.names_up_to-end.ensures.end.in_range in
     let p = at_place c.args.nodes.now.placed c.args.by_name.now c.requires.sorted (c.names_up_to-end.result - 1) (omega arith) in
     let w = c.requires.whole in
@@ -27,7 +27,7 @@ returns-then-is_up_to c =
     let u = ap (up_to c.args.name) (sym c.name_of.ensures.name) ∙ (sym c.is_up_to.ensures.up_to ∙ c.if-is_up_to.true) in
     record {
       rank = λ order w a.
-          subst (IsRank c.args.nodes.now.placed order c.args.name) (sym c.rank_of.ensures.rank)
+          subst (IsRank c.args.nodes.now.placed order c.args.name) (sym c.entry.ensures.entry)
           (rank_before c.args.nodes.now.placed c.args.by_name.now c.requires.sorted order w c.args.ranks.now a c.args.name n c.names_up_to-end.ensures.end (omega arith) u);
     }
 

@@ -5,7 +5,7 @@ use Rattle.rls_epoch.proofs.nodes.Nodes.find.Goals as goal
 
 pub returns-then-by_name-i-clause-none : goal.returns-then-by_name-i-clause-none
 returns-then-by_name-i-clause-none c =
-    none_at_end c.args.self.now.top c.args.self.now.placed c.args.by_name.now c.requires.sorted c.args.name c.names_below-i.result c.names_below-i.ensures.cut (ap (name_eq c.args.name) (sym c.top-top.ensures.top) ∙ (sym c.same.ensures.same ∙ c.if-same.false)) c.if-by_name-i.true
+    none_at_end c.args.self.now.top c.args.self.now.placed c.args.by_name.now c.requires.sorted c.args.name c.names_below-i.result c.names_below-i.ensures.cut (ap (name_eq c.args.name) (sym c.epoch_of-top.ensures.name) ∙ (sym c.same.ensures.same ∙ c.if-same.false)) c.if-by_name-i.true
 
 pub name_of-requires : goal.name_of-requires
 name_of-requires c = record { place = c.requires.sorted.within (get_or c.args.by_name.now c.names_below-i.result 0) (read_in c.args.by_name.now c.names_below-i.result (omega arith)) }
@@ -28,6 +28,6 @@ returns-then-same-2-clause-within c =
 
 pub returns-else-same-2-clause-none : goal.returns-else-same-2-clause-none
 returns-else-same-2-clause-none c =
-    none_here c.args.self.now.top c.args.self.now.placed c.args.by_name.now c.requires.sorted c.args.name c.names_below-i.result c.names_below-i.ensures.cut (ap (name_eq c.args.name) (sym c.top-top.ensures.top) ∙ (sym c.same.ensures.same ∙ c.if-same.false))
+    none_here c.args.self.now.top c.args.self.now.placed c.args.by_name.now c.requires.sorted c.args.name c.names_below-i.result c.names_below-i.ensures.cut (ap (name_eq c.args.name) (sym c.epoch_of-top.ensures.name) ∙ (sym c.same.ensures.same ∙ c.if-same.false))
     (omega arith)
     (ap (λ e. name_eq e c.args.name) (sym c.name_of.ensures.name) ∙ (sym c.same-2.ensures.same ∙ c.if-same-2.false))

@@ -8,12 +8,12 @@ use Rattle.rls_epoch.proofs.Sorting.{get_of}
 pub loop-i-init : goal.loop-i-init
 loop-i-init c = sym (kept_sum_none (drop 1 c.args.marks.now))
 
-pub loop-i-preserved-then-mark_of-le1 : goal.loop-i-preserved-then-mark_of-le1
-loop-i-preserved-then-mark_of-le1 c =
+pub loop-i-preserved-then-entry-le1 : goal.loop-i-preserved-then-entry-le1
+loop-i-preserved-then-entry-le1 c =
     let ps = c.args.self.now.placed in
     let i = c.loop-i.i in
     let w = c.requires.whole in
-    let e = c.mark_of.ensures.mark in
+    let e = c.entry.ensures.entry in
     let p = get_of ps i (omega arith) in
     let s = sum_next (drop 1 c.args.marks.now) ps i (get_or c.args.marks.now (i + 1) 0) p.0 p.1 (dropped_get c.args.marks.now i (omega arith)) false (at_most_one (get_or c.args.marks.now (i + 1) 0) (omega arith)) in
     let v = c.loop-i.invariant in
@@ -25,7 +25,7 @@ module _ (c : goal.After-total-former) where
   longer =
       let i = c.loop-i.i in
       let w = c.requires.whole in
-      let e = c.mark_of.ensures.mark in
+      let e = c.entry.ensures.entry in
       let m = get_or c.args.marks.now (i + 1) 0 in
       let s = sum_next (drop 1 c.args.marks.now) c.args.self.now.placed i m c.at.result.now c.at.ensures.node (dropped_get c.args.marks.now i (omega arith)) true (lt_test 1 m (omega arith)) in
       let total = c.total-former.ensures.total in
