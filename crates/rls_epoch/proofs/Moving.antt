@@ -146,6 +146,13 @@ map_agrees f g h [] a = refl
 map_agrees f g h (x ∷ xs) a =
     ap (λ y. y ∷ map f xs) (h x (and_left (is_ident x) (list_all is_ident xs) a)) ∙ ap (λ ys. g x ∷ ys) (map_agrees f g h xs (and_right (is_ident x) (list_all is_ident xs) a))
 
+-- a run is its own image where no step is made
+pub image_none : (ps : List Placed) (r : List Tuple × ℕ) → is_run r ≡ true → IsImage (led ps []) r (r ∷ [])
+image_none ps r u = record {
+  idents = append-nil (run_idents r.0 r.1) ∙ sym (map_none ps (run_idents r.0 r.1));
+  apart = and_true (nat_lt 0 r.1 && true) true (and_true (nat_lt 0 r.1) true (lt_test 0 r.1 (run_some r u)) refl) refl;
+}
+
 run_idents_are : (r : List Tuple × ℕ) → is_run r ≡ true → list_all is_ident (run_idents r.0 r.1) ≡ true
 run_idents_are r u = ap (list_all is_ident) (sym (append-nil (run_idents r.0 r.1))) ∙ all_idents (r ∷ []) (and_true (is_run r) true u refl)
 

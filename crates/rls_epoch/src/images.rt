@@ -20,6 +20,7 @@ impl Nodes {
     {
         let _len = run.len();
         match steps {
+            [] => listed(self.allocator(), run),
             [step] => self.run_moved(*step, run),
             _ => maximal(
                 self.allocator(),
@@ -138,7 +139,16 @@ fn append_all(ids: &mut Runs, more: &[Run]) -> Result<(), AllocError>
     Ok(())
 }
 
-// The identifiers of a run.
+// The run alone, in a list of runs.
+fn listed(alloc: Global, run: &Run) -> Result<RunList, AllocError>
+    ensures listed { IfOk result (λ runs. runs ≡ run.now ∷ []) }
+{
+    let mut list = RunList::new(alloc);
+    list.push(run.copy()?)?;
+    Ok(list)
+}
+
+// Its identifiers.
 fn alone(alloc: Global, run: &Run) -> Result<Runs, AllocError>
     ensures alone { IfOk result (λ ids. ids ≡ run_idents run.now.0 run.now.1) }
 {
