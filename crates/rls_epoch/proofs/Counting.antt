@@ -28,7 +28,7 @@ count_unmarked (suc m ∷ ms) zero h q = absurd (omega (arith, not_lt_is 0 (suc 
 count_unmarked (zero ∷ ms) (suc n) h q = count_unmarked ms n (omega arith) q
 count_unmarked (suc m ∷ ms) (suc n) h q = ap suc (count_unmarked ms n (omega arith) q)
 
--- what one mark that is set adds in front of n
+-- what one mark that is set adds before n
 pub count_set : (ms : List ℕ) (n u : ℕ) → u < n → u < length ms → has_mark ms u ≡ false → mark_count (take n (set ms u 1)) ≡ suc (mark_count (take n ms))
 count_set ms zero u l h q = absurd (omega arith)
 count_set [] (suc n) u l h q = absurd (omega arith)
@@ -45,14 +45,14 @@ count_set_again (suc m ∷ ms) (suc n) zero h q = refl
 count_set_again (zero ∷ ms) (suc n) (suc u) h q = count_set_again ms n u (omega arith) q
 count_set_again (suc m ∷ ms) (suc n) (suc u) h q = ap suc (count_set_again ms n u (omega arith) q)
 
--- where there is a mark, it stands somewhere
+-- if there is a mark, it has a place
 pub count_some : (ms : List ℕ) (n : ℕ) → 0 < mark_count (take n ms) → (m : ℕ) × (m < n) × (m < length ms) × (has_mark ms m ≡ true)
 count_some ms zero h = absurd (omega arith)
 count_some [] (suc n) h = absurd (omega arith)
 count_some (zero ∷ ms) (suc n) h = let r = count_some ms n h in (suc r.0, omega arith, omega arith, r.3)
 count_some (suc m ∷ ms) (suc n) h = (0, omega arith, omega arith, lt_test 0 (suc m) (omega arith))
 
--- where something is marked, there is a mark
+-- if something is marked, there is a mark
 pub some_count : (ms : List ℕ) (n m : ℕ) → m < n → m < length ms → has_mark ms m ≡ true → 0 < mark_count (take n ms)
 some_count ms zero m l h q = absurd (omega arith)
 some_count [] (suc n) m l h q = absurd (omega arith)
@@ -60,7 +60,7 @@ some_count (zero ∷ ms) (suc n) zero l h q = absurd (omega (arith, lt_is 0 0 q)
 some_count (suc k ∷ ms) (suc n) m l h q = omega arith
 some_count (zero ∷ ms) (suc n) (suc m) l h q = some_count ms n m (omega arith) (omega arith) q
 
--- a single mark stands in one place
+-- a single mark has one place
 pub count_one : (ms : List ℕ) (n i j : ℕ) → mark_count (take n ms) ≤ 1 → i < n → j < n → i < length ms → j < length ms → has_mark ms i ≡ true → has_mark ms j ≡ true → i ≡ j
 count_one ms zero i j c k l h g p q = absurd (omega arith)
 count_one [] (suc n) i j c k l h g p q = absurd (omega arith)

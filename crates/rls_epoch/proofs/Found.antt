@@ -24,7 +24,7 @@ use Rattle.rls_epoch.proofs.Sorting.{cut_found, get_of}
 pub read_in : (places : List ℕ) (m : ℕ) → m < length places → IsIn (get_or places m 0) places
 read_in places m h = get_in places m (get_or places m 0) (slice_get-get_or places m 0 h)
 
--- the number behind a place
+-- the number after a place
 pub next_at : (top : EpochName) (ps : List Placed) (k : ℕ) → epoch_at top ps (k + 1) ≡ place_name ps k
 next_at top ps k = let e : k + 1 ≡ suc k = omega arith in ap (epoch_at top ps) e
 
@@ -34,7 +34,7 @@ name_next top ps k e h q =
     let n : k + 1 ≡ suc k = omega arith in
     ap (name_at top ps) n ∙ (ap (option_map (λ (z : Placed). name_of z.renaming)) r.1 ∙ ap Some (sym (name_read ps k r.0 r.1) ∙ name_eq_is (place_name ps k) e q))
 
--- the parent of a node stands before it
+-- the parent of a node comes before it
 pub up_earlier : (top : EpochName) (ps : List Placed) → AreLaid top ps → (k : ℕ) → k < length ps → up_at ps k ≤ k
 up_earlier top ps l k h = let r = get_of ps k h in let e = up_read ps k r.0 r.1 in let b = l.links.earlier k r.0 r.1 in omega arith
 
@@ -49,7 +49,7 @@ kept_at top ps (suc k) e h = go (slice_get ps k) refl h
         let q : place_name ps k ≡ e = name_read ps k p g ∙ some_is (name_of p.renaming) e j in
         or_right (name_eq e top) (has_node (nodes_of ps) e) (ap (has_node (nodes_of ps)) (sym q) ∙ place_kept ps k (slice_get_within ps k p g))
 
--- a name that doesn't stand in its place isn't there
+-- a name that isn't at its place isn't there
 module _ (top : EpochName) (ps : List Placed) (by_name : List ℕ) (s : AreSorted name_cmp ps by_name) (e : EpochName) (i : ℕ) (c : IsCut name_cmp (names_at ps by_name) e i) (n : name_eq e top ≡ false) where
   found : has_node (nodes_of ps) e ≡ true → slice_get (names_at ps by_name) i ≡ Some e
   found h = cut_found name_cmp names_order (names_at ps by_name) s.rising e i c (sorted_in name_cmp ps by_name s e h)

@@ -1,4 +1,4 @@
--- The nodes, of which the latest stands last, read as the list in which it stands first.
+-- The nodes, of which the latest is the last, read as the list in which it is the first.
 use Rattle.std.proofs.Common.{◌≡◌, List, [], ◌∷◌, ◌++◌, map, ap}
 use Rattle.std.proofs.lemmas.List.{reverse-append}
 use Rattle.rls_epoch.specs.declared.placed.Placed.{Placed}

@@ -1,4 +1,4 @@
--- What is left of a tree where the marks are those of its smallest connected part.
+-- What is left of a tree if the marks are those of its smallest connected part.
 use Rattle.std.proofs.Common.{◌≡◌, ℕ, zero, suc, ◌-◌, ◌<◌, ◌≤◌, Bool, true, false, List, [], ◌∷◌, ◌++◌, length, take, drop, Some, refl, sym, ap, ◌∙◌, subst, inl, inr, ⊎_elim, arith, nat_lt}
 use Rattle.std.specs.Prelude.{not, slice_get, slice_index, if◌then◌else◌}
 use Rattle.std.specs.Option.{option_map}

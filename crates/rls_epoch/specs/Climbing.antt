@@ -13,7 +13,7 @@ name_cmp Origin (Of r s) = Less
 name_cmp (Of r s) Origin = Greater
 name_cmp (Of r s) (Of q t) = ordering_then (nat_cmp r q) (nat_cmp s t)
 
--- by the children of one epoch below which two others lie, where they don't lie there itself
+-- by the children of one epoch below which two others lie, if they aren't that epoch itself
 abbrev pub side_cmp : Option EpochName → Option EpochName → Ordering
 side_cmp None None = Equal
 side_cmp None (Some f) = Less

@@ -19,7 +19,7 @@ StartsAt ps (Some h) Xs = (p : Placed) × (Ys : List Renaming) × (slice_get ps 
 abbrev pub IsAbove : EpochName → List Placed → EpochName → Climb → Type 0
 IsAbove top ps e c = (Xs : List Renaming) × (path (nodes_of ps) e ≡ path (nodes_of ps) (epoch_at top ps c.at) ++ Xs) × StartsAt ps c.below Xs
 
--- the places of the children are two, where there are two
+-- the places of the children differ, if both ways have one
 abbrev pub AreTwo : Option ℕ → Option ℕ → Type 0
 AreTwo (Some h) (Some k) = h ≡ k → ⊥
 AreTwo _ _ = Unit {0}

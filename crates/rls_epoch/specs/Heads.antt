@@ -10,6 +10,6 @@ use Rattle.rls_epoch.specs.Ways.{step_map, led}
 abbrev pub Moves : List Placed → Step → List Tuple → List Tuple → Type 0
 Moves ps step x y = (k : ℕ) → step_map ps step (shifted (pos k) x) ≡ shifted (pos k) y
 
--- after so many of the steps the identifiers from x on are those from y on
+-- after n of the steps the identifiers from x on are those from y on
 abbrev pub IsAhead : List Placed → List Step → List Tuple → ℕ → List Tuple → Type 0
 IsAhead ps steps x n y = (k : ℕ) → led ps (drop n steps) (shifted (pos k) y) ≡ led ps steps (shifted (pos k) x)

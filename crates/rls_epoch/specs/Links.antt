@@ -6,12 +6,12 @@ use Rattle.rls_rename.specs.Tree.{name_of}
 use Rattle.rls_epoch.specs.declared.placed.Placed.{Placed}
 use Rattle.rls_epoch.specs.Sorted.{place_name}
 
--- the epoch with a number, where there is one
+-- the epoch with a number, if there is one
 abbrev pub name_at : EpochName → List Placed → ℕ → Option EpochName
 name_at top ps zero = Some top
 name_at top ps (suc k) = option_map (λ p. name_of p.renaming) (slice_get ps k)
 
--- the same, where it is the number of an epoch
+-- the same, if it is the number of an epoch
 abbrev pub epoch_at : EpochName → List Placed → ℕ → EpochName
 epoch_at top ps zero = top
 epoch_at top ps (suc k) = place_name ps k

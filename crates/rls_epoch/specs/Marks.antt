@@ -53,7 +53,7 @@ pub record AreNumbered (top : EpochName) (ps : List Placed) (numbers : List ℕ)
   pub numbers_are : numbers ≡ numbered 0 marks
   pub spread : AreSpread top ps marks n e es
 
--- ---- what is kept, where the topmost epoch has the first mark
+-- ---- what is kept, if the topmost epoch has the first mark
 
 -- the node, with the new number of its parent
 abbrev pub moved : List ℕ → Placed → Placed

@@ -41,7 +41,7 @@ pub record AreRanked (ps : List Placed) (order ranks : List ℕ) : Type 0 where
 
 -- ---- on the way there
 
--- so many of these places, in increasing order of names, have this name or a lesser one
+-- n of these places, in increasing order of names, have this name or a lesser one
 pub record IsEnd (ps : List Placed) (by_name : List ℕ) (e : EpochName) (n : ℕ) : Type 0 where
   pub in_range : n ≤ length by_name
   pub below : (a : ℕ) → a < n → name_cmp e (name_in ps by_name a) ≡ Less → ⊥

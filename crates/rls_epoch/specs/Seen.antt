@@ -30,7 +30,7 @@ former_sum nodes = sum_by (λ node. length node.renaming.former) nodes
 abbrev pub rising_epochs : Epochs → List EpochName
 rising_epochs E = in_order E.nodes (E.top ∷ names E.nodes)
 
--- the answer tells whether the epoch that this renaming opens in another is greater than all that are kept
+-- the answer says whether the epoch that this renaming opens in another is greater than all that are kept
 abbrev pub OpensGreatest : Bool → Epochs → EpochName → Renaming → Type 0
 OpensGreatest b E parent R = b ≡ name_eq (greatest E.top (record { parent = parent; renaming = R } ∷ E.nodes)) (name_of R)
 
@@ -44,7 +44,7 @@ node_for (node ∷ older) e = if is_of node e then Some node else node_for older
 abbrev pub node_of : Placed → Node
 node_of p = record { parent = p.parent; renaming = p.renaming }
 
--- the nodes, of which the latest stands last
+-- the nodes, of which the latest is the last
 abbrev pub nodes_of : List Placed → List Node
 nodes_of placed = map node_of (reverse placed)
 
@@ -68,7 +68,7 @@ pub record AreLaid (top : EpochName) (placed : List Placed) : Type 0 where
   pub below : AreBelow top (nodes_of placed)
   pub links : AreLinked top placed
 
--- a topmost epoch and the nodes below it, of which the latest stands last, and for how many more there is room
+-- a topmost epoch and the nodes below it, of which the latest is the last, and for how many more there is room
 pub record NodesSeen : Type 0 where
   pub top : EpochName
   pub placed : List Placed

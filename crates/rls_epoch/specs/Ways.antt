@@ -22,12 +22,12 @@ abbrev pub place_of_step : Step → ℕ
 place_of_step (Back k) = k
 place_of_step (Forward k) = k
 
--- each step goes over one of so many nodes
+-- each step goes over one of n nodes
 abbrev pub AreWithin : ℕ → List Step → Type 0
 AreWithin n [] = Unit {0}
 AreWithin n (s ∷ steps) = (place_of_step s < n) × AreWithin n steps
 
--- by the node's renaming, where there is one
+-- by the node's renaming, if there is one
 abbrev pub back_at : Option Placed → List Tuple → List Tuple
 back_at None x = x
 back_at (Some p) x = back p.renaming x

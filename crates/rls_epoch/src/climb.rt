@@ -14,7 +14,7 @@ use crate::nodes::Nodes;
 use rls_ident::EpochName;
 use std::cmp::Ordering;
 
-// The number of an epoch on the way, and the place of its child on the way where it isn't the first one.
+// The number of an epoch on the way, and the place of its child on the way, if it isn't the first one.
 #[derive(Clone, Copy)]
 struct Climb {
     at: usize,

@@ -27,7 +27,7 @@ use std::alloc::{AllocError, Global};
 use std::cmp::Ordering;
 use std::marker::Model;
 
-/// A topmost epoch and the nodes below it, some of which are marked. The earliest node stands first.
+/// A topmost epoch and the nodes below it, some of which are marked. The earliest node comes first.
 #[derive(Drop)]
 pub struct Epochs {
     nodes: Nodes,
@@ -37,7 +37,7 @@ pub struct Epochs {
     order: Vec<usize>,
     // for each node the rank of the greatest epoch that its member opened up to it
     ranks: Vec<usize>,
-    // a mark for each epoch, by its number: 0 where it isn't marked
+    // a mark for each epoch, by its number: 0 if it isn't marked
     marks: Vec<usize>,
     total: u64,
 }
@@ -172,7 +172,7 @@ impl Epochs {
     }
 
     /// The greatest epoch within a vector that counts the replica of each kept epoch, or the topmost
-    /// one where none is. It takes no memory, and costs a few comparisons of names for each halving of
+    /// one if none is. It takes no memory, and costs a few comparisons of names for each halving of
     /// the nodes, for each replica that opened a kept epoch.
     pub fn greatest_in(&self, v: &Vector) -> EpochName
         requires members { (e : EpochName) → IsTrue (is_kept self.now.epochs.top self.now.epochs.nodes e) → IsTrue (is_of_member (length v.now) e) }

@@ -25,7 +25,7 @@ pub(crate) fn greatest(nodes: &Nodes, order: &[usize]) -> EpochName
     }
 }
 
-// The greatest epoch within the vector, or the topmost one where none is. It looks at each member
+// The greatest epoch within the vector, or the topmost one if none is. It looks at each member
 // that has opened a kept epoch.
 pub(crate) fn greatest_in(
     nodes: &Nodes,

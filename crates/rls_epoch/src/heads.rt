@@ -1,5 +1,5 @@
 //! Long identifiers over the steps of a way. Mostly a step changes a few of the first tuples and leaves the others, so these aren't
-//! copied at each step: the tuples stand in reverse, the first one at the end.
+//! copied at each step: the tuples are in reverse, the first one at the end.
 
 ghost use Rattle.std.specs.Prelude.{◌≡◌, ◌<◌, ◌≤◌, ◌++◌, length, map, drop, reverse, IfOk, IfSome, IsTrue, IsFalse, OnOk};
 ghost use Rattle.rls_rename.specs.Heads.{Replaces};
@@ -20,7 +20,7 @@ const FEWEST: usize = 2;
 // The most tuples of a run that is copied at each step together with others.
 const MOST_TOGETHER: usize = 16;
 
-// The most tuples with which a run, the last of so many, is copied at each step.
+// The most tuples with which a run, the last of this many runs, is copied at each step.
 pub(crate) fn most_copied(runs: usize) -> usize {
     if runs > 1 { MOST_TOGETHER } else { FEWEST }
 }
@@ -68,7 +68,8 @@ impl Nodes {
         Ok(Some((ahead, count)))
     }
 
-    // Changes the tuples to those of the identifier as many steps on as its first tuples decide, and answers how many.
+    // Takes the tuples to those of the identifier n steps on, and answers n: its first tuples decide
+    // these steps.
     fn move_heads(&self, steps: &[Step], turned: &mut Vec<Tuple>) -> Result<usize, AllocError>
         requires within { AreWithin (length self.now.placed) steps.now }
         ensures within { IfOk result (λ n. n ≤ length steps.now) }
@@ -100,7 +101,7 @@ impl Nodes {
         Ok(false)
     }
 
-    // The same, if so many first tuples decide it.
+    // The same, if the first tuples, as many as the count, decide it.
     fn move_first(
         &self,
         step: Step,
@@ -139,7 +140,7 @@ impl Nodes {
     }
 }
 
-// The identifier whose tuples stand here in reverse, if they are one.
+// The identifier whose tuples these are in reverse, if they are one.
 fn ident_of(alloc: Global, turned: &[Tuple]) -> Result<Option<Ident>, AllocError>
     ensures ident { IfOk result (λ id. IfSome id (λ id. id ≡ reverse turned.now)) }
 {

@@ -39,7 +39,7 @@ fn place_at(nodes: &Nodes, order: &[usize], number: usize) -> u64
     nodes.epochs_below(order, number) as u64 + 1
 }
 
-// The place in the order of the parent of the epoch with a number, which the topmost one hasn't.
+// The place in the order of the parent of the epoch with a number, or `None` for the topmost one.
 pub(crate) fn parent_place(nodes: &Nodes, order: &[usize], number: usize) -> Option<u64>
     requires sorted { AreSorted (epoch_cmp (nodes_of nodes.now.placed)) nodes.now.placed order.now }
     requires within { number ≤ length nodes.now.placed }
@@ -55,7 +55,7 @@ pub(crate) fn parent_place(nodes: &Nodes, order: &[usize], number: usize) -> Opt
 }
 
 impl Nodes {
-    // The parent of the epoch with a number, which the topmost one hasn't.
+    // The parent of the epoch with a number, or `None` for the topmost one.
     pub(crate) fn parent_name(&self, number: usize) -> Option<EpochName>
         requires within { number ≤ length self.now.placed }
         ensures parent { result ≡ option_map (λ node. node.parent) (node_for (nodes_of self.now.placed) (epoch_at self.now.top self.now.placed number)) }
@@ -67,7 +67,7 @@ impl Nodes {
         Some(self.at(number - 1).parent)
     }
 
-    // The renaming that opened the epoch with a number, which the topmost one hasn't.
+    // The renaming that opened the epoch with a number, or `None` for the topmost one.
     pub(crate) fn renaming_at(&self, number: usize) -> Option<&Renaming>
         requires within { number ≤ length self.now.placed }
         ensures renaming { option_copied result ≡ option_map (λ node. node.renaming) (node_for (nodes_of self.now.placed) (epoch_at self.now.top self.now.placed number)) }

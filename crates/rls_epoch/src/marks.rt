@@ -52,7 +52,7 @@ impl Nodes {
         last_marked(marks, number)
     }
 
-    // Marks the parent of a marked epoch, and answers 1 where it was marked already, else 0.
+    // Marks the parent of a marked epoch, and answers 1 if it was marked already, else 0.
     fn mark_up(&self, marks: &mut [usize], number: usize) -> usize
         requires some { 0 < number }
         requires within { number ≤ length self.now.placed }

@@ -1,4 +1,4 @@
-//! A topmost epoch and the nodes below it, of which the latest stands last.
+//! A topmost epoch and the nodes below it, of which the latest is the last.
 
 ghost use Rattle.std.specs.Prelude.{◌≡◌, ℕ, ◌-◌, ◌^◌, ◌≤◌, ◌<◌, slice_get, ◌∷◌, [], ◌++◌, Some, IfOk, IfSome, IfNone, OnOk, IsTrue, IsFalse, false, length};
 ghost use Rattle.rls_ident.specs.Lists.{IsIn};
@@ -153,7 +153,7 @@ impl Nodes {
         low
     }
 
-    // The number of an epoch, where it is kept. It costs a comparison of names for each halving of the nodes.
+    // The number of an epoch, if it is kept. It costs a comparison of names for each halving of the nodes.
     pub(crate) fn find(&self, by_name: &[usize], name: EpochName) -> Option<usize>
         requires sorted { AreSorted name_cmp self.now.placed by_name.now }
         ensures some { IfSome result (λ n. name_at self.now.top self.now.placed n ≡ Some name) }

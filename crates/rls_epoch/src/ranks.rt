@@ -1,5 +1,5 @@
 //! Ranks: the places of the epochs in increasing order of all of them, in which the topmost one has
-//! place 0. With each node stands the rank of the greatest epoch that its member opened up to it.
+//! place 0. Each node has the rank of the greatest epoch that its member opened up to it.
 
 ghost use Rattle.std.specs.Prelude.{◌≡◌, ℕ, ◌+◌, ◌-◌, ◌^◌, ◌<◌, ◌≤◌, List, suc, length, slice_index, slice_set, IsTrue, IsFalse};
 ghost use Rattle.rls_ident.specs.EpochNames.{is_of_member};
@@ -137,7 +137,7 @@ fn rank_after(rank: usize, at: usize) -> usize
     if rank > at { rank + 1 } else { rank }
 }
 
-// The new ranks after an epoch was put at a place of the order, which has so many places before.
+// The new ranks after an epoch was put at a place of the order, which had `count` places before.
 fn shift_ranks(ranks: &mut [usize], at: usize, count: usize)
     requires most { (k : ℕ) → k < length ranks.old → slice_index ranks.old k ≤ count }
     requires room { count < 2 ^ 64 - 1 }

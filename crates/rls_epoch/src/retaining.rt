@@ -26,7 +26,7 @@ pub struct Retained {
     pub former: u64,
 }
 
-// What is retained where these epochs are needed beside the greatest and those that are at least the
+// What is retained if these epochs are needed beside the greatest and those that are at least the
 // greatest one within the vector.
 pub(crate) fn retained_part(
     nodes: &Nodes,
