@@ -7,7 +7,7 @@ use Rattle.std.proofs.lemmas.Option.{slice_get-get_or, slice_get-map}
 use Rattle.rls_ident.specs.declared.epoch_name.EpochName.{EpochName}
 use Rattle.rls_ident.specs.EpochNames.{name_eq}
 use Rattle.rls_ident.specs.Lists.{IsIn}
-use Rattle.rls_ident.proofs.Members.{map_in, not_true, some_is}
+use Rattle.rls_ident.proofs.Members.{map_in, not_true}
 use Rattle.rls_ident.proofs.Named.{name_eq_is, name_eq_refl}
 use Rattle.rls_rename.specs.Tree.{Node, name_of, is_of, has_node, AreNodes, AreBelow, epoch_cmp, names}
 use Rattle.rls_rename.proofs.SameNodes.{node_named}
@@ -117,7 +117,3 @@ parent_found top ps l n o h w e = ap Some e ∙ (ap (option_map (λ (f : EpochNa
 -- the whole tree, by the places in its order
 pub rising_named : (top : EpochName) (ps : List Placed) → AreLaid top ps → (order : List ℕ) → AreSorted (epoch_cmp (nodes_of ps)) ps order → (i n : ℕ) → slice_get (0 ∷ map suc order) i ≡ Some n → slice_get (rising_epochs (record { top = top; nodes = nodes_of ps })) i ≡ Some (epoch_at top ps n)
 rising_named top ps l order s i n g = ap (λ es. slice_get es i) (rising_is top ps l order s) ∙ number_named top ps order i n g
-
--- what is said of an epoch that was read holds for any that is read there
-pub of_read : {A : Type 0} {o : Option EpochName} {d : EpochName} {x : A} (f : EpochName → A) → o ≡ Some d → x ≡ f d → (e : EpochName) → o ≡ Some e → x ≡ f e
-of_read {d = d} f h g e q = g ∙ ap f (some_is d e (sym h ∙ q))

@@ -128,6 +128,7 @@ impl Epochs {
     }
 
     /// Whether the epoch is kept. It costs a comparison of names for each halving of the nodes.
+    #[tactic(auto, using(crate::proofs::Found::kept_at))]
     pub fn kept(&self, name: EpochName) -> bool
         ensures kept { result ≡ is_kept self.now.epochs.top self.now.epochs.nodes name }
         ensures tree { IsTree self.now.epochs }
@@ -328,8 +329,9 @@ impl Epochs {
         ensures none { IfNone result (i ≡ 0) }
         ensures some { IfSome result (λ p. 0 < i) }
     {
-        self.nodes
-            .renaming_at(number_at(&self.nodes, &self.order, i))
+        let number = number_at(&self.nodes, &self.order, i);
+        let node = self.nodes.node(number)?;
+        Some(&node.renaming)
     }
 
     /// The parent of a kept epoch, or `None` for the topmost one. It takes no memory, and costs a
@@ -338,8 +340,9 @@ impl Epochs {
         requires kept { IsTrue (is_kept self.now.epochs.top self.now.epochs.nodes name) }
         ensures parent { result ≡ option_map (λ node. node.parent) (node_for self.now.epochs.nodes name) }
     {
-        self.nodes
-            .parent_name(self.nodes.number_of(&self.by_name, name))
+        let number = self.nodes.number_of(&self.by_name, name);
+        let node = self.nodes.node(number)?;
+        Some(node.parent)
     }
 
     /// The renaming that opened a kept epoch, or `None` for the topmost one. It takes no memory, and
@@ -348,8 +351,9 @@ impl Epochs {
         requires kept { IsTrue (is_kept self.now.epochs.top self.now.epochs.nodes name) }
         ensures renaming { option_copied result ≡ option_map (λ node. node.renaming) (node_for self.now.epochs.nodes name) }
     {
-        self.nodes
-            .renaming_at(self.nodes.number_of(&self.by_name, name))
+        let number = self.nodes.number_of(&self.by_name, name);
+        let node = self.nodes.node(number)?;
+        Some(&node.renaming)
     }
 
     /// The number of epochs, the topmost one among them.

@@ -4,12 +4,11 @@ ghost use Rattle.std.specs.Prelude.{◌≡◌, suc, ◌≤◌, ◌<◌, ◌∷�
 ghost use Rattle.std.specs.Option.{option_copied, option_map};
 ghost use Rattle.rls_rename.specs.Tree.{epoch_cmp};
 ghost use Rattle.rls_epoch.specs.Links.{epoch_at};
-ghost use Rattle.rls_epoch.specs.Seen.{node_for, nodes_of, rising_epochs};
+ghost use Rattle.rls_epoch.specs.Seen.{node_for, node_of, nodes_of, rising_epochs};
 ghost use Rattle.rls_epoch.specs.Sorted.{names_at, AreSorted};
 
 use crate::nodes::Nodes;
-use rls_ident::EpochName;
-use rls_rename::Renaming;
+use crate::placed::Placed;
 
 // The number of the epoch at a place of the order.
 pub(crate) fn number_at(nodes: &Nodes, order: &[usize], i: u64) -> usize
@@ -55,22 +54,10 @@ pub(crate) fn parent_place(nodes: &Nodes, order: &[usize], number: usize) -> Opt
 }
 
 impl Nodes {
-    // The parent of the epoch with a number, or `None` for the topmost one.
-    pub(crate) fn parent_name(&self, number: usize) -> Option<EpochName>
+    // The node of the epoch with a number, or `None` for the topmost one.
+    pub(crate) fn node(&self, number: usize) -> Option<&Placed>
         requires within { number ≤ length self.now.placed }
-        ensures parent { result ≡ option_map (λ node. node.parent) (node_for (nodes_of self.now.placed) (epoch_at self.now.top self.now.placed number)) }
-    {
-        let _count = self.count();
-        if number == 0 {
-            return None;
-        }
-        Some(self.at(number - 1).parent)
-    }
-
-    // The renaming that opened the epoch with a number, or `None` for the topmost one.
-    pub(crate) fn renaming_at(&self, number: usize) -> Option<&Renaming>
-        requires within { number ≤ length self.now.placed }
-        ensures renaming { option_copied result ≡ option_map (λ node. node.renaming) (node_for (nodes_of self.now.placed) (epoch_at self.now.top self.now.placed number)) }
+        ensures node { option_map node_of (option_copied result) ≡ node_for (nodes_of self.now.placed) (epoch_at self.now.top self.now.placed number) }
         ensures none { IfNone result (number ≡ 0) }
         ensures some { IfSome result (λ p. 0 < number) }
     {
@@ -78,6 +65,6 @@ impl Nodes {
         if number == 0 {
             return None;
         }
-        Some(&self.at(number - 1).renaming)
+        Some(self.at(number - 1))
     }
 }
