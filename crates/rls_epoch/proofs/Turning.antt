@@ -2,7 +2,7 @@
 use Rattle.std.proofs.Common.{◌≡◌, ℕ, zero, suc, ◌+◌, ◌<◌, ◌≤◌, List, [], ◌∷◌, ◌++◌, Some, map, length, get_or, take, drop, reverse, refl, sym, ap, ◌∙◌, arith}
 use Rattle.std.specs.Prelude.{pos, slice_get}
 use Rattle.std.proofs.lemmas.Int.{ints}
-use Rattle.std.proofs.lemmas.List.{drop_more, take-append-drop, length-take, reverse-append, reverse-reverse, length-reverse}
+use Rattle.std.proofs.lemmas.List.{take-append-drop, length-take, reverse-append, reverse-reverse, length-reverse}
 use Rattle.rls_ident.specs.declared.tuple.Tuple.{Tuple}
 use Rattle.rls_ident.specs.Identifiers.{shifted}
 use Rattle.rls_ident.proofs.Shifted.{shifted_shifted, shifted_none}
@@ -12,7 +12,7 @@ use Rattle.rls_rename.proofs.Stretches.{prefixed_goes}
 use Rattle.rls_runs.specs.Runs.{run_idents}
 use Rattle.rls_epoch.specs.declared.placed.Placed.{Placed}
 use Rattle.rls_epoch.specs.declared.ways.Step.{Step}
-use Rattle.rls_epoch.specs.declared.ways.Step.TheVariants.{Back, Forward}
+use Rattle.rls_epoch.specs.declared.ways.Step.TheVariants.{Forward}
 use Rattle.rls_epoch.specs.Heads.{Moves, IsAhead}
 use Rattle.rls_epoch.specs.Ways.{AreWithin, place_of_step, step_map, led}
 use Rattle.rls_epoch.proofs.Moving.{map_step}
@@ -34,11 +34,6 @@ head_moves ps s rest front h z l e r k =
     let new : reverse (rest ++ reverse z) ≡ z ++ x = reverse-append rest (reverse z) ∙ ap (λ t. t ++ x) (reverse-reverse z) in
     ap (λ t. step_map ps s (shifted (pos k) t)) old
     ∙ (ap (step_map ps s) (sym (shifted_after h x k some)) ∙ (r (shifted (pos k) x) ∙ (shifted_after z x k some ∙ ap (shifted (pos k)) (sym new))))
-
--- one more step
-pub ahead_more : (ps : List Placed) (steps : List Step) (x y z : List Tuple) (n : ℕ) → n < length steps → IsAhead ps steps x n y → Moves ps (get_or steps n (Back 0)) y z → IsAhead ps steps x (n + 1) z
-ahead_more ps steps x y z n l a m k =
-    ap (led ps (drop (n + 1) steps)) (sym (m k)) ∙ (ap (λ (ss : List Step). led ps ss (shifted (pos k) y)) (sym (drop_more steps n (Back 0) l)) ∙ a k)
 
 twice : (x : List Tuple) (k : ℕ) → shifted (pos k) (shifted (pos 1) x) ≡ shifted (pos (suc k)) x
 twice x k = shifted_shifted (pos k) (pos 1) x ∙ ap (λ j. shifted j x) (omega (arith, ints))
