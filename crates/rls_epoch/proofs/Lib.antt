@@ -24,3 +24,4 @@ pub mod Parting
 pub mod Indices
 pub mod Ranking
 pub mod Looking
+pub mod KnownRuns

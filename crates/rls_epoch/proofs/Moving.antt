@@ -43,7 +43,7 @@ next_above (x ∷ []) y ys h = and_left (ident_lt x y) (is_increasing (y ∷ ys)
 next_above (x ∷ (z ∷ xs)) y ys h = next_above (z ∷ xs) y ys (and_right (ident_lt x z) (is_increasing (z ∷ (xs ++ y ∷ ys))) h)
 
 -- a run begins with its first identifier
-run_begins : (x : List Tuple) (n : ℕ) → 0 < n → (rest : List (List Tuple)) × (run_idents x n ≡ x ∷ rest)
+pub run_begins : (x : List Tuple) (n : ℕ) → 0 < n → (rest : List (List Tuple)) × (run_idents x n ≡ x ∷ rest)
 run_begins x zero h = absurd (omega arith)
 run_begins x (suc n) h = (_, refl)
 

@@ -8,3 +8,4 @@ pub mod Ways
 pub mod Heads
 pub mod Parts
 pub mod Ranks
+pub mod KnownRuns

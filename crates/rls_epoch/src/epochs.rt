@@ -27,6 +27,9 @@ use std::alloc::{AllocError, Global};
 use std::cmp::Ordering;
 use std::marker::Model;
 
+// The fewest steps of a way for which images are kept. A single one is as quick without them.
+const FEWEST_STEPS: usize = 2;
+
 /// A topmost epoch and the nodes below it, some of which are marked. The earliest node comes first.
 #[derive(Drop)]
 pub struct Epochs {
@@ -231,7 +234,8 @@ impl Epochs {
     }
 
     /// A strictly increasing list of identifiers of the one epoch in the other. It costs the renaming
-    /// of whole runs for each epoch on the way.
+    /// of whole runs for each epoch on the way, or where the images of all are known a search for each
+    /// run.
     pub fn translate_runs(
         &self,
         from: EpochName,
@@ -243,8 +247,30 @@ impl Epochs {
         ensures translated { IfOk result (λ xs. xs ≡ map (translate self.now.epochs.nodes from to) ids.now) }
     {
         let _total = ids.total();
+        if let Some(images) = self.nodes.known_images(from, to, ids)? {
+            return Ok(images);
+        }
         let steps = self.nodes.way_between(&self.by_name, from, to)?;
         self.nodes.runs_led(&steps, ids)
+    }
+
+    /// Makes ready for translations of such lists. The first identifier whose image isn't known is led
+    /// along the way with those beside it that are former ones wherever it is one. Then their images
+    /// are known until an epoch is added or dropped, or it is prepared for another second epoch. It
+    /// costs a few renamings for each epoch on the way, or where all is known a search for each run.
+    pub fn prepare(&mut self, from: EpochName, to: EpochName, ids: &Runs) -> Result<(), AllocError>
+        requires from { IsTrue (is_kept self.old.epochs.top self.old.epochs.nodes from) }
+        requires to { IsTrue (is_kept self.old.epochs.top self.old.epochs.nodes to) }
+        ensures same { self.new ≡ self.old }
+    {
+        let Some(id) = self.nodes.first_unknown(from, to, ids)? else {
+            return Ok(());
+        };
+        let steps = self.nodes.way_between(&self.by_name, from, to)?;
+        if steps.len() < FEWEST_STEPS {
+            return Ok(());
+        }
+        self.nodes.learn(&steps, from, to, &id)
     }
 
     /// Takes all marks away. It takes no memory.

@@ -102,6 +102,7 @@ impl Nodes {
     {
         self.top = self.epoch_of(number);
         keep_nodes(&mut self.list, marks);
+        self.known.clear();
     }
 
     // The epochs at these places whose marks are greater than 1, after the topmost one.

@@ -9,6 +9,8 @@ mod greatest;
 mod heads;
 mod images;
 mod keeping;
+mod known;
+mod learning;
 mod listing;
 mod marks;
 mod nodes;

@@ -9,6 +9,7 @@ ghost use Rattle.rls_epoch.specs.Seen.{nodes_of, AreLaid};
 ghost use Rattle.rls_epoch.specs.Sorted.{names_at, place_name, AreSorted, IsCut};
 
 use crate::climb::compare_names;
+use crate::known::KnownImages;
 use crate::placed::Placed;
 use rls_ident::EpochName;
 use std::alloc::{AllocError, Global};
@@ -21,17 +22,20 @@ use std::marker::Model;
 pub(crate) struct Nodes {
     pub(crate) top: EpochName,
     pub(crate) list: Vec<Placed>,
+    // images in one of the epochs that are known
+    pub(crate) known: KnownImages,
 }
 
 impl Model for Nodes {
     ghost use Rattle.std.specs.Prelude.{◌-◌, length, vec_capacity};
-    ghost use Rattle.rls_epoch.specs.Seen.{NodesSeen, AreLaid};
+    ghost use Rattle.rls_epoch.specs.KnownRuns.{AreKnown};
+    ghost use Rattle.rls_epoch.specs.Seen.{NodesSeen, AreLaid, nodes_of};
 
     ghost Value = { NodesSeen };
 
     ghost view = { λ a. record { top = a.top; placed = a.list.items; spare = vec_capacity a.list - length a.list.items } };
 
-    ghost invariant = { λ a. AreLaid a.top a.list.items };
+    ghost invariant = { λ a. AreLaid a.top a.list.items × AreKnown (nodes_of a.list.items) a.known };
 }
 
 impl Nodes {
@@ -43,6 +47,7 @@ impl Nodes {
         Nodes {
             top,
             list: Vec::new(alloc),
+            known: KnownImages::new(alloc, top),
         }
     }
 
@@ -67,6 +72,7 @@ impl Nodes {
     {
         let _total = node.renaming.total();
         self.list.push(node).unwrap();
+        self.known.clear();
     }
 
     pub(crate) fn allocator(&self) -> Global {
@@ -204,6 +210,7 @@ impl Nodes {
         Ok(Nodes {
             top: self.top,
             list,
+            known: KnownImages::new(self.allocator(), self.top),
         })
     }
 }

@@ -79,7 +79,7 @@ impl Nodes {
 
     // An identifier one step on.
     #[tactic(auto, using(crate::proofs::Steps::back_step, crate::proofs::Steps::forward_step))]
-    fn ident_moved(&self, step: Step, id: &Ident) -> Result<Ident, AllocError>
+    pub(crate) fn ident_moved(&self, step: Step, id: &Ident) -> Result<Ident, AllocError>
         requires within { place_of_step step < length self.now.placed }
         ensures moved { IfOk result (λ x. x ≡ step_map self.now.placed step id.now) }
     {

@@ -1,6 +1,7 @@
 use Rattle.std.proofs.Common.{rules, ◌≡◌, [], ◌∷◌, ◌++◌, sym, subst}
-use Rattle.rls_epoch.specs.Seen.{AreLaid}
+use Rattle.rls_epoch.specs.Seen.{AreLaid, nodes_of}
 use Rattle.rls_epoch.proofs.Found.{kept_at}
+use Rattle.rls_epoch.proofs.KnownRuns.{none_known}
 use Rattle.rls_epoch.proofs.Whole.{laid_more}
 use Rattle.rls_epoch.proofs.nodes.Nodes.push.Goals as goal
 
@@ -13,4 +14,5 @@ invariant_of-self c =
     let up = rw (← c.self.view_is) at c.requires.up in
     let within = rw (← c.self.view_is) at c.requires.within in
     let fresh = rw (← c.self.view_is) at c.requires.fresh in
-    subst (AreLaid top) (sym pushed) (laid_more top ps p c.self.invariant within up c.total-total.ensures.former fresh (kept_at top ps p.up p.parent up))
+    let laid = subst (AreLaid top) (sym pushed) (laid_more top ps p c.self.invariant.0 within up c.total-total.ensures.former fresh (kept_at top ps p.up p.parent up)) in
+    (laid, none_known (nodes_of c.push.new.self.items) c.clear.new.self c.clear.ensures.none)

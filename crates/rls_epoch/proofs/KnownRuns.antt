@@ -1,0 +1,103 @@
+-- Known images, and those of parts of their runs.
+use Rattle.std.proofs.Common.{◌≡◌, ℕ, ◌+◌, ◌-◌, ◌<◌, ◌≤◌, List, [], ◌∷◌, ◌++◌, map, length, get_or, take, drop, true, pos, Ok, sym, ap, ◌∙◌, subst, append_assoc, length-append, arith}
+use Rattle.std.specs.List.{drop-map, take-map}
+use Rattle.std.proofs.lemmas.List.{append-nil, drop-append-le, length-map, map-append, take-append-le, take_all}
+use Rattle.std.proofs.lemmas.List.Elements.{All-nil, All-same}
+use Rattle.std.proofs.Math.ListN.{drop_of_length-le}
+use Rattle.rls_ident.specs.declared.tuple.Tuple.{Tuple}
+use Rattle.rls_ident.specs.Identifiers.{shifted}
+use Rattle.rls_ident.proofs.Members.{some_is}
+use Rattle.rls_rename.specs.Tree.{Node}
+use Rattle.rls_rename.proofs.GapPlaces.{gap_there, gap_within}
+use Rattle.rls_runs.specs.Places.{last_ident, is_above}
+use Rattle.rls_runs.specs.Runs.{run_idents, is_increasing, place_of, IsImage}
+use Rattle.rls_runs.proofs.Finding.{run_length}
+use Rattle.rls_runs.proofs.RunJoins.{run_longer}
+use Rattle.rls_runs.proofs.RunOrder.{run_gets}
+use Rattle.rls_epoch.specs.declared.known.KnownImages.{KnownImages}
+use Rattle.rls_epoch.specs.KnownRuns.{IsKnown, AreKnown}
+use Rattle.rls_epoch.proofs.Moving.{next_above, run_begins}
+
+-- ---- parts of runs
+
+front_dropped : (xs ys : List (List Tuple)) (k : ℕ) → length xs ≡ k → drop k (xs ++ ys) ≡ ys
+front_dropped xs ys k e = drop-append-le k xs ys (omega arith) ∙ ap (λ zs. zs ++ ys) (drop_of_length-le xs (let h : length xs ≤ k = omega arith in h))
+
+front_taken : (xs ys : List (List Tuple)) (k : ℕ) → length xs ≡ k → take k (xs ++ ys) ≡ xs
+front_taken xs ys k e = take-append-le k xs ys (omega arith) ∙ take_all k xs (omega arith)
+
+part_of_run : (x : List Tuple) (n k m : ℕ) → k + m ≤ n → take m (drop k (run_idents x n)) ≡ run_idents (shifted (pos k) x) m
+part_of_run x n k m h =
+    let z = shifted (pos k) x in
+    let A = run_idents x k in
+    let B = run_idents z m in
+    let C = run_idents (shifted (pos m) z) (n - (k + m)) in
+    let p : n ≡ k + (m + (n - (k + m))) = omega arith in
+    let e : run_idents x n ≡ A ++ (B ++ C) = ap (run_idents x) p ∙ (run_longer x k (m + (n - (k + m))) ∙ ap (λ ys. A ++ ys) (run_longer z m (n - (k + m)))) in
+    ap (λ ys. take m (drop k ys)) e
+    ∙ (ap (take m) (front_dropped A (B ++ C) k (run_length x k)) ∙ front_taken B C m (run_length z m))
+
+-- ---- their images
+
+-- a run and its image have one length
+pub image_length : (f : List Tuple → List Tuple) (x y : List Tuple) (n m : ℕ) → run_idents y m ≡ map f (run_idents x n) → m ≡ n
+image_length f x y n m e = sym (run_length y m) ∙ (ap length e ∙ (length-map (run_idents x n) f ∙ run_length x n))
+
+-- the image of a part
+pub image_part : (f : List Tuple → List Tuple) (x y : List Tuple) (n m k l : ℕ) → run_idents y m ≡ map f (run_idents x n) → k + l ≤ n → run_idents (shifted (pos k) y) l ≡ map f (run_idents (shifted (pos k) x) l)
+image_part f x y n m k l e h =
+    let q = image_length f x y n m e in
+    sym (part_of_run y m k l (omega arith))
+    ∙ (ap (λ ys. take l (drop k ys)) e
+    ∙ (ap (take l) (drop-map f k (run_idents x n))
+    ∙ (take-map f l (drop k (run_idents x n)) ∙ ap (map f) (part_of_run x n k l h))))
+
+-- ---- the place of an identifier in a run
+
+pub place_within : (x y : List Tuple) (n k : ℕ) → place_of y (run_idents x n) ≡ Ok k → k < n
+place_within x y n k e = let l = gap_within (run_idents x n) y k e in let m = run_length x n in omega arith
+
+pub place_is : (x y : List Tuple) (n k : ℕ) → place_of y (run_idents x n) ≡ Ok k → y ≡ shifted (pos k) x
+place_is x y n k e = some_is y (shifted (pos k) x) (sym (gap_there (run_idents x n) y k e) ∙ run_gets x n k (place_within x y n k e))
+
+-- ---- the image of a run, part by part
+
+-- up to the end of the next part
+pub image_parts : (f : List Tuple → List Tuple) (xs : List (List Tuple)) (x y : List Tuple) (k m : ℕ) → run_idents y m ≡ map f (run_idents (shifted (pos k) x) m) → (xs ++ map f (run_idents x k)) ++ run_idents y m ≡ xs ++ map f (run_idents x (k + m))
+image_parts f xs x y k m e =
+    let A = run_idents x k in
+    let B = run_idents (shifted (pos k) x) m in
+    append_assoc xs (map f A) (run_idents y m)
+    ∙ ap (λ ys. xs ++ ys) (ap (λ ys. map f A ++ ys) e ∙ (sym (map-append f A B) ∙ ap (map f) (sym (run_longer x k m))))
+
+-- the next part is above those before it
+pub part_above : (f : List Tuple → List Tuple) (xs : List (List Tuple)) (x y : List Tuple) (n k m : ℕ) → k + m ≤ n → 0 < m → run_idents y m ≡ map f (run_idents (shifted (pos k) x) m) → is_increasing (xs ++ map f (run_idents x n)) ≡ true → is_above (last_ident (xs ++ map f (run_idents x k))) y ≡ true
+part_above f xs x y n k m h some e up =
+    let b = run_begins y m some in
+    let front = xs ++ map f (run_idents x k) in
+    let r = n - (k + m) in
+    let C = run_idents (shifted (pos (k + m)) x) r in
+    let p : n ≡ (k + m) + r = omega arith in
+    let q : xs ++ map f (run_idents x n) ≡ front ++ (y ∷ (b.0 ++ map f C)) =
+    ap (λ j. xs ++ map f (run_idents x j)) p
+    ∙ (ap (λ ys. xs ++ map f ys) (run_longer x (k + m) r)
+    ∙ (ap (λ ys. xs ++ ys) (map-append f (run_idents x (k + m)) C)
+    ∙ (sym (append_assoc xs (map f (run_idents x (k + m))) (map f C))
+    ∙ (ap (λ ys. ys ++ map f C) (sym (image_parts f xs x y k m e))
+    ∙ (append_assoc front (run_idents y m) (map f C) ∙ ap (λ ys. front ++ (ys ++ map f C)) b.1))))) in
+    next_above front y (b.0 ++ map f C) (subst (λ ys. is_increasing ys ≡ true) q up)
+
+pub image_count : (f : List Tuple → List Tuple) (xs : List (List Tuple)) (x : List Tuple) (k : ℕ) → length (xs ++ map f (run_idents x k)) ≡ length xs + k
+image_count f xs x k = omega (arith, length-append xs (map f (run_idents x k)), length-map (run_idents x k) f, run_length x k)
+
+-- ---- a run alone
+
+pub alone_image : (f : List Tuple → List Tuple) (run image : List Tuple × ℕ) (rs : List (List Tuple × ℕ)) → IsImage f run rs → 0 < length rs → length rs < 2 → image ≡ get_or rs 0 image → run_idents image.0 image.1 ≡ map f (run_idents run.0 run.1)
+alone_image f run image [] i h l g = absurd (omega arith)
+alone_image f run image (r ∷ []) i h l g = subst (λ (q : List Tuple × ℕ). run_idents q.0 q.1 ≡ map f (run_idents run.0 run.1)) (sym g) (sym (append-nil (run_idents r.0 r.1)) ∙ i.idents)
+alone_image f run image (r ∷ (s ∷ rs)) i h l g = absurd (omega arith)
+
+-- ---- tables
+
+pub none_known : (nodes : List Node) (t : KnownImages) → t.known.items ≡ [] → AreKnown nodes t
+none_known nodes t e = All-same (λ k. IsKnown nodes t.to k.value) t.known.items [] e (All-nil (λ k. IsKnown nodes t.to k.value))
