@@ -144,8 +144,8 @@ impl Replica {
         op.seq <= self.acks.stable().get(op.author)
     }
 
-    // How many targets from a place on, within their run, the operation names that a hint tells. It tries one, two, four and so on, up
-    // to the number that the hint tells, since those that follow may be elsewhere in the operation's epoch.
+    // How many targets from a place on, within their run, the operation names that a hint tells. If it is of another epoch, those that
+    // follow may be elsewhere there: so it tries one, two, four and so on, up to the number that the hint tells.
     fn names_run(
         &self,
         hint: Hint,
@@ -162,6 +162,9 @@ impl Replica {
         let op = self.log.op(hint.place);
         let (run, from) = targets.locate(at);
         let most = hint.count.min(run.len() - from);
+        if op.epoch.same(&epoch) {
+            return self.names_count(op, epoch, targets, at, most);
+        }
         let mut named = 0;
         for doublings in 0..32u32 {
             let count = most.min(1 << doublings);

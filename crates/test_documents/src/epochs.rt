@@ -10,6 +10,7 @@ use crate::spelling::{Spelled, are, list_of, run_of};
 use rls_epoch::Epochs;
 use rls_ident::{EpochName, Ident, Tuple, Vector};
 use rls_rename::Renaming;
+use rls_runs::Runs;
 use std::alloc::Global;
 use std::cmp::Ordering;
 use std::test::Fail;
@@ -139,6 +140,81 @@ fn long_runs_are_translated_at_once(rt: HostRuntime) -> Result<(), Fail> {
     assert!(rt; run_moves(alloc, &epochs, up, (&new, long), &[(&old, long)])?);
     assert!(rt; list_moves(alloc, &epochs, down, (&old, long), (&new, long))?);
     assert!(rt; list_moves(alloc, &epochs, up, (&new, long), (&old, long))?);
+    Ok(())
+}
+
+/// Whether these are the same identifiers.
+fn same_lists(ids: &Runs, others: &Runs) -> bool {
+    if ids.run_count() != others.run_count() {
+        return false;
+    }
+    let mut pairs = ids.as_slice().iter().zip(others.as_slice().iter());
+    pairs.all(|(run, other)| {
+        run.len() == other.len() && run.first().compare(other.first()) == Ordering::Equal
+    })
+}
+
+/// Whether a list is the same in the other epoch before and after the tree was prepared for it.
+fn moves_again(epochs: &mut Epochs, way: (EpochName, EpochName), ids: &Runs) -> Result<bool, Fail> {
+    if !epochs.kept(way.0) || !epochs.kept(way.1) {
+        return Ok(false);
+    }
+    let unprepared = epochs.copy()?;
+    if !unprepared.kept(way.0) || !unprepared.kept(way.1) {
+        return Ok(false);
+    }
+    let before = unprepared.translate_runs(way.0, way.1, ids)?;
+    epochs.prepare(way.0, way.1, ids)?;
+    if !epochs.kept(way.0) || !epochs.kept(way.1) {
+        return Ok(false);
+    }
+    let after = epochs.translate_runs(way.0, way.1, ids)?;
+    Ok(same_lists(&before, &after))
+}
+
+#[test]
+fn known_images_are_found(rt: HostRuntime) -> Result<(), Fail> {
+    let alloc = rt.alloc();
+    let mut epochs = tree(alloc)?;
+    let origin = EpochName::Origin;
+    // An identifier, those beside it, all of them, one that isn't a former one, and all of these.
+    let steps = [(3, 1), (0, 2), (0, 5), (7, 1), (4, 2)];
+    for (offset, len) in steps {
+        let ids = list_of(alloc, (&[tuple(1, offset)], len))?;
+        assert!(rt; moves_again(&mut epochs, (origin, SECOND), &ids)?);
+    }
+    // Back again, and to an epoch that is one step away.
+    for (offset, len) in steps {
+        let ids = list_of(alloc, (&[tuple(3, offset)], len))?;
+        assert!(rt; moves_again(&mut epochs, (SECOND, origin), &ids)?);
+        assert!(rt; moves_again(&mut epochs, (SECOND, FIRST), &ids)?);
+    }
+    // One more epoch.
+    let ids = list_of(alloc, (&[tuple(1, 1)], 3))?;
+    assert!(rt; moves_again(&mut epochs, (origin, SECOND), &ids)?);
+    epochs.reserve()?;
+    epochs.add(0, 4, SECOND, renaming(alloc, 4)?);
+    let third = EpochName::Of { replica: 0, seq: 4 };
+    assert!(rt;
+        list_moves(
+            alloc,
+            &epochs,
+            (origin, third),
+            (&[tuple(1, 1)], 3),
+            (&[tuple(4, 1)], 3)
+        )?
+    );
+    assert!(rt; moves_again(&mut epochs, (origin, third), &ids)?);
+    assert!(rt; moves_again(&mut epochs, (origin, third), &ids)?);
+    assert!(rt;
+        list_moves(
+            alloc,
+            &epochs,
+            (origin, third),
+            (&[tuple(1, 2)], 2),
+            (&[tuple(4, 2)], 2)
+        )?
+    );
     Ok(())
 }
 

@@ -6,11 +6,14 @@ use Rattle.rls_replica.proofs.SameEpoch.{unmoved}
 use Rattle.rls_rename.proofs.Kept.{greatest_kept}
 use Rattle.rls_replica.proofs.applying.delete.Goals as goal
 
+pub prepare-requires-clause-to : goal.prepare-requires-clause-to
+prepare-requires-clause-to c = rw c.greatest-greatest.ensures.greatest (greatest_kept c.args.epochs.now.epochs.top c.args.epochs.now.epochs.nodes)
+
 pub translate_runs-requires-clause-to : goal.translate_runs-requires-clause-to
-translate_runs-requires-clause-to c = rw c.greatest-2.ensures.greatest (greatest_kept c.args.epochs.now.epochs.top c.args.epochs.now.epochs.nodes)
+translate_runs-requires-clause-to c = rw (c.in_ok-prepare.ensures.same, c.greatest-greatest.ensures.greatest) (greatest_kept c.args.epochs.now.epochs.top c.args.epochs.now.epochs.nodes)
 
 pub returns-then-same-clause-ok : goal.returns-then-same-clause-ok
 returns-then-same-clause-ok c =
     let E = c.args.epochs.now.epochs in
-    let same = name_eq_is c.args.epoch c.greatest.result (sym c.same.ensures.same ∙ c.if-same.true) ∙ c.greatest.ensures.greatest in
+    let same = name_eq_is c.args.epoch c.greatest-greatest.result (sym c.same.ensures.same ∙ c.if-same.true) ∙ c.greatest-greatest.ensures.greatest in
     c.in_ok-_removed.ensures.ok ∙ ap (λ xs. without_all xs (entries_of c.args.document.now.blocks)) (sym (unmoved E.nodes c.args.epoch _ c.args.targets.now same))
