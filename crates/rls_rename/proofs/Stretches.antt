@@ -1,5 +1,5 @@
 -- Fronts of runs: where a pattern or an identifier cuts a run, and maps that take a front along.
-use Rattle.std.proofs.Common.{◌≡◌, ℕ, zero, suc, ◌-◌, ◌<◌, ◌≤◌, ◌⊎◌, inl, inr, ⊎_elim, Bool, true, false, cond, List, [], ◌∷◌, ◌++◌, length, drop, Ok, Err, Some, refl, sym, ap, ◌∙◌, subst, arith}
+use Rattle.std.proofs.Common.{◌≡◌, ℕ, zero, suc, ◌-◌, ◌<◌, ◌≤◌, ◌⊎◌, inl, inr, ⊎_elim, Bool, true, false, not, cond, List, [], ◌∷◌, ◌++◌, length, drop, Ok, Err, Some, refl, sym, ap, ◌∙◌, subst, arith}
 use Rattle.std.specs.Prelude.{ℤ, pos}
 use Rattle.std.specs.declared.cmp.Ordering.TheVariants.{Less}
 use Rattle.std.proofs.lemmas.Bool.{cases_lt}
@@ -15,7 +15,7 @@ use Rattle.rls_ident.proofs.Tuples.{tuples}
 use Rattle.rls_runs.specs.Runs.{run_idents, place_of}
 use Rattle.rls_runs.proofs.Finding.{run_length}
 use Rattle.rls_runs.proofs.RunOrder.{run_gets}
-use Rattle.rls_rename.specs.Stretches.{GoesAlong, CutAt}
+use Rattle.rls_rename.specs.Stretches.{GoesAlong, CutAt, OnOneSide}
 use Rattle.rls_rename.proofs.GapPlaces.{gap_above, gap_below, gap_there, gap_most, gap_within}
 
 -- ---- the last offset alone is raised
@@ -116,6 +116,10 @@ module _ (x : List Tuple) (n : ℕ) (limit : List Tuple) (i : IsIdent x) (less :
 pub goes_first : (F : List Tuple → List Tuple) (x : List Tuple) (n : ℕ) (z : List Tuple) (m : ℕ) → 0 < m → GoesAlong F x n z m → z ≡ F x
 goes_first F x n z m l g = sym (shifted_none z) ∙ (sym (g.each 0 l) ∙ ap F (shifted_none x))
 
+-- a map that changes nothing
+pub goes_same : (x : List Tuple) (n : ℕ) → GoesAlong (λ t. t) x n x n
+goes_same x n = record { most = omega arith; each = λ k h. refl }
+
 -- one map and then another
 pub goes_then : (F G : List Tuple → List Tuple) (x : List Tuple) (n : ℕ) (y : List Tuple) (m : ℕ) (z : List Tuple) (l : ℕ) → GoesAlong F x n y m → GoesAlong G y m z l → GoesAlong (λ t. G (F t)) x n z l
 goes_then F G x n y m z l f g =
@@ -127,43 +131,33 @@ goes_then F G x n y m z l f g =
 pub goes_as : (F G : List Tuple → List Tuple) (x : List Tuple) (n m : ℕ) (z : List Tuple) (l : ℕ) → m ≤ n → ((k : ℕ) → k < m → F (shifted (pos k) x) ≡ G (shifted (pos k) x)) → GoesAlong G x m z l → GoesAlong F x n z l
 goes_as F G x n m z l w e g = let b = g.most in record { most = omega arith; each = λ k h. e k (omega arith) ∙ g.each k h }
 
--- a front of x that lies on one side of the pattern
-module _ (p x : List Tuple) (n : ℕ) (y : List Tuple) (m : ℕ) (same : y ≡ x) (most : m ≤ n) (b : Bool) (side : (k : ℕ) → k < m → under tuple_cmp (shifted (pos k) x) p ≡ b) where
-  pub front_side : 0 < m → under tuple_cmp y p ≡ b
-  front_side l = ap (λ t. under tuple_cmp t p) (same ∙ sym (shifted_none x)) ∙ side 0 l
+-- ---- a front on one side of a pattern
 
-  -- on one side each map does one thing
-  pub low_under : b ≡ true → (z : List Tuple) (l : ℕ) → GoesAlong (λ t. p ++ t) y m z l → GoesAlong (low tuple_cmp p) x n z l
-  unfolding low
-  low_under e z l g = goes_as (low tuple_cmp p) (λ t. p ++ t) x n m z l most (λ k h. ap (λ c. cond c (p ++ shifted (pos k) x) (shifted (pos k) x)) (side k h ∙ e)) (subst (λ t. GoesAlong (λ u. p ++ u) t m z l) same g)
+cond_not : (b : Bool) (s t : List Tuple) → cond b s t ≡ cond (not b) t s
+cond_not true s t = refl
+cond_not false s t = refl
 
-  pub high_above : b ≡ false → (z : List Tuple) (l : ℕ) → GoesAlong (λ t. p ++ t) y m z l → GoesAlong (high tuple_cmp p) x n z l
-  unfolding high
-  high_above e z l g = goes_as (high tuple_cmp p) (λ t. p ++ t) x n m z l most (λ k h. ap (λ c. cond c (shifted (pos k) x) (p ++ shifted (pos k) x)) (side k h ∙ e)) (subst (λ t. GoesAlong (λ u. p ++ u) t m z l) same g)
+-- the pattern's side on which it begins
+pub front_side : {p x y : List Tuple} {n m : ℕ} {b : Bool} → OnOneSide p x n b y m → 0 < m → under tuple_cmp y p ≡ b
+front_side {p} {x} o l = ap (λ t. under tuple_cmp t p) (o.first ∙ sym (shifted_none x)) ∙ o.side 0 l
 
-  pub low_inverse_under : b ≡ true → (z : List Tuple) (l : ℕ) → GoesAlong (drop (length p)) y m z l → GoesAlong (low_inverse tuple_cmp p) x n z l
-  unfolding low_inverse
-  low_inverse_under e z l g =
-      goes_as (low_inverse tuple_cmp p) (drop (length p)) x n m z l most (λ k h. ap (λ c. cond c (drop (length p) (shifted (pos k) x)) (shifted (pos k) x)) (side k h ∙ e)) (subst (λ t. GoesAlong (drop (length p)) t m z l) same g)
+-- a map that does one thing on each side
+side_goes : {p x y : List Tuple} {n m : ℕ} {b : Bool} (F : List Tuple → List Tuple) (G : Bool → List Tuple → List Tuple) (z : List Tuple) (l : ℕ) → ((t : List Tuple) → F t ≡ G (under tuple_cmp t p) t) → OnOneSide p x n b y m → GoesAlong (G b) y m z l → GoesAlong F x n z l
+side_goes {p} {x} {y} {n} {m} {b} F G z l e o g =
+    goes_as F (G b) x n m z l o.most (λ k h. e (shifted (pos k) x) ∙ ap (λ c. G c (shifted (pos k) x)) (o.side k h)) (subst (λ t. GoesAlong (G b) t m z l) o.first g)
 
-  pub high_inverse_above : b ≡ false → (z : List Tuple) (l : ℕ) → GoesAlong (drop (length p)) y m z l → GoesAlong (high_inverse tuple_cmp p) x n z l
-  unfolding high_inverse
-  high_inverse_above e z l g =
-      goes_as (high_inverse tuple_cmp p) (drop (length p)) x n m z l most (λ k h. ap (λ c. cond c (shifted (pos k) x) (drop (length p) (shifted (pos k) x))) (side k h ∙ e)) (subst (λ t. GoesAlong (drop (length p)) t m z l) same g)
+pub low_goes : {p x y : List Tuple} {n m : ℕ} {b : Bool} (z : List Tuple) (l : ℕ) → OnOneSide p x n b y m → GoesAlong (λ t. cond b (p ++ t) t) y m z l → GoesAlong (low tuple_cmp p) x n z l
+unfolding low
+low_goes {p} z l o g = side_goes (low tuple_cmp p) (λ c t. cond c (p ++ t) t) z l (λ t. refl) o g
 
-  -- and on the other none
-  pub low_above : b ≡ false → GoesAlong (low tuple_cmp p) x n y m
-  unfolding low
-  low_above e = record { most = most; each = λ k h. ap (λ c. cond c (p ++ shifted (pos k) x) (shifted (pos k) x)) (side k h ∙ e) ∙ ap (shifted (pos k)) (sym same) }
+pub high_goes : {p x y : List Tuple} {n m : ℕ} {b : Bool} (z : List Tuple) (l : ℕ) → OnOneSide p x n b y m → GoesAlong (λ t. cond (not b) (p ++ t) t) y m z l → GoesAlong (high tuple_cmp p) x n z l
+unfolding high
+high_goes {p} z l o g = side_goes (high tuple_cmp p) (λ c t. cond (not c) (p ++ t) t) z l (λ t. cond_not (under tuple_cmp t p) t (p ++ t)) o g
 
-  pub high_under : b ≡ true → GoesAlong (high tuple_cmp p) x n y m
-  unfolding high
-  high_under e = record { most = most; each = λ k h. ap (λ c. cond c (shifted (pos k) x) (p ++ shifted (pos k) x)) (side k h ∙ e) ∙ ap (shifted (pos k)) (sym same) }
+pub low_inverse_goes : {p x y : List Tuple} {n m : ℕ} {b : Bool} (z : List Tuple) (l : ℕ) → OnOneSide p x n b y m → GoesAlong (λ t. cond b (drop (length p) t) t) y m z l → GoesAlong (low_inverse tuple_cmp p) x n z l
+unfolding low_inverse
+low_inverse_goes {p} z l o g = side_goes (low_inverse tuple_cmp p) (λ c t. cond c (drop (length p) t) t) z l (λ t. refl) o g
 
-  pub low_inverse_above : b ≡ false → GoesAlong (low_inverse tuple_cmp p) x n y m
-  unfolding low_inverse
-  low_inverse_above e = record { most = most; each = λ k h. ap (λ c. cond c (drop (length p) (shifted (pos k) x)) (shifted (pos k) x)) (side k h ∙ e) ∙ ap (shifted (pos k)) (sym same) }
-
-  pub high_inverse_under : b ≡ true → GoesAlong (high_inverse tuple_cmp p) x n y m
-  unfolding high_inverse
-  high_inverse_under e = record { most = most; each = λ k h. ap (λ c. cond c (shifted (pos k) x) (drop (length p) (shifted (pos k) x))) (side k h ∙ e) ∙ ap (shifted (pos k)) (sym same) }
+pub high_inverse_goes : {p x y : List Tuple} {n m : ℕ} {b : Bool} (z : List Tuple) (l : ℕ) → OnOneSide p x n b y m → GoesAlong (λ t. cond (not b) (drop (length p) t) t) y m z l → GoesAlong (high_inverse tuple_cmp p) x n z l
+unfolding high_inverse
+high_inverse_goes {p} z l o g = side_goes (high_inverse tuple_cmp p) (λ c t. cond (not c) (drop (length p) t) t) z l (λ t. cond_not (under tuple_cmp t p) t (drop (length p) t)) o g

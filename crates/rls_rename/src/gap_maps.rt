@@ -67,11 +67,7 @@ pub(crate) fn low(pattern: &[Tuple], y: Stretch) -> Result<Stretch, AllocError>
     ensures low { IfOk result (λ x. GoesAlong (low tuple_cmp pattern.now) y.first y.len x.first x.len) }
 {
     let (is_under, front) = y.on_one_side(pattern)?;
-    if is_under {
-        front.prefixed(pattern)
-    } else {
-        Ok(front)
-    }
+    front.prefixed_if(is_under, pattern)
 }
 
 // The pattern in front of what isn't under it.
@@ -81,11 +77,7 @@ pub(crate) fn high(pattern: &[Tuple], y: Stretch) -> Result<Stretch, AllocError>
     ensures high { IfOk result (λ x. GoesAlong (high tuple_cmp pattern.now) y.first y.len x.first x.len) }
 {
     let (is_under, front) = y.on_one_side(pattern)?;
-    if is_under {
-        Ok(front)
-    } else {
-        front.prefixed(pattern)
-    }
+    front.prefixed_if(!is_under, pattern)
 }
 
 // What is under the pattern, without it.
@@ -95,11 +87,7 @@ pub(crate) fn low_inverse(pattern: &[Tuple], x: Stretch) -> Result<Stretch, Allo
     ensures low_inverse { IfOk result (λ y. GoesAlong (low_inverse tuple_cmp pattern.now) x.first x.len y.first y.len) }
 {
     let (is_under, front) = x.on_one_side(pattern)?;
-    if is_under {
-        front.stripped(pattern.len())
-    } else {
-        Ok(front)
-    }
+    front.stripped_if(is_under, pattern.len())
 }
 
 // What isn't under the pattern, without it.
@@ -109,11 +97,7 @@ pub(crate) fn high_inverse(pattern: &[Tuple], x: Stretch) -> Result<Stretch, All
     ensures high_inverse { IfOk result (λ y. GoesAlong (high_inverse tuple_cmp pattern.now) x.first x.len y.first y.len) }
 {
     let (is_under, front) = x.on_one_side(pattern)?;
-    if is_under {
-        Ok(front)
-    } else {
-        front.stripped(pattern.len())
-    }
+    front.stripped_if(!is_under, pattern.len())
 }
 
 // The old map below a.

@@ -60,6 +60,7 @@ fn forward_gap(
     requires former { IsFormer former.now }
     requires most { length former.now ≤ IDENTIFIERS }
     requires gap { place_of run.now.0 former.now ≡ Err gap }
+    requires within { gap ≤ length former.now }
     ensures forward { IfOk result (λ z. GoesAlong (forward_by first former.now) run.now.0 run.now.1 z.first z.len) }
 {
     let (total, len) = (former.total(), run.len());
@@ -135,6 +136,7 @@ fn back_gap(
     requires former { IsFormer former.now }
     requires most { length former.now ≤ IDENTIFIERS }
     requires gap { place_of run.now.0 (new_from first 0 former.now) ≡ Err gap }
+    requires within { gap ≤ length former.now }
     ensures back { IfOk result (λ x. GoesAlong (back_by first former.now) run.now.0 run.now.1 x.first x.len) }
 {
     let (total, len) = (former.total(), run.len());

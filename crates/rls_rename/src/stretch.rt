@@ -1,13 +1,13 @@
 //! Fronts of runs, which a map takes along as one.
 
-ghost use Rattle.std.specs.Prelude.{◌≡◌, ℕ, ◌+◌, ◌-◌, ◌<◌, ◌≤◌, ◌++◌, length, drop, pos, ◌+ℤ◌, ◌≤ℤ◌, IfOk, IsTrue};
+ghost use Rattle.std.specs.Prelude.{◌≡◌, ℕ, ◌+◌, ◌-◌, ◌<◌, ◌≤◌, ◌++◌, length, drop, pos, ◌+ℤ◌, ◌≤ℤ◌, true, cond, IfOk, IsTrue};
 ghost use Rattle.std.specs.List.{All};
 ghost use Rattle.std.specs.declared.cmp.Ordering.TheVariants.{Less};
 ghost use Rattle.rls_ident.specs.Tuples.{tuple_cmp, offset_of};
 ghost use Rattle.rls_ident.specs.Maps.{under};
 ghost use Rattle.rls_ident.specs.Identifiers.{ident_cmp, ident_eq, last_of, shifted, is_inner_bounded};
 ghost use Rattle.rls_runs.specs.Runs.{past_offsets};
-ghost use Rattle.rls_rename.specs.Stretches.{GoesAlong, CutAt};
+ghost use Rattle.rls_rename.specs.Stretches.{GoesAlong, CutAt, OnOneSide};
 
 use rls_ident::{Ident, Tuple};
 use rls_runs::Run;
@@ -99,9 +99,7 @@ impl Stretch {
     /// Those from the first one on that lie on its side of the pattern, and whether they are under it.
     pub(crate) fn on_one_side(self, pattern: &[Tuple]) -> Result<(bool, Stretch), AllocError>
         requires pattern { 0 < length pattern.now }
-        ensures first { IfOk result (λ r. r.1.first ≡ self.first) }
-        ensures most { IfOk result (λ r. r.1.len ≤ self.len) }
-        ensures side { IfOk result (λ r. (k : ℕ) → k < r.1.len → under tuple_cmp (shifted (pos k) self.first) pattern.now ≡ r.0) }
+        ensures front { IfOk result (λ r. OnOneSide pattern.now self.first self.len r.0 r.1.first r.1.len) }
     {
         let is_under = self.first.under(pattern);
         let last = self.side_end(pattern, is_under)?;
@@ -146,6 +144,26 @@ impl Stretch {
             first: self.first.prefixed(front)?,
             len: self.len,
         })
+    }
+
+    /// Each after these tuples, or as it is.
+    pub(crate) fn prefixed_if(self, is_put: bool, front: &[Tuple]) -> Result<Stretch, AllocError>
+        requires bounded { All (λ t. IsTrue (is_inner_bounded t)) front.now }
+        ensures put { IfOk result (λ x. GoesAlong (λ y. cond is_put (front.now ++ y) y) self.first self.len x.first x.len) }
+    {
+        if is_put {
+            self.prefixed(front)
+        } else {
+            Ok(self)
+        }
+    }
+
+    /// Each without its first n tuples, or as it is.
+    pub(crate) fn stripped_if(self, is_cut: bool, n: usize) -> Result<Stretch, AllocError>
+        requires rest { is_cut ≡ true → n < length self.first }
+        ensures cut { IfOk result (λ x. GoesAlong (λ y. cond is_cut (drop n y) y) self.first self.len x.first x.len) }
+    {
+        if is_cut { self.stripped(n) } else { Ok(self) }
     }
 
     /// Each without its first n tuples.

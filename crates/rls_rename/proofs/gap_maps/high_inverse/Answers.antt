@@ -1,21 +1,13 @@
 use Rattle.std.proofs.Common.{◌∙◌}
 use Rattle.std.proofs.lemmas.Result.{IfOk-weaker}
-use Rattle.rls_rename.proofs.Stretches.{front_side, high_inverse_above, high_inverse_under}
+use Rattle.rls_ident.proofs.Members.{not_is}
+use Rattle.rls_rename.proofs.Stretches.{front_side, high_inverse_goes}
 use Rattle.rls_rename.proofs.gap_maps.high_inverse.Goals as goal
 
-pub stripped-requires : goal.stripped-requires
-stripped-requires c =
-    let f = c.in_ok-is_under.front in
-    let side = front_side c.args.pattern.now c.args.x.first c.args.x.len f.first f.len c.in_ok-is_under.ensures.first c.in_ok-is_under.ensures.most c.in_ok-is_under.is_under c.in_ok-is_under.ensures.side f.some ∙ c.if-is_under.false in
-    let same = c.in_ok-is_under.ensures.first in
-    record { rest = rw same (c.requires.longer (rw same at side)) }
+pub stripped_if-requires : goal.stripped_if-requires
+stripped_if-requires c =
+    let o = c.in_ok-is_under.ensures.front in
+    record { rest = λ e. let side = front_side o c.in_ok-is_under.front.some ∙ not_is _ e in rw o.first (c.requires.longer (rw o.first at side)) }
 
-pub returns-then-is_under : goal.returns-then-is_under
-returns-then-is_under c =
-    let f = c.in_ok-is_under.front in
-    record { high_inverse = high_inverse_under c.args.pattern.now c.args.x.first c.args.x.len f.first f.len c.in_ok-is_under.ensures.first c.in_ok-is_under.ensures.most c.in_ok-is_under.is_under c.in_ok-is_under.ensures.side c.if-is_under.true }
-
-pub returns-else-is_under : goal.returns-else-is_under
-returns-else-is_under c =
-    let f = c.in_ok-is_under.front in
-    record { high_inverse = IfOk-weaker c.stripped.result _ _ (λ z g. high_inverse_above c.args.pattern.now c.args.x.first c.args.x.len f.first f.len c.in_ok-is_under.ensures.first c.in_ok-is_under.ensures.most c.in_ok-is_under.is_under c.in_ok-is_under.ensures.side c.if-is_under.false z.first z.len g) c.stripped.ensures.stripped }
+pub returns : goal.returns
+returns c = record { high_inverse = IfOk-weaker c.stripped_if.result _ _ (λ z g. high_inverse_goes z.first z.len c.in_ok-is_under.ensures.front g) c.stripped_if.ensures.cut }

@@ -1,7 +1,7 @@
 use Rattle.std.proofs.Common.{sym, ◌∙◌, arith}
 use Rattle.std.proofs.lemmas.Result.{IfOk-weaker}
 use Rattle.rls_rename.specs.Renaming.{new_from}
-use Rattle.rls_rename.proofs.GapPlaces.{gap_within}
+use Rattle.rls_rename.proofs.GapPlaces.{gap_most, gap_within}
 use Rattle.rls_rename.proofs.GapImages.{new_length, new_place_is}
 use Rattle.rls_rename.proofs.Fronts.{former_back}
 use Rattle.rls_rename.proofs.gaps.back_front.Goals as goal
@@ -12,6 +12,9 @@ former_front-requires-clause-place c =
     let w = gap_within (new_from c.args.first 0 f) c.first.result.now c.in-Ok.i (sym c.in-Ok.ensures.place) in
     let n = new_length c.args.first 0 f in
     omega arith
+
+pub back_gap-requires-clause-within : goal.back_gap-requires-clause-within
+back_gap-requires-clause-within c = rw (sym (new_length c.args.first 0 c.args.former.now)) (gap_most (new_from c.args.first 0 c.args.former.now) c.first.result.now c.in-Err.gap (sym c.in-Err.ensures.place))
 
 pub returns-in-Ok : goal.returns-in-Ok
 returns-in-Ok c =
