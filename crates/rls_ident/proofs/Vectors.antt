@@ -35,9 +35,7 @@ at_most_trans [] v w h k = refl
 at_most_trans (l ∷ ls) [] w h k = absurd (cc)
 at_most_trans (l ∷ ls) (m ∷ ms) [] h k = absurd (cc)
 at_most_trans (l ∷ ls) (m ∷ ms) (n ∷ ns) h k =
-    let a = le_is l m (and_left _ _ h) in
-    let b = le_is m n (and_left _ _ k) in
-    and_true _ _ (le_test l n (omega arith)) (at_most_trans ls ms ns (and_right _ _ h) (and_right _ _ k))
+    and_true _ _ (le_test l n (omega (arith, le_is l m (and_left _ _ h), le_is m n (and_left _ _ k)))) (at_most_trans ls ms ns (and_right _ _ h) (and_right _ _ k))
 
 pub at_most_antisym : (v w : List ℕ) → at_most v w ≡ true → at_most w v ≡ true → v ≡ w
 at_most_antisym [] [] h k = refl
@@ -79,9 +77,7 @@ meet_greatest [] v w h k = refl
 meet_greatest (l ∷ ls) [] w h k = absurd (cc)
 meet_greatest (l ∷ ls) (m ∷ ms) [] h k = absurd (cc)
 meet_greatest (l ∷ ls) (m ∷ ms) (n ∷ ns) h k =
-    let a = le_is l m (and_left _ _ h) in
-    let b = le_is l n (and_left _ _ k) in
-    and_true _ _ (le_test l (min m n) (omega arith)) (meet_greatest ls ms ns (and_right _ _ h) (and_right _ _ k))
+    and_true _ _ (le_test l (min m n) (omega (arith, le_is l m (and_left _ _ h), le_is l n (and_left _ _ k)))) (meet_greatest ls ms ns (and_right _ _ h) (and_right _ _ k))
 
 -- a vector is at most its join with one that is no shorter
 pub at_most-join : (v w : List ℕ) → length v ≤ length w → at_most v (join v w) ≡ true

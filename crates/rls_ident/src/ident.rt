@@ -42,17 +42,6 @@ pub enum IdentError {
     OutOfMemory,
 }
 
-impl From<AllocError> for IdentError {
-    ghost use Rattle.std.specs.Prelude.{◌≡◌};
-    ghost use Rattle.rls_ident.specs.declared.ident.IdentError.TheVariants.{OutOfMemory};
-
-    ghost from_gives = { λ _ e. e ≡ OutOfMemory };
-
-    fn from(_: AllocError) -> IdentError {
-        IdentError::OutOfMemory
-    }
-}
-
 impl Ident {
     /// The identifier with these tuples. The last of them has to be an `At` with an offset from
     /// -1,073,741,824 to 1,073,741,823, and an `At` before it has one from -1,073,741,825 on.
@@ -74,8 +63,11 @@ impl Ident {
                 index: index as u64,
             });
         }
+        let Ok(front) = Vec::from_slice(alloc, front) else {
+            return Err(IdentError::OutOfMemory);
+        };
         Ok(Ident {
-            front: Vec::from_slice(alloc, front)?,
+            front,
             last: last.as_spot(),
         })
     }

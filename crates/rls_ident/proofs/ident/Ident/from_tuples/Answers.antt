@@ -13,4 +13,4 @@ pub invariant_of-result : goal.invariant_of-result
 invariant_of-result c =
     let none : first_fault 0 c.args.tuples.now ≡ None = search rules in
     let both = without_fault c.in-Some.front.now c.in-Some.last.now 0 (rw c.in-Some.ensures.cases.0 at none) in
-    (rw c.in_ok-from_slice.ensures.items both.0, subst (λ (t : Tuple). IsTrue (is_last_bounded t)) (sym c.as_spot.ensures.spot) both.1)
+    (rw c.in-Ok.ensures.items both.0, subst (λ (t : Tuple). IsTrue (is_last_bounded t)) (sym c.as_spot.ensures.spot) both.1)
