@@ -103,12 +103,15 @@ run_parts r h =
 pub run_end : (r : List Tuple × ℕ) → is_run r ≡ true → (offset_of (last_of r.0) +ℤ pos r.1) ≤ℤ past_offsets
 run_end r h = int_le_is (offset_of (last_of r.0) +ℤ pos r.1) past_offsets (run_parts r h).2
 
-pub run_short : (r : List Tuple × ℕ) → is_run r ≡ true → r.1 < 2 ^ 32
-run_short r h =
+pub run_limit : (r : List Tuple × ℕ) → is_run r ≡ true → r.1 ≤ 2 ^ 31
+run_limit r h =
     let p = run_parts r h in
     let least = least_last r.0 p.0 p.1 in
     let end = run_end r h in
     omega (arith, ints)
+
+pub run_short : (r : List Tuple × ℕ) → is_run r ≡ true → r.1 < 2 ^ 32
+run_short r h = omega (arith, run_limit r h)
 
 pub longer_is : (r : List Tuple × ℕ) (y : List Tuple) (m : ℕ) → is_run r ≡ true → is_run (y, m) ≡ true → y ≡ shifted (pos r.1) r.0 → is_run (r.0, r.1 + m) ≡ true
 longer_is r y m h k e =

@@ -8,7 +8,7 @@ use Rattle.std.proofs.lemmas.Option.{slice_get_within, slice_get-get_or, slice_g
 use Rattle.rls_ident.specs.declared.tuple.Tuple.{Tuple}
 use Rattle.rls_ident.specs.Identifiers.{ident_lt, shifted, last_of, greatest_offset}
 use Rattle.rls_ident.specs.Tuples.{offset_of}
-use Rattle.rls_runs.specs.Runs.{place_of, run_idents, idents_of, is_apart, are_apart, run_before, is_run, AreRuns, AreIdents}
+use Rattle.rls_runs.specs.Runs.{place_of, run_idents, idents_of, is_apart, are_apart, run_before, is_run, run_last, AreRuns, AreIdents}
 use Rattle.rls_runs.specs.Entries.{has_ident}
 use Rattle.rls_runs.specs.Places.{below_count, find_ident, last_ident, is_above, touches}
 use Rattle.rls_runs.proofs.Finding.{run_length}
@@ -46,6 +46,9 @@ module _ (rs : List (List Tuple × ℕ)) (starts : List ℕ) (total : ℕ) (a : 
 
   pub sound_get : (k : ℕ) (r : List Tuple × ℕ) → slice_get rs k ≡ Some r → is_run r ≡ true
   sound_get k r g = sound_at (take k rs) r (drop (k + 1) rs) (subst (λ xs. list_all is_run xs ≡ true) (sym (split_at rs k r g)) a.sound)
+
+  pub last_there : (xs : List (List Tuple)) → idents_of rs ≡ xs → (r : List Tuple × ℕ) → slice_get rs (length rs - 1) ≡ Some r → last_ident xs ≡ Some (run_last r)
+  last_there xs e r g = ap last_ident (sym e) ∙ last_run rs r g (sound_get (length rs - 1) r g)
 
   pub fits_total : (k d : ℕ) (r : List Tuple × ℕ) → slice_get rs k ≡ Some r → get_or starts k d + r.1 ≤ total
   fits_total k d r g = let s = start_is k d (slice_get_within rs k r g) in let w = within_total rs k r g in let t = a.total_is in omega arith
@@ -161,9 +164,6 @@ module _ (rs : List (List Tuple × ℕ)) (starts : List ℕ) (total : ℕ) (a : 
   pub placed_short : i - s < 2 ^ 32
   placed_short = let p = placed in let l = run_short r (sound_get rs starts total a k r at_run) in omega arith
 
-  pub placed_fits : (offset_of (last_of r.0) +ℤ pos (i - s)) ≤ℤ greatest_offset
-  placed_fits = let p = placed in let l = run_end r (sound_get rs starts total a k r at_run) in omega (arith, ints)
-
   -- the identifiers from the place on to the end of the run
   pub placed_on : (j : ℕ) → (i - s) + j < r.1 → slice_get (idents_of rs) (i + j) ≡ Some (shifted (pos ((i - s) + j)) r.0)
   placed_on j l =
@@ -171,11 +171,12 @@ module _ (rs : List (List Tuple × ℕ)) (starts : List ℕ) (total : ℕ) (a : 
       let e : (i + j) - s ≡ (i - s) + j = omega arith in
       ident_is rs starts total a k s (i + j) r at_run (omega arith) (omega arith) ∙ ap (λ n. Some (shifted (pos ((i + j) - n)) r.0)) (sym start) ∙ ap (λ n. Some (shifted (pos n) r.0)) e
 
-  pub placed_is : (x : List Tuple) → x ≡ shifted (pos (i - s)) r.0 → slice_get (idents_of rs) i ≡ Some x
-  placed_is x e =
-      let p = placed in
-      let f = ident_is rs starts total a k s i r at_run (omega arith) (omega arith) in
-      f ∙ ap (λ j. Some (shifted (pos (i - j)) r.0)) (sym start) ∙ ap Some (sym e)
+-- the identifier at a place, of the run that holds it
+pub ident_there : (xs : List (List Tuple)) (i : ℕ) (r : List Tuple × ℕ) (place : ℕ) → place < r.1 → ((k : ℕ) → place + k < r.1 → slice_get xs (i + k) ≡ Some (shifted (pos (place + k)) r.0)) → (x : List Tuple) → x ≡ shifted (pos place) r.0 → slice_get xs i ≡ Some x
+ident_there xs i r place l f x e =
+    let m : i ≡ i + 0 = omega arith in
+    let n : place + 0 ≡ place = omega arith in
+    ap (slice_get xs) m ∙ f 0 (omega arith) ∙ ap (λ k. Some (shifted (pos k) r.0)) n ∙ ap Some (sym e)
 
 -- a run that was searched for an identifier
 module _ (rs : List (List Tuple × ℕ)) (starts : List ℕ) (total : ℕ) (a : AreRuns rs starts total) (seen : List (List Tuple × ℕ)) (same : seen ≡ rs) (behind s : ℕ) (r : List Tuple × ℕ) (y : List Tuple) (some : 0 < behind) (within : behind ≤ length seen)

@@ -43,17 +43,6 @@ pub enum PushError {
     OutOfMemory,
 }
 
-impl From<AllocError> for PushError {
-    ghost use Rattle.std.specs.Prelude.{◌≡◌};
-    ghost use Rattle.rls_runs.specs.declared.runs.PushError.TheVariants.{OutOfMemory};
-
-    ghost from_gives = { λ _ e. e ≡ OutOfMemory };
-
-    fn from(_: AllocError) -> PushError {
-        PushError::OutOfMemory
-    }
-}
-
 impl Runs {
     /// The empty list. It takes no memory.
     pub fn new(alloc: Global) -> Runs
@@ -86,8 +75,7 @@ impl Runs {
         if self.touches(run.first()) {
             return Err(PushError::Touching);
         }
-        self.put(run)?;
-        Ok(())
+        self.put(run).map_err(|_| PushError::OutOfMemory)
     }
 
     /// Puts a run above the last identifier after it, and joins the two if they touch.
@@ -148,9 +136,8 @@ impl Runs {
         requires place { i < length self.now }
         ensures found { IfOk result (λ id. slice_get self.now i ≡ Some id) }
     {
-        let k = run_at(&self.starts, i);
-        let run = &self.runs[k];
-        run.first().shifted((i - self.starts[k]) as u32)
+        let (run, place) = self.locate(i);
+        run.first().shifted(place)
     }
 
     /// The maximal run that holds a place, and the place in it. It takes no memory, and costs a
