@@ -120,8 +120,8 @@ IsNeighbour None = Unit {0}
 IsNeighbour (Some x) = IsIdent x
 
 -- the own stem of a tuple
-own_found : (ss : List Stem) (a : ℕ) (t : Tuple) (u : Stem) → own_stem ss a t ≡ Some u → (replica_of t ≡ a) × (stem_of ss a (seq_of t) ≡ Some u)
-own_found ss a t u h = go (replica_of t == a) refl h
+pub own_split : (ss : List Stem) (a : ℕ) (t : Tuple) (u : Stem) → own_stem ss a t ≡ Some u → (replica_of t ≡ a) × (stem_of ss a (seq_of t) ≡ Some u)
+own_split ss a t u h = go (replica_of t == a) refl h
   where
     go : (b : Bool) → (replica_of t == a) ≡ b → (if b then stem_of ss a (seq_of t) else None) ≡ Some u → (replica_of t ≡ a) × (stem_of ss a (seq_of t) ≡ Some u)
     go true e k = (eq_is (replica_of t) a e, k)
@@ -141,7 +141,7 @@ before_began ss a s left (Some x) n h l i = go (own_stem ss a (last_of x)) refl
     go : (o : Option Stem) → own_stem ss a (last_of x) ≡ o → Began ss a s n (if may_prepend o left x n then shifted (pos 0 -ℤ pos n) x else between (or_missing left) x a s)
     go None e = new
     go (Some u) e = pick (may_prepend (Some u) left x n)
-        (λ k. let r = own_found ss a (last_of x) u e in
+        (λ k. let r = own_split ss a (last_of x) u e in
         let b = int_eq (offset_of (last_of x)) u.low in
         let c = int_le least_offset (offset_of (last_of x) -ℤ pos n) in
         prepends ss a s n x h i u r.0 r.1 (int_is (offset_of (last_of x)) u.low (and_left b c (and_left (b && c) (begins_above left (shifted (pos 0 -ℤ pos n) x)) k))))
@@ -160,7 +160,7 @@ began ss a s (Some x) right n h l i j = go (own_stem ss a (last_of x)) refl
     go : (o : Option Stem) → own_stem ss a (last_of x) ≡ o → Began ss a s n (if may_append o x right n then shifted (pos 1) x else first_before ss a s (Some x) right n)
     go None e = rest
     go (Some u) e = pick (may_append (Some u) x right n)
-        (λ k. let r = own_found ss a (last_of x) u e in
+        (λ k. let r = own_split ss a (last_of x) u e in
         let b = int_eq (offset_of (last_of x) +ℤ pos 1) (pos u.next) in
         let c = int_le (offset_of (last_of x) +ℤ pos n) greatest_offset in
         let q = and_left (b && c) (ends_below (shifted (pos n) x) right) k in

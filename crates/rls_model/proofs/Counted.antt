@@ -5,7 +5,7 @@ use Rattle.rls_ident.specs.declared.epoch_name.EpochName.{EpochName}
 use Rattle.rls_ident.specs.declared.epoch_name.EpochName.TheVariants.{Origin}
 use Rattle.rls_ident.specs.EpochNames.{name_eq}
 use Rattle.rls_ident.specs.Lists.{IsIn}
-use Rattle.rls_ident.proofs.Members.{or_right, or_split, and_true, in_left, in_right, in_split, in_filter, filter_in, each_in}
+use Rattle.rls_ident.proofs.Members.{AreOnce, once_filter, or_right, or_split, and_true, in_left, in_right, in_split, in_filter, filter_in, each_in}
 use Rattle.rls_rename.specs.Renaming.{Renaming}
 use Rattle.rls_rename.specs.Tree.{Node, name_of, has_node, is_kept, AreNodes, AreBelow, path}
 use Rattle.rls_rename.specs.Tree as tree
@@ -23,14 +23,9 @@ use Rattle.rls_model.specs.Parts.{node_of}
 use Rattle.rls_model.specs.Retained.{needed, retained, retained_renamings}
 use Rattle.rls_model.proofs.Dropping.{Keeps, needed_over, over_kept, retained_same, retained_kept}
 use Rattle.rls_model.proofs.Later.{IsTopmost, topmost_path}
-use Rattle.rls_model.proofs.WindowAnswers.{node_found}
+use Rattle.rls_model.proofs.WindowAnswers.{named_once, node_found}
 
 -- ---- sums over lists with the same elements
-
--- no node stands twice
-abbrev Once : List Node → Type 0
-Once [] = Unit {0}
-Once (n ∷ ns) = (IsIn n ns → ⊥) × Once ns
 
 total : (Node → ℕ) → List Node → ℕ
 total f [] = 0
@@ -46,7 +41,7 @@ unfolding total
 total_middle f [] b x = refl
 total_middle f (y ∷ a) b x = let h = total_middle f a b x in omega arith
 
-once_middle : (a b : List Node) (x : Node) → Once (a ++ (x ∷ b)) → Once (a ++ b) × (IsIn x (a ++ b) → ⊥)
+once_middle : (a b : List Node) (x : Node) → AreOnce (a ++ (x ∷ b)) → AreOnce (a ++ b) × (IsIn x (a ++ b) → ⊥)
 once_middle [] b x o = (o.1, o.0)
 once_middle (y ∷ a) b x o =
     let r = once_middle a b x o.1 in (
@@ -57,7 +52,7 @@ once_middle (y ∷ a) b x o =
     more : IsIn y (a ++ b) → IsIn y (a ++ (x ∷ b))
     more p = ⊎_elim (λ q. in_left y a (x ∷ b) q) (λ q. in_right y a (x ∷ b) (inr q)) (in_split y a b p)
 
-total_same : (f : Node → ℕ) (xs ys : List Node) → Once xs → Once ys → ((z : Node) → IsIn z xs → IsIn z ys) → ((z : Node) → IsIn z ys → IsIn z xs) → total f xs ≡ total f ys
+total_same : (f : Node → ℕ) (xs ys : List Node) → AreOnce xs → AreOnce ys → ((z : Node) → IsIn z xs → IsIn z ys) → ((z : Node) → IsIn z ys → IsIn z xs) → total f xs ≡ total f ys
 unfolding total
 total_same f [] [] o q h k = refl
 total_same f [] (y ∷ ys) o q h k = absurd (k y (inl refl))
@@ -65,7 +60,7 @@ total_same f (x ∷ xs) ys o q h k =
     let r = split_at x ys (h x (inl refl)) in
     let a = r.0 in
     let b = r.1 in
-    let m = once_middle a b x (subst Once r.2 q) in
+    let m = once_middle a b x (subst AreOnce r.2 q) in
     let e = total_same f xs (a ++ b) o.1 m.0 (into a b (λ z p. subst (λ (zs : List Node). IsIn z zs) r.2 (h z (inr p)))) (onto a b m.1 (λ z p. k z (subst (λ (zs : List Node). IsIn z zs) (sym r.2) p))) in
     ap (λ n. f x + n) e ∙ (sym (total_middle f a b x) ∙ ap (total f) (sym r.2))
   where
@@ -95,16 +90,12 @@ sum_total f ns = fold_total f 0 ns ∙ none (total (λ m. f m.renaming) ns)
 
 -- ---- the nodes that stay
 
-once_filter : (t : Node → Bool) (ns : List Node) → AreNodes ns → Once (filter t ns)
-once_filter t [] d = tt
-once_filter t (n ∷ ns) d = go (t n) (once_filter t ns d.2)
-  where
-    go : (b : Bool) → Once (filter t ns) → Once (cond b (n ∷ filter t ns) (filter t ns))
-    go true h = ((λ p. let x = node_named n ns (in_filter t n ns p).0 in let y = d.1 in absurd (cc)), h)
-    go false h = h
+nodes_once : (ns : List Node) → AreNodes ns → AreOnce ns
+nodes_once [] d = tt
+nodes_once (n ∷ ns) d = ((λ p. let x = node_named n ns p in let y = d.1 in absurd (cc)), nodes_once ns d.2)
 
-kept_once : (ns : List Node) (e : EpochName) (es : List EpochName) → AreNodes ns → Once (kept_nodes ns e es)
-kept_once ns e es d = once_filter (is_below ns e es) ns d
+kept_once : (ns : List Node) (e : EpochName) (es : List EpochName) → AreNodes ns → AreOnce (kept_nodes ns e es)
+kept_once ns e es d = once_filter (is_below ns e es) ns (nodes_once ns d)
 
 node_kept : (top : EpochName) (ns : List Node) (n : Node) → IsIn n ns → is_kept top ns (name_of n.renaming) ≡ true
 node_kept top ns n p = let h = node_named n ns p in or_right (name_eq (name_of n.renaming) top) (has_node ns (name_of n.renaming)) h
@@ -142,8 +133,8 @@ whole_node H U A l k u t n p q v =
     absurd (v (e ∙ sym (path_same Origin (epochs H) w.whole w.tree u U (retained_kept H u t.0) w.first z))))
     (λ h. let r = node_at A f h in
     let m = r.0 in
-    let a = node_found (epochs H) w.whole m (each_in m A (epochs H) w.each r.1) in
-    let b = node_found (epochs H) w.whole n p in
+    let a = node_found (epochs H) (named_once (epochs H) w.whole) m (each_in m A (epochs H) w.each r.1) in
+    let b = node_found (epochs H) (named_once (epochs H) w.whole) n p in
     let e : m ≡ n = some_same m n (sym a ∙ (ap (node_of (epochs H)) r.2 ∙ b)) in
     subst (λ (z : Node). IsIn z A) e r.1)
     (or_split (name_eq f U) (has_node A f) (k.keeps f q))

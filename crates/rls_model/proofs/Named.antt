@@ -7,7 +7,7 @@ use Rattle.rls_ident.specs.declared.epoch_name.EpochName.{EpochName}
 use Rattle.rls_ident.specs.declared.epoch_name.EpochName.TheVariants.{Origin}
 use Rattle.rls_ident.specs.Lists.{IsIn}
 use Rattle.rls_ident.specs.Identifiers.{IsIdent, ident_eq}
-use Rattle.rls_ident.proofs.Members.{or_split, in_left, in_right, snoc_split, in_filter, in_any}
+use Rattle.rls_ident.proofs.Members.{AreOnce, or_split, in_left, in_right, snoc_split, in_filter, in_any}
 use Rattle.rls_ident.proofs.Ends.{eq_same}
 use Rattle.rls_rename.specs.Tree.{Node, is_kept, AreNodes, AreBelow}
 use Rattle.rls_rename.specs.Tree as tree
@@ -26,7 +26,7 @@ use Rattle.rls_model.specs.Fitting.{is_known, first_unknown, body_refusal}
 use Rattle.rls_model.specs.Legal.{IsLegal}
 use Rattle.rls_model.proofs.OneTree.{nodes, parents, epoch_kept, fits_body, history_translate}
 use Rattle.rls_model.proofs.Distinct.{all_append, known, one}
-use Rattle.rls_model.proofs.SameOps.{Once, once, op_kept, live_char}
+use Rattle.rls_model.proofs.SameOps.{once, op_kept, live_char}
 
 -- ---- one more entry
 
@@ -63,7 +63,7 @@ pub char_new : (G : History) (o : Op) (c : Character) → IsIn c (chars_of o o.b
 unfolding chars
 char_new G o c p = subst (IsIn c) (sym (all_append (ops G) o)) (in_right c (chars_of_all (ops G)) (chars_of o o.body) p)
 
-once_apart : (xs ys : List Character) → Once (xs ++ ys) → (c : Character) → IsIn c xs → IsIn c ys → ⊥
+once_apart : (xs ys : List Character) → AreOnce (xs ++ ys) → (c : Character) → IsIn c xs → IsIn c ys → ⊥
 once_apart [] ys h c p q = p
 once_apart (x ∷ xs) ys h c (inl e) q = h.0 (subst (λ (d : Character). IsIn d (xs ++ ys)) (sym e) (in_right c xs ys q))
 once_apart (x ∷ xs) ys h c (inr p) q = once_apart xs ys h.1 c p q
@@ -71,7 +71,7 @@ once_apart (x ∷ xs) ys h c (inr p) q = once_apart xs ys h.1 c p q
 -- no character is old and new
 pub old_new : (G : History) (o : Op) → IsLegal (Then G (Accepted o)) → (c : Character) → IsIn c (chars G) → IsIn c (chars_of o o.body) → ⊥
 unfolding chars
-old_new G o l c p q = once_apart (chars_of_all (ops G)) (chars_of o o.body) (subst Once (all_append (ops G) o) (once (Then G (Accepted o)) l)) c p q
+old_new G o l c p q = once_apart (chars_of_all (ops G)) (chars_of o o.body) (subst AreOnce (all_append (ops G) o) (once (Then G (Accepted o)) l)) c p q
 
 -- ---- targets
 

@@ -6,7 +6,7 @@ use Rattle.rls_ident.specs.declared.epoch_name.EpochName.{EpochName}
 use Rattle.rls_ident.specs.declared.epoch_name.EpochName.TheVariants.{Origin}
 use Rattle.rls_ident.specs.Lists.{IsIn, AreIn}
 use Rattle.rls_ident.specs.Identifiers.{shifted}
-use Rattle.rls_ident.proofs.Members.{any_in, are_in, filter_in, in_any, in_filter, in_left, in_map, in_right, in_split, map_in, same_bool, snoc_split}
+use Rattle.rls_ident.proofs.Members.{AreOnce, once_filter, any_in, are_in, filter_in, in_any, in_filter, in_left, in_map, in_right, in_split, map_in, same_bool, snoc_split}
 use Rattle.rls_ident.proofs.Vectors.{index-raise_le}
 use Rattle.rls_runs.specs.Runs.{runs_of}
 use Rattle.rls_rename.specs.Tree.{Node, is_kept}
@@ -27,33 +27,20 @@ use Rattle.rls_runs.proofs.Sorted.{Rises, AreApart, AreDistinct, AllApart, rises
 
 -- ---- no character twice
 
--- none of these stands twice
-abbrev pub Once : List Character → Type 0
-Once [] = Unit {0}
-Once (c ∷ cs) = (IsIn c cs → ⊥) × Once cs
-
-once_append : (xs ys : List Character) → Once xs → Once ys → ((c : Character) → IsIn c xs → IsIn c ys → ⊥) → Once (xs ++ ys)
+once_append : (xs ys : List Character) → AreOnce xs → AreOnce ys → ((c : Character) → IsIn c xs → IsIn c ys → ⊥) → AreOnce (xs ++ ys)
 once_append [] ys h k f = k
 once_append (x ∷ xs) ys h k f = ((λ p. ⊎_elim h.0 (f x (inl refl)) (in_split x xs ys p)), once_append xs ys h.1 k (λ c p. f c (inr p)))
-
-once_filter : (t : Character → Bool) (xs : List Character) → Once xs → Once (filter t xs)
-once_filter t [] h = tt
-once_filter t (x ∷ xs) h = go (t x) (once_filter t xs h.1)
-  where
-    go : (b : Bool) → Once (filter t xs) → Once (cond b (x ∷ filter t xs) (filter t xs))
-    go true k = ((λ p. h.0 (in_filter t x xs p).0), k)
-    go false k = k
 
 place_from : (o : Op) (i : ℕ) (x : List Tuple) (cs : List ℕ) (c : Character) → IsIn c (chars_from o i x cs) → i ≤ c.place
 place_from o i x [] c p = absurd p
 place_from o i x (d ∷ cs) c (inl e) = let f = ap (λ (c : Character). c.place) e in omega arith
 place_from o i x (d ∷ cs) c (inr p) = let h = place_from o (suc i) (shifted (pos 1) x) cs c p in omega arith
 
-once_from : (o : Op) (i : ℕ) (x : List Tuple) (cs : List ℕ) → Once (chars_from o i x cs)
+once_from : (o : Op) (i : ℕ) (x : List Tuple) (cs : List ℕ) → AreOnce (chars_from o i x cs)
 once_from o i x [] = tt
 once_from o i x (d ∷ cs) = ((λ p. let h = place_from o (suc i) (shifted (pos 1) x) cs _ p in omega arith), once_from o (suc i) (shifted (pos 1) x) cs)
 
-once_op : (o : Op) (b : Body) → Once (chars_of o b)
+once_op : (o : Op) (b : Body) → AreOnce (chars_of o b)
 once_op o (Insert first text) = once_from o 0 first text
 once_op o (Delete targets) = tt
 once_op o (Rename xs) = tt
@@ -82,12 +69,12 @@ char_counted (Then G (Accepted o)) l c p =
     subst (λ a. c.seq ≤ count_of (Then G (Accepted o)) a) e.0 (subst (λ s. s ≤ count_of (Then G (Accepted o)) o.author) e.1 h))
     (char_split G o c p)
 
-pub once : (H : History) → IsLegal H → Once (chars H)
+pub once : (H : History) → IsLegal H → AreOnce (chars H)
 unfolding chars
 once (history.Fresh group me members) l = tt
 once (Then G (Acknowledged b v)) l = once G l.0
 once (Then G (Accepted o)) l =
-    subst Once (sym (all_append (ops G) o)) (once_append (chars_of_all (ops G)) (chars_of o o.body) (once G l.0) (once_op o o.body)
+    subst AreOnce (sym (all_append (ops G) o)) (once_append (chars_of_all (ops G)) (chars_of o o.body) (once G l.0) (once_op o o.body)
     (λ c p q. let e = number_of o o.body c q in
     let h = char_counted G l.0 c p in
     let f : count_of G o.author ≡ count_of G c.author = ap (count_of G) e.0 in
@@ -194,7 +181,7 @@ apart_of H l c p [] f n = tt
 apart_of H l c p (d ∷ cs) f n =
     ((λ e. n (inl (sym (one H l c d p (f d (inl refl)) (greatest H) (top_kept H) e)))), apart_of H l c p cs (λ z q. f z (inr q)) (λ q. n (inr q)))
 
-distinct_of : (H : History) → IsLegal H → (cs : List Character) → Once cs → ((d : Character) → IsIn d cs → IsIn d (chars H)) → AreDistinct (map (entry_of H) cs)
+distinct_of : (H : History) → IsLegal H → (cs : List Character) → AreOnce cs → ((d : Character) → IsIn d cs → IsIn d (chars H)) → AreDistinct (map (entry_of H) cs)
 distinct_of H l [] h f = tt
 distinct_of H l (c ∷ cs) h f = (apart_of H l c (f c (inl refl)) cs (λ z q. f z (inr q)) h.0, distinct_of H l cs h.1 (λ z q. f z (inr q)))
 
@@ -206,7 +193,7 @@ pub live_char : (H : History) (c : Character) → IsIn c (live H) → IsIn c (ch
 unfolding live
 live_char H c p = (in_filter (λ c. not (is_named H c)) c (chars H) p).0
 
-once_live : (H : History) → IsLegal H → Once (live H)
+once_live : (H : History) → IsLegal H → AreOnce (live H)
 unfolding live
 once_live H l = once_filter (λ c. not (is_named H c)) (chars H) (once H l)
 

@@ -106,14 +106,23 @@ missing_window H a l h n = uncovered_again (stable H) (row H a) (ops H) (stable_
 
 -- ---- the parts of epochs
 
+-- no two nodes have one name
+abbrev pub AreNamedOnce : List Node → Type 0
+AreNamedOnce [] = Unit {0}
+AreNamedOnce (n ∷ ns) = (has_node ns (name_of n.renaming) ≡ false) × AreNamedOnce ns
+
+pub named_once : (ns : List Node) → AreNodes ns → AreNamedOnce ns
+named_once [] d = tt
+named_once (n ∷ ns) d = (d.1, named_once ns d.2)
+
 -- a node is found by its name
-pub node_found : (ns : List Node) → AreNodes ns → (n : Node) → IsIn n ns → node_of ns (name_of n.renaming) ≡ Some n
+pub node_found : (ns : List Node) → AreNamedOnce ns → (n : Node) → IsIn n ns → node_of ns (name_of n.renaming) ≡ Some n
 node_found [] d n p = absurd p
 node_found (m ∷ ns) d n (inl e) =
     ap (λ b. if b then Some m else node_of ns (name_of n.renaming)) (ap (λ (k : Node). name_eq (name_of k.renaming) (name_of n.renaming)) e ∙ name_eq_refl (name_of n.renaming)) ∙ ap Some e
 node_found (m ∷ ns) d n (inr p) =
-    let f = not_true (is_of m (name_of n.renaming)) (λ q. let x = ap (has_node ns) (name_eq_is (name_of m.renaming) (name_of n.renaming) q) ∙ node_named n ns p in let y = d.1 in absurd (cc)) in
-    ap (λ b. if b then Some m else node_of ns (name_of n.renaming)) f ∙ node_found ns d.2 n p
+    let f = not_true (is_of m (name_of n.renaming)) (λ q. let x = ap (has_node ns) (name_eq_is (name_of m.renaming) (name_of n.renaming) q) ∙ node_named n ns p in let y = d.0 in absurd (cc)) in
+    ap (λ b. if b then Some m else node_of ns (name_of n.renaming)) f ∙ node_found ns d.1 n p
 
 -- an epoch above which another kept one stands is found in both
 node_over : (H : History) (U : EpochName) (A : List Node) → Keeps H U A → (u e : EpochName) → is_kept U A u ≡ true → is_kept U A e ≡ true → epoch_cmp (epochs H) u e ≡ Less → node_of A e ≡ node_of (epochs H) e
@@ -122,8 +131,8 @@ node_over H U A k u e h m q =
     ⊎_elim
     (λ r. absurd (none_below U A w.below u (subst (λ f. epoch_cmp A u f ≡ Less) (name_eq_is e U r) (cmp_window w u e h m ∙ q))))
     (λ r. let n = node_at A e r in
-    let a = node_found A w.nodes n.0 n.1 in
-    let b = node_found (epochs H) w.whole n.0 (each_in n.0 A (epochs H) w.each n.1) in
+    let a = node_found A (named_once A w.nodes) n.0 n.1 in
+    let b = node_found (epochs H) (named_once (epochs H) w.whole) n.0 (each_in n.0 A (epochs H) w.each n.1) in
     subst (λ f. node_of A f ≡ node_of (epochs H) f) n.2 (a ∙ sym b))
     (or_split (name_eq e U) (has_node A e) m)
 

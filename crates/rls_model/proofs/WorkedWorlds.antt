@@ -23,13 +23,13 @@ use Rattle.rls_model.specs.Worlds.{World, Happening, whole, run, empty_world, fa
 use Rattle.rls_model.specs.Computing.{computing}
 use Rattle.rls_model.proofs.Worked.{mid, runs}
 
-abbrev edits : ℕ → Edit → Happening
+abbrev pub edits : ℕ → Edit → Happening
 edits i e = whole (events.Edit i e)
 
-abbrev sends : ℕ → ℕ → Happening
+abbrev pub sends : ℕ → ℕ → Happening
 sends from to = whole (events.Send from to)
 
-abbrev comes : ℕ → ℕ → Happening
+abbrev pub comes : ℕ → ℕ → Happening
 comes k to = whole (events.Deliver k to)
 
 abbrev drops : ℕ → Happening
@@ -39,7 +39,7 @@ abbrev of_two : List Happening → World
 of_two hs = run (empty_world 7 2) hs
 
 -- both members have one text
-abbrev shared : List Happening
+abbrev pub shared : List Happening
 shared = edits 0 (Insert 0 (codes "hello")) ∷ sends 0 1 ∷ comes 0 1 ∷ []
 
 abbrev text_at : World → ℕ → Option (List ℕ)

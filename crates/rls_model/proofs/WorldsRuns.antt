@@ -95,11 +95,11 @@ edits_are_events w i s p edits h a e = from_edits w i 1 (started None s) p edits
 
 -- ---- events after events
 
-run_append : (w : World) (hs ks : List Happening) → run w (hs ++ ks) ≡ run (run w hs) ks
+pub run_append : (w : World) (hs ks : List Happening) → run w (hs ++ ks) ≡ run (run w hs) ks
 run_append w [] ks = refl
 run_append w (h ∷ hs) ks = run_append (happens h.limit w h.event) hs ks
 
-events_append : (hs ks : List Happening) → AreEvents hs → AreEvents ks → AreEvents (hs ++ ks)
+pub events_append : (hs ks : List Happening) → AreEvents hs → AreEvents ks → AreEvents (hs ++ ks)
 events_append [] ks a b = b
 events_append (h ∷ hs) ks a b = (a.0, events_append hs ks a.1 b)
 

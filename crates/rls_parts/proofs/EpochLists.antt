@@ -7,13 +7,13 @@ use Rattle.rls_ident.specs.declared.epoch_name.EpochName.{EpochName}
 use Rattle.rls_ident.specs.declared.epoch_name.EpochName.TheVariants.{Origin, Of}
 use Rattle.rls_ident.specs.EpochNames.{name_eq}
 use Rattle.rls_ident.specs.Lists.{IsIn}
-use Rattle.rls_ident.proofs.Members.{and_left, and_right, any_in, in_left, in_right, in_split, snoc_split, in_map, le_is, lt_is, not_is, not_true, or_left, or_right, or_split}
+use Rattle.rls_model.proofs.WindowAnswers.{AreNamedOnce}
+use Rattle.rls_ident.proofs.Members.{AreOnce, and_left, and_right, any_in, in_left, in_right, in_split, snoc_split, in_map, le_is, lt_is, not_is, not_true, or_left, or_right, or_split}
 use Rattle.rls_ident.proofs.Named.{name_eq_is, name_eq_refl}
 use Rattle.rls_rename.specs.Renaming.{IsFormer}
 use Rattle.rls_rename.specs.Tree.{Node, name_of, is_of, has_node, is_kept, AreNodes, AreBelow}
 use Rattle.rls_rename.proofs.Kept.{kept_more}
 use Rattle.rls_rename.proofs.Order.{kept_here}
-use Rattle.rls_rename.proofs.Ordered.{AreOnce}
 use Rattle.rls_model.specs.declared.parts.EpochPart.{EpochPart}
 use Rattle.rls_model.specs.declared.parts.Parts.{Parts}
 use Rattle.rls_parts.specs.Reading.{name_or_origin, top_name, with_node, nodes_onto, nodes_of, names_of}
@@ -62,17 +62,12 @@ pub entry_is : (p : Parts) (earlier : List EpochPart) (e : EpochPart)
     → (is_new earlier e.name && is_opened p e.name && is_place_below (length earlier) e.parent && is_former_count (length e.former) && is_covered_by p.stems e.name (length e.former)) ≡ true
     → IsEntry p earlier e
 entry_is p earlier e h5 =
-    let a = is_new earlier e.name in
-    let b = is_opened p e.name in
-    let c = is_place_below (length earlier) e.parent in
-    let d = is_former_count (length e.former) in
-    let f = is_covered_by p.stems e.name (length e.former) in
-    let h4 = and_left (a && b && c && d) f h5 in
-    let h3 = and_left (a && b && c) d h4 in
-    let h2 = and_left (a && b) c h3 in
-    let o = opened_name p e.name (and_right a b h2) in
-    let k = place_of (length earlier) e.parent (and_right (a && b) c h3) in
-    let n = and_right (a && b && c) d h4 in
+    let h4 = and_left _ _ h5 in
+    let h3 = and_left _ _ h4 in
+    let h2 = and_left _ _ h3 in
+    let o = opened_name p e.name (and_right _ _ h2) in
+    let k = place_of (length earlier) e.parent (and_right _ _ h3) in
+    let n = and_right _ _ h4 in
     record {
       replica = o.0;
       seq = o.1;
@@ -83,20 +78,14 @@ entry_is p earlier e h5 =
       place = k.0;
       parent = k.1;
       below = k.2;
-      new = not_among earlier e.name (and_left a b h2);
-      some = lt_is 0 (length e.former) (and_left (nat_lt 0 (length e.former)) (nat_le (length e.former) IDENTIFIERS) n);
-      few = le_is (length e.former) IDENTIFIERS (and_right (nat_lt 0 (length e.former)) (nat_le (length e.former) IDENTIFIERS) n);
-      covered = ap (λ m. is_covered_by p.stems m (length e.former)) (sym o.2) ∙ and_right (a && b && c && d) f h5;
+      new = not_among earlier e.name (and_left _ _ h2);
+      some = lt_is 0 (length e.former) (and_left _ _ n);
+      few = le_is (length e.former) IDENTIFIERS (and_right _ _ n);
+      covered = ap (λ m. is_covered_by p.stems m (length e.former)) (sym o.2) ∙ and_right _ _ h5;
     }
 
 pub behind_is : (p : Parts) (earlier : List EpochPart) (e : EpochPart) → is_epoch_behind p earlier e ≡ true → IsEntry p earlier e
-behind_is p earlier e h =
-    let a = is_new earlier e.name in
-    let b = is_opened p e.name in
-    let c = is_place_below (length earlier) e.parent in
-    let d = is_former_count (length e.former) in
-    let f = is_covered_by p.stems e.name (length e.former) in
-    entry_is p earlier e (and_left (a && b && c && d && f) (is_greater earlier e) h)
+behind_is p earlier e h = entry_is p earlier e (and_left _ _ h)
 
 -- the first entry and one after it
 pub first_top : (p : Parts) (e : EpochPart) (es : List EpochPart) → epoch_fault p [] (e ∷ es) ≡ None → (may_be_top p e.name ≡ true) × (epoch_fault p (e ∷ []) es ≡ None)
@@ -164,11 +153,6 @@ none_made all e Origin older = refl
 none_made all e (Of r s) older = refl
 
 -- ---- the tree
-
--- no two nodes have one name
-abbrev pub AreNamedOnce : List Node → Type 0
-AreNamedOnce [] = Unit {0}
-AreNamedOnce (n ∷ ns) = (has_node ns (name_of n.renaming) ≡ false) × AreNamedOnce ns
 
 -- the nodes of the entries f and fs, of which f is the topmost, of a list
 pub record IsBuilt (p : Parts) (all : List EpochPart) (f : EpochPart) (fs : List EpochPart) (ns : List Node) : Type 0 where

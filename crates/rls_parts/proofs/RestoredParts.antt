@@ -8,12 +8,12 @@ use Rattle.rls_ident.specs.declared.epoch_name.EpochName.{EpochName}
 use Rattle.rls_ident.specs.declared.epoch_name.EpochName.TheVariants.{Origin}
 use Rattle.rls_ident.specs.EpochNames.{name_eq}
 use Rattle.rls_ident.specs.Lists.{IsIn}
-use Rattle.rls_ident.proofs.Members.{and_left, and_right, lt_test, neq_test, not_true}
+use Rattle.rls_model.proofs.WindowAnswers.{AreNamedOnce, node_found}
+use Rattle.rls_ident.proofs.Members.{AreOnce, and_left, and_right, lt_test, neq_test, not_true}
 use Rattle.rls_ident.proofs.Named.{name_eq_is, name_eq_refl}
 use Rattle.rls_rename.specs.Connected.{spanned}
 use Rattle.rls_rename.specs.Keeping.{reached}
 use Rattle.rls_rename.specs.Tree.{Node, name_of, is_of, has_node}
-use Rattle.rls_rename.proofs.Ordered.{AreOnce}
 use Rattle.rls_rename.proofs.SameNodes.{node_named}
 use Rattle.rls_ops.specs.declared.op.Op.{Op}
 use Rattle.rls_ops.specs.Rows.{AcksSeen, row_of, left}
@@ -28,7 +28,7 @@ use Rattle.rls_parts.specs.PartsLaws.{PartsBack}
 use Rattle.rls_parts.specs.Reading.{has_member, nodes_of, epochs_of, greatest_of_parts, names_of, stable_of_parts}
 use Rattle.rls_parts.specs.Restored.{with_own, acks_of, entries_of, seen_of}
 use Rattle.rls_parts.specs.Rules.{has_stable, names_eq, retained_of_parts, are_retained}
-use Rattle.rls_parts.proofs.EpochLists.{IsNodeOf, IsBuilt, AreNamedOnce, name_at, once_at}
+use Rattle.rls_parts.proofs.EpochLists.{IsNodeOf, IsBuilt, name_at, once_at}
 use Rattle.rls_parts.proofs.LeftMarks.{marked_below, marked_same, members_are}
 use Rattle.rls_parts.proofs.OwnRows.{others_below, others_are, others_same, all_below, without_at, without_own, length-own}
 use Rattle.rls_parts.proofs.Passing.{passes}
@@ -77,15 +77,6 @@ retained_back p g u h =
     ap (λ v. spanned E.top E.nodes (greatest_of_parts p) (reached E v ++ map (λ o. o.epoch) (unstable_over (seen_of p)))) (stable_restored p g)
     ∙ (ap (λ (os : List Op). spanned E.top E.nodes (greatest_of_parts p) (reached E (stable_of_parts p) ++ map (λ o. o.epoch) os)) u
     ∙ sym (names_are (names_of p.epochs) (retained_of_parts p) (and_right (has_stable p) (names_eq (names_of p.epochs) (retained_of_parts p)) h)))
-
--- a node is found by its name
-pub node_found : (ns : List Node) → AreNamedOnce ns → (n : Node) → IsIn n ns → node_of ns (name_of n.renaming) ≡ Some n
-node_found [] d n q = absurd q
-node_found (m ∷ ns) d n (inl e) =
-    ap (λ b. if b then Some m else node_of ns (name_of n.renaming)) (ap (λ (k : Node). name_eq (name_of k.renaming) (name_of n.renaming)) e ∙ name_eq_refl (name_of n.renaming)) ∙ ap Some e
-node_found (m ∷ ns) d n (inr q) =
-    let f = not_true (is_of m (name_of n.renaming)) (λ h. let x = ap (has_node ns) (name_eq_is (name_of m.renaming) (name_of n.renaming) h) ∙ node_named n ns q in let y = d.0 in absurd (cc)) in
-    ap (λ b. if b then Some m else node_of ns (name_of n.renaming)) f ∙ node_found ns d.1 n q
 
 -- a name is found at its place
 pub place_found : (es : List EpochName) (k : ℕ) (x : EpochName) → AreOnce es → k < length es → x ≡ get_or es k Origin → position (name_eq x) es ≡ Some k

@@ -17,27 +17,20 @@ use Rattle.rls_parts.proofs.Passing.{stem_first}
 
 stem_is : (p : Parts) → length p.vector ≡ p.members → (t : Stem) → is_stem_of p t ≡ true → IsStem p.vector t
 stem_is p v t h =
-    let a = nat_lt t.author p.members in
-    let b = nat_lt 0 t.s0 in
-    let c = nat_le t.s0 (slice_index p.vector t.author) in
-    let d = int_le least_offset t.low in
-    let e = int_le t.low (pos 0) in
-    let f = nat_lt 0 t.next in
-    let g = nat_le t.next OFFSETS_END in
-    let h6 = and_left (a && b && c && d && e && f) g h in
-    let h5 = and_left (a && b && c && d && e) f h6 in
-    let h4 = and_left (a && b && c && d) e h5 in
-    let h3 = and_left (a && b && c) d h4 in
-    let h2 = and_left (a && b) c h3 in
-    let l = lt_is t.author p.members (and_left a b h2) in
+    let h6 = and_left _ _ h in
+    let h5 = and_left _ _ h6 in
+    let h4 = and_left _ _ h5 in
+    let h3 = and_left _ _ h4 in
+    let h2 = and_left _ _ h3 in
+    let l = lt_is t.author p.members (and_left _ _ h2) in
     record {
       author = omega arith;
-      begun = lt_is 0 t.s0 (and_right a b h2);
-      counted = le_is t.s0 (slice_index p.vector t.author) (and_right (a && b) c h3);
-      bottom = int_le_is least_offset t.low (and_right (a && b && c) d h4);
-      low = int_le_is t.low (pos 0) (and_right (a && b && c && d) e h5);
-      some = lt_is 0 t.next (and_right (a && b && c && d && e) f h6);
-      end = le_is t.next OFFSETS_END (and_right (a && b && c && d && e && f) g h);
+      begun = lt_is 0 t.s0 (and_right _ _ h2);
+      counted = le_is t.s0 (slice_index p.vector t.author) (and_right _ _ h3);
+      bottom = int_le_is least_offset t.low (and_right _ _ h4);
+      low = int_le_is t.low (pos 0) (and_right _ _ h5);
+      some = lt_is 0 t.next (and_right _ _ h6);
+      end = le_is t.next OFFSETS_END (and_right _ _ h);
     }
 
 -- ---- their order

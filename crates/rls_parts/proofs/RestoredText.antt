@@ -16,7 +16,7 @@ use Rattle.rls_ident.proofs.Ends.{eq_same, least_last}
 use Rattle.rls_runs.specs.Entries.{Entries, idents_in}
 use Rattle.rls_runs.specs.Runs.{AreIdents, run_idents, run_last, idents_of, is_apart, are_apart, is_run, past_offsets}
 use Rattle.rls_runs.proofs.Finding.{run_length}
-use Rattle.rls_runs.proofs.RunEnds.{run_end}
+use Rattle.rls_runs.proofs.RunEnds.{run_limit}
 use Rattle.rls_runs.proofs.RunOrder.{all_idents, idents_rise, increasing_of}
 use Rattle.rls_runs.proofs.RunsOf.{IsFree, follows_next, free_of}
 use Rattle.rls_model.specs.declared.parts.TextRun.{TextRun}
@@ -50,17 +50,6 @@ in_some_run (r ∷ rs) x q =
     ⊎_elim (λ h. (r, inl refl, h)) (λ h. let w = in_some_run rs x h in (w.0, inr w.1, w.2)) (in_split x (run_idents r.run.0 r.run.1) (idents_of (runs_in rs)) q)
 
 -- ---- how many characters
-
-run_limit : (r : List Tuple × ℕ) → is_run r ≡ true → r.1 ≤ 2 ^ 31
-run_limit r h =
-    let a = is_ident r.0 in
-    let b = is_bounded r.0 in
-    let c = nat_lt 0 r.1 in
-    let d = int_le (offset_of (last_of r.0) +ℤ pos r.1) past_offsets in
-    let p = and_left (a && b) c (and_left (a && b && c) d h) in
-    let least = least_last r.0 (and_left a b p) (and_right a b p) in
-    let end = run_end r h in
-    omega (arith, ints)
 
 pub total_restored : (rs : List TextRun) → list_all is_run (runs_in rs) ≡ true → length (entries_of rs) ≤ length rs * 2 ^ 31
 total_restored [] h = omega arith

@@ -15,7 +15,8 @@ use Rattle.rls_ident.specs.declared.epoch_name.EpochName.{EpochName}
 use Rattle.rls_ident.specs.declared.epoch_name.EpochName.TheVariants.{Origin, Of}
 use Rattle.rls_ident.specs.EpochNames.{name_eq}
 use Rattle.rls_ident.specs.Lists.{IsIn}
-use Rattle.rls_ident.proofs.Members.{and_true, are_in, in_any, in_left, in_right, in_split, in_map, map_in, and_right, le_test, lt_test, not_true, or_split}
+use Rattle.rls_model.proofs.WindowAnswers.{named_once, node_found}
+use Rattle.rls_ident.proofs.Members.{AreOnce, and_true, are_in, in_any, in_left, in_right, in_split, in_map, map_in, and_right, le_test, lt_test, not_true, or_split}
 use Rattle.rls_ident.proofs.Named.{name_eq_is}
 use Rattle.rls_rename.specs.Renaming.{Renaming, IsFormer}
 use Rattle.rls_rename.specs.Tree.{Node, name_of, has_node, is_kept, AreNodes, AreBelow, path, renaming_cmp, epoch_cmp}
@@ -23,7 +24,7 @@ use Rattle.rls_rename.specs.Connected.{spanned}
 use Rattle.rls_rename.proofs.Former.{former_in}
 use Rattle.rls_rename.proofs.Hull.{IsPart, front_none, node_at, path_same, spanned_in, spanned_part, spanned_top, top_spanned}
 use Rattle.rls_rename.proofs.Order.{less_flips, less_self, longer_less}
-use Rattle.rls_rename.proofs.Ordered.{AreOnce, Rises, IsBelowAll, spanned_rises}
+use Rattle.rls_rename.proofs.Ordered.{Rises, IsBelowAll, spanned_rises}
 use Rattle.rls_rename.proofs.SameNodes.{path_member, path_top}
 use Rattle.rls_rename.proofs.Windows.{Window, cmp_window}
 use Rattle.rls_model.specs.declared.parts.EpochPart.{EpochPart}
@@ -34,8 +35,8 @@ use Rattle.rls_model.specs.Stems.{stem_of, has_used}
 use Rattle.rls_seen.specs.Sane.{AreEpochs, IsCounted, IsCovered}
 use Rattle.rls_parts.specs.Reading.{nodes_of, names_of}
 use Rattle.rls_parts.specs.Rules.{epoch_fault, is_epoch_behind, is_new, is_opened, is_place_below, is_former_count, has_offsets, is_covered_by, is_greater, last_name, may_be_top}
-use Rattle.rls_parts.proofs.EpochLists.{AreEntries, AreNamedOnce, IsEntry, IsNodeOf, IsBuilt, are_nodes, built_by, name_at}
-use Rattle.rls_parts.proofs.RestoredParts.{node_found, place_found}
+use Rattle.rls_parts.proofs.EpochLists.{AreEntries, IsEntry, IsNodeOf, IsBuilt, are_nodes, built_by, name_at}
+use Rattle.rls_parts.proofs.RestoredParts.{place_found}
 use Rattle.rls_parts.proofs.StandsAgain.{part_name, part_names, same_node}
 
 -- ---- lists of names
@@ -50,10 +51,6 @@ below_at : (ns : List Node) (e f : EpochName) (es : List EpochName) → IsBelowA
 below_at ns e f [] b p = absurd p
 below_at ns e f (g ∷ es) b (inl q) = subst (λ h. epoch_cmp ns e h ≡ Less) q b.0
 below_at ns e f (g ∷ es) b (inr p) = below_at ns e f es b.1 p
-
-named_once : (ns : List Node) → AreNodes ns → AreNamedOnce ns
-named_once [] d = tt
-named_once (n ∷ ns) d = (d.1, named_once ns d.2)
 
 -- ---- the rule's tests
 

@@ -17,6 +17,7 @@ use Rattle.rls_model.specs.Editing.{made}
 use Rattle.rls_model.specs.Receiving.{State}
 use Rattle.rls_model.specs.Parts.{parts}
 use Rattle.rls_model.specs.Worlds.{World, Happening, whole, run, empty_world}
+use Rattle.rls_model.proofs.WorkedWorlds.{edits, sends, comes, shared}
 use Rattle.rls_runs.specs.Runs.{is_increasing}
 use Rattle.rls_seen.specs.Kept.{parts_over}
 use Rattle.rls_seen.specs.Seen as seen
@@ -68,20 +69,8 @@ left_fine = refl
 
 -- ---- parts in worlds
 
-abbrev edits : ℕ → Edit → Happening
-edits i e = whole (events.Edit i e)
-
-abbrev sends : ℕ → ℕ → Happening
-sends from to = whole (events.Send from to)
-
-abbrev comes : ℕ → ℕ → Happening
-comes k to = whole (events.Deliver k to)
-
 abbrev broken_at : World → ℕ → Option (Option Broken)
 broken_at w i = option_map (λ s. broken (parts s)) (slice_get w.states i)
-
-abbrev shared : List Happening
-shared = edits 0 (Insert 0 (codes "hello")) ∷ sends 0 1 ∷ comes 0 1 ∷ []
 
 -- two renames side by side
 abbrev two_renames : World

@@ -6,7 +6,7 @@ use Rattle.std.specs.Ordering.{is_lt}
 use Rattle.rls_ident.specs.declared.epoch_name.EpochName.{EpochName}
 use Rattle.rls_ident.specs.EpochNames.{name_eq}
 use Rattle.rls_ident.specs.Lists.{IsIn}
-use Rattle.rls_ident.proofs.Members.{bool_cases, in_filter, less_is}
+use Rattle.rls_ident.proofs.Members.{AreOnce, bool_cases, in_filter, once_filter, less_is}
 use Rattle.rls_rename.specs.Tree.{Node, name_of, is_of, is_kept, AreNodes, AreBelow, path, epoch_cmp, names}
 use Rattle.rls_rename.specs.Connected.{is_spanned, put_epoch, in_order, spanned}
 use Rattle.rls_rename.proofs.Paths.{name_eq_refl}
@@ -24,11 +24,6 @@ IsBelowAll ns e (f ∷ fs) = (epoch_cmp ns e f ≡ Less) × IsBelowAll ns e fs
 abbrev pub Rises : List Node → List EpochName → Type 0
 Rises ns [] = Unit {0}
 Rises ns (e ∷ es) = IsBelowAll ns e es × Rises ns es
-
--- no epoch stands twice
-abbrev pub AreOnce : List EpochName → Type 0
-AreOnce [] = Unit {0}
-AreOnce (e ∷ es) = (IsIn e es → ⊥) × AreOnce es
 
 below_at : (ns : List Node) (e f : EpochName) (es : List EpochName) → IsBelowAll ns e es → IsIn f es → epoch_cmp ns e f ≡ Less
 below_at ns e f [] b p = absurd p
@@ -89,14 +84,6 @@ top_once : (top : EpochName) (ns : List Node) → AreBelow top ns → IsIn top (
 top_once top [] b p = p
 top_once top (n ∷ ns) b (inl h) = let x : is_of n top ≡ true = ap (name_eq (name_of n.renaming)) (sym h) ∙ name_eq_refl (name_of n.renaming) in let y = b.1 in absurd (cc)
 top_once top (n ∷ ns) b (inr p) = top_once top ns b.2 p
-
-once_filter : (t : EpochName → Bool) (es : List EpochName) → AreOnce es → AreOnce (filter t es)
-once_filter t [] o = tt
-once_filter t (e ∷ es) o = go (t e) (once_filter t es o.1)
-  where
-    go : (b : Bool) → AreOnce (filter t es) → AreOnce (cond b (e ∷ filter t es) (filter t es))
-    go true h = ((λ p. o.0 (in_filter t e es p).0), h)
-    go false h = h
 
 -- ---- what is spanned
 
