@@ -8,7 +8,7 @@ use Rattle.rls_journal.specs.declared.contents.Entry.{Entry}
 use Rattle.rls_journal.specs.declared.contents.Entry.TheVariants as entry
 use Rattle.rls_journal.specs.Areas.{Areas, area_of, with_area, spliced}
 use Rattle.rls_journal.specs.Memory.{DeviceCall, DiskState, done, Looked, Wrote, Synced, written_at, seen_step, area_after, areas_after, bytes_written}
-use Rattle.rls_journal.specs.Records.{areas_of, calls_of, bytes_in, HasRoom, IsKept}
+use Rattle.rls_journal.specs.Records.{WritesNothing, areas_of, call_of, calls_of, bytes_in, HasRoom, IsKept}
 
 pub calls_counted : (entries : List Entry) (written : List ℕ) → length (calls_of entries written) ≡ length entries
 calls_counted [] written = refl
@@ -23,17 +23,21 @@ bytes_counted (entry.Wrote area at len ∷ entries) written are =
     omega (arith, length-take len written, length-drop len written, bytes_counted entries (drop len written) (omega (arith, length-drop len written)))
 bytes_counted (entry.Synced area ∷ entries) written are = bytes_counted entries written are
 
-pub looked_behind : (entries : List Entry) (written : List ℕ) → calls_of (entries ++ entry.Looked ∷ []) written ≡ calls_of entries written ++ Looked ∷ []
-looked_behind [] written = refl
-looked_behind (entry.Looked ∷ entries) written = ap (λ (l : List DeviceCall). Looked ∷ l) (looked_behind entries written)
-looked_behind (entry.Wrote area at len ∷ entries) written = ap (λ (l : List DeviceCall). Wrote area at (take len written) ∷ l) (looked_behind entries (drop len written))
-looked_behind (entry.Synced area ∷ entries) written = ap (λ (l : List DeviceCall). Synced area ∷ l) (looked_behind entries written)
+noted_alone : (last : Entry) (written : List ℕ) → WritesNothing last → calls_of (last ∷ []) written ≡ call_of last [] ∷ []
+noted_alone entry.Looked written none = refl
+noted_alone (entry.Wrote area at len) written none = absurd none
+noted_alone (entry.Synced area) written none = refl
 
-pub synced_behind : (entries : List Entry) (written : List ℕ) (synced : ℕ) → calls_of (entries ++ entry.Synced synced ∷ []) written ≡ calls_of entries written ++ Synced synced ∷ []
-synced_behind [] written synced = refl
-synced_behind (entry.Looked ∷ entries) written synced = ap (λ (l : List DeviceCall). Looked ∷ l) (synced_behind entries written synced)
-synced_behind (entry.Wrote area at len ∷ entries) written synced = ap (λ (l : List DeviceCall). Wrote area at (take len written) ∷ l) (synced_behind entries (drop len written) synced)
-synced_behind (entry.Synced area ∷ entries) written synced = ap (λ (l : List DeviceCall). Synced area ∷ l) (synced_behind entries written synced)
+noted_bytes : (last : Entry) → WritesNothing last → bytes_in (last ∷ []) ≡ 0
+noted_bytes entry.Looked none = refl
+noted_bytes (entry.Wrote area at len) none = absurd none
+noted_bytes (entry.Synced area) none = refl
+
+pub noted_behind : (entries : List Entry) (written : List ℕ) (last : Entry) → WritesNothing last → calls_of (entries ++ last ∷ []) written ≡ calls_of entries written ++ call_of last [] ∷ []
+noted_behind [] written last none = noted_alone last written none
+noted_behind (entry.Looked ∷ entries) written last none = ap (λ (l : List DeviceCall). Looked ∷ l) (noted_behind entries written last none)
+noted_behind (entry.Wrote area at len ∷ entries) written last none = ap (λ (l : List DeviceCall). Wrote area at (take len written) ∷ l) (noted_behind entries (drop len written) last none)
+noted_behind (entry.Synced area ∷ entries) written last none = ap (λ (l : List DeviceCall). Synced area ∷ l) (noted_behind entries written last none)
 
 pub wrote_behind : (entries : List Entry) (written bytes : List ℕ) (area at : ℕ) → bytes_in entries ≡ length written
     → calls_of (entries ++ entry.Wrote area at (length bytes) ∷ []) (written ++ bytes) ≡ calls_of entries written ++ Wrote area at bytes ∷ []
@@ -65,6 +69,11 @@ looked_same first calls = λ i. record { slot0 = area_behind 0 first.slot0 calls
 pub synced_same : (first : Areas) (calls : List DeviceCall) (synced : ℕ) → areas_after first (calls ++ Synced synced ∷ []) ≡ areas_after first calls
 synced_same first calls synced = λ i. record { slot0 = area_behind 0 first.slot0 calls (Synced synced) i; slot1 = area_behind 1 first.slot1 calls (Synced synced) i; gate = area_behind 2 first.gate calls (Synced synced) i }
 
+noted_same : (first : Areas) (calls : List DeviceCall) (last : Entry) → WritesNothing last → areas_after first (calls ++ call_of last [] ∷ []) ≡ areas_after first calls
+noted_same first calls entry.Looked none = looked_same first calls
+noted_same first calls (entry.Wrote area at len) none = absurd none
+noted_same first calls (entry.Synced area) none = synced_same first calls area
+
 written_is : (old : List ℕ) (at : ℕ) (bytes : List ℕ) → at ≤ length old → written_at old at bytes ≡ spliced old at bytes
 written_is old at bytes within = ap (λ (b : Bool). if b then spliced old at bytes else old) (le-leb at (length old) within)
 
@@ -83,15 +92,10 @@ seen_as first entries written most room failing faults = record { first = areas_
 pub few_entries : (first : Contents) (entries : List Entry) (written : List ℕ) (most room : ℕ) (failing : List ℕ) (faults : ℕ) (s : DiskState) → seen_as first entries written most room failing faults ≡ s → length s.calls < s.most → length entries < most
 few_entries first entries written most room failing faults s is few = omega (arith, ap (λ (v : DiskState). length v.calls) is, ap (λ (v : DiskState). v.most) is, calls_counted entries written)
 
-pub seen_looked : (first : Contents) (entries after : List Entry) (written : List ℕ) (most room : ℕ) (failing : List ℕ) (faults : ℕ) (s : DiskState) → seen_as first entries written most room failing faults ≡ s → after ≡ entries ++ entry.Looked ∷ []
-    → seen_as first after written most room failing faults ≡ done s Looked
-seen_looked first entries after written most room failing faults s is pushed =
-    ap (λ (l : List Entry). seen_as first l written most room failing faults) pushed ∙ ap (λ (l : List DeviceCall). let v : DiskState = record { first = areas_of first; calls = l; most = most; room = room; failing = failing; faults = faults } in v) (looked_behind entries written) ∙ ap (λ (v : DiskState). done v Looked) is
-
-pub seen_synced : (first : Contents) (entries after : List Entry) (written : List ℕ) (most room : ℕ) (failing : List ℕ) (faults : ℕ) (s : DiskState) (synced : ℕ) → seen_as first entries written most room failing faults ≡ s → after ≡ entries ++ entry.Synced synced ∷ []
-    → seen_as first after written most room failing faults ≡ done s (Synced synced)
-seen_synced first entries after written most room failing faults s synced is pushed =
-    ap (λ (l : List Entry). seen_as first l written most room failing faults) pushed ∙ ap (λ (l : List DeviceCall). let v : DiskState = record { first = areas_of first; calls = l; most = most; room = room; failing = failing; faults = faults } in v) (synced_behind entries written synced) ∙ ap (λ (v : DiskState). done v (Synced synced)) is
+pub seen_noted : (first : Contents) (entries after : List Entry) (written : List ℕ) (most room : ℕ) (failing : List ℕ) (faults : ℕ) (s : DiskState) (last : Entry) → WritesNothing last → seen_as first entries written most room failing faults ≡ s → after ≡ entries ++ last ∷ []
+    → seen_as first after written most room failing faults ≡ done s (call_of last [])
+seen_noted first entries after written most room failing faults s last none is pushed =
+    ap (λ (l : List Entry). seen_as first l written most room failing faults) pushed ∙ ap (λ (l : List DeviceCall). let v : DiskState = record { first = areas_of first; calls = l; most = most; room = room; failing = failing; faults = faults } in v) (noted_behind entries written last none) ∙ ap (λ (v : DiskState). done v (call_of last [])) is
 
 pub seen_wrote : (first : Contents) (entries after : List Entry) (written after_written : List ℕ) (most room : ℕ) (failing : List ℕ) (faults : ℕ) (s : DiskState) (area at : ℕ) (bytes : List ℕ) → bytes_in entries ≡ length written → seen_as first entries written most room failing faults ≡ s
     → after_written ≡ written ++ bytes → after ≡ entries ++ entry.Wrote area at (length bytes) ∷ [] → seen_as first after after_written most room failing faults ≡ done s (Wrote area at bytes)
@@ -106,22 +110,11 @@ fits_left first now entries written most left room failing faults s count kept i
     omega (arith, ap (λ (v : DiskState). bytes_written v.calls) is, ap (λ (v : DiskState). v.room) is, bytes_counted entries.items written.items kept.bytes_are, kept.left_is)
 
 module _ (first now : Contents) (entries after : Vec Entry Global) (written : Vec ℕ Global) (most left room : ℕ) (kept : IsKept first now entries written most left room) (few : length entries.items < most) (capacity : vec_capacity entries ≤ vec_capacity after) where
-  pub kept_looked : after.items ≡ entries.items ++ entry.Looked ∷ [] → IsKept first now after written most left room
-  kept_looked is = record {
-    now_is = kept.now_is ∙ sym (looked_same (areas_of first) (calls_of entries.items written.items)) ∙ ap (areas_after (areas_of first)) (sym (looked_behind entries.items written.items)) ∙ ap (λ (l : List Entry). areas_after (areas_of first) (calls_of l written.items)) (sym is);
-    bytes_are = omega (arith, ap bytes_in is, bytes_behind entries.items entry.Looked, kept.bytes_are);
-    few = omega (arith, ap length is, length-append entries.items (entry.Looked ∷ []));
-    most_fits = omega (arith, kept.most_fits);
-    left_is = kept.left_is;
-    room_fits = kept.room_fits;
-    has_room = kept.has_room;
-  }
-
-  pub kept_synced : (synced : ℕ) → after.items ≡ entries.items ++ entry.Synced synced ∷ [] → IsKept first now after written most left room
-  kept_synced synced is = record {
-    now_is = kept.now_is ∙ sym (synced_same (areas_of first) (calls_of entries.items written.items) synced) ∙ ap (areas_after (areas_of first)) (sym (synced_behind entries.items written.items synced)) ∙ ap (λ (l : List Entry). areas_after (areas_of first) (calls_of l written.items)) (sym is);
-    bytes_are = omega (arith, ap bytes_in is, bytes_behind entries.items (entry.Synced synced), kept.bytes_are);
-    few = omega (arith, ap length is, length-append entries.items (entry.Synced synced ∷ []));
+  pub kept_noted : (last : Entry) → WritesNothing last → after.items ≡ entries.items ++ last ∷ [] → IsKept first now after written most left room
+  kept_noted last none is = record {
+    now_is = kept.now_is ∙ sym (noted_same (areas_of first) (calls_of entries.items written.items) last none) ∙ ap (areas_after (areas_of first)) (sym (noted_behind entries.items written.items last none)) ∙ ap (λ (l : List Entry). areas_after (areas_of first) (calls_of l written.items)) (sym is);
+    bytes_are = omega (arith, ap bytes_in is, bytes_behind entries.items last, noted_bytes last none, kept.bytes_are);
+    few = omega (arith, ap length is, length-append entries.items (last ∷ []));
     most_fits = omega (arith, kept.most_fits);
     left_is = kept.left_is;
     room_fits = kept.room_fits;

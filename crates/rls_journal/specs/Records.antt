@@ -36,6 +36,12 @@ bytes_in (entry.Looked ∷ entries) = bytes_in entries
 bytes_in (entry.Wrote area at len ∷ entries) = len + bytes_in entries
 bytes_in (entry.Synced area ∷ entries) = bytes_in entries
 
+-- the entry is of a call that writes nothing
+abbrev pub WritesNothing : Entry → Type 0
+WritesNothing entry.Looked = Unit {0}
+WritesNothing (entry.Wrote area at len) = ⊥
+WritesNothing (entry.Synced area) = Unit {0}
+
 -- there is memory for so many bytes more in each area
 pub record HasRoom (c : Contents) (count : ℕ) : Type 0 where
   pub slot0 : length c.slot0.items + count ≤ vec_capacity c.slot0

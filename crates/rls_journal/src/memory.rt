@@ -5,7 +5,7 @@ ghost use Rattle.rls_io.specs.Device.{Rose, one_more};
 ghost use Rattle.rls_journal.specs.Areas.{area_of};
 ghost use Rattle.rls_journal.specs.Disk.{Writes, MayTear, Tears, Narrows, Follows, IsDurable, Elapses};
 ghost use Rattle.rls_journal.specs.Memory.{Looked, Wrote, Synced, MayLeave, written_at, seen_step, image_step, image_after, filled_after, bytes_written, reading, can_leave, might_have_left, Refuses, done, recorded, refused};
-ghost use Rattle.rls_journal.specs.Records.{call_of, calls_of, bytes_in};
+ghost use Rattle.rls_journal.specs.Records.{WritesNothing, call_of, calls_of, bytes_in};
 ghost use Rattle.rls_journal.specs.MemoryLaws.{reads_left, now_counts, now_only};
 
 use crate::contents::{Contents, Entry, splice};
@@ -114,7 +114,7 @@ impl MemoryDisk {
         ensures recorded { self.new ≡ recorded self.old }
     {
         if self.calls() < self.most as u64 {
-            self.look();
+            self.note(Entry::Looked);
         }
     }
 
@@ -173,12 +173,13 @@ impl MemoryDisk {
         self.current.area(area)
     }
 
-    // Records a call that changes nothing.
-    fn look(&mut self)
+    // Records a call that writes nothing.
+    fn note(&mut self, entry: Entry)
         requires few { length self.old.calls < self.old.most }
-        ensures done { self.new ≡ done self.old Looked }
+        requires nothing { WritesNothing entry }
+        ensures done { self.new ≡ done self.old (call_of entry []) }
     {
-        self.entries.push(Entry::Looked).unwrap();
+        self.entries.push(entry).unwrap();
     }
 
     // A call that changes nothing.
@@ -195,16 +196,8 @@ impl MemoryDisk {
         ensures refused { OnErr result (self.new ≡ refused self.old) }
     {
         self.enter(0)?;
-        self.look();
+        self.note(Entry::Looked);
         Ok(())
-    }
-
-    // Records a sync.
-    fn note_sync(&mut self, area: u8)
-        requires few { length self.old.calls < self.old.most }
-        ensures done { self.new ≡ done self.old (Synced area) }
-    {
-        self.entries.push(Entry::Synced { area }).unwrap();
     }
 
     // Writes, and records it.
@@ -401,7 +394,7 @@ impl Disk for MemoryDisk {
         ensures refused { OnErr result (self.new ≡ refused self.old) }
     {
         self.enter(0)?;
-        self.note_sync(area);
+        self.note(Entry::Synced { area });
         Ok(())
     }
 }

@@ -3,8 +3,8 @@ use Rattle.rls_journal.specs.Memory.{DiskState, Looked, done}
 use Rattle.rls_journal.proofs.States.{IsQuiet, quiet_looked, quiet_refused}
 use Rattle.rls_journal.proofs.memory.MemoryDisk.quiet.Goals as goal
 
-looked : (c : goal.After-look) → IsQuiet c.args.self.now c.look.new.self
-looked c = quiet_looked c.args.self.now c.look.new.self (c.look.ensures.done ∙ ap (λ (s : DiskState). done s Looked) c.in_ok-enter.ensures.ok)
+looked : (c : goal.After-note) → IsQuiet c.args.self.now c.note.new.self
+looked c = quiet_looked c.args.self.now c.note.new.self (c.note.ensures.done ∙ ap (λ (s : DiskState). done s Looked) c.in_ok-enter.ensures.ok)
 
 pub returns-in_err-enter-clause-same : goal.returns-in_err-enter-clause-same
 returns-in_err-enter-clause-same c = (quiet_refused c.args.self.now c.enter.new.self c.in_err-enter.ensures.refused).same

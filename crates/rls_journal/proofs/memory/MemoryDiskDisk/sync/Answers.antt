@@ -4,8 +4,8 @@ use Rattle.rls_journal.specs.Memory.{DiskState, Synced, done}
 use Rattle.rls_journal.proofs.States.{IsSynced, is_synced, quiet_refused}
 use Rattle.rls_journal.proofs.memory.MemoryDiskDisk.sync.Goals as goal
 
-synced : (c : goal.After-note_sync) → IsSynced c.args.area c.args.self.now c.note_sync.new.self
-synced c = is_synced c.args.self.now c.note_sync.new.self c.args.area c.requires.area (c.note_sync.ensures.done ∙ ap (λ (s : DiskState). done s (Synced c.args.area)) c.in_ok-enter.ensures.ok)
+synced : (c : goal.After-note) → IsSynced c.args.area c.args.self.now c.note.new.self
+synced c = is_synced c.args.self.now c.note.new.self c.args.area c.requires.area (c.note.ensures.done ∙ ap (λ (s : DiskState). done s (Synced c.args.area)) c.in_ok-enter.ensures.ok)
 
 pub returns-in_err-enter-clause-same : goal.returns-in_err-enter-clause-same
 returns-in_err-enter-clause-same c = ap (λ (a : Areas). Some a) (quiet_refused c.args.self.now c.enter.new.self c.in_err-enter.ensures.refused).same
