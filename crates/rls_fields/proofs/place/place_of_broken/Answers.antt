@@ -6,7 +6,7 @@ use Rattle.rls_fields.proofs.PlaceSums.{at_row, at_stem, at_epoch, at_text_run, 
 use Rattle.rls_fields.proofs.place.place_of_broken.Goals as goal
 
 pub returns-in-1 : goal.returns-in-1
-returns-in-1 c = record { place = omega (arith, named c.args.form c.args.parts.now c.args.rule 1 c.args.index c.in-1.is ∙ at_row c.args.form c.args.parts.now c.args.index, ap (sum_by row_size) (c.front.ensures.front ∙ ap (take c.args.index) c.as_slice.ensures.rows)) }
+returns-in-1 c = record { place = omega (arith, named c.args.form c.args.parts.now c.args.rule 1 c.args.index c.in-1.is ∙ at_row c.args.form c.args.parts.now c.args.index, ap (sum_by row_size) (c.front.ensures.front ∙ ap (take c.args.index) c.as_slice.ensures.items)) }
 
 pub returns-in-2 : goal.returns-in-2
 returns-in-2 c =
@@ -14,10 +14,10 @@ returns-in-2 c =
     record { place = c.before_stem.ensures.before ∙ ap (λ n. min n (2 ^ 64 - 1)) (sym place) }
 
 pub returns-in-3 : goal.returns-in-3
-returns-in-3 c = record { place = omega (arith, named c.args.form c.args.parts.now c.args.rule 3 c.args.index c.in-3.is ∙ at_epoch c.args.form c.args.parts.now c.args.index, ap (sum_by epoch_size) (c.front-in-3.ensures.front ∙ ap (take c.args.index) c.as_slice-in-3.ensures.epochs)) }
+returns-in-3 c = record { place = omega (arith, named c.args.form c.args.parts.now c.args.rule 3 c.args.index c.in-3.is ∙ at_epoch c.args.form c.args.parts.now c.args.index, ap (sum_by epoch_size) (c.front-in-3.ensures.front ∙ ap (take c.args.index) c.as_slice-in-3.ensures.items)) }
 
 pub returns-in-4 : goal.returns-in-4
-returns-in-4 c = record { place = omega (arith, named c.args.form c.args.parts.now c.args.rule 4 c.args.index c.in-4.is ∙ at_text_run c.args.form c.args.parts.now c.args.index, ap (sum_by text_run_size) (c.front-in-4.ensures.front ∙ ap (take c.args.index) c.as_slice-in-4.ensures.runs)) }
+returns-in-4 c = record { place = omega (arith, named c.args.form c.args.parts.now c.args.rule 4 c.args.index c.in-4.is ∙ at_text_run c.args.form c.args.parts.now c.args.index, ap (sum_by text_run_size) (c.front-in-4.ensures.front ∙ ap (take c.args.index) c.as_slice-in-4.ensures.items)) }
 
 pub returns-in-5 : goal.returns-in-5
 returns-in-5 c = record { place = omega (arith, named c.args.form c.args.parts.now c.args.rule 5 c.args.index c.in-5.is ∙ at_logged c.args.form c.args.parts.now c.args.index, ap (sum_by op_size) (c.front-in-5.ensures.front ∙ ap (take c.args.index) c.as_slice-in-5.ensures.ops)) }

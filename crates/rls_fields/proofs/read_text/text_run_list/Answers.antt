@@ -10,13 +10,13 @@ use Rattle.rls_fields.proofs.read_text.text_run_list.Goals as goal
 pub returns-in_err-found : goal.returns-in_err-found
 returns-in_err-found c =
     let p = err_from_is_err_and c.from_residual.result c.from_residual.ensures.1 in
-    let before = c.last.ensures.value ∙ ap latest c.as_slice.ensures.runs in
+    let before = c.last.ensures.value ∙ ap latest c.as_slice.ensures.items in
     let fails = subst (λ b. Fails c.in_err-found.field-0.0 (text_run_at b c.loop.rest.now)) before c.in_err-found.ensures.read in
     rw (p.1, p.2) record { read = ends text_run_at c.in_err-found.field-0.0 c.loop.list (latest c.loop.list) c.args.count c.loop.counter c.loop.rest.now _ c.loop-test.true fails c.loop.invariant }
 
 pub loop-preserved : goal.loop-preserved
 loop-preserved c =
-    let before = c.last.ensures.value ∙ ap latest c.as_slice.ensures.runs in
+    let before = c.last.ensures.value ∙ ap latest c.as_slice.ensures.items in
     rw c.in_ok-push.ensures.ok (reads_on text_run_at c.loop.list c.args.count c.loop.counter c.loop.rest.now c.in_ok-found.found c.in_ok-found.after.now _ c.loop-test.true (ap (λ b. text_run_at b c.loop.rest.now) (sym before) ∙ c.in_ok-found.ensures.read) c.loop.invariant)
 
 pub returns : goal.returns

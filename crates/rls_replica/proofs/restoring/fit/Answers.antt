@@ -15,8 +15,8 @@ returns c =
       ranged = record {
         group = c.large.ensures.large;
         vector = c.len-len.ensures.bounded;
-        former = former_each p.epochs (subst HaveFormer c.as_slice.ensures.epochs c.former_fit.ensures.former);
-        runs = subst (λ rs. list_all is_run (map (λ (r : TextRun). r.run) rs) ≡ true) c.as_slice-2.ensures.runs c.runs_fit.ensures.runs;
+        former = former_each p.epochs (subst HaveFormer c.as_slice.ensures.items c.former_fit.ensures.former);
+        runs = subst (λ rs. list_all is_run (map (λ (r : TextRun). r.run) rs) ≡ true) c.as_slice-2.ensures.items c.runs_fit.ensures.runs;
         log = λ o q. (fit_each p.log log o q).0;
         held = λ o q. fit_each p.held waiting o q;
       };

@@ -30,5 +30,5 @@ returns c =
     let list = c.as_slice-2.ensures.value ∙ (c.in_ok-marked.ensures.epochs ∙ ap (map (λ (o : Op). o.epoch)) c.as_slice.ensures.ops) in
     record {
       retained = retained_done p c.args.epochs.now.epochs c.args.stable.now c.as_slice-2.result.now c.as_slice-4.result.now c.as_slice-3.result.now c.names_eq.result r.epochs_are r.stable_is list
-          (c.as_slice-4.ensures.value ∙ c.in_ok-part.ensures.names) c.as_slice-3.ensures.epochs c.if-not-has_stable.ensures.has c.names_eq.ensures.equal;
+          (c.as_slice-4.ensures.value ∙ c.in_ok-part.ensures.names) c.as_slice-3.ensures.items c.if-not-has_stable.ensures.has c.names_eq.ensures.equal;
     }

@@ -4,7 +4,7 @@ use Rattle.rls_rules.proofs.rows.row_fault.Goals as goal
 
 pub is_row_of-requires-clause-counts : goal.is_row_of-requires-clause-counts
 is_row_of-requires-clause-counts c =
-    let rows = c.as_slice-rows.ensures.rows in
+    let rows = c.as_slice-rows.ensures.items in
     let l = c.loop-i-test.true in
     let e = ap length rows in
     ap length (c.index-rows-i.is)

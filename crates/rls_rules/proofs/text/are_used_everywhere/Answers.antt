@@ -23,44 +23,32 @@ loop-left-init c =
 pub translate_runs-requires-clause-to : goal.translate_runs-requires-clause-to
 translate_runs-requires-clause-to c =
     let list = c.args.list.now in
-    let within = c.loop-left.invariant.within in
-    let some = c.loop-left-test.true in
-    let fits : c.loop-left.left - 1 < length list = omega (arith, within, some) in
-    c.requires.kept _ (name_at_place list list (c.loop-left.left - 1) c.index-list-left.result refl fits)
+    c.requires.kept _ (name_at_place list list (c.loop-left.left - 1) c.index-list-left.result refl (omega (arith, c.loop-left.invariant.within, c.loop-left-test.true)))
 
 pub returns-then-not-are_used : goal.returns-then-not-are_used
 returns-then-not-are_used c =
     let list = c.args.list.now in
-    let within = c.loop-left.invariant.within in
-    let some = c.loop-left-test.true in
-    let i = c.loop-left.left - 1 in
-    let fits : i < length list = omega (arith, within, some) in
-    let next : c.loop-left.left ≡ suc i = omega (arith, some) in
     let ids = c.args.ids in
-    let images = c.in_ok-images.images in
     record {
       used = λ p s e.
-          let here = used_moved p c.args.epochs.now.epochs _ ids images c.are_used.result e (c.in_ok-images.ensures.translated ∙ c.loop-left.invariant.images _) (c.are_used.ensures.used p s) in
-          taken_ends (used_in p ids) list c.loop-left.left i c.index-list-left.result (list_all (used_in p ids) (names_of list)) next fits (sym here ∙ c.if-not-are_used.true) (c.loop-left.invariant.rest p s e);
+          let here = used_moved p c.args.epochs.now.epochs _ ids c.in_ok-images.images c.are_used.result e (c.in_ok-images.ensures.translated ∙ c.loop-left.invariant.images _) (c.are_used.ensures.used p s) in
+          taken_ends (used_in p ids) list c.loop-left.left (c.loop-left.left - 1) c.index-list-left.result (list_all (used_in p ids) (names_of list)) (omega (arith, c.loop-left-test.true)) (omega (arith, c.loop-left.invariant.within, c.loop-left-test.true)) (sym here ∙ c.if-not-are_used.true) (c.loop-left.invariant.rest p s e);
     }
 
 pub loop-left-preserved : goal.loop-left-preserved
 loop-left-preserved c =
     let E = c.args.epochs.now.epochs in
     let list = c.args.list.now in
-    let within = c.loop-left.invariant.within in
-    let some = c.loop-left-test.true in
     let i = c.loop-left.left - 1 in
-    let fits : i < length list = omega (arith, within, some) in
-    let next : c.loop-left.left ≡ suc i = omega (arith, some) in
+    let fits : i < length list = omega (arith, c.loop-left.invariant.within, c.loop-left-test.true) in
     let ids = c.args.ids in
     let images = c.in_ok-images.images in
     let from = c.in_ok-images.ensures.translated ∙ c.loop-left.invariant.images _ in
     record {
-      within = omega (arith, within);
+      within = omega (arith, c.loop-left.invariant.within);
       kept = c.requires.kept _ (name_at_place list list i c.index-list-left.result refl fits);
       images = images_on E.nodes (greatest E.top E.nodes) _ ids images c.count-count.ensures.tree.0 c.total-total.ensures.idents.0 from;
       rest = λ p s e.
           let here = used_moved p E _ ids images c.are_used.result e from (c.are_used.ensures.used p s) in
-          taken_on (used_in p ids) list c.loop-left.left i c.index-list-left.result (list_all (used_in p ids) (names_of list)) next fits (sym here ∙ c.if-not-are_used.false) (c.loop-left.invariant.rest p s e);
+          taken_on (used_in p ids) list c.loop-left.left i c.index-list-left.result (list_all (used_in p ids) (names_of list)) (omega (arith, c.loop-left-test.true)) fits (sym here ∙ c.if-not-are_used.false) (c.loop-left.invariant.rest p s e);
     }

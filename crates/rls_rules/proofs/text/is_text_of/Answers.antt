@@ -19,7 +19,7 @@ returns-then-are_all_used c =
 pub are_used_everywhere-requires : goal.are_used_everywhere-requires
 are_used_everywhere-requires c =
     let r = c.requires in
-    record { kept = λ f q. kept_at c.args.parts.now c.args.epochs.now.epochs r.given.epochs r.rule r.epochs_are f (subst (λ es. IsIn f (names_of es)) c.as_slice.ensures.epochs q) }
+    record { kept = λ f q. kept_at c.args.parts.now c.args.epochs.now.epochs r.given.epochs r.rule r.epochs_are f (subst (λ es. IsIn f (names_of es)) c.as_slice.ensures.items q) }
 
 pub returns : goal.returns
 returns c =
@@ -30,6 +30,6 @@ returns c =
     c.in_ok-append.ensures.ok
     ∙ (ap (λ (xs : List (List Tuple)). xs ++ run_idents copy.0 copy.1) c.new-ids.ensures.empty ∙ ap (λ (q : List Tuple × ℕ). run_idents q.0 q.1) c.in_ok-copy.ensures.copy) in
     record {
-      used = subst (λ used. IfOk c.are_used_everywhere.result (λ b. b ≡ used)) (text_of p c.args.run.now _ c.as_slice.result.now ids c.as_slice.ensures.epochs)
+      used = subst (λ used. IfOk c.are_used_everywhere.result (λ b. b ≡ used)) (text_of p c.args.run.now _ c.as_slice.result.now ids c.as_slice.ensures.items)
           (c.are_used_everywhere.ensures.used p (sym r.stems_are) (sym r.epochs_are));
     }

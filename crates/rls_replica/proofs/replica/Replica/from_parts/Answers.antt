@@ -28,7 +28,7 @@ invariant_of-result c =
     let p = c.args.parts in
     let a = c.in_ok-acks.field-0 in
     let made = c.in_ok-acks.ensures.made in
-    let same = seen_so p a.acks (a.stems).stems (a.epochs).epochs (entries_of c.in_ok-document.document.blocks) c.in_ok-held.held c.of.result.ops made.acks made.stems made.epochs (c.in_ok-document.ensures.text ∙ ap entries_in c.into_vec.ensures.runs) (c.in_ok-held.ensures.held ∙ c.as_slice.ensures.ops) c.of.ensures.ops in
+    let same = seen_so p a.acks (a.stems).stems (a.epochs).epochs (entries_of c.in_ok-document.document.blocks) c.in_ok-held.held c.of.result.ops made.acks made.stems made.epochs (c.in_ok-document.ensures.text ∙ ap entries_in c.into_vec.ensures.items) (c.in_ok-held.ensures.held ∙ c.as_slice.ensures.ops) c.of.ensures.ops in
     record {
       sane = subst IsSane (sym same) (sane p c.requires.given c.fit.ensures.ranged made.unbroken);
       authors_are = made.members ∙ (sym c.requires.given.vector ∙ sym (ap (λ (x : AcksSeen). length x.mine) made.acks));
@@ -39,7 +39,7 @@ returns-clause-replica c =
     let p = c.args.parts in
     let a = c.in_ok-acks.field-0 in
     let made = c.in_ok-acks.ensures.made in
-    let same = seen_so p a.acks (a.stems).stems (a.epochs).epochs (entries_of c.in_ok-document.document.blocks) c.in_ok-held.held c.of.result.ops made.acks made.stems made.epochs (c.in_ok-document.ensures.text ∙ ap entries_in c.into_vec.ensures.runs) (c.in_ok-held.ensures.held ∙ c.as_slice.ensures.ops) c.of.ensures.ops in
+    let same = seen_so p a.acks (a.stems).stems (a.epochs).epochs (entries_of c.in_ok-document.document.blocks) c.in_ok-held.held c.of.result.ops made.acks made.stems made.epochs (c.in_ok-document.ensures.text ∙ ap entries_in c.into_vec.ensures.items) (c.in_ok-held.ensures.held ∙ c.as_slice.ensures.ops) c.of.ensures.ops in
     same
 
 pub returns-clause-back : goal.returns-clause-back
@@ -47,7 +47,7 @@ returns-clause-back c =
     let p = c.args.parts in
     let a = c.in_ok-acks.field-0 in
     let made = c.in_ok-acks.ensures.made in
-    let same = seen_so p a.acks (a.stems).stems (a.epochs).epochs (entries_of c.in_ok-document.document.blocks) c.in_ok-held.held c.of.result.ops made.acks made.stems made.epochs (c.in_ok-document.ensures.text ∙ ap entries_in c.into_vec.ensures.runs) (c.in_ok-held.ensures.held ∙ c.as_slice.ensures.ops) c.of.ensures.ops in
+    let same = seen_so p a.acks (a.stems).stems (a.epochs).epochs (entries_of c.in_ok-document.document.blocks) c.in_ok-held.held c.of.result.ops made.acks made.stems made.epochs (c.in_ok-document.ensures.text ∙ ap entries_in c.into_vec.ensures.items) (c.in_ok-held.ensures.held ∙ c.as_slice.ensures.ops) c.of.ensures.ops in
     ap parts_over same ∙ back p c.requires.given made.unbroken
 
 pub returns-clause-stands : goal.returns-clause-stands
@@ -55,6 +55,6 @@ returns-clause-stands c t l e =
     let p = c.args.parts in
     let a = c.in_ok-acks.field-0 in
     let made = c.in_ok-acks.ensures.made in
-    let same = seen_so p a.acks (a.stems).stems (a.epochs).epochs (entries_of c.in_ok-document.document.blocks) c.in_ok-held.held c.of.result.ops made.acks made.stems made.epochs (c.in_ok-document.ensures.text ∙ ap entries_in c.into_vec.ensures.runs) (c.in_ok-held.ensures.held ∙ c.as_slice.ensures.ops) c.of.ensures.ops in
+    let same = seen_so p a.acks (a.stems).stems (a.epochs).epochs (entries_of c.in_ok-document.document.blocks) c.in_ok-held.held c.of.result.ops made.acks made.stems made.epochs (c.in_ok-document.ensures.text ∙ ap entries_in c.into_vec.ensures.items) (c.in_ok-held.ensures.held ∙ c.as_slice.ensures.ops) c.of.ensures.ops in
     let ranged = subst AreRanged (sym e) c.fit.ensures.ranged in
     subst (λ s. StandsFor s t) (sym same) (subst (λ q. StandsFor (seen_of q) t) e (stand t l ranged (ap broken e ∙ made.unbroken)))

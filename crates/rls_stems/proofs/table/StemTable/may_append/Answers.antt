@@ -9,10 +9,7 @@ use Rattle.rls_stems.proofs.table.StemTable.may_append.Goals as goal
 
 pub returns : goal.returns
 returns c =
-    let own = c.in-Some.ensures.own ∙ ap (own_stem c.args.self.now.stems c.args.me) (sym c.last-last.ensures.last) in
     let offset = ap offset_of c.last-last.ensures.last in
-    let a = c.if-last-stem.false in
-    let b = c.if-last-count.false in
-    let ends : offset_of (last_of c.args.left.now) +ℤ pos 1 ≡ pos c.in-Some.stem.next = omega (arith, ints) in
-    let room : (offset_of (last_of c.args.left.now) +ℤ pos c.args.count) ≤ℤ greatest_offset = omega (arith, ints) in
-    record { append = appends (own_stem c.args.self.now.stems c.args.me (last_of c.args.left.now)) c.in-Some.stem c.args.left.now c.in_ok-shifted.field-0 (option_copied c.args.right) c.args.count c.ends_below-2.result own ends room c.in_ok-shifted.ensures.shifted c.ends_below-2.ensures.below }
+    let ends : offset_of (last_of c.args.left.now) +ℤ pos 1 ≡ pos c.in-Some.stem.next = omega (arith, ints, c.if-last-stem.false) in
+    let room : (offset_of (last_of c.args.left.now) +ℤ pos c.args.count) ≤ℤ greatest_offset = omega (arith, ints, c.if-last-count.false) in
+    record { append = appends (own_stem c.args.self.now.stems c.args.me (last_of c.args.left.now)) c.in-Some.stem c.args.left.now c.in_ok-shifted.field-0 (option_copied c.args.right) c.args.count c.ends_below-2.result (c.in-Some.ensures.own ∙ ap (own_stem c.args.self.now.stems c.args.me) (sym c.last-last.ensures.last)) ends room c.in_ok-shifted.ensures.shifted c.ends_below-2.ensures.below }
