@@ -3,6 +3,7 @@
 //! Each call that writes appends the bytes of its part. Where memory runs out, some of them may stand there.
 #![tactic(auto)]
 
+mod lists;
 mod place;
 mod read_epochs;
 mod read_rows;

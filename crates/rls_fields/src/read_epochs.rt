@@ -1,12 +1,13 @@
 //! Epochs.
 
-ghost use Rattle.std.specs.Prelude.{None, Some, nat_lt, option_copied};
+ghost use Rattle.std.specs.Prelude.{None, Some, nat_lt};
 ghost use Rattle.std.specs.Int.{w32};
 ghost use Rattle.rls_codec.specs.Gives.{Gives};
 ghost use Rattle.rls_codec.specs.Reading.{with_rule, number_at, chain_at};
 ghost use Rattle.rls_model.specs.declared.parts.EpochPart.{EpochPart as EpochPartSeen};
 ghost use Rattle.rls_fields.specs.ReadingFields.{epoch_at};
 
+use crate::lists::{Items, list};
 use rls_codec::{ReadError, epoch_name, runs, u32_at};
 use rls_model::{EpochPart, EpochParts};
 use rls_runs::Runs;
@@ -42,17 +43,25 @@ fn next_epoch(alloc: Global, bytes: &[u8]) -> Result<(EpochPart, &[u8]), ReadErr
     Ok((epoch, rest))
 }
 
-// An epoch after the one before, where there is one.
-fn epoch<'a>(
-    alloc: Global,
-    before: Option<&EpochPart>,
-    bytes: &'a [u8],
-) -> Result<(EpochPart, &'a [u8]), ReadError>
-    ensures read { Gives (λ x. (x.0, x.1.now)) result (epoch_at (option_copied before.entry) bytes.now) }
-{
-    match before {
-        None => top_epoch(alloc, bytes),
-        Some(_) => next_epoch(alloc, bytes),
+// Epochs, of which the topmost is the first.
+#[derive(Drop)]
+struct EpochItems;
+
+impl Items for EpochItems {
+    type Item = EpochPart;
+
+    ghost item_at = { λ r. epoch_at };
+
+    fn next<'a>(
+        &self,
+        alloc: Global,
+        before: Option<&EpochPart>,
+        bytes: &'a [u8],
+    ) -> Result<(EpochPart, &'a [u8]), ReadError> {
+        match before {
+            None => top_epoch(alloc, bytes),
+            Some(_) => next_epoch(alloc, bytes),
+        }
     }
 }
 
@@ -64,14 +73,7 @@ pub(crate) fn epoch_list(
 ) -> Result<(EpochParts, &[u8]), ReadError>
     ensures read { Gives (λ x. (x.0, x.1.now)) result (chain_at epoch_at None count bytes.now) }
 {
-    let mut list = EpochParts::new(alloc);
-    let mut rest = bytes;
-    for _ in 0..count {
-        let (found, after) = epoch(alloc, list.as_slice().last(), rest)?;
-        list.push(found)?;
-        rest = after;
-    }
-    Ok((list, rest))
+    list(alloc, &EpochItems, count, bytes)
 }
 
 /// How many epochs there are, at least 1.

@@ -1,16 +1,39 @@
 //! Rows, and the members that have left.
 
-ghost use Rattle.std.specs.Prelude.{◌≡◌, None, option_copied};
+ghost use Rattle.std.specs.Prelude.{◌≡◌, option_copied};
 ghost use Rattle.rls_codec.specs.Gives.{Gives};
-ghost use Rattle.rls_codec.specs.Reading.{many_at, counted_at, vector_at, chain_at};
+ghost use Rattle.rls_codec.specs.Reading.{many_at, counted_at, vector_at};
 ghost use Rattle.rls_fields.specs.ReadingFields.{is_above, left_at, lefts_at};
 
+use crate::lists::{Items, list};
 use rls_codec::{ReadError, u32_at, vector};
+use rls_ident::Vector;
 use rls_model::{Members, Rows};
 use std::alloc::Global;
 
 /// The form that has the members that have left.
 const WITH_LEFT: u8 = 4;
+
+// Vectors, each with a count for each member.
+#[derive(Drop)]
+struct RowItems {
+    members: u32,
+}
+
+impl Items for RowItems {
+    type Item = Vector;
+
+    ghost item_at = { λ r before. vector_at r.members };
+
+    fn next<'a>(
+        &self,
+        alloc: Global,
+        _before: Option<&Vector>,
+        bytes: &'a [u8],
+    ) -> Result<(Vector, &'a [u8]), ReadError> {
+        vector(alloc, self.members, bytes)
+    }
+}
 
 /// So many vectors, each with a count for each member.
 pub(crate) fn rows(
@@ -21,14 +44,7 @@ pub(crate) fn rows(
 ) -> Result<(Rows, &[u8]), ReadError>
     ensures read { Gives (λ x. (x.0, x.1.now)) result (many_at (vector_at members) count bytes.now) }
 {
-    let mut rows = Rows::new(alloc);
-    let mut rest = bytes;
-    for _ in 0..count {
-        let (row, after) = vector(alloc, members, rest)?;
-        rows.push(row)?;
-        rest = after;
-    }
-    Ok((rows, rest))
+    list(alloc, &RowItems { members }, count, bytes)
 }
 
 // Whether the member is above the one before, where there is one.
@@ -41,38 +57,29 @@ fn is_above(before: Option<&u32>, member: u32) -> bool
     }
 }
 
-// A member that has left, above the one before.
-fn member_above<'a>(
+// Members that have left, each above the one before.
+#[derive(Drop)]
+struct LeftItems {
     members: u32,
-    before: Option<&u32>,
-    bytes: &'a [u8],
-) -> Result<(u32, &'a [u8]), ReadError>
-    ensures read { Gives (λ x. (x.0, x.1.now)) result (left_at members (option_copied before.entry) bytes.now) }
-{
-    let (member, rest) = u32_at(bytes)?;
-    if member >= members || !is_above(before, member) {
-        return Err(ReadError::Fault { left: bytes.len() });
-    }
-    Ok((member, rest))
 }
 
-// So many members that have left.
-fn member_list(
-    alloc: Global,
-    members: u32,
-    count: u32,
-    bytes: &[u8],
-) -> Result<(Members, &[u8]), ReadError>
-    ensures read { Gives (λ x. (x.0, x.1.now)) result (chain_at (left_at members) None count bytes.now) }
-{
-    let mut list = Members::new(alloc);
-    let mut rest = bytes;
-    for _ in 0..count {
-        let (member, after) = member_above(members, list.as_slice().last(), rest)?;
-        list.push(member)?;
-        rest = after;
+impl Items for LeftItems {
+    type Item = u32;
+
+    ghost item_at = { λ r. left_at r.members };
+
+    fn next<'a>(
+        &self,
+        _alloc: Global,
+        before: Option<&u32>,
+        bytes: &'a [u8],
+    ) -> Result<(u32, &'a [u8]), ReadError> {
+        let (member, rest) = u32_at(bytes)?;
+        if member >= self.members || !is_above(before, member) {
+            return Err(ReadError::Fault { left: bytes.len() });
+        }
+        Ok((member, rest))
     }
-    Ok((list, rest))
 }
 
 // The members that have left, after their number.
@@ -80,8 +87,8 @@ fn counted_members(alloc: Global, members: u32, bytes: &[u8]) -> Result<(Members
     ensures read { Gives (λ x. (x.0, x.1.now)) result (counted_at (left_at members) bytes.now) }
 {
     let (count, rest) = u32_at(bytes)?;
-    let (list, rest) = member_list(alloc, members, count, rest)?;
-    Ok((list, rest))
+    let (left, rest) = list(alloc, &LeftItems { members }, count, rest)?;
+    Ok((left, rest))
 }
 
 /// The members that have left, each above the one before. The forms before 4 have no such field: then nobody has.

@@ -3,9 +3,10 @@
 ghost use Rattle.std.specs.Prelude.{◌≡◌, ◌==◌, None, length, option_copied};
 ghost use Rattle.rls_runs.specs.Runs.{is_apart};
 ghost use Rattle.rls_codec.specs.Gives.{Gives};
-ghost use Rattle.rls_codec.specs.Reading.{with_rule, counted_at, next_run_at, text_at, chain_at};
+ghost use Rattle.rls_codec.specs.Reading.{with_rule, counted_at, next_run_at, text_at};
 ghost use Rattle.rls_fields.specs.ReadingFields.{run_before, text_run_at};
 
+use crate::lists::{Items, list};
 use rls_codec::{ReadError, run, text, u32_at};
 use rls_model::{TextRun, TextRuns};
 use rls_runs::{Run, Text};
@@ -47,32 +48,26 @@ fn text_of_len(alloc: Global, len: u32, bytes: &[u8]) -> Result<(Text, &[u8]), R
     Ok((found, rest))
 }
 
-// A run after the one before, and its characters.
-#[tactic(auto, unfolding(crate::specs::ReadingFields::text_run_at))]
-fn text_run<'a>(
-    alloc: Global,
-    before: Option<&TextRun>,
-    bytes: &'a [u8],
-) -> Result<(TextRun, &'a [u8]), ReadError>
-    ensures read { Gives (λ x. (x.0, x.1.now)) result (text_run_at (option_copied before.entry) bytes.now) }
-{
-    let (run, rest) = next_run(alloc, before, bytes)?;
-    let (text, rest) = text_of_len(alloc, run.len(), rest)?;
-    Ok((TextRun { run, text }, rest))
-}
+// Runs, each after the one before, with their characters.
+#[derive(Drop)]
+struct TextRunItems;
 
-// So many runs.
-fn text_run_list(alloc: Global, count: u32, bytes: &[u8]) -> Result<(TextRuns, &[u8]), ReadError>
-    ensures read { Gives (λ x. (x.0, x.1.now)) result (chain_at text_run_at None count bytes.now) }
-{
-    let mut list = TextRuns::new(alloc);
-    let mut rest = bytes;
-    for _ in 0..count {
-        let (found, after) = text_run(alloc, list.as_slice().last(), rest)?;
-        list.push(found)?;
-        rest = after;
+impl Items for TextRunItems {
+    type Item = TextRun;
+
+    ghost item_at = { λ r. text_run_at };
+
+    #[tactic(auto, unfolding(crate::specs::ReadingFields::text_run_at))]
+    fn next<'a>(
+        &self,
+        alloc: Global,
+        before: Option<&TextRun>,
+        bytes: &'a [u8],
+    ) -> Result<(TextRun, &'a [u8]), ReadError> {
+        let (run, rest) = next_run(alloc, before, bytes)?;
+        let (text, rest) = text_of_len(alloc, run.len(), rest)?;
+        Ok((TextRun { run, text }, rest))
     }
-    Ok((list, rest))
 }
 
 /// The runs after their number.
@@ -80,6 +75,6 @@ pub(crate) fn text_runs(alloc: Global, bytes: &[u8]) -> Result<(TextRuns, &[u8])
     ensures read { Gives (λ x. (x.0, x.1.now)) result (counted_at text_run_at bytes.now) }
 {
     let (count, rest) = u32_at(bytes)?;
-    let (list, rest) = text_run_list(alloc, count, rest)?;
-    Ok((list, rest))
+    let (runs, rest) = list(alloc, &TextRunItems, count, rest)?;
+    Ok((runs, rest))
 }
