@@ -3,8 +3,10 @@ _rls() {
   local word=${COMP_WORDS[COMP_CWORD]}
   COMPREPLY=()
   if [ "$COMP_CWORD" = 1 ]; then
-    mapfile -t COMPREPLY < <(compgen -W 'new edit text ids stat send take leave trial session build help --version' -- "$word")
-  elif [ "$COMP_CWORD" = 2 ] && [ "${COMP_WORDS[1]}" = send ] && [ -e replica.gate ]; then
+    mapfile -t COMPREPLY < <(compgen -W 'new edit text ids stat check send take leave retire trial session build help --version' -- "$word")
+  elif [ "$COMP_CWORD" = 2 ] && [ "${COMP_WORDS[1]}" = edit ]; then
+    mapfile -t COMPREPLY < <(compgen -W '--text' -- "$word")
+  elif [ "$COMP_CWORD" = 2 ] && [[ ${COMP_WORDS[1]} == @(send|retire) ]] && [ -e replica.gate ]; then
     # The numbers of the other members, from the head of the stored file.
     local slot=$(($(od -An -tu1 -N1 replica.gate) % 2)) head i others=()
     read -r -a head < <(od -An -v -tu1 -w40 -j8 -N21 "replica.$slot" 2>/dev/null)

@@ -1,0 +1,69 @@
+# What the program's line on standard error means, and what to do: bin/rls reads this after a command that failed, and calls
+# explain STATUS LINES COMMAND. docs/USE.md has the same as a table.
+# shellcheck shell=bash
+
+# The line of the script that has this number, as far as a terminal may show it.
+script_line() {
+  local text
+  [ -f /dev/stdin ] || return 1
+  IFS= read -r text < <(sed -n "$1{p;q}" /dev/stdin 2>/dev/null)
+  raw=$text
+  [ "${#text}" -le 60 ] || text="${text:0:57}..."
+  shown=${text//[[:cntrl:]]/?}
+}
+
+explain() {
+  local status=$1 line=${2##*$'\n'} command=$3
+  local -a words
+  read -r -a words <<<"$line"
+  case "$status $line" in
+    '1 '*) say "a number is too great, or has a zero or a sign in front. \`rls help\` explains the words." ;;
+    '2 no replica') say "there is no replica in $PWD. Go to the folder of one, or begin one here: rls new GROUP ME MEMBERS" ;;
+    '2 replica exists') say "$PWD has a replica already, and each needs a folder of its own." ;;
+    '3 '*) say 'the stored file is not right from that byte on, and stays as it is. If another command stored just now, try again; otherwise docs/USE.md, "A replica is lost", says how to go on.' ;;
+    '4 bad members '*) say 'MEMBERS is how many members the text may ever have, from 1 to 64.' ;;
+    '4 bad me '*) say 'ME is your own number: members are numbered from 0, so it is below MEMBERS.' ;;
+    '4 not a member '*) say "members are numbered from 0, and \`rls stat\` says how many there may be." ;;
+    '4 bad line '*) explain_bad_line "${words[2]}" ;;
+    '4 malformed at 4') say 'the message was written by a newer program, or is none. Nothing was taken.' ;;
+    '4 malformed '*) say 'this is no message, or it was cut off or changed on its way. Nothing was taken: ask for it again.' ;;
+    '4 other group '*) say "the message is of text number ${words[2]} with ${words[3]} members, and the replica here is of another; \`rls stat\` says of which. Nothing was taken." ;;
+    '5 '*) say 'all else was done. An operation that can not be right comes from a member that broke a rule: a number that was used twice, files put back from a copy, or another program (docs/USE.md, "Rules").' ;;
+    '6 line '*) explain_refused "${words[1]%:}" "${line#*: }" "$command" ;;
+    '7 '*) say "the files of the replica in $PWD can't be read or written: is the disk full, or who may write there? The command may have been stored all the same: look at \`rls text\` before you repeat it." ;;
+    '8 '*) say "the input can't be read. Nothing was stored." ;;
+    '9 '*) say "the output can't be written. What the command stores is stored." ;;
+    '10 '*) say "whether anything was stored is for \`rls text\` to show. It may help to close other programs." ;;
+    '11 '*) say 'the input may have 67,108,864 bytes, and the stored file 268,435,456. Nothing was stored (docs/USE.md, "Limits").' ;;
+  esac
+}
+
+explain_bad_line() {
+  local shown raw why='A line is `i POS TEXT`, `d POS COUNT`, `b POS` or `r`.'
+  script_line "$1" || shown='' raw=' '
+  case $raw in
+    '') why='A script has no empty lines.' ;;
+    *$'\r') why="It ends with a carriage return, as lines of Windows do: tr -d '\\r' takes those out." ;;
+    'i '[0-9]*' '*\\*) why='In a text \n is a line feed, \r a carriage return and \\ a backslash, and nothing else follows a backslash.' ;;
+  esac
+  say "line $1 of the script${shown:+ is \`$shown\`}. $why Nothing was done."
+}
+
+explain_refused() {
+  local shown raw why
+  local -a words
+  read -r -a words <<<"$2"
+  case $2 in
+    range*) why="position ${words[1]} is asked for, and the text has ${words[2]} characters then" ;;
+    'empty edit') why='there is nothing to insert or to delete' ;;
+    'empty document') why='the text is empty, so there is nothing to rename' ;;
+    'not a boundary'*) why="no character, as a reader sees it, ends at ${words[3]}" ;;
+    'too many characters'*) why="it has ${words[3]} characters: an insertion may have 1,048,576, and a deletion or a rename 4,194,304" ;;
+    'operation too large'*) why="it would need ${words[3]} bytes, and may have 16,777,216; for a rename docs/USE.md, \"When to rename\", says what to do then" ;;
+    'numbers spent') why='this member has made as many operations as there may be: begin with another number' ;;
+    left) why='this member has left or was retired, and can never edit again' ;;
+    *) return ;;
+  esac
+  [ "$3" = leave ] || script_line "$1" || shown=''
+  say "line $1${shown:+ is \`$shown\`}: $why. Nothing was stored."
+}

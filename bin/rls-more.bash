@@ -1,0 +1,87 @@
+# The commands of the launcher that the program doesn't have: bin/rls reads this for `edit --text`, `check` and `retire`, and has looked at
+# the folder and taken its lock. Each of them ends the script.
+# shellcheck shell=bash
+
+# --- edit --text FILE
+
+# A text with one line for each of its own, as edits.awk reads it: FE for its line feeds, FF for the byte 0. UTF-8 has neither.
+marked_lines() { { cat "$1" && echo .; } | LC_ALL=C tr '\000' '\377' | LC_ALL=C sed -e '$!s/$/\xfe/' -e '$s/\.$//'; }
+
+edit_text() {
+  room=$(mktemp -d) || exit 8
+  trap 'rm -rf "$room"' EXIT
+  cat -- "$1" >"$room/new" || exit 8
+  if ! iconv -f UTF-8 -t UTF-8 "$room/new" >/dev/null 2>&1; then
+    say "$1 is no text in UTF-8. Nothing was done."
+    exit 4
+  fi
+  perform text >"$room/text" || exit
+  marked_lines "$room/text" >"$room/old.lines"
+  marked_lines "$room/new" >"$room/new.lines"
+  LC_ALL=C diff -a --unchanged-line-format='=%L' --old-line-format='-%L' --new-line-format='+%L' "$room/old.lines" "$room/new.lines" |
+    LC_ALL=C awk -f "$top/bin/edits.awk" | LC_ALL=C tr '\377' '\000' >"$room/script"
+  if [[ ${PIPESTATUS[*]} != [01]' 0 0' ]]; then
+    say 'the two texts could not be compared. Nothing was done.'
+    exit 8
+  fi
+  perform edit <"$room/script"
+  case $status in 0 | 5) advise ;; esac
+  exit "$status"
+}
+
+# --- check
+
+# Prints what is equal for two members that have the same. It is read again if another command has stored meanwhile.
+check() {
+  local numbers ids text
+  for _ in 1 2 3 4 5; do
+    numbers=$(perform stat) || exit
+    ids=$("$program" ids | cksum)
+    text=$("$program" text | cksum)
+    [ "$numbers" != "$("$program" stat)" ] || break
+  done
+  sed -n '/^accepted /p' <<<"$numbers"
+  echo "ids ${ids% *}"
+  echo "text ${text% *}"
+  exit
+}
+
+# --- retire N
+
+# What nothing but retiring would change: says why, and ends.
+stays() { say "$@" 'Nothing was done.'; exit "$NOT_SAFE"; }
+
+# The numbers of four bytes in the stored file, from a place on.
+stored_numbers() { od -An -v -tu4 --endian=big -j $((before + $1)) -N $((4 * $2)) "$stored" 2>/dev/null | tr -s ' \n' ' '; }
+
+retire() {
+  local number=$1 numbers group me members count left row k stored before form=
+  # Only the newest form of files says who has left; a command that stores writes it.
+  find_stored && read -r form < <(od -An -tu1 -j $((before + 4)) -N 1 "$stored" 2>/dev/null)
+  [ "$form" = 4 ] || perform edit </dev/null >/dev/null || exit
+  numbers=$(perform stat) || exit
+  group=$(sed -n 's/^group //p' <<<"$numbers")
+  me=$(sed -n 's/^me //p' <<<"$numbers")
+  members=$(sed -n 's/^members //p' <<<"$numbers")
+  [[ $number =~ ^(0|[1-9][0-9]?)$ ]] && [ "$number" -lt "$members" ] || stays "the members are numbered from 0 to $((members - 1))."
+  [ "$number" != "$me" ] || stays "$me is this member's own number: \`rls leave\` ends its part."
+  # docs/FORMATS.md: after the counts come those that each other member was known to have, and then who has left.
+  find_stored
+  read -r -a left < <(stored_numbers $((21 + 4 * members * members)) $((members + 1)))
+  for ((k = 1; k <= ${left[0]:-0}; k++)); do
+    [ "${left[k]}" != "$number" ] || stays "number $number has left or was retired already."
+  done
+  count=$(sed -n 's/^accepted //p' <<<"$numbers" | cut -d ' ' -f $((number + 1)))
+  [ "$count" = 0 ] || stays "number $number has made $count operations, so it is in use. Only \`rls leave\` in its own folder ends its part."
+  row=$((number < me ? number : number - 1))
+  if [ -z "${RLS_FORCE:-}" ] && [[ $(stored_numbers $((21 + 4 * members * (row + 1))) "$members") == *[1-9]* ]]; then
+    refuse "number $number is in use: a message of it was taken here. What it writes after it is retired would part the texts for ever. Nothing was done."
+  fi
+  ask "after this nobody can ever use number $number. If anybody has begun with it, on any machine, the texts will differ for ever."
+  room=$(mktemp -d) || exit 8
+  trap 'rm -rf "$room"' EXIT
+  (cd "$room" && "$program" new "$group" "$number" "$members" && "$program" leave && "$program" send "$me" >message) >/dev/null || exit
+  perform take <"$room/message" >/dev/null
+  [ "$status" != 0 ] || echo "retired $number"
+  exit "$status"
+}
