@@ -13,11 +13,11 @@
                 (rls-open default-directory (expand-file-name "shared" room))))
             (number-sequence 0 (1- members)))))
 
-(defun rls-test-stored (folder)
-  "The text that the replica of FOLDER has kept."
+(defun rls-test-stored (folder &optional word)
+  "What the command WORD prints of the replica of FOLDER: its text, if not said otherwise."
   (with-temp-buffer
     (let ((default-directory folder) (coding-system-for-read 'utf-8-unix))
-      (call-process rls-program nil t nil "text"))
+      (call-process rls-program nil t nil (or word "text")))
     (buffer-string)))
 
 (defun rls-test-close (buffers)
@@ -65,7 +65,8 @@
     (rls-test-close (list a))))
 
 (ert-deftest rls-random ()
-  (let ((all (rls-test-open 3)))
+  (let* ((rls-rename-at 8) (all (rls-test-open 3))
+         (folders (mapcar (lambda (x) (buffer-local-value 'rls--folder x)) all)))
     (random "seed")
     (dotimes (_ 150)
       (with-current-buffer (nth (random 3) all)
@@ -83,5 +84,7 @@
                        (decode-coding-string (rls--bytes (rls--number (rls--ask "t") "text")) 'utf-8-unix)))))
     (dotimes (_ 3) (dolist (x all) (with-current-buffer x (rls-sync))))
     (should (= 1 (length (delete-dups (mapcar (lambda (x) (with-current-buffer x (buffer-string))) all)))))
-    (rls-test-close all)))
+    (rls-test-close all)
+    ;; Something was renamed.
+    (dolist (folder folders) (should (string-search "\"epoch\":[" (rls-test-stored folder "ids"))))))
 ;;; rls-test.el ends here

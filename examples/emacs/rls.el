@@ -17,6 +17,8 @@
 (defcustom rls-every 0.5 "Seconds between two looks into the shared folder; nil for none." :type '(choice number (const nil)))
 (defcustom rls-idle 2 "Seconds without an edit, after which edits are stored and sent." :type 'number)
 
+(defcustom rls-rename-at 500 "Runs of identifiers from which it renames (docs/USE.md); 0 for never." :type 'natnum)
+
 (defconst rls--most-input (- 67108864 4096) "Bytes that one session may read, less some.")
 (defvar rls--silent nil "Whether a change of the buffer comes from the session.")
 (defvar-local rls--process nil "The session.")
@@ -31,6 +33,8 @@
 (defvar-local rls--edited 0 "When this member edited last.")
 (defvar-local rls--taken nil "The last message from each member.")
 (defvar-local rls--sent nil "The last message to each member.")
+(defvar-local rls--changes 0 "How much has changed since the runs were looked at.")
+(defvar-local rls--told nil "Whether it was said that a rename was refused.")
 (defvar-local rls--timer nil)
 (defvar-local rls--problem "" "What a message of another member lacked.")
 (defvar-local rls--failed nil "Why nothing more is done with this buffer.")
@@ -102,7 +106,34 @@ The cursor goes over, and what `u' could take back doesn't."
     (unless (equal (rls--ask "q") "saved") (error "rls: not stored"))
     (rls--end-process)
     (rls--start)
+    (rls--rename-if-due)
     (rls--number (rls--ask (format "k %d" at)) "cursor")))
+
+(defun rls--stat (word)
+  "The number after WORD in what `rls stat' prints of the stored file."
+  (let ((default-directory rls--folder) (program rls-program))
+    (with-temp-buffer
+      (call-process program nil '(t nil) nil "stat")
+      (goto-char (point-min))
+      (if (re-search-forward (format "^%s \\([0-9]+\\)$" word) nil t) (string-to-number (match-string 1)) 0))))
+
+(defun rls--rename-if-due ()
+  "Renames what was just stored if it has too many runs of identifiers.
+The more epochs are kept, because some member hasn't taken the last renames,
+the longer it waits.  It looks only when something has changed since, an eighth
+of the limit at least."
+  (when (and (> rls-rename-at 0) (>= (* 8 rls--changes) rls-rename-at))
+    (setq rls--changes 0)
+    (when (> (rls--stat "runs") (* rls-rename-at (min 8 (rls--stat "epochs"))))
+      (let ((reply (rls--ask "r")))
+        (if (string-prefix-p "no " reply)
+            (unless rls--told
+              (setq rls--told t)
+              (message "rls: the rename was refused (%s): docs/USE.md, \"When to rename\", says what to do" (substring reply 3)))
+          (rls--number reply "ok")
+          (unless (equal (rls--ask "q") "saved") (error "rls: not stored"))
+          (rls--end-process)
+          (rls--start))))))
 
 ;;;; The text
 
@@ -118,7 +149,7 @@ The cursor goes over, and what `u' could take back doesn't."
                   (when (> to from)
                     (let ((come (save-restriction (widen) (buffer-substring-no-properties from to))))
                       (rls--number (rls--ask (format "i %d %s" (1- from) (rls--escaped come))) "ok")))
-                  (setq rls--unsaved t rls--edited (float-time)))))))
+                  (setq rls--unsaved t rls--changes (1+ rls--changes) rls--edited (float-time)))))))
 
 (defun rls--show ()
   "Shows the session's text.
@@ -179,7 +210,7 @@ Then the replica's files are old, or two members have its number."
         (setq rls--problem (if (and (not is-refused) (string-match "held 0 refused 0" reply)) "" (format ", message of %d: %s" from reply)))
         (unless is-refused
           (setf (alist-get from rls--taken) message)
-          (setq rls--unsaved t))))))
+          (setq rls--changes (+ rls--changes (rls--number reply "applied")) rls--unsaved t))))))
 
 (defun rls--take ()
   (let* ((window (get-buffer-window)) (taken nil)
@@ -279,6 +310,7 @@ After a fault nothing more is done with the buffer, which keeps what it shows."
       (setq-local require-final-newline nil)
       (setq rls--folder (file-name-as-directory (expand-file-name folder)) rls--shared (expand-file-name shared))
       (make-directory rls--shared t)
+      (setq rls--changes rls-rename-at)
       (rls--start)
       ;; Which member this is: the head of a message tells it.
       (setq rls--head (rls--message 0)

@@ -1,6 +1,6 @@
 -- Presses keys at random in two buffers of one Neovim, which are two members, and compares the texts: RLS and ROOM are in the environment.
 local rls = require('rls')
-rls.program, rls.every = os.getenv('RLS'), 1000000
+rls.program, rls.every, rls.rename_at = os.getenv('RLS'), 1000000, 8
 local room, api = os.getenv('ROOM'), vim.api
 
 local function run()

@@ -15,10 +15,12 @@ import os
 import struct
 import subprocess
 import tempfile
+import warnings
 from contextlib import contextmanager
 from typing import NamedTuple
 
 PROGRAM = os.environ.get("RLS", "rls")
+RENAME_AT = int(os.environ.get("RLS_RENAME_AT", "500"))     # runs of identifiers from which a rename is due; 0 for never
 MOST_CHARACTERS = 1_048_576          # of one insertion
 MOST_DELETED = 4_194_304             # of one deletion
 MOST_INPUT = 67_108_864              # of one command, and of one session's whole input
@@ -148,6 +150,7 @@ class Commands:
 
     def __init__(self, folder, program=None):
         self.folder, self.program = os.path.expanduser(folder), program or PROGRAM
+        self.warned = False
 
     @classmethod
     def new(cls, folder, group, me, members, program=None):
@@ -195,6 +198,18 @@ class Commands:
     def rename(self):
         self.edit(["r"])
 
+    def rename_if_due(self):
+        """Renames if there are more runs than RENAME_AT for each epoch that is kept, of which 8 count: docs/USE.md, "When to rename".
+        `Mailbox.sync` and `Session.save` call this."""
+        told = self.stat() if RENAME_AT > 0 else {}
+        if told and told["runs"][0] > RENAME_AT * min(8, told["epochs"][0]):
+            try:
+                self.rename()
+            except Refused as e:
+                if not self.warned:
+                    warnings.warn(f"the rename was refused ({e.line.splitlines()[0]}): docs/USE.md, \"When to rename\", says what to do")
+                self.warned = True
+
     def text(self):
         return self._run("text")[0].decode("utf-8")
 
@@ -205,15 +220,20 @@ class Commands:
     def message(self, to):
         return self._run("send", str(to))[0]
 
+    def stat(self):
+        """What `rls stat` prints: a word, and its numbers."""
+        lines = (line.split() for line in self._run("stat")[0].decode().splitlines())
+        return {word: tuple(map(int, numbers)) for word, *numbers in lines}
+
     def head(self):
         """Who this is, and how many operations of each member were accepted."""
-        told = dict(line.split(" ", 1) for line in self._run("stat")[0].decode().splitlines())
-        return Head(int(told["group"]), int(told["members"]), int(told["me"]), tuple(map(int, told["accepted"].split())))
+        told = self.stat()
+        return Head(told["group"][0], told["members"][0], told["me"][0], told["accepted"])
 
     def take(self, message):
         out, line = self._run("take", data=message, fine=(0, 5))
         n = out.decode().split()[1::2]
-        return Report(*map(int, n), refusals=tuple(line.splitlines()))
+        return Report(*map(int, n), refusals=tuple(x for x in line.splitlines() if x.startswith("refused ")))
 
     def save(self):
         """Nothing to do: each command has stored the file."""
@@ -235,6 +255,7 @@ class Session:
         self.folder, self.program = os.path.expanduser(folder), program or PROGRAM
         self.timeout, self.safe = timeout, safe
         self.process, self.saving = None, False
+        self.stored, self.changes = Commands(folder, program), RENAME_AT
         self._start()
 
     def _start(self):
@@ -306,6 +327,7 @@ class Session:
     def edit(self, lines):
         for line in lines:
             self._ask(line)
+            self.changes += 1
             self.unsaved = True
 
     insert, delete, set_text, rename = Commands.insert, Commands.delete, Commands.set_text, Commands.rename
@@ -318,6 +340,7 @@ class Session:
             if e.line == "nothing":
                 return 0
             raise
+        self.changes += 1
         self.unsaved = True
         return int(reply[2])
 
@@ -334,8 +357,10 @@ class Session:
 
     def take(self, message):
         reply = self._ask(f"m {len(message)}", message)
+        report = Report(*map(int, reply[1::2]))
+        self.changes += report.applied + report.released
         self.unsaved = True
-        return Report(*map(int, reply[1::2]))
+        return report
 
     def message(self, to):
         if self.safe and self.unsaved:
@@ -346,11 +371,20 @@ class Session:
         """Who this is.  No line asks it, so it is read from a message."""
         return Head.of(self._bytes(int(self._ask("s 0")[1])))
 
+    def rename_if_due(self):
+        """Renaming is part of saving."""
+        if self.unsaved:
+            self.save()
+
     def save(self):
-        """Ends the session, which stores, and starts another.  The cursor is carried over; undo isn't."""
+        """Ends the session, which stores, and starts another.  The cursor is carried over; undo isn't.  It renames if that is due; it
+        looks only if an eighth of RENAME_AT has changed since it looked last."""
         self.saving = True
         at = self.cursor
         self.close()
+        if self.changes * 8 >= RENAME_AT:
+            self.changes = 0
+            self.stored.rename_if_due()
         self._start()
         self.cursor = at
         self.saving = False
@@ -417,6 +451,17 @@ class Mailbox:
             self.taken[sender] = mark
         return reports
 
+    def is_enough(self, to, message):
+        """Whether nothing ever came from this number and the message that it has already has more than half the bytes of this one. Each of
+        them has the whole history, so not every one is written for a number that nobody may use. Whoever begins with the number takes the
+        one that is there and answers, and gets the rest."""
+        if os.path.exists(self.path(to, self.me)) or Head.of(message).counts[to]:
+            return False
+        try:
+            return 2 * os.path.getsize(self.path(self.me, to)) > len(message)
+        except FileNotFoundError:
+            return False
+
     def send(self, replica):
         """To how many members something new was written."""
         count = 0
@@ -425,7 +470,7 @@ class Mailbox:
                 continue
             message = replica.message(to)
             mark = hashlib.sha256(message).digest()
-            if self.sent.get(to) == mark:
+            if self.sent.get(to) == mark or self.is_enough(to, message):
                 continue
             fd, path = tempfile.mkstemp(prefix=".new-", dir=self.folder)
             with os.fdopen(fd, "wb") as f:
@@ -438,7 +483,8 @@ class Mailbox:
         return count
 
     def sync(self, replica):
-        """Takes what came and sends what is new. Answers the reports, each a pair of the sender and a Report, or the RlsError if its
+        """Takes what came, renames if that is due, and sends what is new. Answers the reports, each a pair of the sender and a Report, or the RlsError if its
         message couldn't be taken, and to how many members something was written."""
         reports = self.receive(replica)
+        replica.rename_if_due()
         return reports, self.send(replica)

@@ -4,6 +4,7 @@ import random
 import shutil
 import tempfile
 import unittest
+import warnings
 
 os.environ.setdefault("RLS", os.path.join(os.path.dirname(os.path.abspath(__file__)), "..", "..", "bin", "rls"))
 import rls  # noqa: E402
@@ -130,6 +131,66 @@ class ByCommands(Room):
         with self.assertRaises(Stale):
             Mailbox(self.path("shared"), a.head()).sync(a)
 
+    def many_runs(self, replica):
+        """Makes some 25 runs, and has a limit of 10."""
+        self.addCleanup(setattr, rls, "RENAME_AT", rls.RENAME_AT)
+        rls.RENAME_AT = 10
+        replica.insert(0, "abcdefghijklmnopqrstuvwxyz")
+        for k in range(12):
+            replica.insert(1 + 3 * k, "X")
+
+    def test_renames(self):
+        a, b = self.two()
+        boxes = [Mailbox(self.path("shared"), x.head()) for x in (a, b)]
+        self.many_runs(a)
+        text, runs = a.text(), a.stat()["runs"][0]
+        self.assertGreater(runs, 20)
+        boxes[0].sync(a)
+        self.assertEqual(a.stat()["runs"], (1,))
+        boxes[1].sync(b)
+        self.assertEqual((b.text(), b.stat()["runs"]), (text, (1,)))
+
+    def test_renames_nothing(self):
+        a, _ = self.two()
+        self.many_runs(a)
+        rls.RENAME_AT = 0
+        Mailbox(self.path("shared"), a.head()).sync(a)
+        self.assertGreater(a.stat()["runs"][0], 20)
+
+    def test_rename_refused(self):
+        """It is said once."""
+        a, _ = self.two()
+        self.many_runs(a)
+
+        def too_large():
+            raise Refused(6, "line 1: operation too large 17000000", ("edit",))
+        a.rename = too_large
+        with self.assertWarnsRegex(UserWarning, "operation too large"):
+            a.rename_if_due()
+        with warnings.catch_warnings():
+            warnings.simplefilter("error")
+            a.rename_if_due()
+
+    def test_number_that_nobody_uses(self):
+        """It doesn't get every message, and whoever begins with it later gets all."""
+        a, b = self.two(3)[:2]
+        boxes = [Mailbox(self.path("shared"), x.head()) for x in (a, b)]
+        sizes = set()
+        for k in range(40):
+            a.insert(0, "more ")
+            for box, replica in zip(boxes, (a, b)):
+                box.sync(replica)
+            sizes.add(os.path.getsize(boxes[0].path(0, 2)))
+        self.assertLess(len(sizes), 8)
+        c = Commands(self.path("m2"))
+        late = Mailbox(self.path("shared"), c.head())
+        late.sync(c)
+        for box, replica in zip(boxes, (a, b)):
+            box.sync(replica)
+        late.sync(c)
+        self.assertEqual(c.text(), "more " * 40)
+        self.assertEqual(c.head().counts, a.head().counts)
+
     def test_half_written(self):
         a, b = self.two()
         box = Mailbox(self.path("shared"), b.head())
@@ -168,6 +229,15 @@ class BySession(Room):
             with self.assertRaises(Refused):
                 s.take(b"junk\nq\nq\n")
             self.assertEqual(s.text(), "")
+
+    def test_renames(self):
+        a, _ = self.two()
+        with Session(a.folder) as s:
+            ByCommands.many_runs(self, s)
+            s.cursor = 5
+            s.save()
+            self.assertEqual(s.cursor, 5)
+        self.assertEqual(a.stat()["runs"], (1,))
 
     def test_two_sessions_on_one_folder(self):
         a, _ = self.two()

@@ -1,6 +1,7 @@
 " Presses keys at random in two buffers of one Vim, which are two members, and compares the texts: RLS and ROOM are in the environment.
 let g:rls_program = $RLS
 let g:rls_every = 1000000
+let g:rls_rename_at = 8
 let s:keys = ["onew line\<Esc>", 'ggx', "GA\u00e9\U1F600\<Esc>", 'dd', 'u', 'p', 'J', 'yyP', '>>', 'ggVGd', "ia\\nb\<Esc>", "Go\<Esc>", "ggO\<Esc>", 'xp', 'ggguG~', "i\<C-V>000\<C-V>013\<Esc>"]
 let s:seed = srand(6)
 

@@ -9,6 +9,7 @@ local M = {
   program = 'rls',
   every = 500, -- milliseconds between two looks into the shared folder
   idle = 2000, -- milliseconds without an edit, after which edits are stored and sent
+  rename_at = 500, -- runs of identifiers from which it renames (docs/USE.md); 0 for never
 }
 local MOST_INPUT = 67108864 - 4096 -- bytes that one session may read, less some
 local uv, api = vim.loop, vim.api
@@ -89,7 +90,31 @@ function Replica:save()
   if self:ask('q') ~= 'saved' then error('rls: not stored', 0) end
   self.session.input:close()
   self:start()
+  self:rename_if_due()
   number(self:ask('k ' .. at), 'cursor')
+end
+
+-- What `rls stat` prints of the stored file.
+function Replica:stat() return vim.fn.system({ 'sh', '-c', 'cd "$1" && exec "$2" stat', 'sh', self.folder, M.program }) end
+
+-- Renames what was just stored if it has too many runs of identifiers. The more epochs are kept, because some member hasn't taken the last
+-- renames, the longer it waits. It looks only when something has changed since, an eighth of the limit at least.
+function Replica:rename_if_due()
+  if M.rename_at <= 0 or self.changes * 8 < M.rename_at then return end
+  self.changes = 0
+  local numbers = self:stat()
+  local runs, epochs = tonumber(numbers:match('runs (%d+)') or 0), tonumber(numbers:match('epochs (%d+)') or 1)
+  if runs <= M.rename_at * math.min(epochs, 8) then return end
+  local reply = self:ask('r')
+  if not reply:match('^no ') then
+    number(reply, 'ok')
+    if self:ask('q') ~= 'saved' then error('rls: not stored', 0) end
+    self.session.input:close()
+    self:start()
+  elseif not self.told then
+    self.told = true
+    vim.notify(('rls: the rename was refused (%s): docs/USE.md, "When to rename", says what to do'):format(reply:sub(4)))
+  end
 end
 
 -- The text ------------------------------------------------------------------
@@ -142,7 +167,7 @@ function Replica:flush()
   gone, come = gone:sub(first + 1, #gone - tail), come:sub(first + 1, #come - tail)
   if gone ~= '' then number(self:ask(('d %d %d'):format(at, count(gone))), 'ok') end
   if come ~= '' then number(self:ask(('i %d %s'):format(at, escaped(come))), 'ok') end
-  self.lines, self.unsaved, self.edited = new, true, uv.now()
+  self.lines, self.changes, self.unsaved, self.edited = new, self.changes + 1, true, uv.now()
 end
 
 -- Shows the session's text. Only lines that differ are changed, so marks and folds elsewhere stay. Neovim's own undo goes back to here
@@ -237,7 +262,7 @@ function Replica:take_from(from)
   local refused = reply:match('^no ')
   self.problem = (refused or not reply:match('held 0 refused 0')) and (', message of %d: %s'):format(from, reply) or ''
   if refused then return false end
-  self.taken[from], self.unsaved = message, true
+  self.taken[from], self.changes, self.unsaved = message, self.changes + number(reply, 'applied'), true
   return true
 end
 
@@ -311,7 +336,7 @@ end
 
 local function opened(folder, shared)
   local self = setmetatable({ folder = vim.fn.fnamemodify(folder, ':p'), shared = vim.fn.fnamemodify(shared, ':p'):gsub('/$', ''),
-    taken = {}, sent = {}, lines = { '' }, problem = '', edited = uv.now() }, Replica)
+    taken = {}, sent = {}, lines = { '' }, problem = '', edited = uv.now(), changes = M.rename_at }, Replica)
   if vim.fn.isdirectory(self.folder) == 0 then error('rls: there is no folder ' .. self.folder, 0) end
   vim.fn.mkdir(self.shared, 'p')
   self:start()

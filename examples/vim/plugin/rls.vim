@@ -12,6 +12,7 @@ let g:loaded_rls = 1
 let g:rls_program = get(g:, 'rls_program', 'rls')
 let g:rls_every = get(g:, 'rls_every', 500)     " milliseconds between two looks into the shared folder
 let g:rls_idle = get(g:, 'rls_idle', 2000)      " milliseconds without an edit, after which edits are stored and sent
+let g:rls_rename_at = get(g:, 'rls_rename_at', 500)   " runs of identifiers from which it renames (docs/USE.md); 0 for never
 let s:most_input = 67108864 - 4096              " bytes that one session may read, less some
 let s:open = {}                                 " what is known of each buffer's replica
 
@@ -93,7 +94,43 @@ function s:save(r) abort
     throw 'rls: not stored'
   endif
   call s:start(a:r)
+  call s:rename_if_due(a:r)
   call s:number(s:ask(a:r, 'k ' . at), 'cursor')
+endfunction
+
+" Renames what was just stored if it has too many runs of identifiers. The more epochs are kept, because some member hasn't taken the last
+" renames, the longer it waits. It looks only when something has changed since, an eighth of the limit at least.
+function s:rename_if_due(r) abort
+  if g:rls_rename_at <= 0 || a:r.changes * 8 < g:rls_rename_at
+    return
+  endif
+  let a:r.changes = 0
+  let numbers = s:stat(a:r)
+  if str2nr(matchstr(numbers, 'runs \zs\d\+')) <= g:rls_rename_at * min([str2nr(matchstr(numbers, 'epochs \zs\d\+')), 8])
+    return
+  endif
+  let reply = s:ask(a:r, 'r')
+  if reply !~# '^no '
+    call s:number(reply, 'ok')
+    if s:ask(a:r, 'q') !=# 'saved'
+      throw 'rls: not stored'
+    endif
+    call s:start(a:r)
+  elseif !a:r.told
+    let a:r.told = 1
+    echomsg 'rls: the rename was refused (' . reply[3:] . '): docs/USE.md, "When to rename", says what to do'
+  endif
+endfunction
+
+" What `rls stat` prints of the stored file.
+function s:stat(r) abort
+  let job = job_start([g:rls_program, 'stat'], {'cwd': a:r.folder, 'mode': 'raw', 'err_io': 'null'})
+  let [numbers, more] = ['', ch_readraw(job, {'timeout': 10000})]
+  while more !=# ''
+    let numbers .= more
+    let more = ch_readraw(job, {'timeout': 10000})
+  endwhile
+  return numbers
 endfunction
 
 " --- Text. In Vim's strings a line feed within a line means a NUL of the text.
@@ -192,6 +229,7 @@ function s:flush(buf) abort
     call s:number(s:ask(r, s:insertion(at + front, s:middle(come, front, end))), 'ok')
   endif
   let r.lines = new
+  let r.changes += 1
   let r.unsaved = 1
   let r.edited = reltime()
 endfunction
@@ -281,6 +319,7 @@ function s:take_from(r, from) abort
   endif
   let a:r.problem = reply =~# 'held 0 refused 0' ? '' : ', message of ' . a:from . ': ' . reply
   let a:r.taken[a:from] = message
+  let a:r.changes += s:number(reply, 'applied')
   let a:r.unsaved = 1
   return 1
 endfunction
@@ -356,7 +395,7 @@ endfunction
 
 function s:open_replica(folder, shared) abort
   let r = {'folder': fnamemodify(expand(a:folder), ':p'), 'shared': substitute(fnamemodify(expand(a:shared), ':p'), '/$', '', ''),
-        \ 'taken': {}, 'sent': {}, 'lines': [''], 'problem': '', 'failed': '', 'edited': reltime()}
+        \ 'taken': {}, 'sent': {}, 'lines': [''], 'problem': '', 'failed': '', 'edited': reltime(), 'changes': g:rls_rename_at, 'told': 0}
   if !isdirectory(r.folder)
     throw 'rls: there is no folder ' . r.folder
   endif
