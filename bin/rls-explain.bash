@@ -5,8 +5,12 @@
 # The line of the script that has this number, as far as a terminal may show it.
 script_line() {
   local text
-  [ -f /dev/stdin ] || return 1
-  IFS= read -r text < <(sed -n "$1{p;q}" /dev/stdin 2>/dev/null)
+  if [ -n "${held-}" ]; then
+    IFS= read -r text < <(sed -n "$1{p;q}" <<<"$held")
+  else
+    [ -f /dev/stdin ] || return 1
+    IFS= read -r text < <(sed -n "$1{p;q}" /dev/stdin 2>/dev/null)
+  fi
   raw=$text
   [ "${#text}" -le 60 ] || text="${text:0:57}..."
   shown=${text//[[:cntrl:]]/?}
