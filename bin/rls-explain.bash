@@ -54,11 +54,15 @@ explain_bad_line() {
 }
 
 explain_refused() {
-  local shown raw why
+  local shown='' raw='' why
   local -a words
   read -r -a words <<<"$2"
+  [ "$3" = leave ] || script_line "$1"
   case $2 in
-    range*) why="position ${words[1]} is asked for, and the text has ${words[2]} characters then" ;;
+    range*)
+      why="position ${words[1]} is asked for, and the text has ${words[2]} characters then"
+      [ "$raw" != 'b 0' ] || why='no character comes before the first position'
+      ;;
     'empty edit') why='there is nothing to insert or to delete' ;;
     'empty document') why='the text is empty, so there is nothing to rename' ;;
     'not a boundary'*) why="no character, as a reader sees it, ends at ${words[3]}" ;;
@@ -68,6 +72,5 @@ explain_refused() {
     left) why='this member has left or was retired, and can never edit again' ;;
     *) return ;;
   esac
-  [ "$3" = leave ] || script_line "$1" || shown=''
   say "line $1${shown:+ is \`$shown\`}: $why. Nothing was stored."
 }
