@@ -74,9 +74,8 @@ retire() {
   count=$(sed -n 's/^accepted //p' <<<"$numbers" | cut -d ' ' -f $((number + 1)))
   [ "$count" = 0 ] || stays "number $number has made $count operations, so it is in use. Only \`rls leave\` in its own folder ends its part."
   row=$((number < me ? number : number - 1))
-  if [ -z "${RLS_FORCE:-}" ] && [[ $(stored_numbers $((21 + 4 * members * (row + 1))) "$members") == *[1-9]* ]]; then
-    refuse "number $number is in use: a message of it was taken here. What it writes after it is retired would part the texts for ever. Nothing was done."
-  fi
+  [[ $(stored_numbers $((21 + 4 * members * (row + 1))) "$members") != *[1-9]* ]] ||
+    stays "number $number is in use: a message of it was taken here. Only \`rls leave\` in its own folder ends its part."
   ask "after this nobody can ever use number $number. If anybody has begun with it, on any machine, the texts will differ for ever."
   room=$(mktemp -d) || exit 8
   trap 'rm -rf "$room"' EXIT
