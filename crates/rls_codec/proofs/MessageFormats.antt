@@ -54,6 +54,17 @@ targets_of _ = []
 abbrev OfKind : ℕ → Body → Type 0
 OfKind k b = (kind_of b ≡ k) × FitsBody b
 
+-- the body of a kind that has runs alone, over these runs
+abbrev with_runs : ℕ → List (List Tuple) → Body
+with_runs (suc zero) xs = Delete xs
+with_runs _ xs = Rename xs
+
+over_runs : (b : Body) (k : ℕ) → OfKind k b → IsTrue (nat_le 1 k && nat_le k 2) → (with_runs k (targets_of b) ≡ b) × FitRuns (targets_of b)
+over_runs (Delete xs) k f h = rw (sym f.0) (refl, f.1)
+over_runs (Rename xs) k f h = rw (sym f.0) (refl, f.1)
+over_runs (Insert x cs) k f h = let e = rw (sym f.0) at h in absurd cc
+over_runs Leave k f h = let e = rw (sym f.0) at h in absurd cc
+
 body_kinds : (k : ℕ) → nat_le k 3 ≡ true → Spells (body_of_kind k) body_bytes (OfKind k)
 body_kinds zero h = spelling body_bytes (fitting (OfKind 0) (field first_of ident (λ x hx. field chars_of text (λ cs hc. done (Insert x cs)) (λ cs b h f. ap chars_of f)) (λ x b h f. ap first_of f.1)) to from) same
   where
@@ -74,45 +85,15 @@ body_kinds zero h = spelling body_bytes (fitting (OfKind 0) (field first_of iden
     same (Delete xs) f = absurd (omega (arith, f.0))
     same (Rename xs) f = absurd (omega (arith, f.0))
     same Leave f = absurd (omega (arith, f.0))
-body_kinds (suc zero) h = spelling body_bytes (seen (OfKind 1) Delete targets_of runs (λ xs f. (refl, (refl, f))) back) same
-  where
-    back : (b : Body) → OfKind 1 b → (Delete (targets_of b) ≡ b) × FitRuns (targets_of b)
-    back (Delete xs) f = (refl, f.1)
-    back (Insert x cs) f = absurd (omega (arith, f.0))
-    back (Rename xs) f = absurd (omega (arith, f.0))
-    back Leave f = absurd (omega (arith, f.0))
-
-    same : (b : Body) → OfKind 1 b → runs_bytes (targets_of b) ≡ body_bytes b
-    same (Delete xs) f = refl
-    same (Insert x cs) f = absurd (omega (arith, f.0))
-    same (Rename xs) f = absurd (omega (arith, f.0))
-    same Leave f = absurd (omega (arith, f.0))
-body_kinds (suc (suc zero)) h = spelling body_bytes (seen (OfKind 2) Rename targets_of runs (λ xs f. (refl, (refl, f))) back) same
-  where
-    back : (b : Body) → OfKind 2 b → (Rename (targets_of b) ≡ b) × FitRuns (targets_of b)
-    back (Rename xs) f = (refl, f.1)
-    back (Insert x cs) f = absurd (omega (arith, f.0))
-    back (Delete xs) f = absurd (omega (arith, f.0))
-    back Leave f = absurd (omega (arith, f.0))
-
-    same : (b : Body) → OfKind 2 b → runs_bytes (targets_of b) ≡ body_bytes b
-    same (Rename xs) f = refl
-    same (Insert x cs) f = absurd (omega (arith, f.0))
-    same (Delete xs) f = absurd (omega (arith, f.0))
-    same Leave f = absurd (omega (arith, f.0))
-body_kinds (suc (suc (suc zero))) h = spelling body_bytes (fitting (OfKind 3) (done Leave) (λ b e. rw e (refl, tt)) is_leave) same
+body_kinds (suc zero) h = spelling body_bytes (seen (OfKind 1) Delete targets_of runs (λ xs f. (refl, (refl, f))) (λ b f. over_runs b 1 f refl)) (λ b f. ap body_bytes (over_runs b 1 f refl).0)
+body_kinds (suc (suc zero)) h = spelling body_bytes (seen (OfKind 2) Rename targets_of runs (λ xs f. (refl, (refl, f))) (λ b f. over_runs b 2 f refl)) (λ b f. ap body_bytes (over_runs b 2 f refl).0)
+body_kinds (suc (suc (suc zero))) h = spelling body_bytes (fitting (OfKind 3) (done Leave) (λ b e. rw e (refl, tt)) is_leave) (λ b f. ap body_bytes (sym (is_leave b f)))
   where
     is_leave : (b : Body) → OfKind 3 b → b ≡ Leave
     is_leave Leave f = refl
     is_leave (Insert x cs) f = absurd (omega (arith, f.0))
     is_leave (Delete xs) f = absurd (omega (arith, f.0))
     is_leave (Rename xs) f = absurd (omega (arith, f.0))
-
-    same : (b : Body) → OfKind 3 b → [] ≡ body_bytes b
-    same Leave f = refl
-    same (Insert x cs) f = absurd (omega (arith, f.0))
-    same (Delete xs) f = absurd (omega (arith, f.0))
-    same (Rename xs) f = absurd (omega (arith, f.0))
 body_kinds (suc (suc (suc (suc k)))) h = absurd (omega (arith, leb-true (suc (suc (suc (suc k)))) 3 h))
 
 pub body : Spells body_at (λ b. concat ((kind_of b ∷ []) ∷ body_bytes b ∷ [])) FitsBody

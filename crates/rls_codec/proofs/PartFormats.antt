@@ -86,17 +86,12 @@ behind_kind (At p r s o) = at_bytes (At p r s o)
 behind_kind High = []
 
 inner_kinds : (k : ℕ) → nat_le k 2 ≡ true → Spells (inner_of_kind k) behind_kind (λ t. (tuple_kind t ≡ k) × FitsInner t)
-inner_kinds zero h = spelling behind_kind (fitting (λ t. (tuple_kind t ≡ 0) × FitsInner t) (done Low) (λ t e. rw e (refl, tt)) is_low) (λ t f. low_bytes t f)
+inner_kinds zero h = spelling behind_kind (fitting (λ t. (tuple_kind t ≡ 0) × FitsInner t) (done Low) (λ t e. rw e (refl, tt)) is_low) (λ t f. ap behind_kind (sym (is_low t f)))
   where
     is_low : (t : Tuple) → (tuple_kind t ≡ 0) × FitsInner t → t ≡ Low
     is_low Low f = refl
     is_low (At p r s o) f = absurd (omega (arith, f.0))
     is_low High f = absurd (omega (arith, f.0))
-
-    low_bytes : (t : Tuple) → (tuple_kind t ≡ 0) × FitsInner t → [] ≡ behind_kind t
-    low_bytes Low f = refl
-    low_bytes (At p r s o) f = absurd (omega (arith, f.0))
-    low_bytes High f = refl
 inner_kinds (suc zero) h = spelling behind_kind (fitting (λ t. (tuple_kind t ≡ 1) × FitsInner t) (spot least_inner inner_fits) to from) same
   where
     to : (t : Tuple) → FitsAt least_inner t → (tuple_kind t ≡ 1) × FitsInner t
@@ -113,17 +108,12 @@ inner_kinds (suc zero) h = spelling behind_kind (fitting (λ t. (tuple_kind t �
     same (At p r s o) f = refl
     same Low f = absurd (omega (arith, f.0))
     same High f = absurd (omega (arith, f.0))
-inner_kinds (suc (suc zero)) h = spelling behind_kind (fitting (λ t. (tuple_kind t ≡ 2) × FitsInner t) (done High) (λ t e. rw e (refl, tt)) is_high) (λ t f. high_bytes t f)
+inner_kinds (suc (suc zero)) h = spelling behind_kind (fitting (λ t. (tuple_kind t ≡ 2) × FitsInner t) (done High) (λ t e. rw e (refl, tt)) is_high) (λ t f. ap behind_kind (sym (is_high t f)))
   where
     is_high : (t : Tuple) → (tuple_kind t ≡ 2) × FitsInner t → t ≡ High
     is_high High f = refl
     is_high (At p r s o) f = absurd (omega (arith, f.0))
     is_high Low f = absurd (omega (arith, f.0))
-
-    high_bytes : (t : Tuple) → (tuple_kind t ≡ 2) × FitsInner t → [] ≡ behind_kind t
-    high_bytes High f = refl
-    high_bytes (At p r s o) f = absurd (omega (arith, f.0))
-    high_bytes Low f = refl
 inner_kinds (suc (suc (suc k))) h = absurd (omega (arith, leb-true (suc (suc (suc k))) 2 h))
 
 pub inner : Spells inner_at tuple_bytes FitsInner
