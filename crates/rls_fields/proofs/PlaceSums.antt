@@ -1,7 +1,7 @@
 -- The sizes are the lengths of the spellings, and the places of broken rules are sums of them.
-use Rattle.std.proofs.Common.{◌≡◌, ℕ, ◌+◌, ◌*◌, Bool, true, false, List, [], ◌++◌, length, take, Option, Some, None, refl, ap, arith}
+use Rattle.std.proofs.Common.{◌≡◌, ℕ, ◌+◌, ◌*◌, Bool, true, false, List, [], ◌∷◌, ◌++◌, length, take, Option, Some, None, refl, ap, ◌∙◌, arith}
 use Rattle.std.specs.Prelude.{sum_by, slice_get, cond, ◌==◌}
-use Rattle.std.specs.List.{flat_map}
+use Rattle.std.specs.List.{concat, flat_map}
 use Rattle.std.proofs.lemmas.Bool.{ne_eqb}
 use Rattle.std.proofs.lemmas.List.{length-append}
 use Rattle.rls_ops.specs.Spelling.{four_bytes, counted, vector_bytes, name_bytes, run_bytes, runs_bytes, text_bytes, op_bytes}
@@ -102,29 +102,22 @@ module _ (form : ℕ) (p : Parts) where
 
 -- ---- a whole file of form 4
 
+abbrev total : List (List ℕ) → ℕ
+total [] = 0
+total (part ∷ parts) = length part + total parts
+
+length_concat : (parts : List (List ℕ)) → length (concat parts) ≡ total parts
+length_concat [] = refl
+length_concat (part ∷ parts) = length-append part (concat parts) ∙ ap (λ n. length part + n) (length_concat parts)
+
 pub file_length : (p : Parts) → length (file_bytes p) ≡ written_size p
 unfolding snapshot_bytes
 file_length p =
-    let held = counted op_bytes p.held ++ [] in
-    let log = counted op_bytes p.log ++ held in
-    let text = counted text_run_bytes p.text ++ log in
-    let epochs = counted epoch_bytes p.epochs ++ text in
-    let stems = stems_bytes 4 0 p.members p.stems ++ epochs in
-    let left = counted four_bytes p.left ++ stems in
-    let rows = flat_map vector_bytes p.rows ++ left in
-    let a = length-append (vector_bytes p.vector) rows in
-    let b = length-append (flat_map vector_bytes p.rows) left in
-    let c = length-append (counted four_bytes p.left) stems in
-    let d = length-append (stems_bytes 4 0 p.members p.stems) epochs in
-    let e = length-append (counted epoch_bytes p.epochs) text in
-    let f = length-append (counted text_run_bytes p.text) log in
-    let g = length-append (counted op_bytes p.log) held in
-    let h = length-append (counted op_bytes p.held) [] in
-    let v = vector_length p.vector in
-    let r = rows_length p.rows in
-    let l = left_length 4 p.left in
-    let es = counted_length epoch_bytes epoch_size epoch_length p.epochs in
-    let ts = counted_length text_run_bytes text_run_size text_run_length p.text in
-    let os = counted_length op_bytes op_size op_length p.log in
-    let ws = counted_length op_bytes op_size op_length p.held in
-    omega (arith, a, b, c, d, e, f, g, h, v, r, l, es, ts, os, ws)
+    let whole = length_concat
+        (head_bytes 4 p.group p.members p.me ∷ vector_bytes p.vector ∷ flat_map vector_bytes p.rows ∷ counted four_bytes p.left
+        ∷ stems_bytes 4 0 p.members p.stems ∷ counted epoch_bytes p.epochs ∷ counted text_run_bytes p.text
+        ∷ counted op_bytes p.log ∷ counted op_bytes p.held ∷ []) in
+    let epochs = counted_length epoch_bytes epoch_size epoch_length p.epochs in
+    let runs = counted_length text_run_bytes text_run_size text_run_length p.text in
+    let ops = counted_length op_bytes op_size op_length in
+    omega (arith, whole, vector_length p.vector, rows_length p.rows, left_length 4 p.left, epochs, runs, ops p.log, ops p.held)
