@@ -114,9 +114,9 @@ pub file_length : (p : Parts) → length (file_bytes p) ≡ written_size p
 unfolding snapshot_bytes
 file_length p =
     let whole = length_concat
-        (head_bytes 4 p.group p.members p.me ∷ vector_bytes p.vector ∷ flat_map vector_bytes p.rows ∷ counted four_bytes p.left
-        ∷ stems_bytes 4 0 p.members p.stems ∷ counted epoch_bytes p.epochs ∷ counted text_run_bytes p.text
-        ∷ counted op_bytes p.log ∷ counted op_bytes p.held ∷ []) in
+    (head_bytes 4 p.group p.members p.me ∷ vector_bytes p.vector ∷ flat_map vector_bytes p.rows ∷ counted four_bytes p.left
+    ∷ stems_bytes 4 0 p.members p.stems ∷ counted epoch_bytes p.epochs ∷ counted text_run_bytes p.text
+    ∷ counted op_bytes p.log ∷ counted op_bytes p.held ∷ []) in
     let epochs = counted_length epoch_bytes epoch_size epoch_length p.epochs in
     let runs = counted_length text_run_bytes text_run_size text_run_length p.text in
     let ops = counted_length op_bytes op_size op_length in
