@@ -1,5 +1,5 @@
 -- Texts of lists, piece by piece.
-use Rattle.std.proofs.Common.{◌≡◌, ℕ, List, [], ◌∷◌, ◌++◌, map, refl, sym, ap, ◌∙◌, append_assoc, ◌+◌, ◌<◌, ◌≤◌, length, get_or, drop, add-one, drop-cons}
+use Rattle.std.proofs.Common.{◌≡◌, ℕ, List, [], ◌∷◌, ◌++◌, map, refl, sym, ap, ◌∙◌, append_assoc, ◌+◌, ◌<◌, ◌≤◌, length, get_or, take, take_all, drop, add-one, drop-cons}
 use Rattle.std.proofs.lemmas.List.{append-nil, drop_all}
 use Rattle.std.specs.List.{flat_map, join_with_byte}
 use Rattle.rls_report.specs.Reports.{member_line, member_lines}
@@ -19,6 +19,12 @@ module _ {X : Type 0} (text_of : X → List ℕ) (byte : ℕ) where
   joined_pushed (x ∷ y ∷ front) last =
       ap (λ (bytes : List ℕ). text_of x ++ (byte ∷ bytes)) (joined_pushed (y ∷ front) last)
       ∙ sym (append_assoc (with_byte x) (flat_map with_byte (y ∷ front)) (text_of last) ∙ append_assoc (text_of x) (byte ∷ []) (flat_map with_byte (y ∷ front) ++ text_of last))
+
+  -- the parts with their bytes were put after what stood there, and then the last
+  pub last_joined : (front : List X) (last found : X) (all : List X) (i : ℕ) (before middle after : List ℕ) → all ≡ front ++ found ∷ [] → found ≡ last → length front ≤ i
+      → middle ≡ before ++ flat_map with_byte (take i front) → after ≡ middle ++ text_of last → after ≡ before ++ join_with_byte byte (map text_of all)
+  last_joined front last found all i before middle after is found_is past so_far put =
+      rw (is, found_is, joined_pushed front last) (two_pieces before (flat_map with_byte front) (text_of last) middle after (rw (take_all i front past) at so_far) put)
 
 -- ---- lines of members
 

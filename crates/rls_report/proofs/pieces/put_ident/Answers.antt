@@ -1,14 +1,9 @@
-use Rattle.std.proofs.Common.{◌++◌, ◌∷◌, [], sym, ap, ◌∙◌, take_all, arith}
-use Rattle.std.specs.List.{flat_map}
-use Rattle.rls_ident.specs.declared.tuple.Tuple.{Tuple}
+use Rattle.std.proofs.Common.{sym, ◌∙◌, arith}
 use Rattle.rls_report.specs.Texts.{tuple_text}
-use Rattle.rls_report.proofs.Joined.{with_byte, joined_pushed, two_pieces}
+use Rattle.rls_report.proofs.Joined.{last_joined}
 use Rattle.rls_report.proofs.pieces.put_ident.Goals as goal
 
 pub returns : goal.returns
 returns c =
-    let front = c.front-tuple-items.result.now in
-    let last = c.as_tuple.result in
-    let ident_is = c.front-tuple-items.ensures.front ∙ ap (λ (t : Tuple). front ++ t ∷ []) (c.last.ensures.last ∙ sym c.as_tuple.ensures) in
-    let so_far = rw (take_all c.loop-tuple.tuple-index front (omega arith)) at c.loop-tuple.invariant in
-    record { ok = rw (ident_is, joined_pushed tuple_text 47 front last) (two_pieces _ (flat_map (with_byte tuple_text 47) front) (tuple_text last) _ _ so_far c.in_ok-put_tuple-2.ensures.ok) }
+    let last_is = c.last.ensures.last ∙ sym c.as_tuple.ensures in
+    record { ok = last_joined tuple_text 47 c.front-tuple-items.result.now c.as_tuple.result _ _ c.loop-tuple.tuple-index _ _ _ c.front-tuple-items.ensures.front last_is (omega arith) c.loop-tuple.invariant c.in_ok-put_tuple-2.ensures.ok }
