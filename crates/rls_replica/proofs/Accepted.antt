@@ -50,3 +50,7 @@ next_is i s v w e sane k h f =
 -- the one that is taken out is this one
 pub same_one : (w x : Op) (r : Option Op) → r ≡ Some w → r ≡ Some x → x ≡ w
 same_one w x r h k = some_is x w (sym k ∙ h)
+
+pub next_taken : (i s : Seen) (v : List ℕ) (w x : Op) (r : Option Op) → i ≡ s → IsSane i → v ≡ vector i → Some w ≡ first_ready_at v i.waiting → IsSomeAnd (first_ready s) (λ x. refusal_over s x ≡ None)
+    → r ≡ waiting_under i.waiting w.author w.seq → r ≡ Some x → x ≡ w
+next_taken i s v w x r e sane k h f u g = same_one w x r (u ∙ (next_is i s v w e sane k h f).under) g

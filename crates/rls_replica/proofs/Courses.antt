@@ -218,6 +218,9 @@ receipt_few n t a q (Refuses r) h = let i = h.applied in let j = h.repeated in l
 pub last_first : (xs ys : List Op) (o : Op) → xs ≡ ys ++ o ∷ [] → reverse xs ≡ o ∷ reverse ys
 last_first xs ys o e = ap reverse e ∙ reverse-append ys (o ∷ [])
 
+pub next_on_way : (s : Seen) (d : Course) (os xs ys : List Op) (o : Op) → xs ≡ ys ++ o ∷ [] → IsOnWay s os d (reverse xs) → IsOnWay s os d (o ∷ reverse ys)
+next_on_way s d os xs ys o e w = subst (λ (x : List Op). IsOnWay s os d x) (last_first xs ys o e) w
+
 pub none_left : (s r : Seen) (t : Taken) (os rest : List Op) → rest ≡ [] → IsOnWay s os (course r t) (reverse rest) → take_ops (started None s) os ≡ course r t
 none_left s r t os rest e w = (subst (λ (x : List Op). IsOnWay s os (course r t) (reverse x)) e w).1 None
 

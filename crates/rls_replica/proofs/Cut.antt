@@ -1,5 +1,6 @@
 -- Operations that are taken one after another, and how far one came.
-use Rattle.std.proofs.Common.{◌≡◌, ◌∙◌, ℕ, List, Some, None, cond, refl, sym, ap, subst}
+use Rattle.std.proofs.Common.{◌≡◌, ◌∙◌, ◌<◌, ℕ, List, length, Some, None, cond, refl, sym, ap, subst}
+use Rattle.std.specs.List.{All}
 use Rattle.rls_ops.specs.declared.op.Op.{Op}
 use Rattle.rls_ops.specs.declared.message.Message.{Message}
 use Rattle.rls_model.specs.Receiving.{State}
@@ -8,7 +9,7 @@ use Rattle.rls_model.specs.Taking as model
 use Rattle.rls_model.proofs.Machines.{no_ops}
 use Rattle.rls_seen.specs.Seen.{Seen, members}
 use Rattle.rls_seen.specs.Over.{acknowledged}
-use Rattle.rls_model.specs.WellFormed.{AreOps}
+use Rattle.rls_model.specs.WellFormed.{AreOps, IsSmall}
 use Rattle.rls_seen.specs.Messages.{by_parts, Course, started, moved, take_ops, taken_within, IsMessage, IsPartTaken}
 use Rattle.rls_seen.specs.Stands.{StandsFor}
 use Rattle.rls_seen.proofs.Repeating.{within, Reaches, reaches_start, no_more}
@@ -31,6 +32,9 @@ ops_none s os = ops_part s os 0 (started None s) os (reaches_start s os)
 pub ops_part_stands : (s u : Seen) (t : State) (os : List Op) → AreOps os → IsPartOfOps s os u → StandsFor s t → (n : ℕ) × StandsFor u (model.take_ops (model.started (Some n) t) os).state
 ops_part_stands s u t os w p h =
     (p.0, subst (λ x. StandsFor x (model.take_ops (model.started (Some p.0) t) os).state) (sym p.2) (ops_go os (members s) (started (Some p.0) s) (model.started (Some p.0) t) w (started_goes (Some p.0) s t h)).states.1)
+
+pub message_whole : (s : Seen) (m : Message) → m.members ≡ members s → m.from < m.members → length m.vector ≡ m.members → All IsSmall m.vector → AreOps m.ops → IsMessage (members s) m
+message_whole s m e from vector bounded ops = record { from = subst (λ n. m.from < n) e from; vector = (vector ∙ e, bounded); ops = ops }
 
 pub message_part_stands : (s u : Seen) (t : State) (m : Message) → IsMessage (members s) m → IsPartTaken s m u → StandsFor s t → (n : ℕ) × StandsFor u (take_within (Some n) t m).state
 message_part_stands s u t m w p h = (p.0, subst (λ x. StandsFor x (take_within (Some p.0) t m).state) (sym p.1) (taken_alike (Some p.0) s t m w h).1)

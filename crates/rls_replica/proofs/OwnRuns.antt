@@ -25,6 +25,7 @@ use Rattle.rls_model.specs.declared.parts.Stem.{Stem}
 use Rattle.rls_model.specs.Editing.{own_stem, may_append, first_before, first_between, get_before}
 use Rattle.rls_model.specs.Stems.{stem_of, with_stem, new_stem, stems_after_insert, with_extended}
 use Rattle.rls_model.specs.WellFormed.{IsEdit}
+use Rattle.rls_model.proofs.Began.{own_split}
 use Rattle.rls_model.proofs.RenamedRun.{one_run}
 use Rattle.rls_model.proofs.Spliced.{entries, append_map}
 use Rattle.rls_model.proofs.StemLists.{found_is, found_same}
@@ -67,13 +68,6 @@ joined es x y n cs e f =
     ∙ sym (run_longer x n (length cs))
 
 -- ---- the stem
-
-own_split : (ss : List Stem) (a : ℕ) (t : Tuple) (w : Stem) → own_stem ss a t ≡ Some w → (replica_of t ≡ a) × (stem_of ss a (seq_of t) ≡ Some w)
-own_split ss a t w h = go (replica_of t == a) refl h
-  where
-    go : (b : Bool) → (replica_of t == a) ≡ b → (if b then stem_of ss a (seq_of t) else None) ≡ Some w → (replica_of t ≡ a) × (stem_of ss a (seq_of t) ≡ Some w)
-    go true e h = (eq_is (replica_of t) a e, h)
-    go false e h = absurd (cc)
 
 own_found : (ss : List Stem) (a : ℕ) (t : Tuple) (w : Stem) → replica_of t ≡ a → stem_of ss a (seq_of t) ≡ Some w → own_stem ss a t ≡ Some w
 own_found ss a t w r h = ap (λ b. if b == a then stem_of ss a (seq_of t) else None) r ∙ (ap (λ b. if b then stem_of ss a (seq_of t) else None) (eq_refl a) ∙ h)

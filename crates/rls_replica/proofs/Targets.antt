@@ -1,5 +1,5 @@
 -- How the targets of a deletion are looked up.
-use Rattle.std.proofs.Common.{◌≡◌, ◌∙◌, ◌⊎◌, ℕ, zero, suc, ◌+◌, ◌<◌, ◌≤◌, ◌||◌, ◌&&◌, not, Bool, true, false, List, [], ◌∷◌, length, map, drop, get_or, Some, None, refl, sym, ap, inl, inr, arith}
+use Rattle.std.proofs.Common.{◌≡◌, ◌∙◌, ◌⊎◌, ℕ, zero, suc, ◌+◌, ◌<◌, ◌≤◌, ◌||◌, ◌&&◌, not, Bool, true, false, List, [], ◌∷◌, length, map, drop, get_or, Some, None, refl, sym, ap, subst, inl, inr, arith}
 use Rattle.std.proofs.lemmas.Option.{slice_get_cases}
 use Rattle.std.specs.Prelude.{pos, slice_get, if◌then◌else◌}
 use Rattle.std.specs.List.{list_any}
@@ -63,6 +63,9 @@ named_there s e x d ts n i ids b =
 pub unstable_of : (s : Seen) (o : Op) → IsIn o s.log → is_covered (stable_over s) o ≡ false → IsIn o (unstable_over s)
 unstable_of s o p h = filter_in (λ x. not (is_covered (stable_over s) x)) o s.log p (ap not h)
 
+pub unstable_seen : {i s : Seen} (o : Op) → i ≡ s → IsIn o s.log → is_covered (stable_over s) o ≡ false → IsIn o (unstable_over i)
+unstable_seen {i} {s} o e p h = unstable_of i o (subst (λ (u : Seen). IsIn o u.log) (sym e) p) (subst (λ (u : Seen). is_covered (stable_over u) o ≡ false) (sym e) h)
+
 -- what an unstable deletion names is known
 pub known_if_named : (s : Seen) (e : EpochName) (x : List Tuple) → is_named_over s e x s.log ≡ true → is_known_over s e x ≡ true
 known_if_named s e x h = known_here s e x ∙ or_right (has_ident (idents_in s.text) (translate_over s e (greatest_over s) x)) (is_named_over s e x s.log) h
@@ -88,6 +91,12 @@ named_more s e x os i o h = ap (is_named_over s e x) (drop_reads os i o h) ∙ g
         ≡ ((not b && is_named_by s e x o) || list_any (is_named_by s e x) (missing_for (stable_over s) rest))
     go true = refl
     go false = refl
+
+-- the first of them, as it is tested
+pub named_at : {i s : Seen} (e : EpochName) (x : List Tuple) (k : ℕ) (o : Op) {b r : Bool} → i ≡ s → slice_get i.log k ≡ Some o → b ≡ (not (is_covered (stable_over s) o) && is_named_by s e x o) → b ≡ r
+    → is_named_over s e x (drop k s.log) ≡ is_named_over s e x s.log → (r || is_named_over s e x (drop (k + 1) s.log)) ≡ is_named_over s e x s.log
+named_at {i} {s} e x k o v g n h inv =
+    ap (λ b. b || is_named_over s e x (drop (k + 1) s.log)) (sym h ∙ n) ∙ (sym (named_more s e x s.log k o (subst (λ (u : Seen). slice_get u.log k ≡ Some o) v g)) ∙ inv)
 
 -- the targets from a place on
 unknown_more : (s : Seen) (e : EpochName) (xs : List (List Tuple)) (i : ℕ) (x : List Tuple) (b : Bool) → slice_get xs i ≡ Some x → is_known_over s e x ≡ b

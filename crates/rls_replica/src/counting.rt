@@ -16,7 +16,7 @@ ghost use Rattle.rls_replica.specs.KeptJust.{KeepsJust};
 
 use crate::replica::Replica;
 use rls_doc::Document;
-use rls_epoch::Epochs;
+use rls_epoch::{Epochs, Retained};
 use rls_ident::{EpochName, Vector};
 use rls_model::{Counts, Parts};
 use rls_snapshot::{epoch_parts, left_members, missing, other_rows, text_runs, waiting};
@@ -74,13 +74,12 @@ impl Replica {
         // For every history and waiting operations that the replica stands for.
         ensures stands { IfOk result (λ c. (t : State) → StandsFor self.now t → c ≡ counts t) }
     {
-        let marked = self.marked()?;
-        let retained = self.epochs.retained(self.acks.stable(), &marked)?;
+        let (unstable, retained) = self.unstable_and_retained()?;
         Ok(Counts {
             total: self.document.total(),
             runs: self.document.run_count(),
             held: self.held.len(),
-            unstable: marked.len() as u64,
+            unstable,
             epochs: retained.names.len() as u64,
             former: retained.former,
         })
@@ -94,8 +93,7 @@ impl Replica {
         ensures stands { IfOk result (λ p. (t : State) → StandsFor self.now t → p ≡ parts t) }
     {
         let members = self.members();
-        let marked = self.marked()?;
-        let retained = self.epochs.retained(self.acks.stable(), &marked)?;
+        let (_, retained) = self.unstable_and_retained()?;
         Ok(Parts {
             group: self.group,
             members,
@@ -111,8 +109,19 @@ impl Replica {
         })
     }
 
+    // How many operations are unstable, and the epochs that must stay.
+    pub(crate) fn unstable_and_retained(&self) -> Result<(u64, Retained), AllocError>
+        ensures unstable { IfOk result (λ r. r.0 ≡ length (marked_over self.now)) }
+        ensures names { IfOk result (λ r. r.1.names.items ≡ retained_over self.now) }
+        ensures former { IfOk result (λ r. r.1.former ≡ (counts_over self.now).former) }
+    {
+        let marked = self.marked()?;
+        let retained = self.epochs.retained(self.acks.stable(), &marked)?;
+        Ok((marked.len() as u64, retained))
+    }
+
     // The epochs of the unstable operations, in the order of these.
-    pub(crate) fn marked(&self) -> Result<Vec<EpochName>, AllocError>
+    fn marked(&self) -> Result<Vec<EpochName>, AllocError>
         ensures marked { IfOk result (λ names. names.items ≡ marked_over self.now) }
     {
         let mut names = Vec::new(self.alloc);

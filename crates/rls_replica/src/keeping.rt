@@ -39,8 +39,7 @@ impl Replica {
     pub fn retained(&self) -> Result<Vec<EpochName>, AllocError>
         ensures names { IfOk result (λ names. names.items ≡ retained_over self.now) }
     {
-        let marked = self.marked()?;
-        let retained = self.epochs.retained(self.acks.stable(), &marked)?;
+        let (_, retained) = self.unstable_and_retained()?;
         Ok(retained.names)
     }
 }

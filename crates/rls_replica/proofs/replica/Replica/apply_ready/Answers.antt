@@ -11,7 +11,7 @@ use Rattle.rls_seen.proofs.Repeating.{released_accepted}
 use Rattle.rls_seen.proofs.Staying.{released_sane}
 use Rattle.rls_replica.specs.Changing.{renaming_in}
 use Rattle.rls_replica.specs.View.{seen}
-use Rattle.rls_replica.proofs.Accepted.{accepted_is, next_is, same_one}
+use Rattle.rls_replica.proofs.Accepted.{accepted_is, next_is, next_taken}
 use Rattle.rls_replica.proofs.Whole.{whole_next}
 use Rattle.rls_blocks.specs.Trees.{entries_of}
 use Rattle.rls_replica.proofs.replica.Replica.apply_ready.Goals as goal
@@ -19,16 +19,13 @@ use Rattle.rls_replica.proofs.replica.Replica.apply_ready.Goals as goal
 pub prepare-requires-clause-may : goal.prepare-requires-clause-may
 prepare-requires-clause-may c =
     let i = seen c.self.inside in
-    let w = c.in-Some.op.now in
-    let h = next_is i c.args.self.now c.mine.result.now w c.self.view_is c.self.invariant.sane c.mine.ensures.mine c.in-Some.ensures.ready c.requires.fits in
+    let h = next_is i c.args.self.now c.mine.result.now c.in-Some.op.now c.self.view_is c.self.invariant.sane c.mine.ensures.mine c.in-Some.ensures.ready c.requires.fits in
     record { replica = i; epochs_are = refl; text_is = refl; sane = c.self.invariant.sane; may = h.may }
 
 pub prepare-requires-clause-author : goal.prepare-requires-clause-author
 prepare-requires-clause-author c =
     let i = seen c.self.inside in
-    let w = c.in-Some.op.now in
-    let h = next_is i c.args.self.now c.mine.result.now w c.self.view_is c.self.invariant.sane c.mine.ensures.mine c.in-Some.ensures.ready c.requires.fits in
-    let a = author_in i w h.may in
+    let a = author_in i c.in-Some.op.now (next_is i c.args.self.now c.mine.result.now c.in-Some.op.now c.self.view_is c.self.invariant.sane c.mine.ensures.mine c.in-Some.ensures.ready c.requires.fits).may in
     let e = c.self.invariant.authors_are in
     omega arith
 
@@ -45,7 +42,7 @@ finish-requires-clause-may c =
     let i = seen c.self.inside in
     let w = c.in-Some.op.now in
     let h = next_is i c.args.self.now c.mine.result.now w c.self.view_is c.self.invariant.sane c.mine.ensures.mine c.in-Some.ensures.ready c.requires.fits in
-    let e = same_one w c.in-Some-remove.op c.remove.result (c.remove.ensures.found ∙ h.under) c.in-Some-remove.is in
+    let e = next_taken _ c.args.self.now _ c.in-Some.op.now c.in-Some-remove.op c.remove.result c.self.view_is c.self.invariant.sane c.mine.ensures.mine c.in-Some.ensures.ready c.requires.fits c.remove.ensures.found c.in-Some-remove.is in
     record {
       replica = i;
       acks_are = refl;
@@ -57,18 +54,12 @@ finish-requires-clause-may c =
 
 pub finish-requires-clause-renaming : goal.finish-requires-clause-renaming
 finish-requires-clause-renaming c =
-    let i = seen c.self.inside in
-    let w = c.in-Some.op.now in
-    let h = next_is i c.args.self.now c.mine.result.now w c.self.view_is c.self.invariant.sane c.mine.ensures.mine c.in-Some.ensures.ready c.requires.fits in
-    let e = same_one w c.in-Some-remove.op c.remove.result (c.remove.ensures.found ∙ h.under) c.in-Some-remove.is in
+    let e = next_taken _ c.args.self.now _ c.in-Some.op.now c.in-Some-remove.op c.remove.result c.self.view_is c.self.invariant.sane c.mine.ensures.mine c.in-Some.ensures.ready c.requires.fits c.remove.ensures.found c.in-Some-remove.is in
     c.in_ok-renaming.ensures.renaming ∙ ap (λ (o : Op). renaming_in o o.body) (sym e)
 
 pub finish-requires-clause-stem_room : goal.finish-requires-clause-stem_room
 finish-requires-clause-stem_room c =
-    let i = seen c.self.inside in
-    let w = c.in-Some.op.now in
-    let h = next_is i c.args.self.now c.mine.result.now w c.self.view_is c.self.invariant.sane c.mine.ensures.mine c.in-Some.ensures.ready c.requires.fits in
-    let e = same_one w c.in-Some-remove.op c.remove.result (c.remove.ensures.found ∙ h.under) c.in-Some-remove.is in
+    let e = next_taken _ c.args.self.now _ c.in-Some.op.now c.in-Some-remove.op c.remove.result c.self.view_is c.self.invariant.sane c.mine.ensures.mine c.in-Some.ensures.ready c.requires.fits c.remove.ensures.found c.in-Some-remove.is in
     subst (λ (o : Op). 0 < slice_index c.prepare.new.stems.spare o.author) (sym e) c.in_ok-renaming.ensures.stem_room
 
 after : goal.returns-clause-ok
@@ -76,7 +67,7 @@ after c =
     let i = seen c.self.inside in
     let w = c.in-Some.op.now in
     let h = next_is i c.args.self.now c.mine.result.now w c.self.view_is c.self.invariant.sane c.mine.ensures.mine c.in-Some.ensures.ready c.requires.fits in
-    let e = same_one w c.in-Some-remove.op c.remove.result (c.remove.ensures.found ∙ h.under) c.in-Some-remove.is in
+    let e = next_taken _ c.args.self.now _ c.in-Some.op.now c.in-Some-remove.op c.remove.result c.self.view_is c.self.invariant.sane c.mine.ensures.mine c.in-Some.ensures.ready c.requires.fits c.remove.ensures.found c.in-Some-remove.is in
     let p = c.in_ok-renaming.ensures in
     let f = c.finish.ensures in
     accepted_is i w c.finish.new.acks c.finish.new.stems.stems c.finish.new.epochs.epochs (entries_of c.prepare.new.document.blocks) c.remove.new.self c.finish.new.log.ops

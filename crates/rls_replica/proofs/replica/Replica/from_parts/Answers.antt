@@ -36,25 +36,15 @@ invariant_of-result c =
 
 pub returns-clause-replica : goal.returns-clause-replica
 returns-clause-replica c =
-    let p = c.args.parts in
     let a = c.in_ok-acks.field-0 in
     let made = c.in_ok-acks.ensures.made in
-    let same = seen_so p a.acks (a.stems).stems (a.epochs).epochs (entries_of c.in_ok-document.document.blocks) c.in_ok-held.held c.of.result.ops made.acks made.stems made.epochs (c.in_ok-document.ensures.text ∙ ap entries_in c.into_vec.ensures.items) (c.in_ok-held.ensures.held ∙ c.as_slice.ensures.ops) c.of.ensures.ops in
-    same
+    seen_so c.args.parts a.acks (a.stems).stems (a.epochs).epochs (entries_of c.in_ok-document.document.blocks) c.in_ok-held.held c.of.result.ops made.acks made.stems made.epochs (c.in_ok-document.ensures.text ∙ ap entries_in c.into_vec.ensures.items) (c.in_ok-held.ensures.held ∙ c.as_slice.ensures.ops) c.of.ensures.ops
 
 pub returns-clause-back : goal.returns-clause-back
 returns-clause-back c =
-    let p = c.args.parts in
-    let a = c.in_ok-acks.field-0 in
-    let made = c.in_ok-acks.ensures.made in
-    let same = seen_so p a.acks (a.stems).stems (a.epochs).epochs (entries_of c.in_ok-document.document.blocks) c.in_ok-held.held c.of.result.ops made.acks made.stems made.epochs (c.in_ok-document.ensures.text ∙ ap entries_in c.into_vec.ensures.items) (c.in_ok-held.ensures.held ∙ c.as_slice.ensures.ops) c.of.ensures.ops in
-    ap parts_over same ∙ back p c.requires.given made.unbroken
+    ap parts_over (returns-clause-replica c) ∙ back c.args.parts c.requires.given c.in_ok-acks.ensures.made.unbroken
 
 pub returns-clause-stands : goal.returns-clause-stands
 returns-clause-stands c t l e =
-    let p = c.args.parts in
-    let a = c.in_ok-acks.field-0 in
-    let made = c.in_ok-acks.ensures.made in
-    let same = seen_so p a.acks (a.stems).stems (a.epochs).epochs (entries_of c.in_ok-document.document.blocks) c.in_ok-held.held c.of.result.ops made.acks made.stems made.epochs (c.in_ok-document.ensures.text ∙ ap entries_in c.into_vec.ensures.items) (c.in_ok-held.ensures.held ∙ c.as_slice.ensures.ops) c.of.ensures.ops in
     let ranged = subst AreRanged (sym e) c.fit.ensures.ranged in
-    subst (λ s. StandsFor s t) (sym same) (subst (λ q. StandsFor (seen_of q) t) e (stand t l ranged (ap broken e ∙ made.unbroken)))
+    subst (λ s. StandsFor s t) (sym (returns-clause-replica c)) (subst (λ q. StandsFor (seen_of q) t) e (stand t l ranged (ap broken e ∙ c.in_ok-acks.ensures.made.unbroken)))

@@ -26,6 +26,6 @@ returns-clause-ok c = after c
 pub invariant_of-self-2 : goal.invariant_of-self-2
 invariant_of-self-2 c =
     let s = c.args.self.now in
-    let o = c.args.op in
-    let sane = put_sane s o (subst IsSane c.self.view_is c.self.invariant.sane) c.requires.may c.fits.ensures.range in
-    whole_next (seen c.self.inside) s _ (holding s (with_waiting o (without o.author o.seq s.waiting))) c.self.inside.stems.members c.self.inside.stems.members c.self.view_is c.self.invariant (after c) sane (members_holding s (with_waiting o (without o.author o.seq s.waiting))) refl
+    let W = with_waiting c.args.op (without c.args.op.author c.args.op.seq s.waiting) in
+    whole_next (seen c.self.inside) s _ (holding s W) c.self.inside.stems.members c.self.inside.stems.members c.self.view_is c.self.invariant (after c)
+    (put_sane s c.args.op (subst IsSane c.self.view_is c.self.invariant.sane) c.requires.may c.fits.ensures.range) (members_holding s W) refl

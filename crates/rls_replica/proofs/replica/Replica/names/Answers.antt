@@ -1,20 +1,14 @@
 use Rattle.rls_doc.proofs.Places.{found_known}
 use Rattle.rls_replica.specs.Lookups.{is_named_by}
 use Rattle.std.proofs.Common.{◌≡◌, ◌∙◌, ◌&&◌, not, false, sym, subst, ap}
-use Rattle.rls_ident.specs.Lists.{IsIn}
 use Rattle.rls_ops.specs.Rows.{is_covered}
 use Rattle.rls_seen.specs.Seen.{Seen, stable_over, translate_over}
 use Rattle.rls_replica.specs.View.{seen}
-use Rattle.rls_replica.proofs.Targets.{named_there, unstable_of}
+use Rattle.rls_replica.proofs.Targets.{named_there, unstable_seen}
 use Rattle.rls_replica.proofs.replica.Replica.names.Goals as goal
 
 pub translate-requires-clause-to : goal.translate-requires-clause-to
-translate-requires-clause-to c =
-    let i = seen c.self.inside in
-    let o = c.args.op.now in
-    let p = subst (λ (s : Seen). IsIn o s.log) (sym c.self.view_is) c.requires.logged in
-    let free = subst (λ (s : Seen). is_covered (stable_over s) o ≡ false) (sym c.self.view_is) (sym c.is_stable.ensures.covered ∙ c.if-is_stable.false) in
-    c.self.invariant.sane.unstable o (unstable_of i o p free)
+translate-requires-clause-to c = c.self.invariant.sane.unstable c.args.op.now (unstable_seen c.args.op.now c.self.view_is c.requires.logged (sym c.is_stable.ensures.covered ∙ c.if-is_stable.false))
 
 pub returns : goal.returns
 returns c =

@@ -1,10 +1,8 @@
 use Rattle.rls_ident.proofs.Members.{get_in}
-use Rattle.std.proofs.Common.{◌≡◌, ◌∙◌, ◌<◌, ◌≤◌, length, false, true, sym, subst, ap}
-use Rattle.rls_ident.specs.Lists.{IsIn}
-use Rattle.rls_ops.specs.Rows.{is_covered}
-use Rattle.rls_seen.specs.Seen.{Seen, stable_over, translate_over}
+use Rattle.std.proofs.Common.{◌≡◌, ◌∙◌, ◌<◌, ◌≤◌, length, true, sym, subst, ap}
+use Rattle.rls_seen.specs.Seen.{Seen, translate_over}
 use Rattle.rls_replica.specs.View.{seen}
-use Rattle.rls_replica.proofs.Targets.{known_there, unstable_of}
+use Rattle.rls_replica.proofs.Targets.{known_there, unstable_seen}
 use Rattle.std.proofs.lemmas.List.{length-map}
 use Rattle.std.proofs.lemmas.Option.{slice_get-map}
 use Rattle.std.specs.Prelude.{option_map, slice_get}
@@ -13,12 +11,7 @@ use Rattle.rls_seen.proofs.TextLists.{ident_in}
 use Rattle.rls_replica.proofs.replica.Replica.names_front.Goals as goal
 
 pub translate_runs-requires-clause-to : goal.translate_runs-requires-clause-to
-translate_runs-requires-clause-to c =
-    let i = seen c.self.inside in
-    let o = c.args.op.now in
-    let p = subst (λ (s : Seen). IsIn o s.log) (sym c.self.view_is) c.requires.logged in
-    let free = subst (λ (s : Seen). is_covered (stable_over s) o ≡ false) (sym c.self.view_is) (sym c.is_stable.ensures.covered ∙ c.if-is_stable.false) in
-    c.self.invariant.sane.unstable o (unstable_of i o p free)
+translate_runs-requires-clause-to c = c.self.invariant.sane.unstable c.args.op.now (unstable_seen c.args.op.now c.self.view_is c.requires.logged (sym c.is_stable.ensures.covered ∙ c.if-is_stable.false))
 
 pub get-requires : goal.get-requires
 get-requires c =
@@ -37,9 +30,8 @@ returns-in-Ok-clause-known c k x l g =
     let e = c.args.epoch in
     let xs = c.args.ids.now in
     let f = translate_over i e o.epoch in
-    let p = subst (λ (s : Seen). IsIn o s.log) (sym c.self.view_is) c.requires.logged in
-    let free = subst (λ (s : Seen). is_covered (stable_over s) o ≡ false) (sym c.self.view_is) (sym c.is_stable.ensures.covered ∙ c.if-is_stable.false) in
+    let unstable = unstable_seen c.args.op.now c.self.view_is c.requires.logged (sym c.is_stable.ensures.covered ∙ c.if-is_stable.false) in
     let there = ap (λ ys. slice_get ys k) c.in_ok-there.ensures.translated ∙ (slice_get-map f xs k ∙ ap (option_map f) g) in
     let among = c.common_front.ensures.among k (f x) l there in
     subst (λ (s : Seen). is_known_over s e x ≡ true) c.self.view_is
-    (known_there i e x o c.in-Delete.targets c.self.invariant.sane.epochs.nodes (ident_in xs c.total-ids.ensures.idents x (get_in xs k x g)) c.total-targets.ensures.idents (unstable_of i o p free) c.in-Delete.is among)
+    (known_there i e x o c.in-Delete.targets c.self.invariant.sane.epochs.nodes (ident_in xs c.total-ids.ensures.idents x (get_in xs k x g)) c.total-targets.ensures.idents unstable c.in-Delete.is among)

@@ -1,11 +1,11 @@
-use Rattle.std.proofs.Common.{◌≡◌, ◌∙◌, ◌<◌, ℕ, None, sym, ap, subst, arith}
+use Rattle.std.proofs.Common.{◌≡◌, ◌∙◌, None, sym, ap, subst, arith}
 use Rattle.rls_model.specs.Taking.{take_message}
 use Rattle.rls_seen.specs.Seen.{Seen, members}
 use Rattle.rls_seen.specs.Over.{acknowledged}
-use Rattle.rls_seen.specs.Messages.{IsMessage, started}
+use Rattle.rls_seen.specs.Messages.{started}
 use Rattle.rls_seen.specs.Stands.{StandsFor}
 use Rattle.rls_seen.proofs.Taking.{taken_alike}
-use Rattle.rls_replica.proofs.Cut.{message_part, message_part_stands}
+use Rattle.rls_replica.proofs.Cut.{message_whole, message_part, message_part_stands}
 use Rattle.rls_replica.proofs.Courses.{message_counts, message_seen, members_ops}
 use Rattle.rls_replica.proofs.KeptNames.{names_on}
 use Rattle.rls_replica.proofs.replica.Replica.take.Goals as goal
@@ -17,12 +17,7 @@ pub returns-in_err-taken-clause-part : goal.returns-in_err-taken-clause-part
 returns-in_err-taken-clause-part c = λ _ t h.
     let s = c.args.self.now in
     let m = c.args.message in
-    let e : m.members ≡ members s = omega (arith, c.if-message-members.false, c.members.ensures.members) in
-    let whole : IsMessage (members s) m = record {
-      from = subst (λ (n : ℕ). m.from < n) e c.requires.from;
-      vector = (c.requires.vector ∙ e, c.len-len.ensures.bounded);
-      ops = c.fits.ensures.whole;
-    } in
+    let whole = message_whole s m (omega (arith, c.if-message-members.false, c.members.ensures.members)) c.requires.from c.requires.vector c.len-len.ensures.bounded c.fits.ensures.whole in
     message_part_stands s c.take_ops.new.self t m whole (message_part s c.take_ops.new.self m c.in_err-taken.ensures.err) h
 
 pub acknowledge-requires-clause-member : goal.acknowledge-requires-clause-member
@@ -52,12 +47,7 @@ pub returns-clause-stands : goal.returns-clause-stands
 returns-clause-stands c = λ t h.
     let s = c.args.self.now in
     let m = c.args.message in
-    let e : m.members ≡ members s = omega (arith, c.if-message-members.false, c.members.ensures.members) in
-    let whole : IsMessage (members s) m = record {
-      from = subst (λ (n : ℕ). m.from < n) e c.requires.from;
-      vector = (c.requires.vector ∙ e, c.len-len.ensures.bounded);
-      ops = c.fits.ensures.whole;
-    } in
+    let whole = message_whole s m (omega (arith, c.if-message-members.false, c.members.ensures.members)) c.requires.from c.requires.vector c.len-len.ensures.bounded c.fits.ensures.whole in
     let law = taken_alike None s t m whole h in (
       returns-clause-taken c ∙ law.0,
       subst (λ (u : Seen). StandsFor u (take_message t m).state) (sym (after c)) law.1,
