@@ -32,5 +32,5 @@ returns-then-not-is_greater c =
     let e = c.index-list-i.result in
     let g = at_index c.as_slice-list.result.now p.epochs i e c.as_slice-list.ensures.items c.loop-i-test.true c.index-list-i.is in
     let n : (opens p (take i p.epochs) e && is_greater (take i p.epochs) e) ≡ false =
-        ap (λ b. b && is_greater (take i p.epochs) e) (sym c.if-not-opens.ensures.opens) ∙ sym c.if-not-is_greater.ensures.greater in
+    ap (λ b. b && is_greater (take i p.epochs) e) (sym c.if-not-opens.ensures.opens) ∙ sym c.if-not-is_greater.ensures.greater in
     record { tested = broken_at p i c.loop-i.epochs.epochs e c.loop-i.invariant.tree g n c.loop-i.invariant.pass }
