@@ -24,6 +24,12 @@ const FIRST: EpochName = EpochName::Of { replica: 0, seq: 2 };
 /// The epoch of member 0's third operation, which is opened in the first one.
 const SECOND: EpochName = EpochName::Of { replica: 0, seq: 3 };
 
+/// The epoch of member 0's fourth operation.
+const THIRD: EpochName = EpochName::Of { replica: 0, seq: 4 };
+
+/// Offsets and lengths: a former identifier, those beside it, all of them, one that isn't a former one, and both kinds.
+const LISTS: [(i32, u32); 5] = [(3, 1), (0, 2), (0, 5), (7, 1), (4, 2)];
+
 /// A tuple of an operation of member 0.
 fn tuple(seq: u32, offset: i32) -> Tuple {
     Tuple::At {
@@ -172,45 +178,72 @@ fn moves_again(epochs: &mut Epochs, way: (EpochName, EpochName), ids: &Runs) -> 
     Ok(same_lists(&before, &after))
 }
 
+/// Whether lists of identifiers of one operation, each from an offset on, move as before once the tree is prepared for them.
+fn all_move_again(
+    alloc: Global,
+    epochs: &mut Epochs,
+    way: (EpochName, EpochName),
+    seq: u32,
+    lists: &[(i32, u32)],
+) -> Result<bool, Fail> {
+    for i in 0..lists.len() {
+        let (offset, len) = lists[i];
+        let ids = list_of(alloc, (&[tuple(seq, offset)], len))?;
+        if !moves_again(epochs, way, &ids)? {
+            return Ok(false);
+        }
+    }
+    Ok(true)
+}
+
+/// Whether a third epoch could be opened in the second one.
+fn opens_third(alloc: Global, epochs: &mut Epochs) -> Result<bool, Fail> {
+    let renaming = renaming(alloc, 4)?;
+    let total = renaming.total();
+    if epochs.kept(THIRD) || !epochs.kept(SECOND) || epochs.former_total() > 1_000_000 {
+        return Ok(false);
+    }
+    if total > 1_000_000 {
+        return Ok(false);
+    }
+    epochs.reserve()?;
+    epochs.add(0, 4, SECOND, renaming);
+    Ok(true)
+}
+
 #[test]
 fn known_images_are_found(rt: HostRuntime) -> Result<(), Fail> {
     let alloc = rt.alloc();
     let mut epochs = tree(alloc)?;
-    let origin = EpochName::Origin;
-    // An identifier, those beside it, all of them, one that isn't a former one, and all of these.
-    let steps = [(3, 1), (0, 2), (0, 5), (7, 1), (4, 2)];
-    for (offset, len) in steps {
-        let ids = list_of(alloc, (&[tuple(1, offset)], len))?;
-        assert!(rt; moves_again(&mut epochs, (origin, SECOND), &ids)?);
-    }
-    // Back again, and to an epoch that is one step away.
-    for (offset, len) in steps {
-        let ids = list_of(alloc, (&[tuple(3, offset)], len))?;
-        assert!(rt; moves_again(&mut epochs, (SECOND, origin), &ids)?);
-        assert!(rt; moves_again(&mut epochs, (SECOND, FIRST), &ids)?);
-    }
+    let (down, up, near) = (
+        (EpochName::Origin, SECOND),
+        (SECOND, EpochName::Origin),
+        (SECOND, FIRST),
+    );
+    assert!(rt; all_move_again(alloc, &mut epochs, down, 1, &LISTS)?);
+    // Back again, to an epoch that is one step away, and back once more.
+    assert!(rt; all_move_again(alloc, &mut epochs, up, 3, &LISTS)?);
+    assert!(rt; all_move_again(alloc, &mut epochs, near, 3, &LISTS)?);
+    assert!(rt; all_move_again(alloc, &mut epochs, up, 3, &LISTS)?);
     // One more epoch.
-    let ids = list_of(alloc, (&[tuple(1, 1)], 3))?;
-    assert!(rt; moves_again(&mut epochs, (origin, SECOND), &ids)?);
-    epochs.reserve()?;
-    epochs.add(0, 4, SECOND, renaming(alloc, 4)?);
-    let third = EpochName::Of { replica: 0, seq: 4 };
+    assert!(rt; all_move_again(alloc, &mut epochs, down, 1, &[(1, 3)])?);
+    assert!(rt; opens_third(alloc, &mut epochs)?);
+    let deep = (EpochName::Origin, THIRD);
     assert!(rt;
         list_moves(
             alloc,
             &epochs,
-            (origin, third),
+            deep,
             (&[tuple(1, 1)], 3),
             (&[tuple(4, 1)], 3)
         )?
     );
-    assert!(rt; moves_again(&mut epochs, (origin, third), &ids)?);
-    assert!(rt; moves_again(&mut epochs, (origin, third), &ids)?);
+    assert!(rt; all_move_again(alloc, &mut epochs, deep, 1, &[(1, 3), (1, 3)])?);
     assert!(rt;
         list_moves(
             alloc,
             &epochs,
-            (origin, third),
+            deep,
             (&[tuple(1, 2)], 2),
             (&[tuple(4, 2)], 2)
         )?
