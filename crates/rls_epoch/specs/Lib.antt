@@ -9,3 +9,4 @@ pub mod Heads
 pub mod Parts
 pub mod Ranks
 pub mod KnownRuns
+pub mod MarkStates

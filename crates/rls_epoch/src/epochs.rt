@@ -16,6 +16,7 @@ ghost use Rattle.rls_epoch.specs.Seen.{former_sum, is_marked, node_for, rising_e
 use crate::greatest::{greatest, greatest_in};
 use crate::keeping::{keep_places, number_needed};
 use crate::listing::{number_at, parent_place};
+use crate::mark::Mark;
 use crate::nodes::Nodes;
 use crate::placed::Placed;
 use crate::ranks::{rank_added, rank_all};
@@ -40,8 +41,8 @@ pub struct Epochs {
     order: Vec<usize>,
     // for each node the rank of the greatest epoch that its member opened up to it
     ranks: Vec<usize>,
-    // a mark for each epoch, by its number: 0 if it isn't marked
-    marks: Vec<usize>,
+    // the marks of the epochs, by their numbers
+    marks: Vec<Mark>,
     total: u64,
 }
 
@@ -67,7 +68,7 @@ impl Epochs {
         ensures marks { IfOk result (λ a. a.marks ≡ []) }
     {
         let mut marks = Vec::new(alloc);
-        marks.push(0)?;
+        marks.push(Mark::unmarked())?;
         Ok(Epochs {
             nodes: Nodes::starting_at(alloc, name),
             by_name: Vec::new(alloc),
@@ -119,7 +120,7 @@ impl Epochs {
         self.by_name.insert(by_name, place).unwrap();
         self.order.insert(order, place).unwrap();
         self.ranks.push(0).unwrap();
-        self.marks.push(0).unwrap();
+        self.marks.push(Mark::unmarked()).unwrap();
         rank_added(
             &self.nodes,
             &self.by_name,
@@ -278,7 +279,7 @@ impl Epochs {
         ensures epochs { self.new.epochs ≡ self.old.epochs }
         ensures marks { self.new.marks ≡ [] }
     {
-        self.marks.fill(0);
+        self.marks.fill(Mark::unmarked());
     }
 
     /// Marks a kept epoch. It takes no memory, and costs a comparison of names for each halving of the
@@ -290,7 +291,7 @@ impl Epochs {
     {
         let number = self.nodes.number_of(&self.by_name, name);
         let _count = self.nodes.count();
-        self.marks[number] = 1;
+        self.marks[number] = Mark::marked();
     }
 
     /// Keeps the smallest connected part that holds the greatest epoch, those that are marked, and each
@@ -310,7 +311,7 @@ impl Epochs {
         self.ranks.truncate(count);
         rank_all(&self.nodes, &self.by_name, &self.order, &mut self.ranks);
         self.marks.truncate(count + 1);
-        self.marks.fill(0);
+        self.marks.fill(Mark::unmarked());
     }
 
     /// What `keep` would leave if these epochs were marked alone: the smallest connected part that

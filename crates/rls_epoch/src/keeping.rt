@@ -1,4 +1,4 @@
-//! What is kept of a tree. The marks are those of the kept epochs, each its new number and one more.
+//! What is kept of a tree. The marks of the kept epochs give their new places.
 
 ghost use Rattle.std.specs.Prelude.{◌≡◌, ◌<◌, ◌≤◌, ◌+◌, ◌-◌, ◌^◌, ℕ, suc, [], ◌∷◌, ◌++◌, Some, IfOk, length, drop, nat_lt, slice_get, slice_index, if◌then◌else◌, IsTrue, List};
 ghost use Rattle.rls_ident.specs.declared.epoch_name.EpochName.{EpochName};
@@ -12,34 +12,29 @@ ghost use Rattle.rls_epoch.specs.Marks.{AreNamed, AreNumbered, numbered, mark_co
 ghost use Rattle.rls_epoch.specs.Seen.{former_sum, nodes_of, AreLaid};
 ghost use Rattle.rls_epoch.specs.Sorted.{place_name, AreSorted};
 
-use crate::entries::entry;
+use crate::mark::{Mark, mark_of};
 use crate::marks::mark_reached;
 use crate::nodes::Nodes;
 use crate::placed::Placed;
 use rls_ident::{EpochName, Vector};
 use std::alloc::AllocError;
 
-// Numbers the marks, from 1 on.
-fn number_marks(marks: &mut [usize])
+// Gives the marked epochs their new places. The first of them comes to be the topmost one.
+fn number_marks(marks: &mut [Mark])
     ensures numbered { marks.new ≡ numbered 0 marks.old }
 {
     let mut count = 0;
     for i in 0..marks.len() {
-        if marks[i] == 0 {
+        if !mark_of(marks, i).is_marked() {
             continue;
         }
+        marks[i] = Mark::numbered(count);
         count += 1;
-        marks[i] = count;
     }
 }
 
-// Marks what is needed, numbers the marks from 1 on, and answers the number of the topmost epoch of it.
-pub(crate) fn number_needed(
-    nodes: &Nodes,
-    order: &[usize],
-    marks: &mut [usize],
-    v: &Vector,
-) -> usize
+// Marks what is needed, gives it its new places, and answers the number of the topmost epoch of it.
+pub(crate) fn number_needed(nodes: &Nodes, order: &[usize], marks: &mut [Mark], v: &Vector) -> usize
     requires sorted { AreSorted (epoch_cmp (nodes_of nodes.now.placed)) nodes.now.placed order.now }
     requires members { (e : EpochName) → IsTrue (is_kept nodes.now.top (nodes_of nodes.now.placed) e) → IsTrue (is_of_member (length v.now) e) }
     requires whole { length marks.old ≡ suc (length nodes.now.placed) }
@@ -53,8 +48,8 @@ pub(crate) fn number_needed(
     number
 }
 
-// Keeps the nodes whose marks are greater than 1.
-fn keep_nodes(nodes: &mut Vec<Placed>, marks: &[usize])
+// Keeps the nodes whose marks have new places.
+fn keep_nodes(nodes: &mut Vec<Placed>, marks: &[Mark])
     requires whole { length marks.now ≡ suc (length nodes.old.items) }
     requires parents { (k : ℕ) (p : Placed) → slice_get nodes.old.items k ≡ Some p → p.up ≤ k }
     requires marked { (k : ℕ) (p : Placed) → slice_get nodes.old.items k ≡ Some p → 1 < slice_index marks.now (suc k) → 0 < slice_index marks.now p.up }
@@ -62,38 +57,38 @@ fn keep_nodes(nodes: &mut Vec<Placed>, marks: &[usize])
 {
     let mut count = 0;
     for i in 0..nodes.len() {
-        if entry(marks, i + 1) <= 1 {
+        if !mark_of(marks, i + 1).has_place() {
             continue;
         }
-        nodes[i].up = entry(marks, nodes[i].up) - 1;
+        nodes[i].up = mark_of(marks, nodes[i].up).new_number();
         nodes.swap(count, i);
         count += 1;
     }
     nodes.truncate(count);
 }
 
-// Keeps the places of the nodes whose marks are greater than 1, as their new places.
-pub(crate) fn keep_places(places: &mut Vec<usize>, marks: &[usize])
+// Puts the new places of these nodes, which their marks give, in place of the old ones, and drops the
+// nodes that have none.
+pub(crate) fn keep_places(places: &mut Vec<usize>, marks: &[Mark])
     requires within { (k : ℕ) → IsIn k places.old.items → suc k < length marks.now }
     ensures kept { places.new.items ≡ kept_places marks.now places.old.items }
 {
     let _count = marks.len();
     let mut count = 0;
     for i in 0..places.len() {
-        let mark = entry(marks, places[i] + 1);
-        if mark <= 1 {
+        let Some(place) = mark_of(marks, places[i] + 1).new_place() else {
             continue;
-        }
-        places[count] = mark - 2;
+        };
+        places[count] = place;
         count += 1;
     }
     places.truncate(count);
 }
 
 impl Nodes {
-    // Keeps the part that has marks, which are numbered, and of which the epoch with this number is the
-    // topmost.
-    pub(crate) fn keep(&mut self, number: usize, marks: &[usize])
+    // Keeps the part that is marked, whose marks have their new places, and of which the epoch with this
+    // number is the topmost.
+    pub(crate) fn keep(&mut self, number: usize, marks: &[Mark])
         requires within { number ≤ length self.old.placed }
         requires whole { length marks.now ≡ suc (length self.old.placed) }
         requires numbered { (e : EpochName) × (es : List EpochName) × AreNumbered self.old.top self.old.placed marks.now number e es }
@@ -105,11 +100,11 @@ impl Nodes {
         self.known.clear();
     }
 
-    // The epochs at these places whose marks are greater than 1, after the topmost one.
+    // The epochs at these places whose marks have new places, after the topmost one.
     pub(crate) fn list_kept(
         &self,
         first: EpochName,
-        marks: &[usize],
+        marks: &[Mark],
         places: &[usize],
     ) -> Result<Vec<EpochName>, AllocError>
         requires whole { length marks.now ≡ suc (length self.now.placed) }
@@ -120,7 +115,7 @@ impl Nodes {
         let mut names = Vec::new(self.allocator());
         names.push(first)?;
         for place in places {
-            if entry(marks, *place + 1) <= 1 {
+            if !mark_of(marks, *place + 1).has_place() {
                 continue;
             }
             names.push(self.name_of(*place))?;
@@ -128,15 +123,15 @@ impl Nodes {
         Ok(names)
     }
 
-    // The number of former identifiers of the nodes whose marks are greater than 1.
-    pub(crate) fn former_kept(&self, marks: &[usize]) -> u64
+    // The number of former identifiers of the nodes whose marks have new places.
+    pub(crate) fn former_kept(&self, marks: &[Mark]) -> u64
         requires whole { length marks.now ≡ suc (length self.now.placed) }
         requires total { former_sum (nodes_of self.now.placed) < 2 ^ 64 }
         ensures former { result ≡ kept_sum (drop 1 marks.now) self.now.placed }
     {
         let mut former = 0;
         for i in 0..self.count() {
-            if entry(marks, i + 1) <= 1 {
+            if !mark_of(marks, i + 1).has_place() {
                 continue;
             }
             former += self.at(i).renaming.total();

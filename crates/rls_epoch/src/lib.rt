@@ -12,6 +12,7 @@ mod keeping;
 mod known;
 mod learning;
 mod listing;
+mod mark;
 mod marks;
 mod nodes;
 mod parts;

@@ -10,12 +10,12 @@ ghost use Rattle.rls_ident.specs.EpochNames.{is_of_member};
 ghost use Rattle.rls_rename.specs.Keeping.{reached};
 ghost use Rattle.rls_rename.specs.Tree.{epoch_cmp, greatest, greatest_within, is_kept};
 
-use crate::entries::set_entry;
+use crate::mark::{Mark, mark_epoch, mark_of};
 use crate::nodes::Nodes;
 use rls_ident::{EpochName, Vector};
 
 // Marks each epoch that is at least the greatest one within the vector.
-pub(crate) fn mark_reached(nodes: &Nodes, order: &[usize], marks: &mut [usize], v: &Vector)
+pub(crate) fn mark_reached(nodes: &Nodes, order: &[usize], marks: &mut [Mark], v: &Vector)
     requires sorted { AreSorted (epoch_cmp (nodes_of nodes.now.placed)) nodes.now.placed order.now }
     requires members { (e : EpochName) → IsTrue (is_kept nodes.now.top (nodes_of nodes.now.placed) e) → IsTrue (is_of_member (length v.now) e) }
     requires whole { length marks.old ≡ suc (length nodes.now.placed) }
@@ -25,19 +25,19 @@ pub(crate) fn mark_reached(nodes: &Nodes, order: &[usize], marks: &mut [usize], 
     let mut rest = order;
     while let Some((place, lesser)) = rest.split_last() {
         let name = nodes.name_of(*place);
-        set_entry(marks, *place + 1, 1);
+        mark_epoch(marks, *place + 1);
         if name.within(v) {
             return;
         }
         rest = lesser;
     }
-    set_entry(marks, 0, 1);
+    mark_epoch(marks, 0);
 }
 
 impl Nodes {
     // Marks each epoch that lies between marked ones, so that they are connected, and answers the number
     // of the topmost of them. It goes up from all marked epochs, the latest first, until they meet.
-    pub(crate) fn spread(&self, marks: &mut [usize]) -> usize
+    pub(crate) fn spread(&self, marks: &mut [Mark]) -> usize
         requires whole { length marks.old ≡ suc (length self.now.placed) }
         requires some { 0 < mark_count marks.old }
         ensures within { result ≤ length self.now.placed }
@@ -53,7 +53,7 @@ impl Nodes {
     }
 
     // Marks the parent of a marked epoch, and answers 1 if it was marked already, else 0.
-    fn mark_up(&self, marks: &mut [usize], number: usize) -> usize
+    fn mark_up(&self, marks: &mut [Mark], number: usize) -> usize
         requires some { 0 < number }
         requires within { number ≤ length self.now.placed }
         requires whole { length marks.old ≡ suc (length self.now.placed) }
@@ -62,32 +62,32 @@ impl Nodes {
         ensures most { result ≤ 1 }
         ensures fewer { mark_count (take number marks.new) + result ≡ mark_count (take (suc number) marks.old) }
     {
-        if marks[number] == 0 {
+        if !mark_of(marks, number).is_marked() {
             return 0;
         }
         let up = self.up_of(number - 1);
-        let was = marks[up];
-        marks[up] = 1;
-        was.min(1)
+        let was = mark_of(marks, up).is_marked();
+        mark_epoch(marks, up);
+        usize::from(was)
     }
 }
 
 // How many are marked.
-fn count(marks: &[usize]) -> usize
+fn count(marks: &[Mark]) -> usize
     ensures count { result ≡ count_by (λ m. nat_lt 0 m) marks.now }
 {
-    marks.iter().filter(|mark| **mark > 0).count()
+    marks.iter().filter(|mark| mark.is_marked()).count()
 }
 
 // The greatest number up to this one that is marked.
-fn last_marked(marks: &[usize], number: usize) -> usize
+fn last_marked(marks: &[Mark], number: usize) -> usize
     requires within { number < length marks.now }
     requires some { 0 < mark_count (take (suc number) marks.now) }
     ensures within { result ≤ number }
     ensures marked { has_mark marks.now result ≡ true }
 {
     let mut last = number;
-    while marks[last] == 0 {
+    while !mark_of(marks, last).is_marked() {
         last -= 1;
     }
     last

@@ -13,6 +13,7 @@ ghost use Rattle.rls_epoch.specs.Seen.{former_sum, nodes_of};
 ghost use Rattle.rls_epoch.specs.Sorted.{AreSorted};
 
 use crate::keeping::number_needed;
+use crate::mark::Mark;
 use crate::nodes::Nodes;
 use rls_ident::{EpochName, Vector};
 use std::alloc::AllocError;
@@ -57,16 +58,16 @@ fn marks_for(
     nodes: &Nodes,
     by_name: &[usize],
     marked: &[EpochName],
-) -> Result<Vec<usize>, AllocError>
+) -> Result<Vec<Mark>, AllocError>
     requires by_name_is { AreSorted name_cmp nodes.now.placed by_name.now }
     requires marked { (e : EpochName) → IsIn e marked.now → IsTrue (is_kept nodes.now.top (nodes_of nodes.now.placed) e) }
     ensures whole { IfOk result (λ marks. length marks.items ≡ suc (length nodes.now.placed)) }
     ensures named { IfOk result (λ marks. AreNamed nodes.now.top nodes.now.placed marks.items marked.now) }
 {
-    let mut marks = vec![in nodes.allocator(); 0; nodes.count() + 1]?;
+    let mut marks = vec![in nodes.allocator(); Mark::unmarked(); nodes.count() + 1]?;
     for name in marked {
         let number = nodes.number_of(by_name, *name);
-        marks[number] = 1;
+        marks[number] = Mark::marked();
     }
     Ok(marks)
 }

@@ -1,21 +1,21 @@
-use Rattle.std.proofs.Common.{◌≡◌, ◌+◌, ◌-◌, ◌<◌, ◌∷◌, [], ◌++◌, ℕ, suc, Bool, Some, length, take, drop, set, get_or, refl, sym, ap, ◌∙◌, arith, append-nil}
+use Rattle.std.proofs.Common.{◌≡◌, ◌+◌, ◌-◌, ◌<◌, ◌∷◌, [], ◌++◌, ℕ, suc, Bool, Some, length, take, drop, set, get_or, nat_lt, refl, sym, ap, ◌∙◌, arith, append-nil}
 use Rattle.std.specs.Prelude.{if◌then◌else◌, slice_get}
 use Rattle.std.proofs.Math.ListN.{length-set}
 use Rattle.std.proofs.lemmas.Grind.{drop_more_same}
 use Rattle.std.proofs.lemmas.List.Edits.{length-swap}
 use Rattle.std.proofs.lemmas.Option.{slice_get_read}
-use Rattle.rls_ident.proofs.Members.{lt_test, some_is}
+use Rattle.rls_ident.proofs.Members.{lt_is, some_is}
 use Rattle.rls_epoch.specs.declared.placed.Placed.{Placed}
 use Rattle.rls_epoch.specs.Marks.{kept_placed, moved}
-use Rattle.rls_epoch.proofs.Compacting.{at_most_one, dropped_get, kept_placed_more, kept_placed_none, read_rest, swap_front, swap_rest}
+use Rattle.rls_epoch.proofs.Compacting.{dropped_get, kept_placed_more, kept_placed_none, read_rest, swap_front, swap_rest}
 use Rattle.rls_epoch.proofs.keeping.keep_nodes.Goals as goal
 use Rattle.rls_epoch.proofs.Sorting.{get_of}
 
 pub loop-i-init : goal.loop-i-init
 loop-i-init c = record { fewer = omega arith; same = refl; front = sym (kept_placed_none c.args.marks.now (drop 1 c.args.marks.now)); rest = refl }
 
-pub loop-i-preserved-then-entry-le1 : goal.loop-i-preserved-then-entry-le1
-loop-i-preserved-then-entry-le1 c =
+pub loop-i-preserved-then-not-has_place : goal.loop-i-preserved-then-not-has_place
+loop-i-preserved-then-not-has_place c =
     let v = c.loop-i.invariant in
     let all = c.args.marks.now in
     let ms = drop 1 all in
@@ -24,10 +24,10 @@ loop-i-preserved-then-entry-le1 c =
     let w : i < length old = omega arith in
     let h = c.requires.whole in
     let p = get_of old i w in
-    let e = c.entry.ensures.entry in
+    let not = ap (nat_lt 1) (sym c.mark_of.ensures.mark) ∙ (sym c.has_place.ensures.place ∙ c.if-not-has_place.true) in
     let next : i + 1 ≡ suc i = omega arith in
     let m = kept_placed_more all ms old i (get_or all (i + 1) 0) p.0 p.1 (dropped_get all i (omega arith)) in
-    let none = ap (λ (b : Bool). kept_placed all ms (take i old) ++ (if b then moved all p.0 ∷ [] else [])) (at_most_one (get_or all (i + 1) 0) (omega arith)) in
+    let none = ap (λ (b : Bool). kept_placed all ms (take i old) ++ (if b then moved all p.0 ∷ [] else [])) not in
     record {
       fewer = let f = v.fewer in omega arith;
       same = v.same;
@@ -35,8 +35,8 @@ loop-i-preserved-then-entry-le1 c =
       rest = drop_more_same c.loop-i.nodes.items old i v.rest;
     }
 
-pub entry-requires-in-loop-i : goal.entry-requires-in-loop-i
-entry-requires-in-loop-i c =
+pub mark_of-requires-in-loop-i : goal.mark_of-requires-in-loop-i
+mark_of-requires-in-loop-i c =
     let v = c.loop-i.invariant in
     let old = c.args.nodes.now.items in
     let i = c.loop-i.i in
@@ -47,8 +47,8 @@ entry-requires-in-loop-i c =
     let h = c.requires.whole in
     record { within = omega arith }
 
-pub overflow_sub-entry : goal.overflow_sub-entry
-overflow_sub-entry c =
+pub new_number-requires : goal.new_number-requires
+new_number-requires c =
     let v = c.loop-i.invariant in
     let all = c.args.marks.now in
     let old = c.args.nodes.now.items in
@@ -57,10 +57,11 @@ overflow_sub-entry c =
     let p = c.index.result.now in
     let g : slice_get old i ≡ Some p = slice_get_read old (length old) i p refl w (c.index.ensures ∙ read_rest c.loop-i.nodes.items old i p v.same w v.rest) in
     let next : i + 1 ≡ suc i = omega arith in
-    let e = c.entry.ensures.entry ∙ ap (λ (j : ℕ). get_or all j 0) next in
+    let e = c.mark_of.ensures.mark ∙ ap (λ (j : ℕ). get_or all j 0) next in
+    let some = lt_is 1 c.mark_of.result (sym c.has_place.ensures.place ∙ c.if-not-has_place.false) in
     let b = c.requires.marked i p g (omega arith) in
-    let f = c.entry-in-loop-i.ensures.entry in
-    omega arith
+    let f = c.mark_of-in-loop-i.ensures.mark in
+    record { kept = omega arith }
 
 pub loop-i-preserved : goal.loop-i-preserved
 loop-i-preserved c =
@@ -79,11 +80,11 @@ loop-i-preserved c =
     let f : slice_get old i ≡ Some q = slice_get_read old (length old) i q refl w (c.index_mut.ensures.value ∙ read_rest xs old i q v.same w v.rest) in
     let same : q ≡ p = some_is q p (sym f ∙ g) in
     let next : i + 1 ≡ suc i = omega arith in
-    let e = c.entry.ensures.entry ∙ ap (λ (j : ℕ). get_or all j 0) next in
+    let up : c.new_number.result ≡ get_or all p.up 0 - 1 = let n = c.new_number.ensures.number in let r = c.mark_of-in-loop-i.ensures.mark in omega arith in
     let m = kept_placed_more all ms old i (get_or all (i + 1) 0) p g (dropped_get all i (omega arith)) in
-    let y : Placed = record { parent = q.parent; up = c.entry-in-loop-i.result - 1; renaming = q.renaming } in
-    let is : y ≡ moved all p = ap (λ (z : Placed). record { parent = z.parent; up = c.entry-in-loop-i.result - 1; renaming = z.renaming }) same ∙ ap (λ (j : ℕ). record { parent = p.parent; up = j - 1; renaming = p.renaming }) c.entry-in-loop-i.ensures.entry in
-    let some = ap (λ (b : Bool). kept_placed all ms (take i old) ++ (if b then moved all p ∷ [] else [])) (lt_test 1 (get_or all (i + 1) 0) (let z = c.entry.ensures.entry in omega arith)) in
+    let y : Placed = record { parent = q.parent; up = c.new_number.result; renaming = q.renaming } in
+    let is : y ≡ moved all p = ap (λ (z : Placed). record { parent = z.parent; up = c.new_number.result; renaming = z.renaming }) same ∙ ap (λ (j : ℕ). record { parent = p.parent; up = j; renaming = p.renaming }) up in
+    let some = ap (λ (b : Bool). kept_placed all ms (take i old) ++ (if b then moved all p ∷ [] else [])) (ap (nat_lt 1) (sym c.mark_of.ensures.mark) ∙ (sym c.has_place.ensures.place ∙ c.if-not-has_place.false)) in
     let new = c.swap.ensures.items in
     record {
       fewer = let f = v.fewer in omega arith;

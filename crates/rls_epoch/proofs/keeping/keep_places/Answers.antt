@@ -15,15 +15,15 @@ overflow_add-index c =
     let w = c.requires.within k (rest_in c.loop-i.places.items c.args.places.now.items c.loop-i.i k v.same (omega arith) v.rest c.index.ensures) in
     omega (arith, w)
 
-pub entry-mark-requires : goal.entry-mark-requires
-entry-mark-requires c =
+pub mark_of-requires : goal.mark_of-requires
+mark_of-requires c =
     let k = c.index.result.now in
     let v = c.loop-i.invariant in
     let w = c.requires.within k (rest_in c.loop-i.places.items c.args.places.now.items c.loop-i.i k v.same (omega arith) v.rest c.index.ensures) in
     record { within = omega (arith, w) }
 
-pub loop-i-preserved-then-mark-le1 : goal.loop-i-preserved-then-mark-le1
-loop-i-preserved-then-mark-le1 c =
+pub loop-i-preserved-in_default : goal.loop-i-preserved-in_default
+loop-i-preserved-in_default c =
     let v = c.loop-i.invariant in
     let ms = c.args.marks.now in
     let old = c.args.places.now.items in
@@ -32,9 +32,10 @@ loop-i-preserved-then-mark-le1 c =
     let g : slice_get old i ≡ Some k = slice_get_read old (length old) i k refl (omega arith) (c.index.ensures ∙ read_rest c.loop-i.places.items old i k v.same (omega arith) v.rest) in
     let next : i + 1 ≡ suc i = omega arith in
     let up : k + 1 ≡ suc k = omega arith in
-    let e = c.entry-mark.ensures.entry ∙ ap (λ (j : ℕ). get_or ms j 0) up in
+    let e = c.mark_of.ensures.mark ∙ ap (λ (j : ℕ). get_or ms j 0) up in
+    let most = c.in_default.ensures.none in
     let m = kept_places_more ms old i k g in
-    let none = ap (λ (b : Bool). kept_places ms (take i old) ++ (if b then (get_or ms (suc k) 0 - 2) ∷ [] else [])) (at_most_one (get_or ms (suc k) 0) (omega arith)) in
+    let none = ap (λ (b : Bool). kept_places ms (take i old) ++ (if b then (get_or ms (suc k) 0 - 2) ∷ [] else [])) (at_most_one (get_or ms (suc k) 0) (omega (arith, most, e))) in
     record {
       fewer = let f = v.fewer in omega arith;
       same = v.same;
@@ -55,14 +56,16 @@ loop-i-preserved c =
     let g : slice_get old i ≡ Some k = slice_get_read old (length old) i k refl w (c.index.ensures ∙ read_rest xs old i k v.same w v.rest) in
     let next : i + 1 ≡ suc i = omega arith in
     let up : k + 1 ≡ suc k = omega arith in
-    let e = c.entry-mark.ensures.entry ∙ ap (λ (j : ℕ). get_or ms j 0) up in
+    let e = c.mark_of.ensures.mark ∙ ap (λ (j : ℕ). get_or ms j 0) up in
+    let placed = c.in-Some.ensures.some in
     let m = kept_places_more ms old i k g in
-    let y = c.entry-mark.result - 2 in
-    let some = ap (λ (b : Bool). kept_places ms (take i old) ++ (if b then (get_or ms (suc k) 0 - 2) ∷ [] else [])) (lt_test 1 (get_or ms (suc k) 0) (omega arith)) in
+    let y = c.in-Some.place in
+    let is : y ≡ get_or ms (suc k) 0 - 2 = omega (arith, placed, e) in
+    let some = ap (λ (b : Bool). kept_places ms (take i old) ++ (if b then (get_or ms (suc k) 0 - 2) ∷ [] else [])) (lt_test 1 (get_or ms (suc k) 0) (omega (arith, placed, e))) in
     record {
       fewer = let f = v.fewer in omega arith;
       same = length-set xs n y ∙ v.same;
       front = put_front xs old (kept_places ms (take i old)) n i v.fewer v.same w v.front v.rest y
-          ∙ (ap (λ (j : ℕ). kept_places ms (take i old) ++ ((j - 2) ∷ [])) e ∙ (sym some ∙ (sym m ∙ ap (λ (j : ℕ). kept_places ms (take j old)) (sym next))));
+          ∙ (ap (λ (j : ℕ). kept_places ms (take i old) ++ (j ∷ [])) is ∙ (sym some ∙ (sym m ∙ ap (λ (j : ℕ). kept_places ms (take j old)) (sym next))));
       rest = put_rest xs old (kept_places ms (take i old)) n i v.fewer v.same w v.front v.rest y;
     }

@@ -35,8 +35,8 @@ within-requires c =
     let m = c.requires.members e (or_right (name_eq e c.args.nodes.now.top) (has_node (nodes_of ps) e) (place_kept ps k w)) in
     record { member = subst (λ (f : EpochName). is_of_member (length c.args.v.now) f ≡ true) (sym c.name_of-name.ensures.name) m }
 
-pub set_entry-requires : goal.set_entry-requires
-set_entry-requires c =
+pub mark_epoch-requires : goal.mark_epoch-requires
+mark_epoch-requires c =
     let q : c.loop-place.rest.now ≡ c.in-Some.lesser.now ++ (c.in-Some.place.now ∷ []) = search rules in
     let w = (last_left c.requires.sorted c.loop-place.rest.now c.in-Some.lesser.now c.in-Some.place.now c.loop-place.invariant.0 c.loop-place.invariant.1 q).1 in
     let n = c.requires.whole in
@@ -51,8 +51,8 @@ returns-then-within c =
     let n = c.requires.whole in
     let reached = ap (λ (f : EpochName). is_within f c.args.v.now) (sym c.name_of-name.ensures.name) ∙ (sym c.within.ensures.within ∙ c.if-within.true) in
     record {
-      reached = reached_at c.args.nodes.now.top c.args.nodes.now.placed c.count-count.ensures.laid c.args.order.now c.requires.sorted c.args.v.now c.args.marks.now c.set_entry.new.list c.in-Some.lesser.now k c.loop-place.invariant.0 left.0 reached c.loop-place.invariant.2
-          (passed_set c.set_entry.new.list k c.set_entry.ensures.set (omega (arith, w, n)) c.loop-place.invariant.3);
+      reached = reached_at c.args.nodes.now.top c.args.nodes.now.placed c.count-count.ensures.laid c.args.order.now c.requires.sorted c.args.v.now c.args.marks.now c.mark_epoch.new.marks c.in-Some.lesser.now k c.loop-place.invariant.0 left.0 reached c.loop-place.invariant.2
+          (passed_set c.mark_epoch.new.marks k c.mark_epoch.ensures.set (omega (arith, w, n)) c.loop-place.invariant.3);
     }
 
 pub loop-place-preserved : goal.loop-place-preserved
@@ -65,7 +65,7 @@ loop-place-preserved c =
       c.in-Some.place.now ∷ c.loop-place.invariant.0,
       left.0,
       λ f p. ⊎_elim (λ h. ap (λ (g : EpochName). is_within g c.args.v.now) (sym h) ∙ not) (λ h. c.loop-place.invariant.2 f h) p,
-      passed_set c.set_entry.new.list c.in-Some.place.now c.set_entry.ensures.set (omega (arith, w, n)) c.loop-place.invariant.3,
+      passed_set c.mark_epoch.new.marks c.in-Some.place.now c.mark_epoch.ensures.set (omega (arith, w, n)) c.loop-place.invariant.3,
     )
 
 pub returns : goal.returns
@@ -81,4 +81,4 @@ returns c =
     let n = c.requires.whole in
     let all = reached_all top ps c.count-count.ensures.laid c.args.order.now c.requires.sorted c.args.v.now old ms
     (λ e p. i.2 e (subst (λ (xs : List ℕ). IsIn e (names_at ps xs)) whole p)) (subst (λ (xs : List ℕ). ArePassed old ms xs) (sym whole) i.3) (omega arith) in
-    record { reached = subst (λ (xs : List ℕ). AreReached top ps old xs (greatest_within top (nodes_of ps) c.args.v.now)) (sym c.set_entry-2.ensures.set) all }
+    record { reached = subst (λ (xs : List ℕ). AreReached top ps old xs (greatest_within top (nodes_of ps) c.args.v.now)) (sym c.mark_epoch-2.ensures.set) all }

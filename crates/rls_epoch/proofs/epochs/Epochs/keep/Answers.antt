@@ -91,13 +91,13 @@ rank_all-requires-clause-whole c = let m = c.deref_mut-2.ensures.len in m ∙ (s
 
 pub invariant_of-self : goal.invariant_of-self
 invariant_of-self c =
-    let x : goal.After-deref_mut-2 = c.before.before.before.before.before.before in
+    let x : goal.After-deref_mut-2 = c.before.before.before.before.before.before.before in
     let ranks = c.rank_all.new.ranks in
     let ranked = ranked_as (sym (nodes x)) (sym (c.deref-7.ensures.value ∙ order x)) c.rank_all.ensures.ranked in
     let each = ranked.whole in
     let size = short x in
     let whole = written ranks c.truncate.new.self.items c.truncate.new.self.len (omega arith) (omega arith) in
-    let filled : c.fill.new.self.items ≡ replicate (vec_len c.truncate-2.new.self) 0 = c.fill.ensures.items (λ y e. e) in
+    let filled : c.fill.new.self.items ≡ replicate (vec_len c.truncate-2.new.self) 0 = rw c.unmarked.ensures.mark at (c.fill.ensures.items (λ y e. e)) in
     let cut : vec_len c.truncate-2.new.self ≡ suc (length (new x)) =
     let n = ap length (nodes x) in let few = kept_fewer (xs x) (drop 1 (xs x)) (ps x) in let k = c.count-count.ensures.count in let l = c.truncate-2.ensures.len in let m = c.self.invariant.marks_whole in omega (arith, n, k, l, m) in
     whole_as (named x) (nodes x) (names x) (order x) whole refl (sum x) (record {
@@ -111,9 +111,10 @@ invariant_of-self c =
 
 pub returns-clause-epochs : goal.returns-clause-epochs
 returns-clause-epochs c =
-    let x : goal.After-deref_mut-2 = c.before.before.before.before.before.before in
+    let x : goal.After-deref_mut-2 = c.before.before.before.before.before.before.before in
     ap (λ (f : EpochName). record { top = f; nodes = nodes_of c.keep.new.self.placed }) (named x)
     ∙ (ap (λ (zs : List Placed). record { top = epoch_at (top x) (ps x) c.number_needed-number.result; nodes = nodes_of zs }) (nodes x) ∙ ((left x).part_is ∙ ap (λ (z : EpochsSeen). kept_part z.epochs c.args.stable.now z.marks) c.self.view_is))
 
 pub returns-clause-marks : goal.returns-clause-marks
-returns-clause-marks c = ap (marks_of c.keep.new.self.top c.keep.new.self.placed) (c.fill.ensures.items (λ y e. e)) ∙ marks_none c.keep.new.self.top c.keep.new.self.placed (vec_len c.truncate-2.new.self)
+returns-clause-marks c =
+    ap (marks_of c.keep.new.self.top c.keep.new.self.placed) (rw c.unmarked.ensures.mark at (c.fill.ensures.items (λ y e. e))) ∙ marks_none c.keep.new.self.top c.keep.new.self.placed (vec_len c.truncate-2.new.self)

@@ -1,6 +1,7 @@
-use Rattle.std.proofs.Common.{◌∷◌, [], ◌++◌, List, take, get_or, ap, ◌∙◌, arith}
+use Rattle.std.proofs.Common.{◌∷◌, [], ◌++◌, List, take, get_or, sym, ap, ◌∙◌, arith}
 use Rattle.std.proofs.lemmas.Option.{slice_get-get_or}
 use Rattle.rls_ident.specs.declared.epoch_name.EpochName.{EpochName}
+use Rattle.rls_ident.proofs.Members.{lt_is, not_lt_is}
 use Rattle.rls_epoch.specs.Marks.{kept_names}
 use Rattle.rls_epoch.proofs.Compacting.{names_left_out, names_taken}
 use Rattle.rls_epoch.proofs.Found.{read_in}
@@ -12,19 +13,20 @@ overflow_add-place c =
     let w = c.requires.within (get_or c.args.places.now i 0) (read_in c.args.places.now i (omega arith)) in
     omega (arith, w)
 
-pub entry-requires : goal.entry-requires
-entry-requires c =
+pub mark_of-requires : goal.mark_of-requires
+mark_of-requires c =
     let i = c.loop-place.place-index in
     let w = c.requires.within (get_or c.args.places.now i 0) (read_in c.args.places.now i (omega arith)) in
     let h = c.requires.whole in
     record { within = omega arith }
 
-pub loop-place-preserved-then-entry-le1 : goal.loop-place-preserved-then-entry-le1
-loop-place-preserved-then-entry-le1 c =
+pub loop-place-preserved-then-not-has_place : goal.loop-place-preserved-then-not-has_place
+loop-place-preserved-then-not-has_place c =
     let ks = c.args.places.now in
     let i = c.loop-place.place-index in
     let k = get_or ks i 0 in
-    c.loop-place.invariant ∙ ap (λ (xs : List EpochName). c.args.first ∷ xs) (names_left_out c.args.self.now.placed c.args.marks.now ks i k c.entry.result (slice_get-get_or ks i 0 (omega arith)) c.entry.ensures.entry (omega arith))
+    let most = not_lt_is 1 c.mark_of.result (sym c.has_place.ensures.place ∙ c.if-not-has_place.true) in
+    c.loop-place.invariant ∙ ap (λ (xs : List EpochName). c.args.first ∷ xs) (names_left_out c.args.self.now.placed c.args.marks.now ks i k c.mark_of.result (slice_get-get_or ks i 0 (omega arith)) c.mark_of.ensures.mark (omega arith))
 
 pub loop-place-preserved : goal.loop-place-preserved
 loop-place-preserved c =
@@ -32,7 +34,8 @@ loop-place-preserved c =
     let ms = c.args.marks.now in
     let ks = c.args.places.now in
     let i = c.loop-place.place-index in
+    let some = lt_is 1 c.mark_of.result (sym c.has_place.ensures.place ∙ c.if-not-has_place.false) in
     c.in_ok-push-2.ensures.items
     ∙ (ap (λ (xs : List EpochName). xs ++ (c.name_of.result ∷ [])) c.loop-place.invariant
     ∙ ap (λ (xs : List EpochName). c.args.first ∷ xs)
-    (ap (λ (f : EpochName). kept_names ps ms (take i ks) ++ (f ∷ [])) c.name_of.ensures.name ∙ names_taken ps ms ks i (get_or ks i 0) c.entry.result (slice_get-get_or ks i 0 (omega arith)) c.entry.ensures.entry (omega arith)))
+    (ap (λ (f : EpochName). kept_names ps ms (take i ks) ++ (f ∷ [])) c.name_of.ensures.name ∙ names_taken ps ms ks i (get_or ks i 0) c.mark_of.result (slice_get-get_or ks i 0 (omega arith)) c.mark_of.ensures.mark (omega arith)))
