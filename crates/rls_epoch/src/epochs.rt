@@ -68,7 +68,7 @@ impl Epochs {
         ensures marks { IfOk result (λ a. a.marks ≡ []) }
     {
         let mut marks = Vec::new(alloc);
-        marks.push(Mark::unmarked())?;
+        marks.push(Mark::none())?;
         Ok(Epochs {
             nodes: Nodes::starting_at(alloc, name),
             by_name: Vec::new(alloc),
@@ -120,7 +120,7 @@ impl Epochs {
         self.by_name.insert(by_name, place).unwrap();
         self.order.insert(order, place).unwrap();
         self.ranks.push(0).unwrap();
-        self.marks.push(Mark::unmarked()).unwrap();
+        self.marks.push(Mark::none()).unwrap();
         rank_added(
             &self.nodes,
             &self.by_name,
@@ -279,7 +279,7 @@ impl Epochs {
         ensures epochs { self.new.epochs ≡ self.old.epochs }
         ensures marks { self.new.marks ≡ [] }
     {
-        self.marks.fill(Mark::unmarked());
+        self.marks.fill(Mark::none());
     }
 
     /// Marks a kept epoch. It takes no memory, and costs a comparison of names for each halving of the
@@ -291,7 +291,7 @@ impl Epochs {
     {
         let number = self.nodes.number_of(&self.by_name, name);
         let _count = self.nodes.count();
-        self.marks[number] = Mark::marked();
+        self.marks[number] = Mark::plain();
     }
 
     /// Keeps the smallest connected part that holds the greatest epoch, those that are marked, and each
@@ -311,7 +311,7 @@ impl Epochs {
         self.ranks.truncate(count);
         rank_all(&self.nodes, &self.by_name, &self.order, &mut self.ranks);
         self.marks.truncate(count + 1);
-        self.marks.fill(Mark::unmarked());
+        self.marks.fill(Mark::none());
     }
 
     /// What `keep` would leave if these epochs were marked alone: the smallest connected part that

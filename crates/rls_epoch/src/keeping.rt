@@ -28,7 +28,7 @@ fn number_marks(marks: &mut [Mark])
         if !mark_of(marks, i).is_marked() {
             continue;
         }
-        marks[i] = Mark::numbered(count);
+        marks[i] = Mark::of_number(count);
         count += 1;
     }
 }

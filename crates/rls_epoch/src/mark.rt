@@ -37,7 +37,8 @@ impl Model for Mark {
 }
 
 impl Mark {
-    pub(crate) fn unmarked() -> Mark
+    // The mark of an epoch that isn't marked.
+    pub(crate) fn none() -> Mark
         ensures mark { result ≡ 0 }
     {
         Mark {
@@ -45,7 +46,8 @@ impl Mark {
         }
     }
 
-    pub(crate) fn marked() -> Mark
+    // A mark with no new place.
+    pub(crate) fn plain() -> Mark
         ensures mark { result ≡ 1 }
     {
         Mark {
@@ -54,11 +56,11 @@ impl Mark {
     }
 
     // The mark of a kept epoch with this new number.
-    pub(crate) fn numbered(number: usize) -> Mark
+    pub(crate) fn of_number(number: usize) -> Mark
         ensures mark { result ≡ suc number }
     {
         if number == 0 {
-            return Mark::marked();
+            return Mark::plain();
         }
         Mark {
             state: State::Kept { place: number - 1 },
@@ -120,5 +122,5 @@ pub(crate) fn mark_epoch(marks: &mut [Mark], number: usize)
     requires within { number < length marks.old }
     ensures set { marks.new ≡ slice_set marks.old number 1 }
 {
-    marks[number] = Mark::marked();
+    marks[number] = Mark::plain();
 }

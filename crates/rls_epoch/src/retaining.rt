@@ -64,10 +64,10 @@ fn marks_for(
     ensures whole { IfOk result (λ marks. length marks.items ≡ suc (length nodes.now.placed)) }
     ensures named { IfOk result (λ marks. AreNamed nodes.now.top nodes.now.placed marks.items marked.now) }
 {
-    let mut marks = vec![in nodes.allocator(); Mark::unmarked(); nodes.count() + 1]?;
+    let mut marks = vec![in nodes.allocator(); Mark::none(); nodes.count() + 1]?;
     for name in marked {
         let number = nodes.number_of(by_name, *name);
-        marks[number] = Mark::marked();
+        marks[number] = Mark::plain();
     }
     Ok(marks)
 }

@@ -24,7 +24,7 @@ pub loop-i-preserved : goal.loop-i-preserved
 loop-i-preserved c =
     let some = lt_is 0 c.mark_of.result (sym c.is_marked.ensures.marked ∙ c.if-not-is_marked.false) in
     let m = c.mark_of.ensures.mark in
-    let is : c.numbered.result ≡ c.loop-i.count + 1 = let n = c.numbered.ensures.mark in omega arith in
+    let is : c.of_number.result ≡ c.loop-i.count + 1 = let n = c.of_number.ensures.mark in omega arith in
     subst (λ (n : ℕ). IsNumbering c.args.marks.now (set c.loop-i.marks c.loop-i.i n) (c.loop-i.i + 1) (c.loop-i.count + 1)) (sym is)
     (numbering_one c.args.marks.now c.loop-i.marks c.loop-i.i c.loop-i.count c.loop-i.invariant (omega arith) (λ z. absurd (omega arith)))
 

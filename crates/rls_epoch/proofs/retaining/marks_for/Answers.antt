@@ -28,7 +28,7 @@ loop-name-preserved c =
     let h = c.number_of-number.ensures.within in
     let next : i + 1 ≡ suc i = omega arith in
     let more = named_more top ps ms (take i names) n f (omega arith) h c.number_of-number.ensures.epoch c.loop-name.invariant.named in
-    rw c.marked.ensures.mark record {
+    rw c.plain.ensures.mark record {
       whole = length-set ms n 1 ∙ w;
       named = subst (λ (es : List EpochName). AreNamed top ps (set ms n 1) es) (sym (take_get names i f (slice_get-get_or names i Origin (omega arith))) ∙ ap (λ (j : ℕ). take j names) (sym next)) more;
     }

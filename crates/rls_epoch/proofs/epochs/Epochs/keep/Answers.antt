@@ -97,7 +97,7 @@ invariant_of-self c =
     let each = ranked.whole in
     let size = short x in
     let whole = written ranks c.truncate.new.self.items c.truncate.new.self.len (omega arith) (omega arith) in
-    let filled : c.fill.new.self.items ≡ replicate (vec_len c.truncate-2.new.self) 0 = rw c.unmarked.ensures.mark at (c.fill.ensures.items (λ y e. e)) in
+    let filled : c.fill.new.self.items ≡ replicate (vec_len c.truncate-2.new.self) 0 = rw c.none.ensures.mark at (c.fill.ensures.items (λ y e. e)) in
     let cut : vec_len c.truncate-2.new.self ≡ suc (length (new x)) =
     let n = ap length (nodes x) in let few = kept_fewer (xs x) (drop 1 (xs x)) (ps x) in let k = c.count-count.ensures.count in let l = c.truncate-2.ensures.len in let m = c.self.invariant.marks_whole in omega (arith, n, k, l, m) in
     whole_as (named x) (nodes x) (names x) (order x) whole refl (sum x) (record {
@@ -117,4 +117,4 @@ returns-clause-epochs c =
 
 pub returns-clause-marks : goal.returns-clause-marks
 returns-clause-marks c =
-    ap (marks_of c.keep.new.self.top c.keep.new.self.placed) (rw c.unmarked.ensures.mark at (c.fill.ensures.items (λ y e. e))) ∙ marks_none c.keep.new.self.top c.keep.new.self.placed (vec_len c.truncate-2.new.self)
+    ap (marks_of c.keep.new.self.top c.keep.new.self.placed) (rw c.none.ensures.mark at (c.fill.ensures.items (λ y e. e))) ∙ marks_none c.keep.new.self.top c.keep.new.self.placed (vec_len c.truncate-2.new.self)
