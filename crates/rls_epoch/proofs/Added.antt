@@ -1,5 +1,5 @@
 -- One more node in the order of names, and in that of the epochs.
-use Rattle.std.proofs.Common.{◌≡◌, ◌≤◌, ℕ, ◌+◌, true, false, List, [], ◌∷◌, ◌++◌, length, Some, refl, sym, ap, ◌∙◌, subst}
+use Rattle.std.proofs.Common.{◌≡◌, ℕ, true, false, List, [], ◌∷◌, ◌++◌, length, refl, sym, ap, ◌∙◌, subst, length-append}
 use Rattle.std.specs.Prelude.{insert}
 use Rattle.std.specs.declared.cmp.Ordering.TheVariants.{Less}
 use Rattle.std.specs.Ordering.{is_lt}
@@ -7,20 +7,19 @@ use Rattle.rls_ident.specs.declared.epoch_name.EpochName.{EpochName}
 use Rattle.rls_ident.specs.EpochNames.{name_eq}
 use Rattle.rls_ident.specs.Lists.{IsIn}
 use Rattle.rls_ident.proofs.Members.{bool_cases, less_is, or_right}
-use Rattle.rls_rename.specs.Renaming.{IsFormer}
 use Rattle.rls_rename.specs.Tree.{Node, name_of, has_node, is_kept, AreNodes, AreBelow, epoch_cmp}
 use Rattle.rls_rename.proofs.Kept.{kept_more}
 use Rattle.rls_rename.proofs.Order.{kept_here, level_same, older_cmp}
 use Rattle.rls_epoch.specs.declared.placed.Placed.{Placed}
 use Rattle.rls_epoch.specs.Climbing.{name_cmp}
-use Rattle.rls_epoch.specs.Links.{name_at, epoch_at}
-use Rattle.rls_epoch.specs.Seen.{AreLaid, IsWhole, node_of, nodes_of}
+use Rattle.rls_epoch.specs.Links.{epoch_at}
+use Rattle.rls_epoch.specs.Seen.{AreLaid, node_of, nodes_of}
 use Rattle.rls_epoch.specs.Sorted.{names_at, AreSorted, IsCut}
 use Rattle.rls_epoch.proofs.Found.{next_at}
 use Rattle.rls_epoch.proofs.Laid.{nodes_last}
 use Rattle.rls_epoch.proofs.Ordering.{names_level, names_order}
 use Rattle.rls_epoch.proofs.Orders.{epochs_order, in_sorted}
-use Rattle.rls_epoch.proofs.Whole.{laid_more, names_more, place_last, sorted_more}
+use Rattle.rls_epoch.proofs.Whole.{names_more, place_last, sorted_more}
 
 name_after : (e f : EpochName) → (e ≡ f → ⊥) → (name_cmp e f ≡ Less → ⊥) → name_cmp f e ≡ Less
 name_after e f n h =
@@ -42,7 +41,7 @@ module _ (top : EpochName) (ps : List Placed) (p : Placed) (fresh : is_kept top 
       sorted_more name_cmp name_cmp ps p by_name i s names_order (λ e f q r. refl) c (λ f q h. name_after f (name_of p.renaming) (other f (in_sorted ps by_name s.within f q)) h)
 
   pub epochs_added : (order : List ℕ) (j : ℕ) → AreLaid top (ps ++ p ∷ []) → AreSorted (epoch_cmp (nodes_of ps)) ps order →
-      IsCut (epoch_cmp (nodes_of (ps ++ p ∷ []))) (names_at (ps ++ p ∷ []) order) (epoch_at top (ps ++ p ∷ []) (length ps + 1)) j → AreSorted (epoch_cmp (nodes_of (ps ++ p ∷ []))) (ps ++ p ∷ []) (insert order j (length ps))
+      IsCut (epoch_cmp (nodes_of (ps ++ p ∷ []))) (names_at (ps ++ p ∷ []) order) (epoch_at top (ps ++ p ∷ []) (length (ps ++ p ∷ []))) j → AreSorted (epoch_cmp (nodes_of (ps ++ p ∷ []))) (ps ++ p ∷ []) (insert order j (length ps))
   epochs_added order j l s c =
       let more = ps ++ p ∷ [] in
       let N = node_of p ∷ nodes_of ps in
@@ -50,9 +49,9 @@ module _ (top : EpochName) (ps : List Placed) (p : Placed) (fresh : is_kept top 
       let d = subst AreNodes e l.nodes in
       let b = subst (AreBelow top) e l.below in
       let old : (f : EpochName) → IsIn f (names_at ps order) → is_kept top (nodes_of ps) f ≡ true = λ f q. or_right (name_eq f top) (has_node (nodes_of ps) f) (in_sorted ps order s.within f q) in
-      let named : epoch_at top more (length ps + 1) ≡ name_of p.renaming = next_at top more (length ps) ∙ place_last ps p in
+      let named : epoch_at top more (length more) ≡ name_of p.renaming = ap (epoch_at top more) (length-append ps (p ∷ [])) ∙ (next_at top more (length ps) ∙ place_last ps p) in
       let cut = subst (λ (x : EpochName). IsCut (epoch_cmp (nodes_of more)) (names_at ps order) x j) named
-      (subst (λ (xs : List EpochName). IsCut (epoch_cmp (nodes_of more)) xs (epoch_at top more (length ps + 1)) j) (names_more ps p order s.within) c) in
+      (subst (λ (xs : List EpochName). IsCut (epoch_cmp (nodes_of more)) xs (epoch_at top more (length more)) j) (names_more ps p order s.within) c) in
       sorted_more (epoch_cmp (nodes_of ps)) (epoch_cmp (nodes_of more)) ps p order j s (epochs_order (nodes_of more))
       (λ f g q r. sym (older_cmp top (node_of p) (nodes_of ps) d b f g (old f q) (old g r)) ∙ ap (λ (ns : List Node). epoch_cmp ns f g) (sym e))
       cut
@@ -60,23 +59,3 @@ module _ (top : EpochName) (ps : List Placed) (p : Placed) (fresh : is_kept top 
       (ap (λ (ns : List Node). is_kept top ns f) e ∙ kept_more top (node_of p) (nodes_of ps) f (old f q))
       (ap (λ (ns : List Node). is_kept top ns (name_of p.renaming)) e ∙ kept_here top (node_of p) (nodes_of ps))
       (other f (in_sorted ps order s.within f q)) h)
-
--- ---- the tree with one more node
-
--- it is one tree, and the places are in increasing order again
-pub record IsGrown (top : EpochName) (ps : List Placed) (by_name order : List ℕ) (p : Placed) (i j : ℕ) : Type 0 where
-  pub laid : AreLaid top (ps ++ p ∷ [])
-  pub by_name_is : AreSorted name_cmp (ps ++ p ∷ []) (insert by_name i (length ps))
-  pub order_is : AreSorted (epoch_cmp (nodes_of (ps ++ p ∷ []))) (ps ++ p ∷ []) (insert order j (length ps))
-
-pub grown : (top : EpochName) (ps : List Placed) (by_name order ranks marks : List ℕ) (total : ℕ) (p : Placed) (i j n : ℕ) → IsWhole top ps by_name order ranks marks total → n ≡ length ps → p.up ≤ length ps → name_at top ps p.up ≡ Some p.parent →
-    IsFormer p.renaming.former → is_kept top (nodes_of ps) (name_of p.renaming) ≡ false → is_kept top (nodes_of ps) p.parent ≡ true → IsCut name_cmp (names_at ps by_name) (name_of p.renaming) i →
-    IsCut (epoch_cmp (nodes_of (ps ++ p ∷ []))) (names_at (ps ++ p ∷ []) order) (epoch_at top (ps ++ p ∷ []) (n + 1)) j → IsGrown top ps by_name order p i j
-grown top ps by_name order ranks marks total p i j n w e u a f k q c d =
-    let l = laid_more top ps p w.laid u a f k q in
-    let g = subst (λ (m : ℕ). IsCut (epoch_cmp (nodes_of (ps ++ p ∷ []))) (names_at (ps ++ p ∷ []) order) (epoch_at top (ps ++ p ∷ []) (m + 1)) j) e d in
-    record {
-      laid = l;
-      by_name_is = names_added top ps p k by_name i w.by_name_is c;
-      order_is = epochs_added top ps p k order j l w.order_is g;
-    }

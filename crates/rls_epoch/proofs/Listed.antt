@@ -20,7 +20,7 @@ use Rattle.rls_epoch.proofs.Left.{rising_is}
 use Rattle.rls_epoch.proofs.Meeting.{at_is}
 use Rattle.rls_epoch.proofs.Orders.{epochs_order}
 use Rattle.rls_epoch.proofs.Reading.{name_read, up_read}
-use Rattle.rls_epoch.proofs.Sorting.{cut_found, get_of}
+use Rattle.rls_epoch.proofs.Sorting.{all_in, cut_found, get_of}
 use Rattle.rls_epoch.proofs.Steps.{node_in}
 
 -- ---- nodes by their names
@@ -60,7 +60,7 @@ pub place_found : (top : EpochName) (ps : List Placed) (order : List ℕ) → Ar
     slice_get (top ∷ names_at ps order) (suc i) ≡ Some (epoch_at top ps n)
 place_found top ps order s zero i z h c = absurd (omega arith)
 place_found top ps order s (suc k) i z h c =
-    cut_found (epoch_cmp (nodes_of ps)) (epochs_order (nodes_of ps)) (names_at ps order) s.rising (place_name ps k) i c (map_in (place_name ps) k order (s.complete k (omega arith)))
+    cut_found (epoch_cmp (nodes_of ps)) (epochs_order (nodes_of ps)) (names_at ps order) s.rising (place_name ps k) i c (map_in (place_name ps) k order (all_in s k (omega arith)))
 
 -- ---- as many as there are
 

@@ -26,7 +26,7 @@ use Rattle.rls_epoch.specs.Sorted.{place_name, names_at, AreRising, AreSorted}
 use Rattle.rls_epoch.proofs.Added.{epoch_after}
 use Rattle.rls_epoch.proofs.Counting.{mark_kept, mark_set, some_count, set_from}
 use Rattle.rls_epoch.proofs.Orders.{kept_place, place_kept, within_at, within_none}
-use Rattle.rls_epoch.proofs.Sorting.{before_at, rising_across, rising_right}
+use Rattle.rls_epoch.proofs.Sorting.{all_in, before_at, rising_across, rising_right}
 use Rattle.rls_epoch.proofs.Spreading.{number_kept, number_same}
 
 -- the number of a kept epoch
@@ -150,7 +150,7 @@ module _ (top : EpochName) (ps : List Placed) (l : AreLaid top ps) (order : List
           absurd (q (epoch_after top N l.nodes l.below m top kept (number_kept top ps l 0 g) (λ e. places_not_top top ps l k (s.within k there) e) (none_below top N l.below m)))
       least (suc j) g q =
           ⊎_elim (λ p. absurd (q (rising_across (epoch_cmp N) (names_at ps lesser) (m ∷ names_at ps later) rising (place_name ps j) m (map_in (place_name ps) j lesser p) (inl refl)))) (λ p. a.onto j p)
-          (in_split j lesser (k ∷ later) (subst (λ xs. IsIn j xs) h (s.complete j (omega arith))))
+          (in_split j lesser (k ∷ later) (subst (λ xs. IsIn j xs) h (all_in s j (omega arith))))
 
   -- none was within the vector
   pub reached_all : ((e : EpochName) → IsIn e (names_at ps order) → is_within e v ≡ false) → ArePassed old ms order → 0 < length ms → AreReached top ps old (set ms 0 1) (greatest_within top (nodes_of ps) v)
@@ -163,4 +163,4 @@ module _ (top : EpochName) (ps : List Placed) (l : AreLaid top ps) (order : List
     where
       every : (i : ℕ) → i ≤ length ps → has_mark (set ms 0 1) i ≡ true
       every zero g = mark_set ms 0 w
-      every (suc j) g = mark_kept ms 0 (suc j) (a.onto j (s.complete j (omega arith)))
+      every (suc j) g = mark_kept ms 0 (suc j) (a.onto j (all_in s j (omega arith)))

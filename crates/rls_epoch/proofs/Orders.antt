@@ -18,7 +18,7 @@ use Rattle.rls_epoch.specs.declared.placed.Placed.{Placed}
 use Rattle.rls_epoch.specs.Seen.{node_of, nodes_of, AreLaid}
 use Rattle.rls_epoch.specs.Sorted.{place_name, names_at, AreRising, AreSorted}
 use Rattle.rls_epoch.proofs.Reading.{name_read}
-use Rattle.rls_epoch.proofs.Sorting.{Cmp, IsOrder, get_of, rising_across}
+use Rattle.rls_epoch.proofs.Sorting.{Cmp, IsOrder, all_in, get_of, rising_across}
 use Rattle.rls_epoch.proofs.Steps.{node_in}
 
 pub epochs_order : (ns : List Node) → IsOrder (epoch_cmp ns)
@@ -55,7 +55,7 @@ kept_place ps e h =
 pub sorted_in : (cmp : Cmp) (ps : List Placed) (places : List ℕ) → AreSorted cmp ps places → (e : EpochName) → has_node (nodes_of ps) e ≡ true → IsIn e (names_at ps places)
 sorted_in cmp ps places s e h =
     let r = kept_place ps e h in
-    subst (λ f. IsIn f (names_at ps places)) r.3 (map_in (place_name ps) r.0 places (s.complete r.0 (slice_get_within ps r.0 r.1 r.2)))
+    subst (λ f. IsIn f (names_at ps places)) r.3 (map_in (place_name ps) r.0 places (all_in s r.0 (slice_get_within ps r.0 r.1 r.2)))
 
 pub in_sorted : (ps : List Placed) (places : List ℕ) → ((k : ℕ) → IsIn k places → k < length ps) → (e : EpochName) → IsIn e (names_at ps places) → has_node (nodes_of ps) e ≡ true
 in_sorted ps places w e p = let r = in_map (place_name ps) e places p in subst (λ f. has_node (nodes_of ps) f ≡ true) r.2 (place_kept ps r.0 (w r.0 r.1))

@@ -24,7 +24,7 @@ use Rattle.rls_epoch.proofs.Indices.{index_of, rising_at, rising_distinct}
 use Rattle.rls_epoch.proofs.Ordering.{names_order}
 use Rattle.rls_epoch.proofs.Orders.{epochs_order}
 use Rattle.rls_epoch.proofs.Reading.{name_read}
-use Rattle.rls_epoch.proofs.Sorting.{get_of}
+use Rattle.rls_epoch.proofs.Sorting.{all_in, get_of}
 use Rattle.rls_epoch.proofs.Whole.{place_more}
 
 -- ---- names by their parts
@@ -106,7 +106,7 @@ module _ (ps : List Placed) (by_name : List ℕ) (s : AreSorted name_cmp ps by_n
   at_place a h = s.within (slice_index by_name a) (read_in by_name a h)
 
   pub index_at : (k : ℕ) → k < length ps → (b : ℕ) × (b < length by_name) × (slice_index by_name b ≡ k)
-  index_at k h = index_of k by_name (s.complete k h)
+  index_at k h = index_of k by_name (all_in s k h)
 
   pub low_or_same : (a b : ℕ) → a ≤ b → b < length by_name → (name_cmp (at a) (at b) ≡ Less) ⊎ (at a ≡ at b)
   low_or_same a b h w = ⊎_elim (λ g. inl (rising_at name_cmp ps by_name s.rising a b g w)) (λ g. let q : a ≡ b = omega arith in inr (ap (name_in ps by_name) q)) (cases_lt a b)
@@ -271,7 +271,7 @@ module _ (ps : List Placed) (by_name : List ℕ) (s : AreSorted name_cmp ps by_n
     whole = w;
     ranked = λ b h l. absurd (omega arith);
     own = λ b h l.
-        let j = index_of (slice_index by_name b) order (o.complete (slice_index by_name b) (at_place b l)) in
+        let j = index_of (slice_index by_name b) order (all_in o (slice_index by_name b) (at_place b l)) in
         let r = ap (slice_index ranks) (sym j.2) ∙ own j.0 j.1 in
         let x = j.1 in
         let q : slice_index ranks (slice_index by_name b) - 1 ≡ j.0 = omega arith in

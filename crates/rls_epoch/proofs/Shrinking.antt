@@ -29,7 +29,7 @@ use Rattle.rls_epoch.proofs.Meeting.{at_is}
 use Rattle.rls_epoch.proofs.Numbers.{in_places, kept_filter, kept_former, kept_place_at, kept_place_from, number_less, number_mark, number_one, places_in}
 use Rattle.rls_epoch.proofs.Orders.{in_sorted}
 use Rattle.rls_epoch.proofs.Reading.{name_read}
-use Rattle.rls_epoch.proofs.Sorting.{Cmp, before_all, before_at, get_of, rising_same}
+use Rattle.rls_epoch.proofs.Sorting.{Cmp, all_in, before_all, before_at, get_of, rising_same}
 use Rattle.rls_epoch.proofs.Spreading.{front_order, number_kept, number_same}
 use Rattle.rls_epoch.proofs.Steps.{node_in}
 
@@ -265,7 +265,7 @@ module _ (top : EpochName) (ps : List Placed) (l : AreLaid top ps) (ms : List �
   names_kept by_name s = record {
     within = within_kept by_name s.within;
     rising = rising_kept name_cmp by_name s.within s.rising;
-    complete = complete_kept by_name s.complete;
+    complete = λ j q. ∣ complete_kept by_name (all_in s) j q ∣₁;
   }
 
   pub order_kept : (order : List ℕ) → AreSorted (epoch_cmp N) ps order → AreSorted (epoch_cmp (nodes_of new)) new (kept_places M order)
@@ -274,7 +274,7 @@ module _ (top : EpochName) (ps : List Placed) (l : AreLaid top ps) (ms : List �
       record {
         within = within_kept order s.within;
         rising = rising_same (epoch_cmp N) (epoch_cmp (nodes_of new)) (names_at new (kept_places M order)) (λ f g p q. sym (cmp_window window f g (in_part f p) (in_part g q))) (rising_kept (epoch_cmp N) order s.within s.rising);
-        complete = complete_kept order s.complete;
+        complete = λ j q. ∣ complete_kept order (all_in s) j q ∣₁;
       }
 
 -- ---- the same, by these numbers
@@ -315,17 +315,15 @@ needed_by top ps marks v = reached (record { top = top; nodes = nodes_of ps }) v
 abbrev pub NumberedFor : EpochName → List Placed → List ℕ → List ℕ → ℕ → List ℕ → Type 0
 NumberedFor top ps marks xs t v = (es : List EpochName) → AreNamed top ps marks es → AreNumbered top ps xs t (greatest top (nodes_of ps)) (reached (record { top = top; nodes = nodes_of ps }) v ++ es)
 
--- what is left by these numbers, with its places
-pub record IsLeft (top : EpochName) (ps : List Placed) (by_name order marks : List ℕ) (xs : List ℕ) (t : ℕ) (v : List ℕ) : Type 0 where
+-- what is left by these numbers
+pub record IsLeft (top : EpochName) (ps : List Placed) (marks xs : List ℕ) (t : ℕ) (v : List ℕ) : Type 0 where
   pub numbers : AreNumbered top ps xs t (greatest top (nodes_of ps)) (needed_by top ps marks v)
   pub laid : AreLaid (epoch_at top ps t) (kept_placed xs (drop 1 xs) ps)
-  pub by_name_is : AreSorted name_cmp (kept_placed xs (drop 1 xs) ps) (kept_places xs by_name)
-  pub order_is : AreSorted (epoch_cmp (nodes_of (kept_placed xs (drop 1 xs) ps))) (kept_placed xs (drop 1 xs) ps) (kept_places xs order)
   pub sum : kept_sum (drop 1 xs) ps ≡ former_sum (nodes_of (kept_placed xs (drop 1 xs) ps))
   pub part_is : record { top = epoch_at top ps t; nodes = nodes_of (kept_placed xs (drop 1 xs) ps) } ≡ kept_part (record { top = top; nodes = nodes_of ps }) v (marks_of top ps marks)
 
-pub left_of : {top : EpochName} {ps : List Placed} {by_name order ranks marks : List ℕ} {total : ℕ} → IsWhole top ps by_name order ranks marks total → (ns xs : List ℕ) (t : ℕ) (v : List ℕ) → ns ≡ marks → length xs ≡ length ns → t ≤ length ps → NumberedFor top ps ns xs t v → IsLeft top ps by_name order marks xs t v
-left_of {top = top} {ps = ps} {by_name = by_name} {order = order} {marks = marks} w ns xs t v e lx tl h =
+pub left_of : {top : EpochName} {ps : List Placed} {order ranks marks : List ℕ} {total : ℕ} → IsWhole top ps order ranks marks total → (ns xs : List ℕ) (t : ℕ) (v : List ℕ) → ns ≡ marks → length xs ≡ length ns → t ≤ length ps → NumberedFor top ps ns xs t v → IsLeft top ps marks xs t v
+left_of {top = top} {ps = ps} {marks = marks} w ns xs t v e lx tl h =
     let g = greatest top (nodes_of ps) in
     let es = needed_by top ps marks v in
     let lw : length xs ≡ suc (length ps) = lx ∙ (ap length e ∙ w.marks_whole) in
@@ -333,8 +331,6 @@ left_of {top = top} {ps = ps} {by_name = by_name} {order = order} {marks = marks
     record {
       numbers = n;
       laid = laid_left top ps w.laid xs t tl lw g es n;
-      by_name_is = by_name_left top ps w.laid xs t tl lw g es n by_name w.by_name_is;
-      order_is = order_left top ps w.laid xs t tl lw g es n order w.order_is;
       sum = kept_former xs (drop 1 xs) ps;
       part_is = part_left top ps w.laid xs t tl lw g es n;
     }

@@ -9,11 +9,12 @@ use Rattle.std.proofs.lemmas.Bool.{cases_lt}
 use Rattle.std.proofs.lemmas.List.{map-append, take-append-drop}
 use Rattle.std.proofs.lemmas.Option.{slice_get-map}
 use Rattle.std.proofs.Math.ListN.{drop_of_length-le}
+use Rattle.std.proofs.Math.Logic.{∥∥₁_elim}
 use Rattle.rls_ident.specs.declared.epoch_name.EpochName.{EpochName}
 use Rattle.rls_ident.specs.Lists.{IsIn}
 use Rattle.rls_ident.proofs.Members.{in_left, in_right, in_split, some_is}
 use Rattle.rls_epoch.specs.declared.placed.Placed.{Placed}
-use Rattle.rls_epoch.specs.Sorted.{place_name, names_at, IsBefore, AreRising, IsCut}
+use Rattle.rls_epoch.specs.Sorted.{place_name, names_at, IsBefore, AreRising, AreSorted, IsCut}
 
 abbrev pub Cmp : Type 0
 Cmp = EpochName → EpochName → Ordering
@@ -22,6 +23,17 @@ Cmp = EpochName → EpochName → Ordering
 pub record IsOrder (cmp : Cmp) : Type 0 where
   pub trans : (e f g : EpochName) → cmp e f ≡ Less → cmp f g ≡ Less → cmp e g ≡ Less
   pub flips : (e f : EpochName) → cmp e f ≡ Less → cmp f e ≡ Less → ⊥
+
+-- ---- places of all nodes
+
+is_in_or_not : (k : ℕ) (xs : List ℕ) → IsIn k xs ⊎ (IsIn k xs → ⊥)
+is_in_or_not k [] = inr (λ p. p)
+is_in_or_not k (j ∷ xs) =
+    ⊎_elim (λ p. inl (inr p))
+    (λ n. ⊎_elim (λ l. inr (λ p. ⊎_elim (λ e. absurd (omega arith)) n p)) (λ g. ⊎_elim (λ l. inr (λ p. ⊎_elim (λ e. absurd (omega arith)) n p)) (λ l. inl (inl (omega arith))) (cases_lt k j)) (cases_lt j k)) (is_in_or_not k xs)
+
+pub all_in : {cmp : Cmp} {ps : List Placed} {places : List ℕ} → AreSorted cmp ps places → (k : ℕ) → k < length ps → IsIn k places
+all_in {places = places} s k h = ⊎_elim (λ p. p) (λ n. absurd (∥∥₁_elim (s.complete k h) (λ x y. absurd x) n)) (is_in_or_not k places)
 
 -- ---- increasing lists
 

@@ -1,4 +1,4 @@
--- A whole tree alone, and with one more node.
+-- A tree with one more node, and its marks.
 use Rattle.std.proofs.Common.{◌≡◌, ◌≤◌, ◌<◌, ℕ, zero, suc, ◌+◌, true, false, List, [], ◌∷◌, ◌++◌, map, length, set, take, drop, Option, Some, None, refl, sym, ap, ◌∙◌, subst, inl, inr, ◌⊎◌, ⊎_elim, arith, length-append}
 use Rattle.std.specs.Prelude.{◌||◌, replicate, slice_get, insert}
 use Rattle.std.specs.Option.{option_map}
@@ -12,15 +12,13 @@ use Rattle.rls_ident.specs.EpochNames.{name_eq}
 use Rattle.rls_ident.specs.Lists.{IsIn}
 use Rattle.rls_ident.proofs.Members.{some_is, or_false, or_swap, or_again}
 use Rattle.rls_rename.specs.Renaming.{IsFormer}
-use Rattle.rls_rename.specs.Tree.{Node, name_of, has_node, is_kept, AreNodes, AreBelow, epoch_cmp}
+use Rattle.rls_rename.specs.Tree.{Node, name_of, has_node, is_kept, AreNodes, AreBelow}
 use Rattle.rls_epoch.specs.declared.placed.Placed.{Placed}
-use Rattle.rls_epoch.specs.Climbing.{name_cmp}
 use Rattle.rls_epoch.specs.Links.{name_at, AreLinked}
-use Rattle.rls_epoch.specs.Ranks.{AreRanked}
-use Rattle.rls_epoch.specs.Seen.{AreLaid, IsWhole, node_of, nodes_of, former_sum, epochs_by_number, is_marked, marked_of, marks_of}
+use Rattle.rls_epoch.specs.Seen.{AreLaid, node_of, nodes_of, former_sum, epochs_by_number, is_marked, marked_of, marks_of}
 use Rattle.rls_epoch.specs.Sorted.{place_name, names_at, AreRising, AreSorted, IsCut}
 use Rattle.rls_epoch.proofs.Laid.{nodes_last}
-use Rattle.rls_epoch.proofs.Sorting.{Cmp, IsOrder, cut_insert, in_inserted, inserted_in, map-insert, rising_same}
+use Rattle.rls_epoch.proofs.Sorting.{Cmp, IsOrder, all_in, cut_insert, in_inserted, inserted_in, map-insert, rising_same}
 
 -- ---- links
 
@@ -90,7 +88,7 @@ sorted_more cmp later ps p places i s o same c other =
       within = λ k q. ⊎_elim (λ e. omega arith) (λ g. let l = s.within k g in omega arith) (in_inserted k (length ps) places i q);
       rising = subst (AreRising later)
           (sym (map-insert (place_name more) places i (length ps) ∙ (ap (λ xs. front i xs (place_name more (length ps))) names ∙ ap (front i (names_at ps places)) here))) rising;
-      complete = λ k l. inserted_in k (length ps) places i (⊎_elim (λ m. inr (s.complete k m)) (λ m. inl (omega arith)) (cases_lt k (length ps)));
+      complete = λ k l. ∣ inserted_in k (length ps) places i (⊎_elim (λ m. inr (all_in s k m)) (λ m. inl (omega arith)) (cases_lt k (length ps))) ∣₁;
     }
   where
     front : ℕ → List EpochName → EpochName → List EpochName
@@ -136,37 +134,7 @@ by_number top ps (suc k) e h = slice_get-map (λ (z : Placed). name_of z.renamin
 pub marks_set : (top : EpochName) (ps : List Placed) (ms : List ℕ) (n : ℕ) (name e : EpochName) → name_at top ps n ≡ Some name → n < length ms → is_marked (marks_of top ps (set ms n 1)) e ≡ (name_eq name e || is_marked (marks_of top ps ms) e)
 marks_set top ps ms n name e h l = marked_set (epochs_by_number top ps) ms n name e (by_number top ps n name h) l
 
--- ---- trees
+-- ---- former identifiers
 
-pub whole_more : (top : EpochName) (ps : List Placed) (by_name order ranks marks : List ℕ) (total n : ℕ) (p : Placed) (i j : ℕ) → IsWhole top ps by_name order ranks marks total → AreLaid top (ps ++ p ∷ []) → n ≡ length p.renaming.former →
-    AreSorted name_cmp (ps ++ p ∷ []) (insert by_name i (length ps)) → AreSorted (epoch_cmp (nodes_of (ps ++ p ∷ []))) (ps ++ p ∷ []) (insert order j (length ps)) → (new : List ℕ) → AreRanked (ps ++ p ∷ []) (insert order j (length ps)) new →
-    IsWhole top (ps ++ p ∷ []) (insert by_name i (length ps)) (insert order j (length ps)) new (marks ++ 0 ∷ []) (total + n)
-whole_more top ps by_name order ranks marks total n p i j w l h a b new r = record {
-  laid = l;
-  by_name_is = a;
-  order_is = b;
-  ranked = r;
-  marks_whole = omega (arith, w.marks_whole, length-append marks (0 ∷ []), length-append ps (p ∷ []));
-  sum = omega (arith, w.sum, h, sum_by-cons (λ node. length node.renaming.former) (node_of p) (nodes_of ps)) ∙ ap (λ ns. former_sum ns) (sym (nodes_last ps p));
-}
-
--- ---- the same facts of equal lists
-
-pub names_as : {ps qs : List Placed} {xs ys : List ℕ} → qs ≡ ps → ys ≡ xs → AreSorted name_cmp ps xs → AreSorted name_cmp qs ys
-names_as {qs = qs} {xs = xs} e f s = subst (λ (zs : List ℕ). AreSorted name_cmp qs zs) (sym f) (subst (λ (rs : List Placed). AreSorted name_cmp rs xs) (sym e) s)
-
-pub order_as : {ps qs : List Placed} {xs ys : List ℕ} → qs ≡ ps → ys ≡ xs → AreSorted (epoch_cmp (nodes_of ps)) ps xs → AreSorted (epoch_cmp (nodes_of qs)) qs ys
-order_as {qs = qs} {xs = xs} e f s = subst (λ (zs : List ℕ). AreSorted (epoch_cmp (nodes_of qs)) qs zs) (sym f) (subst (λ (rs : List Placed). AreSorted (epoch_cmp (nodes_of rs)) rs xs) (sym e) s)
-
-pub ranked_as : {ps qs : List Placed} {xs ys : List ℕ} {ranks : List ℕ} → qs ≡ ps → ys ≡ xs → AreRanked ps xs ranks → AreRanked qs ys ranks
-ranked_as {qs = qs} {xs = xs} {ranks = ranks} e f r = subst (λ (zs : List ℕ). AreRanked qs zs ranks) (sym f) (subst (λ (rs : List Placed). AreRanked rs xs ranks) (sym e) r)
-
-pub whole_as : {top u : EpochName} {ps qs : List Placed} {names ns order os ranks rs marks ms : List ℕ} {total t : ℕ} → u ≡ top → qs ≡ ps → ns ≡ names → os ≡ order → rs ≡ ranks → ms ≡ marks → t ≡ total → IsWhole top ps names order ranks marks total → IsWhole u qs ns os rs ms t
-whole_as {u = u} {ps = ps} {qs = qs} {os = os} {ranks = ranks} a b c d e f g w = record {
-  laid = subst (λ (n : EpochName). AreLaid n qs) (sym a) (subst (AreLaid _) (sym b) w.laid);
-  by_name_is = names_as b c w.by_name_is;
-  order_is = order_as b d w.order_is;
-  ranked = subst (AreRanked qs os) (sym e) (ranked_as b d w.ranked);
-  marks_whole = ap length f ∙ (w.marks_whole ∙ ap suc (sym (ap length b)));
-  sum = g ∙ (w.sum ∙ sym (ap (λ (xs : List Placed). former_sum (nodes_of xs)) b));
-}
+pub sum_more : (ps : List Placed) (p : Placed) (total n : ℕ) → total ≡ former_sum (nodes_of ps) → n ≡ length p.renaming.former → total + n ≡ former_sum (nodes_of (ps ++ p ∷ []))
+sum_more ps p total n s h = omega (arith, s, h, sum_by-cons (λ node. length node.renaming.former) (node_of p) (nodes_of ps)) ∙ ap (λ ns. former_sum ns) (sym (nodes_last ps p))

@@ -3,13 +3,11 @@ use Rattle.std.specs.Prelude.{◌≡◌, ℕ, zero, suc, Bool, false, ◌||◌, 
 use Rattle.rls_ident.specs.declared.epoch_name.EpochName.{EpochName}
 use Rattle.rls_ident.specs.EpochNames.{name_eq}
 use Rattle.rls_rename.specs.Renaming.{Renaming}
-use Rattle.rls_rename.specs.Tree.{Node, Epochs, name_of, is_of, AreNodes, AreBelow, epoch_cmp, greatest, names}
+use Rattle.rls_rename.specs.Tree.{Node, Epochs, name_of, is_of, AreNodes, AreBelow, greatest, names}
 use Rattle.rls_rename.specs.Connected.{in_order}
 use Rattle.rls_epoch.specs.declared.placed.Placed.{Placed}
-use Rattle.rls_epoch.specs.Climbing.{name_cmp}
 use Rattle.rls_epoch.specs.Links.{AreLinked}
 use Rattle.rls_epoch.specs.Ranks.{AreRanked}
-use Rattle.rls_epoch.specs.Sorted.{AreSorted}
 
 -- the epochs, those that are marked, and for how many more nodes there is room
 pub record EpochsSeen : Type 0 where
@@ -74,11 +72,9 @@ pub record NodesSeen : Type 0 where
   pub placed : List Placed
   pub spare : ℕ
 
--- with the places of the nodes in the order of names and in that of the epochs, their ranks, a mark for each epoch, and this number of former identifiers
-pub record IsWhole (top : EpochName) (placed : List Placed) (by_name order ranks marks : List ℕ) (total : ℕ) : Type 0 where
+-- with the ranks of the nodes in the order of the epochs, a mark for each epoch, and this number of former identifiers
+pub record IsWhole (top : EpochName) (placed : List Placed) (order ranks marks : List ℕ) (total : ℕ) : Type 0 where
   pub laid : AreLaid top placed
-  pub by_name_is : AreSorted name_cmp placed by_name
-  pub order_is : AreSorted (epoch_cmp (nodes_of placed)) placed order
   pub ranked : AreRanked placed order ranks
   pub marks_whole : length marks ≡ suc (length placed)
   pub sum : total ≡ former_sum (nodes_of placed)

@@ -2,6 +2,7 @@
 use Rattle.std.specs.Prelude.{◌≡◌, ℕ, zero, suc, ◌-◌, ◌<◌, ◌≤◌, List, [], ◌∷◌, Some, length, map, slice_get}
 use Rattle.std.specs.declared.cmp.Ordering.{Ordering}
 use Rattle.std.specs.declared.cmp.Ordering.TheVariants.{Less}
+use Rattle.std.proofs.Props as below
 use Rattle.rls_ident.specs.declared.epoch_name.EpochName.{EpochName}
 use Rattle.rls_ident.specs.declared.epoch_name.EpochName.TheVariants.{Origin}
 use Rattle.rls_ident.specs.Lists.{IsIn}
@@ -32,7 +33,19 @@ AreRising cmp (e ∷ es) = IsBefore cmp e es × AreRising cmp es
 pub record AreSorted (cmp : EpochName → EpochName → Ordering) (ps : List Placed) (places : List ℕ) : Type 0 where
   pub within : (k : ℕ) → IsIn k places → k < length ps
   pub rising : AreRising cmp (names_at ps places)
-  pub complete : (k : ℕ) → k < length ps → IsIn k places
+  pub complete : (k : ℕ) → k < length ps → ∥ IsIn k places ∥₁
+
+-- a proof of that is as good as any other
+before_prop : (cmp : EpochName → EpochName → Ordering) (e : EpochName) (es : List EpochName) → IsProp (IsBefore cmp e es)
+before_prop cmp e [] = hlevel
+before_prop cmp e (f ∷ es) = hlevel (below.props, before_prop cmp e es)
+
+rising_prop : (cmp : EpochName → EpochName → Ordering) (es : List EpochName) → IsProp (AreRising cmp es)
+rising_prop cmp [] = hlevel
+rising_prop cmp (e ∷ es) = hlevel (below.props, before_prop cmp e es, rising_prop cmp es)
+
+pub sorted_prop : (cmp : EpochName → EpochName → Ordering) (ps : List Placed) (places : List ℕ) → IsProp (AreSorted cmp ps places)
+sorted_prop cmp ps places = hlevel (below.props, rising_prop cmp (names_at ps places))
 
 -- the epoch before place i is less than e, and the one at it isn't
 pub record IsCut (cmp : EpochName → EpochName → Ordering) (es : List EpochName) (e : EpochName) (i : ℕ) : Type 0 where

@@ -1,11 +1,11 @@
 //! The tree of the epochs that are kept.
 
-ghost use Rattle.std.specs.Prelude.{◌≡◌, ℕ, List, ◌+◌, ◌-◌, ◌<◌, ◌^◌, suc, [], ◌∷◌, ◌++◌, length, map, slice_get, sum_by, Some, IfSome, IfNone, IfOk, OnOk, OnErr, IsTrue, IsFalse, ◌||◌};
+ghost use Rattle.std.specs.Prelude.{◌≡◌, List, ◌+◌, ◌-◌, ◌<◌, ◌^◌, suc, [], ◌∷◌, ◌++◌, length, map, slice_get, sum_by, Some, IfSome, IfNone, IfOk, OnOk, IsTrue, IsFalse, ◌||◌};
 ghost use Rattle.std.specs.Option.{option_copied, option_map};
 ghost use Rattle.rls_ident.specs.declared.epoch_name.EpochName.{EpochName};
 ghost use Rattle.rls_ident.specs.EpochNames.{name_eq, is_of_member};
 ghost use Rattle.rls_runs.specs.Runs.{IsImage};
-ghost use Rattle.rls_rename.specs.Tree.{Node, IsTree, is_kept, epoch_cmp, greatest, greatest_within, translate};
+ghost use Rattle.rls_rename.specs.Tree.{IsTree, is_kept, epoch_cmp, greatest, greatest_within, translate};
 ghost use Rattle.rls_ident.specs.declared.tuple.Tuple.{Tuple};
 ghost use Rattle.rls_ident.specs.Lists.{IsIn};
 ghost use Rattle.rls_rename.specs.Connected.{spanned, spanned_renamings};
@@ -13,14 +13,10 @@ ghost use Rattle.rls_rename.specs.Keeping.{kept_part, reached};
 ghost use Rattle.rls_rename.specs.Renaming.{IsFormer, forward};
 ghost use Rattle.rls_epoch.specs.Seen.{former_sum, is_marked, node_for, rising_epochs, OpensGreatest};
 
-use crate::greatest::{greatest, greatest_in};
-use crate::keeping::{keep_places, number_needed};
-use crate::listing::{number_at, parent_place};
 use crate::mark::Mark;
-use crate::nodes::Nodes;
 use crate::placed::Placed;
-use crate::ranks::{rank_added, rank_all};
-use crate::retaining::{Retained, retained_part};
+use crate::retaining::Retained;
+use crate::tree::Tree;
 use rls_ident::{EpochName, Ident, Vector};
 use rls_rename::Renaming;
 use rls_runs::{Run, RunList, Runs};
@@ -34,11 +30,7 @@ const FEWEST_STEPS: usize = 2;
 /// A topmost epoch and the nodes below it, some of which are marked. The earliest node comes first.
 #[derive(Drop)]
 pub struct Epochs {
-    nodes: Nodes,
-    // the places of the nodes, in increasing order of names
-    by_name: Vec<usize>,
-    // the places of the nodes, in increasing order of the epochs
-    order: Vec<usize>,
+    tree: Tree,
     // for each node the rank of the greatest epoch that its member opened up to it
     ranks: Vec<usize>,
     // the marks of the epochs, by their numbers
@@ -53,12 +45,12 @@ impl Model for Epochs {
     ghost Value = { EpochsSeen };
 
     ghost view = { λ a. record {
-      epochs = record { top = a.nodes.top; nodes = nodes_of a.nodes.placed };
-      marks = marks_of a.nodes.top a.nodes.placed a.marks.items;
-      spare = min (min a.nodes.spare (vec_capacity a.marks - length a.marks.items)) (min (vec_capacity a.by_name - length a.by_name.items) (min (vec_capacity a.order - length a.order.items) (vec_capacity a.ranks - length a.ranks.items)));
+      epochs = record { top = a.tree.nodes.top; nodes = nodes_of a.tree.nodes.placed };
+      marks = marks_of a.tree.nodes.top a.tree.nodes.placed a.marks.items;
+      spare = min (min a.tree.nodes.spare (vec_capacity a.marks - length a.marks.items)) (min (vec_capacity a.tree.by_name - length a.tree.by_name.items) (min (vec_capacity a.tree.order - length a.tree.order.items) (vec_capacity a.ranks - length a.ranks.items)));
     } };
 
-    ghost invariant = { λ a. IsWhole a.nodes.top a.nodes.placed a.by_name.items a.order.items a.ranks.items a.marks.items a.total };
+    ghost invariant = { λ a. IsWhole a.tree.nodes.top a.tree.nodes.placed a.tree.order.items a.ranks.items a.marks.items a.total };
 }
 
 impl Epochs {
@@ -70,9 +62,7 @@ impl Epochs {
         let mut marks = Vec::new(alloc);
         marks.push(Mark::none())?;
         Ok(Epochs {
-            nodes: Nodes::starting_at(alloc, name),
-            by_name: Vec::new(alloc),
-            order: Vec::new(alloc),
+            tree: Tree::starting_at(alloc, name),
             ranks: Vec::new(alloc),
             marks,
             total: 0,
@@ -85,9 +75,7 @@ impl Epochs {
         ensures marks { self.new.marks ≡ self.old.marks }
         ensures ok { OnOk result (0 < self.new.spare) }
     {
-        self.nodes.reserve()?;
-        self.by_name.reserve(1)?;
-        self.order.reserve(1)?;
+        self.tree.reserve()?;
         self.ranks.reserve(1)?;
         self.marks.reserve(1)?;
         Ok(())
@@ -106,29 +94,16 @@ impl Epochs {
         ensures epochs { self.new.epochs ≡ record { top = self.old.epochs.top; nodes = record { parent = parent; renaming = renaming } ∷ self.old.epochs.nodes } }
         ensures marks { self.new.marks ≡ self.old.marks }
     {
-        let name = EpochName::Of { replica, seq };
-        let place = self.nodes.count();
-        let up = self.nodes.number_of(&self.by_name, parent);
-        let by_name = self.nodes.names_below(&self.by_name, name);
+        let up = self.tree.number_of(parent);
         self.total += renaming.total();
-        self.nodes.push(Placed {
+        let (index, at) = self.tree.add(Placed {
             parent,
             up,
             renaming,
         });
-        let order = self.nodes.epochs_below(&self.order, place + 1);
-        self.by_name.insert(by_name, place).unwrap();
-        self.order.insert(order, place).unwrap();
         self.ranks.push(0).unwrap();
         self.marks.push(Mark::none()).unwrap();
-        rank_added(
-            &self.nodes,
-            &self.by_name,
-            &self.order,
-            &mut self.ranks,
-            by_name,
-            order,
-        );
+        self.tree.rank_added(&mut self.ranks, index, at);
     }
 
     /// Whether the epoch is kept. It costs a comparison of names for each halving of the nodes.
@@ -137,7 +112,7 @@ impl Epochs {
         ensures kept { result ≡ is_kept self.now.epochs.top self.now.epochs.nodes name }
         ensures tree { IsTree self.now.epochs }
     {
-        match self.nodes.find(&self.by_name, name) {
+        match self.tree.find(name) {
             Some(_) => true,
             None => false,
         }
@@ -150,16 +125,16 @@ impl Epochs {
         requires second { IsTrue (is_kept self.now.epochs.top self.now.epochs.nodes b) }
         ensures order { result ≡ epoch_cmp self.now.epochs.nodes a b }
     {
-        let left = self.nodes.number_of(&self.by_name, a);
-        let right = self.nodes.number_of(&self.by_name, b);
-        self.nodes.compare(left, right)
+        let left = self.tree.number_of(a);
+        let right = self.tree.number_of(b);
+        self.tree.nodes.compare(left, right)
     }
 
     /// The greatest epoch. It takes no memory.
     pub fn greatest(&self) -> EpochName
         ensures greatest { result ≡ greatest self.now.epochs.top self.now.epochs.nodes }
     {
-        greatest(&self.nodes, &self.order)
+        self.tree.greatest()
     }
 
     /// Whether the epoch that a rename would open in another is greater than all that are kept. It
@@ -170,9 +145,10 @@ impl Epochs {
         requires parent { IsTrue (is_kept self.now.epochs.top self.now.epochs.nodes parent) }
         ensures greatest { (former : List (List Tuple)) → IsFormer former → OpensGreatest result self.now.epochs parent (record { former = former; replica = replica; seq = seq }) }
     {
-        let last = self.nodes.number_of(&self.by_name, self.greatest());
-        let up = self.nodes.number_of(&self.by_name, parent);
-        self.nodes
+        let last = self.tree.number_of(self.greatest());
+        let up = self.tree.number_of(parent);
+        self.tree
+            .nodes
             .opens_above(last, up, EpochName::Of { replica, seq })
     }
 
@@ -183,7 +159,7 @@ impl Epochs {
         requires members { (e : EpochName) → IsTrue (is_kept self.now.epochs.top self.now.epochs.nodes e) → IsTrue (is_of_member (length v.now) e) }
         ensures greatest { result ≡ greatest_within self.now.epochs.top self.now.epochs.nodes v.now }
     {
-        greatest_in(&self.nodes, &self.by_name, &self.order, &self.ranks, v)
+        self.tree.greatest_in(&self.ranks, v)
     }
 
     /// An identifier of the one epoch in the other: back by the renamings up to the nearest common
@@ -194,8 +170,8 @@ impl Epochs {
         ensures translated { IfOk result (λ x. x ≡ translate self.now.epochs.nodes from to id.now) }
     {
         let _len = id.len();
-        let steps = self.nodes.way_between(&self.by_name, from, to)?;
-        self.nodes.ident_led(&steps, id)
+        let steps = self.tree.way_between(from, to)?;
+        self.tree.nodes.ident_led(&steps, id)
     }
 
     /// The identifiers of a run of the one epoch in the other, as runs of which none touches the one
@@ -211,8 +187,8 @@ impl Epochs {
         ensures translated { IfOk result (λ runs. IsImage (translate self.now.epochs.nodes from to) run.now runs) }
     {
         let _len = run.len();
-        let steps = self.nodes.way_between(&self.by_name, from, to)?;
-        self.nodes.run_led(&steps, run)
+        let steps = self.tree.way_between(from, to)?;
+        self.tree.nodes.run_led(&steps, run)
     }
 
     /// The identifiers of a run of the one epoch in the other, and then by a renaming that opens an
@@ -230,8 +206,8 @@ impl Epochs {
         ensures renamed { IfOk result (λ runs. IsImage (λ x. forward renaming.now (translate self.now.epochs.nodes from to x)) run.now runs) }
     {
         let _len = run.len();
-        let steps = self.nodes.way_between(&self.by_name, from, to)?;
-        self.nodes.run_led_by(&steps, renaming, run)
+        let steps = self.tree.way_between(from, to)?;
+        self.tree.nodes.run_led_by(&steps, renaming, run)
     }
 
     /// A strictly increasing list of identifiers of the one epoch in the other. It costs the renaming
@@ -248,11 +224,11 @@ impl Epochs {
         ensures translated { IfOk result (λ xs. xs ≡ map (translate self.now.epochs.nodes from to) ids.now) }
     {
         let _total = ids.total();
-        if let Some(images) = self.nodes.known_images(from, to, ids)? {
+        if let Some(images) = self.tree.nodes.known_images(from, to, ids)? {
             return Ok(images);
         }
-        let steps = self.nodes.way_between(&self.by_name, from, to)?;
-        self.nodes.runs_led(&steps, ids)
+        let steps = self.tree.way_between(from, to)?;
+        self.tree.nodes.runs_led(&steps, ids)
     }
 
     /// Makes ready for translations of such lists. The first identifier whose image isn't known is led
@@ -264,14 +240,14 @@ impl Epochs {
         requires to { IsTrue (is_kept self.old.epochs.top self.old.epochs.nodes to) }
         ensures same { self.new ≡ self.old }
     {
-        let Some(id) = self.nodes.first_unknown(from, to, ids)? else {
+        let Some(id) = self.tree.nodes.first_unknown(from, to, ids)? else {
             return Ok(());
         };
-        let steps = self.nodes.way_between(&self.by_name, from, to)?;
+        let steps = self.tree.way_between(from, to)?;
         if steps.len() < FEWEST_STEPS {
             return Ok(());
         }
-        self.nodes.learn(&steps, from, to, &id)
+        self.tree.nodes.learn(&steps, from, to, &id)
     }
 
     /// Takes all marks away. It takes no memory.
@@ -289,8 +265,8 @@ impl Epochs {
         ensures epochs { self.new.epochs ≡ self.old.epochs }
         ensures marks { (e : EpochName) → is_marked self.new.marks e ≡ (name_eq name e || is_marked self.old.marks e) }
     {
-        let number = self.nodes.number_of(&self.by_name, name);
-        let _count = self.nodes.count();
+        let number = self.tree.number_of(name);
+        let _count = self.tree.nodes.count();
         self.marks[number] = Mark::plain();
     }
 
@@ -302,14 +278,13 @@ impl Epochs {
         ensures epochs { self.new.epochs ≡ kept_part self.old.epochs stable.now self.old.marks }
         ensures marks { self.new.marks ≡ [] }
     {
-        let number = number_needed(&self.nodes, &self.order, &mut self.marks, stable);
-        self.total = self.nodes.former_kept(&self.marks);
-        self.nodes.keep(number, &self.marks);
-        keep_places(&mut self.by_name, &self.marks);
-        keep_places(&mut self.order, &self.marks);
-        let count = self.nodes.count();
+        let number = self.tree.number_needed(&mut self.marks, stable);
+        let tree = &self.tree;
+        self.total = tree.nodes.former_kept(&self.marks);
+        self.tree.keep(number, &self.marks);
+        let count = self.tree.nodes.count();
         self.ranks.truncate(count);
-        rank_all(&self.nodes, &self.by_name, &self.order, &mut self.ranks);
+        self.tree.rank_all(&mut self.ranks);
         self.marks.truncate(count + 1);
         self.marks.fill(Mark::none());
     }
@@ -324,7 +299,7 @@ impl Epochs {
         ensures former { IfOk result (λ part. part.former ≡ sum_by (λ R. length R.former) (spanned_renamings self.now.epochs.nodes (greatest self.now.epochs.top self.now.epochs.nodes) (reached self.now.epochs stable.now ++ marked.now))) }
     {
         let _total = self.former_total();
-        retained_part(&self.nodes, &self.by_name, &self.order, stable, marked)
+        self.tree.retained_part(stable, marked)
     }
 
     /// The epoch at a place in increasing order of the epochs. The topmost one is at place 0.
@@ -332,7 +307,7 @@ impl Epochs {
         requires place { i < suc (length self.now.epochs.nodes) }
         ensures name { slice_get (rising_epochs self.now.epochs) i ≡ Some result }
     {
-        self.nodes.epoch_of(number_at(&self.nodes, &self.order, i))
+        self.tree.nodes.epoch_of(self.tree.number_at(i))
     }
 
     /// The place of the parent of the epoch at a place in increasing order of the epochs, or `None`
@@ -344,8 +319,8 @@ impl Epochs {
         ensures none { IfNone result (i ≡ 0) }
         ensures some { IfSome result (λ p. 0 < i) }
     {
-        let number = number_at(&self.nodes, &self.order, i);
-        parent_place(&self.nodes, &self.order, number)
+        let number = self.tree.number_at(i);
+        self.tree.parent_place(number)
     }
 
     /// The renaming that opened the epoch at a place in increasing order of the epochs, or `None` for
@@ -356,8 +331,8 @@ impl Epochs {
         ensures none { IfNone result (i ≡ 0) }
         ensures some { IfSome result (λ p. 0 < i) }
     {
-        let number = number_at(&self.nodes, &self.order, i);
-        let node = self.nodes.node(number)?;
+        let number = self.tree.number_at(i);
+        let node = self.tree.nodes.node(number)?;
         Some(&node.renaming)
     }
 
@@ -367,8 +342,8 @@ impl Epochs {
         requires kept { IsTrue (is_kept self.now.epochs.top self.now.epochs.nodes name) }
         ensures parent { result ≡ option_map (λ node. node.parent) (node_for self.now.epochs.nodes name) }
     {
-        let number = self.nodes.number_of(&self.by_name, name);
-        let node = self.nodes.node(number)?;
+        let number = self.tree.number_of(name);
+        let node = self.tree.nodes.node(number)?;
         Some(node.parent)
     }
 
@@ -378,8 +353,8 @@ impl Epochs {
         requires kept { IsTrue (is_kept self.now.epochs.top self.now.epochs.nodes name) }
         ensures renaming { option_copied result ≡ option_map (λ node. node.renaming) (node_for self.now.epochs.nodes name) }
     {
-        let number = self.nodes.number_of(&self.by_name, name);
-        let node = self.nodes.node(number)?;
+        let number = self.tree.number_of(name);
+        let node = self.tree.nodes.node(number)?;
         Some(&node.renaming)
     }
 
@@ -388,7 +363,7 @@ impl Epochs {
         ensures count { result ≡ suc (length self.now.epochs.nodes) }
         ensures tree { IsTree self.now.epochs }
     {
-        self.nodes.count() as u64 + 1
+        self.tree.nodes.count() as u64 + 1
     }
 
     /// The number of former identifiers of all nodes.
@@ -404,9 +379,7 @@ impl Epochs {
         ensures marks { IfOk result (λ copy. copy.marks ≡ self.now.marks) }
     {
         Ok(Epochs {
-            nodes: self.nodes.copy()?,
-            by_name: self.by_name.clone()?,
-            order: self.order.clone()?,
+            tree: self.tree.copy()?,
             ranks: self.ranks.clone()?,
             marks: self.marks.clone()?,
             total: self.total,

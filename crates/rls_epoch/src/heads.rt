@@ -1,7 +1,7 @@
 //! Long identifiers over the steps of a way. Mostly a step changes a few of the first tuples and leaves the others, so these aren't
 //! copied at each step: the tuples are in reverse, the first one at the end.
 
-ghost use Rattle.std.specs.Prelude.{◌≡◌, ◌<◌, ◌≤◌, ◌++◌, length, map, drop, reverse, IfOk, IfSome, IsTrue, IsFalse, OnOk};
+ghost use Rattle.std.specs.Prelude.{◌≡◌, ◌<◌, ◌≤◌, length, map, drop, reverse, IfOk, IfSome, IsTrue, IsFalse};
 ghost use Rattle.rls_rename.specs.Heads.{Replaces};
 ghost use Rattle.rls_runs.specs.Runs.{run_idents};
 ghost use Rattle.rls_epoch.specs.Heads.{Moves, IsAhead};

@@ -1,6 +1,6 @@
 //! Runs and lists of identifiers over the steps of a way, whole runs at a time.
 
-ghost use Rattle.std.specs.Prelude.{◌≡◌, ◌+◌, ◌<◌, ◌≤◌, ◌^◌, [], ◌∷◌, ◌++◌, map, length, drop, IfOk, OnOk, IsTrue};
+ghost use Rattle.std.specs.Prelude.{◌≡◌, ◌+◌, ◌<◌, ◌^◌, [], ◌∷◌, ◌++◌, map, length, IfOk, OnOk, IsTrue};
 ghost use Rattle.rls_rename.specs.Renaming.{forward};
 ghost use Rattle.rls_runs.specs.Runs.{run_idents, runs_of, idents_of, is_increasing, AreIdents, IsImage};
 ghost use Rattle.rls_epoch.specs.Ways.{AreWithin, place_of_step, step_map, led};

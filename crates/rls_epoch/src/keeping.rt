@@ -1,21 +1,20 @@
 //! What is kept of a tree. The marks of the kept epochs give their new places.
 
-ghost use Rattle.std.specs.Prelude.{◌≡◌, ◌<◌, ◌≤◌, ◌+◌, ◌-◌, ◌^◌, ℕ, suc, [], ◌∷◌, ◌++◌, Some, IfOk, length, drop, nat_lt, slice_get, slice_index, if◌then◌else◌, IsTrue, List};
+ghost use Rattle.std.specs.Prelude.{◌≡◌, ◌<◌, ◌≤◌, ◌+◌, ◌-◌, ◌^◌, ℕ, suc, ◌∷◌, ◌++◌, Some, IfOk, length, drop, slice_get, slice_index, if◌then◌else◌, IsTrue, List};
 ghost use Rattle.rls_ident.specs.declared.epoch_name.EpochName.{EpochName};
 ghost use Rattle.rls_ident.specs.EpochNames.{is_of_member};
 ghost use Rattle.rls_ident.specs.Lists.{IsIn};
 ghost use Rattle.rls_rename.specs.Keeping.{reached};
-ghost use Rattle.rls_rename.specs.Tree.{epoch_cmp, greatest, is_kept};
+ghost use Rattle.rls_rename.specs.Tree.{greatest, is_kept};
 ghost use Rattle.rls_epoch.specs.declared.placed.Placed.{Placed};
 ghost use Rattle.rls_epoch.specs.Links.{epoch_at};
-ghost use Rattle.rls_epoch.specs.Marks.{AreNamed, AreNumbered, numbered, mark_count, kept_placed, kept_places, kept_names, kept_sum};
-ghost use Rattle.rls_epoch.specs.Seen.{former_sum, nodes_of, AreLaid};
-ghost use Rattle.rls_epoch.specs.Sorted.{place_name, AreSorted};
+ghost use Rattle.rls_epoch.specs.Marks.{AreNamed, AreNumbered, numbered, kept_placed, kept_places, kept_names, kept_sum};
+ghost use Rattle.rls_epoch.specs.Seen.{former_sum, nodes_of};
 
 use crate::mark::{Mark, mark_of};
-use crate::marks::mark_reached;
 use crate::nodes::Nodes;
 use crate::placed::Placed;
+use crate::tree::Tree;
 use rls_ident::{EpochName, Vector};
 use std::alloc::AllocError;
 
@@ -33,19 +32,41 @@ fn number_marks(marks: &mut [Mark])
     }
 }
 
-// Marks what is needed, gives it its new places, and answers the number of the topmost epoch of it.
-pub(crate) fn number_needed(nodes: &Nodes, order: &[usize], marks: &mut [Mark], v: &Vector) -> usize
-    requires sorted { AreSorted (epoch_cmp (nodes_of nodes.now.placed)) nodes.now.placed order.now }
-    requires members { (e : EpochName) → IsTrue (is_kept nodes.now.top (nodes_of nodes.now.placed) e) → IsTrue (is_of_member (length v.now) e) }
-    requires whole { length marks.old ≡ suc (length nodes.now.placed) }
-    ensures within { result ≤ length nodes.now.placed }
-    ensures needed { (es : List EpochName) → AreNamed nodes.now.top nodes.now.placed marks.old es → AreNumbered nodes.now.top nodes.now.placed marks.new result (greatest nodes.now.top (nodes_of nodes.now.placed)) (reached (record { top = nodes.now.top; nodes = nodes_of nodes.now.placed }) v.now ++ es) }
-{
-    let _count = nodes.count();
-    mark_reached(nodes, order, marks, v);
-    let number = nodes.spread(marks);
-    number_marks(marks);
-    number
+impl Tree {
+    // Marks what is needed, gives it its new places, and answers the number of the topmost epoch of it.
+    pub(crate) fn number_needed(&self, marks: &mut [Mark], v: &Vector) -> usize
+        requires members { (e : EpochName) → IsTrue (is_kept self.now.nodes.top (nodes_of self.now.nodes.placed) e) → IsTrue (is_of_member (length v.now) e) }
+        requires whole { length marks.old ≡ suc (length self.now.nodes.placed) }
+        ensures within { result ≤ length self.now.nodes.placed }
+        ensures needed { (es : List EpochName) → AreNamed self.now.nodes.top self.now.nodes.placed marks.old es → AreNumbered self.now.nodes.top self.now.nodes.placed marks.new result (greatest self.now.nodes.top (nodes_of self.now.nodes.placed)) (reached (record { top = self.now.nodes.top; nodes = nodes_of self.now.nodes.placed }) v.now ++ es) }
+    {
+        let _count = self.nodes.count();
+        self.mark_reached(marks, v);
+        let number = self.nodes.spread(marks);
+        number_marks(marks);
+        number
+    }
+
+    // The epochs whose marks have new places, in increasing order, after the topmost one.
+    pub(crate) fn list_kept(
+        &self,
+        first: EpochName,
+        marks: &[Mark],
+    ) -> Result<Vec<EpochName>, AllocError>
+        requires whole { length marks.now ≡ suc (length self.now.nodes.placed) }
+        ensures names { IfOk result (λ names. names.items ≡ first ∷ kept_names self.now.nodes.placed marks.now self.now.order.items) }
+    {
+        let _count = self.nodes.count();
+        let mut names = Vec::new(self.nodes.allocator());
+        names.push(first)?;
+        for place in &self.order {
+            if !mark_of(marks, *place + 1).has_place() {
+                continue;
+            }
+            names.push(self.nodes.name_of(*place))?;
+        }
+        Ok(names)
+    }
 }
 
 // Keeps the nodes whose marks have new places.
@@ -98,29 +119,6 @@ impl Nodes {
         self.top = self.epoch_of(number);
         keep_nodes(&mut self.list, marks);
         self.known.clear();
-    }
-
-    // The epochs at these places whose marks have new places, after the topmost one.
-    pub(crate) fn list_kept(
-        &self,
-        first: EpochName,
-        marks: &[Mark],
-        places: &[usize],
-    ) -> Result<Vec<EpochName>, AllocError>
-        requires whole { length marks.now ≡ suc (length self.now.placed) }
-        requires within { (k : ℕ) → IsIn k places.now → k < length self.now.placed }
-        ensures names { IfOk result (λ names. names.items ≡ first ∷ kept_names self.now.placed marks.now places.now) }
-    {
-        let _count = self.count();
-        let mut names = Vec::new(self.allocator());
-        names.push(first)?;
-        for place in places {
-            if !mark_of(marks, *place + 1).has_place() {
-                continue;
-            }
-            names.push(self.name_of(*place))?;
-        }
-        Ok(names)
     }
 
     // The number of former identifiers of the nodes whose marks have new places.

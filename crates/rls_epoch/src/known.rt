@@ -4,7 +4,7 @@
 
 ghost use Rattle.std.specs.Prelude.{◌≡◌, ◌+◌, ◌<◌, ◌≤◌, ◌^◌, ◌++◌, [], length, map, IfOk, IfSome, IsTrue};
 ghost use Rattle.rls_rename.specs.Tree.{translate, AreNodes};
-ghost use Rattle.rls_runs.specs.Runs.{run_idents, is_increasing, AreIdents};
+ghost use Rattle.rls_runs.specs.Runs.{run_idents, is_increasing};
 ghost use Rattle.rls_epoch.specs.KnownRuns.{IsKnown, AreKnown};
 ghost use Rattle.rls_epoch.specs.Seen.{nodes_of};
 

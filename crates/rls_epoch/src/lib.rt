@@ -19,6 +19,7 @@ mod parts;
 mod placed;
 mod ranks;
 mod retaining;
+mod tree;
 mod ways;
 
 pub use epochs::Epochs;

@@ -1,37 +1,37 @@
 //! Marks of epochs, by their numbers.
 
-ghost use Rattle.std.specs.Prelude.{◌≡◌, ◌<◌, ◌≤◌, ◌+◌, ◌-◌, suc, true, IsTrue, length, ◌++◌, take, count_by, nat_lt, slice_set, List, ◌∷◌, if◌then◌else◌};
+ghost use Rattle.std.specs.Prelude.{◌≡◌, ◌<◌, ◌≤◌, ◌+◌, ◌-◌, suc, true, IsTrue, length, take, count_by, nat_lt, slice_set, List, if◌then◌else◌};
 ghost use Rattle.rls_ident.specs.declared.epoch_name.EpochName.{EpochName};
 ghost use Rattle.rls_epoch.specs.Links.{up_at};
-ghost use Rattle.rls_epoch.specs.Marks.{has_mark, mark_count, AreMarked, AreNamed, AreReached, AreSpread};
+ghost use Rattle.rls_epoch.specs.Marks.{has_mark, mark_count, AreMarked, AreReached, AreSpread};
 ghost use Rattle.rls_epoch.specs.Seen.{nodes_of};
-ghost use Rattle.rls_epoch.specs.Sorted.{AreSorted};
 ghost use Rattle.rls_ident.specs.EpochNames.{is_of_member};
-ghost use Rattle.rls_rename.specs.Keeping.{reached};
-ghost use Rattle.rls_rename.specs.Tree.{epoch_cmp, greatest, greatest_within, is_kept};
+ghost use Rattle.rls_rename.specs.Tree.{greatest_within, is_kept};
 
 use crate::mark::{Mark, mark_epoch, mark_of};
 use crate::nodes::Nodes;
+use crate::tree::Tree;
 use rls_ident::{EpochName, Vector};
 
-// Marks each epoch that is at least the greatest one within the vector.
-pub(crate) fn mark_reached(nodes: &Nodes, order: &[usize], marks: &mut [Mark], v: &Vector)
-    requires sorted { AreSorted (epoch_cmp (nodes_of nodes.now.placed)) nodes.now.placed order.now }
-    requires members { (e : EpochName) → IsTrue (is_kept nodes.now.top (nodes_of nodes.now.placed) e) → IsTrue (is_of_member (length v.now) e) }
-    requires whole { length marks.old ≡ suc (length nodes.now.placed) }
-    ensures reached { AreReached nodes.now.top nodes.now.placed marks.old marks.new (greatest_within nodes.now.top (nodes_of nodes.now.placed) v.now) }
-{
-    let _count = nodes.count();
-    let mut rest = order;
-    while let Some((place, lesser)) = rest.split_last() {
-        let name = nodes.name_of(*place);
-        mark_epoch(marks, *place + 1);
-        if name.within(v) {
-            return;
+impl Tree {
+    // Marks each epoch that is at least the greatest one within the vector.
+    pub(crate) fn mark_reached(&self, marks: &mut [Mark], v: &Vector)
+        requires members { (e : EpochName) → IsTrue (is_kept self.now.nodes.top (nodes_of self.now.nodes.placed) e) → IsTrue (is_of_member (length v.now) e) }
+        requires whole { length marks.old ≡ suc (length self.now.nodes.placed) }
+        ensures reached { AreReached self.now.nodes.top self.now.nodes.placed marks.old marks.new (greatest_within self.now.nodes.top (nodes_of self.now.nodes.placed) v.now) }
+    {
+        let _count = self.nodes.count();
+        let mut rest = self.order.as_slice();
+        while let Some((place, lesser)) = rest.split_last() {
+            let name = self.nodes.name_of(*place);
+            mark_epoch(marks, *place + 1);
+            if name.within(v) {
+                return;
+            }
+            rest = lesser;
         }
-        rest = lesser;
+        mark_epoch(marks, 0);
     }
-    mark_epoch(marks, 0);
 }
 
 impl Nodes {

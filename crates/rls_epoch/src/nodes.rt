@@ -1,14 +1,12 @@
 //! A topmost epoch and the nodes below it, of which the latest is the last.
 
-ghost use Rattle.std.specs.Prelude.{◌≡◌, ℕ, ◌-◌, ◌^◌, ◌≤◌, ◌<◌, slice_get, ◌∷◌, [], ◌++◌, Some, IfOk, IfSome, IfNone, OnOk, IsTrue, IsFalse, false, length};
+ghost use Rattle.std.specs.Prelude.{◌≡◌, ℕ, ◌-◌, ◌^◌, ◌≤◌, ◌<◌, slice_get, ◌∷◌, [], ◌++◌, Some, IfOk, OnOk, IsFalse, length};
 ghost use Rattle.rls_ident.specs.Lists.{IsIn};
 ghost use Rattle.rls_rename.specs.Tree.{name_of, is_kept, epoch_cmp};
-ghost use Rattle.rls_epoch.specs.Climbing.{name_cmp};
 ghost use Rattle.rls_epoch.specs.Links.{name_at, epoch_at, up_at};
 ghost use Rattle.rls_epoch.specs.Seen.{nodes_of, AreLaid};
-ghost use Rattle.rls_epoch.specs.Sorted.{names_at, place_name, AreSorted, IsCut};
+ghost use Rattle.rls_epoch.specs.Sorted.{names_at, place_name, IsCut};
 
-use crate::climb::compare_names;
 use crate::known::KnownImages;
 use crate::placed::Placed;
 use rls_ident::EpochName;
@@ -125,22 +123,6 @@ impl Nodes {
         self.name_of(number - 1)
     }
 
-    // How many of these places, in increasing order of names, have a lesser name.
-    pub(crate) fn names_below(&self, places: &[usize], name: EpochName) -> usize
-        requires within { (k : ℕ) → IsIn k places.now → k < length self.now.placed }
-        ensures cut { IsCut name_cmp (names_at self.now.placed places.now) name result }
-    {
-        let (mut low, mut high) = (0, places.len());
-        while low < high {
-            let middle = low + (high - low) / 2;
-            match compare_names(self.name_of(places[middle]), name) {
-                Ordering::Less => low = middle + 1,
-                _ => high = middle,
-            }
-        }
-        low
-    }
-
     // How many of these places, in increasing order of the epochs, have a lesser epoch than this number.
     pub(crate) fn epochs_below(&self, places: &[usize], number: usize) -> usize
         requires within { (k : ℕ) → IsIn k places.now → k < length self.now.placed }
@@ -157,45 +139,6 @@ impl Nodes {
             }
         }
         low
-    }
-
-    // The number of an epoch, if it is kept. It costs a comparison of names for each halving of the nodes.
-    pub(crate) fn find(&self, by_name: &[usize], name: EpochName) -> Option<usize>
-        requires sorted { AreSorted name_cmp self.now.placed by_name.now }
-        ensures some { IfSome result (λ n. name_at self.now.top self.now.placed n ≡ Some name) }
-        ensures within { IfSome result (λ n. n ≤ length self.now.placed) }
-        ensures none { IfNone result (is_kept self.now.top (nodes_of self.now.placed) name ≡ false) }
-    {
-        let _count = self.count();
-        let top = self.epoch_of(0);
-        if name.same(&top) {
-            return Some(0);
-        }
-        let i = self.names_below(by_name, name);
-        if by_name.len() <= i {
-            return None;
-        }
-        let place = by_name[i];
-        if self.name_of(place).same(&name) {
-            Some(place + 1)
-        } else {
-            None
-        }
-    }
-
-    // The number of a kept epoch.
-    #[tactic(auto, using(crate::proofs::Meeting::at_is))]
-    pub(crate) fn number_of(&self, by_name: &[usize], name: EpochName) -> usize
-        requires sorted { AreSorted name_cmp self.now.placed by_name.now }
-        requires kept { IsTrue (is_kept self.now.top (nodes_of self.now.placed) name) }
-        ensures number { name_at self.now.top self.now.placed result ≡ Some name }
-        ensures epoch { epoch_at self.now.top self.now.placed result ≡ name }
-        ensures within { result ≤ length self.now.placed }
-    {
-        match self.find(by_name, name) {
-            Some(number) => number,
-            None => unreachable!(),
-        }
     }
 
     // The same again.

@@ -1,18 +1,14 @@
 //! Ranks: the places of the epochs in increasing order of all of them, in which the topmost one has
 //! place 0. Each node has the rank of the greatest epoch that its member opened up to it.
 
-ghost use Rattle.std.specs.Prelude.{◌≡◌, ℕ, ◌+◌, ◌-◌, ◌^◌, ◌<◌, ◌≤◌, List, suc, length, slice_index, slice_set, IsTrue, IsFalse};
+ghost use Rattle.std.specs.Prelude.{◌≡◌, ℕ, ◌+◌, ◌-◌, ◌^◌, ◌<◌, ◌≤◌, suc, length, slice_index, IsTrue, IsFalse};
 ghost use Rattle.rls_ident.specs.EpochNames.{is_of_member};
 ghost use Rattle.rls_ident.specs.Lists.{IsIn};
-ghost use Rattle.rls_rename.specs.Tree.{epoch_cmp};
-ghost use Rattle.rls_epoch.specs.Climbing.{name_cmp};
 ghost use Rattle.rls_epoch.specs.Ranks.{last_counted, first_of, name_in, rank_after, up_to, AreDistinct, AreRanked, IsAdded, IsEnd, IsOwn, IsRank};
-ghost use Rattle.rls_epoch.specs.Seen.{nodes_of};
-ghost use Rattle.rls_epoch.specs.Sorted.{AreSorted};
 
 use crate::climb::compare_names;
 use crate::entries::{entry, set_entry};
-use crate::nodes::Nodes;
+use crate::tree::Tree;
 use rls_ident::{EpochName, Vector};
 use std::cmp::Ordering;
 
@@ -59,76 +55,6 @@ pub(crate) fn first_of(name: EpochName) -> EpochName
     }
 }
 
-// How many of these places, in increasing order of names, have this name or a lesser one.
-fn names_up_to(nodes: &Nodes, by_name: &[usize], name: EpochName) -> usize
-    requires sorted { AreSorted name_cmp nodes.now.placed by_name.now }
-    ensures end { IsEnd nodes.now.placed by_name.now name result }
-{
-    let (mut low, mut high) = (0, by_name.len());
-    while low < high {
-        let middle = low + (high - low) / 2;
-        match compare_names(name, nodes.name_of(by_name[middle])) {
-            Ordering::Less => high = middle,
-            _ => low = middle + 1,
-        }
-    }
-    low
-}
-
-// The rank of the greatest of the epochs up to this one, or 0 if there is none. It costs a comparison
-// of names for each halving of the nodes.
-pub(crate) fn rank_up_to(
-    nodes: &Nodes,
-    by_name: &[usize],
-    ranks: &[usize],
-    name: EpochName,
-) -> usize
-    requires sorted { AreSorted name_cmp nodes.now.placed by_name.now }
-    requires whole { length ranks.now ≡ length nodes.now.placed }
-    ensures rank { (order : List ℕ) → ((k : ℕ) → IsIn k order → k < length nodes.now.placed) → AreRanked nodes.now.placed order ranks.now → IsRank nodes.now.placed order name result }
-{
-    let end = names_up_to(nodes, by_name, name);
-    if end == 0 {
-        return 0;
-    }
-    let before = by_name[end - 1];
-    if is_up_to(name, nodes.name_of(before)) {
-        entry(ranks, before)
-    } else {
-        0
-    }
-}
-
-// Ranks the last node, which was put at an index in order of names and at a place of the order. It
-// takes no memory, and costs nothing more if that is the last place. Else it goes over the ranks.
-pub(crate) fn rank_added(
-    nodes: &Nodes,
-    by_name: &[usize],
-    order: &[usize],
-    ranks: &mut [usize],
-    index: usize,
-    at: usize,
-)
-    requires by_name_is { AreSorted name_cmp nodes.now.placed by_name.now }
-    requires order_is { AreSorted (epoch_cmp (nodes_of nodes.now.placed)) nodes.now.placed order.now }
-    requires within { index < length by_name.now }
-    requires index { suc (slice_index by_name.now index) ≡ length nodes.now.placed }
-    requires added { IsAdded nodes.now.placed order.now ranks.old at }
-    ensures ranked { AreRanked nodes.now.placed order.now ranks.new }
-{
-    if has_later(nodes, by_name, index) {
-        rank_all(nodes, by_name, order, ranks);
-        return;
-    }
-    let place = by_name[index];
-    let count = order.len() - 1;
-    let own = at + 1;
-    shift_ranks(ranks, at, count);
-    set_entry(ranks, place, own);
-    let rank = raised_rank(nodes, by_name, ranks, index);
-    set_entry(ranks, place, rank);
-}
-
 // The new rank of an epoch after another was put at a place of the order.
 fn rank_after(rank: usize, at: usize) -> usize
     requires room { rank < 2 ^ 64 - 1 }
@@ -153,34 +79,7 @@ fn shift_ranks(ranks: &mut [usize], at: usize, count: usize)
     }
 }
 
-// Whether a later epoch of the same member is kept.
-fn has_later(nodes: &Nodes, by_name: &[usize], index: usize) -> bool
-    requires sorted { AreSorted name_cmp nodes.now.placed by_name.now }
-    requires within { index < length by_name.now }
-    ensures alone { IsFalse result → (a : ℕ) → a < length by_name.now → IsTrue (up_to (name_in nodes.now.placed by_name.now a) (name_in nodes.now.placed by_name.now index)) → a ≡ index }
-{
-    let next = index + 1;
-    if next >= by_name.len() {
-        return false;
-    }
-    is_up_to(nodes.name_of(by_name[next]), nodes.name_of(by_name[index]))
-}
-
-// Ranks all nodes. It takes no memory, and goes over them twice.
-pub(crate) fn rank_all(nodes: &Nodes, by_name: &[usize], order: &[usize], ranks: &mut [usize])
-    requires by_name_is { AreSorted name_cmp nodes.now.placed by_name.now }
-    requires order_is { AreSorted (epoch_cmp (nodes_of nodes.now.placed)) nodes.now.placed order.now }
-    requires whole { length ranks.old ≡ length nodes.now.placed }
-    ensures ranked { AreRanked nodes.now.placed order.now ranks.new }
-{
-    rank_alone(order, ranks);
-    for i in 0..by_name.len() {
-        let rank = raised_rank(nodes, by_name, ranks, i);
-        set_entry(ranks, by_name[i], rank);
-    }
-}
-
-// Gives each node the rank of its own epoch.
+// Gives each node of these places, which are in the order of the epochs, the rank of its own epoch.
 fn rank_alone(order: &[usize], ranks: &mut [usize])
     requires within { (k : ℕ) → IsIn k order.now → k < length ranks.old }
     requires distinct { AreDistinct order.now }
@@ -192,22 +91,103 @@ fn rank_alone(order: &[usize], ranks: &mut [usize])
     }
 }
 
-// The rank of the greatest epoch up to the node at this index in order of names, if that has the rank
-// of its own epoch and the one before has such a rank.
-fn raised_rank(nodes: &Nodes, by_name: &[usize], ranks: &[usize], i: usize) -> usize
-    requires sorted { AreSorted name_cmp nodes.now.placed by_name.now }
-    requires whole { length ranks.now ≡ length nodes.now.placed }
-    requires within { i < length by_name.now }
-    ensures rank { (order : List ℕ) → AreSorted (epoch_cmp (nodes_of nodes.now.placed)) nodes.now.placed order → IsOwn order (slice_index by_name.now i) (slice_index ranks.now (slice_index by_name.now i)) → (0 < i → IsRank nodes.now.placed order (name_in nodes.now.placed by_name.now (i - 1)) (slice_index ranks.now (slice_index by_name.now (i - 1)))) → IsRank nodes.now.placed order (name_in nodes.now.placed by_name.now i) result }
-{
-    let place = by_name[i];
-    let rank = entry(ranks, place);
-    if i == 0 {
-        return rank;
+impl Tree {
+    // How many nodes have this name or a lesser one.
+    fn names_up_to(&self, name: EpochName) -> usize
+        ensures end { IsEnd self.now.nodes.placed self.now.by_name.items name result }
+    {
+        let (mut low, mut high) = (0, self.by_name.len());
+        while low < high {
+            let middle = low + (high - low) / 2;
+            match compare_names(name, self.name_by_name(middle)) {
+                Ordering::Less => high = middle,
+                _ => low = middle + 1,
+            }
+        }
+        low
     }
-    let before = by_name[i - 1];
-    if !is_up_to(nodes.name_of(place), nodes.name_of(before)) {
-        return rank;
+
+    // The rank of the greatest of the epochs up to this one, or 0 if there is none. It costs a
+    // comparison of names for each halving of the nodes.
+    pub(crate) fn rank_up_to(&self, ranks: &[usize], name: EpochName) -> usize
+        requires ranked { AreRanked self.now.nodes.placed self.now.order.items ranks.now }
+        ensures rank { IsRank self.now.nodes.placed self.now.order.items name result }
+    {
+        let end = self.names_up_to(name);
+        if end == 0 {
+            return 0;
+        }
+        let before = self.place_by_name(end - 1);
+        if is_up_to(name, self.nodes.name_of(before)) {
+            entry(ranks, before)
+        } else {
+            0
+        }
     }
-    rank.max(entry(ranks, before))
+
+    // Ranks the last node, which was put at an index in order of names and at a place of the order. It
+    // takes no memory, and costs nothing more if that is the last place. Else it goes over the ranks.
+    pub(crate) fn rank_added(&self, ranks: &mut [usize], index: usize, at: usize)
+        requires within { index < length self.now.by_name.items }
+        requires index { suc (slice_index self.now.by_name.items index) ≡ length self.now.nodes.placed }
+        requires added { IsAdded self.now.nodes.placed self.now.order.items ranks.old at }
+        ensures ranked { AreRanked self.now.nodes.placed self.now.order.items ranks.new }
+    {
+        if self.has_later(index) {
+            self.rank_all(ranks);
+            return;
+        }
+        let place = self.place_by_name(index);
+        let count = self.order.len() - 1;
+        let own = at + 1;
+        shift_ranks(ranks, at, count);
+        set_entry(ranks, place, own);
+        let rank = self.raised_rank(ranks, index);
+        set_entry(ranks, place, rank);
+    }
+
+    // Whether a later epoch of the same member is kept.
+    fn has_later(&self, index: usize) -> bool
+        requires within { index < length self.now.by_name.items }
+        ensures alone { IsFalse result → (a : ℕ) → a < length self.now.by_name.items → IsTrue (up_to (name_in self.now.nodes.placed self.now.by_name.items a) (name_in self.now.nodes.placed self.now.by_name.items index)) → a ≡ index }
+    {
+        let next = index + 1;
+        if next >= self.by_name.len() {
+            return false;
+        }
+        is_up_to(self.name_by_name(next), self.name_by_name(index))
+    }
+
+    // Ranks all nodes. It takes no memory, and goes over them twice.
+    pub(crate) fn rank_all(&self, ranks: &mut [usize])
+        requires whole { length ranks.old ≡ length self.now.nodes.placed }
+        ensures ranked { AreRanked self.now.nodes.placed self.now.order.items ranks.new }
+    {
+        rank_alone(&self.order, ranks);
+        for i in 0..self.by_name.len() {
+            let rank = self.raised_rank(ranks, i);
+            set_entry(ranks, self.place_by_name(i), rank);
+        }
+    }
+
+    // The rank of the greatest epoch up to the node at this index in order of names, if that has the
+    // rank of its own epoch and the one before has such a rank.
+    fn raised_rank(&self, ranks: &[usize], i: usize) -> usize
+        requires whole { length ranks.now ≡ length self.now.nodes.placed }
+        requires within { i < length self.now.by_name.items }
+        requires own { IsOwn self.now.order.items (slice_index self.now.by_name.items i) (slice_index ranks.now (slice_index self.now.by_name.items i)) }
+        requires before { 0 < i → IsRank self.now.nodes.placed self.now.order.items (name_in self.now.nodes.placed self.now.by_name.items (i - 1)) (slice_index ranks.now (slice_index self.now.by_name.items (i - 1))) }
+        ensures rank { IsRank self.now.nodes.placed self.now.order.items (name_in self.now.nodes.placed self.now.by_name.items i) result }
+    {
+        let place = self.place_by_name(i);
+        let rank = entry(ranks, place);
+        if i == 0 {
+            return rank;
+        }
+        let before = self.place_by_name(i - 1);
+        if !is_up_to(self.nodes.name_of(place), self.nodes.name_of(before)) {
+            return rank;
+        }
+        rank.max(entry(ranks, before))
+    }
 }

@@ -2,12 +2,11 @@
 
 ghost use Rattle.std.specs.Prelude.{◌≡◌, ◌<◌, ◌≤◌, length, IfOk, IsTrue};
 ghost use Rattle.rls_rename.specs.Tree.{is_kept};
-ghost use Rattle.rls_epoch.specs.Climbing.{name_cmp};
 ghost use Rattle.rls_epoch.specs.Seen.{nodes_of};
-ghost use Rattle.rls_epoch.specs.Sorted.{AreSorted};
 ghost use Rattle.rls_epoch.specs.Ways.{Leads, IsWay, AreWithin, place_of_step, step_map, led};
 
 use crate::nodes::Nodes;
+use crate::tree::Tree;
 use rls_ident::{EpochName, Ident};
 use std::alloc::AllocError;
 
@@ -18,6 +17,24 @@ pub(crate) enum Step {
     Back { place: usize },
     // Down to it.
     Forward { place: usize },
+}
+
+impl Tree {
+    // The way between two epochs, by their names.
+    pub(crate) fn way_between(
+        &self,
+        from: EpochName,
+        to: EpochName,
+    ) -> Result<Vec<Step>, AllocError>
+        requires from { IsTrue (is_kept self.now.nodes.top (nodes_of self.now.nodes.placed) from) }
+        requires to { IsTrue (is_kept self.now.nodes.top (nodes_of self.now.nodes.placed) to) }
+        ensures way { IfOk result (λ steps. IsWay self.now.nodes.placed steps.items from to) }
+    {
+        let _count = self.nodes.count();
+        let left = self.number_of(from);
+        let right = self.number_of(to);
+        self.nodes.way(left, right)
+    }
 }
 
 impl Nodes {
@@ -42,24 +59,6 @@ impl Nodes {
         down.reverse();
         up.extend_from_slice(&down)?;
         Ok(up)
-    }
-
-    // The way between two epochs, by their names.
-    pub(crate) fn way_between(
-        &self,
-        by_name: &[usize],
-        from: EpochName,
-        to: EpochName,
-    ) -> Result<Vec<Step>, AllocError>
-        requires sorted { AreSorted name_cmp self.now.placed by_name.now }
-        requires from { IsTrue (is_kept self.now.top (nodes_of self.now.placed) from) }
-        requires to { IsTrue (is_kept self.now.top (nodes_of self.now.placed) to) }
-        ensures way { IfOk result (λ steps. IsWay self.now.placed steps.items from to) }
-    {
-        let _count = self.count();
-        let left = self.number_of(by_name, from);
-        let right = self.number_of(by_name, to);
-        self.way(left, right)
     }
 
     // An identifier at the end of the way.

@@ -6,4 +6,4 @@ use Rattle.rls_epoch.proofs.epochs.Epochs.clear_marks.Goals as goal
 pub returns-clause-marks : goal.returns-clause-marks
 returns-clause-marks c =
     let s = c.self.inside in
-    ap (marks_of s.nodes.top s.nodes.placed) (rw c.none.ensures.mark at (c.fill.ensures.items (λ y e. e))) ∙ marks_none s.nodes.top s.nodes.placed (vec_len s.marks)
+    ap (marks_of s.tree.nodes.top s.tree.nodes.placed) (rw c.none.ensures.mark at (c.fill.ensures.items (λ y e. e))) ∙ marks_none s.tree.nodes.top s.tree.nodes.placed (vec_len s.marks)

@@ -10,5 +10,5 @@ returns-clause-marks c =
     let s = c.self.inside in
     let n = c.number_of-number in
     let within = n.ensures.within in
-    rw c.plain.ensures.mark λ e. marks_set s.nodes.top s.nodes.placed s.marks.items n.result c.args.name e n.ensures.number (omega (arith, within, c.self.invariant.marks_whole))
+    rw c.plain.ensures.mark λ e. marks_set s.tree.nodes.top s.tree.nodes.placed s.marks.items n.result c.args.name e n.ensures.number (omega (arith, within, c.self.invariant.marks_whole))
     ∙ ap (λ (x : EpochsSeen). name_eq c.args.name e || is_marked x.marks e) c.self.view_is

@@ -11,14 +11,14 @@ use Rattle.rls_epoch.specs.Seen.{EpochsSeen, nodes_of, OpensGreatest}
 use Rattle.rls_epoch.proofs.Opened.{apart, greatest_opened}
 use Rattle.rls_epoch.proofs.epochs.Epochs.opens_greatest.Goals as goal
 
-pub number_of-last-requires-clause-kept : goal.number_of-last-requires-clause-kept
-number_of-last-requires-clause-kept c = rw (c.greatest.ensures.greatest, ← c.self.view_is) (greatest_kept c.self.inside.nodes.top (nodes_of c.self.inside.nodes.placed))
+pub number_of-last-requires : goal.number_of-last-requires
+number_of-last-requires c = record { kept = rw (c.greatest.ensures.greatest, ← c.self.view_is) (greatest_kept c.self.inside.tree.nodes.top (nodes_of c.self.inside.tree.nodes.placed)) }
 
 pub returns : goal.returns
 returns c = record {
   greatest = λ former f.
-      let top = c.self.inside.nodes.top in
-      let ps = c.self.inside.nodes.placed in
+      let top = c.self.inside.tree.nodes.top in
+      let ps = c.self.inside.tree.nodes.placed in
       let ns = nodes_of ps in
       let n : EpochName = Of c.args.replica c.args.seq in
       let node : Node = record { parent = c.args.parent; renaming = record { former = former; replica = c.args.replica; seq = c.args.seq } } in

@@ -1,7 +1,0 @@
-use Rattle.std.proofs.Common.{◌≡◌, ◌∷◌, take}
-use Rattle.rls_epoch.specs.Marks.{kept_names}
-use Rattle.rls_epoch.proofs.nodes.Nodes.list_kept.Given as goal
-
--- those in front of the index were looked at
-abbrev pub invariant-loop-place : goal.invariant-loop-place
-invariant-loop-place l = l.names.items ≡ l.fn.first ∷ kept_names l.self.placed l.marks (take l.place-index l.places)
