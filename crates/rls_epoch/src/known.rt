@@ -2,7 +2,8 @@
 //! identifiers. So a run of these that is one run in the greatest epoch, too, is kept with that run. Then the image of any part of it is
 //! found without a step.
 
-ghost use Rattle.std.specs.Prelude.{◌≡◌, ◌+◌, ◌<◌, ◌≤◌, ◌^◌, ◌++◌, [], length, map, IfOk, IfSome, IsTrue};
+ghost use Rattle.std.specs.Prelude.{◌≡◌, ◌+◌, ◌<◌, ◌≤◌, ◌^◌, ◌++◌, [], length, map, pos, IfOk, IfSome, IsTrue};
+ghost use Rattle.rls_ident.specs.Identifiers.{shifted};
 ghost use Rattle.rls_rename.specs.Tree.{translate, AreNodes};
 ghost use Rattle.rls_runs.specs.Runs.{run_idents, is_increasing};
 ghost use Rattle.rls_epoch.specs.KnownRuns.{IsKnown, AreKnown};
@@ -36,11 +37,10 @@ impl Known {
         }
     }
 
-    // The image of an identifier of an epoch and of those after it, at most this many in all, as far as they are in the run.
+    // The image of an identifier and of those after it, at most this many in all, as far as they are in the run.
     fn part_from(
         &self,
         nodes: &[Placed],
-        from: EpochName,
         to: EpochName,
         first: &Ident,
         most: u32,
@@ -49,11 +49,8 @@ impl Known {
         requires some { 0 < most }
         ensures some { IfOk result (λ part. IfSome part (λ r. 0 < r.1)) }
         ensures within { IfOk result (λ part. IfSome part (λ r. r.1 ≤ most)) }
-        ensures part { IfOk result (λ part. IfSome part (λ r. run_idents r.0 r.1 ≡ map (translate (nodes_of nodes.now) from to) (run_idents first.now r.1))) }
+        ensures part { IfOk result (λ part. IfSome part (λ r. run_idents r.0 r.1 ≡ map (translate (nodes_of nodes.now) self.now.from to) (run_idents first.now r.1))) }
     {
-        if !self.from.same(&from) {
-            return Ok(None);
-        }
         let Ok(place) = self.run.find(first) else {
             return Ok(None);
         };
@@ -117,29 +114,58 @@ impl KnownImages {
         low
     }
 
-    // The image of an identifier of an epoch and of those after it, at most this many in all, as far as they are known.
-    fn part_from(
+    // The run that may have an identifier of an epoch: the last one that the table doesn't have after it.
+    fn last_up_to(
         &self,
         nodes: &[Placed],
         from: EpochName,
         to: EpochName,
-        first: &Ident,
-        most: u32,
-    ) -> Result<Option<Run>, AllocError>
+        id: &Ident,
+    ) -> Option<&Known>
         requires known { AreKnown (nodes_of nodes.now) self.now }
-        requires some { 0 < most }
-        ensures some { IfOk result (λ part. IfSome part (λ r. 0 < r.1)) }
-        ensures within { IfOk result (λ part. IfSome part (λ r. r.1 ≤ most)) }
-        ensures part { IfOk result (λ part. IfSome part (λ r. run_idents r.0 r.1 ≡ map (translate (nodes_of nodes.now) from to) (run_idents first.now r.1))) }
+        ensures known { IfSome result (λ k. IsKnown (nodes_of nodes.now) to k.now) }
+        ensures from { IfSome result (λ k. k.now.from ≡ from) }
     {
         if !self.to.same(&to) {
-            return Ok(None);
+            return None;
         }
-        let count = self.count_up_to(from, first);
+        let count = self.count_up_to(from, id);
         if count == 0 {
-            return Ok(None);
+            return None;
         }
-        self.known[count - 1].part_from(nodes, from, to, first, most)
+        let known: &Known = &self.known[count - 1];
+        if known.from.same(&from) {
+            Some(known)
+        } else {
+            None
+        }
+    }
+
+    // The image of the identifiers of a run of an epoch from an index on, as far as they are known. If that of the first one isn't, it
+    // answers this one.
+    fn next_part(
+        &self,
+        nodes: &[Placed],
+        from: EpochName,
+        to: EpochName,
+        run: &Run,
+        i: u32,
+    ) -> Result<Result<Run, Ident>, AllocError>
+        requires known { AreKnown (nodes_of nodes.now) self.now }
+        requires index { i < run.now.1 }
+        ensures some { IfOk result (λ part. IfOk part (λ r. 0 < r.1)) }
+        ensures within { IfOk result (λ part. IfOk part (λ r. i + r.1 ≤ run.now.1)) }
+        ensures part { IfOk result (λ part. IfOk part (λ r. run_idents r.0 r.1 ≡ map (translate (nodes_of nodes.now) from to) (run_idents (shifted (pos i) run.now.0) r.1))) }
+    {
+        let most = run.len() - i;
+        let first = run.first().shifted(i)?;
+        let Some(known) = self.last_up_to(nodes, from, to, &first) else {
+            return Ok(Err(first));
+        };
+        let Some(part) = known.part_from(nodes, to, &first, most)? else {
+            return Ok(Err(first));
+        };
+        Ok(Ok(part))
     }
 
     // Puts one more in its place. If there are too many, the others are forgotten.
@@ -198,8 +224,7 @@ impl KnownImages {
         let len = run.len();
         let mut done = 0;
         while done < len {
-            let first = run.first().shifted(done)?;
-            let Some(part) = self.part_from(nodes, from, to, &first, len - done)? else {
+            let Ok(part) = self.next_part(nodes, from, to, run, done)? else {
                 return Ok(false);
             };
             done += part.len();
@@ -239,11 +264,10 @@ impl KnownImages {
         let len = run.len();
         let mut done = 0;
         while done < len {
-            let first = run.first().shifted(done)?;
-            let Some(part) = self.part_from(nodes, from, to, &first, len - done)? else {
-                return Ok(Some(first));
-            };
-            done += part.len();
+            match self.next_part(nodes, from, to, run, done)? {
+                Ok(part) => done += part.len(),
+                Err(first) => return Ok(Some(first)),
+            }
         }
         Ok(None)
     }

@@ -1,8 +1,5 @@
-use Rattle.std.proofs.Common.{◌≡◌, List, ℕ, map, pos, sym, ap, ◌∙◌, subst, arith}
+use Rattle.std.proofs.Common.{◌≡◌, List, ℕ, map, sym, ap, ◌∙◌, subst, arith}
 use Rattle.rls_ident.specs.declared.tuple.Tuple.{Tuple}
-use Rattle.rls_ident.specs.declared.epoch_name.EpochName.{EpochName}
-use Rattle.rls_ident.specs.Identifiers.{shifted}
-use Rattle.rls_ident.proofs.Named.{name_eq_is}
 use Rattle.rls_rename.specs.Tree.{translate}
 use Rattle.rls_runs.specs.Runs.{run_idents}
 use Rattle.rls_epoch.specs.Seen.{nodes_of}
@@ -16,26 +13,18 @@ overflow_sub-len c =
     let l = c.len.ensures.len in
     omega arith
 
-pub part-requires-clause-some : goal.part-requires-clause-some
-part-requires-clause-some c =
-    let r = c.args.self.now.run in
-    let w = place_within r.0 c.args.first.now r.1 c.in-Ok.place (sym c.in-Ok.ensures.place) in
-    let l = c.len.ensures.len in
-    omega arith
-
-pub part-requires-clause-within : goal.part-requires-clause-within
-part-requires-clause-within c =
+pub part-requires : goal.part-requires
+part-requires c =
     let k = c.args.self.now in
     let w = place_within k.run.0 c.args.first.now k.run.1 c.in-Ok.place (sym c.in-Ok.ensures.place) in
     let e = image_length (translate (nodes_of c.args.nodes.now) k.from c.args.to) k.run.0 k.image.0 k.run.1 k.image.1 c.requires.known in
     let l = c.len.ensures.len in
-    omega arith
+    record { some = omega arith; within = omega arith }
 
 pub returns-clause-part : goal.returns-clause-part
 returns-clause-part c =
     let k = c.args.self.now in
-    let nodes = nodes_of c.args.nodes.now in
-    let f = translate nodes k.from c.args.to in
+    let f = translate (nodes_of c.args.nodes.now) k.from c.args.to in
     let place = c.in-Ok.place in
     let len = c.min-len.result in
     let first = c.args.first.now in
@@ -43,8 +32,4 @@ returns-clause-part c =
     let w = place_within k.run.0 first k.run.1 place found in
     let l = c.len.ensures.len in
     let image = image_part f k.run.0 k.image.0 k.run.1 k.image.1 place len c.requires.known (omega arith) in
-    let at = place_is k.run.0 first k.run.1 place found in
-    let from = name_eq_is k.from c.args.from (sym c.if-not-same.ensures.same) in
-    subst (λ (r : List Tuple × ℕ). run_idents r.0 r.1 ≡ map (translate nodes c.args.from c.args.to) (run_idents first r.1)) (sym c.in_ok-part.ensures.part)
-    (subst (λ (e : EpochName). run_idents (shifted (pos place) k.image.0) len ≡ map (translate nodes e c.args.to) (run_idents first len)) from
-    (image ∙ ap (λ (x : List Tuple). map f (run_idents x len)) (sym at)))
+    subst (λ (r : List Tuple × ℕ). run_idents r.0 r.1 ≡ map f (run_idents first r.1)) (sym c.in_ok-part.ensures.part) (image ∙ ap (λ (x : List Tuple). map f (run_idents x len)) (sym (place_is k.run.0 first k.run.1 place found)))
