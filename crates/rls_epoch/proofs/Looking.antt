@@ -64,14 +64,14 @@ module _ (top : EpochName) (ps : List Placed) (l : AreLaid top ps) (by_name orde
     in_range = omega arith;
     ranked = omega arith;
     held = λ h. absurd (omega arith);
-    most = λ i h w. let b = index_at ps by_name s (slice_index order i) (o.within (slice_index order i) (read_in order i h)) in inr (b.0, b.1, ap (place_name ps) b.2);
+    most = λ i h w. let b = index_at s (slice_index order i) (o.within (slice_index order i) (read_in order i h)) in inr (b.0, b.1, ap (place_name ps) b.2);
   }
 
   -- the last name of the rest
   last_is : (rest : ℕ) → 0 < rest → rest ≤ length by_name → (r : ℕ) × (t : ℕ) × (name_in ps by_name (rest - 1) ≡ Of r t)
   last_is rest z w =
       let k = slice_index by_name (rest - 1) in
-      let g = get_of ps k (at_place ps by_name s (rest - 1) (omega arith)) in
+      let g = get_of ps k (at_place s (rest - 1) (omega arith)) in
       ((g.0).renaming.replica, (g.0).renaming.seq, name_read ps k g.0 g.1)
 
   module _ (rest rank : ℕ) (k : IsLooking ps by_name order v rest rank) (z : 0 < rest) (next : ℕ) (c : IsCut name_cmp (names_at ps by_name) (first_of (name_in ps by_name (rest - 1))) next) (n : next ≤ length by_name) where
@@ -100,7 +100,7 @@ module _ (top : EpochName) (ps : List Placed) (l : AreLaid top ps) (by_name orde
               ⊎_elim (λ g. inl (omega arith))
               (λ b. let lb = b.1 in
               let e = last_is rest z w in
-              let low = subst (λ f. (name_cmp (name_in ps by_name b.0) f ≡ Less) ⊎ (name_in ps by_name b.0 ≡ f)) e.2 (low_or_same ps by_name s b.0 (rest - 1) (omega arith) (omega arith)) in
+              let low = subst (λ f. (name_cmp (name_in ps by_name b.0) f ≡ Less) ⊎ (name_in ps by_name b.0 ≡ f)) e.2 (low_or_same s b.0 (rest - 1) (omega arith) (omega arith)) in
               let inside = subst (λ f. is_within f v ≡ true) (sym b.2) x in
               ⊎_elim (λ u. let m = r.most i h (subst (λ f. up_to (last_counted v last) f ≡ true) b.2 (subst (λ f. up_to (last_counted v f) (name_in ps by_name b.0) ≡ true) (sym e.2) u)) in inl (omega arith))
               (λ u. inr (b.0, before b.0 (omega arith) (subst (λ f. name_cmp (name_in ps by_name b.0) (first_of f) ≡ Less) (sym e.2) u), b.2))
@@ -137,4 +137,4 @@ module _ (top : EpochName) (ps : List Placed) (l : AreLaid top ps) (by_name orde
 pub member_at : (top : EpochName) (ps : List Placed) (by_name : List ℕ) (s : AreSorted name_cmp ps by_name) (n : ℕ) → ((e : EpochName) → is_kept top (nodes_of ps) e ≡ true → is_of_member n e ≡ true) → (a : ℕ) → a < length by_name → is_of_member n (name_in ps by_name a) ≡ true
 member_at top ps by_name s n m a h =
     let e = name_in ps by_name a in
-    m e (or_right (name_eq e top) (has_node (nodes_of ps) e) (place_kept ps (slice_index by_name a) (at_place ps by_name s a h)))
+    m e (or_right (name_eq e top) (has_node (nodes_of ps) e) (place_kept ps (slice_index by_name a) (at_place s a h)))

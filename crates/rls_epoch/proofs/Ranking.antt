@@ -9,7 +9,6 @@ use Rattle.std.proofs.lemmas.Cmp.{nat_cmp_total, ranked, tied_itself}
 use Rattle.std.proofs.lemmas.List.{get_or-append_right, get_or-drop, get_or-set_other, get_or-set_same, get_or-take, get_or_append_left, get_or_at, get_or_push, length-drop, length-set, length-take-le, length_push}
 use Rattle.rls_ident.specs.declared.epoch_name.EpochName.{EpochName}
 use Rattle.rls_ident.specs.declared.epoch_name.EpochName.TheVariants.{Origin, Of}
-use Rattle.rls_ident.specs.Lists.{IsIn}
 use Rattle.rls_ident.proofs.Lists.{then_less}
 use Rattle.rls_ident.proofs.Members.{and_left, and_right, and_true, eq_is, eq_test, le_is, le_test, lt_is, not_lt_is, not_lt_test, true_false}
 use Rattle.rls_ident.proofs.Tuples.{nat_same}
@@ -96,9 +95,117 @@ up_self ps k h =
     let n : place_name ps k ≡ Of (r.0).renaming.replica (r.0).renaming.seq = name_read ps k r.0 r.1 in
     subst (λ e. up_to e e ≡ true) (sym n) (up_test (r.0).renaming.replica (r.0).renaming.seq (r.0).renaming.replica (r.0).renaming.seq refl (omega arith))
 
+-- ---- one more node
+
+module _ {ps : List Placed} {order old : List ℕ} {at_order : ℕ} (x : IsAdded ps order old at_order) where
+  nodes_length : length ps ≡ length x.older + 1
+  nodes_length = ap length x.nodes_are ∙ length_push x.older x.node
+
+  pub order_length : length order ≡ length x.front + 1
+  order_length =
+      let a = ap length x.order_is ∙ length-append (take at_order x.front) (length x.older ∷ drop at_order x.front) in
+      let b = length-take-le at_order x.front x.place in
+      let c = length-drop at_order x.front in
+      let d = x.place in
+      omega arith
+
+  name_old : (k : ℕ) → k < length x.older → place_name ps k ≡ place_name x.older k
+  name_old k h = ap (λ (zs : List Placed). place_name zs k) x.nodes_are ∙ place_more x.older x.node k h
+
+  rank_old : (k : ℕ) → k < length x.older → slice_index old k ≡ slice_index x.before k
+  rank_old k h = ap (λ zs. slice_index zs k) x.ranks_are ∙ get_or_append_left x.before (0 ∷ []) 0 k (let b = x.ranked.whole in omega arith)
+
+  rank_last : slice_index old (length x.older) ≡ 0
+  rank_last = ap (λ zs. slice_index zs (length x.older)) x.ranks_are ∙ get_or_push x.before 0 0 (length x.older) x.ranked.whole
+
+  -- no rank is greater than there were places
+  pub ranks_most : (k : ℕ) → k < length old → slice_index old k ≤ length x.front
+  ranks_most k h =
+      let a = ap length x.ranks_are ∙ length_push x.before 0 in
+      let b = x.ranked.whole in
+      ⊎_elim (λ g. let e = rank_old k g in let r = (x.ranked.each k g).in_range in omega arith)
+      (λ g. let q : length x.older ≡ k = omega arith in let e = ap (slice_index old) (sym q) ∙ rank_last in omega arith) (cases_lt k (length x.older))
+
+  pub old_whole : length old ≡ length ps
+  old_whole = let a = ap length x.ranks_are ∙ length_push x.before 0 in let b = x.ranked.whole in let c = nodes_length in omega arith
+
+  order_below : (i : ℕ) → i < at_order → slice_index order i ≡ slice_index x.front i
+  order_below i h =
+      ap (λ zs. slice_index zs i) x.order_is
+      ∙ (get_or_append_left (take at_order x.front) (length x.older ∷ drop at_order x.front) 0 i (let b = length-take-le at_order x.front x.place in omega arith) ∙ get_or-take at_order x.front i 0 h)
+
+  pub order_here : slice_index order at_order ≡ length x.older
+  order_here = ap (λ zs. slice_index zs at_order) x.order_is ∙ get_or_at (take at_order x.front) (length x.older) (drop at_order x.front) 0 at_order (length-take-le at_order x.front x.place)
+
+  order_above : (i : ℕ) → at_order ≤ i → slice_index order (suc i) ≡ slice_index x.front i
+  order_above i h =
+      let n : suc i - at_order ≡ suc (i - at_order) = omega arith in
+      let m : at_order + (i - at_order) ≡ i = omega arith in
+      ap (λ zs. slice_index zs (suc i)) x.order_is
+      ∙ (get_or-append_right (take at_order x.front) (length x.older ∷ drop at_order x.front) at_order (suc i) 0 (length-take-le at_order x.front x.place) (omega arith)
+      ∙ (ap (slice_index (length x.older ∷ drop at_order x.front)) n ∙ (get_or-drop at_order x.front (i - at_order) 0 ∙ ap (slice_index x.front) m)))
+
+  named_old : (i j : ℕ) → j < length x.front → slice_index order i ≡ slice_index x.front j → name_in ps order i ≡ name_in x.older x.front j
+  named_old i j h e = ap (place_name ps) e ∙ name_old (slice_index x.front j) (x.within (slice_index x.front j) (read_in x.front j h))
+
+  -- where the new one is up to none of the others, these have the same greatest epochs as before
+  module _ (alone : (k : ℕ) → k < length x.older → up_to (place_name ps k) (place_name ps (length x.older)) ≡ true → ⊥) where
+    pub rank_moved : (k : ℕ) → k < length x.older → IsRank ps order (place_name ps k) (rank_after at_order (slice_index old k))
+    rank_moved k h =
+        subst (λ n. IsRank ps order (place_name ps k) (rank_after at_order n)) (sym (rank_old k h))
+        (subst (λ e. IsRank ps order e (rank_after at_order (slice_index x.before k))) (sym (name_old k h)) (go (nat_lt at_order (slice_index x.before k)) refl))
+      where
+        e : EpochName
+        e = place_name x.older k
+
+        r : IsRank x.older x.front e (slice_index x.before k)
+        r = x.ranked.each k h
+
+        named : (i j : ℕ) → j < length x.front → slice_index order i ≡ slice_index x.front j → up_to e (name_in ps order i) ≡ up_to e (name_in x.older x.front j)
+        named i j g q = ap (up_to e) (named_old i j g q)
+
+        most : (n : ℕ) → slice_index x.before k ≤ n → (at_order < slice_index x.before k → slice_index x.before k < n) → (i : ℕ) → i < length order → up_to e (name_in ps order i) ≡ true → i < n
+        most n g t i w u =
+            let l = order_length in
+            ⊎_elim (λ m. let p = x.place in let y = r.most i (omega arith) (sym (named i i (omega arith) (order_below i m)) ∙ u) in omega arith)
+            (λ m. ⊎_elim (λ q. above i q w u) (λ q. let y : at_order ≡ i = omega arith in
+            absurd (alone k h (subst (λ f. up_to f (place_name ps (length x.older)) ≡ true) (sym (name_old k h)) (subst (λ j. up_to e (place_name ps j) ≡ true) (ap (slice_index order) (sym y) ∙ order_here) u)))) (cases_lt at_order i)) (cases_lt i at_order)
+          where
+            above : (i : ℕ) → at_order < i → i < length order → up_to e (name_in ps order i) ≡ true → i < n
+            above zero q w u = absurd (omega arith)
+            above (suc i) q w u =
+                let l = order_length in
+                let y = r.most i (omega arith) (sym (named (suc i) i (omega arith) (order_above i (omega arith))) ∙ u) in
+                let z = t (omega arith) in
+                omega arith
+
+        go : (b : Bool) → nat_lt at_order (slice_index x.before k) ≡ b → IsRank ps order e (if b then suc (slice_index x.before k) else slice_index x.before k)
+        go true q =
+            let g = lt_is at_order (slice_index x.before k) q in
+            let y = r.in_range in
+            let l = order_length in
+            let n : suc (slice_index x.before k - 1) ≡ slice_index x.before k = omega arith in
+            record {
+              in_range = omega arith;
+              held = λ p.
+                  let same = ap (slice_index order) (sym n) ∙ order_above (slice_index x.before k - 1) (omega arith) in
+                  let back : suc (slice_index x.before k) - 1 ≡ slice_index x.before k = omega arith in
+                  subst (λ (j : ℕ). up_to e (name_in ps order j) ≡ true) (sym back) (named (slice_index x.before k) (slice_index x.before k - 1) (omega arith) same ∙ r.held (omega arith));
+              most = most (suc (slice_index x.before k)) (omega arith) (λ t. omega arith);
+            }
+        go false q =
+            let g = not_lt_is at_order (slice_index x.before k) q in
+            let y = r.in_range in
+            let l = order_length in
+            record {
+              in_range = omega arith;
+              held = λ p. named (slice_index x.before k - 1) (slice_index x.before k - 1) (omega arith) (order_below (slice_index x.before k - 1) (omega arith)) ∙ r.held p;
+              most = most (slice_index x.before k) (omega arith) (λ t. absurd (omega arith));
+            }
+
 -- ---- nodes in order of names
 
-module _ (ps : List Placed) (by_name : List ℕ) (s : AreSorted name_cmp ps by_name) where
+module _ {ps : List Placed} {by_name : List ℕ} (s : AreSorted name_cmp ps by_name) where
   abbrev at : ℕ → EpochName
   at a = name_in ps by_name a
 
@@ -139,12 +246,12 @@ module _ (ps : List Placed) (by_name : List ℕ) (s : AreSorted name_cmp ps by_n
 
   -- ---- the rank up to a name
 
-  module _ (order : List ℕ) (w : (k : ℕ) → IsIn k order → k < length ps) where
+  module _ {order : List ℕ} (o : AreSorted (epoch_cmp (nodes_of ps)) ps order) where
     -- what stands in the order stands here
     ordered_at : (i : ℕ) → i < length order → (b : ℕ) × (b < length by_name) × (slice_index by_name b ≡ slice_index order i)
-    ordered_at i h = index_at (slice_index order i) (w (slice_index order i) (read_in order i h))
+    ordered_at i h = index_at (slice_index order i) (o.within (slice_index order i) (read_in order i h))
 
-    module _ (ranks : List ℕ) (a : AreRanked ps order ranks) (e : EpochName) (n : ℕ) (c : IsEnd ps by_name e n) where
+    module _ {ranks : List ℕ} (a : AreRanked ps order ranks) {e : EpochName} {n : ℕ} (c : IsEnd ps by_name e n) where
       before_end : (b : ℕ) → b < length by_name → up_to e (at b) ≡ true → b < n
       before_end b h u = ⊎_elim (λ g. g) (λ g. absurd (up_not_less e (at b) u (c.above b g h))) (cases_lt b n)
 
@@ -192,7 +299,7 @@ module _ (ps : List Placed) (by_name : List ℕ) (s : AreSorted name_cmp ps by_n
   names_distinct : AreDistinct by_name
   names_distinct = rising_distinct name_cmp names_order ps by_name s.rising
 
-  module _ (order : List ℕ) (o : AreSorted (epoch_cmp (nodes_of ps)) ps order) (i : ℕ) (wi : i < length by_name) (own : ℕ) (mine : IsOwn order (slice_index by_name i) own) where
+  module _ {order : List ℕ} (o : AreSorted (epoch_cmp (nodes_of ps)) ps order) (i : ℕ) (wi : i < length by_name) {own : ℕ} (mine : IsOwn order (slice_index by_name i) own) where
     abbrev place : ℕ
     place = slice_index by_name i
 
@@ -205,7 +312,7 @@ module _ (ps : List Placed) (by_name : List ℕ) (s : AreSorted name_cmp ps by_n
     -- it stands before this one, or is this one
     ordered_up : (j : ℕ) → j < length order → up_to (at i) (name_in ps order j) ≡ true → ((b : ℕ) × (b < i) × (up_to (at i) (at b) ≡ true) × (at b ≡ name_in ps order j)) ⊎ (j < own)
     ordered_up j h u =
-        let b = ordered_at order o.within j h in
+        let b = ordered_at o j h in
         let q : at b.0 ≡ name_in ps order j = ap (place_name ps) b.2 in
         let v = subst (λ f. up_to (at i) f ≡ true) (sym q) u in
         let l = not_later i b.0 wi b.1 v in
@@ -245,7 +352,7 @@ module _ (ps : List Placed) (by_name : List ℕ) (s : AreSorted name_cmp ps by_n
               (λ l. omega arith) (ordered_up j h u);
         }
 
-  module _ (order ranks : List ℕ) (i : ℕ) (wi : i < length by_name) (a : AreRaised ps by_name order i ranks) where
+  module _ {order ranks : List ℕ} (i : ℕ) (wi : i < length by_name) (a : AreRaised ps by_name order i ranks) where
     abbrev put : ℕ
     put = slice_index by_name i
 
@@ -266,8 +373,8 @@ module _ (ps : List Placed) (by_name : List ℕ) (s : AreSorted name_cmp ps by_n
         other : (b : ℕ) → b < length by_name → (b ≡ i → ⊥) → slice_index (set ranks put x) (slice_index by_name b) ≡ slice_index ranks (slice_index by_name b)
         other b w n = get_or-set_other ranks put (slice_index by_name b) x 0 (λ e. n (names_distinct b i w wi e))
 
-  pub raised_begins : (order ranks : List ℕ) → AreSorted (epoch_cmp (nodes_of ps)) ps order → length ranks ≡ length ps → ((j : ℕ) → j < length order → slice_index ranks (slice_index order j) ≡ suc j) → AreRaised ps by_name order 0 ranks
-  raised_begins order ranks o w own = record {
+  pub raised_begins : {order ranks : List ℕ} → AreSorted (epoch_cmp (nodes_of ps)) ps order → length ranks ≡ length ps → ((j : ℕ) → j < length order → slice_index ranks (slice_index order j) ≡ suc j) → AreRaised ps by_name order 0 ranks
+  raised_begins {order = order} {ranks = ranks} o w own = record {
     whole = w;
     ranked = λ b h l. absurd (omega arith);
     own = λ b h l.
@@ -278,172 +385,66 @@ module _ (ps : List Placed) (by_name : List ℕ) (s : AreSorted name_cmp ps by_n
         record { some = omega arith; in_range = omega arith; own = ap (slice_index order) q ∙ j.2 };
   }
 
-  pub raised_ends : (order ranks : List ℕ) (i : ℕ) → AreRaised ps by_name order i ranks → length by_name ≤ i → AreRanked ps order ranks
-  raised_ends order ranks i a l = record {
+  pub raised_ends : {order ranks : List ℕ} (i : ℕ) → AreRaised ps by_name order i ranks → length by_name ≤ i → AreRanked ps order ranks
+  raised_ends {order = order} {ranks = ranks} i a l = record {
     whole = a.whole;
     each = λ k h. let b = index_at k h in let w = b.1 in subst (λ j. IsRank ps order (place_name ps j) (slice_index ranks j)) b.2 (a.ranked b.0 (omega arith) b.1);
   }
 
-  -- ---- one more node
+  -- ---- one more node in order of names
 
-  module _ (order old : List ℕ) (at_order : ℕ) (x : IsAdded ps order old at_order) where
-    nodes_length : length ps ≡ length x.older + 1
-    nodes_length = ap length x.nodes_are ∙ length_push x.older x.node
+  module _ {order old : List ℕ} {at_order : ℕ} (x : IsAdded ps order old at_order) (index : ℕ) (wi : index < length by_name) (here : suc (slice_index by_name index) ≡ length ps) (alone : (a : ℕ) → a < length by_name → up_to (at a) (at index) ≡ true → a ≡ index) where
+    last_is : slice_index by_name index ≡ length x.older
+    last_is = let c = nodes_length x in omega arith
 
-    pub order_length : length order ≡ length x.front + 1
-    order_length =
-        let a = ap length x.order_is ∙ length-append (take at_order x.front) (length x.older ∷ drop at_order x.front) in
-        let b = length-take-le at_order x.front x.place in
-        let c = length-drop at_order x.front in
-        let d = x.place in
+    none_up : (k : ℕ) → k < length x.older → up_to (place_name ps k) (place_name ps (length x.older)) ≡ true → ⊥
+    none_up k h u =
+        let c = nodes_length x in
+        let b = index_at k (omega arith) in
+        let v = subst (λ j. up_to (at b.0) (place_name ps j) ≡ true) (sym last_is) (subst (λ j. up_to (place_name ps j) (place_name ps (length x.older)) ≡ true) (sym b.2) u) in
+        let y = ap (slice_index by_name) (alone b.0 b.1 v) in
+        let z = b.2 in
+        let w = last_is in
         omega arith
 
-    name_old : (k : ℕ) → k < length x.older → place_name ps k ≡ place_name x.older k
-    name_old k h = ap (λ (zs : List Placed). place_name zs k) x.nodes_are ∙ place_more x.older x.node k h
+    -- the new one has its own rank
+    pub own_added : IsOwn order (slice_index by_name index) (at_order + 1)
+    own_added =
+        let l = order_length x in
+        let p = x.place in
+        let n : at_order + 1 - 1 ≡ at_order = omega arith in
+        record { some = omega arith; in_range = omega arith; own = ap (slice_index order) n ∙ (order_here x ∙ sym last_is) }
 
-    rank_old : (k : ℕ) → k < length x.older → slice_index old k ≡ slice_index x.before k
-    rank_old k h = ap (λ zs. slice_index zs k) x.ranks_are ∙ get_or_append_left x.before (0 ∷ []) 0 k (let b = x.ranked.whole in omega arith)
+    module _ (new : List ℕ) (moved : (k : ℕ) → k < length old → slice_index new k ≡ rank_after at_order (slice_index old k)) where
+      moved_rank : (k : ℕ) → k < length x.older → IsRank ps order (place_name ps k) (slice_index new k)
+      moved_rank k h = subst (IsRank ps order (place_name ps k)) (sym (moved k (let a = old_whole x in let c = nodes_length x in omega arith))) (rank_moved x none_up k h)
 
-    rank_last : slice_index old (length x.older) ≡ 0
-    rank_last = ap (λ zs. slice_index zs (length x.older)) x.ranks_are ∙ get_or_push x.before 0 0 (length x.older) x.ranked.whole
+      -- beside what is written for the last one
+      beside : (y k : ℕ) → k < length x.older → slice_index (set new (slice_index by_name index) y) k ≡ slice_index new k
+      beside y k h = get_or-set_other new (slice_index by_name index) k y 0 (λ q. let w = last_is in omega arith)
 
-    -- no rank is greater than there were places
-    pub ranks_most : (k : ℕ) → k < length old → slice_index old k ≤ length x.front
-    ranks_most k h =
-        let a = ap length x.ranks_are ∙ length_push x.before 0 in
-        let b = x.ranked.whole in
-        ⊎_elim (λ g. let e = rank_old k g in let r = (x.ranked.each k g).in_range in omega arith)
-        (λ g. let q : length x.older ≡ k = omega arith in let e = ap (slice_index old) (sym q) ∙ rank_last in omega arith) (cases_lt k (length x.older))
+      pub before_added : (y : ℕ) → 0 < index → IsRank ps order (at (index - 1)) (slice_index (set new (slice_index by_name index) y) (slice_index by_name (index - 1)))
+      before_added y z =
+          let k = slice_index by_name (index - 1) in
+          let w = at_place (index - 1) (omega arith) in
+          let c = nodes_length x in
+          let l = last_is in
+          let h : k < length x.older = ⊎_elim (λ g. g) (λ g. let q = names_distinct (index - 1) index (omega arith) wi (omega arith) in absurd (omega arith)) (cases_lt k (length x.older)) in
+          subst (IsRank ps order (at (index - 1))) (sym (beside y k h)) (moved_rank k h)
 
-    pub old_whole : length old ≡ length ps
-    old_whole = let a = ap length x.ranks_are ∙ length_push x.before 0 in let b = x.ranked.whole in let c = nodes_length in omega arith
-
-    order_below : (i : ℕ) → i < at_order → slice_index order i ≡ slice_index x.front i
-    order_below i h =
-        ap (λ zs. slice_index zs i) x.order_is
-        ∙ (get_or_append_left (take at_order x.front) (length x.older ∷ drop at_order x.front) 0 i (let b = length-take-le at_order x.front x.place in omega arith) ∙ get_or-take at_order x.front i 0 h)
-
-    pub order_here : slice_index order at_order ≡ length x.older
-    order_here = ap (λ zs. slice_index zs at_order) x.order_is ∙ get_or_at (take at_order x.front) (length x.older) (drop at_order x.front) 0 at_order (length-take-le at_order x.front x.place)
-
-    order_above : (i : ℕ) → at_order ≤ i → slice_index order (suc i) ≡ slice_index x.front i
-    order_above i h =
-        let n : suc i - at_order ≡ suc (i - at_order) = omega arith in
-        let m : at_order + (i - at_order) ≡ i = omega arith in
-        ap (λ zs. slice_index zs (suc i)) x.order_is
-        ∙ (get_or-append_right (take at_order x.front) (length x.older ∷ drop at_order x.front) at_order (suc i) 0 (length-take-le at_order x.front x.place) (omega arith)
-        ∙ (ap (slice_index (length x.older ∷ drop at_order x.front)) n ∙ (get_or-drop at_order x.front (i - at_order) 0 ∙ ap (slice_index x.front) m)))
-
-    named_old : (i j : ℕ) → j < length x.front → slice_index order i ≡ slice_index x.front j → name_in ps order i ≡ name_in x.older x.front j
-    named_old i j h e = ap (place_name ps) e ∙ name_old (slice_index x.front j) (x.within (slice_index x.front j) (read_in x.front j h))
-
-    -- where the new one is up to none of the others, these have the same greatest epochs as before
-    module _ (alone : (k : ℕ) → k < length x.older → up_to (place_name ps k) (place_name ps (length x.older)) ≡ true → ⊥) where
-      pub rank_moved : (k : ℕ) → k < length x.older → IsRank ps order (place_name ps k) (rank_after at_order (slice_index old k))
-      rank_moved k h =
-          subst (λ n. IsRank ps order (place_name ps k) (rank_after at_order n)) (sym (rank_old k h))
-          (subst (λ e. IsRank ps order e (rank_after at_order (slice_index x.before k))) (sym (name_old k h)) (go (nat_lt at_order (slice_index x.before k)) refl))
-        where
-          e : EpochName
-          e = place_name x.older k
-
-          r : IsRank x.older x.front e (slice_index x.before k)
-          r = x.ranked.each k h
-
-          named : (i j : ℕ) → j < length x.front → slice_index order i ≡ slice_index x.front j → up_to e (name_in ps order i) ≡ up_to e (name_in x.older x.front j)
-          named i j g q = ap (up_to e) (named_old i j g q)
-
-          most : (n : ℕ) → slice_index x.before k ≤ n → (at_order < slice_index x.before k → slice_index x.before k < n) → (i : ℕ) → i < length order → up_to e (name_in ps order i) ≡ true → i < n
-          most n g t i w u =
-              let l = order_length in
-              ⊎_elim (λ m. let p = x.place in let y = r.most i (omega arith) (sym (named i i (omega arith) (order_below i m)) ∙ u) in omega arith)
-              (λ m. ⊎_elim (λ q. above i q w u) (λ q. let y : at_order ≡ i = omega arith in
-              absurd (alone k h (subst (λ f. up_to f (place_name ps (length x.older)) ≡ true) (sym (name_old k h)) (subst (λ j. up_to e (place_name ps j) ≡ true) (ap (slice_index order) (sym y) ∙ order_here) u)))) (cases_lt at_order i)) (cases_lt i at_order)
-            where
-              above : (i : ℕ) → at_order < i → i < length order → up_to e (name_in ps order i) ≡ true → i < n
-              above zero q w u = absurd (omega arith)
-              above (suc i) q w u =
-                  let l = order_length in
-                  let y = r.most i (omega arith) (sym (named (suc i) i (omega arith) (order_above i (omega arith))) ∙ u) in
-                  let z = t (omega arith) in
-                  omega arith
-
-          go : (b : Bool) → nat_lt at_order (slice_index x.before k) ≡ b → IsRank ps order e (if b then suc (slice_index x.before k) else slice_index x.before k)
-          go true q =
-              let g = lt_is at_order (slice_index x.before k) q in
-              let y = r.in_range in
-              let l = order_length in
-              let n : suc (slice_index x.before k - 1) ≡ slice_index x.before k = omega arith in
-              record {
-                in_range = omega arith;
-                held = λ p.
-                    let same = ap (slice_index order) (sym n) ∙ order_above (slice_index x.before k - 1) (omega arith) in
-                    let back : suc (slice_index x.before k) - 1 ≡ slice_index x.before k = omega arith in
-                    subst (λ (j : ℕ). up_to e (name_in ps order j) ≡ true) (sym back) (named (slice_index x.before k) (slice_index x.before k - 1) (omega arith) same ∙ r.held (omega arith));
-                most = most (suc (slice_index x.before k)) (omega arith) (λ t. omega arith);
-              }
-          go false q =
-              let g = not_lt_is at_order (slice_index x.before k) q in
-              let y = r.in_range in
-              let l = order_length in
-              record {
-                in_range = omega arith;
-                held = λ p. named (slice_index x.before k - 1) (slice_index x.before k - 1) (omega arith) (order_below (slice_index x.before k - 1) (omega arith)) ∙ r.held p;
-                most = most (slice_index x.before k) (omega arith) (λ t. absurd (omega arith));
-              }
-
-    module _ (o : AreSorted (epoch_cmp (nodes_of ps)) ps order) (index : ℕ) (wi : index < length by_name) (here : suc (slice_index by_name index) ≡ length ps) (alone : (a : ℕ) → a < length by_name → up_to (at a) (at index) ≡ true → a ≡ index) where
-      last_is : slice_index by_name index ≡ length x.older
-      last_is = let c = nodes_length in omega arith
-
-      none_up : (k : ℕ) → k < length x.older → up_to (place_name ps k) (place_name ps (length x.older)) ≡ true → ⊥
-      none_up k h u =
-          let c = nodes_length in
-          let b = index_at k (omega arith) in
-          let v = subst (λ j. up_to (at b.0) (place_name ps j) ≡ true) (sym last_is) (subst (λ j. up_to (place_name ps j) (place_name ps (length x.older)) ≡ true) (sym b.2) u) in
-          let y = ap (slice_index by_name) (alone b.0 b.1 v) in
-          let z = b.2 in
-          let w = last_is in
-          omega arith
-
-      -- the new one has its own rank
-      pub own_added : IsOwn order (slice_index by_name index) (at_order + 1)
-      own_added =
-          let l = order_length in
-          let p = x.place in
-          let n : at_order + 1 - 1 ≡ at_order = omega arith in
-          record { some = omega arith; in_range = omega arith; own = ap (slice_index order) n ∙ (order_here ∙ sym last_is) }
-
-      module _ (new : List ℕ) (moved : (k : ℕ) → k < length old → slice_index new k ≡ rank_after at_order (slice_index old k)) where
-        moved_rank : (k : ℕ) → k < length x.older → IsRank ps order (place_name ps k) (slice_index new k)
-        moved_rank k h = subst (IsRank ps order (place_name ps k)) (sym (moved k (let a = old_whole in let c = nodes_length in omega arith))) (rank_moved none_up k h)
-
-        -- beside what is written for the last one
-        beside : (y k : ℕ) → k < length x.older → slice_index (set new (slice_index by_name index) y) k ≡ slice_index new k
-        beside y k h = get_or-set_other new (slice_index by_name index) k y 0 (λ q. let w = last_is in omega arith)
-
-        pub before_added : (y : ℕ) → 0 < index → IsRank ps order (at (index - 1)) (slice_index (set new (slice_index by_name index) y) (slice_index by_name (index - 1)))
-        before_added y z =
-            let k = slice_index by_name (index - 1) in
-            let w = at_place (index - 1) (omega arith) in
-            let c = nodes_length in
-            let l = last_is in
-            let h : k < length x.older = ⊎_elim (λ g. g) (λ g. let q = names_distinct (index - 1) index (omega arith) wi (omega arith) in absurd (omega arith)) (cases_lt k (length x.older)) in
-            subst (IsRank ps order (at (index - 1))) (sym (beside y k h)) (moved_rank k h)
-
-        pub added_ranked : length new ≡ length old → (y z : ℕ) → IsRank ps order (at index) z → AreRanked ps order (set (set new (slice_index by_name index) y) (slice_index by_name index) z)
-        added_ranked e y z r =
-            let k = slice_index by_name index in
-            record {
-              whole = length-set (set new k y) k z ∙ (length-set new k y ∙ (e ∙ old_whole));
-              each = λ j h.
-                  ⊎_elim
-                  (λ g. subst (IsRank ps order (place_name ps j)) (sym (get_or-set_other (set new k y) k j z 0 (λ q. let w = last_is in omega arith) ∙ beside y j g)) (moved_rank j g))
-                  (λ g. let c = nodes_length in
-                  let w = last_is in
-                  let q : k ≡ j = omega arith in
-                  let a = old_whole in
-                  let b = length-set new k y in
-                  subst (λ (n : ℕ). IsRank ps order (place_name ps n) (slice_index (set (set new k y) k z) n)) q (subst (IsRank ps order (at index)) (sym (get_or-set_same (set new k y) k z 0 (omega arith))) r))
-                  (cases_lt j (length x.older));
-            }
+      pub added_ranked : length new ≡ length old → (y z : ℕ) → IsRank ps order (at index) z → AreRanked ps order (set (set new (slice_index by_name index) y) (slice_index by_name index) z)
+      added_ranked e y z r =
+          let k = slice_index by_name index in
+          record {
+            whole = length-set (set new k y) k z ∙ (length-set new k y ∙ (e ∙ old_whole x));
+            each = λ j h.
+                ⊎_elim
+                (λ g. subst (IsRank ps order (place_name ps j)) (sym (get_or-set_other (set new k y) k j z 0 (λ q. let w = last_is in omega arith) ∙ beside y j g)) (moved_rank j g))
+                (λ g. let c = nodes_length x in
+                let w = last_is in
+                let q : k ≡ j = omega arith in
+                let a = old_whole x in
+                let b = length-set new k y in
+                subst (λ (n : ℕ). IsRank ps order (place_name ps n) (slice_index (set (set new k y) k z) n)) q (subst (IsRank ps order (at index)) (sym (get_or-set_same (set new k y) k z 0 (omega arith))) r))
+                (cases_lt j (length x.older));
+          }

@@ -7,7 +7,7 @@ use Rattle.rls_epoch.proofs.tree.Tree.raised_rank.Goals as goal
 
 pub returns-then-i-eq0 : goal.returns-then-i-eq0
 returns-then-i-eq0 c = rw (c.entry-rank.ensures.entry, c.place_by_name-place.ensures.place) record {
-  rank = raised_first c.args.self.now.nodes.placed c.args.self.now.by_name.items c.args.self.now.by_name_is c.args.self.now.order.items c.args.self.now.order_is c.args.i c.requires.within _ c.requires.own (omega arith);
+  rank = raised_first c.args.self.now.by_name_is c.args.self.now.order_is c.args.i c.requires.within c.requires.own (omega arith);
 }
 
 pub returns-then-not-is_up_to : goal.returns-then-not-is_up_to
@@ -18,7 +18,7 @@ returns-then-not-is_up_to c =
     let u : up_to (name_in ps names i) (name_in ps names (i - 1)) ≡ false =
     rw (c.name_of.ensures.name, c.name_of-2.ensures.name, c.place_by_name-place.ensures.place, c.place_by_name-before.ensures.place) at (sym c.is_up_to.ensures.up_to ∙ c.if-not-is_up_to.true) in
     rw (c.entry-rank.ensures.entry, c.place_by_name-place.ensures.place) record {
-      rank = raised_other ps names c.args.self.now.by_name_is c.args.self.now.order.items c.args.self.now.order_is i c.requires.within _ c.requires.own (omega arith) u;
+      rank = raised_other c.args.self.now.by_name_is c.args.self.now.order_is i c.requires.within c.requires.own (omega arith) u;
     }
 
 pub returns : goal.returns
@@ -36,4 +36,4 @@ returns c =
     let least : mine ≤ c.max.result = omega arith in
     let most : before ≤ c.max.result = omega arith in
     let either : (c.max.result ≡ mine) ⊎ (c.max.result ≡ before) = ⊎_elim (λ h. inr (omega arith)) (λ h. inl (omega arith)) (cases_lt mine before) in
-    record { rank = raised_more ps names c.args.self.now.by_name_is c.args.self.now.order.items c.args.self.now.order_is i c.requires.within mine c.requires.own (omega arith) u before (c.requires.before (omega arith)) c.max.result least most either }
+    record { rank = raised_more c.args.self.now.by_name_is c.args.self.now.order_is i c.requires.within c.requires.own (omega arith) u before (c.requires.before (omega arith)) c.max.result least most either }

@@ -18,7 +18,7 @@ rank_alone-requires-clause-distinct c =
 pub loop-i-init : goal.loop-i-init
 loop-i-init c =
     let t = c.args.self.now in
-    raised_begins t.nodes.placed t.by_name.items t.by_name_is t.order.items c.rank_alone.new.ranks t.order_is (c.rank_alone.ensures.whole ∙ c.requires.whole) (rw c.deref.ensures.value at c.rank_alone.ensures.own)
+    raised_begins t.by_name_is t.order_is (c.rank_alone.ensures.whole ∙ c.requires.whole) (rw c.deref.ensures.value at c.rank_alone.ensures.own)
 
 pub raised_rank-rank-requires : goal.raised_rank-rank-requires
 raised_rank-rank-requires c =
@@ -39,9 +39,7 @@ loop-i-preserved c =
     let t = c.args.self.now in
     let i = c.loop-i.i in
     subst (AreRaised t.nodes.placed t.by_name.items t.order.items (i + 1)) (sym (rw c.place_by_name.ensures.place at c.set_entry.ensures.set))
-    (raised_next t.nodes.placed t.by_name.items t.by_name_is t.order.items c.loop-i.ranks i (omega arith) c.loop-i.invariant c.raised_rank-rank.result c.raised_rank-rank.ensures.rank)
+    (raised_next t.by_name_is i (omega arith) c.loop-i.invariant c.raised_rank-rank.result c.raised_rank-rank.ensures.rank)
 
 pub returns : goal.returns
-returns c =
-    let t = c.args.self.now in
-    record { ranked = raised_ends t.nodes.placed t.by_name.items t.by_name_is t.order.items c.loop-i.ranks c.loop-i.i c.loop-i.invariant (omega arith) }
+returns c = record { ranked = raised_ends c.args.self.now.by_name_is c.loop-i.i c.loop-i.invariant (omega arith) }
