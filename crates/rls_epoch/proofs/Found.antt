@@ -50,7 +50,7 @@ kept_at top ps (suc k) e h = go (slice_get ps k) refl h
         or_right (name_eq e top) (has_node (nodes_of ps) e) (ap (has_node (nodes_of ps)) (sym q) ∙ place_kept ps k (slice_get_within ps k p g))
 
 -- a name that isn't at its place isn't there
-module _ (top : EpochName) (ps : List Placed) (by_name : List ℕ) (s : AreSorted name_cmp ps by_name) (e : EpochName) (i : ℕ) (c : IsCut name_cmp (names_at ps by_name) e i) (n : name_eq e top ≡ false) where
+module _ (top : EpochName) {ps : List Placed} {by_name : List ℕ} (s : AreSorted name_cmp ps by_name) {e : EpochName} {i : ℕ} (c : IsCut name_cmp (names_at ps by_name) e i) (n : name_eq e top ≡ false) where
   found : has_node (nodes_of ps) e ≡ true → slice_get (names_at ps by_name) i ≡ Some e
   found h = cut_found name_cmp names_order (names_at ps by_name) s.rising e i c (sorted_in name_cmp ps by_name s e h)
 

@@ -38,7 +38,7 @@ pub rises_of : (ns : List Node) (es : List EpochName) → AreRising (epoch_cmp n
 rises_of ns [] r = tt
 rises_of ns (e ∷ es) r = (below_of ns e es r.0, rises_of ns es r.1)
 
-module _ (top : EpochName) (ps : List Placed) (l : AreLaid top ps) (order : List ℕ) (s : AreSorted (epoch_cmp (nodes_of ps)) ps order) where
+module _ {top : EpochName} {ps : List Placed} (l : AreLaid top ps) {order : List ℕ} (s : AreSorted (epoch_cmp (nodes_of ps)) ps order) where
   abbrev N : List Node
   N = nodes_of ps
 
@@ -98,7 +98,7 @@ module _ (top : EpochName) (ps : List Placed) (l : AreLaid top ps) (ms : List �
     left = u ∷ names_at new (kept_places M order)
 
     left_kept : (f : EpochName) → IsIn f left → is_kept u (nodes_of new) f ≡ true
-    left_kept = order_in u new (laid_kept top ps l ms w t tl e es a) (kept_places M order) (order_kept top ps l ms w t tl e es a order s)
+    left_kept = order_in (laid_kept top ps l ms w t tl e es a) (order_kept top ps l ms w t tl e es a order s)
 
     pub spanned_left : u ∷ kept_names ps M order ≡ spanned top (nodes_of ps) e es
     spanned_left =
@@ -110,12 +110,12 @@ module _ (top : EpochName) (ps : List Placed) (l : AreLaid top ps) (ms : List �
         let u_kept = top_is_kept top ps l ms w t tl e es a in
         ap (λ fs. u ∷ fs) (names_left order s.within)
         ∙ same_rising N left (spanned top N e es)
-        (rises_of N left (rising_same (epoch_cmp (nodes_of new)) (epoch_cmp N) left (λ f g p q. cmp_window v f g (left_kept f p) (left_kept g q)) (order_rises u new k (kept_places M order) o)))
+        (rises_of N left (rising_same (epoch_cmp (nodes_of new)) (epoch_cmp N) left (λ f g p q. cmp_window v f g (left_kept f p) (left_kept g q)) (order_rises k o)))
         (spanned_rises top N l.nodes l.below e es)
         (λ f p. spanned_in top N e es f (kept_window v f (left_kept f p))
         (kept_keep top N l.nodes e es u a.top_is f (subst (λ (xs : List Node). is_kept u xs f ≡ true) n (left_kept f p))))
         (λ f p. let r = in_spanned top N e es f p in
-        in_order_of u new k (kept_places M order) o f
+        in_order_of k o f
         (subst (λ (xs : List Node). is_kept u xs f ≡ true) (sym n) (keep_kept top N l.nodes l.below e es u u_kept a.top_is f r.0 r.1)))
 
   sum_renamings : (ns : List Node) → sum_by (λ (R : Renaming). length R.former) (map (λ n. n.renaming) ns) ≡ former_sum ns

@@ -71,10 +71,10 @@ names_length (n ∷ ns) = ap suc (names_length ns)
 pub nodes_length : (ps : List Placed) → length (nodes_of ps) ≡ length ps
 nodes_length ps = length-map (reverse ps) node_of ∙ length-reverse ps
 
-pub order_length : (top : EpochName) (ps : List Placed) → AreLaid top ps → (order : List ℕ) → AreSorted (epoch_cmp (nodes_of ps)) ps order → length order ≡ length ps
-order_length top ps l order s =
+pub order_length : {top : EpochName} {ps : List Placed} → AreLaid top ps → {order : List ℕ} → AreSorted (epoch_cmp (nodes_of ps)) ps order → length order ≡ length ps
+order_length {top = top} {ps = ps} l {order = order} s =
     let N = nodes_of ps in
-    let a = ap length (rising_is top ps l order s) in
+    let a = ap length (rising_is l s) in
     let b = length-in_order N (top ∷ names N) in
     let c = names_length N in
     let d = length-map order (place_name ps) in
@@ -115,5 +115,5 @@ pub parent_found : (top : EpochName) (ps : List Placed) → AreLaid top ps → (
 parent_found top ps l n o h w e = ap Some e ∙ (ap (option_map (λ (f : EpochName). Some f)) (sym (parent_later top ps l n h w)) ∙ map_some (node_for (nodes_of ps) (epoch_at top ps n)))
 
 -- the whole tree, by the places in its order
-pub rising_named : (top : EpochName) (ps : List Placed) → AreLaid top ps → (order : List ℕ) → AreSorted (epoch_cmp (nodes_of ps)) ps order → (i n : ℕ) → slice_get (0 ∷ map suc order) i ≡ Some n → slice_get (rising_epochs (record { top = top; nodes = nodes_of ps })) i ≡ Some (epoch_at top ps n)
-rising_named top ps l order s i n g = ap (λ es. slice_get es i) (rising_is top ps l order s) ∙ number_named top ps order i n g
+pub rising_named : {top : EpochName} {ps : List Placed} → AreLaid top ps → {order : List ℕ} → AreSorted (epoch_cmp (nodes_of ps)) ps order → (i n : ℕ) → slice_get (0 ∷ map suc order) i ≡ Some n → slice_get (rising_epochs (record { top = top; nodes = nodes_of ps })) i ≡ Some (epoch_at top ps n)
+rising_named {top = top} {ps = ps} l {order = order} s i n g = ap (λ es. slice_get es i) (rising_is l s) ∙ number_named top ps order i n g

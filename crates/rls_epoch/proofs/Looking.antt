@@ -58,7 +58,7 @@ pub record IsLooking (ps : List Placed) (by_name order v : List ℕ) (rest rank 
   pub held : 0 < rank → is_within (name_in ps order (rank - 1)) v ≡ true
   pub most : (i : ℕ) → i < length order → is_within (name_in ps order i) v ≡ true → (i < rank) ⊎ ((a : ℕ) × (a < rest) × (name_in ps by_name a ≡ name_in ps order i))
 
-module _ (top : EpochName) (ps : List Placed) (l : AreLaid top ps) (by_name order v : List ℕ) (s : AreSorted name_cmp ps by_name) (o : AreSorted (epoch_cmp (nodes_of ps)) ps order) where
+module _ {top : EpochName} {ps : List Placed} (l : AreLaid top ps) {by_name order : List ℕ} (v : List ℕ) (s : AreSorted name_cmp ps by_name) (o : AreSorted (epoch_cmp (nodes_of ps)) ps order) where
   pub looking_begins : IsLooking ps by_name order v (length by_name) 0
   looking_begins = record {
     in_range = omega arith;
@@ -74,7 +74,7 @@ module _ (top : EpochName) (ps : List Placed) (l : AreLaid top ps) (by_name orde
       let g = get_of ps k (at_place s (rest - 1) (omega arith)) in
       ((g.0).renaming.replica, (g.0).renaming.seq, name_read ps k g.0 g.1)
 
-  module _ (rest rank : ℕ) (k : IsLooking ps by_name order v rest rank) (z : 0 < rest) (next : ℕ) (c : IsCut name_cmp (names_at ps by_name) (first_of (name_in ps by_name (rest - 1))) next) (n : next ≤ length by_name) where
+  module _ {rest rank : ℕ} (k : IsLooking ps by_name order v rest rank) (z : 0 < rest) {next : ℕ} (c : IsCut name_cmp (names_at ps by_name) (first_of (name_in ps by_name (rest - 1))) next) (n : next ≤ length by_name) where
     abbrev last : EpochName
     last = name_in ps by_name (rest - 1)
 
@@ -110,21 +110,21 @@ module _ (top : EpochName) (ps : List Placed) (l : AreLaid top ps) (by_name orde
         before : (b : ℕ) → b < length by_name → name_cmp (name_in ps by_name b) (first_of last) ≡ Less → b < next
         before b h x = ⊎_elim (λ g. g) (λ g. absurd (cut_after name_cmp names_order ps by_name s.rising (first_of last) next c b g h x)) (cases_lt b next)
 
-  module _ (rank : ℕ) (k : IsLooking ps by_name order v 0 rank) where
+  module _ {rank : ℕ} (k : IsLooking ps by_name order v 0 rank) where
     -- what is within the vector was found
     found_all : (i : ℕ) → i < length order → is_within (name_in ps order i) v ≡ true → i < rank
     found_all i h x = ⊎_elim (λ g. g) (λ b. let y = b.1 in absurd (omega arith)) (k.most i h x)
 
     pub looked_none : rank ≡ 0 → top ≡ greatest_within top (nodes_of ps) v
     looked_none z =
-        within_none top ps l order o v
+        within_none l o v
         (λ e p. not_true (is_within e v) (λ x. let b = name_index ps order e p in let g = found_all b.0 b.1 (subst (λ f. is_within f v ≡ true) (sym b.2) x) in omega arith))
 
     pub looked_at : 0 < rank → name_in ps order (rank - 1) ≡ greatest_within top (nodes_of ps) v
     looked_at z =
         let w = k.ranked in
         let at : slice_get order (rank - 1) ≡ Some (slice_index order (rank - 1)) = slice_get-get_or order (rank - 1) 0 (omega arith) in
-        within_at top ps l order o v (take (rank - 1) order) (slice_index order (rank - 1)) (drop (suc (rank - 1)) order) (get_split order (rank - 1) (slice_index order (rank - 1)) at) (k.held z)
+        within_at l o v (take (rank - 1) order) (slice_index order (rank - 1)) (drop (suc (rank - 1)) order) (get_split order (rank - 1) (slice_index order (rank - 1)) at) (k.held z)
         (λ e p. not_true (is_within e v)
         (λ x. let b = name_index ps (drop (suc (rank - 1)) order) e p in
         let y = b.1 in
@@ -134,7 +134,7 @@ module _ (top : EpochName) (ps : List Placed) (l : AreLaid top ps) (by_name orde
         omega arith))
 
 -- the member of a name at an index is one of those that the vector counts
-pub member_at : (top : EpochName) (ps : List Placed) (by_name : List ℕ) (s : AreSorted name_cmp ps by_name) (n : ℕ) → ((e : EpochName) → is_kept top (nodes_of ps) e ≡ true → is_of_member n e ≡ true) → (a : ℕ) → a < length by_name → is_of_member n (name_in ps by_name a) ≡ true
-member_at top ps by_name s n m a h =
+pub member_at : (top : EpochName) {ps : List Placed} {by_name : List ℕ} (s : AreSorted name_cmp ps by_name) (n : ℕ) → ((e : EpochName) → is_kept top (nodes_of ps) e ≡ true → is_of_member n e ≡ true) → (a : ℕ) → a < length by_name → is_of_member n (name_in ps by_name a) ≡ true
+member_at top {ps = ps} {by_name = by_name} s n m a h =
     let e = name_in ps by_name a in
     m e (or_right (name_eq e top) (has_node (nodes_of ps) e) (place_kept ps (slice_index by_name a) (at_place s a h)))

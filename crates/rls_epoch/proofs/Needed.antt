@@ -120,7 +120,7 @@ module _ (top : EpochName) (ps : List Placed) (l : AreLaid top ps) (order : List
   pub reached_at : (lesser : List ℕ) (k : ℕ) (later : List ℕ) → order ≡ lesser ++ (k ∷ later) → is_within (place_name ps k) v ≡ true → ((e : EpochName) → IsIn e (names_at ps later) → is_within e v ≡ false) → ArePassed old ms (k ∷ later) →
       AreReached top ps old ms (greatest_within top (nodes_of ps) v)
   reached_at lesser k later h w n a =
-      subst (λ (e : EpochName). AreReached top ps old ms e) (within_at top ps l order s v lesser k later h w n) record {
+      subst (λ (e : EpochName). AreReached top ps old ms e) (within_at l s v lesser k later h w n) record {
         kept = a.kept;
         from = λ i g q. ⊎_elim (λ x. inl x) (λ x. inr (λ t. above x.0 x.2 (ap (λ (j : ℕ). epoch_cmp N (epoch_at top ps j) m) (sym x.1) ∙ t))) (a.from i q);
         onto = λ i g q. least i g q;
@@ -155,7 +155,7 @@ module _ (top : EpochName) (ps : List Placed) (l : AreLaid top ps) (order : List
   -- none was within the vector
   pub reached_all : ((e : EpochName) → IsIn e (names_at ps order) → is_within e v ≡ false) → ArePassed old ms order → 0 < length ms → AreReached top ps old (set ms 0 1) (greatest_within top (nodes_of ps) v)
   reached_all n a w =
-      subst (λ (e : EpochName). AreReached top ps old (set ms 0 1) e) (within_none top ps l order s v n) record {
+      subst (λ (e : EpochName). AreReached top ps old (set ms 0 1) e) (within_none l s v n) record {
         kept = λ i q. mark_kept ms 0 i (a.kept i q);
         from = λ i g q. inr (none_below top (nodes_of ps) l.below (epoch_at top ps i));
         onto = λ i g q. every i g;

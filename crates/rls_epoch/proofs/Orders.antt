@@ -62,7 +62,7 @@ in_sorted ps places w e p = let r = in_map (place_name ps) e places p in subst (
 
 -- ---- the greatest
 
-module _ (top : EpochName) (ps : List Placed) (l : AreLaid top ps) (order : List ℕ) (s : AreSorted (epoch_cmp (nodes_of ps)) ps order) where
+module _ {top : EpochName} {ps : List Placed} (l : AreLaid top ps) {order : List ℕ} (s : AreSorted (epoch_cmp (nodes_of ps)) ps order) where
   abbrev ns : List Node
   ns = nodes_of ps
 

@@ -6,7 +6,7 @@ use Rattle.rls_epoch.proofs.tree.Tree.find.Goals as goal
 
 pub returns-then-len-i-clause-none : goal.returns-then-len-i-clause-none
 returns-then-len-i-clause-none c =
-    none_at_end c.args.self.now.nodes.top c.args.self.now.nodes.placed c.args.self.now.by_name.items c.args.self.now.by_name_is c.args.name c.names_below-i.result c.names_below-i.ensures.cut (ap (name_eq c.args.name) (sym c.epoch_of-top.ensures.name) ∙ (sym c.same.ensures.same ∙ c.if-same.false)) (omega arith)
+    none_at_end c.args.self.now.nodes.top c.args.self.now.by_name_is c.names_below-i.ensures.cut (ap (name_eq c.args.name) (sym c.epoch_of-top.ensures.name) ∙ (sym c.same.ensures.same ∙ c.if-same.false)) (omega arith)
 
 pub returns-then-same-2-clause-some : goal.returns-then-same-2-clause-some
 returns-then-same-2-clause-some c =
@@ -16,5 +16,5 @@ pub returns-else-same-2-clause-none : goal.returns-else-same-2-clause-none
 returns-else-same-2-clause-none c =
     let other : name_eq (place_name c.args.self.now.nodes.placed (get_or c.args.self.now.by_name.items c.names_below-i.result 0)) c.args.name ≡ false =
     rw (c.name_of.ensures.name, c.place_by_name-place.ensures.place) at (sym c.same-2.ensures.same ∙ c.if-same-2.false) in
-    none_here c.args.self.now.nodes.top c.args.self.now.nodes.placed c.args.self.now.by_name.items c.args.self.now.by_name_is c.args.name c.names_below-i.result c.names_below-i.ensures.cut (ap (name_eq c.args.name) (sym c.epoch_of-top.ensures.name) ∙ (sym c.same.ensures.same ∙ c.if-same.false))
+    none_here c.args.self.now.nodes.top c.args.self.now.by_name_is c.names_below-i.ensures.cut (ap (name_eq c.args.name) (sym c.epoch_of-top.ensures.name) ∙ (sym c.same.ensures.same ∙ c.if-same.false))
     (omega arith) other

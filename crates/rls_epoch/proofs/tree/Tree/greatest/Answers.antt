@@ -16,11 +16,11 @@ name_of-requires c =
 pub returns-in-None : goal.returns-in-None
 returns-in-None c =
     let short : length c.args.self.now.order.items < 1 = grind (arith, common_steps) in
-    record { greatest = c.epoch_of.ensures.name ∙ greatest_none c.args.self.now.nodes.top c.args.self.now.nodes.placed c.count-count.ensures.laid c.args.self.now.order.items c.args.self.now.order_is (nothing c.args.self.now.order.items short) }
+    record { greatest = c.epoch_of.ensures.name ∙ greatest_none c.count-count.ensures.laid c.args.self.now.order_is (nothing c.args.self.now.order.items short) }
 
 pub returns-in-Some : goal.returns-in-Some
 returns-in-Some c =
     let k = c.in-Some.place.now in
     let lesser = c.in-Some.field-0-1.now in
     let q : c.args.self.now.order.items ≡ lesser ++ (k ∷ []) = search rules in
-    record { greatest = c.name_of.ensures.name ∙ greatest_last c.args.self.now.nodes.top c.args.self.now.nodes.placed c.count-count.ensures.laid c.args.self.now.order.items c.args.self.now.order_is lesser k q }
+    record { greatest = c.name_of.ensures.name ∙ greatest_last c.count-count.ensures.laid c.args.self.now.order_is lesser k q }

@@ -27,5 +27,5 @@ returns-clause-parent c =
     let ps = c.args.self.now.nodes.placed in
     let l = c.count-count.ensures.laid in
     let E : Epochs = record { top = top; nodes = nodes_of ps } in
-    let read = ap (λ (es : List EpochName). slice_get es c.place_at.result) (rising_is top ps l c.args.self.now.order.items c.args.self.now.order_is) ∙ c.place_at.ensures.place in
+    let read = ap (λ (es : List EpochName). slice_get es c.place_at.result) (rising_is l c.args.self.now.order_is) ∙ c.place_at.ensures.place in
     parent_found top ps l c.args.number (slice_get (rising_epochs E) c.place_at.result) c.if-number-eq0.false c.requires.within (read ∙ ap (λ (j : ℕ). Some (epoch_at top ps j)) c.up_of.ensures.up)
