@@ -82,8 +82,9 @@ impl Epochs {
     }
 
     /// Adds the epoch that a rename opened in another. The new one isn't marked. It takes no memory,
-    /// and cannot fail. It costs a comparison of epochs for each halving of them, and moves the
-    /// numbers of those that are greater. If one is greater, it goes over the numbers of all.
+    /// and cannot fail. It costs a few comparisons of names for each halving of the nodes and one of
+    /// epochs, and moves the numbers of those with greater names. If an epoch is greater, it costs a
+    /// comparison of epochs for each halving of them, too, and goes over the numbers of all.
     pub fn add(&mut self, replica: u32, seq: u32, parent: EpochName, renaming: Renaming)
         requires room { 0 < self.old.spare }
         requires fresh { IsFalse (is_kept self.old.epochs.top self.old.epochs.nodes (EpochName.Of replica seq)) }

@@ -141,6 +141,22 @@ impl Nodes {
         low
     }
 
+    // The same, for the number of a new epoch, which mostly is the greatest: it looks at the last one first.
+    pub(crate) fn epochs_below_newest(&self, places: &[usize], number: usize) -> usize
+        requires within { (k : ℕ) → IsIn k places.now → k < length self.now.placed }
+        requires number { number ≤ length self.now.placed }
+        ensures cut { IsCut (epoch_cmp (nodes_of self.now.placed)) (names_at self.now.placed places.now) (epoch_at self.now.top self.now.placed number) result }
+    {
+        let (_count, end) = (self.count(), places.len());
+        if end == 0 {
+            return self.epochs_below(places, number);
+        }
+        match self.compare(places[end - 1] + 1, number) {
+            Ordering::Less => end,
+            _ => self.epochs_below(places, number),
+        }
+    }
+
     // The same again.
     pub(crate) fn copy(&self) -> Result<Nodes, AllocError>
         ensures top { IfOk result (λ copy. copy.top ≡ self.now.top) }

@@ -80,7 +80,7 @@ impl Tree {
         let index = self.names_below(node.name());
         self.nodes.push(node);
         let count = self.nodes.count();
-        let at = self.nodes.epochs_below(&self.order, count);
+        let at = self.nodes.epochs_below_newest(&self.order, count);
         self.by_name.insert(index, place).unwrap();
         self.order.insert(at, place).unwrap();
         (index, at)
