@@ -1,5 +1,6 @@
 //! Waiting operations.
 
+ghost use Rattle.std.specs.Option.{option_map};
 ghost use Rattle.std.specs.Prelude.{◌≡◌, ◌-◌, ◌<◌, length, [], find, option_copied, slice_get, slice_index, true, false, Some, None, IsTrue, IfOk, OnOk, OnErr};
 ghost use Rattle.std.specs.Map.Iter.{ShowsInOrder, deref};
 ghost use Rattle.rls_ident.specs.Lists.{IsIn};
@@ -18,6 +19,7 @@ use std::collections::BTreeMap;
 use std::iter::Iterator;
 use std::marker::Model;
 use std::ops::Bound;
+use std::sync::Arc;
 
 /// An author, and the number of one of its operations.
 #[derive(Clone, Copy, PartialEq, Eq, PartialOrd, Ord, Drop)]
@@ -38,12 +40,63 @@ impl Number {
     }
 }
 
+/// An operation that waits, and a copy of it to be shared, made when it is asked for first.
+#[derive(Drop)]
+pub(crate) struct Waiting {
+    op: Op,
+    shared: Option<Arc<Op>>,
+}
+
+impl Model for Waiting {
+    ghost use Rattle.std.specs.Prelude.{◌≡◌, IfSome};
+    ghost use Rattle.rls_ops.specs.declared.op.Op.{Op};
+
+    ghost Value = { Op };
+
+    ghost view = { λ w. w.op };
+
+    ghost invariant = { λ w. IfSome w.shared (λ a. a.value ≡ w.op) };
+}
+
+impl Waiting {
+    fn new(op: Op) -> Waiting
+        ensures op { result ≡ op }
+    {
+        Waiting { op, shared: None }
+    }
+
+    pub(crate) fn op(&self) -> &Op
+        ensures op { result.now ≡ self.now }
+    {
+        &self.op
+    }
+
+    fn into_op(self) -> Op
+        ensures op { result ≡ self }
+    {
+        self.op
+    }
+
+    // The copy that is shared. It takes memory for it the first time.
+    fn share(&mut self, alloc: Global) -> Result<Arc<Op>, AllocError>
+        ensures same { self.new ≡ self.old }
+        ensures copy { IfOk result (λ copy. copy.value ≡ self.old) }
+    {
+        if let Some(copy) = &self.shared {
+            return Arc::try_clone(copy);
+        }
+        let copy = Arc::new(alloc, self.op.copy()?)?;
+        self.shared = Some(Arc::try_clone(&copy)?);
+        Ok(copy)
+    }
+}
+
 /// Waiting operations, at most one under each author and number, seen as the list of them in increasing order of author and
 /// number.
 #[derive(Drop)]
 pub struct Held {
     alloc: Global,
-    ops: BTreeMap<Number, Op>,
+    ops: BTreeMap<Number, Waiting>,
     // Whether each context that was put counts all operations of its author before its own.
     regular: bool,
 }
@@ -110,22 +163,36 @@ impl Held {
         ensures op { slice_get self.now i ≡ Some result.now }
     {
         let mut ops = self.ops.values();
-        ops.nth(i as usize).unwrap()
+        ops.nth(i as usize).unwrap().op()
     }
 
     /// The last waiting operation, if there is one. It costs a logarithm of how many wait.
     pub fn last(&self) -> Option<&Op>
         ensures last { option_copied result ≡ slice_get self.now (length self.now - 1) }
     {
-        let (_, op) = self.ops.last_key_value()?;
-        Some(op)
+        let (_, waiting) = self.ops.last_key_value()?;
+        Some(waiting.op())
     }
 
     /// What waits under this author and number. It costs a logarithm of how many wait, and no memory.
     pub fn get(&self, author: u32, seq: u32) -> Option<&Op>
         ensures waiting { option_copied result ≡ waiting_under self.now author seq }
     {
-        self.ops.get(&Number { author, seq })
+        let waiting = self.ops.get(&Number { author, seq })?;
+        Some(waiting.op())
+    }
+
+    /// A copy of what waits under this author and number, to be shared. It is made when it is asked for first, and kept with the
+    /// operation; later calls give the same one, and take no memory. Each costs a logarithm of how many wait.
+    pub fn share(&mut self, author: u32, seq: u32) -> Result<Option<Arc<Op>>, AllocError>
+        ensures same { self.new ≡ self.old }
+        ensures copy { IfOk result (λ copy. option_map (λ a. a.value) copy ≡ waiting_under self.old author seq) }
+    {
+        let Some(waiting) = self.ops.get_mut(&Number { author, seq }) else {
+            return Ok(None);
+        };
+        let copy = waiting.share(self.alloc)?;
+        Ok(Some(copy))
     }
 
     /// The first operation whose context is at most the vector: the least author's, and of these the
@@ -152,8 +219,8 @@ impl Held {
         ensures first { option_copied result ≡ find (is_from from) self.now }
         ensures order { IsTrue (is_in_order self.now) }
     {
-        let (_, op) = self.ops.range((from, Bound::Unbounded)).next()?;
-        Some(op)
+        let (_, waiting) = self.ops.range((from, Bound::Unbounded)).next()?;
+        Some(waiting.op())
     }
 
     // The bound from which a ready operation may come after one that isn't ready.
@@ -191,6 +258,15 @@ impl Held {
         ensures found { result ≡ waiting_under self.old author seq }
         ensures others { self.new ≡ without author seq self.old }
     {
+        let waiting = self.take_out(author, seq)?;
+        Some(waiting.into_op())
+    }
+
+    // The same, with the copy that is shared.
+    fn take_out(&mut self, author: u32, seq: u32) -> Option<Waiting>
+        ensures found { result ≡ waiting_under self.old author seq }
+        ensures others { self.new ≡ without author seq self.old }
+    {
         self.ops.remove(&Number { author, seq })
     }
 
@@ -201,7 +277,7 @@ impl Held {
         ensures err { OnErr result (self.new ≡ self.old) }
     {
         let regular = self.regular && counts_own(&op);
-        self.ops.insert(Number::of(&op), op)?;
+        self.ops.insert(Number::of(&op), Waiting::new(op))?;
         self.regular = regular;
         Ok(())
     }

@@ -4,7 +4,7 @@ ghost use Rattle.std.specs.Prelude.{length};
 ghost use Rattle.std.specs.Iterator.{at_most};
 ghost use Rattle.std.specs.Map.Iter.{TakesFirst, deref};
 
-use crate::held::Number;
+use crate::held::{Number, Waiting};
 use rls_ops::Op;
 use std::collections::btree_map::Values;
 use std::iter::Iterator;
@@ -13,7 +13,7 @@ use std::marker::Model;
 /// The waiting operations in increasing order of author and number, seen as the list of those to come.
 #[derive(Drop)]
 pub struct HeldOps<'a> {
-    pub(crate) ops: Values<'a, Number, Op>,
+    pub(crate) ops: Values<'a, Number, Waiting>,
 }
 
 impl<'a> Model for HeldOps<'a> {
@@ -33,6 +33,7 @@ impl<'a> Iterator for HeldOps<'a> {
     ghost remaining = { λ s. at_most (length s) };
 
     fn next(&mut self) -> Option<&'a Op> {
-        self.ops.next()
+        let waiting = self.ops.next()?;
+        Some(waiting.op())
     }
 }

@@ -1,7 +1,10 @@
-use Rattle.std.proofs.Common.{ap, ◌∙◌}
+use Rattle.std.proofs.Common.{Some, option_copied, ap, ◌∙◌}
 use Rattle.rls_causal.specs.Numbered.{numbered}
 use Rattle.rls_causal.proofs.Numbered.{looked_up}
 use Rattle.rls_causal.proofs.held.Held.get.Goals as goal
 
+pub returns-in_err-waiting : goal.returns-in_err-waiting
+returns-in_err-waiting c = record { waiting = ap option_copied c.from_residual.ensures ∙ (c.in_err-waiting.ensures.value ∙ looked_up c.self.inside.ops.entries c.args.self.now (c.self.invariant.own ∙ ap numbered c.self.view_is) record { author = c.args.author; seq = c.args.seq }) }
+
 pub returns : goal.returns
-returns c = record { waiting = c.get.ensures.value ∙ looked_up c.self.inside.ops.entries c.args.self.now (c.self.invariant.own ∙ ap numbered c.self.view_is) record { author = c.args.author; seq = c.args.seq } }
+returns c = record { waiting = ap Some c.op.ensures.op ∙ (c.in_ok-waiting.ensures.value ∙ looked_up c.self.inside.ops.entries c.args.self.now (c.self.invariant.own ∙ ap numbered c.self.view_is) record { author = c.args.author; seq = c.args.seq }) }

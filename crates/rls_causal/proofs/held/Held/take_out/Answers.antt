@@ -7,7 +7,7 @@ use Rattle.rls_causal.specs.Numbered.{numbered}
 use Rattle.rls_causal.specs.Searching.{counts_own}
 use Rattle.rls_causal.proofs.Numbered.{looked_up, removed, own_is, values_is}
 use Rattle.rls_causal.proofs.Ready.{without_counted}
-use Rattle.rls_causal.proofs.held.Held.remove.Goals as goal
+use Rattle.rls_causal.proofs.held.Held.take_out.Goals as goal
 
 pub invariant_of-self : goal.invariant_of-self
 invariant_of-self c =
