@@ -74,6 +74,12 @@ def waiting_reverse(n):
     return waiting(n)[::-1]
 
 
+def forked(n):
+    """A deletion of n characters, each alone, waits, and n times another operation comes under its number."""
+    held = op(1, 2, (0, 1, 1), deletion(*[(2 * k, 1) for k in range(n)]))
+    return [held, *[op(1, 2, (0, 1, 1), LEAVE)] * n]
+
+
 def gone(n):
     """Member 1 deletes every second character, each alone; member 2 deletes the same, at once."""
     alone = [later(k + 2, deletion((2 * k + 1, 1))) for k in range(n)]

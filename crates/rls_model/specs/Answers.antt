@@ -1,4 +1,4 @@
--- The answers to an operation. They say what the code's types say, whose box also has an address.
+-- The answers to an operation. They say what the code's types say, whose shared operation also has an address.
 use Rattle.std.specs.Prelude.{ℕ, List, Option}
 use Rattle.rls_ident.specs.declared.tuple.Tuple.{Tuple}
 use Rattle.rls_ident.specs.declared.epoch_name.EpochName.{EpochName}

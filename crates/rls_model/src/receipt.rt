@@ -7,6 +7,7 @@ use rls_ident::{EpochName, Ident, Vector};
 use rls_ops::{Op, Shape};
 use std::alloc::{AllocError, Global};
 use std::marker::Model;
+use std::sync::Arc;
 
 /// Why an operation is refused. Of several reasons the first in this order counts. A refused operation changes nothing.
 #[derive(Drop)]
@@ -15,8 +16,8 @@ pub enum Refusal {
     Shape(Shape),
     /// It is said to be this replica's own; its number.
     Own { seq: u32 },
-    /// A different operation waits under its author and number; that one.
-    Forked { held: Box<Op> },
+    /// A different operation waits under its author and number; that one. All refusals for its sake share one copy.
+    Forked { held: Arc<Op> },
     /// Its author has left; the number of the leave.
     Left { seq: u32 },
     /// Its context is older than what its author is known to have accepted; that vector.

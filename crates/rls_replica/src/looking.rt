@@ -1,11 +1,12 @@
 //! What is answered to an operation, before anything changes.
 
-ghost use Rattle.std.specs.Prelude.{◌≡◌, List, ◌+◌, ◌<◌, ◌≤◌, ◌&&◌, not, Some, None, IfOk, IsTrue, length, map, drop, slice_get, if◌then◌else◌};
+ghost use Rattle.std.specs.Prelude.{◌≡◌, List, ◌+◌, ◌<◌, ◌≤◌, ◌&&◌, not, Some, None, IfOk, IsTrue, is_some, length, map, drop, slice_get, if◌then◌else◌};
 ghost use Rattle.rls_ident.specs.declared.tuple.Tuple.{Tuple};
 ghost use Rattle.rls_ident.specs.Tuples.{at_spot};
 ghost use Rattle.rls_ident.specs.Lists.{IsIn};
 ghost use Rattle.rls_ident.specs.Vectors.{at_most};
 ghost use Rattle.rls_rename.specs.Tree.{is_kept};
+ghost use Rattle.rls_ops.specs.declared.op.Op.{Op as OpSeen};
 ghost use Rattle.rls_ops.specs.Rows.{is_covered};
 ghost use Rattle.rls_ops.specs.Shapes.{shape_fault};
 ghost use Rattle.rls_ops.specs.Waiting.{waiting_under};
@@ -28,8 +29,9 @@ use std::alloc::AllocError;
 impl Replica {
     // The answer to an operation that arrives, where `own` says whether the replica's own operations are taken too.
     #[tactic(auto, unfolding(rls_seen::specs::Over::answer_over))]
-    pub(crate) fn look(&self, op: &Op, own: bool) -> Result<Receipt, AllocError>
-        ensures answer { IfOk result (λ r. answer_of r ≡ answer_over own self.now op.now) }
+    pub(crate) fn look(&mut self, op: &Op, own: bool) -> Result<Receipt, AllocError>
+        ensures answer { IfOk result (λ r. answer_of r ≡ answer_over own self.old op.now) }
+        ensures same { self.new ≡ self.old }
     {
         match op.check_shape(self.members()) {
             Err(shape) => Ok(Receipt::Refused(Refusal::Shape(shape))),
@@ -38,9 +40,10 @@ impl Replica {
     }
 
     // The answer to one of the right shape.
-    fn look_at_number(&self, op: &Op, own: bool) -> Result<Receipt, AllocError>
-        requires shape { shape_fault (members self.now) op.now ≡ None }
-        ensures answer { IfOk result (λ r. answer_of r ≡ answer_by own (vector self.now) self.now.acks.me self.now.waiting (refusal_over self.now op.now) op.now None) }
+    fn look_at_number(&mut self, op: &Op, own: bool) -> Result<Receipt, AllocError>
+        requires shape { shape_fault (members self.old) op.now ≡ None }
+        ensures answer { IfOk result (λ r. answer_of r ≡ answer_by own (vector self.old) self.old.acks.me self.old.waiting (refusal_over self.old op.now) op.now None) }
+        ensures same { self.new ≡ self.old }
     {
         if op.seq <= self.accepted(op.author) {
             return Ok(Receipt::Repeated);
@@ -60,9 +63,10 @@ impl Replica {
     }
 
     // The answer to one with a new number, by what waits under it.
-    fn look_beside(&self, op: &Op) -> Result<Receipt, AllocError>
-        requires shape { shape_fault (members self.now) op.now ≡ None }
-        ensures answer { IfOk result (λ r. answer_of r ≡ answer_beside (vector self.now) (refusal_over self.now op.now) op.now (waiting_under self.now.waiting op.now.author op.now.seq)) }
+    fn look_beside(&mut self, op: &Op) -> Result<Receipt, AllocError>
+        requires shape { shape_fault (members self.old) op.now ≡ None }
+        ensures answer { IfOk result (λ r. answer_of r ≡ answer_beside (vector self.old) (refusal_over self.old op.now) op.now (waiting_under self.old.waiting op.now.author op.now.seq)) }
+        ensures same { self.new ≡ self.old }
     {
         match self.held.get(op.author, op.seq) {
             None => self.look_at_causes(op),
@@ -70,20 +74,22 @@ impl Replica {
                 if held.same(op) {
                     self.look_at_causes(op)
                 } else {
-                    self.forked(held)
+                    self.forked(op.author, op.seq)
                 }
             }
         }
     }
 
-    // It is refused for the sake of this one.
-    fn forked(&self, held: &Op) -> Result<Receipt, AllocError>
-        ensures answer { IfOk result (λ r. answer_of r ≡ Refuses (Forked held.now)) }
+    // It is refused for the sake of the one that waits under this number.
+    fn forked(&mut self, author: u32, seq: u32) -> Result<Receipt, AllocError>
+        requires waits { IsTrue (is_some (waiting_under self.old.waiting author seq)) }
+        ensures answer { IfOk result (λ r. (w : OpSeen) → waiting_under self.old.waiting author seq ≡ Some w → answer_of r ≡ Refuses (Forked w)) }
+        ensures same { self.new ≡ self.old }
     {
-        let copy = held.copy()?;
-        Ok(Receipt::Refused(Refusal::Forked {
-            held: Box::new(self.alloc, copy)?,
-        }))
+        match self.held.share(author, seq)? {
+            Some(held) => Ok(Receipt::Refused(Refusal::Forked { held })),
+            None => unreachable!(),
+        }
     }
 
     // The answer to one that is alone under its number.
