@@ -6,6 +6,7 @@ use Rattle.rls_ident.specs.declared.tuple.Tuple.{Tuple}
 use Rattle.rls_ident.specs.Identifiers.{ident_lt}
 use Rattle.rls_ident.specs.Lists.{IsIn}
 use Rattle.rls_ident.proofs.Agreeing.{map_same}
+use Rattle.rls_runs.proofs.RunEnds.{count_most}
 use Rattle.rls_runs.specs.Entries.{has_ident, without_all}
 use Rattle.rls_runs.specs.Places.{below_count}
 use Rattle.rls_runs.specs.Runs.{run_idents}
@@ -56,14 +57,6 @@ place_within n ts (x ∷ xs) p q = go (has_ident ts x) (place_within (suc n) ts 
     go true f (inr u) = let l = f u in omega arith
     go false f u = let l = f u in omega arith
 
-below_within : (xs : List (List Tuple)) (x : List Tuple) → below_count xs x ≤ length xs
-below_within [] x = omega arith
-below_within (y ∷ ys) x = go (ident_lt y x) (below_within ys x)
-  where
-    go : (b : Bool) → below_count ys x ≤ length ys → (if b then suc (below_count ys x) else below_count ys x) ≤ suc (length ys)
-    go true l = omega arith
-    go false l = omega arith
-
 are_deletions : (rs : List (ℕ × ℕ)) → ((r : ℕ × ℕ) → IsIn r rs → IsEdit (deletion r)) → AreEdits (map deletion rs)
 are_deletions [] f = tt
 are_deletions (r ∷ rs) f = (f r (inl refl), are_deletions rs (λ q p. f q (inr p)))
@@ -84,7 +77,7 @@ plan_edits s (Removed e first cs) sane i =
     let xs = idents_over s in
     let room = total_room s sane in
     let l : length xs ≡ length s.text = length-map s.text (λ (y : List Tuple × ℕ). y.0) in
-    let b = below_within xs (placed_over s e first) in
+    let b = count_most xs (placed_over s e first) in
     ((omega arith, i), tt)
 
 -- ---- in a history

@@ -12,6 +12,7 @@ use Rattle.rls_model.specs.Receiving.{State}
 use Rattle.rls_model.specs.WellFormed.{IsEvent}
 use Rattle.rls_model.specs.Worlds.{World, Happening, AreEvents, happens, whole, run, fault_of, outcome_of, edit_outcome, deliver_outcome, member_fault, edit_fault_at}
 use Rattle.rls_model.proofs.Applied.{edit_applied}
+use Rattle.rls_model.proofs.WorldsRuns.{run_append, events_append}
 use Rattle.rls_model.proofs.WorldsLaws.{no_refusal, equal_vectors}
 use Rattle.rls_seen.specs.Seen.{Seen, vector}
 use Rattle.rls_seen.proofs.Alike.{greatest_alike}
@@ -24,16 +25,8 @@ use Rattle.rls_world.proofs.Standing.{BothAt, all_at, first_none, none_of}
 
 -- ---- one more event
 
-run_more : (w : World) (hs gs : List Happening) → run w (hs ++ gs) ≡ run (run w hs) gs
-run_more w [] gs = refl
-run_more w (h ∷ hs) gs = run_more (happens h.limit w h.event) hs gs
-
-events_more : (hs gs : List Happening) → AreEvents hs → AreEvents gs → AreEvents (hs ++ gs)
-events_more [] gs a b = b
-events_more (h ∷ hs) gs a b = (a.0, events_more hs gs a.1 b)
-
 pub after_more : (w : World) (hs : List Happening) (e : Event) → IsAfter w hs → IsEvent e → IsAfter (happens None w e) (hs ++ whole e ∷ [])
-after_more w hs e a d = (a.0, a.1, a.2, a.3, a.4, events_more hs (whole e ∷ []) a.5 (d, tt), run_more _ hs (whole e ∷ []) ∙ ap (λ v. happens None v e) a.6)
+after_more w hs e a d = (a.0, a.1, a.2, a.3, a.4, events_append hs (whole e ∷ []) a.5 (d, tt), run_append _ hs (whole e ∷ []) ∙ ap (λ v. happens None v e) a.6)
 
 -- ---- nothing is refused
 
