@@ -1,10 +1,9 @@
 -- What is written fits the format.
-use Rattle.std.proofs.Common.{◌≡◌, ℕ, take, ◌^◌, ◌<◌, ◌≤◌, true, List, [], ◌∷◌, ◌++◌, length, Option, Some, None, refl, sym, subst, arith}
+use Rattle.std.proofs.Common.{◌≡◌, ℕ, ◌^◌, ◌<◌, ◌≤◌, true, List, [], ◌∷◌, ◌++◌, length, Option, Some, None, refl, sym, subst, arith}
 use Rattle.std.specs.Prelude.{pos, ◌+ℤ◌, All, IsTrue, nat_lt, ◌&&◌, encode_utf8_all}
 use Rattle.std.specs.Char.{IsScalar}
 use Rattle.std.specs.Int.RustNames.{int_le}
 use Rattle.std.proofs.lemmas.List.Elements.{All-head, All-tail}
-use Rattle.std.proofs.lemmas.List.{take_all}
 use Rattle.rls_ident.specs.declared.limits.TheConstants.{OPERATION_BYTES}
 use Rattle.rls_ident.specs.declared.tuple.Tuple.{Tuple}
 use Rattle.rls_ident.specs.declared.tuple.Tuple.TheVariants.{Low, At, High}
@@ -74,18 +73,6 @@ small_chain before (n ∷ v) a = (All-head IsSmall n v a, small_chain (Some n) v
 
 pub op_fits : (o : Op) → IsSmall o.author → IsSmall o.seq → All IsSmall o.context → FitsName o.epoch → FitsBody o.body → op_size o ≤ OPERATION_BYTES → IsSpelled (length o.context) o
 op_fits o a s c e b few = record { author = a; seq = s; context = (refl, small_chain None o.context c); epoch = e; body = b; limit = omega (arith, op_length o, few) }
-
--- ---- loops
-
--- what holds of the items so far holds of all at the end
-pub all_small : (xs : List Tuple) (i : ℕ) → length xs ≤ i → All IsSmallTuple (take i xs) → All IsSmallTuple xs
-all_small xs i le a = subst (All IsSmallTuple) (take_all i xs le) a
-
-pub all_fit : (xs : List (List Tuple × ℕ)) (i : ℕ) → length xs ≤ i → All FitsRun (take i xs) → All FitsRun xs
-all_fit xs i le a = subst (All FitsRun) (take_all i xs le) a
-
-pub all_ops_fit : (os : List Op) (i : ℕ) → length os ≤ i → All IsSpelledIfFit (take i os) → All IsSpelledIfFit os
-all_ops_fit os i le a = subst (All IsSpelledIfFit) (take_all i os le) a
 
 -- ---- messages
 

@@ -5,6 +5,7 @@ mod fault;
 mod fields;
 mod idents;
 pub mod laws;
+mod lists;
 mod messages;
 mod puts;
 mod reading;

@@ -12,6 +12,7 @@ ghost use Rattle.rls_ops.specs.WellFormed.{IsSmall};
 ghost use Rattle.rls_codec.specs.Gives.{IsFrontOf};
 ghost use Rattle.rls_codec.specs.Spelled.{IsSmallTuple, FitsIdent, FitsName, FitsText, FitsRun, FitRuns};
 
+use crate::lists::{Part, put_list};
 use rls_ident::{EpochName, Ident, Tuple, Vector};
 use rls_runs::{Run, Runs, Text};
 use std::alloc::AllocError;
@@ -73,16 +74,16 @@ fn put_tuple(out: &mut Vec<u8>, tuple: Tuple) -> Result<(), AllocError>
     }
 }
 
-#[tactic(auto, using(crate::proofs::Fits::all_small))]
-fn put_tuples(out: &mut Vec<u8>, tuples: &[Tuple]) -> Result<(), AllocError>
-    ensures ok { OnOk result (out.new.items ≡ out.old.items ++ flat_map tuple_bytes tuples.now) }
-    ensures keeps { IsFrontOf out.old.items out.new.items }
-    ensures small { OnOk result (All IsSmallTuple tuples.now) }
-{
-    for tuple in tuples {
-        put_tuple(out, *tuple)?;
+impl Part for Tuple {
+    ghost bytes = { tuple_bytes };
+
+    ghost IsShort = { λ t. Unit {0} };
+
+    ghost Fits = { IsSmallTuple };
+
+    fn put(&self, out: &mut Vec<u8>) -> Result<(), AllocError> {
+        put_tuple(out, *self)
     }
-    Ok(())
 }
 
 /// An identifier.
@@ -95,8 +96,20 @@ pub fn put_ident(out: &mut Vec<u8>, ident: &Ident) -> Result<(), AllocError>
 {
     let front = ident.front();
     put_u32(out, front.len() as u32 + 1)?;
-    put_tuples(out, front)?;
+    put_list(out, front)?;
     put_tuple(out, ident.last().as_tuple())
+}
+
+impl Part for u32 {
+    ghost bytes = { four_bytes };
+
+    ghost IsShort = { λ n. Unit {0} };
+
+    ghost Fits = { IsSmall };
+
+    fn put(&self, out: &mut Vec<u8>) -> Result<(), AllocError> {
+        put_u32(out, *self)
+    }
 }
 
 /// A vector.
@@ -105,18 +118,7 @@ pub fn put_vector(out: &mut Vec<u8>, vector: &Vector) -> Result<(), AllocError>
     ensures keeps { IsFrontOf out.old.items out.new.items }
     ensures small { All IsSmall vector.now }
 {
-    put_counts(out, vector.counts())
-}
-
-fn put_counts(out: &mut Vec<u8>, counts: &[u32]) -> Result<(), AllocError>
-    ensures ok { OnOk result (out.new.items ≡ out.old.items ++ flat_map four_bytes counts.now) }
-    ensures keeps { IsFrontOf out.old.items out.new.items }
-    ensures small { All IsSmall counts.now }
-{
-    for count in counts {
-        put_u32(out, *count)?;
-    }
-    Ok(())
+    put_list(out, vector.counts())
 }
 
 /// The name of an epoch.
@@ -211,17 +213,16 @@ pub fn put_run(out: &mut Vec<u8>, run: &Run) -> Result<(), AllocError>
     Ok(())
 }
 
-#[tactic(auto, using(crate::proofs::Fits::all_fit))]
-fn put_run_list(out: &mut Vec<u8>, runs: &[Run]) -> Result<(), AllocError>
-    requires { All (λ r. length r.0 < 2 ^ 32) runs.now }
-    ensures ok { OnOk result (out.new.items ≡ out.old.items ++ flat_map run_bytes runs.now) }
-    ensures keeps { IsFrontOf out.old.items out.new.items }
-    ensures fits { OnOk result (All FitsRun runs.now) }
-{
-    for run in runs {
-        put_run(out, run)?;
+impl Part for Run {
+    ghost bytes = { run_bytes };
+
+    ghost IsShort = { λ r. length r.0 < 2 ^ 32 };
+
+    ghost Fits = { FitsRun };
+
+    fn put(&self, out: &mut Vec<u8>) -> Result<(), AllocError> {
+        put_run(out, self)
     }
-    Ok(())
 }
 
 /// A list of identifiers, as the number of its maximal runs and these runs.
@@ -235,6 +236,6 @@ pub fn put_runs(out: &mut Vec<u8>, runs: &Runs) -> Result<(), AllocError>
 {
     let list = runs.as_slice();
     put_u32(out, list.len() as u32)?;
-    put_run_list(out, list)?;
+    put_list(out, list)?;
     Ok(())
 }

@@ -10,6 +10,7 @@ ghost use Rattle.rls_codec.specs.Gives.{IsShort, IsFrontOf};
 ghost use Rattle.rls_codec.specs.Spelled.{FitsBody, IsSpelledIfFit, IsFit};
 ghost use Rattle.rls_codec.specs.CodecLaws.{IsMessage};
 
+use crate::lists::{Part, put_list};
 use crate::puts::{
     put_byte, put_ident, put_name, put_runs, put_text, put_u32, put_u64, put_vector,
 };
@@ -82,17 +83,16 @@ pub fn encode_op(out: &mut Vec<u8>, op: &Op) -> Result<(), AllocError>
     }
 }
 
-#[tactic(auto, using(crate::proofs::Fits::all_ops_fit))]
-fn put_op_list(out: &mut Vec<u8>, ops: &[Op]) -> Result<(), AllocError>
-    requires { All (λ o. op_size o < 2 ^ 32) ops.now }
-    ensures ok { OnOk result (out.new.items ≡ out.old.items ++ flat_map op_bytes ops.now) }
-    ensures keeps { IsFrontOf out.old.items out.new.items }
-    ensures fits { OnOk result (All IsSpelledIfFit ops.now) }
-{
-    for op in ops {
-        put_op(out, op)?;
+impl Part for Op {
+    ghost bytes = { op_bytes };
+
+    ghost IsShort = { λ o. op_size o < 2 ^ 32 };
+
+    ghost Fits = { IsSpelledIfFit };
+
+    fn put(&self, out: &mut Vec<u8>) -> Result<(), AllocError> {
+        put_op(out, self)
     }
-    Ok(())
 }
 
 /// Appends the number of operations, and the operations.
@@ -105,7 +105,7 @@ pub fn put_ops(out: &mut Vec<u8>, ops: &Ops) -> Result<(), AllocError>
 {
     let list = ops.as_slice();
     put_u32(out, list.len() as u32)?;
-    put_op_list(out, list)?;
+    put_list(out, list)?;
     Ok(())
 }
 
