@@ -4,7 +4,7 @@ ghost use Rattle.std.specs.Prelude.{◌≡◌, ◌-◌, ◌^◌, min, take, slic
 ghost use Rattle.rls_fields.specs.Fields.{place_of_broken, stem_size};
 ghost use Rattle.rls_fields.specs.FieldSizes.{before_rows, before_stems, before_epochs, before_text, before_log, before_held, left_size, stem_before};
 
-use crate::sizes::{epochs_len, ops_len, rows_len, text_runs_len};
+use crate::sizes::entries_len;
 use rls_model::{Members, Parts};
 
 /// The form that has the members that have left.
@@ -50,7 +50,7 @@ fn before_stems(form: u8, parts: &Parts) -> u64
     ensures before { result ≡ min (before_stems form parts.now) (2 ^ 64 - 1) }
 {
     before_rows(parts)
-        .saturating_add(rows_len(parts.rows.as_slice()))
+        .saturating_add(entries_len(parts.rows.as_slice()))
         .saturating_add(left_len(form, &parts.left))
 }
 
@@ -68,7 +68,7 @@ fn before_text(form: u8, parts: &Parts) -> u64
 {
     before_epochs(form, parts)
         .saturating_add(4)
-        .saturating_add(epochs_len(parts.epochs.as_slice()))
+        .saturating_add(entries_len(parts.epochs.as_slice()))
 }
 
 fn before_log(form: u8, parts: &Parts) -> u64
@@ -76,7 +76,7 @@ fn before_log(form: u8, parts: &Parts) -> u64
 {
     before_text(form, parts)
         .saturating_add(4)
-        .saturating_add(text_runs_len(parts.text.as_slice()))
+        .saturating_add(entries_len(parts.text.as_slice()))
 }
 
 fn before_held(form: u8, parts: &Parts) -> u64
@@ -84,7 +84,7 @@ fn before_held(form: u8, parts: &Parts) -> u64
 {
     before_log(form, parts)
         .saturating_add(4)
-        .saturating_add(ops_len(parts.log.as_slice()))
+        .saturating_add(entries_len(parts.log.as_slice()))
 }
 
 // A stem stands after the numbers of the members up to its own.
@@ -106,21 +106,21 @@ pub fn place_of_broken(form: u8, parts: &Parts, rule: u8, index: u64) -> u64
     ensures place { result ≡ min (place_of_broken form parts.now (record { rule = rule; index = index })) (2 ^ 64 - 1) }
 {
     match rule {
-        1 => before_rows(parts).saturating_add(rows_len(front(parts.rows.as_slice(), index))),
+        1 => before_rows(parts).saturating_add(entries_len(front(parts.rows.as_slice(), index))),
         2 => before_stem(form, parts, index),
         3 => before_epochs(form, parts)
             .saturating_add(4)
-            .saturating_add(epochs_len(front(parts.epochs.as_slice(), index))),
+            .saturating_add(entries_len(front(parts.epochs.as_slice(), index))),
         4 => before_text(form, parts)
             .saturating_add(4)
-            .saturating_add(text_runs_len(front(parts.text.as_slice(), index))),
+            .saturating_add(entries_len(front(parts.text.as_slice(), index))),
         5 => before_log(form, parts)
             .saturating_add(4)
-            .saturating_add(ops_len(front(parts.log.as_slice(), index))),
+            .saturating_add(entries_len(front(parts.log.as_slice(), index))),
         6 => before_log(form, parts),
         7 => before_epochs(form, parts),
         _ => before_held(form, parts)
             .saturating_add(4)
-            .saturating_add(ops_len(front(parts.held.as_slice(), index))),
+            .saturating_add(entries_len(front(parts.held.as_slice(), index))),
     }
 }

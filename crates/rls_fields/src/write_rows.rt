@@ -7,7 +7,7 @@ ghost use Rattle.rls_seen.specs.Kept.{other_rows, left_below};
 ghost use Rattle.rls_fields.specs.FieldSizes.{row_size};
 ghost use Rattle.rls_fields.specs.Written.{FitsRow};
 
-use crate::sizes::row_len;
+use crate::sizes::Entry;
 use rls_codec::{put_u32, put_vector};
 use rls_stable::Acks;
 use std::alloc::AllocError;
@@ -37,7 +37,7 @@ pub fn other_rows_len(acks: &Acks, members: u32) -> u64
         if member == acks.me() {
             continue;
         }
-        total = total.saturating_add(row_len(acks.row(member)));
+        total = total.saturating_add(acks.row(member).spelled_len());
     }
     total
 }
