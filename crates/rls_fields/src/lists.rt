@@ -8,6 +8,9 @@ use rls_codec::ReadError;
 use rls_runs::Sequence;
 use std::alloc::Global;
 
+/// What is read from the front of bytes, and the bytes after it.
+pub(crate) type Found<'a, T> = Result<(T, &'a [u8]), ReadError>;
+
 /// How the items of a list are read, each after the one before.
 pub(crate) trait Items {
     type Item: Drop;
@@ -16,12 +19,7 @@ pub(crate) trait Items {
     ghost item_at: { Self → Option Self.Item → List ℕ → Read Self.Item };
 
     /// The next item, and the bytes after it.
-    fn next<'a>(
-        &self,
-        alloc: Global,
-        before: Option<&Self::Item>,
-        bytes: &'a [u8],
-    ) -> Result<(Self::Item, &'a [u8]), ReadError>
+    fn next<'a>(&self, before: Option<&Self::Item>, bytes: &'a [u8]) -> Found<'a, Self::Item>
         ensures read { Gives (λ x. (x.0, x.1.now)) result (item_at self.now (option_copied before.entry) bytes.now) };
 }
 
@@ -31,13 +29,13 @@ pub(crate) fn list<'a, I: Items>(
     items: &I,
     count: u32,
     bytes: &'a [u8],
-) -> Result<(Sequence<I::Item>, &'a [u8]), ReadError>
+) -> Found<'a, Sequence<I::Item>>
     ensures read { Gives (λ x. (x.0, x.1.now)) result (chain_at (I.item_at items.now) None count bytes.now) }
 {
     let mut list = Sequence::new(alloc);
     let mut rest = bytes;
     for _ in 0..count {
-        let (found, after) = items.next(alloc, list.as_slice().last(), rest)?;
+        let (found, after) = items.next(list.as_slice().last(), rest)?;
         list.push(found)?;
         rest = after;
     }

@@ -5,7 +5,7 @@ ghost use Rattle.rls_codec.specs.Gives.{Gives};
 ghost use Rattle.rls_codec.specs.Reading.{many_at, counted_at, vector_at};
 ghost use Rattle.rls_fields.specs.ReadingFields.{is_above, left_at, lefts_at};
 
-use crate::lists::{Items, list};
+use crate::lists::{Found, Items, list};
 use rls_codec::{ReadError, u32_at, vector};
 use rls_ident::Vector;
 use rls_model::{Members, Rows};
@@ -17,6 +17,7 @@ const WITH_LEFT: u8 = 4;
 // Vectors, each with a count for each member.
 #[derive(Drop)]
 struct RowItems {
+    alloc: Global,
     members: u32,
 }
 
@@ -25,26 +26,16 @@ impl Items for RowItems {
 
     ghost item_at = { λ r before. vector_at r.members };
 
-    fn next<'a>(
-        &self,
-        alloc: Global,
-        _before: Option<&Vector>,
-        bytes: &'a [u8],
-    ) -> Result<(Vector, &'a [u8]), ReadError> {
-        vector(alloc, self.members, bytes)
+    fn next<'a>(&self, _before: Option<&Vector>, bytes: &'a [u8]) -> Found<'a, Vector> {
+        vector(self.alloc, self.members, bytes)
     }
 }
 
 /// So many vectors, each with a count for each member.
-pub(crate) fn rows(
-    alloc: Global,
-    members: u32,
-    count: u32,
-    bytes: &[u8],
-) -> Result<(Rows, &[u8]), ReadError>
+pub(crate) fn rows(alloc: Global, members: u32, count: u32, bytes: &[u8]) -> Found<'_, Rows>
     ensures read { Gives (λ x. (x.0, x.1.now)) result (many_at (vector_at members) count bytes.now) }
 {
-    list(alloc, &RowItems { members }, count, bytes)
+    list(alloc, &RowItems { alloc, members }, count, bytes)
 }
 
 // Whether the member is above the one before, where there is one.
@@ -68,12 +59,7 @@ impl Items for LeftItems {
 
     ghost item_at = { λ r. left_at r.members };
 
-    fn next<'a>(
-        &self,
-        _alloc: Global,
-        before: Option<&u32>,
-        bytes: &'a [u8],
-    ) -> Result<(u32, &'a [u8]), ReadError> {
+    fn next<'a>(&self, before: Option<&u32>, bytes: &'a [u8]) -> Found<'a, u32> {
         let (member, rest) = u32_at(bytes)?;
         if member >= self.members || !is_above(before, member) {
             return Err(ReadError::Fault { left: bytes.len() });
@@ -83,7 +69,7 @@ impl Items for LeftItems {
 }
 
 // The members that have left, after their number.
-fn counted_members(alloc: Global, members: u32, bytes: &[u8]) -> Result<(Members, &[u8]), ReadError>
+fn counted_members(alloc: Global, members: u32, bytes: &[u8]) -> Found<'_, Members>
     ensures read { Gives (λ x. (x.0, x.1.now)) result (counted_at (left_at members) bytes.now) }
 {
     let (count, rest) = u32_at(bytes)?;
@@ -97,7 +83,7 @@ pub(crate) fn left_members(
     form: u8,
     members: u32,
     bytes: &[u8],
-) -> Result<(Members, &[u8]), ReadError>
+) -> Found<'_, Members>
     ensures read { Gives (λ x. (x.0, x.1.now)) result (lefts_at form members bytes.now) }
 {
     if form != WITH_LEFT {

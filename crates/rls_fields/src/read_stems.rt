@@ -6,6 +6,7 @@ ghost use Rattle.rls_codec.specs.Reading.{counted_at, chain_at};
 ghost use Rattle.rls_fields.specs.Listed.{behind};
 ghost use Rattle.rls_fields.specs.ReadingFields.{low_at, stem_at, stems_at};
 
+use crate::lists::Found;
 use rls_codec::{ReadError, i32_at, u32_at};
 use rls_model::{Stem, Stems};
 use std::alloc::Global;
@@ -14,7 +15,7 @@ use std::alloc::Global;
 const WITHOUT_LOW: u8 = 2;
 
 // The low of a stem, which is 0 in the form that doesn't have it.
-fn low(form: u8, bytes: &[u8]) -> Result<(i32, &[u8]), ReadError>
+fn low(form: u8, bytes: &[u8]) -> Found<'_, i32>
     ensures read { Gives (λ x. (x.0, x.1.now)) result (low_at form bytes.now) }
 {
     if form == WITHOUT_LOW {
@@ -25,7 +26,7 @@ fn low(form: u8, bytes: &[u8]) -> Result<(i32, &[u8]), ReadError>
 
 // A stem of this author.
 #[tactic(auto, unfolding(crate::specs::ReadingFields::stem_at))]
-fn stem(form: u8, author: u32, bytes: &[u8]) -> Result<(Stem, &[u8]), ReadError>
+fn stem(form: u8, author: u32, bytes: &[u8]) -> Found<'_, Stem>
     ensures read { Gives (λ x. (x.0, x.1.now)) result (stem_at form author bytes.now) }
 {
     let (s0, rest) = u32_at(bytes)?;
@@ -74,12 +75,7 @@ fn own_stems<'a>(
 }
 
 /// The stems of so many members, member by member.
-pub(crate) fn stems(
-    alloc: Global,
-    form: u8,
-    members: u32,
-    bytes: &[u8],
-) -> Result<(Stems, &[u8]), ReadError>
+pub(crate) fn stems(alloc: Global, form: u8, members: u32, bytes: &[u8]) -> Found<'_, Stems>
     ensures read { Gives (λ x. (x.0, x.1.now)) result (stems_at form 0 members bytes.now) }
 {
     let mut stems = Stems::new(alloc);

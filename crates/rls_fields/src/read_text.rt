@@ -6,7 +6,7 @@ ghost use Rattle.rls_codec.specs.Gives.{Gives};
 ghost use Rattle.rls_codec.specs.Reading.{with_rule, counted_at, next_run_at, text_at};
 ghost use Rattle.rls_fields.specs.ReadingFields.{run_before, text_run_at};
 
-use crate::lists::{Items, list};
+use crate::lists::{Found, Items, list};
 use rls_codec::{ReadError, run, text, u32_at};
 use rls_model::{TextRun, TextRuns};
 use rls_runs::{Run, Text};
@@ -23,11 +23,7 @@ fn is_apart(before: Option<&TextRun>, run: &Run) -> bool
 }
 
 // A run after the one before.
-fn next_run<'a>(
-    alloc: Global,
-    before: Option<&TextRun>,
-    bytes: &'a [u8],
-) -> Result<(Run, &'a [u8]), ReadError>
+fn next_run<'a>(alloc: Global, before: Option<&TextRun>, bytes: &'a [u8]) -> Found<'a, Run>
     ensures read { Gives (λ x. (x.0, x.1.now)) result (next_run_at (run_before (option_copied before.entry)) bytes.now) }
 {
     let (found, rest) = run(alloc, bytes)?;
@@ -38,7 +34,7 @@ fn next_run<'a>(
 }
 
 // A text of so many characters.
-fn text_of_len(alloc: Global, len: u32, bytes: &[u8]) -> Result<(Text, &[u8]), ReadError>
+fn text_of_len(alloc: Global, len: u32, bytes: &[u8]) -> Found<'_, Text>
     ensures read { Gives (λ x. (x.0, x.1.now)) result (with_rule (λ cs. length cs == len) text_at bytes.now) }
 {
     let (found, rest) = text(alloc, bytes)?;
@@ -50,7 +46,9 @@ fn text_of_len(alloc: Global, len: u32, bytes: &[u8]) -> Result<(Text, &[u8]), R
 
 // Runs, each after the one before, with their characters.
 #[derive(Drop)]
-struct TextRunItems;
+struct TextRunItems {
+    alloc: Global,
+}
 
 impl Items for TextRunItems {
     type Item = TextRun;
@@ -58,23 +56,18 @@ impl Items for TextRunItems {
     ghost item_at = { λ r. text_run_at };
 
     #[tactic(auto, unfolding(crate::specs::ReadingFields::text_run_at))]
-    fn next<'a>(
-        &self,
-        alloc: Global,
-        before: Option<&TextRun>,
-        bytes: &'a [u8],
-    ) -> Result<(TextRun, &'a [u8]), ReadError> {
-        let (run, rest) = next_run(alloc, before, bytes)?;
-        let (text, rest) = text_of_len(alloc, run.len(), rest)?;
+    fn next<'a>(&self, before: Option<&TextRun>, bytes: &'a [u8]) -> Found<'a, TextRun> {
+        let (run, rest) = next_run(self.alloc, before, bytes)?;
+        let (text, rest) = text_of_len(self.alloc, run.len(), rest)?;
         Ok((TextRun { run, text }, rest))
     }
 }
 
 /// The runs after their number.
-pub(crate) fn text_runs(alloc: Global, bytes: &[u8]) -> Result<(TextRuns, &[u8]), ReadError>
+pub(crate) fn text_runs(alloc: Global, bytes: &[u8]) -> Found<'_, TextRuns>
     ensures read { Gives (λ x. (x.0, x.1.now)) result (counted_at text_run_at bytes.now) }
 {
     let (count, rest) = u32_at(bytes)?;
-    let (runs, rest) = list(alloc, &TextRunItems, count, rest)?;
+    let (runs, rest) = list(alloc, &TextRunItems { alloc }, count, rest)?;
     Ok((runs, rest))
 }
