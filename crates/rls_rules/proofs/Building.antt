@@ -108,16 +108,12 @@ kept_is p i E t g =
 
 -- an entry that may be put into the tree
 pub record MayAdd (p : Parts) (i : ℕ) (E : Epochs) (e : EpochPart) : Type 0 where
-  pub replica : ℕ
-  pub seq : ℕ
-  pub place : ℕ
-  pub named : e.name ≡ Of replica seq
-  pub parent : e.parent ≡ Some place
-  pub below : place < i
-  pub fresh : is_kept E.top E.nodes (Of replica seq) ≡ false
-  pub kept : is_kept E.top E.nodes (name_or_origin (slice_get p.epochs place)) ≡ true
+  pub earlier : List EpochPart
+  pub entry : IsEntry p earlier e
+  pub fresh : is_kept E.top E.nodes (Of entry.replica entry.seq) ≡ false
+  pub kept : is_kept E.top E.nodes (name_or_origin (slice_get p.epochs entry.place)) ≡ true
   pub total : sum_by (λ (n : Node). length n.renaming.former) E.nodes + length e.former ≤ suc i * IDENTIFIERS
-  pub grown : IsTreeBefore p (i + 1) (record { top = E.top; nodes = record { parent = name_or_origin (slice_get p.epochs place); renaming = record { former = e.former; replica = replica; seq = seq } } ∷ E.nodes })
+  pub grown : IsTreeBefore p (i + 1) (record { top = E.top; nodes = record { parent = name_or_origin (slice_get p.epochs entry.place); renaming = record { former = e.former; replica = entry.replica; seq = entry.seq } } ∷ E.nodes })
 
 sum_before : (p : Parts) (i : ℕ) (E : Epochs) → IsTreeBefore p i E → i ≤ length p.epochs → sum_by (λ (n : Node). length n.renaming.former) E.nodes ≤ i * IDENTIFIERS
 sum_before p i E t l =
@@ -148,12 +144,8 @@ may_add p i E e t g l h =
     let sum = sum_before p i E t (omega arith) in
     let few = c.few in
     record {
-      replica = c.replica;
-      seq = c.seq;
-      place = c.place;
-      named = c.named;
-      parent = c.parent;
-      below = let x = c.below in omega arith;
+      earlier = es;
+      entry = c;
       fresh = ap (λ (x : Epochs). is_kept x.top x.nodes (Of c.replica c.seq)) t.tree ∙ fresh;
       kept = ap (λ (x : Epochs). is_kept x.top x.nodes up) t.tree ∙ (ap (λ o. is_kept f.name (nodes_of es) (name_or_origin o)) (sym at) ∙ kept);
       total = omega arith;
@@ -241,10 +233,10 @@ pub can_add : (p : Parts) (i : ℕ) (E F : Epochs) (e par : EpochPart) (r s k : 
 can_add p i E F e par r s k R f t g few o named parent at is =
     let l = within p.epochs i e g in
     let m = may_add p i E e t g l o in
-    let n = same_number m.replica m.seq r s (sym m.named ∙ named) in
-    let j = same_place m.place k (sym m.parent ∙ parent) in
-    let up : name_or_origin (slice_get p.epochs m.place) ≡ par.name = ap (λ x. name_or_origin (slice_get p.epochs x)) j ∙ ap name_or_origin at in
-    let ren : record { former = e.former; replica = m.replica; seq = m.seq } ≡ R = ap (λ a. record { former = e.former; replica = a; seq = m.seq }) n.0 ∙ (ap (λ b. record { former = e.former; replica = r; seq = b }) n.1 ∙ sym is) in
+    let n = same_number m.entry.replica m.entry.seq r s (sym m.entry.named ∙ named) in
+    let j = same_place m.entry.place k (sym m.entry.parent ∙ parent) in
+    let up : name_or_origin (slice_get p.epochs m.entry.place) ≡ par.name = ap (λ x. name_or_origin (slice_get p.epochs x)) j ∙ ap name_or_origin at in
+    let ren : record { former = e.former; replica = m.entry.replica; seq = m.entry.seq } ≡ R = ap (λ a. record { former = e.former; replica = a; seq = m.entry.seq }) n.0 ∙ (ap (λ b. record { former = e.former; replica = r; seq = b }) n.1 ∙ sym is) in
     let tot = m.total in
     let former : length R.former ≡ length e.former = ap (λ (x : Renaming). length x.former) is in
     let sum : sum_by (λ (x : Node). length x.renaming.former) F.nodes ≡ sum_by (λ (x : Node). length x.renaming.former) E.nodes = ap (λ (x : Epochs). sum_by (λ (y : Node). length y.renaming.former) x.nodes) f in
@@ -253,7 +245,7 @@ can_add p i E F e par r s k R f t g few o named parent at is =
       kept = ap (λ (x : Epochs). is_kept x.top x.nodes par.name) f ∙ (ap (is_kept E.top E.nodes) (sym up) ∙ m.kept);
       total = omega arith;
       grown = subst (IsTreeBefore p (i + 1))
-          (ap (λ x. record { top = E.top; nodes = record { parent = x; renaming = record { former = e.former; replica = m.replica; seq = m.seq } } ∷ E.nodes }) up
+          (ap (λ x. record { top = E.top; nodes = record { parent = x; renaming = record { former = e.former; replica = m.entry.replica; seq = m.entry.seq } } ∷ E.nodes }) up
           ∙ (ap (λ x. record { top = E.top; nodes = record { parent = par.name; renaming = x } ∷ E.nodes }) ren
           ∙ ap (λ (x : Epochs). record { top = x.top; nodes = record { parent = par.name; renaming = R } ∷ x.nodes }) (sym f)))
           m.grown;
@@ -302,10 +294,20 @@ first_so p list d E a l t m = go p.epochs refl a
           ap (λ ys. epoch_fault p (take 1 ys) (drop 1 ys)) e ∙ (sym (ap (λ b. if b then epoch_fault p (x ∷ []) xs else Some 0) top) ∙ ap (epoch_fault p []) (sym e)),
         )
 
+pub at_index : (list es : List EpochPart) (i : ℕ) (e : EpochPart) → list ≡ es → i < length list → e ≡ get_or list i e → slice_get es i ≡ Some e
+at_index list es i e l h k = ap (λ xs. slice_get xs i) (sym l) ∙ here list i h k
+  where
+    here : (xs : List EpochPart) (i : ℕ) → i < length xs → e ≡ get_or xs i e → slice_get xs i ≡ Some e
+    here [] i h k = absurd (omega arith)
+    here (x ∷ xs) zero h k = ap Some (sym k)
+    here (x ∷ xs) (suc i) h k = here xs i (omega arith) k
+
 -- where the entry breaks the rule
-pub broken_at : (p : Parts) (i : ℕ) (E : Epochs) (e : EpochPart) → IsTreeBefore p i E → slice_get p.epochs i ≡ Some e → (opens p (take i p.epochs) e && is_greater (take i p.epochs) e) ≡ false → epoch_fault p (take i p.epochs) (drop i p.epochs) ≡ epoch_fault p [] p.epochs
+pub broken_at : (p : Parts) (i : ℕ) (E : Epochs) (list : List EpochPart) (e : EpochPart) → IsTreeBefore p i E → list ≡ p.epochs → i < length list → e ≡ get_or list i e → (opens p (take i p.epochs) e && is_greater (take i p.epochs) e) ≡ false → epoch_fault p (take i p.epochs) (drop i p.epochs) ≡ epoch_fault p [] p.epochs
     → epoch_fault p [] p.epochs ≡ Some i
-broken_at p i E e t g n h = sym h ∙ entry_ends p i e t.first t.rest t.is g (let l = within p.epochs i e g in omega arith) n
+broken_at p i E list e t l k r n h =
+    let g = at_index list p.epochs i e l k r in
+    sym h ∙ entry_ends p i e t.first t.rest t.is g (let m = within p.epochs i e g in omega arith) n
 
 pub whole_at : (p : Parts) (i : ℕ) (E : Epochs) (list : List EpochPart) → IsTreeBefore p i E → list ≡ p.epochs → i ≤ length list → length list ≤ i → epoch_fault p (take i p.epochs) (drop i p.epochs) ≡ epoch_fault p [] p.epochs → (epoch_fault p [] p.epochs ≡ None) × (E ≡ epochs_of p)
 whole_at p i E list t e l m h =
@@ -317,11 +319,3 @@ whole_at p i E list t e l m h =
     none_left : (xs : List EpochPart) → drop (length xs) xs ≡ []
     none_left [] = refl
     none_left (x ∷ xs) = none_left xs
-
-pub at_index : (list es : List EpochPart) (i : ℕ) (e : EpochPart) → list ≡ es → i < length list → e ≡ get_or list i e → slice_get es i ≡ Some e
-at_index list es i e l h k = ap (λ xs. slice_get xs i) (sym l) ∙ here list i h k
-  where
-    here : (xs : List EpochPart) (i : ℕ) → i < length xs → e ≡ get_or xs i e → slice_get xs i ≡ Some e
-    here [] i h k = absurd (omega arith)
-    here (x ∷ xs) zero h k = ap Some (sym k)
-    here (x ∷ xs) (suc i) h k = here xs i (omega arith) k

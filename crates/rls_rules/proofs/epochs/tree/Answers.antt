@@ -1,6 +1,5 @@
-use Rattle.std.proofs.Common.{◌≡◌, ◌∙◌, ◌&&◌, false, take, ap, sym, arith}
+use Rattle.std.proofs.Common.{◌∙◌, ◌&&◌, take, ap, sym, arith}
 use Rattle.rls_parts.specs.Rules.{is_greater}
-use Rattle.rls_rules.specs.Building.{opens}
 use Rattle.rls_rules.proofs.Building.{at_index, broken_at, first_so}
 use Rattle.rls_rules.proofs.epochs.tree.Goals as goal
 
@@ -17,10 +16,8 @@ pub returns-then-not-opens : goal.returns-then-not-opens
 returns-then-not-opens c =
     let p = c.args.parts.now in
     let i = c.loop-i.i in
-    let e = c.index-list-i.result in
-    let g = at_index c.as_slice-list.result.now p.epochs i e c.as_slice-list.ensures.items c.loop-i-test.true c.index-list-i.is in
-    let n : (opens p (take i p.epochs) e && is_greater (take i p.epochs) e) ≡ false = ap (λ b. b && is_greater (take i p.epochs) e) (sym c.if-not-opens.ensures.opens) in
-    record { tested = broken_at p i c.loop-i.epochs.epochs e c.loop-i.invariant.tree g n c.loop-i.invariant.pass }
+    let n = ap (λ b. b && is_greater (take i p.epochs) c.index-list-i.result) (sym c.if-not-opens.ensures.opens) in
+    record { tested = broken_at p i c.loop-i.epochs.epochs c.as_slice-list.result.now c.index-list-i.result c.loop-i.invariant.tree c.as_slice-list.ensures.items c.loop-i-test.true c.index-list-i.is n c.loop-i.invariant.pass }
 
 pub is_greater-requires-clause-entry_is : goal.is_greater-requires-clause-entry_is
 is_greater-requires-clause-entry_is c = at_index c.as_slice-list.result.now c.args.parts.now.epochs c.loop-i.i c.index-list-i.result c.as_slice-list.ensures.items c.loop-i-test.true c.index-list-i.is
@@ -29,8 +26,5 @@ pub returns-then-not-is_greater : goal.returns-then-not-is_greater
 returns-then-not-is_greater c =
     let p = c.args.parts.now in
     let i = c.loop-i.i in
-    let e = c.index-list-i.result in
-    let g = at_index c.as_slice-list.result.now p.epochs i e c.as_slice-list.ensures.items c.loop-i-test.true c.index-list-i.is in
-    let n : (opens p (take i p.epochs) e && is_greater (take i p.epochs) e) ≡ false =
-    ap (λ b. b && is_greater (take i p.epochs) e) (sym c.if-not-opens.ensures.opens) ∙ sym c.if-not-is_greater.ensures.greater in
-    record { tested = broken_at p i c.loop-i.epochs.epochs e c.loop-i.invariant.tree g n c.loop-i.invariant.pass }
+    let n = ap (λ b. b && is_greater (take i p.epochs) c.index-list-i.result) (sym c.if-not-opens.ensures.opens) ∙ sym c.if-not-is_greater.ensures.greater in
+    record { tested = broken_at p i c.loop-i.epochs.epochs c.as_slice-list.result.now c.index-list-i.result c.loop-i.invariant.tree c.as_slice-list.ensures.items c.loop-i-test.true c.index-list-i.is n c.loop-i.invariant.pass }
