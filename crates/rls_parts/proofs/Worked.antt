@@ -197,21 +197,16 @@ unwrapped q (Some p) = p
 abbrev of_two : Parts
 of_two = unwrapped good (option_map (λ s. parts s) (slice_get two_renames.states 0))
 
-abbrev swapped : List EpochPart → List EpochPart
-swapped (e ∷ f ∷ g ∷ es) = e ∷ g ∷ f ∷ es
-swapped es = es
+abbrev after_first : (EpochPart → EpochPart → List EpochPart) → List EpochPart → List EpochPart
+after_first two (e ∷ f ∷ g ∷ es) = e ∷ two f g ++ es
+after_first two es = es
 
-epochs_swapped : broken (record of_two { epochs = swapped of_two.epochs }) ≡ breaks 3 2
+abbrev with_two : (EpochPart → EpochPart → List EpochPart) → Parts
+with_two two = record of_two { epochs = after_first two of_two.epochs }
+
+epochs_swapped_and_repeated : map broken (with_two (λ f g. g ∷ f ∷ []) ∷ with_two (λ f g. f ∷ f ∷ []) ∷ []) ≡ breaks 3 2 ∷ breaks 3 2 ∷ []
 unfolding computing
-epochs_swapped = refl
-
-abbrev repeated : List EpochPart → List EpochPart
-repeated (e ∷ f ∷ g ∷ es) = e ∷ f ∷ f ∷ es
-repeated es = es
-
-epoch_repeated : broken (record of_two { epochs = repeated of_two.epochs }) ≡ breaks 3 2
-unfolding computing
-epoch_repeated = refl
+epochs_swapped_and_repeated = refl
 
 -- the last character's offset wasn't used
 offset_unused : broken (with_stems (stem 1 4 ∷ [])) ≡ breaks 4 0
