@@ -45,9 +45,7 @@ fn next_epoch(alloc: Global, bytes: &[u8]) -> Found<'_, EpochPart>
 
 // Epochs, of which the topmost is the first.
 #[derive(Drop)]
-struct EpochItems {
-    alloc: Global,
-}
+struct EpochItems(Global);
 
 impl Items for EpochItems {
     type Item = EpochPart;
@@ -56,8 +54,8 @@ impl Items for EpochItems {
 
     fn next<'a>(&self, before: Option<&EpochPart>, bytes: &'a [u8]) -> Found<'a, EpochPart> {
         match before {
-            None => top_epoch(self.alloc, bytes),
-            Some(_) => next_epoch(self.alloc, bytes),
+            None => top_epoch(self.0, bytes),
+            Some(_) => next_epoch(self.0, bytes),
         }
     }
 }
@@ -66,7 +64,7 @@ impl Items for EpochItems {
 pub(crate) fn epoch_list(alloc: Global, count: u32, bytes: &[u8]) -> Found<'_, EpochParts>
     ensures read { Gives (λ x. (x.0, x.1.now)) result (chain_at epoch_at None count bytes.now) }
 {
-    list(alloc, &EpochItems { alloc }, count, bytes)
+    list(alloc, &EpochItems(alloc), count, bytes)
 }
 
 /// How many epochs there are, at least 1.

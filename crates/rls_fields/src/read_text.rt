@@ -46,9 +46,7 @@ fn text_of_len(alloc: Global, len: u32, bytes: &[u8]) -> Found<'_, Text>
 
 // Runs, each after the one before, with their characters.
 #[derive(Drop)]
-struct TextRunItems {
-    alloc: Global,
-}
+struct TextRunItems(Global);
 
 impl Items for TextRunItems {
     type Item = TextRun;
@@ -57,8 +55,8 @@ impl Items for TextRunItems {
 
     #[tactic(auto, unfolding(crate::specs::ReadingFields::text_run_at))]
     fn next<'a>(&self, before: Option<&TextRun>, bytes: &'a [u8]) -> Found<'a, TextRun> {
-        let (run, rest) = next_run(self.alloc, before, bytes)?;
-        let (text, rest) = text_of_len(self.alloc, run.len(), rest)?;
+        let (run, rest) = next_run(self.0, before, bytes)?;
+        let (text, rest) = text_of_len(self.0, run.len(), rest)?;
         Ok((TextRun { run, text }, rest))
     }
 }
@@ -68,6 +66,6 @@ pub(crate) fn text_runs(alloc: Global, bytes: &[u8]) -> Found<'_, TextRuns>
     ensures read { Gives (λ x. (x.0, x.1.now)) result (counted_at text_run_at bytes.now) }
 {
     let (count, rest) = u32_at(bytes)?;
-    let (runs, rest) = list(alloc, &TextRunItems { alloc }, count, rest)?;
+    let (runs, rest) = list(alloc, &TextRunItems(alloc), count, rest)?;
     Ok((runs, rest))
 }
