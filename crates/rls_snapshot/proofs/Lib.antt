@@ -1,3 +1,4 @@
 pub mod Uncovered
 pub mod NamedNodes
+pub mod FirstPlaces
 pub mod MaximalRuns

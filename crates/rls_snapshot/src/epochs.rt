@@ -1,12 +1,12 @@
 //! Epochs as parts.
 
-ghost use Rattle.std.specs.Prelude.{◌≡◌, position, IfOk, IsTrue};
+ghost use Rattle.std.specs.Prelude.{◌≡◌, IfOk, IsTrue};
 ghost use Rattle.rls_ident.specs.declared.epoch_name.EpochName.{EpochName};
-ghost use Rattle.rls_ident.specs.EpochNames.{name_eq};
 ghost use Rattle.rls_ident.specs.Lists.{IsIn};
 ghost use Rattle.rls_rename.specs.Tree.{is_kept};
 ghost use Rattle.rls_model.specs.Parts.{epoch_part, epoch_parts, node_of, top_part};
 
+use crate::places::Places;
 use rls_epoch::Epochs;
 use rls_ident::EpochName;
 use rls_model::{EpochPart, EpochParts};
@@ -27,8 +27,9 @@ pub fn epoch_parts(
         return Ok(parts);
     };
     parts.push(top_part(alloc, *top))?;
+    let places = Places::of(alloc, names)?;
     for name in others {
-        parts.push(epoch_part(alloc, epochs, names, *name)?)?;
+        parts.push(epoch_part(alloc, epochs, &places, *name)?)?;
     }
     Ok(parts)
 }
@@ -48,11 +49,11 @@ fn top_part(alloc: Global, name: EpochName) -> EpochPart
 fn epoch_part(
     alloc: Global,
     epochs: &Epochs,
-    names: &[EpochName],
+    places: &Places,
     name: EpochName,
 ) -> Result<EpochPart, AllocError>
     requires kept { IsTrue (is_kept epochs.now.epochs.top epochs.now.epochs.nodes name) }
-    ensures part { IfOk result (λ part. part ≡ epoch_part names.now name (node_of epochs.now.epochs.nodes name)) }
+    ensures part { IfOk result (λ part. part ≡ epoch_part places.now name (node_of epochs.now.epochs.nodes name)) }
 {
     let Some(parent) = epochs.parent_of(name) else {
         return Ok(top_part(alloc, name));
@@ -62,17 +63,7 @@ fn epoch_part(
     };
     Ok(EpochPart {
         name,
-        parent: place_of(names, parent),
+        parent: places.place(parent),
         former: renaming.former().copy()?,
     })
-}
-
-/// The place of an epoch among these, if it is there. It compares the name with each before it.
-pub fn place_of(names: &[EpochName], name: EpochName) -> Option<u64>
-    ensures place { result ≡ position (name_eq name) names.now }
-{
-    match names.iter().position(|other| name.same(other)) {
-        None => None,
-        Some(place) => Some(place as u64),
-    }
 }

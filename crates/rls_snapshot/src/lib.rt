@@ -3,8 +3,10 @@
 
 mod epochs;
 mod lists;
+mod places;
 mod text;
 
-pub use epochs::{epoch_parts, place_of};
+pub use epochs::epoch_parts;
 pub use lists::{left_members, missing, other_rows, waiting};
+pub use places::Places;
 pub use text::text_runs;

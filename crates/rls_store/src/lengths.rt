@@ -7,8 +7,8 @@ ghost use Rattle.rls_store.specs.Sizes.{rows_size, stems_size, epochs_size, text
 use rls_fields::{
     kept_epochs_len, left_count, missing_len, other_rows_len, stems_len, tree_len, waiting_len,
 };
-use rls_ident::EpochName;
 use rls_replica::Replica;
+use rls_snapshot::Places;
 
 // The head, the rows and the members that have left.
 fn rows_part(replica: &Replica) -> u64
@@ -29,11 +29,11 @@ fn stems_part(replica: &Replica) -> u64
 }
 
 // The epochs that must stay.
-fn epochs_part(replica: &Replica, names: &[EpochName]) -> u64
-    requires names { names.now ≡ retained_over replica.now }
+fn epochs_part(replica: &Replica, places: &Places) -> u64
+    requires names { places.now ≡ retained_over replica.now }
     ensures size { result ≡ min (epochs_size replica.now) (2 ^ 64 - 1) }
 {
-    kept_epochs_len(replica.epochs(), names)
+    kept_epochs_len(replica.epochs(), places)
 }
 
 fn text_part(replica: &Replica) -> u64
@@ -57,13 +57,13 @@ fn held_part(replica: &Replica) -> u64
 }
 
 /// The whole file, with these epochs.
-pub(crate) fn stored_len(replica: &Replica, names: &[EpochName]) -> u64
-    requires names { names.now ≡ retained_over replica.now }
+pub(crate) fn stored_len(replica: &Replica, places: &Places) -> u64
+    requires names { places.now ≡ retained_over replica.now }
     ensures size { result ≡ min (stored_size replica.now) (2 ^ 64 - 1) }
 {
     rows_part(replica)
         .saturating_add(stems_part(replica))
-        .saturating_add(epochs_part(replica, names))
+        .saturating_add(epochs_part(replica, places))
         .saturating_add(text_part(replica))
         .saturating_add(log_part(replica))
         .saturating_add(held_part(replica))

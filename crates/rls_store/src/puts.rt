@@ -12,8 +12,8 @@ use rls_codec::{put_byte, put_u32, put_u64, put_vector};
 use rls_fields::{
     put_epochs, put_left, put_missing, put_rows, put_stems, put_text_runs, put_waiting,
 };
-use rls_ident::EpochName;
 use rls_replica::Replica;
+use rls_snapshot::Places;
 use std::alloc::AllocError;
 
 /// The form in which files are written.
@@ -41,9 +41,9 @@ fn put_head(out: &mut Vec<u8>, group: u64, members: u32, me: u32) -> Result<(), 
 pub(crate) fn put_file(
     out: &mut Vec<u8>,
     replica: &Replica,
-    names: &[EpochName],
+    places: &Places,
 ) -> Result<(), AllocError>
-    requires names { names.now ≡ retained_over replica.now }
+    requires names { places.now ≡ retained_over replica.now }
     requires small { stored_size replica.now < 2 ^ 32 }
     ensures ok { OnOk result (out.new.items ≡ out.old.items ++ file_bytes (parts_over replica.now)) }
     ensures fits { OnOk result (FitFields (parts_over replica.now)) }
@@ -55,7 +55,7 @@ pub(crate) fn put_file(
     put_rows(out, acks, members)?;
     put_left(out, acks, members)?;
     put_stems(out, replica.stems(), members)?;
-    put_epochs(out, replica.epochs(), names)?;
+    put_epochs(out, replica.epochs(), places)?;
     put_text_runs(out, replica.tree())?;
     put_missing(out, replica.logged(), acks.stable())?;
     put_waiting(out, replica.held())?;

@@ -15,6 +15,7 @@ use crate::lengths::stored_len;
 use crate::puts::put_file;
 use rls_ident::limits::FILE_BYTES;
 use rls_replica::Replica;
+use rls_snapshot::Places;
 use std::alloc::{AllocError, Global};
 
 /// Why a replica isn't written as a file.
@@ -38,7 +39,7 @@ impl From<AllocError> for SaveError {
 
 /// The file of a replica, of the newest form: exactly its parts, that is the epochs that must stay and the operations that aren't
 /// stable, whether or not anything was dropped. It is one buffer of known size, and nothing of the replica is copied: the cost is
-/// that of its runs, characters and operations, and a few passes over its epochs.
+/// that of its runs, characters and operations, and a few passes over its epochs, with a logarithm of how many there are for each.
 ///
 /// # Errors
 ///
@@ -55,11 +56,12 @@ pub fn encode_file(alloc: Global, replica: &Replica) -> Result<Vec<u8>, SaveErro
 {
     replica.sane();
     let names = replica.retained()?;
-    let bytes = stored_len(replica, &names);
+    let places = Places::of(alloc, &names)?;
+    let bytes = stored_len(replica, &places);
     if bytes > FILE_BYTES {
         return Err(SaveError::TooLarge { bytes });
     }
     let mut out = Vec::with_capacity(alloc, bytes as usize)?;
-    put_file(&mut out, replica, &names)?;
+    put_file(&mut out, replica, &places)?;
     Ok(out)
 }

@@ -9,7 +9,7 @@ use Rattle.rls_fields.proofs.write_epochs.put_epoch.Goals as goal
 
 short : (c : goal.After-former) → runs_size c.former.result.now < 2 ^ 32
 short c =
-    let e = epoch_part c.args.names.now c.args.name (node_of c.args.epochs.now.epochs.nodes c.args.name) in
+    let e = epoch_part c.args.places.now c.args.name (node_of c.args.epochs.now.epochs.nodes c.args.name) in
     subst (λ (xs : List (List Tuple)). runs_size xs < 2 ^ 32) (sym c.former.ensures.former) (small_opening e c.in-Some.place c.in-Some.renaming.now.former (sym c.in-Some.ensures.opening) c.requires.small)
 
 pub put_runs-requires-clause-count : goal.put_runs-requires-clause-count

@@ -13,21 +13,21 @@ use Rattle.rls_fields.proofs.write_epochs.put_epoch_list.Goals as goal
 
 pub put_epoch-requires-clause-kept : goal.put_epoch-requires-clause-kept
 put_epoch-requires-clause-kept c =
-    let all : c.args.names.now ≡ c.in-Some.top.now ∷ c.in-Some.others.now = search (rules) in
+    let all : c.args.places.now ≡ c.in-Some.top.now ∷ c.in-Some.others.now = search (rules) in
     c.requires.kept _ (name_in c.loop-name.name-index all c.loop-name-test.true)
 
 pub put_epoch-requires-clause-few : goal.put_epoch-requires-clause-few
-put_epoch-requires-clause-few c = few_names c.args.epochs.now.epochs.nodes c.args.names.now c.requires.small
+put_epoch-requires-clause-few c = few_names c.args.epochs.now.epochs.nodes c.args.places.now c.requires.small
 
 pub put_epoch-requires-clause-small : goal.put_epoch-requires-clause-small
 put_epoch-requires-clause-small c =
-    let part = λ (e : EpochName). epoch_part c.args.names.now e (node_of c.args.epochs.now.epochs.nodes e) in
+    let part = λ (e : EpochName). epoch_part c.args.places.now e (node_of c.args.epochs.now.epochs.nodes e) in
     let next = map_next part c.in-Some.others.now _ Origin c.loop-name-test.true in
     omega (arith, sum_next epoch_size _ _ _ next, c.loop-name.invariant.small)
 
 pub loop-name-preserved : goal.loop-name-preserved
 loop-name-preserved c =
-    let part = λ (e : EpochName). epoch_part c.args.names.now e (node_of c.args.epochs.now.epochs.nodes e) in
+    let part = λ (e : EpochName). epoch_part c.args.places.now e (node_of c.args.epochs.now.epochs.nodes e) in
     let next = map_next part c.in-Some.others.now _ Origin c.loop-name-test.true in
     record {
       bytes = put_next epoch_bytes _ _ _ _ _ _ next c.in_ok-put_epoch.ensures.ok c.loop-name.invariant.bytes;
@@ -37,8 +37,8 @@ loop-name-preserved c =
 
 pub loop-name-init : goal.loop-name-init
 loop-name-init c =
-    let all : c.args.names.now ≡ c.in-Some.top.now ∷ c.in-Some.others.now = search (rules) in
-    let names = c.args.names.now in
+    let all : c.args.places.now ≡ c.in-Some.top.now ∷ c.in-Some.others.now = search (rules) in
+    let names = c.args.places.now in
     let top = c.in-Some.top.now in
     let nodes = c.args.epochs.now.epochs.nodes in
     let rest = map (λ (e : EpochName). epoch_part names e (node_of nodes e)) c.in-Some.others.now in
@@ -52,5 +52,5 @@ loop-name-init c =
 pub returns-clause-fits : goal.returns-clause-fits
 returns-clause-fits c =
     let others = c.in-Some.others.now in
-    let part = λ (e : EpochName). epoch_part c.args.names.now e (node_of c.args.epochs.now.epochs.nodes e) in
+    let part = λ (e : EpochName). epoch_part c.args.places.now e (node_of c.args.epochs.now.epochs.nodes e) in
     c.loop-name.invariant.fits (none_left FitsFormer c.loop-name.name-index (map part others) (omega (arith, map_length part others, c.loop-name-test.false)))

@@ -9,7 +9,7 @@ use Rattle.rls_fields.proofs.write_epochs.put_epoch_list.Given as goal
 
 abbrev pub invariant-loop-name : goal.invariant-loop-name
 invariant-loop-name l = record {
-  bytes : l.out.items ++ flat_map epoch_bytes (drop l.name-index (map (λ e. epoch_part l.names e (node_of l.epochs.epochs.nodes e)) l.others)) ≡ l.fn.out.items ++ flat_map epoch_bytes (epoch_parts l.epochs.epochs.nodes l.names);
-  fits : All FitsFormer (drop l.name-index (map (λ e. epoch_part l.names e (node_of l.epochs.epochs.nodes e)) l.others)) → All FitsFormer (epoch_parts l.epochs.epochs.nodes l.names);
-  small : sum_by epoch_size (drop l.name-index (map (λ e. epoch_part l.names e (node_of l.epochs.epochs.nodes e)) l.others)) < 2 ^ 32;
+  bytes : l.out.items ++ flat_map epoch_bytes (drop l.name-index (map (λ e. epoch_part l.places e (node_of l.epochs.epochs.nodes e)) l.others)) ≡ l.fn.out.items ++ flat_map epoch_bytes (epoch_parts l.epochs.epochs.nodes l.places);
+  fits : All FitsFormer (drop l.name-index (map (λ e. epoch_part l.places e (node_of l.epochs.epochs.nodes e)) l.others)) → All FitsFormer (epoch_parts l.epochs.epochs.nodes l.places);
+  small : sum_by epoch_size (drop l.name-index (map (λ e. epoch_part l.places e (node_of l.epochs.epochs.nodes e)) l.others)) < 2 ^ 32;
 }

@@ -5,5 +5,5 @@ use Rattle.rls_store.proofs.lengths.epochs_part.Goals as goal
 
 pub kept_epochs_len-requires : goal.kept_epochs_len-requires
 kept_epochs_len-requires c = record {
-  kept = λ e p. subst (λ (E : Epochs). is_kept E.top E.nodes e ≡ true) (sym c.epochs.ensures.epochs) (retained_kept c.args.replica.now c.args.names.now c.requires.names e p);
+  kept = λ e p. subst (λ (E : Epochs). is_kept E.top E.nodes e ≡ true) (sym c.epochs.ensures.epochs) (retained_kept c.args.replica.now c.args.places.now c.requires.names e p);
 }

@@ -36,9 +36,9 @@ put_stems-requires c = record {
 pub put_epochs-requires : goal.put_epochs-requires
 put_epochs-requires c =
     let s = c.args.replica.now in
-    let epochs = ap (λ (E : Epochs). epoch_parts E.nodes c.args.names.now) c.epochs.ensures.epochs ∙ ap (λ (es : List EpochName). epoch_parts s.epochs.nodes es) c.requires.names in
+    let epochs = ap (λ (E : Epochs). epoch_parts E.nodes c.args.places.now) c.epochs.ensures.epochs ∙ ap (λ (es : List EpochName). epoch_parts s.epochs.nodes es) c.requires.names in
     record {
-      kept = λ e p. subst (λ (E : Epochs). is_kept E.top E.nodes e ≡ true) (sym c.epochs.ensures.epochs) (retained_kept s c.args.names.now c.requires.names e p);
+      kept = λ e p. subst (λ (E : Epochs). is_kept E.top E.nodes e ≡ true) (sym c.epochs.ensures.epochs) (retained_kept s c.args.places.now c.requires.names e p);
       small = omega (arith, ap (sum_by epoch_size) epochs, c.requires.small);
     }
 
@@ -73,7 +73,7 @@ returns c =
     let p7 = c.put_text_runs.new.out.items in
     let p8 = c.put_missing.new.out.items in
     let p9 = c.put_waiting.new.out.items in
-    let epochs = ap (λ (E : Epochs). epoch_parts E.nodes c.args.names.now) c.epochs.ensures.epochs ∙ ap (λ (es : List EpochName). epoch_parts s.epochs.nodes es) c.requires.names in
+    let epochs = ap (λ (E : Epochs). epoch_parts E.nodes c.args.places.now) c.epochs.ensures.epochs ∙ ap (λ (es : List EpochName). epoch_parts s.epochs.nodes es) c.requires.names in
     let log = ap (λ (v : List ℕ). missing_for v c.logged.result.now.ops) (c.stable.ensures.stable ∙ ap (λ (a : AcksSeen). stable_of a) c.acks-acks.ensures.acks) ∙ ap (λ (os : List Op). missing_for (stable_over s) os) c.logged.ensures.log in
     let head : head_bytes 4 c.group.result n c.me.result ≡ head_bytes 4 s.group (members s) s.acks.me =
     ap (λ g. head_bytes 4 g n c.me.result) c.group.ensures.group ∙ ap (λ m. head_bytes 4 s.group m c.me.result) c.members-members.ensures.members ∙ ap (λ a. head_bytes 4 s.group (members s) a) c.me.ensures.me in

@@ -12,7 +12,7 @@ use Rattle.rls_store.proofs.saving.encode_file.Goals as goal
 
 pub put_file-requires : goal.put_file-requires
 put_file-requires c = record {
-  names = c.deref-2.ensures.value ∙ c.in_ok-names.ensures.names;
+  names = c.in_ok-places.ensures.names ∙ (c.deref.ensures.value ∙ c.in_ok-names.ensures.names);
   small = omega (arith, c.stored_len-bytes.ensures.size, c.if-bytes-gt-FILE_BYTES.false);
 }
 
