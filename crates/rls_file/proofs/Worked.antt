@@ -162,32 +162,18 @@ fresh_parts = parts (journal (Fresh 7 0 2))
 abbrev spent_parts : Parts
 spent_parts = record (parts (journal (Fresh 7 0 1))) { vector = 4294967295 ∷ [] }
 
-writes_66 : file_bytes fresh_parts ≡ file_66
-unfolding computing
-writes_66 = refl
+-- of the newest form, and of the two before it
+abbrev files_of : Parts → List (List ℕ)
+files_of p = file_bytes p ∷ snapshot_bytes 2 p ∷ snapshot_bytes 3 p ∷ []
 
-spells_62 : snapshot_bytes 2 fresh_parts ≡ file_62
-unfolding computing
-spells_62 = refl
+abbrev small_files : List (List ℕ)
+small_files = file_66 ∷ file_62 ∷ with_byte file_62 4 3 ∷ file_50 ∷ file_46 ∷ with_byte file_46 4 3 ∷ []
 
-spells_62_in_3 : snapshot_bytes 3 fresh_parts ≡ with_byte file_62 4 3
+writes_small : files_of fresh_parts ++ files_of spent_parts ≡ small_files
 unfolding computing
-spells_62_in_3 = refl
+writes_small = refl
 
-writes_50 : file_bytes spent_parts ≡ file_50
-unfolding computing
-writes_50 = refl
-
-spells_46 : snapshot_bytes 2 spent_parts ≡ file_46
-unfolding computing
-spells_46 = refl
-
-spells_46_in_3 : snapshot_bytes 3 spent_parts ≡ with_byte file_46 4 3
-unfolding computing
-spells_46_in_3 = refl
-
-reads_small : map (λ bytes. parts_of (file_of bytes)) (file_66 ∷ file_62 ∷ with_byte file_62 4 3 ∷ file_50 ∷ file_46 ∷ with_byte file_46 4 3 ∷ [])
-    ≡ Some fresh_parts ∷ Some fresh_parts ∷ Some fresh_parts ∷ Some spent_parts ∷ Some spent_parts ∷ Some spent_parts ∷ []
+reads_small : map (λ bytes. parts_of (file_of bytes)) small_files ≡ Some fresh_parts ∷ Some fresh_parts ∷ Some fresh_parts ∷ Some spent_parts ∷ Some spent_parts ∷ Some spent_parts ∷ []
 unfolding computing
 reads_small = refl
 

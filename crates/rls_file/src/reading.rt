@@ -47,23 +47,13 @@ fn acknowledgement(
 fn is_applied(receipt: &Receipt) -> bool
     ensures applied { result ≡ applies (answer_of receipt.now) }
 {
-    match receipt {
-        Receipt::Applied => true,
-        Receipt::Repeated => false,
-        Receipt::Held => false,
-        Receipt::Refused(_) => false,
-    }
+    matches!(receipt, Receipt::Applied)
 }
 
 fn is_held(receipt: &Receipt) -> bool
     ensures held { result ≡ waits (answer_of receipt.now) }
 {
-    match receipt {
-        Receipt::Applied => false,
-        Receipt::Repeated => false,
-        Receipt::Held => true,
-        Receipt::Refused(_) => false,
-    }
+    matches!(receipt, Receipt::Held)
 }
 
 // An operation that is accepted next, whatever has happened to the replica.
