@@ -14,17 +14,13 @@ add-requires-clause-entry_is c = at_index c.as_slice-list.result.now c.args.part
 
 pub returns-then-not-opens : goal.returns-then-not-opens
 returns-then-not-opens c =
-    let p = c.args.parts.now in
-    let i = c.loop-i.i in
-    let n = ap (λ b. b && is_greater (take i p.epochs) c.index-list-i.result) (sym c.if-not-opens.ensures.opens) in
-    record { tested = broken_at p i c.loop-i.epochs.epochs c.as_slice-list.result.now c.index-list-i.result c.loop-i.invariant.tree c.as_slice-list.ensures.items c.loop-i-test.true c.index-list-i.is n c.loop-i.invariant.pass }
+    let n = ap (λ b. b && is_greater (take c.loop-i.i c.args.parts.now.epochs) c.index-list-i.result) (sym c.if-not-opens.ensures.opens) in
+    record { tested = broken_at c.args.parts.now c.loop-i.i c.loop-i.epochs.epochs c.as_slice-list.result.now c.index-list-i.result c.loop-i.invariant.tree c.as_slice-list.ensures.items c.loop-i-test.true c.index-list-i.is n c.loop-i.invariant.pass }
 
 pub is_greater-requires-clause-entry_is : goal.is_greater-requires-clause-entry_is
 is_greater-requires-clause-entry_is c = at_index c.as_slice-list.result.now c.args.parts.now.epochs c.loop-i.i c.index-list-i.result c.as_slice-list.ensures.items c.loop-i-test.true c.index-list-i.is
 
 pub returns-then-not-is_greater : goal.returns-then-not-is_greater
 returns-then-not-is_greater c =
-    let p = c.args.parts.now in
-    let i = c.loop-i.i in
-    let n = ap (λ b. b && is_greater (take i p.epochs) c.index-list-i.result) (sym c.if-not-opens.ensures.opens) ∙ sym c.if-not-is_greater.ensures.greater in
-    record { tested = broken_at p i c.loop-i.epochs.epochs c.as_slice-list.result.now c.index-list-i.result c.loop-i.invariant.tree c.as_slice-list.ensures.items c.loop-i-test.true c.index-list-i.is n c.loop-i.invariant.pass }
+    let n = ap (λ b. b && is_greater (take c.loop-i.i c.args.parts.now.epochs) c.index-list-i.result) (sym c.if-not-opens.ensures.opens) ∙ sym c.if-not-is_greater.ensures.greater in
+    record { tested = broken_at c.args.parts.now c.loop-i.i c.loop-i.epochs.epochs c.as_slice-list.result.now c.index-list-i.result c.loop-i.invariant.tree c.as_slice-list.ensures.items c.loop-i-test.true c.index-list-i.is n c.loop-i.invariant.pass }
