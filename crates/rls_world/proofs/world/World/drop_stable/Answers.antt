@@ -12,10 +12,9 @@ use Rattle.rls_world.proofs.world.World.drop_stable.Goals as goal
 pub returns : goal.returns
 returns c =
     let s : WorldSeen = record { replicas = c.self.inside.replicas.items; sent = c.self.inside.sent.items } in
-    let i = c.args.member in
-    let u = c.drop_stable.new.self in
-    let p = there s c.args.self.now i c.index_mut.result.now c.self.view_is (sym c.has_member.ensures.below ∙ c.if-not-has_member.false) c.index_mut.ensures.value in
-    record { step = subst (λ (w : WorldSeen). IsStep w (events.Drop i) (Ok outcomes.Dropped) (with_replica s i u)) c.self.view_is (drop_step s (with_replica s i u) i c.index_mut.result.now u p.below p.at c.drop_stable.ensures.after refl) }
+    let p = there s c.args.self.now c.args.member c.index_mut.result.now c.self.view_is (sym c.has_member.ensures.below ∙ c.if-not-has_member.false) c.index_mut.ensures.value in
+    let w = with_replica s c.args.member c.drop_stable.new.self in
+    record { step = subst (λ (v : WorldSeen). IsStep v (events.Drop c.args.member) (Ok outcomes.Dropped) w) c.self.view_is (drop_step s w c.args.member c.index_mut.result.now c.drop_stable.new.self p.below p.at c.drop_stable.ensures.after refl) }
 
 pub invariant_of-self : goal.invariant_of-self
 invariant_of-self c =
