@@ -62,14 +62,14 @@ pub fn parse(alloc: Global, script: &[u8]) -> Result<Lines, ScriptError>
     Ok(Lines::from_vec(lines))
 }
 
-// The place of the first line feed, or the length.
-fn line_end(script: &[u8]) -> usize
-    ensures end { result ≡ position_or_len is_line_feed script.now }
+/// The place of the first line feed, or the length.
+pub fn line_end(bytes: &[u8]) -> usize
+    ensures end { result ≡ position_or_len is_line_feed bytes.now }
 {
-    script
+    bytes
         .iter()
         .position(|byte| *byte == b'\n')
-        .unwrap_or(script.len())
+        .unwrap_or(bytes.len())
 }
 
 // The first line, without its line feed, and what stands after it.

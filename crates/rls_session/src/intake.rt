@@ -10,6 +10,7 @@ ghost use Rattle.rls_session.specs.Intake.{taken, to_come, TellsEnd, KeepsEnd, G
 
 use rls_ident::limits::INPUT_BYTES;
 use rls_io::{ReadError, Source};
+use rls_script::line_end;
 use std::alloc::Global;
 use std::marker::Model;
 
@@ -38,16 +39,6 @@ impl Model for Intake {
     ghost view = { λ a. record { waiting = drop a.at a.bytes.items; used = a.used; ended = a.ended } };
 
     ghost invariant = { λ a. (a.at ≤ length a.bytes.items) × (a.used + length (drop a.at a.bytes.items) ≤ INPUT_BYTES + 1) × (IsTrue a.ended → a.used + length (drop a.at a.bytes.items) ≤ INPUT_BYTES) };
-}
-
-// The place of the first line feed, or the length.
-fn line_end(bytes: &[u8]) -> usize
-    ensures end { result ≡ position_or_len is_line_feed bytes.now }
-{
-    bytes
-        .iter()
-        .position(|byte| *byte == b'\n')
-        .unwrap_or(bytes.len())
 }
 
 impl Intake {

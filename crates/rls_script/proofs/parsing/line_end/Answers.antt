@@ -9,6 +9,6 @@ use Rattle.rls_script.proofs.parsing.line_end.Goals as goal
 pub returns : goal.returns
 returns c =
     record {
-      end = c.unwrap_or.ensures ∙ found_or_len is_line_feed c.args.script.now c.position.result
-          (position_from_yields_List is_line_feed _ _ c.position.result c.position.ensures.ran (YieldsList-from_slice c.args.script.now c.iter.ensures.rest) (λ x b q k. search (rules, tests)));
+      end = c.unwrap_or.ensures ∙ found_or_len is_line_feed c.args.bytes.now c.position.result
+          (position_from_yields_List is_line_feed _ _ c.position.result c.position.ensures.ran (YieldsList-from_slice c.args.bytes.now c.iter.ensures.rest) (λ x b q k. search (rules, tests)));
     }
