@@ -111,6 +111,13 @@ impl Fault {
 }
 
 impl Failure {
+    /// A device has failed, or there was no memory.
+    pub fn of_fault(fault: Fault) -> Failure
+        ensures fault { result ≡ Failure.Fault fault }
+    {
+        Failure::Fault { fault }
+    }
+
     /// The status with which the program ends.
     pub fn status(&self) -> u8
         ensures status { result ≡ status_of self.now }

@@ -1,11 +1,11 @@
 //! Reports of commands.
 
-ghost use Rattle.std.specs.Prelude.{◌≡◌, ◌++◌, IfOk, OnOk, string_bytes};
+ghost use Rattle.std.specs.Prelude.{◌≡◌, ◌++◌, IfOk, OnOk, length, string_bytes};
 ghost use Rattle.rls_report.specs.Reports.{new_text, edit_text, take_text, stat_text, member_line, member_lines, trial_text};
 
 use crate::pieces::put_spaced;
 use rls_ident::Vector;
-use rls_model::Counts;
+use rls_model::{Counts, Taken};
 use std::alloc::{AllocError, Global};
 
 /// The report of a new replica.
@@ -43,6 +43,20 @@ pub fn take_report(
 {
     format!(in alloc;
         "applied {applied} released {released} repeated {repeated} held {held} refused {refused}\n"
+    )
+}
+
+/// The report of a message of which this was counted.
+pub fn taken_report(alloc: Global, taken: &Taken) -> Result<String, AllocError>
+    ensures text { IfOk result (λ text. string_bytes text ≡ take_text taken.now.applied taken.now.released taken.now.repeated taken.now.held (length taken.now.refused)) }
+{
+    take_report(
+        alloc,
+        taken.applied,
+        taken.released,
+        taken.repeated,
+        taken.held,
+        taken.refused.len() as u64,
     )
 }
 
