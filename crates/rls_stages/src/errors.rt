@@ -1,9 +1,7 @@
 //! Why a stage ends early: each error has only what may go wrong there.
 
 ghost use Rattle.std.specs.Prelude.{◌≡◌};
-ghost use Rattle.rls_report.specs.declared.failures.Failure.TheVariants as failures;
 ghost use Rattle.rls_stages.specs.declared.errors.WorkError.TheVariants as work;
-ghost use Rattle.rls_stages.specs.declared.errors.OpenError.TheVariants as opening;
 ghost use Rattle.rls_stages.specs.Errors.{line_error, open_of_work, of_open, of_work};
 
 use rls_model::EditError;
@@ -49,27 +47,11 @@ impl From<EditError> for LineError {
     }
 }
 
-impl From<CommandError> for WorkError {
-    ghost from_gives = { λ error e. e ≡ work.Command error };
-
-    fn from(error: CommandError) -> WorkError {
-        WorkError::Command { error }
-    }
-}
-
 impl From<AllocError> for WorkError {
     ghost from_gives = { λ _ e. e ≡ work.OutOfMemory };
 
     fn from(_: AllocError) -> WorkError {
         WorkError::OutOfMemory
-    }
-}
-
-impl From<CommandError> for OpenError {
-    ghost from_gives = { λ error e. e ≡ opening.Command error };
-
-    fn from(error: CommandError) -> OpenError {
-        OpenError::Command { error }
     }
 }
 
@@ -90,8 +72,8 @@ impl From<OpenError> for Failure {
     fn from(error: OpenError) -> Failure {
         match error {
             OpenError::Command { error } => Failure::Command { error },
-            OpenError::KeeperFault => fault(Fault::Keeper),
-            OpenError::OutOfMemory => fault(Fault::Memory),
+            OpenError::KeeperFault => Failure::of_fault(Fault::Keeper),
+            OpenError::OutOfMemory => Failure::of_fault(Fault::Memory),
         }
     }
 }
@@ -102,7 +84,7 @@ impl From<WorkError> for Failure {
     fn from(error: WorkError) -> Failure {
         match error {
             WorkError::Command { error } => Failure::Command { error },
-            WorkError::OutOfMemory => fault(Fault::Memory),
+            WorkError::OutOfMemory => Failure::of_fault(Fault::Memory),
         }
     }
 }
@@ -112,11 +94,4 @@ pub(crate) fn refused(fault: LineFault) -> LineError
     ensures refused { result ≡ LineError.Refused fault }
 {
     LineError::Refused { fault }
-}
-
-// A device has failed, or there was no memory.
-fn fault(fault: Fault) -> Failure
-    ensures fault { result ≡ failures.Fault fault }
-{
-    Failure::Fault { fault }
 }
