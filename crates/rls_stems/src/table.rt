@@ -5,7 +5,7 @@ ghost use Rattle.rls_ident.specs.Between.{are_bounds};
 ghost use Rattle.rls_ident.specs.Identifiers.{last_of};
 ghost use Rattle.rls_ident.specs.Tuples.{at_spot};
 ghost use Rattle.rls_ops.specs.Shapes.{body_len};
-ghost use Rattle.rls_model.specs.Editing.{own_stem, ends_below, begins_above, may_append, may_prepend, first_before, first_between};
+ghost use Rattle.rls_model.specs.Editing.{own_stem, ends_below, begins_above, may_append, may_prepend, first_between};
 ghost use Rattle.rls_ident.specs.Lists.{IsIn};
 ghost use Rattle.rls_model.specs.declared.parts.Stem.{Stem as StemSeen};
 ghost use Rattle.rls_model.specs.Stems.{stands_before, stem_of, due_of, due_offset, is_due, ends_at_low, may_use, new_stem, with_stem, with_extended, stems_after, stems_after_insert};
@@ -163,13 +163,18 @@ impl StemTable {
         requires brief { count < 2 ^ 31 }
         ensures first { IfOk result (λ id. id ≡ first_between self.now.stems me seq (option_copied left.entry) (option_copied right.entry) count) }
     {
-        let Some(before) = left else {
-            return self.first_before(alloc, me, seq, left, right, count as u32);
-        };
-        if self.may_append(me, before, right, count as u32)? {
-            return before.shifted(1);
+        let count = count as u32;
+        if let Some(before) = left {
+            if self.may_append(me, before, right, count)? {
+                return before.shifted(1);
+            }
         }
-        self.first_before(alloc, me, seq, left, right, count as u32)
+        if let Some(behind) = right {
+            if self.may_prepend(me, left, behind, count)? {
+                return behind.lowered(count);
+            }
+        }
+        between(alloc, left, right, me, seq)
     }
 
     /// The stems by author and number, copied one by one.
@@ -225,29 +230,6 @@ impl StemTable {
         ensures members { self.new.members ≡ self.old.members }
     {
         self.lines[author as usize].grow(last, count);
-    }
-
-    // Where nothing may be appended.
-    fn first_before(
-        &self,
-        alloc: Global,
-        me: u32,
-        seq: u32,
-        left: Option<&Ident>,
-        right: Option<&Ident>,
-        count: u32,
-    ) -> Result<Ident, AllocError>
-        requires order { IsTrue (are_bounds (option_copied left) (option_copied right)) }
-        requires brief { count < 2 ^ 31 }
-        ensures first { IfOk result (λ id. id ≡ first_before self.now.stems me seq (option_copied left.entry) (option_copied right.entry) count) }
-    {
-        let Some(behind) = right else {
-            return between(alloc, left, right, me, seq);
-        };
-        if self.may_prepend(me, left, behind, count)? {
-            return behind.lowered(count);
-        }
-        between(alloc, left, right, me, seq)
     }
 
     // Whether so many characters may follow the left neighbour in its stem.
