@@ -2,6 +2,7 @@
 
 ghost use Rattle.std.specs.Prelude.{◌≡◌, ◌<◌, ◌++◌, ◌∷◌, ◌==◌, [], Some, OnOk, OnErr, length, slice_get};
 ghost use Rattle.rls_model.specs.Answers.{reason_of};
+ghost use Rattle.rls_model.specs.Machine.{no_counts};
 
 use rls_ident::{EpochName, Ident, Vector};
 use rls_ops::{Op, Shape};
@@ -123,4 +124,19 @@ pub struct Taken {
     pub held: u64,
     /// Those that were refused when they arrived or were released, in order.
     pub refused: Refusals,
+}
+
+impl Taken {
+    /// Nothing is counted yet. It takes no memory.
+    pub fn new(alloc: Global) -> Taken
+        ensures nothing { result ≡ no_counts }
+    {
+        Taken {
+            applied: 0,
+            released: 0,
+            repeated: 0,
+            held: 0,
+            refused: Refusals::new(alloc),
+        }
+    }
 }
