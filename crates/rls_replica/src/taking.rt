@@ -20,7 +20,7 @@ ghost use Rattle.rls_replica.specs.Faults.{IsForeign};
 
 use crate::replica::Replica;
 use rls_ident::limits::INPUT_BYTES;
-use rls_model::{Receipt, Refusals, Release, Taken};
+use rls_model::{Receipt, Release, Taken};
 use rls_ops::{Message, Op, Ops};
 use std::alloc::{AllocError, Global};
 
@@ -133,7 +133,7 @@ impl Replica {
         ensures part { OnErr result ((t : State) → StandsFor self.old t → (n : ℕ) × StandsFor self.new (model.take_ops (model.started (Some n) t) ops).state) }
     {
         ops.fits();
-        let mut taken = nothing(self.alloc);
+        let mut taken = Taken::new(self.alloc);
         let mut rest = ops.into_vec();
         rest.reverse();
         'taking: while let Some(op) = rest.pop() {
@@ -219,23 +219,6 @@ fn head_len(members: u32) -> u64
     ensures size { result ≡ head_size members }
 {
     25 + 4 * members as u64
-}
-
-// Nothing is counted yet.
-fn nothing(alloc: Global) -> Taken
-    ensures applied { result.applied ≡ 0 }
-    ensures released { result.released ≡ 0 }
-    ensures repeated { result.repeated ≡ 0 }
-    ensures held { result.held ≡ 0 }
-    ensures refused { result.refused ≡ [] }
-{
-    Taken {
-        applied: 0,
-        released: 0,
-        repeated: 0,
-        held: 0,
-        refused: Refusals::new(alloc),
-    }
 }
 
 // Counts an operation that arrived. After an error nothing is counted.

@@ -18,7 +18,7 @@ ghost use Rattle.rls_session.specs.Sessions.{by_parts};
 use crate::orders::Order;
 use crate::replies;
 use rls_anchor::{Anchor, AnchorError};
-use rls_model::{Edit, EditError, Refusals, Taken};
+use rls_model::{Edit, EditError, Taken};
 use rls_replica::{PastError, Replica, SendError};
 use rls_report::{CommandError, LineFault};
 use rls_script::Line;
@@ -135,14 +135,7 @@ impl Desk {
     fn release(&mut self, alloc: Global) -> Result<(), AllocError>
         ensures released { OnOk result (self.new ≡ with_state self.old (released_all self.old.state)) }
     {
-        let mut taken = Taken {
-            applied: 0,
-            released: 0,
-            repeated: 0,
-            held: 0,
-            refused: Refusals::new(alloc),
-        };
-        self.replica.release_all(&mut taken)
+        self.replica.release_all(&mut Taken::new(alloc))
     }
 
     // ---- the cursor

@@ -11,7 +11,7 @@ ghost use Rattle.rls_top.specs.Stages.{EndsAs, IsDue, IsRun};
 
 use crate::made::{Made, saving};
 use crate::stages::at_line;
-use rls_model::{Edit, Refusals, Taken};
+use rls_model::{Edit, Taken};
 use rls_replica::Replica;
 use rls_report::{CommandError, edit_report};
 use rls_script::{Lines, ScriptError, parse};
@@ -46,7 +46,7 @@ pub(crate) fn leave(alloc: Global, replica: &mut Replica) -> Result<Made, WorkEr
     ensures due { IsDue of_work result (due_of_run 1 (run_leave replica.old)) }
     ensures stored { IfOk result (λ made. IsSome made.stored) }
 {
-    let mut taken = nothing_taken(alloc);
+    let mut taken = Taken::new(alloc);
     match perform_edit(replica, &Edit::Leave) {
         Err(error) => Err(at_line(1, error)),
         Ok(()) => match replica.release_all(&mut taken) {
@@ -73,25 +73,12 @@ fn report_edits(
     }
 }
 
-// Nothing was done yet.
-fn nothing_taken(alloc: Global) -> Taken
-    ensures nothing { result ≡ record { applied = 0; released = 0; repeated = 0; held = 0; refused = [] } }
-{
-    Taken {
-        applied: 0,
-        released: 0,
-        repeated: 0,
-        held: 0,
-        refused: Refusals::new(alloc),
-    }
-}
-
 // Performs the lines, one after another, and releases what is ready after each.
 fn perform_lines(alloc: Global, replica: &mut Replica, lines: &Lines) -> Result<Taken, WorkError>
     ensures run { IfOk result (λ taken. IsRun taken replica.new (run_script replica.old lines.now)) }
     ensures refused { IfErr result (λ e. (n : ℕ) → EndsAs (of_work e) (due_of_run n (run_script replica.old lines.now))) }
 {
-    let mut taken = nothing_taken(alloc);
+    let mut taken = Taken::new(alloc);
     for i in 0..lines.len() {
         match perform_line(replica, lines.get(i)) {
             Err(error) => return Err(at_line(i as u64 + 1, error)),

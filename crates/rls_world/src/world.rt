@@ -17,7 +17,7 @@ ghost use Rattle.rls_world.specs.Events.{fault_over, happened, outcome_over, mem
 ghost use Rattle.rls_world.specs.Seen.{StandsForWorld, IsOneGroup, IsSent, fresh_world, fresh_replicas};
 
 use rls_ident::limits::MEMBERS;
-use rls_model::{Edit, EditError, Event, Outcome, Refusals, StepError, Taken};
+use rls_model::{Edit, EditError, Event, Outcome, StepError, Taken};
 use rls_ops::{Message, Ops};
 use rls_replica::{NewError, Replica, SendError, TakeError};
 use std::alloc::{AllocError, Global};
@@ -287,7 +287,7 @@ fn edit_and_release(alloc: Global, replica: &mut Replica, edit: &Edit) -> Result
     match replica.edit(edit) {
         Err(EditError::OutOfMemory) => Err(StepError::OutOfMemory),
         Err(error) => Err(StepError::Edit(error)),
-        Ok(seq) => match replica.release_all(&mut nothing(alloc)) {
+        Ok(seq) => match replica.release_all(&mut Taken::new(alloc)) {
             Ok(()) => Ok(Outcome::Made { seq }),
             Err(_) => Err(StepError::OutOfMemory),
         },
@@ -327,19 +327,6 @@ fn copy_of(alloc: Global, message: &Message) -> Result<Message, AllocError>
         vector: message.vector.copy()?,
         ops,
     })
-}
-
-// Nothing is counted yet.
-fn nothing(alloc: Global) -> Taken
-    ensures released { result.released ≡ 0 }
-{
-    Taken {
-        applied: 0,
-        released: 0,
-        repeated: 0,
-        held: 0,
-        refused: Refusals::new(alloc),
-    }
 }
 
 // What the fields of an event promise.

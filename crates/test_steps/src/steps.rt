@@ -3,7 +3,7 @@
 use crate::answers::{edited, made, received, released, sent, taken, tally};
 use crate::told::{Told, op_of};
 use rls_ident::Vector;
-use rls_model::{Edit, Refusals, Taken};
+use rls_model::{Edit, Taken};
 use rls_ops::{Message, Ops, Text};
 use rls_replica::{Replica, TakeError};
 use std::alloc::{AllocError, Global};
@@ -115,13 +115,7 @@ fn releases(alloc: Global, replica: &mut Replica) -> Result<String, Fail> {
 }
 
 fn releases_all(alloc: Global, replica: &mut Replica) -> Result<String, Fail> {
-    let mut taken = Taken {
-        applied: 0,
-        released: 0,
-        repeated: 0,
-        held: 0,
-        refused: Refusals::new(alloc),
-    };
+    let mut taken = Taken::new(alloc);
     replica.release_all(&mut taken)?;
     Ok(tally(alloc, &taken)?)
 }

@@ -18,6 +18,6 @@ returns-in-Err c = record {
 
 pub returns : goal.returns
 returns c =
-    let run = leave_done allowed c.args.replica.now c.perform_edit.new.replica c.release_all.new.self c.nothing_taken-taken.result c.release_all.new.taken edits.Leave
-    c.nothing_taken-taken.ensures.nothing c.in-Ok.ensures.made c.in-Ok-release_all.ensures.ok in
+    let run = leave_done allowed c.args.replica.now c.perform_edit.new.replica c.release_all.new.self c.new-taken.result c.release_all.new.taken edits.Leave
+    c.new-taken.ensures.nothing c.in-Ok.ensures.made c.in-Ok-release_all.ensures.ok in
     record { due = subst (λ (d : Due). IsDue of_work c.report_edits.result d) (sym (ap (due_of_run 1) run)) c.report_edits.ensures.due; stored = c.report_edits.ensures.stored }

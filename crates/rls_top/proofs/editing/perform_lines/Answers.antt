@@ -11,8 +11,8 @@ use Rattle.rls_top.proofs.editing.perform_lines.Goals as goal
 
 pub loop-i-init : goal.loop-i-init
 loop-i-init c = record {
-  counted = rw c.nothing_taken-taken.ensures.nothing (omega arith);
-  run = run_begins read_line c.args.replica.now c.nothing_taken-taken.result c.args.lines.now c.nothing_taken-taken.ensures.nothing;
+  counted = rw c.new-taken.ensures.nothing (omega arith);
+  run = run_begins read_line c.args.replica.now c.new-taken.result c.args.lines.now c.new-taken.ensures.nothing;
 }
 
 pub returns-in-Err-clause-refused : goal.returns-in-Err-clause-refused
