@@ -1,7 +1,7 @@
 #!/usr/bin/env python3
 """Writes a message to member 0 of a group of three, group 7, that costs as much as it can: NAME N > MESSAGE. docs/FORMATS.md tells the
 bytes. Member 1 has made all operations of a message but the last ones of `gone`, `same`, `each`, `again`, `wrong_epoch` and
-`old_deletions`, which are member 2's."""
+`old_deletions` and those that are refused in `refused` and `refused_in_turn`, which are member 2's."""
 import struct
 import sys
 
@@ -22,6 +22,11 @@ def ident(seq, offset, pos=MIDDLE, replica=1):
 def runs(*parts):
     """Runs of the first insertion's identifiers, each told by its first offset and its length."""
     return u32(len(parts)) + b"".join(ident(1, offset) + u32(length) for offset, length in parts)
+
+
+def elsewhere(offset):
+    """A run of one identifier that nobody inserted: it differs from one of the first insertion's only in its position."""
+    return u32(1) + ident(1, offset, pos=1) + u32(1)
 
 
 def op(author, seq, context, body, epoch=ORIGIN):
@@ -103,6 +108,20 @@ def again(n):
     """An operation that is refused for its last target, whose others are gone, n times."""
     alone = [later(k + 2, deletion((100 * k, 100))) for k in range(100)]
     return [text(10_000), *alone, *[op(2, 1, (0, 1, 0), deletion((0, 10_001)))] * n]
+
+
+def refused(n):
+    """After n deletions of one character each come 2n operations that are refused for their one target: in turn one that nobody
+    inserted, and one that differs from a deleted one only in its position."""
+    alone = [later(k + 2, deletion((k, 1))) for k in range(n)]
+    unknown = [op(2, 1, (0, 1, 0), body) for k in range(n) for body in (deletion((n + k, 1)), b"\1" + elsewhere(k))]
+    return [text(n), *alone, *unknown]
+
+
+def refused_in_turn(n):
+    """n deletions of one character each, and after each an operation that is refused for its target."""
+    pairs = [(later(k + 2, deletion((k, 1))), op(2, 1, (0, 1, 0), deletion((n + k, 1)))) for k in range(n)]
+    return [text(n), *[one for pair in pairs for one in pair]]
 
 
 def small_renames(n):

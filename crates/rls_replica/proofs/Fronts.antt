@@ -16,33 +16,6 @@ use Rattle.rls_runs.proofs.RunOrder.{run_gets}
 pub moved : (p j : ℕ) (a : List Tuple) → shifted (pos j) (shifted (pos p) a) ≡ shifted (pos (p + j)) a
 moved p j a = shifted_shifted (pos j) (pos p) a ∙ ap (λ k. shifted k a) (omega (arith, ints))
 
--- identifiers of two runs that agree at one place agree further on
-go_on : (a b : List Tuple) (p q j : ℕ) → shifted (pos p) a ≡ shifted (pos q) b → shifted (pos (p + j)) a ≡ shifted (pos (q + j)) b
-go_on a b p q j h = sym (moved p j a) ∙ ap (shifted (pos j)) h ∙ moved q j b
-
--- the first identifiers are others, as far as both runs go, if the very first is one
-pub front_among : (xs ys : List (List Tuple)) (i p q n : ℕ) (a b : List Tuple) → slice_get xs 0 ≡ slice_get ys i
-    → ((k : ℕ) → k < n → slice_get xs (0 + k) ≡ Some (shifted (pos (p + k)) a)) → ((k : ℕ) → k < n → slice_get ys (i + k) ≡ Some (shifted (pos (q + k)) b))
-    → (k : ℕ) (x : List Tuple) → k < n → slice_get xs k ≡ Some x → IsIn x ys
-front_among xs ys i p q n a b same f g k x l h = get_in ys (i + k) x (g k l ∙ ap Some (sym (go_on a b p q k agree) ∙ sym is))
-  where
-    plus_none : (m : ℕ) → m + 0 ≡ m
-    plus_none m = omega arith
-
-    none_plus : (m : ℕ) → 0 + m ≡ m
-    none_plus m = omega arith
-
-    some : 0 < n
-    some = omega (arith, l)
-
-    is : x ≡ shifted (pos (p + k)) a
-    is = some_is x (shifted (pos (p + k)) a) (sym h ∙ ap (slice_get xs) (sym (none_plus k)) ∙ f k l)
-
-    agree : shifted (pos p) a ≡ shifted (pos q) b
-    agree =
-        some_is (shifted (pos p) a) (shifted (pos q) b)
-        (ap (λ m. Some (shifted (pos m) a)) (sym (plus_none p)) ∙ sym (f 0 some) ∙ ap (slice_get xs) (none_plus 0) ∙ same ∙ ap (slice_get ys) (sym (plus_none i)) ∙ g 0 some ∙ ap (λ m. Some (shifted (pos m) b)) (plus_none q))
-
 -- identifiers of a list that are a run from one on
 pub part_within : (xs part : List (List Tuple)) (at from n : ℕ) (a : List Tuple) → part ≡ run_idents (shifted (pos from) a) n → 0 < n
     → ((k : ℕ) → k < n → slice_get xs (at + k) ≡ Some (shifted (pos (from + k)) a)) → at + length part ≤ length xs

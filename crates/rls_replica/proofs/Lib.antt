@@ -17,3 +17,5 @@ pub mod Neighbours
 pub mod GivenPieces
 pub mod Marking
 pub mod Fronts
+pub mod Merges
+pub mod Noting

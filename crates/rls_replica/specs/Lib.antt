@@ -5,6 +5,8 @@ pub mod Changing
 pub mod Steps
 pub mod Editing
 pub mod Names
+pub mod Unions
+pub mod Gone
 pub mod View
 pub mod Fitting
 pub mod KeptJust

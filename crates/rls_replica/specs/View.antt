@@ -1,9 +1,11 @@
 -- What a replica is seen as.
-use Rattle.std.specs.Prelude.{◌≡◌, ℕ}
+use Rattle.std.specs.Prelude.{◌≡◌, ℕ, Option, IfSome}
 use Rattle.rls_blocks.specs.Trees.{entries_of}
 use Rattle.rls_seen.specs.Seen.{Seen, members}
 use Rattle.rls_seen.specs.Sane.{IsSane}
 use Rattle.rls_replica.specs.declared.replica.Replica.TheInside.{Inside}
+use Rattle.rls_replica.specs.declared.gone.Gone.{Gone}
+use Rattle.rls_replica.specs.Gone.{IsGone}
 
 abbrev pub seen : Inside → Seen
 seen r = record {
@@ -16,7 +18,8 @@ seen r = record {
   log = r.log.ops;
 }
 
--- what holds of the parts: they are sane, and the table of stems has a place for each member
-pub record IsWhole (s : Seen) (authors : ℕ) : Type 0 where
+-- what holds of the parts: they are sane, the table of stems has a place for each member, and what is kept of gone targets is right
+pub record IsWhole (s : Seen) (authors : ℕ) (gone : Option Gone) : Type 0 where
   pub sane : IsSane s
   pub authors_are : authors ≡ members s
+  pub gone_are : IfSome gone (λ g. IsGone s g)

@@ -47,6 +47,7 @@ impl Replica {
         // For every history and waiting operations that the replica stands for.
         ensures stands { (t : State) → StandsFor self.old t → StandsFor self.new t × KeepsJust self.new (counts t) }
     {
+        self.gone = None;
         mark_unstable(&mut self.epochs, &self.log, self.acks.stable());
         self.epochs.keep(self.acks.stable());
         self.log.drop_at_most(self.acks.stable());

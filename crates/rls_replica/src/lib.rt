@@ -5,6 +5,7 @@
 mod applying;
 mod counting;
 mod editing;
+mod gone;
 mod hints;
 mod keeping;
 mod looking;
@@ -16,6 +17,7 @@ mod replica;
 mod restoring;
 mod taking;
 mod translating;
+mod uniting;
 
 pub use counting::Kept;
 pub use replica::{NewError, Replica};

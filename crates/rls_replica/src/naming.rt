@@ -9,10 +9,12 @@ ghost use Rattle.rls_rename.specs.Tree.{is_kept};
 ghost use Rattle.rls_ops.specs.Rows.{is_covered};
 ghost use Rattle.rls_seen.specs.Seen.{stable_over};
 ghost use Rattle.rls_seen.specs.Over.{is_known_over, first_unknown_over};
+ghost use Rattle.rls_replica.specs.Gone.{AreNamed};
 ghost use Rattle.rls_replica.specs.Lookups.{is_named_by, is_named_over};
 
 use crate::hints::{Hint, Hints};
 use crate::replica::Replica;
+use crate::uniting::common;
 use rls_ident::{EpochName, Ident};
 use rls_ops::{Body, Op};
 use rls_runs::{Run, Runs};
@@ -122,9 +124,10 @@ impl Replica {
     }
 
     // The identifiers in an epoch that this operation of the log names, if it is an unstable deletion.
-    fn named_ids(&self, op: &Op, to: EpochName) -> Result<Option<Runs>, AllocError>
+    pub(crate) fn named_ids(&self, op: &Op, to: EpochName) -> Result<Option<Runs>, AllocError>
         requires logged { IsIn op.now self.now.log }
         requires kept { IsTrue (is_kept self.now.epochs.top self.now.epochs.nodes to) }
+        ensures named { IfOk result (λ found. AreNamed self.now to op.now found) }
     {
         if self.is_stable(op) {
             return Ok(None);
@@ -132,6 +135,7 @@ impl Replica {
         let Body::Delete { targets } = &op.body else {
             return Ok(None);
         };
+        let _total = targets.total();
         let ids = self.epochs.translate_runs(op.epoch, to, targets)?;
         Ok(Some(ids))
     }
@@ -214,21 +218,23 @@ impl Replica {
         let there = self.epochs.translate_runs(epoch, op.epoch, ids)?;
         let first = there.get(0)?;
         match targets.find(&first) {
-            Ok(i) => Ok(common_front(&there, targets, i)),
+            Ok(i) => Ok(common(&there, 0, targets, i)),
             Err(_) => Ok(0),
         }
     }
 
-    // Whether an unstable deletion names the target.
+    // Whether an unstable deletion names the target. If operations are looked at and none does, identifiers shall be noted as gone.
     fn is_named(&self, epoch: EpochName, target: &Ident) -> Result<bool, AllocError>
         requires kept { IsTrue (is_kept self.now.epochs.top self.now.epochs.nodes epoch) }
         ensures named { IfOk result (λ b. b ≡ is_named_over self.now epoch target.now self.now.log) }
     {
-        for i in 0..self.log.len() {
+        let from = self.cleared(epoch, target)?;
+        for i in from..self.log.len() {
             if self.names(self.log.op(i), epoch, target)? {
                 return Ok(true);
             }
         }
+        self.wanted.set(from < self.log.len());
         Ok(false)
     }
 
@@ -272,18 +278,4 @@ fn alone(alloc: Global, run: Run) -> Result<Runs, AllocError>
     let mut runs = Runs::new(alloc);
     runs.append(run)?;
     Ok(runs)
-}
-
-// How many identifiers from the first one on, within its run, are others from a place on.
-fn common_front(ids: &Runs, others: &Runs, i: u64) -> u64
-    requires some { 0 < length ids.now }
-    requires place { i < length others.now }
-    requires same { slice_get ids.now 0 ≡ slice_get others.now i }
-    ensures within { result ≤ length ids.now }
-    ensures among { (k : ℕ) (x : List Tuple) → k < result → slice_get ids.now k ≡ Some x → IsIn x others.now }
-{
-    let (_ids, _others) = (ids.total(), others.total());
-    let (run, start) = ids.locate(0);
-    let (other, from) = others.locate(i);
-    (run.len() - start).min(other.len() - from) as u64
 }

@@ -59,6 +59,7 @@ impl Replica {
         ensures whole { IsOp op }
     {
         op.fits();
+        self.note_gone();
         match self.look(&op, own)? {
             Receipt::Applied => {
                 self.apply(op, None)?;
@@ -110,6 +111,7 @@ impl Replica {
         ensures after { OnOk result (self.new ≡ released self.old) }
         ensures err { OnErr result (self.new ≡ self.old) }
     {
+        self.note_gone();
         let Some(release) = self.look_ready()? else {
             return Ok(None);
         };

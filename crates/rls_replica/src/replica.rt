@@ -14,6 +14,7 @@ ghost use Rattle.rls_seen.specs.Stands.{StandsFor};
 ghost use Rattle.rls_replica.specs.Faults.{IsNoCount, IsNoMember};
 ghost use Rattle.rls_replica.specs.Names.{KeepsNames};
 
+use crate::gone::Gone;
 use crate::hints::Hints;
 use rls_causal::Held;
 use rls_epoch::Epochs;
@@ -40,6 +41,9 @@ pub struct Replica {
     pub(crate) held: Held,
     pub(crate) log: Log,
     pub(crate) hints: Cell<Option<Hints>>,
+    pub(crate) gone: Option<Gone>,
+    // Whether identifiers shall be noted as gone, anew.
+    pub(crate) wanted: Cell<bool>,
 }
 
 impl Model for Replica {
@@ -51,7 +55,7 @@ impl Model for Replica {
 
     ghost view = { seen };
 
-    ghost invariant = { λ r. IsWhole (seen r) r.stems.members };
+    ghost invariant = { λ r. IsWhole (seen r) r.stems.members r.gone };
 }
 
 /// Why there is no such replica.
@@ -117,6 +121,8 @@ impl Replica {
             held: Held::new(alloc),
             log: Log::new(alloc),
             hints: Cell::new(None),
+            gone: None,
+            wanted: Cell::new(false),
         })
     }
 

@@ -68,6 +68,8 @@ impl Replica {
             held,
             log: Log::of(log),
             hints: Cell::new(None),
+            gone: None,
+            wanted: Cell::new(false),
         })
     }
 }

@@ -10,7 +10,8 @@ use Rattle.rls_seen.proofs.Noting.{acknowledged_alike, acknowledged_stands}
 use Rattle.rls_seen.proofs.Staying.{acknowledged_sane}
 use Rattle.rls_replica.specs.Names.{KeepsNames}
 use Rattle.rls_replica.specs.View.{seen}
-use Rattle.rls_replica.proofs.Whole.{whole_next}
+use Rattle.rls_replica.proofs.Noting.{gone_acknowledged}
+use Rattle.rls_replica.proofs.Whole.{whole_kept}
 use Rattle.rls_replica.proofs.KeptNames.{acknowledged_names}
 use Rattle.rls_replica.proofs.replica.Replica.acknowledge.Goals as goal
 
@@ -25,7 +26,8 @@ pub invariant_of-self : goal.invariant_of-self
 invariant_of-self c =
     let s = c.args.self.now in
     let sane = acknowledged_sane s c.args.from c.args.vector.now (subst IsSane c.self.view_is c.self.invariant.sane) c.requires.member c.requires.counts in
-    whole_next (seen c.self.inside) s _ (acknowledged s c.args.from c.args.vector.now) c.self.inside.stems.members c.self.inside.stems.members c.self.view_is c.self.invariant (after c) sane (members_acknowledged s c.args.from c.args.vector.now) refl
+    whole_kept (seen c.self.inside) s _ (acknowledged s c.args.from c.args.vector.now) c.self.inside.stems.members c.self.inside.stems.members c.self.inside.gone c.self.view_is c.self.invariant (after c) sane (members_acknowledged s c.args.from c.args.vector.now) refl
+    (gone_acknowledged s c.args.from c.args.vector.now (subst IsSane c.self.view_is c.self.invariant.sane) c.requires.member c.requires.counts)
 
 pub returns-clause-stands : goal.returns-clause-stands
 returns-clause-stands c = λ t h.

@@ -10,7 +10,8 @@ use Rattle.rls_seen.proofs.Applied.{accepted_sane}
 use Rattle.rls_seen.proofs.Counting.{members_accepted}
 use Rattle.rls_replica.specs.View.{seen}
 use Rattle.rls_replica.proofs.Accepted.{accepted_is}
-use Rattle.rls_replica.proofs.Whole.{whole_next}
+use Rattle.rls_replica.proofs.Noting.{gone_accepted}
+use Rattle.rls_replica.proofs.Whole.{whole_kept}
 use Rattle.rls_blocks.specs.Trees.{entries_of}
 use Rattle.rls_replica.proofs.replica.Replica.apply.Goals as goal
 
@@ -37,4 +38,4 @@ invariant_of-self-2 c =
     let s = c.args.self.now in
     let o = c.args.op in
     let sane : IsSane (accepted s o) = accepted_sane s o (subst IsSane c.self.view_is c.self.invariant.sane) c.requires.may c.fits.ensures.range in
-    whole_next (seen c.self.inside) s _ (accepted s o) c.self.inside.stems.members c.finish.new.stems.members c.self.view_is c.self.invariant (after c) sane (members_accepted s o) (c.finish.ensures.members ∙ c.in_ok-renaming.ensures.members)
+    whole_kept (seen c.self.inside) s _ (accepted s o) c.self.inside.stems.members c.finish.new.stems.members c.self.inside.gone c.self.view_is c.self.invariant (after c) sane (members_accepted s o) (c.finish.ensures.members ∙ c.in_ok-renaming.ensures.members) (gone_accepted s o (subst IsSane c.self.view_is c.self.invariant.sane) c.requires.may)

@@ -10,9 +10,12 @@ use Rattle.rls_seen.proofs.Needed.{author_in}
 use Rattle.rls_seen.proofs.Repeating.{released_accepted}
 use Rattle.rls_seen.proofs.Staying.{released_sane}
 use Rattle.rls_replica.specs.Changing.{renaming_in}
+use Rattle.rls_seen.specs.Seen.{Seen}
+use Rattle.rls_replica.specs.Gone.{IsGone}
 use Rattle.rls_replica.specs.View.{seen}
 use Rattle.rls_replica.proofs.Accepted.{accepted_is, next_is, next_taken}
-use Rattle.rls_replica.proofs.Whole.{whole_next}
+use Rattle.rls_replica.proofs.Noting.{gone_accepted}
+use Rattle.rls_replica.proofs.Whole.{whole_kept}
 use Rattle.rls_blocks.specs.Trees.{entries_of}
 use Rattle.rls_replica.proofs.replica.Replica.apply_ready.Goals as goal
 
@@ -86,4 +89,7 @@ pub invariant_of-self-2 : goal.invariant_of-self-2
 invariant_of-self-2 c =
     let s = c.args.self.now in
     let sane = released_sane s (subst IsSane c.self.view_is c.self.invariant.sane) in
-    whole_next (seen c.self.inside) s _ (released s) c.self.inside.stems.members c.finish.new.stems.members c.self.view_is c.self.invariant (after c) sane (members_released s) (c.finish.ensures.members ∙ c.in_ok-renaming.ensures.members)
+    whole_kept (seen c.self.inside) s _ (released s) c.self.inside.stems.members c.finish.new.stems.members c.self.inside.gone c.self.view_is c.self.invariant (after c) sane (members_released s) (c.finish.ensures.members ∙ c.in_ok-renaming.ensures.members)
+    (λ g k. let i = seen c.self.inside in
+    let h = next_is i s c.mine.result.now c.in-Some.op.now c.self.view_is c.self.invariant.sane c.mine.ensures.mine c.in-Some.ensures.ready c.requires.fits in
+    subst (λ (u : Seen). IsGone u g) (released_accepted i c.in-Some.op.now h.first h.fits ∙ ap released c.self.view_is) (gone_accepted i c.in-Some.op.now c.self.invariant.sane h.may g (subst (λ (u : Seen). IsGone u g) (sym c.self.view_is) k)))

@@ -1,4 +1,4 @@
-use Rattle.std.proofs.Common.{◌∙◌, ℕ, List, map, sym, ap, subst, refl, arith}
+use Rattle.std.proofs.Common.{◌∙◌, ℕ, List, None, map, sym, ap, subst, refl, arith}
 use Rattle.rls_rename.specs.Tree.{Epochs}
 use Rattle.rls_rename.specs.Keeping.{kept_part}
 use Rattle.rls_ops.specs.declared.op.Op.{Op}
@@ -48,5 +48,5 @@ returns-clause-stands c = λ t h. (
 pub invariant_of-self : goal.invariant_of-self
 invariant_of-self c =
     let s = c.args.self.now in
-    whole_next (seen c.self.inside) s _ (dropped s) c.self.inside.stems.members c.self.inside.stems.members c.self.view_is c.self.invariant (after c)
-    (dropped_sane s (subst IsSane c.self.view_is c.self.invariant.sane)) (members_dropped s) refl
+    whole_next (seen c.self.inside) s _ (dropped s) c.self.inside.stems.members c.self.inside.stems.members c.self.inside.gone None c.self.view_is c.self.invariant (after c)
+    (dropped_sane s (subst IsSane c.self.view_is c.self.invariant.sane)) (members_dropped s) refl tt

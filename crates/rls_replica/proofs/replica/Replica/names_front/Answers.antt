@@ -1,5 +1,5 @@
 use Rattle.rls_ident.proofs.Members.{get_in}
-use Rattle.std.proofs.Common.{◌≡◌, ◌∙◌, ◌<◌, ◌≤◌, length, true, sym, subst, ap}
+use Rattle.std.proofs.Common.{◌≡◌, ◌∙◌, ◌+◌, ◌<◌, length, true, sym, subst, ap, arith}
 use Rattle.rls_seen.specs.Seen.{Seen, translate_over}
 use Rattle.rls_replica.specs.View.{seen}
 use Rattle.rls_replica.proofs.Targets.{known_there, unstable_seen}
@@ -21,7 +21,7 @@ get-requires c =
 pub returns-in-Ok-clause-within : goal.returns-in-Ok-clause-within
 returns-in-Ok-clause-within c =
     let long = ap length c.in_ok-there.ensures.translated ∙ length-map c.args.ids.now (translate_over (seen c.self.inside) c.args.epoch c.args.op.now.epoch) in
-    subst (λ n. c.common_front.result ≤ n) long c.common_front.ensures.within
+    omega (arith, long, c.common.ensures.within)
 
 pub returns-in-Ok-clause-known : goal.returns-in-Ok-clause-known
 returns-in-Ok-clause-known c k x l g =
@@ -32,6 +32,7 @@ returns-in-Ok-clause-known c k x l g =
     let f = translate_over i e o.epoch in
     let unstable = unstable_seen c.args.op.now c.self.view_is c.requires.logged (sym c.is_stable.ensures.covered ∙ c.if-is_stable.false) in
     let there = ap (λ ys. slice_get ys k) c.in_ok-there.ensures.translated ∙ (slice_get-map f xs k ∙ ap (option_map f) g) in
-    let among = c.common_front.ensures.among k (f x) l there in
+    let first : 0 + k ≡ k = omega arith in
+    let among = get_in c.in-Delete.targets (c.in-Ok.i + k) (f x) (sym (c.common.ensures.same k l) ∙ (ap (slice_get c.in_ok-there.there) first ∙ there)) in
     subst (λ (s : Seen). is_known_over s e x ≡ true) c.self.view_is
     (known_there i e x o c.in-Delete.targets c.self.invariant.sane.epochs.nodes (ident_in xs c.total-ids.ensures.idents x (get_in xs k x g)) c.total-targets.ensures.idents unstable c.in-Delete.is among)

@@ -7,15 +7,15 @@ use Rattle.rls_replica.proofs.replica.Replica.receive_exactly.Goals as goal
 
 pub apply-requires : goal.apply-requires
 apply-requires c =
-    let e : answer_over c.args.own c.args.self.now c.args.op ≡ Applies = sym c.in_ok-look.ensures.answer ∙ ap answer_of c.in-Applied.is in
-    record { may = rw c.look.ensures.same (applies c.args.own c.args.self.now c.args.op c.fits.ensures.whole e) }
+    let e : answer_over c.args.own c.note_gone.new.self c.args.op ≡ Applies = sym c.in_ok-look.ensures.answer ∙ ap answer_of c.in-Applied.is in
+    record { may = rw c.look.ensures.same (applies c.args.own c.note_gone.new.self c.args.op c.fits.ensures.whole e) }
 
 pub hold-requires-clause-may : goal.hold-requires-clause-may
 hold-requires-clause-may c =
-    let e : answer_over c.args.own c.args.self.now c.args.op ≡ Waits = sym c.in_ok-look.ensures.answer ∙ ap answer_of c.in-Held.is in
-    rw c.look.ensures.same (waits c.args.own c.args.self.now c.args.op c.fits.ensures.whole e)
+    let e : answer_over c.args.own c.note_gone.new.self c.args.op ≡ Waits = sym c.in_ok-look.ensures.answer ∙ ap answer_of c.in-Held.is in
+    rw c.look.ensures.same (waits c.args.own c.note_gone.new.self c.args.op c.fits.ensures.whole e)
 
 pub hold-requires-clause-alone : goal.hold-requires-clause-alone
 hold-requires-clause-alone c =
-    let e : answer_over c.args.own c.args.self.now c.args.op ≡ Waits = sym c.in_ok-look.ensures.answer ∙ ap answer_of c.in-Held.is in
-    rw c.look.ensures.same (waits_alone c.args.own c.args.self.now c.args.op e)
+    let e : answer_over c.args.own c.note_gone.new.self c.args.op ≡ Waits = sym c.in_ok-look.ensures.answer ∙ ap answer_of c.in-Held.is in
+    rw c.look.ensures.same (waits_alone c.args.own c.note_gone.new.self c.args.op e)

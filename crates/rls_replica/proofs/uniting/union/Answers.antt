@@ -1,0 +1,9 @@
+use Rattle.std.proofs.Common.{arith}
+use Rattle.rls_replica.proofs.Merges.{all_put}
+use Rattle.rls_replica.proofs.uniting.union.Goals as goal
+
+pub returns-clause-first : goal.returns-clause-first
+returns-clause-first c = all_put c.args.a.now c.loop-i.i c.loop-i.both c.loop-i.invariant.first (omega (arith, c.if-i-total.false))
+
+pub returns-clause-second : goal.returns-clause-second
+returns-clause-second c = all_put c.args.b.now c.loop-i.j c.loop-i.both c.loop-i.invariant.second (omega (arith, c.if-j-total.false))

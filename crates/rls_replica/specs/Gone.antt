@@ -1,0 +1,32 @@
+-- What is kept of the identifiers that unstable deletions name.
+use Rattle.std.specs.Prelude.{◌≡◌, ◌≤◌, List, Option, Some, None, length, take, false, IsTrue}
+use Rattle.rls_ident.specs.declared.tuple.Tuple.{Tuple}
+use Rattle.rls_ident.specs.declared.epoch_name.EpochName.{EpochName}
+use Rattle.rls_ident.specs.Identifiers.{IsIdent}
+use Rattle.rls_ident.specs.Lists.{IsIn}
+use Rattle.rls_runs.specs.Runs.{joined}
+use Rattle.rls_rename.specs.Tree.{is_kept}
+use Rattle.rls_ops.specs.declared.op.Op.{Op}
+use Rattle.rls_ops.specs.Rows.{is_covered, missing_for}
+use Rattle.rls_model.specs.Document.{targets_of}
+use Rattle.rls_seen.specs.Seen.{Seen, stable_over, translate_over}
+use Rattle.rls_replica.specs.declared.gone.Gone.{Gone}
+
+-- the identifiers of epoch e that an unstable operation names are in these lists
+abbrev pub AreNoted : Seen → EpochName → List (List (List Tuple)) → Op → Type 0
+AreNoted s e lists d = (t : List Tuple) → IsIn t (targets_of d.body) → IsIdent t × IsIn (translate_over s d.epoch e t) (joined lists)
+
+-- so is each of these
+abbrev pub AllNoted : Seen → EpochName → List (List (List Tuple)) → List Op → Type 0
+AllNoted s e lists os = (d : Op) → IsIn d (missing_for (stable_over s) os) → AreNoted s e lists d
+
+-- what is kept is right
+pub record IsGone (s : Seen) (g : Gone) : Type 0 where
+  pub kept : IsTrue (is_kept s.epochs.top s.epochs.nodes g.epoch)
+  pub few : g.noted ≤ length s.log
+  pub noted : AllNoted s g.epoch g.lists.items (take g.noted s.log)
+
+-- the identifiers that one operation names, if it is an unstable deletion
+abbrev pub AreNamed : Seen → EpochName → Op → Option (List (List Tuple)) → Type 0
+AreNamed s e d None = (t : List Tuple) → is_covered (stable_over s) d ≡ false → IsIn t (targets_of d.body) → ⊥
+AreNamed s e d (Some ids) = (t : List Tuple) → IsIn t (targets_of d.body) → IsIdent t × IsIn (translate_over s d.epoch e t) ids
