@@ -21,8 +21,8 @@ impl Replica {
     /// the operation is given up.
     ///
     /// It costs a few look-ups, and where it is accepted the change of the text: a deletion also a look-up for each stretch of its
-    /// targets that are adjacent in the text or gone, and at the first gone one a translation of each unstable deletion; a rename that
-    /// becomes the greatest epoch a pass over the runs of the text.
+    /// targets that are adjacent in the text or gone; a rename that becomes the greatest epoch a pass over the runs of the text. At the
+    /// first gone target, and again at the first that no unstable deletion names, each unstable deletion is translated once.
     pub fn receive(&mut self, op: Op) -> Result<Receipt, AllocError>
         ensures answer { IfOk result (λ r. answer_of r ≡ answer_over false self.old op) }
         ensures after { OnOk result (self.new ≡ received self.old op) }
