@@ -8,6 +8,7 @@ use rls_report::{
     stat_report, take_report, trial_report,
 };
 use std::alloc::{AllocError, Global};
+use std::sync::Arc;
 use std::test::Fail;
 
 #[test]
@@ -154,7 +155,7 @@ fn other_refusals(rt: HostRuntime) -> Result<(), Fail> {
     let alloc = rt.alloc();
     let own = refused(alloc, Refusal::Own { seq: 2 })?;
     assert_eq!(rt; own.as_str(), "refused 1 2 own\n");
-    let held = Box::new(alloc, leave(alloc)?)?;
+    let held = Arc::new(alloc, leave(alloc)?)?;
     let forked = refused(alloc, Refusal::Forked { held })?;
     assert_eq!(rt; forked.as_str(), "refused 1 2 forked\n");
     let left = refused(alloc, Refusal::Left { seq: 1 })?;
