@@ -77,6 +77,25 @@ begun ss a s n h =
       only = λ j u. let p = used_is (new_stem a s n) j u in inr (p.0, omega (arith, ints));
     }
 
+-- a stem between other bounds, which are those of the old one and of what is new beside it
+stretched : (ss : List Stem) (a q : ℕ) (t : Stem) (l k : ℤ) (m n : ℕ) → stem_of ss a q ≡ Some t → l ≤ℤ pos 0 → l ≤ℤ t.low → t.next ≤ m → l ≤ℤ k → (k +ℤ pos n) ≤ℤ pos m →
+    ((j : ℤ) → k ≤ℤ j → j <ℤ (k +ℤ pos n) → t.low ≤ℤ j → j <ℤ pos t.next → ⊥) →
+    ((j : ℤ) → l ≤ℤ j → j <ℤ pos m → ((t.low ≤ℤ j) × (j <ℤ pos t.next)) ⊎ ((k ≤ℤ j) × (j <ℤ (k +ℤ pos n)))) →
+    Grown ss a q k n (record t { low = l; next = m })
+stretched ss a q t l k m n e z low next from to apart covered =
+    let key = found_is ss a q t e in
+    let same : (j : ℤ) → has_used (stem_of ss a q) j ≡ has_used (Some t) j = λ j. ap (λ o. has_used o j) e in
+    let new = record t { low = l; next = m } in
+    record {
+      author = key.0;
+      number = key.1;
+      low = z;
+      none = λ j g h. same j ∙ unused_from t j (apart j g h);
+      kept = λ j u. let p = used_is t j (sym (same j) ∙ u) in used_from new j (omega (arith, ints)) (omega (arith, ints));
+      more = λ j g h. used_from new j (omega (arith, ints)) (omega (arith, ints));
+      only = λ j u. let p = used_is new j u in ⊎_elim (λ o. inl (same j ∙ used_from t j o.0 o.1)) (λ o. inr o) (covered j p.0 p.1);
+    }
+
 -- at the end of a stem
 longer : Stem → ℕ → Stem
 longer t n = record t { next = t.next + n }
@@ -84,20 +103,8 @@ longer t n = record t { next = t.next + n }
 appended : (ss : List Stem) (a q : ℕ) (t : Stem) (k : ℤ) (n : ℕ) → stem_of ss a q ≡ Some t → t.low ≤ℤ pos 0 → k ≡ pos t.next → Grown ss a q k n (longer t n)
 unfolding longer
 appended ss a q t k n e l f =
-    let key = found_is ss a q t e in
-    let old : (j : ℤ) → has_used (stem_of ss a q) j ≡ true → (t.low ≤ℤ j) × (j <ℤ pos t.next) = λ j u. used_is t j (sym (ap (λ o. has_used o j) e) ∙ u) in
-    record {
-      author = key.0;
-      number = key.1;
-      low = l;
-      none = λ j m o. ap (λ u. has_used u j) e ∙ unused_from t j (λ p r. omega (arith, ints));
-      kept = λ j u. let p = old j u in used_from (record t { next = t.next + n }) j p.0 (omega (arith, ints));
-      more = λ j m o. used_from (record t { next = t.next + n }) j (omega (arith, ints)) (omega (arith, ints));
-      only = λ j u. let p = used_is (record t { next = t.next + n }) j u in split j p.0 p.1;
-    }
-  where
-    split : (j : ℤ) → t.low ≤ℤ j → j <ℤ pos (t.next + n) → (has_used (stem_of ss a q) j ≡ true) ⊎ ((k ≤ℤ j) × (j <ℤ (k +ℤ pos n)))
-    split j p r = by_lt_z j (pos t.next) (λ m. inl (ap (λ u. has_used u j) e ∙ used_from t j p m)) (λ m. inr (omega (arith, ints), omega (arith, ints)))
+    stretched ss a q t t.low k (t.next + n) n e l (omega (arith, ints)) (omega arith) (omega (arith, ints)) (omega (arith, ints))
+    (λ j g h p r. omega (arith, ints)) (λ j p r. by_lt_z j (pos t.next) (λ o. inl (p, o)) (λ o. inr (omega (arith, ints), omega (arith, ints))))
 
 -- before the low of a stem
 wider : Stem → ℤ → Stem
@@ -106,20 +113,8 @@ wider t k = record t { low = k }
 prepended : (ss : List Stem) (a q : ℕ) (t : Stem) (k : ℤ) (n : ℕ) → stem_of ss a q ≡ Some t → t.low ≤ℤ pos 0 → (k +ℤ pos n) ≡ t.low → Grown ss a q k n (wider t k)
 unfolding wider
 prepended ss a q t k n e l f =
-    let key = found_is ss a q t e in
-    let old : (j : ℤ) → has_used (stem_of ss a q) j ≡ true → (t.low ≤ℤ j) × (j <ℤ pos t.next) = λ j u. used_is t j (sym (ap (λ o. has_used o j) e) ∙ u) in
-    record {
-      author = key.0;
-      number = key.1;
-      low = omega (arith, ints);
-      none = λ j m o. ap (λ u. has_used u j) e ∙ unused_from t j (λ p r. omega (arith, ints));
-      kept = λ j u. let p = old j u in used_from (record t { low = k }) j (omega (arith, ints)) p.1;
-      more = λ j m o. used_from (record t { low = k }) j m (omega (arith, ints));
-      only = λ j u. let p = used_is (record t { low = k }) j u in split j p.0 p.1;
-    }
-  where
-    split : (j : ℤ) → k ≤ℤ j → j <ℤ pos t.next → (has_used (stem_of ss a q) j ≡ true) ⊎ ((k ≤ℤ j) × (j <ℤ (k +ℤ pos n)))
-    split j p r = by_lt_z j t.low (λ m. inr (p, omega (arith, ints))) (λ m. inl (ap (λ u. has_used u j) e ∙ used_from t j m r))
+    stretched ss a q t k k t.next n e (omega (arith, ints)) (omega (arith, ints)) (omega arith) (omega (arith, ints)) (omega (arith, ints))
+    (λ j g h p r. omega (arith, ints)) (λ j p r. by_lt_z j t.low (λ o. inr (p, omega (arith, ints))) (λ o. inl (o, r)))
 
 -- ---- an insertion
 

@@ -57,16 +57,20 @@ count_at w i = option_map (λ s. count s.history) (slice_get w.states i)
 abbrev counts_at : World → ℕ → Option Counts
 counts_at w i = option_map (λ s. counts s) (slice_get w.states i)
 
+-- both of two members show this text and these runs, in this greatest epoch
+abbrev BothShow : World → List ℕ → List (List Tuple × ℕ) → EpochName → Type 0
+BothShow w x xs g = (text_at w 0 ≡ Some x)
+    × (text_at w 1 ≡ Some x)
+    × (runs_at w 0 ≡ Some xs)
+    × (runs_at w 1 ≡ Some xs)
+    × (greatest_at w 0 ≡ Some g)
+    × (greatest_at w 1 ≡ Some g)
+
 -- a rename at one member and an insertion at the other
 abbrev rename_and_insert : World
 rename_and_insert = of_two (shared ++ edits 0 Rename ∷ edits 1 (Insert 2 (codes "x")) ∷ sends 0 1 ∷ sends 1 0 ∷ comes 1 1 ∷ comes 2 0 ∷ [])
 
-rename_and_insert_shows : (text_at rename_and_insert 0 ≡ Some (codes "hexllo"))
-    × (text_at rename_and_insert 1 ≡ Some (codes "hexllo"))
-    × (runs_at rename_and_insert 0 ≡ Some ((At mid 0 2 (pos 0) ∷ [], 2) ∷ (At mid 0 2 (pos 1) ∷ At mid 0 1 (pos 1) ∷ At mid 1 1 (pos 0) ∷ [], 1) ∷ (At mid 0 2 (pos 2) ∷ [], 3) ∷ []))
-    × (runs_at rename_and_insert 1 ≡ runs_at rename_and_insert 0)
-    × (greatest_at rename_and_insert 0 ≡ Some (Of 0 2))
-    × (greatest_at rename_and_insert 1 ≡ Some (Of 0 2))
+rename_and_insert_shows : BothShow rename_and_insert (codes "hexllo") ((At mid 0 2 (pos 0) ∷ [], 2) ∷ (At mid 0 2 (pos 1) ∷ At mid 0 1 (pos 1) ∷ At mid 1 1 (pos 0) ∷ [], 1) ∷ (At mid 0 2 (pos 2) ∷ [], 3) ∷ []) (Of 0 2)
 unfolding computing
 rename_and_insert_shows = (refl, refl, refl, refl, refl, refl)
 
@@ -85,12 +89,7 @@ delivered_twice_shows = (refl, refl, refl, refl)
 abbrev two_renames : World
 two_renames = of_two (shared ++ edits 0 Rename ∷ edits 1 Rename ∷ edits 0 (Insert 2 (codes "A")) ∷ edits 1 (Insert 2 (codes "B")) ∷ sends 0 1 ∷ sends 1 0 ∷ comes 1 1 ∷ comes 2 0 ∷ [])
 
-two_renames_shows : (text_at two_renames 0 ≡ Some (codes "heABllo"))
-    × (text_at two_renames 1 ≡ Some (codes "heABllo"))
-    × (runs_at two_renames 0 ≡ Some ((At mid 1 1 (pos 0) ∷ [], 2) ∷ (At mid 1 1 (pos 1) ∷ At mid 0 3 (pos 0) ∷ [], 1) ∷ (At mid 1 1 (pos 1) ∷ At mid 1 2 (pos 0) ∷ [], 1) ∷ (At mid 1 1 (pos 2) ∷ [], 3) ∷ []))
-    × (runs_at two_renames 1 ≡ runs_at two_renames 0)
-    × (greatest_at two_renames 0 ≡ Some (Of 1 1))
-    × (greatest_at two_renames 1 ≡ Some (Of 1 1))
+two_renames_shows : BothShow two_renames (codes "heABllo") ((At mid 1 1 (pos 0) ∷ [], 2) ∷ (At mid 1 1 (pos 1) ∷ At mid 0 3 (pos 0) ∷ [], 1) ∷ (At mid 1 1 (pos 1) ∷ At mid 1 2 (pos 0) ∷ [], 1) ∷ (At mid 1 1 (pos 2) ∷ [], 3) ∷ []) (Of 1 1)
 unfolding computing
 two_renames_shows = (refl, refl, refl, refl, refl, refl)
 
