@@ -113,12 +113,14 @@ join_high (x ∷ v) [] e h = absurd (omega arith)
 join_high (x ∷ v) (y ∷ w) e h =
     ap (λ m. m ∷ join v w) (max_high x y (le_is x y (and_left (nat_le x y) (at_most v w) h))) ∙ ap (λ u. y ∷ u) (join_high v w (omega arith) (and_right (nat_le x y) (at_most v w) h))
 
+join_turned : (v w : List ℕ) → join v w ≡ join w v
+join_turned [] [] = refl
+join_turned [] (y ∷ w) = refl
+join_turned (x ∷ v) [] = refl
+join_turned (x ∷ v) (y ∷ w) = let e : max x y ≡ max y x = omega arith in ap (λ m. m ∷ join v w) e ∙ ap (λ u. max y x ∷ u) (join_turned v w)
+
 pub join_low : (v w : List ℕ) → length v ≡ length w → at_most w v ≡ true → join v w ≡ v
-join_low [] [] e h = refl
-join_low [] (y ∷ w) e h = absurd (omega arith)
-join_low (x ∷ v) [] e h = absurd (omega arith)
-join_low (x ∷ v) (y ∷ w) e h =
-    ap (λ m. m ∷ join v w) (max_low x y (le_is y x (and_left (nat_le y x) (at_most w v) h))) ∙ ap (λ u. x ∷ u) (join_low v w (omega arith) (and_right (nat_le y x) (at_most w v) h))
+join_low v w e h = join_turned v w ∙ join_high w v (sym e) h
 
 pub index-join : (v w : List ℕ) (i : ℕ) → length v ≡ length w → slice_index (join v w) i ≡ max (slice_index v i) (slice_index w i)
 index-join [] [] i e = refl
