@@ -6,6 +6,7 @@ use Rattle.rls_ident.proofs.Vectors.{at_most_refl}
 use Rattle.rls_runs.specs.Runs.{runs_of}
 use Rattle.rls_rename.specs.Connected.{spanned, spanned_renamings}
 use Rattle.rls_rename.specs.Keeping.{kept_part}
+use Rattle.rls_rename.specs.Tree.{Epochs}
 use Rattle.rls_ops.specs.declared.op.Op.{Op}
 use Rattle.rls_ops.specs.Rows.{row_of, left}
 use Rattle.rls_model.specs.declared.counts.Counts.{Counts}
@@ -16,6 +17,7 @@ use Rattle.rls_model.specs.Document.{export, idents, text}
 use Rattle.rls_model.specs.Epochs.{epochs}
 use Rattle.rls_model.specs.History.{group_of, me_of, members_of, count}
 use Rattle.rls_model.specs.Laws.{KeepsRetained}
+use Rattle.rls_model.specs.Legal.{IsSound}
 use Rattle.rls_model.specs.Parts.{epoch_parts, text_runs, parts}
 use Rattle.rls_model.specs.Parts as model
 use Rattle.rls_model.specs.Receiving.{State}
@@ -29,9 +31,30 @@ use Rattle.rls_model.proofs.WindowLaws as window_laws
 use Rattle.rls_seen.specs.Seen.{Seen, members, stable_over, unstable_over, greatest_over, idents_over, text_over}
 use Rattle.rls_seen.specs.Kept as kept
 use Rattle.rls_seen.specs.Kept.{dropped, retained_over, counts_over, other_rows, left_below, parts_over}
-use Rattle.rls_seen.specs.Stands.{StandsFor}
+use Rattle.rls_seen.specs.Stands.{StandsFor, IsLog}
 use Rattle.rls_seen.proofs.Alike.{members_alike, stable_alike, unstable_alike, keeping}
 use Rattle.rls_seen.proofs.Editing.{idents_alike}
+
+-- ---- a part of what a replica keeps
+
+-- with other epochs, another log and other waiting operations it still stands for the history
+pub stands_with : (s : Seen) (t : State) (E : Epochs) (log W V : List Op) → StandsFor s t → IsSound (record { history = t.history; waiting = V }) → KeepsRetained t.history E → W ≡ V → (gone : List ℕ) × IsLog log t.history gone →
+    StandsFor (record s { epochs = E; waiting = W; log = log }) (record { history = t.history; waiting = V })
+stands_with s t E log W V h sound kept waiting covered = record {
+  legal = h.legal;
+  sound = sound;
+  group = h.group;
+  me = h.me;
+  vector = h.vector;
+  places = h.places;
+  rows = h.rows;
+  left = h.left;
+  stems = h.stems;
+  epochs = kept;
+  text = h.text;
+  waiting = waiting;
+  log = covered;
+}
 
 -- ---- dropping
 
@@ -44,22 +67,8 @@ part_alike s t h =
 pub dropped_stands : (s : Seen) (t : State) → StandsFor s t → StandsFor (dropped s) t
 unfolding dropped unstable
 dropped_stands s t h =
-    let H = t.history in
-    record {
-      legal = h.legal;
-      sound = h.sound;
-      group = h.group;
-      me = h.me;
-      vector = h.vector;
-      places = h.places;
-      rows = h.rows;
-      left = h.left;
-      stems = h.stems;
-      epochs = subst (KeepsRetained H) (sym (part_alike s t h)) (window_laws.dropped H s.epochs h.legal h.epochs).0;
-      text = h.text;
-      waiting = h.waiting;
-      log = (stable H, record { stable = at_most_refl (stable H); kept = unstable_alike s t h });
-    }
+    stands_with s t (dropped s).epochs (dropped s).log s.waiting t.waiting h h.sound (subst (KeepsRetained t.history) (sym (part_alike s t h)) (window_laws.dropped t.history s.epochs h.legal h.epochs).0) h.waiting
+    (stable t.history, record { stable = at_most_refl (stable t.history); kept = unstable_alike s t h })
 
 -- ---- numbers
 

@@ -21,6 +21,7 @@ use Rattle.rls_seen.specs.Sane.{MayApply, MayWait}
 use Rattle.rls_seen.specs.Stands.{StandsFor}
 use Rattle.rls_seen.proofs.Alike.{members_alike, refusal_alike, answers_alike}
 use Rattle.rls_seen.proofs.Accepting.{accepted_stands}
+use Rattle.rls_seen.proofs.Keeping.{stands_with}
 
 -- ---- what an answer says of the operation
 
@@ -78,21 +79,7 @@ may_accept s t o h m =
 -- operations wait that fit to the history
 pub holding_stands : (s : Seen) (t : State) (W : List Op) → StandsFor s t → IsSound (record { history = t.history; waiting = W }) → StandsFor (holding s W) (record { history = t.history; waiting = W })
 unfolding holding
-holding_stands s t W h sound = record {
-  legal = h.legal;
-  sound = sound;
-  group = h.group;
-  me = h.me;
-  vector = h.vector;
-  places = h.places;
-  rows = h.rows;
-  left = h.left;
-  stems = h.stems;
-  epochs = h.epochs;
-  text = h.text;
-  waiting = refl;
-  log = h.log;
-}
+holding_stands s t W h sound = stands_with s t s.epochs s.log W W h sound h.epochs refl h.log
 
 received_go : (own : Bool) (s : Seen) (t : State) (o : Op) → IsOp o → StandsFor s t → (a : Answer) → answer_over own s o ≡ a → StandsFor (after_answer a s o) (after a t o)
 received_go own s t o whole h Applies e = accepted_stands s t o whole (may_accept s t o h (applies own s o whole e)) h
