@@ -51,16 +51,12 @@ impl From<AnswerError> for Failure {
 
     fn from(error: AnswerError) -> Failure {
         match error {
-            AnswerError::SourceFault => Failure::Fault {
-                fault: Fault::Source,
-            },
-            AnswerError::SinkFault => Failure::Fault { fault: Fault::Sink },
+            AnswerError::SourceFault => Failure::of_fault(Fault::Source),
+            AnswerError::SinkFault => Failure::of_fault(Fault::Sink),
             AnswerError::TooLarge => Failure::Command {
                 error: CommandError::TooLarge,
             },
-            AnswerError::OutOfMemory => Failure::Fault {
-                fault: Fault::Memory,
-            },
+            AnswerError::OutOfMemory => Failure::of_fault(Fault::Memory),
         }
     }
 }

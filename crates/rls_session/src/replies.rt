@@ -5,7 +5,7 @@ ghost use Rattle.rls_report.specs.Reports.{take_text};
 ghost use Rattle.rls_session.specs.Replies.{ok_text, undone_text, nothing_text, cursor_text, bytes_text, refused_text, failed_text, bad_text};
 
 use rls_model::Taken;
-use rls_report::{CommandError, Failure, LineFault, failure_line, fault_text, take_report};
+use rls_report::{CommandError, Failure, LineFault, failure_line, fault_text, taken_report};
 use std::alloc::{AllocError, Global};
 
 /// The edit with this number was accepted.
@@ -67,16 +67,7 @@ pub(crate) fn failed(alloc: Global, error: CommandError) -> Result<Vec<u8>, Allo
 pub(crate) fn taken(alloc: Global, found: &Taken) -> Result<Vec<u8>, AllocError>
     ensures text { IfOk result (λ text. text.items ≡ take_text found.now.applied found.now.released found.now.repeated found.now.held (length found.now.refused)) }
 {
-    let Taken {
-        applied,
-        released,
-        repeated,
-        held,
-        refused,
-    } = found;
-    let refused = refused.len() as u64;
-    let report = take_report(alloc, *applied, *released, *repeated, *held, refused)?;
-    Ok(report.into_bytes())
+    Ok(taken_report(alloc, found)?.into_bytes())
 }
 
 /// The line is nothing that a session knows.
