@@ -1,5 +1,5 @@
 -- Which calls of the keeper a command made, from what its stages called.
-use Rattle.std.proofs.Common.{◌≡◌, ◌≢◌, ℕ, Bool, true, false, eqb, List, Option, Some, None, IfSome, IsSome, IsTrue, IsFalse, Result, Ok, Err, refl, sym, ◌∙◌, subst, inl, inr}
+use Rattle.std.proofs.Common.{◌≡◌, ◌≢◌, ℕ, Bool, true, false, eqb, List, Option, Some, None, IfSome, IsSome, IsTrue, IsFalse, Result, Ok, Err, refl, sym, subst, inl, inr}
 use Rattle.std.specs.Prelude.{Vec}
 use Rattle.std.specs.declared.alloc.Global.{Global}
 use Rattle.rls_io.specs.Memory.{bytes_of}
@@ -21,7 +21,7 @@ use Rattle.rls_top.specs.Due.{Due, Makes, Stops, calls_keeper, may_store}
 use Rattle.rls_top.specs.Due as due
 use Rattle.rls_top.specs.Endings.{IsStored}
 use Rattle.rls_top.specs.Stages.{IsAsDue, IsStatusOf, of_device, of_make}
-use Rattle.rls_top.proofs.Finishing.{for_due}
+use Rattle.rls_top.proofs.Finishing.{for_due, unstored}
 use Rattle.rls_top.proofs.Statuses.{done_made, ended_by, keeper_fault, made_apart, made_stored, sink_fault, stored_done}
 
 -- ---- which status is whose
@@ -46,15 +46,6 @@ not_stored f n s other (inr (inl e)) = let m = done_made (Err f) n s (inr e) in 
 not_stored f n s other (inr (inr e)) = absurd (other (same_failure f (Fault Sink) (sink_fault (Err f) n s e)))
 
 -- ---- nothing was made
-
--- before anything is stored the output doesn't fail
-unstored : (f : Failure) (e : MakeError) → f ≡ of_make e → f ≢ Fault Sink
-unstored f (make.Open (opening.Command x)) is h = let never : Command x ≡ Fault Sink = sym is ∙ h in cc
-unstored f (make.Open opening.KeeperFault) is h = let never : Fault Keeper ≡ Fault Sink = sym is ∙ h in cc
-unstored f (make.Open opening.OutOfMemory) is h = let never : Fault Memory ≡ Fault Sink = sym is ∙ h in cc
-unstored f (make.Input (input.Work (work.Command x))) is h = let never : Command x ≡ Fault Sink = sym is ∙ h in cc
-unstored f (make.Input (input.Work work.OutOfMemory)) is h = let never : Fault Memory ≡ Fault Sink = sym is ∙ h in cc
-unstored f (make.Input input.SourceFault) is h = let never : Fault Source ≡ Fault Sink = sym is ∙ h in cc
 
 pub unmade_calls : {K : Type 0} (load : K → Bool → K → Type 0) (store : K → List ℕ → Bool → K → Type 0) (c : Option words.Command) (d : Option Due) (unread : Type 0) (e : MakeError) (f : Failure) (old new : K) → f ≡ of_make e
     → (IsFalse (calls_keeper c) → new ≡ old) → (IsTrue (calls_keeper c) → HasMade load (Err e) old new) → UnlessOpened e unread → (n : ℕ) → IsStatusOf (Err f) n → Calls load store c d unread n old new

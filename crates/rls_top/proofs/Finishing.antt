@@ -1,9 +1,12 @@
 -- What is stored and written of what was made.
-use Rattle.std.proofs.Common.{◌≡◌, ◌≢◌, ℕ, List, Option, Some, None, IfSome, Result, Ok, Err, refl, subst}
+use Rattle.std.proofs.Common.{◌≡◌, ◌≢◌, ℕ, List, Option, Some, None, IfSome, Result, Ok, Err, refl, sym, ◌∙◌, subst}
 use Rattle.rls_io.specs.Device.{Appends, Keeps, Stores}
 use Rattle.rls_io.specs.Memory.{bytes_of}
 use Rattle.rls_stages.specs.declared.errors.OpenError.TheVariants as opening
 use Rattle.rls_stages.specs.declared.errors.WorkError.TheVariants as work
+use Rattle.rls_report.specs.declared.failures.Failure.{Failure}
+use Rattle.rls_report.specs.declared.failures.Failure.TheVariants.{Command, Fault}
+use Rattle.rls_report.specs.declared.failures.Fault.TheVariants.{Keeper, Source, Sink, Memory}
 use Rattle.rls_top.specs.declared.made.Made.{Made}
 use Rattle.rls_top.specs.declared.stages.DeviceError.{DeviceError}
 use Rattle.rls_top.specs.declared.stages.DeviceError.TheVariants.{KeeperFault, SinkFault, OutOfMemory}
@@ -63,18 +66,18 @@ abbrev failed : DeviceError → Result (Unit {0}) DeviceError
 failed e = Err e
 
 -- stored or written in part
-pub cut_reports : (d : Option Due) (made : Made) (e : DeviceError) (old new : Option (List ℕ)) → IfSome d (IsAsDue made) → (failed e ≡ failed SinkFault → IsPart old new made.report.items) → (e ≢ SinkFault → new ≡ old)
-    → IfSome d (λ d. Reports (Err (of_device e)) d old new)
-cut_reports d made e old new m part none = for_due d (IsAsDue made) (λ d. Reports (Err (of_device e)) d old new) (λ d m. go d e m part none) m
+pub cut_reports : (d : Option Due) (made : Made) (e : DeviceError) (f : Failure) (old new : Option (List ℕ)) → f ≡ of_device e → IfSome d (IsAsDue made) → (failed e ≡ failed SinkFault → IsPart old new made.report.items) → (e ≢ SinkFault → new ≡ old)
+    → IfSome d (λ d. Reports (Err f) d old new)
+cut_reports d made e f old new is m part none = for_due d (IsAsDue made) (λ d. Reports (Err f) d old new) (λ d m. subst (λ (f : Failure). Reports (Err f) d old new) (sym is) (go d e m part none)) m
   where
     go : (d : Due) (e : DeviceError) → IsAsDue made d → (failed e ≡ failed SinkFault → IsPart old new made.report.items) → (e ≢ SinkFault → new ≡ old) → Reports (Err (of_device e)) d old new
     go d KeeperFault m part none = none (λ h. cc)
     go d SinkFault m part none = partly_so made d old new m (part refl)
     go d OutOfMemory m part none = none (λ h. cc)
 
-pub cut_leaves : (d : Option Due) (made : Made) (e : DeviceError) (old mid new : Option (Option (List ℕ))) → IfSome d (IsAsDue made) → Keeps old mid → (failed e ≡ failed SinkFault → LeavesFile (bytes_of made.stored) mid new)
-    → IfSome d (λ d. Leaves (Err (of_device e)) d old new)
-cut_leaves d made e old mid new m h part = for_due d (IsAsDue made) (λ d. Leaves (Err (of_device e)) d old new) (λ d m. go d e m part) m
+pub cut_leaves : (d : Option Due) (made : Made) (e : DeviceError) (f : Failure) (old mid new : Option (Option (List ℕ))) → f ≡ of_device e → IfSome d (IsAsDue made) → Keeps old mid → (failed e ≡ failed SinkFault → LeavesFile (bytes_of made.stored) mid new)
+    → IfSome d (λ d. Leaves (Err f) d old new)
+cut_leaves d made e f old mid new is m h part = for_due d (IsAsDue made) (λ d. Leaves (Err f) d old new) (λ d m. subst (λ (f : Failure). Leaves (Err f) d old new) (sym is) (go d e m part)) m
   where
     go : (d : Due) (e : DeviceError) → IsAsDue made d → (failed e ≡ failed SinkFault → LeavesFile (bytes_of made.stored) mid new) → Leaves (Err (of_device e)) d old new
     go d KeeperFault m part = tt
@@ -85,21 +88,25 @@ cut_leaves d made e old mid new m h part = for_due d (IsAsDue made) (λ d. Leave
 pub for_command : (words : Option commands.Command) (c : commands.Command) (file : Option (Option (List ℕ))) (left : Option (List ℕ)) (P : Due → Type 0) → Some c ≡ words → IfSome (due_of_command c file left) P → IfSome (due_of_words words file left) P
 for_command words c file left P e h = subst (λ (w : Option commands.Command). IfSome (due_of_words w file left) P) e h
 
--- nothing was made
-pub unmade_reports : (d : Option Due) (e : MakeError) (old : Option (List ℕ)) → IfSome d (λ d. Reports (Err (of_make e)) d old old)
-unmade_reports None e old = tt
-unmade_reports (Some d) (make.Open (opening.Command e)) old = refl
-unmade_reports (Some d) (make.Open opening.KeeperFault) old = refl
-unmade_reports (Some d) (make.Open opening.OutOfMemory) old = refl
-unmade_reports (Some d) (make.Input (input.Work (work.Command e))) old = refl
-unmade_reports (Some d) (make.Input (input.Work work.OutOfMemory)) old = refl
-unmade_reports (Some d) (make.Input input.SourceFault) old = refl
+-- ---- nothing was made
 
-pub unmade_leaves : (d : Option Due) (e : MakeError) (old new : Option (Option (List ℕ))) → IfSome d (λ d. Leaves (Err (of_make e)) d old new)
-unmade_leaves None e old new = tt
-unmade_leaves (Some d) (make.Open (opening.Command e)) old new = tt
-unmade_leaves (Some d) (make.Open opening.KeeperFault) old new = tt
-unmade_leaves (Some d) (make.Open opening.OutOfMemory) old new = tt
-unmade_leaves (Some d) (make.Input (input.Work (work.Command e))) old new = tt
-unmade_leaves (Some d) (make.Input (input.Work work.OutOfMemory)) old new = tt
-unmade_leaves (Some d) (make.Input input.SourceFault) old new = tt
+-- before anything is stored the output doesn't fail
+pub unstored : (f : Failure) (e : MakeError) → f ≡ of_make e → f ≢ Fault Sink
+unstored f (make.Open (opening.Command x)) is h = let never : Command x ≡ Fault Sink = sym is ∙ h in cc
+unstored f (make.Open opening.KeeperFault) is h = let never : Fault Keeper ≡ Fault Sink = sym is ∙ h in cc
+unstored f (make.Open opening.OutOfMemory) is h = let never : Fault Memory ≡ Fault Sink = sym is ∙ h in cc
+unstored f (make.Input (input.Work (work.Command x))) is h = let never : Command x ≡ Fault Sink = sym is ∙ h in cc
+unstored f (make.Input (input.Work work.OutOfMemory)) is h = let never : Fault Memory ≡ Fault Sink = sym is ∙ h in cc
+unstored f (make.Input input.SourceFault) is h = let never : Fault Source ≡ Fault Sink = sym is ∙ h in cc
+
+unmade : (d : Due) (f : Failure) (told : Option (List ℕ)) (old new : Option (Option (List ℕ))) → f ≢ Fault Sink → Reports (Err f) d told told × Leaves (Err f) d old new
+unmade d (Fault Sink) told old new other = absurd (other refl)
+unmade d _ told old new other = (refl, tt)
+
+pub unmade_reports : (d : Option Due) (e : MakeError) (f : Failure) (told : Option (List ℕ)) → f ≡ of_make e → IfSome d (λ d. Reports (Err f) d told told)
+unmade_reports None e f told is = tt
+unmade_reports (Some d) e f told is = (unmade d f told None None (unstored f e is)).0
+
+pub unmade_leaves : (d : Option Due) (e : MakeError) (f : Failure) (old new : Option (Option (List ℕ))) → f ≡ of_make e → IfSome d (λ d. Leaves (Err f) d old new)
+unmade_leaves None e f old new is = tt
+unmade_leaves (Some d) e f old new is = (unmade d f None old new (unstored f e is)).1

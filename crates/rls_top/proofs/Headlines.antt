@@ -139,6 +139,10 @@ pub record Ends (d : Option Due) (file new_file : Option (Option (List ℕ))) (n
   pub report : IsDone n → IfSome d (λ d. IsWritten d old new)
   pub keeps : IsStored n → IfSome d (λ d. IsKept d file new_file)
 
+-- of a command with these words
+pub record Ran (words : List (List ℕ)) (file new_file : Option (Option (List ℕ))) (left : Option (List ℕ)) (n : ℕ) (old new : Option (List ℕ)) : Type 0 where
+  pub ends : Ends (due words file left) file new_file n old new
+
 -- at what is called for
 ends_at : (d : Option Due) (e : Due) (file new_file : Option (Option (List ℕ))) (n : ℕ) (old new : Option (List ℕ)) → d ≡ Some e → Ends d file new_file n old new → Ends (Some e) file new_file n old new
 ends_at d e file new_file n old new is h = subst (λ (x : Option Due). Ends x file new_file n old new) is h
@@ -171,60 +175,16 @@ on_file : (words : List (List ℕ)) (c : FileCommand) (file : Option (Option (Li
     → due words file left ≡ due_on c (replica_in (loaded (Some bytes))) left
 on_file words c file left bytes e f = ap (λ (w : Option Command). due_of_words w file left) e ∙ ap (λ (x : Option (Option (List ℕ))). due_of_words (Some (OnFile c)) x left) f
 
-shown_at : (words : List (List ℕ)) (c : FileCommand) (file new_file : Option (Option (List ℕ))) (left : Option (List ℕ)) (bytes report : List ℕ) (t : State) (n : ℕ) (old new : Option (List ℕ))
-    → Ends (due words file left) file new_file n old new → Asks words c file bytes t → ((s : Seen) → StandsFor s t → due_at c s left ≡ Some (Makes None report [])) → Shows n bytes report old new
-shown_at words c file new_file left bytes report t n old new e a at =
-    let o = opened bytes t a.stands in
-    let d = opened_due c bytes left t o.0 (Makes None report []) o.1 (at o.0 o.1.stands) in
-    shows_so n d.0 bytes report file new_file old new d.2 (ends_at (due words file left) d.0 file new_file n old new (on_file words c file left bytes a.command a.kept ∙ d.1) e)
-
 -- a command leads from a replica that stands for one state to one that stands for another
 pub record Leads (s : Seen) (r : Seen) (t : State) : Type 0 where
   pub stands : StandsFor r t
   pub writable : AreWritable r
 
-saved_at : (words : List (List ℕ)) (c : FileCommand) (file new_file : Option (Option (List ℕ))) (left : Option (List ℕ)) (bytes report : List ℕ) (refused : List (ℕ × ℕ × Reason)) (t u : State) (s r : Seen) (d : Due) (too_long : Type 0) (n : ℕ) (old new : Option (List ℕ))
-    → Ends (due words file left) file new_file n old new → Asks words c file bytes t → IsOpened bytes t s → due_at c s left ≡ Some d → StoresOrTooLong d r report refused too_long → Leads s r u
-    → Saves n u report refused ((FILE_BYTES < length bytes) ⊎ too_long) new_file old new
-saved_at words c file new_file left bytes report refused t u s r d too_long n old new e a o at stored k =
-    let f = opened_due c bytes left t s d o at in
-    saves_so n f.0 r u report refused ((FILE_BYTES < length bytes) ⊎ too_long) (Some bytes) file new_file old new (through f.0 d r report refused (FILE_BYTES < length bytes) too_long f.2 stored)
-    (ends_at (due words file left) f.0 file new_file n old new (on_file words c file left bytes a.command a.kept ∙ f.1) e) a.kept k.stands k.writable
-
--- ---- what is shown
-
 -- the listing is that of each history that the replica stands for
 pub ids_alike : (s : Seen) (t : State) → StandsFor s t → ids_over s ≡ ids_of t.history
 ids_alike s t h = ap (λ (e : EpochName). ids_text e (runs_of (idents_over s))) (greatest_alike s t h) ∙ ap (λ (xs : List (List Tuple)). ids_text (greatest t.history) (runs_of xs)) (idents_alike s t h)
 
-pub text_shown : (words : List (List ℕ)) (file new_file : Option (Option (List ℕ))) (left : Option (List ℕ)) (bytes : List ℕ) (t : State) (n : ℕ) (old new : Option (List ℕ))
-    → Ends (due words file left) file new_file n old new → Asks words Text file bytes t → Shows n bytes (encode_utf8_all (text t.history)) old new
-text_shown words file new_file left bytes t n old new e a =
-    shown_at words Text file new_file left bytes (encode_utf8_all (text t.history)) t n old new e a (λ s h. ap (λ (cs : List ℕ). Some (Makes None (encode_utf8_all cs) [])) (text_alike s t h))
-
-pub ids_shown : (words : List (List ℕ)) (file new_file : Option (Option (List ℕ))) (left : Option (List ℕ)) (bytes : List ℕ) (t : State) (n : ℕ) (old new : Option (List ℕ))
-    → Ends (due words file left) file new_file n old new → Asks words Ids file bytes t → Shows n bytes (ids_of t.history) old new
-ids_shown words file new_file left bytes t n old new e a =
-    shown_at words Ids file new_file left bytes (ids_of t.history) t n old new e a (λ s h. ap (λ (line : List ℕ). Some (Makes None line [])) (ids_alike s t h))
-
-pub stat_shown : (words : List (List ℕ)) (file new_file : Option (Option (List ℕ))) (left : Option (List ℕ)) (bytes : List ℕ) (t : State) (n : ℕ) (old new : Option (List ℕ))
-    → Ends (due words file left) file new_file n old new → Asks words Stat file bytes t → Shows n bytes (stat_of t) old new
-stat_shown words file new_file left bytes t n old new e a =
-    shown_at words Stat file new_file left bytes (stat_of t) t n old new e a (λ s h. ap (λ (lines : List ℕ). Some (Makes None lines [])) (stat_alike s t h))
-
-pub message_shown : (words : List (List ℕ)) (file new_file : Option (Option (List ℕ))) (left : Option (List ℕ)) (bytes : List ℕ) (t : State) (to n : ℕ) (old new : Option (List ℕ))
-    → Ends (due words file left) file new_file n old new → Asks words (Send to) file bytes t → to < members_of t.history → Shows n bytes (message_bytes (message_for t.history to)) old new
-message_shown words file new_file left bytes t to n old new e a l =
-    shown_at words (Send to) file new_file left bytes (message_bytes (message_for t.history to)) t n old new e a sent
-  where
-    sent : (s : Seen) → StandsFor s t → due_at (Send to) s left ≡ Some (Makes None (message_bytes (message_for t.history to)) [])
-    sent s h =
-        let k = members_alike s t h in
-        let below : to < members s = omega (arith, k, l) in
-        let test : ltb to (members s) ≡ true = grind (arith, nat_tests) in
-        rw test (ap (λ (m : Message). Some (Makes None (message_bytes m) [])) (message_alike s t to below h))
-
--- ---- what is saved
+-- ---- the input
 
 -- what is read of an input that isn't too long
 read_or_long : (input : List ℕ) (f : List ℕ → Due) → OrTooLong (due_of_input (read input) f) (f input) (INPUT_BYTES < length input)
@@ -235,47 +195,17 @@ read_or_long input f = go (within_or_past INPUT_BYTES (length input))
     go (inl h) = inl (rw (h.1) refl)
     go (inr h) = inr (h.0, rw (h.1) refl)
 
--- what is due after a run that came to its end on both sides, where the state is stored
-run_stored : (n k : ℕ) (c : Course) (p : Progress) → Goes n c p → StoresOrTooLong (due_of_run k (Done c)) c.state (edit_text k p.counts.released (length p.counts.refused)) p.counts.refused (FILE_BYTES < length (file_bytes (parts p.state)))
-run_stored n k c p g =
-    let report = edit_text k p.counts.released (length p.counts.refused) in
-    let counts : due_of_run k (Done c) ≡ stores (saved c.state) report p.counts.refused = ap (λ (f : Taken). stores (saved c.state) (edit_text k f.released (length f.refused)) f.refused) g.counts in
-    let long = subst (λ (x : Parts). StoresOrTooLong (stores (saved c.state) report p.counts.refused) c.state report p.counts.refused (FILE_BYTES < length (file_bytes x))) (parts_alike c.state p.state g.states.1) (stored_or_long c.state report p.counts.refused) in
-    subst (λ (d : Due). StoresOrTooLong d c.state report p.counts.refused (FILE_BYTES < length (file_bytes (parts p.state)))) (sym counts) long
+-- what is stored after the input was read, too
+read_stored : (input : List ℕ) (f : List ℕ → Due) (s : Seen) (report : List ℕ) (refused : List (ℕ × ℕ × Reason)) (at_last : Type 0) → StoresOrTooLong (f input) s report refused at_last
+    → StoresOrTooLong (due_of_input (read input) f) s report refused ((INPUT_BYTES < length input) ⊎ at_last)
+read_stored input f s report refused at_last stored = through (due_of_input (read input) f) (f input) s report refused (INPUT_BYTES < length input) at_last (read_or_long input f) stored
 
-pub edits_saved : (words : List (List ℕ)) (file new_file : Option (Option (List ℕ))) (left : Option (List ℕ)) (bytes script : List ℕ) (t : State) (lines : List Line) (p : Progress) (n : ℕ) (old new : Option (List ℕ))
-    → Ends (due words file left) file new_file n old new → Asks words Edit file bytes t → left ≡ Some script → script_of script ≡ Ok lines → script_in t lines ≡ Done p
-    → Saves n p.state (edit_text (length lines) p.counts.released (length p.counts.refused)) p.counts.refused (IsTooLong bytes script p.state) new_file old new
-edits_saved words file new_file left bytes script t lines p n old new e a l parsed ran =
-    let o = opened bytes t a.stands in
-    let s = o.0 in
-    let well = lines_read_well lines (script_fits script lines parsed) in
-    let r = runs_alike read_line (line_by fault_in text_in) lines_alike s t lines well o.1.stands p ran in
-    let c = r.0 in
-    let report = edit_text (length lines) p.counts.released (length p.counts.refused) in
-    let long = FILE_BYTES < length (file_bytes (parts p.state)) in
-    let done : due_of_script s (script_of script) ≡ due_of_run (length lines) (Done c) = ap (due_of_script s) parsed ∙ ap (due_of_run (length lines)) r.1 in
-    let stored = subst (λ (d : Due). StoresOrTooLong d c.state report p.counts.refused long) (sym done) (run_stored (members s) (length lines) c p r.2) in
-    let at_input = through (due_of_input (read script) (λ bytes. due_of_script s (script_of bytes))) (due_of_script s (script_of script)) c.state report p.counts.refused (INPUT_BYTES < length script) long
-    (read_or_long script (λ bytes. due_of_script s (script_of bytes))) stored in
-    let w = lines_writable read_line s lines c well o.1.sane o.1.writable r.1 in
-    saved_at words Edit file new_file left bytes report p.counts.refused t p.state s c.state (due_of_input (read script) (λ bytes. due_of_script s (script_of bytes))) ((INPUT_BYTES < length script) ⊎ long) n old new e a o.1
-    (ap (due_at Edit s) l) at_input (record { stands = r.2.states.1; writable = w.1 })
-
-pub leave_saved : (words : List (List ℕ)) (file new_file : Option (Option (List ℕ))) (left : Option (List ℕ)) (bytes : List ℕ) (t : State) (p : Progress) (n : ℕ) (old new : Option (List ℕ))
-    → Ends (due words file left) file new_file n old new → Asks words Leave file bytes t → leave_in t ≡ Done p
-    → Saves n p.state (edit_text 1 p.counts.released (length p.counts.refused)) p.counts.refused (IsFileTooLong bytes p.state) new_file old new
-leave_saved words file new_file left bytes t p n old new e a ran =
-    let o = opened bytes t a.stands in
-    let s = o.0 in
-    let r = runs_alike allowed (allowed_by fault_in) allowed_alike s t (edits.Leave ∷ []) leave_reads_well o.1.stands p ran in
-    let c = r.0 in
-    let report = edit_text 1 p.counts.released (length p.counts.refused) in
-    let long = FILE_BYTES < length (file_bytes (parts p.state)) in
-    let done : due_at Leave s left ≡ Some (due_of_run 1 (Done c)) = ap (λ (x : Run Seen LineFault). Some (due_of_run 1 x)) r.1 in
-    let w = lines_writable allowed s (edits.Leave ∷ []) c leave_reads_well o.1.sane o.1.writable r.1 in
-    saved_at words Leave file new_file left bytes report p.counts.refused t p.state s c.state (due_of_run 1 (Done c)) long n old new e a o.1
-    done (run_stored (members s) 1 c p r.2) (record { stands = r.2.states.1; writable = w.1 })
+-- what is due where both sides came to their ends, which count the same
+run_stored : (n : ℕ) (c : Course) (p : Progress) (report : Taken → List ℕ) → Goes n c p
+    → StoresOrTooLong (stores (saved c.state) (report c.counts) c.counts.refused) c.state (report p.counts) p.counts.refused (FILE_BYTES < length (file_bytes (parts p.state)))
+run_stored n c p report g =
+    subst (λ (f : Taken). StoresOrTooLong (stores (saved c.state) (report c.counts) c.counts.refused) c.state (report f) f.refused (FILE_BYTES < length (file_bytes (parts p.state)))) g.counts
+    (subst (λ (x : Parts). StoresOrTooLong (stores (saved c.state) (report c.counts) c.counts.refused) c.state (report c.counts) c.counts.refused (FILE_BYTES < length (file_bytes x))) (parts_alike c.state p.state g.states.1) (stored_or_long c.state (report c.counts) c.counts.refused))
 
 -- the message is for the replica, as it is for the history
 pub for_alike : (s : Seen) (t : State) (m : Message) → StandsFor s t → is_for t.history m ≡ true → dues.is_for s m ≡ true
@@ -292,54 +222,103 @@ message_given bytes m n is e =
     let from = v.from in
     record { from = omega (arith, from, e); vector = subst (λ k. IsVector k m.vector) e (fits_vector m.members m.vector v.vector); ops = ops_given m.members None m.ops v.ops }
 
--- what is due after a message that was taken on both sides
-taken_stored : (n : ℕ) (c : Course) (p : Progress) → Goes n c p
-    → StoresOrTooLong (due_of_taken c) c.state (take_text p.counts.applied p.counts.released p.counts.repeated p.counts.held (length p.counts.refused)) p.counts.refused (FILE_BYTES < length (file_bytes (parts p.state)))
-taken_stored n c p g =
-    let report = take_text p.counts.applied p.counts.released p.counts.repeated p.counts.held (length p.counts.refused) in
-    let counts : due_of_taken c ≡ stores (saved c.state) report p.counts.refused =
-    ap (λ (f : Taken). stores (saved c.state) (take_text f.applied f.released f.repeated f.held (length f.refused)) f.refused) g.counts in
-    let long = subst (λ (x : Parts). StoresOrTooLong (stores (saved c.state) report p.counts.refused) c.state report p.counts.refused (FILE_BYTES < length (file_bytes x))) (parts_alike c.state p.state g.states.1) (stored_or_long c.state report p.counts.refused) in
-    subst (λ (d : Due). StoresOrTooLong d c.state report p.counts.refused (FILE_BYTES < length (file_bytes (parts p.state)))) (sym counts) long
+-- the numbers of a fresh replica
+head_numbers : (group me members : ℕ) → IsHead 1 group members me → AreNumbers group me members
+head_numbers group me members h =
+    let below = h.me_fits in
+    let fit : nat_le members MEMBERS ≡ true = and_right (nat_lt 0 members) (nat_le members MEMBERS) h.members_fit in
+    (h.group_fits, below, (let k : members ≤ MEMBERS = grind (arith, nat_tests) in k))
 
-pub message_saved : (words : List (List ℕ)) (file new_file : Option (Option (List ℕ))) (left : Option (List ℕ)) (bytes given : List ℕ) (t : State) (m : Message) (n : ℕ) (old new : Option (List ℕ))
-    → Ends (due words file left) file new_file n old new → Asks words Take file bytes t → left ≡ Some given → IsMessage given m → IsTrue (is_for t.history m) → let p = take_message t m in
-    Saves n p.state (take_text p.counts.applied p.counts.released p.counts.repeated p.counts.held (length p.counts.refused)) p.counts.refused (IsTooLong bytes given p.state) new_file old new
-message_saved words file new_file left bytes given t m n old new e a l is right =
-    let o = opened bytes t a.stands in
-    let s = o.0 in
-    let p = take_message t m in
-    let as_many : m.members ≡ members s = eqb-true m.members (members_of t.history) (and_right (m.group == group_of t.history) (m.members == members_of t.history) right) ∙ sym (members_alike s t o.1.stands) in
-    let g = taken_stands None s t m (message_given given m (members s) is as_many) o.1.stands in
-    let c = taken_over s m in
-    let report = take_text p.counts.applied p.counts.released p.counts.repeated p.counts.held (length p.counts.refused) in
-    let long = FILE_BYTES < length (file_bytes (parts p.state)) in
-    let done : due_of_message s (message_of given) ≡ due_of_taken c = rw (message_again given m is, for_alike s t m o.1.stands right) refl in
-    let stored = subst (λ (d : Due). StoresOrTooLong d c.state report p.counts.refused long) (sym done) (taken_stored (members s) c p g) in
-    let at_input = through (due_of_input (read given) (λ bytes. due_of_message s (message_of bytes))) (due_of_message s (message_of given)) c.state report p.counts.refused (INPUT_BYTES < length given) long
-    (read_or_long given (λ bytes. due_of_message s (message_of bytes))) stored in
-    let w = taken_writable s given m o.1.sane o.1.writable is as_many in
-    saved_at words Take file new_file left bytes report p.counts.refused t p.state s c.state (due_of_input (read given) (λ bytes. due_of_message s (message_of bytes))) ((INPUT_BYTES < length given) ⊎ long) n old new e a o.1
-    (ap (due_at Take s) l) at_input (record { stands = g.states.1; writable = w.1 })
+-- ---- what a command shows and saves
 
--- ---- a fresh replica
+module _ {words : List (List ℕ)} {file new_file : Option (Option (List ℕ))} {left : Option (List ℕ)} {n : ℕ} {old new : Option (List ℕ)} (ran : Ran words file new_file left n old new) where
+  shown_at : {bytes : List ℕ} {t : State} (c : FileCommand) (report : List ℕ) → Asks words c file bytes t → ((s : Seen) → StandsFor s t → due_at c s left ≡ Some (Makes None report [])) → Shows n bytes report old new
+  shown_at {bytes} {t} c report a at =
+      let o = opened bytes t a.stands in
+      let d = opened_due c bytes left t o.0 (Makes None report []) o.1 (at o.0 o.1.stands) in
+      shows_so n d.0 bytes report file new_file old new d.2 (ends_at (due words file left) d.0 file new_file n old new (on_file words c file left bytes a.command a.kept ∙ d.1) ran.ends)
 
-pub new_saved : (words : List (List ℕ)) (file new_file : Option (Option (List ℕ))) (left : Option (List ℕ)) (group me members n : ℕ) (old new : Option (List ℕ))
-    → Ends (due words file left) file new_file n old new → command_of words ≡ Some (New group me members) → file ≡ Some None → IsHead 1 group members me
-    → Saves n (new_state group me members) (new_text group me members) [] ⊥ new_file old new
-new_saved words file new_file left group me members n old new e command missing head =
-    let numbers = head_numbers group me members head in
-    let s = fresh group me members in
-    let right = right_numbers group me members numbers in
-    let few = fresh_short group me members numbers in
-    let short : nat_lt FILE_BYTES (length (file_bytes (parts_over s))) ≡ false = grind (arith, nat_tests) in
-    let d : Due = Makes (Some s) (new_text group me members) [] in
-    let is : due words file left ≡ Some d = ap (λ (w : Option Command). due_of_words w file left) command ∙ (ap (λ (x : Option (Option (List ℕ))). due_of_words (Some (New group me members)) x left) missing ∙ rw (right.0, short) refl) in
-    saves_so n d s (new_state group me members) (new_text group me members) [] ⊥ None file new_file old new (inl (few, refl)) (ends_at (due words file left) d file new_file n old new is e) missing
-    (fresh_stands group me members numbers) (fresh_writable group me members)
-  where
-    head_numbers : (group me members : ℕ) → IsHead 1 group members me → AreNumbers group me members
-    head_numbers group me members h =
-        let below = h.me_fits in
-        let fit : nat_le members MEMBERS ≡ true = and_right (nat_lt 0 members) (nat_le members MEMBERS) h.members_fit in
-        (h.group_fits, below, (let k : members ≤ MEMBERS = grind (arith, nat_tests) in k))
+  saved_at : {bytes : List ℕ} {t u : State} {s r : Seen} (c : FileCommand) (report : List ℕ) (refused : List (ℕ × ℕ × Reason)) (d : Due) (too_long : Type 0) → Asks words c file bytes t → IsOpened bytes t s → due_at c s left ≡ Some d → StoresOrTooLong d r report refused too_long → Leads s r u
+      → Saves n u report refused ((FILE_BYTES < length bytes) ⊎ too_long) new_file old new
+  saved_at {bytes} {t} {u} {s} {r} c report refused d too_long a o at stored k =
+      let f = opened_due c bytes left t s d o at in
+      saves_so n f.0 r u report refused ((FILE_BYTES < length bytes) ⊎ too_long) (Some bytes) file new_file old new (through f.0 d r report refused (FILE_BYTES < length bytes) too_long f.2 stored)
+      (ends_at (due words file left) f.0 file new_file n old new (on_file words c file left bytes a.command a.kept ∙ f.1) ran.ends) a.kept k.stands k.writable
+
+  pub text_shown : {bytes : List ℕ} {t : State} → Asks words Text file bytes t → Shows n bytes (encode_utf8_all (text t.history)) old new
+  text_shown {bytes} {t} a = shown_at Text (encode_utf8_all (text t.history)) a (λ s h. ap (λ (cs : List ℕ). Some (Makes None (encode_utf8_all cs) [])) (text_alike s t h))
+
+  pub ids_shown : {bytes : List ℕ} {t : State} → Asks words Ids file bytes t → Shows n bytes (ids_of t.history) old new
+  ids_shown {bytes} {t} a = shown_at Ids (ids_of t.history) a (λ s h. ap (λ (line : List ℕ). Some (Makes None line [])) (ids_alike s t h))
+
+  pub stat_shown : {bytes : List ℕ} {t : State} → Asks words Stat file bytes t → Shows n bytes (stat_of t) old new
+  stat_shown {bytes} {t} a = shown_at Stat (stat_of t) a (λ s h. ap (λ (lines : List ℕ). Some (Makes None lines [])) (stat_alike s t h))
+
+  pub message_shown : {bytes : List ℕ} {t : State} {to : ℕ} → Asks words (Send to) file bytes t → to < members_of t.history → Shows n bytes (message_bytes (message_for t.history to)) old new
+  message_shown {bytes} {t} {to} a l = shown_at (Send to) (message_bytes (message_for t.history to)) a sent
+    where
+      sent : (s : Seen) → StandsFor s t → due_at (Send to) s left ≡ Some (Makes None (message_bytes (message_for t.history to)) [])
+      sent s h =
+          let k = members_alike s t h in
+          let below : to < members s = omega (arith, k, l) in
+          let test : ltb to (members s) ≡ true = grind (arith, nat_tests) in
+          rw test (ap (λ (m : Message). Some (Makes None (message_bytes m) [])) (message_alike s t to below h))
+
+  pub edits_saved : {bytes : List ℕ} {t : State} (script : List ℕ) (lines : List Line) (p : Progress) → Asks words Edit file bytes t → left ≡ Some script → script_of script ≡ Ok lines → script_in t lines ≡ Done p
+      → Saves n p.state (edit_text (length lines) p.counts.released (length p.counts.refused)) p.counts.refused (IsTooLong bytes script p.state) new_file old new
+  edits_saved {bytes} {t} script lines p a l parsed ended =
+      let o = opened bytes t a.stands in
+      let s = o.0 in
+      let well = lines_read_well lines (script_fits script lines parsed) in
+      let r = runs_alike read_line (line_by fault_in text_in) lines_alike s t lines well o.1.stands p ended in
+      let c = r.0 in
+      let report = λ (f : Taken). edit_text (length lines) f.released (length f.refused) in
+      let long = FILE_BYTES < length (file_bytes (parts p.state)) in
+      let at_script = λ (bytes : List ℕ). due_of_script s (script_of bytes) in
+      let done : at_script script ≡ due_of_run (length lines) (Done c) = ap (due_of_script s) parsed ∙ ap (due_of_run (length lines)) r.1 in
+      let stored = subst (λ (d : Due). StoresOrTooLong d c.state (report p.counts) p.counts.refused long) (sym done) (run_stored (members s) c p report r.2) in
+      let w = lines_writable read_line s lines c well o.1.sane o.1.writable r.1 in
+      saved_at Edit (report p.counts) p.counts.refused (due_of_input (read script) at_script) ((INPUT_BYTES < length script) ⊎ long) a o.1
+      (ap (due_at Edit s) l) (read_stored script at_script c.state (report p.counts) p.counts.refused long stored) (record { stands = r.2.states.1; writable = w.1 })
+
+  pub leave_saved : {bytes : List ℕ} {t : State} (p : Progress) → Asks words Leave file bytes t → leave_in t ≡ Done p
+      → Saves n p.state (edit_text 1 p.counts.released (length p.counts.refused)) p.counts.refused (IsFileTooLong bytes p.state) new_file old new
+  leave_saved {bytes} {t} p a ended =
+      let o = opened bytes t a.stands in
+      let s = o.0 in
+      let r = runs_alike allowed (allowed_by fault_in) allowed_alike s t (edits.Leave ∷ []) leave_reads_well o.1.stands p ended in
+      let report = λ (f : Taken). edit_text 1 f.released (length f.refused) in
+      let done : due_at Leave s left ≡ Some (due_of_run 1 (Done r.0)) = ap (λ (x : Run Seen LineFault). Some (due_of_run 1 x)) r.1 in
+      let w = lines_writable allowed s (edits.Leave ∷ []) r.0 leave_reads_well o.1.sane o.1.writable r.1 in
+      saved_at Leave (report p.counts) p.counts.refused (due_of_run 1 (Done r.0)) (FILE_BYTES < length (file_bytes (parts p.state))) a o.1
+      done (run_stored (members s) r.0 p report r.2) (record { stands = r.2.states.1; writable = w.1 })
+
+  pub message_saved : {bytes : List ℕ} {t : State} (given : List ℕ) (m : Message) → Asks words Take file bytes t → left ≡ Some given → IsMessage given m → IsTrue (is_for t.history m) → let p = take_message t m in
+      Saves n p.state (take_text p.counts.applied p.counts.released p.counts.repeated p.counts.held (length p.counts.refused)) p.counts.refused (IsTooLong bytes given p.state) new_file old new
+  message_saved {bytes} {t} given m a l is right =
+      let o = opened bytes t a.stands in
+      let s = o.0 in
+      let p = take_message t m in
+      let as_many : m.members ≡ members s = eqb-true m.members (members_of t.history) (and_right (m.group == group_of t.history) (m.members == members_of t.history) right) ∙ sym (members_alike s t o.1.stands) in
+      let g = taken_stands None s t m (message_given given m (members s) is as_many) o.1.stands in
+      let c = taken_over s m in
+      let report = λ (f : Taken). take_text f.applied f.released f.repeated f.held (length f.refused) in
+      let long = FILE_BYTES < length (file_bytes (parts p.state)) in
+      let at_message = λ (bytes : List ℕ). due_of_message s (message_of bytes) in
+      let done : at_message given ≡ due_of_taken c = rw (message_again given m is, for_alike s t m o.1.stands right) refl in
+      let stored = subst (λ (d : Due). StoresOrTooLong d c.state (report p.counts) p.counts.refused long) (sym done) (run_stored (members s) c p report g) in
+      let w = taken_writable s given m o.1.sane o.1.writable is as_many in
+      saved_at Take (report p.counts) p.counts.refused (due_of_input (read given) at_message) ((INPUT_BYTES < length given) ⊎ long) a o.1
+      (ap (due_at Take s) l) (read_stored given at_message c.state (report p.counts) p.counts.refused long stored) (record { stands = g.states.1; writable = w.1 })
+
+  pub new_saved : (group me members : ℕ) → command_of words ≡ Some (New group me members) → file ≡ Some None → IsHead 1 group members me → Saves n (new_state group me members) (new_text group me members) [] ⊥ new_file old new
+  new_saved group me members command missing head =
+      let numbers = head_numbers group me members head in
+      let s = fresh group me members in
+      let right = right_numbers group me members numbers in
+      let few = fresh_short group me members numbers in
+      let short : nat_lt FILE_BYTES (length (file_bytes (parts_over s))) ≡ false = grind (arith, nat_tests) in
+      let d : Due = Makes (Some s) (new_text group me members) [] in
+      let is : due words file left ≡ Some d = ap (λ (w : Option Command). due_of_words w file left) command ∙ (ap (λ (x : Option (Option (List ℕ))). due_of_words (Some (New group me members)) x left) missing ∙ rw (right.0, short) refl) in
+      saves_so n d s (new_state group me members) (new_text group me members) [] ⊥ None file new_file old new (inl (few, refl)) (ends_at (due words file left) d file new_file n old new is ran.ends) missing
+      (fresh_stands group me members numbers) (fresh_writable group me members)

@@ -1,13 +1,10 @@
 //! Why a command ends early, by the stage at which it ends: each error has only what may go wrong there.
 
 ghost use Rattle.std.specs.Prelude.{◌≡◌};
-ghost use Rattle.rls_report.specs.declared.failures.Failure.TheVariants as failures;
 ghost use Rattle.rls_top.specs.declared.stages.InputError.TheVariants as input;
 ghost use Rattle.rls_top.specs.declared.stages.MakeError.TheVariants as make;
-ghost use Rattle.rls_top.specs.declared.stages.DeviceError.TheVariants as device;
 ghost use Rattle.rls_top.specs.Stages.{at_line, of_device, of_input, of_make};
 
-use rls_io::Failed;
 use rls_report::{CommandError, Failure, Fault};
 use rls_stages::{LineError, OpenError, WorkError};
 
@@ -73,7 +70,7 @@ impl From<InputError> for Failure {
     fn from(error: InputError) -> Failure {
         match error {
             InputError::Work { error } => Failure::from(error),
-            InputError::SourceFault => fault(Fault::Source),
+            InputError::SourceFault => Failure::of_fault(Fault::Source),
         }
     }
 }
@@ -89,31 +86,16 @@ impl From<MakeError> for Failure {
     }
 }
 
-impl From<Failed> for DeviceError {
-    ghost from_gives = { λ _ e. e ≡ device.SinkFault };
-
-    fn from(_: Failed) -> DeviceError {
-        DeviceError::SinkFault
-    }
-}
-
 impl From<DeviceError> for Failure {
     ghost from_gives = { λ error e. e ≡ of_device error };
 
     fn from(error: DeviceError) -> Failure {
         match error {
-            DeviceError::KeeperFault => fault(Fault::Keeper),
-            DeviceError::SinkFault => fault(Fault::Sink),
-            DeviceError::OutOfMemory => fault(Fault::Memory),
+            DeviceError::KeeperFault => Failure::of_fault(Fault::Keeper),
+            DeviceError::SinkFault => Failure::of_fault(Fault::Sink),
+            DeviceError::OutOfMemory => Failure::of_fault(Fault::Memory),
         }
     }
-}
-
-// A device has failed, or there was no memory.
-fn fault(fault: Fault) -> Failure
-    ensures fault { result ≡ failures.Fault fault }
-{
-    Failure::Fault { fault }
 }
 
 /// Why the line of this number isn't performed.

@@ -11,7 +11,7 @@ ghost use Rattle.rls_top.specs.Stages.{IsDue};
 use crate::made::{Made, saving};
 use rls_model::Taken;
 use rls_replica::Replica;
-use rls_report::{CommandError, take_report};
+use rls_report::{CommandError, taken_report};
 use rls_stages::WorkError;
 use rls_sync::{TakeBytesError, take_bytes};
 use std::alloc::Global;
@@ -40,16 +40,8 @@ fn report_taken(alloc: Global, replica: &Replica, taken: &Taken) -> Result<Made,
     ensures due { IsDue of_work result (stores (saved replica.now) (take_text taken.now.applied taken.now.released taken.now.repeated taken.now.held (length taken.now.refused)) taken.now.refused) }
     ensures stored { IfOk result (λ made. IsSome made.stored) }
 {
-    let Taken {
-        applied,
-        released,
-        repeated,
-        held,
-        refused,
-    } = taken;
-    let count = refused.len() as u64;
-    match take_report(alloc, *applied, *released, *repeated, *held, count) {
+    match taken_report(alloc, taken) {
         Err(_) => Err(WorkError::OutOfMemory),
-        Ok(report) => saving(alloc, replica, report, refused),
+        Ok(report) => saving(alloc, replica, report, &taken.refused),
     }
 }

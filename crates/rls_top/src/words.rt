@@ -34,27 +34,17 @@ pub(crate) fn parsed(words: &[String]) -> Option<Command>
     let Some((word, others)) = words.split_first() else {
         return None;
     };
-    let word = word.as_str();
-    if word == "new" {
-        new(others)
-    } else if word == "edit" {
-        alone(FileCommand::Edit, others)
-    } else if word == "text" {
-        alone(FileCommand::Text, others)
-    } else if word == "ids" {
-        alone(FileCommand::Ids, others)
-    } else if word == "stat" {
-        alone(FileCommand::Stat, others)
-    } else if word == "send" {
-        send(others)
-    } else if word == "take" {
-        alone(FileCommand::Take, others)
-    } else if word == "leave" {
-        alone(FileCommand::Leave, others)
-    } else if word == "trial" {
-        trial(others)
-    } else {
-        None
+    match word.as_str() {
+        "new" => new(others),
+        "edit" => alone(FileCommand::Edit, others),
+        "text" => alone(FileCommand::Text, others),
+        "ids" => alone(FileCommand::Ids, others),
+        "stat" => alone(FileCommand::Stat, others),
+        "send" => send(others),
+        "take" => alone(FileCommand::Take, others),
+        "leave" => alone(FileCommand::Leave, others),
+        "trial" => trial(others),
+        _ => None,
     }
 }
 

@@ -2,7 +2,7 @@ use Rattle.std.proofs.Common.{◌≡◌, ◌∙◌, IfSome, IsFalse, IsTrue, Opt
 use Rattle.rls_report.specs.declared.failures.Failure.{Failure}
 use Rattle.rls_top.specs.declared.words.Command.{Command}
 use Rattle.rls_top.specs.Due.{calls_keeper, due, due_of_command, may_store}
-use Rattle.rls_top.specs.Stages.{IsAsDue, IsDue, IsStatusOf, Leaves, Reports, of_failure}
+use Rattle.rls_top.specs.Stages.{IsAsDue, IsDue, IsStatusOf, of_failure}
 use Rattle.rls_top.specs.Words.{command_of}
 use Rattle.rls_top.proofs.Called.{made_calls, unmade_calls}
 use Rattle.rls_top.proofs.Finishing.{cut_leaves, cut_reports, for_command, unmade_leaves, unmade_reports}
@@ -17,39 +17,20 @@ returns-in-Err-clause-due g c =
     (subst (λ (f : Failure). IfSome (due_of_command c.in-Some.command file left) (IsDue of_failure (Err f))) (sym c.from.ensures) c.in-Err.ensures.due)
 
 pub returns-in-Err-clause-reports : goal.returns-in-Err-clause-reports
-returns-in-Err-clause-reports g c =
-    let d = due (map string_bytes c.args.words.now) (g.K.Keeper.file c.args.keeper.now) (g.S.Source.left c.args.input.now) in
-    let old = g.W.Sink.told c.args.output.now in
-    subst (λ (f : Failure). IfSome d (λ d. Reports (Err f) d old old)) (sym c.from.ensures) (unmade_reports d c.in-Err.error old)
+returns-in-Err-clause-reports g c = unmade_reports (due (map string_bytes c.args.words.now) (g.K.Keeper.file c.args.keeper.now) (g.S.Source.left c.args.input.now)) c.in-Err.error c.from.result (g.W.Sink.told c.args.output.now) c.from.ensures
 
 pub returns-in-Err-clause-leaves : goal.returns-in-Err-clause-leaves
-returns-in-Err-clause-leaves g c =
-    let d = due (map string_bytes c.args.words.now) (g.K.Keeper.file c.args.keeper.now) (g.S.Source.left c.args.input.now) in
-    let old = g.K.Keeper.file c.args.keeper.now in
-    let new = g.K.Keeper.file c.make.new.keeper in
-    subst (λ (f : Failure). IfSome d (λ d. Leaves (Err f) d old new)) (sym c.from.ensures) (unmade_leaves d c.in-Err.error old new)
+returns-in-Err-clause-leaves g c = unmade_leaves (due (map string_bytes c.args.words.now) (g.K.Keeper.file c.args.keeper.now) (g.S.Source.left c.args.input.now)) c.in-Err.error c.from.result (g.K.Keeper.file c.args.keeper.now) (g.K.Keeper.file c.make.new.keeper) c.from.ensures
 
 pub returns-in-Err-finish-clause-reports : goal.returns-in-Err-finish-clause-reports
 returns-in-Err-finish-clause-reports g c =
-    let file = g.K.Keeper.file c.args.keeper.now in
-    let left = g.S.Source.left c.args.input.now in
-    let words = command_of (map string_bytes c.args.words.now) in
-    let d = due (map string_bytes c.args.words.now) file left in
-    let old = g.W.Sink.told c.args.output.now in
-    let new = g.W.Sink.told c.finish.new.output in
-    let made = for_command words c.in-Some.command file left (IsAsDue c.in-Ok.made) c.in-Some.ensures.command c.in-Ok.ensures.due in
-    subst (λ (f : Failure). IfSome d (λ d. Reports (Err f) d old new)) (sym c.from-in-Err-finish.ensures) (cut_reports d c.in-Ok.made c.in-Err-finish.error old new made c.in-Err-finish.ensures.partly c.in-Err-finish.ensures.nothing)
+    cut_reports (due (map string_bytes c.args.words.now) (g.K.Keeper.file c.args.keeper.now) (g.S.Source.left c.args.input.now)) c.in-Ok.made c.in-Err-finish.error c.from-in-Err-finish.result
+    (g.W.Sink.told c.args.output.now) (g.W.Sink.told c.finish.new.output) c.from-in-Err-finish.ensures (for_command (command_of (map string_bytes c.args.words.now)) c.in-Some.command (g.K.Keeper.file c.args.keeper.now) (g.S.Source.left c.args.input.now) (IsAsDue c.in-Ok.made) c.in-Some.ensures.command c.in-Ok.ensures.due) c.in-Err-finish.ensures.partly c.in-Err-finish.ensures.nothing
 
 pub returns-in-Err-finish-clause-leaves : goal.returns-in-Err-finish-clause-leaves
 returns-in-Err-finish-clause-leaves g c =
-    let file = g.K.Keeper.file c.args.keeper.now in
-    let left = g.S.Source.left c.args.input.now in
-    let words = command_of (map string_bytes c.args.words.now) in
-    let d = due (map string_bytes c.args.words.now) file left in
-    let mid = g.K.Keeper.file c.make.new.keeper in
-    let new = g.K.Keeper.file c.finish.new.keeper in
-    let made = for_command words c.in-Some.command file left (IsAsDue c.in-Ok.made) c.in-Some.ensures.command c.in-Ok.ensures.due in
-    subst (λ (f : Failure). IfSome d (λ d. Leaves (Err f) d file new)) (sym c.from-in-Err-finish.ensures) (cut_leaves d c.in-Ok.made c.in-Err-finish.error file mid new made c.in-Ok.ensures.kept c.in-Err-finish.ensures.file_partly)
+    cut_leaves (due (map string_bytes c.args.words.now) (g.K.Keeper.file c.args.keeper.now) (g.S.Source.left c.args.input.now)) c.in-Ok.made c.in-Err-finish.error c.from-in-Err-finish.result
+    (g.K.Keeper.file c.args.keeper.now) (g.K.Keeper.file c.make.new.keeper) (g.K.Keeper.file c.finish.new.keeper) c.from-in-Err-finish.ensures (for_command (command_of (map string_bytes c.args.words.now)) c.in-Some.command (g.K.Keeper.file c.args.keeper.now) (g.S.Source.left c.args.input.now) (IsAsDue c.in-Ok.made) c.in-Some.ensures.command c.in-Ok.ensures.due) c.in-Ok.ensures.kept c.in-Err-finish.ensures.file_partly
 
 pub returns-in-Err-clause-uncalled : goal.returns-in-Err-clause-uncalled
 returns-in-Err-clause-uncalled g c = λ h.
@@ -72,15 +53,13 @@ returns-in-Err-clause-calls g c = λ n s.
 
 pub returns-in-Err-finish-clause-calls : goal.returns-in-Err-finish-clause-calls
 returns-in-Err-finish-clause-calls g c = λ n s.
-    let file = g.K.Keeper.file c.args.keeper.now in
-    let left = g.S.Source.left c.args.input.now in
     let words = command_of (map string_bytes c.args.words.now) in
-    let d = due (map string_bytes c.args.words.now) file left in
+    let d = due (map string_bytes c.args.words.now) (g.K.Keeper.file c.args.keeper.now) (g.S.Source.left c.args.input.now) in
     let is = sym c.in-Some.ensures.command in
     made_calls g.K.Keeper.load_gives g.K.Keeper.store_gives words d (c.make.new.input ≡ c.args.input.now) c.in-Ok.made (Err c.in-Err-finish.error) c.args.keeper.now c.make.new.keeper c.finish.new.keeper
     (λ h. let u = c.in-Ok.ensures.uncalled (subst (λ (w : Option Command). IsFalse (calls_keeper w)) is h) in ((c.in-Err-finish.ensures.unstored u.2).0 ∙ u.0, u.2))
     (λ h. c.in-Ok.ensures.calls (subst (λ (w : Option Command). IsTrue (calls_keeper w)) is h))
     (λ h. c.in-Err-finish.ensures.unstored (c.in-Ok.ensures.unstored (subst (λ (w : Option Command). IsFalse (may_store w)) is h)))
     (λ h. c.in-Ok.ensures.storing (subst (λ (w : Option Command). IsTrue (may_store w)) is h))
-    c.in-Err-finish.ensures.calls (for_command words c.in-Some.command file left (IsAsDue c.in-Ok.made) c.in-Some.ensures.command c.in-Ok.ensures.due) n
+    c.in-Err-finish.ensures.calls (for_command (command_of (map string_bytes c.args.words.now)) c.in-Some.command (g.K.Keeper.file c.args.keeper.now) (g.S.Source.left c.args.input.now) (IsAsDue c.in-Ok.made) c.in-Some.ensures.command c.in-Ok.ensures.due) n
     (subst (λ (f : Failure). IsStatusOf (Err f) n) c.from-in-Err-finish.ensures s)

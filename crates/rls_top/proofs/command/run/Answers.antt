@@ -1,14 +1,18 @@
-use Rattle.std.proofs.Common.{map, string_bytes}
+use Rattle.std.proofs.Common.{Option, map, string_bytes}
 use Rattle.rls_io.specs.Device.{Rose}
-use Rattle.rls_top.specs.Due.{due}
+use Rattle.rls_top.specs.Due.{Due, due}
 use Rattle.rls_stages.specs.Endings.{Writes}
 use Rattle.rls_top.specs.Words.{command_of}
-use Rattle.rls_top.proofs.Headlines.{edits_saved, ids_shown, leave_saved, message_saved, message_shown, new_saved, stat_shown, text_shown}
+use Rattle.rls_top.proofs.Headlines.{Ran, edits_saved, ids_shown, leave_saved, message_saved, message_shown, new_saved, stat_shown, text_shown}
 use Rattle.rls_top.proofs.Statuses.{due_status_so, early_so, file_so, keeper_fault, line_so, no_command, no_other, partly_so, report_so, sink_fault, source_fault, unstored_so}
 use Rattle.rls_top.proofs.command.run.Goals as goal
 
+-- what the words call for
+abbrev called_for : (g : _) → goal.After-tell g → Option Due
+called_for g c = due (map string_bytes c.args.words.now) (g.K.Keeper.file c.args.keeper.now) (g.S.Source.left c.args.input.now)
+
 pub returns-clause-status : goal.returns-clause-status
-returns-clause-status g c = due_status_so (due (map string_bytes c.args.words.now) (g.K.Keeper.file c.args.keeper.now) (g.S.Source.left c.args.input.now)) c.perform-ending.result c.tell.result c.tell.ensures.status c.perform-ending.ensures.due
+returns-clause-status g c = due_status_so (called_for g c) c.perform-ending.result c.tell.result c.tell.ensures.status c.perform-ending.ensures.due
 
 pub returns-clause-no_command : goal.returns-clause-no_command
 returns-clause-no_command g c = λ e. c.perform-ending.ensures.no_command (no_command c.perform-ending.result c.tell.result c.tell.ensures.status e)
@@ -26,14 +30,10 @@ pub returns-clause-no_other : goal.returns-clause-no_other
 returns-clause-no_other g c = no_other c.perform-ending.result c.tell.result c.tell.ensures.status
 
 pub returns-clause-report : goal.returns-clause-report
-returns-clause-report g c =
-    report_so (due (map string_bytes c.args.words.now) (g.K.Keeper.file c.args.keeper.now) (g.S.Source.left c.args.input.now)) c.perform-ending.result c.tell.result (g.W.Sink.told c.args.output.now) (g.W.Sink.told c.perform-ending.new.output)
-    c.tell.ensures.status c.perform-ending.ensures.reports
+returns-clause-report g c = report_so (called_for g c) c.perform-ending.result c.tell.result (g.W.Sink.told c.args.output.now) (g.W.Sink.told c.perform-ending.new.output) c.tell.ensures.status c.perform-ending.ensures.reports
 
 pub returns-clause-partly : goal.returns-clause-partly
-returns-clause-partly g c =
-    partly_so (due (map string_bytes c.args.words.now) (g.K.Keeper.file c.args.keeper.now) (g.S.Source.left c.args.input.now)) c.perform-ending.result c.tell.result (g.W.Sink.told c.args.output.now) (g.W.Sink.told c.perform-ending.new.output)
-    c.tell.ensures.status c.perform-ending.ensures.reports
+returns-clause-partly g c = partly_so (called_for g c) c.perform-ending.result c.tell.result (g.W.Sink.told c.args.output.now) (g.W.Sink.told c.perform-ending.new.output) c.tell.ensures.status c.perform-ending.ensures.reports
 
 pub returns-clause-nothing : goal.returns-clause-nothing
 returns-clause-nothing g c = unstored_so c.perform-ending.result c.tell.result _ c.tell.ensures.status c.perform-ending.ensures.nothing
@@ -41,12 +41,10 @@ returns-clause-nothing g c = unstored_so c.perform-ending.result c.tell.result _
 pub returns-clause-line : goal.returns-clause-line
 returns-clause-line g c =
     line_so (Writes (Rose (g.E.Sink.faults c.args.errors.now) (g.E.Sink.faults c.tell.new.errors)) (g.E.Sink.told c.args.errors.now) (g.E.Sink.told c.tell.new.errors))
-    (due (map string_bytes c.args.words.now) (g.K.Keeper.file c.args.keeper.now) (g.S.Source.left c.args.input.now)) c.perform-ending.result c.tell.result c.tell.ensures.status c.perform-ending.ensures.due c.tell.ensures.line
+    (called_for g c) c.perform-ending.result c.tell.result c.tell.ensures.status c.perform-ending.ensures.due c.tell.ensures.line
 
 pub returns-clause-file : goal.returns-clause-file
-returns-clause-file g c =
-    file_so (due (map string_bytes c.args.words.now) (g.K.Keeper.file c.args.keeper.now) (g.S.Source.left c.args.input.now)) c.perform-ending.result c.tell.result (g.K.Keeper.file c.args.keeper.now) (g.K.Keeper.file c.perform-ending.new.keeper)
-    c.tell.ensures.status c.perform-ending.ensures.leaves
+returns-clause-file g c = file_so (called_for g c) c.perform-ending.result c.tell.result (g.K.Keeper.file c.args.keeper.now) (g.K.Keeper.file c.perform-ending.new.keeper) c.tell.ensures.status c.perform-ending.ensures.leaves
 
 pub returns-clause-stays : goal.returns-clause-stays
 returns-clause-stays g c = unstored_so c.perform-ending.result c.tell.result _ c.tell.ensures.status c.perform-ending.ensures.stays
@@ -56,53 +54,33 @@ returns-clause-unstored g c =
     early_so (command_of (map string_bytes c.args.words.now)) c.perform-ending.result c.tell.result (g.K.Keeper.file c.args.keeper.now) (g.K.Keeper.file c.perform-ending.new.keeper)
     c.tell.ensures.status c.perform-ending.ensures.early c.perform-ending.ensures.unstored
 
+-- what the command told
+ran : (g : _) (c : goal.After-tell g) → Ran (map string_bytes c.args.words.now) (g.K.Keeper.file c.args.keeper.now) (g.K.Keeper.file c.perform-ending.new.keeper) (g.S.Source.left c.args.input.now) c.tell.result (g.W.Sink.told c.args.output.now) (g.W.Sink.told c.perform-ending.new.output)
+ran g c = record { ends = record { status = returns-clause-status g c; report = returns-clause-report g c; keeps = returns-clause-file g c } }
+
 pub returns-clause-text : goal.returns-clause-text
-returns-clause-text g c = λ t bytes a.
-    text_shown (map string_bytes c.args.words.now) (g.K.Keeper.file c.args.keeper.now) (g.K.Keeper.file c.perform-ending.new.keeper) (g.S.Source.left c.args.input.now) bytes t c.tell.result
-    (g.W.Sink.told c.args.output.now) (g.W.Sink.told c.perform-ending.new.output)
-    (record { status = returns-clause-status g c; report = returns-clause-report g c; keeps = returns-clause-file g c }) a
+returns-clause-text g c = λ t bytes a. text_shown (ran g c) a
 
 pub returns-clause-ids : goal.returns-clause-ids
-returns-clause-ids g c = λ t bytes a.
-    ids_shown (map string_bytes c.args.words.now) (g.K.Keeper.file c.args.keeper.now) (g.K.Keeper.file c.perform-ending.new.keeper) (g.S.Source.left c.args.input.now) bytes t c.tell.result
-    (g.W.Sink.told c.args.output.now) (g.W.Sink.told c.perform-ending.new.output)
-    (record { status = returns-clause-status g c; report = returns-clause-report g c; keeps = returns-clause-file g c }) a
+returns-clause-ids g c = λ t bytes a. ids_shown (ran g c) a
 
 pub returns-clause-stat : goal.returns-clause-stat
-returns-clause-stat g c = λ t bytes a.
-    stat_shown (map string_bytes c.args.words.now) (g.K.Keeper.file c.args.keeper.now) (g.K.Keeper.file c.perform-ending.new.keeper) (g.S.Source.left c.args.input.now) bytes t c.tell.result
-    (g.W.Sink.told c.args.output.now) (g.W.Sink.told c.perform-ending.new.output)
-    (record { status = returns-clause-status g c; report = returns-clause-report g c; keeps = returns-clause-file g c }) a
+returns-clause-stat g c = λ t bytes a. stat_shown (ran g c) a
 
 pub returns-clause-send : goal.returns-clause-send
-returns-clause-send g c = λ t bytes to a h.
-    message_shown (map string_bytes c.args.words.now) (g.K.Keeper.file c.args.keeper.now) (g.K.Keeper.file c.perform-ending.new.keeper) (g.S.Source.left c.args.input.now) bytes t to c.tell.result
-    (g.W.Sink.told c.args.output.now) (g.W.Sink.told c.perform-ending.new.output)
-    (record { status = returns-clause-status g c; report = returns-clause-report g c; keeps = returns-clause-file g c }) a h
+returns-clause-send g c = λ t bytes to a h. message_shown (ran g c) a h
 
 pub returns-clause-edit : goal.returns-clause-edit
-returns-clause-edit g c = λ t bytes script lines p a l parsed ran.
-    edits_saved (map string_bytes c.args.words.now) (g.K.Keeper.file c.args.keeper.now) (g.K.Keeper.file c.perform-ending.new.keeper) (g.S.Source.left c.args.input.now) bytes script t lines p c.tell.result
-    (g.W.Sink.told c.args.output.now) (g.W.Sink.told c.perform-ending.new.output)
-    (record { status = returns-clause-status g c; report = returns-clause-report g c; keeps = returns-clause-file g c }) a l parsed ran
+returns-clause-edit g c = λ t bytes script lines p a l parsed ended. edits_saved (ran g c) script lines p a l parsed ended
 
 pub returns-clause-leave : goal.returns-clause-leave
-returns-clause-leave g c = λ t bytes p a ran.
-    leave_saved (map string_bytes c.args.words.now) (g.K.Keeper.file c.args.keeper.now) (g.K.Keeper.file c.perform-ending.new.keeper) (g.S.Source.left c.args.input.now) bytes t p c.tell.result
-    (g.W.Sink.told c.args.output.now) (g.W.Sink.told c.perform-ending.new.output)
-    (record { status = returns-clause-status g c; report = returns-clause-report g c; keeps = returns-clause-file g c }) a ran
+returns-clause-leave g c = λ t bytes p a ended. leave_saved (ran g c) p a ended
 
 pub returns-clause-take : goal.returns-clause-take
-returns-clause-take g c = λ t bytes given m a l is right.
-    message_saved (map string_bytes c.args.words.now) (g.K.Keeper.file c.args.keeper.now) (g.K.Keeper.file c.perform-ending.new.keeper) (g.S.Source.left c.args.input.now) bytes given t m c.tell.result
-    (g.W.Sink.told c.args.output.now) (g.W.Sink.told c.perform-ending.new.output)
-    (record { status = returns-clause-status g c; report = returns-clause-report g c; keeps = returns-clause-file g c }) a l is right
+returns-clause-take g c = λ t bytes given m a l is right. message_saved (ran g c) given m a l is right
 
 pub returns-clause-new : goal.returns-clause-new
-returns-clause-new g c = λ group me members command missing head.
-    new_saved (map string_bytes c.args.words.now) (g.K.Keeper.file c.args.keeper.now) (g.K.Keeper.file c.perform-ending.new.keeper) (g.S.Source.left c.args.input.now) group me members c.tell.result
-    (g.W.Sink.told c.args.output.now) (g.W.Sink.told c.perform-ending.new.output)
-    (record { status = returns-clause-status g c; report = returns-clause-report g c; keeps = returns-clause-file g c }) command missing head
+returns-clause-new g c = λ group me members command missing head. new_saved (ran g c) group me members command missing head
 
 pub returns-clause-uncalled : goal.returns-clause-uncalled
 returns-clause-uncalled g c = λ h. let u = c.perform-ending.ensures.uncalled h in (u.0, λ e. u.1 (keeper_fault c.perform-ending.result c.tell.result c.tell.ensures.status e))
