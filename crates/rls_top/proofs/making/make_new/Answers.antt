@@ -1,6 +1,7 @@
-use Rattle.std.proofs.Common.{◌∙◌, Err, ap}
+use Rattle.std.proofs.Common.{◌∙◌, Err, ap, rules}
 use Rattle.rls_report.specs.declared.failures.CommandError.TheVariants.{BadMembers, BadMe}
-use Rattle.rls_top.proofs.Pieces.{no_me, no_member, no_members, numbers_due, uncounted}
+use Rattle.rls_top.specs.Stages.{IsAsDue}
+use Rattle.rls_top.proofs.Pieces.{fresh_due, no_me, no_member, no_members, numbers_due, uncounted}
 use Rattle.rls_top.proofs.making.make_new.Goals as goal
 
 pub returns-in-Err-Members-clause-due : goal.returns-in-Err-Members-clause-due
@@ -20,3 +21,8 @@ returns-in-Err-Members-clause-calls g c = λ h. let e = c.in-Err-Members in unco
 
 pub returns-in-Err-Me-clause-calls : goal.returns-in-Err-Me-clause-calls
 returns-in-Err-Me-clause-calls g c = λ h. let e = c.in-Err-Me in no_member c.args.group c.args.me c.args.members ((c.new.ensures.me e.me).0 (e.is ∙ ap Err e.field-0-is)).1 h
+
+pub returns-in-Ok-saving-clause-due : goal.returns-in-Ok-saving-clause-due
+returns-in-Ok-saving-clause-due g c =
+    fresh_due c.args.group c.args.me c.args.members (g.K.Keeper.file c.args.keeper.now) c.in-Ok-None.field-0 c.in-Ok.replica _ _ (IsAsDue c.in-Ok-saving.made) (search rules)
+    c.in-Ok-None.ensures.loaded c.in-Ok-None.field-0-is c.in-Ok.ensures.ok c.in-Ok-new_report.ensures.text c.new-in-Ok-new_report.ensures.empty c.in-Ok-saving.ensures.due
