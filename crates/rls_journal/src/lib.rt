@@ -14,6 +14,3 @@ pub use disk::Disk;
 pub use files::FileDisk;
 pub use keeper::DiskKeeper;
 pub use memory::MemoryDisk;
-
-#[cfg(test)]
-mod tests;

@@ -1,6 +1,11 @@
+//! Devices in memory, of the system, and over readers and writers that fail.
+
 ghost use Rattle.std.specs.Prelude.{◌≤◌, IfOk};
 
-use super::*;
+use rls_io::{
+    Failed, FileKeeper, Found, Keeper, MemoryKeeper, MemorySink, MemorySource, ReadError, Source,
+    StdSink, StdSource, StoreError, read_all, write_all_of,
+};
 use std::alloc::Global;
 use std::io::{ErrorKind, Read, Write};
 use std::test::Fail;

@@ -1,5 +1,7 @@
-use crate::{DiskKeeper, FileDisk, MemoryDisk};
+//! What a keeper over a disk keeps, and what is left of it after a stop.
+
 use rls_io::{Found, Keeper, StoreError};
+use rls_journal::{DiskKeeper, FileDisk, MemoryDisk};
 use std::alloc::Global;
 use std::fs;
 use std::test::Fail;
@@ -13,7 +15,7 @@ fn text_of(found: Found) -> &'static str {
     }
 }
 
-// What is loaded after a crash behind so many calls.
+/// What is loaded after a crash after this many calls.
 fn stopped(alloc: Global, disk: &MemoryDisk, calls: u64, filler: u8) -> Result<&'static str, Fail> {
     if calls > disk.calls() {
         return Err(Fail::new("no such call"));
@@ -61,7 +63,7 @@ fn a_gate_that_fails_leaves_the_old_file(rt: HostRuntime) -> Result<(), Fail> {
     Ok(())
 }
 
-// Takes away what an earlier run left.
+/// Removes what an earlier run left.
 fn clear(rt: &HostRuntime) {
     let _ = fs::remove_file(rt, "replica.0");
     let _ = fs::remove_file(rt, "replica.1");
