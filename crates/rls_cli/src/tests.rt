@@ -1,9 +1,10 @@
-use crate::folder::folder_keeper;
+use crate::folder::{FolderKeeper, folder_keeper};
 use crate::performing::{perform, perform_in_folder};
 use crate::watched::{Watch, Watched};
 use rls_io::{Found, Keeper, MemoryKeeper, MemorySink, MemorySource};
 use std::alloc::{AllocError, Global};
 use std::fs;
+use std::rt::Files;
 use std::test::Fail;
 
 /// Which of the two keepers is meant.
@@ -127,22 +128,41 @@ fn the_folder_is_synced_before_its_file_is_loaded(rt: HostRuntime) -> Result<(),
     Ok(())
 }
 
-/// What is printed if these words, with single spaces between them, are given with this input.
-fn printed(
-    alloc: Global,
-    keeper: &mut MemoryKeeper,
-    words: &str,
-    given: &[u8],
-) -> Result<Vec<u8>, AllocError> {
+/// The words between which single spaces stand.
+fn words_of(alloc: Global, words: &str) -> Result<Vec<String>, AllocError> {
     let mut list = Vec::new(alloc);
     for word in words.split(' ') {
         list.push(String::from_str(alloc, word)?)?;
     }
+    Ok(list)
+}
+
+/// Performs these words with this input.
+fn perform_words(
+    alloc: Global,
+    keeper: &mut MemoryKeeper,
+    words: &str,
+    given: &[u8],
+    output: &mut MemorySink,
+) -> Result<(), AllocError> {
+    let words = words_of(alloc, words)?;
     let mut input = MemorySource::new(alloc, given, &[])?;
-    let mut output = MemorySink::new(alloc, 1000, &[])?;
     let mut errors = MemorySink::new(alloc, 1000, &[])?;
-    let _status = perform(alloc, &list, keeper, &mut input, &mut output, &mut errors);
-    Vec::from_slice(alloc, output.written())
+    let _status = perform(alloc, &words, keeper, &mut input, output, &mut errors);
+    Ok(())
+}
+
+/// Whether this is printed if these words are given with this input.
+fn prints(
+    alloc: Global,
+    keeper: &mut MemoryKeeper,
+    words: &str,
+    given: &[u8],
+    expected: &[u8],
+) -> Result<bool, AllocError> {
+    let mut output = MemorySink::new(alloc, 1000, &[])?;
+    perform_words(alloc, keeper, words, given, &mut output)?;
+    Ok(output.written() == expected)
 }
 
 #[test]
@@ -156,8 +176,14 @@ fn one_word_begins_a_session(rt: HostRuntime) -> Result<(), Fail> {
         ("session now", "t\n", ""),
         ("Session", "t\n", ""),
     ] {
-        let answer = printed(alloc, &mut keeper, words, given.as_bytes())?;
-        assert_eq!(rt; answer.as_slice(), wanted.as_bytes(), "{words}");
+        let is_so = prints(
+            alloc,
+            &mut keeper,
+            words,
+            given.as_bytes(),
+            wanted.as_bytes(),
+        )?;
+        assert!(rt; is_so, "{words}");
     }
     Ok(())
 }
@@ -166,7 +192,7 @@ fn one_word_begins_a_session(rt: HostRuntime) -> Result<(), Fail> {
 fn begin_replica(rt: &HostRuntime, kind: Kind) -> Result<(), Fail> {
     clear(rt);
     let mut memory = MemoryKeeper::new(rt.alloc(), None, &[])?;
-    let _printed = printed(rt.alloc(), &mut memory, "new 7 0 2", b"")?;
+    let _is_new = prints(rt.alloc(), &mut memory, "new 7 0 2", b"", b"")?;
     let file = memory.file().unwrap_or(&[]);
     if kind == Kind::File {
         fs::write(rt, "replica.rls", file)?;
@@ -176,8 +202,33 @@ fn begin_replica(rt: &HostRuntime, kind: Kind) -> Result<(), Fail> {
     Ok(())
 }
 
-/// The status of a session of one insertion in a real folder, and how many bytes it answered. The call of the file system with this
-/// number fails, and these of the input and of the output.
+/// The status of a session over these devices.
+fn session_status<R: Files>(
+    alloc: Global,
+    keeper: &mut FolderKeeper<R>,
+    input: &mut MemorySource,
+    output: &mut MemorySink,
+) -> Result<u8, Fail> {
+    let words = words_of(alloc, "session")?;
+    let mut errors = MemorySink::new(alloc, 1000, &[])?;
+    Ok(perform_in_folder(alloc, &words, keeper, input, output, &mut errors))
+}
+
+/// The status of a session of one insertion over this keeper, and how many bytes it answered. These calls of the input and of the output
+/// fail.
+fn session_over<R: Files>(
+    alloc: Global,
+    keeper: &mut FolderKeeper<R>,
+    failing_reads: &[u64],
+    failing_writes: &[u64],
+) -> Result<(u8, usize), Fail> {
+    let mut input = MemorySource::new(alloc, b"i 0 a\n", failing_reads)?;
+    let mut output = MemorySink::new(alloc, 1000, failing_writes)?;
+    let status = session_status(alloc, keeper, &mut input, &mut output)?;
+    Ok((status, output.written().len()))
+}
+
+/// The same in a real folder, where the call of the file system with this number fails too.
 fn session_end(
     rt: &HostRuntime,
     kind: Kind,
@@ -186,25 +237,11 @@ fn session_end(
     failing_writes: &[u64],
 ) -> Result<(u8, usize), Fail> {
     begin_replica(rt, kind)?;
-    let alloc = rt.alloc();
-    let watch = Watch::new(alloc, failing);
+    let watch = Watch::new(rt.alloc(), failing);
     let mut keeper = folder_keeper(Watched { rt, watch: &watch });
-    let mut words = Vec::new(alloc);
-    words.push(String::from_str(alloc, "session")?)?;
-    let mut input = MemorySource::new(alloc, b"i 0 a\n", failing_reads)?;
-    let mut output = MemorySink::new(alloc, 1000, failing_writes)?;
-    let mut errors = MemorySink::new(alloc, 1000, &[])?;
-    let status = perform_in_folder(
-        alloc,
-        &words,
-        &mut keeper,
-        &mut input,
-        &mut output,
-        &mut errors,
-    );
-    let answered = output.written().len();
+    let end = session_over(rt.alloc(), &mut keeper, failing_reads, failing_writes);
     clear(rt);
-    Ok((status, answered))
+    end
 }
 
 /// Each row: the keeper, the call of the file system, the reads and the writes that fail, the status, and how many bytes are answered.
