@@ -190,9 +190,21 @@ fn runs(alloc: Global, replica: &Replica) -> Result<String, Fail> {
     Ok(format!(in alloc; "{count} {height}")?)
 }
 
-fn makes(alloc: Global, replica: &Replica, change: Change, told: Told<'_>) -> Result<String, Fail> {
-    let (edit, expected) = (edit_of(alloc, change)?, op_of(alloc, told)?);
-    Ok(made(alloc, &replica.made(&edit), &expected)?)
+/// Whether the edit makes the operation.
+fn makes(alloc: Global, replica: &Replica, edit: &Edit, told: Told<'_>) -> Result<String, Fail> {
+    let expected = op_of(alloc, told)?;
+    Ok(made(alloc, &replica.made(edit), &expected)?)
+}
+
+/// Whether the change makes the operation.
+fn changes(
+    alloc: Global,
+    replica: &Replica,
+    change: Change,
+    told: Told<'_>,
+) -> Result<String, Fail> {
+    let edit = edit_of(alloc, change)?;
+    makes(alloc, replica, &edit, told)
 }
 
 fn answer_to(alloc: Global, replica: &Replica, question: Question) -> Result<String, Fail> {
@@ -206,7 +218,7 @@ fn answer_to(alloc: Global, replica: &Replica, question: Question) -> Result<Str
         Question::Ident(place) => ident_at(alloc, replica, place),
         Question::Runs => runs(alloc, replica),
         Question::Message(to) => Ok(sent(alloc, &replica.message_for(to))?),
-        Question::Made(change, told) => makes(alloc, replica, change, told),
+        Question::Made(change, told) => changes(alloc, replica, change, told),
     }
 }
 
@@ -234,11 +246,39 @@ fn state(alloc: Global, replica: &Replica) -> Result<String, Fail> {
     Ok(format!(in alloc; "{text} {counts:?} {held} {kept} {epoch:?}")?)
 }
 
+/// Whether the replica stands so.
+fn stands(alloc: Global, replica: &Replica, stand: &str) -> Result<bool, Fail> {
+    Ok(state(alloc, replica)?.as_str() == stand)
+}
+
+/// Whether the step is answered so.
+fn answers(alloc: Global, replica: &mut Replica, step: Step, expected: &str) -> Result<bool, Fail> {
+    Ok(answer(alloc, replica, step)?.as_str() == expected)
+}
+
 /// Whether the step goes as it has to.
 fn goes(alloc: Global, replica: &mut Replica, row: Row) -> Result<bool, Fail> {
     let (step, expected, stand) = row;
-    let answer = answer(alloc, replica, step)?;
-    Ok(answer.as_str() == expected && state(alloc, replica)?.as_str() == stand)
+    match answers(alloc, replica, step, expected)? {
+        true => stands(alloc, replica, stand),
+        false => Ok(false),
+    }
+}
+
+/// What the replica answers to the message, as text.
+fn answer_of(alloc: Global, replica: &mut Replica, message: Message) -> Result<String, Fail> {
+    let answer = takes(replica, message)?;
+    Ok(taken(alloc, &answer)?)
+}
+
+/// Whether the message is answered so.
+fn is_answered(
+    alloc: Global,
+    message: Message,
+    replica: &mut Replica,
+    expected: &str,
+) -> Result<bool, Fail> {
+    Ok(answer_of(alloc, replica, message)?.as_str() == expected)
 }
 
 /// Whether the message is taken as it has to be.
@@ -249,8 +289,10 @@ fn reaches(
     expected: &str,
     stand: &str,
 ) -> Result<bool, Fail> {
-    let answer = taken(alloc, &takes(replica, message)?)?;
-    Ok(answer.as_str() == expected && state(alloc, replica)?.as_str() == stand)
+    match is_answered(alloc, message, replica, expected)? {
+        true => stands(alloc, replica, stand),
+        false => Ok(false),
+    }
 }
 
 /// The message of the one for the other.
@@ -270,6 +312,21 @@ fn send(
     reaches(alloc, message, to, expected, stand)
 }
 
+/// Whether the first takes the second's message as it has to, and the second this message.
+fn cross(
+    alloc: Global,
+    message: Message,
+    first: &mut Replica,
+    second: &mut Replica,
+    expected: &str,
+    stand: &str,
+) -> Result<bool, Fail> {
+    match send(alloc, second, first, expected, stand)? {
+        true => reaches(alloc, message, second, expected, stand),
+        false => Ok(false),
+    }
+}
+
 /// Whether each takes the other's message as it has to.
 fn exchange(
     alloc: Global,
@@ -279,12 +336,10 @@ fn exchange(
     stand: &str,
 ) -> Result<bool, Fail> {
     let message = letter(first, second)?;
-    match send(alloc, second, first, expected, stand)? {
-        true => reaches(alloc, message, second, expected, stand),
-        false => Ok(false),
-    }
+    cross(alloc, message, first, second, expected, stand)
 }
 
+/// Whether the turn goes as it has to.
 fn turns(
     alloc: Global,
     first: &mut Replica,
@@ -337,12 +392,47 @@ pub fn fault_of_three(alloc: Global, me: u32, rows: &[Row]) -> Result<Option<usi
     fault_among(alloc, &mut replica, rows)
 }
 
+/// Leads both through the first turns, and then through the others.
+fn fault_through(
+    alloc: Global,
+    first: &mut Replica,
+    second: &mut Replica,
+    begun: &[Turn],
+    all: &[Turn],
+) -> Result<Option<usize>, Fail> {
+    match fault_between(alloc, first, second, begun)? {
+        None => fault_between(alloc, first, second, all),
+        Some(fault) => Ok(Some(fault)),
+    }
+}
+
+/// The same of member 0 and a fresh member 1 in this group.
+fn fault_beside(
+    alloc: Global,
+    first: &mut Replica,
+    group: u64,
+    begun: &[Turn],
+    all: &[Turn],
+) -> Result<Option<usize>, Fail> {
+    let mut second = Replica::new(alloc, group, 1, 2)?;
+    fault_through(alloc, first, &mut second, begun, all)
+}
+
+/// The same of a fresh member 0 in group 7 and that member 1. No function holds both: it would cost minutes to prove.
+fn fault_from(
+    alloc: Global,
+    group: u64,
+    begun: &[Turn],
+    all: &[Turn],
+) -> Result<Option<usize>, Fail> {
+    let mut first = Replica::new(alloc, 7, 0, 2)?;
+    fault_beside(alloc, &mut first, group, begun, all)
+}
+
 /// Leads member 0 of two in group 7 and member 1 of two in the other group through the turns, and answers the first that goes
 /// otherwise than it has to.
 pub fn fault_of_two(alloc: Global, group: u64, all: &[Turn]) -> Result<Option<usize>, Fail> {
-    let mut first = Replica::new(alloc, 7, 0, 2)?;
-    let mut second = Replica::new(alloc, group, 1, 2)?;
-    fault_between(alloc, &mut first, &mut second, all)
+    fault_from(alloc, group, &[], all)
 }
 
 /// The edit that inserts `hello` into an empty text.
@@ -358,11 +448,5 @@ const BEGUN: &[Turn] = &[
 /// Leads two in group 7, both of whom have `hello` by member 0 and know it of each other, through the turns, and answers the first
 /// that goes otherwise than it has to.
 pub fn fault_after_hello(alloc: Global, all: &[Turn]) -> Result<Option<usize>, Fail> {
-    let mut first = Replica::new(alloc, 7, 0, 2)?;
-    let mut second = Replica::new(alloc, 7, 1, 2)?;
-    let begun = fault_between(alloc, &mut first, &mut second, BEGUN)?;
-    if begun.is_some() {
-        return Ok(begun);
-    }
-    fault_between(alloc, &mut first, &mut second, all)
+    fault_from(alloc, 7, BEGUN, all)
 }

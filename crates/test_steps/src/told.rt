@@ -40,37 +40,57 @@ pub enum Deed<'a> {
 /// An operation: author, number, context, epoch, and what it does.
 pub type Told<'a> = (u32, u32, &'a [u32], EpochName, Deed<'a>);
 
+/// An identifier of one tuple.
+fn ident_of(alloc: Global, tuple: Tuple) -> Result<Ident, Fail> {
+    Ok(Ident::from_tuples(alloc, &[tuple])?)
+}
+
+/// The run of this many identifiers, from the one of this tuple on.
+fn run_of(alloc: Global, first: Tuple, len: u32) -> Result<Run, Fail> {
+    Ok(Run::new(ident_of(alloc, first)?, len)?)
+}
+
 /// The list of one run's identifiers.
 fn list_of(alloc: Global, first: Tuple, len: u32) -> Result<Runs, Fail> {
+    let run = run_of(alloc, first, len)?;
     let mut list = Runs::new(alloc);
-    list.push(Run::new(Ident::from_tuples(alloc, &[first])?, len)?)?;
+    list.push(run)?;
     Ok(list)
 }
 
+/// An insertion of a text, whose first identifier is of this tuple.
+fn insertion(alloc: Global, first: Tuple, text: &str) -> Result<Body, Fail> {
+    let first = ident_of(alloc, first)?;
+    let text = Text::from_str(alloc, text)?;
+    Ok(Body::Insert { first, text })
+}
+
+/// What an operation does.
 fn body_of(alloc: Global, deed: Deed<'_>) -> Result<Body, Fail> {
-    Ok(match deed {
-        Deed::Insert(first, text) => Body::Insert {
-            first: Ident::from_tuples(alloc, &[first])?,
-            text: Text::from_str(alloc, text)?,
-        },
-        Deed::Delete(first, len) => Body::Delete {
-            targets: list_of(alloc, first, len)?,
-        },
-        Deed::Rename(first, len) => Body::Rename {
-            former: list_of(alloc, first, len)?,
-        },
-        Deed::Leave => Body::Leave,
-    })
+    match deed {
+        Deed::Insert(first, text) => insertion(alloc, first, text),
+        Deed::Delete(first, len) => {
+            let targets = list_of(alloc, first, len)?;
+            Ok(Body::Delete { targets })
+        }
+        Deed::Rename(first, len) => {
+            let former = list_of(alloc, first, len)?;
+            Ok(Body::Rename { former })
+        }
+        Deed::Leave => Ok(Body::Leave),
+    }
 }
 
 /// The operation.
 pub fn op_of(alloc: Global, told: Told<'_>) -> Result<Op, Fail> {
     let (author, seq, context, epoch, deed) = told;
+    let context = Vector::from_counts(alloc, context)?;
+    let body = body_of(alloc, deed)?;
     Ok(Op {
         author,
         seq,
-        context: Vector::from_counts(alloc, context)?,
+        context,
         epoch,
-        body: body_of(alloc, deed)?,
+        body,
     })
 }

@@ -117,14 +117,32 @@ fn keeps(alloc: Global, world: &World, member: u32, expected: &str) -> Result<bo
     Ok(kept(alloc, world.replica(member))?.as_str() == expected)
 }
 
+/// Whether a replica keeps just what is retained.
+fn keeps_just(replica: &Replica) -> Result<bool, AllocError> {
+    let (counts, kept) = (replica.counts()?, replica.kept());
+    Ok(
+        kept.operations == counts.unstable
+            && kept.epochs == counts.epochs
+            && kept.former == counts.former,
+    )
+}
+
 /// Whether a member that drops what is stable keeps just what is retained.
-fn drops(alloc: Global, world: &mut World, member: u32) -> Result<bool, Fail> {
+fn drops(world: &mut World, member: u32) -> Result<bool, Fail> {
     let dropped = world.step(&Event::Drop { member }).is_ok();
     if member as usize >= world.members() {
         return Ok(!dropped);
     }
-    let replica = world.replica(member);
-    Ok(dropped && kept(alloc, replica)? == retained(alloc, replica)?)
+    match dropped {
+        true => Ok(keeps_just(world.replica(member))?),
+        false => Ok(false),
+    }
+}
+
+/// What happens, and its answer.
+fn answer_of(alloc: Global, world: &mut World, happening: Happening) -> Result<String, Fail> {
+    let event = event_of(alloc, happening)?;
+    Ok(outcome(alloc, &world.step(&event))?)
 }
 
 /// Whether what happens is answered so.
@@ -134,27 +152,52 @@ fn happens(
     happening: Happening,
     expected: &str,
 ) -> Result<bool, Fail> {
-    let event = event_of(alloc, happening)?;
-    let answer = outcome(alloc, &world.step(&event))?;
-    Ok(answer.as_str() == expected)
+    Ok(answer_of(alloc, world, happening)?.as_str() == expected)
 }
 
-/// Whether the event goes as it has to. Where the member in question drops what is stable after it, what it keeps is just what is
-/// retained, and all else is as without.
-fn goes(alloc: Global, world: &mut World, row: Row, dropping: bool) -> Result<bool, Fail> {
+/// Whether a member keeps this much; if it drops what is stable before, just what is retained.
+fn keeps_it(
+    alloc: Global,
+    world: &mut World,
+    member: u32,
+    kept: &str,
+    dropping: bool,
+) -> Result<bool, Fail> {
+    match dropping {
+        true => drops(world, member),
+        false => keeps(alloc, world, member, kept),
+    }
+}
+
+/// Whether a member keeps this much, and is so then.
+fn ends(
+    alloc: Global,
+    world: &mut World,
+    member: u32,
+    (stand, kept): (&str, &str),
+    dropping: bool,
+) -> Result<bool, Fail> {
+    match keeps_it(alloc, world, member, kept, dropping)? {
+        true => stands(alloc, world, member, stand),
+        false => Ok(false),
+    }
+}
+
+/// The parts of a row.
+fn parts_of(row: Row) -> Result<(Happening, &'static str, (&'static str, &'static str)), Fail> {
     let (words, rest) = cut(row)?;
     let (expected, rest) = cut(rest)?;
-    let (stand, kept) = cut(rest)?;
-    let happening = happening_of(words)?;
-    let member = member_of(happening);
-    if !happens(alloc, world, happening, expected)? {
-        return Ok(false);
+    Ok((happening_of(words)?, expected, cut(rest)?))
+}
+
+/// Whether the event goes as it has to. If the member in question drops what is stable after it, what it keeps is just what is
+/// retained, and all else is as without.
+fn goes(alloc: Global, world: &mut World, row: Row, dropping: bool) -> Result<bool, Fail> {
+    let (happening, expected, end) = parts_of(row)?;
+    match happens(alloc, world, happening, expected)? {
+        true => ends(alloc, world, member_of(happening), end, dropping),
+        false => Ok(false),
     }
-    let keeps = match dropping {
-        true => drops(alloc, world, member)?,
-        false => keeps(alloc, world, member, kept)?,
-    };
-    Ok(keeps && stands(alloc, world, member, stand)?)
 }
 
 /// The first row that goes otherwise than it has to.
@@ -185,16 +228,38 @@ pub fn fault_with_drops(alloc: Global, members: u32, rows: &[Row]) -> Result<Opt
     fault(alloc, &mut world, rows, true)
 }
 
-/// Whether the rows go as they have to, and all members list these identifiers afterwards.
-pub fn all_list(alloc: Global, members: u32, rows: &[Row], ids: &str) -> Result<bool, Fail> {
-    let mut world = World::new(alloc, 7, members)?;
-    if let Some(_) = fault(alloc, &mut world, rows, false)? {
-        return Ok(false);
-    }
+/// Whether a member lists these identifiers.
+fn lists(alloc: Global, world: &World, member: u32, ids: &str) -> Result<bool, Fail> {
+    let replica = replica(world, member)?;
+    Ok(ids_json(alloc, replica)?.as_str() == ids)
+}
+
+/// Whether all of this many members list these identifiers.
+fn agree(alloc: Global, world: &World, members: u32, ids: &str) -> Result<bool, Fail> {
     for member in 0..members {
-        if ids_json(alloc, replica(&world, member)?)?.as_str() != ids {
+        if !lists(alloc, world, member, ids)? {
             return Ok(false);
         }
     }
     Ok(true)
+}
+
+/// Whether the rows go as they have to in this world, and all of its members list these identifiers afterwards.
+fn leads_to(
+    alloc: Global,
+    world: &mut World,
+    members: u32,
+    rows: &[Row],
+    ids: &str,
+) -> Result<bool, Fail> {
+    match fault(alloc, world, rows, false)? {
+        None => agree(alloc, world, members, ids),
+        Some(_) => Ok(false),
+    }
+}
+
+/// Whether the rows go as they have to, and all members list these identifiers afterwards.
+pub fn all_list(alloc: Global, members: u32, rows: &[Row], ids: &str) -> Result<bool, Fail> {
+    let mut world = World::new(alloc, 7, members)?;
+    leads_to(alloc, &mut world, members, rows, ids)
 }
