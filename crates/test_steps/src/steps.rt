@@ -4,7 +4,7 @@ use crate::answers::{edited, made, received, released, sent, taken, tally};
 use crate::told::{Told, op_of};
 use rls_ident::Vector;
 use rls_model::{Edit, Taken};
-use rls_ops::{Message, Ops, Text};
+use rls_ops::{Message, Op, Ops, Text};
 use rls_replica::{Replica, TakeError};
 use std::alloc::{AllocError, Global};
 use std::test::Fail;
@@ -191,9 +191,20 @@ fn runs(alloc: Global, replica: &Replica) -> Result<String, Fail> {
 }
 
 /// Whether the edit makes the operation.
-fn makes(alloc: Global, replica: &Replica, edit: &Edit, told: Told<'_>) -> Result<String, Fail> {
+fn makes(alloc: Global, replica: &Replica, edit: &Edit, expected: &Op) -> Result<String, Fail> {
+    let answer = replica.made(edit);
+    Ok(made(alloc, &answer, expected)?)
+}
+
+/// The same, of an edit and what is told of the operation.
+fn makes_told(
+    alloc: Global,
+    replica: &Replica,
+    edit: &Edit,
+    told: Told<'_>,
+) -> Result<String, Fail> {
     let expected = op_of(alloc, told)?;
-    Ok(made(alloc, &replica.made(edit), &expected)?)
+    makes(alloc, replica, edit, &expected)
 }
 
 /// Whether the change makes the operation.
@@ -204,7 +215,7 @@ fn changes(
     told: Told<'_>,
 ) -> Result<String, Fail> {
     let edit = edit_of(alloc, change)?;
-    makes(alloc, replica, &edit, told)
+    makes_told(alloc, replica, &edit, told)
 }
 
 fn answer_to(alloc: Global, replica: &Replica, question: Question) -> Result<String, Fail> {
@@ -251,16 +262,15 @@ fn stands(alloc: Global, replica: &Replica, stand: &str) -> Result<bool, Fail> {
     Ok(state(alloc, replica)?.as_str() == stand)
 }
 
-/// Whether the step is answered so.
-fn answers(alloc: Global, replica: &mut Replica, step: Step, expected: &str) -> Result<bool, Fail> {
-    Ok(answer(alloc, replica, step)?.as_str() == expected)
+/// Whether the step is answered as it has to be.
+fn answers(alloc: Global, replica: &mut Replica, row: &Row) -> Result<bool, Fail> {
+    Ok(answer(alloc, replica, row.0)?.as_str() == row.1)
 }
 
 /// Whether the step goes as it has to.
-fn goes(alloc: Global, replica: &mut Replica, row: Row) -> Result<bool, Fail> {
-    let (step, expected, stand) = row;
-    match answers(alloc, replica, step, expected)? {
-        true => stands(alloc, replica, stand),
+fn goes(alloc: Global, replica: &mut Replica, row: &Row) -> Result<bool, Fail> {
+    match answers(alloc, replica, row)? {
+        true => stands(alloc, replica, row.2),
         false => Ok(false),
     }
 }
@@ -344,7 +354,7 @@ fn turns(
     alloc: Global,
     first: &mut Replica,
     second: &mut Replica,
-    turn: Turn,
+    turn: &Turn,
 ) -> Result<bool, Fail> {
     match turn {
         Turn::First(row) => goes(alloc, first, row),
@@ -358,7 +368,7 @@ fn turns(
 /// The first row that goes otherwise than it has to.
 fn fault_among(alloc: Global, replica: &mut Replica, rows: &[Row]) -> Result<Option<usize>, Fail> {
     for (i, row) in rows.iter().enumerate() {
-        if !goes(alloc, replica, *row)? {
+        if !goes(alloc, replica, row)? {
             return Ok(Some(i));
         }
     }
@@ -373,7 +383,7 @@ fn fault_between(
     all: &[Turn],
 ) -> Result<Option<usize>, Fail> {
     for (i, turn) in all.iter().enumerate() {
-        if !turns(alloc, first, second, *turn)? {
+        if !turns(alloc, first, second, turn)? {
             return Ok(Some(i));
         }
     }

@@ -75,21 +75,24 @@ fn outcome(alloc: Global, answer: &Result<Outcome, StepError>) -> Result<String,
 fn state(alloc: Global, replica: &Replica) -> Result<String, AllocError> {
     let text = replica.text()?.to_utf8()?;
     let (counts, held) = (replica.vector().counts(), replica.held().len());
-    let retained = retained(alloc, replica)?;
+    let retained = text_of(alloc, retained(replica)?)?;
     format!(in alloc; "{text} {counts:?} {held} of {retained}")
 }
 
 /// How many operations are unstable, and how many epochs and former identifiers are retained.
-fn retained(alloc: Global, replica: &Replica) -> Result<String, AllocError> {
+fn retained(replica: &Replica) -> Result<[u64; 3], AllocError> {
     let numbers = replica.counts()?;
-    let (unstable, epochs, former) = (numbers.unstable, numbers.epochs, numbers.former);
-    format!(in alloc; "{unstable} {epochs} {former}")
+    Ok([numbers.unstable, numbers.epochs, numbers.former])
 }
 
 /// How many of them the replica keeps.
-fn kept(alloc: Global, replica: &Replica) -> Result<String, AllocError> {
+fn kept(replica: &Replica) -> [u64; 3] {
     let numbers = replica.kept();
-    let (operations, epochs, former) = (numbers.operations, numbers.epochs, numbers.former);
+    [numbers.operations, numbers.epochs, numbers.former]
+}
+
+/// Three numbers, with spaces between them.
+fn text_of(alloc: Global, [operations, epochs, former]: [u64; 3]) -> Result<String, AllocError> {
     format!(in alloc; "{operations} {epochs} {former}")
 }
 
@@ -114,17 +117,12 @@ fn keeps(alloc: Global, world: &World, member: u32, expected: &str) -> Result<bo
     if member as usize >= world.members() {
         return Ok(expected == "none");
     }
-    Ok(kept(alloc, world.replica(member))?.as_str() == expected)
+    Ok(text_of(alloc, kept(world.replica(member)))?.as_str() == expected)
 }
 
 /// Whether a replica keeps just what is retained.
 fn keeps_just(replica: &Replica) -> Result<bool, AllocError> {
-    let (counts, kept) = (replica.counts()?, replica.kept());
-    Ok(
-        kept.operations == counts.unstable
-            && kept.epochs == counts.epochs
-            && kept.former == counts.former,
-    )
+    Ok(kept(replica) == retained(replica)?)
 }
 
 /// Whether a member that drops what is stable keeps just what is retained.
