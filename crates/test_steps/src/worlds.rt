@@ -24,14 +24,34 @@ pub enum Happening {
 /// are four parts with ` | ` between them, as in `edit 0 insert 0 hello | 1 | hello [1, 0] 0 of 1 1 0 | 1 1 0`.
 pub type Row = &'static str;
 
+/// The edit of this member, as in `insert 2 XY`.
+fn edit_in(member: u32, words: &'static str) -> Result<Happening, Fail> {
+    Ok(Happening::Edit(member, change_of(words)?))
+}
+
+/// The member that a message is for.
+fn receiver_in(words: &'static str) -> Result<u32, Fail> {
+    Ok(number(words)?.0)
+}
+
+/// The message that this member sends.
+fn send_in(from: u32, words: &'static str) -> Result<Happening, Fail> {
+    Ok(Happening::Send(from, receiver_in(words)?))
+}
+
+/// The arrival of this message.
+fn delivery_in(message: u32, words: &'static str) -> Result<Happening, Fail> {
+    Ok(Happening::Deliver(u64::from(message), receiver_in(words)?))
+}
+
 /// What happens: `edit 0 insert 2 XY`, `send 0 1`, `deliver 0 1` or `drop 1`.
 fn happening_of(words: &'static str) -> Result<Happening, Fail> {
     let (verb, rest) = word(words);
-    let (first, rest) = number::<u32>(rest)?;
+    let (first, rest) = number(rest)?;
     match verb {
-        "edit" => Ok(Happening::Edit(first, change_of(rest)?)),
-        "send" => Ok(Happening::Send(first, number(rest)?.0)),
-        "deliver" => Ok(Happening::Deliver(u64::from(first), number(rest)?.0)),
+        "edit" => edit_in(first, rest),
+        "send" => send_in(first, rest),
+        "deliver" => delivery_in(first, rest),
         "drop" => Ok(Happening::Drop(first)),
         _ => Err(Fail::new(words)),
     }
