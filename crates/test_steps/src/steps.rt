@@ -257,7 +257,7 @@ fn state(alloc: Global, replica: &Replica) -> Result<String, Fail> {
     Ok(format!(in alloc; "{text} {counts:?} {held} {kept} {epoch:?}")?)
 }
 
-/// Whether the replica stands so.
+/// Whether the replica is so.
 fn stands(alloc: Global, replica: &Replica, stand: &str) -> Result<bool, Fail> {
     Ok(state(alloc, replica)?.as_str() == stand)
 }
