@@ -5,6 +5,7 @@ ghost use Rattle.rls_doc.specs.Documents.{KeepsOrder};
 ghost use Rattle.rls_rename.specs.Renaming.{forward};
 ghost use Rattle.rls_runs.specs.Runs.{idents_of};
 
+use crate::spelling::{MIDDLE, own};
 use rls_doc::{Document, RunMap, VecDocument};
 use rls_ident::{Ident, Tuple};
 use rls_ops::Text;
@@ -14,9 +15,6 @@ use rls_runs::{Run, RunList, Runs};
 use rls_tree::{BlockTree, Node};
 use std::alloc::{AllocError, Global};
 use std::test::Fail;
-
-/// The middle position.
-const MIDDLE: u32 = 2_147_483_647;
 
 /// What a document answers has to be the same for both, so it is told by one number for each step.
 type Trace = Vec<u64>;
@@ -101,12 +99,7 @@ fn some_ident(alloc: Global, draws: &mut Draws) -> Result<Ident, Fail> {
         seq: 1,
         offset: draws.below(40) as i32 - 8,
     };
-    let inner = Tuple::At {
-        pos: MIDDLE,
-        replica: 0,
-        seq: 2,
-        offset: draws.below(6) as i32,
-    };
+    let inner = own(2, draws.below(6) as i32);
     match draws.below(3) {
         0 => Ok(Ident::from_tuples(alloc, &[outer, inner])?),
         _ => Ok(Ident::from_tuples(alloc, &[outer])?),
@@ -239,6 +232,17 @@ fn changes<D: Document>(alloc: Global, document: &mut D, draws: &mut Draws) -> R
     }
 }
 
+/// Makes a change, and tells all answers.
+fn takes_step<D: Document>(
+    alloc: Global,
+    document: &mut D,
+    draws: &mut Draws,
+) -> Result<u64, Fail> {
+    let changed = changes(alloc, document, draws)?;
+    let id = some_ident(alloc, draws)?;
+    Ok(mixed(looks(document, &id, draws)?, changed))
+}
+
 /// Makes this many changes that the seed decides, and tells all answers.
 fn plays<D: Document>(
     alloc: Global,
@@ -249,24 +253,28 @@ fn plays<D: Document>(
     let mut draws = Draws { state: seed };
     let mut trace = Vec::new(alloc);
     for _ in 0..steps {
-        let changed = changes(alloc, document, &mut draws)?;
-        let id = some_ident(alloc, &mut draws)?;
-        let look = looks(document, &id, &mut draws)?;
-        trace.push(mixed(look, changed))?;
+        trace.push(takes_step(alloc, document, &mut draws)?)?;
     }
     Ok(trace)
 }
 
+/// What an empty document answers to 200 changes, and whether it has characters then.
+fn played<D: Document>(alloc: Global, document: &mut D, seed: u64) -> Result<(Trace, bool), Fail> {
+    let trace = plays(alloc, document, seed, 200)?;
+    Ok((trace, document.total() > 0))
+}
+
+/// Whether both documents answer the same, and whether the tree has characters then.
+fn agree(alloc: Global, seed: u64) -> Result<(bool, bool), Fail> {
+    let (expected, _) = played(alloc, &mut VecDocument::new(alloc), seed)?;
+    let (answers, has_characters) = played(alloc, &mut BlockTree::new(alloc), seed)?;
+    Ok((answers == expected, has_characters))
+}
+
 #[test]
 fn both_documents_answer_the_same(rt: HostRuntime) -> Result<(), Fail> {
-    let alloc = rt.alloc();
     for seed in 1..4 {
-        let mut plain = VecDocument::new(alloc);
-        let mut tree = BlockTree::new(alloc);
-        let expected = plays(alloc, &mut plain, seed, 200)?;
-        let answers = plays(alloc, &mut tree, seed, 200)?;
-        assert_eq!(rt; answers, expected, "seed {seed}");
-        assert!(rt; tree.total() > 0, "seed {seed}");
+        assert_eq!(rt; agree(rt.alloc(), seed)?, (true, true), "seed {seed}");
     }
     Ok(())
 }
@@ -384,13 +392,16 @@ fn leads<D: Document>(alloc: Global, document: &mut D, row: &Row) -> Result<bool
     Ok(text.as_str() == row.1 && document.run_count() == row.2)
 }
 
+/// Whether it does so in either document.
+fn both_lead(alloc: Global, row: &Row) -> Result<(bool, bool), Fail> {
+    let plain = leads(alloc, &mut VecDocument::new(alloc), row)?;
+    Ok((plain, leads(alloc, &mut BlockTree::new(alloc), row)?))
+}
+
 #[test]
 fn runs_go_into_gaps(rt: HostRuntime) -> Result<(), Fail> {
-    let alloc = rt.alloc();
     for (i, row) in ROWS.iter().enumerate() {
-        let plain = leads(alloc, &mut VecDocument::new(alloc), row)?;
-        let tree = leads(alloc, &mut BlockTree::new(alloc), row)?;
-        assert!(rt; plain && tree, "row {i}");
+        assert_eq!(rt; both_lead(rt.alloc(), row)?, (true, true), "row {i}");
     }
     Ok(())
 }
@@ -421,16 +432,6 @@ fn is_leaf(alloc: Global, node: Option<&Node>, first: &[Tuple], text: &str) -> R
 fn insert(alloc: Global, replica: &mut Replica, at: u64, text: &str) -> Result<u32, Fail> {
     let text = Text::from_str(alloc, text)?;
     Ok(replica.edit(&Edit::Insert { at, text })?)
-}
-
-/// A tuple of an operation of member 0.
-fn own(seq: u32, offset: i32) -> Tuple {
-    Tuple::At {
-        pos: MIDDLE,
-        replica: 0,
-        seq,
-        offset,
-    }
 }
 
 /// Whether the tree of `heXYllo` has the block of `XY` above the two others.

@@ -1,394 +1,196 @@
-//! Trees of epochs on worked values: translation between epochs, their order, and what is kept of them.
+//! Trees of epochs: their order, what they tell, and what is kept of them.
 
-ghost use Rattle.std.specs.Prelude.{◌≡◌, ◌<◌, IfOk, IsTrue, length};
+ghost use Rattle.std.specs.Prelude.{IsTrue, length};
 ghost use Rattle.rls_ident.specs.declared.epoch_name.EpochName.{EpochName};
-ghost use Rattle.rls_ident.specs.declared.epoch_name.EpochName.TheVariants.{Origin, Of};
+ghost use Rattle.rls_ident.specs.declared.epoch_name.EpochName.TheVariants.{Origin};
 ghost use Rattle.rls_ident.specs.EpochNames.{is_of_member};
 ghost use Rattle.rls_rename.specs.Tree.{is_kept};
 
-use crate::spelling::{Spelled, are, list_of, run_of};
-use rls_epoch::Epochs;
-use rls_ident::{EpochName, Ident, Tuple, Vector};
-use rls_rename::Renaming;
-use rls_runs::Runs;
+use crate::spelling::own;
+use crate::trees::{FIRST, SECOND, Way, ident_moves, tree};
+use rls_epoch::{Epochs, Retained};
+use rls_ident::{EpochName, Vector};
 use std::alloc::Global;
 use std::cmp::Ordering;
 use std::test::Fail;
 
-/// The middle position.
-const MIDDLE: u32 = 2_147_483_647;
+/// From the first epoch to the second one.
+const NEXT: Way = (FIRST, SECOND);
 
-/// The epoch of member 0's second operation.
-const FIRST: EpochName = EpochName::Of { replica: 0, seq: 2 };
+/// How many epochs and former identifiers there are, and the greatest epoch.
+type Sizes = (u64, u64, EpochName);
 
-/// The epoch of member 0's third operation, which is opened in the first one.
-const SECOND: EpochName = EpochName::Of { replica: 0, seq: 3 };
-
-/// The epoch of member 0's fourth operation.
-const THIRD: EpochName = EpochName::Of { replica: 0, seq: 4 };
-
-/// Offsets and lengths: a former identifier, those beside it, all of them, one that isn't a former one, and both kinds.
-const LISTS: [(i32, u32); 5] = [(3, 1), (0, 2), (0, 5), (7, 1), (4, 2)];
-
-/// A tuple of an operation of member 0.
-fn tuple(seq: u32, offset: i32) -> Tuple {
-    Tuple::At {
-        pos: MIDDLE,
-        replica: 0,
-        seq,
-        offset,
-    }
+fn sizes(epochs: &Epochs) -> Sizes {
+    (epochs.count(), epochs.former_total(), epochs.greatest())
 }
 
-/// The renaming of the first five identifiers of member 0's operation before it.
-fn renaming(alloc: Global, seq: u32) -> Result<Renaming, Fail>
-    requires later { 0 < seq }
-    ensures replica { IfOk result (λ renaming. renaming.replica ≡ 0) }
-    ensures seq { IfOk result (λ renaming. renaming.seq ≡ seq) }
-{
-    let former = list_of(alloc, (&[tuple(seq - 1, 0)], 5))?;
-    Ok(Renaming::new(alloc, former, 0, seq)?)
+/// The sizes of a copy.
+fn copied_sizes(epochs: &Epochs) -> Result<Sizes, Fail> {
+    let copy = epochs.copy()?;
+    Ok(sizes(&copy))
 }
 
-/// The origin, the first epoch below it, and the second one below that.
-fn tree(alloc: Global) -> Result<Epochs, Fail>
-    ensures count { IfOk result (λ tree. length tree.epochs.nodes ≡ 2) }
-    ensures origin { IfOk result (λ tree. IsTrue (is_kept tree.epochs.top tree.epochs.nodes Origin)) }
-    ensures first { IfOk result (λ tree. IsTrue (is_kept tree.epochs.top tree.epochs.nodes (Of 0 2))) }
-    ensures second { IfOk result (λ tree. IsTrue (is_kept tree.epochs.top tree.epochs.nodes (Of 0 3))) }
-    ensures members { IfOk result (λ tree. (e : EpochName) → IsTrue (is_kept tree.epochs.top tree.epochs.nodes e) → IsTrue (is_of_member 2 e)) }
-{
-    let mut epochs = Epochs::starting_at(alloc, EpochName::Origin)?;
-    epochs.reserve()?;
-    epochs.add(0, 2, EpochName::Origin, renaming(alloc, 2)?);
-    epochs.reserve()?;
-    epochs.add(0, 3, FIRST, renaming(alloc, 3)?);
-    Ok(epochs)
-}
-
-/// Whether the one identifier is the other in the other epoch.
-fn ident_moves(
-    alloc: Global,
-    epochs: &Epochs,
-    way: (EpochName, EpochName),
-    id: &[Tuple],
-    expected: &[Tuple],
-) -> Result<bool, Fail> {
-    if !epochs.kept(way.0) || !epochs.kept(way.1) {
-        return Ok(false);
-    }
-    let moved = epochs.translate(way.0, way.1, &Ident::from_tuples(alloc, id)?)?;
-    Ok(moved.compare(&Ident::from_tuples(alloc, expected)?) == Ordering::Equal)
-}
-
-/// Whether the run is these in the other epoch.
-fn run_moves(
-    alloc: Global,
-    epochs: &Epochs,
-    way: (EpochName, EpochName),
-    run: Spelled<'_>,
-    expected: &[Spelled<'_>],
-) -> Result<bool, Fail> {
-    if !epochs.kept(way.0) || !epochs.kept(way.1) {
-        return Ok(false);
-    }
-    let moved = epochs.translate_run(way.0, way.1, &run_of(alloc, run)?)?;
-    are(alloc, &moved, expected)
-}
-
-/// Whether the list of the run's identifiers is that of the other run in the other epoch.
-fn list_moves(
-    alloc: Global,
-    epochs: &Epochs,
-    way: (EpochName, EpochName),
-    run: Spelled<'_>,
-    expected: Spelled<'_>,
-) -> Result<bool, Fail> {
-    if !epochs.kept(way.0) || !epochs.kept(way.1) {
-        return Ok(false);
-    }
-    let moved = epochs.translate_runs(way.0, way.1, &list_of(alloc, run)?)?;
-    if moved.run_count() != 1 {
-        return Ok(false);
-    }
-    let first = Ident::from_tuples(alloc, expected.0)?;
-    let run = &moved.as_slice()[0];
-    Ok(run.len() == expected.1 && run.first().compare(&first) == Ordering::Equal)
-}
-
-#[test]
-fn identifiers_are_translated(rt: HostRuntime) -> Result<(), Fail> {
-    let alloc = rt.alloc();
+/// The sizes of a new tree, and of its copy.
+fn sizes_twice(alloc: Global) -> Result<(Sizes, Sizes), Fail> {
     let epochs = tree(alloc)?;
-    let (down, up) = ((EpochName::Origin, FIRST), (FIRST, EpochName::Origin));
-    let (old, new) = ([tuple(1, 3)], [tuple(2, 3)]);
-    assert!(rt; ident_moves(alloc, &epochs, down, &old, &new)?);
-    assert!(rt; ident_moves(alloc, &epochs, up, &new, &old)?);
-    assert!(rt; run_moves(alloc, &epochs, down, (&old, 1), &[(&new, 1)])?);
-    assert!(rt; run_moves(alloc, &epochs, up, (&new, 1), &[(&old, 1)])?);
-    assert!(rt; list_moves(alloc, &epochs, down, (&old, 1), (&new, 1))?);
-    assert!(rt; list_moves(alloc, &epochs, up, (&new, 1), (&old, 1))?);
-    let both = (EpochName::Origin, SECOND);
-    assert!(rt; ident_moves(alloc, &epochs, both, &old, &[tuple(3, 3)])?);
-    let (all, moved) = ([tuple(1, 0)], [tuple(3, 0)]);
-    assert!(rt; run_moves(alloc, &epochs, both, (&all, 5), &[(&moved, 5)])?);
-    Ok(())
+    Ok((sizes(&epochs), copied_sizes(&epochs)?))
 }
 
-#[test]
-fn long_runs_are_translated_at_once(rt: HostRuntime) -> Result<(), Fail> {
-    let alloc = rt.alloc();
+/// How the first epoch is to the second one, and that one to the origin.
+fn orders(alloc: Global) -> Result<(Ordering, Ordering), Fail> {
     let epochs = tree(alloc)?;
-    let (down, up) = ((EpochName::Origin, FIRST), (FIRST, EpochName::Origin));
-    let long = 1_073_741_819;
-    let (old, new) = ([tuple(1, 5)], [tuple(2, 4), tuple(1, 5)]);
-    assert!(rt; run_moves(alloc, &epochs, down, (&old, long), &[(&new, long)])?);
-    assert!(rt; run_moves(alloc, &epochs, up, (&new, long), &[(&old, long)])?);
-    assert!(rt; list_moves(alloc, &epochs, down, (&old, long), (&new, long))?);
-    assert!(rt; list_moves(alloc, &epochs, up, (&new, long), (&old, long))?);
-    Ok(())
+    let first = epochs.compare(FIRST, SECOND);
+    Ok((first, epochs.compare(SECOND, EpochName::Origin)))
 }
 
-/// Whether these are the same identifiers.
-fn same_lists(ids: &Runs, others: &Runs) -> bool {
-    if ids.run_count() != others.run_count() {
-        return false;
-    }
-    let mut pairs = ids.as_slice().iter().zip(others.as_slice().iter());
-    pairs.all(|(run, other)| {
-        run.len() == other.len() && run.first().compare(other.first()) == Ordering::Equal
-    })
-}
-
-/// Whether a list is the same in the other epoch before and after the tree was prepared for it.
-fn moves_again(epochs: &mut Epochs, way: (EpochName, EpochName), ids: &Runs) -> Result<bool, Fail> {
-    if !epochs.kept(way.0) || !epochs.kept(way.1) {
-        return Ok(false);
-    }
-    let unprepared = epochs.copy()?;
-    if !unprepared.kept(way.0) || !unprepared.kept(way.1) {
-        return Ok(false);
-    }
-    let before = unprepared.translate_runs(way.0, way.1, ids)?;
-    epochs.prepare(way.0, way.1, ids)?;
-    if !epochs.kept(way.0) || !epochs.kept(way.1) {
-        return Ok(false);
-    }
-    let after = epochs.translate_runs(way.0, way.1, ids)?;
-    Ok(same_lists(&before, &after))
-}
-
-/// Whether lists of identifiers of one operation, each from an offset on, move as before once the tree is prepared for them.
-fn all_move_again(
-    alloc: Global,
-    epochs: &mut Epochs,
-    way: (EpochName, EpochName),
-    seq: u32,
-    lists: &[(i32, u32)],
-) -> Result<bool, Fail> {
-    for i in 0..lists.len() {
-        let (offset, len) = lists[i];
-        let ids = list_of(alloc, (&[tuple(seq, offset)], len))?;
-        if !moves_again(epochs, way, &ids)? {
-            return Ok(false);
-        }
-    }
-    Ok(true)
-}
-
-/// Whether a third epoch could be opened in the second one.
-fn opens_third(alloc: Global, epochs: &mut Epochs) -> Result<bool, Fail> {
-    let renaming = renaming(alloc, 4)?;
-    let total = renaming.total();
-    if epochs.kept(THIRD) || !epochs.kept(SECOND) || epochs.former_total() > 1_000_000 {
-        return Ok(false);
-    }
-    if total > 1_000_000 {
-        return Ok(false);
-    }
-    epochs.reserve()?;
-    epochs.add(0, 4, SECOND, renaming);
-    Ok(true)
-}
-
-#[test]
-fn known_images_are_found(rt: HostRuntime) -> Result<(), Fail> {
-    let alloc = rt.alloc();
-    let mut epochs = tree(alloc)?;
-    let (down, up, near) = (
-        (EpochName::Origin, SECOND),
-        (SECOND, EpochName::Origin),
-        (SECOND, FIRST),
-    );
-    assert!(rt; all_move_again(alloc, &mut epochs, down, 1, &LISTS)?);
-    // Back again, to an epoch that is one step away, and back once more.
-    assert!(rt; all_move_again(alloc, &mut epochs, up, 3, &LISTS)?);
-    assert!(rt; all_move_again(alloc, &mut epochs, near, 3, &LISTS)?);
-    assert!(rt; all_move_again(alloc, &mut epochs, up, 3, &LISTS)?);
-    // One more epoch.
-    assert!(rt; all_move_again(alloc, &mut epochs, down, 1, &[(1, 3)])?);
-    assert!(rt; opens_third(alloc, &mut epochs)?);
-    let deep = (EpochName::Origin, THIRD);
-    assert!(rt;
-        list_moves(
-            alloc,
-            &epochs,
-            deep,
-            (&[tuple(1, 1)], 3),
-            (&[tuple(4, 1)], 3)
-        )?
-    );
-    assert!(rt; all_move_again(alloc, &mut epochs, deep, 1, &[(1, 3), (1, 3)])?);
-    assert!(rt;
-        list_moves(
-            alloc,
-            &epochs,
-            deep,
-            (&[tuple(1, 2)], 2),
-            (&[tuple(4, 2)], 2)
-        )?
-    );
-    Ok(())
-}
-
-/// Whether the run, translated and renamed, is these.
-fn run_renamed(
-    alloc: Global,
-    epochs: &Epochs,
-    way: (EpochName, EpochName),
-    run: Spelled<'_>,
-    expected: &[Spelled<'_>],
-) -> Result<bool, Fail> {
-    if !epochs.kept(way.0) || !epochs.kept(way.1) {
-        return Ok(false);
-    }
-    let next = renaming(alloc, 4)?;
-    let moved = epochs.translate_run_by(way.0, way.1, &next, &run_of(alloc, run)?)?;
-    are(alloc, &moved, expected)
-}
-
-#[test]
-fn runs_are_translated_and_renamed(rt: HostRuntime) -> Result<(), Fail> {
-    let alloc = rt.alloc();
+/// Whether an epoch of this name would be the greatest, if it can be opened in the origin.
+fn opens_greatest(alloc: Global, replica: u32, seq: u32) -> Result<Option<bool>, Fail> {
     let epochs = tree(alloc)?;
-    let way = (EpochName::Origin, SECOND);
-    let (all, renamed) = ([tuple(1, 0)], [tuple(4, 0)]);
-    assert!(rt; run_renamed(alloc, &epochs, way, (&all, 5), &[(&renamed, 5)])?);
-    Ok(())
+    if epochs.kept(EpochName::Of { replica, seq }) {
+        return Ok(None);
+    }
+    Ok(Some(epochs.opens_greatest(replica, seq, EpochName::Origin)))
 }
 
-/// Whether an epoch of this name would be the greatest, if it can be opened there.
-fn opens_greatest(epochs: &Epochs, replica: u32, seq: u32, parent: EpochName) -> Option<bool> {
-    if epochs.kept(EpochName::Of { replica, seq }) || !epochs.kept(parent) {
-        return None;
-    }
-    Some(epochs.opens_greatest(replica, seq, parent))
+/// The greatest epoch within a vector.
+fn greatest_in(alloc: Global, first: u32) -> Result<EpochName, Fail> {
+    let epochs = tree(alloc)?;
+    let vector = Vector::from_counts(alloc, &[first, 0])?;
+    Ok(epochs.greatest_in(&vector))
 }
 
 #[test]
 fn epochs_are_ordered(rt: HostRuntime) -> Result<(), Fail> {
     let alloc = rt.alloc();
-    let epochs = tree(alloc)?;
-    assert_eq!(rt; epochs.count(), 3);
-    assert_eq!(rt; epochs.former_total(), 10);
-    assert_eq!(rt; epochs.greatest(), SECOND);
-    assert_eq!(rt; epochs.compare(FIRST, SECOND), Ordering::Less);
-    assert_eq!(rt;
-        epochs.compare(SECOND, EpochName::Origin),
-        Ordering::Greater
-    );
-    assert_eq!(rt;
-        opens_greatest(&epochs, 1, 1, EpochName::Origin),
-        Some(true)
-    );
-    assert_eq!(rt;
-        opens_greatest(&epochs, 0, 1, EpochName::Origin),
-        Some(false)
-    );
-    assert_eq!(rt; opens_greatest(&epochs, 0, 2, EpochName::Origin), None);
-    let copy = epochs.copy()?;
-    assert_eq!(rt; copy.count(), 3);
-    assert_eq!(rt; copy.greatest(), SECOND);
-    assert_eq!(rt;
-        epochs.greatest_in(&Vector::from_counts(alloc, &[2, 0])?),
-        FIRST
-    );
-    assert_eq!(rt;
-        epochs.greatest_in(&Vector::from_counts(alloc, &[1, 0])?),
-        EpochName::Origin
-    );
+    let expected = (3, 10, SECOND);
+    assert_eq!(rt; sizes_twice(alloc)?, (expected, expected));
+    assert_eq!(rt; orders(alloc)?, (Ordering::Less, Ordering::Greater));
+    assert_eq!(rt; opens_greatest(alloc, 1, 1)?, Some(true));
+    assert_eq!(rt; opens_greatest(alloc, 0, 1)?, Some(false));
+    assert_eq!(rt; opens_greatest(alloc, 0, 2)?, None);
+    assert_eq!(rt; greatest_in(alloc, 2)?, FIRST);
+    assert_eq!(rt; greatest_in(alloc, 1)?, EpochName::Origin);
     Ok(())
+}
+
+/// The name of an epoch, the place of its parent, the name of that one, and the numbers of the renaming that opened it: by place and
+/// by name.
+type Listed = (
+    EpochName,
+    Option<u64>,
+    Option<EpochName>,
+    Option<u32>,
+    Option<u32>,
+);
+
+/// What the tree tells of the epoch at a place, if there is one.
+fn listed(epochs: &Epochs, place: u64) -> Option<Listed> {
+    if place >= epochs.count() {
+        return None;
+    }
+    let name = epochs.name(place);
+    if !epochs.kept(name) {
+        return None;
+    }
+    let by_place = epochs.renaming(place).map(|renaming| renaming.seq());
+    let by_name = epochs.renaming_of(name).map(|renaming| renaming.seq());
+    Some((
+        name,
+        epochs.parent(place),
+        epochs.parent_of(name),
+        by_place,
+        by_name,
+    ))
+}
+
+/// The same of a new tree.
+fn listed_in_tree(alloc: Global, place: u64) -> Result<Option<Listed>, Fail> {
+    let epochs = tree(alloc)?;
+    Ok(listed(&epochs, place))
 }
 
 #[test]
 fn epochs_are_listed(rt: HostRuntime) -> Result<(), Fail> {
-    let alloc = rt.alloc();
-    let epochs = tree(alloc)?;
-    assert_eq!(rt; epochs.name(0), EpochName::Origin);
-    assert_eq!(rt; epochs.name(1), FIRST);
-    assert_eq!(rt; epochs.name(2), SECOND);
-    assert_eq!(rt; epochs.parent(0), None);
-    assert_eq!(rt; epochs.parent(2), Some(1));
-    assert_eq!(rt; epochs.renaming(0).map(|renaming| renaming.seq()), None);
-    assert_eq!(rt; epochs.renaming(2).map(|renaming| renaming.seq()), Some(3));
-    assert_eq!(rt; epochs.parent_of(EpochName::Origin), None);
-    assert_eq!(rt; epochs.parent_of(SECOND), Some(FIRST));
-    assert_eq!(rt;
-        epochs.renaming_of(FIRST).map(|renaming| renaming.seq()),
-        Some(2)
-    );
+    let epochs: &[Listed] = &[
+        (EpochName::Origin, None, None, None, None),
+        (FIRST, Some(0), Some(EpochName::Origin), Some(2), Some(2)),
+        (SECOND, Some(1), Some(FIRST), Some(3), Some(3)),
+    ];
+    for (place, expected) in epochs.iter().enumerate() {
+        let found = listed_in_tree(rt.alloc(), place as u64)?;
+        assert_eq!(rt; found, Some(*expected), "place {place}");
+    }
     Ok(())
+}
+
+/// What is retained, with the origin marked or not.
+fn retained(epochs: &Epochs, stable: &Vector, is_marked: bool) -> Result<Retained, Fail>
+    requires origin { IsTrue (is_kept epochs.now.epochs.top epochs.now.epochs.nodes Origin) }
+    requires members { (e : EpochName) → IsTrue (is_kept epochs.now.epochs.top epochs.now.epochs.nodes e) → IsTrue (is_of_member (length stable.now) e) }
+{
+    Ok(if is_marked {
+        epochs.retained(stable, &[EpochName::Origin])?
+    } else {
+        epochs.retained(stable, &[])?
+    })
+}
+
+/// Whether a new tree retains these, and this many former identifiers.
+fn retains(alloc: Global, is_marked: bool, names: &[EpochName], former: u64) -> Result<bool, Fail> {
+    let (epochs, stable) = (tree(alloc)?, Vector::from_counts(alloc, &[2, 0])?);
+    let part = retained(&epochs, &stable, is_marked)?;
+    Ok(part.names.as_slice() == names && part.former == former)
 }
 
 #[test]
 fn epochs_are_retained(rt: HostRuntime) -> Result<(), Fail> {
-    let alloc = rt.alloc();
-    let epochs = tree(alloc)?;
-    let stable = Vector::from_counts(alloc, &[2, 0])?;
-    let part = epochs.retained(&stable, &[])?;
-    assert_eq!(rt; part.names.as_slice(), [FIRST, SECOND].as_slice());
-    assert_eq!(rt; part.former, 5);
-    let whole = epochs.retained(&stable, &[EpochName::Origin])?;
-    assert_eq!(rt;
-        whole.names.as_slice(),
-        [EpochName::Origin, FIRST, SECOND].as_slice()
-    );
-    assert_eq!(rt; whole.former, 10);
+    let all = [EpochName::Origin, FIRST, SECOND];
+    assert!(rt; retains(rt.alloc(), false, &[FIRST, SECOND], 5)?);
+    assert!(rt; retains(rt.alloc(), true, &all, 10)?);
     Ok(())
+}
+
+/// Keeps what has to stay, with the origin marked or not, and this many operations of member 0 stable.
+fn keep(alloc: Global, epochs: &mut Epochs, is_marked: bool, stable: u32) -> Result<(), Fail>
+    requires origin { IsTrue (is_kept epochs.old.epochs.top epochs.old.epochs.nodes Origin) }
+    requires members { (e : EpochName) → IsTrue (is_kept epochs.old.epochs.top epochs.old.epochs.nodes e) → IsTrue (is_of_member 2 e) }
+{
+    let stable = Vector::from_counts(alloc, &[stable, 0])?;
+    epochs.mark(EpochName::Origin);
+    if !is_marked {
+        epochs.clear_marks();
+    }
+    epochs.keep(&stable);
+    Ok(())
+}
+
+/// The sizes of a tree, its least epoch, whether the origin is in it, and whether an identifier of the first epoch moves to the
+/// second one.
+type Kept = (Sizes, EpochName, bool, bool);
+
+fn told(alloc: Global, epochs: &Epochs) -> Result<Kept, Fail> {
+    let has_origin = epochs.kept(EpochName::Origin);
+    let moves = ident_moves(alloc, epochs, (NEXT, (&[own(2, 1)], 1), (&[own(3, 1)], 1)))?;
+    Ok((sizes(epochs), epochs.name(0), has_origin, moves))
+}
+
+/// How a new tree is once that is kept.
+fn kept(alloc: Global, is_marked: bool, stable: u32) -> Result<Kept, Fail> {
+    let mut epochs = tree(alloc)?;
+    keep(alloc, &mut epochs, is_marked, stable)?;
+    told(alloc, &epochs)
 }
 
 #[test]
 fn marked_epochs_are_kept(rt: HostRuntime) -> Result<(), Fail> {
-    let alloc = rt.alloc();
-    let mut epochs = tree(alloc)?;
-    epochs.mark(EpochName::Origin);
-    epochs.keep(&Vector::from_counts(alloc, &[3, 0])?);
-    assert_eq!(rt; epochs.count(), 3);
-    assert_eq!(rt; epochs.former_total(), 10);
-    assert!(rt; epochs.kept(EpochName::Origin));
+    let expected = ((3, 10, SECOND), EpochName::Origin, true, true);
+    assert_eq!(rt; kept(rt.alloc(), true, 3)?, expected);
     Ok(())
 }
 
 #[test]
 fn other_epochs_are_dropped(rt: HostRuntime) -> Result<(), Fail> {
-    let alloc = rt.alloc();
-    let mut epochs = tree(alloc)?;
-    epochs.mark(EpochName::Origin);
-    epochs.clear_marks();
-    epochs.keep(&Vector::from_counts(alloc, &[2, 0])?);
-    assert_eq!(rt; epochs.count(), 2);
-    assert_eq!(rt; epochs.former_total(), 5);
-    assert!(rt; !epochs.kept(EpochName::Origin));
-    assert_eq!(rt; epochs.name(0), FIRST);
-    assert_eq!(rt; epochs.greatest(), SECOND);
-    assert!(rt;
-        ident_moves(
-            alloc,
-            &epochs,
-            (FIRST, SECOND),
-            &[tuple(2, 1)],
-            &[tuple(3, 1)]
-        )?
-    );
+    let expected = ((2, 5, SECOND), FIRST, false, true);
+    assert_eq!(rt; kept(rt.alloc(), false, 2)?, expected);
     Ok(())
 }

@@ -9,3 +9,7 @@ mod epochs;
 mod renamings;
 #[cfg(test)]
 mod spelling;
+#[cfg(test)]
+mod translations;
+#[cfg(test)]
+mod trees;

@@ -1,16 +1,12 @@
 //! Renamings on worked values: identifiers and whole runs, forward and back.
 
-use crate::spelling::{Spelled, are, list_of, run_of};
+use crate::spelling::{MIDDLE, Spelled, are, is_ident, list_of, own, run_of};
 use rls_ident::limits::IDENTIFIERS;
 use rls_ident::{Ident, Tuple};
 use rls_rename::{Renaming, RenamingError};
-use rls_runs::Runs;
+use rls_runs::{Run, RunList, Runs};
 use std::alloc::Global;
-use std::cmp::Ordering;
 use std::test::Fail;
-
-/// The middle position.
-const MIDDLE: u32 = 2_147_483_647;
 
 fn at(pos: u32, replica: u32, seq: u32, offset: i32) -> Tuple {
     Tuple::At {
@@ -23,12 +19,12 @@ fn at(pos: u32, replica: u32, seq: u32, offset: i32) -> Tuple {
 
 /// A tuple of member 0's first operation.
 fn old(offset: i32) -> Tuple {
-    at(MIDDLE, 0, 1, offset)
+    own(1, offset)
 }
 
 /// A tuple of the rename, which is member 0's second operation.
 fn new(offset: i32) -> Tuple {
-    at(MIDDLE, 0, 2, offset)
+    own(2, offset)
 }
 
 /// The renaming of the first identifiers of member 0's first operation.
@@ -37,65 +33,41 @@ fn renaming(alloc: Global, len: u32) -> Result<Result<Renaming, RenamingError>, 
     Ok(Renaming::new(alloc, former, 0, 2))
 }
 
-/// Whether it takes the first identifier to the second, and that one back.
-fn takes(
-    alloc: Global,
-    renaming: &Renaming,
-    former: &[Tuple],
-    renamed: &[Tuple],
-) -> Result<bool, Fail> {
-    let former = Ident::from_tuples(alloc, former)?;
-    let renamed = Ident::from_tuples(alloc, renamed)?;
-    let forward = renaming.forward(&former)?.compare(&renamed);
-    let back = renaming.back(&renamed)?.compare(&former);
-    Ok(forward == Ordering::Equal && back == Ordering::Equal)
+/// Identifiers before and after a renaming, by their tuples.
+type Pair<'a> = (&'a [Tuple], &'a [Tuple]);
+
+/// Whether it takes the first identifier to the second.
+fn takes(alloc: Global, renaming: &Renaming, pair: Pair<'_>) -> Result<bool, Fail> {
+    let found = renaming.forward(&Ident::from_tuples(alloc, pair.0)?)?;
+    is_ident(alloc, &found, pair.1)
 }
 
-fn forward_is(
-    alloc: Global,
-    renaming: &Renaming,
-    run: Spelled<'_>,
-    expected: &[Spelled<'_>],
-) -> Result<bool, Fail> {
-    are(
-        alloc,
-        &renaming.forward_run(&run_of(alloc, run)?)?,
-        expected,
-    )
+/// Whether it takes the second identifier back to the first.
+fn takes_back(alloc: Global, renaming: &Renaming, pair: Pair<'_>) -> Result<bool, Fail> {
+    let found = renaming.back(&Ident::from_tuples(alloc, pair.1)?)?;
+    is_ident(alloc, &found, pair.0)
 }
 
-fn back_is(
-    alloc: Global,
-    renaming: &Renaming,
-    run: Spelled<'_>,
-    expected: &[Spelled<'_>],
-) -> Result<bool, Fail> {
-    are(alloc, &renaming.back_run(&run_of(alloc, run)?)?, expected)
+/// Both.
+fn takes_both(alloc: Global, renaming: &Renaming, pair: Pair<'_>) -> Result<(bool, bool), Fail> {
+    let forward = takes(alloc, renaming, pair)?;
+    Ok((forward, takes_back(alloc, renaming, pair)?))
 }
 
-/// The first of these pairs that it doesn't take forward and back.
-fn fault_among(
-    alloc: Global,
-    renaming: &Renaming,
-    pairs: &[(&[Tuple], &[Tuple])],
-) -> Result<Option<usize>, Fail> {
-    for (i, (former, renamed)) in pairs.iter().enumerate() {
-        if !takes(alloc, renaming, former, renamed)? {
-            return Ok(Some(i));
-        }
-    }
-    Ok(None)
+/// The same of the renaming of five identifiers.
+fn takes_in_five(alloc: Global, pair: Pair<'_>) -> Result<(bool, bool), Fail> {
+    let renaming = renaming(alloc, 5)??;
+    takes_both(alloc, &renaming, pair)
 }
 
 #[test]
 fn identifiers_go_forward_and_back(rt: HostRuntime) -> Result<(), Fail> {
-    let alloc = rt.alloc();
     let outer = at(MIDDLE, 1, 1, 0);
     let third = at(MIDDLE, 0, 3, 0);
     let low = at(1_073_741_823, 1, 1, 0);
     let fourth = at(1_073_741_823, 0, 4, 0);
     let ninth = at(5, 0, 9, 0);
-    let pairs: &[(&[Tuple], &[Tuple])] = &[
+    let pairs: &[Pair<'_>] = &[
         (&[old(-1), Tuple::High, third], &[new(-1), third]),
         (&[low], &[low]),
         (&[old(4), outer], &[new(4), old(4), outer]),
@@ -107,63 +79,118 @@ fn identifiers_go_forward_and_back(rt: HostRuntime) -> Result<(), Fail> {
         (&[old(1), Tuple::Low, fourth], &[new(1), fourth]),
         (&[new(5)], &[new(5)]),
     ];
-    let renaming = renaming(alloc, 5)??;
-    assert_eq!(rt; fault_among(alloc, &renaming, pairs)?, None);
+    for (i, pair) in pairs.iter().enumerate() {
+        assert_eq!(rt; takes_in_five(rt.alloc(), *pair)?, (true, true), "pair {i}");
+    }
     Ok(())
+}
+
+/// Which way a run goes.
+#[derive(Clone, Copy)]
+enum Way {
+    Forward,
+    Back,
+}
+
+/// The run after the renaming, or before it.
+fn renamed(renaming: &Renaming, way: Way, run: &Run) -> Result<RunList, Fail> {
+    Ok(match way {
+        Way::Forward => renaming.forward_run(run)?,
+        Way::Back => renaming.back_run(run)?,
+    })
+}
+
+/// How many identifiers are renamed, a way, a run, the run that it goes to, and the one after that if it goes to two.
+type Case<'a> = (u32, Way, Spelled<'a>, Spelled<'a>, Option<Spelled<'a>>);
+
+/// Whether the run goes to these.
+fn run_goes(alloc: Global, renaming: &Renaming, case: Case<'_>) -> Result<bool, Fail> {
+    let (_, way, run, first, second) = case;
+    let found = renamed(renaming, way, &run_of(alloc, run)?)?;
+    match second {
+        None => are(alloc, &found, &[first]),
+        Some(second) => are(alloc, &found, &[first, second]),
+    }
+}
+
+/// How many identifiers the renaming of a case has, and whether the run goes to these.
+fn goes(alloc: Global, case: Case<'_>) -> Result<(u64, bool), Fail> {
+    let renaming = renaming(alloc, case.0)??;
+    Ok((renaming.total(), run_goes(alloc, &renaming, case)?))
 }
 
 #[test]
 fn runs_go_forward_and_back(rt: HostRuntime) -> Result<(), Fail> {
-    let alloc = rt.alloc();
-    let renaming = renaming(alloc, 5)??;
-    assert!(rt; forward_is(alloc, &renaming, (&[old(0)], 5), &[(&[new(0)], 5)])?);
-    assert!(rt; back_is(alloc, &renaming, (&[new(0)], 5), &[(&[old(0)], 5)])?);
-    assert!(rt;
-        forward_is(
-            alloc,
-            &renaming,
-            (&[old(3)], 4),
-            &[(&[new(3)], 2), (&[new(4), old(5)], 2)]
-        )?
-    );
-    Ok(())
-}
-
-/// Whether the renaming of this many identifiers takes the first run to the second at once, and that one back.
-fn goes_at_once(
-    alloc: Global,
-    len: u32,
-    former: Spelled<'_>,
-    renamed: Spelled<'_>,
-) -> Result<bool, Fail> {
-    let renaming = renaming(alloc, len)??;
-    let forward = forward_is(alloc, &renaming, former, &[renamed])?;
-    let back = back_is(alloc, &renaming, renamed, &[former])?;
-    Ok(forward && back && renaming.total() == len as u64)
-}
-
-#[test]
-fn long_runs_go_at_once(rt: HostRuntime) -> Result<(), Fail> {
-    let alloc = rt.alloc();
-    let most = 4_194_304;
+    let (most, long) = (4_194_304, 1_073_741_819);
     assert_eq!(rt; most as u64, IDENTIFIERS);
-    assert!(rt; goes_at_once(alloc, most, (&[old(0)], most), (&[new(0)], most))?);
-    let long = 1_073_741_819;
-    assert!(rt; goes_at_once(alloc, 5, (&[old(5)], long), (&[new(4), old(5)], long))?);
+    let cases: &[Case<'_>] = &[
+        (5, Way::Forward, (&[old(0)], 5), (&[new(0)], 5), None),
+        (5, Way::Back, (&[new(0)], 5), (&[old(0)], 5), None),
+        (
+            5,
+            Way::Forward,
+            (&[old(3)], 4),
+            (&[new(3)], 2),
+            Some((&[new(4), old(5)], 2)),
+        ),
+        // Long runs go at once.
+        (
+            most,
+            Way::Forward,
+            (&[old(0)], most),
+            (&[new(0)], most),
+            None,
+        ),
+        (most, Way::Back, (&[new(0)], most), (&[old(0)], most), None),
+        (
+            5,
+            Way::Forward,
+            (&[old(5)], long),
+            (&[new(4), old(5)], long),
+            None,
+        ),
+        (
+            5,
+            Way::Back,
+            (&[new(4), old(5)], long),
+            (&[old(5)], long),
+            None,
+        ),
+    ];
+    for (i, case) in cases.iter().enumerate() {
+        let found = goes(rt.alloc(), *case)?;
+        assert_eq!(rt; found, (case.0 as u64, true), "case {i}");
+    }
     Ok(())
+}
+
+/// Why there is no renaming of this many identifiers, if there is none.
+fn refused(alloc: Global, len: u32) -> Result<Option<RenamingError>, Fail> {
+    Ok(renaming(alloc, len)?.err())
+}
+
+/// The same of no identifier.
+fn refused_without_any(alloc: Global) -> Option<RenamingError> {
+    Renaming::new(alloc, Runs::new(alloc), 0, 2).err()
+}
+
+/// What a copy of the renaming of five identifiers tells: how many there are, in how many runs, the member, and its operation.
+fn copied(alloc: Global) -> Result<(u64, u64, u32, u32), Fail> {
+    let copy = renaming(alloc, 5)??.copy()?;
+    Ok((
+        copy.total(),
+        copy.former().run_count(),
+        copy.replica(),
+        copy.seq(),
+    ))
 }
 
 #[test]
 fn renamings_are_made(rt: HostRuntime) -> Result<(), Fail> {
     let alloc = rt.alloc();
-    let none = Renaming::new(alloc, Runs::new(alloc), 0, 2);
-    assert!(rt; matches!(&none, Err(RenamingError::EmptyList)));
-    let many = renaming(alloc, 4_194_305)?;
-    assert!(rt; matches!(&many, Err(RenamingError::TooMany { total: 4_194_305 })));
-    let copy = renaming(alloc, 5)??.copy()?;
-    assert_eq!(rt; copy.total(), 5);
-    assert_eq!(rt; copy.former().run_count(), 1);
-    assert_eq!(rt; copy.replica(), 0);
-    assert_eq!(rt; copy.seq(), 2);
+    let many = RenamingError::TooMany { total: 4_194_305 };
+    assert_eq!(rt; refused_without_any(alloc), Some(RenamingError::EmptyList));
+    assert_eq!(rt; refused(alloc, 4_194_305)?, Some(many));
+    assert_eq!(rt; copied(alloc)?, (5, 1, 0, 2));
     Ok(())
 }

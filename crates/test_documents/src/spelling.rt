@@ -6,6 +6,19 @@ use std::alloc::Global;
 use std::cmp::Ordering;
 use std::test::Fail;
 
+/// The middle position.
+pub const MIDDLE: u32 = 2_147_483_647;
+
+/// A tuple of an operation of member 0.
+pub fn own(seq: u32, offset: i32) -> Tuple {
+    Tuple::At {
+        pos: MIDDLE,
+        replica: 0,
+        seq,
+        offset,
+    }
+}
+
 /// A run: the tuples of its first identifier, and its length.
 pub type Spelled<'a> = (&'a [Tuple], u32);
 
@@ -21,15 +34,25 @@ pub fn list_of(alloc: Global, run: Spelled<'_>) -> Result<Runs, Fail> {
     Ok(list)
 }
 
+/// Whether the identifier has these tuples.
+pub fn is_ident(alloc: Global, id: &Ident, expected: &[Tuple]) -> Result<bool, Fail> {
+    let expected = Ident::from_tuples(alloc, expected)?;
+    Ok(id.compare(&expected) == Ordering::Equal)
+}
+
+/// Whether the run is this one.
+pub fn is_run(alloc: Global, run: &Run, expected: Spelled<'_>) -> Result<bool, Fail> {
+    let is_first = is_ident(alloc, run.first(), expected.0)?;
+    Ok(is_first && run.len() == expected.1)
+}
+
 /// Whether these are the same runs.
 pub fn are(alloc: Global, runs: &RunList, expected: &[Spelled<'_>]) -> Result<bool, Fail> {
     if runs.len() != expected.len() {
         return Ok(false);
     }
     for (i, spelled) in expected.iter().enumerate() {
-        let run = runs.get(i);
-        let first = Ident::from_tuples(alloc, spelled.0)?;
-        if run.len() != spelled.1 || run.first().compare(&first) != Ordering::Equal {
+        if !is_run(alloc, runs.get(i), *spelled)? {
             return Ok(false);
         }
     }
