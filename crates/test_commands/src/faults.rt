@@ -1,76 +1,105 @@
 //! Devices that fail, call by call.
 
-use crate::members::Member;
-use rls_io::{Keeper, MemorySink, MemorySource};
-use rls_journal::{DiskKeeper, MemoryDisk};
-use rls_top::run;
+use crate::files::{FRESH_SECOND, HELLO, keeps, member_with};
+use crate::members::{Member, Step};
 use std::alloc::Global;
 use std::test::Fail;
-use test_steps::bytes::{HELLO_MESSAGE, bytes};
+use test_steps::bytes::HELLO_FILE;
 
-/// A member with this file.
-fn member_of(alloc: Global, file: Option<&[u8]>) -> Result<Member, Fail> {
-    match file {
-        None => Ok(Member::new()),
-        Some(bytes) => Ok(Member {
-            file: Some(Vec::from_slice(alloc, bytes)?),
-        }),
-    }
-}
+/// Calls of the keeper, of the input, of the output and of the errors that fail.
+type Failing = [&'static [u64]; 4];
 
-#[derive(Clone, Copy, PartialEq, Eq)]
-enum Device {
-    Keeper,
-    Input,
-    Output,
-}
+/// A member's file, if there is one, the words of a command, and its input.
+type Command = (Option<&'static str>, &'static str, &'static [u8]);
 
-impl Device {
-    /// The status that tells its faults.
-    fn status(self) -> u8 {
-        match self {
-            Device::Keeper => 7,
-            Device::Input => 8,
-            Device::Output => 9,
-        }
-    }
+const COMMANDS: &[Command] = &[
+    (None, "new 7 1 2", b""),
+    (Some(FRESH_SECOND), "edit", b"i 0 hello\ni 5 !\n"),
+    (Some(FRESH_SECOND), "take", HELLO),
+    (Some(FRESH_SECOND), "leave", b""),
+    (Some(FRESH_SECOND), "text", b""),
+    (Some(FRESH_SECOND), "ids", b""),
+    (Some(FRESH_SECOND), "stat", b""),
+    (Some(FRESH_SECOND), "send 0", b""),
+];
 
-    /// Its calls with these numbers, as they are handed to a command: of the keeper, of the input, of the output, of the errors.
-    fn failing(self, numbers: &[u64]) -> [&[u64]; 4] {
-        match self {
-            Device::Keeper => [numbers, &[], &[], &[]],
-            Device::Input => [&[], numbers, &[], &[]],
-            Device::Output => [&[], &[], numbers, &[]],
-        }
-    }
-}
+/// A call that fails, the status that tells it, and whether each command makes this call.
+type Call = (Failing, u8, bool);
 
-/// Lets each of the first calls of one device fail in turn. Answers the first call after which the status or the kept file is
-/// other than it has to be.
-fn fault_of_device(
+/// The first calls of the keeper, of the input and of the output.
+const CALLS: &[Call] = &[
+    ([&[0], &[], &[], &[]], 7, true),
+    ([&[1], &[], &[], &[]], 7, false),
+    ([&[2], &[], &[], &[]], 7, false),
+    ([&[3], &[], &[], &[]], 7, false),
+    ([&[], &[0], &[], &[]], 8, false),
+    ([&[], &[1], &[], &[]], 8, false),
+    ([&[], &[2], &[], &[]], 8, false),
+    ([&[], &[3], &[], &[]], 8, false),
+    ([&[], &[], &[0], &[]], 9, false),
+    ([&[], &[], &[1], &[]], 9, false),
+    ([&[], &[], &[2], &[]], 9, false),
+    ([&[], &[], &[3], &[]], 9, false),
+];
+
+/// The status of a command while these calls fail.
+fn status_of(
     alloc: Global,
-    file: Option<&[u8]>,
-    words: &str,
-    input: &[u8],
-    device: Device,
-) -> Result<Option<u64>, Fail> {
-    let mut done = member_of(alloc, file)?;
-    let _answer = done.command(alloc, words, input)?;
-    for call in 0..4u64 {
-        let mut member = member_of(alloc, file)?;
-        let status = member
-            .under_faults(alloc, words, input, device.failing(&[call]))?
-            .status;
-        let right = if status == 0 || status == 9 {
-            member.file.as_deref() == done.file.as_deref()
-        } else {
-            member.file.as_deref() == file
-        };
-        if !right || (status != 0 && status != device.status()) {
-            return Ok(Some(call));
+    member: &mut Member,
+    command: &Command,
+    failing: Failing,
+) -> Result<u8, Fail> {
+    let (_, words, input) = command;
+    Ok(member.under_faults(alloc, words, input, failing)?.status)
+}
+
+/// Whether a member has the file that it has to have after this status: the one of a member that is done with the command, if just the
+/// output is amiss or nothing is, and else the one that it had.
+fn is_left(
+    alloc: Global,
+    member: &Member,
+    status: u8,
+    done: &Member,
+    before: Option<&str>,
+) -> Result<bool, Fail> {
+    match status {
+        0 | 9 => Ok(member.file.as_deref() == done.file.as_deref()),
+        _ => keeps(alloc, member, before),
+    }
+}
+
+/// Whether a command tells by its status that a call fails, and leaves the file that it has to.
+fn is_told(alloc: Global, command: &Command, done: &Member, call: &Call) -> Result<bool, Fail> {
+    let (failing, due, is_made) = call;
+    let mut member = member_with(alloc, command.0)?;
+    let status = status_of(alloc, &mut member, command, *failing)?;
+    let is_due = status == *due || (status == 0 && !*is_made);
+    Ok(is_due && is_left(alloc, &member, status, done, command.0)?)
+}
+
+/// The first call that isn't told.
+fn fault_among(alloc: Global, command: &Command, done: &Member) -> Result<Option<usize>, Fail> {
+    for (i, call) in CALLS.iter().enumerate() {
+        if !is_told(alloc, command, done, call)? {
+            return Ok(Some(i));
         }
-        if call == 0 && status == 0 && device == Device::Keeper {
-            return Ok(Some(call));
+    }
+    Ok(None)
+}
+
+/// The first call of a command that isn't told.
+fn fault_of(alloc: Global, command: &Command) -> Result<Option<usize>, Fail> {
+    let (file, words, input) = command;
+    let mut done = member_with(alloc, *file)?;
+    let _answer = done.command(alloc, words, input)?;
+    fault_among(alloc, command, &done)
+}
+
+/// The first command with a call that isn't told, and the first such call.
+fn fault(alloc: Global) -> Result<Option<(usize, usize)>, Fail> {
+    for (i, command) in COMMANDS.iter().enumerate() {
+        if let Some(call) = fault_of(alloc, command)? {
+            return Ok(Some((i, call)));
         }
     }
     Ok(None)
@@ -78,119 +107,59 @@ fn fault_of_device(
 
 #[test]
 fn each_call_of_a_device_fails_in_turn(rt: HostRuntime) -> Result<(), Fail> {
-    let alloc = rt.alloc();
-    let hello = bytes(alloc, HELLO_MESSAGE)?;
-    let mut member = Member::new();
-    let _made = member.command(alloc, "new 7 1 2", b"")?;
-    let file = member.file.as_deref();
-    let commands: &[(Option<&[u8]>, &str, &[u8])] = &[
-        (None, "new 7 1 2", b""),
-        (file, "edit", b"i 0 hello\ni 5 !\n"),
-        (file, "take", &hello),
-        (file, "leave", b""),
-        (file, "text", b""),
-        (file, "ids", b""),
-        (file, "stat", b""),
-        (file, "send 0", b""),
-    ];
-    for (file, words, input) in commands {
-        for device in [Device::Keeper, Device::Input, Device::Output] {
-            assert_eq!(rt;
-                fault_of_device(alloc, *file, words, input, device)?,
-                None,
-                "{words}"
-            );
+    assert_eq!(rt; fault(rt.alloc())?, None);
+    Ok(())
+}
+
+/// A member's file, if there is one, calls that fail, and a step, which leaves the file as it is.
+type Case = (Option<&'static str>, Failing, Step<'static>);
+
+/// No line can be written on errors.
+const NO_ERRORS: Failing = [&[], &[], &[], &[0]];
+
+const CASES: &[Case] = &[
+    (
+        Some(HELLO_FILE),
+        [&[0], &[], &[], &[]],
+        ("text", b"", 7, "", "keeper fault\n"),
+    ),
+    (
+        Some(HELLO_FILE),
+        [&[], &[], &[0], &[]],
+        ("text", b"", 9, "", "sink fault\n"),
+    ),
+    // A status needs no errors.
+    (Some(FRESH_SECOND), NO_ERRORS, ("text 1", b"", 1, "", "")),
+    (None, NO_ERRORS, ("text", b"", 2, "", "")),
+    (Some("524c5346"), NO_ERRORS, ("text", b"", 3, "", "")),
+    (None, NO_ERRORS, ("new 7 2 2", b"", 4, "", "")),
+    (
+        Some(FRESH_SECOND),
+        NO_ERRORS,
+        ("edit", b"i 9 x\n", 6, "", ""),
+    ),
+];
+
+/// Whether the step goes as it has to, and leaves the file.
+fn goes(alloc: Global, case: &Case) -> Result<bool, Fail> {
+    let (file, failing, step) = case;
+    let mut member = member_with(alloc, *file)?;
+    let goes = member.goes_under_faults(alloc, step, *failing)?;
+    Ok(goes && keeps(alloc, &member, *file)?)
+}
+
+/// The first case that goes otherwise than it has to.
+fn other_case(alloc: Global) -> Result<Option<usize>, Fail> {
+    for (i, case) in CASES.iter().enumerate() {
+        if !goes(alloc, case)? {
+            return Ok(Some(i));
         }
     }
-    Ok(())
-}
-
-/// The status of a command of a member with this file, while no line can be written on errors.
-fn status_without_errors(
-    alloc: Global,
-    file: Option<&[u8]>,
-    words: &str,
-    input: &[u8],
-) -> Result<u8, Fail> {
-    let mut member = member_of(alloc, file)?;
-    let answer = member.under_faults(alloc, words, input, [&[], &[], &[], &[0]])?;
-    match answer.errors.is_empty() {
-        true => Ok(answer.status),
-        false => Err(Fail::new("errors")),
-    }
+    Ok(None)
 }
 
 #[test]
-fn a_status_needs_no_errors(rt: HostRuntime) -> Result<(), Fail> {
-    let alloc = rt.alloc();
-    let mut member = Member::new();
-    let _made = member.command(alloc, "new 7 1 2", b"")?;
-    let file = member.file.as_deref();
-    let commands: &[(Option<&[u8]>, &str, &[u8], u8)] = &[
-        (file, "text 1", b"", 1),
-        (None, "text", b"", 2),
-        (Some(b"RLSF"), "text", b"", 3),
-        (None, "new 7 2 2", b"", 4),
-        (file, "edit", b"i 9 x\n", 6),
-    ];
-    for (file, words, input, status) in commands {
-        let found = status_without_errors(alloc, *file, words, input)?;
-        assert_eq!(rt; found, *status, "{words}");
-    }
-    Ok(())
-}
-
-/// A command over a keeper with two slots: its status and its output.
-fn over_slots(
-    alloc: Global,
-    keeper: &mut DiskKeeper<MemoryDisk>,
-    words: &[&str],
-    input: &[u8],
-) -> Result<(u8, Vec<u8>), Fail> {
-    let mut list = Vec::new(alloc);
-    for word in words {
-        list.push(String::from_str(alloc, word)?)?;
-    }
-    let mut input = MemorySource::new(alloc, input, &[])?;
-    let mut output = MemorySink::new(alloc, 1000, &[])?;
-    let mut errors = MemorySink::new(alloc, 1000, &[])?;
-    let status = run(alloc, &list, keeper, &mut input, &mut output, &mut errors);
-    Ok((status, Vec::from_slice(alloc, output.written())?))
-}
-
-#[test]
-fn commands_over_slots(rt: HostRuntime) -> Result<(), Fail> {
-    let alloc = rt.alloc();
-    let disk = MemoryDisk::new(alloc, b"", b"", b"", 100, 10_000, &[])?;
-    let mut keeper = DiskKeeper::new(disk);
-    let steps: &[(&[&str], &[u8], &str)] = &[
-        (&["new", "7", "0", "2"], b"", "new 7 0 2\n"),
-        (&["edit"], b"i 0 hello\n", "edits 1 released 0 refused 0\n"),
-        (&["text"], b"", "hello"),
-        (
-            &["ids"],
-            b"",
-            "{\"epoch\":null,\"runs\":[{\"first\":[[2147483647,0,1,0]],\"length\":5}]}\n",
-        ),
-    ];
-    for (words, input, written) in steps {
-        let (status, output) = over_slots(alloc, &mut keeper, words, input)?;
-        assert_eq!(rt; status, 0);
-        assert_eq!(rt; output.as_slice(), written.as_bytes());
-    }
-    Ok(())
-}
-
-/// Over an empty disk `new` loads by two calls of the device and stores by ten.
-#[test]
-fn each_call_of_a_disk_fails_in_turn(rt: HostRuntime) -> Result<(), Fail> {
-    let alloc = rt.alloc();
-    for failing in 0..14u64 {
-        let disk = MemoryDisk::new(alloc, b"", b"", b"", 100, 10_000, &[failing])?;
-        let mut keeper = DiskKeeper::new(disk);
-        let (status, _) = over_slots(alloc, &mut keeper, &["new", "7", "0", "2"], b"")?;
-        let due = if failing < 12 { 7 } else { 0 };
-        assert_eq!(rt; status, due, "call {failing}");
-    }
+fn commands_fail(rt: HostRuntime) -> Result<(), Fail> {
+    assert_eq!(rt; other_case(rt.alloc())?, None);
     Ok(())
 }

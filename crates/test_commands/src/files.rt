@@ -1,33 +1,81 @@
-//! Files of the worked examples.
+//! Files and a message, and members with these files. The files are written in hexadecimal digits.
 
-use std::alloc::{AllocError, Global};
+use crate::members::Member;
+use std::alloc::Global;
+use std::test::Fail;
+use test_steps::bytes::bytes;
 
-/// Magic text, form 1, group 7, one member, number 0.
-pub const HEAD: &[u8] = b"RLSF\x01\0\0\0\0\0\0\0\x07\0\0\0\x01\0\0\0\0";
+/// The journal of 115 bytes of the sole member of group 7, which inserted `hello` and then `!`, at offset 5 of the same number.
+pub const MARKED: &str =
+    "524c5346 01 0000000000000007 00000001 00000000 00000002 00 00000000 00000001 00000000 00 00 00000001 01 7fffffff 00000000 00000001 00000000 00000005 68656c6c6f 00 00000000 00000002 00000001 00 00 00000001 01 7fffffff 00000000 00000001 00000005 00000001 21 00000000";
 
-/// The member inserts `hello`.
+/// The same with the `!` at offset 4, which was used.
+pub const USED_MARK: &str =
+    "524c5346 01 0000000000000007 00000001 00000000 00000002 00 00000000 00000001 00000000 00 00 00000001 01 7fffffff 00000000 00000001 00000000 00000005 68656c6c6f 00 00000000 00000002 00000001 00 00 00000001 01 7fffffff 00000000 00000001 00000004 00000001 21 00000000";
+
+/// The first 69 bytes of the journal that has just `hello`.
+pub const CUT: &str =
+    "524c5346 01 0000000000000007 00000001 00000000 00000001 00 00000000 00000001 00000000 00 00 00000001 01 7fffffff 00000000 00000001 00000000 00000005 68656c6c";
+
+/// A fresh member 0 of 2 in group 7, in the forms 2, 3 and 4.
+pub const FRESH_2: &str =
+    "524c5346 02 0000000000000007 00000002 00000000 0000000000000000 0000000000000000 0000000000000000 00000001 00 00000000 00000000 00000000";
+
+pub const FRESH_3: &str =
+    "524c5346 03 0000000000000007 00000002 00000000 0000000000000000 0000000000000000 0000000000000000 00000001 00 00000000 00000000 00000000";
+
+pub const FRESH_4: &str =
+    "524c5346 04 0000000000000007 00000002 00000000 0000000000000000 0000000000000000 00000000 0000000000000000 00000001 00 00000000 00000000 00000000";
+
+/// A fresh member 1 of 2 in group 7.
+pub const FRESH_SECOND: &str =
+    "524c5346 04 0000000000000007 00000002 00000001 0000000000000000 0000000000000000 00000000 0000000000000000 00000001 00 00000000 00000000 00000000";
+
+/// Member 0 of 2 in group 7 after its insertion of `hello`, in the forms 2, 3 and 4.
+pub const TYPED_2: &str =
+    "524c5346 02 0000000000000007 00000002 00000000 0000000100000000 0000000000000000 00000001 00000001 00000005 00000000 00000001 00 00000001 00000001 01 7fffffff 00000000 00000001 00000000 00000005 00000005 68656c6c6f 00000001 00000000 00000001 0000000000000000 00 00 00000001 01 7fffffff 00000000 00000001 00000000 00000005 68656c6c6f 00000000";
+
+pub const TYPED_3: &str =
+    "524c5346 03 0000000000000007 00000002 00000000 0000000100000000 0000000000000000 00000001 00000001 00000000 00000005 00000000 00000001 00 00000001 00000001 01 7fffffff 00000000 00000001 00000000 00000005 00000005 68656c6c6f 00000001 00000000 00000001 0000000000000000 00 00 00000001 01 7fffffff 00000000 00000001 00000000 00000005 68656c6c6f 00000000";
+
+pub const TYPED_4: &str =
+    "524c5346 04 0000000000000007 00000002 00000000 0000000100000000 0000000000000000 00000000 00000001 00000001 00000000 00000005 00000000 00000001 00 00000001 00000001 01 7fffffff 00000000 00000001 00000000 00000005 00000005 68656c6c6f 00000001 00000000 00000001 0000000000000000 00 00 00000001 01 7fffffff 00000000 00000001 00000000 00000005 68656c6c6f 00000000";
+
+/// The sole member of group 7 after its insertion of `hello`, which is stable at once.
+pub const ALONE: &str =
+    "524c5346 04 0000000000000007 00000001 00000000 00000001 00000000 00000001 00000001 00000000 00000005 00000001 00 00000001 00000001 01 7fffffff 00000000 00000001 00000000 00000005 00000005 68656c6c6f 00000000 00000000";
+
+/// The sole member of group 7 whose numbers are spent, in the forms 2 and 4.
+pub const SPENT_2: &str =
+    "524c5346 02 0000000000000007 00000001 00000000 ffffffff 00000000 00000001 00 00000000 00000000 00000000";
+
+pub const SPENT_4: &str =
+    "524c5346 04 0000000000000007 00000001 00000000 ffffffff 00000000 00000000 00000001 00 00000000 00000000 00000000";
+
+/// The message of 81 bytes in which member 0 of 2 in group 7 tells its insertion of `hello`.
 pub const HELLO: &[u8] =
-    b"\0\0\0\0\0\0\0\0\x01\0\0\0\0\0\0\0\0\0\x01\x01\x7f\xff\xff\xff\0\0\0\0\0\0\0\x01\0\0\0\0\0\0\0\x05hello";
+    b"RLSM\x03\0\0\0\0\0\0\0\x07\0\0\0\x02\0\0\0\0\0\0\0\x01\0\0\0\0\0\0\0\x01\0\0\0\0\0\0\0\x01\0\0\0\0\0\0\0\0\0\0\0\0\0\x01\x01\x7f\xff\xff\xff\0\0\0\0\0\0\0\x01\0\0\0\0\0\0\0\x05hello";
 
-/// The member appends `!`, at offset 5 of the same number.
-pub const MARK: &[u8] =
-    b"\0\0\0\0\0\0\0\0\x02\0\0\0\x01\0\0\0\0\0\x01\x01\x7f\xff\xff\xff\0\0\0\0\0\0\0\x01\0\0\0\x05\0\0\0\x01!";
-
-/// The same at offset 4, which was used.
-pub const USED_MARK: &[u8] =
-    b"\0\0\0\0\0\0\0\0\x02\0\0\0\x01\0\0\0\0\0\x01\x01\x7f\xff\xff\xff\0\0\0\0\0\0\0\x01\0\0\0\x04\0\0\0\x01!";
-
-/// The file of form 2 of a fresh replica: group 7, two members, number 0.
-pub const FRESH_IN_FORM_2: &[u8] =
-    b"RLSF\x02\0\0\0\0\0\0\0\x07\0\0\0\x02\0\0\0\0\0\0\0\0\0\0\0\0\0\0\0\0\0\0\0\0\0\0\0\0\0\0\0\0\0\0\0\x01\0\0\0\0\0\0\0\0\0\0\0\0\0";
-
-/// The journal of these events, with nothing that waits.
-pub fn journal(alloc: Global, count: u8, events: &[&[u8]]) -> Result<Vec<u8>, AllocError> {
-    let mut bytes = Vec::from_slice(alloc, HEAD)?;
-    bytes.extend_from_slice(&[0, 0, 0, count])?;
-    for event in events {
-        bytes.extend_from_slice(event)?;
+/// A member with this file, if there is one.
+pub fn member_with(alloc: Global, digits: Option<&str>) -> Result<Member, Fail> {
+    match digits {
+        None => Ok(Member::new()),
+        Some(digits) => Ok(Member {
+            file: Some(bytes(alloc, digits)?),
+        }),
     }
-    bytes.extend_from_slice(&[0, 0, 0, 0])?;
-    Ok(bytes)
+}
+
+/// Whether a member's file is this one.
+fn has(alloc: Global, member: &Member, digits: &str) -> Result<bool, Fail> {
+    let expected = bytes(alloc, digits)?;
+    Ok(member.file.as_deref() == Some(expected.as_slice()))
+}
+
+/// Whether a member's file is this one, or there is none.
+pub fn keeps(alloc: Global, member: &Member, digits: Option<&str>) -> Result<bool, Fail> {
+    match digits {
+        None => Ok(member.file.is_none()),
+        Some(digits) => has(alloc, member, digits),
+    }
 }

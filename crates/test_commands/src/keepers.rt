@@ -1,21 +1,109 @@
-//! The keeper with two slots, under the program's call and under faults.
+//! The keeper with two slots, under commands and under faults.
 
-use crate::files::{HELLO, journal};
-use rls_io::{Found, Keeper, MemorySink, MemorySource, StoreError};
+use crate::members::{EDITED, Step, answer_over};
+use rls_io::{Found, Keeper, StoreError};
 use rls_journal::{DiskKeeper, MemoryDisk};
-use rls_top::run;
-use std::alloc::Global;
+use std::alloc::{AllocError, Global};
 use std::test::Fail;
+use test_steps::bytes::{HELLO_FILE, bytes};
 
-/// What `text` writes over this keeper, after its status.
-fn text_of(alloc: Global, keeper: &mut DiskKeeper<MemoryDisk>) -> Result<(u8, Vec<u8>), Fail> {
-    let mut words = Vec::new(alloc);
-    words.push(String::from_str(alloc, "text")?)?;
-    let mut input = MemorySource::new(alloc, b"", &[])?;
-    let mut output = MemorySink::new(alloc, 1000, &[])?;
-    let mut errors = MemorySink::new(alloc, 1000, &[])?;
-    let status = run(alloc, &words, keeper, &mut input, &mut output, &mut errors);
-    Ok((status, Vec::from_slice(alloc, output.written())?))
+/// A keeper over an empty disk, of which the calls with these numbers fail.
+fn empty(alloc: Global, failing: &[u64]) -> Result<DiskKeeper<MemoryDisk>, AllocError> {
+    let disk = MemoryDisk::new(alloc, b"", b"", b"", 100, 10_000, failing)?;
+    Ok(DiskKeeper::new(disk))
+}
+
+/// Whether a step goes as it has to over this keeper.
+fn goes(alloc: Global, keeper: &mut DiskKeeper<MemoryDisk>, step: &Step<'_>) -> Result<bool, Fail> {
+    let (words, input, status, output, errors) = step;
+    let answer = answer_over(alloc, keeper, words, input, [&[]; 3])?;
+    Ok(answer.is(*status, output, errors))
+}
+
+/// The first step that goes otherwise than it has to.
+fn fault_among(
+    alloc: Global,
+    keeper: &mut DiskKeeper<MemoryDisk>,
+    steps: &[Step<'_>],
+) -> Result<Option<usize>, Fail> {
+    for (i, step) in steps.iter().enumerate() {
+        if !goes(alloc, keeper, step)? {
+            return Ok(Some(i));
+        }
+    }
+    Ok(None)
+}
+
+/// The same over an empty disk.
+fn fault_of(alloc: Global, steps: &[Step<'_>]) -> Result<Option<usize>, Fail> {
+    let mut keeper = empty(alloc, &[])?;
+    fault_among(alloc, &mut keeper, steps)
+}
+
+const COMMANDS: &[Step<'static>] = &[
+    ("new 7 0 2", b"", 0, "new 7 0 2\n", ""),
+    ("edit", b"i 0 hello\n", 0, EDITED, ""),
+    ("text", b"", 0, "hello", ""),
+    (
+        "ids",
+        b"",
+        0,
+        "{\"epoch\":null,\"runs\":[{\"first\":[[2147483647,0,1,0]],\"length\":5}]}\n",
+        "",
+    ),
+];
+
+#[test]
+fn commands_over_slots(rt: HostRuntime) -> Result<(), Fail> {
+    assert_eq!(rt; fault_of(rt.alloc(), COMMANDS)?, None);
+    Ok(())
+}
+
+fn stores(alloc: Global, keeper: &mut DiskKeeper<MemoryDisk>, digits: &str) -> Result<(), Fail> {
+    let file = bytes(alloc, digits)?;
+    Ok(keeper.store(alloc, &file)?)
+}
+
+/// Whether there is no replica before the journal is stored, and its text afterwards.
+fn shows(alloc: Global, keeper: &mut DiskKeeper<MemoryDisk>) -> Result<bool, Fail> {
+    let none = goes(alloc, keeper, &("text", b"", 2, "", "no replica\n"))?;
+    stores(alloc, keeper, HELLO_FILE)?;
+    Ok(none && goes(alloc, keeper, &("text", b"", 0, "hello", ""))?)
+}
+
+/// The same over an empty disk.
+fn shows_what_is_stored(alloc: Global) -> Result<bool, Fail> {
+    let mut keeper = empty(alloc, &[])?;
+    shows(alloc, &mut keeper)
+}
+
+#[test]
+fn a_text_is_kept_in_slots(rt: HostRuntime) -> Result<(), Fail> {
+    assert!(rt; shows_what_is_stored(rt.alloc())?);
+    Ok(())
+}
+
+/// The status of `new` over an empty disk of which this call fails.
+fn status_of_new(alloc: Global, failing: u64) -> Result<u8, Fail> {
+    let mut keeper = empty(alloc, &[failing])?;
+    Ok(answer_over(alloc, &mut keeper, "new 7 0 2", b"", [&[]; 3])?.status)
+}
+
+/// The first call after which the status is another one. Over an empty disk `new` loads by two calls of the device and stores by ten.
+fn other_status(alloc: Global) -> Result<Option<u64>, Fail> {
+    for failing in 0..14u64 {
+        let due = if failing < 12 { 7 } else { 0 };
+        if status_of_new(alloc, failing)? != due {
+            return Ok(Some(failing));
+        }
+    }
+    Ok(None)
+}
+
+#[test]
+fn each_call_of_a_disk_fails_in_turn(rt: HostRuntime) -> Result<(), Fail> {
+    assert_eq!(rt; other_status(rt.alloc())?, None);
+    Ok(())
 }
 
 /// Whether the keeper finds these bytes.
@@ -26,39 +114,28 @@ fn finds(alloc: Global, keeper: &mut DiskKeeper<MemoryDisk>, bytes: &[u8]) -> Re
     }
 }
 
-#[test]
-fn a_text_is_kept_in_slots(rt: HostRuntime) -> Result<(), Fail> {
-    let alloc = rt.alloc();
-    let hello = journal(alloc, 1, &[HELLO])?;
-    let disk = MemoryDisk::new(alloc, b"", b"", b"", 100, 1000, &[])?;
+/// Whether a store over a disk with `old!` tells that this call fails, and the keeper finds these bytes then.
+fn fails_to_store(alloc: Global, failing: u64, kept: &[u8]) -> Result<bool, Fail> {
+    let old = b"\0\0\0\0\0\0\0\x04old!";
+    let disk = MemoryDisk::new(alloc, old, b"", b"\0", 100, 1000, &[failing])?;
     let mut keeper = DiskKeeper::new(disk);
-    let (missing, nothing) = text_of(alloc, &mut keeper)?;
-    assert_eq!(rt; missing, 2);
-    assert!(rt; nothing.is_empty());
-    keeper.store(alloc, &hello)?;
-    let (status, text) = text_of(alloc, &mut keeper)?;
-    assert_eq!(rt; status, 0);
-    assert_eq!(rt; text.as_slice(), b"hello".as_slice());
-    Ok(())
+    let stored = keeper.store(alloc, b"new");
+    Ok(stored == Err(StoreError::Failed) && finds(alloc, &mut keeper, kept)?)
+}
+
+/// The first call after which another file is kept.
+fn other_file(alloc: Global) -> Result<Option<u64>, Fail> {
+    for failing in 0..9u64 {
+        let kept: &[u8] = if failing < 8 { b"old!" } else { b"new" };
+        if !fails_to_store(alloc, failing, kept)? {
+            return Ok(Some(failing));
+        }
+    }
+    Ok(None)
 }
 
 #[test]
 fn each_call_of_a_store_fails_in_turn(rt: HostRuntime) -> Result<(), Fail> {
-    let alloc = rt.alloc();
-    for failing in 0..9u64 {
-        let disk = MemoryDisk::new(
-            alloc,
-            b"\0\0\0\0\0\0\0\x04old!",
-            b"",
-            b"\0",
-            100,
-            1000,
-            &[failing],
-        )?;
-        let mut keeper = DiskKeeper::new(disk);
-        assert_eq!(rt; keeper.store(alloc, b"new"), Err(StoreError::Failed));
-        let kept: &[u8] = if failing < 8 { b"old!" } else { b"new" };
-        assert!(rt; finds(alloc, &mut keeper, kept)?, "call {failing}");
-    }
+    assert_eq!(rt; other_file(rt.alloc())?, None);
     Ok(())
 }

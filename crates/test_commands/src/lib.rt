@@ -4,8 +4,6 @@
 #[cfg(test)]
 mod clusters;
 #[cfg(test)]
-mod commands;
-#[cfg(test)]
 mod editing;
 #[cfg(test)]
 mod exchanging;
@@ -18,5 +16,7 @@ mod groups;
 #[cfg(test)]
 mod keepers;
 pub mod members;
+#[cfg(test)]
+mod scenes;
 #[cfg(test)]
 mod stored;

@@ -1,123 +1,171 @@
-//! The files that commands store, byte by byte, and older forms that they read.
+//! The files that commands read and store, byte by byte, in all forms.
 
-use crate::members::{Member, Step};
+use crate::files::{
+    ALONE, CUT, FRESH_2, FRESH_3, FRESH_4, FRESH_SECOND, MARKED, SPENT_2, SPENT_4, TYPED_2,
+    TYPED_3, TYPED_4, USED_MARK, keeps, member_with,
+};
+use crate::members::{EDITED, Step};
 use std::alloc::Global;
 use std::test::Fail;
 use test_steps::bytes::{HELLO_FILE, bytes};
 
-/// A fresh member 0 of 2 in group 7, in the forms 2, 3 and 4.
-const FRESH: &[&str] = &[
-    "524c5346 02 0000000000000007 00000002 00000000 0000000000000000 0000000000000000 0000000000000000 00000001 00 00000000 00000000 00000000",
-    "524c5346 03 0000000000000007 00000002 00000000 0000000000000000 0000000000000000 0000000000000000 00000001 00 00000000 00000000 00000000",
-    "524c5346 04 0000000000000007 00000002 00000000 0000000000000000 0000000000000000 00000000 0000000000000000 00000001 00 00000000 00000000 00000000",
+/// A member's file, if there is one, what the member does, and its file afterwards.
+type Row = (
+    Option<&'static str>,
+    &'static [Step<'static>],
+    Option<&'static str>,
+);
+
+const SHOWS_HELLO: &[Step<'static>] = &[("text", b"", 0, "hello", "")];
+
+const SHOWS_NOTHING: &[Step<'static>] = &[("text", b"", 0, "", "")];
+
+/// A script of no edit stores the file in the newest form.
+const STORES_HELLO: &[Step<'static>] = &[
+    ("text", b"", 0, "hello", ""),
+    ("edit", b"", 0, "edits 0 released 0 refused 0\n", ""),
+    ("text", b"", 0, "hello", ""),
 ];
 
-/// The same member after its insertion of `hello`, in the forms 2, 3 and 4.
-const TYPED: &[&str] = &[
-    "524c5346 02 0000000000000007 00000002 00000000 0000000100000000 0000000000000000 00000001 00000001 00000005 00000000 00000001 00 00000001 00000001 01 7fffffff 00000000 00000001 00000000 00000005 00000005 68656c6c6f 00000001 00000000 00000001 0000000000000000 00 00 00000001 01 7fffffff 00000000 00000001 00000000 00000005 68656c6c6f 00000000",
-    "524c5346 03 0000000000000007 00000002 00000000 0000000100000000 0000000000000000 00000001 00000001 00000000 00000005 00000000 00000001 00 00000001 00000001 01 7fffffff 00000000 00000001 00000000 00000005 00000005 68656c6c6f 00000001 00000000 00000001 0000000000000000 00 00 00000001 01 7fffffff 00000000 00000001 00000000 00000005 68656c6c6f 00000000",
-    "524c5346 04 0000000000000007 00000002 00000000 0000000100000000 0000000000000000 00000000 00000001 00000001 00000000 00000005 00000000 00000001 00 00000001 00000001 01 7fffffff 00000000 00000001 00000000 00000005 00000005 68656c6c6f 00000001 00000000 00000001 0000000000000000 00 00 00000001 01 7fffffff 00000000 00000001 00000000 00000005 68656c6c6f 00000000",
+const STORES_NOTHING: &[Step<'static>] = &[
+    ("text", b"", 0, "", ""),
+    ("edit", b"", 0, "edits 0 released 0 refused 0\n", ""),
+    ("text", b"", 0, "", ""),
 ];
-
-/// The sole member of group 7 after its insertion of `hello`, which is stable at once.
-const ALONE: &str =
-    "524c5346 04 0000000000000007 00000001 00000000 00000001 00000000 00000001 00000001 00000000 00000005 00000001 00 00000001 00000001 01 7fffffff 00000000 00000001 00000000 00000005 00000005 68656c6c6f 00000000 00000000";
-
-/// The sole member of group 7 whose numbers are spent, in the forms 2 and 4.
-const SPENT: &[&str] = &[
-    "524c5346 02 0000000000000007 00000001 00000000 ffffffff 00000000 00000001 00 00000000 00000000 00000000",
-    "524c5346 04 0000000000000007 00000001 00000000 ffffffff 00000000 00000000 00000001 00 00000000 00000000 00000000",
-];
-
-/// A member with this file.
-fn member(alloc: Global, file: &str) -> Result<Member, Fail> {
-    Ok(Member {
-        file: Some(bytes(alloc, file)?),
-    })
-}
-
-/// Whether the member keeps this file.
-fn keeps(alloc: Global, member: &Member, file: &str) -> Result<bool, Fail> {
-    let expected = bytes(alloc, file)?;
-    Ok(member.file.as_deref() == Some(expected.as_slice()))
-}
-
-#[test]
-fn commands_store_the_newest_form(rt: HostRuntime) -> Result<(), Fail> {
-    let alloc = rt.alloc();
-    let mut typing = Member::new();
-    let _made = typing.command(alloc, "new 7 0 2", b"")?;
-    assert!(rt; keeps(alloc, &typing, FRESH[2])?);
-    let _typed = typing.command(alloc, "edit", b"i 0 hello\n")?;
-    assert!(rt; keeps(alloc, &typing, TYPED[2])?);
-    let lengths = [
-        (FRESH[0], 62),
-        (FRESH[1], 62),
-        (FRESH[2], 66),
-        (TYPED[0], 152),
-        (TYPED[1], 156),
-        (TYPED[2], 160),
-        (ALONE, 96),
-        (SPENT[0], 46),
-        (SPENT[1], 50),
-    ];
-    for (file, length) in lengths {
-        assert_eq!(rt; bytes(alloc, file)?.len(), length);
-    }
-    Ok(())
-}
-
-#[test]
-fn older_forms_are_read_and_migrated(rt: HostRuntime) -> Result<(), Fail> {
-    let alloc = rt.alloc();
-    let cases: &[(&str, &str, &str)] = &[
-        (HELLO_FILE, ALONE, "hello"),
-        (FRESH[0], FRESH[2], ""),
-        (FRESH[1], FRESH[2], ""),
-        (TYPED[0], TYPED[2], "hello"),
-        (TYPED[1], TYPED[2], "hello"),
-        (TYPED[2], TYPED[2], "hello"),
-    ];
-    for (old, new, text) in cases {
-        let mut reading = member(alloc, old)?;
-        let steps: &[Step<'_>] = &[
-            ("text", b"", 0, text, ""),
-            ("edit", b"", 0, "edits 0 released 0 refused 0\n", ""),
-            ("text", b"", 0, text, ""),
-        ];
-        let shown = reading.command(alloc, "text", b"")?;
-        assert_eq!(rt; shown.output.as_slice(), text.as_bytes());
-        assert!(rt; keeps(alloc, &reading, old)?);
-        assert_eq!(rt; reading.fault_among(alloc, steps)?, None);
-        assert!(rt; keeps(alloc, &reading, new)?);
-    }
-    Ok(())
-}
-
-#[test]
-fn numbers_are_spent(rt: HostRuntime) -> Result<(), Fail> {
-    let alloc = rt.alloc();
-    let steps: &[Step<'_>] = &[("edit", b"i 0 a\n", 6, "", "line 1: numbers spent\n")];
-    for file in SPENT {
-        let mut reading = member(alloc, file)?;
-        assert_eq!(rt; reading.fault_among(alloc, steps)?, None);
-        assert!(rt; keeps(alloc, &reading, file)?);
-    }
-    Ok(())
-}
 
 /// The numbers of the member that typed `hello`.
-const NUMBERS: &str =
-    "group 7\nme 0\nmembers 2\naccepted 1 0\ntotal 5\nruns 1\nheld 0\nunstable 1\nepochs 1\nformer 0\n";
+const NUMBERS: &[Step<'static>] = &[(
+    "stat",
+    b"",
+    0,
+    "group 7\nme 0\nmembers 2\naccepted 1 0\ntotal 5\nruns 1\nheld 0\nunstable 1\nepochs 1\nformer 0\n",
+    "",
+)];
+
+const NO_NUMBERS: &[Step<'static>] = &[("edit", b"i 0 a\n", 6, "", "line 1: numbers spent\n")];
+
+const USAGE: &str =
+    "usage: new GROUP ME MEMBERS | edit | text | ids | stat | send TO | take | leave | trial SEED STEPS\n";
+
+const ROWS: &[Row] = &[
+    // Nothing is stored by a text that is shown, or can't be.
+    (None, &[("text", b"", 2, "", "no replica\n")], None),
+    (
+        Some(""),
+        &[("text", b"", 3, "", "damaged at 0\n")],
+        Some(""),
+    ),
+    (
+        Some(CUT),
+        &[("text", b"", 3, "", "damaged at 65\n")],
+        Some(CUT),
+    ),
+    (
+        Some(USED_MARK),
+        &[("text", b"", 3, "", "damaged at 71\n")],
+        Some(USED_MARK),
+    ),
+    (
+        Some(HELLO_FILE),
+        &[("txt", b"", 1, "", USAGE)],
+        Some(HELLO_FILE),
+    ),
+    (
+        Some(MARKED),
+        &[("text", b"", 0, "hello!", "")],
+        Some(MARKED),
+    ),
+    (Some(HELLO_FILE), SHOWS_HELLO, Some(HELLO_FILE)),
+    (Some(FRESH_2), SHOWS_NOTHING, Some(FRESH_2)),
+    (Some(FRESH_3), SHOWS_NOTHING, Some(FRESH_3)),
+    (Some(TYPED_2), SHOWS_HELLO, Some(TYPED_2)),
+    (Some(TYPED_3), SHOWS_HELLO, Some(TYPED_3)),
+    (Some(TYPED_4), SHOWS_HELLO, Some(TYPED_4)),
+    // Nor by numbers that are shown, or spent.
+    (Some(TYPED_2), NUMBERS, Some(TYPED_2)),
+    (Some(TYPED_3), NUMBERS, Some(TYPED_3)),
+    (Some(TYPED_4), NUMBERS, Some(TYPED_4)),
+    (Some(SPENT_2), NO_NUMBERS, Some(SPENT_2)),
+    (Some(SPENT_4), NO_NUMBERS, Some(SPENT_4)),
+    // Commands store the newest form, whatever form they read.
+    (
+        None,
+        &[("new 7 0 2", b"", 0, "new 7 0 2\n", "")],
+        Some(FRESH_4),
+    ),
+    (
+        None,
+        &[("new 7 1 2", b"", 0, "new 7 1 2\n", "")],
+        Some(FRESH_SECOND),
+    ),
+    (
+        Some(FRESH_4),
+        &[("edit", b"i 0 hello\n", 0, EDITED, "")],
+        Some(TYPED_4),
+    ),
+    (Some(HELLO_FILE), STORES_HELLO, Some(ALONE)),
+    (Some(FRESH_2), STORES_NOTHING, Some(FRESH_4)),
+    (Some(FRESH_3), STORES_NOTHING, Some(FRESH_4)),
+    (Some(TYPED_2), STORES_HELLO, Some(TYPED_4)),
+    (Some(TYPED_3), STORES_HELLO, Some(TYPED_4)),
+    (Some(TYPED_4), STORES_HELLO, Some(TYPED_4)),
+];
+
+/// Whether a member does this, and has the file afterwards.
+fn goes(alloc: Global, row: &Row) -> Result<bool, Fail> {
+    let (before, steps, after) = row;
+    let mut member = member_with(alloc, *before)?;
+    let fault = member.fault_among(alloc, steps)?;
+    Ok(fault.is_none() && keeps(alloc, &member, *after)?)
+}
+
+/// The first row that goes otherwise than it has to.
+fn fault_among(alloc: Global) -> Result<Option<usize>, Fail> {
+    for (i, row) in ROWS.iter().enumerate() {
+        if !goes(alloc, row)? {
+            return Ok(Some(i));
+        }
+    }
+    Ok(None)
+}
 
 #[test]
-fn numbers_are_shown(rt: HostRuntime) -> Result<(), Fail> {
-    let alloc = rt.alloc();
-    for file in TYPED {
-        let mut reading = member(alloc, file)?;
-        let steps: &[Step<'_>] = &[("stat", b"", 0, NUMBERS, "")];
-        assert_eq!(rt; reading.fault_among(alloc, steps)?, None);
-        assert!(rt; keeps(alloc, &reading, file)?);
+fn files_are_read_and_stored(rt: HostRuntime) -> Result<(), Fail> {
+    assert_eq!(rt; fault_among(rt.alloc())?, None);
+    Ok(())
+}
+
+/// How many bytes a file has.
+const LENGTHS: &[(&str, usize)] = &[
+    (HELLO_FILE, 74),
+    (MARKED, 115),
+    (FRESH_2, 62),
+    (FRESH_3, 62),
+    (FRESH_4, 66),
+    (TYPED_2, 152),
+    (TYPED_3, 156),
+    (TYPED_4, 160),
+    (ALONE, 96),
+    (SPENT_2, 46),
+    (SPENT_4, 50),
+];
+
+fn length_of(alloc: Global, digits: &str) -> Result<usize, Fail> {
+    Ok(bytes(alloc, digits)?.len())
+}
+
+/// The first file that has another length.
+fn other_length(alloc: Global) -> Result<Option<usize>, Fail> {
+    for (i, (digits, length)) in LENGTHS.iter().enumerate() {
+        if length_of(alloc, digits)? != *length {
+            return Ok(Some(i));
+        }
     }
+    Ok(None)
+}
+
+#[test]
+fn files_have_their_lengths(rt: HostRuntime) -> Result<(), Fail> {
+    assert_eq!(rt; other_length(rt.alloc())?, None);
     Ok(())
 }
