@@ -390,16 +390,20 @@ fn fault_between(
     Ok(None)
 }
 
+/// Leads a fresh one of this many members in group 7 through the rows.
+fn fault_in(alloc: Global, me: u32, members: u32, rows: &[Row]) -> Result<Option<usize>, Fail> {
+    let mut replica = Replica::new(alloc, 7, me, members)?;
+    fault_among(alloc, &mut replica, rows)
+}
+
 /// Leads a fresh member of two in group 7 through the rows, and answers the first that goes otherwise than it has to.
 pub fn fault(alloc: Global, me: u32, rows: &[Row]) -> Result<Option<usize>, Fail> {
-    let mut replica = Replica::new(alloc, 7, me, 2)?;
-    fault_among(alloc, &mut replica, rows)
+    fault_in(alloc, me, 2, rows)
 }
 
 /// Leads a fresh member of three in group 7 through the rows, and answers the first that goes otherwise than it has to.
 pub fn fault_of_three(alloc: Global, me: u32, rows: &[Row]) -> Result<Option<usize>, Fail> {
-    let mut replica = Replica::new(alloc, 7, me, 3)?;
-    fault_among(alloc, &mut replica, rows)
+    fault_in(alloc, me, 3, rows)
 }
 
 /// Leads both through the first turns, and then through the others.

@@ -233,17 +233,26 @@ fn fault(
     Ok(None)
 }
 
+/// Leads a world of group 7 through the rows.
+fn fault_in(
+    alloc: Global,
+    members: u32,
+    rows: &[Row],
+    dropping: bool,
+) -> Result<Option<usize>, Fail> {
+    let mut world = World::new(alloc, 7, members)?;
+    fault(alloc, &mut world, rows, dropping)
+}
+
 /// Leads a world of group 7 with this count of members through the rows, and answers the first that goes otherwise than it has to.
 pub fn fault_among(alloc: Global, members: u32, rows: &[Row]) -> Result<Option<usize>, Fail> {
-    let mut world = World::new(alloc, 7, members)?;
-    fault(alloc, &mut world, rows, false)
+    fault_in(alloc, members, rows, false)
 }
 
 /// The same, but after each event the member in question drops what is stable. What it keeps is then just what is retained, and
 /// all else has to be as the row says.
 pub fn fault_with_drops(alloc: Global, members: u32, rows: &[Row]) -> Result<Option<usize>, Fail> {
-    let mut world = World::new(alloc, 7, members)?;
-    fault(alloc, &mut world, rows, true)
+    fault_in(alloc, members, rows, true)
 }
 
 /// Whether a member lists these identifiers.
