@@ -1,15 +1,12 @@
 //! What a replica keeps: rows, a log, and stems.
 
-use rls_ident::{EpochName, Ident, Spot, Tuple, Vector};
+use rls_ident::{Ident, Spot, Vector};
 use rls_ops::{Body, Op, Text};
 use rls_stable::{Acks, Log};
 use rls_stems::StemTable;
 use std::alloc::Global;
 use std::test::Fail;
-use test_steps::told::{Deed, Told, op_of};
-
-/// The first epoch.
-const ORIGIN: EpochName = EpochName::Origin;
+use test_steps::told::{Deed, ORIGIN, Told, old, op_of};
 
 /// Counts one more operation of a member.
 fn raise(acks: &mut Acks, member: u32) -> Result<(), Fail> {
@@ -29,78 +26,150 @@ fn note(alloc: Global, acks: &mut Acks, from: u32, row: &[u32]) -> Result<bool, 
     Ok(acks.note(from, &vector))
 }
 
+/// What members acknowledge, and whether it counts.
+const NOTES: &[(u32, &[u32], bool)] = &[
+    (1, &[2, 2, 0], false),
+    (0, &[2, 1, 0], false),
+    (1, &[2, 1, 0], true),
+    (1, &[1, 1, 0], false),
+];
+
+/// Whether member 2 leaves, which had not left before.
+fn leaves(acks: &mut Acks) -> bool {
+    if acks.mine().len() != 3 || acks.left(2) {
+        return false;
+    }
+    acks.leave(2);
+    acks.mine().len() == 3 && acks.left(2)
+}
+
+/// Whether member 1 has these counts.
+fn has_row(acks: &Acks, counts: &[u32]) -> bool {
+    acks.mine().len() == 3 && acks.row(1).counts() == counts
+}
+
+/// Whether these counts are stable.
+fn are_stable(acks: &Acks, counts: &[u32]) -> bool {
+    acks.stable().counts() == counts
+}
+
+/// Whether member 0 has one operation of member 1 and two of its own, which it counts now.
+fn counts(acks: &mut Acks) -> Result<bool, Fail> {
+    for member in [0, 0, 1] {
+        raise(acks, member)?;
+    }
+    Ok(acks.me() == 0 && acks.mine().counts() == [2, 1, 0].as_slice())
+}
+
+/// Whether each acknowledgement counts as it is said to.
+fn acknowledge(alloc: Global, acks: &mut Acks) -> Result<bool, Fail> {
+    for (from, row, counts) in NOTES {
+        if note(alloc, acks, *from, row)? != *counts {
+            return Ok(false);
+        }
+    }
+    Ok(are_stable(acks, &[0, 0, 0]) && has_row(acks, &[2, 1, 0]))
+}
+
 #[test]
 fn rows(rt: HostRuntime) -> Result<(), Fail> {
-    let alloc = rt.alloc();
-    let mut acks = Acks::new(alloc, 3, 0)?;
-    for member in [0, 0, 1] {
-        raise(&mut acks, member)?;
-    }
-    assert_eq!(rt; acks.me(), 0);
-    assert_eq!(rt; acks.mine().counts(), [2, 1, 0].as_slice());
-    assert!(rt; !note(alloc, &mut acks, 1, &[2, 2, 0])?);
-    assert!(rt; !note(alloc, &mut acks, 0, &[2, 1, 0])?);
-    assert!(rt; note(alloc, &mut acks, 1, &[2, 1, 0])?);
-    assert!(rt; !note(alloc, &mut acks, 1, &[1, 1, 0])?);
-    assert_eq!(rt; acks.stable().counts(), [0, 0, 0].as_slice());
-    assert_eq!(rt; acks.mine().len(), 3);
-    assert_eq!(rt; acks.row(1).counts(), [2, 1, 0].as_slice());
-    assert!(rt; !acks.left(2));
-    acks.leave(2);
-    assert_eq!(rt; acks.mine().len(), 3);
-    assert!(rt; acks.left(2));
-    assert_eq!(rt; acks.stable().counts(), [2, 1, 0].as_slice());
-    let later = Acks::starting_at(alloc, 1, Vector::from_counts(alloc, &[4, 5])?)?;
-    assert_eq!(rt; later.mine().counts(), [4, 5].as_slice());
-    assert_eq!(rt; later.stable().counts(), [0, 0].as_slice());
+    let mut acks = Acks::new(rt.alloc(), 3, 0)?;
+    assert!(rt; counts(&mut acks)? && acknowledge(rt.alloc(), &mut acks)?);
+    assert!(rt; leaves(&mut acks) && are_stable(&acks, &[2, 1, 0]));
     Ok(())
 }
 
-fn log_of(alloc: Global, cases: &[Told<'_>]) -> Result<Log, Fail> {
-    let mut log = Log::new(alloc);
-    for told in cases {
+/// Whether rows may start at two counts, of which none is stable then.
+fn starts(alloc: Global) -> Result<bool, Fail> {
+    let mine = Vector::from_counts(alloc, &[4, 5])?;
+    let acks = Acks::starting_at(alloc, 1, mine)?;
+    Ok(acks.mine().counts() == [4, 5].as_slice() && are_stable(&acks, &[0, 0]))
+}
+
+#[test]
+fn rows_start(rt: HostRuntime) -> Result<(), Fail> {
+    assert!(rt; starts(rt.alloc())?);
+    Ok(())
+}
+
+/// Puts three operations of 18 bytes each into the log.
+fn put_three(alloc: Global, log: &mut Log) -> Result<(), Fail> {
+    let all: &[Told<'_>] = &[
+        (0, 1, &[0, 0], ORIGIN, Deed::Leave),
+        (1, 1, &[1, 0], ORIGIN, Deed::Leave),
+        (0, 2, &[1, 1], ORIGIN, Deed::Leave),
+    ];
+    for told in all {
         log.reserve()?;
         log.push(op_of(alloc, *told)?);
     }
+    Ok(())
+}
+
+/// The log of the three.
+fn log_of_three(alloc: Global) -> Result<Log, Fail> {
+    let mut log = Log::new(alloc);
+    put_three(alloc, &mut log)?;
     Ok(log)
 }
 
-/// The authors and the numbers.
-fn numbers(alloc: Global, ops: &[Op]) -> Result<Vec<(u32, u32)>, Fail> {
-    let mut list = Vec::new(alloc);
-    for op in ops {
-        list.push((op.author, op.seq))?;
+/// Whether these are the authors and the numbers of the operations.
+fn are(ops: &[Op], numbers: &[(u32, u32)]) -> bool {
+    if ops.len() != numbers.len() {
+        return false;
     }
-    Ok(list)
+    for (i, op) in ops.iter().enumerate() {
+        if (op.author, op.seq) != numbers[i] {
+            return false;
+        }
+    }
+    true
 }
 
-/// The authors and the numbers of the operations that this row lacks, as many as have this many bytes.
-fn missing(alloc: Global, log: &Log, row: &[u32], limit: u32) -> Result<Vec<(u32, u32)>, Fail> {
-    let ops = log.missing_for(&Vector::from_counts(alloc, row)?, limit as u64)?;
-    numbers(alloc, ops.as_slice())
+/// A row, how many bytes there may be, and the authors and the numbers of the operations that the row lacks.
+type Lack = (&'static [u32], u32, &'static [(u32, u32)]);
+
+const LACKS: &[Lack] = &[
+    (&[0, 0], 54, &[(0, 1), (1, 1), (0, 2)]),
+    (&[0, 0], 53, &[(0, 1), (1, 1)]),
+    (&[1, 0], 36, &[(1, 1), (0, 2)]),
+    (&[1, 0], 17, &[]),
+];
+
+/// Whether the row lacks what it is said to.
+fn lacks(alloc: Global, log: &Log, lack: &Lack) -> Result<bool, Fail> {
+    let (row, limit, numbers) = lack;
+    let vector = Vector::from_counts(alloc, row)?;
+    let ops = log.missing_for(&vector, *limit as u64)?;
+    Ok(are(ops.as_slice(), numbers))
+}
+
+/// Whether the log has three operations, of which the last has the number 2.
+fn has_three(log: &Log) -> bool {
+    log.len() == 3 && log.op(2).seq == 2
+}
+
+/// Whether these operations are left when the stable ones are dropped.
+fn keeps(
+    alloc: Global,
+    log: &mut Log,
+    stable: &[u32],
+    numbers: &[(u32, u32)],
+) -> Result<bool, Fail> {
+    let vector = Vector::from_counts(alloc, stable)?;
+    log.drop_at_most(&vector);
+    Ok(are(log.as_slice(), numbers))
 }
 
 #[test]
 fn logs(rt: HostRuntime) -> Result<(), Fail> {
     let alloc = rt.alloc();
-    // Each of them has 18 bytes.
-    let cases: &[Told<'_>] = &[
-        (0, 1, &[0, 0], ORIGIN, Deed::Leave),
-        (1, 1, &[1, 0], ORIGIN, Deed::Leave),
-        (0, 2, &[1, 1], ORIGIN, Deed::Leave),
-    ];
-    let mut log = log_of(alloc, cases)?;
-    assert_eq!(rt; log.len(), 3);
-    assert_eq!(rt; log.op(2).seq, 2);
-    let whole: &[(u32, u32)] = &[(0, 1), (1, 1), (0, 2)];
-    assert_eq!(rt; missing(alloc, &log, &[0, 0], 54)?.as_slice(), whole);
-    let two: &[(u32, u32)] = &[(0, 1), (1, 1)];
-    assert_eq!(rt; missing(alloc, &log, &[0, 0], 53)?.as_slice(), two);
-    let rest: &[(u32, u32)] = &[(1, 1), (0, 2)];
-    assert_eq!(rt; missing(alloc, &log, &[1, 0], 36)?.as_slice(), rest);
-    assert!(rt; missing(alloc, &log, &[1, 0], 17)?.is_empty());
-    log.drop_at_most(&Vector::from_counts(alloc, &[1, 0])?);
-    assert_eq!(rt; numbers(alloc, log.as_slice())?.as_slice(), rest);
+    let mut log = log_of_three(alloc)?;
+    assert!(rt; has_three(&log));
+    for lack in LACKS {
+        assert!(rt; lacks(alloc, &log, lack)?, "{lack:?}");
+    }
+    assert!(rt; keeps(alloc, &mut log, &[1, 0], &[(1, 1), (0, 2)])?);
     Ok(())
 }
 
@@ -128,53 +197,67 @@ fn table(alloc: Global) -> Result<StemTable, Fail> {
     Ok(table)
 }
 
-#[test]
-fn stems(rt: HostRuntime) -> Result<(), Fail> {
-    let alloc = rt.alloc();
-    let fresh = StemTable::new(alloc, 2)?;
-    assert!(rt; fresh.get(1, 1).is_none());
-    assert!(rt; fresh.may_use(1, 1, spot(0), 5));
-    assert_eq!(rt; fresh.due(1, 1, spot(0)), Some(0));
-    let table = table(alloc)?;
+/// Whether a fresh table has no stem, an operation may use its first identifiers, and the offset 0 is due.
+fn is_fresh(alloc: Global) -> Result<bool, Fail> {
+    let table = StemTable::new(alloc, 2)?;
+    let none = table.get(1, 1).is_none();
+    Ok(none && table.may_use(1, 1, spot(0), 5) && table.due(1, 1, spot(0)) == Some(0))
+}
+
+/// The last offset of identifiers, how many they are, and whether an operation may use them.
+const USES: &[(i32, usize, bool)] = &[
+    (5, 9, true),
+    (4, 1, false),
+    (-1, 1, true),
+    (-1, 2, false),
+    (-2, 2, true),
+];
+
+/// Whether an operation may use the identifiers or not, as it is said, and the offset 5 is due.
+fn uses(table: &StemTable, offset: i32, count: usize, may: bool) -> bool {
+    let last = spot(offset);
+    table.may_use(1, 2, last, count) == may && table.due(1, 2, last) == Some(5)
+}
+
+/// Whether the table has the stem of five identifiers alone.
+fn has_stem(table: &StemTable) -> Result<bool, Fail> {
     let found = table.get(1, 1).map(|stem| (stem.low, stem.next));
-    assert_eq!(rt; found, Some((0, 5)));
-    let cases: &[(i32, usize, bool)] = &[
-        (5, 9, true),
-        (4, 1, false),
-        (-1, 1, true),
-        (-1, 2, false),
-        (-2, 2, true),
-    ];
-    for (offset, count, may) in cases {
-        let last = spot(*offset);
-        assert_eq!(rt; table.may_use(1, 2, last, *count), *may, "offset {offset}");
-        assert_eq!(rt; table.due(1, 2, last), Some(5));
-    }
-    assert_eq!(rt; table.due(0, 1, spot(0)), None);
-    Ok(())
+    let none = table.due(0, 1, spot(0)) == None;
+    Ok(found == Some((0, 5)) && none && table.to_stems()?.len() == 1)
 }
 
 #[test]
-fn stems_are_listed(rt: HostRuntime) -> Result<(), Fail> {
+fn stems(rt: HostRuntime) -> Result<(), Fail> {
     let table = table(rt.alloc())?;
-    assert_eq!(rt; table.to_stems()?.len(), 1);
+    assert!(rt; has_stem(&table)?);
+    for (offset, count, may) in USES {
+        assert!(rt; uses(&table, *offset, *count, *may), "offset {offset}");
+    }
     Ok(())
+}
+
+/// Whether the first of five identifiers between no others is in the middle.
+fn is_middle(alloc: Global, table: &StemTable) -> Result<bool, Fail> {
+    let first = table.first_between(alloc, 0, 1, None, None, 5)?;
+    let middle = Ident::from_tuples(alloc, &[old(0)])?;
+    Ok(first.compare(&middle).is_eq())
+}
+
+/// The position of an identifier that comes after the first one.
+fn later(alloc: Global, table: &StemTable) -> Result<u32, Fail> {
+    let first = table.first_between(alloc, 0, 1, None, None, 5)?;
+    let later = table.first_between(alloc, 1, 1, Some(&first), None, 1)?;
+    Ok(later.last().pos)
+}
+
+/// Whether identifiers are made in the middle and after it.
+fn makes(alloc: Global) -> Result<bool, Fail> {
+    let table = StemTable::new(alloc, 2)?;
+    Ok(is_middle(alloc, &table)? && later(alloc, &table)? == 3_221_225_471)
 }
 
 #[test]
 fn first_identifiers(rt: HostRuntime) -> Result<(), Fail> {
-    let alloc = rt.alloc();
-    let table = StemTable::new(alloc, 2)?;
-    let middle = table.first_between(alloc, 0, 1, None, None, 5)?;
-    let expected = Tuple::At {
-        pos: 2_147_483_647,
-        replica: 0,
-        seq: 1,
-        offset: 0,
-    };
-    let expected = Ident::from_tuples(alloc, &[expected])?;
-    assert!(rt; middle.compare(&expected).is_eq());
-    let behind = table.first_between(alloc, 1, 1, Some(&middle), None, 1)?;
-    assert_eq!(rt; behind.last().pos, 3_221_225_471);
+    assert!(rt; is_fresh(rt.alloc())? && makes(rt.alloc())?);
     Ok(())
 }

@@ -8,4 +8,4 @@ mod kept;
 #[cfg(test)]
 mod ops;
 #[cfg(test)]
-mod values;
+mod runs;

@@ -1,7 +1,7 @@
 use Rattle.std.proofs.Common.{rules, ◌≡◌}
 use Rattle.std.specs.Prelude.{encode_utf8_all}
 use Rattle.rls_runs.proofs.Texts.{scalars_of_utf8}
-use Rattle.test_values.proofs.idents.listed.Goals as goal
+use Rattle.test_values.proofs.runs.listed.Goals as goal
 
 pub from_vec-requires : goal.from_vec-requires
 from_vec-requires c =
