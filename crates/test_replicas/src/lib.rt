@@ -2,10 +2,4 @@
 #![tactic(auto)]
 
 #[cfg(test)]
-mod gone;
-#[cfg(test)]
-mod paths;
-#[cfg(test)]
-mod replicas;
-#[cfg(test)]
-mod threes;
+mod tests;
