@@ -2,8 +2,7 @@
 
 use rls_ident::{EpochName, Tuple};
 use rls_model::Parts;
-use rls_replica::{Edit, Replica};
-use rls_runs::Text;
+use rls_replica::Replica;
 use rls_store::{FileError, decode_file, encode_file};
 use std::alloc::{AllocError, Global};
 use std::test::Fail;
@@ -69,16 +68,16 @@ fn damage(alloc: Global, file: &[u8]) -> Result<Option<u64>, Fail> {
     }
 }
 
-/// The file that a replica read from these bytes is stored as.
-fn stored_again(alloc: Global, file: &[u8]) -> Result<Vec<u8>, Fail> {
+/// Whether a replica that is read from these bytes is stored as these ones.
+fn is_stored_as(alloc: Global, file: &[u8], expected: &[u8]) -> Result<bool, Fail> {
     let replica = decode_file(alloc, file)?;
-    Ok(encode_file(alloc, &replica)?)
+    Ok(encode_file(alloc, &replica)?.as_slice() == expected)
 }
 
 /// Whether a file is stored again as the other one, of this length.
-fn is_stored_as(alloc: Global, file: &str, expected: &str, len: usize) -> Result<bool, Fail> {
-    let stored = stored_again(alloc, &bytes(alloc, file)?)?;
-    Ok(stored == bytes(alloc, expected)? && stored.len() == len)
+fn is_stored(alloc: Global, file: &str, expected: &str, len: usize) -> Result<bool, Fail> {
+    let (file, expected) = (bytes(alloc, file)?, bytes(alloc, expected)?);
+    Ok(expected.len() == len && is_stored_as(alloc, &file, &expected)?)
 }
 
 /// Files of all forms, what they are stored as, and the length of that.
@@ -99,12 +98,19 @@ const STORED: &[(&str, &str, usize)] = &[
     (LEFT_4, LEFT_4, 70),
 ];
 
+/// The first file that is stored as another one.
+fn other_stored(alloc: Global) -> Result<Option<usize>, Fail> {
+    for (i, (file, expected, len)) in STORED.iter().enumerate() {
+        if !is_stored(alloc, file, expected, *len)? {
+            return Ok(Some(i));
+        }
+    }
+    Ok(None)
+}
+
 #[test]
 fn files_are_stored_again(rt: HostRuntime) -> Result<(), Fail> {
-    for (file, expected, len) in STORED {
-        let stored = is_stored_as(rt.alloc(), file, expected, *len)?;
-        assert!(rt; stored, "{file}");
-    }
+    assert_eq!(rt; other_stored(rt.alloc())?, None);
     Ok(())
 }
 
@@ -125,11 +131,27 @@ fn numbers_of(alloc: Global, parts: &Parts) -> Result<String, AllocError> {
     )
 }
 
+/// Whether a replica consists of this much.
+fn consists_of(alloc: Global, replica: &Replica, numbers: &str) -> Result<bool, Fail> {
+    let parts = replica.parts()?;
+    Ok(numbers_of(alloc, &parts)?.as_str() == numbers)
+}
+
+/// Whether a replica shows this text.
+fn shows(replica: &Replica, text: &str) -> Result<bool, Fail> {
+    Ok(replica.text()?.to_utf8()?.as_str() == text)
+}
+
 /// Whether a replica that is read from these bytes has these numbers and this text.
 fn has(alloc: Global, file: &[u8], numbers: &str, text: &str) -> Result<bool, Fail> {
     let replica = decode_file(alloc, file)?;
-    let (parts, shown) = (replica.parts()?, replica.text()?.to_utf8()?);
-    Ok(numbers_of(alloc, &parts)?.as_str() == numbers && shown.as_str() == text)
+    Ok(consists_of(alloc, &replica, numbers)? && shows(&replica, text)?)
+}
+
+/// Whether the file with these digits has them.
+fn is_read(alloc: Global, digits: &str, numbers: &str, text: &str) -> Result<bool, Fail> {
+    let file = bytes(alloc, digits)?;
+    has(alloc, &file, numbers, text)
 }
 
 /// Files, and what the replicas in them consist of and show.
@@ -141,12 +163,19 @@ const READ: &[(&str, &str, &str)] = &[
     (LEFT_4, "7 2 0 [0, 1] 1 0 1 0 0 0 1", ""),
 ];
 
+/// The first file in which there is something else.
+fn other_read(alloc: Global) -> Result<Option<usize>, Fail> {
+    for (i, (file, numbers, text)) in READ.iter().enumerate() {
+        if !is_read(alloc, file, numbers, text)? {
+            return Ok(Some(i));
+        }
+    }
+    Ok(None)
+}
+
 #[test]
 fn files_are_read(rt: HostRuntime) -> Result<(), Fail> {
-    for (file, numbers, text) in READ {
-        let right = has(rt.alloc(), &bytes(rt.alloc(), file)?, numbers, text)?;
-        assert!(rt; right, "{numbers}");
-    }
+    assert_eq!(rt; other_read(rt.alloc())?, None);
     Ok(())
 }
 
@@ -155,6 +184,8 @@ fn files_are_read(rt: HostRuntime) -> Result<(), Fail> {
 enum Before {
     Edit(Change),
     Receive(Told<'static>),
+    /// What is stable is dropped.
+    Drop,
 }
 
 fn edits(alloc: Global, replica: &mut Replica, change: Change) -> Result<(), Fail> {
@@ -169,66 +200,104 @@ fn receives(alloc: Global, replica: &mut Replica, told: Told<'_>) -> Result<(), 
     Ok(())
 }
 
-/// The file of member 0 of three in group 7 after all this.
-fn file_after_all(alloc: Global, all: &[Before]) -> Result<Vec<u8>, Fail> {
-    let mut replica = Replica::new(alloc, 7, 0, 3)?;
-    for what in all {
-        match *what {
-            Before::Edit(change) => edits(alloc, &mut replica, change)?,
-            Before::Receive(told) => receives(alloc, &mut replica, told)?,
+fn happens(alloc: Global, replica: &mut Replica, what: &Before) -> Result<(), Fail> {
+    match what {
+        Before::Edit(change) => edits(alloc, replica, *change),
+        Before::Receive(told) => receives(alloc, replica, *told),
+        Before::Drop => {
+            replica.drop_stable();
+            Ok(())
         }
     }
-    Ok(encode_file(alloc, &replica)?)
 }
 
-/// Each kind of entry that a file may have: two epochs, text runs of three stems, each kind of unstable operation, an operation that
-/// waits, and a member that left.
-#[test]
-fn all_parts_are_read_back(rt: HostRuntime) -> Result<(), Fail> {
-    let first = Tuple::At {
-        pos: 9,
-        replica: 1,
-        seq: 1,
-        offset: 0,
-    };
-    let origin = EpochName::Origin;
-    let all: &[Before] = &[
-        Before::Edit(Change::Insert(0, "hello")),
-        Before::Edit(Change::Delete(1, 2)),
-        Before::Edit(Change::Rename),
-        Before::Receive((1, 1, &[1, 0, 0], origin, Deed::Insert(first, "ab"))),
-        Before::Receive((2, 1, &[0, 0, 0], origin, Deed::Leave)),
-        Before::Edit(Change::Insert(3, "X")),
-        Before::Receive((1, 3, &[1, 2, 0], origin, Deed::Delete(first, 1))),
-    ];
-    let file = file_after_all(rt.alloc(), all)?;
-    assert!(rt; has(rt.alloc(), &file, "7 3 0 [4, 1, 1] 2 4 2 4 6 1 1", "abhXlo")?);
-    assert!(rt; stored_again(rt.alloc(), &file)? == file);
+fn all_happen(alloc: Global, replica: &mut Replica, all: &[Before]) -> Result<(), Fail> {
+    for what in all {
+        happens(alloc, replica, what)?;
+    }
     Ok(())
 }
 
-/// The file of a replica after an edit, whether or not it drops what is stable before it is stored.
-fn file_after(alloc: Global, members: u32, edit: &Edit, dropping: bool) -> Result<Vec<u8>, Fail> {
+/// The file of member 0 of this many in group 7 after all this.
+fn file_after(alloc: Global, members: u32, all: &[Before]) -> Result<Vec<u8>, Fail> {
     let mut replica = Replica::new(alloc, 7, 0, members)?;
-    let _seq = replica.edit(edit)?;
-    if dropping {
-        replica.drop_stable();
-    }
+    all_happen(alloc, &mut replica, all)?;
     Ok(encode_file(alloc, &replica)?)
 }
 
-/// Whether member 0 of this many in group 7 has this file after its insertion of `hello`.
-fn is_file_after(alloc: Global, members: u32, expected: &str) -> Result<bool, Fail> {
-    let text = Text::from_str(alloc, "hello")?;
-    let (edit, expected) = (Edit::Insert { at: 0, text }, bytes(alloc, expected)?);
-    let kept = file_after(alloc, members, &edit, false)?;
-    Ok(kept == expected && file_after(alloc, members, &edit, true)? == expected)
+/// The first character that member 1 inserts.
+const FIRST: Tuple = Tuple::At {
+    pos: 9,
+    replica: 1,
+    seq: 1,
+    offset: 0,
+};
+
+/// Each kind of entry that a file may have: two epochs, text runs of three stems, each kind of unstable operation, an operation that
+/// waits, and a member that left.
+const ALL_PARTS: &[Before] = &[
+    Before::Edit(Change::Insert(0, "hello")),
+    Before::Edit(Change::Delete(1, 2)),
+    Before::Edit(Change::Rename),
+    Before::Receive((
+        1,
+        1,
+        &[1, 0, 0],
+        EpochName::Origin,
+        Deed::Insert(FIRST, "ab"),
+    )),
+    Before::Receive((2, 1, &[0, 0, 0], EpochName::Origin, Deed::Leave)),
+    Before::Edit(Change::Insert(3, "X")),
+    Before::Receive((1, 3, &[1, 2, 0], EpochName::Origin, Deed::Delete(FIRST, 1))),
+];
+
+/// Whether the file of member 0 of three after all this has these numbers and this text, and is stored again as it is.
+fn is_read_back(alloc: Global, all: &[Before], numbers: &str, text: &str) -> Result<bool, Fail> {
+    let file = file_after(alloc, 3, all)?;
+    Ok(has(alloc, &file, numbers, text)? && is_stored_as(alloc, &file, &file)?)
+}
+
+#[test]
+fn all_parts_are_read_back(rt: HostRuntime) -> Result<(), Fail> {
+    let numbers = "7 3 0 [4, 1, 1] 2 4 2 4 6 1 1";
+    assert!(rt; is_read_back(rt.alloc(), ALL_PARTS, numbers, "abhXlo")?);
+    Ok(())
+}
+
+const HELLO: Before = Before::Edit(Change::Insert(0, "hello"));
+
+/// How many members there are, what happens to member 0, and its file afterwards.
+const EDITED: &[(u32, &[Before], &str)] = &[
+    (2, &[HELLO], TYPED_4),
+    (2, &[HELLO, Before::Drop], TYPED_4),
+    (1, &[HELLO], ALONE_4),
+    (1, &[HELLO, Before::Drop], ALONE_4),
+];
+
+/// Whether member 0 of this many has this file after all this.
+fn is_file_after(
+    alloc: Global,
+    members: u32,
+    all: &[Before],
+    expected: &str,
+) -> Result<bool, Fail> {
+    let expected = bytes(alloc, expected)?;
+    Ok(file_after(alloc, members, all)? == expected)
+}
+
+/// The first row after which there is another file.
+fn other_edited(alloc: Global) -> Result<Option<usize>, Fail> {
+    for (i, (members, all, expected)) in EDITED.iter().enumerate() {
+        if !is_file_after(alloc, *members, all, expected)? {
+            return Ok(Some(i));
+        }
+    }
+    Ok(None)
 }
 
 #[test]
 fn edits_are_stored(rt: HostRuntime) -> Result<(), Fail> {
-    assert!(rt; is_file_after(rt.alloc(), 2, TYPED_4)?);
-    assert!(rt; is_file_after(rt.alloc(), 1, ALONE_4)?);
+    assert_eq!(rt; other_edited(rt.alloc())?, None);
     Ok(())
 }
 
@@ -247,20 +316,25 @@ fn fault_of_field(
     Ok(None)
 }
 
-/// The first length to which the file may be cut, so that another place than that of the field that is cut off is told. Each word is
-/// a field.
-fn fault_of_cuts(alloc: Global, digits: &str) -> Result<Option<usize>, Fail> {
-    let file = bytes(alloc, digits)?;
+/// The first length to which the file may be cut, so that another place than that of the field that is cut off is told. Each word of
+/// its digits is a field.
+fn fault_of_fields(alloc: Global, file: &[u8], digits: &str) -> Result<Option<usize>, Fail> {
     let mut at = 0_usize;
     for word in digits.split(' ') {
         let end = at.saturating_add(word.len() / 2);
-        let fault = fault_of_field(alloc, &file, at, end)?;
+        let fault = fault_of_field(alloc, file, at, end)?;
         if fault.is_some() {
             return Ok(fault);
         }
         at = end;
     }
     Ok(None)
+}
+
+/// The same of the file with these digits.
+fn fault_of_cuts(alloc: Global, digits: &str) -> Result<Option<usize>, Fail> {
+    let file = bytes(alloc, digits)?;
+    fault_of_fields(alloc, &file, digits)
 }
 
 /// Files whose words are fields.
@@ -278,12 +352,19 @@ const CUT: &[&str] = &[
     ACKNOWLEDGED_1,
 ];
 
+/// The first file of which another place is told, and the first length to which it is cut then.
+fn other_cut(alloc: Global) -> Result<Option<(usize, usize)>, Fail> {
+    for (i, digits) in CUT.iter().enumerate() {
+        if let Some(len) = fault_of_cuts(alloc, digits)? {
+            return Ok(Some((i, len)));
+        }
+    }
+    Ok(None)
+}
+
 #[test]
 fn files_are_cut_off(rt: HostRuntime) -> Result<(), Fail> {
-    for digits in CUT {
-        let fault = fault_of_cuts(rt.alloc(), digits)?;
-        assert_eq!(rt; fault, None, "{digits}");
-    }
+    assert_eq!(rt; other_cut(rt.alloc())?, None);
     Ok(())
 }
 
@@ -386,11 +467,18 @@ const FAULTY: &[Faulty] = &[
     (TYPED_4, (4, 0), SAME, Some(4)),
 ];
 
+/// The first file of which another fault is told.
+fn other_fault(alloc: Global) -> Result<Option<usize>, Fail> {
+    for (i, (digits, one, other, at)) in FAULTY.iter().enumerate() {
+        if damage_with(alloc, digits, *one, *other)? != *at {
+            return Ok(Some(i));
+        }
+    }
+    Ok(None)
+}
+
 #[test]
 fn rules_are_broken(rt: HostRuntime) -> Result<(), Fail> {
-    for (i, (digits, one, other, at)) in FAULTY.iter().enumerate() {
-        let found = damage_with(rt.alloc(), digits, *one, *other)?;
-        assert_eq!(rt; found, *at, "case {i}");
-    }
+    assert_eq!(rt; other_fault(rt.alloc())?, None);
     Ok(())
 }
