@@ -1,9 +1,9 @@
 use crate::pieces::Pieces;
 use rls_io::{MemoryKeeper, MemorySink};
 use rls_session::serve;
-use std::alloc::Global;
+use std::alloc::{AllocError, Global};
 use std::test::Fail;
-use test_steps::bytes::{HELLO_FILE, HELLO_MESSAGE, bytes, front};
+use test_steps::bytes::{HELLO_FILE, bytes};
 use test_steps::rows::cut;
 
 /// Member 0 of 2 in group 7 after its insertion of `hello`.
@@ -20,38 +20,53 @@ const NO_FAULTS: [&[u64]; 3] = [&[], &[], &[]];
 /// More than a session asks for at once.
 const WHOLE: usize = 10_000;
 
-/// What a session answered: its status, what it wrote, the file that is kept afterwards, if there is one, and how many bytes of its
-/// input it left.
+/// The devices of a session.
 #[derive(Drop)]
-struct Answer {
-    status: u8,
-    output: Vec<u8>,
-    errors: Vec<u8>,
-    file: Vec<u8>,
-    left: usize,
+struct Devices {
+    keeper: MemoryKeeper,
+    source: Pieces,
+    output: MemorySink,
+    errors: MemorySink,
 }
 
-/// Holds a session over this file with this input, of which a read brings at most this many bytes. The calls with these numbers fail:
-/// of the keeper, the input and the output.
-fn held(
+/// Devices with this file and this input, of which a read brings at most this many bytes. The calls with these numbers fail: of the
+/// keeper, the input and the output.
+fn devices_of(
     alloc: Global,
     file: Option<&[u8]>,
     input: &[u8],
     step: usize,
     failing: [&[u64]; 3],
-) -> Result<Answer, Fail> {
-    let mut keeper = MemoryKeeper::new(alloc, file, failing[0])?;
-    let mut output = MemorySink::new(alloc, 10_000, failing[2])?;
-    let mut errors = MemorySink::new(alloc, 1_000, &[])?;
-    let mut source = Pieces::new(alloc, input, step, failing[1])?;
-    let status = serve(alloc, &mut keeper, &mut source, &mut output, &mut errors);
-    Ok(Answer {
-        status,
-        output: Vec::from_slice(alloc, output.written())?,
-        errors: Vec::from_slice(alloc, errors.written())?,
-        file: Vec::from_slice(alloc, keeper.file().unwrap_or(&[]))?,
-        left: source.left(),
+) -> Result<Devices, AllocError> {
+    Ok(Devices {
+        keeper: MemoryKeeper::new(alloc, file, failing[0])?,
+        source: Pieces::new(alloc, input, step, failing[1])?,
+        output: MemorySink::new(alloc, 10_000, failing[2])?,
+        errors: MemorySink::new(alloc, 1_000, &[])?,
     })
+}
+
+impl Devices {
+    /// Holds a session, and answers its status.
+    fn hold(&mut self, alloc: Global) -> u8 {
+        serve(
+            alloc,
+            &mut self.keeper,
+            &mut self.source,
+            &mut self.output,
+            &mut self.errors,
+        )
+    }
+
+    /// Whether this was written.
+    fn wrote(&self, output: &[u8], errors: &[u8]) -> bool {
+        self.output.written() == output && self.errors.written() == errors
+    }
+
+    /// Whether this file is kept.
+    fn keeps(&self, file: &[u8]) -> bool {
+        self.keeper.file() == Some(file)
+    }
 }
 
 /// Each row: the input, the replies, and whether the file is another one afterwards, with ` | ` between them.
@@ -89,14 +104,10 @@ const ROWS: &[&str] = &[
 fn goes(alloc: Global, file: &[u8], step: usize, row: &'static str) -> Result<bool, Fail> {
     let (input, rest) = cut(row)?;
     let (replies, end) = cut(rest)?;
-    let answer = held(alloc, Some(file), input.as_bytes(), step, NO_FAULTS)?;
-    let is_other = answer.file.as_slice() != file;
-    Ok(
-        answer.status == 0
-            && answer.output.as_slice() == replies.as_bytes()
-            && answer.errors.is_empty()
-            && is_other == (end == "other"),
-    )
+    let mut devices = devices_of(alloc, Some(file), input.as_bytes(), step, NO_FAULTS)?;
+    let status = devices.hold(alloc);
+    let is_other = !devices.keeps(file);
+    Ok(status == 0 && devices.wrote(replies.as_bytes(), b"") && is_other == (end == "other"))
 }
 
 /// The first row that goes otherwise than it has to, if a read brings at most this many bytes.
@@ -109,51 +120,94 @@ fn other_row(alloc: Global, file: &[u8], step: usize) -> Result<Option<usize>, F
     Ok(None)
 }
 
+/// The same over the file after `hello`.
+fn fault_of_rows(alloc: Global, step: usize) -> Result<Option<usize>, Fail> {
+    let file = bytes(alloc, TYPED)?;
+    other_row(alloc, &file, step)
+}
+
 #[test]
 fn requests_are_answered_in_order(rt: HostRuntime) -> Result<(), Fail> {
-    let file = bytes(rt.alloc(), TYPED)?;
-    assert_eq!(rt; other_row(rt.alloc(), &file, WHOLE)?, None);
+    assert_eq!(rt; fault_of_rows(rt.alloc(), WHOLE)?, None);
     Ok(())
 }
 
 #[test]
 fn requests_come_byte_by_byte(rt: HostRuntime) -> Result<(), Fail> {
-    let file = bytes(rt.alloc(), TYPED)?;
-    assert_eq!(rt; other_row(rt.alloc(), &file, 1)?, None);
+    assert_eq!(rt; fault_of_rows(rt.alloc(), 1)?, None);
     Ok(())
 }
 
-/// How many bytes a session leaves that gets its input byte by byte.
-fn left_of(alloc: Global, input: &[u8]) -> Result<usize, Fail> {
+/// How many bytes a session over this file leaves that gets its input byte by byte.
+fn left_of(alloc: Global, file: &[u8], input: &[u8]) -> Result<usize, AllocError> {
+    let mut devices = devices_of(alloc, Some(file), input, 1, NO_FAULTS)?;
+    let _status = devices.hold(alloc);
+    Ok(devices.source.left())
+}
+
+/// The same over the file after `hello`.
+fn left_after_hello(alloc: Global, input: &[u8]) -> Result<usize, Fail> {
     let file = bytes(alloc, TYPED)?;
-    Ok(held(alloc, Some(&file), input, 1, NO_FAULTS)?.left)
+    Ok(left_of(alloc, &file, input)?)
 }
 
 #[test]
 fn nothing_is_read_after_the_last_request(rt: HostRuntime) -> Result<(), Fail> {
-    assert_eq!(rt; left_of(rt.alloc(), b"m 2\nq\nq\ni 0 x\n")?, 6);
+    assert_eq!(rt; left_after_hello(rt.alloc(), b"m 2\nq\nq\ni 0 x\n")?, 6);
     Ok(())
+}
+
+/// Each row: how many bytes a read brings at most, a file, an input and its output. The message of 81 bytes that tells the insertion of
+/// `hello` is taken in pieces, and sent.
+type Exchange = (usize, &'static str, &'static [u8], &'static [u8]);
+
+const EXCHANGES: &[Exchange] = &[
+    (
+        7,
+        FRESH,
+        b"m 81\nRLSM\x03\0\0\0\0\0\0\0\x07\0\0\0\x02\0\0\0\0\0\0\0\x01\0\0\0\0\0\0\0\x01\0\0\0\0\0\0\0\x01\0\0\0\0\0\0\0\0\0\0\0\0\0\x01\x01\x7f\xff\xff\xff\0\0\0\0\0\0\0\x01\0\0\0\0\0\0\0\x05hellot\n",
+        b"applied 1 released 0 repeated 0 held 0 refused 0\ntext 5\nhello\nsaved\n",
+    ),
+    (
+        WHOLE,
+        TYPED,
+        b"s 1\n",
+        b"message 81\nRLSM\x03\0\0\0\0\0\0\0\x07\0\0\0\x02\0\0\0\0\0\0\0\x01\0\0\0\0\0\0\0\x01\0\0\0\0\0\0\0\x01\0\0\0\0\0\0\0\0\0\0\0\0\0\x01\x01\x7f\xff\xff\xff\0\0\0\0\0\0\0\x01\0\0\0\0\0\0\0\x05hello\nsaved\n",
+    ),
+];
+
+/// What is written by a session over a file, and nothing on errors.
+fn writes(
+    alloc: Global,
+    file: &[u8],
+    step: usize,
+    input: &[u8],
+    output: &[u8],
+) -> Result<bool, AllocError> {
+    let mut devices = devices_of(alloc, Some(file), input, step, NO_FAULTS)?;
+    let _status = devices.hold(alloc);
+    Ok(devices.wrote(output, b""))
+}
+
+fn is_answered(alloc: Global, exchange: &Exchange) -> Result<bool, Fail> {
+    let (step, digits, input, output) = exchange;
+    let file = bytes(alloc, digits)?;
+    Ok(writes(alloc, &file, *step, input, output)?)
+}
+
+/// The first row with another output.
+fn other_exchange(alloc: Global) -> Result<Option<usize>, Fail> {
+    for (i, exchange) in EXCHANGES.iter().enumerate() {
+        if !is_answered(alloc, exchange)? {
+            return Ok(Some(i));
+        }
+    }
+    Ok(None)
 }
 
 #[test]
 fn messages_come_and_go(rt: HostRuntime) -> Result<(), Fail> {
-    let alloc = rt.alloc();
-    let message = bytes(alloc, HELLO_MESSAGE)?;
-    let mut input = Vec::from_slice(alloc, b"m 81\n")?;
-    input.extend_from_slice(&message)?;
-    input.extend_from_slice(b"t\n")?;
-    let fresh = bytes(alloc, FRESH)?;
-    let taken = held(alloc, Some(&fresh), &input, 7, NO_FAULTS)?;
-    assert_eq!(rt;
-        taken.output.as_slice(),
-        b"applied 1 released 0 repeated 0 held 0 refused 0\ntext 5\nhello\nsaved\n".as_slice()
-    );
-    let mut reply = Vec::from_slice(alloc, b"message 81\n")?;
-    reply.extend_from_slice(&message)?;
-    reply.extend_from_slice(b"\nsaved\n")?;
-    let typed = bytes(alloc, TYPED)?;
-    let sent = held(alloc, Some(&typed), b"s 1\n", WHOLE, NO_FAULTS)?;
-    assert_eq!(rt; sent.output.as_slice(), reply.as_slice());
+    assert_eq!(rt; other_exchange(rt.alloc())?, None);
     Ok(())
 }
 
@@ -210,15 +264,76 @@ fn fault_line(status: u8) -> &'static [u8] {
     }
 }
 
+/// Whether a row goes as it has to over this file.
+fn fails(alloc: Global, file: &[u8], row: &Fault<'_>) -> Result<bool, AllocError> {
+    let (step, failing, due, output, is_other) = row;
+    let mut devices = devices_of(alloc, Some(file), b"i 0 A\nt\n", *step, *failing)?;
+    let status = devices.hold(alloc);
+    let is_kept = devices.keeps(file) != *is_other;
+    Ok(status == *due && is_kept && devices.wrote(output, fault_line(*due)))
+}
+
 /// The first row that goes otherwise than it has to.
-fn other_fault(alloc: Global, file: &[u8]) -> Result<Option<usize>, Fail> {
-    for (i, (step, failing, status, output, is_other)) in FAULTS.iter().enumerate() {
-        let answer = held(alloc, Some(file), b"i 0 A\nt\n", *step, *failing)?;
-        if answer.status != *status
-            || answer.output.as_slice() != *output
-            || answer.errors.as_slice() != fault_line(*status)
-            || (answer.file.as_slice() != file) != *is_other
-        {
+fn other_fault(alloc: Global, file: &[u8]) -> Result<Option<usize>, AllocError> {
+    for (i, row) in FAULTS.iter().enumerate() {
+        if !fails(alloc, file, row)? {
+            return Ok(Some(i));
+        }
+    }
+    Ok(None)
+}
+
+/// The same over the file after `hello`.
+fn fault_of_devices(alloc: Global) -> Result<Option<usize>, Fail> {
+    let file = bytes(alloc, TYPED)?;
+    Ok(other_fault(alloc, &file)?)
+}
+
+#[test]
+fn devices_fail(rt: HostRuntime) -> Result<(), Fail> {
+    assert_eq!(rt; fault_of_devices(rt.alloc())?, None);
+    Ok(())
+}
+
+/// Each row: a file, and the status and the errors of a session over it, and how many bytes are kept.
+type Ending = (&'static str, u8, &'static [u8], usize);
+
+const ENDINGS: &[Ending] = &[
+    // The front of 30 bytes of the file after `hello`.
+    (
+        "524c5346 04 0000000000000007 00000002 00000000 0000000100000000 00",
+        3,
+        b"damaged at 29\n",
+        30,
+    ),
+    // A journal, which is stored in the newest form.
+    (HELLO_FILE, 0, b"", 96),
+];
+
+/// Whether a session ends with this status, these errors and this many bytes.
+fn ends(
+    alloc: Global,
+    file: Option<&[u8]>,
+    due: u8,
+    errors: &[u8],
+    kept: usize,
+) -> Result<bool, AllocError> {
+    let mut devices = devices_of(alloc, file, b"t\n", WHOLE, NO_FAULTS)?;
+    let status = devices.hold(alloc);
+    let len = devices.keeper.file().unwrap_or(&[]).len();
+    Ok(status == due && len == kept && devices.errors.written() == errors)
+}
+
+fn ends_so(alloc: Global, ending: &Ending) -> Result<bool, Fail> {
+    let (digits, due, errors, kept) = ending;
+    let file = bytes(alloc, digits)?;
+    Ok(ends(alloc, Some(&file), *due, errors, *kept)?)
+}
+
+/// The first row that ends otherwise.
+fn other_ending(alloc: Global) -> Result<Option<usize>, Fail> {
+    for (i, ending) in ENDINGS.iter().enumerate() {
+        if !ends_so(alloc, ending)? {
             return Ok(Some(i));
         }
     }
@@ -226,56 +341,34 @@ fn other_fault(alloc: Global, file: &[u8]) -> Result<Option<usize>, Fail> {
 }
 
 #[test]
-fn devices_fail(rt: HostRuntime) -> Result<(), Fail> {
-    let file = bytes(rt.alloc(), TYPED)?;
-    assert_eq!(rt; other_fault(rt.alloc(), &file)?, None);
+fn sessions_end(rt: HostRuntime) -> Result<(), Fail> {
+    assert_eq!(rt; other_ending(rt.alloc())?, None);
     Ok(())
-}
-
-/// What a session over this file ends with: the status, the errors, and how many bytes are kept.
-fn end_of(alloc: Global, file: Option<&[u8]>) -> Result<(u8, Vec<u8>, usize), Fail> {
-    let answer = held(alloc, file, b"t\n", WHOLE, NO_FAULTS)?;
-    Ok((answer.status, answer.errors, answer.file.len()))
 }
 
 #[test]
 fn there_is_no_file(rt: HostRuntime) -> Result<(), Fail> {
-    let (status, errors, kept) = end_of(rt.alloc(), None)?;
-    assert_eq!(rt; (status, kept), (2, 0));
-    assert_eq!(rt; errors.as_slice(), b"no replica\n".as_slice());
+    assert!(rt; ends(rt.alloc(), None, 2, b"no replica\n", 0)?);
     Ok(())
 }
 
-#[test]
-fn a_file_is_cut_off(rt: HostRuntime) -> Result<(), Fail> {
-    let typed = bytes(rt.alloc(), TYPED)?;
-    let (status, errors, kept) = end_of(rt.alloc(), Some(front(&typed, 30)))?;
-    assert_eq!(rt; (status, kept), (3, 30));
-    assert_eq!(rt; errors.as_slice(), b"damaged at 29\n".as_slice());
-    Ok(())
+/// Whether an input is too large for a session over this file, which stays.
+fn is_too_large(alloc: Global, file: &[u8], input: &[u8]) -> Result<bool, AllocError> {
+    let mut devices = devices_of(alloc, Some(file), input, WHOLE, NO_FAULTS)?;
+    let status = devices.hold(alloc);
+    Ok(status == 11 && devices.wrote(b"", b"too large\n") && devices.keeps(file))
 }
 
-/// A journal is stored in the newest form.
-#[test]
-fn a_journal_is_taken_on(rt: HostRuntime) -> Result<(), Fail> {
-    let journal = bytes(rt.alloc(), HELLO_FILE)?;
-    let (status, _errors, kept) = end_of(rt.alloc(), Some(&journal))?;
-    assert_eq!(rt; (status, kept), (0, 96));
-    Ok(())
+/// Whether an input of this many letters is too large for a session over the file after `hello`.
+fn are_too_many(alloc: Global, letters: usize) -> Result<bool, Fail> {
+    let file = bytes(alloc, TYPED)?;
+    let input = Vec::from_elem(alloc, b'a', letters)?;
+    Ok(is_too_large(alloc, &file, &input)?)
 }
 
 /// One byte more than is read, without a whole request.
 #[test]
 fn inputs_are_too_large(rt: HostRuntime) -> Result<(), Fail> {
-    let alloc = rt.alloc();
-    let file = bytes(alloc, TYPED)?;
-    let input = Vec::from_elem(alloc, b'a', 67_108_865)?;
-    let answer = held(alloc, Some(&file), &input, WHOLE, NO_FAULTS)?;
-    assert_eq!(rt;
-        (answer.status, answer.errors.as_slice()),
-        (11, b"too large\n".as_slice())
-    );
-    assert!(rt; answer.output.is_empty());
-    assert_eq!(rt; answer.file.as_slice(), file.as_slice());
+    assert!(rt; are_too_many(rt.alloc(), 67_108_865)?);
     Ok(())
 }
