@@ -4,6 +4,7 @@ use rls_io::{Keeper, MemoryKeeper, MemorySink, MemorySource};
 use rls_top::run;
 use std::alloc::{AllocError, Global};
 use std::test::Fail;
+use test_steps::rows::first_fault;
 
 /// The most bytes that a command may write here.
 const ROOM: usize = 4000;
@@ -161,12 +162,7 @@ impl Member {
         alloc: Global,
         steps: &[Step<'_>],
     ) -> Result<Option<usize>, Fail> {
-        for (i, step) in steps.iter().enumerate() {
-            if !self.goes(alloc, step)? {
-                return Ok(Some(i));
-            }
-        }
-        Ok(None)
+        first_fault(steps, |step| self.goes(alloc, step))
     }
 
     /// The message for another member.

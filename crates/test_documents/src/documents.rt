@@ -44,20 +44,18 @@ fn mixed(trace: u64, number: u64) -> u64 {
 }
 
 fn of_tuple(trace: u64, tuple: Tuple) -> u64 {
-    match tuple {
-        Tuple::Low => mixed(trace, 1),
-        Tuple::High => mixed(trace, 2),
-        Tuple::At {
-            pos,
-            replica,
-            seq,
-            offset,
-        } => {
-            let place = (offset as i64 + 2_147_483_648) as u64;
-            let spot = mixed(mixed(trace, pos as u64), replica as u64);
-            mixed(mixed(spot, seq as u64), place)
-        }
-    }
+    let Tuple::At {
+        pos,
+        replica,
+        seq,
+        offset,
+    } = tuple
+    else {
+        return mixed(trace, if matches!(tuple, Tuple::Low) { 1 } else { 2 });
+    };
+    let place = (offset as i64 + 2_147_483_648) as u64;
+    let spot = mixed(mixed(trace, pos as u64), replica as u64);
+    mixed(mixed(spot, seq as u64), place)
 }
 
 fn of_ident(trace: u64, id: &Ident) -> u64 {

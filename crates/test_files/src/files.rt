@@ -7,6 +7,7 @@ use rls_store::{FileError, decode_file, encode_file};
 use std::alloc::{AllocError, Global};
 use std::test::Fail;
 use test_steps::bytes::{HELLO_FILE, bytes, front};
+use test_steps::rows::{all_go, all_go_within};
 use test_steps::steps::{Change, edit_of};
 use test_steps::told::{Deed, Told, op_of};
 
@@ -98,20 +99,12 @@ const STORED: &[(&str, &str, usize)] = &[
     (LEFT_4, LEFT_4, 70),
 ];
 
-/// The first file that is stored as another one.
-fn other_stored(alloc: Global) -> Result<Option<usize>, Fail> {
-    for (i, (file, expected, len)) in STORED.iter().enumerate() {
-        if !is_stored(alloc, file, expected, *len)? {
-            return Ok(Some(i));
-        }
-    }
-    Ok(None)
-}
-
 #[test]
 fn files_are_stored_again(rt: HostRuntime) -> Result<(), Fail> {
-    assert_eq!(rt; other_stored(rt.alloc())?, None);
-    Ok(())
+    all_go(
+        STORED,
+        |(file, expected, len)| is_stored(rt.alloc(), file, expected, *len),
+    )
 }
 
 /// What a replica consists of: its group, the count of members, its own number, the vector, and how many rows, stems, epochs, text
@@ -163,20 +156,12 @@ const READ: &[(&str, &str, &str)] = &[
     (LEFT_4, "7 2 0 [0, 1] 1 0 1 0 0 0 1", ""),
 ];
 
-/// The first file in which there is something else.
-fn other_read(alloc: Global) -> Result<Option<usize>, Fail> {
-    for (i, (file, numbers, text)) in READ.iter().enumerate() {
-        if !is_read(alloc, file, numbers, text)? {
-            return Ok(Some(i));
-        }
-    }
-    Ok(None)
-}
-
 #[test]
 fn files_are_read(rt: HostRuntime) -> Result<(), Fail> {
-    assert_eq!(rt; other_read(rt.alloc())?, None);
-    Ok(())
+    all_go(
+        READ,
+        |(file, numbers, text)| is_read(rt.alloc(), file, numbers, text),
+    )
 }
 
 /// What happens to a replica before it is stored.
@@ -285,20 +270,12 @@ fn is_file_after(
     Ok(file_after(alloc, members, all)? == expected)
 }
 
-/// The first row after which there is another file.
-fn other_edited(alloc: Global) -> Result<Option<usize>, Fail> {
-    for (i, (members, all, expected)) in EDITED.iter().enumerate() {
-        if !is_file_after(alloc, *members, all, expected)? {
-            return Ok(Some(i));
-        }
-    }
-    Ok(None)
-}
-
 #[test]
 fn edits_are_stored(rt: HostRuntime) -> Result<(), Fail> {
-    assert_eq!(rt; other_edited(rt.alloc())?, None);
-    Ok(())
+    all_go(
+        EDITED,
+        |(members, all, expected)| is_file_after(rt.alloc(), *members, all, expected),
+    )
 }
 
 /// The first length from this place up to the end of its field to which the file may be cut, so that another place is told.
@@ -352,20 +329,9 @@ const CUT: &[&str] = &[
     ACKNOWLEDGED_1,
 ];
 
-/// The first file of which another place is told, and the first length to which it is cut then.
-fn other_cut(alloc: Global) -> Result<Option<(usize, usize)>, Fail> {
-    for (i, digits) in CUT.iter().enumerate() {
-        if let Some(len) = fault_of_cuts(alloc, digits)? {
-            return Ok(Some((i, len)));
-        }
-    }
-    Ok(None)
-}
-
 #[test]
 fn files_are_cut_off(rt: HostRuntime) -> Result<(), Fail> {
-    assert_eq!(rt; other_cut(rt.alloc())?, None);
-    Ok(())
+    all_go_within(CUT, |digits| fault_of_cuts(rt.alloc(), digits))
 }
 
 /// The topmost epoch is one that member 1 is to have opened, of whom nothing was accepted.
@@ -467,18 +433,12 @@ const FAULTY: &[Faulty] = &[
     (TYPED_4, (4, 0), SAME, Some(4)),
 ];
 
-/// The first file of which another fault is told.
-fn other_fault(alloc: Global) -> Result<Option<usize>, Fail> {
-    for (i, (digits, one, other, at)) in FAULTY.iter().enumerate() {
-        if damage_with(alloc, digits, *one, *other)? != *at {
-            return Ok(Some(i));
-        }
-    }
-    Ok(None)
+/// Whether the fault of a file is told where it is.
+fn is_told(alloc: Global, (digits, one, other, at): &Faulty) -> Result<bool, Fail> {
+    Ok(damage_with(alloc, digits, *one, *other)? == *at)
 }
 
 #[test]
 fn rules_are_broken(rt: HostRuntime) -> Result<(), Fail> {
-    assert_eq!(rt; other_fault(rt.alloc())?, None);
-    Ok(())
+    all_go(FAULTY, |file| is_told(rt.alloc(), file))
 }

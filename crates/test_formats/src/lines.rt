@@ -2,7 +2,7 @@
 
 use rls_ident::{EpochName, Ident, Tuple, Vector};
 use rls_model::{Counts, Refusal};
-use rls_ops::{Body, Op, Shape};
+use rls_ops::Shape;
 use rls_report::{
     CommandError, Failure, Fault, LineFault, edit_report, failure_line, new_report, refusal_line,
     stat_report, take_report, trial_report,
@@ -10,14 +10,25 @@ use rls_report::{
 use std::alloc::{AllocError, Global};
 use std::sync::Arc;
 use std::test::Fail;
+use test_steps::told::{Deed, ORIGIN, at, op_of};
+
+/// Whether the text is this line.
+fn is(text: Result<String, AllocError>, line: &str) -> Result<bool, AllocError> {
+    Ok(text?.as_str() == line)
+}
+
+/// Whether the failure has this status and this line.
+fn fails(alloc: Global, failure: Failure, status: u8, line: &str) -> Result<bool, AllocError> {
+    Ok(failure.status() == status && is(failure_line(alloc, failure), line)?)
+}
+
+const USAGE: &str =
+    "usage: new GROUP ME MEMBERS | edit | text | ids | stat | send TO | take | leave | trial SEED STEPS\n";
 
 #[test]
 fn failures(rt: HostRuntime) -> Result<(), Fail> {
     let alloc = rt.alloc();
-    let usage =
-        "usage: new GROUP ME MEMBERS | edit | text | ids | stat | send TO | take | leave | trial SEED STEPS\n";
-    let line = failure_line(alloc, Failure::NoCommand)?;
-    assert_eq!(rt; (Failure::NoCommand.status(), line.as_str()), (1, usage));
+    assert!(rt; fails(alloc, Failure::NoCommand, 1, USAGE)?);
     let errors: &[(CommandError, u8, &str)] = &[
         (CommandError::NoReplica, 2, "no replica\n"),
         (CommandError::ReplicaExists, 2, "replica exists\n"),
@@ -43,9 +54,13 @@ fn failures(rt: HostRuntime) -> Result<(), Fail> {
     ];
     for (error, status, line) in errors {
         let failure = Failure::Command { error: *error };
-        assert_eq!(rt; failure.status(), *status, "{line}");
-        assert_eq!(rt; failure_line(alloc, failure)?.as_str(), *line);
+        assert!(rt; fails(alloc, failure, *status, line)?, "{line}");
     }
+    Ok(())
+}
+
+#[test]
+fn faults(rt: HostRuntime) -> Result<(), Fail> {
     let faults: &[(Fault, u8, &str)] = &[
         (Fault::Keeper, 7, "keeper fault\n"),
         (Fault::Source, 8, "source fault\n"),
@@ -54,16 +69,14 @@ fn failures(rt: HostRuntime) -> Result<(), Fail> {
     ];
     for (fault, status, line) in faults {
         let failure = Failure::Fault { fault: *fault };
-        assert_eq!(rt; failure.status(), *status, "{line}");
-        assert_eq!(rt; failure_line(alloc, failure)?.as_str(), *line);
-        assert_eq!(rt; fault.line(), *line);
+        assert!(rt; fails(rt.alloc(), failure, *status, line)?, "{line}");
+        assert!(rt; fault.line() == *line, "{line}");
     }
     Ok(())
 }
 
 #[test]
 fn refused_edits(rt: HostRuntime) -> Result<(), Fail> {
-    let alloc = rt.alloc();
     let cases: &[(LineFault, &str)] = &[
         (LineFault::Left, "line 3: left\n"),
         (LineFault::EmptyEdit, "line 3: empty edit\n"),
@@ -89,107 +102,103 @@ fn refused_edits(rt: HostRuntime) -> Result<(), Fail> {
             fault: *fault,
         };
         let failure = Failure::Command { error };
-        assert_eq!(rt; failure.status(), 6);
-        assert_eq!(rt; failure_line(alloc, failure)?.as_str(), *line);
+        assert!(rt; fails(rt.alloc(), failure, 6, line)?, "{line}");
     }
     Ok(())
 }
 
-/// The line of a refused operation (1, 2).
-fn refused(alloc: Global, refusal: Refusal) -> Result<String, AllocError> {
-    refusal_line(alloc, 1, 2, &refusal)
+/// Whether the refused operation (1, 2) has this line.
+fn is_refused(alloc: Global, refusal: &Refusal, line: &str) -> Result<bool, AllocError> {
+    is(refusal_line(alloc, 1, 2, refusal), line)
 }
 
-/// A leave of member 0.
-fn leave(alloc: Global) -> Result<Op, AllocError> {
-    Ok(Op {
-        author: 0,
-        seq: 1,
-        context: Vector::zero(alloc, 2)?,
-        epoch: EpochName::Origin,
-        body: Body::Leave,
-    })
+/// Why an operation is refused, if this is told in numbers alone.
+enum Reason {
+    Own(u32),
+    Left(u32),
+    Shape(Shape),
+    Stem(Option<u32>),
+    Epoch(EpochName),
 }
 
-const SHAPES: &[(Shape, &str)] = &[
-    (Shape::Author, "refused 1 2 author\n"),
-    (Shape::Context, "refused 1 2 context\n"),
-    (Shape::EmptyBody, "refused 1 2 empty\n"),
+/// The refusal for this reason.
+fn refusal_of(reason: &Reason) -> Refusal {
+    match reason {
+        Reason::Own(seq) => Refusal::Own { seq: *seq },
+        Reason::Left(seq) => Refusal::Left { seq: *seq },
+        Reason::Shape(shape) => Refusal::Shape(*shape),
+        Reason::Stem(due) => Refusal::WrongStem { due: *due },
+        Reason::Epoch(due) => Refusal::WrongEpoch { due: *due },
+    }
+}
+
+const REASONS: &[(Reason, &str)] = &[
+    (Reason::Own(2), "refused 1 2 own\n"),
+    (Reason::Left(1), "refused 1 2 left 1\n"),
+    (Reason::Shape(Shape::Author), "refused 1 2 author\n"),
+    (Reason::Shape(Shape::Context), "refused 1 2 context\n"),
+    (Reason::Shape(Shape::EmptyBody), "refused 1 2 empty\n"),
     (
-        Shape::TooLong { n: 1_048_577 },
+        Reason::Shape(Shape::TooLong { n: 1_048_577 }),
         "refused 1 2 too long 1048577\n",
     ),
-    (Shape::OffsetEnd, "refused 1 2 offset end\n"),
+    (Reason::Shape(Shape::OffsetEnd), "refused 1 2 offset end\n"),
+    (Reason::Stem(None), "refused 1 2 wrong stem none\n"),
+    (Reason::Stem(Some(0)), "refused 1 2 wrong stem 0\n"),
+    (Reason::Stem(Some(5)), "refused 1 2 wrong stem 5\n"),
+    (Reason::Epoch(ORIGIN), "refused 1 2 wrong epoch origin\n"),
+    (
+        Reason::Epoch(EpochName::Of { replica: 3, seq: 4 }),
+        "refused 1 2 wrong epoch 3 4\n",
+    ),
 ];
 
+/// Whether an operation that is refused for this reason has this line.
+fn is_refused_for(alloc: Global, reason: &Reason, line: &str) -> Result<bool, AllocError> {
+    is_refused(alloc, &refusal_of(reason), line)
+}
+
 #[test]
-fn refused_shapes_and_places(rt: HostRuntime) -> Result<(), Fail> {
-    let alloc = rt.alloc();
-    for (shape, line) in SHAPES {
-        let text = refused(alloc, Refusal::Shape(*shape))?;
-        assert_eq!(rt; text.as_str(), *line);
-    }
-    let stems: &[(Option<u32>, &str)] = &[
-        (None, "refused 1 2 wrong stem none\n"),
-        (Some(0), "refused 1 2 wrong stem 0\n"),
-        (Some(5), "refused 1 2 wrong stem 5\n"),
-    ];
-    for (due, line) in stems {
-        let text = refused(alloc, Refusal::WrongStem { due: *due })?;
-        assert_eq!(rt; text.as_str(), *line);
-    }
-    let opened = EpochName::Of { replica: 3, seq: 4 };
-    let epochs: &[(EpochName, &str)] = &[
-        (EpochName::Origin, "refused 1 2 wrong epoch origin\n"),
-        (opened, "refused 1 2 wrong epoch 3 4\n"),
-    ];
-    for (due, line) in epochs {
-        let text = refused(alloc, Refusal::WrongEpoch { due: *due })?;
-        assert_eq!(rt; text.as_str(), *line);
+fn refusals_in_numbers(rt: HostRuntime) -> Result<(), Fail> {
+    for (reason, line) in REASONS {
+        assert!(rt; is_refused_for(rt.alloc(), reason, line)?, "{line}");
     }
     Ok(())
+}
+
+/// Whether an operation that forks another has its line.
+fn is_refused_as_forked(alloc: Global) -> Result<bool, Fail> {
+    let leave = op_of(alloc, (0, 1, &[0, 0], ORIGIN, Deed::Leave))?;
+    let held = Arc::new(alloc, leave)?;
+    let line = "refused 1 2 forked\n";
+    Ok(is_refused(alloc, &Refusal::Forked { held }, line)?)
+}
+
+/// Whether a context that goes backward has its line.
+fn is_refused_as_backward(alloc: Global) -> Result<bool, AllocError> {
+    let known = Vector::from_counts(alloc, &[1, 0, 4_294_967_295])?;
+    let line = "refused 1 2 backward 1 0 4294967295\n";
+    is_refused(alloc, &Refusal::Backward { known }, line)
+}
+
+/// Whether a target that isn't known has its line.
+fn is_refused_for_target(alloc: Global) -> Result<bool, Fail> {
+    let tuples = [Tuple::Low, Tuple::High, at(5, 1, 1, -2)];
+    let id = Ident::from_tuples(alloc, &tuples)?;
+    let line = "refused 1 2 unknown target low/high/5.1.1.-2\n";
+    Ok(is_refused(alloc, &Refusal::UnknownTarget { id }, line)?)
 }
 
 #[test]
 fn other_refusals(rt: HostRuntime) -> Result<(), Fail> {
     let alloc = rt.alloc();
-    let own = refused(alloc, Refusal::Own { seq: 2 })?;
-    assert_eq!(rt; own.as_str(), "refused 1 2 own\n");
-    let held = Arc::new(alloc, leave(alloc)?)?;
-    let forked = refused(alloc, Refusal::Forked { held })?;
-    assert_eq!(rt; forked.as_str(), "refused 1 2 forked\n");
-    let left = refused(alloc, Refusal::Left { seq: 1 })?;
-    assert_eq!(rt; left.as_str(), "refused 1 2 left 1\n");
-    let known = Vector::from_counts(alloc, &[1, 0, 4_294_967_295])?;
-    let backward = refused(alloc, Refusal::Backward { known })?;
-    assert_eq!(rt; backward.as_str(), "refused 1 2 backward 1 0 4294967295\n");
-    let last = Tuple::At {
-        pos: 5,
-        replica: 1,
-        seq: 1,
-        offset: -2,
-    };
-    let id = Ident::from_tuples(alloc, &[Tuple::Low, Tuple::High, last])?;
-    let target = refused(alloc, Refusal::UnknownTarget { id })?;
-    assert_eq!(rt;
-        target.as_str(),
-        "refused 1 2 unknown target low/high/5.1.1.-2\n"
-    );
+    assert!(rt; is_refused_as_forked(alloc)? && is_refused_as_backward(alloc)?);
+    assert!(rt; is_refused_for_target(alloc)?);
     Ok(())
 }
 
-#[test]
-fn reports(rt: HostRuntime) -> Result<(), Fail> {
-    let alloc = rt.alloc();
-    assert_eq!(rt; new_report(alloc, 7, 0, 2)?.as_str(), "new 7 0 2\n");
-    assert_eq!(rt;
-        edit_report(alloc, 1, 2, 3)?.as_str(),
-        "edits 1 released 2 refused 3\n"
-    );
-    assert_eq!(rt;
-        take_report(alloc, 1, 2, 3, 4, 5)?.as_str(),
-        "applied 1 released 2 repeated 3 held 4 refused 5\n"
-    );
+/// Whether the state of a replica is reported in these lines.
+fn is_state(alloc: Global, lines: &str) -> Result<bool, AllocError> {
     let accepted = Vector::from_counts(alloc, &[1, 0])?;
     let counts = Counts {
         total: 5,
@@ -199,14 +208,32 @@ fn reports(rt: HostRuntime) -> Result<(), Fail> {
         epochs: 1,
         former: 0,
     };
-    assert_eq!(rt;
-        stat_report(alloc, 7, 0, 2, &accepted, &counts)?.as_str(),
-        "group 7\nme 0\nmembers 2\naccepted 1 0\ntotal 5\nruns 1\nheld 0\nunstable 1\nepochs 1\nformer 0\n"
-    );
+    is(stat_report(alloc, 7, 0, 2, &accepted, &counts), lines)
+}
+
+/// Whether a trial of three members is reported in these lines.
+fn is_trial(alloc: Global, lines: &str) -> Result<bool, AllocError> {
     let members = [(8, 1), (8, 1), (8, 1)];
-    assert_eq!(rt;
-        trial_report(alloc, 42, 1, &[0, 1, 0], &members, 1, 0)?.as_str(),
-        "trial 42 1\naccepted 0 1 0\nmember 0 total 8 runs 1\nmember 1 total 8 runs 1\nmember 2 total 8 runs 1\nepochs 1 former 0\n"
-    );
+    is(
+        trial_report(alloc, 42, 1, &[0, 1, 0], &members, 1, 0),
+        lines,
+    )
+}
+
+const STATE: &str =
+    "group 7\nme 0\nmembers 2\naccepted 1 0\ntotal 5\nruns 1\nheld 0\nunstable 1\nepochs 1\nformer 0\n";
+
+const TRIAL: &str =
+    "trial 42 1\naccepted 0 1 0\nmember 0 total 8 runs 1\nmember 1 total 8 runs 1\nmember 2 total 8 runs 1\nepochs 1 former 0\n";
+
+#[test]
+fn reports(rt: HostRuntime) -> Result<(), Fail> {
+    let alloc = rt.alloc();
+    let edits = "edits 1 released 2 refused 3\n";
+    let taken = "applied 1 released 2 repeated 3 held 4 refused 5\n";
+    assert!(rt; is(new_report(alloc, 7, 0, 2), "new 7 0 2\n")?);
+    assert!(rt; is(edit_report(alloc, 1, 2, 3), edits)?);
+    assert!(rt; is(take_report(alloc, 1, 2, 3, 4, 5), taken)?);
+    assert!(rt; is_state(alloc, STATE)? && is_trial(alloc, TRIAL)?);
     Ok(())
 }

@@ -8,6 +8,7 @@ mod tuples;
 
 use std::alloc::Global;
 use std::test::Fail;
+use test_steps::rows::all_go_within;
 use test_steps::steps::{Row, Turn, fault, fault_after_hello, fault_of_three, fault_of_two};
 
 /// Steps, and who is led through them.
@@ -35,16 +36,6 @@ fn fault_in(alloc: Global, table: &Table) -> Result<Option<usize>, Fail> {
     }
 }
 
-/// The first table of these in which a step goes otherwise than it has to, and that step.
-fn fault_among(alloc: Global, tables: &[Table]) -> Result<Option<(usize, usize)>, Fail> {
-    for (i, table) in tables.iter().enumerate() {
-        if let Some(step) = fault_in(alloc, table)? {
-            return Ok(Some((i, step)));
-        }
-    }
-    Ok(None)
-}
-
 const WAITING: &[Table] = &[
     One(1, replicas::WAITING),
     One(1, replicas::WAITED_IN_VAIN),
@@ -52,58 +43,22 @@ const WAITING: &[Table] = &[
     One(1, replicas::RELEASED),
 ];
 
-#[test]
-fn operations_wait_and_are_released(rt: HostRuntime) -> Result<(), Fail> {
-    assert_eq!(rt; fault_among(rt.alloc(), WAITING)?, None);
-    Ok(())
-}
-
 const LATER: &[Table] = &[Both(7, replicas::LATER), One(0, replicas::STEM_GROWS)];
-
-#[test]
-fn later_operations_are_refused(rt: HostRuntime) -> Result<(), Fail> {
-    assert_eq!(rt; fault_among(rt.alloc(), LATER)?, None);
-    Ok(())
-}
 
 const MADE: &[Table] = &[One(0, replicas::MADE)];
 
-#[test]
-fn operations_are_made_and_replayed(rt: HostRuntime) -> Result<(), Fail> {
-    assert_eq!(rt; fault_among(rt.alloc(), MADE)?, None);
-    Ok(())
-}
-
 const LEAVING: &[Table] = &[One(0, replicas::LEAVING)];
-
-#[test]
-fn members_leave(rt: HostRuntime) -> Result<(), Fail> {
-    assert_eq!(rt; fault_among(rt.alloc(), LEAVING)?, None);
-    Ok(())
-}
 
 const EDITS: &[Table] = &[
     One(0, replicas::ACKNOWLEDGED),
     One(0, replicas::REFUSED_EDITS),
 ];
 
-#[test]
-fn acknowledgements_count_and_edits_are_refused(rt: HostRuntime) -> Result<(), Fail> {
-    assert_eq!(rt; fault_among(rt.alloc(), EDITS)?, None);
-    Ok(())
-}
-
 const ASKED: &[Table] = &[
     AfterHello(replicas::FOR_MEMBERS),
     Both(8, replicas::FOR_A_GROUP),
     AfterHello(replicas::ASKED),
 ];
-
-#[test]
-fn replicas_tell_of_themselves_and_send(rt: HostRuntime) -> Result<(), Fail> {
-    assert_eq!(rt; fault_among(rt.alloc(), ASKED)?, None);
-    Ok(())
-}
 
 const PATHS: &[Table] = &[
     AfterHello(paths::BY_BOTH),
@@ -112,40 +67,65 @@ const PATHS: &[Table] = &[
     One(1, paths::RELEASED),
 ];
 
-#[test]
-fn memory_suffices(rt: HostRuntime) -> Result<(), Fail> {
-    assert_eq!(rt; fault_among(rt.alloc(), PATHS)?, None);
-    Ok(())
-}
-
 const THREES: &[Table] = &[Third(threes::RELEASED), Third(threes::SHAPES)];
-
-#[test]
-fn each_kind_waits_in_a_group_of_three(rt: HostRuntime) -> Result<(), Fail> {
-    assert_eq!(rt; fault_among(rt.alloc(), THREES)?, None);
-    Ok(())
-}
 
 const ARRIVING: &[Table] = &[Third(threes::ARRIVING)];
 
-#[test]
-fn operations_arrive(rt: HostRuntime) -> Result<(), Fail> {
-    assert_eq!(rt; fault_among(rt.alloc(), ARRIVING)?, None);
-    Ok(())
-}
-
 const BY_OTHERS: &[Table] = &[Third(gone::BY_OTHER_DELETIONS)];
-
-#[test]
-fn targets_are_known_by_other_deletions(rt: HostRuntime) -> Result<(), Fail> {
-    assert_eq!(rt; fault_among(rt.alloc(), BY_OTHERS)?, None);
-    Ok(())
-}
 
 const AFTER_OTHERS: &[Table] = &[Third(gone::AFTER_OTHER_CHANGES)];
 
 #[test]
+fn operations_wait_and_are_released(rt: HostRuntime) -> Result<(), Fail> {
+    all_go_within(WAITING, |table| fault_in(rt.alloc(), table))
+}
+
+#[test]
+fn later_operations_are_refused(rt: HostRuntime) -> Result<(), Fail> {
+    all_go_within(LATER, |table| fault_in(rt.alloc(), table))
+}
+
+#[test]
+fn operations_are_made_and_replayed(rt: HostRuntime) -> Result<(), Fail> {
+    all_go_within(MADE, |table| fault_in(rt.alloc(), table))
+}
+
+#[test]
+fn members_leave(rt: HostRuntime) -> Result<(), Fail> {
+    all_go_within(LEAVING, |table| fault_in(rt.alloc(), table))
+}
+
+#[test]
+fn acknowledgements_count_and_edits_are_refused(rt: HostRuntime) -> Result<(), Fail> {
+    all_go_within(EDITS, |table| fault_in(rt.alloc(), table))
+}
+
+#[test]
+fn replicas_tell_of_themselves_and_send(rt: HostRuntime) -> Result<(), Fail> {
+    all_go_within(ASKED, |table| fault_in(rt.alloc(), table))
+}
+
+#[test]
+fn memory_suffices(rt: HostRuntime) -> Result<(), Fail> {
+    all_go_within(PATHS, |table| fault_in(rt.alloc(), table))
+}
+
+#[test]
+fn each_kind_waits_in_a_group_of_three(rt: HostRuntime) -> Result<(), Fail> {
+    all_go_within(THREES, |table| fault_in(rt.alloc(), table))
+}
+
+#[test]
+fn operations_arrive(rt: HostRuntime) -> Result<(), Fail> {
+    all_go_within(ARRIVING, |table| fault_in(rt.alloc(), table))
+}
+
+#[test]
+fn targets_are_known_by_other_deletions(rt: HostRuntime) -> Result<(), Fail> {
+    all_go_within(BY_OTHERS, |table| fault_in(rt.alloc(), table))
+}
+
+#[test]
 fn targets_are_known_after_other_changes(rt: HostRuntime) -> Result<(), Fail> {
-    assert_eq!(rt; fault_among(rt.alloc(), AFTER_OTHERS)?, None);
-    Ok(())
+    all_go_within(AFTER_OTHERS, |table| fault_in(rt.alloc(), table))
 }

@@ -4,7 +4,7 @@ use rls_session::serve;
 use std::alloc::{AllocError, Global};
 use std::test::Fail;
 use test_steps::bytes::{HELLO_FILE, bytes};
-use test_steps::rows::cut;
+use test_steps::rows::{all_go, cut, first_fault};
 
 /// Member 0 of 2 in group 7 after its insertion of `hello`.
 const TYPED: &str =
@@ -112,12 +112,7 @@ fn goes(alloc: Global, file: &[u8], step: usize, row: &'static str) -> Result<bo
 
 /// The first row that goes otherwise than it has to, if a read brings at most this many bytes.
 fn other_row(alloc: Global, file: &[u8], step: usize) -> Result<Option<usize>, Fail> {
-    for (i, row) in ROWS.iter().enumerate() {
-        if !goes(alloc, file, step, row)? {
-            return Ok(Some(i));
-        }
-    }
-    Ok(None)
+    first_fault(ROWS, |row| goes(alloc, file, step, row))
 }
 
 /// The same over the file after `hello`.
@@ -195,20 +190,9 @@ fn is_answered(alloc: Global, exchange: &Exchange) -> Result<bool, Fail> {
     Ok(writes(alloc, &file, *step, input, output)?)
 }
 
-/// The first row with another output.
-fn other_exchange(alloc: Global) -> Result<Option<usize>, Fail> {
-    for (i, exchange) in EXCHANGES.iter().enumerate() {
-        if !is_answered(alloc, exchange)? {
-            return Ok(Some(i));
-        }
-    }
-    Ok(None)
-}
-
 #[test]
 fn messages_come_and_go(rt: HostRuntime) -> Result<(), Fail> {
-    assert_eq!(rt; other_exchange(rt.alloc())?, None);
-    Ok(())
+    all_go(EXCHANGES, |exchange| is_answered(rt.alloc(), exchange))
 }
 
 /// Each row: how many bytes a read brings at most, which calls of the keeper, the input and the output fail, the status, the output,
@@ -265,7 +249,7 @@ fn fault_line(status: u8) -> &'static [u8] {
 }
 
 /// Whether a row goes as it has to over this file.
-fn fails(alloc: Global, file: &[u8], row: &Fault<'_>) -> Result<bool, AllocError> {
+fn fails(alloc: Global, file: &[u8], row: &Fault<'_>) -> Result<bool, Fail> {
     let (step, failing, due, output, is_other) = row;
     let mut devices = devices_of(alloc, Some(file), b"i 0 A\nt\n", *step, *failing)?;
     let status = devices.hold(alloc);
@@ -273,26 +257,15 @@ fn fails(alloc: Global, file: &[u8], row: &Fault<'_>) -> Result<bool, AllocError
     Ok(status == *due && is_kept && devices.wrote(output, fault_line(*due)))
 }
 
-/// The first row that goes otherwise than it has to.
-fn other_fault(alloc: Global, file: &[u8]) -> Result<Option<usize>, AllocError> {
-    for (i, row) in FAULTS.iter().enumerate() {
-        if !fails(alloc, file, row)? {
-            return Ok(Some(i));
-        }
-    }
-    Ok(None)
-}
-
-/// The same over the file after `hello`.
-fn fault_of_devices(alloc: Global) -> Result<Option<usize>, Fail> {
+/// Whether all rows go as they have to over the file after `hello`.
+fn all_fail(alloc: Global) -> Result<(), Fail> {
     let file = bytes(alloc, TYPED)?;
-    Ok(other_fault(alloc, &file)?)
+    all_go(FAULTS, |row| fails(alloc, &file, row))
 }
 
 #[test]
 fn devices_fail(rt: HostRuntime) -> Result<(), Fail> {
-    assert_eq!(rt; fault_of_devices(rt.alloc())?, None);
-    Ok(())
+    all_fail(rt.alloc())
 }
 
 /// Each row: a file, and the status and the errors of a session over it, and how many bytes are kept.
@@ -330,20 +303,9 @@ fn ends_so(alloc: Global, ending: &Ending) -> Result<bool, Fail> {
     Ok(ends(alloc, Some(&file), *due, errors, *kept)?)
 }
 
-/// The first row that ends otherwise.
-fn other_ending(alloc: Global) -> Result<Option<usize>, Fail> {
-    for (i, ending) in ENDINGS.iter().enumerate() {
-        if !ends_so(alloc, ending)? {
-            return Ok(Some(i));
-        }
-    }
-    Ok(None)
-}
-
 #[test]
 fn sessions_end(rt: HostRuntime) -> Result<(), Fail> {
-    assert_eq!(rt; other_ending(rt.alloc())?, None);
-    Ok(())
+    all_go(ENDINGS, |ending| ends_so(rt.alloc(), ending))
 }
 
 #[test]

@@ -1,6 +1,7 @@
 //! Replicas that are led from step to step: what is done, and what has to come of it.
 
 use crate::answers::{edited, made, received, released, sent, taken, tally};
+use crate::rows::first_fault;
 use crate::told::{Told, op_of};
 use rls_ident::Vector;
 use rls_model::{Edit, Taken};
@@ -367,12 +368,7 @@ fn turns(
 
 /// The first row that goes otherwise than it has to.
 fn fault_among(alloc: Global, replica: &mut Replica, rows: &[Row]) -> Result<Option<usize>, Fail> {
-    for (i, row) in rows.iter().enumerate() {
-        if !goes(alloc, replica, row)? {
-            return Ok(Some(i));
-        }
-    }
-    Ok(None)
+    first_fault(rows, |row| goes(alloc, replica, row))
 }
 
 /// The first turn that goes otherwise than it has to.
@@ -382,12 +378,7 @@ fn fault_between(
     second: &mut Replica,
     all: &[Turn],
 ) -> Result<Option<usize>, Fail> {
-    for (i, turn) in all.iter().enumerate() {
-        if !turns(alloc, first, second, turn)? {
-            return Ok(Some(i));
-        }
-    }
-    Ok(None)
+    first_fault(all, |turn| turns(alloc, first, second, turn))
 }
 
 /// Leads a fresh one of this many members in group 7 through the rows.

@@ -1,7 +1,7 @@
 //! Worlds of members that are led from event to event.
 
 use crate::answers::tally;
-use crate::rows::{change_of, cut, number, word};
+use crate::rows::{change_of, cut, first_fault, number, word};
 use crate::steps::{Change, edit_of};
 use rls_model::{Event, Outcome, StepError};
 use rls_replica::Replica;
@@ -225,12 +225,7 @@ fn fault(
     rows: &[Row],
     dropping: bool,
 ) -> Result<Option<usize>, Fail> {
-    for (i, row) in rows.iter().enumerate() {
-        if !goes(alloc, world, *row, dropping)? {
-            return Ok(Some(i));
-        }
-    }
-    Ok(None)
+    first_fault(rows, |row| goes(alloc, world, *row, dropping))
 }
 
 /// Leads a world of group 7 through the rows.

@@ -44,60 +44,109 @@ fn shown(alloc: Global, world: &World, member: u32) -> Result<String, Fail> {
     Ok(format!(in alloc; "{ids}{text}")?)
 }
 
-/// Each member makes a message for each other one, and then all are taken, the last first. The first has this number.
-fn exchange(alloc: Global, world: &mut World, first: u64) -> Result<bool, Fail> {
-    let sent = [(0, 1), (0, 2), (1, 0), (1, 2), (2, 0), (2, 1)];
-    for (from, to) in &sent {
-        if !goes_well(
-            world,
-            &Event::Send {
-                from: *from,
-                to: *to,
-            },
-        ) {
-            return Ok(false);
+/// What the members do with the page.
+const DAY: &[Happening] = &[
+    Happening::Edit(0, Change::Rename),
+    Happening::Send(0, 1),
+    Happening::Send(0, 2),
+    Happening::Deliver(0, 1),
+    Happening::Deliver(1, 2),
+    Happening::Edit(1, Change::Insert(1_000, "in the middle")),
+    Happening::Edit(1, Change::Delete(10, 20)),
+    Happening::Edit(1, Change::Rename),
+    Happening::Edit(2, Change::Insert(1_000, "there too")),
+    Happening::Edit(2, Change::Delete(15, 30)),
+    Happening::Edit(2, Change::Rename),
+    Happening::Edit(0, Change::Delete(0, 12)),
+];
+
+/// The messages of an exchange: each member makes one for each other one.
+const MESSAGES: [(u32, u32); 6] = [(0, 1), (0, 2), (1, 0), (1, 2), (2, 0), (2, 1)];
+
+/// Whether all messages of an exchange are made.
+fn are_sent(world: &mut World) -> bool {
+    for (from, to) in MESSAGES {
+        if !goes_well(world, &Event::Send { from, to }) {
+            return false;
         }
     }
-    for (i, (_, to)) in sent.iter().enumerate().rev() {
+    true
+}
+
+/// Whether they are all taken, the last first. The first one has this number.
+fn are_delivered(world: &mut World, first: u64) -> bool {
+    for (i, (_, to)) in MESSAGES.iter().enumerate().rev() {
         let message = first.saturating_add(i as u64);
         if !goes_well(world, &Event::Deliver { message, to: *to }) {
-            return Ok(false);
+            return false;
         }
     }
-    all_go_well(
-        alloc,
-        world,
-        &[Happening::Drop(0), Happening::Drop(1), Happening::Drop(2)],
-    )
+    true
+}
+
+/// Whether all members drop what is stable.
+fn drop_stable(world: &mut World) -> bool {
+    for member in 0..3 {
+        if !goes_well(world, &Event::Drop { member }) {
+            return false;
+        }
+    }
+    true
+}
+
+/// Whether an exchange goes well, after which all members drop what is stable.
+fn exchange(world: &mut World, first: u64) -> bool {
+    are_sent(world) && are_delivered(world, first) && drop_stable(world)
+}
+
+/// Whether member 0 inserts the page.
+fn inserts_page(alloc: Global, world: &mut World) -> Result<bool, AllocError> {
+    let edit = page(alloc)?;
+    Ok(goes_well(world, &Event::Edit { member: 0, edit }))
+}
+
+/// Whether the whole day goes well.
+fn day_goes_well(alloc: Global, world: &mut World) -> Result<bool, Fail> {
+    let is_begun = inserts_page(alloc, world)?;
+    let is_done = all_go_well(alloc, world, DAY)?;
+    Ok(is_begun && is_done && exchange(world, 2) && exchange(world, 8))
+}
+
+/// Whether two members show the same.
+fn show_the_same(alloc: Global, world: &World, one: u32, other: u32) -> Result<bool, Fail> {
+    let expected = shown(alloc, world, one)?;
+    Ok(shown(alloc, world, other)? == expected)
+}
+
+/// Whether all three members show the same.
+fn all_show_the_same(alloc: Global, world: &World) -> Result<bool, Fail> {
+    Ok(show_the_same(alloc, world, 0, 1)? && show_the_same(alloc, world, 0, 2)?)
+}
+
+/// How many operations, epochs and former identifiers a member keeps.
+type Kept = (u64, u64, u64);
+
+/// How much member 0 keeps.
+fn kept(world: &World) -> Result<Kept, Fail> {
+    let kept = replica(world, 0)?.kept();
+    Ok((kept.operations, kept.epochs, kept.former))
+}
+
+/// Whether the day goes well and all show the same afterwards, and how much member 0 keeps then.
+fn end_of_day(alloc: Global, world: &mut World) -> Result<(bool, bool, Kept), Fail> {
+    let goes_well = day_goes_well(alloc, world)?;
+    let is_same = all_show_the_same(alloc, world)?;
+    Ok((goes_well, is_same, kept(world)?))
+}
+
+/// The same of a fresh world.
+fn end_of_three(alloc: Global) -> Result<(bool, bool, Kept), Fail> {
+    let mut world = World::new(alloc, 7, 3)?;
+    end_of_day(alloc, &mut world)
 }
 
 #[test]
 fn a_day_of_three(rt: HostRuntime) -> Result<(), Fail> {
-    let alloc = rt.alloc();
-    let mut world = World::new(alloc, 7, 3)?;
-    let edit = page(alloc)?;
-    assert!(rt; goes_well(&mut world, &Event::Edit { member: 0, edit }));
-    let day: &[Happening] = &[
-        Happening::Edit(0, Change::Rename),
-        Happening::Send(0, 1),
-        Happening::Send(0, 2),
-        Happening::Deliver(0, 1),
-        Happening::Deliver(1, 2),
-        Happening::Edit(1, Change::Insert(1_000, "in the middle")),
-        Happening::Edit(1, Change::Delete(10, 20)),
-        Happening::Edit(1, Change::Rename),
-        Happening::Edit(2, Change::Insert(1_000, "there too")),
-        Happening::Edit(2, Change::Delete(15, 30)),
-        Happening::Edit(2, Change::Rename),
-        Happening::Edit(0, Change::Delete(0, 12)),
-    ];
-    assert!(rt; all_go_well(alloc, &mut world, day)?);
-    assert!(rt; exchange(alloc, &mut world, 2)?);
-    assert!(rt; exchange(alloc, &mut world, 8)?);
-    let first = shown(alloc, &world, 0)?;
-    assert!(rt; shown(alloc, &world, 1)? == first);
-    assert!(rt; shown(alloc, &world, 2)? == first);
-    let kept = replica(&world, 0)?.kept();
-    assert_eq!(rt; (kept.operations, kept.epochs, kept.former), (0, 1, 0));
+    assert_eq!(rt; end_of_three(rt.alloc())?, (true, true, (0, 1, 0)));
     Ok(())
 }

@@ -1,6 +1,8 @@
 //! Worlds of members that are led from event to event.
 
+use std::alloc::Global;
 use std::test::Fail;
+use test_steps::rows::{all_go, all_go_within};
 use test_steps::worlds::{Row, all_list, fault_among, fault_with_drops};
 
 const AN_INSERTION_MEETS_A_RENAME: &[Row] = &[
@@ -127,17 +129,20 @@ const TABLES: &[(u32, &[Row])] = &[
     (3, A_TARGET_IS_KNOWN_THROUGH_A_DELETION_OF_ANOTHER_EPOCH),
 ];
 
+/// The first row that goes otherwise than it has to without drops, or with them.
+fn fault_either_way(alloc: Global, members: u32, rows: &[Row]) -> Result<Option<usize>, Fail> {
+    match fault_among(alloc, members, rows)? {
+        None => fault_with_drops(alloc, members, rows),
+        Some(row) => Ok(Some(row)),
+    }
+}
+
 #[test]
 fn events_are_answered(rt: HostRuntime) -> Result<(), Fail> {
-    for (i, (members, rows)) in TABLES.iter().enumerate() {
-        assert_eq!(rt; fault_among(rt.alloc(), *members, rows)?, None, "table {i}");
-        assert_eq!(rt;
-            fault_with_drops(rt.alloc(), *members, rows)?,
-            None,
-            "table {i}"
-        );
-    }
-    Ok(())
+    all_go_within(
+        TABLES,
+        |(members, rows)| fault_either_way(rt.alloc(), *members, rows),
+    )
 }
 
 /// Tables after which all members list the same identifiers, and these.
@@ -156,8 +161,8 @@ const LISTS: &[(u32, &[Row], &str)] = &[
 
 #[test]
 fn all_list_the_same(rt: HostRuntime) -> Result<(), Fail> {
-    for (i, (members, rows, ids)) in LISTS.iter().enumerate() {
-        assert!(rt; all_list(rt.alloc(), *members, rows, ids)?, "table {i}");
-    }
-    Ok(())
+    all_go(
+        LISTS,
+        |(members, rows, ids)| all_list(rt.alloc(), *members, rows, ids),
+    )
 }

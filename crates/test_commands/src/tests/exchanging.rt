@@ -1,8 +1,8 @@
 //! Messages between members.
 
+use super::scenes::Scene::{Does, Edits, Repeats, Sends, Shows, Takes, Tells, Writes};
+use super::scenes::{APPLIED, REFUSED, Scene, TOOK_NONE, Table, play};
 use crate::members::EDITED;
-use crate::scenes::Scene::{Does, Edits, Repeats, Sends, Shows, Takes, Tells, Writes};
-use crate::scenes::{APPLIED, REFUSED, Scene, TOOK_NONE, Table, fault};
 use std::test::Fail;
 use test_steps::bytes::{EMPTY_MESSAGE, HELLO_MESSAGE};
 
@@ -33,26 +33,20 @@ const MESSAGES: &[Scene] = &[
 ];
 
 /// The message of 81 bytes in form 1.
+const HELLO_IN_FORM_1: &str =
+    "524c534d 01 0000000000000007 00000002 00000000 00000001 00000000 00000001 00000000 00000001 00000000 00000000 00 00 00000001 01 7fffffff 00000000 00000001 00000000 00000005 68656c6c6f";
+
+/// The same in form 2.
+const HELLO_IN_FORM_2: &str =
+    "524c534d 02 0000000000000007 00000002 00000000 00000001 00000000 00000001 00000000 00000001 00000000 00000000 00 00 00000001 01 7fffffff 00000000 00000001 00000000 00000005 68656c6c6f";
+
 const IN_FORM_1: &[Scene] = &[
-    Takes(
-        1,
-        "524c534d 01 0000000000000007 00000002 00000000 00000001 00000000 00000001 00000000 00000001 00000000 00000000 00 00 00000001 01 7fffffff 00000000 00000001 00000000 00000005 68656c6c6f",
-        0,
-        APPLIED,
-        "",
-    ),
+    Takes(1, HELLO_IN_FORM_1, 0, APPLIED, ""),
     Writes(1, "text", "hello"),
 ];
 
-/// The same in form 2.
 const IN_FORM_2: &[Scene] = &[
-    Takes(
-        1,
-        "524c534d 02 0000000000000007 00000002 00000000 00000001 00000000 00000001 00000000 00000001 00000000 00000000 00 00 00000001 01 7fffffff 00000000 00000001 00000000 00000005 68656c6c6f",
-        0,
-        APPLIED,
-        "",
-    ),
+    Takes(1, HELLO_IN_FORM_2, 0, APPLIED, ""),
     Writes(1, "text", "hello"),
 ];
 
@@ -259,6 +253,5 @@ const TABLES: &[Table] = &[
 
 #[test]
 fn members_exchange_messages(rt: HostRuntime) -> Result<(), Fail> {
-    assert_eq!(rt; fault(rt.alloc(), TABLES)?, None);
-    Ok(())
+    play(rt.alloc(), TABLES)
 }

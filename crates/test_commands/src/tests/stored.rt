@@ -1,6 +1,6 @@
 //! The files that commands read and store, byte by byte, in all forms.
 
-use crate::files::{
+use super::files::{
     ALONE, CUT, FRESH_2, FRESH_3, FRESH_4, FRESH_SECOND, MARKED, SPENT_2, SPENT_4, TYPED_2,
     TYPED_3, TYPED_4, USED_MARK, keeps, member_with,
 };
@@ -8,6 +8,7 @@ use crate::members::{EDITED, Step};
 use std::alloc::Global;
 use std::test::Fail;
 use test_steps::bytes::{HELLO_FILE, bytes};
+use test_steps::rows::all_go;
 
 /// A member's file, if there is one, what the member does, and its file afterwards.
 type Row = (
@@ -46,6 +47,12 @@ const NO_NUMBERS: &[Step<'static>] = &[("edit", b"i 0 a\n", 6, "", "line 1: numb
 
 const USAGE: &str =
     "usage: new GROUP ME MEMBERS | edit | text | ids | stat | send TO | take | leave | trial SEED STEPS\n";
+
+const MAKES_FIRST: &[Step<'static>] = &[("new 7 0 2", b"", 0, "new 7 0 2\n", "")];
+
+const MAKES_SECOND: &[Step<'static>] = &[("new 7 1 2", b"", 0, "new 7 1 2\n", "")];
+
+const TYPES_HELLO: &[Step<'static>] = &[("edit", b"i 0 hello\n", 0, EDITED, "")];
 
 const ROWS: &[Row] = &[
     // Nothing is stored by a text that is shown, or can't be.
@@ -88,27 +95,15 @@ const ROWS: &[Row] = &[
     (Some(SPENT_2), NO_NUMBERS, Some(SPENT_2)),
     (Some(SPENT_4), NO_NUMBERS, Some(SPENT_4)),
     // Commands store the newest form, whatever form they read.
-    (
-        None,
-        &[("new 7 0 2", b"", 0, "new 7 0 2\n", "")],
-        Some(FRESH_4),
-    ),
-    (
-        None,
-        &[("new 7 1 2", b"", 0, "new 7 1 2\n", "")],
-        Some(FRESH_SECOND),
-    ),
-    (
-        Some(FRESH_4),
-        &[("edit", b"i 0 hello\n", 0, EDITED, "")],
-        Some(TYPED_4),
-    ),
+    (Some(FRESH_4), TYPES_HELLO, Some(TYPED_4)),
     (Some(HELLO_FILE), STORES_HELLO, Some(ALONE)),
     (Some(FRESH_2), STORES_NOTHING, Some(FRESH_4)),
     (Some(FRESH_3), STORES_NOTHING, Some(FRESH_4)),
     (Some(TYPED_2), STORES_HELLO, Some(TYPED_4)),
     (Some(TYPED_3), STORES_HELLO, Some(TYPED_4)),
     (Some(TYPED_4), STORES_HELLO, Some(TYPED_4)),
+    (None, MAKES_FIRST, Some(FRESH_4)),
+    (None, MAKES_SECOND, Some(FRESH_SECOND)),
 ];
 
 /// Whether a member does this, and has the file afterwards.
@@ -119,20 +114,9 @@ fn goes(alloc: Global, row: &Row) -> Result<bool, Fail> {
     Ok(fault.is_none() && keeps(alloc, &member, *after)?)
 }
 
-/// The first row that goes otherwise than it has to.
-fn fault_among(alloc: Global) -> Result<Option<usize>, Fail> {
-    for (i, row) in ROWS.iter().enumerate() {
-        if !goes(alloc, row)? {
-            return Ok(Some(i));
-        }
-    }
-    Ok(None)
-}
-
 #[test]
 fn files_are_read_and_stored(rt: HostRuntime) -> Result<(), Fail> {
-    assert_eq!(rt; fault_among(rt.alloc())?, None);
-    Ok(())
+    all_go(ROWS, |row| goes(rt.alloc(), row))
 }
 
 /// How many bytes a file has.
@@ -150,22 +134,11 @@ const LENGTHS: &[(&str, usize)] = &[
     (SPENT_4, 50),
 ];
 
-fn length_of(alloc: Global, digits: &str) -> Result<usize, Fail> {
-    Ok(bytes(alloc, digits)?.len())
-}
-
-/// The first file that has another length.
-fn other_length(alloc: Global) -> Result<Option<usize>, Fail> {
-    for (i, (digits, length)) in LENGTHS.iter().enumerate() {
-        if length_of(alloc, digits)? != *length {
-            return Ok(Some(i));
-        }
-    }
-    Ok(None)
+fn has_length(alloc: Global, (digits, length): &(&str, usize)) -> Result<bool, Fail> {
+    Ok(bytes(alloc, digits)?.len() == *length)
 }
 
 #[test]
 fn files_have_their_lengths(rt: HostRuntime) -> Result<(), Fail> {
-    assert_eq!(rt; other_length(rt.alloc())?, None);
-    Ok(())
+    all_go(LENGTHS, |row| has_length(rt.alloc(), row))
 }

@@ -1,10 +1,11 @@
 //! Devices that fail, call by call.
 
-use crate::files::{FRESH_SECOND, HELLO, keeps, member_with};
+use super::files::{FRESH_SECOND, HELLO, keeps, member_with};
 use crate::members::{Member, Step};
 use std::alloc::Global;
 use std::test::Fail;
 use test_steps::bytes::HELLO_FILE;
+use test_steps::rows::{all_go, all_go_within, first_fault};
 
 /// Calls of the keeper, of the input, of the output and of the errors that fail.
 type Failing = [&'static [u64]; 4];
@@ -79,12 +80,7 @@ fn is_told(alloc: Global, command: &Command, done: &Member, call: &Call) -> Resu
 
 /// The first call that isn't told.
 fn fault_among(alloc: Global, command: &Command, done: &Member) -> Result<Option<usize>, Fail> {
-    for (i, call) in CALLS.iter().enumerate() {
-        if !is_told(alloc, command, done, call)? {
-            return Ok(Some(i));
-        }
-    }
-    Ok(None)
+    first_fault(CALLS, |call| is_told(alloc, command, done, call))
 }
 
 /// The first call of a command that isn't told.
@@ -95,20 +91,9 @@ fn fault_of(alloc: Global, command: &Command) -> Result<Option<usize>, Fail> {
     fault_among(alloc, command, &done)
 }
 
-/// The first command with a call that isn't told, and the first such call.
-fn fault(alloc: Global) -> Result<Option<(usize, usize)>, Fail> {
-    for (i, command) in COMMANDS.iter().enumerate() {
-        if let Some(call) = fault_of(alloc, command)? {
-            return Ok(Some((i, call)));
-        }
-    }
-    Ok(None)
-}
-
 #[test]
 fn each_call_of_a_device_fails_in_turn(rt: HostRuntime) -> Result<(), Fail> {
-    assert_eq!(rt; fault(rt.alloc())?, None);
-    Ok(())
+    all_go_within(COMMANDS, |command| fault_of(rt.alloc(), command))
 }
 
 /// A member's file, if there is one, calls that fail, and a step, which leaves the file as it is.
@@ -148,18 +133,7 @@ fn goes(alloc: Global, case: &Case) -> Result<bool, Fail> {
     Ok(goes && keeps(alloc, &member, *file)?)
 }
 
-/// The first case that goes otherwise than it has to.
-fn other_case(alloc: Global) -> Result<Option<usize>, Fail> {
-    for (i, case) in CASES.iter().enumerate() {
-        if !goes(alloc, case)? {
-            return Ok(Some(i));
-        }
-    }
-    Ok(None)
-}
-
 #[test]
 fn commands_fail(rt: HostRuntime) -> Result<(), Fail> {
-    assert_eq!(rt; other_case(rt.alloc())?, None);
-    Ok(())
+    all_go(CASES, |case| goes(rt.alloc(), case))
 }

@@ -4,6 +4,7 @@ use crate::members::{Member, Step};
 use std::alloc::Global;
 use std::test::Fail;
 use test_steps::bytes::bytes;
+use test_steps::rows::{all_go_within, first_fault};
 
 /// What happens. Messages are written in hexadecimal digits.
 #[derive(Clone, Copy)]
@@ -151,12 +152,7 @@ fn goes(alloc: Global, group: &mut Group, scene: &Scene) -> Result<bool, Fail> {
 
 /// The first scene that goes otherwise than it has to.
 fn fault_among(alloc: Global, group: &mut Group, scenes: &[Scene]) -> Result<Option<usize>, Fail> {
-    for (i, scene) in scenes.iter().enumerate() {
-        if !goes(alloc, group, scene)? {
-            return Ok(Some(i));
-        }
-    }
-    Ok(None)
+    first_fault(scenes, |scene| goes(alloc, group, scene))
 }
 
 /// The same of the scenes after a beginning, which has to go as it says.
@@ -178,12 +174,7 @@ fn fault_in(alloc: Global, table: &Table) -> Result<Option<usize>, Fail> {
     fault_after(alloc, &mut group, table)
 }
 
-/// The first table in which a scene goes otherwise than it has to, and the first such scene.
-pub fn fault(alloc: Global, tables: &[Table]) -> Result<Option<(usize, usize)>, Fail> {
-    for (i, table) in tables.iter().enumerate() {
-        if let Some(scene) = fault_in(alloc, table)? {
-            return Ok(Some((i, scene)));
-        }
-    }
-    Ok(None)
+/// Plays the tables, and fails if a scene goes otherwise than it has to.
+pub fn play(alloc: Global, tables: &[Table]) -> Result<(), Fail> {
+    all_go_within(tables, |table| fault_in(alloc, table))
 }

@@ -6,6 +6,7 @@ use rls_journal::{DiskKeeper, MemoryDisk};
 use std::alloc::{AllocError, Global};
 use std::test::Fail;
 use test_steps::bytes::{HELLO_FILE, bytes};
+use test_steps::rows::{all_go, first_fault};
 
 /// A keeper over an empty disk, of which the calls with these numbers fail.
 fn empty(alloc: Global, failing: &[u64]) -> Result<DiskKeeper<MemoryDisk>, AllocError> {
@@ -26,12 +27,7 @@ fn fault_among(
     keeper: &mut DiskKeeper<MemoryDisk>,
     steps: &[Step<'_>],
 ) -> Result<Option<usize>, Fail> {
-    for (i, step) in steps.iter().enumerate() {
-        if !goes(alloc, keeper, step)? {
-            return Ok(Some(i));
-        }
-    }
-    Ok(None)
+    first_fault(steps, |step| goes(alloc, keeper, step))
 }
 
 /// The same over an empty disk.
@@ -89,21 +85,30 @@ fn status_of_new(alloc: Global, failing: u64) -> Result<u8, Fail> {
     Ok(answer_over(alloc, &mut keeper, "new 7 0 2", b"", [&[]; 3])?.status)
 }
 
-/// The first call after which the status is another one. Over an empty disk `new` loads by two calls of the device and stores by ten.
-fn other_status(alloc: Global) -> Result<Option<u64>, Fail> {
-    for failing in 0..14u64 {
-        let due = if failing < 12 { 7 } else { 0 };
-        if status_of_new(alloc, failing)? != due {
-            return Ok(Some(failing));
-        }
-    }
-    Ok(None)
-}
+/// The status of `new` over an empty disk, of which each call fails in turn: it loads by two calls of the device and stores by ten.
+const STATUSES: &[(u64, u8)] = &[
+    (0, 7),
+    (1, 7),
+    (2, 7),
+    (3, 7),
+    (4, 7),
+    (5, 7),
+    (6, 7),
+    (7, 7),
+    (8, 7),
+    (9, 7),
+    (10, 7),
+    (11, 7),
+    (12, 0),
+    (13, 0),
+];
 
 #[test]
 fn each_call_of_a_disk_fails_in_turn(rt: HostRuntime) -> Result<(), Fail> {
-    assert_eq!(rt; other_status(rt.alloc())?, None);
-    Ok(())
+    all_go(
+        STATUSES,
+        |(failing, due)| Ok(status_of_new(rt.alloc(), *failing)? == *due),
+    )
 }
 
 /// Whether the keeper finds these bytes.
@@ -123,19 +128,23 @@ fn fails_to_store(alloc: Global, failing: u64, kept: &[u8]) -> Result<bool, Fail
     Ok(stored == Err(StoreError::Failed) && finds(alloc, &mut keeper, kept)?)
 }
 
-/// The first call after which another file is kept.
-fn other_file(alloc: Global) -> Result<Option<u64>, Fail> {
-    for failing in 0..9u64 {
-        let kept: &[u8] = if failing < 8 { b"old!" } else { b"new" };
-        if !fails_to_store(alloc, failing, kept)? {
-            return Ok(Some(failing));
-        }
-    }
-    Ok(None)
-}
+/// What is kept after a store of which each call fails in turn.
+const KEPT: &[(u64, &[u8])] = &[
+    (0, b"old!"),
+    (1, b"old!"),
+    (2, b"old!"),
+    (3, b"old!"),
+    (4, b"old!"),
+    (5, b"old!"),
+    (6, b"old!"),
+    (7, b"old!"),
+    (8, b"new"),
+];
 
 #[test]
 fn each_call_of_a_store_fails_in_turn(rt: HostRuntime) -> Result<(), Fail> {
-    assert_eq!(rt; other_file(rt.alloc())?, None);
-    Ok(())
+    all_go(
+        KEPT,
+        |(failing, kept)| fails_to_store(rt.alloc(), *failing, kept),
+    )
 }

@@ -23,6 +23,7 @@ enum End {
 }
 
 use End::{Keeps, Leaves, Refused};
+use test_steps::rows::all_go_within;
 
 /// The text that is put in, where a cluster is to end in it, and what comes of this.
 type Case = (Pieces, &'static str, End);
@@ -163,20 +164,9 @@ fn fault_of(alloc: Global, case: &Case) -> Result<Option<usize>, Fail> {
     }
 }
 
-/// The first case in which a step goes otherwise than it has to, and that step.
-fn fault_among(alloc: Global) -> Result<Option<(usize, usize)>, Fail> {
-    for (i, case) in CASES.iter().enumerate() {
-        if let Some(step) = fault_of(alloc, case)? {
-            return Ok(Some((i, step)));
-        }
-    }
-    Ok(None)
-}
-
 #[test]
 fn long_clusters(rt: HostRuntime) -> Result<(), Fail> {
-    assert_eq!(rt; fault_among(rt.alloc())?, None);
-    Ok(())
+    all_go_within(CASES, |case| fault_of(rt.alloc(), case))
 }
 
 #[test]
