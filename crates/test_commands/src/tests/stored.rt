@@ -114,9 +114,20 @@ fn goes(alloc: Global, row: &Row) -> Result<bool, Fail> {
     Ok(fault.is_none() && keeps(alloc, &member, *after)?)
 }
 
+/// The first row that goes otherwise than it has to. (No closure takes a row: its type has two lifetimes.)
+fn first_fault(alloc: Global) -> Result<Option<usize>, Fail> {
+    for (i, row) in ROWS.iter().enumerate() {
+        if !goes(alloc, row)? {
+            return Ok(Some(i));
+        }
+    }
+    Ok(None)
+}
+
 #[test]
 fn files_are_read_and_stored(rt: HostRuntime) -> Result<(), Fail> {
-    all_go(ROWS, |row| goes(rt.alloc(), row))
+    assert_eq!(rt; first_fault(rt.alloc())?, None);
+    Ok(())
 }
 
 /// How many bytes a file has.
