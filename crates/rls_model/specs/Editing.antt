@@ -1,85 +1,13 @@
 -- The operation that an edit makes, and why an edit is refused.
-use Rattle.std.specs.Prelude.{ℕ, zero, suc, ◌+◌, pos, ◌+ℤ◌, ◌-ℤ◌, Bool, true, false, ◌&&◌, List, [], length, take, drop, ◌==◌, nat_lt, slice_get, Option, Some, None, if◌then◌else◌}
-use Rattle.std.specs.Int.RustNames.{int_le}
-use Rattle.std.specs.Ordering.{int_eq}
-use Rattle.rls_ident.specs.declared.limits.TheConstants.{CHARACTERS, IDENTIFIERS, OPERATION_BYTES, GREATEST_NUMBER}
-use Rattle.rls_ident.specs.declared.tuple.Tuple.{Tuple}
-use Rattle.rls_ident.specs.Tuples.{replica_of, seq_of, offset_of}
-use Rattle.rls_ident.specs.Identifiers.{ident_lt, last_of, shifted, least_offset, greatest_offset}
-use Rattle.rls_ident.specs.Between.{between}
+use Rattle.std.specs.Prelude.{ℕ, ◌+◌, Option}
 use Rattle.rls_ops.specs.declared.op.Op.{Op}
 use Rattle.rls_ops.specs.declared.op.Body.{Body}
-use Rattle.rls_ops.specs.declared.op.Body.TheVariants.{Insert, Delete, Rename, Leave}
-use Rattle.rls_ops.specs.Sizes.{op_size}
 use Rattle.rls_model.specs.declared.edit.Edit.{Edit}
-use Rattle.rls_model.specs.declared.edit.Edit.TheVariants as edits
 use Rattle.rls_model.specs.declared.edit.EditError.{EditError}
-use Rattle.rls_model.specs.declared.edit.EditError.TheVariants.{Left, EmptyEdit, Range, EmptyDocument, TooManyChars, NumbersSpent, OpTooLarge}
-use Rattle.rls_model.specs.declared.parts.Stem.{Stem}
-use Rattle.rls_model.specs.History.{History, me_of, count, count_of, has_left}
-use Rattle.rls_model.specs.Stems.{stems, stem_of}
-use Rattle.rls_model.specs.Epochs.{greatest}
-use Rattle.rls_model.specs.Document.{idents}
-
--- ---- the first identifier of an insertion
-
--- the member's own stem that the tuple belongs to
-abbrev pub own_stem : List Stem → ℕ → Tuple → Option Stem
-own_stem ss me t = if replica_of t == me then stem_of ss me (seq_of t) else None
-
--- x is less than the right neighbour, where there is one
-abbrev pub ends_below : List Tuple → Option (List Tuple) → Bool
-ends_below x None = true
-ends_below x (Some right) = ident_lt x right
-
--- the left neighbour is less than x, where there is one
-abbrev pub begins_above : Option (List Tuple) → List Tuple → Bool
-begins_above None x = true
-begins_above (Some left) x = ident_lt left x
-
--- n characters may follow the left neighbour in this stem: it stands at the stem's end, and they have room up to the right one
-abbrev pub may_append : Option Stem → List Tuple → Option (List Tuple) → ℕ → Bool
-may_append None left right n = false
-may_append (Some stem) left right n =
-    int_eq (offset_of (last_of left) +ℤ pos 1) (pos stem.next)
-    && int_le (offset_of (last_of left) +ℤ pos n) greatest_offset
-    && ends_below (shifted (pos n) left) right
-
--- n characters may stand before the right neighbour in this stem: it stands at the stem's low, and they have room down to the left one
-abbrev pub may_prepend : Option Stem → Option (List Tuple) → List Tuple → ℕ → Bool
-may_prepend None left right n = false
-may_prepend (Some stem) left right n =
-    int_eq (offset_of (last_of right)) stem.low
-    && int_le least_offset (offset_of (last_of right) -ℤ pos n)
-    && begins_above left (shifted (pos 0 -ℤ pos n) right)
-
--- the identifier, or no tuple where the bound is missing
-abbrev pub or_missing : Option (List Tuple) → List Tuple
-or_missing None = []
-or_missing (Some x) = x
-
--- where nothing may be appended: before the right neighbour, or between the two
-abbrev pub first_before : List Stem → ℕ → ℕ → Option (List Tuple) → Option (List Tuple) → ℕ → List Tuple
-first_before ss me seq left None n = between (or_missing left) [] me seq
-first_before ss me seq left (Some right) n =
-    if may_prepend (own_stem ss me (last_of right)) left right n
-    then shifted (pos 0 -ℤ pos n) right
-    else between (or_missing left) right me seq
-
--- the first identifier of an insertion of n characters between these neighbours, by the member's operation of this number
-abbrev pub first_between : List Stem → ℕ → ℕ → Option (List Tuple) → Option (List Tuple) → ℕ → List Tuple
-first_between ss me seq None right n = first_before ss me seq None right n
-first_between ss me seq (Some left) right n =
-    if may_append (own_stem ss me (last_of left)) left right n
-    then shifted (pos 1) left
-    else first_before ss me seq (Some left) right n
-
--- ---- the operation
-
--- the identifier before the place, where there is one
-abbrev pub get_before : List (List Tuple) → ℕ → Option (List Tuple)
-get_before xs zero = None
-get_before xs (suc k) = slice_get xs k
+use Rattle.rls_model.specs.History.{History, me_of, count_of}
+pub use Rattle.rls_model.specs.EditParts.{own_stem, ends_below, begins_above, may_append, may_prepend, or_missing, first_before, first_between, get_before, range_fault, or_fault, size_fault}
+use Rattle.rls_model.specs.View.{plain_of}
+use Rattle.rls_model.specs.Rules as rules
 
 -- the number of the own operation that comes next
 abbrev pub next_seq : History → ℕ
@@ -87,55 +15,16 @@ next_seq H = count_of H (me_of H) + 1
 
 -- what the edit does, with identifiers of the greatest epoch
 abbrev pub made_body : History → Edit → Body
-made_body H (edits.Insert at text) =
-    Insert (first_between (stems H) (me_of H) (next_seq H) (get_before (idents H) at) (slice_get (idents H) at) (length text)) text
-made_body H (edits.Delete at n) = Delete (take n (drop at (idents H)))
-made_body H edits.Rename = Rename (idents H)
-made_body H edits.Leave = Leave
+made_body H = rules.made_body (plain_of H)
 
 -- the operation that the edit makes
 unfoldable pub made : History → Edit → Op
-made H edit = record {
-  author = me_of H;
-  seq = next_seq H;
-  context = count H;
-  epoch = greatest H;
-  body = made_body H edit;
-}
-
--- ---- refused edits
-
--- the first fault that is seen by the edit and the number of characters
-abbrev pub range_fault : ℕ → Edit → Option EditError
-range_fault total (edits.Insert at text) =
-    if length text == 0 then Some EmptyEdit
-    else if nat_lt total at then Some (Range at total)
-    else if nat_lt CHARACTERS (length text) then Some (TooManyChars (length text))
-    else None
-range_fault total (edits.Delete at n) =
-    if n == 0 then Some EmptyEdit
-    else if nat_lt total (at + n) then Some (Range at total)
-    else if nat_lt IDENTIFIERS n then Some (TooManyChars n)
-    else None
-range_fault total edits.Rename =
-    if total == 0 then Some EmptyDocument
-    else if nat_lt IDENTIFIERS total then Some (TooManyChars total)
-    else None
-range_fault total edits.Leave = None
-
--- the first of two faults
-abbrev pub or_fault : Option EditError → Option EditError → Option EditError
-or_fault (Some e) f = Some e
-or_fault None f = f
-
--- the operation has too many bytes
-abbrev pub size_fault : ℕ → Option EditError
-size_fault n = if nat_lt OPERATION_BYTES n then Some (OpTooLarge n) else None
+made H edit = rules.made (plain_of H) edit
 
 -- the number or the size of the operation is too great
 abbrev pub op_fault : History → Edit → Option EditError
-op_fault H edit = if count_of H (me_of H) == GREATEST_NUMBER then Some NumbersSpent else size_fault (op_size (made H edit))
+op_fault H edit = rules.op_fault_of (plain_of H) (made H edit)
 
 -- the first fault of the edit
 unfoldable pub edit_fault : History → Edit → Option EditError
-edit_fault H edit = if has_left H (me_of H) then Some Left else or_fault (range_fault (length (idents H)) edit) (op_fault H edit)
+edit_fault H edit = rules.edit_fault_of (plain_of H) edit (made H edit)

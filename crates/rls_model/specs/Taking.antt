@@ -1,16 +1,16 @@
 -- Messages, and what comes of taking one, step by step.
 use Rattle.std.specs.Prelude.{◌≡◌, ℕ, List, Option, None, Some, if◌then◌else◌}
-use Rattle.rls_ident.specs.declared.limits.TheConstants.{INPUT_BYTES}
 use Rattle.rls_ops.specs.declared.op.Op.{Op}
 use Rattle.rls_ops.specs.declared.message.Message.{Message}
-use Rattle.rls_ops.specs.Sizes.{head_size}
 pub use Rattle.rls_ops.specs.Sizes.{front_within}
 pub use Rattle.rls_ops.specs.Rows.{missing_for}
 use Rattle.rls_model.specs.declared.receipt.Taken.{Taken}
 use Rattle.rls_model.specs.Answers.{Released}
-use Rattle.rls_model.specs.History.{Acknowledged, History, Then, group_of, me_of, members_of, count, row}
-use Rattle.rls_model.specs.Stability.{unstable, is_counted}
+use Rattle.rls_model.specs.History.{Acknowledged, History, Then, row}
+use Rattle.rls_model.specs.Stability.{is_counted}
 use Rattle.rls_model.specs.Receiving.{State, accept, receive, receive_after, release, release_after}
+use Rattle.rls_model.specs.View.{plain_of}
+use Rattle.rls_model.specs.Rules as rules
 use Rattle.rls_model.specs.Editing.{made, edit_fault}
 pub use Rattle.rls_model.specs.Machine.{Limit, has_room, one_less, started, moved, with_answer, with_refusal}
 use Rattle.rls_model.specs.Machine.{Machine, Stage, with_release_on, receive_on, release_on, releases_on, release_all_on, acknowledge_on, take_on}
@@ -19,13 +19,7 @@ use Rattle.rls_model.specs.Machine.{Machine, Stage, with_release_on, receive_on,
 
 -- the unstable operations that the member's row doesn't cover, as many as a message holds
 unfoldable pub message_for : History → ℕ → Message
-message_for H to = record {
-  group = group_of H;
-  members = members_of H;
-  from = me_of H;
-  vector = count H;
-  ops = front_within (head_size (members_of H)) INPUT_BYTES (missing_for (row H to) (unstable H));
-}
+message_for H to = rules.message_for (plain_of H) (row H to)
 
 -- ---- a replica by its history
 

@@ -1,33 +1,31 @@
 -- Edits, seen by a history that the replica stands for.
-use Rattle.std.proofs.Common.{◌≡◌, ℕ, ◌+◌, ◌==◌, slice_index, slice_get, List, length, map, take, drop, refl, sym, ap, ◌∙◌, subst, Option, Some, None, if◌then◌else◌}
-use Rattle.rls_ident.specs.declared.limits.TheConstants.{GREATEST_NUMBER}
+use Rattle.std.specs.Prelude.{sum_by}
+use Rattle.std.proofs.Common.{◌≡◌, ℕ, slice_index, List, length, map, sym, ap, ◌∙◌, subst, None}
 use Rattle.rls_ident.specs.declared.tuple.Tuple.{Tuple}
-use Rattle.rls_ident.specs.declared.epoch_name.EpochName.{EpochName}
-use Rattle.rls_ops.specs.declared.op.Op.{Op}
-use Rattle.rls_ops.specs.declared.op.Body.{Body}
-use Rattle.rls_ops.specs.declared.op.Body.TheVariants.{Insert, Delete, Rename, Leave}
+use Rattle.rls_rename.specs.Connected.{spanned, spanned_renamings}
 use Rattle.rls_ops.specs.Rows.{left}
-use Rattle.rls_ops.specs.Sizes.{op_size}
 use Rattle.rls_model.specs.declared.edit.Edit.{Edit}
-use Rattle.rls_model.specs.declared.edit.Edit.TheVariants as edits
-use Rattle.rls_model.specs.declared.edit.EditError.{EditError}
-use Rattle.rls_model.specs.declared.edit.EditError.TheVariants as errors
-use Rattle.rls_model.specs.declared.parts.Stem.{Stem}
 use Rattle.rls_model.specs.Document.{idents}
-use Rattle.rls_model.specs.Editing.{first_between, get_before, range_fault, or_fault, size_fault, made, op_fault, edit_fault}
-use Rattle.rls_model.specs.Editing as model
-use Rattle.rls_model.specs.Epochs.{greatest}
-use Rattle.rls_model.specs.History.{History, me_of, count, count_of, has_left}
+use Rattle.rls_model.specs.Editing.{made, edit_fault}
+use Rattle.rls_model.specs.History.{me_of, count, count_of}
 use Rattle.rls_model.specs.Receiving.{State, accept}
-use Rattle.rls_model.specs.Stems.{stems}
 use Rattle.rls_model.specs.WellFormed.{IsEdit}
+use Rattle.rls_model.specs.Retained.{retained, retained_renamings, counts}
+use Rattle.rls_model.specs.Rules as rules
+use Rattle.rls_model.specs.Stability.{stable, unstable}
+use Rattle.rls_model.specs.View.{plain_of}
+use Rattle.rls_model.proofs.Counted.{former_window}
+use Rattle.rls_model.proofs.Dropping.{needed_over, retained_same}
 use Rattle.rls_model.proofs.Made as made_fits
 use Rattle.rls_model.proofs.Made.{foot}
-use Rattle.rls_seen.specs.Seen.{Seen, own_count, greatest_over, idents_over}
+use Rattle.rls_seen.specs.Seen.{Seen, own_count, unstable_over, greatest_over, idents_over}
 use Rattle.rls_seen.specs.Over.{accepted}
-use Rattle.rls_seen.specs.Edits.{made_body, made_over, op_fault_over, edit_fault_over, edited}
+use Rattle.rls_seen.specs.Edits.{made_over, edit_fault_over, edited}
+use Rattle.rls_seen.specs.Kept as kept
+use Rattle.rls_seen.specs.Kept.{retained_over, counts_over}
+use Rattle.rls_seen.specs.View.{plain}
 use Rattle.rls_seen.specs.Stands.{StandsFor}
-use Rattle.rls_seen.proofs.Alike.{greatest_alike}
+use Rattle.rls_seen.proofs.Alike.{members_alike, greatest_alike, stable_alike, unstable_alike, keeping}
 use Rattle.rls_seen.proofs.Accepting.{accepted_stands}
 
 pub idents_alike : (s : Seen) (t : State) → StandsFor s t → idents_over s ≡ idents t.history
@@ -37,66 +35,55 @@ idents_alike s t h = ap (map (λ (e : List Tuple × ℕ). e.0)) h.text
 pub own_alike : (s : Seen) (t : State) → StandsFor s t → own_count s ≡ count_of t.history (me_of t.history)
 own_alike s t h = ap (λ v. slice_index v s.acks.me) h.vector ∙ ap (slice_index (count t.history)) h.me
 
--- a body by what it is made of
-by_values : List Stem → ℕ → ℕ → List (List Tuple) → Edit → Body
-by_values ss me n xs (edits.Insert at text) = Insert (first_between ss me (n + 1) (get_before xs at) (slice_get xs at) (length text)) text
-by_values ss me n xs (edits.Delete at m) = Delete (take m (drop at xs))
-by_values ss me n xs edits.Rename = Rename xs
-by_values ss me n xs edits.Leave = Leave
+-- ---- retained epochs
 
-over_values : (s : Seen) (edit : Edit) → made_body s edit ≡ by_values s.stems s.acks.me (own_count s) (idents_over s) edit
-unfolding by_values
-over_values s (edits.Insert at text) = refl
-over_values s (edits.Delete at m) = refl
-over_values s edits.Rename = refl
-over_values s edits.Leave = refl
+needed_alike : (s : Seen) (t : State) → StandsFor s t → kept.needed_over s ≡ needed_over s.epochs.top s.epochs.nodes (stable t.history) (unstable t.history)
+needed_alike s t h =
+    ap (λ v. needed_over s.epochs.top s.epochs.nodes v (unstable_over s)) (stable_alike s t h)
+    ∙ ap (needed_over s.epochs.top s.epochs.nodes (stable t.history)) (unstable_alike s t h)
 
-model_values : (H : History) (edit : Edit) → model.made_body H edit ≡ by_values (stems H) (me_of H) (count_of H (me_of H)) (idents H) edit
-unfolding by_values
-model_values H (edits.Insert at text) = refl
-model_values H (edits.Delete at m) = refl
-model_values H edits.Rename = refl
-model_values H edits.Leave = refl
+pub retained_alike : (s : Seen) (t : State) → StandsFor s t → retained_over s ≡ retained t.history
+unfolding retained_over
+retained_alike s t h =
+    ap (spanned s.epochs.top s.epochs.nodes (greatest_over s)) (needed_alike s t h) ∙ retained_same t.history s.epochs.top s.epochs.nodes h.legal (keeping s t h)
 
-body_alike : (s : Seen) (t : State) (edit : Edit) → StandsFor s t → made_body s edit ≡ model.made_body t.history edit
-body_alike s t edit h =
-    let H = t.history in
-    over_values s edit
-    ∙ (ap (λ ss. by_values ss s.acks.me (own_count s) (idents_over s) edit) h.stems
-    ∙ (ap (λ me. by_values (stems H) me (own_count s) (idents_over s) edit) h.me
-    ∙ (ap (λ n. by_values (stems H) (me_of H) n (idents_over s) edit) (own_alike s t h)
-    ∙ (ap (λ xs. by_values (stems H) (me_of H) (count_of H (me_of H)) xs edit) (idents_alike s t h)
-    ∙ sym (model_values H edit)))))
+former_alike : (s : Seen) (t : State) → StandsFor s t →
+    sum_by (λ R. length R.former) (spanned_renamings s.epochs.nodes (greatest_over s) (kept.needed_over s)) ≡ sum_by (λ R. length R.former) (retained_renamings t.history)
+former_alike s t h =
+    ap (λ es. sum_by (λ R. length R.former) (spanned_renamings s.epochs.nodes (greatest_over s) es)) (needed_alike s t h) ∙ former_window t.history s.epochs.top s.epochs.nodes h.legal (keeping s t h)
 
-op_of : ℕ → ℕ → List ℕ → EpochName → Body → Op
-op_of me n v e b = record { author = me; seq = n + 1; context = v; epoch = e; body = b }
+-- ---- rules
+
+-- the plain values
+pub plain_alike : (s : Seen) (t : State) → StandsFor s t → plain s ≡ plain_of t.history
+plain_alike s t h = λ i. record {
+  group = h.group i;
+  me = h.me i;
+  members = members_alike s t h i;
+  vector = h.vector i;
+  has_left = (ap (left s.acks) h.me ∙ h.left (me_of t.history) (foot t.history h.legal).0) i;
+  stems = h.stems i;
+  greatest = greatest_alike s t h i;
+  idents = idents_alike s t h i;
+  unstable = unstable_alike s t h i;
+  retained = retained_alike s t h i;
+  former = former_alike s t h i;
+}
 
 -- the same operation is made
 pub made_alike : (s : Seen) (t : State) (edit : Edit) → StandsFor s t → made_over s edit ≡ made t.history edit
-unfolding made_over made op_of
-made_alike s t edit h =
-    let H = t.history in
-    ap (λ me. op_of me (own_count s) s.acks.mine (greatest_over s) (made_body s edit)) h.me
-    ∙ (ap (λ n. op_of (me_of H) n s.acks.mine (greatest_over s) (made_body s edit)) (own_alike s t h)
-    ∙ (ap (λ v. op_of (me_of H) (count_of H (me_of H)) v (greatest_over s) (made_body s edit)) h.vector
-    ∙ (ap (λ e. op_of (me_of H) (count_of H (me_of H)) (count H) e (made_body s edit)) (greatest_alike s t h)
-    ∙ ap (op_of (me_of H) (count_of H (me_of H)) (count H) (greatest H)) (body_alike s t edit h))))
-
-op_fault_alike : (s : Seen) (t : State) (edit : Edit) → StandsFor s t → op_fault_over s edit ≡ op_fault t.history edit
-op_fault_alike s t edit h =
-    ap (λ n. if n == GREATEST_NUMBER then Some errors.NumbersSpent else size_fault (op_size (made_over s edit))) (own_alike s t h)
-    ∙ ap (λ o. if count_of t.history (me_of t.history) == GREATEST_NUMBER then Some errors.NumbersSpent else size_fault (op_size o)) (made_alike s t edit h)
+unfolding made_over made
+made_alike s t edit h = ap (λ v. rules.made v edit) (plain_alike s t h)
 
 -- the same fault
 pub edit_faults_alike : (s : Seen) (t : State) (edit : Edit) → StandsFor s t → edit_fault_over s edit ≡ edit_fault t.history edit
-unfolding edit_fault_over edit_fault
-edit_faults_alike s t edit h =
-    let H = t.history in
-    let rest : Option EditError = or_fault (range_fault (length (idents_over s)) edit) (op_fault_over s edit) in
-    ap (λ me. if left s.acks me then Some errors.Left else rest) h.me
-    ∙ (ap (λ b. if b then Some errors.Left else rest) (h.left (me_of H) (foot H h.legal).0)
-    ∙ (ap (λ xs. if has_left H (me_of H) then Some errors.Left else or_fault (range_fault (length xs) edit) (op_fault_over s edit)) (idents_alike s t h)
-    ∙ ap (λ f. if has_left H (me_of H) then Some errors.Left else or_fault (range_fault (length (idents H)) edit) f) (op_fault_alike s t edit h)))
+unfolding edit_fault_over edit_fault made_over made
+edit_faults_alike s t edit h = ap (λ v. rules.edit_fault_of v edit (rules.made v edit)) (plain_alike s t h)
+
+-- the same numbers
+pub counts_alike : (s : Seen) (t : State) → StandsFor s t → counts_over s ≡ counts t
+unfolding counts_over counts
+counts_alike s t h = ap (λ v. rules.counts v s.waiting) (plain_alike s t h) ∙ ap (rules.counts (plain_of t.history)) h.waiting
 
 -- the edit's operation is accepted by both
 pub edited_stands : (s : Seen) (t : State) (edit : Edit) → IsEdit edit → edit_fault_over s edit ≡ None → StandsFor s t → StandsFor (edited s edit) (accept t (made t.history edit))

@@ -1,19 +1,15 @@
 -- Dropping, numbers and parts, seen by a history that the replica stands for.
-use Rattle.std.proofs.Common.{◌≡◌, ℕ, zero, suc, ◌≤◌, ◌==◌, ◌++◌, List, [], ◌∷◌, length, map, refl, sym, ap, ◌∙◌, subst, arith, if◌then◌else◌}
-use Rattle.std.specs.Prelude.{sum_by}
+use Rattle.std.proofs.Common.{◌≡◌, ℕ, zero, suc, ◌≤◌, ◌==◌, ◌++◌, List, [], ◌∷◌, map, refl, sym, ap, ◌∙◌, subst, arith, if◌then◌else◌}
 use Rattle.rls_ident.specs.declared.tuple.Tuple.{Tuple}
 use Rattle.rls_ident.proofs.Vectors.{at_most_refl}
-use Rattle.rls_runs.specs.Runs.{runs_of}
-use Rattle.rls_rename.specs.Connected.{spanned, spanned_renamings}
 use Rattle.rls_rename.specs.Keeping.{kept_part}
 use Rattle.rls_rename.specs.Tree.{Epochs}
 use Rattle.rls_ops.specs.declared.op.Op.{Op}
 use Rattle.rls_ops.specs.Rows.{row_of, left}
-use Rattle.rls_model.specs.declared.counts.Counts.{Counts}
 use Rattle.rls_model.specs.declared.parts.EpochPart.{EpochPart}
 use Rattle.rls_model.specs.declared.parts.Parts.{Parts}
 use Rattle.rls_model.specs.declared.parts.Stem.{Stem}
-use Rattle.rls_model.specs.Document.{export, idents, text}
+use Rattle.rls_model.specs.Document.{export, text}
 use Rattle.rls_model.specs.Epochs.{epochs}
 use Rattle.rls_model.specs.History.{group_of, me_of, members_of, count}
 use Rattle.rls_model.specs.Laws.{KeepsRetained}
@@ -21,19 +17,17 @@ use Rattle.rls_model.specs.Legal.{IsSound}
 use Rattle.rls_model.specs.Parts.{epoch_parts, text_runs, parts}
 use Rattle.rls_model.specs.Parts as model
 use Rattle.rls_model.specs.Receiving.{State}
-use Rattle.rls_model.specs.Retained.{retained, retained_renamings, counts}
+use Rattle.rls_model.specs.Retained.{retained}
 use Rattle.rls_model.specs.Stability.{stable, unstable}
 use Rattle.rls_model.specs.Stems.{stems}
-use Rattle.rls_model.proofs.Counted.{former_window}
-use Rattle.rls_model.proofs.Dropping.{needed_over, retained_same}
 use Rattle.rls_model.proofs.WindowAnswers.{parts_window}
 use Rattle.rls_model.proofs.WindowLaws as window_laws
-use Rattle.rls_seen.specs.Seen.{Seen, members, stable_over, unstable_over, greatest_over, idents_over, text_over}
+use Rattle.rls_seen.specs.Seen.{Seen, members, stable_over, unstable_over, text_over}
 use Rattle.rls_seen.specs.Kept as kept
 use Rattle.rls_seen.specs.Kept.{dropped, retained_over, counts_over, other_rows, left_below, parts_over}
 use Rattle.rls_seen.specs.Stands.{StandsFor, IsLog}
 use Rattle.rls_seen.proofs.Alike.{members_alike, stable_alike, unstable_alike, keeping}
-use Rattle.rls_seen.proofs.Editing.{idents_alike}
+pub use Rattle.rls_seen.proofs.Editing.{retained_alike, counts_alike}
 
 -- ---- a part of what a replica keeps
 
@@ -69,42 +63,6 @@ unfolding dropped unstable
 dropped_stands s t h =
     stands_with s t (dropped s).epochs (dropped s).log s.waiting t.waiting h h.sound (subst (KeepsRetained t.history) (sym (part_alike s t h)) (window_laws.dropped t.history s.epochs h.legal h.epochs).0) h.waiting
     (stable t.history, record { stable = at_most_refl (stable t.history); kept = unstable_alike s t h })
-
--- ---- numbers
-
-needed_alike : (s : Seen) (t : State) → StandsFor s t → kept.needed_over s ≡ needed_over s.epochs.top s.epochs.nodes (stable t.history) (unstable t.history)
-needed_alike s t h =
-    ap (λ v. needed_over s.epochs.top s.epochs.nodes v (unstable_over s)) (stable_alike s t h)
-    ∙ ap (needed_over s.epochs.top s.epochs.nodes (stable t.history)) (unstable_alike s t h)
-
-pub retained_alike : (s : Seen) (t : State) → StandsFor s t → retained_over s ≡ retained t.history
-unfolding retained_over
-retained_alike s t h =
-    ap (spanned s.epochs.top s.epochs.nodes (greatest_over s)) (needed_alike s t h) ∙ retained_same t.history s.epochs.top s.epochs.nodes h.legal (keeping s t h)
-
-total_go : (es : List (List Tuple × ℕ)) → length es ≡ length (map (λ (e : List Tuple × ℕ). e.0) es)
-total_go [] = refl
-total_go (e ∷ es) = ap suc (total_go es)
-
-counts_of : ℕ → ℕ → ℕ → ℕ → ℕ → ℕ → Counts
-counts_of a b c d e f = record { total = a; runs = b; held = c; unstable = d; epochs = e; former = f }
-
--- the same numbers
-pub counts_alike : (s : Seen) (t : State) → StandsFor s t → counts_over s ≡ counts t
-unfolding counts_over counts counts_of
-counts_alike s t h =
-    let H = t.history in
-    let xs = idents_alike s t h in
-    let runs = length (runs_of (idents_over s)) in
-    let former = sum_by (λ R. length R.former) (spanned_renamings s.epochs.nodes (greatest_over s) (kept.needed_over s)) in
-    let f : former ≡ sum_by (λ R. length R.former) (retained_renamings H) =
-    ap (λ es. sum_by (λ R. length R.former) (spanned_renamings s.epochs.nodes (greatest_over s) es)) (needed_alike s t h) ∙ former_window H s.epochs.top s.epochs.nodes h.legal (keeping s t h) in
-    ap (λ n. counts_of n runs (length s.waiting) (length (unstable_over s)) (length (retained_over s)) former) (total_go s.text ∙ ap length xs)
-    ∙ (ap (λ ys. counts_of (length (idents H)) (length (runs_of ys)) (length s.waiting) (length (unstable_over s)) (length (retained_over s)) former) xs
-    ∙ (ap (λ W. counts_of (length (idents H)) (length (runs_of (idents H))) (length W) (length (unstable_over s)) (length (retained_over s)) former) h.waiting
-    ∙ (ap (λ os. counts_of (length (idents H)) (length (runs_of (idents H))) (length t.waiting) (length os) (length (retained_over s)) former) (unstable_alike s t h)
-    ∙ (ap (λ es. counts_of (length (idents H)) (length (runs_of (idents H))) (length t.waiting) (length (unstable H)) (length es) former) (retained_alike s t h)
-    ∙ ap (counts_of (length (idents H)) (length (runs_of (idents H))) (length t.waiting) (length (unstable H)) (length (retained H))) f))))
 
 -- the same text
 pub text_alike : (s : Seen) (t : State) → StandsFor s t → text_over s ≡ text t.history

@@ -8,14 +8,17 @@ use Rattle.rls_ops.specs.declared.op.Op.{Op}
 use Rattle.rls_ops.specs.declared.message.Message.{Message}
 use Rattle.rls_ops.specs.Rows.{AcksSeen, AreRows, HaveLength, row_of, awaits, awaited, least_of, stable_of, is_covered, missing_for}
 use Rattle.rls_ops.specs.Sizes.{head_size, message_size}
-use Rattle.rls_model.specs.History.{group_of, me_of, members_of, row}
+use Rattle.rls_model.specs.History.{members_of}
 use Rattle.rls_model.specs.Receiving.{State}
-use Rattle.rls_model.specs.Stability.{unstable}
+use Rattle.rls_model.specs.Rules as rules
+use Rattle.rls_model.specs.View.{Plain, plain_of}
 use Rattle.rls_model.specs.Taking.{front_within, message_for}
 use Rattle.rls_seen.specs.Seen.{Seen, members, stable_over}
 use Rattle.rls_seen.specs.Messages.{message_over}
 use Rattle.rls_seen.specs.Stands.{StandsFor}
-use Rattle.rls_seen.proofs.Alike.{members_alike, unstable_alike}
+use Rattle.rls_seen.specs.View.{plain}
+use Rattle.rls_seen.proofs.Alike.{members_alike}
+use Rattle.rls_seen.proofs.Editing.{plain_alike}
 use Rattle.rls_ops.proofs.KeptRows.{lengths_append, length-row}
 use Rattle.rls_ops.proofs.Fronts.{front_fits}
 
@@ -63,26 +66,18 @@ missing_joined v w (o ∷ os) e =
 
 -- ---- the message
 
-message_of : ℕ → ℕ → ℕ → List ℕ → List Op → Message
-message_of g n me v os = record { group = g; members = n; from = me; vector = v; ops = front_within (head_size n) INPUT_BYTES os }
+message_with : Plain → List Op → Message
+message_with v os = record { group = v.group; members = v.members; from = v.me; vector = v.vector; ops = front_within (head_size v.members) INPUT_BYTES os }
 
 -- the same message
 pub message_alike : (s : Seen) (t : State) (to : ℕ) → to < members s → StandsFor s t → message_over s to ≡ message_for t.history to
-unfolding message_over message_for message_of
+unfolding message_over message_for message_with
 message_alike s t to l h =
-    let H = t.history in
     let n = members_alike s t h in
     let e : length (row_of s.acks to) ≡ length (stable_over s) = length-row s.acks to h.places l ∙ sym (length-stable s.acks h.places) in
-    let k : to < members_of H = omega arith in
-    let os : missing_for (join (row_of s.acks to) (stable_over s)) s.log ≡ missing_for (row H to) (unstable H) =
-    missing_joined (row_of s.acks to) (stable_over s) s.log e
-    ∙ (ap (missing_for (row_of s.acks to)) (unstable_alike s t h)
-    ∙ ap (λ v. missing_for v (unstable H)) (h.rows to k)) in
-    ap (message_of s.group (members s) s.acks.me s.acks.mine) os
-    ∙ (ap (λ g. message_of g (members s) s.acks.me s.acks.mine (missing_for (row H to) (unstable H))) h.group
-    ∙ (ap (λ m. message_of (group_of H) m s.acks.me s.acks.mine (missing_for (row H to) (unstable H))) n
-    ∙ (ap (λ me. message_of (group_of H) (members_of H) me s.acks.mine (missing_for (row H to) (unstable H))) h.me
-    ∙ ap (λ v. message_of (group_of H) (members_of H) (me_of H) v (missing_for (row H to) (unstable H))) h.vector)))
+    let k : to < members_of t.history = omega arith in
+    ap (message_with (plain s)) (missing_joined (row_of s.acks to) (stable_over s) s.log e)
+    ∙ (ap (λ v. rules.message_for v (row_of s.acks to)) (plain_alike s t h) ∙ ap (rules.message_for (plain_of t.history)) (h.rows to k))
 
 -- ---- its size
 

@@ -1,24 +1,16 @@
 -- What is dropped, and the numbers and parts of a replica, read over what it consists of.
-use Rattle.std.specs.Prelude.{ℕ, zero, suc, List, [], ◌∷◌, ◌++◌, ◌==◌, length, map, sum_by, if◌then◌else◌}
-use Rattle.rls_ident.specs.declared.epoch_name.EpochName.{EpochName}
-use Rattle.rls_rename.specs.Connected.{spanned, spanned_renamings}
-use Rattle.rls_rename.specs.Keeping.{reached, kept_part}
-use Rattle.rls_runs.specs.Runs.{runs_of}
+use Rattle.std.specs.Prelude.{ℕ, zero, suc, List, [], ◌∷◌, ◌++◌, ◌==◌, length, sum_by, if◌then◌else◌}
+use Rattle.rls_rename.specs.Keeping.{kept_part}
 use Rattle.rls_ops.specs.Rows.{AcksSeen, row_of, left}
 use Rattle.rls_model.specs.declared.counts.Counts.{Counts}
 use Rattle.rls_model.specs.declared.parts.Parts.{Parts}
 use Rattle.rls_model.specs.Parts.{epoch_parts, text_runs}
-use Rattle.rls_seen.specs.Seen.{Seen, vector, members, stable_over, unstable_over, greatest_over, idents_over}
+unfoldable pub use Rattle.rls_seen.specs.Known.{marked_over, needed_over, retained_over}
+use Rattle.rls_seen.specs.View.{plain}
+use Rattle.rls_model.specs.Rules as rules
+use Rattle.rls_seen.specs.Seen.{Seen, vector, members, stable_over, unstable_over}
 
 -- ---- dropping
-
--- the epochs of the unstable operations
-abbrev pub marked_over : Seen → List EpochName
-marked_over s = map (λ o. o.epoch) (unstable_over s)
-
--- the epochs that must stay beside the greatest: each at least the greatest stable one, and those of the unstable operations
-abbrev pub needed_over : Seen → List EpochName
-needed_over s = reached s.epochs (stable_over s) ++ marked_over s
 
 -- the stable operations and the epochs that aren't retained are dropped
 unfoldable pub dropped : Seen → Seen
@@ -34,20 +26,9 @@ dropped s = record {
 
 -- ---- numbers
 
--- the retained epochs, in increasing order
-unfoldable pub retained_over : Seen → List EpochName
-retained_over s = spanned s.epochs.top s.epochs.nodes (greatest_over s) (needed_over s)
-
 -- characters, runs, waiting operations, unstable operations, retained epochs and the former identifiers below the topmost of them
 unfoldable pub counts_over : Seen → Counts
-counts_over s = record {
-  total = length s.text;
-  runs = length (runs_of (idents_over s));
-  held = length s.waiting;
-  unstable = length (unstable_over s);
-  epochs = length (retained_over s);
-  former = sum_by (λ R. length R.former) (spanned_renamings s.epochs.nodes (greatest_over s) (needed_over s));
-}
+counts_over s = rules.counts (plain s) s.waiting
 
 -- how many operations are kept
 abbrev pub kept_operations : Seen → ℕ

@@ -1,3 +1,5 @@
+pub mod Known
+pub mod View
 pub mod Seen
 pub mod Over
 pub mod Edits

@@ -1,10 +1,8 @@
 -- What a replica answers to an operation, and how it changes, read over what it consists of.
-use Rattle.std.specs.Prelude.{◌≡◌, ℕ, zero, suc, Bool, true, false, not, ◌||◌, List, [], ◌∷◌, ◌++◌, length, map, zip, find, Option, Some, None, if◌then◌else◌}
-use Rattle.std.specs.List.{list_any}
+use Rattle.std.specs.Prelude.{◌≡◌, ℕ, zero, suc, Bool, true, false, List, [], ◌∷◌, ◌++◌, length, map, zip, find, Option, Some, None, if◌then◌else◌}
 use Rattle.rls_ident.specs.declared.tuple.Tuple.{Tuple}
 use Rattle.rls_ident.specs.declared.epoch_name.EpochName.{EpochName}
 use Rattle.rls_ident.specs.EpochNames.{name_eq}
-use Rattle.rls_ident.specs.Identifiers.{ident_eq, last_of}
 use Rattle.rls_ident.specs.Vectors.{at_most}
 use Rattle.rls_runs.specs.Entries.{Entries, put_all, without_all, with_idents}
 use Rattle.rls_runs.specs.Runs.{run_idents}
@@ -16,42 +14,28 @@ use Rattle.rls_ops.specs.declared.op.Body.TheVariants.{Insert, Delete, Rename, L
 use Rattle.rls_ops.specs.Shapes.{shape_fault}
 use Rattle.rls_ops.specs.Rows.{AcksSeen, row_of, left, raised, parted}
 use Rattle.rls_ops.specs.Rows as rows
-use Rattle.rls_model.specs.Answers.{Reason, Left, Backward, WrongEpoch, WrongStem, UnknownTarget, Answer, Applies, Waits, Released}
-use Rattle.rls_model.specs.Stems.{stems_after, due_offset, may_use}
+use Rattle.rls_model.specs.Answers.{Reason, Answer, Applies, Waits, Released}
+use Rattle.rls_model.specs.Stems.{stems_after}
 use Rattle.rls_model.specs.Epochs.{renaming_of, nodes_after}
-use Rattle.rls_model.specs.Document.{targets_of}
 use Rattle.rls_model.specs.Receiving.{without, with_waiting, answer_by}
-use Rattle.rls_seen.specs.Seen.{Seen, vector, members, count_over, unstable_over, greatest_over, due_over, translate_over}
+unfoldable pub use Rattle.rls_seen.specs.Known.{is_known_over}
+use Rattle.rls_seen.specs.View.{view}
+use Rattle.rls_model.specs.Rules as rules
+use Rattle.rls_seen.specs.Seen.{Seen, vector, members, greatest_over, translate_over}
 
 -- ---- why an operation whose causes are there is refused
 
--- the target is in the text, by its identifier in this epoch, or that of a target of an unstable deletion
-unfoldable pub is_known_over : Seen → EpochName → List Tuple → Bool
-is_known_over s e x =
-    list_any (λ y. ident_eq y.0 (translate_over s e (greatest_over s) x)) s.text
-    || list_any (λ d. list_any (λ t. ident_eq (translate_over s d.epoch e t) x) (targets_of d.body)) (unstable_over s)
-
 -- the first of these targets that isn't known
 abbrev pub first_unknown_over : Seen → EpochName → List (List Tuple) → Option Reason
-first_unknown_over s e [] = None
-first_unknown_over s e (x ∷ xs) = if is_known_over s e x then first_unknown_over s e xs else Some (UnknownTarget x)
+first_unknown_over s = rules.first_unknown (view s)
 
 -- the reason that lies in the body
 abbrev pub body_refusal_over : Seen → Op → Body → Option Reason
-body_refusal_over s o (Insert first text) =
-    if may_use s.stems o.author o.seq (last_of first) (length text) then None
-    else Some (WrongStem (due_offset s.stems o.author o.seq (last_of first)))
-body_refusal_over s o (Delete targets) = first_unknown_over s o.epoch targets
-body_refusal_over s o (Rename former) = None
-body_refusal_over s o Leave = None
+body_refusal_over s = rules.body_refusal (view s)
 
 -- the first reason to refuse the operation. It fits where there is none
 unfoldable pub refusal_over : Seen → Op → Option Reason
-refusal_over s o =
-    if left s.acks o.author then Some (Left (count_over s o.author))
-    else if not (at_most (row_of s.acks o.author) o.context) then Some (Backward (row_of s.acks o.author))
-    else if not (name_eq o.epoch (due_over s o.context)) then Some (WrongEpoch (due_over s o.context))
-    else body_refusal_over s o o.body
+refusal_over s o = rules.refusal (view s) o
 
 -- ---- the answer to an operation that arrives
 
