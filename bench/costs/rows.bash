@@ -1,0 +1,133 @@
+# The rows of bench/costs: what is counted, and how. `run` and `check` read this.
+# shellcheck shell=bash
+# The scripts that read this use what is set here.
+# shellcheck disable=SC2034
+here=$(cd -P "$(dirname "${BASH_SOURCE[0]}")" && pwd)
+top=$(cd -P "$here/../.." && pwd)
+program=${RLS_PROGRAM:-$top/bin/.built/rls}
+[ -n "${RLS_PROGRAM:-}" ] || "$top/bin/rls" build
+room=$(mktemp -d)
+trap 'rm -rf "$room"' EXIT
+
+# Each row with the least n, and the growth that a doubling may have, in tenths. It is 23 but where the definition itself asks for more: a
+# character that is put or deleted between two others gets a tuple more in each epoch.
+rows=(in_order:2000:23 reverse:2000:23 shuffled:2000:23 waiting:2000:23 waiting_reverse:2000:23 forked:500:23 gone:500:23 same:500:23 each:250:23
+  again:50:23 refused:250:23 refused_in_turn:250:23 gone_renamed:50:42 chain:50:42 old_deletions:50:42 wrong_epoch:250:23 renamed_file:25:23
+  small_renames:500:23 scattered:20000:23 back:250:23 rename:20000:23)
+
+# A fresh replica of this member, in a folder of its own, which becomes the current one.
+fresh() {
+  rm -rf "${room:?}/$1"
+  mkdir "$room/$1"
+  cd "$room/$1"
+  "$program" new 7 "$1" 3 >/dev/null
+}
+
+at() { cd "$room/$1"; }
+
+# The number of instructions of a command. A message whose operations are refused ends with status 5, and is counted too.
+instructions() {
+  local status=0 count
+  valgrind --tool=callgrind --callgrind-out-file=/dev/null "$program" "$@" >/dev/null 2>"$room/told" || status=$?
+  count=$(awk '/Collected/ { print $4 }' "$room/told")
+  if [ -z "$count" ] || { [ "$status" != 0 ] && [ "$status" != 5 ]; }; then
+    echo "costs: $* ended with status $status:" >&2
+    cat "$room/told" >&2
+    exit 1
+  fi
+  echo "$count"
+}
+
+# What it costs to take a message of make.py.
+taken() {
+  python3 "$here/make.py" "$1" "$2" >"$room/message"
+  fresh 0
+  instructions take <"$room/message"
+}
+
+# A text by member 1 that members 0 and 2 have: so many characters.
+shared_text() {
+  fresh 2
+  fresh 0
+  fresh 1
+  echo "i 0 $(head -c "$1" /dev/zero | tr '\0' a)" | "$program" edit >/dev/null
+  for member in 0 2; do
+    at 1
+    "$program" send "$member" >"$room/message"
+    at "$member"
+    "$program" take <"$room/message" >/dev/null
+  done
+}
+
+# Member 0 takes what member 1 did, and then, counted, what member 2 did meanwhile.
+met() {
+  at 1
+  "$program" send 0 >"$room/first"
+  at 2
+  "$program" send 0 >"$room/second"
+  at 0
+  "$program" take <"$room/first" >/dev/null
+  instructions take <"$room/second"
+}
+
+# Member 1 renames and deletes n times in turn; member 2 has deleted all at once.
+gone_renamed() {
+  shared_text $((2 * $1))
+  at 1
+  for ((k = 0; k < $1; k++)); do echo r; echo "d $k 1"; done | "$program" edit >/dev/null
+  at 2
+  echo "d 0 $((2 * $1))" | "$program" edit >/dev/null
+  met
+}
+
+# Member 1 renames n times; member 2 has inserted n characters, each between two others.
+chain() {
+  shared_text $((2 * $1))
+  at 1
+  for ((k = 0; k < $1; k++)); do echo r; done | "$program" edit >/dev/null
+  at 2
+  for ((k = 0; k < $1; k++)); do echo "i $((2 * k + 1)) b"; done | "$program" edit >/dev/null
+  met
+}
+
+# n lines `b` of one script, in a text of n characters.
+back() {
+  fresh 0
+  echo "i 0 $(head -c "$1" /dev/zero | tr '\0' a)" | "$program" edit >/dev/null
+  for ((k = $1; k > 0; k--)); do echo "b $k"; done >"$room/script"
+  instructions edit <"$room/script"
+}
+
+# One rename of n characters.
+rename() {
+  fresh 0
+  echo "i 0 $(head -c "$1" /dev/zero | tr '\0' a)" | "$program" edit >/dev/null
+  instructions edit <<<r
+}
+
+# Reading a file with n renames, each after 10 insertions: the others have acknowledged nothing, so all of it is kept.
+renamed_file() {
+  fresh 0
+  for ((k = 0; k < $1; k++)); do
+    for ((place = 0; place < 10; place++)); do echo "i $((10 * k * place / 10)) a"; done
+    echo r
+  done | "$program" edit >/dev/null
+  instructions text
+}
+
+# The instructions of a row for this n.
+work_of() {
+  case $1 in
+    gone_renamed | chain | renamed_file | back | rename) "$1" "$2" ;;
+    *) taken "$1" "$2" ;;
+  esac
+}
+
+# Whether these words are none, or this row is one of them: is_asked ROW WORD..
+is_asked() {
+  local row=$1
+  shift
+  [ $# = 0 ] || [[ " $* " == *" $row "* ]]
+}
+
+name_program() { echo "program: $(cat "${program%/*}/version" 2>/dev/null || echo "$program")"; }
