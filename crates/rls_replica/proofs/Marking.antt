@@ -2,6 +2,7 @@
 use Rattle.std.proofs.Common.{◌≡◌, ◌∙◌, ℕ, Bool, true, false, List, [], ◌∷◌, ◌++◌, ◌||◌, length, refl, sym, ap, subst, inl, inr, ⊎_elim, arith}
 use Rattle.std.proofs.lemmas.List.{length-map}
 use Rattle.std.specs.Prelude.{sum_by}
+use Rattle.rls_ident.specs.declared.tuple.Tuple.{Tuple}
 use Rattle.rls_ident.specs.declared.epoch_name.EpochName.{EpochName}
 use Rattle.rls_ident.specs.declared.epoch_name.EpochName.TheVariants.{Origin, Of}
 use Rattle.rls_ident.specs.EpochNames.{name_eq, is_of_member}
@@ -80,7 +81,9 @@ pub counts_are : (s : Seen) (total runs held unstable epochs former : ℕ) → t
     → epochs ≡ length (retained_over s) → former ≡ sum_by (λ R. length R.former) (spanned_renamings s.epochs.nodes (greatest_over s) (needed_over s))
     → record { total = total; runs = runs; held = held; unstable = unstable; epochs = epochs; former = former } ≡ counts_over s
 unfolding counts_over
-counts_are s total runs held unstable epochs former a b c d e f = let g : unstable ≡ length (unstable_over s) = d ∙ length-map (unstable_over s) (λ (o : Op). o.epoch) in cc
+counts_are s total runs held unstable epochs former a b c d e f =
+    let g : unstable ≡ length (unstable_over s) = d ∙ length-map (unstable_over s) (λ (o : Op). o.epoch) in
+    let h : total ≡ length (idents_over s) = a ∙ sym (length-map s.text (λ (e : List Tuple × ℕ). e.0)) in cc
 
 -- what is retained, by the stable vector and the marked epochs
 pub retained_are : (s : Seen) (v : List ℕ) (marked names : List EpochName) → v ≡ stable_over s → marked ≡ marked_over s
