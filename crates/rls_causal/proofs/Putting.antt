@@ -7,7 +7,7 @@ use Rattle.rls_ops.specs.Waiting.{is_numbered, waiting_under, comes_before, with
 use Rattle.rls_ops.proofs.Waiting.{none_behind, not_after}
 use Rattle.rls_causal.specs.Putting.{put_beside, put_in}
 
-without_none : (a s : ℕ) (W : List Op) → waiting_under W a s ≡ None → without a s W ≡ W
+pub without_none : (a s : ℕ) (W : List Op) → waiting_under W a s ≡ None → without a s W ≡ W
 without_none a s [] h = refl
 without_none a s (w ∷ ws) h =
     let e : is_numbered a s w ≡ false = not_found (is_numbered a s) w (w ∷ ws) h (inl refl) in
@@ -15,7 +15,7 @@ without_none a s (w ∷ ws) h =
     ap (λ b. cond b (without a s ws) (w ∷ without a s ws)) e ∙ ap (λ xs. w ∷ xs) (without_none a s ws rest)
 
 -- before those that come after it
-with_front : (o : Op) (W : List Op) → list_all (comes_before o) W ≡ true → with_waiting o W ≡ o ∷ W
+pub with_front : (o : Op) (W : List Op) → list_all (comes_before o) W ≡ true → with_waiting o W ≡ o ∷ W
 with_front o [] h = refl
 with_front o (w ∷ ws) h = ap (λ b. cond b (w ∷ with_waiting o ws) (o ∷ w ∷ ws)) (not_after o w (and_left (comes_before o w) (list_all (comes_before o) ws) h))
 

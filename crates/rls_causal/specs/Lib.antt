@@ -1,3 +1,3 @@
-pub mod Numbered
 pub mod Putting
-pub mod Searching
+pub mod Queued
+pub mod Queues

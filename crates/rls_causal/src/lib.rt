@@ -3,6 +3,7 @@
 
 mod held;
 mod iter;
+mod queue;
 
 pub use held::{Held, Put};
 pub use iter::HeldOps;

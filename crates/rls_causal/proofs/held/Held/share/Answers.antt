@@ -1,36 +1,38 @@
 use Rattle.std.proofs.Common.{◌≡◌, Some, sym, ap, ◌∙◌}
 use Rattle.std.specs.Option.{option_copied_mut}
+use Rattle.std.specs.Prelude.{nat_eq}
 use Rattle.std.specs.Map.{values_of}
-use Rattle.std.specs.BTreeMap.{is_at}
 use Rattle.std.proofs.lemmas.Map.Steps.{set_value_same}
-use Rattle.rls_causal.specs.Numbered.{numbered, IsHeld}
-use Rattle.rls_causal.proofs.Numbered.{number_cmp, looked_up}
+use Rattle.rls_ops.specs.Waiting.{waiting_under}
+use Rattle.rls_causal.specs.Queues.{joined}
+use Rattle.rls_causal.proofs.Queues.{queued_under, looked_up, own_queue, in_order}
 use Rattle.rls_causal.proofs.held.Held.share.Goals as goal
-use Rattle.rls_causal.proofs.held.Held.share.Goals.{After-share}
 
 -- what was found was written back as it was
-entries_still : (c : After-share) → (c.get_mut.follows.lender c.share.new.self).entries ≡ c.self.inside.ops.entries
+entries_still : (c : goal.After-self-2-1) → (c.get_mut.follows.lender c.share.new.self).entries ≡ c.self.inside.queues.entries
 entries_still c =
     let w = c.share.new.self in
-    (c.get_mut.follows.holds w).0 ∙ set_value_same (is_at (number_cmp record { author = c.args.author; seq = c.args.seq })) c.self.inside.ops.entries w (sym (ap Some c.share.ensures.same ∙ c.in-Some.ensures.value))
-
-held_still : (c : After-share) → IsHeld (c.get_mut.follows.lender c.share.new.self).entries c.self.inside.regular
-held_still c = rw (entries_still c) c.self.invariant
+    (c.get_mut.follows.holds w).0 ∙ set_value_same (nat_eq c.args.author) c.self.inside.queues.entries w (sym (ap Some c.share.ensures.same ∙ c.in-Some.ensures.value))
 
 pub returns-in_default-clause-copy : goal.returns-in_default-clause-copy
-returns-in_default-clause-copy c = sym (ap option_copied_mut c.in_default.is) ∙ (c.get_mut.ensures.value ∙ looked_up c.self.inside.ops.entries c.args.self.now (c.self.invariant.own ∙ ap numbered c.self.view_is) record { author = c.args.author; seq = c.args.seq })
-
-pub invariant_of-self-in_err-copy : goal.invariant_of-self-in_err-copy
-invariant_of-self-in_err-copy c = held_still c.before.before.before.before
-
-pub returns-in_err-copy-clause-same : goal.returns-in_err-copy-clause-same
-returns-in_err-copy-clause-same c = ap values_of (entries_still c.before.before.before.before) ∙ c.self.view_is
+returns-in_default-clause-copy c =
+    let a = c.args.author in
+    let s = c.args.seq in
+    let es = c.self.inside.queues.entries in
+    let q = c.self.invariant.queues in
+    ap (λ W. queued_under W a s) (sym (ap option_copied_mut c.in_default.is) ∙ c.get_mut.ensures.value) ∙ sym (looked_up a s es q.own (in_order es q)) ∙ ap (λ V. waiting_under V a s) c.self.view_is
 
 pub invariant_of-self-2 : goal.invariant_of-self-2
-invariant_of-self-2 c = held_still c.before.before.before
+invariant_of-self-2 c = rw (entries_still c) c.self.invariant
 
 pub returns-clause-same : goal.returns-clause-same
-returns-clause-same c = ap values_of (entries_still c.before.before.before) ∙ c.self.view_is
+returns-clause-same c = ap (λ es. joined (values_of es)) (entries_still c) ∙ c.self.view_is
 
 pub returns-clause-copy : goal.returns-clause-copy
-returns-clause-copy c = ap Some c.in_ok-copy.ensures.copy ∙ (c.in-Some.ensures.value ∙ looked_up c.self.inside.ops.entries c.args.self.now (c.self.invariant.own ∙ ap numbered c.self.view_is) record { author = c.args.author; seq = c.args.seq })
+returns-clause-copy c =
+    let a = c.args.author in
+    let s = c.args.seq in
+    let es = c.self.inside.queues.entries in
+    let q = c.self.invariant.queues in
+    let e : waiting_under c.args.self.now a s ≡ waiting_under c.in-Some.queue.now a s = sym (ap (λ W. queued_under W a s) c.in-Some.ensures.value ∙ sym (looked_up a s es q.own (in_order es q)) ∙ ap (λ V. waiting_under V a s) c.self.view_is) in
+    rw e (c.share.ensures.copy a (own_queue a es c.in-Some.queue.now q.own (sym c.in-Some.ensures.value)))
