@@ -1,6 +1,6 @@
 //! The log of accepted operations.
 
-ghost use Rattle.std.specs.Prelude.{◌≡◌, ◌<◌, ◌-◌, ◌++◌, ◌∷◌, [], OnOk, OnErr, length, slice_get, Some, ◌^◌, IfOk};
+ghost use Rattle.std.specs.Prelude.{◌≡◌, ◌<◌, ◌-◌, ◌++◌, ◌∷◌, [], OnOk, OnErr, length, slice_get, Some, IfOk};
 ghost use Rattle.rls_ops.specs.Rows.{is_covered, missing_for};
 ghost use Rattle.rls_ops.specs.Sizes.{front_within};
 
@@ -86,7 +86,6 @@ impl Log {
     /// many of the first ones as have at most this many bytes by `encoded_len` together. It goes over
     /// the log up to the first one that is left out.
     pub fn missing_for(&self, row: &Vector, limit: u64) -> Result<Ops, AllocError>
-        requires range { limit < 2 ^ 64 - 1 }
         ensures missing { IfOk result (λ ops. ops ≡ front_within 0 limit (missing_for row.now self.now.ops)) }
     {
         let mut missing = Ops::new(*self.ops.allocator());
@@ -98,6 +97,10 @@ impl Log {
             let len = op.encoded_len();
             if len > limit - used {
                 break;
+            }
+            // It may have more bytes than can be counted: no memory holds it.
+            if len == u64::MAX {
+                return Err(AllocError);
             }
             used += len;
             missing.push(op.copy()?)?;
