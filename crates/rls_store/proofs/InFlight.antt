@@ -1,6 +1,6 @@
 -- What a file keeps for operations that some member may not have.
-use Rattle.std.proofs.Common.{◌≡◌, ◌+◌, ◌<◌, ◌≤◌, ◌||◌, ℕ, zero, suc, Bool, true, false, not, List, [], ◌∷◌, ◌++◌, length, map, get_or, if◌then◌else◌, refl, sym, ap, ◌∙◌, subst, arith, inl, inr, ⊎_elim}
-use Rattle.std.specs.Prelude.{◌==◌, nat_le, slice_index, sum}
+use Rattle.std.proofs.Common.{◌≡◌, ◌+◌, ◌<◌, ◌≤◌, ◌||◌, ℕ, zero, suc, Bool, true, false, not, List, [], ◌∷◌, length, map, get_or, if◌then◌else◌, refl, sym, ap, ◌∙◌, subst, arith, inl, inr, ⊎_elim}
+use Rattle.std.specs.Prelude.{◌==◌, slice_index, sum}
 use Rattle.std.specs.Ordering.{is_lt}
 use Rattle.std.specs.declared.cmp.Ordering.TheVariants.{Less}
 use Rattle.rls_ident.specs.declared.epoch_name.EpochName.{EpochName}
@@ -19,8 +19,8 @@ use Rattle.rls_rename.proofs.Order.{less_self, level_same, within_is}
 use Rattle.rls_rename.proofs.SameNodes.{greatest_top}
 use Rattle.rls_rename.proofs.Smallest.{spanned_law}
 use Rattle.rls_ops.specs.declared.op.Op.{Op}
-use Rattle.rls_ops.specs.Rows.{AcksSeen, awaited, awaits, left, row_of, stable_of}
-use Rattle.rls_model.specs.Parts.{epoch_parts, top_part}
+use Rattle.rls_ops.specs.Rows.{awaited, awaits, left, row_of, stable_of}
+use Rattle.rls_model.specs.Parts.{epoch_parts}
 use Rattle.rls_model.proofs.OneTree.{author_below}
 use Rattle.rls_model.proofs.Stable.{IsBelow, below_append, least_greatest}
 use Rattle.rls_seen.specs.Kept.{needed_over, parts_over, retained_over}

@@ -27,16 +27,17 @@ use Rattle.rls_file.specs.ReadingJournals.{after_form_at}
 use Rattle.rls_file.specs.ReadingFiles.{content_at, form_at, file_at, tested, unless_broken, file_of}
 use Rattle.rls_file.specs.SpelledFiles.{IsSpelledSnapshot}
 use Rattle.rls_file.specs.FileLaws.{IsFile}
-use Rattle.rls_file.proofs.FileFormats.{file, file_takes, whole_takes}
+use Rattle.rls_file.proofs.FileFormats.{file, file_reads, file_takes, whole_takes}
 use Rattle.rls_file.proofs.GivenParts.{parts_are_given}
 use Rattle.rls_file.proofs.WholeFiles.{after_form, file_is, fault_of}
 use Rattle.rls_store.specs.declared.loading.FileError.{FileError}
 use Rattle.rls_store.specs.declared.loading.FileError.TheVariants.{Damaged, OutOfMemory}
 use Rattle.rls_store.specs.Loading.{snapshot_behind, damage_of, ReadsParts, IsPlaceOf, IsLoaded, StandsFrom, Loads, FileStandsFor, seen_in}
+use Rattle.rls_store.specs.Kept.{LoadedIsWritable}
 use Rattle.rls_store.specs.Stored.{AreWritable}
 use Rattle.rls_store.proofs.Bounded.{whole_length, place_within}
 use Rattle.rls_store.proofs.Files.{journal_opens}
-use Rattle.rls_store.proofs.Snapshots.{snapshot_writable}
+use Rattle.rls_store.proofs.Snapshots.{snapshot_sane, snapshot_writable}
 
 -- ---- behind the form
 
@@ -156,6 +157,14 @@ loads_found (Ok s) bytes h c e = inl (h.2.0 ∙ ap seen_in (same_content h.0 c (
 loads_found (Err (Damaged at)) bytes h c e = absurd (not_both (file_of bytes) c at e h)
 loads_found (Err OutOfMemory) bytes h c e = inr refl
 
+-- in the words of files
+pub loads_file : (r : Result Seen FileError) (bytes : List ℕ) → IsBytes bytes → Loads r bytes → IfOk r (λ s. (c : Content) × IsFile bytes c × (s ≡ seen_in c))
+loads_file (Ok s) bytes b h = (h.0, file_takes bytes h.0 b h.1, h.2.0)
+loads_file (Err e) bytes b h = tt
+
+pub loads_every : (r : Result Seen FileError) (bytes : List ℕ) → Loads r bytes → (c : Content) → IsFile bytes c → IsOkAnd r (λ s. s ≡ seen_in c) ⊎ (r ≡ Err OutOfMemory)
+loads_every r bytes h c f = loads_found r bytes h c (file_reads bytes c f)
+
 loaded_stands : (s : Seen) (c : Content) (bytes : List ℕ) (t : State) → file_of bytes ≡ Ok c → IsLoaded s c → FileStandsFor bytes t → StandsFor s t
 loaded_stands s c bytes t e l (inl f) = subst (StandsFrom s) (same_content c (Journal t) (sym e ∙ f)) l.1
 loaded_stands s c bytes t e l (inr f) = subst (StandsFrom s) (same_content c (Snapshot f.1.0 (parts t)) (sym e ∙ f.1.1)) l.1 t f.0 refl
@@ -164,10 +173,11 @@ pub loads_stands : (r : Result Seen FileError) (bytes : List ℕ) → Loads r by
 loads_stands (Ok s) bytes h = λ t f. loaded_stands s h.0 bytes t h.1 h.2 f
 loads_stands (Err e) bytes h = tt
 
-content_writable : (bytes : List ℕ) (c : Content) → IsFile bytes c → AreWritable (seen_in c)
-content_writable bytes (Journal t) f = (journal_opens t f.0).writable
-content_writable bytes (Snapshot form p) f = snapshot_writable form p f.0 f.1
+-- what a file says is sane and may be written
+pub loaded_writable : LoadedIsWritable
+loaded_writable bytes (Journal t) f = (let opened = journal_opens t f.0 in (opened.sane, opened.writable))
+loaded_writable bytes (Snapshot form p) f = (snapshot_sane form p f.0 f.1, snapshot_writable form p f.0 f.1)
 
 pub loads_writable : (r : Result Seen FileError) (bytes : List ℕ) → IsBytes bytes → Loads r bytes → IfOk r AreWritable
-loads_writable (Ok s) bytes b h = subst AreWritable (sym h.2.0) (content_writable bytes h.0 (file_takes bytes h.0 b h.1))
+loads_writable (Ok s) bytes b h = subst AreWritable (sym h.2.0) (loaded_writable bytes h.0 (file_takes bytes h.0 b h.1)).1
 loads_writable (Err e) bytes b h = tt

@@ -1,4 +1,4 @@
--- A replica stays one that may be written.
+-- A replica that may be written, and stays one.
 use Rattle.std.specs.Prelude.{◌≡◌, ℕ, List, None, Result, Ok}
 use Rattle.rls_ident.specs.Lists.{IsIn}
 use Rattle.rls_ops.specs.declared.message.Message.{Message}
@@ -10,11 +10,18 @@ use Rattle.rls_seen.specs.Edits.{edit_fault_over}
 use Rattle.rls_seen.specs.Messages.{by_parts, Course, taken_over}
 use Rattle.rls_seen.specs.Sane.{IsSane}
 use Rattle.rls_seen.specs.Seen.{Seen, fresh, members}
+use Rattle.rls_file.specs.Files.{Content}
+use Rattle.rls_file.specs.FileLaws.{IsFile}
+use Rattle.rls_store.specs.Loading.{seen_in}
 use Rattle.rls_store.specs.Stored.{AreWritable}
 
 -- a fresh replica may be written
 abbrev pub FreshIsWritable : Type 0
 FreshIsWritable = (group me members : ℕ) → AreWritable (fresh group me members)
+
+-- what any file says, of whatever form and by whomever it was written, is sane and may be written
+abbrev pub LoadedIsWritable : Type 0
+LoadedIsWritable = (bytes : List ℕ) (c : Content) → IsFile bytes c → IsSane (seen_in c) × AreWritable (seen_in c)
 
 -- what one of these lines is read as is well formed and has no fault
 abbrev pub ReadsWell : {L F : Type 0} → (Seen → L → Result Edit F) → List L → Type 0

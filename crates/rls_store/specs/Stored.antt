@@ -1,5 +1,5 @@
 -- What is stored is a file again.
-use Rattle.std.specs.Prelude.{◌≡◌, ◌≢◌, ◌≤◌, ℕ, All, None, length}
+use Rattle.std.specs.Prelude.{◌≡◌, ◌≢◌, ◌≤◌, All, None, length}
 use Rattle.rls_ident.specs.declared.limits.TheConstants.{OPERATION_BYTES, FILE_BYTES}
 use Rattle.rls_ident.specs.Lists.{IsIn}
 use Rattle.rls_ops.specs.declared.op.Op.{Op}

@@ -2,12 +2,17 @@
 
 ghost use Rattle.rls_store.specs.Histories.{FreshIsStorable, LinesKeepStorable, SentIsMessage, StorableIsReadBack, TakenIsStorable};
 ghost use Rattle.rls_store.specs.InFlight.{InFlight};
-ghost use Rattle.rls_store.specs.Kept.{FreshIsWritable, LinesKeepWritable, TakenIsWritable};
+ghost use Rattle.rls_store.specs.Kept.{FreshIsWritable, LinesKeepWritable, LoadedIsWritable, TakenIsWritable};
 ghost use Rattle.rls_store.specs.Stored.{StoredAgain};
 
 /// What is stored is a file again: the parts of a replica have a spelling and break no rule, so that they are read back.
 pub fn stored_again()
     ensures stored_again { StoredAgain }
+{}
+
+/// What a file says, also one of an older form or a forged one, is sane and may be written as a file again.
+pub fn loaded()
+    ensures loaded { LoadedIsWritable }
 {}
 
 /// A fresh replica may be written as a file, and one that may be written still may after edits without a fault and after a message,

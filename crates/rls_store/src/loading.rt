@@ -5,6 +5,7 @@ ghost use Rattle.rls_codec.specs.Gives.{Gives};
 ghost use Rattle.rls_model.specs.Receiving.{State};
 ghost use Rattle.rls_seen.specs.Stands.{StandsFor};
 ghost use Rattle.rls_file.specs.Files.{Content, Snapshot};
+ghost use Rattle.rls_file.specs.FileLaws.{IsFile};
 ghost use Rattle.rls_file.specs.ReadingFiles.{file_at, file_of, form_at};
 ghost use Rattle.rls_file.specs.ReadingJournals.{after_form_at};
 ghost use Rattle.rls_store.specs.Stored.{AreWritable};
@@ -146,6 +147,10 @@ pub fn decode_file(alloc: Global, bytes: &[u8]) -> Result<Replica, FileError>
 
     // It is Ok wherever the bytes are a file, unless memory runs out.
     ensures found { (c : Content) → file_of bytes.now ≡ Ok c → IsOkAnd result (λ r. r ≡ seen_in c) ⊎ (result ≡ Err FileError.OutOfMemory) }
+
+    // In the words of files: what is loaded is one, and each that is one is loaded, unless memory runs out.
+    ensures file { IfOk result (λ r. (c : Content) × IsFile bytes.now c × (r ≡ seen_in c)) }
+    ensures every_file { (c : Content) → IsFile bytes.now c → IsOkAnd result (λ r. r ≡ seen_in c) ⊎ (result ≡ Err FileError.OutOfMemory) }
 
     // It may be written again, also if nobody has written the file.
     ensures writable { IfOk result (λ r. AreWritable r) }

@@ -1,5 +1,5 @@
 use Rattle.std.proofs.Common.{arith}
-use Rattle.rls_store.proofs.Loaded.{loads_ok, loads_damaged, loads_found, loads_stands, loads_writable}
+use Rattle.rls_store.proofs.Loaded.{loads_ok, loads_damaged, loads_every, loads_file, loads_found, loads_stands, loads_writable}
 use Rattle.rls_store.proofs.loading.decode_file.Goals as goal
 
 pub returns-clause-ok : goal.returns-clause-ok
@@ -10,6 +10,12 @@ returns-clause-damaged c = loads_damaged c.load.result c.args.bytes.now c.load.e
 
 pub returns-clause-found : goal.returns-clause-found
 returns-clause-found c = loads_found c.load.result c.args.bytes.now c.load.ensures.loads
+
+pub returns-clause-file : goal.returns-clause-file
+returns-clause-file c = loads_file c.load.result c.args.bytes.now (λ i. omega (arith, c.type_inv.bytes i)) c.load.ensures.loads
+
+pub returns-clause-every_file : goal.returns-clause-every_file
+returns-clause-every_file c = loads_every c.load.result c.args.bytes.now c.load.ensures.loads
 
 pub returns-clause-stands : goal.returns-clause-stands
 returns-clause-stands c = loads_stands c.load.result c.args.bytes.now c.load.ensures.loads
