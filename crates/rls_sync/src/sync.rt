@@ -1,8 +1,13 @@
 //! What members send each other.
 
 ghost use Rattle.std.specs.Prelude.{◌≡◌, ◌≤◌, ◌↔◌, ◌⊎◌, ℕ, Ok, Err, IfOk, IsErrOf};
+ghost use Rattle.rls_ident.specs.declared.limits.TheConstants.{OPERATION_BYTES};
+ghost use Rattle.rls_ident.specs.Lists.{IsIn};
 ghost use Rattle.rls_ops.specs.declared.message.Message.{Message};
+ghost use Rattle.rls_ops.specs.declared.op.Op.{Op};
+ghost use Rattle.rls_ops.specs.Sizes.{op_size};
 ghost use Rattle.rls_ops.specs.Spelling.{message_bytes};
+ghost use Rattle.rls_codec.specs.CodecLaws.{IsMessage};
 ghost use Rattle.rls_codec.specs.Reading.{message_of};
 ghost use Rattle.rls_model.specs.Receiving.{State};
 ghost use Rattle.rls_model.specs.Taking.{message_for, take_message};
@@ -37,10 +42,13 @@ pub fn message_bytes(alloc: Global, replica: &Replica, to: u32) -> Result<Vec<u8
     ensures bytes { IfOk result (λ bytes. bytes.items ≡ message_bytes (message_over replica.now to)) }
     ensures not_member { IsErrOf result SendError.NotMember ↔ (members replica.now ≤ to) }
 
+    // They are a message, which others can read, where no kept operation has more bytes than one may have.
+    ensures message { IfOk result (λ bytes. ((o : Op) → IsIn o replica.now.log → op_size o ≤ OPERATION_BYTES) → IsMessage bytes.items (message_over replica.now to)) }
+
     // For every history and waiting operations that the replica stands for.
     ensures stands { IfOk result (λ bytes. (t : State) → StandsFor replica.now t → bytes.items ≡ message_bytes (message_for t.history to)) }
 {
-    let _members = replica.members();
+    replica.sane();
     match replica.message_for(to) {
         Ok(message) => match encode_message(alloc, &message) {
             Ok(bytes) => Ok(bytes),
