@@ -1,5 +1,5 @@
 -- Edits, seen by a history that the replica stands for.
-use Rattle.std.proofs.Common.{◌≡◌, ℕ, ◌+◌, List, [], ◌∷◌, length, sym, ap, ◌∙◌, subst, arith, None}
+use Rattle.std.proofs.Common.{◌≡◌, ℕ, ◌+◌, List, [], ◌∷◌, length, refl, sym, ap, ◌∙◌, subst, arith, None}
 use Rattle.std.specs.Prelude.{pos, Some, if◌then◌else◌}
 use Rattle.std.proofs.lemmas.Int.{ints}
 use Rattle.std.proofs.lemmas.List.{length-map}
@@ -60,10 +60,10 @@ one_run s t h f =
     let id : Entry → List Tuple = λ z. z.0 in
     let char : Entry → ℕ = λ z. z.1 in
     let n : length (idents_over s) ≡ length (text_over s) = length-map s.text id ∙ sym (length-map s.text char) in
-    record {
-      run = run_renamed s t h f;
-      stem = (new_stem s.acks.me (own_count s + 1) (length (idents_over s)), stem_renamed s (new_pos (idents_over s)), omega (arith, ints));
-    }
+    let run = run_renamed s t h f in
+    let w = new_stem s.acks.me (own_count s + 1) (length (idents_over s)) in
+    let own = stem_renamed s (new_pos (idents_over s)) in
+    (record { run = run; stem = (w, own, omega (arith, ints)) }, record { run = run; stem = (w, own, refl) })
 
 -- the text after an edit is the edited text
 pub text-edited : (s : Seen) (edit : Edit) → IsSane s → IsEdit edit → edit_fault_over s edit ≡ None → text_over (edited s edit) ≡ edited_text edit (text_over s)

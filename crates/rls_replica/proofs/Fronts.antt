@@ -1,12 +1,10 @@
 -- How far two lists have the same identifiers.
 use Rattle.std.proofs.Common.{◌≡◌, ◌∙◌, ℕ, ◌+◌, ◌-◌, ◌<◌, ◌≤◌, List, length, Some, sym, ap, arith}
-use Rattle.std.specs.Prelude.{pos, ◌+ℤ◌, slice_get}
+use Rattle.std.specs.Prelude.{pos, slice_get}
 use Rattle.std.proofs.lemmas.Int.{ints}
 use Rattle.std.proofs.lemmas.Option.{slice_get_within}
 use Rattle.rls_ident.specs.declared.tuple.Tuple.{Tuple}
 use Rattle.rls_ident.specs.Identifiers.{shifted}
-use Rattle.rls_ident.specs.Lists.{IsIn}
-use Rattle.rls_ident.proofs.Members.{get_in, some_is}
 use Rattle.rls_ident.proofs.Shifted.{shifted_shifted}
 use Rattle.rls_runs.specs.Runs.{run_idents}
 use Rattle.rls_runs.proofs.Finding.{run_length}

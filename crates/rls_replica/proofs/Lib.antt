@@ -12,10 +12,12 @@ pub mod EditFaults
 pub mod LeaveFaults
 pub mod KeptNames
 pub mod OwnRuns
+pub mod OwnFronts
 pub mod EditLaws
 pub mod Neighbours
 pub mod GivenPieces
 pub mod Marking
+pub mod StillNumbers
 pub mod Fronts
 pub mod Merges
 pub mod Noting

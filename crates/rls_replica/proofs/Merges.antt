@@ -1,12 +1,12 @@
 -- Two lists of identifiers become one.
 use Rattle.std.proofs.Common.{◌≡◌, ◌∙◌, ℕ, zero, suc, ◌+◌, ◌-◌, ◌<◌, ◌≤◌, ◌⊎◌, List, [], ◌∷◌, ◌++◌, length, Some, None, true, false, refl, sym, ap, subst, inl, inr, arith, ⊎_elim, get_or}
-use Rattle.std.proofs.lemmas.Option.{slice_get_cases, slice_get_within}
+use Rattle.std.proofs.lemmas.Option.{slice_get_cases}
 use Rattle.std.specs.Prelude.{slice_get, pos}
 use Rattle.std.proofs.lemmas.Int.{ints}
 use Rattle.rls_ident.specs.declared.tuple.Tuple.{Tuple}
 use Rattle.rls_ident.specs.Identifiers.{ident_lt, shifted}
 use Rattle.rls_ident.specs.Lists.{IsIn}
-use Rattle.rls_ident.proofs.Lists.{Lt, lt_trans, tri}
+use Rattle.rls_ident.proofs.Lists.{lt_trans, tri}
 use Rattle.rls_ident.proofs.Members.{some_is, get_in, in_left, in_right, in_split, not_true}
 use Rattle.rls_ident.proofs.Shifted.{shifted_shifted}
 use Rattle.rls_ident.proofs.Tuples.{tuples, lt_of, of_lt}

@@ -1,5 +1,5 @@
 -- What is kept of the identifiers that unstable deletions name stays right, and what isn't among them none names.
-use Rattle.std.proofs.Common.{◌≡◌, ◌∙◌, ◌⊎◌, ℕ, zero, suc, ◌+◌, ◌<◌, ◌≤◌, not, Bool, true, false, List, [], ◌∷◌, ◌++◌, length, map, take, drop, Option, Some, None, refl, sym, ap, subst, inl, inr, ⊎_elim, arith, append_assoc, append-nil}
+use Rattle.std.proofs.Common.{◌≡◌, ◌∙◌, ◌⊎◌, ℕ, zero, suc, ◌+◌, ◌<◌, not, Bool, true, false, List, [], ◌∷◌, ◌++◌, length, map, take, drop, Option, Some, None, refl, sym, ap, subst, inl, inr, ⊎_elim, arith, append_assoc, append-nil}
 use Rattle.std.specs.Prelude.{IfSome, cond, slice_get}
 use Rattle.std.proofs.lemmas.List.{length-append, take-append-le}
 use Rattle.rls_ident.specs.declared.tuple.Tuple.{Tuple}
@@ -12,7 +12,7 @@ use Rattle.rls_ident.proofs.Ends.{eq_same, same_eq}
 use Rattle.rls_ident.proofs.Members.{map_in, any_in, in_any, filter_in, in_filter, in_left, in_right, in_split, in_take, in_drop, not_is, not_true, same_bool, some_is, take_or_drop}
 use Rattle.rls_runs.specs.Entries.{has_ident}
 use Rattle.rls_runs.specs.Runs.{AreIdents, joined}
-use Rattle.rls_rename.specs.Tree.{Node, is_kept, is_of, translate}
+use Rattle.rls_rename.specs.Tree.{is_kept, is_of, translate}
 use Rattle.rls_rename.proofs.Kept.{greatest_kept}
 use Rattle.rls_rename.proofs.Growth.{translate_other}
 use Rattle.rls_rename.proofs.Paths.{name_eq_is, translate_translate}

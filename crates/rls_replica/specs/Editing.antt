@@ -1,9 +1,9 @@
 -- What is told of edits beside their operations.
-use Rattle.std.specs.Prelude.{◌≡◌, ℕ, ◌+◌, pos, ◌+ℤ◌, ◌≤ℤ◌, List, [], ◌∷◌, ◌++◌, length, take, drop, ◌==◌, Option, Some, None, if◌then◌else◌}
+use Rattle.std.specs.Prelude.{◌≡◌, ℕ, ◌+◌, pos, ◌+ℤ◌, ◌-ℤ◌, ◌≤ℤ◌, List, [], ◌∷◌, ◌++◌, length, take, drop, ◌==◌, Option, Some, None, if◌then◌else◌}
 use Rattle.rls_ident.specs.declared.limits.TheConstants.{GREATEST_NUMBER, OFFSETS_END}
 use Rattle.rls_ident.specs.declared.tuple.Tuple.{Tuple}
 use Rattle.rls_ident.specs.declared.tuple.Tuple.TheVariants.{At}
-use Rattle.rls_ident.specs.Identifiers.{last_of}
+use Rattle.rls_ident.specs.Identifiers.{last_of, least_offset}
 use Rattle.rls_ident.specs.Tuples.{offset_of}
 use Rattle.rls_runs.specs.Runs.{runs_of}
 use Rattle.rls_rename.specs.Renaming.{new_pos}
@@ -48,6 +48,16 @@ pub record IsOwnRun (s : Seen) (first : List Tuple) (n : ℕ) : Type 0 where
 abbrev pub HasRoom : List Tuple → ℕ → Type 0
 HasRoom first n = (offset_of (last_of first) +ℤ pos n) ≤ℤ pos OFFSETS_END
 
--- the text is such a run, from offset 0 on in the stem that the next own operation begins
+-- the text is one run of n characters from this identifier on, whose offset is the least used one of its stem, which is the member's own
+pub record IsOwnFront (s : Seen) (first : List Tuple) (n : ℕ) : Type 0 where
+  pub run : runs_of (idents_over s) ≡ (first, n) ∷ []
+  pub stem : (w : Stem) × (own_stem s.stems s.acks.me (last_of first) ≡ Some w) × (w.low ≡ offset_of (last_of first))
+
+-- n offsets below that of this identifier are within the format's range
+abbrev pub HasRoomBelow : List Tuple → ℕ → Type 0
+HasRoomBelow first n = least_offset ≤ℤ (offset_of (last_of first) -ℤ pos n)
+
+-- the text is such a run at both ends, from offset 0 on in the stem that the next own operation begins
 abbrev pub IsOneRun : Seen → Seen → Type 0
-IsOneRun old new = IsOwnRun new (At (new_pos (idents_over old)) old.acks.me (own_count old + 1) (pos 0) ∷ []) (length (text_over old))
+IsOneRun old new =
+    let first = At (new_pos (idents_over old)) old.acks.me (own_count old + 1) (pos 0) ∷ [] in IsOwnRun new first (length (text_over old)) × IsOwnFront new first (length (text_over old))

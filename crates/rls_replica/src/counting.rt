@@ -41,7 +41,8 @@ impl Replica {
     pub fn drop_stable(&mut self)
         ensures after { self.new ≡ dropped self.old }
 
-        // What is kept then are as many operations and epochs as are counted, before and afterwards.
+        // What is counted stays the same, and just as many operations and epochs are kept then.
+        ensures counts { counts_over self.new ≡ counts_over self.old }
         ensures kept { KeepsJust self.new (counts_over self.old) }
 
         // For every history and waiting operations that the replica stands for.

@@ -1,8 +1,9 @@
 //! What the member itself does.
 
-ghost use Rattle.std.specs.Prelude.{◌≡◌, ℕ, List, ◌+◌, ◌-◌, ◌<◌, ◌≤◌, ◌^◌, ◌≢◌, length, slice_get, Some, None, IfOk, IfErr, OnOk, OnErr};
+ghost use Rattle.std.specs.Prelude.{◌≡◌, ℕ, List, pos, ◌-ℤ◌, ◌+◌, ◌-◌, ◌<◌, ◌≤◌, ◌^◌, ◌≢◌, length, slice_get, Some, None, IfOk, IfErr, OnOk, OnErr};
 ghost use Rattle.rls_ident.specs.declared.limits.TheConstants.{GREATEST_NUMBER};
 ghost use Rattle.rls_ident.specs.declared.tuple.Tuple.{Tuple};
+ghost use Rattle.rls_ident.specs.Identifiers.{shifted};
 ghost use Rattle.rls_ops.specs.Sizes.{op_size};
 ghost use Rattle.rls_model.specs.declared.edit.Edit.TheVariants.{Insert, Delete, Rename, Leave};
 ghost use Rattle.rls_model.specs.Editing.{edit_fault, made, next_seq, get_before, first_between, range_fault, size_fault};
@@ -13,7 +14,7 @@ ghost use Rattle.rls_seen.specs.Sane.{IsSane};
 ghost use Rattle.rls_seen.specs.Seen.{own_count, idents_over, text_over};
 ghost use Rattle.rls_seen.specs.Stands.{StandsFor};
 ghost use Rattle.rls_replica.specs.Names.{KeepsNames};
-ghost use Rattle.rls_replica.specs.Editing.{early_fault, edited_text, IsLeaveFault, IsOneRun, IsOwnRun, HasRoom};
+ghost use Rattle.rls_replica.specs.Editing.{early_fault, edited_text, IsLeaveFault, IsOneRun, IsOwnFront, IsOwnRun, HasRoom, HasRoomBelow};
 
 use crate::replica::Replica;
 use rls_doc::Document;
@@ -52,6 +53,9 @@ impl Replica {
 
         // Typing at the end of a text that is one run of the member's own goes on with the run, as it does after a rename.
         ensures typed { OnOk result ((first : List Tuple) (n : ℕ) (cs : List ℕ) → edit.now ≡ Insert n cs → IsOwnRun self.old first n → HasRoom first (n + length cs) → IsOwnRun self.new first (n + length cs)) }
+
+        // And typing at its front goes on with it there.
+        ensures fronted { OnOk result ((first : List Tuple) (n : ℕ) (cs : List ℕ) → edit.now ≡ Insert 0 cs → IsOwnFront self.old first n → HasRoomBelow first (length cs) → IsOwnFront self.new (shifted (pos 0 -ℤ pos (length cs)) first) (n + length cs)) }
     {
         let seq = self.edit_exactly(edit)?;
         Ok(seq)

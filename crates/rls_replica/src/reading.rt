@@ -1,16 +1,16 @@
 //! What a replica tells of itself.
 
-ghost use Rattle.std.specs.Prelude.{◌≡◌, ◌+◌, ◌-◌, ◌^◌, ◌<◌, ◌≤◌, length, take, drop, slice_get, Some, IfOk};
+ghost use Rattle.std.specs.Prelude.{◌≡◌, ℕ, List, ◌+◌, ◌-◌, ◌^◌, ◌<◌, ◌≤◌, length, take, drop, slice_get, Some, IfOk};
 ghost use Rattle.rls_ident.specs.declared.limits.TheConstants.{MEMBERS};
 ghost use Rattle.rls_ops.specs.Rows.{left};
 ghost use Rattle.rls_runs.specs.Runs.{place_of};
 ghost use Rattle.rls_blocks.specs.Trees.{entries_of};
 ghost use Rattle.rls_model.specs.Document.{export, text, idents};
 ghost use Rattle.rls_model.specs.Epochs.{greatest};
-ghost use Rattle.rls_model.specs.History.{count};
+ghost use Rattle.rls_model.specs.History.{count, group_of, has_left, me_of, members_of};
 ghost use Rattle.rls_model.specs.Receiving.{State};
 ghost use Rattle.rls_seen.specs.Seen.{members, vector, greatest_over, idents_over, text_over};
-ghost use Rattle.rls_seen.specs.Stands.{StandsFor};
+ghost use Rattle.rls_seen.specs.Stands.{IsLog, StandsFor};
 
 use crate::replica::Replica;
 use rls_causal::Held;
@@ -25,6 +25,9 @@ impl Replica {
     /// The group.
     pub fn group(&self) -> u64
         ensures group { result ≡ self.now.group }
+
+        // For every history and waiting operations that the replica stands for.
+        ensures stands { (t : State) → StandsFor self.now t → result ≡ group_of t.history }
     {
         self.group
     }
@@ -33,6 +36,9 @@ impl Replica {
     pub fn me(&self) -> u32
         ensures me { result ≡ self.now.acks.me }
         ensures member { result < members self.now }
+
+        // For every history and waiting operations that the replica stands for.
+        ensures stands { (t : State) → StandsFor self.now t → result ≡ me_of t.history }
     {
         self.acks.me()
     }
@@ -42,6 +48,9 @@ impl Replica {
         ensures members { result ≡ members self.now }
         ensures some { 0 < result }
         ensures few { result ≤ MEMBERS }
+
+        // For every history and waiting operations that the replica stands for.
+        ensures stands { (t : State) → StandsFor self.now t → result ≡ members_of t.history }
     {
         self.acks.mine().len() as u32
     }
@@ -60,6 +69,9 @@ impl Replica {
     pub fn left(&self, member: u32) -> bool
         requires member { member < members self.now }
         ensures left { result ≡ left self.now.acks member }
+
+        // For every history and waiting operations that the replica stands for.
+        ensures stands { (t : State) → StandsFor self.now t → result ≡ has_left t.history member }
     {
         self.acks.left(member)
     }
@@ -77,6 +89,9 @@ impl Replica {
     /// The operations that wait.
     pub fn held(&self) -> &Held
         ensures held { result.now ≡ self.now.waiting }
+
+        // For every history and waiting operations that the replica stands for.
+        ensures stands { (t : State) → StandsFor self.now t → result.now ≡ t.waiting }
     {
         &self.held
     }
@@ -84,6 +99,9 @@ impl Replica {
     /// The accepted operations that are kept, in order.
     pub fn logged(&self) -> &Log
         ensures log { result.now.ops ≡ self.now.log }
+
+        // For every history and waiting operations that the replica stands for.
+        ensures stands { (t : State) → StandsFor self.now t → (gone : List ℕ) × IsLog result.now.ops t.history gone }
     {
         &self.log
     }
@@ -92,6 +110,9 @@ impl Replica {
     pub fn total(&self) -> u64
         ensures total { result ≡ length self.now.text }
         ensures room { result < 2 ^ 64 - 1 }
+
+        // For every history and waiting operations that the replica stands for.
+        ensures stands { (t : State) → StandsFor self.now t → result ≡ length (text t.history) }
     {
         self.document.total()
     }
@@ -111,6 +132,9 @@ impl Replica {
     pub fn text_of(&self, from: u64, count: u64) -> Result<Text, AllocError>
         requires places { from + count ≤ length self.now.text }
         ensures text { IfOk result (λ cs. cs ≡ take count (drop from (text_over self.now))) }
+
+        // For every history and waiting operations that the replica stands for.
+        ensures stands { IfOk result (λ cs. (t : State) → StandsFor self.now t → cs ≡ take count (drop from (text t.history))) }
     {
         let _total = self.document.total();
         let mut text = Text::new(self.alloc);

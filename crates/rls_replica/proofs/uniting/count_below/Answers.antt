@@ -1,5 +1,5 @@
 use Rattle.std.proofs.Common.{◌∙◌, sym}
-use Rattle.rls_runs.proofs.Gaps.{read_err, read_ok}
+use Rattle.rls_runs.proofs.Gaps.{read_ok}
 use Rattle.rls_replica.proofs.uniting.count_below.Goals as goal
 
 pub returns-in-Ok : goal.returns-in-Ok

@@ -1,4 +1,4 @@
-use Rattle.std.proofs.Common.{◌∙◌, ◌+◌, ◌-◌, inl, inr, ⊎_elim, arith}
+use Rattle.std.proofs.Common.{◌+◌, ◌-◌, inl, inr, ⊎_elim, arith}
 use Rattle.rls_runs.proofs.RunOrder.{rising_of}
 use Rattle.rls_replica.proofs.Merges.{both_next, put_more, put_still, moved, moved_back}
 use Rattle.rls_replica.proofs.uniting.put_next.Goals as goal

@@ -1,4 +1,4 @@
-use Rattle.std.proofs.Common.{◌<◌, arith}
+use Rattle.std.proofs.Common.{arith}
 use Rattle.rls_replica.proofs.Merges.{above_all, first_at, put_all, put_only}
 use Rattle.rls_replica.proofs.uniting.put_part.Goals as goal
 

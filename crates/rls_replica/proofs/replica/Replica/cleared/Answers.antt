@@ -1,7 +1,5 @@
-use Rattle.std.proofs.Common.{◌≡◌, Option, drop, ap, subst}
+use Rattle.std.proofs.Common.{◌≡◌, Option, drop, subst}
 use Rattle.std.specs.Prelude.{IfSome}
-use Rattle.rls_ident.specs.Lists.{IsIn}
-use Rattle.rls_runs.specs.Runs.{joined}
 use Rattle.rls_seen.specs.Seen.{Seen}
 use Rattle.rls_replica.specs.declared.gone.Gone.{Gone}
 use Rattle.rls_replica.specs.Gone.{IsGone}

@@ -16,6 +16,7 @@ use Rattle.rls_seen.proofs.Needed.{log_author}
 use Rattle.rls_replica.specs.KeptJust.{KeepsJust}
 use Rattle.rls_replica.specs.View.{seen}
 use Rattle.rls_replica.proofs.Marking.{dropped_is, keeps_just, members_dropped}
+use Rattle.rls_replica.proofs.StillNumbers.{counts_still}
 use Rattle.rls_replica.proofs.Whole.{whole_next}
 use Rattle.rls_replica.proofs.replica.Replica.drop_stable.Goals as goal
 
@@ -34,6 +35,9 @@ after c =
 
 pub returns-clause-after : goal.returns-clause-after
 returns-clause-after c = after c
+
+pub returns-clause-counts : goal.returns-clause-counts
+returns-clause-counts c = let s = c.args.self.now in ap counts_over (after c) ∙ counts_still s (subst IsSane c.self.view_is c.self.invariant.sane)
 
 pub returns-clause-kept : goal.returns-clause-kept
 returns-clause-kept c =

@@ -7,6 +7,7 @@ use Rattle.rls_seen.specs.Edits.{edit_fault_over, made_over, IsFault}
 use Rattle.rls_seen.specs.Seen.{text_over}
 use Rattle.rls_seen.proofs.Editing.{edited_stands, edit_faults_alike, own_alike}
 use Rattle.rls_replica.proofs.EditLaws.{refused_alike, one_run, text-edited}
+use Rattle.rls_replica.proofs.OwnFronts.{goes_before}
 use Rattle.rls_replica.proofs.OwnRuns.{goes_on}
 use Rattle.rls_replica.proofs.LeaveFaults.{leave_fault}
 use Rattle.rls_replica.proofs.KeptNames.{accepted_names, names_unchanged}
@@ -50,6 +51,13 @@ returns-clause-typed c = λ first n cs is run room.
     let i : IsEdit (edits.Insert n cs) = subst IsEdit is e.whole in
     let f = subst (λ (x : Edit). edit_fault_over c.args.self.now x ≡ None) is e.fits in
     rw (e.after, is) (goes_on c.args.self.now n cs first e.sane i f run room)
+
+pub returns-clause-fronted : goal.returns-clause-fronted
+returns-clause-fronted c = λ first n cs is run room.
+    let e = c.in_ok-seq.ensures in
+    let i : IsEdit (edits.Insert 0 cs) = subst IsEdit is e.whole in
+    let f = subst (λ (x : Edit). edit_fault_over c.args.self.now x ≡ None) is e.fits in
+    rw (e.after, is) (goes_before c.args.self.now n cs first e.sane i f run room)
 
 pub returns-in_err-seq-clause-names : goal.returns-in_err-seq-clause-names
 returns-in_err-seq-clause-names c = names_unchanged c.args.self.now _ c.in_err-seq.ensures.err
