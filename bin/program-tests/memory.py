@@ -1,7 +1,7 @@
 """Want of memory. Each request of a command for memory is refused in turn, alone or with all after it: the status is 10 and nothing was printed
 or stored, or all is as without it. And requests that nothing justifies: a few bytes that tell large numbers, data as deep as it is long."""
 import random
-from commands import HELLO_1, edits
+from commands import HELLO_1
 from forms import (FRESH, HELLO, HELLO_MESSAGE, HELLO_OPERATION, JOURNAL, ORIGIN, at, deletion, epoch, file4, fresh, head, i32, ident, insertion, message,
                    operation, run, runs, text, typed, u32, u64, vector)
 from room import KINDS, Result, kept
@@ -158,16 +158,8 @@ def counts(room):
 
 
 def depth(room):
-    """Nothing goes as deep as the data is long: with a stack of 256 kB, 20 MB in 150,000 runs, and the same for other lists."""
-    lots, letters = 150000, b"abcdefghij" * 13
-    many = file4(7, 1, 0, (1,), [], [[(1, 0, 200 * lots)]], b"".join(run(typed(0, 1, 200 * k), 130) + text(letters) for k in range(lots)), count_of_runs=lots)
+    """Nothing goes as deep as the data is long, with a stack of 256 kB. (`many-runs` tries the runs of a text.)"""
     limits = ["-s 256"]
-    for kind in KINDS:
-        folder = room.replica(kind, many)
-        room.equal(kind + ": text of 150,000 runs", room.limited(folder, ["text"], limits), Result(0, letters * lots, b""))
-        room.equal(kind + ": edits in 150,000 runs", room.limited(folder, ["edit"], limits, b"d 7 1000\ni 7 x\nb 8\n"), Result(0, edits(3), b""))
-        wanted = (letters * lots)[:7] + (letters * lots)[1007:]
-        room.equal(kind + ": text after them", room.limited(folder, ["text"], limits), Result(0, wanted, b""))
     wide = ident(*[at(1, 1, 1, 0)] * 200000)
     waiting = message(7, 2, 1, (0, 300000), [insertion(1, 300000, (0, 299999), wide, b"x")] + [insertion(1, 2 + k, (0, 1 + k), typed(1, 1, 1 + k), b"y") for k in range(50000)])
     folder = room.replica("slots", FRESH)
