@@ -4,7 +4,7 @@ import os
 import re
 import select
 import subprocess
-from forms import FRESH, HELLO, HELLO_MESSAGE, HELLO_OPERATION, at, ident, insertion, message, typed
+from forms import FRESH, HELLO, HELLO_MESSAGE, HELLO_OPERATION, at, fresh, ident, insertion, message, typed
 from room import KINDS, Result, kept, short
 
 NUMBER = "(0|[1-9][0-9]*)"
@@ -261,4 +261,30 @@ def edges(room):
         room.equal(kind + ": a text of no character", room.run(folder, ["session"], b"t\nq"), Result(0, b"text 0\n\nsaved\n", b""))
 
 
-TESTS = [("session-pieces", pieces), ("session-ended", ended), ("session-edges", edges)]
+def piped(room):
+    """`edit` and `take` read a pipe to its end, in whatever pieces it comes, and a file from where it stands."""
+    script = b"".join(b"i %d some words %d;\n" % (0, k) for k in range(400))
+    wanted = b"".join(b"some words %d;" % k for k in reversed(range(400)))
+    for kind in KINDS:
+        for words, given, content, text, report in ((["edit"], script, FRESH, wanted, b"edits 400 released 0 refused 0\n"),
+                                                    (["take"], HELLO_MESSAGE, fresh(1), b"hello", b"applied 1 released 0 repeated 0 held 0 refused 0\n")):
+            for piece in (1, 7, 4096):
+                folder = room.replica(kind, content)
+                os.chdir(folder)
+                with subprocess.Popen([room.program] + words, stdin=subprocess.PIPE, stdout=subprocess.PIPE, stderr=subprocess.PIPE, bufsize=0) as process:
+                    for begin in range(0, len(given), piece):
+                        process.stdin.write(given[begin:begin + piece])
+                    process.stdin.close()
+                    found = Result(0, process.stdout.read(), process.stderr.read())
+                    found.status = process.wait()
+                room.equal("%s: %s in pieces of %d bytes" % (kind, words[0], piece), (found, room.text(folder)), (Result(0, report, b""), (0, text, b"")))
+            folder = room.replica(kind, content)
+            with open(room.in_path, "wb") as file:
+                file.write(b"what stands before it\n" + given)
+            with open(room.in_path, "rb", buffering=0) as file:
+                file.seek(22)
+                done = subprocess.run([room.program] + words, stdin=file, capture_output=True, cwd=folder, check=False)
+            room.equal("%s: %s behind other input" % (kind, words[0]), (done.returncode, done.stdout, room.text(folder)), (0, report, (0, text, b"")))
+
+
+TESTS = [("piped", piped), ("session-pieces", pieces), ("session-ended", ended), ("session-edges", edges)]

@@ -171,14 +171,18 @@ def stored_files(room):
     if memory_available() < 4 << 30:
         room.skip("a file that is full", "it takes 4 GB of memory, and the machine has %d MB free" % (memory_available() >> 20))
         return
-    sizes = [LIMIT_OPERATION] * (LIMIT_FILE // LIMIT_OPERATION - 1)
-    sizes += [LIMIT_FILE - len(FRESH) - sum(sizes)]
-    full = file4(7, 2, 0, (0, 0), [(0, 0)], [[], []], [], (), [padded(size, 2 + k) for k, size in enumerate(sizes)])
-    room.equal("the file is full", len(full), LIMIT_FILE)
-    folder = room.replica("slots", full)
-    room.equal("a full file is read", room.run(folder, ["text"]), Result(0, b"", b""))
-    room.equal("an edit in a full file", room.run(folder, ["edit"], b"i 0 x\n"), too_large)
-    room.equal("a full file is stored", (room.run(folder, ["edit"]), kept(folder) == full), (Result(0, edits(0), b""), True))
+    # What `i 0 x` adds to such a file: a stem, a run with its text, and the operation.
+    added = len(HELLO) - len(FRESH) - 2 * len(b"hello") + 2 * len(b"x")
+    for missing, wanted in ((added, Result(0, edits(1), b"")), (added - 1, too_large), (0, too_large)):
+        sizes = [LIMIT_OPERATION] * (LIMIT_FILE // LIMIT_OPERATION - 1)
+        sizes += [LIMIT_FILE - missing - len(FRESH) - sum(sizes)]
+        content = file4(7, 2, 0, (0, 0), [(0, 0)], [[], []], [], (), [padded(size, 2 + k) for k, size in enumerate(sizes)])
+        room.equal("the file lacks %d bytes" % missing, len(content), LIMIT_FILE - missing)
+        folder = room.replica("slots" if missing != added - 1 else "file", content)
+        room.equal("an edit where %d bytes are free" % missing, room.run(folder, ["edit"], b"i 0 x\n"), wanted)
+        room.equal("the length of the file after it", len(kept(folder)), LIMIT_FILE - (0 if missing == added else missing))
+        if missing != added - 1:
+            room.equal("a full file is read", room.run(folder, ["text"]), Result(0, b"x" if missing else b"", b""))
 
 
 def limits(room):
