@@ -233,39 +233,45 @@ def streams(room):
 
 
 def others(room):
-    """A user who may read a replica and not write it reads it, and changes nothing. So in a folder that may not be written."""
-    if os.getuid() != 0:
-        raise_skip = "only root can become another user"
-        room.skip("another user", raise_skip)
-        return
+    """Who may read a replica and not write it reads it, and changes nothing. So in a folder that may not be written. Root becomes another
+    user for that; anyone else takes the rights from its own files."""
+    is_root = os.getuid() == 0
+
+    def become_nobody():
+        os.setgroups([])
+        os.setgid(65534)
+        os.setuid(65534)
 
     def by_nobody(folder, words, given=b""):
         done = subprocess.run([room.program] + words, input=given, capture_output=True, cwd=folder, check=False,
-                              preexec_fn=lambda: (os.setgroups([]), os.setgid(65534), os.setuid(65534)))
+                              preexec_fn=become_nobody if is_root else None)
         return Result(done.returncode, done.stdout, done.stderr)
 
     os.chmod(room.top, 0o755)
     fault = Result(7, b"", b"keeper fault\n")
     for kind in KINDS:
-        for folder_mode in (0o755, 0o555):
-            for file_mode, reads in ((0o644, True), (0o600, False)):
+        for folder_mode in (0o755, 0o555) if is_root else (0o555,):
+            for file_mode, reads in ((0o644, True), (0o600, False)) if is_root else ((0o444, True), (0, False)):
                 folder = room.replica(kind, HELLO)
-                for name in os.listdir(folder):
+                was = files_of(folder)
+                for name in was:
                     os.chmod(os.path.join(folder, name), file_mode)
                 os.chmod(folder, folder_mode)
-                was = files_of(folder)
                 what = "%s, folder %o, files %o" % (kind, folder_mode, file_mode)
                 room.equal(what + ": text", by_nobody(folder, ["text"]), Result(0, b"hello", b"") if reads else fault)
                 room.equal(what + ": edit", by_nobody(folder, ["edit"], b"d 0 1\n"), fault)
                 room.equal(what + ": leave", by_nobody(folder, ["leave"]), fault)
                 room.equal(what + ": new", by_nobody(folder, ["new", "7", "0", "2"]), Result(2, b"", b"replica exists\n") if reads else fault)
                 room.equal(what + ": session", by_nobody(folder, ["session"], b"i 0 x\n").status, 7)
-                room.equal(what + ": the files", files_of(folder), was)
-                # It fits a folder without a replica too.
                 os.chmod(folder, 0o755)
+                for name in was:
+                    os.chmod(os.path.join(folder, name), 0o600)
+                room.equal(what + ": the files", files_of(folder), was)
                 put(folder, kind, None)
+                os.chmod(folder, folder_mode)
                 room.equal(what + ": an empty folder", (by_nobody(folder, ["new", "7", "0", "2"]), by_nobody(folder, ["text"]), files_of(folder)),
                            (fault, Result(2, b"", b"no replica\n"), {}))
+                os.chmod(folder, 0o755)
     folder = room.replica("file", None)
     os.mkdir(os.path.join(folder, "replica.rls"))
     room.equal("a folder in place of replica.rls", (room.run(folder, ["text"]).status, room.run(folder, ["new", "7", "0", "2"]).status), (7, 7))

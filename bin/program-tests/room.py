@@ -11,7 +11,7 @@ KINDS = ("slots", "file")
 NAMES = ("replica.0", "replica.1", "replica.gate", "replica.rls", "replica.rls.new")
 CALL_NAMES = ("malloc", "realloc", "open", "read", "write", "lseek", "fsync", "rename", "close", "statx", "ftruncate", "memory")
 USAGE = b"usage: new GROUP ME MEMBERS | edit | text | ids | stat | send TO | take | leave | trial SEED STEPS\n"
-SECONDS = 120
+SECONDS = 300
 
 
 class Hangs(Exception):

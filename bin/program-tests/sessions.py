@@ -146,7 +146,7 @@ def talk(room, folder, given, wanted, steps, piece):
                 sent = min(begin + piece, len(given))
                 due = max([length for end, length, _ in steps if end <= sent], default=0)
                 while len(out) < due:
-                    if not select.select([process.stdout], [], [], 10)[0]:
+                    if not select.select([process.stdout], [], [], 30)[0]:
                         process.kill()
                         return "%d bytes of input have no reply: %s" % (sent, short(out[-40:]))
                     more = os.read(process.stdout.fileno(), 65536)
@@ -158,7 +158,7 @@ def talk(room, folder, given, wanted, steps, piece):
             process.stdin.close()
             rest = process.stdout.read()
             errors = process.stderr.read()
-            status = process.wait(20)
+            status = process.wait(60)
         except (BrokenPipeError, subprocess.TimeoutExpired) as error:
             process.kill()
             return repr(error)
