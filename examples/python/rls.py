@@ -9,12 +9,15 @@ The replica's own folder must not be in the shared one: docs/USE.md says why.
 Only the standard library is needed.  The program is RLS of the environment, or `rls` on the path.
 """
 import difflib
+import errno
 import fcntl
 import hashlib
 import os
+import secrets
+import stat
 import struct
 import subprocess
-import tempfile
+import time
 import warnings
 from contextlib import contextmanager
 from typing import NamedTuple
@@ -24,6 +27,8 @@ RENAME_AT = int(os.environ.get("RLS_RENAME_AT", "500"))     # runs of identifier
 MOST_CHARACTERS = 1_048_576          # of one insertion
 MOST_DELETED = 4_194_304             # of one deletion
 MOST_INPUT = 67_108_864              # of one command, and of one session's whole input
+MOST_WAIT = 30                       # seconds that a command which stores waits for another program in the same folder
+READING = "text", "ids", "stat", "send"      # the commands that store nothing, and so need no lock
 MEANINGS = {
     1: "the words are no command", 2: "there is no replica in this folder, or for `new` there is one", 3: "the replica's file is damaged",
     4: "what was handed in is not right", 5: "done, but some operations were refused", 6: "an edit was refused", 7: "the replica's file can't be read or written",
@@ -135,12 +140,31 @@ def no_surrogates(text):
     return text
 
 
-def opened(folder):
-    """The folder of a replica, opened to be locked."""
+def locked(folder, wait, words):
+    """The folder of a replica, opened and locked, or an RlsError if another program holds it for longer than so many seconds. What is
+    started with `pass_fds` holds the lock too, so it lasts as long as the program, also if this one is killed. The descriptor has a high
+    number, since a program that is a script uses the low ones for itself."""
     try:
-        return os.open(folder, os.O_RDONLY | os.O_DIRECTORY)
+        low = os.open(folder, os.O_RDONLY | os.O_DIRECTORY)
     except (FileNotFoundError, NotADirectoryError):
         raise RlsError(2, f"there is no folder {folder}") from None
+    try:
+        fd = fcntl.fcntl(low, fcntl.F_DUPFD_CLOEXEC, 64)
+    finally:
+        os.close(low)
+    end = time.monotonic() + wait
+    while True:
+        try:
+            fcntl.flock(fd, fcntl.LOCK_EX | fcntl.LOCK_NB)
+            return fd
+        except BlockingIOError:
+            if time.monotonic() >= end:
+                os.close(fd)
+                raise RlsError(7, "another program uses this replica", words) from None
+            time.sleep(0.02)
+        except OSError as e:
+            os.close(fd)
+            raise RlsError(7, f"{folder} can't be locked: {e.strerror}", words) from None
 
 
 # ---------------------------------------------------------------------------- by commands
@@ -150,7 +174,7 @@ class Commands:
 
     def __init__(self, folder, program=None):
         self.folder, self.program = os.path.expanduser(folder), program or PROGRAM
-        self.warned = False
+        self.warned, self.held = False, None            # the locked folder, if a Session holds it for these commands
 
     @classmethod
     def new(cls, folder, group, me, members, program=None):
@@ -162,20 +186,32 @@ class Commands:
         return self
 
     @contextmanager
-    def locked(self):
-        """Two programs may not use one folder at once, and the program doesn't look. So each call holds the folder, as the launcher does,
-        which is told so by RLS_LOCKED."""
-        fd = opened(self.folder)
+    def _locked(self, words):
+        """Two programs may not use one folder at once, and the program doesn't look. So each call that stores holds the folder, as the
+        launcher does, which is told so by RLS_LOCKED. It waits for another program, but not for ever: that may be a Session of this one.
+        Answers what the program is to hold as well."""
+        if self.held is not None:
+            yield (self.held,)
+            return
+        if words[0] in READING:
+            if not os.path.isdir(self.folder):
+                raise RlsError(2, f"there is no folder {self.folder}")
+            yield ()
+            return
+        fd = locked(self.folder, MOST_WAIT, words)
         try:
-            fcntl.flock(fd, fcntl.LOCK_EX)
-            yield
+            yield (fd,)
         finally:
             os.close(fd)
 
     def _run(self, *words, data=b"", fine=(0,)):
-        with self.locked():
-            env = {**os.environ, "RLS_LOCKED": "1"}
-            p = subprocess.run([self.program, *words], cwd=self.folder, input=data, capture_output=True, env=env)
+        # Whoever reads while another program stores twice may see half of each, so it reads again.
+        for _ in range(5 if words[0] in READING else 1):
+            with self._locked(words) as held:
+                env = {**os.environ, "RLS_LOCKED": "1"}
+                p = subprocess.run([self.program, *words], cwd=self.folder, input=data, capture_output=True, env=env, pass_fds=held)
+            if p.returncode != 3:
+                break
         line = p.stderr.decode("utf-8", "replace").strip()
         if p.returncode not in fine:
             raise (Refused if p.returncode == 6 else RlsError)(p.returncode, line, words)
@@ -254,20 +290,26 @@ class Session:
     def __init__(self, folder, program=None, timeout=30, safe=True):
         self.folder, self.program = os.path.expanduser(folder), program or PROGRAM
         self.timeout, self.safe = timeout, safe
-        self.process, self.saving = None, False
+        self.process, self.saving, self.unsaved = None, False, False
         self.stored, self.changes = Commands(folder, program), RENAME_AT
-        self._start()
+        # One lock for the whole life of this object: `save` ends one program and begins another, and nobody may come in between.
+        self.stored.held = locked(self.folder, 0, ("session",))
+        try:
+            self._start()
+        except BaseException:
+            self._release()
+            raise
 
     def _start(self):
-        self.lock = opened(self.folder)
-        try:
-            fcntl.flock(self.lock, fcntl.LOCK_EX | fcntl.LOCK_NB)
-        except OSError:
-            os.close(self.lock)
-            raise RlsError(7, "another program uses this replica", ("session",)) from None
         env = {**os.environ, "RLS_LOCKED": "1"}
-        self.process = subprocess.Popen([self.program, "session"], cwd=self.folder, env=env, stdin=subprocess.PIPE, stdout=subprocess.PIPE, stderr=subprocess.PIPE)
+        self.process = subprocess.Popen([self.program, "session"], cwd=self.folder, env=env, stdin=subprocess.PIPE, stdout=subprocess.PIPE,
+                                        stderr=subprocess.PIPE, pass_fds=(self.stored.held,))
         self.given, self.unsaved = 0, False
+
+    def _release(self):
+        if self.stored.held is not None:
+            os.close(self.stored.held)
+            self.stored.held = None
 
     # -- one line out, one reply in
     def _put(self, data):
@@ -275,6 +317,8 @@ class Session:
         if not self.saving and self.given and self.given + len(data) > MOST_INPUT - 64:
             self.save()
         self.given += len(data)
+        if self.process.stdin.closed:
+            raise RlsError(9, "the session has ended", ("session",))
         try:
             self.process.stdin.write(data)
             self.process.stdin.flush()
@@ -296,9 +340,12 @@ class Session:
     def kill(self):
         """Stops the program as a crash would: what was edited since the last save is lost."""
         self.process.kill()
-        self._finish()
+        if not self.process.stdin.closed:
+            self._finish()
+        self._release()
 
     def _finish(self):
+        """Waits for the end of the program, whose status and line it answers. The lock stays."""
         status = self.process.wait(self.timeout)
         line = self.process.stderr.read().decode("utf-8", "replace").strip()
         for pipe in self.process.stdin, self.process.stdout, self.process.stderr:
@@ -306,11 +353,11 @@ class Session:
                 pipe.close()
             except OSError:
                 pass
-        os.close(self.lock)
         return status, line
 
     def _ended(self):
         status, line = self._finish()
+        self._release()
         raise RlsError(status, line + "; what was edited since the last save is lost" * self.unsaved, ("session",))
 
     def _ask(self, line, data=b""):
@@ -356,6 +403,8 @@ class Session:
         return self._bytes(int(self._ask("t")[1])).decode("utf-8")
 
     def take(self, message):
+        if len(message) > MOST_INPUT - 64:
+            raise RlsError(11, "a session reads no message of so many bytes, and a command may", ("session", "m"))
         reply = self._ask(f"m {len(message)}", message)
         report = Report(*map(int, reply[1::2]))
         self.changes += report.applied + report.released
@@ -380,31 +429,103 @@ class Session:
         """Ends the session, which stores, and starts another.  The cursor is carried over; undo isn't.  It renames if that is due; it
         looks only if an eighth of RENAME_AT has changed since it looked last."""
         self.saving = True
-        at = self.cursor
-        self.close()
-        if self.changes * 8 >= RENAME_AT:
-            self.changes = 0
-            self.stored.rename_if_due()
-        self._start()
-        self.cursor = at
-        self.saving = False
+        try:
+            at = self.cursor
+            self._quit()
+            if self.changes * 8 >= RENAME_AT:
+                self.changes = 0
+                self.stored.rename_if_due()
+            self._start()
+            self.cursor = at
+        except BaseException:
+            self._release()
+            raise
+        finally:
+            self.saving = False
 
-    def close(self):
+    def _quit(self):
+        """Ends the program, which stores. The lock stays."""
         self._put(b"q\n")
         if self._line() != "saved":
             self._ended()
         status, line = self._finish()
         if status:
             raise RlsError(status, line, ("session",))
+        self.unsaved = False
+
+    def close(self):
+        self.saving = True              # nothing is saved before this, which saves
+        try:
+            self._quit()
+        finally:
+            self.saving = False
+            self._release()
 
     def __enter__(self):
         return self
 
-    def __exit__(self, *_):
-        self.close()
+    def __exit__(self, fault, *_):
+        # After a fault that ended the program there is nothing to close, and its error is the one to see.
+        if fault is None or not self.process.stdin.closed:
+            self.close()
 
 
 # ---------------------------------------------------------------------------- messages
+
+def regular(path, most):
+    """The bytes of a regular file, or None if nothing is there. A folder that others write into may have anything at a name: a link to
+    a file elsewhere, a pipe from which nothing ever comes, a folder, a file that fills the memory. Those are an RlsError."""
+    try:
+        fd = os.open(path, os.O_RDONLY | os.O_NONBLOCK | os.O_NOFOLLOW | os.O_CLOEXEC)
+    except FileNotFoundError:
+        return None
+    except OSError as e:
+        raise RlsError(8, f"{path} is a link" if e.errno == errno.ELOOP else f"{path}: {e.strerror}", ("take",)) from None
+    try:
+        told = os.fstat(fd)
+        if not stat.S_ISREG(told.st_mode):
+            raise RlsError(8, f"{path} is no file", ("take",))
+        data = bytearray()
+        while told.st_size <= most and len(data) <= most:
+            more = os.read(fd, most + 1 - len(data))
+            if not more:
+                return bytes(data)
+            data += more
+        raise RlsError(11, f"{path} has more than {most} bytes", ("take",))
+    except OSError as e:
+        raise RlsError(8, f"{path}: {e.strerror}", ("take",)) from None
+    finally:
+        os.close(fd)
+
+
+def size_of(path):
+    """How many bytes a regular file has; None if there is none at this name."""
+    try:
+        told = os.lstat(path)
+    except OSError:
+        return None
+    return told.st_size if stat.S_ISREG(told.st_mode) else None
+
+
+def replace(path, data):
+    """Writes a file so that whoever reads it sees the old one or the new one. It is made under a name that nobody can know before, with
+    the permissions that the umask gives. A link at its own name is replaced, and not written through; if a folder is there, or what else
+    can't be replaced, it is an RlsError."""
+    new = os.path.join(os.path.dirname(path), f".new-{secrets.token_hex(16)}")
+    fd = os.open(new, os.O_WRONLY | os.O_CREAT | os.O_EXCL | os.O_NOFOLLOW | os.O_CLOEXEC, 0o666)
+    try:
+        with open(fd, "wb") as f:
+            f.write(data)
+            f.flush()
+            os.fsync(fd)
+        try:
+            os.replace(new, path)
+        except OSError as e:
+            raise RlsError(9, f"{path}: {e.strerror}", ("send",)) from None
+    except BaseException:
+        os.unlink(new)
+        raise
+
 
 class Mailbox:
     """A folder that all members see (Dropbox, Syncthing, a network drive, a clone of git, a stick).  A message holds all that its
@@ -414,37 +535,42 @@ class Mailbox:
     def __init__(self, folder, head):
         self.folder, self.me, self.members = os.path.expanduser(folder), head.sender, head.members
         self.group = head.group
-        self.taken, self.sent = {}, {}
+        self.taken, self.sent, self.warned = {}, {}, set()
         os.makedirs(self.folder, exist_ok=True)
 
     def path(self, sender, to):
         return os.path.join(self.folder, f"{self.group}-{sender}-{to}.rlsm")
 
     def receive(self, replica):
-        """The reports of all messages that are new here."""
+        """The reports of all messages that are new here. What one member's name has that is no message stops no other's."""
         reports, own = [], None
         for sender in range(self.members):
             if sender == self.me:
                 continue
             try:
-                with open(self.path(sender, self.me), "rb") as f:
-                    message = f.read()
-            except FileNotFoundError:
+                message = regular(self.path(sender, self.me), MOST_INPUT)
+            except RlsError as e:
+                reports.append((sender, e))
+                continue
+            if message is None:
                 continue
             mark = hashlib.sha256(message).digest()
             if self.taken.get(sender) == mark:
                 continue
             own = own or replica.head()
+            told = 0                            # of another text, or no message: `take` says what is wrong with it
             try:
-                told = Head.of(message).counts[self.me]
-            except (ValueError, IndexError, struct.error):
-                told = 0                        # `take` says what is wrong with it
+                head = Head.of(message)
+                if (head.group, head.members) == (own.group, own.members):
+                    told = head.counts[self.me]
+            except (ValueError, struct.error):
+                pass
             if told > own.counts[self.me]:
                 raise Stale(f"member {sender} has {told} operations of member {self.me}, who has made {own.counts[self.me]}")
             try:
                 reports.append((sender, replica.take(message)))
-            except (RlsError, Refused) as e:
-                if e.status not in (4, 6):
+            except RlsError as e:
+                if e.status not in (4, 6, 11):
                     raise
                 reports.append((sender, e))     # half written by the folder's own program: it comes again whole
                 continue
@@ -455,15 +581,12 @@ class Mailbox:
         """Whether nothing ever came from this number and the message that it has already has more than half the bytes of this one. Each of
         them has the whole history, so not every one is written for a number that nobody may use. Whoever begins with the number takes the
         one that is there and answers, and gets the rest."""
-        if os.path.exists(self.path(to, self.me)) or Head.of(message).counts[to]:
-            return False
-        try:
-            return 2 * os.path.getsize(self.path(self.me, to)) > len(message)
-        except FileNotFoundError:
-            return False
+        there = size_of(self.path(self.me, to))
+        return there is not None and 2 * there > len(message) and not Head.of(message).counts[to] and size_of(self.path(to, self.me)) is None
 
     def send(self, replica):
-        """To how many members something new was written."""
+        """To how many members something new was written. What one member's name has that can't be replaced stops no other's: a warning
+        says so once."""
         count = 0
         for to in range(self.members):
             if to == self.me:
@@ -472,12 +595,13 @@ class Mailbox:
             mark = hashlib.sha256(message).digest()
             if self.sent.get(to) == mark or self.is_enough(to, message):
                 continue
-            fd, path = tempfile.mkstemp(prefix=".new-", dir=self.folder)
-            with os.fdopen(fd, "wb") as f:
-                f.write(message)
-                f.flush()
-                os.fsync(f.fileno())
-            os.replace(path, self.path(self.me, to))
+            try:
+                replace(self.path(self.me, to), message)
+            except RlsError as e:
+                if to not in self.warned:
+                    self.warned.add(to)
+                    warnings.warn(f"the message to member {to} can't be written: {e.line}")
+                continue
             self.sent[to] = mark
             count += 1
         return count

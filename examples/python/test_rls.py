@@ -1,8 +1,13 @@
 """Tests of rls.py: `python3 -m unittest` in this folder. RLS names the program; it is bin/rls of this checkout otherwise."""
+import fcntl
 import os
 import random
 import shutil
+import signal
+import subprocess
+import sys
 import tempfile
+import time
 import unittest
 import warnings
 
@@ -26,6 +31,34 @@ class Room(unittest.TestCase):
 
     def path(self, *names):
         return os.path.join(self.room, *names)
+
+    def is_locked(self, folder):
+        fd = os.open(folder, os.O_RDONLY)
+        try:
+            fcntl.flock(fd, fcntl.LOCK_EX | fcntl.LOCK_NB)
+            return False
+        except BlockingIOError:
+            return True
+        finally:
+            os.close(fd)
+
+    def wait_for(self, test):
+        end = time.monotonic() + 20
+        while not test():
+            self.assertLess(time.monotonic(), end)
+            time.sleep(0.02)
+
+    def killed(self, code):
+        """Runs code in another Python, with a program that goes on for a second after its work, and kills that Python in the middle."""
+        slow = self.path("slow")
+        with open(slow, "w") as f:
+            f.write(f'#!/bin/sh\n: >"{self.path("begun")}"\n"{os.environ["RLS"]}" "$@"\nstatus=$?\nsleep 1\nexit $status\n')
+        os.chmod(slow, 0o755)
+        here = os.path.dirname(os.path.abspath(__file__))
+        p = subprocess.Popen([sys.executable, "-c", f"import rls, time\n{code}"], env={**os.environ, "RLS": slow, "PYTHONPATH": here})
+        self.wait_for(lambda: os.path.exists(self.path("begun")))
+        p.kill()
+        p.wait()
 
     def two(self, members=2):
         return [Commands.new(self.path(f"m{k}"), 7, k, members) for k in range(members)]
@@ -191,6 +224,90 @@ class ByCommands(Room):
         self.assertEqual(c.text(), "more " * 40)
         self.assertEqual(c.head().counts, a.head().counts)
 
+    def test_the_lock_outlives_a_client_that_is_killed(self):
+        """What the program of a killed client stores would otherwise be written over by the next one, or write over it."""
+        a, _ = self.two()
+        self.killed(f"rls.Commands({a.folder!r}).insert(0, 'kept')")
+        self.assertTrue(self.is_locked(a.folder))
+        a.insert(0, "also ")
+        self.assertEqual(a.text(), "also kept")
+
+    def test_beside_a_session(self):
+        """Whoever stores is told that the folder is in use, and doesn't wait for ever; whoever reads is answered."""
+        a, _ = self.two()
+        a.insert(0, "text")
+        self.addCleanup(setattr, rls, "MOST_WAIT", rls.MOST_WAIT)
+        rls.MOST_WAIT = 0.2
+        self.addCleanup(signal.alarm, 0)
+        signal.alarm(20)
+        with Session(a.folder):
+            with self.assertRaises(RlsError) as caught:
+                a.insert(0, "x")
+            self.assertEqual(caught.exception.status, 7)
+            self.assertEqual((a.text(), a.head().members), ("text", 2))
+        a.insert(0, "x")
+
+    def test_what_is_sent_may_be_read_by_whom_the_umask_lets(self):
+        a, _ = self.two()
+        box = Mailbox(self.path("shared"), a.head())
+        for umask, mode in (0o022, 0o644), (0o077, 0o600), (0o002, 0o664):
+            a.insert(0, "x")
+            old = os.umask(umask)
+            try:
+                box.send(a)
+            finally:
+                os.umask(old)
+            self.assertEqual(os.stat(box.path(0, 1)).st_mode & 0o777, mode)
+            os.unlink(box.path(0, 1))
+        self.assertEqual(os.listdir(self.path("shared")), [])
+
+    def test_what_is_no_message(self):
+        """A link, a pipe, a folder, a file that is too large, one of another text and one that may not be read, each at a member's name:
+        they are told, and stop no other member's message."""
+        members = [Commands.new(self.path(f"m{k}"), 7, k, 9) for k in range(2)]
+        a, b = members
+        box = Mailbox(self.path("shared"), a.head())
+        b.insert(0, "hello")
+        Mailbox(self.path("shared"), b.head()).send(b)
+        os.symlink(box.path(1, 0), box.path(2, 0))
+        os.mkfifo(box.path(3, 0))
+        os.mkdir(box.path(4, 0))
+        with open(box.path(5, 0), "wb") as f:
+            f.truncate(67_108_865)
+        other = Commands.new(self.path("other"), 8, 0, 9)
+        other.insert(0, "x")
+        with open(box.path(6, 0), "wb") as f:
+            f.write(other.message(1))
+        with open(box.path(7, 0), "wb") as f:
+            f.write(b.message(0)[:40])
+        self.addCleanup(signal.alarm, 0)
+        signal.alarm(20)                    # a pipe would keep it waiting for ever
+        found = dict(box.receive(a))
+        self.assertEqual(a.text(), "hello")
+        self.assertEqual(found.pop(1).refused, 0)
+        self.assertEqual({k: e.status for k, e in found.items()}, {2: 8, 3: 8, 4: 8, 5: 11, 6: 4, 7: 4})
+
+    def test_names_that_others_have_taken(self):
+        """A link at the name of an own message isn't written through, nor does its target count as a message that is there; a folder
+        at a name is told once, and the others get theirs."""
+        a = self.two(4)[0]
+        box = Mailbox(self.path("shared"), a.head())
+        victim = self.path("victim")
+        with open(victim, "w") as f:
+            f.write("mine" * 1000)
+        os.symlink(victim, box.path(0, 1))
+        os.mkdir(box.path(0, 2))
+        a.insert(0, "x")
+        with self.assertWarnsRegex(UserWarning, "member 2 can't be written"):
+            self.assertEqual(box.send(a), 2)
+        with open(victim) as f:
+            self.assertEqual(f.read(), "mine" * 1000)
+        self.assertEqual([os.path.islink(box.path(0, k)) for k in (1, 3)], [False, False])
+        with warnings.catch_warnings():
+            warnings.simplefilter("error")
+            self.assertEqual(box.send(a), 0)
+        self.assertEqual(len(os.listdir(self.path("shared"))), 3)
+
     def test_half_written(self):
         a, b = self.two()
         box = Mailbox(self.path("shared"), b.head())
@@ -244,6 +361,47 @@ class BySession(Room):
         with Session(a.folder):
             with self.assertRaises(RlsError):
                 Session(a.folder)
+
+    def test_nobody_comes_in_between_while_it_saves(self):
+        a, _ = self.two()
+        with Session(a.folder) as s:
+            s.changes = rls.RENAME_AT
+            s.stored.rename_if_due = lambda: self.assertTrue(self.is_locked(a.folder))
+            s.insert(0, "x")
+            s.save()
+            self.assertTrue(self.is_locked(a.folder))
+        self.assertFalse(self.is_locked(a.folder))
+
+    def test_the_lock_outlives_a_client_that_is_killed(self):
+        a, _ = self.two()
+        self.killed(f"s = rls.Session({a.folder!r}); s.insert(0, 'x'); time.sleep(100)")
+        self.assertTrue(self.is_locked(a.folder))
+        self.wait_for(lambda: not self.is_locked(a.folder))
+
+    def test_after_the_end(self):
+        """Each call of a session that has ended is an RlsError, and its folder is free."""
+        a, _ = self.two()
+        s = Session(a.folder)
+        s.process.kill()
+        for call in (lambda: s.insert(0, "x"), lambda: s.insert(0, "x"), s.text, s.save, s.close):
+            with self.assertRaises(RlsError):
+                call()
+            self.assertFalse(self.is_locked(a.folder))
+        s.kill()
+        with self.assertRaises(ZeroDivisionError):
+            with Session(a.folder) as s:
+                s.kill()
+                s.insert(1 // 0, "x")
+
+    def test_a_message_that_no_session_reads(self):
+        """It is told, and the session goes on."""
+        a, _ = self.two()
+        with Session(a.folder) as s:
+            s.insert(0, "x")
+            with self.assertRaises(RlsError) as caught:
+                s.take(bytes(rls.MOST_INPUT))
+            self.assertEqual(caught.exception.status, 11)
+            self.assertEqual(s.text(), "x")
 
     def test_limit_of_input(self):
         """The client begins a new session in time; the program alone would end with status 11 and forget the session."""
