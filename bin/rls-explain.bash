@@ -2,23 +2,31 @@
 # explain STATUS LINES COMMAND. docs/USE.md has the same as a table.
 # shellcheck shell=bash
 
-# The line of the script that has this number, as far as a terminal may show it.
+# A pattern of bash takes time with the square of what it looks at, and a line may have 64 MB. So only the front of a line is held in a
+# variable, and programs look at the whole.
+
+# The line of the script that has this number.
+whole_line() {
+  if [ -n "${held-}" ]; then sed -n "$1{p;q}" <<<"$held"; else [ -f /dev/stdin ] && LC_ALL=C sed -n "$1{p;q}" /dev/stdin 2>/dev/null; fi
+}
+
+# Its first bytes in `raw`, its last one in `last`, and in `shown` as much as a terminal may show.
 script_line() {
   local text
-  if [ -n "${held-}" ]; then
-    IFS= read -r text < <(sed -n "$1{p;q}" <<<"$held")
-  else
-    [ -f /dev/stdin ] || return 1
-    IFS= read -r text < <(sed -n "$1{p;q}" /dev/stdin 2>/dev/null)
-  fi
+  [ -n "${held-}" ] || [ -f /dev/stdin ] || return 1
+  text=$(whole_line "$1" | head -c 400 | tr -d '\000')
+  last=$(whole_line "$1" | tail -c 2 | tr -d '\000')
   raw=$text
   [ "${#text}" -le 60 ] || text="${text:0:57}..."
   shown=${text//[[:cntrl:]]/?}
 }
 
 explain() {
-  local status=$1 line=${2##*$'\n'} command=$3
+  local status=$1 line=$2 command=$3
   local -a words
+  # The last line. A longer one than this is about operations that were refused, and then no more than the status is looked at.
+  [ "${#line}" -le 400 ] || line=${line: -400}
+  line=${line##*$'\n'}
   read -r -a words <<<"$line"
   case "$status $line" in
     '1 '*) say "a number is too great, or has a zero or a sign in front. \`rls help\` explains the words." ;;
@@ -36,31 +44,49 @@ explain() {
     '6 line '*) explain_refused "${words[1]%:}" "${line#*: }" "$command" ;;
     '7 '*) say "the files of the replica in $PWD can't be read or written: is the disk full, or who may write there? The command may have been stored all the same: look at \`rls text\` before you repeat it." ;;
     '8 '*) say "the input can't be read. Nothing was stored." ;;
-    '9 '*) say "the output can't be written. What the command stores is stored." ;;
+    '9 '*)
+      case $command in
+        text | ids | stat | send | trial) say "the output can't be written, or what reads it has stopped." ;;
+        *) say "the output can't be written. What the command stores is stored." ;;
+      esac
+      ;;
     '10 '*) say "whether anything was stored is for \`rls text\` to show. It may help to close other programs." ;;
     '11 '*) say 'the input may have 67,108,864 bytes, and the stored file 268,435,456. Nothing was stored (docs/USE.md, "Limits").' ;;
   esac
 }
 
 explain_bad_line() {
-  local shown raw why='A line is `i POS TEXT`, `d POS COUNT`, `b POS` or `r`.'
-  script_line "$1" || shown='' raw=' '
-  case $raw in
-    '') why='A script has no empty lines.' ;;
-    *$'\r') why="It ends with a carriage return, as lines of Windows do: tr -d '\\r' takes those out." ;;
-    'i '[0-9]*' '*\\*) why='In a text \n is a line feed, \r a carriage return and \\ a backslash, and nothing else follows a backslash.' ;;
-  esac
+  local shown raw last why="A line is \`i POS TEXT\`, \`d POS COUNT\`, \`b POS\` or \`r\`."
+  script_line "$1" || shown='' raw=' ' last=' '
+  if [ -z "$raw" ]; then
+    why='A script has no empty lines.'
+  elif [[ $raw = $'\xef\xbb\xbf'* ]]; then
+    why='It begins with a byte order mark, which a terminal does not show: take out these three bytes.'
+  elif [[ $raw =~ ^[idb]$'\t' || $raw =~ ^[idb]\ [0-9]+$'\t' ]]; then
+    why='Between its parts is one space, and no tab.'
+  elif [[ $raw =~ ^[idb]\ ([-+]|0[0-9]|[0-9]{20}) || $raw =~ ^d\ [0-9]+\ ([-+]|0[0-9]|[0-9]{20}) ]]; then
+    why='A number is too great, or has a zero or a sign in front.'
+  elif [ "${raw:0:2}" != 'i ' ] && [ "$last" = $'\r' ]; then
+    why="It ends with a carriage return, as lines of Windows do: tr -d '\\r' takes those out."
+  elif [[ $raw =~ ^i\ [0-9]+\  ]] && command -v iconv >/dev/null && ! whole_line "$1" | iconv -f UTF-8 -t UTF-8 >/dev/null 2>&1; then
+    why='It is no text in UTF-8.'
+  elif [[ $raw =~ ^i\ [0-9]+\  ]] && whole_line "$1" | LC_ALL=C sed 's/\\[nr\\]//g' | LC_ALL=C grep -qa '[\]'; then
+    why='In a text \n is a line feed, \r a carriage return and \\ a backslash, and nothing else follows a backslash.'
+  fi
   say "line $1 of the script${shown:+ is \`$shown\`}. $why Nothing was done."
 }
 
 explain_refused() {
-  local shown='' raw='' why
+  local shown='' raw='' last='' why
   local -a words
   read -r -a words <<<"$2"
   [ "$3" = leave ] || script_line "$1"
   case $2 in
     range*)
       why="position ${words[1]} is asked for, and the text has ${words[2]} characters then"
+      if [[ $raw =~ ^d\ ([0-9]+)\ ([0-9]+)$ ]]; then
+        why="it deletes ${BASH_REMATCH[2]} characters from position ${BASH_REMATCH[1]} on, and the text has ${words[2]} then"
+      fi
       [ "$raw" != 'b 0' ] || why='no character comes before the first position'
       ;;
     'empty edit') why='there is nothing to insert or to delete' ;;
