@@ -1,17 +1,18 @@
 ;;; rls-test.el --- Tests of rls.el in one Emacs: RLS is the program  -*- lexical-binding: t -*-
 (require 'ert)
+(require 'cl-lib)
 (require 'rls)
 (setq rls-program (getenv "RLS") rls-every nil)
 
-(defun rls-test-open (members)
-  "Buffers of so many fresh members of one text."
+(defun rls-test-open (members &optional begun)
+  "Buffers of so many fresh members of one text, or of the first BEGUN of them."
   (let ((room (make-temp-file "rls" t)))
     (mapcar (lambda (k)
               (let ((default-directory (file-name-as-directory (expand-file-name (format "m%d" k) room))))
                 (make-directory default-directory t)
                 (call-process rls-program nil nil nil "new" "18446744073709551615" (number-to-string k) (number-to-string members))
                 (rls-open default-directory (expand-file-name "shared" room))))
-            (number-sequence 0 (1- members)))))
+            (number-sequence 0 (1- (or begun members))))))
 
 (defun rls-test-stored (folder &optional word)
   "What the command WORD prints of the replica of FOLDER: its text, if not said otherwise."
@@ -63,6 +64,78 @@
       (rls-undo)
       (should (equal (buffer-string) "hello")))
     (rls-test-close (list a))))
+
+;; A timer that comes while a request waits for its reply asks nothing: each of the two would read the other's reply.
+(ert-deftest rls-timer-within-a-request ()
+  (pcase-let ((`(,a) (rls-test-open 1)))
+    (with-current-buffer a
+      (let ((rls-every 1000) (wait (symbol-function 'accept-process-output)))
+        (rls--begin-timer a)
+        (cl-letf* ((tick (timer--function rls--timer))
+                   ((symbol-function 'accept-process-output) (lambda (&rest given) (funcall tick) (apply wait given))))
+          (dotimes (_ 10) (insert "x")))
+        (should-not rls--failed)
+        (should (equal (buffer-string) "xxxxxxxxxx"))))
+    (rls-test-close (list a))))
+
+;; The program may take longer than ten seconds, for example since another command stores into the folder.
+(ert-deftest rls-slow-program ()
+  (pcase-let* ((`(,a) (rls-test-open 1)) (room (make-temp-file "rls" t)) (slow (expand-file-name "slow" room)))
+    (with-temp-file slow (insert (format "#!/bin/sh\n[ \"$1\" != session ] || sleep 11\nexec '%s' \"$@\"\n" rls-program)))
+    (set-file-modes slow #o755)
+    (with-current-buffer a
+      (insert "x")
+      (let ((rls-program slow)) (rls-sync)))
+    (rls-test-close (list a))))
+
+(defun rls-test-mode (path) (logand #o777 (file-modes path)))
+
+;; What others may have put into the shared folder: links at the names of own messages and at the name that these had before, and at
+;; members' names a link, a pipe, a folder, a file that is too large and one that is no message.
+(ert-deftest rls-hostile-names ()
+  (pcase-let* ((`(,a ,b) (rls-test-open 8 2))
+               (shared (buffer-local-value 'rls--shared a))
+               (at (lambda (name) (expand-file-name (concat "18446744073709551615-" name) shared)))
+               (victim (make-temp-file "rls-victim" nil nil "mine")))
+    (dolist (x (directory-files shared t "rlsm")) (delete-file x))
+    (dolist (name '("0-1.rlsm.new" "0-1.rlsm" "0-3.rlsm.new")) (make-symbolic-link victim (funcall at name)))
+    (make-directory (funcall at "0-2.rlsm"))
+    (make-symbolic-link (funcall at "1-0.rlsm") (funcall at "2-0.rlsm"))
+    (call-process "mkfifo" nil nil nil (funcall at "3-0.rlsm"))
+    (make-directory (funcall at "4-0.rlsm"))
+    (call-process "truncate" nil nil nil "-s" "67108865" (funcall at "5-0.rlsm"))
+    (with-temp-file (funcall at "6-0.rlsm") (insert "junk"))
+    (with-current-buffer b (setq rls--sent nil) (insert "from b") (rls-sync))
+    (with-current-buffer a
+      (setq rls--sent nil)
+      (goto-char (point-max))
+      (insert "from a ")
+      (with-timeout (20 (error "it waits")) (rls-sync))
+      (should-not rls--failed)
+      (should (string-search "from b" (buffer-string)))
+      (dolist (k '("of 2" "of 3" "of 4" "of 5" "of 6" "to 2")) (should (string-search (format "message %s: " k) (rls--status))))
+      (rls-sync)
+      (should-not rls--failed)
+      (delete-directory (funcall at "4-0.rlsm"))
+      (rls-sync)
+      (should-not (string-search "message of 4" (rls--status))))
+    (should (equal "mine" (with-temp-buffer (insert-file-contents victim) (buffer-string))))
+    (should-not (file-symlink-p (funcall at "0-1.rlsm")))
+    (should (= (rls-test-mode (funcall at "0-3.rlsm")) (logand #o666 (default-file-modes))))
+    (should-not (directory-files shared nil "\\.new-"))
+    (with-current-buffer b (rls-sync) (should (string-search "from a" (buffer-string))))
+    (kill-buffer a)
+    (kill-buffer b)))
+
+;; A number from which nothing ever came doesn't get each message.
+(ert-deftest rls-unused-number ()
+  (pcase-let* ((`(,a ,b) (rls-test-open 3 2)) (sizes nil))
+    (dotimes (_ 30)
+      (with-current-buffer a (insert "more ") (rls-sync))
+      (with-current-buffer b (rls-sync))
+      (cl-pushnew (file-attribute-size (file-attributes (with-current-buffer a (rls--path 0 2)))) sizes))
+    (should (< (length sizes) 8))
+    (rls-test-close (list a b))))
 
 (ert-deftest rls-random ()
   (let* ((rls-rename-at 8) (all (rls-test-open 3))

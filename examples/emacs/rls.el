@@ -17,9 +17,12 @@
 (defcustom rls-every 0.5 "Seconds between two looks into the shared folder; nil for none." :type '(choice number (const nil)))
 (defcustom rls-idle 2 "Seconds without an edit, after which edits are stored and sent." :type 'number)
 
+(defcustom rls-most 3 "Seconds after which edits are stored and sent also while somebody types on." :type 'number)
 (defcustom rls-rename-at 500 "Runs of identifiers from which it renames (docs/USE.md); 0 for never." :type 'natnum)
 
 (defconst rls--most-input (- 67108864 4096) "Bytes that one session may read, less some.")
+(defconst rls--patience 2 "Seconds after which it says that it waits for the program.")
+(defvar rls--busy nil "Whether a request waits for its reply, so that nothing else may ask.")
 (defvar rls--silent nil "Whether a change of the buffer comes from the session.")
 (defvar-local rls--process nil "The session.")
 (defvar-local rls--given 0 "Bytes that the session was given.")
@@ -31,12 +34,13 @@
 (defvar-local rls--me nil)
 (defvar-local rls--unsaved nil "Whether something isn't stored yet.")
 (defvar-local rls--edited 0 "When this member edited last.")
+(defvar-local rls--since 0 "When it sent last, or had nothing to send.")
 (defvar-local rls--taken nil "The last message from each member.")
 (defvar-local rls--sent nil "The last message to each member.")
 (defvar-local rls--changes 0 "How much has changed since the runs were looked at.")
 (defvar-local rls--told nil "Whether it was said that a rename was refused.")
 (defvar-local rls--timer nil)
-(defvar-local rls--problem "" "What a message of another member lacked.")
+(defvar-local rls--problems nil "What was wrong with the last message from, or to, each member.")
 (defvar-local rls--failed nil "Why nothing more is done with this buffer.")
 
 ;;;; The session
@@ -53,21 +57,37 @@
 
 (defun rls--end-process ()
   "Waits until the session has ended, and removes what it left."
-  (let ((process rls--process))
-    (while (accept-process-output process 5 nil 1))
+  (let ((process rls--process) (end (+ (float-time) 10)))
+    ;; After the end of its output Emacs may answer at once, and for ever, that more came.
+    (while (and (process-live-p process) (< (float-time) end)) (accept-process-output process 0.1 nil 1))
+    (setq rls--process nil)
     (kill-buffer (process-get process 'errors))
     (kill-buffer (process-buffer process))))
 
 (defun rls--wait (test)
   "Waits until TEST answers something in the buffer of the session's output.
-No timer runs meanwhile."
-  (let ((process rls--process) found)
+It waits as long as the program works: that may wait for another command in the
+folder, and `keyboard-quit' ends it.  A timer may run meanwhile: `rls--tick'
+asks nothing then."
+  (let ((process rls--process) (begun (float-time)) told found)
+    (unless process (error "rls: the session has ended"))
     (with-current-buffer (process-buffer process)
       (while (not (setq found (funcall test)))
-        (unless (accept-process-output process 10 nil 1)
-          (error "rls: the session %s: %s" (if (process-live-p process) "gives no answer" "ended")
-                 (with-current-buffer (process-get process 'errors) (string-trim (buffer-string)))))))
+        (let ((size (buffer-size)))
+          (accept-process-output process 0.5 nil 1)
+          (unless (or (process-live-p process) (/= size (buffer-size)))
+            (error "rls: the session ended: %s" (rls--errors process)))
+          (when (> (- (float-time) begun) rls--patience)
+            (setq told t)
+            (message "rls: waiting for the program; C-g gives up. %s" (rls--errors process))))))
+    (when told (message nil))
     found))
+
+(defun rls--errors (process)
+  "What PROCESS has written to standard error."
+  (let ((errors (process-get process 'errors)))
+    (when (get-buffer-process errors) (accept-process-output (get-buffer-process errors) 0.05 nil 1))
+    (with-current-buffer errors (string-trim (buffer-string)))))
 
 (defun rls--line ()
   "The next line of a reply."
@@ -174,20 +194,33 @@ back to here and no further: it would take back what others wrote."
     (dotimes (k 4) (setq number (+ (* 256 number) (aref data (+ at k)))))
     number))
 
+(defun rls--size (path)
+  "How many bytes PATH has, if it is a regular file; nil otherwise.
+A folder that others write into may have a link, a pipe or a folder there."
+  (let ((told (file-attributes path)))
+    (and told (eq ?- (aref (file-attribute-modes told) 0)) (file-attribute-size told))))
+
 (defun rls--read (path)
-  (with-temp-buffer
-    (set-buffer-multibyte nil)
-    (insert-file-contents-literally path)
-    (buffer-string)))
+  "The bytes of PATH; nil if nothing is there.
+What isn't a regular file, or is too large, is an error and isn't opened."
+  (when (or (file-exists-p path) (file-symlink-p path))
+    (let ((size (rls--size path)))
+      (unless size (error "%s is no file" (file-name-nondirectory path)))
+      (when (> size rls--most-input) (error "%s is too large" (file-name-nondirectory path)))
+      (with-temp-buffer
+        (set-buffer-multibyte nil)
+        (insert-file-contents-literally path nil 0 size)
+        (buffer-string)))))
 
 (defun rls--write (path data)
-  "Writes a file so that whoever reads it sees the old one or the new one."
-  (let ((coding-system-for-write 'binary) (write-region-inhibit-fsync nil))
-    (with-temp-buffer
-      (set-buffer-multibyte nil)
-      (insert data)
-      (write-region nil nil (concat path ".new") nil 'silent))
-    (rename-file (concat path ".new") path t)))
+  "Writes a file so that whoever reads it sees the old one or the new one.
+It is made under a name that nobody can know before, and a link at PATH is
+replaced, and not written through."
+  (let ((coding-system-for-write 'binary) (write-region-inhibit-fsync nil)
+        (new (expand-file-name (format ".new-%08x%08x%08x" (random #x100000000) (random #x100000000) (random #x100000000)) rls--shared)))
+    (write-region data nil new nil 'silent nil 'excl)
+    (condition-case fault (rename-file new path t)
+      (error (delete-file new) (signal (car fault) (cdr fault))))))
 
 (defun rls--guard (message from)
   "Refuses a MESSAGE that knows more operations of this member than were made.
@@ -198,18 +231,27 @@ Then the replica's files are old, or two members have its number."
                (> (rls--u32 message at) (rls--u32 (rls--message rls--me) at)))
       (error "rls: member %d knows more edits of member %d than this replica has: the files in its folder are old" from rls--me))))
 
+(defun rls--note (message problem)
+  "Remembers the PROBLEM with a MESSAGE, such as \"of 2\"; nil if there is none."
+  (setf (alist-get message rls--problems nil t #'equal) problem))
+
 (defun rls--take-from (from)
-  "Takes what came from a member.  Answers whether there was anything."
-  (let* ((path (rls--path from rls--me))
-         (message (and (/= from rls--me) (file-readable-p path) (rls--read path))))
-    (unless (or (null message) (equal message (alist-get from rls--taken)) (> (length message) rls--most-input))
+  "Takes what came from a member.  Answers whether there was anything.
+What can't be read as a message is told, and stops no other member's."
+  (let* ((name (format "of %d" from))
+         (message (and (/= from rls--me)
+                       (condition-case fault
+                           (or (rls--read (rls--path from rls--me)) (rls--note name nil))
+                         (error (rls--note name (error-message-string fault)) nil)))))
+    (unless (or (null message) (equal message (alist-get from rls--taken)))
       (when (> (+ rls--given (length message)) rls--most-input) (rls--save))
       (rls--guard message from)
       (let* ((reply (rls--ask (format "m %d" (length message)) message))
              (is-refused (string-prefix-p "no " reply)))
-        (setq rls--problem (if (and (not is-refused) (string-match "held 0 refused 0" reply)) "" (format ", message of %d: %s" from reply)))
+        (rls--note name (unless (and (not is-refused) (string-match "held 0 refused 0" reply)) reply))
+        ;; What was refused once is refused again.
+        (setf (alist-get from rls--taken) message)
         (unless is-refused
-          (setf (alist-get from rls--taken) message)
           (setq rls--changes (+ rls--changes (rls--number reply "applied")) rls--unsaved t))))))
 
 (defun rls--take ()
@@ -224,6 +266,14 @@ Then the replica's files are old, or two members have its number."
         (goto-char now)
         (when window (set-window-point window now))))))
 
+(defun rls--enough-p (to message)
+  "Whether nothing ever came from number TO and it has more than half of MESSAGE.
+Each of them has the whole history.  Whoever begins with the number takes the
+one that is there and answers, and gets the rest."
+  (let ((there (rls--size (rls--path rls--me to))))
+    (and there (zerop (rls--u32 message (+ 21 (* 4 to)))) (> (* 2 there) (length message))
+         (not (rls--size (rls--path to rls--me))))))
+
 (defun rls--send ()
   "Stores, and then writes the messages.
 What isn't stored may be sent to nobody, since a crash would give its numbers
@@ -232,15 +282,20 @@ to other edits."
   (dotimes (to rls--members)
     (unless (= to rls--me)
       (let ((message (rls--message to)))
-        (unless (equal message (alist-get to rls--sent))
-          (rls--write (rls--path rls--me to) message)
-          (setf (alist-get to rls--sent) message)))))
-  (set-buffer-modified-p nil))
+        (unless (or (equal message (alist-get to rls--sent)) (rls--enough-p to message))
+          (condition-case fault
+              (progn (rls--write (rls--path rls--me to) message)
+                     (rls--note (format "to %d" to) nil)
+                     (setf (alist-get to rls--sent) message))
+            (file-error (rls--note (format "to %d" to) (error-message-string fault))))))))
+  (set-buffer-modified-p nil)
+  (setq rls--since (float-time)))
 
 (defun rls--tick ()
   "What the timer does."
+  (unless rls--unsaved (setq rls--since (float-time)))
   (rls--take)
-  (when (and rls--unsaved (>= (- (float-time) rls--edited) rls-idle)) (rls--send)))
+  (when (and rls--unsaved (or (>= (- (float-time) rls--edited) rls-idle) (>= (- (float-time) rls--since) rls-most))) (rls--send)))
 
 ;;;; The buffer
 
@@ -248,9 +303,10 @@ to other edits."
   "Calls WHAT.
 After a fault nothing more is done with the buffer, which keeps what it shows."
   (unless rls--failed
-    (condition-case fault (funcall what)
-      (error (setq rls--failed (error-message-string fault))
-             (message "%s" rls--failed))))
+    (condition-case fault (let ((rls--busy t) (inhibit-quit nil)) (funcall what))
+      ;; After a quit the reply to a request may still come, and would be taken for that of another.
+      ((error quit) (setq rls--failed (if (eq (car fault) 'quit) "rls: given up" (error-message-string fault)))
+                    (message "%s" rls--failed))))
   (force-mode-line-update))
 
 (defun rls-sync ()
@@ -272,8 +328,12 @@ After a fault nothing more is done with the buffer, which keeps what it shows."
 (defun rls--close ()
   "Stores what isn't stored.  It isn't sent before the replica is opened again."
   (when rls--timer (cancel-timer rls--timer))
-  (when (and rls--process (not rls--failed))
-    (rls--try (lambda () (rls--ask "q") (rls--end-process)))))
+  (when rls--process
+    ;; At the end of its input a session stores too, and then the folder is free.
+    (if rls--failed
+        (progn (when (process-live-p rls--process) (process-send-eof rls--process))
+               (rls--end-process))
+      (rls--try (lambda () (rls--ask "q") (rls--end-process))))))
 
 (defun rls--close-all ()
   (dolist (buffer (buffer-list))
@@ -281,7 +341,9 @@ After a fault nothing more is done with the buffer, which keeps what it shows."
       (with-current-buffer buffer (rls--close)))))
 
 (defun rls--status ()
-  (or rls--failed (format "member %s of %s%s%s" rls--me rls--members (if rls--unsaved ", not stored" "") rls--problem)))
+  (or rls--failed
+      (format "member %s of %s%s%s" rls--me rls--members (if rls--unsaved ", not stored" "")
+              (mapconcat (lambda (x) (format ", message %s: %s" (car x) (cdr x))) rls--problems ""))))
 
 (define-minor-mode rls-mode
   "What `rls-open' turns on in its buffers."
@@ -296,7 +358,7 @@ After a fault nothing more is done with the buffer, which keeps what it shows."
 (defun rls--begin-timer (buffer)
   (setq rls--timer (run-with-timer rls-every rls-every
                                    (lambda ()
-                                     (when (buffer-live-p buffer)
+                                     (when (and (buffer-live-p buffer) (not rls--busy))
                                        (with-current-buffer buffer (rls--try #'rls--tick)))))))
 
 ;;;###autoload

@@ -31,7 +31,63 @@ local function run()
   for member = 0, 1 do vim.cmd('bwipeout! ' .. all[member].buf) end
 end
 
-local done, fault = pcall(run)
+-- What others may have put into the shared folder: links at the names of own messages and at the name that these had before, and at members'
+-- names a link, a pipe, a folder, a file that is too large and one that is no message.
+local function hostile()
+  rls.rename_at = 500
+  local shared, victim = room .. '/hostile', room .. '/victim'
+  local group = '18446744073709551615'
+  local function at(name) return ('%s/%s-%s'):format(shared, group, name) end
+  local function shell(command, ...) assert(os.execute(command:format(...)) == 0) end
+  local all = {}
+  for member = 0, 1 do all[member] = rls.open(('%s/h%d'):format(room, member), shared) end
+  shell('rm %s/*.rlsm; printf mine >%s', shared, victim)
+  for _, name in ipairs({ '0-1.rlsm.new', '0-1.rlsm', '0-3.rlsm.new' }) do shell('ln -s %s %s', victim, at(name)) end
+  shell('mkdir %s %s; ln -s %s %s; mkfifo %s', at('0-2.rlsm'), at('4-0.rlsm'), at('1-0.rlsm'), at('2-0.rlsm'), at('3-0.rlsm'))
+  shell('truncate -s 67108865 %s; echo junk >%s', at('5-0.rlsm'), at('6-0.rlsm'))
+  local function put(self, text)
+    self.sent = {}
+    api.nvim_set_current_buf(self.buf)
+    api.nvim_buf_set_lines(self.buf, 0, 0, true, { text })
+    self:sync()
+  end
+  local function has(self, text) assert(table.concat(self.lines, '\n'):find(text, 1, true), text) end
+  put(all[1], 'from b')
+  put(all[0], 'from a')
+  has(all[0], 'from b')
+  for _, message in ipairs({ 'of 2', 'of 3', 'of 4', 'of 5', 'of 6', 'to 2' }) do
+    assert(rls.status():find('message ' .. message .. ': ', 1, true), message .. ': ' .. rls.status())
+  end
+  shell('rmdir %s', at('4-0.rlsm'))
+  all[0]:sync()
+  assert(not rls.status():find('message of 4', 1, true))
+  local file = assert(io.open(victim))
+  assert(file:read('*a') == 'mine', 'a link was written through')
+  assert(vim.loop.fs_lstat(at('0-1.rlsm')).type == 'file')
+  shell(': >%s/mode; [ "$(stat -c %%a %s)" = "$(stat -c %%a %s/mode)" ]', room, at('0-3.rlsm'), room)
+  shell('[ -z "$(ls -A %s | grep "^[.]new-")" ]', shared)
+  api.nvim_set_current_buf(all[1].buf)
+  all[1]:sync()
+  has(all[1], 'from a')
+  -- A number from which nothing ever came doesn't get each message.
+  local sizes, count = {}, 0
+  for _ = 1, 30 do
+    put(all[0], 'more')
+    local size = vim.loop.fs_stat(at('0-7.rlsm')).size
+    if not sizes[size] then sizes[size], count = true, count + 1 end
+  end
+  assert(count < 8, count)
+  -- The program may take longer than ten seconds, for example since another command stores into the folder.
+  rls.program = room .. '/slow'
+  put(all[0], 'late')
+  assert(not all[0].failed)
+  for member = 0, 1 do vim.cmd('bwipeout! ' .. all[member].buf) end
+end
+
+local done, fault = pcall(function()
+  run()
+  hostile()
+end)
 if not done then
   io.stderr:write(tostring(fault) .. '\n')
   vim.cmd('cquit!')

@@ -73,8 +73,9 @@ shows() { wait_for "$1" yes screen_has "$2"; }
 stored_text() { (cd "$room/ada" && "$RLS" text); }
 
 # What member 0 types into its editor, and what both members then have. An editor's test says how, by these functions: append TEXT (types at
-# the place where the editor waits), to_end (goes to the end of the text's first line), replace_last_line TEXT, delete_first_line,
-# hold_back (nothing is sent from now on, unless `store` asks for it), take_back, store and leave_editor.
+# the place where the editor waits), to_end (goes to the end of the text's first line), replace_last_line TEXT, type_at_end TEXT,
+# delete_first_line, never_idle (from now on no pause is long enough to send), hold_back (nothing is sent from now on, unless `store` asks for
+# it), go_on (as at the beginning), take_back, store and leave_editor.
 play() {
   shows 'the status line' 'member 0 of 2'
   append 'Bread and tea'
@@ -85,18 +86,34 @@ play() {
   ben_has 'the cursor has moved with its character' $'Butter, Bread and tea!\nJam'
   replace_last_line 'Salt \ é😀'
   ben_has 'lines, a backslash, and characters of two and four bytes' $'Butter, Bread and tea!\nSalt \\ é😀'
+  never_idle
+  type_at_end '+'
+  ben_has 'what is typed is sent also while somebody types on' $'Butter, Bread and tea!\nSalt \\ é😀+'
   hold_back
   delete_first_line
   shows 'a deletion that is not stored' 'not stored'
-  ben_edits 'i 32 ?'
+  ben_edits 'i 33 ?'
   shows 'what others typed meanwhile' '?'
   take_back
   store
-  wait_for 'an undo leaves what others did' $'Butter, Bread and tea!\nSalt \\ é😀?' stored_text
+  wait_for 'an undo leaves what others did' $'Butter, Bread and tea!\nSalt \\ é😀+?' stored_text
+  go_on
   to_end
+  # A thousand keys at once, three times, while member 1 writes each 0.7 s.
+  local keys burst= k
+  keys=$(printf 'k%.0s' {1..1000})
+  (for k in 1 2 3 4 5 6; do sleep 0.7; ben_edits 'i 0 -'; done) &
+  for k in 1 2 3; do
+    append "$keys"
+    burst+=$keys
+    sleep 1
+  done
+  wait $!
+  ben_has 'keys that are typed faster than any timer, while others write' "------Butter, Bread and tea!$burst"$'\nSalt \\ é😀+?'
+  shows 'no fault after that' 'member 0 of 2'
   append end
   leave_editor
-  wait_for 'the last edits are stored' $'Butter, Bread and tea!end\nSalt \\ é😀?' stored_text
+  wait_for 'the last edits are stored' "------Butter, Bread and tea!${burst}end"$'\nSalt \\ é😀+?' stored_text
 }
 
 # How that is typed in Vim and in Neovim.
@@ -106,6 +123,7 @@ append() {
 }
 begin_typing=i
 replace_last_line() { keys Escape; type_text 'Gdd'; type_text "o$1"; keys Escape; }
+type_at_end() { type_text "GA$1"; keys Escape; }
 delete_first_line() { type_text 'ggdd'; }
 store() { keys ':w' Enter; }
 to_end() { type_text 'ggA'; }

@@ -9,6 +9,68 @@ function s:text(buf) abort
   return getbufline(a:buf, 1, '$')
 endfunction
 
+function s:shell(command) abort
+  call system('cd "$ROOM/hostile" && { ' . a:command . '; }')
+  if v:shell_error
+    throw 'failed: ' . a:command
+  endif
+endfunction
+
+function s:put(buf, text) abort
+  execute 'buffer!' a:buf
+  call append(0, a:text)
+  doautocmd TextChanged
+  write
+endfunction
+
+function s:want(is_right, what) abort
+  if !a:is_right
+    throw 'not so: ' . a:what . ': ' . RlsStatus()
+  endif
+endfunction
+
+" What others may have put into the shared folder: links at the names of own messages and at the name that these had before, and at members'
+" names a link, a pipe, a folder, a file that is too large and one that is no message.
+function s:hostile() abort
+  let g:rls_rename_at = 500
+  let buffers = []
+  for member in range(2)
+    execute 'RlsOpen' $ROOM . '/h' . member $ROOM . '/hostile'
+    call add(buffers, bufnr('%'))
+  endfor
+  call s:shell('rm *.rlsm; printf mine >../victim; for name in 0-1.rlsm.new 0-1.rlsm 0-3.rlsm.new; do ln -s "$ROOM/victim" 7-$name; done')
+  call s:shell('mkdir 7-0-2.rlsm 7-4-0.rlsm; ln -s 7-1-0.rlsm 7-2-0.rlsm; mkfifo 7-3-0.rlsm; truncate -s 67108865 7-5-0.rlsm; echo junk >7-6-0.rlsm')
+  call s:put(buffers[1], 'from b')
+  call s:put(buffers[0], 'from a')
+  call s:want(index(getline(1, '$'), 'from b') >= 0, 'from b')
+  for message in ['of 2', 'of 3', 'of 4', 'of 5', 'of 6', 'to 2']
+    call s:want(RlsStatus() =~# 'message ' . message . ': ', message)
+  endfor
+  call s:shell('rmdir 7-4-0.rlsm')
+  write
+  call s:want(RlsStatus() !~# 'message of 4', 'of 4 again')
+  call s:shell('[ "$(cat ../victim)" = mine ] && [ ! -L 7-0-1.rlsm ] && : >../mode && [ "$(stat -c %a 7-0-3.rlsm)" = "$(stat -c %a ../mode)" ]')
+  call s:shell('! ls -A | grep -q "^[.]new-"')
+  execute 'buffer!' buffers[1]
+  write
+  call s:want(index(getline(1, '$'), 'from a') >= 0, 'from a')
+  " A number from which nothing ever came doesn't get each message, and what sessions write to standard error makes no file for each.
+  let sizes = {}
+  for _ in range(30)
+    call s:put(buffers[0], 'more')
+    let sizes[getfsize($ROOM . '/hostile/7-0-7.rlsm')] = 1
+  endfor
+  call s:want(len(sizes) < 8, 'sizes ' . string(sizes))
+  call s:want(len(glob(fnamemodify(tempname(), ':h') . '/*', 1, 1)) < 8, 'files: ' . string(glob(fnamemodify(tempname(), ':h') . '/*', 1, 1)))
+  " The program may take longer than ten seconds, for example since another command stores into the folder.
+  let g:rls_program = $ROOM . '/slow'
+  call s:put(buffers[0], 'late')
+  call s:want(RlsStatus() =~# '^member', 'a slow program')
+  for buf in buffers
+    execute 'bwipeout!' buf
+  endfor
+endfunction
+
 try
   let s:buffers = []
   for member in range(2)
@@ -42,6 +104,7 @@ try
   for buf in s:buffers
     execute 'bwipeout!' buf
   endfor
+  call s:hostile()
   qall!
 catch
   call writefile([v:exception, v:throwpoint], '/dev/stderr', 'a')

@@ -9,9 +9,11 @@ local M = {
   program = 'rls',
   every = 500, -- milliseconds between two looks into the shared folder
   idle = 2000, -- milliseconds without an edit, after which edits are stored and sent
+  most = 3000, -- milliseconds after which edits are stored and sent also while somebody types on
   rename_at = 500, -- runs of identifiers from which it renames (docs/USE.md); 0 for never
 }
 local MOST_INPUT = 67108864 - 4096 -- bytes that one session may read, less some
+local PATIENCE = 2 -- seconds after which it says that it waits for the program
 local uv, api = vim.loop, vim.api
 local replicas = {} -- by buffer
 
@@ -30,7 +32,12 @@ function Replica:start()
   end)
   if not handle then error('rls: there is no program ' .. M.program, 0) end
   output:read_start(function(_, data)
-    if data then session.have = session.have .. data else output:close() end
+    if data then
+      session.have = session.have .. data
+    else
+      session.closed = true
+      output:close()
+    end
   end)
   errors:read_start(function(_, data)
     if data then session.errors = session.errors .. data else errors:close() end
@@ -38,18 +45,25 @@ function Replica:start()
   self.session, self.given, self.unsaved = session, 0, false
 end
 
--- Waits until a test of the session's output answers something. No other work of Neovim's runs meanwhile.
+-- Waits until a test of the session's output answers something, as long as the program works: it may wait for another command in the
+-- folder. Ctrl-C ends that. No other work of Neovim's runs meanwhile.
 function Replica:wait(test)
-  local session = self.session
-  local found
-  vim.wait(10000, function()
-    found = test(session.have)
-    return found ~= nil or session.ended ~= false
-  end, 1, true)
-  found = found or test(session.have)
-  if found == nil then
-    error(('rls: the session %s: %s'):format(session.ended and 'ended' or 'gives no answer', vim.trim(session.errors)), 0)
-  end
+  local session, begun = self.session, uv.hrtime()
+  local found, done, why, told
+  repeat
+    done, why = vim.wait(1000, function()
+      found = test(session.have)
+      return found ~= nil or (session.ended ~= false and session.closed)
+    end, 1, true)
+    if why == -2 then error('rls: given up', 0) end
+    if not done and uv.hrtime() - begun > PATIENCE * 1e9 then
+      told = true
+      api.nvim_echo({ { 'rls: waiting for the program; Ctrl-C gives up ' .. vim.trim(session.errors):gsub('\n', ' ') } }, false, {})
+      vim.cmd('redraw')
+    end
+  until done
+  if told then api.nvim_echo({ { '' } }, false, {}) end
+  if found == nil then error(('rls: the session ended: %s'):format(vim.trim(session.errors)), 0) end
   return found
 end
 
@@ -227,21 +241,49 @@ local function decimal(data)
   return table.concat(digits):reverse()
 end
 
+-- The bytes of a file; nil and why, if it can't be read; nil alone, if nothing is there. A folder that others write into may have a link, a
+-- pipe or a folder at a name, or a file that fills the memory: none of these is read.
 local function read(path)
-  local file = io.open(path, 'rb')
-  if not file then return nil end
-  local data = file:read('*a')
-  file:close()
-  return data
+  local named = uv.fs_lstat(path)
+  if not named then return nil end
+  if named.type ~= 'file' then return nil, 'it is no file' end
+  local file, why = uv.fs_open(path, bit.bor(uv.constants.O_RDONLY, uv.constants.O_NONBLOCK), 0)
+  if not file then return nil, why end
+  local told, data = uv.fs_fstat(file), nil
+  if not told or told.ino ~= named.ino or told.dev ~= named.dev then
+    why = 'it is another file now' -- perhaps a link's
+  elseif told.size > MOST_INPUT then
+    why = 'it is too large'
+  else
+    data, why = uv.fs_read(file, told.size, 0)
+  end
+  uv.fs_close(file)
+  return data, why
 end
 
--- Writes a file so that whoever reads it sees the old one or the new one.
+-- How many bytes a regular file has; nil if there is none.
+local function size_of(path)
+  local told = uv.fs_lstat(path)
+  return told and told.type == 'file' and told.size or nil
+end
+
+-- Writes a file so that whoever reads it sees the old one or the new one; answers why it could not, if so. It is made under a name that
+-- nobody can know before and that nobody has, and a link at its own name is replaced, and not written through.
 local function write(path, data)
-  local file = assert(uv.fs_open(path .. '.new', 'w', 420))
-  assert(uv.fs_write(file, data, 0))
-  assert(uv.fs_fsync(file))
+  local new = vim.fn.fnamemodify(path, ':h') .. '/.new-' .. uv.random(16):gsub('.', function(c) return ('%02x'):format(c:byte()) end)
+  local file, why = uv.fs_open(new, 'wx', 438) -- 438: what the umask leaves of reading and writing for all
+  if not file then return why end
+  local at, count, done = 0, nil, nil
+  repeat
+    count, why = uv.fs_write(file, data:sub(at + 1), at)
+    at = at + (count or 0)
+  until not count or at >= #data
+  if count then done, why = uv.fs_fsync(file) end
   uv.fs_close(file)
-  assert(uv.fs_rename(path .. '.new', path))
+  if done then done, why = uv.fs_rename(new, path) end
+  if done then return nil end
+  uv.fs_unlink(new)
+  return why
 end
 
 -- Refuses a message that knows more operations of this member than the replica has made: then its files are old, or two members have its number.
@@ -252,17 +294,20 @@ function Replica:guard(message, from)
   end
 end
 
--- Takes what came from one member. Answers whether there was anything.
+-- Takes what came from one member. Answers whether there was anything. What can't be read as a message is told, and stops no other member's.
 function Replica:take_from(from)
-  local message = from ~= self.me and read(self:path(from, self.me))
-  if not message or message == self.taken[from] or #message > MOST_INPUT then return false end
+  if from == self.me then return false end
+  local message, why = read(self:path(from, self.me))
+  if not message then self.problems['of ' .. from] = why end
+  if not message or message == self.taken[from] then return false end
   if self.given + #message > MOST_INPUT then self:save() end
   self:guard(message, from)
   local reply = self:ask('m ' .. #message, message)
   local refused = reply:match('^no ')
-  self.problem = (refused or not reply:match('held 0 refused 0')) and (', message of %d: %s'):format(from, reply) or ''
+  self.problems['of ' .. from] = (refused or not reply:match('held 0 refused 0')) and reply or nil
+  self.taken[from] = message -- what was refused once is refused again
   if refused then return false end
-  self.taken[from], self.changes, self.unsaved = message, self.changes + number(reply, 'applied'), true
+  self.changes, self.unsaved = self.changes + number(reply, 'applied'), true
   return true
 end
 
@@ -277,17 +322,26 @@ function Replica:take()
   end
 end
 
+-- Whether nothing ever came from this number and the message that it has already has more than half the bytes of this one. Each of them has
+-- the whole history. Whoever begins with the number takes the one that is there and answers, and gets the rest.
+function Replica:is_enough(to, message)
+  local there = size_of(self:path(self.me, to))
+  return u32(message, 21 + 4 * to) == 0 and there ~= nil and 2 * there > #message and not size_of(self:path(to, self.me))
+end
+
 -- Stores, and then writes the messages: what isn't stored may be sent to nobody, since a crash would give its numbers to other edits.
 function Replica:send()
   self:save()
   for to = 0, self.members - 1 do
     local message = to ~= self.me and self:message(to)
-    if message and message ~= self.sent[to] then
-      write(self:path(self.me, to), message)
-      self.sent[to] = message
+    if message and message ~= self.sent[to] and not self:is_enough(to, message) then
+      local why = write(self:path(self.me, to), message)
+      self.problems['to ' .. to] = why
+      if not why then self.sent[to] = message end
     end
   end
   vim.bo[self.buf].modified = false
+  self.since = uv.now()
 end
 
 -- What `:w` does.
@@ -298,8 +352,9 @@ end
 
 -- What the timer does.
 function Replica:tick()
+  if not self.unsaved then self.since = uv.now() end
   self:take()
-  if self.unsaved and uv.now() - self.edited >= M.idle then self:send() end
+  if self.unsaved and (uv.now() - self.edited >= M.idle or uv.now() - self.since >= M.most) then self:send() end
 end
 
 function Replica:undo()
@@ -330,13 +385,14 @@ end
 function Replica:close()
   replicas[self.buf] = nil
   self.timer:close()
-  if self.failed then return end
-  self:ask('q')
+  -- At the end of its input a session stores too, and then the folder is free.
+  if not self.failed then self:ask('q') end
+  if not self.session.input:is_closing() then self.session.input:close() end
 end
 
 local function opened(folder, shared)
   local self = setmetatable({ folder = vim.fn.fnamemodify(folder, ':p'), shared = vim.fn.fnamemodify(shared, ':p'):gsub('/$', ''),
-    taken = {}, sent = {}, lines = { '' }, problem = '', edited = uv.now(), changes = M.rename_at }, Replica)
+    taken = {}, sent = {}, lines = { '' }, problems = {}, edited = uv.now(), since = uv.now(), changes = M.rename_at }, Replica)
   if vim.fn.isdirectory(self.folder) == 0 then error('rls: there is no folder ' .. self.folder, 0) end
   vim.fn.mkdir(self.shared, 'p')
   self:start()
@@ -389,7 +445,9 @@ end
 function M.status()
   local self = replicas[api.nvim_get_current_buf()]
   if not self then return '' end
-  return self.failed or ('member %d of %d%s%s'):format(self.me, self.members, self.unsaved and ', not stored' or '', self.problem)
+  local problems = ''
+  for message, problem in pairs(self.problems) do problems = problems .. (', message %s: %s'):format(message, problem) end
+  return self.failed or ('member %d of %d%s%s'):format(self.me, self.members, self.unsaved and ', not stored' or '', problems)
 end
 
 return M

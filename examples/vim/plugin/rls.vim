@@ -12,6 +12,7 @@ let g:loaded_rls = 1
 let g:rls_program = get(g:, 'rls_program', 'rls')
 let g:rls_every = get(g:, 'rls_every', 500)     " milliseconds between two looks into the shared folder
 let g:rls_idle = get(g:, 'rls_idle', 2000)      " milliseconds without an edit, after which edits are stored and sent
+let g:rls_most = get(g:, 'rls_most', 3000)       " milliseconds after which edits are stored and sent also while somebody types on
 let g:rls_rename_at = get(g:, 'rls_rename_at', 500)   " runs of identifiers from which it renames (docs/USE.md); 0 for never
 let s:most_input = 67108864 - 4096              " bytes that one session may read, less some
 let s:open = {}                                 " what is known of each buffer's replica
@@ -19,25 +20,45 @@ let s:open = {}                                 " what is known of each buffer's
 " --- The session
 
 function s:start(r) abort
-  let a:r.errors = tempname()
+  let a:r.errors = get(a:r, 'errors', tempname())
   let a:r.job = job_start([g:rls_program, 'session'], {'cwd': a:r.folder, 'mode': 'raw', 'noblock': 1, 'err_io': 'file', 'err_name': a:r.errors})
   let a:r.have = 0z
   let a:r.given = 0
   let a:r.unsaved = 0
 endfunction
 
-" Waits for more of the session's output.
+" Waits for more of the session's output, as long as the program works: it may wait for another command in the folder. Ctrl-C ends that.
 function s:read_more(r) abort
-  let more = ch_readblob(a:r.job, {'timeout': 10000})
-  if len(more) == 0
-    call s:silent(a:r)
+  let more = ch_readblob(a:r.job, {'timeout': 2000})
+  let told = 0
+  while len(more) == 0
+    if job_status(a:r.job) !=# 'run'
+      let more = ch_status(a:r.job, {'part': 'out'}) =~# 'open\|buffered' ? ch_readblob(a:r.job, {'timeout': 100}) : 0z
+      if len(more) == 0
+        call s:silent(a:r)
+      endif
+      break
+    endif
+    let told = 1
+    redraw
+    echo 'rls: waiting for the program; Ctrl-C gives up' s:errors(a:r)
+    let more = ch_readblob(a:r.job, {'timeout': 1000})
+  endwhile
+  if told
+    redraw
+    echo
   endif
   let a:r.have = a:r.have + more
 endfunction
 
+" What the session has written to standard error.
+function s:errors(r) abort
+  return filereadable(a:r.errors) ? join(readfile(a:r.errors), ' ') : ''
+endfunction
+
 " Says why there is no session to talk with.
 function s:silent(r) abort
-  let why = filereadable(a:r.errors) ? join(readfile(a:r.errors), ' ') : ''
+  let why = s:errors(a:r)
   throw 'rls: the session ' . (job_status(a:r.job) ==# 'dead' ? 'ended' : 'gives no answer') . (why ==# '' ? '' : ': ' . why)
 endfunction
 
@@ -282,6 +303,53 @@ function s:path(r, from, to) abort
   return printf('%s/%s-%d-%d.rlsm', a:r.shared, a:r.group, a:from, a:to)
 endfunction
 
+" How many bytes a regular file has; -1 if there is none, or a link, a folder or a pipe: a folder that others write into may have any.
+function s:size(path) abort
+  return getftype(a:path) ==# 'file' ? getfsize(a:path) : -1
+endfunction
+
+" The bytes of a file, or an empty list if nothing is there. What isn't a regular file, or is too large, isn't opened.
+function s:read(path) abort
+  let kind = getftype(a:path)
+  if kind ==# ''
+    return []
+  elseif kind !=# 'file'
+    throw 'rls: it is no file'
+  endif
+  let size = getfsize(a:path)
+  if size < 0 || size > s:most_input
+    throw 'rls: it is too large'
+  endif
+  return [readblob(a:path)]
+endfunction
+
+" Writes a file so that whoever reads it sees none, or the old or the new one. It is made under a name that nobody can know before, so nobody
+" can have put a link there, and a link at its own name is replaced and not written through.
+function s:write(path, data) abort
+  let new = fnamemodify(a:path, ':h') . '/.new-' . sha256(tempname() . reltimestr(reltime()) . rand() . rand())
+  if getftype(new) !=# ''
+    throw 'rls: it has a name that is taken'
+  endif
+  try
+    let answer = writefile(a:data, new, 's')
+    let answer = answer ? answer : rename(new, a:path)
+  finally
+    call delete(new)
+  endtry
+  if answer
+    throw 'rls: it can not be written'
+  endif
+endfunction
+
+" Remembers what is wrong with a message, such as 'of 2'; '' if nothing is.
+function s:note(r, message, problem) abort
+  if a:problem !=# ''
+    let a:r.problems[a:message] = substitute(a:problem, '^rls: ', '', '')
+  elseif has_key(a:r.problems, a:message)
+    call remove(a:r.problems, a:message)
+  endif
+endfunction
+
 " The number in the four bytes from here on.
 function s:u32(blob, at) abort
   return ((a:blob[a:at] * 256 + a:blob[a:at + 1]) * 256 + a:blob[a:at + 2]) * 256 + a:blob[a:at + 3]
@@ -295,14 +363,23 @@ function s:guard(r, message, from) abort
   endif
 endfunction
 
-" Takes what came from one member. Answers whether there was anything.
+" Takes what came from one member. Answers whether there was anything. What can't be read as a message is told, and stops no other member's.
 function s:take_from(r, from) abort
-  let path = s:path(a:r, a:from, a:r.me)
-  if a:from == a:r.me || !filereadable(path)
+  if a:from == a:r.me
     return 0
   endif
-  let message = readblob(path)
-  if message ==# get(a:r.taken, a:from, 0z) || len(message) > s:most_input
+  try
+    let found = s:read(s:path(a:r, a:from, a:r.me))
+  catch /^rls:\|^Vim(\(return\|let\)):E48\d/
+    call s:note(a:r, 'of ' . a:from, v:exception)
+    return 0
+  endtry
+  if empty(found)
+    call s:note(a:r, 'of ' . a:from, '')
+    return 0
+  endif
+  let message = found[0]
+  if has_key(a:r.taken, a:from) && message ==# a:r.taken[a:from]
     return 0
   endif
   if a:r.given + len(message) > s:most_input
@@ -313,12 +390,12 @@ function s:take_from(r, from) abort
   call ch_sendraw(a:r.job, message)
   let a:r.given += len(message) + 20
   let reply = s:line(a:r)
+  " What was refused once is refused again.
+  let a:r.taken[a:from] = message
+  call s:note(a:r, 'of ' . a:from, reply =~# 'held 0 refused 0' ? '' : reply)
   if reply =~# '^no '
-    let a:r.problem = ', message of ' . a:from . ': ' . reply
     return 0
   endif
-  let a:r.problem = reply =~# 'held 0 refused 0' ? '' : ', message of ' . a:from . ': ' . reply
-  let a:r.taken[a:from] = message
   let a:r.changes += s:number(reply, 'applied')
   let a:r.unsaved = 1
   return 1
@@ -343,6 +420,12 @@ function s:take(buf) abort
   endif
 endfunction
 
+" Whether nothing ever came from this number and the message that it has already has more than half the bytes of this one. Each of them has the
+" whole history. Whoever begins with the number takes the one that is there and answers, and gets the rest.
+function s:is_enough(r, to, message) abort
+  return s:u32(a:message, 21 + 4 * a:to) == 0 && s:size(s:path(a:r, a:to, a:r.me)) < 0 && 2 * s:size(s:path(a:r, a:r.me, a:to)) > len(a:message)
+endfunction
+
 " Stores, and then writes the messages: what isn't stored may be sent to nobody, since a crash would give its numbers to other edits.
 function s:send(buf) abort
   let r = s:open[a:buf]
@@ -352,14 +435,18 @@ function s:send(buf) abort
       continue
     endif
     let message = s:message(r, to)
-    if message !=# get(r.sent, to, 0z)
-      let path = s:path(r, r.me, to)
-      call writefile(message, path . '.new', 's')
-      call rename(path . '.new', path)
-      let r.sent[to] = message
+    if message !=# get(r.sent, to, 0z) && !s:is_enough(r, to, message)
+      try
+        call s:write(s:path(r, r.me, to), message)
+        let r.sent[to] = message
+        call s:note(r, 'to ' . to, '')
+      catch /^rls:\|^Vim(let):E/
+        call s:note(r, 'to ' . to, v:exception)
+      endtry
     endif
   endfor
   call setbufvar(a:buf, '&modified', 0)
+  let r.since = reltime()
 endfunction
 
 " What `:w` does.
@@ -371,8 +458,11 @@ endfunction
 " What the timer does.
 function s:tick(buf) abort
   let r = s:open[a:buf]
+  if !r.unsaved
+    let r.since = reltime()
+  endif
   call s:take(a:buf)
-  if r.unsaved && reltimefloat(reltime(r.edited)) * 1000 >= g:rls_idle
+  if r.unsaved && (reltimefloat(reltime(r.edited)) * 1000 >= g:rls_idle || reltimefloat(reltime(r.since)) * 1000 >= g:rls_most)
     call s:send(a:buf)
   endif
 endfunction
@@ -395,7 +485,7 @@ endfunction
 
 function s:open_replica(folder, shared) abort
   let r = {'folder': fnamemodify(expand(a:folder), ':p'), 'shared': substitute(fnamemodify(expand(a:shared), ':p'), '/$', '', ''),
-        \ 'taken': {}, 'sent': {}, 'lines': [''], 'problem': '', 'failed': '', 'edited': reltime(), 'changes': g:rls_rename_at, 'told': 0}
+        \ 'taken': {}, 'sent': {}, 'lines': [''], 'problems': {}, 'failed': '', 'edited': reltime(), 'since': reltime(), 'changes': g:rls_rename_at, 'told': 0}
   if !isdirectory(r.folder)
     throw 'rls: there is no folder ' . r.folder
   endif
@@ -464,7 +554,11 @@ function s:close(buf) abort
   if r.failed ==# ''
     call ch_sendraw(r.job, "q\n")
     call s:line(r)
+  elseif ch_status(r.job, {'part': 'in'}) ==# 'open'
+    " At the end of its input a session stores too, and then the folder is free.
+    call ch_close_in(r.job)
   endif
+  call delete(r.errors)
 endfunction
 
 function RlsStatus() abort
@@ -472,7 +566,8 @@ function RlsStatus() abort
   if empty(r)
     return ''
   endif
-  return r.failed !=# '' ? r.failed : printf('member %d of %d%s%s', r.me, r.members, r.unsaved ? ', not stored' : '', r.problem)
+  let problems = join(values(map(copy(r.problems), {message, problem -> ', message ' . message . ': ' . problem})), '')
+  return r.failed !=# '' ? r.failed : printf('member %d of %d%s%s', r.me, r.members, r.unsaved ? ', not stored' : '', problems)
 endfunction
 
 command -nargs=+ -complete=dir RlsOpen call s:try_open(<f-args>)
