@@ -100,10 +100,10 @@ play() {
   go_on
   to_end
   # A thousand keys at once, three times, while member 1 writes each 0.7 s.
-  local keys burst= k
+  local keys burst=''
   keys=$(printf 'k%.0s' {1..1000})
-  (for k in 1 2 3 4 5 6; do sleep 0.7; ben_edits 'i 0 -'; done) &
-  for k in 1 2 3; do
+  (for _ in 1 2 3 4 5 6; do sleep 0.7; ben_edits 'i 0 -'; done) &
+  for _ in 1 2 3; do
     append "$keys"
     burst+=$keys
     sleep 1
