@@ -47,7 +47,9 @@
 
 (defun rls--start ()
   (let* ((default-directory rls--folder) (process-connection-type nil) (errors (generate-new-buffer " *rls-errors*" t)))
-    (setq rls--process (make-process :name "rls" :buffer (generate-new-buffer " *rls*" t) :command (list rls-program "session")
+    ;; When Emacs ends it sends this signal to its processes, and a session stores at the end of its input.
+    (setq rls--process (make-process :name "rls" :buffer (generate-new-buffer " *rls*" t)
+                                     :command (list "sh" "-c" "trap '' HUP; exec \"$0\" session" rls-program)
                                      :coding 'binary :noquery t :sentinel #'ignore :stderr errors)
           rls--given 0 rls--unsaved nil)
     (process-put rls--process 'errors errors)
@@ -57,12 +59,19 @@
 
 (defun rls--end-process ()
   "Waits until the session has ended, and removes what it left."
-  (let ((process rls--process) (end (+ (float-time) 10)))
-    ;; After the end of its output Emacs may answer at once, and for ever, that more came.
-    (while (and (process-live-p process) (< (float-time) end)) (accept-process-output process 0.1 nil 1))
+  (let ((process rls--process) (end (1+ (float-time))))
+    (with-current-buffer (process-buffer process)
+      (while (and (< (float-time) end) (rls--more process 0.1))))
     (setq rls--process nil)
     (kill-buffer (process-get process 'errors))
     (kill-buffer (process-buffer process))))
+
+(defun rls--more (process seconds)
+  "Waits for output of PROCESS, whose buffer is the current one.
+Nil if it has ended: then Emacs may answer at once, and for ever, that more
+came, and while its terminal goes it doesn't notice that a process is dead."
+  (let* ((size (buffer-size)) (came (accept-process-output process seconds nil 1)))
+    (or (/= size (buffer-size)) (and (not came) (process-live-p process)))))
 
 (defun rls--wait (test)
   "Waits until TEST answers something in the buffer of the session's output.
@@ -73,13 +82,10 @@ asks nothing then."
     (unless process (error "rls: the session has ended"))
     (with-current-buffer (process-buffer process)
       (while (not (setq found (funcall test)))
-        (let ((size (buffer-size)))
-          (accept-process-output process 0.5 nil 1)
-          (unless (or (process-live-p process) (/= size (buffer-size)))
-            (error "rls: the session ended: %s" (rls--errors process)))
-          (when (> (- (float-time) begun) rls--patience)
-            (setq told t)
-            (message "rls: waiting for the program; C-g gives up. %s" (rls--errors process))))))
+        (unless (rls--more process 0.5) (error "rls: the session ended: %s" (rls--errors process)))
+        (when (> (- (float-time) begun) rls--patience)
+          (setq told t)
+          (message "rls: waiting for the program; C-g gives up. %s" (rls--errors process)))))
     (when told (message nil))
     found))
 
@@ -335,10 +341,26 @@ After a fault nothing more is done with the buffer, which keeps what it shows."
                (rls--end-process))
       (rls--try (lambda () (rls--ask "q") (rls--end-process))))))
 
+(defun rls--let-go ()
+  "Ends the session without waiting: at the end of its input it stores."
+  (when rls--timer (cancel-timer rls--timer))
+  (when rls--process (ignore-errors (process-send-eof rls--process))))
+
+(defvar rls--asked 0 "When Emacs was asked to end.")
+
+(defun rls--asked ()
+  "Remembers that Emacs was asked to end."
+  (setq rls--asked (float-time))
+  t)
+
 (defun rls--close-all ()
-  (dolist (buffer (buffer-list))
-    (when (and (buffer-live-p buffer) (buffer-local-value 'rls--process buffer))
-      (with-current-buffer buffer (rls--close)))))
+  "Ends all sessions.
+If a signal ends Emacs, since its terminal is gone, it may wait for ever for a
+process that is dead; so it waits only if it was asked to end just now."
+  (let ((close (if (< (- (float-time) rls--asked) 60) #'rls--close #'rls--let-go)))
+    (dolist (buffer (buffer-list))
+      (when (and (buffer-live-p buffer) (buffer-local-value 'rls--process buffer))
+        (with-current-buffer buffer (funcall close))))))
 
 (defun rls--status ()
   (or rls--failed
@@ -353,6 +375,7 @@ After a fault nothing more is done with the buffer, which keeps what it shows."
     (add-hook 'after-change-functions #'rls--changed nil t)
     (add-hook 'write-contents-functions #'rls-sync nil t)
     (add-hook 'kill-buffer-hook #'rls--close nil t)
+    (add-hook 'kill-emacs-query-functions #'rls--asked)
     (add-hook 'kill-emacs-hook #'rls--close-all)))
 
 (defun rls--begin-timer (buffer)
