@@ -1,5 +1,5 @@
 -- A command of a member of a group: what it calls for, and the history that the stored file stands for.
-use Rattle.std.proofs.Common.{◌≡◌, ◌≤◌, ℕ, Bool, true, false, List, [], ◌∷◌, length, refl, sym, ap, ◌∙◌, subst, inl, inr, ⊎_elim}
+use Rattle.std.proofs.Common.{◌≡◌, ◌≤◌, ◌<◌, ℕ, Bool, true, false, List, [], ◌∷◌, length, refl, sym, ap, ◌∙◌, subst, inl, inr, ⊎_elim}
 use Rattle.std.specs.Prelude.{Option, Some, None, IsSomeAnd, Result, Ok, Err, ◌==◌, nat_lt, if◌then◌else◌}
 use Rattle.rls_ident.specs.declared.limits.TheConstants.{INPUT_BYTES, FILE_BYTES}
 use Rattle.rls_ident.specs.Lists.{IsIn}
@@ -9,6 +9,7 @@ use Rattle.rls_ops.specs.Spelling.{message_bytes}
 use Rattle.rls_codec.specs.CodecLaws.{IsMessage}
 use Rattle.rls_codec.specs.Reading.{message_of}
 use Rattle.rls_codec.proofs.MessageFormats.{message_again}
+use Rattle.rls_codec.proofs.SizeLaws.{message_length}
 use Rattle.rls_model.specs.declared.edit.Edit as model
 use Rattle.rls_model.specs.declared.edit.Edit.TheVariants as edits
 use Rattle.rls_model.specs.declared.receipt.Taken.{Taken}
@@ -16,7 +17,8 @@ use Rattle.rls_model.specs.Answers.{Reason}
 use Rattle.rls_model.specs.EditRun as histories
 use Rattle.rls_model.specs.History.{group_of, members_of}
 use Rattle.rls_model.specs.Laws.{IsAt, IsFront}
-use Rattle.rls_model.specs.Machine.{Run, Done, Stopped}
+use Rattle.rls_model.specs.Machine.{Run, Done, Stopped, no_counts}
+use Rattle.rls_model.specs.Parts.{parts}
 use Rattle.rls_model.specs.Receiving.{State}
 use Rattle.rls_model.specs.Taking.{message_for, take_message}
 use Rattle.rls_model.specs.Worlds.{World}
@@ -24,13 +26,15 @@ use Rattle.rls_model.proofs.WorldsCommands.{Does, Rests, Runs, Writes, Reads, St
 use Rattle.rls_model.proofs.HistoryNumbers.{front_self}
 use Rattle.rls_model.proofs.WorldsPast.{taking_goes_on}
 use Rattle.rls_model.proofs.WorldsEdits.{AllReadWell}
-use Rattle.rls_seen.specs.Messages.{message_over, taken_over}
+use Rattle.rls_seen.specs.Messages.{Course, message_over, taken_over}
 use Rattle.rls_seen.specs.Sane.{IsSane}
 use Rattle.rls_seen.specs.Seen.{Seen, members}
 use Rattle.rls_seen.specs.Stands.{StandsFor}
 use Rattle.rls_seen.proofs.Alike.{members_alike}
-use Rattle.rls_seen.proofs.Sending.{message_alike}
+use Rattle.rls_seen.proofs.Keeping.{parts_alike}
+use Rattle.rls_seen.proofs.Sending.{message_alike, message_fits}
 use Rattle.rls_seen.proofs.Taking.{taken_stands}
+use Rattle.rls_file.specs.Files.{file_bytes}
 use Rattle.rls_file.specs.Storable.{IsStorable}
 use Rattle.rls_store.specs.Kept.{ReadsWell}
 use Rattle.rls_store.specs.Stored.{AreWritable}
@@ -53,11 +57,12 @@ use Rattle.rls_top.specs.declared.words.Command.{Command}
 use Rattle.rls_top.specs.declared.words.Command.TheVariants.{New, OnFile, Trial}
 use Rattle.rls_top.specs.declared.words.FileCommand.{FileCommand}
 use Rattle.rls_top.specs.declared.words.FileCommand.TheVariants.{Edit, Text, Ids, Stat, Send, Take, Leave}
-use Rattle.rls_top.specs.Due.{Due, Stops, NoCommand, due_at, due_of_fresh, due_of_ids, due_of_input, due_of_message, due_of_new, due_of_run, due_of_script, due_of_send, due_of_stat, due_of_taken, due_of_text, due_of_words, due_on, error_of_numbers, shows, stores}
-use Rattle.rls_top.specs.Groups.{IsMadeOrLong, messages_in, messages_of, refused_in, stored_in}
+use Rattle.rls_top.specs.Due.{Due, Stops, NoCommand, due_at, due_of_fresh, due_of_ids, due_of_input, due_of_message, due_of_new, due_of_run, due_of_script, due_of_send, due_of_stat, due_of_taken, due_of_text, due_of_words, due_on, error_of_numbers, read, shows, stores}
+use Rattle.rls_top.specs.Groups.{IsMadeOrLong, IsOfEditsAlone, messages_in, messages_of, refused_in, stored_in}
 use Rattle.rls_top.specs.Headline.{is_for}
 use Rattle.rls_top.specs.Scripts.{run_lines}
 use Rattle.rls_top.proofs.Alike.{runs_told}
+use Rattle.rls_top.proofs.EditsAlone.{lines_alone}
 use Rattle.rls_top.proofs.Headlines.{for_alike, message_given}
 use Rattle.rls_top.proofs.Scripts.{AreLines, leave_reads_well, line_in, lines_read_well, lines_writable, script_fits}
 
@@ -82,6 +87,10 @@ bytes_with (Some s) bytes = bytes_over s
 pub opened_at : (bytes : List ℕ) (s : Seen) → length bytes ≤ FILE_BYTES → replica_in (Ok (Some bytes)) ≡ Ok s → replica_in (loaded (Some bytes)) ≡ Ok s
 opened_at bytes s short e = rw (not_lt_test FILE_BYTES (length bytes) short) e
 
+-- what is read once is read as one thing
+pub same_ok : {X E : Type 0} (r : Result X E) (y z : X) → r ≡ Ok y → r ≡ Ok z → y ≡ z
+same_ok r y z e f = cc
+
 -- ---- lines over a history
 
 told_well : (ls : List Line) → AreLines ls → AllReadWell (line_by fault_in text_in) ls
@@ -100,7 +109,7 @@ pub record Leads (g n : ℕ) (w : World) (i : ℕ) (t : State) (bytes : List ℕ
   pub stands : Stands g n (with_done w i state out)
   pub front : IsFront t.history state.history
   pub kept : IsKeptFor (bytes_with (stored_in d) bytes) state
-  pub written : (b : List ℕ) → IsIn b (messages_in c d) → (m : Message) × IsIn m out × IsMessage b m
+  pub written : (b : List ℕ) → IsIn b (messages_in c d) → (m : Message) × IsIn m out × IsMessage b m × (length b ≤ INPUT_BYTES)
 
 module _ (g n : ℕ) (w : World) (i : ℕ) (t : State) (bytes : List ℕ) (a : Stands g n w) (h : IsAt w i t) (k : IsKeptFor bytes t) where
   -- nothing is stored
@@ -173,19 +182,44 @@ module _ (g n : ℕ) (w : World) (i : ℕ) (t : State) (bytes : List ℕ) (a : S
               does = Runs ls p all q.1 refl (ap (λ (f : Taken). f.refused) q.2.counts) refl;
             })
 
-    edits_lead : (input : List ℕ) → LeadsTo (Some (OnFile Edit)) (due_at Edit s (Some input))
-    edits_lead input = (_, refl, go (nat_lt INPUT_BYTES (length input)))
+    -- and release nothing
+    runs_alone : {L : Type 0} (reads : Seen → L → Result model.Edit LineFault) (tells : State → L → Result model.Edit LineFault) → ReadsAlike reads tells → (size : ℕ) (ls : List L) → ReadsWell reads ls → AllReadWell tells ls → IsOfEditsAlone (due_of_run size (run_lines reads s ls))
+    runs_alone reads tells alike size ls well all = go (run_lines reads s ls) refl
       where
-        c : Option Command
-        c = Some (OnFile Edit)
+        kept : (x : Seen) (counts : Taken) (long : Bool) → counts ≡ no_counts → IsOfEditsAlone (stores (if long then Err TooLarge else Ok x) (edit_text size counts.released (length counts.refused)) counts.refused)
+        kept x counts true e = tt
+        kept x counts false e = (size, ap (λ (f : Taken). edit_text size f.released (length f.refused)) e)
 
-        parsed : (r : Result (List Line) ℕ) → script_of input ≡ r → Leads g n w i t bytes c (due_of_script s r)
-        parsed (Ok lines) e = let fits = script_fits input lines e in runs read_line (line_by fault_in text_in) lines_alike c (length lines) lines (λ report. refl) (lines_read_well lines fits) (told_well lines fits)
-        parsed (Err line) e = stops c _
+        go : (r : Run Seen LineFault) → run_lines reads s ls ≡ r → IsOfEditsAlone (due_of_run size r)
+        go (Stopped line fault) e = tt
+        go (Done x) e =
+            let q = runs_told reads tells alike s t ls well o.stands x e in
+            kept x.state x.counts (nat_lt FILE_BYTES (length (bytes_over x.state))) (q.2.counts ∙ lines_alone tells w i t q.0 ls a.good h (k.storable).rest all q.1)
 
-        go : (long : Bool) → Leads g n w i t bytes c (due_of_input (if long then Err TooLarge else Ok input) (λ bytes. due_of_script s (script_of bytes)))
-        go true = stops c TooLarge
+    -- what is due after a script, by its lines
+    script_due : (P : Due → Type 0) → ((e : CommandError) → P (Stops e)) → ((lines : List Line) → AreLines lines → P (due_of_run (length lines) (run_lines read_line s lines))) → (input : List ℕ) → P (due_of_input (read input) (λ bytes. due_of_script s (script_of bytes)))
+    script_due P ends runs input = go (nat_lt INPUT_BYTES (length input))
+      where
+        parsed : (r : Result (List Line) ℕ) → script_of input ≡ r → P (due_of_script s r)
+        parsed (Ok lines) e = runs lines (script_fits input lines e)
+        parsed (Err line) e = ends _
+
+        go : (long : Bool) → P (due_of_input (if long then Err TooLarge else Ok input) (λ bytes. due_of_script s (script_of bytes)))
+        go true = ends TooLarge
         go false = parsed (script_of input) refl
+
+    edits_lead : (input : List ℕ) → LeadsTo (Some (OnFile Edit)) (due_at Edit s (Some input))
+    edits_lead input = let c : Option Command = Some (OnFile Edit) in (
+      _,
+      refl,
+      script_due (Leads g n w i t bytes c) (stops c) (λ lines fits. runs read_line (line_by fault_in text_in) lines_alike c (length lines) lines (λ report. refl) (lines_read_well lines fits) (told_well lines fits)) input,
+    )
+
+    pub edits_alone : (input : List ℕ) → IsSomeAnd (due_at Edit s (Some input)) IsOfEditsAlone
+    edits_alone input = script_due IsOfEditsAlone (λ e. tt) (λ lines fits. runs_alone read_line (line_by fault_in text_in) lines_alike (length lines) lines (lines_read_well lines fits) (told_well lines fits)) input
+
+    pub leave_alone : IsOfEditsAlone (due_of_run 1 (run_lines allowed s (edits.Leave ∷ [])))
+    leave_alone = runs_alone allowed (allowed_by fault_in) allowed_alike 1 (edits.Leave ∷ []) leave_reads_well leave_well
 
     leave_leads : Leads g n w i t bytes (Some (OnFile Leave)) (due_of_run 1 (run_lines allowed s (edits.Leave ∷ [])))
     leave_leads = runs allowed (allowed_by fault_in) allowed_alike (Some (OnFile Leave)) 1 (edits.Leave ∷ []) (λ report. refl) leave_reads_well leave_well
@@ -201,6 +235,7 @@ module _ (g n : ℕ) (w : World) (i : ℕ) (t : State) (bytes : List ℕ) (a : S
         go true e =
             let m = message_for t.history to in
             let same : message_bytes (message_over s to) ≡ message_bytes m = ap message_bytes (message_alike s t to (lt_is to (members s) e) o.stands) in
+            let short : length (message_bytes (message_over s to)) ≤ INPUT_BYTES = subst (λ (x : ℕ). x ≤ INPUT_BYTES) (sym (message_length 3 (message_over s to))) (message_fits s to (o.sane).few) in
             record {
               state = t;
               out = m ∷ [];
@@ -208,7 +243,7 @@ module _ (g n : ℕ) (w : World) (i : ℕ) (t : State) (bytes : List ℕ) (a : S
               stands = (does_stands histories.read_edit g n w i t t [] (m ∷ []) a h (Writes to refl refl refl)).1;
               front = front_self t.history;
               kept = k;
-              written = λ b p. ⊎_elim (λ q. (m, inl refl, subst (λ (x : List ℕ). IsMessage x m) (sym same ∙ q) (sent_is_message t to k.storable))) (λ q. absurd q) p;
+              written = λ b p. ⊎_elim (λ q. (m, inl refl, subst (λ (x : List ℕ). IsMessage x m) (sym same ∙ q) (sent_is_message t to k.storable), subst (λ (x : List ℕ). length x ≤ INPUT_BYTES) q short)) (λ q. absurd q) p;
             }
 
     -- a message that was written
@@ -248,19 +283,26 @@ module _ (g n : ℕ) (w : World) (i : ℕ) (t : State) (bytes : List ℕ) (a : S
           go true = stops (Some (OnFile Take)) TooLarge
           go false = subst (Leads g n w i t bytes (Some (OnFile Take))) (sym message_due) taken_leads
 
-      -- and it is taken, unless something is too long
-      pub take_makes : IsSomeAnd (due_at Take s (Some input)) IsMadeOrLong
-      take_makes = go (nat_lt INPUT_BYTES (length input))
-        where
-          kept : (x : Seen) (report : List ℕ) (refused : List (ℕ × ℕ × Reason)) (long : Bool) → IsMadeOrLong (stores (if long then Err TooLarge else Ok x) report refused)
-          kept x report refused true = refl
-          kept x report refused false = tt
+      -- the file that is then to be stored is that of each history that the kept file stands for
+      taken_file : (u : State) (x : Message) → IsFileFor bytes u → IsMessage input x → bytes_over (taken_over s m).state ≡ file_bytes (parts (take_message u x).state)
+      taken_file u x f same =
+          let v = opened bytes u f in
+          let one : s ≡ v.0 = same_ok (replica_in (Ok (Some bytes))) s v.0 o.found v.1.found in
+          let is_x : m ≡ x = same_ok (message_of input) m x (message_again input m is) (message_again input x same) in
+          let q = taken_stands None s u m (message_given input m (members s) is (as_many ∙ sym (members_alike s t o.stands))) (subst (λ (y : Seen). StandsFor y u) (sym one) v.1.stands) in
+          ap file_bytes (parts_alike (taken_over s m).state (take_message u m).state q.states.1) ∙ ap (λ (y : Message). file_bytes (parts (take_message u y).state)) is_x
 
-          go : (long : Bool) → IsMadeOrLong (due_of_input (if long then Err TooLarge else Ok input) (λ bytes. due_of_message s (message_of bytes)))
-          go true = refl
-          go false =
-              let x = taken_over s m in
-              subst IsMadeOrLong (sym message_due) (kept x.state (take_text x.counts.applied x.counts.released x.counts.repeated x.counts.held (length x.counts.refused)) x.counts.refused (nat_lt FILE_BYTES (length (bytes_over x.state))))
+      -- and it is taken, unless that is too long
+      pub take_makes : length input ≤ INPUT_BYTES → (too_long : Type 0) → (((u : State) (x : Message) → IsFileFor bytes u → IsMessage input x → FILE_BYTES < length (file_bytes (parts (take_message u x).state))) → too_long)
+          → IsSomeAnd (due_at Take s (Some input)) (IsMadeOrLong too_long)
+      take_makes few too_long told = rw (not_lt_test INPUT_BYTES (length input) few) (subst (IsMadeOrLong too_long) (sym message_due) (kept (nat_lt FILE_BYTES (length (bytes_over c.state))) refl))
+        where
+          c : Course
+          c = taken_over s m
+
+          kept : (long : Bool) → nat_lt FILE_BYTES (length (bytes_over c.state)) ≡ long → IsMadeOrLong too_long (stores (if long then Err TooLarge else Ok c.state) (take_text c.counts.applied c.counts.released c.counts.repeated c.counts.held (length c.counts.refused)) c.counts.refused)
+          kept true e = (refl, told (λ u x f same. subst (λ (b : List ℕ). FILE_BYTES < length b) (taken_file u x f same) (lt_is FILE_BYTES (length (bytes_over c.state)) e)))
+          kept false e = tt
 
   -- ---- by the command
 

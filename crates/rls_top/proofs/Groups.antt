@@ -3,10 +3,11 @@ use Rattle.std.proofs.Common.{◌≡◌, ◌≤◌, ◌<◌, ◌+◌, ℕ, zero,
 use Rattle.std.specs.Prelude.{option_map, slice_get, slice_set, Option, Some, None, IsSomeAnd, Result, Ok, ◌==◌, encode_utf8_all}
 use Rattle.std.proofs.lemmas.List.{length-map}
 use Rattle.std.proofs.lemmas.Option.{slice_get-map}
-use Rattle.rls_ident.specs.declared.limits.TheConstants.{MEMBERS, FILE_BYTES}
+use Rattle.rls_ident.specs.declared.limits.TheConstants.{INPUT_BYTES, MEMBERS, FILE_BYTES}
 use Rattle.rls_ident.specs.Lists.{IsIn}
 use Rattle.rls_ident.proofs.Members.{bool_cases, eq_is, eq_not, in_left, in_right, in_split, not_lt_test, some_is}
 use Rattle.rls_ops.specs.declared.message.Message.{Message}
+use Rattle.rls_ops.specs.declared.op.Op.{Op}
 use Rattle.rls_codec.specs.CodecLaws.{IsMessage}
 use Rattle.rls_model.specs.Document.{idents, text}
 use Rattle.rls_model.specs.Epochs.{greatest}
@@ -39,14 +40,15 @@ use Rattle.rls_report.specs.Listing.{ids_of, ids_text}
 use Rattle.rls_report.specs.declared.failures.CommandError.{CommandError}
 use Rattle.rls_top.specs.declared.words.Command.{Command}
 use Rattle.rls_top.specs.declared.words.Command.TheVariants.{OnFile}
-use Rattle.rls_top.specs.declared.words.FileCommand.TheVariants.{Text, Ids, Take}
+use Rattle.rls_top.specs.declared.words.FileCommand.{FileCommand}
+use Rattle.rls_top.specs.declared.words.FileCommand.TheVariants.{Edit, Text, Ids, Take, Leave}
 use Rattle.rls_stages.specs.KeptFile.{IsFileFor, StandsIn, bytes_over, replica_in}
-use Rattle.rls_stages.proofs.Files.{opened}
-use Rattle.rls_top.specs.Due.{Due, due_of_words, due_on, shows}
+use Rattle.rls_stages.proofs.Files.{IsOpened, opened}
+use Rattle.rls_top.specs.Due.{Due, due_at, due_of_words, due_on, shows}
 use Rattle.rls_top.specs.Headline.{new_state}
 use Rattle.rls_top.specs.Words.{command_of}
-use Rattle.rls_top.specs.Groups.{AllTaken, AreOfGroup, BeginsWithNew, EqualCountsShowSame, Group, GroupsClean, InOneOrder, IsFileOf, IsMadeOrLong, IsOfGroup, IsOfMember, IsOrderedBy, IsReading, MemberCommand, NoneRefused, after_command, after_commands, after_due, due_in, due_of, files_with, fresh_group, messages_in, refused_in, stored_in}
-use Rattle.rls_top.proofs.GroupCommands.{IsKeptFor, Leads, bytes_with, command_leads, kept_for, opened_at, take_makes}
+use Rattle.rls_top.specs.Groups.{AllTaken, AreOfGroup, BeginsWithNew, EqualCountsShowSame, Group, GroupsClean, InOneOrder, IsFileOf, IsMadeOrLong, IsOfEditsAlone, IsOfGroup, IsOfMember, IsOrderedBy, IsReading, IsTakenTooLong, MemberCommand, NoneRefused, NoneReleased, WaitingMade, after_command, after_commands, after_due, due_in, due_of, files_with, fresh_group, messages_in, refused_in, stored_in}
+use Rattle.rls_top.proofs.GroupCommands.{IsKeptFor, Leads, bytes_with, command_leads, edits_alone, kept_for, leave_alone, opened_at, same_ok, take_makes}
 use Rattle.rls_top.proofs.Fresh.{fresh_short}
 use Rattle.rls_top.proofs.Headlines.{ids_alike}
 use Rattle.rls_top.proofs.Pieces.{right_numbers}
@@ -57,7 +59,7 @@ record Matches (g n : ℕ) (G : Group) (w : World) : Type 0 where
   stands : Stands g n w
   count : length G.files ≡ length w.states
   file : (i : ℕ) (t : State) → IsAt w i t → (bytes : List ℕ) × (slice_get G.files i ≡ Some bytes) × IsKeptFor bytes t
-  written : (bytes : List ℕ) → IsIn bytes G.written → (m : Message) × IsIn m w.sent × IsMessage bytes m
+  written : (bytes : List ℕ) → IsIn bytes G.written → (m : Message) × IsIn m w.sent × IsMessage bytes m × (length bytes ≤ INPUT_BYTES)
 
 -- ---- one command after another
 
@@ -101,7 +103,7 @@ module _ (g n : ℕ) (G : Group) (w : World) (x : Matches g n G w) where
       let f = x.file i r.0 r.1 in
       record { state = r.0; at = r.1; bytes = f.0; file = f.1; kept = f.2 }
 
-  given : (c : MemberCommand) → IsOfGroup G c → command_of c.words ≡ Some (OnFile Take) → (m : Message) × IsIn m w.sent × IsMessage c.input m
+  given : (c : MemberCommand) → IsOfGroup G c → command_of c.words ≡ Some (OnFile Take) → (m : Message) × IsIn m w.sent × IsMessage c.input m × (length c.input ≤ INPUT_BYTES)
   given c p e = x.written c.input (p.given e)
 
   abbrev done_by : (i : ℕ) → Option Command → Due → Group
@@ -116,7 +118,7 @@ module _ (g n : ℕ) (G : Group) (w : World) (x : Matches g n G w) where
     stands = l.stands;
     count = length-with G.files i (stored_in d) ∙ (x.count ∙ sym (length-set w.states i l.state));
     file = λ j u q. bool_cases (i == j) (λ e. own j u (eq_is i j e) q) (λ e. other j u (eq_not i j e) q);
-    written = λ b q. ⊎_elim (λ u. let y = x.written b u in (y.0, in_left y.0 w.sent l.out y.1, y.2)) (λ u. let y = l.written b u in (y.0, in_right y.0 w.sent l.out y.1, y.2)) (in_split b G.written (messages_in c d) q);
+    written = λ b q. ⊎_elim (λ u. let y = x.written b u in (y.0, in_left y.0 w.sent l.out y.1, y.2, y.3)) (λ u. let y = l.written b u in (y.0, in_right y.0 w.sent l.out y.1, y.2, y.3)) (in_split b G.written (messages_in c d) q);
   }
     where
       own : (j : ℕ) (u : State) → i ≡ j → IsAt (with_done w i l.state l.out) j u → FileWith i (stored_in d) j u
@@ -136,7 +138,7 @@ module _ (g n : ℕ) (G : Group) (w : World) (x : Matches g n G w) where
   command_goes c p =
       let i = c.member in
       let r = there i p.member in
-      let q = command_leads g n w i r.state r.bytes x.stands r.at r.kept (command_of c.words) c.input (given c p) in
+      let q = command_leads g n w i r.state r.bytes x.stands r.at r.kept (command_of c.words) c.input (λ e. let y = given c p e in (y.0, y.1, y.2)) in
       let l = q.2 in (
         q.0,
         ap (λ (kept : Option (List ℕ)). due_of_words (command_of c.words) (Some kept) (Some c.input)) r.file ∙ q.1,
@@ -148,15 +150,24 @@ module _ (g n : ℕ) (G : Group) (w : World) (x : Matches g n G w) where
   clean : NoneRefused G
   clean c p = let q = command_goes c p in subst (λ (o : Option Due). IsSomeAnd o (λ d. refused_in d ≡ [])) (sym q.1) q.2
 
+  -- of a command on its member's file, from what it makes of the replica
+  due_there : (c : MemberCommand) (f : FileCommand) (P : Due → Type 0) (r : IsThere c.member) → command_of c.words ≡ Some (OnFile f) → ((s : Seen) → IsOpened r.bytes r.state s → IsSomeAnd (due_at f s (Some c.input)) P) → IsSomeAnd (due_in G c) P
+  due_there c f P r e made =
+      let o = opened r.bytes r.state r.kept.stands in
+      let at_file = subst (λ (y : Result Seen CommandError). IsSomeAnd (due_on f y (Some c.input)) P) (sym (opened_at r.bytes o.0 r.kept.short o.1.found)) (made o.0 o.1) in
+      let at_words = subst (λ (y : Option Command). IsSomeAnd (due_of_words y (Some (Some r.bytes)) (Some c.input)) P) (sym e) at_file in
+      subst (λ (kept : Option (List ℕ)). IsSomeAnd (due_of_words (command_of c.words) (Some kept) (Some c.input)) P) (sym r.file) at_words
+
   taken : AllTaken G
   taken c p e =
       let r = there c.member p.member in
       let m = given c p e in
-      let o = opened r.bytes r.state r.kept.stands in
-      let made = take_makes g n w c.member r.state r.bytes x.stands r.at r.kept o.0 o.1 c.input m.0 m.1 m.2 in
-      let at_file = subst (λ (y : Result Seen CommandError). IsSomeAnd (due_on Take y (Some c.input)) IsMadeOrLong) (sym (opened_at r.bytes o.0 r.kept.short o.1.found)) made in
-      let at_words = subst (λ (y : Option Command). IsSomeAnd (due_of_words y (Some (Some r.bytes)) (Some c.input)) IsMadeOrLong) (sym e) at_file in
-      subst (λ (kept : Option (List ℕ)). IsSomeAnd (due_of_words (command_of c.words) (Some kept) (Some c.input)) IsMadeOrLong) (sym r.file) at_words
+      due_there c Take (IsMadeOrLong (IsTakenTooLong G c)) r e (λ s o. take_makes g n w c.member r.state r.bytes x.stands r.at r.kept s o c.input m.0 m.1 m.2 m.3 (IsTakenTooLong G c)
+      (λ long t y f. long t y (subst (λ (kept : Option (List ℕ)). StandsIn (Some kept) t) r.file f)))
+
+  alone : NoneReleased G
+  alone c p (inl e) = let r = there c.member p.member in due_there c Edit IsOfEditsAlone r e (λ s o. edits_alone g n w c.member r.state r.bytes x.stands r.at r.kept s o c.input)
+  alone c p (inr e) = let r = there c.member p.member in due_there c Leave IsOfEditsAlone r e (λ s o. leave_alone g n w c.member r.state r.bytes x.stands r.at r.kept s o)
 
   -- what is shown of a member's file
   abbrev report_of : (words : List (List ℕ)) → IsReading words → History → List ℕ
@@ -181,32 +192,41 @@ module _ (g n : ℕ) (G : Group) (w : World) (x : Matches g n G w) where
   same_report words (inl e) H K same = ap encode_utf8_all same.1
   same_report words (inr e) H K same = ap (λ k. ids_text k (runs_of (idents H))) same.0 ∙ ap (ids_text (greatest K)) same.3
 
-  -- the file tells the count
-  count_told : (bytes : List ℕ) (s t : State) → IsFileFor bytes s → IsFileFor bytes t → count s.history ≡ count t.history
-  count_told bytes s t f k =
+  -- the file tells the count, and what waits
+  record AreAlike (s t : State) : Type 0 where
+    counts : count s.history ≡ count t.history
+    waiting : s.waiting ≡ t.waiting
+
+  both_told : (bytes : List ℕ) (s t : State) → IsFileFor bytes s → IsFileFor bytes t → AreAlike s t
+  both_told bytes s t f k =
       let p = opened bytes s f in
       let q = opened bytes t k in
-      sym (p.1).stands.vector ∙ (ap (λ (y : Seen). y.acks.mine) (ok_is (replica_in (Ok (Some bytes))) p.0 q.0 (p.1).found (q.1).found) ∙ (q.1).stands.vector)
-    where
-      ok_is : (r : Result Seen CommandError) (y z : Seen) → r ≡ Ok y → r ≡ Ok z → y ≡ z
-      ok_is r y z e f = cc
+      let same = same_ok (replica_in (Ok (Some bytes))) p.0 q.0 (p.1).found (q.1).found in
+      record { counts = sym (p.1).stands.vector ∙ (ap (λ (y : Seen). y.acks.mine) same ∙ (q.1).stands.vector); waiting = sym (p.1).stands.waiting ∙ (ap (λ (y : Seen). y.waiting) same ∙ (q.1).stands.waiting) }
 
   -- a member whose file stands for this state
-  of_file : (i : ℕ) (s : State) → IsFileOf G i s → (r : IsThere i) × (count s.history ≡ count r.state.history)
+  of_file : (i : ℕ) (s : State) → IsFileOf G i s → (r : IsThere i) × AreAlike s r.state
   of_file i s f = go (slice_get G.files i) refl f
     where
-      go : (o : Option (List ℕ)) → slice_get G.files i ≡ o → StandsIn (Some o) s → (r : IsThere i) × (count s.history ≡ count r.state.history)
+      go : (o : Option (List ℕ)) → slice_get G.files i ≡ o → StandsIn (Some o) s → (r : IsThere i) × AreAlike s r.state
       go None e f = absurd f
       go (Some bytes) e f =
           let r = there i (got_below G.files i bytes e) in
           let same : bytes ≡ r.bytes = some_is bytes r.bytes (sym e ∙ r.file) in
-          (r, count_told r.bytes s r.state (subst (λ (b : List ℕ). IsFileFor b s) same f) r.kept.stands)
+          (r, both_told r.bytes s r.state (subst (λ (b : List ℕ). IsFileFor b s) same f) r.kept.stands)
+
+  waits : WaitingMade G
+  waits i s o f p =
+      let r = of_file i s f in
+      let home = (((x.stands).good).member i (r.0).state (r.0).at).waits o (subst (λ (os : List Op). IsIn o os) (r.1).waiting p) in
+      let file = x.file o.author home.0 home.1 in
+      (home.0, subst (λ (kept : Option (List ℕ)). StandsIn (Some kept) home.0) (sym file.1) (file.2).stands, home.2)
 
   equal : EqualCountsShowSame G
   equal i j s t words input f k e reads =
       let p = of_file i s f in
       let q = of_file j t k in
-      let same = (equal_good w i j (p.0).state (q.0).state (x.stands).good (p.0).at (q.0).at (sym p.1 ∙ (e ∙ q.1))).1 in
+      let same = (equal_good w i j (p.0).state (q.0).state (x.stands).good (p.0).at (q.0).at (sym (p.1).counts ∙ (e ∙ (q.1).counts))).1 in
       shown i words input p.0 reads ∙ (ap (λ (r : List ℕ). Some (shows r)) (same_report words reads (p.0).state.history (q.0).state.history same) ∙ sym (shown j words input q.0 reads))
 
 -- ---- all commands
@@ -305,4 +325,4 @@ pub law : GroupsClean
 law g n cs large some few p =
     let r = all_commands g n (fresh_group g n) (empty_world g n) cs (fresh_matches g n large few) p in
     let G = after_commands (fresh_group g n) cs in
-    (begins g n large few, clean g n G r.0 r.1, taken g n G r.0 r.1, equal g n G r.0 r.1, ordered g n cs r.0 (let size = ((r.1).stands.belongs).count in omega (arith, some, size)) (r.1).stands r.3)
+    (begins g n large few, clean g n G r.0 r.1, alone g n G r.0 r.1, waits g n G r.0 r.1, taken g n G r.0 r.1, equal g n G r.0 r.1, ordered g n cs r.0 (let size = ((r.1).stands.belongs).count in omega (arith, some, size)) (r.1).stands r.3)

@@ -1,5 +1,6 @@
 mod Alike
 mod Called
+mod EditsAlone
 mod Finishing
 mod Fresh
 mod GroupCommands

@@ -1,22 +1,28 @@
 -- A group: members that each keep a file of their own, and the messages that they write to each other.
 use Rattle.std.specs.Prelude.{◌≡◌, ◌<◌, ◌≤◌, ◌⊎◌, ℕ, List, [], ◌∷◌, ◌++◌, map, length, slice_get, slice_set, encode_utf8_all, Option, Some, None, IsSomeAnd}
-use Rattle.rls_ident.specs.declared.limits.TheConstants.{MEMBERS}
+use Rattle.rls_ident.specs.declared.limits.TheConstants.{MEMBERS, FILE_BYTES}
 use Rattle.rls_ident.specs.Lists.{IsIn}
+use Rattle.rls_ops.specs.declared.message.Message.{Message}
+use Rattle.rls_ops.specs.declared.op.Op.{Op}
+use Rattle.rls_codec.specs.CodecLaws.{IsMessage}
 use Rattle.rls_model.specs.Answers.{Reason}
 use Rattle.rls_model.specs.Document.{Character, chars, text}
-use Rattle.rls_model.specs.History.{History, count, group_of, me_of, members_of}
+use Rattle.rls_model.specs.History.{History, count, group_of, me_of, members_of, ops}
 use Rattle.rls_model.specs.Laws.{IsPartOf, IsTotalOrder, Shows, precedes}
 use Rattle.rls_model.specs.Legal.{IsLegal}
+use Rattle.rls_model.specs.Parts.{parts}
 use Rattle.rls_model.specs.Receiving.{State}
+use Rattle.rls_model.specs.Taking.{take_message}
 use Rattle.rls_model.specs.WellFormed.{IsLarge}
+use Rattle.rls_file.specs.Files.{file_bytes}
 use Rattle.rls_seen.specs.Seen.{Seen}
 use Rattle.rls_world.specs.Seen.{fresh_replicas}
 use Rattle.rls_report.specs.declared.failures.CommandError.TheVariants.{TooLarge}
-use Rattle.rls_report.specs.Reports.{new_text}
+use Rattle.rls_report.specs.Reports.{new_text, edit_text}
 use Rattle.rls_stages.specs.KeptFile.{StandsIn, bytes_over}
 use Rattle.rls_top.specs.declared.words.Command.{Command}
 use Rattle.rls_top.specs.declared.words.Command.TheVariants.{New, OnFile}
-use Rattle.rls_top.specs.declared.words.FileCommand.TheVariants.{Text, Ids, Send, Take}
+use Rattle.rls_top.specs.declared.words.FileCommand.TheVariants.{Edit, Text, Ids, Send, Take, Leave}
 use Rattle.rls_top.specs.Due.{Due, NoCommand, Makes, Stops, due, shows}
 use Rattle.rls_top.specs.Words.{command_of}
 
@@ -105,15 +111,29 @@ fresh_group group members = record { files = map bytes_over (fresh_replicas grou
 abbrev pub IsReading : List (List ℕ) → Type 0
 IsReading words = (command_of words ≡ Some (OnFile Text)) ⊎ (command_of words ≡ Some (OnFile Ids))
 
--- something is made, or something is too long
-abbrev pub IsMadeOrLong : Due → Type 0
-IsMadeOrLong NoCommand = ⊥
-IsMadeOrLong (Makes stored report refused) = Unit {0}
-IsMadeOrLong (Stops e) = e ≡ TooLarge
+-- the words are `edit` or `leave`
+abbrev pub IsEditing : List (List ℕ) → Type 0
+IsEditing words = (command_of words ≡ Some (OnFile Edit)) ⊎ (command_of words ≡ Some (OnFile Leave))
 
 -- the member's file stands for this history and what waits beside it
 abbrev pub IsFileOf : Group → ℕ → State → Type 0
 IsFileOf g i t = StandsIn (Some (slice_get g.files i)) t
+
+-- some edits are reported, and nothing that was released or refused; or the command ends early
+abbrev pub IsOfEditsAlone : Due → Type 0
+IsOfEditsAlone NoCommand = ⊥
+IsOfEditsAlone (Makes stored report refused) = (edits : ℕ) × (report ≡ edit_text edits 0 0)
+IsOfEditsAlone (Stops e) = Unit {0}
+
+-- with the message that the input is, the member's file is too long, whatever history it stands for
+abbrev pub IsTakenTooLong : Group → MemberCommand → Type 0
+IsTakenTooLong g c = (t : State) (m : Message) → IsFileOf g c.member t → IsMessage c.input m → FILE_BYTES < length (file_bytes (parts (take_message t m).state))
+
+-- something is made, unless something is too long, which is told so
+abbrev pub IsMadeOrLong : Type 0 → Due → Type 0
+IsMadeOrLong too_long NoCommand = ⊥
+IsMadeOrLong too_long (Makes stored report refused) = Unit {0}
+IsMadeOrLong too_long (Stops e) = (e ≡ TooLarge) × too_long
 
 -- and the history is the member's, of this group of so many members, and its text is what `text` calls for
 pub record IsOfMember (group members : ℕ) (g : Group) (i : ℕ) (t : State) : Type 0 where
@@ -138,9 +158,18 @@ BeginsWithNew group members = (i : ℕ) (words : List (List ℕ)) (input : List 
 abbrev pub NoneRefused : Group → Type 0
 NoneRefused g = (c : MemberCommand) → IsOfGroup g c → IsSomeAnd (due_in g c) (λ d. refused_in d ≡ [])
 
--- a take makes something, unless something is too long: what was written isn't malformed or of another group, and no file is damaged
+-- nothing that waits is released by edits
+abbrev pub NoneReleased : Group → Type 0
+NoneReleased g = (c : MemberCommand) → IsOfGroup g c → IsEditing c.words → IsSomeAnd (due_in g c) IsOfEditsAlone
+
+-- each operation that waits beside a member's history was made by its author: it stands in a history that the author's file stands for
+abbrev pub WaitingMade : Group → Type 0
+WaitingMade g = (i : ℕ) (s : State) (o : Op) → IsFileOf g i s → IsIn o s.waiting → (t : State) × IsFileOf g o.author t × IsIn o (ops t.history)
+
+-- a take makes something, unless the file to be stored is too long: what was written isn't too long, malformed or of another group, and no
+-- file is missing or damaged
 abbrev pub AllTaken : Group → Type 0
-AllTaken g = (c : MemberCommand) → IsOfGroup g c → command_of c.words ≡ Some (OnFile Take) → IsSomeAnd (due_in g c) IsMadeOrLong
+AllTaken g = (c : MemberCommand) → IsOfGroup g c → command_of c.words ≡ Some (OnFile Take) → IsSomeAnd (due_in g c) (IsMadeOrLong (IsTakenTooLong g c))
 
 -- at members whose counts are equal `text` calls for the same, and `ids` does
 abbrev pub EqualCountsShowSame : Group → Type 0
@@ -153,8 +182,8 @@ InOneOrder group members cs = (M : History) × IsLegal M × IsTotalOrder (preced
     × ((before after : List MemberCommand) (i : ℕ) → before ++ after ≡ cs → i < members → (t : State) × IsOfMember group members (after_commands (fresh_group group members) before) i t × IsOrderedBy M t.history)
 
 -- Whatever commands the members of a group give, each over its own file, and however the messages that they write are passed on: no
--- command calls for a refused operation, each written message is taken unless something is too long, members whose counts are equal show
--- the same, and one order orders the texts of all files at all times.
+-- command calls for a refused operation, edits release nothing, what waits was made by its author, each written message is taken unless the
+-- file to be stored is too long, members whose counts are equal show the same, and one order orders the texts of all files at all times.
 abbrev pub GroupsClean : Type 0
 GroupsClean = (group members : ℕ) (cs : List MemberCommand) → IsLarge group → 0 < members → members ≤ MEMBERS → AreOfGroup (fresh_group group members) cs → let g = after_commands (fresh_group group members) cs in
-    BeginsWithNew group members × NoneRefused g × AllTaken g × EqualCountsShowSame g × InOneOrder group members cs
+    BeginsWithNew group members × NoneRefused g × NoneReleased g × WaitingMade g × AllTaken g × EqualCountsShowSame g × InOneOrder group members cs
