@@ -1,5 +1,5 @@
 -- A run of lines over what a replica consists of and over a history that it stands for.
-use Rattle.std.proofs.Common.{◌≡◌, ◌∙◌, List, None, Result, Ok, refl, subst}
+use Rattle.std.proofs.Common.{◌≡◌, ◌∙◌, ℕ, List, None, Result, Ok, refl, ap, subst}
 use Rattle.rls_ident.specs.Lists.{IsIn}
 use Rattle.rls_model.specs.declared.edit.Edit.{Edit}
 use Rattle.rls_model.specs.Editing.{made as make}
@@ -37,6 +37,14 @@ module _ {L F : Type 0} (reads : Seen → L → Result Edit F) (tells : State �
       go : (r : Run Seen F) → run_lines reads s ls ≡ r → IsSameRun (Stands (members s)) r (Done p) → (c : Course) × (run_lines reads s ls ≡ Done c) × Goes (members s) c p
       go (Done c) f g = (c, f, g)
       go (Stopped k x) f g = absurd g
+
+  -- and one that stopped is one that stops at the same line for the same fault
+  pub stops_alike : (k : ℕ) (fault : F) → histories.run_lines tells t ls ≡ Stopped k fault → run_lines reads s ls ≡ Stopped k fault
+  stops_alike k fault e = go (run_lines reads s ls) refl (subst (IsSameRun (Stands (members s)) (run_lines reads s ls)) e same_run)
+    where
+      go : (r : Run Seen F) → run_lines reads s ls ≡ r → IsSameRun (Stands (members s)) r (Stopped k fault) → run_lines reads s ls ≡ Stopped k fault
+      go (Done c) f g = absurd g
+      go (Stopped j x) f g = f ∙ (ap (λ (n : ℕ). Stopped n x) g.0 ∙ ap (Stopped k) g.1)
 
   -- and the other way round
   pub runs_told : (c : Course) → run_lines reads s ls ≡ Done c → (p : Progress) × (histories.run_lines tells t ls ≡ Done p) × Goes (members s) c p

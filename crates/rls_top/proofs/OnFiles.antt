@@ -1,5 +1,5 @@
 -- What a command on a file makes, from what it makes of the replica.
-use Rattle.std.proofs.Common.{◌≡◌, ◌≢◌, ◌∙◌, ℕ, List, Option, Some, None, IfSome, IsOk, Result, Ok, Err, refl, sym, subst}
+use Rattle.std.proofs.Common.{◌≡◌, ◌≢◌, ◌∙◌, ℕ, List, Option, Some, None, IfSome, IsOk, Result, Ok, Err, refl, sym, ap, subst}
 use Rattle.rls_report.specs.declared.failures.CommandError.{CommandError}
 use Rattle.rls_seen.specs.Seen.{Seen}
 use Rattle.rls_report.specs.declared.failures.Fault.TheVariants.{Keeper, Source, Sink, Memory}
@@ -56,6 +56,19 @@ keeper_so (make.Open opening.OutOfMemory) f is other h = let same : f ≡ Fault 
 keeper_so (make.Input (input.Work (work.Command e))) f is other h = let same : f ≡ Fault Keeper = cc in let never : Command e ≡ Fault Keeper = sym is ∙ same in cc
 keeper_so (make.Input (input.Work work.OutOfMemory)) f is other h = let same : f ≡ Fault Keeper = cc in let never : Fault Memory ≡ Fault Keeper = sym is ∙ same in cc
 keeper_so (make.Input input.SourceFault) f is other h = let same : f ≡ Fault Keeper = cc in let never : Fault Source ≡ Fault Keeper = sym is ∙ same in cc
+
+-- and the other way round
+pub keeper_other : (e : MakeError) (f : Failure) → f ≡ of_make e → ended_by f ≢ ended_by (Fault Keeper) → made_by e ≢ made_by (make.Open opening.KeeperFault)
+keeper_other e f is other h = other (ap ended_by (is ∙ ap of_make (same e (make.Open opening.KeeperFault) h)))
+  where
+    same : (e k : MakeError) → made_by e ≡ made_by k → e ≡ k
+    same e k h = cc
+
+pub device_other : (e : DeviceError) (f : Failure) → f ≡ of_device e → ended_by f ≢ ended_by (Fault Keeper) → finished_by e ≢ finished_by device.KeeperFault
+device_other e f is other h = other (ap ended_by (is ∙ ap of_device (same e device.KeeperFault h)))
+  where
+    same : (e k : DeviceError) → finished_by e ≡ finished_by k → e ≡ k
+    same e k h = cc
 
 pub device_so : (e : DeviceError) (f : Failure) → f ≡ of_device e → finished_by e ≢ finished_by device.KeeperFault → ended_by f ≢ ended_by (Fault Keeper)
 device_so device.KeeperFault f is other h = other refl

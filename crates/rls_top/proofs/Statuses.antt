@@ -44,6 +44,9 @@ pub keeper_fault : (r : Result Made Failure) (n : ℕ) → IsStatusOf r n → n 
 keeper_fault (Ok made) n s h = made_apart (eqb made.refused 0) n 7 s h refl refl
 keeper_fault (Err f) n s h = ap ended_by (failure_at_7 f n s h)
 
+pub no_keeper_fault : (r : Result Made Failure) (n : ℕ) → IsStatusOf r n → n ≢ 7 → r ≢ Err (Fault Keeper)
+no_keeper_fault r n s other is = other (subst (λ (x : Result Made Failure). IsStatusOf x n) is s)
+
 pub source_fault : (r : Result Made Failure) (n : ℕ) → IsStatusOf r n → n ≡ 8 → r ≡ Err (Fault Source)
 source_fault (Ok made) n s h = made_apart (eqb made.refused 0) n 8 s h refl refl
 source_fault (Err f) n s h = ap ended_by (failure_at_8 f n s h)

@@ -33,6 +33,7 @@ pub(crate) fn make<K: Keeper, S: Source>(
 ) -> Result<Made, MakeError>
     ensures due { IfSome (due_of_command command (K.file keeper.old) (S.left input.old)) (IsDue of_make result) }
     ensures keeper { result ≡ Err (MakeError.Open OpenError.KeeperFault) → Rose (K.faults keeper.old) (K.faults keeper.new) }
+    ensures uncounted { result ≢ Err (MakeError.Open OpenError.KeeperFault) → K.faults keeper.new ≡ K.faults keeper.old }
     ensures input { result ≡ Err (MakeError.Input InputError.SourceFault) → IsTrue (reads_input (Some command)) × IfSome (K.file keeper.old) IsUsable × Rose (S.faults input.old) (S.faults input.new) }
     ensures never_falls { K.faults keeper.old ≤ K.faults keeper.new }
     ensures kept { Keeps (K.file keeper.old) (K.file keeper.new) }
@@ -69,6 +70,7 @@ fn make_new<K: Keeper>(
     ensures due { IfSome (due_of_new (error_of_numbers me members) group me members (K.file keeper.old)) (IsDue of_open result) }
     ensures uncalled { IsFalse (calls_keeper (Some (commands.New group me members))) → (keeper.new ≡ keeper.old) × IfErr result (λ e. e ≢ OpenError.KeeperFault) × IsErr result }
     ensures keeper { result ≡ Err OpenError.KeeperFault → Rose (K.faults keeper.old) (K.faults keeper.new) }
+    ensures uncounted { result ≢ Err OpenError.KeeperFault → K.faults keeper.new ≡ K.faults keeper.old }
     ensures never_falls { K.faults keeper.old ≤ K.faults keeper.new }
     ensures kept { Keeps (K.file keeper.old) (K.file keeper.new) }
     ensures storing { IfOk result (λ made. IsSome made.stored) }
@@ -107,6 +109,7 @@ fn make_on_file<K: Keeper, S: Source>(
 ) -> Result<Made, MakeError>
     ensures due { IfSome (due_of_file command (K.file keeper.old) (S.left input.old)) (IsDue of_make result) }
     ensures keeper { result ≡ Err (MakeError.Open OpenError.KeeperFault) → Rose (K.faults keeper.old) (K.faults keeper.new) }
+    ensures uncounted { result ≢ Err (MakeError.Open OpenError.KeeperFault) → K.faults keeper.new ≡ K.faults keeper.old }
     ensures input { result ≡ Err (MakeError.Input InputError.SourceFault) → IsTrue (reads_input (Some (commands.OnFile command))) × IfSome (K.file keeper.old) IsUsable × Rose (S.faults input.old) (S.faults input.new) }
     ensures never_falls { K.faults keeper.old ≤ K.faults keeper.new }
     ensures kept { Keeps (K.file keeper.old) (K.file keeper.new) }

@@ -6,7 +6,7 @@ use Rattle.rls_top.specs.Stages.{IsAsDue, IsDue, IsStatusOf, of_failure}
 use Rattle.rls_top.specs.Words.{command_of}
 use Rattle.rls_top.proofs.Called.{made_calls, unmade_calls}
 use Rattle.rls_top.proofs.Finishing.{cut_leaves, cut_reports, for_command, unmade_leaves, unmade_reports}
-use Rattle.rls_top.proofs.OnFiles.{device_so, keeper_so}
+use Rattle.rls_top.proofs.OnFiles.{device_other, device_so, keeper_other, keeper_so}
 use Rattle.rls_top.proofs.command.perform.Goals as goal
 
 pub returns-in-Err-clause-due : goal.returns-in-Err-clause-due
@@ -42,6 +42,13 @@ returns-in-Err-finish-clause-uncalled g c = λ h.
     let u = c.in-Ok.ensures.uncalled (subst (λ (w : Option Command). IsFalse (calls_keeper w)) (sym c.in-Some.ensures.command) h) in
     let f = c.in-Err-finish.ensures.unstored u.2 in
     (f.0 ∙ u.0, device_so c.in-Err-finish.error c.from-in-Err-finish.result c.from-in-Err-finish.ensures f.1)
+
+pub returns-in-Err-clause-uncounted : goal.returns-in-Err-clause-uncounted
+returns-in-Err-clause-uncounted g c = λ other. c.in-Err.ensures.uncounted (keeper_other c.in-Err.error c.from.result c.from.ensures other)
+
+pub returns-in-Err-finish-clause-uncounted : goal.returns-in-Err-finish-clause-uncounted
+returns-in-Err-finish-clause-uncounted g c = λ other.
+    c.in-Err-finish.ensures.uncounted (device_other c.in-Err-finish.error c.from-in-Err-finish.result c.from-in-Err-finish.ensures other) ∙ c.in-Ok.ensures.uncounted (λ h. cc)
 
 pub returns-in-Err-clause-calls : goal.returns-in-Err-clause-calls
 returns-in-Err-clause-calls g c = λ n s.
