@@ -8,8 +8,9 @@ _rls() {
     mapfile -t COMPREPLY < <(compgen -W '--text' -- "$word")
   elif [ "$COMP_CWORD" = 2 ] && [[ ${COMP_WORDS[1]} == @(send|retire) ]] && [ -e replica.gate ]; then
     # The numbers of the other members, from the head of the stored file.
-    local slot=$(($(od -An -tu1 -N1 replica.gate) % 2)) head i others=()
-    read -r -a head < <(od -An -v -tu1 -w40 -j8 -N21 "replica.$slot" 2>/dev/null)
+    local gate head i others=()
+    read -r gate < <(od -An -tu1 -N1 replica.gate 2>/dev/null)
+    read -r -a head < <(od -An -v -tu1 -w40 -j8 -N21 "replica.$((${gate:-0} % 2))" 2>/dev/null)
     for ((i = 0; i < ${head[16]:-0}; i++)); do [ "$i" = "${head[20]}" ] || others+=("$i"); done
     mapfile -t COMPREPLY < <(compgen -W "${others[*]}" -- "$word")
   fi
