@@ -128,7 +128,8 @@ class Opener:
         if key not in self.shown:
             self.count += 1
             folder = self.room.replica("slots", None, "image", image)
-            self.shown[key] = self.room.text(folder)
+            result = self.room.run(folder, ["text"], calls={})
+            self.shown[key] = (result.status, result.out, result.err)
             if self.count % 20 == 0:
                 self.goes_on(folder, self.shown[key], image)
         return self.shown[key]
