@@ -1,0 +1,92 @@
+# Chooses the program that runs: bin/rls reads this when what it wrote down the last time isn't so any more.
+# shellcheck shell=bash
+# bin/rls sets `top`, `built`, `program` and `say`; rls-sources.bash sets `release`, `released_program` and `found`.
+# shellcheck disable=SC2154
+. "$top/bin/rls-sources.bash"
+
+described() { git -C "$top" describe --always --dirty 2>/dev/null || echo unknown; }
+
+version() {
+  if [ -n "${RLS_PROGRAM:-}" ]; then
+    echo "rls of commit $(described), with the program $program, which RLS_PROGRAM names"
+  elif is_current; then
+    cat "$built/version"
+  elif has_release; then
+    check_release
+    echo "rls ${release[version]}, the released program, proved and built from commit ${release[commit]:0:12} of ${release[date]} with ${release[kit]}$(if is_of_release; then echo ', as the sources here are'; else echo "; the sources here, of commit $(described), are others"; fi)"
+  else
+    echo "rls of commit $(described), not built yet"
+  fi
+}
+
+# The content of the sources, which decides; it is summed once in a command.
+here=
+sources_here() {
+  [ -n "$here" ] || here=$(content "$top")
+}
+
+# Whether the program was built here from these sources. Files that were copied, touched or checked out again have other times, and the same
+# content.
+is_current() {
+  [ -x "$built/rls" ] && [ -f "$built/content" ] && sources_here && [ "$here" = "$(<"$built/content")" ]
+}
+
+# Whether there is a released program for this machine.
+has_release() {
+  [ "$(uname -sm)" = 'Linux x86_64' ] && read_release
+}
+
+is_of_release() { sources_here && [ "$here" = "${release[sources]-}" ]; }
+
+# Writes down what was chosen for these times; whoever may not write there chooses again the next time.
+note() { { mkdir -p "$built" && printf '%s\n%s\n' "$1" "$now" >"$built/choice.$$" && mv -f "$built/choice.$$" "$built/choice"; } 2>/dev/null; }
+
+build_if_due() {
+  [ -z "${RLS_REBUILD:-}" ] && is_current && return
+  . "$top/bin/rls-build.bash"
+  build
+}
+
+choose_anew() {
+  if is_current; then
+    note built
+  elif has_release; then
+    choose_release
+  else
+    build_if_due || exit
+  fi
+}
+
+# Sets `program` to the released one, once its sum is right and it runs.
+check_release() {
+  local usage
+  program=$released_program
+  is_released || {
+    say "$program isn't the program that release/release.txt names: its SHA-256 is $found, and has to be ${release[program]-}." \
+      "Nothing was run. \`git checkout -- release\` in $top puts it back; \`rls build\` proves and builds the program without it."
+    exit "$NOT_BUILT"
+  }
+  usage=$("$program" 2>&1 </dev/null)
+  [ "${usage:0:6}" = usage: ] || {
+    say "the released program doesn't run on this machine: $usage" "\`rls build\` proves and builds one here (docs/INSTALL.md says what it needs)."
+    exit "$NOT_BUILT"
+  }
+}
+
+# Chooses the released program. That it runs here, and whether it is of these sources, is said once: that it is, on a terminal
+# alone.
+choose_release() {
+  local of
+  check_release
+  of="this is the released program ${release[version]}, proved and built from commit ${release[commit]:0:7}"
+  if ! mkdir -p "$built" 2>/dev/null || ! [ -w "$built" ]; then return; fi
+  if ! is_of_release; then
+    say "$of, and not from the sources that are here now; \`rls build\` proves and builds these."
+  elif [ -t 2 ]; then
+    say "$of; \`rls build\` proves and builds these sources here."
+  else
+    note untold
+    return
+  fi
+  note released
+}
