@@ -79,6 +79,11 @@ def waiting_reverse(n):
     return waiting(n)[::-1]
 
 
+def colliding(n):
+    """They wait too, under numbers that a hash by multiplication takes to the same low bits."""
+    return [op(1, k << 16, (0, (k << 16) - 1, 1), LEAVE) for k in range(1, n + 1)]
+
+
 def forked(n):
     """A deletion of n characters, each alone, waits, and n times another operation comes under its number."""
     held = op(1, 2, (0, 1, 1), deletion(*[(2 * k, 1) for k in range(n)]))

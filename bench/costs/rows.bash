@@ -11,7 +11,7 @@ trap 'rm -rf "$room"' EXIT
 
 # Each row with the least n, and the growth that a doubling may have, in tenths. It is 23 but where the definition itself asks for more: a
 # character that is put or deleted between two others gets a tuple more in each epoch.
-rows=(in_order:2000:23 reverse:2000:23 shuffled:2000:23 waiting:2000:23 waiting_reverse:2000:23 forked:500:23 gone:500:23 same:500:23 each:250:23
+rows=(in_order:2000:23 reverse:2000:23 shuffled:2000:23 waiting:2000:23 waiting_reverse:2000:23 colliding:2000:23 forked:500:23 gone:500:23 same:500:23 each:250:23
   again:50:23 refused:250:23 refused_in_turn:250:23 gone_renamed:50:42 chain:50:42 old_deletions:50:23 wrong_epoch:250:23 renamed_file:25:23
   small_renames:500:23 scattered:20000:23 back:250:23 rename:20000:23)
 
