@@ -116,6 +116,15 @@ play() {
   wait_for 'the last edits are stored' "------Butter, Bread and tea!${burst}end"$'\nSalt \\ é😀+?' stored_text
 }
 
+# An editor that opens a replica in whose folder another command works waits, also for more than ten seconds, and says so. $1 begins it.
+play_waiting() {
+  flock "$room/ada" sleep 12 &
+  begin "$1"
+  shows 'that it waits for another command' 'waiting for the program'
+  shows 'what it waited for' 'member 0 of 2'
+  leave_editor
+}
+
 # How that is typed in Vim and in Neovim.
 append() {
   type_text "$begin_typing$1"

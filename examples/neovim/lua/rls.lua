@@ -56,13 +56,17 @@ function Replica:wait(test)
       return found ~= nil or (session.ended ~= false and session.closed)
     end, 1, true)
     if why == -2 then error('rls: given up', 0) end
-    if not done and uv.hrtime() - begun > PATIENCE * 1e9 then
+    if not done and not told and uv.hrtime() - begun > PATIENCE * 1e9 then
       told = true
-      api.nvim_echo({ { 'rls: waiting for the program; Ctrl-C gives up ' .. vim.trim(session.errors):gsub('\n', ' ') } }, false, {})
       vim.cmd('redraw')
+      api.nvim_echo({ { 'rls: waiting for the program; Ctrl-C gives up' } }, false, {})
+      vim.cmd('redrawstatus')
     end
   until done
-  if told then api.nvim_echo({ { '' } }, false, {}) end
+  if told then
+    vim.cmd('redraw')
+    api.nvim_echo({ { '' } }, false, {})
+  end
   if found == nil then error(('rls: the session ended: %s'):format(vim.trim(session.errors)), 0) end
   return found
 end

@@ -41,7 +41,8 @@ function s:read_more(r) abort
     endif
     let told = 1
     redraw
-    echo 'rls: waiting for the program; Ctrl-C gives up' s:errors(a:r)
+    echo 'rls: waiting for the program; Ctrl-C gives up'
+    redrawstatus
     let more = ch_readblob(a:r.job, {'timeout': 1000})
   endwhile
   if told
@@ -554,9 +555,9 @@ function s:close(buf) abort
   if r.failed ==# ''
     call ch_sendraw(r.job, "q\n")
     call s:line(r)
-  elseif ch_status(r.job, {'part': 'in'}) ==# 'open'
-    " At the end of its input a session stores too, and then the folder is free.
-    call ch_close_in(r.job)
+  else
+    " At the end of its input a session stores too, and then the folder is free. It may have ended already.
+    silent! call ch_close_in(r.job)
   endif
   call delete(r.errors)
 endfunction
