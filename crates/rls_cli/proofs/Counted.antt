@@ -66,7 +66,7 @@ module _ {R A B : Type 0} where
 
 -- at a status
 pub counts_with : (n before after : ℕ) → (after ≡ before) ⊎ (IsKeepersStatus n × (after ≡ one_more before)) → (n ≡ 7 → Rose before after) → CountsWith n before after
-counts_with n before after (inl same) rose = (λ e. top (rose e (sym same)), λ seven ten. same)
+counts_with n before after (inl same) rose = (λ e. top ((rose e).1 (sym same)), λ seven ten. same)
   where
     top : before ≡ 2 ^ 64 - 1 → after ≡ one_more before
     top h = omega (arith, h, same)

@@ -2,44 +2,17 @@
 #![tactic(auto)]
 
 mod folder;
+mod given;
 mod performing;
 mod streams;
 
 use folder::{FolderKeeper, folder_keeper};
-use performing::perform_in_folder;
-use rls_io::{StdSink, StdSource, write_all_of};
-use rls_report::Fault;
-use std::alloc::AllocError;
-use std::io::ErrorKind;
+use given::words;
+use performing::perform_given;
+use rls_io::{StdSink, StdSource};
+use std::io;
 use std::process::ExitCode;
-use std::{env, io};
 use streams::{Guard, guard_streams};
-
-/// The status where memory runs out before the command is known.
-const OUT_OF_MEMORY: u8 = 10;
-
-/// The words after the program's name.
-fn given(rt: &HostRuntime) -> io::Result<Vec<String>> {
-    let mut words = Vec::new(rt.alloc());
-    for word in env::args(rt)?.skip(1) {
-        words.push(word)?;
-    }
-    Ok(words)
-}
-
-/// The words after the program's name. If they can't be had, as where one isn't UTF-8, it is one empty word, which is no
-/// command.
-fn words(rt: &HostRuntime) -> Result<Vec<String>, AllocError> {
-    match given(rt) {
-        Ok(words) => Ok(words),
-        Err(error) if error.kind() == ErrorKind::OutOfMemory => Err(AllocError),
-        Err(_) => {
-            let mut words = Vec::new(rt.alloc());
-            words.push(String::new(rt.alloc()))?;
-            Ok(words)
-        }
-    }
-}
 
 /// The keeper of the current folder's file. Where the numbers of closed streams can't be taken, it is one that fails, so that
 /// no file of the folder is opened.
@@ -55,17 +28,13 @@ fn keeper<'a>(
 
 fn main(rt: HostRuntime) -> ExitCode {
     let guard = guard_streams(&rt);
-    let mut errors = StdSink::new(rt.stderr());
-    let Ok(words) = words(&rt) else {
-        let _ = write_all_of(&mut errors, Fault::Memory.line().as_bytes());
-        return ExitCode::from(OUT_OF_MEMORY);
-    };
     let mut keeper = keeper(&rt, &guard);
     let mut input = StdSource::new(rt.stdin().lock());
     let mut output = StdSink::new(rt.stdout());
-    let status = perform_in_folder(
+    let mut errors = StdSink::new(rt.stderr());
+    let status = perform_given(
         rt.alloc(),
-        &words,
+        words(&rt),
         &mut keeper,
         &mut input,
         &mut output,
@@ -75,6 +44,8 @@ fn main(rt: HostRuntime) -> ExitCode {
     ExitCode::from(status)
 }
 
+#[cfg(test)]
+mod arguments;
 #[cfg(test)]
 mod tests;
 #[cfg(test)]

@@ -1,6 +1,6 @@
 //! The choice between a session and a command.
 
-ghost use Rattle.std.specs.Prelude.{◌≡◌, map, string_bytes, IfSome, IsTrue, IsFalse};
+ghost use Rattle.std.specs.Prelude.{◌≡◌, map, string_bytes, IfSome, IsErr, IsTrue, IsFalse};
 ghost use Rattle.rls_io.specs.Device.{Rose};
 ghost use Rattle.rls_cli.specs.Folder.{CountsWith, faults_of};
 ghost use Rattle.rls_cli.specs.Performing.{CommandCalls, CommandEnds, SessionCalls, SessionEnds, begins_session};
@@ -9,8 +9,11 @@ use crate::folder::FolderKeeper;
 use rls_io::{Keeper, Sink, Source};
 use rls_session::{begins_session, serve};
 use rls_top::run;
-use std::alloc::Global;
+use std::alloc::{AllocError, Global};
 use std::rt::Files;
+
+/// The status if there is no memory for the words.
+const OUT_OF_MEMORY: u8 = 10;
 
 /// Does what the words ask for over these devices, and answers the program's exit status: a session if the only word is `session`, and
 /// otherwise a command.
@@ -54,4 +57,24 @@ pub(crate) fn perform_in_folder<R: Files, S: Source, W: Sink, E: Sink>(
     ensures output { result ≡ 9 → Rose (W.faults output.old) (W.faults output.new) }
 {
     perform(alloc, words, keeper, input, output, errors)
+}
+
+/// The same, if there was memory for the words. If there wasn't, the status is 10, and no device is called.
+pub(crate) fn perform_given<R: Files, S: Source, W: Sink, E: Sink>(
+    alloc: Global,
+    words: Result<Vec<String>, AllocError>,
+    keeper: &mut FolderKeeper<R>,
+    input: &mut S,
+    output: &mut W,
+    errors: &mut E,
+) -> u8
+    ensures none { IsErr words → (result ≡ 10) × (keeper.new ≡ keeper.old) × (input.new ≡ input.old) × (output.new ≡ output.old) × (errors.new ≡ errors.old) }
+    ensures keeper { CountsWith result (faults_of keeper.old) (faults_of keeper.new) }
+    ensures input { result ≡ 8 → Rose (S.faults input.old) (S.faults input.new) }
+    ensures output { result ≡ 9 → Rose (W.faults output.old) (W.faults output.new) }
+{
+    match words {
+        Ok(words) => perform_in_folder(alloc, &words, keeper, input, output, errors),
+        Err(AllocError) => OUT_OF_MEMORY,
+    }
 }

@@ -1,4 +1,6 @@
+use crate::arguments::Arguments;
 use crate::folder::{FolderKeeper, folder_keeper};
+use crate::given::words;
 use crate::performing::{perform, perform_in_folder};
 use crate::watched::{Watch, Watched};
 use rls_io::{Found, Keeper, MemoryKeeper, MemorySink, MemorySource};
@@ -125,6 +127,107 @@ fn the_folder_is_synced_before_its_file_is_loaded(rt: HostRuntime) -> Result<(),
     clear(&rt);
     assert_eq!(rt; (is_begun, found), (true, 'o'));
     assert_eq!(rt; watch.told()?.as_str(), " sync .");
+    Ok(())
+}
+
+/// What is loaded where each call fails in turn, up to the first that isn't made.
+fn loads(rt: &HostRuntime, kind: Kind) -> Result<String, Fail> {
+    let mut all = String::new(rt.alloc());
+    for failing in 0..40 {
+        let is_begun = begin(rt, kind);
+        let watch = Watch::new(rt.alloc(), failing);
+        let found = load(
+            rt.alloc(),
+            &mut folder_keeper(Watched { rt, watch: &watch }),
+        );
+        all.push(if is_begun { found } else { '!' })?;
+        if found != '?' {
+            break;
+        }
+    }
+    clear(rt);
+    Ok(all)
+}
+
+#[test]
+fn a_file_that_cannot_be_read_is_not_missing(rt: HostRuntime) -> Result<(), Fail> {
+    assert_eq!(rt; loads(&rt, Kind::Slots)?.as_str(), "????????????????o");
+    assert_eq!(rt; loads(&rt, Kind::File)?.as_str(), "??????o");
+    Ok(())
+}
+
+#[test]
+fn the_first_store_syncs_the_folder_that_has_its_files(rt: HostRuntime) -> Result<(), Fail> {
+    clear(&rt);
+    let watch = Watch::new(rt.alloc(), u64::MAX);
+    let mut keeper = folder_keeper(Watched {
+        rt: &rt,
+        watch: &watch,
+    });
+    let is_stored = keeper.store(rt.alloc(), b"new").is_ok();
+    let end = (is_stored, kept(&rt));
+    clear(&rt);
+    assert_eq!(rt; end, (true, 'n'));
+    assert_eq!(rt;
+        watch.told()?.as_str(),
+        " sync . make replica.0 write replica.0 write replica.0 make replica.1 write replica.1 write replica.1 sync replica.0 sync . sync replica.1 make replica.gate write replica.gate sync replica.gate sync ."
+    );
+    Ok(())
+}
+
+/// Whether so many bytes are stored over what is there, and loaded again.
+fn keeps(rt: &HostRuntime, len: usize) -> Result<bool, AllocError> {
+    let mut bytes = Vec::new(rt.alloc());
+    for i in 0..len {
+        bytes.push((i % 251) as u8)?;
+    }
+    let is_stored = folder_keeper(rt).store(rt.alloc(), &bytes).is_ok();
+    Ok(match folder_keeper(rt).load(rt.alloc(), len as u64) {
+        Ok(Found::Bytes(found)) => is_stored && found.as_slice() == bytes.as_slice(),
+        _ => false,
+    })
+}
+
+#[test]
+fn a_large_file_is_kept_whole(rt: HostRuntime) -> Result<(), Fail> {
+    for (kind, len) in [
+        (Kind::File, 300_000),
+        (Kind::File, 0),
+        (Kind::Slots, 300_000),
+        (Kind::Slots, 0),
+    ] {
+        let is_begun = begin(&rt, kind);
+        let left = fs::write(&rt, "replica.rls.new", b"of a store that was stopped");
+        let is_kept = keeps(&rt, len)?;
+        clear(&rt);
+        assert_eq!(rt;
+            (is_begun, left.is_ok(), is_kept),
+            (true, true, true),
+            "{len}"
+        );
+    }
+    Ok(())
+}
+
+/// Each row: what the program is given, its name first, and the words that this comes to, each with a bar behind it.
+const ARGUMENTS: &[(&[&[u8]], &str)] = &[
+    (&[b"rls"], ""),
+    (&[b"rls", b"text"], "text|"),
+    (&[b"rls", b"send", b"", b"1"], "send||1|"),
+    (&[b"rls", b"text", b"\xff"], "|"),
+    (&[], ""),
+];
+
+#[test]
+fn all_words_are_handed_on(rt: HostRuntime) -> Result<(), Fail> {
+    for (given, wanted) in ARGUMENTS {
+        let mut told = String::new(rt.alloc());
+        for word in words(&(Arguments { words: given }, rt.alloc()))? {
+            told.push_str(word.as_str())?;
+            told.push('|')?;
+        }
+        assert_eq!(rt; told.as_str(), *wanted);
+    }
     Ok(())
 }
 

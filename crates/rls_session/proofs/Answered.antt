@@ -1,5 +1,5 @@
 -- What is answered, from its parts.
-use Rattle.std.proofs.Common.{◌≡◌, ◌∙◌, ◌<◌, ◌≤◌, ◌+◌, ◌-◌, ℕ, suc, true, false, ltb, List, [], ◌∷◌, ◌++◌, length, Option, Some, None, Result, Ok, Err, IfOk, refl, sym, ap, subst, arith, get_or}
+use Rattle.std.proofs.Common.{◌≡◌, ◌∙◌, ◌<◌, ◌≤◌, ◌+◌, ◌-◌, ℕ, suc, true, false, ltb, List, [], ◌∷◌, ◌++◌, length, Option, Some, None, Result, Ok, Err, IfOk, OnOk, refl, sym, ap, subst, arith, get_or}
 use Rattle.std.specs.Prelude.{codes}
 use Rattle.std.proofs.lemmas.Bool.Decides.{nat_tests}
 use Rattle.std.proofs.lemmas.Option.{slice_get-get_or}
@@ -36,6 +36,10 @@ use Rattle.rls_session.specs.Sessions.{by_parts}
 pub on_ok : {X E : Type 0} (r : Result X E) (P Q : X → Type 0) → ((x : X) → P x → Q x) → IfOk r P → IfOk r Q
 on_ok (Ok x) P Q f h = f x h
 on_ok (Err e) P Q f h = tt
+
+pub on_any : {X E : Type 0} (r : Result X E) (P : Type 0) → P → OnOk r P
+on_any (Ok x) P h = h
+on_any (Err e) P h = tt
 
 -- an answer isn't an error
 pub ok_is_not_err : {X E : Type 0} (x : X) (e : E) → Ok x ≡ Err e → ⊥

@@ -83,7 +83,7 @@ any_part d n file new_file old new e = at_zero (eqb_tells n 0)
 kept_stands : (r : Result Seen CommandError) (s : Seen) (t : State) (kept : Option (List ℕ)) (new_file : Option (Option (List ℕ))) (too_long : Type 0) → (r ≡ Ok s) ⊎ (too_long × (r ≡ Err TooLarge)) → StandsFor s t → AreWritable s → IsKept r (Some kept) new_file → StandsIn new_file t
 kept_stands r s t kept new_file too_long (inl e) h w k =
     let here : Stores (Some kept) new_file (bytes_over s) × IsReadBack s = subst (λ (x : Result Seen CommandError). IsKept x (Some kept) new_file) e k in
-    subst (λ (f : Option (Option (List ℕ))). StandsIn f t) (sym here.0) (stands_stored s t h (here.1 w))
+    subst (λ (f : Option (Option (List ℕ))). StandsIn f t) (sym here.0) (stands_stored s t h here.1)
 kept_stands r s t kept new_file too_long (inr e) h w k = absurd (subst (λ (x : Result Seen CommandError). IsKept x (Some kept) new_file) e.1 k)
 
 -- ---- all

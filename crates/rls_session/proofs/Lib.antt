@@ -6,6 +6,9 @@ pub mod Limits
 pub mod Found
 pub mod Loop
 pub mod Whole
+pub mod Sized
+pub mod Writable
+pub mod Sent
 pub mod Answered
 pub mod Served
 pub mod Called

@@ -70,7 +70,7 @@ more None P Q f h = tt
 more (Some given) P Q f h = f given refl h
 
 -- a told input stays told, and what is known of its end
-end_known : (a b : IntakeSeen) (x y : Option (List ℕ)) (bytes : List ℕ) → to_come a x ≡ Some bytes → KnowsEnd a x → KeepsEnd a x b y → KnowsEnd b y
+pub end_known : (a b : IntakeSeen) (x y : Option (List ℕ)) (bytes : List ℕ) → to_come a x ≡ Some bytes → KnowsEnd a x → KeepsEnd a x b y → KnowsEnd b y
 end_known a b None y bytes e k keeps = absurd (cc)
 end_known a b (Some xs) y bytes e k keeps = keeps k
 

@@ -1,5 +1,5 @@
 -- How a session ends, from its parts.
-use Rattle.std.proofs.Common.{◌≡◌, ◌≢◌, ◌∙◌, ◌⊎◌, ◌<◌, ◌≤◌, ℕ, Bool, true, false, eqb, ltb, List, [], ◌++◌, length, take, Option, Some, None, IfSome, IfErr, IfOk, Result, Ok, Err, refl, sym, ap, subst, arith, inl, inr, append_assoc}
+use Rattle.std.proofs.Common.{◌≡◌, ◌≢◌, ◌∙◌, ◌⊎◌, ◌<◌, ◌≤◌, ℕ, Bool, true, false, eqb, ltb, List, [], ◌++◌, length, take, Option, Some, None, IfSome, IfErr, IfOk, OnOk, Result, Ok, Err, refl, sym, ap, subst, arith, inl, inr, append_assoc}
 use Rattle.std.specs.Prelude.{option_map, if◌then◌else◌}
 use Rattle.std.proofs.lemmas.Bool.Decides.{nat_tests}
 use Rattle.std.proofs.lemmas.Grind.{common_steps}
@@ -21,7 +21,7 @@ use Rattle.rls_stages.specs.Endings.{IsFailureStatus, IsFault, IsPart, Writes}
 use Rattle.rls_stages.specs.Errors.{GivesError, IsOfFile, IsOpenError, of_open, of_work}
 use Rattle.rls_stages.specs.KeptFile.{IsReadBack, IsUsable, Stays, bytes_over, loaded, replica_in, saved}
 use Rattle.rls_stages.proofs.Kept.{keeps_on, stays_on}
-use Rattle.rls_stages.proofs.Statuses.{apart, failure_at_7, failure_at_8, failure_at_9, failure_line_told, not_error}
+use Rattle.rls_stages.proofs.Statuses.{apart, failure_at_7, failure_at_8, failure_at_9, failure_line_told, not_error, not_failure}
 use Rattle.rls_session.specs.declared.answering.AnswerError.{AnswerError}
 use Rattle.rls_session.specs.declared.answering.AnswerError.TheVariants.{SourceFault, SinkFault, TooLarge, OutOfMemory}
 use Rattle.rls_session.specs.Answering.{IsDone, IsNear, of_answer}
@@ -402,4 +402,20 @@ told_none r u fails old is = rw is (inl (nothing_written old))
 
 -- a count that rose later on
 pub rose_later : (a b c : ℕ) → a ≤ b → b ≤ c → Rose b c → Rose a c
-rose_later a b c h k rose = λ same. let top = rose (omega (arith, h, k, same)) in omega (arith, h, k, same, top)
+rose_later a b c h k rose = (omega (arith, h, k), λ same. let top = rose.1 (omega (arith, h, k, same)) in omega (arith, h, k, same, top))
+
+-- ---- what is answered
+
+-- whatever holds if all was done
+pub if_ok : (r : Result (Unit {0}) Failure) (A B : Type 0) → (A → B) → A → OnOk r B
+if_ok (Ok u) A B f a = f a
+if_ok (Err e) A B f a = tt
+
+pub ok_more : (r : Result (Unit {0}) Failure) (A B : Type 0) → (A → B) → OnOk r A → OnOk r B
+ok_more (Ok u) A B f a = f a
+ok_more (Err e) A B f a = tt
+
+-- with status 0 all was
+pub done_so : (r : Result (Unit {0}) Failure) (n : ℕ) (A : Type 0) → IsStatusOf r n → OnOk r A → n ≡ 0 → A
+done_so (Ok u) n A s a z = a
+done_so (Err f) n A s a z = not_failure f n 0 s z refl

@@ -38,3 +38,21 @@ course_from answer zero s (b ∷ bytes) =
 -- the requests of the input, answered one after another up to the order to quit
 abbrev pub course : {S : Type 0} → (S → Request → Answered S) → S → List ℕ → Course S
 course answer s bytes = course_from answer 0 s bytes
+
+-- ---- what holds of each request that is answered, and of the state before it
+
+-- of this one, unless it ends the session, and of those after it
+abbrev pub holds_on : {S : Type 0} → (S → Request → Answered S) → (S → Request → Type 0) → S → Request → (S → Type 0) → Type 0
+holds_on answer P s (Does Quit) rest = Unit {0}
+holds_on answer P s request rest = P s request × rest (answer s request).state
+
+-- of the requests of what comes after n bytes
+abbrev pub holds_from : {S : Type 0} → (S → Request → Answered S) → (S → Request → Type 0) → ℕ → S → List ℕ → Type 0
+holds_from answer P n s [] = Unit {0}
+holds_from answer P (suc n) s (b ∷ bytes) = holds_from answer P n s bytes
+holds_from answer P zero s (b ∷ bytes) =
+    holds_on answer P s (cut (b ∷ bytes)).request (λ t. holds_from answer P ((cut (b ∷ bytes)).size - 1) t bytes)
+
+-- of the requests of the input, up to the order to quit
+abbrev pub holds : {S : Type 0} → (S → Request → Answered S) → (S → Request → Type 0) → S → List ℕ → Type 0
+holds answer P s bytes = holds_from answer P 0 s bytes

@@ -5,6 +5,7 @@ pub mod Intake
 pub mod Replies
 pub mod Answers
 pub mod Sessions
+pub mod Sent
 pub mod Desks
 pub mod Answering
 pub mod Due

@@ -9,12 +9,14 @@ ghost use Rattle.rls_script.specs.Scripts.{is_line_feed};
 ghost use Rattle.rls_stages.specs.Endings.{IsPart};
 ghost use Rattle.rls_session.specs.Answering.{of_answer, of_read, HasNoLine, IsDone, IsNear, IsNext, IsPrompt, IsReplied, IsUnused, LacksPart};
 ghost use Rattle.rls_session.specs.Answers.{answer};
-ghost use Rattle.rls_session.specs.Courses.{course};
+ghost use Rattle.rls_session.specs.Courses.{course, holds};
 ghost use Rattle.rls_session.specs.Intake.{taken, to_come, KnowsEnd, KeepsEnd};
-ghost use Rattle.rls_session.specs.Requests.{cut_after};
+ghost use Rattle.rls_session.specs.Requests.{Does, cut_after};
+ghost use Rattle.rls_session.specs.Sent.{SendsMessage};
 ghost use Rattle.rls_session.specs.Sessions.{by_parts};
 ghost use Rattle.rls_session.specs.declared.answering.AnswerError.TheVariants as AnswerError;
 ghost use Rattle.rls_session.specs.declared.orders.Order.TheVariants as Order;
+ghost use Rattle.rls_store.specs.Stored.{AreWritable};
 
 use crate::desk::Desk;
 use crate::intake::Intake;
@@ -108,6 +110,8 @@ fn reply_to<S: Source>(
 ) -> Result<Vec<u8>, ReadError>
     ensures reply { IfOk result (λ reply. KnowsEnd intake.old (S.left input.old) → IfSome (to_come intake.old (S.left input.old)) (λ bytes.
         IsReplied (answer by_parts desk.old) bytes order reply.items desk.new intake.old intake.new (S.left input.new))) }
+    ensures writable { AreWritable desk.old.state → OnOk result (AreWritable desk.new.state) }
+    ensures sent { AreWritable desk.old.state → OnOk result (SendsMessage desk.old (Does order)) }
     ensures known { KeepsEnd intake.old (S.left input.old) intake.new (S.left input.new) }
     ensures advances { intake.old.used ≤ intake.new.used }
     ensures within { taken intake.old ≤ INPUT_BYTES + 1 → taken intake.new ≤ INPUT_BYTES + 1 }
@@ -138,6 +142,7 @@ fn reply_to_message<S: Source>(
 ) -> Result<Vec<u8>, ReadError>
     ensures reply { IfOk result (λ reply. KnowsEnd intake.old (S.left input.old) → IfSome (to_come intake.old (S.left input.old)) (λ bytes.
         IsReplied (answer by_parts desk.old) bytes (Order.Take len) reply.items desk.new intake.old intake.new (S.left input.new))) }
+    ensures writable { AreWritable desk.old.state → OnOk result (AreWritable desk.new.state) }
     ensures known { KeepsEnd intake.old (S.left input.old) intake.new (S.left input.new) }
     ensures advances { intake.old.used ≤ intake.new.used }
     ensures within { taken intake.new ≤ INPUT_BYTES + 1 }
@@ -199,6 +204,8 @@ pub(crate) fn answer_all<S: Source, W: Sink>(
     ensures input { result ≡ Err AnswerError.SourceFault → Rose (S.faults input.old) (S.faults input.new) }
     ensures output { result ≡ Err AnswerError.SinkFault → Rose (W.faults output.old) (W.faults output.new) }
     ensures never_falls { W.faults output.old ≤ W.faults output.new }
+    ensures writable { AreWritable desk.old.state → OnOk result (AreWritable desk.new.state) }
+    ensures sent { AreWritable desk.old.state → OnOk result (IfSome (S.left input.old) (λ given. holds (answer by_parts) SendsMessage desk.old given)) }
 {
     let mut intake = Intake::new(alloc);
     loop {

@@ -1,7 +1,9 @@
 //! What a session works on.
 
 ghost use Rattle.std.specs.Prelude.{◌≡◌, ◌≤◌, IfOk, OnOk};
+ghost use Rattle.rls_codec.specs.CodecLaws.{IsBytes};
 ghost use Rattle.rls_codec.specs.Reading.{message_of};
+ghost use Rattle.rls_seen.specs.Sane.{IsSane};
 ghost use Rattle.rls_seen.specs.Seen.{Seen};
 ghost use Rattle.rls_seen.specs.Over.{released_all};
 ghost use Rattle.rls_anchor.specs.Anchors.{place_over};
@@ -13,7 +15,10 @@ ghost use Rattle.rls_replica.specs.Names.{KeepsNames};
 ghost use Rattle.rls_anchor.specs.declared.anchor.Anchor as anchors;
 ghost use Rattle.rls_session.specs.Desks.{AreUndoable, TellsFault, sitting_of};
 ghost use Rattle.rls_session.specs.Replies.{cursor_text};
+ghost use Rattle.rls_session.specs.Requests.{Does};
+ghost use Rattle.rls_session.specs.Sent.{CanSend, SendsMessage};
 ghost use Rattle.rls_session.specs.Sessions.{by_parts};
+ghost use Rattle.rls_store.specs.Stored.{AreWritable};
 
 use crate::orders::Order;
 use crate::replies;
@@ -70,6 +75,7 @@ impl Desk {
     /// Answers an order. One to quit, and one to take a message, are answered by nothing.
     pub(crate) fn answer(&mut self, alloc: Global, order: Order) -> Result<Vec<u8>, AllocError>
         ensures answered { IfOk result (λ reply. IsAnswered (done by_parts self.old order) reply.items self.new) }
+        ensures sent { AreWritable self.old.state → OnOk result (SendsMessage self.old (Does order)) }
     {
         match order {
             Order::Edit { line } => self.edit(alloc, &line),
@@ -182,6 +188,7 @@ impl Desk {
     // Makes the message for a member.
     fn send(&self, alloc: Global, to: u32) -> Result<Vec<u8>, AllocError>
         ensures reply { IfOk result (λ reply. reply.items ≡ sent by_parts self.now.state to) }
+        ensures message { AreWritable self.now.state → OnOk result (CanSend self.now.state to) }
     {
         match message_bytes(alloc, &self.replica, to) {
             Err(SendError::OutOfMemory) => Err(AllocError),
@@ -193,7 +200,10 @@ impl Desk {
     /// Takes the message that these bytes are.
     pub(crate) fn take(&mut self, alloc: Global, bytes: &[u8]) -> Result<Vec<u8>, AllocError>
         ensures answered { IfOk result (λ reply. IsAnswered (taken by_parts self.old (message_of bytes.now)) reply.items self.new) }
+        ensures sane { IsSane self.old.state }
+        ensures bytes { IsBytes bytes.now }
     {
+        self.replica.sane();
         match take_bytes(alloc, &mut self.replica, bytes) {
             Err(TakeBytesError::OutOfMemory) => Err(AllocError),
             Err(TakeBytesError::Malformed { at }) => {

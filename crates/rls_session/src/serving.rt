@@ -1,6 +1,6 @@
 //! A session over the kept file.
 
-ghost use Rattle.std.specs.Prelude.{◌≡◌, ◌≢◌, ◌≤◌, ℕ, List, Some, Err, IfErr, IfSome};
+ghost use Rattle.std.specs.Prelude.{◌≡◌, ◌≢◌, ◌≤◌, ℕ, List, Some, Err, IfErr, IfSome, OnOk};
 ghost use Rattle.rls_io.specs.Device.{Rose, Keeps};
 ghost use Rattle.rls_codec.specs.CodecLaws.{IsBytes};
 ghost use Rattle.rls_model.specs.Receiving.{State};
@@ -12,8 +12,10 @@ ghost use Rattle.rls_session.specs.Answering.{IsNear, IsPrompt};
 ghost use Rattle.rls_session.specs.Answers.{answer, sitting_at};
 ghost use Rattle.rls_session.specs.Calls.{Calls, HasServed, IsFileOf};
 ghost use Rattle.rls_session.specs.Due.{due, due_of, line_at};
-ghost use Rattle.rls_session.specs.Endings.{Ends, EndsNear, EndsPromptly, IsEarly, IsSessionsOwn, IsSessionStatus, IsStatusOf, Leaves, Saves, Serves, line_of};
+ghost use Rattle.rls_session.specs.Endings.{Ends, EndsNear, EndsPromptly, IsEarly, IsSessionsOwn, IsSessionStatus, IsStatusOf, Leaves, OnSession, Saves, Serves, line_of};
+ghost use Rattle.rls_session.specs.Sent.{SendsMessages};
 ghost use Rattle.rls_session.specs.Sessions.{by_parts, session, session_in};
+ghost use Rattle.rls_store.specs.Stored.{AreWritable};
 
 use crate::answering::{answer_all, write};
 use crate::desk::Desk;
@@ -41,7 +43,7 @@ use std::alloc::Global;
 /// | 3 | the file isn't in the grammar |
 /// | 7, 8, 9 | the count of faults rose of the keeper, of the input, of the output |
 /// | 10 | out of memory |
-/// | 11 | neither a line `q` nor the end lies within the first 67,108,864 bytes of the input, or the file as kept or to be stored has more than 268,435,456 bytes |
+/// | 11 | neither a line `q`, without its line feed, nor the end lies within the first 67,108,864 bytes of the input, or the file as kept or to be stored has more than 268,435,456 bytes |
 ///
 /// The kept file is the new one with the status 0, and with a 9 that comes of writing `saved`. With a 7 or a 10 it may be impossible to
 /// say, since a keeper whose `store` failed doesn't tell its file until the next `load`. With every other status it is as before.
@@ -58,6 +60,8 @@ pub fn serve<K: Keeper, S: Source, W: Sink, E: Sink>(
 
     // The same for every file, whether or not it is that of a history.
     ensures ends { IfSome (due (K.file keeper.old) (S.left input.old)) (λ d. Ends d result (K.file keeper.old) (K.file keeper.new) (W.told output.old) (W.told output.new)) }
+    // What it answers to a request for a message is one, so that other members can take it.
+    ensures messages { result ≡ 0 → OnSession (K.file keeper.old) (S.left input.old) SendsMessages }
     ensures keeper { result ≡ 7 → Rose (K.faults keeper.old) (K.faults keeper.new) }
     ensures uncounted { result ≢ 7 → K.faults keeper.new ≡ K.faults keeper.old }
     ensures input { result ≡ 8 → IfSome (K.file keeper.old) IsUsable × Rose (S.faults input.old) (S.faults input.new) }
@@ -107,6 +111,7 @@ fn perform<K: Keeper, S: Source, W: Sink>(
     ensures output { result ≡ Err (failures.Fault Sink) → Rose (W.faults output.old) (W.faults output.new) }
     ensures near { EndsNear (K.file keeper.old) (S.left input.old) (S.left input.new) }
     ensures prompt { result ≡ Err (failures.Fault Source) → EndsPromptly (K.file keeper.old) (S.left input.old) (S.left input.new) (W.told output.old) (W.told output.new) }
+    ensures messages { OnOk result (OnSession (K.file keeper.old) (S.left input.old) SendsMessages) }
     ensures own { IsSessionsOwn result }
     ensures calls { (n : ℕ) → IsStatusOf result n → Calls K.load_gives K.store_gives (due (K.file keeper.old) (S.left input.old)) ((input.new ≡ input.old) × (output.new ≡ output.old)) n keeper.old keeper.new }
 {
@@ -124,6 +129,7 @@ fn answer_on<K: Keeper, S: Source, W: Sink>(
     input: &mut S,
     output: &mut W,
 ) -> Result<(), Failure>
+    requires writable { AreWritable replica }
     ensures leaves { IfSome (S.left input.old) (λ given. Leaves result (due_of (session replica given)) (K.file keeper.old) (K.file keeper.new) (W.told output.old) (W.told output.new)) }
     ensures stays { IfErr result (λ f. f ≢ failures.Fault Sink → Keeps (K.file keeper.new) (K.file keeper.old)) }
     ensures early { IfErr result (λ f. IsEarly f → Keeps (K.file keeper.old) (K.file keeper.new)) }
@@ -134,6 +140,7 @@ fn answer_on<K: Keeper, S: Source, W: Sink>(
     ensures near { IfSome (S.left input.old) (λ given. IsNear given (S.left input.new) (session replica given).used) }
     ensures prompt { result ≡ Err (failures.Fault Source) → IfSome (S.left input.old) (λ given. IsPrompt (answer by_parts) (sitting_at replica) given (S.left input.new) (W.told output.old) (W.told output.new)) }
     ensures never_falls { K.faults keeper.old ≤ K.faults keeper.new }
+    ensures messages { OnOk result (IfSome (S.left input.old) (λ given. SendsMessages replica given)) }
     ensures own { IsSessionsOwn result }
     ensures calls { HasServed K.store_gives (λ bytes. IfSome (S.left input.old) (λ given. IsFileOf (due_of (session replica given)).ending bytes)) result keeper.old keeper.new }
 {
@@ -151,6 +158,7 @@ fn save<K: Keeper, W: Sink>(
     keeper: &mut K,
     output: &mut W,
 ) -> Result<(), Failure>
+    requires writable { AreWritable replica.now }
     ensures saves { Saves result (saved replica.now) (K.file keeper.old) (K.file keeper.new) (W.told output.old) (W.told output.new) }
     ensures stays { IfErr result (λ f. f ≢ failures.Fault Sink → Keeps (K.file keeper.new) (K.file keeper.old)) }
     ensures early { IfErr result (λ f. IsEarly f → Keeps (K.file keeper.old) (K.file keeper.new)) }

@@ -11,7 +11,6 @@ use Rattle.rls_file.specs.FileLaws.{IsFile}
 use Rattle.rls_file.specs.Files.{Content, Journal, Snapshot, file_bytes, newest_form}
 use Rattle.rls_file.specs.ReadingFiles.{file_of}
 use Rattle.rls_store.specs.Loading.{seen_in}
-use Rattle.rls_store.specs.Stored.{AreWritable}
 use Rattle.rls_report.specs.declared.failures.CommandError.{CommandError}
 use Rattle.rls_report.specs.declared.failures.CommandError.TheVariants.{NoReplica, Damaged, TooLarge}
 
@@ -47,9 +46,9 @@ bytes_over s = file_bytes (parts_over s)
 abbrev pub saved : Seen → Result Seen CommandError
 saved s = if nat_lt FILE_BYTES (length (bytes_over s)) then Err TooLarge else Ok s
 
--- the replica's file is read back with its parts, if the replica may be written
+-- the replica's file is read back with its parts
 abbrev pub IsReadBack : Seen → Type 0
-IsReadBack s = AreWritable s → IsFile (bytes_over s) (Snapshot newest_form (parts_over s))
+IsReadBack s = IsFile (bytes_over s) (Snapshot newest_form (parts_over s))
 
 -- these bytes are kept now, or if there are none the file is what it was
 abbrev pub LeavesFile : Option (List ℕ) → Option (Option (List ℕ)) → Option (Option (List ℕ)) → Type 0

@@ -1,9 +1,11 @@
 //! The kept file, loaded and opened.
 
-ghost use Rattle.std.specs.Prelude.{◌≡◌, ◌≢◌, ◌≤◌, Err, IfErr, IfSome};
+ghost use Rattle.std.specs.Prelude.{◌≡◌, ◌≢◌, ◌≤◌, Err, IfErr, IfOk, IfSome};
 ghost use Rattle.rls_io.specs.Device.{Rose, Keeps};
 ghost use Rattle.rls_io.specs.Memory.{bytes_of};
 ghost use Rattle.rls_file.specs.ReadingFiles.{file_of};
+ghost use Rattle.rls_seen.specs.Sane.{IsSane};
+ghost use Rattle.rls_store.specs.Stored.{AreWritable};
 ghost use Rattle.rls_stages.specs.Calls.{HasLoaded};
 ghost use Rattle.rls_stages.specs.KeptFile.{loaded, replica_of, replica_in};
 ghost use Rattle.rls_stages.specs.Errors.{Gives, IsOpenError, of_open};
@@ -37,12 +39,14 @@ pub fn load<K: Keeper>(alloc: Global, keeper: &mut K) -> Result<Option<Vec<u8>>,
     }
 }
 
-/// The replica that the kept file says. There is none without a file, nor if the file is too large or isn't in the grammar. The
-/// keeper's file stays as it is.
+/// The replica that the kept file says, which may be written again. There is none without a file, nor if the file is too large or
+/// isn't in the grammar. The keeper's file stays as it is.
 ///
 /// The cost is that of reading the file; one of form 1 is read by receiving its operations one after another.
 pub fn open<K: Keeper>(alloc: Global, keeper: &mut K) -> Result<Replica, OpenError>
     ensures opened { IfSome (K.file keeper.old) (λ kept. Gives of_open (λ replica. replica) result (replica_in (loaded kept))) }
+    ensures sane { IfOk result IsSane }
+    ensures writable { IfOk result AreWritable }
     ensures keeper { result ≡ Err OpenError.KeeperFault → Rose (K.faults keeper.old) (K.faults keeper.new) }
     ensures uncounted { result ≢ Err OpenError.KeeperFault → K.faults keeper.new ≡ K.faults keeper.old }
     ensures never_falls { K.faults keeper.old ≤ K.faults keeper.new }
@@ -62,11 +66,16 @@ pub fn open<K: Keeper>(alloc: Global, keeper: &mut K) -> Result<Replica, OpenErr
 // The replica that these bytes say.
 fn decoded(alloc: Global, bytes: &[u8]) -> Result<Replica, OpenError>
     ensures replica { Gives of_open (λ replica. replica) result (replica_of (file_of bytes.now)) }
+    ensures sane { IfOk result IsSane }
+    ensures writable { IfOk result AreWritable }
     ensures memory { result ≢ Err OpenError.KeeperFault }
     ensures errors { IfErr result IsOpenError }
 {
     match decode_file(alloc, bytes) {
-        Ok(replica) => Ok(replica),
+        Ok(replica) => {
+            replica.sane();
+            Ok(replica)
+        }
         Err(FileError::Damaged { at }) => Err(OpenError::Command {
             error: CommandError::Damaged { at },
         }),

@@ -174,7 +174,7 @@ module _ {file new_file : Option (Option (List ℕ))} {n : ℕ} {old new : Optio
       stands (inl l) k =
           let at_due : Stores file new_file (file_bytes (parts_over s)) × IsReadBack s = subst (λ (x : Due). IsKept x file new_file) l.1 k in
           let is : new_file ≡ Some (Some (file_bytes (parts_over s))) = subst (λ (f : Option (Option (List ℕ))). Stores f new_file (file_bytes (parts_over s))) told at_due.0 in
-          subst (λ (f : Option (Option (List ℕ))). StandsIn f t) (sym is) (stands_stored s t h (at_due.1 w))
+          subst (λ (f : Option (Option (List ℕ))). StandsIn f t) (sym is) (stands_stored s t h at_due.1)
       stands (inr l) k = absurd (subst (λ (x : Due). IsKept x file new_file) l.1 k)
 
       lines : StoresOrTooLong d s report refused too_long → IsWritten d old new → Writes fails errors_old errors_new (due_line d) → Writes fails errors_old errors_new (refused_lines refused)

@@ -5,6 +5,8 @@ ghost use Rattle.rls_report.specs.Reports.{edit_text};
 ghost use Rattle.rls_script.specs.Scripts.{script_of};
 ghost use Rattle.rls_stages.specs.Errors.{of_work};
 ghost use Rattle.rls_stages.specs.KeptFile.{saved};
+ghost use Rattle.rls_seen.specs.Sane.{IsSane};
+ghost use Rattle.rls_store.specs.Stored.{AreWritable};
 ghost use Rattle.rls_top.specs.Due.{due_of_run, due_of_script, stores};
 ghost use Rattle.rls_top.specs.Scripts.{run_script, run_leave};
 ghost use Rattle.rls_top.specs.Stages.{EndsAs, IsDue, IsRun};
@@ -22,6 +24,8 @@ use std::alloc::Global;
 ///
 /// The time is that of the edits, and for each line `b` that of the characters before its position that it reads (`perform_line`).
 pub(crate) fn edit(alloc: Global, replica: &mut Replica, script: Vec<u8>) -> Result<Made, WorkError>
+    requires sane { IsSane replica.old }
+    requires writable { AreWritable replica.old }
     ensures due { IsDue of_work result (due_of_script replica.old (script_of script.items)) }
     ensures stored { IfOk result (λ made. IsSome made.stored) }
 {
@@ -43,6 +47,8 @@ pub(crate) fn edit(alloc: Global, replica: &mut Replica, script: Vec<u8>) -> Res
 
 /// Performs the one edit by which a member leaves.
 pub(crate) fn leave(alloc: Global, replica: &mut Replica) -> Result<Made, WorkError>
+    requires sane { IsSane replica.old }
+    requires writable { AreWritable replica.old }
     ensures due { IsDue of_work result (due_of_run 1 (run_leave replica.old)) }
     ensures stored { IfOk result (λ made. IsSome made.stored) }
 {
@@ -63,6 +69,7 @@ fn report_edits(
     edits: usize,
     taken: &Taken,
 ) -> Result<Made, WorkError>
+    requires writable { AreWritable replica.now }
     ensures due { IsDue of_work result (stores (saved replica.now) (edit_text edits taken.now.released (length taken.now.refused)) taken.now.refused) }
     ensures stored { IfOk result (λ made. IsSome made.stored) }
 {

@@ -5,6 +5,7 @@ ghost use Rattle.rls_model.specs.Answers.{reason_of};
 ghost use Rattle.rls_report.specs.Refused.{refused_line};
 ghost use Rattle.rls_stages.specs.Errors.{of_work};
 ghost use Rattle.rls_stages.specs.KeptFile.{saved};
+ghost use Rattle.rls_store.specs.Stored.{AreWritable};
 ghost use Rattle.rls_top.specs.Due.{stores, refused_lines};
 ghost use Rattle.rls_top.specs.Stages.{IsDue, IsMade};
 
@@ -47,6 +48,7 @@ pub(crate) fn saving(
     report: String,
     refused: &Refusals,
 ) -> Result<Made, WorkError>
+    requires writable { AreWritable replica.now }
     ensures due { IsDue of_work result (stores (saved replica.now) (string_bytes report) refused.now) }
     ensures stored { IfOk result (λ made. IsSome made.stored) }
 {

@@ -6,6 +6,8 @@ ghost use Rattle.rls_top.specs.declared.words.Command.TheVariants as commands;
 ghost use Rattle.rls_top.specs.Due.{due_at, due_of_command, due_of_file, due_of_new, error_of_numbers, calls_keeper, may_store, reads_input};
 ghost use Rattle.rls_top.specs.Stages.{IsUncalled, IsDue, of_input, of_make};
 ghost use Rattle.rls_stages.specs.KeptFile.{IsUsable};
+ghost use Rattle.rls_seen.specs.Sane.{IsSane};
+ghost use Rattle.rls_store.specs.Stored.{AreWritable};
 ghost use Rattle.rls_stages.specs.Errors.{of_open};
 ghost use Rattle.rls_stages.specs.Calls.{HasLoaded};
 ghost use Rattle.rls_top.specs.Calls.{HasMade, UnlessOpened};
@@ -135,6 +137,8 @@ fn make_of<S: Source>(
     replica: &mut Replica,
     input: &mut S,
 ) -> Result<Made, InputError>
+    requires sane { IsSane replica.old }
+    requires writable { AreWritable replica.old }
     ensures due { IfSome (due_at command replica.old (S.left input.old)) (IsDue of_input result) }
     ensures input { result ≡ Err InputError.SourceFault → IsTrue (reads_input (Some (commands.OnFile command))) × Rose (S.faults input.old) (S.faults input.new) }
     ensures unstored { IsFalse (may_store (Some (commands.OnFile command))) → IfOk result (λ made. made.stored ≡ None) }

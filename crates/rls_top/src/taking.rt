@@ -4,6 +4,8 @@ ghost use Rattle.std.specs.Prelude.{◌≡◌, length, string_bytes, IfOk, IsSom
 ghost use Rattle.rls_codec.specs.Reading.{message_of};
 ghost use Rattle.rls_report.specs.Reports.{take_text};
 ghost use Rattle.rls_stages.specs.KeptFile.{saved};
+ghost use Rattle.rls_seen.specs.Sane.{IsSane};
+ghost use Rattle.rls_store.specs.Stored.{AreWritable};
 ghost use Rattle.rls_top.specs.Due.{due_of_message, stores};
 ghost use Rattle.rls_stages.specs.Errors.{of_work};
 ghost use Rattle.rls_top.specs.Stages.{IsDue};
@@ -18,6 +20,8 @@ use std::alloc::Global;
 
 /// Takes the message that these bytes are. They are given up before the file is made.
 pub(crate) fn take(alloc: Global, replica: &mut Replica, bytes: Vec<u8>) -> Result<Made, WorkError>
+    requires sane { IsSane replica.old }
+    requires writable { AreWritable replica.old }
     ensures due { IsDue of_work result (due_of_message replica.old (message_of bytes.items)) }
     ensures stored { IfOk result (λ made. IsSome made.stored) }
 {
@@ -37,6 +41,7 @@ pub(crate) fn take(alloc: Global, replica: &mut Replica, bytes: Vec<u8>) -> Resu
 
 // The report of a message that was taken, the lines of what was refused, and the file.
 fn report_taken(alloc: Global, replica: &Replica, taken: &Taken) -> Result<Made, WorkError>
+    requires writable { AreWritable replica.now }
     ensures due { IsDue of_work result (stores (saved replica.now) (take_text taken.now.applied taken.now.released taken.now.repeated taken.now.held (length taken.now.refused)) taken.now.refused) }
     ensures stored { IfOk result (λ made. IsSome made.stored) }
 {

@@ -3,6 +3,7 @@ use Rattle.rls_stages.specs.Endings.{IsPart}
 use Rattle.rls_session.specs.Answers.{answer}
 use Rattle.rls_session.specs.Sessions.{by_parts}
 use Rattle.rls_session.proofs.Loop.{between_full, between_near, between_part, between_prompt, fault_of, reply_part, too_large_of, way_first, way_full, way_near, way_order, way_part, way_prompt, way_quit, way_reply, written}
+use Rattle.rls_session.proofs.Sent.{sent_first, sent_over, sent_quit, sent_reply}
 use Rattle.rls_session.proofs.answering.answer_all.Goals as goal
 
 pub loop-error-init : goal.loop-error-init
@@ -10,6 +11,8 @@ loop-error-init g c = record {
   few = rw c.new-intake.ensures.new (omega arith);
   short = rw c.new-intake.ensures.new (omega arith);
   way = way_first (answer by_parts) c.args.desk.now c.new-intake.result (g.S.Source.left c.args.input.now) (g.W.Sink.told c.args.output.now) c.new-intake.ensures.new;
+  writable = λ w. w;
+  sent = λ w. sent_first c.args.desk.now c.new-intake.result (g.S.Source.left c.args.input.now) (ap (λ a. a.waiting) c.new-intake.ensures.new);
   input_never_falls = omega arith;
   never_falls = omega arith;
 }
@@ -86,6 +89,15 @@ loop-error-preserved g c =
       short = c.in-Ok.ensures.few (c.in-Ok-Some.ensures.few c.loop-error.invariant.short);
       way = way_reply (answer by_parts) c.args.desk.now c.loop-error.desk c.reply_to.new.desk (g.S.Source.left c.args.input.now) c.in-Ok-Some.order c.in-Ok.reply.items c.next_order.new.intake c.reply_to.new.intake (g.S.Source.left c.next_order.new.input) (g.S.Source.left c.reply_to.new.input) (g.W.Sink.told c.args.output.now) (g.W.Sink.told c.loop-error.output) (g.W.Sink.told c.write.new.output) between (λ q. c.in_default.not-Quit q) c.in-Ok.ensures.reply c.in-Ok.ensures.known c.in-Ok.ensures.stays_ended
           (written (g.W.Sink.told c.loop-error.output) (g.W.Sink.told c.write.new.output) c.deref.result.now c.in-Ok.reply.items c.deref.ensures.value c.in-Ok-write.ensures.ok);
+      writable = λ w. c.in-Ok.ensures.writable (c.loop-error.invariant.writable w);
+      sent = λ w. sent_reply c.args.desk.now c.loop-error.desk (g.S.Source.left c.args.input.now) c.loop-error.intake c.next_order.new.intake (g.S.Source.left c.loop-error.input) (g.S.Source.left c.next_order.new.input) (g.W.Sink.told c.args.output.now) (g.W.Sink.told c.loop-error.output) c.loop-error.invariant.way (c.loop-error.invariant.sent w) c.reply_to.new.desk _ c.in-Ok-Some.order c.in-Ok.reply.items c.reply_to.new.intake (g.S.Source.left c.reply_to.new.input) c.in-Ok-Some.field-0-is c.in-Ok-Some.ensures.next
+          c.in-Ok-Some.ensures.known (λ q. c.in_default.not-Quit q) c.in-Ok.ensures.reply (c.in-Ok.ensures.sent (c.loop-error.invariant.writable w));
       input_never_falls = omega arith;
       never_falls = omega arith;
     }
+
+pub returns-in-Ok-None-clause-sent : goal.returns-in-Ok-None-clause-sent
+returns-in-Ok-None-clause-sent g c = λ w. sent_over c.args.desk.now c.loop-error.desk (g.S.Source.left c.args.input.now) c.loop-error.intake c.next_order.new.intake (g.S.Source.left c.loop-error.input) (g.S.Source.left c.next_order.new.input) (g.W.Sink.told c.args.output.now) (g.W.Sink.told c.loop-error.output) c.loop-error.invariant.way (c.loop-error.invariant.sent w) _ c.in-Ok-None.field-0-is c.in-Ok-None.ensures.next
+
+pub returns-in-Quit-clause-sent : goal.returns-in-Quit-clause-sent
+returns-in-Quit-clause-sent g c = λ w. sent_quit c.args.desk.now c.loop-error.desk (g.S.Source.left c.args.input.now) c.loop-error.intake c.next_order.new.intake (g.S.Source.left c.loop-error.input) (g.S.Source.left c.next_order.new.input) (g.W.Sink.told c.args.output.now) (g.W.Sink.told c.loop-error.output) c.loop-error.invariant.way (c.loop-error.invariant.sent w) _ c.in-Ok-Some.order c.in-Ok-Some.field-0-is c.in-Ok-Some.ensures.next c.in-Quit.is

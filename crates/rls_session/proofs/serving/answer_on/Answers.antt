@@ -1,11 +1,15 @@
 use Rattle.std.proofs.Common.{IfSome, Err, ap, subst, sym}
+use Rattle.rls_seen.specs.Seen.{Seen}
+use Rattle.rls_store.specs.Stored.{AreWritable}
+use Rattle.rls_session.specs.Answers.{Sitting}
+use Rattle.rls_session.specs.Sent.{SendsMessages}
 use Rattle.rls_report.specs.declared.failures.Failure.{Failure}
 use Rattle.rls_session.specs.Due.{due_of}
 use Rattle.rls_session.specs.Calls.{HasServed, IsFileOf}
 use Rattle.rls_session.specs.Endings.{IsSessionsOwn, Leaves}
 use Rattle.rls_session.specs.Sessions.{session}
 use Rattle.rls_session.proofs.Called.{saved_served, unanswered_served}
-use Rattle.rls_session.proofs.Served.{answer_failed, answered_own, answers_leave, keeps_same, rose_later, saves_leave}
+use Rattle.rls_session.proofs.Served.{answer_failed, answered_own, answers_leave, if_ok, keeps_same, rose_later, saves_leave}
 use Rattle.rls_session.proofs.serving.answer_on.Goals as goal
 
 pub returns-in-Err-clause-leaves : goal.returns-in-Err-clause-leaves
@@ -57,3 +61,11 @@ pub returns-clause-calls : goal.returns-clause-calls
 returns-clause-calls g c =
     saved_served g.K.Keeper.store_gives c.save.result c.args.replica c.answer_all.new.desk c.replica.result.now (g.S.Source.left c.args.input.now) (g.W.Sink.told c.args.output.now) (g.W.Sink.told c.answer_all.new.output)
     c.args.keeper.now c.save.new.keeper c.replica.ensures.replica (rw c.new-desk.ensures.sitting at c.in-Ok.ensures.done) c.save.ensures.calls
+
+pub save-requires : goal.save-requires
+save-requires g c = record { writable = subst AreWritable (sym c.replica.ensures.replica) (c.in-Ok.ensures.writable (subst (λ (d : Sitting Seen). AreWritable d.state) (sym c.new-desk.ensures.sitting) c.requires.writable)) }
+
+pub returns-clause-messages : goal.returns-clause-messages
+returns-clause-messages g c =
+    let left = g.S.Source.left c.args.input.now in
+    if_ok c.save.result _ (IfSome left (λ given. SendsMessages c.args.replica given)) (λ h. h) (rw c.new-desk.ensures.sitting at (c.in-Ok.ensures.sent (subst (λ (d : Sitting Seen). AreWritable d.state) (sym c.new-desk.ensures.sitting) c.requires.writable)))

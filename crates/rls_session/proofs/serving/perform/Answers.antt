@@ -4,10 +4,11 @@ use Rattle.rls_session.specs.Answering.{IsNear, IsPrompt}
 use Rattle.rls_session.specs.Answers.{answer, sitting_at}
 use Rattle.rls_session.specs.Due.{due}
 use Rattle.rls_session.specs.Endings.{IsSessionsOwn, Leaves}
+use Rattle.rls_session.specs.Sent.{SendsMessages}
 use Rattle.rls_session.specs.Sessions.{by_parts, session}
 use Rattle.rls_session.proofs.Called.{opened_served, served_calls, unopened_calls}
 use Rattle.rls_stages.proofs.Kept.{stays_so}
-use Rattle.rls_session.proofs.Served.{early_err, on_session, open_failed, open_leaves, open_other, opened_own, opened_leaves, opened_usable, stays_err, unread_near, usable_only}
+use Rattle.rls_session.proofs.Served.{early_err, ok_more, on_session, open_failed, open_leaves, open_other, opened_own, opened_leaves, opened_usable, stays_err, unread_near, usable_only}
 use Rattle.rls_session.proofs.serving.perform.Goals as goal
 
 pub returns-in-Err-clause-leaves : goal.returns-in-Err-clause-leaves
@@ -82,3 +83,7 @@ returns-in-Ok-clause-calls g c = λ n s.
 
 pub returns-in-Err-clause-uncounted : goal.returns-in-Err-clause-uncounted
 returns-in-Err-clause-uncounted g c = λ other. c.in-Err.ensures.uncounted (open_other c.in-Err.error c.from.result c.from.ensures other)
+
+pub returns-in-Ok-clause-messages : goal.returns-in-Ok-clause-messages
+returns-in-Ok-clause-messages g c =
+    ok_more c.answer_on.result _ _ (λ h. on_session (g.K.Keeper.file c.args.keeper.now) (g.S.Source.left c.args.input.now) c.in-Ok.replica SendsMessages c.in-Ok.ensures.opened h) c.answer_on.ensures.messages

@@ -2,7 +2,7 @@ use Rattle.rls_io.specs.Device.{Rose}
 use Rattle.rls_stages.specs.Endings.{Writes}
 use Rattle.rls_session.specs.Due.{due}
 use Rattle.rls_session.proofs.Histories.{history_serves}
-use Rattle.rls_session.proofs.Served.{early_so, ends_due, fault_of, line_so, no_keeper_fault, no_other, unstored_so}
+use Rattle.rls_session.proofs.Served.{done_so, early_so, ends_due, fault_of, line_so, no_keeper_fault, no_other, unstored_so}
 use Rattle.rls_session.proofs.serving.serve.Goals as goal
 
 pub returns-clause-ends : goal.returns-clause-ends
@@ -47,3 +47,6 @@ returns-clause-calls g c = c.perform-ending.ensures.calls c.tell.result c.tell.e
 
 pub returns-clause-uncounted : goal.returns-clause-uncounted
 returns-clause-uncounted g c = λ other. c.perform-ending.ensures.uncounted (no_keeper_fault c.perform-ending.result c.tell.result c.tell.ensures.status other)
+
+pub returns-clause-messages : goal.returns-clause-messages
+returns-clause-messages g c = λ z. done_so c.perform-ending.result c.tell.result _ c.tell.ensures.status c.perform-ending.ensures.messages z

@@ -1,7 +1,9 @@
-use Rattle.std.proofs.Common.{◌∙◌, Err, ap, rules}
+use Rattle.std.proofs.Common.{◌∙◌, Err, ap, rules, subst, sym}
 use Rattle.rls_report.specs.declared.failures.CommandError.TheVariants.{BadMembers, BadMe}
 use Rattle.rls_top.specs.Stages.{IsAsDue}
 use Rattle.rls_top.proofs.Pieces.{fresh_due, no_me, no_member, no_members, numbers_due, uncounted}
+use Rattle.rls_store.specs.Stored.{AreWritable}
+use Rattle.rls_store.proofs.Storable.{fresh_writable}
 use Rattle.rls_top.proofs.making.make_new.Goals as goal
 
 pub returns-in-Err-Members-clause-due : goal.returns-in-Err-Members-clause-due
@@ -26,3 +28,6 @@ pub returns-in-Ok-saving-clause-due : goal.returns-in-Ok-saving-clause-due
 returns-in-Ok-saving-clause-due g c =
     fresh_due c.args.group c.args.me c.args.members (g.K.Keeper.file c.args.keeper.now) c.in-Ok-None.field-0 c.in-Ok.replica _ _ (IsAsDue c.in-Ok-saving.made) (search rules)
     c.in-Ok-None.ensures.loaded c.in-Ok-None.field-0-is c.in-Ok.ensures.ok c.in-Ok-new_report.ensures.text c.new-in-Ok-new_report.ensures.empty c.in-Ok-saving.ensures.due
+
+pub saving-requires : goal.saving-requires
+saving-requires g c = record { writable = subst AreWritable (sym c.in-Ok.ensures.ok) (fresh_writable c.args.group c.args.me c.args.members) }

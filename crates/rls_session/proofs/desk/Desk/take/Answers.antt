@@ -1,3 +1,4 @@
+use Rattle.std.proofs.Common.{arith}
 use Rattle.rls_session.proofs.Whole.{whole_on}
 use Rattle.rls_session.proofs.desk.Desk.take.Goals as goal
 

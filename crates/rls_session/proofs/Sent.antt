@@ -1,0 +1,115 @@
+-- Each message that a session answers is one.
+use Rattle.std.proofs.Common.{◌≡◌, ◌∙◌, ◌+◌, ◌-◌, ◌<◌, ℕ, zero, suc, Bool, true, false, cond, List, [], ◌∷◌, length, take, drop, Option, Some, None, IfSome, refl, sym, ap, subst, arith}
+use Rattle.std.specs.Prelude.{nat_le}
+use Rattle.std.proofs.lemmas.Grind.{common_steps}
+use Rattle.rls_seen.specs.Seen.{Seen}
+use Rattle.rls_session.specs.declared.orders.Order.{Order}
+use Rattle.rls_session.specs.declared.orders.Order.TheVariants as orders
+use Rattle.rls_session.specs.declared.orders.Order.TheVariants.{Quit}
+use Rattle.rls_session.specs.Answering.{IsNext, IsOrder, IsReplied}
+use Rattle.rls_session.specs.Answers.{Sitting, answer}
+use Rattle.rls_session.specs.Courses.{holds, holds_from, holds_on}
+use Rattle.rls_session.specs.Intake.{IntakeSeen, KeepsEnd, KnowsEnd, to_come}
+use Rattle.rls_session.specs.Requests.{Request, Does, Takes, Cut, cut, cut_after, line_size, with_line}
+use Rattle.rls_session.specs.Sent.{SendsMessage}
+use Rattle.rls_session.specs.Sessions.{by_parts}
+use Rattle.rls_session.proofs.Courses.{Answers}
+use Rattle.rls_session.proofs.Cuts.{cut_some}
+use Rattle.rls_session.proofs.Limits.{cut_is, cut_quit}
+use Rattle.rls_session.proofs.Loop.{IsOnWay, OnWay, end_known}
+
+-- ---- what holds of each request, one after another
+
+module _ {S : Type 0} (answer : Answers S) (P : S → Request → Type 0) where
+  skipped : (n : ℕ) (s : S) (bytes : List ℕ) → holds answer P s (drop n bytes) → holds_from answer P n s bytes
+  skipped zero s bytes h = h
+  skipped (suc n) s [] h = tt
+  skipped (suc n) s (b ∷ bytes) h = skipped n s bytes h
+
+  -- of the first one, and of those after it
+  on : (s : S) (r : Request) (rest : S → Type 0) → (r ≡ Does Quit → ⊥) → P s r → rest (answer s r).state → holds_on answer P s r rest
+  on s (Does Quit) rest other p h = tt
+  on s (Does order) rest other p h = (p, h)
+  on s (Takes message) rest other p h = (p, h)
+
+  begins : (s : S) (bytes : List ℕ) (r : Request) (n : ℕ) → 0 < length bytes → (cut bytes).request ≡ r → (cut bytes).size ≡ n → (r ≡ Does Quit → ⊥) → P s r → holds answer P (answer s r).state (drop n bytes) → holds answer P s bytes
+  begins s [] r n some is size other p h = absurd (omega (arith, some))
+  begins s (b ∷ bytes) r n some is size other p h =
+      let left : 0 < n = subst (λ k. 0 < k) size (cut_some b bytes) in
+      rw (is, size) (on s r (λ t. holds_from answer P (n - 1) t bytes) other p (rest n left h))
+    where
+      rest : (k : ℕ) → 0 < k → holds answer P (answer s r).state (drop k (b ∷ bytes)) → holds_from answer P (k - 1) (answer s r).state bytes
+      rest zero z h = absurd (omega (arith, z))
+      rest (suc k) z h = let less : suc k - 1 ≡ k = omega arith in rw less (skipped k (answer s r).state bytes h)
+
+  quits : (s : S) (bytes : List ℕ) → 0 < length bytes → (cut bytes).request ≡ Does Quit → holds answer P s bytes
+  quits s [] some is = tt
+  quits s (b ∷ bytes) some is = rw is tt
+
+-- ---- what was answered so far
+
+-- each message is one if those are that are still to be answered
+abbrev pub AreSent : Sitting Seen → Option (List ℕ) → Sitting Seen → IntakeSeen → Option (List ℕ) → Type 0
+AreSent first input d a left = IfSome input (λ given. IfSome (to_come a left) (λ bytes. holds (answer by_parts) SendsMessage d bytes → holds (answer by_parts) SendsMessage first given))
+
+-- nothing was taken yet
+pub sent_first : (first : Sitting Seen) (a : IntakeSeen) (left : Option (List ℕ)) → a.waiting ≡ [] → AreSent first left first a left
+sent_first first a None e = tt
+sent_first first a (Some given) e = rw e (λ h. h)
+
+-- what an order to send is answered
+sent_after : (d : Sitting Seen) (order : Order) (rest : List ℕ) → SendsMessage d (Does order) → SendsMessage d (cut_after order rest).request
+sent_after d (orders.Take n) rest f = go (nat_le n (length rest))
+  where
+    go : (b : Bool) → SendsMessage d (cond {A = Cut} b (record { request = Takes (take n rest); size = n }) (record { request = Does orders.Bad; size = length rest })).request
+    go true = tt
+    go false = tt
+sent_after d (orders.Send to) rest f = f
+sent_after d (orders.Edit line) rest f = tt
+sent_after d orders.Undo rest f = tt
+sent_after d (orders.Point at) rest f = tt
+sent_after d orders.Place rest f = tt
+sent_after d orders.Text rest f = tt
+sent_after d orders.Quit rest f = tt
+sent_after d orders.Bad rest f = tt
+
+module _ (first d : Sitting Seen) (input : Option (List ℕ)) (a b : IntakeSeen) (x y old new : Option (List ℕ)) (way : OnWay (answer by_parts) first input d a x old new) (sent : AreSent first input d a x) where
+  -- what is to come, and what is known of it
+  with_way : (Q : List ℕ → Type 0) → ((given : List ℕ) → (w : IsOnWay (answer by_parts) first given d a x old new) → (holds (answer by_parts) SendsMessage d w.bytes → holds (answer by_parts) SendsMessage first given) → Q given) → IfSome input Q
+  with_way Q f = go input way sent
+    where
+      go : (i : Option (List ℕ)) → OnWay (answer by_parts) first i d a x old new → AreSent first i d a x → IfSome i Q
+      go None w s = tt
+      go (Some given) w s = f given w (subst (λ (o : Option (List ℕ)). IfSome o (λ bytes. holds (answer by_parts) SendsMessage d bytes → holds (answer by_parts) SendsMessage first given)) w.to_come_is s)
+
+  -- the input is over
+  pub sent_over : (o : Option Order) → o ≡ None → (KnowsEnd a x → IsNext (to_come a x) o a b y) → IfSome input (λ given. holds (answer by_parts) SendsMessage first given)
+  sent_over o is next = with_way _ (λ given w f.
+      let n = subst (λ (c : Option (List ℕ)). IsNext c None a b y) w.to_come_is (subst (λ (p : Option Order). IsNext (to_come a x) p a b y) is (next w.known)) in
+      f (subst (λ (l : List ℕ). holds (answer by_parts) SendsMessage d l) (sym n.none) tt))
+
+  -- the next order
+  ordered : (o : Option Order) (order : Order) → o ≡ Some order → (KnowsEnd a x → IsNext (to_come a x) o a b y) → (given : List ℕ) (w : IsOnWay (answer by_parts) first given d a x old new) → IsOrder w.bytes order a b y
+  ordered o order is next given w = subst (λ (c : Option (List ℕ)). IsNext c (Some order) a b y) w.to_come_is (subst (λ (p : Option Order). IsNext (to_come a x) p a b y) is (next w.known))
+
+  -- to quit
+  pub sent_quit : (o : Option Order) (order : Order) → o ≡ Some order → (KnowsEnd a x → IsNext (to_come a x) o a b y) → order ≡ Quit → IfSome input (λ given. holds (answer by_parts) SendsMessage first given)
+  sent_quit o order is next quit = with_way _ (λ given w f.
+      let n = ordered o order is next given w in
+      f (quits (answer by_parts) SendsMessage d w.bytes n.some (ap (λ c. c.request) (cut_is w.bytes Quit (sym quit ∙ n.order_is)))))
+
+  -- one that was answered
+  pub sent_reply : (t : Sitting Seen) (o : Option Order) (order : Order) (reply : List ℕ) (c : IntakeSeen) (z : Option (List ℕ)) → o ≡ Some order → (KnowsEnd a x → IsNext (to_come a x) o a b y) → KeepsEnd a x b y → (order ≡ Quit → ⊥)
+      → (KnowsEnd b y → IfSome (to_come b y) (λ bytes. IsReplied (answer by_parts d) bytes order reply t b c z)) → SendsMessage d (Does order) → AreSent first input t c z
+  sent_reply t o order reply c z is next keeps other replied sends = with_way _ (λ given w f.
+      let n = ordered o order is next given w in
+      let size = line_size w.bytes in
+      let rest = drop size w.bytes in
+      let r = subst (λ (p : Option (List ℕ)). IfSome p (λ bytes. IsReplied (answer by_parts d) bytes order reply t b c z)) (n.past).rest (replied (end_known a b x y w.bytes w.to_come_is w.known keeps)) in
+      let k = cut_after order rest in
+      let cut_so : (cut w.bytes) ≡ with_line size k = cut_is w.bytes order n.order_is in
+      let left : drop k.size rest ≡ drop (size + k.size) w.bytes = grind (arith, common_steps) in
+      let step : holds (answer by_parts) SendsMessage t (drop k.size rest) → holds (answer by_parts) SendsMessage d w.bytes = λ h.
+      begins (answer by_parts) SendsMessage d w.bytes k.request (size + k.size) n.some (ap (λ c. c.request) cut_so) (ap (λ c. c.size) cut_so) (λ q. other (cut_quit order rest q)) (sent_after d order rest sends)
+      (subst (λ (l : List ℕ). holds (answer by_parts) SendsMessage (answer by_parts d k.request).state l) left (subst (λ (u : Sitting Seen). holds (answer by_parts) SendsMessage u (drop k.size rest)) (r.answered).state_is h)) in
+      subst (λ (p : Option (List ℕ)). IfSome p (λ bytes. holds (answer by_parts) SendsMessage t bytes → holds (answer by_parts) SendsMessage first given)) (sym (r.past).rest) (λ h. f (step h)))

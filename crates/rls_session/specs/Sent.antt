@@ -1,0 +1,24 @@
+-- The messages that a session answers.
+use Rattle.std.specs.Prelude.{◌<◌, ℕ, List}
+use Rattle.rls_ops.specs.Spelling.{message_bytes}
+use Rattle.rls_codec.specs.CodecLaws.{IsMessage}
+use Rattle.rls_seen.specs.Messages.{message_over}
+use Rattle.rls_seen.specs.Seen.{Seen, members}
+use Rattle.rls_session.specs.declared.orders.Order.TheVariants.{Send}
+use Rattle.rls_session.specs.Answers.{Sitting, answer, sitting_at}
+use Rattle.rls_session.specs.Courses.{holds}
+use Rattle.rls_session.specs.Requests.{Request, Does}
+use Rattle.rls_session.specs.Sessions.{by_parts}
+
+-- the bytes for this member, if there is one, are its message, so that they are read as it
+abbrev pub CanSend : Seen → ℕ → Type 0
+CanSend s to = to < members s → IsMessage (message_bytes (message_over s to)) (message_over s to)
+
+-- what is answered to a request for a message is one
+abbrev pub SendsMessage : Sitting Seen → Request → Type 0
+SendsMessage d (Does (Send to)) = CanSend d.state to
+SendsMessage d request = Unit {0}
+
+-- to each such request of an input, from the replica on
+abbrev pub SendsMessages : Seen → List ℕ → Type 0
+SendsMessages s given = holds (answer by_parts) SendsMessage (sitting_at s) given
