@@ -1,5 +1,5 @@
 -- What a command on a file makes, from what it makes of the replica.
-use Rattle.std.proofs.Common.{◌≡◌, ◌≢◌, ◌∙◌, ℕ, List, Option, Some, None, IfSome, IsOk, Result, Ok, Err, refl, sym, ap, subst}
+use Rattle.std.proofs.Common.{◌≡◌, ◌≢◌, ◌∙◌, ℕ, List, Option, Some, None, IfOk, IfSome, IsOk, Result, Ok, Err, refl, sym, ap, subst}
 use Rattle.rls_report.specs.declared.failures.CommandError.{CommandError}
 use Rattle.rls_seen.specs.Seen.{Seen}
 use Rattle.rls_report.specs.declared.failures.Fault.TheVariants.{Keeper, Source, Sink, Memory}
@@ -14,15 +14,24 @@ use Rattle.rls_top.specs.declared.stages.InputError.{InputError}
 use Rattle.rls_top.specs.declared.stages.InputError.TheVariants as input
 use Rattle.rls_top.specs.declared.stages.MakeError.{MakeError}
 use Rattle.rls_top.specs.declared.stages.MakeError.TheVariants as make
+use Rattle.rls_top.specs.declared.words.Command.TheVariants.{OnFile}
 use Rattle.rls_top.specs.declared.words.FileCommand.{FileCommand}
+use Rattle.rls_top.specs.declared.words.FileCommand.TheVariants.{Send}
 use Rattle.rls_stages.specs.KeptFile.{loaded, replica_in, IsUsable}
 use Rattle.rls_top.specs.Due.{Due, due_at, due_of_file, due_on}
+use Rattle.rls_top.specs.Endings.{IsSent, IsSentBy, SendsMessage}
 use Rattle.rls_top.specs.Stages.{of_device, of_make}
 
 pub made_on_file : (c : FileCommand) (file : Option (Option (List ℕ))) (left : Option (List ℕ)) (s : Seen) (P : Due → Type 0) → IfSome file (λ kept. replica_in (loaded kept) ≡ Ok s) → IfSome (due_at c s left) P
     → IfSome (due_of_file c file left) P
 made_on_file c None left s P opened made = tt
 made_on_file c (Some kept) left s P opened made = subst (λ (r : Result Seen CommandError). IfSome (due_on c r left) P) (sym opened) made
+
+-- what the command sends at the replica of the file that was opened, it sends at the file
+pub sends_so : (c : FileCommand) (file : Option (Option (List ℕ))) (s : Seen) → IfSome file (λ kept. replica_in (loaded kept) ≡ Ok s) → IsSentBy c s → SendsMessage (Some (OnFile c)) file
+sends_so (Send to) None s opened sent = tt
+sends_so (Send to) (Some kept) s opened sent = subst (λ (r : Result Seen CommandError). IfOk r (IsSent to)) (sym opened) sent
+sends_so _ file s opened sent = tt
 
 -- a file that was opened can be used
 ok_is : (r : Result Seen CommandError) (s : Seen) → r ≡ Ok s → IsOk r

@@ -1,5 +1,5 @@
 -- The status and the lines, by how a command ended.
-use Rattle.std.proofs.Common.{◌≡◌, ◌≢◌, ◌∙◌, ◌⊎◌, ◌<◌, ℕ, Bool, true, false, cond, eqb, List, Option, Some, None, IfSome, IfErr, Result, Ok, Err, refl, sym, ap, subst, inl, inr, lit<, IsTrue, IsFalse}
+use Rattle.std.proofs.Common.{◌≡◌, ◌≢◌, ◌∙◌, ◌⊎◌, ◌<◌, ℕ, Bool, true, false, cond, eqb, List, Option, Some, None, IfSome, IfErr, OnOk, Result, Ok, Err, refl, sym, ap, subst, inl, inr, lit<, IsTrue, IsFalse}
 use Rattle.std.specs.Prelude.{option_map}
 use Rattle.rls_io.specs.Device.{Keeps}
 use Rattle.rls_report.specs.declared.failures.CommandError.{CommandError}
@@ -91,6 +91,10 @@ pub done_made : (r : Result Made Failure) (n : ℕ) → IsStatusOf r n → IsDon
 done_made (Ok made) n s h = (made, refl)
 done_made (Err f) n s (inl h) = not_failure f n 0 s h refl
 done_made (Err f) n s (inr h) = not_failure f n 5 s h refl
+
+-- what holds of all that was made
+pub done_so : (r : Result Made Failure) (n : ℕ) (X : Type 0) → IsStatusOf r n → OnOk r X → IsDone n → X
+done_so r n X s h done = let m = done_made r n s done in subst (λ (x : Result Made Failure). OnOk x X) m.1 h
 
 pub report_so : (d : Option Due) (r : Result Made Failure) (n : ℕ) (old new : Option (List ℕ)) → IsStatusOf r n → IfSome d (λ d. Reports r d old new) → IsDone n → IfSome d (λ d. IsWritten d old new)
 report_so d r n old new s h done =

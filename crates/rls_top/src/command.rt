@@ -31,7 +31,7 @@ ghost use Rattle.rls_top.specs.Calls.{Calls, HasFinished};
 ghost use Rattle.rls_top.specs.Due.{due, due_status, calls_keeper, may_store, reads_input};
 ghost use Rattle.rls_stages.specs.Endings.{IsFault, IsPart, Writes};
 ghost use Rattle.rls_stages.specs.KeptFile.{LeavesFile, Stays, IsUsable};
-ghost use Rattle.rls_top.specs.Endings.{IsDone, IsStored, MayStore, IsWritten, IsPartWritten, IsKept, line_at};
+ghost use Rattle.rls_top.specs.Endings.{IsDone, IsStored, MayStore, SendsMessage, IsWritten, IsPartWritten, IsKept, line_at};
 ghost use Rattle.rls_top.specs.Headline.{Asks, Shows, Saves, Refuses, IsFileTooLong, IsReadTooLong, IsTooLong, is_for, new_state};
 ghost use Rattle.rls_top.specs.Scripts.{leave_in, script_in};
 ghost use Rattle.rls_top.specs.Stages.{IsDue, IsEarly, Leaves, Reports, IsStatusOf, of_device, of_failure};
@@ -136,6 +136,9 @@ pub fn run<K: Keeper, S: Source, W: Sink, E: Sink>(
     ensures line { IfSome (line_at (due (map string_bytes words.now) (K.file keeper.old) (S.left input.old)) result) (λ line.
         Writes (Rose (E.faults errors.old) (E.faults errors.new)) (E.told errors.old) (E.told errors.new) line) }
 
+    // What is sent is a message, whether or not the kept file stands for a history.
+    ensures sent { IsDone result → SendsMessage (command_of (map string_bytes words.now)) (K.file keeper.old) }
+
     // What is kept: what is called for, or the file as it was.
     ensures file { IsStored result → IfSome (due (map string_bytes words.now) (K.file keeper.old) (S.left input.old)) (λ d. IsKept d (K.file keeper.old) (K.file keeper.new)) }
     ensures stays { (IsStored result → ⊥) → Stays (K.file keeper.old) (K.file keeper.new) }
@@ -167,6 +170,7 @@ fn perform<K: Keeper, S: Source, W: Sink>(
     ensures input { result ≡ Err (Fault Source) → IsTrue (reads_input (command_of (map string_bytes words.now))) × IfSome (K.file keeper.old) IsUsable × Rose (S.faults input.old) (S.faults input.new) }
     ensures output { result ≡ Err (Fault Sink) → Rose (W.faults output.old) (W.faults output.new) }
     ensures reports { IfSome (due (map string_bytes words.now) (K.file keeper.old) (S.left input.old)) (λ d. Reports result d (W.told output.old) (W.told output.new)) }
+    ensures sent { OnOk result (SendsMessage (command_of (map string_bytes words.now)) (K.file keeper.old)) }
     ensures nothing { IfErr result (λ f. f ≢ Fault Sink → W.told output.new ≡ W.told output.old) }
     ensures leaves { IfSome (due (map string_bytes words.now) (K.file keeper.old) (S.left input.old)) (λ d. Leaves result d (K.file keeper.old) (K.file keeper.new)) }
     ensures stays { IfErr result (λ f. f ≢ Fault Sink → Stays (K.file keeper.old) (K.file keeper.new)) }

@@ -1,9 +1,10 @@
 //! What a command makes.
 
-ghost use Rattle.std.specs.Prelude.{◌≡◌, ◌≢◌, ◌≤◌, Option, Some, None, Err, IfOk, IfErr, IfSome, IsErr, IsSome, IsTrue, IsFalse};
+ghost use Rattle.std.specs.Prelude.{◌≡◌, ◌≢◌, ◌≤◌, Option, Some, None, Err, IfOk, OnOk, IfErr, IfSome, IsErr, IsSome, IsTrue, IsFalse};
 ghost use Rattle.rls_io.specs.Device.{Rose, Keeps};
 ghost use Rattle.rls_top.specs.declared.words.Command.TheVariants as commands;
 ghost use Rattle.rls_top.specs.Due.{due_at, due_of_command, due_of_file, due_of_new, error_of_numbers, calls_keeper, may_store, reads_input};
+ghost use Rattle.rls_top.specs.Endings.{IsSentBy, SendsMessage};
 ghost use Rattle.rls_top.specs.Stages.{IsUncalled, IsDue, of_input, of_make};
 ghost use Rattle.rls_stages.specs.KeptFile.{IsUsable};
 ghost use Rattle.rls_seen.specs.Sane.{IsSane};
@@ -44,6 +45,7 @@ pub(crate) fn make<K: Keeper, S: Source>(
     ensures unread { IsFalse (reads_input (Some command)) → input.new ≡ input.old }
     ensures storing { IsTrue (may_store (Some command)) → IfOk result (λ made. IsSome made.stored) }
     ensures calls { IsTrue (calls_keeper (Some command)) → HasMade K.load_gives result keeper.old keeper.new }
+    ensures sent { OnOk result (SendsMessage (Some command) (K.file keeper.old)) }
     ensures unopened { IfErr result (λ e. UnlessOpened e (input.new ≡ input.old)) }
 {
     match command {
@@ -119,6 +121,7 @@ fn make_on_file<K: Keeper, S: Source>(
     ensures unread { IsFalse (reads_input (Some (commands.OnFile command))) → input.new ≡ input.old }
     ensures storing { IsTrue (may_store (Some (commands.OnFile command))) → IfOk result (λ made. IsSome made.stored) }
     ensures calls { HasMade K.load_gives result keeper.old keeper.new }
+    ensures sent { OnOk result (SendsMessage (Some (commands.OnFile command)) (K.file keeper.old)) }
     ensures unopened { IfErr result (λ e. UnlessOpened e (input.new ≡ input.old)) }
 {
     match open(alloc, keeper) {
@@ -144,6 +147,7 @@ fn make_of<S: Source>(
     ensures unstored { IsFalse (may_store (Some (commands.OnFile command))) → IfOk result (λ made. made.stored ≡ None) }
     ensures unread { IsFalse (reads_input (Some (commands.OnFile command))) → input.new ≡ input.old }
     ensures storing { IsTrue (may_store (Some (commands.OnFile command))) → IfOk result (λ made. IsSome made.stored) }
+    ensures sent { OnOk result (IsSentBy command replica.old) }
 {
     let made = match command {
         FileCommand::Text => show_text(alloc, replica)?,

@@ -1,10 +1,12 @@
 //! Commands that write something of the replica, and store nothing; and the trial.
 
-ghost use Rattle.std.specs.Prelude.{◌≡◌, ◌≤◌, None, IfOk, encode_utf8_all, string_bytes};
+ghost use Rattle.std.specs.Prelude.{◌≡◌, ◌≤◌, None, IfOk, OnOk, encode_utf8_all, string_bytes};
 ghost use Rattle.rls_seen.specs.Seen.{text_over};
 ghost use Rattle.rls_world.specs.Trial.{trial};
+ghost use Rattle.rls_store.specs.Stored.{AreWritable};
 ghost use Rattle.rls_top.specs.Due.{due_of_text, due_of_ids, due_of_stat, due_of_send, shows, summary_text};
 ghost use Rattle.rls_stages.specs.Errors.{of_work};
+ghost use Rattle.rls_top.specs.Endings.{IsSent};
 ghost use Rattle.rls_top.specs.Stages.{IsDue};
 
 use crate::made::{Made, showing};
@@ -44,7 +46,9 @@ pub(crate) fn show_stat(alloc: Global, replica: &Replica) -> Result<Made, WorkEr
 
 /// Shows the message for a member.
 pub(crate) fn show_message(alloc: Global, replica: &Replica, to: u32) -> Result<Made, WorkError>
+    requires writable { AreWritable replica.now }
     ensures due { IsDue of_work result (due_of_send replica.now to) }
+    ensures sent { OnOk result (IsSent to replica.now) }
     ensures unstored { IfOk result (λ made. made.stored ≡ None) }
 {
     match message_bytes(alloc, replica, to) {

@@ -4,7 +4,7 @@ use Rattle.rls_top.specs.Due.{Due, due}
 use Rattle.rls_stages.specs.Endings.{Writes}
 use Rattle.rls_top.specs.Words.{command_of}
 use Rattle.rls_top.proofs.Headlines.{Ran, bytes_refused, edits_refused, edits_saved, ids_shown, leave_refused, leave_saved, message_refused, message_saved, message_shown, new_saved, script_refused, send_refused, stat_shown, text_shown}
-use Rattle.rls_top.proofs.Statuses.{due_status_so, early_so, file_so, keeper_fault, line_so, no_command, no_keeper_fault, no_other, partly_so, report_so, sink_fault, source_fault, unstored_so}
+use Rattle.rls_top.proofs.Statuses.{done_so, due_status_so, early_so, file_so, keeper_fault, line_so, no_command, no_keeper_fault, no_other, partly_so, report_so, sink_fault, source_fault, unstored_so}
 use Rattle.rls_top.proofs.command.run.Goals as goal
 
 -- what the words call for
@@ -37,6 +37,9 @@ returns-clause-report g c = report_so (called_for g c) c.perform-ending.result c
 
 pub returns-clause-partly : goal.returns-clause-partly
 returns-clause-partly g c = partly_so (called_for g c) c.perform-ending.result c.tell.result (g.W.Sink.told c.args.output.now) (g.W.Sink.told c.perform-ending.new.output) c.tell.ensures.status c.perform-ending.ensures.reports
+
+pub returns-clause-sent : goal.returns-clause-sent
+returns-clause-sent g c = done_so c.perform-ending.result c.tell.result _ c.tell.ensures.status c.perform-ending.ensures.sent
 
 pub returns-clause-nothing : goal.returns-clause-nothing
 returns-clause-nothing g c = unstored_so c.perform-ending.result c.tell.result _ c.tell.ensures.status c.perform-ending.ensures.nothing
