@@ -174,11 +174,11 @@ def depth(room):
 
 
 def multiple(room):
-    """20 MB in 150,000 runs take at most the multiple of the file and the text together that docs/SPEED.md tells: 6 for `text` and 4 for others."""
+    """20 MB in 150,000 runs take at most the multiple of the file and the text together that docs/SPEED.md tells: 7 for `text` and 4 for others."""
     lots, letters = 150000, b"abcdefghij" * 13
     many = file4(7, 1, 0, (1,), [], [[(1, 0, 200 * lots)]], b"".join(run(typed(0, 1, 200 * k), 130) + text(letters) for k in range(lots)), count_of_runs=lots)
     for kind in KINDS:
-        for words, given, times in ((["text"], b"", 6), (["stat"], b"", 4), (["edit"], b"i 7 x\n", 4), (["send", "0"], b"", 4)):
+        for words, given, times in ((["text"], b"", 7), (["stat"], b"", 4), (["edit"], b"i 7 x\n", 4), (["send", "0"], b"", 4)):
             folder = room.replica(kind, many)
             # The program and its libraries take some room of their own.
             most = times * (len(many) + lots * len(letters)) // 1024 + 8000
