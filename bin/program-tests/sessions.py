@@ -142,7 +142,13 @@ def talk(room, folder, given, wanted, steps, piece):
         out = b""
         try:
             for begin in range(0, len(given), piece):
-                process.stdin.write(given[begin:begin + piece])
+                try:
+                    process.stdin.write(given[begin:begin + piece])
+                except BrokenPipeError:
+                    # It may have ended once all was answered: what comes after `q` has no reader.
+                    if out != wanted:
+                        raise
+                    break
                 sent = min(begin + piece, len(given))
                 due = max([length for end, length, _ in steps if end <= sent], default=0)
                 while len(out) < due:
