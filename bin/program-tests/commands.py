@@ -1,5 +1,5 @@
 """Every command with all its words: its status, its output, its line on standard error and the stored file, against tables whose values
-are from docs/USE.md, docs/FORMATS.md and the rows of the specification, over both keepers."""
+are from docs/USE.md and docs/FORMATS.md or were worked out by hand, over both keepers."""
 import os
 from forms import (EMPTY_MESSAGE, FRESH, FRESH_2, HELLO, HELLO_2, HELLO_3, HELLO_MESSAGE, JOURNAL, JOURNAL_2, LIMIT_INSERTION, MIDDLE, SPENT,
                    SPENT_2, at, deletion, epoch, file4, fresh, ident, insertion, message, run, runs, text, typed)
@@ -248,7 +248,7 @@ def cuts(room):
 
 
 def exchange(room):
-    """Renames at the same time, messages in both directions, and a member that leaves, as in the specification's rows."""
+    """Renames at the same time, messages in both directions, and a member that leaves, worked out by hand."""
     folders = [room.replica("slots", HELLO, "ada"), room.replica("file", HELLO_1, "ben")]
 
     def step(member, words, given=b""):

@@ -40,7 +40,7 @@ def refused(room, what, kind, content, words, given, numbers=None, is_session=Fa
 
 def small(room):
     """All requests of small commands."""
-    concurrent_0 = room_of_row_11(room)
+    in_groups = takes_in_groups(room)
     for kind in KINDS:
         # No keeper takes memory for a store, so most commands are tried over one of them.
         rows = [
@@ -49,7 +49,7 @@ def small(room):
             ("leave", HELLO, ["leave"], b""), ("a journal", JOURNAL, ["edit"], b"i 5 !\n"), ("a bad line", HELLO, ["edit"], b"i 0 A\nq\n"),
             ("a refused line", HELLO, ["edit"], b"i 0 A\ni 9 x\n"), ("a damaged file", HELLO[:90], ["text"], b""), ("no message", HELLO, ["take"], b"hello"),
             ("trial", HELLO, ["trial", "42", "12"], b""),
-        ] + [(what, content, words, given) for what, content, words, given in concurrent_0]
+        ] + [(what, content, words, given) for what, content, words, given in in_groups]
         for what, content, words, given in rows if kind == "file" else rows[1:2] + rows[5:6]:
             refused(room, what, kind, content, words, given)
         refused(room, "session", kind, HELLO, ["session"], SESSION if kind == "file" else b"i 0 A\nu\n", is_session=True)
@@ -58,7 +58,7 @@ def small(room):
     refused(room, "no command", "slots", None, ["nonsense"], b"")
 
 
-def room_of_row_11(room):
+def takes_in_groups(room):
     """Two members who rename at the same time, and three of whom two acknowledge: the last take of each."""
     folders = [room.replica("slots", HELLO, "ada"), room.replica("slots", HELLO_1, "ben")]
     room.run(folders[0], ["edit"], b"r\n")
