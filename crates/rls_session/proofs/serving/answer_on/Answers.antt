@@ -39,6 +39,12 @@ returns-in-Err-clause-output g c = λ e. c.in-Err.ensures.output (ap Err ((answe
 pub returns-in-Err-clause-prompt : goal.returns-in-Err-clause-prompt
 returns-in-Err-clause-prompt g c = λ e. rw c.new-desk.ensures.sitting at (c.in-Err.ensures.prompt (ap Err ((answer_failed c.in-Err.error c.from.result c.from.ensures).1 e)))
 
+pub returns-in-Err-clause-near : goal.returns-in-Err-clause-near
+returns-in-Err-clause-near g c = rw c.new-desk.ensures.sitting at c.in-Err.ensures.near
+
+pub returns-clause-near : goal.returns-clause-near
+returns-clause-near g c = rw c.new-desk.ensures.sitting at c.in-Ok.ensures.near
+
 pub returns-clause-leaves : goal.returns-clause-leaves
 returns-clause-leaves g c =
     saves_leave c.save.result c.args.replica c.answer_all.new.desk c.replica.result.now (g.S.Source.left c.args.input.now) (g.K.Keeper.file c.args.keeper.now) (g.K.Keeper.file c.save.new.keeper)
