@@ -24,7 +24,11 @@ use Rattle.rls_top.specs.declared.made.Made.{Made}
 use Rattle.rls_top.specs.declared.words.Command.TheVariants.{New}
 use Rattle.rls_stages.specs.KeptFile.{loaded, saved}
 use Rattle.rls_top.specs.Due.{Due, Stops, refused_lines, due_of_send, due_of_fresh, due_of_new, error_of_numbers, calls_keeper, stores}
-use Rattle.rls_stages.specs.Errors.{GivesError}
+use Rattle.rls_stages.specs.declared.errors.OpenError.{OpenError}
+use Rattle.rls_stages.specs.declared.errors.WorkError.{WorkError}
+use Rattle.rls_stages.specs.declared.errors.WorkError.TheVariants as work
+use Rattle.rls_stages.specs.Calls.{HasLoaded}
+use Rattle.rls_stages.specs.Errors.{GivesError, of_open, of_work, open_of_work}
 use Rattle.rls_top.specs.Stages.{EndsAs, IsMade, IsAsDue}
 
 -- an answer isn't an error
@@ -135,3 +139,22 @@ fresh_due group me members file found s report refused P h opened missing is wri
     let at_report = subst (λ (x : List ℕ). P (stores (saved (fresh group me members)) x refused)) written at_fresh in
     let at_refused = subst (λ (x : List (ℕ × ℕ × Reason)). P (stores (saved (fresh group me members)) (new_text group me members) x)) none at_report in
     loaded_due group me members file None P h (subst (λ (f : Option (Vec ℕ Global)). IfSome file (λ kept. loaded kept ≡ Ok (bytes_of f))) missing opened) at_refused
+
+-- ---- what is worked on ends early
+
+same_failure : (error : WorkError) → of_open (open_of_work error) ≡ of_work error
+same_failure (work.Command e) = refl
+same_failure work.OutOfMemory = refl
+
+-- and so does what opened the file for it
+pub works_due : (error : WorkError) (e : OpenError) (d : Due) → e ≡ open_of_work error → EndsAs (of_work error) d → EndsAs (of_open e) d
+works_due error e d is h = subst (λ (f : Failure). EndsAs f d) (sym (ap of_open is ∙ same_failure error)) h
+
+module _ {K : Type 0} (gives : K → Bool → K → Type 0) where
+  worked : (error : WorkError) (old new : K) → gives old true new → HasLoaded {X = Made} gives (Err (open_of_work error)) old new
+  worked (work.Command e) old new h = h
+  worked work.OutOfMemory old new h = inr (inl h)
+
+  -- the keeper was called once for it
+  pub works_called : (error : WorkError) (e : OpenError) (old new : K) → e ≡ open_of_work error → gives old true new → HasLoaded {X = Made} gives (Err e) old new
+  works_called error e old new is h = subst (λ (x : OpenError). HasLoaded {X = Made} gives (Err x) old new) (sym is) (worked error old new h)
