@@ -7,7 +7,6 @@ use Rattle.rls_parts.specs.Reading.{epochs_of, stable_of_parts}
 use Rattle.rls_parts.specs.Rules.{Broken, or_broken, row_fault, stem_fault, epoch_fault, text_fault, log_fault, whole_fault, ends_at_vector, are_retained, held_fault, broken}
 use Rattle.rls_rules.specs.declared.tested.PartsError.{PartsError}
 use Rattle.rls_rules.specs.declared.tested.PartsError.TheVariants as errors
-use Rattle.rls_rules.specs.declared.tested.Tested.{Tested}
 use Rattle.rls_rules.specs.Tested.{AreTested, IsLogTested}
 
 abbrev pub at : ℕ → ℕ → Broken
@@ -112,12 +111,12 @@ log_ok p r b t h = subst (IsLogTested p) h t
 pub log_err : (p : Parts) (r : Result Bool ℕ) (i : ℕ) → IsLogTested p r → r ≡ Err i → log_fault p (stable_of_parts p) 0 p.log ≡ Some i
 log_err p r i t h = subst (IsLogTested p) h t
 
-same_rule : (r i s j : ℕ) → ◌≡◌ {A = Result Tested PartsError} (Err (errors.Broken r i)) (Err (errors.Broken s j)) → r ≡ s
+same_rule : {A : Type 0} (r i s j : ℕ) → ◌≡◌ {A = Result A PartsError} (Err (errors.Broken r i)) (Err (errors.Broken s j)) → r ≡ s
 same_rule r i s j e = cc
 
-same_index : (r i s j : ℕ) → ◌≡◌ {A = Result Tested PartsError} (Err (errors.Broken r i)) (Err (errors.Broken s j)) → i ≡ j
+same_index : {A : Type 0} (r i s j : ℕ) → ◌≡◌ {A = Result A PartsError} (Err (errors.Broken r i)) (Err (errors.Broken s j)) → i ≡ j
 same_index r i s j e = cc
 
 -- the answer tells the rule and the place
-pub told : (p : Parts) (r i s j : ℕ) → ◌≡◌ {A = Result Tested PartsError} (Err (errors.Broken r i)) (Err (errors.Broken s j)) → broken p ≡ Some (at r i) → broken p ≡ Some (at s j)
+pub told : {A : Type 0} (p : Parts) (r i s j : ℕ) → ◌≡◌ {A = Result A PartsError} (Err (errors.Broken r i)) (Err (errors.Broken s j)) → broken p ≡ Some (at r i) → broken p ≡ Some (at s j)
 told p r i s j e h = h ∙ (ap (λ x. Some (at x i)) (same_rule r i s j e) ∙ ap (λ x. Some (at s x)) (same_index r i s j e))
