@@ -28,7 +28,6 @@ use std::marker::Model;
 const FEWEST_STEPS: usize = 2;
 
 /// A topmost epoch and the nodes below it, some of which are marked. The earliest node comes first.
-#[derive(Drop)]
 pub struct Epochs {
     tree: Tree,
     // for each node the rank of the greatest epoch that its member opened up to it
@@ -51,6 +50,18 @@ impl Model for Epochs {
     } };
 
     ghost invariant = { λ a. IsWhole a.tree.nodes.top a.tree.nodes.placed a.tree.order.items a.ranks.items a.marks.items a.total };
+}
+
+// Written out, and not derived, so that the proof of a caller sees one call and not the drop of each field.
+impl Drop for Epochs {
+    fn drop(self) {
+        let Epochs {
+            tree: _tree,
+            ranks: _ranks,
+            marks: _marks,
+            total: _,
+        } = self;
+    }
 }
 
 impl Epochs {

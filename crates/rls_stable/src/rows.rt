@@ -9,7 +9,6 @@ use std::marker::Model;
 
 // The own number, the own row, the rows of the others, and who has left. The own place among the
 // others isn't used.
-#[derive(Drop)]
 pub(crate) struct Rows {
     me: u32,
     mine: Vector,
@@ -25,6 +24,18 @@ impl Model for Rows {
     ghost view = { λ r. record { me = r.me; mine = r.mine; others = r.others.items; left = r.left.items } };
 
     ghost invariant = { λ r. AreRows (record { me = r.me; mine = r.mine; others = r.others.items; left = r.left.items }) };
+}
+
+// Written out, and not derived, so that the proof of a caller sees one call and not the drop of each field.
+impl Drop for Rows {
+    fn drop(self) {
+        let Rows {
+            me: _,
+            mine: _mine,
+            others: _others,
+            left: _left,
+        } = self;
+    }
 }
 
 impl Rows {
