@@ -11,7 +11,6 @@ use std::marker::Model;
 use std::sync::Arc;
 
 /// Why an operation is refused. Of several reasons the first in this order counts. A refused operation changes nothing.
-#[derive(Drop)]
 pub enum Refusal {
     /// Its shape is wrong.
     Shape(Shape),
@@ -29,6 +28,22 @@ pub enum Refusal {
     WrongStem { due: Option<u32> },
     /// A target of a deletion is no character's identifier; the first such target.
     UnknownTarget { id: Ident },
+}
+
+// Written out, and not derived, so that the proof of a caller sees one call and not the drop of each case.
+impl Drop for Refusal {
+    fn drop(self) {
+        match self {
+            Refusal::Shape(_) => {}
+            Refusal::Own { seq: _ } => {}
+            Refusal::Forked { held: _held } => {}
+            Refusal::Left { seq: _ } => {}
+            Refusal::Backward { known: _known } => {}
+            Refusal::WrongEpoch { due: _ } => {}
+            Refusal::WrongStem { due: _ } => {}
+            Refusal::UnknownTarget { id: _id } => {}
+        }
+    }
 }
 
 /// What became of an operation that arrived.
