@@ -21,7 +21,6 @@ use std::sync::Arc;
 
 /// Waiting operations, at most one under each author and number, seen as the list of them in increasing order of author and
 /// number.
-#[derive(Drop)]
 pub struct Held {
     alloc: Global,
     // The operations of each author, in increasing order of author. A queue stays when its last operation was taken out.
@@ -41,6 +40,17 @@ impl Model for Held {
     ghost view = { λ h. joined (values h.queues) };
 
     ghost invariant = { λ h. IsHeld h.queues.entries h.len };
+}
+
+// Written out, and not derived, so that the proof of a caller sees one call and not the drop of each field.
+impl Drop for Held {
+    fn drop(self) {
+        let Held {
+            alloc: _,
+            queues: _queues,
+            len: _,
+        } = self;
+    }
 }
 
 /// How an operation was put among those that wait.

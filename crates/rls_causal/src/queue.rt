@@ -17,7 +17,6 @@ use std::marker::Model;
 use std::sync::Arc;
 
 /// An operation that waits, and a copy of it to be shared, made when it is asked for first.
-#[derive(Drop)]
 pub(crate) struct Waiting {
     op: Op,
     shared: Option<Arc<Op>>,
@@ -32,6 +31,16 @@ impl Model for Waiting {
     ghost view = { λ w. w.op };
 
     ghost invariant = { λ w. IfSome w.shared (λ a. a.value ≡ w.op) };
+}
+
+// Written out, and not derived, so that the proof of a caller sees one call and not the drop of each field.
+impl Drop for Waiting {
+    fn drop(self) {
+        let Waiting {
+            op: _op,
+            shared: _shared,
+        } = self;
+    }
 }
 
 impl Waiting {
@@ -50,7 +59,11 @@ impl Waiting {
     fn into_op(self) -> Op
         ensures op { result ≡ self }
     {
-        self.op
+        let Waiting {
+            op,
+            shared: _shared,
+        } = self;
+        op
     }
 
     // The copy that is shared. It takes memory for it the first time.
