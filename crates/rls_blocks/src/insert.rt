@@ -1,6 +1,6 @@
 //! One more run in a tree.
 
-ghost use Rattle.std.specs.Prelude.{◌≡◌, ◌+◌, ◌-◌, ◌^◌, ◌<◌, ◌≤◌, ◌++◌, length, Some, None, IfOk, IfErr, IsTrue, false};
+ghost use Rattle.std.specs.Prelude.{◌≡◌, ◌+◌, ◌-◌, ◌^◌, ◌<◌, ◌≤◌, ◌++◌, length, Some, None, IfOk, IfErr, OnOk, OnErr, IsTrue, false};
 ghost use Rattle.rls_ident.specs.Identifiers.{follows};
 ghost use Rattle.rls_runs.specs.Runs.{run_before, run_last, is_increasing};
 ghost use Rattle.rls_runs.specs.Entries.{idents_in};
@@ -138,21 +138,39 @@ fn fill(
     let _run = run.len();
     let middle = Block::new(run, text);
     if first.len() <= last.len() {
-        let Ok((run, text)) = with_next(middle, &first) else {
-            return Err((last, first));
-        };
-        return match last.grow(Side::Behind, &run, text) {
+        return match fill_behind(&mut last, middle, &first) {
             Ok(()) => Ok(last),
             Err(_) => Err((last, first)),
         };
     }
-    let Ok((run, text)) = with_last(&last, middle) else {
-        return Err((last, first));
-    };
-    match first.grow(Side::Front, &run, text) {
+    match fill_front(&last, middle, &mut first) {
         Ok(()) => Ok(first),
         Err(_) => Err((last, first)),
     }
+}
+
+// A block grows by the block after it, and by the block after that.
+fn fill_behind(last: &mut Single, middle: Block, first: &Single) -> Result<(), AllocError>
+    requires ends { IsTrue (follows middle.0.0 (run_last last.old.0)) }
+    requires begins { IsTrue (follows first.now.0.0 (run_last middle.0)) }
+    ensures ok { OnOk result (last.new ≡ joined last.old (joined middle first.now)) }
+    ensures err { OnErr result (last.new ≡ last.old) }
+{
+    let (run, text) = with_next(middle, first)?;
+    last.grow(Side::Behind, &run, text)
+}
+
+// A block grows by the block in front of it, and by the block in front of that.
+fn fill_front(last: &Single, middle: Block, first: &mut Single) -> Result<(), AllocError>
+    requires ends { IsTrue (follows middle.0.0 (run_last last.now.0)) }
+    requires begins { IsTrue (follows first.old.0.0 (run_last middle.0)) }
+    ensures ok { OnOk result (first.new ≡ joined last.now (joined middle first.old)) }
+    ensures err { OnErr result (first.new ≡ first.old) }
+{
+    let _last = last.len();
+    let _middle = middle.len();
+    let (run, text) = with_last(last, middle)?;
+    first.grow(Side::Front, &run, text)
 }
 
 // A block, grown by the block after it.

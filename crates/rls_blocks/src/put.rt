@@ -83,7 +83,7 @@ fn grow(mut opened: Opened, side: Side, piece: Block) -> Result<Link, Link>
     ensures err { IfErr result (λ old. old.blocks ≡ opened.left.blocks ++ opened.own ∷ opened.right.blocks) }
 {
     let (run, text) = piece.into_parts();
-    match opened.own.grow(side, &run, text) {
+    match opened.grow(side, &run, text) {
         Ok(()) => Ok(opened.close()),
         Err(_) => Err(opened.close()),
     }
