@@ -20,7 +20,6 @@ use std::mem;
 
 /// Characters with identifiers that strictly increase, kept as a balanced tree of blocks, each a
 /// maximal run with its characters.
-#[derive(Drop)]
 pub struct BlockTree {
     root: Link,
     alloc: Global,
@@ -36,6 +35,16 @@ impl Model for BlockTree {
     ghost view = { λ t. t.root };
 
     ghost invariant = { λ t. IsTrue (are_apart None (runs_in t.root.blocks)) };
+}
+
+// Written out, and not derived, so that the proof of a caller sees one call and not the drop of each field.
+impl Drop for BlockTree {
+    fn drop(self) {
+        let BlockTree {
+            root: _root,
+            alloc: _,
+        } = self;
+    }
 }
 
 impl BlockTree {
