@@ -7,10 +7,11 @@ ghost use Rattle.rls_rename.specs.Tree.{is_kept};
 ghost use Rattle.rls_epoch.specs.Seen.{is_marked};
 ghost use Rattle.rls_ops.specs.declared.op.Op.{Op};
 ghost use Rattle.rls_ops.specs.Rows.{missing_for};
-ghost use Rattle.rls_model.specs.Parts.{parts};
+ghost use Rattle.rls_model.specs.Parts.{parts, epoch_parts, text_runs};
 ghost use Rattle.rls_model.specs.Receiving.{State};
 ghost use Rattle.rls_model.specs.Retained.{counts};
-ghost use Rattle.rls_seen.specs.Kept.{marked_over, retained_over, dropped, counts_over, parts_over, kept_operations, kept_epochs, kept_former};
+ghost use Rattle.rls_seen.specs.Seen.{members, unstable_over, vector};
+ghost use Rattle.rls_seen.specs.Kept.{marked_over, retained_over, dropped, counts_over, parts_over, kept_operations, kept_epochs, kept_former, other_rows, left_below};
 ghost use Rattle.rls_seen.specs.Stands.{StandsFor};
 ghost use Rattle.rls_replica.specs.KeptJust.{KeepsJust};
 
@@ -18,7 +19,8 @@ use crate::replica::Replica;
 use rls_doc::Document;
 use rls_epoch::{Epochs, Retained};
 use rls_ident::{EpochName, Vector};
-use rls_model::{Counts, Parts};
+use rls_model::{Counts, EpochParts, Members, Parts, Rows, Stems, TextRuns};
+use rls_ops::Ops;
 use rls_snapshot::{epoch_parts, left_members, missing, other_rows, text_runs, waiting};
 use rls_stable::Log;
 use std::alloc::AllocError;
@@ -95,20 +97,51 @@ impl Replica {
         ensures stands { IfOk result (λ p. (t : State) → StandsFor self.now t → p ≡ parts t) }
     {
         let members = self.members();
-        let (_, retained) = self.unstable_and_retained()?;
+        let (vector, rows, stems, left) = self.copy_numbers(members)?;
+        let (epochs, text, log, held) = self.copy_contents()?;
         Ok(Parts {
             group: self.group,
             members,
             me: self.me(),
-            vector: self.acks.mine().copy()?,
-            rows: other_rows(self.alloc, &self.acks, members)?,
-            stems: self.stems.to_stems()?,
-            epochs: epoch_parts(self.alloc, &self.epochs, &retained.names)?,
-            text: text_runs(self.alloc, &self.document)?,
-            log: missing(self.alloc, &self.log, self.acks.stable())?,
-            held: waiting(self.alloc, &self.held)?,
-            left: left_members(self.alloc, &self.acks, members)?,
+            vector,
+            rows,
+            stems,
+            epochs,
+            text,
+            log,
+            held,
+            left,
         })
+    }
+
+    // The parts that are numbers: the vector, the rows of the others, the stems, and who has left. There are so many members.
+    fn copy_numbers(&self, count: u32) -> Result<(Vector, Rows, Stems, Members), AllocError>
+        requires members { count ≡ members self.now }
+        ensures vector { IfOk result (λ all. all.0 ≡ vector self.now) }
+        ensures rows { IfOk result (λ all. all.1 ≡ other_rows self.now.acks count) }
+        ensures stems { IfOk result (λ all. all.2 ≡ self.now.stems) }
+        ensures left { IfOk result (λ all. all.3 ≡ left_below self.now.acks count) }
+    {
+        let vector = self.acks.mine().copy()?;
+        let rows = other_rows(self.alloc, &self.acks, count)?;
+        let stems = self.stems.to_stems()?;
+        let left = left_members(self.alloc, &self.acks, count)?;
+        Ok((vector, rows, stems, left))
+    }
+
+    // The other parts: the epochs, the text, the unstable operations, and those that wait.
+    fn copy_contents(&self) -> Result<(EpochParts, TextRuns, Ops, Ops), AllocError>
+        ensures epochs { IfOk result (λ all. all.0 ≡ epoch_parts self.now.epochs.nodes (retained_over self.now)) }
+        ensures text { IfOk result (λ all. all.1 ≡ text_runs self.now.text) }
+        ensures log { IfOk result (λ all. all.2 ≡ unstable_over self.now) }
+        ensures held { IfOk result (λ all. all.3 ≡ self.now.waiting) }
+    {
+        let (_, retained) = self.unstable_and_retained()?;
+        let epochs = epoch_parts(self.alloc, &self.epochs, &retained.names)?;
+        let text = text_runs(self.alloc, &self.document)?;
+        let log = missing(self.alloc, &self.log, self.acks.stable())?;
+        let held = waiting(self.alloc, &self.held)?;
+        Ok((epochs, text, log, held))
     }
 
     // How many operations are unstable, and the epochs that must stay.

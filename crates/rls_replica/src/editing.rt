@@ -158,19 +158,19 @@ impl Replica {
         requires fits { early_fault self.now edit.now ≡ None }
         ensures body { IfOk result (λ b. b ≡ made_body self.now edit.now) }
     {
-        Ok(match edit {
-            Edit::Insert { at, text } => Body::Insert {
+        match edit {
+            Edit::Insert { at, text } => Ok(Body::Insert {
                 first: self.first_at(*at, text.len())?,
                 text: text.copy()?,
-            },
-            Edit::Delete { at, count } => Body::Delete {
+            }),
+            Edit::Delete { at, count } => Ok(Body::Delete {
                 targets: self.document.runs_of(*at, *count)?,
-            },
-            Edit::Rename => Body::Rename {
+            }),
+            Edit::Rename => Ok(Body::Rename {
                 former: self.document.runs_of(0, self.total())?,
-            },
-            Edit::Leave => Body::Leave,
-        })
+            }),
+            Edit::Leave => Ok(Body::Leave),
+        }
     }
 
     // The first identifier of an insertion of so many characters at a place.

@@ -32,7 +32,6 @@ use std::marker::Model;
 /// change too, are no part of it: they tell where to look first, and no answer depends on them. Nor are the identifiers that are noted
 /// as gone, of which the invariant says that they are all that some unstable deletions name: what isn't among them needn't be looked
 /// for in these.
-#[derive(Drop)]
 pub struct Replica {
     pub(crate) alloc: Global,
     pub(crate) group: u64,
@@ -58,6 +57,25 @@ impl Model for Replica {
     ghost view = { seen };
 
     ghost invariant = { λ r. IsWhole (seen r) r.stems.members r.gone };
+}
+
+// Written out, and not derived, so that the proof of a caller sees one call and not the drop of each field.
+impl Drop for Replica {
+    fn drop(self) {
+        let Replica {
+            alloc: _,
+            group: _,
+            acks: _acks,
+            stems: _stems,
+            epochs: _epochs,
+            document: _document,
+            held: _held,
+            log: _log,
+            hints: _hints,
+            gone: _gone,
+            wanted: _wanted,
+        } = self;
+    }
 }
 
 /// Why there is no such replica.

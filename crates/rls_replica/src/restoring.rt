@@ -18,8 +18,8 @@ ghost use Rattle.rls_replica.specs.Fitting.{HaveFormer, AreFit};
 
 use crate::replica::Replica;
 use rls_causal::Held;
-use rls_model::{EpochPart, Parts, TextRun};
-use rls_ops::Op;
+use rls_model::{EpochPart, Parts, TextRun, TextRuns};
+use rls_ops::{Op, Ops};
 use rls_rules::{PartsError, Tested, test_all};
 use rls_stable::Log;
 use rls_tree::{Block, BlockTree};
@@ -56,8 +56,7 @@ impl Replica {
             held: waiting,
             ..
         } = parts;
-        let document = document(alloc, text.into_vec())?;
-        let held = held(alloc, waiting.as_slice())?;
+        let (document, held) = text_and_waiting(alloc, text, &waiting)?;
         Ok(Replica {
             alloc,
             group,
@@ -114,6 +113,24 @@ fn ops_fit(ops: &[Op])
     for op in ops {
         op.fits();
     }
+}
+
+// The tree of these runs, and these waiting operations, which stand in order.
+fn text_and_waiting(
+    alloc: Global,
+    text: TextRuns,
+    waiting: &Ops,
+) -> Result<(BlockTree, Held), AllocError>
+    requires texts { HaveTexts text }
+    requires apart { IsTrue (are_apart None (map (λ r. r.run) text)) }
+    requires few { length text < 2 ^ 32 }
+    requires order { IsTrue (is_in_order waiting.now) }
+    ensures text { IfOk result (λ both. entries_of (both.0).blocks ≡ entries_in text) }
+    ensures held { IfOk result (λ both. both.1 ≡ waiting.now) }
+{
+    let document = document(alloc, text.into_vec())?;
+    let held = held(alloc, waiting.as_slice())?;
+    Ok((document, held))
 }
 
 // The tree of these runs.

@@ -1,13 +1,11 @@
-use Rattle.std.proofs.Common.{◌≡◌, true, length, sym, ap, ◌∙◌, subst}
+use Rattle.std.proofs.Common.{length, sym, ap, ◌∙◌, subst}
 use Rattle.rls_ops.specs.Rows.{AcksSeen}
-use Rattle.rls_ops.specs.Waiting.{is_in_order}
 use Rattle.rls_seen.specs.Kept.{parts_over}
 use Rattle.rls_seen.specs.Sane.{IsSane}
 use Rattle.rls_seen.specs.Stands.{StandsFor}
 use Rattle.rls_blocks.specs.Trees.{entries_of}
 use Rattle.rls_parts.specs.Given.{AreRanged}
 use Rattle.rls_parts.specs.Restored.{seen_of}
-use Rattle.rls_parts.specs.Restored.{entries_of as entries_in}
 use Rattle.rls_parts.specs.Rules.{broken}
 use Rattle.rls_parts.proofs.Passing.{passes}
 use Rattle.rls_parts.proofs.RestoredLog.{held_restored}
@@ -17,18 +15,18 @@ use Rattle.rls_parts.proofs.StandsAgain.{stand}
 use Rattle.rls_replica.proofs.GivenPieces.{held_order, seen_so}
 use Rattle.rls_replica.proofs.replica.Replica.from_parts.Goals as goal
 
-pub held-requires : goal.held-requires
-held-requires c =
+pub text_and_waiting-requires-clause-order : goal.text_and_waiting-requires-clause-order
+text_and_waiting-requires-clause-order c =
     let p = c.args.parts in
     let made = c.in_ok-acks.ensures.made in
-    record { order = subst (λ ws. is_in_order ws ≡ true) (sym c.as_slice.ensures.ops) (held_order (length p.vector) p.vector p.held (held_restored p c.requires.given c.fit.ensures.ranged.held (passes p made.unbroken).held)) }
+    (held_order (length p.vector) p.vector p.held (held_restored p c.requires.given c.fit.ensures.ranged.held (passes p made.unbroken).held))
 
 pub invariant_of-result : goal.invariant_of-result
 invariant_of-result c =
     let p = c.args.parts in
     let a = c.in_ok-acks.field-0 in
     let made = c.in_ok-acks.ensures.made in
-    let same = seen_so p a.acks (a.stems).stems (a.epochs).epochs (entries_of c.in_ok-document.document.blocks) c.in_ok-held.held c.of.result.ops made.acks made.stems made.epochs (c.in_ok-document.ensures.text ∙ ap entries_in c.into_vec.ensures.items) (c.in_ok-held.ensures.held ∙ c.as_slice.ensures.ops) c.of.ensures.ops in
+    let same = seen_so p a.acks (a.stems).stems (a.epochs).epochs (entries_of c.in_ok-document.document.blocks) c.in_ok-document.held c.of.result.ops made.acks made.stems made.epochs c.in_ok-document.ensures.text c.in_ok-document.ensures.held c.of.ensures.ops in
     record {
       sane = subst IsSane (sym same) (sane p c.requires.given c.fit.ensures.ranged made.unbroken);
       authors_are = made.members ∙ (sym c.requires.given.vector ∙ sym (ap (λ (x : AcksSeen). length x.mine) made.acks));
@@ -39,7 +37,7 @@ pub returns-clause-replica : goal.returns-clause-replica
 returns-clause-replica c =
     let a = c.in_ok-acks.field-0 in
     let made = c.in_ok-acks.ensures.made in
-    seen_so c.args.parts a.acks (a.stems).stems (a.epochs).epochs (entries_of c.in_ok-document.document.blocks) c.in_ok-held.held c.of.result.ops made.acks made.stems made.epochs (c.in_ok-document.ensures.text ∙ ap entries_in c.into_vec.ensures.items) (c.in_ok-held.ensures.held ∙ c.as_slice.ensures.ops) c.of.ensures.ops
+    seen_so c.args.parts a.acks (a.stems).stems (a.epochs).epochs (entries_of c.in_ok-document.document.blocks) c.in_ok-document.held c.of.result.ops made.acks made.stems made.epochs c.in_ok-document.ensures.text c.in_ok-document.ensures.held c.of.ensures.ops
 
 pub returns-clause-back : goal.returns-clause-back
 returns-clause-back c =
