@@ -1,6 +1,7 @@
 //! Operations.
 
 ghost use Rattle.std.specs.Prelude.{◌≡◌, ◌<◌, ◌++◌, ◌∷◌, ◌==◌, [], Some, IfOk, OnOk, OnErr, length, slice_get};
+ghost use Rattle.rls_ops.specs.declared.op.Body.TheVariants.{Insert};
 ghost use Rattle.rls_ops.specs.Waiting.{comes_before};
 ghost use Rattle.rls_ops.specs.WellFormed.{IsOp, AreOps, IsBody, IsName, IsInRange};
 
@@ -24,7 +25,6 @@ pub enum Body {
 }
 
 /// What a member did, with its number, its causes and the epoch in which it was done.
-#[derive(Drop)]
 pub struct Op {
     /// The member that did it.
     pub author: u32,
@@ -35,6 +35,19 @@ pub struct Op {
     /// The epoch of the identifiers in the body: the greatest that the author knew.
     pub epoch: EpochName,
     pub body: Body,
+}
+
+// Written out, and not derived, so that the proof of a caller sees one call and not the drop of each field.
+impl Drop for Op {
+    fn drop(self) {
+        let Op {
+            author: _,
+            seq: _,
+            context: _context,
+            epoch: _,
+            body: _body,
+        } = self;
+    }
 }
 
 /// A list of operations.
@@ -152,6 +165,21 @@ impl Op {
             body: self.body.copy()?,
         })
     }
+
+    /// Its epoch and what it does. The rest is given up.
+    pub fn into_body(self) -> (EpochName, Body)
+        ensures epoch { result.0 ≡ self.epoch }
+        ensures body { result.1 ≡ self.body }
+    {
+        let Op {
+            author: _,
+            seq: _,
+            context: _context,
+            epoch,
+            body,
+        } = self;
+        (epoch, body)
+    }
 }
 
 impl Body {
@@ -178,20 +206,26 @@ impl Body {
     pub fn copy(&self) -> Result<Body, AllocError>
         ensures copy { IfOk result (λ body. body ≡ self.now) }
     {
-        Ok(match self {
-            Body::Insert { first, text } => Body::Insert {
-                first: first.copy()?,
-                text: text.copy()?,
-            },
-            Body::Delete { targets } => Body::Delete {
+        match self {
+            Body::Insert { first, text } => copy_insertion(first, text),
+            Body::Delete { targets } => Ok(Body::Delete {
                 targets: targets.copy()?,
-            },
-            Body::Rename { former } => Body::Rename {
+            }),
+            Body::Rename { former } => Ok(Body::Rename {
                 former: former.copy()?,
-            },
-            Body::Leave => Body::Leave,
-        })
+            }),
+            Body::Leave => Ok(Body::Leave),
+        }
     }
+}
+
+fn copy_insertion(first: &Ident, text: &Text) -> Result<Body, AllocError>
+    ensures copy { IfOk result (λ body. body ≡ Insert first.now text.now) }
+{
+    Ok(Body::Insert {
+        first: first.copy()?,
+        text: text.copy()?,
+    })
 }
 
 fn name_fits(name: &EpochName)

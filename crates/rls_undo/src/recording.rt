@@ -61,7 +61,7 @@ fn insertion(alloc: Global, op: Op) -> Result<Option<Entry>, EditError>
     ensures whole { IfOk result (λ e. AreWhole (entry_list e)) }
     ensures fault { IfErr result (λ e. e ≡ EditError.OutOfMemory) }
 {
-    let Op { epoch, body, .. } = op;
+    let (epoch, body) = op.into_body();
     let Body::Insert { first, text } = body else {
         return Ok(None);
     };
@@ -86,7 +86,7 @@ fn deletion(op: Op, gone: Text) -> Result<Option<Entry>, EditError>
     ensures fault { IfErr result (λ e. e ≡ EditError.OutOfMemory) }
 {
     let _len = gone.len();
-    let Op { epoch, body, .. } = op;
+    let (epoch, body) = op.into_body();
     let Body::Delete { targets } = body else {
         return Ok(None);
     };
