@@ -63,17 +63,71 @@ fn forward_gap(
     requires within { gap ≤ length former.now }
     ensures forward { IfOk result (λ z. GoesAlong (forward_by first former.now) run.now.0 run.now.1 z.first z.len) }
 {
-    let (total, len) = (former.total(), run.len());
+    let total = former.total();
     if gap == 0 {
-        let a = former.get(0)?;
-        let x = Stretch::below(run, &a)?;
-        return new_below(first, old_below_inverse(alloc, &a, x)?);
+        return forward_below(alloc, former, first, run);
     }
-    let a = former.get(gap - 1)?;
     if gap == total {
-        let x = Stretch::front(run, len)?;
-        return new_above(first, gap - 1, old_above_inverse(alloc, &a, x)?);
+        return forward_above(alloc, former, first, gap, run);
     }
+    forward_between(alloc, former, first, gap, run)
+}
+
+// The same, below all former identifiers.
+fn forward_below(
+    alloc: Global,
+    former: &Runs,
+    first: Spot,
+    run: &Run,
+) -> Result<Stretch, AllocError>
+    requires former { IsFormer former.now }
+    requires most { length former.now ≤ IDENTIFIERS }
+    requires gap { place_of run.now.0 former.now ≡ Err 0 }
+    ensures forward { IfOk result (λ z. GoesAlong (forward_by first former.now) run.now.0 run.now.1 z.first z.len) }
+{
+    let a = former.get(0)?;
+    let x = Stretch::below(run, &a)?;
+    new_below(first, old_below_inverse(alloc, &a, x)?)
+}
+
+// The same, above all former identifiers.
+fn forward_above(
+    alloc: Global,
+    former: &Runs,
+    first: Spot,
+    gap: u64,
+    run: &Run,
+) -> Result<Stretch, AllocError>
+    requires former { IsFormer former.now }
+    requires most { length former.now ≤ IDENTIFIERS }
+    requires gap { place_of run.now.0 former.now ≡ Err gap }
+    requires some { 0 < gap }
+    requires end { gap ≡ length former.now }
+    ensures forward { IfOk result (λ z. GoesAlong (forward_by first former.now) run.now.0 run.now.1 z.first z.len) }
+{
+    let len = run.len();
+    let a = former.get(gap - 1)?;
+    let x = Stretch::front(run, len)?;
+    new_above(first, gap - 1, old_above_inverse(alloc, &a, x)?)
+}
+
+// The same, between two former identifiers.
+fn forward_between(
+    alloc: Global,
+    former: &Runs,
+    first: Spot,
+    gap: u64,
+    run: &Run,
+) -> Result<Stretch, AllocError>
+    requires former { IsFormer former.now }
+    requires most { length former.now ≤ IDENTIFIERS }
+    requires gap { place_of run.now.0 former.now ≡ Err gap }
+    requires some { 0 < gap }
+    requires within { gap < length former.now }
+    ensures forward { IfOk result (λ z. GoesAlong (forward_by first former.now) run.now.0 run.now.1 z.first z.len) }
+{
+    let _len = run.len();
+    let a = former.get(gap - 1)?;
     let b = former.get(gap)?;
     let x = Stretch::below(run, &b)?;
     new_between(first, gap - 1, old_between_inverse(alloc, &a, b, x)?)
@@ -139,17 +193,66 @@ fn back_gap(
     requires within { gap ≤ length former.now }
     ensures back { IfOk result (λ x. GoesAlong (back_by first former.now) run.now.0 run.now.1 x.first x.len) }
 {
-    let (total, len) = (former.total(), run.len());
+    let total = former.total();
     if gap == 0 {
-        let a = former.get(0)?;
-        let z = Stretch::below(run, &new_at(alloc, first, 0))?;
-        return old_below(alloc, &a, new_below_inverse(first, z)?);
+        return back_below(alloc, former, first, run);
     }
-    let a = former.get(gap - 1)?;
     if gap == total {
-        let z = Stretch::front(run, len)?;
-        return old_above(alloc, &a, new_above_inverse(first, gap - 1, z)?);
+        return back_above(alloc, former, first, gap, run);
     }
+    back_between(alloc, former, first, gap, run)
+}
+
+// The same, below all new identifiers.
+fn back_below(alloc: Global, former: &Runs, first: Spot, run: &Run) -> Result<Stretch, AllocError>
+    requires former { IsFormer former.now }
+    requires most { length former.now ≤ IDENTIFIERS }
+    requires gap { place_of run.now.0 (new_from first 0 former.now) ≡ Err 0 }
+    ensures back { IfOk result (λ x. GoesAlong (back_by first former.now) run.now.0 run.now.1 x.first x.len) }
+{
+    let a = former.get(0)?;
+    let z = Stretch::below(run, &new_at(alloc, first, 0))?;
+    old_below(alloc, &a, new_below_inverse(first, z)?)
+}
+
+// The same, above all new identifiers.
+fn back_above(
+    alloc: Global,
+    former: &Runs,
+    first: Spot,
+    gap: u64,
+    run: &Run,
+) -> Result<Stretch, AllocError>
+    requires former { IsFormer former.now }
+    requires most { length former.now ≤ IDENTIFIERS }
+    requires gap { place_of run.now.0 (new_from first 0 former.now) ≡ Err gap }
+    requires some { 0 < gap }
+    requires end { gap ≡ length former.now }
+    ensures back { IfOk result (λ x. GoesAlong (back_by first former.now) run.now.0 run.now.1 x.first x.len) }
+{
+    let len = run.len();
+    let a = former.get(gap - 1)?;
+    let z = Stretch::front(run, len)?;
+    old_above(alloc, &a, new_above_inverse(first, gap - 1, z)?)
+}
+
+// The same, between two new identifiers.
+fn back_between(
+    alloc: Global,
+    former: &Runs,
+    first: Spot,
+    gap: u64,
+    run: &Run,
+) -> Result<Stretch, AllocError>
+    requires former { IsFormer former.now }
+    requires most { length former.now ≤ IDENTIFIERS }
+    requires gap { place_of run.now.0 (new_from first 0 former.now) ≡ Err gap }
+    requires some { 0 < gap }
+    requires within { gap < length former.now }
+    ensures back { IfOk result (λ x. GoesAlong (back_by first former.now) run.now.0 run.now.1 x.first x.len) }
+{
+    let _len = run.len();
+    let a = former.get(gap - 1)?;
     let z = Stretch::below(run, &new_at(alloc, first, gap))?;
     let y = new_between_inverse(first, gap - 1, z)?;
     old_between(alloc, &a, former.get(gap)?, y)

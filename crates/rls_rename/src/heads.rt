@@ -1,12 +1,13 @@
 //! Heads: the first tuples of an identifier. Often they alone decide what a renaming does to it, so that the rest needn't be looked at.
 
 ghost use Rattle.std.specs.List.{All};
-ghost use Rattle.std.specs.Prelude.{◌≡◌, ◌<◌, ◌≤◌, length, drop, true, Some, IfOk, IfSome, IsTrue};
+ghost use Rattle.std.specs.Prelude.{◌≡◌, ◌<◌, ◌≤◌, length, drop, true, Some, Err, IfOk, IfSome, IsTrue};
 ghost use Rattle.std.specs.declared.cmp.Ordering.TheVariants.{Less};
 ghost use Rattle.rls_ident.specs.declared.limits.TheConstants.{IDENTIFIERS};
 ghost use Rattle.rls_ident.specs.Tuples.{tuple_cmp};
 ghost use Rattle.rls_ident.specs.Maps.{low, high, low_inverse, high_inverse};
 ghost use Rattle.rls_ident.specs.Identifiers.{ident_cmp, is_inner_bounded};
+ghost use Rattle.rls_runs.specs.Runs.{place_of};
 ghost use Rattle.rls_rename.specs.Heads.{head_less, Replaces};
 ghost use Rattle.rls_rename.specs.Renaming.{IsFormer, forward_by, new_above, new_below, old_above_inverse, old_below_inverse, old_between_inverse};
 
@@ -33,19 +34,70 @@ pub(crate) fn forward_head(
     };
     let total = former.total();
     if gap == 0 {
-        let a = former.get(0)?;
-        let Some(moved) = head_below(alloc, first, &a, head)? else {
-            return Ok(None);
-        };
-        return Ok(Some(moved));
+        return forward_head_below(alloc, former, first, head);
     }
-    let a = former.get(gap - 1)?;
     if gap == total {
-        let Some(moved) = head_above(alloc, first, gap - 1, &a, head)? else {
-            return Ok(None);
-        };
-        return Ok(Some(moved));
+        return forward_head_above(alloc, former, first, gap, head);
     }
+    forward_head_between(alloc, former, first, gap, head)
+}
+
+// The same, below all former identifiers.
+fn forward_head_below(
+    alloc: Global,
+    former: &Runs,
+    first: Spot,
+    head: &Ident,
+) -> Result<Option<Ident>, AllocError>
+    requires former { IsFormer former.now }
+    requires most { length former.now ≤ IDENTIFIERS }
+    ensures replaces { IfOk result (λ z. IfSome z (λ z. Replaces (forward_by first former.now) head.now z)) }
+{
+    let a = former.get(0)?;
+    let Some(moved) = head_below(alloc, first, &a, head)? else {
+        return Ok(None);
+    };
+    Ok(Some(moved))
+}
+
+// The same, above all former identifiers.
+fn forward_head_above(
+    alloc: Global,
+    former: &Runs,
+    first: Spot,
+    gap: u64,
+    head: &Ident,
+) -> Result<Option<Ident>, AllocError>
+    requires former { IsFormer former.now }
+    requires most { length former.now ≤ IDENTIFIERS }
+    requires gap { place_of head.now former.now ≡ Err gap }
+    requires some { 0 < gap }
+    requires end { gap ≡ length former.now }
+    ensures replaces { IfOk result (λ z. IfSome z (λ z. Replaces (forward_by first former.now) head.now z)) }
+{
+    let a = former.get(gap - 1)?;
+    let Some(moved) = head_above(alloc, first, gap - 1, &a, head)? else {
+        return Ok(None);
+    };
+    Ok(Some(moved))
+}
+
+// The same, between two former identifiers.
+fn forward_head_between(
+    alloc: Global,
+    former: &Runs,
+    first: Spot,
+    gap: u64,
+    head: &Ident,
+) -> Result<Option<Ident>, AllocError>
+    requires former { IsFormer former.now }
+    requires most { length former.now ≤ IDENTIFIERS }
+    requires gap { place_of head.now former.now ≡ Err gap }
+    requires some { 0 < gap }
+    requires within { gap < length former.now }
+    ensures replaces { IfOk result (λ z. IfSome z (λ z. Replaces (forward_by first former.now) head.now z)) }
+{
+    let a = former.get(gap - 1)?;
     let b = former.get(gap)?;
     let Some(inner) = head_between(alloc, &a, b, head)? else {
         return Ok(None);
