@@ -115,11 +115,10 @@ fn head_below(
     ensures below { IfOk result (λ z. IfSome z (λ z. head_less head.now a.now ≡ Some true)) }
     ensures replaces { IfOk result (λ z. IfSome z (λ z. Replaces (λ x. new_below first (old_below_inverse a.now x)) head.now z)) }
 {
-    let Some(true) = less(head, &tuples_of(alloc, a)?) else {
+    if !is_less(alloc, head, a)? {
         return Ok(None);
-    };
-    let pattern = below_pattern(alloc, a)?;
-    let Some(rest) = high_rest(&pattern, head.copy()?)? else {
+    }
+    let Some(rest) = rest_below(alloc, a, head.copy()?)? else {
         return Ok(None);
     };
     let Some(moved) = high_put(&[tuple_before(first)], rest)? else {
@@ -139,8 +138,7 @@ fn head_above(
     requires place { i < IDENTIFIERS }
     ensures replaces { IfOk result (λ z. IfSome z (λ z. Replaces (λ x. new_above first i (old_above_inverse a.now x)) head.now z)) }
 {
-    let pattern = above_pattern(alloc, a)?;
-    let Some(rest) = low_rest(&pattern, head.copy()?)? else {
+    let Some(rest) = rest_above(alloc, a, head)? else {
         return Ok(None);
     };
     let Some(moved) = low_put(&[tuple_at(first, i)], rest)? else {
@@ -160,16 +158,41 @@ fn head_between(
     ensures below { IfOk result (λ z. IfSome z (λ z. head_less head.now b ≡ Some true)) }
     ensures replaces { IfOk result (λ z. IfSome z (λ z. Replaces (old_between_inverse a.now b) head.now z)) }
 {
-    let Some(true) = less(head, &tuples_of(alloc, &b)?) else {
+    if !is_less(alloc, head, &b)? {
         return Ok(None);
-    };
-    let above = above_pattern(alloc, a)?;
-    let Some(rest) = low_rest(&above, head.copy()?)? else {
+    }
+    let Some(rest) = rest_above(alloc, a, head)? else {
         return Ok(None);
     };
     let end = inner_end(alloc, a, b)?;
-    let below = below_pattern(alloc, &end)?;
-    high_rest(&below, rest)
+    rest_below(alloc, &end, rest)
+}
+
+// Whether the head alone says that it is less than an identifier.
+fn is_less(alloc: Global, head: &Ident, id: &Ident) -> Result<bool, AllocError>
+    ensures less { IfOk result (λ b. IsTrue b → head_less head.now id.now ≡ Some true) }
+{
+    let tuples = tuples_of(alloc, id)?;
+    match less(head, &tuples) {
+        Some(true) => Ok(true),
+        _ => Ok(false),
+    }
+}
+
+// What the inverse of the old map above a puts in the place of the head, if the head alone decides it.
+fn rest_above(alloc: Global, a: &Ident, head: &Ident) -> Result<Option<Ident>, AllocError>
+    ensures replaces { IfOk result (λ z. IfSome z (λ z. Replaces (old_above_inverse a.now) head.now z)) }
+{
+    let pattern = above_pattern(alloc, a)?;
+    low_rest(&pattern, head.copy()?)
+}
+
+// What the inverse of the old map below a puts in the place of the head, if the head alone decides it.
+fn rest_below(alloc: Global, a: &Ident, head: Ident) -> Result<Option<Ident>, AllocError>
+    ensures replaces { IfOk result (λ z. IfSome z (λ z. Replaces (old_below_inverse a.now) head z)) }
+{
+    let pattern = below_pattern(alloc, a)?;
+    high_rest(&pattern, head)
 }
 
 // What the inverse of the low map puts in the place of the head, if the head alone decides it.
