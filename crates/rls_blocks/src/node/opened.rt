@@ -98,6 +98,7 @@ impl Opened {
         requires as_many { length text ≡ run.now.1 }
         requires may { IsTrue (may_grow side (run.now, text) self.old.own) }
         ensures ok { OnOk result (self.new.own ≡ grown side (run.now, text) self.old.own) }
+        ensures chars { OnOk result (length self.new.own.1 ≡ length self.old.own.1 + length text) }
         ensures err { OnErr result (self.new.own ≡ self.old.own) }
         ensures left { self.new.left ≡ self.old.left }
         ensures right { self.new.right ≡ self.old.right }
