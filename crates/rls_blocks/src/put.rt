@@ -2,6 +2,7 @@
 //! memory the old one.
 
 ghost use Rattle.std.specs.Prelude.{◌≡◌, ◌+◌, ◌-◌, ◌^◌, ◌<◌, ◌∷◌, ◌++◌, length, Some, IfOk, IfErr, IsTrue};
+ghost use Rattle.rls_blocks.specs.declared.side.Side.TheVariants.{Behind};
 ghost use Rattle.rls_blocks.specs.Trees.{entries_of};
 ghost use Rattle.rls_blocks.specs.Edits.{part_of, grown, may_grow, located, may_put, put_in, put_among};
 
@@ -65,13 +66,28 @@ fn put_beside(
     ensures chars { IfOk result (λ new. length (entries_of new.blocks) ≡ opened.front + length opened.own.1 + opened.behind + length piece.1) }
     ensures err { IfErr result (λ old. old.blocks ≡ opened.left.blocks ++ opened.own ∷ opened.right.blocks) }
 {
-    let len = opened.own.len();
     match side {
         Side::Front => grow(opened, side, piece),
-        Side::Behind if at + 1 < len => put_within(alloc, opened, at + 1, piece),
-        Side::Behind if opened.own.run().touches(piece.run().first()) => grow(opened, side, piece),
-        Side::Behind => put_behind(alloc, opened, piece),
+        Side::Behind => put_after(alloc, opened, at, piece),
     }
+}
+
+// Puts a run in after a character of a node's block.
+fn put_after(alloc: Global, opened: Opened, at: u32, piece: Block) -> Result<Link, Link>
+    requires within { at < length opened.own.1 }
+    requires chars_fit { opened.front + length opened.own.1 + opened.behind + length piece.1 < 2 ^ 64 }
+    ensures ok { IfOk result (λ new. new.blocks ≡ opened.left.blocks ++ put_in Behind piece opened.own at ++ opened.right.blocks) }
+    ensures chars { IfOk result (λ new. length (entries_of new.blocks) ≡ opened.front + length opened.own.1 + opened.behind + length piece.1) }
+    ensures err { IfErr result (λ old. old.blocks ≡ opened.left.blocks ++ opened.own ∷ opened.right.blocks) }
+{
+    let len = opened.own.len();
+    if at + 1 < len {
+        return put_within(alloc, opened, at + 1, piece);
+    }
+    if opened.own.run().touches(piece.run().first()) {
+        return grow(opened, Side::Behind, piece);
+    }
+    put_behind(alloc, opened, piece)
 }
 
 // Joins it to the block, which it touches on a side.
