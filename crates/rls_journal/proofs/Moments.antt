@@ -1,7 +1,7 @@
 -- How a run of device calls goes on.
-use Rattle.std.proofs.Common.{inl, inr, ⊎_elim, ℕ, arith}
+use Rattle.std.proofs.Common.{◌≡◌, ◌∙◌, inl, inr, ⊎_elim, ℕ, Option, arith}
 use Rattle.rls_journal.specs.Areas.{Areas}
-use Rattle.rls_journal.specs.Disk.{Narrows, Elapses, LeavesOnly, Changes}
+use Rattle.rls_journal.specs.Disk.{Narrows, Elapses, LeavesOnly, IsUnchanged, Changes}
 
 module _ {D : Type 0} (may_leave : D → Areas → Type 0) (moment : D → ℕ) (left_since : D → ℕ → Areas → Type 0) where
   -- before the first call
@@ -25,3 +25,27 @@ module _ {D : Type 0} (may_leave : D → Areas → Type 0) (moment : D → ℕ) 
     each = λ c left. ⊎_elim (so_far.each c) (λ now. here c (narrows c now)) (time.nothing_else (moment old) c so_far.later left);
     before = λ t c le left. ⊎_elim (so_far.before t c le) (λ now. inr (here c (narrows c now))) (time.nothing_else t c (omega (arith, le, so_far.later)) left);
   }
+
+module _ {D : Type 0} (seen : D → Option Areas) (may_leave : D → Areas → Type 0) (moment : D → ℕ) (left_since : D → ℕ → Areas → Type 0) where
+  -- a call that changes nothing that is read
+  pub stays : (old new : D) → seen new ≡ seen old → Narrows (may_leave old) (may_leave new) → Elapses (moment old) (moment new) (left_since old) (left_since new) (may_leave new) → IsUnchanged seen may_leave moment left_since old new
+  stays old new same narrows time = record {
+    same = same;
+    narrows = narrows;
+    later = time.later;
+    before = λ t c le left. ⊎_elim (λ past. inl past) (λ now. inr (narrows c now)) (time.nothing_else t c le left);
+  }
+
+  -- one after another
+  pub stays_both : (old mid new : D) → IsUnchanged seen may_leave moment left_since old mid → IsUnchanged seen may_leave moment left_since mid new → IsUnchanged seen may_leave moment left_since old new
+  stays_both old mid new first second = record {
+    same = second.same ∙ first.same;
+    narrows = λ c left. first.narrows c (second.narrows c left);
+    later = omega (arith, first.later, second.later);
+    before = λ t c le left. ⊎_elim (first.before t c le) (λ now. inr (first.narrows c now)) (second.before t c (omega (arith, le, first.later)) left);
+  }
+
+  -- one more call
+  pub stays_then : (old mid new : D) → IsUnchanged seen may_leave moment left_since old mid → seen new ≡ seen mid → Narrows (may_leave mid) (may_leave new) → Elapses (moment mid) (moment new) (left_since mid) (left_since new) (may_leave new)
+      → IsUnchanged seen may_leave moment left_since old new
+  stays_then old mid new first same narrows time = stays_both old mid new first (stays mid new same narrows time)

@@ -57,14 +57,14 @@ impl MemoryDisk {
     {
         Ok(MemoryDisk {
             alloc,
-            first: Contents::new(alloc, slot0, slot1, gate, 0)?,
-            current: Contents::new(alloc, slot0, slot1, gate, room)?,
             entries: Vec::with_capacity(alloc, calls)?,
             written: Vec::with_capacity(alloc, room)?,
+            failing: Vec::from_slice(alloc, failing)?,
+            first: Contents::new(alloc, slot0, slot1, gate, 0)?,
+            current: Contents::new(alloc, slot0, slot1, gate, room)?,
             most: calls,
             left: room,
             room,
-            failing: Vec::from_slice(alloc, failing)?,
             faults: 0,
         })
     }
