@@ -17,3 +17,9 @@ returns-clause-same c = (looked c).same
 
 pub returns-clause-crash : goal.returns-clause-crash
 returns-clause-crash c = (looked c).narrows
+
+pub returns-in_err-enter-clause-time : goal.returns-in_err-enter-clause-time
+returns-in_err-enter-clause-time c = (quiet_refused c.args.self.now c.enter.new.self c.in_err-enter.ensures.refused).goes
+
+pub returns-clause-time : goal.returns-clause-time
+returns-clause-time c = (looked c).goes

@@ -21,3 +21,9 @@ returns-clause-same c = ap (λ (a : Areas). Some a) (synced c).same
 
 pub returns-clause-crash : goal.returns-clause-crash
 returns-clause-crash c = (synced c).narrows
+
+pub returns-in_err-enter-clause-time : goal.returns-in_err-enter-clause-time
+returns-in_err-enter-clause-time c = (quiet_refused c.args.self.now c.enter.new.self c.in_err-enter.ensures.refused).goes
+
+pub returns-clause-time : goal.returns-clause-time
+returns-clause-time c = (synced c).goes
