@@ -1,0 +1,10 @@
+pub mod Joining
+pub mod Putting
+pub mod Cutting
+pub mod Played
+pub mod Own
+pub mod Told
+pub mod Courses
+pub mod Looking
+pub mod Calls
+pub mod Alike

@@ -1,0 +1,82 @@
+use Rattle.std.proofs.Common.{◌≡◌, ◌∙◌, ◌++◌, None, sym, ap, subst, arith}
+use Rattle.rls_model.specs.Taking.{take_message}
+use Rattle.rls_seen.specs.Seen.{Seen, members}
+use Rattle.rls_seen.specs.Over.{acknowledged}
+use Rattle.rls_seen.specs.Messages.{started, taken_of}
+use Rattle.rls_seen.specs.Stands.{StandsFor}
+use Rattle.rls_seen.proofs.Taking.{taken_alike}
+use Rattle.rls_replica.proofs.Cut.{message_whole, message_part, message_part_stands}
+use Rattle.rls_replica.proofs.Courses.{message_counts, message_seen, members_ops}
+use Rattle.rls_replica.proofs.KeptNames.{names_on, ops_names, part_of_ops_names}
+use Rattle.rls_changes.proofs.Courses.{ops_told, message_told}
+use Rattle.rls_changes.proofs.Told.{acknowledged_leads}
+use Rattle.rls_changes.proofs.taking.take.Goals as goal
+
+pub returns-in_err-taken-clause-cut : goal.returns-in_err-taken-clause-cut
+returns-in_err-taken-clause-cut c = λ _. message_part c.args.replica.now c.take_ops.new.replica c.args.message c.in_err-taken.ensures.err
+
+pub returns-in_err-taken-clause-part : goal.returns-in_err-taken-clause-part
+returns-in_err-taken-clause-part c = λ _ t h.
+    let s = c.args.replica.now in
+    let m = c.args.message in
+    let whole = message_whole s m (omega (arith, c.if-message-members.false, c.members.ensures.members)) c.requires.from c.requires.vector c.len-len.ensures.bounded c.fits.ensures.whole in
+    message_part_stands s c.take_ops.new.replica t m whole (message_part s c.take_ops.new.replica m c.in_err-taken.ensures.err) h
+
+pub returns-in_err-taken-clause-names : goal.returns-in_err-taken-clause-names
+returns-in_err-taken-clause-names c = part_of_ops_names c.args.replica.now c.take_ops.new.replica c.args.message.ops c.in_err-taken.ensures.err
+
+pub acknowledge-requires-clause-member : goal.acknowledge-requires-clause-member
+acknowledge-requires-clause-member c =
+    let s = c.args.replica.now in
+    let told = ops_told s c.take_ops.new.replica c.in_ok-taken.taken c.args.changes.now.items c.take_ops.new.changes.items c.args.message.ops c.in_ok-taken.ensures.told in
+    let k : members c.take_ops.new.replica ≡ members s = ap (λ d. members d.state) told.0 ∙ members_ops c.args.message.ops (started None s) in
+    omega (arith, c.if-message-members.false, c.members.ensures.members, c.requires.from)
+
+pub acknowledge-requires-clause-counts : goal.acknowledge-requires-clause-counts
+acknowledge-requires-clause-counts c =
+    let s = c.args.replica.now in
+    let told = ops_told s c.take_ops.new.replica c.in_ok-taken.taken c.args.changes.now.items c.take_ops.new.changes.items c.args.message.ops c.in_ok-taken.ensures.told in
+    let k : members c.take_ops.new.replica ≡ members s = ap (λ d. members d.state) told.0 ∙ members_ops c.args.message.ops (started None s) in
+    omega (arith, c.if-message-members.false, c.members.ensures.members, c.requires.vector)
+
+pub returns-clause-taken : goal.returns-clause-taken
+returns-clause-taken c =
+    let s = c.args.replica.now in
+    let told = ops_told s c.take_ops.new.replica c.in_ok-taken.taken c.args.changes.now.items c.take_ops.new.changes.items c.args.message.ops c.in_ok-taken.ensures.told in
+    ap taken_of told.0 ∙ sym (message_counts s c.args.message)
+
+after : goal.returns-clause-after
+after c =
+    let s = c.args.replica.now in
+    let m = c.args.message in
+    let told = ops_told s c.take_ops.new.replica c.in_ok-taken.taken c.args.changes.now.items c.take_ops.new.changes.items m.ops c.in_ok-taken.ensures.told in
+    c.acknowledge.ensures.after ∙ (ap (λ d. acknowledged d.state m.from m.vector) told.0 ∙ sym (message_seen s m))
+
+pub returns-clause-after : goal.returns-clause-after
+returns-clause-after c = after c
+
+pub returns-clause-changes : goal.returns-clause-changes
+returns-clause-changes c =
+    let s = c.args.replica.now in
+    let cs = c.args.changes.now.items in
+    let told = ops_told s c.take_ops.new.replica c.in_ok-taken.taken cs c.take_ops.new.changes.items c.args.message.ops c.in_ok-taken.ensures.told in
+    told.1 ∙ ap (λ zs. cs ++ zs) (message_told s c.args.message)
+
+pub returns-clause-stands : goal.returns-clause-stands
+returns-clause-stands c = λ t h.
+    let s = c.args.replica.now in
+    let m = c.args.message in
+    let whole = message_whole s m (omega (arith, c.if-message-members.false, c.members.ensures.members)) c.requires.from c.requires.vector c.len-len.ensures.bounded c.fits.ensures.whole in
+    let law = taken_alike None s t m whole h in (
+      returns-clause-taken c ∙ law.0,
+      subst (λ (u : Seen). StandsFor u (take_message t m).state) (sym (after c)) law.1,
+    )
+
+pub returns-clause-names : goal.returns-clause-names
+returns-clause-names c =
+    let s = c.args.replica.now in
+    let told = ops_told s c.take_ops.new.replica c.in_ok-taken.taken c.args.changes.now.items c.take_ops.new.changes.items c.args.message.ops c.in_ok-taken.ensures.told in
+    names_on s c.take_ops.new.replica c.acknowledge.new.self (rw (ap (λ d. d.state) told.0) (ops_names c.args.message.ops (started None s))) c.acknowledge.ensures.names
+
+pub returns-clause-lead : goal.returns-clause-lead
+returns-clause-lead c = acknowledged_leads c.args.changes.now.items c.take_ops.new.changes.items c.args.replica.now c.take_ops.new.replica c.acknowledge.new.self c.args.message.from c.args.message.vector c.in_ok-taken.ensures.lead c.acknowledge.ensures.after

@@ -1,0 +1,93 @@
+use Rattle.std.proofs.Common.{◌≡◌, ◌∙◌, ◌∷◌, ◌+◌, ℕ, List, sym, ap, subst, rules}
+use Rattle.rls_ops.specs.declared.op.Op.{Op}
+use Rattle.rls_model.specs.declared.receipt.Taken.{Taken}
+use Rattle.rls_model.specs.Answers.{Answer, answer_of}
+use Rattle.rls_model.specs.Machine.{release_all_on}
+use Rattle.rls_seen.specs.Seen.{Seen, text_over}
+use Rattle.rls_seen.specs.Over.{received, IsPartReleased}
+use Rattle.rls_seen.specs.Messages.{with_releases}
+use Rattle.rls_seen.specs.Sane.{IsSane}
+use Rattle.rls_replica.specs.Steps.{course, with_receipt, AreFew, IsOnWay, IsPartOfOps}
+use Rattle.rls_replica.proofs.Courses.{taken_none, taken_received, taken_part, taken_all, received_counts, unreceived_counts, receipt_few}
+use Rattle.rls_changes.specs.Telling.{tells_parts, told_course}
+use Rattle.rls_changes.proofs.Courses.{received_told}
+use Rattle.rls_changes.proofs.Told.{leads_on}
+use Rattle.rls_changes.proofs.taking.take_one.Goals as goal
+
+pub returns-in_err-receipt-clause-err : goal.returns-in_err-receipt-clause-err
+returns-in_err-receipt-clause-err c =
+    let r = c.args.replica.now in
+    let t = c.args.taken.now in
+    let k : (s : Seen) (os rest : List Op) → IsOnWay s os (course r t) (c.args.op ∷ rest) → IsPartOfOps s os c.receive.new.replica = λ s os rest w. rw c.in_err-receipt.ensures.err (taken_none s r t os (c.args.op ∷ rest) w) in
+    search rules
+
+pub returns-in_err-count_receipt-clause-counted : goal.returns-in_err-count_receipt-clause-counted
+returns-in_err-count_receipt-clause-counted c =
+    rw (c.in_ok-receipt.ensures.after, c.in_err-count_receipt.ensures.err) (unreceived_counts c.args.replica.now c.args.taken.now c.args.op c.requires.counted)
+
+pub returns-in_err-count_receipt-clause-err : goal.returns-in_err-count_receipt-clause-err
+returns-in_err-count_receipt-clause-err c =
+    let r = c.args.replica.now in
+    let t = c.args.taken.now in
+    let after = c.in_ok-receipt.ensures.after in
+    let k : (s : Seen) (os rest : List Op) → IsOnWay s os (course r t) (c.args.op ∷ rest) → IsPartOfOps s os c.receive.new.replica =
+    λ s os rest w. rw after (taken_received s r t c.args.op os rest (subst IsSane after c.sane-2.ensures.sane) w) in
+    search rules
+
+pub release_all-requires : goal.release_all-requires
+release_all-requires c = record {
+  counted = rw (c.in_ok-receipt.ensures.after, c.in_ok-count_receipt.ensures.ok) (received_counts c.args.replica.now c.args.taken.now c.args.op (answer_of c.in_ok-receipt.receipt) c.requires.counted);
+}
+
+pub returns-in_err-release_all-clause-err : goal.returns-in_err-release_all-clause-err
+returns-in_err-release_all-clause-err c =
+    let r = c.args.replica.now in
+    let t = c.args.taken.now in
+    let u = c.release_all.new.replica in
+    let after = c.in_ok-receipt.ensures.after in
+    let part : IsPartReleased (received r c.args.op) u = subst (λ x. IsPartReleased x u) after c.in_err-release_all.ensures.err in
+    let k : (s : Seen) (os rest : List Op) → IsOnWay s os (course r t) (c.args.op ∷ rest) → IsPartOfOps s os u = λ s os rest w. taken_part s r u t c.args.op os rest (subst IsSane after c.sane-2.ensures.sane) part w in
+    search rules
+
+few : (n : ℕ) (t v : Taken) (o : Op) (x : Answer) → v ≡ with_receipt t o.author o.seq x → AreFew n t → AreFew (n + 1) v
+few n t v o x e h = subst (AreFew (n + 1)) (sym e) (receipt_few n t o.author o.seq x h)
+
+pub returns-in_err-release_all-clause-arrived : goal.returns-in_err-release_all-clause-arrived
+returns-in_err-release_all-clause-arrived c =
+    λ n h. c.in_err-release_all.ensures.arrived (n + 1) (few n c.args.taken.now c.count_receipt.new.taken c.args.op (answer_of c.in_ok-receipt.receipt) c.in_ok-count_receipt.ensures.ok h)
+
+pub returns-in_err-release_all-clause-lead : goal.returns-in_err-release_all-clause-lead
+returns-in_err-release_all-clause-lead c =
+    leads_on c.args.changes.now.items c.receive.new.changes.items c.release_all.new.changes.items (text_over c.args.replica.now) (text_over c.receive.new.replica) (text_over c.release_all.new.replica) c.in_ok-receipt.ensures.lead c.in_err-release_all.ensures.lead
+
+pub returns-clause-arrived : goal.returns-clause-arrived
+returns-clause-arrived c =
+    λ n h. c.in_ok-release_all.ensures.arrived (n + 1) (few n c.args.taken.now c.count_receipt.new.taken c.args.op (answer_of c.in_ok-receipt.receipt) c.in_ok-count_receipt.ensures.ok h)
+
+pub returns-clause-told : goal.returns-clause-told
+returns-clause-told c =
+    let r = c.args.replica.now in
+    let t = c.args.taken.now in
+    let o = c.args.op in
+    let cs = c.args.changes.now.items in
+    let e = c.in_ok-receipt.ensures in
+    let counted = c.in_ok-count_receipt.ensures.ok ∙ ap (with_receipt t o.author o.seq) e.answer in
+    c.in_ok-release_all.ensures.told
+    ∙ ap (release_all_on tells_parts)
+    (ap (λ x. told_course x c.count_receipt.new.taken c.receive.new.changes.items) e.after
+    ∙ (ap (λ x. told_course (received r o) x c.receive.new.changes.items) counted
+    ∙ (ap (told_course (received r o) _) e.changes ∙ received_told r t cs o)))
+
+pub returns-clause-ok : goal.returns-clause-ok
+returns-clause-ok c = λ s os rest w.
+    let r = c.args.replica.now in
+    let t = c.args.taken.now in
+    let o = c.args.op in
+    let after = c.in_ok-receipt.ensures.after in
+    let counted = c.in_ok-count_receipt.ensures.ok ∙ ap (with_receipt t o.author o.seq) c.in_ok-receipt.ensures.answer in
+    taken_all s r c.release_all.new.replica t c.release_all.new.taken o os rest (subst IsSane after c.sane-2.ensures.sane)
+    (c.in_ok-release_all.ensures.ok ∙ ap with_releases (ap (λ x. course x c.count_receipt.new.taken) after ∙ ap (course (received r o)) counted)) w
+
+pub returns-clause-lead : goal.returns-clause-lead
+returns-clause-lead c =
+    leads_on c.args.changes.now.items c.receive.new.changes.items c.release_all.new.changes.items (text_over c.args.replica.now) (text_over c.receive.new.replica) (text_over c.release_all.new.replica) c.in_ok-receipt.ensures.lead c.in_ok-release_all.ensures.lead

@@ -1,0 +1,5 @@
+pub mod Changes
+pub mod Telling
+pub mod Computing
+pub mod ChangesLaws
+pub mod Places

@@ -1,0 +1,345 @@
+//! What an operation would change, looked for before it is accepted.
+
+ghost use Rattle.std.specs.Prelude.{◌≡◌, ◌+◌, ◌-◌, ◌<◌, ◌≤◌, ℕ, List, [], length, map, take, drop, zip, slice_get, Some, None, Ok, Err, IfOk, IsTrue, IsFalse, true};
+ghost use Rattle.rls_ident.specs.declared.limits.TheConstants.{CHARACTERS};
+ghost use Rattle.rls_ident.specs.declared.tuple.Tuple.{Tuple};
+ghost use Rattle.rls_ops.specs.Shapes.{shape_fault};
+ghost use Rattle.rls_runs.specs.Places.{below_count};
+ghost use Rattle.rls_runs.specs.Runs.{place_of, run_idents};
+ghost use Rattle.rls_seen.specs.Over.{placed_over};
+ghost use Rattle.rls_seen.specs.Sane.{MayApply};
+ghost use Rattle.rls_seen.specs.Seen.{Seen, idents_over, members};
+ghost use Rattle.rls_replica.specs.Names.{keeps};
+ghost use Rattle.rls_changes.specs.Changes.{changes_over, changes_by, cuts, puts, with_changes};
+ghost use Rattle.rls_changes.specs.Places.{AreAt, AreMissing};
+ghost use Rattle.rls_ops.specs.declared.op.Body.TheVariants as body;
+
+use crate::change::{Change, push_deletion, push_insertion};
+use rls_blocks::part_of_text;
+use rls_doc::Document;
+use rls_ident::{EpochName, Ident};
+use rls_ops::{Body, Op};
+use rls_replica::Replica;
+use rls_runs::{Run, Runs, Text};
+use std::alloc::{AllocError, Global};
+
+/// What accepting an operation would change, if it may be accepted now; else anything.
+///
+/// It costs about what accepting it costs: the translation of its identifiers, and a few ways down the tree for each stretch of
+/// characters that goes in between two neighbours, or of targets that are adjacent in the text or gone.
+pub(crate) fn changes_if(
+    alloc: Global,
+    replica: &Replica,
+    op: &Op,
+) -> Result<Vec<Change>, AllocError>
+    ensures changes { IfOk result (λ changes. MayApply replica.now op.now → changes.items ≡ changes_over replica.now op.now) }
+{
+    if !may_apply(replica, op) {
+        return Ok(Vec::new(alloc));
+    }
+    let changes = changes_of(alloc, replica, op)?;
+    Ok(changes)
+}
+
+// Whether the shape of an operation is right, its number is new, its causes are there and its epoch is kept.
+fn may_apply(replica: &Replica, op: &Op) -> bool
+    ensures shape { IsTrue result → shape_fault (members replica.now) op.now ≡ None }
+    ensures kept { IsTrue result → IsTrue (keeps replica.now op.now.epoch) }
+    ensures not { IsFalse result → MayApply replica.now op.now → ⊥ }
+{
+    replica.sane();
+    match op.check_shape(replica.members()) {
+        Err(_) => false,
+        Ok(()) => is_due(replica, op),
+    }
+}
+
+// Whether its number is new, its causes are there and its epoch is kept.
+fn is_due(replica: &Replica, op: &Op) -> bool
+    requires shape { shape_fault (members replica.now) op.now ≡ None }
+    ensures kept { IsTrue result → IsTrue (keeps replica.now op.now.epoch) }
+    ensures not { IsFalse result → MayApply replica.now op.now → ⊥ }
+{
+    replica.sane();
+    if op.seq <= replica.vector().get(op.author) {
+        return false;
+    }
+    if !op.context.at_most(replica.vector()) {
+        return false;
+    }
+    replica.keeps(op.epoch)
+}
+
+// If its shape is right and its epoch is kept.
+#[tactic(auto, unfolding(crate::specs::Changes::changes_over))]
+fn changes_of(alloc: Global, replica: &Replica, op: &Op) -> Result<Vec<Change>, AllocError>
+    requires shape { shape_fault (members replica.now) op.now ≡ None }
+    requires kept { IsTrue (keeps replica.now op.now.epoch) }
+    ensures changes { IfOk result (λ changes. changes.items ≡ changes_over replica.now op.now) }
+{
+    match &op.body {
+        Body::Insert { first, text } => {
+            let changes = inserting(alloc, replica, op.epoch, first, text)?;
+            Ok(changes)
+        }
+        Body::Delete { targets } => {
+            let changes = deleting(alloc, replica, op.epoch, targets)?;
+            Ok(changes)
+        }
+        Body::Rename { .. } => Ok(Vec::new(alloc)),
+        Body::Leave => Ok(Vec::new(alloc)),
+    }
+}
+
+// An insertion of these characters.
+fn inserting(
+    alloc: Global,
+    replica: &Replica,
+    epoch: EpochName,
+    first: &Ident,
+    text: &Text,
+) -> Result<Vec<Change>, AllocError>
+    requires few { length text.now ≤ CHARACTERS }
+    requires kept { IsTrue (keeps replica.now epoch) }
+    ensures changes { IfOk result (λ changes. changes.items ≡ changes_by (placed_over replica.now) (idents_over replica.now) epoch (body.Insert first.now text.now)) }
+{
+    let ids = run_of(alloc, first, text.len() as u32)?;
+    let Ok(there) = replica.to_greatest(epoch, &ids) else {
+        return Err(AllocError);
+    };
+    let changes = pieces(alloc, replica, &there, text)?;
+    Ok(changes)
+}
+
+// The identifiers from this one on, so many. There is none for a run that isn't one.
+fn run_of(alloc: Global, first: &Ident, len: u32) -> Result<Runs, AllocError>
+    ensures runs { IfOk result (λ ids. ids ≡ run_idents first.now len) }
+{
+    let Ok(run) = Run::new(first.copy()?, len) else {
+        return Err(AllocError);
+    };
+    let mut ids = Runs::new(alloc);
+    ids.append(run)?;
+    Ok(ids)
+}
+
+// A deletion of these targets.
+fn deleting(
+    alloc: Global,
+    replica: &Replica,
+    epoch: EpochName,
+    targets: &Runs,
+) -> Result<Vec<Change>, AllocError>
+    requires kept { IsTrue (keeps replica.now epoch) }
+    ensures changes { IfOk result (λ changes. changes.items ≡ changes_by (placed_over replica.now) (idents_over replica.now) epoch (body.Delete targets.now)) }
+{
+    let Ok(there) = replica.to_greatest(epoch, targets) else {
+        return Err(AllocError);
+    };
+    let changes = stretches(alloc, replica, &there)?;
+    Ok(changes)
+}
+
+// ---- insertions
+
+// The characters with these identifiers of the greatest epoch, put in.
+fn pieces(
+    alloc: Global,
+    replica: &Replica,
+    ids: &Runs,
+    text: &Text,
+) -> Result<Vec<Change>, AllocError>
+    requires as_many { length ids.now ≡ length text.now }
+    requires few { length text.now ≤ CHARACTERS }
+    ensures changes { IfOk result (λ changes. changes.items ≡ with_changes [] (puts 0 (idents_over replica.now) (zip ids.now text.now))) }
+{
+    let total = ids.total();
+    let mut changes = Vec::new(alloc);
+    let mut at = 0;
+    'pieces: while at < total {
+        at = put_next(replica, ids, text, at, &mut changes)?;
+    }
+    Ok(changes)
+}
+
+// One piece more, and the place after it.
+fn put_next(
+    replica: &Replica,
+    ids: &Runs,
+    text: &Text,
+    at: u64,
+    changes: &mut Vec<Change>,
+) -> Result<u64, AllocError>
+    requires as_many { length ids.now ≡ length text.now }
+    requires few { length text.now ≤ CHARACTERS }
+    requires place { at < length ids.now }
+    requires so_far { changes.old.items ≡ with_changes [] (puts 0 (idents_over replica.now) (take at (zip ids.now text.now))) }
+    ensures later { IfOk result (λ end. at < end) }
+    ensures within { IfOk result (λ end. end ≤ length ids.now) }
+    ensures so_far { IfOk result (λ end. changes.new.items ≡ with_changes [] (puts 0 (idents_over replica.now) (take end (zip ids.now text.now)))) }
+{
+    replica.sane();
+    let id = ids.get(at)?;
+    let place = below(replica, &id);
+    let end = end_of_gap(replica, ids, at, &id, place)?;
+    let alloc = *changes.allocator();
+    let piece = part_of_text(alloc, text, at as usize, (end - at) as usize)?;
+    push_insertion(changes, place + at, piece)?;
+    Ok(end)
+}
+
+// How many identifiers of the text are below this one.
+fn below(replica: &Replica, id: &Ident) -> u64
+    ensures below { result ≡ below_count (idents_over replica.now) id.now }
+    ensures within { result ≤ length (idents_over replica.now) }
+{
+    replica.sane();
+    match replica.find(id) {
+        Ok(at) => at,
+        Err(at) => at,
+    }
+}
+
+// The place after those of the identifiers, from one on, that go in between the same two neighbours of the text.
+fn end_of_gap(
+    replica: &Replica,
+    ids: &Runs,
+    at: u64,
+    id: &Ident,
+    place: u64,
+) -> Result<u64, AllocError>
+    requires there { slice_get ids.now at ≡ Some id.now }
+    requires place { below_count (idents_over replica.now) id.now ≡ place }
+    requires within { place ≤ length (idents_over replica.now) }
+    ensures later { IfOk result (λ end. at < end) }
+    ensures within { IfOk result (λ end. end ≤ length ids.now) }
+    ensures same { IfOk result (λ end. AreAt place (idents_over replica.now) (take (end - at) (drop at ids.now))) }
+{
+    replica.sane();
+    let total = ids.total();
+    if place == replica.total() {
+        return Ok(total);
+    }
+    let limit = replica.ident_at(place)?;
+    let behind = below_in(ids, &limit);
+    Ok(behind.max(at + 1))
+}
+
+// How many of these identifiers are below one.
+fn below_in(ids: &Runs, id: &Ident) -> u64
+    ensures below { result ≡ below_count ids.now id.now }
+{
+    match ids.find(id) {
+        Ok(n) => n,
+        Err(n) => n,
+    }
+}
+
+// ---- deletions
+
+// The characters with these identifiers of the greatest epoch, taken out, as far as they are there.
+fn stretches(alloc: Global, replica: &Replica, targets: &Runs) -> Result<Vec<Change>, AllocError>
+    ensures changes { IfOk result (λ changes. changes.items ≡ with_changes [] (cuts 0 targets.now (idents_over replica.now))) }
+{
+    let total = targets.total();
+    let mut changes = Vec::new(alloc);
+    let mut at = 0;
+    let mut gone = 0;
+    'stretches: while at < total {
+        let (end, cut) = cut_next(replica, targets, at, gone, &mut changes)?;
+        at = end;
+        gone = cut;
+    }
+    Ok(changes)
+}
+
+// One stretch more, of targets that stand one right behind another or of such that are gone: the place after it, and how many characters
+// are taken out so far.
+fn cut_next(
+    replica: &Replica,
+    targets: &Runs,
+    at: u64,
+    gone: u64,
+    changes: &mut Vec<Change>,
+) -> Result<(u64, u64), AllocError>
+    requires place { at < length targets.now }
+    requires so_far { changes.old.items ≡ with_changes [] (cuts 0 (take at targets.now) (idents_over replica.now)) }
+    requires gone { gone ≡ length (cuts 0 (take at targets.now) (idents_over replica.now)) }
+    ensures later { IfOk result (λ r. at < r.0) }
+    ensures within { IfOk result (λ r. r.0 ≤ length targets.now) }
+    ensures so_far { IfOk result (λ r. changes.new.items ≡ with_changes [] (cuts 0 (take r.0 targets.now) (idents_over replica.now))) }
+    ensures gone { IfOk result (λ r. r.1 ≡ length (cuts 0 (take r.0 targets.now) (idents_over replica.now))) }
+{
+    replica.sane();
+    let _total = targets.total();
+    let id = targets.get(at)?;
+    match replica.find(&id) {
+        Ok(place) => {
+            let count = stretch(replica, targets, at, place)?;
+            push_deletion(changes, place - gone, count)?;
+            Ok((at + count, gone + count))
+        }
+        Err(place) => {
+            let end = end_of_missing(replica, targets, at, &id, place)?;
+            Ok((end, gone))
+        }
+    }
+}
+
+// How many targets from one on stand one right behind another in the text, as far as that is seen at once.
+fn stretch(replica: &Replica, targets: &Runs, at: u64, place: u64) -> Result<u64, AllocError>
+    requires at { at < length targets.now }
+    requires place { place < length (idents_over replica.now) }
+    requires there { slice_get targets.now at ≡ slice_get (idents_over replica.now) place }
+    ensures some { IfOk result (λ n. 0 < n) }
+    ensures within { IfOk result (λ n. at + n ≤ length targets.now) }
+    ensures room { IfOk result (λ n. place + n ≤ length (idents_over replica.now)) }
+    ensures same { IfOk result (λ n. take n (drop at targets.now) ≡ take n (drop place (idents_over replica.now))) }
+{
+    let (run, from) = targets.locate(at);
+    let standing = replica.tree().standing(run, from)? as u64;
+    let most = standing.max(1).min(replica.total() - place);
+    let there = replica.tree().runs_of(place, most)?;
+    let count = common(targets, at, &there);
+    Ok(count)
+}
+
+// How many identifiers from a place on, within their run, are those with which another list begins.
+fn common(ids: &Runs, at: u64, others: &Runs) -> u64
+    requires place { at < length ids.now }
+    requires some { 0 < length others.now }
+    requires same { slice_get ids.now at ≡ slice_get others.now 0 }
+    ensures some { 0 < result }
+    ensures within { at + result ≤ length ids.now }
+    ensures other_within { result ≤ length others.now }
+    ensures same { (k : ℕ) → k < result → slice_get ids.now (at + k) ≡ slice_get others.now (0 + k) }
+{
+    let (_ids, _others) = (ids.total(), others.total());
+    let (run, start) = ids.locate(at);
+    let (other, from) = others.locate(0);
+    (run.len() - start).min(other.len() - from) as u64
+}
+
+// The place after those of the targets, from one that isn't in the text on, that go in front of the same identifier of the text.
+fn end_of_missing(
+    replica: &Replica,
+    targets: &Runs,
+    at: u64,
+    id: &Ident,
+    place: u64,
+) -> Result<u64, AllocError>
+    requires there { slice_get targets.now at ≡ Some id.now }
+    requires missing { place_of id.now (idents_over replica.now) ≡ Err place }
+    ensures later { IfOk result (λ end. at < end) }
+    ensures within { IfOk result (λ end. end ≤ length targets.now) }
+    ensures missing { IfOk result (λ end. AreMissing (take (end - at) (drop at targets.now)) (idents_over replica.now)) }
+{
+    replica.sane();
+    let total = targets.total();
+    if place >= replica.total() {
+        return Ok(total);
+    }
+    let limit = replica.ident_at(place)?;
+    let end = below_in(targets, &limit);
+    Ok(end)
+}

@@ -1,0 +1,12 @@
+//! Where a text changes: what operations that are accepted insert and delete, for editors that keep a copy of the text.
+#![tactic(auto)]
+
+mod change;
+mod finding;
+pub mod laws;
+mod receiving;
+mod taking;
+
+pub use change::Change;
+pub use receiving::{receive, release};
+pub use taking::{release_all, take};

@@ -1,0 +1,203 @@
+//! Messages that are taken, and releases until none is ready, with what they change.
+
+ghost use Rattle.std.specs.Prelude.{◌≡◌, ◌+◌, ◌-◌, ◌^◌, ◌<◌, ◌≤◌, ◌↔◌, ◌∷◌, ◌++◌, [], List, ℕ, length, Some, None, is_some, IfOk, OnOk, OnErr, IsErrOf};
+ghost use Rattle.rls_ops.specs.declared.op.Op.{Op};
+ghost use Rattle.rls_model.specs.Answers.{answer_of};
+ghost use Rattle.rls_model.specs.Machine.{no_counts, receive_on, release_on, release_all_on, take_on};
+ghost use Rattle.rls_model.specs.Receiving.{State};
+ghost use Rattle.rls_model.specs.Taking.{take_message, take_within};
+ghost use Rattle.rls_model.specs.Taking as model;
+ghost use Rattle.rls_seen.specs.Seen.{Seen, text_over};
+ghost use Rattle.rls_seen.specs.Over.{release_over, released, released_all, IsPartReleased};
+ghost use Rattle.rls_seen.specs.Sane.{IsSane};
+ghost use Rattle.rls_seen.specs.Messages.{with_releases, taken_over, taken_of, IsPartTaken};
+ghost use Rattle.rls_seen.specs.Stands.{StandsFor};
+ghost use Rattle.rls_replica.specs.Releases.{reason_in};
+ghost use Rattle.rls_replica.specs.Steps.{course, CountsReleased, IsPartOfOps, HasRoom, AreFew, IsOnWay, with_receipt, with_reason};
+ghost use Rattle.rls_replica.specs.Names.{KeepsNames};
+ghost use Rattle.rls_replica.specs.Faults.{IsForeign};
+ghost use Rattle.rls_changes.specs.Telling.{all_released_changes, taken_changes, tells_parts, told_course};
+ghost use Rattle.rls_changes.specs.ChangesLaws.{Lead};
+
+use crate::change::Change;
+use crate::receiving::{receive, release};
+use rls_ops::{Message, Op, Ops};
+use rls_replica::{Receipt, Release, Replica, TakeError, Taken};
+use std::alloc::AllocError;
+
+/// Releases until no waiting operation is ready, as `Replica::release_all` does, and puts what that changes in the text after the other
+/// changes. After an error some were released, and of these the last one may not be counted; the changes are those of all of them.
+pub fn release_all(
+    replica: &mut Replica,
+    taken: &mut Taken,
+    changes: &mut Vec<Change>,
+) -> Result<(), AllocError>
+    requires counted { CountsReleased replica.old taken.old }
+    ensures counted { CountsReleased replica.new taken.new }
+    ensures told { OnOk result (told_course replica.new taken.new changes.new.items ≡ release_all_on tells_parts (told_course replica.old taken.old changes.old.items)) }
+    ensures ok { OnOk result (course replica.new taken.new ≡ with_releases (course replica.old taken.old)) }
+    ensures after { OnOk result (replica.new ≡ released_all replica.old) }
+    ensures changes { OnOk result (changes.new.items ≡ changes.old.items ++ all_released_changes replica.old) }
+    ensures err { OnErr result (IsPartReleased replica.old replica.new) }
+    ensures names { KeepsNames replica.old replica.new }
+    ensures arrived { (n : ℕ) → AreFew n taken.old → AreFew n taken.new }
+
+    // Played one after another, what is added leads from the text before to the text now, also after an error.
+    ensures lead { Lead changes.old.items changes.new.items (text_over replica.old) (text_over replica.new) }
+{
+    'releases: while release_one(replica, taken, changes)? {}
+    Ok(())
+}
+
+// Releases the first ready operation, if there is one, and counts it.
+fn release_one(
+    replica: &mut Replica,
+    taken: &mut Taken,
+    changes: &mut Vec<Change>,
+) -> Result<bool, AllocError>
+    requires counted { CountsReleased replica.old taken.old }
+    ensures counted { CountsReleased replica.new taken.new }
+    ensures some { IfOk result (λ b. b ≡ is_some (release_over replica.old)) }
+    ensures told { OnOk result (told_course replica.new taken.new changes.new.items ≡ release_on tells_parts (told_course replica.old taken.old changes.old.items)) }
+    ensures after { OnOk result (replica.new ≡ released replica.old) }
+    ensures err { OnErr result (IsPartReleased replica.old replica.new) }
+    ensures arrived { (n : ℕ) → AreFew n taken.old → AreFew n taken.new }
+    ensures lead { Lead changes.old.items changes.new.items (text_over replica.old) (text_over replica.new) }
+    ensures sane { IsSane replica.old }
+{
+    replica.sane();
+    match release(replica, changes)? {
+        None => Ok(false),
+        Some(release) => {
+            count_release(release, taken)?;
+            Ok(true)
+        }
+    }
+}
+
+// Receives one operation and counts it, and releases what is ready.
+fn take_one(
+    replica: &mut Replica,
+    op: Op,
+    taken: &mut Taken,
+    changes: &mut Vec<Change>,
+) -> Result<(), AllocError>
+    requires counted { CountsReleased replica.old taken.old }
+    requires room { HasRoom taken.old }
+    ensures counted { CountsReleased replica.new taken.new }
+    ensures arrived { (n : ℕ) → AreFew n taken.old → AreFew (n + 1) taken.new }
+    ensures told { OnOk result (told_course replica.new taken.new changes.new.items ≡ release_all_on tells_parts (receive_on tells_parts (told_course replica.old taken.old changes.old.items) op)) }
+    ensures ok { OnOk result ((s : Seen) (os rest : List Op) → IsOnWay s os (course replica.old taken.old) (op ∷ rest) → IsOnWay s os (course replica.new taken.new) rest) }
+    ensures err { OnErr result ((s : Seen) (os rest : List Op) → IsOnWay s os (course replica.old taken.old) (op ∷ rest) → IsPartOfOps s os replica.new) }
+    ensures lead { Lead changes.old.items changes.new.items (text_over replica.old) (text_over replica.new) }
+{
+    replica.sane();
+    let (author, seq) = (op.author, op.seq);
+    let receipt = receive(replica, op, changes)?;
+    replica.sane();
+    count_receipt(author, seq, receipt, taken)?;
+    release_all(replica, taken, changes)?;
+    Ok(())
+}
+
+// Receives each operation in turn, and releases after it what is ready.
+fn take_ops(replica: &mut Replica, ops: Ops, changes: &mut Vec<Change>) -> Result<Taken, AllocError>
+    ensures told { IfOk result (λ taken. told_course replica.new taken changes.new.items ≡ take_on tells_parts (told_course replica.old no_counts changes.old.items) ops) }
+    ensures err { OnErr result (IsPartOfOps replica.old ops replica.new) }
+    ensures lead { Lead changes.old.items changes.new.items (text_over replica.old) (text_over replica.new) }
+{
+    let mut taken = Taken::new(*changes.allocator());
+    let mut rest = ops.into_vec();
+    rest.reverse();
+    'taking: while let Some(op) = rest.pop() {
+        take_one(replica, op, &mut taken, changes)?;
+    }
+    Ok(taken)
+}
+
+/// Takes a message as `Replica::take` does, and puts what that changes in the text after the other changes.
+///
+/// It costs what `Replica::take` does, and about as much again for each operation that is accepted, to find its changes.
+///
+/// # Errors
+///
+/// `OtherGroup` exactly where the message comes from another group or one with another count of members; then nothing changes.
+/// After `OutOfMemory` some of the steps were made, and the changes are those of these steps.
+pub fn take(
+    replica: &mut Replica,
+    message: Message,
+    changes: &mut Vec<Change>,
+) -> Result<Taken, TakeError>
+    requires from { message.from < message.members }
+    requires vector { length message.vector ≡ message.members }
+    ensures taken { IfOk result (λ taken. taken ≡ taken_of (taken_over replica.old message)) }
+    ensures after { OnOk result (replica.new ≡ (taken_over replica.old message).state) }
+    ensures changes { OnOk result (changes.new.items ≡ changes.old.items ++ taken_changes replica.old message) }
+    ensures other_group { (g n : ℕ) → (IsErrOf result (TakeError.OtherGroup g n) ↔ ((g ≡ message.group) × (n ≡ message.members) × IsForeign replica.old message)) }
+    ensures foreign { (g n : ℕ) → IsErrOf result (TakeError.OtherGroup g n) → (replica.new ≡ replica.old) × (changes.new.items ≡ changes.old.items) }
+    ensures cut { IsErrOf result TakeError.OutOfMemory → IsPartTaken replica.old message replica.new }
+    ensures names { KeepsNames replica.old replica.new }
+
+    // Played one after another, what is added leads from the text before to the text now, also after an error.
+    ensures lead { Lead changes.old.items changes.new.items (text_over replica.old) (text_over replica.new) }
+
+    // For every history and waiting operations that the replica stands for.
+    ensures stands { IfOk result (λ taken. (t : State) → StandsFor replica.old t → (taken ≡ model.taken (take_message t message)) × StandsFor replica.new (take_message t message).state) }
+    ensures part { IsErrOf result TakeError.OutOfMemory → (t : State) → StandsFor replica.old t → (n : ℕ) × StandsFor replica.new (take_within (Some n) t message).state }
+{
+    if message.group != replica.group() || message.members != replica.members() {
+        return Err(TakeError::OtherGroup {
+            group: message.group,
+            members: message.members,
+        });
+    }
+    let _len = message.vector.len();
+    message.ops.fits();
+    let Message {
+        from,
+        vector,
+        ops,
+        ..
+    } = message;
+    let taken = take_ops(replica, ops, changes)?;
+    replica.acknowledge(from, &vector);
+    Ok(taken)
+}
+
+// Counts an operation that arrived. After an error nothing is counted.
+fn count_receipt(
+    author: u32,
+    seq: u32,
+    receipt: Receipt,
+    taken: &mut Taken,
+) -> Result<(), AllocError>
+    requires room { HasRoom taken.old }
+    ensures ok { OnOk result (taken.new ≡ with_receipt taken.old author seq (answer_of receipt)) }
+    ensures err { OnErr result (taken.new ≡ taken.old) }
+{
+    match receipt {
+        Receipt::Applied => taken.applied += 1,
+        Receipt::Repeated => taken.repeated += 1,
+        Receipt::Held => taken.held += 1,
+        Receipt::Refused(refusal) => taken.refused.push(author, seq, refusal)?,
+    }
+    Ok(())
+}
+
+// Counts an operation that was released. After an error nothing is counted.
+fn count_release(release: Release, taken: &mut Taken) -> Result<(), AllocError>
+    requires room { taken.old.released < 2 ^ 64 - 1 }
+    ensures ok { OnOk result (taken.new ≡ with_reason taken.old release.author release.seq (reason_in release.refusal)) }
+    ensures err { OnErr result (taken.new ≡ taken.old) }
+{
+    let Release {
+        author,
+        seq,
+        refusal,
+    } = release;
+    match refusal {
+        None => taken.released += 1,
+        Some(refusal) => taken.refused.push(author, seq, refusal)?,
+    }
+    Ok(())
+}
