@@ -70,7 +70,7 @@ again_shows st c (p ∷ ps) (t ∷ ts) x l f =
     let q = taken_back st.held p st.past in
     record { labelled = r.labelled; text = r.text; back = subst (λ (u : List ℕ). Leads q.held q.other (u ∷ c.before)) x.text r.forth; forth = r.back }
 
-move_shows : (st : Steps) (c : Copies) (m : Move) → Shows st c → MayMove st m → Shows (moved st m) (copied c m)
+pub move_shows : (st : Steps) (c : Copies) (m : Move) → Shows st c → MayMove st m → Shows (moved st m) (copied c m)
 move_shows st c (Insertion at cs) x f =
     let h = st.held in
     let r = insertion_leads h at cs st.past c.before x.labelled x.back f.0 f.1 in

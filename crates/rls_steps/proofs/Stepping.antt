@@ -187,7 +187,7 @@ some_deleted s at n h = not_zero n (none_else (n == 0) faults.EmptyEdit _ (range
 
 -- ---- a range that is cut out
 
-distinct_without : (xs ys zs : List Mark) → AreDistinct (xs ++ (ys ++ zs)) → AreDistinct (xs ++ zs)
+pub distinct_without : (xs ys zs : List Mark) → AreDistinct (xs ++ (ys ++ zs)) → AreDistinct (xs ++ zs)
 distinct_without [] ys zs d = distinct_right ys zs d
 distinct_without (x ∷ xs) ys zs d = (λ p. d.0 (wider (in_split x xs zs p)), distinct_without xs ys zs d.1)
   where

@@ -1,6 +1,12 @@
 pub mod Marks
+pub mod Tables
 pub mod Back
 pub mod BackLaws
 pub mod Labelled
 pub mod StepLaws
 pub mod Courses
+pub mod Parts
+pub mod Recorded
+pub mod Returning
+pub mod Groups
+pub mod Forgetting

@@ -2,6 +2,10 @@
 use Rattle.std.specs.Prelude.{ℕ, zero, suc, ◌+◌, ◌==◌, Bool, false, List, [], ◌∷◌, ◌++◌, map, zip, take, drop, Option, Some, None, if◌then◌else◌}
 use Rattle.std.specs.List.{list_any}
 use Rattle.rls_ident.specs.declared.tuple.Tuple.{Tuple}
+-- what a member did at one place, by labels: it put characters in; or cut them out, after a left neighbour and before a right one, but
+-- for the ends of the text
+pub use Rattle.rls_steps.specs.declared.piece.Piece.{Piece}
+pub use Rattle.rls_steps.specs.declared.piece.Piece.TheVariants.{Put, Cut}
 
 -- what a character is told by: its label, which stays when the character goes and comes back under another identifier; or its identifier,
 -- as long as it has no label
@@ -22,12 +26,6 @@ chars m = map (λ e. e.1) m
 -- characters with these labels
 abbrev pub known : List ℕ → List ℕ → Marked
 known labels cs = zip (map Known labels) cs
-
--- what a member did at one place, by labels: it put characters in; or cut them out, after a left neighbour and before a right one, but
--- for the ends of the text
-pub data Piece : Type 0 where
-  Put : (labels : List ℕ) → Piece
-  Cut : (labels : List ℕ) → (text : List ℕ) → (left : Option ℕ) → (right : Option ℕ) → Piece
 
 -- the mark is one of these labels
 abbrev pub is_one_of : List ℕ → Mark → Bool

@@ -2,6 +2,9 @@
 
 ghost use Rattle.rls_steps.specs.BackLaws.{PutBack, CutBack, Exchanged, ReturnsBeside};
 ghost use Rattle.rls_steps.specs.Courses.{AsCopied, AsCopiedFromFirst, UndoneAndRedone, TakesOwnAlone};
+ghost use Rattle.rls_steps.specs.Forgetting.{ForgettingShows};
+ghost use Rattle.rls_steps.specs.Parts.{DeletionShows};
+ghost use Rattle.rls_steps.specs.Recorded.{RenamingShows};
 ghost use Rattle.rls_steps.specs.StepLaws.{LabelledLead, CutTakenBack, PutTakenBack, InsertionLeads, DeletionLeads, RenamingLeads, AppliedRenames};
 
 /// A step that is taken back leaves the text before it, and those below it as they were; the step that does it again stands on the other
@@ -44,4 +47,12 @@ pub fn as_copied()
 /// place, and changes nothing else.
 pub fn own_alone()
     ensures own { TakesOwnAlone }
+{}
+
+/// A deletion that leaves several pieces is a step of an editor that keeps a copy of each text, with texts in between; and renames,
+/// whoever made them, change nothing of what is recorded. If the oldest steps are forgotten, the others lead to their texts as before.
+pub fn followed()
+    ensures deletion { DeletionShows }
+    ensures renaming { RenamingShows }
+    ensures forgetting { ForgettingShows }
 {}

@@ -1,4 +1,16 @@
 //! Undo by steps: what a member did is taken back all the way, and done again.
 #![tactic(auto)]
 
+mod changing;
+mod dropping;
+mod finding;
+mod labelling;
 pub mod laws;
+mod piece;
+mod returning;
+mod splitting;
+mod steps;
+mod undoing;
+
+pub use piece::{Labels, Piece, Step};
+pub use steps::{StepError, Steps};

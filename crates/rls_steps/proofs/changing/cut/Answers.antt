@@ -1,0 +1,11 @@
+use Rattle.std.proofs.Common.{◌∙◌, ap}
+use Rattle.rls_seen.specs.Seen.{Seen}
+use Rattle.rls_seen.proofs.EditedText.{delete_place}
+use Rattle.rls_steps.proofs.Unchanged.{delete_epochs}
+use Rattle.rls_steps.proofs.changing.cut.Goals as goal
+
+pub ready-requires : goal.ready-requires
+ready-requires c = record { places = (delete_place c.args.replica.now c.args.at c.args.count c.in_ok-_op.ensures.fits).0 }
+
+pub returns-in-Ok-perform-clause-epochs : goal.returns-in-Ok-perform-clause-epochs
+returns-in-Ok-perform-clause-epochs c = ap (λ (s : Seen). s.epochs) c.in-Ok-perform.ensures.after ∙ delete_epochs c.args.replica.now c.args.at c.args.count

@@ -1,0 +1,7 @@
+use Rattle.std.proofs.Common.{◌∙◌, ap}
+use Rattle.rls_seen.specs.Seen.{Seen}
+use Rattle.rls_steps.proofs.Unchanged.{insert_epochs}
+use Rattle.rls_steps.proofs.changing.put.Goals as goal
+
+pub returns-in-Ok-perform-clause-epochs : goal.returns-in-Ok-perform-clause-epochs
+returns-in-Ok-perform-clause-epochs c = ap (λ (s : Seen). s.epochs) c.in-Ok-perform.ensures.after ∙ insert_epochs c.args.replica.now c.args.at c.args.text

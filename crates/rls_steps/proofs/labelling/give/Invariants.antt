@@ -1,0 +1,12 @@
+use Rattle.std.proofs.Common.{◌≡◌, length, take, drop}
+use Rattle.rls_seen.specs.Seen.{idents_over}
+use Rattle.rls_steps.specs.Labelled.{label_all}
+use Rattle.rls_steps.specs.Recorded.{held_by}
+use Rattle.rls_steps.proofs.labelling.give.Given as goal
+
+-- the first ones have labels
+abbrev pub invariant-labels : goal.invariant-labels
+invariant-labels l = record {
+  held : held_by l.replica l.next l.names.items ≡ label_all (held_by l.replica l.fn.next l.fn.names.items) (take l.i (take (length l.labels.items) (drop l.from (idents_over l.replica))));
+  front : take (length l.fn.names.items) l.names.items ≡ l.fn.names.items;
+}

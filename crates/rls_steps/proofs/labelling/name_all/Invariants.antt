@@ -1,0 +1,15 @@
+use Rattle.std.proofs.Common.{◌≡◌, ◌≤◌, ◌++◌, length, take, drop}
+use Rattle.std.specs.Prelude.{reverse, zip}
+use Rattle.rls_steps.proofs.labelling.name_all.Given as goal
+
+-- those from a place on are named
+abbrev pub invariant-names : goal.invariant-names
+invariant-names l = record {
+  ids : l.i ≤ length l.ids;
+  labels : l.i ≤ length l.labels;
+  named : reverse l.names.items ≡ drop l.i (zip l.ids l.labels) ++ reverse l.fn.names.items;
+  front : take (length l.fn.names.items) l.names.items ≡ l.fn.names.items;
+}
+
+abbrev pub decreases-names : goal.decreases-names
+decreases-names l = l.i

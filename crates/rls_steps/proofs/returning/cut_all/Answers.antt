@@ -1,0 +1,42 @@
+use Rattle.std.proofs.Common.{◌≡◌, ◌∙◌, ap, subst, refl, length, arith}
+use Rattle.rls_model.specs.declared.edit.Edit.TheVariants as edits
+use Rattle.rls_seen.specs.Edits.{edit_fault_over, IsFault}
+use Rattle.rls_seen.specs.Seen.{Seen}
+use Rattle.rls_steps.specs.Labelled.{Names, Labelled}
+use Rattle.std.proofs.lemmas.Option.{slice_get_read}
+use Rattle.rls_steps.specs.Recorded.{held_by}
+use Rattle.rls_steps.proofs.Cutting.{next_cut, fault_at, part_cut}
+use Rattle.rls_steps.proofs.returning.cut_all.Goals as goal
+
+pub cuts-preserved : goal.cuts-preserved
+cuts-preserved c =
+    let h = held_by c.args.replica.now c.args.next.now c.args.names.now.items in
+    let g = held_by c.cuts.replica c.cuts.next c.cuts.names.items in
+    let k = held_by c.cut.new.replica c.cut.new.next c.cut.new.names.items in
+    let rs = c.args.ranges.now.items in
+    let r = c.index.result.now in
+    let v = c.cuts.invariant in
+    let e = c.in_default.ensures in
+    let n = next_cut h g k rs c.cuts.i c.args.group r c.args.other.now.items c.cuts.other.items c.cut.new.stack.items
+    (slice_get_read rs (length rs) c.cuts.i r refl (omega (arith, c.cuts-test.true)) c.index.ensures) v.fit v.held v.stack (e.whole, e.fits) e.held e.stack in
+    record { epochs = e.epochs ∙ v.epochs; fit = n.fit; held = n.held; stack = n.stack }
+
+pub returns-in-Err-clause-fault : goal.returns-in-Err-clause-fault
+returns-in-Err-clause-fault c =
+    let h = held_by c.args.replica.now c.args.next.now c.args.names.now.items in
+    let rs = c.args.ranges.now.items in
+    let r = c.index.result.now in
+    let v = c.cuts.invariant in
+    fault_at h rs c.cuts.i r c.in-Err.error (slice_get_read rs (length rs) c.cuts.i r refl (omega (arith, c.cuts-test.true)) c.index.ensures) v.fit
+    (subst (λ (x : Labelled). IsFault c.in-Err.error (edit_fault_over x.seen (edits.Delete r.0 r.1))) v.held c.in-Err.ensures.fault)
+
+pub returns-in-Err-clause-part : goal.returns-in-Err-clause-part
+returns-in-Err-clause-part c =
+    let h = held_by c.args.replica.now c.args.next.now c.args.names.now.items in
+    let k = held_by c.cut.new.replica c.cut.new.next c.cut.new.names.items in
+    let v = c.cuts.invariant in
+    let e = c.in-Err.ensures in
+    let same : k ≡ held_by c.cuts.replica c.cuts.next c.cuts.names.items =
+    ap (λ (s : Seen). held_by s c.cut.new.next c.cut.new.names.items) e.err
+    ∙ (ap (λ n. held_by c.cuts.replica n c.cut.new.names.items) e.next ∙ ap (λ (ns : Names). held_by c.cuts.replica c.cuts.next ns) e.names) in
+    part_cut h k c.args.ranges.now.items c.cuts.i c.args.group c.args.other.now.items c.cut.new.stack.items v.fit (same ∙ v.held) (e.stays ∙ v.stack)

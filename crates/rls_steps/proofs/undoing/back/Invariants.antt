@@ -1,0 +1,20 @@
+use Rattle.std.proofs.Common.{◌≡◌, ◌≤◌, ◌+◌, ◌-◌, length, take}
+use Rattle.std.specs.Prelude.{reverse, replicate}
+use Rattle.rls_steps.specs.Courses.{Back, course, MayRun}
+use Rattle.rls_steps.specs.Groups.{stacked, in_front, group_size}
+use Rattle.rls_steps.specs.Recorded.{held_by}
+use Rattle.rls_steps.proofs.undoing.back.Given as goal
+
+-- so many steps of the group were taken back
+abbrev pub invariant-steps : goal.invariant-steps
+invariant-steps l = record {
+  epochs : l.replica.epochs ≡ l.fn.replica.epochs;
+  all : l.done + in_front l.group (reverse l.from.items) ≡ group_size l.fn.from.items;
+  within : l.done ≤ length l.fn.from.items;
+  left : l.from.items ≡ take (length l.fn.from.items - l.done) l.fn.from.items;
+  fit : MayRun (stacked (held_by l.fn.replica l.fn.next l.fn.names.items) l.fn.from.items l.fn.to.items) (replicate l.done Back);
+  after : stacked (held_by l.replica l.next l.names.items) l.from.items l.to.items ≡ course (stacked (held_by l.fn.replica l.fn.next l.fn.names.items) l.fn.from.items l.fn.to.items) (replicate l.done Back);
+}
+
+abbrev pub decreases-steps : goal.decreases-steps
+decreases-steps l = length l.from.items

@@ -1,0 +1,20 @@
+use Rattle.std.proofs.Common.{◌≡◌, List, ◌-◌, ◌<◌, ◌∷◌, [], ◌++◌, length, take, refl, sym, ap, ◌∙◌, arith}
+use Rattle.std.proofs.lemmas.Option.{slice_get_read}
+use Rattle.std.specs.Prelude.{slice_get}
+use Rattle.rls_steps.specs.declared.piece.Step.{Step}
+use Rattle.rls_steps.specs.Recorded.{held_by}
+use Rattle.rls_steps.proofs.Grouping.{last_split, back_once}
+use Rattle.rls_steps.proofs.undoing.back_one.Goals as goal
+
+pub returns-in-Ok-clause-after : goal.returns-in-Ok-clause-after
+returns-in-Ok-clause-after c =
+    let h = held_by c.args.replica.now c.args.next.now c.args.names.now.items in
+    let k = held_by c.take_back.new.replica c.take_back.new.next c.take_back.new.names.items in
+    let xs = c.args.from.now.items in
+    let x = c.index.result.now in
+    let some : 0 < length xs = omega (arith, c.requires.some) in
+    let n : c.len-n.result ≡ length xs = omega arith in
+    let g = ap (λ k. slice_get xs (k - 1)) (sym n) ∙ slice_get_read xs (length xs) (c.len-n.result - 1) x refl (omega (arith, some, n)) c.index.ensures in
+    let front = c.truncate.new.self.items in
+    let f : front ≡ take (length xs - 1) xs = c.truncate.ensures.items ∙ ap (λ k. take (k - 1) xs) n in
+    back_once h k xs front c.args.to.now.items c.take_back.new.other.items x (last_split xs x some g ∙ ap (λ (ys : List Step). ys ++ x ∷ []) (sym f)) c.in-Ok.ensures.held c.in-Ok.ensures.stack

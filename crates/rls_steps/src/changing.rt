@@ -1,0 +1,268 @@
+//! Edits that are steps.
+
+ghost use Rattle.std.specs.Prelude.{◌≡◌, ◌≤◌, ◌<◌, ◌^◌, ◌+◌, ◌++◌, ◌∷◌, [], ℕ, length, take, Some, None, IfOk, IfErr, OnOk, OnErr};
+ghost use Rattle.rls_model.specs.declared.edit.Edit.TheVariants.{Insert, Delete};
+ghost use Rattle.rls_model.specs.WellFormed.{IsEdit};
+ghost use Rattle.rls_seen.specs.Edits.{edit_fault_over, edited, IsFault};
+ghost use Rattle.rls_seen.specs.Seen.{own_count};
+ghost use Rattle.rls_steps.specs.Marks.{Put, numbers_from};
+ghost use Rattle.rls_steps.specs.Labelled.{ready_over, cut_over, cut_piece, put_over, insert_over};
+ghost use Rattle.rls_steps.specs.Parts.{parts};
+ghost use Rattle.rls_steps.specs.Recorded.{held_by, steps_of};
+
+use crate::labelling::{name_inserted, ready};
+use crate::piece::{Labels, Piece, Step};
+use crate::splitting::push_parts;
+use rls_ident::Ident;
+use rls_replica::{Edit, EditError, Replica};
+use rls_runs::Text;
+use std::alloc::{AllocError, Global};
+
+/// Cuts characters out, and puts the piece that this leaves on a stack. After an error all is as before.
+pub(crate) fn cut(
+    replica: &mut Replica,
+    names: &mut Vec<(Ident, u64)>,
+    next: &mut u64,
+    stack: &mut Vec<Step>,
+    group: u64,
+    at: u64,
+    count: u64,
+) -> Result<u32, EditError>
+    ensures fault { IfErr result (λ e. IsFault e (edit_fault_over replica.old (Delete at count))) }
+    ensures fits { OnOk result (edit_fault_over replica.old (Delete at count) ≡ None) }
+    ensures whole { IsEdit (Delete at count) }
+    ensures after { OnOk result (replica.new ≡ edited replica.old (Delete at count)) }
+    ensures held { OnOk result (held_by replica.new next.new names.new.items ≡ cut_over (ready_over (held_by replica.old next.old names.old.items) at count) at count) }
+    ensures stack { OnOk result (stack.new.items ≡ stack.old.items ++ record { group = group; piece = cut_piece (ready_over (held_by replica.old next.old names.old.items) at count) at count } ∷ []) }
+    ensures err { OnErr result (replica.new ≡ replica.old) }
+    ensures names { OnErr result (names.new.items ≡ names.old.items) }
+    ensures next { OnErr result (next.new ≡ next.old) }
+    ensures stays { OnErr result (stack.new.items ≡ stack.old.items) }
+    ensures epochs { replica.new.epochs ≡ replica.old.epochs }
+{
+    let edit = Edit::Delete { at, count };
+    edit.fits();
+    let _op = replica.made(&edit)?;
+    let before = names.len();
+    let first = *next;
+    match ready(replica, names, next, at, count) {
+        Err(_) => {
+            names.truncate(before);
+            *next = first;
+            Err(EditError::OutOfMemory)
+        }
+        Ok(piece) => match perform(replica, &edit, stack, Step { group, piece }) {
+            Ok(seq) => Ok(seq),
+            Err(error) => {
+                names.truncate(before);
+                *next = first;
+                Err(error)
+            }
+        },
+    }
+}
+
+/// Cuts characters out, and puts the pieces that this leaves on a stack, each of which one insertion puts back. After an error all is
+/// as before.
+pub(crate) fn delete(
+    replica: &mut Replica,
+    names: &mut Vec<(Ident, u64)>,
+    next: &mut u64,
+    stack: &mut Vec<Step>,
+    group: u64,
+    at: u64,
+    count: u64,
+) -> Result<u32, EditError>
+    ensures fault { IfErr result (λ e. IsFault e (edit_fault_over replica.old (Delete at count))) }
+    ensures fits { OnOk result (edit_fault_over replica.old (Delete at count) ≡ None) }
+    ensures whole { IsEdit (Delete at count) }
+    ensures seq { IfOk result (λ n. n ≡ own_count replica.old + 1) }
+    ensures after { OnOk result (replica.new ≡ edited replica.old (Delete at count)) }
+    ensures held { OnOk result (held_by replica.new next.new names.new.items ≡ cut_over (ready_over (held_by replica.old next.old names.old.items) at count) at count) }
+    ensures stack { OnOk result (stack.new.items ≡ stack.old.items ++ steps_of group (parts (cut_piece (ready_over (held_by replica.old next.old names.old.items) at count) at count))) }
+    ensures err { OnErr result (replica.new ≡ replica.old) }
+    ensures names { OnErr result (names.new.items ≡ names.old.items) }
+    ensures next { OnErr result (next.new ≡ next.old) }
+    ensures stays { OnErr result (stack.new.items ≡ stack.old.items) }
+    ensures epochs { replica.new.epochs ≡ replica.old.epochs }
+{
+    let edit = Edit::Delete { at, count };
+    edit.fits();
+    let _op = replica.made(&edit)?;
+    let before = names.len();
+    let steps = stack.len();
+    let first = *next;
+    match prepared(replica, names, next, stack, group, at, count) {
+        Err(_) => {
+            names.truncate(before);
+            stack.truncate(steps);
+            *next = first;
+            Err(EditError::OutOfMemory)
+        }
+        Ok(()) => match replica.edit(&edit) {
+            Ok(seq) => Ok(seq),
+            Err(error) => {
+                names.truncate(before);
+                stack.truncate(steps);
+                *next = first;
+                Err(error)
+            }
+        },
+    }
+}
+
+// Labels for a range and its neighbours, and the pieces that its deletion leaves.
+fn prepared(
+    replica: &Replica,
+    names: &mut Vec<(Ident, u64)>,
+    next: &mut u64,
+    stack: &mut Vec<Step>,
+    group: u64,
+    at: u64,
+    count: u64,
+) -> Result<(), AllocError>
+    requires places { at + count ≤ length replica.now.text }
+    ensures held { OnOk result (held_by replica.now next.new names.new.items ≡ ready_over (held_by replica.now next.old names.old.items) at count) }
+    ensures stack { OnOk result (stack.new.items ≡ stack.old.items ++ steps_of group (parts (cut_piece (held_by replica.now next.new names.new.items) at count))) }
+    ensures names { take (length names.old.items) names.new.items ≡ names.old.items }
+    ensures steps { take (length stack.old.items) stack.new.items ≡ stack.old.items }
+{
+    match ready(replica, names, next, at, count) {
+        Err(_) => Err(AllocError),
+        Ok(piece) => match push_parts(stack, group, piece) {
+            Err(_) => Err(AllocError),
+            Ok(()) => Ok(()),
+        },
+    }
+}
+
+/// Inserts characters with these labels, and puts their piece on a stack. After an error all is as before.
+pub(crate) fn put(
+    replica: &mut Replica,
+    names: &mut Vec<(Ident, u64)>,
+    stack: &mut Vec<Step>,
+    group: u64,
+    at: u64,
+    text: Text,
+    labels: Labels,
+) -> Result<u32, EditError>
+    ensures fault { IfErr result (λ e. IsFault e (edit_fault_over replica.old (Insert at text))) }
+    ensures fits { OnOk result (edit_fault_over replica.old (Insert at text) ≡ None) }
+    ensures whole { IsEdit (Insert at text) }
+    ensures seq { IfOk result (λ n. n ≡ own_count replica.old + 1) }
+    ensures after { OnOk result (replica.new ≡ edited replica.old (Insert at text)) }
+    ensures held { OnOk result ((next : ℕ) → held_by replica.new next names.new.items ≡ put_over (held_by replica.old next names.old.items) at labels text) }
+    ensures stack { OnOk result (stack.new.items ≡ stack.old.items ++ record { group = group; piece = Put labels } ∷ []) }
+    ensures err { OnErr result (replica.new ≡ replica.old) }
+    ensures names { OnErr result (names.new.items ≡ names.old.items) }
+    ensures stays { OnErr result (stack.new.items ≡ stack.old.items) }
+    ensures epochs { replica.new.epochs ≡ replica.old.epochs }
+{
+    let edit = Edit::Insert { at, text };
+    edit.fits();
+    let op = replica.made(&edit)?;
+    let before = names.len();
+    match name_inserted(names, &op, labels.as_slice()) {
+        Err(_) => {
+            names.truncate(before);
+            Err(EditError::OutOfMemory)
+        }
+        Ok(()) => {
+            let piece = Piece::Put { labels };
+            match perform(replica, &edit, stack, Step { group, piece }) {
+                Ok(seq) => Ok(seq),
+                Err(error) => {
+                    names.truncate(before);
+                    Err(error)
+                }
+            }
+        }
+    }
+}
+
+/// Inserts characters, which get the next labels. After an error all is as before.
+pub(crate) fn insert(
+    replica: &mut Replica,
+    names: &mut Vec<(Ident, u64)>,
+    next: &mut u64,
+    stack: &mut Vec<Step>,
+    group: u64,
+    at: u64,
+    text: Text,
+) -> Result<u32, EditError>
+    ensures fault { IfErr result (λ e. IsFault e (edit_fault_over replica.old (Insert at text))) }
+    ensures fits { OnOk result (edit_fault_over replica.old (Insert at text) ≡ None) }
+    ensures seq { IfOk result (λ n. n ≡ own_count replica.old + 1) }
+    ensures after { OnOk result (replica.new ≡ edited replica.old (Insert at text)) }
+    ensures held { OnOk result (held_by replica.new next.new names.new.items ≡ insert_over (held_by replica.old next.old names.old.items) at text) }
+    ensures stack { OnOk result (stack.new.items ≡ stack.old.items ++ record { group = group; piece = Put (numbers_from next.old (length text)) } ∷ []) }
+    ensures err { OnErr result (replica.new ≡ replica.old) }
+    ensures names { OnErr result (names.new.items ≡ names.old.items) }
+    ensures next { OnErr result (next.new ≡ next.old) }
+    ensures stays { OnErr result (stack.new.items ≡ stack.old.items) }
+    ensures epochs { replica.new.epochs ≡ replica.old.epochs }
+{
+    let count = text.len();
+    let first = *next;
+    let Some(more) = first.checked_add(count as u64) else {
+        return Err(EditError::OutOfMemory);
+    };
+    let Ok(numbers) = numbers(*names.allocator(), first, count) else {
+        return Err(EditError::OutOfMemory);
+    };
+    match put(
+        replica,
+        names,
+        stack,
+        group,
+        at,
+        text,
+        Labels::from_vec(numbers),
+    ) {
+        Err(error) => Err(error),
+        Ok(seq) => {
+            *next = more;
+            Ok(seq)
+        }
+    }
+}
+
+// So many numbers, from one on.
+fn numbers(alloc: Global, first: u64, count: usize) -> Result<Vec<u64>, AllocError>
+    requires end { first + count < 2 ^ 64 }
+    ensures numbers { IfOk result (λ ns. ns.items ≡ numbers_from first count) }
+{
+    let mut numbers = Vec::with_capacity(alloc, count)?;
+    'numbers: for i in 0..count {
+        numbers.push(first + i as u64)?;
+    }
+    Ok(numbers)
+}
+
+// Performs an edit, with its step on the stack.
+fn perform(
+    replica: &mut Replica,
+    edit: &Edit,
+    stack: &mut Vec<Step>,
+    step: Step,
+) -> Result<u32, EditError>
+    ensures fault { IfErr result (λ e. IsFault e (edit_fault_over replica.old edit.now)) }
+    ensures fits { OnOk result (edit_fault_over replica.old edit.now ≡ None) }
+    ensures seq { IfOk result (λ n. n ≡ own_count replica.old + 1) }
+    ensures after { OnOk result (replica.new ≡ edited replica.old edit.now) }
+    ensures stack { OnOk result (stack.new.items ≡ stack.old.items ++ step ∷ []) }
+    ensures err { OnErr result (replica.new ≡ replica.old) }
+    ensures stays { OnErr result (stack.new.items ≡ stack.old.items) }
+{
+    let before = stack.len();
+    if stack.push(step).is_err() {
+        return Err(EditError::OutOfMemory);
+    }
+    match replica.edit(edit) {
+        Ok(seq) => Ok(seq),
+        Err(error) => {
+            stack.truncate(before);
+            Err(error)
+        }
+    }
+}

@@ -1,0 +1,319 @@
+//! Labels of a replica's characters.
+
+ghost use Rattle.std.specs.Prelude.{◌≡◌, ◌≤◌, ◌<◌, ◌+◌, ◌-◌, ◌++◌, ◌∷◌, [], ℕ, List, length, take, drop, reverse, map, zip, min, set, replicate, slice_get, Some, None, IfOk, OnOk, OnErr};
+ghost use Rattle.rls_ident.specs.declared.tuple.Tuple.{Tuple};
+ghost use Rattle.rls_runs.specs.Runs.{run_idents};
+ghost use Rattle.rls_seen.specs.Over.{placed_over};
+ghost use Rattle.rls_seen.specs.Seen.{idents_over};
+ghost use Rattle.rls_steps.specs.declared.piece.Piece.TheVariants.{Cut};
+ghost use Rattle.rls_steps.specs.Labelled.{label_of, label_all, new_label, ready_over, cut_piece, inserted_by};
+ghost use Rattle.rls_steps.specs.Tables.{marked_on, label_there, left_there, given_labels};
+ghost use Rattle.rls_steps.specs.Recorded.{held_by};
+
+use crate::piece::{Labels, Piece};
+use rls_ident::{EpochName, Ident};
+use rls_ops::{Body, Op};
+use rls_replica::Replica;
+use rls_runs::{Run, Runs, Text};
+use std::alloc::{AllocError, Global};
+
+/// The labels of the characters from a place on, where they have any. It costs a way down the tree for each name.
+pub(crate) fn labels_of(
+    replica: &Replica,
+    names: &Vec<(Ident, u64)>,
+    from: u64,
+    count: u64,
+) -> Result<Vec<Option<u64>>, AllocError>
+    requires places { from + count ≤ length replica.now.text }
+    ensures labels { IfOk result (λ ls. ls.items ≡ map (label_of (reverse names.now.items)) (take count (drop from (idents_over replica.now)))) }
+{
+    let mut labels = blank(*names.allocator(), count as usize)?;
+    'names: for i in 0..names.len() {
+        let (ident, label) = &names[i];
+        mark(&mut labels, replica, ident, *label, from);
+    }
+    Ok(labels)
+}
+
+// No labels, so many times.
+fn blank(alloc: Global, count: usize) -> Result<Vec<Option<u64>>, AllocError>
+    ensures blank { IfOk result (λ ls. ls.items ≡ replicate count None) }
+{
+    let mut labels = Vec::with_capacity(alloc, count)?;
+    'places: for i in 0..count {
+        labels.push(None)?;
+    }
+    Ok(labels)
+}
+
+// A newer name.
+fn mark(labels: &mut Vec<Option<u64>>, replica: &Replica, ident: &Ident, label: u64, from: u64)
+    requires places { from + length labels.old.items ≤ length replica.now.text }
+    ensures marked { labels.new.items ≡ marked_on ident.now label (take (length labels.old.items) (drop from (idents_over replica.now))) labels.old.items }
+{
+    replica.sane();
+    match replica.find(ident) {
+        Err(_) => {}
+        Ok(at) => set_label(labels, at, from, label),
+    }
+}
+
+// The label of a place, if this is among them.
+fn set_label(labels: &mut Vec<Option<u64>>, at: u64, from: u64, label: u64)
+    ensures within { from ≤ at → at - from < length labels.old.items → labels.new.items ≡ set labels.old.items (at - from) (Some label) }
+    ensures before { at < from → labels.new.items ≡ labels.old.items }
+    ensures behind { length labels.old.items ≤ at - from → labels.new.items ≡ labels.old.items }
+{
+    if at < from || at - from >= labels.len() as u64 {
+        return;
+    }
+    labels[(at - from) as usize] = Some(label);
+}
+
+/// Gives a label to each character from a place on that has none.
+pub(crate) fn give(
+    replica: &Replica,
+    names: &mut Vec<(Ident, u64)>,
+    next: &mut u64,
+    from: u64,
+    labels: &Vec<Option<u64>>,
+) -> Result<(), AllocError>
+    requires places { from + length labels.now.items ≤ length replica.now.text }
+    requires labels { labels.now.items ≡ map (label_of (reverse names.old.items)) (take (length labels.now.items) (drop from (idents_over replica.now))) }
+    ensures ok { OnOk result (held_by replica.now next.new names.new.items ≡ label_all (held_by replica.now next.old names.old.items) (take (length labels.now.items) (drop from (idents_over replica.now)))) }
+    ensures front { take (length names.old.items) names.new.items ≡ names.old.items }
+{
+    replica.sane();
+    'labels: for i in 0..labels.len() {
+        give_one(replica, names, next, from + i as u64, labels[i])?;
+    }
+    Ok(())
+}
+
+// Gives the character at a place a label, unless it has this one.
+fn give_one(
+    replica: &Replica,
+    names: &mut Vec<(Ident, u64)>,
+    next: &mut u64,
+    at: u64,
+    label: Option<u64>,
+) -> Result<(), AllocError>
+    requires place { at < length replica.now.text }
+    ensures given { OnOk result ((x : List Tuple) → slice_get (idents_over replica.now) at ≡ Some x → held_by replica.now next.new names.new.items ≡ new_label label (held_by replica.now next.old names.old.items) x) }
+    ensures front { take (length names.old.items) names.new.items ≡ names.old.items }
+{
+    match label {
+        Some(_) => Ok(()),
+        None => {
+            let ident = replica.ident_at(at)?;
+            name(ident, names, next)
+        }
+    }
+}
+
+// One more name.
+fn name(ident: Ident, names: &mut Vec<(Ident, u64)>, next: &mut u64) -> Result<(), AllocError>
+    ensures names { OnOk result (names.new.items ≡ names.old.items ++ (ident, next.old) ∷ []) }
+    ensures next { OnOk result (next.new ≡ next.old + 1) }
+    ensures stay { OnErr result (names.new.items ≡ names.old.items) }
+    ensures err { OnErr result (next.new ≡ next.old) }
+{
+    let label = *next;
+    let Some(more) = label.checked_add(1) else {
+        return Err(AllocError);
+    };
+    names.push((ident, label))?;
+    *next = more;
+    Ok(())
+}
+
+/// Gives labels to the characters of a range and to its neighbours, and answers the piece that its deletion leaves.
+pub(crate) fn ready(
+    replica: &Replica,
+    names: &mut Vec<(Ident, u64)>,
+    next: &mut u64,
+    at: u64,
+    count: u64,
+) -> Result<Piece, AllocError>
+    requires places { at + count ≤ length replica.now.text }
+    ensures ok { OnOk result (held_by replica.now next.new names.new.items ≡ ready_over (held_by replica.now next.old names.old.items) at count) }
+    ensures piece { IfOk result (λ p. p ≡ cut_piece (held_by replica.now next.new names.new.items) at count) }
+    ensures front { take (length names.old.items) names.new.items ≡ names.old.items }
+{
+    let total = replica.total();
+    let from = before(at);
+    let many = near(total - from, count);
+    let old = labels_of(replica, names, from, many)?;
+    give(replica, names, next, from, &old)?;
+    let labels = labels_of(replica, names, from, many)?;
+    let text = replica.text_of(at, count)?;
+    match piece_of(&labels, from, at, count, text) {
+        Err(_) => Err(AllocError),
+        Ok(piece) => Ok(piece),
+    }
+}
+
+// The place before, but for the front.
+fn before(at: u64) -> u64
+    ensures before { result ≡ at - 1 }
+{
+    if at == 0 {
+        return 0;
+    }
+    at - 1
+}
+
+// Two more than the count, as far as there are so many.
+fn near(rest: u64, count: u64) -> u64
+    requires rest { count ≤ rest }
+    ensures near { result ≡ min (count + 2) rest }
+{
+    if rest - count < 2 {
+        return rest;
+    }
+    count + 2
+}
+
+// The piece of a range, where these are the labels of its characters and of its neighbours.
+fn piece_of(
+    labels: &Vec<Option<u64>>,
+    from: u64,
+    at: u64,
+    count: u64,
+    text: Text,
+) -> Result<Piece, AllocError>
+    requires from { from ≤ at }
+    requires labels { (at - from) + count ≤ length labels.now.items }
+    ensures piece { IfOk result (λ p. p ≡ Cut (given_labels (take count (drop (at - from) labels.now.items))) text (left_there at labels.now.items) (label_there (slice_get labels.now.items ((at - from) + count)))) }
+{
+    let skip = (at - from) as usize;
+    Ok(Piece::Cut {
+        labels: Labels::from_vec(known(labels, skip, count as usize)?),
+        text,
+        left: left(labels, at),
+        right: there(labels, skip + count as usize),
+    })
+}
+
+// The labels within a range.
+fn known(labels: &Vec<Option<u64>>, from: usize, count: usize) -> Result<Vec<u64>, AllocError>
+    requires places { from + count ≤ length labels.now.items }
+    ensures known { IfOk result (λ ns. ns.items ≡ given_labels (take count (drop from labels.now.items))) }
+{
+    let mut numbers = Vec::new(*labels.allocator());
+    'places: for i in 0..count {
+        push_known(&mut numbers, labels[from + i])?;
+    }
+    Ok(numbers)
+}
+
+// One more label, if it is one.
+fn push_known(numbers: &mut Vec<u64>, label: Option<u64>) -> Result<(), AllocError>
+    ensures ok { OnOk result (numbers.new.items ≡ numbers.old.items ++ given_labels (label ∷ [])) }
+{
+    match label {
+        None => Ok(()),
+        Some(label) => {
+            numbers.push(label)?;
+            Ok(())
+        }
+    }
+}
+
+// The first label, but for the front of the text.
+fn left(labels: &Vec<Option<u64>>, at: u64) -> Option<u64>
+    ensures left { result ≡ left_there at labels.now.items }
+{
+    if at == 0 {
+        return None;
+    }
+    there(labels, 0)
+}
+
+// The label at a place, if there is one.
+fn there(labels: &Vec<Option<u64>>, i: usize) -> Option<u64>
+    ensures there { result ≡ label_there (slice_get labels.now.items i) }
+{
+    if i < labels.len() {
+        return labels[i];
+    }
+    None
+}
+
+/// Names the characters that an operation inserts.
+pub(crate) fn name_inserted(
+    names: &mut Vec<(Ident, u64)>,
+    op: &Op,
+    labels: &[u64],
+) -> Result<(), AllocError>
+    ensures ok { OnOk result (reverse names.new.items ≡ zip (inserted_by op.now.body) labels.now ++ reverse names.old.items) }
+    ensures front { take (length names.old.items) names.new.items ≡ names.old.items }
+{
+    match &op.body {
+        Body::Insert { first, text } => {
+            let ids = run_of(*names.allocator(), first, text.len())?;
+            match name_all(names, &ids, labels) {
+                Err(_) => Err(AllocError),
+                Ok(()) => Ok(()),
+            }
+        }
+        _ => Ok(()),
+    }
+}
+
+// The run of so many identifiers. There is always one, where an insertion has them.
+fn run_of(alloc: Global, first: &Ident, count: usize) -> Result<Runs, AllocError>
+    ensures run { IfOk result (λ xs. xs ≡ run_idents first.now count) }
+{
+    let mut ids = Runs::new(alloc);
+    let Ok(len) = u32::try_from(count) else {
+        return Err(AllocError);
+    };
+    let Ok(run) = Run::new(first.copy()?, len) else {
+        return Err(AllocError);
+    };
+    ids.append(run)?;
+    Ok(ids)
+}
+
+// Gives these identifiers these labels, the first one last.
+fn name_all(names: &mut Vec<(Ident, u64)>, ids: &Runs, labels: &[u64]) -> Result<(), AllocError>
+    ensures ok { OnOk result (reverse names.new.items ≡ zip ids.now labels.now ++ reverse names.old.items) }
+    ensures front { take (length names.old.items) names.new.items ≡ names.old.items }
+{
+    let mut i = fewer(ids.total(), labels.len());
+    'names: while i > 0 {
+        i -= 1;
+        names.push((ids.get(i as u64)?, labels[i]))?;
+    }
+    Ok(())
+}
+
+// The lesser of two numbers.
+fn fewer(total: u64, len: usize) -> usize
+    ensures fewer { result ≡ min total len }
+{
+    if total < len as u64 {
+        return total as usize;
+    }
+    len
+}
+
+/// Identifiers of an epoch in the greatest one.
+pub(crate) fn translated(
+    replica: &Replica,
+    epoch: EpochName,
+    names: &Vec<(Ident, u64)>,
+) -> Result<Vec<(Ident, u64)>, AllocError>
+    ensures there { IfOk result (λ ns. ns.items ≡ map (λ n. (placed_over replica.now epoch n.0, n.1)) names.now.items) }
+{
+    let mut there = Vec::with_capacity(*names.allocator(), names.len())?;
+    'names: for i in 0..names.len() {
+        let (ident, label) = &names[i];
+        let Ok(ident) = replica.ident_to_greatest(epoch, ident) else {
+            return Err(AllocError);
+        };
+        there.push((ident, *label))?;
+    }
+    Ok(there)
+}

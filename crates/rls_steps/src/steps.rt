@@ -1,0 +1,343 @@
+//! What a member did to its text, step by step, and what it took back.
+
+ghost use Rattle.std.specs.Prelude.{◌≡◌, ◌+◌, ◌++◌, ◌∷◌, [], ℕ, List, length, take, ◌-◌, map, replicate, Some, None, IfOk, IfErr, OnOk, OnErr, IsErrOf, ◌↔◌, IsFalse, ◌≤◌, ◌⊎◌};
+ghost use Rattle.rls_ident.specs.declared.epoch_name.EpochName.{EpochName};
+ghost use Rattle.rls_model.specs.declared.edit.EditError.{EditError};
+ghost use Rattle.rls_model.specs.declared.edit.Edit.TheVariants.{Insert, Delete};
+ghost use Rattle.rls_seen.specs.Edits.{edit_fault_over, edited};
+ghost use Rattle.rls_seen.specs.Seen.{own_count, greatest_over};
+ghost use Rattle.rls_replica.specs.Names.{keeps, KeepsNames};
+ghost use Rattle.rls_steps.specs.Courses.{Back, Again, course, MayRun, Copies, Shows, copies};
+ghost use Rattle.rls_steps.specs.Forgetting.{forgotten, without_first};
+ghost use Rattle.rls_steps.specs.Groups.{group_size, group_count, IsStopped};
+ghost use Rattle.rls_steps.specs.Recorded.{unused, settled, steps_over, names_over, IsRecorded};
+
+use crate::changing::{delete, insert};
+use crate::dropping::{drop_first, forgotten};
+use crate::labelling::translated;
+use crate::piece::Step;
+use crate::undoing::{back, count};
+use rls_ident::{EpochName, Ident};
+use rls_replica::{Edit, EditError, PastError, Replica};
+use rls_runs::Text;
+use std::alloc::Global;
+use std::marker::Model;
+
+/// Why nothing is done, or not to its end.
+#[derive(Clone, Copy, Debug, PartialEq, Eq)]
+pub enum StepError {
+    /// There is nothing to undo, or nothing to redo.
+    Nothing,
+    /// The replica doesn't keep the epoch of what is recorded.
+    Dropped { epoch: EpochName },
+    /// The edit that comes next is refused.
+    Edit(EditError),
+    OutOfMemory,
+}
+
+/// What a member did to its text and can take back all the way, in groups; and what it took back and can do again.
+#[derive(Drop)]
+pub struct Steps {
+    epoch: EpochName,
+    next: u64,
+    names: Vec<(Ident, u64)>,
+    past: Vec<Step>,
+    future: Vec<Step>,
+    group: u64,
+}
+
+impl Model for Steps {
+    ghost use Rattle.rls_steps.specs.Recorded.{Recorded};
+
+    ghost Value = { Recorded };
+
+    ghost view = { λ s. record { epoch = s.epoch; next = s.next; names = s.names.items; past = s.past.items; future = s.future.items; group = s.group } };
+}
+
+impl Steps {
+    /// Nothing is recorded. It takes no memory.
+    pub fn new(alloc: Global) -> Steps
+        ensures unused { result ≡ unused }
+    {
+        Steps {
+            epoch: EpochName::Origin,
+            next: 0,
+            names: Vec::new(alloc),
+            past: Vec::new(alloc),
+            future: Vec::new(alloc),
+            group: 0,
+        }
+    }
+
+    /// How many groups can be undone.
+    pub fn undoable(&self) -> usize
+        ensures count { result ≡ group_count self.now.past }
+    {
+        count(&self.past)
+    }
+
+    /// How many groups can be redone.
+    pub fn redoable(&self) -> usize
+        ensures count { result ≡ group_count self.now.future }
+    {
+        count(&self.future)
+    }
+
+    /// How many names of characters are kept. It grows with each character that is inserted or deleted, and `forget` leaves it as it
+    /// is: to begin anew, make a new `Steps`.
+    pub fn named(&self) -> usize
+        ensures count { result ≡ length self.now.names }
+    {
+        self.names.len()
+    }
+
+    /// Ends the open group: the next edit begins another one.
+    pub fn close(&mut self)
+        ensures epoch { self.new.epoch ≡ self.old.epoch }
+        ensures next { self.new.next ≡ self.old.next }
+        ensures names { self.new.names ≡ self.old.names }
+        ensures past { self.new.past ≡ self.old.past }
+        ensures future { self.new.future ≡ self.old.future }
+    {
+        if let Some(group) = self.group.checked_add(1) {
+            self.group = group;
+        }
+    }
+
+    /// Forgets the oldest groups that can be undone, so that at most so many steps are left, which put in or cut out at most so many
+    /// characters. It takes no memory.
+    pub fn forget(&mut self, steps: usize, chars: u64)
+        ensures left { self.new ≡ without_first (forgotten steps chars self.old.past) self.old }
+        ensures within { forgotten steps chars self.old.past ≤ length self.old.past }
+    {
+        let count = forgotten(&self.past, steps, chars);
+        drop_first(&mut self.past, count);
+    }
+
+    /// Translates everything to the greatest epoch, as is needed before what is stable is dropped. After an error all is as before.
+    ///
+    /// # Errors
+    ///
+    /// `Dropped` exactly where the replica doesn't keep the epoch.
+    pub fn settle(&mut self, replica: &Replica) -> Result<(), PastError>
+        ensures settled { OnOk result (self.new ≡ settled replica.now self.old) }
+        ensures dropped { (e : EpochName) → (IsErrOf result (PastError.Dropped e) ↔ ((self.old.epoch ≡ e) × IsFalse (keeps replica.now e))) }
+        ensures stays { OnErr result (self.new ≡ self.old) }
+    {
+        let epoch = self.epoch;
+        if !replica.keeps(epoch) {
+            return Err(PastError::Dropped { epoch });
+        }
+        let greatest = replica.greatest();
+        if epoch.same(&greatest) {
+            return Ok(());
+        }
+        match translated(replica, epoch, &self.names) {
+            Err(_) => Err(PastError::OutOfMemory),
+            Ok(names) => {
+                self.names = names;
+                self.epoch = greatest;
+                Ok(())
+            }
+        }
+    }
+
+    /// Performs an edit as `Replica::edit` does. An insertion and a deletion are steps of the open group, and what could be redone
+    /// is forgotten. After an error all is as before, but that everything may be in the greatest epoch.
+    ///
+    /// # Errors
+    ///
+    /// `Edit` with the first fault of the edit; `Dropped` only where the replica doesn't keep the epoch of what is recorded; or
+    /// `OutOfMemory`.
+    pub fn edit(&mut self, replica: &mut Replica, edit: &Edit) -> Result<u32, StepError>
+        ensures nothing { IsErrOf result StepError.Nothing → ⊥ }
+        ensures memory { IsErrOf result (StepError.Edit EditError.OutOfMemory) → ⊥ }
+        ensures refused { (f : EditError) → IsErrOf result (StepError.Edit f) → edit_fault_over replica.old edit.now ≡ Some f }
+        ensures dropped { (e : EpochName) → IsErrOf result (StepError.Dropped e) → (self.old.epoch ≡ e) × IsFalse (keeps replica.old e) }
+        ensures fits { OnOk result (edit_fault_over replica.old edit.now ≡ None) }
+        ensures seq { IfOk result (λ n. n ≡ own_count replica.old + 1) }
+        ensures after { OnOk result (replica.new ≡ edited replica.old edit.now) }
+        ensures recorded { OnOk result (IsRecorded edit.now replica.old self.old replica.new self.new) }
+        ensures err { OnErr result (replica.new ≡ replica.old) }
+        ensures stays { OnErr result (settled replica.old self.new ≡ settled replica.old self.old) }
+        ensures names { KeepsNames replica.old replica.new }
+    {
+        match edit {
+            Edit::Insert { at, text } => {
+                self.settle_for(replica)?;
+                self.insert(replica, *at, text)
+            }
+            Edit::Delete { at, count } => {
+                self.settle_for(replica)?;
+                self.delete(replica, *at, *count)
+            }
+            Edit::Rename | Edit::Leave => match replica.edit(edit) {
+                Ok(seq) => Ok(seq),
+                Err(error) => Err(step_error(error)),
+            },
+        }
+    }
+
+    fn settle_for(&mut self, replica: &Replica) -> Result<(), StepError>
+        ensures settled { OnOk result (self.new ≡ settled replica.now self.old) }
+        ensures dropped { (e : EpochName) → (IsErrOf result (StepError.Dropped e) ↔ ((self.old.epoch ≡ e) × IsFalse (keeps replica.now e))) }
+        ensures stays { OnErr result (self.new ≡ self.old) }
+        ensures nothing { IsErrOf result StepError.Nothing → ⊥ }
+        ensures edit { (f : EditError) → IsErrOf result (StepError.Edit f) → ⊥ }
+    {
+        match self.settle(replica) {
+            Ok(()) => Ok(()),
+            Err(PastError::Dropped { epoch }) => Err(StepError::Dropped { epoch }),
+            Err(PastError::OutOfMemory) => Err(StepError::OutOfMemory),
+        }
+    }
+
+    // Everything is in the greatest epoch.
+    fn insert(&mut self, replica: &mut Replica, at: u64, text: &Text) -> Result<u32, StepError>
+        requires greatest { self.old.epoch ≡ greatest_over replica.old }
+        ensures nothing { IsErrOf result StepError.Nothing → ⊥ }
+        ensures memory { IsErrOf result (StepError.Edit EditError.OutOfMemory) → ⊥ }
+        ensures refused { (f : EditError) → IsErrOf result (StepError.Edit f) → edit_fault_over replica.old (Insert at text.now) ≡ Some f }
+        ensures kept { (e : EpochName) → IsErrOf result (StepError.Dropped e) → ⊥ }
+        ensures fits { OnOk result (edit_fault_over replica.old (Insert at text.now) ≡ None) }
+        ensures seq { IfOk result (λ n. n ≡ own_count replica.old + 1) }
+        ensures after { OnOk result (replica.new ≡ edited replica.old (Insert at text.now)) }
+        ensures recorded { OnOk result (IsRecorded (Insert at text.now) replica.old self.old replica.new self.new) }
+        ensures err { OnErr result (replica.new ≡ replica.old) }
+        ensures stays { OnErr result (self.new ≡ self.old) }
+        ensures epochs { replica.new.epochs ≡ replica.old.epochs }
+    {
+        let Ok(text) = text.copy() else {
+            return Err(StepError::OutOfMemory);
+        };
+        match insert(
+            replica,
+            &mut self.names,
+            &mut self.next,
+            &mut self.past,
+            self.group,
+            at,
+            text,
+        ) {
+            Err(error) => Err(step_error(error)),
+            Ok(seq) => {
+                self.future.clear();
+                Ok(seq)
+            }
+        }
+    }
+
+    // Everything is in the greatest epoch.
+    fn delete(&mut self, replica: &mut Replica, at: u64, count: u64) -> Result<u32, StepError>
+        requires greatest { self.old.epoch ≡ greatest_over replica.old }
+        ensures nothing { IsErrOf result StepError.Nothing → ⊥ }
+        ensures memory { IsErrOf result (StepError.Edit EditError.OutOfMemory) → ⊥ }
+        ensures refused { (f : EditError) → IsErrOf result (StepError.Edit f) → edit_fault_over replica.old (Delete at count) ≡ Some f }
+        ensures kept { (e : EpochName) → IsErrOf result (StepError.Dropped e) → ⊥ }
+        ensures fits { OnOk result (edit_fault_over replica.old (Delete at count) ≡ None) }
+        ensures seq { IfOk result (λ n. n ≡ own_count replica.old + 1) }
+        ensures after { OnOk result (replica.new ≡ edited replica.old (Delete at count)) }
+        ensures recorded { OnOk result (IsRecorded (Delete at count) replica.old self.old replica.new self.new) }
+        ensures err { OnErr result (replica.new ≡ replica.old) }
+        ensures stays { OnErr result (self.new ≡ self.old) }
+        ensures epochs { replica.new.epochs ≡ replica.old.epochs }
+    {
+        match delete(
+            replica,
+            &mut self.names,
+            &mut self.next,
+            &mut self.past,
+            self.group,
+            at,
+            count,
+        ) {
+            Err(error) => Err(step_error(error)),
+            Ok(seq) => {
+                self.future.clear();
+                Ok(seq)
+            }
+        }
+    }
+
+    /// Takes the last group back, the last step first, and answers how many steps that were. It ends the open group.
+    ///
+    /// # Errors
+    ///
+    /// `Nothing` exactly where there is nothing to undo, and `Dropped` only where the replica doesn't keep the epoch of what is
+    /// recorded; then nothing changes. After `Edit`, with the fault of the first edit that is refused, and after `OutOfMemory` the steps
+    /// before are taken back and can be redone, and of the step in hand some ranges may be. The rest stays, so that another `undo` goes
+    /// on with it.
+    pub fn undo(&mut self, replica: &mut Replica) -> Result<usize, StepError>
+        ensures nothing { IsErrOf result StepError.Nothing ↔ (self.old.past ≡ []) }
+        ensures memory { IsErrOf result (StepError.Edit EditError.OutOfMemory) → ⊥ }
+        ensures dropped { (e : EpochName) → IsErrOf result (StepError.Dropped e) → (self.old.epoch ≡ e) × IsFalse (keeps replica.old e) × (replica.new ≡ replica.old) × (self.new ≡ self.old) }
+        ensures size { IfOk result (λ n. n ≡ group_size self.old.past) }
+        ensures fits { OnOk result (MayRun (steps_over replica.old self.old) (replicate (group_size self.old.past) Back)) }
+        ensures after { OnOk result (steps_over replica.new self.new ≡ course (steps_over replica.old self.old) (replicate (group_size self.old.past) Back)) }
+        ensures stopped { (f : EditError) → IsErrOf result (StepError.Edit f) → IsStopped f (steps_over replica.old self.old).held self.old.past self.old.future (steps_over replica.new self.new).held self.new.past self.new.future }
+        ensures spent { IsErrOf result StepError.OutOfMemory → ((replica.new ≡ replica.old) × (self.new ≡ self.old)) ⊎ IsStopped EditError.OutOfMemory (steps_over replica.old self.old).held self.old.past self.old.future (steps_over replica.new self.new).held self.new.past self.new.future }
+        ensures left { OnOk result (self.new.past ≡ take (length self.old.past - group_size self.old.past) self.old.past) }
+        ensures names { KeepsNames replica.old replica.new }
+        ensures shows { OnOk result ((c : Copies) → Shows (steps_over replica.old self.old) c → Shows (steps_over replica.new self.new) (copies c (replicate (group_size self.old.past) Back))) }
+    {
+        if self.past.len() == 0 {
+            return Err(StepError::Nothing);
+        }
+        self.settle_for(replica)?;
+        self.close();
+        match back(
+            replica,
+            &mut self.names,
+            &mut self.next,
+            &mut self.past,
+            &mut self.future,
+        ) {
+            Ok(done) => Ok(done),
+            Err(error) => Err(step_error(error)),
+        }
+    }
+
+    /// Does the group again that was taken back last, and answers how many steps that were. It ends the open group. Errors as of `undo`.
+    pub fn redo(&mut self, replica: &mut Replica) -> Result<usize, StepError>
+        ensures nothing { IsErrOf result StepError.Nothing ↔ (self.old.future ≡ []) }
+        ensures memory { IsErrOf result (StepError.Edit EditError.OutOfMemory) → ⊥ }
+        ensures dropped { (e : EpochName) → IsErrOf result (StepError.Dropped e) → (self.old.epoch ≡ e) × IsFalse (keeps replica.old e) × (replica.new ≡ replica.old) × (self.new ≡ self.old) }
+        ensures size { IfOk result (λ n. n ≡ group_size self.old.future) }
+        ensures fits { OnOk result (MayRun (steps_over replica.old self.old) (replicate (group_size self.old.future) Again)) }
+        ensures after { OnOk result (steps_over replica.new self.new ≡ course (steps_over replica.old self.old) (replicate (group_size self.old.future) Again)) }
+        ensures stopped { (f : EditError) → IsErrOf result (StepError.Edit f) → IsStopped f (steps_over replica.old self.old).held self.old.future self.old.past (steps_over replica.new self.new).held self.new.future self.new.past }
+        ensures spent { IsErrOf result StepError.OutOfMemory → ((replica.new ≡ replica.old) × (self.new ≡ self.old)) ⊎ IsStopped EditError.OutOfMemory (steps_over replica.old self.old).held self.old.future self.old.past (steps_over replica.new self.new).held self.new.future self.new.past }
+        ensures left { OnOk result (self.new.future ≡ take (length self.old.future - group_size self.old.future) self.old.future) }
+        ensures names { KeepsNames replica.old replica.new }
+        ensures shows { OnOk result ((c : Copies) → Shows (steps_over replica.old self.old) c → Shows (steps_over replica.new self.new) (copies c (replicate (group_size self.old.future) Again))) }
+    {
+        if self.future.len() == 0 {
+            return Err(StepError::Nothing);
+        }
+        self.settle_for(replica)?;
+        self.close();
+        match back(
+            replica,
+            &mut self.names,
+            &mut self.next,
+            &mut self.future,
+            &mut self.past,
+        ) {
+            Ok(done) => Ok(done),
+            Err(error) => Err(step_error(error)),
+        }
+    }
+}
+
+// Want of memory stands apart.
+fn step_error(error: EditError) -> StepError
+    ensures nothing { result ≡ StepError.Nothing → ⊥ }
+    ensures memory { result ≡ StepError.Edit EditError.OutOfMemory → ⊥ }
+    ensures edit { (f : EditError) → result ≡ StepError.Edit f → error ≡ f }
+    ensures dropped { (e : EpochName) → result ≡ StepError.Dropped e → ⊥ }
+{
+    match error {
+        EditError::OutOfMemory => StepError::OutOfMemory,
+        error => StepError::Edit(error),
+    }
+}

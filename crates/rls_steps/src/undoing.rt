@@ -1,0 +1,101 @@
+//! Groups of steps.
+
+ghost use Rattle.std.specs.Prelude.{◌≡◌, ◌-◌, ◌<◌, ◌≤◌, length, take, replicate, slice_get, reverse, Some, IfOk, IfErr, OnOk, OnErr, IsTrue, ◌↔◌, if◌then◌else◌};
+ghost use Rattle.rls_seen.specs.Edits.{IsFault};
+ghost use Rattle.rls_steps.specs.declared.piece.Step.{Step};
+ghost use Rattle.rls_steps.specs.Courses.{Back, moved, MayMove, course, MayRun};
+ghost use Rattle.rls_steps.specs.Groups.{group_size, group_count, group_before, goes_on, in_front, stacked, IsStopped};
+ghost use Rattle.rls_steps.specs.Recorded.{held_by};
+ghost use Rattle.rls_steps.specs.Returning.{back_fault, IsPartBack};
+
+use crate::piece::Step;
+use crate::returning::take_back;
+use rls_ident::Ident;
+use rls_replica::{EditError, Replica};
+
+/// Takes the steps of the last group back, the last first, and answers how many these are.
+pub(crate) fn back(
+    replica: &mut Replica,
+    names: &mut Vec<(Ident, u64)>,
+    next: &mut u64,
+    from: &mut Vec<Step>,
+    to: &mut Vec<Step>,
+) -> Result<usize, EditError>
+    ensures size { IfOk result (λ n. n ≡ group_size from.old.items) }
+    ensures fits { OnOk result (MayRun (stacked (held_by replica.old next.old names.old.items) from.old.items to.old.items) (replicate (group_size from.old.items) Back)) }
+    ensures after { OnOk result (stacked (held_by replica.new next.new names.new.items) from.new.items to.new.items ≡ course (stacked (held_by replica.old next.old names.old.items) from.old.items to.old.items) (replicate (group_size from.old.items) Back)) }
+    ensures left { OnOk result (from.new.items ≡ take (length from.old.items - group_size from.old.items) from.old.items) }
+    ensures stopped { IfErr result (λ e. IsStopped e (held_by replica.old next.old names.old.items) from.old.items to.old.items (held_by replica.new next.new names.new.items) from.new.items to.new.items) }
+    ensures epochs { replica.new.epochs ≡ replica.old.epochs }
+{
+    let mut done: usize = 0;
+    if from.len() == 0 {
+        return Ok(done);
+    }
+    let group = from[from.len() - 1].group;
+    'steps: while ends_in(from, group) {
+        if let Err(error) = back_one(replica, names, next, from, to) {
+            return Err(error);
+        }
+        done += 1;
+    }
+    Ok(done)
+}
+
+// Whether the last step belongs to this group.
+fn ends_in(steps: &Vec<Step>, group: u64) -> bool
+    ensures ends { IsTrue result ↔ (0 < in_front group (reverse steps.now.items)) }
+{
+    let n = steps.len();
+    n > 0 && steps[n - 1].group == group
+}
+
+// Takes the last step back.
+fn back_one(
+    replica: &mut Replica,
+    names: &mut Vec<(Ident, u64)>,
+    next: &mut u64,
+    from: &mut Vec<Step>,
+    to: &mut Vec<Step>,
+) -> Result<(), EditError>
+    requires some { 0 < length from.old.items }
+    ensures fits { OnOk result (MayMove (stacked (held_by replica.old next.old names.old.items) from.old.items to.old.items) Back) }
+    ensures after { OnOk result (stacked (held_by replica.new next.new names.new.items) from.new.items to.new.items ≡ moved (stacked (held_by replica.old next.old names.old.items) from.old.items to.old.items) Back) }
+    ensures left { OnOk result (from.new.items ≡ take (length from.old.items - 1) from.old.items) }
+    ensures stays { OnErr result (from.new.items ≡ from.old.items) }
+    ensures fault { IfErr result (λ e. (step : Step) → slice_get (reverse from.old.items) 0 ≡ Some step → IsFault e (back_fault (held_by replica.old next.old names.old.items) step.piece)) }
+    ensures part { OnErr result ((step : Step) × (slice_get (reverse from.old.items) 0 ≡ Some step) × IsPartBack (held_by replica.old next.old names.old.items) step.piece (held_by replica.new next.new names.new.items) step.group to.old.items to.new.items) }
+    ensures epochs { replica.new.epochs ≡ replica.old.epochs }
+{
+    let n = from.len();
+    match take_back(replica, names, next, &from[n - 1], to) {
+        Err(error) => Err(error),
+        Ok(()) => {
+            from.truncate(n - 1);
+            Ok(())
+        }
+    }
+}
+
+/// How many groups there are.
+pub(crate) fn count(steps: &Vec<Step>) -> usize
+    ensures count { result ≡ group_count steps.now.items }
+{
+    let mut count: usize = 0;
+    'steps: for i in 0..steps.len() {
+        count += opens(steps, i);
+    }
+    count
+}
+
+// 1 if the step at a place begins a group, else 0.
+fn opens(steps: &Vec<Step>, i: usize) -> usize
+    requires place { i < length steps.now.items }
+    ensures opens { (x : Step) → slice_get steps.now.items i ≡ Some x → result ≡ (if goes_on (group_before steps.now.items i) x.group then 0 else 1) }
+    ensures few { result ≤ 1 }
+{
+    if i > 0 && steps[i - 1].group == steps[i].group {
+        return 0;
+    }
+    1
+}
