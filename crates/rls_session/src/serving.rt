@@ -145,7 +145,34 @@ fn answer_on<K: Keeper, S: Source, W: Sink>(
     ensures calls { HasServed K.store_gives (λ bytes. IfSome (S.left input.old) (λ given. IsFileOf (due_of (session replica given)).ending bytes)) result keeper.old keeper.new }
 {
     let mut desk = Desk::new(alloc, replica);
-    match answer_all(alloc, &mut desk, input, output) {
+    serve_desk(alloc, &mut desk, keeper, input, output)
+}
+
+// Answers the input at the desk of a session that begins, and stores the file of its replica.
+fn serve_desk<K: Keeper, S: Source, W: Sink>(
+    alloc: Global,
+    desk: &mut Desk,
+    keeper: &mut K,
+    input: &mut S,
+    output: &mut W,
+) -> Result<(), Failure>
+    requires sitting { desk.old ≡ sitting_at desk.old.state }
+    requires writable { AreWritable desk.old.state }
+    ensures leaves { IfSome (S.left input.old) (λ given. Leaves result (due_of (session desk.old.state given)) (K.file keeper.old) (K.file keeper.new) (W.told output.old) (W.told output.new)) }
+    ensures stays { IfErr result (λ f. f ≢ failures.Fault Sink → Keeps (K.file keeper.new) (K.file keeper.old)) }
+    ensures early { IfErr result (λ f. IsEarly f → Keeps (K.file keeper.old) (K.file keeper.new)) }
+    ensures keeper { result ≡ Err (failures.Fault Keeper) → Rose (K.faults keeper.old) (K.faults keeper.new) }
+    ensures uncounted { result ≢ Err (failures.Fault Keeper) → K.faults keeper.new ≡ K.faults keeper.old }
+    ensures input { result ≡ Err (failures.Fault Source) → Rose (S.faults input.old) (S.faults input.new) }
+    ensures output { result ≡ Err (failures.Fault Sink) → Rose (W.faults output.old) (W.faults output.new) }
+    ensures near { IfSome (S.left input.old) (λ given. IsNear given (S.left input.new) (session desk.old.state given).used) }
+    ensures prompt { result ≡ Err (failures.Fault Source) → IfSome (S.left input.old) (λ given. IsPrompt (answer by_parts) (sitting_at desk.old.state) given (S.left input.new) (W.told output.old) (W.told output.new)) }
+    ensures never_falls { K.faults keeper.old ≤ K.faults keeper.new }
+    ensures messages { OnOk result (IfSome (S.left input.old) (λ given. SendsMessages desk.old.state given)) }
+    ensures own { IsSessionsOwn result }
+    ensures calls { HasServed K.store_gives (λ bytes. IfSome (S.left input.old) (λ given. IsFileOf (due_of (session desk.old.state given)).ending bytes)) result keeper.old keeper.new }
+{
+    match answer_all(alloc, desk, input, output) {
         Err(error) => Err(Failure::from(error)),
         Ok(()) => save(alloc, desk.replica(), keeper, output),
     }
