@@ -102,7 +102,7 @@ pub numbers_due : (group me members : ℕ) (file : Option (Option (List ℕ))) (
 numbers_due group me members file e f h same = rw (h, same) refl
 
 -- where the kept file is told
-new_due : (group me members : ℕ) (file : Option (Option (List ℕ))) (P : Due → Type 0) → AreNumbers group me members → IfSome file (λ kept. P (due_of_fresh group me members (loaded kept)))
+pub new_due : (group me members : ℕ) (file : Option (Option (List ℕ))) (P : Due → Type 0) → AreNumbers group me members → IfSome file (λ kept. P (due_of_fresh group me members (loaded kept)))
     → IfSome (due_of_new (error_of_numbers me members) group me members file) P
 new_due group me members None P h all = rw ((right_numbers group me members h).0) tt
 new_due group me members (Some kept) P h all = rw ((right_numbers group me members h).0) all
@@ -118,27 +118,15 @@ load_due group me members (Command e) y h = rw h refl
 load_due group me members (Fault e) y h = tt
 load_due group me members NoCommand y h = absurd h
 
-pub unloaded_due : (group me members : ℕ) (file : Option (Option (List ℕ))) (f : Failure) → AreNumbers group me members → IfSome file (λ kept. GivesError f (loaded kept))
-    → IfSome (due_of_new (error_of_numbers me members) group me members file) (EndsAs f)
-unloaded_due group me members file f h opened =
-    new_due group me members file (EndsAs f) h (if_told file (λ kept. GivesError f (loaded kept)) (λ kept. EndsAs f (due_of_fresh group me members (loaded kept))) (λ kept. load_due group me members f (loaded kept)) opened)
+pub unloaded_due : (group me members : ℕ) (file : Option (Option (List ℕ))) (f : Failure) → IfSome file (λ kept. GivesError f (loaded kept)) → IfSome file (λ kept. EndsAs f (due_of_fresh group me members (loaded kept)))
+unloaded_due group me members file f = if_told file (λ kept. GivesError f (loaded kept)) (λ kept. EndsAs f (due_of_fresh group me members (loaded kept))) (λ kept. load_due group me members f (loaded kept))
 
 -- there is one already, or there is none
-pub loaded_due : (group me members : ℕ) (file : Option (Option (List ℕ))) (found : Option (List ℕ)) (P : Due → Type 0) → AreNumbers group me members → IfSome file (λ kept. loaded kept ≡ Ok found)
-    → P (due_of_fresh group me members (Ok found)) → IfSome (due_of_new (error_of_numbers me members) group me members file) P
-loaded_due group me members file found P h opened p =
-    new_due group me members file P h
-    (if_told file (λ kept. loaded kept ≡ Ok found) (λ kept. P (due_of_fresh group me members (loaded kept))) (λ kept e. subst (λ (y : Result (Option (List ℕ)) CommandError). P (due_of_fresh group me members y)) (sym e) p) opened)
-
--- there is none, and the fresh replica is stored
-pub fresh_due : (group me members : ℕ) (file : Option (Option (List ℕ))) (found : Option (Vec ℕ Global)) (s : Seen) (report : List ℕ) (refused : List (ℕ × ℕ × Reason)) (P : Due → Type 0) → AreNumbers group me members
-    → IfSome file (λ kept. loaded kept ≡ Ok (bytes_of found)) → found ≡ None → s ≡ fresh group me members → report ≡ new_text group me members → refused ≡ [] → P (stores (saved s) report refused)
-    → IfSome (due_of_new (error_of_numbers me members) group me members file) P
-fresh_due group me members file found s report refused P h opened missing is written none p =
-    let at_fresh = subst (λ (x : Seen). P (stores (saved x) report refused)) is p in
-    let at_report = subst (λ (x : List ℕ). P (stores (saved (fresh group me members)) x refused)) written at_fresh in
-    let at_refused = subst (λ (x : List (ℕ × ℕ × Reason)). P (stores (saved (fresh group me members)) (new_text group me members) x)) none at_report in
-    loaded_due group me members file None P h (subst (λ (f : Option (Vec ℕ Global)). IfSome file (λ kept. loaded kept ≡ Ok (bytes_of f))) missing opened) at_refused
+pub loaded_due : (group me members : ℕ) (file : Option (Option (List ℕ))) (found : Option (Vec ℕ Global)) (given : Option (List ℕ)) (P : Due → Type 0) → IfSome file (λ kept. loaded kept ≡ Ok (bytes_of found)) → bytes_of found ≡ given
+    → P (due_of_fresh group me members (Ok given)) → IfSome file (λ kept. P (due_of_fresh group me members (loaded kept)))
+loaded_due group me members file found given P opened is p =
+    if_told file (λ kept. loaded kept ≡ Ok (bytes_of found)) (λ kept. P (due_of_fresh group me members (loaded kept)))
+    (λ kept e. subst (λ (y : Result (Option (List ℕ)) CommandError). P (due_of_fresh group me members y)) (sym (e ∙ ap Ok is)) p) opened
 
 -- ---- what is worked on ends early
 

@@ -1,15 +1,17 @@
 //! What a command makes.
 
-ghost use Rattle.std.specs.Prelude.{◌≡◌, ◌≢◌, ◌≤◌, Option, Some, None, Err, IfOk, OnOk, IfErr, IfSome, IsErr, IsSome, IsTrue, IsFalse};
+ghost use Rattle.std.specs.Prelude.{◌≡◌, ◌≢◌, ◌≤◌, [], Option, Some, None, Err, IfOk, OnOk, IfErr, IfSome, IsErr, IsSome, IsTrue, IsFalse};
 ghost use Rattle.rls_io.specs.Device.{Rose, Keeps};
 ghost use Rattle.rls_top.specs.declared.words.Command.TheVariants as commands;
-ghost use Rattle.rls_top.specs.Due.{due_at, due_of_command, due_of_file, due_of_new, error_of_numbers, calls_keeper, may_store, reads_input};
+ghost use Rattle.rls_top.specs.Due.{due_at, due_of_command, due_of_file, due_of_fresh, due_of_new, error_of_numbers, calls_keeper, may_store, reads_input, stores};
 ghost use Rattle.rls_top.specs.Endings.{IsSentBy, SendsMessage};
 ghost use Rattle.rls_top.specs.Stages.{IsUncalled, IsDue, of_input, of_make};
-ghost use Rattle.rls_stages.specs.KeptFile.{IsUsable};
+ghost use Rattle.rls_stages.specs.KeptFile.{IsUsable, loaded, saved};
+ghost use Rattle.rls_report.specs.Reports.{new_text};
 ghost use Rattle.rls_seen.specs.Sane.{IsSane};
+ghost use Rattle.rls_seen.specs.Seen.{fresh};
 ghost use Rattle.rls_store.specs.Stored.{AreWritable};
-ghost use Rattle.rls_stages.specs.Errors.{of_open};
+ghost use Rattle.rls_stages.specs.Errors.{of_open, of_work};
 ghost use Rattle.rls_stages.specs.Calls.{HasLoaded};
 ghost use Rattle.rls_top.specs.Calls.{HasMade, UnlessOpened};
 
@@ -24,7 +26,7 @@ use rls_io::{Keeper, Source};
 use rls_model::Refusals;
 use rls_replica::{NewError, Replica};
 use rls_report::{CommandError, new_report};
-use rls_stages::{OpenError, load, open};
+use rls_stages::{OpenError, WorkError, load, open};
 use std::alloc::Global;
 
 /// What the command makes, before anything is stored or written.
@@ -88,19 +90,56 @@ fn make_new<K: Keeper>(
             error: CommandError::BadMe { me },
         }),
         Err(NewError::OutOfMemory) => Err(OpenError::OutOfMemory),
-        Ok(replica) => match load(alloc, keeper) {
-            Err(error) => Err(error),
-            Ok(Some(_)) => Err(OpenError::Command {
-                error: CommandError::ReplicaExists,
-            }),
-            Ok(None) => match new_report(alloc, group, me, members) {
-                Err(_) => Err(OpenError::OutOfMemory),
-                Ok(report) => match saving(alloc, &replica, report, &Refusals::new(alloc)) {
-                    Ok(made) => Ok(made),
-                    Err(error) => Err(OpenError::from(error)),
-                },
-            },
+        Ok(replica) => make_first(alloc, &replica, group, me, members, keeper),
+    }
+}
+
+// The file of this fresh replica, if there is no file.
+fn make_first<K: Keeper>(
+    alloc: Global,
+    replica: &Replica,
+    group: u64,
+    me: u32,
+    members: u32,
+    keeper: &mut K,
+) -> Result<Made, OpenError>
+    requires fresh { replica.now ≡ fresh group me members }
+    requires writable { AreWritable replica.now }
+    ensures due { IfSome (K.file keeper.old) (λ kept. IsDue of_open result (due_of_fresh group me members (loaded kept))) }
+    ensures keeper { result ≡ Err OpenError.KeeperFault → Rose (K.faults keeper.old) (K.faults keeper.new) }
+    ensures uncounted { result ≢ Err OpenError.KeeperFault → K.faults keeper.new ≡ K.faults keeper.old }
+    ensures never_falls { K.faults keeper.old ≤ K.faults keeper.new }
+    ensures kept { Keeps (K.file keeper.old) (K.file keeper.new) }
+    ensures storing { IfOk result (λ made. IsSome made.stored) }
+    ensures calls { HasLoaded K.load_gives result keeper.old keeper.new }
+{
+    match load(alloc, keeper) {
+        Err(error) => Err(error),
+        Ok(Some(_)) => Err(OpenError::Command {
+            error: CommandError::ReplicaExists,
+        }),
+        Ok(None) => match saving_new(alloc, replica, group, me, members) {
+            Ok(made) => Ok(made),
+            Err(error) => Err(OpenError::from(error)),
         },
+    }
+}
+
+// The file of a replica, with the report of a new one.
+fn saving_new(
+    alloc: Global,
+    replica: &Replica,
+    group: u64,
+    me: u32,
+    members: u32,
+) -> Result<Made, WorkError>
+    requires writable { AreWritable replica.now }
+    ensures due { IsDue of_work result (stores (saved replica.now) (new_text group me members) []) }
+    ensures stored { IfOk result (λ made. IsSome made.stored) }
+{
+    match new_report(alloc, group, me, members) {
+        Err(_) => Err(WorkError::OutOfMemory),
+        Ok(report) => saving(alloc, replica, report, &Refusals::new(alloc)),
     }
 }
 

@@ -1,15 +1,10 @@
-use Rattle.std.proofs.Common.{◌≡◌, ◌∙◌, ℕ, Option, Some, Ok, Err, IfSome, ap, refl, rules, subst, sym}
-use Rattle.std.specs.Prelude.{Vec}
-use Rattle.std.specs.declared.alloc.Global.{Global}
-use Rattle.rls_io.specs.Memory.{bytes_of}
-use Rattle.rls_report.specs.declared.failures.Failure.TheVariants as failures
-use Rattle.rls_report.specs.declared.failures.CommandError.TheVariants.{BadMembers, BadMe, ReplicaExists}
+use Rattle.std.proofs.Common.{◌∙◌, Err, ap, rules, subst, sym}
+use Rattle.rls_report.specs.declared.failures.CommandError.TheVariants.{BadMembers, BadMe}
 use Rattle.rls_stages.specs.Errors.{of_open}
-use Rattle.rls_stages.specs.KeptFile.{loaded}
-use Rattle.rls_top.specs.Stages.{EndsAs, IsAsDue}
-use Rattle.rls_top.proofs.Pieces.{fresh_due, loaded_due, no_me, no_member, no_members, numbers_due, uncounted, works_called, works_due}
 use Rattle.rls_store.specs.Stored.{AreWritable}
 use Rattle.rls_store.proofs.Storable.{fresh_writable}
+use Rattle.rls_top.specs.Stages.{IsDue}
+use Rattle.rls_top.proofs.Pieces.{called, new_due, no_me, no_member, no_members, numbers_due, uncounted}
 use Rattle.rls_top.proofs.making.make_new.Goals as goal
 
 pub returns-in-Err-Members-clause-due : goal.returns-in-Err-Members-clause-due
@@ -30,25 +25,11 @@ returns-in-Err-Members-clause-calls g c = λ h. let e = c.in-Err-Members in unco
 pub returns-in-Err-Me-clause-calls : goal.returns-in-Err-Me-clause-calls
 returns-in-Err-Me-clause-calls g c = λ h. let e = c.in-Err-Me in no_member c.args.group c.args.me c.args.members ((c.new.ensures.me e.me).0 (e.is ∙ ap Err e.field-0-is)).1 h
 
-pub returns-in-Ok-saving-clause-due : goal.returns-in-Ok-saving-clause-due
-returns-in-Ok-saving-clause-due g c =
-    fresh_due c.args.group c.args.me c.args.members (g.K.Keeper.file c.args.keeper.now) c.in-Ok-None.field-0 c.in-Ok.replica _ _ (IsAsDue c.in-Ok-saving.made) (search rules)
-    c.in-Ok-None.ensures.loaded c.in-Ok-None.field-0-is c.in-Ok.ensures.ok c.in-Ok-new_report.ensures.text c.new-in-Ok-new_report.ensures.empty c.in-Ok-saving.ensures.due
+pub make_first-requires : goal.make_first-requires
+make_first-requires g c = record { fresh = c.in-Ok.ensures.ok; writable = subst AreWritable (sym c.in-Ok.ensures.ok) (fresh_writable c.args.group c.args.me c.args.members) }
 
-pub saving-requires : goal.saving-requires
-saving-requires g c = record { writable = subst AreWritable (sym c.in-Ok.ensures.ok) (fresh_writable c.args.group c.args.me c.args.members) }
+pub returns-in-Ok-clause-due : goal.returns-in-Ok-clause-due
+returns-in-Ok-clause-due g c = new_due c.args.group c.args.me c.args.members (g.K.Keeper.file c.args.keeper.now) (IsDue of_open c.make_first.result) (search rules) c.make_first.ensures.due
 
-pub returns-in-Ok-Some-clause-due : goal.returns-in-Ok-Some-clause-due
-returns-in-Ok-Some-clause-due g c =
-    let file = g.K.Keeper.file c.args.keeper.now in
-    loaded_due c.args.group c.args.me c.args.members file (Some c.in-Ok-Some.field-0-0.items) (EndsAs (failures.Command ReplicaExists)) (search rules)
-    (subst (λ (f : Option (Vec ℕ Global)). IfSome file (λ kept. loaded kept ≡ Ok (bytes_of f))) c.in-Ok-Some.field-0-is c.in-Ok-Some.ensures.loaded) refl
-
-pub returns-clause-due : goal.returns-clause-due
-returns-clause-due g c =
-    fresh_due c.args.group c.args.me c.args.members (g.K.Keeper.file c.args.keeper.now) c.in-Ok-None.field-0 c.in-Ok.replica _ _ (EndsAs (of_open c.from.result)) (search rules)
-    c.in-Ok-None.ensures.loaded c.in-Ok-None.field-0-is c.in-Ok.ensures.ok c.in-Ok-new_report.ensures.text c.new-in-Ok-new_report.ensures.empty
-    (works_due c.in-Err-saving.error c.from.result _ c.from.ensures c.in-Err-saving.ensures.due)
-
-pub returns-clause-calls : goal.returns-clause-calls
-returns-clause-calls g c = λ h. works_called g.K.Keeper.load_gives c.in-Err-saving.error c.from.result c.args.keeper.now c.load.new.keeper c.from.ensures c.in-Ok-None.ensures.calls
+pub returns-in-Ok-clause-uncalled : goal.returns-in-Ok-clause-uncalled
+returns-in-Ok-clause-uncalled g c = λ h. called c.args.group c.args.me c.args.members (search rules) h
