@@ -62,12 +62,7 @@ fn is_applied(receipt: &Receipt) -> bool
     ensures yes { IsTrue result → answer_of receipt.now ≡ Applies }
     ensures no { IsFalse result → answer_of receipt.now ≡ Applies → ⊥ }
 {
-    match receipt {
-        Receipt::Applied => true,
-        Receipt::Repeated => false,
-        Receipt::Held => false,
-        Receipt::Refused(_refusal) => false,
-    }
+    matches!(receipt, Receipt::Applied)
 }
 
 /// Releases the first ready operation as `Replica::release` does, and puts what that changes in the text after the other changes:

@@ -1,12 +1,12 @@
 //! Edits that are steps.
 
-ghost use Rattle.std.specs.Prelude.{◌≡◌, ◌≤◌, ◌<◌, ◌^◌, ◌+◌, ◌++◌, ◌∷◌, [], ℕ, length, take, Some, None, IfOk, IfErr, OnOk, OnErr};
+ghost use Rattle.std.specs.Prelude.{◌≡◌, ◌≤◌, ◌<◌, ◌^◌, ◌+◌, ◌++◌, ◌∷◌, [], ℕ, length, take, zip, reverse, Some, None, IfOk, IfErr, OnOk, OnErr};
 ghost use Rattle.rls_model.specs.declared.edit.Edit.TheVariants.{Insert, Delete};
 ghost use Rattle.rls_model.specs.WellFormed.{IsEdit};
-ghost use Rattle.rls_seen.specs.Edits.{edit_fault_over, edited, IsFault};
+ghost use Rattle.rls_seen.specs.Edits.{edit_fault_over, edited, made_over, IsFault};
 ghost use Rattle.rls_seen.specs.Seen.{own_count};
 ghost use Rattle.rls_steps.specs.Marks.{Put, numbers_from};
-ghost use Rattle.rls_steps.specs.Labelled.{ready_over, cut_over, cut_piece, put_over, insert_over};
+ghost use Rattle.rls_steps.specs.Labelled.{ready_over, cut_over, cut_piece, put_over, insert_over, inserted_by};
 ghost use Rattle.rls_steps.specs.Parts.{parts};
 ghost use Rattle.rls_steps.specs.Recorded.{held_by, steps_of};
 
@@ -160,23 +160,55 @@ pub(crate) fn put(
 {
     let edit = Edit::Insert { at, text };
     edit.fits();
-    let op = replica.made(&edit)?;
     let before = names.len();
-    match name_inserted(names, &op, labels.as_slice()) {
-        Err(_) => {
+    match put_named(replica, names, stack, group, &edit, labels) {
+        Ok(seq) => Ok(seq),
+        Err(error) => {
             names.truncate(before);
-            Err(EditError::OutOfMemory)
+            Err(error)
         }
-        Ok(()) => {
-            let piece = Piece::Put { labels };
-            match perform(replica, &edit, stack, Step { group, piece }) {
-                Ok(seq) => Ok(seq),
-                Err(error) => {
-                    names.truncate(before);
-                    Err(error)
-                }
-            }
-        }
+    }
+}
+
+// Performs an insertion whose characters get these labels. After an error names may have been added.
+fn put_named(
+    replica: &mut Replica,
+    names: &mut Vec<(Ident, u64)>,
+    stack: &mut Vec<Step>,
+    group: u64,
+    edit: &Edit,
+    labels: Labels,
+) -> Result<u32, EditError>
+    ensures fault { IfErr result (λ e. IsFault e (edit_fault_over replica.old edit.now)) }
+    ensures fits { OnOk result (edit_fault_over replica.old edit.now ≡ None) }
+    ensures seq { IfOk result (λ n. n ≡ own_count replica.old + 1) }
+    ensures after { OnOk result (replica.new ≡ edited replica.old edit.now) }
+    ensures named { OnOk result (reverse names.new.items ≡ zip (inserted_by (made_over replica.old edit.now).body) labels ++ reverse names.old.items) }
+    ensures stack { OnOk result (stack.new.items ≡ stack.old.items ++ record { group = group; piece = Put labels } ∷ []) }
+    ensures err { OnErr result (replica.new ≡ replica.old) }
+    ensures front { take (length names.old.items) names.new.items ≡ names.old.items }
+    ensures stays { OnErr result (stack.new.items ≡ stack.old.items) }
+{
+    name_made(replica, names, edit, labels.as_slice())?;
+    let piece = Piece::Put { labels };
+    perform(replica, edit, stack, Step { group, piece })
+}
+
+// Names the characters that an edit inserts. After an error names may have been added.
+fn name_made(
+    replica: &Replica,
+    names: &mut Vec<(Ident, u64)>,
+    edit: &Edit,
+    labels: &[u64],
+) -> Result<(), EditError>
+    ensures fault { IfErr result (λ e. IsFault e (edit_fault_over replica.now edit.now)) }
+    ensures named { OnOk result (reverse names.new.items ≡ zip (inserted_by (made_over replica.now edit.now).body) labels.now ++ reverse names.old.items) }
+    ensures front { take (length names.old.items) names.new.items ≡ names.old.items }
+{
+    let op = replica.made(edit)?;
+    match name_inserted(names, &op, labels) {
+        Ok(()) => Ok(()),
+        Err(_) => Err(EditError::OutOfMemory),
     }
 }
 

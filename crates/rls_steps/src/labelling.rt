@@ -251,7 +251,7 @@ pub(crate) fn name_inserted(
 {
     match &op.body {
         Body::Insert { first, text } => {
-            let ids = run_of(*names.allocator(), first, text.len())?;
+            let ids = ids_of(*names.allocator(), first, text.len())?;
             match name_all(names, &ids, labels) {
                 Err(_) => Err(AllocError),
                 Ok(()) => Ok(()),
@@ -262,16 +262,25 @@ pub(crate) fn name_inserted(
 }
 
 // The run of so many identifiers. There is always one, where an insertion has them.
-fn run_of(alloc: Global, first: &Ident, count: usize) -> Result<Runs, AllocError>
-    ensures run { IfOk result (λ xs. xs ≡ run_idents first.now count) }
+fn run_of(first: &Ident, count: usize) -> Result<Run, AllocError>
+    ensures run { IfOk result (λ run. run ≡ (first.now, count)) }
 {
-    let mut ids = Runs::new(alloc);
     let Ok(len) = u32::try_from(count) else {
         return Err(AllocError);
     };
-    let Ok(run) = Run::new(first.copy()?, len) else {
-        return Err(AllocError);
-    };
+    let first = first.copy()?;
+    match Run::new(first, len) {
+        Ok(run) => Ok(run),
+        Err(_) => Err(AllocError),
+    }
+}
+
+// The identifiers of that run.
+fn ids_of(alloc: Global, first: &Ident, count: usize) -> Result<Runs, AllocError>
+    ensures ids { IfOk result (λ xs. xs ≡ run_idents first.now count) }
+{
+    let run = run_of(first, count)?;
+    let mut ids = Runs::new(alloc);
     ids.append(run)?;
     Ok(ids)
 }

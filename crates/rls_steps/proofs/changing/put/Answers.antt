@@ -3,5 +3,5 @@ use Rattle.rls_seen.specs.Seen.{Seen}
 use Rattle.rls_steps.proofs.Unchanged.{insert_epochs}
 use Rattle.rls_steps.proofs.changing.put.Goals as goal
 
-pub returns-in-Ok-perform-clause-epochs : goal.returns-in-Ok-perform-clause-epochs
-returns-in-Ok-perform-clause-epochs c = ap (λ (s : Seen). s.epochs) c.in-Ok-perform.ensures.after ∙ insert_epochs c.args.replica.now c.args.at c.args.text
+pub returns-in-Ok-clause-epochs : goal.returns-in-Ok-clause-epochs
+returns-in-Ok-clause-epochs c = ap (λ (s : Seen). s.epochs) c.in-Ok.ensures.after ∙ insert_epochs c.args.replica.now c.args.at c.args.text
