@@ -100,17 +100,17 @@ pub record AreAlike (a : Answered (Sitting Seen)) (b : Answered (Sitting State))
   pub states : IsAlike a.state b.state
 
 -- before waiting operations are released it needn't be at rest
-record IsAlmost (d : Sitting Seen) (f : Sitting State) : Type 0 where
-  stands : StandsFor d.state f.state
-  storing_is : IsStoring d.state
-  entries : d.entries ≡ f.entries
-  cursor : d.cursor ≡ f.cursor
-  whole : IsWhole d
-  texts : AreWhole d.entries
+pub record IsAlmost (d : Sitting Seen) (f : Sitting State) : Type 0 where
+  pub stands : StandsFor d.state f.state
+  pub storing_is : IsStoring d.state
+  pub entries : d.entries ≡ f.entries
+  pub cursor : d.cursor ≡ f.cursor
+  pub whole : IsWhole d
+  pub texts : AreWhole d.entries
 
-record AreAlmost (a : Answered (Sitting Seen)) (b : Answered (Sitting State)) : Type 0 where
-  reply : a.reply ≡ b.reply
-  states : IsAlmost a.state b.state
+pub record AreAlmost (a : Answered (Sitting Seen)) (b : Answered (Sitting State)) : Type 0 where
+  pub reply : a.reply ≡ b.reply
+  pub states : IsAlmost a.state b.state
 
 almost : (d : Sitting Seen) (f : Sitting State) → IsAlike d f → IsAlmost d f
 almost d f h = record { stands = h.stands; storing_is = storing d.state h.sane h.writable; entries = h.entries; cursor = h.cursor; whole = h.whole; texts = h.texts }
@@ -143,7 +143,7 @@ whole_front zero es h = tt
 whole_front (suc n) [] h = tt
 whole_front (suc n) (e ∷ es) h = (h.0, whole_front n es h.1)
 
-whole_at : (es : List Entry) (i : ℕ) (entry : Entry) → slice_get es i ≡ Some entry → AreWhole es → IsEntry entry
+pub whole_at : (es : List Entry) (i : ℕ) (entry : Entry) → slice_get es i ≡ Some entry → AreWhole es → IsEntry entry
 whole_at [] i entry e h = absurd cc
 whole_at (x ∷ es) zero entry e h = let same : x ≡ entry = cc in subst IsEntry same h.0
 whole_at (x ∷ es) (suc i) entry e h = whole_at es i entry e h.1
@@ -196,7 +196,7 @@ edited_almost d f (Ok edit) h w =
       };
     }
 
-line_almost : (d : Sitting Seen) (f : Sitting State) (line : Line) → IsAlike d f → IsLine line → AreAlmost (answers.edited by_parts d (answers.read_line by_parts d.state line)) (answers.edited by_history f (answers.read_line by_history f.state line))
+pub line_almost : (d : Sitting Seen) (f : Sitting State) (line : Line) → IsAlike d f → IsLine line → AreAlmost (answers.edited by_parts d (answers.read_line by_parts d.state line)) (answers.edited by_history f (answers.read_line by_history f.state line))
 line_almost d f line h w =
     let same : lines.read_line d.state line ≡ line_by fault_in text_in f.state line = lines_alike d.state f.state line h.stands in
     subst (λ (r : Result Edit LineFault). AreAlmost (answers.edited by_parts d (lines.read_line d.state line)) (answers.edited by_history f r)) same (edited_almost d f (lines.read_line d.state line) h (line_well edit_fault_over text_over d.state line w))
@@ -252,7 +252,7 @@ undone_almost d f (Some entry) e h =
     let there = subst (λ (x : Option EditError). AreAlmost (answers.undone_by_plan by_parts d plan (refusal_over s plan)) (answers.undone_by_plan by_history f plan x)) p.0 here in
     subst (λ (es : List Edit). AreAlmost (answers.undone_by_plan by_parts d plan (refusal_over s plan)) (answers.undone_by_plan by_history f es (refusal t es))) same there
 
-undo_almost : (d : Sitting Seen) (f : Sitting State) → IsAlike d f → AreAlmost (undone by_parts d (last_of d.entries)) (undone by_history f (last_of f.entries))
+pub undo_almost : (d : Sitting Seen) (f : Sitting State) → IsAlike d f → AreAlmost (undone by_parts d (last_of d.entries)) (undone by_history f (last_of f.entries))
 undo_almost d f h = subst (λ (es : List Entry). AreAlmost (undone by_parts d (last_of d.entries)) (undone by_history f (last_of es))) h.entries (undone_almost d f (last_of d.entries) refl h)
 
 -- ---- the cursor
@@ -451,7 +451,7 @@ after_given (orders.Take n) rest b g = go (nat_le n (length rest))
     go false = tt
 after_given order rest b g = g
 
-cut_given : (bytes : List ℕ) → IsBytes bytes → IsGiven (cut bytes).request
+pub cut_given : (bytes : List ℕ) → IsBytes bytes → IsGiven (cut bytes).request
 unfolding cut
 cut_given bytes b = after_given (order_of (before_first is_line_feed bytes)) (drop (line_size bytes) bytes) (IsBytes-drop (line_size bytes) bytes b) (order_given (before_first is_line_feed bytes))
 

@@ -48,29 +48,29 @@ use Rattle.rls_top.specs.Due.{Due, due_at, due_of_words, due_on, shows}
 use Rattle.rls_top.specs.Headline.{new_state}
 use Rattle.rls_top.specs.Words.{command_of}
 use Rattle.rls_top.specs.Groups.{AllTaken, AreOfGroup, BeginsWithNew, EqualCountsShowSame, Group, GroupsClean, InOneOrder, IsFileOf, IsMadeOrLong, IsOfEditsAlone, IsOfGroup, IsOfMember, IsOrderedBy, IsReading, IsTakenTooLong, MemberCommand, NoneRefused, NoneReleased, WaitingMade, after_command, after_commands, after_due, due_in, due_of, files_with, fresh_group, messages_in, refused_in, stored_in}
-use Rattle.rls_top.proofs.GroupCommands.{IsKeptFor, Leads, bytes_with, command_leads, edits_alone, kept_for, leave_alone, opened_at, same_ok, take_makes}
+use Rattle.rls_top.proofs.GroupCommands.{IsKeptFor, bytes_with, command_leads, edits_alone, kept_for, leave_alone, opened_at, same_ok, take_makes}
 use Rattle.rls_top.proofs.Fresh.{fresh_short}
 use Rattle.rls_top.proofs.Headlines.{ids_alike}
 use Rattle.rls_top.proofs.Pieces.{right_numbers}
 
 -- ---- what a group and a world have in common
 
-record Matches (g n : ℕ) (G : Group) (w : World) : Type 0 where
-  stands : Stands g n w
-  count : length G.files ≡ length w.states
-  file : (i : ℕ) (t : State) → IsAt w i t → (bytes : List ℕ) × (slice_get G.files i ≡ Some bytes) × IsKeptFor bytes t
-  written : (bytes : List ℕ) → IsIn bytes G.written → (m : Message) × IsIn m w.sent × IsMessage bytes m × (length bytes ≤ INPUT_BYTES)
+pub record Matches (g n : ℕ) (G : Group) (w : World) : Type 0 where
+  pub stands : Stands g n w
+  pub count : length G.files ≡ length w.states
+  pub file : (i : ℕ) (t : State) → IsAt w i t → (bytes : List ℕ) × (slice_get G.files i ≡ Some bytes) × IsKeptFor bytes t
+  pub written : (bytes : List ℕ) → IsIn bytes G.written → (m : Message) × IsIn m w.sent × IsMessage bytes m × (length bytes ≤ INPUT_BYTES)
 
 -- ---- one command after another
 
 -- each member's history went on from the one before
-abbrev IsLater : World → World → Type 0
+abbrev pub IsLater : World → World → Type 0
 IsLater w v = (i : ℕ) (t : State) → IsAt w i t → (u : State) × IsAt v i u × IsFront t.history u.history
 
-later_self : (w : World) → IsLater w w
+pub later_self : (w : World) → IsLater w w
 later_self w i t h = (t, h, front_self t.history)
 
-later_trans : (w v u : World) → IsLater w v → IsLater v u → IsLater w u
+pub later_trans : (w v u : World) → IsLater w v → IsLater v u → IsLater w u
 later_trans w v u f k i t h =
     let p = f i t h in
     let q = k i p.0 p.1 in
@@ -90,14 +90,14 @@ get_with_other files i j (Some s) d = get_set_other files i j (bytes_over s) d
 
 module _ (g n : ℕ) (G : Group) (w : World) (x : Matches g n G w) where
   -- the member's state, and its file
-  record IsThere (i : ℕ) : Type 0 where
-    state : State
-    at : IsAt w i state
-    bytes : List ℕ
-    file : slice_get G.files i ≡ Some bytes
-    kept : IsKeptFor bytes state
+  pub record IsThere (i : ℕ) : Type 0 where
+    pub state : State
+    pub at : IsAt w i state
+    pub bytes : List ℕ
+    pub file : slice_get G.files i ≡ Some bytes
+    pub kept : IsKeptFor bytes state
 
-  there : (i : ℕ) → i < length G.files → IsThere i
+  pub there : (i : ℕ) → i < length G.files → IsThere i
   there i l =
       let r = place_of w.states i (omega (arith, l, x.count)) in
       let f = x.file i r.0 r.1 in
@@ -113,23 +113,25 @@ module _ (g n : ℕ) (G : Group) (w : World) (x : Matches g n G w) where
   abbrev FileWith : ℕ → Option Seen → ℕ → State → Type 0
   FileWith i o j u = (bytes : List ℕ) × (slice_get (files_with G.files i o) j ≡ Some bytes) × IsKeptFor bytes u
 
-  matches_on : (i : ℕ) (r : IsThere i) (c : Option Command) (d : Due) (l : Leads g n w i r.state r.bytes c d) → Matches g n (done_by i c d) (with_done w i l.state l.out)
-  matches_on i r c d l = record {
-    stands = l.stands;
-    count = length-with G.files i (stored_in d) ∙ (x.count ∙ sym (length-set w.states i l.state));
+  -- with this state of a member, where its file is this replica's now, if there is one, and these messages were written
+  pub matches_with : (i : ℕ) (r : IsThere i) (o : Option Seen) (messages : List (List ℕ)) (t : State) (out : List Message) → Stands g n (with_done w i t out) → IsKeptFor (bytes_with o r.bytes) t →
+      ((b : List ℕ) → IsIn b messages → (m : Message) × IsIn m out × IsMessage b m × (length b ≤ INPUT_BYTES)) → Matches g n (record { files = files_with G.files i o; written = G.written ++ messages }) (with_done w i t out)
+  matches_with i r o messages t out stands kept written = record {
+    stands = stands;
+    count = length-with G.files i o ∙ (x.count ∙ sym (length-set w.states i t));
     file = λ j u q. bool_cases (i == j) (λ e. own j u (eq_is i j e) q) (λ e. other j u (eq_not i j e) q);
-    written = λ b q. ⊎_elim (λ u. let y = x.written b u in (y.0, in_left y.0 w.sent l.out y.1, y.2, y.3)) (λ u. let y = l.written b u in (y.0, in_right y.0 w.sent l.out y.1, y.2, y.3)) (in_split b G.written (messages_in c d) q);
+    written = λ b q. ⊎_elim (λ u. let y = x.written b u in (y.0, in_left y.0 w.sent out y.1, y.2, y.3)) (λ u. let y = written b u in (y.0, in_right y.0 w.sent out y.1, y.2, y.3)) (in_split b G.written messages q);
   }
     where
-      own : (j : ℕ) (u : State) → i ≡ j → IsAt (with_done w i l.state l.out) j u → FileWith i (stored_in d) j u
+      own : (j : ℕ) (u : State) → i ≡ j → IsAt (with_done w i t out) j u → FileWith i o j u
       own j u e q =
-          let same : l.state ≡ u = some_is l.state u (sym (get_set_same w.states i r.state l.state r.at) ∙ (ap (slice_get (slice_set w.states i l.state)) e ∙ q)) in
-          subst (λ (y : ℕ). FileWith i (stored_in d) y u) e (bytes_with (stored_in d) r.bytes, get_with_same G.files i (stored_in d) r.bytes r.file, subst (IsKeptFor (bytes_with (stored_in d) r.bytes)) same l.kept)
+          let same : t ≡ u = some_is t u (sym (get_set_same w.states i r.state t r.at) ∙ (ap (slice_get (slice_set w.states i t)) e ∙ q)) in
+          subst (λ (y : ℕ). FileWith i o y u) e (bytes_with o r.bytes, get_with_same G.files i o r.bytes r.file, subst (IsKeptFor (bytes_with o r.bytes)) same kept)
 
-      other : (j : ℕ) (u : State) → (i ≡ j → ⊥) → IsAt (with_done w i l.state l.out) j u → FileWith i (stored_in d) j u
+      other : (j : ℕ) (u : State) → (i ≡ j → ⊥) → IsAt (with_done w i t out) j u → FileWith i o j u
       other j u e q =
-          let f = x.file j u (sym (get_set_other w.states i j l.state e) ∙ q) in
-          (f.0, get_with_other G.files i j (stored_in d) e ∙ f.1, f.2)
+          let f = x.file j u (sym (get_set_other w.states i j t e) ∙ q) in
+          (f.0, get_with_other G.files i j o e ∙ f.1, f.2)
 
   abbrev CommandLeads : MemberCommand → Type 0
   CommandLeads c = (d : Due) × (due_in G c ≡ Some d) × (refused_in d ≡ []) × ((v : World) × Matches g n (done_by c.member (command_of c.words) d) v × IsLater w v)
@@ -138,16 +140,16 @@ module _ (g n : ℕ) (G : Group) (w : World) (x : Matches g n G w) where
   command_goes c p =
       let i = c.member in
       let r = there i p.member in
-      let q = command_leads g n w i r.state r.bytes x.stands r.at r.kept (command_of c.words) c.input (λ e. let y = given c p e in (y.0, y.1, y.2)) in
+      let q = command_leads g n w i r.state r.bytes c.input x.stands r.at r.kept (command_of c.words) (λ e. let y = given c p e in (y.0, y.1, y.2)) in
       let l = q.2 in (
         q.0,
         ap (λ (kept : Option (List ℕ)). due_of_words (command_of c.words) (Some kept) (Some c.input)) r.file ∙ q.1,
         l.clean,
-        (with_done w i l.state l.out, matches_on i r (command_of c.words) q.0 l, λ j u k. at_later w i j r.state l.state u r.at l.front k),
+        (with_done w i l.state l.out, matches_with i r (stored_in q.0) (messages_in (command_of c.words) q.0) l.state l.out l.stands l.kept l.written, λ j u k. at_later w i j r.state l.state u r.at l.front k),
       )
 
   -- what is told of any command
-  clean : NoneRefused G
+  pub clean : NoneRefused G
   clean c p = let q = command_goes c p in subst (λ (o : Option Due). IsSomeAnd o (λ d. refused_in d ≡ [])) (sym q.1) q.2
 
   -- of a command on its member's file, from what it makes of the replica
@@ -158,23 +160,23 @@ module _ (g n : ℕ) (G : Group) (w : World) (x : Matches g n G w) where
       let at_words = subst (λ (y : Option Command). IsSomeAnd (due_of_words y (Some (Some r.bytes)) (Some c.input)) P) (sym e) at_file in
       subst (λ (kept : Option (List ℕ)). IsSomeAnd (due_of_words (command_of c.words) (Some kept) (Some c.input)) P) (sym r.file) at_words
 
-  taken : AllTaken G
+  pub taken : AllTaken G
   taken c p e =
       let r = there c.member p.member in
       let m = given c p e in
-      due_there c Take (IsMadeOrLong (IsTakenTooLong G c)) r e (λ s o. take_makes g n w c.member r.state r.bytes x.stands r.at r.kept s o c.input m.0 m.1 m.2 m.3 (IsTakenTooLong G c)
+      due_there c Take (IsMadeOrLong (IsTakenTooLong G c)) r e (λ s o. take_makes g n w c.member r.state r.bytes c.input x.stands r.at r.kept s o m.0 m.1 m.2 m.3 (IsTakenTooLong G c)
       (λ long t y f. long t y (subst (λ (kept : Option (List ℕ)). StandsIn (Some kept) t) r.file f)))
 
-  alone : NoneReleased G
-  alone c p (inl e) = let r = there c.member p.member in due_there c Edit IsOfEditsAlone r e (λ s o. edits_alone g n w c.member r.state r.bytes x.stands r.at r.kept s o c.input)
-  alone c p (inr e) = let r = there c.member p.member in due_there c Leave IsOfEditsAlone r e (λ s o. leave_alone g n w c.member r.state r.bytes x.stands r.at r.kept s o)
+  pub alone : NoneReleased G
+  alone c p (inl e) = let r = there c.member p.member in due_there c Edit IsOfEditsAlone r e (λ s o. edits_alone g n w c.member r.state r.bytes c.input x.stands r.at r.kept s o)
+  alone c p (inr e) = let r = there c.member p.member in due_there c Leave IsOfEditsAlone r e (λ s o. leave_alone g n w c.member r.state r.bytes c.input x.stands r.at r.kept s o)
 
   -- what is shown of a member's file
-  abbrev report_of : (words : List (List ℕ)) → IsReading words → History → List ℕ
+  abbrev pub report_of : (words : List (List ℕ)) → IsReading words → History → List ℕ
   report_of words (inl e) H = encode_utf8_all (text H)
   report_of words (inr e) H = ids_of H
 
-  shown : (i : ℕ) (words : List (List ℕ)) (input : List ℕ) (r : IsThere i) (e : IsReading words) → due_of G i words input ≡ Some (shows (report_of words e r.state.history))
+  pub shown : (i : ℕ) (words : List (List ℕ)) (input : List ℕ) (r : IsThere i) (e : IsReading words) → due_of G i words input ≡ Some (shows (report_of words e r.state.history))
   shown i words input r (inl e) =
       let o = opened r.bytes r.state r.kept.stands in
       ap (λ (kept : Option (List ℕ)). due_of_words (command_of words) (Some kept) (Some input)) r.file
@@ -193,9 +195,9 @@ module _ (g n : ℕ) (G : Group) (w : World) (x : Matches g n G w) where
   same_report words (inr e) H K same = ap (λ k. ids_text k (runs_of (idents H))) same.0 ∙ ap (ids_text (greatest K)) same.3
 
   -- the file tells the count, and what waits
-  record AreAlike (s t : State) : Type 0 where
-    counts : count s.history ≡ count t.history
-    waiting : s.waiting ≡ t.waiting
+  pub record AreAlike (s t : State) : Type 0 where
+    pub counts : count s.history ≡ count t.history
+    pub waiting : s.waiting ≡ t.waiting
 
   both_told : (bytes : List ℕ) (s t : State) → IsFileFor bytes s → IsFileFor bytes t → AreAlike s t
   both_told bytes s t f k =
@@ -205,7 +207,7 @@ module _ (g n : ℕ) (G : Group) (w : World) (x : Matches g n G w) where
       record { counts = sym (p.1).stands.vector ∙ (ap (λ (y : Seen). y.acks.mine) same ∙ (q.1).stands.vector); waiting = sym (p.1).stands.waiting ∙ (ap (λ (y : Seen). y.waiting) same ∙ (q.1).stands.waiting) }
 
   -- a member whose file stands for this state
-  of_file : (i : ℕ) (s : State) → IsFileOf G i s → (r : IsThere i) × AreAlike s r.state
+  pub of_file : (i : ℕ) (s : State) → IsFileOf G i s → (r : IsThere i) × AreAlike s r.state
   of_file i s f = go (slice_get G.files i) refl f
     where
       go : (o : Option (List ℕ)) → slice_get G.files i ≡ o → StandsIn (Some o) s → (r : IsThere i) × AreAlike s r.state
@@ -215,14 +217,14 @@ module _ (g n : ℕ) (G : Group) (w : World) (x : Matches g n G w) where
           let same : bytes ≡ r.bytes = some_is bytes r.bytes (sym e ∙ r.file) in
           (r, both_told r.bytes s r.state (subst (λ (b : List ℕ). IsFileFor b s) same f) r.kept.stands)
 
-  waits : WaitingMade G
+  pub waits : WaitingMade G
   waits i s o f p =
       let r = of_file i s f in
       let home = (((x.stands).good).member i (r.0).state (r.0).at).waits o (subst (λ (os : List Op). IsIn o os) (r.1).waiting p) in
       let file = x.file o.author home.0 home.1 in
       (home.0, subst (λ (kept : Option (List ℕ)). StandsIn (Some kept) home.0) (sym file.1) (file.2).stands, home.2)
 
-  equal : EqualCountsShowSame G
+  pub equal : EqualCountsShowSame G
   equal i j s t words input f k e reads =
       let p = of_file i s f in
       let q = of_file j t k in
@@ -277,7 +279,7 @@ file_at g n i l = slice_get-map bytes_over (fresh_replicas g n n) i ∙ ap (opti
 fresh_kept : (g n i : ℕ) → AreNumbers g i n → IsKeptFor (bytes_over (fresh g i n)) (new_state g i n)
 fresh_kept g n i h = kept_for (fresh g i n) (new_state g i n) (fresh_stands g i n h) (fresh_sane g i n h) (fresh_writable g i n) (fresh_storable g i n h) (fresh_short g i n h)
 
-fresh_matches : (g n : ℕ) → IsLarge g → n ≤ MEMBERS → Matches g n (fresh_group g n) (empty_world g n)
+pub fresh_matches : (g n : ℕ) → IsLarge g → n ≤ MEMBERS → Matches g n (fresh_group g n) (empty_world g n)
 unfolding worlds.fresh
 fresh_matches g n large few = record {
   stands = empty_stands g n large few;
@@ -286,7 +288,7 @@ fresh_matches g n large few = record {
   written = λ b p. absurd p;
 }
 
-begins : (g n : ℕ) → IsLarge g → n ≤ MEMBERS → BeginsWithNew g n
+pub begins : (g n : ℕ) → IsLarge g → n ≤ MEMBERS → BeginsWithNew g n
 begins g n large few i words input l e =
     let h : AreNumbers g i n = (large, l, few) in
     let s = fresh g i n in
@@ -300,7 +302,7 @@ begins g n large few i words input l e =
 -- ---- one order
 
 -- the member's file at some moment, of which the last world has the history in some member's
-moment : (g n : ℕ) (G : Group) (u v : World) (M : History) (i : ℕ) → Matches g n G u → IsLater u v → IsGathered v M → i < n → (t : State) × IsOfMember g n G i t × IsOrderedBy M t.history
+pub moment : (g n : ℕ) (G : Group) (u v : World) (M : History) (i : ℕ) → Matches g n G u → IsLater u v → IsGathered v M → i < n → (t : State) × IsAt u i t × IsOfMember g n G i t × IsOrderedBy M t.history
 moment g n G u v M i x later all l =
     let size = ((x.stands).belongs).count in
     let r = there g n G u x i (let e = x.count in omega (arith, l, size, e)) in
@@ -310,6 +312,7 @@ moment g n G u v M i x later all l =
     let after = later i t r.at in
     let part : IsPartOf t.history M = λ o p. (all.1 o).1 (i, after.0, after.1, front_ops t.history (after.0).history after.2 o p) in (
       t,
+      r.at,
       record { file = subst (λ (o : Option (List ℕ)). StandsIn (Some o) t) (sym r.file) r.kept.stands; group_is = whose.0; members_are = whose.1; me_is = k.me; text_is = λ words input e. shown g n G u x i words input r (inl e) },
       (part, (order.law M all.0).2 t.history k.legal part),
     )
@@ -319,7 +322,7 @@ ordered g n cs v some a each =
     let s = place_of v.states 0 some in
     let all = one_history v 0 s.0 a.good s.1 in
     let M = all.0 in
-    (M, (all.1).0, (order.law M (all.1).0).0, λ before after i e l. let r = each before after e in moment g n (after_commands (fresh_group g n) before) r.0 v M i r.1 r.2 all.1 l)
+    (M, (all.1).0, (order.law M (all.1).0).0, λ before after i e l. let r = each before after e in let m = moment g n (after_commands (fresh_group g n) before) r.0 v M i r.1 r.2 all.1 l in (m.0, m.2, m.3))
 
 pub law : GroupsClean
 law g n cs large some few p =

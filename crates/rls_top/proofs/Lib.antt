@@ -1,10 +1,10 @@
-mod Alike
+pub mod Alike
 mod Called
 mod EditsAlone
 mod Finishing
 mod Fresh
-mod GroupCommands
-mod Groups
+pub mod GroupCommands
+pub mod Groups
 mod Headlines
 mod Messages
 mod OnFiles
