@@ -1,0 +1,320 @@
+-- A request of a session of a group: what it is answered, and what it makes of the member's history.
+use Rattle.std.proofs.Common.{◌≡◌, ◌∙◌, ◌≤◌, ◌<◌, ◌-◌, ℕ, Bool, true, false, cond, ltb, nat_lt, List, [], ◌∷◌, ◌++◌, length, Option, Some, None, Result, Ok, Err, is_some, refl, sym, ap, subst, inl, inr}
+use Rattle.std.specs.Prelude.{◌&&◌, ◌==◌, codes, encode_utf8_all}
+use Rattle.std.proofs.lemmas.List.{append-nil}
+use Rattle.rls_ident.specs.declared.limits.TheConstants.{INPUT_BYTES}
+use Rattle.rls_ident.specs.Lists.{IsIn}
+use Rattle.rls_ident.proofs.Members.{and_true, eq_test, in_left, lt_is}
+use Rattle.rls_ops.specs.declared.message.Message.{Message}
+use Rattle.rls_ops.specs.Spelling.{message_bytes}
+use Rattle.rls_codec.specs.CodecLaws.{IsBytes, IsMessage}
+use Rattle.rls_codec.specs.Reading.{message_of}
+use Rattle.rls_codec.proofs.MessageFormats.{message_again}
+use Rattle.rls_codec.proofs.SizeLaws.{message_length}
+use Rattle.rls_model.specs.declared.edit.Edit.{Edit}
+use Rattle.rls_model.specs.declared.edit.EditError.{EditError}
+use Rattle.rls_model.specs.declared.receipt.Taken.{Taken}
+use Rattle.rls_model.specs.Answers.{Reason}
+use Rattle.rls_model.specs.Document.{text}
+use Rattle.rls_model.specs.History.{group_of, members_of}
+use Rattle.rls_model.specs.Laws.{IsAt, IsFront}
+use Rattle.rls_model.specs.Receiving.{State}
+use Rattle.rls_model.specs.Taking.{message_for, take_message}
+use Rattle.rls_model.specs.Worlds.{World}
+use Rattle.rls_model.proofs.HistoryNumbers.{front_self, front_trans}
+use Rattle.rls_model.proofs.NothingReady.{IsAtRest}
+use Rattle.rls_model.proofs.WorldsCommands.{with_done}
+use Rattle.rls_model.proofs.WorldsInvariant.{at_later}
+use Rattle.rls_model.proofs.WorldsPast.{taking_goes_on}
+use Rattle.rls_seen.specs.Messages.{message_over}
+use Rattle.rls_seen.specs.Over.{first_ready, release_of, release_over, released_all}
+use Rattle.rls_seen.specs.Seen.{Seen, members, vector}
+use Rattle.rls_seen.specs.Stands.{StandsFor}
+use Rattle.rls_seen.proofs.Keeping.{text_alike}
+use Rattle.rls_seen.proofs.Releasing.{first_alike}
+use Rattle.rls_seen.proofs.Repeating.{all_done}
+use Rattle.rls_seen.proofs.Sending.{message_alike, message_fits}
+use Rattle.rls_store.proofs.HistoryMessages.{sent_is_message}
+use Rattle.rls_undo.specs.declared.entry.Entry.{Entry}
+use Rattle.rls_undo.specs.UndoLaws.{AreEdits}
+use Rattle.rls_undo.specs.Undoing.{last_of, planned, refusal}
+use Rattle.rls_undo.proofs.Alike.{planned_alike}
+use Rattle.rls_undo.proofs.Histories.{plan_edits}
+use Rattle.rls_report.specs.declared.failures.LineFault.{LineFault}
+use Rattle.rls_report.specs.Reports.{take_text}
+use Rattle.rls_script.specs.declared.lines.Line.{Line}
+use Rattle.rls_stages.specs.Lines.{fault_in, text_in}
+use Rattle.rls_stages.proofs.Meant.{IsLine, IsMeantWell, line_well}
+use Rattle.rls_top.specs.Groups.{Group}
+use Rattle.rls_top.proofs.Groups.{Matches, of_file, shown}
+use Rattle.rls_session.specs.declared.orders.Order.TheVariants as orders
+use Rattle.rls_session.specs.Answers.{Sitting, answer, edited, pointed, read_line, rested, sent, taken, taken_at, text_reply, undone, undone_by_plan, with_state}
+use Rattle.rls_session.specs.Answers as answers
+use Rattle.rls_session.specs.Courses.{Answered}
+use Rattle.rls_session.specs.Replies.{bytes_text}
+use Rattle.rls_session.specs.Requests.{Request, Does, Takes}
+use Rattle.rls_session.specs.Sessions.{by_history, by_parts}
+use Rattle.rls_session.proofs.Agreeing.{AreAlike, IsAlike, IsGiven, answer_alike, line_almost, undo_almost, whole_at}
+use Rattle.rls_session.proofs.Whole.{last_undoable}
+use Rattle.rls_groups.specs.Events.{IsWritten, replied}
+use Rattle.rls_groups.specs.Groups.{IsAnswered, IsClean, IsStored, IsTaken, IsTextOfAll}
+use Rattle.rls_groups.proofs.Commands.{message_taken}
+use Rattle.rls_groups.proofs.Past.{past_same}
+use Rattle.rls_groups.proofs.Requests.{Steps}
+use Rattle.rls_groups.proofs.Steps.{IsUnderway, at, edits, performs, rests, sends_on, takes}
+
+-- ---- nothing is released
+
+rested_at : (t : Seen) → first_ready t ≡ None → released_all t ≡ t
+unfolding release_over
+rested_at t e = all_done t (ap (λ o. is_some (release_of t o)) e)
+
+-- by what is answered over a history that is at rest then
+rested_same : (a : Answered (Sitting Seen)) (t : State) → StandsFor (a.state).state t → IsAtRest t → rested by_parts a ≡ a
+rested_same a t h r = ap (λ (s : Seen). answers.says a.reply (with_state a.state s)) (rested_at (a.state).state (first_alike (a.state).state t h ∙ r))
+
+-- a message that is taken, by its counts
+clean_text : (c : Taken) → c.refused ≡ [] → take_text c.applied c.released c.repeated c.held (length c.refused) ≡ take_text c.applied c.released c.repeated c.held 0
+clean_text c e = ap (λ (r : List (ℕ × ℕ × Reason)). take_text c.applied c.released c.repeated c.held (length r)) e
+
+module _ (g n : ℕ) (G : Group) (w : World) (x : Matches g n G w) (i : ℕ) (s : State) (h : IsAt w i s) where
+  -- ---- on the way
+
+  -- the replica and the history are alike, and the member's history has come to this in a good world
+  pub record Both (d : Sitting Seen) (f : Sitting State) (out : List Message) : Type 0 where
+    pub alike : IsAlike d f
+    pub underway : IsUnderway g n w i f.state out
+    pub front : IsFront s.history (f.state).history
+
+  abbrev pub Later : Sitting State → Sitting State → Type 0
+  Later e f = IsFront (e.state).history (f.state).history
+
+  abbrev pub IsTold : List ℕ → Message → Type 0
+  IsTold b m = IsMessage b m × (length b ≤ INPUT_BYTES)
+
+  abbrev pub IsDone : Sitting State → Sitting State → Request → Type 0
+  IsDone u f r = IsStored u.state f r
+
+  abbrev pub Stepped : Sitting Seen → Sitting State → List Message → Request → Type 0
+  Stepped d f out r = Steps (answer by_parts) (answer by_history) replied Both Later (IsWritten G) (IsClean G) IsDone IsTold d f out r
+
+  -- ---- one request
+
+  module _ (d : Sitting Seen) (f : Sitting State) (out : List Message) (b : Both d f out) where
+    abbrev next_of : Request → State
+    next_of r = ((answer by_history f r).state).state
+
+    -- nothing is sent
+    moved : (r : Request) → AreAlike (answer by_parts d r) (answer by_history f r) → IsUnderway g n w i (next_of r) out → IsFront (f.state).history (next_of r).history → IsClean G d r → IsAnswered f r → replied d r ≡ [] → Stepped d f out r
+    moved r k u front clean meant none = record {
+      more = [];
+      reply = k.reply;
+      next = record { alike = k.states; underway = subst (IsUnderway g n w i (next_of r)) (sym (append-nil out)) u; front = front_trans s.history (f.state).history (next_of r).history b.front front };
+      later = front;
+      clean = clean;
+      meant = λ v l. (l, meant);
+      told = λ a p. absurd (subst (λ (xs : List (List ℕ)). IsIn a xs) none p);
+    }
+
+    -- nothing changes
+    quiet : (r : Request) → AreAlike (answer by_parts d r) (answer by_history f r) → next_of r ≡ f.state → IsClean G d r → IsAnswered f r → replied d r ≡ [] → Stepped d f out r
+    quiet r k e clean meant none = moved r k (subst (λ (t : State). IsUnderway g n w i t out) (sym e) b.underway) (subst (λ (t : State). IsFront (f.state).history t.history) (sym e) (front_self (f.state).history)) clean meant none
+
+    -- where waiting operations are released then, of which none is ready
+    record Rested (t u : State) : Type 0 where
+      underway : IsUnderway g n w i t out
+      front : IsFront (f.state).history t.history
+      same : u ≡ t
+
+    rested_moves : (r : Request) (t : State) → Rested t (next_of r) → AreAlike (answer by_parts d r) (answer by_history f r) → IsClean G d r → IsAnswered f r → replied d r ≡ [] → Stepped d f out r
+    rested_moves r t q k clean meant none = moved r k (subst (λ (u : State). IsUnderway g n w i u out) (sym q.same) q.underway) (subst (λ (u : State). IsFront (f.state).history u.history) (sym q.same) q.front) clean meant none
+
+    -- ---- edits
+
+    edit_goes : (y : Result Edit LineFault) → IsMeantWell fault_in f.state y → IsUnderway g n w i ((edited by_history f y).state).state out × IsFront (f.state).history (((edited by_history f y).state).state).history
+    edit_goes (Ok edit) q = (edits g n w i s h f.state out b.underway edit q.0 q.1, inr (front_self (f.state).history))
+    edit_goes (Err fault) q = (b.underway, front_self (f.state).history)
+
+    edit_step : (line : Line) → IsLine line → Stepped d f out (Does (orders.Edit line))
+    unfolding answer
+    edit_step line ok =
+        let r = Does (orders.Edit line) in
+        let y = read_line by_history f.state line in
+        let q = edit_goes y (line_well fault_in text_in f.state line ok) in
+        let t = ((edited by_history f y).state).state in
+        let still = rests t ((q.0).storable).rest in
+        rested_moves r t (record { underway = q.0; front = q.1; same = still }) (answer_alike d f r ok b.alike)
+        (rested_same (edited by_parts d (read_line by_parts d.state line)) t ((line_almost d f line b.alike ok).states).stands ((q.0).storable).rest)
+        (λ edit e. let k = subst (IsMeantWell fault_in f.state) e (line_well fault_in text_in f.state line ok) in record {
+          reply = ap (λ (z : Result Edit LineFault). (edited by_history f z).reply) e;
+          edit_is = k.0;
+          fits = k.1;
+          state = still ∙ ap (λ (z : Result Edit LineFault). ((edited by_history f z).state).state) e;
+        })
+        refl
+
+    -- ---- undoing
+
+    undo_goes : (o : Option Entry) → last_of f.entries ≡ o → IsUnderway g n w i ((undone by_history f o).state).state out × IsFront (f.state).history (((undone by_history f o).state).state).history
+    undo_goes None e = (b.underway, front_self (f.state).history)
+    undo_goes (Some entry) e = go (refusal f.state plan)
+      where
+        plan : List Edit
+        plan = planned (f.state).history entry
+
+        last : last_of d.entries ≡ Some entry
+        last = ap last_of (b.alike).entries ∙ e
+
+        are : AreEdits plan
+        are = subst AreEdits (planned_alike d.state f.state entry (b.alike).stands (last_undoable d.state d.entries entry last ((b.alike).whole).undoable)) (plan_edits d.state entry (b.alike).sane (whole_at d.entries (length d.entries - 1) entry last (b.alike).texts))
+
+        go : (o : Option EditError) → IsUnderway g n w i ((undone_by_plan by_history f plan o).state).state out × IsFront (f.state).history (((undone_by_plan by_history f plan o).state).state).history
+        go None = performs g n w i s h plan f.state out are b.underway
+        go (Some e) = performs g n w i s h plan f.state out are b.underway
+
+    undo_step : Stepped d f out (Does orders.Undo)
+    unfolding answer
+    undo_step =
+        let r = Does orders.Undo in
+        let q = undo_goes (last_of f.entries) refl in
+        let t = ((undone by_history f (last_of f.entries)).state).state in
+        rested_moves r t (record { underway = q.0; front = q.1; same = rests t ((q.0).storable).rest }) (answer_alike d f r tt b.alike)
+        (rested_same (undone by_parts d (last_of d.entries)) t ((undo_almost d f b.alike).states).stands ((q.0).storable).rest) tt refl
+
+    -- ---- the cursor and the text
+
+    either : (c : Bool) (a e : Answered (Sitting State)) → (a.state).state ≡ f.state → (e.state).state ≡ f.state → ((cond c a e).state).state ≡ f.state
+    either true a e p q = p
+    either false a e p q = q
+
+    point_step : (p : ℕ) → Stepped d f out (Does (orders.Point p))
+    unfolding answer
+    point_step p = quiet (Does (orders.Point p)) (answer_alike d f (Does (orders.Point p)) tt b.alike) (either (ltb (length (text_in f.state)) p) _ _ refl refl) tt tt refl
+
+    place_step : Stepped d f out (Does orders.Place)
+    unfolding answer
+    place_step = quiet (Does orders.Place) (answer_alike d f (Does orders.Place) tt b.alike) refl tt tt refl
+
+    order_step : (len : ℕ) → Stepped d f out (Does (orders.Take len))
+    unfolding answer
+    order_step len = quiet (Does (orders.Take len)) (answer_alike d f (Does (orders.Take len)) tt b.alike) refl tt tt refl
+
+    quit_step : Stepped d f out (Does orders.Quit)
+    unfolding answer
+    quit_step = quiet (Does orders.Quit) (answer_alike d f (Does orders.Quit) tt b.alike) refl tt tt refl
+
+    bad_step : Stepped d f out (Does orders.Bad)
+    unfolding answer
+    bad_step = quiet (Does orders.Bad) (answer_alike d f (Does orders.Bad) tt b.alike) refl tt tt refl
+
+    text_clean : IsTextOfAll G (vector d.state) (text_reply by_parts d.state)
+    text_clean j t words input file counted is =
+        let p = of_file g n G w x j t file in
+        let r = p.0 in
+        let stands = (b.alike).stands in
+        let past = at_later w i j s f.state r.state h b.front r.at in
+        let same = past_same (with_done w i f.state out) ((b.underway).stands).good j i (r.state).history (f.state).history past (f.state, at g n w i s h f.state out, front_self (f.state).history) (sym (p.1).counts ∙ (counted ∙ stands.vector)) in (
+          encode_utf8_all (text (r.state).history),
+          shown g n G w x j words input r (inl is),
+          ap (λ (cs : List ℕ). bytes_text (codes "text") (encode_utf8_all cs)) (text_alike d.state f.state stands ∙ sym same.1),
+        )
+
+    text_step : Stepped d f out (Does orders.Text)
+    unfolding answer
+    text_step = quiet (Does orders.Text) (answer_alike d f (Does orders.Text) tt b.alike) refl text_clean tt refl
+
+    -- ---- messages
+
+    send_same : (to : ℕ) → next_of (Does (orders.Send to)) ≡ f.state
+    unfolding answer
+    send_same to = refl
+
+    send_reply : (to : ℕ) → (answer by_parts d (Does (orders.Send to))).reply ≡ sent by_parts d.state to
+    unfolding answer
+    send_reply to = refl
+
+    send_step : (to : ℕ) → Stepped d f out (Does (orders.Send to))
+    send_step to = go (nat_lt to (members d.state)) refl
+      where
+        r : Request
+        r = Does (orders.Send to)
+
+        m : Message
+        m = message_for (f.state).history to
+
+        bytes : List ℕ
+        bytes = message_bytes (message_over d.state to)
+
+        there : to < members d.state → IsTold bytes m
+        there l =
+            let same : bytes ≡ message_bytes m = ap message_bytes (message_alike d.state f.state to l (b.alike).stands) in (
+              subst (λ (y : List ℕ). IsMessage y m) (sym same) (sent_is_message f.state to (b.underway).storable),
+              subst (λ (y : ℕ). y ≤ INPUT_BYTES) (sym (message_length 3 (message_over d.state to))) (message_fits d.state to ((b.alike).sane).few),
+            )
+
+        -- of these messages, if the member is known
+        among : (known : Bool) → nat_lt to (members d.state) ≡ known → (a : List ℕ) → IsIn a (replied d r) → IsIn a (cond {A = List (List ℕ)} known (bytes ∷ []) [])
+        among known e a p = subst (λ (c : Bool). IsIn a (cond {A = List (List ℕ)} c (bytes ∷ []) [])) e p
+
+        told : to < members d.state → (a : List ℕ) → IsIn a (bytes ∷ []) → (y : Message) × IsIn y (m ∷ []) × IsTold a y
+        told l a (inl q) = (m, inl refl, subst (λ (y : List ℕ). IsTold y m) q (there l))
+        told l a (inr q) = absurd q
+
+        reply : nat_lt to (members d.state) ≡ true → (message : List ℕ) → IsIn message (bytes ∷ []) → (answer by_parts d r).reply ≡ bytes_text (codes "message") message
+        reply e message (inl q) = send_reply to ∙ rw e (ap (bytes_text (codes "message")) q)
+        reply e message (inr q) = absurd q
+
+        go : (known : Bool) → nat_lt to (members d.state) ≡ known → Stepped d f out r
+        go false e = quiet r (answer_alike d f r tt b.alike) (send_same to) (λ message p. absurd (among false e message p)) tt (rw e refl)
+        go true e =
+            let k = answer_alike d f r tt b.alike in
+            let l = lt_is to (members d.state) e in
+            record {
+              more = m ∷ [];
+              reply = k.reply;
+              next = record {
+                alike = k.states;
+                underway = subst (λ (t : State). IsUnderway g n w i t (out ++ m ∷ [])) (sym (send_same to)) (sends_on g n w i s h f.state out b.underway to);
+                front = subst (λ (t : State). IsFront s.history t.history) (sym (send_same to)) b.front;
+              };
+              later = subst (λ (t : State). IsFront (f.state).history t.history) (sym (send_same to)) (front_self (f.state).history);
+              clean = λ message p. reply e message (among true e message p);
+              meant = λ v q. (q, tt);
+              told = λ a p. told l a (among true e a p);
+            }
+
+    take_step : (bytes : List ℕ) → IsBytes bytes → IsIn bytes G.written → Stepped d f out (Takes bytes)
+    unfolding answer
+    take_step bytes ok given =
+        let y = x.written bytes given in
+        let m = y.0 in
+        let t = f.state in
+        let stands = (b.underway).stands in
+        let here = at g n w i s h t out in
+        let posted = in_left m w.sent out y.1 in
+        let whose = (stands.belongs).state i t here in
+        let its = (stands.belongs).message m posted in
+        let right : ((m.group == group_of t.history) && (m.members == members_of t.history)) ≡ true =
+        and_true (m.group == group_of t.history) (m.members == members_of t.history) (eq_test m.group (group_of t.history) (its.0 ∙ sym whose.0)) (eq_test m.members (members_of t.history) (its.1 ∙ sym whose.1)) in
+        let p = take_message t m in
+        let same : taken by_history f (message_of bytes) ≡ taken_at f p = rw (message_again bytes m y.2, right) refl in
+        let q = takes g n w i s h t out b.underway m bytes y.1 y.2 in
+        let k = answer_alike d f (Takes bytes) ok b.alike in
+        let state : next_of (Takes bytes) ≡ p.state = ap (λ (a : Answered (Sitting State)). (a.state).state) same in
+        rested_moves (Takes bytes) p.state (record { underway = q.0; front = taking_goes_on None t m; same = state }) k
+        (p.counts.applied, p.counts.released, p.counts.repeated, p.counts.held, k.reply ∙ (ap (λ (a : Answered (Sitting State)). a.reply) same ∙ clean_text p.counts q.1))
+        (subst (IsTaken t bytes) (sym state) (message_taken (with_done w i t out) i t stands.good here ((b.underway).storable).rest bytes m posted y.2)) refl
+
+    -- ---- all requests
+
+    pub steps : (r : Request) → IsGiven r → IsWritten G d r → Stepped d f out r
+    steps (Does (orders.Edit line)) ok given = edit_step line ok
+    steps (Does orders.Undo) ok given = undo_step
+    steps (Does (orders.Point p)) ok given = point_step p
+    steps (Does orders.Place) ok given = place_step
+    steps (Does orders.Text) ok given = text_step
+    steps (Does (orders.Take len)) ok given = order_step len
+    steps (Does (orders.Send to)) ok given = send_step to
+    steps (Does orders.Quit) ok given = quit_step
+    steps (Does orders.Bad) ok given = bad_step
+    steps (Takes bytes) ok given = take_step bytes ok given

@@ -1,0 +1,227 @@
+-- A group whose members work by commands and by sessions: its files stand for the histories of a good world, from event to event.
+use Rattle.std.proofs.Common.{◌≡◌, ◌∙◌, ◌≤◌, ℕ, Bool, true, false, List, [], ◌∷◌, ◌++◌, Option, Some, Result, Ok, refl, sym, ap, subst, inl, inr}
+use Rattle.std.specs.Prelude.{slice_get, slice_set}
+use Rattle.std.proofs.lemmas.List.{append-nil}
+use Rattle.rls_ident.specs.declared.limits.TheConstants.{MEMBERS}
+use Rattle.rls_ident.specs.Lists.{IsIn}
+use Rattle.rls_ops.specs.declared.message.Message.{Message}
+use Rattle.rls_codec.specs.CodecLaws.{IsMessage}
+use Rattle.rls_model.specs.Laws.{IsAt}
+use Rattle.rls_model.specs.Receiving.{State}
+use Rattle.rls_model.specs.WellFormed.{IsLarge}
+use Rattle.rls_model.specs.Worlds.{World, empty_world}
+use Rattle.rls_model.proofs.WorldsCommands.{with_done}
+use Rattle.rls_model.proofs.WorldsInvariant.{at_later}
+use Rattle.rls_seen.specs.Seen.{Seen}
+use Rattle.rls_report.specs.declared.failures.CommandError.{CommandError}
+use Rattle.rls_stages.proofs.Files.{IsOpened, opened}
+use Rattle.rls_top.specs.declared.words.Command.{Command}
+use Rattle.rls_top.specs.declared.words.Command.TheVariants.{OnFile}
+use Rattle.rls_top.specs.declared.words.FileCommand.TheVariants.{Take}
+use Rattle.rls_top.specs.Due.{Due, due_of_words}
+use Rattle.rls_top.specs.Groups.{Group, due_of, files_with, messages_in, stored_in}
+use Rattle.rls_top.specs.Words.{command_of}
+use Rattle.rls_top.proofs.GroupCommands.{Leads, command_leads, kept_for}
+use Rattle.rls_top.proofs.Groups.{IsLater, IsThere, Matches, fresh_matches, later_self, later_trans, matches_with, there}
+use Rattle.rls_session.specs.Answers.{answer}
+use Rattle.rls_session.specs.Courses.{holds}
+use Rattle.rls_session.specs.Sessions.{by_parts}
+use Rattle.rls_groups.specs.Events.{AreOfGroup, Commands, Deed, Desk, Event, IsOfGroup, IsRun, Sits, after_run, at_desk, due_on, printed_of, replica_at, replied_at, replied_on, saved_of, saved_with, session_at, stored_by, stored_of}
+use Rattle.rls_groups.specs.Groups.{HasReport, IsClean, IsCommanded, IsHeld, IsMeant, SessionsClean}
+use Rattle.rls_groups.specs.Lives.{Life, after_deed, after_words, begun, lived, lived_all, states_run, states_with}
+use Rattle.rls_groups.proofs.Commands.{comes_states, command_meant, set_at}
+use Rattle.rls_groups.proofs.Sessions.{All, EndsSo, all, asked, ends_so, found}
+
+-- ---- what a group and a world have in common
+
+pub record Lives (g n : ℕ) (l : Life) (w : World) : Type 0 where
+  pub matches : Matches g n l.group w
+  pub states : w.states ≡ l.states
+
+-- the world after a run
+pub record Runs (g n : ℕ) (l : Life) (i : ℕ) (deed : Deed) (w : World) : Type 0 where
+  pub world : World
+  pub matches : Matches g n (after_run true l.group i deed) world
+  pub states : world.states ≡ states_run true l.group l.states i deed
+  pub later : IsLater w world
+
+module _ (g n : ℕ) (l : Life) (w : World) (x : Lives g n l w) where
+  abbrev G : Group
+  G = l.group
+
+  -- the member's state
+  held : (i : ℕ) (t : State) → IsAt w i t → IsHeld l i t
+  held i t h = ap (λ (xs : List State). slice_get xs i) (sym x.states) ∙ h
+
+  -- ---- a command
+
+  module _ (i : ℕ) (words : List (List ℕ)) (input : List ℕ) (p : IsOfGroup l.group i (Commands words input)) where
+    abbrev c : Option Command
+    c = command_of words
+
+    given : c ≡ Some (OnFile Take) → (m : Message) × IsIn m w.sent × IsMessage input m
+    given e = let y = (x.matches).written input (p.given e) in (y.0, y.1, y.2)
+
+    -- what is due, and where it leads
+    record Called : Type 0 where
+      at : IsThere g n l.group w x.matches i
+      due : Due
+      is : due_of l.group i words input ≡ Some due
+      leads : Leads g n w i at.state at.bytes input c due
+
+    called : Called
+    called =
+        let r = there g n l.group w x.matches i p.member in
+        let q = command_leads g n w i r.state r.bytes input (x.matches).stands r.at r.kept c given in
+        record { at = r; due = q.0; is = ap (λ (kept : Option (List ℕ)). due_of_words c (Some kept) (Some input)) r.file ∙ q.1; leads = q.2 }
+
+    pub command_runs : Runs g n l i (Commands words input) w
+    command_runs =
+        let k = called in
+        let r = k.at in
+        let q = k.leads in
+        let v = with_done w i q.state q.out in
+        record {
+          world = v;
+          matches = subst (λ (o : Option Due). Matches g n (record { files = files_with (l.group).files i (stored_of o); written = (l.group).written ++ printed_of c o }) v) (sym k.is)
+              (matches_with g n l.group w x.matches i r (stored_in k.due) (messages_in c k.due) q.state q.out q.stands q.kept q.written);
+          states = subst (λ (o : Option Due). v.states ≡ states_with l.states i (stored_of o) (after_words c input)) (sym k.is)
+              (ap (λ (xs : List State). slice_set xs i q.state) x.states ∙ comes_states c input l.states i r.state q.state k.due (held i r.state r.at) q.comes);
+          later = λ j u h. at_later w i j r.state q.state u r.at q.front h;
+        }
+
+    pub command_means : (s : Seen) → stored_by l.group i (Commands words input) ≡ Some s → (t : State) × IsHeld l i t × IsMeant l.group i t (Commands words input) (after_deed (Commands words input) t)
+    command_means s e =
+        let k = called in
+        let r = k.at in
+        let q = k.leads in
+        let stored : stored_in k.due ≡ Some s = sym (ap stored_of k.is) ∙ e in (
+          r.state,
+          held i r.state r.at,
+          subst (λ (o : Option Due). HasReport o (λ report. IsCommanded c input report r.state (after_words c input r.state))) (sym k.is)
+              (command_meant w i r.state ((x.matches).stands).good r.at ((r.kept).storable).rest c input k.due s q.state given stored q.comes),
+        )
+
+  -- ---- a session
+
+  module _ (i : ℕ) (desk : Desk) (input : List ℕ) (p : IsOfGroup l.group i (Sits desk input)) where
+    -- what its requests come to
+    record Served : Type 0 where
+      at : IsThere g n l.group w x.matches i
+      replica : Seen
+      opens : IsOpened at.bytes at.state replica
+      requests : All g n l.group w x.matches i at desk input replica opens
+
+    served : Served
+    served =
+        let r = there g n l.group w x.matches i p.member in
+        let o = opened r.bytes r.state (r.kept).stands in
+        record { at = r; replica = o.0; opens = o.1; requests = all g n l.group w x.matches i r desk input o.0 o.1 (asked g n l.group w x.matches i r desk input o.0 o.1 p.given) }
+
+    there_is : (k : Served) → replica_at l.group i ≡ Ok k.replica
+    there_is k = found g n l.group w x.matches i k.at desk input k.replica k.opens
+
+    -- the group and the states, by the replica that is found and by how the session ends
+    abbrev MatchesBy : World → Result Seen CommandError → Type 0
+    MatchesBy v y = Matches g n (record { files = files_with (l.group).files i (saved_of (due_on y desk input).ending); written = (l.group).written ++ saved_with (due_on y desk input).ending (replied_on y desk input) }) v
+
+    abbrev MatchesAt : World → List (List ℕ) → Result Seen CommandError → Type 0
+    MatchesAt v messages z = Matches g n (record { files = files_with (l.group).files i (saved_of z); written = (l.group).written ++ saved_with z messages }) v
+
+    abbrev StatesBy : World → Result Seen CommandError → Type 0
+    StatesBy v y = v.states ≡ states_with l.states i (saved_of (due_on y desk input).ending) (after_deed (Sits desk input))
+
+    abbrev StatesAt : World → Result Seen CommandError → Type 0
+    StatesAt v z = v.states ≡ states_with l.states i (saved_of z) (after_deed (Sits desk input))
+
+    ended : (k : Served) → EndsSo (session_at by_parts k.replica desk input) → Runs g n l i (Sits desk input) w
+    ended k (inl e) =
+        let r = k.at in
+        let q = k.requests in
+        let t = (q.states).underway in
+        let a = (q.states).alike in
+        let s = ((session_at by_parts k.replica desk input).state).state in
+        let u = after_deed (Sits desk input) r.state in
+        let v = with_done w i u q.more in
+        record {
+          world = v;
+          matches = subst (MatchesBy v) (sym (there_is k)) (subst (MatchesAt v (replied_at k.replica desk input)) (sym e.0)
+              (matches_with g n l.group w x.matches i r (Some s) (replied_at k.replica desk input) u q.more t.stands (kept_for s u a.stands a.sane a.writable t.storable e.1) (λ b p. let y = q.told b p in (y.0, y.1, (y.2).0, (y.2).1))));
+          states = subst (StatesBy v) (sym (there_is k)) (subst (StatesAt v) (sym e.0) (ap (λ (xs : List State). slice_set xs i u) x.states ∙ sym (set_at l.states i r.state s (after_deed (Sits desk input)) (held i r.state r.at))));
+          later = λ j z h. at_later w i j r.state u z r.at (q.states).front h;
+        }
+    ended k (inr e) = record {
+      world = w;
+      matches = subst (MatchesBy w) (sym (there_is k)) (subst (MatchesAt w (replied_at k.replica desk input)) (sym e.1)
+          (subst (λ (ws : List (List ℕ)). Matches g n (record { files = (l.group).files; written = ws }) w) (sym (append-nil (l.group).written)) x.matches));
+      states = subst (StatesBy w) (sym (there_is k)) (subst (StatesAt w) (sym e.1) x.states);
+      later = later_self w;
+    }
+
+    pub session_runs : Runs g n l i (Sits desk input) w
+    session_runs = let k = served in ended k (ends_so (session_at by_parts k.replica desk input))
+
+    pub session_means : (t : State) × IsHeld l i t × IsMeant l.group i t (Sits desk input) (after_deed (Sits desk input) t)
+    session_means =
+        let k = served in
+        let r = k.at in
+        let q = k.requests in
+        (r.state, held i r.state r.at, (ap (λ (y : Result Seen CommandError). (due_on y desk input).replies) (there_is k) ∙ q.replies, q.meant))
+
+    pub session_cleans : (s : Seen) × (replica_at l.group i ≡ Ok s) × holds (answer by_parts) (IsClean l.group) (at_desk s desk) input
+    session_cleans = let k = served in (k.replica, there_is k, (k.requests).clean)
+
+  -- ---- any run
+
+  runs : (i : ℕ) (deed : Deed) → IsOfGroup l.group i deed → Runs g n l i deed w
+  runs i (Commands words input) p = command_runs i words input p
+  runs i (Sits desk input) p = session_runs i desk input p
+
+  pub means : (i : ℕ) (deed : Deed) (s : Seen) → IsOfGroup l.group i deed → stored_by l.group i deed ≡ Some s → (t : State) × IsHeld l i t × IsMeant l.group i t deed (after_deed deed t)
+  means i (Commands words input) s p e = command_means i words input p s e
+  means i (Sits desk input) s p e = session_means i desk input p
+
+  pub cleans : SessionsClean l.group
+  cleans i desk input p = session_cleans i desk input p
+
+  pub event : (e : Event) → IsRun e.done l.group e.member e.deed → (v : World) × Lives g n (lived l e) v × IsLater w v
+  event e p = go e.done p
+    where
+      go : (done : Bool) → IsRun done l.group e.member e.deed → (v : World) × Lives g n (record { group = after_run done l.group e.member e.deed; states = states_run done l.group l.states e.member e.deed }) v × IsLater w v
+      go false q = (w, record { matches = x.matches; states = x.states }, later_self w)
+      go true q = let r = runs e.member e.deed q in (r.world, record { matches = r.matches; states = r.states }, r.later)
+
+-- ---- all events
+
+-- at each moment the group and a world have all that in common, and later worlds go on from it
+abbrev pub AtEach : ℕ → ℕ → Life → List Event → World → Type 0
+AtEach g n l es v = (before after : List Event) → before ++ after ≡ es → (u : World) × Lives g n (lived_all l before) u × IsLater u v
+
+pub all_events : (g n : ℕ) (l : Life) (w : World) (es : List Event) → Lives g n l w → AreOfGroup l.group es → (v : World) × Lives g n (lived_all l es) v × IsLater w v × AtEach g n l es v
+all_events g n l w [] x p = (w, x, later_self w, at_once)
+  where
+    at_once : AtEach g n l [] w
+    at_once [] after e = (w, x, later_self w)
+    at_once (b ∷ before) after e = absurd (cc)
+all_events g n l w (e ∷ es) x p =
+    let q = event g n l w x e p.0 in
+    let rest = all_events g n (lived l e) q.0 es q.1 p.1 in
+    let later : IsLater w rest.0 = later_trans w q.0 rest.0 q.2 rest.2 in
+    (rest.0, rest.1, later, at_each rest.0 later rest.3)
+  where
+    at_each : (v : World) → IsLater w v → AtEach g n (lived l e) es v → AtEach g n l (e ∷ es) v
+    at_each v later f [] after q = (w, x, later)
+    at_each v later f (b ∷ before) after q =
+        let first : b ≡ e = cc in
+        let rest : before ++ after ≡ es = cc in
+        let r = f before after rest in
+        (r.0, subst (λ (y : Event). Lives g n (lived_all (lived l y) before) r.0) (sym first) r.1, r.2)
+
+-- what an event is given
+pub run_at : (l : Life) (before after : List Event) (e : Event) → AreOfGroup l.group (before ++ e ∷ after) → IsRun e.done (lived_all l before).group e.member e.deed
+run_at l [] after e p = p.0
+run_at l (b ∷ before) after e p = run_at (lived l b) before after e p.1
+
+-- at first
+pub begun_lives : (g n : ℕ) → IsLarge g → n ≤ MEMBERS → Lives g n (begun g n) (empty_world g n)
+begun_lives g n large few = record { matches = fresh_matches g n large few; states = refl }

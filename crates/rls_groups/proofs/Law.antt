@@ -1,0 +1,36 @@
+-- The law of a group whose members work by commands and by sessions.
+use Rattle.std.proofs.Common.{ℕ, List, ◌∷◌, sym, subst, arith}
+use Rattle.rls_model.specs.Worlds.{World, empty_world}
+use Rattle.rls_top.specs.Groups.{fresh_group}
+use Rattle.rls_top.proofs.Groups.{alone, begins, clean, equal, taken, waits}
+use Rattle.rls_groups.specs.Events.{AreOfGroup, Event, IsRun}
+use Rattle.rls_groups.specs.Groups.{EachMeant, GroupsConverge}
+use Rattle.rls_groups.specs.Lives.{begun, lived_all}
+use Rattle.rls_groups.proofs.Groups.{AtEach, all_events, begun_lives, cleans, means, run_at}
+use Rattle.rls_groups.proofs.Ordered.{ordered}
+
+each_meant : (g n : ℕ) (es : List Event) → AreOfGroup (fresh_group g n) es → (v : World) → AtEach g n (begun g n) es v → EachMeant g n es
+each_meant g n es p v each before after e s q done stored =
+    let r = each before (e ∷ after) q in
+    let l = lived_all (begun g n) before in
+    let run = run_at (begun g n) before after e (subst (AreOfGroup (fresh_group g n)) (sym q) p) in
+    means g n l r.0 r.1 e.member e.deed s (subst (λ b. IsRun b l.group e.member e.deed) done run) stored
+
+pub law : GroupsConverge
+law g n es large some few p =
+    let r = all_events g n (begun g n) (empty_world g n) es (begun_lives g n large few) p in
+    let l = lived_all (begun g n) es in
+    let v = r.0 in
+    let x = r.1 in
+    let m = x.matches in
+    let size = ((m.stands).belongs).count in (
+      begins g n large few,
+      clean g n l.group v m,
+      alone g n l.group v m,
+      waits g n l.group v m,
+      taken g n l.group v m,
+      equal g n l.group v m,
+      cleans g n l v x,
+      each_meant g n es p v r.3,
+      ordered g n l v x es (omega (arith, some, size)) r.3,
+    )

@@ -1,0 +1,10 @@
+mod Past
+mod Requests
+mod Steps
+mod Lines
+mod Commands
+mod Answered
+mod Sessions
+mod Groups
+mod Ordered
+mod Law

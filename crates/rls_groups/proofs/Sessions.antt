@@ -1,0 +1,87 @@
+-- A session of a member of a group, over its whole input.
+use Rattle.std.proofs.Common.{◌≡◌, ◌∙◌, ◌⊎◌, ◌≤◌, ℕ, Bool, true, false, List, [], ◌∷◌, ◌++◌, length, Option, Result, Ok, Err, IfOk, refl, sym, ap, subst, inl, inr}
+use Rattle.std.specs.Prelude.{nat_lt}
+use Rattle.std.proofs.lemmas.List.{append-nil}
+use Rattle.rls_ident.specs.declared.limits.TheConstants.{FILE_BYTES, INPUT_BYTES}
+use Rattle.rls_ident.proofs.Members.{not_lt_is}
+use Rattle.rls_ops.specs.declared.message.Message.{Message}
+use Rattle.rls_codec.specs.CodecLaws.{IsBytes}
+use Rattle.rls_codec.proofs.Formats.{IsBytes-tail}
+use Rattle.rls_model.specs.Receiving.{State}
+use Rattle.rls_model.specs.Worlds.{World}
+use Rattle.rls_model.proofs.HistoryNumbers.{front_self, front_trans}
+use Rattle.rls_model.proofs.OnePlace.{set_get}
+use Rattle.rls_model.proofs.WorldsCommands.{Stands, with_done}
+use Rattle.rls_seen.specs.Seen.{Seen}
+use Rattle.rls_report.specs.declared.failures.CommandError.{CommandError}
+use Rattle.rls_report.specs.declared.failures.CommandError.TheVariants.{TooLarge}
+use Rattle.rls_stages.specs.KeptFile.{bytes_over, loaded, replica_in, saved}
+use Rattle.rls_stages.proofs.Files.{IsOpened}
+use Rattle.rls_top.specs.Groups.{Group}
+use Rattle.rls_top.proofs.GroupCommands.{opened_at}
+use Rattle.rls_top.proofs.Groups.{IsThere, Matches}
+use Rattle.rls_session.specs.Answers.{Sitting, answer}
+use Rattle.rls_session.specs.Courses.{Course}
+use Rattle.rls_session.specs.Due.{due_of}
+use Rattle.rls_session.specs.Sessions.{by_history, by_parts}
+use Rattle.rls_session.proofs.Agreeing.{IsGiven, cut_given}
+use Rattle.rls_groups.specs.Events.{Desk, IsSession, IsWritten, at_desk, replica_at, replied}
+use Rattle.rls_groups.specs.Groups.{IsClean}
+use Rattle.rls_groups.proofs.Answered.{Both, IsDone, IsTold, Later, steps}
+use Rattle.rls_groups.proofs.Requests.{Went, went}
+
+-- ---- how it ends
+
+-- its file is stored, or it isn't
+abbrev pub EndsSo : Course (Sitting Seen) → Type 0
+EndsSo c = (((due_of c).ending ≡ Ok (c.state).state) × (length (bytes_over (c.state).state) ≤ FILE_BYTES)) ⊎ ((e : CommandError) × ((due_of c).ending ≡ Err e))
+
+pub ends_so : (c : Course (Sitting Seen)) → EndsSo c
+ends_so c = at_input (nat_lt INPUT_BYTES c.used) refl
+  where
+    s : Seen
+    s = (c.state).state
+
+    at_file : (long : Bool) → nat_lt FILE_BYTES (length (bytes_over s)) ≡ long → ((saved s ≡ Ok s) × (length (bytes_over s) ≤ FILE_BYTES)) ⊎ ((e : CommandError) × (saved s ≡ Err e))
+    at_file true e = inr (TooLarge, rw e refl)
+    at_file false e = inl (rw e refl, not_lt_is FILE_BYTES (length (bytes_over s)) e)
+
+    within : nat_lt INPUT_BYTES c.used ≡ false → ((saved s ≡ Ok s) × (length (bytes_over s) ≤ FILE_BYTES)) ⊎ ((e : CommandError) × (saved s ≡ Err e)) → EndsSo c
+    within e (inl k) = inl (rw e k.0, k.1)
+    within e (inr k) = inr (k.0, rw e k.1)
+
+    at_input : (long : Bool) → nat_lt INPUT_BYTES c.used ≡ long → EndsSo c
+    at_input true e = inr (TooLarge, rw e refl)
+    at_input false e = within e (at_file (nat_lt FILE_BYTES (length (bytes_over s))) refl)
+
+-- ---- all its requests
+
+module _ (g n : ℕ) (G : Group) (w : World) (x : Matches g n G w) (i : ℕ) (r : IsThere g n G w x i) (desk : Desk) (input : List ℕ) (s : Seen) (o : IsOpened r.bytes r.state s) where
+  -- the member's file says this replica
+  pub found : replica_at G i ≡ Ok s
+  found = ap (λ (k : Option (List ℕ)). replica_in (loaded k)) r.file ∙ opened_at r.bytes s (r.kept).short o.found
+
+  pub asked : IfOk (replica_at G i) (λ s. IsSession G s desk input) → IsSession G s desk input
+  asked p = subst (λ (y : Result Seen CommandError). IfOk y (λ s. IsSession G s desk input)) found p
+
+  -- nothing is sent yet
+  begins : Stands g n (with_done w i r.state [])
+  begins = subst (Stands g n) (sym (ap (λ (xs : List State). record { states = xs; sent = w.sent ++ [] }) (set_get w.states i r.state r.at) ∙ ap (λ (ms : List Message). record { states = w.states; sent = ms }) (append-nil w.sent))) x.stands
+
+  first : IsSession G s desk input → Both g n G w x i r.state r.at (at_desk s desk) (at_desk r.state desk) []
+  first q = record {
+    alike = record { stands = o.stands; sane = o.sane; writable = o.writable; entries = refl; cursor = refl; whole = q.whole; texts = q.texts };
+    underway = record { stands = begins; storable = (r.kept).storable };
+    front = front_self (r.state).history;
+  }
+
+  abbrev pub All : Type 0
+  All = Went (answer by_parts) (answer by_history) replied (Both g n G w x i r.state r.at) (Later g n G w x i r.state r.at) (IsWritten G) (IsClean G) (IsDone g n G w x i r.state r.at) (IsTold g n G w x i r.state r.at) 0 (at_desk s desk) (at_desk r.state desk) input []
+
+  pub all : IsSession G s desk input → All
+  all q =
+      went (answer by_parts) (answer by_history) replied (Both g n G w x i r.state r.at) (Later g n G w x i r.state r.at) (IsWritten G) (IsClean G) (IsDone g n G w x i r.state r.at) (IsTold g n G w x i r.state r.at)
+      (λ f. front_self (f.state).history) (λ e f u h k. front_trans (e.state).history (f.state).history (u.state).history h k)
+      IsBytes IsGiven (λ b bytes c. (cut_given (b ∷ bytes) c, IsBytes-tail b bytes c))
+      (λ d f out k ok given b. steps g n G w x i r.state r.at d f out b k ok given)
+      0 (at_desk s desk) (at_desk r.state desk) input [] q.bytes q.given (first q)

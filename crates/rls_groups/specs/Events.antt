@@ -1,0 +1,170 @@
+-- What one run of the program leaves in a group: a command, or a session up to a store.
+use Rattle.std.specs.Prelude.{◌≡◌, ◌<◌, ◌-◌, ℕ, zero, suc, Bool, true, false, List, [], ◌∷◌, ◌++◌, length, nat_lt, slice_get, Option, Some, None, Result, Ok, Err, IfOk, if◌then◌else◌}
+use Rattle.rls_ident.specs.Lists.{IsIn}
+use Rattle.rls_ops.specs.Spelling.{message_bytes}
+use Rattle.rls_codec.specs.CodecLaws.{IsBytes}
+use Rattle.rls_seen.specs.Messages.{message_over}
+use Rattle.rls_seen.specs.Seen.{Seen, members}
+use Rattle.rls_undo.specs.declared.entry.Entry.{Entry}
+use Rattle.rls_undo.specs.UndoLaws.{AreWhole}
+use Rattle.rls_anchor.specs.declared.anchor.Anchor.{Anchor}
+use Rattle.rls_anchor.specs.declared.anchor.Anchor.TheVariants.{Beginning}
+use Rattle.rls_report.specs.declared.failures.CommandError.{CommandError}
+use Rattle.rls_stages.specs.KeptFile.{loaded, replica_in}
+use Rattle.rls_top.specs.declared.words.Command.{Command}
+use Rattle.rls_top.specs.declared.words.Command.TheVariants.{OnFile}
+use Rattle.rls_top.specs.declared.words.FileCommand.TheVariants.{Take}
+use Rattle.rls_top.specs.Due.{Due}
+use Rattle.rls_top.specs.Groups.{Group, due_of, files_with, messages_in, stored_in}
+use Rattle.rls_top.specs.Words.{command_of}
+use Rattle.rls_session.specs.declared.orders.Order.TheVariants.{Quit, Send}
+use Rattle.rls_session.specs.Answers.{Kind, Sitting, answer}
+use Rattle.rls_session.specs.Courses.{Answered, Course, course, holds}
+use Rattle.rls_session.specs.Desks.{IsWhole, sitting_of}
+use Rattle.rls_session.specs.Due as session
+use Rattle.rls_session.specs.Due.{due_of as due_of_course, stops}
+use Rattle.rls_session.specs.Requests.{Request, Does, Takes, cut}
+use Rattle.rls_session.specs.Sessions.{by_parts}
+
+-- ---- sessions
+
+-- What a session works on beside the replica. At its beginning that is nothing that can be undone, and a cursor at the beginning. A
+-- session that stores more than once begins what follows a store with what it has then.
+pub record Desk : Type 0 where
+  pub entries : List Entry
+  pub cursor : Anchor
+
+abbrev pub empty_desk : Desk
+empty_desk = record { entries = []; cursor = Beginning }
+
+abbrev pub at_desk : {X : Type 0} → X → Desk → Sitting X
+at_desk s desk = record { state = s; entries = desk.entries; cursor = desk.cursor }
+
+-- the session from this state and desk over this input
+abbrev pub session_at : {X : Type 0} → Kind X → X → Desk → List ℕ → Course (Sitting X)
+session_at K s desk input = course (answer K) (at_desk s desk) input
+
+-- the replica that the member's file says
+abbrev pub replica_at : Group → ℕ → Result Seen CommandError
+replica_at g i = replica_in (loaded (slice_get g.files i))
+
+-- what a session calls for at this replica, if there is one
+abbrev pub due_on : Result Seen CommandError → Desk → List ℕ → session.Due
+due_on (Ok s) desk input = due_of_course (session_at by_parts s desk input)
+due_on (Err e) desk input = stops e
+
+-- what it calls for over the member's file
+abbrev pub session_due : Group → ℕ → Desk → List ℕ → session.Due
+session_due g i desk input = due_on (replica_at g i) desk input
+
+-- ---- the messages of a session
+
+-- what is gathered from the requests of an input, up to the order to quit, and the states before them
+abbrev pub gathered_on : {S A : Type 0} → (S → Request → Answered S) → (S → Request → List A) → S → Request → (S → List A) → List A
+gathered_on answer f s (Does Quit) rest = []
+gathered_on answer f s request rest = f s request ++ rest (answer s request).state
+
+abbrev pub gathered_from : {S A : Type 0} → (S → Request → Answered S) → (S → Request → List A) → ℕ → S → List ℕ → List A
+gathered_from answer f n s [] = []
+gathered_from answer f (suc n) s (b ∷ bytes) = gathered_from answer f n s bytes
+gathered_from answer f zero s (b ∷ bytes) = gathered_on answer f s (cut (b ∷ bytes)).request (λ t. gathered_from answer f ((cut (b ∷ bytes)).size - 1) t bytes)
+
+-- the message with which a request is answered, if it asks for one
+abbrev pub replied : Sitting Seen → Request → List (List ℕ)
+replied d (Does (Send to)) = if nat_lt to (members d.state) then message_bytes (message_over d.state to) ∷ [] else []
+replied d request = []
+
+-- the messages that a session answers
+abbrev pub replied_at : Seen → Desk → List ℕ → List (List ℕ)
+replied_at s desk input = gathered_from (answer by_parts) replied 0 (at_desk s desk) input
+
+-- ---- what a run does
+
+pub data Deed : Type 0 where
+  -- a command, by its words and its input
+  Commands : (words : List (List ℕ)) → (input : List ℕ) → Deed
+  -- a session, or what follows a store in one, by its input up to its next store, or to where it ends, be that at any byte
+  Sits : (desk : Desk) → (input : List ℕ) → Deed
+
+-- the replica whose file is stored, if one is
+abbrev pub stored_of : Option Due → Option Seen
+stored_of None = None
+stored_of (Some d) = stored_in d
+
+abbrev pub saved_of : Result Seen CommandError → Option Seen
+saved_of (Ok s) = Some s
+saved_of (Err e) = None
+
+abbrev pub stored_by : Group → ℕ → Deed → Option Seen
+stored_by g i (Commands words input) = stored_of (due_of g i words input)
+stored_by g i (Sits desk input) = saved_of (session_due g i desk input).ending
+
+-- the messages that may be handed on: what a `send` prints, and what a session answers before it stores
+abbrev pub printed_of : Option Command → Option Due → List (List ℕ)
+printed_of c None = []
+printed_of c (Some d) = messages_in c d
+
+abbrev pub saved_with : Result Seen CommandError → List (List ℕ) → List (List ℕ)
+saved_with (Ok s) messages = messages
+saved_with (Err e) messages = []
+
+abbrev pub replied_on : Result Seen CommandError → Desk → List ℕ → List (List ℕ)
+replied_on (Ok s) desk input = replied_at s desk input
+replied_on (Err e) desk input = []
+
+abbrev pub written_by : Group → ℕ → Deed → List (List ℕ)
+written_by g i (Commands words input) = printed_of (command_of words) (due_of g i words input)
+written_by g i (Sits desk input) = saved_with (session_due g i desk input).ending (replied_on (replica_at g i) desk input)
+
+-- ---- events
+
+-- A member's run over its own file. It is done if what it is to store was stored, and what a `send` is to print was printed. Else it left
+-- the file as it was: a device failed, memory ran out, or the machine stopped before. A session is done as soon as its file is stored, so
+-- it stands where that happens; until then its file belongs to it alone.
+pub record Event : Type 0 where
+  pub member : ℕ
+  pub deed : Deed
+  pub done : Bool
+
+abbrev pub after_run : Bool → Group → ℕ → Deed → Group
+after_run false g i deed = g
+after_run true g i deed = record { files = files_with g.files i (stored_by g i deed); written = g.written ++ written_by g i deed }
+
+abbrev pub after_event : Group → Event → Group
+after_event g e = after_run e.done g e.member e.deed
+
+abbrev pub after_events : Group → List Event → Group
+after_events g [] = g
+after_events g (e ∷ es) = after_events (after_event g e) es
+
+-- ---- which events there are
+
+-- a session takes what may be handed on
+abbrev pub IsWritten : Group → Sitting Seen → Request → Type 0
+IsWritten g d (Takes message) = IsIn message g.written
+IsWritten g d request = Unit {0}
+
+-- it goes back to nothing that was dropped, and is given bytes
+pub record IsSession (g : Group) (s : Seen) (desk : Desk) (input : List ℕ) : Type 0 where
+  pub bytes : IsBytes input
+  pub whole : IsWhole (sitting_of s desk.entries desk.cursor)
+  pub texts : AreWhole desk.entries
+  pub given : holds (answer by_parts) (IsWritten g) (at_desk s desk) input
+
+-- what a run is given: messages that may be handed on, for whomever they are, and whether or not they were taken before
+abbrev pub IsGiven : Group → ℕ → Deed → Type 0
+IsGiven g i (Commands words input) = command_of words ≡ Some (OnFile Take) → IsIn input g.written
+IsGiven g i (Sits desk input) = IfOk (replica_at g i) (λ s. IsSession g s desk input)
+
+pub record IsOfGroup (g : Group) (i : ℕ) (deed : Deed) : Type 0 where
+  pub member : i < length g.files
+  pub given : IsGiven g i deed
+
+-- such events, one after another; nothing is asked of one that left all as it was
+abbrev pub IsRun : Bool → Group → ℕ → Deed → Type 0
+IsRun false g i deed = Unit {0}
+IsRun true g i deed = IsOfGroup g i deed
+
+abbrev pub AreOfGroup : Group → List Event → Type 0
+AreOfGroup g [] = Unit {0}
+AreOfGroup g (e ∷ es) = IsRun e.done g e.member e.deed × AreOfGroup (after_event g e) es

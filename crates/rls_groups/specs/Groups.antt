@@ -1,0 +1,158 @@
+-- The law of a group whose members work by commands and by sessions.
+use Rattle.std.specs.Prelude.{◌≡◌, ◌<◌, ◌≤◌, ◌⊎◌, ◌↔◌, ℕ, true, List, [], ◌∷◌, ◌++◌, codes, length, slice_get, Option, Some, None, Result, Ok, IsFalse}
+use Rattle.rls_ident.specs.declared.limits.TheConstants.{MEMBERS}
+use Rattle.rls_ident.specs.Lists.{IsIn}
+use Rattle.rls_ident.specs.Vectors.{at_most}
+use Rattle.rls_ops.specs.declared.message.Message.{Message}
+use Rattle.rls_ops.specs.declared.op.Op.{Op}
+use Rattle.rls_codec.specs.CodecLaws.{IsMessage}
+use Rattle.rls_model.specs.declared.edit.Edit as model
+use Rattle.rls_model.specs.declared.edit.Edit.TheVariants as edits
+use Rattle.rls_model.specs.Document.{Character, chars}
+use Rattle.rls_model.specs.Editing.{edit_fault, made, next_seq}
+use Rattle.rls_model.specs.History.{History, count, ops}
+use Rattle.rls_model.specs.Laws.{IsFront, IsNamedBy, IsTotalOrder, Shows, edited, list_after, list_deleted, precedes}
+use Rattle.rls_model.specs.Legal.{IsLegal}
+use Rattle.rls_model.specs.Receiving.{State, accept}
+use Rattle.rls_model.specs.Taking.{take_message}
+use Rattle.rls_model.specs.WellFormed.{IsEdit, IsLarge}
+use Rattle.rls_seen.specs.Seen.{Seen, vector}
+use Rattle.rls_undo.specs.Undoing.{last_of}
+use Rattle.rls_report.specs.declared.failures.LineFault.{LineFault}
+use Rattle.rls_report.specs.Reports.{edit_text, take_text}
+use Rattle.rls_script.specs.Scripts.{script_of}
+use Rattle.rls_script.specs.declared.lines.Line.{Line}
+use Rattle.rls_stages.specs.Lines.{allowed_by, fault_in, line_by, text_in}
+use Rattle.rls_top.specs.declared.words.Command.{Command}
+use Rattle.rls_top.specs.declared.words.Command.TheVariants.{OnFile}
+use Rattle.rls_top.specs.declared.words.FileCommand.TheVariants as commands
+use Rattle.rls_top.specs.Due.{Due, Makes, NoCommand, Stops, shows}
+use Rattle.rls_top.specs.Groups.{AllTaken, BeginsWithNew, EqualCountsShowSame, Group, IsFileOf, IsOfMember, IsOrderedBy, NoneRefused, NoneReleased, WaitingMade, due_of, fresh_group}
+use Rattle.rls_top.specs.Words.{command_of}
+use Rattle.rls_session.specs.declared.orders.Order.TheVariants.{Edit, Undo, Text, Send}
+use Rattle.rls_session.specs.Answers.{Sitting, answer, edited as edited_by, read_line, undone}
+use Rattle.rls_session.specs.Courses.{holds}
+use Rattle.rls_session.specs.Replies.{bytes_text, ok_text}
+use Rattle.rls_session.specs.Requests.{Request, Does, Takes}
+use Rattle.rls_session.specs.Sessions.{by_history, by_parts}
+use Rattle.rls_groups.specs.Events.{AreOfGroup, Commands, Deed, Desk, Event, IsOfGroup, Sits, at_desk, replica_at, replied, session_at, session_due, stored_by}
+use Rattle.rls_groups.specs.Lives.{Life, after_deed, begun, lived_all}
+
+-- ---- what a session answers
+
+-- this is the text of each member that has accepted as many operations of each, as `text` prints it
+abbrev pub IsTextOfAll : Group → List ℕ → List ℕ → Type 0
+IsTextOfAll g v reply = (j : ℕ) (t : State) (words : List (List ℕ)) (input : List ℕ) → IsFileOf g j t → count t.history ≡ v → command_of words ≡ Some (OnFile commands.Text) →
+    (report : List ℕ) × (due_of g j words input ≡ Some (shows report)) × (reply ≡ bytes_text (codes "text") report)
+
+-- an edit and an undo release nothing that waits; `t` shows what others show; a message is taken, with none of its operations refused; and the
+-- reply to `s` is the message that may be handed on
+abbrev pub IsClean : Group → Sitting Seen → Request → Type 0
+IsClean g d (Does (Edit line)) = answer by_parts d (Does (Edit line)) ≡ edited_by by_parts d (read_line by_parts d.state line)
+IsClean g d (Does Undo) = answer by_parts d (Does Undo) ≡ undone by_parts d (last_of d.entries)
+IsClean g d (Does Text) = IsTextOfAll g (vector d.state) (answer by_parts d (Does Text)).reply
+IsClean g d (Takes message) = (applied released repeated held : ℕ) × ((answer by_parts d (Takes message)).reply ≡ take_text applied released repeated held 0)
+IsClean g d (Does (Send to)) = (message : List ℕ) → IsIn message (replied d (Does (Send to))) → (answer by_parts d (Does (Send to))).reply ≡ bytes_text (codes "message") message
+IsClean g d request = Unit {0}
+
+-- a session over a member's file finds a replica there, and each of its requests is answered so
+abbrev pub SessionsClean : Group → Type 0
+SessionsClean g = (i : ℕ) (desk : Desk) (input : List ℕ) → IsOfGroup g i (Sits desk input) → (s : Seen) × (replica_at g i ≡ Ok s) × holds (answer by_parts) (IsClean g) (at_desk s desk) input
+
+-- ---- what a run that stored its file made of the member's history
+
+-- each of these lines is an edit without a fault at the state after those before it; its operation is accepted, and nothing else happens.
+-- So it stands in the history from then on
+abbrev pub AreMade : {L : Type 0} → (State → L → Result model.Edit LineFault) → State → List L → State → Type 0
+AreMade reads t [] u = u ≡ t
+AreMade reads t (l ∷ ls) u = (edit : model.Edit) × (reads t l ≡ Ok edit) × IsEdit edit × (edit_fault t.history edit ≡ None) × IsFront (edited t.history edit) u.history × AreMade reads (accept t (made t.history edit)) ls u
+
+-- the operation is accepted, or waits for causes that aren't there yet
+abbrev pub HasOrHolds : State → Op → Type 0
+HasOrHolds u o = IsIn o (ops u.history) ⊎ (IsIn o u.waiting × IsFalse (at_most o.context (count u.history)))
+
+-- a message was taken, with all its operations
+abbrev pub IsTaken : State → List ℕ → State → Type 0
+IsTaken t bytes u = (m : Message) × IsMessage bytes m × (u ≡ (take_message t m).state) × ((o : Op) → IsIn o m.ops → HasOrHolds u o)
+
+-- by the command and its report
+abbrev pub IsCommanded : Option Command → List ℕ → List ℕ → State → State → Type 0
+IsCommanded (Some (OnFile commands.Edit)) input report t u = (lines : List Line) × (script_of input ≡ Ok lines) × (report ≡ edit_text (length lines) 0 0) × AreMade (line_by fault_in text_in) t lines u
+IsCommanded (Some (OnFile commands.Leave)) input report t u = (report ≡ edit_text 1 0 0) × AreMade (allowed_by fault_in) t (edits.Leave ∷ []) u
+IsCommanded (Some (OnFile commands.Take)) input report t u = IsTaken t input u
+IsCommanded c input report t u = ⊥
+
+-- what a session made of a history by an edit that is allowed: its operation is accepted, and nothing else happens; the reply is `ok` with its number
+pub record IsKept (d : Sitting State) (request : Request) (edit : model.Edit) : Type 0 where
+  pub reply : (answer by_history d request).reply ≡ ok_text (next_seq (d.state).history)
+  pub edit_is : IsEdit edit
+  pub fits : edit_fault (d.state).history edit ≡ None
+  pub state : ((answer by_history d request).state).state ≡ accept d.state (made (d.state).history edit)
+
+-- by a request
+abbrev pub IsAnswered : Sitting State → Request → Type 0
+IsAnswered d (Does (Edit line)) = (edit : model.Edit) → read_line by_history d.state line ≡ Ok edit → IsKept d (Does (Edit line)) edit
+IsAnswered d (Takes message) = IsTaken d.state message ((answer by_history d (Takes message)).state).state
+IsAnswered d request = Unit {0}
+
+-- and what it made stands in the history that is stored
+abbrev pub IsStored : State → Sitting State → Request → Type 0
+IsStored u d request = IsFront ((answer by_history d request).state).state.history u.history × IsAnswered d request
+
+-- what a command calls for stores a file and has this report
+abbrev pub HasReport : Option Due → (List ℕ → Type 0) → Type 0
+HasReport None P = ⊥
+HasReport (Some NoCommand) P = ⊥
+HasReport (Some (Makes stored report refused)) P = P report
+HasReport (Some (Stops e)) P = ⊥
+
+-- by the run
+abbrev pub IsMeant : Group → ℕ → State → Deed → State → Type 0
+IsMeant g i t (Commands words input) u = HasReport (due_of g i words input) (λ report. IsCommanded (command_of words) input report t u)
+IsMeant g i t (Sits desk input) u = ((session_due g i desk input).replies ≡ (session_at by_history t desk input).replies) × holds (answer by_history) (IsStored u) (at_desk t desk) input
+
+-- ---- histories
+
+-- the member's history, with what waits
+abbrev pub IsHeld : Life → ℕ → State → Type 0
+IsHeld l i t = slice_get l.states i ≡ Some t
+
+-- this is the member's history, or was it at some time
+abbrev pub WasHeld : Life → ℕ → History → Type 0
+WasHeld l i H = (t : State) × IsHeld l i t × IsFront H t.history
+
+-- each run that stored its file made of the history what it says
+abbrev pub EachMeant : ℕ → ℕ → List Event → Type 0
+EachMeant group members es = (before after : List Event) (e : Event) (s : Seen) → before ++ (e ∷ after) ≡ es → let l = lived_all (begun group members) before in e.done ≡ true → stored_by l.group e.member e.deed ≡ Some s →
+    (t : State) × IsHeld l e.member t × IsMeant l.group e.member t e.deed (after_deed e.deed t)
+
+-- the member's file stands for its history, which goes on to the one at the end, and shows its characters in the order of M
+pub record IsMoment (group members : ℕ) (now end : Life) (M : History) (i : ℕ) : Type 0 where
+  pub state : State
+  pub held : IsHeld now i state
+  pub member : IsOfMember group members now.group i state
+  pub ordered : IsOrderedBy M state.history
+  pub goes_on : WasHeld end i state.history
+
+-- One total order of all characters: at each moment each member's file stands for a history of that member, which shows its characters in
+-- this order, and which stays the beginning of its later ones. Each operation was made by an edit of its author. Each edit does to the list
+-- of characters what was asked, and a deletion deletes, wherever it is known, just what was asked.
+pub record InOneOrder (group members : ℕ) (es : List Event) (l : Life) : Type 0 where
+  pub all : History
+  pub legal : IsLegal all
+  pub total : IsTotalOrder (precedes all) (λ c. IsIn c (chars all))
+  pub moments : (before after : List Event) (i : ℕ) → before ++ after ≡ es → i < members → IsMoment group members (lived_all (begun group members) before) l all i
+  pub made_by_edits : (i : ℕ) (t : State) (o : Op) → IsHeld l i t → IsIn o (ops t.history) → (H : History) × (edit : model.Edit) × WasHeld l o.author (edited H edit) × IsEdit edit × (edit_fault H edit ≡ None) × (made H edit ≡ o)
+  pub edits : (i : ℕ) (H : History) (edit : model.Edit) (cs : List Character) → IsEdit edit → edit_fault H edit ≡ None → WasHeld l i (edited H edit) → Shows (precedes all) H cs → Shows (precedes all) (edited H edit) (list_after H edit cs)
+  pub deletions : (i j : ℕ) (H K : History) (edit : model.Edit) (cs : List Character) (c : Character) → WasHeld l i H → WasHeld l j K → Shows (precedes all) H cs → IsIn (made H edit) (ops K) → IsIn c (chars K) →
+      IsNamedBy K (made H edit) c ↔ IsIn c (list_deleted edit cs)
+
+-- ---- the statement
+
+-- Whatever the members of a group do by commands and sessions, each over its own file, whatever fails or stops of it, and however the messages
+-- that may be handed on are passed on: no operation is refused, edits release nothing, what waits was made by its author, each message is
+-- taken, members whose counts are equal show the same, one order orders the texts of all files at all times, and each edit and each message
+-- whose file was stored stands in the history with the effect that was asked for.
+abbrev pub GroupsConverge : Type 0
+GroupsConverge = (group members : ℕ) (es : List Event) → IsLarge group → 0 < members → members ≤ MEMBERS → AreOfGroup (fresh_group group members) es → let l = lived_all (begun group members) es in
+    BeginsWithNew group members × NoneRefused l.group × NoneReleased l.group × WaitingMade l.group × AllTaken l.group × EqualCountsShowSame l.group × SessionsClean l.group × EachMeant group members es × InOneOrder group members es l
