@@ -157,14 +157,24 @@ fn replace<D: Document>(
     Ok(removed)
 }
 
+/// The same, if there are some characters and as many identifiers.
+fn replace_as_many<D: Document>(
+    alloc: Global,
+    document: &mut D,
+    idents: &Runs,
+    text: &Text,
+) -> Result<Option<u64>, Fail> {
+    if text.len() == 0 || text.len() > 10_000 || idents.total() != text.len() as u64 {
+        return Ok(None);
+    }
+    Ok(Some(replace(alloc, document, idents, text)?))
+}
+
 /// Puts some runs in, and answers how many of their identifiers were there.
 fn inserts<D: Document>(alloc: Global, document: &mut D, draws: &mut Draws) -> Result<u64, Fail> {
     let idents = some_runs(alloc, draws)?;
     let text = some_text(alloc, draws, idents.total())?;
-    if text.len() == 0 || text.len() > 10_000 || idents.total() != text.len() as u64 {
-        return Ok(0);
-    }
-    replace(alloc, document, &idents, &text)
+    Ok(replace_as_many(alloc, document, &idents, &text)?.unwrap_or(0))
 }
 
 /// Renames identifiers.
@@ -363,20 +373,23 @@ fn placed(alloc: Global, place: Place) -> Result<Run, Fail> {
     Ok(Run::new(first, len)?)
 }
 
-/// Puts runs in, and tells whether none of their identifiers was there.
-fn puts<D: Document>(alloc: Global, document: &mut D, put: Put) -> Result<bool, Fail> {
-    let (places, characters) = put;
+/// The identifiers of the runs at these places.
+fn placed_runs(alloc: Global, places: &[Place]) -> Result<Runs, Fail> {
     let mut idents = Runs::new(alloc);
     for place in places {
         if idents.total() < 900 {
             idents.push(placed(alloc, *place)?)?;
         }
     }
+    Ok(idents)
+}
+
+/// Puts runs in, and tells whether none of their identifiers was there.
+fn puts<D: Document>(alloc: Global, document: &mut D, put: Put) -> Result<bool, Fail> {
+    let (places, characters) = put;
+    let idents = placed_runs(alloc, places)?;
     let text = Text::from_str(alloc, characters)?;
-    if text.len() == 0 || text.len() > 10_000 || idents.total() != text.len() as u64 {
-        return Ok(false);
-    }
-    Ok(replace(alloc, document, &idents, &text)? == 0)
+    Ok(replace_as_many(alloc, document, &idents, &text)? == Some(0))
 }
 
 /// Whether what is put in leads to the text of a row.

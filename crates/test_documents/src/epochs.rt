@@ -135,11 +135,26 @@ fn retained(epochs: &Epochs, stable: &Vector, is_marked: bool) -> Result<Retaine
     })
 }
 
-/// Whether a new tree retains these, and this many former identifiers.
-fn retains(alloc: Global, is_marked: bool, names: &[EpochName], former: u64) -> Result<bool, Fail> {
-    let (epochs, stable) = (tree(alloc)?, Vector::from_counts(alloc, &[2, 0])?);
-    let part = retained(&epochs, &stable, is_marked)?;
+/// Whether a tree retains these, and this many former identifiers.
+fn retains_of(
+    epochs: &Epochs,
+    stable: &Vector,
+    is_marked: bool,
+    names: &[EpochName],
+    former: u64,
+) -> Result<bool, Fail>
+    requires origin { IsTrue (is_kept epochs.now.epochs.top epochs.now.epochs.nodes Origin) }
+    requires members { (e : EpochName) → IsTrue (is_kept epochs.now.epochs.top epochs.now.epochs.nodes e) → IsTrue (is_of_member (length stable.now) e) }
+{
+    let part = retained(epochs, stable, is_marked)?;
     Ok(part.names.as_slice() == names && part.former == former)
+}
+
+/// The same of a new tree.
+fn retains(alloc: Global, is_marked: bool, names: &[EpochName], former: u64) -> Result<bool, Fail> {
+    let stable = Vector::from_counts(alloc, &[2, 0])?;
+    let epochs = tree(alloc)?;
+    retains_of(&epochs, &stable, is_marked, names, former)
 }
 
 #[test]
