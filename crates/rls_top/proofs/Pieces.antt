@@ -1,34 +1,25 @@
 -- Steps on the way to what a command makes.
-use Rattle.std.proofs.Common.{◌≡◌, ◌∙◌, ◌++◌, ◌+◌, ◌<◌, ◌≤◌, ℕ, Bool, true, false, ltb, leb, Option, IfSome, inl, inr, List, [], drop, slice_get, Some, None, Result, Ok, Err, sym, ap, subst, append_assoc, arith, refl}
-use Rattle.std.specs.Prelude.{Vec, IsFalse, IsTrue, ◌&&◌}
-use Rattle.std.specs.declared.alloc.Global.{Global}
+use Rattle.std.proofs.Common.{◌≡◌, ◌∙◌, ◌++◌, ◌+◌, ◌<◌, ◌≤◌, ℕ, Bool, true, false, ltb, leb, Option, IfSome, inl, inr, List, [], drop, slice_get, Some, None, Ok, Err, sym, ap, subst, append_assoc, arith, refl}
+use Rattle.std.specs.Prelude.{IsFalse, IsTrue, ◌&&◌}
 use Rattle.std.proofs.lemmas.Bool.Decides.{nat_tests}
 use Rattle.rls_ident.specs.declared.limits.TheConstants.{MEMBERS}
 use Rattle.rls_ident.proofs.Loops.{drop_reads}
 use Rattle.rls_ident.proofs.Members.{and_right}
-use Rattle.rls_io.specs.Memory.{bytes_of}
 use Rattle.rls_codec.specs.Reading.{is_member_count}
 use Rattle.rls_ops.specs.Spelling.{message_bytes}
 use Rattle.rls_model.specs.Answers.{Reason}
 use Rattle.rls_model.specs.Legal.{AreNumbers}
 use Rattle.rls_report.specs.Refused.{refused_line}
-use Rattle.rls_report.specs.Reports.{new_text}
 use Rattle.rls_report.specs.declared.failures.CommandError.{CommandError}
 use Rattle.rls_report.specs.declared.failures.CommandError.TheVariants.{NotMember, BadMembers, BadMe}
-use Rattle.rls_report.specs.declared.failures.Failure.{Failure}
-use Rattle.rls_report.specs.declared.failures.Failure.TheVariants.{NoCommand, Command, Fault}
+use Rattle.rls_report.specs.declared.failures.Failure.TheVariants.{Command}
 use Rattle.rls_replica.specs.Faults.{IsNoCount, IsNoMember}
 use Rattle.rls_seen.specs.Messages.{message_over}
 use Rattle.rls_seen.specs.Seen.{Seen, fresh, members}
 use Rattle.rls_top.specs.declared.made.Made.{Made}
 use Rattle.rls_top.specs.declared.words.Command.TheVariants.{New}
-use Rattle.rls_stages.specs.KeptFile.{loaded, saved}
-use Rattle.rls_top.specs.Due.{Due, Stops, refused_lines, due_of_send, due_of_fresh, due_of_new, error_of_numbers, calls_keeper, stores}
-use Rattle.rls_stages.specs.declared.errors.OpenError.{OpenError}
-use Rattle.rls_stages.specs.declared.errors.WorkError.{WorkError}
-use Rattle.rls_stages.specs.declared.errors.WorkError.TheVariants as work
-use Rattle.rls_stages.specs.Calls.{HasLoaded}
-use Rattle.rls_stages.specs.Errors.{GivesError, of_open, of_work, open_of_work}
+use Rattle.rls_stages.specs.KeptFile.{loaded}
+use Rattle.rls_top.specs.Due.{Due, Stops, refused_lines, due_of_send, due_of_fresh, due_of_new, error_of_numbers, calls_keeper}
 use Rattle.rls_top.specs.Stages.{EndsAs, IsMade, IsAsDue}
 
 -- an answer isn't an error
@@ -106,43 +97,3 @@ pub new_due : (group me members : ℕ) (file : Option (Option (List ℕ))) (P : 
     → IfSome (due_of_new (error_of_numbers me members) group me members file) P
 new_due group me members None P h all = rw ((right_numbers group me members h).0) tt
 new_due group me members (Some kept) P h all = rw ((right_numbers group me members h).0) all
-
--- what holds of one told value holds of another
-pub if_told : {X : Type 0} (o : Option X) (P Q : X → Type 0) → ((x : X) → P x → Q x) → IfSome o P → IfSome o Q
-if_told None P Q f h = tt
-if_told (Some x) P Q f h = f x h
-
--- the file can't be loaded
-load_due : (group me members : ℕ) (f : Failure) (y : Result (Option (List ℕ)) CommandError) → GivesError f y → EndsAs f (due_of_fresh group me members y)
-load_due group me members (Command e) y h = rw h refl
-load_due group me members (Fault e) y h = tt
-load_due group me members NoCommand y h = absurd h
-
-pub unloaded_due : (group me members : ℕ) (file : Option (Option (List ℕ))) (f : Failure) → IfSome file (λ kept. GivesError f (loaded kept)) → IfSome file (λ kept. EndsAs f (due_of_fresh group me members (loaded kept)))
-unloaded_due group me members file f = if_told file (λ kept. GivesError f (loaded kept)) (λ kept. EndsAs f (due_of_fresh group me members (loaded kept))) (λ kept. load_due group me members f (loaded kept))
-
--- there is one already, or there is none
-pub loaded_due : (group me members : ℕ) (file : Option (Option (List ℕ))) (found : Option (Vec ℕ Global)) (given : Option (List ℕ)) (P : Due → Type 0) → IfSome file (λ kept. loaded kept ≡ Ok (bytes_of found)) → bytes_of found ≡ given
-    → P (due_of_fresh group me members (Ok given)) → IfSome file (λ kept. P (due_of_fresh group me members (loaded kept)))
-loaded_due group me members file found given P opened is p =
-    if_told file (λ kept. loaded kept ≡ Ok (bytes_of found)) (λ kept. P (due_of_fresh group me members (loaded kept)))
-    (λ kept e. subst (λ (y : Result (Option (List ℕ)) CommandError). P (due_of_fresh group me members y)) (sym (e ∙ ap Ok is)) p) opened
-
--- ---- what is worked on ends early
-
-same_failure : (error : WorkError) → of_open (open_of_work error) ≡ of_work error
-same_failure (work.Command e) = refl
-same_failure work.OutOfMemory = refl
-
--- and so does what opened the file for it
-pub works_due : (error : WorkError) (e : OpenError) (d : Due) → e ≡ open_of_work error → EndsAs (of_work error) d → EndsAs (of_open e) d
-works_due error e d is h = subst (λ (f : Failure). EndsAs f d) (sym (ap of_open is ∙ same_failure error)) h
-
-module _ {K : Type 0} (gives : K → Bool → K → Type 0) where
-  worked : (error : WorkError) (old new : K) → gives old true new → HasLoaded {X = Made} gives (Err (open_of_work error)) old new
-  worked (work.Command e) old new h = h
-  worked work.OutOfMemory old new h = inr (inl h)
-
-  -- the keeper was called once for it
-  pub works_called : (error : WorkError) (e : OpenError) (old new : K) → e ≡ open_of_work error → gives old true new → HasLoaded {X = Made} gives (Err e) old new
-  works_called error e old new is h = subst (λ (x : OpenError). HasLoaded {X = Made} gives (Err x) old new) (sym is) (worked error old new h)
