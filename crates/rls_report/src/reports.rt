@@ -1,7 +1,7 @@
 //! Reports of commands.
 
 ghost use Rattle.std.specs.Prelude.{◌≡◌, ◌++◌, IfOk, OnOk, length, string_bytes};
-ghost use Rattle.rls_report.specs.Reports.{new_text, edit_text, take_text, stat_text, member_line, member_lines, trial_text};
+ghost use Rattle.rls_report.specs.Reports.{new_text, edit_text, take_text, stat_text, accepted_line, itself_lines, held_lines, retained_lines, member_line, member_lines, epochs_line, trial_text};
 
 use crate::pieces::put_spaced;
 use rls_ident::Vector;
@@ -60,6 +60,51 @@ pub fn taken_report(alloc: Global, taken: &Taken) -> Result<String, AllocError>
     )
 }
 
+// How many operations of each member were accepted.
+fn put_accepted(text: &mut String, accepted: &[u32]) -> Result<(), AllocError>
+    ensures ok { OnOk result (string_bytes text.new ≡ string_bytes text.old ++ accepted_line accepted.now) }
+{
+    text.push_str("accepted")?;
+    put_spaced(text, accepted)?;
+    text.push('\n')
+}
+
+// The lines on the replica itself.
+fn itself_report(alloc: Global, group: u64, me: u32, members: u32) -> Result<String, AllocError>
+    ensures text { IfOk result (λ text. string_bytes text ≡ itself_lines group me members) }
+{
+    let text = format!(in alloc; "group {group}\nme {me}\nmembers {members}\n")?;
+    Ok(text)
+}
+
+// The lines on what the replica holds.
+fn put_held(text: &mut String, counts: &Counts) -> Result<(), AllocError>
+    ensures ok { OnOk result (string_bytes text.new ≡ string_bytes text.old ++ held_lines counts.now) }
+{
+    let (total, runs, held) = (counts.total, counts.runs, counts.held);
+    write!(text, "total {total}\nruns {runs}\nheld {held}\n")
+}
+
+// The lines on what it retains.
+fn put_retained(text: &mut String, counts: &Counts) -> Result<(), AllocError>
+    ensures ok { OnOk result (string_bytes text.new ≡ string_bytes text.old ++ retained_lines counts.now) }
+{
+    let (unstable, epochs, former) = (counts.unstable, counts.epochs, counts.former);
+    write!(
+        text,
+        "unstable {unstable}\nepochs {epochs}\nformer {former}\n"
+    )
+}
+
+// The lines after those on the replica itself.
+fn put_numbers(text: &mut String, accepted: &Vector, counts: &Counts) -> Result<(), AllocError>
+    ensures ok { OnOk result (string_bytes text.new ≡ string_bytes text.old ++ accepted_line accepted.now ++ held_lines counts.now ++ retained_lines counts.now) }
+{
+    put_accepted(text, accepted.counts())?;
+    put_held(text, counts)?;
+    put_retained(text, counts)
+}
+
 /// The ten lines on a replica of this group, number and count of members, with these accepted
 /// operations of each member and these numbers.
 pub fn stat_report(
@@ -72,21 +117,8 @@ pub fn stat_report(
 ) -> Result<String, AllocError>
     ensures text { IfOk result (λ text. string_bytes text ≡ stat_text group me members accepted.now counts.now) }
 {
-    let Counts {
-        total,
-        runs,
-        held,
-        unstable,
-        epochs,
-        former,
-    } = counts;
-    let mut text = format!(in alloc; "group {group}\nme {me}\nmembers {members}\naccepted")?;
-    put_spaced(&mut text, accepted.counts())?;
-    write!(text, "\ntotal {total}\nruns {runs}\nheld {held}\n")?;
-    write!(
-        text,
-        "unstable {unstable}\nepochs {epochs}\nformer {former}\n"
-    )?;
+    let mut text = itself_report(alloc, group, me, members)?;
+    put_numbers(&mut text, accepted, counts)?;
     Ok(text)
 }
 
@@ -106,6 +138,21 @@ fn put_members(text: &mut String, members: &[(u64, u64)]) -> Result<(), AllocErr
     Ok(())
 }
 
+// The lines of a trial after the first.
+fn put_trial(
+    text: &mut String,
+    accepted: &[u32],
+    members: &[(u64, u64)],
+    epochs: u64,
+    former: u64,
+) -> Result<(), AllocError>
+    ensures ok { OnOk result (string_bytes text.new ≡ string_bytes text.old ++ accepted_line accepted.now ++ member_lines 0 members.now ++ epochs_line epochs former) }
+{
+    put_accepted(text, accepted)?;
+    put_members(text, members)?;
+    write!(text, "epochs {epochs} former {former}\n")
+}
+
 /// The summary of a trial from this seed of this many steps: the accepted operations of member 0, the
 /// total and the runs of each member, and the epochs and the former identifiers of member 0.
 pub fn trial_report(
@@ -119,10 +166,7 @@ pub fn trial_report(
 ) -> Result<String, AllocError>
     ensures text { IfOk result (λ text. string_bytes text ≡ trial_text seed steps accepted.now members.now epochs former) }
 {
-    let mut text = format!(in alloc; "trial {seed} {steps}\naccepted")?;
-    put_spaced(&mut text, accepted)?;
-    text.push('\n')?;
-    put_members(&mut text, members)?;
-    write!(text, "epochs {epochs} former {former}\n")?;
+    let mut text = format!(in alloc; "trial {seed} {steps}\n")?;
+    put_trial(&mut text, accepted, members, epochs, former)?;
     Ok(text)
 }
