@@ -14,6 +14,7 @@ pub mod Tabled
 pub mod Stacks
 pub mod Zipping
 pub mod Placing
+pub mod Wanted
 pub mod Parting
 pub mod Readying
 pub mod Cutting

@@ -1,6 +1,7 @@
 //! Where labels stand in a text.
 
 ghost use Rattle.std.specs.Prelude.{◌≡◌, ◌<◌, ◌^◌, ◌+◌, ◌∷◌, [], ℕ, map, reverse, Some, None, IfOk, OnOk, IfSome, if◌then◌else◌};
+ghost use Rattle.std.specs.List.Sorted.{IsNonDecreasingBy, IsPermutation};
 ghost use Rattle.rls_runs.specs.Places.{below_count};
 ghost use Rattle.rls_seen.specs.Seen.{idents_over};
 ghost use Rattle.rls_undo.specs.Plans.{put_place, ranges_of};
@@ -12,13 +13,35 @@ ghost use Rattle.rls_steps.specs.Recorded.{held_by};
 
 use rls_ident::Ident;
 use rls_replica::Replica;
-use std::alloc::AllocError;
+use std::alloc::{AllocError, Global};
 
 /// The maximal ranges of the places where one of these labels stands: each as its first place and its length, the last range first.
+///
+/// It costs a search among these labels for each place that has one.
 pub(crate) fn ranges(
     labels: &Vec<Option<u64>>,
     among: &[u64],
 ) -> Result<Vec<(u64, u64)>, AllocError>
+    ensures ranges { IfOk result (λ rs. rs.items ≡ reverse (ranges_of (places_there 0 among.now labels.now.items))) }
+{
+    let wanted = in_order(*labels.allocator(), among)?;
+    let ranges = wanted_ranges(labels, &wanted)?;
+    Ok(ranges)
+}
+
+// These labels, in order.
+fn in_order(alloc: Global, labels: &[u64]) -> Result<Vec<u64>, AllocError>
+    ensures order { IfOk result (λ ns. IsNonDecreasingBy (λ n. n) ns.items) }
+    ensures same { IfOk result (λ ns. IsPermutation labels.now ns.items) }
+{
+    let mut numbers = Vec::from_slice(alloc, labels)?;
+    numbers.sort_unstable();
+    Ok(numbers)
+}
+
+// The same ranges of labels that are in order.
+fn wanted_ranges(labels: &Vec<Option<u64>>, among: &[u64]) -> Result<Vec<(u64, u64)>, AllocError>
+    requires order { IsNonDecreasingBy (λ n. n) among.now }
     ensures ranges { IfOk result (λ rs. rs.items ≡ reverse (ranges_of (places_there 0 among.now labels.now.items))) }
 {
     let mut ranges = Vec::new(*labels.allocator());
@@ -37,6 +60,7 @@ fn put_label(
     label: Option<u64>,
     among: &[u64],
 ) -> Result<(), AllocError>
+    requires order { IsNonDecreasingBy (λ n. n) among.now }
     ensures ok { OnOk result (ranges.new.items ≡ (if is_one_there among.now label then reverse (put_place at (reverse ranges.old.items)) else ranges.old.items)) }
 {
     if is_one(label, among) {
@@ -46,13 +70,14 @@ fn put_label(
     }
 }
 
-// Whether it is one of these labels.
+// Whether it is one of these labels, which are in order.
 fn is_one(label: Option<u64>, among: &[u64]) -> bool
+    requires order { IsNonDecreasingBy (λ n. n) among.now }
     ensures one { result ≡ is_one_there among.now label }
 {
     match label {
         None => false,
-        Some(label) => among.contains(&label),
+        Some(label) => among.binary_search(&label).is_ok(),
     }
 }
 

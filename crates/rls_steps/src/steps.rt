@@ -35,7 +35,8 @@ pub enum StepError {
     OutOfMemory,
 }
 
-/// What a member did to its text and can take back all the way, in groups; and what it took back and can do again.
+/// What a member did to its text and can take back all the way, in groups; and what it took back and can do again. It stands beside a
+/// replica, and each call is to be given that one.
 #[derive(Drop)]
 pub struct Steps {
     epoch: EpochName,
@@ -69,14 +70,14 @@ impl Steps {
         }
     }
 
-    /// How many groups can be undone.
+    /// How many groups can be undone. It costs a pass over the steps.
     pub fn undoable(&self) -> usize
         ensures count { result ≡ group_count self.now.past }
     {
         count(&self.past)
     }
 
-    /// How many groups can be redone.
+    /// How many groups can be redone. It costs a pass over the steps.
     pub fn redoable(&self) -> usize
         ensures count { result ≡ group_count self.now.future }
     {
@@ -91,7 +92,7 @@ impl Steps {
         self.names.len()
     }
 
-    /// Ends the open group: the next edit begins another one.
+    /// Ends the open group: the next edit begins another one. It takes no memory.
     pub fn close(&mut self)
         ensures epoch { self.new.epoch ≡ self.old.epoch }
         ensures next { self.new.next ≡ self.old.next }
@@ -105,7 +106,7 @@ impl Steps {
     }
 
     /// Forgets the oldest groups that can be undone, so that at most so many steps are left, which put in or cut out at most so many
-    /// characters. It takes no memory.
+    /// characters. The names stay. It takes no memory, and costs a pass over the steps.
     pub fn forget(&mut self, steps: usize, chars: u64)
         ensures left { self.new ≡ without_first (forgotten steps chars self.old.past) self.old }
         ensures within { forgotten steps chars self.old.past ≤ length self.old.past }
@@ -114,7 +115,8 @@ impl Steps {
         drop_first(&mut self.past, count);
     }
 
-    /// Translates everything to the greatest epoch, as is needed before what is stable is dropped. After an error all is as before.
+    /// Translates everything to the greatest epoch, as is needed before what is stable is dropped. After an error all is as before. It
+    /// costs a translation of each name, or nothing if all are in the greatest epoch.
     ///
     /// # Errors
     ///
@@ -144,6 +146,9 @@ impl Steps {
 
     /// Performs an edit as `Replica::edit` does. An insertion and a deletion are steps of the open group, and what could be redone
     /// is forgotten. After an error all is as before, but that everything may be in the greatest epoch.
+    ///
+    /// It costs what `Replica::edit` does. An insertion costs its own length once more, and a deletion two searches in the text for each
+    /// name that is kept. After a rename everything is translated first, as by `settle`.
     ///
     /// # Errors
     ///
@@ -261,6 +266,9 @@ impl Steps {
 
     /// Takes the last group back, the last step first, and answers how many steps that were. It ends the open group.
     ///
+    /// Each step costs its edits, a search in the text for each name that is kept and a pass over the text, and two such searches more
+    /// for each range that is cut out. After a rename everything is translated first, as by `settle`.
+    ///
     /// # Errors
     ///
     /// `Nothing` exactly where there is nothing to undo, and `Dropped` only where the replica doesn't keep the epoch of what is
@@ -297,7 +305,8 @@ impl Steps {
         }
     }
 
-    /// Does the group again that was taken back last, and answers how many steps that were. It ends the open group. Errors as of `undo`.
+    /// Does the group again that was taken back last, and answers how many steps that were. It ends the open group. Cost and errors are
+    /// those of `undo`, with `Nothing` exactly where there is nothing to redo.
     pub fn redo(&mut self, replica: &mut Replica) -> Result<usize, StepError>
         ensures nothing { IsErrOf result StepError.Nothing ↔ (self.old.future ≡ []) }
         ensures memory { IsErrOf result (StepError.Edit EditError.OutOfMemory) → ⊥ }

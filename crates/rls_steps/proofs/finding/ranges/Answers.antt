@@ -1,20 +1,14 @@
-use Rattle.std.proofs.Common.{◌≡◌, ◌+◌, ◌-◌, drop, ap, ◌∙◌, sym, refl, arith, length}
-use Rattle.std.specs.Prelude.{reverse}
-use Rattle.std.proofs.lemmas.Option.{slice_get_read}
+use Rattle.std.proofs.Common.{ℕ, sym, ap, ◌∙◌}
+use Rattle.std.specs.Prelude.{reverse, ◌==◌}
+use Rattle.std.specs.List.{list_any}
+use Rattle.std.proofs.lemmas.List.Sorted.{list_any-IsPermutation}
 use Rattle.rls_undo.specs.Plans.{ranges_of}
-use Rattle.rls_steps.specs.Tables.{places_there}
-use Rattle.rls_steps.proofs.Placing.{ranges_next}
+use Rattle.rls_steps.proofs.Wanted.{places_same}
 use Rattle.rls_steps.proofs.finding.ranges.Goals as goal
 
-pub places-preserved : goal.places-preserved
-places-preserved c =
-    let os = c.args.labels.now.items in
-    let i = c.places.i in
-    let o = c.index.result.now in
-    let v = c.places.invariant in
-    let back : i - 1 + 1 ≡ i = omega (arith, c.places-test.true) in
-    let g = slice_get_read os (length os) (i - 1) o refl (omega (arith, v.within, c.places-test.true)) c.index.ensures in
-    record {
-      within = omega (arith, v.within);
-      ranges = ranges_next c.args.among.now os (i - 1) o c.places.ranges.items c.put_label.new.ranges.items g (v.ranges ∙ ap (λ k. reverse (ranges_of (places_there k c.args.among.now (drop k os)))) (sym back)) c.in_ok-put_label.ensures.ok;
-    }
+pub returns : goal.returns
+returns c =
+    let xs = c.args.among.now in
+    let ys = c.deref.result.now in
+    let same = λ (n : ℕ). sym (list_any-IsPermutation (λ k. k == n) xs c.in_ok-wanted.wanted.items c.in_ok-wanted.ensures.same ∙ ap (list_any (λ k. k == n)) (sym c.deref.ensures.value)) in
+    record { ranges = c.in_ok-ranges.ensures.ranges ∙ ap (λ ps. reverse (ranges_of ps)) (places_same ys xs same 0 c.args.labels.now.items) }

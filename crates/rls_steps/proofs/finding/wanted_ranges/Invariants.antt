@@ -2,7 +2,7 @@ use Rattle.std.proofs.Common.{◌≡◌, ◌≤◌, length, drop}
 use Rattle.std.specs.Prelude.{reverse}
 use Rattle.rls_undo.specs.Plans.{ranges_of}
 use Rattle.rls_steps.specs.Tables.{places_there}
-use Rattle.rls_steps.proofs.finding.ranges.Given as goal
+use Rattle.rls_steps.proofs.finding.wanted_ranges.Given as goal
 
 -- the ranges from a place on
 abbrev pub invariant-places : goal.invariant-places
