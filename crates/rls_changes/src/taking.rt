@@ -179,7 +179,7 @@ fn count_receipt(
         Receipt::Applied => taken.applied += 1,
         Receipt::Repeated => taken.repeated += 1,
         Receipt::Held => taken.held += 1,
-        Receipt::Refused(refusal) => taken.refused.push(author, seq, refusal)?,
+        Receipt::Refused(refusal) => return taken.refused.push(author, seq, refusal),
     }
     Ok(())
 }
@@ -196,8 +196,10 @@ fn count_release(release: Release, taken: &mut Taken) -> Result<(), AllocError>
         refusal,
     } = release;
     match refusal {
-        None => taken.released += 1,
-        Some(refusal) => taken.refused.push(author, seq, refusal)?,
+        None => {
+            taken.released += 1;
+            Ok(())
+        }
+        Some(refusal) => taken.refused.push(author, seq, refusal),
     }
-    Ok(())
 }
