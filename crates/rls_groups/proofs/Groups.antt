@@ -10,6 +10,7 @@ use Rattle.rls_model.specs.Laws.{IsAt}
 use Rattle.rls_model.specs.Receiving.{State}
 use Rattle.rls_model.specs.WellFormed.{IsLarge}
 use Rattle.rls_model.specs.Worlds.{World, empty_world}
+use Rattle.rls_model.proofs.OnePlace.{get_set_same}
 use Rattle.rls_model.proofs.WorldsCommands.{with_done}
 use Rattle.rls_model.proofs.WorldsInvariant.{at_later}
 use Rattle.rls_seen.specs.Seen.{Seen}
@@ -180,6 +181,12 @@ module _ (g n : ℕ) (l : Life) (w : World) (x : Lives g n l w) where
   pub means : (i : ℕ) (deed : Deed) (s : Seen) → IsOfGroup l.group i deed → stored_by l.group i deed ≡ Some s → (t : State) × IsHeld l i t × IsMeant l.group i t deed (after_deed deed t)
   means i (Commands words input) s p e = command_means i words input p s e
   means i (Sits desk input) s p e = session_means i desk input p
+
+  -- and that is its history from then on
+  pub held_after : (i : ℕ) (deed : Deed) (s : Seen) (t : State) → stored_by l.group i deed ≡ Some s → IsHeld l i t → slice_get (states_run true l.group l.states i deed) i ≡ Some (after_deed deed t)
+  held_after i deed s t e h =
+      subst (λ (o : Option Seen). slice_get (states_with l.states i o (after_deed deed)) i ≡ Some (after_deed deed t)) (sym e)
+      (ap (λ (xs : List State). slice_get xs i) (set_at l.states i t s (after_deed deed) h) ∙ get_set_same l.states i t (after_deed deed t) h)
 
   pub cleans : SessionsClean l.group
   cleans i desk input p = session_cleans i desk input p

@@ -8,3 +8,4 @@ mod Sessions
 mod Groups
 mod Ordered
 mod Law
+mod Runs

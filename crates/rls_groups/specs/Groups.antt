@@ -36,7 +36,7 @@ use Rattle.rls_session.specs.Replies.{bytes_text, ok_text}
 use Rattle.rls_session.specs.Requests.{Request, Does, Takes}
 use Rattle.rls_session.specs.Sessions.{by_history, by_parts}
 use Rattle.rls_groups.specs.Events.{AreOfGroup, Commands, Deed, Desk, Event, IsOfGroup, Sits, at_desk, replica_at, replied, session_at, session_due, stored_by}
-use Rattle.rls_groups.specs.Lives.{Life, after_deed, begun, lived_all}
+use Rattle.rls_groups.specs.Lives.{Life, after_deed, begun, lived, lived_all}
 
 -- ---- what a session answers
 
@@ -121,10 +121,10 @@ IsHeld l i t = slice_get l.states i ≡ Some t
 abbrev pub WasHeld : Life → ℕ → History → Type 0
 WasHeld l i H = (t : State) × IsHeld l i t × IsFront H t.history
 
--- each run that stored its file made of the history what it says
+-- each run that stored its file made of the member's history what it says
 abbrev pub EachMeant : ℕ → ℕ → List Event → Type 0
 EachMeant group members es = (before after : List Event) (e : Event) (s : Seen) → before ++ (e ∷ after) ≡ es → let l = lived_all (begun group members) before in e.done ≡ true → stored_by l.group e.member e.deed ≡ Some s →
-    (t : State) × IsHeld l e.member t × IsMeant l.group e.member t e.deed (after_deed e.deed t)
+    (t : State) × IsHeld l e.member t × IsHeld (lived l e) e.member (after_deed e.deed t) × IsMeant l.group e.member t e.deed (after_deed e.deed t)
 
 -- the member's file stands for its history, which goes on to the one at the end, and shows its characters in the order of M
 pub record IsMoment (group members : ℕ) (now end : Life) (M : History) (i : ℕ) : Type 0 where

@@ -1,3 +1,4 @@
 pub mod Events
 pub mod Lives
 pub mod Groups
+pub mod Runs

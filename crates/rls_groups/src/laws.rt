@@ -1,6 +1,9 @@
 //! Laws of groups. Each function runs nothing and takes no memory; its contract states the fact.
 
 ghost use Rattle.rls_groups.specs.Groups.{GroupsConverge};
+ghost use Rattle.rls_groups.specs.Runs.{CommandsLeave, SessionsLeave, StopsLeave};
+
+use rls_journal::Disk;
 
 /// Whatever the members of a group do by commands and sessions, each over its own file, whatever fails or stops of it, and however the
 /// messages that may be handed on are passed on, repeated or lost: no operation is refused, edits release nothing, what waits was made
@@ -9,4 +12,16 @@ ghost use Rattle.rls_groups.specs.Groups.{GroupsConverge};
 /// was asked for.
 pub fn groups_converge()
     ensures groups_converge { GroupsConverge }
+{}
+
+/// What the clauses of `rls_top::run` and of `rls_session::serve` say of a call is an event of the group: the member's file is as before, or
+/// as the run leaves it that came to its end; and which of the two, by the status.
+pub fn runs_are_events()
+    ensures commands { CommandsLeave }
+    ensures sessions { SessionsLeave }
+{}
+
+/// The same of a stop at any moment, by the clauses of `rls_durable`.
+pub fn stops_are_events<D: Disk>()
+    ensures stops { StopsLeave D.moment D.left_since }
 {}

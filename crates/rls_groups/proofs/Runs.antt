@@ -1,0 +1,145 @@
+-- What the clauses of commands and sessions say of a run in a group.
+use Rattle.std.proofs.Common.{◌≡◌, ◌∙◌, ◌<◌, ◌++◌, ℕ, Bool, true, false, List, length, Option, Some, None, IfSome, Result, Ok, Err, refl, sym, ap, subst, inl, inr, ⊎_elim}
+use Rattle.std.specs.Prelude.{slice_get}
+use Rattle.rls_ident.specs.Lists.{IsIn}
+use Rattle.rls_ident.proofs.Members.{in_right, some_is}
+use Rattle.rls_journal.specs.Areas.{Areas, kept}
+use Rattle.rls_journal.specs.Disk.{LeavesOnly}
+use Rattle.rls_model.proofs.OnePlace.{get_set_same}
+use Rattle.rls_world.proofs.Stepping.{place_of}
+use Rattle.rls_seen.specs.Seen.{Seen}
+use Rattle.rls_report.specs.declared.failures.CommandError.{CommandError}
+use Rattle.rls_stages.specs.KeptFile.{bytes_over, loaded, replica_in}
+use Rattle.rls_top.specs.declared.words.Command.{Command}
+use Rattle.rls_top.specs.declared.words.Command.TheVariants.{New, OnFile, Trial}
+use Rattle.rls_top.specs.declared.words.FileCommand.{FileCommand}
+use Rattle.rls_top.specs.declared.words.FileCommand.TheVariants.{Edit, Text, Ids, Stat, Send, Take, Leave}
+use Rattle.rls_top.specs.Calls as commands
+use Rattle.rls_top.specs.Due.{Due, Makes, NoCommand, Stops, due, due_at, due_of_new, due_of_words, due_on, error_of_numbers}
+use Rattle.rls_top.specs.Endings.{IsKept, IsWritten}
+use Rattle.rls_top.specs.Groups.{Group, due_of, files_with, messages_of}
+use Rattle.rls_top.specs.Words.{command_of}
+use Rattle.rls_session.specs.Calls as sessions
+use Rattle.rls_session.specs.Due as session
+use Rattle.rls_session.specs.Endings.{Ends, FailsAt}
+use Rattle.rls_session.specs.Endings as endings
+use Rattle.rls_durable.specs.Stops.{IsOld, LeavesOldOrDue}
+use Rattle.rls_journal.specs.Keeper.{IsOldOrNew}
+use Rattle.rls_groups.specs.Events as events
+use Rattle.rls_groups.specs.Events.{Commands, Deed, Sits, empty_desk, printed_of, replica_at, saved_of, session_due, stored_of}
+use Rattle.rls_groups.specs.Runs.{CommandsLeave, IsLeft, SessionsLeave, StopsLeave, file_after, file_at}
+
+-- ---- the file of a member
+
+set_there : (g : Group) (i : ℕ) (bytes : Seen) → i < length g.files → slice_get (files_with g.files i (Some bytes)) i ≡ Some (bytes_over bytes)
+set_there g i s l = let p = place_of g.files i l in get_set_same g.files i p.0 (bytes_over s) p.1
+
+-- what is kept, by what is called for
+kept_after : (g : Group) (i : ℕ) (now : Option (List ℕ)) (d : Due) → i < length g.files → IsKept d (Some (file_at g i)) (Some now) → now ≡ slice_get (files_with g.files i (stored_of (Some d))) i
+kept_after g i now NoCommand l k = absurd k
+kept_after g i now (Makes None report refused) l k = some_is now (file_at g i) k.0
+kept_after g i now (Makes (Some s) report refused) l k = some_is now (Some (bytes_over s)) k.0 ∙ sym (set_there g i s l)
+kept_after g i now (Stops e) l k = absurd k
+
+-- ---- commands
+
+-- what is called for is known if the file and the input are
+due_at_told : (c : FileCommand) (s : Seen) (input : List ℕ) → (d : Due) × (due_at c s (Some input) ≡ Some d)
+due_at_told Text s input = (_, refl)
+due_at_told Ids s input = (_, refl)
+due_at_told Stat s input = (_, refl)
+due_at_told (Send to) s input = (_, refl)
+due_at_told Edit s input = (_, refl)
+due_at_told Take s input = (_, refl)
+due_at_told Leave s input = (_, refl)
+
+words_told : (c : Option Command) (file : Option (List ℕ)) (input : List ℕ) → (d : Due) × (due_of_words c (Some file) (Some input) ≡ Some d)
+words_told None file input = (NoCommand, refl)
+words_told (Some (New group me members)) file input = go (error_of_numbers me members)
+  where
+    go : (e : Option CommandError) → (d : Due) × (due_of_new e group me members (Some file) ≡ Some d)
+    go (Some e) = (_, refl)
+    go None = (_, refl)
+words_told (Some (Trial seed steps)) file input = (_, refl)
+words_told (Some (OnFile c)) file input = go (replica_in (loaded file))
+  where
+    go : (r : Result Seen CommandError) → (d : Due) × (due_on c r (Some input) ≡ Some d)
+    go (Ok s) = due_at_told c s input
+    go (Err e) = (Stops e, refl)
+
+-- of the message that is printed
+printed : (c : Option Command) (d : Due) (to : ℕ) (old new : List ℕ) → c ≡ Some (OnFile (Send to)) → IsWritten d (Some old) (Some new) → (message : List ℕ) × (new ≡ old ++ message) × IsIn message (printed_of c (Some d))
+printed c NoCommand to old new e k = absurd k
+printed c (Makes stored report refused) to old new e k = (report, some_is new (old ++ report) k, subst (λ (x : Option Command). IsIn report (messages_of x report)) (sym e) (inl refl))
+printed c (Stops x) to old new e k = absurd k
+
+pub commands_leave : CommandsLeave
+commands_leave g i words input n l =
+    let q = words_told (command_of words) (file_at g i) input in
+    let d = q.0 in (
+      λ now kept stored. kept_after g i now d l (subst (λ (o : Option Due). IfSome o (λ d. IsKept d (Some (file_at g i)) (Some now))) q.1 (kept stored)) ∙ ap (λ (o : Option Due). slice_get (files_with g.files i (stored_of o)) i) (sym q.1),
+      λ now stays other. stays other,
+      λ to old new report done is.
+          let k = printed (command_of words) d to old new is (subst (λ (o : Option Due). IfSome o (λ d. IsWritten d (Some old) (Some new))) q.1 (report done)) in
+          (k.0, k.1, in_right k.0 g.written (printed_of (command_of words) (due_of g i words input)) (subst (λ (o : Option Due). IsIn k.0 (printed_of (command_of words) o)) (sym q.1) k.2)),
+    )
+
+-- ---- sessions
+
+-- what a session calls for, as the group says it
+session_told : (r : Result Seen CommandError) (input : List ℕ) → session.due_on r (Some input) ≡ Some (events.due_on r empty_desk input)
+session_told (Ok s) input = refl
+session_told (Err e) input = refl
+
+session_kept : (g : Group) (i : ℕ) (now : Option (List ℕ)) (r : Result Seen CommandError) → i < length g.files → endings.IsKept r (Some (file_at g i)) (Some now) → now ≡ slice_get (files_with g.files i (saved_of r)) i
+session_kept g i now (Ok s) l k = some_is now (Some (bytes_over s)) k.0 ∙ sym (set_there g i s l)
+session_kept g i now (Err e) l k = absurd k
+
+pub sessions_leave : SessionsLeave
+sessions_leave g i input n now old new l told stays = (λ e. (session_kept g i now d.ending l (ends.stored e), ends.written e), λ e. failed (ends.failing e), stays)
+  where
+    d : session.Due
+    d = session_due g i empty_desk input
+
+    ends : Ends d n (Some (file_at g i)) (Some now) old new
+    ends = subst (λ (o : Option session.Due). IfSome o (λ d. Ends d n (Some (file_at g i)) (Some now) old new)) (session_told (replica_at g i) input) told
+
+    failed : FailsAt d (Some (file_at g i)) (Some now) old new → IsLeft g i (Sits empty_desk input) now
+    failed (inl k) = (false, some_is now (file_at g i) k.0)
+    failed (inr k) = (true, session_kept g i now d.ending l k.0)
+
+-- ---- stops
+
+module _ {D : Type 0} (moment : D → ℕ) (left_since : D → ℕ → Areas → Type 0) where
+  -- what is left has this too, if it follows
+  only : (old new : D) (P Q : Areas → Type 0) → ((c : Areas) → P c → Q c) → LeavesOnly moment left_since old new P → LeavesOnly moment left_since old new Q
+  only old new P Q f k = record { later = k.later; each = λ c h. f c (k.each c h); before = λ t c le h. ⊎_elim (λ p. inl p) (λ p. inr (f c p)) (k.before t c le h) }
+
+  -- the file from before, or bytes that a run is to store
+  by_deed : (g : Group) (i : ℕ) (deed : Deed) (stores : Bool) (IsDue : List ℕ → Type 0) (old new : D) → ((bytes : List ℕ) → IsDue bytes → Some bytes ≡ file_after true g i deed) → LeavesOldOrDue moment left_since stores IsDue (file_at g i) old new →
+      LeavesOnly moment left_since old new (λ c. IsLeft g i deed (kept c))
+  by_deed g i deed stores IsDue old new f (inl k) = only old new (IsOld (file_at g i)) (λ c. IsLeft g i deed (kept c)) (λ c p. (false, p)) k
+  by_deed g i deed stores IsDue old new f (inr k) =
+      only old new (IsOldOrNew (file_at g i) (k.1).0) (λ c. IsLeft g i deed (kept c)) (λ c p. ⊎_elim (λ q. (false, q)) (λ q. (true, q ∙ f (k.1).0 (k.1).1)) p) (k.1).2
+
+  pub stops_leave : StopsLeave moment left_since
+  stops_leave g i input old new l = (
+    λ words stores k. by_deed g i (Commands words input) stores (commands.IsDueOf (due words (Some (file_at g i)) (Some input))) old new (λ bytes p. of_command words bytes p) k,
+    λ k. by_deed g i (Sits empty_desk input) true (sessions.IsDueOf (session.due (Some (file_at g i)) (Some input))) old new
+        (λ bytes p. of_session bytes (session_due g i empty_desk input).ending (subst (λ (o : Option session.Due). sessions.IsDueOf o bytes) (session_told (replica_at g i) input) p)) k,
+  )
+    where
+      of_file : (bytes : List ℕ) (d : Due) → commands.IsDueFile d bytes → Some bytes ≡ slice_get (files_with g.files i (stored_of (Some d))) i
+      of_file bytes NoCommand p = absurd p
+      of_file bytes (Makes None report refused) p = absurd p
+      of_file bytes (Makes (Some s) report refused) p = ap (λ (b : List ℕ). Some b) p ∙ sym (set_there g i s l)
+      of_file bytes (Stops e) p = absurd p
+
+      of_command : (words : List (List ℕ)) (bytes : List ℕ) → commands.IsDueOf (due words (Some (file_at g i)) (Some input)) bytes → Some bytes ≡ file_after true g i (Commands words input)
+      of_command words bytes p =
+          let q = words_told (command_of words) (file_at g i) input in
+          of_file bytes q.0 (subst (λ (o : Option Due). commands.IsDueOf o bytes) q.1 p) ∙ ap (λ (o : Option Due). slice_get (files_with g.files i (stored_of o)) i) (sym q.1)
+
+      of_session : (bytes : List ℕ) (r : Result Seen CommandError) → sessions.IsFileOf r bytes → Some bytes ≡ slice_get (files_with g.files i (saved_of r)) i
+      of_session bytes (Ok s) p = ap (λ (b : List ℕ). Some b) p ∙ sym (set_there g i s l)
+      of_session bytes (Err e) p = absurd p

@@ -1,0 +1,63 @@
+-- What a run of the program leaves of its member's file, and what it prints, by the clauses of `run` and `serve`: it is an event of the group.
+use Rattle.std.specs.Prelude.{◌≡◌, ◌≢◌, ◌<◌, ◌++◌, ℕ, Bool, true, List, length, slice_get, Option, Some, IfSome}
+use Rattle.rls_ident.specs.Lists.{IsIn}
+use Rattle.rls_io.specs.Device.{Appends}
+use Rattle.rls_journal.specs.Areas.{Areas, kept}
+use Rattle.rls_journal.specs.Disk.{LeavesOnly}
+use Rattle.rls_stages.specs.KeptFile.{Stays}
+use Rattle.rls_top.specs.declared.words.Command.TheVariants.{OnFile}
+use Rattle.rls_top.specs.declared.words.FileCommand.TheVariants.{Send}
+use Rattle.rls_top.specs.Calls as commands
+use Rattle.rls_top.specs.Due.{due}
+use Rattle.rls_top.specs.Endings.{IsDone, IsKept, IsStored, IsWritten}
+use Rattle.rls_top.specs.Groups.{Group}
+use Rattle.rls_top.specs.Words.{command_of}
+use Rattle.rls_session.specs.Calls as sessions
+use Rattle.rls_session.specs.Due as session
+use Rattle.rls_session.specs.Endings.{Ends}
+use Rattle.rls_session.specs.Replies.{saved_text}
+use Rattle.rls_durable.specs.Stops.{LeavesOldOrDue}
+use Rattle.rls_groups.specs.Events.{Commands, Deed, Sits, after_run, empty_desk, session_due}
+
+-- the member's file, as the group has it
+abbrev pub file_at : Group → ℕ → Option (List ℕ)
+file_at g i = slice_get g.files i
+
+-- the file that the member has after the run, done or not
+abbrev pub file_after : Bool → Group → ℕ → Deed → Option (List ℕ)
+file_after done g i deed = slice_get (after_run done g i deed).files i
+
+-- this is the member's file after the run, whether or not it came to an end
+abbrev pub IsLeft : Group → ℕ → Deed → Option (List ℕ) → Type 0
+IsLeft g i deed now = (done : Bool) × (now ≡ file_after done g i deed)
+
+-- ---- commands
+
+-- With a status with which `run` stores, the file that is kept is that of a run that is done, by its clause `file`; with any other one it is as before, if
+-- the keeper tells it, by its clause `stays`. And what a `send` prints with status 0 may be handed on, by its clause `report`.
+abbrev pub CommandsLeave : Type 0
+CommandsLeave = (g : Group) (i : ℕ) (words : List (List ℕ)) (input : List ℕ) (n : ℕ) → i < length g.files → let file = Some (file_at g i) in let deed = Commands words input in
+    ((now : Option (List ℕ)) → (IsStored n → IfSome (due words file (Some input)) (λ d. IsKept d file (Some now))) → IsStored n → now ≡ file_after true g i deed)
+    × ((now : Option (List ℕ)) → ((IsStored n → ⊥) → Stays file (Some now)) → (IsStored n → ⊥) → now ≡ file_at g i)
+    × ((to : ℕ) (old new : List ℕ) → (IsDone n → IfSome (due words file (Some input)) (λ d. IsWritten d (Some old) (Some new))) → IsDone n → command_of words ≡ Some (OnFile (Send to)) →
+    (message : List ℕ) × (new ≡ old ++ message) × IsIn message (after_run true g i deed).written)
+
+-- ---- sessions
+
+-- With status 0 the file that is kept is that of a session that is done, and all replies were written, by the clause `ends` of `serve`; with a 9 it is that or
+-- the one from before; and with any other status it is the one from before, if the keeper tells it, by the clause `stays`.
+abbrev pub SessionsLeave : Type 0
+SessionsLeave = (g : Group) (i : ℕ) (input : List ℕ) (n : ℕ) (now : Option (List ℕ)) (old new : Option (List ℕ)) → i < length g.files → let file = Some (file_at g i) in let deed = Sits empty_desk input in
+    IfSome (session.due file (Some input)) (λ d. Ends d n file (Some now) old new) → (n ≢ 0 → n ≢ 9 → Stays file (Some now)) →
+    (n ≡ 0 → (now ≡ file_after true g i deed) × Appends old new ((session_due g i empty_desk input).replies ++ saved_text))
+    × (n ≡ 9 → IsLeft g i deed now)
+    × (n ≢ 0 → n ≢ 9 → now ≡ file_at g i)
+
+-- ---- over the keeper with two slots
+
+-- A stop at any moment leaves the member's file as a run leaves it that is done, or that isn't: by the clause `any_moment` of `run_on_disk` and of `serve_on_disk`.
+abbrev pub StopsLeave : {D : Type 0} → (D → ℕ) → (D → ℕ → Areas → Type 0) → Type 0
+StopsLeave {D} moment left_since = (g : Group) (i : ℕ) (input : List ℕ) (old new : D) → i < length g.files → let file = file_at g i in
+    ((words : List (List ℕ)) (stores : Bool) → LeavesOldOrDue moment left_since stores (commands.IsDueOf (due words (Some file) (Some input))) file old new →
+    LeavesOnly moment left_since old new (λ c. IsLeft g i (Commands words input) (kept c)))
+    × (LeavesOldOrDue moment left_since true (sessions.IsDueOf (session.due (Some file) (Some input))) file old new → LeavesOnly moment left_since old new (λ c. IsLeft g i (Sits empty_desk input) (kept c)))
