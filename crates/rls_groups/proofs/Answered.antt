@@ -61,6 +61,7 @@ use Rattle.rls_groups.specs.Groups.{IsAnswered, IsClean, IsStored, IsTaken, IsTe
 use Rattle.rls_groups.proofs.Commands.{message_taken}
 use Rattle.rls_groups.proofs.Past.{past_same}
 use Rattle.rls_groups.proofs.Requests.{Steps}
+use Rattle.rls_groups.proofs.Staying.{Follows, edit_stays, follows_self, has_or_holds, is_there, message_stays}
 use Rattle.rls_groups.proofs.Steps.{IsUnderway, at, edits, performs, rests, sends_on, takes}
 
 -- ---- nothing is released
@@ -87,7 +88,7 @@ module _ (g n : ℕ) (G : Group) (w : World) (x : Matches g n G w) (i : ℕ) (s 
     pub front : IsFront s.history (f.state).history
 
   abbrev pub Later : Sitting State → Sitting State → Type 0
-  Later e f = IsFront (e.state).history (f.state).history
+  Later e f = Follows e.state f.state × IsAtRest f.state
 
   abbrev pub IsTold : List ℕ → Message → Type 0
   IsTold b m = IsMessage b m × (length b ≤ INPUT_BYTES)
@@ -104,36 +105,41 @@ module _ (g n : ℕ) (G : Group) (w : World) (x : Matches g n G w) (i : ℕ) (s 
     abbrev next_of : Request → State
     next_of r = ((answer by_history f r).state).state
 
+    -- what it made goes on to what is stored
+    kept : (r : Request) → IsAnswered f r → (v : Sitting State) → Later (answer by_history f r).state v → IsDone v f r
+    kept r meant v l = (((l.0).0, λ o p. has_or_holds v.state o l.1 ((l.0).1 o (is_there (next_of r) o p))), meant)
+
     -- nothing is sent
-    moved : (r : Request) → AreAlike (answer by_parts d r) (answer by_history f r) → IsUnderway g n w i (next_of r) out → IsFront (f.state).history (next_of r).history → IsClean G d r → IsAnswered f r → replied d r ≡ [] → Stepped d f out r
-    moved r k u front clean meant none = record {
+    moved : (r : Request) → AreAlike (answer by_parts d r) (answer by_history f r) → IsUnderway g n w i (next_of r) out → Follows f.state (next_of r) → IsClean G d r → IsAnswered f r → replied d r ≡ [] → Stepped d f out r
+    moved r k u follows clean meant none = record {
       more = [];
       reply = k.reply;
-      next = record { alike = k.states; underway = subst (IsUnderway g n w i (next_of r)) (sym (append-nil out)) u; front = front_trans s.history (f.state).history (next_of r).history b.front front };
-      later = front;
+      next = record { alike = k.states; underway = subst (IsUnderway g n w i (next_of r)) (sym (append-nil out)) u; front = front_trans s.history (f.state).history (next_of r).history b.front follows.0 };
+      later = (follows, (u.storable).rest);
       clean = clean;
-      meant = λ v l. (l, meant);
+      meant = kept r meant;
       told = λ a p. absurd (subst (λ (xs : List (List ℕ)). IsIn a xs) none p);
     }
 
     -- nothing changes
     quiet : (r : Request) → AreAlike (answer by_parts d r) (answer by_history f r) → next_of r ≡ f.state → IsClean G d r → IsAnswered f r → replied d r ≡ [] → Stepped d f out r
-    quiet r k e clean meant none = moved r k (subst (λ (t : State). IsUnderway g n w i t out) (sym e) b.underway) (subst (λ (t : State). IsFront (f.state).history t.history) (sym e) (front_self (f.state).history)) clean meant none
+    quiet r k e clean meant none = moved r k (subst (λ (t : State). IsUnderway g n w i t out) (sym e) b.underway) (subst (Follows f.state) (sym e) (follows_self f.state)) clean meant none
 
     -- where waiting operations are released then, of which none is ready
     record Rested (t u : State) : Type 0 where
       underway : IsUnderway g n w i t out
-      front : IsFront (f.state).history t.history
+      follows : Follows f.state t
       same : u ≡ t
 
     rested_moves : (r : Request) (t : State) → Rested t (next_of r) → AreAlike (answer by_parts d r) (answer by_history f r) → IsClean G d r → IsAnswered f r → replied d r ≡ [] → Stepped d f out r
-    rested_moves r t q k clean meant none = moved r k (subst (λ (u : State). IsUnderway g n w i u out) (sym q.same) q.underway) (subst (λ (u : State). IsFront (f.state).history u.history) (sym q.same) q.front) clean meant none
+    rested_moves r t q k clean meant none = moved r k (subst (λ (u : State). IsUnderway g n w i u out) (sym q.same) q.underway) (subst (Follows f.state) (sym q.same) q.follows) clean meant none
 
     -- ---- edits
 
-    edit_goes : (y : Result Edit LineFault) → IsMeantWell fault_in f.state y → IsUnderway g n w i ((edited by_history f y).state).state out × IsFront (f.state).history (((edited by_history f y).state).state).history
-    edit_goes (Ok edit) q = (edits g n w i s h f.state out b.underway edit q.0 q.1, inr (front_self (f.state).history))
-    edit_goes (Err fault) q = (b.underway, front_self (f.state).history)
+    edit_goes : (y : Result Edit LineFault) → IsMeantWell fault_in f.state y → IsUnderway g n w i ((edited by_history f y).state).state out × Follows f.state ((edited by_history f y).state).state
+    edit_goes (Ok edit) q =
+        (edits g n w i s h f.state out b.underway edit q.0 q.1, (inr (front_self (f.state).history), λ o p. edit_stays (with_done w i f.state out) i f.state edit o ((b.underway).stands).good (at g n w i s h f.state out) p))
+    edit_goes (Err fault) q = (b.underway, follows_self f.state)
 
     edit_step : (line : Line) → IsLine line → Stepped d f out (Does (orders.Edit line))
     unfolding answer
@@ -143,7 +149,7 @@ module _ (g n : ℕ) (G : Group) (w : World) (x : Matches g n G w) (i : ℕ) (s 
         let q = edit_goes y (line_well fault_in text_in f.state line ok) in
         let t = ((edited by_history f y).state).state in
         let still = rests t ((q.0).storable).rest in
-        rested_moves r t (record { underway = q.0; front = q.1; same = still }) (answer_alike d f r ok b.alike)
+        rested_moves r t (record { underway = q.0; follows = q.1; same = still }) (answer_alike d f r ok b.alike)
         (rested_same (edited by_parts d (read_line by_parts d.state line)) t ((line_almost d f line b.alike ok).states).stands ((q.0).storable).rest)
         (λ edit e. let k = subst (IsMeantWell fault_in f.state) e (line_well fault_in text_in f.state line ok) in record {
           reply = ap (λ (z : Result Edit LineFault). (edited by_history f z).reply) e;
@@ -155,8 +161,8 @@ module _ (g n : ℕ) (G : Group) (w : World) (x : Matches g n G w) (i : ℕ) (s 
 
     -- ---- undoing
 
-    undo_goes : (o : Option Entry) → last_of f.entries ≡ o → IsUnderway g n w i ((undone by_history f o).state).state out × IsFront (f.state).history (((undone by_history f o).state).state).history
-    undo_goes None e = (b.underway, front_self (f.state).history)
+    undo_goes : (o : Option Entry) → last_of f.entries ≡ o → IsUnderway g n w i ((undone by_history f o).state).state out × Follows f.state ((undone by_history f o).state).state
+    undo_goes None e = (b.underway, follows_self f.state)
     undo_goes (Some entry) e = go (refusal f.state plan)
       where
         plan : List Edit
@@ -168,7 +174,7 @@ module _ (g n : ℕ) (G : Group) (w : World) (x : Matches g n G w) (i : ℕ) (s 
         are : AreEdits plan
         are = subst AreEdits (planned_alike d.state f.state entry (b.alike).stands (last_undoable d.state d.entries entry last ((b.alike).whole).undoable)) (plan_edits d.state entry (b.alike).sane (whole_at d.entries (length d.entries - 1) entry last (b.alike).texts))
 
-        go : (o : Option EditError) → IsUnderway g n w i ((undone_by_plan by_history f plan o).state).state out × IsFront (f.state).history (((undone_by_plan by_history f plan o).state).state).history
+        go : (o : Option EditError) → IsUnderway g n w i ((undone_by_plan by_history f plan o).state).state out × Follows f.state ((undone_by_plan by_history f plan o).state).state
         go None = performs g n w i s h plan f.state out are b.underway
         go (Some e) = performs g n w i s h plan f.state out are b.underway
 
@@ -178,7 +184,7 @@ module _ (g n : ℕ) (G : Group) (w : World) (x : Matches g n G w) (i : ℕ) (s 
         let r = Does orders.Undo in
         let q = undo_goes (last_of f.entries) refl in
         let t = ((undone by_history f (last_of f.entries)).state).state in
-        rested_moves r t (record { underway = q.0; front = q.1; same = rests t ((q.0).storable).rest }) (answer_alike d f r tt b.alike)
+        rested_moves r t (record { underway = q.0; follows = q.1; same = rests t ((q.0).storable).rest }) (answer_alike d f r tt b.alike)
         (rested_same (undone by_parts d (last_of d.entries)) t ((undo_almost d f b.alike).states).stands ((q.0).storable).rest) tt refl
 
     -- ---- the cursor and the text
@@ -277,9 +283,9 @@ module _ (g n : ℕ) (G : Group) (w : World) (x : Matches g n G w) (i : ℕ) (s 
                 underway = subst (λ (t : State). IsUnderway g n w i t (out ++ m ∷ [])) (sym (send_same to)) (sends_on g n w i s h f.state out b.underway to);
                 front = subst (λ (t : State). IsFront s.history t.history) (sym (send_same to)) b.front;
               };
-              later = subst (λ (t : State). IsFront (f.state).history t.history) (sym (send_same to)) (front_self (f.state).history);
+              later = subst (λ (t : State). Follows f.state t × IsAtRest t) (sym (send_same to)) (follows_self f.state, ((b.underway).storable).rest);
               clean = λ message p. reply e message (among true e message p);
-              meant = λ v q. (q, tt);
+              meant = kept r tt;
               told = λ a p. told l a (among true e a p);
             }
 
@@ -301,7 +307,7 @@ module _ (g n : ℕ) (G : Group) (w : World) (x : Matches g n G w) (i : ℕ) (s 
         let q = takes g n w i s h t out b.underway m bytes y.1 y.2 in
         let k = answer_alike d f (Takes bytes) ok b.alike in
         let state : next_of (Takes bytes) ≡ p.state = ap (λ (a : Answered (Sitting State)). (a.state).state) same in
-        rested_moves (Takes bytes) p.state (record { underway = q.0; front = taking_goes_on None t m; same = state }) k
+        rested_moves (Takes bytes) p.state (record { underway = q.0; follows = (taking_goes_on None t m, λ o p. message_stays (with_done w i t out) i t m o stands.good here posted p); same = state }) k
         (p.counts.applied, p.counts.released, p.counts.repeated, p.counts.held, k.reply ∙ (ap (λ (a : Answered (Sitting State)). a.reply) same ∙ clean_text p.counts q.1))
         (subst (IsTaken t bytes) (sym state) (message_taken (with_done w i t out) i t stands.good here ((b.underway).storable).rest bytes m posted y.2)) refl
 

@@ -1,17 +1,13 @@
 -- A command of a member of a group: the history after it, and what it made of it.
-use Rattle.std.proofs.Common.{◌≡◌, ◌∙◌, ℕ, List, [], ◌∷◌, length, Option, Some, None, refl, sym, ap, subst, inl, inr, ⊎_elim}
+use Rattle.std.proofs.Common.{◌≡◌, ◌∙◌, ℕ, List, [], ◌∷◌, length, Option, Some, None, refl, sym, ap, subst}
 use Rattle.std.specs.Prelude.{slice_get, slice_set}
 use Rattle.rls_ident.specs.Lists.{IsIn}
-use Rattle.rls_ident.specs.Vectors.{at_most}
-use Rattle.rls_ident.proofs.Members.{not_found}
 use Rattle.rls_ops.specs.declared.message.Message.{Message}
-use Rattle.rls_ops.specs.declared.op.Op.{Op}
 use Rattle.rls_codec.specs.CodecLaws.{IsMessage}
 use Rattle.rls_codec.specs.Reading.{message_of}
 use Rattle.rls_codec.proofs.MessageFormats.{message_again}
 use Rattle.rls_model.specs.declared.edit.Edit.TheVariants as edits
 use Rattle.rls_model.specs.declared.receipt.Taken.{Taken}
-use Rattle.rls_model.specs.History.{count}
 use Rattle.rls_model.specs.Laws.{IsAt}
 use Rattle.rls_model.specs.Receiving.{State}
 use Rattle.rls_model.specs.Taking.{take_message}
@@ -32,6 +28,8 @@ use Rattle.rls_top.proofs.GroupCommands.{Comes, MakesOf, same_ok}
 use Rattle.rls_groups.specs.Groups.{AreMade, HasReport, IsCommanded, IsTaken}
 use Rattle.rls_groups.specs.Lives.{after_message, after_script, after_words, run_to, states_with}
 use Rattle.rls_groups.proofs.Lines.{lines_made}
+use Rattle.rls_groups.proofs.Staying.{Follows, follows_self, has_or_holds, message_stays}
+use Rattle.rls_model.proofs.WorldsPast.{taking_goes_on}
 
 -- ---- the history after it
 
@@ -66,10 +64,7 @@ no_more n c report e f = e ∙ ap (λ (x : Taken). edit_text n x.released (lengt
 module _ (w : World) (i : ℕ) (t : State) (good : IsGood w) (h : IsAt w i t) (rest : IsAtRest t) where
   -- a message that was sent
   pub message_taken : (bytes : List ℕ) (m : Message) → IsIn m w.sent → IsMessage bytes m → IsTaken t bytes (take_message t m).state
-  message_taken bytes m p is =
-      let q = take_message t m in
-      let still = (taken_done t m rest).1 in
-      (m, is, refl, λ o u. ⊎_elim (λ z. inl z) (λ z. inr (z, not_found (λ (a : Op). at_most a.context (count (q.state).history)) o (q.state).waiting still z)) (message_there w i t m o good h p u))
+  message_taken bytes m p is = (m, is, refl, λ o u. has_or_holds (take_message t m).state o (taken_done t m rest).1 (message_there w i t m o good h p u))
 
   commanded : (c : Option Command) (input : List ℕ) (report : List ℕ) (u : State) → (c ≡ Some (OnFile Take) → (m : Message) × IsIn m w.sent × IsMessage input m) → MakesOf c input t report u → IsCommanded c input report t u
   commanded (Some (OnFile Edit)) input report u given k =
@@ -89,6 +84,28 @@ module _ (w : World) (i : ℕ) (t : State) (good : IsGood w) (h : IsAt w i t) (r
   commanded (Some (New group me members)) input report u given k = absurd k
   commanded (Some (Trial seed steps)) input report u given k = absurd k
   commanded None input report u given k = absurd k
+
+  -- what was there stays there
+  makes_follow : (c : Option Command) (input : List ℕ) (report : List ℕ) (u : State) → (c ≡ Some (OnFile Take) → (m : Message) × IsIn m w.sent × IsMessage input m) → MakesOf c input t report u → Follows t u
+  makes_follow (Some (OnFile Edit)) input report u given k = subst (Follows t) k.5 (lines_made (line_by fault_in text_in) w i t h k.1 k.0 good rest k.3 k.4).2
+  makes_follow (Some (OnFile Leave)) input report u given k = subst (Follows t) k.3 (lines_made (allowed_by fault_in) w i t h k.0 (edits.Leave ∷ []) good rest k.1 k.2).2
+  makes_follow (Some (OnFile Take)) input report u given k =
+      let y = given refl in
+      let one : y.0 ≡ k.0 = same_ok (message_of input) y.0 k.0 (message_again input y.0 y.2) (message_again input k.0 k.1) in
+      subst (Follows t) (ap (λ (m : Message). (take_message t m).state) one ∙ k.2) (taking_goes_on None t y.0, λ o p. message_stays w i t y.0 o good h y.1 p)
+  makes_follow (Some (OnFile Text)) input report u given k = absurd k
+  makes_follow (Some (OnFile Ids)) input report u given k = absurd k
+  makes_follow (Some (OnFile Stat)) input report u given k = absurd k
+  makes_follow (Some (OnFile (Send to))) input report u given k = absurd k
+  makes_follow (Some (New group me members)) input report u given k = absurd k
+  makes_follow (Some (Trial seed steps)) input report u given k = absurd k
+  makes_follow None input report u given k = absurd k
+
+  pub command_follows : (c : Option Command) (input : List ℕ) (d : Due) (u : State) → (c ≡ Some (OnFile Take) → (m : Message) × IsIn m w.sent × IsMessage input m) → Comes c input t d u → Follows t u
+  command_follows c input NoCommand u given k = subst (Follows t) k (follows_self t)
+  command_follows c input (Makes None report refused) u given k = subst (Follows t) k (follows_self t)
+  command_follows c input (Makes (Some s) report refused) u given k = makes_follow c input report u given k
+  command_follows c input (Stops x) u given k = subst (Follows t) k (follows_self t)
 
   -- by what is called for
   pub command_meant : (c : Option Command) (input : List ℕ) (d : Due) (s : Seen) (u : State) → (c ≡ Some (OnFile Take) → (m : Message) × IsIn m w.sent × IsMessage input m) → stored_in d ≡ Some s → Comes c input t d u →

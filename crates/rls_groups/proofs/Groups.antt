@@ -1,6 +1,6 @@
 -- A group whose members work by commands and by sessions: its files stand for the histories of a good world, from event to event.
 use Rattle.std.proofs.Common.{◌≡◌, ◌∙◌, ◌≤◌, ℕ, Bool, true, false, List, [], ◌∷◌, ◌++◌, Option, Some, Result, Ok, refl, sym, ap, subst, inl, inr}
-use Rattle.std.specs.Prelude.{slice_get, slice_set}
+use Rattle.std.specs.Prelude.{◌==◌, slice_get, slice_set}
 use Rattle.std.proofs.lemmas.List.{append-nil}
 use Rattle.rls_ident.specs.declared.limits.TheConstants.{MEMBERS}
 use Rattle.rls_ident.specs.Lists.{IsIn}
@@ -10,9 +10,10 @@ use Rattle.rls_model.specs.Laws.{IsAt}
 use Rattle.rls_model.specs.Receiving.{State}
 use Rattle.rls_model.specs.WellFormed.{IsLarge}
 use Rattle.rls_model.specs.Worlds.{World, empty_world}
-use Rattle.rls_model.proofs.OnePlace.{get_set_same}
+use Rattle.rls_model.proofs.OnePlace.{get_set_other, get_set_same}
 use Rattle.rls_model.proofs.WorldsCommands.{with_done}
-use Rattle.rls_model.proofs.WorldsInvariant.{at_later}
+use Rattle.rls_model.proofs.WorldsInvariant.{one_state}
+use Rattle.rls_ident.proofs.Members.{bool_cases, eq_is, eq_not}
 use Rattle.rls_seen.specs.Seen.{Seen}
 use Rattle.rls_report.specs.declared.failures.CommandError.{CommandError}
 use Rattle.rls_stages.proofs.Files.{IsOpened, opened}
@@ -23,17 +24,40 @@ use Rattle.rls_top.specs.Due.{Due, due_of_words}
 use Rattle.rls_top.specs.Groups.{Group, due_of, files_with, messages_in, stored_in}
 use Rattle.rls_top.specs.Words.{command_of}
 use Rattle.rls_top.proofs.GroupCommands.{Leads, command_leads, kept_for}
-use Rattle.rls_top.proofs.Groups.{IsLater, IsThere, Matches, fresh_matches, later_self, later_trans, matches_with, there}
+use Rattle.rls_top.proofs.Groups.{IsLater, IsThere, Matches, fresh_matches, matches_with, there}
 use Rattle.rls_session.specs.Answers.{answer}
 use Rattle.rls_session.specs.Courses.{holds}
 use Rattle.rls_session.specs.Sessions.{by_parts}
 use Rattle.rls_groups.specs.Events.{AreOfGroup, Commands, Deed, Desk, Event, IsOfGroup, IsRun, Sits, after_run, at_desk, due_on, printed_of, replica_at, replied_at, replied_on, saved_of, saved_with, session_at, stored_by, stored_of}
 use Rattle.rls_groups.specs.Groups.{HasReport, IsClean, IsCommanded, IsHeld, IsMeant, SessionsClean}
 use Rattle.rls_groups.specs.Lives.{Life, after_deed, after_words, begun, lived, lived_all, states_run, states_with}
-use Rattle.rls_groups.proofs.Commands.{comes_states, command_meant, set_at}
+use Rattle.rls_groups.proofs.Staying.{Follows, follows_self, follows_trans}
+use Rattle.rls_groups.proofs.Commands.{command_follows, comes_states, command_meant, set_at}
 use Rattle.rls_groups.proofs.Sessions.{All, EndsSo, all, asked, ends_so, found}
 
 -- ---- what a group and a world have in common
+
+-- each member's history went on, and what was there stays there
+abbrev pub Goes : World → World → Type 0
+Goes w v = (i : ℕ) (t : State) → IsAt w i t → (u : State) × IsAt v i u × Follows t u
+
+goes_self : (w : World) → Goes w w
+goes_self w i t h = (t, h, follows_self t)
+
+goes_trans : (w v u : World) → Goes w v → Goes v u → Goes w u
+goes_trans w v u f k i t h =
+    let p = f i t h in
+    let q = k i p.0 p.1 in
+    (q.0, q.1, follows_trans t p.0 q.0 p.2 q.2)
+
+goes_with : (w : World) (i : ℕ) (t u : State) (out : List Message) → IsAt w i t → Follows t u → Goes w (with_done w i u out)
+goes_with w i t u out h f j z k =
+    bool_cases (i == j)
+    (λ e. let g = eq_is i j e in (u, ap (slice_get (slice_set w.states i u)) (sym g) ∙ get_set_same w.states i t u h, subst (λ (y : State). Follows y u) (one_state w i j t z h k g) f))
+    (λ e. (z, get_set_other w.states i j u (eq_not i j e) ∙ k, follows_self z))
+
+pub as_later : (w v : World) → Goes w v → IsLater w v
+as_later w v f i t h = let r = f i t h in (r.0, r.1, (r.2).0)
 
 pub record Lives (g n : ℕ) (l : Life) (w : World) : Type 0 where
   pub matches : Matches g n l.group w
@@ -44,7 +68,7 @@ pub record Runs (g n : ℕ) (l : Life) (i : ℕ) (deed : Deed) (w : World) : Typ
   pub world : World
   pub matches : Matches g n (after_run true l.group i deed) world
   pub states : world.states ≡ states_run true l.group l.states i deed
-  pub later : IsLater w world
+  pub later : Goes w world
 
 module _ (g n : ℕ) (l : Life) (w : World) (x : Lives g n l w) where
   abbrev G : Group
@@ -88,7 +112,7 @@ module _ (g n : ℕ) (l : Life) (w : World) (x : Lives g n l w) where
               (matches_with g n l.group w x.matches i r (stored_in k.due) (messages_in c k.due) q.state q.out q.stands q.kept q.written);
           states = subst (λ (o : Option Due). v.states ≡ states_with l.states i (stored_of o) (after_words c input)) (sym k.is)
               (ap (λ (xs : List State). slice_set xs i q.state) x.states ∙ comes_states c input l.states i r.state q.state k.due (held i r.state r.at) q.comes);
-          later = λ j u h. at_later w i j r.state q.state u r.at q.front h;
+          later = goes_with w i r.state q.state q.out r.at (command_follows w i r.state ((x.matches).stands).good r.at ((r.kept).storable).rest c input k.due q.state given q.comes);
         }
 
     pub command_means : (s : Seen) → stored_by l.group i (Commands words input) ≡ Some s → (t : State) × IsHeld l i t × IsMeant l.group i t (Commands words input) (after_deed (Commands words input) t)
@@ -149,14 +173,14 @@ module _ (g n : ℕ) (l : Life) (w : World) (x : Lives g n l w) where
           matches = subst (MatchesBy v) (sym (there_is k)) (subst (MatchesAt v (replied_at k.replica desk input)) (sym e.0)
               (matches_with g n l.group w x.matches i r (Some s) (replied_at k.replica desk input) u q.more t.stands (kept_for s u a.stands a.sane a.writable t.storable e.1) (λ b p. let y = q.told b p in (y.0, y.1, (y.2).0, (y.2).1))));
           states = subst (StatesBy v) (sym (there_is k)) (subst (StatesAt v) (sym e.0) (ap (λ (xs : List State). slice_set xs i u) x.states ∙ sym (set_at l.states i r.state s (after_deed (Sits desk input)) (held i r.state r.at))));
-          later = λ j z h. at_later w i j r.state u z r.at (q.states).front h;
+          later = goes_with w i r.state u q.more r.at (q.later).0;
         }
     ended k (inr e) = record {
       world = w;
       matches = subst (MatchesBy w) (sym (there_is k)) (subst (MatchesAt w (replied_at k.replica desk input)) (sym e.1)
           (subst (λ (ws : List (List ℕ)). Matches g n (record { files = (l.group).files; written = ws }) w) (sym (append-nil (l.group).written)) x.matches));
       states = subst (StatesBy w) (sym (there_is k)) (subst (StatesAt w) (sym e.1) x.states);
-      later = later_self w;
+      later = goes_self w;
     }
 
     pub session_runs : Runs g n l i (Sits desk input) w
@@ -191,32 +215,32 @@ module _ (g n : ℕ) (l : Life) (w : World) (x : Lives g n l w) where
   pub cleans : SessionsClean l.group
   cleans i desk input p = session_cleans i desk input p
 
-  pub event : (e : Event) → IsRun e.done l.group e.member e.deed → (v : World) × Lives g n (lived l e) v × IsLater w v
+  pub event : (e : Event) → IsRun e.done l.group e.member e.deed → (v : World) × Lives g n (lived l e) v × Goes w v
   event e p = go e.done p
     where
-      go : (done : Bool) → IsRun done l.group e.member e.deed → (v : World) × Lives g n (record { group = after_run done l.group e.member e.deed; states = states_run done l.group l.states e.member e.deed }) v × IsLater w v
-      go false q = (w, record { matches = x.matches; states = x.states }, later_self w)
+      go : (done : Bool) → IsRun done l.group e.member e.deed → (v : World) × Lives g n (record { group = after_run done l.group e.member e.deed; states = states_run done l.group l.states e.member e.deed }) v × Goes w v
+      go false q = (w, record { matches = x.matches; states = x.states }, goes_self w)
       go true q = let r = runs e.member e.deed q in (r.world, record { matches = r.matches; states = r.states }, r.later)
 
 -- ---- all events
 
 -- at each moment the group and a world have all that in common, and later worlds go on from it
 abbrev pub AtEach : ℕ → ℕ → Life → List Event → World → Type 0
-AtEach g n l es v = (before after : List Event) → before ++ after ≡ es → (u : World) × Lives g n (lived_all l before) u × IsLater u v
+AtEach g n l es v = (before after : List Event) → before ++ after ≡ es → (u : World) × Lives g n (lived_all l before) u × Goes u v
 
-pub all_events : (g n : ℕ) (l : Life) (w : World) (es : List Event) → Lives g n l w → AreOfGroup l.group es → (v : World) × Lives g n (lived_all l es) v × IsLater w v × AtEach g n l es v
-all_events g n l w [] x p = (w, x, later_self w, at_once)
+pub all_events : (g n : ℕ) (l : Life) (w : World) (es : List Event) → Lives g n l w → AreOfGroup l.group es → (v : World) × Lives g n (lived_all l es) v × Goes w v × AtEach g n l es v
+all_events g n l w [] x p = (w, x, goes_self w, at_once)
   where
     at_once : AtEach g n l [] w
-    at_once [] after e = (w, x, later_self w)
+    at_once [] after e = (w, x, goes_self w)
     at_once (b ∷ before) after e = absurd (cc)
 all_events g n l w (e ∷ es) x p =
     let q = event g n l w x e p.0 in
     let rest = all_events g n (lived l e) q.0 es q.1 p.1 in
-    let later : IsLater w rest.0 = later_trans w q.0 rest.0 q.2 rest.2 in
+    let later : Goes w rest.0 = goes_trans w q.0 rest.0 q.2 rest.2 in
     (rest.0, rest.1, later, at_each rest.0 later rest.3)
   where
-    at_each : (v : World) → IsLater w v → AtEach g n (lived l e) es v → AtEach g n l (e ∷ es) v
+    at_each : (v : World) → Goes w v → AtEach g n (lived l e) es v → AtEach g n l (e ∷ es) v
     at_each v later f [] after q = (w, x, later)
     at_each v later f (b ∷ before) after q =
         let first : b ≡ e = cc in

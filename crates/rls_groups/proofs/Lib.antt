@@ -1,4 +1,5 @@
 mod Past
+mod Staying
 mod Requests
 mod Steps
 mod Lines

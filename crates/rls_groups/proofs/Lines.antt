@@ -12,20 +12,24 @@ use Rattle.rls_model.specs.Worlds.{World, with_state}
 use Rattle.rls_model.proofs.HistoryNumbers.{front_self, front_trans}
 use Rattle.rls_model.proofs.MemberSteps.{edits_own, here, keep, start}
 use Rattle.rls_model.proofs.NothingReady.{IsAtRest, edited_done, made_alone, rest_steps}
+use Rattle.rls_model.proofs.WorldsArrived.{IsThere}
 use Rattle.rls_model.proofs.WorldsEdits.{AllReadWell}
 use Rattle.rls_model.proofs.WorldsInvariant.{IsGood}
 use Rattle.rls_report.specs.declared.failures.LineFault.{LineFault}
+use Rattle.rls_ops.specs.declared.op.Op.{Op}
 use Rattle.rls_groups.specs.Groups.{AreMade}
+use Rattle.rls_groups.proofs.Staying.{Follows, edit_stays}
 
 -- what lines make of a stage
 pub record Ran {L : Type 0} (reads : State → L → Result Edit LineFault) (p : Progress) (ls : List L) (q : Progress) : Type 0 where
   pub made : AreMade reads p.state ls q.state
   pub counts : q.counts ≡ p.counts
   pub front : IsFront (p.state).history (q.state).history
+  pub stays : (o : Op) → IsThere p.state o → IsThere q.state o
 
 module _ {L : Type 0} (reads : State → L → Result Edit LineFault) (w : World) (i : ℕ) (s : State) (h : IsAt w i s) where
   ran_none : (p q : Progress) → ◌≡◌ {A = Run State LineFault} (Done p) (Done q) → Ran reads p [] q
-  ran_none p q e = let same : p ≡ q = cc in subst (Ran reads p []) same (record { made = refl; counts = refl; front = front_self (p.state).history })
+  ran_none p q e = let same : p ≡ q = cc in subst (Ran reads p []) same (record { made = refl; counts = refl; front = front_self (p.state).history; stays = λ o u. u })
 
   from : (ls : List L) (k : ℕ) (p q : Progress) → p.limit ≡ None → IsGood (with_state w i p.state) → IsAtRest p.state → AllReadWell reads ls → run_from reads k p ls ≡ Done q → Ran reads p ls q
   from [] k p q none good rest well e = ran_none p q e
@@ -52,8 +56,9 @@ module _ {L : Type 0} (reads : State → L → Result Edit LineFault) (w : World
             made = (edit, f, b.0, b.1, r.front, r.made);
             counts = r.counts;
             front = front_trans (p.state).history t.history (q.state).history (inr (front_self (p.state).history)) r.front;
+            stays = λ o u. r.stays o (edit_stays v i p.state edit o good at u);
           }
 
-  pub lines_made : (q : Progress) (ls : List L) → IsGood w → IsAtRest s → AllReadWell reads ls → run_lines reads s ls ≡ Done q → AreMade reads s ls q.state × (q.counts ≡ no_counts)
+  pub lines_made : (q : Progress) (ls : List L) → IsGood w → IsAtRest s → AllReadWell reads ls → run_lines reads s ls ≡ Done q → AreMade reads s ls q.state × (q.counts ≡ no_counts) × Follows s q.state
   unfolding run_lines
-  lines_made q ls good rest well e = let r = from ls 1 (started None s) q refl (start w i s None good h).good rest well e in (r.made, r.counts)
+  lines_made q ls good rest well e = let r = from ls 1 (started None s) q refl (start w i s None good h).good rest well e in (r.made, r.counts, (r.front, r.stays))

@@ -19,7 +19,8 @@ use Rattle.rls_top.proofs.Groups.{moment}
 use Rattle.rls_groups.specs.Events.{Event}
 use Rattle.rls_groups.specs.Groups.{InOneOrder, IsHeld, WasHeld}
 use Rattle.rls_groups.specs.Lives.{Life, begun, lived_all}
-use Rattle.rls_groups.proofs.Groups.{AtEach, Lives}
+use Rattle.rls_groups.proofs.Groups.{AtEach, Lives, as_later}
+use Rattle.rls_groups.proofs.Staying.{has_or_holds, is_there}
 use Rattle.rls_groups.proofs.Past.{past_legal}
 
 module _ (g n : ℕ) (l : Life) (w : World) (x : Lives g n l w) where
@@ -54,9 +55,19 @@ module _ (g n : ℕ) (l : Life) (w : World) (x : Lives g n l w) where
           moments = λ before after i e few.
               let r = each before after e in
               let now = lived_all (begun g n) before in
-              let m = moment g n now.group r.0 w M i (r.1).matches r.2 all few in
+              let m = moment g n now.group r.0 w M i (r.1).matches (as_later r.0 w r.2) all few in
               let later = r.2 i m.0 m.1 in
-              record { state = m.0; held = ap (λ (xs : List State). slice_get xs i) (sym (r.1).states) ∙ m.1; member = m.2; ordered = m.3; goes_on = (later.0, held i later.0 later.1, later.2) };
+              record {
+                state = m.0;
+                held = ap (λ (xs : List State). slice_get xs i) (sym (r.1).states) ∙ m.1;
+                member = m.2;
+                ordered = m.3;
+                goes_on = (
+                  later.0,
+                  held i later.0 later.1,
+                  ((later.2).0, λ o p. has_or_holds later.0 o ((((x.matches).file i later.0 later.1).2).storable).rest ((later.2).1 o (is_there m.0 o p))),
+                );
+              };
           made_by_edits = made_by;
           edits = λ i H edit cs is fits p shown. let q = was i (edited H edit) p in law.3 H edit cs (past_legal w good i (edited H edit) q).0 is fits (part i (edited H edit) q) shown;
           deletions = λ i j H K edit cs c p q shown o u. let a = was i H p in let b = was j K q in law.4 H K edit cs c (past_legal w good i H a) (part i H a) (past_legal w good j K b) (part j K b) shown o u;

@@ -36,7 +36,7 @@ module _ {S T M A : Type 0} (answer : Answers S) (other : Answers T) (gather : S
   abbrev pub Went : ℕ → S → T → List ℕ → List M → Type 0
   Went n s t bytes out = Goes (course_from answer n s bytes) (course_from other n t bytes) (holds_from answer P n s bytes) (λ u. holds_from other (Q u) n t bytes) (gathered_from answer gather n s bytes) t out
 
-  module _ (same : (t : T) → L t t) (trans : (t u v : T) → L t u → L u v → L t v) where
+  module _ (same : (s : S) (t : T) (out : List M) → I s t out → L t t) (trans : (t u v : T) → L t u → L u v → L t v) where
     stays : (s : S) (t : T) (out : List M) → I s t out → I s t (out ++ [])
     stays s t out i = subst (I s t) (sym (append-nil out)) i
 
@@ -56,7 +56,7 @@ module _ {S T M A : Type 0} (answer : Answers S) (other : Answers T) (gather : S
     -- B is asked of the input, and F then holds of its requests
     module _ (B : List ℕ → Type 0) (F : Request → Type 0) (split : (b : ℕ) (bytes : List ℕ) → B (b ∷ bytes) → F (cut (b ∷ bytes)).request × B bytes) (step : (s : S) (t : T) (out : List M) (r : Request) → F r → G s r → I s t out → Steps s t out r) where
       pub went : (n : ℕ) (s : S) (t : T) (bytes : List ℕ) (out : List M) → B bytes → holds_from answer G n s bytes → I s t out → Went n s t bytes out
-      went n s t [] out b g i = record { more = []; replies = refl; used = refl; states = stays s t out i; later = same t; clean = tt; meant = tt; told = λ a p. absurd p }
+      went n s t [] out b g i = record { more = []; replies = refl; used = refl; states = stays s t out i; later = same s t out i; clean = tt; meant = tt; told = λ a p. absurd p }
       went (suc n) s t (x ∷ bytes) out b g i = went n s t bytes out (split x bytes b).1 g i
       went zero s t (x ∷ bytes) out b g i =
           let c = cut (x ∷ bytes) in
@@ -65,6 +65,6 @@ module _ {S T M A : Type 0} (answer : Answers S) (other : Answers T) (gather : S
           go : (r : Request) (size : ℕ) → F r → holds_on answer G s r (λ u. holds_from answer G (size - 1) u bytes) → ((u : S) (v : T) (o : List M) → holds_from answer G (size - 1) u bytes → I u v o → Went (size - 1) u v bytes o) →
               Goes (go_on answer s r size (λ u. course_from answer (size - 1) u bytes)) (go_on other t r size (λ u. course_from other (size - 1) u bytes)) (holds_on answer P s r (λ u. holds_from answer P (size - 1) u bytes))
               (λ v. holds_on other (Q v) t r (λ u. holds_from other (Q v) (size - 1) u bytes)) (gathered_on answer gather s r (λ u. gathered_from answer gather (size - 1) u bytes)) t out
-          go (Does Quit) size f g rest = record { more = []; replies = refl; used = refl; states = stays s t out i; later = same t; clean = tt; meant = tt; told = λ a p. absurd p }
+          go (Does Quit) size f g rest = record { more = []; replies = refl; used = refl; states = stays s t out i; later = same s t out i; clean = tt; meant = tt; told = λ a p. absurd p }
           go (Does order) size f g rest = let k = step s t out (Does order) f g.0 i in joined s t out (Does order) size _ _ _ _ _ k (rest _ _ _ g.1 k.next)
           go (Takes message) size f g rest = let k = step s t out (Takes message) f g.0 i in joined s t out (Takes message) size _ _ _ _ _ k (rest _ _ _ g.1 k.next)

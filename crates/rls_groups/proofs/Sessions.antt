@@ -9,7 +9,7 @@ use Rattle.rls_codec.specs.CodecLaws.{IsBytes}
 use Rattle.rls_codec.proofs.Formats.{IsBytes-tail}
 use Rattle.rls_model.specs.Receiving.{State}
 use Rattle.rls_model.specs.Worlds.{World}
-use Rattle.rls_model.proofs.HistoryNumbers.{front_self, front_trans}
+use Rattle.rls_model.proofs.HistoryNumbers.{front_self}
 use Rattle.rls_model.proofs.OnePlace.{set_get}
 use Rattle.rls_model.proofs.WorldsCommands.{Stands, with_done}
 use Rattle.rls_seen.specs.Seen.{Seen}
@@ -29,6 +29,7 @@ use Rattle.rls_groups.specs.Events.{Desk, IsSession, IsWritten, at_desk, replica
 use Rattle.rls_groups.specs.Groups.{IsClean}
 use Rattle.rls_groups.proofs.Answered.{Both, IsDone, IsTold, Later, steps}
 use Rattle.rls_groups.proofs.Requests.{Went, went}
+use Rattle.rls_groups.proofs.Staying.{follows_self, follows_trans}
 
 -- ---- how it ends
 
@@ -81,7 +82,7 @@ module _ (g n : ℕ) (G : Group) (w : World) (x : Matches g n G w) (i : ℕ) (r 
   pub all : IsSession G s desk input → All
   all q =
       went (answer by_parts) (answer by_history) replied (Both g n G w x i r.state r.at) (Later g n G w x i r.state r.at) (IsWritten G) (IsClean G) (IsDone g n G w x i r.state r.at) (IsTold g n G w x i r.state r.at)
-      (λ f. front_self (f.state).history) (λ e f u h k. front_trans (e.state).history (f.state).history (u.state).history h k)
+      (λ d f out b. (follows_self f.state, ((b.underway).storable).rest)) (λ e f u h k. (follows_trans e.state f.state u.state h.0 k.0, k.1))
       IsBytes IsGiven (λ b bytes c. (cut_given (b ∷ bytes) c, IsBytes-tail b bytes c))
       (λ d f out k ok given b. steps g n G w x i r.state r.at d f out b k ok given)
       0 (at_desk s desk) (at_desk r.state desk) input [] q.bytes q.given (first q)

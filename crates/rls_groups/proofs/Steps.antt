@@ -14,7 +14,7 @@ use Rattle.rls_model.specs.Receiving.{State, accept, after_release, release_all,
 use Rattle.rls_model.specs.Taking.{message_for, started, take_message}
 use Rattle.rls_model.specs.WellFormed.{IsEdit}
 use Rattle.rls_model.specs.Worlds.{World, with_state}
-use Rattle.rls_model.proofs.HistoryNumbers.{front_self, front_trans}
+use Rattle.rls_model.proofs.HistoryNumbers.{front_self}
 use Rattle.rls_model.proofs.MemberSteps.{edited_going, taken_going}
 use Rattle.rls_model.proofs.NothingReady.{IsAtRest, edited_done, made_alone}
 use Rattle.rls_model.proofs.OnePlace.{get_set_same, set_set}
@@ -28,6 +28,7 @@ use Rattle.rls_store.proofs.HistoryRuns.{taken_storable}
 use Rattle.rls_store.proofs.HistorySteps.{edited_storing, stored, storing}
 use Rattle.rls_undo.specs.UndoLaws.{AreEdits}
 use Rattle.rls_undo.specs.Undoing.{performed, unless}
+use Rattle.rls_groups.proofs.Staying.{Follows, edit_stays, follows_self, follows_trans}
 
 -- ---- at rest
 
@@ -89,13 +90,15 @@ module _ (g n : ℕ) (w : World) (i : ℕ) (s : State) (h : IsAt w i s) where
         }
 
   -- edits, one after another, up to the first that is refused
-  pub performs : (es : List Edit) (t : State) (out : List Message) → AreEdits es → IsUnderway g n w i t out → IsUnderway g n w i (performed t es) out × IsFront t.history (performed t es).history
-  performs [] t out a k = (k, front_self t.history)
+  pub performs : (es : List Edit) (t : State) (out : List Message) → AreEdits es → IsUnderway g n w i t out → IsUnderway g n w i (performed t es) out × Follows t (performed t es)
+  performs [] t out a k = (k, follows_self t)
   performs (e ∷ es) t out a k = go (edit_fault t.history e) refl (λ l. performs es (accept t (made t.history e)) out a.1 l)
     where
       u : State
       u = accept t (made t.history e)
 
-      go : (f : Option EditError) → edit_fault t.history e ≡ f → (IsUnderway g n w i u out → IsUnderway g n w i (performed u es) out × IsFront u.history (performed u es).history) → IsUnderway g n w i (unless f t (performed u es)) out × IsFront t.history (unless f t (performed u es)).history
-      go None q rest = let r = rest (edits t out k e a.0 q) in (r.0, front_trans t.history u.history (performed u es).history (inr (front_self t.history)) r.1)
-      go (Some x) q rest = (k, front_self t.history)
+      go : (f : Option EditError) → edit_fault t.history e ≡ f → (IsUnderway g n w i u out → IsUnderway g n w i (performed u es) out × Follows u (performed u es)) → IsUnderway g n w i (unless f t (performed u es)) out × Follows t (unless f t (performed u es))
+      go None q rest =
+          let r = rest (edits t out k e a.0 q) in
+          (r.0, follows_trans t u (performed u es) (inr (front_self t.history), λ o p. edit_stays (with_done w i t out) i t e o (k.stands).good (at t out) p) r.1)
+      go (Some x) q rest = (k, follows_self t)

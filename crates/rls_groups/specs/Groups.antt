@@ -95,9 +95,13 @@ IsAnswered d (Does (Edit line)) = (edit : model.Edit) → read_line by_history d
 IsAnswered d (Takes message) = IsTaken d.state message ((answer by_history d (Takes message)).state).state
 IsAnswered d request = Unit {0}
 
--- and what it made stands in the history that is stored
+-- the history goes on, and what was accepted, or waited for its causes, is accepted, or waits for them
+abbrev pub GoesOn : State → State → Type 0
+GoesOn t u = IsFront t.history u.history × ((o : Op) → HasOrHolds t o → HasOrHolds u o)
+
+-- and from what it made the history goes on to the one that is stored
 abbrev pub IsStored : State → Sitting State → Request → Type 0
-IsStored u d request = IsFront ((answer by_history d request).state).state.history u.history × IsAnswered d request
+IsStored u d request = GoesOn ((answer by_history d request).state).state u × IsAnswered d request
 
 -- what a command calls for stores a file and has this report
 abbrev pub HasReport : Option Due → (List ℕ → Type 0) → Type 0
@@ -126,13 +130,13 @@ abbrev pub EachMeant : ℕ → ℕ → List Event → Type 0
 EachMeant group members es = (before after : List Event) (e : Event) (s : Seen) → before ++ (e ∷ after) ≡ es → let l = lived_all (begun group members) before in e.done ≡ true → stored_by l.group e.member e.deed ≡ Some s →
     (t : State) × IsHeld l e.member t × IsHeld (lived l e) e.member (after_deed e.deed t) × IsMeant l.group e.member t e.deed (after_deed e.deed t)
 
--- the member's file stands for its history, which goes on to the one at the end, and shows its characters in the order of M
+-- the member's file stands for its history, which shows its characters in the order of M, and goes on to the one at the end
 pub record IsMoment (group members : ℕ) (now end : Life) (M : History) (i : ℕ) : Type 0 where
   pub state : State
   pub held : IsHeld now i state
   pub member : IsOfMember group members now.group i state
   pub ordered : IsOrderedBy M state.history
-  pub goes_on : WasHeld end i state.history
+  pub goes_on : (u : State) × IsHeld end i u × GoesOn state u
 
 -- One total order of all characters: at each moment each member's file stands for a history of that member, which shows its characters in
 -- this order, and which stays the beginning of its later ones. Each operation was made by an edit of its author. Each edit does to the list
