@@ -1,5 +1,9 @@
-//! Tests of undo and of cursors.
+//! Tests of undo, also by steps, of cursors, and of what messages change: of what an editor calls beside a replica.
 #![tactic(auto)]
 
+#[cfg(test)]
+mod changing;
+#[cfg(test)]
+mod stepping;
 #[cfg(test)]
 mod undoing;

@@ -1,0 +1,375 @@
+//! Undo by steps: two members, of whom the first keeps steps.
+
+use rls_replica::{PastError, Replica};
+use rls_steps::{StepError, Steps};
+use std::alloc::{AllocError, Global};
+use std::test::Fail;
+use test_steps::answers::edited;
+use test_steps::rows::{all_go_within, change_of, cut, first_fault, number, word};
+use test_steps::steps::{Change, edit_of, letter, takes};
+
+/// What is done.
+#[derive(Clone, Copy)]
+enum Move {
+    /// The first member edits, in steps.
+    Edit(Change),
+    /// The first member edits without steps.
+    Pass(Change),
+    /// The second member edits.
+    Other(Change),
+    /// The second takes the message of the first.
+    Give,
+    /// The first takes the message of the second.
+    Take,
+    /// The first drops what is stable.
+    Drop,
+    Close,
+    Undo,
+    Redo,
+    /// How many groups can be undone and redone.
+    Count,
+    /// How many names are kept.
+    Named,
+    /// Only so many steps of so many characters are left.
+    Forget(usize, u64),
+    Settle,
+}
+
+/// A move, its answer, and the text that the first member then shows, with ` | ` between them.
+type Row = &'static str;
+
+/// The move: `edit`, `pass` or `other` with an edit after it, `forget 2 100`, or the words for the others.
+fn move_of(words: &'static str) -> Result<Move, Fail> {
+    let (verb, rest) = word(words);
+    match verb {
+        "edit" => Ok(Move::Edit(change_of(rest)?)),
+        "pass" => Ok(Move::Pass(change_of(rest)?)),
+        "other" => Ok(Move::Other(change_of(rest)?)),
+        "forget" => forget_of(rest),
+        _ => plain_move(words).ok_or_else(|| Fail::new(words)),
+    }
+}
+
+/// What is left of the steps and of their characters.
+fn forget_of(words: &'static str) -> Result<Move, Fail> {
+    let (steps, rest) = number(words)?;
+    let (chars, _) = number(rest)?;
+    Ok(Move::Forget(steps, chars))
+}
+
+/// The move that has just a name.
+fn plain_move(words: &str) -> Option<Move> {
+    Some(match words {
+        "give" => Move::Give,
+        "take" => Move::Take,
+        "drop" => Move::Drop,
+        "close" => Move::Close,
+        "undo" => Move::Undo,
+        "redo" => Move::Redo,
+        "count" => Move::Count,
+        "named" => Move::Named,
+        "settle" => Move::Settle,
+        _ => return None,
+    })
+}
+
+/// The two members, and the steps of the first one.
+#[derive(Drop)]
+struct Pair {
+    first: Replica,
+    second: Replica,
+    steps: Steps,
+}
+
+fn text_of_steps(alloc: Global, answer: Result<usize, StepError>) -> Result<String, AllocError> {
+    match answer {
+        Ok(steps) => format!(in alloc; "{steps}"),
+        Err(error) => format!(in alloc; "{error:?}"),
+    }
+}
+
+fn text_of_edit(alloc: Global, answer: Result<u32, StepError>) -> Result<String, AllocError> {
+    match answer {
+        Ok(seq) => format!(in alloc; "{seq}"),
+        Err(error) => format!(in alloc; "{error:?}"),
+    }
+}
+
+fn text_of_settled(alloc: Global, answer: Result<(), PastError>) -> Result<String, AllocError> {
+    format!(in alloc; "{answer:?}")
+}
+
+/// An edit in steps.
+fn edit(
+    alloc: Global,
+    steps: &mut Steps,
+    replica: &mut Replica,
+    change: Change,
+) -> Result<String, AllocError> {
+    let edit = edit_of(alloc, change)?;
+    text_of_edit(alloc, steps.edit(replica, &edit))
+}
+
+/// An edit that is no step.
+fn pass(alloc: Global, replica: &mut Replica, change: Change) -> Result<String, AllocError> {
+    let edit = edit_of(alloc, change)?;
+    edited(alloc, replica.edit(&edit))
+}
+
+/// The one's message is taken by the other.
+fn give(alloc: Global, from: &Replica, to: &mut Replica) -> Result<String, Fail> {
+    let message = letter(from, to)?;
+    let taken = takes(to, message)?.is_ok();
+    Ok(format!(in alloc; "{taken}")?)
+}
+
+fn close(alloc: Global, steps: &mut Steps) -> Result<String, AllocError> {
+    steps.close();
+    String::from_str(alloc, "closed")
+}
+
+fn count(alloc: Global, steps: &Steps) -> Result<String, AllocError> {
+    let (undoable, redoable) = (steps.undoable(), steps.redoable());
+    format!(in alloc; "{undoable} {redoable}")
+}
+
+fn named(alloc: Global, steps: &Steps) -> Result<String, AllocError> {
+    format!(in alloc; "{}", steps.named())
+}
+
+fn forget(alloc: Global, steps: &mut Steps, most: usize, chars: u64) -> Result<String, AllocError> {
+    steps.forget(most, chars);
+    String::from_str(alloc, "forgotten")
+}
+
+fn drop_stable(alloc: Global, replica: &mut Replica) -> Result<String, AllocError> {
+    replica.drop_stable();
+    String::from_str(alloc, "dropped")
+}
+
+/// Does what changes the text of a member.
+fn change(alloc: Global, pair: &mut Pair, what: &Move) -> Result<String, Fail> {
+    match what {
+        Move::Edit(change) => Ok(edit(alloc, &mut pair.steps, &mut pair.first, *change)?),
+        Move::Pass(change) => Ok(pass(alloc, &mut pair.first, *change)?),
+        Move::Other(change) => Ok(pass(alloc, &mut pair.second, *change)?),
+        Move::Give => give(alloc, &pair.first, &mut pair.second),
+        Move::Take => give(alloc, &pair.second, &mut pair.first),
+        Move::Undo => Ok(text_of_steps(alloc, pair.steps.undo(&mut pair.first))?),
+        Move::Redo => Ok(text_of_steps(alloc, pair.steps.redo(&mut pair.first))?),
+        _ => Ok(look(alloc, pair, what)?),
+    }
+}
+
+/// Does what doesn't.
+fn look(alloc: Global, pair: &mut Pair, what: &Move) -> Result<String, AllocError> {
+    match what {
+        Move::Drop => drop_stable(alloc, &mut pair.first),
+        Move::Close => close(alloc, &mut pair.steps),
+        Move::Settle => text_of_settled(alloc, pair.steps.settle(&pair.first)),
+        Move::Forget(most, chars) => forget(alloc, &mut pair.steps, *most, *chars),
+        Move::Named => named(alloc, &pair.steps),
+        _ => count(alloc, &pair.steps),
+    }
+}
+
+/// Whether the move is answered so.
+fn is_answered(alloc: Global, pair: &mut Pair, what: &Move, expected: &str) -> Result<bool, Fail> {
+    Ok(change(alloc, pair, what)?.as_str() == expected)
+}
+
+/// Whether the replica shows this text.
+fn shows(replica: &Replica, text: &str) -> Result<bool, Fail> {
+    Ok(replica.text()?.to_utf8()?.as_str() == text)
+}
+
+/// Whether the move goes as it has to.
+fn goes(alloc: Global, pair: &mut Pair, row: Row) -> Result<bool, Fail> {
+    let (words, rest) = cut(row)?;
+    let (expected, text) = cut(rest)?;
+    let what = move_of(words)?;
+    match is_answered(alloc, pair, &what, expected)? {
+        true => shows(&pair.first, text),
+        false => Ok(false),
+    }
+}
+
+fn fault_among(alloc: Global, pair: &mut Pair, rows: &[Row]) -> Result<Option<usize>, Fail> {
+    first_fault(rows, |row| goes(alloc, pair, *row))
+}
+
+/// Two fresh members of group 7, of which the first knows of this many.
+fn pair_of(alloc: Global, members: u32) -> Result<Pair, Fail> {
+    Ok(Pair {
+        first: Replica::new(alloc, 7, 0, members)?,
+        second: Replica::new(alloc, 7, 1, 2)?,
+        steps: Steps::new(alloc),
+    })
+}
+
+/// Leads two fresh members, the first of a group of this many, through the rows, and answers the first that goes otherwise than it
+/// has to.
+fn fault(alloc: Global, members: u32, rows: &[Row]) -> Result<Option<usize>, Fail> {
+    let mut pair = pair_of(alloc, members)?;
+    fault_among(alloc, &mut pair, rows)
+}
+
+/// All the way back and forth: two backspaces, three deletions forward, typing with a backspace, and what `hello`, `d 0 3` leaves.
+const ALL_THE_WAY: &[Row] = &[
+    "undo | Nothing | ",
+    "redo | Nothing | ",
+    "edit insert 0 hello | 1 | hello",
+    "close | closed | hello",
+    "edit delete 0 3 | 2 | lo",
+    "undo | 1 | hello",
+    "undo | 1 | ",
+    "undo | Nothing | ",
+    "redo | 1 | hello",
+    "redo | 1 | lo",
+    "redo | Nothing | lo",
+    "undo | 1 | hello",
+    "edit delete 4 1 | 8 | hell",
+    "close | closed | hell",
+    "edit delete 3 1 | 9 | hel",
+    "count | 3 0 | hel",
+    "undo | 1 | hell",
+    "undo | 1 | hello",
+    "undo | 1 | ",
+    "count | 0 3 | ",
+    "redo | 1 | hello",
+    "redo | 1 | hell",
+    "redo | 1 | hel",
+    "undo | 1 | hell",
+    "undo | 1 | hello",
+    "edit delete 1 1 | 18 | hllo",
+    "close | closed | hllo",
+    "edit delete 1 1 | 19 | hlo",
+    "close | closed | hlo",
+    "edit delete 1 1 | 20 | ho",
+    "undo | 1 | hlo",
+    "undo | 1 | hllo",
+    "undo | 1 | hello",
+    "redo | 1 | hllo",
+    "undo | 1 | hello",
+    "edit insert 5 abc | 26 | helloabc",
+    "close | closed | helloabc",
+    "edit delete 7 1 | 27 | helloab",
+    "undo | 1 | helloabc",
+    "undo | 1 | hello",
+];
+
+/// A group goes and comes back as one.
+const GROUPS: &[Row] = &[
+    "edit insert 0 a | 1 | a",
+    "edit insert 1 b | 2 | ab",
+    "edit insert 2 c | 3 | abc",
+    "edit delete 1 1 | 4 | ac",
+    "count | 1 0 | ac",
+    "close | closed | ac",
+    "edit insert 2 de | 5 | acde",
+    "edit insert 0 x | 6 | xacde",
+    "count | 2 0 | xacde",
+    "undo | 2 | ac",
+    "undo | 4 | ",
+    "count | 0 2 | ",
+    "redo | 4 | ac",
+    "redo | 2 | xacde",
+    "undo | 2 | ac",
+    "edit insert 1 - | 21 | a-c",
+    "count | 2 0 | a-c",
+    "redo | Nothing | a-c",
+    "undo | 1 | ac",
+    "undo | 4 | ",
+];
+
+/// What others wrote stays, also through renames of both, settled or not.
+const BESIDE_OTHERS: &[Row] = &[
+    "pass insert 0 hello | 1 | hello",
+    "edit insert 2 XY | 2 | heXYllo",
+    "give | true | heXYllo",
+    "other insert 3 z | 1 | heXYllo",
+    "take | true | heXzYllo",
+    "undo | 1 | hezllo",
+    "count | 0 1 | hezllo",
+    "redo | 2 | heXzYllo",
+    "pass rename | 7 | heXzYllo",
+    "undo | 2 | hezllo",
+    "redo | 2 | heXzYllo",
+    "settle | Ok(()) | heXzYllo",
+    "give | true | heXzYllo",
+    "other rename | 2 | heXzYllo",
+    "other insert 0 q | 3 | heXzYllo",
+    "take | true | qheXzYllo",
+    "undo | 2 | qhezllo",
+];
+
+/// A dropped epoch is told; what was settled before is as good as ever.
+const DROPPED: &[Row] = &[
+    "edit insert 0 hello | 1 | hello",
+    "pass rename | 2 | hello",
+    "drop | dropped | hello",
+    "undo | Dropped { epoch: Origin } | hello",
+    "edit insert 0 a | Dropped { epoch: Origin } | hello",
+    "settle | Err(Dropped { epoch: Origin }) | hello",
+];
+
+const SETTLED: &[Row] = &[
+    "edit insert 0 hello | 1 | hello",
+    "close | closed | hello",
+    "edit delete 0 2 | 2 | llo",
+    "pass rename | 3 | llo",
+    "settle | Ok(()) | llo",
+    "drop | dropped | llo",
+    "undo | 1 | hello",
+    "undo | 1 | ",
+    "redo | 1 | hello",
+    "edit rename | 7 | hello",
+    "undo | 1 | ",
+    "edit leave | 9 | ",
+    "redo | Edit(Left) | ",
+    "count | 0 2 | ",
+];
+
+/// The oldest groups are forgotten whole, by the number of steps and by that of characters; the others go as before.
+const FORGOTTEN: &[Row] = &[
+    "edit insert 0 ab | 1 | ab",
+    "close | closed | ab",
+    "edit insert 2 cd | 2 | abcd",
+    "edit delete 0 1 | 3 | bcd",
+    "close | closed | bcd",
+    "edit insert 3 e | 4 | bcde",
+    "count | 3 0 | bcde",
+    "named | 5 | bcde",
+    "forget 4 6 | forgotten | bcde",
+    "count | 3 0 | bcde",
+    "forget 2 6 | forgotten | bcde",
+    "count | 1 0 | bcde",
+    "undo | 1 | bcd",
+    "undo | Nothing | bcd",
+    "forget 0 0 | forgotten | bcd",
+    "redo | 1 | bcde",
+    "close | closed | bcde",
+    "edit insert 0 xyz | 7 | xyzbcde",
+    "close | closed | xyzbcde",
+    "edit delete 5 1 | 8 | xyzbce",
+    "forget 9 4 | forgotten | xyzbce",
+    "count | 2 0 | xyzbce",
+    "undo | 1 | xyzbcde",
+    "undo | 1 | bcde",
+    "undo | Nothing | bcde",
+];
+
+/// The tables, each with the size of the first member's group.
+const TABLES: &[(u32, &[Row])] = &[
+    (2, ALL_THE_WAY),
+    (2, GROUPS),
+    (2, BESIDE_OTHERS),
+    (1, DROPPED),
+    (1, SETTLED),
+    (2, FORGOTTEN),
+];
+
+#[test]
+fn steps_are_answered(rt: HostRuntime) -> Result<(), Fail> {
+    all_go_within(TABLES, |(members, rows)| fault(rt.alloc(), *members, rows))
+}
