@@ -10,3 +10,4 @@ mod Groups
 mod Ordered
 mod Law
 mod Runs
+mod Premises

@@ -2,3 +2,4 @@ pub mod Events
 pub mod Lives
 pub mod Groups
 pub mod Runs
+pub mod Premises

@@ -1,6 +1,7 @@
 //! Laws of groups. Each function runs nothing and takes no memory; its contract states the fact.
 
 ghost use Rattle.rls_groups.specs.Groups.{GroupsConverge};
+ghost use Rattle.rls_groups.specs.Premises.{PutBack, UnsavedHandedOn, UsedTwice};
 ghost use Rattle.rls_groups.specs.Runs.{CommandsLeave, SessionsLeave, StopsLeave};
 
 use rls_journal::Disk;
@@ -24,4 +25,12 @@ pub fn runs_are_events()
 /// The same of a stop at any moment, by the clauses of `rls_durable`.
 pub fn stops_are_events<D: Disk>()
     ensures stops { StopsLeave D.moment D.left_since }
+{}
+
+/// Without the premises it fails, by three worked examples: a message that is handed on though its session stores nothing, a file that is put
+/// back from a copy, and a number that two replicas have.
+pub fn premises_needed()
+    ensures unsaved { UnsavedHandedOn }
+    ensures put_back { PutBack }
+    ensures twice { UsedTwice }
 {}
