@@ -28,12 +28,12 @@ use Rattle.rls_top.proofs.Groups.{IsLater, IsThere, Matches, fresh_matches, matc
 use Rattle.rls_session.specs.Answers.{answer}
 use Rattle.rls_session.specs.Courses.{holds}
 use Rattle.rls_session.specs.Sessions.{by_parts}
-use Rattle.rls_groups.specs.Events.{AreOfGroup, Commands, Deed, Desk, Event, IsOfGroup, IsRun, Sits, after_run, at_desk, due_on, printed_of, replica_at, replied_at, replied_on, saved_of, saved_with, session_at, stored_by, stored_of}
-use Rattle.rls_groups.specs.Groups.{HasReport, IsClean, IsCommanded, IsHeld, IsMeant, SessionsClean}
+use Rattle.rls_groups.specs.Events.{AreOfGroup, Commands, Deed, Desk, Event, IsOfGroup, IsRun, Sits, after_run, at_desk, due_on, printed_of, replica_at, replied_at, replied_on, saved_of, saved_with, session_at, session_due, stored_by, stored_of}
+use Rattle.rls_groups.specs.Groups.{HasReport, IsClean, IsCommanded, IsHeld, IsMeant, IsSavedOrLong, SessionsClean}
 use Rattle.rls_groups.specs.Lives.{Life, after_deed, after_words, begun, lived, lived_all, states_run, states_with}
 use Rattle.rls_groups.proofs.Staying.{Follows, follows_self, follows_trans}
 use Rattle.rls_groups.proofs.Commands.{command_follows, comes_states, command_meant, set_at}
-use Rattle.rls_groups.proofs.Sessions.{All, EndsSo, all, asked, ends_so, found}
+use Rattle.rls_groups.proofs.Sessions.{All, EndsSo, all, asked, ends_so, found, saved_or_long}
 
 -- ---- what a group and a world have in common
 
@@ -177,9 +177,9 @@ module _ (g n : ℕ) (l : Life) (w : World) (x : Lives g n l w) where
         }
     ended k (inr e) = record {
       world = w;
-      matches = subst (MatchesBy w) (sym (there_is k)) (subst (MatchesAt w (replied_at k.replica desk input)) (sym e.1)
+      matches = subst (MatchesBy w) (sym (there_is k)) (subst (MatchesAt w (replied_at k.replica desk input)) (sym e.0)
           (subst (λ (ws : List (List ℕ)). Matches g n (record { files = (l.group).files; written = ws }) w) (sym (append-nil (l.group).written)) x.matches));
-      states = subst (StatesBy w) (sym (there_is k)) (subst (StatesAt w) (sym e.1) x.states);
+      states = subst (StatesBy w) (sym (there_is k)) (subst (StatesAt w) (sym e.0) x.states);
       later = goes_self w;
     }
 
@@ -193,8 +193,15 @@ module _ (g n : ℕ) (l : Life) (w : World) (x : Lives g n l w) where
         let q = k.requests in
         (r.state, held i r.state r.at, (ap (λ (y : Result Seen CommandError). (due_on y desk input).replies) (there_is k) ∙ q.replies, q.meant))
 
-    pub session_cleans : (s : Seen) × (replica_at l.group i ≡ Ok s) × holds (answer by_parts) (IsClean l.group) (at_desk s desk) input
-    session_cleans = let k = served in (k.replica, there_is k, (k.requests).clean)
+    pub session_cleans : (s : Seen) × (replica_at l.group i ≡ Ok s) × IsSavedOrLong (session_at by_parts s desk input) (session_due l.group i desk input).ending × holds (answer by_parts) (IsClean l.group) (at_desk s desk) input
+    session_cleans =
+        let k = served in
+        let c = session_at by_parts k.replica desk input in (
+          k.replica,
+          there_is k,
+          subst (λ (y : Result Seen CommandError). IsSavedOrLong c (due_on y desk input).ending) (sym (there_is k)) (saved_or_long c (ends_so c)),
+          (k.requests).clean,
+        )
 
   -- ---- any run
 

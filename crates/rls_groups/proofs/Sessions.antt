@@ -1,9 +1,9 @@
 -- A session of a member of a group, over its whole input.
-use Rattle.std.proofs.Common.{◌≡◌, ◌∙◌, ◌⊎◌, ◌≤◌, ℕ, Bool, true, false, List, [], ◌∷◌, ◌++◌, length, Option, Result, Ok, Err, IfOk, refl, sym, ap, subst, inl, inr}
+use Rattle.std.proofs.Common.{◌≡◌, ◌∙◌, ◌⊎◌, ◌≤◌, ℕ, Bool, true, false, List, [], ◌∷◌, ◌++◌, length, Option, Result, Ok, Err, IfOk, refl, sym, ap, subst, inl, inr, ◌<◌}
 use Rattle.std.specs.Prelude.{nat_lt}
 use Rattle.std.proofs.lemmas.List.{append-nil}
 use Rattle.rls_ident.specs.declared.limits.TheConstants.{FILE_BYTES, INPUT_BYTES}
-use Rattle.rls_ident.proofs.Members.{not_lt_is}
+use Rattle.rls_ident.proofs.Members.{lt_is, not_lt_is}
 use Rattle.rls_ops.specs.declared.message.Message.{Message}
 use Rattle.rls_codec.specs.CodecLaws.{IsBytes}
 use Rattle.rls_codec.proofs.Formats.{IsBytes-tail}
@@ -15,7 +15,7 @@ use Rattle.rls_model.proofs.WorldsCommands.{Stands, with_done}
 use Rattle.rls_seen.specs.Seen.{Seen}
 use Rattle.rls_report.specs.declared.failures.CommandError.{CommandError}
 use Rattle.rls_report.specs.declared.failures.CommandError.TheVariants.{TooLarge}
-use Rattle.rls_stages.specs.KeptFile.{bytes_over, loaded, replica_in, saved}
+use Rattle.rls_stages.specs.KeptFile.{bytes_over, loaded, replica_in}
 use Rattle.rls_stages.proofs.Files.{IsOpened}
 use Rattle.rls_top.specs.Groups.{Group}
 use Rattle.rls_top.proofs.GroupCommands.{opened_at}
@@ -26,34 +26,28 @@ use Rattle.rls_session.specs.Due.{due_of}
 use Rattle.rls_session.specs.Sessions.{by_history, by_parts}
 use Rattle.rls_session.proofs.Agreeing.{IsGiven, cut_given}
 use Rattle.rls_groups.specs.Events.{Desk, IsSession, IsWritten, at_desk, replica_at, replied}
-use Rattle.rls_groups.specs.Groups.{IsClean}
+use Rattle.rls_groups.specs.Groups.{IsClean, IsSavedOrLong}
 use Rattle.rls_groups.proofs.Answered.{Both, IsDone, IsTold, Later, steps}
 use Rattle.rls_groups.proofs.Requests.{Went, went}
 use Rattle.rls_groups.proofs.Staying.{follows_self, follows_trans}
 
 -- ---- how it ends
 
--- its file is stored, or it isn't
+-- its file is stored and short, or it isn't
 abbrev pub EndsSo : Course (Sitting Seen) → Type 0
-EndsSo c = (((due_of c).ending ≡ Ok (c.state).state) × (length (bytes_over (c.state).state) ≤ FILE_BYTES)) ⊎ ((e : CommandError) × ((due_of c).ending ≡ Err e))
+EndsSo c = (((due_of c).ending ≡ Ok (c.state).state) × (length (bytes_over (c.state).state) ≤ FILE_BYTES)) ⊎ (((due_of c).ending ≡ Err TooLarge) × ((INPUT_BYTES < c.used) ⊎ (FILE_BYTES < length (bytes_over (c.state).state))))
 
 pub ends_so : (c : Course (Sitting Seen)) → EndsSo c
-ends_so c = at_input (nat_lt INPUT_BYTES c.used) refl
+ends_so c = at_input (nat_lt INPUT_BYTES c.used) refl (nat_lt FILE_BYTES (length (bytes_over (c.state).state))) refl
   where
-    s : Seen
-    s = (c.state).state
+    at_input : (long : Bool) → nat_lt INPUT_BYTES c.used ≡ long → (large : Bool) → nat_lt FILE_BYTES (length (bytes_over (c.state).state)) ≡ large → EndsSo c
+    at_input true e large f = inr (rw e refl, inl (lt_is INPUT_BYTES c.used e))
+    at_input false e true f = inr (rw (e, f) refl, inr (lt_is FILE_BYTES (length (bytes_over (c.state).state)) f))
+    at_input false e false f = inl (rw (e, f) refl, not_lt_is FILE_BYTES (length (bytes_over (c.state).state)) f)
 
-    at_file : (long : Bool) → nat_lt FILE_BYTES (length (bytes_over s)) ≡ long → ((saved s ≡ Ok s) × (length (bytes_over s) ≤ FILE_BYTES)) ⊎ ((e : CommandError) × (saved s ≡ Err e))
-    at_file true e = inr (TooLarge, rw e refl)
-    at_file false e = inl (rw e refl, not_lt_is FILE_BYTES (length (bytes_over s)) e)
-
-    within : nat_lt INPUT_BYTES c.used ≡ false → ((saved s ≡ Ok s) × (length (bytes_over s) ≤ FILE_BYTES)) ⊎ ((e : CommandError) × (saved s ≡ Err e)) → EndsSo c
-    within e (inl k) = inl (rw e k.0, k.1)
-    within e (inr k) = inr (k.0, rw e k.1)
-
-    at_input : (long : Bool) → nat_lt INPUT_BYTES c.used ≡ long → EndsSo c
-    at_input true e = inr (TooLarge, rw e refl)
-    at_input false e = within e (at_file (nat_lt FILE_BYTES (length (bytes_over s))) refl)
+pub saved_or_long : (c : Course (Sitting Seen)) → EndsSo c → IsSavedOrLong c (due_of c).ending
+saved_or_long c (inl e) = inl e.0
+saved_or_long c (inr e) = inr (e.0, e.1)
 
 -- ---- all its requests
 

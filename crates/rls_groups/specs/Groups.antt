@@ -1,6 +1,6 @@
 -- The law of a group whose members work by commands and by sessions.
-use Rattle.std.specs.Prelude.{◌≡◌, ◌<◌, ◌≤◌, ◌⊎◌, ◌↔◌, ℕ, true, List, [], ◌∷◌, ◌++◌, codes, length, slice_get, Option, Some, None, Result, Ok, IsFalse}
-use Rattle.rls_ident.specs.declared.limits.TheConstants.{MEMBERS}
+use Rattle.std.specs.Prelude.{◌≡◌, ◌<◌, ◌≤◌, ◌⊎◌, ◌↔◌, ℕ, true, List, [], ◌∷◌, ◌++◌, codes, length, slice_get, Option, Some, None, Result, Ok, IsFalse, Err}
+use Rattle.rls_ident.specs.declared.limits.TheConstants.{FILE_BYTES, INPUT_BYTES, MEMBERS}
 use Rattle.rls_ident.specs.Lists.{IsIn}
 use Rattle.rls_ident.specs.Vectors.{at_most}
 use Rattle.rls_ops.specs.declared.message.Message.{Message}
@@ -18,10 +18,13 @@ use Rattle.rls_model.specs.Taking.{take_message}
 use Rattle.rls_model.specs.WellFormed.{IsEdit, IsLarge}
 use Rattle.rls_seen.specs.Seen.{Seen, vector}
 use Rattle.rls_undo.specs.Undoing.{last_of}
+use Rattle.rls_report.specs.declared.failures.CommandError.{CommandError}
+use Rattle.rls_report.specs.declared.failures.CommandError.TheVariants.{TooLarge}
 use Rattle.rls_report.specs.declared.failures.LineFault.{LineFault}
 use Rattle.rls_report.specs.Reports.{edit_text, take_text}
 use Rattle.rls_script.specs.Scripts.{script_of}
 use Rattle.rls_script.specs.declared.lines.Line.{Line}
+use Rattle.rls_stages.specs.KeptFile.{bytes_over}
 use Rattle.rls_stages.specs.Lines.{allowed_by, fault_in, line_by, text_in}
 use Rattle.rls_top.specs.declared.words.Command.{Command}
 use Rattle.rls_top.specs.declared.words.Command.TheVariants.{OnFile}
@@ -31,7 +34,7 @@ use Rattle.rls_top.specs.Groups.{AllTaken, BeginsWithNew, EqualCountsShowSame, G
 use Rattle.rls_top.specs.Words.{command_of}
 use Rattle.rls_session.specs.declared.orders.Order.TheVariants.{Edit, Undo, Text, Send}
 use Rattle.rls_session.specs.Answers.{Sitting, answer, edited as edited_by, read_line, undone}
-use Rattle.rls_session.specs.Courses.{holds}
+use Rattle.rls_session.specs.Courses.{Course, holds}
 use Rattle.rls_session.specs.Replies.{bytes_text, ok_text}
 use Rattle.rls_session.specs.Requests.{Request, Does, Takes}
 use Rattle.rls_session.specs.Sessions.{by_history, by_parts}
@@ -55,9 +58,13 @@ IsClean g d (Takes message) = (applied released repeated held : ℕ) × ((answer
 IsClean g d (Does (Send to)) = (message : List ℕ) → IsIn message (replied d (Does (Send to))) → (answer by_parts d (Does (Send to))).reply ≡ bytes_text (codes "message") message
 IsClean g d request = Unit {0}
 
--- a session over a member's file finds a replica there, and each of its requests is answered so
+-- its last replica is to be stored, unless its input is too long, or the file would be
+abbrev pub IsSavedOrLong : Course (Sitting Seen) → Result Seen CommandError → Type 0
+IsSavedOrLong c ending = (ending ≡ Ok (c.state).state) ⊎ ((ending ≡ Err TooLarge) × ((INPUT_BYTES < c.used) ⊎ (FILE_BYTES < length (bytes_over (c.state).state))))
+
+-- a session over a member's file finds a replica there, ends so, and answers each of its requests so
 abbrev pub SessionsClean : Group → Type 0
-SessionsClean g = (i : ℕ) (desk : Desk) (input : List ℕ) → IsOfGroup g i (Sits desk input) → (s : Seen) × (replica_at g i ≡ Ok s) × holds (answer by_parts) (IsClean g) (at_desk s desk) input
+SessionsClean g = (i : ℕ) (desk : Desk) (input : List ℕ) → IsOfGroup g i (Sits desk input) → (s : Seen) × (replica_at g i ≡ Ok s) × IsSavedOrLong (session_at by_parts s desk input) (session_due g i desk input).ending × holds (answer by_parts) (IsClean g) (at_desk s desk) input
 
 -- ---- what a run that stored its file made of the member's history
 
