@@ -1,10 +1,10 @@
 -- How a session ends whose kept file stands for a history.
-use Rattle.std.proofs.Common.{◌≡◌, ◌≢◌, ◌∙◌, ◌⊎◌, ◌<◌, ◌≤◌, ◌+◌, ◌++◌, ℕ, zero, suc, true, false, eqb, List, [], length, take, Option, Some, IfSome, Result, Ok, Err, refl, sym, ap, subst, arith, inl, inr, length-append}
+use Rattle.std.proofs.Common.{◌≡◌, ◌≢◌, ◌∙◌, ◌⊎◌, ◌<◌, ◌≤◌, ◌+◌, ◌++◌, ℕ, zero, suc, true, false, eqb, List, [], length, take, Option, Some, None, IfSome, Result, Ok, Err, refl, sym, ap, subst, arith, inl, inr, length-append}
 use Rattle.std.proofs.lemmas.Bool.Decides.{eqb_tells}
 use Rattle.std.proofs.lemmas.List.{take-append-le}
 use Rattle.std.proofs.Math.Seq.{take-append-add}
 use Rattle.rls_ident.specs.declared.limits.TheConstants.{INPUT_BYTES, FILE_BYTES}
-use Rattle.rls_io.specs.Device.{Appends, Stores}
+use Rattle.rls_io.specs.Device.{Appends, Keeps, Stores}
 use Rattle.rls_codec.specs.CodecLaws.{IsBytes}
 use Rattle.rls_model.specs.declared.parts.Parts.{Parts}
 use Rattle.rls_model.specs.Receiving.{State}
@@ -22,7 +22,7 @@ use Rattle.rls_stages.proofs.Files.{opened, stands_stored}
 use Rattle.rls_session.specs.Answers.{Sitting}
 use Rattle.rls_session.specs.Courses.{Course}
 use Rattle.rls_session.specs.Due.{Due, due, due_of, due_on, ending_status, stops}
-use Rattle.rls_session.specs.Endings.{Ends, FailsAt, IsKept, IsTooLong, Serves}
+use Rattle.rls_session.specs.Endings.{ByReplies, Ends, FailsAt, IsKept, IsTooLong, Serves}
 use Rattle.rls_session.specs.Replies.{saved_text}
 use Rattle.rls_session.specs.Sessions.{session, session_in}
 use Rattle.rls_session.proofs.Agreeing.{IsAlike, sessions_alike}
@@ -68,8 +68,8 @@ any_part : (d : Due) (n : ℕ) (file new_file : Option (Option (List ℕ))) (old
 any_part d n file new_file old new e = at_zero (eqb_tells n 0)
   where
     fails : FailsAt d file new_file old new → IsPart old new (d.replies ++ saved_text)
-    fails (inl k) = part_of_all old new d.replies saved_text k.1
-    fails (inr k) = part_behind old new d.replies saved_text k.1.0 k.1.1 k.1.2
+    fails (inl k) = part_of_all old new d.replies saved_text (k.1.0, omega (arith, k.1.1), k.1.2)
+    fails (inr k) = part_behind old new d.replies saved_text k.1.0 (omega (arith, k.1.1)) k.1.2
 
     at_nine : n ≢ 0 → ((eqb n 9 ≡ true) × (n ≡ 9)) ⊎ ((eqb n 9 ≡ false) × (n ≢ 9)) → IsPart old new (d.replies ++ saved_text)
     at_nine some (inl h) = fails (e.failing h.1)
@@ -86,21 +86,28 @@ kept_stands r s t kept new_file too_long (inl e) h w k =
     subst (λ (f : Option (Option (List ℕ))). StandsIn f t) (sym here.0) (stands_stored s t h here.1)
 kept_stands r s t kept new_file too_long (inr e) h w k = absurd (subst (λ (x : Result Seen CommandError). IsKept x (Some kept) new_file) e.1 k)
 
+-- what holds if the file is stored
+stored_by_replies : (replies : List ℕ) (old new : Option (List ℕ)) (P Q R : Type 0) → (P → Q) → ByReplies replies old new P R → ByReplies replies old new Q R
+stored_by_replies replies None new P Q R f h = tt
+stored_by_replies replies (Some output) new P Q R f h = (λ all. f (h.0 all), h.1)
+
 -- ---- all
 
 -- the replica that stands for the state was found
-found_serves : (n : ℕ) (s : Seen) (t : State) (bytes given : List ℕ) (kept : Option (List ℕ)) (new_file : Option (Option (List ℕ))) (old new : Option (List ℕ)) → IsSameCourse IsAlike (session s given) (session_in t given)
-    → Ends (due_of (session s given)) n (Some kept) new_file old new → Serves n bytes (session_in t given) new_file old new
-found_serves n s t bytes given kept new_file old new same e =
+found_serves : (n : ℕ) (s : Seen) (t : State) (bytes given : List ℕ) (new_file : Option (Option (List ℕ))) (old new : Option (List ℕ)) → IsSameCourse IsAlike (session s given) (session_in t given)
+    → Ends (due_of (session s given)) n (Some (Some bytes)) new_file old new → Serves n bytes (session_in t given) new_file old new
+found_serves n s t bytes given new_file old new same e =
     let c = session s given in
     let f = session_in t given in
     let k = same.states in
     let ending = ending_or_long c in
     record {
       status = status ending e.status;
-      stored = λ z. kept_stands (due_of c).ending (c.state).state (f.state).state kept new_file _ ending k.stands k.writable (e.stored z);
+      stored = λ z. kept_stands (due_of c).ending (c.state).state (f.state).state (Some bytes) new_file _ ending k.stands k.writable (e.stored z);
       written = λ z. subst (λ (r : List ℕ). Appends old new (r ++ saved_text)) same.replies (e.written z);
-      part = subst (λ (r : List ℕ). IsPart old new (r ++ saved_text)) same.replies (any_part (due_of c) n (Some kept) new_file old new e);
+      part = subst (λ (r : List ℕ). IsPart old new (r ++ saved_text)) same.replies (any_part (due_of c) n (Some (Some bytes)) new_file old new e);
+      by_replies = λ z. stored_by_replies (f.replies) old new (IsKept (due_of c).ending (Some (Some bytes)) new_file) _ (new_file ≡ Some (Some bytes)) (kept_stands (due_of c).ending (c.state).state (f.state).state (Some bytes) new_file _ ending k.stands k.writable)
+          (subst (λ (r : List ℕ). ByReplies r old new (IsKept (due_of c).ending (Some (Some bytes)) new_file) (Keeps (Some (Some bytes)) new_file)) same.replies (e.by_replies z));
     }
   where
     long : (INPUT_BYTES < (session s given).used) ⊎ (FILE_BYTES < length (bytes_over ((session s given).state).state)) → IsTooLong bytes (session_in t given)
@@ -121,18 +128,20 @@ long_serves n t bytes given kept new_file old new h e = record {
   stored = λ z. absurd (e.stored z);
   written = λ z. absurd (e.stored z);
   part = from_none (none (eqb_tells n 0));
+  by_replies = λ z. absurd (fails (e.failing z));
 }
   where
     status : (n ≡ 11) ⊎ IsFault n → EndsWith n 0 (IsTooLong bytes (session_in t given))
     status (inl st) = inr (inr (st, inl h))
     status (inr f) = inr (inl f)
 
-    fails : FailsAt (stops TooLarge) (Some kept) new_file old new → IsPart old new []
-    fails (inl k) = k.1
-    fails (inr k) = absurd k.0
+    -- no reply is called for that could fail
+    fails : FailsAt (stops TooLarge) (Some kept) new_file old new → ⊥
+    fails (inl k) = let none : k.1.0 < 0 = k.1.1 in omega (arith, none)
+    fails (inr k) = k.0
 
     nine : n ≢ 0 → ((eqb n 9 ≡ true) × (n ≡ 9)) ⊎ ((eqb n 9 ≡ false) × (n ≢ 9)) → IsPart old new []
-    nine some (inl z) = fails (e.failing z.1)
+    nine some (inl z) = absurd (fails (e.failing z.1))
     nine some (inr z) = e.part some z.1
 
     none : ((eqb n 0 ≡ true) × (n ≡ 0)) ⊎ ((eqb n 0 ≡ false) × (n ≢ 0)) → IsPart old new []
@@ -157,7 +166,7 @@ history_serves n file new_file left old new t bytes given e f stands l b = go (w
     go (inl h) =
         let o = opened bytes t stands in
         let found : replica_in (loaded (Some bytes)) ≡ Ok o.0 = rw (h.1) (o.1.found) in
-        found_serves n o.0 t bytes given (Some bytes) new_file old new (sessions_alike o.0 t given b o.1.stands o.1.sane o.1.writable)
+        found_serves n o.0 t bytes given new_file old new (sessions_alike o.0 t given b o.1.stands o.1.sane o.1.writable)
         (subst (λ (r : Result Seen CommandError). IfSome (due_on r (Some given)) (λ d. Ends d n (Some (Some bytes)) new_file old new)) found told)
     go (inr h) =
         let long : replica_in (loaded (Some bytes)) ≡ Err TooLarge = rw (h.1) refl in

@@ -1,17 +1,18 @@
 -- The loop over requests: what was answered so far, and what is to come.
-use Rattle.std.proofs.Common.{◌≡◌, ◌∙◌, ◌+◌, ◌<◌, ◌≤◌, ℕ, Bool, true, false, IsTrue, IsFalse, List, [], ◌++◌, length, take, drop, Option, Some, None, IfSome, Result, Err, refl, sym, ap, subst, arith, inl, inr, append_assoc, length-append, length-drop, length-take}
+use Rattle.std.proofs.Common.{◌≡◌, ◌≢◌, ◌∙◌, ◌+◌, ◌<◌, ◌≤◌, ℕ, Bool, true, false, IsTrue, IsFalse, List, [], ◌++◌, length, take, drop, Option, Some, None, IfSome, Result, Err, refl, sym, ap, subst, arith, inl, inr, append_assoc, length-append, length-drop, length-take}
 use Rattle.std.specs.List.{position_or_len, before_first}
 use Rattle.std.proofs.lemmas.Grind.{common_steps}
 use Rattle.std.proofs.Math.Seq.{take-append-add}
 use Rattle.std.proofs.lemmas.List.{append-nil, take-append-drop, take-append-le}
 use Rattle.rls_ident.specs.declared.limits.TheConstants.{INPUT_BYTES}
-use Rattle.rls_io.specs.Device.{Appends, Keeps}
+use Rattle.rls_io.specs.Device.{Appends, IsCutShort, Keeps}
 use Rattle.rls_script.specs.Scripts.{is_line_feed}
 use Rattle.rls_stages.specs.Endings.{IsPart}
+use Rattle.rls_stages.proofs.Kept.{part_of_cut}
 use Rattle.rls_io.specs.declared.reading.ReadError.{ReadError}
 use Rattle.rls_io.specs.declared.reading.ReadError.TheVariants as read
 use Rattle.rls_session.specs.declared.answering.AnswerError.{AnswerError}
-use Rattle.rls_session.specs.declared.answering.AnswerError.TheVariants.{OutOfMemory, SourceFault, TooLarge}
+use Rattle.rls_session.specs.declared.answering.AnswerError.TheVariants.{OutOfMemory, SinkFault, SourceFault, TooLarge}
 use Rattle.rls_session.specs.declared.orders.Order.{Order}
 use Rattle.rls_session.specs.declared.orders.Order.TheVariants.{Take, Quit}
 use Rattle.rls_session.specs.Answering.{of_read, HasNoLine, IsDone, IsNear, IsNext, IsPrompt, IsReplied, IsUnused, LacksPart}
@@ -236,12 +237,12 @@ part_of old new xs ys h = (length xs, omega (arith, length-append xs ys), subst 
     front : take (length xs) (xs ++ ys) ≡ xs
     front = grind (arith, common_steps)
 
-part_more : (old mid new : Option (List ℕ)) (xs ys zs : List ℕ) → Appends old mid xs → IsPart mid new ys → IsPart old new (xs ++ (ys ++ zs))
-part_more None mid new xs ys zs h p = (0, omega arith, tt)
-part_more (Some ws) mid new xs ys zs h p =
+cut_behind : (old mid new : Option (List ℕ)) (xs ys zs : List ℕ) → Appends old mid xs → IsCutShort mid new ys → IsCutShort old new (xs ++ (ys ++ zs))
+cut_behind None mid new xs ys zs h p = (0, omega (arith, length-append xs (ys ++ zs), length-append ys zs, p.1), tt)
+cut_behind (Some ws) mid new xs ys zs h p =
     let n = p.0 in
     let at : new ≡ Some ((ws ++ xs) ++ take n ys) = subst (λ (m : Option (List ℕ)). Appends m new (take n ys)) h p.2 in
-    let front : take (length xs + n) (xs ++ (ys ++ zs)) ≡ xs ++ take n ys = front_is xs ys zs n p.1 in
+    let front : take (length xs + n) (xs ++ (ys ++ zs)) ≡ xs ++ take n ys = front_is xs ys zs n (omega (arith, p.1)) in
     (length xs + n, omega (arith, length-append xs (ys ++ zs), length-append ys zs, p.1), at ∙ ap (λ (l : List ℕ). Some l) (append_assoc ws xs (take n ys) ∙ ap (λ (l : List ℕ). ws ++ l) (sym front)))
   where
     front_is : (xs ys zs : List ℕ) (n : ℕ) → n ≤ length ys → take (length xs + n) (xs ++ (ys ++ zs)) ≡ xs ++ take n ys
@@ -256,12 +257,17 @@ pub between_part : {S : Type 0} (answer : Answers S) (first s : S) (input : Opti
     → IfSome input (λ given. IsPart old new (course answer first given).replies)
 between_part answer first s input order a x old new between = more input _ _ (λ given e w. rw (w.comes.course_is) (part_of old new w.replies (course answer s w.bytes).replies w.written)) between
 
--- the reply is written in part
-pub reply_part : {S : Type 0} (answer : Answers S) (first s t : S) (input : Option (List ℕ)) (order : Order) (reply : List ℕ) (a b : IntakeSeen) (x y old mid new : Option (List ℕ)) → Between answer first input s order a x old mid
-    → (order ≡ Quit → ⊥) → (KnowsEnd a x → IfSome (to_come a x) (λ bytes. IsReplied (answer s) bytes order reply t a b y)) → IsPart mid new reply → IfSome input (λ given. IsPart old new (course answer first given).replies)
-reply_part answer first s t input order reply a b x y old mid new between other replied wrote = more input _ _ step between
+-- what is cut short is a part
+pub cut_part : (input : Option (List ℕ)) (f : List ℕ → List ℕ) (old new : Option (List ℕ)) → IfSome input (λ given. IsCutShort old new (f given)) → IfSome input (λ given. IsPart old new (f given))
+cut_part None f old new h = tt
+cut_part (Some given) f old new h = part_of_cut old new (f given) h
+
+-- the reply is cut short
+pub reply_cut : {S : Type 0} (answer : Answers S) (first s t : S) (input : Option (List ℕ)) (order : Order) (reply : List ℕ) (a b : IntakeSeen) (x y old mid new : Option (List ℕ)) → Between answer first input s order a x old mid
+    → (order ≡ Quit → ⊥) → (KnowsEnd a x → IfSome (to_come a x) (λ bytes. IsReplied (answer s) bytes order reply t a b y)) → IsCutShort mid new reply → IfSome input (λ given. IsCutShort old new (course answer first given).replies)
+reply_cut answer first s t input order reply a b x y old mid new between other replied wrote = more input _ _ step between
   where
-    step : (given : List ℕ) → input ≡ Some given → IsBetween answer first given s order a x old mid → IsPart old new (course answer first given).replies
+    step : (given : List ℕ) → input ≡ Some given → IsBetween answer first given s order a x old mid → IsCutShort old new (course answer first given).replies
     step given e w =
         let size = line_size w.bytes in
         let rest = drop size w.bytes in
@@ -272,7 +278,7 @@ reply_part answer first s t input order reply a b x y old mid new between other 
         let last = course answer (answer s k.request).state (drop (size + k.size) w.bytes) in
         let said : reply ≡ (answer s k.request).reply = (r.answered).reply_is in
         let whole : (course answer first given).replies ≡ w.replies ++ (reply ++ last.replies) = ap (λ (c : Course _). c.replies) on.course_is ∙ append_assoc w.replies (answer s k.request).reply last.replies ∙ ap (λ (l : List ℕ). w.replies ++ (l ++ last.replies)) (sym said) in
-        subst (IsPart old new) (sym whole) (part_more old mid new w.replies reply last.replies w.written wrote)
+        subst (IsCutShort old new) (sym whole) (cut_behind old mid new w.replies reply last.replies w.written wrote)
 
 -- what was written, as the reply says it
 pub written : (old new : Option (List ℕ)) (xs ys : List ℕ) → xs ≡ ys → Appends old new xs → Appends old new ys
@@ -375,6 +381,11 @@ pub too_large_of : (e : ReadError) (f : AnswerError) → f ≡ of_read e → end
 too_large_of read.Fault f is h = let same : f ≡ TooLarge = cc in let never : SourceFault ≡ TooLarge = sym is ∙ same in cc
 too_large_of read.TooLarge f is h = refl
 too_large_of read.OutOfMemory f is h = let same : f ≡ TooLarge = cc in let never : OutOfMemory ≡ TooLarge = sym is ∙ same in cc
+
+pub not_sink : (e : ReadError) (f : AnswerError) → f ≡ of_read e → ended f ≢ ended SinkFault
+not_sink read.Fault f is h = let same : f ≡ SinkFault = cc in let never : SourceFault ≡ SinkFault = sym is ∙ same in cc
+not_sink read.TooLarge f is h = let same : f ≡ SinkFault = cc in let never : TooLarge ≡ SinkFault = sym is ∙ same in cc
+not_sink read.OutOfMemory f is h = let same : f ≡ SinkFault = cc in let never : OutOfMemory ≡ SinkFault = sym is ∙ same in cc
 
 pub fault_of : (e : ReadError) (f : AnswerError) → f ≡ of_read e → ended f ≡ ended SourceFault → e ≡ read.Fault
 fault_of read.Fault f is h = refl

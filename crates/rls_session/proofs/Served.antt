@@ -1,11 +1,11 @@
 -- How a session ends, from its parts.
-use Rattle.std.proofs.Common.{◌≡◌, ◌≢◌, ◌∙◌, ◌⊎◌, ◌<◌, ◌≤◌, ℕ, Bool, true, false, eqb, ltb, List, [], ◌++◌, length, take, Option, Some, None, IfSome, IfErr, IfOk, OnOk, Result, Ok, Err, refl, sym, ap, subst, arith, inl, inr, append_assoc}
+use Rattle.std.proofs.Common.{◌≡◌, ◌≢◌, ◌∙◌, ◌⊎◌, ◌<◌, ◌≤◌, ℕ, Bool, true, false, eqb, ltb, List, [], ◌++◌, length, take, Option, Some, None, IfSome, IfErr, IfOk, OnOk, Result, Ok, Err, refl, sym, ap, subst, arith, inl, inr, append_assoc, length-append}
 use Rattle.std.specs.Prelude.{option_map, if◌then◌else◌}
 use Rattle.std.proofs.lemmas.Bool.Decides.{nat_tests}
 use Rattle.std.proofs.lemmas.Grind.{common_steps}
-use Rattle.std.proofs.lemmas.List.{append-nil}
+use Rattle.std.proofs.lemmas.List.{append-nil, length-take-le}
 use Rattle.rls_ident.specs.declared.limits.TheConstants.{FILE_BYTES, INPUT_BYTES}
-use Rattle.rls_io.specs.Device.{Appends, Keeps, Rose, Stores}
+use Rattle.rls_io.specs.Device.{Appends, IsCutShort, Keeps, Rose, Stores}
 use Rattle.rls_seen.specs.Seen.{Seen}
 use Rattle.rls_report.specs.declared.failures.CommandError.{CommandError}
 use Rattle.rls_report.specs.declared.failures.CommandError.TheVariants as errors
@@ -28,7 +28,7 @@ use Rattle.rls_session.specs.Answering.{IsDone, IsNear, of_answer}
 use Rattle.rls_session.specs.Answers.{Sitting}
 use Rattle.rls_session.specs.Courses.{Course}
 use Rattle.rls_session.specs.Due.{Due, due, due_of, due_on, ending_line, ending_status, line_at}
-use Rattle.rls_session.specs.Endings.{Ends, EndsAs, EndsNear, FailsAt, IsEarly, IsKept, IsSessionsOwn, IsSessionStatus, IsStatusOf, Leaves, OnSession, Saves, line_of}
+use Rattle.rls_session.specs.Endings.{ByReplies, Ends, EndsAs, EndsNear, FailsAt, HasAllOf, IsEarly, IsKept, IsSessionsOwn, IsSessionStatus, IsStatusOf, Leaves, OnSession, Saves, line_of}
 use Rattle.rls_session.specs.Replies.{saved_text}
 use Rattle.rls_session.specs.Sessions.{session}
 
@@ -71,7 +71,7 @@ pub saved_all : (s : Seen) (r : Result Seen CommandError) (bytes : List ℕ) (fi
 saved_all s r bytes file new_file old new is same back stored wrote = (is_kept s r bytes file new_file is same back stored, wrote)
 
 pub saved_part : (s : Seen) (r : Result Seen CommandError) (e : AnswerError) (bytes : List ℕ) (file new_file : Option (Option (List ℕ))) (old new : Option (List ℕ)) → e ≡ SinkFault → r ≡ Ok s → bytes ≡ bytes_over s → IsReadBack s
-    → Stores file new_file bytes → IsPart old new saved_text → Saves (Err (of_answer e)) r file new_file old new
+    → Stores file new_file bytes → IsCutShort old new saved_text → Saves (Err (of_answer e)) r file new_file old new
 saved_part s r e bytes file new_file old new sink is same back stored wrote = rw sink (is_kept s r bytes file new_file is same back stored, wrote)
 
 -- ---- what is left
@@ -83,16 +83,16 @@ ending_long : (c : Course (Sitting Seen)) → INPUT_BYTES < c.used → (due_of c
 ending_long c h = let test : ltb INPUT_BYTES c.used ≡ true = grind (arith, nat_tests) in rw test refl
 
 -- the session ended before the file was to be stored
-answer_leaves : (e : AnswerError) (c : Course (Sitting Seen)) (file : Option (Option (List ℕ))) (old new : Option (List ℕ)) → (e ≡ TooLarge → INPUT_BYTES < c.used) → IsPart old new c.replies → Leaves (Err (of_answer e)) (due_of c) file file old new
-answer_leaves SourceFault c file old new long part = (tt, part)
-answer_leaves SinkFault c file old new long part = inl (keeps_same file, part)
-answer_leaves TooLarge c file old new long part = (ending_long c (long refl), part)
-answer_leaves OutOfMemory c file old new long part = (tt, part)
+answer_leaves : (e : AnswerError) (c : Course (Sitting Seen)) (file : Option (Option (List ℕ))) (old new : Option (List ℕ)) → (e ≡ TooLarge → INPUT_BYTES < c.used) → (e ≡ SinkFault → IsCutShort old new c.replies) → IsPart old new c.replies → Leaves (Err (of_answer e)) (due_of c) file file old new
+answer_leaves SourceFault c file old new long cut part = (tt, part)
+answer_leaves SinkFault c file old new long cut part = inl (keeps_same file, cut refl)
+answer_leaves TooLarge c file old new long cut part = (ending_long c (long refl), part)
+answer_leaves OutOfMemory c file old new long cut part = (tt, part)
 
 pub answers_leave : (e : AnswerError) (s : Seen) (input : Option (List ℕ)) (file : Option (Option (List ℕ))) (old new : Option (List ℕ)) → (e ≡ TooLarge → IfSome input (λ given. INPUT_BYTES < (session s given).used))
-    → IfSome input (λ given. IsPart old new (session s given).replies) → IfSome input (λ given. Leaves (Err (of_answer e)) (due_of (session s given)) file file old new)
-answers_leave e s None file old new long part = tt
-answers_leave e s (Some given) file old new long part = answer_leaves e (session s given) file old new long part
+    → (e ≡ SinkFault → IfSome input (λ given. IsCutShort old new (session s given).replies)) → IfSome input (λ given. IsPart old new (session s given).replies) → IfSome input (λ given. Leaves (Err (of_answer e)) (due_of (session s given)) file file old new)
+answers_leave e s None file old new long cut part = tt
+answers_leave e s (Some given) file old new long cut part = answer_leaves e (session s given) file old new long cut part
 
 -- the file was to be stored
 save_leaves : (r : Result (Unit {0}) Failure) (c : Course (Sitting Seen)) (s : Seen) (file new_file : Option (Option (List ℕ))) (old mid new : Option (List ℕ)) → (c.state).state ≡ s → c.used ≤ INPUT_BYTES → Appends old mid c.replies
@@ -261,8 +261,24 @@ kept_status : (r : Result Seen CommandError) (file new_file : Option (Option (Li
 kept_status (Ok s) file new_file h = refl
 kept_status (Err e) file new_file h = absurd h
 
+-- the output has not all of what is cut short
+cut_lacks : (output bytes : List ℕ) (new : Option (List ℕ)) → IsCutShort (Some output) new bytes → HasAllOf output new bytes → ⊥
+cut_lacks output bytes new cut all =
+    let same : output ++ take cut.0 bytes ≡ output ++ (bytes ++ all.0) = some_same (sym cut.2 ∙ all.1) in
+    omega (arith, cut.1, ap length same, length-append output (take cut.0 bytes), length-append output (bytes ++ all.0), length-append bytes all.0, length-take-le cut.0 bytes (omega (arith, cut.1)))
+  where
+    some_same : {xs ys : List ℕ} → ◌≡◌ {A = Option (List ℕ)} (Some xs) (Some ys) → xs ≡ ys
+    some_same e = cc
+
+-- the output shows whether the file was stored
+told_by_replies : (d : Due) (file new_file : Option (Option (List ℕ))) (old new : Option (List ℕ)) → FailsAt d file new_file old new → ByReplies d.replies old new (IsKept d.ending file new_file) (Keeps file new_file)
+told_by_replies d file new_file None new h = tt
+told_by_replies d file new_file (Some output) new (inl h) = (λ all. absurd (cut_lacks output d.replies new h.1 all), λ lacks. h.0)
+told_by_replies d file new_file (Some output) new (inr h) = (λ all. h.0, λ lacks. absurd (lacks (take h.1.0 saved_text, h.1.2)))
+
 ends_before : (d : Due) (n m : ℕ) (file new_file : Option (Option (List ℕ))) (old new : Option (List ℕ)) → n ≡ m → eqb m 0 ≡ false → eqb m 9 ≡ false → (n ≡ ending_status d.ending) ⊎ IsFault n → IsPart old new d.replies → Ends d n file new_file old new
 ends_before d n m file new_file old new s none other status part = record {
+  by_replies = λ h. apart n m 9 s h other;
   status = status;
   written = λ h. apart n m 0 s h none;
   stored = λ h. apart n m 0 s h none;
@@ -277,6 +293,7 @@ ends_so (Ok u) n d file new_file old new s h = record {
   stored = λ e. h.0;
   part = λ a b. absurd (a s);
   failing = λ e. apart n 0 9 s e refl;
+  by_replies = λ e. apart n 0 9 s e refl;
 }
 ends_so (Err NoCommand) n d file new_file old new s h = absurd h.0
 ends_so (Err (Command e)) n d file new_file old new (inl s) h = record {
@@ -285,6 +302,7 @@ ends_so (Err (Command e)) n d file new_file old new (inl s) h = record {
   stored = λ k. not_error e n 0 s k refl;
   part = λ a b. h.1;
   failing = λ k. not_error e n 9 s k refl;
+  by_replies = λ k. not_error e n 9 s k refl;
 }
 ends_so (Err (Command e)) n d file new_file old new (inr s) h = ends_before d n 10 file new_file old new s refl refl (inr (inr (inr (inr s)))) h.1
 ends_so (Err (Fault Keeper)) n d file new_file old new s h = ends_before d n 7 file new_file old new s refl refl (inr (inl s)) h.1
@@ -296,6 +314,7 @@ ends_so (Err (Fault Sink)) n d file new_file old new s h = record {
   stored = λ e. apart n 9 0 s e refl;
   part = λ a b. absurd (b s);
   failing = λ e. h;
+  by_replies = λ e. told_by_replies d file new_file old new h;
 }
 
 -- what holds of what is called for in one way holds in another

@@ -1,7 +1,7 @@
 -- How a session ends, given what it calls for.
-use Rattle.std.specs.Prelude.{◌≡◌, ◌≢◌, ◌≤◌, ◌<◌, ◌⊎◌, ◌++◌, ℕ, List, [], length, take, Option, IfSome, IfOk, Result, Ok, Err}
+use Rattle.std.specs.Prelude.{◌≡◌, ◌≢◌, ◌<◌, ◌⊎◌, ◌++◌, ℕ, List, [], length, take, Option, Some, IfSome, IfOk, Result, Ok, Err}
 use Rattle.rls_ident.specs.declared.limits.TheConstants.{INPUT_BYTES, FILE_BYTES}
-use Rattle.rls_io.specs.Device.{Appends, Keeps, Stores}
+use Rattle.rls_io.specs.Device.{Appends, IsCutShort, Keeps, Stores}
 use Rattle.rls_model.specs.Parts.{parts}
 use Rattle.rls_model.specs.Receiving.{State}
 use Rattle.rls_seen.specs.Seen.{Seen}
@@ -33,10 +33,10 @@ EndsAs NoCommand r = ⊥
 EndsAs (Command e) r = r ≡ Err e
 EndsAs (Fault f) r = Unit {0}
 
--- the file is stored, and that is told; or only a part of the telling is written; or neither is done
+-- the file is stored, and that is told; or of the telling at least one byte isn't written; or neither is done
 abbrev pub Saves : Result (Unit {0}) Failure → Result Seen CommandError → Option (Option (List ℕ)) → Option (Option (List ℕ)) → Option (List ℕ) → Option (List ℕ) → Type 0
 Saves (Ok u) r file new_file old new = IsKept r file new_file × Appends old new saved_text
-Saves (Err (Fault Sink)) r file new_file old new = IsKept r file new_file × IsPart old new saved_text
+Saves (Err (Fault Sink)) r file new_file old new = IsKept r file new_file × IsCutShort old new saved_text
 Saves (Err f) r file new_file old new = EndsAs f r × (new ≡ old)
 
 -- the session ended before anything was stored
@@ -48,11 +48,25 @@ IsEarly (Fault f) = ⊥
 
 -- ---- what a session leaves
 
--- the output failed: before the file was stored, after a part of the replies; or after that, within the last one
+-- the output failed before the file was stored: of the replies at least one byte is missing
+abbrev pub FailsBefore : Due → Option (Option (List ℕ)) → Option (Option (List ℕ)) → Option (List ℕ) → Option (List ℕ) → Type 0
+FailsBefore d file new_file old new = Keeps file new_file × IsCutShort old new d.replies
+
+-- it failed after that: all replies are there, and of `saved` at least one byte is missing
+abbrev pub FailsAfter : Due → Option (Option (List ℕ)) → Option (Option (List ℕ)) → Option (List ℕ) → Option (List ℕ) → Type 0
+FailsAfter d file new_file old new = IsKept d.ending file new_file × ((n : ℕ) × (n < length saved_text) × Appends old new (d.replies ++ take n saved_text))
+
+-- the output failed. Where it is told, it shows which of the two it was (`ByReplies`)
 abbrev pub FailsAt : Due → Option (Option (List ℕ)) → Option (Option (List ℕ)) → Option (List ℕ) → Option (List ℕ) → Type 0
-FailsAt d file new_file old new =
-    (Keeps file new_file × IsPart old new d.replies)
-    ⊎ (IsKept d.ending file new_file × ((n : ℕ) × (n ≤ length saved_text) × Appends old new (d.replies ++ take n saved_text)))
+FailsAt d file new_file old new = FailsBefore d file new_file old new ⊎ FailsAfter d file new_file old new
+
+-- behind what an output had, it has all of these bytes now, and perhaps more
+abbrev pub HasAllOf : List ℕ → Option (List ℕ) → List ℕ → Type 0
+HasAllOf output new bytes = (more : List ℕ) × (new ≡ Some (output ++ (bytes ++ more)))
+
+-- where the output is told: the one holds if all of these replies are in it, and the other if not
+abbrev pub ByReplies : List ℕ → Option (List ℕ) → Option (List ℕ) → Type 0 → Type 0 → Type 0
+ByReplies replies old new Stored Unstored = IfSome old (λ output. (HasAllOf output new replies → Stored) × ((HasAllOf output new replies → ⊥) → Unstored))
 
 -- all is written and stored; or the output failed; or the session ended before
 abbrev pub Leaves : Result (Unit {0}) Failure → Due → Option (Option (List ℕ)) → Option (Option (List ℕ)) → Option (List ℕ) → Option (List ℕ) → Type 0
@@ -70,6 +84,8 @@ pub record Ends (d : Due) (n : ℕ) (file new_file : Option (Option (List ℕ)))
   -- a part of the replies, from the front, unless the output failed
   pub part : n ≢ 0 → n ≢ 9 → IsPart old new d.replies
   pub failing : n ≡ 9 → FailsAt d file new_file old new
+  -- so then the file is stored if all replies are in the output, and is as before if not
+  pub by_replies : n ≡ 9 → ByReplies d.replies old new (IsKept d.ending file new_file) (Keeps file new_file)
 
 -- the status of an end
 abbrev pub IsStatusOf : Result (Unit {0}) Failure → ℕ → Type 0
@@ -104,6 +120,8 @@ pub record Serves (n : ℕ) (bytes : List ℕ) (c : Course (Sitting State)) (new
   pub stored : n ≡ 0 → StandsIn new_file (c.state).state
   pub written : n ≡ 0 → Appends old new (c.replies ++ saved_text)
   pub part : IsPart old new (c.replies ++ saved_text)
+  -- if the output failed
+  pub by_replies : n ≡ 9 → ByReplies c.replies old new (StandsIn new_file (c.state).state) (new_file ≡ Some (Some bytes))
 
 -- ---- how far the input is read and answered
 

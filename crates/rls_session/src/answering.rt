@@ -3,7 +3,7 @@
 ghost use Rattle.std.specs.Prelude.{◌≡◌, ◌+◌, ◌≤◌, ◌<◌, IsTrue, IsFalse, length, take, Some, None, Ok, Err, IfOk, OnOk, OnErr, IfErr, IfSome};
 ghost use Rattle.std.specs.List.{position_or_len};
 ghost use Rattle.rls_ident.specs.declared.limits.TheConstants.{INPUT_BYTES};
-ghost use Rattle.rls_io.specs.Device.{Rose, Appends};
+ghost use Rattle.rls_io.specs.Device.{Rose, Appends, IsCutShort};
 ghost use Rattle.rls_io.specs.declared.reading.ReadError.TheVariants as read;
 ghost use Rattle.rls_script.specs.Scripts.{is_line_feed};
 ghost use Rattle.rls_stages.specs.Endings.{IsPart};
@@ -174,10 +174,10 @@ fn reply_to_message<S: Source>(
     }
 }
 
-/// Writes a reply.
+/// Writes a reply. After an error at least one byte of it isn't written.
 pub(crate) fn write<W: Sink>(output: &mut W, reply: &[u8]) -> Result<(), AnswerError>
     ensures ok { OnOk result (Appends (W.told output.old) (W.told output.new) reply.now) }
-    ensures err { OnErr result (IsPart (W.told output.old) (W.told output.new) reply.now) }
+    ensures err { OnErr result (IsCutShort (W.told output.old) (W.told output.new) reply.now) }
     ensures error { IfErr result (λ e. e ≡ AnswerError.SinkFault) }
     ensures never_falls { W.faults output.old ≤ W.faults output.new }
     ensures fault { OnErr result (Rose (W.faults output.old) (W.faults output.new)) }
@@ -198,6 +198,7 @@ pub(crate) fn answer_all<S: Source, W: Sink>(
 ) -> Result<(), AnswerError>
     ensures done { OnOk result (IfSome (S.left input.old) (λ given. IsDone (course (answer by_parts) desk.old given) desk.new (W.told output.old) (W.told output.new))) }
     ensures part { OnErr result (IfSome (S.left input.old) (λ given. IsPart (W.told output.old) (W.told output.new) (course (answer by_parts) desk.old given).replies)) }
+    ensures cut { result ≡ Err AnswerError.SinkFault → IfSome (S.left input.old) (λ given. IsCutShort (W.told output.old) (W.told output.new) (course (answer by_parts) desk.old given).replies) }
     ensures too_large { result ≡ Err AnswerError.TooLarge → IfSome (S.left input.old) (λ given. INPUT_BYTES < (course (answer by_parts) desk.old given).used) }
     ensures prompt { result ≡ Err AnswerError.SourceFault → IfSome (S.left input.old) (λ given. IsPrompt (answer by_parts) desk.old given (S.left input.new) (W.told output.old) (W.told output.new)) }
     ensures near { IfSome (S.left input.old) (λ given. IsNear given (S.left input.new) (course (answer by_parts) desk.old given).used) }

@@ -45,8 +45,10 @@ use std::alloc::Global;
 /// | 10 | out of memory |
 /// | 11 | neither a line `q`, without its line feed, nor the end lies within the first 67,108,864 bytes of the input, or the file as kept or to be stored has more than 268,435,456 bytes |
 ///
-/// The kept file is the new one with the status 0, and with a 9 that comes of writing `saved`. With a 7 or a 10 it may be impossible to
-/// say, since a keeper whose `store` failed doesn't tell its file until the next `load`. With every other status it is as before.
+/// The kept file is the new one with the status 0. With a 9 it is the new one if all replies before `saved` were written, and then at
+/// least one byte of `saved` wasn't; and it is as before if at least one byte of these replies wasn't written. With a 7 or a 10 it may be
+/// impossible to say, since a keeper whose `store` failed doesn't tell its file until the next `load`. With every other status it is as
+/// before.
 pub fn serve<K: Keeper, S: Source, W: Sink, E: Sink>(
     alloc: Global,
     keeper: &mut K,

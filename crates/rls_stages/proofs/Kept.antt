@@ -1,11 +1,12 @@
--- What is kept from step to step: a file that stays, a list within its limit, and whom a message is for.
+-- What is kept from step to step: a file that stays, what is written in part, a list within its limit, and whom a message is for.
 use Rattle.std.proofs.Common.{◌≡◌, ◌≢◌, ◌∙◌, ◌⊎◌, ◌<◌, ◌≤◌, ℕ, Bool, true, false, eqb, List, Option, Some, None, refl, sym, subst, inl, inr, arith}
 use Rattle.std.specs.Prelude.{◌&&◌, ◌==◌, nat_lt}
 use Rattle.std.proofs.lemmas.Bool.Decides.{eqb_tells, nat_tests}
-use Rattle.rls_io.specs.Device.{Keeps}
+use Rattle.rls_io.specs.Device.{IsCutShort, Keeps}
 use Rattle.rls_ops.specs.declared.message.Message.{Message}
 use Rattle.rls_seen.specs.Seen.{Seen, members}
 use Rattle.rls_replica.specs.Faults.{IsForeign}
+use Rattle.rls_stages.specs.Endings.{IsPart}
 use Rattle.rls_stages.specs.KeptFile.{Stays}
 
 -- ---- the file
@@ -24,6 +25,12 @@ pub stays_so : (old new : Option (Option (List ℕ))) → Keeps old new → Stay
 stays_so None new h = tt
 stays_so (Some kept) None h = tt
 stays_so (Some kept) (Some now) h = cc
+
+-- ---- what is written
+
+-- what is cut short is a part
+pub part_of_cut : (old new : Option (List ℕ)) (bytes : List ℕ) → IsCutShort old new bytes → IsPart old new bytes
+part_of_cut old new bytes h = (h.0, omega (arith, h.1), h.2)
 
 -- ---- limits
 

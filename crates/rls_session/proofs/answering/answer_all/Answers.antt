@@ -1,8 +1,9 @@
 use Rattle.std.proofs.Common.{Err, ap, arith, subst}
-use Rattle.rls_stages.specs.Endings.{IsPart}
+use Rattle.rls_io.specs.Device.{IsCutShort}
 use Rattle.rls_session.specs.Answers.{answer}
+use Rattle.rls_session.specs.Courses.{course}
 use Rattle.rls_session.specs.Sessions.{by_parts}
-use Rattle.rls_session.proofs.Loop.{between_full, between_near, between_part, between_prompt, fault_of, reply_part, too_large_of, way_first, way_full, way_near, way_order, way_part, way_prompt, way_quit, way_reply, written}
+use Rattle.rls_session.proofs.Loop.{between_full, between_near, between_part, between_prompt, cut_part, fault_of, not_sink, reply_cut, too_large_of, way_first, way_full, way_near, way_order, way_part, way_prompt, way_quit, way_reply, written}
 use Rattle.rls_session.proofs.Sent.{sent_first, sent_over, sent_quit, sent_reply}
 use Rattle.rls_session.proofs.answering.answer_all.Goals as goal
 
@@ -75,11 +76,22 @@ returns-in-Err-write-clause-near g c =
     let between = way_order (answer by_parts) c.args.desk.now c.loop-error.desk (g.S.Source.left c.args.input.now) _ c.in-Ok-Some.order c.loop-error.intake c.next_order.new.intake (g.S.Source.left c.loop-error.input) (g.S.Source.left c.next_order.new.input) (g.W.Sink.told c.args.output.now) (g.W.Sink.told c.loop-error.output) c.loop-error.invariant.way c.in-Ok-Some.field-0-is c.in-Ok-Some.ensures.next c.in-Ok-Some.ensures.known c.in-Ok-Some.ensures.stays_ended in
     between_near (answer by_parts) c.args.desk.now c.loop-error.desk (g.S.Source.left c.args.input.now) c.in-Ok-Some.order c.next_order.new.intake (g.S.Source.left c.next_order.new.input) (g.S.Source.left c.reply_to.new.input) (g.W.Sink.told c.args.output.now) (g.W.Sink.told c.loop-error.output) between (λ q. c.in_default.not-Quit q) (c.reply_to.ensures.near (c.in-Ok-Some.ensures.few c.loop-error.invariant.short))
 
+pub returns-in-Err-write-clause-cut : goal.returns-in-Err-write-clause-cut
+returns-in-Err-write-clause-cut g c = λ e.
+    let between = way_order (answer by_parts) c.args.desk.now c.loop-error.desk (g.S.Source.left c.args.input.now) _ c.in-Ok-Some.order c.loop-error.intake c.next_order.new.intake (g.S.Source.left c.loop-error.input) (g.S.Source.left c.next_order.new.input) (g.W.Sink.told c.args.output.now) (g.W.Sink.told c.loop-error.output) c.loop-error.invariant.way c.in-Ok-Some.field-0-is c.in-Ok-Some.ensures.next c.in-Ok-Some.ensures.known c.in-Ok-Some.ensures.stays_ended in
+    reply_cut (answer by_parts) c.args.desk.now c.loop-error.desk c.reply_to.new.desk (g.S.Source.left c.args.input.now) c.in-Ok-Some.order c.in-Ok.reply.items c.next_order.new.intake c.reply_to.new.intake (g.S.Source.left c.next_order.new.input) (g.S.Source.left c.reply_to.new.input) (g.W.Sink.told c.args.output.now) (g.W.Sink.told c.loop-error.output) (g.W.Sink.told c.write.new.output) between (λ q. c.in_default.not-Quit q) c.in-Ok.ensures.reply
+    (subst (IsCutShort (g.W.Sink.told c.loop-error.output) (g.W.Sink.told c.write.new.output)) c.deref.ensures.value c.in-Err-write.ensures.err)
+
 pub returns-in-Err-write-clause-part : goal.returns-in-Err-write-clause-part
 returns-in-Err-write-clause-part g c =
-    let between = way_order (answer by_parts) c.args.desk.now c.loop-error.desk (g.S.Source.left c.args.input.now) _ c.in-Ok-Some.order c.loop-error.intake c.next_order.new.intake (g.S.Source.left c.loop-error.input) (g.S.Source.left c.next_order.new.input) (g.W.Sink.told c.args.output.now) (g.W.Sink.told c.loop-error.output) c.loop-error.invariant.way c.in-Ok-Some.field-0-is c.in-Ok-Some.ensures.next c.in-Ok-Some.ensures.known c.in-Ok-Some.ensures.stays_ended in
-    reply_part (answer by_parts) c.args.desk.now c.loop-error.desk c.reply_to.new.desk (g.S.Source.left c.args.input.now) c.in-Ok-Some.order c.in-Ok.reply.items c.next_order.new.intake c.reply_to.new.intake (g.S.Source.left c.next_order.new.input) (g.S.Source.left c.reply_to.new.input) (g.W.Sink.told c.args.output.now) (g.W.Sink.told c.loop-error.output) (g.W.Sink.told c.write.new.output) between (λ q. c.in_default.not-Quit q) c.in-Ok.ensures.reply
-    (subst (IsPart (g.W.Sink.told c.loop-error.output) (g.W.Sink.told c.write.new.output)) c.deref.ensures.value c.in-Err-write.ensures.err)
+    cut_part (g.S.Source.left c.args.input.now) (λ given. (course (answer by_parts) c.args.desk.now given).replies) (g.W.Sink.told c.args.output.now) (g.W.Sink.told c.write.new.output)
+    (returns-in-Err-write-clause-cut g c (ap Err c.in-Err-write.ensures.error))
+
+pub returns-in-Err-clause-cut : goal.returns-in-Err-clause-cut
+returns-in-Err-clause-cut g c = λ e. absurd (not_sink c.in-Err.error c.from.result c.from.ensures e)
+
+pub returns-in-Err-reply_to-clause-cut : goal.returns-in-Err-reply_to-clause-cut
+returns-in-Err-reply_to-clause-cut g c = λ e. absurd (not_sink c.in-Err-reply_to.error c.from-in-Err-reply_to.result c.from-in-Err-reply_to.ensures e)
 
 pub loop-error-preserved : goal.loop-error-preserved
 loop-error-preserved g c =

@@ -17,7 +17,8 @@ returns-in-Err-clause-leaves g c =
     let old = g.W.Sink.told c.args.output.now in
     let new = g.W.Sink.told c.answer_all.new.output in
     subst (λ (f : Failure). IfSome input (λ given. Leaves (Err f) (due_of (session c.args.desk.now.state given)) file file old new)) (sym c.from.ensures)
-    (answers_leave c.in-Err.error c.args.desk.now.state input file old new (λ e. rw c.requires.sitting at (c.in-Err.ensures.too_large (ap Err e))) (rw c.requires.sitting at c.in-Err.ensures.part))
+    (answers_leave c.in-Err.error c.args.desk.now.state input file old new (λ e. rw c.requires.sitting at (c.in-Err.ensures.too_large (ap Err e))) (λ e. rw c.requires.sitting at (c.in-Err.ensures.cut (ap Err e)))
+    (rw c.requires.sitting at c.in-Err.ensures.part))
 
 pub returns-in-Err-clause-stays : goal.returns-in-Err-clause-stays
 returns-in-Err-clause-stays g c = λ other. keeps_same (g.K.Keeper.file c.args.keeper.now)
