@@ -98,7 +98,7 @@ held_beside H (w ∷ ws) a r = (a.0, r w (inl refl), a.1, a.2, a.3, held_beside 
 holding_writable : (s : Seen) (t : State) → IsStorable t → IsAfter t.history s → AreWritable (holding s t.waiting)
 unfolding holding
 holding_writable s t k b = record {
-  log = b.storing_is.log;
+  log = (b.storing_is).sized.log;
   waiting = λ w p. (given_op (members_of t.history) w (k.waiting w p)).size;
   others = λ w p e. k.others w p (e ∙ b.stands.me);
   rest = ap (λ v. find (λ w. at_most w.context v) t.waiting) b.stands.vector ∙ k.rest;

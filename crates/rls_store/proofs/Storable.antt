@@ -41,7 +41,7 @@ use Rattle.rls_seen.specs.Seen.{Seen, members, own_count, vector, idents_over}
 use Rattle.rls_seen.proofs.Counting.{members_accepted, members_received, members_released}
 use Rattle.rls_seen.proofs.Making.{edited_sane}
 use Rattle.rls_seen.proofs.Repeating.{acknowledged_seen, received_seen, released_seen}
-use Rattle.rls_seen.proofs.Staying.{acknowledged_sane, received_sane, released_sane}
+use Rattle.rls_seen.proofs.Staying.{acknowledged_sane, received_sane, released_all_sane, released_sane}
 use Rattle.rls_store.specs.Stored.{AreWritable}
 use Rattle.rls_store.specs.Kept.{FreshIsWritable, LinesKeepWritable, TakenIsWritable}
 
@@ -72,17 +72,24 @@ given_op n o s = let few = s.limit in record { whole = spelled_op n o s; ranged 
 
 -- ---- states
 
--- what may be written as a file, but for what is ready
-pub record IsStoring (s : Seen) : Type 0 where
-  pub sane : IsSane s
+-- no operation that is kept or waits is too large, and those that wait are of other members
+pub record IsSized (s : Seen) : Type 0 where
   pub log : (o : Op) → IsIn o s.log → op_size o ≤ OPERATION_BYTES
   pub waiting : (w : Op) → IsIn w s.waiting → op_size w ≤ OPERATION_BYTES
   pub others : (w : Op) → IsIn w s.waiting → w.author ≢ s.acks.me
 
-pub storing : (s : Seen) → IsSane s → AreWritable s → IsStoring s
-storing s h w = record { sane = h; log = w.log; waiting = w.waiting; others = w.others }
+-- what may be written as a file, but for what is ready
+pub record IsStoring (s : Seen) : Type 0 where
+  pub sane : IsSane s
+  pub sized : IsSized s
 
-pub writable : (s : Seen) → IsStoring s → first_ready s ≡ None → AreWritable s
+pub sized : (s : Seen) → AreWritable s → IsSized s
+sized s w = record { log = w.log; waiting = w.waiting; others = w.others }
+
+pub storing : (s : Seen) → IsSane s → AreWritable s → IsStoring s
+storing s h w = record { sane = h; sized = sized s w }
+
+pub writable : (s : Seen) → IsSized s → first_ready s ≡ None → AreWritable s
 writable s h r = record { log = h.log; waiting = h.waiting; others = h.others; rest = r }
 
 me_after : (acks : AcksSeen) (a : ℕ) (b : Body) → (acks_after acks a b).me ≡ acks.me
@@ -91,10 +98,9 @@ me_after acks a (Delete targets) = refl
 me_after acks a (Rename former) = refl
 me_after acks a Leave = refl
 
-pub accept_storing : (s : Seen) (o : Op) → IsStoring s → IsSane (accepted s o) → op_size o ≤ OPERATION_BYTES → IsStoring (accepted s o)
+accept_sized : (s : Seen) (o : Op) → IsSized s → op_size o ≤ OPERATION_BYTES → IsSized (accepted s o)
 unfolding accepted
-accept_storing s o h sane few = record {
-  sane = sane;
+accept_sized s o h few = record {
   log = λ x p. ⊎_elim (λ q. h.log x q) (λ q. last x q) (in_split x s.log (o ∷ []) p);
   waiting = λ w p. h.waiting w (in_without o.author o.seq w s.waiting p).0;
   others = λ w p. subst (λ m. w.author ≢ m) (sym (me_after s.acks o.author o.body)) (h.others w (in_without o.author o.seq w s.waiting p).0);
@@ -104,9 +110,12 @@ accept_storing s o h sane few = record {
     last x (inl e) = subst (λ (y : Op). op_size y ≤ OPERATION_BYTES) e few
     last x (inr q) = absurd q
 
-hold_storing : (s : Seen) (o : Op) (W : List Op) → IsStoring s → IsSane (holding s W) → ((w : Op) → IsIn w W → (op_size w ≤ OPERATION_BYTES) × (w.author ≢ s.acks.me)) → IsStoring (holding s W)
+pub accept_storing : (s : Seen) (o : Op) → IsStoring s → IsSane (accepted s o) → op_size o ≤ OPERATION_BYTES → IsStoring (accepted s o)
+accept_storing s o h sane few = record { sane = sane; sized = accept_sized s o h.sized few }
+
+hold_sized : (s : Seen) (W : List Op) → IsSized s → ((w : Op) → IsIn w W → (op_size w ≤ OPERATION_BYTES) × (w.author ≢ s.acks.me)) → IsSized (holding s W)
 unfolding holding
-hold_storing s o W h sane all = record { sane = sane; log = h.log; waiting = λ w p. (all w p).0; others = λ w p. (all w p).1 }
+hold_sized s W h all = record { log = h.log; waiting = λ w p. (all w p).0; others = λ w p. (all w p).1 }
 
 -- what waits is of another member
 other_by : (v : List ℕ) (me : ℕ) (W : List Op) (r : Option Reason) (o : Op) (f : Option Shape) → answer_by false v me W r o f ≡ Waits → eqb o.author me ≡ false
@@ -122,27 +131,33 @@ waits_other : (s : Seen) (o : Op) → answer_over false s o ≡ Waits → o.auth
 unfolding answer_over
 waits_other s o e = λ same. let no = other_by (vector s) s.acks.me s.waiting (refusal_over s o) o (shape_fault (members s) o) e in grind (arith, nat_tests)
 
-received_storing : (s : Seen) (o : Op) → IsStoring s → IsGiven o → IsStoring (received s o)
+received_sized : (s : Seen) (o : Op) → IsSized s → op_size o ≤ OPERATION_BYTES → IsSized (received s o)
 unfolding received
-received_storing s o h g = go (answer_over false s o) refl (received_sane s o h.sane g.whole g.ranged)
+received_sized s o h few = go (answer_over false s o) refl
   where
-    go : (a : Answer) → answer_over false s o ≡ a → IsSane (received s o) → IsStoring (received s o)
-    go Applies e k = rw e (accept_storing s o h (rw e at k) g.size)
-    go Waits e k = rw e (hold_storing s o _ h (rw e at k) (λ w p. ⊎_elim (λ q. subst (λ (x : Op). (op_size x ≤ OPERATION_BYTES) × (x.author ≢ s.acks.me)) q (g.size, waits_other s o e)) (λ q. (h.waiting w (in_without o.author o.seq w s.waiting q).0, h.others w (in_without o.author o.seq w s.waiting q).0)) (in_with o w (without o.author o.seq s.waiting) p)))
-    go Repeats e k = rw e h
-    go (Refuses r) e k = rw e h
+    go : (a : Answer) → answer_over false s o ≡ a → IsSized (received s o)
+    go Applies e = rw e (accept_sized s o h few)
+    go Waits e = rw e (hold_sized s _ h (λ w p. ⊎_elim (λ q. subst (λ (x : Op). (op_size x ≤ OPERATION_BYTES) × (x.author ≢ s.acks.me)) q (few, waits_other s o e)) (λ q. (h.waiting w (in_without o.author o.seq w s.waiting q).0, h.others w (in_without o.author o.seq w s.waiting q).0)) (in_with o w (without o.author o.seq s.waiting) p)))
+    go Repeats e = rw e h
+    go (Refuses r) e = rw e h
+
+received_storing : (s : Seen) (o : Op) → IsStoring s → IsGiven o → IsStoring (received s o)
+received_storing s o h g = record { sane = received_sane s o h.sane g.whole g.ranged; sized = received_sized s o h.sized g.size }
+
+released_sized : (s : Seen) → IsSized s → IsSized (released s)
+unfolding released
+released_sized s h = go (first_ready s) refl
+  where
+    by_reason : (w : Op) (r : Option Reason) → IsIn w s.waiting → IsSized (after_refusal r s w)
+    by_reason w None p = accept_sized s w h (h.waiting w p)
+    by_reason w (Some r) p = hold_sized s (without w.author w.seq s.waiting) h (λ x q. (h.waiting x (in_without w.author w.seq x s.waiting q).0, h.others x (in_without w.author w.seq x s.waiting q).0))
+
+    go : (o : Option Op) → first_ready s ≡ o → IsSized (released s)
+    go None e = rw e h
+    go (Some w) e = rw e (by_reason w (refusal_over s w) (found_in (λ y. at_most y.context (vector s)) w s.waiting e).0)
 
 released_storing : (s : Seen) → IsStoring s → IsStoring (released s)
-unfolding released
-released_storing s h = go (first_ready s) refl (released_sane s h.sane)
-  where
-    by_reason : (w : Op) (r : Option Reason) → IsIn w s.waiting → IsSane (after_refusal r s w) → IsStoring (after_refusal r s w)
-    by_reason w None p k = accept_storing s w h k (h.waiting w p)
-    by_reason w (Some r) p k = hold_storing s w (without w.author w.seq s.waiting) h k (λ x q. (h.waiting x (in_without w.author w.seq x s.waiting q).0, h.others x (in_without w.author w.seq x s.waiting q).0))
-
-    go : (o : Option Op) → first_ready s ≡ o → IsSane (released s) → IsStoring (released s)
-    go None e k = rw e h
-    go (Some w) e k = rw e (by_reason w (refusal_over s w) (found_in (λ y. at_most y.context (vector s)) w s.waiting e).0 (rw e at k))
+released_storing s h = record { sane = released_sane s h.sane; sized = released_sized s h.sized }
 
 same_log : (s : Seen) (a : ℕ) (v : List ℕ) → (acknowledged s a v).log ≡ s.log
 unfolding acknowledged
@@ -161,11 +176,13 @@ same_me s a v = go (counts s.acks a v)
     go false = refl
 
 pub acknowledged_storing : (s : Seen) (a : ℕ) (v : List ℕ) → IsStoring s → a < members s → length v ≡ members s → IsStoring (acknowledged s a v)
-acknowledged_storing s a v h l e = record {
+acknowledged_storing s a v h l e = let k = h.sized in record {
   sane = acknowledged_sane s a v h.sane l e;
-  log = λ o p. h.log o (subst (λ (x : List Op). IsIn o x) (same_log s a v) p);
-  waiting = λ w p. h.waiting w (subst (λ (x : List Op). IsIn w x) (same_waiting s a v) p);
-  others = λ w p. subst (λ m. w.author ≢ m) (sym (same_me s a v)) (h.others w (subst (λ (x : List Op). IsIn w x) (same_waiting s a v) p));
+  sized = record {
+    log = λ o p. k.log o (subst (λ (x : List Op). IsIn o x) (same_log s a v) p);
+    waiting = λ w p. k.waiting w (subst (λ (x : List Op). IsIn w x) (same_waiting s a v) p);
+    others = λ w p. subst (λ m. w.author ≢ m) (sym (same_me s a v)) (k.others w (subst (λ (x : List Op). IsIn w x) (same_waiting s a v) p));
+  };
 }
 
 -- an edit without a fault makes an operation that isn't too large
@@ -188,8 +205,11 @@ made_size s edit e = at_left (left s.acks s.acks.me) e
         let n = op_size (made_over s edit) in
         small n (nat_lt OPERATION_BYTES n) refl (numbered (eqb (own_count s) GREATEST_NUMBER) (size_fault n) f)
 
+pub edited_sized : (s : Seen) (edit : Edit) → IsSized s → edit_fault_over s edit ≡ None → IsSized (edited s edit)
+edited_sized s edit h f = accept_sized s (made_over s edit) h (made_size s edit f)
+
 pub edited_storing : (s : Seen) (edit : Edit) → IsStoring s → IsEdit edit → edit_fault_over s edit ≡ None → IsStoring (edited s edit)
-edited_storing s edit h i f = accept_storing s (made_over s edit) h (edited_sane s edit h.sane i f) (made_size s edit f)
+edited_storing s edit h i f = record { sane = edited_sane s edit h.sane i f; sized = edited_sized s edit h.sized f }
 
 -- ---- on the way
 
@@ -255,16 +275,17 @@ times_rest (suc k) s few = go (first_ready s) refl (λ l. times_rest k (released
     go (Some w) e next = let l = released_fewer s w e in next (omega (arith, l, few))
 
 -- the steps are these releases
-times_storing : (k : ℕ) (s : Seen) → IsStoring s → IsStoring (released_times k s)
-times_storing zero s h = h
-times_storing (suc k) s h = times_storing k (released s) (released_storing s h)
+times_sized : (k : ℕ) (s : Seen) → IsSized s → IsSized (released_times k s)
+times_sized zero s h = h
+times_sized (suc k) s h = times_sized k (released s) (released_sized s h)
 
 -- a replica that has released all that is ready may be written
-pub all_writable : (s : Seen) → IsStoring s → IsSane (released_all s) × AreWritable (released_all s)
+pub all_sized : (s : Seen) → IsSized s → AreWritable (released_all s)
 unfolding released_all
-all_writable s h =
-    let k = times_storing (length s.waiting) s h in
-    (k.sane, writable (released_times (length s.waiting) s) k (times_rest (length s.waiting) s (omega arith)))
+all_sized s h = writable (released_times (length s.waiting) s) (times_sized (length s.waiting) s h) (times_rest (length s.waiting) s (omega arith))
+
+pub all_writable : (s : Seen) → IsStoring s → IsSane (released_all s) × AreWritable (released_all s)
+all_writable s h = (released_all_sane s h.sane, all_sized s h.sized)
 
 steps_seen : (k n : ℕ) (c : Course) → IsOnWay n c → (release_steps k c).state ≡ released_times k c.state
 steps_seen zero n c h = refl
@@ -282,7 +303,7 @@ started_rest : (s : Seen) → IsSane s → AreWritable s → IsAtRest (members s
 started_rest s h w = record { way = record { storing = storing s h w; members_are = refl; limit = refl }; rest = w.rest }
 
 rest_writable : (n : ℕ) (c : Course) → IsAtRest n c → IsSane c.state × AreWritable c.state
-rest_writable n c r = (r.way.storing.sane, writable c.state r.way.storing r.rest)
+rest_writable n c r = (r.way.storing.sane, writable c.state r.way.storing.sized r.rest)
 
 -- ---- messages
 
@@ -315,7 +336,7 @@ taken_writable s bytes m h w f e =
     let few : m.from < members c.state = let k = r.way.members_are in omega (arith, from, e, k) in
     let long : length m.vector ≡ members c.state = v.vector.0 ∙ (e ∙ sym r.way.members_are) in
     let noted = acknowledged_storing c.state m.from m.vector r.way.storing few long in
-    subst (λ (x : Seen). IsSane x × AreWritable x) (sym (acknowledged_seen c m.from m.vector r.way.limit)) (noted.sane, writable (acknowledged c.state m.from m.vector) noted (same_ready c.state m.from m.vector ∙ r.rest))
+    subst (λ (x : Seen). IsSane x × AreWritable x) (sym (acknowledged_seen c m.from m.vector r.way.limit)) (noted.sane, writable (acknowledged c.state m.from m.vector) noted.sized (same_ready c.state m.from m.vector ∙ r.rest))
 
 -- ---- lines of edits
 
