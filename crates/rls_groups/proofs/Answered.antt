@@ -26,6 +26,7 @@ use Rattle.rls_model.proofs.NothingReady.{IsAtRest}
 use Rattle.rls_model.proofs.WorldsCommands.{with_done}
 use Rattle.rls_model.proofs.WorldsInvariant.{at_later}
 use Rattle.rls_model.proofs.WorldsPast.{taking_goes_on}
+use Rattle.rls_model.proofs.WorldsArrived.{edit_stays, message_stays}
 use Rattle.rls_seen.specs.Messages.{message_over}
 use Rattle.rls_seen.specs.Over.{first_ready, release_of, release_over, released_all}
 use Rattle.rls_seen.specs.Seen.{Seen, members, vector}
@@ -61,7 +62,7 @@ use Rattle.rls_groups.specs.Groups.{IsAnswered, IsClean, IsStored, IsTaken, IsTe
 use Rattle.rls_groups.proofs.Commands.{message_taken}
 use Rattle.rls_groups.proofs.Past.{past_same}
 use Rattle.rls_groups.proofs.Requests.{Steps}
-use Rattle.rls_groups.proofs.Staying.{Follows, edit_stays, follows_self, has_or_holds, is_there, message_stays}
+use Rattle.rls_groups.proofs.Staying.{Follows, follows_self, has_or_holds, is_there}
 use Rattle.rls_groups.proofs.Steps.{IsUnderway, at, edits, performs, rests, sends_on, takes}
 
 -- ---- nothing is released

@@ -14,7 +14,7 @@ use Rattle.rls_model.specs.Taking.{take_message}
 use Rattle.rls_model.specs.Worlds.{World}
 use Rattle.rls_model.proofs.NothingReady.{IsAtRest, taken_done}
 use Rattle.rls_model.proofs.OnePlace.{set_get}
-use Rattle.rls_model.proofs.WorldsArrived.{message_there}
+use Rattle.rls_model.proofs.WorldsArrived.{message_stays, message_there}
 use Rattle.rls_model.proofs.WorldsInvariant.{IsGood}
 use Rattle.rls_seen.specs.Seen.{Seen}
 use Rattle.rls_report.specs.Reports.{edit_text}
@@ -28,7 +28,7 @@ use Rattle.rls_top.proofs.GroupCommands.{Comes, MakesOf, same_ok}
 use Rattle.rls_groups.specs.Groups.{AreMade, HasReport, IsCommanded, IsTaken}
 use Rattle.rls_groups.specs.Lives.{after_message, after_script, after_words, run_to, states_with}
 use Rattle.rls_groups.proofs.Lines.{lines_made}
-use Rattle.rls_groups.proofs.Staying.{Follows, follows_self, has_or_holds, message_stays}
+use Rattle.rls_groups.proofs.Staying.{Follows, follows_self, has_or_holds}
 use Rattle.rls_model.proofs.WorldsPast.{taking_goes_on}
 
 -- ---- the history after it

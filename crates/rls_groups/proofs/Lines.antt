@@ -12,13 +12,13 @@ use Rattle.rls_model.specs.Worlds.{World, with_state}
 use Rattle.rls_model.proofs.HistoryNumbers.{front_self, front_trans}
 use Rattle.rls_model.proofs.MemberSteps.{edits_own, here, keep, start}
 use Rattle.rls_model.proofs.NothingReady.{IsAtRest, edited_done, made_alone, rest_steps}
-use Rattle.rls_model.proofs.WorldsArrived.{IsThere}
+use Rattle.rls_model.proofs.WorldsArrived.{IsThere, edit_stays}
 use Rattle.rls_model.proofs.WorldsEdits.{AllReadWell}
 use Rattle.rls_model.proofs.WorldsInvariant.{IsGood}
 use Rattle.rls_report.specs.declared.failures.LineFault.{LineFault}
 use Rattle.rls_ops.specs.declared.op.Op.{Op}
 use Rattle.rls_groups.specs.Groups.{AreMade}
-use Rattle.rls_groups.proofs.Staying.{Follows, edit_stays}
+use Rattle.rls_groups.proofs.Staying.{Follows}
 
 -- what lines make of a stage
 pub record Ran {L : Type 0} (reads : State → L → Result Edit LineFault) (p : Progress) (ls : List L) (q : Progress) : Type 0 where

@@ -1,5 +1,5 @@
 -- In a good world what a sent message brings stands in the history, or waits for its causes.
-use Rattle.std.proofs.Common.{◌≡◌, ℕ, ◌≤◌, Bool, true, false, List, [], ◌∷◌, length, refl, sym, ap, ◌∙◌, subst, inl, inr, ◌⊎◌, ⊎_elim}
+use Rattle.std.proofs.Common.{◌≡◌, ℕ, ◌≤◌, arith, Bool, true, false, List, [], ◌∷◌, length, refl, sym, ap, ◌∙◌, subst, inl, inr, ◌⊎◌, ⊎_elim}
 use Rattle.std.specs.Prelude.{if◌then◌else◌, Option, Some, None}
 use Rattle.rls_ident.specs.Lists.{IsIn}
 use Rattle.rls_ident.specs.Vectors.{at_most}
@@ -8,7 +8,9 @@ use Rattle.rls_ops.specs.declared.op.Op.{Op}
 use Rattle.rls_ops.specs.declared.message.Message.{Message}
 use Rattle.rls_ops.proofs.Waiting.{numbered_is}
 use Rattle.rls_model.specs.Answers.{Answer, Waits}
-use Rattle.rls_model.specs.History.{ops, count, count_of}
+use Rattle.rls_model.specs.declared.edit.Edit.{Edit}
+use Rattle.rls_model.specs.Editing.{made}
+use Rattle.rls_model.specs.History.{ops, count, count_of, me_of}
 use Rattle.rls_model.specs.History as history
 use Rattle.rls_model.specs.Stability.{is_counted}
 use Rattle.rls_model.specs.Fitting.{refusal}
@@ -19,7 +21,8 @@ use Rattle.rls_model.specs.Laws.{IsAt, SentArrives}
 use Rattle.rls_model.proofs.Machines.{ops_keep, received_limit, releases_keep}
 use Rattle.rls_model.proofs.HistoryNumbers.{number_counted, with_number}
 use Rattle.rls_model.proofs.WorldsInvariant.{IsHome, IsGood}
-use Rattle.rls_model.proofs.WorldsArrivals.{one_op, Received, Again, Held, Taken, received}
+use Rattle.rls_model.proofs.WaitingFits.{waiting_at}
+use Rattle.rls_model.proofs.WorldsArrivals.{one_op, own_counted, Received, Again, Held, Taken, received}
 use Rattle.rls_model.proofs.MemberSteps.{IsGoing, here, start, ready_fits, received_going, released_by, release_is, released_going, releases_going}
 use Rattle.rls_model.proofs.NothingReady.{released_done, taken_done}
 use Rattle.rls_model.proofs.WorldsLaws.{good_after, rests_after}
@@ -175,6 +178,26 @@ unfolding take_within
 message_there w i s m o g h k p =
     noted_keeps (take_ops (started None s) m.ops) m.from m.vector o
     (ops_there w i s h (started None s) m m.ops o refl (start w i s None g h) k (λ x q. q) p)
+
+-- ---- what is there stays there
+
+pub message_stays : (w : World) (i : ℕ) (s : State) (m : Message) (o : Op) → IsGood w → IsAt w i s → IsIn m w.sent → IsThere s o → IsThere (take_within None s m).state o
+unfolding take_within
+message_stays w i s m o g h k t = noted_keeps (take_ops (started None s) m.ops) m.from m.vector o (ops_stay w i s h (started None s) m m.ops o (start w i s None g h) k (λ x q. q) t)
+
+made_by_me : (t : State) (edit : Edit) → (made t.history edit).author ≡ me_of t.history
+unfolding made
+made_by_me t edit = refl
+
+-- what waits is of other members, so an own operation takes none of it out
+pub edit_stays : (w : World) (i : ℕ) (t : State) (edit : Edit) (o : Op) → IsGood w → IsAt w i t → IsThere t o → IsThere (accept t (made t.history edit)) o
+edit_stays w i t edit o g h (inl p) = inl (in_left o (ops t.history) (made t.history edit ∷ []) p)
+edit_stays w i t edit o g h (inr p) =
+    let r = g.member i t h in
+    let above = (waiting_at t.history t.waiting o r.sound p).2 in
+    accept_keeps t o (made t.history edit) (λ e f. let c = own_counted w i t o g h (r.waits o p) (e ∙ (made_by_me t edit ∙ r.me)) in absurd (omega arith)) (inr p)
+
+-- ---- the law
 
 pub law : SentArrives
 law w hs i s m o a q h k p =
