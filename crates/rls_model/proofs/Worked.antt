@@ -1,5 +1,5 @@
 -- Worked examples of histories, operations that arrive, and worlds, by computation.
-use Rattle.std.specs.Prelude.{◌≡◌, ℕ, pos, negsuc, List, [], ◌∷◌, ◌++◌, refl, Some, None, Option, codes}
+use Rattle.std.specs.Prelude.{◌≡◌, ℕ, pos, negsuc, List, [], ◌∷◌, refl, Some, None, Option, codes}
 use Rattle.rls_ident.specs.declared.tuple.Tuple.{Tuple}
 use Rattle.rls_ident.specs.declared.tuple.Tuple.TheVariants.{At}
 use Rattle.rls_ident.specs.declared.epoch_name.EpochName.{EpochName}
@@ -13,9 +13,6 @@ use Rattle.rls_model.specs.declared.edit.Edit.{Edit}
 use Rattle.rls_model.specs.declared.edit.Edit.TheVariants.{Insert, Delete, Rename, Leave}
 use Rattle.rls_model.specs.declared.edit.EditError.{EditError}
 use Rattle.rls_model.specs.declared.edit.EditError.TheVariants as edit_errors
-use Rattle.rls_model.specs.declared.event.StepError.TheVariants as step_errors
-use Rattle.rls_model.specs.declared.event.Event.TheVariants as events
-use Rattle.rls_model.specs.declared.event.Outcome.TheVariants as outcomes
 use Rattle.rls_model.specs.declared.receipt.Taken.{Taken}
 use Rattle.rls_model.specs.History.{History, Fresh, Then, Accepted, Acknowledged, count}
 use Rattle.rls_model.specs.Stems.{stem_of, stems}
@@ -28,7 +25,6 @@ use Rattle.rls_model.specs.Retained.{counts}
 use Rattle.rls_model.specs.Parts.{parts}
 use Rattle.rls_model.specs.Taking.{take_message, take_within, taken}
 use Rattle.rls_model.specs.EditRun.{Run, Done, Stopped, run_edits}
-use Rattle.rls_model.specs.Worlds.{run}
 use Rattle.rls_model.specs.Computing.{computing}
 
 -- the middle position

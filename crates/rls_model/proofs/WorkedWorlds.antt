@@ -4,7 +4,6 @@ use Rattle.rls_ident.specs.declared.tuple.Tuple.{Tuple}
 use Rattle.rls_ident.specs.declared.tuple.Tuple.TheVariants.{At, High}
 use Rattle.rls_ident.specs.declared.epoch_name.EpochName.{EpochName}
 use Rattle.rls_ident.specs.declared.epoch_name.EpochName.TheVariants.{Origin, Of}
-use Rattle.rls_ops.specs.declared.op.Body.TheVariants as body
 use Rattle.rls_model.specs.declared.edit.Edit.{Edit}
 use Rattle.rls_model.specs.declared.edit.Edit.TheVariants.{Insert, Delete, Rename, Leave}
 use Rattle.rls_model.specs.declared.edit.EditError.TheVariants as edit_errors
@@ -16,9 +15,8 @@ use Rattle.rls_model.specs.declared.counts.Counts.{Counts}
 use Rattle.rls_model.specs.History.{count}
 use Rattle.rls_model.specs.Epochs.{greatest, translate}
 use Rattle.rls_model.specs.Document.{text}
-use Rattle.rls_model.specs.Answers.{Reason, Left}
+use Rattle.rls_model.specs.Answers.{Reason}
 use Rattle.rls_model.specs.Retained.{counts}
-use Rattle.rls_model.specs.Taking.{taken}
 use Rattle.rls_model.specs.Worlds.{World, Happening, whole, run, empty_world, fault_of, outcome_of}
 use Rattle.rls_model.specs.Computing.{computing}
 use Rattle.rls_model.proofs.Worked.{mid, runs}

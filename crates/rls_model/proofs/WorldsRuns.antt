@@ -11,7 +11,7 @@ use Rattle.rls_model.specs.Receiving.{State, accept, first_ready, after_release,
 use Rattle.rls_model.specs.Editing.{made, edit_fault}
 use Rattle.rls_model.specs.Taking.{by_history, one_less, Progress, started, release_step, release_steps, with_releases}
 use Rattle.rls_model.specs.EditRun.{edit_step, edit_within, Done, go_on, run_from, run_lines, unless_fault, read_edit}
-use Rattle.rls_model.specs.Worlds.{World, or_else, of_edit, edit_fault_at, fault_of, with_state, edit_at, step_of, unless, happens, Happening, whole, run, AreEvents, AreWhole}
+use Rattle.rls_model.specs.Worlds.{World, or_else, of_edit, edit_fault_at, fault_of, with_state, edit_at, step_of, unless, happens, Happening, run, AreEvents, AreWhole}
 use Rattle.rls_model.specs.Laws.{IsAt, IsAfter, edit_events, EditsAreEvents}
 use Rattle.rls_model.proofs.OnePlace.{get_set_same, got_below, set_get, set_set}
 use Rattle.rls_model.proofs.MemberSteps.{released_by, release_is}

@@ -1,75 +1,24 @@
 -- The parts of a replica, as a file holds them.
-use Rattle.std.specs.Prelude.{ℕ, zero, suc, ◌+◌, List, [], ◌∷◌, ◌++◌, ◌==◌, map, position, Option, Some, None, if◌then◌else◌}
-use Rattle.rls_ident.specs.declared.tuple.Tuple.{Tuple}
-use Rattle.rls_ident.specs.declared.epoch_name.EpochName.{EpochName}
-use Rattle.rls_ident.specs.EpochNames.{name_eq}
-use Rattle.rls_ident.specs.Identifiers.{follows}
-use Rattle.rls_rename.specs.Tree.{Node, is_of}
-use Rattle.rls_model.specs.declared.parts.EpochPart.{EpochPart}
-use Rattle.rls_model.specs.declared.parts.TextRun.{TextRun}
+use Rattle.std.specs.Prelude.{ℕ, List}
 use Rattle.rls_model.specs.declared.parts.Parts.{Parts}
-use Rattle.rls_model.specs.History.{History, me_of, members_of, group_of, count, has_left, row}
-use Rattle.rls_model.specs.Stability.{unstable}
-use Rattle.rls_model.specs.Stems.{stems}
+use Rattle.rls_model.specs.History.{History, me_of, members_of, has_left, row}
 use Rattle.rls_model.specs.Epochs.{epochs}
 use Rattle.rls_model.specs.Document.{export}
+pub use Rattle.rls_model.specs.PartLists.{node_of, top_part, epoch_part, epoch_parts, put_text, text_runs}
 use Rattle.rls_model.specs.Retained.{retained}
 use Rattle.rls_model.specs.Receiving.{State}
+use Rattle.rls_model.specs.View.{plain_of}
+use Rattle.rls_model.specs.Rules as rules
 
 -- the rows of the members below n, without the own one
 abbrev pub other_rows : History → ℕ → List (List ℕ)
-other_rows H zero = []
-other_rows H (suc n) = other_rows H n ++ (if n == me_of H then [] else row H n ∷ [])
+other_rows H = rules.other_rows (me_of H) (row H)
 
 -- the members below n that have left
 abbrev pub left_below : History → ℕ → List ℕ
-left_below H zero = []
-left_below H (suc n) = left_below H n ++ (if has_left H n then n ∷ [] else [])
-
--- the node of the epoch
-abbrev pub node_of : List Node → EpochName → Option Node
-node_of [] e = None
-node_of (node ∷ older) e = if is_of node e then Some node else node_of older e
-
--- the topmost epoch is kept by its name alone
-abbrev pub top_part : EpochName → EpochPart
-top_part e = record { name = e; parent = None; former = [] }
-
--- an epoch in the list es, with this node
-abbrev pub epoch_part : List EpochName → EpochName → Option Node → EpochPart
-epoch_part es e None = top_part e
-epoch_part es e (Some node) = record { name = e; parent = position (name_eq node.parent) es; former = node.renaming.former }
-
--- the epochs of the list, of which the first is the topmost
-abbrev pub epoch_parts : List Node → List EpochName → List EpochPart
-epoch_parts nodes [] = []
-epoch_parts nodes (top ∷ es) = top_part top ∷ map (λ e. epoch_part (top ∷ es) e (node_of nodes e)) es
-
--- the runs with one more entry in front, which joins the first run where that follows it
-abbrev pub put_text : List Tuple × ℕ → List TextRun → List TextRun
-put_text e [] = record { run = (e.0, 1); text = e.1 ∷ [] } ∷ []
-put_text e (r ∷ rs) =
-    if follows r.run.0 e.0
-    then record { run = (e.0, r.run.1 + 1); text = e.1 ∷ r.text } ∷ rs
-    else record { run = (e.0, 1); text = e.1 ∷ [] } ∷ r ∷ rs
-
--- the maximal runs with their characters
-abbrev pub text_runs : List (List Tuple × ℕ) → List TextRun
-text_runs [] = []
-text_runs (e ∷ es) = put_text e (text_runs es)
+left_below H = rules.left_below (has_left H)
 
 -- the record of all parts
 unfoldable pub parts : State → Parts
-parts s = record {
-  group = group_of s.history;
-  members = members_of s.history;
-  me = me_of s.history;
-  vector = count s.history;
-  rows = other_rows s.history (members_of s.history);
-  stems = stems s.history;
-  epochs = epoch_parts (epochs s.history) (retained s.history);
-  text = text_runs (export s.history);
-  log = unstable s.history;
-  held = s.waiting;
-  left = left_below s.history (members_of s.history);
-}
+parts s =
+    rules.parts (plain_of s.history) (other_rows s.history (members_of s.history)) (epoch_parts (epochs s.history) (retained s.history)) (export s.history) s.waiting (left_below s.history (members_of s.history))

@@ -9,6 +9,7 @@ pub use Rattle.rls_ops.specs.Waiting.{is_numbered, waiting_under, comes_before, 
 use Rattle.rls_model.specs.Answers.{Reason, Misshapen, Own, Forked, Answer, Applies, Repeats, Waits, Refuses, Released}
 use Rattle.rls_model.specs.History.{Accepted, History, Then, count, me_of, members_of}
 use Rattle.rls_model.specs.Fitting.{refusal}
+use Rattle.rls_model.specs.Rules as rules
 
 -- the answer to an operation whose causes are there
 abbrev pub verdict_of : Option Reason → Answer
@@ -72,8 +73,7 @@ first_ready s = find (λ w. at_most w.context (count s.history)) s.waiting
 
 -- what is released where this operation is the first ready one
 abbrev pub release_of : State → Option Op → Option Released
-release_of s None = None
-release_of s (Some w) = Some (record { author = w.author; seq = w.seq; refusal = refusal s.history w })
+release_of s = rules.release_of (refusal s.history)
 
 -- what is answered where the first ready operation is looked at
 abbrev pub release : State → Option Released

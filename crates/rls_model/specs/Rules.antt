@@ -1,11 +1,12 @@
 -- The rules, over a view.
-use Rattle.std.specs.Prelude.{ℕ, ◌+◌, not, List, [], ◌∷◌, length, take, drop, ◌==◌, slice_get, slice_index, Option, Some, None, if◌then◌else◌}
+use Rattle.std.specs.Prelude.{ℕ, zero, suc, ◌+◌, Bool, not, List, [], ◌∷◌, ◌++◌, length, take, drop, ◌==◌, slice_get, slice_index, Option, Some, None, if◌then◌else◌}
 use Rattle.rls_ident.specs.declared.limits.TheConstants.{GREATEST_NUMBER, INPUT_BYTES}
 use Rattle.rls_ident.specs.declared.tuple.Tuple.{Tuple}
 use Rattle.rls_ident.specs.declared.epoch_name.EpochName.{EpochName}
 use Rattle.rls_ident.specs.EpochNames.{name_eq}
 use Rattle.rls_ident.specs.Identifiers.{last_of}
 use Rattle.rls_ident.specs.Vectors.{at_most}
+use Rattle.rls_runs.specs.Entries.{Entries}
 use Rattle.rls_runs.specs.Runs.{runs_of}
 use Rattle.rls_ops.specs.declared.op.Op.{Op}
 use Rattle.rls_ops.specs.declared.op.Body.{Body}
@@ -14,13 +15,16 @@ use Rattle.rls_ops.specs.declared.message.Message.{Message}
 use Rattle.rls_ops.specs.Rows.{missing_for}
 use Rattle.rls_ops.specs.Sizes.{op_size, head_size, front_within}
 use Rattle.rls_model.specs.declared.counts.Counts.{Counts}
+use Rattle.rls_model.specs.declared.parts.EpochPart.{EpochPart}
+use Rattle.rls_model.specs.declared.parts.Parts.{Parts}
 use Rattle.rls_model.specs.declared.edit.Edit.{Edit}
 use Rattle.rls_model.specs.declared.edit.Edit.TheVariants as edits
 use Rattle.rls_model.specs.declared.edit.EditError.{EditError}
 use Rattle.rls_model.specs.declared.edit.EditError.TheVariants.{NumbersSpent}
 use Rattle.rls_model.specs.declared.edit.EditError.TheVariants as errors
-use Rattle.rls_model.specs.Answers.{Reason, Left, Backward, WrongEpoch, WrongStem, UnknownTarget}
+use Rattle.rls_model.specs.Answers.{Reason, Left, Backward, WrongEpoch, WrongStem, UnknownTarget, Released}
 use Rattle.rls_model.specs.EditParts.{first_between, get_before, range_fault, or_fault, size_fault}
+use Rattle.rls_model.specs.PartLists.{text_runs}
 use Rattle.rls_model.specs.Stems.{due_offset, may_use}
 use Rattle.rls_model.specs.View.{Plain, View}
 
@@ -76,6 +80,13 @@ refusal v o =
     else if not (name_eq o.epoch (v.due o.context)) then Some (WrongEpoch (v.due o.context))
     else body_refusal v o o.body
 
+-- ---- releasing
+
+-- what is released, by the reason to refuse an operation, where this operation is the first ready one
+abbrev pub release_of : (Op → Option Reason) → Option Op → Option Released
+release_of reason None = None
+release_of reason (Some w) = Some (record { author = w.author; seq = w.seq; refusal = reason w })
+
 -- ---- sending, and numbers
 
 -- the unstable operations that this row doesn't cover, as many as a message holds
@@ -97,4 +108,32 @@ counts v W = record {
   unstable = length v.unstable;
   epochs = length v.retained;
   former = v.former;
+}
+
+-- ---- parts
+
+-- the rows of the members below n, without the own one
+abbrev pub other_rows : ℕ → (ℕ → List ℕ) → ℕ → List (List ℕ)
+other_rows me row zero = []
+other_rows me row (suc n) = other_rows me row n ++ (if n == me then [] else row n ∷ [])
+
+-- the members below n that have left
+abbrev pub left_below : (ℕ → Bool) → ℕ → List ℕ
+left_below left zero = []
+left_below left (suc n) = left_below left n ++ (if left n then n ∷ [] else [])
+
+-- the record of all parts, with these rows of the others, epochs, characters and waiting operations, and with who has left
+abbrev pub parts : Plain → List (List ℕ) → List EpochPart → Entries → List Op → List ℕ → Parts
+parts v rows epochs text W left = record {
+  group = v.group;
+  members = v.members;
+  me = v.me;
+  vector = v.vector;
+  rows = rows;
+  stems = v.stems;
+  epochs = epochs;
+  text = text_runs text;
+  log = v.unstable;
+  held = W;
+  left = left;
 }

@@ -6,27 +6,26 @@ use Rattle.rls_rename.specs.Keeping.{kept_part}
 use Rattle.rls_rename.specs.Tree.{Epochs}
 use Rattle.rls_ops.specs.declared.op.Op.{Op}
 use Rattle.rls_ops.specs.Rows.{row_of, left}
-use Rattle.rls_model.specs.declared.parts.EpochPart.{EpochPart}
-use Rattle.rls_model.specs.declared.parts.Parts.{Parts}
-use Rattle.rls_model.specs.declared.parts.Stem.{Stem}
 use Rattle.rls_model.specs.Document.{export, text}
 use Rattle.rls_model.specs.Epochs.{epochs}
-use Rattle.rls_model.specs.History.{group_of, me_of, members_of, count}
+use Rattle.rls_model.specs.History.{me_of, members_of}
 use Rattle.rls_model.specs.Laws.{KeepsRetained}
 use Rattle.rls_model.specs.Legal.{IsSound}
-use Rattle.rls_model.specs.Parts.{epoch_parts, text_runs, parts}
+use Rattle.rls_model.specs.Parts.{epoch_parts, parts}
 use Rattle.rls_model.specs.Parts as model
 use Rattle.rls_model.specs.Receiving.{State}
 use Rattle.rls_model.specs.Retained.{retained}
+use Rattle.rls_model.specs.Rules as rules
 use Rattle.rls_model.specs.Stability.{stable, unstable}
-use Rattle.rls_model.specs.Stems.{stems}
+use Rattle.rls_model.specs.View.{plain_of}
 use Rattle.rls_model.proofs.WindowAnswers.{parts_window}
 use Rattle.rls_model.proofs.WindowLaws as window_laws
-use Rattle.rls_seen.specs.Seen.{Seen, members, stable_over, unstable_over, text_over}
+use Rattle.rls_seen.specs.Seen.{Seen, members, stable_over, text_over}
 use Rattle.rls_seen.specs.Kept as kept
 use Rattle.rls_seen.specs.Kept.{dropped, retained_over, counts_over, other_rows, left_below, parts_over}
 use Rattle.rls_seen.specs.Stands.{StandsFor, IsLog}
 use Rattle.rls_seen.proofs.Alike.{members_alike, stable_alike, unstable_alike, keeping}
+use Rattle.rls_seen.proofs.Editing.{plain_alike}
 pub use Rattle.rls_seen.proofs.Editing.{retained_alike, counts_alike}
 
 -- ---- a part of what a replica keeps
@@ -84,27 +83,12 @@ left_alike s t h (suc n) l =
     ap (λ ms. ms ++ (if left s.acks n then n ∷ [] else [])) (left_alike s t h n (omega arith))
     ∙ ap (λ b. model.left_below t.history n ++ (if b then n ∷ [] else [])) (h.left n (omega arith))
 
-parts_of : ℕ → ℕ → ℕ → List ℕ → List (List ℕ) → List Stem → List EpochPart → List (List Tuple × ℕ) → List Op → List Op → List ℕ → Parts
-parts_of g n me v rs ss es xs log W ms = record {
-  group = g;
-  members = n;
-  me = me;
-  vector = v;
-  rows = rs;
-  stems = ss;
-  epochs = es;
-  text = text_runs xs;
-  log = log;
-  held = W;
-  left = ms;
-}
-
 epochs_alike : (s : Seen) (t : State) → StandsFor s t → epoch_parts s.epochs.nodes (retained_over s) ≡ epoch_parts (epochs t.history) (retained t.history)
 epochs_alike s t h = ap (epoch_parts s.epochs.nodes) (retained_alike s t h) ∙ parts_window t.history s.epochs.top s.epochs.nodes h.legal (keeping s t h)
 
 -- the same parts
 pub parts_alike : (s : Seen) (t : State) → StandsFor s t → parts_over s ≡ parts t
-unfolding parts_over parts parts_of
+unfolding parts_over parts
 parts_alike s t h =
     let H = t.history in
     let n = members_alike s t h in
@@ -113,18 +97,12 @@ parts_alike s t h =
     let es = epochs_alike s t h in
     let es0 = epoch_parts s.epochs.nodes (retained_over s) in
     let es1 = epoch_parts (epochs H) (retained H) in
-    let log0 = unstable_over s in
     let rs0 = other_rows s.acks (members s) in
     let rs1 = model.other_rows H (members_of H) in
     let ms0 = left_below s.acks (members s) in
-    ap (λ g. parts_of g (members s) s.acks.me s.acks.mine rs0 s.stems es0 s.text log0 s.waiting ms0) h.group
-    ∙ (ap (λ m. parts_of (group_of H) m s.acks.me s.acks.mine rs0 s.stems es0 s.text log0 s.waiting ms0) n
-    ∙ (ap (λ me. parts_of (group_of H) (members_of H) me s.acks.mine rs0 s.stems es0 s.text log0 s.waiting ms0) h.me
-    ∙ (ap (λ v. parts_of (group_of H) (members_of H) (me_of H) v rs0 s.stems es0 s.text log0 s.waiting ms0) h.vector
-    ∙ (ap (λ r. parts_of (group_of H) (members_of H) (me_of H) (count H) r s.stems es0 s.text log0 s.waiting ms0) rs
-    ∙ (ap (λ ss. parts_of (group_of H) (members_of H) (me_of H) (count H) rs1 ss es0 s.text log0 s.waiting ms0) h.stems
-    ∙ (ap (λ ps. parts_of (group_of H) (members_of H) (me_of H) (count H) rs1 (stems H) ps s.text log0 s.waiting ms0) es
-    ∙ (ap (λ xs. parts_of (group_of H) (members_of H) (me_of H) (count H) rs1 (stems H) es1 xs log0 s.waiting ms0) h.text
-    ∙ (ap (λ os. parts_of (group_of H) (members_of H) (me_of H) (count H) rs1 (stems H) es1 (export H) os s.waiting ms0) (unstable_alike s t h)
-    ∙ (ap (λ W. parts_of (group_of H) (members_of H) (me_of H) (count H) rs1 (stems H) es1 (export H) (unstable H) W ms0) h.waiting
-    ∙ ap (parts_of (group_of H) (members_of H) (me_of H) (count H) rs1 (stems H) es1 (export H) (unstable H) t.waiting) ms)))))))))
+    ap (λ v. rules.parts v rs0 es0 s.text s.waiting ms0) (plain_alike s t h)
+    ∙ (ap (λ r. rules.parts (plain_of H) r es0 s.text s.waiting ms0) rs
+    ∙ (ap (λ ps. rules.parts (plain_of H) rs1 ps s.text s.waiting ms0) es
+    ∙ (ap (λ xs. rules.parts (plain_of H) rs1 es1 xs s.waiting ms0) h.text
+    ∙ (ap (λ W. rules.parts (plain_of H) rs1 es1 (export H) W ms0) h.waiting
+    ∙ ap (rules.parts (plain_of H) rs1 es1 (export H) t.waiting) ms))))

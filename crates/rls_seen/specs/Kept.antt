@@ -1,14 +1,14 @@
 -- What is dropped, and the numbers and parts of a replica, read over what it consists of.
-use Rattle.std.specs.Prelude.{ℕ, zero, suc, List, [], ◌∷◌, ◌++◌, ◌==◌, length, sum_by, if◌then◌else◌}
+use Rattle.std.specs.Prelude.{ℕ, suc, List, length, sum_by}
 use Rattle.rls_rename.specs.Keeping.{kept_part}
 use Rattle.rls_ops.specs.Rows.{AcksSeen, row_of, left}
 use Rattle.rls_model.specs.declared.counts.Counts.{Counts}
 use Rattle.rls_model.specs.declared.parts.Parts.{Parts}
-use Rattle.rls_model.specs.Parts.{epoch_parts, text_runs}
+use Rattle.rls_model.specs.PartLists.{epoch_parts}
 unfoldable pub use Rattle.rls_seen.specs.Known.{marked_over, needed_over, retained_over}
 use Rattle.rls_seen.specs.View.{plain}
 use Rattle.rls_model.specs.Rules as rules
-use Rattle.rls_seen.specs.Seen.{Seen, vector, members, stable_over, unstable_over}
+use Rattle.rls_seen.specs.Seen.{Seen, members, stable_over, unstable_over}
 
 -- ---- dropping
 
@@ -46,26 +46,12 @@ kept_former s = sum_by (λ n. length n.renaming.former) s.epochs.nodes
 
 -- the rows of the members below n, without the own one
 abbrev pub other_rows : AcksSeen → ℕ → List (List ℕ)
-other_rows acks zero = []
-other_rows acks (suc n) = other_rows acks n ++ (if n == acks.me then [] else row_of acks n ∷ [])
+other_rows acks = rules.other_rows acks.me (row_of acks)
 
 -- the members below n that have left
 abbrev pub left_below : AcksSeen → ℕ → List ℕ
-left_below acks zero = []
-left_below acks (suc n) = left_below acks n ++ (if left acks n then n ∷ [] else [])
+left_below acks = rules.left_below (left acks)
 
 -- the record of all parts
 unfoldable pub parts_over : Seen → Parts
-parts_over s = record {
-  group = s.group;
-  members = members s;
-  me = s.acks.me;
-  vector = vector s;
-  rows = other_rows s.acks (members s);
-  stems = s.stems;
-  epochs = epoch_parts s.epochs.nodes (retained_over s);
-  text = text_runs s.text;
-  log = unstable_over s;
-  held = s.waiting;
-  left = left_below s.acks (members s);
-}
+parts_over s = rules.parts (plain s) (other_rows s.acks (members s)) (epoch_parts s.epochs.nodes (retained_over s)) s.text s.waiting (left_below s.acks (members s))

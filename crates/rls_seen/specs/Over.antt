@@ -117,8 +117,7 @@ first_ready s = find (λ w. at_most w.context (vector s)) s.waiting
 
 -- what is released where this operation is the first ready one
 abbrev pub release_of : Seen → Option Op → Option Released
-release_of s None = None
-release_of s (Some w) = Some (record { author = w.author; seq = w.seq; refusal = refusal_over s w })
+release_of s = rules.release_of (refusal_over s)
 
 -- what is answered where the first ready operation is looked at
 unfoldable pub release_over : Seen → Option Released
