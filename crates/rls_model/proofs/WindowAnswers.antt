@@ -1,5 +1,5 @@
 -- What a window that keeps the retained epochs answers about targets, epochs and messages.
-use Rattle.std.proofs.Common.{◌≡◌, ℕ, ◌<◌, Bool, true, false, List, [], ◌∷◌, refl, sym, ap, ◌∙◌, subst, inl, inr, ◌⊎◌, ⊎_elim}
+use Rattle.std.proofs.Common.{◌≡◌, ℕ, Bool, true, false, List, [], ◌∷◌, refl, sym, ap, ◌∙◌, subst, inl, inr, ◌⊎◌, ⊎_elim}
 use Rattle.std.specs.Prelude.{◌||◌, if◌then◌else◌, Some}
 use Rattle.std.specs.declared.cmp.Ordering.TheVariants.{Less}
 use Rattle.std.specs.List.{list_any}
@@ -22,21 +22,19 @@ use Rattle.rls_rename.proofs.Paths.{name_eq_is, name_eq_refl}
 use Rattle.rls_rename.proofs.SameNodes.{greatest_top, node_named}
 use Rattle.rls_rename.proofs.Windows.{cmp_window, none_below, translate_window}
 use Rattle.rls_ops.specs.declared.op.Op.{Op}
-use Rattle.rls_model.specs.History.{Entry, History, Then, members_of, ops, has_left, row}
-use Rattle.rls_model.specs.Stability.{stable, unstable}
+use Rattle.rls_model.specs.History.{Entry, History, Then}
+use Rattle.rls_model.specs.Stability.{unstable}
 use Rattle.rls_model.specs.Epochs.{epochs, greatest, translate}
 use Rattle.rls_model.specs.Document.{Character, targets_of, ident_in, live, export}
 use Rattle.rls_model.specs.Fitting.{is_known}
 use Rattle.rls_model.specs.Legal.{IsLegal}
 use Rattle.rls_model.specs.Parts.{node_of, top_part, epoch_part, epoch_parts}
 use Rattle.rls_model.specs.Retained.{needed, retained}
-use Rattle.rls_model.proofs.Stable.{stable_row}
 use Rattle.rls_model.proofs.OneTree.{nodes, parents, history_translate}
 use Rattle.rls_model.proofs.Distinct.{known}
 use Rattle.rls_model.proofs.SameOps.{entry_of, live_char, top_kept, in_export, export_in}
 use Rattle.rls_model.proofs.Named.{grown_kept}
 use Rattle.rls_model.proofs.Dropping.{Keeps, IsOpened, grown_cmp, kept_cases, greatest_retained, unstable_retained}
-use Rattle.rls_model.proofs.Later.{uncovered, uncovered_again}
 
 -- ---- the greatest epoch after one more entry
 
@@ -98,11 +96,6 @@ known_window H U A l k f t h i =
     (λ u r. ap (λ z. ident_eq z t) (sym (translate_over H U A k d.epoch f u (k.keeps d.epoch (unstable_retained H l d q)) h)))))
 
 -- ---- messages
-
--- what a member that hasn't left lacks are the unstable operations that it lacks
-pub missing_window : (H : History) (a : ℕ) → IsLegal H → a < members_of H → has_left H a ≡ false → uncovered (row H a) (unstable H) ≡ uncovered (row H a) (ops H)
-unfolding unstable
-missing_window H a l h n = uncovered_again (stable H) (row H a) (ops H) (stable_row H a h n)
 
 -- ---- the parts of epochs
 

@@ -1,7 +1,7 @@
 -- What every member that hasn't left has accepted.
-use Rattle.std.specs.Prelude.{ℕ, zero, suc, Bool, not, ◌&&◌, ◌||◌, List, [], ◌∷◌, ◌++◌, ◌==◌, nat_le, slice_index, filter, if◌then◌else◌}
-use Rattle.rls_ident.specs.Vectors.{at_most}
+use Rattle.std.specs.Prelude.{ℕ, zero, suc, Bool, not, ◌||◌, List, [], ◌∷◌, ◌++◌, ◌==◌, filter, if◌then◌else◌}
 use Rattle.rls_ops.specs.declared.op.Op.{Op}
+use Rattle.rls_ops.specs.Rows.{is_news}
 pub use Rattle.rls_ops.specs.Rows.{least_of, is_covered}
 use Rattle.rls_model.specs.History.{History, me_of, members_of, ops, count, count_of, has_left, row}
 
@@ -22,6 +22,6 @@ stable H = least_of (count H) (awaited_rows H (members_of H))
 unfoldable pub unstable : History → List Op
 unstable H = filter (λ o. not (is_covered (stable H) o)) (ops H)
 
--- an acknowledgement is counted: it is another member's, tells no more of it than was accepted, and tells something new
+-- an acknowledgement is counted
 abbrev pub is_counted : History → ℕ → List ℕ → Bool
-is_counted H a v = not (a == me_of H) && nat_le (slice_index v a) (count_of H a) && not (at_most v (row H a))
+is_counted H a v = is_news (me_of H) (count_of H a) (row H a) a v

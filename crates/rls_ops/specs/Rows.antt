@@ -59,9 +59,14 @@ awaited acks (suc n) = awaited acks n ++ (if awaits acks n then row_of acks n �
 unfoldable pub stable_of : AcksSeen → List ℕ
 stable_of acks = least_of acks.mine (awaited acks (length acks.mine))
 
--- an acknowledgement counts: it is another member's, tells no more of it than was accepted, and tells something new
+-- a member's acknowledgement is news, by the own number and by what was accepted of it and from it: it is another member's, tells no more of that member than
+-- was accepted, and tells something new
+abbrev pub is_news : ℕ → ℕ → List ℕ → ℕ → List ℕ → Bool
+is_news me accepted row a v = not (a == me) && nat_le (slice_index v a) accepted && not (at_most v row)
+
+-- an acknowledgement counts
 abbrev pub counts : AcksSeen → ℕ → List ℕ → Bool
-counts acks a v = not (a == acks.me) && nat_le (slice_index v a) (slice_index acks.mine a) && not (at_most v (row_of acks a))
+counts acks a v = is_news acks.me (slice_index acks.mine a) (row_of acks a) a v
 
 -- ---- changes
 
