@@ -6,7 +6,7 @@ use Rattle.std.specs.Option.{option_map}
 use Rattle.std.proofs.lemmas.List.{append-nil, drop_all, length-append, map-append}
 use Rattle.std.proofs.lemmas.List.Elements.{All-append, All-cons, All-nil}
 use Rattle.std.proofs.lemmas.List.Sums.{sum_by-cons}
-use Rattle.std.proofs.lemmas.Bool.{ne_eqb, eq-eqb}
+use Rattle.std.proofs.lemmas.Bool.{ne_eqb}
 use Rattle.rls_ident.proofs.Members.{bool_cases, eq_is, some_is}
 use Rattle.rls_ident.specs.declared.epoch_name.EpochName.{EpochName}
 use Rattle.rls_ident.specs.declared.epoch_name.EpochName.TheVariants.{Origin, Of}
@@ -42,14 +42,8 @@ put_one f xs ys x out before after e h g =
 -- ---- members
 
 -- the row of the next member, unless it is the own one
-pub row_skipped : (acks : AcksSeen) (n : ℕ) → n ≡ acks.me → other_rows acks (n + 1) ≡ other_rows acks n
-row_skipped acks n e = let s : n + 1 ≡ suc n = omega arith in ap (other_rows acks) s ∙ rw (eq-eqb n acks.me e) (append-nil (other_rows acks n))
-
 pub row_more : (acks : AcksSeen) (n : ℕ) → (n ≡ acks.me → ⊥) → other_rows acks (n + 1) ≡ other_rows acks n ++ row_of acks n ∷ []
 row_more acks n d = let s : n + 1 ≡ suc n = omega arith in ap (other_rows acks) s ∙ rw (ne_eqb n acks.me d) refl
-
-pub left_skipped : (acks : AcksSeen) (n : ℕ) → left acks n ≡ false → left_below acks (n + 1) ≡ left_below acks n
-left_skipped acks n e = let s : n + 1 ≡ suc n = omega arith in ap (left_below acks) s ∙ rw e (append-nil (left_below acks n))
 
 pub left_more : (acks : AcksSeen) (n : ℕ) → left acks n ≡ true → left_below acks (n + 1) ≡ left_below acks n ++ n ∷ []
 left_more acks n e = let s : n + 1 ≡ suc n = omega arith in ap (left_below acks) s ∙ rw e refl

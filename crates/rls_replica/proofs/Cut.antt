@@ -1,5 +1,5 @@
 -- Operations that are taken one after another, and how far one came.
-use Rattle.std.proofs.Common.{◌≡◌, ◌∙◌, ◌<◌, ℕ, List, length, Some, None, cond, refl, sym, ap, subst}
+use Rattle.std.proofs.Common.{◌≡◌, ◌∙◌, ◌<◌, ℕ, List, length, Some, cond, refl, sym, ap, subst}
 use Rattle.std.specs.List.{All}
 use Rattle.rls_ops.specs.declared.op.Op.{Op}
 use Rattle.rls_ops.specs.declared.message.Message.{Message}
@@ -12,7 +12,7 @@ use Rattle.rls_seen.specs.Over.{acknowledged}
 use Rattle.rls_model.specs.WellFormed.{AreOps, IsSmall}
 use Rattle.rls_seen.specs.Messages.{by_parts, Course, started, moved, take_ops, taken_within, IsMessage, IsPartTaken}
 use Rattle.rls_seen.specs.Stands.{StandsFor}
-use Rattle.rls_seen.proofs.Repeating.{within, Reaches, reaches_start, no_more}
+use Rattle.rls_seen.proofs.Repeating.{within, Reaches, no_more}
 use Rattle.rls_seen.proofs.Taking.{started_goes, ops_go, taken_alike}
 use Rattle.rls_replica.specs.Steps.{IsPartOfOps}
 
@@ -23,10 +23,6 @@ pub ops_part : (s : Seen) (os : List Op) (k : ℕ) (c : Course) (rest : List Op)
 ops_part s os k c rest h =
     let e : take_ops (started (Some k) s) os ≡ within (Some 0) c = ap (λ l. take_ops (started l s) os) (sym (no_more k)) ∙ (h (Some 0) ∙ no_ops by_parts rest (within (Some 0) c) refl) in
     (k, ap (λ d. d.limit) e, sym (ap (λ d. d.state) e))
-
--- none was
-pub ops_none : (s : Seen) (os : List Op) → IsPartOfOps s os s
-ops_none s os = ops_part s os 0 (started None s) os (reaches_start s os)
 
 -- it stands for the history behind as many
 pub ops_part_stands : (s u : Seen) (t : State) (os : List Op) → AreOps os → IsPartOfOps s os u → StandsFor s t → (n : ℕ) × StandsFor u (model.take_ops (model.started (Some n) t) os).state

@@ -3,7 +3,7 @@ use Rattle.std.proofs.Common.{append_assoc, append-nil, ◌≡◌, ℕ, zero, su
 use Rattle.std.specs.Prelude.{nat_lt, zip, IfOk, Result, Ok, Err}
 use Rattle.std.specs.List.{list_all}
 use Rattle.rls_ident.specs.Lists.{IsIn}
-use Rattle.rls_ident.proofs.Members.{and_left, and_right, and_true, eq_is, in_all, lt_is, none_found, not_true, or_split, snoc_split}
+use Rattle.rls_ident.proofs.Members.{and_left, and_right, and_true, eq_is, in_all, lt_is, none_found, not_true, or_split}
 use Rattle.rls_runs.specs.Entries.{Entries}
 use Rattle.rls_runs.specs.Runs.{run_idents}
 use Rattle.rls_ops.specs.declared.op.Op.{Op}
@@ -35,10 +35,6 @@ take_more {A = A} xs i d l = let one : i + 1 ≡ suc i = omega arith in ap (λ k
     go [] i l = absurd (omega arith)
     go (y ∷ ys) zero l = refl
     go (y ∷ ys) (suc i) l = ap (λ zs. y ∷ zs) (go ys i (omega arith))
-
--- what holds of those so far and of the next one
-pub each_more : {A : Type 0} (P : A → Type 0) (xs : List A) (i : ℕ) (d : A) → i < length xs → ((x : A) → IsIn x (take i xs) → P x) → P (get_or xs i d) → (x : A) → IsIn x (take (i + 1) xs) → P x
-each_more P xs i d l f h x q = ⊎_elim (λ p. f x p) (λ e. subst P e h) (snoc_split x (get_or xs i d) (take i xs) (subst (IsIn x) (take_more xs i d l) q))
 
 -- ---- text
 

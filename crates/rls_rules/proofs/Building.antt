@@ -8,7 +8,7 @@ use Rattle.rls_ident.specs.declared.epoch_name.EpochName.{EpochName}
 use Rattle.rls_ident.specs.declared.epoch_name.EpochName.TheVariants.{Of}
 use Rattle.rls_ident.specs.EpochNames.{name_eq}
 use Rattle.rls_ident.specs.Lists.{IsIn}
-use Rattle.rls_ident.proofs.Members.{and_true, any_in, in_any, in_map, map_in, not_true, same_bool}
+use Rattle.rls_ident.proofs.Members.{any_in, in_any, in_map, map_in, not_true, same_bool}
 use Rattle.rls_ident.proofs.Named.{name_eq_is, name_eq_refl}
 use Rattle.rls_rename.specs.Renaming.{Renaming}
 use Rattle.rls_rename.specs.Tree.{Node, Epochs, epoch_cmp, is_kept}
@@ -190,18 +190,7 @@ last_tree p E t =
 
 -- ---- the rule, entry by entry
 
--- where the entry keeps its rule, the rest is left
-pub entry_on : (p : Parts) (i : ℕ) (e : EpochPart) (f : EpochPart) (fs : List EpochPart) → take i p.epochs ≡ f ∷ fs → slice_get p.epochs i ≡ Some e → opens p (take i p.epochs) e ≡ true → is_greater (take i p.epochs) e ≡ true
-    → epoch_fault p (take i p.epochs) (drop i p.epochs) ≡ epoch_fault p (take (i + 1) p.epochs) (drop (i + 1) p.epochs)
-entry_on p i e f fs is g o h =
-    ap (epoch_fault p (take i p.epochs)) (drop_first p.epochs i e g)
-    ∙ (step (take i p.epochs) f fs is (and_true (opens p (take i p.epochs) e) (is_greater (take i p.epochs) e) o h)
-    ∙ ap (λ xs. epoch_fault p xs (drop (i + 1) p.epochs)) (sym (take_next p.epochs i e g)))
-  where
-    step : (earlier : List EpochPart) (f : EpochPart) (fs : List EpochPart) → earlier ≡ f ∷ fs → is_epoch_behind p earlier e ≡ true → epoch_fault p earlier (e ∷ drop (i + 1) p.epochs) ≡ epoch_fault p (earlier ++ e ∷ []) (drop (i + 1) p.epochs)
-    step earlier f fs is h = ap (λ b. if b then epoch_fault p (earlier ++ e ∷ []) (drop (i + 1) p.epochs) else Some (length earlier)) (ap (λ xs. is_epoch_of p xs e) is ∙ (ap (λ xs. is_epoch_behind p xs e) (sym is) ∙ h))
-
--- where it doesn't, it is the first that breaks it
+-- an entry that doesn't keep its rule is the first that breaks it
 pub entry_ends : (p : Parts) (i : ℕ) (e : EpochPart) (f : EpochPart) (fs : List EpochPart) → take i p.epochs ≡ f ∷ fs → slice_get p.epochs i ≡ Some e → i ≤ length p.epochs → is_epoch_behind p (take i p.epochs) e ≡ false → epoch_fault p (take i p.epochs) (drop i p.epochs) ≡ Some i
 entry_ends p i e f fs is g l h =
     let earlier = take i p.epochs in

@@ -70,9 +70,6 @@ send_step s new from to k r m a b e h f n = (
   n ∙ (ap (λ x. record { replicas = s.replicas; sent = s.sent ++ x ∷ [] }) h ∙ ap (λ o. sent_at s o to) (sym e)),
 )
 
-pub send_fault : (s : WorldSeen) (from to : ℕ) → from < length s.replicas → to < length s.replicas → fault_over s (events.Send from to) ≡ None
-send_fault s from to a b = ap (λ x. or_else x (member_fault s to)) (member_there s from a) ∙ member_there s to b
-
 edit_there : (s : WorldSeen) (i : ℕ) (edit : Edit) (r : Seen) → i < length s.replicas → slice_get s.replicas i ≡ Some r → fault_over s (events.Edit i edit) ≡ of_edit (edit_fault_over r edit)
 edit_there s i edit r l e = ap (λ x. or_else x (edit_fault_at (slice_get s.replicas i) edit)) (member_there s i l) ∙ ap (λ o. edit_fault_at o edit) e
 
