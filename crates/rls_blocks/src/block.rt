@@ -6,6 +6,7 @@ ghost use Rattle.rls_runs.specs.Runs.{is_run, run_last};
 ghost use Rattle.rls_blocks.specs.Trees.{IsPiece};
 ghost use Rattle.rls_blocks.specs.Edits.{part_of, joined};
 
+use crate::rely;
 use rls_ident::Ident;
 use rls_runs::{Run, RunError, Text};
 use std::alloc::{AllocError, Global};
@@ -43,7 +44,7 @@ impl Block {
         requires as_many { length text ≡ run.1 }
         ensures block { result ≡ (run, text) }
     {
-        let _len = run.len();
+        rely!(let _len = run.len());
         Block { run, text }
     }
 
@@ -156,7 +157,7 @@ pub fn part_of_text(alloc: Global, text: &Text, from: usize, len: usize) -> Resu
     requires within { from + len ≤ length text.now }
     ensures part { IfOk result (λ part. part ≡ take len (drop from text.now)) }
 {
-    let _len = text.len();
+    rely!(let _len = text.len());
     let (front, back) = text.as_slices();
     let end = from + len;
     let (front_from, front_end) = (from.min(front.len()), end.min(front.len()));

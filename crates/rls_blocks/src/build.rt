@@ -6,6 +6,7 @@ ghost use Rattle.rls_blocks.specs.Trees.{ArePieces, entries_of};
 use crate::balance::join;
 use crate::block::Block;
 use crate::node::{Link, Single};
+use crate::rely;
 use std::alloc::{AllocError, Global};
 
 /// The tree of these blocks. It costs a step for each, and takes memory for as many nodes; it moves no character.
@@ -17,7 +18,7 @@ pub fn tree_of(alloc: Global, blocks: Vec<Block>) -> Result<Link, AllocError>
     let mut blocks = blocks;
     let count = blocks.len();
     let link = tree_of_last(alloc, &mut blocks, count)?;
-    let _chars = link.chars();
+    rely!(let _chars = link.chars());
     Ok(link)
 }
 

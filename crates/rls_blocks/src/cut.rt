@@ -5,6 +5,7 @@ ghost use Rattle.rls_blocks.specs.Edits.{part_of};
 
 use crate::block::{Block, part_of_text};
 use crate::node::Single;
+use crate::rely;
 use std::alloc::{AllocError, Global};
 
 /// A block as two: its characters in front of a place, and those from another place on. It costs the characters of the shorter one of
@@ -60,8 +61,8 @@ pub(crate) fn keep_ends(
     ensures back_chars { IfOk result (λ ends. length ends.1.1 + from ≡ length last.1) }
     ensures err { IfErr result (λ old. (old.0 ≡ first) × (old.1 ≡ last)) }
 {
-    let _first = first.len();
-    let _last = last.len();
+    rely!(let _first = first.len());
+    rely!(let _last = last.len());
     let Ok(front) = first.run().part(0, at) else {
         return Err((first, last));
     };
@@ -80,7 +81,7 @@ fn part_alone(alloc: Global, own: &Single, from: u32, len: u32) -> Result<Single
     requires within { from + len ≤ length own.now.1 }
     ensures part { IfOk result (λ part. part ≡ part_of from len own.now) }
 {
-    let _len = own.len();
+    rely!(let _len = own.len());
     let run = own.run().part(from, len)?;
     let text = part_of_text(alloc, own.text(), from as usize, len as usize)?;
     Single::new(alloc, Block::new(run, text))

@@ -11,6 +11,7 @@ use crate::balance::join;
 use crate::block::Block;
 use crate::node::{Link, Single};
 use crate::put::put_at;
+use crate::rely;
 use crate::side::Side;
 use crate::split::{Halves, end_out, split};
 use rls_runs::{Run, Text};
@@ -31,8 +32,8 @@ pub fn insert_at(alloc: Global, link: Link, i: u64, piece: Block) -> Result<Link
     ensures ok { IfOk result (λ new. Shows (inserted i (piece_entries piece) (entries_of link.blocks)) new.blocks) }
     ensures err { IfErr result (λ old. old.blocks ≡ link.blocks) }
 {
-    let _chars = link.chars();
-    let _len = piece.len();
+    rely!(let _chars = link.chars());
+    rely!(let _len = piece.len());
     if link.begins_with(i, piece.run()) {
         return insert_before(alloc, link, i, piece);
     }
@@ -51,8 +52,8 @@ fn insert_before(alloc: Global, link: Link, i: u64, piece: Block) -> Result<Link
     ensures ok { IfOk result (λ new. Shows (inserted i (piece_entries piece) (entries_of link.blocks)) new.blocks) }
     ensures err { IfErr result (λ old. old.blocks ≡ link.blocks) }
 {
-    let _chars = link.chars();
-    let _len = piece.len();
+    rely!(let _chars = link.chars());
+    rely!(let _len = piece.len());
     if i == 0 {
         return put_at(alloc, link, i, Side::Front, piece);
     }
@@ -70,8 +71,8 @@ fn put_first(alloc: Global, link: Link, piece: Block) -> Result<Link, Link>
     ensures ok { IfOk result (λ new. Shows (inserted 0 (piece_entries piece) (entries_of link.blocks)) new.blocks) }
     ensures err { IfErr result (λ old. old.blocks ≡ link.blocks) }
 {
-    let _chars = link.chars();
-    let _len = piece.len();
+    rely!(let _chars = link.chars());
+    rely!(let _len = piece.len());
     match Single::new(alloc, piece) {
         Ok(new) => Ok(join(Link::empty(), new, link)),
         Err(_) => Err(link),
@@ -89,7 +90,7 @@ fn fill_at(link: Link, i: u64, piece: Block) -> Result<Link, Link>
     ensures ok { IfOk result (λ new. Shows (inserted i (piece_entries piece) (entries_of link.blocks)) new.blocks) }
     ensures err { IfErr result (λ old. old.blocks ≡ link.blocks) }
 {
-    let _chars = link.chars();
+    rely!(let _chars = link.chars());
     let (run, text) = piece.into_parts();
     match split(link, i) {
         Halves::Between(front, behind) => fill_gap(front, behind, run, text),
@@ -113,9 +114,9 @@ fn fill_gap(front: Link, behind: Link, run: Run, text: Text) -> Result<Link, Lin
     let Some((first, far)) = end_out(behind, Side::Front) else {
         unreachable!()
     };
-    let _last = last.len();
-    let _first = first.len();
-    let _run = run.len();
+    rely!(let _last = last.len());
+    rely!(let _first = first.len());
+    rely!(let _run = run.len());
     match fill(last, run, text, first) {
         Ok(both) => Ok(join(rest, both, far)),
         Err((last, first)) => Err(join(rest, last, join(Link::empty(), first, far))),
@@ -135,7 +136,7 @@ fn fill(
     ensures ok { IfOk result (λ both. both ≡ joined last (joined (run, text) first)) }
     ensures err { IfErr result (λ both. (both.0 ≡ last) × (both.1 ≡ first)) }
 {
-    let _run = run.len();
+    rely!(let _run = run.len());
     let middle = Block::new(run, text);
     if first.len() <= last.len() {
         return match fill_behind(&mut last, middle, &first) {
@@ -167,8 +168,8 @@ fn fill_front(last: &Single, middle: Block, first: &mut Single) -> Result<(), Al
     ensures ok { OnOk result (first.new ≡ joined last.now (joined middle first.old)) }
     ensures err { OnErr result (first.new ≡ first.old) }
 {
-    let _last = last.len();
-    let _middle = middle.len();
+    rely!(let _last = last.len());
+    rely!(let _middle = middle.len());
     let (run, text) = with_last(last, middle)?;
     first.grow(Side::Front, &run, text)
 }

@@ -12,6 +12,7 @@ mod opened;
 mod single;
 
 use crate::block::Block;
+use crate::rely;
 use crate::side::Side;
 pub(crate) use opened::{Frame, Opened};
 use rls_ident::Ident;
@@ -239,7 +240,7 @@ impl Node {
         ensures left_not_higher { self.now.left.height ≤ self.now.right.height + 1 }
         ensures right_not_higher { self.now.right.height ≤ self.now.left.height + 1 }
     {
-        let _chars = self.chars;
+        rely!(let _chars = self.chars);
         self.height
     }
 
@@ -301,7 +302,7 @@ impl Node {
         ensures within { result.1 < length result.0.now.1 }
         ensures located { located self.now.blocks i ≡ Some (result.0.now, result.1) }
     {
-        let _chars = self.chars;
+        rely!(let _chars = self.chars);
         if i < self.front {
             let Some(left) = self.left.node() else {
                 unreachable!()
@@ -309,7 +310,7 @@ impl Node {
             return left.locate(i);
         }
         if i < self.end {
-            let _len = self.block.len();
+            rely!(let _len = self.block.len());
             return (&self.block, (i - self.front) as u32);
         }
         let Some(right) = self.right.node() else {
@@ -324,7 +325,7 @@ impl Node {
         requires rises { Rising (idents_of (runs_in self.now.blocks)) }
         ensures find { result ≡ find_ident (idents_of (runs_in self.now.blocks)) id.now }
     {
-        let _chars = self.chars;
+        rely!(let _chars = self.chars);
         let below = match self.block.run().find(id) {
             Ok(place) => return Ok(self.front + place as u64),
             Err(below) => below,

@@ -9,6 +9,7 @@ ghost use Rattle.rls_blocks.specs.Patches.{before, after, IsBetween, patched, Ar
 use crate::block::{Block, part_of_text};
 use crate::build::tree_of;
 use crate::node::Link;
+use crate::rely;
 use crate::split::{Halves, concat, split};
 use rls_runs::{Run, Text};
 use std::alloc::{AllocError, Global};
@@ -45,12 +46,12 @@ pub fn push_block(blocks: &mut Vec<Block>, block: Block) -> Result<(), AllocErro
     requires loose { IsTrue (are_loose None (runs_in blocks.old.items)) }
     ensures shows { OnOk result (Shows (entries_of blocks.old.items ++ piece_entries block) blocks.new.items) }
 {
-    let _len = block.len();
+    rely!(let _len = block.len());
     let Some(mut last) = blocks.pop() else {
         blocks.push(block)?;
         return Ok(());
     };
-    let _last = last.len();
+    rely!(let _last = last.len());
     if last.run().touches(block.run().first()) {
         let (run, text) = block.into_parts();
         last.extend(&run, text)?;
@@ -78,7 +79,7 @@ pub fn push_runs(
         let own = runs[0].copy()?;
         return push_block(blocks, Block::new(own, text));
     }
-    let _chars = text.len();
+    rely!(let _chars = text.len());
     let mut at = 0;
     for run in runs {
         let own = run.copy()?;
@@ -115,7 +116,7 @@ fn split_between(link: Link, i: u64) -> (Link, Link)
     ensures behind { result.1.blocks ≡ after i link.blocks }
     ensures both { link.blocks ≡ result.0.blocks ++ result.1.blocks }
 {
-    let _chars = link.chars();
+    rely!(let _chars = link.chars());
     match split(link, i) {
         Halves::Between(front, behind) => (front, behind),
         Halves::Within(_, _, _, _) => unreachable!(),

@@ -9,6 +9,7 @@ ghost use Rattle.rls_blocks.specs.Edits.{part_of, joined, removed, Shows};
 use crate::balance::join;
 use crate::cut::{cut, keep_ends};
 use crate::node::{Link, Single};
+use crate::rely;
 use crate::side::Side;
 use crate::split::{Halves, concat, end_out, ends_before, split};
 use std::alloc::Global;
@@ -27,7 +28,7 @@ pub fn remove_range(alloc: Global, link: Link, i: u64, count: u64) -> Result<Lin
     ensures ok { IfOk result (λ new. Shows (removed i count (entries_of link.blocks)) new.blocks) }
     ensures err { IfErr result (λ old. old.blocks ≡ link.blocks) }
 {
-    let _chars = link.chars();
+    rely!(let _chars = link.chars());
     match split(link, i + count) {
         Halves::Between(near, behind) => match split(near, i) {
             Halves::Between(front, gone) => close_gap(front, gone, behind),

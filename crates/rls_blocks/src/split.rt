@@ -8,6 +8,7 @@ ghost use Rattle.rls_blocks.specs.Splits.{Splits};
 
 use crate::balance::join;
 use crate::node::{Link, Node, Single};
+use crate::rely;
 use crate::side::Side;
 use rls_ident::Ident;
 
@@ -25,7 +26,7 @@ pub(crate) fn split(link: Link, i: u64) -> Halves
     requires place { i ≤ length (entries_of link.blocks) }
     ensures splits { Splits link.blocks i result }
 {
-    let _chars = link.chars();
+    rely!(let _chars = link.chars());
     let Some(opened) = link.open() else {
         return Halves::Between(Link::empty(), Link::empty());
     };
@@ -65,9 +66,9 @@ pub(crate) fn end_out(link: Link, side: Side) -> Option<(Single, Link)>
     ensures chars_fit { length (entries_of link.blocks) < 2 ^ 64 }
     ensures empty { IfNone result (link.blocks ≡ []) }
 {
-    let _chars = link.chars();
+    rely!(let _chars = link.chars());
     let opened = link.open()?;
-    let _len = opened.own.len();
+    rely!(let _len = opened.own.len());
     match side {
         Side::Front => match end_out(opened.left, side) {
             None => Some((opened.own, opened.right)),
