@@ -1,7 +1,9 @@
 -- How often the keeper of a folder failed, from its calls.
-use Rattle.std.proofs.Common.{◌≡◌, ◌⊎◌, ◌∙◌, ◌-◌, ◌^◌, ⊎_elim, ℕ, Bool, true, false, List, sym, ap, inl, inr, arith}
+use Rattle.std.proofs.Common.{◌≡◌, ◌⊎◌, ◌∙◌, ◌-◌, ◌^◌, ⊎_elim, ℕ, Bool, true, false, List, [], ◌∷◌, Option, Some, None, sym, ap, inl, inr, arith}
 use Rattle.rls_io.specs.Device.{Rose, one_more}
 use Rattle.rls_stages.specs.Calls.{CallsNothing, CallsOf, FailsToLoad, FailsToStore, IsKeepersStatus, Loads, Stores}
+use Rattle.rls_session.specs.Calls as session
+use Rattle.rls_session.specs.Calls.{Calls, FailsOnce, IsStatusAfter, Stores as SessionStores, StoresEach}
 use Rattle.rls_cli.specs.Folder.{CountsWith, LoadGives, StoreGives, faults_of}
 use Rattle.rls_cli.specs.declared.folder.FolderKeeper.{FolderKeeper}
 use Rattle.rls_cli.specs.declared.folder.FolderKeeper.TheVariants.{File, Disk, Unknown}
@@ -63,6 +65,24 @@ module _ {R A B : Type 0} where
       go (FailsToStore l some at) = let first = loads_ok old l.between l.loaded in
           ⊎_elim (λ same. inl (same ∙ first)) (λ more. inr (at, more ∙ ap one_more first)) (stores_err l.between new l.bytes l.stored)
       go (Stores l some at) = inl (stores_ok l.between new l.bytes l.stored ∙ loads_ok old l.between l.loaded)
+
+  -- stores that answer Ok count none
+  each_ok : (files : List (List ℕ)) (old new : FolderKeeper R A B) → StoresEach StoreGives files old new → faults_of new ≡ faults_of old
+  each_ok [] old new h = ap faults_of h
+  each_ok (bytes ∷ files) old new h = each_ok files h.0 new h.2 ∙ stores_ok old h.0 bytes h.1
+
+  -- the same of a session
+  pub counted_session : {x : SessionStores} {untouched : Type 0} {n : ℕ} {old new : FolderKeeper R A B} → Calls LoadGives StoreGives x untouched n old new → (faults_of new ≡ faults_of old) ⊎ (IsKeepersStatus n × (faults_of new ≡ one_more (faults_of old)))
+  counted_session {x} {untouched} {n} {old} {new} calls = go calls
+    where
+      go : Calls LoadGives StoreGives x untouched n old new → (faults_of new ≡ faults_of old) ⊎ (IsKeepersStatus n × (faults_of new ≡ one_more (faults_of old)))
+      go (session.CallsNothing same ten none) = inl (ap faults_of same)
+      go (session.FailsToLoad l at u none) = ⊎_elim (λ same. inl same) (λ more. inr (at, more)) (loads_err old new l)
+      go (session.Loads l status) = last x.failed l.failed status (each_ok x.stored l.at_load l.at_failure l.stored ∙ loads_ok old l.at_load l.loaded)
+        where
+          last : (failed : Option (List ℕ)) → FailsOnce StoreGives failed l.at_failure new → IsStatusAfter failed n → faults_of l.at_failure ≡ faults_of old → (faults_of new ≡ faults_of old) ⊎ (IsKeepersStatus n × (faults_of new ≡ one_more (faults_of old)))
+          last None f status first = inl (ap faults_of f ∙ first)
+          last (Some bytes) f status first = ⊎_elim (λ same. inl (same ∙ first)) (λ more. inr (status, more ∙ ap one_more first)) (stores_err l.at_failure new bytes f)
 
 -- at a status
 pub counts_with : (n before after : ℕ) → (after ≡ before) ⊎ (IsKeepersStatus n × (after ≡ one_more before)) → (n ≡ 7 → Rose before after) → CountsWith n before after

@@ -3,7 +3,9 @@
 ghost use Rattle.std.specs.Prelude.{◌≡◌, map, string_bytes, IfSome, IsErr, IsTrue, IsFalse};
 ghost use Rattle.rls_io.specs.Device.{Rose};
 ghost use Rattle.rls_cli.specs.Folder.{CountsWith, faults_of};
-ghost use Rattle.rls_cli.specs.Performing.{CommandCalls, CommandEnds, SessionCalls, SessionEnds, begins_session};
+ghost use Rattle.rls_cli.specs.Performing.{CommandCalls, CommandEnds, begins_session};
+ghost use Rattle.rls_session.specs.Devices.{devices};
+ghost use Rattle.rls_session.specs.Serving.{SessionEnds};
 
 use crate::folder::FolderKeeper;
 use rls_io::{Keeper, Sink, Source};
@@ -26,8 +28,8 @@ pub(crate) fn perform<K: Keeper, S: Source, W: Sink, E: Sink>(
     errors: &mut E,
 ) -> u8
     // How it ends, and which calls of the keeper it makes.
-    ensures session { IsTrue (begins_session (map string_bytes words.now)) → SessionEnds (K.file keeper.old) (S.left input.old) result (K.file keeper.new) (W.told output.old) (W.told output.new) }
-    ensures session_calls { IsTrue (begins_session (map string_bytes words.now)) → SessionCalls K.load_gives K.store_gives (K.file keeper.old) (S.left input.old) ((input.new ≡ input.old) × (output.new ≡ output.old)) result keeper.old keeper.new }
+    ensures session { IsTrue (begins_session (map string_bytes words.now)) → SessionEnds K.load_gives K.store_gives ((input.new ≡ input.old) × (output.new ≡ output.old)) result keeper.old keeper.new
+        (devices K.file K.faults S.left S.faults W.told W.faults keeper.old input.old output.old) (devices K.file K.faults S.left S.faults W.told W.faults keeper.new input.new output.new) }
     ensures command { IsFalse (begins_session (map string_bytes words.now)) → CommandEnds (map string_bytes words.now) (K.file keeper.old) (S.left input.old) result }
     ensures command_calls { IsFalse (begins_session (map string_bytes words.now)) → CommandCalls K.load_gives K.store_gives (map string_bytes words.now) (K.file keeper.old) (S.left input.old) (input.new ≡ input.old) result keeper.old keeper.new }
 

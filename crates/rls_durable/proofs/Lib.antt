@@ -1,2 +1,3 @@
 mod Stored
 pub mod Survived
+mod Sessions

@@ -8,10 +8,10 @@ use Rattle.rls_stages.specs.Calls.{CallsNothing, CallsOf, FailsToLoad, FailsToSt
 use Rattle.rls_durable.specs.Stops.{HasDue, IsOld, LeavesOldOrDue}
 
 -- what is said of a value that is there
-at_some : {A : Type 0} (o : Option A) (P : A → Type 0) (x : A) → o ≡ Some x → IfSome o P → P x
+pub at_some : {A : Type 0} (o : Option A) (P : A → Type 0) (x : A) → o ≡ Some x → IfSome o P → P x
 at_some o P x e h = subst (λ o. IfSome o P) e h
 
-to_some : {A : Type 0} (o : Option A) (P : A → Type 0) → ((x : A) → o ≡ Some x → P x) → IfSome o P
+pub to_some : {A : Type 0} (o : Option A) (P : A → Type 0) → ((x : A) → o ≡ Some x → P x) → IfSome o P
 to_some None P f = tt
 to_some (Some x) P f = f x refl
 
@@ -23,10 +23,10 @@ module _ {D : Type 0} (seen : D → Option Areas) (may_leave : D → Areas → T
   abbrev Keeps : D → Option (List ℕ) → Type 0
   Keeps disk file = (c : Areas) → may_leave disk c → kept c ≡ file
 
-  uncalled_only : (old : D) (before : Option (List ℕ)) → Keeps old before → LeavesOnly moment left_since old old (IsOld before)
+  pub uncalled_only : (old : D) (before : Option (List ℕ)) → Keeps old before → LeavesOnly moment left_since old old (IsOld before)
   uncalled_only old before rest = record { later = omega arith; each = λ c left. rest c (only old c left); before = λ t c le left. inl left }
 
-  loaded_only : (ok : Bool) (old new : D) (before : Option (List ℕ)) → Keeps old before → LoadGives seen may_leave moment left_since ok old new → LeavesOnly moment left_since old new (IsOld before)
+  pub loaded_only : (ok : Bool) (old new : D) (before : Option (List ℕ)) → Keeps old before → LoadGives seen may_leave moment left_since ok old new → LeavesOnly moment left_since old new (IsOld before)
   loaded_only ok old new before rest load =
       let u = load.unchanged in
       record {
@@ -47,7 +47,7 @@ module _ {D : Type 0} (seen : D → Option Areas) (may_leave : D → Areas → T
       }
 
   -- after a store that answered Ok the keeper is at rest
-  stored_rest : (bytes : List ℕ) (mid new : D) → HasStored bytes (seen mid) (seen new) (may_leave new) → IsAtRest seen may_leave new
+  pub stored_rest : (bytes : List ℕ) (mid new : D) → HasStored bytes (seen mid) (seen new) (may_leave new) → IsAtRest seen may_leave new
   stored_rest bytes mid new h = go (seen mid) h
     where
       go : (o : Option Areas) → HasStored bytes o (seen new) (may_leave new) → IsAtRest seen may_leave new

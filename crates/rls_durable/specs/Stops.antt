@@ -1,9 +1,12 @@
 -- What a stop at any moment of a command or a session leaves.
-use Rattle.std.specs.Prelude.{◌≡◌, ◌⊎◌, ℕ, Bool, List, Option, IsTrue}
+use Rattle.std.specs.Prelude.{◌≡◌, ◌⊎◌, ◌≤◌, ℕ, Bool, List, length, Option, Some, IsTrue}
+use Rattle.rls_ident.specs.Lists.{IsIn}
 use Rattle.rls_journal.specs.Areas.{Areas, kept}
 use Rattle.rls_journal.specs.Disk.{LeavesOnly}
 use Rattle.rls_journal.specs.Keeper.{IsOldOrNew}
 use Rattle.rls_journal.specs.Slots.{HasStored}
+use Rattle.rls_session.specs.Calls.{AreDue}
+use Rattle.rls_session.specs.Due.{Due}
 
 -- the kept file is the one from before
 abbrev pub IsOld : Option (List ℕ) → Areas → Type 0
@@ -18,3 +21,17 @@ LeavesOldOrDue moment left_since stores IsDue before old new =
 -- the kept file is one whose bytes are to be stored, now and after a stop
 abbrev pub HasDue : {D : Type 0} → (D → Option Areas) → (D → Areas → Type 0) → (List ℕ → Type 0) → D → D → Type 0
 HasDue seen may_leave IsDue old new = (bytes : List ℕ) × IsDue bytes × HasStored bytes (seen old) (seen new) (may_leave new)
+
+-- ---- of a session
+
+-- the kept file is the one from before, or one of these
+abbrev pub IsOldOrOneOf : Option (List ℕ) → List (List ℕ) → Areas → Type 0
+IsOldOrOneOf before files areas = (kept areas ≡ before) ⊎ ((bytes : List ℕ) × IsIn bytes files × (kept areas ≡ Some bytes))
+
+-- a stop at any moment since old leaves the file from before, or one of those that the session is to store. These are files that are
+-- called for, in order, if it is known what is called for; in this version there is one at most
+pub record LeavesOldOrStores {D : Type 0} (moment : D → ℕ) (left_since : D → ℕ → Areas → Type 0) (ds : Option (List Due)) (before : Option (List ℕ)) (old new : D) : Type 0 where
+  pub files : List (List ℕ)
+  pub due : AreDue ds files
+  pub once : length files ≤ 1
+  pub leaves : LeavesOnly moment left_since old new (IsOldOrOneOf before files)

@@ -1,11 +1,11 @@
 //! A session over the keeper with two slots.
 
-ghost use Rattle.std.specs.Prelude.{◌≡◌, ◌≢◌, IfSome, true};
+ghost use Rattle.std.specs.Prelude.{◌≡◌, ◌≢◌, IfSome};
 ghost use Rattle.rls_journal.specs.Areas.{kept};
 ghost use Rattle.rls_journal.specs.Keeper.{IsAtRest, disk_of, file_told};
-ghost use Rattle.rls_session.specs.Calls.{IsDueOf};
+ghost use Rattle.rls_session.specs.Calls.{IsLastDue};
 ghost use Rattle.rls_session.specs.Due.{due};
-ghost use Rattle.rls_durable.specs.Stops.{HasDue, LeavesOldOrDue};
+ghost use Rattle.rls_durable.specs.Stops.{HasDue, LeavesOldOrStores};
 
 use rls_io::{Sink, Source};
 use rls_journal::{Disk, DiskKeeper};
@@ -28,10 +28,10 @@ pub fn serve_on_disk<D: Disk, S: Source, W: Sink, E: Sink>(
 ) -> u8
     // Within the session and after it.
     ensures any_moment { IsAtRest D.seen D.may_leave (disk_of keeper.old) → IfSome (D.seen (disk_of keeper.old)) (λ s.
-        LeavesOldOrDue D.moment D.left_since true (IsDueOf (due (file_told D.seen keeper.old) (S.left input.old))) (kept s) (disk_of keeper.old) (disk_of keeper.new)) }
+        LeavesOldOrStores D.moment D.left_since (due (file_told D.seen keeper.old) (S.left input.old)) (kept s) (disk_of keeper.old) (disk_of keeper.new)) }
 
     // After it.
-    ensures stored { result ≡ 0 → HasDue D.seen D.may_leave (IsDueOf (due (file_told D.seen keeper.old) (S.left input.old))) (disk_of keeper.old) (disk_of keeper.new) }
+    ensures stored { result ≡ 0 → HasDue D.seen D.may_leave (IsLastDue (due (file_told D.seen keeper.old) (S.left input.old))) (disk_of keeper.old) (disk_of keeper.new) }
     ensures rest { result ≢ 7 → result ≢ 10 → IsAtRest D.seen D.may_leave (disk_of keeper.new) }
 {
     serve(alloc, keeper, input, output, errors)

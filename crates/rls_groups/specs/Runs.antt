@@ -12,11 +12,11 @@ use Rattle.rls_top.specs.Due.{due}
 use Rattle.rls_top.specs.Endings.{IsDone, IsKept, IsStored, IsWritten}
 use Rattle.rls_top.specs.Groups.{Group}
 use Rattle.rls_top.specs.Words.{command_of}
-use Rattle.rls_session.specs.Calls as sessions
+use Rattle.rls_session.specs.Devices.{Devices}
 use Rattle.rls_session.specs.Due as session
-use Rattle.rls_session.specs.Endings.{Ends}
 use Rattle.rls_session.specs.Replies.{saved_text}
-use Rattle.rls_durable.specs.Stops.{LeavesOldOrDue}
+use Rattle.rls_session.specs.Serving.{SessionEnds}
+use Rattle.rls_durable.specs.Stops.{LeavesOldOrDue, LeavesOldOrStores}
 use Rattle.rls_groups.specs.Events.{Commands, Deed, Sits, after_run, empty_desk, session_due}
 
 -- the member's file, as the group has it
@@ -44,12 +44,12 @@ CommandsLeave = (g : Group) (i : ℕ) (words : List (List ℕ)) (input : List �
 
 -- ---- sessions
 
--- With status 0 the file that is kept is that of a session that is done, and all replies were written, by the clause `ends` of `serve`; with a 9 it is that or
--- the one from before; and with any other status it is the one from before, if the keeper tells it, by the clause `stays`.
-abbrev pub SessionsLeave : Type 0
-SessionsLeave = (g : Group) (i : ℕ) (input : List ℕ) (n : ℕ) (now : Option (List ℕ)) (old new : Option (List ℕ)) → i < length g.files → let file = Some (file_at g i) in let deed = Sits empty_desk input in
-    IfSome (session.due file (Some input)) (λ d. Ends d n file (Some now) old new) → (n ≢ 0 → n ≢ 9 → Stays file (Some now)) →
-    (n ≡ 0 → (now ≡ file_after true g i deed) × Appends old new ((session_due g i empty_desk input).replies ++ saved_text))
+-- By the clause `ends` of `serve`: with status 0 the file that is kept is that of a session that is done, and all replies were written; with a 9 it is that or
+-- the one from before; and with any other status it is the one from before, if the keeper tells it.
+abbrev pub SessionsLeave : {K : Type 0} → (S W : Type 0) → (K → Bool → K → Type 0) → (K → List ℕ → Bool → K → Type 0) → Type 0
+SessionsLeave {K} S W load store = (g : Group) (i : ℕ) (input : List ℕ) (n : ℕ) (now : Option (List ℕ)) (keeper_old keeper_new : K) (input_old input_new : S) (output_old output_new : W) (old new : Devices) → i < length g.files → let deed = Sits empty_desk input in
+    SessionEnds load store ((input_new ≡ input_old) × (output_new ≡ output_old)) n keeper_old keeper_new old new → old.file ≡ Some (file_at g i) → old.left ≡ Some input → new.file ≡ Some now →
+    (n ≡ 0 → (now ≡ file_after true g i deed) × Appends old.told new.told ((session_due g i empty_desk input).replies ++ saved_text))
     × (n ≡ 9 → IsLeft g i deed now)
     × (n ≢ 0 → n ≢ 9 → now ≡ file_at g i)
 
@@ -60,4 +60,4 @@ abbrev pub StopsLeave : {D : Type 0} → (D → ℕ) → (D → ℕ → Areas �
 StopsLeave {D} moment left_since = (g : Group) (i : ℕ) (input : List ℕ) (old new : D) → i < length g.files → let file = file_at g i in
     ((words : List (List ℕ)) (stores : Bool) → LeavesOldOrDue moment left_since stores (commands.IsDueOf (due words (Some file) (Some input))) file old new →
     LeavesOnly moment left_since old new (λ c. IsLeft g i (Commands words input) (kept c)))
-    × (LeavesOldOrDue moment left_since true (sessions.IsDueOf (session.due (Some file) (Some input))) file old new → LeavesOnly moment left_since old new (λ c. IsLeft g i (Sits empty_desk input) (kept c)))
+    × (LeavesOldOrStores moment left_since (session.due (Some file) (Some input)) file old new → LeavesOnly moment left_since old new (λ c. IsLeft g i (Sits empty_desk input) (kept c)))

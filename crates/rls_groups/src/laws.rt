@@ -4,6 +4,7 @@ ghost use Rattle.rls_groups.specs.Groups.{GroupsConverge};
 ghost use Rattle.rls_groups.specs.Premises.{PutBack, UnsavedHandedOn, UsedTwice};
 ghost use Rattle.rls_groups.specs.Runs.{CommandsLeave, SessionsLeave, StopsLeave};
 
+use rls_io::{Keeper, Sink, Source};
 use rls_journal::Disk;
 
 /// Whatever the members of a group do by commands and sessions, each over its own file, whatever fails or stops of it, and however the
@@ -17,9 +18,9 @@ pub fn groups_converge()
 
 /// What the clauses of `rls_top::run` and of `rls_session::serve` say of a call is an event of the group: the member's file is as before, or
 /// as the run leaves it that came to its end; and which of the two, by the status.
-pub fn runs_are_events()
+pub fn runs_are_events<K: Keeper, S: Source, W: Sink>()
     ensures commands { CommandsLeave }
-    ensures sessions { SessionsLeave }
+    ensures sessions { SessionsLeave S W K.load_gives K.store_gives }
 {}
 
 /// The same of a stop at any moment, by the clauses of `rls_durable`.

@@ -22,7 +22,7 @@ use Rattle.rls_stages.proofs.Files.{opened, stands_stored}
 use Rattle.rls_session.specs.Answers.{Sitting}
 use Rattle.rls_session.specs.Courses.{Course}
 use Rattle.rls_session.specs.Due.{Due, due, due_of, due_on, ending_status, stops}
-use Rattle.rls_session.specs.Endings.{ByReplies, Ends, FailsAt, IsKept, IsTooLong, Serves}
+use Rattle.rls_session.specs.Endings.{ByReplies, Ends, EndsIn, FailsAt, IsKept, IsTooLong, Serves}
 use Rattle.rls_session.specs.Replies.{saved_text}
 use Rattle.rls_session.specs.Sessions.{session, session_in}
 use Rattle.rls_session.proofs.Agreeing.{IsAlike, sessions_alike}
@@ -64,7 +64,7 @@ part_behind : (old new : Option (List ℕ)) (xs ys : List ℕ) (n : ℕ) → n �
 part_behind old new xs ys n h a = (length xs + n, omega (arith, length-append xs ys), subst (Appends old new) (sym (take-append-add xs ys n)) a)
 
 -- whatever the status
-any_part : (d : Due) (n : ℕ) (file new_file : Option (Option (List ℕ))) (old new : Option (List ℕ)) → Ends d n file new_file old new → IsPart old new (d.replies ++ saved_text)
+any_part : (d : Due) (n : ℕ) (file new_file : Option (Option (List ℕ))) (old new : Option (List ℕ)) → EndsIn d n file new_file old new → IsPart old new (d.replies ++ saved_text)
 any_part d n file new_file old new e = at_zero (eqb_tells n 0)
   where
     fails : FailsAt d file new_file old new → IsPart old new (d.replies ++ saved_text)
@@ -95,7 +95,7 @@ stored_by_replies replies (Some output) new P Q R f h = (λ all. f (h.0 all), h.
 
 -- the replica that stands for the state was found
 found_serves : (n : ℕ) (s : Seen) (t : State) (bytes given : List ℕ) (new_file : Option (Option (List ℕ))) (old new : Option (List ℕ)) → IsSameCourse IsAlike (session s given) (session_in t given)
-    → Ends (due_of (session s given)) n (Some (Some bytes)) new_file old new → Serves n bytes (session_in t given) new_file old new
+    → EndsIn (due_of (session s given)) n (Some (Some bytes)) new_file old new → Serves n bytes (session_in t given) new_file old new
 found_serves n s t bytes given new_file old new same e =
     let c = session s given in
     let f = session_in t given in
@@ -121,7 +121,7 @@ found_serves n s t bytes given new_file old new same e =
     status h (inr f) = inr (inl f)
 
 -- the kept file is too long
-long_serves : (n : ℕ) (t : State) (bytes given : List ℕ) (kept : Option (List ℕ)) (new_file : Option (Option (List ℕ))) (old new : Option (List ℕ)) → FILE_BYTES < length bytes → Ends (stops TooLarge) n (Some kept) new_file old new
+long_serves : (n : ℕ) (t : State) (bytes given : List ℕ) (kept : Option (List ℕ)) (new_file : Option (Option (List ℕ))) (old new : Option (List ℕ)) → FILE_BYTES < length bytes → EndsIn (stops TooLarge) n (Some kept) new_file old new
     → Serves n bytes (session_in t given) new_file old new
 long_serves n t bytes given kept new_file old new h e = record {
   status = status e.status;
@@ -155,19 +155,19 @@ long_serves n t bytes given kept new_file old new h e = record {
     from_none : IsPart old new [] → IsPart old new ((session_in t given).replies ++ saved_text)
     from_none p = (0, omega arith, subst (Appends old new) (take_none p.0) p.2)
 
-pub history_serves : (n : ℕ) (file new_file : Option (Option (List ℕ))) (left old new : Option (List ℕ)) (t : State) (bytes given : List ℕ) → IfSome (due file left) (λ d. Ends d n file new_file old new) → file ≡ Some (Some bytes) → IsFileFor bytes t
+pub history_serves : (n : ℕ) (file new_file : Option (Option (List ℕ))) (left old new : Option (List ℕ)) (t : State) (bytes given : List ℕ) → IfSome (due file left) (λ ds. Ends ds n file new_file old new) → file ≡ Some (Some bytes) → IsFileFor bytes t
     → left ≡ Some given → IsBytes given → Serves n bytes (session_in t given) new_file old new
 history_serves n file new_file left old new t bytes given e f stands l b = go (within_or_past FILE_BYTES (length bytes))
   where
-    told : IfSome (due (Some (Some bytes)) (Some given)) (λ d. Ends d n (Some (Some bytes)) new_file old new)
-    told = subst (λ (x : Option (List ℕ)). IfSome (due (Some (Some bytes)) x) (λ d. Ends d n (Some (Some bytes)) new_file old new)) l (subst (λ (x : Option (Option (List ℕ))). IfSome (due x left) (λ d. Ends d n x new_file old new)) f e)
+    told : IfSome (due (Some (Some bytes)) (Some given)) (λ ds. Ends ds n (Some (Some bytes)) new_file old new)
+    told = subst (λ (x : Option (List ℕ)). IfSome (due (Some (Some bytes)) x) (λ ds. Ends ds n (Some (Some bytes)) new_file old new)) l (subst (λ (x : Option (Option (List ℕ))). IfSome (due x left) (λ ds. Ends ds n x new_file old new)) f e)
 
     go : WithinOrPast FILE_BYTES (length bytes) → Serves n bytes (session_in t given) new_file old new
     go (inl h) =
         let o = opened bytes t stands in
         let found : replica_in (loaded (Some bytes)) ≡ Ok o.0 = rw (h.1) (o.1.found) in
         found_serves n o.0 t bytes given new_file old new (sessions_alike o.0 t given b o.1.stands o.1.sane o.1.writable)
-        (subst (λ (r : Result Seen CommandError). IfSome (due_on r (Some given)) (λ d. Ends d n (Some (Some bytes)) new_file old new)) found told)
+        (subst (λ (r : Result Seen CommandError). IfSome (due_on (Some r) (Some given)) (λ ds. Ends ds n (Some (Some bytes)) new_file old new)) found told)
     go (inr h) =
         let long : replica_in (loaded (Some bytes)) ≡ Err TooLarge = rw (h.1) refl in
-        long_serves n t bytes given (Some bytes) new_file old new h.0 (subst (λ (r : Result Seen CommandError). IfSome (due_on r (Some given)) (λ d. Ends d n (Some (Some bytes)) new_file old new)) long told)
+        long_serves n t bytes given (Some bytes) new_file old new h.0 (subst (λ (r : Result Seen CommandError). IfSome (due_on (Some r) (Some given)) (λ ds. Ends ds n (Some (Some bytes)) new_file old new)) long told)

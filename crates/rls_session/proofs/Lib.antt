@@ -12,5 +12,6 @@ pub mod Sent
 pub mod Answered
 pub mod Served
 pub mod Called
+pub mod Closing
 pub mod Agreeing
 pub mod Histories

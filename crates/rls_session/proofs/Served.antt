@@ -1,5 +1,5 @@
 -- How a session ends, from its parts.
-use Rattle.std.proofs.Common.{◌≡◌, ◌≢◌, ◌∙◌, ◌⊎◌, ◌<◌, ◌≤◌, ℕ, Bool, true, false, eqb, ltb, List, [], ◌++◌, length, take, Option, Some, None, IfSome, IfErr, IfOk, OnOk, Result, Ok, Err, refl, sym, ap, subst, arith, inl, inr, append_assoc, length-append}
+use Rattle.std.proofs.Common.{◌≡◌, ◌≢◌, ◌∙◌, ◌⊎◌, ◌<◌, ◌≤◌, ℕ, Bool, true, false, eqb, ltb, List, [], ◌∷◌, ◌++◌, length, take, Option, Some, None, IfSome, IfErr, IfOk, IsErr, OnOk, Result, Ok, Err, refl, sym, ap, subst, arith, inl, inr, append_assoc, length-append}
 use Rattle.std.specs.Prelude.{option_map, if◌then◌else◌}
 use Rattle.std.proofs.lemmas.Bool.Decides.{nat_tests}
 use Rattle.std.proofs.lemmas.Grind.{common_steps}
@@ -27,8 +27,8 @@ use Rattle.rls_session.specs.declared.answering.AnswerError.TheVariants.{SourceF
 use Rattle.rls_session.specs.Answering.{IsDone, IsNear, of_answer}
 use Rattle.rls_session.specs.Answers.{Sitting}
 use Rattle.rls_session.specs.Courses.{Course}
-use Rattle.rls_session.specs.Due.{Due, due, due_of, due_on, ending_line, ending_status, line_at}
-use Rattle.rls_session.specs.Endings.{ByReplies, Ends, EndsAs, EndsNear, FailsAt, HasAllOf, IsEarly, IsKept, IsSessionsOwn, IsSessionStatus, IsStatusOf, Leaves, OnSession, Saves, line_of}
+use Rattle.rls_session.specs.Due.{Due, due, due_of, due_on, dues_line, ending_status, found_in, line_at, line_or, stops}
+use Rattle.rls_session.specs.Endings.{ByReplies, Ends, EndsAs, EndsIn, EndsNear, EndsOn, FailsAt, HasAllOf, IsEarly, IsKept, IsSessionsOwn, IsSessionStatus, IsStatusOf, Leaves, LeavesIn, LeavesOn, Saves, line_of}
 use Rattle.rls_session.specs.Replies.{saved_text}
 use Rattle.rls_session.specs.Sessions.{session}
 
@@ -83,20 +83,20 @@ ending_long : (c : Course (Sitting Seen)) → INPUT_BYTES < c.used → (due_of c
 ending_long c h = let test : ltb INPUT_BYTES c.used ≡ true = grind (arith, nat_tests) in rw test refl
 
 -- the session ended before the file was to be stored
-answer_leaves : (e : AnswerError) (c : Course (Sitting Seen)) (file : Option (Option (List ℕ))) (old new : Option (List ℕ)) → (e ≡ TooLarge → INPUT_BYTES < c.used) → (e ≡ SinkFault → IsCutShort old new c.replies) → IsPart old new c.replies → Leaves (Err (of_answer e)) (due_of c) file file old new
+answer_leaves : (e : AnswerError) (c : Course (Sitting Seen)) (file : Option (Option (List ℕ))) (old new : Option (List ℕ)) → (e ≡ TooLarge → INPUT_BYTES < c.used) → (e ≡ SinkFault → IsCutShort old new c.replies) → IsPart old new c.replies → LeavesIn (Err (of_answer e)) (due_of c) file file old new
 answer_leaves SourceFault c file old new long cut part = (tt, part)
 answer_leaves SinkFault c file old new long cut part = inl (keeps_same file, cut refl)
 answer_leaves TooLarge c file old new long cut part = (ending_long c (long refl), part)
 answer_leaves OutOfMemory c file old new long cut part = (tt, part)
 
 pub answers_leave : (e : AnswerError) (s : Seen) (input : Option (List ℕ)) (file : Option (Option (List ℕ))) (old new : Option (List ℕ)) → (e ≡ TooLarge → IfSome input (λ given. INPUT_BYTES < (session s given).used))
-    → (e ≡ SinkFault → IfSome input (λ given. IsCutShort old new (session s given).replies)) → IfSome input (λ given. IsPart old new (session s given).replies) → IfSome input (λ given. Leaves (Err (of_answer e)) (due_of (session s given)) file file old new)
+    → (e ≡ SinkFault → IfSome input (λ given. IsCutShort old new (session s given).replies)) → IfSome input (λ given. IsPart old new (session s given).replies) → IfSome (due_on (Some (Ok s)) input) (λ ds. Leaves (Err (of_answer e)) ds file file old new)
 answers_leave e s None file old new long cut part = tt
 answers_leave e s (Some given) file old new long cut part = answer_leaves e (session s given) file old new long cut part
 
 -- the file was to be stored
 save_leaves : (r : Result (Unit {0}) Failure) (c : Course (Sitting Seen)) (s : Seen) (file new_file : Option (Option (List ℕ))) (old mid new : Option (List ℕ)) → (c.state).state ≡ s → c.used ≤ INPUT_BYTES → Appends old mid c.replies
-    → r ≢ Err (Fault Source) → Saves r (saved s) file new_file mid new → Leaves r (due_of c) file new_file old new
+    → r ≢ Err (Fault Source) → Saves r (saved s) file new_file mid new → LeavesIn r (due_of c) file new_file old new
 save_leaves r c s file new_file old mid new at within wrote inner saves = go r inner saves
   where
     ending : (due_of c).ending ≡ saved s
@@ -111,7 +111,7 @@ save_leaves r c s file new_file old mid new at within wrote inner saves = go r i
     part : new ≡ mid → IsPart old new c.replies
     part same = part_all old new c.replies (subst (λ (m : Option (List ℕ)). Appends old m c.replies) (sym same) wrote)
 
-    go : (r : Result (Unit {0}) Failure) → r ≢ Err (Fault Source) → Saves r (saved s) file new_file mid new → Leaves r (due_of c) file new_file old new
+    go : (r : Result (Unit {0}) Failure) → r ≢ Err (Fault Source) → Saves r (saved s) file new_file mid new → LeavesIn r (due_of c) file new_file old new
     go (Ok u) inner h = (kept h.0, appends_more old mid new c.replies saved_text wrote h.1)
     go (Err (Fault Sink)) inner h = inr (kept h.0, (h.1.0, h.1.1, appends_more old mid new c.replies (take h.1.0 saved_text) wrote h.1.2))
     go (Err NoCommand) inner h = absurd h.0
@@ -121,44 +121,51 @@ save_leaves r c s file new_file old mid new at within wrote inner saves = go r i
     go (Err (Fault Memory)) inner h = (tt, part h.1)
 
 pub saves_leave : (r : Result (Unit {0}) Failure) (first : Seen) (d : Sitting Seen) (s : Seen) (input : Option (List ℕ)) (file new_file : Option (Option (List ℕ))) (old mid new : Option (List ℕ)) → s ≡ d.state
-    → IfSome input (λ given. IsDone (session first given) d old mid) → r ≢ Err (Fault Source) → Saves r (saved s) file new_file mid new → IfSome input (λ given. Leaves r (due_of (session first given)) file new_file old new)
+    → IfSome input (λ given. IsDone (session first given) d old mid) → r ≢ Err (Fault Source) → Saves r (saved s) file new_file mid new → IfSome (due_on (Some (Ok first)) input) (λ ds. Leaves r ds file new_file old new)
 saves_leave r first d s None file new_file old mid new at done inner saves = tt
 saves_leave r first d s (Some given) file new_file old mid new at done inner saves =
     save_leaves r (session first given) s file new_file old mid new (ap (λ (x : Sitting Seen). x.state) done.state_is ∙ sym at) done.within done.written inner saves
 
 -- ---- the kept file
 
+-- what holds of what is called for in one way holds in another
+for_due : (ds : Option (List Due)) (P Q : List Due → Type 0) → ((ds : List Due) → P ds → Q ds) → IfSome ds P → IfSome ds Q
+for_due None P Q f h = tt
+for_due (Some ds) P Q f h = f ds h
+
 -- what holds whatever is called for
-for_all : (d : Option Due) (P : Due → Type 0) → ((d : Due) → P d) → IfSome d P
-for_all None P f = tt
-for_all (Some d) P f = f d
+for_each : (found : Option (Result Seen CommandError)) (left : Option (List ℕ)) (P : List Due → Type 0) → ((d : Due) → P (d ∷ [])) → IfSome (due_on found left) P
+for_each None left P f = tt
+for_each (Some (Ok s)) None P f = tt
+for_each (Some (Ok s)) (Some given) P f = f (due_of (session s given))
+for_each (Some (Err e)) left P f = f (stops e)
 
 -- the file can't be used
 pub open_leaves : (file : Option (Option (List ℕ))) (left : Option (List ℕ)) (e : OpenError) (new_file : Option (Option (List ℕ))) (old : Option (List ℕ)) → IfSome file (λ kept. GivesError (of_open e) (replica_in (loaded kept)))
-    → IfSome (due file left) (λ d. Leaves (Err (of_open e)) d file new_file old old)
+    → IfSome (due file left) (λ ds. Leaves (Err (of_open e)) ds file new_file old old)
 open_leaves None left e new_file old h = tt
 open_leaves (Some kept) left (opening.Command e) new_file old h = rw h (refl, part_none old [])
-open_leaves (Some kept) left opening.KeeperFault new_file old h = for_all (due_on (replica_in (loaded kept)) left) _ (λ d. (tt, part_none old d.replies))
-open_leaves (Some kept) left opening.OutOfMemory new_file old h = for_all (due_on (replica_in (loaded kept)) left) _ (λ d. (tt, part_none old d.replies))
+open_leaves (Some kept) left opening.KeeperFault new_file old h = for_each (Some (replica_in (loaded kept))) left _ (λ d. (tt, part_none old d.replies))
+open_leaves (Some kept) left opening.OutOfMemory new_file old h = for_each (Some (replica_in (loaded kept))) left _ (λ d. (tt, part_none old d.replies))
 
 -- it was used
-leaves_as : (r : Result (Unit {0}) Failure) (d : Due) (old_file file new_file : Option (Option (List ℕ))) (old new : Option (List ℕ)) → Keeps old_file file → Leaves r d file new_file old new → Leaves r d old_file new_file old new
-leaves_as r d old_file file new_file old new same h = go r h
+kept_from : (r : Result Seen CommandError) (old_file file new_file : Option (Option (List ℕ))) → Keeps old_file file → IsKept r file new_file → IsKept r old_file new_file
+kept_from (Ok s) old_file file new_file same k = (stored old_file same, k.1)
   where
-    kept : (r : Result Seen CommandError) → IsKept r file new_file → IsKept r old_file new_file
-    kept (Ok s) k = (stored old_file same, k.1)
-      where
-        stored : (o : Option (Option (List ℕ))) → Keeps o file → Stores o new_file (bytes_over s)
-        stored None e = tt
-        stored (Some x) e = subst (λ (f : Option (Option (List ℕ))). Stores f new_file (bytes_over s)) e k.0
-    kept (Err e) k = absurd k
+    stored : (o : Option (Option (List ℕ))) → Keeps o file → Stores o new_file (bytes_over s)
+    stored None e = tt
+    stored (Some x) e = subst (λ (f : Option (Option (List ℕ))). Stores f new_file (bytes_over s)) e k.0
+kept_from (Err e) old_file file new_file same k = absurd k
 
+leaves_from : (r : Result (Unit {0}) Failure) (d : Due) (old_file file new_file : Option (Option (List ℕ))) (old new : Option (List ℕ)) → Keeps old_file file → LeavesIn r d file new_file old new → LeavesIn r d old_file new_file old new
+leaves_from r d old_file file new_file old new same h = go r h
+  where
     fails : FailsAt d file new_file old new → FailsAt d old_file new_file old new
     fails (inl k) = inl (keeps_on old_file file new_file same k.0, k.1)
-    fails (inr k) = inr (kept d.ending k.0, k.1)
+    fails (inr k) = inr (kept_from d.ending old_file file new_file same k.0, k.1)
 
-    go : (r : Result (Unit {0}) Failure) → Leaves r d file new_file old new → Leaves r d old_file new_file old new
-    go (Ok u) h = (kept d.ending h.0, h.1)
+    go : (r : Result (Unit {0}) Failure) → LeavesIn r d file new_file old new → LeavesIn r d old_file new_file old new
+    go (Ok u) h = (kept_from d.ending old_file file new_file same h.0, h.1)
     go (Err (Fault Sink)) h = fails h
     go (Err NoCommand) h = absurd h.0
     go (Err (Command e)) h = h
@@ -166,11 +173,22 @@ leaves_as r d old_file file new_file old new same h = go r h
     go (Err (Fault Source)) h = h
     go (Err (Fault Memory)) h = h
 
+all_from : (r : Result (Unit {0}) Failure) (ds : List Due) (old_file file new_file : Option (Option (List ℕ))) (old new : Option (List ℕ)) → Keeps old_file file → Leaves r ds file new_file old new → Leaves r ds old_file new_file old new
+all_from r [] old_file file new_file old new same h = absurd h
+all_from r (d ∷ []) old_file file new_file old new same h = leaves_from r d old_file file new_file old new same h
+all_from r (d ∷ (e ∷ ds)) old_file file new_file old new same (inl h) = inl (h.0, leaves_from r d old_file file new_file old new same h.1)
+all_from r (d ∷ (e ∷ ds)) old_file file new_file old new same (inr h) = inr (h.0, h.1, record { stored = kept_from d.ending old_file file h.0 same h.2.stored; written = h.2.written }, h.3)
+
+-- what is said of the replica that was opened is so of the kept file
+pub opened_as : (file : Option (Option (List ℕ))) (s : Seen) (P : Option (Result Seen CommandError) → Type 0) → P None → IfSome file (λ kept. replica_in (loaded kept) ≡ Ok s) → P (Some (Ok s)) → P (found_in file)
+opened_as None s P none found h = none
+opened_as (Some kept) s P none found h = subst (λ (r : Result Seen CommandError). P (Some r)) (sym found) h
+
 pub opened_leaves : (r : Result (Unit {0}) Failure) (s : Seen) (old_file file new_file : Option (Option (List ℕ))) (left old new : Option (List ℕ)) → IfSome old_file (λ kept. replica_in (loaded kept) ≡ Ok s) → Keeps old_file file
-    → IfSome left (λ given. Leaves r (due_of (session s given)) file new_file old new) → IfSome (due old_file left) (λ d. Leaves r d old_file new_file old new)
-opened_leaves r s None file new_file left old new found same h = tt
-opened_leaves r s (Some kept) file new_file None old new found same h = rw found tt
-opened_leaves r s (Some kept) file new_file (Some given) old new found same h = rw found (leaves_as r (due_of (session s given)) (Some kept) file new_file old new same h)
+    → IfSome (due_on (Some (Ok s)) left) (λ ds. Leaves r ds file new_file old new) → IfSome (due old_file left) (λ ds. Leaves r ds old_file new_file old new)
+opened_leaves r s old_file file new_file left old new found same h =
+    opened_as old_file s (λ o. IfSome (due_on o left) (λ ds. Leaves r ds old_file new_file old new)) tt found
+    (for_due (due_on (Some (Ok s)) left) (λ ds. Leaves r ds file new_file old new) (λ ds. Leaves r ds old_file new_file old new) (λ ds k. all_from r ds old_file file new_file old new same k) h)
 
 -- and so it can be
 pub opened_usable : (file : Option (Option (List ℕ))) (s : Seen) → IfSome file (λ kept. replica_in (loaded kept) ≡ Ok s) → IfSome file IsUsable
@@ -261,6 +279,11 @@ kept_status : (r : Result Seen CommandError) (file new_file : Option (Option (Li
 kept_status (Ok s) file new_file h = refl
 kept_status (Err e) file new_file h = absurd h
 
+-- and no line
+kept_line : (r : Result Seen CommandError) (file new_file : Option (Option (List ℕ))) (after : List ℕ) → IsKept r file new_file → line_or r after ≡ after
+kept_line (Ok s) file new_file after h = refl
+kept_line (Err e) file new_file after h = absurd h
+
 -- the output has not all of what is cut short
 cut_lacks : (output bytes : List ℕ) (new : Option (List ℕ)) → IsCutShort (Some output) new bytes → HasAllOf output new bytes → ⊥
 cut_lacks output bytes new cut all =
@@ -276,7 +299,7 @@ told_by_replies d file new_file None new h = tt
 told_by_replies d file new_file (Some output) new (inl h) = (λ all. absurd (cut_lacks output d.replies new h.1 all), λ lacks. h.0)
 told_by_replies d file new_file (Some output) new (inr h) = (λ all. h.0, λ lacks. absurd (lacks (take h.1.0 saved_text, h.1.2)))
 
-ends_before : (d : Due) (n m : ℕ) (file new_file : Option (Option (List ℕ))) (old new : Option (List ℕ)) → n ≡ m → eqb m 0 ≡ false → eqb m 9 ≡ false → (n ≡ ending_status d.ending) ⊎ IsFault n → IsPart old new d.replies → Ends d n file new_file old new
+ends_before : (d : Due) (n m : ℕ) (file new_file : Option (Option (List ℕ))) (old new : Option (List ℕ)) → n ≡ m → eqb m 0 ≡ false → eqb m 9 ≡ false → (n ≡ ending_status d.ending) ⊎ IsFault n → IsPart old new d.replies → EndsIn d n file new_file old new
 ends_before d n m file new_file old new s none other status part = record {
   by_replies = λ h. apart n m 9 s h other;
   status = status;
@@ -286,7 +309,7 @@ ends_before d n m file new_file old new s none other status part = record {
   failing = λ h. apart n m 9 s h other;
 }
 
-ends_so : (r : Result (Unit {0}) Failure) (n : ℕ) (d : Due) (file new_file : Option (Option (List ℕ))) (old new : Option (List ℕ)) → IsStatusOf r n → Leaves r d file new_file old new → Ends d n file new_file old new
+ends_so : (r : Result (Unit {0}) Failure) (n : ℕ) (d : Due) (file new_file : Option (Option (List ℕ))) (old new : Option (List ℕ)) → IsStatusOf r n → LeavesIn r d file new_file old new → EndsIn d n file new_file old new
 ends_so (Ok u) n d file new_file old new s h = record {
   status = inl (s ∙ kept_status d.ending file new_file h.0);
   written = λ e. h.1;
@@ -317,36 +340,60 @@ ends_so (Err (Fault Sink)) n d file new_file old new s h = record {
   by_replies = λ e. told_by_replies d file new_file old new h;
 }
 
--- what holds of what is called for in one way holds in another
-for_due : (d : Option Due) (P Q : Due → Type 0) → ((d : Due) → P d → Q d) → IfSome d P → IfSome d Q
-for_due None P Q f h = tt
-for_due (Some d) P Q f h = f d h
+-- an error isn't status 0
+not_ok : (r : Result (Unit {0}) Failure) (n : ℕ) → IsErr r → IsStatusOf r n → n ≢ 0
+not_ok (Ok u) n e s = let never : false ≡ true = e in cc
+not_ok (Err f) n e s = λ z. not_failure f n 0 s z refl
 
-pub ends_due : (d : Option Due) (r : Result (Unit {0}) Failure) (n : ℕ) (file new_file : Option (Option (List ℕ))) (old new : Option (List ℕ)) → IsStatusOf r n → IfSome d (λ d. Leaves r d file new_file old new)
-    → IfSome d (λ d. Ends d n file new_file old new)
-ends_due d r n file new_file old new s h = for_due d (λ d. Leaves r d file new_file old new) (λ d. Ends d n file new_file old new) (λ d k. ends_so r n d file new_file old new s k) h
+ends_on : (r : Result (Unit {0}) Failure) (n : ℕ) (d : Due) (ds : List Due) (file new_file : Option (Option (List ℕ))) (old new : Option (List ℕ)) → IsStatusOf r n → LeavesOn r d ds file new_file old new → EndsOn d ds n file new_file old new
+ends_on r n d [] file new_file old new s h = ends_so r n d file new_file old new s h
+ends_on r n d (e ∷ ds) file new_file old new s (inl h) = inl (not_ok r n h.0 s, ends_so r n d file new_file old new s h.1)
+ends_on r n d (e ∷ ds) file new_file old new s (inr h) = inr (h.0, h.1, h.2, ends_on r n e ds h.0 new_file h.1 new s h.3)
+
+ends_all : (r : Result (Unit {0}) Failure) (n : ℕ) (ds : List Due) (file new_file : Option (Option (List ℕ))) (old new : Option (List ℕ)) → IsStatusOf r n → Leaves r ds file new_file old new → Ends ds n file new_file old new
+ends_all r n [] file new_file old new s h = absurd h
+ends_all r n (d ∷ ds) file new_file old new s h = ends_on r n d ds file new_file old new s h
+
+pub ends_due : (ds : Option (List Due)) (r : Result (Unit {0}) Failure) (n : ℕ) (file new_file : Option (Option (List ℕ))) (old new : Option (List ℕ)) → IsStatusOf r n → IfSome ds (λ ds. Leaves r ds file new_file old new)
+    → IfSome ds (λ ds. Ends ds n file new_file old new)
+ends_due ds r n file new_file old new s h = for_due ds (λ ds. Leaves r ds file new_file old new) (λ ds. Ends ds n file new_file old new) (λ ds k. ends_all r n ds file new_file old new s k) h
 
 -- ---- the line
 
 -- nothing is told of a session that ends well
-no_line : (P : List ℕ → Type 0) (d : Option Due) (file new_file : Option (Option (List ℕ))) (old new : Option (List ℕ)) → IfSome d (λ d. IsKept d.ending file new_file × Appends old new (d.replies ++ saved_text)) → P [] → IfSome (line_at d 0) P
-no_line P None file new_file old new h line = tt
-no_line P (Some d) file new_file old new h line = go d.ending h.0
-  where
-    go : (r : Result Seen CommandError) → IsKept r file new_file → IfSome (line_at (Some (record { replies = d.replies; ending = r })) 0) P
-    go (Ok s) k = line
-    go (Err e) k = absurd k
+no_line : (u : Unit {0}) (d : Due) (ds : List Due) (file new_file : Option (Option (List ℕ))) (old new : Option (List ℕ)) → LeavesOn (Ok u) d ds file new_file old new → dues_line (d ∷ ds) ≡ []
+no_line u d [] file new_file old new h = kept_line d.ending file new_file [] h.0
+no_line u d (e ∷ ds) file new_file old new (inl h) = let never : false ≡ true = h.0 in cc
+no_line u d (e ∷ ds) file new_file old new (inr h) = kept_line d.ending file h.0 (dues_line (e ∷ ds)) h.2.stored ∙ no_line u e ds h.0 new_file h.1 new h.3
+
+no_lines : (u : Unit {0}) (ds : List Due) (file new_file : Option (Option (List ℕ))) (old new : Option (List ℕ)) → Leaves (Ok u) ds file new_file old new → dues_line ds ≡ []
+no_lines u [] file new_file old new h = absurd h
+no_lines u (d ∷ ds) file new_file old new h = no_line u d ds file new_file old new h
 
 -- the line of what is called for is that of the error
-told_line : (d : Option Due) (f : Failure) (e : CommandError) (file new_file : Option (Option (List ℕ))) (old new : Option (List ℕ)) → IfSome d (λ d. Leaves (Err f) d file new_file old new) → f ≡ Command e
-    → IfSome (option_map (λ (x : Due). ending_line x.ending) d) (λ l. l ≡ error_line e)
-told_line None f e file new_file old new h is = tt
-told_line (Some d) f e file new_file old new h is = let k = subst (λ (g : Failure). Leaves (Err g) d file new_file old new) is h in ap ending_line k.0
+told_line : (e : CommandError) (d : Due) (ds : List Due) (file new_file : Option (Option (List ℕ))) (old new : Option (List ℕ)) → LeavesOn (Err (Command e)) d ds file new_file old new → dues_line (d ∷ ds) ≡ error_line e
+told_line e d [] file new_file old new h = ap (λ (r : Result Seen CommandError). line_or r []) h.0
+told_line e d (x ∷ ds) file new_file old new (inl h) = ap (λ (r : Result Seen CommandError). line_or r (dues_line (x ∷ ds))) h.1.0
+told_line e d (x ∷ ds) file new_file old new (inr h) = kept_line d.ending file h.0 (dues_line (x ∷ ds)) h.2.stored ∙ told_line e x ds h.0 new_file h.1 new h.3
 
-pub line_so : (P : List ℕ → Type 0) (d : Option Due) (r : Result (Unit {0}) Failure) (n : ℕ) (file new_file : Option (Option (List ℕ))) (old new : Option (List ℕ)) → IsStatusOf r n → IfSome d (λ d. Leaves r d file new_file old new)
-    → P (line_of r n) → IfSome (line_at d n) P
-line_so P d (Ok u) n file new_file old new s h line = subst (λ (k : ℕ). IfSome (line_at d k) P) (sym s) (no_line P d file new_file old new h line)
-line_so P d (Err f) n file new_file old new s h line = failure_line_told P (option_map (λ (x : Due). ending_line x.ending) d) f n s (λ e is. told_line d f e file new_file old new h is) line
+told_lines : (ds : Option (List Due)) (f : Failure) (e : CommandError) (file new_file : Option (Option (List ℕ))) (old new : Option (List ℕ)) → IfSome ds (λ ds. Leaves (Err f) ds file new_file old new) → f ≡ Command e → IfSome (option_map dues_line ds) (λ l. l ≡ error_line e)
+told_lines None f e file new_file old new h is = tt
+told_lines (Some []) f e file new_file old new h is = absurd h
+told_lines (Some (d ∷ ds)) f e file new_file old new h is = told_line e d ds file new_file old new (subst (λ (g : Failure). LeavesOn (Err g) d ds file new_file old new) is h)
+
+pub line_so : (P : List ℕ → Type 0) (ds : Option (List Due)) (r : Result (Unit {0}) Failure) (n : ℕ) (file new_file : Option (Option (List ℕ))) (old new : Option (List ℕ)) → IsStatusOf r n → IfSome ds (λ ds. Leaves r ds file new_file old new)
+    → P (line_of r n) → IfSome (line_at ds n) P
+line_so P ds (Ok u) n file new_file old new s h line = subst (λ (k : ℕ). IfSome (line_at ds k) P) (sym s) (go ds h)
+  where
+    go : (ds : Option (List Due)) → IfSome ds (λ ds. Leaves (Ok u) ds file new_file old new) → IfSome (line_at ds 0) P
+    go None h = tt
+    go (Some ds) h = subst P (sym (no_lines u ds file new_file old new h)) line
+line_so P ds (Err f) n file new_file old new s h line = failure_line_told P (option_map dues_line ds) f n s (λ e is. told_lines ds f e file new_file old new h is) line
+
+-- the line at a status, as it is written
+pub line_written : (line : Option (List ℕ)) (l : List ℕ) (P : List ℕ → Type 0) → IfSome line (λ k. k ≡ l) → P l → IfSome line P
+line_written None l P e h = tt
+line_written (Some k) l P e h = subst P (sym e) h
 
 -- nothing is written
 pub nothing_written : (old : Option (List ℕ)) → Appends old old []
@@ -356,19 +403,11 @@ nothing_written (Some xs) = ap (λ (l : List ℕ). Some l) (sym (append-nil xs))
 -- ---- how far the input is read
 
 -- it isn't read
-pub unread_near : (file : Option (Option (List ℕ))) (left : Option (List ℕ)) → EndsNear file left left
+pub unread_near : (found : Option (Result Seen CommandError)) (left : Option (List ℕ)) → EndsNear found left left
 unread_near None left = tt
-unread_near (Some kept) left = go left (replica_in (loaded kept))
-  where
-    go : (left : Option (List ℕ)) (r : Result Seen CommandError) → IfOk r (λ s. IfSome left (λ given. IsNear given left (session s given).used))
-    go None (Ok s) = tt
-    go (Some given) (Ok s) = omega arith
-    go left (Err e) = tt
-
--- by the replica of the file
-pub on_session : (file : Option (Option (List ℕ))) (left : Option (List ℕ)) (s : Seen) (P : Seen → List ℕ → Type 0) → IfSome file (λ kept. replica_in (loaded kept) ≡ Ok s) → IfSome left (P s) → OnSession file left P
-on_session None left s P found h = tt
-on_session (Some kept) left s P found h = rw found h
+unread_near (Some (Ok s)) None = tt
+unread_near (Some (Ok s)) (Some given) = omega arith
+unread_near (Some (Err e)) left = tt
 
 -- ---- errors of the stages
 

@@ -1,50 +1,124 @@
 -- Which calls of the keeper a session makes, in which order, and the status with which it ends then.
-use Rattle.std.specs.Prelude.{◌≡◌, ◌⊎◌, ℕ, Bool, true, false, List, Option, IfSome, Result, Ok, Err}
+use Rattle.std.specs.Prelude.{◌≡◌, ◌≢◌, ◌⊎◌, ◌≤◌, ◌<◌, ◌++◌, ℕ, Bool, true, false, List, [], ◌∷◌, length, Option, Some, None, IfSome, Result, Ok, Err}
 use Rattle.rls_report.specs.declared.failures.CommandError.{CommandError}
 use Rattle.rls_report.specs.declared.failures.Failure.{Failure}
 use Rattle.rls_report.specs.declared.failures.Failure.TheVariants.{NoCommand, Command, Fault}
 use Rattle.rls_report.specs.declared.failures.Fault.TheVariants.{Keeper, Source, Sink, Memory}
 use Rattle.rls_seen.specs.Seen.{Seen}
-use Rattle.rls_stages.specs.Calls.{CallsOf}
+use Rattle.rls_stages.specs.Calls.{IsKeepersStatus}
 use Rattle.rls_stages.specs.KeptFile.{bytes_over}
 use Rattle.rls_session.specs.Due.{Due}
+
+-- ---- what is stored
 
 -- the bytes are those of this replica's file
 abbrev pub IsFileOf : Result Seen CommandError → List ℕ → Type 0
 IsFileOf (Ok s) bytes = bytes ≡ bytes_over s
 IsFileOf (Err e) bytes = ⊥
 
+-- these are files that are called for, in order, from the first on
+abbrev pub AreFilesOf : List Due → List (List ℕ) → Type 0
+AreFilesOf ds [] = Unit {0}
+AreFilesOf [] (bytes ∷ files) = ⊥
+AreFilesOf (d ∷ ds) (bytes ∷ files) = IsFileOf d.ending bytes × AreFilesOf ds files
+
+-- if it is known what is called for
+abbrev pub AreDue : Option (List Due) → List (List ℕ) → Type 0
+AreDue due files = IfSome due (λ ds. AreFilesOf ds files)
+
+-- these are all files that are called for
+abbrev pub AreAllFilesOf : List Due → List (List ℕ) → Type 0
+AreAllFilesOf [] [] = Unit {0}
+AreAllFilesOf [] (bytes ∷ files) = ⊥
+AreAllFilesOf (d ∷ ds) [] = ⊥
+AreAllFilesOf (d ∷ ds) (bytes ∷ files) = IsFileOf d.ending bytes × AreAllFilesOf ds files
+
+-- this is the last of them
+abbrev pub IsLastOf : Due → List Due → List ℕ → Type 0
+IsLastOf d [] bytes = IsFileOf d.ending bytes
+IsLastOf d (e ∷ ds) bytes = IsLastOf e ds bytes
+
+abbrev pub IsLastFileOf : List Due → List ℕ → Type 0
+IsLastFileOf [] bytes = ⊥
+IsLastFileOf (d ∷ ds) bytes = IsLastOf d ds bytes
+
+-- if it is known what is called for
+abbrev pub IsLastDue : Option (List Due) → List ℕ → Type 0
+IsLastDue due bytes = IfSome due (λ ds. IsLastFileOf ds bytes)
+
 -- ---- of a stage
 
 -- the keeper was called once, to store bytes that are to be stored
-abbrev pub HasStored : {K : Type 0} → (K → List ℕ → Bool → K → Type 0) → (List ℕ → Type 0) → Bool → K → K → Type 0
-HasStored gives IsDue ok old new = (bytes : List ℕ) × IsDue bytes × gives old bytes ok new
+abbrev pub StoresOnce : {K : Type 0} → (K → List ℕ → Bool → K → Type 0) → (List ℕ → Type 0) → Bool → K → K → Type 0
+StoresOnce gives IsDue ok old new = (bytes : List ℕ) × IsDue bytes × gives old bytes ok new
 
 -- the keeper was called once, to store, or not at all
 abbrev pub HasServed : {K : Type 0} → (K → List ℕ → Bool → K → Type 0) → (List ℕ → Type 0) → Result (Unit {0}) Failure → K → K → Type 0
-HasServed gives IsDue (Ok done) old new = HasStored gives IsDue true old new
+HasServed gives IsDue (Ok done) old new = StoresOnce gives IsDue true old new
 HasServed gives IsDue (Err NoCommand) old new = new ≡ old
 HasServed gives IsDue (Err (Command e)) old new = new ≡ old
-HasServed gives IsDue (Err (Fault Keeper)) old new = HasStored gives IsDue false old new
+HasServed gives IsDue (Err (Fault Keeper)) old new = StoresOnce gives IsDue false old new
 HasServed gives IsDue (Err (Fault Source)) old new = new ≡ old
-HasServed gives IsDue (Err (Fault Sink)) old new = (new ≡ old) ⊎ HasStored gives IsDue true old new
-HasServed gives IsDue (Err (Fault Memory)) old new = (new ≡ old) ⊎ HasStored gives IsDue false old new
+HasServed gives IsDue (Err (Fault Sink)) old new = (new ≡ old) ⊎ StoresOnce gives IsDue true old new
+HasServed gives IsDue (Err (Fault Memory)) old new = (new ≡ old) ⊎ StoresOnce gives IsDue false old new
 
 -- ---- of a session
 
--- the bytes are those of the file that is called for, if that is known
-abbrev pub IsDueOf : Option Due → List ℕ → Type 0
-IsDueOf d bytes = IfSome d (λ d. IsFileOf d.ending bytes)
+-- the files that were stored, one after another, and the one that was then to be stored in vain, if there is one
+pub record Stores : Type 0 where
+  pub stored : List (List ℕ)
+  pub failed : Option (List ℕ)
 
--- done, so the file is stored
-abbrev pub IsDone : ℕ → Type 0
-IsDone n = n ≡ 0
+abbrev pub no_stores : Stores
+no_stores = record { stored = []; failed = None }
 
--- done, perhaps but for a reply that couldn't be written. With no other status the file is stored
+abbrev pub and_failed : Option (List ℕ) → List (List ℕ)
+and_failed None = []
+and_failed (Some bytes) = bytes ∷ []
+
+-- all of them, in order
+abbrev pub tried : Stores → List (List ℕ)
+tried x = x.stored ++ and_failed x.failed
+
+-- the keeper was called to store these, one after another, and each call answered Ok
+abbrev pub StoresEach : {K : Type 0} → (K → List ℕ → Bool → K → Type 0) → List (List ℕ) → K → K → Type 0
+StoresEach {K} gives [] old new = new ≡ old
+StoresEach {K} gives (bytes ∷ files) old new = (mid : K) × gives old bytes true mid × StoresEach gives files mid new
+
+-- it was called to store this, and didn't; or it wasn't called
+abbrev pub FailsOnce : {K : Type 0} → (K → List ℕ → Bool → K → Type 0) → Option (List ℕ) → K → K → Type 0
+FailsOnce gives None old new = new ≡ old
+FailsOnce gives (Some bytes) old new = gives old bytes false new
+
+-- a load that answers Ok, and then these stores
+pub record LoadsAndStores {K : Type 0} (load : K → Bool → K → Type 0) (store : K → List ℕ → Bool → K → Type 0) (x : Stores) (old new : K) : Type 0 where
+  pub at_load : K
+  pub loaded : load old true at_load
+  pub at_failure : K
+  pub stored : StoresEach store x.stored at_load at_failure
+  pub failed : FailsOnce store x.failed at_failure new
+
+-- a store that fails gives the status
+abbrev pub IsStatusAfter : Option (List ℕ) → ℕ → Type 0
+IsStatusAfter None n = n ≢ 7
+IsStatusAfter (Some bytes) n = IsKeepersStatus n
+
+-- the calls of the keeper that lead from old to new, in their order, and the status n
+pub data Calls {K : Type 0} (load : K → Bool → K → Type 0) (store : K → List ℕ → Bool → K → Type 0) (x : Stores) (untouched : Type 0) (n : ℕ) (old new : K) : Type 0 where
+  -- none: memory ran out before
+  CallsNothing : new ≡ old → n ≡ 10 → x ≡ no_stores → Calls load store x untouched n old new
+  -- a load that fails is the end, and the other devices are as before
+  FailsToLoad : load old false new → IsKeepersStatus n → untouched → x ≡ no_stores → Calls load store x untouched n old new
+  -- a load, and then the stores; one that fails is the end
+  Loads : LoadsAndStores load store x old new → IsStatusAfter x.failed n → Calls load store x untouched n old new
+
+-- done, perhaps but for a reply that couldn't be written
 abbrev pub MayHaveStored : ℕ → Type 0
 MayHaveStored n = (n ≡ 0) ⊎ (n ≡ 9)
 
--- The calls of the keeper that lead from old to new, and the status n, of a session that calls for d. After a load that fails the input
--- and the output are as before.
-abbrev pub Calls : {K : Type 0} → (K → Bool → K → Type 0) → (K → List ℕ → Bool → K → Type 0) → Option Due → Type 0 → ℕ → K → K → Type 0
-Calls load store d untouched n old new = CallsOf load store true true (IsDueOf d) IsDone MayHaveStored untouched n old new
+-- With status 0 the session stored. This version stores at its end alone: at most once, and if it stored, it ends with 0, or with 9 if
+-- `saved` couldn't be written
+pub record StoresAtEnd (x : Stores) (n : ℕ) : Type 0 where
+  pub done : n ≡ 0 → 0 < length x.stored
+  pub once : length (tried x) ≤ 1
+  pub only : 0 < length x.stored → MayHaveStored n

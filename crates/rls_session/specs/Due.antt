@@ -1,5 +1,5 @@
 -- What a session calls for, by the kept file and the input, read over what the replica consists of that the file says.
-use Rattle.std.specs.Prelude.{ℕ, List, [], nat_lt, Option, Some, None, option_map, Result, Ok, Err, if◌then◌else◌}
+use Rattle.std.specs.Prelude.{ℕ, List, [], ◌∷◌, nat_lt, Option, Some, None, option_map, Result, Ok, Err, if◌then◌else◌}
 use Rattle.rls_ident.specs.declared.limits.TheConstants.{INPUT_BYTES}
 use Rattle.rls_report.specs.declared.failures.CommandError.{CommandError}
 use Rattle.rls_report.specs.declared.failures.CommandError.TheVariants.{TooLarge}
@@ -11,7 +11,7 @@ use Rattle.rls_session.specs.Answers.{Sitting}
 use Rattle.rls_session.specs.Courses.{Course}
 use Rattle.rls_session.specs.Sessions.{session}
 
--- the replies to all requests, and the replica whose file is stored then, or why none is
+-- up to a store: the replies to all requests, and the replica whose file is stored then, or why none is
 pub record Due : Type 0 where
   pub replies : List ℕ
   pub ending : Result Seen CommandError
@@ -24,15 +24,19 @@ due_of c = record { replies = c.replies; ending = if nat_lt INPUT_BYTES c.used t
 abbrev pub stops : CommandError → Due
 stops e = record { replies = []; ending = Err e }
 
--- at the replica of the kept file, before the input is read
-abbrev pub due_on : Result Seen CommandError → Option (List ℕ) → Option Due
-due_on (Ok s) left = option_map (λ input. due_of (session s input)) left
-due_on (Err e) left = Some (stops e)
+-- the replica that the kept file says, or why there is none, if the file is told
+abbrev pub found_in : Option (Option (List ℕ)) → Option (Result Seen CommandError)
+found_in file = option_map (λ kept. replica_in (loaded kept)) file
+
+-- at that replica, before the input is read: what is called for up to each store. This version stores at its end alone, so there is one
+abbrev pub due_on : Option (Result Seen CommandError) → Option (List ℕ) → Option (List Due)
+due_on None left = None
+due_on (Some (Ok s)) left = option_map (λ input. due_of (session s input) ∷ []) left
+due_on (Some (Err e)) left = Some (stops e ∷ [])
 
 -- if the kept file is told, and the input or that it isn't read
-abbrev pub due : Option (Option (List ℕ)) → Option (List ℕ) → Option Due
-due None left = None
-due (Some kept) left = due_on (replica_in (loaded kept)) left
+abbrev pub due : Option (Option (List ℕ)) → Option (List ℕ) → Option (List Due)
+due file left = due_on (found_in file) left
 
 -- ---- what is seen of it
 
@@ -40,10 +44,15 @@ abbrev pub ending_status : Result Seen CommandError → ℕ
 ending_status (Ok s) = 0
 ending_status (Err e) = error_status e
 
-abbrev pub ending_line : Result Seen CommandError → List ℕ
-ending_line (Ok s) = []
-ending_line (Err e) = error_line e
+-- of the one that isn't stored, if there is one
+abbrev pub line_or : Result Seen CommandError → List ℕ → List ℕ
+line_or (Ok s) after = after
+line_or (Err e) after = error_line e
+
+abbrev pub dues_line : List Due → List ℕ
+dues_line [] = []
+dues_line (d ∷ ds) = line_or d.ending (dues_line ds)
 
 -- what is written to the errors at a status, if it is told
-abbrev pub line_at : Option Due → ℕ → Option (List ℕ)
-line_at d n = or_else (own_line n) (option_map (λ x. ending_line x.ending) d)
+abbrev pub line_at : Option (List Due) → ℕ → Option (List ℕ)
+line_at ds n = or_else (own_line n) (option_map dues_line ds)

@@ -1,5 +1,5 @@
 -- How a session ends, given what it calls for.
-use Rattle.std.specs.Prelude.{◌≡◌, ◌≢◌, ◌<◌, ◌⊎◌, ◌++◌, ℕ, List, [], length, take, Option, Some, IfSome, IfOk, Result, Ok, Err}
+use Rattle.std.specs.Prelude.{◌≡◌, ◌≢◌, ◌<◌, ◌⊎◌, ◌++◌, ℕ, List, [], ◌∷◌, length, take, Option, Some, IfSome, IfOk, IsErr, Result, Ok, Err}
 use Rattle.rls_ident.specs.declared.limits.TheConstants.{INPUT_BYTES, FILE_BYTES}
 use Rattle.rls_io.specs.Device.{Appends, IsCutShort, Keeps, Stores}
 use Rattle.rls_model.specs.Parts.{parts}
@@ -12,11 +12,11 @@ use Rattle.rls_report.specs.declared.failures.Failure.TheVariants.{NoCommand, Co
 use Rattle.rls_report.specs.declared.failures.Fault.TheVariants.{Source, Sink}
 use Rattle.rls_stages.specs.Endings.{EndsWith, IsFailureStatus, IsFault, IsPart, failure_line_at}
 use Rattle.rls_stages.specs.Errors.{IsOfFile}
-use Rattle.rls_stages.specs.KeptFile.{IsReadBack, StandsIn, bytes_over, loaded, replica_in}
+use Rattle.rls_stages.specs.KeptFile.{IsReadBack, StandsIn, bytes_over}
 use Rattle.rls_session.specs.Answering.{IsNear, IsPrompt}
 use Rattle.rls_session.specs.Answers.{Sitting, answer, sitting_at}
 use Rattle.rls_session.specs.Courses.{Course}
-use Rattle.rls_session.specs.Due.{Due, ending_status}
+use Rattle.rls_session.specs.Due.{Due, ending_status, found_in}
 use Rattle.rls_session.specs.Replies.{saved_text}
 use Rattle.rls_session.specs.Sessions.{by_parts, session}
 
@@ -69,13 +69,29 @@ abbrev pub ByReplies : List ℕ → Option (List ℕ) → Option (List ℕ) → 
 ByReplies replies old new Stored Unstored = IfSome old (λ output. (HasAllOf output new replies → Stored) × ((HasAllOf output new replies → ⊥) → Unstored))
 
 -- all is written and stored; or the output failed; or the session ended before
-abbrev pub Leaves : Result (Unit {0}) Failure → Due → Option (Option (List ℕ)) → Option (Option (List ℕ)) → Option (List ℕ) → Option (List ℕ) → Type 0
-Leaves (Ok u) d file new_file old new = IsKept d.ending file new_file × Appends old new (d.replies ++ saved_text)
-Leaves (Err (Fault Sink)) d file new_file old new = FailsAt d file new_file old new
-Leaves (Err f) d file new_file old new = EndsAs f d.ending × IsPart old new d.replies
+abbrev pub LeavesIn : Result (Unit {0}) Failure → Due → Option (Option (List ℕ)) → Option (Option (List ℕ)) → Option (List ℕ) → Option (List ℕ) → Type 0
+LeavesIn (Ok u) d file new_file old new = IsKept d.ending file new_file × Appends old new (d.replies ++ saved_text)
+LeavesIn (Err (Fault Sink)) d file new_file old new = FailsAt d file new_file old new
+LeavesIn (Err f) d file new_file old new = EndsAs f d.ending × IsPart old new d.replies
 
--- a session that calls for this ends so, with this status
-pub record Ends (d : Due) (n : ℕ) (file new_file : Option (Option (List ℕ))) (old new : Option (List ℕ)) : Type 0 where
+-- what is called for up to a store is done
+pub record IsDoneTo (d : Due) (file new_file : Option (Option (List ℕ))) (old new : Option (List ℕ)) : Type 0 where
+  pub stored : IsKept d.ending file new_file
+  pub written : Appends old new (d.replies ++ saved_text)
+
+-- a session that calls for this up to a store, and for these after it, ended before that store was told, or went on
+abbrev pub LeavesOn : Result (Unit {0}) Failure → Due → List Due → Option (Option (List ℕ)) → Option (Option (List ℕ)) → Option (List ℕ) → Option (List ℕ) → Type 0
+LeavesOn r d [] file new_file old new = LeavesIn r d file new_file old new
+LeavesOn r d (e ∷ ds) file new_file old new =
+    (IsErr r × LeavesIn r d file new_file old new) ⊎ ((mid_file : Option (Option (List ℕ))) × (mid : Option (List ℕ)) × IsDoneTo d file mid_file old mid × LeavesOn r e ds mid_file new_file mid new)
+
+-- what a session leaves that calls for these, one after another
+abbrev pub Leaves : Result (Unit {0}) Failure → List Due → Option (Option (List ℕ)) → Option (Option (List ℕ)) → Option (List ℕ) → Option (List ℕ) → Type 0
+Leaves r [] file new_file old new = ⊥
+Leaves r (d ∷ ds) file new_file old new = LeavesOn r d ds file new_file old new
+
+-- a session that calls for this up to its next store ended before that was told, or with it, with this status
+pub record EndsIn (d : Due) (n : ℕ) (file new_file : Option (Option (List ℕ))) (old new : Option (List ℕ)) : Type 0 where
   -- the status that is called for, unless a device failed or memory ran out
   pub status : (n ≡ ending_status d.ending) ⊎ IsFault n
   -- all replies, and `saved`, and the file of the replica after them
@@ -86,6 +102,16 @@ pub record Ends (d : Due) (n : ℕ) (file new_file : Option (Option (List ℕ)))
   pub failing : n ≡ 9 → FailsAt d file new_file old new
   -- so then the file is stored if all replies are in the output, and is as before if not
   pub by_replies : n ≡ 9 → ByReplies d.replies old new (IsKept d.ending file new_file) (Keeps file new_file)
+
+abbrev pub EndsOn : Due → List Due → ℕ → Option (Option (List ℕ)) → Option (Option (List ℕ)) → Option (List ℕ) → Option (List ℕ) → Type 0
+EndsOn d [] n file new_file old new = EndsIn d n file new_file old new
+EndsOn d (e ∷ ds) n file new_file old new =
+    ((n ≢ 0) × EndsIn d n file new_file old new) ⊎ ((mid_file : Option (Option (List ℕ))) × (mid : Option (List ℕ)) × IsDoneTo d file mid_file old mid × EndsOn e ds n mid_file new_file mid new)
+
+-- a session that calls for these, one after another, ended so with this status: in the first of them, or that is done and it went on
+abbrev pub Ends : List Due → ℕ → Option (Option (List ℕ)) → Option (Option (List ℕ)) → Option (List ℕ) → Option (List ℕ) → Type 0
+Ends [] n file new_file old new = ⊥
+Ends (d ∷ ds) n file new_file old new = EndsOn d ds n file new_file old new
 
 -- the status of an end
 abbrev pub IsStatusOf : Result (Unit {0}) Failure → ℕ → Type 0
@@ -125,14 +151,18 @@ pub record Serves (n : ℕ) (bytes : List ℕ) (c : Course (Sitting State)) (new
 
 -- ---- how far the input is read and answered
 
--- what holds of the replica that the kept file says, and of the input, if both are told
+-- what holds of the replica that was found, and of the input, if both are told
+abbrev pub OnFound : Option (Result Seen CommandError) → Option (List ℕ) → (Seen → List ℕ → Type 0) → Type 0
+OnFound found left P = IfSome found (λ r. IfOk r (λ s. IfSome left (λ given. P s given)))
+
+-- of the replica that the kept file says, and of the input
 abbrev pub OnSession : Option (Option (List ℕ)) → Option (List ℕ) → (Seen → List ℕ → Type 0) → Type 0
-OnSession file left P = IfSome file (λ kept. IfOk (replica_in (loaded kept)) (λ s. IfSome left (λ given. P s given)))
+OnSession file left P = OnFound (found_in file) left P
 
 -- of the input no more is taken than the session uses, up to the end of the order to quit, and what one read may bring
-abbrev pub EndsNear : Option (Option (List ℕ)) → Option (List ℕ) → Option (List ℕ) → Type 0
-EndsNear file left new_left = OnSession file left (λ s given. IsNear given new_left (session s given).used)
+abbrev pub EndsNear : Option (Result Seen CommandError) → Option (List ℕ) → Option (List ℕ) → Type 0
+EndsNear found left new_left = OnFound found left (λ s given. IsNear given new_left (session s given).used)
 
 -- the replies to all requests that are whole in what was taken of the input are written, and nothing more
-abbrev pub EndsPromptly : Option (Option (List ℕ)) → Option (List ℕ) → Option (List ℕ) → Option (List ℕ) → Option (List ℕ) → Type 0
-EndsPromptly file left new_left old new = OnSession file left (λ s given. IsPrompt (answer by_parts) (sitting_at s) given new_left old new)
+abbrev pub EndsPromptly : Option (Result Seen CommandError) → Option (List ℕ) → Option (List ℕ) → Option (List ℕ) → Option (List ℕ) → Type 0
+EndsPromptly found left new_left old new = OnFound found left (λ s given. IsPrompt (answer by_parts) (sitting_at s) given new_left old new)

@@ -7,8 +7,10 @@ pub mod Answers
 pub mod Sessions
 pub mod Sent
 pub mod Desks
+pub mod Devices
 pub mod Answering
 pub mod Due
 pub mod Endings
 pub mod Calls
+pub mod Serving
 pub mod Words

@@ -1,20 +1,20 @@
 //! A session over the kept file.
 
-ghost use Rattle.std.specs.Prelude.{◌≡◌, ◌≢◌, ◌≤◌, ℕ, List, Some, Err, IfErr, IfSome, OnOk};
+ghost use Rattle.std.specs.Prelude.{◌≡◌, ◌≢◌, ℕ, List, Some, Ok, Err, IfErr, IfSome};
 ghost use Rattle.rls_io.specs.Device.{Rose, Keeps};
 ghost use Rattle.rls_codec.specs.CodecLaws.{IsBytes};
 ghost use Rattle.rls_model.specs.Receiving.{State};
 ghost use Rattle.rls_report.specs.declared.failures.Failure.TheVariants as failures;
 ghost use Rattle.rls_report.specs.declared.failures.Fault.TheVariants.{Keeper, Source, Sink};
 ghost use Rattle.rls_stages.specs.Endings.{Writes};
-ghost use Rattle.rls_stages.specs.KeptFile.{IsFileFor, IsUsable, Stays, saved};
-ghost use Rattle.rls_session.specs.Answering.{IsNear, IsPrompt};
-ghost use Rattle.rls_session.specs.Answers.{answer, sitting_at};
-ghost use Rattle.rls_session.specs.Calls.{Calls, HasServed, IsFileOf};
-ghost use Rattle.rls_session.specs.Due.{due, due_of, line_at};
-ghost use Rattle.rls_session.specs.Endings.{Ends, EndsNear, EndsPromptly, IsEarly, IsSessionsOwn, IsSessionStatus, IsStatusOf, Leaves, OnSession, Saves, Serves, line_of};
-ghost use Rattle.rls_session.specs.Sent.{SendsMessages};
-ghost use Rattle.rls_session.specs.Sessions.{by_parts, session, session_in};
+ghost use Rattle.rls_stages.specs.KeptFile.{IsFileFor, saved};
+ghost use Rattle.rls_session.specs.Calls.{HasServed, IsFileOf};
+ghost use Rattle.rls_session.specs.Devices.{devices};
+ghost use Rattle.rls_session.specs.Due.{due, line_at};
+ghost use Rattle.rls_session.specs.Endings.{IsEarly, IsSessionsOwn, IsStatusOf, Saves, Serves, line_of};
+ghost use Rattle.rls_session.specs.Serving.{SessionEnds, StageEnds};
+ghost use Rattle.rls_session.specs.Sessions.{session_in};
+ghost use Rattle.rls_session.specs.Answers.{sitting_at};
 ghost use Rattle.rls_store.specs.Stored.{AreWritable};
 
 use crate::answering::{answer_all, write};
@@ -60,26 +60,12 @@ pub fn serve<K: Keeper, S: Source, W: Sink, E: Sink>(
     ensures session { (t : State) (bytes given : List ℕ) → K.file keeper.old ≡ Some (Some bytes) → IsFileFor bytes t → S.left input.old ≡ Some given → IsBytes given
         → Serves result bytes (session_in t given) (K.file keeper.new) (W.told output.old) (W.told output.new) }
 
-    // The same for every file, whether or not it is that of a history.
-    ensures ends { IfSome (due (K.file keeper.old) (S.left input.old)) (λ d. Ends d result (K.file keeper.old) (K.file keeper.new) (W.told output.old) (W.told output.new)) }
-    // What it answers to a request for a message is one, so that other members can take it.
-    ensures messages { result ≡ 0 → OnSession (K.file keeper.old) (S.left input.old) SendsMessages }
-    ensures keeper { result ≡ 7 → Rose (K.faults keeper.old) (K.faults keeper.new) }
-    ensures uncounted { result ≢ 7 → K.faults keeper.new ≡ K.faults keeper.old }
-    ensures input { result ≡ 8 → IfSome (K.file keeper.old) IsUsable × Rose (S.faults input.old) (S.faults input.new) }
-    ensures output { result ≡ 9 → Rose (W.faults output.old) (W.faults output.new) }
-    ensures no_other { IsSessionStatus result }
-    ensures unread { IfSome (K.file keeper.old) (λ kept. (IsUsable kept → ⊥) → (input.new ≡ input.old) × (output.new ≡ output.old)) }
+    // The same for every file, whether or not it is that of a history, and which calls are made, of which devices, and which of them fail.
+    ensures ends { SessionEnds K.load_gives K.store_gives ((input.new ≡ input.old) × (output.new ≡ output.old)) result keeper.old keeper.new
+        (devices K.file K.faults S.left S.faults W.told W.faults keeper.old input.old output.old) (devices K.file K.faults S.left S.faults W.told W.faults keeper.new input.new output.new) }
+    // The line that goes with the status is written to `errors`.
     ensures line { IfSome (line_at (due (K.file keeper.old) (S.left input.old)) result) (λ line.
         Writes (Rose (E.faults errors.old) (E.faults errors.new)) (E.told errors.old) (E.told errors.new) line) }
-    ensures stays { result ≢ 0 → result ≢ 9 → Stays (K.file keeper.old) (K.file keeper.new) }
-    // Of the input no more is taken than is used and one read brings, and each whole request is answered before a read.
-    ensures near { EndsNear (K.file keeper.old) (S.left input.old) (S.left input.new) }
-    ensures prompt { result ≡ 8 → EndsPromptly (K.file keeper.old) (S.left input.old) (S.left input.new) (W.told output.old) (W.told output.new) }
-    ensures early { result ≢ 0 → result ≢ 7 → result ≢ 9 → result ≢ 10 → Keeps (K.file keeper.old) (K.file keeper.new) }
-
-    // The keeper is called at most twice: to load before all else, and to store what is called for after the last request.
-    ensures calls { Calls K.load_gives K.store_gives (due (K.file keeper.old) (S.left input.old)) ((input.new ≡ input.old) × (output.new ≡ output.old)) result keeper.old keeper.new }
 {
     let ending = perform(alloc, keeper, input, output);
     tell(alloc, ending, errors)
@@ -103,19 +89,9 @@ fn perform<K: Keeper, S: Source, W: Sink>(
     input: &mut S,
     output: &mut W,
 ) -> Result<(), Failure>
-    ensures leaves { IfSome (due (K.file keeper.old) (S.left input.old)) (λ d. Leaves result d (K.file keeper.old) (K.file keeper.new) (W.told output.old) (W.told output.new)) }
-    ensures unread { IfSome (K.file keeper.old) (λ kept. (IsUsable kept → ⊥) → (input.new ≡ input.old) × (output.new ≡ output.old)) }
-    ensures stays { IfErr result (λ f. f ≢ failures.Fault Sink → Stays (K.file keeper.old) (K.file keeper.new)) }
-    ensures early { IfErr result (λ f. IsEarly f → Keeps (K.file keeper.old) (K.file keeper.new)) }
-    ensures keeper { result ≡ Err (failures.Fault Keeper) → Rose (K.faults keeper.old) (K.faults keeper.new) }
-    ensures uncounted { result ≢ Err (failures.Fault Keeper) → K.faults keeper.new ≡ K.faults keeper.old }
-    ensures input { result ≡ Err (failures.Fault Source) → IfSome (K.file keeper.old) IsUsable × Rose (S.faults input.old) (S.faults input.new) }
-    ensures output { result ≡ Err (failures.Fault Sink) → Rose (W.faults output.old) (W.faults output.new) }
-    ensures near { EndsNear (K.file keeper.old) (S.left input.old) (S.left input.new) }
-    ensures prompt { result ≡ Err (failures.Fault Source) → EndsPromptly (K.file keeper.old) (S.left input.old) (S.left input.new) (W.told output.old) (W.told output.new) }
-    ensures messages { OnOk result (OnSession (K.file keeper.old) (S.left input.old) SendsMessages) }
-    ensures own { IsSessionsOwn result }
-    ensures calls { (n : ℕ) → IsStatusOf result n → Calls K.load_gives K.store_gives (due (K.file keeper.old) (S.left input.old)) ((input.new ≡ input.old) × (output.new ≡ output.old)) n keeper.old keeper.new }
+    ensures ends { (n : ℕ) → IsStatusOf result n → SessionEnds K.load_gives K.store_gives ((input.new ≡ input.old) × (output.new ≡ output.old)) n keeper.old keeper.new
+        (devices K.file K.faults S.left S.faults W.told W.faults keeper.old input.old output.old) (devices K.file K.faults S.left S.faults W.told W.faults keeper.new input.new output.new) }
+    ensures line { (n : ℕ) → IsStatusOf result n → IfSome (line_at (due (K.file keeper.old) (S.left input.old)) n) (λ line. line ≡ line_of result n) }
 {
     match open(alloc, keeper) {
         Err(error) => Err(Failure::from(error)),
@@ -132,19 +108,8 @@ fn answer_on<K: Keeper, S: Source, W: Sink>(
     output: &mut W,
 ) -> Result<(), Failure>
     requires writable { AreWritable replica }
-    ensures leaves { IfSome (S.left input.old) (λ given. Leaves result (due_of (session replica given)) (K.file keeper.old) (K.file keeper.new) (W.told output.old) (W.told output.new)) }
-    ensures stays { IfErr result (λ f. f ≢ failures.Fault Sink → Keeps (K.file keeper.new) (K.file keeper.old)) }
-    ensures early { IfErr result (λ f. IsEarly f → Keeps (K.file keeper.old) (K.file keeper.new)) }
-    ensures keeper { result ≡ Err (failures.Fault Keeper) → Rose (K.faults keeper.old) (K.faults keeper.new) }
-    ensures uncounted { result ≢ Err (failures.Fault Keeper) → K.faults keeper.new ≡ K.faults keeper.old }
-    ensures input { result ≡ Err (failures.Fault Source) → Rose (S.faults input.old) (S.faults input.new) }
-    ensures output { result ≡ Err (failures.Fault Sink) → Rose (W.faults output.old) (W.faults output.new) }
-    ensures near { IfSome (S.left input.old) (λ given. IsNear given (S.left input.new) (session replica given).used) }
-    ensures prompt { result ≡ Err (failures.Fault Source) → IfSome (S.left input.old) (λ given. IsPrompt (answer by_parts) (sitting_at replica) given (S.left input.new) (W.told output.old) (W.told output.new)) }
-    ensures never_falls { K.faults keeper.old ≤ K.faults keeper.new }
-    ensures messages { OnOk result (IfSome (S.left input.old) (λ given. SendsMessages replica given)) }
-    ensures own { IsSessionsOwn result }
-    ensures calls { HasServed K.store_gives (λ bytes. IfSome (S.left input.old) (λ given. IsFileOf (due_of (session replica given)).ending bytes)) result keeper.old keeper.new }
+    ensures ends { StageEnds K.store_gives (Some (Ok replica)) result keeper.old keeper.new
+        (devices K.file K.faults S.left S.faults W.told W.faults keeper.old input.old output.old) (devices K.file K.faults S.left S.faults W.told W.faults keeper.new input.new output.new) }
 {
     let mut desk = Desk::new(alloc, replica);
     serve_desk(alloc, &mut desk, keeper, input, output)
@@ -160,19 +125,8 @@ fn serve_desk<K: Keeper, S: Source, W: Sink>(
 ) -> Result<(), Failure>
     requires sitting { desk.old ≡ sitting_at desk.old.state }
     requires writable { AreWritable desk.old.state }
-    ensures leaves { IfSome (S.left input.old) (λ given. Leaves result (due_of (session desk.old.state given)) (K.file keeper.old) (K.file keeper.new) (W.told output.old) (W.told output.new)) }
-    ensures stays { IfErr result (λ f. f ≢ failures.Fault Sink → Keeps (K.file keeper.new) (K.file keeper.old)) }
-    ensures early { IfErr result (λ f. IsEarly f → Keeps (K.file keeper.old) (K.file keeper.new)) }
-    ensures keeper { result ≡ Err (failures.Fault Keeper) → Rose (K.faults keeper.old) (K.faults keeper.new) }
-    ensures uncounted { result ≢ Err (failures.Fault Keeper) → K.faults keeper.new ≡ K.faults keeper.old }
-    ensures input { result ≡ Err (failures.Fault Source) → Rose (S.faults input.old) (S.faults input.new) }
-    ensures output { result ≡ Err (failures.Fault Sink) → Rose (W.faults output.old) (W.faults output.new) }
-    ensures near { IfSome (S.left input.old) (λ given. IsNear given (S.left input.new) (session desk.old.state given).used) }
-    ensures prompt { result ≡ Err (failures.Fault Source) → IfSome (S.left input.old) (λ given. IsPrompt (answer by_parts) (sitting_at desk.old.state) given (S.left input.new) (W.told output.old) (W.told output.new)) }
-    ensures never_falls { K.faults keeper.old ≤ K.faults keeper.new }
-    ensures messages { OnOk result (IfSome (S.left input.old) (λ given. SendsMessages desk.old.state given)) }
-    ensures own { IsSessionsOwn result }
-    ensures calls { HasServed K.store_gives (λ bytes. IfSome (S.left input.old) (λ given. IsFileOf (due_of (session desk.old.state given)).ending bytes)) result keeper.old keeper.new }
+    ensures ends { StageEnds K.store_gives (Some (Ok desk.old.state)) result keeper.old keeper.new
+        (devices K.file K.faults S.left S.faults W.told W.faults keeper.old input.old output.old) (devices K.file K.faults S.left S.faults W.told W.faults keeper.new input.new output.new) }
 {
     match answer_all(alloc, desk, input, output) {
         Err(error) => Err(Failure::from(error)),
@@ -195,8 +149,6 @@ fn save<K: Keeper, W: Sink>(
     ensures keeper { result ≡ Err (failures.Fault Keeper) → Rose (K.faults keeper.old) (K.faults keeper.new) }
     ensures uncounted { result ≢ Err (failures.Fault Keeper) → K.faults keeper.new ≡ K.faults keeper.old }
     ensures output { result ≡ Err (failures.Fault Sink) → Rose (W.faults output.old) (W.faults output.new) }
-    ensures never_falls { K.faults keeper.old ≤ K.faults keeper.new }
-    ensures output_never_falls { W.faults output.old ≤ W.faults output.new }
     ensures own { IsSessionsOwn result }
     ensures calls { HasServed K.store_gives (IsFileOf (saved replica.now)) result keeper.old keeper.new }
 {

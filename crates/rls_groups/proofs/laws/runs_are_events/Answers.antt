@@ -2,4 +2,4 @@ use Rattle.rls_groups.proofs.Runs.{commands_leave, sessions_leave}
 use Rattle.rls_groups.proofs.laws.runs_are_events.Goals as goal
 
 pub returns : goal.returns
-returns c = record { commands = commands_leave; sessions = sessions_leave }
+returns g c = record { commands = commands_leave; sessions = sessions_leave _ _ g.K.Keeper.load_gives g.K.Keeper.store_gives }

@@ -10,17 +10,5 @@ serve_desk-requires g c = record {
   writable = subst (λ (d : Sitting Seen). AreWritable d.state) (sym c.new-desk.ensures.sitting) c.requires.writable;
 }
 
-pub returns-clause-leaves : goal.returns-clause-leaves
-returns-clause-leaves g c = rw c.new-desk.ensures.sitting at c.serve_desk.ensures.leaves
-
-pub returns-clause-near : goal.returns-clause-near
-returns-clause-near g c = rw c.new-desk.ensures.sitting at c.serve_desk.ensures.near
-
-pub returns-clause-prompt : goal.returns-clause-prompt
-returns-clause-prompt g c = rw c.new-desk.ensures.sitting at c.serve_desk.ensures.prompt
-
-pub returns-clause-messages : goal.returns-clause-messages
-returns-clause-messages g c = rw c.new-desk.ensures.sitting at c.serve_desk.ensures.messages
-
-pub returns-clause-calls : goal.returns-clause-calls
-returns-clause-calls g c = rw c.new-desk.ensures.sitting at c.serve_desk.ensures.calls
+pub returns : goal.returns
+returns g c = record { ends = rw c.new-desk.ensures.sitting at c.serve_desk.ensures.ends }
