@@ -12,7 +12,7 @@ HasLoaded gives (Err (Command e)) old new = gives old true new
 HasLoaded gives (Err KeeperFault) old new = gives old false new
 HasLoaded gives (Err OutOfMemory) old new = (new ≡ old) ⊎ gives old true new ⊎ gives old false new
 
--- ---- of a command or a session
+-- ---- of a command
 
 -- a load that answers Ok, and then a store of bytes that are to be stored, which answers Ok or doesn't
 pub record LoadsAndStores {K : Type 0} (load : K → Bool → K → Type 0) (store : K → List ℕ → Bool → K → Type 0) (IsDue : List ℕ → Type 0) (ok : Bool) (old new : K) : Type 0 where
