@@ -34,6 +34,7 @@ use Rattle.rls_seen.specs.Over.{accepted, placed_over}
 use Rattle.rls_seen.specs.Edits.{made_over, edited}
 use Rattle.rls_seen.specs.Sane.{IsSane}
 use Rattle.rls_seen.proofs.Accepting.{placed_alike}
+use Rattle.rls_seen.proofs.Alike.{greatest_alike}
 use Rattle.rls_seen.proofs.EditedText.{inserted_entries, deleted_entries, delete_place, insert_place, first_made, cross, rises_right, take_drop_drop}
 use Rattle.rls_seen.proofs.Editing.{idents_alike}
 use Rattle.rls_seen.proofs.Making.{edited_sane}
@@ -41,7 +42,7 @@ use Rattle.rls_seen.proofs.TextLists.{ident_in}
 use Rattle.rls_anchor.specs.declared.anchor.Anchor.{Anchor}
 use Rattle.rls_anchor.specs.declared.anchor.Anchor.TheVariants.{Beginning, After}
 use Rattle.rls_anchor.specs.Anchors.{count_upto, place, place_over, anchor_over, upto, there_in, behind}
-use Rattle.rls_anchor.specs.AnchorLaws.{IsAnchor, IsAnchored, MadeThere, SettledThere, MovedThere, PlaceAlike, SamePlace, OwnInsertion, OwnDeletion}
+use Rattle.rls_anchor.specs.AnchorLaws.{IsAnchor, IsAnchored, MadeThere, SettledAlike, SettledThere, MovedThere, PlaceAlike, SamePlace, OwnInsertion, OwnDeletion}
 use Rattle.rls_anchor.proofs.Counting.{upto_append, upto_all, upto_none, upto_some, upto_few}
 
 length_front : {A : Type 0} (n : ℕ) (xs : List A) → n ≤ length xs → length (take n xs) ≡ n
@@ -121,6 +122,14 @@ unfolding place_over
 moved_there s e g x sane i k l = ap (count_upto (idents_over s)) (translate_translate s.epochs.nodes e g (greatest_over s) x sane.epochs.nodes i)
 
 -- ---- histories
+
+pub settled_alike : SettledAlike
+settled_alike s t Beginning h k = (refl, tt)
+settled_alike s t (After e x) h k =
+    (
+      ap (λ g. After g (placed_over s e x)) (greatest_alike s t h) ∙ ap (After (greatest t.history)) (placed_alike s t h e x k),
+      greatest_kept s.epochs.top s.epochs.nodes,
+    )
 
 pub place_alike : PlaceAlike
 unfolding place place_over
