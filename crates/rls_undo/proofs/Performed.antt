@@ -202,3 +202,7 @@ removal_plan s e first there cs at h k = ap (λ x. edits.Insert (below_count (id
 pub insertion_plan : (s : Seen) (e : EpochName) (ids ts : List (List Tuple)) (rs : List (ℕ × ℕ)) → ts ≡ map (placed_over s e) ids → rs ≡ reverse (ranges_of (places_from 0 ts (idents_over s))) → planned_over s (Inserted e ids) ≡ map deletion rs
 unfolding planned_over
 insertion_plan s e ids ts rs h k = ap (λ us. deletions (ranges_of (places_from 0 us (idents_over s)))) (sym h) ∙ ap (map deletion) (sym k)
+
+pub insertion_planned : (s : Seen) (e : EpochName) (ids ts : List (List Tuple)) → ts ≡ map (placed_over s e) ids → planned_over s (Inserted e ids) ≡ deletions (ranges_of (places_from 0 ts (idents_over s)))
+unfolding planned_over
+insertion_planned s e ids ts h = ap (λ us. deletions (ranges_of (places_from 0 us (idents_over s)))) (sym h)
