@@ -1,7 +1,7 @@
 -- Ranges that are cut out, one after another.
-use Rattle.std.proofs.Common.{◌≡◌, ℕ, zero, suc, ◌+◌, List, [], ◌∷◌, ◌++◌, map, length, take, drop, sym, ap, ◌∙◌, subst, append_assoc, arith}
-use Rattle.std.specs.Prelude.{reverse, slice_get, Option, Some, None}
-use Rattle.std.proofs.lemmas.List.{take-append-drop, take_all}
+use Rattle.std.proofs.Common.{◌≡◌, ℕ, zero, suc, ◌+◌, List, [], ◌∷◌, ◌++◌, take, drop, sym, ap, ◌∙◌, subst, append_assoc, arith}
+use Rattle.std.specs.Prelude.{slice_get, Option, Some, None}
+use Rattle.std.proofs.lemmas.List.{take-append-drop}
 use Rattle.rls_model.specs.declared.edit.Edit.{Edit}
 use Rattle.rls_model.specs.declared.edit.Edit.TheVariants as edits
 use Rattle.rls_model.specs.WellFormed.{IsEdit}
@@ -9,17 +9,13 @@ use Rattle.rls_model.specs.declared.edit.EditError.{EditError}
 use Rattle.rls_model.specs.declared.edit.EditError.TheVariants as faults
 use Rattle.rls_model.specs.Editing.{or_fault}
 use Rattle.rls_seen.specs.Edits.{edit_fault_over, IsFault}
-use Rattle.rls_seen.specs.Seen.{Seen, idents_over}
-use Rattle.rls_undo.specs.Plans.{ranges_of}
 use Rattle.rls_steps.specs.declared.piece.Step.{Step}
 use Rattle.rls_steps.specs.Marks.{Piece, Put, Cut}
-use Rattle.rls_steps.specs.Labelled.{Names, Labelled, label_of, ready_over, cut_over, cut_piece, put_over}
-use Rattle.rls_steps.specs.Courses.{Taken, cut_ranges, ranges_over, place_over, taken_back, Fits, FitRanges, FitsBack}
-use Rattle.rls_steps.specs.Recorded.{held_by, steps_of}
+use Rattle.rls_steps.specs.Labelled.{Labelled, ready_over, cut_over, cut_piece, put_over}
+use Rattle.rls_steps.specs.Courses.{Taken, cut_ranges, place_over, taken_back, Fits, FitRanges, FitsBack}
+use Rattle.rls_steps.specs.Recorded.{steps_of}
 use Rattle.rls_steps.specs.Returning.{ranges_fault, back_fault, IsPartCut}
-use Rattle.rls_steps.specs.Tables.{places_there}
 use Rattle.rls_steps.proofs.Stacks.{cut_same, cut_more, fit_more, steps_more}
-use Rattle.rls_steps.proofs.Tabled.{places_are}
 use Rattle.rls_steps.proofs.Tabling.{take_snoc}
 
 -- ---- one more range
@@ -81,16 +77,6 @@ fault_at h (x ∷ xs) (suc i) r e g f k =
 pub part_cut : (h g : Labelled) (rs : List (ℕ × ℕ)) (i group : ℕ) (base other : List Step) → FitRanges h (take i rs) → g ≡ (cut_ranges h (take i rs) []).held →
     other ≡ base ++ steps_of group (cut_ranges h (take i rs) []).other → IsPartCut h rs g group base other
 part_cut h g rs i group base other f q o = record { front = take i rs; rest = drop i rs; are = sym (take-append-drop i rs); fit = f; held = q; others = o }
-
--- ---- the ranges of what was put in
-
-pub ranges_are : (s : Seen) (next : ℕ) (names : Names) (labels : List ℕ) (os : List (Option ℕ)) (total : ℕ) → total ≡ length (idents_over s) → os ≡ map (label_of (reverse names)) (take total (drop 0 (idents_over s))) →
-    reverse (ranges_of (places_there 0 labels os)) ≡ ranges_over (held_by s next names) labels
-ranges_are s next names labels os total e f =
-    let xs = idents_over s in
-    let all : take total xs ≡ xs = take_all total xs (omega (arith, e)) in
-    ap (λ (ps : List (Option ℕ)). reverse (ranges_of (places_there 0 labels ps))) (f ∙ ap (map (label_of (reverse names))) all)
-    ∙ sym (ap (λ is. reverse (ranges_of is)) (places_are 0 labels (reverse names) s.text))
 
 -- all ranges were cut out
 pub record IsCutAll (h : Labelled) (rs : List (ℕ × ℕ)) (group : ℕ) (base new : List Step) (k : Labelled) : Type 0 where

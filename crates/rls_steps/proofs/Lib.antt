@@ -13,8 +13,9 @@ pub mod Giving
 pub mod Tabled
 pub mod Stacks
 pub mod Zipping
-pub mod Placing
-pub mod Wanted
+pub mod Indexing
+pub mod Walking
+pub mod Found
 pub mod Parting
 pub mod Readying
 pub mod Cutting

@@ -1,20 +1,20 @@
 -- What the labels of a text, place by place, say of its marks.
-use Rattle.std.proofs.Common.{◌≡◌, ℕ, zero, suc, ◌+◌, ◌-◌, ◌≤◌, Bool, List, [], ◌∷◌, map, take, drop, refl, sym, ap, ◌∙◌, arith}
-use Rattle.std.specs.Prelude.{reverse, slice_get, Option, Some, None, if◌then◌else◌}
+use Rattle.std.proofs.Common.{◌≡◌, ℕ, zero, suc, ◌+◌, ◌-◌, ◌≤◌, List, [], ◌∷◌, map, take, drop, refl, sym, ap, ◌∙◌, arith}
+use Rattle.std.specs.Prelude.{reverse, slice_get, Option, Some, None}
 use Rattle.std.proofs.lemmas.List.{take-take, drop-take, drop-drop}
 use Rattle.rls_ident.specs.declared.tuple.Tuple.{Tuple}
 use Rattle.rls_runs.specs.Entries.{Entries, idents_in}
 use Rattle.rls_model.proofs.Spliced.{take_map, drop_map}
 use Rattle.rls_seen.specs.Seen.{Seen, idents_over, text_over}
-use Rattle.rls_steps.specs.Marks.{Mark, marks, is_one_of, label_places, Cut}
+use Rattle.rls_steps.specs.Marks.{Mark, marks, Cut}
 use Rattle.rls_steps.specs.Labelled.{Names, label_of, mark_by, mark, marked_by, labels_in, label_at, left_of, cut_piece}
 use Rattle.rls_steps.specs.Recorded.{held_by}
-use Rattle.rls_steps.specs.Tables.{given_labels, label_there, left_there, is_one_there, places_there}
+use Rattle.rls_steps.specs.Tables.{given_labels, label_there, left_there}
 use Rattle.rls_steps.proofs.Tabling.{get_drop, get_take}
 
 -- ---- marks
 
-marks_are : (names : Names) (es : Entries) → marks (marked_by names es) ≡ map (mark names) (idents_in es)
+pub marks_are : (names : Names) (es : Entries) → marks (marked_by names es) ≡ map (mark names) (idents_in es)
 marks_are names [] = refl
 marks_are names (e ∷ es) = ap (λ ms. mark names e.0 ∷ ms) (marks_are names es)
 
@@ -34,22 +34,6 @@ label_is names (x ∷ xs) zero = go (label_of names x)
     go None = refl
     go (Some n) = refl
 label_is names (x ∷ xs) (suc k) = label_is names xs k
-
--- ---- places
-
-one_is : (labels : List ℕ) (x : List Tuple) (o : Option ℕ) → is_one_of labels (mark_by x o) ≡ is_one_there labels o
-one_is labels x None = refl
-one_is labels x (Some n) = refl
-
-pub places_are : (i : ℕ) (labels : List ℕ) (names : Names) (es : Entries) → label_places i labels (marks (marked_by names es)) ≡ places_there i labels (map (label_of names) (idents_in es))
-places_are i labels names [] = refl
-places_are i labels names (e ∷ es) =
-    let ih = places_are (suc i) labels names es in
-    ap (λ (b : Bool). if b then i ∷ label_places (suc i) labels (marks (marked_by names es)) else label_places (suc i) labels (marks (marked_by names es))) (one_is labels e.0 (label_of names e.0))
-    ∙ go (is_one_there labels (label_of names e.0)) (label_places (suc i) labels (marks (marked_by names es))) (places_there (suc i) labels (map (label_of names) (idents_in es))) ih
-  where
-    go : (b : Bool) (is js : List ℕ) → is ≡ js → (if b then i ∷ is else is) ≡ (if b then i ∷ js else js)
-    go b is js q = ap (λ ks. if b then i ∷ ks else ks) q
 
 -- ---- the piece that a deletion leaves
 

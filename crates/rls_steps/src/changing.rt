@@ -11,9 +11,9 @@ ghost use Rattle.rls_steps.specs.Parts.{parts};
 ghost use Rattle.rls_steps.specs.Recorded.{held_by, steps_of};
 
 use crate::labelling::{name_inserted, ready};
+use crate::names::Names;
 use crate::piece::{Labels, Piece, Step};
 use crate::splitting::push_parts;
-use rls_ident::Ident;
 use rls_replica::{Edit, EditError, Replica};
 use rls_runs::Text;
 use std::alloc::{AllocError, Global};
@@ -21,7 +21,7 @@ use std::alloc::{AllocError, Global};
 /// Cuts characters out, and puts the piece that this leaves on a stack. After an error all is as before.
 pub(crate) fn cut(
     replica: &mut Replica,
-    names: &mut Vec<(Ident, u64)>,
+    names: &mut Names,
     next: &mut u64,
     stack: &mut Vec<Step>,
     group: u64,
@@ -32,10 +32,10 @@ pub(crate) fn cut(
     ensures fits { OnOk result (edit_fault_over replica.old (Delete at count) ≡ None) }
     ensures whole { IsEdit (Delete at count) }
     ensures after { OnOk result (replica.new ≡ edited replica.old (Delete at count)) }
-    ensures held { OnOk result (held_by replica.new next.new names.new.items ≡ cut_over (ready_over (held_by replica.old next.old names.old.items) at count) at count) }
-    ensures stack { OnOk result (stack.new.items ≡ stack.old.items ++ record { group = group; piece = cut_piece (ready_over (held_by replica.old next.old names.old.items) at count) at count } ∷ []) }
+    ensures held { OnOk result (held_by replica.new next.new names.new ≡ cut_over (ready_over (held_by replica.old next.old names.old) at count) at count) }
+    ensures stack { OnOk result (stack.new.items ≡ stack.old.items ++ record { group = group; piece = cut_piece (ready_over (held_by replica.old next.old names.old) at count) at count } ∷ []) }
     ensures err { OnErr result (replica.new ≡ replica.old) }
-    ensures names { OnErr result (names.new.items ≡ names.old.items) }
+    ensures names { OnErr result (names.new ≡ names.old) }
     ensures next { OnErr result (next.new ≡ next.old) }
     ensures stays { OnErr result (stack.new.items ≡ stack.old.items) }
     ensures epochs { replica.new.epochs ≡ replica.old.epochs }
@@ -66,7 +66,7 @@ pub(crate) fn cut(
 /// as before.
 pub(crate) fn delete(
     replica: &mut Replica,
-    names: &mut Vec<(Ident, u64)>,
+    names: &mut Names,
     next: &mut u64,
     stack: &mut Vec<Step>,
     group: u64,
@@ -78,10 +78,10 @@ pub(crate) fn delete(
     ensures whole { IsEdit (Delete at count) }
     ensures seq { IfOk result (λ n. n ≡ own_count replica.old + 1) }
     ensures after { OnOk result (replica.new ≡ edited replica.old (Delete at count)) }
-    ensures held { OnOk result (held_by replica.new next.new names.new.items ≡ cut_over (ready_over (held_by replica.old next.old names.old.items) at count) at count) }
-    ensures stack { OnOk result (stack.new.items ≡ stack.old.items ++ steps_of group (parts (cut_piece (ready_over (held_by replica.old next.old names.old.items) at count) at count))) }
+    ensures held { OnOk result (held_by replica.new next.new names.new ≡ cut_over (ready_over (held_by replica.old next.old names.old) at count) at count) }
+    ensures stack { OnOk result (stack.new.items ≡ stack.old.items ++ steps_of group (parts (cut_piece (ready_over (held_by replica.old next.old names.old) at count) at count))) }
     ensures err { OnErr result (replica.new ≡ replica.old) }
-    ensures names { OnErr result (names.new.items ≡ names.old.items) }
+    ensures names { OnErr result (names.new ≡ names.old) }
     ensures next { OnErr result (next.new ≡ next.old) }
     ensures stays { OnErr result (stack.new.items ≡ stack.old.items) }
     ensures epochs { replica.new.epochs ≡ replica.old.epochs }
@@ -114,7 +114,7 @@ pub(crate) fn delete(
 // Labels for a range and its neighbours, and the pieces that its deletion leaves.
 fn prepared(
     replica: &Replica,
-    names: &mut Vec<(Ident, u64)>,
+    names: &mut Names,
     next: &mut u64,
     stack: &mut Vec<Step>,
     group: u64,
@@ -122,9 +122,9 @@ fn prepared(
     count: u64,
 ) -> Result<(), AllocError>
     requires places { at + count ≤ length replica.now.text }
-    ensures held { OnOk result (held_by replica.now next.new names.new.items ≡ ready_over (held_by replica.now next.old names.old.items) at count) }
-    ensures stack { OnOk result (stack.new.items ≡ stack.old.items ++ steps_of group (parts (cut_piece (held_by replica.now next.new names.new.items) at count))) }
-    ensures names { take (length names.old.items) names.new.items ≡ names.old.items }
+    ensures held { OnOk result (held_by replica.now next.new names.new ≡ ready_over (held_by replica.now next.old names.old) at count) }
+    ensures stack { OnOk result (stack.new.items ≡ stack.old.items ++ steps_of group (parts (cut_piece (held_by replica.now next.new names.new) at count))) }
+    ensures names { take (length names.old) names.new ≡ names.old }
     ensures steps { take (length stack.old.items) stack.new.items ≡ stack.old.items }
 {
     match ready(replica, names, next, at, count) {
@@ -139,7 +139,7 @@ fn prepared(
 /// Inserts characters with these labels, and puts their piece on a stack. After an error all is as before.
 pub(crate) fn put(
     replica: &mut Replica,
-    names: &mut Vec<(Ident, u64)>,
+    names: &mut Names,
     stack: &mut Vec<Step>,
     group: u64,
     at: u64,
@@ -151,10 +151,10 @@ pub(crate) fn put(
     ensures whole { IsEdit (Insert at text) }
     ensures seq { IfOk result (λ n. n ≡ own_count replica.old + 1) }
     ensures after { OnOk result (replica.new ≡ edited replica.old (Insert at text)) }
-    ensures held { OnOk result ((next : ℕ) → held_by replica.new next names.new.items ≡ put_over (held_by replica.old next names.old.items) at labels text) }
+    ensures held { OnOk result ((next : ℕ) → held_by replica.new next names.new ≡ put_over (held_by replica.old next names.old) at labels text) }
     ensures stack { OnOk result (stack.new.items ≡ stack.old.items ++ record { group = group; piece = Put labels } ∷ []) }
     ensures err { OnErr result (replica.new ≡ replica.old) }
-    ensures names { OnErr result (names.new.items ≡ names.old.items) }
+    ensures names { OnErr result (names.new ≡ names.old) }
     ensures stays { OnErr result (stack.new.items ≡ stack.old.items) }
     ensures epochs { replica.new.epochs ≡ replica.old.epochs }
 {
@@ -173,7 +173,7 @@ pub(crate) fn put(
 // Performs an insertion whose characters get these labels. After an error names may have been added.
 fn put_named(
     replica: &mut Replica,
-    names: &mut Vec<(Ident, u64)>,
+    names: &mut Names,
     stack: &mut Vec<Step>,
     group: u64,
     edit: &Edit,
@@ -183,10 +183,10 @@ fn put_named(
     ensures fits { OnOk result (edit_fault_over replica.old edit.now ≡ None) }
     ensures seq { IfOk result (λ n. n ≡ own_count replica.old + 1) }
     ensures after { OnOk result (replica.new ≡ edited replica.old edit.now) }
-    ensures named { OnOk result (reverse names.new.items ≡ zip (inserted_by (made_over replica.old edit.now).body) labels ++ reverse names.old.items) }
+    ensures named { OnOk result (reverse names.new ≡ zip (inserted_by (made_over replica.old edit.now).body) labels ++ reverse names.old) }
     ensures stack { OnOk result (stack.new.items ≡ stack.old.items ++ record { group = group; piece = Put labels } ∷ []) }
     ensures err { OnErr result (replica.new ≡ replica.old) }
-    ensures front { take (length names.old.items) names.new.items ≡ names.old.items }
+    ensures front { take (length names.old) names.new ≡ names.old }
     ensures stays { OnErr result (stack.new.items ≡ stack.old.items) }
 {
     name_made(replica, names, edit, labels.as_slice())?;
@@ -197,13 +197,13 @@ fn put_named(
 // Names the characters that an edit inserts. After an error names may have been added.
 fn name_made(
     replica: &Replica,
-    names: &mut Vec<(Ident, u64)>,
+    names: &mut Names,
     edit: &Edit,
     labels: &[u64],
 ) -> Result<(), EditError>
     ensures fault { IfErr result (λ e. IsFault e (edit_fault_over replica.now edit.now)) }
-    ensures named { OnOk result (reverse names.new.items ≡ zip (inserted_by (made_over replica.now edit.now).body) labels.now ++ reverse names.old.items) }
-    ensures front { take (length names.old.items) names.new.items ≡ names.old.items }
+    ensures named { OnOk result (reverse names.new ≡ zip (inserted_by (made_over replica.now edit.now).body) labels.now ++ reverse names.old) }
+    ensures front { take (length names.old) names.new ≡ names.old }
 {
     let op = replica.made(edit)?;
     match name_inserted(names, &op, labels) {
@@ -215,7 +215,7 @@ fn name_made(
 /// Inserts characters, which get the next labels. After an error all is as before.
 pub(crate) fn insert(
     replica: &mut Replica,
-    names: &mut Vec<(Ident, u64)>,
+    names: &mut Names,
     next: &mut u64,
     stack: &mut Vec<Step>,
     group: u64,
@@ -226,10 +226,10 @@ pub(crate) fn insert(
     ensures fits { OnOk result (edit_fault_over replica.old (Insert at text) ≡ None) }
     ensures seq { IfOk result (λ n. n ≡ own_count replica.old + 1) }
     ensures after { OnOk result (replica.new ≡ edited replica.old (Insert at text)) }
-    ensures held { OnOk result (held_by replica.new next.new names.new.items ≡ insert_over (held_by replica.old next.old names.old.items) at text) }
+    ensures held { OnOk result (held_by replica.new next.new names.new ≡ insert_over (held_by replica.old next.old names.old) at text) }
     ensures stack { OnOk result (stack.new.items ≡ stack.old.items ++ record { group = group; piece = Put (numbers_from next.old (length text)) } ∷ []) }
     ensures err { OnErr result (replica.new ≡ replica.old) }
-    ensures names { OnErr result (names.new.items ≡ names.old.items) }
+    ensures names { OnErr result (names.new ≡ names.old) }
     ensures next { OnErr result (next.new ≡ next.old) }
     ensures stays { OnErr result (stack.new.items ≡ stack.old.items) }
     ensures epochs { replica.new.epochs ≡ replica.old.epochs }
@@ -239,7 +239,7 @@ pub(crate) fn insert(
     let Some(more) = first.checked_add(count as u64) else {
         return Err(EditError::OutOfMemory);
     };
-    let Ok(numbers) = numbers(*names.allocator(), first, count) else {
+    let Ok(numbers) = numbers(names.alloc(), first, count) else {
         return Err(EditError::OutOfMemory);
     };
     match put(

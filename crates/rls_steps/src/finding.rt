@@ -1,84 +1,101 @@
 //! Where labels stand in a text.
 
-ghost use Rattle.std.specs.Prelude.{◌≡◌, ◌<◌, ◌^◌, ◌+◌, ◌∷◌, [], ℕ, map, reverse, Some, None, IfOk, OnOk, IfSome, if◌then◌else◌};
-ghost use Rattle.std.specs.List.Sorted.{IsNonDecreasingBy, IsPermutation};
+ghost use Rattle.std.specs.Prelude.{◌≡◌, ◌<◌, ◌^◌, ◌+◌, ◌++◌, ◌∷◌, [], ℕ, reverse, Some, None, IfOk, OnOk, IfSome};
 ghost use Rattle.rls_runs.specs.Places.{below_count};
+ghost use Rattle.rls_runs.specs.Runs.{place_of};
 ghost use Rattle.rls_seen.specs.Seen.{idents_over};
 ghost use Rattle.rls_undo.specs.Plans.{put_place, ranges_of};
-ghost use Rattle.rls_steps.specs.Marks.{first_of};
-ghost use Rattle.rls_steps.specs.Labelled.{label_of};
-ghost use Rattle.rls_steps.specs.Tables.{is_one_there, places_there};
-ghost use Rattle.rls_steps.specs.Courses.{ident_of, below_or_none, place_over};
+ghost use Rattle.rls_steps.specs.Marks.{marks, label_places, label_place};
+ghost use Rattle.rls_steps.specs.Labelled.{marked_by};
+ghost use Rattle.rls_steps.specs.Index.{place_list, named_places, all_places};
+ghost use Rattle.rls_steps.specs.Courses.{ident_of, below_or_none, place_over, ranges_over};
 ghost use Rattle.rls_steps.specs.Recorded.{held_by};
 
+use crate::names::Names;
 use rls_ident::Ident;
 use rls_replica::Replica;
-use std::alloc::{AllocError, Global};
+use std::alloc::AllocError;
 
 /// The maximal ranges of the places where one of these labels stands: each as its first place and its length, the last range first.
 ///
-/// It costs a search among these labels for each place that has one.
+/// It costs a search in the text for each name of these labels.
 pub(crate) fn ranges(
-    labels: &Vec<Option<u64>>,
-    among: &[u64],
+    replica: &Replica,
+    names: &Names,
+    labels: &[u64],
 ) -> Result<Vec<(u64, u64)>, AllocError>
-    ensures ranges { IfOk result (λ rs. rs.items ≡ reverse (ranges_of (places_there 0 among.now labels.now.items))) }
+    ensures ranges { IfOk result (λ rs. (next : ℕ) → rs.items ≡ ranges_over (held_by replica.now next names.now) labels.now) }
 {
-    let wanted = in_order(*labels.allocator(), among)?;
-    let ranges = wanted_ranges(labels, &wanted)?;
+    let places = places(replica, names, labels)?;
+    let ranges = joined(&places)?;
     Ok(ranges)
 }
 
-// These labels, in order.
-fn in_order(alloc: Global, labels: &[u64]) -> Result<Vec<u64>, AllocError>
-    ensures order { IfOk result (λ ns. IsNonDecreasingBy (λ n. n) ns.items) }
-    ensures same { IfOk result (λ ns. IsPermutation labels.now ns.items) }
+// The places where one of these labels stands, from the first on.
+fn places(replica: &Replica, names: &Names, labels: &[u64]) -> Result<Vec<u64>, AllocError>
+    ensures places { IfOk result (λ ps. ps.items ≡ label_places 0 labels.now (marks (marked_by (reverse names.now) replica.now.text))) }
 {
-    let mut numbers = Vec::from_slice(alloc, labels)?;
-    numbers.sort_unstable();
-    Ok(numbers)
+    replica.sane();
+    names.apart();
+    let mut places = all_places(replica, names, labels)?;
+    places.sort_unstable();
+    places.dedup();
+    Ok(places)
 }
 
-// The same ranges of labels that are in order.
-fn wanted_ranges(labels: &Vec<Option<u64>>, among: &[u64]) -> Result<Vec<(u64, u64)>, AllocError>
-    requires order { IsNonDecreasingBy (λ n. n) among.now }
-    ensures ranges { IfOk result (λ rs. rs.items ≡ reverse (ranges_of (places_there 0 among.now labels.now.items))) }
+// Where identifiers of these labels stand, one label after another.
+fn all_places(replica: &Replica, names: &Names, labels: &[u64]) -> Result<Vec<u64>, AllocError>
+    ensures places { IfOk result (λ ps. ps.items ≡ all_places (idents_over replica.now) labels.now (reverse names.now)) }
 {
-    let mut ranges = Vec::new(*labels.allocator());
-    let mut i = labels.len();
+    let mut places = Vec::new(names.alloc());
+    'labels: for i in 0..labels.len() {
+        push_places(&mut places, replica, names, labels[i])?;
+    }
+    Ok(places)
+}
+
+// Where identifiers of a label stand, the newest first.
+fn push_places(
+    places: &mut Vec<u64>,
+    replica: &Replica,
+    names: &Names,
+    label: u64,
+) -> Result<(), AllocError>
+    ensures ok { OnOk result (places.new.items ≡ places.old.items ++ named_places (idents_over replica.now) label (reverse names.now)) }
+{
+    let mut cursor = names.newest(label);
+    'names: while let Some(at) = cursor {
+        let name = names.name(at);
+        push_place(places, replica, &name.ident)?;
+        cursor = name.older;
+    }
+    Ok(())
+}
+
+// Where an identifier stands, if it is there.
+fn push_place(places: &mut Vec<u64>, replica: &Replica, ident: &Ident) -> Result<(), AllocError>
+    ensures ok { OnOk result (places.new.items ≡ places.old.items ++ place_list (place_of ident.now (idents_over replica.now))) }
+{
+    match replica.find(ident) {
+        Err(_) => Ok(()),
+        Ok(at) => {
+            places.push(at)?;
+            Ok(())
+        }
+    }
+}
+
+// The maximal ranges of these places, the last range first.
+fn joined(places: &Vec<u64>) -> Result<Vec<(u64, u64)>, AllocError>
+    ensures ranges { IfOk result (λ rs. rs.items ≡ reverse (ranges_of places.now.items)) }
+{
+    let mut ranges = Vec::new(*places.allocator());
+    let mut i = places.len();
     'places: while i > 0 {
         i -= 1;
-        put_label(&mut ranges, i as u64, labels[i], among)?;
+        put_range(&mut ranges, places[i])?;
     }
     Ok(ranges)
-}
-
-// One more place, if one of these labels stands there.
-fn put_label(
-    ranges: &mut Vec<(u64, u64)>,
-    at: u64,
-    label: Option<u64>,
-    among: &[u64],
-) -> Result<(), AllocError>
-    requires order { IsNonDecreasingBy (λ n. n) among.now }
-    ensures ok { OnOk result (ranges.new.items ≡ (if is_one_there among.now label then reverse (put_place at (reverse ranges.old.items)) else ranges.old.items)) }
-{
-    if is_one(label, among) {
-        put_range(ranges, at)
-    } else {
-        Ok(())
-    }
-}
-
-// Whether it is one of these labels, which are in order.
-fn is_one(label: Option<u64>, among: &[u64]) -> bool
-    requires order { IsNonDecreasingBy (λ n. n) among.now }
-    ensures one { result ≡ is_one_there among.now label }
-{
-    match label {
-        None => false,
-        Some(label) => among.binary_search(&label).is_ok(),
-    }
 }
 
 // One more place, before those of the last range of the list.
@@ -102,83 +119,61 @@ fn put_range(ranges: &mut Vec<(u64, u64)>, at: u64) -> Result<(), AllocError>
     Ok(())
 }
 
-/// Where cut characters come back. These are the labels of the whole text.
+/// Where cut characters come back. It costs a search in the text for each name of both neighbours.
 pub(crate) fn place(
     replica: &Replica,
-    names: &Vec<(Ident, u64)>,
-    labels: &Vec<Option<u64>>,
+    names: &Names,
     left: Option<u64>,
     right: Option<u64>,
-) -> u64
-    requires labels { labels.now.items ≡ map (label_of (reverse names.now.items)) (idents_over replica.now) }
-    ensures place { (next : ℕ) → result ≡ place_over (held_by replica.now next names.now.items) left right }
+) -> Result<u64, AllocError>
+    ensures place { IfOk result (λ at. (next : ℕ) → at ≡ place_over (held_by replica.now next names.now) left right) }
 {
     let Some(left) = left else {
-        return 0;
+        return Ok(0);
     };
-    match place_of(labels, left) {
-        Some(at) => at as u64 + 1,
-        None => place_before(replica, names, labels, left, right),
+    match place_of(replica, names, left)? {
+        Some(at) => Ok(at + 1),
+        None => place_before(replica, names, left, right),
     }
 }
 
 // The same where the left neighbour isn't in the text.
 fn place_before(
     replica: &Replica,
-    names: &Vec<(Ident, u64)>,
-    labels: &Vec<Option<u64>>,
+    names: &Names,
     left: u64,
     right: Option<u64>,
-) -> u64
-    requires labels { labels.now.items ≡ map (label_of (reverse names.now.items)) (idents_over replica.now) }
-    requires none { first_of (places_there 0 (left ∷ []) labels.now.items) ≡ None }
-    ensures place { (next : ℕ) → result ≡ place_over (held_by replica.now next names.now.items) (Some left) right }
+) -> Result<u64, AllocError>
+    requires none { label_place (marks (marked_by (reverse names.now) replica.now.text)) left ≡ None }
+    ensures place { IfOk result (λ at. (next : ℕ) → at ≡ place_over (held_by replica.now next names.now) (Some left) right) }
 {
     let Some(right) = right else {
-        return gone(replica, names, left);
+        return Ok(gone(replica, names, left));
     };
-    match place_of(labels, right) {
-        Some(at) => at as u64,
-        None => gone(replica, names, left),
+    match place_of(replica, names, right)? {
+        Some(at) => Ok(at),
+        None => Ok(gone(replica, names, left)),
     }
 }
 
 // The first place of a label, if it is there.
-fn place_of(labels: &Vec<Option<u64>>, label: u64) -> Option<usize>
-    ensures place { result ≡ first_of (places_there 0 (label ∷ []) labels.now.items) }
-    ensures within { IfSome result (λ i. i + 1 < 2 ^ 64) }
+fn place_of(replica: &Replica, names: &Names, label: u64) -> Result<Option<u64>, AllocError>
+    ensures place { IfOk result (λ at. at ≡ label_place (marks (marked_by (reverse names.now) replica.now.text)) label) }
+    ensures within { IfOk result (λ at. IfSome at (λ i. i + 1 < 2 ^ 64)) }
 {
-    'places: for i in 0..labels.len() {
-        if is_it(labels[i], label) {
-            return Some(i);
-        }
-    }
-    None
-}
-
-// Whether it is this label.
-fn is_it(label: Option<u64>, wanted: u64) -> bool
-    ensures it { result ≡ is_one_there (wanted ∷ []) label }
-{
-    match label {
-        None => false,
-        Some(label) => wanted == label,
-    }
+    replica.sane();
+    let places = places(replica, names, &[label])?;
+    Ok(places.first().copied())
 }
 
 // Where the character with this label would be that is gone.
-fn gone(replica: &Replica, names: &Vec<(Ident, u64)>, label: u64) -> u64
-    ensures gone { result ≡ below_or_none (idents_over replica.now) (ident_of (reverse names.now.items) label) }
+fn gone(replica: &Replica, names: &Names, label: u64) -> u64
+    ensures gone { result ≡ below_or_none (idents_over replica.now) (ident_of (reverse names.now) label) }
 {
-    let mut i = names.len();
-    'names: while i > 0 {
-        i -= 1;
-        let (ident, named) = &names[i];
-        if *named == label {
-            return below(replica, ident);
-        }
+    match names.newest(label) {
+        None => 0,
+        Some(at) => below(replica, &names.name(at).ident),
     }
-    0
 }
 
 // How many identifiers of the text are below one of the greatest epoch.

@@ -1,15 +1,16 @@
 //! Labels of a replica's characters.
 
-ghost use Rattle.std.specs.Prelude.{◌≡◌, ◌≤◌, ◌<◌, ◌+◌, ◌-◌, ◌++◌, ◌∷◌, [], ℕ, List, length, take, drop, reverse, map, zip, min, set, replicate, slice_get, Some, None, IfOk, OnOk, OnErr};
+ghost use Rattle.std.specs.Prelude.{◌≡◌, ◌≤◌, ◌<◌, ◌+◌, ◌-◌, ◌++◌, ◌∷◌, [], ℕ, List, length, take, drop, reverse, map, zip, min, slice_get, Some, None, IfOk, OnOk, OnErr};
 ghost use Rattle.rls_ident.specs.declared.tuple.Tuple.{Tuple};
 ghost use Rattle.rls_runs.specs.Runs.{run_idents};
 ghost use Rattle.rls_seen.specs.Over.{placed_over};
 ghost use Rattle.rls_seen.specs.Seen.{idents_over};
 ghost use Rattle.rls_steps.specs.declared.piece.Piece.TheVariants.{Cut};
 ghost use Rattle.rls_steps.specs.Labelled.{label_of, label_all, new_label, ready_over, cut_piece, inserted_by};
-ghost use Rattle.rls_steps.specs.Tables.{marked_on, label_there, left_there, given_labels};
+ghost use Rattle.rls_steps.specs.Tables.{label_there, left_there, given_labels};
 ghost use Rattle.rls_steps.specs.Recorded.{held_by};
 
+use crate::names::Names;
 use crate::piece::{Labels, Piece};
 use rls_ident::{EpochName, Ident};
 use rls_ops::{Body, Op};
@@ -17,71 +18,37 @@ use rls_replica::Replica;
 use rls_runs::{Run, Runs, Text};
 use std::alloc::{AllocError, Global};
 
-/// The labels of the characters from a place on, where they have any. It costs a way down the tree for each name.
+/// The labels of the characters from a place on, where they have any. It costs a search in the text and one among the names for each.
 pub(crate) fn labels_of(
     replica: &Replica,
-    names: &Vec<(Ident, u64)>,
+    names: &Names,
     from: u64,
     count: u64,
 ) -> Result<Vec<Option<u64>>, AllocError>
     requires places { from + count ≤ length replica.now.text }
-    ensures labels { IfOk result (λ ls. ls.items ≡ map (label_of (reverse names.now.items)) (take count (drop from (idents_over replica.now)))) }
-{
-    let mut labels = blank(*names.allocator(), count as usize)?;
-    'names: for i in 0..names.len() {
-        let (ident, label) = &names[i];
-        mark(&mut labels, replica, ident, *label, from);
-    }
-    Ok(labels)
-}
-
-// No labels, so many times.
-fn blank(alloc: Global, count: usize) -> Result<Vec<Option<u64>>, AllocError>
-    ensures blank { IfOk result (λ ls. ls.items ≡ replicate count None) }
-{
-    let mut labels = Vec::with_capacity(alloc, count)?;
-    'places: for i in 0..count {
-        labels.push(None)?;
-    }
-    Ok(labels)
-}
-
-// A newer name.
-fn mark(labels: &mut Vec<Option<u64>>, replica: &Replica, ident: &Ident, label: u64, from: u64)
-    requires places { from + length labels.old.items ≤ length replica.now.text }
-    ensures marked { labels.new.items ≡ marked_on ident.now label (take (length labels.old.items) (drop from (idents_over replica.now))) labels.old.items }
+    ensures labels { IfOk result (λ ls. ls.items ≡ map (label_of (reverse names.now)) (take count (drop from (idents_over replica.now)))) }
 {
     replica.sane();
-    match replica.find(ident) {
-        Err(_) => {}
-        Ok(at) => set_label(labels, at, from, label),
+    let mut labels = Vec::with_capacity(names.alloc(), count as usize)?;
+    'places: for i in 0..count {
+        let ident = replica.ident_at(from + i)?;
+        labels.push(names.label_of(ident))?;
     }
-}
-
-// The label of a place, if this is among them.
-fn set_label(labels: &mut Vec<Option<u64>>, at: u64, from: u64, label: u64)
-    ensures within { from ≤ at → at - from < length labels.old.items → labels.new.items ≡ set labels.old.items (at - from) (Some label) }
-    ensures before { at < from → labels.new.items ≡ labels.old.items }
-    ensures behind { length labels.old.items ≤ at - from → labels.new.items ≡ labels.old.items }
-{
-    if at < from || at - from >= labels.len() as u64 {
-        return;
-    }
-    labels[(at - from) as usize] = Some(label);
+    Ok(labels)
 }
 
 /// Gives a label to each character from a place on that has none.
 pub(crate) fn give(
     replica: &Replica,
-    names: &mut Vec<(Ident, u64)>,
+    names: &mut Names,
     next: &mut u64,
     from: u64,
     labels: &Vec<Option<u64>>,
 ) -> Result<(), AllocError>
     requires places { from + length labels.now.items ≤ length replica.now.text }
-    requires labels { labels.now.items ≡ map (label_of (reverse names.old.items)) (take (length labels.now.items) (drop from (idents_over replica.now))) }
-    ensures ok { OnOk result (held_by replica.now next.new names.new.items ≡ label_all (held_by replica.now next.old names.old.items) (take (length labels.now.items) (drop from (idents_over replica.now)))) }
-    ensures front { take (length names.old.items) names.new.items ≡ names.old.items }
+    requires labels { labels.now.items ≡ map (label_of (reverse names.old)) (take (length labels.now.items) (drop from (idents_over replica.now))) }
+    ensures ok { OnOk result (held_by replica.now next.new names.new ≡ label_all (held_by replica.now next.old names.old) (take (length labels.now.items) (drop from (idents_over replica.now)))) }
+    ensures front { take (length names.old) names.new ≡ names.old }
 {
     replica.sane();
     'labels: for i in 0..labels.len() {
@@ -93,14 +60,14 @@ pub(crate) fn give(
 // Gives the character at a place a label, unless it has this one.
 fn give_one(
     replica: &Replica,
-    names: &mut Vec<(Ident, u64)>,
+    names: &mut Names,
     next: &mut u64,
     at: u64,
     label: Option<u64>,
 ) -> Result<(), AllocError>
     requires place { at < length replica.now.text }
-    ensures given { OnOk result ((x : List Tuple) → slice_get (idents_over replica.now) at ≡ Some x → held_by replica.now next.new names.new.items ≡ new_label label (held_by replica.now next.old names.old.items) x) }
-    ensures front { take (length names.old.items) names.new.items ≡ names.old.items }
+    ensures given { OnOk result ((x : List Tuple) → slice_get (idents_over replica.now) at ≡ Some x → held_by replica.now next.new names.new ≡ new_label label (held_by replica.now next.old names.old) x) }
+    ensures front { take (length names.old) names.new ≡ names.old }
 {
     match label {
         Some(_) => Ok(()),
@@ -112,17 +79,17 @@ fn give_one(
 }
 
 // One more name.
-fn name(ident: Ident, names: &mut Vec<(Ident, u64)>, next: &mut u64) -> Result<(), AllocError>
-    ensures names { OnOk result (names.new.items ≡ names.old.items ++ (ident, next.old) ∷ []) }
+fn name(ident: Ident, names: &mut Names, next: &mut u64) -> Result<(), AllocError>
+    ensures names { OnOk result (names.new ≡ names.old ++ (ident, next.old) ∷ []) }
     ensures next { OnOk result (next.new ≡ next.old + 1) }
-    ensures stay { OnErr result (names.new.items ≡ names.old.items) }
+    ensures stay { OnErr result (names.new ≡ names.old) }
     ensures err { OnErr result (next.new ≡ next.old) }
 {
     let label = *next;
     let Some(more) = label.checked_add(1) else {
         return Err(AllocError);
     };
-    names.push((ident, label))?;
+    names.push(ident, label)?;
     *next = more;
     Ok(())
 }
@@ -130,15 +97,15 @@ fn name(ident: Ident, names: &mut Vec<(Ident, u64)>, next: &mut u64) -> Result<(
 /// Gives labels to the characters of a range and to its neighbours, and answers the piece that its deletion leaves.
 pub(crate) fn ready(
     replica: &Replica,
-    names: &mut Vec<(Ident, u64)>,
+    names: &mut Names,
     next: &mut u64,
     at: u64,
     count: u64,
 ) -> Result<Piece, AllocError>
     requires places { at + count ≤ length replica.now.text }
-    ensures ok { OnOk result (held_by replica.now next.new names.new.items ≡ ready_over (held_by replica.now next.old names.old.items) at count) }
-    ensures piece { IfOk result (λ p. p ≡ cut_piece (held_by replica.now next.new names.new.items) at count) }
-    ensures front { take (length names.old.items) names.new.items ≡ names.old.items }
+    ensures ok { OnOk result (held_by replica.now next.new names.new ≡ ready_over (held_by replica.now next.old names.old) at count) }
+    ensures piece { IfOk result (λ p. p ≡ cut_piece (held_by replica.now next.new names.new) at count) }
+    ensures front { take (length names.old) names.new ≡ names.old }
 {
     let total = replica.total();
     let from = before(at);
@@ -241,17 +208,13 @@ fn there(labels: &Vec<Option<u64>>, i: usize) -> Option<u64>
 }
 
 /// Names the characters that an operation inserts.
-pub(crate) fn name_inserted(
-    names: &mut Vec<(Ident, u64)>,
-    op: &Op,
-    labels: &[u64],
-) -> Result<(), AllocError>
-    ensures ok { OnOk result (reverse names.new.items ≡ zip (inserted_by op.now.body) labels.now ++ reverse names.old.items) }
-    ensures front { take (length names.old.items) names.new.items ≡ names.old.items }
+pub(crate) fn name_inserted(names: &mut Names, op: &Op, labels: &[u64]) -> Result<(), AllocError>
+    ensures ok { OnOk result (reverse names.new ≡ zip (inserted_by op.now.body) labels.now ++ reverse names.old) }
+    ensures front { take (length names.old) names.new ≡ names.old }
 {
     match &op.body {
         Body::Insert { first, text } => {
-            let ids = ids_of(*names.allocator(), first, text.len())?;
+            let ids = ids_of(names.alloc(), first, text.len())?;
             match name_all(names, &ids, labels) {
                 Err(_) => Err(AllocError),
                 Ok(()) => Ok(()),
@@ -286,14 +249,14 @@ fn ids_of(alloc: Global, first: &Ident, count: usize) -> Result<Runs, AllocError
 }
 
 // Gives these identifiers these labels, the first one last.
-fn name_all(names: &mut Vec<(Ident, u64)>, ids: &Runs, labels: &[u64]) -> Result<(), AllocError>
-    ensures ok { OnOk result (reverse names.new.items ≡ zip ids.now labels.now ++ reverse names.old.items) }
-    ensures front { take (length names.old.items) names.new.items ≡ names.old.items }
+fn name_all(names: &mut Names, ids: &Runs, labels: &[u64]) -> Result<(), AllocError>
+    ensures ok { OnOk result (reverse names.new ≡ zip ids.now labels.now ++ reverse names.old) }
+    ensures front { take (length names.old) names.new ≡ names.old }
 {
     let mut i = fewer(ids.total(), labels.len());
     'names: while i > 0 {
         i -= 1;
-        names.push((ids.get(i as u64)?, labels[i]))?;
+        names.push(ids.get(i as u64)?, labels[i])?;
     }
     Ok(())
 }
@@ -312,17 +275,17 @@ fn fewer(total: u64, len: usize) -> usize
 pub(crate) fn translated(
     replica: &Replica,
     epoch: EpochName,
-    names: &Vec<(Ident, u64)>,
-) -> Result<Vec<(Ident, u64)>, AllocError>
-    ensures there { IfOk result (λ ns. ns.items ≡ map (λ n. (placed_over replica.now epoch n.0, n.1)) names.now.items) }
+    names: &Names,
+) -> Result<Names, AllocError>
+    ensures there { IfOk result (λ ns. ns ≡ map (λ n. (placed_over replica.now epoch n.0, n.1)) names.now) }
 {
-    let mut there = Vec::with_capacity(*names.allocator(), names.len())?;
+    let mut there = Names::new(names.alloc());
     'names: for i in 0..names.len() {
-        let (ident, label) = &names[i];
-        let Ok(ident) = replica.ident_to_greatest(epoch, ident) else {
+        let name = names.name(i);
+        let Ok(ident) = replica.ident_to_greatest(epoch, &name.ident) else {
             return Err(AllocError);
         };
-        there.push((ident, *label))?;
+        there.push(ident, name.label)?;
     }
     Ok(there)
 }

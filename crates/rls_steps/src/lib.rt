@@ -6,6 +6,7 @@ mod dropping;
 mod finding;
 mod labelling;
 pub mod laws;
+mod names;
 mod piece;
 mod returning;
 mod splitting;

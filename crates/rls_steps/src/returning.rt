@@ -9,25 +9,24 @@ ghost use Rattle.rls_steps.specs.Returning.{back_fault, ranges_fault, IsPartBack
 
 use crate::changing::{cut, put};
 use crate::finding::{place, ranges};
-use crate::labelling::labels_of;
+use crate::names::Names;
 use crate::piece::{Labels, Piece, Step};
-use rls_ident::Ident;
 use rls_replica::{EditError, Replica};
 use rls_runs::Text;
 
 /// Takes the piece of a step back, and puts what this leaves on the other stack.
 pub(crate) fn take_back(
     replica: &mut Replica,
-    names: &mut Vec<(Ident, u64)>,
+    names: &mut Names,
     next: &mut u64,
     step: &Step,
     other: &mut Vec<Step>,
 ) -> Result<(), EditError>
-    ensures fault { IfErr result (λ e. IsFault e (back_fault (held_by replica.old next.old names.old.items) step.now.piece)) }
-    ensures fits { OnOk result (FitsBack (held_by replica.old next.old names.old.items) step.now.piece) }
-    ensures held { OnOk result (held_by replica.new next.new names.new.items ≡ (taken_back (held_by replica.old next.old names.old.items) step.now.piece []).held) }
-    ensures stack { OnOk result (other.new.items ≡ other.old.items ++ steps_of step.now.group (taken_back (held_by replica.old next.old names.old.items) step.now.piece []).other) }
-    ensures part { OnErr result (IsPartBack (held_by replica.old next.old names.old.items) step.now.piece (held_by replica.new next.new names.new.items) step.now.group other.old.items other.new.items) }
+    ensures fault { IfErr result (λ e. IsFault e (back_fault (held_by replica.old next.old names.old) step.now.piece)) }
+    ensures fits { OnOk result (FitsBack (held_by replica.old next.old names.old) step.now.piece) }
+    ensures held { OnOk result (held_by replica.new next.new names.new ≡ (taken_back (held_by replica.old next.old names.old) step.now.piece []).held) }
+    ensures stack { OnOk result (other.new.items ≡ other.old.items ++ steps_of step.now.group (taken_back (held_by replica.old next.old names.old) step.now.piece []).other) }
+    ensures part { OnErr result (IsPartBack (held_by replica.old next.old names.old) step.now.piece (held_by replica.new next.new names.new) step.now.group other.old.items other.new.items) }
     ensures epochs { replica.new.epochs ≡ replica.old.epochs }
 {
     match &step.piece {
@@ -48,23 +47,20 @@ pub(crate) fn take_back(
 // The characters with these labels.
 fn take_out(
     replica: &mut Replica,
-    names: &mut Vec<(Ident, u64)>,
+    names: &mut Names,
     next: &mut u64,
     group: u64,
     labels: &[u64],
     other: &mut Vec<Step>,
 ) -> Result<(), EditError>
-    ensures fault { IfErr result (λ e. IsFault e (back_fault (held_by replica.old next.old names.old.items) (Put labels.now))) }
-    ensures fits { OnOk result (FitsBack (held_by replica.old next.old names.old.items) (Put labels.now)) }
-    ensures held { OnOk result (held_by replica.new next.new names.new.items ≡ (taken_back (held_by replica.old next.old names.old.items) (Put labels.now) []).held) }
-    ensures stack { OnOk result (other.new.items ≡ other.old.items ++ steps_of group (taken_back (held_by replica.old next.old names.old.items) (Put labels.now) []).other) }
-    ensures part { OnErr result (IsPartBack (held_by replica.old next.old names.old.items) (Put labels.now) (held_by replica.new next.new names.new.items) group other.old.items other.new.items) }
+    ensures fault { IfErr result (λ e. IsFault e (back_fault (held_by replica.old next.old names.old) (Put labels.now))) }
+    ensures fits { OnOk result (FitsBack (held_by replica.old next.old names.old) (Put labels.now)) }
+    ensures held { OnOk result (held_by replica.new next.new names.new ≡ (taken_back (held_by replica.old next.old names.old) (Put labels.now) []).held) }
+    ensures stack { OnOk result (other.new.items ≡ other.old.items ++ steps_of group (taken_back (held_by replica.old next.old names.old) (Put labels.now) []).other) }
+    ensures part { OnErr result (IsPartBack (held_by replica.old next.old names.old) (Put labels.now) (held_by replica.new next.new names.new) group other.old.items other.new.items) }
     ensures epochs { replica.new.epochs ≡ replica.old.epochs }
 {
-    let Ok(there) = labels_of(replica, names, 0, replica.total()) else {
-        return Err(EditError::OutOfMemory);
-    };
-    let Ok(ranges) = ranges(&there, labels) else {
+    let Ok(ranges) = ranges(replica, names, labels) else {
         return Err(EditError::OutOfMemory);
     };
     match cut_all(replica, names, next, group, &ranges, other) {
@@ -76,17 +72,17 @@ fn take_out(
 // Cuts these ranges out, one after another.
 fn cut_all(
     replica: &mut Replica,
-    names: &mut Vec<(Ident, u64)>,
+    names: &mut Names,
     next: &mut u64,
     group: u64,
     ranges: &Vec<(u64, u64)>,
     other: &mut Vec<Step>,
 ) -> Result<(), EditError>
-    ensures fault { IfErr result (λ e. IsFault e (ranges_fault (held_by replica.old next.old names.old.items) ranges.now.items)) }
-    ensures fits { OnOk result (FitRanges (held_by replica.old next.old names.old.items) ranges.now.items) }
-    ensures held { OnOk result (held_by replica.new next.new names.new.items ≡ (cut_ranges (held_by replica.old next.old names.old.items) ranges.now.items []).held) }
-    ensures stack { OnOk result (other.new.items ≡ other.old.items ++ steps_of group (cut_ranges (held_by replica.old next.old names.old.items) ranges.now.items []).other) }
-    ensures part { OnErr result (IsPartCut (held_by replica.old next.old names.old.items) ranges.now.items (held_by replica.new next.new names.new.items) group other.old.items other.new.items) }
+    ensures fault { IfErr result (λ e. IsFault e (ranges_fault (held_by replica.old next.old names.old) ranges.now.items)) }
+    ensures fits { OnOk result (FitRanges (held_by replica.old next.old names.old) ranges.now.items) }
+    ensures held { OnOk result (held_by replica.new next.new names.new ≡ (cut_ranges (held_by replica.old next.old names.old) ranges.now.items []).held) }
+    ensures stack { OnOk result (other.new.items ≡ other.old.items ++ steps_of group (cut_ranges (held_by replica.old next.old names.old) ranges.now.items []).other) }
+    ensures part { OnErr result (IsPartCut (held_by replica.old next.old names.old) ranges.now.items (held_by replica.new next.new names.new) group other.old.items other.new.items) }
     ensures epochs { replica.new.epochs ≡ replica.old.epochs }
 {
     'cuts: for i in 0..ranges.len() {
@@ -101,7 +97,7 @@ fn cut_all(
 // The text of a piece that was cut out.
 fn put_back(
     replica: &mut Replica,
-    names: &mut Vec<(Ident, u64)>,
+    names: &mut Names,
     next: &mut u64,
     group: u64,
     labels: &Labels,
@@ -110,17 +106,16 @@ fn put_back(
     right: Option<u64>,
     other: &mut Vec<Step>,
 ) -> Result<(), EditError>
-    ensures fault { IfErr result (λ e. IsFault e (back_fault (held_by replica.old next.old names.old.items) (Cut labels.now text.now left right))) }
-    ensures fits { OnOk result (FitsBack (held_by replica.old next.old names.old.items) (Cut labels.now text.now left right)) }
-    ensures held { OnOk result (held_by replica.new next.new names.new.items ≡ (taken_back (held_by replica.old next.old names.old.items) (Cut labels.now text.now left right) []).held) }
-    ensures stack { OnOk result (other.new.items ≡ other.old.items ++ steps_of group (taken_back (held_by replica.old next.old names.old.items) (Cut labels.now text.now left right) []).other) }
-    ensures part { OnErr result (IsPartBack (held_by replica.old next.old names.old.items) (Cut labels.now text.now left right) (held_by replica.new next.new names.new.items) group other.old.items other.new.items) }
+    ensures fault { IfErr result (λ e. IsFault e (back_fault (held_by replica.old next.old names.old) (Cut labels.now text.now left right))) }
+    ensures fits { OnOk result (FitsBack (held_by replica.old next.old names.old) (Cut labels.now text.now left right)) }
+    ensures held { OnOk result (held_by replica.new next.new names.new ≡ (taken_back (held_by replica.old next.old names.old) (Cut labels.now text.now left right) []).held) }
+    ensures stack { OnOk result (other.new.items ≡ other.old.items ++ steps_of group (taken_back (held_by replica.old next.old names.old) (Cut labels.now text.now left right) []).other) }
+    ensures part { OnErr result (IsPartBack (held_by replica.old next.old names.old) (Cut labels.now text.now left right) (held_by replica.new next.new names.new) group other.old.items other.new.items) }
     ensures epochs { replica.new.epochs ≡ replica.old.epochs }
 {
-    let Ok(there) = labels_of(replica, names, 0, replica.total()) else {
+    let Ok(at) = place(replica, names, left, right) else {
         return Err(EditError::OutOfMemory);
     };
-    let at = place(replica, names, &there, left, right);
     let Ok(text) = text.copy() else {
         return Err(EditError::OutOfMemory);
     };

@@ -15,9 +15,10 @@ ghost use Rattle.rls_steps.specs.Recorded.{unused, settled, steps_over, names_ov
 use crate::changing::{delete, insert};
 use crate::dropping::{drop_first, forgotten};
 use crate::labelling::translated;
+use crate::names::Names;
 use crate::piece::Step;
 use crate::undoing::{back, count};
-use rls_ident::{EpochName, Ident};
+use rls_ident::EpochName;
 use rls_replica::{Edit, EditError, PastError, Replica};
 use rls_runs::Text;
 use std::alloc::Global;
@@ -41,7 +42,7 @@ pub enum StepError {
 pub struct Steps {
     epoch: EpochName,
     next: u64,
-    names: Vec<(Ident, u64)>,
+    names: Names,
     past: Vec<Step>,
     future: Vec<Step>,
     group: u64,
@@ -52,7 +53,7 @@ impl Model for Steps {
 
     ghost Value = { Recorded };
 
-    ghost view = { λ s. record { epoch = s.epoch; next = s.next; names = s.names.items; past = s.past.items; future = s.future.items; group = s.group } };
+    ghost view = { λ s. record { epoch = s.epoch; next = s.next; names = s.names; past = s.past.items; future = s.future.items; group = s.group } };
 }
 
 impl Steps {
@@ -63,7 +64,7 @@ impl Steps {
         Steps {
             epoch: EpochName::Origin,
             next: 0,
-            names: Vec::new(alloc),
+            names: Names::new(alloc),
             past: Vec::new(alloc),
             future: Vec::new(alloc),
             group: 0,
@@ -147,8 +148,9 @@ impl Steps {
     /// Performs an edit as `Replica::edit` does. An insertion and a deletion are steps of the open group, and what could be redone
     /// is forgotten. After an error all is as before, but that everything may be in the greatest epoch.
     ///
-    /// It costs what `Replica::edit` does. An insertion costs its own length once more, and a deletion two searches in the text for each
-    /// name that is kept. After a rename everything is translated first, as by `settle`.
+    /// It costs what `Replica::edit` does. An insertion costs a search among the names for each of its characters, and a deletion two
+    /// searches in the text and among the names for each of its characters and for both its neighbours. After a rename everything is
+    /// translated first, as by `settle`.
     ///
     /// # Errors
     ///
@@ -266,8 +268,8 @@ impl Steps {
 
     /// Takes the last group back, the last step first, and answers how many steps that were. It ends the open group.
     ///
-    /// Each step costs its edits, a search in the text for each name that is kept and a pass over the text, and two such searches more
-    /// for each range that is cut out. After a rename everything is translated first, as by `settle`.
+    /// Each step costs its edits, as by `edit`. A step that put characters in costs a search in the text for each name that these have
+    /// had, and one that cut some out the same for its neighbours. After a rename everything is translated first, as by `settle`.
     ///
     /// # Errors
     ///

@@ -8,24 +8,24 @@ ghost use Rattle.rls_steps.specs.Groups.{group_size, group_count, group_before, 
 ghost use Rattle.rls_steps.specs.Recorded.{held_by};
 ghost use Rattle.rls_steps.specs.Returning.{back_fault, IsPartBack};
 
+use crate::names::Names;
 use crate::piece::Step;
 use crate::returning::take_back;
-use rls_ident::Ident;
 use rls_replica::{EditError, Replica};
 
 /// Takes the steps of the last group back, the last first, and answers how many these are.
 pub(crate) fn back(
     replica: &mut Replica,
-    names: &mut Vec<(Ident, u64)>,
+    names: &mut Names,
     next: &mut u64,
     from: &mut Vec<Step>,
     to: &mut Vec<Step>,
 ) -> Result<usize, EditError>
     ensures size { IfOk result (λ n. n ≡ group_size from.old.items) }
-    ensures fits { OnOk result (MayRun (stacked (held_by replica.old next.old names.old.items) from.old.items to.old.items) (replicate (group_size from.old.items) Back)) }
-    ensures after { OnOk result (stacked (held_by replica.new next.new names.new.items) from.new.items to.new.items ≡ course (stacked (held_by replica.old next.old names.old.items) from.old.items to.old.items) (replicate (group_size from.old.items) Back)) }
+    ensures fits { OnOk result (MayRun (stacked (held_by replica.old next.old names.old) from.old.items to.old.items) (replicate (group_size from.old.items) Back)) }
+    ensures after { OnOk result (stacked (held_by replica.new next.new names.new) from.new.items to.new.items ≡ course (stacked (held_by replica.old next.old names.old) from.old.items to.old.items) (replicate (group_size from.old.items) Back)) }
     ensures left { OnOk result (from.new.items ≡ take (length from.old.items - group_size from.old.items) from.old.items) }
-    ensures stopped { IfErr result (λ e. IsStopped e (held_by replica.old next.old names.old.items) from.old.items to.old.items (held_by replica.new next.new names.new.items) from.new.items to.new.items) }
+    ensures stopped { IfErr result (λ e. IsStopped e (held_by replica.old next.old names.old) from.old.items to.old.items (held_by replica.new next.new names.new) from.new.items to.new.items) }
     ensures epochs { replica.new.epochs ≡ replica.old.epochs }
 {
     let mut done: usize = 0;
@@ -53,18 +53,18 @@ fn ends_in(steps: &Vec<Step>, group: u64) -> bool
 // Takes the last step back.
 fn back_one(
     replica: &mut Replica,
-    names: &mut Vec<(Ident, u64)>,
+    names: &mut Names,
     next: &mut u64,
     from: &mut Vec<Step>,
     to: &mut Vec<Step>,
 ) -> Result<(), EditError>
     requires some { 0 < length from.old.items }
-    ensures fits { OnOk result (MayMove (stacked (held_by replica.old next.old names.old.items) from.old.items to.old.items) Back) }
-    ensures after { OnOk result (stacked (held_by replica.new next.new names.new.items) from.new.items to.new.items ≡ moved (stacked (held_by replica.old next.old names.old.items) from.old.items to.old.items) Back) }
+    ensures fits { OnOk result (MayMove (stacked (held_by replica.old next.old names.old) from.old.items to.old.items) Back) }
+    ensures after { OnOk result (stacked (held_by replica.new next.new names.new) from.new.items to.new.items ≡ moved (stacked (held_by replica.old next.old names.old) from.old.items to.old.items) Back) }
     ensures left { OnOk result (from.new.items ≡ take (length from.old.items - 1) from.old.items) }
     ensures stays { OnErr result (from.new.items ≡ from.old.items) }
-    ensures fault { IfErr result (λ e. (step : Step) → slice_get (reverse from.old.items) 0 ≡ Some step → IsFault e (back_fault (held_by replica.old next.old names.old.items) step.piece)) }
-    ensures part { OnErr result ((step : Step) × (slice_get (reverse from.old.items) 0 ≡ Some step) × IsPartBack (held_by replica.old next.old names.old.items) step.piece (held_by replica.new next.new names.new.items) step.group to.old.items to.new.items) }
+    ensures fault { IfErr result (λ e. (step : Step) → slice_get (reverse from.old.items) 0 ≡ Some step → IsFault e (back_fault (held_by replica.old next.old names.old) step.piece)) }
+    ensures part { OnErr result ((step : Step) × (slice_get (reverse from.old.items) 0 ≡ Some step) × IsPartBack (held_by replica.old next.old names.old) step.piece (held_by replica.new next.new names.new) step.group to.old.items to.new.items) }
     ensures epochs { replica.new.epochs ≡ replica.old.epochs }
 {
     let n = from.len();

@@ -1,21 +1,24 @@
-use Rattle.std.proofs.Common.{◌≡◌, ◌+◌, ◌-◌, take, ap, ◌∙◌, sym, refl, arith, length}
+use Rattle.std.proofs.Common.{sym, ap, ◌∙◌, arith}
 use Rattle.std.specs.Prelude.{reverse}
-use Rattle.std.proofs.lemmas.Option.{slice_get_read}
+use Rattle.std.proofs.lemmas.List.{length-reverse}
+use Rattle.rls_runs.specs.Places.{below_count}
 use Rattle.rls_seen.specs.Seen.{idents_over}
-use Rattle.rls_steps.specs.Courses.{ident_of, below_or_none}
-use Rattle.rls_steps.proofs.Placing.{newest_before}
+use Rattle.rls_steps.specs.Courses.{below_or_none}
+use Rattle.rls_steps.proofs.Walking.{newest_short, newest_ident, none_ident}
 use Rattle.rls_steps.proofs.finding.gone.Goals as goal
 
-pub names-preserved : goal.names-preserved
-names-preserved c =
-    let ns = c.args.names.now.items in
-    let i = c.names.i in
-    let n = c.index.result.now in
-    let v = c.names.invariant in
+pub name-requires : goal.name-requires
+name-requires c =
+    let short = newest_short (reverse c.args.names.now) c.args.label c.in-Some.at (sym c.in-Some.ensures.newest) in
+    let size = length-reverse c.args.names.now in
+    record { place = omega (arith, short, size) }
+
+pub returns-in-None : goal.returns-in-None
+returns-in-None c = record { gone = sym (ap (below_or_none (idents_over c.args.replica.now)) (none_ident (reverse c.args.names.now) c.args.label (sym c.in-None.ensures.newest))) }
+
+pub returns-in-Some : goal.returns-in-Some
+returns-in-Some c =
     let xs = idents_over c.args.replica.now in
-    let back : i - 1 + 1 ≡ i = omega (arith, c.names-test.true) in
-    let g = slice_get_read ns (length ns) (i - 1) n refl (omega (arith, v.within, c.names-test.true)) c.index.ensures in
-    record {
-      within = omega (arith, v.within);
-      same = ap (below_or_none xs) (sym (newest_before ns (i - 1) n.0 n.1 c.args.label g c.if-named-label.false) ∙ ap (λ k. ident_of (reverse (take k ns)) c.args.label) back) ∙ v.same;
-    }
+    let r = newest_ident (reverse c.args.names.now) c.args.label c.in-Some.at (sym c.in-Some.ensures.newest) in
+    let parts = c.name.ensures.older r.0 r.1 r.2 in
+    record { gone = c.below.ensures.below ∙ (ap (below_count xs) parts.0 ∙ sym (ap (below_or_none xs) r.3)) }

@@ -1,11 +1,11 @@
-use Rattle.std.proofs.Common.{sym, refl, ◌∙◌, arith, length}
-use Rattle.std.proofs.lemmas.Option.{slice_get_read}
-use Rattle.rls_steps.proofs.Placing.{first_later}
+use Rattle.std.proofs.Common.{ap, ◌∙◌}
+use Rattle.std.specs.Prelude.{reverse, slice_get}
+use Rattle.rls_steps.specs.Marks.{first_of}
+use Rattle.rls_steps.proofs.Found.{first_is, place_fits}
 use Rattle.rls_steps.proofs.finding.place_of.Goals as goal
 
-pub places-preserved : goal.places-preserved
-places-preserved c =
-    let os = c.args.labels.now.items in
-    let o = c.index.result.now in
-    let g = slice_get_read os (length os) c.places.i o refl (omega (arith, c.places-test.true)) c.index.ensures in
-    sym (first_later c.args.label os c.places.i o g (sym c.is_it.ensures.it ∙ c.if-is_it.false)) ∙ c.places.invariant
+pub returns-clause-within : goal.returns-clause-within
+returns-clause-within c =
+    let items = c.in_ok-places.places.items in
+    place_fits c.args.replica.now (reverse c.args.names.now) c.args.label c.copied.result c.sane.ensures.sane
+    (c.copied.ensures ∙ (c.first.ensures.value ∙ (ap (λ ps. slice_get ps 0) c.deref.ensures.value ∙ (first_is items ∙ ap first_of c.in_ok-places.ensures.places))))

@@ -17,7 +17,7 @@ overflow_add-from c =
     omega (arith, c.requires.places, c.labels-test.true, k)
 
 pub labels-init : goal.labels-init
-labels-init c = record { held = refl; front = front_whole c.args.names.now.items }
+labels-init c = record { held = refl; front = front_whole c.args.names.now }
 
 pub labels-preserved : goal.labels-preserved
 labels-preserved c =
@@ -33,8 +33,8 @@ labels-preserved c =
     let n = part_length from (length os) xs w in
     let here = slice_get-get_or seg i [] (omega (arith, short, n)) in
     let there = sym (get_take (length os) i (drop from xs) short ∙ get_drop from i xs) ∙ here in
-    let o = get_or_read os i c.index.result.now short c.index.ensures None ∙ table_at seg os i (label_of (reverse c.args.names.now.items)) short c.requires.labels in
+    let o = get_or_read os i c.index.result.now short c.index.ensures None ∙ table_at seg os i (label_of (reverse c.args.names.now)) short c.requires.labels in
     record {
-      held = gives_next (held_by s c.args.next.now c.args.names.now.items) _ _ seg i (get_or seg i []) _ (rising_part from (length os) xs (rising_of xs c.sane.ensures.sane.idents.1)) here o c.labels.invariant.held (c.in_ok-give_one.ensures.given (get_or seg i []) there);
-      front = front_trans c.args.names.now.items c.labels.names.items c.give_one.new.names.items c.labels.invariant.front c.give_one.ensures.front;
+      held = gives_next (held_by s c.args.next.now c.args.names.now) _ _ seg i (get_or seg i []) _ (rising_part from (length os) xs (rising_of xs c.sane.ensures.sane.idents.1)) here o c.labels.invariant.held (c.in_ok-give_one.ensures.given (get_or seg i []) there);
+      front = front_trans c.args.names.now c.labels.names c.give_one.new.names c.labels.invariant.front c.give_one.ensures.front;
     }

@@ -7,6 +7,6 @@ use Rattle.rls_steps.proofs.labelling.give.Given as goal
 -- the first ones have labels
 abbrev pub invariant-labels : goal.invariant-labels
 invariant-labels l = record {
-  held : held_by l.replica l.next l.names.items ≡ label_all (held_by l.replica l.fn.next l.fn.names.items) (take l.i (take (length l.labels.items) (drop l.from (idents_over l.replica))));
-  front : take (length l.fn.names.items) l.names.items ≡ l.fn.names.items;
+  held : held_by l.replica l.next l.names ≡ label_all (held_by l.replica l.fn.next l.fn.names) (take l.i (take (length l.labels.items) (drop l.from (idents_over l.replica))));
+  front : take (length l.fn.names) l.names ≡ l.fn.names;
 }

@@ -1,29 +1,17 @@
-use Rattle.std.proofs.Common.{◌∙◌, length, drop, sym, refl, arith}
-use Rattle.std.specs.Prelude.{reverse, take}
-use Rattle.std.proofs.lemmas.List.{length-map}
-use Rattle.std.proofs.lemmas.Option.{slice_get_read}
+use Rattle.std.proofs.Common.{arith}
+use Rattle.std.specs.Prelude.{reverse}
 use Rattle.rls_seen.specs.Seen.{idents_over}
-use Rattle.rls_steps.proofs.Tabling.{marked_next, table_length, no_labels, part_length}
+use Rattle.rls_seen.proofs.Needed.{total_room}
+use Rattle.rls_steps.specs.Labelled.{label_of}
+use Rattle.rls_steps.proofs.Tabling.{mapped_next}
 use Rattle.rls_steps.proofs.labelling.labels_of.Goals as goal
 
-pub mark-requires : goal.mark-requires
-mark-requires c =
-    let s = c.args.replica.now in
-    let l = length-map s.text (λ e. e.0) in
-    let t = table_length (idents_over s) c.args.from c.args.count (reverse (take c.names.i c.args.names.now.items)) c.names.labels.items (omega (arith, c.requires.places)) c.names.invariant in
-    record { places = omega (arith, c.requires.places, t) }
+pub overflow_add-from : goal.overflow_add-from
+overflow_add-from c =
+    let k = total_room c.args.replica.now c.sane.ensures.sane in
+    omega (arith, c.requires.places, c.places-test.true, k)
 
-pub names-preserved : goal.names-preserved
-names-preserved c =
-    let s = c.args.replica.now in
-    let ns = c.args.names.now.items in
-    let n = c.index.result.now in
-    let l = length-map s.text (λ e. e.0) in
-    let g = slice_get_read ns (length ns) c.names.i n refl (omega (arith, c.names-test.true)) c.index.ensures in
-    marked_next (idents_over s) c.args.from c.args.count c.names.i ns n.0 n.1 c.names.labels.items c.mark.new.labels.items (omega (arith, c.requires.places)) g c.names.invariant c.mark.ensures.marked
-
-pub names-init : goal.names-init
-names-init c =
-    let s = c.args.replica.now in
-    let l = length-map s.text (λ e. e.0) in
-    c.in_ok-labels.ensures.blank ∙ no_labels c.args.count (take c.args.count (drop c.args.from (idents_over s))) (sym (part_length c.args.from c.args.count (idents_over s) (omega (arith, c.requires.places, l))))
+pub places-preserved : goal.places-preserved
+places-preserved c =
+    mapped_next (label_of (reverse c.args.names.now)) (idents_over c.args.replica.now) c.args.from c.places.i c.in_ok-ident.ident c.label_of.result c.places.labels.items c.push.new.self.items
+    c.in_ok-ident.ensures.ident c.label_of.ensures.label c.places.invariant c.in_ok-push.ensures.items

@@ -4,6 +4,6 @@ use Rattle.rls_seen.specs.Seen.{idents_over}
 use Rattle.rls_steps.specs.Labelled.{label_of}
 use Rattle.rls_steps.proofs.labelling.labels_of.Given as goal
 
--- the labels by the names so far
-abbrev pub invariant-names : goal.invariant-names
-invariant-names l = l.labels.items ≡ map (label_of (reverse (take l.i l.names.items))) (take l.count (drop l.from (idents_over l.replica)))
+-- the labels of the first ones
+abbrev pub invariant-places : goal.invariant-places
+invariant-places l = l.labels.items ≡ map (label_of (reverse l.names)) (take l.i (drop l.from (idents_over l.replica)))

@@ -14,26 +14,26 @@ names-init c =
     record {
       ids = omega (arith, e, t);
       labels = omega (arith, e);
-      named = ap (λ zs. zs ++ reverse c.args.names.now.items) (sym (zip_end xs ls c.fewer-i.result (omega (arith, e, t))));
-      front = front_whole c.args.names.now.items;
+      named = ap (λ zs. zs ++ reverse c.args.names.now) (sym (zip_end xs ls c.fewer-i.result (omega (arith, e, t))));
+      front = front_whole c.args.names.now;
     }
 
 pub names-preserved : goal.names-preserved
 names-preserved c =
     let xs = c.args.ids.now in
     let ls = c.args.labels.now in
-    let base = c.args.names.now.items in
+    let base = c.args.names.now in
     let i = c.names.i in
     let v = c.names.invariant in
     let x = c.in_ok-get.field-0 in
     let y = get_or ls (i - 1) 0 in
     let back : i - 1 + 1 ≡ i = omega (arith, c.names-test.true) in
     let short : i - 1 < length ls = omega (arith, v.labels, c.names-test.true) in
-    let items = c.in_ok-push.ensures.items in
-    let named : reverse c.names.names.items ≡ drop (i - 1 + 1) (zip xs ls) ++ reverse base = v.named ∙ ap (λ k. drop k (zip xs ls) ++ reverse base) (sym back) in
+    let items = c.in_ok-push.ensures.names in
+    let named : reverse c.names.names ≡ drop (i - 1 + 1) (zip xs ls) ++ reverse base = v.named ∙ ap (λ k. drop k (zip xs ls) ++ reverse base) (sym back) in
     record {
       ids = omega (arith, v.ids);
       labels = omega (arith, v.labels);
-      named = named_next xs ls (i - 1) x y c.names.names.items c.push.new.self.items (reverse base) c.in_ok-get.ensures.found (slice_get-get_or ls (i - 1) 0 short) items named;
-      front = ap (take (length base)) items ∙ front_stays base c.names.names.items ((x, y) ∷ []) v.front;
+      named = named_next xs ls (i - 1) x y c.names.names c.push.new.self (reverse base) c.in_ok-get.ensures.found (slice_get-get_or ls (i - 1) 0 short) items named;
+      front = ap (take (length base)) items ∙ front_stays base c.names.names ((x, y) ∷ []) v.front;
     }

@@ -7,8 +7,8 @@ abbrev pub invariant-names : goal.invariant-names
 invariant-names l = record {
   ids : l.i ≤ length l.ids;
   labels : l.i ≤ length l.labels;
-  named : reverse l.names.items ≡ drop l.i (zip l.ids l.labels) ++ reverse l.fn.names.items;
-  front : take (length l.fn.names.items) l.names.items ≡ l.fn.names.items;
+  named : reverse l.names ≡ drop l.i (zip l.ids l.labels) ++ reverse l.fn.names;
+  front : take (length l.fn.names) l.names ≡ l.fn.names;
 }
 
 abbrev pub decreases-names : goal.decreases-names

@@ -10,9 +10,9 @@ use Rattle.rls_steps.proofs.returning.cut_all.Goals as goal
 
 pub cuts-preserved : goal.cuts-preserved
 cuts-preserved c =
-    let h = held_by c.args.replica.now c.args.next.now c.args.names.now.items in
-    let g = held_by c.cuts.replica c.cuts.next c.cuts.names.items in
-    let k = held_by c.cut.new.replica c.cut.new.next c.cut.new.names.items in
+    let h = held_by c.args.replica.now c.args.next.now c.args.names.now in
+    let g = held_by c.cuts.replica c.cuts.next c.cuts.names in
+    let k = held_by c.cut.new.replica c.cut.new.next c.cut.new.names in
     let rs = c.args.ranges.now.items in
     let r = c.index.result.now in
     let v = c.cuts.invariant in
@@ -23,7 +23,7 @@ cuts-preserved c =
 
 pub returns-in-Err-clause-fault : goal.returns-in-Err-clause-fault
 returns-in-Err-clause-fault c =
-    let h = held_by c.args.replica.now c.args.next.now c.args.names.now.items in
+    let h = held_by c.args.replica.now c.args.next.now c.args.names.now in
     let rs = c.args.ranges.now.items in
     let r = c.index.result.now in
     let v = c.cuts.invariant in
@@ -32,11 +32,11 @@ returns-in-Err-clause-fault c =
 
 pub returns-in-Err-clause-part : goal.returns-in-Err-clause-part
 returns-in-Err-clause-part c =
-    let h = held_by c.args.replica.now c.args.next.now c.args.names.now.items in
-    let k = held_by c.cut.new.replica c.cut.new.next c.cut.new.names.items in
+    let h = held_by c.args.replica.now c.args.next.now c.args.names.now in
+    let k = held_by c.cut.new.replica c.cut.new.next c.cut.new.names in
     let v = c.cuts.invariant in
     let e = c.in-Err.ensures in
-    let same : k ≡ held_by c.cuts.replica c.cuts.next c.cuts.names.items =
-    ap (λ (s : Seen). held_by s c.cut.new.next c.cut.new.names.items) e.err
-    ∙ (ap (λ n. held_by c.cuts.replica n c.cut.new.names.items) e.next ∙ ap (λ (ns : Names). held_by c.cuts.replica c.cuts.next ns) e.names) in
+    let same : k ≡ held_by c.cuts.replica c.cuts.next c.cuts.names =
+    ap (λ (s : Seen). held_by s c.cut.new.next c.cut.new.names) e.err
+    ∙ (ap (λ n. held_by c.cuts.replica n c.cut.new.names) e.next ∙ ap (λ (ns : Names). held_by c.cuts.replica c.cuts.next ns) e.names) in
     part_cut h k c.args.ranges.now.items c.cuts.i c.args.group c.args.other.now.items c.cut.new.stack.items v.fit (same ∙ v.held) (e.stays ∙ v.stack)

@@ -7,7 +7,7 @@ use Rattle.rls_steps.proofs.returning.cut_all.Given as goal
 abbrev pub invariant-cuts : goal.invariant-cuts
 invariant-cuts l = record {
   epochs : l.replica.epochs ≡ l.fn.replica.epochs;
-  fit : FitRanges (held_by l.fn.replica l.fn.next l.fn.names.items) (take l.i l.ranges.items);
-  held : held_by l.replica l.next l.names.items ≡ (cut_ranges (held_by l.fn.replica l.fn.next l.fn.names.items) (take l.i l.ranges.items) []).held;
-  stack : l.other.items ≡ l.fn.other.items ++ steps_of l.group (cut_ranges (held_by l.fn.replica l.fn.next l.fn.names.items) (take l.i l.ranges.items) []).other;
+  fit : FitRanges (held_by l.fn.replica l.fn.next l.fn.names) (take l.i l.ranges.items);
+  held : held_by l.replica l.next l.names ≡ (cut_ranges (held_by l.fn.replica l.fn.next l.fn.names) (take l.i l.ranges.items) []).held;
+  stack : l.other.items ≡ l.fn.other.items ++ steps_of l.group (cut_ranges (held_by l.fn.replica l.fn.next l.fn.names) (take l.i l.ranges.items) []).other;
 }

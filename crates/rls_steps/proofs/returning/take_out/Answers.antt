@@ -1,45 +1,43 @@
-use Rattle.std.proofs.Common.{◌≡◌, ◌++◌, [], ℕ, List, sym, ◌∙◌, subst}
-use Rattle.std.proofs.lemmas.List.{length-map}
+use Rattle.std.proofs.Common.{◌≡◌, ◌++◌, [], ℕ, List, subst}
 use Rattle.rls_seen.specs.Edits.{IsFault}
 use Rattle.rls_steps.specs.Courses.{FitRanges, cut_ranges}
 use Rattle.rls_steps.specs.Recorded.{held_by, steps_of}
 use Rattle.rls_steps.specs.Returning.{ranges_fault, IsPartCut}
-use Rattle.rls_steps.proofs.Cutting.{ranges_are}
 use Rattle.rls_steps.proofs.returning.take_out.Goals as goal
 
 pub returns-in-Err-clause-fault : goal.returns-in-Err-clause-fault
 returns-in-Err-clause-fault c =
     let s = c.args.replica.now in
-    let h = held_by s c.args.next.now c.args.names.now.items in
-    let same = c.in-Ok-ranges.ensures.ranges ∙ ranges_are s c.args.next.now c.args.names.now.items c.args.labels.now c.in-Ok.there.items c.total.result (c.total.ensures.total ∙ sym (length-map s.text (λ e. e.0))) c.in-Ok.ensures.labels in
+    let h = held_by s c.args.next.now c.args.names.now in
+    let same = c.in-Ok.ensures.ranges c.args.next.now in
     subst (λ (rs : List (ℕ × ℕ)). IsFault c.in-Err.error (ranges_fault h rs)) same c.in-Err.ensures.fault
 
 pub returns-in-Err-clause-part : goal.returns-in-Err-clause-part
 returns-in-Err-clause-part c =
     let s = c.args.replica.now in
-    let h = held_by s c.args.next.now c.args.names.now.items in
-    let n = held_by c.cut_all.new.replica c.cut_all.new.next c.cut_all.new.names.items in
-    let same = c.in-Ok-ranges.ensures.ranges ∙ ranges_are s c.args.next.now c.args.names.now.items c.args.labels.now c.in-Ok.there.items c.total.result (c.total.ensures.total ∙ sym (length-map s.text (λ e. e.0))) c.in-Ok.ensures.labels in
+    let h = held_by s c.args.next.now c.args.names.now in
+    let n = held_by c.cut_all.new.replica c.cut_all.new.next c.cut_all.new.names in
+    let same = c.in-Ok.ensures.ranges c.args.next.now in
     subst (λ (rs : List (ℕ × ℕ)). IsPartCut h rs n c.args.group c.args.other.now.items c.cut_all.new.other.items) same c.in-Err.ensures.part
 
 pub returns-clause-fits : goal.returns-clause-fits
 returns-clause-fits c =
     let s = c.args.replica.now in
-    let h = held_by s c.args.next.now c.args.names.now.items in
-    let same = c.in-Ok-ranges.ensures.ranges ∙ ranges_are s c.args.next.now c.args.names.now.items c.args.labels.now c.in-Ok.there.items c.total.result (c.total.ensures.total ∙ sym (length-map s.text (λ e. e.0))) c.in-Ok.ensures.labels in
+    let h = held_by s c.args.next.now c.args.names.now in
+    let same = c.in-Ok.ensures.ranges c.args.next.now in
     subst (λ (rs : List (ℕ × ℕ)). FitRanges h rs) same c.in-Ok-cut_all.ensures.fits
 
 pub returns-clause-held : goal.returns-clause-held
 returns-clause-held c =
     let s = c.args.replica.now in
-    let h = held_by s c.args.next.now c.args.names.now.items in
-    let n = held_by c.cut_all.new.replica c.cut_all.new.next c.cut_all.new.names.items in
-    let same = c.in-Ok-ranges.ensures.ranges ∙ ranges_are s c.args.next.now c.args.names.now.items c.args.labels.now c.in-Ok.there.items c.total.result (c.total.ensures.total ∙ sym (length-map s.text (λ e. e.0))) c.in-Ok.ensures.labels in
+    let h = held_by s c.args.next.now c.args.names.now in
+    let n = held_by c.cut_all.new.replica c.cut_all.new.next c.cut_all.new.names in
+    let same = c.in-Ok.ensures.ranges c.args.next.now in
     subst (λ (rs : List (ℕ × ℕ)). n ≡ (cut_ranges h rs []).held) same c.in-Ok-cut_all.ensures.held
 
 pub returns-clause-stack : goal.returns-clause-stack
 returns-clause-stack c =
     let s = c.args.replica.now in
-    let h = held_by s c.args.next.now c.args.names.now.items in
-    let same = c.in-Ok-ranges.ensures.ranges ∙ ranges_are s c.args.next.now c.args.names.now.items c.args.labels.now c.in-Ok.there.items c.total.result (c.total.ensures.total ∙ sym (length-map s.text (λ e. e.0))) c.in-Ok.ensures.labels in
+    let h = held_by s c.args.next.now c.args.names.now in
+    let same = c.in-Ok.ensures.ranges c.args.next.now in
     subst (λ (rs : List (ℕ × ℕ)). c.cut_all.new.other.items ≡ c.args.other.now.items ++ steps_of c.args.group (cut_ranges h rs []).other) same c.in-Ok-cut_all.ensures.stack

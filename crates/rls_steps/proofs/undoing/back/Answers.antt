@@ -7,9 +7,9 @@ use Rattle.rls_steps.proofs.undoing.back.Goals as goal
 
 pub steps-preserved : goal.steps-preserved
 steps-preserved c =
-    let st = stacked (held_by c.args.replica.now c.args.next.now c.args.names.now.items) c.args.from.now.items c.args.to.now.items in
-    let now = stacked (held_by c.steps.replica c.steps.next c.steps.names.items) c.steps.from.items c.steps.to.items in
-    let new = stacked (held_by c.back_one.new.replica c.back_one.new.next c.back_one.new.names.items) c.back_one.new.from.items c.back_one.new.to.items in
+    let st = stacked (held_by c.args.replica.now c.args.next.now c.args.names.now) c.args.from.now.items c.args.to.now.items in
+    let now = stacked (held_by c.steps.replica c.steps.next c.steps.names) c.steps.from.items c.steps.to.items in
+    let new = stacked (held_by c.back_one.new.replica c.back_one.new.next c.back_one.new.names) c.back_one.new.from.items c.back_one.new.to.items in
     let v = c.steps.invariant in
     let e = c.in_default.ensures in
     let some = c.ends_in.ensures.ends.0 c.steps-test.true in

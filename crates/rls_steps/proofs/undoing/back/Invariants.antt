@@ -12,8 +12,8 @@ invariant-steps l = record {
   all : l.done + in_front l.group (reverse l.from.items) ≡ group_size l.fn.from.items;
   within : l.done ≤ length l.fn.from.items;
   left : l.from.items ≡ take (length l.fn.from.items - l.done) l.fn.from.items;
-  fit : MayRun (stacked (held_by l.fn.replica l.fn.next l.fn.names.items) l.fn.from.items l.fn.to.items) (replicate l.done Back);
-  after : stacked (held_by l.replica l.next l.names.items) l.from.items l.to.items ≡ course (stacked (held_by l.fn.replica l.fn.next l.fn.names.items) l.fn.from.items l.fn.to.items) (replicate l.done Back);
+  fit : MayRun (stacked (held_by l.fn.replica l.fn.next l.fn.names) l.fn.from.items l.fn.to.items) (replicate l.done Back);
+  after : stacked (held_by l.replica l.next l.names) l.from.items l.to.items ≡ course (stacked (held_by l.fn.replica l.fn.next l.fn.names) l.fn.from.items l.fn.to.items) (replicate l.done Back);
 }
 
 abbrev pub decreases-steps : goal.decreases-steps

@@ -8,8 +8,8 @@ use Rattle.rls_steps.proofs.undoing.back_one.Goals as goal
 
 pub returns-in-Ok-clause-after : goal.returns-in-Ok-clause-after
 returns-in-Ok-clause-after c =
-    let h = held_by c.args.replica.now c.args.next.now c.args.names.now.items in
-    let k = held_by c.take_back.new.replica c.take_back.new.next c.take_back.new.names.items in
+    let h = held_by c.args.replica.now c.args.next.now c.args.names.now in
+    let k = held_by c.take_back.new.replica c.take_back.new.next c.take_back.new.names in
     let xs = c.args.from.now.items in
     let x = c.index.result.now in
     let some : 0 < length xs = omega (arith, c.requires.some) in

@@ -1,14 +1,13 @@
 use Rattle.std.proofs.Common.{◌≡◌, ◌≤◌, length, drop}
 use Rattle.std.specs.Prelude.{reverse}
 use Rattle.rls_undo.specs.Plans.{ranges_of}
-use Rattle.rls_steps.specs.Tables.{places_there}
-use Rattle.rls_steps.proofs.finding.wanted_ranges.Given as goal
+use Rattle.rls_steps.proofs.finding.joined.Given as goal
 
--- the ranges from a place on
+-- the ranges of the places from here on
 abbrev pub invariant-places : goal.invariant-places
 invariant-places l = record {
-  within : l.i ≤ length l.labels.items;
-  ranges : l.ranges.items ≡ reverse (ranges_of (places_there l.i l.among (drop l.i l.labels.items)));
+  within : l.i ≤ length l.places.items;
+  ranges : l.ranges.items ≡ reverse (ranges_of (drop l.i l.places.items));
 }
 
 abbrev pub decreases-places : goal.decreases-places

@@ -1,0 +1,91 @@
+-- Names that are looked up, by identifier and by label. The newest comes first, if nothing else is said.
+use Rattle.std.specs.Prelude.{◌≡◌, ℕ, suc, ◌==◌, List, [], ◌∷◌, ◌++◌, map, length, reverse, Option, Some, None, Result, Ok, Err, if◌then◌else◌}
+use Rattle.std.specs.declared.cmp.Ordering.{Ordering}
+use Rattle.std.specs.Ordering.{nat_cmp}
+use Rattle.std.specs.Map.{lookup}
+use Rattle.std.specs.BTreeMap.{is_at}
+use Rattle.rls_ident.specs.declared.tuple.Tuple.{Tuple}
+use Rattle.rls_ident.specs.Identifiers.{ident_cmp}
+use Rattle.rls_runs.specs.Runs.{place_of}
+use Rattle.rls_steps.specs.declared.names.Key.{Key}
+use Rattle.rls_steps.specs.declared.names.Name.{Name}
+use Rattle.rls_steps.specs.Labelled.{Names, label_of}
+
+-- ---- what is kept
+
+abbrev pub key_cmp : Key → Key → Ordering
+key_cmp a b = ident_cmp a.0 b.0
+
+-- what is kept of a label, and of an identifier
+abbrev pub place_in : List (ℕ × ℕ) → ℕ → Option ℕ
+place_in es l = lookup (is_at (nat_cmp l)) es
+
+abbrev pub label_in : List (Key × ℕ) → Key → Option ℕ
+label_in es k = lookup (is_at (key_cmp k)) es
+
+-- the identifier and the label of each
+abbrev pub named : List Name → Names
+named xs = map (λ (x : Name). (x.ident, x.label)) xs
+
+abbrev pub olders : List Name → List (Option ℕ)
+olders xs = map (λ (x : Name). x.older) xs
+
+-- ---- names
+
+-- an identifier is there once
+abbrev pub AreApart : Names → Type 0
+AreApart [] = Unit {0}
+AreApart (n ∷ ns) = (label_of ns n.0 ≡ None) × AreApart ns
+
+-- the place of a label's newest name, where the oldest has place 0
+abbrev pub newest_at : Names → ℕ → Option ℕ
+newest_at [] l = None
+newest_at (n ∷ ns) l = if n.1 == l then Some (length ns) else newest_at ns l
+
+-- for each name, the place of the name that its label had before
+abbrev pub older_of : Names → List (Option ℕ)
+older_of [] = []
+older_of (n ∷ ns) = newest_at ns n.1 ∷ older_of ns
+
+-- the name at a place, and those that are older
+abbrev pub tail_at : Names → ℕ → Names
+tail_at [] i = []
+tail_at (n ∷ ns) i = if length ns == i then n ∷ ns else tail_at ns i
+
+-- names, the oldest first, and what is kept of their labels and of their identifiers
+pub record IsIndexed (xs : List Name) (by_label : List (ℕ × ℕ)) (by_ident : List (Key × ℕ)) : Type 0 where
+  pub apart : AreApart (reverse (named xs))
+  pub older : olders (reverse xs) ≡ older_of (reverse (named xs))
+  pub newest : (l : ℕ) → place_in by_label l ≡ newest_at (reverse (named xs)) l
+  pub labels : (k : Key) → label_in by_ident k ≡ label_of (reverse (named xs)) k.0
+
+-- ---- places in a text
+
+abbrev pub place_list : Result ℕ ℕ → List ℕ
+place_list (Ok at) = at ∷ []
+place_list (Err at) = []
+
+-- where identifiers of this label stand in a text of these identifiers
+abbrev pub named_places : List (List Tuple) → ℕ → Names → List ℕ
+named_places xs l [] = []
+named_places xs l (n ∷ ns) = if n.1 == l then place_list (place_of n.0 xs) ++ named_places xs l ns else named_places xs l ns
+
+-- and those of each of these labels
+abbrev pub all_places : List (List Tuple) → List ℕ → Names → List ℕ
+all_places xs [] ns = []
+all_places xs (l ∷ ls) ns = named_places xs l ns ++ all_places xs ls ns
+
+-- those from a place on
+abbrev pub rest_places : List (List Tuple) → ℕ → Names → Option ℕ → List ℕ
+rest_places xs l ns None = []
+rest_places xs l ns (Some i) = named_places xs l (tail_at ns i)
+
+-- a name of this label is there, or none is left
+abbrev pub IsCursor : Names → ℕ → Option ℕ → Type 0
+IsCursor ns l None = Unit {0}
+IsCursor ns l (Some i) = (n : List Tuple × ℕ) × (ms : Names) × (tail_at ns i ≡ n ∷ ms) × (n.1 ≡ l)
+
+-- how many names are left at most
+abbrev pub cursor_rank : Option ℕ → ℕ
+cursor_rank None = 0
+cursor_rank (Some i) = suc i
