@@ -125,11 +125,10 @@ moved_there s e g x sane i k l = ap (count_upto (idents_over s)) (translate_tran
 
 pub settled_alike : SettledAlike
 settled_alike s t Beginning h k = (refl, tt)
-settled_alike s t (After e x) h k =
-    (
-      ap (λ g. After g (placed_over s e x)) (greatest_alike s t h) ∙ ap (After (greatest t.history)) (placed_alike s t h e x k),
-      greatest_kept s.epochs.top s.epochs.nodes,
-    )
+settled_alike s t (After e x) h k = (
+  ap (λ g. After g (placed_over s e x)) (greatest_alike s t h) ∙ ap (After (greatest t.history)) (placed_alike s t h e x k),
+  greatest_kept s.epochs.top s.epochs.nodes,
+)
 
 pub place_alike : PlaceAlike
 unfolding place place_over

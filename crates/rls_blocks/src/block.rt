@@ -6,8 +6,7 @@ ghost use Rattle.rls_runs.specs.Runs.{is_run, run_last};
 ghost use Rattle.rls_blocks.specs.Trees.{IsPiece};
 ghost use Rattle.rls_blocks.specs.Edits.{part_of, joined};
 
-use crate::rely;
-use rls_ident::Ident;
+use rls_ident::{Ident, rely};
 use rls_runs::{Run, RunError, Text};
 use std::alloc::{AllocError, Global};
 use std::marker::Model;

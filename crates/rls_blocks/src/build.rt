@@ -6,7 +6,7 @@ ghost use Rattle.rls_blocks.specs.Trees.{ArePieces, entries_of};
 use crate::balance::join;
 use crate::block::Block;
 use crate::node::{Link, Single};
-use crate::rely;
+use rls_ident::rely;
 use std::alloc::{AllocError, Global};
 
 /// The tree of these blocks. It costs a step for each, and takes memory for as many nodes; it moves no character.

@@ -5,7 +5,7 @@ ghost use Rattle.rls_blocks.specs.Edits.{part_of};
 
 use crate::block::{Block, part_of_text};
 use crate::node::Single;
-use crate::rely;
+use rls_ident::rely;
 use std::alloc::{AllocError, Global};
 
 /// A block as two: its characters in front of a place, and those from another place on. It costs the characters of the shorter one of

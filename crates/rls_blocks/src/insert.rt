@@ -11,9 +11,9 @@ use crate::balance::join;
 use crate::block::Block;
 use crate::node::{Link, Single};
 use crate::put::put_at;
-use crate::rely;
 use crate::side::Side;
 use crate::split::{Halves, end_out, split};
+use rls_ident::rely;
 use rls_runs::{Run, Text};
 use std::alloc::{AllocError, Global};
 

@@ -1,16 +1,6 @@
 //! Blocks, each a run of identifiers with its characters, as a balanced tree; and what is put into such a tree or taken out of it.
 #![tactic(auto)]
 
-/// A look at a value that changes nothing and is there for the prover alone: by it the rest of the function knows what the value's type
-/// promises. Whoever takes it out makes a proof below fail.
-macro_rules! rely {
-    ($($look:tt)*) => {
-        $($look)*;
-    };
-}
-
-pub(crate) use rely;
-
 mod balance;
 mod block;
 mod build;

@@ -12,10 +12,9 @@ mod opened;
 mod single;
 
 use crate::block::Block;
-use crate::rely;
 use crate::side::Side;
 pub(crate) use opened::{Frame, Opened};
-use rls_ident::Ident;
+use rls_ident::{Ident, rely};
 use rls_runs::{Run, Text};
 pub(crate) use single::Single;
 use std::alloc::AllocError;

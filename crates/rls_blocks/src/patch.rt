@@ -9,8 +9,8 @@ ghost use Rattle.rls_blocks.specs.Patches.{before, after, IsBetween, patched, Ar
 use crate::block::{Block, part_of_text};
 use crate::build::tree_of;
 use crate::node::Link;
-use crate::rely;
 use crate::split::{Halves, concat, split};
+use rls_ident::rely;
 use rls_runs::{Run, Text};
 use std::alloc::{AllocError, Global};
 

@@ -9,9 +9,9 @@ ghost use Rattle.rls_blocks.specs.Edits.{part_of, joined, removed, Shows};
 use crate::balance::join;
 use crate::cut::{cut, keep_ends};
 use crate::node::{Link, Single};
-use crate::rely;
 use crate::side::Side;
 use crate::split::{Halves, concat, end_out, ends_before, split};
+use rls_ident::rely;
 use std::alloc::Global;
 
 /// Takes this many characters out from a place on. It costs a step for each level and for each block that goes,

@@ -8,9 +8,8 @@ ghost use Rattle.rls_blocks.specs.Splits.{Splits};
 
 use crate::balance::join;
 use crate::node::{Link, Node, Single};
-use crate::rely;
 use crate::side::Side;
-use rls_ident::Ident;
+use rls_ident::{Ident, rely};
 
 /// A tree split at a place.
 #[derive(Drop)]

@@ -17,7 +17,7 @@ ghost use Rattle.rls_ops.specs.declared.op.Body.TheVariants as body;
 use crate::change::{Change, push_deletion, push_insertion};
 use rls_blocks::part_of_text;
 use rls_doc::Document;
-use rls_ident::{EpochName, Ident};
+use rls_ident::{EpochName, Ident, rely};
 use rls_ops::{Body, Op};
 use rls_replica::Replica;
 use rls_runs::{Run, Runs, Text};
@@ -47,7 +47,7 @@ fn may_apply(replica: &Replica, op: &Op) -> bool
     ensures kept { IsTrue result → IsTrue (keeps replica.now op.now.epoch) }
     ensures not { IsFalse result → MayApply replica.now op.now → ⊥ }
 {
-    replica.sane();
+    rely!(replica.sane());
     match op.check_shape(replica.members()) {
         Err(_) => false,
         Ok(()) => is_due(replica, op),
@@ -60,7 +60,7 @@ fn is_due(replica: &Replica, op: &Op) -> bool
     ensures kept { IsTrue result → IsTrue (keeps replica.now op.now.epoch) }
     ensures not { IsFalse result → MayApply replica.now op.now → ⊥ }
 {
-    replica.sane();
+    rely!(replica.sane());
     if op.seq <= replica.vector().get(op.author) {
         return false;
     }
@@ -178,7 +178,7 @@ fn put_next(
     ensures within { IfOk result (λ end. end ≤ length ids.now) }
     ensures so_far { IfOk result (λ end. changes.new.items ≡ with_changes [] (puts 0 (idents_over replica.now) (take end (zip ids.now text.now)))) }
 {
-    replica.sane();
+    rely!(replica.sane());
     let id = ids.get(at)?;
     let place = below(replica, &id);
     let end = end_of_gap(replica, ids, at, &id, place)?;
@@ -193,7 +193,7 @@ fn below(replica: &Replica, id: &Ident) -> u64
     ensures below { result ≡ below_count (idents_over replica.now) id.now }
     ensures within { result ≤ length (idents_over replica.now) }
 {
-    replica.sane();
+    rely!(replica.sane());
     match replica.find(id) {
         Ok(at) => at,
         Err(at) => at,
@@ -215,7 +215,7 @@ fn end_of_gap(
     ensures within { IfOk result (λ end. end ≤ length ids.now) }
     ensures same { IfOk result (λ end. AreAt place (idents_over replica.now) (take (end - at) (drop at ids.now))) }
 {
-    replica.sane();
+    rely!(replica.sane());
     let total = ids.total();
     if place == replica.total() {
         return Ok(total);
@@ -270,8 +270,8 @@ fn cut_next(
     ensures so_far { IfOk result (λ r. changes.new.items ≡ with_changes [] (cuts 0 (take r.0 targets.now) (idents_over replica.now))) }
     ensures gone { IfOk result (λ r. r.1 ≡ length (cuts 0 (take r.0 targets.now) (idents_over replica.now))) }
 {
-    replica.sane();
-    let _total = targets.total();
+    rely!(replica.sane());
+    rely!(let _total = targets.total());
     let id = targets.get(at)?;
     match replica.find(&id) {
         Ok(place) => {
@@ -334,7 +334,7 @@ fn end_of_missing(
     ensures within { IfOk result (λ end. end ≤ length targets.now) }
     ensures missing { IfOk result (λ end. AreMissing (take (end - at) (drop at targets.now)) (idents_over replica.now)) }
 {
-    replica.sane();
+    rely!(replica.sane());
     let total = targets.total();
     if place >= replica.total() {
         return Ok(total);

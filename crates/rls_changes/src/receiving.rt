@@ -14,6 +14,7 @@ ghost use Rattle.rls_changes.specs.ChangesLaws.{Lead};
 
 use crate::change::{Change, push_all};
 use crate::finding::changes_if;
+use rls_ident::rely;
 use rls_ops::Op;
 use rls_replica::{Receipt, Release, Replica};
 use std::alloc::{AllocError, Global};
@@ -37,8 +38,8 @@ pub fn receive(
     // Played one after another, what is added leads from the text before to the text now.
     ensures lead { Lead changes.old.items changes.new.items (text_over replica.old) (text_over replica.new) }
 {
-    replica.sane();
-    op.fits();
+    rely!(replica.sane());
+    rely!(op.fits());
     let before = changes.len();
     let fresh = changes_if(*changes.allocator(), replica, &op)?;
     push_all(changes, fresh)?;
@@ -83,7 +84,7 @@ pub fn release(
     // Played one after another, what is added leads from the text before to the text now.
     ensures lead { Lead changes.old.items changes.new.items (text_over replica.old) (text_over replica.new) }
 {
-    replica.sane();
+    rely!(replica.sane());
     let before = changes.len();
     let fresh = ready(*changes.allocator(), replica)?;
     push_all(changes, fresh)?;

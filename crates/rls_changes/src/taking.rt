@@ -21,6 +21,7 @@ ghost use Rattle.rls_changes.specs.ChangesLaws.{Lead};
 
 use crate::change::Change;
 use crate::receiving::{receive, release};
+use rls_ident::rely;
 use rls_ops::{Message, Op, Ops};
 use rls_replica::{Receipt, Release, Replica, TakeError, Taken};
 use std::alloc::AllocError;
@@ -65,7 +66,7 @@ fn release_one(
     ensures lead { Lead changes.old.items changes.new.items (text_over replica.old) (text_over replica.new) }
     ensures sane { IsSane replica.old }
 {
-    replica.sane();
+    rely!(replica.sane());
     match release(replica, changes)? {
         None => Ok(false),
         Some(release) => {
@@ -91,10 +92,10 @@ fn take_one(
     ensures err { OnErr result ((s : Seen) (os rest : List Op) → IsOnWay s os (course replica.old taken.old) (op ∷ rest) → IsPartOfOps s os replica.new) }
     ensures lead { Lead changes.old.items changes.new.items (text_over replica.old) (text_over replica.new) }
 {
-    replica.sane();
+    rely!(replica.sane());
     let (author, seq) = (op.author, op.seq);
     let receipt = receive(replica, op, changes)?;
-    replica.sane();
+    rely!(replica.sane());
     count_receipt(author, seq, receipt, taken)?;
     release_all(replica, taken, changes)?;
     Ok(())
@@ -151,8 +152,8 @@ pub fn take(
             members: message.members,
         });
     }
-    let _len = message.vector.len();
-    message.ops.fits();
+    rely!(let _len = message.vector.len());
+    rely!(message.ops.fits());
     let Message {
         from,
         vector,

@@ -10,7 +10,7 @@ ghost use Rattle.rls_runs.specs.Entries.{Entries, idents_in, chars_in, put_all, 
 ghost use Rattle.rls_doc.specs.Documents.{AreNew};
 
 use crate::document::{Document, RunMap};
-use rls_ident::Ident;
+use rls_ident::{Ident, rely};
 use rls_runs::{Run, RunList, Runs, Text};
 use std::alloc::{AllocError, Global};
 use std::cmp::Ordering;
@@ -51,7 +51,7 @@ impl Document for VecDocument {
     ghost entries = { λ d. d };
 
     fn rises(&self) {
-        let _entries = &self.entries;
+        rely!(let _entries = &self.entries);
     }
 
     fn total(&self) -> u64 {
@@ -163,7 +163,7 @@ fn ends_run(entries: &[(Ident, char)], i: usize) -> bool
 fn single(id: &Ident) -> Result<Run, AllocError>
     ensures single { IfOk result (λ run. run ≡ (id.now, 1)) }
 {
-    let _last = id.last();
+    rely!(let _last = id.last());
     match Run::new(id.copy()?, 1) {
         Ok(run) => Ok(run),
         Err(_) => unreachable!(),
@@ -260,7 +260,7 @@ fn image_of<F: RunMap>(alloc: Global, map: &F, id: &Ident) -> Result<Ident, Allo
     ensures image { IfOk result (λ image. image ≡ F.image map.now id.now) }
     ensures ident { IsTrue (is_ident id.now) }
 {
-    let _last = id.last();
+    rely!(let _last = id.last());
     let runs = map.map(alloc, &single(id)?)?;
     runs.get(0).first().copy()
 }

@@ -11,7 +11,7 @@ ghost use Rattle.rls_epoch.specs.Seen.{nodes_of};
 ghost use Rattle.rls_epoch.specs.Sorted.{place_name};
 
 use crate::nodes::Nodes;
-use rls_ident::EpochName;
+use rls_ident::{EpochName, rely};
 use std::cmp::Ordering;
 
 // The number of an epoch on the way, and the place of its child on the way, if it isn't the first one.
@@ -44,7 +44,7 @@ impl Nodes {
         requires second { b ≤ length self.now.placed }
         ensures order { result ≡ epoch_cmp (nodes_of self.now.placed) (epoch_at self.now.top self.now.placed a) (epoch_at self.now.top self.now.placed b) }
     {
-        let _count = self.count();
+        rely!(let _count = self.count());
         let (left, right) = self.climb_both(a, b);
         self.compare_sides(left.below, right.below)
     }
@@ -56,7 +56,7 @@ impl Nodes {
         requires second { parent ≤ length self.now.placed }
         ensures above { (node : Node) → node.parent ≡ epoch_at self.now.top self.now.placed parent → IsOpened (nodes_of self.now.placed) node (epoch_at self.now.top self.now.placed a) name → result ≡ is_lt (epoch_cmp (node ∷ nodes_of self.now.placed) (epoch_at self.now.top self.now.placed a) name) }
     {
-        let _count = self.count();
+        rely!(let _count = self.count());
         let (left, right) = self.climb_both(a, parent);
         self.is_before(left.below, self.name_below(right.below, name))
     }
@@ -95,7 +95,7 @@ impl Nodes {
         ensures left_within { IfSome result.0.below (λ k. k < length self.now.placed) }
         ensures right_within { IfSome result.1.below (λ k. k < length self.now.placed) }
     {
-        let _count = self.count();
+        rely!(let _count = self.count());
         let (mut left, mut right) = (Climb { at: a, below: None }, Climb { at: b, below: None });
         while left.at != right.at {
             if right.at < left.at {

@@ -17,7 +17,7 @@ use crate::mark::Mark;
 use crate::placed::Placed;
 use crate::retaining::Retained;
 use crate::tree::Tree;
-use rls_ident::{EpochName, Ident, Vector};
+use rls_ident::{EpochName, Ident, Vector, rely};
 use rls_rename::Renaming;
 use rls_runs::{Run, RunList, Runs};
 use std::alloc::{AllocError, Global};
@@ -181,7 +181,7 @@ impl Epochs {
         requires to { IsTrue (is_kept self.now.epochs.top self.now.epochs.nodes to) }
         ensures translated { IfOk result (λ x. x ≡ translate self.now.epochs.nodes from to id.now) }
     {
-        let _len = id.len();
+        rely!(let _len = id.len());
         let steps = self.tree.way_between(from, to)?;
         self.tree.nodes.ident_led(&steps, id)
     }
@@ -198,7 +198,7 @@ impl Epochs {
         requires to { IsTrue (is_kept self.now.epochs.top self.now.epochs.nodes to) }
         ensures translated { IfOk result (λ runs. IsImage (translate self.now.epochs.nodes from to) run.now runs) }
     {
-        let _len = run.len();
+        rely!(let _len = run.len());
         let steps = self.tree.way_between(from, to)?;
         self.tree.nodes.run_led(&steps, run)
     }
@@ -217,7 +217,7 @@ impl Epochs {
         requires to { IsTrue (is_kept self.now.epochs.top self.now.epochs.nodes to) }
         ensures renamed { IfOk result (λ runs. IsImage (λ x. forward renaming.now (translate self.now.epochs.nodes from to x)) run.now runs) }
     {
-        let _len = run.len();
+        rely!(let _len = run.len());
         let steps = self.tree.way_between(from, to)?;
         self.tree.nodes.run_led_by(&steps, renaming, run)
     }
@@ -235,7 +235,7 @@ impl Epochs {
         requires to { IsTrue (is_kept self.now.epochs.top self.now.epochs.nodes to) }
         ensures translated { IfOk result (λ xs. xs ≡ map (translate self.now.epochs.nodes from to) ids.now) }
     {
-        let _total = ids.total();
+        rely!(let _total = ids.total());
         if let Some(images) = self.tree.nodes.known_images(from, to, ids)? {
             return Ok(images);
         }
@@ -278,7 +278,7 @@ impl Epochs {
         ensures marks { (e : EpochName) → is_marked self.new.marks e ≡ (name_eq name e || is_marked self.old.marks e) }
     {
         let number = self.tree.number_of(name);
-        let _count = self.tree.nodes.count();
+        rely!(let _count = self.tree.nodes.count());
         self.marks[number] = Mark::plain();
     }
 
@@ -310,7 +310,7 @@ impl Epochs {
         ensures names { IfOk result (λ part. part.names.items ≡ spanned self.now.epochs.top self.now.epochs.nodes (greatest self.now.epochs.top self.now.epochs.nodes) (reached self.now.epochs stable.now ++ marked.now)) }
         ensures former { IfOk result (λ part. part.former ≡ sum_by (λ R. length R.former) (spanned_renamings self.now.epochs.nodes (greatest self.now.epochs.top self.now.epochs.nodes) (reached self.now.epochs stable.now ++ marked.now))) }
     {
-        let _total = self.former_total();
+        rely!(let _total = self.former_total());
         self.tree.retained_part(stable, marked)
     }
 

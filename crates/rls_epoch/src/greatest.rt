@@ -9,14 +9,14 @@ ghost use Rattle.rls_epoch.specs.Seen.{nodes_of};
 
 use crate::ranks::{first_of, last_counted};
 use crate::tree::Tree;
-use rls_ident::{EpochName, Vector};
+use rls_ident::{EpochName, Vector, rely};
 
 impl Tree {
     // The greatest epoch.
     pub(crate) fn greatest(&self) -> EpochName
         ensures greatest { result ≡ greatest self.now.nodes.top (nodes_of self.now.nodes.placed) }
     {
-        let _count = self.nodes.count();
+        rely!(let _count = self.nodes.count());
         match self.order.split_last() {
             None => self.nodes.epoch_of(0),
             Some((place, _)) => self.nodes.name_of(*place),
@@ -30,7 +30,7 @@ impl Tree {
         requires members { (e : EpochName) → IsTrue (is_kept self.now.nodes.top (nodes_of self.now.nodes.placed) e) → IsTrue (is_of_member (length v.now) e) }
         ensures greatest { result ≡ greatest_within self.now.nodes.top (nodes_of self.now.nodes.placed) v.now }
     {
-        let _count = (self.nodes.count(), self.order.len());
+        rely!(let _count = (self.nodes.count(), self.order.len()));
         let (mut rest, mut rank) = (self.by_name.len(), 0);
         while rest > 0 {
             let last = self.name_by_name(rest - 1);

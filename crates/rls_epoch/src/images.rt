@@ -8,6 +8,7 @@ ghost use Rattle.rls_epoch.specs.Ways.{AreWithin, place_of_step, step_map, led};
 use crate::nodes::Nodes;
 use crate::parts::Part;
 use crate::ways::Step;
+use rls_ident::rely;
 use rls_rename::Renaming;
 use rls_runs::{Run, RunList, Runs};
 use std::alloc::{AllocError, Global};
@@ -18,7 +19,7 @@ impl Nodes {
         requires within { AreWithin (length self.now.placed) steps.now }
         ensures led { IfOk result (λ runs. IsImage (led self.now.placed steps.now) run.now runs) }
     {
-        let _len = run.len();
+        rely!(let _len = run.len());
         match steps {
             [] => listed(self.allocator(), run),
             [step] => self.run_moved(*step, run),
@@ -62,7 +63,7 @@ impl Nodes {
         self.push_parts(steps, 0, ids.as_slice(), &mut parts)?;
         let mut at_end = Runs::new(self.allocator());
         while let Some(Part { ids, done }) = parts.pop() {
-            let _total = ids.total();
+            rely!(let _total = ids.total());
             if done < steps.len() {
                 self.push_parts(steps, done, ids.as_slice(), &mut parts)?;
             } else {
@@ -79,7 +80,7 @@ impl Nodes {
         requires total { length (idents_of runs.now) < 2 ^ 64 }
         ensures moved { IfOk result (λ xs. xs ≡ map (step_map self.now.placed step) (idents_of runs.now)) }
     {
-        let _count = self.count();
+        rely!(let _count = self.count());
         let mut moved = Runs::new(self.allocator());
         for run in runs {
             append_all(&mut moved, self.run_moved(step, run)?.as_slice())?;
@@ -133,7 +134,7 @@ fn append_all(ids: &mut Runs, more: &[Run]) -> Result<(), AllocError>
     ensures ok { OnOk result (ids.new ≡ ids.old ++ idents_of more.now) }
 {
     for run in more {
-        let _len = run.len();
+        rely!(let _len = run.len());
         ids.append(run.copy()?)?;
     }
     Ok(())
@@ -153,7 +154,7 @@ fn alone(alloc: Global, run: &Run) -> Result<Runs, AllocError>
     ensures alone { IfOk result (λ ids. ids ≡ run_idents run.now.0 run.now.1) }
 {
     let mut ids = Runs::new(alloc);
-    let _len = run.len();
+    rely!(let _len = run.len());
     ids.append(run.copy()?)?;
     Ok(ids)
 }
@@ -163,7 +164,7 @@ fn maximal(alloc: Global, ids: &Runs) -> Result<RunList, AllocError>
     ensures maximal { IfOk result (λ runs. runs ≡ runs_of ids.now) }
     ensures increasing { IsTrue (is_increasing ids.now) }
 {
-    let _total = ids.total();
+    rely!(let _total = ids.total());
     let mut list = RunList::new(alloc);
     for run in ids.as_slice() {
         list.push(run.copy()?)?;

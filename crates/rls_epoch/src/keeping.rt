@@ -15,7 +15,7 @@ use crate::mark::{Mark, mark_of};
 use crate::nodes::Nodes;
 use crate::placed::Placed;
 use crate::tree::Tree;
-use rls_ident::{EpochName, Vector};
+use rls_ident::{EpochName, Vector, rely};
 use std::alloc::AllocError;
 
 // Gives the marked epochs their new places. The first of them comes to be the topmost one.
@@ -40,7 +40,7 @@ impl Tree {
         ensures within { result ≤ length self.now.nodes.placed }
         ensures needed { (es : List EpochName) → AreNamed self.now.nodes.top self.now.nodes.placed marks.old es → AreNumbered self.now.nodes.top self.now.nodes.placed marks.new result (greatest self.now.nodes.top (nodes_of self.now.nodes.placed)) (reached (record { top = self.now.nodes.top; nodes = nodes_of self.now.nodes.placed }) v.now ++ es) }
     {
-        let _count = self.nodes.count();
+        rely!(let _count = self.nodes.count());
         self.mark_reached(marks, v);
         let number = self.nodes.spread(marks);
         number_marks(marks);
@@ -56,7 +56,7 @@ impl Tree {
         requires whole { length marks.now ≡ suc (length self.now.nodes.placed) }
         ensures names { IfOk result (λ names. names.items ≡ first ∷ kept_names self.now.nodes.placed marks.now self.now.order.items) }
     {
-        let _count = self.nodes.count();
+        rely!(let _count = self.nodes.count());
         let mut names = Vec::new(self.nodes.allocator());
         names.push(first)?;
         for place in &self.order {
@@ -94,7 +94,7 @@ pub(crate) fn keep_places(places: &mut Vec<usize>, marks: &[Mark])
     requires within { (k : ℕ) → IsIn k places.old.items → suc k < length marks.now }
     ensures kept { places.new.items ≡ kept_places marks.now places.old.items }
 {
-    let _count = marks.len();
+    rely!(let _count = marks.len());
     let mut count = 0;
     for i in 0..places.len() {
         let Some(place) = mark_of(marks, places[i] + 1).new_place() else {

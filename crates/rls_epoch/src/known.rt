@@ -11,7 +11,7 @@ ghost use Rattle.rls_epoch.specs.Seen.{nodes_of};
 
 use crate::climb::compare_names;
 use crate::placed::Placed;
-use rls_ident::{EpochName, Ident};
+use rls_ident::{EpochName, Ident, rely};
 use rls_runs::{Run, Runs};
 use std::alloc::{AllocError, Global};
 use std::cmp::Ordering;
@@ -196,10 +196,10 @@ impl KnownImages {
         requires known { AreKnown (nodes_of nodes.now) self.now }
         ensures images { IfOk result (λ images. IfSome images (λ xs. xs ≡ map (translate (nodes_of nodes.now) from to) ids.now)) }
     {
-        let _total = ids.total();
+        rely!(let _total = ids.total());
         let mut images = Runs::new(*self.known.allocator());
         for run in ids.as_slice() {
-            let _len = run.len();
+            rely!(let _len = run.len());
             if !self.append_image(nodes, from, to, run, &mut images)? {
                 return Ok(None);
             }

@@ -11,7 +11,7 @@ use crate::known::Known;
 use crate::nodes::Nodes;
 use crate::ways::Step;
 use rls_ident::limits::LEAST_OFFSET;
-use rls_ident::{EpochName, Ident};
+use rls_ident::{EpochName, Ident, rely};
 use rls_runs::{Run, Runs};
 use std::alloc::AllocError;
 
@@ -81,7 +81,7 @@ impl Nodes {
         let Some(run) = beside.run(id)? else {
             return Ok(None);
         };
-        let _len = run.len();
+        rely!(let _len = run.len());
         let images = self.run_led(steps, &run)?;
         let [image] = images.as_slice() else {
             return Ok(None);

@@ -9,6 +9,7 @@ ghost use Rattle.rls_epoch.specs.Sorted.{names_at};
 use crate::nodes::Nodes;
 use crate::placed::Placed;
 use crate::tree::Tree;
+use rls_ident::rely;
 
 impl Tree {
     // The number of the epoch at a place of the order.
@@ -18,7 +19,7 @@ impl Tree {
         ensures within { result ≤ length self.now.nodes.placed }
         ensures first { (result ≡ 0 → i ≡ 0) × (0 < result → 0 < i) }
     {
-        let _count = self.nodes.count();
+        rely!(let _count = self.nodes.count());
         if i == 0 {
             return 0;
         }
@@ -30,7 +31,7 @@ impl Tree {
         requires within { number ≤ length self.now.nodes.placed }
         ensures place { slice_get (self.now.nodes.top ∷ names_at self.now.nodes.placed self.now.order.items) result ≡ Some (epoch_at self.now.nodes.top self.now.nodes.placed number) }
     {
-        let _count = self.order.len();
+        rely!(let _count = self.order.len());
         if number == 0 {
             return 0;
         }
@@ -44,7 +45,7 @@ impl Tree {
         ensures none { IfNone result (number ≡ 0) }
         ensures some { IfSome result (λ p. 0 < number) }
     {
-        let _count = self.nodes.count();
+        rely!(let _count = self.nodes.count());
         if number == 0 {
             return None;
         }
@@ -60,7 +61,7 @@ impl Nodes {
         ensures none { IfNone result (number ≡ 0) }
         ensures some { IfSome result (λ p. 0 < number) }
     {
-        let _count = self.count();
+        rely!(let _count = self.count());
         if number == 0 {
             return None;
         }

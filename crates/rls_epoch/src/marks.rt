@@ -11,7 +11,7 @@ ghost use Rattle.rls_rename.specs.Tree.{greatest_within, is_kept};
 use crate::mark::{Mark, mark_epoch, mark_of};
 use crate::nodes::Nodes;
 use crate::tree::Tree;
-use rls_ident::{EpochName, Vector};
+use rls_ident::{EpochName, Vector, rely};
 
 impl Tree {
     // Marks each epoch that is at least the greatest one within the vector.
@@ -20,7 +20,7 @@ impl Tree {
         requires whole { length marks.old ≡ suc (length self.now.nodes.placed) }
         ensures reached { AreReached self.now.nodes.top self.now.nodes.placed marks.old marks.new (greatest_within self.now.nodes.top (nodes_of self.now.nodes.placed) v.now) }
     {
-        let _count = self.nodes.count();
+        rely!(let _count = self.nodes.count());
         let mut rest = self.order.as_slice();
         while let Some((place, lesser)) = rest.split_last() {
             let name = self.nodes.name_of(*place);

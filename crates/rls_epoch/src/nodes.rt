@@ -9,7 +9,7 @@ ghost use Rattle.rls_epoch.specs.Sorted.{names_at, place_name, IsCut};
 
 use crate::known::KnownImages;
 use crate::placed::Placed;
-use rls_ident::EpochName;
+use rls_ident::{EpochName, rely};
 use std::alloc::{AllocError, Global};
 use std::cmp::Ordering;
 use std::marker::Model;
@@ -68,7 +68,7 @@ impl Nodes {
         ensures top { self.new.top ≡ self.old.top }
         ensures placed { self.new.placed ≡ self.old.placed ++ node ∷ [] }
     {
-        let _total = node.renaming.total();
+        rely!(let _total = node.renaming.total());
         self.list.push(node).unwrap();
         self.known.clear();
     }
@@ -129,7 +129,7 @@ impl Nodes {
         requires number { number ≤ length self.now.placed }
         ensures cut { IsCut (epoch_cmp (nodes_of self.now.placed)) (names_at self.now.placed places.now) (epoch_at self.now.top self.now.placed number) result }
     {
-        let _count = self.count();
+        rely!(let _count = self.count());
         let (mut low, mut high) = (0, places.len());
         while low < high {
             let middle = low + (high - low) / 2;

@@ -9,6 +9,7 @@ ghost use Rattle.rls_epoch.specs.Ways.{AreWithin, place_of_step, led};
 use crate::heads::most_copied;
 use crate::nodes::Nodes;
 use crate::ways::Step;
+use rls_ident::rely;
 use rls_runs::{Run, Runs};
 use std::alloc::AllocError;
 
@@ -66,7 +67,7 @@ impl Nodes {
         ensures led { IfOk result (λ r. map (led self.now.placed (drop r.2 steps.now)) r.1 ≡ map (led self.now.placed steps.now) (idents_of (drop r.0 runs.now))) }
     {
         let end = runs.len() - 1;
-        let _len = runs[end].len();
+        rely!(let _len = runs[end].len());
         if let Some((ids, count)) = self.run_ahead(steps, &runs[end], most_copied(runs.len()))? {
             return Ok((end, ids, count));
         }

@@ -12,7 +12,7 @@ ghost use Rattle.rls_epoch.specs.Seen.{former_sum, nodes_of};
 
 use crate::mark::Mark;
 use crate::tree::Tree;
-use rls_ident::{EpochName, Vector};
+use rls_ident::{EpochName, Vector, rely};
 use std::alloc::AllocError;
 
 /// The smallest connected part of a tree that holds what is needed.
@@ -38,7 +38,7 @@ impl Tree {
         ensures names { IfOk result (λ part. part.names.items ≡ spanned self.now.nodes.top (nodes_of self.now.nodes.placed) (greatest self.now.nodes.top (nodes_of self.now.nodes.placed)) (reached (record { top = self.now.nodes.top; nodes = nodes_of self.now.nodes.placed }) stable.now ++ marked.now)) }
         ensures former { IfOk result (λ part. part.former ≡ sum_by (λ R. length R.former) (spanned_renamings (nodes_of self.now.nodes.placed) (greatest self.now.nodes.top (nodes_of self.now.nodes.placed)) (reached (record { top = self.now.nodes.top; nodes = nodes_of self.now.nodes.placed }) stable.now ++ marked.now))) }
     {
-        let _count = self.nodes.count();
+        rely!(let _count = self.nodes.count());
         let mut marks = self.marks_for(marked)?;
         let number = self.number_needed(marks.as_mut_slice(), stable);
         let first = self.nodes.epoch_of(number);

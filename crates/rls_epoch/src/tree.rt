@@ -15,7 +15,7 @@ use crate::keeping::keep_places;
 use crate::mark::Mark;
 use crate::nodes::Nodes;
 use crate::placed::Placed;
-use rls_ident::EpochName;
+use rls_ident::{EpochName, rely};
 use std::alloc::{AllocError, Global};
 use std::cmp::Ordering;
 
@@ -95,7 +95,7 @@ impl Tree {
         ensures top { self.new.nodes.top ≡ epoch_at self.old.nodes.top self.old.nodes.placed number }
         ensures placed { self.new.nodes.placed ≡ kept_placed marks.now (drop 1 marks.now) self.old.nodes.placed }
     {
-        let _count = self.nodes.count();
+        rely!(let _count = self.nodes.count());
         self.nodes.keep(number, marks);
         keep_places(&mut self.by_name, marks);
         keep_places(&mut self.order, marks);
@@ -148,7 +148,7 @@ impl Tree {
         ensures within { IfSome result (λ n. n ≤ length self.now.nodes.placed) }
         ensures none { IfNone result (is_kept self.now.nodes.top (nodes_of self.now.nodes.placed) name ≡ false) }
     {
-        let _count = self.nodes.count();
+        rely!(let _count = self.nodes.count());
         let top = self.nodes.epoch_of(0);
         if name.same(&top) {
             return Some(0);

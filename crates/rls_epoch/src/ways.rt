@@ -7,7 +7,7 @@ ghost use Rattle.rls_epoch.specs.Ways.{Leads, IsWay, AreWithin, place_of_step, s
 
 use crate::nodes::Nodes;
 use crate::tree::Tree;
-use rls_ident::{EpochName, Ident};
+use rls_ident::{EpochName, Ident, rely};
 use std::alloc::AllocError;
 
 // A step over the node at a place.
@@ -30,7 +30,7 @@ impl Tree {
         requires to { IsTrue (is_kept self.now.nodes.top (nodes_of self.now.nodes.placed) to) }
         ensures way { IfOk result (λ steps. IsWay self.now.nodes.placed steps.items from to) }
     {
-        let _count = self.nodes.count();
+        rely!(let _count = self.nodes.count());
         let left = self.number_of(from);
         let right = self.number_of(to);
         self.nodes.way(left, right)
@@ -44,7 +44,7 @@ impl Nodes {
         requires to { to ≤ length self.now.placed }
         ensures way { IfOk result (λ steps. Leads self.now.placed from steps.items to) }
     {
-        let _count = self.count();
+        rely!(let _count = self.count());
         let (mut up, mut down) = (Vec::new(self.allocator()), Vec::new(self.allocator()));
         let (mut left, mut right) = (from, to);
         while left != right {

@@ -12,6 +12,7 @@ ghost use Rattle.rls_fields.specs.Written.{FitsChars};
 
 use crate::sizes::text_run_len;
 use rls_codec::{put_run, put_text, put_u32};
+use rls_ident::rely;
 use rls_runs::{Run, Text};
 use rls_tree::{BlockTree, Node};
 use std::alloc::AllocError;
@@ -48,7 +49,7 @@ fn put_blocks(out: &mut Vec<u8>, node: &Node) -> Result<(), AllocError>
 fn block_count(node: &Node) -> u64
     ensures count { result ≡ min (length node.now.blocks) (2 ^ 64 - 1) }
 {
-    let _run = node.run();
+    rely!(let _run = node.run());
     let left = match node.left() {
         None => 0,
         Some(left) => block_count(left),

@@ -4,6 +4,7 @@ ghost use Rattle.std.specs.Prelude.{◌≡◌, ◌<◌, ◌-◌, ◌^◌, IfOk, 
 ghost use Rattle.std.specs.List.{All};
 ghost use Rattle.rls_ident.specs.Vectors.{at_most, join, meet, raise};
 
+use crate::rely;
 use std::alloc::{AllocError, Global};
 use std::marker::Model;
 
@@ -118,7 +119,7 @@ fn in_width(counts: &[u32]) -> &[u32]
     ensures same { result.now ≡ counts.now }
     ensures bounded { All (λ n. n < 2 ^ 32) counts.now }
 {
-    let _len = counts.len();
+    rely!(let _len = counts.len());
     counts
 }
 

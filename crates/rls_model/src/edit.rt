@@ -2,6 +2,7 @@
 
 ghost use Rattle.rls_model.specs.WellFormed.{IsEdit};
 
+use rls_ident::rely;
 use rls_runs::Text;
 
 /// What a member may do to its text, or with itself. Places and counts are in characters.
@@ -24,12 +25,12 @@ impl Edit {
     {
         match self {
             Edit::Insert { at, text } => {
-                let _at = *at;
-                let _len = text.len();
+                rely!(let _at = *at);
+                rely!(let _len = text.len());
             }
             Edit::Delete { at, count } => {
-                let _at = *at;
-                let _count = *count;
+                rely!(let _at = *at);
+                rely!(let _count = *count);
             }
             Edit::Rename | Edit::Leave => {}
         }

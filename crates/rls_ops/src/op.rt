@@ -5,7 +5,7 @@ ghost use Rattle.rls_ops.specs.declared.op.Body.TheVariants.{Insert};
 ghost use Rattle.rls_ops.specs.Waiting.{comes_before};
 ghost use Rattle.rls_ops.specs.WellFormed.{IsOp, AreOps, IsBody, IsName, IsInRange};
 
-use rls_ident::{EpochName, Ident, Vector};
+use rls_ident::{EpochName, Ident, Vector, rely};
 use rls_runs::{Runs, Text};
 use std::alloc::{AllocError, Global};
 use std::marker::Model;
@@ -83,7 +83,7 @@ impl Ops {
         ensures ok { OnOk result (self.new ≡ self.old ++ op ∷ []) }
         ensures err { OnErr result (self.new ≡ self.old) }
     {
-        op.fits();
+        rely!(op.fits());
         self.ops.push(op)?;
         Ok(())
     }
@@ -129,7 +129,7 @@ impl Ops {
     pub fn fits(&self)
         ensures whole { AreOps self.now }
     {
-        let _len = self.ops.len();
+        rely!(let _len = self.ops.len());
     }
 }
 
@@ -139,11 +139,11 @@ impl Op {
         ensures whole { IsOp self.now }
         ensures range { IsInRange self.now.body }
     {
-        let _author = self.author;
-        let _seq = self.seq;
-        let _len = self.context.len();
+        rely!(let _author = self.author);
+        rely!(let _seq = self.seq);
+        rely!(let _len = self.context.len());
         name_fits(&self.epoch);
-        self.body.fits();
+        rely!(self.body.fits());
     }
 
     /// Whether it comes before another: by author, and then by number.
@@ -189,14 +189,14 @@ impl Body {
     {
         match self {
             Body::Insert { first, text } => {
-                let _last = first.last();
-                let _len = text.len();
+                rely!(let _last = first.last());
+                rely!(let _len = text.len());
             }
             Body::Delete { targets } => {
-                let _total = targets.total();
+                rely!(let _total = targets.total());
             }
             Body::Rename { former } => {
-                let _total = former.total();
+                rely!(let _total = former.total());
             }
             Body::Leave => {}
         }
@@ -232,8 +232,8 @@ fn name_fits(name: &EpochName)
     ensures whole { IsName name.now }
 {
     if let EpochName::Of { replica, seq } = name {
-        let _replica = *replica;
-        let _seq = *seq;
+        rely!(let _replica = *replica);
+        rely!(let _seq = *seq);
     }
 }
 

@@ -11,7 +11,7 @@ ghost use Rattle.rls_rename.specs.Stretches.{GoesAlong};
 ghost use Rattle.rls_rename.specs.Renaming.{old_below, old_between, old_above, old_below_inverse, old_between_inverse, old_above_inverse};
 
 use crate::stretch::Stretch;
-use rls_ident::{Ident, Spot, Tuple};
+use rls_ident::{Ident, Spot, Tuple, rely};
 use std::alloc::{AllocError, Global};
 
 // An identifier's tuples and `Low`.
@@ -142,7 +142,7 @@ pub(crate) fn old_below_inverse(alloc: Global, a: &Ident, x: Stretch) -> Result<
     requires less { ident_cmp x.first a.now ≡ Less }
     ensures old { IfOk result (λ y. GoesAlong (old_below_inverse a.now) x.first x.len y.first y.len) }
 {
-    let _lens = (a.len(), x.first.len());
+    rely!(let _lens = (a.len(), x.first.len()));
     high_inverse(&below_pattern(alloc, a)?, x)
 }
 
@@ -151,7 +151,7 @@ pub(crate) fn old_above_inverse(alloc: Global, a: &Ident, x: Stretch) -> Result<
     requires less { ident_cmp a.now x.first ≡ Less }
     ensures old { IfOk result (λ y. GoesAlong (old_above_inverse a.now) x.first x.len y.first y.len) }
 {
-    let _len = x.first.len();
+    rely!(let _len = x.first.len());
     low_inverse(&above_pattern(alloc, a)?, x)
 }
 
@@ -167,7 +167,7 @@ pub(crate) fn old_between_inverse(
     requires below { ident_cmp x.first b ≡ Less }
     ensures old { IfOk result (λ y. GoesAlong (old_between_inverse a.now b) x.first x.len y.first y.len) }
 {
-    let _lens = (b.len(), x.first.len());
+    rely!(let _lens = (b.len(), x.first.len()));
     let inner = inner_end(alloc, a, b)?;
     old_below_inverse(alloc, &inner, old_above_inverse(alloc, a, x)?)
 }

@@ -14,7 +14,7 @@ use crate::new_maps::{
     new_between_inverse,
 };
 use crate::stretch::Stretch;
-use rls_ident::{Ident, Spot};
+use rls_ident::{Ident, Spot, rely};
 use rls_runs::{Run, Runs};
 use std::alloc::{AllocError, Global};
 
@@ -126,7 +126,7 @@ fn forward_between(
     requires within { gap < length former.now }
     ensures forward { IfOk result (λ z. GoesAlong (forward_by first former.now) run.now.0 run.now.1 z.first z.len) }
 {
-    let _len = run.len();
+    rely!(let _len = run.len());
     let a = former.get(gap - 1)?;
     let b = former.get(gap)?;
     let x = Stretch::below(run, &b)?;
@@ -251,7 +251,7 @@ fn back_between(
     requires within { gap < length former.now }
     ensures back { IfOk result (λ x. GoesAlong (back_by first former.now) run.now.0 run.now.1 x.first x.len) }
 {
-    let _len = run.len();
+    rely!(let _len = run.len());
     let a = former.get(gap - 1)?;
     let z = Stretch::below(run, &new_at(alloc, first, gap))?;
     let y = new_between_inverse(first, gap - 1, z)?;

@@ -5,6 +5,7 @@ ghost use Rattle.rls_runs.specs.Runs.{run_idents, idents_of, are_apart};
 ghost use Rattle.rls_runs.specs.Places.{last_ident, is_above};
 
 use crate::stretch::Stretch;
+use rls_ident::rely;
 use rls_runs::RunList;
 use std::alloc::{AllocError, Global};
 use std::marker::Model;
@@ -45,7 +46,7 @@ impl Image {
         ensures image { IfOk result (λ image. idents_of image ≡ idents_of self ++ run_idents next.first next.len) }
     {
         let Image { mut runs, last } = self;
-        let _last = last.first.last();
+        rely!(let _last = last.first.last());
         if last.touches(&next) {
             return Ok(Image {
                 runs,

@@ -10,7 +10,7 @@ ghost use Rattle.rls_rename.specs.Renaming.{new_at, new_below, new_between, new_
 
 use crate::gap_maps::{high, high_inverse, low, low_inverse};
 use crate::stretch::Stretch;
-use rls_ident::{Ident, Spot, Tuple};
+use rls_ident::{Ident, Spot, Tuple, rely};
 use std::alloc::{AllocError, Global};
 
 // The new identifier at a place, by the tuple of the first one.
@@ -82,7 +82,7 @@ pub(crate) fn new_below_inverse(first: Spot, z: Stretch) -> Result<Stretch, Allo
     requires less { ident_cmp z.first (new_at first 0) ≡ Less }
     ensures new { IfOk result (λ y. GoesAlong (new_below_inverse first) z.first z.len y.first y.len) }
 {
-    let _len = z.first.len();
+    rely!(let _len = z.first.len());
     high_inverse(&[tuple_before(first)], z)
 }
 
@@ -94,7 +94,7 @@ pub(crate) fn new_between_inverse(first: Spot, i: u64, z: Stretch) -> Result<Str
     requires below { ident_cmp z.first (new_at first (i + 1)) ≡ Less }
     ensures new { IfOk result (λ y. GoesAlong new_between_inverse z.first z.len y.first y.len) }
 {
-    let _len = z.first.len();
+    rely!(let _len = z.first.len());
     z.stripped(1)
 }
 
@@ -104,6 +104,6 @@ pub(crate) fn new_above_inverse(first: Spot, i: u64, z: Stretch) -> Result<Stret
     requires less { ident_cmp (new_at first i) z.first ≡ Less }
     ensures new { IfOk result (λ y. GoesAlong (new_above_inverse first i) z.first z.len y.first y.len) }
 {
-    let _len = z.first.len();
+    rely!(let _len = z.first.len());
     low_inverse(&[tuple_at(first, i)], z)
 }

@@ -9,7 +9,7 @@ ghost use Rattle.rls_ident.specs.Identifiers.{ident_cmp, ident_eq, last_of, shif
 ghost use Rattle.rls_runs.specs.Runs.{past_offsets};
 ghost use Rattle.rls_rename.specs.Stretches.{GoesAlong, CutAt, OnOneSide};
 
-use rls_ident::{Ident, Tuple};
+use rls_ident::{Ident, Tuple, rely};
 use rls_runs::Run;
 use std::alloc::AllocError;
 
@@ -28,7 +28,7 @@ impl Stretch {
         ensures first { result.first ≡ first }
         ensures len { result.len ≡ 1 }
     {
-        let _last = first.last();
+        rely!(let _last = first.last());
         Stretch { first, len: 1 }
     }
 
@@ -89,7 +89,7 @@ impl Stretch {
         ensures first { result.first ≡ self.first }
         ensures len { result.len ≡ self.len + by }
     {
-        let _last = self.first.last();
+        rely!(let _last = self.first.last());
         Stretch {
             first: self.first,
             len: self.len + by,
@@ -120,7 +120,7 @@ impl Stretch {
         ensures within { IfOk result (λ last. last < self.now.len) }
         ensures side { IfOk result (λ last. (k : ℕ) → k ≤ last → under tuple_cmp (shifted (pos k) self.now.first) pattern.now ≡ is_under) }
     {
-        let _len = self.first.len();
+        rely!(let _len = self.first.len());
         let (mut low, mut high) = (0, self.len);
         let mut middle = self.len - 1;
         while low + 1 < high {
@@ -139,7 +139,7 @@ impl Stretch {
         requires bounded { All (λ t. IsTrue (is_inner_bounded t)) front.now }
         ensures prefixed { IfOk result (λ x. GoesAlong (λ y. front.now ++ y) self.now.first self.now.len x.first x.len) }
     {
-        let _len = self.first.len();
+        rely!(let _len = self.first.len());
         Ok(Stretch {
             first: self.first.prefixed(front)?,
             len: self.len,
@@ -183,7 +183,7 @@ fn less_count(run: &Run, limit: &Ident) -> u32
     requires less { ident_cmp run.now.0 limit.now ≡ Less }
     ensures cut { CutAt run.now.0 run.now.1 limit.now result }
 {
-    let _len = run.len();
+    rely!(let _len = run.len());
     match run.find(limit) {
         Ok(place) => place,
         Err(below) => below,

@@ -20,7 +20,7 @@ use crate::renaming_text::RenamingText;
 use crate::replica::Replica;
 use rls_doc::Document;
 use rls_epoch::Epochs;
-use rls_ident::{EpochName, Ident};
+use rls_ident::{EpochName, Ident, rely};
 use rls_ops::{Body, Op};
 use rls_rename::{Renaming, RenamingError};
 use rls_runs::{Run, RunList, Runs, Text};
@@ -37,7 +37,7 @@ impl Replica {
         ensures ok { OnOk result (self.new ≡ accepted self.old op) }
         ensures err { OnErr result (self.new ≡ self.old) }
     {
-        op.fits();
+        rely!(op.fits());
         let renaming = prepare(
             self.alloc,
             &mut self.document,
@@ -182,7 +182,7 @@ fn images_of(
     requires kept { IsTrue (is_kept epochs.now.epochs.top epochs.now.epochs.nodes epoch) }
     ensures images { IfOk result (λ runs. IsImage (translate epochs.now.epochs.nodes epoch (greatest epochs.now.epochs.top epochs.now.epochs.nodes)) run runs) }
 {
-    let _len = run.len();
+    rely!(let _len = run.len());
     let greatest = epochs.greatest();
     if !epoch.same(&greatest) {
         return epochs.translate_run(epoch, greatest, &run);

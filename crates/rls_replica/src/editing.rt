@@ -18,8 +18,8 @@ ghost use Rattle.rls_replica.specs.Editing.{early_fault, edited_text, IsLeaveFau
 
 use crate::replica::Replica;
 use rls_doc::Document;
-use rls_ident::Ident;
 use rls_ident::limits::{CHARACTERS, GREATEST_NUMBER, IDENTIFIERS, OPERATION_BYTES};
+use rls_ident::{Ident, rely};
 use rls_model::{Edit, EditError};
 use rls_ops::{Body, Op};
 use std::alloc::AllocError;
@@ -79,7 +79,7 @@ impl Replica {
         ensures accepted { OnOk result ((t : State) → StandsFor self.now t → edit_fault t.history edit.now ≡ None) }
         ensures stands { IfOk result (λ o. (t : State) → StandsFor self.now t → o ≡ made t.history edit.now) }
     {
-        self.sane();
+        rely!(self.sane());
         let op = self.made_exactly(edit)?;
         Ok(op)
     }
@@ -94,8 +94,8 @@ impl Replica {
         ensures sane { IsSane self.old }
         ensures whole { IsEdit edit.now }
     {
-        self.sane();
-        edit.fits();
+        rely!(self.sane());
+        rely!(edit.fits());
         let op = self.made_exactly(edit)?;
         let seq = op.seq;
         match self.apply(op, place_of(edit)) {

@@ -15,7 +15,7 @@ ghost use Rattle.rls_replica.specs.Lookups.{is_named_by, is_named_over};
 use crate::hints::{Hint, Hints};
 use crate::replica::Replica;
 use crate::uniting::common;
-use rls_ident::{EpochName, Ident};
+use rls_ident::{EpochName, Ident, rely};
 use rls_ops::{Body, Op};
 use rls_runs::{Run, Runs};
 use std::alloc::{AllocError, Global};
@@ -135,7 +135,7 @@ impl Replica {
         let Body::Delete { targets } = &op.body else {
             return Ok(None);
         };
-        let _total = targets.total();
+        rely!(let _total = targets.total());
         let ids = self.epochs.translate_runs(op.epoch, to, targets)?;
         Ok(Some(ids))
     }
@@ -274,7 +274,7 @@ fn part_of(alloc: Global, ids: &Runs, at: u64, count: u32) -> Result<Runs, Alloc
 fn alone(alloc: Global, run: Run) -> Result<Runs, AllocError>
     ensures runs { IfOk result (λ runs. runs ≡ run_idents run.0 run.1) }
 {
-    let _len = run.len();
+    rely!(let _len = run.len());
     let mut runs = Runs::new(alloc);
     runs.append(run)?;
     Ok(runs)

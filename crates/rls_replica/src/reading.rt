@@ -15,7 +15,7 @@ ghost use Rattle.rls_seen.specs.Stands.{IsLog, StandsFor};
 use crate::replica::Replica;
 use rls_causal::Held;
 use rls_doc::Document;
-use rls_ident::{EpochName, Ident, Vector};
+use rls_ident::{EpochName, Ident, Vector, rely};
 use rls_runs::{Runs, Text};
 use rls_stable::Log;
 use rls_tree::BlockTree;
@@ -136,7 +136,7 @@ impl Replica {
         // For every history and waiting operations that the replica stands for.
         ensures stands { IfOk result (λ cs. (t : State) → StandsFor self.now t → cs ≡ take count (drop from (text t.history))) }
     {
-        let _total = self.document.total();
+        rely!(let _total = self.document.total());
         let mut text = Text::new(self.alloc);
         'places: for i in from..from + count {
             text.push(self.document.char_at(i))?;

@@ -12,6 +12,7 @@ ghost use Rattle.rls_replica.specs.Names.{KeepsNames};
 ghost use Rattle.rls_replica.specs.Releases.{release_in};
 
 use crate::replica::Replica;
+use rls_ident::rely;
 use rls_model::{Receipt, Release};
 use rls_ops::Op;
 use std::alloc::AllocError;
@@ -58,7 +59,7 @@ impl Replica {
         ensures err { OnErr result (self.new ≡ self.old) }
         ensures whole { IsOp op }
     {
-        op.fits();
+        rely!(op.fits());
         self.note_gone();
         match self.look(&op, own)? {
             Receipt::Applied => {
@@ -81,7 +82,7 @@ impl Replica {
         ensures ok { OnOk result (self.new ≡ holding self.old (with_waiting op (without op.author op.seq self.old.waiting))) }
         ensures err { OnErr result (self.new ≡ self.old) }
     {
-        op.fits();
+        rely!(op.fits());
         let _put = self.held.put(op)?;
         Ok(())
     }

@@ -19,7 +19,7 @@ use crate::hints::Hints;
 use rls_causal::Held;
 use rls_epoch::Epochs;
 use rls_ident::limits::MEMBERS;
-use rls_ident::{EpochName, Vector};
+use rls_ident::{EpochName, Vector, rely};
 use rls_stable::{Acks, Log};
 use rls_stems::StemTable;
 use rls_tree::BlockTree;
@@ -150,7 +150,7 @@ impl Replica {
     pub fn sane(&self)
         ensures sane { IsSane self.now }
     {
-        let _group = &self.group;
+        rely!(let _group = &self.group);
     }
 
     /// Notes that a member has accepted this much, if that counts, and answers whether it does: it is another member's, says
@@ -166,7 +166,7 @@ impl Replica {
         // For every history and waiting operations that the replica stands for.
         ensures stands { (t : State) → StandsFor self.old t → (result ≡ is_counted t.history from vector.now) × StandsFor self.new (acknowledge t from vector.now) }
     {
-        let _len = vector.len();
+        rely!(let _len = vector.len());
         self.acks.note(from, vector)
     }
 }

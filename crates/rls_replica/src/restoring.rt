@@ -18,6 +18,7 @@ ghost use Rattle.rls_replica.specs.Fitting.{HaveFormer, AreFit};
 
 use crate::replica::Replica;
 use rls_causal::Held;
+use rls_ident::rely;
 use rls_model::{EpochPart, Parts, TextRun, TextRuns};
 use rls_ops::{Op, Ops};
 use rls_rules::{PartsError, Tested, test_all};
@@ -78,7 +79,7 @@ fn fit(parts: &Parts)
     ensures ranged { AreRanged parts.now }
 {
     large(parts.group);
-    let _len = parts.vector.len();
+    rely!(let _len = parts.vector.len());
     former_fit(parts.epochs.as_slice());
     runs_fit(parts.text.as_slice());
     ops_fit(parts.log.as_slice());
@@ -88,14 +89,14 @@ fn fit(parts: &Parts)
 fn large(n: u64)
     ensures large { IsLarge n }
 {
-    let _n = n;
+    rely!(let _n = n);
 }
 
 fn former_fit(list: &[EpochPart])
     ensures former { HaveFormer list.now }
 {
     for entry in list {
-        let _total = entry.former.total();
+        rely!(let _total = entry.former.total());
     }
 }
 
@@ -103,7 +104,7 @@ fn runs_fit(runs: &[TextRun])
     ensures runs { IsTrue (list_all is_run (map (λ r. r.run) runs.now)) }
 {
     for entry in runs {
-        let _len = entry.run.len();
+        rely!(let _len = entry.run.len());
     }
 }
 
@@ -111,7 +112,7 @@ fn ops_fit(ops: &[Op])
     ensures ops { AreFit ops.now }
 {
     for op in ops {
-        op.fits();
+        rely!(op.fits());
     }
 }
 

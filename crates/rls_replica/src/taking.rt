@@ -20,6 +20,7 @@ ghost use Rattle.rls_replica.specs.Faults.{IsForeign};
 
 use crate::replica::Replica;
 use rls_ident::limits::INPUT_BYTES;
+use rls_ident::rely;
 use rls_model::{Receipt, Release, Taken};
 use rls_ops::{Message, Op, Ops};
 use std::alloc::{AllocError, Global};
@@ -93,7 +94,7 @@ impl Replica {
         ensures arrived { (n : ℕ) → AreFew n taken.old → AreFew n taken.new }
         ensures sane { IsSane self.old }
     {
-        self.sane();
+        rely!(self.sane());
         match self.release()? {
             None => Ok(false),
             Some(release) => {
@@ -112,10 +113,10 @@ impl Replica {
         ensures ok { OnOk result ((s : Seen) (os rest : List Op) → IsOnWay s os (course self.old taken.old) (op ∷ rest) → IsOnWay s os (course self.new taken.new) rest) }
         ensures err { OnErr result ((s : Seen) (os rest : List Op) → IsOnWay s os (course self.old taken.old) (op ∷ rest) → IsPartOfOps s os self.new) }
     {
-        self.sane();
+        rely!(self.sane());
         let (author, seq) = (op.author, op.seq);
         let receipt = self.receive(op)?;
-        self.sane();
+        rely!(self.sane());
         count_receipt(author, seq, receipt, taken)?;
         self.release_all(taken)?;
         Ok(())
@@ -132,7 +133,7 @@ impl Replica {
         ensures stands { IfOk result (λ taken. (t : State) → StandsFor self.old t → (taken ≡ model.taken (model.take_ops (model.started None t) ops)) × StandsFor self.new (model.take_ops (model.started None t) ops).state) }
         ensures part { OnErr result ((t : State) → StandsFor self.old t → (n : ℕ) × StandsFor self.new (model.take_ops (model.started (Some n) t) ops).state) }
     {
-        ops.fits();
+        rely!(ops.fits());
         let mut taken = Taken::new(self.alloc);
         let mut rest = ops.into_vec();
         rest.reverse();
@@ -169,8 +170,8 @@ impl Replica {
                 members: message.members,
             });
         }
-        let _len = message.vector.len();
-        message.ops.fits();
+        rely!(let _len = message.vector.len());
+        rely!(message.ops.fits());
         let Message {
             from,
             vector,

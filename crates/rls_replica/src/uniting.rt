@@ -7,7 +7,7 @@ ghost use Rattle.rls_ident.specs.Lists.{IsIn};
 ghost use Rattle.rls_runs.specs.Places.{below_count};
 ghost use Rattle.rls_replica.specs.Unions.{Stands, AreBelow, IsPut};
 
-use rls_ident::Ident;
+use rls_ident::{Ident, rely};
 use rls_runs::Runs;
 use std::alloc::{AllocError, Global};
 
@@ -61,7 +61,7 @@ fn below(ids: &Runs, others: &Runs, at: u64) -> Result<u64, AllocError>
     if at >= others.total() {
         return Ok(ids.total());
     }
-    let _total = ids.total();
+    rely!(let _total = ids.total());
     let other = others.get(at)?;
     Ok(count_below(ids, &other))
 }

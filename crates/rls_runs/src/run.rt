@@ -8,7 +8,7 @@ ghost use Rattle.rls_runs.specs.Runs.{run_idents, run_last, place_of, is_run, pa
 ghost use Rattle.rls_runs.specs.Places.{find_ident};
 
 use rls_ident::limits::OFFSETS_END;
-use rls_ident::{Ident, Spot, Tuple};
+use rls_ident::{Ident, Spot, Tuple, rely};
 use std::alloc::AllocError;
 use std::cmp::Ordering;
 use std::marker::Model;
@@ -111,7 +111,7 @@ impl Run {
         requires within { from + len ≤ self.now.1 }
         ensures part { IfOk result (λ part. part ≡ (shifted (pos from) self.now.0, len)) }
     {
-        let _len = self.len();
+        rely!(let _len = self.len());
         match Run::new(self.first().shifted(from)?, len) {
             Ok(part) => Ok(part),
             Err(RunError::Empty) => unreachable!(),

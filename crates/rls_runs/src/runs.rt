@@ -7,7 +7,7 @@ ghost use Rattle.rls_runs.specs.Runs.{run_idents, runs_of, place_of, AreIdents};
 ghost use Rattle.rls_runs.specs.Places.{find_ident, last_ident, is_above, touches};
 
 use crate::run::Run;
-use rls_ident::Ident;
+use rls_ident::{Ident, rely};
 use std::alloc::{AllocError, Global};
 use std::cmp::Ordering;
 use std::marker::Model;
@@ -119,7 +119,7 @@ impl Runs {
         ensures find { result ≡ find_ident self.now id.now }
         ensures there { IfOk result (λ i. slice_get self.now i ≡ Some id.now) }
     {
-        let _total = self.total;
+        rely!(let _total = self.total);
         let behind = runs_up_to(&self.runs, id);
         if behind == 0 {
             return Err(0);

@@ -23,6 +23,7 @@ ghost use Rattle.rls_store.specs.Stored.{AreWritable};
 use crate::orders::Order;
 use crate::replies;
 use rls_anchor::{Anchor, AnchorError};
+use rls_ident::rely;
 use rls_model::{Edit, EditError, Taken};
 use rls_replica::{PastError, Replica, SendError};
 use rls_report::{CommandError, LineFault};
@@ -203,7 +204,7 @@ impl Desk {
         ensures sane { IsSane self.old.state }
         ensures bytes { IsBytes bytes.now }
     {
-        self.replica.sane();
+        rely!(self.replica.sane());
         match take_bytes(alloc, &mut self.replica, bytes) {
             Err(TakeBytesError::OutOfMemory) => Err(AllocError),
             Err(TakeBytesError::Malformed { at }) => {

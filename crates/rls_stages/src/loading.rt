@@ -12,6 +12,7 @@ ghost use Rattle.rls_stages.specs.Errors.{Gives, IsOpenError, of_open};
 
 use crate::errors::OpenError;
 use rls_ident::limits::FILE_BYTES;
+use rls_ident::rely;
 use rls_io::{Found, Keeper, LoadError};
 use rls_replica::Replica;
 use rls_report::CommandError;
@@ -73,7 +74,7 @@ fn decoded(alloc: Global, bytes: &[u8]) -> Result<Replica, OpenError>
 {
     match decode_file(alloc, bytes) {
         Ok(replica) => {
-            replica.sane();
+            rely!(replica.sane());
             Ok(replica)
         }
         Err(FileError::Damaged { at }) => Err(OpenError::Command {

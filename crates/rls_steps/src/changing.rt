@@ -14,6 +14,7 @@ use crate::labelling::{name_inserted, ready};
 use crate::names::Names;
 use crate::piece::{Labels, Piece, Step};
 use crate::splitting::push_parts;
+use rls_ident::rely;
 use rls_replica::{Edit, EditError, Replica};
 use rls_runs::Text;
 use std::alloc::{AllocError, Global};
@@ -41,7 +42,7 @@ pub(crate) fn cut(
     ensures epochs { replica.new.epochs ≡ replica.old.epochs }
 {
     let edit = Edit::Delete { at, count };
-    edit.fits();
+    rely!(edit.fits());
     let _op = replica.made(&edit)?;
     let before = names.len();
     let first = *next;
@@ -87,7 +88,7 @@ pub(crate) fn delete(
     ensures epochs { replica.new.epochs ≡ replica.old.epochs }
 {
     let edit = Edit::Delete { at, count };
-    edit.fits();
+    rely!(edit.fits());
     let _op = replica.made(&edit)?;
     let before = names.len();
     let steps = stack.len();
@@ -159,7 +160,7 @@ pub(crate) fn put(
     ensures epochs { replica.new.epochs ≡ replica.old.epochs }
 {
     let edit = Edit::Insert { at, text };
-    edit.fits();
+    rely!(edit.fits());
     let before = names.len();
     match put_named(replica, names, stack, group, &edit, labels) {
         Ok(seq) => Ok(seq),

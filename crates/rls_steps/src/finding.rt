@@ -12,7 +12,7 @@ ghost use Rattle.rls_steps.specs.Courses.{ident_of, below_or_none, place_over, r
 ghost use Rattle.rls_steps.specs.Recorded.{held_by};
 
 use crate::names::Names;
-use rls_ident::Ident;
+use rls_ident::{Ident, rely};
 use rls_replica::Replica;
 use std::alloc::AllocError;
 
@@ -35,7 +35,7 @@ pub(crate) fn ranges(
 fn places(replica: &Replica, names: &Names, labels: &[u64]) -> Result<Vec<u64>, AllocError>
     ensures places { IfOk result (λ ps. ps.items ≡ label_places 0 labels.now (marks (marked_by (reverse names.now) replica.now.text))) }
 {
-    replica.sane();
+    rely!(replica.sane());
     names.apart();
     let mut places = all_places(replica, names, labels)?;
     places.sort_unstable();
@@ -161,7 +161,7 @@ fn place_of(replica: &Replica, names: &Names, label: u64) -> Result<Option<u64>,
     ensures place { IfOk result (λ at. at ≡ label_place (marks (marked_by (reverse names.now) replica.now.text)) label) }
     ensures within { IfOk result (λ at. IfSome at (λ i. i + 1 < 2 ^ 64)) }
 {
-    replica.sane();
+    rely!(replica.sane());
     let places = places(replica, names, &[label])?;
     Ok(places.first().copied())
 }
@@ -180,7 +180,7 @@ fn gone(replica: &Replica, names: &Names, label: u64) -> u64
 fn below(replica: &Replica, ident: &Ident) -> u64
     ensures below { result ≡ below_count (idents_over replica.now) ident.now }
 {
-    replica.sane();
+    rely!(replica.sane());
     match replica.find(ident) {
         Ok(at) | Err(at) => at,
     }

@@ -12,7 +12,7 @@ ghost use Rattle.rls_steps.specs.Recorded.{held_by};
 
 use crate::names::Names;
 use crate::piece::{Labels, Piece};
-use rls_ident::{EpochName, Ident};
+use rls_ident::{EpochName, Ident, rely};
 use rls_ops::{Body, Op};
 use rls_replica::Replica;
 use rls_runs::{Run, Runs, Text};
@@ -28,7 +28,7 @@ pub(crate) fn labels_of(
     requires places { from + count ≤ length replica.now.text }
     ensures labels { IfOk result (λ ls. ls.items ≡ map (label_of (reverse names.now)) (take count (drop from (idents_over replica.now)))) }
 {
-    replica.sane();
+    rely!(replica.sane());
     let mut labels = Vec::with_capacity(names.alloc(), count as usize)?;
     'places: for i in 0..count {
         let ident = replica.ident_at(from + i)?;
@@ -50,7 +50,7 @@ pub(crate) fn give(
     ensures ok { OnOk result (held_by replica.now next.new names.new ≡ label_all (held_by replica.now next.old names.old) (take (length labels.now.items) (drop from (idents_over replica.now)))) }
     ensures front { take (length names.old) names.new ≡ names.old }
 {
-    replica.sane();
+    rely!(replica.sane());
     'labels: for i in 0..labels.len() {
         give_one(replica, names, next, from + i as u64, labels[i])?;
     }

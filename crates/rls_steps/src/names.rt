@@ -12,7 +12,7 @@ ghost use Rattle.rls_steps.specs.Labelled.{label_of};
 ghost use Rattle.rls_steps.specs.Index.{AreApart, newest_at, tail_at, place_in, label_in, key_cmp};
 ghost use Rattle.rls_steps.specs.declared.names.Key as keys;
 
-use rls_ident::Ident;
+use rls_ident::{Ident, rely};
 use std::alloc::{AllocError, Global};
 use std::cmp::Ordering;
 use std::collections::BTreeMap;
@@ -118,7 +118,7 @@ impl Names {
     pub(crate) fn apart(&self)
         ensures apart { AreApart (reverse self.now) }
     {
-        let _list = &self.list;
+        rely!(let _list = &self.list);
     }
 
     // The label of an identifier, if it has one. It costs a search.

@@ -7,6 +7,7 @@ ghost use Rattle.rls_store.specs.Sizes.{rows_size, stems_size, epochs_size, text
 use rls_fields::{
     kept_epochs_len, left_count, missing_len, other_rows_len, stems_len, tree_len, waiting_len,
 };
+use rls_ident::rely;
 use rls_replica::Replica;
 use rls_snapshot::Places;
 
@@ -46,7 +47,7 @@ fn text_part(replica: &Replica) -> u64
 fn log_part(replica: &Replica) -> u64
     ensures size { result ≡ min (log_size replica.now) (2 ^ 64 - 1) }
 {
-    replica.sane();
+    rely!(replica.sane());
     missing_len(replica.logged(), replica.acks().stable())
 }
 

@@ -14,6 +14,7 @@ ghost use Rattle.rls_store.specs.Loading.{snapshot_behind, damage_of, seen_in, R
 use rls_codec::{ReadError, member, member_count, u64_at};
 use rls_fields::{place_of_broken, snapshot};
 use rls_file::{form, journal};
+use rls_ident::rely;
 use rls_model::Parts;
 use rls_replica::{PartsError, Replica};
 use std::alloc::Global;
@@ -94,7 +95,7 @@ fn load_snapshot(alloc: Global, form: u8, bytes: &[u8], rest: &[u8]) -> Result<R
     requires later { 1 < form }
     ensures loads { Loads result bytes.now }
 {
-    let _len = bytes.len();
+    rely!(let _len = bytes.len());
     let parts = parts_in(alloc, form, bytes, rest)?;
     match Replica::from_parts(alloc, parts) {
         Ok(replica) => Ok(replica),

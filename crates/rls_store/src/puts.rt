@@ -12,6 +12,7 @@ use rls_codec::{put_byte, put_u32, put_u64, put_vector};
 use rls_fields::{
     put_epochs, put_left, put_missing, put_rows, put_stems, put_text_runs, put_waiting,
 };
+use rls_ident::rely;
 use rls_replica::Replica;
 use rls_snapshot::Places;
 use std::alloc::AllocError;
@@ -48,7 +49,7 @@ pub(crate) fn put_file(
     ensures ok { OnOk result (out.new.items ≡ out.old.items ++ file_bytes (parts_over replica.now)) }
     ensures fits { OnOk result (FitFields (parts_over replica.now)) }
 {
-    replica.sane();
+    rely!(replica.sane());
     let (acks, members) = (replica.acks(), replica.members());
     put_head(out, replica.group(), members, replica.me())?;
     put_vector(out, acks.mine())?;

@@ -14,6 +14,7 @@ ghost use Rattle.rls_store.specs.Stored.{AreWritable};
 use crate::lengths::stored_len;
 use crate::puts::put_file;
 use rls_ident::limits::FILE_BYTES;
+use rls_ident::rely;
 use rls_replica::Replica;
 use rls_snapshot::Places;
 use std::alloc::{AllocError, Global};
@@ -54,7 +55,7 @@ pub fn encode_file(alloc: Global, replica: &Replica) -> Result<Vec<u8>, SaveErro
     // For every history and waiting operations that the replica stands for.
     ensures stands { IfOk result (λ b. (t : State) → StandsFor replica.now t → b.items ≡ file_bytes (parts t)) }
 {
-    replica.sane();
+    rely!(replica.sane());
     let names = replica.retained()?;
     let places = Places::of(alloc, &names)?;
     let bytes = stored_len(replica, &places);

@@ -19,6 +19,7 @@ ghost use Rattle.rls_replica.specs.Faults.{IsForeign};
 ghost use Rattle.rls_replica.specs.Names.{KeepsNames};
 
 use rls_codec::{DecodeError, decode_message, encode_message};
+use rls_ident::rely;
 use rls_replica::{Replica, SendError, TakeError, Taken};
 use std::alloc::Global;
 
@@ -48,7 +49,7 @@ pub fn message_bytes(alloc: Global, replica: &Replica, to: u32) -> Result<Vec<u8
     // For every history and waiting operations that the replica stands for.
     ensures stands { IfOk result (λ bytes. (t : State) → StandsFor replica.now t → bytes.items ≡ message_bytes (message_for t.history to)) }
 {
-    replica.sane();
+    rely!(replica.sane());
     match replica.message_for(to) {
         Ok(message) => match encode_message(alloc, &message) {
             Ok(bytes) => Ok(bytes),

@@ -13,7 +13,7 @@ use crate::removal::most_of;
 use crate::tree::BlockTree;
 use rls_blocks::{Block, push_runs};
 use rls_doc::{Document, RunMap};
-use rls_ident::Ident;
+use rls_ident::{Ident, rely};
 use rls_runs::{Run, RunList, Runs, Text};
 use std::alloc::AllocError;
 
@@ -21,7 +21,7 @@ impl Document for BlockTree {
     ghost entries = { λ t. entries_of t.blocks };
 
     fn rises(&self) {
-        let _blocks = self.blocks();
+        rely!(let _blocks = self.blocks());
     }
 
     fn total(&self) -> u64 {
@@ -67,7 +67,7 @@ impl Document for BlockTree {
             self.remove_range(i, count)?;
             return Ok(count);
         }
-        let _blocks = self.blocks();
+        rely!(let _blocks = self.blocks());
         let before = self.chars();
         let patches = self.patches_without(targets)?;
         self.put_patches(patches);
@@ -76,7 +76,7 @@ impl Document for BlockTree {
 
     /// It costs a step for each level and each run that it answers.
     fn runs_of(&self, from: u64, count: u64) -> Result<Runs, AllocError> {
-        let _total = self.chars();
+        rely!(let _total = self.chars());
         self.runs_between(from, from + count)
     }
 
@@ -128,7 +128,7 @@ impl BlockTree {
                 return self.insert_piece(i, own, chars);
             }
         }
-        let _blocks = self.blocks();
+        rely!(let _blocks = self.blocks());
         let gaps = self.gaps_for(runs.as_slice(), text)?;
         let patches = self.patches_with(gaps)?;
         self.put_patches(patches);
@@ -142,8 +142,8 @@ impl BlockTree {
         ensures within { IfOk result (λ place. IfSome place (λ i. i + length targets.now ≤ length (entries_of self.now.blocks))) }
         ensures removed { IfOk result (λ place. IfSome place (λ i. removed i (length targets.now) (entries_of self.now.blocks) ≡ without_all targets.now (entries_of self.now.blocks))) }
     {
-        let _blocks = self.blocks();
-        let _chars = self.chars();
+        rely!(let _blocks = self.blocks());
+        rely!(let _chars = self.chars());
         let Ok(from) = self.place(targets.run(0).first()) else {
             return Ok(None);
         };
@@ -179,7 +179,7 @@ impl BlockTree {
         requires within { end ≤ length (entries_of self.now.blocks) }
         ensures runs { IfOk result (λ xs. xs ≡ take (end - from) (drop from (idents_in (entries_of self.now.blocks)))) }
     {
-        let _blocks = self.blocks();
+        rely!(let _blocks = self.blocks());
         let mut runs = Runs::new(self.alloc());
         let mut at = from;
         while at < end {
@@ -194,7 +194,7 @@ impl BlockTree {
     fn mapped<F: RunMap>(&self, map: &F) -> Result<BlockTree, AllocError>
         ensures mapped { IfOk result (λ tree. entries_of tree.blocks ≡ with_idents (F.image map.now) (entries_of self.now.blocks)) }
     {
-        let _blocks = self.blocks();
+        rely!(let _blocks = self.blocks());
         self.are_idents();
         let mut blocks = Vec::new(self.alloc());
         let mut at = 0;

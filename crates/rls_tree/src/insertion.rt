@@ -13,6 +13,7 @@ ghost use Rattle.rls_blocks.specs.Patches.{before, after, IsBetween, patched, Ar
 use crate::removal::most_of;
 use crate::tree::BlockTree;
 use rls_blocks::{Block, Patch, part_of_text, push_block};
+use rls_ident::rely;
 use rls_runs::{Run, Text};
 use std::alloc::AllocError;
 use std::collections::VecDeque;
@@ -35,7 +36,7 @@ impl BlockTree {
         ensures places { IfOk result (λ gaps. AreGaps 0 gaps.items (length (entries_of self.now.blocks))) }
         ensures filled { IfOk result (λ gaps. filled 0 gaps.items (entries_of self.now.blocks) (λ at. drop at (entries_of self.now.blocks)) ≡ put_all (zip (idents_of runs.now) text.now) (entries_of self.now.blocks)) }
     {
-        let _blocks = self.blocks();
+        rely!(let _blocks = self.blocks());
         let mut gaps = VecDeque::new(self.alloc());
         let mut at = 0;
         for run in runs {
@@ -74,8 +75,8 @@ impl BlockTree {
         ensures within { IfOk result (λ n. done + n ≤ run.now.1) }
         ensures ok { IfOk result (λ n. (more all : Entries) → Leaves (entries_of self.now.blocks) gaps.old.items (drop done (piece_entries (run.now, text.now)) ++ more) all → Leaves (entries_of self.now.blocks) gaps.new.items (drop (done + n) (piece_entries (run.now, text.now)) ++ more) all) }
     {
-        let _blocks = self.blocks();
-        let _len = run.len();
+        rely!(let _blocks = self.blocks());
+        rely!(let _len = run.len());
         let (at, end) = self.gap_of(run, done)?;
         let part = run.part(done, end - done)?;
         let chars = part_of_text(self.alloc(), text, done as usize, (end - done) as usize)?;
@@ -93,8 +94,8 @@ impl BlockTree {
         ensures place { IfOk result (λ gap. place_of (shifted (pos done) run.now.0) (idents_in (entries_of self.now.blocks)) ≡ Err gap.0) }
         ensures end { IfOk result (λ gap. gap.1 ≡ gap_end (run_idents run.now.0 run.now.1) (drop gap.0 (idents_in (entries_of self.now.blocks)))) }
     {
-        let _blocks = self.blocks();
-        let _len = run.len();
+        rely!(let _blocks = self.blocks());
+        rely!(let _len = run.len());
         let first = run.first().shifted(done)?;
         let Err(at) = self.place(&first) else {
             unreachable!()
@@ -111,12 +112,12 @@ impl BlockTree {
         ensures patches { IfOk result (λ patches. ArePatches (reverse patches.items) self.now.blocks) }
         ensures shows { IfOk result (λ patches. Shows (filled 0 gaps.items (entries_of self.now.blocks) (λ at. drop at (entries_of self.now.blocks))) (patched (reverse patches.items) self.now.blocks)) }
     {
-        let _blocks = self.blocks();
-        let _chars = self.chars();
+        rely!(let _blocks = self.blocks());
+        rely!(let _chars = self.chars());
         let mut gaps = gaps;
         let mut patches = Vec::new(self.alloc());
         while let Some(gap) = gaps.front() {
-            let _len = gap.block.len();
+            rely!(let _len = gap.block.len());
             let from = self.start_for(gap);
             let patch = self.patch_with(&mut gaps, from)?;
             patches.push(patch)?;
@@ -132,7 +133,7 @@ impl BlockTree {
         ensures last { (at : ℕ) → IsBetween at self.now.blocks → at < gap.now.at → at ≤ result }
         ensures apart { result ≡ gap.now.at → goes_on (run_before None (runs_in (before gap.now.at self.now.blocks))) gap.now.block.0.0 ≡ false }
     {
-        let _chars = self.chars();
+        rely!(let _chars = self.chars());
         let i = gap.at;
         if i == 0 {
             return i;
@@ -143,7 +144,7 @@ impl BlockTree {
         if at + 1 < len {
             return start;
         }
-        let _len = gap.block.len();
+        rely!(let _len = gap.block.len());
         if block.run().touches(gap.block.run().first()) {
             return start;
         }
@@ -193,12 +194,12 @@ impl BlockTree {
         ensures some { IfOk result (λ to. 0 < length (entries_of blocks.new.items)) }
         ensures loose { IfOk result (λ to. IsTrue (are_loose None (runs_in blocks.new.items))) }
     {
-        let _chars = self.chars();
+        rely!(let _chars = self.chars());
         if has_gap(gaps, at) {
             let Some(gap) = gaps.pop_front() else {
                 unreachable!()
             };
-            let _len = gap.block.len();
+            rely!(let _len = gap.block.len());
             push_block(blocks, gap.block)?;
             return Ok(at);
         }

@@ -10,7 +10,7 @@ ghost use Rattle.rls_blocks.specs.Trees.{entries_of};
 ghost use Rattle.rls_tree.specs.Gaps.{gap_end};
 
 use crate::tree::BlockTree;
-use rls_ident::Ident;
+use rls_ident::{Ident, rely};
 use rls_runs::Run;
 use std::alloc::AllocError;
 
@@ -35,7 +35,7 @@ impl BlockTree {
         ensures place { IfOk result (λ gap. IfSome gap (λ i. i ≤ length (entries_of self.now.blocks))) }
         ensures rises { IfOk result (λ gap. IfSome gap (λ i. IsTrue (is_increasing (take i (idents_in (entries_of self.now.blocks)) ++ (run_idents run.now.0 run.now.1 ++ drop i (idents_in (entries_of self.now.blocks))))))) }
     {
-        let _blocks = self.blocks();
+        rely!(let _blocks = self.blocks());
         let Err(i) = self.place(run.first()) else {
             return Ok(None);
         };
@@ -50,7 +50,7 @@ impl BlockTree {
         requires place { i ≤ length (entries_of self.now.blocks) }
         ensures less { IfOk result (λ is. IsTrue is → AllLess (take i (idents_in (entries_of self.now.blocks))) id.now) }
     {
-        let _blocks = self.blocks();
+        rely!(let _blocks = self.blocks());
         if i == 0 {
             return Ok(true);
         }
@@ -62,8 +62,8 @@ impl BlockTree {
         requires place { i ≤ length (entries_of self.now.blocks) }
         ensures less { IfOk result (λ is. IsTrue is → AreBelow (run_idents run.now.0 run.now.1) (drop i (idents_in (entries_of self.now.blocks)))) }
     {
-        let _blocks = self.blocks();
-        let _len = run.len();
+        rely!(let _blocks = self.blocks());
+        rely!(let _len = run.len());
         if i == self.chars() {
             return Ok(true);
         }
@@ -75,7 +75,7 @@ impl BlockTree {
         requires place { i ≤ length (entries_of self.now.blocks) }
         ensures rises { IfOk result (λ is. IsTrue is → IsTrue (is_increasing (take i (idents_in (entries_of self.now.blocks)) ++ (run_idents run.now.0 run.now.1 ++ drop i (idents_in (entries_of self.now.blocks)))))) }
     {
-        let _blocks = self.blocks();
+        rely!(let _blocks = self.blocks());
         Ok(self.begins_at(i, run.first())? && self.ends_at(i, run)?)
     }
 
@@ -94,7 +94,7 @@ impl BlockTree {
     pub(crate) fn count_below(&self, id: &Ident) -> u64
         ensures count { result ≡ below_count (idents_in (entries_of self.now.blocks)) id.now }
     {
-        let _blocks = self.blocks();
+        rely!(let _blocks = self.blocks());
         match self.place(id) {
             Ok(i) => i,
             Err(i) => i,

@@ -10,7 +10,7 @@ ghost use Rattle.rls_tree.specs.Targets.{AreMembers};
 
 use crate::tree::BlockTree;
 use rls_blocks::{Block, Patch, push_block};
-use rls_ident::Ident;
+use rls_ident::{Ident, rely};
 use rls_runs::Runs;
 use std::alloc::AllocError;
 
@@ -22,7 +22,7 @@ impl BlockTree {
         ensures patches { IfOk result (λ patches. ArePatches (reverse patches.items) self.now.blocks) }
         ensures shows { IfOk result (λ patches. Shows (without_all targets.now (entries_of self.now.blocks)) (patched (reverse patches.items) self.now.blocks)) }
     {
-        let _blocks = self.blocks();
+        rely!(let _blocks = self.blocks());
         let total = self.chars();
         let mut patches = Vec::new(self.alloc());
         let mut i = self.next_target(targets, 0)?;
@@ -43,8 +43,8 @@ impl BlockTree {
         ensures none { IfOk result (λ i. AreMembers false targets.now (idents_in (entries_of self.now.blocks)) at i) }
         ensures there { IfOk result (λ i. AreMembers true targets.now (idents_in (entries_of self.now.blocks)) i (i + 1)) }
     {
-        let _blocks = self.blocks();
-        let _total = targets.total();
+        rely!(let _blocks = self.blocks());
+        rely!(let _total = targets.total());
         let mut i = at;
         while i < self.chars() {
             let below = match targets.find(&self.ident(i)?) {
@@ -66,7 +66,7 @@ impl BlockTree {
         ensures order { result ≤ i }
         ensures last { (at : ℕ) → IsBetween at self.now.blocks → at ≤ i → at ≤ result }
     {
-        let _chars = self.chars();
+        rely!(let _chars = self.chars());
         let (_, at) = self.locate(i);
         i - at as u64
     }
@@ -99,7 +99,7 @@ impl BlockTree {
         ensures apart { IfOk result (λ patch. leads_to (run_before None (runs_in patch.fresh.blocks)) (runs_in (after patch.to self.now.blocks)) ≡ false) }
         ensures stays { IfOk result (λ patch. AreMembers false targets.now (idents_in (entries_of self.now.blocks)) patch.to (patch.to + 1)) }
     {
-        let _chars = self.chars();
+        rely!(let _chars = self.chars());
         let mut blocks = Vec::new(self.alloc());
         let mut at = self.copy_next(targets, from, &mut blocks)?;
         while !self.is_done(targets, at, &blocks) {
@@ -116,14 +116,14 @@ impl BlockTree {
         ensures apart { IsTrue result → leads_to (run_before None (runs_in blocks.now)) (runs_in (after at self.now.blocks)) ≡ false }
         ensures stays { IsTrue result → AreMembers false targets.now (idents_in (entries_of self.now.blocks)) at (at + 1) }
     {
-        let _blocks = self.blocks();
-        let _chars = self.chars();
-        let _total = targets.total();
+        rely!(let _blocks = self.blocks());
+        rely!(let _chars = self.chars());
+        rely!(let _total = targets.total());
         match self.begins_apart(at, blocks) {
             None => false,
             Some(None) => true,
             Some(Some(block)) => {
-                let _len = block.len();
+                rely!(let _len = block.len());
                 targets.find(block.run().first()).is_err()
             }
         }
@@ -139,12 +139,12 @@ impl BlockTree {
         ensures within { IfSome result (λ begins. IfSome begins (λ block. at < length (entries_of self.now.blocks))) }
         ensures located { IfSome result (λ begins. IfSome begins (λ block. located self.now.blocks at ≡ Some (block.now, 0))) }
     {
-        let _chars = self.chars();
+        rely!(let _chars = self.chars());
         if at == self.chars() {
             return Some(None);
         }
         let (block, place) = self.locate(at);
-        let _len = block.len();
+        rely!(let _len = block.len());
         if place > 0 {
             return None;
         }
@@ -164,7 +164,7 @@ impl BlockTree {
         ensures entries { IfOk result (λ to. entries_of blocks.new.items ≡ entries_of blocks.old.items ++ without_all targets.now (take (to - at) (drop at (entries_of self.now.blocks)))) }
         ensures loose { IfOk result (λ to. IsTrue (are_loose None (runs_in blocks.new.items))) }
     {
-        let _chars = self.chars();
+        rely!(let _chars = self.chars());
         let next = self.next_target(targets, at)?;
         if next == at {
             let gone = self.targets_at(targets, at)?;

@@ -12,7 +12,7 @@ ghost use Rattle.rls_blocks.specs.Patches.{patched, ArePatches};
 use rls_blocks::{
     Block, Link, Node, Patch, insert_at, part_of_text, remove_range, tree_of, with_patches,
 };
-use rls_ident::Ident;
+use rls_ident::{Ident, rely};
 use rls_runs::{Run, Text};
 use std::alloc::{AllocError, Global};
 use std::marker::Model;
@@ -94,7 +94,7 @@ impl BlockTree {
         ensures apart { IsTrue (are_apart None (runs_in self.now.blocks)) }
         ensures pieces { ArePieces self.now.blocks }
     {
-        let _chars = self.root.chars();
+        rely!(let _chars = self.root.chars());
         self.root.node()
     }
 
@@ -103,7 +103,7 @@ impl BlockTree {
         ensures height { result ≡ self.now.height }
         ensures low { 2 ^ result ≤ (length (runs_of (idents_in (entries_of self.now.blocks))) + 1) * (length (runs_of (idents_in (entries_of self.now.blocks))) + 1) }
     {
-        let _count = self.blocks();
+        rely!(let _count = self.blocks());
         self.root.height()
     }
 
@@ -122,7 +122,7 @@ impl BlockTree {
         ensures rises { IsTrue (is_increasing (idents_in (entries_of self.now.blocks))) }
         ensures apart { IsTrue (are_apart None (runs_in self.now.blocks)) }
     {
-        let _chars = self.root.chars();
+        rely!(let _chars = self.root.chars());
         self.root.blocks()
     }
 
@@ -130,7 +130,7 @@ impl BlockTree {
     pub(crate) fn place(&self, id: &Ident) -> Result<u64, u64>
         ensures place { result ≡ place_of id.now (idents_in (entries_of self.now.blocks)) }
     {
-        let _chars = self.root.chars();
+        rely!(let _chars = self.root.chars());
         match self.root.node() {
             None => Err(0),
             Some(node) => node.find(id),
@@ -151,7 +151,7 @@ impl BlockTree {
         requires place { i < length (entries_of self.now.blocks) }
         ensures char { slice_get (chars_in (entries_of self.now.blocks)) i ≡ Some result }
     {
-        let _chars = self.chars();
+        rely!(let _chars = self.chars());
         let (block, at) = self.locate(i);
         block.text().get(at as usize)
     }
@@ -161,9 +161,9 @@ impl BlockTree {
         requires place { i < length (entries_of self.now.blocks) }
         ensures ident { IfOk result (λ x. slice_get (idents_in (entries_of self.now.blocks)) i ≡ Some x) }
     {
-        let _chars = self.chars();
+        rely!(let _chars = self.chars());
         let (block, at) = self.locate(i);
-        let _len = block.len();
+        rely!(let _len = block.len());
         let id = block.run().first().shifted(at)?;
         Ok(id)
     }
@@ -177,7 +177,7 @@ impl BlockTree {
         ensures within { IfOk result (λ run. i + run.1 ≤ length (entries_of self.now.blocks)) }
         ensures idents { IfOk result (λ run. take run.1 (drop i (idents_in (entries_of self.now.blocks))) ≡ run_idents run.0 run.1) }
     {
-        let _chars = self.chars();
+        rely!(let _chars = self.chars());
         let (block, at) = self.locate(i);
         let len = (block.len() - at).min(most);
         block.run().part(at, len)
@@ -191,7 +191,7 @@ impl BlockTree {
         ensures there { IfOk result (λ n. (k : ℕ) → k < n → IsTrue (has_ident (idents_in (entries_of self.now.blocks)) (shifted (pos (from + k)) run.now.0))) }
         ensures none { IfOk result (λ n. n ≡ 0 → IsFalse (has_ident (idents_in (entries_of self.now.blocks)) (shifted (pos from) run.now.0))) }
     {
-        let _blocks = self.blocks();
+        rely!(let _blocks = self.blocks());
         let len = run.len();
         let first = run.first().shifted(from)?;
         let Ok(i) = self.place(&first) else {
@@ -212,7 +212,7 @@ impl BlockTree {
         ensures within { IfOk result (λ part. i + part.0.1 ≤ length (entries_of self.now.blocks)) }
         ensures entries { IfOk result (λ part. piece_entries (part.0, part.1) ≡ take part.0.1 (drop i (entries_of self.now.blocks))) }
     {
-        let _chars = self.chars();
+        rely!(let _chars = self.chars());
         let (block, at) = self.locate(i);
         let len = (block.len() - at).min(most);
         let run = block.run().part(at, len)?;
@@ -224,7 +224,7 @@ impl BlockTree {
     pub(crate) fn are_idents(&self)
         ensures idents { IsTrue (list_all is_ident (idents_in (entries_of self.now.blocks))) }
     {
-        let _chars = self.root.chars();
+        rely!(let _chars = self.root.chars());
     }
 
     // All characters.
@@ -253,7 +253,7 @@ impl BlockTree {
         let link = mem::replace(&mut self.root, Link::empty());
         match insert_at(self.alloc, link, i, Block::new(run, text)) {
             Ok(root) => {
-                let _chars = root.chars();
+                rely!(let _chars = root.chars());
                 self.root = root;
                 Ok(())
             }
@@ -274,7 +274,7 @@ impl BlockTree {
     {
         let link = mem::replace(&mut self.root, Link::empty());
         let root = with_patches(link, patches);
-        let _chars = root.chars();
+        rely!(let _chars = root.chars());
         self.root = root;
     }
 
@@ -286,10 +286,10 @@ impl BlockTree {
         ensures err { OnErr result (entries_of self.new.blocks ≡ entries_of self.old.blocks) }
     {
         let link = mem::replace(&mut self.root, Link::empty());
-        let _chars = link.chars();
+        rely!(let _chars = link.chars());
         match remove_range(self.alloc, link, i, count) {
             Ok(root) => {
-                let _chars = root.chars();
+                rely!(let _chars = root.chars());
                 self.root = root;
                 Ok(())
             }

@@ -13,7 +13,7 @@ ghost use Rattle.rls_undo.specs.Plans.{deletion, deletions, epoch_in, places_fro
 ghost use Rattle.rls_undo.specs.Undoing.{planned_over};
 
 use crate::entry::Entry;
-use rls_ident::Ident;
+use rls_ident::{Ident, rely};
 use rls_replica::{Edit, PastError, Replica};
 use rls_runs::{Runs, Text};
 use std::alloc::{AllocError, Global};
@@ -107,7 +107,7 @@ fn put_target(ranges: &mut Vec<(u64, u64)>, replica: &Replica, id: &Ident) -> Re
     ensures ok { OnOk result ((ts : List (List Tuple)) → AreBehind id.now ts → ranges.old.items ≡ reverse (ranges_of (places_from 0 ts (idents_over replica.now)))
         → ranges.new.items ≡ reverse (ranges_of (places_from 0 (id.now ∷ ts) (idents_over replica.now)))) }
 {
-    replica.sane();
+    rely!(replica.sane());
     match replica.find(id) {
         Err(_) => Ok(()),
         Ok(at) => {
@@ -140,7 +140,7 @@ fn put_range(ranges: &mut Vec<(u64, u64)>, at: u64) -> Result<(), AllocError>
 pub(crate) fn below(replica: &Replica, id: &Ident) -> u64
     ensures below { result ≡ below_count (idents_over replica.now) id.now }
 {
-    replica.sane();
+    rely!(replica.sane());
     match replica.find(id) {
         Ok(at) | Err(at) => at,
     }

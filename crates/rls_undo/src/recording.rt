@@ -12,7 +12,7 @@ ghost use Rattle.rls_undo.specs.UndoLaws.{AreWhole, HasIdents};
 ghost use Rattle.rls_undo.specs.Undoing.{entry_list, entries_over, first_dropped};
 
 use crate::entry::Entry;
-use rls_ident::EpochName;
+use rls_ident::{EpochName, rely};
 use rls_ops::{Body, Op};
 use rls_replica::{Edit, EditError, PastError, Replica};
 use rls_runs::{Run, Runs, Text};
@@ -85,7 +85,7 @@ fn deletion(op: Op, gone: Text) -> Result<Option<Entry>, EditError>
     ensures whole { IfOk result (λ e. AreWhole (entry_list e)) }
     ensures fault { IfErr result (λ e. e ≡ EditError.OutOfMemory) }
 {
-    let _len = gone.len();
+    rely!(let _len = gone.len());
     let (epoch, body) = op.into_body();
     let Body::Delete { targets } = body else {
         return Ok(None);
@@ -136,10 +136,10 @@ pub(crate) fn whole_idents(entry: &Entry)
 {
     match entry {
         Entry::Inserted { ids, .. } => {
-            let _total = ids.total();
+            rely!(let _total = ids.total());
         }
         Entry::Removed { first, .. } => {
-            let _len = first.len();
+            rely!(let _len = first.len());
         }
     }
 }

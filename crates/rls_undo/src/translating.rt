@@ -10,7 +10,7 @@ ghost use Rattle.rls_undo.specs.Undoing.{settled_over};
 
 use crate::entry::Entry;
 use crate::recording::epoch_of;
-use rls_ident::{EpochName, Ident};
+use rls_ident::{EpochName, Ident, rely};
 use rls_replica::Replica;
 use rls_runs::{Run, Runs};
 use std::alloc::{AllocError, Global};
@@ -296,7 +296,7 @@ fn alone(alloc: Global, run: &Run) -> Result<Runs, AllocError>
     ensures alone { IfOk result (λ ids. ids ≡ run_idents run.now.0 run.now.1) }
 {
     let mut ids = Runs::new(alloc);
-    let _len = run.len();
+    rely!(let _len = run.len());
     ids.append(run.copy()?)?;
     Ok(ids)
 }

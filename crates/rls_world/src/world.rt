@@ -17,6 +17,7 @@ ghost use Rattle.rls_world.specs.Events.{fault_over, happened, outcome_over, mem
 ghost use Rattle.rls_world.specs.Seen.{StandsForWorld, IsOneGroup, IsSent, fresh_world, fresh_replicas};
 
 use rls_ident::limits::MEMBERS;
+use rls_ident::rely;
 use rls_model::{Edit, EditError, Event, Outcome, StepError, Taken};
 use rls_ops::{Message, Ops};
 use rls_replica::{NewError, Replica, SendError, TakeError};
@@ -145,7 +146,7 @@ impl World {
     fn one_group(&self)
         ensures one_group { (group : ℕ) × IsOneGroup self.now group }
     {
-        let _group = self.group;
+        rely!(let _group = self.group);
     }
 
     // Whether there is such a member.
@@ -191,11 +192,11 @@ impl World {
     {
         self.one_group();
         let replica = self.replica(from);
-        let _me = replica.me();
+        rely!(let _me = replica.me());
         match replica.message_for(to) {
             Ok(message) => {
-                let _len = message.vector.len();
-                message.ops.fits();
+                rely!(let _len = message.vector.len());
+                rely!(message.ops.fits());
                 Ok(message)
             }
             Err(SendError::OutOfMemory) => Err(AllocError),
@@ -335,8 +336,8 @@ fn fits(event: &Event)
 {
     match event {
         Event::Edit { member, edit } => {
-            let _member = *member;
-            edit.fits();
+            rely!(let _member = *member);
+            rely!(edit.fits());
         }
         Event::Send { from, to } => {
             let (_from, _to) = (*from, *to);
@@ -345,7 +346,7 @@ fn fits(event: &Event)
             let (_message, _to) = (*message, *to);
         }
         Event::Drop { member } => {
-            let _member = *member;
+            rely!(let _member = *member);
         }
     }
 }

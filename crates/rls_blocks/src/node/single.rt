@@ -8,6 +8,7 @@ ghost use Rattle.rls_blocks.specs.Edits.{part_of, grown, may_grow};
 use super::Node;
 use crate::block::Block;
 use crate::side::Side;
+use rls_ident::rely;
 use rls_runs::{Run, Text};
 use std::alloc::{AllocError, Global};
 use std::marker::Model;
@@ -34,7 +35,7 @@ impl Single {
         ensures block { IfOk result (λ single. single ≡ block) }
         ensures piece { IfOk result (λ single. IsPiece single.0 single.1) }
     {
-        let _len = block.len();
+        rely!(let _len = block.len());
         let node = Box::new(alloc, Node::leaf(block))?;
         Ok(Single { node })
     }
