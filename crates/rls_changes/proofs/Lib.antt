@@ -8,3 +8,7 @@ pub mod Courses
 pub mod Looking
 pub mod Calls
 pub mod Alike
+pub mod Edited
+pub mod EditsAlike
+pub mod Errors
+pub mod TakenAlike

@@ -22,7 +22,7 @@ use Rattle.rls_replica.specs.Names.{keeps}
 use Rattle.rls_changes.specs.declared.change.Change.{Change}
 use Rattle.rls_changes.specs.declared.change.Change.TheVariants.{Insert, Delete}
 use Rattle.rls_changes.specs.Changes.{played, inserted_by, deleted_by, changes_over, changes_in}
-use Rattle.rls_changes.specs.Telling.{Told, told_within}
+use Rattle.rls_changes.specs.Telling.{Told, told_within, told_in, all_released_changes, all_released_changes_in}
 
 -- the changes of an operation that is accepted, played over the text before it, give the text after it
 abbrev pub ChangesPlayed : Type 0
@@ -65,6 +65,15 @@ AreInRange os = (o : Op) → IsIn o os → IsInRange o.body
 abbrev pub TakenPlayed : Type 0
 TakenPlayed = (limit : Limit) (s : Seen) (m : Message) → IsSane s → IsMessage (members s) m → AreInRange m.ops →
     played (told_within limit s m).state.changes (text_over s) ≡ text_over (taken_within limit s m).state
+
+-- both are those of each history that the replica stands for
+abbrev pub TakenAlike : Type 0
+TakenAlike = (limit : Limit) (s : Seen) (t : State) (m : Message) → IsSane s → StandsFor s t → IsMessage (members s) m → AreInRange m.ops →
+    (told_within limit s m).state.changes ≡ (told_in limit t m).state.changes
+
+-- and so are those of releases until none is ready
+abbrev pub ReleasedAlike : Type 0
+ReleasedAlike = (s : Seen) (t : State) → IsSane s → StandsFor s t → all_released_changes s ≡ all_released_changes_in t
 
 -- ---- of calls
 
