@@ -3,7 +3,9 @@ import os
 import shutil
 
 import members
-from members import Member, Wrong
+from members import Member
+from replies import Wrong
+from sessions import Session
 
 __all__ = ["Game", "Wrong"]
 
@@ -13,6 +15,7 @@ class Game:
         self.program, self.room = program, room
         self.members = []
         self.messages = {}
+        self.places = []
         # What members show, by how many operations of each member they accepted.
         self.shown = {}
         # Which character was seen right after which, in a game in which each was inserted once.
@@ -57,7 +60,10 @@ class Game:
     def do_session(self, step):
         member = self.member(step)
         if member:
-            made = member.session(step["requests"], self.messages, step["end"], step["piece"])
+            session = Session(member, self.messages)
+            for request in step["requests"]:
+                session.ask(request)
+            made = session.hold(step["end"], step["piece"])
             # A message may be handed on only if its session stored.
             self.messages.update(made)
             self.count(f"sessions ({step['end']})")
@@ -69,6 +75,18 @@ class Game:
             member.undo_right_after(step["edit"])
             self.count("undos right after an edit")
             self.look_at(member)
+
+    def do_place(self, step):
+        """A place as a word, for other members. It means itself where it was named, and in the end the same to all."""
+        member = self.member(step)
+        if member and member.version >= 2:
+            text = member.text()
+            at = len(text) if step["at"] < 0 else step["at"] % (len(text) + 1)
+            told = member.answer(f"a {at}")
+            if not told.startswith("anchor ") or member.answer("l " + told[7:]) != f"cursor {at}":
+                raise Wrong(f"place {at} of {text!r} is {told!r}, and that is {member.answer('l ' + told[7:])!r}")
+            self.places.append(told[7:])
+            self.count("places")
 
     def do_send(self, step):
         member = self.member(step)
@@ -118,6 +136,10 @@ class Game:
             if member.stat()["held"] != "0":
                 raise Wrong(f"operations wait at member {member.me} though everybody has everything")
             members.same(here[0], member, "members that have exchanged everything")
+        for place in self.places:
+            means = {member.answer("l " + place) for member in here} - {"no epoch"}
+            if len(means) > 1:
+                raise Wrong(f"the place {place} is {means} at members that have exchanged everything")
         self.count("meetings")
 
     def member(self, step):

@@ -50,22 +50,27 @@ class Maker:
         return f"m{max(1, self.messages - int(self.draw.expovariate(0.3)))}"
 
     def requests(self):
-        asked = []
-        for _ in range(self.draw.randint(1, 8)):
-            kind = self.draw.choices(("edit", "undo", "cursor", "where", "text", "take", "send", "bad"), (6, 0 if self.is_single else 2, 1, 1, 1, 3, 1, 0.3))[0]
-            if kind == "edit":
-                asked.append({"ask": kind, "edit": self.edit()})
-            elif kind == "take":
-                asked.append({"ask": kind, "message": self.known()})
-            elif kind == "send":
-                asked.append({"ask": kind, "to": self.draw.randrange(self.members), "message": self.message()})
-            else:
-                asked.append({"ask": kind, "at": self.place()})
+        back = 0 if self.is_single else 2
+        kinds = {"edit": 8, "undo": back, "back": back, "again": back, "groups": 1, "cursor": 1.5, "where": 1.5, "text": 1, "take": 3, "send": 1,
+                 "tell": 1.5, "store": 0.7, "stat": 0.3, "version": 0.2, "bad": 0.3}
+        return [self.request(self.draw.choices(list(kinds), list(kinds.values()))[0]) for _ in range(self.draw.choice((1, 3, 6, 12)))]
+
+    def request(self, kind):
+        if kind == "edit":
+            return {"ask": kind, "edit": self.edit()}
+        if kind == "take":
+            return {"ask": kind, "message": self.known()}
+        if kind == "send":
+            return {"ask": kind, "to": self.draw.randrange(self.members), "message": self.message()}
+        asked = {"ask": kind, "at": self.place()}
+        if kind in ("cursor", "where"):
+            asked["cursor"] = self.draw.choice((0, 0, 0, 1, 63))
+            asked["side"] = self.draw.choice("kkj")
         return asked
 
     def step(self):
         me = self.draw.randrange(self.members)
-        kind = self.draw.choices(("edit", "session", "send", "take", "damage", "leave", "undo"), (6, 4, 4, 6, 1, 0.1, 0 if self.is_single else 1))[0]
+        kind = self.draw.choices(("edit", "session", "send", "take", "damage", "leave", "place", "undo"), (6, 4, 4, 6, 1, 0.1, 0.5, 0 if self.is_single else 1))[0]
         step = {"do": kind, "me": me}
         if kind == "edit":
             step["edits"] = self.edits()
@@ -84,6 +89,8 @@ class Maker:
             step["cut"] = self.draw.random() < 0.3
             step["at"] = self.draw.randrange(10**6)
             step["byte"] = self.draw.randrange(1, 256)
+        elif kind == "place":
+            step["at"] = self.place()
         elif kind == "undo":
             step["edit"] = self.edit()
         return step

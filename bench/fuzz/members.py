@@ -3,12 +3,10 @@ import os
 import shutil
 import subprocess
 
+from replies import Replies, Wrong
+
 MARK = "\u0301"
 ESCAPES = {"\n": "\\n", "\r": "\\r", "\\": "\\\\"}
-
-
-class Wrong(Exception):
-    """Something that never happens if the program is right."""
 
 
 def same(one, other, who):
@@ -50,10 +48,26 @@ def performed(text, edit):
     return (None, "empty document") if total == 0 else (text, None)
 
 
+def placed(text, edit):
+    """The edit with a place of this text; an edit of kind x is one that is refused."""
+    kind, at, count = edit["kind"], edit["at"], edit["count"]
+    total = len(text)
+    if kind == "x":
+        return ("d", at % (total + 1) if at >= 0 else total, total + 1 + count, "")
+    if kind == "d" and total:
+        at = total - 1 if at < 0 else at % total
+        return ("d", at, min(count, total - at), "")
+    if kind == "b" and total:
+        return ("b", total if at < 0 else 1 + at % total, 0, "")
+    return (kind, total if at < 0 else at % (total + 1), count, edit["text"])
+
+
 class Member:
     def __init__(self, program, folder, me):
         self.program, self.folder, self.me = program, folder, me
         self.has_left = False
+        # Which requests its sessions know.
+        self.version = 1
 
     # ---- the program
 
@@ -80,7 +94,7 @@ class Member:
         shutil.rmtree(folder, ignore_errors=True)
         shutil.copytree(self.folder, folder)
         beside = Member(self.program, folder, self.me)
-        beside.has_left = self.has_left
+        beside.has_left, beside.version = self.has_left, self.version
         return beside
 
     def remove(self):
@@ -106,26 +120,15 @@ class Member:
         told = self.wanted("new", str(group), str(self.me), str(members)).decode()
         if told != f"new {group} {self.me} {members}\n":
             raise Wrong(f"new answered {told!r}")
+        self.version = 2 if self.talk(b"v\n", "quit").startswith(b"version 2\n") else 1
 
     def lines(self, edits):
         """The edits with places of the text as it is, so that most are accepted; an edit of kind x is one that is refused."""
         text, made = self.text(), []
         for edit in edits:
-            made.append(self.placed(text, edit))
+            made.append(placed(text, edit))
             text = performed(text, made[-1])[0] or text
         return made
-
-    def placed(self, text, edit):
-        kind, at, count = edit["kind"], edit["at"], edit["count"]
-        total = len(text)
-        if kind == "x":
-            return ("d", at % (total + 1) if at >= 0 else total, total + 1 + count, "")
-        if kind == "d" and total:
-            at = total - 1 if at < 0 else at % total
-            return ("d", at, min(count, total - at), "")
-        if kind == "b" and total:
-            return ("b", total if at < 0 else 1 + at % total, 0, "")
-        return (kind, total if at < 0 else at % (total + 1), count, edit["text"])
 
     def expected(self, lines):
         """What comes of these lines: the text, and where the first refused one is and why."""
@@ -212,9 +215,13 @@ class Member:
         if len(output) != len(lines) + 1 or not all(line.startswith("ok ") for line in output[:-1]) or output[-1] != "saved":
             raise Wrong(f"a session answered {output} to edits that `edit` accepts")
 
+    def answer(self, line):
+        """The reply to one request in a session of its own."""
+        return Replies(self.talk(line.encode() + b"\n", "quit")).line()
+
     def undo_right_after(self, edit):
         text = self.text()
-        line = self.placed(text, edit)
+        line = placed(text, edit)
         after, why = performed(text, line)
         if why or self.has_left:
             return
@@ -226,121 +233,3 @@ class Member:
             raise Wrong(f"an edit and its undo were answered by {output!r}")
         if replies.block("text").decode() != text:
             raise Wrong(f"the text after {line} and its undo isn't {text!r}: {output!r}")
-
-    def session(self, requests, messages, end, piece):
-        """Plays requests, and returns the messages that may be handed on: those of a session that stored."""
-        before, text, given, wanted = self.files(), self.text(), b"", []
-        for asked in requests:
-            kind = asked["ask"]
-            if kind == "edit":
-                line = self.placed(text, asked["edit"])
-                after, why = performed(text, line)
-                if self.has_left and not (why and line[0] == "b"):
-                    why = "left"
-                # (a message may have changed the text by then: what is known is that the reply is one of an edit)
-                given += (spelled(line) + "\n").encode()
-                wanted.append(("edit", None if text is UNKNOWN else why))
-                if text is not UNKNOWN and not why:
-                    text = after
-            elif kind == "take":
-                message = messages.get(asked["message"])
-                if message is not None:
-                    given += b"m %d\n" % len(message) + message
-                    wanted.append(("take", None))
-                    text = UNKNOWN
-            elif kind == "send":
-                given += b"s %d\n" % asked["to"]
-                wanted.append(("send", asked["message"]))
-            elif kind == "undo":
-                given += b"u\n"
-                wanted.append(("undo", None))
-                text = UNKNOWN
-            elif kind == "cursor":
-                at = len(text) if asked["at"] < 0 else asked["at"] % (len(text) + 1)
-                given += b"k %d\n" % at
-                wanted.append(("cursor", None if text is UNKNOWN else at))
-            elif kind == "where":
-                given += b"p\n"
-                wanted.append(("cursor", None))
-            elif kind == "text":
-                given += b"t\n"
-                wanted.append(("text", None if text is UNKNOWN else text))
-            else:
-                given += b"? \n"
-                wanted.append(("bad", None))
-        given += b"t\n"
-        wanted.append(("last", None if text is UNKNOWN else text))
-        output = self.talk(given, end, piece)
-        if output is None:
-            if self.files() != before:
-                raise Wrong("a session that was killed before its end changed the files")
-            return {}
-        return self.compared(Replies(output), wanted, output)
-
-    def compared(self, replies, wanted, output):
-        made = {}
-        for kind, value in wanted:
-            if kind == "edit":
-                line = replies.line()
-                right = line.startswith(("ok ", "no ")) if value is None else line == f"no {value}"
-                if not right:
-                    raise Wrong(f"an edit was answered by {line!r}, not by {value!r}: {output!r}")
-            elif kind == "take":
-                told = replies.line().split()
-                if told[0::2] != ["applied", "released", "repeated", "held", "refused"] or told[9] != "0":
-                    raise Wrong(f"a message was answered by {told}")
-            elif kind == "send":
-                made[value] = replies.block("message")
-            elif kind == "undo":
-                line = replies.line()
-                if not line.startswith("undone ") and line not in ("no nothing", "no left"):
-                    raise Wrong(f"an undo was answered by {line!r}")
-            elif kind == "cursor":
-                line = replies.line()
-                if not line.startswith(("cursor ", "no range ")) or value is not None and line != f"cursor {value}":
-                    raise Wrong(f"a cursor was answered by {line!r}, not {value!r}")
-            elif kind == "bad":
-                if replies.line() != "bad":
-                    raise Wrong("a line that is no request wasn't answered by `bad`")
-            else:
-                text = replies.block("text").decode()
-                if value is not None and text != value:
-                    raise Wrong(f"a session's text is {text!r}, not {value!r}")
-                if kind == "last" and text != self.text():
-                    raise Wrong(f"a session's last text is {text!r}, and {self.text()!r} was stored")
-        if replies.line() != "saved" or replies.rest():
-            raise Wrong(f"a session didn't end with `saved`: {output!r}")
-        return made
-
-
-class Unknown(str):
-    """A text that isn't known, since a message or an undo changed it."""
-
-
-UNKNOWN = Unknown("")
-
-
-class Replies:
-    def __init__(self, output):
-        self.output, self.at = output, 0
-
-    def line(self):
-        end = self.output.find(b"\n", self.at)
-        if end < 0:
-            raise Wrong(f"a reply is missing: {self.output!r}")
-        line, self.at = self.output[self.at : end].decode(), end + 1
-        return line
-
-    def block(self, word):
-        told = self.line().split(" ")
-        if told[0] != word or len(told) != 2:
-            raise Wrong(f"{told} came where `{word} N` was to come")
-        length = int(told[1])
-        block = self.output[self.at : self.at + length]
-        if len(block) != length or self.output[self.at + length : self.at + length + 1] != b"\n":
-            raise Wrong(f"the {length} bytes of `{word}` aren't whole")
-        self.at += length + 1
-        return block
-
-    def rest(self):
-        return self.output[self.at :]
