@@ -15,7 +15,7 @@
 (defgroup rls nil "Texts that several people write, by rls." :group 'applications)
 (defcustom rls-program "rls" "The program." :type 'string)
 (defcustom rls-every 0.5 "Seconds between two looks into the shared folder; nil for none." :type '(choice number (const nil)))
-(defcustom rls-idle 2 "Seconds without an edit, after which edits are stored and sent." :type 'number)
+(defcustom rls-idle 1 "Seconds without an edit, after which edits are stored and sent." :type 'number)
 
 (defcustom rls-most 3 "Seconds after which edits are stored and sent also while somebody types on." :type 'number)
 (defcustom rls-rename-at 500 "Runs of identifiers from which it renames (docs/USE.md); 0 for never." :type 'natnum)

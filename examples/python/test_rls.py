@@ -1,5 +1,6 @@
 """Tests of rls.py: `python3 -m unittest` in this folder. RLS names the program; it is bin/rls of this checkout otherwise."""
 import fcntl
+import importlib.util
 import os
 import random
 import shutil
@@ -12,14 +13,7 @@ import unittest
 import warnings
 
 os.environ.setdefault("RLS", os.path.join(os.path.dirname(os.path.abspath(__file__)), "..", "..", "bin", "rls"))
-import rls  # noqa: E402
-from rls import Commands, Head, Mailbox, Refused, RlsError, Session, Stale, changes, script  # noqa: E402
-
-
-def applied(old, found):
-    for at, count, text in found:
-        old = old[:at] + text + old[at + count:]
-    return old
+from rls import Change, Commands, Groups, Head, Mailbox, Refused, RlsError, Session, Stale, applied, changes, limits, script  # noqa: E402
 
 
 class Room(unittest.TestCase):
@@ -166,8 +160,8 @@ class ByCommands(Room):
 
     def many_runs(self, replica):
         """Makes some 25 runs, and has a limit of 10."""
-        self.addCleanup(setattr, rls, "RENAME_AT", rls.RENAME_AT)
-        rls.RENAME_AT = 10
+        self.addCleanup(setattr, limits, "RENAME_AT", limits.RENAME_AT)
+        limits.RENAME_AT = 10
         replica.insert(0, "abcdefghijklmnopqrstuvwxyz")
         for k in range(12):
             replica.insert(1 + 3 * k, "X")
@@ -186,7 +180,7 @@ class ByCommands(Room):
     def test_renames_nothing(self):
         a, _ = self.two()
         self.many_runs(a)
-        rls.RENAME_AT = 0
+        limits.RENAME_AT = 0
         Mailbox(self.path("shared"), a.head()).sync(a)
         self.assertGreater(a.stat()["runs"][0], 20)
 
@@ -236,8 +230,8 @@ class ByCommands(Room):
         """Whoever stores is told that the folder is in use, and doesn't wait for ever; whoever reads is answered."""
         a, _ = self.two()
         a.insert(0, "text")
-        self.addCleanup(setattr, rls, "MOST_WAIT", rls.MOST_WAIT)
-        rls.MOST_WAIT = 0.2
+        self.addCleanup(setattr, limits, "MOST_WAIT", limits.MOST_WAIT)
+        limits.MOST_WAIT = 0.2
         self.addCleanup(signal.alarm, 0)
         signal.alarm(20)
         with Session(a.folder):
@@ -365,7 +359,7 @@ class BySession(Room):
     def test_nobody_comes_in_between_while_it_saves(self):
         a, _ = self.two()
         with Session(a.folder) as s:
-            s.changes = rls.RENAME_AT
+            s.changed = limits.RENAME_AT
             s.stored.rename_if_due = lambda: self.assertTrue(self.is_locked(a.folder))
             s.insert(0, "x")
             s.save()
@@ -399,20 +393,20 @@ class BySession(Room):
         with Session(a.folder) as s:
             s.insert(0, "x")
             with self.assertRaises(RlsError) as caught:
-                s.take(bytes(rls.MOST_INPUT))
+                s.take(bytes(limits.MOST_INPUT))
             self.assertEqual(caught.exception.status, 11)
             self.assertEqual(s.text(), "x")
 
     def test_limit_of_input(self):
         """The client begins a new session in time; the program alone would end with status 11 and forget the session."""
         a, _ = self.two()
-        most, rls.MOST_INPUT = rls.MOST_INPUT, 200
+        most, limits.MOST_INPUT = limits.MOST_INPUT, 200
         try:
             with Session(a.folder) as s:
                 for k in range(40):
                     s.insert(k, "x")
         finally:
-            rls.MOST_INPUT = most
+            limits.MOST_INPUT = most
         self.assertEqual(a.text(), "x" * 40)
 
     def test_mailbox(self):
@@ -459,6 +453,185 @@ class BySession(Room):
     def test_crash_as_the_protocol_is(self):
         """What docs/SESSION.md warns of: both show status 0 throughout, and they differ for ever."""
         self.assertEqual(self.crash(False), ("second ", "first"))
+
+
+class SecondVersion(Room):
+    """What only a program with the second version of the session has."""
+
+    def setUp(self):
+        super().setUp()
+        self.a, self.b = self.two()
+        with Session(self.a.folder) as s:
+            if s.version < 2:
+                for call in (s.undo_group, s.redo_group, s.end_group, s.tell_changes, s.stat, lambda: s.cursor_at(1), lambda: s.place(0)):
+                    with self.assertRaises(RlsError) as caught:
+                        call()
+                    self.assertEqual(caught.exception.status, 4)
+                self.assertEqual(s.text(), "")
+                self.skipTest("the program has the first version of the session")
+
+    def both(self):
+        sessions = [Session(x.folder) for x in (self.a, self.b)]
+        for s in sessions:
+            self.addCleanup(s.kill)
+        return sessions
+
+    def exchange(self, s, t):
+        t.take(s.message(1))
+        s.take(t.message(0))
+
+    def test_undo_and_redo_after_storing(self):
+        """It takes back own edits alone, all the way, and stores without beginning again."""
+        s, t = self.both()
+        pid = s.process.pid
+        s.insert(0, "hello")
+        self.assertEqual(s.end_group(), Groups(1, 0))
+        s.save()
+        s.delete(0, 3)
+        s.save()
+        self.exchange(s, t)
+        t.insert(2, " from another")
+        t.save()
+        s.take(t.message(0))
+        self.assertEqual(s.undo_group(), 1)
+        self.assertEqual(s.text(), "hello from another")
+        self.assertEqual(s.undo_group(), 1)
+        self.assertEqual(s.text(), " from another")
+        self.assertEqual(s.undo_group(), 0)
+        self.assertEqual((s.redo_group(), s.redo_group(), s.redo_group()), (1, 1, 0))
+        self.assertEqual(s.text(), "lo from another")
+        self.assertEqual(s.end_group(), Groups(2, 0))
+        self.assertEqual(s.process.pid, pid)
+        s.close()
+        self.assertEqual(self.a.text(), "lo from another")
+
+    def test_what_is_stored(self):
+        s, _ = self.both()
+        s.insert(0, "stored")
+        s.save()
+        s.insert(0, "not ")
+        s.kill()
+        self.assertEqual(self.a.text(), "stored")
+
+    def test_changes(self):
+        """Whoever keeps the text plays the changes over it, and has the text."""
+        sessions = self.both()
+        shown = ["", ""]
+        for s in sessions:
+            s.tell_changes()
+        r = random.Random(5)
+        for step in range(120):
+            k = r.randrange(2)
+            s = sessions[k]
+            what = r.randrange(8)
+            if what == 0:
+                self.exchange(*sessions) if k == 0 else sessions[1].take(sessions[0].message(1))
+            elif what == 1:
+                (s.undo_group if r.random() < 0.6 else s.redo_group)()
+            elif what == 2 and shown[k]:
+                s.edit([f"b {len(shown[k])}"])
+            elif what == 3 and shown[k]:
+                s.rename()
+            elif what == 4:
+                with self.assertRaises(Refused):
+                    s.insert(len(shown[k]) + 1, "x")
+            else:
+                at = r.randrange(len(shown[k]) + 1)
+                count = r.randrange(len(shown[k]) - at + 1) if what == 5 else 0
+                text = r.choice(["ab", "\U0001F600", "\n", "\\n\r"])
+                if count:
+                    s.delete(at, count)
+                s.insert(at, text)
+                shown[k] = applied(shown[k], [Change(at, count, text)])
+            for n, t in enumerate(sessions):
+                shown[n] = applied(shown[n], t.news())
+                self.assertEqual(shown[n], t.text(), (step, what))
+        s, t = sessions
+        self.exchange(s, t)
+        self.exchange(s, t)
+        self.assertEqual(s.text(), t.text())
+
+    def test_cursors(self):
+        s, t = self.both()
+        s.insert(0, "one\ntwo")
+        s.put_cursor(1, 4)
+        s.put_cursor(2, 4, before=True)
+        s.cursor = 7
+        s.insert(4, "new\n")
+        self.assertEqual((s.cursor_at(1), s.cursor_at(2), s.cursor), (4, 8, 11))
+        with self.assertRaises(Refused):
+            s.cursor_at(3)
+        for call in (lambda: s.put_cursor(1, 99), lambda: s.place(99)):
+            with self.assertRaises(Refused):
+                call()
+        self.exchange(s, t)
+        t.insert(0, "zero\n")
+        self.assertEqual(t.located(s.place(8)), 13)
+
+    def test_cursors_of_others(self):
+        """They go beside the messages. What isn't a cursor there is left out."""
+        members = [Commands.new(self.path(f"n{k}"), 7, k, 8) for k in range(2)]
+        s, t = (Session(x.folder) for x in members)
+        self.addCleanup(s.kill)
+        self.addCleanup(t.kill)
+        boxes = [Mailbox(self.path("shared"), x.head()) for x in (s, t)]
+        s.insert(0, "text")
+        boxes[0].sync(s)
+        boxes[0].show_cursor(s, 2, "Ada\x1b[2J\n")
+        boxes[1].sync(t)
+        t.insert(0, "a ")
+        for member, line in (2, b"0 x\nq\n"), (3, b"q\n"), (4, b"\xff"), (5, b"5.1.1.0" * 90_000), (6, b""):
+            with open(boxes[1].cursor_path(member), "wb") as f:
+                f.write(line)
+        os.mkfifo(boxes[1].cursor_path(7))
+        self.addCleanup(signal.alarm, 0)
+        signal.alarm(20)
+        found = boxes[1].cursors(t)
+        self.assertEqual(found.pop(0), (4, "Ada[2J"))
+        self.assertLessEqual(set(found), {2})
+        self.assertEqual(t.text(), "a text")
+
+    def test_who_this_is(self):
+        s, _ = self.both()
+        s.insert(0, "x")
+        self.assertEqual(s.head(), Head(7, 2, 0, (1, 0)))
+        self.assertEqual(s.stat()["total"], (1,))
+
+    def test_limit_of_input(self):
+        """It stores in time, and goes on."""
+        s, _ = self.both()
+        self.addCleanup(setattr, limits, "MOST_INPUT", limits.MOST_INPUT)
+        limits.MOST_INPUT = 200
+        pid = s.process.pid
+        for k in range(100):
+            s.insert(k, "x")
+        self.assertEqual((s.text(), s.process.pid), ("x" * 100, pid))
+
+    def test_renames_and_undoes_all_the_same(self):
+        s, _ = self.both()
+        ByCommands.many_runs(self, s)
+        s.end_group()
+        s.insert(0, "last ")
+        s.save()
+        self.assertEqual(s.stat()["runs"], (1,))
+        s.undo_group()
+        self.assertEqual(s.text()[:3], "aXb")
+
+
+class Package(Room):
+    def test_install(self):
+        """By pip, without a network."""
+        here = os.path.dirname(os.path.abspath(__file__))
+        shutil.copytree(here, self.path("python"), ignore=shutil.ignore_patterns("__pycache__"))
+        command = [sys.executable, "-m", "pip", "install", "--quiet", "--no-build-isolation", "--no-index", "--target", self.path("site"), self.path("python")]
+        if any(importlib.util.find_spec(x) is None for x in ("pip", "setuptools", "wheel")):
+            self.skipTest("pip, setuptools or wheel isn't installed")
+        subprocess.run(command, check=True, stdout=subprocess.DEVNULL, stderr=subprocess.DEVNULL)
+        found = os.path.join(self.path("site"), "rls")
+        self.assertTrue(os.path.isfile(os.path.join(found, "py.typed")))
+        code = "import rls; print(rls.__file__)"
+        told = subprocess.run([sys.executable, "-c", code], cwd=self.room, env={**os.environ, "PYTHONPATH": self.path("site")}, stdout=subprocess.PIPE, check=True)
+        self.assertEqual(told.stdout.decode().strip(), os.path.join(found, "__init__.py"))
 
 
 if __name__ == "__main__":

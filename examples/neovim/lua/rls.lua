@@ -8,7 +8,7 @@
 local M = {
   program = 'rls',
   every = 500, -- milliseconds between two looks into the shared folder
-  idle = 2000, -- milliseconds without an edit, after which edits are stored and sent
+  idle = 1000, -- milliseconds without an edit, after which edits are stored and sent
   most = 3000, -- milliseconds after which edits are stored and sent also while somebody types on
   rename_at = 500, -- runs of identifiers from which it renames (docs/USE.md); 0 for never
 }

@@ -11,7 +11,7 @@ endif
 let g:loaded_rls = 1
 let g:rls_program = get(g:, 'rls_program', 'rls')
 let g:rls_every = get(g:, 'rls_every', 500)     " milliseconds between two looks into the shared folder
-let g:rls_idle = get(g:, 'rls_idle', 2000)      " milliseconds without an edit, after which edits are stored and sent
+let g:rls_idle = get(g:, 'rls_idle', 1000)      " milliseconds without an edit, after which edits are stored and sent
 let g:rls_most = get(g:, 'rls_most', 3000)       " milliseconds after which edits are stored and sent also while somebody types on
 let g:rls_rename_at = get(g:, 'rls_rename_at', 500)   " runs of identifiers from which it renames (docs/USE.md); 0 for never
 let s:most_input = 67108864 - 4096              " bytes that one session may read, less some

@@ -1,0 +1,98 @@
+"""Edits as lines of the program, and the least edits that make one text of another."""
+import difflib
+import re
+from typing import Iterable, List, NamedTuple
+
+from . import limits
+
+
+class Change(NamedTuple):
+    """At `at`, `count` characters go and `text` comes."""
+    at: int
+    count: int
+    text: str
+
+
+def escaped(text: str) -> str:
+    return text.replace("\\", "\\\\").replace("\n", "\\n").replace("\r", "\\r")
+
+
+def unescaped(text: str) -> str:
+    return re.sub(r"\\(.)", lambda found: {"n": "\n", "r": "\r"}.get(found[1], found[1]), text)
+
+
+def insertion(at: int, text: str) -> List[str]:
+    """The lines that insert a text, which may be longer than one insertion may be."""
+    most = limits.MOST_CHARACTERS
+    return [f"i {at + k} {escaped(text[k:k + most])}" for k in range(0, len(text), most)]
+
+
+def deletion(at: int, count: int) -> List[str]:
+    """The lines that delete so many characters, which may be more than one deletion may take."""
+    most = limits.MOST_DELETED
+    return [f"d {at} {min(most, count - k)}" for k in range(0, count, most)]
+
+
+def change_of(line: str) -> Change:
+    """The change that a line `i AT TEXT` or `d AT COUNT` tells."""
+    kind, at, rest = line.split(" ", 2)
+    return Change(int(at), int(rest), "") if kind == "d" else Change(int(at), 0, unescaped(rest))
+
+
+def applied(text: str, found: Iterable[Change]) -> str:
+    """What these changes, one after another, make of a text."""
+    for at, count, come in found:
+        text = text[:at] + come + text[at + count:]
+    return text
+
+
+def _common_front(old: str, new: str, most: int) -> int:
+    """How many characters are equal at the front of both, of so many at most: by halving."""
+    low, high = 0, most
+    while low < high:
+        middle = (low + high + 1) // 2
+        if old[:middle] == new[:middle]:
+            low = middle
+        else:
+            high = middle - 1
+    return low
+
+
+def _common_end(old: str, new: str, most: int) -> int:
+    low, high = 0, most
+    while low < high:
+        middle = (low + high + 1) // 2
+        if old[len(old) - middle:] == new[len(new) - middle:]:
+            low = middle
+        else:
+            high = middle - 1
+    return low
+
+
+def changes(old: str, new: str) -> List[Change]:
+    """The changes that make `new` of `old`, one after another, from the end to the front so that places stay.
+    Equal fronts and ends are cut off first; difflib does the rest if that is small."""
+    least = min(len(old), len(new))
+    front = _common_front(old, new, least)
+    end = _common_end(old, new, least - front)
+    gone, come = old[front:len(old) - end], new[front:len(new) - end]
+    if not gone and not come:
+        return []
+    if not gone or not come or len(gone) * len(come) > 4_000_000:
+        return [Change(front, len(gone), come)]
+    found = difflib.SequenceMatcher(None, gone, come, autojunk=False).get_opcodes()
+    return [Change(front + i, j - i, come[k:m]) for kind, i, j, k, m in reversed(found) if kind != "equal"]
+
+
+def script(old: str, new: str) -> List[str]:
+    """The lines that make one text of another."""
+    lines: List[str] = []
+    for at, count, text in changes(old, new):
+        lines += deletion(at, count) + insertion(at, text)
+    return lines
+
+
+def no_surrogates(text: str) -> str:
+    """Python's str may hold lone surrogates, which no text of rls has."""
+    text.encode("utf-8")
+    return text

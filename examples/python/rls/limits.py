@@ -1,0 +1,9 @@
+"""Numbers that the other modules look at when they need them, so a program may set others."""
+import os
+
+PROGRAM = os.environ.get("RLS", "rls")
+RENAME_AT = int(os.environ.get("RLS_RENAME_AT", "500"))     # runs of identifiers from which a rename is due; 0 for never
+MOST_CHARACTERS = 1_048_576          # of one insertion
+MOST_DELETED = 4_194_304             # of one deletion
+MOST_INPUT = 67_108_864              # of one command, and of what one session reads before it stores
+MOST_WAIT = 30.0                     # seconds that a call which stores waits for another program in the same folder
