@@ -1,0 +1,457 @@
+// A replica in a folder, by one running `rls session` (docs/SESSION.md). Places are UTF-16 units, as JavaScript and most editors count.
+import { execFile } from 'node:child_process';
+import { EventEmitter } from 'node:events';
+import { promisify } from 'node:util';
+import { changeOf, crossed, difference, lineOf } from './changes.js';
+import { Refused, RlsError } from './errors.js';
+import { Program } from './program.js';
+import { Text } from './text.js';
+
+const MOST_INPUT = 67_108_864 - 4_096; // bytes that a session reads before it stores, less some
+const MOST_CHARACTERS = 1_048_576; // of one insertion
+const MOST_DELETED = 4_194_304; // of one deletion
+const MOST_RUNS = 500; // runs of identifiers from which a rename is due
+
+/** What `rls stat` prints: a word, and its numbers. */
+const statOf = (printed) =>
+  Object.fromEntries(
+    printed
+      .toString()
+      .trim()
+      .split('\n')
+      .map((line) => line.split(' '))
+      .map(([word, ...numbers]) => [word, numbers.map((x) => (word === 'group' ? BigInt(x) : Number(x)))]),
+  );
+
+/** A string as insertions that the program takes, each of which ends between two characters. */
+function insertions(at, string) {
+  if (/\p{Surrogate}/u.test(string)) throw new RangeError('a lone surrogate can not be in the text');
+  const characters = string.length > MOST_CHARACTERS ? [...string] : null;
+  if (!characters) return string ? [{ at, text: string }] : [];
+  const found = [];
+  for (let k = 0; k < characters.length; k += MOST_CHARACTERS) found.push({ at: at + k, text: characters.slice(k, k + MOST_CHARACTERS).join('') });
+  return found;
+}
+
+function deletions(at, count) {
+  const found = [];
+  for (let left = count; left > 0; left -= MOST_DELETED) found.push({ at, count: Math.min(left, MOST_DELETED) });
+  return found;
+}
+
+/**
+ * Emits `change` with a list of changes `{ at, count, text }`, in units, to be played one after another over the text as the caller has it:
+ * what others changed, and what `undo` and `redo` did. Own edits aren't told. `failed`, with the error, says that the program has ended.
+ */
+export class Session extends EventEmitter {
+  #program;
+  #command;
+  #wait;
+  #text = new Text();
+  #queue = []; // what is still to be asked, in order; edits are made in #text already
+  #isAsking = false;
+  #version = 1;
+  #given = 0;
+  #changed = MOST_RUNS;
+  #failure = null;
+  #isEnding = false;
+
+  /**
+   * Opens the replica of a folder. `program` is `rls` or what the environment's RLS names. If another program holds the folder for longer than
+   * `wait` milliseconds, it is an RlsError with status 7. `renameAt` is the number of runs from which it renames when it stores; 0 for never.
+   */
+  static async open(folder, { program = process.env.RLS ?? 'rls', wait = 0, renameAt = MOST_RUNS } = {}) {
+    const session = new Session();
+    session.folder = folder;
+    session.renameAt = renameAt;
+    session.#command = program;
+    session.#wait = wait;
+    await session.#begin();
+    session.#text = new Text(await session.#askText());
+    return session;
+  }
+
+  /** What the program speaks: 1 or 2. */
+  get version() {
+    return this.#version;
+  }
+
+  /** Whether something isn't stored yet. */
+  isUnsaved = false;
+
+  /** The text, with the edits that were asked for and aren't answered yet. */
+  get text() {
+    return this.#text.toString();
+  }
+
+  get length() {
+    return this.#text.length;
+  }
+
+  // --- One request, one reply
+
+  async #begin() {
+    this.#program = new Program(this.#command, this.folder, this.#wait);
+    this.#given = 0;
+    this.#version = (await this.#line('v')) === 'version 2' ? 2 : 1;
+    if (this.#version === 2) await this.#line('c 1');
+    this.isUnsaved = false;
+  }
+
+  async #line(line, data) {
+    this.#given += Buffer.byteLength(line) + 1 + (data?.length ?? 0);
+    this.#program.write(line, data);
+    return this.#program.line();
+  }
+
+  /** The words of a reply. Changes that it tells are made here. */
+  async #ask(line, data) {
+    const reply = await this.#line(line, data);
+    if (reply === 'bad') throw new RlsError(4, `bad: ${line.slice(0, 60)}`);
+    if (this.#version === 2 && /^[idbruzym]( |$)/.test(line)) await this.#readChanges(/^[id] /.test(line) && !reply.startsWith('no '));
+    if (reply.startsWith('no ')) throw new Refused(reply.slice(3));
+    return reply.split(' ');
+  }
+
+  async #readChanges(isOwn) {
+    const count = Number((await this.#program.line()).split(' ')[1]);
+    const found = [];
+    for (let k = 0; k < count; k += 1) {
+      const line = await this.#program.line();
+      if (k > 0 || !isOwn) found.push(changeOf(line));
+    }
+    this.#accept(found);
+  }
+
+  async #askText() {
+    const [, count] = await this.#ask('t');
+    return (await this.#program.bytes(Number(count))).toString();
+  }
+
+  #need(what) {
+    if (this.#version < 2) throw new RlsError(4, `${what}: this program has the first version of the session`);
+  }
+
+  // --- The text
+
+  /** Makes changes of the program's text here: they were made without the edits that aren't asked for yet, and so are these without them. */
+  #accept(changes) {
+    let news = changes;
+    for (const entry of this.#queue) {
+      if (entry.edits) [entry.edits, news] = crossed(entry.edits, news);
+    }
+    if (news.length === 0) return;
+    this.emit('change', news.map((change) => this.#text.apply(change)));
+  }
+
+  /** Makes the text here that of the program: after a refusal, or where the program doesn't tell what changed. */
+  async #compare(before) {
+    this.#accept(difference(before, await this.#askText()));
+  }
+
+  /** Performs what is asked for, one after another. What is at work stays the first of the queue, so its places move too. */
+  async #work() {
+    if (this.#isAsking) return;
+    this.#isAsking = true;
+    while (this.#queue.length > 0) {
+      const entry = this.#queue[0];
+      let finish;
+      try {
+        if (this.#failure) throw this.#failure;
+        const answer = await (entry.what ? entry.what(entry.edits) : this.#perform(entry));
+        finish = () => entry.resolve(answer);
+      } catch (error) {
+        if (!(error instanceof Refused) && !(error instanceof RangeError)) this.#fail(error);
+        finish = () => entry.reject(error);
+      }
+      this.#queue.shift();
+      finish();
+    }
+    this.#isAsking = false;
+  }
+
+  #fail(error) {
+    if (this.#failure || (error instanceof RlsError && error.status === 4)) return;
+    this.#failure = error;
+    this.#program.end();
+    if (!this.#isEnding) this.emit('failed', error);
+  }
+
+  #asked(entry) {
+    return new Promise((resolve, reject) => {
+      this.#queue.push({ ...entry, resolve, reject });
+      this.#work();
+    });
+  }
+
+  /** Sends edits that are made here already. If one is refused, those that are still to be sent are given up, and the text is the program's. */
+  async #perform(entry) {
+    await this.#roomFor(entry.edits.reduce((sum, edit) => sum + (edit.text?.length ?? 0) * 6 + 64, 0));
+    try {
+      while (entry.edits.length > 0) {
+        await this.#ask(lineOf(entry.edits.shift()));
+        this.#edited(1);
+      }
+    } catch (error) {
+      if (!(error instanceof Refused)) throw error;
+      const isGiven = (other) => other !== entry && other.edits && !other.what;
+      const given = this.#queue.filter(isGiven);
+      entry.edits = [];
+      this.#queue = this.#queue.filter((other) => !isGiven(other));
+      for (const other of given) other.reject(error);
+      await this.#compare(this.text);
+      throw error;
+    }
+  }
+
+  #edited(count) {
+    this.#changed += count;
+    this.isUnsaved = true;
+  }
+
+  /** Takes `count` units away from `at` on, and puts `string` there. The text here has it at once; the answer comes when the program has it. */
+  async replace(at, count, string) {
+    if (this.#failure) throw this.#failure;
+    const from = this.#text.toCharacters(at);
+    const edits = [...deletions(from, this.#text.toCharacters(at + count) - from), ...insertions(from, string)];
+    this.#text.splice(at, count, string);
+    if (edits.length > 0) await this.#asked({ edits });
+  }
+
+  insert(at, string) {
+    return this.replace(at, 0, string);
+  }
+
+  delete(at, count) {
+    return this.replace(at, count, '');
+  }
+
+  /** Makes the text this one, by what is between the equal fronts and the equal ends. */
+  async setText(string) {
+    const now = this.text;
+    const found = difference(now, string);
+    if (found.length === 0) return;
+    const at = this.#text.toUnits(found[0].at);
+    const count = found[0].count ? this.#text.toUnits(found[0].at + found[0].count) - at : 0;
+    await this.replace(at, count, string.slice(at, string.length - (now.length - at - count)));
+  }
+
+  // --- Undo
+
+  /**
+   * Takes own edits back, whatever others did since: with version 2 the last group (see `endGroup`), also after it was stored; with version 1
+   * the last edit that isn't stored. The answer is whether there was anything.
+   */
+  undo() {
+    return this.#undo(() => (this.#version === 2 ? 'z' : 'u'));
+  }
+
+  /** Does the group again that was taken back last. With version 1 it is an RlsError with status 4. */
+  redo() {
+    return this.#undo(() => {
+      this.#need('redo');
+      return 'y';
+    });
+  }
+
+  #undo(lineFor) {
+    return this.#asked({
+      what: async () => {
+        const before = this.#version < 2 ? await this.#askText() : '';
+        try {
+          await this.#ask(lineFor());
+        } catch (error) {
+          if (error instanceof Refused && error.line === 'nothing') return false;
+          throw error;
+        }
+        if (this.#version < 2) await this.#compare(before);
+        this.#edited(1);
+        return true;
+      },
+    });
+  }
+
+  /** Ends the group of own edits that is open. The answer is how many can be undone, and how many redone: `{ undoable, redoable }`. */
+  endGroup() {
+    return this.#asked({
+      what: async () => {
+        this.#need('endGroup');
+        const [, undoable, redoable] = await this.#ask('g');
+        return { undoable: Number(undoable), redoable: Number(redoable) };
+      },
+    });
+  }
+
+  // --- Messages
+
+  /** Takes a message. The answer has the counts `applied`, `released`, `repeated`, `held` and `refused`. */
+  take(message) {
+    return this.#asked({
+      what: async () => {
+        if (message.length > MOST_INPUT - 64) throw new Refused('no session reads a message of so many bytes');
+        await this.#roomFor(message.length + 64);
+        const before = this.#version < 2 ? await this.#askText() : '';
+        const words = await this.#ask(`m ${message.length}`, message);
+        if (this.#version < 2) await this.#compare(before);
+        const report = {};
+        for (let k = 0; k + 1 < words.length; k += 2) report[words[k]] = Number(words[k + 1]);
+        this.#edited(report.applied + report.released);
+        return report;
+      },
+    });
+  }
+
+  /** The message for a member. What isn't stored may be sent to nobody, since a crash would give its numbers to other edits: so it stores first. */
+  message(to) {
+    return this.#asked({
+      what: async () => {
+        if (this.isUnsaved) await this.#store();
+        return this.#message(to);
+      },
+    });
+  }
+
+  async #message(to) {
+    const [, count] = await this.#ask(`s ${to}`);
+    return Buffer.from(await this.#program.bytes(Number(count)));
+  }
+
+  /** Who this is: `{ group, members, me, accepted }`, of which the last one counts the accepted operations of each member. */
+  head() {
+    return this.#asked({
+      what: async () => {
+        if (this.#version < 2) return headOf(await this.#message(0));
+        const { group, members, me, accepted } = await this.#stat();
+        return { group: group[0], members: members[0], me: me[0], accepted };
+      },
+    });
+  }
+
+  async #stat() {
+    const [, count] = await this.#ask('n');
+    return statOf(await this.#program.bytes(Number(count)));
+  }
+
+  // --- Cursors
+
+  /** Puts one of the cursors 0 to 63 (with version 1 there is 0 alone), which moves with the character before it or, with `before`, the one after it. */
+  putCursor(at, { cursor = 0, before = false } = {}) {
+    return this.#askedAt(at, async ([mark]) => {
+      if (cursor > 0 || before) this.#need('putCursor');
+      await this.#ask(`${before ? 'j' : 'k'} ${mark.at}${cursor > 0 ? ` ${cursor}` : ''}`);
+    });
+  }
+
+  /** Asks for something at a place of the text as it is here now; others may change the text before it is asked. */
+  async #askedAt(at, what) {
+    return this.#asked({ what, edits: [{ at: this.#text.toCharacters(at), text: '' }] });
+  }
+
+  /** Where that cursor is now. */
+  cursor(cursor = 0) {
+    return this.#asked({
+      what: async () => {
+        if (cursor > 0) this.#need('cursor');
+        return this.#unitOf((await this.#ask(cursor > 0 ? `p ${cursor}` : 'p'))[1]);
+      },
+    });
+  }
+
+  /** A place as one word, for other members. Needs version 2. */
+  place(at) {
+    return this.#askedAt(at, async ([mark]) => {
+      this.#need('place');
+      return (await this.#ask(`a ${mark.at}`))[1];
+    });
+  }
+
+  /** Where a place that a member told is here, now; Refused if its epoch isn't known here. Needs version 2. */
+  located(place) {
+    return this.#asked({
+      what: async () => {
+        this.#need('located');
+        if (!/^[!-~]+$/.test(place)) throw new RangeError('no place');
+        return this.#unitOf((await this.#ask(`l ${place}`))[1]);
+      },
+    });
+  }
+
+  /** Where a character of the program's text is in the text here, which has edits that aren't asked for yet. */
+  #unitOf(character) {
+    let mark = [{ at: Number(character), text: '' }];
+    for (const entry of this.#queue) if (entry.edits) [, mark] = crossed(entry.edits, mark);
+    return this.#text.toUnits(mark[0].at);
+  }
+
+  // --- Storing
+
+  /** Stores, and goes on. It renames if the text has many runs of identifiers (docs/USE.md, "When to rename"). */
+  save() {
+    return this.#asked({ what: () => this.#store() });
+  }
+
+  async #roomFor(bytes) {
+    if (this.#given + bytes > MOST_INPUT) await this.#store();
+  }
+
+  async #store() {
+    await (this.#version === 2 ? this.#storeAndGoOn() : this.#beginAgain());
+    if (this.renameAt <= 0 || this.#changed * 8 < this.renameAt) return;
+    this.#changed = 0;
+    const stat = this.#version === 2 ? await this.#stat() : statOf((await promisify(execFile)(this.#command, ['stat'], { cwd: this.folder })).stdout);
+    if (stat.runs[0] <= this.renameAt * Math.min(8, stat.epochs[0])) return;
+    try {
+      await this.#ask('r');
+    } catch (error) {
+      if (error instanceof Refused) return;
+      throw error;
+    }
+    await (this.#version === 2 ? this.#storeAndGoOn() : this.#beginAgain());
+  }
+
+  async #storeAndGoOn() {
+    if ((await this.#line('w')) !== 'saved') throw new RlsError(7, 'not stored');
+    this.#given = 0;
+    this.isUnsaved = false;
+  }
+
+  /** With version 1 only the end of a session stores, so another one begins. */
+  async #beginAgain() {
+    const [, at] = await this.#ask('p');
+    await this.#quit();
+    await this.#begin();
+    await this.#ask(`k ${at}`);
+  }
+
+  async #quit() {
+    const reply = await this.#line('q');
+    this.#program.end();
+    const { status, line } = await this.#program.ended;
+    if (reply !== 'saved' || status !== 0) throw new RlsError(status, line);
+    this.isUnsaved = false;
+  }
+
+  /** Stores, and ends the session. */
+  async close() {
+    this.#isEnding = true;
+    if (this.#failure) return;
+    await this.#asked({ what: () => this.#quit() });
+    this.#failure = new RlsError(9, 'the session has ended');
+  }
+
+  /** Stops the program as a crash would: what isn't stored is lost. */
+  async kill() {
+    this.#isEnding = true;
+    this.#program.kill();
+    await this.#program.ended;
+  }
+}
+
+/** The head of a message: docs/FORMATS.md. A RangeError if there is none. */
+export function headOf(message) {
+  if (message.length < 21 || message.toString('latin1', 0, 4) !== 'RLSM') throw new RangeError('no message');
+  const members = message.readUInt32BE(13);
+  if (members > 64 || message.length < 21 + 4 * members) throw new RangeError('no message');
+  const accepted = Array.from({ length: members }, (_, k) => message.readUInt32BE(21 + 4 * k));
+  return { group: message.readBigUInt64BE(5), members, me: message.readUInt32BE(17), accepted };
+}
