@@ -17,16 +17,15 @@ local function run()
     local self = all[math.random(0, 1)]
     api.nvim_set_current_buf(self.buf)
     api.nvim_feedkeys(keys[math.random(#keys)], 'xt', false)
-    self:flush()
-    if math.random(12) == 1 then self:undo() end
+    if math.random(6) == 1 then self[math.random(3) == 1 and 'redo' or 'undo'](self) end
     if math.random(4) == 1 then self:sync() end
-    local text = self:bytes(tonumber(self:ask('t'):match('%d+')))
+    local text = self:text()
     assert(text == table.concat(api.nvim_buf_get_lines(self.buf, 0, -1, true), '\n'), 'the buffer is not the text at step ' .. step)
   end
   for _ = 1, 3 do for member = 0, 1 do turn(all[member], 'sync') end end
-  assert(vim.deep_equal(all[0].lines, all[1].lines), 'the texts differ')
+  assert(vim.deep_equal(all[0].lines:all(), all[1].lines:all()), 'the texts differ')
   local file = assert(io.open(room .. '/text', 'wb'))
-  file:write(table.concat(all[0].lines, '\n'))
+  file:write(table.concat(all[0].lines:all(), '\n'))
   file:close()
   for member = 0, 1 do vim.cmd('bwipeout! ' .. all[member].buf) end
 end
@@ -51,7 +50,7 @@ local function hostile()
     api.nvim_buf_set_lines(self.buf, 0, 0, true, { text })
     self:sync()
   end
-  local function has(self, text) assert(table.concat(self.lines, '\n'):find(text, 1, true), text) end
+  local function has(self, text) assert(table.concat(self.lines:all(), '\n'):find(text, 1, true), text) end
   put(all[1], 'from b')
   put(all[0], 'from a')
   has(all[0], 'from b')

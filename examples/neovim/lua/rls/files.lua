@@ -1,0 +1,78 @@
+-- Files in a folder that others write into, and numbers in their bytes.
+local uv = vim.loop
+local M = {}
+
+-- The number in the four bytes after these many.
+function M.u32(data, at)
+  local a, b, c, d = data:byte(at + 1, at + 4)
+  return ((a * 256 + b) * 256 + c) * 256 + d
+end
+
+-- The number in eight bytes as decimal digits: it may be greater than a number of Lua can be without rounding.
+function M.decimal(data)
+  local digits = { 0 } -- the lowest first
+  for k = 1, #data do
+    local over = data:byte(k)
+    for n = 1, #digits do
+      over = over + 256 * digits[n]
+      digits[n], over = over % 10, math.floor(over / 10)
+    end
+    while over > 0 do
+      digits[#digits + 1], over = over % 10, math.floor(over / 10)
+    end
+  end
+  return table.concat(digits):reverse()
+end
+
+-- The bytes of a file; nil and why, if it can't be read; nil alone, if nothing is there. A folder that others write into may have a link, a
+-- pipe or a folder at a name, or a file that fills the memory: none of these is read.
+function M.read(path, most)
+  local named = uv.fs_lstat(path)
+  if not named then return nil end
+  if named.type ~= 'file' then return nil, 'it is no file' end
+  local file, why = uv.fs_open(path, bit.bor(uv.constants.O_RDONLY, uv.constants.O_NONBLOCK), 0)
+  if not file then return nil, why end
+  local told, data = uv.fs_fstat(file), nil
+  if not told or told.ino ~= named.ino or told.dev ~= named.dev then
+    why = 'it is another file now' -- perhaps a link's
+  elseif told.size > most then
+    why = 'it is too large'
+  else
+    data, why = uv.fs_read(file, told.size, 0)
+  end
+  uv.fs_close(file)
+  return data, why
+end
+
+-- How many bytes a regular file has; nil if there is none.
+function M.size_of(path)
+  local told = uv.fs_lstat(path)
+  return told and told.type == 'file' and told.size or nil
+end
+
+-- Writes a file so that whoever reads it sees the old one or the new one; answers why it could not, if so. It is made under a name that
+-- nobody can know before and that nobody has, and a link at its own name is replaced, and not written through.
+function M.write(path, data)
+  local new = vim.fn.fnamemodify(path, ':h') .. '/.new-' .. uv.random(16):gsub('.', function(c) return ('%02x'):format(c:byte()) end)
+  local file, why = uv.fs_open(new, 'wx', 438) -- 438: what the umask leaves of reading and writing for all
+  if not file then return why end
+  local at, count, done = 0, nil, nil
+  repeat
+    count, why = uv.fs_write(file, data:sub(at + 1), at)
+    at = at + (count or 0)
+  until not count or at >= #data
+  if count then done, why = uv.fs_fsync(file) end
+  uv.fs_close(file)
+  if done then done, why = uv.fs_rename(new, path) end
+  if done then return nil end
+  uv.fs_unlink(new)
+  return why
+end
+
+-- What tells whether a file is another one than before; nil if nothing is there.
+function M.mark_of(path)
+  local told = uv.fs_lstat(path)
+  return told and ('%s %d %d %d.%09d'):format(told.type, told.ino, told.size, told.mtime.sec, told.mtime.nsec)
+end
+
+return M

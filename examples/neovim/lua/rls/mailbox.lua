@@ -1,0 +1,112 @@
+-- What a replica does in the shared folder. One file for each sender and receiver: a message has all that its receiver isn't known to have, so
+-- the latest is enough. And one for each member's cursor.
+local files = require('rls.files')
+local api = vim.api
+local MOST_MESSAGE, MOST_CURSOR = 67108864 - 4096, 65536 -- bytes
+
+local M = {}
+
+function M:path(from, to) return ('%s/%s-%d-%d.rlsm'):format(self.shared, self.group, from, to) end
+
+function M:cursor_path(from) return ('%s/%s-%d.cursor'):format(self.shared, self.group, from) end
+
+-- Whether there is something else at a path than when this was asked last.
+function M:is_new(path)
+  local mark = files.mark_of(path)
+  if mark == self.seen[path] then return false end
+  self.seen[path] = mark
+  return true
+end
+
+-- Refuses a message that knows more operations of this member than the replica has made: then its files are old, or two members have its number.
+function M:guard(message, from)
+  local at = 21 + 4 * self.me
+  if #message >= at + 4 and message:sub(6, 17) == self.head:sub(6, 17) and files.u32(message, at) > files.u32(self:message(self.me), at) then
+    error(('rls: member %d knows more edits of member %d than this replica has: the files in its folder are old'):format(from, self.me), 0)
+  end
+end
+
+-- Takes what came from one member, and adds what it changed to `changes`. Answers whether there was anything. What can't be read as a message
+-- is told, and stops no other member's.
+function M:take_from(from, changes)
+  local path = self:path(from, self.me)
+  if from == self.me or not self:is_new(path) then return false end
+  local message, why = files.read(path, MOST_MESSAGE)
+  self.problems['of ' .. from] = why
+  if not message or message == self.taken[from] then return false end
+  if self.session.given + #message > MOST_MESSAGE then self:send() end
+  self:guard(message, from)
+  local reply, _, told = self.session:ask('m ' .. #message, message)
+  vim.list_extend(changes, told or {})
+  local refused = reply:match('^no ')
+  self.problems['of ' .. from] = (refused or not reply:match('held 0 refused 0')) and reply or nil
+  self.taken[from] = message -- what was refused once is refused again
+  if refused then return false end
+  self.changes = self.changes + (tonumber(reply:match('^applied (%d+)')) or error('rls: ' .. reply, 0))
+  return true
+end
+
+-- Whether nothing ever came from this number and the message that it has already has more than half the bytes of this one. Each of them has
+-- the whole history. Whoever begins with the number takes the one that is there and answers, and gets the rest.
+function M:is_enough(to, message)
+  local there = files.size_of(self:path(self.me, to))
+  return files.u32(message, 21 + 4 * to) == 0 and there ~= nil and 2 * there > #message and not files.size_of(self:path(to, self.me))
+end
+
+-- Writes the message to a member, if it is new.
+function M:write(to, message)
+  if message == self.sent[to] or self:is_enough(to, message) then return end
+  local why = files.write(self:path(self.me, to), message)
+  self.problems['to ' .. to] = why
+  if not why then self.sent[to] = message end
+end
+
+-- Tells others where the cursor is, if it has moved.
+function M:show_cursor()
+  if api.nvim_get_current_buf() ~= self.buf then return end
+  local at = api.nvim_win_get_cursor(0)
+  local place = self.lines:place(at[1] - 1, at[2])
+  if place == self.shown then return end
+  self.shown = place
+  self.session:send('a ' .. place, nil, function(reply)
+    local word = reply:match('^anchor (%S+)$')
+    local line = word and (word .. ' ' .. self.options.name:gsub('%c', '')):gsub(' $', '') .. '\n'
+    if line and line ~= self.told_cursor then
+      self.told_cursor = line
+      files.write(self:cursor_path(self.me), line)
+    end
+  end)
+end
+
+-- Shows where the cursors of others are. What can't be read as a cursor isn't shown.
+function M:show_others()
+  for from = 0, self.members - 1 do
+    local path = self:cursor_path(from)
+    if from ~= self.me and self:is_new(path) then
+      local line = (files.read(path, MOST_CURSOR) or ''):match('^[^\n]*')
+      local word, name = line:match('^([!-~]+) ?(.*)$')
+      if word then
+        self.session:send('l ' .. word, nil, function(reply) self:mark(from, tonumber(reply:match('^cursor (%d+)$')), name) end)
+      else
+        self:mark(from)
+      end
+    end
+  end
+end
+
+-- Shows a member's cursor at a place, or no more if there is none.
+function M:mark(from, place, name)
+  if not api.nvim_buf_is_valid(self.buf) then return end
+  if not place then
+    api.nvim_buf_del_extmark(self.buf, self.namespace, from + 1)
+    return
+  end
+  name = vim.fn.strcharpart(vim.fn.strtrans(name), 0, 40)
+  local row, byte = self.lines:find(place)
+  local line = self.lines:get(row)
+  local after = byte < #line and byte + #vim.fn.strcharpart(line:sub(byte + 1), 0, 1) or byte
+  api.nvim_buf_set_extmark(self.buf, self.namespace, row, byte, { id = from + 1, end_row = row, end_col = after, hl_group = 'Search',
+    virt_text = { { name ~= '' and name or ('member ' .. from), 'Comment' } }, virt_text_pos = 'eol' })
+end
+
+return M

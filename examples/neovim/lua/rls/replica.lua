@@ -1,0 +1,421 @@
+-- A replica in a buffer: what is typed goes to the session as it is typed, and what others changed is put in place in the buffer.
+local Session, Lines, Mailbox = require('rls.session'), require('rls.lines'), require('rls.mailbox')
+local files = require('rls.files')
+local uv, api = vim.loop, vim.api
+local MOST_INPUT = 67108864 - 4096 -- bytes that a session reads before it stores, less some
+local count = Lines.count
+
+local Replica = {}
+Replica.__index = Replica
+for name, method in pairs(Mailbox) do Replica[name] = method end
+
+local function escaped(text) return (text:gsub('[\\\n\r]', { ['\\'] = '\\\\', ['\n'] = '\\n', ['\r'] = '\\r' })) end
+local function unescaped(text) return (text:gsub('\\(.)', { n = '\n', r = '\r', ['\\'] = '\\' })) end
+
+-- The number after this word in a reply; any other reply is an error.
+local function number(reply, word) return tonumber(reply:match('^' .. word .. ' (%d+)')) or error('rls: ' .. reply, 0) end
+
+function Replica.open(options, namespace, folder, shared)
+  local self = setmetatable({ options = options, namespace = namespace, folder = folder, shared = shared, taken = {}, sent = {}, seen = {}, problems = {},
+    places = {}, changes = options.rename_at, unsaved = false }, Replica)
+  if vim.fn.isdirectory(folder) == 0 then error('rls: there is no folder ' .. folder, 0) end
+  vim.fn.mkdir(shared, 'p')
+  self:start()
+  local done, fault = pcall(self.learn, self)
+  if not done then
+    self.session:close()
+    error(fault, 0)
+  end
+  self.due = uv.new_timer()
+  return self
+end
+
+function Replica:start()
+  self.session = Session.start(self.options.program, self.folder)
+  self.version = self.session:ask('v') == 'version 2' and 2 or 1
+  if self.version == 2 then self.session.telling = self.session:ask('c 1') == 'telling 1' end
+end
+
+-- Which member this is: the head of a message tells it. A message to oneself has a head alone.
+function Replica:learn()
+  local to = 0
+  if self.version == 2 then
+    local _, stat = self.session:ask('n')
+    to = tonumber(stat:match('me (%d+)'))
+  end
+  self.head = self:message(to)
+  self.group, self.members, self.me = files.decimal(self.head:sub(6, 13)), files.u32(self.head, 13), files.u32(self.head, 17)
+end
+
+function Replica:text()
+  local reply, text = self.session:ask('t')
+  number(reply, 'text')
+  return text
+end
+
+function Replica:message(to)
+  local reply, message = self.session:ask('s ' .. to)
+  number(reply, 'message')
+  return message
+end
+
+-- From the buffer to the session ----------------------------------------------
+
+-- Shows the text in the buffer, which from now on tells what is changed in it.
+function Replica:attach()
+  local lines = vim.split(self:text(), '\n', { plain = true })
+  local levels = vim.bo[self.buf].undolevels
+  vim.bo[self.buf].undolevels = -1
+  api.nvim_buf_set_lines(self.buf, 0, -1, true, lines)
+  vim.bo[self.buf].undolevels = levels
+  self.lines = Lines.new(lines)
+  api.nvim_buf_attach(self.buf, false, { on_lines = function(_, _, _, first, last, new_last) self:try('changed', first, last, new_last) end })
+end
+
+-- What the editor tells: these lines were changed.
+function Replica:changed(first, last, new_last)
+  local new = api.nvim_buf_get_lines(self.buf, first, new_last, false)
+  if new_last - first - (last - first) + self.lines.size == 0 then new = { '' } end
+  if not self.is_silent then self:tell(first, last, new) end
+  self.lines:splice(first, last, new)
+end
+
+-- Hands a change of lines to the session: at most one deletion and one insertion.
+function Replica:tell(first, last, new)
+  local old = self.lines:slice(first, last)
+  -- One line of each, so that what is compared next are whole lines of both.
+  if #old == 0 or #new == 0 then
+    if first > 0 then
+      first = first - 1
+      table.insert(old, 1, self.lines:get(first))
+      new = vim.list_extend({ old[1] }, new)
+    elseif last < self.lines.size then
+      old[#old + 1] = self.lines:get(last)
+      new = vim.list_extend(vim.list_extend({}, new), { old[#old] })
+    end
+  end
+  local gone, come = table.concat(old, '\n'), table.concat(new, '\n')
+  local front, tail = Lines.common_bytes(gone, come)
+  local at = self.lines:place(first, 0) + (front > 0 and count(gone:sub(1, front)) or 0)
+  gone, come = gone:sub(front + 1, #gone - tail), come:sub(front + 1, #come - tail)
+  if gone == '' and come == '' then return end
+  if self.is_boundary and self.version == 2 then self.session:send('g', nil, function() end) end
+  self.is_boundary = false
+  if gone ~= '' then self:edit(('d %d %d'):format(at, count(gone))) end
+  if come ~= '' then self:edit(('i %d %s'):format(at, escaped(come))) end
+  self:is_edited()
+end
+
+function Replica:edit(request)
+  self.session:send(request, nil, function(reply, _, changes)
+    if not reply:match('^ok ') then return self:fail('rls: ' .. reply) end
+    -- The first change is the edit itself. More are rare, and come from operations that waited: the buffer may have gone on since.
+    if changes and #changes > 1 then self.is_behind = true end
+  end)
+end
+
+-- From now on something isn't stored. It is sent `idle` after the last edit, and at the latest `most` after the first. What was taken counts as
+-- an edit only if nothing else waits to be stored.
+function Replica:is_edited(is_taken)
+  local now = uv.hrtime() / 1e6
+  self.changes = self.changes + 1
+  if is_taken and self.unsaved then return end
+  if not self.unsaved then self.unsaved, self.since = true, now end
+  local left = math.min(self.options.idle, self.since + self.options.most - now)
+  self.due:start(math.max(math.floor(left), 0), 0, vim.schedule_wrap(function()
+    if self.unsaved then self:try('send') end
+  end))
+end
+
+-- From the session to the buffer ----------------------------------------------
+
+-- Whether a cursor stays with the character after it: one at the beginning of a line, and one that stands on a character. One at the end of
+-- the text has none.
+function Replica:is_before(row, byte)
+  if row == self.lines.size - 1 and byte >= #self.lines:get(row) then return false end
+  return byte == 0 or not api.nvim_get_mode().mode:match('^[iR]')
+end
+
+-- Where a cursor goes when lines come in at a place, or when what is from there to another place goes.
+local function after_insertion(cursor, row, byte, lines)
+  local is_at = cursor.row == row and cursor.byte == byte
+  if cursor.row < row or (cursor.row == row and cursor.byte < byte) or (is_at and not cursor.is_before) then return end
+  if cursor.row == row then cursor.byte = #lines[#lines] + cursor.byte - (#lines == 1 and 0 or byte) end
+  cursor.row = cursor.row + #lines - 1
+end
+
+local function after_deletion(cursor, row, byte, last_row, last_byte)
+  if cursor.row < row or (cursor.row == row and cursor.byte <= byte) then return end
+  if cursor.row > last_row or (cursor.row == last_row and cursor.byte >= last_byte) then
+    if cursor.row == last_row then cursor.byte = byte + cursor.byte - last_byte end
+    if cursor.row == last_row then cursor.row = row else cursor.row = cursor.row - (last_row - row) end
+  else
+    cursor.row, cursor.byte = row, byte
+  end
+end
+
+-- The cursors of the windows that show the buffer.
+function Replica:cursors()
+  local found = {}
+  for _, window in ipairs(vim.fn.win_findbuf(self.buf)) do
+    local at = api.nvim_win_get_cursor(window)
+    found[#found + 1] = { window = window, row = at[1] - 1, byte = at[2], is_before = self:is_before(at[1] - 1, at[2]) }
+  end
+  return found
+end
+
+-- Makes changes of the session in the buffer, at their places, so marks, folds and cursors elsewhere stay. Answers where the last one is.
+function Replica:apply(changes)
+  local cursors, last = self:cursors(), nil
+  self.is_silent = true
+  local done, fault = pcall(function()
+    for _, change in ipairs(changes) do
+      local at, rest = change:match('^%a (%d+) (.*)$')
+      local row, byte = self.lines:find(tonumber(at))
+      last = { row + 1, byte }
+      if change:sub(1, 1) == 'd' then
+        local last_row, last_byte = self.lines:find(tonumber(at) + tonumber(rest))
+        api.nvim_buf_set_text(self.buf, row, byte, last_row, last_byte, { '' })
+        for _, cursor in ipairs(cursors) do after_deletion(cursor, row, byte, last_row, last_byte) end
+      else
+        local lines = vim.split(unescaped(rest), '\n', { plain = true })
+        api.nvim_buf_set_text(self.buf, row, byte, row, byte, lines)
+        for _, cursor in ipairs(cursors) do after_insertion(cursor, row, byte, lines) end
+      end
+    end
+  end)
+  self.is_silent = false
+  if not done then error(fault, 0) end
+  if last then self:put(cursors) end
+  return last
+end
+
+function Replica:put(cursors)
+  for _, cursor in ipairs(cursors) do api.nvim_win_set_cursor(cursor.window, { cursor.row + 1, cursor.byte }) end
+end
+
+-- Makes the buffer the session's text by what is between the equal fronts and ends, where the session doesn't tell what changed. With the
+-- first version Neovim's own undo goes back to here and no further: it would take back what others wrote.
+function Replica:compare()
+  local old, new = self.lines:all(), vim.split(self:text(), '\n', { plain = true })
+  local front, tail = Lines.common(old, new)
+  if front == #old and front == #new then return end
+  local levels = vim.bo[self.buf].undolevels
+  vim.bo[self.buf].undolevels, self.is_silent = -1, true
+  api.nvim_buf_set_lines(self.buf, front, #old - tail, true, vim.list_slice(new, front + 1, #new - tail))
+  vim.bo[self.buf].undolevels, self.is_silent = levels, false
+end
+
+-- Undo ------------------------------------------------------------------------
+
+function Replica:take_back(request, nothing)
+  self.session:drain()
+  local reply, _, changes = self.session:ask(request)
+  if reply == 'no nothing' then
+    api.nvim_echo({ { nothing } }, false, {})
+    return
+  end
+  if not reply:match('^%a+ %d') then error('rls: ' .. reply, 0) end
+  if changes then
+    local last = self:apply(changes)
+    if last then api.nvim_win_set_cursor(0, last) end
+  else
+    self:compare()
+  end
+  self.is_boundary = true
+  self:is_edited()
+end
+
+function Replica:undo() self:take_back(self.version == 2 and 'z' or 'u', 'Already at oldest change') end
+
+function Replica:redo()
+  if self.version == 2 then self:take_back('y', 'Already at newest change') end
+end
+
+-- Storing and sending -----------------------------------------------------------
+
+function Replica:stored(reply)
+  if reply ~= 'saved' then return self:fail('rls: not stored') end
+  self.session.given = 0
+end
+
+-- With the first version only the end of a session writes the file, so another one begins. The cursor goes over; what `u` could take back doesn't.
+function Replica:begin_again()
+  local at = number(self.session:ask('p'), 'cursor')
+  self:stored((self.session:ask('q')))
+  self.session:close()
+  self:start()
+  number(self.session:ask('k ' .. at), 'cursor')
+end
+
+-- What `rls stat` prints: of the stored file with the first version.
+function Replica:stat()
+  if self.version == 2 then return select(2, self.session:ask('n')) end
+  return vim.fn.system({ 'sh', '-c', 'cd "$1" && exec "$2" stat', 'sh', self.folder, self.options.program })
+end
+
+-- Renames if there are too many runs of identifiers. The more epochs are kept, because some member hasn't taken the last renames, the longer it
+-- waits. It looks only when something has changed since, an eighth of the limit at least.
+function Replica:rename_if_due()
+  local limit = self.options.rename_at
+  if limit <= 0 or self.changes * 8 < limit then return end
+  self.changes = 0
+  local numbers = self:stat()
+  local runs, epochs = tonumber(numbers:match('runs (%d+)') or 0), tonumber(numbers:match('epochs (%d+)') or 1)
+  if runs <= limit * math.min(epochs, 8) then return end
+  local reply, _, changes = self.session:ask('r')
+  if reply:match('^no ') then
+    if self.told then return end
+    self.told = true
+    vim.notify(('rls: the rename was refused (%s): docs/USE.md, "When to rename", says what to do'):format(reply:sub(4)))
+  else
+    number(reply, 'ok')
+    if changes then self:apply(changes) end
+    if self.version == 1 then self:begin_again() end
+  end
+end
+
+-- Stores, and then writes the messages: what isn't stored may be sent to nobody, since a crash would give its numbers to other edits. With the
+-- second version nothing waits: the messages are asked for, then it is stored, and what was answered is written after that.
+function Replica:send()
+  self.unsaved = false
+  local messages = {}
+  if self.version == 1 then
+    self.session:drain()
+    self:begin_again()
+    self:rename_if_due()
+  elseif self.session:is_idle() then
+    self:rename_if_due()
+  end
+  for to = 0, self.members - 1 do
+    if to ~= self.me then self.session:send('s ' .. to, nil, function(_, message) messages[to] = message end) end
+  end
+  local function write()
+    for to, message in pairs(messages) do self:write(to, message) end
+    if not self.unsaved and api.nvim_buf_is_valid(self.buf) then vim.bo[self.buf].modified = false end
+  end
+  if self.version == 1 then
+    self.session:drain()
+    write()
+  else
+    self.session:send('w', nil, function(reply)
+      self:stored(reply)
+      if not self.failed then write() end
+    end)
+  end
+end
+
+-- Takes what came. It waits until the session has answered what was asked before, since its changes are of the text as it is then. The timer
+-- doesn't wait: it looks again.
+function Replica:take(is_asked)
+  if not is_asked and not self.session:is_idle() then return end
+  self.session:drain()
+  if self.lines.size ~= api.nvim_buf_line_count(self.buf) then error('rls: the buffer has other lines than it told', 0) end
+  local place = self.version == 1 and api.nvim_get_current_buf() == self.buf and api.nvim_win_get_cursor(0)
+  local changes, taken = {}, false
+  if place then number(self.session:ask('k ' .. self.lines:place(place[1] - 1, place[2])), 'cursor') end
+  for from = 0, self.members - 1 do taken = self:take_from(from, changes) or taken end
+  if self.version == 2 and not self.is_behind then
+    self:apply(changes)
+  elseif taken or self.is_behind then
+    self:compare()
+    self.is_behind = false
+    if place then
+      local row, byte = self.lines:find(number(self.session:ask('p'), 'cursor'))
+      api.nvim_win_set_cursor(0, { row + 1, byte })
+    end
+  end
+  if taken then self:is_edited(true) end
+end
+
+-- What `:w` does.
+function Replica:sync()
+  self:take(true)
+  self:send()
+  self.session:drain()
+end
+
+-- What the timer does.
+function Replica:tick()
+  if self.session.ended ~= false then self.session:drain() end
+  self:take()
+  if self.version == 2 and self.options.cursors and self.session:is_idle() then
+    self:show_cursor()
+    self:show_others()
+  end
+  if self.session.given > MOST_INPUT / 2 then self:send() end
+end
+
+-- Faults -----------------------------------------------------------------------
+
+-- After a fault nothing more is done with the buffer, which keeps what it shows, until it is opened again.
+function Replica:try(what, ...)
+  if self.failed then return end
+  local done, fault = pcall(self[what], self, ...)
+  if not done then self:fail(tostring(fault)) end
+end
+
+function Replica:fail(fault)
+  if self.failed then return end
+  self.failed = fault
+  self.due:stop()
+  vim.schedule(function() vim.notify(fault, vim.log.levels.ERROR) end)
+end
+
+-- Opens the replica of a buffer again after a fault. What was typed and isn't in the replica is put in again; nothing is deleted, since what
+-- isn't in the buffer may be of others.
+function Replica:open_again()
+  self.session:close() -- at the end of its input it stores
+  self:start()
+  self.failed, self.is_behind, self.is_boundary, self.unsaved, self.taken, self.seen = nil, false, true, false, {}, {}
+  local shown = api.nvim_buf_get_lines(self.buf, 0, -1, true)
+  for from = 0, self.members - 1 do self:take_from(from, {}) end
+  local stored = vim.split(self:text(), '\n', { plain = true })
+  self.is_silent = true
+  api.nvim_buf_set_lines(self.buf, 0, -1, true, stored)
+  self.lines, self.is_silent = Lines.new(stored), false
+  for _, hunk in ipairs(vim.fn.reverse(Replica.missing(stored, shown))) do
+    api.nvim_buf_set_text(self.buf, hunk.row, hunk.byte, hunk.row, hunk.byte, hunk.lines)
+  end
+  self:sync()
+end
+
+-- What is in the second list of lines and not in the first: where in the first it goes, and what it is.
+function Replica.missing(stored, shown)
+  local found = {}
+  local function joined(lines) return table.concat(lines, '\n') .. '\n' end
+  for _, hunk in ipairs(vim.diff(joined(stored), joined(shown), { result_type = 'indices' })) do
+    local from, old, to, new = unpack(hunk)
+    local gone, come = vim.list_slice(stored, from, from + old - 1), vim.list_slice(shown, to, to + new - 1)
+    local row = old == 0 and from or from - 1
+    if old == 0 and row < #stored then
+      found[#found + 1] = { row = row, byte = 0, lines = vim.list_extend(come, { '' }) }
+    elseif old == 0 then
+      found[#found + 1] = { row = #stored - 1, byte = #stored[#stored], lines = vim.list_extend({ '' }, come) }
+    elseif new > 0 then
+      local one, other = table.concat(gone, '\n'), table.concat(come, '\n')
+      local front, tail = Lines.common_bytes(one, other)
+      local before = vim.split(one:sub(1, front), '\n', { plain = true })
+      local text = other:sub(front + 1, #other - tail)
+      if text ~= '' then found[#found + 1] = { row = row + #before - 1, byte = #before[#before], lines = vim.split(text, '\n', { plain = true }) } end
+    end
+  end
+  return found
+end
+
+-- Stores what isn't stored. It isn't sent before the replica is opened again.
+function Replica:close()
+  self.due:close()
+  self.looks:close()
+  -- At the end of its input a session stores too, and then the folder is free.
+  if not self.failed then pcall(self.session.ask, self.session, 'q') end
+  self.session:close()
+end
+
+function Replica:status()
+  local problems = ''
+  for message, problem in pairs(self.problems) do problems = problems .. (', message %s: %s'):format(message, problem) end
+  return self.failed or ('member %d of %d%s%s'):format(self.me, self.members, self.unsaved and ', not stored' or '', problems)
+end
+
+return Replica

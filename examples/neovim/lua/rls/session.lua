@@ -1,0 +1,134 @@
+-- One running `rls session` (docs/SESSION.md). Requests are sent at once, and their replies come in order: each is handed to the function that
+-- was given with its request.
+local uv, api = vim.loop, vim.api
+local PATIENCE = 2 -- seconds after which it says that it waits for the program
+local TELLS = { i = true, d = true, b = true, r = true, u = true, z = true, y = true, m = true } -- requests whose replies tell changes
+
+local Session = {}
+Session.__index = Session
+
+function Session.start(program, folder)
+  local input, output, errors = uv.new_pipe(), uv.new_pipe(), uv.new_pipe()
+  local self = setmetatable({ have = '', at = 1, waiting = {}, first = 1, errors = '', ended = false, telling = false, given = 0, input = input }, Session)
+  local handle
+  handle = uv.spawn(program, { args = { 'session' }, cwd = folder, stdio = { input, output, errors } }, function(status)
+    self.ended = status
+    handle:close()
+  end)
+  if not handle then error('rls: there is no program ' .. program, 0) end
+  output:read_start(function(_, data)
+    if data then
+      self.have, self.at = self.have:sub(self.at) .. data, 1
+      vim.schedule(function() self:pump() end)
+    else
+      self.closed = true
+      output:close()
+    end
+  end)
+  errors:read_start(function(_, data)
+    if data then self.errors = self.errors .. data else errors:close() end
+  end)
+  return self
+end
+
+function Session:is_idle() return self.waiting[self.first] == nil end
+
+-- Sends a request with the bytes that belong to it. `handler(reply, data, changes)` gets the first line of its reply, the bytes after it, and
+-- the lines of changes, where those are told.
+function Session:send(request, data, handler)
+  local sent = request .. '\n' .. (data or '')
+  self.waiting[self.first + self:count()] = { kind = request:sub(1, 1), handler = handler }
+  if not self.input:is_closing() then self.input:write(sent) end
+  self.given = self.given + #sent
+end
+
+function Session:count()
+  local count = 0
+  while self.waiting[self.first + count] do count = count + 1 end
+  return count
+end
+
+-- The end of the line that begins at this byte of what came; nil if it hasn't come whole.
+function Session:line_at(from)
+  local feed = self.have:find('\n', from, true)
+  if feed then return self.have:sub(from, feed - 1), feed + 1 end
+end
+
+-- The whole reply to a request, and where it ends; nothing if it hasn't come whole.
+function Session:parse(entry)
+  local reply, at = self:line_at(self.at)
+  if not reply then return nil end
+  local data, changes
+  local word, count = reply:match('^(%a+) (%d+)$')
+  if word == 'text' or word == 'message' or word == 'stat' then
+    count = tonumber(count)
+    if #self.have < at + count then return nil end
+    data, at = self.have:sub(at, at + count - 1), at + count + 1
+  elseif self.telling and TELLS[entry.kind] and reply ~= 'bad' then
+    local told
+    told, at = self:line_at(at)
+    if not told then return nil end
+    changes = {}
+    for k = 1, tonumber(told:match('^changes (%d+)$')) or error('rls: ' .. told, 0) do
+      changes[k], at = self:line_at(at)
+      if not at then return nil end
+    end
+  end
+  return { reply, data, changes }, at
+end
+
+-- Hands on the replies that have come.
+function Session:pump()
+  local entry = self.waiting[self.first]
+  while entry do
+    local found, at = self:parse(entry)
+    if not found then return end
+    self.waiting[self.first], self.first, self.at = nil, self.first + 1, at
+    entry.handler(found[1], found[2], found[3])
+    entry = self.waiting[self.first]
+  end
+end
+
+-- Waits until a test is true, as long as the program works: it may wait for another command in the folder. Ctrl-C ends that. No other work of
+-- Neovim's runs meanwhile.
+function Session:wait(test)
+  local begun, told = uv.hrtime(), false
+  while true do
+    local done, why = vim.wait(1000, function()
+      self:pump()
+      return test() or (self.ended ~= false and self.closed)
+    end, 1, true)
+    if done then break end
+    if why == -2 then error('rls: given up', 0) end
+    if not told and uv.hrtime() - begun > PATIENCE * 1e9 then
+      told = true
+      vim.cmd('redraw')
+      api.nvim_echo({ { 'rls: waiting for the program; Ctrl-C gives up' } }, false, {})
+      vim.cmd('redrawstatus')
+    end
+  end
+  if told then
+    vim.cmd('redraw')
+    api.nvim_echo({ { '' } }, false, {})
+  end
+  if not test() then error(('rls: the session ended: %s'):format(vim.trim(self.errors)), 0) end
+end
+
+-- Waits until every request has its reply.
+function Session:drain()
+  self:wait(function() return self:is_idle() and self.ended == false end)
+end
+
+-- Sends a request and waits for its reply.
+function Session:ask(request, data)
+  local answer
+  self:send(request, data, function(...) answer = { ... } end)
+  self:wait(function() return answer ~= nil end)
+  return answer[1], answer[2], answer[3]
+end
+
+function Session:close()
+  if not self.input:is_closing() then self.input:close() end
+end
+
+return Session
