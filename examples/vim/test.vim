@@ -81,8 +81,8 @@ try
     execute 'buffer!' s:buffers[rand(s:seed) % 2]
     silent! execute 'normal' s:keys[rand(s:seed) % len(s:keys)]
     doautocmd TextChanged
-    if rand(s:seed) % 12 == 0
-      RlsUndo
+    if rand(s:seed) % 6 == 0
+      execute rand(s:seed) % 3 ? 'RlsUndo' : 'RlsRedo'
     endif
     if rand(s:seed) % 4 == 0
       write

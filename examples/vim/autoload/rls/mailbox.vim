@@ -1,0 +1,152 @@
+" What a replica does in the shared folder. One file for each sender and receiver: a message has all that its receiver isn't known to have, so the
+" latest is enough. And one for each member's cursor.
+let s:most_message = 67108864 - 4096
+let s:most_cursor = 65536
+
+function s:path(r, from, to) abort
+  return printf('%s/%s-%d-%d.rlsm', a:r.shared, a:r.group, a:from, a:to)
+endfunction
+
+function s:cursor_path(r, from) abort
+  return printf('%s/%s-%d.cursor', a:r.shared, a:r.group, a:from)
+endfunction
+
+" Whether there is something else at a path than when this was asked last.
+function s:is_new(r, path) abort
+  let mark = rls#files#mark_of(a:path)
+  if mark ==# get(a:r.seen, a:path, '')
+    return 0
+  endif
+  let a:r.seen[a:path] = mark
+  return 1
+endfunction
+
+" Remembers what is wrong with a message, such as 'of 2'; '' if nothing is.
+function s:note(r, message, problem) abort
+  if a:problem !=# ''
+    let a:r.problems[a:message] = substitute(a:problem, '^rls: ', '', '')
+  elseif has_key(a:r.problems, a:message)
+    call remove(a:r.problems, a:message)
+  endif
+endfunction
+
+" Refuses a message that knows more operations of this member than the replica has made: then its files are old, or two members have its number.
+function s:guard(r, message, from) abort
+  let at = 21 + 4 * a:r.me
+  if len(a:message) < at + 4 || a:message[5:16] != a:r.head[5:16]
+    return
+  endif
+  if rls#files#u32(a:message, at) > rls#files#u32(rls#session#ask(a:r, 's ' . a:r.me)[1], at)
+    throw 'rls: member ' . a:from . ' knows more edits of member ' . a:r.me . ' than this replica has: the files in its folder are old'
+  endif
+endfunction
+
+" Takes what came from one member, and adds what it changed. Answers whether there was anything. What can't be read as a message is told, and stops
+" no other member's.
+function rls#mailbox#take(r, from, changes) abort
+  let path = s:path(a:r, a:from, a:r.me)
+  if a:from == a:r.me || !s:is_new(a:r, path)
+    return 0
+  endif
+  try
+    let found = rls#files#read(path, s:most_message)
+  catch /^rls:\|^Vim(\(return\|let\)):E48\d/
+    call s:note(a:r, 'of ' . a:from, v:exception)
+    return 0
+  endtry
+  if empty(found)
+    call s:note(a:r, 'of ' . a:from, '')
+    return 0
+  endif
+  let message = found[0]
+  if has_key(a:r.taken, a:from) && message ==# a:r.taken[a:from]
+    return 0
+  endif
+  call s:guard(a:r, message, a:from)
+  let [reply, _, told] = rls#session#ask(a:r, 'm ' . len(message), message)
+  call extend(a:changes, told)
+  " What was refused once is refused again.
+  let a:r.taken[a:from] = message
+  call s:note(a:r, 'of ' . a:from, reply =~# 'held 0 refused 0' ? '' : reply)
+  if reply =~# '^no '
+    return 0
+  endif
+  let a:r.changes += rls#session#number(reply, 'applied')
+  return 1
+endfunction
+
+" Whether nothing ever came from this number and the message that it has already has more than half the bytes of this one. Each of them has the
+" whole history. Whoever begins with the number takes the one that is there and answers, and gets the rest.
+function s:is_enough(r, to, message) abort
+  return rls#files#u32(a:message, 21 + 4 * a:to) == 0 && rls#files#size(s:path(a:r, a:to, a:r.me)) < 0
+        \ && 2 * rls#files#size(s:path(a:r, a:r.me, a:to)) > len(a:message)
+endfunction
+
+" Writes the message to a member, if it is new.
+function rls#mailbox#write(r, to, message) abort
+  if a:message ==# get(a:r.sent, a:to, 0z) || s:is_enough(a:r, a:to, a:message)
+    return
+  endif
+  try
+    call rls#files#write(s:path(a:r, a:r.me, a:to), a:message)
+    let a:r.sent[a:to] = a:message
+    call s:note(a:r, 'to ' . a:to, '')
+  catch /^rls:\|^Vim(let):E/
+    call s:note(a:r, 'to ' . a:to, v:exception)
+  endtry
+endfunction
+
+" Tells others where the cursor is, if it has moved.
+function rls#mailbox#show_cursor(r) abort
+  if bufnr('%') != a:r.buf
+    return
+  endif
+  let place = rls#lines#place(a:r.text, line('.')) + strchars(strpart(getline('.'), 0, col('.') - 1))
+  if place == a:r.shown
+    return
+  endif
+  let a:r.shown = place
+  let word = matchstr(rls#session#ask(a:r, 'a ' . place)[0], '^anchor \zs\S\+$')
+  let line = word . (g:rls_name ==# '' ? '' : ' ' . substitute(g:rls_name, '[[:cntrl:]]', '', 'g'))
+  if word !=# '' && line !=# a:r.cursor
+    let a:r.cursor = line
+    silent! call rls#files#write(s:cursor_path(a:r, a:r.me), [line])
+  endif
+endfunction
+
+" Shows where the cursors of others are, by text properties. What can't be read as a cursor isn't shown.
+function rls#mailbox#show_others(r) abort
+  for from in filter(range(a:r.members), {_, k -> k != a:r.me})
+    let path = s:cursor_path(a:r, from)
+    if !s:is_new(a:r, path)
+      continue
+    endif
+    call s:unmark(a:r, from)
+    let word = ''
+    silent! let word = matchstr(rls#session#lines_of(rls#files#read(path, s:most_cursor)[0])[0], '^[!-~]\+')
+    if word ==# ''
+      continue
+    endif
+    let reply = rls#session#ask(a:r, 'l ' . word)[0]
+    if reply =~# '^cursor \d\+$'
+      call s:mark(a:r, from, str2nr(reply[7:]))
+    endif
+  endfor
+endfunction
+
+function s:unmark(r, from) abort
+  if empty(prop_type_get('rls'))
+    call prop_type_add('rls', {'highlight': 'Search', 'override': 1})
+  endif
+  call prop_remove({'id': a:from + 1, 'type': 'rls', 'both': 1, 'bufnr': a:r.buf, 'all': 1})
+endfunction
+
+" Marks the character after a member's cursor, or the one before it at the end of a line.
+function s:mark(r, from, place) abort
+  let [line, byte] = rls#lines#find(a:r.text, a:place)
+  let text = a:r.text.lines[line - 1]
+  if text !=# ''
+    let from = byte < len(text) ? byte : byte - len(strcharpart(text, strchars(strpart(text, 0, byte)) - 1, 1))
+    call prop_add(line, from + 1, {'length': len(strcharpart(strpart(text, from), 0, 1)), 'id': a:from + 1, 'type': 'rls', 'bufnr': a:r.buf})
+  endif
+endfunction
