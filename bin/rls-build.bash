@@ -347,7 +347,11 @@ build() {
   local status
   command -v rt >/dev/null 2>&1 || {
     say "the command rt of the Rattle kit, which proves and builds the program in $top, isn't found (docs/INSTALL.md)."
-    if has_release; then say 'Every command but this one runs the released program, which needs no kit.'; fi
+    if has_release; then
+      say 'Every command but this one runs the released program, which needs no kit.'
+    else
+      say 'RLS_PROGRAM=FILE runs a program that was built already, on this machine or on another one with Linux on x86-64.'
+    fi
     return "$NOT_BUILT"
   }
   mkdir -p "$built" 2>/dev/null || { say "$built can't be made."; return "$NOT_BUILT"; }

@@ -6,16 +6,43 @@
 
 described() { git -C "$top" describe --always --dirty 2>/dev/null || echo unknown; }
 
+# Says version and commit of the program that runs, and whether it is the released one or was built here.
 version() {
   if [ -n "${RLS_PROGRAM:-}" ]; then
-    echo "rls of commit $(described), with the program $program, which RLS_PROGRAM names"
+    echo "rls of commit $(described), with the program $program, which RLS_PROGRAM names: $(named_version)"
   elif is_current; then
-    cat "$built/version"
+    built_version
   elif has_release; then
     check_release
     echo "rls ${release[version]}, the released program, proved and built from commit ${release[commit]:0:12} of ${release[date]} with ${release[kit]}$(if is_of_release; then echo ', as the sources here are'; else echo "; the sources here, of commit $(described), are others"; fi)"
   else
     echo "rls of commit $(described), not built yet"
+  fi
+}
+
+# A program that was built here has the version of the release if its sources are those of the release.
+built_version() {
+  local line
+  line=$(<"$built/version")
+  if ! has_release; then
+    echo "$line"
+  elif is_of_release; then
+    echo "rls ${release[version]}, ${line#rls }"
+  else
+    echo "rls later than ${release[version]}, ${line#rls }"
+  fi
+}
+
+# What a program is that RLS_PROGRAM names: its bytes say it.
+named_version() {
+  local sum
+  sum=$(sum_of_input <"$program") || { echo 'it can not be read'; return; }
+  if read_release && [ "$sum" = "${release[program]-}" ]; then
+    echo "it is the released program ${release[version]}, bit for bit"
+  elif cmp -s "$program" "$built/rls"; then
+    echo 'it is the one that was built here'
+  else
+    echo "it is neither the released one nor one that was built here, and its SHA-256 begins with ${sum:0:12}"
   fi
 }
 
@@ -38,8 +65,14 @@ has_release() {
 
 is_of_release() { sources_here && [ "$here" = "${release[sources]-}" ]; }
 
-# Writes down what was chosen for these times; whoever may not write there chooses again the next time.
-note() { { mkdir -p "$built" && printf '%s\n%s\n' "$1" "$now" >"$built/choice.$$" && mv -f "$built/choice.$$" "$built/choice"; } 2>/dev/null; }
+# Writes down what was chosen for these times; whoever may not write there chooses again the next time. The note has the time at which the
+# choice began, so that what is changed after it is newer.
+note() {
+  {
+    mkdir -p "$built" && printf '%s\n%s\n' "$1" "$now" >"$built/choice.$$" && touch -d "@$began" "$built/choice.$$" &&
+      mv -f "$built/choice.$$" "$built/choice"
+  } 2>/dev/null
+}
 
 build_if_due() {
   [ -z "${RLS_REBUILD:-}" ] && is_current && return
@@ -48,6 +81,7 @@ build_if_due() {
 }
 
 choose_anew() {
+  local began=${EPOCHREALTIME/,/.}
   if is_current; then
     note built
   elif has_release; then

@@ -1,5 +1,6 @@
 # What the program's line on standard error means, and what to do: bin/rls reads this after a command that failed, and calls
-# explain STATUS LINES COMMAND. docs/USE.md has the same as a table.
+# explain STATUS LINES COMMAND; after words that are no command, explain_words; and where a stored file has just grown, advise_on.
+# docs/USE.md has the same as a table.
 # shellcheck shell=bash
 
 # A pattern of bash takes time with the square of what it looks at, and a line may have 64 MB. So only the front of a line is held in a
@@ -99,4 +100,38 @@ explain_refused() {
     *) return ;;
   esac
   say "line $1${shown:+ is \`$shown\`}: $why. Nothing was stored."
+}
+
+# What comes after the usage line of the program, which doesn't know the commands of the launcher.
+explain_words() {
+  case ${1-} in
+    new) say 'three numbers come after it: rls new GROUP ME MEMBERS' ;;
+    restart) say 'three numbers come after it, and the new folder if you want: rls restart GROUP ME MEMBERS FOLDER' ;;
+    edit) say 'a script comes from standard input: rls edit < SCRIPT; or: rls edit --text FILE' ;;
+    retire) say 'a number comes after it: rls retire NUMBER' ;;
+    take) say 'a message comes from standard input: rls take < MESSAGE' ;;
+    head) say 'a message comes from standard input: rls head < MESSAGE' ;;
+    send) say 'TO is the number of a member: rls send TO > MESSAGE' ;;
+    trial) say 'two numbers come after it: rls trial SEED STEPS' ;;
+    check) say 'at most one file comes after it: rls check FILE' ;;
+    text | ids | stat | leave | session | build) say 'nothing comes after it.' ;;
+    *)
+      [ -z "${1-}" ] || say "there is no command \`$1\`."
+      say 'the commands are: new, edit, text, send, take, head, stat, check, ids, session, leave, retire, restart, trial, build, help and --version.'
+      ;;
+  esac
+  say "\`rls help\` explains the words."
+}
+
+# Says what makes the stored file shorter, which has this many bytes now.
+advise_on() {
+  local name value most=${RLS_RENAME_AT:-500} total=0 runs=0 unstable=0 epochs=1
+  while read -r name value; do
+    case $name in total | runs | unstable | epochs) local "$name=$value" ;; esac
+  done < <("$program" stat 2>/dev/null)
+  if [ "$runs" -gt $((most * (epochs < 8 ? epochs : 8))) ]; then
+    say "the stored file has $1 bytes for $total characters in $runs runs: \`echo r | rls edit\` makes it shorter (docs/USE.md, \"When to rename\")."
+  elif [ "$1" -gt $((32 * total)) ]; then
+    say "the stored file has $1 bytes for $total characters, since $unstable operations stay until every member is known to have them: exchange messages (docs/USE.md, \"Numbers that nobody uses\")."
+  fi
 }

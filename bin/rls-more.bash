@@ -1,6 +1,44 @@
-# The commands of the launcher that the program doesn't have: bin/rls reads this for `edit --text`, `check` and `retire`, and has looked at
-# the folder and taken its lock. Each of them ends the script.
+# The commands of the launcher that the program doesn't have, `edit --text`, `check`, `retire` and `restart`, and what is looked at before
+# `new`: bin/rls reads this for them. Each command ends the script.
 # shellcheck shell=bash
+# bin/rls sets `top`, `program`, `status`, `held`, NOT_SAFE, NOT_EQUAL, `say`, `refuse`, `ask`, `look`, `perform`, `advise` and `next_bytes`.
+# shellcheck disable=SC2154
+
+more() {
+  case "$1 ${2-}" in
+    'edit --text') look edit </dev/null; edit_text "$3" ;;
+    retire*) look retire; retire "$2" ;;
+    check*) look check; check "${@:2}" ;;
+    restart*) look restart; restart "${@:2}" ;;
+  esac
+}
+
+# A folder for a moment, which goes when the script ends.
+make_room() {
+  room=$(mktemp -d) || exit 8
+  trap 'rm -rf "$room"' EXIT
+}
+
+# --- new
+
+# Whether the slots hold what `new` with these words writes, and nothing else. Then this member has done nothing yet, whatever the gate was,
+# and a `new` that was stopped before it wrote the gate can go on.
+is_begun() {
+  local room same=1
+  room=$(mktemp -d) || return 1
+  if ! (cd "$room" && "$program" "$@") >/dev/null 2>&1 || ! cmp -s replica.0 "$room/replica.0" || ! cmp -s replica.1 "$room/replica.1"; then same=0; fi
+  rm -rf "$room"
+  [ "$same" = 1 ]
+}
+
+look_at_new() {
+  if ! [ -s replica.gate ] && { [ -s replica.0 ] || [ -s replica.1 ]; } && ! is_begun "$@"; then
+    refuse "replica.gate is missing, but replica.0 or replica.1 is here, and \`new\` would write over them." \
+      'If there was a text in this folder, put replica.gate back, or move these files away: its number must not be used again.' \
+      'If there never was one, a first `rls new` was stopped here before it was done, by a power failure or a full disk:' \
+      'then they hold nothing, and `rm replica.0 replica.1` is right.'
+  fi
+}
 
 # --- edit --text FILE
 
@@ -11,9 +49,21 @@ marked_lines() (
   { cat "$1" && echo .; } | LC_ALL=C tr '\000' '\377' | LC_ALL=C sed -e '$!s/$/\xfe/' -e '$s/\.$//'
 )
 
+# Writes the edits that turn the one text into the other.
+write_script() {
+  local answers=
+  if marked_lines "$1" >"$room/old.lines" && marked_lines "$2" >"$room/new.lines"; then
+    LC_ALL=C diff -a --unchanged-line-format='=%L' --old-line-format='-%L' --new-line-format='+%L' "$room/old.lines" "$room/new.lines" |
+      LC_ALL=C awk -f "$top/bin/edits.awk" | LC_ALL=C tr '\377' '\000' >"$room/script"
+    answers=${PIPESTATUS[*]}
+  fi
+  case $answers in '0 0 0' | '1 0 0') return ;; esac
+  say "the two texts could not be compared; is ${TMPDIR:-/tmp} full? Nothing was done."
+  exit 8
+}
+
 edit_text() {
-  room=$(mktemp -d) || exit 8
-  trap 'rm -rf "$room"' EXIT
+  make_room
   cat -- "$1" >"$room/new" || {
     say "$1 can't be read, or not kept for a moment in ${TMPDIR:-/tmp}. Nothing was done."
     exit 8
@@ -23,44 +73,94 @@ edit_text() {
     exit 4
   fi
   perform text >"$room/text" || exit
-  local answers=
-  if marked_lines "$room/text" >"$room/old.lines" && marked_lines "$room/new" >"$room/new.lines"; then
-    LC_ALL=C diff -a --unchanged-line-format='=%L' --old-line-format='-%L' --new-line-format='+%L' "$room/old.lines" "$room/new.lines" |
-      LC_ALL=C awk -f "$top/bin/edits.awk" | LC_ALL=C tr '\377' '\000' >"$room/script"
-    answers=${PIPESTATUS[*]}
-  fi
-  case $answers in
-    '0 0 0' | '1 0 0') ;;
-    *)
-      say "the two texts could not be compared; is ${TMPDIR:-/tmp} full? Nothing was done."
-      exit 8
+  write_script "$room/text" "$room/new"
+  look_at_taken "$1"
+  perform edit <"$room/script"
+  case $status in
+    0 | 5)
+      { [ ! -s replica.taken ] || : >replica.taken; } 2>/dev/null
+      tell_marks "$1"
+      advise
       ;;
   esac
-  perform edit <"$room/script"
-  case $status in 0 | 5) advise ;; esac
   exit "$status"
+}
+
+# Says that the edits delete, after operations came that FILE may not have. On a terminal it asks.
+look_at_taken() {
+  local came
+  [ -z "${RLS_FORCE:-}" ] && [ -s replica.taken ] && LC_ALL=C grep -q '^d ' "$room/script" || return 0
+  read -r came <replica.taken
+  say "$came operations were taken here since the last \`rls text\`. What they wrote, and $1 doesn't have, is deleted now: take messages before \`rls text\`, or after \`rls edit --text\`."
+  ask 'to keep it, put it into the file first.'
+}
+
+# Says what an editor may have put into FILE that nobody sees, if the text didn't have it.
+tell_marks() {
+  local -a bytes=()
+  next_bytes 3 <"$room/new" && next_bytes 3 <"$room/text"
+  if [ "${bytes[*]:0:3}" = '239 187 191' ] && [ "${bytes[*]:3}" != '239 187 191' ]; then
+    say "$1 begins with a byte order mark, which no terminal shows, and so does the text now: \`echo d 0 1 | rls edit\` takes it out."
+  fi
+  if LC_ALL=C grep -q $'\r$' "$room/new" && ! LC_ALL=C grep -q $'\r$' "$room/text"; then
+    say "lines of $1 end with a carriage return, as those of Windows do, and the text has these now: tr -d '\\r' < $1 takes them out."
+  fi
 }
 
 # --- check
 
-# Prints what is equal for two members that have the same. It is read again if another command has stored meanwhile.
-check() {
+# What is equal for two members that have the same, in `lines`. It is read again if another command has stored meanwhile.
+sum_up() {
   local numbers ids text again
-  set -o pipefail
   for ((again = 5; again > 0; again--)); do
     numbers=$(perform stat) || exit
-    ids=$(perform ids | cksum) || exit
-    text=$(perform text | cksum) || exit
+    ids=$(perform ids | cksum) || failed_sum
+    text=$(perform text | cksum) || failed_sum
     [ "$numbers" != "$("$program" stat)" ] || break
   done
   if [ "$again" = 0 ]; then
     say 'other commands store into this folder again and again. Repeat it when they are done.'
     exit "$NOT_SAFE"
   fi
-  sed -n '/^accepted /p' <<<"$numbers"
-  echo "ids ${ids% *}"
-  echo "text ${text% *}"
-  exit
+  lines=$(sed -n '/^accepted /p' <<<"$numbers")$'\n'"ids ${ids% *}"$'\n'"text ${text% *}"
+}
+
+failed_sum() {
+  say 'the sums could not be made: see whether `cksum` works here.'
+  exit 8
+}
+
+check() {
+  local lines other
+  set -o pipefail
+  if [ $# = 1 ]; then
+    other=$(sed -n 's/\r$//; /^accepted [0-9 ]*$/p; /^ids [0-9]*$/p; /^text [0-9]*$/p' -- "$1") || {
+      say "$1, which is to have the lines of another member's \`rls check\`, can't be read."
+      exit 8
+    }
+    [ "$(wc -l <<<"$other")" = 3 ] || {
+      say "$1 doesn't have the three lines that \`rls check\` prints."
+      exit 4
+    }
+  fi
+  sum_up
+  printf '%s\n' "$lines" || exit 9
+  [ $# = 0 ] || compare "$lines" "$other"
+  exit 0
+}
+
+# Says whether these lines and those of another member are the same, and ends with NOT_EQUAL if not.
+compare() {
+  if [ "$1" = "$2" ]; then
+    say 'the two copies are equal.'
+  elif [ "${1%%$'\n'*}" = "${2%%$'\n'*}" ]; then
+    say 'the two copies differ, though both have as many operations of each member: a rule was broken, such as a number that was used twice, or files' \
+      'that were put back from a copy. Keep what `rls text` prints on both sides. docs/USE.md, "A text goes on in a new group", is the way out.'
+    exit "$NOT_EQUAL"
+  else
+    say 'the two copies differ in the operations that they have: exchange messages in both directions, and compare again.'
+    exit "$NOT_EQUAL"
+  fi
 }
 
 # --- retire N
@@ -78,17 +178,12 @@ stored_numbers() {
   }
 }
 
-retire() {
-  local number=$1 numbers group me members count has_left row known k stored before form=
-  # Only the newest form of files says who has left; a command that stores writes it.
-  find_stored && read -r form < <(od -An -tu1 -j $((before + 4)) -N 1 "$stored" 2>/dev/null)
-  [ "$form" = 4 ] || perform edit </dev/null >/dev/null || exit
-  numbers=$(perform stat) || exit
-  group=$(sed -n 's/^group //p' <<<"$numbers")
-  me=$(sed -n 's/^me //p' <<<"$numbers")
-  members=$(sed -n 's/^members //p' <<<"$numbers")
-  if ! [[ $number =~ ^(0|[1-9][0-9]?)$ ]] || [ "$number" -ge "$members" ]; then stays "the members are numbered from 0 to $((members - 1))."; fi
-  [ "$number" != "$me" ] || stays "$me is this member's own number: \`rls leave\` ends its part."
+# The number after this name in the lines of `rls stat`.
+number_of() { sed -n "s/^$1 //p" <<<"$numbers"; }
+
+# Ends the script if the stored file shows that the number is in use, or has left.
+look_at_number() {
+  local number=$1 me=$2 members=$3 has_left row known k count
   # docs/FORMATS.md: after the counts come those that each other member was known to have, and then who has left.
   find_stored
   stored_numbers has_left $((21 + 4 * members * members)) 1
@@ -96,17 +191,69 @@ retire() {
   for ((k = 1; k <= has_left[0]; k++)); do
     [ "${has_left[k]}" != "$number" ] || stays "number $number has left or was retired already."
   done
-  count=$(sed -n 's/^accepted //p' <<<"$numbers" | cut -d ' ' -f $((number + 1)))
+  count=$(number_of accepted | cut -d ' ' -f $((number + 1)))
   [ "$count" = 0 ] || stays "number $number has made $count operations, so it is in use. Only \`rls leave\` in its own folder ends its part."
   row=$((number < me ? number : number - 1))
   stored_numbers known $((21 + 4 * members * (row + 1))) "$members"
   [[ ${known[*]} != *[1-9]* ]] ||
     stays "number $number is in use: a message of it was taken here. Only \`rls leave\` in its own folder ends its part."
+}
+
+retire() {
+  local number=$1 numbers group me members stored before form=
+  # Only the newest form of files says who has left; a command that stores writes it.
+  find_stored && read -r form < <(od -An -tu1 -j $((before + 4)) -N 1 "$stored" 2>/dev/null)
+  [ "$form" = 4 ] || perform edit </dev/null >/dev/null || exit
+  numbers=$(perform stat) || exit
+  group=$(number_of group) me=$(number_of me) members=$(number_of members)
+  if ! [[ $number =~ ^(0|[1-9][0-9]?)$ ]] || [ "$number" -ge "$members" ]; then stays "the members are numbered from 0 to $((members - 1))."; fi
+  [ "$number" != "$me" ] || stays "$me is this member's own number: \`rls leave\` ends its part."
+  look_at_number "$number" "$me" "$members"
   ask "after this nobody can ever use number $number. If anybody has begun with it, on any machine, the texts will differ for ever."
-  room=$(mktemp -d) || exit 8
-  trap 'rm -rf "$room"' EXIT
+  make_room
   (cd "$room" && "$program" new "$group" "$number" "$members" && "$program" leave && "$program" send "$me" >message) >/dev/null || exit
   perform take <"$room/message" >/dev/null
   [ "$status" != 0 ] || echo "retired $number"
   exit "$status"
+}
+
+# --- restart GROUP ME MEMBERS [FOLDER]
+
+# Begins a replica of another group in a new folder, with the text of this one, and changes nothing here.
+restart() {
+  local folder=${4-} numbers
+  [[ $1 =~ ^[0-9]+$ && $2 =~ ^[0-9]+$ && $3 =~ ^[0-9]+$ ]] || refuse_words restart "$@"
+  make_room
+  numbers=$(perform stat) || exit
+  [ "$(number_of group)" != "$1" ] ||
+    stays "this text has number $1 itself, and its operations would be mixed with those of the new one. Take a GROUP that no text of these members has."
+  perform text >"$room/text" || exit
+  : >"$room/nothing" && write_script "$room/nothing" "$room/text"
+  [ -n "$folder" ] || folder=$(dirname -- "$PWD")/$(basename -- "$PWD")-$1
+  case $folder in /*) ;; *) folder=$PWD/$folder ;; esac
+  mkdir -- "$folder" || {
+    say "the new replica needs a new folder, and $folder can't be made. A fourth word names another one: rls restart GROUP ME MEMBERS FOLDER"
+    exit 7
+  }
+  (fill "$folder" "${@:1:3}")
+  status=$?
+  if [ "$status" = 0 ]; then
+    echo "restarted $1 $2 $3 in $folder"
+    exit 0
+  fi
+  rm -rf -- "$folder"
+  say "$folder was taken away again, and nothing else was changed."
+  exit "$status"
+}
+
+# Begins the replica there and performs the script, in parts that one command may have.
+fill() {
+  local folder=$1 part
+  shift
+  cd -- "$folder" || return 7
+  perform new "$@" >/dev/null || return
+  split -C 67108864 "$room/script" "$room/part." || return 8
+  for part in "$room"/part.*; do
+    [ ! -f "$part" ] || perform edit <"$part" >/dev/null || return
+  done
 }

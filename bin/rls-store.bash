@@ -1,0 +1,157 @@
+# What commands that store need beside bin/rls, which reads this for them: the lock of the folder, what is looked at before, the input, and
+# what is said of a file that has grown.
+# shellcheck shell=bash
+# bin/rls sets `top`, `program`, `status`, NOT_SAFE, `say`, `refuse`, `find_stored`, `next_bytes` and `perform`.
+# shellcheck disable=SC2154
+
+# Asks on a terminal before something that can't be taken back.
+ask() {
+  local answer
+  [ -t 0 ] && [ -t 2 ] || return 0
+  printf 'rls: %s Go on? Type yes: ' "$1" >&2
+  read -r answer
+  [ "$answer" = yes ] && return 0
+  say 'nothing was done.'
+  exit "$NOT_SAFE"
+}
+
+# --- What is looked at before a command
+
+# Waits until no other command stores into this folder. Commands that only read don't wait, so that `rls text | .. | rls edit` can go on.
+lock() {
+  # Whoever calls this script with RLS_LOCKED=1 holds the lock already.
+  [ -n "${RLS_LOCKED:-}" ] && return 0
+  command -v flock >/dev/null 2>&1 || {
+    say "there is no command \`flock\` here, so nothing keeps two commands from storing into this folder at once: run one at a time." \
+      'RLS_LOCKED=1 says that you see to it, and that this line is not wanted.'
+    return 0
+  }
+  # The program inherits it, so it lasts as long as the program, also if this script is killed.
+  if { exec 9<.; } 2>/dev/null; then
+    flock -n 9 && return 0
+    # 1 is the answer of a lock that another one has.
+    if [ $? = 1 ]; then
+      say 'another command stores into this folder; waiting for it.'
+      flock 9 && return 0
+    fi
+  fi
+  [ -n "${RLS_FORCE:-}" ] || refuse "$PWD can't be locked, so nothing would keep two commands from storing into it at once, and one of the two would be lost." \
+    'RLS_LOCKED=1 says that you see to it.'
+}
+
+# The program replaces `replica.rls` by a new file. Others are to have the permissions of the old one, and a link would go.
+look_at_file() {
+  local mode
+  [ ! -L replica.rls ] || refuse "replica.rls is a symbolic link. The command would put a file in its place, and what the link names would stay old." \
+    'Go to the folder of that file; or move it here.'
+  if mode=$(stat -c %a replica.rls 2>/dev/null); then umask "$(printf %o $((~8#$mode & 8#066)))"; fi
+}
+
+# Whether the files of the replica may be written, or there is none.
+may_store() {
+  local stored before
+  find_stored || return 0
+  if [ "$stored" = replica.rls ]; then [ -w . ]; else [ -w replica.0 ] && [ -w replica.1 ] && [ -w replica.gate ]; fi
+}
+
+look_at_session() {
+  if ! may_store; then
+    set -- "the files of the replica in $PWD may not be written, so all that a session does would be lost at its end." \
+      'Who may write here? `rls text` and `rls send TO` need no more than reading.'
+    [ -n "${RLS_FORCE:-}" ] || refuse "$@"
+    say "$@"
+  fi
+  if [ -t 0 ]; then say "reading requests from the terminal, one a line; the line \`q\` stores and ends."; fi
+}
+
+look_first() {
+  lock
+  case $1 in restart) ;; *) if [ -e replica.rls ] && [ -z "${RLS_FORCE:-}" ]; then look_at_file; fi ;; esac
+  if [ "$1" = session ]; then look_at_session; fi
+}
+
+look_before() {
+  case $1 in
+    new)
+      . "$top/bin/rls-more.bash"
+      look_at_new "$@"
+      ;;
+    edit) [ ! -t 0 ] || say 'reading a script from the terminal, one edit a line; Ctrl-D at the beginning of a line ends it.' ;;
+    take) [ ! -t 0 ] || refuse 'a message is taken from a file or a program: rls take < MESSAGE' ;;
+    leave) ask 'after this the replica in this folder can never edit again.' ;;
+  esac
+}
+
+# --- The input
+
+# Makes the input a file that can be read twice. What was read of it already, as `printf %b` spells its end, comes first.
+hold_input() {
+  local pos file kept=1
+  if [ $# = 0 ] && [ -f /dev/stdin ] && [ -r /dev/stdin ] && read -r _ pos </proc/self/fdinfo/0 && [ "$pos" = 0 ]; then return 0; fi
+  file=$(mktemp) || return 1
+  # One byte more than a message or a script may have, at least. If not all of it can be kept, nothing of it may be performed.
+  if ! { printf '%s%b' "${1-}" "${2-}" && head -c 67108865; } >"$file" || ! exec <"$file"; then kept=0; fi
+  rm -f "$file" || say "$file has what was read here, and can't be removed."
+  [ "$kept" = 1 ]
+}
+
+# The same for a script. A short one is held in a variable, which starts no other program.
+hold_script() {
+  local LC_ALL=C text
+  if ! [ -p /dev/stdin ]; then
+    [ -t 0 ] && return 0
+    hold_input || return
+    if [ -f /dev/stdin ] && ! IFS= read -r -d '' -n 1024 text </dev/stdin; then held=$text; fi
+  elif IFS= read -r -d '' -n 1024 text; then
+    # There is more; after a byte 0, if these were less.
+    if [ "${#text}" = 1024 ]; then hold_input "$text" ''; else hold_input "$text" '\0'; fi
+  else
+    held=$text
+    if [ -n "$text" ]; then exec <<<"${text%$'\n'}"; else exec </dev/null; fi
+  fi
+}
+
+# The size of a slot's file, which stands in its first eight bytes.
+slot_size() {
+  local byte
+  local -a bytes=()
+  next_bytes 8 2>/dev/null <"$1"
+  [ "${#bytes[@]}" = 8 ] || return
+  number=0
+  for byte in "${bytes[@]}"; do number=$((number << 8 | byte)); done
+}
+
+# Says that a rename or an exchange is due if the stored file is much larger than its text. It looks only when the file has just grown to
+# 64 KB, 128 KB and so on: one of the slots has the file from before.
+advise() {
+  local stored before number old new mark=65536
+  [ "${RLS_RENAME_AT:-}" != 0 ] && find_stored && [ "$before" = 8 ] && slot_size "$stored" && new=$number || return
+  [ "$new" -ge "$mark" ] || return
+  slot_size "replica.$((1 - ${stored#replica.}))" && old=$number || old=0
+  while [ $((2 * mark)) -le "$new" ]; do mark=$((2 * mark)); done
+  if [ "$old" -lt "$mark" ]; then
+    . "$top/bin/rls-explain.bash"
+    advise_on "$new"
+  fi
+}
+
+# --- edit
+
+edit() {
+  hold_script || { say 'the script could not be kept in a file for a moment.'; exit 8; }
+  perform edit
+  case $status in
+    0 | 5)
+      advise
+      # A line of another kind that ends with a carriage return is refused.
+      case ${held-} in
+        '') [ ! -f /dev/stdin ] || ! LC_ALL=C grep -q $'\r$' /dev/stdin || tell_returns ;;
+        *$'\r\n'* | *$'\r') tell_returns ;;
+      esac
+      ;;
+  esac
+}
+
+tell_returns() {
+  say "lines of the script end with a carriage return, as those of Windows do, and the text has these now: tr -d '\\r' takes them out of a script."
+}
