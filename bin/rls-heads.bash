@@ -1,7 +1,7 @@
 # Heads of messages and of stored files, as docs/FORMATS.md spells them, and what they show: bin/rls reads this for `take`, `send` and `head`,
 # and where a message has shown that the files of a folder are old.
 # shellcheck shell=bash
-# bin/rls sets `program`, `status`, `say`, `refuse`, `find_stored`, `next_bytes` and `perform`.
+# bin/rls sets `program`, `status`, NOT_SAFE, `say`, `refuse`, `find_stored`, `next_bytes` and `perform`.
 # shellcheck disable=SC2154
 
 # The number in four bytes, from a place on.
@@ -77,7 +77,10 @@ send() {
 print_head() {
   local kind form group members whose whole=1
   local -a counts
-  [ ! -t 0 ] || refuse 'a message is read from a file or a program: rls head < MESSAGE'
+  [ ! -t 0 ] || {
+    say 'a message is read from a file or a program: rls head < MESSAGE'
+    exit "$NOT_SAFE"
+  }
   read_head 0 || whole=0
   if [ "$kind" != "$MESSAGE" ] || [ "${form:-0}" = 0 ]; then
     say 'this is no message.'

@@ -91,7 +91,7 @@ look_at_taken() {
   local came
   [ -z "${RLS_FORCE:-}" ] && [ -s replica.taken ] && LC_ALL=C grep -q '^d ' "$room/script" || return 0
   read -r came <replica.taken
-  say "$came operations were taken here since the last \`rls text\`. What they wrote, and $1 doesn't have, is deleted now: take messages before \`rls text\`, or after \`rls edit --text\`."
+  say "operations taken here since the last \`rls text\`: $came. What they wrote, and $1 doesn't have, is deleted now: take messages before \`rls text\`, or after \`rls edit --text\`."
   ask 'to keep it, put it into the file first.'
 }
 
@@ -231,18 +231,17 @@ restart() {
   : >"$room/nothing" && write_script "$room/nothing" "$room/text"
   [ -n "$folder" ] || folder=$(dirname -- "$PWD")/$(basename -- "$PWD")-$1
   case $folder in /*) ;; *) folder=$PWD/$folder ;; esac
-  mkdir -- "$folder" || {
+  begun=$folder.$$
+  if [ -e "$folder" ] || [ -L "$folder" ] || ! mkdir -- "$begun"; then
     say "the new replica needs a new folder, and $folder can't be made. A fourth word names another one: rls restart GROUP ME MEMBERS FOLDER"
     exit 7
-  }
-  (fill "$folder" "${@:1:3}")
-  status=$?
-  if [ "$status" = 0 ]; then
-    echo "restarted $1 $2 $3 in $folder"
-    exit 0
   fi
-  rm -rf -- "$folder"
-  say "$folder was taken away again, and nothing else was changed."
+  trap 'rm -rf "$room" "$begun"' EXIT
+  (fill "$begun" "${@:1:3}")
+  status=$?
+  # It gets its name when it is whole.
+  if [ "$status" = 0 ]; then mv -T -- "$begun" "$folder" || status=7; fi
+  if [ "$status" = 0 ]; then echo "restarted $1 $2 $3 in $folder"; else say 'no new replica was begun, and nothing else was changed.'; fi
   exit "$status"
 }
 

@@ -67,5 +67,5 @@ tell_report() {
     [ ! -s replica.taken ] || read -r came <replica.taken
     { echo "$((came + applied + released))" >replica.taken; } 2>/dev/null
   fi
-  [ "$held" = 0 ] || say "$held operations wait here for others that haven't come. If they still do when the messages of all members are taken, they may wait for what never comes (docs/USE.md, \"Operations that wait for ever\")."
+  [ "$held" = 0 ] || say "operations that wait here for others that haven't come: $held. If they still do when the messages of all members are taken, they may wait for what never comes (docs/USE.md, \"Operations that wait for ever\")."
 }
