@@ -6,7 +6,7 @@ import subprocess
 import sys
 
 HERE = os.path.dirname(os.path.abspath(__file__))
-NODE = {"NODE_PATH": "/usr/share/nodejs:/usr/local/lib/node_modules"}
+NODE = {"NODE_PATH": ":".join([*filter(None, [os.environ.get("NODE_PATH")]), "/usr/share/nodejs", "/usr/local/lib/node_modules"])}
 
 
 class Bench:
