@@ -79,7 +79,7 @@ class Game:
     def do_place(self, step):
         """A place as a word, for other members. It means itself where it was named, and in the end the same to all."""
         member = self.member(step)
-        if member and member.version >= 2:
+        if member and "a" in member.known:
             text = member.text()
             at = len(text) if step["at"] < 0 else step["at"] % (len(text) + 1)
             told = member.answer(f"a {at}")

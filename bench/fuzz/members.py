@@ -5,6 +5,10 @@ import subprocess
 
 from replies import Replies, Wrong
 
+# A line for each request of the session's second version, and which of them a program knows.
+NEWER = ("v", "w", "n", "c 0", "z", "y", "g", "k 0 1", "j 0", "p 1", "a 0")
+KNOWN = {}
+
 MARK = "\u0301"
 ESCAPES = {"\n": "\\n", "\r": "\\r", "\\": "\\\\"}
 
@@ -66,13 +70,13 @@ class Member:
     def __init__(self, program, folder, me):
         self.program, self.folder, self.me = program, folder, me
         self.has_left = False
-        # Which requests its sessions know.
-        self.version = 1
+        # Which requests of the session's second version its sessions know.
+        self.known = set()
 
     # ---- the program
 
     def run(self, *words, given=b""):
-        ran = subprocess.run([self.program, *words], input=given, cwd=self.folder, capture_output=True, timeout=120)
+        ran = subprocess.run([self.program, *words], input=given, cwd=self.folder, capture_output=True, timeout=600)
         if ran.returncode < 0:
             raise Wrong(f"{words[0]} was ended by signal {-ran.returncode}")
         return ran.returncode, ran.stdout, ran.stderr.decode(errors="replace")
@@ -94,7 +98,7 @@ class Member:
         shutil.rmtree(folder, ignore_errors=True)
         shutil.copytree(self.folder, folder)
         beside = Member(self.program, folder, self.me)
-        beside.has_left, beside.version = self.has_left, self.version
+        beside.has_left, beside.known = self.has_left, self.known
         return beside
 
     def remove(self):
@@ -120,7 +124,11 @@ class Member:
         told = self.wanted("new", str(group), str(self.me), str(members)).decode()
         if told != f"new {group} {self.me} {members}\n":
             raise Wrong(f"new answered {told!r}")
-        self.version = 2 if self.talk(b"v\n", "quit").startswith(b"version 2\n") else 1
+        if self.program not in KNOWN:
+            KNOWN[self.program] = {line.split(" ")[0] for line in NEWER if self.answer(line) != "bad"}
+            if "v" in KNOWN[self.program] and len(KNOWN[self.program]) < len(NEWER):
+                raise Wrong(f"a session says that it knows the second version, and answers `bad` to all but {KNOWN[self.program]}")
+        self.known = KNOWN[self.program]
 
     def lines(self, edits):
         """The edits with places of the text as it is, so that most are accepted; an edit of kind x is one that is refused."""
@@ -201,7 +209,7 @@ class Member:
                 session.stdin.write(given[at : at + piece])
                 session.stdin.flush()
             given = b""
-        output, said = session.communicate(given, timeout=120)
+        output, said = session.communicate(given, timeout=600)
         if session.returncode or said:
             raise Wrong(f"a session of member {self.me} ended with status {session.returncode} and {said!r}")
         return output

@@ -1,6 +1,6 @@
 """A session of a member: the requests of a game, what is known of each reply before it comes, and what is looked at when it is there.
 
-Requests of the session's second version (`v` answers `version 2`) are asked of an older program too, which answers `bad` to them."""
+Requests of the session's second version are asked of an older program too, which answers `bad` to them."""
 from members import ESCAPES, performed, placed, spelled
 from replies import Replies, Wrong
 
@@ -59,7 +59,7 @@ class Session:
 
     def newer(self, line, look, changes=False):
         """Adds a request of the second version. Whether it means anything there is known at once."""
-        is_known = self.member.version >= 2
+        is_known = line.split()[0] in self.member.known
         self.send(line, look if is_known else lambda replies: self.exactly(replies, "bad"), changes and is_known)
         return is_known
 
@@ -130,7 +130,7 @@ class Session:
         self.step("y\n", "again ", "again", "back")
 
     def step(self, line, word, source, target):
-        if self.member.version < 2:
+        if line[0] not in self.member.known:
             self.newer(line, None)
         elif self.back is None or self.member.has_left:
             self.newer(line, lambda replies: self.begins(replies, word, "no "), True)
