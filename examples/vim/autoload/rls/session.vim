@@ -4,7 +4,7 @@
 " Begins a session.
 function rls#session#start(r) abort
   let a:r.errors = get(a:r, 'errors', tempname())
-  let a:r.job = job_start([g:rls_program, 'session'], {'cwd': a:r.folder, 'mode': 'raw', 'noblock': 1, 'err_io': 'file', 'err_name': a:r.errors})
+  let a:r.job = job_start([g:rls_program, 'session'], {'cwd': a:r.folder, 'mode': 'raw', 'noblock': 1, 'drop': 'never', 'err_io': 'file', 'err_name': a:r.errors})
   let a:r.have = 0z
   let a:r.waiting = []
   let a:r.telling = 0
@@ -61,7 +61,7 @@ function rls#session#pump(r) abort
     if len(more) == 0
       break
     endif
-    let a:r.have += more
+    let a:r.have = a:r.have + more
   endwhile
   while !empty(a:r.waiting)
     let found = s:parse(a:r, a:r.waiting[0][0])
