@@ -58,11 +58,13 @@
     (with-current-buffer a
       (insert "hello")
       (rls-sync)
+      (rls--before-command)
       (insert "XY")
       (rls-undo)
       (should (equal (buffer-string) "hello"))
       (rls-undo)
-      (should (equal (buffer-string) "hello")))
+      ;; With the first version what is stored isn't taken back.
+      (should (equal (buffer-string) (if (= rls--version 2) "" "hello"))))
     (rls-test-close (list a))))
 
 ;; A timer that comes while a request waits for its reply asks nothing: each of the two would read the other's reply.
@@ -143,7 +145,8 @@
     (random "seed")
     (dotimes (_ 150)
       (with-current-buffer (nth (random 3) all)
-        (buffer-enable-undo)
+        (when (= rls--version 1) (buffer-enable-undo))
+        (rls--before-command)
         (goto-char (1+ (random (1+ (buffer-size)))))
         (pcase (random 6)
           (0 (delete-region (point) (min (point-max) (+ (point) 3))))
@@ -151,10 +154,9 @@
           (2 (transpose-lines 1))
           (3 (ignore-errors (undo-boundary) (undo-only)))
           (_ (insert (nth (random 4) '("ab" "😀" "\n" "\\n")))))
-        (when (= 0 (random 10)) (rls-undo))
+        (when (= 0 (random 5)) (if (= 0 (random 3)) (rls-redo) (rls-undo)))
         (when (= 0 (random 2)) (rls-sync))
-        (should (equal (buffer-string)
-                       (decode-coding-string (rls--bytes (rls--number (rls--ask "t") "text")) 'utf-8-unix)))))
+        (should (equal (buffer-string) (rls--text)))))
     (dotimes (_ 3) (dolist (x all) (with-current-buffer x (rls-sync))))
     (should (= 1 (length (delete-dups (mapcar (lambda (x) (with-current-buffer x (buffer-string))) all)))))
     (rls-test-close all)

@@ -1,0 +1,46 @@
+;;; rls-files.el --- Files in a folder that others write into  -*- lexical-binding: t -*-
+
+;;; Code:
+
+(defun rls--u32 (data at)
+  "The number in the four bytes of DATA from AT on."
+  (let ((number 0))
+    (dotimes (k 4) (setq number (+ (* 256 number) (aref data (+ at k)))))
+    number))
+
+(defun rls--size (path)
+  "How many bytes PATH has, if it is a regular file; nil otherwise.
+A folder that others write into may have a link, a pipe or a folder there."
+  (let ((told (file-attributes path)))
+    (and told (eq ?- (aref (file-attribute-modes told) 0)) (file-attribute-size told))))
+
+(defun rls--mark (path)
+  "What tells whether PATH is another file than before; nil if nothing is there."
+  (let ((told (file-attributes path)))
+    (and told (list (file-attribute-inode-number told) (file-attribute-size told) (file-attribute-modification-time told) (file-attribute-modes told)))))
+
+(defun rls--read (path most)
+  "The bytes of PATH; nil if nothing is there.
+What isn't a regular file, or has more than MOST bytes, is an error and isn't
+opened."
+  (when (or (file-exists-p path) (file-symlink-p path))
+    (let ((size (rls--size path)))
+      (unless size (error "%s is no file" (file-name-nondirectory path)))
+      (when (> size most) (error "%s is too large" (file-name-nondirectory path)))
+      (with-temp-buffer
+        (set-buffer-multibyte nil)
+        (insert-file-contents-literally path nil 0 size)
+        (buffer-string)))))
+
+(defun rls--write (path data)
+  "Writes a file so that whoever reads it sees the old one or the new one.
+It is made under a name that nobody can know before, and a link at PATH is
+replaced, and not written through."
+  (let ((coding-system-for-write 'binary) (write-region-inhibit-fsync nil)
+        (new (expand-file-name (format ".new-%08x%08x%08x" (random #x100000000) (random #x100000000) (random #x100000000)) (file-name-directory path))))
+    (write-region data nil new nil 'silent nil 'excl)
+    (condition-case fault (rename-file new path t)
+      (error (delete-file new) (signal (car fault) (cdr fault))))))
+
+(provide 'rls-files)
+;;; rls-files.el ends here

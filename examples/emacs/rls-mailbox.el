@@ -1,0 +1,133 @@
+;;; rls-mailbox.el --- What a replica does in the shared folder  -*- lexical-binding: t -*-
+
+;;; Code:
+
+(require 'rls-files)
+(require 'rls-session)
+(declare-function rls--send "rls")
+
+(defcustom rls-name "" "What others see beside the cursor." :type 'string)
+(defconst rls--most-input (- 67108864 4096) "Bytes that a session reads before it stores, less some.")
+(defconst rls--most-cursor 65536 "Bytes of a file with a cursor.")
+(defvar-local rls--shared nil)
+(defvar-local rls--head nil "The head of a message of this replica.")
+(defvar-local rls--group nil)
+(defvar-local rls--members nil)
+(defvar-local rls--me nil)
+(defvar-local rls--seen nil "What was at each path in the shared folder.")
+(defvar-local rls--taken nil "The last message from each member.")
+(defvar-local rls--sent nil "The last message to each member.")
+(defvar-local rls--changes 0 "How much has changed since the runs were looked at.")
+(defvar-local rls--problems nil "What was wrong with the last message from, or to, each member.")
+(defvar-local rls--shown nil "Where point was when others were told.")
+(defvar-local rls--place nil "What others were told of point.")
+(defvar-local rls--overlays nil "The overlay that shows each other member's cursor.")
+
+;;;; Messages.  One file for each sender and receiver: a message has all that its receiver isn't known to have, so the latest is enough.
+
+(defun rls--path (from to) (expand-file-name (format "%d-%d-%d.rlsm" rls--group from to) rls--shared))
+
+(defun rls--cursor-path (from) (expand-file-name (format "%d-%d.cursor" rls--group from) rls--shared))
+
+(defun rls--new-p (path)
+  "Whether there is something else at PATH than when this was asked last."
+  (let ((mark (rls--mark path)))
+    (unless (equal mark (alist-get path rls--seen nil nil #'equal))
+      (setf (alist-get path rls--seen nil nil #'equal) mark)
+      t)))
+
+(defun rls--message (to)
+  (let ((reply (rls--ask-all (format "s %d" to))))
+    (rls--number (car reply) "message")
+    (cadr reply)))
+
+(defun rls--guard (message from)
+  "Refuses a MESSAGE that knows more operations of this member than were made.
+Then the replica's files are old, or two members have its number."
+  (let ((at (+ 21 (* 4 rls--me))))
+    (when (and (>= (length message) (+ at 4))
+               (equal (substring message 5 17) (substring rls--head 5 17))
+               (> (rls--u32 message at) (rls--u32 (rls--message rls--me) at)))
+      (error "rls: member %d knows more edits of member %d than this replica has: the files in its folder are old" from rls--me))))
+
+(defun rls--note (message problem)
+  "Remembers the PROBLEM with a MESSAGE, such as \"of 2\"; nil if there is none."
+  (setf (alist-get message rls--problems nil t #'equal) problem))
+
+(defun rls--take-from (from)
+  "Takes what came from a member.  Answers a list of what it changed, or t, if there was anything.
+What can't be read as a message is told, and stops no other member's."
+  (let* ((name (format "of %d" from)) (path (rls--path from rls--me))
+         (message (and (/= from rls--me) (rls--new-p path)
+                       (condition-case fault
+                           (or (rls--read path rls--most-input) (rls--note name nil))
+                         (error (rls--note name (error-message-string fault)) nil)))))
+    (unless (or (null message) (equal message (alist-get from rls--taken)))
+      (when (> (+ rls--given (length message)) rls--most-input) (rls--send) (rls--drain))
+      (rls--guard message from)
+      (let* ((told (rls--ask-all (format "m %d" (length message)) message)) (reply (car told))
+             (is-refused (string-prefix-p "no " reply)))
+        (rls--note name (unless (and (not is-refused) (string-match "held 0 refused 0" reply)) reply))
+        ;; What was refused once is refused again.
+        (setf (alist-get from rls--taken) message)
+        (unless is-refused
+          (setq rls--changes (+ rls--changes (rls--number reply "applied")))
+          (or (nth 2 told) t))))))
+
+(defun rls--enough-p (to message)
+  "Whether nothing ever came from number TO and it has more than half of MESSAGE.
+Each of them has the whole history.  Whoever begins with the number takes the
+one that is there and answers, and gets the rest."
+  (let ((there (rls--size (rls--path rls--me to))))
+    (and there (zerop (rls--u32 message (+ 21 (* 4 to)))) (> (* 2 there) (length message))
+         (not (rls--size (rls--path to rls--me))))))
+
+(defun rls--write-message (to message)
+  "Writes MESSAGE to a member, if it is new."
+  (unless (or (equal message (alist-get to rls--sent)) (rls--enough-p to message))
+    (condition-case fault
+        (progn (rls--write (rls--path rls--me to) message)
+               (rls--note (format "to %d" to) nil)
+               (setf (alist-get to rls--sent) message))
+      (file-error (rls--note (format "to %d" to) (error-message-string fault))))))
+
+;;;; Cursors
+
+(defun rls--show-point ()
+  "Tells others where point is, if it has moved."
+  (let ((at (1- (if (get-buffer-window) (window-point (get-buffer-window)) (point)))))
+    (unless (equal at rls--shown)
+      (setq rls--shown at)
+      (let* ((reply (rls--ask (format "a %d" at)))
+             (place (and (string-match "\\`anchor \\([^ ]+\\)\\'" reply) (match-string 1 reply)))
+             (line (string-trim-right (concat place " " (replace-regexp-in-string "[[:cntrl:]]" "" rls-name)))))
+        (when (and place (not (equal line rls--place)))
+          (setq rls--place line)
+          (ignore-errors (rls--write (rls--cursor-path rls--me) (concat (encode-coding-string line 'utf-8-unix) "\n"))))))))
+
+(defun rls--show-others ()
+  "Shows where the cursors of others are.  What can't be read as a cursor isn't shown."
+  (dotimes (from rls--members)
+    (let ((path (rls--cursor-path from)))
+      (when (and (/= from rls--me) (rls--new-p path))
+        (let* ((data (or (ignore-errors (rls--read path rls--most-cursor)) ""))
+               (place (and (string-match "\\`[!-~]+" data) (match-string 0 data)))
+               (name (and place (string-match "\\`[!-~]+ \\(.*\\)$" data) (decode-coding-string (match-string 1 data) 'utf-8-unix)))
+               (reply (if place (rls--ask (concat "l " place)) "no")))
+          (rls--mark-other from (and (string-match "\\`cursor \\([0-9]+\\)\\'" reply) (1+ (string-to-number (match-string 1 reply))))
+                           (or name (format "member %d" from))))))))
+
+(defun rls--mark-other (from at name)
+  "Shows the cursor of member FROM by an overlay AT a place; none if that is nil."
+  (let ((old (alist-get from rls--overlays)))
+    (when old (delete-overlay old)))
+  (when at
+    (save-restriction
+      (widen)
+      (let* ((is-end (or (>= at (point-max)) (eq (char-after at) ?\n))) (overlay (make-overlay at (if is-end at (1+ at)))))
+        (if is-end (overlay-put overlay 'after-string (propertize " " 'face 'highlight)) (overlay-put overlay 'face 'highlight))
+        (overlay-put overlay 'help-echo (truncate-string-to-width (replace-regexp-in-string "[[:cntrl:]]" "" name) 40))
+        (setf (alist-get from rls--overlays) overlay)))))
+
+(provide 'rls-mailbox)
+;;; rls-mailbox.el ends here
