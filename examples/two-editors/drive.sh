@@ -55,7 +55,7 @@ wait_for() {
     [ "$found" = "$2." ] && { echo "ok      $1"; return 0; }
     sleep 0.2
   done
-  printf 'FAILED  %s: wanted %q, found %q\n' "$1" "$2" "${found%.}"
+  printf 'FAILED  %s: wanted %.300q, found %.300q\n' "$1" "$2" "${found%.}"
   screen
   exit 1
 }
@@ -110,10 +110,85 @@ play() {
   done
   wait $!
   ben_has 'keys that are typed faster than any timer, while others write' "------Butter, Bread and tea!$burst"$'\nSalt \\ é😀+?'
+  begin_of_stored() { stored_text | head -c 12; }
+  wait_for 'all that others wrote is stored' '------Butter' begin_of_stored
   shows 'no fault after that' 'member 0 of 2'
   append end
   leave_editor
   wait_for 'the last edits are stored' "------Butter, Bread and tea!${burst}end"$'\nSalt \\ é😀+?' stored_text
+}
+
+# Whether the program has the second version of the session.
+is_second() { [ "$(cd "$room/ben" && printf 'v\n' | "$RLS" session | head -n 1)" = 'version 2' ]; }
+
+# What only the second version does: the editor's own keys of undo, a line that is opened above the cursor, places that stay, and a replica that is
+# opened again. $1 begins the editor; its test says how that is typed by undo, redo, at_second_line, end_typing and open_again.
+play_second() {
+  is_second || { echo 'skipped what needs the second version of the session'; return 0; }
+  rm -rf "$room/ada" "$room/ben" "$room/shared"
+  replicas
+  begin "$1"
+  shows 'the status line' 'member 0 of 2'
+  begin_typing=i
+  append 'one'
+  end_typing
+  ben_has 'the first word' one
+  store
+  ben_edits 'i 0 zero\n' 'i 8 \nthree\nfour'
+  shows 'what others wrote' four
+  undo
+  ben_has 'an undo after storing leaves what others wrote' $'zero\n\nthree\nfour'
+  redo
+  ben_has 'and a redo does it again' $'zero\none\nthree\nfour'
+  at_third_line
+  ben_edits 'i 5 new\n' 'd 0 4'
+  shows 'a line that others opened' new
+  begin_typing=i
+  append 'here '
+  end_typing
+  ben_has 'the cursor at the beginning of a line stays with it' $'\nnew\none\nhere three\nfour'
+  undo
+  undo
+  ben_has 'own steps are taken back alone' $'\nnew\n\nthree\nfour'
+  redo
+  ben_has 'and done again' $'\nnew\none\nthree\nfour'
+  local program
+  program=$(session_of "$room/ada")
+  begin_typing=i
+  append 'kept '
+  end_typing
+  hold_back
+  never_idle
+  begin_typing=i
+  append 'also '
+  end_typing
+  [ "$program" = "$(session_of "$room/ada")" ] || { echo 'FAILED  one process for the whole life of the buffer'; exit 1; }
+  kill -KILL "$program"
+  shows 'a program that was killed' 'the session'
+  go_on
+  open_again
+  shows 'a replica that is opened again' 'member 0 of 2'
+  kept() { ben_takes; ben_text | grep -o 'kept\|also\|four' | sort -u | tr '\n' ' '; }
+  wait_for 'what was typed before the program was killed' 'also four kept ' kept
+  leave_editor
+  same_texts
+}
+
+# The process of the program that works on a folder.
+session_of() {
+  local found
+  for found in /proc/[0-9]*; do
+    if [ "$(readlink "$found/cwd" 2>/dev/null)" = "$1" ] && tr '\0' ' ' <"$found/cmdline" 2>/dev/null | grep -q "rls[^ ]* session $" && ! tr '\0' ' ' <"$found/cmdline" | grep -q '^\(sh\|bash\|/bin/\(ba\)\?sh\) '; then echo "${found#/proc/}"; fi
+  done | sort -n | head -n 1
+}
+
+# Both have the same text and identifiers, once each has what the other one sent.
+same_texts() {
+  ended() { (cd "$room/ada" && flock -n . true && echo yes); }
+  wait_for 'the folder is free' $'yes\n' ended
+  (cd "$room/ada" && "$RLS" send 1 >"$room/last" && cd "$room/ben" && "$RLS" take <"$room/last" >/dev/null && "$RLS" send 0 >"$room/last" && cd "$room/ada" && "$RLS" take <"$room/last" >/dev/null)
+  both() { for k in ada ben; do (cd "$room/$k" && "$RLS" text && "$RLS" ids) | cksum; done | uniq | wc -l; }
+  wait_for 'both members have the same' $'1\n' both
 }
 
 # An editor that opens a replica in whose folder another command works waits, also for more than ten seconds, and says so. $1 begins it.
@@ -136,4 +211,8 @@ type_at_end() { type_text "GA$1"; keys Escape; }
 delete_first_line() { type_text 'ggdd'; }
 store() { keys ':w' Enter; }
 to_end() { type_text 'ggA'; }
+end_typing() { keys Escape; }
+undo() { keys u; }
+redo() { keys C-r; }
+at_third_line() { type_text '3G0'; }
 leave_editor() { keys Escape ':qa!' Enter; }
