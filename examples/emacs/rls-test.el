@@ -90,6 +90,18 @@
       (let ((rls-program slow)) (rls-sync)))
     (rls-test-close (list a))))
 
+;; Folders whose names have what names may have.
+(ert-deftest rls-odd-names ()
+  (let* ((top (expand-file-name " a b\n'$HOME\"*\\" (make-temp-file "rls" t)))
+         (folder (file-name-as-directory (expand-file-name "m 0" top))) buffer)
+    (make-directory folder t)
+    (let ((default-directory folder)) (call-process rls-program nil nil nil "new" "7" "0" "2"))
+    (setq buffer (rls-open folder (expand-file-name "shared" top)))
+    (with-current-buffer buffer (insert "odd") (rls-sync))
+    (should (file-exists-p (expand-file-name "shared/7-0-1.rlsm" top)))
+    (rls-test-close (list buffer))
+    (should (equal (rls-test-stored folder) "odd"))))
+
 (defun rls-test-mode (path) (logand #o777 (file-modes path)))
 
 ;; What others may have put into the shared folder: links at the names of own messages and at the name that these had before, and at

@@ -83,9 +83,25 @@ local function hostile()
   for member = 0, 1 do vim.cmd('bwipeout! ' .. all[member].buf) end
 end
 
+-- Folders whose names have what names may have.
+local function odd()
+  rls.program = os.getenv('RLS')
+  local top = room .. "/ a b\n'$HOME\"*\\"
+  vim.fn.mkdir(top .. '/m 0', 'p')
+  vim.fn.system({ 'sh', '-c', 'cd "$1" && "$RLS" new 7 0 2', 'sh', top .. '/m 0' })
+  local self = assert(rls.open(top .. '/m 0', top .. '/shared'))
+  api.nvim_buf_set_lines(self.buf, 0, 0, true, { 'odd' })
+  self:sync()
+  assert(not self.failed, self.failed)
+  assert(vim.loop.fs_stat(top .. '/shared/7-0-1.rlsm'), 'a message in a folder with an odd name')
+  vim.cmd('bwipeout! ' .. self.buf)
+  assert(vim.fn.system({ 'sh', '-c', 'cd "$1" && "$RLS" text', 'sh', top .. '/m 0' }):find('odd'))
+end
+
 local done, fault = pcall(function()
   run()
   hostile()
+  odd()
 end)
 if not done then
   io.stderr:write(tostring(fault) .. '\n')

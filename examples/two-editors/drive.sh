@@ -47,10 +47,10 @@ ben_edits() {
 
 ben_text() { (cd "$room/ben" && "$RLS" text); }
 
-# Waits until a command prints this, for 30 seconds; $1 says what is looked at.
+# Waits until a command prints this, for two minutes or more; $1 says what is looked at.
 wait_for() {
   local found
-  for _ in $(seq 150); do
+  for _ in $(seq 600); do
     found=$("${@:3}" && echo .) || true
     [ "$found" = "$2." ] && { echo "ok      $1"; return 0; }
     sleep 0.2
@@ -189,6 +189,39 @@ same_texts() {
   (cd "$room/ada" && "$RLS" send 1 >"$room/last" && cd "$room/ben" && "$RLS" take <"$room/last" >/dev/null && "$RLS" send 0 >"$room/last" && cd "$room/ada" && "$RLS" take <"$room/last" >/dev/null)
   both() { for k in ada ben; do (cd "$room/$k" && "$RLS" text && "$RLS" ids) | cksum; done | uniq | wc -l; }
   wait_for 'both members have the same' $'1\n' both
+}
+
+# An editor that is killed at any moment: what was typed is stored, since the program goes on to the end of its input. If the program is killed as
+# well, what came after the last store is lost, and nobody's copy differs. $1 begins the editor.
+play_kill() {
+  local word editor
+  rm -rf "$room/ada" "$room/ben" "$room/shared"
+  replicas
+  for word in one two three four five six; do
+    begin "$1"
+    shows 'the status line, once more' 'member 0 of 2'
+    editor=$(tmux -L "$socket" display -p -t test '#{pane_pid}')
+    begin_typing=i
+    append "$word "
+    screen_or_more() { screen | grep -qF "$word" && printf yes; }
+    wait_for "the word $word on the screen" yes screen_or_more
+    sleep "0.$((RANDOM % 10))"
+    case $word in
+      one | two | three) kill -KILL "$editor" ;;
+      *) kill -KILL "$editor" "$(session_of "$room/ada")" ;;
+    esac
+    leave_tmux
+    ended() { (cd "$room/ada" && flock -n . true && echo yes); }
+    wait_for 'the folder is free' $'yes\n' ended
+    case $word in
+      one | two | three)
+        has_word() { stored_text | grep -o "$word"; }
+        wait_for 'what was typed is stored' "$word"$'\n' has_word
+        ;;
+    esac
+    ben_edits "i 0 $word by Ben "
+  done
+  same_texts
 }
 
 # An editor that opens a replica in whose folder another command works waits, also for more than ten seconds, and says so. $1 begins it.

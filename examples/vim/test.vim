@@ -71,6 +71,19 @@ function s:hostile() abort
   endfor
 endfunction
 
+" Folders whose names have what names may have.
+function s:odd() abort
+  let top = $ROOM . "/ a b\n'$HOME\"*\\"
+  call mkdir(top . '/m 0', 'p')
+  call system('cd ' . shellescape(top . '/m 0') . ' && "$RLS" new 7 0 2')
+  call rls#open(top . '/m 0', top . '/shared')
+  call s:want(RlsStatus() =~# '^member 0 of 2', 'odd names')
+  call s:put(bufnr('%'), 'odd')
+  call s:want(filereadable(top . '/shared/7-0-1.rlsm'), 'a message in a folder with an odd name')
+  bwipeout!
+  call s:want(system('cd ' . shellescape(top . '/m 0') . ' && "$RLS" text') =~# 'odd', 'what is stored in a folder with an odd name')
+endfunction
+
 try
   let s:buffers = []
   for member in range(2)
@@ -105,6 +118,7 @@ try
     execute 'bwipeout!' buf
   endfor
   call s:hostile()
+  call s:odd()
   qall!
 catch
   call writefile([v:exception, v:throwpoint], '/dev/stderr', 'a')

@@ -429,7 +429,7 @@ endfunction
 " --- The buffer
 
 function s:full(path) abort
-  return substitute(fnamemodify(expand(a:path), ':p'), '/$', '', '')
+  return substitute(fnamemodify(a:path, ':p'), '/$', '', '')
 endfunction
 
 " Which member this is: the head of a message tells it. A message to oneself has a head alone.

@@ -9,7 +9,7 @@ Session.__index = Session
 
 function Session.start(program, folder)
   local input, output, errors = uv.new_pipe(), uv.new_pipe(), uv.new_pipe()
-  local self = setmetatable({ have = '', at = 1, waiting = {}, first = 1, errors = '', ended = false, telling = false, given = 0, input = input }, Session)
+  local self = setmetatable({ have = '', at = 1, waiting = {}, first = 1, last = 0, errors = '', ended = false, telling = false, given = 0, input = input }, Session)
   local handle
   handle = uv.spawn(program, { args = { 'session' }, cwd = folder, stdio = { input, output, errors } }, function(status)
     self.ended = status
@@ -37,15 +37,10 @@ function Session:is_idle() return self.waiting[self.first] == nil end
 -- the lines of changes, where those are told.
 function Session:send(request, data, handler)
   local sent = request .. '\n' .. (data or '')
-  self.waiting[self.first + self:count()] = { kind = request:sub(1, 1), handler = handler }
+  self.last = self.last + 1
+  self.waiting[self.last] = { kind = request:sub(1, 1), handler = handler }
   if not self.input:is_closing() then self.input:write(sent) end
   self.given = self.given + #sent
-end
-
-function Session:count()
-  local count = 0
-  while self.waiting[self.first + count] do count = count + 1 end
-  return count
 end
 
 -- The end of the line that begins at this byte of what came; nil if it hasn't come whole.
