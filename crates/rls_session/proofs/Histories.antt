@@ -1,5 +1,5 @@
 -- How a session ends whose kept file stands for a history.
-use Rattle.std.proofs.Common.{◌≡◌, ◌≢◌, ◌∙◌, ◌⊎◌, ◌<◌, ◌≤◌, ◌+◌, ◌++◌, ℕ, zero, suc, true, false, eqb, List, [], length, take, Option, Some, None, IfSome, Result, Ok, Err, refl, sym, ap, subst, arith, inl, inr, length-append}
+use Rattle.std.proofs.Common.{◌≡◌, ◌≢◌, ◌∙◌, ◌⊎◌, ◌<◌, ◌≤◌, ◌+◌, ◌++◌, ℕ, zero, suc, true, false, eqb, List, [], ◌∷◌, length, map, take, Option, Some, None, IfSome, Result, Ok, Err, refl, sym, ap, subst, arith, inl, inr, length-append}
 use Rattle.std.proofs.lemmas.Bool.Decides.{eqb_tells}
 use Rattle.std.proofs.lemmas.List.{take-append-le}
 use Rattle.std.proofs.Math.Seq.{take-append-add}
@@ -19,14 +19,14 @@ use Rattle.rls_stages.specs.Endings.{IsFault, IsPart, EndsWith}
 use Rattle.rls_stages.specs.KeptFile.{IsFileFor, IsReadBack, StandsIn, bytes_over, loaded, replica_in, saved}
 use Rattle.rls_stages.proofs.Kept.{WithinOrPast, within_or_past}
 use Rattle.rls_stages.proofs.Files.{opened, stands_stored}
-use Rattle.rls_session.specs.Answers.{Sitting}
-use Rattle.rls_session.specs.Courses.{Course}
+use Rattle.rls_session.specs.Answers.{Sitting, answer, resumed, sitting_at}
+use Rattle.rls_session.specs.Courses.{Course, course_of}
 use Rattle.rls_session.specs.Due.{Due, due, due_of, due_on, ending_status, stops}
-use Rattle.rls_session.specs.Endings.{ByReplies, Ends, EndsIn, FailsAt, IsKept, IsTooLong, Serves}
+use Rattle.rls_session.specs.Endings.{ByReplies, Ends, EndsIn, EndsOn, FailsAt, IsKept, IsTooLong, Serves, ServesIn, ServesOn}
 use Rattle.rls_session.specs.Replies.{saved_text}
-use Rattle.rls_session.specs.Sessions.{session, session_in}
-use Rattle.rls_session.proofs.Agreeing.{IsAlike, sessions_alike}
-use Rattle.rls_session.proofs.Courses.{IsSameCourse}
+use Rattle.rls_session.specs.Sessions.{by_history, session, session_in}
+use Rattle.rls_session.proofs.Agreeing.{AreSameCourses, IsAlike, sessions_alike}
+use Rattle.rls_session.proofs.Courses.{IsSameCourse, courses_begin}
 use Rattle.rls_session.proofs.Served.{part_all}
 
 -- what is called for at the end of a course, or the end for what is too long
@@ -93,12 +93,10 @@ stored_by_replies replies (Some output) new P Q R f h = (λ all. f (h.0 all), h.
 
 -- ---- all
 
--- the replica that stands for the state was found
-found_serves : (n : ℕ) (s : Seen) (t : State) (bytes given : List ℕ) (new_file : Option (Option (List ℕ))) (old new : Option (List ℕ)) → IsSameCourse IsAlike (session s given) (session_in t given)
-    → EndsIn (due_of (session s given)) n (Some (Some bytes)) new_file old new → Serves n bytes (session_in t given) new_file old new
-found_serves n s t bytes given new_file old new same e =
-    let c = session s given in
-    let f = session_in t given in
+-- a course
+course_serves : (n : ℕ) (c : Course (Sitting Seen)) (f : Course (Sitting State)) (bytes : List ℕ) (new_file : Option (Option (List ℕ))) (old new : Option (List ℕ)) → IsSameCourse IsAlike c f
+    → EndsIn (due_of c) n (Some (Some bytes)) new_file old new → ServesIn n bytes f new_file old new
+course_serves n c f bytes new_file old new same e =
     let k = same.states in
     let ending = ending_or_long c in
     record {
@@ -110,30 +108,59 @@ found_serves n s t bytes given new_file old new same e =
           (subst (λ (r : List ℕ). ByReplies r old new (IsKept (due_of c).ending (Some (Some bytes)) new_file) (Keeps (Some (Some bytes)) new_file)) same.replies (e.by_replies z));
     }
   where
-    long : (INPUT_BYTES < (session s given).used) ⊎ (FILE_BYTES < length (bytes_over ((session s given).state).state)) → IsTooLong bytes (session_in t given)
+    long : (INPUT_BYTES < c.used) ⊎ (FILE_BYTES < length (bytes_over (c.state).state)) → IsTooLong bytes f
     long (inl h) = inr (inl (subst (λ m. INPUT_BYTES < m) same.used h))
-    long (inr h) = inr (inr (subst (λ (p : Parts). FILE_BYTES < length (file_bytes p)) (parts_alike ((session s given).state).state ((session_in t given).state).state (same.states).stands) h))
+    long (inr h) = inr (inr (subst (λ (p : Parts). FILE_BYTES < length (file_bytes p)) (parts_alike (c.state).state (f.state).state (same.states).stands) h))
 
-    status : ((due_of (session s given)).ending ≡ Ok ((session s given).state).state) ⊎ (((INPUT_BYTES < (session s given).used) ⊎ (FILE_BYTES < length (bytes_over ((session s given).state).state))) × ((due_of (session s given)).ending ≡ Err TooLarge))
-        → (n ≡ ending_status (due_of (session s given)).ending) ⊎ IsFault n → EndsWith n 0 (IsTooLong bytes (session_in t given))
+    status : ((due_of c).ending ≡ Ok (c.state).state) ⊎ (((INPUT_BYTES < c.used) ⊎ (FILE_BYTES < length (bytes_over (c.state).state))) × ((due_of c).ending ≡ Err TooLarge))
+        → (n ≡ ending_status (due_of c).ending) ⊎ IsFault n → EndsWith n 0 (IsTooLong bytes f)
     status (inl h) (inl st) = inl (st ∙ ap ending_status h)
     status (inr h) (inl st) = inr (inr (st ∙ ap ending_status h.1, long h.0))
     status h (inr f) = inr (inl f)
 
+-- the file that was stored after a course
+stored_file : (c : Course (Sitting Seen)) (f : Course (Sitting State)) (bytes : List ℕ) (mid_file : Option (Option (List ℕ))) → IsSameCourse IsAlike c f → IsKept (due_of c).ending (Some (Some bytes)) mid_file
+    → (stored : List ℕ) × (mid_file ≡ Some (Some stored)) × IsFileFor stored (f.state).state
+stored_file c f bytes mid_file same k = go (ending_or_long c) k
+  where
+    go : ((due_of c).ending ≡ Ok (c.state).state) ⊎ (((INPUT_BYTES < c.used) ⊎ (FILE_BYTES < length (bytes_over (c.state).state))) × ((due_of c).ending ≡ Err TooLarge)) → IsKept (due_of c).ending (Some (Some bytes)) mid_file
+        → (stored : List ℕ) × (mid_file ≡ Some (Some stored)) × IsFileFor stored (f.state).state
+    go (inl e) k =
+        let here : Stores (Some (Some bytes)) mid_file (bytes_over (c.state).state) × IsReadBack (c.state).state = subst (λ (x : Result Seen CommandError). IsKept x (Some (Some bytes)) mid_file) e k in
+        (bytes_over (c.state).state, here.0, stands_stored (c.state).state (f.state).state (same.states).stands here.1)
+    go (inr e) k = absurd (subst (λ (x : Result Seen CommandError). IsKept x (Some (Some bytes)) mid_file) e.1 k)
+
+-- courses, one after another
+courses_serve : (n : ℕ) (c : Course (Sitting Seen)) (cs : List (Course (Sitting Seen))) (f : Course (Sitting State)) (fs : List (Course (Sitting State))) (bytes : List ℕ) (new_file : Option (Option (List ℕ))) (old new : Option (List ℕ))
+    → IsSameCourse IsAlike c f → AreSameCourses IsAlike cs fs → EndsOn (due_of c) (map due_of cs) n (Some (Some bytes)) new_file old new → ServesOn n bytes f fs new_file old new
+courses_serve n c [] f [] bytes new_file old new same rest e = course_serves n c f bytes new_file old new same e
+courses_serve n c [] f (g ∷ fs) bytes new_file old new same rest e = absurd rest
+courses_serve n c (x ∷ cs) f [] bytes new_file old new same rest e = absurd rest
+courses_serve n c (x ∷ cs) f (g ∷ fs) bytes new_file old new same rest (inl e) = inl (e.0, course_serves n c f bytes new_file old new same e.1)
+courses_serve n c (x ∷ cs) f (g ∷ fs) bytes new_file old new same rest (inr e) =
+    let done = e.2 in
+    let s = stored_file c f bytes e.0 same done.stored in
+    inr (
+      s.0,
+      e.1,
+      s.2,
+      subst (λ (r : List ℕ). Appends old e.1 (r ++ saved_text)) same.replies done.written,
+      courses_serve n x cs g fs s.0 new_file e.1 new rest.0 rest.1 (subst (λ (file : Option (Option (List ℕ))). EndsOn (due_of x) (map due_of cs) n file new_file e.1 new) s.1 e.3),
+    )
+
+all_serve : (n : ℕ) (cs : List (Course (Sitting Seen))) (fs : List (Course (Sitting State))) (bytes : List ℕ) (new_file : Option (Option (List ℕ))) (old new : Option (List ℕ)) → AreSameCourses IsAlike cs fs → Ends (map due_of cs) n (Some (Some bytes)) new_file old new → Serves n bytes fs new_file old new
+all_serve n [] fs bytes new_file old new same e = absurd e
+all_serve n (c ∷ cs) [] bytes new_file old new same e = absurd same
+all_serve n (c ∷ cs) (f ∷ fs) bytes new_file old new same e = courses_serve n c cs f fs bytes new_file old new same.0 same.1 e
+
 -- the kept file is too long
 long_serves : (n : ℕ) (t : State) (bytes given : List ℕ) (kept : Option (List ℕ)) (new_file : Option (Option (List ℕ))) (old new : Option (List ℕ)) → FILE_BYTES < length bytes → EndsIn (stops TooLarge) n (Some kept) new_file old new
     → Serves n bytes (session_in t given) new_file old new
-long_serves n t bytes given kept new_file old new h e = record {
-  status = status e.status;
-  stored = λ z. absurd (e.stored z);
-  written = λ z. absurd (e.stored z);
-  part = from_none (none (eqb_tells n 0));
-  by_replies = λ z. absurd (fails (e.failing z));
-}
+long_serves n t bytes given kept new_file old new h e = subst (λ (cs : List (Course (Sitting State))). Serves n bytes cs new_file old new) (sym (courses_begin (answer by_history) (resumed by_history) (sitting_at t) given)) (serves_on _ (map (course_of (answer by_history)) _))
   where
-    status : (n ≡ 11) ⊎ IsFault n → EndsWith n 0 (IsTooLong bytes (session_in t given))
-    status (inl st) = inr (inr (st, inl h))
-    status (inr f) = inr (inl f)
+    status : (c : Course (Sitting State)) → (n ≡ 11) ⊎ IsFault n → EndsWith n 0 (IsTooLong bytes c)
+    status c (inl st) = inr (inr (st, inl h))
+    status c (inr f) = inr (inl f)
 
     -- no reply is called for that could fail
     fails : FailsAt (stops TooLarge) (Some kept) new_file old new → ⊥
@@ -152,8 +179,21 @@ long_serves n t bytes given kept new_file old new h e = record {
     take_none zero = refl
     take_none (suc k) = refl
 
-    from_none : IsPart old new [] → IsPart old new ((session_in t given).replies ++ saved_text)
-    from_none p = (0, omega arith, subst (Appends old new) (take_none p.0) p.2)
+    from_none : (c : Course (Sitting State)) → IsPart old new [] → IsPart old new (c.replies ++ saved_text)
+    from_none c p = (0, omega arith, subst (Appends old new) (take_none p.0) p.2)
+
+    serves_in : (c : Course (Sitting State)) → ServesIn n bytes c new_file old new
+    serves_in c = record {
+      status = status c e.status;
+      stored = λ z. absurd (e.stored z);
+      written = λ z. absurd (e.stored z);
+      part = from_none c (none (eqb_tells n 0));
+      by_replies = λ z. absurd (fails (e.failing z));
+    }
+
+    serves_on : (c : Course (Sitting State)) (cs : List (Course (Sitting State))) → ServesOn n bytes c cs new_file old new
+    serves_on c [] = serves_in c
+    serves_on c (d ∷ cs) = inl (λ z. e.stored z, serves_in c)
 
 pub history_serves : (n : ℕ) (file new_file : Option (Option (List ℕ))) (left old new : Option (List ℕ)) (t : State) (bytes given : List ℕ) → IfSome (due file left) (λ ds. Ends ds n file new_file old new) → file ≡ Some (Some bytes) → IsFileFor bytes t
     → left ≡ Some given → IsBytes given → Serves n bytes (session_in t given) new_file old new
@@ -166,7 +206,7 @@ history_serves n file new_file left old new t bytes given e f stands l b = go (w
     go (inl h) =
         let o = opened bytes t stands in
         let found : replica_in (loaded (Some bytes)) ≡ Ok o.0 = rw (h.1) (o.1.found) in
-        found_serves n o.0 t bytes given new_file old new (sessions_alike o.0 t given b o.1.stands o.1.sane o.1.writable)
+        all_serve n (session o.0 given) (session_in t given) bytes new_file old new (sessions_alike o.0 t given b o.1.stands o.1.sane o.1.writable)
         (subst (λ (r : Result Seen CommandError). IfSome (due_on (Some r) (Some given)) (λ ds. Ends ds n (Some (Some bytes)) new_file old new)) found told)
     go (inr h) =
         let long : replica_in (loaded (Some bytes)) ≡ Err TooLarge = rw (h.1) refl in

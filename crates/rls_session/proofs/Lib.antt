@@ -6,11 +6,13 @@ pub mod Limits
 pub mod Found
 pub mod Loop
 pub mod Whole
+pub mod Resumed
 pub mod Sized
 pub mod Writable
 pub mod Sent
 pub mod Answered
 pub mod Served
+pub mod Stages
 pub mod Called
 pub mod Closing
 pub mod Agreeing

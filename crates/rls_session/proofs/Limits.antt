@@ -11,54 +11,98 @@ use Rattle.rls_script.proofs.LineEnds.{position_or_len_le}
 use Rattle.rls_script.specs.Scripts.{is_line_feed, line_of_text, number_of, parts_of}
 use Rattle.rls_script.specs.declared.lines.Line.{Line}
 use Rattle.rls_session.specs.declared.orders.Order.{Order}
-use Rattle.rls_session.specs.declared.orders.Order.TheVariants.{Edit, Undo, Point, Place, Text, Take, Send, Quit, Bad}
+use Rattle.rls_session.specs.declared.orders.Order.TheVariants.{Edit, Point, Take, Send, Store, Quit, Bad}
 use Rattle.rls_session.specs.Answering.{HasAll, LacksPart}
 use Rattle.rls_session.specs.Courses.{Course, go_on, course}
 use Rattle.rls_session.specs.Orders.{order_or_bad, member_of, order_of_letter, order_of_parts, order_of_words, order_of}
 use Rattle.rls_session.specs.Requests.{Request, Does, Takes, Cut, line_size, cut_after, with_line, cut}
-use Rattle.rls_session.proofs.Courses.{Answers, course_begins}
+use Rattle.rls_session.proofs.Courses.{Answers, IsPlain, course_begins}
 use Rattle.rls_session.proofs.Positions.{clear_then, in_front, position_front}
 
--- ---- the order to quit is one letter
+-- ---- the orders to store and to quit are one letter
 
-letter_quit : (bs : List ℕ) → order_of_letter bs ≡ Quit → length bs ≡ 1
-letter_quit bs e = go (bytes_eq bs (codes "u")) (bytes_eq bs (codes "p")) (bytes_eq bs (codes "t")) (bytes_eq bs (codes "q")) refl (line_of_text bs) e
-  where
-    go : (a b c d : Bool) → bytes_eq bs (codes "q") ≡ d → (l : Option Line) → cond a Undo (cond b Place (cond c Text (cond d Quit (order_or_bad Edit l)))) ≡ Quit → length bs ≡ 1
-    go true b c d t l e = cc
-    go false true c d t l e = cc
-    go false false true d t l e = cc
-    go false false false true t l e = ap length ((bytes_eq-Decides bs (codes "q")).0 t)
-    go false false false false t None e = cc
-    go false false false false t (Some x) e = cc
+-- these orders end a course
+data IsHalt (order : Order) : Type 0 where
+  Stores : order ≡ Store → IsHalt order
+  Quits : order ≡ Quit → IsHalt order
 
-parts_quit : (bs word others : List ℕ) → order_of_parts bs word others ≡ Quit → length bs ≡ 1
-parts_quit bs word others e = go (bytes_eq word (codes "k")) (bytes_eq word (codes "m")) (bytes_eq word (codes "s")) (number_of others) (member_of others) (line_of_text bs) e
+-- an order that is none of them isn't one
+skips : (b : Bool) (o other : Order) (X : Type 0) → (IsHalt o → ⊥) → (IsHalt other → X) → IsHalt (cond b o other) → X
+skips true o other X none f h = absurd (none h)
+skips false o other X none f h = f h
+
+edit_halts : (l : Option Line) → IsHalt (order_or_bad Edit l) → ⊥
+edit_halts None (Stores e) = cc
+edit_halts None (Quits e) = cc
+edit_halts (Some x) (Stores e) = cc
+edit_halts (Some x) (Quits e) = cc
+
+one_letter : (bs : List ℕ) (letter : List ℕ) (o other : Order) → length letter ≡ 1 → (IsHalt other → length bs ≡ 1) → IsHalt (cond (bytes_eq bs letter) o other) → length bs ≡ 1
+one_letter bs letter o other one f h = go (bytes_eq bs letter) refl h
   where
-    go : (a b c : Bool) (n m : Option ℕ) (l : Option Line) → cond a (order_or_bad Point n) (cond b (order_or_bad Take n) (cond c (order_or_bad Send m) (order_or_bad Edit l))) ≡ Quit → length bs ≡ 1
-    go true b c None m l e = cc
-    go true b c (Some x) m l e = cc
-    go false true c None m l e = cc
-    go false true c (Some x) m l e = cc
-    go false false true n None l e = cc
-    go false false true n (Some x) l e = cc
-    go false false false n m None e = cc
-    go false false false n m (Some x) e = cc
+    go : (b : Bool) → bytes_eq bs letter ≡ b → IsHalt (cond b o other) → length bs ≡ 1
+    go true t h = ap length ((bytes_eq-Decides bs letter).0 t) ∙ one
+    go false t h = f h
+
+letter_halts : (bs : List ℕ) → IsHalt (order_of_letter bs) → length bs ≡ 1
+letter_halts bs h =
+    one_letter bs (codes "u") _ _ refl (one_letter bs (codes "p") _ _ refl (one_letter bs (codes "t") _ _ refl (one_letter bs (codes "n") _ _ refl (one_letter bs (codes "w") _ _ refl (one_letter bs (codes "q") _ _ refl (λ k. absurd (edit_halts (line_of_text bs) k))))))) h
+
+-- those with a word and more aren't
+point_halts : (o : Option ℕ) → IsHalt (order_or_bad Point o) → ⊥
+point_halts None (Stores e) = cc
+point_halts None (Quits e) = cc
+point_halts (Some x) (Stores e) = cc
+point_halts (Some x) (Quits e) = cc
+
+take_halts : (o : Option ℕ) → IsHalt (order_or_bad Take o) → ⊥
+take_halts None (Stores e) = cc
+take_halts None (Quits e) = cc
+take_halts (Some x) (Stores e) = cc
+take_halts (Some x) (Quits e) = cc
+
+send_halts : (o : Option ℕ) → IsHalt (order_or_bad Send o) → ⊥
+send_halts None (Stores e) = cc
+send_halts None (Quits e) = cc
+send_halts (Some x) (Stores e) = cc
+send_halts (Some x) (Quits e) = cc
+
+parts_halt : (bs word others : List ℕ) → IsHalt (order_of_parts bs word others) → ⊥
+parts_halt bs word others h =
+    skips (bytes_eq word (codes "k")) _ _ ⊥ (point_halts (number_of others)) (skips (bytes_eq word (codes "m")) _ _ ⊥ (take_halts (number_of others)) (skips (bytes_eq word (codes "s")) _ _ ⊥ (send_halts (member_of others)) (edit_halts (line_of_text bs)))) h
+
+halt_letter : (bs : List ℕ) → IsHalt (order_of bs) → length bs ≡ 1
+unfolding order_of
+halt_letter bs h = go (is_utf8 bs) (parts_of bs) h
+  where
+    bad : IsHalt Bad → ⊥
+    bad (Stores e) = cc
+    bad (Quits e) = cc
+
+    go : (b : Bool) (p : Option (List ℕ × List ℕ)) → IsHalt (cond b (order_of_words bs p) Bad) → length bs ≡ 1
+    go false p h = absurd (bad h)
+    go true None h = letter_halts bs h
+    go true (Some x) h = absurd (parts_halt bs x.0 x.1 h)
 
 quit_letter : (bs : List ℕ) → order_of bs ≡ Quit → length bs ≡ 1
-unfolding order_of
-quit_letter bs e = go (is_utf8 bs) (parts_of bs) e
-  where
-    go : (b : Bool) (p : Option (List ℕ × List ℕ)) → cond b (order_of_words bs p) Bad ≡ Quit → length bs ≡ 1
-    go false p e = cc
-    go true None e = letter_quit bs e
-    go true (Some x) e = parts_quit bs x.0 x.1 e
+quit_letter bs e = halt_letter bs (Quits e)
+
+store_letter : (bs : List ℕ) → order_of bs ≡ Store → length bs ≡ 1
+store_letter bs e = halt_letter bs (Stores e)
 
 -- so its line has a byte
 pub quit_letter_size : (bytes : List ℕ) → order_of (before_first is_line_feed bytes) ≡ Quit → 1 ≤ position_or_len is_line_feed bytes
 quit_letter_size bytes e =
     let one = quit_letter (before_first is_line_feed bytes) e in
     let front = length-take (position_or_len is_line_feed bytes) bytes in
+    omega arith
+
+-- the line of the order to store is its letter, with a line feed if there is one
+pub store_letter_size : (bytes : List ℕ) → order_of (before_first is_line_feed bytes) ≡ Store → position_or_len is_line_feed bytes ≡ 1
+store_letter_size bytes e =
+    let one = store_letter (before_first is_line_feed bytes) e in
+    let front = length-take (position_or_len is_line_feed bytes) bytes in
+    let le = position_or_len_le is_line_feed bytes in
     omega arith
 
 -- the first request, by the order of its line
@@ -76,16 +120,34 @@ cut_quit (Take n) rest e = go (nat_le n (length rest)) e
 cut_quit Quit rest e = refl
 cut_quit order rest e = cc
 
+-- and the one to store
+pub cut_store : (order : Order) (rest : List ℕ) → (cut_after order rest).request ≡ Does Store → order ≡ Store
+cut_store (Take n) rest e = go (nat_le n (length rest)) e
+  where
+    go : (b : Bool) → (cond {A = Cut} b (record { request = Takes (take n rest); size = n }) (record { request = Does Bad; size = length rest })).request ≡ Does Store → Take n ≡ Store
+    go true e = cc
+    go false e = cc
+cut_store Store rest e = refl
+cut_store order rest e = cc
+
+-- an order that is answered
+abbrev pub IsPlainOrder : Order → Type 0
+IsPlainOrder order = (order ≡ Quit → ⊥) × (order ≡ Store → ⊥)
+
+pub plain_cut : (order : Order) (rest : List ℕ) → IsPlainOrder order → IsPlain (cut_after order rest).request
+plain_cut order rest p = (λ q. p.0 (cut_quit order rest q), λ q. p.1 (cut_store order rest q))
+
 -- ---- what is used at least
 
-used_most : {S : Type 0} (answer : Answers S) (s : S) (bytes : List ℕ) (k : ℕ) → 0 < length bytes → ((cut bytes).request ≡ Does Quit → k ≤ 1) → k ≤ (cut bytes).size → k ≤ (course answer s bytes).used
-used_most {S} answer s bytes k some quit other =
-    subst (λ (c : Course S). k ≤ c.used) (sym (course_begins answer s bytes some)) (go (cut bytes).request (cut bytes).size (λ t. course answer t (drop (cut bytes).size bytes)) quit other)
+used_most : {S : Type 0} (answer : Answers S) (s : S) (bytes : List ℕ) (k : ℕ) → 0 < length bytes → ((cut bytes).request ≡ Does Quit → k ≤ 1) → ((cut bytes).request ≡ Does Store → k ≤ 1) → k ≤ (cut bytes).size → k ≤ (course answer s bytes).used
+used_most {S} answer s bytes k some quit store other =
+    subst (λ (c : Course S). k ≤ c.used) (sym (course_begins answer s bytes some)) (go (cut bytes).request (cut bytes).size (λ t. course answer t (drop (cut bytes).size bytes)) quit store other)
   where
-    go : (r : Request) (n : ℕ) (f : S → Course S) → (r ≡ Does Quit → k ≤ 1) → k ≤ n → k ≤ (go_on answer s r n f).used
-    go (Does Quit) n f q o = q refl
-    go (Does order) n f q o = omega arith
-    go (Takes message) n f q o = omega arith
+    go : (r : Request) (n : ℕ) (f : S → Course S) → (r ≡ Does Quit → k ≤ 1) → (r ≡ Does Store → k ≤ 1) → k ≤ n → k ≤ (go_on answer s r n f).used
+    go (Does Quit) n f q w o = q refl
+    go (Does Store) n f q w o = w refl
+    go (Does order) n f q w o = omega arith
+    go (Takes message) n f q w o = omega arith
 
 -- if no whole line waits, at least what waits
 pub used_no_line : {S : Type 0} (answer : Answers S) (s : S) (waiting rest : List ℕ) → position_or_len is_line_feed waiting ≡ length waiting → length waiting ≤ (course answer s (waiting ++ rest)).used
@@ -99,6 +161,7 @@ used_no_line answer s (w ∷ ws) rest none =
     let front = length-take p bytes in
     used_most answer s bytes (length (w ∷ ws)) (omega arith)
     (λ q. let one = quit_letter (before_first is_line_feed bytes) (cut_quit (order_of (before_first is_line_feed bytes)) (drop (line_size bytes) bytes) q) in omega arith)
+    (λ q. let one = store_letter (before_first is_line_feed bytes) (cut_store (order_of (before_first is_line_feed bytes)) (drop (line_size bytes) bytes) q) in omega arith)
     (omega arith)
 
 -- if the message of the first line doesn't wait whole, at least the line and what waits
@@ -108,10 +171,14 @@ unfolding cut
 used_no_message answer s bytes waiting rest n some is behind short =
     used_most answer s bytes (line_size bytes + length waiting) some
     (λ q. let no = cut_quit (order_of (before_first is_line_feed bytes)) (drop (line_size bytes) bytes) q in absurd (take_not_quit (sym is ∙ no)))
+    (λ q. let no = cut_store (order_of (before_first is_line_feed bytes)) (drop (line_size bytes) bytes) q in absurd (take_not_store (sym is ∙ no)))
     (subst (λ (o : Order). line_size bytes + length waiting ≤ line_size bytes + (cut_after o (drop (line_size bytes) bytes)).size) (sym is) (go (nat_le n (length (drop (line_size bytes) bytes)))))
   where
     take_not_quit : Take n ≡ Quit → ⊥
     take_not_quit e = cc
+
+    take_not_store : Take n ≡ Store → ⊥
+    take_not_store e = cc
 
     go : (b : Bool) → line_size bytes + length waiting ≤ line_size bytes + (cond {A = Cut} b (record { request = Takes (take n (drop (line_size bytes) bytes)); size = n }) (record { request = Does Bad; size = length (drop (line_size bytes) bytes) })).size
     go true = omega arith
@@ -128,17 +195,19 @@ used_line answer s (b ∷ bytes) =
     let front = length-take p all in
     used_most answer s all p (omega arith)
     (λ q. let one = quit_letter (before_first is_line_feed all) (cut_quit (order_of (before_first is_line_feed all)) (drop (line_size all) all) q) in omega arith)
+    (λ q. let one = store_letter (before_first is_line_feed all) (cut_store (order_of (before_first is_line_feed all)) (drop (line_size all) all) q) in omega arith)
     (omega arith)
 
--- all of the first request, unless it is to quit
-pub used_request : {S : Type 0} (answer : Answers S) (s : S) (bytes : List ℕ) (order : Order) → 0 < length bytes → order ≡ order_of (before_first is_line_feed bytes) → (order ≡ Quit → ⊥)
+-- all of the first request, if it is answered
+pub used_request : {S : Type 0} (answer : Answers S) (s : S) (bytes : List ℕ) (order : Order) → 0 < length bytes → order ≡ order_of (before_first is_line_feed bytes) → IsPlainOrder order
     → line_size bytes + (cut_after order (drop (line_size bytes) bytes)).size ≤ (course answer s bytes).used
 used_request answer s bytes order some is other =
     let c = cut_is bytes order is in
     let n = line_size bytes + (cut_after order (drop (line_size bytes) bytes)).size in
     let size : (cut bytes).size ≡ n = ap (λ (x : Cut). x.size) c in
     used_most answer s bytes n some
-    (λ q. absurd (other (cut_quit order (drop (line_size bytes) bytes) (sym (ap (λ (x : Cut). x.request) c) ∙ q))))
+    (λ q. absurd (other.0 (cut_quit order (drop (line_size bytes) bytes) (sym (ap (λ (x : Cut). x.request) c) ∙ q))))
+    (λ q. absurd (other.1 (cut_store order (drop (line_size bytes) bytes) (sym (ap (λ (x : Cut). x.request) c) ∙ q))))
     (omega arith)
 
 -- ---- the same bytes with others after them

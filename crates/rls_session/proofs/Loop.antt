@@ -1,5 +1,6 @@
 -- The loop over requests: what was answered so far, and what is to come.
-use Rattle.std.proofs.Common.{◌≡◌, ◌≢◌, ◌∙◌, ◌+◌, ◌<◌, ◌≤◌, ℕ, Bool, true, false, IsTrue, IsFalse, List, [], ◌++◌, length, take, drop, Option, Some, None, IfSome, Result, Err, refl, sym, ap, subst, arith, inl, inr, append_assoc, length-append, length-drop, length-take}
+use Rattle.std.proofs.Common.{◌≡◌, ◌≢◌, ◌∙◌, ◌+◌, ◌<◌, ◌≤◌, ℕ, suc, Bool, true, false, IsTrue, IsFalse, List, [], ◌∷◌, ◌++◌, length, take, drop, Option, Some, None, IfSome, Result, Err, refl, sym, ap, subst, arith, inl, inr, append_assoc, length-append, length-drop, length-take}
+use Rattle.std.specs.Prelude.{min}
 use Rattle.std.specs.List.{position_or_len, before_first}
 use Rattle.std.proofs.lemmas.Grind.{common_steps}
 use Rattle.std.proofs.Math.Seq.{take-append-add}
@@ -13,15 +14,16 @@ use Rattle.rls_io.specs.declared.reading.ReadError.{ReadError}
 use Rattle.rls_io.specs.declared.reading.ReadError.TheVariants as read
 use Rattle.rls_session.specs.declared.answering.AnswerError.{AnswerError}
 use Rattle.rls_session.specs.declared.answering.AnswerError.TheVariants.{OutOfMemory, SinkFault, SourceFault, TooLarge}
+use Rattle.rls_session.specs.declared.answering.Halt.{Halt}
 use Rattle.rls_session.specs.declared.orders.Order.{Order}
-use Rattle.rls_session.specs.declared.orders.Order.TheVariants.{Take, Quit}
-use Rattle.rls_session.specs.Answering.{of_read, HasNoLine, IsDone, IsNear, IsNext, IsPrompt, IsReplied, IsUnused, LacksPart}
-use Rattle.rls_session.specs.Courses.{Course, course}
-use Rattle.rls_session.specs.Intake.{IntakeSeen, taken, to_come, KnowsEnd, KeepsEnd}
+use Rattle.rls_session.specs.declared.orders.Order.TheVariants.{Take, Quit, Store}
+use Rattle.rls_session.specs.Answering.{of_read, HasNoLine, IsDone, IsNear, IsNext, IsPaused, IsPrompt, IsReplied, IsUnused, LacksPart}
+use Rattle.rls_session.specs.Courses.{Course, course, courses, replies_in}
+use Rattle.rls_session.specs.Intake.{IntakeSeen, come_at, known_come, taken, to_come, KnowsEnd, KeepsEnd}
 use Rattle.rls_session.specs.Orders.{order_of}
 use Rattle.rls_session.specs.Requests.{line_size, cut_after, with_line, cut}
-use Rattle.rls_session.proofs.Courses.{Answers, Comes, comes_first, comes_next, comes_end, comes_quit}
-use Rattle.rls_session.proofs.Limits.{cut_front, cut_is, cut_quit, drop_front, lacks_more, quit_letter_size, size_within, used_line, used_no_line, used_no_message, used_request}
+use Rattle.rls_session.proofs.Courses.{Answers, Comes, comes_end, comes_first, comes_next, comes_quit, comes_store, courses_end}
+use Rattle.rls_session.proofs.Limits.{IsPlainOrder, cut_front, cut_is, drop_front, lacks_more, plain_cut, quit_letter_size, size_within, store_letter_size, used_line, used_no_line, used_no_message, used_request}
 
 -- after some requests of an input, from one state to another: the replies are written, and this is to come
 pub record IsOnWay {S : Type 0} (answer : Answers S) (first : S) (given : List ℕ) (s : S) (a : IntakeSeen) (left old new : Option (List ℕ)) : Type 0 where
@@ -83,17 +85,52 @@ still_open a b stays going = go a.ended refl
     go true e = let both : true ≡ false = sym (stays e) ∙ going in cc
     go false e = e
 
--- nothing was taken yet
-pub way_first : {S : Type 0} (answer : Answers S) (first : S) (a : IntakeSeen) (left old : Option (List ℕ)) → a ≡ record { waiting = []; used = 0; ended = false } → OnWay answer first left first a left old old
-way_first answer first a None old e = tt
-way_first answer first a (Some given) old e = rw e (record { bytes = given; to_come_is = refl; known = λ t. absurd (false_is_not t); replies = []; comes = comes_first answer first given; written = nothing_appended old; front = []; given_is = refl; used_is = refl; settled = λ going x. comes_first answer first x })
+-- what is known to come does
+pub come_known : (a : IntakeSeen) (left : Option (List ℕ)) (bytes : List ℕ) → known_come a left ≡ Some bytes → (to_come a left ≡ Some bytes) × KnowsEnd a left
+come_known a left bytes e = go a.ended refl left e
   where
-    false_is_not : IsTrue false → ⊥
-    false_is_not t = cc
+    go : (b : Bool) → a.ended ≡ b → (left : Option (List ℕ)) → come_at b a.waiting left ≡ Some bytes → (to_come a left ≡ Some bytes) × KnowsEnd a left
+    go false is left e = (e, λ t. let never : false ≡ true = sym is ∙ t in cc)
+    go true is None e = cc
+    go true is (Some []) e = (ap (λ (l : List ℕ). Some l) (append-nil a.waiting) ∙ e, λ t. refl)
+    go true is (Some (b ∷ rest)) e = cc
+
+pub known_comes : (a : IntakeSeen) (left : Option (List ℕ)) (bytes : List ℕ) → to_come a left ≡ Some bytes → KnowsEnd a left → known_come a left ≡ Some bytes
+known_comes a left bytes e k = go a.ended refl left e k
+  where
+    go : (b : Bool) → a.ended ≡ b → (left : Option (List ℕ)) → to_come a left ≡ Some bytes → KnowsEnd a left → come_at b a.waiting left ≡ Some bytes
+    go false is left e k = e
+    go true is None e k = cc
+    go true is (Some []) e k = ap (λ (l : List ℕ). Some l) (sym (append-nil a.waiting)) ∙ e
+    go true is (Some (b ∷ rest)) e k = let never : b ∷ rest ≡ [] = k is in cc
+
+-- nothing was answered yet
+pub way_first : {S : Type 0} (answer : Answers S) (first : S) (a : IntakeSeen) (left old : Option (List ℕ)) → a.used ≡ 0 → OnWay answer first (known_come a left) first a left old old
+way_first {S} answer first a left old e = go (known_come a left) refl
+  where
+    at_first : (bytes : List ℕ) → Comes answer (course answer first bytes) [] a.used first bytes
+    at_first bytes = rw e (comes_first answer first bytes)
 
     nothing_appended : (old : Option (List ℕ)) → Appends old old []
     nothing_appended None = tt
     nothing_appended (Some xs) = ap (λ (l : List ℕ). Some l) (sym (append-nil xs))
+
+    go : (o : Option (List ℕ)) → known_come a left ≡ o → OnWay answer first o first a left old old
+    go None is = tt
+    go (Some given) is =
+        let k = come_known a left given is in
+        record {
+          bytes = given;
+          to_come_is = k.0;
+          known = k.1;
+          replies = [];
+          comes = at_first given;
+          written = nothing_appended old;
+          front = [];
+          given_is = refl;
+          used_is = sym e;
+          settled = λ going x. at_first x;
+        }
 
 -- the next order
 pub way_order : {S : Type 0} (answer : Answers S) (first s : S) (input : Option (List ℕ)) (o : Option Order) (order : Order) (a b : IntakeSeen) (x y old new : Option (List ℕ)) → OnWay answer first input s a x old new → o ≡ Some order
@@ -124,7 +161,7 @@ way_order answer first s input o order a b x y old new way is next keeps stays =
 
 -- the order is answered, and the reply written
 pub way_reply : {S : Type 0} (answer : Answers S) (first s t : S) (input : Option (List ℕ)) (order : Order) (reply : List ℕ) (a b : IntakeSeen) (x y old mid new : Option (List ℕ)) → Between answer first input s order a x old mid
-    → (order ≡ Quit → ⊥) → (KnowsEnd a x → IfSome (to_come a x) (λ bytes. IsReplied (answer s) bytes order reply t a b y)) → KeepsEnd a x b y → (IsTrue a.ended → IsTrue b.ended) → Appends mid new reply → OnWay answer first input t b y old new
+    → IsPlainOrder order → (KnowsEnd a x → IfSome (to_come a x) (λ bytes. IsReplied (answer s) bytes order reply t a b y)) → KeepsEnd a x b y → (IsTrue a.ended → IsTrue b.ended) → Appends mid new reply → OnWay answer first input t b y old new
 way_reply answer first s t input order reply a b x y old mid new between other replied keeps stays wrote = more input _ _ step between
   where
     appends_both : (old mid new : Option (List ℕ)) (xs ys : List ℕ) → Appends old mid xs → Appends mid new ys → Appends old new (xs ++ ys)
@@ -138,7 +175,7 @@ way_reply answer first s t input order reply a b x y old mid new between other r
         let r = subst (λ (o : Option (List ℕ)). IfSome o (λ bytes. IsReplied (answer s) bytes order reply t a b y)) w.to_come_is (replied w.known) in
         let k = cut_after order rest in
         let is : (cut w.bytes) ≡ with_line size k = cut_is w.bytes order w.order_is in
-        let on = comes_next answer (course answer first given) w.replies w.before s w.bytes k.request (size + k.size) w.comes w.some (ap (λ c. c.request) is) (ap (λ c. c.size) is) (λ q. other (cut_quit order rest q)) in
+        let on = comes_next answer (course answer first given) w.replies w.before s w.bytes k.request (size + k.size) w.comes w.some (ap (λ c. c.request) is) (ap (λ c. c.size) is) (plain_cut order rest other) in
         let there : t ≡ (answer s k.request).state = (r.answered).state_is in
         let said : reply ≡ (answer s k.request).reply = (r.answered).reply_is in
         let left : drop k.size rest ≡ drop (size + k.size) w.bytes = grind (arith, common_steps) in
@@ -159,7 +196,7 @@ way_reply answer first s t input order reply a b x y old mid new between other r
               let before = still_open a b stays going in
               let same = cut_front w.bytes x order w.order_is (w.fed before) (r.whole going) in
               let longer : 0 < length (take n w.bytes ++ x) = omega (arith, length-append (take n w.bytes) x, length-take n w.bytes, w.some) in
-              let on = comes_next answer (course answer first (w.front ++ (take n w.bytes ++ x))) w.replies w.before s (take n w.bytes ++ x) k.request n (w.settled before (take n w.bytes ++ x)) longer (ap (λ c. c.request) same) (ap (λ c. c.size) same) (λ q. other (cut_quit order rest q)) in
+              let on = comes_next answer (course answer first (w.front ++ (take n w.bytes ++ x))) w.replies w.before s (take n w.bytes ++ x) k.request n (w.settled before (take n w.bytes ++ x)) longer (ap (λ c. c.request) same) (ap (λ c. c.size) same) (plain_cut order rest other) in
               let behind : drop n (take n w.bytes ++ x) ≡ x = drop_front n w.bytes x few in
               rw (said, there, ← used, append_assoc w.front (take n w.bytes) x) (subst (λ (l : List ℕ). Comes answer (course answer first (w.front ++ (take n w.bytes ++ x))) (w.replies ++ (answer s k.request).reply) (w.before + n) (answer s k.request).state l) behind on);
         }
@@ -168,27 +205,92 @@ way_reply answer first s t input order reply a b x y old mid new between other r
 
 -- the input is over
 pub way_over : {S : Type 0} (answer : Answers S) (first s : S) (input : Option (List ℕ)) (a b : IntakeSeen) (x y old new : Option (List ℕ)) → OnWay answer first input s a x old new
-    → (KnowsEnd a x → IsNext (to_come a x) None a b y) → IfSome input (λ given. IsDone (course answer first given) s old new)
+    → (KnowsEnd a x → IsNext (to_come a x) None a b y) → IfSome input (λ given. IsDone (course answer first given) false s old new)
 way_over answer first s input a b x y old new way next = more input _ _ step way
   where
-    step : (given : List ℕ) → input ≡ Some given → IsOnWay answer first given s a x old new → IsDone (course answer first given) s old new
+    step : (given : List ℕ) → input ≡ Some given → IsOnWay answer first given s a x old new → IsDone (course answer first given) false s old new
     step given e w =
         let n = subst (λ (o : Option (List ℕ)). IsNext o None a b y) w.to_come_is (next w.known) in
         let all = comes_end answer (course answer first given) w.replies a.used s (subst (λ (l : List ℕ). Comes answer (course answer first given) w.replies a.used s l) n.none w.comes) in
-        rw all (record { state_is = refl; within = n.within; written = w.written })
+        rw all (record { state_is = refl; stores_is = refl; within = n.within; written = w.written })
 
 -- the order to quit
 pub way_quit : {S : Type 0} (answer : Answers S) (first s : S) (input : Option (List ℕ)) (order : Order) (a : IntakeSeen) (x old new : Option (List ℕ)) → Between answer first input s order a x old new → order ≡ Quit
-    → IfSome input (λ given. IsDone (course answer first given) s old new)
+    → IfSome input (λ given. IsDone (course answer first given) false s old new)
 way_quit answer first s input order a x old new between is = more input _ _ step between
   where
-    step : (given : List ℕ) → input ≡ Some given → IsBetween answer first given s order a x old new → IsDone (course answer first given) s old new
+    step : (given : List ℕ) → input ≡ Some given → IsBetween answer first given s order a x old new → IsDone (course answer first given) false s old new
     step given e w =
         let q : order_of (before_first is_line_feed w.bytes) ≡ Quit = sym w.order_is ∙ is in
         let all = comes_quit answer (course answer first given) w.replies w.before s w.bytes w.comes w.some (ap (λ c. c.request) (cut_is w.bytes Quit (sym q))) in
         let one = quit_letter_size w.bytes q in
         let within : w.before + 1 ≤ INPUT_BYTES = omega (arith, w.within) in
-        rw all (record { state_is = refl; within = within; written = w.written })
+        rw all (record { state_is = refl; stores_is = refl; within = within; written = w.written })
+
+-- the order to store
+stored_course : {S : Type 0} (answer : Answers S) (first s : S) (given : List ℕ) (order : Order) (a : IntakeSeen) (x old new : Option (List ℕ)) (w : IsBetween answer first given s order a x old new) → order ≡ Store
+    → course answer first given ≡ record { replies = w.replies; state = s; used = w.before + 1; stores = true }
+stored_course answer first s given order a x old new w is =
+    let q : order_of (before_first is_line_feed w.bytes) ≡ Store = sym w.order_is ∙ is in
+    comes_store answer (course answer first given) w.replies w.before s w.bytes w.comes w.some (ap (λ c. c.request) (cut_is w.bytes Store (sym q)))
+
+pub way_store : {S : Type 0} (answer : Answers S) (first s : S) (input : Option (List ℕ)) (order : Order) (a : IntakeSeen) (x old new : Option (List ℕ)) → Between answer first input s order a x old new → order ≡ Store
+    → IfSome input (λ given. IsDone (course answer first given) true s old new)
+way_store answer first s input order a x old new between is = more input _ _ step between
+  where
+    step : (given : List ℕ) → input ≡ Some given → IsBetween answer first given s order a x old new → IsDone (course answer first given) true s old new
+    step given e w =
+        let one = store_letter_size w.bytes (sym w.order_is ∙ is) in
+        let within : w.before + 1 ≤ INPUT_BYTES = omega (arith, w.within, one) in
+        rw (stored_course answer first s given order a x old new w is) (record { state_is = refl; stores_is = refl; within = within; written = w.written })
+
+-- what follows it
+drop_behind : (front bytes : List ℕ) (k : ℕ) → drop (length front + k) (front ++ bytes) ≡ drop k bytes
+drop_behind [] bytes k = let e : 0 + k ≡ k = omega arith in ap (λ n. drop n bytes) e
+drop_behind (f ∷ front) bytes k = let e : suc (length front) + k ≡ suc (length front + k) = omega arith in ap (λ n. drop n (f ∷ (front ++ bytes))) e ∙ drop_behind front bytes k
+
+drop_least : (k : ℕ) (xs : List ℕ) → drop (min k (length xs)) xs ≡ drop k xs
+drop_least k xs = grind (arith, common_steps)
+
+pub way_paused : {S : Type 0} (answer : Answers S) (first s : S) (input : Option (List ℕ)) (order : Order) (a : IntakeSeen) (x old new : Option (List ℕ)) → Between answer first input s order a x old new → order ≡ Store
+    → IfSome input (λ given. IsPaused answer first given a x)
+way_paused {S} answer first s input order a x old new between is = more input _ _ step between
+  where
+    step : (given : List ℕ) → input ≡ Some given → IsBetween answer first given s order a x old new → IsPaused answer first given a x
+    step given e w =
+        let c = stored_course answer first s given order a x old new w is in
+        let size = line_size w.bytes in
+        let one = store_letter_size w.bytes (sym w.order_is ∙ is) in
+        let used : (course answer first given).used ≡ w.before + 1 = ap (λ (k : Course S). k.used) c in
+        let two : size ≡ min 2 (length w.bytes) = ap (λ n. min (n + 1) (length w.bytes)) one in
+        let past : suc (course answer first given).used ≡ length w.front + 2 = omega (arith, used, w.used_is) in
+        let rest : drop size w.bytes ≡ drop (suc (course answer first given).used) given =
+        ap (λ n. drop n w.bytes) two ∙ drop_least 2 w.bytes ∙ sym (drop_behind w.front w.bytes 2) ∙ ap (λ n. drop n (w.front ++ w.bytes)) (sym past) ∙ ap (drop (suc (course answer first given).used)) (sym w.given_is) in
+        record {
+          rest = known_comes a x (drop (suc (course answer first given).used) given) (w.to_come_is ∙ ap (λ (l : List ℕ). Some l) rest) w.known;
+          fed = λ going.
+              let there = w.fed going in
+              let few : size ≤ length w.bytes = omega arith in
+              let len = length-take size w.bytes in
+              record {
+                front = w.front ++ take size w.bytes;
+                given_is = w.given_is ∙ ap (λ (l : List ℕ). w.front ++ l) (sym (take-append-drop size w.bytes) ∙ ap (λ (l : List ℕ). take size w.bytes ++ l) rest) ∙ sym (append_assoc w.front (take size w.bytes) (drop (suc (course answer first given).used) given));
+                size = omega (arith, length-append w.front (take size w.bytes), len, past, two, there, one);
+                same = λ y. same given w there y (w.settled going (take size w.bytes ++ y)) ∙ sym c;
+              };
+        }
+      where
+        same : (given : List ℕ) (w : IsBetween answer first given s order a x old new) → position_or_len is_line_feed w.bytes < length w.bytes → (y : List ℕ)
+            → Comes answer (course answer first (w.front ++ (take (line_size w.bytes) w.bytes ++ y))) w.replies w.before s (take (line_size w.bytes) w.bytes ++ y)
+            → course answer first ((w.front ++ take (line_size w.bytes) w.bytes) ++ y) ≡ record { replies = w.replies; state = s; used = w.before + 1; stores = true }
+        same given w there y comes =
+            let size = line_size w.bytes in
+            let q : order_of (before_first is_line_feed w.bytes) ≡ Store = sym w.order_is ∙ is in
+            let zero : size + 0 ≡ size = omega arith in
+            let none : take (size + 0) w.bytes ≡ take size w.bytes = ap (λ n. take n w.bytes) zero in
+            let first_is = ap (λ (l : List ℕ). (cut (l ++ y)).request) (sym none) ∙ ap (λ c. c.request) (cut_front w.bytes y Store (sym q) there tt) in
+            let longer : 0 < length (take size w.bytes ++ y) = omega (arith, length-append (take size w.bytes) y, length-take size w.bytes, w.some) in
+            ap (course answer first) (append_assoc w.front (take size w.bytes) y) ∙ comes_store answer (course answer first (w.front ++ (take size w.bytes ++ y))) w.replies w.before s (take size w.bytes ++ y) comes longer first_is
 
 -- ---- an input that is too long
 
@@ -264,7 +366,7 @@ cut_part (Some given) f old new h = part_of_cut old new (f given) h
 
 -- the reply is cut short
 pub reply_cut : {S : Type 0} (answer : Answers S) (first s t : S) (input : Option (List ℕ)) (order : Order) (reply : List ℕ) (a b : IntakeSeen) (x y old mid new : Option (List ℕ)) → Between answer first input s order a x old mid
-    → (order ≡ Quit → ⊥) → (KnowsEnd a x → IfSome (to_come a x) (λ bytes. IsReplied (answer s) bytes order reply t a b y)) → IsCutShort mid new reply → IfSome input (λ given. IsCutShort old new (course answer first given).replies)
+    → IsPlainOrder order → (KnowsEnd a x → IfSome (to_come a x) (λ bytes. IsReplied (answer s) bytes order reply t a b y)) → IsCutShort mid new reply → IfSome input (λ given. IsCutShort old new (course answer first given).replies)
 reply_cut answer first s t input order reply a b x y old mid new between other replied wrote = more input _ _ step between
   where
     step : (given : List ℕ) → input ≡ Some given → IsBetween answer first given s order a x old mid → IsCutShort old new (course answer first given).replies
@@ -274,7 +376,7 @@ reply_cut answer first s t input order reply a b x y old mid new between other r
         let r = subst (λ (o : Option (List ℕ)). IfSome o (λ bytes. IsReplied (answer s) bytes order reply t a b y)) w.to_come_is (replied w.known) in
         let k = cut_after order rest in
         let is : (cut w.bytes) ≡ with_line size k = cut_is w.bytes order w.order_is in
-        let on = comes_next answer (course answer first given) w.replies w.before s w.bytes k.request (size + k.size) w.comes w.some (ap (λ c. c.request) is) (ap (λ c. c.size) is) (λ q. other (cut_quit order rest q)) in
+        let on = comes_next answer (course answer first given) w.replies w.before s w.bytes k.request (size + k.size) w.comes w.some (ap (λ c. c.request) is) (ap (λ c. c.size) is) (plain_cut order rest other) in
         let last = course answer (answer s k.request).state (drop (size + k.size) w.bytes) in
         let said : reply ≡ (answer s k.request).reply = (r.answered).reply_is in
         let whole : (course answer first given).replies ≡ w.replies ++ (reply ++ last.replies) = ap (λ (c : Course _). c.replies) on.course_is ∙ append_assoc w.replies (answer s k.request).reply last.replies ∙ ap (λ (l : List ℕ). w.replies ++ (l ++ last.replies)) (sym said) in
@@ -287,19 +389,18 @@ written old new xs ys e h = subst (Appends old new) e h
 -- ---- what is answered before the input is read on
 
 -- all that is whole is answered, and nothing more
-all_answered : {S : Type 0} (answer : Answers S) (whole : Course S) (replies : List ℕ) (used : ℕ) (s : S) → Comes answer whole replies used s [] → whole.replies ≡ replies
-all_answered answer whole replies used s h = ap (λ (c : Course _). c.replies) (comes_end answer whole replies used s h)
-
-answered_front : {S : Type 0} (answer : Answers S) (first s : S) (front replies : List ℕ) (used : ℕ) → ((x : List ℕ) → Comes answer (course answer first (front ++ x)) replies used s x) → (course answer first front).replies ≡ replies
-answered_front answer first s front replies used f =
-    all_answered answer (course answer first front) replies used s (subst (λ (l : List ℕ). Comes answer (course answer first l) replies used s []) (append-nil front) (f []))
+answered_front : {S : Type 0} (answer : Answers S) (resumed : S → S) (first s : S) (front replies : List ℕ) (used : ℕ) → ((x : List ℕ) → Comes answer (course answer first (front ++ x)) replies used s x)
+    → replies_in (courses answer resumed first front) ≡ replies
+answered_front {S} answer resumed first s front replies used f =
+    let all = comes_end answer (course answer first front) replies used s (subst (λ (l : List ℕ). Comes answer (course answer first l) replies used s []) (append-nil front) (f [])) in
+    ap replies_in (courses_end answer resumed first front (ap (λ (c : Course S). c.stores) all)) ∙ ap (λ (c : Course S). c.replies) all
 
 -- no whole line waits
-pub way_prompt : {S : Type 0} (answer : Answers S) (first s : S) (input : Option (List ℕ)) (a b : IntakeSeen) (x y old new : Option (List ℕ)) → OnWay answer first input s a x old new
-    → IsUnused a b (to_come a x) (to_come b y) → (IsTrue a.ended → IsTrue b.ended) → IsFalse b.ended → HasNoLine b → IfSome input (λ given. IsPrompt answer first given y old new)
-way_prompt answer first s input a b x y old new way unused stays going none = more input _ _ step way
+pub way_prompt : {S : Type 0} (answer : Answers S) (resumed : S → S) (first s : S) (input : Option (List ℕ)) (a b : IntakeSeen) (x y old new : Option (List ℕ)) → OnWay answer first input s a x old new
+    → IsUnused a b (to_come a x) (to_come b y) → (IsTrue a.ended → IsTrue b.ended) → IsFalse b.ended → HasNoLine b → IfSome input (λ given. IsPrompt (λ front. replies_in (courses answer resumed first front)) given y old new)
+way_prompt answer resumed first s input a b x y old new way unused stays going none = more input _ _ step way
   where
-    step : (given : List ℕ) → input ≡ Some given → IsOnWay answer first given s a x old new → IsPrompt answer first given y old new
+    step : (given : List ℕ) → input ≡ Some given → IsOnWay answer first given s a x old new → IsPrompt (λ front. replies_in (courses answer resumed first front)) given y old new
     step given e w =
         let same = subst (λ (o : Option (List ℕ)). Keeps o (to_come b y)) w.to_come_is unused.same in
         let split = told_split b y w.bytes same in
@@ -310,15 +411,15 @@ way_prompt answer first s input a b x y old new way unused stays going none = mo
           given_is = w.given_is ∙ ap (λ (l : List ℕ). w.front ++ l) split.2;
           left_is = split.1;
           unfinished = inl none;
-          written = subst (Appends old new) (sym (answered_front answer first s w.front w.replies a.used (w.settled (still_open a b stays going)))) w.written;
+          written = subst (Appends old new) (sym (answered_front answer resumed first s w.front w.replies a.used (w.settled (still_open a b stays going)))) w.written;
         }
 
 -- the message of an order doesn't wait whole
-pub between_prompt : {S : Type 0} (answer : Answers S) (first s : S) (input : Option (List ℕ)) (order : Order) (a b : IntakeSeen) (x y old new : Option (List ℕ)) → Between answer first input s order a x old new
-    → IsUnused a b (to_come a x) (to_come b y) → (IsTrue a.ended → IsTrue b.ended) → IsFalse b.ended → LacksPart order b.waiting → IfSome input (λ given. IsPrompt answer first given y old new)
-between_prompt answer first s input order a b x y old new between unused stays going lacks = more input _ _ step between
+pub between_prompt : {S : Type 0} (answer : Answers S) (resumed : S → S) (first s : S) (input : Option (List ℕ)) (order : Order) (a b : IntakeSeen) (x y old new : Option (List ℕ)) → Between answer first input s order a x old new
+    → IsUnused a b (to_come a x) (to_come b y) → (IsTrue a.ended → IsTrue b.ended) → IsFalse b.ended → LacksPart order b.waiting → IfSome input (λ given. IsPrompt (λ front. replies_in (courses answer resumed first front)) given y old new)
+between_prompt answer resumed first s input order a b x y old new between unused stays going lacks = more input _ _ step between
   where
-    step : (given : List ℕ) → input ≡ Some given → IsBetween answer first given s order a x old new → IsPrompt answer first given y old new
+    step : (given : List ℕ) → input ≡ Some given → IsBetween answer first given s order a x old new → IsPrompt (λ front. replies_in (courses answer resumed first front)) given y old new
     step given e w =
         let size = line_size w.bytes in
         let same = subst (λ (o : Option (List ℕ)). Keeps o (to_come b y)) w.to_come_is unused.same in
@@ -331,7 +432,7 @@ between_prompt answer first s input order a b x y old new between unused stays g
           given_is = w.given_is ∙ ap (λ (l : List ℕ). w.front ++ l) (sym (take-append-drop size w.bytes) ∙ ap (λ (l : List ℕ). take size w.bytes ++ l) split.2 ∙ sym (append_assoc (take size w.bytes) b.waiting split.0));
           left_is = split.1;
           unfinished = inr (lacks_more w.bytes b.waiting order w.order_is (w.fed before) lacks);
-          written = subst (Appends old new) (sym (answered_front answer first s w.front w.replies w.before (w.settled before))) w.written;
+          written = subst (Appends old new) (sym (answered_front answer resumed first s w.front w.replies w.before (w.settled before))) w.written;
         }
 
 -- ---- how far the input is read
@@ -354,8 +455,8 @@ way_near answer first s input a x y old new way near = more input _ _ step way
         let n = subst (λ (o : Option (List ℕ)). IfSome o (λ bytes. IsNear bytes y (position_or_len is_line_feed bytes))) w.to_come_is near in
         near_on answer (course answer first given) w.replies w.front w.bytes given a.used (position_or_len is_line_feed w.bytes) s y w.comes w.given_is w.used_is (used_line answer s w.bytes) n
 
--- an order that isn't to quit was answered, or was to be
-pub between_near : {S : Type 0} (answer : Answers S) (first s : S) (input : Option (List ℕ)) (order : Order) (a : IntakeSeen) (x y old new : Option (List ℕ)) → Between answer first input s order a x old new → (order ≡ Quit → ⊥)
+-- an order was answered, or was to be
+pub between_near : {S : Type 0} (answer : Answers S) (first s : S) (input : Option (List ℕ)) (order : Order) (a : IntakeSeen) (x y old new : Option (List ℕ)) → Between answer first input s order a x old new → IsPlainOrder order
     → IfSome (to_come a x) (λ bytes. IsNear bytes y (cut_after order bytes).size) → IfSome input (λ given. IsNear given y (course answer first given).used)
 between_near answer first s input order a x y old new between other near = more input _ _ step between
   where
@@ -374,7 +475,7 @@ between_near answer first s input order a x y old new between other near = more 
 -- ---- why reading failed
 
 -- an end, as answering tells it
-abbrev ended : AnswerError → Result (Unit {0}) AnswerError
+abbrev ended : AnswerError → Result Halt AnswerError
 ended e = Err e
 
 pub too_large_of : (e : ReadError) (f : AnswerError) → f ≡ of_read e → ended f ≡ ended TooLarge → e ≡ read.TooLarge

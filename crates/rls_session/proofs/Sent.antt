@@ -5,18 +5,18 @@ use Rattle.std.proofs.lemmas.Grind.{common_steps}
 use Rattle.rls_seen.specs.Seen.{Seen}
 use Rattle.rls_session.specs.declared.orders.Order.{Order}
 use Rattle.rls_session.specs.declared.orders.Order.TheVariants as orders
-use Rattle.rls_session.specs.declared.orders.Order.TheVariants.{Quit}
+use Rattle.rls_session.specs.declared.orders.Order.TheVariants.{Quit, Store}
 use Rattle.rls_session.specs.Answering.{IsNext, IsOrder, IsReplied}
 use Rattle.rls_session.specs.Answers.{Sitting, answer}
 use Rattle.rls_session.specs.Courses.{holds, holds_from, holds_on}
-use Rattle.rls_session.specs.Intake.{IntakeSeen, KeepsEnd, KnowsEnd, to_come}
+use Rattle.rls_session.specs.Intake.{IntakeSeen, KeepsEnd, KnowsEnd, known_come, to_come}
 use Rattle.rls_session.specs.Requests.{Request, Does, Takes, Cut, cut, cut_after, line_size, with_line}
 use Rattle.rls_session.specs.Sent.{SendsMessage}
 use Rattle.rls_session.specs.Sessions.{by_parts}
-use Rattle.rls_session.proofs.Courses.{Answers}
+use Rattle.rls_session.proofs.Courses.{Answers, IsPlain}
 use Rattle.rls_session.proofs.Cuts.{cut_some}
-use Rattle.rls_session.proofs.Limits.{cut_is, cut_quit}
-use Rattle.rls_session.proofs.Loop.{IsOnWay, OnWay, end_known}
+use Rattle.rls_session.proofs.Limits.{IsPlainOrder, cut_is, plain_cut}
+use Rattle.rls_session.proofs.Loop.{IsOnWay, OnWay, come_known, end_known}
 
 -- ---- what holds of each request, one after another
 
@@ -27,12 +27,13 @@ module _ {S : Type 0} (answer : Answers S) (P : S → Request → Type 0) where
   skipped (suc n) s (b ∷ bytes) h = skipped n s bytes h
 
   -- of the first one, and of those after it
-  on : (s : S) (r : Request) (rest : S → Type 0) → (r ≡ Does Quit → ⊥) → P s r → rest (answer s r).state → holds_on answer P s r rest
+  on : (s : S) (r : Request) (rest : S → Type 0) → IsPlain r → P s r → rest (answer s r).state → holds_on answer P s r rest
   on s (Does Quit) rest other p h = tt
+  on s (Does Store) rest other p h = tt
   on s (Does order) rest other p h = (p, h)
   on s (Takes message) rest other p h = (p, h)
 
-  begins : (s : S) (bytes : List ℕ) (r : Request) (n : ℕ) → 0 < length bytes → (cut bytes).request ≡ r → (cut bytes).size ≡ n → (r ≡ Does Quit → ⊥) → P s r → holds answer P (answer s r).state (drop n bytes) → holds answer P s bytes
+  begins : (s : S) (bytes : List ℕ) (r : Request) (n : ℕ) → 0 < length bytes → (cut bytes).request ≡ r → (cut bytes).size ≡ n → IsPlain r → P s r → holds answer P (answer s r).state (drop n bytes) → holds answer P s bytes
   begins s [] r n some is size other p h = absurd (omega (arith, some))
   begins s (b ∷ bytes) r n some is size other p h =
       let left : 0 < n = subst (λ k. 0 < k) size (cut_some b bytes) in
@@ -46,16 +47,23 @@ module _ {S : Type 0} (answer : Answers S) (P : S → Request → Type 0) where
   quits s [] some is = tt
   quits s (b ∷ bytes) some is = rw is tt
 
+  halts : (s : S) (bytes : List ℕ) → 0 < length bytes → (cut bytes).request ≡ Does Store → holds answer P s bytes
+  halts s [] some is = tt
+  halts s (b ∷ bytes) some is = rw is tt
+
 -- ---- what was answered so far
 
 -- each message is one if those are that are still to be answered
 abbrev pub AreSent : Sitting Seen → Option (List ℕ) → Sitting Seen → IntakeSeen → Option (List ℕ) → Type 0
 AreSent first input d a left = IfSome input (λ given. IfSome (to_come a left) (λ bytes. holds (answer by_parts) SendsMessage d bytes → holds (answer by_parts) SendsMessage first given))
 
--- nothing was taken yet
-pub sent_first : (first : Sitting Seen) (a : IntakeSeen) (left : Option (List ℕ)) → a.waiting ≡ [] → AreSent first left first a left
-sent_first first a None e = tt
-sent_first first a (Some given) e = rw e (λ h. h)
+-- nothing was answered yet
+pub sent_first : (first : Sitting Seen) (a : IntakeSeen) (left : Option (List ℕ)) → AreSent first (known_come a left) first a left
+sent_first first a left = go (known_come a left) refl
+  where
+    go : (o : Option (List ℕ)) → known_come a left ≡ o → AreSent first o first a left
+    go None is = tt
+    go (Some given) is = subst (λ (p : Option (List ℕ)). IfSome p (λ bytes. holds (answer by_parts) SendsMessage first bytes → holds (answer by_parts) SendsMessage first given)) (sym (come_known a left given is).0) (λ h. h)
 
 -- what an order to send is answered
 sent_after : (d : Sitting Seen) (order : Order) (rest : List ℕ) → SendsMessage d (Does order) → SendsMessage d (cut_after order rest).request
@@ -70,6 +78,8 @@ sent_after d orders.Undo rest f = tt
 sent_after d (orders.Point at) rest f = tt
 sent_after d orders.Place rest f = tt
 sent_after d orders.Text rest f = tt
+sent_after d orders.Stat rest f = tt
+sent_after d orders.Store rest f = tt
 sent_after d orders.Quit rest f = tt
 sent_after d orders.Bad rest f = tt
 
@@ -98,8 +108,14 @@ module _ (first d : Sitting Seen) (input : Option (List ℕ)) (a b : IntakeSeen)
       let n = ordered o order is next given w in
       f (quits (answer by_parts) SendsMessage d w.bytes n.some (ap (λ c. c.request) (cut_is w.bytes Quit (sym quit ∙ n.order_is)))))
 
+  -- to store
+  pub sent_store : (o : Option Order) (order : Order) → o ≡ Some order → (KnowsEnd a x → IsNext (to_come a x) o a b y) → order ≡ Store → IfSome input (λ given. holds (answer by_parts) SendsMessage first given)
+  sent_store o order is next store = with_way _ (λ given w f.
+      let n = ordered o order is next given w in
+      f (halts (answer by_parts) SendsMessage d w.bytes n.some (ap (λ c. c.request) (cut_is w.bytes Store (sym store ∙ n.order_is)))))
+
   -- one that was answered
-  pub sent_reply : (t : Sitting Seen) (o : Option Order) (order : Order) (reply : List ℕ) (c : IntakeSeen) (z : Option (List ℕ)) → o ≡ Some order → (KnowsEnd a x → IsNext (to_come a x) o a b y) → KeepsEnd a x b y → (order ≡ Quit → ⊥)
+  pub sent_reply : (t : Sitting Seen) (o : Option Order) (order : Order) (reply : List ℕ) (c : IntakeSeen) (z : Option (List ℕ)) → o ≡ Some order → (KnowsEnd a x → IsNext (to_come a x) o a b y) → KeepsEnd a x b y → IsPlainOrder order
       → (KnowsEnd b y → IfSome (to_come b y) (λ bytes. IsReplied (answer by_parts d) bytes order reply t b c z)) → SendsMessage d (Does order) → AreSent first input t c z
   sent_reply t o order reply c z is next keeps other replied sends = with_way _ (λ given w f.
       let n = ordered o order is next given w in
@@ -110,6 +126,6 @@ module _ (first d : Sitting Seen) (input : Option (List ℕ)) (a b : IntakeSeen)
       let cut_so : (cut w.bytes) ≡ with_line size k = cut_is w.bytes order n.order_is in
       let left : drop k.size rest ≡ drop (size + k.size) w.bytes = grind (arith, common_steps) in
       let step : holds (answer by_parts) SendsMessage t (drop k.size rest) → holds (answer by_parts) SendsMessage d w.bytes = λ h.
-      begins (answer by_parts) SendsMessage d w.bytes k.request (size + k.size) n.some (ap (λ c. c.request) cut_so) (ap (λ c. c.size) cut_so) (λ q. other (cut_quit order rest q)) (sent_after d order rest sends)
+      begins (answer by_parts) SendsMessage d w.bytes k.request (size + k.size) n.some (ap (λ c. c.request) cut_so) (ap (λ c. c.size) cut_so) (plain_cut order rest other) (sent_after d order rest sends)
       (subst (λ (l : List ℕ). holds (answer by_parts) SendsMessage (answer by_parts d k.request).state l) left (subst (λ (u : Sitting Seen). holds (answer by_parts) SendsMessage u (drop k.size rest)) (r.answered).state_is h)) in
       subst (λ (p : Option (List ℕ)). IfSome p (λ bytes. holds (answer by_parts) SendsMessage t bytes → holds (answer by_parts) SendsMessage first given)) (sym (r.past).rest) (λ h. f (step h)))

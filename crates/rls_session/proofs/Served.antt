@@ -1,6 +1,6 @@
 -- How a session ends, from its parts.
-use Rattle.std.proofs.Common.{◌≡◌, ◌≢◌, ◌∙◌, ◌⊎◌, ◌<◌, ◌≤◌, ℕ, Bool, true, false, eqb, ltb, List, [], ◌∷◌, ◌++◌, length, take, Option, Some, None, IfSome, IfErr, IfOk, IsErr, OnOk, Result, Ok, Err, refl, sym, ap, subst, arith, inl, inr, append_assoc, length-append}
-use Rattle.std.specs.Prelude.{option_map, if◌then◌else◌}
+use Rattle.std.proofs.Common.{◌≡◌, ◌≢◌, ◌∙◌, ◌⊎◌, ◌<◌, ◌≤◌, ℕ, Bool, true, false, eqb, ltb, List, [], ◌∷◌, ◌++◌, length, take, Option, Some, None, IfSome, IsErr, OnOk, Result, Ok, Err, refl, sym, ap, subst, arith, inl, inr, append_assoc, length-append}
+use Rattle.std.specs.Prelude.{map, option_map, if◌then◌else◌}
 use Rattle.std.proofs.lemmas.Bool.Decides.{nat_tests}
 use Rattle.std.proofs.lemmas.Grind.{common_steps}
 use Rattle.std.proofs.lemmas.List.{append-nil, length-take-le}
@@ -17,20 +17,21 @@ use Rattle.rls_stages.specs.declared.errors.OpenError.{OpenError}
 use Rattle.rls_stages.specs.declared.errors.OpenError.TheVariants as opening
 use Rattle.rls_stages.specs.declared.errors.WorkError.{WorkError}
 use Rattle.rls_stages.specs.declared.errors.WorkError.TheVariants as work
-use Rattle.rls_stages.specs.Endings.{IsFailureStatus, IsFault, IsPart, Writes}
+use Rattle.rls_stages.specs.Endings.{IsFault, IsPart, Writes}
 use Rattle.rls_stages.specs.Errors.{GivesError, IsOfFile, IsOpenError, of_open, of_work}
-use Rattle.rls_stages.specs.KeptFile.{IsReadBack, IsUsable, Stays, bytes_over, loaded, replica_in, saved}
-use Rattle.rls_stages.proofs.Kept.{keeps_on, stays_on}
+use Rattle.rls_stages.specs.KeptFile.{IsReadBack, IsUsable, bytes_over, loaded, replica_in, saved}
+use Rattle.rls_stages.proofs.Kept.{keeps_on}
 use Rattle.rls_stages.proofs.Statuses.{apart, failure_at_7, failure_at_8, failure_at_9, failure_line_told, not_error, not_failure}
 use Rattle.rls_session.specs.declared.answering.AnswerError.{AnswerError}
 use Rattle.rls_session.specs.declared.answering.AnswerError.TheVariants.{SourceFault, SinkFault, TooLarge, OutOfMemory}
-use Rattle.rls_session.specs.Answering.{IsDone, IsNear, of_answer}
-use Rattle.rls_session.specs.Answers.{Sitting}
+use Rattle.rls_session.specs.Answering.{of_answer}
+use Rattle.rls_session.specs.Answers.{Sitting, answer, resumed, sitting_at}
 use Rattle.rls_session.specs.Courses.{Course}
 use Rattle.rls_session.specs.Due.{Due, due, due_of, due_on, dues_line, ending_status, found_in, line_at, line_or, stops}
-use Rattle.rls_session.specs.Endings.{ByReplies, Ends, EndsAs, EndsIn, EndsNear, EndsOn, FailsAt, HasAllOf, IsEarly, IsKept, IsSessionsOwn, IsSessionStatus, IsStatusOf, Leaves, LeavesIn, LeavesOn, Saves, line_of}
+use Rattle.rls_session.specs.Endings.{ByReplies, Ends, EndsAs, EndsIn, EndsNear, EndsOn, FailsAt, HasAllOf, IsKept, IsSessionsOwn, IsSessionStatus, IsStatusOf, Leaves, LeavesIn, LeavesOn, Saves, line_of}
 use Rattle.rls_session.specs.Replies.{saved_text}
-use Rattle.rls_session.specs.Sessions.{session}
+use Rattle.rls_session.specs.Sessions.{by_parts}
+use Rattle.rls_session.proofs.Courses.{courses_begin}
 
 -- ---- lists and files
 
@@ -51,7 +52,7 @@ part_all old new bytes h = (length bytes, omega arith, subst (Appends old new) (
     front = grind (arith, common_steps)
 
 -- more was written
-appends_more : (old mid new : Option (List ℕ)) (xs ys : List ℕ) → Appends old mid xs → Appends mid new ys → Appends old new (xs ++ ys)
+pub appends_more : (old mid new : Option (List ℕ)) (xs ys : List ℕ) → Appends old mid xs → Appends mid new ys → Appends old new (xs ++ ys)
 appends_more None mid new xs ys h k = tt
 appends_more (Some zs) mid new xs ys h k = subst (λ (m : Option (List ℕ)). Appends m new ys) h k ∙ ap (λ (l : List ℕ). Some l) (append_assoc zs xs ys)
 
@@ -83,19 +84,14 @@ ending_long : (c : Course (Sitting Seen)) → INPUT_BYTES < c.used → (due_of c
 ending_long c h = let test : ltb INPUT_BYTES c.used ≡ true = grind (arith, nat_tests) in rw test refl
 
 -- the session ended before the file was to be stored
-answer_leaves : (e : AnswerError) (c : Course (Sitting Seen)) (file : Option (Option (List ℕ))) (old new : Option (List ℕ)) → (e ≡ TooLarge → INPUT_BYTES < c.used) → (e ≡ SinkFault → IsCutShort old new c.replies) → IsPart old new c.replies → LeavesIn (Err (of_answer e)) (due_of c) file file old new
+pub answer_leaves : (e : AnswerError) (c : Course (Sitting Seen)) (file : Option (Option (List ℕ))) (old new : Option (List ℕ)) → (e ≡ TooLarge → INPUT_BYTES < c.used) → (e ≡ SinkFault → IsCutShort old new c.replies) → IsPart old new c.replies → LeavesIn (Err (of_answer e)) (due_of c) file file old new
 answer_leaves SourceFault c file old new long cut part = (tt, part)
 answer_leaves SinkFault c file old new long cut part = inl (keeps_same file, cut refl)
 answer_leaves TooLarge c file old new long cut part = (ending_long c (long refl), part)
 answer_leaves OutOfMemory c file old new long cut part = (tt, part)
 
-pub answers_leave : (e : AnswerError) (s : Seen) (input : Option (List ℕ)) (file : Option (Option (List ℕ))) (old new : Option (List ℕ)) → (e ≡ TooLarge → IfSome input (λ given. INPUT_BYTES < (session s given).used))
-    → (e ≡ SinkFault → IfSome input (λ given. IsCutShort old new (session s given).replies)) → IfSome input (λ given. IsPart old new (session s given).replies) → IfSome (due_on (Some (Ok s)) input) (λ ds. Leaves (Err (of_answer e)) ds file file old new)
-answers_leave e s None file old new long cut part = tt
-answers_leave e s (Some given) file old new long cut part = answer_leaves e (session s given) file old new long cut part
-
 -- the file was to be stored
-save_leaves : (r : Result (Unit {0}) Failure) (c : Course (Sitting Seen)) (s : Seen) (file new_file : Option (Option (List ℕ))) (old mid new : Option (List ℕ)) → (c.state).state ≡ s → c.used ≤ INPUT_BYTES → Appends old mid c.replies
+pub save_leaves : (r : Result (Unit {0}) Failure) (c : Course (Sitting Seen)) (s : Seen) (file new_file : Option (Option (List ℕ))) (old mid new : Option (List ℕ)) → (c.state).state ≡ s → c.used ≤ INPUT_BYTES → Appends old mid c.replies
     → r ≢ Err (Fault Source) → Saves r (saved s) file new_file mid new → LeavesIn r (due_of c) file new_file old new
 save_leaves r c s file new_file old mid new at within wrote inner saves = go r inner saves
   where
@@ -120,12 +116,6 @@ save_leaves r c s file new_file old mid new at within wrote inner saves = go r i
     go (Err (Fault Source)) inner h = (tt, part h.1)
     go (Err (Fault Memory)) inner h = (tt, part h.1)
 
-pub saves_leave : (r : Result (Unit {0}) Failure) (first : Seen) (d : Sitting Seen) (s : Seen) (input : Option (List ℕ)) (file new_file : Option (Option (List ℕ))) (old mid new : Option (List ℕ)) → s ≡ d.state
-    → IfSome input (λ given. IsDone (session first given) d old mid) → r ≢ Err (Fault Source) → Saves r (saved s) file new_file mid new → IfSome (due_on (Some (Ok first)) input) (λ ds. Leaves r ds file new_file old new)
-saves_leave r first d s None file new_file old mid new at done inner saves = tt
-saves_leave r first d s (Some given) file new_file old mid new at done inner saves =
-    save_leaves r (session first given) s file new_file old mid new (ap (λ (x : Sitting Seen). x.state) done.state_is ∙ sym at) done.within done.written inner saves
-
 -- ---- the kept file
 
 -- what holds of what is called for in one way holds in another
@@ -133,20 +123,25 @@ for_due : (ds : Option (List Due)) (P Q : List Due → Type 0) → ((ds : List D
 for_due None P Q f h = tt
 for_due (Some ds) P Q f h = f ds h
 
--- what holds whatever is called for
-for_each : (found : Option (Result Seen CommandError)) (left : Option (List ℕ)) (P : List Due → Type 0) → ((d : Due) → P (d ∷ [])) → IfSome (due_on found left) P
+-- an end in the first of these
+leaves_first : (f : Failure) (d : Due) (ds : List Due) (file new_file : Option (Option (List ℕ))) (old new : Option (List ℕ)) → LeavesIn (Err f) d file new_file old new → Leaves (Err f) (d ∷ ds) file new_file old new
+leaves_first f d [] file new_file old new h = h
+leaves_first f d (x ∷ ds) file new_file old new h = inl (refl, h)
+
+-- what holds whatever is called for first
+for_each : (found : Option (Result Seen CommandError)) (left : Option (List ℕ)) (P : List Due → Type 0) → ((d : Due) (ds : List Due) → P (d ∷ ds)) → IfSome (due_on found left) P
 for_each None left P f = tt
 for_each (Some (Ok s)) None P f = tt
-for_each (Some (Ok s)) (Some given) P f = f (due_of (session s given))
-for_each (Some (Err e)) left P f = f (stops e)
+for_each (Some (Ok s)) (Some given) P f = subst P (sym (ap (map due_of) (courses_begin (answer by_parts) (resumed by_parts) (sitting_at s) given))) (f _ _)
+for_each (Some (Err e)) left P f = f (stops e) []
 
 -- the file can't be used
 pub open_leaves : (file : Option (Option (List ℕ))) (left : Option (List ℕ)) (e : OpenError) (new_file : Option (Option (List ℕ))) (old : Option (List ℕ)) → IfSome file (λ kept. GivesError (of_open e) (replica_in (loaded kept)))
     → IfSome (due file left) (λ ds. Leaves (Err (of_open e)) ds file new_file old old)
 open_leaves None left e new_file old h = tt
 open_leaves (Some kept) left (opening.Command e) new_file old h = rw h (refl, part_none old [])
-open_leaves (Some kept) left opening.KeeperFault new_file old h = for_each (Some (replica_in (loaded kept))) left _ (λ d. (tt, part_none old d.replies))
-open_leaves (Some kept) left opening.OutOfMemory new_file old h = for_each (Some (replica_in (loaded kept))) left _ (λ d. (tt, part_none old d.replies))
+open_leaves (Some kept) left opening.KeeperFault new_file old h = for_each (Some (replica_in (loaded kept))) left _ (λ d ds. leaves_first (Fault Keeper) d ds (Some kept) new_file old old (tt, part_none old d.replies))
+open_leaves (Some kept) left opening.OutOfMemory new_file old h = for_each (Some (replica_in (loaded kept))) left _ (λ d ds. leaves_first (Fault Memory) d ds (Some kept) new_file old old (tt, part_none old d.replies))
 
 -- it was used
 kept_from : (r : Result Seen CommandError) (old_file file new_file : Option (Option (List ℕ))) → Keeps old_file file → IsKept r file new_file → IsKept r old_file new_file
@@ -216,20 +211,6 @@ fault_of (Err f) n s = (λ h. ap ended (failure_at_7 f n s h), λ h. ap ended (f
 -- with another status the keeper hasn't failed
 pub no_keeper_fault : (r : Result (Unit {0}) Failure) (n : ℕ) → IsStatusOf r n → n ≢ 7 → r ≢ Err (Fault Keeper)
 no_keeper_fault r n s other is = other (subst (λ (x : Result (Unit {0}) Failure). IsStatusOf x n) is s)
-
--- an end before all was done isn't that of the output
-pub unstored_so : (r : Result (Unit {0}) Failure) (n : ℕ) (X : Type 0) → IsStatusOf r n → IfErr r (λ f. f ≢ Fault Sink → X) → n ≢ 0 → n ≢ 9 → X
-unstored_so (Ok u) n X s h some other = absurd (some s)
-unstored_so (Err f) n X s h some other = h (λ is. other (subst (λ (g : Failure). IsFailureStatus g n) is s))
-
-pub early_so : (r : Result (Unit {0}) Failure) (n : ℕ) (X : Type 0) → IsStatusOf r n → IfErr r (λ f. IsEarly f → X) → n ≢ 0 → n ≢ 7 → n ≢ 9 → n ≢ 10 → X
-early_so (Ok u) n X s h a b c d = absurd (a s)
-early_so (Err NoCommand) n X s h a b c d = h tt
-early_so (Err (Command e)) n X s h a b c d = h tt
-early_so (Err (Fault Keeper)) n X s h a b c d = absurd (b s)
-early_so (Err (Fault Source)) n X s h a b c d = h tt
-early_so (Err (Fault Sink)) n X s h a b c d = absurd (c s)
-early_so (Err (Fault Memory)) n X s h a b c d = absurd (d s)
 
 -- a session ends by no other failure
 pub opened_own : (e : OpenError) → IsOpenError e → IsSessionsOwn (Err (of_open e))
@@ -444,15 +425,7 @@ open_other e f is other h = other (ap ended (is ∙ ap of_open (same_error e ope
     same_error : {X : Type 0} (e k : OpenError) → opened_by {X = X} e ≡ opened_by k → e ≡ k
     same_error e k h = cc
 
--- ---- what stays of the file
-
-pub stays_err : (r : Result (Unit {0}) Failure) (file mid new : Option (Option (List ℕ))) → Keeps file mid → IfErr r (λ f. f ≢ Fault Sink → Keeps new mid) → IfErr r (λ f. f ≢ Fault Sink → Stays file new)
-stays_err (Ok u) file mid new k h = tt
-stays_err (Err f) file mid new k h = λ other. stays_on file mid new k (h other)
-
-pub early_err : (r : Result (Unit {0}) Failure) (file mid new : Option (Option (List ℕ))) → Keeps file mid → IfErr r (λ f. IsEarly f → Keeps mid new) → IfErr r (λ f. IsEarly f → Keeps file new)
-early_err (Ok u) file mid new k h = tt
-early_err (Err f) file mid new k h = λ early. keeps_on file mid new k (h early)
+-- ---- what is told
 
 -- nothing is told
 pub told_none : (r : Result (Unit {0}) Failure) (u : Unit {0}) (fails : Type 0) (old : Option (List ℕ)) → r ≡ Ok u → Writes fails old old (line_of r 0)

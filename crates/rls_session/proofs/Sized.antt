@@ -17,7 +17,6 @@ use Rattle.rls_model.specs.declared.edit.EditError.{EditError}
 use Rattle.rls_model.specs.declared.edit.EditError.TheVariants as errors
 use Rattle.rls_model.specs.Answers.{Reason}
 use Rattle.rls_model.specs.Editing.{or_fault, range_fault, size_fault}
-use Rattle.rls_model.specs.Receiving.{without}
 use Rattle.rls_model.proofs.Made.{or_none}
 use Rattle.rls_seen.specs.Edits.{edit_fault_over, edited, made_over, op_fault_over}
 use Rattle.rls_seen.specs.Over.{acks_after, accepted, holding, refusal_over, first_ready, after_refusal, after_release, released, released_all, released_times}

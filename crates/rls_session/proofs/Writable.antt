@@ -1,5 +1,5 @@
 -- What a session works on may be written as a file, after each request.
-use Rattle.std.proofs.Common.{◌≡◌, ◌∙◌, ℕ, Bool, true, false, cond, ltb, List, [], ◌∷◌, length, Option, Some, None, Result, Ok, Err, IfOk, OnOk, refl, sym, ap, subst}
+use Rattle.std.proofs.Common.{◌≡◌, ℕ, Bool, true, false, cond, ltb, List, [], ◌∷◌, length, Option, Some, None, Result, Ok, Err, refl, sym, subst}
 use Rattle.std.specs.Prelude.{◌&&◌, ◌==◌}
 use Rattle.std.proofs.lemmas.Bool.{eqb-true}
 use Rattle.rls_ident.proofs.Members.{and_right}
@@ -35,7 +35,6 @@ use Rattle.rls_session.specs.Answering.{IsAnswered}
 use Rattle.rls_session.specs.Answers.{Sitting, done, pointed, read_line, taken, taken_at, undone, undone_by_plan}
 use Rattle.rls_session.specs.Answers as answers
 use Rattle.rls_session.specs.Courses.{Answered}
-use Rattle.rls_session.specs.Desks.{sitting_of}
 use Rattle.rls_session.specs.Replies.{cursor_text, failed_text, refused_text}
 use Rattle.rls_session.specs.Sessions.{by_parts}
 
@@ -103,6 +102,8 @@ done_writable d orders.Place w = w
 done_writable d orders.Text w = w
 done_writable d (orders.Take len) w = w
 done_writable d (orders.Send to) w = w
+done_writable d orders.Stat w = w
+done_writable d orders.Store w = w
 done_writable d orders.Quit w = w
 done_writable d orders.Bad w = w
 

@@ -1,5 +1,5 @@
 -- The requests of an input, answered one after another by what was taken of it.
-use Rattle.std.specs.Prelude.{◌≡◌, ◌<◌, ◌≤◌, ◌⊎◌, ◌+◌, ◌++◌, ℕ, IsFalse, List, [], length, drop, Option, Some, None, IfSome}
+use Rattle.std.specs.Prelude.{◌≡◌, ◌<◌, ◌≤◌, ◌⊎◌, ◌+◌, ◌++◌, ℕ, suc, Bool, true, false, IsFalse, List, [], length, drop, Option, Some, None, IfSome}
 use Rattle.std.specs.List.{position_or_len, before_first}
 use Rattle.rls_ident.specs.declared.limits.TheConstants.{INPUT_BYTES}
 use Rattle.rls_io.specs.Device.{Appends, Keeps}
@@ -12,10 +12,12 @@ use Rattle.rls_report.specs.declared.failures.Fault.TheVariants as faults
 use Rattle.rls_script.specs.Scripts.{is_line_feed}
 use Rattle.rls_session.specs.declared.answering.AnswerError.{AnswerError}
 use Rattle.rls_session.specs.declared.answering.AnswerError.TheVariants.{SourceFault, SinkFault, TooLarge, OutOfMemory}
+use Rattle.rls_session.specs.declared.answering.Halt.{Halt}
+use Rattle.rls_session.specs.declared.answering.Halt.TheVariants.{Store, End}
 use Rattle.rls_session.specs.declared.orders.Order.{Order}
 use Rattle.rls_session.specs.declared.orders.Order.TheVariants as orders
 use Rattle.rls_session.specs.Courses.{Answered, Course, course}
-use Rattle.rls_session.specs.Intake.{IntakeSeen, to_come}
+use Rattle.rls_session.specs.Intake.{IntakeSeen, known_come, to_come}
 use Rattle.rls_session.specs.Orders.{order_of}
 use Rattle.rls_session.specs.Requests.{Request, line_size, cut_after}
 
@@ -31,6 +33,11 @@ of_answer SourceFault = failures.Fault faults.Source
 of_answer SinkFault = failures.Fault faults.Sink
 of_answer TooLarge = failures.Command command.TooLarge
 of_answer OutOfMemory = failures.Fault faults.Memory
+
+-- whether requests came to an order to store
+abbrev pub is_store : Halt → Bool
+is_store Store = true
+is_store End = false
 
 -- this was the answer
 pub record IsAnswered {S : Type 0} (due : Answered S) (reply : List ℕ) (s : S) : Type 0 where
@@ -104,20 +111,35 @@ IsOpen bytes =
     (position_or_len is_line_feed bytes ≡ length bytes)
     ⊎ ((position_or_len is_line_feed bytes < length bytes) × LacksPart (order_of (before_first is_line_feed bytes)) (drop (line_size bytes) bytes))
 
--- the bytes that were taken of an input are requests, all of which are answered, and then no whole request
-pub record IsPrompt {S : Type 0} (answer : S → Request → Answered S) (first : S) (given : List ℕ) (left old new : Option (List ℕ)) : Type 0 where
+-- The bytes that were taken of an input are requests, all of which are answered, and then no whole request. To an input, these are all
+-- replies
+pub record IsPrompt (replies : List ℕ → List ℕ) (given : List ℕ) (left old new : Option (List ℕ)) : Type 0 where
   pub front : List ℕ
   pub more : List ℕ
   pub rest : List ℕ
   pub given_is : given ≡ front ++ (more ++ rest)
   pub left_is : left ≡ Some rest
   pub unfinished : IsOpen more
-  pub written : Appends old new (course answer first front).replies
+  pub written : Appends old new (replies front)
 
 -- ---- the end
 
--- the session came to its end here
-pub record IsDone {S : Type 0} (c : Course S) (s : S) (old new : Option (List ℕ)) : Type 0 where
+-- the session came to an order to store, or to its end, here
+pub record IsDone {S : Type 0} (c : Course S) (stores : Bool) (s : S) (old new : Option (List ℕ)) : Type 0 where
   pub state_is : c.state ≡ s
+  pub stores_is : c.stores ≡ stores
   pub within : c.used ≤ INPUT_BYTES
   pub written : Appends old new c.replies
+
+-- these bytes begin the input, up to the line feed of an order to store, and the same course comes whatever follows them
+pub record IsFront {S : Type 0} (answer : S → Request → Answered S) (first : S) (given : List ℕ) : Type 0 where
+  pub front : List ℕ
+  pub given_is : given ≡ front ++ drop (suc (course answer first given).used) given
+  pub size : length front ≡ suc (course answer first given).used
+  pub same : (x : List ℕ) → course answer first (front ++ x) ≡ course answer first given
+
+-- the order to store is used, with its line feed, and what follows is to come
+pub record IsPaused {S : Type 0} (answer : S → Request → Answered S) (first : S) (given : List ℕ) (new : IntakeSeen) (left : Option (List ℕ)) : Type 0 where
+  pub rest : known_come new left ≡ Some (drop (suc (course answer first given).used) given)
+  -- unless the input has ended, the line feed is there
+  pub fed : IsFalse new.ended → IsFront answer first given

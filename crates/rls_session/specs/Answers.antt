@@ -1,5 +1,5 @@
 -- What a session answers to a request, and what it changes.
-use Rattle.std.specs.Prelude.{ℕ, Bool, ◌&&◌, ◌==◌, ◌++◌, List, [], length, encode_utf8_all, codes, nat_lt, Option, Some, None, Result, Ok, Err, if◌then◌else◌}
+use Rattle.std.specs.Prelude.{ℕ, Bool, ◌&&◌, ◌==◌, ◌++◌, List, [], length, map, encode_utf8_all, codes, nat_lt, Option, Some, None, Result, Ok, Err, if◌then◌else◌}
 use Rattle.rls_codec.specs.Reading.{message_of}
 use Rattle.rls_ops.specs.declared.message.Message.{Message}
 use Rattle.rls_ops.specs.Spelling.{message_bytes}
@@ -19,7 +19,7 @@ use Rattle.rls_anchor.specs.declared.anchor.Anchor.TheVariants.{Beginning}
 use Rattle.rls_session.specs.declared.orders.Order.{Order}
 use Rattle.rls_session.specs.declared.orders.Order.TheVariants as orders
 use Rattle.rls_session.specs.Requests.{Request, Does, Takes}
-use Rattle.rls_session.specs.Courses.{Answered, Course, course}
+use Rattle.rls_session.specs.Courses.{Answered, Course, Stretch, courses, stretches}
 use Rattle.rls_session.specs.Replies.{ok_text, undone_text, nothing_text, cursor_text, bytes_text, refused_text, failed_text, bad_text}
 
 -- what a session asks of a state, and how it changes one, whatever states are
@@ -47,6 +47,12 @@ pub record Kind (X : Type 0) : Type 0 where
   -- what comes of a message, and the message for a member
   pub taken : X → Message → Stage X
   pub message : X → ℕ → Message
+  -- the numbers, as `stat` prints them
+  pub stat : X → List ℕ
+  -- an entry and an anchor, taken to the greatest epoch, and the state without what every member has
+  pub settled : X → Entry → Entry
+  pub settled_anchor : X → Anchor → Anchor
+  pub dropped : X → X
 
 -- a state, what undoes the edits of this session, and the cursor
 pub record Sitting (X : Type 0) : Type 0 where
@@ -125,9 +131,14 @@ sent K s to = if nat_lt to (K.members s) then bytes_text (codes "message") (mess
 abbrev pub text_reply : {X : Type 0} → Kind X → X → List ℕ
 text_reply K s = bytes_text (codes "text") (encode_utf8_all (K.text s))
 
+-- ---- the numbers
+
+abbrev pub stat_reply : {X : Type 0} → Kind X → X → List ℕ
+stat_reply K s = bytes_text (codes "stat") (K.stat s)
+
 -- ---- all
 
--- an order to quit, and one to take what isn't there, are never answered
+-- orders to store and to quit, and one to take what isn't there, are never answered
 abbrev pub done : {X : Type 0} → Kind X → Sitting X → Order → Answered (Sitting X)
 done K d (orders.Edit line) = rested K (edited K d (read_line K d.state line))
 done K d orders.Undo = rested K (undone K d (last_of d.entries))
@@ -136,6 +147,8 @@ done K d orders.Place = says (cursor_text (K.place d.state d.cursor)) d
 done K d orders.Text = says (text_reply K d.state) d
 done K d (orders.Take len) = says [] d
 done K d (orders.Send to) = says (sent K d.state to) d
+done K d orders.Stat = says (stat_reply K d.state) d
+done K d orders.Store = says [] d
 done K d orders.Quit = says [] d
 done K d orders.Bad = says bad_text d
 
@@ -143,6 +156,25 @@ unfoldable pub answer : {X : Type 0} → Kind X → Sitting X → Request → An
 answer K d (Does order) = done K d order
 answer K d (Takes message) = taken K d (message_of message)
 
--- the session from this state over this input
-abbrev pub session_from : {X : Type 0} → Kind X → X → List ℕ → Course (Sitting X)
-session_from K s input = course (answer K) (sitting_at s) input
+-- ---- storing
+
+-- what the session goes back to, taken to the greatest epoch
+abbrev pub settled_sitting : {X : Type 0} → Kind X → Sitting X → Sitting X
+settled_sitting K d = record { state = d.state; entries = map (K.settled d.state) d.entries; cursor = K.settled_anchor d.state d.cursor }
+
+-- after a store it is so, and what every member has is dropped
+abbrev pub resumed : {X : Type 0} → Kind X → Sitting X → Sitting X
+resumed K d = with_state (settled_sitting K d) (K.dropped d.state)
+
+-- ---- the session
+
+-- from this sitting over this input
+abbrev pub stretches_by : {X : Type 0} → Kind X → Sitting X → List ℕ → List (Stretch (Sitting X))
+stretches_by K d input = stretches (answer K) (resumed K) d input
+
+abbrev pub session_by : {X : Type 0} → Kind X → Sitting X → List ℕ → List (Course (Sitting X))
+session_by K d input = courses (answer K) (resumed K) d input
+
+-- from this state
+abbrev pub session_from : {X : Type 0} → Kind X → X → List ℕ → List (Course (Sitting X))
+session_from K s input = session_by K (sitting_at s) input

@@ -1,5 +1,5 @@
 -- Which calls of the keeper a session makes, in which order, and the status with which it ends then.
-use Rattle.std.specs.Prelude.{◌≡◌, ◌≢◌, ◌⊎◌, ◌≤◌, ◌<◌, ◌++◌, ℕ, Bool, true, false, List, [], ◌∷◌, length, Option, Some, None, IfSome, Result, Ok, Err}
+use Rattle.std.specs.Prelude.{◌≡◌, ◌≢◌, ◌⊎◌, ◌<◌, ◌++◌, ℕ, Bool, true, false, List, [], ◌∷◌, length, Option, Some, None, IfSome, OnOk, Result, Ok, Err}
 use Rattle.rls_report.specs.declared.failures.CommandError.{CommandError}
 use Rattle.rls_report.specs.declared.failures.Failure.{Failure}
 use Rattle.rls_report.specs.declared.failures.Failure.TheVariants.{NoCommand, Command, Fault}
@@ -46,23 +46,23 @@ IsLastFileOf (d ∷ ds) bytes = IsLastOf d ds bytes
 abbrev pub IsLastDue : Option (List Due) → List ℕ → Type 0
 IsLastDue due bytes = IfSome due (λ ds. IsLastFileOf ds bytes)
 
--- ---- of a stage
+-- ---- of one store
 
 -- the keeper was called once, to store bytes that are to be stored
 abbrev pub StoresOnce : {K : Type 0} → (K → List ℕ → Bool → K → Type 0) → (List ℕ → Type 0) → Bool → K → K → Type 0
 StoresOnce gives IsDue ok old new = (bytes : List ℕ) × IsDue bytes × gives old bytes ok new
 
 -- the keeper was called once, to store, or not at all
-abbrev pub HasServed : {K : Type 0} → (K → List ℕ → Bool → K → Type 0) → (List ℕ → Type 0) → Result (Unit {0}) Failure → K → K → Type 0
-HasServed gives IsDue (Ok done) old new = StoresOnce gives IsDue true old new
-HasServed gives IsDue (Err NoCommand) old new = new ≡ old
-HasServed gives IsDue (Err (Command e)) old new = new ≡ old
-HasServed gives IsDue (Err (Fault Keeper)) old new = StoresOnce gives IsDue false old new
-HasServed gives IsDue (Err (Fault Source)) old new = new ≡ old
-HasServed gives IsDue (Err (Fault Sink)) old new = (new ≡ old) ⊎ StoresOnce gives IsDue true old new
-HasServed gives IsDue (Err (Fault Memory)) old new = (new ≡ old) ⊎ StoresOnce gives IsDue false old new
+abbrev pub HasSaved : {K : Type 0} → (K → List ℕ → Bool → K → Type 0) → (List ℕ → Type 0) → Result (Unit {0}) Failure → K → K → Type 0
+HasSaved gives IsDue (Ok done) old new = StoresOnce gives IsDue true old new
+HasSaved gives IsDue (Err NoCommand) old new = new ≡ old
+HasSaved gives IsDue (Err (Command e)) old new = new ≡ old
+HasSaved gives IsDue (Err (Fault Keeper)) old new = StoresOnce gives IsDue false old new
+HasSaved gives IsDue (Err (Fault Source)) old new = new ≡ old
+HasSaved gives IsDue (Err (Fault Sink)) old new = (new ≡ old) ⊎ StoresOnce gives IsDue true old new
+HasSaved gives IsDue (Err (Fault Memory)) old new = (new ≡ old) ⊎ StoresOnce gives IsDue false old new
 
--- ---- of a session
+-- ---- of several stores
 
 -- the files that were stored, one after another, and the one that was then to be stored in vain, if there is one
 pub record Stores : Type 0 where
@@ -90,6 +90,28 @@ abbrev pub FailsOnce : {K : Type 0} → (K → List ℕ → Bool → K → Type 
 FailsOnce gives None old new = new ≡ old
 FailsOnce gives (Some bytes) old new = gives old bytes false new
 
+-- ---- of a stage
+
+-- by the end of a stage: the store that failed, if there is one
+abbrev pub IsFailedOf : Result (Unit {0}) Failure → Option (List ℕ) → Type 0
+IsFailedOf (Err (Fault Keeper)) failed = (bytes : List ℕ) × (failed ≡ Some bytes)
+IsFailedOf (Err (Fault Memory)) failed = Unit {0}
+IsFailedOf r failed = failed ≡ None
+
+-- The keeper was called for these stores alone, one after another. They are of the files that are called for, in order, and if the stage is
+-- done of all of them, of which there is one at least.
+pub record HasServed {K : Type 0} (gives : K → List ℕ → Bool → K → Type 0) (ds : Option (List Due)) (r : Result (Unit {0}) Failure) (old new : K) : Type 0 where
+  pub stores : Stores
+  pub at_failure : K
+  pub stored : StoresEach gives stores.stored old at_failure
+  pub failed : FailsOnce gives stores.failed at_failure new
+  pub failed_is : IsFailedOf r stores.failed
+  pub files : AreDue ds (tried stores)
+  pub some : OnOk r (0 < length stores.stored)
+  pub all : OnOk r (IfSome ds (λ ds. AreAllFilesOf ds stores.stored))
+
+-- ---- of a session
+
 -- a load that answers Ok, and then these stores
 pub record LoadsAndStores {K : Type 0} (load : K → Bool → K → Type 0) (store : K → List ℕ → Bool → K → Type 0) (x : Stores) (old new : K) : Type 0 where
   pub at_load : K
@@ -111,14 +133,3 @@ pub data Calls {K : Type 0} (load : K → Bool → K → Type 0) (store : K → 
   FailsToLoad : load old false new → IsKeepersStatus n → untouched → x ≡ no_stores → Calls load store x untouched n old new
   -- a load, and then the stores; one that fails is the end
   Loads : LoadsAndStores load store x old new → IsStatusAfter x.failed n → Calls load store x untouched n old new
-
--- done, perhaps but for a reply that couldn't be written
-abbrev pub MayHaveStored : ℕ → Type 0
-MayHaveStored n = (n ≡ 0) ⊎ (n ≡ 9)
-
--- With status 0 the session stored. This version stores at its end alone: at most once, and if it stored, it ends with 0, or with 9 if
--- `saved` couldn't be written
-pub record StoresAtEnd (x : Stores) (n : ℕ) : Type 0 where
-  pub done : n ≡ 0 → 0 < length x.stored
-  pub once : length (tried x) ≤ 1
-  pub only : 0 < length x.stored → MayHaveStored n

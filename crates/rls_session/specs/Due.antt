@@ -1,5 +1,5 @@
 -- What a session calls for, by the kept file and the input, read over what the replica consists of that the file says.
-use Rattle.std.specs.Prelude.{ℕ, List, [], ◌∷◌, nat_lt, Option, Some, None, option_map, Result, Ok, Err, if◌then◌else◌}
+use Rattle.std.specs.Prelude.{ℕ, List, [], ◌∷◌, nat_lt, Option, Some, None, option_map, map, Result, Ok, Err, if◌then◌else◌}
 use Rattle.rls_ident.specs.declared.limits.TheConstants.{INPUT_BYTES}
 use Rattle.rls_report.specs.declared.failures.CommandError.{CommandError}
 use Rattle.rls_report.specs.declared.failures.CommandError.TheVariants.{TooLarge}
@@ -7,16 +7,17 @@ use Rattle.rls_report.specs.Failures.{error_line, error_status}
 use Rattle.rls_seen.specs.Seen.{Seen}
 use Rattle.rls_stages.specs.Endings.{own_line, or_else}
 use Rattle.rls_stages.specs.KeptFile.{loaded, replica_in, saved}
-use Rattle.rls_session.specs.Answers.{Sitting}
+use Rattle.rls_session.specs.Answers.{Sitting, session_by, sitting_at}
 use Rattle.rls_session.specs.Courses.{Course}
-use Rattle.rls_session.specs.Sessions.{session}
+use Rattle.rls_session.specs.Sessions.{by_parts}
 
 -- up to a store: the replies to all requests, and the replica whose file is stored then, or why none is
 pub record Due : Type 0 where
   pub replies : List ℕ
   pub ending : Result Seen CommandError
 
--- after this course. An input is too long if it comes neither to its end nor to the order to quit within the limit
+-- after this course. An input is too long if it comes neither to its end nor to an order to store or to quit within the limit, which
+-- counts from the last store
 abbrev pub due_of : Course (Sitting Seen) → Due
 due_of c = record { replies = c.replies; ending = if nat_lt INPUT_BYTES c.used then Err TooLarge else saved (c.state).state }
 
@@ -28,10 +29,14 @@ stops e = record { replies = []; ending = Err e }
 abbrev pub found_in : Option (Option (List ℕ)) → Option (Result Seen CommandError)
 found_in file = option_map (λ kept. replica_in (loaded kept)) file
 
--- at that replica, before the input is read: what is called for up to each store. This version stores at its end alone, so there is one
+-- from this sitting on: what is called for up to each store, in order. The session comes to one of them only if all before it are stored
+abbrev pub due_from : Sitting Seen → Option (List ℕ) → Option (List Due)
+due_from d left = option_map (λ input. map due_of (session_by by_parts d input)) left
+
+-- at that replica, before the input is read
 abbrev pub due_on : Option (Result Seen CommandError) → Option (List ℕ) → Option (List Due)
 due_on None left = None
-due_on (Some (Ok s)) left = option_map (λ input. due_of (session s input) ∷ []) left
+due_on (Some (Ok s)) left = due_from (sitting_at s) left
 due_on (Some (Err e)) left = Some (stops e ∷ [])
 
 -- if the kept file is told, and the input or that it isn't read

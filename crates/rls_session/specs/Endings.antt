@@ -9,16 +9,16 @@ use Rattle.rls_file.specs.Files.{file_bytes}
 use Rattle.rls_report.specs.declared.failures.CommandError.{CommandError}
 use Rattle.rls_report.specs.declared.failures.Failure.{Failure}
 use Rattle.rls_report.specs.declared.failures.Failure.TheVariants.{NoCommand, Command, Fault}
-use Rattle.rls_report.specs.declared.failures.Fault.TheVariants.{Source, Sink}
+use Rattle.rls_report.specs.declared.failures.Fault.TheVariants.{Sink}
 use Rattle.rls_stages.specs.Endings.{EndsWith, IsFailureStatus, IsFault, IsPart, failure_line_at}
 use Rattle.rls_stages.specs.Errors.{IsOfFile}
-use Rattle.rls_stages.specs.KeptFile.{IsReadBack, StandsIn, bytes_over}
+use Rattle.rls_stages.specs.KeptFile.{IsFileFor, IsReadBack, StandsIn, bytes_over}
 use Rattle.rls_session.specs.Answering.{IsNear, IsPrompt}
-use Rattle.rls_session.specs.Answers.{Sitting, answer, sitting_at}
-use Rattle.rls_session.specs.Courses.{Course}
+use Rattle.rls_session.specs.Answers.{Sitting}
+use Rattle.rls_session.specs.Courses.{Course, replies_in, used_in}
 use Rattle.rls_session.specs.Due.{Due, ending_status, found_in}
 use Rattle.rls_session.specs.Replies.{saved_text}
-use Rattle.rls_session.specs.Sessions.{by_parts, session}
+use Rattle.rls_session.specs.Sessions.{session}
 
 -- ---- storing
 
@@ -38,13 +38,6 @@ abbrev pub Saves : Result (Unit {0}) Failure → Result Seen CommandError → Op
 Saves (Ok u) r file new_file old new = IsKept r file new_file × Appends old new saved_text
 Saves (Err (Fault Sink)) r file new_file old new = IsKept r file new_file × IsCutShort old new saved_text
 Saves (Err f) r file new_file old new = EndsAs f r × (new ≡ old)
-
--- the session ended before anything was stored
-abbrev pub IsEarly : Failure → Type 0
-IsEarly NoCommand = Unit {0}
-IsEarly (Command e) = Unit {0}
-IsEarly (Fault Source) = Unit {0}
-IsEarly (Fault f) = ⊥
 
 -- ---- what a session leaves
 
@@ -136,18 +129,30 @@ line_of (Err f) n = failure_line_at f n
 
 -- ---- if the kept file stands for a history and what waits beside it
 
--- the kept file is too long, or the input before it ends or quits, or the file that is to be stored
+-- the kept file is too long, or the input before it ends, quits or stores, or the file that is to be stored
 abbrev pub IsTooLong : List ℕ → Course (Sitting State) → Type 0
 IsTooLong bytes c = (FILE_BYTES < length bytes) ⊎ (INPUT_BYTES < c.used) ⊎ (FILE_BYTES < length (file_bytes (parts (c.state).state)))
 
--- a session over these bytes of a file, with this course, ends so
-pub record Serves (n : ℕ) (bytes : List ℕ) (c : Course (Sitting State)) (new_file : Option (Option (List ℕ))) (old new : Option (List ℕ)) : Type 0 where
+-- a session whose kept file has these bytes ended in this course, or with the store after it
+pub record ServesIn (n : ℕ) (bytes : List ℕ) (c : Course (Sitting State)) (new_file : Option (Option (List ℕ))) (old new : Option (List ℕ)) : Type 0 where
   pub status : EndsWith n 0 (IsTooLong bytes c)
   pub stored : n ≡ 0 → StandsIn new_file (c.state).state
   pub written : n ≡ 0 → Appends old new (c.replies ++ saved_text)
   pub part : IsPart old new (c.replies ++ saved_text)
   -- if the output failed
   pub by_replies : n ≡ 9 → ByReplies c.replies old new (StandsIn new_file (c.state).state) (new_file ≡ Some (Some bytes))
+
+-- It ended so in the first of these courses, or stored the file that stands for the state after that, answered `saved` and went on.
+abbrev pub ServesOn : ℕ → List ℕ → Course (Sitting State) → List (Course (Sitting State)) → Option (Option (List ℕ)) → Option (List ℕ) → Option (List ℕ) → Type 0
+ServesOn n bytes c [] new_file old new = ServesIn n bytes c new_file old new
+ServesOn n bytes c (d ∷ cs) new_file old new =
+    ((n ≢ 0) × ServesIn n bytes c new_file old new)
+    ⊎ ((stored : List ℕ) × (mid : Option (List ℕ)) × IsFileFor stored (c.state).state × Appends old mid (c.replies ++ saved_text) × ServesOn n stored d cs new_file mid new)
+
+-- a session over these bytes of a file, with these courses, ends so
+abbrev pub Serves : ℕ → List ℕ → List (Course (Sitting State)) → Option (Option (List ℕ)) → Option (List ℕ) → Option (List ℕ) → Type 0
+Serves n bytes [] new_file old new = ⊥
+Serves n bytes (c ∷ cs) new_file old new = ServesOn n bytes c cs new_file old new
 
 -- ---- how far the input is read and answered
 
@@ -159,10 +164,10 @@ OnFound found left P = IfSome found (λ r. IfOk r (λ s. IfSome left (λ given. 
 abbrev pub OnSession : Option (Option (List ℕ)) → Option (List ℕ) → (Seen → List ℕ → Type 0) → Type 0
 OnSession file left P = OnFound (found_in file) left P
 
--- of the input no more is taken than the session uses, up to the end of the order to quit, and what one read may bring
+-- of the input no more is taken than the session may use, up to the end of the order to quit, and what one read may bring
 abbrev pub EndsNear : Option (Result Seen CommandError) → Option (List ℕ) → Option (List ℕ) → Type 0
-EndsNear found left new_left = OnFound found left (λ s given. IsNear given new_left (session s given).used)
+EndsNear found left new_left = OnFound found left (λ s given. IsNear given new_left (used_in (session s given)))
 
 -- the replies to all requests that are whole in what was taken of the input are written, and nothing more
 abbrev pub EndsPromptly : Option (Result Seen CommandError) → Option (List ℕ) → Option (List ℕ) → Option (List ℕ) → Option (List ℕ) → Type 0
-EndsPromptly found left new_left old new = OnFound found left (λ s given. IsPrompt (answer by_parts) (sitting_at s) given new_left old new)
+EndsPromptly found left new_left old new = OnFound found left (λ s given. IsPrompt (λ front. replies_in (session s front)) given new_left old new)

@@ -1,12 +1,12 @@
 -- The messages that a session answers.
-use Rattle.std.specs.Prelude.{◌<◌, ℕ, List}
+use Rattle.std.specs.Prelude.{◌<◌, ℕ, List, [], ◌∷◌}
 use Rattle.rls_ops.specs.Spelling.{message_bytes}
 use Rattle.rls_codec.specs.CodecLaws.{IsMessage}
 use Rattle.rls_seen.specs.Messages.{message_over}
 use Rattle.rls_seen.specs.Seen.{Seen, members}
 use Rattle.rls_session.specs.declared.orders.Order.TheVariants.{Send}
-use Rattle.rls_session.specs.Answers.{Sitting, answer, sitting_at}
-use Rattle.rls_session.specs.Courses.{holds}
+use Rattle.rls_session.specs.Answers.{Sitting, answer, stretches_by}
+use Rattle.rls_session.specs.Courses.{Stretch, holds}
 use Rattle.rls_session.specs.Requests.{Request, Does}
 use Rattle.rls_session.specs.Sessions.{by_parts}
 
@@ -19,6 +19,11 @@ abbrev pub SendsMessage : Sitting Seen → Request → Type 0
 SendsMessage d (Does (Send to)) = CanSend d.state to
 SendsMessage d request = Unit {0}
 
--- to each such request of an input, from the replica on
-abbrev pub SendsMessages : Seen → List ℕ → Type 0
-SendsMessages s given = holds (answer by_parts) SendsMessage (sitting_at s) given
+-- to each such request of these stretches
+abbrev pub SendMessages : List (Stretch (Sitting Seen)) → Type 0
+SendMessages [] = Unit {0}
+SendMessages (a ∷ others) = holds (answer by_parts) SendsMessage a.state a.input × SendMessages others
+
+-- to each such request of an input, from this sitting on
+abbrev pub SendsMessages : Sitting Seen → List ℕ → Type 0
+SendsMessages d given = SendMessages (stretches_by by_parts d given)

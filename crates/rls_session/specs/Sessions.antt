@@ -8,12 +8,15 @@ use Rattle.rls_model.specs.Receiving.{State, accept, release_all}
 use Rattle.rls_model.specs.Taking.{message_for, take_message}
 use Rattle.rls_seen.specs.Edits.{edit_fault_over}
 use Rattle.rls_seen.specs.Edits as edits
+use Rattle.rls_seen.specs.Kept.{dropped}
 use Rattle.rls_seen.specs.Messages.{message_over, taken_over}
 use Rattle.rls_seen.specs.Over.{released_all}
 use Rattle.rls_seen.specs.Seen.{Seen, members, own_count, text_over}
 use Rattle.rls_stages.specs.Lines.{fault_in, text_in}
-use Rattle.rls_undo.specs.Undoing.{entries_of, entries_over, performed, performed_over, planned, planned_over, refusal, refusal_over}
+use Rattle.rls_report.specs.Stat.{stat_of, stat_over}
+use Rattle.rls_undo.specs.Undoing.{entries_of, entries_over, performed, performed_over, planned, planned_over, refusal, refusal_over, settled, settled_over}
 use Rattle.rls_anchor.specs.Anchors.{anchor_over, before, behind, place, place_over}
+use Rattle.rls_anchor.specs.Anchors as anchors
 use Rattle.rls_session.specs.Answers.{Kind, Sitting, session_from}
 use Rattle.rls_session.specs.Courses.{Course}
 
@@ -36,10 +39,14 @@ by_parts = record {
   members = members;
   taken = taken_over;
   message = message_over;
+  stat = stat_over;
+  settled = settled_over;
+  settled_anchor = anchors.settled_over;
+  dropped = dropped;
 }
 
--- the session from what a replica consists of over this input
-abbrev pub session : Seen → List ℕ → Course (Sitting Seen)
+-- the session from what a replica consists of over this input, from store to store
+abbrev pub session : Seen → List ℕ → List (Course (Sitting Seen))
 session s input = session_from by_parts s input
 
 -- ---- a history and what waits beside it
@@ -61,8 +68,12 @@ by_history = record {
   members = λ t. members_of t.history;
   taken = take_message;
   message = λ t to. message_for t.history to;
+  stat = stat_of;
+  settled = λ t entry. settled t.history entry;
+  settled_anchor = λ t a. anchors.settled t.history a;
+  dropped = λ t. t;
 }
 
--- the session from a history and what waits beside it
-abbrev pub session_in : State → List ℕ → Course (Sitting State)
+-- the session from a history and what waits beside it, from store to store. What is dropped of a replica doesn't change the history
+abbrev pub session_in : State → List ℕ → List (Course (Sitting State))
 session_in t input = session_from by_history t input

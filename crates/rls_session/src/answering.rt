@@ -7,14 +7,15 @@ ghost use Rattle.rls_io.specs.Device.{Rose, Appends, IsCutShort};
 ghost use Rattle.rls_io.specs.declared.reading.ReadError.TheVariants as read;
 ghost use Rattle.rls_script.specs.Scripts.{is_line_feed};
 ghost use Rattle.rls_stages.specs.Endings.{IsPart};
-ghost use Rattle.rls_session.specs.Answering.{of_answer, of_read, HasNoLine, IsDone, IsNear, IsNext, IsPrompt, IsReplied, IsUnused, LacksPart};
-ghost use Rattle.rls_session.specs.Answers.{answer};
-ghost use Rattle.rls_session.specs.Courses.{course, holds};
-ghost use Rattle.rls_session.specs.Intake.{taken, to_come, KnowsEnd, KeepsEnd};
+ghost use Rattle.rls_session.specs.Answering.{is_store, of_answer, of_read, HasNoLine, IsDone, IsNear, IsNext, IsPaused, IsPrompt, IsReplied, IsUnused, LacksPart};
+ghost use Rattle.rls_session.specs.Answers.{answer, session_by};
+ghost use Rattle.rls_session.specs.Courses.{course, holds, replies_in};
+ghost use Rattle.rls_session.specs.Intake.{known_come, taken, to_come, KnowsEnd, KeepsEnd};
 ghost use Rattle.rls_session.specs.Requests.{Does, cut_after};
 ghost use Rattle.rls_session.specs.Sent.{SendsMessage};
 ghost use Rattle.rls_session.specs.Sessions.{by_parts};
 ghost use Rattle.rls_session.specs.declared.answering.AnswerError.TheVariants as AnswerError;
+ghost use Rattle.rls_session.specs.declared.answering.Halt.TheVariants as Halt;
 ghost use Rattle.rls_session.specs.declared.orders.Order.TheVariants as Order;
 ghost use Rattle.rls_store.specs.Stored.{AreWritable};
 
@@ -25,6 +26,15 @@ use crate::replies::bad;
 use rls_io::{Failed, ReadError, Sink, Source, write_all_of};
 use rls_report::{CommandError, Failure, Fault};
 use std::alloc::Global;
+
+/// What requests came to.
+#[derive(Clone, Copy, Debug, PartialEq, Eq)]
+pub(crate) enum Halt {
+    /// An order to store: the session goes on after it.
+    Store,
+    /// The order to quit, or the end of the input.
+    End,
+}
 
 /// Why a session ends before its file is stored.
 #[derive(Clone, Copy, Debug, PartialEq, Eq)]
@@ -100,7 +110,7 @@ fn next_order<S: Source>(
     }
 }
 
-// Answers an order whose line is used, but not an order to quit.
+// Answers an order whose line is used, but not an order to store or to quit.
 fn reply_to<S: Source>(
     alloc: Global,
     desk: &mut Desk,
@@ -188,34 +198,42 @@ pub(crate) fn write<W: Sink>(output: &mut W, reply: &[u8]) -> Result<(), AnswerE
     }
 }
 
-/// Answers the requests of the input one after another, up to its end or to the order to quit. Each reply is written before more of
-/// the input is taken.
+/// Answers the requests to come one after another, up to the next order to store or to quit, or to the end of the input. Each reply is
+/// written before more of the input is taken. An order to store, or to quit, isn't answered.
 pub(crate) fn answer_all<S: Source, W: Sink>(
     alloc: Global,
     desk: &mut Desk,
+    intake: &mut Intake,
     input: &mut S,
     output: &mut W,
-) -> Result<(), AnswerError>
-    ensures done { OnOk result (IfSome (S.left input.old) (λ given. IsDone (course (answer by_parts) desk.old given) desk.new (W.told output.old) (W.told output.new))) }
-    ensures part { OnErr result (IfSome (S.left input.old) (λ given. IsPart (W.told output.old) (W.told output.new) (course (answer by_parts) desk.old given).replies)) }
-    ensures cut { result ≡ Err AnswerError.SinkFault → IfSome (S.left input.old) (λ given. IsCutShort (W.told output.old) (W.told output.new) (course (answer by_parts) desk.old given).replies) }
-    ensures too_large { result ≡ Err AnswerError.TooLarge → IfSome (S.left input.old) (λ given. INPUT_BYTES < (course (answer by_parts) desk.old given).used) }
-    ensures prompt { result ≡ Err AnswerError.SourceFault → IfSome (S.left input.old) (λ given. IsPrompt (answer by_parts) desk.old given (S.left input.new) (W.told output.old) (W.told output.new)) }
-    ensures near { IfSome (S.left input.old) (λ given. IsNear given (S.left input.new) (course (answer by_parts) desk.old given).used) }
+) -> Result<Halt, AnswerError>
+    requires fresh { intake.old.used ≡ 0 }
+    requires short { length intake.old.waiting ≤ 4096 }
+    ensures done { IfOk result (λ halt. IfSome (known_come intake.old (S.left input.old)) (λ given. IsDone (course (answer by_parts) desk.old given) (is_store halt) desk.new (W.told output.old) (W.told output.new))) }
+    ensures paused { result ≡ Ok Halt.Store → IfSome (known_come intake.old (S.left input.old)) (λ given. IsPaused (answer by_parts) desk.old given intake.new (S.left input.new)) }
+    ensures part { OnErr result (IfSome (known_come intake.old (S.left input.old)) (λ given. IsPart (W.told output.old) (W.told output.new) (course (answer by_parts) desk.old given).replies)) }
+    ensures cut { result ≡ Err AnswerError.SinkFault → IfSome (known_come intake.old (S.left input.old)) (λ given. IsCutShort (W.told output.old) (W.told output.new) (course (answer by_parts) desk.old given).replies) }
+    ensures too_large { result ≡ Err AnswerError.TooLarge → IfSome (known_come intake.old (S.left input.old)) (λ given. INPUT_BYTES < (course (answer by_parts) desk.old given).used) }
+    ensures prompt { result ≡ Err AnswerError.SourceFault → IfSome (known_come intake.old (S.left input.old)) (λ given. IsPrompt (λ front. replies_in (session_by by_parts desk.old front)) given (S.left input.new) (W.told output.old) (W.told output.new)) }
+    ensures near { IfSome (known_come intake.old (S.left input.old)) (λ given. IsNear given (S.left input.new) (course (answer by_parts) desk.old given).used) }
+    ensures short { OnOk result (length intake.new.waiting ≤ 4096) }
+    ensures stays_ended { IsTrue intake.old.ended → IsTrue intake.new.ended }
+    ensures open { result ≡ Err AnswerError.SourceFault → IsFalse intake.old.ended }
     ensures input { result ≡ Err AnswerError.SourceFault → Rose (S.faults input.old) (S.faults input.new) }
     ensures output { result ≡ Err AnswerError.SinkFault → Rose (W.faults output.old) (W.faults output.new) }
+    ensures input_never_falls { S.faults input.old ≤ S.faults input.new }
     ensures never_falls { W.faults output.old ≤ W.faults output.new }
     ensures writable { AreWritable desk.old.state → OnOk result (AreWritable desk.new.state) }
-    ensures sent { AreWritable desk.old.state → OnOk result (IfSome (S.left input.old) (λ given. holds (answer by_parts) SendsMessage desk.old given)) }
+    ensures sent { AreWritable desk.old.state → OnOk result (IfSome (known_come intake.old (S.left input.old)) (λ given. holds (answer by_parts) SendsMessage desk.old given)) }
 {
-    let mut intake = Intake::new(alloc);
     loop {
-        match next_order(alloc, &mut intake, input) {
+        match next_order(alloc, intake, input) {
             Err(error) => return Err(AnswerError::from(error)),
-            Ok(None) => return Ok(()),
+            Ok(None) => return Ok(Halt::End),
             Ok(Some(order)) => match order {
-                Order::Quit => return Ok(()),
-                order => match reply_to(alloc, desk, &mut intake, input, order) {
+                Order::Quit => return Ok(Halt::End),
+                Order::Store => return Ok(Halt::Store),
+                order => match reply_to(alloc, desk, intake, input, order) {
                     Err(error) => return Err(AnswerError::from(error)),
                     Ok(reply) => match write(output, &reply) {
                         Err(error) => return Err(error),

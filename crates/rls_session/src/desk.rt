@@ -1,19 +1,21 @@
 //! What a session works on.
 
 ghost use Rattle.std.specs.Prelude.{◌≡◌, ◌≤◌, IfOk, OnOk};
+ghost use Rattle.rls_ident.specs.declared.epoch_name.EpochName.{EpochName};
 ghost use Rattle.rls_codec.specs.CodecLaws.{IsBytes};
 ghost use Rattle.rls_codec.specs.Reading.{message_of};
 ghost use Rattle.rls_seen.specs.Sane.{IsSane};
 ghost use Rattle.rls_seen.specs.Seen.{Seen};
+ghost use Rattle.rls_seen.specs.Kept.{dropped};
 ghost use Rattle.rls_seen.specs.Over.{released_all};
-ghost use Rattle.rls_anchor.specs.Anchors.{place_over};
+ghost use Rattle.rls_anchor.specs.Anchors.{place_over, settled_over};
 ghost use Rattle.rls_stages.specs.Lines.{allowed};
 ghost use Rattle.rls_undo.specs.Undoing.{last_of};
 ghost use Rattle.rls_session.specs.Answering.{IsAnswered};
-ghost use Rattle.rls_session.specs.Answers.{done, edited, pointed, read_line, rested, sent, sitting_at, taken, text_reply, undone, with_state};
+ghost use Rattle.rls_session.specs.Answers.{done, edited, pointed, read_line, rested, sent, settled_sitting, sitting_at, stat_reply, taken, text_reply, undone, with_state};
 ghost use Rattle.rls_replica.specs.Names.{KeepsNames};
 ghost use Rattle.rls_anchor.specs.declared.anchor.Anchor as anchors;
-ghost use Rattle.rls_session.specs.Desks.{AreUndoable, TellsFault, sitting_of};
+ghost use Rattle.rls_session.specs.Desks.{AreUndoable, IsWhole, TellsFault, sitting_of};
 ghost use Rattle.rls_session.specs.Replies.{cursor_text};
 ghost use Rattle.rls_session.specs.Requests.{Does};
 ghost use Rattle.rls_session.specs.Sent.{CanSend, SendsMessage};
@@ -26,7 +28,7 @@ use rls_anchor::{Anchor, AnchorError};
 use rls_ident::rely;
 use rls_model::{Edit, EditError, Taken};
 use rls_replica::{PastError, Replica, SendError};
-use rls_report::{CommandError, LineFault};
+use rls_report::{CommandError, LineFault, stat_text};
 use rls_script::Line;
 use rls_stages::{LineError, edit_of, utf8_text};
 use rls_sync::{TakeBytesError, message_bytes, take_bytes};
@@ -73,7 +75,7 @@ impl Desk {
         &self.replica
     }
 
-    /// Answers an order. One to quit, and one to take a message, are answered by nothing.
+    /// Answers an order. Those to store, to quit and to take a message are answered by nothing.
     pub(crate) fn answer(&mut self, alloc: Global, order: Order) -> Result<Vec<u8>, AllocError>
         ensures answered { IfOk result (λ reply. IsAnswered (done by_parts self.old order) reply.items self.new) }
         ensures sent { AreWritable self.old.state → OnOk result (SendsMessage self.old (Does order)) }
@@ -85,8 +87,9 @@ impl Desk {
             Order::Place => self.place(alloc),
             Order::Text => self.text(alloc),
             Order::Send { to } => self.send(alloc, to),
+            Order::Stat => self.stat(alloc),
             Order::Bad => replies::bad(alloc),
-            Order::Take { .. } | Order::Quit => Ok(Vec::new(alloc)),
+            Order::Take { .. } | Order::Store | Order::Quit => Ok(Vec::new(alloc)),
         }
     }
 
@@ -184,6 +187,15 @@ impl Desk {
         replies::counted(alloc, "text", text.as_bytes())
     }
 
+    // ---- the numbers
+
+    fn stat(&self, alloc: Global) -> Result<Vec<u8>, AllocError>
+        ensures reply { IfOk result (λ reply. reply.items ≡ stat_reply by_parts self.now.state) }
+    {
+        let lines = stat_text(alloc, &self.replica)?;
+        replies::counted(alloc, "stat", lines.as_bytes())
+    }
+
     // ---- messages
 
     // Makes the message for a member.
@@ -215,6 +227,51 @@ impl Desk {
             }
             Ok(found) => replies::taken(alloc, &found),
         }
+    }
+
+    // ---- storing
+
+    /// Takes what the session goes back to to the greatest epoch, as is needed before `drop_stable`. The replica stays as it is.
+    pub(crate) fn settle(&mut self) -> Result<(), AllocError>
+        ensures settled { OnOk result (self.new ≡ settled_sitting by_parts self.old) }
+        ensures state { self.new.state ≡ self.old.state }
+        ensures sane { IsSane self.old.state }
+    {
+        rely!(self.replica.sane());
+        if let Err(error) = self.undo.settle(&self.replica) {
+            return Err(unsettled(error));
+        }
+        self.settle_cursor()
+    }
+
+    // Takes the cursor there.
+    fn settle_cursor(&mut self) -> Result<(), AllocError>
+        ensures settled { OnOk result (self.new ≡ sitting_of self.old.state self.old.entries (settled_over self.old.state self.old.cursor)) }
+        ensures state { self.new.state ≡ self.old.state }
+    {
+        match self.cursor.settle(&self.replica) {
+            Ok(()) => Ok(()),
+            Err(error) => Err(unsettled(error)),
+        }
+    }
+
+    /// Drops what every member has.
+    pub(crate) fn drop_stable(&mut self)
+        requires lasts { IsWhole (with_state self.old (dropped self.old.state)) }
+        ensures dropped { self.new ≡ with_state self.old (dropped self.old.state) }
+    {
+        self.replica.drop_stable();
+    }
+}
+
+// Why something couldn't be taken to the greatest epoch, which is kept as long as a session goes back to it.
+fn unsettled(error: PastError) -> AllocError
+    requires kept { (e : EpochName) → error ≡ PastError.Dropped e → ⊥ }
+{
+    match error {
+        // A session drops nothing that it goes back to.
+        PastError::Dropped { epoch: _epoch } => unreachable!(),
+        PastError::OutOfMemory => AllocError,
     }
 }
 

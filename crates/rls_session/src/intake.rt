@@ -74,6 +74,15 @@ impl Intake {
         self.used += n as u64;
     }
 
+    /// The count of what is used begins anew.
+    pub(crate) fn restart(&mut self)
+        ensures waiting { self.new.waiting ≡ self.old.waiting }
+        ensures used { self.new.used ≡ 0 }
+        ensures ended { self.new.ended ≡ self.old.ended }
+    {
+        self.used = 0;
+    }
+
     // Lets go of the bytes that are used.
     fn forget(&mut self)
         ensures same { self.new ≡ self.old }

@@ -1,7 +1,7 @@
-use Rattle.std.proofs.Common.{◌≤◌, ◌-◌, ◌+◌, length}
+use Rattle.std.proofs.Common.{◌≤◌, ◌-◌, ◌+◌, IsTrue, length}
 use Rattle.rls_ident.specs.declared.limits.TheConstants.{INPUT_BYTES}
 use Rattle.rls_session.specs.Answers.{answer}
-use Rattle.rls_session.specs.Intake.{taken}
+use Rattle.rls_session.specs.Intake.{known_come}
 use Rattle.rls_session.specs.Sessions.{by_parts}
 use Rattle.rls_store.specs.Stored.{AreWritable}
 use Rattle.rls_session.proofs.Loop.{OnWay}
@@ -11,11 +11,11 @@ use Rattle.rls_session.proofs.answering.answer_all.Given as goal
 -- what was answered so far, and what is to come
 abbrev pub invariant-loop-error : goal.invariant-loop-error
 invariant-loop-error g l = record {
-  few : taken l.intake ≤ INPUT_BYTES + 1;
+  ended : IsTrue l.fn.intake.ended → IsTrue l.intake.ended;
   short : length l.intake.waiting ≤ 4096;
-  way : OnWay (answer by_parts) l.fn.desk (g.S.Source.left l.fn.input) l.desk l.intake (g.S.Source.left l.input) (g.W.Sink.told l.fn.output) (g.W.Sink.told l.output);
+  way : OnWay (answer by_parts) l.fn.desk (known_come l.fn.intake (g.S.Source.left l.fn.input)) l.desk l.intake (g.S.Source.left l.input) (g.W.Sink.told l.fn.output) (g.W.Sink.told l.output);
   writable : AreWritable l.fn.desk.state → AreWritable l.desk.state;
-  sent : AreWritable l.fn.desk.state → AreSent l.fn.desk (g.S.Source.left l.fn.input) l.desk l.intake (g.S.Source.left l.input);
+  sent : AreWritable l.fn.desk.state → AreSent l.fn.desk (known_come l.fn.intake (g.S.Source.left l.fn.input)) l.desk l.intake (g.S.Source.left l.input);
   input_never_falls : g.S.Source.faults l.fn.input ≤ g.S.Source.faults l.input;
   never_falls : g.W.Sink.faults l.fn.output ≤ g.W.Sink.faults l.output;
 }

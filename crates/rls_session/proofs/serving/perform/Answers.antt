@@ -3,7 +3,7 @@ use Rattle.rls_report.specs.declared.failures.Failure.{Failure}
 use Rattle.rls_session.specs.Devices.{devices}
 use Rattle.rls_session.specs.Due.{due}
 use Rattle.rls_session.specs.Endings.{Leaves, line_of}
-use Rattle.rls_session.proofs.Served.{line_so, open_leaves, open_other, opened_leaves}
+use Rattle.rls_session.proofs.Served.{line_so, open_leaves, opened_leaves}
 use Rattle.rls_session.proofs.Closing.{opened_ends, unopened_ends}
 use Rattle.rls_session.proofs.serving.perform.Goals as goal
 

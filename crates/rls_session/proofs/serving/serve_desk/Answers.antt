@@ -1,67 +1,43 @@
-use Rattle.std.proofs.Common.{IfSome, Some, Ok, Err, List, ℕ, [], ◌∷◌, ap, refl, subst, sym}
-use Rattle.rls_store.specs.Stored.{AreWritable}
-use Rattle.rls_session.specs.Sent.{SendsMessages}
+use Rattle.std.proofs.Common.{◌≤◌, Err, Ok, ap, arith, length, subst, sym}
 use Rattle.rls_report.specs.declared.failures.Failure.{Failure}
-use Rattle.rls_session.specs.Due.{due_on}
-use Rattle.rls_session.specs.Calls.{AreDue, HasServed}
-use Rattle.rls_session.specs.Endings.{IsSessionsOwn, Leaves}
-use Rattle.rls_session.proofs.Called.{saved_served, unanswered_served}
-use Rattle.rls_session.proofs.Served.{answer_failed, answered_own, answers_leave, if_ok, keeps_same, rose_later, saves_leave}
+use Rattle.rls_session.specs.declared.answering.Halt.{Halt}
+use Rattle.rls_session.specs.Devices.{devices}
+use Rattle.rls_session.specs.Intake.{IntakeSeen, known_come}
+use Rattle.rls_session.specs.Serving.{EndsOrGoesOn, StageEnds}
+use Rattle.rls_session.proofs.Stages.{goes_on, memory_ends, near_now, reaches_first}
 use Rattle.rls_session.proofs.serving.serve_desk.Goals as goal
 
+pub loop-init : goal.loop-init
+loop-init g c = record {
+  fresh = ap (λ (a : IntakeSeen). a.used) c.new-intake.ensures.new;
+  short = subst (λ (a : IntakeSeen). length a.waiting ≤ 4096) (sym c.new-intake.ensures.new) (omega arith);
+  writable = c.requires.writable;
+  reaches = reaches_first g.K.Keeper.store_gives c.args.desk.now c.new-intake.result (g.S.Source.left c.args.input.now) c.args.keeper.now (devices g.K.Keeper.file g.K.Keeper.faults g.S.Source.left g.S.Source.faults g.W.Sink.told g.W.Sink.faults c.args.keeper.now c.args.input.now c.args.output.now) c.new-intake.ensures.new;
+}
+
 pub returns-in-Err : goal.returns-in-Err
-returns-in-Err g c =
-    let error = c.in-Err.error in
-    let s = c.args.desk.now.state in
-    let keeper = c.args.keeper.now in
-    let left = g.S.Source.left c.args.input.now in
-    let file = g.K.Keeper.file keeper in
-    let old = g.W.Sink.told c.args.output.now in
-    let new = g.W.Sink.told c.answer_all.new.output in
-    let failed = answer_failed error c.from.result c.from.ensures in
-    let IsDue : List ℕ → Type 0 = λ bytes. AreDue (due_on (Some (Ok s)) left) (bytes ∷ []) in
-    record {
-      ends = record {
-        leaves = subst (λ (f : Failure). IfSome (due_on (Some (Ok s)) left) (λ ds. Leaves (Err f) ds file file old new)) (sym c.from.ensures)
-            (answers_leave error s left file old new (λ e. rw c.requires.sitting at (c.in-Err.ensures.too_large (ap Err e))) (λ e. rw c.requires.sitting at (c.in-Err.ensures.cut (ap Err e))) (rw c.requires.sitting at c.in-Err.ensures.part));
-        calls = subst (λ (f : Failure). HasServed g.K.Keeper.store_gives IsDue (Err f) keeper keeper) (sym c.from.ensures) (unanswered_served g.K.Keeper.store_gives IsDue error keeper);
-        stays = λ other. keeps_same file;
-        early = λ early. keeps_same file;
-        keeper = λ e. absurd (failed.0 e);
-        uncounted = λ other. refl;
-        input = λ e. c.in-Err.ensures.input (ap Err (failed.1 e));
-        output = λ e. c.in-Err.ensures.output (ap Err (failed.2 e));
-        near = rw c.requires.sitting at c.in-Err.ensures.near;
-        prompt = λ e. rw c.requires.sitting at (c.in-Err.ensures.prompt (ap Err (failed.1 e)));
-        messages = tt;
-        own = subst (λ (f : Failure). IsSessionsOwn (Err f)) (sym c.from.ensures) (answered_own error);
-      };
-    }
+returns-in-Err g c = record { ends = c.loop.invariant.reaches (Err c.in-Err.failure) c.serve_stretch.new.keeper (devices g.K.Keeper.file g.K.Keeper.faults g.S.Source.left g.S.Source.faults g.W.Sink.told g.W.Sink.faults c.serve_stretch.new.keeper c.serve_stretch.new.input c.serve_stretch.new.output) c.in-Err.ensures.ends }
 
-pub returns-in-Ok : goal.returns-in-Ok
-returns-in-Ok g c =
-    let s = c.args.desk.now.state in
-    let left = g.S.Source.left c.args.input.now in
-    let old = g.W.Sink.told c.args.output.now in
-    let mid = g.W.Sink.told c.answer_all.new.output in
-    let done = rw c.requires.sitting at c.in-Ok.ensures.done in
-    record {
-      ends = record {
-        leaves = saves_leave c.save.result s c.answer_all.new.desk c.replica.result.now left (g.K.Keeper.file c.args.keeper.now) (g.K.Keeper.file c.save.new.keeper) old mid (g.W.Sink.told c.save.new.output) c.replica.ensures.replica done c.save.ensures.inner
-            c.save.ensures.saves;
-        calls = saved_served g.K.Keeper.store_gives c.save.result s c.answer_all.new.desk c.replica.result.now left old mid c.args.keeper.now c.save.new.keeper c.replica.ensures.replica done c.save.ensures.calls;
-        stays = c.save.ensures.stays;
-        early = c.save.ensures.early;
-        keeper = c.save.ensures.keeper;
-        uncounted = c.save.ensures.uncounted;
-        input = λ e. absurd (c.save.ensures.inner e);
-        output = λ e. rose_later _ _ _ c.in-Ok.ensures.never_falls (c.save.ensures.output e).0 (c.save.ensures.output e);
-        near = rw c.requires.sitting at c.in-Ok.ensures.near;
-        prompt = λ e. absurd (c.save.ensures.inner e);
-        messages = if_ok c.save.result _ (IfSome left (λ given. SendsMessages s given)) (λ h. h) (rw c.requires.sitting at (c.in-Ok.ensures.sent c.requires.writable));
-        own = c.save.ensures.own;
-      };
-    }
+pub returns-in-Ok-End : goal.returns-in-Ok-End
+returns-in-Ok-End g c = record {
+  ends = c.loop.invariant.reaches (Ok tt) c.serve_stretch.new.keeper (devices g.K.Keeper.file g.K.Keeper.faults g.S.Source.left g.S.Source.faults g.W.Sink.told g.W.Sink.faults c.serve_stretch.new.keeper c.serve_stretch.new.input c.serve_stretch.new.output)
+      (subst (λ (halt : Halt). EndsOrGoesOn g.K.Keeper.store_gives c.loop.desk (known_come c.loop.intake (g.S.Source.left c.loop.input)) c.loop.intake.ended c.serve_stretch.new.desk (known_come c.serve_stretch.new.intake (g.S.Source.left c.serve_stretch.new.input)) c.serve_stretch.new.intake.ended (Ok halt) c.loop.keeper c.serve_stretch.new.keeper (devices g.K.Keeper.file g.K.Keeper.faults g.S.Source.left g.S.Source.faults g.W.Sink.told g.W.Sink.faults c.loop.keeper c.loop.input c.loop.output) (devices g.K.Keeper.file g.K.Keeper.faults g.S.Source.left g.S.Source.faults g.W.Sink.told g.W.Sink.faults c.serve_stretch.new.keeper c.serve_stretch.new.input c.serve_stretch.new.output)) c.in-Ok-End.field-0-is c.in-Ok-End.ensures.ends);
+}
 
-pub save-requires : goal.save-requires
-save-requires g c = record { writable = subst AreWritable (sym c.replica.ensures.replica) (c.in-Ok.ensures.writable c.requires.writable) }
+pub loop-preserved : goal.loop-preserved
+loop-preserved g c = record {
+  fresh = c.in-Ok-Store.ensures.fresh (ap Ok c.in-Ok-Store.field-0-is);
+  short = c.in-Ok-Store.ensures.short;
+  writable = c.in-Ok-Store.ensures.writable (ap Ok c.in-Ok-Store.field-0-is);
+  reaches = λ r l new h. c.loop.invariant.reaches r l new
+      (goes_on g.K.Keeper.store_gives c.loop.desk c.serve_stretch.new.desk (known_come c.loop.intake (g.S.Source.left c.loop.input)) (known_come c.serve_stretch.new.intake (g.S.Source.left c.serve_stretch.new.input)) c.loop.intake.ended c.serve_stretch.new.intake.ended r c.loop.keeper c.serve_stretch.new.keeper l (devices g.K.Keeper.file g.K.Keeper.faults g.S.Source.left g.S.Source.faults g.W.Sink.told g.W.Sink.faults c.loop.keeper c.loop.input c.loop.output) (devices g.K.Keeper.file g.K.Keeper.faults g.S.Source.left g.S.Source.faults g.W.Sink.told g.W.Sink.faults c.serve_stretch.new.keeper c.serve_stretch.new.input c.serve_stretch.new.output) new
+      (subst (λ (halt : Halt). EndsOrGoesOn g.K.Keeper.store_gives c.loop.desk (known_come c.loop.intake (g.S.Source.left c.loop.input)) c.loop.intake.ended c.serve_stretch.new.desk (known_come c.serve_stretch.new.intake (g.S.Source.left c.serve_stretch.new.input)) c.serve_stretch.new.intake.ended (Ok halt) c.loop.keeper c.serve_stretch.new.keeper (devices g.K.Keeper.file g.K.Keeper.faults g.S.Source.left g.S.Source.faults g.W.Sink.told g.W.Sink.faults c.loop.keeper c.loop.input c.loop.output) (devices g.K.Keeper.file g.K.Keeper.faults g.S.Source.left g.S.Source.faults g.W.Sink.told g.W.Sink.faults c.serve_stretch.new.keeper c.serve_stretch.new.input c.serve_stretch.new.output)) c.in-Ok-Store.field-0-is c.in-Ok-Store.ensures.ends) h);
+}
+
+pub returns : goal.returns
+returns g c = record {
+  ends = c.loop.invariant.reaches (Err c.of_fault.result) c.loop.keeper (devices g.K.Keeper.file g.K.Keeper.faults g.S.Source.left g.S.Source.faults g.W.Sink.told g.W.Sink.faults c.loop.keeper c.loop.input c.loop.output)
+      (subst (λ (f : Failure). StageEnds g.K.Keeper.store_gives c.loop.desk (known_come c.loop.intake (g.S.Source.left c.loop.input)) c.loop.intake.ended (Err f) c.loop.keeper c.loop.keeper (devices g.K.Keeper.file g.K.Keeper.faults g.S.Source.left g.S.Source.faults g.W.Sink.told g.W.Sink.faults c.loop.keeper c.loop.input c.loop.output) (devices g.K.Keeper.file g.K.Keeper.faults g.S.Source.left g.S.Source.faults g.W.Sink.told g.W.Sink.faults c.loop.keeper c.loop.input c.loop.output)) (sym c.of_fault.ensures.fault)
+      (memory_ends g.K.Keeper.store_gives c.loop.desk (known_come c.loop.intake (g.S.Source.left c.loop.input)) c.loop.intake.ended c.loop.keeper (g.K.Keeper.file c.loop.keeper) (g.S.Source.left c.loop.input) (g.W.Sink.told c.loop.output) (g.K.Keeper.faults c.loop.keeper) (g.S.Source.faults c.loop.input) (g.W.Sink.faults c.loop.output)
+      (near_now c.loop.desk c.loop.intake (g.S.Source.left c.loop.input) c.loop.invariant.short)));
+}

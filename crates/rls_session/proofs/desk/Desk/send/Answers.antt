@@ -1,4 +1,4 @@
-use Rattle.std.proofs.Common.{◌≡◌, ◌∙◌, ◌<◌, ◌≤◌, List, ℕ, Err, IfOk, OnOk, ap, arith, subst, sym}
+use Rattle.std.proofs.Common.{◌≡◌, ◌∙◌, List, ℕ, Err, IfOk, OnOk, ap, arith, subst, sym}
 use Rattle.rls_codec.specs.CodecLaws.{IsMessage}
 use Rattle.rls_replica.specs.declared.taking.SendError.TheVariants as SendError
 use Rattle.rls_seen.specs.Messages.{message_over}

@@ -1,4 +1,3 @@
-use Rattle.std.proofs.Common.{arith}
 use Rattle.rls_session.proofs.Whole.{whole_on}
 use Rattle.rls_session.proofs.desk.Desk.take.Goals as goal
 

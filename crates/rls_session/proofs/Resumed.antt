@@ -1,0 +1,67 @@
+-- What a session goes back to lasts when what every member has is dropped.
+use Rattle.std.proofs.Common.{◌≡◌, List, [], ◌∷◌, map, Some, not, OnOk, OnErr, Result, Ok, Err, subst, sym}
+use Rattle.std.specs.Prelude.{IsTrue}
+use Rattle.rls_ident.specs.declared.epoch_name.EpochName.{EpochName}
+use Rattle.rls_ident.proofs.Members.{in_filter}
+use Rattle.rls_rename.proofs.Kept.{greatest_kept}
+use Rattle.rls_ops.specs.Rows.{is_covered}
+use Rattle.rls_seen.specs.Kept.{dropped}
+use Rattle.rls_seen.specs.Sane.{IsSane}
+use Rattle.rls_seen.specs.Seen.{Seen, stable_over}
+use Rattle.rls_replica.specs.Names.{keeps}
+use Rattle.rls_store.specs.Stored.{AreWritable}
+use Rattle.rls_undo.specs.declared.entry.Entry.{Entry}
+use Rattle.rls_undo.specs.declared.entry.Entry.TheVariants.{Inserted, Removed}
+use Rattle.rls_undo.specs.Plans.{epoch_in}
+use Rattle.rls_undo.specs.Undoing.{dropped_or, first_dropped, settled_over}
+use Rattle.rls_undo.proofs.Dropping.{greatest_stays}
+use Rattle.rls_anchor.specs.declared.anchor.Anchor.{Anchor}
+use Rattle.rls_anchor.specs.declared.anchor.Anchor.TheVariants.{Beginning, After}
+use Rattle.rls_anchor.specs.AnchorLaws.{IsAnchored}
+use Rattle.rls_anchor.specs.Anchors as anchors
+use Rattle.rls_session.specs.Desks.{AreUndoable, IsWhole, sitting_of}
+
+-- entries of the greatest epoch are kept where that is
+settled_kept : (s n : Seen) (es : List Entry) → ((entry : Entry) → IsTrue (keeps n (epoch_in (settled_over s entry)))) → AreUndoable n (map (settled_over s) es)
+settled_kept s n [] f = tt
+settled_kept s n (e ∷ es) f = (f e, settled_kept s n es f)
+
+-- in the replica itself
+settled_here : (s : Seen) (entry : Entry) → IsTrue (keeps s (epoch_in (settled_over s entry)))
+settled_here s (Inserted e ids) = greatest_kept s.epochs.top s.epochs.nodes
+settled_here s (Removed e first text) = greatest_kept s.epochs.top s.epochs.nodes
+
+-- and in what is left of it
+settled_left : (s : Seen) → IsSane s → (entry : Entry) → IsTrue (keeps (dropped s) (epoch_in (settled_over s entry)))
+settled_left s sane (Inserted e ids) = greatest_stays s sane
+settled_left s sane (Removed e first text) = greatest_stays s sane
+
+anchor_here : (s : Seen) (a : Anchor) → IsAnchored s (anchors.settled_over s a)
+anchor_here s Beginning = tt
+anchor_here s (After e x) = greatest_kept s.epochs.top s.epochs.nodes
+
+anchor_left : (s : Seen) → IsSane s → (a : Anchor) → IsAnchored (dropped s) (anchors.settled_over s a)
+anchor_left s sane Beginning = tt
+anchor_left s sane (After e x) = greatest_stays s sane
+
+-- the entries alone, taken there
+pub whole_entries : (s : Seen) (es : List Entry) (a : Anchor) → IsWhole (sitting_of s es a) → IsWhole (sitting_of s (map (settled_over s) es) a)
+whole_entries s es a h = record { undoable = settled_kept s s es (settled_here s); anchored = h.anchored }
+
+-- both, in what is left
+pub whole_left : (s : Seen) (es : List Entry) (a : Anchor) → IsSane s → IsWhole (sitting_of (dropped s) (map (settled_over s) es) (anchors.settled_over s a))
+whole_left s es a sane = record { undoable = settled_kept s (dropped s) es (settled_left s sane); anchored = anchor_left s sane a }
+
+pub whole_cursor : {E : Type 0} (r : Result (Unit {0}) E) (s : Seen) (es : List Entry) (a b : Anchor) → OnOk r (b ≡ anchors.settled_over s a) → OnErr r (b ≡ a) → IsWhole (sitting_of s es a) → IsWhole (sitting_of s es b)
+whole_cursor (Ok u) s es a b is stays h = record { undoable = h.undoable; anchored = subst (IsAnchored s) (sym is) (anchor_here s a) }
+whole_cursor (Err e) s es a b is stays h = subst (λ (x : Anchor). IsWhole (sitting_of s es x)) (sym stays) h
+
+-- each epoch is kept, so that none was dropped
+pub none_dropped : (s : Seen) (es : List Entry) (e : EpochName) → AreUndoable s es → first_dropped s es ≡ Some e → ⊥
+none_dropped s [] e h is = cc
+none_dropped s (x ∷ es) e h is = none_dropped s es e h.1 (subst (λ b. dropped_or b (epoch_in x) (first_dropped s es) ≡ Some e) h.0 is)
+
+-- what may be written still may
+pub dropped_writable : (s : Seen) → AreWritable s → AreWritable (dropped s)
+unfolding dropped
+dropped_writable s w = record { log = λ o p. w.log o (in_filter (λ x. not (is_covered (stable_over s) x)) o s.log p).0; waiting = w.waiting; others = w.others; rest = w.rest }
