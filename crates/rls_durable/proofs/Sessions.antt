@@ -8,7 +8,7 @@ use Rattle.rls_journal.specs.Keeper.{IsAtRest, IsOldOrNew, LoadGives, StoreGives
 use Rattle.rls_journal.specs.Slots.{HasStored}
 use Rattle.rls_session.specs.Calls.{AreAllFilesOf, AreDue, Calls, CallsNothing, FailsOnce, FailsToLoad, IsFileOf, IsLastDue, IsLastFileOf, IsLastOf, Loads, IsStatusAfter, Stores, StoresEach, and_failed, no_stores, tried}
 use Rattle.rls_session.specs.Due.{Due}
-use Rattle.rls_durable.specs.Stops.{HasDue, IsOld, IsOldOrOneOf, LeavesOldOrStores}
+use Rattle.rls_durable.specs.Stops.{HasDue, IsOld, IsOldOrOneOf, LeavesInTurn, LeavesOldOrStores}
 use Rattle.rls_durable.proofs.Survived.{at_some, loaded_only, stored_rest, to_some, uncalled_only}
 
 -- the last of these files
@@ -48,12 +48,15 @@ module _ {D : Type 0} (seen : D → Option Areas) (may_leave : D → Areas → T
   weaker k l P Q f h = record { later = h.later; each = λ c left. f c (h.each c left); before = λ t c le left. ⊎_elim (λ past. inl past) (λ p. inr (f c p)) (h.before t c le left) }
 
   -- one call after another
-  both : (k m l : K) (P : Areas → Type 0) → Leaves k m P → Leaves m l P → Leaves k l P
-  both k m l P front back = record {
+  both_disks : (d e f : D) (P : Areas → Type 0) → LeavesOnly moment left_since d e P → LeavesOnly moment left_since e f P → LeavesOnly moment left_since d f P
+  both_disks d e f P front back = record {
     later = omega (arith, front.later, back.later);
-    each = λ c left. ⊎_elim (λ past. front.each c past) (λ p. p) (back.before (moment (disk k)) c front.later left);
+    each = λ c left. ⊎_elim (λ past. front.each c past) (λ p. p) (back.before (moment d) c front.later left);
     before = λ t c le left. ⊎_elim (λ past. front.before t c le past) (λ p. inr p) (back.before t c (omega (arith, le, front.later)) left);
   }
+
+  both : (k m l : K) (P : Areas → Type 0) → Leaves k m P → Leaves m l P → Leaves k l P
+  both k m l P front back = both_disks (disk k) (disk m) (disk l) P front back
 
   -- at rest, with this file
   pub record Rests (k : K) (file : Option (List ℕ)) : Type 0 where
@@ -94,6 +97,24 @@ module _ {D : Type 0} (seen : D → Option Areas) (may_leave : D → Areas → T
   failed_only None k l file r h = subst (λ (x : K). Leaves k x (IsOldOrOneOf file [])) (sym h) (weaker k k (IsOld file) (IsOldOrOneOf file []) (λ c p. inl p) (uncalled_only seen may_leave moment left_since only (disk k) file r.left))
   failed_only (Some bytes) k l file r h = weaker k l (λ c. (kept c ≡ file) ⊎ (kept c ≡ Some bytes)) (IsOldOrOneOf file (bytes ∷ [])) (λ c p. ⊎_elim (λ q. inl q) (λ q. inr (bytes, inl refl, q)) p) (stores_only false bytes k l file r h)
 
+  -- the same in turn
+  abbrev InTurn : Option (List ℕ) → List (List ℕ) → Option (List ℕ) → K → K → Type 0
+  InTurn file files failed k l = LeavesInTurn moment left_since file files failed (disk k) (disk l)
+
+  turns : (files : List (List ℕ)) (failed : Option (List ℕ)) (k m l : K) (file : Option (List ℕ)) → Rests k file → StoresEach store files k m → FailsOnce store failed m l → InTurn file files failed k l
+  turns [] None k m l file r h f =
+      subst (λ (x : K). Leaves k x (IsOld file)) (sym (f ∙ h)) (uncalled_only seen may_leave moment left_since only (disk k) file r.left)
+  turns [] (Some bytes) k m l file r h f =
+      stores_only false bytes k l file r (subst (λ (x : K). store x bytes false l) h f)
+  turns (bytes ∷ files) failed k m l file r h f = (disk h.0, stores_only true bytes k h.0 file r h.1, turns files failed h.0 m l (Some bytes) (rests_with bytes k h.0 file r h.1) h.2 f)
+
+  -- before which the file stays
+  turns_after : (files : List (List ℕ)) (failed : Option (List ℕ)) (k m l : K) (file : Option (List ℕ)) → Leaves k m (IsOld file) → InTurn file files failed m l → InTurn file files failed k l
+  turns_after [] None k m l file front back = both k m l (IsOld file) front back
+  turns_after [] (Some bytes) k m l file front back = both k m l (IsOldOrNew file bytes) (weaker k m (IsOld file) (IsOldOrNew file bytes) (λ c p. inl p) front) back
+  turns_after (bytes ∷ files) failed k m l file front back =
+      (back.0, both_disks (disk k) (disk m) back.0 (IsOldOrNew file bytes) (weaker k m (IsOld file) (IsOldOrNew file bytes) (λ c p. inl p) front) back.1, back.2)
+
   -- all stores of a session
   tried_only : (x : Stores) (k m l : K) (file : Option (List ℕ)) → Rests k file → StoresEach store x.stored k m → FailsOnce store x.failed m l → Leaves k l (IsOldOrOneOf file (tried x))
   tried_only x k m l file r h f =
@@ -120,13 +141,21 @@ module _ {D : Type 0} (seen : D → Option Areas) (may_leave : D → Areas → T
         let front = weaker old l.at_load (IsOld (kept s)) (IsOldOrOneOf (kept s) (tried x)) (λ c p. inl p) (loaded_only seen may_leave moment left_since only true (disk old) (disk l.at_load) (kept s) rest l.loaded) in
         both old l.at_load new (IsOldOrOneOf (kept s) (tried x)) front (tried_only x l.at_load l.at_failure new (kept s) (loaded_rests s l.at_load is rest l.loaded) l.stored l.failed)
 
+    turns_at : (s : Areas) → seen (disk old) ≡ Some s → ((c : Areas) → may_leave (disk old) c → kept c ≡ kept s) → Called → InTurn (kept s) x.stored x.failed old new
+    turns_at s is rest (CallsNothing same ten none) =
+        subst (λ (y : Stores). InTurn (kept s) y.stored y.failed old new) (sym none) (subst (λ (k : K). Leaves old k (IsOld (kept s))) (sym same) (uncalled_only seen may_leave moment left_since only (disk old) (kept s) rest))
+    turns_at s is rest (FailsToLoad l at u none) = subst (λ (y : Stores). InTurn (kept s) y.stored y.failed old new) (sym none) (loaded_only seen may_leave moment left_since only false (disk old) (disk new) (kept s) rest l)
+    turns_at s is rest (Loads l status) =
+        turns_after x.stored x.failed old l.at_load new (kept s) (loaded_only seen may_leave moment left_since only true (disk old) (disk l.at_load) (kept s) rest l.loaded)
+        (turns x.stored x.failed l.at_load l.at_failure new (kept s) (loaded_rests s l.at_load is rest l.loaded) l.stored l.failed)
+
     -- a stop at any moment
-    pub stores_survived : (ds : Option (List Due)) → Called → AreDue ds (tried x) → length (tried x) ≤ 1 → IsAtRest seen may_leave (disk old) → IfSome (seen (disk old)) (λ s. LeavesOldOrStores moment left_since ds (kept s) (disk old) (disk new))
-    stores_survived ds calls due once rest = to_some (seen (disk old)) (λ s. LeavesOldOrStores moment left_since ds (kept s) (disk old) (disk new)) (λ s is. record {
-      files = tried x;
+    pub stores_survived : (ds : Option (List Due)) → Called → AreDue ds (tried x) → IsAtRest seen may_leave (disk old) → IfSome (seen (disk old)) (λ s. LeavesOldOrStores moment left_since ds (kept s) (disk old) (disk new))
+    stores_survived ds calls due rest = to_some (seen (disk old)) (λ s. LeavesOldOrStores moment left_since ds (kept s) (disk old) (disk new)) (λ s is. record {
+      stores = x;
       due = due;
-      once = once;
       leaves = survived_at s is (at_some (seen (disk old)) (λ s. (c : Areas) → may_leave (disk old) c → kept c ≡ kept s) s is rest) calls;
+      in_turn = turns_at s is (at_some (seen (disk old)) (λ s. (c : Areas) → may_leave (disk old) c → kept c ≡ kept s) s is rest) calls;
     })
 
     -- after a session that stored all
@@ -134,22 +163,22 @@ module _ {D : Type 0} (seen : D → Option Areas) (may_leave : D → Areas → T
     last_stored bytes [] k l h = subst (λ (x : K). HasStored bytes (seen (disk k)) (seen (disk x)) (may_leave (disk x))) (sym h.2) ((h.1).stored refl)
     last_stored bytes (next ∷ files) k l h = stored_later (last_of next files) bytes (seen (disk k)) (seen (disk h.0)) (seen (disk l)) (may_leave (disk l)) (may_leave (disk h.0)) ((h.1).stored refl) (last_stored next files h.0 l h.2)
 
-    pub last_kept : (ds : Option (List Due)) → Called → 0 < length x.stored → length (tried x) ≤ 1 → IfSome ds (λ ds. AreAllFilesOf ds x.stored) → n ≡ 0 → HasDue seen may_leave (IsLastDue ds) (disk old) (disk new)
-    last_kept ds calls some once all zero = go calls
+    pub last_kept : (ds : Option (List Due)) → Called → 0 < length x.stored → IfSome ds (λ ds. AreAllFilesOf ds x.stored) → n ≡ 0 → HasDue seen may_leave (IsLastDue ds) (disk old) (disk new)
+    last_kept ds calls some all zero = go calls
       where
         none_some : x ≡ no_stores → HasDue seen may_leave (IsLastDue ds) (disk old) (disk new)
         none_some e = absurd (let never : 0 < length no_stores.stored = subst (λ (y : Stores). 0 < length y.stored) e some in omega (arith, never))
 
-        stored : (files : List (List ℕ)) (failed : Option (List ℕ)) (k m : K) → 0 < length files → length (files ++ and_failed failed) ≤ 1 → StoresEach store files k m → FailsOnce store failed m new → IfSome ds (λ ds. AreAllFilesOf ds files)
+        stored : (files : List (List ℕ)) (failed : Option (List ℕ)) (k m : K) → 0 < length files → IsStatusAfter failed n → StoresEach store files k m → FailsOnce store failed m new → IfSome ds (λ ds. AreAllFilesOf ds files)
             → (bytes : List ℕ) × IsLastDue ds bytes × HasStored bytes (seen (disk k)) (seen (disk new)) (may_leave (disk new))
-        stored [] failed k m some once h f all = absurd (omega (arith, some))
-        stored (bytes ∷ files) (Some b) k m some once h f all = absurd (omega (arith, once, length-append files (b ∷ [])))
-        stored (bytes ∷ files) None k m some once h f all = (last_of bytes files, last_due ds bytes files all, last_stored bytes files k new (subst (λ (y : K). StoresEach store (bytes ∷ files) k y) (sym f) h))
+        stored [] failed k m some status h f all = absurd (omega (arith, some))
+        stored (bytes ∷ files) (Some b) k m some status h f all = absurd (⊎_elim (λ seven. omega (arith, zero, seven)) (λ ten. omega (arith, zero, ten)) status)
+        stored (bytes ∷ files) None k m some status h f all = (last_of bytes files, last_due ds bytes files all, last_stored bytes files k new (subst (λ (y : K). StoresEach store (bytes ∷ files) k y) (sym f) h))
 
         go : Called → HasDue seen may_leave (IsLastDue ds) (disk old) (disk new)
         go (CallsNothing same ten none) = none_some none
         go (FailsToLoad l at u none) = none_some none
-        go (Loads l status) = let q = stored x.stored x.failed l.at_load l.at_failure some once l.stored l.failed all in (q.0, q.1, subst (λ o. HasStored q.0 o (seen (disk new)) (may_leave (disk new))) ((l.loaded).unchanged.same) q.2)
+        go (Loads l status) = let q = stored x.stored x.failed l.at_load l.at_failure some status l.stored l.failed all in (q.0, q.1, subst (λ o. HasStored q.0 o (seen (disk new)) (may_leave (disk new))) ((l.loaded).unchanged.same) q.2)
 
     -- at rest, but after a store that failed
     pub rests_after : Called → n ≢ 7 → n ≢ 10 → IsAtRest seen may_leave (disk new)

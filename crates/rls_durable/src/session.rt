@@ -16,9 +16,10 @@ use std::alloc::Global;
 /// clauses of `serve` hold of it too.
 ///
 /// If the keeper was at rest, as one over a disk on which nothing is pending, a stop at any moment of the session leaves a disk whose
-/// kept file is the one from before or the one that the session is to store at its end, so that the next command finds the one or the
-/// other. With status 0 each later stop leaves the new file, until the next `store`. After the statuses 7, 9 and 10 the file may be
-/// either. With every status but 7 and 10 the keeper is at rest again.
+/// kept file is the one of the last store that was done, or the one that is being stored; before the first store is done it is the one
+/// from before, or the first (`in_turn`). So the next command finds one of them, and never a torn one. With status 0 each later stop leaves
+/// the last file, until the next `store`. After the statuses 7, 9 and 10 the file may be either. With every status but 7 and 10 the keeper is
+/// at rest again.
 pub fn serve_on_disk<D: Disk, S: Source, W: Sink, E: Sink>(
     alloc: Global,
     keeper: &mut DiskKeeper<D>,

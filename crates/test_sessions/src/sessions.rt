@@ -98,6 +98,17 @@ const ROWS: &[&str] = &[
     "d 1 3\nt\nu\nt\n | ok 2\ntext 2\nho\nundone 1 3\ntext 5\nhello\nsaved\n | other",
     "b 5\nr\nt\n | ok 2\nok 3\ntext 4\nhell\nsaved\n | other",
     "i 5 \\n\nt\n | ok 2\ntext 6\nhello\n\nsaved\n | other",
+    // Stores in between: each is answered, and what undoes the edits and the cursor stay.
+    "w\n | saved\nsaved\n | same",
+    "w | saved\nsaved\n | same",
+    "w\nw\nq\nw\n | saved\nsaved\nsaved\n | same",
+    "w \n w\nw 1\nW\n | bad\nbad\nbad\nbad\nsaved\n | same",
+    "k 3\ni 0 A\nw\np\nu\nt\n | cursor 3\nok 2\nsaved\ncursor 4\nundone 1 1\ntext 5\nhello\nsaved\n | other",
+    "d 1 3\nr\nw\ni 2 x\nw\nu\nu\nt\n | ok 2\nok 3\nsaved\nok 4\nsaved\nundone 1 1\nundone 1 3\ntext 5\nhello\nsaved\n | other",
+    "m 2\nw\nw\nm 9\nw\n | no malformed at 0\nsaved\nbad\nsaved\n | same",
+    // The numbers, as `stat` prints them.
+    "n\nn 1\nn | stat 87\ngroup 7\nme 0\nmembers 2\naccepted 1 0\ntotal 5\nruns 1\nheld 0\nunstable 1\nepochs 1\nformer 0\n\nbad\nstat 87\ngroup 7\nme 0\nmembers 2\naccepted 1 0\ntotal 5\nruns 1\nheld 0\nunstable 1\nepochs 1\nformer 0\n\nsaved\n | same",
+    "r\nd 0 1\nw\nn\n | ok 2\nok 3\nsaved\nstat 87\ngroup 7\nme 0\nmembers 2\naccepted 3 0\ntotal 4\nruns 1\nheld 0\nunstable 3\nepochs 2\nformer 5\n\nsaved\n | other",
 ];
 
 /// Whether a row goes as it has to, if a read brings at most this many bytes.
@@ -238,6 +249,84 @@ const FAULTS: &[Fault<'_>] = &[
         false,
     ),
 ];
+
+/// The same of a session that stores three times: after an insertion, after another one, and at its end. Each row has also the text that
+/// is kept.
+type StoreFault<'a> = (usize, [&'a [u64]; 3], u8, &'a [u8], &'a [u8]);
+
+const STORE_FAULTS: &[StoreFault<'_>] = &[
+    // Each store fails: the file is that of the one before.
+    (WHOLE, [&[1], &[], &[]], 7, b"ok 2\n", b"hello"),
+    (WHOLE, [&[2], &[], &[]], 7, b"ok 2\nsaved\nok 3\n", b"Ahello"),
+    (
+        WHOLE,
+        [&[3], &[], &[]],
+        7,
+        b"ok 2\nsaved\nok 3\nsaved\n",
+        b"BAhello",
+    ),
+    // The output fails at each reply: the file is the new one from each `saved` on.
+    (WHOLE, [&[], &[], &[0]], 9, b"", b"hello"),
+    (WHOLE, [&[], &[], &[1]], 9, b"ok 2\n", b"Ahello"),
+    (WHOLE, [&[], &[], &[2]], 9, b"ok 2\nsaved\n", b"Ahello"),
+    (
+        WHOLE,
+        [&[], &[], &[3]],
+        9,
+        b"ok 2\nsaved\nok 3\n",
+        b"BAhello",
+    ),
+    // The input fails, byte by byte: what `w` stored is kept, and its reply is there before the next read.
+    (1, [&[], &[5], &[]], 8, b"", b"hello"),
+    (1, [&[], &[6], &[]], 8, b"ok 2\n", b"hello"),
+    (1, [&[], &[7], &[]], 8, b"ok 2\n", b"hello"),
+    (1, [&[], &[8], &[]], 8, b"ok 2\nsaved\n", b"Ahello"),
+    (
+        1,
+        [&[], &[14], &[]],
+        8,
+        b"ok 2\nsaved\nok 3\n",
+        b"Ahello",
+    ),
+];
+
+/// The text that a session over this file shows.
+fn shown(alloc: Global, file: &[u8]) -> Result<Vec<u8>, AllocError> {
+    let mut devices = devices_of(alloc, Some(file), b"t\n", WHOLE, NO_FAULTS)?;
+    let _status = devices.hold(alloc);
+    Vec::from_slice(alloc, devices.output.written())
+}
+
+/// The reply with this text, and the end.
+fn shows(alloc: Global, text: &[u8]) -> Result<Vec<u8>, AllocError> {
+    let len = text.len();
+    let mut reply = format!(in alloc; "text {len}\n")?.into_bytes();
+    reply.extend_from_slice(text)?;
+    reply.extend_from_slice(b"\nsaved\n")?;
+    Ok(reply)
+}
+
+/// Whether a row goes as it has to over this file.
+fn store_fails(alloc: Global, file: &[u8], row: &StoreFault<'_>) -> Result<bool, Fail> {
+    let (step, failing, due, output, text) = row;
+    let input = b"i 0 A\nw\ni 0 B\nw\n";
+    let mut devices = devices_of(alloc, Some(file), input, *step, *failing)?;
+    let status = devices.hold(alloc);
+    let kept = shown(alloc, devices.keeper.file().unwrap_or(&[]))?;
+    let is_kept = kept.as_slice() == shows(alloc, text)?.as_slice();
+    Ok(status == *due && is_kept && devices.wrote(output, fault_line(*due)))
+}
+
+/// Whether all rows go as they have to over the file after `hello`.
+fn all_stores_fail(alloc: Global) -> Result<(), Fail> {
+    let file = bytes(alloc, TYPED)?;
+    all_go(STORE_FAULTS, |row| store_fails(alloc, &file, row))
+}
+
+#[test]
+fn stores_fail(rt: HostRuntime) -> Result<(), Fail> {
+    all_stores_fail(rt.alloc())
+}
 
 /// The line on errors for the status of a device that failed.
 fn fault_line(status: u8) -> &'static [u8] {
