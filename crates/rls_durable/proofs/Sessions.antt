@@ -1,12 +1,12 @@
 -- What a stop leaves of the disk, from the stores of a session.
-use Rattle.std.proofs.Common.{◌≡◌, ◌≢◌, ◌∙◌, ◌⊎◌, ◌<◌, ◌≤◌, ◌++◌, ⊎_elim, inl, inr, ℕ, Bool, true, false, List, [], ◌∷◌, length, Option, Some, None, IfSome, refl, sym, subst, arith, length-append}
+use Rattle.std.proofs.Common.{◌≡◌, ◌≢◌, ◌∙◌, ◌⊎◌, ◌<◌, ⊎_elim, inl, inr, ℕ, Bool, true, false, List, [], ◌∷◌, length, Option, Some, None, IfSome, refl, sym, subst, arith}
 use Rattle.rls_ident.specs.Lists.{IsIn}
 use Rattle.rls_ident.proofs.Members.{in_left, in_right}
 use Rattle.rls_journal.specs.Areas.{Areas, kept}
 use Rattle.rls_journal.specs.Disk.{LeavesOnly}
 use Rattle.rls_journal.specs.Keeper.{IsAtRest, IsOldOrNew, LoadGives, StoreGives}
 use Rattle.rls_journal.specs.Slots.{HasStored}
-use Rattle.rls_session.specs.Calls.{AreAllFilesOf, AreDue, Calls, CallsNothing, FailsOnce, FailsToLoad, IsFileOf, IsLastDue, IsLastFileOf, IsLastOf, Loads, IsStatusAfter, Stores, StoresEach, and_failed, no_stores, tried}
+use Rattle.rls_session.specs.Calls.{AreAllFilesOf, AreDue, Calls, CallsNothing, FailsOnce, FailsToLoad, IsFileOf, IsLastDue, IsLastOf, Loads, IsStatusAfter, Stores, StoresEach, and_failed, no_stores, tried}
 use Rattle.rls_session.specs.Due.{Due}
 use Rattle.rls_durable.specs.Stops.{HasDue, IsOld, IsOldOrOneOf, LeavesInTurn, LeavesOldOrStores}
 use Rattle.rls_durable.proofs.Survived.{at_some, loaded_only, stored_rest, to_some, uncalled_only}

@@ -64,7 +64,7 @@ module _ {K : Type 0} (load : K → Bool → K → Type 0) (store : K → List �
       at_status (Err f) s called.0
       (subst (λ (files : List (List ℕ)). Stays (file_after files old.file) new.file) (sym called.1) (stays_so old.file new.file kept)) (λ none. subst (λ (files : List (List ℕ)). Keeps (file_after files old.file) new.file) (sym called.1) kept)
       (subst (λ (t : Option (List ℕ)). IfSome (due old.file old.left) (λ ds. Leaves (Err f) ds old.file new.file old.told t)) (sym told)
-      (subst (λ (g : Failure). IfSome (due old.file old.left) (λ ds. Leaves (Err g) ds old.file new.file old.told old.told)) (sym is) (open_leaves old.file old.left e new.file old.told opened)))
+      (subst (λ (g : Failure). IfSome (due old.file old.left) (λ ds. Leaves (Err g) ds old.file new.file old.told old.told)) (sym is) (open_leaves old.file old.left e new.file old.told opened kept)))
       tt
       (λ h. keeper (failed.0 h)) (λ other. uncounted (λ same. other (ap (λ (g : Failure). Err g) (is ∙ ap of_open same))))
       (λ h. absurd (failed.1 h)) (λ h. absurd (failed.2 h)) (subst (λ (g : Failure). IsSessionsOwn (Err g)) (sym is) (opened_own e errors))

@@ -19,8 +19,8 @@ use Rattle.rls_stages.specs.declared.errors.WorkError.{WorkError}
 use Rattle.rls_stages.specs.declared.errors.WorkError.TheVariants as work
 use Rattle.rls_stages.specs.Endings.{IsFault, IsPart, Writes}
 use Rattle.rls_stages.specs.Errors.{GivesError, IsOfFile, IsOpenError, of_open, of_work}
-use Rattle.rls_stages.specs.KeptFile.{IsReadBack, IsUsable, bytes_over, loaded, replica_in, saved}
-use Rattle.rls_stages.proofs.Kept.{keeps_on}
+use Rattle.rls_stages.specs.KeptFile.{IsReadBack, IsUsable, Stays, bytes_over, loaded, replica_in, saved}
+use Rattle.rls_stages.proofs.Kept.{keeps_on, stays_on, stays_so}
 use Rattle.rls_stages.proofs.Statuses.{apart, failure_at_7, failure_at_8, failure_at_9, failure_line_told, not_error, not_failure}
 use Rattle.rls_session.specs.declared.answering.AnswerError.{AnswerError}
 use Rattle.rls_session.specs.declared.answering.AnswerError.TheVariants.{SourceFault, SinkFault, TooLarge, OutOfMemory}
@@ -85,15 +85,15 @@ ending_long c h = let test : ltb INPUT_BYTES c.used ≡ true = grind (arith, nat
 
 -- the session ended before the file was to be stored
 pub answer_leaves : (e : AnswerError) (c : Course (Sitting Seen)) (file : Option (Option (List ℕ))) (old new : Option (List ℕ)) → (e ≡ TooLarge → INPUT_BYTES < c.used) → (e ≡ SinkFault → IsCutShort old new c.replies) → IsPart old new c.replies → LeavesIn (Err (of_answer e)) (due_of c) file file old new
-answer_leaves SourceFault c file old new long cut part = (tt, part)
+answer_leaves SourceFault c file old new long cut part = (tt, part, stays_so file file (keeps_same file))
 answer_leaves SinkFault c file old new long cut part = inl (keeps_same file, cut refl)
-answer_leaves TooLarge c file old new long cut part = (ending_long c (long refl), part)
-answer_leaves OutOfMemory c file old new long cut part = (tt, part)
+answer_leaves TooLarge c file old new long cut part = (ending_long c (long refl), part, stays_so file file (keeps_same file))
+answer_leaves OutOfMemory c file old new long cut part = (tt, part, stays_so file file (keeps_same file))
 
 -- the file was to be stored
 pub save_leaves : (r : Result (Unit {0}) Failure) (c : Course (Sitting Seen)) (s : Seen) (file new_file : Option (Option (List ℕ))) (old mid new : Option (List ℕ)) → (c.state).state ≡ s → c.used ≤ INPUT_BYTES → Appends old mid c.replies
-    → r ≢ Err (Fault Source) → Saves r (saved s) file new_file mid new → LeavesIn r (due_of c) file new_file old new
-save_leaves r c s file new_file old mid new at within wrote inner saves = go r inner saves
+    → r ≢ Err (Fault Source) → Saves r (saved s) file new_file mid new → IfErr r (λ f. f ≢ Fault Sink → Keeps new_file file) → LeavesIn r (due_of c) file new_file old new
+save_leaves r c s file new_file old mid new at within wrote inner saves keeps = go r inner saves keeps
   where
     ending : (due_of c).ending ≡ saved s
     ending = ending_is c within ∙ ap saved at
@@ -107,14 +107,17 @@ save_leaves r c s file new_file old mid new at within wrote inner saves = go r i
     part : new ≡ mid → IsPart old new c.replies
     part same = part_all old new c.replies (subst (λ (m : Option (List ℕ)). Appends old m c.replies) (sym same) wrote)
 
-    go : (r : Result (Unit {0}) Failure) → r ≢ Err (Fault Source) → Saves r (saved s) file new_file mid new → LeavesIn r (due_of c) file new_file old new
-    go (Ok u) inner h = (kept h.0, appends_more old mid new c.replies saved_text wrote h.1)
-    go (Err (Fault Sink)) inner h = inr (kept h.0, (h.1.0, h.1.1, appends_more old mid new c.replies (take h.1.0 saved_text) wrote h.1.2))
-    go (Err NoCommand) inner h = absurd h.0
-    go (Err (Command e)) inner h = (same_end (Command e) h.0, part h.1)
-    go (Err (Fault Keeper)) inner h = (tt, part h.1)
-    go (Err (Fault Source)) inner h = (tt, part h.1)
-    go (Err (Fault Memory)) inner h = (tt, part h.1)
+    stay : Keeps new_file file → Stays file new_file
+    stay k = stays_on file file new_file (keeps_same file) k
+
+    go : (r : Result (Unit {0}) Failure) → r ≢ Err (Fault Source) → Saves r (saved s) file new_file mid new → IfErr r (λ f. f ≢ Fault Sink → Keeps new_file file) → LeavesIn r (due_of c) file new_file old new
+    go (Ok u) inner h k = (kept h.0, appends_more old mid new c.replies saved_text wrote h.1)
+    go (Err (Fault Sink)) inner h k = inr (kept h.0, (h.1.0, h.1.1, appends_more old mid new c.replies (take h.1.0 saved_text) wrote h.1.2))
+    go (Err NoCommand) inner h k = absurd h.0
+    go (Err (Command e)) inner h k = (same_end (Command e) h.0, part h.1, stay (k (λ e. cc)))
+    go (Err (Fault Keeper)) inner h k = (tt, part h.1, stay (k (λ e. cc)))
+    go (Err (Fault Source)) inner h k = (tt, part h.1, stay (k (λ e. cc)))
+    go (Err (Fault Memory)) inner h k = (tt, part h.1, stay (k (λ e. cc)))
 
 -- ---- the kept file
 
@@ -137,11 +140,11 @@ for_each (Some (Err e)) left P f = f (stops e) []
 
 -- the file can't be used
 pub open_leaves : (file : Option (Option (List ℕ))) (left : Option (List ℕ)) (e : OpenError) (new_file : Option (Option (List ℕ))) (old : Option (List ℕ)) → IfSome file (λ kept. GivesError (of_open e) (replica_in (loaded kept)))
-    → IfSome (due file left) (λ ds. Leaves (Err (of_open e)) ds file new_file old old)
-open_leaves None left e new_file old h = tt
-open_leaves (Some kept) left (opening.Command e) new_file old h = rw h (refl, part_none old [])
-open_leaves (Some kept) left opening.KeeperFault new_file old h = for_each (Some (replica_in (loaded kept))) left _ (λ d ds. leaves_first (Fault Keeper) d ds (Some kept) new_file old old (tt, part_none old d.replies))
-open_leaves (Some kept) left opening.OutOfMemory new_file old h = for_each (Some (replica_in (loaded kept))) left _ (λ d ds. leaves_first (Fault Memory) d ds (Some kept) new_file old old (tt, part_none old d.replies))
+    → Keeps file new_file → IfSome (due file left) (λ ds. Leaves (Err (of_open e)) ds file new_file old old)
+open_leaves None left e new_file old h k = tt
+open_leaves (Some kept) left (opening.Command e) new_file old h k = rw h (refl, part_none old [], stays_so (Some kept) new_file k)
+open_leaves (Some kept) left opening.KeeperFault new_file old h k = for_each (Some (replica_in (loaded kept))) left _ (λ d ds. leaves_first (Fault Keeper) d ds (Some kept) new_file old old (tt, part_none old d.replies, stays_so (Some kept) new_file k))
+open_leaves (Some kept) left opening.OutOfMemory new_file old h k = for_each (Some (replica_in (loaded kept))) left _ (λ d ds. leaves_first (Fault Memory) d ds (Some kept) new_file old old (tt, part_none old d.replies, stays_so (Some kept) new_file k))
 
 -- it was used
 kept_from : (r : Result Seen CommandError) (old_file file new_file : Option (Option (List ℕ))) → Keeps old_file file → IsKept r file new_file → IsKept r old_file new_file
@@ -152,6 +155,10 @@ kept_from (Ok s) old_file file new_file same k = (stored old_file same, k.1)
     stored (Some x) e = subst (λ (f : Option (Option (List ℕ))). Stores f new_file (bytes_over s)) e k.0
 kept_from (Err e) old_file file new_file same k = absurd k
 
+stays_from : (old_file file new_file : Option (Option (List ℕ))) → Keeps old_file file → Stays file new_file → Stays old_file new_file
+stays_from None file new_file same k = tt
+stays_from (Some x) file new_file same k = subst (λ (f : Option (Option (List ℕ))). Stays f new_file) same k
+
 leaves_from : (r : Result (Unit {0}) Failure) (d : Due) (old_file file new_file : Option (Option (List ℕ))) (old new : Option (List ℕ)) → Keeps old_file file → LeavesIn r d file new_file old new → LeavesIn r d old_file new_file old new
 leaves_from r d old_file file new_file old new same h = go r h
   where
@@ -159,14 +166,17 @@ leaves_from r d old_file file new_file old new same h = go r h
     fails (inl k) = inl (keeps_on old_file file new_file same k.0, k.1)
     fails (inr k) = inr (kept_from d.ending old_file file new_file same k.0, k.1)
 
+    stay : Stays file new_file → Stays old_file new_file
+    stay k = stays_from old_file file new_file same k
+
     go : (r : Result (Unit {0}) Failure) → LeavesIn r d file new_file old new → LeavesIn r d old_file new_file old new
     go (Ok u) h = (kept_from d.ending old_file file new_file same h.0, h.1)
     go (Err (Fault Sink)) h = fails h
     go (Err NoCommand) h = absurd h.0
-    go (Err (Command e)) h = h
-    go (Err (Fault Keeper)) h = h
-    go (Err (Fault Source)) h = h
-    go (Err (Fault Memory)) h = h
+    go (Err (Command e)) h = (h.0, h.1, stay h.2)
+    go (Err (Fault Keeper)) h = (h.0, h.1, stay h.2)
+    go (Err (Fault Source)) h = (h.0, h.1, stay h.2)
+    go (Err (Fault Memory)) h = (h.0, h.1, stay h.2)
 
 all_from : (r : Result (Unit {0}) Failure) (ds : List Due) (old_file file new_file : Option (Option (List ℕ))) (old new : Option (List ℕ)) → Keeps old_file file → Leaves r ds file new_file old new → Leaves r ds old_file new_file old new
 all_from r [] old_file file new_file old new same h = absurd h
@@ -280,8 +290,9 @@ told_by_replies d file new_file None new h = tt
 told_by_replies d file new_file (Some output) new (inl h) = (λ all. absurd (cut_lacks output d.replies new h.1 all), λ lacks. h.0)
 told_by_replies d file new_file (Some output) new (inr h) = (λ all. h.0, λ lacks. absurd (lacks (take h.1.0 saved_text, h.1.2)))
 
-ends_before : (d : Due) (n m : ℕ) (file new_file : Option (Option (List ℕ))) (old new : Option (List ℕ)) → n ≡ m → eqb m 0 ≡ false → eqb m 9 ≡ false → (n ≡ ending_status d.ending) ⊎ IsFault n → IsPart old new d.replies → EndsIn d n file new_file old new
-ends_before d n m file new_file old new s none other status part = record {
+ends_before : (d : Due) (n m : ℕ) (file new_file : Option (Option (List ℕ))) (old new : Option (List ℕ)) → n ≡ m → eqb m 0 ≡ false → eqb m 9 ≡ false → (n ≡ ending_status d.ending) ⊎ IsFault n → IsPart old new d.replies → Stays file new_file → EndsIn d n file new_file old new
+ends_before d n m file new_file old new s none other status part stays = record {
+  stays = λ a b. stays;
   by_replies = λ h. apart n m 9 s h other;
   status = status;
   written = λ h. apart n m 0 s h none;
@@ -296,6 +307,7 @@ ends_so (Ok u) n d file new_file old new s h = record {
   written = λ e. h.1;
   stored = λ e. h.0;
   part = λ a b. absurd (a s);
+  stays = λ a b. absurd (a s);
   failing = λ e. apart n 0 9 s e refl;
   by_replies = λ e. apart n 0 9 s e refl;
 }
@@ -305,18 +317,20 @@ ends_so (Err (Command e)) n d file new_file old new (inl s) h = record {
   written = λ k. not_error e n 0 s k refl;
   stored = λ k. not_error e n 0 s k refl;
   part = λ a b. h.1;
+  stays = λ a b. h.2;
   failing = λ k. not_error e n 9 s k refl;
   by_replies = λ k. not_error e n 9 s k refl;
 }
-ends_so (Err (Command e)) n d file new_file old new (inr s) h = ends_before d n 10 file new_file old new s refl refl (inr (inr (inr (inr s)))) h.1
-ends_so (Err (Fault Keeper)) n d file new_file old new s h = ends_before d n 7 file new_file old new s refl refl (inr (inl s)) h.1
-ends_so (Err (Fault Source)) n d file new_file old new s h = ends_before d n 8 file new_file old new s refl refl (inr (inr (inl s))) h.1
-ends_so (Err (Fault Memory)) n d file new_file old new s h = ends_before d n 10 file new_file old new s refl refl (inr (inr (inr (inr s)))) h.1
+ends_so (Err (Command e)) n d file new_file old new (inr s) h = ends_before d n 10 file new_file old new s refl refl (inr (inr (inr (inr s)))) h.1 h.2
+ends_so (Err (Fault Keeper)) n d file new_file old new s h = ends_before d n 7 file new_file old new s refl refl (inr (inl s)) h.1 h.2
+ends_so (Err (Fault Source)) n d file new_file old new s h = ends_before d n 8 file new_file old new s refl refl (inr (inr (inl s))) h.1 h.2
+ends_so (Err (Fault Memory)) n d file new_file old new s h = ends_before d n 10 file new_file old new s refl refl (inr (inr (inr (inr s)))) h.1 h.2
 ends_so (Err (Fault Sink)) n d file new_file old new s h = record {
   status = inr (inr (inr (inl s)));
   written = λ e. apart n 9 0 s e refl;
   stored = λ e. apart n 9 0 s e refl;
   part = λ a b. absurd (b s);
+  stays = λ a b. absurd (b s);
   failing = λ e. h;
   by_replies = λ e. told_by_replies d file new_file old new h;
 }

@@ -236,7 +236,7 @@ save_ends {K} store d next come ended stores r s k l file new_file left new_left
     leave : (come : Option (List ℕ)) → IfSome come (λ given. IsDone (here d given) stores next old mid) → IfSome come (λ given. Leaves r (due_of (here d given) ∷ later_dues d given) file new_file old new)
     leave None h = tt
     leave (Some given) h =
-        let one = save_leaves r (here d given) s file new_file old mid new (ap (λ (x : Sitting Seen). x.state) h.state_is ∙ sym at) h.within h.written save.inner save.saves in
+        let one = save_leaves r (here d given) s file new_file old mid new (ap (λ (x : Sitting Seen). x.state) h.state_is ∙ sym at) h.within h.written save.inner save.saves save.stays in
         go r last one
       where
         go : (r : Result (Unit {0}) Failure) → OnOk r (stores ≡ false) → LeavesIn r (due_of (here d given)) file new_file old new → Leaves r (due_of (here d given) ∷ later_dues d given) file new_file old new

@@ -12,7 +12,7 @@ use Rattle.rls_report.specs.declared.failures.Failure.TheVariants.{NoCommand, Co
 use Rattle.rls_report.specs.declared.failures.Fault.TheVariants.{Sink}
 use Rattle.rls_stages.specs.Endings.{EndsWith, IsFailureStatus, IsFault, IsPart, failure_line_at}
 use Rattle.rls_stages.specs.Errors.{IsOfFile}
-use Rattle.rls_stages.specs.KeptFile.{IsFileFor, IsReadBack, StandsIn, bytes_over}
+use Rattle.rls_stages.specs.KeptFile.{IsFileFor, IsReadBack, StandsIn, Stays, bytes_over}
 use Rattle.rls_session.specs.Answering.{IsNear, IsPrompt}
 use Rattle.rls_session.specs.Answers.{Sitting}
 use Rattle.rls_session.specs.Courses.{Course, replies_in, used_in}
@@ -61,11 +61,11 @@ HasAllOf output new bytes = (more : List ℕ) × (new ≡ Some (output ++ (bytes
 abbrev pub ByReplies : List ℕ → Option (List ℕ) → Option (List ℕ) → Type 0 → Type 0 → Type 0
 ByReplies replies old new Stored Unstored = IfSome old (λ output. (HasAllOf output new replies → Stored) × ((HasAllOf output new replies → ⊥) → Unstored))
 
--- all is written and stored; or the output failed; or the session ended before
+-- all is written and stored; or the output failed; or the session ended before, and the file is as it was, where it is told
 abbrev pub LeavesIn : Result (Unit {0}) Failure → Due → Option (Option (List ℕ)) → Option (Option (List ℕ)) → Option (List ℕ) → Option (List ℕ) → Type 0
 LeavesIn (Ok u) d file new_file old new = IsKept d.ending file new_file × Appends old new (d.replies ++ saved_text)
 LeavesIn (Err (Fault Sink)) d file new_file old new = FailsAt d file new_file old new
-LeavesIn (Err f) d file new_file old new = EndsAs f d.ending × IsPart old new d.replies
+LeavesIn (Err f) d file new_file old new = EndsAs f d.ending × IsPart old new d.replies × Stays file new_file
 
 -- what is called for up to a store is done
 pub record IsDoneTo (d : Due) (file new_file : Option (Option (List ℕ))) (old new : Option (List ℕ)) : Type 0 where
@@ -90,8 +90,9 @@ pub record EndsIn (d : Due) (n : ℕ) (file new_file : Option (Option (List ℕ)
   -- all replies, and `saved`, and the file of the replica after them
   pub written : n ≡ 0 → Appends old new (d.replies ++ saved_text)
   pub stored : n ≡ 0 → IsKept d.ending file new_file
-  -- a part of the replies, from the front, unless the output failed
+  -- a part of the replies, from the front, and the file as it was, unless the output failed
   pub part : n ≢ 0 → n ≢ 9 → IsPart old new d.replies
+  pub stays : n ≢ 0 → n ≢ 9 → Stays file new_file
   pub failing : n ≡ 9 → FailsAt d file new_file old new
   -- so then the file is stored if all replies are in the output, and is as before if not
   pub by_replies : n ≡ 9 → ByReplies d.replies old new (IsKept d.ending file new_file) (Keeps file new_file)

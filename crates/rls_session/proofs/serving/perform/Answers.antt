@@ -37,7 +37,7 @@ returns-in-Err-clause-line g c = λ n s.
     let new = g.K.Keeper.file c.«open».new.keeper in
     let out = g.W.Sink.told c.args.output.now in
     line_so (λ (line : List ℕ). line ≡ line_of (Err c.from.result) n) (due file left) (Err c.from.result) n file new out out s
-    (subst (λ (f : Failure). IfSome (due file left) (λ ds. Leaves (Err f) ds file new out out)) (sym c.from.ensures) (open_leaves file left c.in-Err.error new out c.in-Err.ensures.opened)) refl
+    (subst (λ (f : Failure). IfSome (due file left) (λ ds. Leaves (Err f) ds file new out out)) (sym c.from.ensures) (open_leaves file left c.in-Err.error new out c.in-Err.ensures.opened c.in-Err.ensures.kept)) refl
 
 pub returns-in-Ok-clause-line : goal.returns-in-Ok-clause-line
 returns-in-Ok-clause-line g c = λ n s.
