@@ -3,7 +3,7 @@ use Rattle.std.proofs.Common.{◌≡◌, ◌∙◌, ◌+◌, ◌-◌, ℕ, zero,
 use Rattle.std.proofs.lemmas.List.{append-nil}
 use Rattle.rls_ident.specs.Lists.{IsIn}
 use Rattle.rls_ident.proofs.Members.{in_left, in_right, in_split}
-use Rattle.rls_session.specs.declared.orders.Order.TheVariants.{Quit}
+use Rattle.rls_session.specs.declared.orders.Order.TheVariants.{Quit, Store}
 use Rattle.rls_session.specs.Courses.{Course, after, course_from, go_on, holds_from, holds_on}
 use Rattle.rls_session.specs.Requests.{Request, Does, Takes, cut}
 use Rattle.rls_session.proofs.Courses.{Answers}
@@ -66,5 +66,6 @@ module _ {S T M A : Type 0} (answer : Answers S) (other : Answers T) (gather : S
               Goes (go_on answer s r size (λ u. course_from answer (size - 1) u bytes)) (go_on other t r size (λ u. course_from other (size - 1) u bytes)) (holds_on answer P s r (λ u. holds_from answer P (size - 1) u bytes))
               (λ v. holds_on other (Q v) t r (λ u. holds_from other (Q v) (size - 1) u bytes)) (gathered_on answer gather s r (λ u. gathered_from answer gather (size - 1) u bytes)) t out
           go (Does Quit) size f g rest = record { more = []; replies = refl; used = refl; states = stays s t out i; later = same s t out i; clean = tt; meant = tt; told = λ a p. absurd p }
+          go (Does Store) size f g rest = record { more = []; replies = refl; used = refl; states = stays s t out i; later = same s t out i; clean = tt; meant = tt; told = λ a p. absurd p }
           go (Does order) size f g rest = let k = step s t out (Does order) f g.0 i in joined s t out (Does order) size _ _ _ _ _ k (rest _ _ _ g.1 k.next)
           go (Takes message) size f g rest = let k = step s t out (Takes message) f g.0 i in joined s t out (Takes message) size _ _ _ _ _ k (rest _ _ _ g.1 k.next)

@@ -1,6 +1,6 @@
 -- What the clauses of commands and sessions say of a run in a group.
 use Rattle.std.proofs.Common.{◌≡◌, ◌∙◌, ◌<◌, ◌≢◌, ◌++◌, ℕ, Bool, true, false, List, [], ◌∷◌, length, Option, Some, None, IfSome, Result, Ok, Err, refl, sym, ap, subst, inl, inr, ⊎_elim}
-use Rattle.std.specs.Prelude.{slice_get}
+use Rattle.std.specs.Prelude.{IfOk, IsFalse, map, slice_get}
 use Rattle.rls_ident.specs.Lists.{IsIn}
 use Rattle.rls_ident.proofs.Members.{in_right, some_is}
 use Rattle.rls_io.specs.Device.{Appends}
@@ -10,7 +10,7 @@ use Rattle.rls_model.proofs.OnePlace.{get_set_same}
 use Rattle.rls_world.proofs.Stepping.{place_of}
 use Rattle.rls_seen.specs.Seen.{Seen}
 use Rattle.rls_report.specs.declared.failures.CommandError.{CommandError}
-use Rattle.rls_stages.specs.KeptFile.{Stays, bytes_over, loaded, replica_in}
+use Rattle.rls_stages.specs.KeptFile.{bytes_over, loaded, replica_in}
 use Rattle.rls_top.specs.declared.words.Command.{Command}
 use Rattle.rls_top.specs.declared.words.Command.TheVariants.{New, OnFile, Trial}
 use Rattle.rls_top.specs.declared.words.FileCommand.{FileCommand}
@@ -20,18 +20,20 @@ use Rattle.rls_top.specs.Due.{Due, Makes, NoCommand, Stops, due, due_at, due_of_
 use Rattle.rls_top.specs.Endings.{IsKept, IsWritten}
 use Rattle.rls_top.specs.Groups.{Group, due_of, files_with, messages_of}
 use Rattle.rls_top.specs.Words.{command_of}
-use Rattle.rls_session.specs.Calls.{AreDue, AreFilesOf, IsFileOf}
+use Rattle.rls_session.specs.Answers.{Sitting, answer, resumed, sitting_at}
+use Rattle.rls_session.specs.Calls.{AreDue, AreFilesOf, IsFileOf, tried}
+use Rattle.rls_session.specs.Courses.{Course}
 use Rattle.rls_session.specs.Due as session
 use Rattle.rls_session.specs.Endings.{Ends, EndsIn, FailsAt}
 use Rattle.rls_session.specs.Endings as endings
 use Rattle.rls_session.specs.Replies.{saved_text}
-use Rattle.rls_session.specs.Serving.{file_after as stores_after}
-use Rattle.rls_session.proofs.Closing.{none_stored}
+use Rattle.rls_session.specs.Sessions.{by_parts}
+use Rattle.rls_session.proofs.Courses.{courses_end}
 use Rattle.rls_durable.specs.Stops.{IsOld, IsOldOrOneOf, LeavesOldOrDue}
 use Rattle.rls_journal.specs.Keeper.{IsOldOrNew}
 use Rattle.rls_groups.specs.Events as events
-use Rattle.rls_groups.specs.Events.{Commands, Deed, Sits, empty_desk, printed_of, replica_at, saved_of, session_due, stored_of}
-use Rattle.rls_groups.specs.Runs.{CommandsLeave, IsLeft, SessionsLeave, StopsLeave, file_after, file_at}
+use Rattle.rls_groups.specs.Events.{Commands, Deed, Sits, empty_desk, printed_of, replica_at, saved_of, session_at, session_due, stored_of}
+use Rattle.rls_groups.specs.Runs.{CommandsLeave, IsLeft, SessionsLeave, StopsLeave, StoresAtEnd, file_after, file_at}
 
 -- ---- the file of a member
 
@@ -90,39 +92,35 @@ commands_leave g i words input n l =
 
 -- ---- sessions
 
--- what a session calls for, as the group says it
-session_told : (r : Result Seen CommandError) (input : List ℕ) → session.due_on (Some r) (Some input) ≡ Some (events.due_on r empty_desk input ∷ [])
-session_told (Ok s) input = refl
-session_told (Err e) input = refl
+-- what a session calls for that stores at its end alone, as the group says it
+session_told : (r : Result Seen CommandError) (input : List ℕ) → IfOk r (λ s. IsFalse (session_at by_parts s empty_desk input).stores) → session.due_on (Some r) (Some input) ≡ Some (events.due_on r empty_desk input ∷ [])
+session_told (Ok s) input h = ap (λ (cs : List (Course (Sitting Seen))). Some (map session.due_of cs)) (courses_end (answer by_parts) (resumed by_parts) (sitting_at s) input h)
+session_told (Err e) input h = refl
 
 session_kept : (g : Group) (i : ℕ) (now : Option (List ℕ)) (r : Result Seen CommandError) → i < length g.files → endings.IsKept r (Some (file_at g i)) (Some now) → now ≡ slice_get (files_with g.files i (saved_of r)) i
 session_kept g i now (Ok s) l k = some_is now (Some (bytes_over s)) k.0 ∙ sym (set_there g i s l)
 session_kept g i now (Err e) l k = absurd k
 
-sessions_left : (g : Group) (i : ℕ) (input : List ℕ) (n : ℕ) (now : Option (List ℕ)) (old new : Option (List ℕ)) → i < length g.files → let file = Some (file_at g i) in let deed = Sits empty_desk input in
-    IfSome (session.due file (Some input)) (λ ds. Ends ds n file (Some now) old new) → (n ≡ 0 → (now ≡ file_after true g i deed) × Appends old new ((session_due g i empty_desk input).replies ++ saved_text)) × (n ≡ 9 → IsLeft g i deed now)
-sessions_left g i input n now old new l told = (λ e. (session_kept g i now d.ending l (ends.stored e), ends.written e), λ e. failed (ends.failing e))
+sessions_left : (g : Group) (i : ℕ) (input : List ℕ) (n : ℕ) (now : Option (List ℕ)) (old new : Option (List ℕ)) → i < length g.files → StoresAtEnd g i input → let file = Some (file_at g i) in let deed = Sits empty_desk input in
+    IfSome (session.due file (Some input)) (λ ds. Ends ds n file (Some now) old new) → (n ≡ 0 → (now ≡ file_after true g i deed) × Appends old new ((session_due g i empty_desk input).replies ++ saved_text)) × (n ≡ 9 → IsLeft g i deed now) × (n ≢ 0 → n ≢ 9 → now ≡ file_at g i)
+sessions_left g i input n now old new l at_end told = (λ e. (session_kept g i now d.ending l (ends.stored e), ends.written e), λ e. failed (ends.failing e), ends.stays)
   where
     d : session.Due
     d = session_due g i empty_desk input
 
     ends : EndsIn d n (Some (file_at g i)) (Some now) old new
-    ends = subst (λ (o : Option (List session.Due)). IfSome o (λ ds. Ends ds n (Some (file_at g i)) (Some now) old new)) (session_told (replica_at g i) input) told
+    ends = subst (λ (o : Option (List session.Due)). IfSome o (λ ds. Ends ds n (Some (file_at g i)) (Some now) old new)) (session_told (replica_at g i) input at_end) told
 
     failed : FailsAt d (Some (file_at g i)) (Some now) old new → IsLeft g i (Sits empty_desk input) now
     failed (inl k) = (false, some_is now (file_at g i) k.0)
     failed (inr k) = (true, session_kept g i now d.ending l k.0)
 
 pub sessions_leave : {K : Type 0} (S W : Type 0) (load : K → Bool → K → Type 0) (store : K → List ℕ → Bool → K → Type 0) → SessionsLeave S W load store
-sessions_leave S W load store g i input n now keeper_old keeper_new input_old input_new output_old output_new old new l h before given after =
-    let told = subst (λ (f : Option (Option (List ℕ))). IfSome (session.due (Some (file_at g i)) (Some input)) (λ ds. Ends ds n (Some (file_at g i)) f old.told new.told)) after
+sessions_leave S W load store g i input n now keeper_old keeper_new input_old input_new output_old output_new old new l at_end h before given after =
+    sessions_left g i input n now old.told new.told l at_end
+    (subst (λ (f : Option (Option (List ℕ))). IfSome (session.due (Some (file_at g i)) (Some input)) (λ ds. Ends ds n (Some (file_at g i)) f old.told new.told)) after
     (subst (λ (x : Option (List ℕ)). IfSome (session.due (Some (file_at g i)) x) (λ ds. Ends ds n (Some (file_at g i)) new.file old.told new.told)) given
-    (subst (λ (f : Option (Option (List ℕ))). IfSome (session.due f old.left) (λ ds. Ends ds n f new.file old.told new.told)) before h.ends)) in
-    let left = sessions_left g i input n now old.told new.told l told in
-    (left.0, left.1, λ zero nine. stays (subst (λ (files : List (List ℕ)). Stays (stores_after files old.file) new.file) (none_stored h.stores n h.at_end zero nine) (h.stays zero nine)))
-  where
-    stays : Stays old.file new.file → now ≡ file_at g i
-    stays k = subst (λ (f : Option (Option (List ℕ))). Stays (Some (file_at g i)) f) after (subst (λ (f : Option (Option (List ℕ))). Stays f new.file) before k)
+    (subst (λ (f : Option (Option (List ℕ))). IfSome (session.due f old.left) (λ ds. Ends ds n f new.file old.told new.told)) before h.ends)))
 
 -- ---- stops
 
@@ -141,8 +139,8 @@ module _ {D : Type 0} (moment : D → ℕ) (left_since : D → ℕ → Areas →
   pub stops_leave : StopsLeave moment left_since
   stops_leave g i input old new l = (
     λ words stores k. by_deed g i (Commands words input) stores (commands.IsDueOf (due words (Some (file_at g i)) (Some input))) old new (λ bytes p. of_command words bytes p) k,
-    λ k. only old new (IsOldOrOneOf (file_at g i) k.files) (λ c. IsLeft g i (Sits empty_desk input) (kept c))
-        (λ c p. ⊎_elim (λ q. (false, q)) (λ q. (true, q.2 ∙ of_session q.0 d.ending (one_file d k.files q.0 (subst (λ (o : Option (List session.Due)). AreDue o k.files) (session_told (replica_at g i) input) k.due) q.1))) p) k.leaves,
+    λ at_end k. only old new (IsOldOrOneOf (file_at g i) (tried k.stores)) (λ c. IsLeft g i (Sits empty_desk input) (kept c))
+        (λ c p. ⊎_elim (λ q. (false, q)) (λ q. (true, q.2 ∙ of_session q.0 d.ending (one_file d (tried k.stores) q.0 (subst (λ (o : Option (List session.Due)). AreDue o (tried k.stores)) (session_told (replica_at g i) input at_end) k.due) q.1))) p) k.leaves,
   )
     where
       of_file : (bytes : List ℕ) (d : Due) → commands.IsDueFile d bytes → Some bytes ≡ slice_get (files_with g.files i (stored_of (Some d))) i

@@ -17,7 +17,7 @@ use Rattle.rls_top.specs.declared.words.FileCommand.TheVariants.{Take}
 use Rattle.rls_top.specs.Due.{Due}
 use Rattle.rls_top.specs.Groups.{Group, due_of, files_with, messages_in, stored_in}
 use Rattle.rls_top.specs.Words.{command_of}
-use Rattle.rls_session.specs.declared.orders.Order.TheVariants.{Quit, Send}
+use Rattle.rls_session.specs.declared.orders.Order.TheVariants.{Quit, Send, Store}
 use Rattle.rls_session.specs.Answers.{Kind, Sitting, answer}
 use Rattle.rls_session.specs.Courses.{Answered, Course, course, holds}
 use Rattle.rls_session.specs.Desks.{IsWhole, sitting_of}
@@ -40,7 +40,7 @@ empty_desk = record { entries = []; cursor = Beginning }
 abbrev pub at_desk : {X : Type 0} → X → Desk → Sitting X
 at_desk s desk = record { state = s; entries = desk.entries; cursor = desk.cursor }
 
--- the session from this state and desk over this input
+-- the session from this state and desk over this input, up to its next store
 abbrev pub session_at : {X : Type 0} → Kind X → X → Desk → List ℕ → Course (Sitting X)
 session_at K s desk input = course (answer K) (at_desk s desk) input
 
@@ -59,9 +59,10 @@ session_due g i desk input = due_on (replica_at g i) desk input
 
 -- ---- the messages of a session
 
--- what is gathered from the requests of an input, up to the order to quit, and the states before them
+-- what is gathered from the requests of an input, up to the next order to store or to quit, and the states before them
 abbrev pub gathered_on : {S A : Type 0} → (S → Request → Answered S) → (S → Request → List A) → S → Request → (S → List A) → List A
 gathered_on answer f s (Does Quit) rest = []
+gathered_on answer f s (Does Store) rest = []
 gathered_on answer f s request rest = f s request ++ rest (answer s request).state
 
 abbrev pub gathered_from : {S A : Type 0} → (S → Request → Answered S) → (S → Request → List A) → ℕ → S → List ℕ → List A

@@ -5,7 +5,8 @@ use Rattle.rls_model.specs.History.{count}
 use Rattle.rls_model.specs.Receiving.{State}
 use Rattle.rls_model.specs.Taking.{Progress, message_for, take_message}
 use Rattle.rls_top.specs.Headline.{new_state}
-use Rattle.rls_session.specs.Sessions.{session_in}
+use Rattle.rls_session.specs.Sessions.{by_history}
+use Rattle.rls_groups.specs.Events.{empty_desk, session_at}
 
 -- the members at first
 abbrev pub first : State
@@ -16,7 +17,7 @@ second = new_state 7 1 2
 
 -- the state that a session over this input stores, if it comes so far
 abbrev pub after : State → List ℕ → State
-after t input = ((session_in t input).state).state
+after t input = ((session_at by_history t empty_desk input).state).state
 
 -- a message of one for the other is taken
 abbrev pub told : State → State → Progress

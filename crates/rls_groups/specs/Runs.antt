@@ -1,5 +1,5 @@
 -- What a run of the program leaves of its member's file, and what it prints, by the clauses of `run` and `serve`: it is an event of the group.
-use Rattle.std.specs.Prelude.{◌≡◌, ◌≢◌, ◌<◌, ◌++◌, ℕ, Bool, true, List, length, slice_get, Option, Some, IfSome}
+use Rattle.std.specs.Prelude.{◌≡◌, ◌≢◌, ◌<◌, ◌++◌, ℕ, Bool, true, List, length, slice_get, Option, Some, IfSome, IfOk, IsFalse}
 use Rattle.rls_ident.specs.Lists.{IsIn}
 use Rattle.rls_io.specs.Device.{Appends}
 use Rattle.rls_journal.specs.Areas.{Areas, kept}
@@ -16,8 +16,9 @@ use Rattle.rls_session.specs.Devices.{Devices}
 use Rattle.rls_session.specs.Due as session
 use Rattle.rls_session.specs.Replies.{saved_text}
 use Rattle.rls_session.specs.Serving.{SessionEnds}
+use Rattle.rls_session.specs.Sessions.{by_parts}
 use Rattle.rls_durable.specs.Stops.{LeavesOldOrDue, LeavesOldOrStores}
-use Rattle.rls_groups.specs.Events.{Commands, Deed, Sits, after_run, empty_desk, session_due}
+use Rattle.rls_groups.specs.Events.{Commands, Deed, Sits, after_run, empty_desk, replica_at, session_at, session_due}
 
 -- the member's file, as the group has it
 abbrev pub file_at : Group → ℕ → Option (List ℕ)
@@ -44,10 +45,14 @@ CommandsLeave = (g : Group) (i : ℕ) (words : List (List ℕ)) (input : List �
 
 -- ---- sessions
 
--- By the clause `ends` of `serve`: with status 0 the file that is kept is that of a session that is done, and all replies were written; with a 9 it is that or
+-- over the member's file this input has no order to store, so that a session stores at its end alone
+abbrev pub StoresAtEnd : Group → ℕ → List ℕ → Type 0
+StoresAtEnd g i input = IfOk (replica_at g i) (λ s. IsFalse (session_at by_parts s empty_desk input).stores)
+
+-- Of a session that stores at its end alone, by the clause `ends` of `serve`: with status 0 the file that is kept is that of a session that is done, and all replies were written; with a 9 it is that or
 -- the one from before; and with any other status it is the one from before, if the keeper tells it.
 abbrev pub SessionsLeave : {K : Type 0} → (S W : Type 0) → (K → Bool → K → Type 0) → (K → List ℕ → Bool → K → Type 0) → Type 0
-SessionsLeave {K} S W load store = (g : Group) (i : ℕ) (input : List ℕ) (n : ℕ) (now : Option (List ℕ)) (keeper_old keeper_new : K) (input_old input_new : S) (output_old output_new : W) (old new : Devices) → i < length g.files → let deed = Sits empty_desk input in
+SessionsLeave {K} S W load store = (g : Group) (i : ℕ) (input : List ℕ) (n : ℕ) (now : Option (List ℕ)) (keeper_old keeper_new : K) (input_old input_new : S) (output_old output_new : W) (old new : Devices) → i < length g.files → StoresAtEnd g i input → let deed = Sits empty_desk input in
     SessionEnds load store ((input_new ≡ input_old) × (output_new ≡ output_old)) n keeper_old keeper_new old new → old.file ≡ Some (file_at g i) → old.left ≡ Some input → new.file ≡ Some now →
     (n ≡ 0 → (now ≡ file_after true g i deed) × Appends old.told new.told ((session_due g i empty_desk input).replies ++ saved_text))
     × (n ≡ 9 → IsLeft g i deed now)
@@ -60,4 +65,4 @@ abbrev pub StopsLeave : {D : Type 0} → (D → ℕ) → (D → ℕ → Areas �
 StopsLeave {D} moment left_since = (g : Group) (i : ℕ) (input : List ℕ) (old new : D) → i < length g.files → let file = file_at g i in
     ((words : List (List ℕ)) (stores : Bool) → LeavesOldOrDue moment left_since stores (commands.IsDueOf (due words (Some file) (Some input))) file old new →
     LeavesOnly moment left_since old new (λ c. IsLeft g i (Commands words input) (kept c)))
-    × (LeavesOldOrStores moment left_since (session.due (Some file) (Some input)) file old new → LeavesOnly moment left_since old new (λ c. IsLeft g i (Sits empty_desk input) (kept c)))
+    × (StoresAtEnd g i input → LeavesOldOrStores moment left_since (session.due (Some file) (Some input)) file old new → LeavesOnly moment left_since old new (λ c. IsLeft g i (Sits empty_desk input) (kept c)))
