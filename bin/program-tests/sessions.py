@@ -1,9 +1,11 @@
 """Sessions through pipes: in pieces of 1, 7 and 4,096 bytes, ended at each byte, and with a peer that goes away. What is wanted is reckoned
 by a small model of docs/SESSION.md, which knows the text, the cursor and the session's own edits, and no identifiers."""
 import os
+import random
 import re
 import select
 import subprocess
+import time
 from forms import FRESH, HELLO, HELLO_MESSAGE, HELLO_OPERATION, at, fresh, ident, insertion, message, typed
 from room import KINDS, Result, kept, short
 
@@ -105,14 +107,14 @@ WAITS = message(7, 2, 1, (1, 3), [insertion(1, 3, (1, 2), typed(1, 1, 0), b"w")]
 
 # Requests, with the reply where the model has none, and what a message does to the text.
 LONG = [
-    (b"k 3", None, ""), (b"i 0 A", None, ""), (b"p", None, ""), (b"s 1", b"message %d\n" % len(SENT) + SENT, ""), (b"u", None, ""), (b"t", None, ""),
+    (b"k 3", None, ""), (b"i 0 A", None, ""), (b"w", b"saved", ""), (b"p", None, ""), (b"s 1", b"message %d\n" % len(SENT) + SENT, ""), (b"u", None, ""), (b"t", None, ""),
     (b"x", None, ""), (b"", None, ""), (b"p ", None, ""), (b"k 99", None, ""), (b"u", None, ""), (b"d 1 2", None, ""), (b"u", None, ""), (b"t", None, ""),
     ("i 5 \u00e9\\n\\\\".encode(), None, ""), (b"i 6 \\t", None, ""), (b"i 0 ", None, ""), (b"i 50 x", None, ""), (b"d 3 0", None, ""),
     (b"d 2 9", None, ""), (b"s 2", None, ""),
     (b"m %d\n" % len(THEIRS) + THEIRS, b"applied 1 released 0 repeated 0 held 0 refused 0", "\u00e9Z"),
     (b"m %d\n" % len(HELLO_MESSAGE) + HELLO_MESSAGE, b"applied 0 released 0 repeated 1 held 0 refused 0", ""),
-    (b"m %d\n" % len(WAITS) + WAITS, b"applied 0 released 0 repeated 0 held 1 refused 0", ""),
-    (b"m 3\nabc", b"no malformed at 0", ""), (b"m 0\n", b"no malformed at 0", ""), (b"r", None, ""), (b"t", None, ""), (b"i 0 last", None, ""),
+    (b"m %d\n" % len(WAITS) + WAITS, b"applied 0 released 0 repeated 0 held 1 refused 0", ""), (b"w", b"saved", ""), (b"w ", None, ""),
+    (b"m 3\nabc", b"no malformed at 0", ""), (b"m 0\n", b"no malformed at 0", ""), (b"r", None, ""), (b"w", b"saved", ""), (b"t", None, ""), (b"i 0 last", None, ""),
 ]
 EXAMPLE = [(line, None, "") for line in (b"k 3", b"i 0 A", b"p", b"u", b"t")]
 EXAMPLE_REPLIES = b"cursor 3\nok 2\ncursor 4\nundone 1 1\ntext 5\nhello\nsaved\n"
@@ -267,6 +269,41 @@ def edges(room):
         room.equal(kind + ": a text of no character", room.run(folder, ["session"], b"t\nq"), Result(0, b"text 0\n\nsaved\n", b""))
 
 
+def stored(room):
+    """What `w` stored is there after a kill, whenever it comes: the file of the last `saved`, or the one that was being stored."""
+    seeded = random.Random(42)
+    for kind in KINDS:
+        for turn in range(40):
+            folder = room.replica(kind, HELLO)
+            os.chdir(folder)
+            with subprocess.Popen([room.program, "session"], stdin=subprocess.PIPE, stdout=subprocess.PIPE, bufsize=0) as process:
+                stores = seeded.randrange(6)
+                for _ in range(stores):
+                    process.stdin.write(b"i 0 A\nw\n")
+                    process.stdout.readline()
+                    process.stdout.readline()
+                process.stdin.write(b"i 0 A\n" if turn % 2 else b"i 0 A\nw\n")
+                time.sleep(seeded.random() * 0.004)
+                process.kill()
+            most = stores if turn % 2 else stores + 1
+            found = room.text(folder)
+            room.check("%s: killed after %d stores, turn %d" % (kind, stores, turn), found[0] == 0 and found[1] in {b"A" * n + b"hello" for n in (stores, most)}, found)
+        # The numbers are those of `stat`, and a store leaves what the end leaves.
+        folder = room.replica(kind, HELLO)
+        numbers = room.run(folder, ["stat"], b"").out
+        room.equal(kind + ": the numbers", room.run(folder, ["session"], b"n\n"), Result(0, b"stat %d\n%s\nsaved\n" % (len(numbers), numbers), b""))
+        room.run(folder, ["session"], b"i 2 x\nr\nd 0 1\n")
+        at_end = kept(folder)
+        folder = room.replica(kind, HELLO)
+        os.chdir(folder)
+        with subprocess.Popen([room.program, "session"], stdin=subprocess.PIPE, stdout=subprocess.PIPE, bufsize=0) as process:
+            process.stdin.write(b"i 2 x\nr\nd 0 1\nw\n")
+            replies = [process.stdout.readline() for _ in range(4)]
+            at_store = kept(folder)
+            process.kill()
+        room.equal(kind + ": a store leaves what the end leaves", (replies, at_store), ([b"ok 2\n", b"ok 3\n", b"ok 4\n", b"saved\n"], at_end))
+
+
 def piped(room):
     """`edit` and `take` read a pipe to its end, in whatever pieces it comes, and a file from where it stands."""
     script = b"".join(b"i %d some words %d;\n" % (0, k) for k in range(400))
@@ -293,4 +330,4 @@ def piped(room):
             room.equal("%s: %s behind other input" % (kind, words[0]), (done.returncode, done.stdout, room.text(folder)), (0, report, (0, text, b"")))
 
 
-TESTS = [("piped", piped), ("session-pieces", pieces), ("session-ended", ended), ("session-edges", edges)]
+TESTS = [("piped", piped), ("session-pieces", pieces), ("session-ended", ended), ("session-edges", edges), ("session-stores", stored)]

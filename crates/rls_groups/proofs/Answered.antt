@@ -206,6 +206,14 @@ module _ (g n : ℕ) (G : Group) (w : World) (x : Matches g n G w) (i : ℕ) (s 
     unfolding answer
     order_step len = quiet (Does (orders.Take len)) (answer_alike d f (Does (orders.Take len)) tt b.alike) refl tt tt refl
 
+    stat_step : Stepped d f out (Does orders.Stat)
+    unfolding answer
+    stat_step = quiet (Does orders.Stat) (answer_alike d f (Does orders.Stat) tt b.alike) refl tt tt refl
+
+    store_step : Stepped d f out (Does orders.Store)
+    unfolding answer
+    store_step = quiet (Does orders.Store) (answer_alike d f (Does orders.Store) tt b.alike) refl tt tt refl
+
     quit_step : Stepped d f out (Does orders.Quit)
     unfolding answer
     quit_step = quiet (Does orders.Quit) (answer_alike d f (Does orders.Quit) tt b.alike) refl tt tt refl
@@ -322,6 +330,8 @@ module _ (g n : ℕ) (G : Group) (w : World) (x : Matches g n G w) (i : ℕ) (s 
     steps (Does orders.Text) ok given = text_step
     steps (Does (orders.Take len)) ok given = order_step len
     steps (Does (orders.Send to)) ok given = send_step to
+    steps (Does orders.Stat) ok given = stat_step
+    steps (Does orders.Store) ok given = store_step
     steps (Does orders.Quit) ok given = quit_step
     steps (Does orders.Bad) ok given = bad_step
     steps (Takes bytes) ok given = take_step bytes ok given

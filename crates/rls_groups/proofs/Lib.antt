@@ -10,4 +10,5 @@ mod Groups
 mod Ordered
 mod Law
 mod Runs
+mod Stores
 mod Premises

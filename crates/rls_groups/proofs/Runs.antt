@@ -37,7 +37,7 @@ use Rattle.rls_groups.specs.Runs.{CommandsLeave, IsLeft, SessionsLeave, StopsLea
 
 -- ---- the file of a member
 
-set_there : (g : Group) (i : ℕ) (bytes : Seen) → i < length g.files → slice_get (files_with g.files i (Some bytes)) i ≡ Some (bytes_over bytes)
+pub set_there : (g : Group) (i : ℕ) (bytes : Seen) → i < length g.files → slice_get (files_with g.files i (Some bytes)) i ≡ Some (bytes_over bytes)
 set_there g i s l = let p = place_of g.files i l in get_set_same g.files i p.0 (bytes_over s) p.1
 
 -- what is kept, by what is called for

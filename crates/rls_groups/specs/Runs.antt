@@ -1,10 +1,12 @@
 -- What a run of the program leaves of its member's file, and what it prints, by the clauses of `run` and `serve`: it is an event of the group.
-use Rattle.std.specs.Prelude.{◌≡◌, ◌≢◌, ◌<◌, ◌++◌, ℕ, Bool, true, List, length, slice_get, Option, Some, IfSome, IfOk, IsFalse}
+use Rattle.std.specs.Prelude.{◌≡◌, ◌≢◌, ◌<◌, ◌++◌, ℕ, Bool, true, List, [], ◌∷◌, length, take, slice_get, Option, Some, IfSome, IfOk, IsFalse}
 use Rattle.rls_ident.specs.Lists.{IsIn}
+use Rattle.rls_codec.specs.CodecLaws.{IsBytes}
+use Rattle.rls_model.specs.Receiving.{State}
 use Rattle.rls_io.specs.Device.{Appends}
 use Rattle.rls_journal.specs.Areas.{Areas, kept}
 use Rattle.rls_journal.specs.Disk.{LeavesOnly}
-use Rattle.rls_stages.specs.KeptFile.{Stays}
+use Rattle.rls_stages.specs.KeptFile.{IsFileFor, Stays}
 use Rattle.rls_top.specs.declared.words.Command.TheVariants.{OnFile}
 use Rattle.rls_top.specs.declared.words.FileCommand.TheVariants.{Send}
 use Rattle.rls_top.specs.Calls as commands
@@ -16,7 +18,9 @@ use Rattle.rls_session.specs.Devices.{Devices}
 use Rattle.rls_session.specs.Due as session
 use Rattle.rls_session.specs.Replies.{saved_text}
 use Rattle.rls_session.specs.Serving.{SessionEnds}
-use Rattle.rls_session.specs.Sessions.{by_parts}
+use Rattle.rls_session.specs.Answers.{Sitting, sitting_at, stretches_by}
+use Rattle.rls_session.specs.Courses.{Stretch}
+use Rattle.rls_session.specs.Sessions.{by_history, by_parts}
 use Rattle.rls_durable.specs.Stops.{LeavesOldOrDue, LeavesOldOrStores}
 use Rattle.rls_groups.specs.Events.{Commands, Deed, Sits, after_run, empty_desk, replica_at, session_at, session_due}
 
@@ -57,6 +61,29 @@ SessionsLeave {K} S W load store = (g : Group) (i : ℕ) (input : List ℕ) (n :
     (n ≡ 0 → (now ≡ file_after true g i deed) × Appends old.told new.told ((session_due g i empty_desk input).replies ++ saved_text))
     × (n ≡ 9 → IsLeft g i deed now)
     × (n ≢ 0 → n ≢ 9 → now ≡ file_at g i)
+
+-- the deeds of a session that begins at this state, one for each of its stores and one for its end
+abbrev pub deed_of : Stretch (Sitting State) → Deed
+deed_of a = Sits (record { entries = (a.state).entries; cursor = (a.state).cursor }) a.input
+
+abbrev pub deeds_of : List (Stretch (Sitting State)) → List Deed
+deeds_of [] = []
+deeds_of (a ∷ others) = deed_of a ∷ deeds_of others
+
+abbrev pub deeds_from : State → List ℕ → List Deed
+deeds_from t input = deeds_of (stretches_by by_history (sitting_at t) input)
+
+-- the group after these of one member, each of them done
+abbrev pub after_deeds : Group → ℕ → List Deed → Group
+after_deeds g i [] = g
+after_deeds g i (deed ∷ deeds) = after_deeds (after_run true g i deed) i deeds
+
+-- Of any session over a member's file that stands for a history, by the clause `ends` of `serve`: it is one event for each of its stores, one after
+-- another. With status 0 all of them are done; and whatever the status, the file that is kept is the one after some of the first, done.
+abbrev pub StoresLeave : {K : Type 0} → (S W : Type 0) → (K → Bool → K → Type 0) → (K → List ℕ → Bool → K → Type 0) → Type 0
+StoresLeave {K} S W load store = (g : Group) (i : ℕ) (input : List ℕ) (n : ℕ) (now : Option (List ℕ)) (t : State) (bytes : List ℕ) (keeper_old keeper_new : K) (input_old input_new : S) (output_old output_new : W) (old new : Devices) → i < length g.files → file_at g i ≡ Some bytes → IsFileFor bytes t → IsBytes input →
+    SessionEnds load store ((input_new ≡ input_old) × (output_new ≡ output_old)) n keeper_old keeper_new old new → old.file ≡ Some (file_at g i) → old.left ≡ Some input → new.file ≡ Some now →
+    (n ≡ 0 → now ≡ file_at (after_deeds g i (deeds_from t input)) i) × ((k : ℕ) × (now ≡ file_at (after_deeds g i (take k (deeds_from t input))) i))
 
 -- ---- over the keeper with two slots
 

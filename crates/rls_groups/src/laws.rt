@@ -2,7 +2,7 @@
 
 ghost use Rattle.rls_groups.specs.Groups.{GroupsConverge};
 ghost use Rattle.rls_groups.specs.Premises.{PutBack, UnsavedHandedOn, UsedTwice};
-ghost use Rattle.rls_groups.specs.Runs.{CommandsLeave, SessionsLeave, StopsLeave};
+ghost use Rattle.rls_groups.specs.Runs.{CommandsLeave, SessionsLeave, StopsLeave, StoresLeave};
 
 use rls_io::{Keeper, Sink, Source};
 use rls_journal::Disk;
@@ -17,10 +17,12 @@ pub fn groups_converge()
 {}
 
 /// What the clauses of `rls_top::run` and of `rls_session::serve` say of a call is an event of the group: the member's file is as before, or
-/// as the run leaves it that came to its end; and which of the two, by the status.
+/// as the run leaves it that came to its end; and which of the two, by the status. A session that stores more than once is one event for each
+/// of its stores, one after another.
 pub fn runs_are_events<K: Keeper, S: Source, W: Sink>()
     ensures commands { CommandsLeave }
     ensures sessions { SessionsLeave S W K.load_gives K.store_gives }
+    ensures stores { StoresLeave S W K.load_gives K.store_gives }
 {}
 
 /// The same of a stop at any moment, by the clauses of `rls_durable`.
