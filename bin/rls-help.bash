@@ -34,8 +34,8 @@ and makes and takes the messages between members.
                   same: operations of each, and sums of identifiers and text;
                   with FILE, in which another one's lines are, compare them
   rls ids         print the identifiers of the text as one line of JSON
-  rls session     answer the requests of an editor, one a line, and store once
-                  at the end: docs/SESSION.md
+  rls session     answer the requests of an editor, one a line, and store
+                  when it says so and at the end: docs/SESSION.md
   rls leave       end this member's part for ever: it can't edit any more
   rls retire N    end the part of number N, which nobody has used, for ever:
                   then nothing is kept for it any more

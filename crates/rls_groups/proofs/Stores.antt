@@ -1,6 +1,6 @@
 -- What a session of a member leaves that stores more than once.
 use Rattle.std.proofs.Common.{◌≡◌, ◌≢◌, ◌∙◌, ◌<◌, ◌≤◌, ◌⊎◌, ℕ, zero, suc, Bool, true, false, cond, eqb, ltb, List, [], ◌∷◌, length, take, drop, map, Option, Some, None, IfSome, Result, Ok, Err, refl, sym, ap, subst, inl, inr, arith}
-use Rattle.std.specs.Prelude.{IsTrue, slice_get}
+use Rattle.std.specs.Prelude.{slice_get}
 use Rattle.std.proofs.lemmas.Bool.Decides.{eqb_tells, nat_tests}
 use Rattle.rls_ident.specs.declared.limits.TheConstants.{FILE_BYTES, INPUT_BYTES}
 use Rattle.rls_ident.specs.declared.epoch_name.EpochName.{EpochName}
@@ -29,13 +29,13 @@ use Rattle.rls_anchor.specs.AnchorLaws.{IsAnchored}
 use Rattle.rls_anchor.specs.Anchors as anchors
 use Rattle.rls_report.specs.declared.failures.CommandError.{CommandError}
 use Rattle.rls_report.specs.declared.failures.CommandError.TheVariants.{TooLarge}
-use Rattle.rls_stages.specs.KeptFile.{IsFileFor, StandsIn, bytes_over, loaded, replica_in}
+use Rattle.rls_stages.specs.KeptFile.{IsFileFor, bytes_over, loaded, replica_in}
 use Rattle.rls_stages.proofs.Files.{IsOpened, opened, stands_stored}
 use Rattle.rls_stages.proofs.Kept.{WithinOrPast, within_or_past}
 use Rattle.rls_top.specs.Groups.{Group, files_with}
 use Rattle.rls_top.proofs.GroupCommands.{opened_at}
 use Rattle.rls_session.specs.Answers.{Sitting, answer, resumed, sitting_at}
-use Rattle.rls_session.specs.Courses.{Course, Stretch, course, course_of, stretches, stretches_within}
+use Rattle.rls_session.specs.Courses.{Course, course, course_of, stretches, stretches_within}
 use Rattle.rls_session.specs.Desks.{AreUndoable, IsWhole, sitting_of}
 use Rattle.rls_session.specs.Due.{Due, due, due_of, due_on, stops}
 use Rattle.rls_session.specs.Endings.{Ends, EndsIn, EndsOn, FailsAt, IsKept}

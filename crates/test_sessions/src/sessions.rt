@@ -257,7 +257,13 @@ type StoreFault<'a> = (usize, [&'a [u64]; 3], u8, &'a [u8], &'a [u8]);
 const STORE_FAULTS: &[StoreFault<'_>] = &[
     // Each store fails: the file is that of the one before.
     (WHOLE, [&[1], &[], &[]], 7, b"ok 2\n", b"hello"),
-    (WHOLE, [&[2], &[], &[]], 7, b"ok 2\nsaved\nok 3\n", b"Ahello"),
+    (
+        WHOLE,
+        [&[2], &[], &[]],
+        7,
+        b"ok 2\nsaved\nok 3\n",
+        b"Ahello",
+    ),
     (
         WHOLE,
         [&[3], &[], &[]],
@@ -281,13 +287,7 @@ const STORE_FAULTS: &[StoreFault<'_>] = &[
     (1, [&[], &[6], &[]], 8, b"ok 2\n", b"hello"),
     (1, [&[], &[7], &[]], 8, b"ok 2\n", b"hello"),
     (1, [&[], &[8], &[]], 8, b"ok 2\nsaved\n", b"Ahello"),
-    (
-        1,
-        [&[], &[14], &[]],
-        8,
-        b"ok 2\nsaved\nok 3\n",
-        b"Ahello",
-    ),
+    (1, [&[], &[14], &[]], 8, b"ok 2\nsaved\nok 3\n", b"Ahello"),
 ];
 
 /// The text that a session over this file shows.
