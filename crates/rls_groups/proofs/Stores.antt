@@ -40,7 +40,8 @@ use Rattle.rls_session.specs.Desks.{AreUndoable, IsWhole, sitting_of}
 use Rattle.rls_session.specs.Due.{Due, due, due_of, due_on, stops}
 use Rattle.rls_session.specs.Endings.{Ends, EndsIn, EndsOn, FailsAt, IsKept}
 use Rattle.rls_session.specs.Sessions.{by_history, by_parts}
-use Rattle.rls_session.proofs.Agreeing.{IsAlike, IsGiven, answer_alike, cut_given, resumed_alike}
+use Rattle.rls_session.proofs.Agreeing.{IsAlike, IsGiven, answer_alike, cut_given}
+use Rattle.rls_session.proofs.Alike.{resumed_alike}
 use Rattle.rls_session.proofs.Courses.{IsSameCourse, courses_alike}
 use Rattle.rls_groups.specs.Events as events
 use Rattle.rls_groups.specs.Events.{Deed, Sits, after_run, at_desk, replica_at, saved_of, session_due}

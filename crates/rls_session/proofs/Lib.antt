@@ -16,4 +16,5 @@ pub mod Stages
 pub mod Called
 pub mod Closing
 pub mod Agreeing
+pub mod Alike
 pub mod Histories
