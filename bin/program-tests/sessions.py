@@ -12,7 +12,7 @@ from room import KINDS, Result, kept, short
 NUMBER = "(0|[1-9][0-9]*)"
 REQUESTS = [(re.compile(pattern + r"\Z", re.S), name) for pattern, name in (
     ("i %s (.*)" % NUMBER, "insert"), ("d %s %s" % (NUMBER, NUMBER), "delete"), ("k %s" % NUMBER, "cursor"), ("p", "place"), ("t", "text"),
-    ("u", "undo"), ("s %s" % NUMBER, "send"), ("r", "rename"))]
+    ("u", "undo"), ("s %s" % NUMBER, "send"), ("r", "rename"), ("w", "store"))]
 
 
 class Model:
@@ -96,6 +96,9 @@ class Model:
             self._insert(at_, text)
         return b"undone 1 %d" % len(text)
 
+    def on_store(self):
+        return b"saved"
+
     def on_send(self, to):
         return b"no not a member %d" % int(to) if int(to) > 1 else None
 
@@ -107,14 +110,14 @@ WAITS = message(7, 2, 1, (1, 3), [insertion(1, 3, (1, 2), typed(1, 1, 0), b"w")]
 
 # Requests, with the reply where the model has none, and what a message does to the text.
 LONG = [
-    (b"k 3", None, ""), (b"i 0 A", None, ""), (b"w", b"saved", ""), (b"p", None, ""), (b"s 1", b"message %d\n" % len(SENT) + SENT, ""), (b"u", None, ""), (b"t", None, ""),
+    (b"k 3", None, ""), (b"i 0 A", None, ""), (b"w", None, ""), (b"p", None, ""), (b"s 1", b"message %d\n" % len(SENT) + SENT, ""), (b"u", None, ""), (b"t", None, ""),
     (b"x", None, ""), (b"", None, ""), (b"p ", None, ""), (b"k 99", None, ""), (b"u", None, ""), (b"d 1 2", None, ""), (b"u", None, ""), (b"t", None, ""),
     ("i 5 \u00e9\\n\\\\".encode(), None, ""), (b"i 6 \\t", None, ""), (b"i 0 ", None, ""), (b"i 50 x", None, ""), (b"d 3 0", None, ""),
     (b"d 2 9", None, ""), (b"s 2", None, ""),
     (b"m %d\n" % len(THEIRS) + THEIRS, b"applied 1 released 0 repeated 0 held 0 refused 0", "\u00e9Z"),
     (b"m %d\n" % len(HELLO_MESSAGE) + HELLO_MESSAGE, b"applied 0 released 0 repeated 1 held 0 refused 0", ""),
-    (b"m %d\n" % len(WAITS) + WAITS, b"applied 0 released 0 repeated 0 held 1 refused 0", ""), (b"w", b"saved", ""), (b"w ", None, ""),
-    (b"m 3\nabc", b"no malformed at 0", ""), (b"m 0\n", b"no malformed at 0", ""), (b"r", None, ""), (b"w", b"saved", ""), (b"t", None, ""), (b"i 0 last", None, ""),
+    (b"m %d\n" % len(WAITS) + WAITS, b"applied 0 released 0 repeated 0 held 1 refused 0", ""), (b"w", None, ""), (b"w ", None, ""),
+    (b"m 3\nabc", b"no malformed at 0", ""), (b"m 0\n", b"no malformed at 0", ""), (b"r", None, ""), (b"w", None, ""), (b"t", None, ""), (b"i 0 last", None, ""),
 ]
 EXAMPLE = [(line, None, "") for line in (b"k 3", b"i 0 A", b"p", b"u", b"t")]
 EXAMPLE_REPLIES = b"cursor 3\nok 2\ncursor 4\nundone 1 1\ntext 5\nhello\nsaved\n"
