@@ -56,7 +56,7 @@ may_store() {
 
 look_at_session() {
   if ! may_store; then
-    set -- "the files of the replica in $PWD may not be written, so all that a session does would be lost at its end." \
+    set -- "the files of the replica in $PWD may not be written, so nothing that a session does could be stored." \
       'Who may write here? `rls text` and `rls send TO` need no more than reading.'
     [ -n "${RLS_FORCE:-}" ] || refuse "$@"
     say "$@"
