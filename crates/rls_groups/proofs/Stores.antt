@@ -22,7 +22,8 @@ use Rattle.rls_undo.specs.declared.entry.Entry.{Entry}
 use Rattle.rls_undo.specs.declared.entry.Entry.TheVariants.{Inserted, Removed}
 use Rattle.rls_undo.specs.Plans.{epoch_in}
 use Rattle.rls_undo.specs.UndoLaws.{AreWhole}
-use Rattle.rls_undo.specs.Undoing.{settled}
+use Rattle.rls_undo.specs.Undoing.{last_entries, settled}
+use Rattle.rls_session.specs.declared.desk.TheConstants.{KEPT_ENTRIES}
 use Rattle.rls_anchor.specs.declared.anchor.Anchor.{Anchor}
 use Rattle.rls_anchor.specs.declared.anchor.Anchor.TheVariants.{Beginning, After}
 use Rattle.rls_anchor.specs.AnchorLaws.{IsAnchored}
@@ -77,7 +78,7 @@ cursor_at t Beginning = tt
 cursor_at t (After e x) = refl
 
 recent : (u : Sitting State) → IsRecent (resumed by_history u)
-recent u = record { entries = all_at u.state u.entries; cursor = cursor_at u.state u.cursor }
+recent u = record { entries = all_at u.state (last_entries KEPT_ENTRIES u.entries); cursor = cursor_at u.state u.cursor }
 
 -- is kept by each replica that stands for the history
 kept_at : (o : Seen) (t : State) → StandsFor o t → keeps o (greatest t.history) ≡ true

@@ -68,13 +68,14 @@ use Rattle.rls_undo.specs.declared.entry.Entry.{Entry}
 use Rattle.rls_undo.specs.declared.entry.Entry.TheVariants.{Inserted, Removed}
 use Rattle.rls_undo.specs.Plans.{entries_by, epoch_in, gone_by}
 use Rattle.rls_undo.specs.UndoLaws.{AreEdits, AreWhole, IsEntry}
-use Rattle.rls_undo.specs.Undoing.{entries_of, entries_over, last_of, performed, performed_over, planned, planned_over, refusal, refusal_over, settled, settled_over, without_last}
+use Rattle.rls_undo.specs.Undoing.{entries_of, entries_over, last_of, performed, performed_over, planned, planned_over, refusal, refusal_over, last_entries, settled, settled_over, without_last}
 use Rattle.rls_undo.proofs.Alike.{performed_stands, planned_alike}
 use Rattle.rls_undo.proofs.Histories.{plan_edits}
 use Rattle.rls_undo.proofs.Performed.{performed_names}
 use Rattle.rls_anchor.specs.Anchors.{anchor_over, before, behind, place}
 use Rattle.rls_anchor.specs.Anchors as anchors
 use Rattle.rls_anchor.proofs.Places.{place_alike, settled_alike as anchor_alike}
+use Rattle.rls_session.specs.declared.desk.TheConstants.{KEPT_ENTRIES}
 use Rattle.rls_session.specs.declared.orders.Order.{Order}
 use Rattle.rls_session.specs.declared.orders.Order.TheVariants as orders
 use Rattle.rls_session.specs.Answers.{Sitting, answer, done, pointed, rested, resumed, sent, sitting_at, taken, text_reply, undone}
@@ -88,7 +89,7 @@ use Rattle.rls_session.specs.Sessions.{by_history, by_parts, session, session_in
 use Rattle.rls_session.proofs.Courses.{IsSameCourse, courses_alike}
 use Rattle.rls_store.proofs.Storable.{all_writable}
 use Rattle.rls_session.proofs.Resumed.{dropped_writable, whole_left}
-use Rattle.rls_session.proofs.Whole.{last_undoable, whole_edited, whole_on, whole_pointed, whole_undone}
+use Rattle.rls_session.proofs.Whole.{last_undoable, undoable_back, whole_edited, whole_on, whole_pointed, whole_undone}
 
 use Rattle.rls_session.proofs.Agreeing.{IsAlike, IsGiven, answer_alike, cut_given}
 
@@ -115,6 +116,12 @@ settled_texts : (s : Seen) (es : List Entry) → AreWhole es → AreWhole (map (
 settled_texts s [] h = tt
 settled_texts s (e ∷ es) h = (settled_text s e h.0, settled_texts s es h.1)
 
+-- and those of the last ones
+texts_back : (n : ℕ) (es : List Entry) → AreWhole es → AreWhole (drop n es)
+texts_back zero es h = h
+texts_back (suc n) [] h = tt
+texts_back (suc n) (e ∷ es) h = texts_back n es h.1
+
 -- after a store
 pub resumed_alike : (d : Sitting Seen) (f : Sitting State) → IsAlike d f → IsAlike (resumed by_parts d) (resumed by_history f)
 resumed_alike d f h =
@@ -124,10 +131,10 @@ resumed_alike d f h =
       stands = dropped_stands s t h.stands;
       sane = dropped_sane s h.sane;
       writable = dropped_writable s h.writable;
-      entries = all_settled s t d.entries h.stands (h.whole).undoable ∙ ap (map (settled t.history)) h.entries;
+      entries = all_settled s t (last_entries KEPT_ENTRIES d.entries) h.stands (undoable_back s (length d.entries - KEPT_ENTRIES) d.entries (h.whole).undoable) ∙ ap (λ (es : List Entry). map (settled t.history) (last_entries KEPT_ENTRIES es)) h.entries;
       cursor = (anchor_alike s t d.cursor h.stands (h.whole).anchored).0 ∙ ap (anchors.settled t.history) h.cursor;
-      whole = whole_left s d.entries d.cursor h.sane;
-      texts = settled_texts s d.entries h.texts;
+      whole = whole_left s (last_entries KEPT_ENTRIES d.entries) d.cursor h.sane;
+      texts = settled_texts s (last_entries KEPT_ENTRIES d.entries) (texts_back (length d.entries - KEPT_ENTRIES) d.entries h.texts);
     }
 
 -- courses that are the same, one after another

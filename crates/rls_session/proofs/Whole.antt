@@ -1,5 +1,5 @@
 -- Nothing that a session goes back to is dropped.
-use Rattle.std.proofs.Common.{◌≡◌, ◌∙◌, ◌++◌, ℕ, suc, zero, List, [], ◌∷◌, length, take, Option, Some, None, Result, Ok, Err, OnOk, OnErr, true, false, refl, sym, subst, ◌-◌}
+use Rattle.std.proofs.Common.{◌≡◌, ◌∙◌, ◌++◌, ℕ, suc, zero, List, [], ◌∷◌, length, take, drop, Option, Some, None, Result, Ok, Err, OnOk, OnErr, true, false, refl, sym, subst, ◌-◌}
 use Rattle.std.specs.Prelude.{IsTrue, IsFalse, slice_get}
 use Rattle.rls_ident.specs.declared.epoch_name.EpochName.{EpochName}
 use Rattle.rls_ops.specs.declared.op.Body.{Body}
@@ -14,7 +14,7 @@ use Rattle.rls_undo.specs.declared.entry.Entry.{Entry}
 use Rattle.rls_undo.specs.declared.undo.Undone.{Undone}
 use Rattle.rls_undo.specs.declared.undo.UndoError.{UndoError}
 use Rattle.rls_undo.specs.Plans.{entries_by, epoch_in, gone_by}
-use Rattle.rls_undo.specs.Undoing.{entries_over, epoch_of, last_of, without_last}
+use Rattle.rls_undo.specs.Undoing.{entries_over, epoch_of, last_entries, last_of, without_last}
 use Rattle.rls_anchor.specs.declared.anchor.Anchor.{Anchor}
 use Rattle.rls_anchor.specs.declared.anchor.Anchor.TheVariants.{Beginning, After}
 use Rattle.rls_anchor.specs.AnchorLaws.{IsAnchored}
@@ -38,6 +38,11 @@ pub undoable_front : (s : Seen) (n : ℕ) (es : List Entry) → AreUndoable s es
 undoable_front s zero es h = tt
 undoable_front s (suc n) [] h = tt
 undoable_front s (suc n) (e ∷ es) h = (h.0, undoable_front s n es h.1)
+
+pub undoable_back : (s : Seen) (n : ℕ) (es : List Entry) → AreUndoable s es → AreUndoable s (drop n es)
+undoable_back s zero es h = h
+undoable_back s (suc n) [] h = tt
+undoable_back s (suc n) (e ∷ es) h = undoable_back s n es h.1
 
 -- one of them
 undoable_at : (s : Seen) (es : List Entry) (i : ℕ) (entry : Entry) → slice_get es i ≡ Some entry → AreUndoable s es → IsTrue (keeps s (epoch_in entry))
@@ -92,6 +97,10 @@ whole_as s n es fs a k is h = subst (λ (xs : List Entry). IsWhole (sitting_of n
 -- with a cursor that was just made
 pub whole_pointed : (s : Seen) (es : List Entry) (a b : Anchor) (at : ℕ) → b ≡ anchor_over s at → IsWhole (sitting_of s es a) → IsWhole (sitting_of s es b)
 whole_pointed s es a b at is h = record { undoable = h.undoable; anchored = subst (IsAnchored s) (sym is) (made_kept s at) }
+
+-- with the last entries
+pub whole_last : (s : Seen) (es fs : List Entry) (a : Anchor) (n : ℕ) → fs ≡ last_entries n es → IsWhole (sitting_of s es a) → IsWhole (sitting_of s fs a)
+whole_last s es fs a n is h = record { undoable = subst (AreUndoable s) (sym is) (undoable_back s (length es - n) es h.undoable); anchored = h.anchored }
 
 -- at the start
 pub whole_first : (s : Seen) (es : List Entry) → es ≡ [] → IsWhole (sitting_of s es Beginning)

@@ -13,9 +13,10 @@ use Rattle.rls_report.specs.Reports.{take_text}
 use Rattle.rls_script.specs.declared.lines.Line.{Line}
 use Rattle.rls_stages.specs.Lines.{line_by, line_fault}
 use Rattle.rls_undo.specs.declared.entry.Entry.{Entry}
-use Rattle.rls_undo.specs.Undoing.{undone_by, last_of, without_last}
+use Rattle.rls_undo.specs.Undoing.{undone_by, last_entries, last_of, without_last}
 use Rattle.rls_anchor.specs.declared.anchor.Anchor.{Anchor}
 use Rattle.rls_anchor.specs.declared.anchor.Anchor.TheVariants.{Beginning}
+use Rattle.rls_session.specs.declared.desk.TheConstants.{KEPT_ENTRIES}
 use Rattle.rls_session.specs.declared.orders.Order.{Order}
 use Rattle.rls_session.specs.declared.orders.Order.TheVariants as orders
 use Rattle.rls_session.specs.Requests.{Request, Does, Takes}
@@ -158,9 +159,9 @@ answer K d (Takes message) = taken K d (message_of message)
 
 -- ---- storing
 
--- what the session goes back to, taken to the greatest epoch
+-- what the session goes back to, taken to the greatest epoch; of what undoes edits the last part alone
 abbrev pub settled_sitting : {X : Type 0} → Kind X → Sitting X → Sitting X
-settled_sitting K d = record { state = d.state; entries = map (K.settled d.state) d.entries; cursor = K.settled_anchor d.state d.cursor }
+settled_sitting K d = record { state = d.state; entries = map (K.settled d.state) (last_entries KEPT_ENTRIES d.entries); cursor = K.settled_anchor d.state d.cursor }
 
 -- after a store it is so, and what every member has is dropped
 abbrev pub resumed : {X : Type 0} → Kind X → Sitting X → Sitting X

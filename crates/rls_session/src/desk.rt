@@ -36,6 +36,9 @@ use rls_undo::{Undo, UndoError, Undone};
 use std::alloc::{AllocError, Global};
 use std::marker::Model;
 
+/// How many edits can be undone that a session made before a store.
+pub const KEPT_ENTRIES: usize = 10_000;
+
 /// What a session works on: the replica, what undoes its edits, and the cursor.
 #[derive(Drop)]
 pub(crate) struct Desk {
@@ -231,13 +234,15 @@ impl Desk {
 
     // ---- storing
 
-    /// Takes what the session goes back to to the greatest epoch, as is needed before `drop_stable`. The replica stays as it is.
+    /// Takes what the session goes back to to the greatest epoch, as is needed before `drop_stable`, and lets go of what undoes edits but for
+    /// the last `KEPT_ENTRIES` of them. The replica stays as it is.
     pub(crate) fn settle(&mut self) -> Result<(), AllocError>
         ensures settled { OnOk result (self.new ≡ settled_sitting by_parts self.old) }
         ensures state { self.new.state ≡ self.old.state }
         ensures sane { IsSane self.old.state }
     {
         rely!(self.replica.sane());
+        self.undo.keep_last(KEPT_ENTRIES);
         if let Err(error) = self.undo.settle(&self.replica) {
             return Err(unsettled(error));
         }
