@@ -32,7 +32,10 @@ impl Log {
         (0..self.starts.len()).map(move |i| {
             let start = self.starts[i] as usize;
             let end = self.starts.get(i + 1).map_or(all, |&next| next as usize);
-            if start < self.file.len() { &self.file[start..end.min(self.file_end)] } else { &self.new[start - self.file.len()..end - self.file.len()] }
+            match start.checked_sub(self.file.len()) {
+                None => &self.file[start..end.min(self.file_end)],
+                Some(start) => &self.new[start..end - self.file.len()],
+            }
         })
     }
 
@@ -357,7 +360,9 @@ impl Replica {
             }
         }
         let ways: Vec<Vec<usize>> = (0..needed.len()).filter(|&it| needed[it]).map(|it| self.epochs.way_up(it)).collect();
-        let shared = (1..).take_while(|&k| ways.iter().all(|way| way.len() > k && way[way.len() - 1 - k] == ways[0][ways[0].len().saturating_sub(1 + k)])).count();
+        let from_top = |way: &[usize], k| way.iter().rev().nth(k).copied();
+        let is_shared = |k| from_top(&ways[0], k).is_some() && ways.iter().all(|way| from_top(way, k) == from_top(&ways[0], k));
+        let shared = (1..).take_while(|&k| is_shared(k)).count();
         let mut kept: Vec<usize> = ways.iter().flat_map(|way| way[..way.len() - shared].iter().copied()).collect();
         kept.sort_by(|&a, &b| self.epochs.compare(a, b));
         kept.dedup();
