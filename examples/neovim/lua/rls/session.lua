@@ -11,7 +11,8 @@ function Session.start(program, folder)
   local input, output, errors = uv.new_pipe(), uv.new_pipe(), uv.new_pipe()
   local self = setmetatable({ have = '', at = 1, waiting = {}, first = 1, last = 0, errors = '', ended = false, telling = false, given = 0, input = input }, Session)
   local handle
-  handle = uv.spawn(program, { args = { 'session' }, cwd = folder, stdio = { input, output, errors } }, function(status)
+  -- In a group of its own: if Neovim is killed, the terminal ends what is in Neovim's group, and the session is to store at the end of its input.
+  handle = uv.spawn(program, { args = { 'session' }, cwd = folder, stdio = { input, output, errors }, detached = true }, function(status)
     self.ended = status
     handle:close()
   end)
