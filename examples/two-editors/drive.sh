@@ -141,6 +141,10 @@ play_second() {
   redo
   ben_has 'and a redo does it again' $'zero\none\nthree\nfour'
   at_third_line
+  told_cursor() { (cd "$room/ben" && printf 'l %s\n' "$(cut -d ' ' -f 1 "$room/shared/7-0.cursor")" | "$RLS" session | head -n 1); }
+  wait_for 'others are told where the cursor is' $'cursor 9\n' told_cursor
+  ben_shows_cursor 11
+  shows 'the cursor of another member' "${shown_cursor:-three}"
   ben_edits 'i 5 new\n' 'd 0 4'
   shows 'a line that others opened' new
   begin_typing=i
@@ -172,6 +176,11 @@ play_second() {
   wait_for 'what was typed before the program was killed' 'also four kept ' kept
   leave_editor
   same_texts
+}
+
+# Member 1 tells where its cursor is.
+ben_shows_cursor() {
+  (cd "$room/ben" && printf 'a %s\n' "$1" | "$RLS" session | sed -n 's/^anchor \(.*\)/\1 Ben B./p' >"$room/shared/.new" && mv "$room/shared/.new" "$room/shared/7-1.cursor")
 }
 
 # The process of the program that works on a folder.
