@@ -90,6 +90,38 @@
       (let ((rls-program slow)) (rls-sync)))
     (rls-test-close (list a))))
 
+;; What others change elsewhere moves no marker from its character (second version), and undo takes own edits alone.
+(ert-deftest rls-places ()
+  (pcase-let ((`(,a ,b) (rls-test-open 2)))
+    (when (= 2 (buffer-local-value 'rls--version a))
+      (with-current-buffer a (insert "one\ntwo\nthree\nfour\nfive") (rls-sync))
+      (let ((marks (with-current-buffer a (list (copy-marker 11) (copy-marker 17)))))
+        (with-current-buffer a (goto-char 15))
+        (with-current-buffer b
+          (rls-sync)
+          (goto-char 9)
+          (search-forward "three")
+          (insert "\nand some more")
+          (search-forward "f")
+          (replace-match "F")
+          (goto-char 1)
+          (insert "zero\\n😀\n")
+          (rls-sync))
+        (with-current-buffer a
+          (rls-sync)
+          (should (equal (buffer-string) "zero\\n😀\none\ntwo\nthree\nand some more\nFour\nfive"))
+          (should (equal (mapcar #'char-after marks) (list ?r ?u)))
+          (rls--before-command)
+          (insert "X")
+          (rls-sync)
+          (rls-undo)
+          (rls-undo)
+          (should (string-match-p "\\`zero\\\\n😀\n[^X]*F[^X]*\\'" (buffer-string)))
+          (should-not (string-match-p "one\\|two\\|three\\|our\\|ive" (buffer-string)))
+          (rls-redo 2)
+          (should (string-search "zero\\n😀\none\ntwo\nthree\nand some more\n" (buffer-string))))))
+    (rls-test-close (list a b))))
+
 ;; Folders whose names have what names may have.
 (ert-deftest rls-odd-names ()
   (let* ((top (expand-file-name " a b\n'$HOME\"*\\" (make-temp-file "rls" t)))

@@ -83,6 +83,34 @@ local function hostile()
   for member = 0, 1 do vim.cmd('bwipeout! ' .. all[member].buf) end
 end
 
+-- What others change elsewhere moves no mark from its character, and no line from the top of the window (second version).
+local function places()
+  rls.rename_at = 500
+  local all = {}
+  for member = 0, 1 do all[member] = rls.open(('%s/h%d'):format(room, member), room .. '/places') end
+  if all[0].version == 1 then return end
+  local function turn(member)
+    api.nvim_set_current_buf(all[member].buf)
+    all[member]:sync()
+  end
+  api.nvim_buf_set_lines(all[1].buf, 0, -1, true, {})
+  for _ = 1, 2 do turn(1) turn(0) end
+  api.nvim_buf_set_lines(all[0].buf, 0, -1, true, { 'one', 'two', 'three', 'four', 'five' })
+  api.nvim_buf_set_mark(all[0].buf, 'a', 3, 2, {})
+  api.nvim_win_set_cursor(0, { 4, 2 })
+  turn(0)
+  turn(1)
+  api.nvim_buf_set_lines(all[1].buf, 0, 2, true, { 'zero', 'ONE', 'o\\n😀' })
+  api.nvim_buf_set_text(all[1].buf, 3, 5, 3, 5, { '', 'and some more' })
+  api.nvim_buf_set_text(all[1].buf, 5, 0, 5, 1, { 'F' })
+  turn(1)
+  turn(0)
+  assert(table.concat(all[0].lines:all(), '|') == 'zero|ONE|o\\n😀|three|and some more|Four|five', table.concat(all[0].lines:all(), '|'))
+  assert(vim.deep_equal(api.nvim_buf_get_mark(all[0].buf, 'a'), { 4, 2 }), vim.inspect(api.nvim_buf_get_mark(all[0].buf, 'a')))
+  assert(vim.deep_equal(api.nvim_win_get_cursor(0), { 6, 2 }), vim.inspect(api.nvim_win_get_cursor(0)))
+  for member = 0, 1 do vim.cmd('bwipeout! ' .. all[member].buf) end
+end
+
 -- Folders whose names have what names may have.
 local function odd()
   rls.program = os.getenv('RLS')
@@ -101,6 +129,8 @@ end
 local done, fault = pcall(function()
   run()
   hostile()
+  rls.program = os.getenv('RLS')
+  places()
   odd()
 end)
 if not done then

@@ -71,6 +71,45 @@ function s:hostile() abort
   endfor
 endfunction
 
+" What others change elsewhere moves no mark from its line and no cursor from its character (second version).
+function s:places() abort
+  let buffers = []
+  for member in range(2)
+    execute 'RlsOpen' $ROOM . '/h' . member $ROOM . '/places'
+    call add(buffers, bufnr('%'))
+  endfor
+  if maparg('u', 'n') ==# ''
+    return
+  endif
+  set nostartofline
+  %delete
+  for buf in [1, 0, 1, 0]
+    execute 'buffer!' buffers[buf]
+    write
+  endfor
+  call setline(1, ['one', 'two', 'three', 'four', 'five'])
+  normal! 3Gma
+  call cursor(4, 3)
+  for buf in [0, 1]
+    execute 'buffer!' buffers[buf]
+    write
+  endfor
+  1,2delete
+  call append(0, ['zero', 'ONE', "o\\n\U1F600"])
+  call append(4, 'and some more')
+  call setline(7, 'Five')
+  for buf in [1, 0]
+    execute 'buffer!' buffers[buf]
+    write
+  endfor
+  call s:want(join(getline(1, '$'), '|') ==# "zero|ONE|o\\n\U1F600|three|and some more|four|Five", join(getline(1, '$'), '|'))
+  call s:want(line("'a") == 4, 'the mark is in line ' . line("'a"))
+  call s:want(line('.') == 6 && col('.') == 3, 'the cursor is at ' . string(getpos('.')))
+  for buf in buffers
+    execute 'bwipeout!' buf
+  endfor
+endfunction
+
 " Folders whose names have what names may have.
 function s:odd() abort
   let top = $ROOM . "/ a b\n'$HOME\"*\\"
@@ -118,6 +157,8 @@ try
     execute 'bwipeout!' buf
   endfor
   call s:hostile()
+  let g:rls_program = $RLS
+  call s:places()
   call s:odd()
   qall!
 catch
