@@ -29,8 +29,8 @@
     (set-process-query-on-exit-flag (get-buffer-process errors) nil)
     (set-process-sentinel (get-buffer-process errors) #'ignore)
     (with-current-buffer (process-buffer rls--process) (set-buffer-multibyte nil))
-    (setq rls--version (if (equal (rls--ask "v") "version 2") 2 1))
-    (when (= rls--version 2) (setq rls--telling (equal (rls--ask "c 1") "telling 1")))))
+    (setq rls--telling (and (equal (rls--ask "v") "version 2") (equal (rls--ask "c 1") "telling 1"))
+          rls--version (if rls--telling 2 1))))
 
 (defun rls--filter (process output)
   "Keeps OUTPUT of PROCESS, and hands on what is whole."

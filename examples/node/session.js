@@ -93,8 +93,8 @@ export class Session extends EventEmitter {
   async #begin() {
     this.#program = new Program(this.#command, this.folder, this.#wait);
     this.#given = 0;
-    this.#version = (await this.#line('v')) === 'version 2' ? 2 : 1;
-    if (this.#version === 2) await this.#line('c 1');
+    const isTelling = (await this.#line('v')) === 'version 2' && (await this.#line('c 1')) === 'telling 1';
+    this.#version = isTelling ? 2 : 1;
     this.isUnsaved = false;
   }
 

@@ -32,8 +32,8 @@ end
 
 function Replica:start()
   self.session = Session.start(self.options.program, self.folder)
-  self.version = self.session:ask('v') == 'version 2' and 2 or 1
-  if self.version == 2 then self.session.telling = self.session:ask('c 1') == 'telling 1' end
+  self.session.telling = self.session:ask('v') == 'version 2' and self.session:ask('c 1') == 'telling 1'
+  self.version = self.session.telling and 2 or 1
 end
 
 -- Which member this is: the head of a message tells it. A message to oneself has a head alone.

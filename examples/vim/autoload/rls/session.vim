@@ -9,10 +9,8 @@ function rls#session#start(r) abort
   let a:r.waiting = []
   let a:r.telling = 0
   let a:r.given = 0
-  let a:r.version = rls#session#ask(a:r, 'v')[0] ==# 'version 2' ? 2 : 1
-  if a:r.version == 2
-    let a:r.telling = rls#session#ask(a:r, 'c 1')[0] ==# 'telling 1'
-  endif
+  let a:r.telling = rls#session#ask(a:r, 'v')[0] ==# 'version 2' && rls#session#ask(a:r, 'c 1')[0] ==# 'telling 1'
+  let a:r.version = a:r.telling ? 2 : 1
 endfunction
 
 " Sends a request, a string or a blob without its line feed, with the bytes that belong to it. The function gets the first line of its reply, the
