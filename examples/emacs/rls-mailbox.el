@@ -6,7 +6,7 @@
 (require 'rls-session)
 (declare-function rls--send "rls")
 
-(defcustom rls-name "" "What others see beside the cursor." :type 'string)
+(defcustom rls-name "" "What others see beside the cursor." :type 'string :group 'rls)
 (defconst rls--most-input (- 67108864 4096) "Bytes that a session reads before it stores, less some.")
 (defconst rls--most-cursor 65536 "Bytes of a file with a cursor.")
 (defvar-local rls--shared nil)

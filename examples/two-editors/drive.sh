@@ -121,8 +121,8 @@ play() {
 # Whether the program has the second version of the session.
 is_second() { [ "$(cd "$room/ben" && printf 'v\n' | "$RLS" session | head -n 1)" = 'version 2' ]; }
 
-# What only the second version does: the editor's own keys of undo, a line that is opened above the cursor, places that stay, and a replica that is
-# opened again. $1 begins the editor; its test says how that is typed by undo, redo, at_second_line, end_typing and open_again.
+# What only the second version does: the editor's own keys of undo, a line that is opened above the cursor, and one process for all of it. $1 begins the
+# editor; its test says how that is typed by undo, redo, at_third_line and end_typing.
 play_second() {
   is_second || { echo 'skipped what needs the second version of the session'; return 0; }
   rm -rf "$room/ada" "$room/ben" "$room/shared"
@@ -159,21 +159,40 @@ play_second() {
   local program
   program=$(session_of "$room/ada")
   begin_typing=i
+  append 'more '
+  end_typing
+  store
+  ben_has 'one word more' $'\nnew\nmore one\nthree\nfour'
+  [ "$program" = "$(session_of "$room/ada")" ] || { echo 'FAILED  one process for the whole life of the buffer'; exit 1; }
+  leave_editor
+  same_texts
+}
+
+# A program that is killed, and its buffer that is opened again on the spot. $1 begins the editor; its test says how by open_again.
+play_again() {
+  rm -rf "$room/ada" "$room/ben" "$room/shared"
+  replicas
+  begin "$1"
+  shows 'the status line' 'member 0 of 2'
+  begin_typing=i
   append 'kept '
   end_typing
+  store
+  ben_has 'what is stored' 'kept '
+  ben_edits 'i 5 \nfour'
+  shows 'what others wrote' four
   hold_back
   never_idle
   begin_typing=i
   append 'also '
   end_typing
-  [ "$program" = "$(session_of "$room/ada")" ] || { echo 'FAILED  one process for the whole life of the buffer'; exit 1; }
-  kill -KILL "$program"
+  kill -KILL "$(session_of "$room/ada")"
   shows 'a program that was killed' 'the session'
   go_on
   open_again
   shows 'a replica that is opened again' 'member 0 of 2'
-  kept() { ben_takes; ben_text | grep -o 'kept\|also\|four' | sort -u | tr '\n' ' '; }
-  wait_for 'what was typed before the program was killed' 'also four kept ' kept
+  kept() { ben_takes; ben_text | grep -o 'kept\|also\|four' | sort | tr '\n' ' '; }
+  wait_for 'what was typed before the program was killed, once' 'also four kept ' kept
   leave_editor
   same_texts
 }
