@@ -98,7 +98,7 @@ the first.  If IS-TAKEN, it counts as an edit only if nothing else waits."
 
 (defun rls--apply (changes)
   "Makes CHANGES of the session in the buffer, at their places, so what is elsewhere stays.
-Answers where the last one is; nil if there is none."
+Answers the end of the last one; nil if there is none."
   (save-restriction
     (widen)
     (let ((cursors (mapcar (lambda (window) (cons window (copy-marker (window-point window) (rls--before-p (window-point window)))))
@@ -110,7 +110,8 @@ Answers where the last one is; nil if there is none."
           (setq last at)
           (if (eq ?d (aref change 0)) (delete-region at (+ at (string-to-number rest)))
             (goto-char at)
-            (insert (rls--unescaped (decode-coding-string rest 'utf-8-unix))))))
+            (insert (rls--unescaped (decode-coding-string rest 'utf-8-unix)))
+            (setq last (point)))))
       (goto-char here)
       (set-marker here nil)
       (dolist (cursor cursors)

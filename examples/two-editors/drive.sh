@@ -158,6 +158,7 @@ play_second() {
   ben_has 'and done again' $'\nnew\none\nthree\nfour'
   local program
   program=$(session_of "$room/ada")
+  at_third_line
   begin_typing=i
   append 'more '
   end_typing

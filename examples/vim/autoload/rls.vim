@@ -182,16 +182,18 @@ function s:unescaped(text) abort
   return substitute(a:text, '\\\(.\)', '\=submatch(1) ==# "r" ? "\r" : submatch(1)', 'g')
 endfunction
 
-" Makes changes of the session in the buffer, at their places. Answers where the last one is, or 0.
+" Makes changes of the session in the buffer, at their places. Answers the first place that they have touched; -1 if there is
+" none.
 function s:apply(r, changes) abort
   if empty(a:changes)
-    return 0
+    return -1
   endif
-  let cursors = s:cursors(a:r)
+  let [cursors, first] = [s:cursors(a:r), -1]
   let a:r.silent = 1
   try
     for change in a:changes
       let [_, kind, at, rest; _] = matchlist(change, '^\(.\) \(\d\+\) \(\_.*\)$')
+      let first = first < 0 ? str2nr(at) : min([first, str2nr(at)])
       if kind ==# 'd'
         call s:delete(a:r, cursors, str2nr(at), str2nr(rest))
       else
@@ -203,7 +205,7 @@ function s:apply(r, changes) abort
     let a:r.silent = 0
   endtry
   call s:put(cursors)
-  return str2nr(at) + 1
+  return first
 endfunction
 
 " Makes the buffer the session's text by what is between the equal fronts and ends, where the session doesn't tell what changed. With the first
@@ -244,8 +246,8 @@ function s:take_back(buf, request, nothing) abort
   endif
   if r.version == 2
     let at = s:apply(r, changes)
-    if at > 0 && bufnr('%') == a:buf
-      let [line, byte] = rls#lines#find(r.text, at - 1)
+    if at >= 0 && bufnr('%') == a:buf
+      let [line, byte] = rls#lines#find(r.text, at)
       call cursor(line, byte + 1)
     endif
   else

@@ -164,15 +164,16 @@ function Replica:cursors()
   return found
 end
 
--- Makes changes of the session in the buffer, at their places, so marks, folds and cursors elsewhere stay. Answers where the last one is.
+-- Makes changes of the session in the buffer, at their places, so marks, folds and cursors elsewhere stay. Answers the first place
+-- that they have touched.
 function Replica:apply(changes)
-  local cursors, last = self:cursors(), nil
+  local cursors, first = self:cursors(), nil
   self.is_silent = true
   local done, fault = pcall(function()
     for _, change in ipairs(changes) do
       local at, rest = change:match('^%a (%d+) (.*)$')
       local row, byte = self.lines:find(tonumber(at))
-      last = { row + 1, byte }
+      first = math.min(first or tonumber(at), tonumber(at))
       if change:sub(1, 1) == 'd' then
         local last_row, last_byte = self.lines:find(tonumber(at) + tonumber(rest))
         api.nvim_buf_set_text(self.buf, row, byte, last_row, last_byte, { '' })
@@ -186,8 +187,8 @@ function Replica:apply(changes)
   end)
   self.is_silent = false
   if not done then error(fault, 0) end
-  if last then self:put(cursors) end
-  return last
+  if first then self:put(cursors) end
+  return first
 end
 
 function Replica:put(cursors)
@@ -217,8 +218,11 @@ function Replica:take_back(request, nothing)
   end
   if not reply:match('^%a+ %d') then error('rls: ' .. reply, 0) end
   if changes then
-    local last = self:apply(changes)
-    if last then api.nvim_win_set_cursor(0, last) end
+    local first = self:apply(changes)
+    if first then
+      local row, byte = self.lines:find(first)
+      api.nvim_win_set_cursor(0, { row + 1, byte })
+    end
   else
     self:compare()
   end
