@@ -2,6 +2,7 @@
 use Rattle.std.proofs.Common.{◌≡◌, ℕ, zero, suc, ◌+◌, List, [], ◌∷◌, ◌++◌, take, drop, sym, ap, ◌∙◌, subst, append_assoc, arith}
 use Rattle.std.specs.Prelude.{slice_get, Option, Some, None}
 use Rattle.std.proofs.lemmas.List.{take-append-drop}
+use Rattle.rls_ident.proofs.Loops.{drop_reads}
 use Rattle.rls_model.specs.declared.edit.Edit.{Edit}
 use Rattle.rls_model.specs.declared.edit.Edit.TheVariants as edits
 use Rattle.rls_model.specs.WellFormed.{IsEdit}
@@ -14,7 +15,7 @@ use Rattle.rls_steps.specs.Marks.{Piece, Put, Cut}
 use Rattle.rls_steps.specs.Labelled.{Labelled, ready_over, cut_over, cut_piece, put_over}
 use Rattle.rls_steps.specs.Courses.{Taken, cut_ranges, place_over, taken_back, Fits, FitRanges, FitsBack}
 use Rattle.rls_steps.specs.Recorded.{steps_of}
-use Rattle.rls_steps.specs.Returning.{ranges_fault, back_fault, IsPartCut}
+use Rattle.rls_steps.specs.Returning.{first_fault, ranges_fault, back_fault, IsPartCut}
 use Rattle.rls_steps.proofs.Stacks.{cut_same, cut_more, fit_more, steps_more}
 use Rattle.rls_steps.proofs.Tabling.{take_snoc}
 
@@ -74,9 +75,17 @@ fault_at h (x ∷ xs) (suc i) r e g f k =
     let ih = fault_at n xs i r e g f.1 (subst (λ (y : Labelled). IsFault e (edit_fault_over y.seen (edits.Delete r.0 r.1))) same k) in
     subst (λ o. IsFault e (or_fault o (ranges_fault n xs))) (sym f.0.1) ih
 
-pub part_cut : (h g : Labelled) (rs : List (ℕ × ℕ)) (i group : ℕ) (base other : List Step) → FitRanges h (take i rs) → g ≡ (cut_ranges h (take i rs) []).held →
-    other ≡ base ++ steps_of group (cut_ranges h (take i rs) []).other → IsPartCut h rs g group base other
-part_cut h g rs i group base other f q o = record { front = take i rs; rest = drop i rs; are = sym (take-append-drop i rs); fit = f; held = q; others = o }
+pub part_cut : (h g : Labelled) (rs : List (ℕ × ℕ)) (i group : ℕ) (r : ℕ × ℕ) (e : EditError) (base other : List Step) → slice_get rs i ≡ Some r → FitRanges h (take i rs) → g ≡ (cut_ranges h (take i rs) []).held →
+    IsFault e (edit_fault_over g.seen (edits.Delete r.0 r.1)) → other ≡ base ++ steps_of group (cut_ranges h (take i rs) []).other → IsPartCut e h rs g group base other
+part_cut h g rs i group r e base other a f q m o = record {
+  front = take i rs;
+  rest = drop i rs;
+  are = sym (take-append-drop i rs);
+  fit = f;
+  held = q;
+  met = subst (λ (ss : List (ℕ × ℕ)). IsFault e (first_fault g ss)) (sym (drop_reads rs i r a)) m;
+  others = o;
+}
 
 -- all ranges were cut out
 pub record IsCutAll (h : Labelled) (rs : List (ℕ × ℕ)) (group : ℕ) (base new : List Step) (k : Labelled) : Type 0 where

@@ -192,12 +192,12 @@ same_rising (x ∷ xs) (y ∷ ys) r s f g =
 
 -- ---- elements
 
-contained : (xs : List ℕ) (k : ℕ) → IsIn k xs → Contains xs k
+pub contained : (xs : List ℕ) (k : ℕ) → IsIn k xs → Contains xs k
 contained [] k p = absurd p
 contained (x ∷ xs) k (inl e) = (0, omega arith, e)
 contained (x ∷ xs) k (inr p) = let r = contained xs k p in let l = r.1 in (suc r.0, omega (arith, l), r.2)
 
-contains_in : (xs : List ℕ) (k i : ℕ) → i < length xs → get_or xs i k ≡ k → IsIn k xs
+pub contains_in : (xs : List ℕ) (k i : ℕ) → i < length xs → get_or xs i k ≡ k → IsIn k xs
 contains_in [] k i l e = absurd (omega (arith, l))
 contains_in (x ∷ xs) k zero l e = inl e
 contains_in (x ∷ xs) k (suc i) l e = inr (contains_in xs k i (omega (arith, l)) e)
@@ -214,7 +214,7 @@ map_get f (y ∷ ys) (suc j) m g = map_get f ys j m g
 
 -- ---- places in the text
 
-place_at : (xs : List (List Tuple)) (x : List Tuple) (k : ℕ) → is_increasing xs ≡ true → slice_get xs k ≡ Some x → place_of x xs ≡ Ok k
+pub place_at : (xs : List (List Tuple)) (x : List Tuple) (k : ℕ) → is_increasing xs ≡ true → slice_get xs k ≡ Some x → place_of x xs ≡ Ok k
 place_at xs x k i g = go (place_of x xs) refl
   where
     go : (r : Result ℕ ℕ) → place_of x xs ≡ r → place_of x xs ≡ Ok k

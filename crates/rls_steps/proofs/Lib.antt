@@ -29,3 +29,5 @@ pub mod Errors
 pub mod Inserted
 pub mod Returned
 pub mod Newest
+pub mod Swept
+pub mod Keeping

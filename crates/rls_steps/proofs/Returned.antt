@@ -79,7 +79,7 @@ redone s n r w q i e g f a =
 -- a deletion is recorded
 pub delete_step : (s n : Seen) (r w : Recorded) (more : ℕ) (names : Names) (past future : List Step) (at count : ℕ) → w ≡ r → r.epoch ≡ greatest_over s → n.epochs ≡ s.epochs → future ≡ [] →
     held_by n more names ≡ cut_over (ready_over (held_by s w.next w.names) at count) at count → past ≡ w.past ++ steps_of w.group (parts (cut_piece (ready_over (held_by s w.next w.names) at count) at count)) →
-    steps_over n (record { epoch = w.epoch; next = more; names = names; past = past; future = future; group = w.group }) ≡ deleted (steps_over s r) at count
+    steps_over n (record { epoch = w.epoch; next = more; names = names; past = past; future = future; group = w.group; after_sweep = w.after_sweep }) ≡ deleted (steps_over s r) at count
 delete_step s n r w more names past future at count v q e z h p =
-    ap (λ (xs : List Step). steps_over n (record { epoch = w.epoch; next = more; names = names; past = past; future = xs; group = w.group })) z
-    ∙ (delete_recorded s n w.epoch w.next more w.names names w.past past w.future w.group at count (ap (λ (x : Recorded). x.epoch) v ∙ q) e h p ∙ ap (λ (x : Recorded). deleted (steps_over s x) at count) v)
+    ap (λ (xs : List Step). steps_over n (record { epoch = w.epoch; next = more; names = names; past = past; future = xs; group = w.group; after_sweep = w.after_sweep })) z
+    ∙ (delete_recorded s n w.epoch w.next more w.names names w.past past w.future w.group w.after_sweep at count (ap (λ (x : Recorded). x.epoch) v ∙ q) e h p ∙ ap (λ (x : Recorded). deleted (steps_over s x) at count) v)

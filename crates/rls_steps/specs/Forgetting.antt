@@ -34,7 +34,7 @@ forgotten steps chars xs = let over = length xs - fitting steps chars (reverse x
 
 -- without the first k steps that can be undone
 abbrev pub without_first : ℕ → Recorded → Recorded
-without_first k r = record { epoch = r.epoch; next = r.next; names = r.names; past = drop k r.past; future = r.future; group = r.group }
+without_first k r = record { epoch = r.epoch; next = r.next; names = r.names; past = drop k r.past; future = r.future; group = r.group; after_sweep = r.after_sweep }
 
 -- the text stays that of an editor that keeps a copy of each text, and forgot the oldest
 abbrev pub ForgettingShows : Type 0

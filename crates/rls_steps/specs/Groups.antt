@@ -1,5 +1,5 @@
 -- Groups of steps.
-use Rattle.std.specs.Prelude.{◌≡◌, ℕ, zero, suc, ◌-◌, ◌<◌, ◌==◌, Bool, false, List, [], ◌∷◌, length, take, replicate, reverse, slice_get, Option, Some, None, if◌then◌else◌}
+use Rattle.std.specs.Prelude.{◌≡◌, ℕ, zero, suc, ◌+◌, ◌-◌, ◌^◌, ◌<◌, nat_lt, ◌==◌, Bool, false, List, [], ◌∷◌, length, take, replicate, reverse, slice_get, Option, Some, None, if◌then◌else◌}
 use Rattle.rls_model.specs.declared.edit.EditError.{EditError}
 use Rattle.rls_seen.specs.Edits.{IsFault}
 use Rattle.rls_steps.specs.declared.piece.Step.{Step}
@@ -7,6 +7,10 @@ use Rattle.rls_steps.specs.Labelled.{Labelled}
 use Rattle.rls_steps.specs.Courses.{Steps, Back, course, MayRun}
 use Rattle.rls_steps.specs.Recorded.{pieces_of}
 use Rattle.rls_steps.specs.Returning.{back_fault, IsPartBack}
+
+-- the number of the group after this one, where there is another number
+abbrev pub next_group : ℕ → ℕ
+next_group g = if nat_lt (g + 1) (2 ^ 64) then g + 1 else g
 
 -- how many of the first steps belong to this group
 abbrev pub in_front : ℕ → List Step → ℕ
@@ -53,7 +57,8 @@ stacked h from to = record { held = h; past = pieces_of from; future = pieces_of
 abbrev pub turned : Steps → Steps
 turned st = record { held = st.held; past = st.future; future = st.past }
 
--- after this error: some of the last steps were taken back, and of the next one a part; the error is the first fault of taking that back
+-- after this error: some of the last steps were taken back, and of the next one a part, up to the edit that is refused; the error is the first
+-- fault of taking that back
 pub record IsStopped (e : EditError) (h : Labelled) (from to : List Step) (new : Labelled) (new_from new_to : List Step) : Type 0 where
   pub done : ℕ
   pub fewer : done < group_size from
@@ -67,4 +72,4 @@ pub record IsStopped (e : EditError) (h : Labelled) (from to : List Step) (new :
   pub step : Step
   pub next : slice_get (reverse new_from) 0 ≡ Some step
   pub fault : IsFault e (back_fault held step.piece)
-  pub part : IsPartBack held step.piece new step.group between new_to
+  pub part : IsPartBack e held step.piece new step.group between new_to

@@ -11,3 +11,4 @@ pub mod Recorded
 pub mod Returning
 pub mod Groups
 pub mod Forgetting
+pub mod Sweeping

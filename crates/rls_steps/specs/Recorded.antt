@@ -38,6 +38,8 @@ pub record Recorded : Type 0 where
   pub future : List Step
   -- the number of the group that is open
   pub group : ℕ
+  -- how many names there were after the last sweep
+  pub after_sweep : ℕ
 
 -- identifiers of an epoch in the greatest one
 abbrev pub names_over : Seen → EpochName → Names → Names
@@ -52,6 +54,7 @@ settled s r = record {
   past = r.past;
   future = r.future;
   group = r.group;
+  after_sweep = r.after_sweep;
 }
 
 -- at a replica
@@ -60,7 +63,7 @@ steps_over s r = record { held = held_by s r.next (names_over s r.epoch r.names)
 
 -- nothing is recorded
 abbrev pub unused : Recorded
-unused = record { epoch = Origin; next = 0; names = []; past = []; future = []; group = 0 }
+unused = record { epoch = Origin; next = 0; names = []; past = []; future = []; group = 0; after_sweep = 0 }
 
 -- what an edit leaves: an insertion and a deletion are steps, and nothing else is
 abbrev pub IsRecorded : Edit → Seen → Recorded → Seen → Recorded → Type 0

@@ -174,8 +174,8 @@ fn known(labels: &Vec<Option<u64>>, from: usize, count: usize) -> Result<Vec<u64
     Ok(numbers)
 }
 
-// One more label, if it is one.
-fn push_known(numbers: &mut Vec<u64>, label: Option<u64>) -> Result<(), AllocError>
+/// One more label, if it is one.
+pub(crate) fn push_known(numbers: &mut Vec<u64>, label: Option<u64>) -> Result<(), AllocError>
     ensures ok { OnOk result (numbers.new.items ≡ numbers.old.items ++ given_labels (label ∷ [])) }
 {
     match label {

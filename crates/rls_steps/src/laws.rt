@@ -5,6 +5,7 @@ ghost use Rattle.rls_steps.specs.Courses.{AsCopied, AsCopiedFromFirst, UndoneAnd
 ghost use Rattle.rls_steps.specs.Forgetting.{ForgettingShows};
 ghost use Rattle.rls_steps.specs.Parts.{DeletionShows};
 ghost use Rattle.rls_steps.specs.Recorded.{RenamingShows};
+ghost use Rattle.rls_steps.specs.Sweeping.{SweepingShows};
 ghost use Rattle.rls_steps.specs.StepLaws.{LabelledLead, CutTakenBack, PutTakenBack, InsertionLeads, DeletionLeads, RenamingLeads, AppliedRenames};
 
 /// A step that is taken back leaves the text before it, and those below it as they were; the step that does it again stands on the other
@@ -50,9 +51,11 @@ pub fn own_alone()
 {}
 
 /// A deletion that leaves several pieces is a step of an editor that keeps a copy of each text, with texts in between; and renames,
-/// whoever made them, change nothing of what is recorded. If the oldest steps are forgotten, the others lead to their texts as before.
+/// whoever made them, change nothing of what is recorded. If the oldest steps are forgotten, the others lead to their texts as before, and so they do
+/// if names go that no step needs.
 pub fn followed()
     ensures deletion { DeletionShows }
     ensures renaming { RenamingShows }
     ensures forgetting { ForgettingShows }
+    ensures sweeping { SweepingShows }
 {}

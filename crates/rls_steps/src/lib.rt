@@ -11,6 +11,7 @@ mod piece;
 mod returning;
 mod splitting;
 mod steps;
+mod sweeping;
 mod undoing;
 
 pub use piece::{Labels, Piece, Step};

@@ -26,7 +26,7 @@ pub(crate) fn take_back(
     ensures fits { OnOk result (FitsBack (held_by replica.old next.old names.old) step.now.piece) }
     ensures held { OnOk result (held_by replica.new next.new names.new ≡ (taken_back (held_by replica.old next.old names.old) step.now.piece []).held) }
     ensures stack { OnOk result (other.new.items ≡ other.old.items ++ steps_of step.now.group (taken_back (held_by replica.old next.old names.old) step.now.piece []).other) }
-    ensures part { OnErr result (IsPartBack (held_by replica.old next.old names.old) step.now.piece (held_by replica.new next.new names.new) step.now.group other.old.items other.new.items) }
+    ensures part { IfErr result (λ e. IsPartBack e (held_by replica.old next.old names.old) step.now.piece (held_by replica.new next.new names.new) step.now.group other.old.items other.new.items) }
     ensures epochs { replica.new.epochs ≡ replica.old.epochs }
 {
     match &step.piece {
@@ -57,7 +57,7 @@ fn take_out(
     ensures fits { OnOk result (FitsBack (held_by replica.old next.old names.old) (Put labels.now)) }
     ensures held { OnOk result (held_by replica.new next.new names.new ≡ (taken_back (held_by replica.old next.old names.old) (Put labels.now) []).held) }
     ensures stack { OnOk result (other.new.items ≡ other.old.items ++ steps_of group (taken_back (held_by replica.old next.old names.old) (Put labels.now) []).other) }
-    ensures part { OnErr result (IsPartBack (held_by replica.old next.old names.old) (Put labels.now) (held_by replica.new next.new names.new) group other.old.items other.new.items) }
+    ensures part { IfErr result (λ e. IsPartBack e (held_by replica.old next.old names.old) (Put labels.now) (held_by replica.new next.new names.new) group other.old.items other.new.items) }
     ensures epochs { replica.new.epochs ≡ replica.old.epochs }
 {
     let Ok(ranges) = ranges(replica, names, labels) else {
@@ -82,7 +82,7 @@ fn cut_all(
     ensures fits { OnOk result (FitRanges (held_by replica.old next.old names.old) ranges.now.items) }
     ensures held { OnOk result (held_by replica.new next.new names.new ≡ (cut_ranges (held_by replica.old next.old names.old) ranges.now.items []).held) }
     ensures stack { OnOk result (other.new.items ≡ other.old.items ++ steps_of group (cut_ranges (held_by replica.old next.old names.old) ranges.now.items []).other) }
-    ensures part { OnErr result (IsPartCut (held_by replica.old next.old names.old) ranges.now.items (held_by replica.new next.new names.new) group other.old.items other.new.items) }
+    ensures part { IfErr result (λ e. IsPartCut e (held_by replica.old next.old names.old) ranges.now.items (held_by replica.new next.new names.new) group other.old.items other.new.items) }
     ensures epochs { replica.new.epochs ≡ replica.old.epochs }
 {
     'cuts: for i in 0..ranges.len() {
@@ -110,7 +110,7 @@ fn put_back(
     ensures fits { OnOk result (FitsBack (held_by replica.old next.old names.old) (Cut labels.now text.now left right)) }
     ensures held { OnOk result (held_by replica.new next.new names.new ≡ (taken_back (held_by replica.old next.old names.old) (Cut labels.now text.now left right) []).held) }
     ensures stack { OnOk result (other.new.items ≡ other.old.items ++ steps_of group (taken_back (held_by replica.old next.old names.old) (Cut labels.now text.now left right) []).other) }
-    ensures part { OnErr result (IsPartBack (held_by replica.old next.old names.old) (Cut labels.now text.now left right) (held_by replica.new next.new names.new) group other.old.items other.new.items) }
+    ensures part { IfErr result (λ e. IsPartBack e (held_by replica.old next.old names.old) (Cut labels.now text.now left right) (held_by replica.new next.new names.new) group other.old.items other.new.items) }
     ensures epochs { replica.new.epochs ≡ replica.old.epochs }
 {
     let Ok(at) = place(replica, names, left, right) else {

@@ -1,6 +1,6 @@
 //! What a member did to its text, step by step, and what it took back.
 
-ghost use Rattle.std.specs.Prelude.{◌≡◌, ◌+◌, ◌++◌, ◌∷◌, [], ℕ, List, length, take, ◌-◌, map, replicate, Some, None, IfOk, IfErr, OnOk, OnErr, IsErrOf, ◌↔◌, IsFalse, ◌≤◌, ◌⊎◌};
+ghost use Rattle.std.specs.Prelude.{◌≡◌, ◌+◌, ◌++◌, ◌∷◌, [], ℕ, List, length, take, reverse, ◌-◌, map, replicate, Some, None, IfOk, IfErr, OnOk, OnErr, IsErrOf, ◌↔◌, IsFalse, ◌≤◌, ◌⊎◌};
 ghost use Rattle.rls_ident.specs.declared.epoch_name.EpochName.{EpochName};
 ghost use Rattle.rls_model.specs.declared.edit.EditError.{EditError};
 ghost use Rattle.rls_model.specs.declared.edit.Edit.TheVariants.{Insert, Delete};
@@ -9,14 +9,17 @@ ghost use Rattle.rls_seen.specs.Seen.{own_count, greatest_over};
 ghost use Rattle.rls_replica.specs.Names.{keeps, KeepsNames};
 ghost use Rattle.rls_steps.specs.Courses.{Back, Again, course, MayRun, Copies, Shows, copies};
 ghost use Rattle.rls_steps.specs.Forgetting.{forgotten, without_first};
-ghost use Rattle.rls_steps.specs.Groups.{group_size, group_count, IsStopped};
+ghost use Rattle.rls_steps.specs.Index.{AreApart};
+ghost use Rattle.rls_steps.specs.Groups.{group_size, group_count, next_group, IsStopped};
 ghost use Rattle.rls_steps.specs.Recorded.{unused, settled, steps_over, names_over, IsRecorded};
+ghost use Rattle.rls_steps.specs.Sweeping.{swept, kept_within, with_newest};
 
 use crate::changing::{delete, insert};
 use crate::dropping::{drop_first, forgotten};
 use crate::labelling::translated;
 use crate::names::Names;
 use crate::piece::Step;
+use crate::sweeping::kept_names;
 use crate::undoing::{back, count};
 use rls_ident::EpochName;
 use rls_replica::{Edit, EditError, PastError, Replica};
@@ -46,6 +49,7 @@ pub struct Steps {
     past: Vec<Step>,
     future: Vec<Step>,
     group: u64,
+    after_sweep: usize,
 }
 
 impl Model for Steps {
@@ -53,7 +57,7 @@ impl Model for Steps {
 
     ghost Value = { Recorded };
 
-    ghost view = { λ s. record { epoch = s.epoch; next = s.next; names = s.names; past = s.past.items; future = s.future.items; group = s.group } };
+    ghost view = { λ s. record { epoch = s.epoch; next = s.next; names = s.names; past = s.past.items; future = s.future.items; group = s.group; after_sweep = s.after_sweep } };
 }
 
 impl Steps {
@@ -68,6 +72,7 @@ impl Steps {
             past: Vec::new(alloc),
             future: Vec::new(alloc),
             group: 0,
+            after_sweep: 0,
         }
     }
 
@@ -85,8 +90,7 @@ impl Steps {
         count(&self.future)
     }
 
-    /// How many names of characters are kept. It grows with each character that is inserted or deleted, and `forget` leaves it as it
-    /// is: to begin anew, make a new `Steps`.
+    /// How many names of characters are kept. It grows with each character that is inserted or deleted; `keep_within` lets names go.
     pub fn named(&self) -> usize
         ensures count { result ≡ length self.now.names }
     {
@@ -100,6 +104,8 @@ impl Steps {
         ensures names { self.new.names ≡ self.old.names }
         ensures past { self.new.past ≡ self.old.past }
         ensures future { self.new.future ≡ self.old.future }
+        ensures group { self.new.group ≡ next_group self.old.group }
+        ensures after_sweep { self.new.after_sweep ≡ self.old.after_sweep }
     {
         if let Some(group) = self.group.checked_add(1) {
             self.group = group;
@@ -114,6 +120,59 @@ impl Steps {
     {
         let count = forgotten(&self.past, steps, chars);
         drop_first(&mut self.past, count);
+    }
+
+    /// Keeps memory within bounds: an editor calls it after each edit, undo and redo. Nothing happens until there are more than twice as
+    /// many names as the last sweep left. Then the oldest groups are forgotten, as by `forget`, and there is a sweep: a name stays only
+    /// if a step names its label, and if besides no newer name has that label or its character is in the text. Names that go are never
+    /// needed again, so what is left leads to the same texts as before. After an error all is as before, but that everything may be in
+    /// the greatest epoch.
+    ///
+    /// Each call costs nothing but a comparison, until there is a sweep. That costs a pass over the steps and a few searches for each
+    /// name, of which it lets at least as many go as were added since the last one, or the steps need them.
+    ///
+    /// # Errors
+    ///
+    /// `Dropped` only where the replica doesn't keep the epoch of what is recorded; or `OutOfMemory`.
+    pub fn keep_within(
+        &mut self,
+        replica: &Replica,
+        steps: usize,
+        chars: u64,
+    ) -> Result<(), PastError>
+        ensures kept { OnOk result (self.new ≡ kept_within replica.now steps chars self.old) }
+        ensures dropped { (e : EpochName) → IsErrOf result (PastError.Dropped e) → (self.old.epoch ≡ e) × IsFalse (keeps replica.now e) }
+        ensures stays { OnErr result (settled replica.now self.new ≡ settled replica.now self.old) }
+        ensures shows { OnOk result ((c : Copies) → Shows (steps_over replica.now self.old) c → Shows (steps_over replica.now self.new) (with_newest (length self.new.past) c)) }
+    {
+        if self.names.len() / 2 <= self.after_sweep {
+            return Ok(());
+        }
+        match self.settle(replica) {
+            Err(error) => Err(error),
+            Ok(()) => self.sweep(replica, steps, chars),
+        }
+    }
+
+    // Everything is in the greatest epoch.
+    fn sweep(&mut self, replica: &Replica, steps: usize, chars: u64) -> Result<(), PastError>
+        requires greatest { self.old.epoch ≡ greatest_over replica.now }
+        ensures swept { OnOk result (self.new ≡ swept replica.now (without_first (forgotten steps chars self.old.past) self.old)) }
+        ensures kept { (e : EpochName) → IsErrOf result (PastError.Dropped e) → ⊥ }
+        ensures stays { OnErr result (self.new ≡ self.old) }
+        ensures apart { AreApart (reverse self.old.names) }
+        ensures within { forgotten steps chars self.old.past ≤ length self.old.past }
+    {
+        self.names.apart();
+        let count = forgotten(&self.past, steps, chars);
+        let (_, past) = self.past.split_at(count);
+        let Ok(names) = kept_names(replica, &self.names, past, &self.future) else {
+            return Err(PastError::OutOfMemory);
+        };
+        drop_first(&mut self.past, count);
+        self.after_sweep = names.len();
+        self.names = names;
+        Ok(())
     }
 
     /// Translates everything to the greatest epoch, as is needed before what is stable is dropped. After an error all is as before. It
@@ -345,6 +404,7 @@ fn step_error(error: EditError) -> StepError
     ensures nothing { result ≡ StepError.Nothing → ⊥ }
     ensures memory { result ≡ StepError.Edit EditError.OutOfMemory → ⊥ }
     ensures edit { (f : EditError) → result ≡ StepError.Edit f → error ≡ f }
+    ensures spent { result ≡ StepError.OutOfMemory → error ≡ EditError.OutOfMemory }
     ensures dropped { (e : EpochName) → result ≡ StepError.Dropped e → ⊥ }
 {
     match error {

@@ -64,7 +64,7 @@ fn back_one(
     ensures left { OnOk result (from.new.items ≡ take (length from.old.items - 1) from.old.items) }
     ensures stays { OnErr result (from.new.items ≡ from.old.items) }
     ensures fault { IfErr result (λ e. (step : Step) → slice_get (reverse from.old.items) 0 ≡ Some step → IsFault e (back_fault (held_by replica.old next.old names.old) step.piece)) }
-    ensures part { OnErr result ((step : Step) × (slice_get (reverse from.old.items) 0 ≡ Some step) × IsPartBack (held_by replica.old next.old names.old) step.piece (held_by replica.new next.new names.new) step.group to.old.items to.new.items) }
+    ensures part { IfErr result (λ e. (step : Step) × (slice_get (reverse from.old.items) 0 ≡ Some step) × IsPartBack e (held_by replica.old next.old names.old) step.piece (held_by replica.new next.new names.new) step.group to.old.items to.new.items) }
     ensures epochs { replica.new.epochs ≡ replica.old.epochs }
 {
     let n = from.len();

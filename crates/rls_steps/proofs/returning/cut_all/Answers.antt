@@ -1,4 +1,4 @@
-use Rattle.std.proofs.Common.{◌≡◌, ◌∙◌, ap, subst, refl, length, arith}
+use Rattle.std.proofs.Common.{◌≡◌, ◌∙◌, sym, ap, subst, refl, length, arith}
 use Rattle.rls_model.specs.declared.edit.Edit.TheVariants as edits
 use Rattle.rls_seen.specs.Edits.{edit_fault_over, IsFault}
 use Rattle.rls_seen.specs.Seen.{Seen}
@@ -39,4 +39,7 @@ returns-in-Err-clause-part c =
     let same : k ≡ held_by c.cuts.replica c.cuts.next c.cuts.names =
     ap (λ (s : Seen). held_by s c.cut.new.next c.cut.new.names) e.err
     ∙ (ap (λ n. held_by c.cuts.replica n c.cut.new.names) e.next ∙ ap (λ (ns : Names). held_by c.cuts.replica c.cuts.next ns) e.names) in
-    part_cut h k c.args.ranges.now.items c.cuts.i c.args.group c.args.other.now.items c.cut.new.stack.items v.fit (same ∙ v.held) (e.stays ∙ v.stack)
+    let rs = c.args.ranges.now.items in
+    let r = c.index.result.now in
+    part_cut h k rs c.cuts.i c.args.group r c.in-Err.error c.args.other.now.items c.cut.new.stack.items (slice_get_read rs (length rs) c.cuts.i r refl (omega (arith, c.cuts-test.true)) c.index.ensures)
+    v.fit (same ∙ v.held) (subst (λ (s : Seen). IsFault c.in-Err.error (edit_fault_over s (edits.Delete r.0 r.1))) (sym e.err) e.fault) (e.stays ∙ v.stack)

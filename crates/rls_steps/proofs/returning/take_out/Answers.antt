@@ -18,7 +18,7 @@ returns-in-Err-clause-part c =
     let h = held_by s c.args.next.now c.args.names.now in
     let n = held_by c.cut_all.new.replica c.cut_all.new.next c.cut_all.new.names in
     let same = c.in-Ok.ensures.ranges c.args.next.now in
-    subst (λ (rs : List (ℕ × ℕ)). IsPartCut h rs n c.args.group c.args.other.now.items c.cut_all.new.other.items) same c.in-Err.ensures.part
+    subst (λ (rs : List (ℕ × ℕ)). IsPartCut c.in-Err.error h rs n c.args.group c.args.other.now.items c.cut_all.new.other.items) same c.in-Err.ensures.part
 
 pub returns-clause-fits : goal.returns-clause-fits
 returns-clause-fits c =

@@ -14,7 +14,7 @@ returns-in_err-settle_for-clause-dropped c = λ e h.
 
 pub returns-clause-shows : goal.returns-clause-shows
 returns-clause-shows c =
-    let w : Recorded = record { epoch = c.self-2.inside.epoch; next = c.self-2.inside.next; names = c.self-2.inside.names; past = c.self-2.inside.past.items; future = c.self-2.inside.future.items; group = c.self-2.inside.group } in
-    let q : Recorded = record { epoch = c.self-2.inside.epoch; next = c.back.new.next; names = c.back.new.names; past = c.back.new.from.items; future = c.back.new.to.items; group = c.self-2.inside.group } in
+    let w : Recorded = record { epoch = c.self-2.inside.epoch; next = c.self-2.inside.next; names = c.self-2.inside.names; past = c.self-2.inside.past.items; future = c.self-2.inside.future.items; group = c.self-2.inside.group; after_sweep = c.self-2.inside.after_sweep } in
+    let q : Recorded = record { epoch = c.self-2.inside.epoch; next = c.back.new.next; names = c.back.new.names; past = c.back.new.from.items; future = c.back.new.to.items; group = c.self-2.inside.group; after_sweep = c.self-2.inside.after_sweep } in
     let i = readied c.args.replica.now c.args.self.now c.settle_for.new.self c.close.new.self w c.in_ok-settle_for.ensures.settled c.close.ensures.epoch c.close.ensures.next c.close.ensures.names c.close.ensures.past c.close.ensures.future c.self-2.view_is in
     elim c.match-back.branch [ in-Ok v ↦ rw v.result-is ((undone c.args.replica.now c.back.new.replica c.args.self.now w q i c.back.ensures.epochs refl v.in-Ok.ensures.fits v.in-Ok.ensures.after).shows) | in-Err v ↦ rw v.result-is tt ]

@@ -1,0 +1,14 @@
+use Rattle.std.proofs.lemmas.Result.{on_ok_weaker}
+use Rattle.rls_steps.proofs.Keeping.{kept_all, kept_shows}
+use Rattle.rls_steps.proofs.steps.Steps.keep_within.Goals as goal
+
+pub returns-then-len-self-clause-shows : goal.returns-then-len-self-clause-shows
+returns-then-len-self-clause-shows c = λ d x. kept_all c.args.replica.now c.args.self.now d x
+
+pub returns-in-Err-clause-dropped : goal.returns-in-Err-clause-dropped
+returns-in-Err-clause-dropped c = λ e h. (c.in-Err.ensures.dropped e).0 h
+
+pub returns-in-Ok-clause-shows : goal.returns-in-Ok-clause-shows
+returns-in-Ok-clause-shows c =
+    on_ok_weaker c.sweep.result
+    (λ f. kept_shows c.args.replica.now c.args.self.now c.settle.new.self c.sweep.new.self c.args.steps c.args.chars c.in-Ok.ensures.settled c.sweep.ensures.apart c.sweep.ensures.within f) c.sweep.ensures.swept
