@@ -2,7 +2,7 @@
 use Rattle.std.proofs.Common.{◌≡◌, ℕ, ◌-◌, ◌≤◌, List, length, take, drop, refl, sym, ap, ◌∙◌, subst, arith}
 use Rattle.std.specs.Prelude.{reverse}
 use Rattle.std.proofs.lemmas.List.{length-drop}
-use Rattle.rls_seen.specs.Seen.{Seen, greatest_over}
+use Rattle.rls_seen.specs.Seen.{Seen, idents_over, greatest_over}
 use Rattle.rls_steps.specs.declared.piece.Step.{Step}
 use Rattle.rls_steps.specs.Courses.{Steps, Copies, Shows}
 use Rattle.rls_steps.specs.Forgetting.{forgotten, without_first}
@@ -21,7 +21,7 @@ kept_all s r c x =
 
 -- after a sweep
 pub kept_shows : (s : Seen) (r q n : Recorded) (steps chars : ℕ) → q ≡ settled s r → AreApart (reverse q.names) → forgotten steps chars q.past ≤ length q.past →
-    n ≡ swept s (without_first (forgotten steps chars q.past) q) → (c : Copies) → Shows (steps_over s r) c → Shows (steps_over s n) (with_newest (length n.past) c)
+    n ≡ swept (idents_over s) (without_first (forgotten steps chars q.past) q) → (c : Copies) → Shows (steps_over s r) c → Shows (steps_over s n) (with_newest (length n.past) c)
 kept_shows s r q n steps chars e a h f c x =
     let k = forgotten steps chars q.past in
     let w = without_first k q in

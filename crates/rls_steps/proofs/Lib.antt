@@ -31,3 +31,4 @@ pub mod Returned
 pub mod Newest
 pub mod Swept
 pub mod Keeping
+pub mod Grounded

@@ -46,7 +46,7 @@ names_there s e names q = ap (there s e names) (ap (λ (f : EpochName). name_eq 
 
 -- ---- settled
 
-abbrev record_of : EpochName → ℕ → Names → List Step → List Step → ℕ → ℕ → Recorded
+abbrev pub record_of : EpochName → ℕ → Names → List Step → List Step → ℕ → ℕ → Recorded
 record_of e next names past future group after = record { epoch = e; next = next; names = names; past = past; future = future; group = group; after_sweep = after }
 
 pub settled_same : (s : Seen) (e : EpochName) (next : ℕ) (names : Names) (past future : List Step) (group after : ℕ) → name_eq e (greatest_over s) ≡ true →

@@ -12,3 +12,4 @@ pub mod Returning
 pub mod Groups
 pub mod Forgetting
 pub mod Sweeping
+pub mod Grounds

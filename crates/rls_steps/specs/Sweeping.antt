@@ -44,16 +44,20 @@ is_kept xs labels ns n = is_needed labels n.1 && (is_newest ns n || is_ok (place
 abbrev pub kept_names : List (List Tuple) → List ℕ → Names → Names
 kept_names xs labels names = filter (is_kept xs labels (reverse names)) names
 
--- only names that steps need are left
-abbrev pub swept : Seen → Recorded → Recorded
-swept s r =
-    let names = kept_names (idents_over s) (step_labels r.past ++ step_labels r.future) r.names in
+-- only names that steps need are left, in a text of these identifiers
+abbrev pub swept : List (List Tuple) → Recorded → Recorded
+swept xs r =
+    let names = kept_names xs (step_labels r.past ++ step_labels r.future) r.names in
     record { epoch = r.epoch; next = r.next; names = names; past = r.past; future = r.future; group = r.group; after_sweep = length names }
 
 -- once there are more than twice as many names as there were after the last sweep, the oldest groups are forgotten, down to so many steps and
--- characters, and then the names that no step needs
+-- characters, and then the names that no step needs: in a text of these identifiers, where w is the same in the greatest epoch
+abbrev pub kept_in : List (List Tuple) → Recorded → ℕ → ℕ → Recorded → Recorded
+kept_in xs w steps chars r = if nat_le (length r.names / 2) r.after_sweep then r else swept xs (without_first (forgotten steps chars r.past) w)
+
+-- at a replica
 abbrev pub kept_within : Seen → ℕ → ℕ → Recorded → Recorded
-kept_within s steps chars r = if nat_le (length r.names / 2) r.after_sweep then r else swept s (without_first (forgotten steps chars r.past) (settled s r))
+kept_within s steps chars r = kept_in (idents_over s) (settled s r) steps chars r
 
 -- the editor that keeps a copy of each text has forgotten all but so many of the texts before
 abbrev pub with_newest : ℕ → Copies → Copies
@@ -61,4 +65,4 @@ with_newest k c = record { now = c.now; before = take k c.before; after = c.afte
 
 -- the names that are left lead to the same texts
 abbrev pub SweepingShows : Type 0
-SweepingShows = (s : Seen) (r : Recorded) (c : Copies) → r.epoch ≡ greatest_over s → AreApart (reverse r.names) → Shows (steps_over s r) c → Shows (steps_over s (swept s r)) c
+SweepingShows = (s : Seen) (r : Recorded) (c : Copies) → r.epoch ≡ greatest_over s → AreApart (reverse r.names) → Shows (steps_over s r) c → Shows (steps_over s (swept (idents_over s) r)) c

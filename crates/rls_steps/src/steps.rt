@@ -5,12 +5,13 @@ ghost use Rattle.rls_ident.specs.declared.epoch_name.EpochName.{EpochName};
 ghost use Rattle.rls_model.specs.declared.edit.EditError.{EditError};
 ghost use Rattle.rls_model.specs.declared.edit.Edit.TheVariants.{Insert, Delete};
 ghost use Rattle.rls_seen.specs.Edits.{edit_fault_over, edited};
-ghost use Rattle.rls_seen.specs.Seen.{own_count, greatest_over};
+ghost use Rattle.rls_seen.specs.Seen.{own_count, idents_over, greatest_over};
 ghost use Rattle.rls_replica.specs.Names.{keeps, KeepsNames};
 ghost use Rattle.rls_steps.specs.Courses.{Back, Again, course, MayRun, Copies, Shows, copies};
 ghost use Rattle.rls_steps.specs.Forgetting.{forgotten, without_first};
 ghost use Rattle.rls_steps.specs.Index.{AreApart};
 ghost use Rattle.rls_steps.specs.Groups.{group_size, group_count, next_group, IsStopped};
+ghost use Rattle.rls_steps.specs.Grounds.{over, recorded_on, back_on, again_on, closed};
 ghost use Rattle.rls_steps.specs.Recorded.{unused, settled, steps_over, names_over, IsRecorded};
 ghost use Rattle.rls_steps.specs.Sweeping.{swept, kept_within, with_newest};
 
@@ -105,6 +106,7 @@ impl Steps {
         ensures past { self.new.past ≡ self.old.past }
         ensures future { self.new.future ≡ self.old.future }
         ensures group { self.new.group ≡ next_group self.old.group }
+        ensures closed { self.new ≡ closed self.old }
         ensures after_sweep { self.new.after_sweep ≡ self.old.after_sweep }
     {
         if let Some(group) = self.group.checked_add(1) {
@@ -157,7 +159,7 @@ impl Steps {
     // Everything is in the greatest epoch.
     fn sweep(&mut self, replica: &Replica, steps: usize, chars: u64) -> Result<(), PastError>
         requires greatest { self.old.epoch ≡ greatest_over replica.now }
-        ensures swept { OnOk result (self.new ≡ swept replica.now (without_first (forgotten steps chars self.old.past) self.old)) }
+        ensures swept { OnOk result (self.new ≡ swept (idents_over replica.now) (without_first (forgotten steps chars self.old.past) self.old)) }
         ensures kept { (e : EpochName) → IsErrOf result (PastError.Dropped e) → ⊥ }
         ensures stays { OnErr result (self.new ≡ self.old) }
         ensures apart { AreApart (reverse self.old.names) }
@@ -224,6 +226,7 @@ impl Steps {
         ensures seq { IfOk result (λ n. n ≡ own_count replica.old + 1) }
         ensures after { OnOk result (replica.new ≡ edited replica.old edit.now) }
         ensures recorded { OnOk result (IsRecorded edit.now replica.old self.old replica.new self.new) }
+        ensures exact { OnOk result (self.new ≡ recorded_on over replica.old edit.now self.old) }
         ensures err { OnErr result (replica.new ≡ replica.old) }
         ensures stays { OnErr result (settled replica.old self.new ≡ settled replica.old self.old) }
         ensures names { KeepsNames replica.old replica.new }
@@ -269,6 +272,7 @@ impl Steps {
         ensures seq { IfOk result (λ n. n ≡ own_count replica.old + 1) }
         ensures after { OnOk result (replica.new ≡ edited replica.old (Insert at text.now)) }
         ensures recorded { OnOk result (IsRecorded (Insert at text.now) replica.old self.old replica.new self.new) }
+        ensures exact { OnOk result (self.new ≡ recorded_on over replica.old (Insert at text.now) self.old) }
         ensures err { OnErr result (replica.new ≡ replica.old) }
         ensures stays { OnErr result (self.new ≡ self.old) }
         ensures epochs { replica.new.epochs ≡ replica.old.epochs }
@@ -304,6 +308,7 @@ impl Steps {
         ensures seq { IfOk result (λ n. n ≡ own_count replica.old + 1) }
         ensures after { OnOk result (replica.new ≡ edited replica.old (Delete at count)) }
         ensures recorded { OnOk result (IsRecorded (Delete at count) replica.old self.old replica.new self.new) }
+        ensures exact { OnOk result (self.new ≡ recorded_on over replica.old (Delete at count) self.old) }
         ensures err { OnErr result (replica.new ≡ replica.old) }
         ensures stays { OnErr result (self.new ≡ self.old) }
         ensures epochs { replica.new.epochs ≡ replica.old.epochs }
@@ -338,6 +343,7 @@ impl Steps {
     /// on with it.
     pub fn undo(&mut self, replica: &mut Replica) -> Result<usize, StepError>
         ensures nothing { IsErrOf result StepError.Nothing ↔ (self.old.past ≡ []) }
+        ensures stays { IsErrOf result StepError.Nothing → (replica.new ≡ replica.old) × (self.new ≡ self.old) }
         ensures memory { IsErrOf result (StepError.Edit EditError.OutOfMemory) → ⊥ }
         ensures dropped { (e : EpochName) → IsErrOf result (StepError.Dropped e) → (self.old.epoch ≡ e) × IsFalse (keeps replica.old e) × (replica.new ≡ replica.old) × (self.new ≡ self.old) }
         ensures size { IfOk result (λ n. n ≡ group_size self.old.past) }
@@ -346,6 +352,8 @@ impl Steps {
         ensures stopped { (f : EditError) → IsErrOf result (StepError.Edit f) → IsStopped f (steps_over replica.old self.old).held self.old.past self.old.future (steps_over replica.new self.new).held self.new.past self.new.future }
         ensures spent { IsErrOf result StepError.OutOfMemory → ((replica.new ≡ replica.old) × (self.new ≡ self.old)) ⊎ IsStopped EditError.OutOfMemory (steps_over replica.old self.old).held self.old.past self.old.future (steps_over replica.new self.new).held self.new.past self.new.future }
         ensures left { OnOk result (self.new.past ≡ take (length self.old.past - group_size self.old.past) self.old.past) }
+        ensures exact { IfOk result (λ n. back_on over replica.old self.old ≡ record { steps = n; fault = None; state = replica.new; recorded = self.new }) }
+        ensures refused { (f : EditError) → IsErrOf result (StepError.Edit f) → back_on over replica.old self.old ≡ record { steps = group_size self.old.past; fault = Some f; state = replica.new; recorded = self.new } }
         ensures names { KeepsNames replica.old replica.new }
         ensures shows { OnOk result ((c : Copies) → Shows (steps_over replica.old self.old) c → Shows (steps_over replica.new self.new) (copies c (replicate (group_size self.old.past) Back))) }
     {
@@ -370,6 +378,7 @@ impl Steps {
     /// those of `undo`, with `Nothing` exactly where there is nothing to redo.
     pub fn redo(&mut self, replica: &mut Replica) -> Result<usize, StepError>
         ensures nothing { IsErrOf result StepError.Nothing ↔ (self.old.future ≡ []) }
+        ensures stays { IsErrOf result StepError.Nothing → (replica.new ≡ replica.old) × (self.new ≡ self.old) }
         ensures memory { IsErrOf result (StepError.Edit EditError.OutOfMemory) → ⊥ }
         ensures dropped { (e : EpochName) → IsErrOf result (StepError.Dropped e) → (self.old.epoch ≡ e) × IsFalse (keeps replica.old e) × (replica.new ≡ replica.old) × (self.new ≡ self.old) }
         ensures size { IfOk result (λ n. n ≡ group_size self.old.future) }
@@ -378,6 +387,8 @@ impl Steps {
         ensures stopped { (f : EditError) → IsErrOf result (StepError.Edit f) → IsStopped f (steps_over replica.old self.old).held self.old.future self.old.past (steps_over replica.new self.new).held self.new.future self.new.past }
         ensures spent { IsErrOf result StepError.OutOfMemory → ((replica.new ≡ replica.old) × (self.new ≡ self.old)) ⊎ IsStopped EditError.OutOfMemory (steps_over replica.old self.old).held self.old.future self.old.past (steps_over replica.new self.new).held self.new.future self.new.past }
         ensures left { OnOk result (self.new.future ≡ take (length self.old.future - group_size self.old.future) self.old.future) }
+        ensures exact { IfOk result (λ n. again_on over replica.old self.old ≡ record { steps = n; fault = None; state = replica.new; recorded = self.new }) }
+        ensures refused { (f : EditError) → IsErrOf result (StepError.Edit f) → again_on over replica.old self.old ≡ record { steps = group_size self.old.future; fault = Some f; state = replica.new; recorded = self.new } }
         ensures names { KeepsNames replica.old replica.new }
         ensures shows { OnOk result ((c : Copies) → Shows (steps_over replica.old self.old) c → Shows (steps_over replica.new self.new) (copies c (replicate (group_size self.old.future) Again))) }
     {

@@ -1,10 +1,12 @@
 //! Groups of steps.
 
-ghost use Rattle.std.specs.Prelude.{◌≡◌, ◌-◌, ◌<◌, ◌≤◌, length, take, replicate, slice_get, reverse, Some, IfOk, IfErr, OnOk, OnErr, IsTrue, ◌↔◌, if◌then◌else◌};
+ghost use Rattle.std.specs.Prelude.{◌≡◌, ℕ, suc, ◌-◌, ◌<◌, ◌≤◌, length, take, replicate, slice_get, reverse, Some, None, IfOk, IfErr, OnOk, OnErr, IsTrue, ◌↔◌, if◌then◌else◌};
 ghost use Rattle.rls_seen.specs.Edits.{IsFault};
 ghost use Rattle.rls_steps.specs.declared.piece.Step.{Step};
 ghost use Rattle.rls_steps.specs.Courses.{Back, moved, MayMove, course, MayRun};
 ghost use Rattle.rls_steps.specs.Groups.{group_size, group_count, group_before, goes_on, in_front, stacked, IsStopped};
+ghost use Rattle.rls_model.specs.declared.edit.EditError.{EditError};
+ghost use Rattle.rls_steps.specs.Grounds.{over, held_at, steps_on};
 ghost use Rattle.rls_steps.specs.Recorded.{held_by};
 ghost use Rattle.rls_steps.specs.Returning.{back_fault, IsPartBack};
 
@@ -26,6 +28,8 @@ pub(crate) fn back(
     ensures after { OnOk result (stacked (held_by replica.new next.new names.new) from.new.items to.new.items ≡ course (stacked (held_by replica.old next.old names.old) from.old.items to.old.items) (replicate (group_size from.old.items) Back)) }
     ensures left { OnOk result (from.new.items ≡ take (length from.old.items - group_size from.old.items) from.old.items) }
     ensures stopped { IfErr result (λ e. IsStopped e (held_by replica.old next.old names.old) from.old.items to.old.items (held_by replica.new next.new names.new) from.new.items to.new.items) }
+    ensures exact { OnOk result (steps_on over (group_size from.old.items) (held_at replica.old next.old names.old) (reverse from.old.items) to.old.items ≡ record { held = held_at replica.new next.new names.new; from = reverse from.new.items; to = to.new.items; fault = None }) }
+    ensures refused { IfErr result (λ e. (e ≡ EditError.OutOfMemory → ⊥) → steps_on over (group_size from.old.items) (held_at replica.old next.old names.old) (reverse from.old.items) to.old.items ≡ record { held = held_at replica.new next.new names.new; from = reverse from.new.items; to = to.new.items; fault = Some e }) }
     ensures epochs { replica.new.epochs ≡ replica.old.epochs }
 {
     let mut done: usize = 0;
@@ -65,6 +69,8 @@ fn back_one(
     ensures stays { OnErr result (from.new.items ≡ from.old.items) }
     ensures fault { IfErr result (λ e. (step : Step) → slice_get (reverse from.old.items) 0 ≡ Some step → IsFault e (back_fault (held_by replica.old next.old names.old) step.piece)) }
     ensures part { IfErr result (λ e. (step : Step) × (slice_get (reverse from.old.items) 0 ≡ Some step) × IsPartBack e (held_by replica.old next.old names.old) step.piece (held_by replica.new next.new names.new) step.group to.old.items to.new.items) }
+    ensures exact { OnOk result ((k : ℕ) → steps_on over (suc k) (held_at replica.old next.old names.old) (reverse from.old.items) to.old.items ≡ steps_on over k (held_at replica.new next.new names.new) (reverse from.new.items) to.new.items) }
+    ensures refused { IfErr result (λ e. (e ≡ EditError.OutOfMemory → ⊥) → (k : ℕ) → steps_on over (suc k) (held_at replica.old next.old names.old) (reverse from.old.items) to.old.items ≡ record { held = held_at replica.new next.new names.new; from = reverse from.new.items; to = to.new.items; fault = Some e }) }
     ensures epochs { replica.new.epochs ≡ replica.old.epochs }
 {
     let n = from.len();

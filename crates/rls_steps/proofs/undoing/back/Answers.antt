@@ -1,7 +1,10 @@
-use Rattle.std.proofs.Common.{◌∙◌, subst, arith}
+use Rattle.std.proofs.Common.{◌≡◌, ℕ, suc, ◌+◌, ◌-◌, sym, ap, ◌∙◌, subst, arith}
+use Rattle.std.specs.Prelude.{reverse}
 use Rattle.rls_steps.specs.Courses.{Steps, Back, MayMove}
-use Rattle.rls_steps.specs.Groups.{stacked}
+use Rattle.rls_steps.specs.Grounds.{over, held_at, steps_on}
+use Rattle.rls_steps.specs.Groups.{stacked, in_front, group_size}
 use Rattle.rls_steps.specs.Recorded.{held_by}
+use Rattle.rls_steps.proofs.Grounded.{none_left}
 use Rattle.rls_steps.proofs.Grouping.{length_left, front_less, run_more, course_more, left_more}
 use Rattle.rls_steps.proofs.undoing.back.Goals as goal
 
@@ -22,5 +25,21 @@ steps-preserved c =
       within = omega (arith, w);
       left = left_more c.args.from.now.items c.steps.from.items c.back_one.new.from.items c.steps.done w v.left e.left;
       fit = run_more st c.steps.done v.fit (subst (λ (x : Steps). MayMove x Back) v.after e.fits);
+      run = λ k. let one : c.steps.done + 1 + k ≡ c.steps.done + suc k = omega arith in ap (λ n. steps_on over n (held_at c.args.replica.now c.args.next.now c.args.names.now) (reverse c.args.from.now.items) c.args.to.now.items) one ∙ (v.run (suc k) ∙ e.exact k);
       after = course_more st now new c.steps.done v.after e.after;
     }
+
+pub returns-in-Err-clause-refused : goal.returns-in-Err-clause-refused
+returns-in-Err-clause-refused c = λ u.
+    let v = c.steps.invariant in
+    let some = c.ends_in.ensures.ends.0 c.steps-test.true in
+    let k = in_front c.index.result.now.group (reverse c.steps.from.items) - 1 in
+    let size : group_size c.args.from.now.items ≡ c.steps.done + suc k = omega (arith, v.all, some) in
+    ap (λ n. steps_on over n (held_at c.args.replica.now c.args.next.now c.args.names.now) (reverse c.args.from.now.items) c.args.to.now.items) size ∙ (v.run (suc k) ∙ (c.in-Err.ensures.refused u k))
+
+pub returns-clause-exact : goal.returns-clause-exact
+returns-clause-exact c =
+    let v = c.steps.invariant in
+    let none = none_left (in_front c.index.result.now.group (reverse c.steps.from.items)) c.ends_in.result c.ends_in.ensures.ends.1 c.steps-test.false in
+    let size : group_size c.args.from.now.items ≡ c.steps.done + 0 = omega (arith, v.all, none) in
+    ap (λ n. steps_on over n (held_at c.args.replica.now c.args.next.now c.args.names.now) (reverse c.args.from.now.items) c.args.to.now.items) size ∙ v.run 0
