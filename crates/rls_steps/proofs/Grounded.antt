@@ -1,6 +1,6 @@
 -- What is recorded, exactly, at a replica.
-use Rattle.std.proofs.Common.{◌≡◌, ℕ, zero, suc, ◌+◌, ◌-◌, ◌<◌, List, [], ◌∷◌, ◌++◌, length, take, drop, refl, sym, ap, ◌∙◌, subst, arith}
-use Rattle.std.specs.Prelude.{Bool, false, IsTrue, IsFalse, reverse, slice_get, Option, Some, None}
+use Rattle.std.proofs.Common.{◌≡◌, ℕ, zero, suc, ◌+◌, ◌-◌, ◌<◌, List, [], ◌∷◌, ◌++◌, length, take, drop, refl, sym, ap, ◌∙◌, arith}
+use Rattle.std.specs.Prelude.{Bool, false, IsTrue, reverse, slice_get, Option, Some, None}
 use Rattle.std.proofs.lemmas.List.{reverse-append, reverse-reverse}
 use Rattle.rls_ident.specs.declared.tuple.Tuple.{Tuple}
 use Rattle.rls_ident.specs.declared.epoch_name.EpochName.{EpochName}
@@ -16,12 +16,12 @@ use Rattle.rls_undo.specs.Undoing.{unless}
 use Rattle.rls_steps.specs.declared.piece.Step.{Step}
 use Rattle.rls_steps.specs.Marks.{Mark, marks, Piece, Put, Cut, label_places, return_place, numbers_from}
 use Rattle.rls_steps.specs.Labelled.{Names, Labelled, label_of, marked, new_label, label_all, labels_in, label_at, left_of, ready_over, cut_over, cut_piece, put_over, insert_over}
-use Rattle.rls_steps.specs.Courses.{Taken, cut_ranges, ranges_over, gone_place, place_over, taken_back, FitRanges, FitsBack}
+use Rattle.rls_steps.specs.Courses.{cut_ranges, ranges_over, gone_place, place_over, taken_back, FitRanges, FitsBack}
 use Rattle.rls_steps.specs.Grounds.{over, Held, held_at, held_on, names_on, added_on, recorded_on, Turned, back_on, labelled_on, labels_on, marks_on, put_on, ready_on, cut_on, piece_on, ranges_on, gone_on, place_on, Left, cuts_on, taken_on, Stand, steps_on}
 use Rattle.rls_steps.specs.Groups.{group_size, next_group}
 use Rattle.rls_steps.specs.Parts.{parts}
 use Rattle.rls_steps.specs.Recorded.{Recorded, held_by, steps_of, names_over, settled}
-use Rattle.rls_steps.specs.Returning.{first_fault, back_fault, IsPartCut, IsPartBack}
+use Rattle.rls_steps.specs.Returning.{first_fault, back_fault, IsPartBack}
 use Rattle.rls_steps.proofs.Recording.{record_of, names_there}
 use Rattle.rls_steps.proofs.Returned.{IsReadied}
 use Rattle.rls_steps.proofs.Tabled.{marks_are}

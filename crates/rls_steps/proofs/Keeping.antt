@@ -1,9 +1,8 @@
 -- What is kept within bounds.
-use Rattle.std.proofs.Common.{◌≡◌, ℕ, ◌-◌, ◌≤◌, List, length, take, drop, refl, sym, ap, ◌∙◌, subst, arith}
+use Rattle.std.proofs.Common.{◌≡◌, ℕ, ◌-◌, ◌≤◌, length, sym, ap, ◌∙◌, subst, arith}
 use Rattle.std.specs.Prelude.{reverse}
 use Rattle.std.proofs.lemmas.List.{length-drop}
 use Rattle.rls_seen.specs.Seen.{Seen, idents_over, greatest_over}
-use Rattle.rls_steps.specs.declared.piece.Step.{Step}
 use Rattle.rls_steps.specs.Courses.{Steps, Copies, Shows}
 use Rattle.rls_steps.specs.Forgetting.{forgotten, without_first}
 use Rattle.rls_steps.specs.Index.{AreApart}

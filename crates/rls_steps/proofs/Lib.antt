@@ -32,3 +32,4 @@ pub mod Newest
 pub mod Swept
 pub mod Keeping
 pub mod Grounded
+pub mod Agreeing

@@ -1,6 +1,6 @@
 -- Names that no step needs may go.
 use Rattle.std.proofs.Common.{◌≡◌, ℕ, zero, suc, ◌+◌, ◌<◌, ◌≤◌, Bool, true, false, List, [], ◌∷◌, ◌++◌, map, length, take, get_or, inl, inr, refl, sym, ap, ◌∙◌, ◌⊎◌, subst, append_assoc, arith}
-use Rattle.std.specs.Prelude.{IsTrue, Option, Some, None, ◌==◌, ◌&&◌, ◌||◌, filter, reverse, is_ok, slice_get, nat_lt, Result, Ok, Err, if◌then◌else◌}
+use Rattle.std.specs.Prelude.{Option, Some, None, ◌==◌, ◌&&◌, ◌||◌, filter, reverse, is_ok, slice_get, nat_lt, Result, Ok, Err, if◌then◌else◌}
 use Rattle.std.specs.List.Sorted.{IsPermutation, IsNonDecreasing, IsBinarySearchResult}
 use Rattle.std.specs.Ordering.{nat_cmp}
 use Rattle.std.specs.Result.{MatchResult}
@@ -9,20 +9,19 @@ use Rattle.std.proofs.lemmas.List.Sorted.{searched, IsPermutation-sym, Contains-
 use Rattle.rls_ident.specs.declared.tuple.Tuple.{Tuple}
 use Rattle.rls_ident.specs.Identifiers.{ident_eq, IsIdent}
 use Rattle.rls_ident.specs.Lists.{IsIn}
-use Rattle.rls_ident.proofs.Ends.{eq_same, same_eq, ident_eq_refl}
+use Rattle.rls_ident.proofs.Ends.{eq_same}
 use Rattle.rls_ident.proofs.Members.{bool_cases, true_false, eq_is, eq_test, eq_refl, some_is, or_right, not_true, same_bool, lt_is, not_lt_is, in_left, in_right, in_split, in_map, map_in, in_filter, in_any, any_in}
 use Rattle.rls_runs.specs.Entries.{Entries, idents_in}
 use Rattle.rls_runs.specs.Runs.{place_of, is_increasing}
-use Rattle.rls_seen.specs.Seen.{Seen, idents_over, greatest_over}
+use Rattle.rls_seen.specs.Seen.{idents_over}
 use Rattle.rls_steps.specs.declared.piece.Step.{Step}
 use Rattle.rls_steps.specs.Marks.{Mark, Known, Unknown, Marked, marks, Piece, Put, Cut, remarked}
 use Rattle.rls_steps.specs.Back.{AreDistinct, AreGiven, LeadBack}
 use Rattle.rls_steps.specs.Labelled.{Names, Labelled, label_of, mark_by, mark, marked_by, marked, IsLabelled, Leads}
 use Rattle.rls_steps.specs.Index.{AreApart}
-use Rattle.rls_steps.specs.Courses.{Copies, Shows}
-use Rattle.rls_steps.specs.Recorded.{Recorded, held_by, pieces_of, names_over, steps_over}
-use Rattle.rls_steps.specs.Sweeping.{piece_labels, step_labels, is_needed, is_newest, is_kept, kept_names, swept, SweepingShows}
-use Rattle.rls_steps.proofs.Exchanging.{AllOf, OptionOf, PiecesOf, ExchangesOf, exchanged_of, distinct_marks}
+use Rattle.rls_steps.specs.Recorded.{held_by, pieces_of, names_over}
+use Rattle.rls_steps.specs.Sweeping.{piece_labels, step_labels, is_needed, is_newest, is_kept, kept_names, SweepingShows}
+use Rattle.rls_steps.proofs.Exchanging.{AllOf, PiecesOf, ExchangesOf, exchanged_of, distinct_marks}
 use Rattle.rls_steps.proofs.Found.{place_at, contained, contains_in}
 use Rattle.rls_steps.proofs.Recording.{names_there}
 use Rattle.rls_steps.proofs.Tabled.{marks_are}

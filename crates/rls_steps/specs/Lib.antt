@@ -13,3 +13,4 @@ pub mod Groups
 pub mod Forgetting
 pub mod Sweeping
 pub mod Grounds
+pub mod GroundLaws

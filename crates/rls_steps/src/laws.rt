@@ -3,6 +3,7 @@
 ghost use Rattle.rls_steps.specs.BackLaws.{PutBack, CutBack, Exchanged, ReturnsBeside};
 ghost use Rattle.rls_steps.specs.Courses.{AsCopied, AsCopiedFromFirst, UndoneAndRedone, TakesOwnAlone};
 ghost use Rattle.rls_steps.specs.Forgetting.{ForgettingShows};
+ghost use Rattle.rls_steps.specs.GroundLaws.{RecordedAlike, TurnedAlike, KeptAlike};
 ghost use Rattle.rls_steps.specs.Parts.{DeletionShows};
 ghost use Rattle.rls_steps.specs.Recorded.{RenamingShows};
 ghost use Rattle.rls_steps.specs.Sweeping.{SweepingShows};
@@ -58,4 +59,12 @@ pub fn followed()
     ensures renaming { RenamingShows }
     ensures forgetting { ForgettingShows }
     ensures sweeping { SweepingShows }
+{}
+
+/// What is recorded over a replica's parts is what is recorded over each history that the replica stands for: after an edit, a group that
+/// is taken back or done again, also up to an edit that is refused, and a sweep.
+pub fn agreed()
+    ensures recorded { RecordedAlike }
+    ensures turned { TurnedAlike }
+    ensures kept { KeptAlike }
 {}

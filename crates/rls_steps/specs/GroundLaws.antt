@@ -1,0 +1,55 @@
+-- The statements that what is recorded over a replica's parts is what is recorded over each history that the replica stands for.
+use Rattle.std.specs.Prelude.{◌≡◌, ℕ, List, [], ◌∷◌, IsTrue}
+use Rattle.rls_ops.specs.WellFormed.{IsText}
+use Rattle.rls_model.specs.declared.edit.Edit.{Edit}
+use Rattle.rls_model.specs.Document.{text}
+use Rattle.rls_model.specs.History.{History}
+use Rattle.rls_model.specs.Legal.{IsLegal}
+use Rattle.rls_model.specs.Receiving.{State}
+use Rattle.rls_replica.specs.Names.{keeps}
+use Rattle.rls_seen.specs.Sane.{IsSane}
+use Rattle.rls_seen.specs.Seen.{Seen}
+use Rattle.rls_seen.specs.Stands.{StandsFor}
+use Rattle.rls_steps.specs.declared.piece.Step.{Step}
+use Rattle.rls_steps.specs.Marks.{Piece, Put, Cut}
+use Rattle.rls_steps.specs.Recorded.{Recorded}
+use Rattle.rls_steps.specs.Grounds.{over, within, Turned, recorded_on, back_on, again_on, kept_on}
+
+-- the text that was cut out consists of characters
+abbrev pub IsSpelled : Piece → Type 0
+IsSpelled (Put labels) = Unit {0}
+IsSpelled (Cut labels cs left right) = IsText cs
+
+-- so does that of each of these steps
+abbrev pub AreSpelled : List Step → Type 0
+AreSpelled [] = Unit {0}
+AreSpelled (x ∷ xs) = IsSpelled x.piece × AreSpelled xs
+
+abbrev pub IsWhole : Recorded → Type 0
+IsWhole r = AreSpelled r.past × AreSpelled r.future
+
+-- what a group leaves over a replica's parts and over a history
+pub record AreAlike (a : Turned Seen) (b : Turned State) : Type 0 where
+  pub steps : a.steps ≡ b.steps
+  pub fault : a.fault ≡ b.fault
+  pub recorded : a.recorded ≡ b.recorded
+  pub stands : StandsFor a.state b.state
+  pub sane : IsSane a.state
+  pub whole : IsWhole a.recorded
+  pub kept : IsTrue (keeps a.state a.recorded.epoch)
+
+-- each text of a legal history consists of characters
+abbrev pub TextsSpelled : Type 0
+TextsSpelled = (H : History) → IsLegal H → IsText (text H)
+
+abbrev pub TurnedAlike : Type 0
+TurnedAlike = TextsSpelled → (s : Seen) (t : State) (r : Recorded) → StandsFor s t → IsSane s → IsTrue (keeps s r.epoch) → IsWhole r →
+    AreAlike (back_on over s r) (back_on within t r) × AreAlike (again_on over s r) (again_on within t r)
+
+abbrev pub RecordedAlike : Type 0
+RecordedAlike = TextsSpelled → (s : Seen) (t : State) (edit : Edit) (r : Recorded) → StandsFor s t → IsTrue (keeps s r.epoch) → IsWhole r →
+    (recorded_on over s edit r ≡ recorded_on within t edit r) × IsWhole (recorded_on over s edit r)
+
+abbrev pub KeptAlike : Type 0
+KeptAlike = (s : Seen) (t : State) (steps chars : ℕ) (r : Recorded) → StandsFor s t → IsTrue (keeps s r.epoch) → IsWhole r →
+    (kept_on over s steps chars r ≡ kept_on within t steps chars r) × IsWhole (kept_on over s steps chars r)
