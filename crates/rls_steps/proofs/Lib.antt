@@ -23,6 +23,7 @@ pub mod Grouping
 pub mod Following
 pub mod Recording
 pub mod Forgetting
+pub mod StepChanged
 pub mod PartSteps
 pub mod Unchanged
 pub mod Errors

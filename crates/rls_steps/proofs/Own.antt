@@ -24,7 +24,7 @@ one_seen : (h : Labelled) (x : List Tuple) (o : Option ℕ) → (new_label o h x
 one_seen h x None = refl
 one_seen h x (Some n) = refl
 
-label_seen : (h : Labelled) (xs : List (List Tuple)) → (label_all h xs).seen ≡ h.seen
+pub label_seen : (h : Labelled) (xs : List (List Tuple)) → (label_all h xs).seen ≡ h.seen
 label_seen h [] = refl
 label_seen h (x ∷ xs) = label_seen (new_label (label_of h.names x) h x) xs ∙ one_seen h x (label_of h.names x)
 

@@ -14,3 +14,4 @@ pub mod Forgetting
 pub mod Sweeping
 pub mod Grounds
 pub mod GroundLaws
+pub mod StepChanges

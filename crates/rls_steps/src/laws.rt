@@ -7,6 +7,7 @@ ghost use Rattle.rls_steps.specs.GroundLaws.{RecordedAlike, TurnedAlike, KeptAli
 ghost use Rattle.rls_steps.specs.Parts.{DeletionShows};
 ghost use Rattle.rls_steps.specs.Recorded.{RenamingShows};
 ghost use Rattle.rls_steps.specs.Sweeping.{SweepingShows};
+ghost use Rattle.rls_steps.specs.StepChanges.{PieceChanges};
 ghost use Rattle.rls_steps.specs.StepLaws.{LabelledLead, CutTakenBack, PutTakenBack, InsertionLeads, DeletionLeads, RenamingLeads, AppliedRenames};
 
 /// A step that is taken back leaves the text before it, and those below it as they were; the step that does it again stands on the other
@@ -67,4 +68,10 @@ pub fn agreed()
     ensures recorded { RecordedAlike }
     ensures turned { TurnedAlike }
     ensures kept { KeptAlike }
+{}
+
+/// The changes of a step that is taken back, played over the text before, give the text after. Of what was put in just what is still there
+/// goes, and nothing comes.
+pub fn changed()
+    ensures changed { PieceChanges }
 {}

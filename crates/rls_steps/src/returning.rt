@@ -1,26 +1,33 @@
 //! Pieces that are taken back.
 
-ghost use Rattle.std.specs.Prelude.{◌≡◌, ◌+◌, ◌-◌, ◌++◌, ◌∷◌, [], ℕ, List, length, take, replicate, slice_get, Some, None, IfOk, IfErr, OnOk, OnErr, IfSome, IfNone};
+ghost use Rattle.std.specs.Prelude.{◌≡◌, ◌+◌, ◌-◌, ◌++◌, ◌∷◌, [], ℕ, List, length, map, take, replicate, slice_get, Some, None, IfOk, IfErr, OnOk, OnErr, IfSome, IfNone};
 ghost use Rattle.rls_seen.specs.Edits.{IsFault};
+ghost use Rattle.rls_seen.specs.Seen.{text_over};
+ghost use Rattle.rls_changes.specs.declared.change.Change.TheVariants.{Insert, Delete};
 ghost use Rattle.rls_steps.specs.Marks.{Piece, Put, Cut};
 ghost use Rattle.rls_steps.specs.Courses.{cut_ranges, taken_back, ranges_over, FitsBack, FitRanges};
 ghost use Rattle.rls_steps.specs.Recorded.{held_by, steps_of};
 ghost use Rattle.rls_steps.specs.Returning.{back_fault, ranges_fault, IsPartBack, IsPartCut};
+ghost use Rattle.rls_steps.specs.StepChanges.{piece_changes, range_change, AreTold};
 
 use crate::changing::{cut, put};
 use crate::finding::{place, ranges};
 use crate::names::Names;
 use crate::piece::{Labels, Piece, Step};
+use rls_changes::Change;
+use rls_ident::rely;
 use rls_replica::{EditError, Replica};
 use rls_runs::Text;
+use std::alloc::AllocError;
 
-/// Takes the piece of a step back, and puts what this leaves on the other stack.
+/// Takes the piece of a step back, and puts what this leaves on the other stack, and what it changes in the text after the other changes.
 pub(crate) fn take_back(
     replica: &mut Replica,
     names: &mut Names,
     next: &mut u64,
     step: &Step,
     other: &mut Vec<Step>,
+    changes: &mut Vec<Change>,
 ) -> Result<(), EditError>
     ensures fault { IfErr result (λ e. IsFault e (back_fault (held_by replica.old next.old names.old) step.now.piece)) }
     ensures fits { OnOk result (FitsBack (held_by replica.old next.old names.old) step.now.piece) }
@@ -28,18 +35,26 @@ pub(crate) fn take_back(
     ensures stack { OnOk result (other.new.items ≡ other.old.items ++ steps_of step.now.group (taken_back (held_by replica.old next.old names.old) step.now.piece []).other) }
     ensures part { IfErr result (λ e. IsPartBack e (held_by replica.old next.old names.old) step.now.piece (held_by replica.new next.new names.new) step.now.group other.old.items other.new.items) }
     ensures epochs { replica.new.epochs ≡ replica.old.epochs }
+    ensures changes { OnOk result (changes.new.items ≡ changes.old.items ++ piece_changes (held_by replica.old next.old names.old) step.now.piece) }
+    ensures told { AreTold (piece_changes (held_by replica.old next.old names.old) step.now.piece) changes.old.items changes.new.items (text_over replica.old) (text_over replica.new) }
 {
     match &step.piece {
-        Piece::Put { labels } => {
-            take_out(replica, names, next, step.group, labels.as_slice(), other)
-        }
+        Piece::Put { labels } => take_out(
+            replica,
+            names,
+            next,
+            step.group,
+            labels.as_slice(),
+            other,
+            changes,
+        ),
         Piece::Cut {
             labels,
             text,
             left,
             right,
         } => put_back(
-            replica, names, next, step.group, labels, text, *left, *right, other,
+            replica, names, next, step.group, labels, text, *left, *right, other, changes,
         ),
     }
 }
@@ -52,6 +67,7 @@ fn take_out(
     group: u64,
     labels: &[u64],
     other: &mut Vec<Step>,
+    changes: &mut Vec<Change>,
 ) -> Result<(), EditError>
     ensures fault { IfErr result (λ e. IsFault e (back_fault (held_by replica.old next.old names.old) (Put labels.now))) }
     ensures fits { OnOk result (FitsBack (held_by replica.old next.old names.old) (Put labels.now)) }
@@ -59,11 +75,13 @@ fn take_out(
     ensures stack { OnOk result (other.new.items ≡ other.old.items ++ steps_of group (taken_back (held_by replica.old next.old names.old) (Put labels.now) []).other) }
     ensures part { IfErr result (λ e. IsPartBack e (held_by replica.old next.old names.old) (Put labels.now) (held_by replica.new next.new names.new) group other.old.items other.new.items) }
     ensures epochs { replica.new.epochs ≡ replica.old.epochs }
+    ensures changes { OnOk result (changes.new.items ≡ changes.old.items ++ piece_changes (held_by replica.old next.old names.old) (Put labels.now)) }
+    ensures told { AreTold (piece_changes (held_by replica.old next.old names.old) (Put labels.now)) changes.old.items changes.new.items (text_over replica.old) (text_over replica.new) }
 {
     let Ok(ranges) = ranges(replica, names, labels) else {
         return Err(EditError::OutOfMemory);
     };
-    match cut_all(replica, names, next, group, &ranges, other) {
+    match cut_all(replica, names, next, group, &ranges, other, changes) {
         Err(error) => Err(error),
         Ok(()) => Ok(()),
     }
@@ -77,6 +95,7 @@ fn cut_all(
     group: u64,
     ranges: &Vec<(u64, u64)>,
     other: &mut Vec<Step>,
+    changes: &mut Vec<Change>,
 ) -> Result<(), EditError>
     ensures fault { IfErr result (λ e. IsFault e (ranges_fault (held_by replica.old next.old names.old) ranges.now.items)) }
     ensures fits { OnOk result (FitRanges (held_by replica.old next.old names.old) ranges.now.items) }
@@ -84,10 +103,18 @@ fn cut_all(
     ensures stack { OnOk result (other.new.items ≡ other.old.items ++ steps_of group (cut_ranges (held_by replica.old next.old names.old) ranges.now.items []).other) }
     ensures part { IfErr result (λ e. IsPartCut e (held_by replica.old next.old names.old) ranges.now.items (held_by replica.new next.new names.new) group other.old.items other.new.items) }
     ensures epochs { replica.new.epochs ≡ replica.old.epochs }
+    ensures changes { OnOk result (changes.new.items ≡ changes.old.items ++ map range_change ranges.now.items) }
+    ensures told { AreTold (map range_change ranges.now.items) changes.old.items changes.new.items (text_over replica.old) (text_over replica.new) }
 {
     'cuts: for i in 0..ranges.len() {
+        rely!(replica.sane());
         let (at, count) = ranges[i];
+        let before = changes.len();
+        let Ok(()) = push_deletion(changes, at, count) else {
+            return Err(EditError::OutOfMemory);
+        };
         if let Err(error) = cut(replica, names, next, other, group, at, count) {
+            changes.truncate(before);
             return Err(error);
         }
     }
@@ -105,6 +132,7 @@ fn put_back(
     left: Option<u64>,
     right: Option<u64>,
     other: &mut Vec<Step>,
+    changes: &mut Vec<Change>,
 ) -> Result<(), EditError>
     ensures fault { IfErr result (λ e. IsFault e (back_fault (held_by replica.old next.old names.old) (Cut labels.now text.now left right))) }
     ensures fits { OnOk result (FitsBack (held_by replica.old next.old names.old) (Cut labels.now text.now left right)) }
@@ -112,6 +140,8 @@ fn put_back(
     ensures stack { OnOk result (other.new.items ≡ other.old.items ++ steps_of group (taken_back (held_by replica.old next.old names.old) (Cut labels.now text.now left right) []).other) }
     ensures part { IfErr result (λ e. IsPartBack e (held_by replica.old next.old names.old) (Cut labels.now text.now left right) (held_by replica.new next.new names.new) group other.old.items other.new.items) }
     ensures epochs { replica.new.epochs ≡ replica.old.epochs }
+    ensures changes { OnOk result (changes.new.items ≡ changes.old.items ++ piece_changes (held_by replica.old next.old names.old) (Cut labels.now text.now left right)) }
+    ensures told { AreTold (piece_changes (held_by replica.old next.old names.old) (Cut labels.now text.now left right)) changes.old.items changes.new.items (text_over replica.old) (text_over replica.new) }
 {
     let Ok(at) = place(replica, names, left, right) else {
         return Err(EditError::OutOfMemory);
@@ -122,8 +152,35 @@ fn put_back(
     let Ok(labels) = labels.copy() else {
         return Err(EditError::OutOfMemory);
     };
+    rely!(replica.sane());
+    let before = changes.len();
+    let Ok(()) = push_insertion(changes, at, &text) else {
+        return Err(EditError::OutOfMemory);
+    };
     match put(replica, names, other, group, at, text, labels) {
         Ok(_) => Ok(()),
-        Err(error) => Err(error),
+        Err(error) => {
+            changes.truncate(before);
+            Err(error)
+        }
     }
+}
+
+// A deletion after the other changes. After an error all is as before.
+fn push_deletion(changes: &mut Vec<Change>, at: u64, count: u64) -> Result<(), AllocError>
+    ensures ok { OnOk result (changes.new.items ≡ changes.old.items ++ Delete at count ∷ []) }
+    ensures err { OnErr result (changes.new.items ≡ changes.old.items) }
+{
+    changes.push(Change::Delete { at, count })?;
+    Ok(())
+}
+
+// An insertion after the other changes. After an error all is as before.
+fn push_insertion(changes: &mut Vec<Change>, at: u64, text: &Text) -> Result<(), AllocError>
+    ensures ok { OnOk result (changes.new.items ≡ changes.old.items ++ Insert at text.now ∷ []) }
+    ensures err { OnErr result (changes.new.items ≡ changes.old.items) }
+{
+    let text = text.copy()?;
+    changes.push(Change::Insert { at, text })?;
+    Ok(())
 }

@@ -5,13 +5,14 @@ ghost use Rattle.rls_ident.specs.declared.epoch_name.EpochName.{EpochName};
 ghost use Rattle.rls_model.specs.declared.edit.EditError.{EditError};
 ghost use Rattle.rls_model.specs.declared.edit.Edit.TheVariants.{Insert, Delete};
 ghost use Rattle.rls_seen.specs.Edits.{edit_fault_over, edited};
-ghost use Rattle.rls_seen.specs.Seen.{own_count, idents_over, greatest_over};
+ghost use Rattle.rls_seen.specs.Seen.{own_count, idents_over, greatest_over, text_over};
 ghost use Rattle.rls_replica.specs.Names.{keeps, KeepsNames};
 ghost use Rattle.rls_steps.specs.Courses.{Back, Again, course, MayRun, Copies, Shows, copies};
 ghost use Rattle.rls_steps.specs.Forgetting.{forgotten, without_first};
 ghost use Rattle.rls_steps.specs.Index.{AreApart};
-ghost use Rattle.rls_steps.specs.Groups.{group_size, group_count, next_group, IsStopped};
+ghost use Rattle.rls_steps.specs.Groups.{group_size, group_count, next_group, turned, IsStopped};
 ghost use Rattle.rls_steps.specs.Grounds.{over, recorded_on, back_on, again_on, closed};
+ghost use Rattle.rls_steps.specs.StepChanges.{back_changes, AreTold};
 ghost use Rattle.rls_steps.specs.Recorded.{unused, settled, steps_over, names_over, IsRecorded};
 ghost use Rattle.rls_steps.specs.Sweeping.{swept, kept_within, with_newest};
 
@@ -22,6 +23,7 @@ use crate::names::Names;
 use crate::piece::Step;
 use crate::sweeping::kept_names;
 use crate::undoing::{back, count};
+use rls_changes::Change;
 use rls_ident::EpochName;
 use rls_replica::{Edit, EditError, PastError, Replica};
 use rls_runs::Text;
@@ -330,7 +332,8 @@ impl Steps {
         }
     }
 
-    /// Takes the last group back, the last step first, and answers how many steps that were. It ends the open group.
+    /// Takes the last group back, the last step first, and answers how many steps that were. It ends the open group. What it changes in
+    /// the text stands after the other changes: an insertion for each piece that comes back, and a deletion for each range that goes.
     ///
     /// Each step costs its edits, as by `edit`. A step that put characters in costs a search in the text for each name that these have
     /// had, and one that cut some out the same for its neighbours. After a rename everything is translated first, as by `settle`.
@@ -341,7 +344,11 @@ impl Steps {
     /// recorded; then nothing changes. After `Edit`, with the fault of the first edit that is refused, and after `OutOfMemory` the steps
     /// before are taken back and can be redone, and of the step in hand some ranges may be. The rest stays, so that another `undo` goes
     /// on with it.
-    pub fn undo(&mut self, replica: &mut Replica) -> Result<usize, StepError>
+    pub fn undo(
+        &mut self,
+        replica: &mut Replica,
+        changes: &mut Vec<Change>,
+    ) -> Result<usize, StepError>
         ensures nothing { IsErrOf result StepError.Nothing ↔ (self.old.past ≡ []) }
         ensures stays { IsErrOf result StepError.Nothing → (replica.new ≡ replica.old) × (self.new ≡ self.old) }
         ensures memory { IsErrOf result (StepError.Edit EditError.OutOfMemory) → ⊥ }
@@ -355,6 +362,12 @@ impl Steps {
         ensures exact { IfOk result (λ n. back_on over replica.old self.old ≡ record { steps = n; fault = None; state = replica.new; recorded = self.new }) }
         ensures refused { (f : EditError) → IsErrOf result (StepError.Edit f) → back_on over replica.old self.old ≡ record { steps = group_size self.old.past; fault = Some f; state = replica.new; recorded = self.new } }
         ensures names { KeepsNames replica.old replica.new }
+        ensures changes { OnOk result (changes.new.items ≡ changes.old.items ++ back_changes (group_size self.old.past) (steps_over replica.old self.old)) }
+        ensures none_told { IsErrOf result StepError.Nothing → changes.new.items ≡ changes.old.items }
+        ensures dropped_told { (e : EpochName) → IsErrOf result (StepError.Dropped e) → changes.new.items ≡ changes.old.items }
+
+        // Some of the first of these changes stand after the others also after an error, and lead from the text before to the text now.
+        ensures told { AreTold (back_changes (group_size self.old.past) (steps_over replica.old self.old)) changes.old.items changes.new.items (text_over replica.old) (text_over replica.new) }
         ensures shows { OnOk result ((c : Copies) → Shows (steps_over replica.old self.old) c → Shows (steps_over replica.new self.new) (copies c (replicate (group_size self.old.past) Back))) }
     {
         if self.past.len() == 0 {
@@ -368,6 +381,7 @@ impl Steps {
             &mut self.next,
             &mut self.past,
             &mut self.future,
+            changes,
         ) {
             Ok(done) => Ok(done),
             Err(error) => Err(step_error(error)),
@@ -376,7 +390,11 @@ impl Steps {
 
     /// Does the group again that was taken back last, and answers how many steps that were. It ends the open group. Cost and errors are
     /// those of `undo`, with `Nothing` exactly where there is nothing to redo.
-    pub fn redo(&mut self, replica: &mut Replica) -> Result<usize, StepError>
+    pub fn redo(
+        &mut self,
+        replica: &mut Replica,
+        changes: &mut Vec<Change>,
+    ) -> Result<usize, StepError>
         ensures nothing { IsErrOf result StepError.Nothing ↔ (self.old.future ≡ []) }
         ensures stays { IsErrOf result StepError.Nothing → (replica.new ≡ replica.old) × (self.new ≡ self.old) }
         ensures memory { IsErrOf result (StepError.Edit EditError.OutOfMemory) → ⊥ }
@@ -390,6 +408,12 @@ impl Steps {
         ensures exact { IfOk result (λ n. again_on over replica.old self.old ≡ record { steps = n; fault = None; state = replica.new; recorded = self.new }) }
         ensures refused { (f : EditError) → IsErrOf result (StepError.Edit f) → again_on over replica.old self.old ≡ record { steps = group_size self.old.future; fault = Some f; state = replica.new; recorded = self.new } }
         ensures names { KeepsNames replica.old replica.new }
+        ensures changes { OnOk result (changes.new.items ≡ changes.old.items ++ back_changes (group_size self.old.future) (turned (steps_over replica.old self.old))) }
+        ensures none_told { IsErrOf result StepError.Nothing → changes.new.items ≡ changes.old.items }
+        ensures dropped_told { (e : EpochName) → IsErrOf result (StepError.Dropped e) → changes.new.items ≡ changes.old.items }
+
+        // Some of the first of these changes stand after the others also after an error, and lead from the text before to the text now.
+        ensures told { AreTold (back_changes (group_size self.old.future) (turned (steps_over replica.old self.old))) changes.old.items changes.new.items (text_over replica.old) (text_over replica.new) }
         ensures shows { OnOk result ((c : Copies) → Shows (steps_over replica.old self.old) c → Shows (steps_over replica.new self.new) (copies c (replicate (group_size self.old.future) Again))) }
     {
         if self.future.len() == 0 {
@@ -403,6 +427,7 @@ impl Steps {
             &mut self.next,
             &mut self.future,
             &mut self.past,
+            changes,
         ) {
             Ok(done) => Ok(done),
             Err(error) => Err(step_error(error)),

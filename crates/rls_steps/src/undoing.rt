@@ -1,27 +1,32 @@
 //! Groups of steps.
 
-ghost use Rattle.std.specs.Prelude.{◌≡◌, ℕ, suc, ◌-◌, ◌<◌, ◌≤◌, length, take, replicate, slice_get, reverse, Some, None, IfOk, IfErr, OnOk, OnErr, IsTrue, ◌↔◌, if◌then◌else◌};
+ghost use Rattle.std.specs.Prelude.{◌≡◌, ℕ, suc, ◌-◌, ◌++◌, ◌<◌, ◌≤◌, length, take, replicate, slice_get, reverse, Some, None, IfOk, IfErr, OnOk, OnErr, IsTrue, ◌↔◌, if◌then◌else◌};
 ghost use Rattle.rls_seen.specs.Edits.{IsFault};
+ghost use Rattle.rls_seen.specs.Seen.{text_over};
 ghost use Rattle.rls_steps.specs.declared.piece.Step.{Step};
 ghost use Rattle.rls_steps.specs.Courses.{Back, moved, MayMove, course, MayRun};
 ghost use Rattle.rls_steps.specs.Groups.{group_size, group_count, group_before, goes_on, in_front, stacked, IsStopped};
 ghost use Rattle.rls_model.specs.declared.edit.EditError.{EditError};
 ghost use Rattle.rls_steps.specs.Grounds.{over, held_at, steps_on};
-ghost use Rattle.rls_steps.specs.Recorded.{held_by};
+ghost use Rattle.rls_steps.specs.Recorded.{held_by, pieces_of};
 ghost use Rattle.rls_steps.specs.Returning.{back_fault, IsPartBack};
+ghost use Rattle.rls_steps.specs.StepChanges.{back_changes, first_changes, AreTold};
 
 use crate::names::Names;
 use crate::piece::Step;
 use crate::returning::take_back;
+use rls_changes::Change;
 use rls_replica::{EditError, Replica};
 
-/// Takes the steps of the last group back, the last first, and answers how many these are.
+/// Takes the steps of the last group back, the last first, and answers how many these are. What they change in the text stands after
+/// the other changes.
 pub(crate) fn back(
     replica: &mut Replica,
     names: &mut Names,
     next: &mut u64,
     from: &mut Vec<Step>,
     to: &mut Vec<Step>,
+    changes: &mut Vec<Change>,
 ) -> Result<usize, EditError>
     ensures size { IfOk result (λ n. n ≡ group_size from.old.items) }
     ensures fits { OnOk result (MayRun (stacked (held_by replica.old next.old names.old) from.old.items to.old.items) (replicate (group_size from.old.items) Back)) }
@@ -31,6 +36,8 @@ pub(crate) fn back(
     ensures exact { OnOk result (steps_on over (group_size from.old.items) (held_at replica.old next.old names.old) (reverse from.old.items) to.old.items ≡ record { held = held_at replica.new next.new names.new; from = reverse from.new.items; to = to.new.items; fault = None }) }
     ensures refused { IfErr result (λ e. (e ≡ EditError.OutOfMemory → ⊥) → steps_on over (group_size from.old.items) (held_at replica.old next.old names.old) (reverse from.old.items) to.old.items ≡ record { held = held_at replica.new next.new names.new; from = reverse from.new.items; to = to.new.items; fault = Some e }) }
     ensures epochs { replica.new.epochs ≡ replica.old.epochs }
+    ensures changes { OnOk result (changes.new.items ≡ changes.old.items ++ back_changes (group_size from.old.items) (stacked (held_by replica.old next.old names.old) from.old.items to.old.items)) }
+    ensures told { AreTold (back_changes (group_size from.old.items) (stacked (held_by replica.old next.old names.old) from.old.items to.old.items)) changes.old.items changes.new.items (text_over replica.old) (text_over replica.new) }
 {
     let mut done: usize = 0;
     if from.len() == 0 {
@@ -38,7 +45,7 @@ pub(crate) fn back(
     }
     let group = from[from.len() - 1].group;
     'steps: while ends_in(from, group) {
-        if let Err(error) = back_one(replica, names, next, from, to) {
+        if let Err(error) = back_one(replica, names, next, from, to, changes) {
             return Err(error);
         }
         done += 1;
@@ -61,6 +68,7 @@ fn back_one(
     next: &mut u64,
     from: &mut Vec<Step>,
     to: &mut Vec<Step>,
+    changes: &mut Vec<Change>,
 ) -> Result<(), EditError>
     requires some { 0 < length from.old.items }
     ensures fits { OnOk result (MayMove (stacked (held_by replica.old next.old names.old) from.old.items to.old.items) Back) }
@@ -72,9 +80,11 @@ fn back_one(
     ensures exact { OnOk result ((k : ℕ) → steps_on over (suc k) (held_at replica.old next.old names.old) (reverse from.old.items) to.old.items ≡ steps_on over k (held_at replica.new next.new names.new) (reverse from.new.items) to.new.items) }
     ensures refused { IfErr result (λ e. (e ≡ EditError.OutOfMemory → ⊥) → (k : ℕ) → steps_on over (suc k) (held_at replica.old next.old names.old) (reverse from.old.items) to.old.items ≡ record { held = held_at replica.new next.new names.new; from = reverse from.new.items; to = to.new.items; fault = Some e }) }
     ensures epochs { replica.new.epochs ≡ replica.old.epochs }
+    ensures changes { OnOk result (changes.new.items ≡ changes.old.items ++ first_changes (held_by replica.old next.old names.old) (pieces_of from.old.items)) }
+    ensures told { AreTold (first_changes (held_by replica.old next.old names.old) (pieces_of from.old.items)) changes.old.items changes.new.items (text_over replica.old) (text_over replica.new) }
 {
     let n = from.len();
-    match take_back(replica, names, next, &from[n - 1], to) {
+    match take_back(replica, names, next, &from[n - 1], to, changes) {
         Err(error) => Err(error),
         Ok(()) => {
             from.truncate(n - 1);

@@ -1,8 +1,10 @@
-use Rattle.std.proofs.Common.{◌≡◌, ◌++◌, [], ℕ, List, subst}
+use Rattle.std.proofs.Common.{◌≡◌, ◌++◌, [], ℕ, List, map, subst}
 use Rattle.rls_seen.specs.Edits.{IsFault}
+use Rattle.rls_seen.specs.Seen.{text_over}
 use Rattle.rls_steps.specs.Courses.{FitRanges, cut_ranges}
 use Rattle.rls_steps.specs.Recorded.{held_by, steps_of}
 use Rattle.rls_steps.specs.Returning.{ranges_fault, IsPartCut}
+use Rattle.rls_steps.specs.StepChanges.{range_change, AreTold}
 use Rattle.rls_steps.proofs.returning.take_out.Goals as goal
 
 pub returns-in-Err-clause-fault : goal.returns-in-Err-clause-fault
@@ -41,3 +43,18 @@ returns-clause-stack c =
     let h = held_by s c.args.next.now c.args.names.now in
     let same = c.in-Ok.ensures.ranges c.args.next.now in
     subst (λ (rs : List (ℕ × ℕ)). c.cut_all.new.other.items ≡ c.args.other.now.items ++ steps_of c.args.group (cut_ranges h rs []).other) same c.in-Ok-cut_all.ensures.stack
+
+pub returns-in-Err-clause-told : goal.returns-in-Err-clause-told
+returns-in-Err-clause-told c =
+    let same = c.in-Ok.ensures.ranges c.args.next.now in
+    subst (λ (rs : List (ℕ × ℕ)). AreTold (map range_change rs) c.args.changes.now.items c.cut_all.new.changes.items (text_over c.args.replica.now) (text_over c.cut_all.new.replica)) same c.in-Err.ensures.told
+
+pub returns-clause-changes : goal.returns-clause-changes
+returns-clause-changes c =
+    let same = c.in-Ok.ensures.ranges c.args.next.now in
+    subst (λ (rs : List (ℕ × ℕ)). c.cut_all.new.changes.items ≡ c.args.changes.now.items ++ map range_change rs) same c.in-Ok-cut_all.ensures.changes
+
+pub returns-clause-told : goal.returns-clause-told
+returns-clause-told c =
+    let same = c.in-Ok.ensures.ranges c.args.next.now in
+    subst (λ (rs : List (ℕ × ℕ)). AreTold (map range_change rs) c.args.changes.now.items c.cut_all.new.changes.items (text_over c.args.replica.now) (text_over c.cut_all.new.replica)) same c.in-Ok-cut_all.ensures.told

@@ -1,11 +1,13 @@
 use Rattle.std.proofs.Common.{◌≡◌, suc, ◌+◌, ◌-◌, ap, ◌∙◌, subst, arith}
 use Rattle.std.specs.Prelude.{reverse}
+use Rattle.rls_seen.specs.Seen.{text_over}
 use Rattle.rls_steps.specs.Courses.{Steps, Back, MayMove}
 use Rattle.rls_steps.specs.Grounds.{over, held_at, steps_on}
 use Rattle.rls_steps.specs.Groups.{stacked, in_front, group_size}
 use Rattle.rls_steps.specs.Recorded.{held_by}
 use Rattle.rls_steps.proofs.Grounded.{none_left}
 use Rattle.rls_steps.proofs.Grouping.{length_left, front_less, run_more, course_more, left_more}
+use Rattle.rls_steps.proofs.StepChanged.{next_back, part_back}
 use Rattle.rls_steps.proofs.undoing.back.Goals as goal
 
 pub steps-preserved : goal.steps-preserved
@@ -24,6 +26,7 @@ steps-preserved c =
       all = omega (arith, v.all, less.0);
       within = omega (arith, w);
       left = left_more c.args.from.now.items c.steps.from.items c.back_one.new.from.items c.steps.done w v.left e.left;
+      changes = next_back st now c.steps.done c.args.changes.now.items c.steps.changes.items c.back_one.new.changes.items (text_over c.args.replica.now) (text_over c.steps.replica) (text_over c.back_one.new.replica) v.after v.changes e.changes e.told;
       fit = run_more st c.steps.done v.fit (subst (λ (x : Steps). MayMove x Back) v.after e.fits);
       run = λ k. let one : c.steps.done + 1 + k ≡ c.steps.done + suc k = omega arith in ap (λ n. steps_on over n (held_at c.args.replica.now c.args.next.now c.args.names.now) (reverse c.args.from.now.items) c.args.to.now.items) one ∙ (v.run (suc k) ∙ e.exact k);
       after = course_more st now new c.steps.done v.after e.after;
@@ -43,3 +46,12 @@ returns-clause-exact c =
     let none = none_left (in_front c.index.result.now.group (reverse c.steps.from.items)) c.ends_in.result c.ends_in.ensures.ends.1 c.steps-test.false in
     let size : group_size c.args.from.now.items ≡ c.steps.done + 0 = omega (arith, v.all, none) in
     ap (λ n. steps_on over n (held_at c.args.replica.now c.args.next.now c.args.names.now) (reverse c.args.from.now.items) c.args.to.now.items) size ∙ v.run 0
+
+pub returns-in-Err-clause-told : goal.returns-in-Err-clause-told
+returns-in-Err-clause-told c =
+    let st = stacked (held_by c.args.replica.now c.args.next.now c.args.names.now) c.args.from.now.items c.args.to.now.items in
+    let now = stacked (held_by c.steps.replica c.steps.next c.steps.names) c.steps.from.items c.steps.to.items in
+    let v = c.steps.invariant in
+    let some = c.ends_in.ensures.ends.0 c.steps-test.true in
+    part_back st now c.steps.done (group_size c.args.from.now.items) c.args.changes.now.items c.steps.changes.items c.back_one.new.changes.items (text_over c.args.replica.now) (text_over c.steps.replica) (text_over c.back_one.new.replica)
+    (omega (arith, v.all, some)) v.after v.changes c.in-Err.ensures.told
