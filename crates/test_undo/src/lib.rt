@@ -1,8 +1,10 @@
-//! Tests of undo, also by steps, of cursors, and of what messages change: of what an editor calls beside a replica.
+//! Tests of undo, also by steps, of cursors, and of what changes in the text: of what an editor calls beside a replica.
 #![tactic(auto)]
 
 #[cfg(test)]
 mod changing;
+#[cfg(test)]
+mod following;
 #[cfg(test)]
 mod stepping;
 #[cfg(test)]

@@ -123,6 +123,16 @@ fn give(alloc: Global, from: &Replica, to: &mut Replica) -> Result<String, Fail>
     Ok(format!(in alloc; "{taken}")?)
 }
 
+fn undo(alloc: Global, steps: &mut Steps, replica: &mut Replica) -> Result<String, AllocError> {
+    let mut changes = Vec::new(alloc);
+    text_of_steps(alloc, steps.undo(replica, &mut changes))
+}
+
+fn redo(alloc: Global, steps: &mut Steps, replica: &mut Replica) -> Result<String, AllocError> {
+    let mut changes = Vec::new(alloc);
+    text_of_steps(alloc, steps.redo(replica, &mut changes))
+}
+
 fn close(alloc: Global, steps: &mut Steps) -> Result<String, AllocError> {
     steps.close();
     String::from_str(alloc, "closed")
@@ -155,8 +165,8 @@ fn change(alloc: Global, pair: &mut Pair, what: &Move) -> Result<String, Fail> {
         Move::Other(change) => Ok(pass(alloc, &mut pair.second, *change)?),
         Move::Give => give(alloc, &pair.first, &mut pair.second),
         Move::Take => give(alloc, &pair.second, &mut pair.first),
-        Move::Undo => Ok(text_of_steps(alloc, pair.steps.undo(&mut pair.first))?),
-        Move::Redo => Ok(text_of_steps(alloc, pair.steps.redo(&mut pair.first))?),
+        Move::Undo => Ok(undo(alloc, &mut pair.steps, &mut pair.first)?),
+        Move::Redo => Ok(redo(alloc, &mut pair.steps, &mut pair.first)?),
         _ => Ok(look(alloc, pair, what)?),
     }
 }
