@@ -15,6 +15,14 @@ rows=(in_order:2000:23 reverse:2000:23 shuffled:2000:23 waiting:2000:23 waiting_
   again:50:23 refused:250:23 refused_in_turn:250:23 gone_renamed:50:42 chain:50:42 old_deletions:50:23 wrong_epoch:250:23 renamed_file:25:23
   small_renames:500:23 scattered:20000:23 back:250:23 rename:20000:23)
 
+# Beside each row of `take` one of what its changes cost: the same message, taken with what it changes (bench/changes.rt.in).
+for entry in "${rows[@]}"; do
+  case $entry in
+    renamed_file:* | back:* | rename:*) ;;
+    *) rows+=("changes_$entry") ;;
+  esac
+done
+
 # A fresh replica of this member, in a folder of its own, which becomes the current one.
 fresh() {
   rm -rf "${room:?}/$1"
@@ -26,9 +34,12 @@ fresh() {
 at() { cd "$room/$1"; }
 
 # The number of instructions of a command. A message whose operations are refused ends with status 5, and is counted too.
-instructions() {
+instructions() { counted "$program" "$@"; }
+
+# The same of any program.
+counted() {
   local status=0 count
-  valgrind --tool=callgrind --callgrind-out-file=/dev/null "$program" "$@" >/dev/null 2>"$room/told" || status=$?
+  valgrind --tool=callgrind --callgrind-out-file=/dev/null "$@" >/dev/null 2>"$room/told" || status=$?
   count=$(awk '/Collected/ { print $4 }' "$room/told")
   if [ -z "$count" ] || { [ "$status" != 0 ] && [ "$status" != 5 ]; }; then
     echo "costs: $* ended with status $status:" >&2
@@ -43,6 +54,38 @@ taken() {
   python3 "$here/make.py" "$1" "$2" >"$room/message"
   fresh 0
   instructions take <"$room/message"
+}
+
+# The program that tells changes. It is built once, in a copy of the crates that it uses, which proves what isn't proved there yet;
+# RLS_CHANGES names one that is there.
+follower=${RLS_CHANGES:-$room/built/crates/rls_follow/out/rls_follow}
+build_follower() {
+  "$top/bin/copy-crates" "$room/built" rls_follow rls_replica rls_sync rls_changes
+  cp "$top/bench/changes.rt.in" "$room/built/crates/rls_follow/src/main.rt"
+  (cd "$room/built/crates/rls_follow" && rt run) >"$room/log" 2>&1 || { cat "$room/log" >&2; exit 1; }
+}
+
+# What it costs to take the last of these messages with its changes, after the others.
+followed() {
+  local before all
+  [ -x "$follower" ] || build_follower
+  before=$(counted "$follower" "${@:1:$#-1}") || exit 1
+  all=$(counted "$follower" "$@") || exit 1
+  echo $((all - before))
+}
+
+# The same of the message of a row of `take`.
+changes() {
+  case $1 in
+    gone_renamed | chain)
+      "$1" "$2" >/dev/null
+      followed "$room/first" "$room/second"
+      ;;
+    *)
+      python3 "$here/make.py" "$1" "$2" >"$room/message"
+      followed "$room/message"
+      ;;
+  esac
 }
 
 # A text by member 1 that members 0 and 2 have: so many characters.
@@ -119,6 +162,7 @@ renamed_file() {
 work_of() {
   case $1 in
     gone_renamed | chain | renamed_file | back | rename) "$1" "$2" ;;
+    changes_*) changes "${1#changes_}" "$2" ;;
     *) taken "$1" "$2" ;;
   esac
 }
