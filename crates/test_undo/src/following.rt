@@ -104,7 +104,7 @@ fn insertion(alloc: Global, dice: &mut Dice, total: u64) -> Result<Edit, AllocEr
 
 fn deletion(dice: &mut Dice, total: u64) -> Edit {
     let at = dice.roll(total);
-    let count = 1 + dice.roll(total.saturating_sub(at).min(4));
+    let count = dice.roll(total.saturating_sub(at).min(4)).saturating_add(1);
     Edit::Delete { at, count }
 }
 
