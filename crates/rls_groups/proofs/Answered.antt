@@ -1,5 +1,5 @@
 -- A request of a session of a group: what it is answered, and what it makes of the member's history.
-use Rattle.std.proofs.Common.{◌≡◌, ◌∙◌, ◌≤◌, ◌<◌, ◌-◌, ℕ, Bool, true, false, cond, ltb, nat_lt, List, [], ◌∷◌, ◌++◌, length, Option, Some, None, Result, Ok, Err, is_some, refl, sym, ap, subst, inl, inr}
+use Rattle.std.proofs.Common.{◌≡◌, ◌∙◌, ◌≤◌, ◌<◌, ◌-◌, ℕ, Bool, true, false, cond, ltb, nat_lt, zero, suc, List, [], ◌∷◌, ◌++◌, length, Option, Some, None, Result, Ok, Err, is_some, refl, sym, ap, subst, inl, inr}
 use Rattle.std.specs.Prelude.{◌&&◌, ◌==◌, codes, encode_utf8_all}
 use Rattle.std.proofs.lemmas.List.{append-nil}
 use Rattle.rls_ident.specs.declared.limits.TheConstants.{INPUT_BYTES}
@@ -28,7 +28,7 @@ use Rattle.rls_model.proofs.WorldsInvariant.{at_later}
 use Rattle.rls_model.proofs.WorldsPast.{taking_goes_on}
 use Rattle.rls_model.proofs.WorldsArrived.{edit_stays, message_stays}
 use Rattle.rls_seen.specs.Messages.{message_over}
-use Rattle.rls_seen.specs.Over.{first_ready, release_of, release_over, released_all}
+use Rattle.rls_seen.specs.Over.{after_release, first_ready, release_of, release_over, released, released_all}
 use Rattle.rls_seen.specs.Seen.{Seen, members, vector}
 use Rattle.rls_seen.specs.Stands.{StandsFor}
 use Rattle.rls_seen.proofs.Keeping.{text_alike}
@@ -38,7 +38,7 @@ use Rattle.rls_seen.proofs.Sending.{message_alike, message_fits}
 use Rattle.rls_store.proofs.HistoryMessages.{sent_is_message}
 use Rattle.rls_undo.specs.declared.entry.Entry.{Entry}
 use Rattle.rls_undo.specs.UndoLaws.{AreEdits}
-use Rattle.rls_undo.specs.Undoing.{last_of, planned, refusal}
+use Rattle.rls_undo.specs.Undoing.{last_of, performed, planned, refusal}
 use Rattle.rls_undo.proofs.Alike.{planned_alike}
 use Rattle.rls_undo.proofs.Histories.{plan_edits}
 use Rattle.rls_report.specs.declared.failures.LineFault.{LineFault}
@@ -49,13 +49,18 @@ use Rattle.rls_stages.proofs.Meant.{IsLine, IsMeantWell, line_well}
 use Rattle.rls_top.specs.Groups.{Group}
 use Rattle.rls_top.proofs.Groups.{Matches, of_file, shown}
 use Rattle.rls_session.specs.declared.orders.Order.TheVariants as orders
-use Rattle.rls_session.specs.Answers.{Sitting, answer, edited, pointed, read_line, rested, sent, taken, taken_at, text_reply, undone, undone_by_plan, with_state}
+use Rattle.rls_session.specs.Answers.{Sitting, answer, edited, made_changes, message_changes, pointed, read_line, rested, sent, taken, taken_at, text_reply, told, told_rested, undone, undone_by_plan, undone_changes, with_caught_up, with_changes, with_state}
+use Rattle.rls_changes.specs.declared.change.Change.{Change}
+use Rattle.rls_changes.specs.Telling.{all_released_changes, all_released_changes_in, ready_changes, times_changes}
+use Rattle.rls_changes.proofs.TakenAlike.{released_alike}
 use Rattle.rls_session.specs.Answers as answers
 use Rattle.rls_session.specs.Courses.{Answered}
 use Rattle.rls_session.specs.Replies.{bytes_text}
 use Rattle.rls_session.specs.Requests.{Request, Does, Takes}
 use Rattle.rls_session.specs.Sessions.{by_history, by_parts}
-use Rattle.rls_session.proofs.Agreeing.{AreAlike, IsAlike, IsGiven, answer_alike, line_almost, undo_almost, whole_at}
+use Rattle.rls_session.proofs.Given.{IsGiven}
+use Rattle.rls_session.proofs.Agreeing.{AreAlike, IsAlike, answer_alike, caught_up_stays, line_almost, taken_alike, undo_almost}
+use Rattle.rls_session.proofs.Entries.{whole_at}
 use Rattle.rls_session.proofs.Whole.{last_undoable}
 use Rattle.rls_groups.specs.Events.{IsWritten, replied}
 use Rattle.rls_groups.specs.Groups.{IsAnswered, IsClean, IsStored, IsTaken, IsTextOfAll}
@@ -71,9 +76,26 @@ rested_at : (t : Seen) → first_ready t ≡ None → released_all t ≡ t
 unfolding release_over
 rested_at t e = all_done t (ap (λ o. is_some (release_of t o)) e)
 
+released_still : (t : Seen) → first_ready t ≡ None → released t ≡ t
+unfolding released
+released_still t e = ap (after_release t) e
+
+times_none : (n : ℕ) (t : Seen) → first_ready t ≡ None → times_changes n t ≡ []
+times_none zero t e = refl
+times_none (suc n) t e = ap (λ o. ready_changes t o ++ times_changes n (released t)) e ∙ ap (times_changes n) (released_still t e) ∙ times_none n t e
+
+none_changed : (t : Seen) → first_ready t ≡ None → all_released_changes t ≡ []
+unfolding all_released_changes
+none_changed t e = times_none (length t.waiting) t e
+
 -- by what is answered over a history that is at rest then
 rested_same : (a : Answered (Sitting Seen)) (t : State) → StandsFor (a.state).state t → IsAtRest t → rested by_parts a ≡ a
 rested_same a t h r = ap (λ (s : Seen). answers.says a.reply (with_state a.state s)) (rested_at (a.state).state (first_alike (a.state).state t h ∙ r))
+
+told_same : (d : Sitting Seen) (cs : List Change) (a : Answered (Sitting Seen)) (t : State) → StandsFor (a.state).state t → IsAtRest t → told_rested by_parts d cs a ≡ told d cs a
+told_same d cs a t h r =
+    ap (λ xs. told d (cs ++ xs) (rested by_parts a)) (none_changed (a.state).state (first_alike (a.state).state t h ∙ r))
+    ∙ (ap (λ xs. told d xs (rested by_parts a)) (append-nil cs) ∙ ap (told d cs) (rested_same a t h r))
 
 -- a message that is taken, by its counts
 clean_text : (c : Taken) → c.refused ≡ [] → take_text c.applied c.released c.repeated c.held (length c.refused) ≡ take_text c.applied c.released c.repeated c.held 0
@@ -150,10 +172,14 @@ module _ (g n : ℕ) (G : Group) (w : World) (x : Matches g n G w) (i : ℕ) (s 
         let q = edit_goes y (line_well fault_in text_in f.state line ok) in
         let t = ((edited by_history f y).state).state in
         let still = rests t ((q.0).storable).rest in
+        let alike = (line_almost d f line b.alike ok).states in
+        let here = ((edited by_parts d (read_line by_parts d.state line)).state).state in
+        let none : all_released_changes_in t ≡ [] = sym (released_alike here t (alike.storing_is).sane alike.stands) ∙ none_changed here (first_alike here t alike.stands ∙ ((q.0).storable).rest) in
         rested_moves r t (record { underway = q.0; follows = q.1; same = still }) (answer_alike d f r ok b.alike)
-        (rested_same (edited by_parts d (read_line by_parts d.state line)) t ((line_almost d f line b.alike ok).states).stands ((q.0).storable).rest)
+        (told_same d (made_changes (read_line by_parts d.state line)) (edited by_parts d (read_line by_parts d.state line)) t alike.stands ((q.0).storable).rest)
         (λ edit e. let k = subst (IsMeantWell fault_in f.state) e (line_well fault_in text_in f.state line ok) in record {
-          reply = ap (λ (z : Result Edit LineFault). (edited by_history f z).reply) e;
+          reply = ap (λ cs. with_changes f.tells (made_changes y ++ cs) (edited by_history f y).reply) none
+              ∙ (ap (λ cs. with_changes f.tells cs (edited by_history f y).reply) (append-nil (made_changes y)) ∙ ap (λ (z : Result Edit LineFault). with_changes f.tells (made_changes z) (edited by_history f z).reply) e);
           edit_is = k.0;
           fits = k.1;
           state = still ∙ ap (λ (z : Result Edit LineFault). ((edited by_history f z).state).state) e;
@@ -162,31 +188,39 @@ module _ (g n : ℕ) (G : Group) (w : World) (x : Matches g n G w) (i : ℕ) (s 
 
     -- ---- undoing
 
-    undo_goes : (o : Option Entry) → last_of f.entries ≡ o → IsUnderway g n w i ((undone by_history f o).state).state out × Follows f.state ((undone by_history f o).state).state
-    undo_goes None e = (b.underway, follows_self f.state)
-    undo_goes (Some entry) e = go (refusal f.state plan)
+    -- by entries that have caught up with the renames
+    undo_goes : (e : Sitting Seen) (u : Sitting State) → IsAlike e u → u.state ≡ f.state → (o : Option Entry) → last_of u.entries ≡ o
+        → IsUnderway g n w i ((undone by_history u o).state).state out × Follows f.state ((undone by_history u o).state).state
+    undo_goes e u alike same None l = (subst (λ (t : State). IsUnderway g n w i t out) (sym same) b.underway, subst (Follows f.state) (sym same) (follows_self f.state))
+    undo_goes e u alike same (Some entry) l = go (refusal u.state plan)
       where
         plan : List Edit
-        plan = planned (f.state).history entry
+        plan = planned (u.state).history entry
 
-        last : last_of d.entries ≡ Some entry
-        last = ap last_of (b.alike).entries ∙ e
+        last : last_of e.entries ≡ Some entry
+        last = ap last_of alike.entries ∙ l
 
         are : AreEdits plan
-        are = subst AreEdits (planned_alike d.state f.state entry (b.alike).stands (last_undoable d.state d.entries entry last ((b.alike).whole).undoable)) (plan_edits d.state entry (b.alike).sane (whole_at d.entries (length d.entries - 1) entry last (b.alike).texts))
+        are = subst AreEdits (planned_alike e.state u.state entry alike.stands (last_undoable e.state e.entries entry last (alike.whole).undoable)) (plan_edits e.state entry alike.sane (whole_at e.entries (length e.entries - 1) entry last alike.texts))
 
-        go : (o : Option EditError) → IsUnderway g n w i ((undone_by_plan by_history f plan o).state).state out × Follows f.state ((undone_by_plan by_history f plan o).state).state
-        go None = performs g n w i s h plan f.state out are b.underway
-        go (Some e) = performs g n w i s h plan f.state out are b.underway
+        goes : IsUnderway g n w i (performed u.state plan) out × Follows f.state (performed u.state plan)
+        goes = subst (λ (t : State). IsUnderway g n w i (performed t plan) out × Follows f.state (performed t plan)) (sym same) (performs g n w i s h plan f.state out are b.underway)
+
+        go : (o : Option EditError) → IsUnderway g n w i ((undone_by_plan by_history u plan o).state).state out × Follows f.state ((undone_by_plan by_history u plan o).state).state
+        go None = goes
+        go (Some x) = goes
 
     undo_step : Stepped d f out (Does orders.Undo)
     unfolding answer
     undo_step =
         let r = Does orders.Undo in
-        let q = undo_goes (last_of f.entries) refl in
-        let t = ((undone by_history f (last_of f.entries)).state).state in
+        let e = with_caught_up by_parts d in
+        let u = with_caught_up by_history f in
+        let alike = caught_up_stays d f b.alike in
+        let q = undo_goes e u alike refl (last_of u.entries) refl in
+        let t = ((undone by_history u (last_of u.entries)).state).state in
         rested_moves r t (record { underway = q.0; follows = q.1; same = rests t ((q.0).storable).rest }) (answer_alike d f r tt b.alike)
-        (rested_same (undone by_parts d (last_of d.entries)) t ((undo_almost d f b.alike).states).stands ((q.0).storable).rest) tt refl
+        (told_same e (undone_changes by_parts e.state (last_of e.entries)) (undone by_parts e (last_of e.entries)) t ((undo_almost e u alike).states).stands ((q.0).storable).rest) tt refl
 
     -- ---- the cursor and the text
 
@@ -213,6 +247,10 @@ module _ (g n : ℕ) (G : Group) (w : World) (x : Matches g n G w) (i : ℕ) (s 
     store_step : Stepped d f out (Does orders.Store)
     unfolding answer
     store_step = quiet (Does orders.Store) (answer_alike d f (Does orders.Store) tt b.alike) refl tt tt refl
+
+    tell_step : (on : Bool) → Stepped d f out (Does (orders.Tell on))
+    unfolding answer
+    tell_step on = quiet (Does (orders.Tell on)) (answer_alike d f (Does (orders.Tell on)) tt b.alike) refl tt tt refl
 
     quit_step : Stepped d f out (Does orders.Quit)
     unfolding answer
@@ -317,7 +355,7 @@ module _ (g n : ℕ) (G : Group) (w : World) (x : Matches g n G w) (i : ℕ) (s 
         let k = answer_alike d f (Takes bytes) ok b.alike in
         let state : next_of (Takes bytes) ≡ p.state = ap (λ (a : Answered (Sitting State)). (a.state).state) same in
         rested_moves (Takes bytes) p.state (record { underway = q.0; follows = (taking_goes_on None t m, λ o p. message_stays (with_done w i t out) i t m o stands.good here posted p); same = state }) k
-        (p.counts.applied, p.counts.released, p.counts.repeated, p.counts.held, k.reply ∙ (ap (λ (a : Answered (Sitting State)). a.reply) same ∙ clean_text p.counts q.1))
+        (p.counts.applied, p.counts.released, p.counts.repeated, p.counts.held, ap (with_changes d.tells (message_changes by_parts d.state (message_of bytes))) ((taken_alike d f bytes (message_of bytes) ok refl b.alike).reply ∙ (ap (λ (a : Answered (Sitting State)). a.reply) same ∙ clean_text p.counts q.1)))
         (subst (IsTaken t bytes) (sym state) (message_taken (with_done w i t out) i t stands.good here ((b.underway).storable).rest bytes m posted y.2)) refl
 
     -- ---- all requests
@@ -332,6 +370,7 @@ module _ (g n : ℕ) (G : Group) (w : World) (x : Matches g n G w) (i : ℕ) (s 
     steps (Does (orders.Send to)) ok given = send_step to
     steps (Does orders.Stat) ok given = stat_step
     steps (Does orders.Store) ok given = store_step
+    steps (Does (orders.Tell on)) ok given = tell_step on
     steps (Does orders.Quit) ok given = quit_step
     steps (Does orders.Bad) ok given = bad_step
     steps (Takes bytes) ok given = take_step bytes ok given

@@ -24,7 +24,7 @@ use Rattle.rls_session.specs.Answers.{Sitting, answer}
 use Rattle.rls_session.specs.Courses.{Course}
 use Rattle.rls_session.specs.Due.{due_of}
 use Rattle.rls_session.specs.Sessions.{by_history, by_parts}
-use Rattle.rls_session.proofs.Agreeing.{IsGiven, cut_given}
+use Rattle.rls_session.proofs.Given.{IsGiven, cut_given}
 use Rattle.rls_groups.specs.Events.{Desk, IsSession, IsWritten, at_desk, replica_at, replied}
 use Rattle.rls_groups.specs.Groups.{IsClean, IsSavedOrLong}
 use Rattle.rls_groups.proofs.Answered.{Both, IsDone, IsTold, Later, steps}
@@ -65,7 +65,7 @@ module _ (g n : ℕ) (G : Group) (w : World) (x : Matches g n G w) (i : ℕ) (r 
 
   first : IsSession G s desk input → Both g n G w x i r.state r.at (at_desk s desk) (at_desk r.state desk) []
   first q = record {
-    alike = record { stands = o.stands; sane = o.sane; writable = o.writable; entries = refl; cursor = refl; whole = q.whole; texts = q.texts };
+    alike = record { stands = o.stands; sane = o.sane; writable = o.writable; entries = refl; cursor = refl; tells = refl; whole = q.whole; texts = q.texts };
     underway = record { stands = begins; storable = (r.kept).storable };
     front = front_self (r.state).history;
   }

@@ -41,7 +41,8 @@ use Rattle.rls_session.specs.Desks.{AreUndoable, IsWhole, sitting_of}
 use Rattle.rls_session.specs.Due.{Due, due, due_of, due_on, stops}
 use Rattle.rls_session.specs.Endings.{Ends, EndsIn, EndsOn, FailsAt, IsKept}
 use Rattle.rls_session.specs.Sessions.{by_history, by_parts}
-use Rattle.rls_session.proofs.Agreeing.{IsAlike, IsGiven, answer_alike, cut_given}
+use Rattle.rls_session.proofs.Given.{IsGiven, cut_given}
+use Rattle.rls_session.proofs.Agreeing.{IsAlike, answer_alike}
 use Rattle.rls_session.proofs.Alike.{resumed_alike}
 use Rattle.rls_session.proofs.Courses.{IsSameCourse, courses_alike}
 use Rattle.rls_groups.specs.Events as events
@@ -92,7 +93,7 @@ cursor_kept : (o : Seen) (g : EpochName) (a : Anchor) → keeps o g ≡ true →
 cursor_kept o g Beginning k h = tt
 cursor_kept o g (After e x) k h = subst (λ (y : EpochName). keeps o y ≡ true) (sym h) k
 
-usable : (o : Seen) (u : Sitting State) → StandsFor o u.state → IsRecent u → IsWhole (sitting_of o u.entries u.cursor)
+usable : (o : Seen) (u : Sitting State) → StandsFor o u.state → IsRecent u → IsWhole o u.entries u.cursor
 usable o u h r = record { undoable = entries_kept o _ u.entries (kept_at o u.state h) r.entries; anchored = cursor_kept o _ u.cursor (kept_at o u.state h) r.cursor }
 
 -- ---- one store
@@ -160,10 +161,10 @@ module _ (i : ℕ) where
       same = alike_course d u input b h
 
       mine : Sitting Seen
-      mine = sitting_of o.0 u.entries u.cursor
+      mine = sitting_of o.0 u.entries u.cursor u.tells
 
       other : IsSameCourse IsAlike (course (answer by_parts) mine input) (course (answer by_history) u input)
-      other = alike_course mine u input b (record { stands = o.1.stands; sane = o.1.sane; writable = o.1.writable; entries = refl; cursor = refl; whole = usable o.0 u o.1.stands r; texts = subst AreWhole h.entries h.texts })
+      other = alike_course mine u input b (record { stands = o.1.stands; sane = o.1.sane; writable = o.1.writable; entries = refl; cursor = refl; tells = refl; whole = usable o.0 u o.1.stands r; texts = subst AreWhole h.entries h.texts })
 
       saved : Some (bytes_over ((course (answer by_parts) d input).state).state) ≡ Some (bytes_over ((course (answer by_parts) mine input).state).state)
       saved = ap (λ (x : List ℕ). Some x) (bytes_of_state _ ((course (answer by_history) u input).state).state (same.states).stands ∙ sym (bytes_of_state _ ((course (answer by_history) u input).state).state (other.states).stands))
@@ -171,7 +172,7 @@ module _ (i : ℕ) where
       ending : (due_of (course (answer by_parts) mine input)).ending ≡ Ok ((course (answer by_parts) mine input).state).state
       ending = same_bytes (course (answer by_parts) d input) (course (answer by_parts) mine input) (course (answer by_history) u input) same other is
 
-      there : (x : Result Seen CommandError) → x ≡ Ok o.0 → slice_get (files_with g.files i (saved_of (events.due_on x (record { entries = u.entries; cursor = u.cursor }) input).ending)) i ≡ Some (bytes_over ((course (answer by_parts) mine input).state).state)
+      there : (x : Result Seen CommandError) → x ≡ Ok o.0 → slice_get (files_with g.files i (saved_of (events.due_on x (record { entries = u.entries; cursor = u.cursor; tells = u.tells }) input).ending)) i ≡ Some (bytes_over ((course (answer by_parts) mine input).state).state)
       there x e = rw (e, ending) (set_there g i ((course (answer by_parts) mine input).state).state l)
 
   -- what is kept after a course that is stored
@@ -289,7 +290,7 @@ stores_leave S W load store g i input n now t bytes keeper_old keeper_new input_
         let o = opened bytes t stands in
         let found : replica_in (loaded (Some bytes)) ≡ Ok o.0 = opened_at bytes o.0 few.0 o.1.found in
         let left = ends_within i n now new.told (suc (length input)) g l bytes (sitting_at o.0) (sitting_at t) input old.told at few.0 stands b
-        (record { stands = o.1.stands; sane = o.1.sane; writable = o.1.writable; entries = refl; cursor = refl; whole = record { undoable = tt; anchored = tt }; texts = tt }) (record { entries = tt; cursor = tt })
+        (record { stands = o.1.stands; sane = o.1.sane; writable = o.1.writable; entries = refl; cursor = refl; tells = refl; whole = record { undoable = tt; anchored = tt }; texts = tt }) (record { entries = tt; cursor = tt })
         (subst (λ (r : Result Seen CommandError). IfSome (due_on (Some r) (Some input)) (λ ds. Ends ds n (Some (Some bytes)) (Some now) old.told new.told)) found told) in
         (left.all, left.some)
     go (inr long) =

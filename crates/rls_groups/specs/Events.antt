@@ -20,7 +20,7 @@ use Rattle.rls_top.specs.Words.{command_of}
 use Rattle.rls_session.specs.declared.orders.Order.TheVariants.{Quit, Send, Store}
 use Rattle.rls_session.specs.Answers.{Kind, Sitting, answer}
 use Rattle.rls_session.specs.Courses.{Answered, Course, course, holds}
-use Rattle.rls_session.specs.Desks.{IsWhole, sitting_of}
+use Rattle.rls_session.specs.Desks.{IsWhole}
 use Rattle.rls_session.specs.Due as session
 use Rattle.rls_session.specs.Due.{due_of as due_of_course, stops}
 use Rattle.rls_session.specs.Requests.{Request, Does, Takes, cut}
@@ -28,17 +28,19 @@ use Rattle.rls_session.specs.Sessions.{by_parts}
 
 -- ---- sessions
 
--- What a session works on beside the replica. At its beginning that is nothing that can be undone, and a cursor at the beginning. A
+-- What a session works on beside the replica. At its beginning that is nothing that can be undone, a cursor at the beginning, and that
+-- changes aren't told. A
 -- session that stores more than once begins what follows a store with what it has then.
 pub record Desk : Type 0 where
   pub entries : List Entry
   pub cursor : Anchor
+  pub tells : Bool
 
 abbrev pub empty_desk : Desk
-empty_desk = record { entries = []; cursor = Beginning }
+empty_desk = record { entries = []; cursor = Beginning; tells = false }
 
 abbrev pub at_desk : {X : Type 0} → X → Desk → Sitting X
-at_desk s desk = record { state = s; entries = desk.entries; cursor = desk.cursor }
+at_desk s desk = record { state = s; entries = desk.entries; cursor = desk.cursor; tells = desk.tells }
 
 -- the session from this state and desk over this input, up to its next store
 abbrev pub session_at : {X : Type 0} → Kind X → X → Desk → List ℕ → Course (Sitting X)
@@ -148,7 +150,7 @@ IsWritten g d request = Unit {0}
 -- it goes back to nothing that was dropped, and is given bytes
 pub record IsSession (g : Group) (s : Seen) (desk : Desk) (input : List ℕ) : Type 0 where
   pub bytes : IsBytes input
-  pub whole : IsWhole (sitting_of s desk.entries desk.cursor)
+  pub whole : IsWhole s desk.entries desk.cursor
   pub texts : AreWhole desk.entries
   pub given : holds (answer by_parts) (IsWritten g) (at_desk s desk) input
 

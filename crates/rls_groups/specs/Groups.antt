@@ -33,7 +33,9 @@ use Rattle.rls_top.specs.Due.{Due, Makes, NoCommand, Stops, shows}
 use Rattle.rls_top.specs.Groups.{AllTaken, BeginsWithNew, EqualCountsShowSame, Group, IsFileOf, IsOfMember, IsOrderedBy, NoneRefused, NoneReleased, WaitingMade, due_of, fresh_group}
 use Rattle.rls_top.specs.Words.{command_of}
 use Rattle.rls_session.specs.declared.orders.Order.TheVariants.{Edit, Undo, Text, Send}
-use Rattle.rls_session.specs.Answers.{Sitting, answer, edited as edited_by, read_line, undone}
+use Rattle.rls_codec.specs.Reading.{message_of}
+use Rattle.rls_changes.specs.ChangesLaws.{own_changes}
+use Rattle.rls_session.specs.Answers.{Sitting, answer, edited as edited_by, made_changes, message_changes, read_line, told, undone_changes, undone_last, with_caught_up, with_changes}
 use Rattle.rls_session.specs.Courses.{Course, holds}
 use Rattle.rls_session.specs.Replies.{bytes_text, ok_text}
 use Rattle.rls_session.specs.Requests.{Request, Does, Takes}
@@ -48,13 +50,14 @@ abbrev pub IsTextOfAll : Group → List ℕ → List ℕ → Type 0
 IsTextOfAll g v reply = (j : ℕ) (t : State) (words : List (List ℕ)) (input : List ℕ) → IsFileOf g j t → count t.history ≡ v → command_of words ≡ Some (OnFile commands.Text) →
     (report : List ℕ) × (due_of g j words input ≡ Some (shows report)) × (reply ≡ bytes_text (codes "text") report)
 
--- an edit and an undo release nothing that waits; `t` shows what others show; a message is taken, with none of its operations refused; and the
+-- an edit and an undo release nothing that waits, and tell what they change alone; `t` shows what others show; a message is taken, with none of its operations refused; and the
 -- reply to `s` is the message that may be handed on
 abbrev pub IsClean : Group → Sitting Seen → Request → Type 0
-IsClean g d (Does (Edit line)) = answer by_parts d (Does (Edit line)) ≡ edited_by by_parts d (read_line by_parts d.state line)
-IsClean g d (Does Undo) = answer by_parts d (Does Undo) ≡ undone by_parts d (last_of d.entries)
+IsClean g d (Does (Edit line)) = let r = read_line by_parts d.state line in answer by_parts d (Does (Edit line)) ≡ told d (made_changes r) (edited_by by_parts d r)
+IsClean g d (Does Undo) = let e = with_caught_up by_parts d in answer by_parts d (Does Undo) ≡ told e (undone_changes by_parts e.state (last_of e.entries)) (undone_last by_parts e)
 IsClean g d (Does Text) = IsTextOfAll g (vector d.state) (answer by_parts d (Does Text)).reply
-IsClean g d (Takes message) = (applied released repeated held : ℕ) × ((answer by_parts d (Takes message)).reply ≡ take_text applied released repeated held 0)
+IsClean g d (Takes message) = (applied released repeated held : ℕ) ×
+    ((answer by_parts d (Takes message)).reply ≡ with_changes d.tells (message_changes by_parts d.state (message_of message)) (take_text applied released repeated held 0))
 IsClean g d (Does (Send to)) = (message : List ℕ) → IsIn message (replied d (Does (Send to))) → (answer by_parts d (Does (Send to))).reply ≡ bytes_text (codes "message") message
 IsClean g d request = Unit {0}
 
@@ -89,9 +92,10 @@ IsCommanded (Some (OnFile commands.Leave)) input report t u = (report ≡ edit_t
 IsCommanded (Some (OnFile commands.Take)) input report t u = IsTaken t input u
 IsCommanded c input report t u = ⊥
 
--- what a session made of a history by an edit that is allowed: its operation is accepted, and nothing else happens; the reply is `ok` with its number
+-- what a session made of a history by an edit that is allowed: its operation is accepted, and nothing else happens; the reply is `ok` with its number,
+-- and its change, if that is told
 pub record IsKept (d : Sitting State) (request : Request) (edit : model.Edit) : Type 0 where
-  pub reply : (answer by_history d request).reply ≡ ok_text (next_seq (d.state).history)
+  pub reply : (answer by_history d request).reply ≡ with_changes d.tells (own_changes edit) (ok_text (next_seq (d.state).history))
   pub edit_is : IsEdit edit
   pub fits : edit_fault (d.state).history edit ≡ None
   pub state : ((answer by_history d request).state).state ≡ accept d.state (made (d.state).history edit)

@@ -1,33 +1,23 @@
 -- A session over what a replica consists of is that over each history which the replica stands for.
-use Rattle.std.proofs.Common.{◌≡◌, ◌∙◌, ◌<◌, ◌+◌, ◌-◌, ◌++◌, ℕ, Bool, true, false, cond, ltb, zero, suc, List, [], ◌∷◌, length, map, take, drop, Option, Some, None, Result, Ok, Err, refl, sym, ap, subst, arith}
-use Rattle.std.specs.Prelude.{◌&&◌, ◌==◌, bytes_eq, codes, encode_utf8_all, slice_get, nat_le}
-use Rattle.std.specs.List.{before_first}
-use Rattle.std.specs.Str.{is_utf8}
+use Rattle.std.proofs.Common.{◌≡◌, ◌∙◌, ◌<◌, ◌+◌, ◌-◌, ◌++◌, ℕ, Bool, true, false, cond, ltb, List, [], ◌∷◌, length, Option, Some, None, Result, Ok, Err, refl, ap, subst, arith, inl, inr}
+use Rattle.std.specs.Prelude.{◌&&◌, ◌==◌, codes, encode_utf8_all}
 use Rattle.std.proofs.lemmas.Bool.{eqb-true}
 use Rattle.std.proofs.lemmas.Bool.Decides.{nat_tests}
-use Rattle.std.proofs.lemmas.List.Elements.{All-drop, All-nil, All-take}
-use Rattle.std.specs.Char.{IsScalar}
-use Rattle.rls_ident.specs.declared.epoch_name.EpochName.{EpochName}
-use Rattle.rls_ident.specs.declared.tuple.Tuple.{Tuple}
-use Rattle.rls_ident.proofs.Agreeing.{map_same}
 use Rattle.rls_ident.proofs.Members.{and_right}
 use Rattle.rls_ops.specs.declared.message.Message.{Message}
 use Rattle.rls_ops.specs.Spelling.{message_bytes}
-use Rattle.rls_ops.specs.declared.op.Body.{Body}
-use Rattle.rls_ops.specs.declared.op.Body.TheVariants as bodies
-use Rattle.rls_ops.specs.WellFormed.{AreOps, IsText, IsVector}
+use Rattle.rls_ops.specs.WellFormed.{AreOps, IsInRange, IsVector}
 use Rattle.rls_codec.specs.CodecLaws.{IsBytes, IsMessage}
 use Rattle.rls_codec.specs.Reading.{message_of}
 use Rattle.rls_codec.specs.Spelled.{Chained, IsSpelled}
-use Rattle.rls_codec.proofs.Formats.{IsBytes-drop, IsBytes-tail, IsBytes-take}
+use Rattle.rls_codec.proofs.Formats.{IsBytes-tail}
 use Rattle.rls_codec.proofs.MessageFormats.{message_takes}
 use Rattle.rls_codec.proofs.SpelledSound.{fits_vector, spelled_op}
 use Rattle.rls_ops.specs.declared.op.Op.{Op}
 use Rattle.rls_model.specs.declared.edit.Edit.{Edit}
-use Rattle.rls_model.specs.declared.edit.Edit.TheVariants as edits
 use Rattle.rls_model.specs.declared.edit.EditError.{EditError}
 use Rattle.rls_model.specs.declared.receipt.Taken.{Taken}
-use Rattle.rls_model.specs.Document.{idents, text}
+use Rattle.rls_model.specs.Document.{idents}
 use Rattle.rls_model.specs.Editing.{made, next_seq}
 use Rattle.rls_model.specs.Epochs.{greatest, translate}
 use Rattle.rls_model.specs.History.{group_of, members_of}
@@ -55,37 +45,38 @@ use Rattle.rls_report.specs.declared.failures.LineFault.{LineFault}
 use Rattle.rls_report.specs.declared.failures.LineFault.TheVariants.{Range}
 use Rattle.rls_report.specs.Reports.{take_text}
 use Rattle.rls_report.proofs.Numbers.{stat_alike}
-use Rattle.rls_script.specs.Scripts.{is_line_feed, line_of, line_of_text, number_of, parts_of}
 use Rattle.rls_script.specs.declared.lines.Line.{Line}
 use Rattle.rls_store.specs.Stored.{AreWritable}
 use Rattle.rls_stages.specs.Lines.{fault_in, line_by, line_fault, text_in}
 use Rattle.rls_stages.specs.Lines as lines
 use Rattle.rls_stages.proofs.Alike.{lines_alike}
-use Rattle.rls_store.proofs.Characters.{text_chars}
-use Rattle.rls_stages.proofs.Meant.{IsGood, IsLine, IsMeantWell, line_good, line_well}
-use Rattle.rls_store.proofs.Storable.{IsStoring, edited_storing, storing, taken_writable}
+use Rattle.rls_stages.proofs.Meant.{IsLine, IsMeantWell, line_well}
+use Rattle.rls_store.proofs.Storable.{IsStoring, edited_storing, given_op, storing, taken_writable}
 use Rattle.rls_undo.specs.declared.entry.Entry.{Entry}
-use Rattle.rls_undo.specs.declared.entry.Entry.TheVariants.{Inserted, Removed}
-use Rattle.rls_undo.specs.Plans.{entries_by, epoch_in, gone_by}
-use Rattle.rls_undo.specs.UndoLaws.{AreEdits, AreWhole, IsEntry}
-use Rattle.rls_undo.specs.Undoing.{entries_of, entries_over, last_of, performed, performed_over, planned, planned_over, refusal, refusal_over, settled, settled_over, without_last}
-use Rattle.rls_undo.proofs.Alike.{performed_stands, planned_alike}
+use Rattle.rls_undo.specs.UndoLaws.{AreEdits, AreWhole}
+use Rattle.rls_undo.specs.Undoing.{caught_up, entries_over, last_of, performed, performed_over, planned, planned_over, refusal, refusal_over, without_last}
+use Rattle.rls_undo.proofs.Alike.{caught_up_alike, performed_stands, planned_alike}
 use Rattle.rls_undo.proofs.Histories.{plan_edits}
 use Rattle.rls_undo.proofs.Performed.{performed_names}
-use Rattle.rls_anchor.specs.Anchors.{anchor_over, before, behind, place}
-use Rattle.rls_anchor.specs.Anchors as anchors
-use Rattle.rls_anchor.proofs.Places.{place_alike, settled_alike as anchor_alike}
-use Rattle.rls_session.specs.declared.orders.Order.{Order}
+use Rattle.rls_changes.specs.declared.change.Change.{Change}
+use Rattle.rls_changes.specs.ChangesLaws.{AreInRange}
+use Rattle.rls_changes.specs.Edits.{edit_changes, performed_edits_in}
+use Rattle.rls_changes.specs.Telling.{all_released_changes, taken_changes, taken_changes_in}
+use Rattle.rls_changes.proofs.EditsAlike.{performed_alike}
+use Rattle.rls_changes.proofs.TakenAlike.{released_alike, taken_alike as changes_taken_alike}
+use Rattle.rls_anchor.specs.Anchors.{anchor_over, before, behind, place, settled}
+use Rattle.rls_anchor.proofs.Places.{place_alike, settled_alike}
 use Rattle.rls_session.specs.declared.orders.Order.TheVariants as orders
-use Rattle.rls_session.specs.Answers.{Sitting, answer, done, pointed, rested, resumed, sent, sitting_at, taken, text_reply, undone}
+use Rattle.rls_session.specs.Answers.{Sitting, answer, done, pointed, rested, sent, sitting_at, made_changes, message_changes, taken, text_reply, told, told_rested, undone, undone_changes, with_caught_up, with_changes, with_cursor, with_settled}
 use Rattle.rls_session.specs.Answers as answers
-use Rattle.rls_session.specs.Courses.{Answered, Course, course, course_of, stretches, stretches_within}
-use Rattle.rls_session.specs.Desks.{AreUndoable, IsWhole, sitting_of}
-use Rattle.rls_session.specs.Orders.{member_of, order_of, order_of_letter, order_of_parts, order_of_words, order_or_bad}
+use Rattle.rls_session.specs.Courses.{Answered}
+use Rattle.rls_session.specs.Desks.{IsWhole}
 use Rattle.rls_session.specs.Replies.{bytes_text, cursor_text, failed_text, ok_text, refused_text}
-use Rattle.rls_session.specs.Requests.{Cut, Does, Request, Takes, cut, cut_after, line_size}
+use Rattle.rls_session.specs.Requests.{Does, Request, Takes}
 use Rattle.rls_session.specs.Sessions.{by_history, by_parts, session, session_in}
 use Rattle.rls_session.proofs.Courses.{IsSameCourse, courses_alike}
+use Rattle.rls_session.proofs.Entries.{caught_up_whole, entries_alike, entries_whole, whole_at, whole_front, whole_more}
+use Rattle.rls_session.proofs.Given.{IsGiven, cut_given}
 use Rattle.rls_store.proofs.Storable.{all_writable}
 use Rattle.rls_session.proofs.Resumed.{dropped_writable, whole_left}
 use Rattle.rls_session.proofs.Whole.{last_undoable, whole_edited, whole_on, whole_pointed, whole_undone}
@@ -99,7 +90,8 @@ pub record IsAlike (d : Sitting Seen) (f : Sitting State) : Type 0 where
   pub writable : AreWritable d.state
   pub entries : d.entries ≡ f.entries
   pub cursor : d.cursor ≡ f.cursor
-  pub whole : IsWhole d
+  pub tells : d.tells ≡ f.tells
+  pub whole : IsWhole d.state d.entries d.cursor
   pub texts : AreWhole d.entries
 
 -- the same is answered, and what follows is alike
@@ -113,7 +105,8 @@ pub record IsAlmost (d : Sitting Seen) (f : Sitting State) : Type 0 where
   pub storing_is : IsStoring d.state
   pub entries : d.entries ≡ f.entries
   pub cursor : d.cursor ≡ f.cursor
-  pub whole : IsWhole d
+  pub tells : d.tells ≡ f.tells
+  pub whole : IsWhole d.state d.entries d.cursor
   pub texts : AreWhole d.entries
 
 pub record AreAlmost (a : Answered (Sitting Seen)) (b : Answered (Sitting State)) : Type 0 where
@@ -121,7 +114,7 @@ pub record AreAlmost (a : Answered (Sitting Seen)) (b : Answered (Sitting State)
   pub states : IsAlmost a.state b.state
 
 almost : (d : Sitting Seen) (f : Sitting State) → IsAlike d f → IsAlmost d f
-almost d f h = record { stands = h.stands; storing_is = storing d.state h.sane h.writable; entries = h.entries; cursor = h.cursor; whole = h.whole; texts = h.texts }
+almost d f h = record { stands = h.stands; storing_is = storing d.state h.sane h.writable; entries = h.entries; cursor = h.cursor; tells = h.tells; whole = h.whole; texts = h.texts }
 
 rested_alike : (a : Answered (Sitting Seen)) (b : Answered (Sitting State)) → AreAlmost a b → AreAlike (rested by_parts a) (rested by_history b)
 rested_alike a b h =
@@ -135,51 +128,24 @@ rested_alike a b h =
         writable = w.1;
         entries = k.entries;
         cursor = k.cursor;
+        tells = k.tells;
         whole = whole_on (a.state).state (released_all (a.state).state) (a.state).entries (a.state).cursor (all_names (a.state).state) k.whole;
         texts = k.texts;
       };
     }
 
--- ---- entries
+-- what is told of them is the same
+told_alike : (d : Sitting Seen) (f : Sitting State) (cs ds : List Change) (a : Answered (Sitting Seen)) (b : Answered (Sitting State)) → d.tells ≡ f.tells → cs ≡ ds → AreAlike a b → AreAlike (told d cs a) (told f ds b)
+told_alike d f cs ds a b t e h = record {
+  reply = ap (λ x. with_changes d.tells cs x) h.reply ∙ (ap (λ x. with_changes d.tells x b.reply) e ∙ ap (λ (x : Bool). with_changes x ds b.reply) t);
+  states = h.states;
+}
 
-whole_more : (es fs : List Entry) → AreWhole es → AreWhole fs → AreWhole (es ++ fs)
-whole_more [] fs h k = k
-whole_more (e ∷ es) fs h k = (h.0, whole_more es fs h.1 k)
-
-whole_front : (n : ℕ) (es : List Entry) → AreWhole es → AreWhole (take n es)
-whole_front zero es h = tt
-whole_front (suc n) [] h = tt
-whole_front (suc n) (e ∷ es) h = (h.0, whole_front n es h.1)
-
-pub whole_at : (es : List Entry) (i : ℕ) (entry : Entry) → slice_get es i ≡ Some entry → AreWhole es → IsEntry entry
-whole_at [] i entry e h = absurd cc
-whole_at (x ∷ es) zero entry e h = let same : x ≡ entry = cc in subst IsEntry same h.0
-whole_at (x ∷ es) (suc i) entry e h = whole_at es i entry e h.1
-
--- those of an edit of a text
-gone_text : (edit : Edit) (cs : List ℕ) → IsText cs → IsText (gone_by edit cs)
-gone_text (edits.Delete at n) cs h = All-take IsScalar n (drop at cs) (All-drop IsScalar at cs h)
-gone_text (edits.Insert at text) cs h = All-nil IsScalar
-gone_text edits.Rename cs h = All-nil IsScalar
-gone_text edits.Leave cs h = All-nil IsScalar
-
-entries_text : (e : EpochName) (b : Body) (gone : List ℕ) → IsText gone → AreWhole (entries_by e b gone)
-entries_text e (bodies.Insert first text) gone h = (tt, tt)
-entries_text e (bodies.Delete []) gone h = tt
-entries_text e (bodies.Delete (x ∷ xs)) gone h = (h, tt)
-entries_text e (bodies.Rename former) gone h = tt
-entries_text e bodies.Leave gone h = tt
-
-entries_whole : (s : Seen) (t : State) (edit : Edit) → StandsFor s t → AreWhole (entries_over s edit)
-unfolding entries_over
-entries_whole s t edit h =
-    entries_text (made_over s edit).epoch (made_over s edit).body (gone_by edit (text_over s)) (gone_text edit (text_over s) (subst IsText (sym (text_alike s t h)) (text_chars t.history h.legal)))
-
-entries_alike : (s : Seen) (t : State) (edit : Edit) → StandsFor s t → entries_over s edit ≡ entries_of t.history edit
-unfolding entries_over entries_of
-entries_alike s t edit h =
-    ap (λ o. entries_by o.epoch o.body (gone_by edit (text_over s))) (made_alike s t edit h)
-    ∙ ap (λ cs. entries_by (made t.history edit).epoch (made t.history edit).body (gone_by edit cs)) (text_alike s t h)
+told_rested_alike : (d : Sitting Seen) (f : Sitting State) (cs ds : List Change) (a : Answered (Sitting Seen)) (b : Answered (Sitting State)) → d.tells ≡ f.tells → cs ≡ ds → AreAlmost a b → AreAlike (told_rested by_parts d cs a) (told_rested by_history f ds b)
+told_rested_alike d f cs ds a b t e h =
+    let k = h.states in
+    let r = released_alike (a.state).state (b.state).state (k.storing_is).sane k.stands in
+    told_alike d f _ _ _ _ t (ap (λ xs. xs ++ all_released_changes (a.state).state) e ∙ ap (λ xs. ds ++ xs) r) (rested_alike a b h)
 
 -- ---- edits
 
@@ -199,6 +165,7 @@ edited_almost d f (Ok edit) h w =
         storing_is = edited_storing s edit (storing s h.sane h.writable) w.0 w.1;
         entries = ap (λ es. es ++ entries_over s edit) h.entries ∙ ap (λ es. f.entries ++ es) (entries_alike s t edit h.stands);
         cursor = h.cursor;
+        tells = h.tells;
         whole = whole_edited s (edited s edit) d.entries (d.entries ++ entries_over s edit) d.cursor edit (accepted_names s (made_over s edit)) refl h.whole;
         texts = whole_more d.entries (entries_over s edit) h.texts (entries_whole s t edit h.stands);
       };
@@ -208,6 +175,11 @@ pub line_almost : (d : Sitting Seen) (f : Sitting State) (line : Line) → IsAli
 line_almost d f line h w =
     let same : lines.read_line d.state line ≡ line_by fault_in text_in f.state line = lines_alike d.state f.state line h.stands in
     subst (λ (r : Result Edit LineFault). AreAlmost (answers.edited by_parts d (lines.read_line d.state line)) (answers.edited by_history f r)) same (edited_almost d f (lines.read_line d.state line) h (line_well edit_fault_over text_over d.state line w))
+
+line_changes_alike : (d : Sitting Seen) (f : Sitting State) (line : Line) → IsAlike d f → made_changes (answers.read_line by_parts d.state line) ≡ made_changes (answers.read_line by_history f.state line)
+line_changes_alike d f line h =
+    let same : lines.read_line d.state line ≡ line_by fault_in text_in f.state line = lines_alike d.state f.state line h.stands in
+    ap made_changes same
 
 -- ---- undoing
 
@@ -230,6 +202,7 @@ by_plan d f plan None h k st = record {
     storing_is = st;
     entries = ap without_last h.entries;
     cursor = h.cursor;
+    tells = h.tells;
     whole = whole_undone d.state (performed_over d.state plan) d.entries (without_last d.entries) d.cursor (performed_names plan d.state) refl h.whole;
     texts = whole_front (length d.entries - 1) d.entries h.texts;
   };
@@ -241,6 +214,7 @@ by_plan d f plan (Some e) h k st = record {
     storing_is = st;
     entries = h.entries;
     cursor = h.cursor;
+    tells = h.tells;
     whole = whole_on d.state (performed_over d.state plan) d.entries d.cursor (performed_names plan d.state) h.whole;
     texts = h.texts;
   };
@@ -260,8 +234,36 @@ undone_almost d f (Some entry) e h =
     let there = subst (λ (x : Option EditError). AreAlmost (answers.undone_by_plan by_parts d plan (refusal_over s plan)) (answers.undone_by_plan by_history f plan x)) p.0 here in
     subst (λ (es : List Edit). AreAlmost (answers.undone_by_plan by_parts d plan (refusal_over s plan)) (answers.undone_by_plan by_history f es (refusal t es))) same there
 
+-- entries that have caught up
+pub caught_up_stays : (d : Sitting Seen) (f : Sitting State) → IsAlike d f → IsAlike (with_caught_up by_parts d) (with_caught_up by_history f)
+caught_up_stays d f h =
+    let a = caught_up_alike d.state f.state d.entries h.stands ((h.whole).undoable) in
+    record {
+      stands = h.stands;
+      sane = h.sane;
+      writable = h.writable;
+      entries = a.0 ∙ ap (caught_up (f.state).history) h.entries;
+      cursor = h.cursor;
+      tells = h.tells;
+      whole = record { undoable = a.1; anchored = (h.whole).anchored };
+      texts = caught_up_whole d.state d.entries h.texts;
+    }
+
 pub undo_almost : (d : Sitting Seen) (f : Sitting State) → IsAlike d f → AreAlmost (undone by_parts d (last_of d.entries)) (undone by_history f (last_of f.entries))
 undo_almost d f h = subst (λ (es : List Entry). AreAlmost (undone by_parts d (last_of d.entries)) (undone by_history f (last_of es))) h.entries (undone_almost d f (last_of d.entries) refl h)
+
+entry_alike : (d : Sitting Seen) (f : Sitting State) (o : Option Entry) → last_of d.entries ≡ o → IsAlike d f → undone_changes by_parts d.state o ≡ undone_changes by_history f.state o
+entry_alike d f None e h = refl
+entry_alike d f (Some entry) e h =
+    let s = d.state in
+    let t = f.state in
+    let plan = planned_over s entry in
+    let same : plan ≡ planned t.history entry = planned_alike s t entry h.stands (last_undoable s d.entries entry e (h.whole).undoable) in
+    let w = plan_edits s entry h.sane (whole_at d.entries (length d.entries - 1) entry e h.texts) in
+    ap edit_changes (performed_alike s t plan w h.stands) ∙ ap (λ es. edit_changes (performed_edits_in t es)) same
+
+undone_alike : (d : Sitting Seen) (f : Sitting State) → IsAlike d f → undone_changes by_parts d.state (last_of d.entries) ≡ undone_changes by_history f.state (last_of f.entries)
+undone_alike d f h = entry_alike d f (last_of d.entries) refl h ∙ ap (λ (es : List Entry). undone_changes by_history f.state (last_of es)) h.entries
 
 -- ---- the cursor
 
@@ -279,14 +281,14 @@ pointed_alike d f at h = subst (λ (cs : List ℕ). AreAlike (pointed by_parts d
 
     by_text : List ℕ → Answered (Sitting State)
     by_text cs =
-        cond (ltb (length cs) at) (answers.says (past (length cs)) f) (answers.says (cursor_text at) (record { state = t; entries = f.entries; cursor = behind (greatest t.history) (before (idents t.history) at) }))
+        cond (ltb (length cs) at) (answers.says (past (length cs)) f) (answers.says (cursor_text at) (with_cursor f (behind (greatest t.history) (before (idents t.history) at))))
 
     made_same : anchor_over s at ≡ behind (greatest t.history) (before (idents t.history) at)
     made_same = ap (λ g. behind g (before (idents_over s) at)) (greatest_alike s t h.stands) ∙ ap (λ xs. behind (greatest t.history) (before xs at)) (idents_alike s t h.stands)
 
     go : (b : Bool) → AreAlike
-        (cond b (answers.says (past (length (text_over s))) d) (answers.says (cursor_text at) (sitting_of s d.entries (anchor_over s at))))
-        (cond b (answers.says (past (length (text_over s))) f) (answers.says (cursor_text at) (record { state = t; entries = f.entries; cursor = behind (greatest t.history) (before (idents t.history) at) })))
+        (cond b (answers.says (past (length (text_over s))) d) (answers.says (cursor_text at) (with_cursor d (anchor_over s at))))
+        (cond b (answers.says (past (length (text_over s))) f) (answers.says (cursor_text at) (with_cursor f (behind (greatest t.history) (before (idents t.history) at)))))
     go true = record { reply = refl; states = h }
     go false = record {
       reply = refl;
@@ -296,9 +298,25 @@ pointed_alike d f at h = subst (λ (cs : List ℕ). AreAlike (pointed by_parts d
         writable = h.writable;
         entries = h.entries;
         cursor = made_same;
+        tells = h.tells;
         whole = whole_pointed s d.entries d.cursor (anchor_over s at) at refl h.whole;
         texts = h.texts;
       };
+    }
+
+-- a cursor that has caught up
+settled_stays : (d : Sitting Seen) (f : Sitting State) → IsAlike d f → IsAlike (with_settled by_parts d) (with_settled by_history f)
+settled_stays d f h =
+    let a = settled_alike d.state f.state d.cursor h.stands ((h.whole).anchored) in
+    record {
+      stands = h.stands;
+      sane = h.sane;
+      writable = h.writable;
+      entries = h.entries;
+      cursor = a.0 ∙ ap (settled (f.state).history) h.cursor;
+      tells = h.tells;
+      whole = record { undoable = (h.whole).undoable; anchored = a.1 };
+      texts = h.texts;
     }
 
 -- ---- messages
@@ -325,7 +343,7 @@ taken_names s m = go (seen.has_room c.limit)
     go true = names_on s c.state (acknowledged c.state m.from m.vector) (ops_names m.ops (seen.started None s)) (acknowledged_names c.state m.from m.vector)
     go false = ops_names m.ops (seen.started None s)
 
-taken_alike : (d : Sitting Seen) (f : Sitting State) (bytes : List ℕ) (r : Result Message ℕ) → IsBytes bytes → message_of bytes ≡ r → IsAlike d f → AreAlike (taken by_parts d r) (taken by_history f r)
+pub taken_alike : (d : Sitting Seen) (f : Sitting State) (bytes : List ℕ) (r : Result Message ℕ) → IsBytes bytes → message_of bytes ≡ r → IsAlike d f → AreAlike (taken by_parts d r) (taken by_history f r)
 taken_alike d f bytes (Err at) b e h = record { reply = refl; states = h }
 taken_alike d f bytes (Ok m) b e h = subst (λ (x : Bool). AreAlike (taken by_parts d (Ok m)) (cond x (answers.taken_at f (take_message f.state m)) (answers.says other f))) same (go mine refl)
   where
@@ -358,6 +376,7 @@ taken_alike d f bytes (Ok m) b e h = subst (λ (x : Bool). AreAlike (taken by_pa
             writable = w.1;
             entries = h.entries;
             cursor = h.cursor;
+            tells = h.tells;
             whole = whole_on s (taken_over s m).state d.entries d.cursor (taken_names s m) h.whole;
             texts = h.texts;
           };
@@ -366,6 +385,38 @@ taken_alike d f bytes (Ok m) b e h = subst (λ (x : Bool). AreAlike (taken by_pa
     go : (x : Bool) → mine ≡ x → AreAlike (cond x (answers.taken_at d (taken_over s m)) (answers.says other d)) (cond x (answers.taken_at f (take_message t m)) (answers.says other f))
     go true is = ours is
     go false is = record { reply = refl; states = h }
+
+-- the offsets of what is spelled are in range
+ranged_ops : (n : ℕ) (first : Option Op) (os : List Op) → Chained (λ b. IsSpelled n) first os → AreInRange os
+ranged_ops n first [] c o p = absurd p
+ranged_ops n first (x ∷ os) c o (inl e) = subst (λ (y : Op). IsInRange y.body) e (given_op n x c.0).ranged
+ranged_ops n first (x ∷ os) c o (inr p) = ranged_ops n (Some x) os c.1 o p
+
+message_alike_changes : (d : Sitting Seen) (f : Sitting State) (bytes : List ℕ) (r : Result Message ℕ) → IsBytes bytes → message_of bytes ≡ r → IsAlike d f → message_changes by_parts d.state r ≡ message_changes by_history f.state r
+message_alike_changes d f bytes (Err at) b e h = refl
+message_alike_changes d f bytes (Ok m) b e h = go mine refl ∙ ap (λ (x : Bool). cond x (taken_changes_in t m) []) same
+  where
+    s : Seen
+    s = d.state
+
+    t : State
+    t = f.state
+
+    mine : Bool
+    mine = (m.group == s.group) && (m.members == members s)
+
+    same : mine ≡ ((m.group == group_of t.history) && (m.members == members_of t.history))
+    same = ap (λ n. (m.group == n) && (m.members == members s)) (h.stands).group ∙ ap (λ n. (m.group == group_of t.history) && (m.members == n)) (members_alike s t h.stands)
+
+    ours : mine ≡ true → taken_changes s m ≡ taken_changes_in t m
+    ours is =
+        let as_many : m.members ≡ members s = eqb-true m.members (members s) (and_right (m.group == s.group) (m.members == members s) is) in
+        let message = message_takes bytes m b e in
+        changes_taken_alike None s t m h.sane h.stands (message_given bytes m (members s) message as_many) (ranged_ops m.members None m.ops (message.2).ops)
+
+    go : (x : Bool) → mine ≡ x → cond x (taken_changes s m) [] ≡ cond x (taken_changes_in t m) []
+    go true is = ours is
+    go false is = refl
 
 sent_alike : (s : Seen) (t : State) (to : ℕ) → StandsFor s t → sent by_parts s to ≡ sent by_history t to
 sent_alike s t to h =
@@ -381,86 +432,28 @@ sent_alike s t to h =
 
 -- ---- all requests
 
--- the line of an edit is one, and a message consists of bytes
-abbrev pub IsGiven : Request → Type 0
-IsGiven (Does (orders.Edit line)) = IsLine line
-IsGiven (Does order) = Unit {0}
-IsGiven (Takes message) = IsBytes message
-
 pub answer_alike : (d : Sitting Seen) (f : Sitting State) (r : Request) → IsGiven r → IsAlike d f → AreAlike (answer by_parts d r) (answer by_history f r)
 unfolding answer
-answer_alike d f (Does (orders.Edit line)) g h = rested_alike _ _ (line_almost d f line h g)
-answer_alike d f (Does orders.Undo) g h = rested_alike _ _ (undo_almost d f h)
+answer_alike d f (Does (orders.Edit line)) g h = told_rested_alike d f _ _ _ _ h.tells (line_changes_alike d f line h) (line_almost d f line h g)
+answer_alike d f (Does orders.Undo) g h =
+    let e = with_caught_up by_parts d in
+    let u = with_caught_up by_history f in
+    let k = caught_up_stays d f h in
+    told_rested_alike e u _ _ _ _ h.tells (undone_alike e u k) (undo_almost e u k)
 answer_alike d f (Does (orders.Point at)) g h = pointed_alike d f at h
 answer_alike d f (Does orders.Place) g h = record {
   reply = ap cursor_text (place_alike d.state f.state d.cursor h.stands (h.whole).anchored ∙ ap (place (f.state).history) h.cursor);
-  states = h;
+  states = settled_stays d f h;
 }
 answer_alike d f (Does orders.Text) g h = record { reply = ap (λ cs. bytes_text (codes "text") (encode_utf8_all cs)) (text_alike d.state f.state h.stands); states = h }
 answer_alike d f (Does (orders.Take len)) g h = record { reply = refl; states = h }
 answer_alike d f (Does (orders.Send to)) g h = record { reply = sent_alike d.state f.state to h.stands; states = h }
 answer_alike d f (Does orders.Stat) g h = record { reply = ap (λ (t : List ℕ). bytes_text (codes "stat") t) (stat_alike d.state f.state h.stands); states = h }
 answer_alike d f (Does orders.Store) g h = record { reply = refl; states = h }
+answer_alike d f (Does (orders.Tell on)) g h = record {
+  reply = refl;
+  states = record { stands = h.stands; sane = h.sane; writable = h.writable; entries = h.entries; cursor = h.cursor; tells = refl; whole = h.whole; texts = h.texts };
+}
 answer_alike d f (Does orders.Quit) g h = record { reply = refl; states = h }
 answer_alike d f (Does orders.Bad) g h = record { reply = refl; states = h }
-answer_alike d f (Takes message) g h = taken_alike d f message (message_of message) g refl h
-
--- ---- what an input asks for
-
--- the line of an edit
-edit_given : (bytes : List ℕ) (l : Option Line) → IsGood l → IsGiven (Does (order_or_bad orders.Edit l))
-edit_given bytes None g = tt
-edit_given bytes (Some line) g = g
-
-line_same : (bytes : List ℕ) → is_utf8 bytes ≡ true → line_of bytes ≡ line_of_text bytes
-unfolding line_of
-line_same bytes e = rw e refl
-
-text_good : (bytes : List ℕ) → is_utf8 bytes ≡ true → IsGood (line_of_text bytes)
-text_good bytes e = subst IsGood (line_same bytes e) (line_good bytes)
-
--- one of two orders
-given_or : (b : Bool) (o other : Order) → IsGiven (Does o) → IsGiven (Does other) → IsGiven (Does (cond b o other))
-given_or true o other g h = g
-given_or false o other g h = h
-
-letter_given : (bytes : List ℕ) → IsGood (line_of_text bytes) → IsGiven (Does (order_of_letter bytes))
-letter_given bytes g =
-    given_or (bytes_eq bytes (codes "u")) orders.Undo _ tt (given_or (bytes_eq bytes (codes "p")) orders.Place _ tt (given_or (bytes_eq bytes (codes "t")) orders.Text _ tt (given_or (bytes_eq bytes (codes "n")) orders.Stat _ tt
-    (given_or (bytes_eq bytes (codes "w")) orders.Store _ tt (given_or (bytes_eq bytes (codes "q")) orders.Quit _ tt (edit_given bytes (line_of_text bytes) g))))))
-
-parts_given : (bytes word others : List ℕ) → IsGood (line_of_text bytes) → IsGiven (Does (order_of_parts bytes word others))
-parts_given bytes word others g = go (bytes_eq word (codes "k")) (bytes_eq word (codes "m")) (bytes_eq word (codes "s")) (number_of others) (member_of others)
-  where
-    go : (a b c : Bool) (n m : Option ℕ) → IsGiven (Does (cond a (order_or_bad orders.Point n) (cond b (order_or_bad orders.Take n) (cond c (order_or_bad orders.Send m) (order_or_bad orders.Edit (line_of_text bytes))))))
-    go true b c None m = tt
-    go true b c (Some x) m = tt
-    go false true c None m = tt
-    go false true c (Some x) m = tt
-    go false false true n None = tt
-    go false false true n (Some x) = tt
-    go false false false n m = edit_given bytes (line_of_text bytes) g
-
-order_given : (bytes : List ℕ) → IsGiven (Does (order_of bytes))
-unfolding order_of
-order_given bytes = go (is_utf8 bytes) refl
-  where
-    words : IsGood (line_of_text bytes) → (p : Option (List ℕ × List ℕ)) → IsGiven (Does (order_of_words bytes p))
-    words g None = letter_given bytes g
-    words g (Some x) = parts_given bytes x.0 x.1 g
-
-    go : (b : Bool) → is_utf8 bytes ≡ b → IsGiven (Does (cond b (order_of_words bytes (parts_of bytes)) orders.Bad))
-    go false e = tt
-    go true e = words (text_good bytes e) (parts_of bytes)
-
-after_given : (order : Order) (rest : List ℕ) → IsBytes rest → IsGiven (Does order) → IsGiven (cut_after order rest).request
-after_given (orders.Take n) rest b g = go (nat_le n (length rest))
-  where
-    go : (x : Bool) → IsGiven (cond {A = Cut} x (record { request = Takes (take n rest); size = n }) (record { request = Does orders.Bad; size = length rest })).request
-    go true = IsBytes-take n rest b
-    go false = tt
-after_given order rest b g = g
-
-pub cut_given : (bytes : List ℕ) → IsBytes bytes → IsGiven (cut bytes).request
-unfolding cut
-cut_given bytes b = after_given (order_of (before_first is_line_feed bytes)) (drop (line_size bytes) bytes) (IsBytes-drop (line_size bytes) bytes b) (order_given (before_first is_line_feed bytes))
+answer_alike d f (Takes message) g h = told_alike d f _ _ _ _ h.tells (message_alike_changes d f message (message_of message) g refl h) (taken_alike d f message (message_of message) g refl h)

@@ -91,7 +91,9 @@ use Rattle.rls_store.proofs.Storable.{all_writable}
 use Rattle.rls_session.proofs.Resumed.{dropped_writable, whole_left}
 use Rattle.rls_session.proofs.Whole.{last_undoable, undoable_back, whole_edited, whole_on, whole_pointed, whole_undone}
 
-use Rattle.rls_session.proofs.Agreeing.{IsAlike, IsGiven, answer_alike, cut_given}
+use Rattle.rls_session.proofs.Entries.{all_settled_whole, whole_back}
+use Rattle.rls_session.proofs.Given.{IsGiven, cut_given}
+use Rattle.rls_session.proofs.Agreeing.{IsAlike, answer_alike}
 
 -- ---- after a store
 
@@ -107,21 +109,6 @@ all_settled : (s : Seen) (t : State) (es : List Entry) → StandsFor s t → Are
 all_settled s t [] h k = refl
 all_settled s t (e ∷ es) h k = let a = settled_alike s t e h k.0 in let b = all_settled s t es h k.1 in cc
 
--- their texts stay
-settled_text : (s : Seen) (entry : Entry) → IsEntry entry → IsEntry (settled_over s entry)
-settled_text s (Inserted e ids) h = tt
-settled_text s (Removed e first cs) h = h
-
-settled_texts : (s : Seen) (es : List Entry) → AreWhole es → AreWhole (map (settled_over s) es)
-settled_texts s [] h = tt
-settled_texts s (e ∷ es) h = (settled_text s e h.0, settled_texts s es h.1)
-
--- and those of the last ones
-texts_back : (n : ℕ) (es : List Entry) → AreWhole es → AreWhole (drop n es)
-texts_back zero es h = h
-texts_back (suc n) [] h = tt
-texts_back (suc n) (e ∷ es) h = texts_back n es h.1
-
 -- after a store
 pub resumed_alike : (d : Sitting Seen) (f : Sitting State) → IsAlike d f → IsAlike (resumed by_parts d) (resumed by_history f)
 resumed_alike d f h =
@@ -133,8 +120,9 @@ resumed_alike d f h =
       writable = dropped_writable s h.writable;
       entries = all_settled s t (last_entries KEPT_ENTRIES d.entries) h.stands (undoable_back s (length d.entries - KEPT_ENTRIES) d.entries (h.whole).undoable) ∙ ap (λ (es : List Entry). map (settled t.history) (last_entries KEPT_ENTRIES es)) h.entries;
       cursor = (anchor_alike s t d.cursor h.stands (h.whole).anchored).0 ∙ ap (anchors.settled t.history) h.cursor;
+      tells = h.tells;
       whole = whole_left s (last_entries KEPT_ENTRIES d.entries) d.cursor h.sane;
-      texts = settled_texts s (last_entries KEPT_ENTRIES d.entries) (texts_back (length d.entries - KEPT_ENTRIES) d.entries h.texts);
+      texts = all_settled_whole s (last_entries KEPT_ENTRIES d.entries) (whole_back (length d.entries - KEPT_ENTRIES) d.entries h.texts);
     }
 
 -- courses that are the same, one after another
@@ -172,4 +160,4 @@ pub sessions_alike : (s : Seen) (t : State) (input : List ℕ) → IsBytes input
 unfolding stretches
 sessions_alike s t input b h sane writable =
     stretches_alike (suc (length input)) (sitting_at s) (sitting_at t) input b
-    (record { stands = h; sane = sane; writable = writable; entries = refl; cursor = refl; whole = record { undoable = tt; anchored = tt }; texts = tt })
+    (record { stands = h; sane = sane; writable = writable; entries = refl; cursor = refl; tells = refl; whole = record { undoable = tt; anchored = tt }; texts = tt })

@@ -1,5 +1,5 @@
 -- What is answered, from its parts.
-use Rattle.std.proofs.Common.{◌≡◌, ◌∙◌, ◌<◌, ◌≤◌, ◌+◌, ◌-◌, ℕ, suc, true, false, ltb, List, [], ◌∷◌, ◌++◌, length, Option, Some, None, Result, Ok, Err, IfOk, OnOk, refl, sym, ap, subst, arith, get_or}
+use Rattle.std.proofs.Common.{◌≡◌, ◌∙◌, ◌<◌, ◌≤◌, ◌+◌, ◌-◌, ℕ, Bool, suc, true, false, ltb, List, [], ◌∷◌, ◌++◌, length, Option, Some, None, Result, Ok, Err, IfOk, OnOk, OnErr, append-nil, refl, sym, ap, subst, arith, get_or}
 use Rattle.std.specs.Prelude.{codes}
 use Rattle.std.proofs.lemmas.Bool.Decides.{nat_tests}
 use Rattle.std.proofs.lemmas.Option.{slice_get-get_or}
@@ -22,13 +22,17 @@ use Rattle.rls_report.specs.Reports.{take_text}
 use Rattle.rls_stages.specs.Lines.{allowed, line_fault}
 use Rattle.rls_undo.specs.declared.entry.Entry.{Entry}
 use Rattle.rls_undo.specs.declared.undo.Undone.{Undone}
+use Rattle.rls_undo.specs.declared.undo.UndoError.{UndoError}
+use Rattle.rls_undo.specs.declared.undo.UndoError.TheVariants as undo
+use Rattle.rls_changes.specs.declared.change.Change.{Change}
+use Rattle.rls_changes.specs.Edits.{IsToldPart, edit_changes}
 use Rattle.rls_undo.specs.Undoing.{IsPart, entries_over, last_of, performed_over, plan_over, refusal_over, undone_by, without_last}
 use Rattle.rls_anchor.specs.declared.anchor.Anchor.{Anchor}
 use Rattle.rls_anchor.specs.Anchors.{anchor_over}
 use Rattle.rls_stages.proofs.Kept.{is_ours, not_for}
 use Rattle.rls_session.specs.Answering.{IsAnswered}
-use Rattle.rls_session.specs.Answers.{Sitting, edited, pointed, sent, taken, undone, with_state}
-use Rattle.rls_session.specs.Desks.{TellsFault, sitting_of}
+use Rattle.rls_session.specs.Answers.{Sitting, edited, pointed, sent, taken, undone, undone_changes, with_cursor, with_state}
+use Rattle.rls_session.specs.Desks.{TellsFault, planned_changes, sitting_of}
 use Rattle.rls_session.specs.Replies.{ok_text, undone_text, nothing_text, cursor_text, bytes_text, refused_text, failed_text}
 use Rattle.rls_session.specs.Sessions.{by_parts}
 
@@ -36,6 +40,10 @@ use Rattle.rls_session.specs.Sessions.{by_parts}
 pub on_ok : {X E : Type 0} (r : Result X E) (P Q : X → Type 0) → ((x : X) → P x → Q x) → IfOk r P → IfOk r Q
 on_ok (Ok x) P Q f h = f x h
 on_ok (Err e) P Q f h = tt
+
+pub on_both : {X E : Type 0} (r : Result X E) (P Q R : Type 0) → (P → Q → R) → OnOk r P → OnOk r Q → OnOk r R
+on_both (Ok x) P Q R f h k = f h k
+on_both (Err e) P Q R f h k = tt
 
 pub on_any : {X E : Type 0} (r : Result X E) (P : Type 0) → P → OnOk r P
 on_any (Ok x) P h = h
@@ -48,7 +56,7 @@ ok_is_not_err x e h = cc
 -- ---- edits
 
 pub edit_said : (d e : Sitting Seen) (edit : Edit) (seq : ℕ) (reply : List ℕ) → edit_fault_over d.state edit ≡ None → seq ≡ own_count d.state + 1
-    → e ≡ sitting_of (edits.edited d.state edit) (d.entries ++ entries_over d.state edit) d.cursor → reply ≡ ok_text seq → IsAnswered (edited by_parts d (allowed d.state edit)) reply e
+    → e ≡ sitting_of (edits.edited d.state edit) (d.entries ++ entries_over d.state edit) d.cursor d.tells → reply ≡ ok_text seq → IsAnswered (edited by_parts d (allowed d.state edit)) reply e
 edit_said d e edit seq reply none number is text = rw none (record { reply_is = text ∙ ap ok_text number; state_is = is })
 
 pub edit_refused : (d e : Sitting Seen) (edit : Edit) (error : EditError) (reply : List ℕ) → IsFault error (edit_fault_over d.state edit) → TellsFault error reply → e ≡ d
@@ -71,10 +79,10 @@ last_is (x ∷ es) some none =
 
 -- the plan was performed
 pub undone_said : (d e : Sitting Seen) (u : Undone) (reply : List ℕ) → (d.entries ≡ [] → ⊥) → refusal_over d.state (plan_over d.state (last_of d.entries)) ≡ None → u ≡ undone_by (plan_over d.state (last_of d.entries))
-    → e ≡ sitting_of (performed_over d.state (plan_over d.state (last_of d.entries))) (without_last d.entries) d.cursor → reply ≡ undone_text u.edits u.chars → IsAnswered (undone by_parts d (last_of d.entries)) reply e
+    → e ≡ sitting_of (performed_over d.state (plan_over d.state (last_of d.entries))) (without_last d.entries) d.cursor d.tells → reply ≡ undone_text u.edits u.chars → IsAnswered (undone by_parts d (last_of d.entries)) reply e
 undone_said d e u reply some none counts is text = go (last_of d.entries) (last_is d.entries some) none counts is
   where
-    go : (o : Option Entry) → (o ≡ None → ⊥) → refusal_over d.state (plan_over d.state o) ≡ None → u ≡ undone_by (plan_over d.state o) → e ≡ sitting_of (performed_over d.state (plan_over d.state o)) (without_last d.entries) d.cursor
+    go : (o : Option Entry) → (o ≡ None → ⊥) → refusal_over d.state (plan_over d.state o) ≡ None → u ≡ undone_by (plan_over d.state o) → e ≡ sitting_of (performed_over d.state (plan_over d.state o)) (without_last d.entries) d.cursor d.tells
         → IsAnswered (undone by_parts d o) reply e
     go None some none counts is = absurd (some refl)
     go (Some entry) some none counts is = rw none (record { reply_is = text ∙ ap (λ (x : Undone). undone_text x.edits x.chars) counts; state_is = is })
@@ -100,14 +108,33 @@ nothing_done s plan new none p = go p.front p.rest (sym none ∙ p.are) p.after
     go [] rest e after = after
     go (x ∷ front) rest e after = absurd cc
 
+-- so it is after an undo that found no entry
+pub nothing_untold : (r : Result Undone UndoError) (s n : Seen) (es : List Entry) → r ≡ Err undo.Nothing → es ≡ [] → OnErr r (IsPart s (plan_over s (last_of es)) n) → n ≡ s
+nothing_untold r s n es is none part =
+    nothing_done s (plan_over s (last_of es)) n (ap (λ (xs : List Entry). plan_over s (last_of xs)) none) (subst (λ (x : Result Undone UndoError). OnErr x (IsPart s (plan_over s (last_of es)) n)) is part)
+
+pub nothing_told : (r : Result Undone UndoError) (s n : Seen) (es : List Entry) (cs ds : List Change) → r ≡ Err undo.Nothing → es ≡ [] → OnErr r (IsToldPart s (plan_over s (last_of es)) n cs ds) → (n ≡ s) × (ds ≡ cs)
+nothing_told r s n es cs ds is none part =
+    let p = subst (λ (x : Result Undone UndoError). OnErr x (IsToldPart s (plan_over s (last_of es)) n cs ds)) is part in
+    go p.front p.rest (sym (ap (λ (xs : List Entry). plan_over s (last_of xs)) none) ∙ p.are) p.led p.told
+  where
+    go : (front rest : List Edit) → [] ≡ front ++ rest → n ≡ performed_over s front → ds ≡ cs ++ edit_changes front → (n ≡ s) × (ds ≡ cs)
+    go [] rest e led told = (led, told ∙ append-nil cs)
+    go (x ∷ front) rest e led told = absurd cc
+
 pub nothing_said : (d e : Sitting Seen) (reply : List ℕ) → d.entries ≡ [] → e ≡ d → reply ≡ nothing_text → IsAnswered (undone by_parts d (last_of d.entries)) reply e
 nothing_said d e reply none is text =
     let last : last_of d.entries ≡ None = ap last_of none in
     subst (λ (o : Option Entry). IsAnswered (undone by_parts d o) reply e) (sym last) (record { reply_is = text; state_is = is })
 
+-- what was undone changed what was planned
+pub undone_planned : (s : Seen) (o : Option Entry) → planned_changes s o ≡ undone_changes by_parts s o
+undone_planned s None = refl
+undone_planned s (Some entry) = refl
+
 -- sittings are the same if their parts are
-pub same_sitting : (s t : Seen) (xs ys : List Entry) (a : Anchor) → s ≡ t → xs ≡ ys → sitting_of s xs a ≡ sitting_of t ys a
-same_sitting s t xs ys a e f = rw (e, f) refl
+pub same_sitting : (s t : Seen) (xs ys : List Entry) (a : Anchor) (b : Bool) → s ≡ t → xs ≡ ys → sitting_of s xs a b ≡ sitting_of t ys a b
+same_sitting s t xs ys a b e f = rw (e, f) refl
 
 -- ---- the cursor
 
@@ -122,11 +149,11 @@ pointed_past d e at n m reply f g past is text =
     let total : m ≡ length (text_over d.state) = g ∙ sym len in
     rw test (record { reply_is = rw (← f, ← total) text; state_is = is })
 
-pub pointed_there : (d e : Sitting Seen) (at : ℕ) (a : Anchor) (reply : List ℕ) → at ≤ length (d.state).text → a ≡ anchor_over d.state at → e ≡ sitting_of d.state d.entries a → reply ≡ cursor_text at → IsAnswered (pointed by_parts d at) reply e
+pub pointed_there : (d e : Sitting Seen) (at : ℕ) (a : Anchor) (reply : List ℕ) → at ≤ length (d.state).text → a ≡ anchor_over d.state at → e ≡ with_cursor d a → reply ≡ cursor_text at → IsAnswered (pointed by_parts d at) reply e
 pointed_there d e at a reply within made is text =
     let len = text_length (d.state).text in
     let test : ltb (length (text_over d.state)) at ≡ false = grind (arith, nat_tests, len) in
-    rw test (record { reply_is = text; state_is = is ∙ ap (sitting_of d.state d.entries) made })
+    rw test (record { reply_is = text; state_is = is ∙ ap (with_cursor d) made })
 
 -- ---- messages
 

@@ -12,7 +12,7 @@ use Rattle.rls_script.proofs.LineEnds.{position_or_len_le}
 use Rattle.rls_session.specs.declared.orders.Order.{Order}
 use Rattle.rls_session.specs.declared.orders.Order.TheVariants.{Bad, Take}
 use Rattle.rls_session.specs.Answering.{HasAll, IsAnswered, IsNear, IsNext, IsPast, IsReplied}
-use Rattle.rls_session.specs.Answers.{Kind, Sitting, answer, done, taken}
+use Rattle.rls_session.specs.Answers.{Kind, Sitting, answer, done, take_told}
 use Rattle.rls_session.specs.Intake as intake
 use Rattle.rls_session.specs.Intake.{IntakeSeen, to_come, KnowsEnd, TellsEnd}
 use Rattle.rls_session.specs.Orders.{order_of}
@@ -97,7 +97,7 @@ found_order a0 a b (Some xs) (Some rest) n size ws line order keeps used e few f
 -- ---- what follows a line
 
 pub message_replied : {X : Type 0} (K : Kind X) (d e : Sitting X) (a0 a b : IntakeSeen) (x0 y : Option (List ℕ)) (n : ℕ) (ws front reply : List ℕ) → Keeps (to_come a0 x0) (to_come a y) → a.used ≡ a0.used → n ≤ length a.waiting → ws ≡ a.waiting → front ≡ take n ws
-    → IsAnswered (taken K d (message_of front)) reply e → b.waiting ≡ drop n a.waiting → b.used ≡ a.used + n → KnowsEnd a0 x0 → IfSome (to_come a0 x0) (λ bytes. IsReplied (answer K d) bytes (Take n) reply e a0 b y)
+    → IsAnswered (take_told K d (message_of front)) reply e → b.waiting ≡ drop n a.waiting → b.used ≡ a.used + n → KnowsEnd a0 x0 → IfSome (to_come a0 x0) (λ bytes. IsReplied (answer K d) bytes (Take n) reply e a0 b y)
 unfolding answer
 message_replied K d e a0 a b None y n ws front reply keeps used there whole is said waits uses known = tt
 message_replied K d e a0 a b (Some xs) None n ws front reply keeps used there whole is said waits uses known = absurd (cc)
@@ -108,7 +108,7 @@ message_replied K d e a0 a b (Some xs) (Some rest) n ws front reply keeps used t
     let first : front ≡ take n bytes = is ∙ ap (take n) whole ∙ sym (take-append-le n a.waiting rest there) ∙ ap (take n) split in
     let left : b.waiting ++ rest ≡ drop n bytes = ap (λ (l : List ℕ). l ++ rest) waits ∙ sym (drop-append-le n a.waiting rest there) ∙ ap (drop n) split in
     record {
-      answered = rw test (subst (λ (m : List ℕ). IsAnswered (taken K d (message_of m)) reply e) first said);
+      answered = rw test (subst (λ (m : List ℕ). IsAnswered (take_told K d (message_of m)) reply e) first said);
       whole = λ going. let l = ap length split in let k = length-append a.waiting rest in omega arith;
       past = rw test (record { rest = ap (λ (l : List ℕ). Some l) left; used = uses ∙ ap (λ k. k + n) used });
     }

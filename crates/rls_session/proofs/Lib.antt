@@ -5,6 +5,7 @@ pub mod Reading
 pub mod Limits
 pub mod Found
 pub mod Loop
+pub mod ChangeLines
 pub mod Whole
 pub mod Resumed
 pub mod Sized
@@ -15,6 +16,8 @@ pub mod Served
 pub mod Stages
 pub mod Called
 pub mod Closing
+pub mod Entries
+pub mod Given
 pub mod Agreeing
 pub mod Alike
 pub mod Histories

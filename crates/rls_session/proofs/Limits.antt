@@ -11,10 +11,10 @@ use Rattle.rls_script.proofs.LineEnds.{position_or_len_le}
 use Rattle.rls_script.specs.Scripts.{is_line_feed, line_of_text, number_of, parts_of}
 use Rattle.rls_script.specs.declared.lines.Line.{Line}
 use Rattle.rls_session.specs.declared.orders.Order.{Order}
-use Rattle.rls_session.specs.declared.orders.Order.TheVariants.{Edit, Point, Take, Send, Store, Quit, Bad}
+use Rattle.rls_session.specs.declared.orders.Order.TheVariants.{Edit, Point, Take, Send, Store, Tell, Quit, Bad}
 use Rattle.rls_session.specs.Answering.{HasAll, LacksPart}
 use Rattle.rls_session.specs.Courses.{Course, go_on, course}
-use Rattle.rls_session.specs.Orders.{order_or_bad, member_of, order_of_letter, order_of_parts, order_of_words, order_of}
+use Rattle.rls_session.specs.Orders.{order_or_bad, member_of, order_of_letter, order_of_parts, order_of_words, order_of, switch_of}
 use Rattle.rls_session.specs.Requests.{Request, Does, Takes, Cut, line_size, cut_after, with_line, cut}
 use Rattle.rls_session.proofs.Courses.{Answers, IsPlain, course_begins}
 use Rattle.rls_session.proofs.Positions.{clear_then, in_front, position_front}
@@ -67,9 +67,15 @@ send_halts None (Quits e) = cc
 send_halts (Some x) (Stores e) = cc
 send_halts (Some x) (Quits e) = cc
 
+tell_halts : (o : Option Bool) → IsHalt (order_or_bad Tell o) → ⊥
+tell_halts None (Stores e) = cc
+tell_halts None (Quits e) = cc
+tell_halts (Some x) (Stores e) = cc
+tell_halts (Some x) (Quits e) = cc
+
 parts_halt : (bs word others : List ℕ) → IsHalt (order_of_parts bs word others) → ⊥
 parts_halt bs word others h =
-    skips (bytes_eq word (codes "k")) _ _ ⊥ (point_halts (number_of others)) (skips (bytes_eq word (codes "m")) _ _ ⊥ (take_halts (number_of others)) (skips (bytes_eq word (codes "s")) _ _ ⊥ (send_halts (member_of others)) (edit_halts (line_of_text bs)))) h
+    skips (bytes_eq word (codes "k")) _ _ ⊥ (point_halts (number_of others)) (skips (bytes_eq word (codes "m")) _ _ ⊥ (take_halts (number_of others)) (skips (bytes_eq word (codes "s")) _ _ ⊥ (send_halts (member_of others)) (skips (bytes_eq word (codes "c")) _ _ ⊥ (tell_halts (switch_of others)) (edit_halts (line_of_text bs))))) h
 
 halt_letter : (bs : List ℕ) → IsHalt (order_of bs) → length bs ≡ 1
 unfolding order_of

@@ -45,16 +45,16 @@ anchor_left s sane Beginning = tt
 anchor_left s sane (After e x) = greatest_stays s sane
 
 -- the entries alone, taken there
-pub whole_entries : (s : Seen) (es : List Entry) (a : Anchor) → IsWhole (sitting_of s es a) → IsWhole (sitting_of s (map (settled_over s) es) a)
+pub whole_entries : (s : Seen) (es : List Entry) (a : Anchor) → IsWhole s es a → IsWhole s (map (settled_over s) es) a
 whole_entries s es a h = record { undoable = settled_kept s s es (settled_here s); anchored = h.anchored }
 
 -- both, in what is left
-pub whole_left : (s : Seen) (es : List Entry) (a : Anchor) → IsSane s → IsWhole (sitting_of (dropped s) (map (settled_over s) es) (anchors.settled_over s a))
+pub whole_left : (s : Seen) (es : List Entry) (a : Anchor) → IsSane s → IsWhole (dropped s) (map (settled_over s) es) (anchors.settled_over s a)
 whole_left s es a sane = record { undoable = settled_kept s (dropped s) es (settled_left s sane); anchored = anchor_left s sane a }
 
-pub whole_cursor : {E : Type 0} (r : Result (Unit {0}) E) (s : Seen) (es : List Entry) (a b : Anchor) → OnOk r (b ≡ anchors.settled_over s a) → OnErr r (b ≡ a) → IsWhole (sitting_of s es a) → IsWhole (sitting_of s es b)
+pub whole_cursor : {E : Type 0} (r : Result (Unit {0}) E) (s : Seen) (es : List Entry) (a b : Anchor) → OnOk r (b ≡ anchors.settled_over s a) → OnErr r (b ≡ a) → IsWhole s es a → IsWhole s es b
 whole_cursor (Ok u) s es a b is stays h = record { undoable = h.undoable; anchored = subst (IsAnchored s) (sym is) (anchor_here s a) }
-whole_cursor (Err e) s es a b is stays h = subst (λ (x : Anchor). IsWhole (sitting_of s es x)) (sym stays) h
+whole_cursor (Err e) s es a b is stays h = subst (λ (x : Anchor). IsWhole s es x) (sym stays) h
 
 -- each epoch is kept, so that none was dropped
 pub none_dropped : (s : Seen) (es : List Entry) (e : EpochName) → AreUndoable s es → first_dropped s es ≡ Some e → ⊥

@@ -1,5 +1,5 @@
 -- Each message that a session answers is one.
-use Rattle.std.proofs.Common.{◌≡◌, ◌∙◌, ◌+◌, ◌-◌, ◌<◌, ℕ, zero, suc, Bool, true, false, cond, List, [], ◌∷◌, length, take, drop, Option, Some, None, IfSome, refl, sym, ap, subst, arith}
+use Rattle.std.proofs.Common.{◌≡◌, ◌∙◌, ◌+◌, ◌-◌, ◌<◌, ℕ, zero, suc, Bool, true, false, cond, List, [], ◌∷◌, length, take, drop, Option, Some, None, IfSome, sym, ap, subst, arith, refl}
 use Rattle.std.specs.Prelude.{nat_le}
 use Rattle.std.proofs.lemmas.Grind.{common_steps}
 use Rattle.rls_seen.specs.Seen.{Seen}
@@ -80,6 +80,7 @@ sent_after d orders.Place rest f = tt
 sent_after d orders.Text rest f = tt
 sent_after d orders.Stat rest f = tt
 sent_after d orders.Store rest f = tt
+sent_after d (orders.Tell on) rest f = tt
 sent_after d orders.Quit rest f = tt
 sent_after d orders.Bad rest f = tt
 

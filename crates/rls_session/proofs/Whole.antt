@@ -1,5 +1,5 @@
 -- Nothing that a session goes back to is dropped.
-use Rattle.std.proofs.Common.{◌≡◌, ◌∙◌, ◌++◌, ℕ, suc, zero, List, [], ◌∷◌, length, take, drop, Option, Some, None, Result, Ok, Err, OnOk, OnErr, true, false, refl, sym, subst, ◌-◌}
+use Rattle.std.proofs.Common.{◌≡◌, ◌∙◌, ◌++◌, ℕ, Bool, cond, suc, zero, List, [], ◌∷◌, length, map, take, drop, Option, Some, None, Result, Ok, Err, OnOk, OnErr, true, false, refl, sym, subst, ◌-◌}
 use Rattle.std.specs.Prelude.{IsTrue, IsFalse, slice_get}
 use Rattle.rls_ident.specs.declared.epoch_name.EpochName.{EpochName}
 use Rattle.rls_ops.specs.declared.op.Body.{Body}
@@ -14,14 +14,15 @@ use Rattle.rls_undo.specs.declared.entry.Entry.{Entry}
 use Rattle.rls_undo.specs.declared.undo.Undone.{Undone}
 use Rattle.rls_undo.specs.declared.undo.UndoError.{UndoError}
 use Rattle.rls_undo.specs.Plans.{entries_by, epoch_in, gone_by}
-use Rattle.rls_undo.specs.Undoing.{entries_over, epoch_of, last_entries, last_of, without_last}
+use Rattle.rls_undo.specs.declared.entry.Entry.TheVariants.{Inserted, Removed}
+use Rattle.rls_undo.specs.Undoing.{caught_up_over, dropped_or, entries_over, epoch_of, first_dropped, is_behind, last_entries, last_of, settled_over, without_last}
 use Rattle.rls_anchor.specs.declared.anchor.Anchor.{Anchor}
 use Rattle.rls_anchor.specs.declared.anchor.Anchor.TheVariants.{Beginning, After}
 use Rattle.rls_anchor.specs.AnchorLaws.{IsAnchored}
 use Rattle.rls_anchor.specs.Anchors.{anchor_over}
 use Rattle.rls_anchor.specs.Anchors as anchors
 use Rattle.rls_anchor.proofs.Places.{made_kept}
-use Rattle.rls_session.specs.Desks.{AreUndoable, IsWhole, sitting_of}
+use Rattle.rls_session.specs.Desks.{AreUndoable, IsWhole}
 
 -- ---- entries
 
@@ -65,6 +66,22 @@ pub entries_undoable : (s : Seen) (edit : Edit) → AreUndoable s (entries_over 
 unfolding entries_over made_over
 entries_undoable s edit = by_body s (made_over s edit).body (gone_by edit (text_over s))
 
+-- those that have caught up with the renames
+settled_entry_kept : (s : Seen) (e : Entry) → IsTrue (keeps s (epoch_in (settled_over s e)))
+settled_entry_kept s (Inserted e ids) = greatest_kept s.epochs.top s.epochs.nodes
+settled_entry_kept s (Removed e first cs) = greatest_kept s.epochs.top s.epochs.nodes
+
+all_settled_kept : (s : Seen) (es : List Entry) → AreUndoable s (map (settled_over s) es)
+all_settled_kept s [] = tt
+all_settled_kept s (e ∷ es) = (settled_entry_kept s e, all_settled_kept s es)
+
+caught_up_kept : (s : Seen) (es : List Entry) → AreUndoable s es → AreUndoable s (caught_up_over s es)
+caught_up_kept s es h = go (is_behind (greatest_over s) es)
+  where
+    go : (b : Bool) → AreUndoable s (cond b (map (settled_over s) es) es)
+    go true = all_settled_kept s es
+    go false = h
+
 -- ---- the cursor
 
 anchored_on : (s n : Seen) (a : Anchor) → KeepsNames s n → IsAnchored s a → IsAnchored n a
@@ -74,11 +91,11 @@ anchored_on s n (After e x) k h = k e h
 -- ---- all
 
 -- after more has happened
-pub whole_on : (s n : Seen) (es : List Entry) (a : Anchor) → KeepsNames s n → IsWhole (sitting_of s es a) → IsWhole (sitting_of n es a)
+pub whole_on : (s n : Seen) (es : List Entry) (a : Anchor) → KeepsNames s n → IsWhole s es a → IsWhole n es a
 whole_on s n es a k h = record { undoable = undoable_on s n es k h.undoable; anchored = anchored_on s n a k h.anchored }
 
 -- after an edit
-pub whole_edited : (s n : Seen) (es fs : List Entry) (a : Anchor) (edit : Edit) → KeepsNames s n → fs ≡ es ++ entries_over s edit → IsWhole (sitting_of s es a) → IsWhole (sitting_of n fs a)
+pub whole_edited : (s n : Seen) (es fs : List Entry) (a : Anchor) (edit : Edit) → KeepsNames s n → fs ≡ es ++ entries_over s edit → IsWhole s es a → IsWhole n fs a
 whole_edited s n es fs a edit k is h =
     record {
       undoable = subst (AreUndoable n) (sym is) (undoable_on s n (es ++ entries_over s edit) k (undoable_more s es (entries_over s edit) h.undoable (entries_undoable s edit)));
@@ -86,28 +103,33 @@ whole_edited s n es fs a edit k is h =
     }
 
 -- after an undo
-pub whole_undone : (s n : Seen) (es fs : List Entry) (a : Anchor) → KeepsNames s n → fs ≡ without_last es → IsWhole (sitting_of s es a) → IsWhole (sitting_of n fs a)
+pub whole_undone : (s n : Seen) (es fs : List Entry) (a : Anchor) → KeepsNames s n → fs ≡ without_last es → IsWhole s es a → IsWhole n fs a
 whole_undone s n es fs a k is h =
     record { undoable = subst (AreUndoable n) (sym is) (undoable_on s n (without_last es) k (undoable_front s (length es - 1) es h.undoable)); anchored = anchored_on s n a k h.anchored }
 
 -- with the same entries, or none
-pub whole_as : (s n : Seen) (es fs : List Entry) (a : Anchor) → KeepsNames s n → fs ≡ es → IsWhole (sitting_of s es a) → IsWhole (sitting_of n fs a)
-whole_as s n es fs a k is h = subst (λ (xs : List Entry). IsWhole (sitting_of n xs a)) (sym is) (whole_on s n es a k h)
+pub whole_as : (s n : Seen) (es fs : List Entry) (a : Anchor) → KeepsNames s n → fs ≡ es → IsWhole s es a → IsWhole n fs a
+whole_as s n es fs a k is h = subst (λ (xs : List Entry). IsWhole n xs a) (sym is) (whole_on s n es a k h)
 
 -- with a cursor that was just made
-pub whole_pointed : (s : Seen) (es : List Entry) (a b : Anchor) (at : ℕ) → b ≡ anchor_over s at → IsWhole (sitting_of s es a) → IsWhole (sitting_of s es b)
+pub whole_pointed : (s : Seen) (es : List Entry) (a b : Anchor) (at : ℕ) → b ≡ anchor_over s at → IsWhole s es a → IsWhole s es b
 whole_pointed s es a b at is h = record { undoable = h.undoable; anchored = subst (IsAnchored s) (sym is) (made_kept s at) }
 
 -- with the last entries
-pub whole_last : (s : Seen) (es fs : List Entry) (a : Anchor) (n : ℕ) → fs ≡ last_entries n es → IsWhole (sitting_of s es a) → IsWhole (sitting_of s fs a)
+pub whole_last : (s : Seen) (es fs : List Entry) (a : Anchor) (n : ℕ) → fs ≡ last_entries n es → IsWhole s es a → IsWhole s fs a
 whole_last s es fs a n is h = record { undoable = subst (AreUndoable s) (sym is) (undoable_back s (length es - n) es h.undoable); anchored = h.anchored }
 
+-- with entries that have caught up with the renames
+pub whole_caught_up : {E : Type 0} (r : Result (Unit {0}) E) (s : Seen) (es fs : List Entry) (a : Anchor) → OnOk r (fs ≡ caught_up_over s es) → OnErr r (fs ≡ es) → IsWhole s es a → IsWhole s fs a
+whole_caught_up (Ok u) s es fs a is stays h = record { undoable = subst (AreUndoable s) (sym is) (caught_up_kept s es h.undoable); anchored = h.anchored }
+whole_caught_up (Err e) s es fs a is stays h = whole_as s s es fs a (λ n k. k) stays h
+
 -- at the start
-pub whole_first : (s : Seen) (es : List Entry) → es ≡ [] → IsWhole (sitting_of s es Beginning)
+pub whole_first : (s : Seen) (es : List Entry) → es ≡ [] → IsWhole s es Beginning
 whole_first s es is = record { undoable = subst (AreUndoable s) (sym is) tt; anchored = tt }
 
 -- after an edit that was made or refused
-pub whole_made : (r : Result ℕ EditError) (s n : Seen) (es fs : List Entry) (a : Anchor) (edit : Edit) → KeepsNames s n → OnOk r (fs ≡ es ++ entries_over s edit) → OnErr r (fs ≡ es) → IsWhole (sitting_of s es a) → IsWhole (sitting_of n fs a)
+pub whole_made : (r : Result ℕ EditError) (s n : Seen) (es fs : List Entry) (a : Anchor) (edit : Edit) → KeepsNames s n → OnOk r (fs ≡ es ++ entries_over s edit) → OnErr r (fs ≡ es) → IsWhole s es a → IsWhole n fs a
 whole_made (Ok x) s n es fs a edit k made stays h = whole_edited s n es fs a edit k made h
 whole_made (Err e) s n es fs a edit k made stays h = whole_as s n es fs a k stays h
 
@@ -116,7 +138,7 @@ pub undoable_undone : (r : Result Undone UndoError) (s n : Seen) (es fs : List E
 undoable_undone (Ok u) s n es fs k made stays h = subst (AreUndoable n) (sym made) (undoable_on s n (without_last es) k (undoable_front s (length es - 1) es h))
 undoable_undone (Err e) s n es fs k made stays h = subst (AreUndoable n) (sym stays) (undoable_on s n es k h)
 
-pub whole_with : (s n : Seen) (es fs : List Entry) (a : Anchor) → KeepsNames s n → AreUndoable n fs → IsWhole (sitting_of s es a) → IsWhole (sitting_of n fs a)
+pub whole_with : (s n : Seen) (es fs : List Entry) (a : Anchor) → KeepsNames s n → AreUndoable n fs → IsWhole s es a → IsWhole n fs a
 whole_with s n es fs a k u h = record { undoable = u; anchored = anchored_on s n a k h.anchored }
 
 -- ---- nothing is dropped

@@ -32,7 +32,7 @@ use Rattle.rls_undo.specs.Undoing.{last_of, performed_over, planned_over, refusa
 use Rattle.rls_session.specs.declared.orders.Order.{Order}
 use Rattle.rls_session.specs.declared.orders.Order.TheVariants as orders
 use Rattle.rls_session.specs.Answering.{IsAnswered}
-use Rattle.rls_session.specs.Answers.{Sitting, done, pointed, read_line, taken, taken_at, undone, undone_by_plan}
+use Rattle.rls_session.specs.Answers.{Sitting, done, pointed, read_line, take_told, taken, taken_at, undone, undone_by_plan, with_caught_up, with_cursor}
 use Rattle.rls_session.specs.Answers as answers
 use Rattle.rls_session.specs.Courses.{Answered}
 use Rattle.rls_session.specs.Replies.{cursor_text, failed_text, refused_text}
@@ -90,13 +90,15 @@ undone_sized d (Some entry) h = go (refusal_over d.state (planned_over d.state e
 pointed_same : (d : Sitting Seen) (at : ℕ) → AreWritable d.state → AreWritable ((pointed by_parts d at).state).state
 pointed_same d at w = go (ltb (length (text_over d.state)) at)
   where
-    go : (b : Bool) → AreWritable ((cond {A = Answered (Sitting Seen)} b (answers.says (refused_text (Range at (length (text_over d.state)))) d) (answers.says (cursor_text at) (record { state = d.state; entries = d.entries; cursor = by_parts.anchor d.state at }))).state).state
+    go : (b : Bool) → AreWritable ((cond {A = Answered (Sitting Seen)} b (answers.says (refused_text (Range at (length (text_over d.state)))) d) (answers.says (cursor_text at) (with_cursor d (by_parts.anchor d.state at)))).state).state
     go true = w
     go false = w
 
 done_writable : (d : Sitting Seen) (order : Order) → AreWritable d.state → AreWritable ((done by_parts d order).state).state
 done_writable d (orders.Edit line) w = all_sized _ (edit_sized d (read_line by_parts d.state line) (line_faultless d.state line) (sized d.state w))
-done_writable d orders.Undo w = all_sized _ (undone_sized d (last_of d.entries) (sized d.state w))
+done_writable d orders.Undo w =
+    let e = with_caught_up by_parts d in
+    all_sized _ (undone_sized e (last_of e.entries) (sized d.state w))
 done_writable d (orders.Point at) w = pointed_same d at w
 done_writable d orders.Place w = w
 done_writable d orders.Text w = w
@@ -104,6 +106,7 @@ done_writable d (orders.Take len) w = w
 done_writable d (orders.Send to) w = w
 done_writable d orders.Stat w = w
 done_writable d orders.Store w = w
+done_writable d (orders.Tell on) w = w
 done_writable d orders.Quit w = w
 done_writable d orders.Bad w = w
 
@@ -121,5 +124,5 @@ took_writable d bytes (Ok m) b e h w = go ((m.group == (d.state).group) && (m.me
     go true is = (taken_writable d.state bytes m h w (message_takes bytes m b e) (eqb-true m.members (members d.state) (and_right (m.group == (d.state).group) (m.members == members d.state) is))).1
     go false is = w
 
-pub taken_stays_writable : (d e : Sitting Seen) (bytes reply : List ℕ) → IsBytes bytes → IsAnswered (taken by_parts d (message_of bytes)) reply e → IsSane d.state → AreWritable d.state → AreWritable e.state
+pub taken_stays_writable : (d e : Sitting Seen) (bytes reply : List ℕ) → IsBytes bytes → IsAnswered (take_told by_parts d (message_of bytes)) reply e → IsSane d.state → AreWritable d.state → AreWritable e.state
 taken_stays_writable d e bytes reply b a h w = subst (λ (x : Sitting Seen). AreWritable x.state) (sym a.state_is) (took_writable d bytes (message_of bytes) b refl h w)

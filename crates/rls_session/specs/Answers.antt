@@ -1,5 +1,5 @@
 -- What a session answers to a request, and what it changes.
-use Rattle.std.specs.Prelude.{ℕ, Bool, ◌&&◌, ◌==◌, ◌++◌, List, [], length, map, encode_utf8_all, codes, nat_lt, Option, Some, None, Result, Ok, Err, if◌then◌else◌}
+use Rattle.std.specs.Prelude.{ℕ, Bool, true, false, ◌&&◌, ◌==◌, ◌++◌, List, [], length, map, encode_utf8_all, codes, nat_lt, Option, Some, None, Result, Ok, Err, if◌then◌else◌}
 use Rattle.rls_codec.specs.Reading.{message_of}
 use Rattle.rls_ops.specs.declared.message.Message.{Message}
 use Rattle.rls_ops.specs.Spelling.{message_bytes}
@@ -14,6 +14,8 @@ use Rattle.rls_script.specs.declared.lines.Line.{Line}
 use Rattle.rls_stages.specs.Lines.{line_by, line_fault}
 use Rattle.rls_undo.specs.declared.entry.Entry.{Entry}
 use Rattle.rls_undo.specs.Undoing.{undone_by, last_entries, last_of, without_last}
+use Rattle.rls_changes.specs.declared.change.Change.{Change}
+use Rattle.rls_changes.specs.ChangesLaws.{own_changes}
 use Rattle.rls_anchor.specs.declared.anchor.Anchor.{Anchor}
 use Rattle.rls_anchor.specs.declared.anchor.Anchor.TheVariants.{Beginning}
 use Rattle.rls_session.specs.declared.desk.TheConstants.{KEPT_ENTRIES}
@@ -21,7 +23,8 @@ use Rattle.rls_session.specs.declared.orders.Order.{Order}
 use Rattle.rls_session.specs.declared.orders.Order.TheVariants as orders
 use Rattle.rls_session.specs.Requests.{Request, Does, Takes}
 use Rattle.rls_session.specs.Courses.{Answered, Course, Stretch, courses, stretches}
-use Rattle.rls_session.specs.Replies.{ok_text, undone_text, nothing_text, cursor_text, bytes_text, refused_text, failed_text, bad_text}
+use Rattle.rls_session.specs.ChangeLines.{changes_text}
+use Rattle.rls_session.specs.Replies.{telling_text, ok_text, undone_text, nothing_text, cursor_text, bytes_text, refused_text, failed_text, bad_text}
 
 -- what a session asks of a state, and how it changes one, whatever states are
 pub record Kind (X : Type 0) : Type 0 where
@@ -37,11 +40,17 @@ pub record Kind (X : Type 0) : Type 0 where
   pub performed : X → List Edit → X
   -- the state after waiting operations are released until none is ready
   pub released : X → X
+  -- what changes in the text when they are released, when a message is taken, and by planned edits, up to the first that is refused
+  pub released_changes : X → List Change
+  pub taken_changes : X → Message → List Change
+  pub planned_changes : X → List Edit → List Change
   -- the text
   pub text : X → List ℕ
   -- the anchor at a place, and the place of one
   pub anchor : X → ℕ → Anchor
   pub place : X → Anchor → ℕ
+  -- entries that have caught up with the renames: they undo the same
+  pub caught_up : X → List Entry → List Entry
   -- the group, and the count of its members
   pub group : X → ℕ
   pub members : X → ℕ
@@ -55,29 +64,46 @@ pub record Kind (X : Type 0) : Type 0 where
   pub settled_anchor : X → Anchor → Anchor
   pub dropped : X → X
 
--- a state, what undoes the edits of this session, and the cursor
+-- a state, what undoes the edits of this session, the cursor, and whether changes are told
 pub record Sitting (X : Type 0) : Type 0 where
   pub state : X
   pub entries : List Entry
   pub cursor : Anchor
+  pub tells : Bool
 
 -- the one at the start of a session
 abbrev pub sitting_at : {X : Type 0} → X → Sitting X
-sitting_at s = record { state = s; entries = []; cursor = Beginning }
+sitting_at s = record { state = s; entries = []; cursor = Beginning; tells = false }
 
 -- this is answered, and this is the sitting after it
 abbrev pub says : {X : Type 0} → List ℕ → Sitting X → Answered (Sitting X)
 says reply d = record { reply = reply; state = d }
 
--- the same at this state
+-- the same at this state, with these entries, with this cursor, and telling changes or not
 abbrev pub with_state : {X : Type 0} → Sitting X → X → Sitting X
-with_state d s = record { state = s; entries = d.entries; cursor = d.cursor }
+with_state d s = record { state = s; entries = d.entries; cursor = d.cursor; tells = d.tells }
+
+abbrev pub with_entries : {X : Type 0} → Sitting X → List Entry → Sitting X
+with_entries d es = record { state = d.state; entries = es; cursor = d.cursor; tells = d.tells }
+
+abbrev pub with_cursor : {X : Type 0} → Sitting X → Anchor → Sitting X
+with_cursor d a = record { state = d.state; entries = d.entries; cursor = a; tells = d.tells }
+
+abbrev pub with_telling : {X : Type 0} → Sitting X → Bool → Sitting X
+with_telling d on = record { state = d.state; entries = d.entries; cursor = d.cursor; tells = on }
+
+-- what is kept has caught up with the renames, so that they cost once what it takes to translate it
+abbrev pub with_caught_up : {X : Type 0} → Kind X → Sitting X → Sitting X
+with_caught_up K d = with_entries d (K.caught_up d.state d.entries)
+
+abbrev pub with_settled : {X : Type 0} → Kind X → Sitting X → Sitting X
+with_settled K d = with_cursor d (K.settled_anchor d.state d.cursor)
 
 -- ---- edits
 
 -- an edit that is allowed is made
 abbrev pub edited : {X : Type 0} → Kind X → Sitting X → Result Edit LineFault → Answered (Sitting X)
-edited K d (Ok edit) = says (ok_text (K.number d.state)) (record { state = K.edited d.state edit; entries = d.entries ++ K.entries d.state edit; cursor = d.cursor })
+edited K d (Ok edit) = says (ok_text (K.number d.state)) (with_entries (with_state d (K.edited d.state edit)) (d.entries ++ K.entries d.state edit))
 edited K d (Err fault) = says (refused_text fault) d
 
 -- the edit that a line means, or its fault
@@ -88,7 +114,7 @@ read_line K s line = line_by K.fault K.text s line
 
 -- the planned edits are made, up to the first that is refused
 abbrev pub undone_by_plan : {X : Type 0} → Kind X → Sitting X → List Edit → Option EditError → Answered (Sitting X)
-undone_by_plan K d plan None = says (undone_text (undone_by plan).edits (undone_by plan).chars) (record { state = K.performed d.state plan; entries = without_last d.entries; cursor = d.cursor })
+undone_by_plan K d plan None = says (undone_text (undone_by plan).edits (undone_by plan).chars) (with_entries (with_state d (K.performed d.state plan)) (without_last d.entries))
 undone_by_plan K d plan (Some e) = says (refused_text (line_fault e)) (with_state d (K.performed d.state plan))
 
 -- the last entry is undone, if there is one
@@ -96,9 +122,36 @@ abbrev pub undone : {X : Type 0} → Kind X → Sitting X → Option Entry → A
 undone K d None = says nothing_text d
 undone K d (Some entry) = undone_by_plan K d (K.planned d.state entry) (K.refusal d.state (K.planned d.state entry))
 
+-- after the entries have caught up
+abbrev pub undone_last : {X : Type 0} → Kind X → Sitting X → Answered (Sitting X)
+undone_last K d = undone K d (last_of d.entries)
+
 -- after an edit and after an undo, accepted or not, waiting operations are released until none is ready
 abbrev pub rested : {X : Type 0} → Kind X → Answered (Sitting X) → Answered (Sitting X)
 rested K a = says a.reply (with_state a.state (K.released (a.state).state))
+
+-- ---- changes
+
+-- those of an edit that is allowed, and of an entry that is undone
+abbrev pub made_changes : Result Edit LineFault → List Change
+made_changes (Ok edit) = own_changes edit
+made_changes (Err fault) = []
+
+abbrev pub undone_changes : {X : Type 0} → Kind X → X → Option Entry → List Change
+undone_changes K s None = []
+undone_changes K s (Some entry) = K.planned_changes s (K.planned s entry)
+
+-- the reply, and after it what the request changed, if that is told
+abbrev pub with_changes : Bool → List Change → List ℕ → List ℕ
+with_changes false cs reply = reply
+with_changes true cs reply = reply ++ changes_text cs
+
+abbrev pub told : {X : Type 0} → Sitting X → List Change → Answered (Sitting X) → Answered (Sitting X)
+told d cs a = says (with_changes d.tells cs a.reply) a.state
+
+-- the same after releases, whose changes come last
+abbrev pub told_rested : {X : Type 0} → Kind X → Sitting X → List Change → Answered (Sitting X) → Answered (Sitting X)
+told_rested K d cs a = told d (cs ++ K.released_changes (a.state).state) (rested K a)
 
 -- ---- the cursor
 
@@ -106,7 +159,7 @@ rested K a = says a.reply (with_state a.state (K.released (a.state).state))
 abbrev pub pointed : {X : Type 0} → Kind X → Sitting X → ℕ → Answered (Sitting X)
 pointed K d at =
     if nat_lt (length (K.text d.state)) at then says (refused_text (faults.Range at (length (K.text d.state)))) d
-    else says (cursor_text at) (record { state = d.state; entries = d.entries; cursor = K.anchor d.state at })
+    else says (cursor_text at) (with_cursor d (K.anchor d.state at))
 
 -- ---- messages
 
@@ -122,6 +175,11 @@ taken_at d p = says (take_text p.counts.applied p.counts.released p.counts.repea
 abbrev pub taken : {X : Type 0} → Kind X → Sitting X → Result Message ℕ → Answered (Sitting X)
 taken K d (Ok m) = if is_for K d.state m then taken_at d (K.taken d.state m) else says (failed_text (OtherGroup m.group m.members)) d
 taken K d (Err at) = says (failed_text (Malformed at)) d
+
+-- what it changes
+abbrev pub message_changes : {X : Type 0} → Kind X → X → Result Message ℕ → List Change
+message_changes K s (Ok m) = if is_for K s m then K.taken_changes s m else []
+message_changes K s (Err at) = []
 
 -- the message for a member
 abbrev pub sent : {X : Type 0} → Kind X → X → ℕ → List ℕ
@@ -139,29 +197,40 @@ stat_reply K s = bytes_text (codes "stat") (K.stat s)
 
 -- ---- all
 
+-- with what is told of it: an edit, an undo, and a message
+abbrev pub edit_told : {X : Type 0} → Kind X → Sitting X → Result Edit LineFault → Answered (Sitting X)
+edit_told K d r = told_rested K d (made_changes r) (edited K d r)
+
+abbrev pub undo_told : {X : Type 0} → Kind X → Sitting X → Answered (Sitting X)
+undo_told K d = told_rested K d (undone_changes K d.state (last_of d.entries)) (undone_last K d)
+
+abbrev pub take_told : {X : Type 0} → Kind X → Sitting X → Result Message ℕ → Answered (Sitting X)
+take_told K d r = told d (message_changes K d.state r) (taken K d r)
+
 -- orders to store and to quit, and one to take what isn't there, are never answered
 abbrev pub done : {X : Type 0} → Kind X → Sitting X → Order → Answered (Sitting X)
-done K d (orders.Edit line) = rested K (edited K d (read_line K d.state line))
-done K d orders.Undo = rested K (undone K d (last_of d.entries))
+done K d (orders.Edit line) = edit_told K d (read_line K d.state line)
+done K d orders.Undo = undo_told K (with_caught_up K d)
 done K d (orders.Point at) = pointed K d at
-done K d orders.Place = says (cursor_text (K.place d.state d.cursor)) d
+done K d orders.Place = says (cursor_text (K.place d.state d.cursor)) (with_settled K d)
 done K d orders.Text = says (text_reply K d.state) d
 done K d (orders.Take len) = says [] d
 done K d (orders.Send to) = says (sent K d.state to) d
 done K d orders.Stat = says (stat_reply K d.state) d
 done K d orders.Store = says [] d
+done K d (orders.Tell on) = says (telling_text on) (with_telling d on)
 done K d orders.Quit = says [] d
 done K d orders.Bad = says bad_text d
 
 unfoldable pub answer : {X : Type 0} → Kind X → Sitting X → Request → Answered (Sitting X)
 answer K d (Does order) = done K d order
-answer K d (Takes message) = taken K d (message_of message)
+answer K d (Takes message) = take_told K d (message_of message)
 
 -- ---- storing
 
 -- what the session goes back to, taken to the greatest epoch; of what undoes edits the last part alone
 abbrev pub settled_sitting : {X : Type 0} → Kind X → Sitting X → Sitting X
-settled_sitting K d = record { state = d.state; entries = map (K.settled d.state) (last_entries KEPT_ENTRIES d.entries); cursor = K.settled_anchor d.state d.cursor }
+settled_sitting K d = record { state = d.state; entries = map (K.settled d.state) (last_entries KEPT_ENTRIES d.entries); cursor = K.settled_anchor d.state d.cursor; tells = d.tells }
 
 -- after a store it is so, and what every member has is dropped
 abbrev pub resumed : {X : Type 0} → Kind X → Sitting X → Sitting X

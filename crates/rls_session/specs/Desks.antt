@@ -1,19 +1,22 @@
 -- What the code keeps of a session.
-use Rattle.std.specs.Prelude.{◌≡◌, ℕ, List, [], ◌∷◌, IsTrue}
+use Rattle.std.specs.Prelude.{◌≡◌, ℕ, Bool, List, [], ◌∷◌, IsTrue, Option}
 use Rattle.rls_model.specs.declared.edit.EditError.{EditError}
 use Rattle.rls_model.specs.declared.edit.EditError.TheVariants as edits
 use Rattle.rls_seen.specs.Seen.{Seen}
 use Rattle.rls_replica.specs.Names.{keeps}
 use Rattle.rls_undo.specs.declared.entry.Entry.{Entry}
 use Rattle.rls_undo.specs.Plans.{epoch_in}
+use Rattle.rls_undo.specs.Undoing.{plan_over}
+use Rattle.rls_changes.specs.declared.change.Change.{Change}
+use Rattle.rls_changes.specs.Edits.{edit_changes, performed_edits}
 use Rattle.rls_anchor.specs.declared.anchor.Anchor.{Anchor}
 use Rattle.rls_anchor.specs.AnchorLaws.{IsAnchored}
 use Rattle.rls_stages.specs.Lines.{line_fault}
 use Rattle.rls_session.specs.Answers.{Sitting}
 use Rattle.rls_session.specs.Replies.{refused_text}
 
-abbrev pub sitting_of : Seen → List Entry → Anchor → Sitting Seen
-sitting_of s es a = record { state = s; entries = es; cursor = a }
+abbrev pub sitting_of : Seen → List Entry → Anchor → Bool → Sitting Seen
+sitting_of s es a tells = record { state = s; entries = es; cursor = a; tells = tells }
 
 -- the epoch of each entry is kept
 abbrev pub AreUndoable : Seen → List Entry → Type 0
@@ -21,11 +24,15 @@ AreUndoable s [] = Unit {0}
 AreUndoable s (e ∷ es) = IsTrue (keeps s (epoch_in e)) × AreUndoable s es
 
 -- nothing that a session goes back to was dropped: the epochs of its entries and of its cursor are kept
-pub record IsWhole (d : Sitting Seen) : Type 0 where
-  pub undoable : AreUndoable d.state d.entries
-  pub anchored : IsAnchored d.state d.cursor
+pub record IsWhole (s : Seen) (es : List Entry) (a : Anchor) : Type 0 where
+  pub undoable : AreUndoable s es
+  pub anchored : IsAnchored s a
 
 -- the reply tells the fault of this refused edit, which isn't want of memory
 abbrev pub TellsFault : EditError → List ℕ → Type 0
 TellsFault edits.OutOfMemory reply = ⊥
 TellsFault e reply = reply ≡ refused_text (line_fault e)
+
+-- what is changed by undoing the entry, if there is one, up to the first edit that is refused
+abbrev pub planned_changes : Seen → Option Entry → List Change
+planned_changes s entry = edit_changes (performed_edits s (plan_over s entry))

@@ -3,6 +3,7 @@ pub mod Requests
 pub mod Courses
 pub mod Intake
 pub mod Replies
+pub mod ChangeLines
 pub mod Answers
 pub mod Sessions
 pub mod Sent

@@ -1,5 +1,5 @@
 -- What a session answers.
-use Rattle.std.specs.Prelude.{ℕ, List, [], ◌∷◌, ◌++◌, codes, length}
+use Rattle.std.specs.Prelude.{ℕ, Bool, true, false, List, [], ◌∷◌, ◌++◌, codes, length}
 use Rattle.std.specs.Fmt.{decimal}
 use Rattle.rls_report.specs.Texts.{line}
 use Rattle.rls_report.specs.Failures.{error_line, fault_text}
@@ -19,6 +19,11 @@ nothing_text = codes "no nothing\n"
 
 abbrev pub cursor_text : ℕ → List ℕ
 cursor_text at = line (codes "cursor " ∷ decimal at ∷ [])
+
+-- whether changes are told from now on
+abbrev pub telling_text : Bool → List ℕ
+telling_text false = codes "telling 0\n"
+telling_text true = codes "telling 1\n"
 
 -- these bytes, after a line with their number
 abbrev pub bytes_text : List ℕ → List ℕ → List ℕ

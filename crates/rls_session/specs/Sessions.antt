@@ -14,7 +14,9 @@ use Rattle.rls_seen.specs.Over.{released_all}
 use Rattle.rls_seen.specs.Seen.{Seen, members, own_count, text_over}
 use Rattle.rls_stages.specs.Lines.{fault_in, text_in}
 use Rattle.rls_report.specs.Stat.{stat_of, stat_over}
-use Rattle.rls_undo.specs.Undoing.{entries_of, entries_over, performed, performed_over, planned, planned_over, refusal, refusal_over, settled, settled_over}
+use Rattle.rls_undo.specs.Undoing.{caught_up, caught_up_over, entries_of, entries_over, performed, performed_over, planned, planned_over, refusal, refusal_over, settled, settled_over}
+use Rattle.rls_changes.specs.Edits.{edit_changes, performed_edits, performed_edits_in}
+use Rattle.rls_changes.specs.Telling.{all_released_changes, all_released_changes_in, taken_changes, taken_changes_in}
 use Rattle.rls_anchor.specs.Anchors.{anchor_over, before, behind, place, place_over}
 use Rattle.rls_anchor.specs.Anchors as anchors
 use Rattle.rls_session.specs.Answers.{Kind, Sitting, session_from}
@@ -32,9 +34,13 @@ by_parts = record {
   refusal = refusal_over;
   performed = performed_over;
   released = released_all;
+  released_changes = all_released_changes;
+  taken_changes = taken_changes;
+  planned_changes = λ s plan. edit_changes (performed_edits s plan);
   text = text_over;
   anchor = anchor_over;
   place = place_over;
+  caught_up = caught_up_over;
   group = λ s. s.group;
   members = members;
   taken = taken_over;
@@ -61,9 +67,13 @@ by_history = record {
   refusal = refusal;
   performed = performed;
   released = release_all;
+  released_changes = all_released_changes_in;
+  taken_changes = taken_changes_in;
+  planned_changes = λ t plan. edit_changes (performed_edits_in t plan);
   text = text_in;
   anchor = λ t at. behind (greatest t.history) (before (idents t.history) at);
   place = λ t a. place t.history a;
+  caught_up = λ t entries. caught_up t.history entries;
   group = λ t. group_of t.history;
   members = λ t. members_of t.history;
   taken = take_message;

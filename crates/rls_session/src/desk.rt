@@ -1,37 +1,44 @@
 //! What a session works on.
 
-ghost use Rattle.std.specs.Prelude.{◌≡◌, ◌≤◌, IfOk, OnOk};
+ghost use Rattle.std.specs.Prelude.{◌≡◌, ◌≤◌, ◌++◌, ◌↔◌, [], ℕ, Bool, Some, None, Ok, Err, IfOk, OnOk, OnErr, IsErrOf, IsTrue, IsFalse};
 ghost use Rattle.rls_ident.specs.declared.epoch_name.EpochName.{EpochName};
+ghost use Rattle.rls_ops.specs.declared.message.Message.{Message};
 ghost use Rattle.rls_codec.specs.CodecLaws.{IsBytes};
 ghost use Rattle.rls_codec.specs.Reading.{message_of};
+ghost use Rattle.rls_model.specs.declared.edit.EditError as edits;
+ghost use Rattle.rls_seen.specs.Messages.{taken_of, taken_over};
 ghost use Rattle.rls_seen.specs.Sane.{IsSane};
 ghost use Rattle.rls_seen.specs.Seen.{Seen};
 ghost use Rattle.rls_seen.specs.Kept.{dropped};
 ghost use Rattle.rls_seen.specs.Over.{released_all};
 ghost use Rattle.rls_anchor.specs.Anchors.{place_over, settled_over};
 ghost use Rattle.rls_stages.specs.Lines.{allowed};
-ghost use Rattle.rls_undo.specs.Undoing.{last_of};
+ghost use Rattle.rls_undo.specs.Undoing.{epoch_of, last_of, performed_over, plan_over, refusal_over, undone_by, without_last};
+ghost use Rattle.rls_changes.specs.Telling.{all_released_changes, taken_changes};
 ghost use Rattle.rls_session.specs.Answering.{IsAnswered};
-ghost use Rattle.rls_session.specs.Answers.{done, edited, pointed, read_line, rested, sent, settled_sitting, sitting_at, stat_reply, taken, text_reply, undone, with_state};
-ghost use Rattle.rls_replica.specs.Names.{KeepsNames};
+ghost use Rattle.rls_session.specs.Answers.{done, edit_told, edited, made_changes, message_changes, pointed, read_line, says, sent, settled_sitting, sitting_at, stat_reply, take_told, taken, text_reply, undo_told, undone, undone_changes, undone_last, with_caught_up, with_changes, with_cursor, with_settled, with_state, with_telling};
+ghost use Rattle.rls_replica.specs.Faults.{IsForeign};
+ghost use Rattle.rls_replica.specs.Names.{KeepsNames, keeps};
 ghost use Rattle.rls_anchor.specs.declared.anchor.Anchor as anchors;
-ghost use Rattle.rls_session.specs.Desks.{AreUndoable, IsWhole, TellsFault, sitting_of};
-ghost use Rattle.rls_session.specs.Replies.{cursor_text};
+ghost use Rattle.rls_session.specs.Desks.{AreUndoable, IsWhole, TellsFault, planned_changes, sitting_of};
+ghost use Rattle.rls_session.specs.Replies.{cursor_text, telling_text};
 ghost use Rattle.rls_session.specs.Requests.{Does};
 ghost use Rattle.rls_session.specs.Sent.{CanSend, SendsMessage};
 ghost use Rattle.rls_session.specs.Sessions.{by_parts};
 ghost use Rattle.rls_store.specs.Stored.{AreWritable};
 
+use crate::change_lines::push_changes;
 use crate::orders::Order;
 use crate::replies;
 use rls_anchor::{Anchor, AnchorError};
+use rls_changes::{Change, push_own, release_all};
 use rls_ident::rely;
 use rls_model::{Edit, EditError, Taken};
 use rls_replica::{PastError, Replica, SendError};
 use rls_report::{CommandError, LineFault, stat_text};
 use rls_script::Line;
 use rls_stages::{LineError, edit_of, utf8_text};
-use rls_sync::{TakeBytesError, message_bytes, take_bytes};
+use rls_sync::{TakeBytesError, message_bytes};
 use rls_undo::{Undo, UndoError, Undone};
 use std::alloc::{AllocError, Global};
 use std::marker::Model;
@@ -39,12 +46,13 @@ use std::marker::Model;
 /// How many edits can be undone that a session made before a store.
 pub const KEPT_ENTRIES: usize = 10_000;
 
-/// What a session works on: the replica, what undoes its edits, and the cursor.
+/// What a session works on: the replica, what undoes its edits, the cursor, and whether changes are told.
 #[derive(Drop)]
 pub(crate) struct Desk {
     replica: Replica,
     undo: Undo,
     cursor: Anchor,
+    tells: bool,
 }
 
 impl Model for Desk {
@@ -54,9 +62,9 @@ impl Model for Desk {
 
     ghost Value = { Sitting Seen };
 
-    ghost view = { λ d. sitting_of d.replica d.undo d.cursor };
+    ghost view = { λ d. sitting_of d.replica d.undo d.cursor d.tells };
 
-    ghost invariant = { λ d. IsWhole (sitting_of d.replica d.undo d.cursor) };
+    ghost invariant = { λ d. IsWhole d.replica d.undo d.cursor };
 }
 
 impl Desk {
@@ -68,6 +76,7 @@ impl Desk {
             replica,
             undo: Undo::new(alloc),
             cursor: Anchor::Beginning,
+            tells: false,
         }
     }
 
@@ -91,6 +100,7 @@ impl Desk {
             Order::Text => self.text(alloc),
             Order::Send { to } => self.send(alloc, to),
             Order::Stat => self.stat(alloc),
+            Order::Tell { on } => self.tell_from_now(alloc, on),
             Order::Bad => replies::bad(alloc),
             Order::Take { .. } | Order::Store | Order::Quit => Ok(Vec::new(alloc)),
         }
@@ -100,55 +110,120 @@ impl Desk {
 
     // Performs a line, and releases what is ready.
     fn edit(&mut self, alloc: Global, line: &Line) -> Result<Vec<u8>, AllocError>
-        ensures answered { IfOk result (λ reply. IsAnswered (rested by_parts (edited by_parts self.old (read_line by_parts self.old.state line.now))) reply.items self.new) }
+        ensures answered { IfOk result (λ reply. IsAnswered (edit_told by_parts self.old (read_line by_parts self.old.state line.now)) reply.items self.new) }
     {
-        let reply = self.perform(alloc, line)?;
-        self.release(alloc)?;
-        Ok(reply)
+        let mut changes = Vec::new(alloc);
+        let reply = self.perform(alloc, line, &mut changes)?;
+        self.release(alloc, &mut changes)?;
+        self.tell(alloc, reply, &changes)
     }
 
     // Undoes the last edit, and releases what is ready.
     fn undo(&mut self, alloc: Global) -> Result<Vec<u8>, AllocError>
-        ensures answered { IfOk result (λ reply. IsAnswered (rested by_parts (undone by_parts self.old (last_of self.old.entries))) reply.items self.new) }
+        ensures answered { IfOk result (λ reply. IsAnswered (undo_told by_parts (with_caught_up by_parts self.old)) reply.items self.new) }
     {
-        let reply = self.undo_last(alloc)?;
-        self.release(alloc)?;
-        Ok(reply)
+        let mut changes = Vec::new(alloc);
+        self.catch_up()?;
+        let reply = self.undo_last(alloc, &mut changes)?;
+        self.release(alloc, &mut changes)?;
+        self.tell(alloc, reply, &changes)
+    }
+
+    // The entries catch up with the renames.
+    fn catch_up(&mut self) -> Result<(), AllocError>
+        ensures caught_up { OnOk result (self.new ≡ with_caught_up by_parts self.old) }
+    {
+        match self.undo.catch_up(&self.replica) {
+            Ok(()) => Ok(()),
+            // A session drops nothing.
+            Err(PastError::Dropped { epoch: _epoch }) => unreachable!(),
+            Err(PastError::OutOfMemory) => Err(AllocError),
+        }
     }
 
     // Performs a line.
-    fn perform(&mut self, alloc: Global, line: &Line) -> Result<Vec<u8>, AllocError>
+    fn perform(
+        &mut self,
+        alloc: Global,
+        line: &Line,
+        changes: &mut Vec<Change>,
+    ) -> Result<Vec<u8>, AllocError>
         ensures answered { IfOk result (λ reply. IsAnswered (edited by_parts self.old (read_line by_parts self.old.state line.now)) reply.items self.new) }
+        ensures changes { IsTrue self.old.tells → OnOk result (changes.new.items ≡ changes.old.items ++ made_changes (read_line by_parts self.old.state line.now)) }
     {
         match edit_of(self.replica(), line) {
             Err(LineError::OutOfMemory) => Err(AllocError),
             Err(LineError::Refused { fault }) => replies::refused(alloc, fault),
-            Ok(edit) => self.make(alloc, &edit),
+            Ok(edit) => self.make(alloc, &edit, changes),
         }
     }
 
     // Makes an edit.
-    fn make(&mut self, alloc: Global, edit: &Edit) -> Result<Vec<u8>, AllocError>
+    fn make(
+        &mut self,
+        alloc: Global,
+        edit: &Edit,
+        changes: &mut Vec<Change>,
+    ) -> Result<Vec<u8>, AllocError>
         ensures answered { IfOk result (λ reply. IsAnswered (edited by_parts self.old (allowed self.old.state edit.now)) reply.items self.new) }
+        ensures changes { IsTrue self.old.tells → OnOk result (changes.new.items ≡ changes.old.items ++ made_changes (allowed self.old.state edit.now)) }
     {
         match self.undo.edit(&mut self.replica, edit) {
-            Ok(seq) => replies::ok(alloc, seq),
+            Ok(seq) => {
+                if self.tells {
+                    push_own(changes, edit)?;
+                }
+                replies::ok(alloc, seq)
+            }
             Err(error) => refused(alloc, error),
         }
     }
 
     // Undoes the last edit.
-    fn undo_last(&mut self, alloc: Global) -> Result<Vec<u8>, AllocError>
-        ensures answered { IfOk result (λ reply. IsAnswered (undone by_parts self.old (last_of self.old.entries)) reply.items self.new) }
+    fn undo_last(&mut self, alloc: Global, changes: &mut Vec<Change>) -> Result<Vec<u8>, AllocError>
+        ensures answered { IfOk result (λ reply. IsAnswered (undone_last by_parts self.old) reply.items self.new) }
+        ensures changes { IsTrue self.old.tells → OnOk result (changes.new.items ≡ changes.old.items ++ undone_changes by_parts self.old.state (last_of self.old.entries)) }
     {
-        undo_last(alloc, &mut self.undo, &mut self.replica)
+        undo_last(
+            alloc,
+            &mut self.undo,
+            &mut self.replica,
+            self.tells,
+            changes,
+        )
     }
 
     // Releases waiting operations until none is ready.
-    fn release(&mut self, alloc: Global) -> Result<(), AllocError>
+    fn release(&mut self, alloc: Global, changes: &mut Vec<Change>) -> Result<(), AllocError>
         ensures released { OnOk result (self.new ≡ with_state self.old (released_all self.old.state)) }
+        ensures changes { IsTrue self.old.tells → OnOk result (changes.new.items ≡ changes.old.items ++ all_released_changes self.old.state) }
     {
-        self.replica.release_all(&mut Taken::new(alloc))
+        let mut taken = Taken::new(alloc);
+        if self.tells {
+            return release_all(&mut self.replica, &mut taken, changes);
+        }
+        self.replica.release_all(&mut taken)
+    }
+
+    // ---- changes
+
+    // Changes are told from now on, or not.
+    fn tell_from_now(&mut self, alloc: Global, on: bool) -> Result<Vec<u8>, AllocError>
+        ensures answered { IfOk result (λ reply. IsAnswered (says (telling_text on) (with_telling self.old on)) reply.items self.new) }
+    {
+        self.tells = on;
+        replies::telling(alloc, on)
+    }
+
+    // The reply, with what changed after it, if that is told.
+    fn tell(&self, alloc: Global, reply: Vec<u8>, changes: &[Change]) -> Result<Vec<u8>, AllocError>
+        ensures told { IfOk result (λ all. all.items ≡ with_changes self.now.tells changes.now reply.items) }
+    {
+        let mut reply = reply;
+        if self.tells {
+            push_changes(alloc, &mut reply, changes)?;
+        }
+        Ok(reply)
     }
 
     // ---- the cursor
@@ -169,8 +244,16 @@ impl Desk {
         }
     }
 
+    // Tells where the cursor is, which catches up with the renames.
+    fn place(&mut self, alloc: Global) -> Result<Vec<u8>, AllocError>
+        ensures answered { IfOk result (λ reply. IsAnswered (says (cursor_text (place_over self.old.state self.old.cursor)) (with_settled by_parts self.old)) reply.items self.new) }
+    {
+        self.settle_cursor()?;
+        self.tell_place(alloc)
+    }
+
     // Tells where the cursor is.
-    fn place(&self, alloc: Global) -> Result<Vec<u8>, AllocError>
+    fn tell_place(&self, alloc: Global) -> Result<Vec<u8>, AllocError>
         ensures reply { IfOk result (λ reply. reply.items ≡ cursor_text (place_over self.now.state self.now.cursor)) }
     {
         match self.cursor.place(&self.replica) {
@@ -215,12 +298,29 @@ impl Desk {
 
     /// Takes the message that these bytes are.
     pub(crate) fn take(&mut self, alloc: Global, bytes: &[u8]) -> Result<Vec<u8>, AllocError>
+        ensures answered { IfOk result (λ reply. IsAnswered (take_told by_parts self.old (message_of bytes.now)) reply.items self.new) }
+        ensures sane { IsSane self.old.state }
+        ensures bytes { IsBytes bytes.now }
+    {
+        let mut changes = Vec::new(alloc);
+        let reply = self.take_in(alloc, bytes, &mut changes)?;
+        self.tell(alloc, reply, &changes)
+    }
+
+    // Takes it, and puts what it changes after these changes, if that is told.
+    fn take_in(
+        &mut self,
+        alloc: Global,
+        bytes: &[u8],
+        changes: &mut Vec<Change>,
+    ) -> Result<Vec<u8>, AllocError>
         ensures answered { IfOk result (λ reply. IsAnswered (taken by_parts self.old (message_of bytes.now)) reply.items self.new) }
+        ensures changes { IsTrue self.old.tells → OnOk result (changes.new.items ≡ changes.old.items ++ message_changes by_parts self.old.state (message_of bytes.now)) }
         ensures sane { IsSane self.old.state }
         ensures bytes { IsBytes bytes.now }
     {
         rely!(self.replica.sane());
-        match take_bytes(alloc, &mut self.replica, bytes) {
+        match take_message(alloc, &mut self.replica, bytes, self.tells, changes) {
             Err(TakeBytesError::OutOfMemory) => Err(AllocError),
             Err(TakeBytesError::Malformed { at }) => {
                 replies::failed(alloc, CommandError::Malformed { at })
@@ -249,9 +349,10 @@ impl Desk {
         self.settle_cursor()
     }
 
-    // Takes the cursor there.
+    // Takes the cursor to the greatest epoch. Its place is as before.
     fn settle_cursor(&mut self) -> Result<(), AllocError>
-        ensures settled { OnOk result (self.new ≡ sitting_of self.old.state self.old.entries (settled_over self.old.state self.old.cursor)) }
+        ensures settled { OnOk result (self.new ≡ with_cursor self.old (settled_over self.old.state self.old.cursor)) }
+        ensures there { OnOk result (place_over self.new.state self.new.cursor ≡ place_over self.old.state self.old.cursor) }
         ensures state { self.new.state ≡ self.old.state }
     {
         match self.cursor.settle(&self.replica) {
@@ -262,7 +363,7 @@ impl Desk {
 
     /// Drops what every member has.
     pub(crate) fn drop_stable(&mut self)
-        requires lasts { IsWhole (with_state self.old (dropped self.old.state)) }
+        requires lasts { IsWhole (dropped self.old.state) self.old.entries self.old.cursor }
         ensures dropped { self.new ≡ with_state self.old (dropped self.old.state) }
     {
         self.replica.drop_stable();
@@ -280,14 +381,46 @@ fn unsettled(error: PastError) -> AllocError
     }
 }
 
-// Undoes the last entry.
-fn undo_last(alloc: Global, undo: &mut Undo, replica: &mut Replica) -> Result<Vec<u8>, AllocError>
+// Takes the message that these bytes are, and puts what it changes after these changes, if that is told.
+fn take_message(
+    alloc: Global,
+    replica: &mut Replica,
+    bytes: &[u8],
+    tells: bool,
+    changes: &mut Vec<Change>,
+) -> Result<Taken, TakeBytesError>
+    ensures taken { IfOk result (λ taken. (m : Message) × (message_of bytes.now ≡ Ok m) × (IsForeign replica.old m → ⊥)
+        × (taken ≡ taken_of (taken_over replica.old m)) × (replica.new ≡ (taken_over replica.old m).state)
+        × (IsTrue tells → changes.new.items ≡ changes.old.items ++ taken_changes replica.old m)) }
+    ensures malformed { (at : ℕ) → IsErrOf result (TakeBytesError.Malformed at)
+        → (message_of bytes.now ≡ Err at) × (replica.new ≡ replica.old) × (changes.new.items ≡ changes.old.items) }
+    ensures other_group { (g n : ℕ) → IsErrOf result (TakeBytesError.OtherGroup g n)
+        → (m : Message) × (message_of bytes.now ≡ Ok m) × IsForeign replica.old m × (g ≡ m.group) × (n ≡ m.members)
+        × (replica.new ≡ replica.old) × (changes.new.items ≡ changes.old.items) }
+    ensures names { KeepsNames replica.old replica.new }
+    ensures bytes { IsBytes bytes.now }
+{
+    if tells {
+        return rls_changes::take_bytes(alloc, replica, bytes, changes);
+    }
+    rls_sync::take_bytes(alloc, replica, bytes)
+}
+
+// Undoes the last entry, and puts what that changes after these changes, if that is told.
+fn undo_last(
+    alloc: Global,
+    undo: &mut Undo,
+    replica: &mut Replica,
+    tells: bool,
+    changes: &mut Vec<Change>,
+) -> Result<Vec<u8>, AllocError>
     requires undoable { AreUndoable replica.old undo.old }
-    ensures answered { IfOk result (λ reply. (a : anchors.Anchor) → IsAnswered (undone by_parts (sitting_of replica.old undo.old a) (last_of undo.old)) reply.items (sitting_of replica.new undo.new a)) }
+    ensures answered { IfOk result (λ reply. (a : anchors.Anchor) (t : Bool) → IsAnswered (undone by_parts (sitting_of replica.old undo.old a t) (last_of undo.old)) reply.items (sitting_of replica.new undo.new a t)) }
     ensures undoable { AreUndoable replica.new undo.new }
     ensures names { KeepsNames replica.old replica.new }
+    ensures changes { IsTrue tells → OnOk result (changes.new.items ≡ changes.old.items ++ undone_changes by_parts replica.old (last_of undo.old)) }
 {
-    match undo.undo(replica) {
+    match undo_entry(undo, replica, tells, changes) {
         Ok(Undone { edits, chars }) => replies::undone(alloc, edits, chars),
         Err(UndoError::Nothing) => replies::nothing(alloc),
         Err(UndoError::Edit(error)) => refused(alloc, error),
@@ -295,6 +428,33 @@ fn undo_last(alloc: Global, undo: &mut Undo, replica: &mut Replica) -> Result<Ve
         Err(UndoError::Dropped { epoch: _epoch }) => unreachable!(),
         Err(UndoError::OutOfMemory) => Err(AllocError),
     }
+}
+
+// Undoes the last entry, and puts what that changes after these changes, if that is told.
+fn undo_entry(
+    undo: &mut Undo,
+    replica: &mut Replica,
+    tells: bool,
+    changes: &mut Vec<Change>,
+) -> Result<Undone, UndoError>
+    ensures nothing { IsErrOf result UndoError.Nothing ↔ (undo.old ≡ []) }
+    ensures dropped { (e : EpochName) → (IsErrOf result (UndoError.Dropped e) ↔ ((epoch_of (last_of undo.old) ≡ Some e) × IsFalse (keeps replica.old e))) }
+    ensures refused { (f : edits.EditError) → IsErrOf result (UndoError.Edit f) → (refusal_over replica.old (plan_over replica.old (last_of undo.old)) ≡ Some f)
+        × (replica.new ≡ performed_over replica.old (plan_over replica.old (last_of undo.old)))
+        × (IsTrue tells → changes.new.items ≡ changes.old.items ++ planned_changes replica.old (last_of undo.old)) }
+    ensures fits { OnOk result (refusal_over replica.old (plan_over replica.old (last_of undo.old)) ≡ None) }
+    ensures undone { IfOk result (λ u. u ≡ undone_by (plan_over replica.old (last_of undo.old))) }
+    ensures after { OnOk result (replica.new ≡ performed_over replica.old (plan_over replica.old (last_of undo.old))) }
+    ensures changes { IsTrue tells → OnOk result (changes.new.items ≡ changes.old.items ++ planned_changes replica.old (last_of undo.old)) }
+    ensures entries { OnOk result (undo.new ≡ without_last undo.old) }
+    ensures stays { OnErr result (undo.new ≡ undo.old) }
+    ensures none { IsErrOf result UndoError.Nothing → (replica.new ≡ replica.old) × (IsTrue tells → changes.new.items ≡ changes.old.items) }
+    ensures names { KeepsNames replica.old replica.new }
+{
+    if tells {
+        return rls_changes::undo(undo, replica, changes);
+    }
+    undo.undo(replica)
 }
 
 // The reply to an edit that is refused for this reason.

@@ -2,6 +2,7 @@
 #![tactic(auto)]
 
 mod answering;
+mod change_lines;
 mod desk;
 mod intake;
 mod orders;

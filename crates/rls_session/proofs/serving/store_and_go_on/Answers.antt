@@ -1,7 +1,7 @@
 use Rattle.std.proofs.Common.{subst, sym}
 use Rattle.rls_seen.specs.Seen.{Seen}
 use Rattle.rls_seen.specs.Kept.{dropped}
-use Rattle.rls_session.specs.Answers.{Sitting, with_state}
+use Rattle.rls_session.specs.Answers.{Sitting}
 use Rattle.rls_undo.specs.Undoing.{last_entries}
 use Rattle.rls_session.specs.declared.desk.TheConstants.{KEPT_ENTRIES}
 use Rattle.rls_session.specs.Desks.{IsWhole}
@@ -12,7 +12,7 @@ use Rattle.rls_session.proofs.serving.store_and_go_on.Goals as goal
 pub drop_stable-requires : goal.drop_stable-requires
 drop_stable-requires g c =
     let d = c.args.desk.now in
-    record { lasts = subst (λ (x : Sitting Seen). IsWhole (with_state x (dropped x.state))) (sym c.in_default.ensures.settled) (whole_left d.state (last_entries KEPT_ENTRIES d.entries) d.cursor c.in_default.ensures.sane) }
+    record { lasts = subst (λ (x : Sitting Seen). IsWhole (dropped x.state) x.entries x.cursor) (sym c.in_default.ensures.settled) (whole_left d.state (last_entries KEPT_ENTRIES d.entries) d.cursor c.in_default.ensures.sane) }
 
 pub returns-in-Ok-clause-writable : goal.returns-in-Ok-clause-writable
 returns-in-Ok-clause-writable g c =

@@ -11,7 +11,7 @@ use Rattle.rls_session.proofs.desk.Desk.point.Goals as goal
 pub returns-in-Err-Range : goal.returns-in-Err-Range
 returns-in-Err-Range c =
     let s = c.self.inside in
-    let d = sitting_of s.replica s.undo s.cursor in
+    let d = sitting_of s.replica s.undo s.cursor s.tells in
     let e = c.in-Err-Range in
     let cause = (c.at.ensures.range e.at e.total).0 (e.is ∙ ap Err e.field-0-is) in
     record {
@@ -22,8 +22,8 @@ returns-in-Err-Range c =
 pub returns-in-Ok : goal.returns-in-Ok
 returns-in-Ok c =
     let s = c.self.inside in
-    let d = sitting_of s.replica s.undo s.cursor in
-    let e = sitting_of s.replica s.undo c.in-Ok.cursor in
+    let d = sitting_of s.replica s.undo s.cursor s.tells in
+    let e = sitting_of s.replica s.undo c.in-Ok.cursor s.tells in
     record {
       answered = subst (λ (x : Sitting Seen). IfOk c.cursor.result (λ reply. IsAnswered (pointed by_parts x c.args.at) reply.items e)) c.self.view_is
           (on_ok c.cursor.result _ _ (λ reply text. pointed_there d e c.args.at c.in-Ok.cursor reply.items c.in-Ok.ensures.within c.in-Ok.ensures.anchor refl text) c.cursor.ensures.text);

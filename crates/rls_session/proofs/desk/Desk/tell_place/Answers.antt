@@ -1,6 +1,6 @@
 use Rattle.std.proofs.Common.{◌∙◌, Err, ap}
 use Rattle.rls_session.proofs.Whole.{place_not_dropped}
-use Rattle.rls_session.proofs.desk.Desk.place.Goals as goal
+use Rattle.rls_session.proofs.desk.Desk.tell_place.Goals as goal
 
 pub unreachable-requires : goal.unreachable-requires
 unreachable-requires c =

@@ -1,5 +1,0 @@
-use Rattle.rls_session.proofs.Whole.{whole_on}
-use Rattle.rls_session.proofs.desk.Desk.take.Goals as goal
-
-pub invariant_of-self : goal.invariant_of-self
-invariant_of-self c = let s = c.self.inside in whole_on s.replica c.take_bytes.new.replica s.undo s.cursor c.take_bytes.ensures.names c.self.invariant
