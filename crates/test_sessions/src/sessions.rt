@@ -109,6 +109,15 @@ const ROWS: &[&str] = &[
     // The numbers, as `stat` prints them.
     "n\nn 1\nn | stat 87\ngroup 7\nme 0\nmembers 2\naccepted 1 0\ntotal 5\nruns 1\nheld 0\nunstable 1\nepochs 1\nformer 0\n\nbad\nstat 87\ngroup 7\nme 0\nmembers 2\naccepted 1 0\ntotal 5\nruns 1\nheld 0\nunstable 1\nepochs 1\nformer 0\n\nsaved\n | same",
     "r\nd 0 1\nw\nn\n | ok 2\nok 3\nsaved\nstat 87\ngroup 7\nme 0\nmembers 2\naccepted 3 0\ntotal 4\nruns 1\nheld 0\nunstable 3\nepochs 2\nformer 5\n\nsaved\n | other",
+    // Changes that are told, from `c 1` to `c 0`: of an insertion with what is escaped, a deletion and an undo.
+    "c 1\ni 5 \\n\\\\x\\r\nd 0 2\nu\nc 0\nd 0 1\n | telling 1\nok 2\nchanges 1\ni 5 \\n\\\\x\\r\nok 3\nchanges 1\nd 0 2\nundone 1 2\nchanges 1\ni 0 he\ntelling 0\nok 5\nsaved\n | other",
+    // Of a refused edit, a cluster, a rename, an undo after it, and where there is nothing to undo.
+    "c 1\ni 9 x\nb 5\nr\nu\nu\nt\n | telling 1\nno range 9 5\nchanges 0\nok 2\nchanges 1\nd 4 1\nok 3\nchanges 0\nundone 1 1\nchanges 1\ni 4 o\nno nothing\nchanges 0\ntext 5\nhello\nsaved\n | other",
+    // Other requests tell none, and a message that isn't there to its end is bad.
+    "c 1\nk 2\np\nm 0\nm 5\nabcd | telling 1\ncursor 2\ncursor 2\nno malformed at 0\nchanges 0\nbad\nsaved\n | same",
+    "c\nc 2\nc 01\nc 1 \nc  1\nc 1 1\n | bad\nbad\nbad\nbad\nbad\nbad\nsaved\n | same",
+    // An undo and a cursor over two renames.
+    "k 3\ni 1 XY\nr\nr\np\nu\np\nr\np\nu\nt\n | cursor 3\nok 2\nok 3\nok 4\ncursor 5\nundone 1 2\ncursor 3\nok 6\ncursor 3\nno nothing\ntext 5\nhello\nsaved\n | other",
 ];
 
 /// Whether a row goes as it has to, if a read brings at most this many bytes.
@@ -173,6 +182,12 @@ const EXCHANGES: &[Exchange] = &[
         FRESH,
         b"m 81\nRLSM\x03\0\0\0\0\0\0\0\x07\0\0\0\x02\0\0\0\0\0\0\0\x01\0\0\0\0\0\0\0\x01\0\0\0\0\0\0\0\x01\0\0\0\0\0\0\0\0\0\0\0\0\0\x01\x01\x7f\xff\xff\xff\0\0\0\0\0\0\0\x01\0\0\0\0\0\0\0\x05hellot\n",
         b"applied 1 released 0 repeated 0 held 0 refused 0\ntext 5\nhello\nsaved\n",
+    ),
+    (
+        3,
+        FRESH,
+        b"c 1\nm 81\nRLSM\x03\0\0\0\0\0\0\0\x07\0\0\0\x02\0\0\0\0\0\0\0\x01\0\0\0\0\0\0\0\x01\0\0\0\0\0\0\0\x01\0\0\0\0\0\0\0\0\0\0\0\0\0\x01\x01\x7f\xff\xff\xff\0\0\0\0\0\0\0\x01\0\0\0\0\0\0\0\x05hellod 1 1\n",
+        b"telling 1\napplied 1 released 0 repeated 0 held 0 refused 0\nchanges 1\ni 0 hello\nok 1\nchanges 1\nd 1 1\nsaved\n",
     ),
     (
         WHOLE,
