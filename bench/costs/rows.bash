@@ -13,12 +13,12 @@ trap 'rm -rf "$room"' EXIT
 # character that is put or deleted between two others gets a tuple more in each epoch.
 rows=(in_order:2000:23 reverse:2000:23 shuffled:2000:23 waiting:2000:23 waiting_reverse:2000:23 colliding:2000:23 forked:500:23 gone:500:23 same:500:23 each:250:23
   again:50:23 refused:250:23 refused_in_turn:250:23 gone_renamed:50:42 chain:50:42 old_deletions:50:23 wrong_epoch:250:23 renamed_file:25:23
-  small_renames:500:23 scattered:20000:23 back:250:23 rename:20000:23)
+  small_renames:500:23 scattered:20000:23 back:250:23 rename:20000:23 cursor_renames:500:23 undo_renames:500:23)
 
 # Beside each row of `take` one of what its changes cost: the same message, taken with what it changes (bench/changes.rt.in).
 for entry in "${rows[@]}"; do
   case $entry in
-    renamed_file:* | back:* | rename:*) ;;
+    renamed_file:* | back:* | rename:* | cursor_renames:* | undo_renames:*) ;;
     *) rows+=("changes_$entry") ;;
   esac
 done
@@ -158,10 +158,33 @@ renamed_file() {
   instructions text
 }
 
+# A session that puts its cursor, renames n times, and asks n times where the cursor is.
+cursor_renames() {
+  fresh 0
+  {
+    echo "i 0 abc"
+    echo "k 1"
+    for ((k = 0; k < $1; k++)); do echo r; done
+    for ((k = 0; k < $1; k++)); do echo p; done
+  } >"$room/requests"
+  instructions session <"$room/requests"
+}
+
+# A session that inserts n characters one by one, renames n times, and undoes all.
+undo_renames() {
+  fresh 0
+  {
+    for ((k = 0; k < $1; k++)); do echo "i $k a"; done
+    for ((k = 0; k < $1; k++)); do echo r; done
+    for ((k = 0; k < $1; k++)); do echo u; done
+  } >"$room/requests"
+  instructions session <"$room/requests"
+}
+
 # The instructions of a row for this n.
 work_of() {
   case $1 in
-    gone_renamed | chain | renamed_file | back | rename) "$1" "$2" ;;
+    gone_renamed | chain | renamed_file | back | rename | cursor_renames | undo_renames) "$1" "$2" ;;
     changes_*) changes "${1#changes_}" "$2" ;;
     *) taken "$1" "$2" ;;
   esac
