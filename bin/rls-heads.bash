@@ -1,41 +1,72 @@
 # Heads of messages and of stored files, as docs/FORMATS.md spells them, and what they show: bin/rls reads this for `take`, `send` and `head`,
 # and where a message has shown that the files of a folder are old.
 # shellcheck shell=bash
-# bin/rls sets `program`, `status`, NOT_SAFE, `say`, `refuse`, `find_stored`, `next_bytes` and `perform`.
+# bin/rls sets `program`, `status`, NOT_SAFE, `say`, `refuse`, `find_stored` and `perform`.
 # shellcheck disable=SC2154
 
-# The number in four bytes, from a place on.
-number_at() { number=$((bytes[$1] << 24 | bytes[$1 + 1] << 16 | bytes[$1 + 2] << 8 | bytes[$1 + 3])); }
+# A variable can't hold a byte 0. So bytes are split there, and put together twice: `one` has a byte 254 in place of each, and `two` a byte 253.
+# Where these differ there is a byte 0. bash takes its time for each step, so numbers are made of bytes only where they are needed.
 
-# Reads a head from standard input after as many bytes as are said: `kind` and `form`, which are its first five bytes, `group`, `members`,
-# `whose` it is, and `counts` of accepted operations. Messages and files have these at the same places. Without the last of them it is none.
-read_head() {
-  local number k
-  local -a bytes=()
-  kind='' form='' counts=()
-  next_bytes $(($1 + 21))
-  bytes=("${bytes[@]:$1}")
-  kind=${bytes[*]:0:4} form=${bytes[4]-}
-  [ "${#bytes[@]}" = 21 ] || return 1
-  number_at 5 && group=$number
-  number_at 9 && printf -v group %u $((group << 32 | number))
-  number_at 13 && members=$number
-  number_at 17 && whose=$number
-  [ "$members" -ge 1 ] && [ "$members" -le 64 ] && [ "$whose" -lt "$members" ] || return 1
-  bytes=() && next_bytes $((4 * members))
-  [ "${#bytes[@]}" = $((4 * members)) ] || return 1
-  for ((k = 0; k < members; k++)); do number_at $((4 * k)) && counts+=("$number"); done
+# The first `wanted` bytes of standard input, or as many as there are.
+read_bytes() {
+  local IFS='' part wanted=$1
+  local -a parts=()
+  while [ "$wanted" -gt 0 ]; do
+    read -r -d '' -n "$wanted" part || wanted=-1
+    parts+=("$part") wanted=$((wanted - ${#part} - 1))
+  done
+  # (the last byte is a 0)
+  [ "$wanted" != 0 ] || parts+=('')
+  IFS=$'\376' && one="${parts[*]}"
+  IFS=$'\375' && two="${parts[*]}"
 }
 
-readonly MESSAGE='82 76 83 77' FILE='82 76 83 70'
+# The number in four bytes, which both strings have.
+number_of() {
+  local k byte places='0 1 2 3'
+  number=0
+  # Most numbers are below 256.
+  if [[ $1 = $'\376\376\376'* && $2 = $'\375\375\375'* ]]; then places=3; fi
+  for k in $places; do
+    byte=0
+    [[ ${1:k:1} != "${2:k:1}" ]] || printf -v byte %d "'${1:k:1}"
+    number=$((number << 8 | byte & 255))
+  done
+}
 
-# The head of this replica. The oldest form of files has no counts, so there it is the head of a message.
+# The group, members and whose it is, of a head in `one` and `two`. Messages and files have them, and then the counts of accepted operations,
+# at the same places.
+parse_head() {
+  local number
+  number_of "${one:5:4}" "${two:5:4}" && group=$number
+  number_of "${one:9:4}" "${two:9:4}" && printf -v group %u $((group << 32 | number))
+  number_of "${one:13:4}" "${two:13:4}" && members=$number
+  number_of "${one:17:4}" "${two:17:4}" && whose=$number
+}
+
+# The head of this replica in `one` and `two`, `members`, and its own number `me`. A file has many bytes 0, so that splitting it ends soon.
+# The oldest form of files has no counts, so there it is the head of a message.
 read_own() {
-  local stored before kind form
+  local stored before number zeros=48 IFS
+  local -a parts=()
   find_stored && [ -r "$stored" ] || return
-  read_head "$before" <"$stored" && [ "$kind" = "$FILE" ] && [ "$form" != 1 ] && return
-  [ "$kind $form" = "$FILE 1" ] && read_head 0 < <(exec "$program" send 0 2>/dev/null)
+  while :; do
+    mapfile -d '' -n "$zeros" parts <"$stored"
+    IFS=$'\376' && one="${parts[*]}"
+    IFS=$'\375' && two="${parts[*]}"
+    one=${one:before} two=${two:before}
+    [ "${one:0:4}" = RLSF ] || return
+    if [ "${one:4:1}" = $'\1' ]; then read_bytes 277 < <(exec "$program" send 0 2>/dev/null); fi
+    number_of "${one:13:4}" "${two:13:4}" && members=$number
+    if [ "${#one}" -ge $((21 + 4 * members)) ] || [ "$zeros" != 48 ]; then break; fi
+    zeros=$((before + 22 + 4 * 64))
+  done
+  number_of "${one:17:4}" "${two:17:4}" && me=$number
+  [ "${#one}" -ge $((21 + 4 * members)) ]
 }
+
+# How many operations of a member the head in `one` and `two` counts.
+count_at() { number_of "${one:21 + 4 * $1:4}" "${two:21 + 4 * $1:4}"; }
 
 # --- Files that were put back from a copy
 
@@ -50,50 +81,54 @@ refuse_stale() {
 # are back, nothing is said any more.
 look_at_stale() {
   case $1 in edit | send | leave | session) ;; *) return 0 ;; esac
-  local kind form group members whose text me known sender
-  local -a counts
-  read -r text members me known sender <replica.stale && text+=" $members"
-  read_own && [ "$text $me" = "$group $members $whose" ] && [[ $known =~ ^[0-9]{1,10}$ ]] || return 0
-  [ "$known" -gt "${counts[whose]}" ] || return 0
+  local LC_ALL=C one two number group members whose me stale known sender
+  read -r stale known sender <replica.stale && [[ $known =~ ^[0-9]{1,10}$ ]] || return 0
+  read_own && parse_head && [ "$stale" = "$group-$members-$me" ] && count_at "$me" && [ "$known" -gt "$number" ] || return 0
   say "the folder remembers (replica.stale) that a message was refused here. If no other copy of this folder was ever used, member $sender has" \
     'written what is not so: then delete replica.stale, and take no message from that member.'
-  refuse_stale "$known" "${counts[whose]}" "$whose" "$sender" 'Nothing was done.'
+  refuse_stale "$known" "$number" "$me" "$sender" 'Nothing was done.'
 }
 
 # --- send
 
 send() {
-  local kind form group members whose
-  local -a counts
   perform send "$1"
-  if [ "$status" = 0 ] && read_own && [ "$whose" = "$1" ]; then
+  if [ "$status" = 0 ] && is_own "$1"; then
     say "$1 is this member's own number, so this message is for nobody: TO is the number of another member."
   fi
+}
+
+is_own() {
+  local LC_ALL=C one two members me
+  read_own && [ "$me" = "$1" ]
 }
 
 # --- head
 
 # Prints the head of a message that comes from standard input.
 print_head() {
-  local kind form group members whose whole=1
-  local -a counts
+  local LC_ALL=C one two group members whose number k form counts=''
   [ ! -t 0 ] || {
     say 'a message is read from a file or a program: rls head < MESSAGE'
     exit "$NOT_SAFE"
   }
-  read_head 0 || whole=0
-  if [ "$kind" != "$MESSAGE" ] || [ "${form:-0}" = 0 ]; then
+  read_bytes 277
+  printf -v form %d "'${one:4:1}"
+  if [ "${one:0:4}" != RLSM ] || [ "${one:4:1}" != "${two:4:1}" ] || [ "$form" = 0 ]; then
     say 'this is no message.'
     exit 4
-  elif [ "$form" -gt 3 ]; then
+  elif [ "$((form & 255))" -gt 3 ]; then
     say 'the message was written by a newer program.'
     exit 4
-  elif [ "$whole" = 0 ]; then
+  fi
+  parse_head
+  if [ "${#one}" -lt 21 ] || [ "$members" = 0 ] || [ "$members" -gt 64 ] || [ "$whose" -ge "$members" ] || [ "${#one}" -lt $((21 + 4 * members)) ]; then
     say 'this is no message, or it was cut off or changed on its way: ask for it again.'
     exit 4
   fi
+  for ((k = 0; k < members; k++)); do count_at "$k" && counts+=" $number"; done
   trap '' PIPE
-  { printf 'group %s\nmembers %s\nsender %s\ncounts %s\n' "$group" "$members" "$whose" "${counts[*]}"; } 2>/dev/null || {
+  { printf 'group %s\nmembers %s\nsender %s\ncounts%s\n' "$group" "$members" "$whose" "$counts"; } 2>/dev/null || {
     [ -p /dev/stdout ] || say "the output can't be written."
     exit 9
   }

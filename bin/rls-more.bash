@@ -1,7 +1,7 @@
 # The commands of the launcher that the program doesn't have, `edit --text`, `check`, `retire` and `restart`, and what is looked at before
 # `new`: bin/rls reads this for them. Each command ends the script.
 # shellcheck shell=bash
-# bin/rls sets `top`, `program`, `status`, `held`, NOT_SAFE, NOT_EQUAL, `say`, `refuse`, `ask`, `look`, `perform`, `advise` and `next_bytes`.
+# bin/rls sets `top`, `program`, `status`, `held`, NOT_SAFE, NOT_EQUAL, `say`, `refuse`, `ask`, `look`, `perform` and `advise`.
 # shellcheck disable=SC2154
 
 more() {
@@ -97,9 +97,9 @@ look_at_taken() {
 
 # Says what an editor may have put into FILE that nobody sees, if the text didn't have it.
 tell_marks() {
-  local -a bytes=()
-  next_bytes 3 <"$room/new" && next_bytes 3 <"$room/text"
-  if [ "${bytes[*]:0:3}" = '239 187 191' ] && [ "${bytes[*]:3}" != '239 187 191' ]; then
+  local new old mark=$'\xef\xbb\xbf'
+  new=$(head -c 3 "$room/new" | tr -d '\000') old=$(head -c 3 "$room/text" | tr -d '\000')
+  if [ "$new" = "$mark" ] && [ "$old" != "$mark" ]; then
     say "$1 begins with a byte order mark, which no terminal shows, and so does the text now: \`echo d 0 1 | rls edit\` takes it out."
   fi
   if LC_ALL=C grep -q $'\r$' "$room/new" && ! LC_ALL=C grep -q $'\r$' "$room/text"; then

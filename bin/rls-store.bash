@@ -1,7 +1,7 @@
 # What commands that store need beside bin/rls, which reads this for them: the lock of the folder, what is looked at before, the input, and
 # what is said of a file that has grown.
 # shellcheck shell=bash
-# bin/rls sets `top`, `program`, `status`, NOT_SAFE, `say`, `refuse`, `find_stored`, `next_bytes` and `perform`.
+# bin/rls sets `top`, `program`, `status`, NOT_SAFE, `say`, `refuse`, `find_stored` and `perform`.
 # shellcheck disable=SC2154
 
 # Asks on a terminal before something that can't be taken back.
@@ -113,12 +113,13 @@ hold_script() {
 
 # The size of a slot's file, which stands in its first eight bytes.
 slot_size() {
-  local byte
-  local -a bytes=()
-  next_bytes 8 2>/dev/null <"$1"
-  [ "${#bytes[@]}" = 8 ] || return
+  local LC_ALL=C byte k
   number=0
-  for byte in "${bytes[@]}"; do number=$((number << 8 | byte)); done
+  for k in 1 2 3 4 5 6 7 8; do
+    IFS= read -r -d '' -n 1 byte || [ -n "$byte" ] || return
+    printf -v byte %d "'$byte"
+    number=$((number << 8 | byte & 255))
+  done 2>/dev/null <"$1"
 }
 
 # Says that a rename or an exchange is due if the stored file is much larger than its text. It looks only when the file has just grown to

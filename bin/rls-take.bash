@@ -1,35 +1,39 @@
 # `rls take`: bin/rls reads this for it, after rls-store.bash and rls-heads.bash.
 # shellcheck shell=bash
-# bin/rls sets `program`, `status`, `say` and `tell`; rls-heads.bash sets `read_head`, `read_own`, `refuse_stale` and MESSAGE; rls-store.bash sets
+# bin/rls sets `program`, `status`, `say` and `tell`; rls-heads.bash sets `read_own`, `read_bytes`, `count_at` and `refuse_stale`; rls-store.bash sets
 # `hold_input`.
 # shellcheck disable=SC2154
 
 # Refuses a message whose sender has more operations of this member than this member has made, and notes it. Whether the message is one of
 # this group, with as many members, is for `take` to say: then `theirs` is empty.
 guard() {
-  local -a counts
-  local kind form group members whose text sender
+  local LC_ALL=C one two group members whose me number made
+  local -a mine
   theirs=()
-  read_head 0 </dev/stdin && [ "$kind" = "$MESSAGE" ] && [ "$form" -le 3 ] && theirs=("${counts[@]}") sender=$whose text="$group $members"
-  [ "${#theirs[@]}" != 0 ] || return 0
-  if ! read_own || [ "$text" != "$group $members" ]; then
-    theirs=()
-    return
-  fi
-  from=$sender
-  [ "${theirs[whose]}" -gt "${counts[whose]}" ] || return 0
-  { echo "$group $members $whose ${theirs[whose]} $sender" >replica.stale; } 2>/dev/null
-  refuse_stale "${theirs[whose]}" "${counts[whose]}" "$whose" "$sender" 'Nothing was taken.'
+  read_own || return 0
+  mine=("$one" "$two") && count_at "$me" && made=$number
+  read_bytes $((21 + 4 * members)) </dev/stdin
+  [ "${one:0:4}" = RLSM ] && [[ ${one:4:1} = [$'\1'$'\2'$'\3'] ]] && [ "${#one}" = $((21 + 4 * members)) ] &&
+    [ "${one:5:12}" = "${mine[0]:5:12}" ] && [ "${two:5:12}" = "${mine[1]:5:12}" ] || return 0
+  theirs=("$one" "$two")
+  count_at "$me"
+  [ "$number" -gt "$made" ] || return 0
+  parse_head
+  { echo "$group-$members-$me $number $whose" >replica.stale; } 2>/dev/null
+  refuse_stale "$number" "$made" "$me" "$whose" 'Nothing was taken.'
 }
 
 # After a message was taken: says whose operations its sender knows and this replica doesn't. These weren't in the message, or they wait.
 tell_missing() {
-  local kind form group members whose k
-  local -a counts
+  local LC_ALL=C one two members me number k from known made
   [ "${#theirs[@]}" != 0 ] && read_own || return
+  [ "${one:21:4 * members}" != "${theirs[0]:21}" ] || [ "${two:21:4 * members}" != "${theirs[1]:21}" ] || return
   for ((k = 0; k < members; k++)); do
-    if [ "${theirs[k]}" -gt "${counts[k]}" ]; then
-      say "member $from has ${theirs[k]} operations of member $k, and this replica ${counts[k]} of them: a message was lost, or is still to come, or this one was for another member. What \`rls send $whose\` of member $from writes now has them."
+    number_of "${theirs[0]:21 + 4 * k:4}" "${theirs[1]:21 + 4 * k:4}" && known=$number
+    count_at "$k"
+    if [ "$known" -gt "$number" ]; then
+      made=$number && number_of "${theirs[0]:17:4}" "${theirs[1]:17:4}" && from=$number
+      say "member $from has $known operations of member $k, and this replica $made of them: a message was lost, or is still to come, or this one was for another member. What \`rls send $me\` of member $from writes now has them."
       return
     fi
   done
@@ -38,7 +42,7 @@ tell_missing() {
 # Takes the message, and reads the report before it prints it. It is the first line of what the program writes; lines on operations that were
 # refused come after it, and may have many megabytes, so that a pattern would take time with the square of it.
 take() {
-  local all report='' errors from
+  local all report='' errors
   local -a theirs=()
   if [ -z "${RLS_FORCE:-}" ]; then
     hold_input || { say 'the message could not be kept in a file for a moment.'; exit 8; }
