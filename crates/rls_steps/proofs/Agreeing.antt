@@ -50,7 +50,7 @@ use Rattle.rls_steps.specs.GroundLaws.{IsSpelled, AreSpelled, IsWhole, AreAlike,
 use Rattle.rls_steps.proofs.Recording.{insert_epochs, delete_epochs}
 
 -- the same labels at a history
-abbrev to : Held Seen → State → Held State
+abbrev pub to : Held Seen → State → Held State
 to h t = record { state = t; next = h.next; names = h.names }
 
 -- ---- labels
@@ -67,14 +67,14 @@ one_state : (o : Option ℕ) (h : Held Seen) (x : List Tuple) → (labelled_on o
 one_state None h x = refl
 one_state (Some n) h x = refl
 
-labels_state : (h : Held Seen) (xs : List (List Tuple)) → (labels_on h xs).state ≡ h.state
+pub labels_state : (h : Held Seen) (xs : List (List Tuple)) → (labels_on h xs).state ≡ h.state
 labels_state h [] = refl
 labels_state h (x ∷ xs) = labels_state (labelled_on (label_of h.names x) h x) xs ∙ one_state (label_of h.names x) h x
 
 marks_to : (h : Held Seen) (t : State) → StandsFor h.state t → marks_on within (to h t) ≡ marks_on over h
 marks_to h t p = ap (λ (xs : List (List Tuple)). map (mark h.names) xs) (sym (idents_alike h.state t p))
 
-ready_to : (h : Held Seen) (t : State) (at n : ℕ) → StandsFor h.state t → ready_on within (to h t) at n ≡ to (ready_on over h at n) t
+pub ready_to : (h : Held Seen) (t : State) (at n : ℕ) → StandsFor h.state t → ready_on within (to h t) at n ≡ to (ready_on over h at n) t
 ready_to h t at n p =
     ap (λ (xs : List (List Tuple)). labels_on (to h t) (take (n + 2) (drop (at - 1) xs))) (sym (idents_alike h.state t p)) ∙ labels_to h t (take (n + 2) (drop (at - 1) (idents_over h.state)))
 
@@ -98,19 +98,19 @@ piece_spelled : TextsSpelled → (h : Held Seen) (t : State) (at n : ℕ) → St
 piece_spelled k h t at n p = All-take IsScalar n (drop at (text_over h.state)) (All-drop IsScalar at (text_over h.state) (text_spelled k h.state t p))
 
 -- so are these pieces
-AreAll : List Piece → Type 0
+pub AreAll : List Piece → Type 0
 AreAll [] = Unit {0}
 AreAll (p ∷ ps) = IsSpelled p × AreAll ps
 
 -- ---- a piece that is taken back
 
-record IsSame (h : Held Seen) (a : Left Seen) (b : Left State) : Type 0 where
-  after : State
-  is : b ≡ record { held = to a.held after; other = a.other; fault = a.fault }
-  stands : StandsFor a.held.state after
-  sane : IsSane a.held.state
-  spelled : AreAll a.other
-  epochs : a.held.state.epochs ≡ h.state.epochs
+pub record IsSame (h : Held Seen) (a : Left Seen) (b : Left State) : Type 0 where
+  pub after : State
+  pub is : b ≡ record { held = to a.held after; other = a.other; fault = a.fault }
+  pub stands : StandsFor a.held.state after
+  pub sane : IsSane a.held.state
+  pub spelled : AreAll a.other
+  pub epochs : a.held.state.epochs ≡ h.state.epochs
 
 cuts_to : TextsSpelled → (h : Held Seen) (t : State) (rs : List (ℕ × ℕ)) (qs : List Piece) → StandsFor h.state t → IsSane h.state → AreAll qs → IsSame h (cuts_on over h rs qs) (cuts_on within (to h t) rs qs)
 unfolding AreAll
@@ -138,24 +138,27 @@ cuts_to k h t (r ∷ rs) qs p s w =
     go h t qs a b None p s w i = i refl
     go h t qs a b (Some x) p s w i = record { after = t; is = refl; stands = p; sane = s; spelled = w; epochs = refl }
 
-insert_edit : (s : Seen) (at : ℕ) (cs : List ℕ) → IsSane s → IsText cs → edit_fault_over s (edits.Insert at cs) ≡ None → at < 2 ^ 64
+pub insert_edit : (s : Seen) (at : ℕ) (cs : List ℕ) → IsSane s → IsText cs → edit_fault_over s (edits.Insert at cs) ≡ None → at < 2 ^ 64
 insert_edit s at cs sane w f =
     let p = insert_place s at cs f in
     let r = total_room s sane in
     omega (arith, p, r)
 
+pub ranges_to : (h : Held Seen) (t : State) (labels : List ℕ) → StandsFor h.state t → ranges_on within (to h t) labels ≡ ranges_on over h labels
+ranges_to h t labels p = ap (λ (ms : List Mark). reverse (ranges_of (label_places 0 labels ms))) (marks_to h t p)
+
 gone_to : (h : Held Seen) (t : State) (left : Option ℕ) → StandsFor h.state t → gone_on within (to h t) left ≡ gone_on over h left
 gone_to h t None p = refl
 gone_to h t (Some l) p = ap (λ (xs : List (List Tuple)). below_or_none xs (ident_of h.names l)) (sym (idents_alike h.state t p))
 
-place_to : (h : Held Seen) (t : State) (left right : Option ℕ) → StandsFor h.state t → place_on within (to h t) left right ≡ place_on over h left right
+pub place_to : (h : Held Seen) (t : State) (left right : Option ℕ) → StandsFor h.state t → place_on within (to h t) left right ≡ place_on over h left right
 place_to h t left right p =
     ap (λ (ms : List Mark). return_place ms left right (gone_on within (to h t) left)) (marks_to h t p) ∙ ap (λ (i : ℕ). return_place (marks_on over h) left right i) (gone_to h t left p)
 
-taken_to : TextsSpelled → (h : Held Seen) (t : State) (x : Piece) → StandsFor h.state t → IsSane h.state → IsSpelled x → IsSame h (taken_on over h x) (taken_on within (to h t) x)
+pub taken_to : TextsSpelled → (h : Held Seen) (t : State) (x : Piece) → StandsFor h.state t → IsSane h.state → IsSpelled x → IsSame h (taken_on over h x) (taken_on within (to h t) x)
 unfolding AreAll
 taken_to k h t (Put labels) p s w =
-    subst (λ (rs : List (ℕ × ℕ)). IsSame h (taken_on over h (Put labels)) (cuts_on within (to h t) rs [])) (ap (λ (ms : List Mark). reverse (ranges_of (label_places 0 labels ms))) (sym (marks_to h t p)))
+    subst (λ (rs : List (ℕ × ℕ)). IsSame h (taken_on over h (Put labels)) (cuts_on within (to h t) rs [])) (sym (ranges_to h t labels p))
     (cuts_to k h t (ranges_on over h labels) [] p s tt)
 taken_to k h t (Cut labels cs left right) p s w =
     let at = place_on over h left right in
@@ -196,7 +199,7 @@ spelled_append : (xs ys : List Step) → AreSpelled xs → AreSpelled ys → Are
 spelled_append [] ys a b = b
 spelled_append (x ∷ xs) ys a b = (a.0, spelled_append xs ys a.1 b)
 
-spelled_back : (xs : List Step) → AreSpelled xs → AreSpelled (reverse xs)
+pub spelled_back : (xs : List Step) → AreSpelled xs → AreSpelled (reverse xs)
 spelled_back [] a = tt
 spelled_back (x ∷ xs) a = subst AreSpelled (sym (reverse-append (x ∷ []) xs)) (spelled_append (reverse xs) (x ∷ []) (spelled_back xs a.1) (a.0, tt))
 
@@ -264,7 +267,7 @@ names_to s t e names p k =
     let same : map f names ≡ map g names = map_same f g names (λ n i. ap (λ x. (x, n.1)) (placed_alike s t p e n.0 k)) in
     sym (ap (λ (ms : Names). if name_eq e (greatest_over s) then names else ms) same ∙ ap (λ (h : EpochName). if name_eq e h then names else map g names) (greatest_alike s t p))
 
-held_to : (s : Seen) (t : State) (r : Recorded) → StandsFor s t → IsTrue (keeps s r.epoch) → held_on within t r ≡ to (held_on over s r) t
+pub held_to : (s : Seen) (t : State) (r : Recorded) → StandsFor s t → IsTrue (keeps s r.epoch) → held_on within t r ≡ to (held_on over s r) t
 held_to s t r p k = ap (λ (ns : Names). record { state = t; next = r.next; names = reverse ns }) (names_to s t r.epoch r.names p k)
 
 settled_to : (s : Seen) (t : State) (r : Recorded) → StandsFor s t → IsTrue (keeps s r.epoch) → settled_on over s r ≡ settled_on within t r

@@ -34,3 +34,4 @@ pub mod Swept
 pub mod Keeping
 pub mod Grounded
 pub mod Agreeing
+pub mod Performing

@@ -243,3 +243,28 @@ again_on G s r = let t = back_on G s (exchanged r) in record { steps = t.steps; 
 -- within bounds
 abbrev pub kept_on : {X : Type 0} → Ground X → X → ℕ → ℕ → Recorded → Recorded
 kept_on G s steps chars r = kept_in (G.idents s) (settled_on G s r) steps chars r
+
+-- ---- the edits that a group's undo or redo makes, up to the first that is refused
+
+abbrev pub cut_edits : {X : Type 0} → Ground X → Held X → List (ℕ × ℕ) → List Edit
+cut_edits G h [] = []
+cut_edits G h (r ∷ rs) =
+    let e = edits.Delete r.0 r.1 in
+    unless (G.fault h.state e) [] (e ∷ cut_edits G (cut_on G (ready_on G h r.0 r.1) r.0 r.1) rs)
+
+abbrev pub taken_edits : {X : Type 0} → Ground X → Held X → Piece → List Edit
+taken_edits G h (Put labels) = cut_edits G h (ranges_on G h labels)
+taken_edits G h (Cut labels cs left right) = let e = edits.Insert (place_on G h left right) cs in unless (G.fault h.state e) [] (e ∷ [])
+
+abbrev pub steps_edits : {X : Type 0} → Ground X → ℕ → Held X → List Step → List Edit
+steps_edits G zero h xs = []
+steps_edits G (suc k) h [] = []
+steps_edits G (suc k) h (x ∷ xs) =
+    let t = taken_on G h x.piece in
+    taken_edits G h x.piece ++ unless t.fault [] (steps_edits G k t.held xs)
+
+abbrev pub back_edits : {X : Type 0} → Ground X → X → Recorded → List Edit
+back_edits G s r = steps_edits G (group_size r.past) (held_on G s r) (reverse r.past)
+
+abbrev pub again_edits : {X : Type 0} → Ground X → X → Recorded → List Edit
+again_edits G s r = back_edits G s (exchanged r)

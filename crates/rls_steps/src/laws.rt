@@ -3,7 +3,7 @@
 ghost use Rattle.rls_steps.specs.BackLaws.{PutBack, CutBack, Exchanged, ReturnsBeside};
 ghost use Rattle.rls_steps.specs.Courses.{AsCopied, AsCopiedFromFirst, UndoneAndRedone, TakesOwnAlone};
 ghost use Rattle.rls_steps.specs.Forgetting.{ForgettingShows};
-ghost use Rattle.rls_steps.specs.GroundLaws.{RecordedAlike, TurnedAlike, KeptAlike};
+ghost use Rattle.rls_steps.specs.GroundLaws.{RecordedAlike, TurnedAlike, KeptAlike, TurnedPerformed, TurnedPerformedIn, TurnedEditsAlike};
 ghost use Rattle.rls_steps.specs.Parts.{DeletionShows};
 ghost use Rattle.rls_steps.specs.Recorded.{RenamingShows};
 ghost use Rattle.rls_steps.specs.Sweeping.{SweepingShows};
@@ -63,11 +63,14 @@ pub fn followed()
 {}
 
 /// What is recorded over a replica's parts is what is recorded over each history that the replica stands for: after an edit, a group that
-/// is taken back or done again, also up to an edit that is refused, and a sweep.
+/// is taken back or done again, also up to an edit that is refused, and a sweep. Such a group is some edits, one after another.
 pub fn agreed()
     ensures recorded { RecordedAlike }
     ensures turned { TurnedAlike }
     ensures kept { KeptAlike }
+    ensures performed { TurnedPerformed }
+    ensures performed_in { TurnedPerformedIn }
+    ensures edits { TurnedEditsAlike }
 {}
 
 /// The changes of a step that is taken back, played over the text before, give the text after. Of what was put in just what is still there
