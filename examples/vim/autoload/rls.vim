@@ -95,119 +95,6 @@ endfunction
 
 " --- From the session to the buffer
 
-" The cursors of the windows that show the buffer. One stays with the character after it if it is at the beginning of a line, or stands on a
-" character.
-function s:cursors(r) abort
-  let cursors = []
-  for window in win_findbuf(a:r.buf)
-    let [line, column] = getcurpos(window)[1:2]
-    let is_last = line == len(a:r.text.lines) && column > len(a:r.text.lines[-1])
-    call add(cursors, {'window': window, 'line': line, 'byte': column - 1, 'before': !is_last && (column == 1 || mode() !~# '^[iR]')})
-  endfor
-  return cursors
-endfunction
-
-function s:put(cursors) abort
-  for c in a:cursors
-    call win_execute(c.window, printf('call cursor(%d, %d)', c.line, c.byte + 1))
-  endfor
-endfunction
-
-" Where cursors go when lines come in at a place, or when what is from there to another place goes.
-function s:after_insertion(cursors, line, byte, lines) abort
-  for c in a:cursors
-    if c.line < a:line || (c.line == a:line && (c.byte < a:byte || (c.byte == a:byte && !c.before)))
-      continue
-    endif
-    if c.line == a:line
-      let c.byte = len(a:lines[-1]) + c.byte - (len(a:lines) == 1 ? 0 : a:byte)
-    endif
-    let c.line += len(a:lines) - 1
-  endfor
-endfunction
-
-function s:after_deletion(cursors, line, byte, last, end) abort
-  for c in a:cursors
-    if c.line < a:line || (c.line == a:line && c.byte <= a:byte)
-      continue
-    elseif c.line > a:last
-      let c.line -= a:last - a:line
-    else
-      let c.byte = c.line == a:last && c.byte >= a:end ? a:byte + c.byte - a:end : a:byte
-      let c.line = a:line
-    endif
-  endfor
-endfunction
-
-" Puts lines in place of those from one line on. Marks of lines that stay, stay with them.
-function s:replace(r, first, count, lines) abort
-  let same = min([a:count, len(a:lines)])
-  if same > 0
-    call setbufline(a:r.buf, a:first, a:lines[: same - 1])
-  endif
-  if len(a:lines) > same
-    call appendbufline(a:r.buf, a:first + same - 1, a:lines[same :])
-  elseif a:count > same
-    call deletebufline(a:r.buf, a:first + same, a:first + a:count - 1)
-  endif
-  call rls#lines#splice(a:r.text, a:first, a:count, a:lines)
-endfunction
-
-" Makes one change of the session in the buffer. Whole lines that come in at the beginning of a line, or go, leave the others as they are.
-function s:insert(r, cursors, at, text) abort
-  let [line, byte] = rls#lines#find(a:r.text, a:at)
-  let lines = map(split(a:text, '\\\@<!\%(\\\\\)*\zs\\n', 1), {_, x -> s:unescaped(x)})
-  call s:after_insertion(a:cursors, line, byte, lines)
-  if byte == 0 && lines[-1] ==# ''
-    return s:replace(a:r, line, 0, lines[: -2])
-  endif
-  let old = a:r.text.lines[line - 1]
-  let lines[-1] .= strpart(old, byte)
-  let lines[0] = strpart(old, 0, byte) . lines[0]
-  call s:replace(a:r, line, 1, lines)
-endfunction
-
-function s:delete(r, cursors, at, count) abort
-  let [line, byte] = rls#lines#find(a:r.text, a:at)
-  let [last, end] = rls#lines#find(a:r.text, a:at + a:count)
-  call s:after_deletion(a:cursors, line, byte, last, end)
-  if byte == 0 && end == 0
-    return s:replace(a:r, line, last - line, [])
-  endif
-  call s:replace(a:r, line, last - line + 1, [strpart(a:r.text.lines[line - 1], 0, byte) . strpart(a:r.text.lines[last - 1], end)])
-endfunction
-
-" What a part of a line of changes means that has no line feed.
-function s:unescaped(text) abort
-  return substitute(a:text, '\\\(.\)', '\=submatch(1) ==# "r" ? "\r" : submatch(1)', 'g')
-endfunction
-
-" Makes changes of the session in the buffer, at their places. Answers the first place that they have touched; -1 if there is
-" none.
-function s:apply(r, changes) abort
-  if empty(a:changes)
-    return -1
-  endif
-  let [cursors, first] = [s:cursors(a:r), -1]
-  let a:r.silent = 1
-  try
-    for change in a:changes
-      let [_, kind, at, rest; _] = matchlist(change, '^\(.\) \(\d\+\) \(\_.*\)$')
-      let first = first < 0 ? str2nr(at) : min([first, str2nr(at)])
-      if kind ==# 'd'
-        call s:delete(a:r, cursors, str2nr(at), str2nr(rest))
-      else
-        call s:insert(a:r, cursors, str2nr(at), rest)
-      endif
-    endfor
-    call listener_flush(a:r.buf)
-  finally
-    let a:r.silent = 0
-  endtry
-  call s:put(cursors)
-  return first
-endfunction
-
 " Makes the buffer the session's text by what is between the equal fronts and ends, where the session doesn't tell what changed. With the first
 " version Vim's own undo goes back to here and no further: it would take back what others wrote.
 function s:compare(r) abort
@@ -219,7 +106,7 @@ function s:compare(r) abort
   let levels = getbufvar(a:r.buf, '&undolevels')
   call setbufvar(a:r.buf, '&undolevels', -1)
   let a:r.silent = 1
-  call s:replace(a:r, front + 1, len(a:r.text.lines) - front - end, rls#lines#middle(new, front, end))
+  call rls#buffer#replace(a:r, front + 1, len(a:r.text.lines) - front - end, rls#lines#middle(new, front, end))
   call listener_flush(a:r.buf)
   let a:r.silent = 0
   call setbufvar(a:r.buf, '&undolevels', levels)
@@ -245,7 +132,7 @@ function s:take_back(buf, request, nothing) abort
     throw 'rls: ' . reply
   endif
   if r.version == 2
-    let at = s:apply(r, changes)
+    let at = rls#buffer#apply(r, changes)
     if at >= 0 && bufnr('%') == a:buf
       let [line, byte] = rls#lines#find(r.text, at)
       call cursor(line, byte + 1)
@@ -307,7 +194,7 @@ function s:rename_if_due(r) abort
   let [reply, _, changes] = rls#session#ask(a:r, 'r')
   if reply !~# '^no '
     call rls#session#number(reply, 'ok')
-    call s:apply(a:r, changes)
+    call rls#buffer#apply(a:r, changes)
     if a:r.version == 1
       call s:begin_again(a:r)
     endif
@@ -391,7 +278,7 @@ function s:take(buf) abort
     let taken += rls#mailbox#take(r, from, changes)
   endfor
   if r.version == 2 && !r.behind
-    call s:apply(r, changes)
+    call rls#buffer#apply(r, changes)
   elseif taken || r.behind
     call s:compare(r)
     let r.behind = 0
