@@ -90,7 +90,6 @@ use Rattle.rls_session.proofs.Courses.{IsSameCourse, courses_alike}
 use Rattle.rls_store.proofs.Storable.{all_writable}
 use Rattle.rls_session.proofs.Resumed.{dropped_writable, whole_left}
 use Rattle.rls_session.proofs.Whole.{last_undoable, undoable_back, whole_edited, whole_on, whole_pointed, whole_undone}
-
 use Rattle.rls_session.proofs.Entries.{all_settled_whole, whole_back}
 use Rattle.rls_session.proofs.Given.{IsGiven, cut_given}
 use Rattle.rls_session.proofs.Agreeing.{IsAlike, answer_alike}

@@ -82,4 +82,3 @@ unfolding entries_over entries_of
 entries_alike s t edit h =
     ap (λ o. entries_by o.epoch o.body (gone_by edit (text_over s))) (made_alike s t edit h)
     ∙ ap (λ cs. entries_by (made t.history edit).epoch (made t.history edit).body (gone_by edit cs)) (text_alike s t h)
-
