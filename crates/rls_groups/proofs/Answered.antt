@@ -228,13 +228,13 @@ module _ (g n : ℕ) (G : Group) (w : World) (x : Matches g n G w) (i : ℕ) (s 
     either true a e p q = p
     either false a e p q = q
 
-    point_step : (p : ℕ) → Stepped d f out (Does (orders.Point p))
+    point_step : (p k : ℕ) → Stepped d f out (Does (orders.Point p k))
     unfolding answer
-    point_step p = quiet (Does (orders.Point p)) (answer_alike d f (Does (orders.Point p)) tt b.alike) (either (ltb (length (text_in f.state)) p) _ _ refl refl) tt tt refl
+    point_step p k = quiet (Does (orders.Point p k)) (answer_alike d f (Does (orders.Point p k)) tt b.alike) (either (ltb (length (text_in f.state)) p) _ _ refl refl) tt tt refl
 
-    place_step : Stepped d f out (Does orders.Place)
+    place_step : (k : ℕ) → Stepped d f out (Does (orders.Place k))
     unfolding answer
-    place_step = quiet (Does orders.Place) (answer_alike d f (Does orders.Place) tt b.alike) refl tt tt refl
+    place_step k = quiet (Does (orders.Place k)) (answer_alike d f (Does (orders.Place k)) tt b.alike) refl tt tt refl
 
     order_step : (len : ℕ) → Stepped d f out (Does (orders.Take len))
     unfolding answer
@@ -363,8 +363,8 @@ module _ (g n : ℕ) (G : Group) (w : World) (x : Matches g n G w) (i : ℕ) (s 
     pub steps : (r : Request) → IsGiven r → IsWritten G d r → Stepped d f out r
     steps (Does (orders.Edit line)) ok given = edit_step line ok
     steps (Does orders.Undo) ok given = undo_step
-    steps (Does (orders.Point p)) ok given = point_step p
-    steps (Does orders.Place) ok given = place_step
+    steps (Does (orders.Point p k)) ok given = point_step p k
+    steps (Does (orders.Place k)) ok given = place_step k
     steps (Does orders.Text) ok given = text_step
     steps (Does (orders.Take len)) ok given = order_step len
     steps (Does (orders.Send to)) ok given = send_step to

@@ -35,6 +35,8 @@ use Rattle.rls_stages.proofs.Files.{IsOpened, opened, stands_stored}
 use Rattle.rls_stages.proofs.Kept.{WithinOrPast, within_or_past}
 use Rattle.rls_top.specs.Groups.{Group, files_with}
 use Rattle.rls_top.proofs.GroupCommands.{opened_at}
+use Rattle.rls_session.specs.declared.cursors.Cursor.{Cursor}
+use Rattle.rls_session.specs.Cursors.{AreAnchored, moved}
 use Rattle.rls_session.specs.Answers.{Sitting, answer, resumed, sitting_at}
 use Rattle.rls_session.specs.Courses.{Course, course, course_of, stretches, stretches_within}
 use Rattle.rls_session.specs.Desks.{AreUndoable, IsWhole, sitting_of}
@@ -53,7 +55,7 @@ use Rattle.rls_groups.proofs.Sessions.{EndsSo, ends_so}
 
 -- ---- what a session goes back to, after a store
 
--- entries and a cursor of this epoch
+-- entries and cursors of this epoch
 abbrev AreAt : EpochName → List Entry → Type 0
 AreAt g [] = Unit {0}
 AreAt g (e ∷ es) = (epoch_in e ≡ g) × AreAt g es
@@ -62,9 +64,13 @@ abbrev IsAt : EpochName → Anchor → Type 0
 IsAt g Beginning = Unit {0}
 IsAt g (After e x) = e ≡ g
 
+abbrev ArePut : EpochName → List Cursor → Type 0
+ArePut g [] = Unit {0}
+ArePut g (c ∷ cs) = IsAt g c.anchor × ArePut g cs
+
 record IsRecent (u : Sitting State) : Type 0 where
   entries : AreAt (greatest (u.state).history) u.entries
-  cursor : IsAt (greatest (u.state).history) u.cursor
+  cursors : ArePut (greatest (u.state).history) u.cursors
 
 settled_at : (t : State) (e : Entry) → epoch_in (settled t.history e) ≡ greatest t.history
 settled_at t (Inserted e ids) = refl
@@ -78,8 +84,12 @@ cursor_at : (t : State) (a : Anchor) → IsAt (greatest t.history) (anchors.sett
 cursor_at t Beginning = tt
 cursor_at t (After e x) = refl
 
+cursors_at : (t : State) (cs : List Cursor) → ArePut (greatest t.history) (map (moved (anchors.settled t.history)) cs)
+cursors_at t [] = tt
+cursors_at t (c ∷ cs) = (cursor_at t c.anchor, cursors_at t cs)
+
 recent : (u : Sitting State) → IsRecent (resumed by_history u)
-recent u = record { entries = all_at u.state (last_entries KEPT_ENTRIES u.entries); cursor = cursor_at u.state u.cursor }
+recent u = record { entries = all_at u.state (last_entries KEPT_ENTRIES u.entries); cursors = cursors_at u.state u.cursors }
 
 -- is kept by each replica that stands for the history
 kept_at : (o : Seen) (t : State) → StandsFor o t → keeps o (greatest t.history) ≡ true
@@ -93,8 +103,12 @@ cursor_kept : (o : Seen) (g : EpochName) (a : Anchor) → keeps o g ≡ true →
 cursor_kept o g Beginning k h = tt
 cursor_kept o g (After e x) k h = subst (λ (y : EpochName). keeps o y ≡ true) (sym h) k
 
-usable : (o : Seen) (u : Sitting State) → StandsFor o u.state → IsRecent u → IsWhole o u.entries u.cursor
-usable o u h r = record { undoable = entries_kept o _ u.entries (kept_at o u.state h) r.entries; anchored = cursor_kept o _ u.cursor (kept_at o u.state h) r.cursor }
+cursors_kept : (o : Seen) (g : EpochName) (cs : List Cursor) → keeps o g ≡ true → ArePut g cs → AreAnchored o cs
+cursors_kept o g [] k h = tt
+cursors_kept o g (c ∷ cs) k h = (cursor_kept o g c.anchor k h.0, cursors_kept o g cs k h.1)
+
+usable : (o : Seen) (u : Sitting State) → StandsFor o u.state → IsRecent u → IsWhole o u.entries u.cursors
+usable o u h r = record { undoable = entries_kept o _ u.entries (kept_at o u.state h) r.entries; anchored = cursors_kept o _ u.cursors (kept_at o u.state h) r.cursors }
 
 -- ---- one store
 
@@ -161,10 +175,10 @@ module _ (i : ℕ) where
       same = alike_course d u input b h
 
       mine : Sitting Seen
-      mine = sitting_of o.0 u.entries u.cursor u.tells
+      mine = sitting_of o.0 u.entries u.cursors u.tells
 
       other : IsSameCourse IsAlike (course (answer by_parts) mine input) (course (answer by_history) u input)
-      other = alike_course mine u input b (record { stands = o.1.stands; sane = o.1.sane; writable = o.1.writable; entries = refl; cursor = refl; tells = refl; whole = usable o.0 u o.1.stands r; texts = subst AreWhole h.entries h.texts })
+      other = alike_course mine u input b (record { stands = o.1.stands; sane = o.1.sane; writable = o.1.writable; entries = refl; cursors = refl; tells = refl; whole = usable o.0 u o.1.stands r; texts = subst AreWhole h.entries h.texts })
 
       saved : Some (bytes_over ((course (answer by_parts) d input).state).state) ≡ Some (bytes_over ((course (answer by_parts) mine input).state).state)
       saved = ap (λ (x : List ℕ). Some x) (bytes_of_state _ ((course (answer by_history) u input).state).state (same.states).stands ∙ sym (bytes_of_state _ ((course (answer by_history) u input).state).state (other.states).stands))
@@ -172,7 +186,7 @@ module _ (i : ℕ) where
       ending : (due_of (course (answer by_parts) mine input)).ending ≡ Ok ((course (answer by_parts) mine input).state).state
       ending = same_bytes (course (answer by_parts) d input) (course (answer by_parts) mine input) (course (answer by_history) u input) same other is
 
-      there : (x : Result Seen CommandError) → x ≡ Ok o.0 → slice_get (files_with g.files i (saved_of (events.due_on x (record { entries = u.entries; cursor = u.cursor; tells = u.tells }) input).ending)) i ≡ Some (bytes_over ((course (answer by_parts) mine input).state).state)
+      there : (x : Result Seen CommandError) → x ≡ Ok o.0 → slice_get (files_with g.files i (saved_of (events.due_on x (record { entries = u.entries; cursors = u.cursors; tells = u.tells }) input).ending)) i ≡ Some (bytes_over ((course (answer by_parts) mine input).state).state)
       there x e = rw (e, ending) (set_there g i ((course (answer by_parts) mine input).state).state l)
 
   -- what is kept after a course that is stored
@@ -290,7 +304,7 @@ stores_leave S W load store g i input n now t bytes keeper_old keeper_new input_
         let o = opened bytes t stands in
         let found : replica_in (loaded (Some bytes)) ≡ Ok o.0 = opened_at bytes o.0 few.0 o.1.found in
         let left = ends_within i n now new.told (suc (length input)) g l bytes (sitting_at o.0) (sitting_at t) input old.told at few.0 stands b
-        (record { stands = o.1.stands; sane = o.1.sane; writable = o.1.writable; entries = refl; cursor = refl; tells = refl; whole = record { undoable = tt; anchored = tt }; texts = tt }) (record { entries = tt; cursor = tt })
+        (record { stands = o.1.stands; sane = o.1.sane; writable = o.1.writable; entries = refl; cursors = refl; tells = refl; whole = record { undoable = tt; anchored = tt }; texts = tt }) (record { entries = tt; cursors = tt })
         (subst (λ (r : Result Seen CommandError). IfSome (due_on (Some r) (Some input)) (λ ds. Ends ds n (Some (Some bytes)) (Some now) old.told new.told)) found told) in
         (left.all, left.some)
     go (inr long) =

@@ -7,8 +7,6 @@ use Rattle.rls_seen.specs.Messages.{message_over}
 use Rattle.rls_seen.specs.Seen.{Seen, members}
 use Rattle.rls_undo.specs.declared.entry.Entry.{Entry}
 use Rattle.rls_undo.specs.UndoLaws.{AreWhole}
-use Rattle.rls_anchor.specs.declared.anchor.Anchor.{Anchor}
-use Rattle.rls_anchor.specs.declared.anchor.Anchor.TheVariants.{Beginning}
 use Rattle.rls_report.specs.declared.failures.CommandError.{CommandError}
 use Rattle.rls_stages.specs.KeptFile.{loaded, replica_in}
 use Rattle.rls_top.specs.declared.words.Command.{Command}
@@ -18,6 +16,7 @@ use Rattle.rls_top.specs.Due.{Due}
 use Rattle.rls_top.specs.Groups.{Group, due_of, files_with, messages_in, stored_in}
 use Rattle.rls_top.specs.Words.{command_of}
 use Rattle.rls_session.specs.declared.orders.Order.TheVariants.{Quit, Send, Store}
+use Rattle.rls_session.specs.declared.cursors.Cursor.{Cursor}
 use Rattle.rls_session.specs.Answers.{Kind, Sitting, answer}
 use Rattle.rls_session.specs.Courses.{Answered, Course, course, holds}
 use Rattle.rls_session.specs.Desks.{IsWhole}
@@ -28,19 +27,19 @@ use Rattle.rls_session.specs.Sessions.{by_parts}
 
 -- ---- sessions
 
--- What a session works on beside the replica. At its beginning that is nothing that can be undone, a cursor at the beginning, and that
+-- What a session works on beside the replica. At its beginning that is nothing that can be undone, no cursor that was put, and that
 -- changes aren't told. A
 -- session that stores more than once begins what follows a store with what it has then.
 pub record Desk : Type 0 where
   pub entries : List Entry
-  pub cursor : Anchor
+  pub cursors : List Cursor
   pub tells : Bool
 
 abbrev pub empty_desk : Desk
-empty_desk = record { entries = []; cursor = Beginning; tells = false }
+empty_desk = record { entries = []; cursors = []; tells = false }
 
 abbrev pub at_desk : {X : Type 0} → X → Desk → Sitting X
-at_desk s desk = record { state = s; entries = desk.entries; cursor = desk.cursor; tells = desk.tells }
+at_desk s desk = record { state = s; entries = desk.entries; cursors = desk.cursors; tells = desk.tells }
 
 -- the session from this state and desk over this input, up to its next store
 abbrev pub session_at : {X : Type 0} → Kind X → X → Desk → List ℕ → Course (Sitting X)
@@ -150,7 +149,7 @@ IsWritten g d request = Unit {0}
 -- it goes back to nothing that was dropped, and is given bytes
 pub record IsSession (g : Group) (s : Seen) (desk : Desk) (input : List ℕ) : Type 0 where
   pub bytes : IsBytes input
-  pub whole : IsWhole s desk.entries desk.cursor
+  pub whole : IsWhole s desk.entries desk.cursors
   pub texts : AreWhole desk.entries
   pub given : holds (answer by_parts) (IsWritten g) (at_desk s desk) input
 

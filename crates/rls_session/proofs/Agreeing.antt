@@ -1,6 +1,6 @@
 -- A session over what a replica consists of is that over each history which the replica stands for.
 use Rattle.std.proofs.Common.{◌≡◌, ◌∙◌, ◌<◌, ◌+◌, ◌-◌, ◌++◌, ℕ, Bool, true, false, cond, ltb, List, [], ◌∷◌, length, Option, Some, None, Result, Ok, Err, refl, ap, subst, arith, inl, inr}
-use Rattle.std.specs.Prelude.{◌&&◌, ◌==◌, codes, encode_utf8_all}
+use Rattle.std.specs.Prelude.{option_map, ◌&&◌, ◌==◌, codes, encode_utf8_all}
 use Rattle.std.proofs.lemmas.Bool.{eqb-true}
 use Rattle.std.proofs.lemmas.Bool.Decides.{nat_tests}
 use Rattle.rls_ident.proofs.Members.{and_right}
@@ -10,7 +10,6 @@ use Rattle.rls_ops.specs.WellFormed.{AreOps, IsInRange, IsVector}
 use Rattle.rls_codec.specs.CodecLaws.{IsBytes, IsMessage}
 use Rattle.rls_codec.specs.Reading.{message_of}
 use Rattle.rls_codec.specs.Spelled.{Chained, IsSpelled}
-use Rattle.rls_codec.proofs.Formats.{IsBytes-tail}
 use Rattle.rls_codec.proofs.MessageFormats.{message_takes}
 use Rattle.rls_codec.proofs.SpelledSound.{fits_vector, spelled_op}
 use Rattle.rls_ops.specs.declared.op.Op.{Op}
@@ -19,26 +18,24 @@ use Rattle.rls_model.specs.declared.edit.EditError.{EditError}
 use Rattle.rls_model.specs.declared.receipt.Taken.{Taken}
 use Rattle.rls_model.specs.Document.{idents}
 use Rattle.rls_model.specs.Editing.{made, next_seq}
-use Rattle.rls_model.specs.Epochs.{greatest, translate}
+use Rattle.rls_model.specs.Epochs.{greatest}
 use Rattle.rls_model.specs.History.{group_of, members_of}
 use Rattle.rls_model.specs.Receiving.{State}
 use Rattle.rls_model.specs.Taking.{message_for, take_message}
 use Rattle.rls_seen.specs.Edits.{edit_fault_over, edited, made_over}
 use Rattle.rls_seen.specs.Messages.{message_over, taken_over}
 use Rattle.rls_seen.specs.Messages as seen
-use Rattle.rls_seen.specs.Over.{acknowledged, placed_over, released_all}
+use Rattle.rls_seen.specs.Over.{acknowledged, released_all}
 use Rattle.rls_seen.specs.Sane.{IsSane}
 use Rattle.rls_seen.specs.Seen.{Seen, members, own_count, idents_over, text_over}
 use Rattle.rls_seen.specs.Stands.{StandsFor}
-use Rattle.rls_seen.proofs.Accepting.{placed_alike}
 use Rattle.rls_seen.proofs.Alike.{greatest_alike, members_alike}
-use Rattle.rls_seen.proofs.Dropped.{dropped_sane}
 use Rattle.rls_seen.proofs.Editing.{edited_stands, idents_alike, made_alike}
-use Rattle.rls_seen.proofs.Keeping.{dropped_stands, text_alike}
+use Rattle.rls_seen.proofs.Keeping.{text_alike}
 use Rattle.rls_seen.proofs.Releasing.{released_all_stands}
 use Rattle.rls_seen.proofs.Sending.{message_alike}
 use Rattle.rls_seen.proofs.Taking.{taken_stands}
-use Rattle.rls_replica.specs.Names.{KeepsNames, keeps}
+use Rattle.rls_replica.specs.Names.{KeepsNames}
 use Rattle.rls_replica.proofs.KeptNames.{accepted_names, all_names, acknowledged_names, names_on, ops_names}
 use Rattle.rls_report.specs.declared.failures.CommandError.TheVariants.{NotMember, OtherGroup}
 use Rattle.rls_report.specs.declared.failures.LineFault.{LineFault}
@@ -64,22 +61,25 @@ use Rattle.rls_changes.specs.Edits.{edit_changes, performed_edits_in}
 use Rattle.rls_changes.specs.Telling.{all_released_changes, taken_changes, taken_changes_in}
 use Rattle.rls_changes.proofs.EditsAlike.{performed_alike}
 use Rattle.rls_changes.proofs.TakenAlike.{released_alike, taken_alike as changes_taken_alike}
-use Rattle.rls_anchor.specs.Anchors.{anchor_over, before, behind, place, settled}
-use Rattle.rls_anchor.proofs.Places.{place_alike, settled_alike}
+use Rattle.rls_anchor.specs.Anchors.{anchor_over, before, behind, place, place_over, settled}
+use Rattle.rls_anchor.specs.declared.anchor.Anchor.{Anchor}
+use Rattle.rls_anchor.specs.Anchors as anchors
+use Rattle.rls_anchor.proofs.Places.{made_kept, place_alike, settled_alike}
+use Rattle.rls_session.specs.declared.cursors.Cursor.{Cursor}
+use Rattle.rls_session.specs.Cursors.{cursor_in, cursors_moved, cursors_with}
+use Rattle.rls_session.proofs.Numbered.{anchored_moved, anchored_with, in_anchored, moved_alike}
 use Rattle.rls_session.specs.declared.orders.Order.TheVariants as orders
-use Rattle.rls_session.specs.Answers.{Sitting, answer, done, pointed, rested, sent, sitting_at, made_changes, message_changes, taken, text_reply, told, told_rested, undone, undone_changes, with_caught_up, with_changes, with_cursor, with_settled}
+use Rattle.rls_session.specs.Answers.{Sitting, answer, done, place_text, placed, pointed, rested, sent, sitting_at, made_changes, message_changes, taken, text_reply, told, told_rested, undone, undone_changes, with_caught_up, with_changes, with_cursors}
 use Rattle.rls_session.specs.Answers as answers
 use Rattle.rls_session.specs.Courses.{Answered}
 use Rattle.rls_session.specs.Desks.{IsWhole}
 use Rattle.rls_session.specs.Replies.{bytes_text, cursor_text, failed_text, ok_text, refused_text}
 use Rattle.rls_session.specs.Requests.{Does, Request, Takes}
-use Rattle.rls_session.specs.Sessions.{by_history, by_parts, session, session_in}
-use Rattle.rls_session.proofs.Courses.{IsSameCourse, courses_alike}
+use Rattle.rls_session.specs.Sessions.{by_history, by_parts}
 use Rattle.rls_session.proofs.Entries.{caught_up_whole, entries_alike, entries_whole, whole_at, whole_front, whole_more}
-use Rattle.rls_session.proofs.Given.{IsGiven, cut_given}
+use Rattle.rls_session.proofs.Given.{IsGiven}
 use Rattle.rls_store.proofs.Storable.{all_writable}
-use Rattle.rls_session.proofs.Resumed.{dropped_writable, whole_left}
-use Rattle.rls_session.proofs.Whole.{last_undoable, whole_edited, whole_on, whole_pointed, whole_undone}
+use Rattle.rls_session.proofs.Whole.{last_undoable, whole_edited, whole_on, whole_undone}
 
 -- ---- sittings
 
@@ -89,9 +89,9 @@ pub record IsAlike (d : Sitting Seen) (f : Sitting State) : Type 0 where
   pub sane : IsSane d.state
   pub writable : AreWritable d.state
   pub entries : d.entries ≡ f.entries
-  pub cursor : d.cursor ≡ f.cursor
+  pub cursors : d.cursors ≡ f.cursors
   pub tells : d.tells ≡ f.tells
-  pub whole : IsWhole d.state d.entries d.cursor
+  pub whole : IsWhole d.state d.entries d.cursors
   pub texts : AreWhole d.entries
 
 -- the same is answered, and what follows is alike
@@ -104,9 +104,9 @@ pub record IsAlmost (d : Sitting Seen) (f : Sitting State) : Type 0 where
   pub stands : StandsFor d.state f.state
   pub storing_is : IsStoring d.state
   pub entries : d.entries ≡ f.entries
-  pub cursor : d.cursor ≡ f.cursor
+  pub cursors : d.cursors ≡ f.cursors
   pub tells : d.tells ≡ f.tells
-  pub whole : IsWhole d.state d.entries d.cursor
+  pub whole : IsWhole d.state d.entries d.cursors
   pub texts : AreWhole d.entries
 
 pub record AreAlmost (a : Answered (Sitting Seen)) (b : Answered (Sitting State)) : Type 0 where
@@ -114,7 +114,7 @@ pub record AreAlmost (a : Answered (Sitting Seen)) (b : Answered (Sitting State)
   pub states : IsAlmost a.state b.state
 
 almost : (d : Sitting Seen) (f : Sitting State) → IsAlike d f → IsAlmost d f
-almost d f h = record { stands = h.stands; storing_is = storing d.state h.sane h.writable; entries = h.entries; cursor = h.cursor; tells = h.tells; whole = h.whole; texts = h.texts }
+almost d f h = record { stands = h.stands; storing_is = storing d.state h.sane h.writable; entries = h.entries; cursors = h.cursors; tells = h.tells; whole = h.whole; texts = h.texts }
 
 rested_alike : (a : Answered (Sitting Seen)) (b : Answered (Sitting State)) → AreAlmost a b → AreAlike (rested by_parts a) (rested by_history b)
 rested_alike a b h =
@@ -127,9 +127,9 @@ rested_alike a b h =
         sane = w.0;
         writable = w.1;
         entries = k.entries;
-        cursor = k.cursor;
+        cursors = k.cursors;
         tells = k.tells;
-        whole = whole_on (a.state).state (released_all (a.state).state) (a.state).entries (a.state).cursor (all_names (a.state).state) k.whole;
+        whole = whole_on (a.state).state (released_all (a.state).state) (a.state).entries (a.state).cursors (all_names (a.state).state) k.whole;
         texts = k.texts;
       };
     }
@@ -164,9 +164,9 @@ edited_almost d f (Ok edit) h w =
         stands = edited_stands s t edit w.0 w.1 h.stands;
         storing_is = edited_storing s edit (storing s h.sane h.writable) w.0 w.1;
         entries = ap (λ es. es ++ entries_over s edit) h.entries ∙ ap (λ es. f.entries ++ es) (entries_alike s t edit h.stands);
-        cursor = h.cursor;
+        cursors = h.cursors;
         tells = h.tells;
-        whole = whole_edited s (edited s edit) d.entries (d.entries ++ entries_over s edit) d.cursor edit (accepted_names s (made_over s edit)) refl h.whole;
+        whole = whole_edited s (edited s edit) d.entries (d.entries ++ entries_over s edit) d.cursors edit (accepted_names s (made_over s edit)) refl h.whole;
         texts = whole_more d.entries (entries_over s edit) h.texts (entries_whole s t edit h.stands);
       };
     }
@@ -201,9 +201,9 @@ by_plan d f plan None h k st = record {
     stands = k;
     storing_is = st;
     entries = ap without_last h.entries;
-    cursor = h.cursor;
+    cursors = h.cursors;
     tells = h.tells;
-    whole = whole_undone d.state (performed_over d.state plan) d.entries (without_last d.entries) d.cursor (performed_names plan d.state) refl h.whole;
+    whole = whole_undone d.state (performed_over d.state plan) d.entries (without_last d.entries) d.cursors (performed_names plan d.state) refl h.whole;
     texts = whole_front (length d.entries - 1) d.entries h.texts;
   };
 }
@@ -213,9 +213,9 @@ by_plan d f plan (Some e) h k st = record {
     stands = k;
     storing_is = st;
     entries = h.entries;
-    cursor = h.cursor;
+    cursors = h.cursors;
     tells = h.tells;
-    whole = whole_on d.state (performed_over d.state plan) d.entries d.cursor (performed_names plan d.state) h.whole;
+    whole = whole_on d.state (performed_over d.state plan) d.entries d.cursors (performed_names plan d.state) h.whole;
     texts = h.texts;
   };
 }
@@ -243,7 +243,7 @@ caught_up_stays d f h =
       sane = h.sane;
       writable = h.writable;
       entries = a.0 ∙ ap (caught_up (f.state).history) h.entries;
-      cursor = h.cursor;
+      cursors = h.cursors;
       tells = h.tells;
       whole = record { undoable = a.1; anchored = (h.whole).anchored };
       texts = caught_up_whole d.state d.entries h.texts;
@@ -265,10 +265,10 @@ entry_alike d f (Some entry) e h =
 undone_alike : (d : Sitting Seen) (f : Sitting State) → IsAlike d f → undone_changes by_parts d.state (last_of d.entries) ≡ undone_changes by_history f.state (last_of f.entries)
 undone_alike d f h = entry_alike d f (last_of d.entries) refl h ∙ ap (λ (es : List Entry). undone_changes by_history f.state (last_of es)) h.entries
 
--- ---- the cursor
+-- ---- cursors
 
-pointed_alike : (d : Sitting Seen) (f : Sitting State) (at : ℕ) → IsAlike d f → AreAlike (pointed by_parts d at) (pointed by_history f at)
-pointed_alike d f at h = subst (λ (cs : List ℕ). AreAlike (pointed by_parts d at) (by_text cs)) (text_alike s t h.stands) (go (ltb (length (text_over s)) at))
+pointed_alike : (d : Sitting Seen) (f : Sitting State) (at n : ℕ) → IsAlike d f → AreAlike (pointed by_parts d at n) (pointed by_history f at n)
+pointed_alike d f at n h = subst (λ (cs : List ℕ). AreAlike (pointed by_parts d at n) (by_text cs)) (text_alike s t h.stands) (go (ltb (length (text_over s)) at))
   where
     s : Seen
     s = d.state
@@ -279,16 +279,18 @@ pointed_alike d f at h = subst (λ (cs : List ℕ). AreAlike (pointed by_parts d
     past : ℕ → List ℕ
     past n = refused_text (Range at n)
 
-    by_text : List ℕ → Answered (Sitting State)
-    by_text cs =
-        cond (ltb (length cs) at) (answers.says (past (length cs)) f) (answers.says (cursor_text at) (with_cursor f (behind (greatest t.history) (before (idents t.history) at))))
+    there : Anchor
+    there = behind (greatest t.history) (before (idents t.history) at)
 
-    made_same : anchor_over s at ≡ behind (greatest t.history) (before (idents t.history) at)
+    by_text : List ℕ → Answered (Sitting State)
+    by_text cs = cond (ltb (length cs) at) (answers.says (past (length cs)) f) (answers.says (cursor_text at) (with_cursors f (cursors_with f.cursors n there)))
+
+    made_same : anchor_over s at ≡ there
     made_same = ap (λ g. behind g (before (idents_over s) at)) (greatest_alike s t h.stands) ∙ ap (λ xs. behind (greatest t.history) (before xs at)) (idents_alike s t h.stands)
 
     go : (b : Bool) → AreAlike
-        (cond b (answers.says (past (length (text_over s))) d) (answers.says (cursor_text at) (with_cursor d (anchor_over s at))))
-        (cond b (answers.says (past (length (text_over s))) f) (answers.says (cursor_text at) (with_cursor f (behind (greatest t.history) (before (idents t.history) at)))))
+        (cond b (answers.says (past (length (text_over s))) d) (answers.says (cursor_text at) (with_cursors d (cursors_with d.cursors n (anchor_over s at)))))
+        (cond b (answers.says (past (length (text_over s))) f) (answers.says (cursor_text at) (with_cursors f (cursors_with f.cursors n there))))
     go true = record { reply = refl; states = h }
     go false = record {
       reply = refl;
@@ -297,27 +299,38 @@ pointed_alike d f at h = subst (λ (cs : List ℕ). AreAlike (pointed by_parts d
         sane = h.sane;
         writable = h.writable;
         entries = h.entries;
-        cursor = made_same;
+        cursors = ap (λ (cs : List Cursor). cursors_with cs n (anchor_over s at)) h.cursors ∙ ap (cursors_with f.cursors n) made_same;
         tells = h.tells;
-        whole = whole_pointed s d.entries d.cursor (anchor_over s at) at refl h.whole;
+        whole = record { undoable = (h.whole).undoable; anchored = anchored_with s d.cursors n (anchor_over s at) (made_kept s at) (h.whole).anchored };
         texts = h.texts;
       };
     }
 
--- a cursor that has caught up
-settled_stays : (d : Sitting Seen) (f : Sitting State) → IsAlike d f → IsAlike (with_settled by_parts d) (with_settled by_history f)
-settled_stays d f h =
-    let a = settled_alike d.state f.state d.cursor h.stands ((h.whole).anchored) in
-    record {
-      stands = h.stands;
-      sane = h.sane;
-      writable = h.writable;
-      entries = h.entries;
-      cursor = a.0 ∙ ap (settled (f.state).history) h.cursor;
-      tells = h.tells;
-      whole = record { undoable = (h.whole).undoable; anchored = a.1 };
-      texts = h.texts;
-    }
+-- where one is, and that it has caught up
+where_alike : (d : Sitting Seen) (f : Sitting State) (n : ℕ) → IsAlike d f → AreAlike (placed by_parts d n) (placed by_history f n)
+where_alike d f n h = record {
+  reply = ap (place_text n) (there (cursor_in d.cursors n) refl ∙ ap (λ (cs : List Cursor). option_map (place t.history) (cursor_in cs n)) h.cursors);
+  states = record {
+    stands = h.stands;
+    sane = h.sane;
+    writable = h.writable;
+    entries = h.entries;
+    cursors = moved_alike s (anchors.settled_over s) (settled t.history) d.cursors n (λ a k. (settled_alike s t a h.stands k).0) (h.whole).anchored ∙ ap (λ (cs : List Cursor). cursors_moved (settled t.history) cs n) h.cursors;
+    tells = h.tells;
+    whole = record { undoable = (h.whole).undoable; anchored = anchored_moved s (anchors.settled_over s) d.cursors n (λ a k. (settled_alike s t a h.stands k).1) (h.whole).anchored };
+    texts = h.texts;
+  };
+}
+  where
+    s : Seen
+    s = d.state
+
+    t : State
+    t = f.state
+
+    there : (o : Option Anchor) → cursor_in d.cursors n ≡ o → option_map (place_over s) o ≡ option_map (place t.history) o
+    there None e = refl
+    there (Some a) e = ap (λ p. Some p) (place_alike s t a h.stands (in_anchored s d.cursors n a e (h.whole).anchored))
 
 -- ---- messages
 
@@ -375,9 +388,9 @@ taken_alike d f bytes (Ok m) b e h = subst (λ (x : Bool). AreAlike (taken by_pa
             sane = w.0;
             writable = w.1;
             entries = h.entries;
-            cursor = h.cursor;
+            cursors = h.cursors;
             tells = h.tells;
-            whole = whole_on s (taken_over s m).state d.entries d.cursor (taken_names s m) h.whole;
+            whole = whole_on s (taken_over s m).state d.entries d.cursors (taken_names s m) h.whole;
             texts = h.texts;
           };
         }
@@ -440,11 +453,8 @@ answer_alike d f (Does orders.Undo) g h =
     let u = with_caught_up by_history f in
     let k = caught_up_stays d f h in
     told_rested_alike e u _ _ _ _ h.tells (undone_alike e u k) (undo_almost e u k)
-answer_alike d f (Does (orders.Point at)) g h = pointed_alike d f at h
-answer_alike d f (Does orders.Place) g h = record {
-  reply = ap cursor_text (place_alike d.state f.state d.cursor h.stands (h.whole).anchored ∙ ap (place (f.state).history) h.cursor);
-  states = settled_stays d f h;
-}
+answer_alike d f (Does (orders.Point at n)) g h = pointed_alike d f at n h
+answer_alike d f (Does (orders.Place n)) g h = where_alike d f n h
 answer_alike d f (Does orders.Text) g h = record { reply = ap (λ cs. bytes_text (codes "text") (encode_utf8_all cs)) (text_alike d.state f.state h.stands); states = h }
 answer_alike d f (Does (orders.Take len)) g h = record { reply = refl; states = h }
 answer_alike d f (Does (orders.Send to)) g h = record { reply = sent_alike d.state f.state to h.stands; states = h }
@@ -452,7 +462,7 @@ answer_alike d f (Does orders.Stat) g h = record { reply = ap (λ (t : List ℕ)
 answer_alike d f (Does orders.Store) g h = record { reply = refl; states = h }
 answer_alike d f (Does (orders.Tell on)) g h = record {
   reply = refl;
-  states = record { stands = h.stands; sane = h.sane; writable = h.writable; entries = h.entries; cursor = h.cursor; tells = refl; whole = h.whole; texts = h.texts };
+  states = record { stands = h.stands; sane = h.sane; writable = h.writable; entries = h.entries; cursors = h.cursors; tells = refl; whole = h.whole; texts = h.texts };
 }
 answer_alike d f (Does orders.Quit) g h = record { reply = refl; states = h }
 answer_alike d f (Does orders.Bad) g h = record { reply = refl; states = h }

@@ -1,95 +1,38 @@
 -- A session over what a replica consists of is that over each history, from store to store.
-use Rattle.std.proofs.Common.{◌≡◌, ◌∙◌, ◌<◌, ◌+◌, ◌-◌, ◌++◌, ℕ, Bool, true, false, cond, ltb, zero, suc, List, [], ◌∷◌, length, map, take, drop, Option, Some, None, Result, Ok, Err, refl, sym, ap, subst, arith}
-use Rattle.std.specs.Prelude.{◌&&◌, ◌==◌, bytes_eq, codes, encode_utf8_all, slice_get, nat_le}
-use Rattle.std.specs.List.{before_first}
-use Rattle.std.specs.Str.{is_utf8}
-use Rattle.std.proofs.lemmas.Bool.{eqb-true}
-use Rattle.std.proofs.lemmas.Bool.Decides.{nat_tests}
-use Rattle.std.proofs.lemmas.List.Elements.{All-drop, All-nil, All-take}
-use Rattle.std.specs.Char.{IsScalar}
-use Rattle.rls_ident.specs.declared.epoch_name.EpochName.{EpochName}
+use Rattle.std.proofs.Common.{◌≡◌, ◌∙◌, ◌-◌, ℕ, Bool, true, false, cond, zero, suc, List, [], ◌∷◌, length, map, drop, refl, ap, subst}
 use Rattle.rls_ident.specs.declared.tuple.Tuple.{Tuple}
 use Rattle.rls_ident.proofs.Agreeing.{map_same}
-use Rattle.rls_ident.proofs.Members.{and_right}
-use Rattle.rls_ops.specs.declared.message.Message.{Message}
-use Rattle.rls_ops.specs.Spelling.{message_bytes}
-use Rattle.rls_ops.specs.declared.op.Body.{Body}
-use Rattle.rls_ops.specs.declared.op.Body.TheVariants as bodies
-use Rattle.rls_ops.specs.WellFormed.{AreOps, IsText, IsVector}
-use Rattle.rls_codec.specs.CodecLaws.{IsBytes, IsMessage}
-use Rattle.rls_codec.specs.Reading.{message_of}
-use Rattle.rls_codec.specs.Spelled.{Chained, IsSpelled}
-use Rattle.rls_codec.proofs.Formats.{IsBytes-drop, IsBytes-tail, IsBytes-take}
-use Rattle.rls_codec.proofs.MessageFormats.{message_takes}
-use Rattle.rls_codec.proofs.SpelledSound.{fits_vector, spelled_op}
-use Rattle.rls_ops.specs.declared.op.Op.{Op}
-use Rattle.rls_model.specs.declared.edit.Edit.{Edit}
-use Rattle.rls_model.specs.declared.edit.Edit.TheVariants as edits
-use Rattle.rls_model.specs.declared.edit.EditError.{EditError}
-use Rattle.rls_model.specs.declared.receipt.Taken.{Taken}
-use Rattle.rls_model.specs.Document.{idents, text}
-use Rattle.rls_model.specs.Editing.{made, next_seq}
+use Rattle.rls_codec.specs.CodecLaws.{IsBytes}
+use Rattle.rls_codec.proofs.Formats.{IsBytes-drop, IsBytes-tail}
 use Rattle.rls_model.specs.Epochs.{greatest, translate}
-use Rattle.rls_model.specs.History.{group_of, members_of}
 use Rattle.rls_model.specs.Receiving.{State}
-use Rattle.rls_model.specs.Taking.{message_for, take_message}
-use Rattle.rls_seen.specs.Edits.{edit_fault_over, edited, made_over}
-use Rattle.rls_seen.specs.Messages.{message_over, taken_over}
-use Rattle.rls_seen.specs.Messages as seen
-use Rattle.rls_seen.specs.Over.{acknowledged, placed_over, released_all}
+use Rattle.rls_seen.specs.Over.{placed_over}
 use Rattle.rls_seen.specs.Sane.{IsSane}
-use Rattle.rls_seen.specs.Seen.{Seen, members, own_count, idents_over, text_over}
+use Rattle.rls_seen.specs.Seen.{Seen}
 use Rattle.rls_seen.specs.Stands.{StandsFor}
 use Rattle.rls_seen.proofs.Accepting.{placed_alike}
-use Rattle.rls_seen.proofs.Alike.{greatest_alike, members_alike}
+use Rattle.rls_seen.proofs.Alike.{greatest_alike}
 use Rattle.rls_seen.proofs.Dropped.{dropped_sane}
-use Rattle.rls_seen.proofs.Editing.{edited_stands, idents_alike, made_alike}
-use Rattle.rls_seen.proofs.Keeping.{dropped_stands, text_alike}
-use Rattle.rls_seen.proofs.Releasing.{released_all_stands}
-use Rattle.rls_seen.proofs.Sending.{message_alike}
-use Rattle.rls_seen.proofs.Taking.{taken_stands}
-use Rattle.rls_replica.specs.Names.{KeepsNames, keeps}
-use Rattle.rls_replica.proofs.KeptNames.{accepted_names, all_names, acknowledged_names, names_on, ops_names}
-use Rattle.rls_report.specs.declared.failures.CommandError.TheVariants.{NotMember, OtherGroup}
-use Rattle.rls_report.specs.declared.failures.LineFault.{LineFault}
-use Rattle.rls_report.specs.declared.failures.LineFault.TheVariants.{Range}
-use Rattle.rls_report.specs.Reports.{take_text}
-use Rattle.rls_report.proofs.Numbers.{stat_alike}
-use Rattle.rls_script.specs.Scripts.{is_line_feed, line_of, line_of_text, number_of, parts_of}
-use Rattle.rls_script.specs.declared.lines.Line.{Line}
+use Rattle.rls_seen.proofs.Keeping.{dropped_stands}
+use Rattle.rls_replica.specs.Names.{keeps}
 use Rattle.rls_store.specs.Stored.{AreWritable}
-use Rattle.rls_stages.specs.Lines.{fault_in, line_by, line_fault, text_in}
-use Rattle.rls_stages.specs.Lines as lines
-use Rattle.rls_stages.proofs.Alike.{lines_alike}
-use Rattle.rls_store.proofs.Characters.{text_chars}
-use Rattle.rls_stages.proofs.Meant.{IsGood, IsLine, IsMeantWell, line_good, line_well}
-use Rattle.rls_store.proofs.Storable.{IsStoring, edited_storing, storing, taken_writable}
 use Rattle.rls_undo.specs.declared.entry.Entry.{Entry}
 use Rattle.rls_undo.specs.declared.entry.Entry.TheVariants.{Inserted, Removed}
-use Rattle.rls_undo.specs.Plans.{entries_by, epoch_in, gone_by}
-use Rattle.rls_undo.specs.UndoLaws.{AreEdits, AreWhole, IsEntry}
-use Rattle.rls_undo.specs.Undoing.{entries_of, entries_over, last_of, performed, performed_over, planned, planned_over, refusal, refusal_over, last_entries, settled, settled_over, without_last}
-use Rattle.rls_undo.proofs.Alike.{performed_stands, planned_alike}
-use Rattle.rls_undo.proofs.Histories.{plan_edits}
-use Rattle.rls_undo.proofs.Performed.{performed_names}
+use Rattle.rls_undo.specs.Plans.{epoch_in}
+use Rattle.rls_undo.specs.Undoing.{last_entries, settled, settled_over}
 use Rattle.rls_anchor.specs.Anchors.{anchor_over, before, behind, place}
 use Rattle.rls_anchor.specs.Anchors as anchors
-use Rattle.rls_anchor.proofs.Places.{place_alike, settled_alike as anchor_alike}
+use Rattle.rls_anchor.proofs.Places.{settled_alike as anchor_alike}
 use Rattle.rls_session.specs.declared.desk.TheConstants.{KEPT_ENTRIES}
-use Rattle.rls_session.specs.declared.orders.Order.{Order}
-use Rattle.rls_session.specs.declared.orders.Order.TheVariants as orders
-use Rattle.rls_session.specs.Answers.{Sitting, answer, done, pointed, rested, resumed, sent, sitting_at, taken, text_reply, undone}
-use Rattle.rls_session.specs.Answers as answers
-use Rattle.rls_session.specs.Courses.{Answered, Course, course, course_of, stretches, stretches_within}
-use Rattle.rls_session.specs.Desks.{AreUndoable, IsWhole, sitting_of}
-use Rattle.rls_session.specs.Orders.{member_of, order_of, order_of_letter, order_of_parts, order_of_words, order_or_bad}
-use Rattle.rls_session.specs.Replies.{bytes_text, cursor_text, failed_text, ok_text, refused_text}
-use Rattle.rls_session.specs.Requests.{Cut, Does, Request, Takes, cut, cut_after, line_size}
+use Rattle.rls_session.specs.Cursors.{moved}
+use Rattle.rls_session.proofs.Numbered.{all_moved_alike}
+use Rattle.rls_session.specs.Answers.{Sitting, answer, resumed, sitting_at}
+use Rattle.rls_session.specs.Courses.{Course, course, course_of, stretches, stretches_within}
+use Rattle.rls_session.specs.Desks.{AreUndoable}
 use Rattle.rls_session.specs.Sessions.{by_history, by_parts, session, session_in}
 use Rattle.rls_session.proofs.Courses.{IsSameCourse, courses_alike}
-use Rattle.rls_store.proofs.Storable.{all_writable}
 use Rattle.rls_session.proofs.Resumed.{dropped_writable, whole_left}
-use Rattle.rls_session.proofs.Whole.{last_undoable, undoable_back, whole_edited, whole_on, whole_pointed, whole_undone}
+use Rattle.rls_session.proofs.Whole.{undoable_back}
 use Rattle.rls_session.proofs.Entries.{all_settled_whole, whole_back}
 use Rattle.rls_session.proofs.Given.{IsGiven, cut_given}
 use Rattle.rls_session.proofs.Agreeing.{IsAlike, answer_alike}
@@ -118,9 +61,9 @@ resumed_alike d f h =
       sane = dropped_sane s h.sane;
       writable = dropped_writable s h.writable;
       entries = all_settled s t (last_entries KEPT_ENTRIES d.entries) h.stands (undoable_back s (length d.entries - KEPT_ENTRIES) d.entries (h.whole).undoable) ∙ ap (λ (es : List Entry). map (settled t.history) (last_entries KEPT_ENTRIES es)) h.entries;
-      cursor = (anchor_alike s t d.cursor h.stands (h.whole).anchored).0 ∙ ap (anchors.settled t.history) h.cursor;
+      cursors = all_moved_alike s (anchors.settled_over s) (anchors.settled t.history) d.cursors (λ a k. (anchor_alike s t a h.stands k).0) (h.whole).anchored ∙ ap (map (moved (anchors.settled t.history))) h.cursors;
       tells = h.tells;
-      whole = whole_left s (last_entries KEPT_ENTRIES d.entries) d.cursor h.sane;
+      whole = whole_left s (last_entries KEPT_ENTRIES d.entries) d.cursors h.sane;
       texts = all_settled_whole s (last_entries KEPT_ENTRIES d.entries) (whole_back (length d.entries - KEPT_ENTRIES) d.entries h.texts);
     }
 
@@ -159,4 +102,4 @@ pub sessions_alike : (s : Seen) (t : State) (input : List ℕ) → IsBytes input
 unfolding stretches
 sessions_alike s t input b h sane writable =
     stretches_alike (suc (length input)) (sitting_at s) (sitting_at t) input b
-    (record { stands = h; sane = sane; writable = writable; entries = refl; cursor = refl; tells = refl; whole = record { undoable = tt; anchored = tt }; texts = tt })
+    (record { stands = h; sane = sane; writable = writable; entries = refl; cursors = refl; tells = refl; whole = record { undoable = tt; anchored = tt }; texts = tt })

@@ -31,7 +31,9 @@ use Rattle.rls_anchor.specs.declared.anchor.Anchor.{Anchor}
 use Rattle.rls_anchor.specs.Anchors.{anchor_over}
 use Rattle.rls_stages.proofs.Kept.{is_ours, not_for}
 use Rattle.rls_session.specs.Answering.{IsAnswered}
-use Rattle.rls_session.specs.Answers.{Sitting, edited, pointed, sent, taken, undone, undone_changes, with_cursor, with_state}
+use Rattle.rls_session.specs.Answers.{Sitting, edited, pointed, sent, taken, undone, undone_changes, with_cursors, with_state}
+use Rattle.rls_session.specs.declared.cursors.Cursor.{Cursor}
+use Rattle.rls_session.specs.Cursors.{cursors_with}
 use Rattle.rls_session.specs.Desks.{TellsFault, planned_changes, sitting_of}
 use Rattle.rls_session.specs.Replies.{ok_text, undone_text, nothing_text, cursor_text, bytes_text, refused_text, failed_text}
 use Rattle.rls_session.specs.Sessions.{by_parts}
@@ -56,7 +58,7 @@ ok_is_not_err x e h = cc
 -- ---- edits
 
 pub edit_said : (d e : Sitting Seen) (edit : Edit) (seq : ℕ) (reply : List ℕ) → edit_fault_over d.state edit ≡ None → seq ≡ own_count d.state + 1
-    → e ≡ sitting_of (edits.edited d.state edit) (d.entries ++ entries_over d.state edit) d.cursor d.tells → reply ≡ ok_text seq → IsAnswered (edited by_parts d (allowed d.state edit)) reply e
+    → e ≡ sitting_of (edits.edited d.state edit) (d.entries ++ entries_over d.state edit) d.cursors d.tells → reply ≡ ok_text seq → IsAnswered (edited by_parts d (allowed d.state edit)) reply e
 edit_said d e edit seq reply none number is text = rw none (record { reply_is = text ∙ ap ok_text number; state_is = is })
 
 pub edit_refused : (d e : Sitting Seen) (edit : Edit) (error : EditError) (reply : List ℕ) → IsFault error (edit_fault_over d.state edit) → TellsFault error reply → e ≡ d
@@ -79,10 +81,10 @@ last_is (x ∷ es) some none =
 
 -- the plan was performed
 pub undone_said : (d e : Sitting Seen) (u : Undone) (reply : List ℕ) → (d.entries ≡ [] → ⊥) → refusal_over d.state (plan_over d.state (last_of d.entries)) ≡ None → u ≡ undone_by (plan_over d.state (last_of d.entries))
-    → e ≡ sitting_of (performed_over d.state (plan_over d.state (last_of d.entries))) (without_last d.entries) d.cursor d.tells → reply ≡ undone_text u.edits u.chars → IsAnswered (undone by_parts d (last_of d.entries)) reply e
+    → e ≡ sitting_of (performed_over d.state (plan_over d.state (last_of d.entries))) (without_last d.entries) d.cursors d.tells → reply ≡ undone_text u.edits u.chars → IsAnswered (undone by_parts d (last_of d.entries)) reply e
 undone_said d e u reply some none counts is text = go (last_of d.entries) (last_is d.entries some) none counts is
   where
-    go : (o : Option Entry) → (o ≡ None → ⊥) → refusal_over d.state (plan_over d.state o) ≡ None → u ≡ undone_by (plan_over d.state o) → e ≡ sitting_of (performed_over d.state (plan_over d.state o)) (without_last d.entries) d.cursor d.tells
+    go : (o : Option Entry) → (o ≡ None → ⊥) → refusal_over d.state (plan_over d.state o) ≡ None → u ≡ undone_by (plan_over d.state o) → e ≡ sitting_of (performed_over d.state (plan_over d.state o)) (without_last d.entries) d.cursors d.tells
         → IsAnswered (undone by_parts d o) reply e
     go None some none counts is = absurd (some refl)
     go (Some entry) some none counts is = rw none (record { reply_is = text ∙ ap (λ (x : Undone). undone_text x.edits x.chars) counts; state_is = is })
@@ -133,7 +135,7 @@ undone_planned s None = refl
 undone_planned s (Some entry) = refl
 
 -- sittings are the same if their parts are
-pub same_sitting : (s t : Seen) (xs ys : List Entry) (a : Anchor) (b : Bool) → s ≡ t → xs ≡ ys → sitting_of s xs a b ≡ sitting_of t ys a b
+pub same_sitting : (s t : Seen) (xs ys : List Entry) (a : List Cursor) (b : Bool) → s ≡ t → xs ≡ ys → sitting_of s xs a b ≡ sitting_of t ys a b
 same_sitting s t xs ys a b e f = rw (e, f) refl
 
 -- ---- the cursor
@@ -142,18 +144,18 @@ text_length : (es : Entries) → length (chars_in es) ≡ length es
 text_length [] = refl
 text_length (e ∷ es) = ap suc (text_length es)
 
-pub pointed_past : (d e : Sitting Seen) (at n m : ℕ) (reply : List ℕ) → n ≡ at → m ≡ length (d.state).text → length (d.state).text < at → e ≡ d → reply ≡ refused_text (faults.Range n m) → IsAnswered (pointed by_parts d at) reply e
-pointed_past d e at n m reply f g past is text =
+pub pointed_past : (d e : Sitting Seen) (at k n m : ℕ) (reply : List ℕ) → n ≡ at → m ≡ length (d.state).text → length (d.state).text < at → e ≡ d → reply ≡ refused_text (faults.Range n m) → IsAnswered (pointed by_parts d at k) reply e
+pointed_past d e at k n m reply f g past is text =
     let len = text_length (d.state).text in
     let test : ltb (length (text_over d.state)) at ≡ true = grind (arith, nat_tests, len) in
     let total : m ≡ length (text_over d.state) = g ∙ sym len in
     rw test (record { reply_is = rw (← f, ← total) text; state_is = is })
 
-pub pointed_there : (d e : Sitting Seen) (at : ℕ) (a : Anchor) (reply : List ℕ) → at ≤ length (d.state).text → a ≡ anchor_over d.state at → e ≡ with_cursor d a → reply ≡ cursor_text at → IsAnswered (pointed by_parts d at) reply e
-pointed_there d e at a reply within made is text =
+pub pointed_there : (d e : Sitting Seen) (at k : ℕ) (a : Anchor) (reply : List ℕ) → at ≤ length (d.state).text → a ≡ anchor_over d.state at → e ≡ with_cursors d (cursors_with d.cursors k a) → reply ≡ cursor_text at → IsAnswered (pointed by_parts d at k) reply e
+pointed_there d e at k a reply within made is text =
     let len = text_length (d.state).text in
     let test : ltb (length (text_over d.state)) at ≡ false = grind (arith, nat_tests, len) in
-    rw test (record { reply_is = text; state_is = is ∙ ap (with_cursor d) made })
+    rw test (record { reply_is = text; state_is = is ∙ ap (λ (x : Anchor). with_cursors d (cursors_with d.cursors k x)) made })
 
 -- ---- messages
 

@@ -10,7 +10,7 @@ use Rattle.rls_script.specs.declared.lines.Line.{Line}
 use Rattle.rls_stages.proofs.Meant.{IsGood, IsLine, line_good}
 use Rattle.rls_session.specs.declared.orders.Order.{Order}
 use Rattle.rls_session.specs.declared.orders.Order.TheVariants as orders
-use Rattle.rls_session.specs.Orders.{member_of, order_of, order_of_letter, order_of_parts, order_of_words, order_or_bad, switch_of}
+use Rattle.rls_session.specs.Orders.{member_of, order_of, order_of_letter, order_of_parts, order_of_words, order_or_bad, switch_of, cursor_of, point_by, point_of}
 use Rattle.rls_session.specs.Requests.{Cut, Does, Request, Takes, cut, cut_after, line_size}
 
 -- the line of an edit is one, and a message consists of bytes
@@ -38,22 +38,29 @@ given_or false o other g h = h
 
 letter_given : (bytes : List ℕ) → IsGood (line_of_text bytes) → IsGiven (Does (order_of_letter bytes))
 letter_given bytes g =
-    given_or (bytes_eq bytes (codes "u")) orders.Undo _ tt (given_or (bytes_eq bytes (codes "p")) orders.Place _ tt (given_or (bytes_eq bytes (codes "t")) orders.Text _ tt (given_or (bytes_eq bytes (codes "n")) orders.Stat _ tt
+    given_or (bytes_eq bytes (codes "u")) orders.Undo _ tt (given_or (bytes_eq bytes (codes "p")) (orders.Place 0) _ tt (given_or (bytes_eq bytes (codes "t")) orders.Text _ tt (given_or (bytes_eq bytes (codes "n")) orders.Stat _ tt
     (given_or (bytes_eq bytes (codes "w")) orders.Store _ tt (given_or (bytes_eq bytes (codes "q")) orders.Quit _ tt (edit_given bytes (line_of_text bytes) g))))))
 
 parts_given : (bytes word others : List ℕ) → IsGood (line_of_text bytes) → IsGiven (Does (order_of_parts bytes word others))
-parts_given bytes word others g = go (bytes_eq word (codes "k")) (bytes_eq word (codes "m")) (bytes_eq word (codes "s")) (bytes_eq word (codes "c")) (number_of others) (member_of others) (switch_of others)
+parts_given bytes word others g = go (bytes_eq word (codes "k")) (bytes_eq word (codes "p")) (bytes_eq word (codes "m")) (bytes_eq word (codes "s")) (bytes_eq word (codes "c")) (number_of others) (member_of others) (switch_of others)
   where
-    go : (a b c d : Bool) (n m : Option ℕ) (o : Option Bool) → IsGiven (Does (cond a (order_or_bad orders.Point n) (cond b (order_or_bad orders.Take n) (cond c (order_or_bad orders.Send m) (cond d (order_or_bad orders.Tell o) (order_or_bad orders.Edit (line_of_text bytes)))))))
-    go true b c d None m o = tt
-    go true b c d (Some x) m o = tt
-    go false true c d None m o = tt
-    go false true c d (Some x) m o = tt
-    go false false true d n None o = tt
-    go false false true d n (Some x) o = tt
-    go false false false true n m None = tt
-    go false false false true n m (Some on) = tt
-    go false false false false n m o = edit_given bytes (line_of_text bytes) g
+    -- orders of which nothing is asked
+    any : {A : Type 0} (order : A → Order) → ((x : A) → IsGiven (Does (order x))) → (o : Option A) → IsGiven (Does (order_or_bad order o))
+    any order f None = tt
+    any order f (Some x) = f x
+
+    point : (p : Option (List ℕ × List ℕ)) → IsGiven (Does (point_by others p))
+    point None = any (λ at. orders.Point at 0) (λ x. tt) (number_of others)
+    point (Some parts) = any (λ at. order_or_bad (orders.Point at) (cursor_of parts.1)) (λ at. any (orders.Point at) (λ x. tt) (cursor_of parts.1)) (number_of parts.0)
+
+    go : (a p b c d : Bool) (n m : Option ℕ) (o : Option Bool)
+        → IsGiven (Does (cond a (point_of others) (cond p (order_or_bad orders.Place (cursor_of others)) (cond b (order_or_bad orders.Take n) (cond c (order_or_bad orders.Send m) (cond d (order_or_bad orders.Tell o) (order_or_bad orders.Edit (line_of_text bytes))))))))
+    go true p b c d n m o = point (parts_of others)
+    go false true b c d n m o = any orders.Place (λ x. tt) (cursor_of others)
+    go false false true c d n m o = any orders.Take (λ x. tt) n
+    go false false false true d n m o = any orders.Send (λ x. tt) m
+    go false false false false true n m o = any orders.Tell (λ x. tt) o
+    go false false false false false n m o = edit_given bytes (line_of_text bytes) g
 
 order_given : (bytes : List ℕ) → IsGiven (Does (order_of bytes))
 unfolding order_of

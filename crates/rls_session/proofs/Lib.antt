@@ -6,6 +6,7 @@ pub mod Limits
 pub mod Found
 pub mod Loop
 pub mod ChangeLines
+pub mod Numbered
 pub mod Whole
 pub mod Resumed
 pub mod Sized

@@ -1,5 +1,5 @@
 -- What a session goes back to lasts when what every member has is dropped.
-use Rattle.std.proofs.Common.{◌≡◌, List, [], ◌∷◌, map, Some, not, OnOk, OnErr, Result, Ok, Err, subst, sym}
+use Rattle.std.proofs.Common.{◌≡◌, List, [], ◌∷◌, map, Some, not, subst}
 use Rattle.std.specs.Prelude.{IsTrue}
 use Rattle.rls_ident.specs.declared.epoch_name.EpochName.{EpochName}
 use Rattle.rls_ident.proofs.Members.{in_filter}
@@ -19,7 +19,10 @@ use Rattle.rls_anchor.specs.declared.anchor.Anchor.{Anchor}
 use Rattle.rls_anchor.specs.declared.anchor.Anchor.TheVariants.{Beginning, After}
 use Rattle.rls_anchor.specs.AnchorLaws.{IsAnchored}
 use Rattle.rls_anchor.specs.Anchors as anchors
-use Rattle.rls_session.specs.Desks.{AreUndoable, IsWhole, sitting_of}
+use Rattle.rls_session.specs.declared.cursors.Cursor.{Cursor}
+use Rattle.rls_session.specs.Cursors.{AreAnchored, moved}
+use Rattle.rls_session.proofs.Numbered.{all_anchored}
+use Rattle.rls_session.specs.Desks.{AreUndoable, IsWhole}
 
 -- entries of the greatest epoch are kept where that is
 settled_kept : (s n : Seen) (es : List Entry) → ((entry : Entry) → IsTrue (keeps n (epoch_in (settled_over s entry)))) → AreUndoable n (map (settled_over s) es)
@@ -36,25 +39,20 @@ settled_left : (s : Seen) → IsSane s → (entry : Entry) → IsTrue (keeps (dr
 settled_left s sane (Inserted e ids) = greatest_stays s sane
 settled_left s sane (Removed e first text) = greatest_stays s sane
 
-anchor_here : (s : Seen) (a : Anchor) → IsAnchored s (anchors.settled_over s a)
-anchor_here s Beginning = tt
-anchor_here s (After e x) = greatest_kept s.epochs.top s.epochs.nodes
-
 anchor_left : (s : Seen) → IsSane s → (a : Anchor) → IsAnchored (dropped s) (anchors.settled_over s a)
 anchor_left s sane Beginning = tt
 anchor_left s sane (After e x) = greatest_stays s sane
 
 -- the entries alone, taken there
-pub whole_entries : (s : Seen) (es : List Entry) (a : Anchor) → IsWhole s es a → IsWhole s (map (settled_over s) es) a
+pub whole_entries : (s : Seen) (es : List Entry) (a : List Cursor) → IsWhole s es a → IsWhole s (map (settled_over s) es) a
 whole_entries s es a h = record { undoable = settled_kept s s es (settled_here s); anchored = h.anchored }
 
 -- both, in what is left
-pub whole_left : (s : Seen) (es : List Entry) (a : Anchor) → IsSane s → IsWhole (dropped s) (map (settled_over s) es) (anchors.settled_over s a)
-whole_left s es a sane = record { undoable = settled_kept s (dropped s) es (settled_left s sane); anchored = anchor_left s sane a }
+pub whole_left : (s : Seen) (es : List Entry) (a : List Cursor) → IsSane s → IsWhole (dropped s) (map (settled_over s) es) (map (moved (anchors.settled_over s)) a)
+whole_left s es a sane = record { undoable = settled_kept s (dropped s) es (settled_left s sane); anchored = all_anchored (dropped s) (anchors.settled_over s) a (anchor_left s sane) }
 
-pub whole_cursor : {E : Type 0} (r : Result (Unit {0}) E) (s : Seen) (es : List Entry) (a b : Anchor) → OnOk r (b ≡ anchors.settled_over s a) → OnErr r (b ≡ a) → IsWhole s es a → IsWhole s es b
-whole_cursor (Ok u) s es a b is stays h = record { undoable = h.undoable; anchored = subst (IsAnchored s) (sym is) (anchor_here s a) }
-whole_cursor (Err e) s es a b is stays h = subst (λ (x : Anchor). IsWhole s es x) (sym stays) h
+pub whole_cursors : (s : Seen) (es : List Entry) (a b : List Cursor) → (AreAnchored s a → AreAnchored s b) → IsWhole s es a → IsWhole s es b
+whole_cursors s es a b k h = record { undoable = h.undoable; anchored = k h.anchored }
 
 -- each epoch is kept, so that none was dropped
 pub none_dropped : (s : Seen) (es : List Entry) (e : EpochName) → AreUndoable s es → first_dropped s es ≡ Some e → ⊥

@@ -15,10 +15,12 @@ use Rattle.rls_undo.specs.declared.undo.Undone.{Undone}
 use Rattle.rls_undo.specs.declared.undo.UndoError.{UndoError}
 use Rattle.rls_undo.specs.Plans.{entries_by, epoch_in, gone_by}
 use Rattle.rls_undo.specs.declared.entry.Entry.TheVariants.{Inserted, Removed}
-use Rattle.rls_undo.specs.Undoing.{caught_up_over, dropped_or, entries_over, epoch_of, first_dropped, is_behind, last_entries, last_of, settled_over, without_last}
+use Rattle.rls_undo.specs.Undoing.{caught_up_over, entries_over, epoch_of, is_behind, last_entries, last_of, settled_over, without_last}
 use Rattle.rls_anchor.specs.declared.anchor.Anchor.{Anchor}
-use Rattle.rls_anchor.specs.declared.anchor.Anchor.TheVariants.{Beginning, After}
 use Rattle.rls_anchor.specs.AnchorLaws.{IsAnchored}
+use Rattle.rls_session.specs.declared.cursors.Cursor.{Cursor}
+use Rattle.rls_session.specs.Cursors.{AreAnchored, cursors_moved, cursors_with}
+use Rattle.rls_session.proofs.Numbered.{anchor_here, anchored_moved, anchored_on, anchored_with}
 use Rattle.rls_anchor.specs.Anchors.{anchor_over}
 use Rattle.rls_anchor.specs.Anchors as anchors
 use Rattle.rls_anchor.proofs.Places.{made_kept}
@@ -82,20 +84,14 @@ caught_up_kept s es h = go (is_behind (greatest_over s) es)
     go true = all_settled_kept s es
     go false = h
 
--- ---- the cursor
-
-anchored_on : (s n : Seen) (a : Anchor) → KeepsNames s n → IsAnchored s a → IsAnchored n a
-anchored_on s n Beginning k h = tt
-anchored_on s n (After e x) k h = k e h
-
 -- ---- all
 
 -- after more has happened
-pub whole_on : (s n : Seen) (es : List Entry) (a : Anchor) → KeepsNames s n → IsWhole s es a → IsWhole n es a
+pub whole_on : (s n : Seen) (es : List Entry) (a : List Cursor) → KeepsNames s n → IsWhole s es a → IsWhole n es a
 whole_on s n es a k h = record { undoable = undoable_on s n es k h.undoable; anchored = anchored_on s n a k h.anchored }
 
 -- after an edit
-pub whole_edited : (s n : Seen) (es fs : List Entry) (a : Anchor) (edit : Edit) → KeepsNames s n → fs ≡ es ++ entries_over s edit → IsWhole s es a → IsWhole n fs a
+pub whole_edited : (s n : Seen) (es fs : List Entry) (a : List Cursor) (edit : Edit) → KeepsNames s n → fs ≡ es ++ entries_over s edit → IsWhole s es a → IsWhole n fs a
 whole_edited s n es fs a edit k is h =
     record {
       undoable = subst (AreUndoable n) (sym is) (undoable_on s n (es ++ entries_over s edit) k (undoable_more s es (entries_over s edit) h.undoable (entries_undoable s edit)));
@@ -103,33 +99,38 @@ whole_edited s n es fs a edit k is h =
     }
 
 -- after an undo
-pub whole_undone : (s n : Seen) (es fs : List Entry) (a : Anchor) → KeepsNames s n → fs ≡ without_last es → IsWhole s es a → IsWhole n fs a
+pub whole_undone : (s n : Seen) (es fs : List Entry) (a : List Cursor) → KeepsNames s n → fs ≡ without_last es → IsWhole s es a → IsWhole n fs a
 whole_undone s n es fs a k is h =
     record { undoable = subst (AreUndoable n) (sym is) (undoable_on s n (without_last es) k (undoable_front s (length es - 1) es h.undoable)); anchored = anchored_on s n a k h.anchored }
 
 -- with the same entries, or none
-pub whole_as : (s n : Seen) (es fs : List Entry) (a : Anchor) → KeepsNames s n → fs ≡ es → IsWhole s es a → IsWhole n fs a
+pub whole_as : (s n : Seen) (es fs : List Entry) (a : List Cursor) → KeepsNames s n → fs ≡ es → IsWhole s es a → IsWhole n fs a
 whole_as s n es fs a k is h = subst (λ (xs : List Entry). IsWhole n xs a) (sym is) (whole_on s n es a k h)
 
--- with a cursor that was just made
-pub whole_pointed : (s : Seen) (es : List Entry) (a b : Anchor) (at : ℕ) → b ≡ anchor_over s at → IsWhole s es a → IsWhole s es b
-whole_pointed s es a b at is h = record { undoable = h.undoable; anchored = subst (IsAnchored s) (sym is) (made_kept s at) }
+-- with a cursor that was just put
+pub whole_pointed : {E : Type 0} (r : Result (Unit {0}) E) (s : Seen) (es : List Entry) (a b : List Cursor) (c : Anchor) (at n : ℕ) → OnOk r (b ≡ cursors_with a n c) → OnErr r (b ≡ a) → c ≡ anchor_over s at → IsWhole s es a → IsWhole s es b
+whole_pointed (Ok u) s es a b c at n is stays made h = record { undoable = h.undoable; anchored = subst (AreAnchored s) (sym is) (anchored_with s a n c (subst (IsAnchored s) (sym made) (made_kept s at)) h.anchored) }
+whole_pointed (Err e) s es a b c at n is stays made h = record { undoable = h.undoable; anchored = subst (AreAnchored s) (sym stays) h.anchored }
 
 -- with the last entries
-pub whole_last : (s : Seen) (es fs : List Entry) (a : Anchor) (n : ℕ) → fs ≡ last_entries n es → IsWhole s es a → IsWhole s fs a
+pub whole_last : (s : Seen) (es fs : List Entry) (a : List Cursor) (n : ℕ) → fs ≡ last_entries n es → IsWhole s es a → IsWhole s fs a
 whole_last s es fs a n is h = record { undoable = subst (AreUndoable s) (sym is) (undoable_back s (length es - n) es h.undoable); anchored = h.anchored }
 
--- with entries that have caught up with the renames
-pub whole_caught_up : {E : Type 0} (r : Result (Unit {0}) E) (s : Seen) (es fs : List Entry) (a : Anchor) → OnOk r (fs ≡ caught_up_over s es) → OnErr r (fs ≡ es) → IsWhole s es a → IsWhole s fs a
+-- with entries, or a cursor, that have caught up with the renames
+pub whole_caught_up : {E : Type 0} (r : Result (Unit {0}) E) (s : Seen) (es fs : List Entry) (a : List Cursor) → OnOk r (fs ≡ caught_up_over s es) → OnErr r (fs ≡ es) → IsWhole s es a → IsWhole s fs a
 whole_caught_up (Ok u) s es fs a is stays h = record { undoable = subst (AreUndoable s) (sym is) (caught_up_kept s es h.undoable); anchored = h.anchored }
 whole_caught_up (Err e) s es fs a is stays h = whole_as s s es fs a (λ n k. k) stays h
 
+pub whole_settled : {E : Type 0} (r : Result (Unit {0}) E) (s : Seen) (es : List Entry) (a b : List Cursor) (n : ℕ) → OnOk r (b ≡ cursors_moved (anchors.settled_over s) a n) → OnErr r (b ≡ a) → IsWhole s es a → IsWhole s es b
+whole_settled (Ok u) s es a b n is stays h = record { undoable = h.undoable; anchored = subst (AreAnchored s) (sym is) (anchored_moved s (anchors.settled_over s) a n (λ x k. anchor_here s x) h.anchored) }
+whole_settled (Err e) s es a b n is stays h = record { undoable = h.undoable; anchored = subst (AreAnchored s) (sym stays) h.anchored }
+
 -- at the start
-pub whole_first : (s : Seen) (es : List Entry) → es ≡ [] → IsWhole s es Beginning
+pub whole_first : (s : Seen) (es : List Entry) → es ≡ [] → IsWhole s es []
 whole_first s es is = record { undoable = subst (AreUndoable s) (sym is) tt; anchored = tt }
 
 -- after an edit that was made or refused
-pub whole_made : (r : Result ℕ EditError) (s n : Seen) (es fs : List Entry) (a : Anchor) (edit : Edit) → KeepsNames s n → OnOk r (fs ≡ es ++ entries_over s edit) → OnErr r (fs ≡ es) → IsWhole s es a → IsWhole n fs a
+pub whole_made : (r : Result ℕ EditError) (s n : Seen) (es fs : List Entry) (a : List Cursor) (edit : Edit) → KeepsNames s n → OnOk r (fs ≡ es ++ entries_over s edit) → OnErr r (fs ≡ es) → IsWhole s es a → IsWhole n fs a
 whole_made (Ok x) s n es fs a edit k made stays h = whole_edited s n es fs a edit k made h
 whole_made (Err e) s n es fs a edit k made stays h = whole_as s n es fs a k stays h
 
@@ -138,7 +139,7 @@ pub undoable_undone : (r : Result Undone UndoError) (s n : Seen) (es fs : List E
 undoable_undone (Ok u) s n es fs k made stays h = subst (AreUndoable n) (sym made) (undoable_on s n (without_last es) k (undoable_front s (length es - 1) es h))
 undoable_undone (Err e) s n es fs k made stays h = subst (AreUndoable n) (sym stays) (undoable_on s n es k h)
 
-pub whole_with : (s n : Seen) (es fs : List Entry) (a : Anchor) → KeepsNames s n → AreUndoable n fs → IsWhole s es a → IsWhole n fs a
+pub whole_with : (s n : Seen) (es fs : List Entry) (a : List Cursor) → KeepsNames s n → AreUndoable n fs → IsWhole s es a → IsWhole n fs a
 whole_with s n es fs a k u h = record { undoable = u; anchored = anchored_on s n a k h.anchored }
 
 -- ---- nothing is dropped
@@ -155,10 +156,3 @@ undo_not_dropped s es e h is d = go (last_of es) refl is
     go (Some entry) l is =
         let same : epoch_in entry ≡ e = cc in
         kept_not s e (subst (λ (x : EpochName). keeps s x ≡ true) same (last_undoable s es entry l h)) d
-
--- the epoch of the cursor
-pub place_not_dropped : (s : Seen) (a : Anchor) (e : EpochName) → IsAnchored s a → anchors.epoch_of a ≡ Some e → IsFalse (keeps s e) → ⊥
-place_not_dropped s Beginning e h is d = cc
-place_not_dropped s (After f x) e h is d =
-    let same : f ≡ e = cc in
-    kept_not s e (subst (λ (y : EpochName). keeps s y ≡ true) same h) d

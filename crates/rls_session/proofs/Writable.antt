@@ -32,9 +32,10 @@ use Rattle.rls_undo.specs.Undoing.{last_of, performed_over, planned_over, refusa
 use Rattle.rls_session.specs.declared.orders.Order.{Order}
 use Rattle.rls_session.specs.declared.orders.Order.TheVariants as orders
 use Rattle.rls_session.specs.Answering.{IsAnswered}
-use Rattle.rls_session.specs.Answers.{Sitting, done, pointed, read_line, take_told, taken, taken_at, undone, undone_by_plan, with_caught_up, with_cursor}
+use Rattle.rls_session.specs.Answers.{Sitting, done, pointed, read_line, take_told, taken, taken_at, undone, undone_by_plan, with_caught_up, with_cursors}
 use Rattle.rls_session.specs.Answers as answers
 use Rattle.rls_session.specs.Courses.{Answered}
+use Rattle.rls_session.specs.Cursors.{cursors_with}
 use Rattle.rls_session.specs.Replies.{cursor_text, failed_text, refused_text}
 use Rattle.rls_session.specs.Sessions.{by_parts}
 
@@ -87,10 +88,10 @@ undone_sized d (Some entry) h = go (refusal_over d.state (planned_over d.state e
 
 -- ---- all orders
 
-pointed_same : (d : Sitting Seen) (at : ℕ) → AreWritable d.state → AreWritable ((pointed by_parts d at).state).state
-pointed_same d at w = go (ltb (length (text_over d.state)) at)
+pointed_same : (d : Sitting Seen) (at n : ℕ) → AreWritable d.state → AreWritable ((pointed by_parts d at n).state).state
+pointed_same d at n w = go (ltb (length (text_over d.state)) at)
   where
-    go : (b : Bool) → AreWritable ((cond {A = Answered (Sitting Seen)} b (answers.says (refused_text (Range at (length (text_over d.state)))) d) (answers.says (cursor_text at) (with_cursor d (by_parts.anchor d.state at)))).state).state
+    go : (b : Bool) → AreWritable ((cond {A = Answered (Sitting Seen)} b (answers.says (refused_text (Range at (length (text_over d.state)))) d) (answers.says (cursor_text at) (with_cursors d (cursors_with d.cursors n (by_parts.anchor d.state at))))).state).state
     go true = w
     go false = w
 
@@ -99,8 +100,8 @@ done_writable d (orders.Edit line) w = all_sized _ (edit_sized d (read_line by_p
 done_writable d orders.Undo w =
     let e = with_caught_up by_parts d in
     all_sized _ (undone_sized e (last_of e.entries) (sized d.state w))
-done_writable d (orders.Point at) w = pointed_same d at w
-done_writable d orders.Place w = w
+done_writable d (orders.Point at n) w = pointed_same d at n w
+done_writable d (orders.Place n) w = w
 done_writable d orders.Text w = w
 done_writable d (orders.Take len) w = w
 done_writable d (orders.Send to) w = w

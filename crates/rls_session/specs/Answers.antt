@@ -1,5 +1,5 @@
 -- What a session answers to a request, and what it changes.
-use Rattle.std.specs.Prelude.{ℕ, Bool, true, false, ◌&&◌, ◌==◌, ◌++◌, List, [], length, map, encode_utf8_all, codes, nat_lt, Option, Some, None, Result, Ok, Err, if◌then◌else◌}
+use Rattle.std.specs.Prelude.{ℕ, Bool, true, false, ◌&&◌, ◌==◌, ◌++◌, List, [], length, map, encode_utf8_all, codes, nat_lt, Option, Some, None, option_map, Result, Ok, Err, if◌then◌else◌}
 use Rattle.rls_codec.specs.Reading.{message_of}
 use Rattle.rls_ops.specs.declared.message.Message.{Message}
 use Rattle.rls_ops.specs.Spelling.{message_bytes}
@@ -17,14 +17,15 @@ use Rattle.rls_undo.specs.Undoing.{undone_by, last_entries, last_of, without_las
 use Rattle.rls_changes.specs.declared.change.Change.{Change}
 use Rattle.rls_changes.specs.ChangesLaws.{own_changes}
 use Rattle.rls_anchor.specs.declared.anchor.Anchor.{Anchor}
-use Rattle.rls_anchor.specs.declared.anchor.Anchor.TheVariants.{Beginning}
 use Rattle.rls_session.specs.declared.desk.TheConstants.{KEPT_ENTRIES}
+use Rattle.rls_session.specs.declared.cursors.Cursor.{Cursor}
+use Rattle.rls_session.specs.Cursors.{cursor_in, cursors_moved, cursors_with, moved}
 use Rattle.rls_session.specs.declared.orders.Order.{Order}
 use Rattle.rls_session.specs.declared.orders.Order.TheVariants as orders
 use Rattle.rls_session.specs.Requests.{Request, Does, Takes}
 use Rattle.rls_session.specs.Courses.{Answered, Course, Stretch, courses, stretches}
 use Rattle.rls_session.specs.ChangeLines.{changes_text}
-use Rattle.rls_session.specs.Replies.{telling_text, ok_text, undone_text, nothing_text, cursor_text, bytes_text, refused_text, failed_text, bad_text}
+use Rattle.rls_session.specs.Replies.{telling_text, no_cursor_text, ok_text, undone_text, nothing_text, cursor_text, bytes_text, refused_text, failed_text, bad_text}
 
 -- what a session asks of a state, and how it changes one, whatever states are
 pub record Kind (X : Type 0) : Type 0 where
@@ -64,40 +65,40 @@ pub record Kind (X : Type 0) : Type 0 where
   pub settled_anchor : X → Anchor → Anchor
   pub dropped : X → X
 
--- a state, what undoes the edits of this session, the cursor, and whether changes are told
+-- a state, what undoes the edits of this session, the cursors that were put, and whether changes are told
 pub record Sitting (X : Type 0) : Type 0 where
   pub state : X
   pub entries : List Entry
-  pub cursor : Anchor
+  pub cursors : List Cursor
   pub tells : Bool
 
 -- the one at the start of a session
 abbrev pub sitting_at : {X : Type 0} → X → Sitting X
-sitting_at s = record { state = s; entries = []; cursor = Beginning; tells = false }
+sitting_at s = record { state = s; entries = []; cursors = []; tells = false }
 
 -- this is answered, and this is the sitting after it
 abbrev pub says : {X : Type 0} → List ℕ → Sitting X → Answered (Sitting X)
 says reply d = record { reply = reply; state = d }
 
--- the same at this state, with these entries, with this cursor, and telling changes or not
+-- the same at this state, with these entries, with these cursors, and telling changes or not
 abbrev pub with_state : {X : Type 0} → Sitting X → X → Sitting X
-with_state d s = record { state = s; entries = d.entries; cursor = d.cursor; tells = d.tells }
+with_state d s = record { state = s; entries = d.entries; cursors = d.cursors; tells = d.tells }
 
 abbrev pub with_entries : {X : Type 0} → Sitting X → List Entry → Sitting X
-with_entries d es = record { state = d.state; entries = es; cursor = d.cursor; tells = d.tells }
+with_entries d es = record { state = d.state; entries = es; cursors = d.cursors; tells = d.tells }
 
-abbrev pub with_cursor : {X : Type 0} → Sitting X → Anchor → Sitting X
-with_cursor d a = record { state = d.state; entries = d.entries; cursor = a; tells = d.tells }
+abbrev pub with_cursors : {X : Type 0} → Sitting X → List Cursor → Sitting X
+with_cursors d cs = record { state = d.state; entries = d.entries; cursors = cs; tells = d.tells }
 
 abbrev pub with_telling : {X : Type 0} → Sitting X → Bool → Sitting X
-with_telling d on = record { state = d.state; entries = d.entries; cursor = d.cursor; tells = on }
+with_telling d on = record { state = d.state; entries = d.entries; cursors = d.cursors; tells = on }
 
 -- what is kept has caught up with the renames, so that they cost once what it takes to translate it
 abbrev pub with_caught_up : {X : Type 0} → Kind X → Sitting X → Sitting X
 with_caught_up K d = with_entries d (K.caught_up d.state d.entries)
 
-abbrev pub with_settled : {X : Type 0} → Kind X → Sitting X → Sitting X
-with_settled K d = with_cursor d (K.settled_anchor d.state d.cursor)
+abbrev pub with_settled : {X : Type 0} → Kind X → Sitting X → ℕ → Sitting X
+with_settled K d n = with_cursors d (cursors_moved (K.settled_anchor d.state) d.cursors n)
 
 -- ---- edits
 
@@ -153,13 +154,21 @@ told d cs a = says (with_changes d.tells cs a.reply) a.state
 abbrev pub told_rested : {X : Type 0} → Kind X → Sitting X → List Change → Answered (Sitting X) → Answered (Sitting X)
 told_rested K d cs a = told d (cs ++ K.released_changes (a.state).state) (rested K a)
 
--- ---- the cursor
+-- ---- cursors
 
--- the cursor is put to a place, unless that lies past the end
-abbrev pub pointed : {X : Type 0} → Kind X → Sitting X → ℕ → Answered (Sitting X)
-pointed K d at =
+-- the cursor with this number is put to a place, unless that lies past the end
+abbrev pub pointed : {X : Type 0} → Kind X → Sitting X → ℕ → ℕ → Answered (Sitting X)
+pointed K d at n =
     if nat_lt (length (K.text d.state)) at then says (refused_text (faults.Range at (length (K.text d.state)))) d
-    else says (cursor_text at) (with_cursor d (K.anchor d.state at))
+    else says (cursor_text at) (with_cursors d (cursors_with d.cursors n (K.anchor d.state at)))
+
+-- where the cursor with this number is, if there is one
+abbrev pub place_text : ℕ → Option ℕ → List ℕ
+place_text n None = no_cursor_text n
+place_text n (Some at) = cursor_text at
+
+abbrev pub placed : {X : Type 0} → Kind X → Sitting X → ℕ → Answered (Sitting X)
+placed K d n = says (place_text n (option_map (K.place d.state) (cursor_in d.cursors n))) (with_settled K d n)
 
 -- ---- messages
 
@@ -211,8 +220,8 @@ take_told K d r = told d (message_changes K d.state r) (taken K d r)
 abbrev pub done : {X : Type 0} → Kind X → Sitting X → Order → Answered (Sitting X)
 done K d (orders.Edit line) = edit_told K d (read_line K d.state line)
 done K d orders.Undo = undo_told K (with_caught_up K d)
-done K d (orders.Point at) = pointed K d at
-done K d orders.Place = says (cursor_text (K.place d.state d.cursor)) (with_settled K d)
+done K d (orders.Point at n) = pointed K d at n
+done K d (orders.Place n) = placed K d n
 done K d orders.Text = says (text_reply K d.state) d
 done K d (orders.Take len) = says [] d
 done K d (orders.Send to) = says (sent K d.state to) d
@@ -230,7 +239,7 @@ answer K d (Takes message) = take_told K d (message_of message)
 
 -- what the session goes back to, taken to the greatest epoch; of what undoes edits the last part alone
 abbrev pub settled_sitting : {X : Type 0} → Kind X → Sitting X → Sitting X
-settled_sitting K d = record { state = d.state; entries = map (K.settled d.state) (last_entries KEPT_ENTRIES d.entries); cursor = K.settled_anchor d.state d.cursor; tells = d.tells }
+settled_sitting K d = record { state = d.state; entries = map (K.settled d.state) (last_entries KEPT_ENTRIES d.entries); cursors = map (moved (K.settled_anchor d.state)) d.cursors; tells = d.tells }
 
 -- after a store it is so, and what every member has is dropped
 abbrev pub resumed : {X : Type 0} → Kind X → Sitting X → Sitting X

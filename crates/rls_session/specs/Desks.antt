@@ -9,24 +9,24 @@ use Rattle.rls_undo.specs.Plans.{epoch_in}
 use Rattle.rls_undo.specs.Undoing.{plan_over}
 use Rattle.rls_changes.specs.declared.change.Change.{Change}
 use Rattle.rls_changes.specs.Edits.{edit_changes, performed_edits}
-use Rattle.rls_anchor.specs.declared.anchor.Anchor.{Anchor}
-use Rattle.rls_anchor.specs.AnchorLaws.{IsAnchored}
+use Rattle.rls_session.specs.declared.cursors.Cursor.{Cursor}
+use Rattle.rls_session.specs.Cursors.{AreAnchored}
 use Rattle.rls_stages.specs.Lines.{line_fault}
 use Rattle.rls_session.specs.Answers.{Sitting}
 use Rattle.rls_session.specs.Replies.{refused_text}
 
-abbrev pub sitting_of : Seen → List Entry → Anchor → Bool → Sitting Seen
-sitting_of s es a tells = record { state = s; entries = es; cursor = a; tells = tells }
+abbrev pub sitting_of : Seen → List Entry → List Cursor → Bool → Sitting Seen
+sitting_of s es cs tells = record { state = s; entries = es; cursors = cs; tells = tells }
 
 -- the epoch of each entry is kept
 abbrev pub AreUndoable : Seen → List Entry → Type 0
 AreUndoable s [] = Unit {0}
 AreUndoable s (e ∷ es) = IsTrue (keeps s (epoch_in e)) × AreUndoable s es
 
--- nothing that a session goes back to was dropped: the epochs of its entries and of its cursor are kept
-pub record IsWhole (s : Seen) (es : List Entry) (a : Anchor) : Type 0 where
+-- nothing that a session goes back to was dropped: the epochs of its entries and of its cursors are kept
+pub record IsWhole (s : Seen) (es : List Entry) (cs : List Cursor) : Type 0 where
   pub undoable : AreUndoable s es
-  pub anchored : IsAnchored s a
+  pub anchored : AreAnchored s cs
 
 -- the reply tells the fault of this refused edit, which isn't want of memory
 abbrev pub TellsFault : EditError → List ℕ → Type 0

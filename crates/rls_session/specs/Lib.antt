@@ -4,6 +4,7 @@ pub mod Courses
 pub mod Intake
 pub mod Replies
 pub mod ChangeLines
+pub mod Cursors
 pub mod Answers
 pub mod Sessions
 pub mod Sent

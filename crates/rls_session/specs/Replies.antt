@@ -20,6 +20,10 @@ nothing_text = codes "no nothing\n"
 abbrev pub cursor_text : ℕ → List ℕ
 cursor_text at = line (codes "cursor " ∷ decimal at ∷ [])
 
+-- no cursor was put with this number
+abbrev pub no_cursor_text : ℕ → List ℕ
+no_cursor_text n = line (codes "no cursor " ∷ decimal n ∷ [])
+
 -- whether changes are told from now on
 abbrev pub telling_text : Bool → List ℕ
 telling_text false = codes "telling 0\n"

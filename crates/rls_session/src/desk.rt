@@ -1,6 +1,6 @@
 //! What a session works on.
 
-ghost use Rattle.std.specs.Prelude.{◌≡◌, ◌≤◌, ◌++◌, ◌↔◌, [], ℕ, Bool, Some, None, Ok, Err, IfOk, OnOk, OnErr, IsErrOf, IsTrue, IsFalse};
+ghost use Rattle.std.specs.Prelude.{◌≡◌, ◌≤◌, ◌++◌, ◌↔◌, [], ℕ, Bool, List, map, option_map, Some, None, Ok, Err, IfOk, OnOk, OnErr, IsErrOf, IsTrue, IsFalse};
 ghost use Rattle.rls_ident.specs.declared.epoch_name.EpochName.{EpochName};
 ghost use Rattle.rls_ops.specs.declared.message.Message.{Message};
 ghost use Rattle.rls_codec.specs.CodecLaws.{IsBytes};
@@ -16,18 +16,20 @@ ghost use Rattle.rls_stages.specs.Lines.{allowed};
 ghost use Rattle.rls_undo.specs.Undoing.{epoch_of, last_of, performed_over, plan_over, refusal_over, undone_by, without_last};
 ghost use Rattle.rls_changes.specs.Telling.{all_released_changes, taken_changes};
 ghost use Rattle.rls_session.specs.Answering.{IsAnswered};
-ghost use Rattle.rls_session.specs.Answers.{done, edit_told, edited, made_changes, message_changes, pointed, read_line, says, sent, settled_sitting, sitting_at, stat_reply, take_told, taken, text_reply, undo_told, undone, undone_changes, undone_last, with_caught_up, with_changes, with_cursor, with_settled, with_state, with_telling};
+ghost use Rattle.rls_session.specs.Answers.{done, edit_told, edited, made_changes, message_changes, placed, pointed, read_line, says, sent, settled_sitting, sitting_at, stat_reply, take_told, taken, text_reply, undo_told, undone, undone_changes, undone_last, with_caught_up, with_changes, with_cursors, with_settled, with_state, with_telling};
 ghost use Rattle.rls_replica.specs.Faults.{IsForeign};
 ghost use Rattle.rls_replica.specs.Names.{KeepsNames, keeps};
-ghost use Rattle.rls_anchor.specs.declared.anchor.Anchor as anchors;
+ghost use Rattle.rls_session.specs.Cursors.{cursor_in, moved};
+ghost use Rattle.rls_session.specs.declared.cursors.Cursor as cursors;
 ghost use Rattle.rls_session.specs.Desks.{AreUndoable, IsWhole, TellsFault, planned_changes, sitting_of};
-ghost use Rattle.rls_session.specs.Replies.{cursor_text, telling_text};
+ghost use Rattle.rls_session.specs.Replies.{telling_text};
 ghost use Rattle.rls_session.specs.Requests.{Does};
 ghost use Rattle.rls_session.specs.Sent.{CanSend, SendsMessage};
 ghost use Rattle.rls_session.specs.Sessions.{by_parts};
 ghost use Rattle.rls_store.specs.Stored.{AreWritable};
 
 use crate::change_lines::push_changes;
+use crate::cursors::Cursors;
 use crate::orders::Order;
 use crate::replies;
 use rls_anchor::{Anchor, AnchorError};
@@ -46,12 +48,12 @@ use std::marker::Model;
 /// How many edits can be undone that a session made before a store.
 pub const KEPT_ENTRIES: usize = 10_000;
 
-/// What a session works on: the replica, what undoes its edits, the cursor, and whether changes are told.
+/// What a session works on: the replica, what undoes its edits, the cursors, and whether changes are told.
 #[derive(Drop)]
 pub(crate) struct Desk {
     replica: Replica,
     undo: Undo,
-    cursor: Anchor,
+    cursors: Cursors,
     tells: bool,
 }
 
@@ -62,9 +64,9 @@ impl Model for Desk {
 
     ghost Value = { Sitting Seen };
 
-    ghost view = { λ d. sitting_of d.replica d.undo d.cursor d.tells };
+    ghost view = { λ d. sitting_of d.replica d.undo d.cursors d.tells };
 
-    ghost invariant = { λ d. IsWhole d.replica d.undo d.cursor };
+    ghost invariant = { λ d. IsWhole d.replica d.undo d.cursors };
 }
 
 impl Desk {
@@ -75,7 +77,7 @@ impl Desk {
         Desk {
             replica,
             undo: Undo::new(alloc),
-            cursor: Anchor::Beginning,
+            cursors: Cursors::new(alloc),
             tells: false,
         }
     }
@@ -95,8 +97,8 @@ impl Desk {
         match order {
             Order::Edit { line } => self.edit(alloc, &line),
             Order::Undo => self.undo(alloc),
-            Order::Point { at } => self.point(alloc, at),
-            Order::Place => self.place(alloc),
+            Order::Point { at, number } => self.point(alloc, at, number),
+            Order::Place { number } => self.place(alloc, number),
             Order::Text => self.text(alloc),
             Order::Send { to } => self.send(alloc, to),
             Order::Stat => self.stat(alloc),
@@ -226,41 +228,53 @@ impl Desk {
         Ok(reply)
     }
 
-    // ---- the cursor
+    // ---- cursors
 
-    // Puts the cursor to a place.
-    fn point(&mut self, alloc: Global, at: u64) -> Result<Vec<u8>, AllocError>
-        ensures answered { IfOk result (λ reply. IsAnswered (pointed by_parts self.old at) reply.items self.new) }
+    // Puts a cursor to a place.
+    fn point(&mut self, alloc: Global, at: u64, number: u8) -> Result<Vec<u8>, AllocError>
+        ensures answered { IfOk result (λ reply. IsAnswered (pointed by_parts self.old at number) reply.items self.new) }
     {
         match Anchor::at(&self.replica, at) {
             Err(AnchorError::OutOfMemory) => Err(AllocError),
             Err(AnchorError::Range { at, total }) => {
                 replies::refused(alloc, LineFault::Range { at, total })
             }
-            Ok(cursor) => {
-                self.cursor = cursor;
+            Ok(anchor) => {
+                self.cursors.put(number, anchor)?;
                 replies::cursor(alloc, at)
             }
         }
     }
 
-    // Tells where the cursor is, which catches up with the renames.
-    fn place(&mut self, alloc: Global) -> Result<Vec<u8>, AllocError>
-        ensures answered { IfOk result (λ reply. IsAnswered (says (cursor_text (place_over self.old.state self.old.cursor)) (with_settled by_parts self.old)) reply.items self.new) }
+    // Tells where a cursor is, which catches up with the renames.
+    fn place(&mut self, alloc: Global, number: u8) -> Result<Vec<u8>, AllocError>
+        ensures answered { IfOk result (λ reply. IsAnswered (placed by_parts self.old number) reply.items self.new) }
     {
-        self.settle_cursor()?;
-        self.tell_place(alloc)
+        self.settle_cursor(number)?;
+        match self.place_of(number)? {
+            Some(at) => replies::cursor(alloc, at),
+            None => replies::no_cursor(alloc, number),
+        }
     }
 
-    // Tells where the cursor is.
-    fn tell_place(&self, alloc: Global) -> Result<Vec<u8>, AllocError>
-        ensures reply { IfOk result (λ reply. reply.items ≡ cursor_text (place_over self.now.state self.now.cursor)) }
+    // Where a cursor is, if there is one with this number.
+    fn place_of(&self, number: u8) -> Result<Option<u64>, AllocError>
+        ensures place { IfOk result (λ p. p ≡ option_map (place_over self.now.state) (cursor_in self.now.cursors number)) }
     {
-        match self.cursor.place(&self.replica) {
-            Ok(at) => replies::cursor(alloc, at),
-            // A session drops nothing.
-            Err(PastError::Dropped { epoch: _epoch }) => unreachable!(),
-            Err(PastError::OutOfMemory) => Err(AllocError),
+        match self.cursors.place(&self.replica, number) {
+            Ok(place) => Ok(place),
+            Err(error) => Err(unsettled(error)),
+        }
+    }
+
+    // A cursor catches up with the renames.
+    fn settle_cursor(&mut self, number: u8) -> Result<(), AllocError>
+        ensures settled { OnOk result (self.new ≡ with_settled by_parts self.old number) }
+        ensures there { OnOk result (option_map (place_over self.new.state) (cursor_in self.new.cursors number) ≡ option_map (place_over self.old.state) (cursor_in self.old.cursors number)) }
+    {
+        match self.cursors.settle(&self.replica, number) {
+            Ok(()) => Ok(()),
+            Err(error) => Err(unsettled(error)),
         }
     }
 
@@ -346,16 +360,15 @@ impl Desk {
         if let Err(error) = self.undo.settle(&self.replica) {
             return Err(unsettled(error));
         }
-        self.settle_cursor()
+        self.settle_cursors()
     }
 
-    // Takes the cursor to the greatest epoch. Its place is as before.
-    fn settle_cursor(&mut self) -> Result<(), AllocError>
-        ensures settled { OnOk result (self.new ≡ with_cursor self.old (settled_over self.old.state self.old.cursor)) }
-        ensures there { OnOk result (place_over self.new.state self.new.cursor ≡ place_over self.old.state self.old.cursor) }
+    // Takes the cursors to the greatest epoch.
+    fn settle_cursors(&mut self) -> Result<(), AllocError>
+        ensures settled { OnOk result (self.new ≡ with_cursors self.old (map (moved (settled_over self.old.state)) self.old.cursors)) }
         ensures state { self.new.state ≡ self.old.state }
     {
-        match self.cursor.settle(&self.replica) {
+        match self.cursors.settle_all(&self.replica) {
             Ok(()) => Ok(()),
             Err(error) => Err(unsettled(error)),
         }
@@ -363,7 +376,7 @@ impl Desk {
 
     /// Drops what every member has.
     pub(crate) fn drop_stable(&mut self)
-        requires lasts { IsWhole (dropped self.old.state) self.old.entries self.old.cursor }
+        requires lasts { IsWhole (dropped self.old.state) self.old.entries self.old.cursors }
         ensures dropped { self.new ≡ with_state self.old (dropped self.old.state) }
     {
         self.replica.drop_stable();
@@ -415,7 +428,7 @@ fn undo_last(
     changes: &mut Vec<Change>,
 ) -> Result<Vec<u8>, AllocError>
     requires undoable { AreUndoable replica.old undo.old }
-    ensures answered { IfOk result (λ reply. (a : anchors.Anchor) (t : Bool) → IsAnswered (undone by_parts (sitting_of replica.old undo.old a t) (last_of undo.old)) reply.items (sitting_of replica.new undo.new a t)) }
+    ensures answered { IfOk result (λ reply. (a : List cursors.Cursor) (t : Bool) → IsAnswered (undone by_parts (sitting_of replica.old undo.old a t) (last_of undo.old)) reply.items (sitting_of replica.new undo.new a t)) }
     ensures undoable { AreUndoable replica.new undo.new }
     ensures names { KeepsNames replica.old replica.new }
     ensures changes { IsTrue tells → OnOk result (changes.new.items ≡ changes.old.items ++ undone_changes by_parts replica.old (last_of undo.old)) }

@@ -3,6 +3,7 @@
 
 mod answering;
 mod change_lines;
+mod cursors;
 mod desk;
 mod intake;
 mod orders;

@@ -2,7 +2,7 @@
 
 ghost use Rattle.std.specs.Prelude.{◌≡◌, length, IfOk};
 ghost use Rattle.rls_report.specs.Reports.{take_text};
-ghost use Rattle.rls_session.specs.Replies.{ok_text, undone_text, nothing_text, cursor_text, telling_text, bytes_text, refused_text, failed_text, bad_text};
+ghost use Rattle.rls_session.specs.Replies.{ok_text, undone_text, nothing_text, cursor_text, no_cursor_text, telling_text, bytes_text, refused_text, failed_text, bad_text};
 
 use rls_model::Taken;
 use rls_report::{CommandError, Failure, LineFault, failure_line, fault_text, taken_report};
@@ -34,6 +34,13 @@ pub(crate) fn cursor(alloc: Global, at: u64) -> Result<Vec<u8>, AllocError>
     ensures text { IfOk result (λ text. text.items ≡ cursor_text at) }
 {
     Ok(format!(in alloc; "cursor {at}\n")?.into_bytes())
+}
+
+/// No cursor was put with this number.
+pub(crate) fn no_cursor(alloc: Global, number: u8) -> Result<Vec<u8>, AllocError>
+    ensures text { IfOk result (λ text. text.items ≡ no_cursor_text number) }
+{
+    Ok(format!(in alloc; "no cursor {number}\n")?.into_bytes())
 }
 
 /// Whether changes are told from now on.

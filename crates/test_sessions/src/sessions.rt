@@ -116,6 +116,9 @@ const ROWS: &[&str] = &[
     // Other requests tell none, and a message that isn't there to its end is bad.
     "c 1\nk 2\np\nm 0\nm 5\nabcd | telling 1\ncursor 2\ncursor 2\nno malformed at 0\nchanges 0\nbad\nsaved\n | same",
     "c\nc 2\nc 01\nc 1 \nc  1\nc 1 1\n | bad\nbad\nbad\nbad\nbad\nbad\nsaved\n | same",
+    // Cursors with numbers.
+    "k 1 0\nk 5 63\nk 3 7\np 7\np 63\np\np 0\np 8\nk 4 7\ni 2 AB\nr\np 7\np 63\np 0\nk 8 7\np 7\n | cursor 1\ncursor 5\ncursor 3\ncursor 3\ncursor 5\ncursor 1\ncursor 1\nno cursor 8\ncursor 4\nok 2\nok 3\ncursor 6\ncursor 7\ncursor 1\nno range 8 7\ncursor 6\nsaved\n | other",
+    "p 0\np 1\np 64\np 01\np 1 \nk 1 64\nk 1  1\nk 1 1 1\nk x 1\nk 9 1\np 1\n | cursor 0\nno cursor 1\nbad\nbad\nbad\nbad\nbad\nbad\nbad\nno range 9 5\nno cursor 1\nsaved\n | same",
     // An undo and a cursor over two renames.
     "k 3\ni 1 XY\nr\nr\np\nu\np\nr\np\nu\nt\n | cursor 3\nok 2\nok 3\nok 4\ncursor 5\nundone 1 2\ncursor 3\nok 6\ncursor 3\nno nothing\ntext 5\nhello\nsaved\n | other",
 ];

@@ -12,7 +12,7 @@ use Rattle.rls_session.proofs.serving.store_and_go_on.Goals as goal
 pub drop_stable-requires : goal.drop_stable-requires
 drop_stable-requires g c =
     let d = c.args.desk.now in
-    record { lasts = subst (λ (x : Sitting Seen). IsWhole (dropped x.state) x.entries x.cursor) (sym c.in_default.ensures.settled) (whole_left d.state (last_entries KEPT_ENTRIES d.entries) d.cursor c.in_default.ensures.sane) }
+    record { lasts = subst (λ (x : Sitting Seen). IsWhole (dropped x.state) x.entries x.cursors) (sym c.in_default.ensures.settled) (whole_left d.state (last_entries KEPT_ENTRIES d.entries) d.cursors c.in_default.ensures.sane) }
 
 pub returns-in-Ok-clause-writable : goal.returns-in-Ok-clause-writable
 returns-in-Ok-clause-writable g c =

@@ -11,4 +11,4 @@ unreachable-requires c =
     none_dropped s.replica s.undo e._epoch (c.self.invariant).undoable d.1
 
 pub invariant_of-self : goal.invariant_of-self
-invariant_of-self c = let s = c.self.inside in whole_caught_up c.catch_up.result s.replica s.undo c.catch_up.new.self s.cursor c.catch_up.ensures.entries c.catch_up.ensures.stays c.self.invariant
+invariant_of-self c = let s = c.self.inside in whole_caught_up c.catch_up.result s.replica s.undo c.catch_up.new.self s.cursors c.catch_up.ensures.entries c.catch_up.ensures.stays c.self.invariant

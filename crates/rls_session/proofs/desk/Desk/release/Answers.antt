@@ -2,7 +2,7 @@ use Rattle.rls_session.proofs.Whole.{whole_on}
 use Rattle.rls_session.proofs.desk.Desk.release.Goals as goal
 
 pub invariant_of-self : goal.invariant_of-self
-invariant_of-self c = let s = c.self.inside in whole_on s.replica c.release_all.new.replica s.undo s.cursor c.release_all.ensures.names c.self.invariant
+invariant_of-self c = let s = c.self.inside in whole_on s.replica c.release_all.new.replica s.undo s.cursors c.release_all.ensures.names c.self.invariant
 
 pub invariant_of-self-2 : goal.invariant_of-self-2
-invariant_of-self-2 c = let s = c.self.inside in whole_on s.replica c.release_all-2.new.self s.undo s.cursor c.release_all-2.ensures.names c.self.invariant
+invariant_of-self-2 c = let s = c.self.inside in whole_on s.replica c.release_all-2.new.self s.undo s.cursors c.release_all-2.ensures.names c.self.invariant

@@ -9,16 +9,16 @@ use Rattle.rls_session.proofs.desk.Desk.settle.Goals as goal
 pub unsettled-requires : goal.unsettled-requires
 unsettled-requires c =
     let s = c.self.inside in
-    let whole = whole_last s.replica s.undo c.keep_last.new.self s.cursor KEPT_ENTRIES c.keep_last.ensures.entries c.self.invariant in
+    let whole = whole_last s.replica s.undo c.keep_last.new.self s.cursors KEPT_ENTRIES c.keep_last.ensures.entries c.self.invariant in
     record { kept = λ e is. none_dropped s.replica c.keep_last.new.self e whole.undoable ((c.settle.ensures.dropped e).0 (c.in-Err.is ∙ ap Err is)) }
 
 pub invariant_of-self : goal.invariant_of-self
 invariant_of-self c =
     let s = c.self.inside in
-    subst (λ (es : List Entry). IsWhole s.replica es s.cursor) (sym c.in-Err.ensures.stays) (whole_last s.replica s.undo c.keep_last.new.self s.cursor KEPT_ENTRIES c.keep_last.ensures.entries c.self.invariant)
+    subst (λ (es : List Entry). IsWhole s.replica es s.cursors) (sym c.in-Err.ensures.stays) (whole_last s.replica s.undo c.keep_last.new.self s.cursors KEPT_ENTRIES c.keep_last.ensures.entries c.self.invariant)
 
 pub invariant_of-self-2 : goal.invariant_of-self-2
 invariant_of-self-2 c =
     let s = c.self.inside in
-    let whole = whole_last s.replica s.undo c.keep_last.new.self s.cursor KEPT_ENTRIES c.keep_last.ensures.entries c.self.invariant in
-    subst (λ (es : List Entry). IsWhole s.replica es s.cursor) (sym c.in_default.ensures.entries) (whole_entries s.replica c.keep_last.new.self s.cursor whole)
+    let whole = whole_last s.replica s.undo c.keep_last.new.self s.cursors KEPT_ENTRIES c.keep_last.ensures.entries c.self.invariant in
+    subst (λ (es : List Entry). IsWhole s.replica es s.cursors) (sym c.in_default.ensures.entries) (whole_entries s.replica c.keep_last.new.self s.cursors whole)
