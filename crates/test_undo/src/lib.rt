@@ -4,8 +4,12 @@
 #[cfg(test)]
 mod changing;
 #[cfg(test)]
+mod courses;
+#[cfg(test)]
 mod following;
 #[cfg(test)]
 mod stepping;
+#[cfg(test)]
+mod together;
 #[cfg(test)]
 mod undoing;

@@ -32,29 +32,38 @@ enum Move {
     Named,
     /// Only so many steps of so many characters are left.
     Forget(usize, u64),
+    /// The same once there are many names, of which those go that aren't needed.
+    Keep(usize, u64),
     Settle,
 }
 
 /// A move, its answer, and the text that the first member then shows, with ` | ` between them.
 type Row = &'static str;
 
-/// The move: `edit`, `pass` or `other` with an edit after it, `forget 2 100`, or the words for the others.
+/// The move: `edit`, `pass` or `other` with an edit after it, `forget 2 100`, `keep 2 100`, or the words for the others.
 fn move_of(words: &'static str) -> Result<Move, Fail> {
     let (verb, rest) = word(words);
     match verb {
         "edit" => Ok(Move::Edit(change_of(rest)?)),
         "pass" => Ok(Move::Pass(change_of(rest)?)),
         "other" => Ok(Move::Other(change_of(rest)?)),
-        "forget" => forget_of(rest),
+        "forget" => {
+            let (steps, chars) = bounds_of(rest)?;
+            Ok(Move::Forget(steps, chars))
+        }
+        "keep" => {
+            let (steps, chars) = bounds_of(rest)?;
+            Ok(Move::Keep(steps, chars))
+        }
         _ => plain_move(words).ok_or_else(|| Fail::new(words)),
     }
 }
 
 /// What is left of the steps and of their characters.
-fn forget_of(words: &'static str) -> Result<Move, Fail> {
+fn bounds_of(words: &'static str) -> Result<(usize, u64), Fail> {
     let (steps, rest) = number(words)?;
     let (chars, _) = number(rest)?;
-    Ok(Move::Forget(steps, chars))
+    Ok((steps, chars))
 }
 
 /// The move that has just a name.
@@ -81,7 +90,10 @@ struct Pair {
     steps: Steps,
 }
 
-fn text_of_steps(alloc: Global, answer: Result<usize, StepError>) -> Result<String, AllocError> {
+pub(crate) fn text_of_steps(
+    alloc: Global,
+    answer: Result<usize, StepError>,
+) -> Result<String, AllocError> {
     match answer {
         Ok(steps) => format!(in alloc; "{steps}"),
         Err(error) => format!(in alloc; "{error:?}"),
@@ -100,7 +112,7 @@ fn text_of_settled(alloc: Global, answer: Result<(), PastError>) -> Result<Strin
 }
 
 /// An edit in steps.
-fn edit(
+pub(crate) fn edit(
     alloc: Global,
     steps: &mut Steps,
     replica: &mut Replica,
@@ -111,34 +123,46 @@ fn edit(
 }
 
 /// An edit that is no step.
-fn pass(alloc: Global, replica: &mut Replica, change: Change) -> Result<String, AllocError> {
+pub(crate) fn pass(
+    alloc: Global,
+    replica: &mut Replica,
+    change: Change,
+) -> Result<String, AllocError> {
     let edit = edit_of(alloc, change)?;
     edited(alloc, replica.edit(&edit))
 }
 
 /// The one's message is taken by the other.
-fn give(alloc: Global, from: &Replica, to: &mut Replica) -> Result<String, Fail> {
+pub(crate) fn give(alloc: Global, from: &Replica, to: &mut Replica) -> Result<String, Fail> {
     let message = letter(from, to)?;
     let taken = takes(to, message)?.is_ok();
     Ok(format!(in alloc; "{taken}")?)
 }
 
-fn undo(alloc: Global, steps: &mut Steps, replica: &mut Replica) -> Result<String, AllocError> {
+pub(crate) fn undo(
+    alloc: Global,
+    steps: &mut Steps,
+    replica: &mut Replica,
+) -> Result<String, AllocError> {
     let mut changes = Vec::new(alloc);
     text_of_steps(alloc, steps.undo(replica, &mut changes))
 }
 
-fn redo(alloc: Global, steps: &mut Steps, replica: &mut Replica) -> Result<String, AllocError> {
+pub(crate) fn redo(
+    alloc: Global,
+    steps: &mut Steps,
+    replica: &mut Replica,
+) -> Result<String, AllocError> {
     let mut changes = Vec::new(alloc);
     text_of_steps(alloc, steps.redo(replica, &mut changes))
 }
 
-fn close(alloc: Global, steps: &mut Steps) -> Result<String, AllocError> {
+pub(crate) fn close(alloc: Global, steps: &mut Steps) -> Result<String, AllocError> {
     steps.close();
     String::from_str(alloc, "closed")
 }
 
-fn count(alloc: Global, steps: &Steps) -> Result<String, AllocError> {
+pub(crate) fn count(alloc: Global, steps: &Steps) -> Result<String, AllocError> {
     let (undoable, redoable) = (steps.undoable(), steps.redoable());
     format!(in alloc; "{undoable} {redoable}")
 }
@@ -177,6 +201,10 @@ fn look(alloc: Global, pair: &mut Pair, what: &Move) -> Result<String, AllocErro
         Move::Drop => drop_stable(alloc, &mut pair.first),
         Move::Close => close(alloc, &mut pair.steps),
         Move::Settle => text_of_settled(alloc, pair.steps.settle(&pair.first)),
+        Move::Keep(most, chars) => text_of_settled(
+            alloc,
+            pair.steps.keep_within(&pair.first, *most, *chars),
+        ),
         Move::Forget(most, chars) => forget(alloc, &mut pair.steps, *most, *chars),
         Move::Named => named(alloc, &pair.steps),
         _ => count(alloc, &pair.steps),
@@ -189,7 +217,7 @@ fn is_answered(alloc: Global, pair: &mut Pair, what: &Move, expected: &str) -> R
 }
 
 /// Whether the replica shows this text.
-fn shows(replica: &Replica, text: &str) -> Result<bool, Fail> {
+pub(crate) fn shows(replica: &Replica, text: &str) -> Result<bool, Fail> {
     Ok(replica.text()?.to_utf8()?.as_str() == text)
 }
 
@@ -369,6 +397,51 @@ const FORGOTTEN: &[Row] = &[
     "undo | Nothing | bcde",
 ];
 
+/// Names go that no step needs: older ones of labels that came back, and those of groups that are forgotten.
+const SWEPT: &[Row] = &[
+    "edit insert 0 abcd | 1 | abcd",
+    "keep 9 99 | Ok(()) | abcd",
+    "named | 4 | abcd",
+    "undo | 1 | ",
+    "redo | 1 | abcd",
+    "named | 8 | abcd",
+    "keep 9 99 | Ok(()) | abcd",
+    "named | 8 | abcd",
+    "undo | 1 | ",
+    "redo | 1 | abcd",
+    "named | 12 | abcd",
+    "keep 9 99 | Ok(()) | abcd",
+    "named | 4 | abcd",
+    "undo | 1 | ",
+    "redo | 1 | abcd",
+    "edit insert 4 ef | 8 | abcdef",
+    "named | 10 | abcdef",
+    "keep 1 99 | Ok(()) | abcdef",
+    "named | 2 | abcdef",
+    "count | 1 0 | abcdef",
+    "undo | 1 | abcd",
+    "named | 3 | abcd",
+    "undo | Nothing | abcd",
+    "redo | 1 | abcdef",
+    "pass rename | 11 | abcdef",
+    "undo | 1 | abcd",
+];
+
+/// A step of which others deleted all is taken back with no edit; the one before it is refused, and stays.
+const REFUSED: &[Row] = &[
+    "edit insert 0 ab | 1 | ab",
+    "edit insert 2 c | 2 | abc",
+    "give | true | abc",
+    "other delete 2 1 | 1 | abc",
+    "take | true | ab",
+    "edit leave | 3 | ab",
+    "undo | Edit(Left) | ab",
+    "count | 1 0 | ab",
+    "undo | Edit(Left) | ab",
+    "redo | Nothing | ab",
+    "count | 1 0 | ab",
+];
+
 /// The tables, each with the size of the first member's group.
 const TABLES: &[(u32, &[Row])] = &[
     (2, ALL_THE_WAY),
@@ -377,6 +450,8 @@ const TABLES: &[(u32, &[Row])] = &[
     (1, DROPPED),
     (1, SETTLED),
     (2, FORGOTTEN),
+    (2, SWEPT),
+    (2, REFUSED),
 ];
 
 #[test]
