@@ -32,7 +32,7 @@ use std::alloc::Global;
 /// the n-th reply is the one that the definition gives to the n-th request after those before it. So each request is answered once, in
 /// order, and none is passed over. An undo is a request like any other: it takes back the last entry that isn't taken back yet, or is
 /// refused and leaves that entry the last one, so that none is skipped. After a `w` the session goes on from the replica that was stored,
-/// without what every member has; what undoes its edits and the cursor stay.
+/// without what every member has; what undoes the last 10,000 edits, the cursors, and whether changes are told stay.
 ///
 /// The keeper is called once to load, before the input is read, and then once for each store. A store that fails is the end. The first
 /// device that fails ends the session, and gives the status: no device is called after it, but for the error line.
