@@ -49,14 +49,14 @@ pub on_piece : (h : Labelled) (at n : ℕ) → piece_on over (on h) at n ≡ cut
 on_piece h at n =
     ap (λ (ms : List Mark). Cut (labels_in (take n (drop at ms))) (take n (drop at (text_over h.seen))) (left_of ms at) (label_at (slice_get ms (at + n)))) (on_marks h)
 
-on_ranges : (h : Labelled) (labels : List ℕ) → ranges_on over (on h) labels ≡ ranges_over h labels
+pub on_ranges : (h : Labelled) (labels : List ℕ) → ranges_on over (on h) labels ≡ ranges_over h labels
 on_ranges h labels = ap (λ (ms : List Mark). reverse (ranges_of (label_places 0 labels ms))) (on_marks h)
 
 on_gone : (h : Labelled) (left : Option ℕ) → gone_on over (on h) left ≡ gone_place h left
 on_gone h None = refl
 on_gone h (Some l) = refl
 
-on_place : (h : Labelled) (left right : Option ℕ) → place_on over (on h) left right ≡ place_over h left right
+pub on_place : (h : Labelled) (left right : Option ℕ) → place_on over (on h) left right ≡ place_over h left right
 on_place h left right =
     ap (λ (ms : List Mark). return_place ms left right (gone_on over (on h) left)) (on_marks h) ∙ ap (λ (i : ℕ). return_place (marks (marked h)) left right i) (on_gone h left)
 
@@ -139,7 +139,7 @@ taken_stop e h (Cut labels cs left right) new group old other n f part =
 abbrev pub stand_at : Labelled → List Step → List Step → Option EditError → Stand Seen
 stand_at h from to f = record { held = on h; from = reverse from; to = to; fault = f }
 
-last_first : (from front : List Step) (x : Step) → from ≡ front ++ x ∷ [] → reverse from ≡ x ∷ reverse front
+pub last_first : (from front : List Step) (x : Step) → from ≡ front ++ x ∷ [] → reverse from ≡ x ∷ reverse front
 last_first from front x e = ap reverse e ∙ reverse-append front (x ∷ [])
 
 abbrev next_on : ℕ → Labelled → List Step → List Step → Step → Left Seen → Stand Seen

@@ -33,5 +33,6 @@ pub mod Newest
 pub mod Swept
 pub mod Keeping
 pub mod Grounded
+pub mod EditsTold
 pub mod Agreeing
 pub mod Performing

@@ -8,6 +8,9 @@ ghost use Rattle.rls_steps.specs.Marks.{Piece, Put, Cut};
 ghost use Rattle.rls_steps.specs.Courses.{cut_ranges, taken_back, ranges_over, FitsBack, FitRanges};
 ghost use Rattle.rls_steps.specs.Recorded.{held_by, steps_of};
 ghost use Rattle.rls_steps.specs.Returning.{back_fault, ranges_fault, IsPartBack, IsPartCut};
+ghost use Rattle.rls_changes.specs.Edits.{edit_changes};
+ghost use Rattle.rls_model.specs.declared.edit.EditError.{EditError};
+ghost use Rattle.rls_steps.specs.Grounds.{over, held_at, cut_edits, taken_edits};
 ghost use Rattle.rls_steps.specs.StepChanges.{piece_changes, range_change, AreTold};
 
 use crate::changing::{cut, put};
@@ -37,6 +40,7 @@ pub(crate) fn take_back(
     ensures epochs { replica.new.epochs ≡ replica.old.epochs }
     ensures changes { OnOk result (changes.new.items ≡ changes.old.items ++ piece_changes (held_by replica.old next.old names.old) step.now.piece) }
     ensures told { AreTold (piece_changes (held_by replica.old next.old names.old) step.now.piece) changes.old.items changes.new.items (text_over replica.old) (text_over replica.new) }
+    ensures edits { IfErr result (λ e. (e ≡ EditError.OutOfMemory → ⊥) → changes.new.items ≡ changes.old.items ++ edit_changes (taken_edits over (held_at replica.old next.old names.old) step.now.piece)) }
 {
     match &step.piece {
         Piece::Put { labels } => take_out(
@@ -77,6 +81,7 @@ fn take_out(
     ensures epochs { replica.new.epochs ≡ replica.old.epochs }
     ensures changes { OnOk result (changes.new.items ≡ changes.old.items ++ piece_changes (held_by replica.old next.old names.old) (Put labels.now)) }
     ensures told { AreTold (piece_changes (held_by replica.old next.old names.old) (Put labels.now)) changes.old.items changes.new.items (text_over replica.old) (text_over replica.new) }
+    ensures edits { IfErr result (λ e. (e ≡ EditError.OutOfMemory → ⊥) → changes.new.items ≡ changes.old.items ++ edit_changes (taken_edits over (held_at replica.old next.old names.old) (Put labels.now))) }
 {
     let Ok(ranges) = ranges(replica, names, labels) else {
         return Err(EditError::OutOfMemory);
@@ -105,6 +110,7 @@ fn cut_all(
     ensures epochs { replica.new.epochs ≡ replica.old.epochs }
     ensures changes { OnOk result (changes.new.items ≡ changes.old.items ++ map range_change ranges.now.items) }
     ensures told { AreTold (map range_change ranges.now.items) changes.old.items changes.new.items (text_over replica.old) (text_over replica.new) }
+    ensures edits { IfErr result (λ e. (e ≡ EditError.OutOfMemory → ⊥) → changes.new.items ≡ changes.old.items ++ edit_changes (cut_edits over (held_at replica.old next.old names.old) ranges.now.items)) }
 {
     'cuts: for i in 0..ranges.len() {
         rely!(replica.sane());
@@ -142,6 +148,7 @@ fn put_back(
     ensures epochs { replica.new.epochs ≡ replica.old.epochs }
     ensures changes { OnOk result (changes.new.items ≡ changes.old.items ++ piece_changes (held_by replica.old next.old names.old) (Cut labels.now text.now left right)) }
     ensures told { AreTold (piece_changes (held_by replica.old next.old names.old) (Cut labels.now text.now left right)) changes.old.items changes.new.items (text_over replica.old) (text_over replica.new) }
+    ensures edits { IfErr result (λ e. (e ≡ EditError.OutOfMemory → ⊥) → changes.new.items ≡ changes.old.items ++ edit_changes (taken_edits over (held_at replica.old next.old names.old) (Cut labels.now text.now left right))) }
 {
     let Ok(at) = place(replica, names, left, right) else {
         return Err(EditError::OutOfMemory);

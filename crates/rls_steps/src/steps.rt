@@ -11,7 +11,8 @@ ghost use Rattle.rls_steps.specs.Courses.{Back, Again, course, MayRun, Copies, S
 ghost use Rattle.rls_steps.specs.Forgetting.{forgotten, without_first};
 ghost use Rattle.rls_steps.specs.Index.{AreApart};
 ghost use Rattle.rls_steps.specs.Groups.{group_size, group_count, next_group, turned, IsStopped};
-ghost use Rattle.rls_steps.specs.Grounds.{over, recorded_on, back_on, again_on, closed};
+ghost use Rattle.rls_changes.specs.Edits.{edit_changes};
+ghost use Rattle.rls_steps.specs.Grounds.{over, recorded_on, back_edits, again_edits, back_on, again_on, closed};
 ghost use Rattle.rls_steps.specs.StepChanges.{back_changes, AreTold};
 ghost use Rattle.rls_steps.specs.Recorded.{unused, settled, steps_over, names_over, IsRecorded};
 ghost use Rattle.rls_steps.specs.Sweeping.{swept, kept_within, with_newest};
@@ -363,6 +364,8 @@ impl Steps {
         ensures refused { (f : EditError) → IsErrOf result (StepError.Edit f) → back_on over replica.old self.old ≡ record { steps = group_size self.old.past; fault = Some f; state = replica.new; recorded = self.new } }
         ensures names { KeepsNames replica.old replica.new }
         ensures changes { OnOk result (changes.new.items ≡ changes.old.items ++ back_changes (group_size self.old.past) (steps_over replica.old self.old)) }
+        ensures edits { OnOk result (changes.new.items ≡ changes.old.items ++ edit_changes (back_edits over replica.old self.old)) }
+        ensures refused_edits { (f : EditError) → IsErrOf result (StepError.Edit f) → changes.new.items ≡ changes.old.items ++ edit_changes (back_edits over replica.old self.old) }
         ensures none_told { IsErrOf result StepError.Nothing → changes.new.items ≡ changes.old.items }
         ensures dropped_told { (e : EpochName) → IsErrOf result (StepError.Dropped e) → changes.new.items ≡ changes.old.items }
 
@@ -409,6 +412,8 @@ impl Steps {
         ensures refused { (f : EditError) → IsErrOf result (StepError.Edit f) → again_on over replica.old self.old ≡ record { steps = group_size self.old.future; fault = Some f; state = replica.new; recorded = self.new } }
         ensures names { KeepsNames replica.old replica.new }
         ensures changes { OnOk result (changes.new.items ≡ changes.old.items ++ back_changes (group_size self.old.future) (turned (steps_over replica.old self.old))) }
+        ensures edits { OnOk result (changes.new.items ≡ changes.old.items ++ edit_changes (again_edits over replica.old self.old)) }
+        ensures refused_edits { (f : EditError) → IsErrOf result (StepError.Edit f) → changes.new.items ≡ changes.old.items ++ edit_changes (again_edits over replica.old self.old) }
         ensures none_told { IsErrOf result StepError.Nothing → changes.new.items ≡ changes.old.items }
         ensures dropped_told { (e : EpochName) → IsErrOf result (StepError.Dropped e) → changes.new.items ≡ changes.old.items }
 

@@ -7,7 +7,8 @@ ghost use Rattle.rls_steps.specs.declared.piece.Step.{Step};
 ghost use Rattle.rls_steps.specs.Courses.{Back, moved, MayMove, course, MayRun};
 ghost use Rattle.rls_steps.specs.Groups.{group_size, group_count, group_before, goes_on, in_front, stacked, IsStopped};
 ghost use Rattle.rls_model.specs.declared.edit.EditError.{EditError};
-ghost use Rattle.rls_steps.specs.Grounds.{over, held_at, steps_on};
+ghost use Rattle.rls_changes.specs.Edits.{edit_changes};
+ghost use Rattle.rls_steps.specs.Grounds.{over, held_at, steps_edits, steps_on};
 ghost use Rattle.rls_steps.specs.Recorded.{held_by, pieces_of};
 ghost use Rattle.rls_steps.specs.Returning.{back_fault, IsPartBack};
 ghost use Rattle.rls_steps.specs.StepChanges.{back_changes, first_changes, AreTold};
@@ -38,6 +39,8 @@ pub(crate) fn back(
     ensures epochs { replica.new.epochs ≡ replica.old.epochs }
     ensures changes { OnOk result (changes.new.items ≡ changes.old.items ++ back_changes (group_size from.old.items) (stacked (held_by replica.old next.old names.old) from.old.items to.old.items)) }
     ensures told { AreTold (back_changes (group_size from.old.items) (stacked (held_by replica.old next.old names.old) from.old.items to.old.items)) changes.old.items changes.new.items (text_over replica.old) (text_over replica.new) }
+    ensures edits { OnOk result (changes.new.items ≡ changes.old.items ++ edit_changes (steps_edits over (group_size from.old.items) (held_at replica.old next.old names.old) (reverse from.old.items))) }
+    ensures refused_edits { IfErr result (λ e. (e ≡ EditError.OutOfMemory → ⊥) → changes.new.items ≡ changes.old.items ++ edit_changes (steps_edits over (group_size from.old.items) (held_at replica.old next.old names.old) (reverse from.old.items))) }
 {
     let mut done: usize = 0;
     if from.len() == 0 {
@@ -82,6 +85,8 @@ fn back_one(
     ensures epochs { replica.new.epochs ≡ replica.old.epochs }
     ensures changes { OnOk result (changes.new.items ≡ changes.old.items ++ first_changes (held_by replica.old next.old names.old) (pieces_of from.old.items)) }
     ensures told { AreTold (first_changes (held_by replica.old next.old names.old) (pieces_of from.old.items)) changes.old.items changes.new.items (text_over replica.old) (text_over replica.new) }
+    ensures edits { OnOk result ((k : ℕ) → changes.new.items ++ edit_changes (steps_edits over k (held_at replica.new next.new names.new) (reverse from.new.items)) ≡ changes.old.items ++ edit_changes (steps_edits over (suc k) (held_at replica.old next.old names.old) (reverse from.old.items))) }
+    ensures refused_edits { IfErr result (λ e. (e ≡ EditError.OutOfMemory → ⊥) → (k : ℕ) → changes.new.items ≡ changes.old.items ++ edit_changes (steps_edits over (suc k) (held_at replica.old next.old names.old) (reverse from.old.items))) }
 {
     let n = from.len();
     match take_back(replica, names, next, &from[n - 1], to, changes) {

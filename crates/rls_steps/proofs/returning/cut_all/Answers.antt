@@ -7,6 +7,7 @@ use Rattle.rls_steps.specs.Labelled.{Names, Labelled}
 use Rattle.std.proofs.lemmas.Option.{slice_get_read}
 use Rattle.rls_steps.specs.Recorded.{held_by}
 use Rattle.rls_steps.proofs.Cutting.{next_cut, fault_at, part_cut}
+use Rattle.rls_steps.proofs.EditsTold.{range_edits}
 use Rattle.rls_steps.proofs.StepChanged.{cut_back, next_range, ranges_told}
 use Rattle.rls_steps.proofs.returning.cut_all.Goals as goal
 
@@ -69,3 +70,17 @@ returns-in-Err-clause-told c =
     ranges_told c.args.ranges.now.items c.cuts.i c.args.changes.now.items old c.truncate.new.self.items (text_over c.args.replica.now) (text_over c.cuts.replica) (text_over c.cut.new.replica) c.cuts.invariant.changes
     (cut_back old _ c.push_deletion.new.changes.items c.truncate.new.self.items c.len-before.result (c.len-before.ensures ∙ c.cuts.changes.ok.0) c.in-Ok.ensures.ok c.truncate.ensures.items)
     (ap (λ (s : Seen). text_over s) c.in-Err.ensures.err)
+
+pub returns-in-Err-clause-edits : goal.returns-in-Err-clause-edits
+returns-in-Err-clause-edits c = λ u.
+    let h = held_by c.args.replica.now c.args.next.now c.args.names.now in
+    let g = held_by c.cuts.replica c.cuts.next c.cuts.names in
+    let rs = c.args.ranges.now.items in
+    let r = c.index.result.now in
+    let v = c.cuts.invariant in
+    let old = c.cuts.changes.items in
+    range_edits h g rs c.cuts.i r c.in-Err.error c.args.changes.now.items old c.truncate.new.self.items u (slice_get_read rs (length rs) c.cuts.i r refl (omega (arith, c.cuts-test.true)) c.index.ensures) v.fit v.held c.in-Err.ensures.fault v.changes.told
+    (cut_back old _ c.push_deletion.new.changes.items c.truncate.new.self.items c.len-before.result (c.len-before.ensures ∙ c.cuts.changes.ok.0) c.in-Ok.ensures.ok c.truncate.ensures.items)
+
+pub returns-in_default-clause-edits : goal.returns-in_default-clause-edits
+returns-in_default-clause-edits c = λ u. absurd (u refl)

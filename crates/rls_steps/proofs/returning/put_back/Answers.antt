@@ -1,6 +1,7 @@
 use Rattle.std.proofs.Common.{◌∙◌}
 use Rattle.rls_steps.specs.Recorded.{held_by}
 use Rattle.rls_steps.proofs.Cutting.{put_done, put_fault}
+use Rattle.rls_steps.proofs.EditsTold.{put_edits}
 use Rattle.rls_steps.proofs.StepChanged.{cut_back, none_told, put_told}
 use Rattle.rls_steps.proofs.returning.put_back.Goals as goal
 
@@ -37,3 +38,11 @@ pub returns-in-Err-clause-told : goal.returns-in-Err-clause-told
 returns-in-Err-clause-told c =
     let old = c.args.changes.now.items in
     none_told _ old c.truncate.new.self.items c.args.replica.now c.put.new.replica (cut_back old _ c.push_insertion.new.changes.items c.truncate.new.self.items c.len-before.result (c.len-before.ensures ∙ c.args.changes.now.ok.0) c.in-Ok-push_insertion.ensures.ok c.truncate.ensures.items) c.in-Err.ensures.err
+
+pub returns-in-Err-clause-edits : goal.returns-in-Err-clause-edits
+returns-in-Err-clause-edits c = λ u.
+    let h = held_by c.args.replica.now c.args.next.now c.args.names.now in
+    let old = c.args.changes.now.items in
+    put_edits h c.args.labels.now c.args.text.now c.args.left c.args.right c.in-Err.error old c.truncate.new.self.items u
+    (put_fault h c.in-Ok.at c.in-Ok-copy.text c.args.labels.now c.args.text.now c.args.left c.args.right c.in-Err.error (c.in-Ok.ensures.place c.args.next.now) c.in-Ok-copy.ensures.copy c.in-Err.ensures.fault)
+    (cut_back old _ c.push_insertion.new.changes.items c.truncate.new.self.items c.len-before.result (c.len-before.ensures ∙ c.args.changes.now.ok.0) c.in-Ok-push_insertion.ensures.ok c.truncate.ensures.items)

@@ -1,10 +1,11 @@
-use Rattle.std.proofs.Common.{◌≡◌, ◌++◌, [], ℕ, List, map, subst}
+use Rattle.std.proofs.Common.{◌≡◌, ◌++◌, [], ℕ, List, map, refl, subst}
 use Rattle.rls_seen.specs.Edits.{IsFault}
 use Rattle.rls_seen.specs.Seen.{text_over}
 use Rattle.rls_steps.specs.Courses.{FitRanges, cut_ranges}
 use Rattle.rls_steps.specs.Recorded.{held_by, steps_of}
 use Rattle.rls_steps.specs.Returning.{ranges_fault, IsPartCut}
 use Rattle.rls_steps.specs.StepChanges.{range_change, AreTold}
+use Rattle.rls_steps.proofs.EditsTold.{label_edits}
 use Rattle.rls_steps.proofs.returning.take_out.Goals as goal
 
 pub returns-in-Err-clause-fault : goal.returns-in-Err-clause-fault
@@ -58,3 +59,11 @@ pub returns-clause-told : goal.returns-clause-told
 returns-clause-told c =
     let same = c.in-Ok.ensures.ranges c.args.next.now in
     subst (λ (rs : List (ℕ × ℕ)). AreTold (map range_change rs) c.args.changes.now.items c.cut_all.new.changes.items (text_over c.args.replica.now) (text_over c.cut_all.new.replica)) same c.in-Ok-cut_all.ensures.told
+
+pub returns-in-Err-clause-edits : goal.returns-in-Err-clause-edits
+returns-in-Err-clause-edits c = λ u.
+    let h = held_by c.args.replica.now c.args.next.now c.args.names.now in
+    label_edits h c.args.labels.now c.in-Ok.ranges.items c.args.changes.now.items c.cut_all.new.changes.items (c.in-Ok.ensures.ranges c.args.next.now) (c.in-Err.ensures.edits u)
+
+pub returns-in_default-clause-edits : goal.returns-in_default-clause-edits
+returns-in_default-clause-edits c = λ u. absurd (u refl)
