@@ -270,7 +270,7 @@ names_to s t e names p k =
 pub held_to : (s : Seen) (t : State) (r : Recorded) → StandsFor s t → IsTrue (keeps s r.epoch) → held_on within t r ≡ to (held_on over s r) t
 held_to s t r p k = ap (λ (ns : Names). record { state = t; next = r.next; names = reverse ns }) (names_to s t r.epoch r.names p k)
 
-settled_to : (s : Seen) (t : State) (r : Recorded) → StandsFor s t → IsTrue (keeps s r.epoch) → settled_on over s r ≡ settled_on within t r
+pub settled_to : (s : Seen) (t : State) (r : Recorded) → StandsFor s t → IsTrue (keeps s r.epoch) → settled_on over s r ≡ settled_on within t r
 settled_to s t r p k =
     let there : EpochName → Names → Recorded = λ e ns. record { epoch = e; next = r.next; names = ns; past = r.past; future = r.future; group = r.group; after_sweep = r.after_sweep } in
     ap (λ (e : EpochName). there e (names_on over s r.epoch r.names)) (greatest_alike s t p) ∙ ap (there (greatest t.history)) (sym (names_to s t r.epoch r.names p k))

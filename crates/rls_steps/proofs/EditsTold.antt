@@ -1,6 +1,6 @@
 -- What is told of steps that are taken back is what their edits change.
 use Rattle.std.proofs.Common.{◌≡◌, ◌∙◌, ℕ, suc, List, [], ◌∷◌, ◌++◌, map, take, drop, append_assoc, refl, sym, ap, subst}
-use Rattle.std.specs.Prelude.{slice_get, reverse, Option, Some, None}
+use Rattle.std.specs.Prelude.{slice_get, reverse, Option, Some}
 use Rattle.std.proofs.lemmas.List.{append-nil, take-append-drop}
 use Rattle.rls_ident.proofs.Loops.{drop_reads}
 use Rattle.rls_model.specs.declared.edit.Edit.{Edit}

@@ -2,13 +2,11 @@
 use Rattle.std.proofs.Common.{◌≡◌, ℕ, zero, suc, ◌+◌, ◌-◌, List, [], ◌∷◌, ◌++◌, take, drop, refl, sym, ap, ◌∙◌, subst}
 use Rattle.std.specs.Prelude.{IsTrue, reverse, Option, Some, None}
 use Rattle.rls_ident.specs.declared.tuple.Tuple.{Tuple}
-use Rattle.rls_ops.specs.WellFormed.{IsText}
 use Rattle.rls_model.specs.declared.edit.Edit.{Edit}
 use Rattle.rls_model.specs.declared.edit.Edit.TheVariants as edits
 use Rattle.rls_model.specs.declared.edit.EditError.{EditError}
 use Rattle.rls_model.specs.Editing.{or_fault, edit_fault, made}
 use Rattle.rls_model.specs.Receiving.{State, accept}
-use Rattle.rls_model.specs.WellFormed.{IsEdit}
 use Rattle.rls_replica.specs.Names.{keeps}
 use Rattle.rls_seen.specs.Edits.{edit_fault_over, edited}
 use Rattle.rls_seen.specs.Sane.{IsSane}
@@ -248,3 +246,10 @@ back_edits_to k s t r p sane kept w =
 
 pub turned_edits_alike : TurnedEditsAlike
 turned_edits_alike k s t r p sane kept w = (back_edits_to k s t r p sane kept w, back_edits_to k s t (exchanged r) p sane kept (w.1, w.0))
+
+-- the state alone, whatever is recorded
+pub turned_state : (s : Seen) (r : Recorded) → ((back_on over s r).state ≡ performed_over s (back_edits over s r)) × ((again_on over s r).state ≡ performed_over s (again_edits over s r))
+turned_state s r = (at r, at (exchanged r))
+  where
+    at : (q : Recorded) → (back_on over s q).state ≡ performed_over s (back_edits over s q)
+    at q = (back_done over s q).state ∙ (performed_same s (back_edits over s q)).0

@@ -178,6 +178,22 @@ settled_on G s r = record {
   after_sweep = r.after_sweep;
 }
 
+-- where no character is named yet, the greatest epoch
+abbrev pub epoch_or : Names → EpochName → EpochName → EpochName
+epoch_or [] now before = now
+epoch_or (n ∷ ns) now before = before
+
+abbrev pub begun_on : {X : Type 0} → Ground X → X → Recorded → Recorded
+begun_on G s r = record {
+  epoch = epoch_or r.names (G.greatest s) r.epoch;
+  next = r.next;
+  names = r.names;
+  past = r.past;
+  future = r.future;
+  group = r.group;
+  after_sweep = r.after_sweep;
+}
+
 -- the open group is ended
 abbrev pub closed : Recorded → Recorded
 closed r = record { epoch = r.epoch; next = r.next; names = r.names; past = r.past; future = r.future; group = next_group r.group; after_sweep = r.after_sweep }

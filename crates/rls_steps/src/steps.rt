@@ -12,7 +12,7 @@ ghost use Rattle.rls_steps.specs.Forgetting.{forgotten, without_first};
 ghost use Rattle.rls_steps.specs.Index.{AreApart};
 ghost use Rattle.rls_steps.specs.Groups.{group_size, group_count, next_group, turned, IsStopped};
 ghost use Rattle.rls_changes.specs.Edits.{edit_changes};
-ghost use Rattle.rls_steps.specs.Grounds.{over, recorded_on, back_edits, again_edits, back_on, again_on, closed};
+ghost use Rattle.rls_steps.specs.Grounds.{over, begun_on, recorded_on, back_edits, again_edits, back_on, again_on, closed};
 ghost use Rattle.rls_steps.specs.StepChanges.{back_changes, AreTold};
 ghost use Rattle.rls_steps.specs.Recorded.{unused, settled, steps_over, names_over, IsRecorded};
 ghost use Rattle.rls_steps.specs.Sweeping.{swept, kept_within, with_newest};
@@ -77,6 +77,16 @@ impl Steps {
             future: Vec::new(alloc),
             group: 0,
             after_sweep: 0,
+        }
+    }
+
+    /// Where no character is named yet, what is recorded is in the replica's greatest epoch from now on. Steps that begin beside a replica
+    /// which may have dropped an epoch need it before their first edit, undo, redo or `settle`. It takes no memory.
+    pub fn begin(&mut self, replica: &Replica)
+        ensures begun { self.new ≡ begun_on over replica.now self.old }
+    {
+        if self.names.len() == 0 {
+            self.epoch = replica.greatest();
         }
     }
 
