@@ -11,8 +11,9 @@ use std::marker::Model;
 /// The rows of all members, and who has left.
 ///
 /// A member's row is the vector of what it is known to have accepted. The least of the awaited
-/// rows is kept beside them: asking for it costs nothing, and each change finds it anew, in time
-/// for the square of the members.
+/// rows is kept beside them: asking for it costs nothing. A change finds it anew, in time for the
+/// square of the members, but for one: where some awaited row counts fewer operations of a member
+/// than one's own, one more of that member changes nothing of it.
 pub struct Acks {
     rows: Rows,
     stable: Vector,
@@ -124,7 +125,11 @@ impl Acks {
         requires room { slice_index self.old.mine author < 2 ^ 32 - 1 }
         ensures raised { self.new ≡ raised self.old author }
     {
+        let is_behind = self.stable.get(author) < self.rows.mine().get(author);
         self.rows.raise(author);
+        if is_behind {
+            return;
+        }
         self.rows.find_stable(&mut self.stable);
     }
 
