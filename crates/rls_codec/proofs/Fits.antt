@@ -19,7 +19,7 @@ use Rattle.rls_ops.specs.declared.message.Message.{Message}
 use Rattle.rls_ops.specs.Spelling.{message_bytes}
 use Rattle.rls_ops.specs.Sizes.{op_size}
 use Rattle.rls_ops.specs.WellFormed.{IsSmall}
-use Rattle.rls_codec.specs.Spelled.{IsSmallTuple, Chained, FitsAt, FitsInner, FitTuples, FitsIdent, FitsRun, FitsBehind, FitRuns, FitsName, FitsText, FitsBody, IsSpelled, IsSpelledIfFit, IsFitAmong, IsFit}
+use Rattle.rls_codec.specs.Spelled.{IsSmallTuple, Chained, FitsAt, FitsInner, FitTuples, FitsIdent, FitsRun, FitsBehind, FitRuns, FitsName, FitsText, FitsBody, FieldsFit, IsSpelled, IsSpelledIfFit, IsFitAmong, IsFit}
 use Rattle.rls_codec.specs.CodecLaws.{IsMessage}
 use Rattle.rls_codec.proofs.PartFormats.{pushed_fit}
 use Rattle.rls_codec.proofs.SizeLaws.{op_length}
@@ -73,6 +73,9 @@ small_chain before (n ∷ v) a = (All-head IsSmall n v a, small_chain (Some n) v
 
 pub op_fits : (o : Op) → IsSmall o.author → IsSmall o.seq → All IsSmall o.context → FitsName o.epoch → FitsBody o.body → op_size o ≤ OPERATION_BYTES → IsSpelled (length o.context) o
 op_fits o a s c e b few = record { author = a; seq = s; context = (refl, small_chain None o.context c); epoch = e; body = b; limit = omega (arith, op_length o, few) }
+
+pub fields_fit : (o : Op) → IsSmall o.author → IsSmall o.seq → All IsSmall o.context → FitsName o.epoch → FitsBody o.body → FieldsFit (length o.context) o
+fields_fit o a s c e b = (a, s, (refl, small_chain None o.context c), e, b)
 
 -- ---- messages
 

@@ -17,9 +17,8 @@ use Rattle.rls_ops.specs.declared.op.Op.{Op}
 use Rattle.rls_ops.specs.declared.op.Body.{Body}
 use Rattle.rls_ops.specs.declared.op.Body.TheVariants.{Insert, Delete, Rename, Leave}
 use Rattle.rls_ops.specs.Spelling.{runs_bytes, run_bytes, kind_of, name_bytes, body_bytes, op_bytes, ident_bytes, text_bytes, message_in_form}
-use Rattle.rls_ops.specs.WellFormed.{IsSmall}
 use Rattle.rls_codec.specs.Reading.{◌>>=◌, Read, runs_at, body_of_kind, body_at, op_fields_at, op_at, next_run_at, magic_at, is_message_form, is_member_count, message_and_form_at, message_at, message_of, whole, placed, op_from}
-use Rattle.rls_codec.specs.Spelled.{Chained, FitsIdent, FitsBehind, FitRuns, FitsName, FitsText, FitsVector, FitsBody, IsSpelled, IsSpelledMessage}
+use Rattle.rls_codec.specs.Spelled.{Chained, FitsIdent, FitsBehind, FitRuns, FitsText, FitsBody, FieldsFit, IsSpelled, IsSpelledMessage}
 use Rattle.rls_codec.specs.CodecLaws.{IsBytes, IsMessage, BeginsAt}
 use Rattle.rls_codec.proofs.Formats.{IsBytes-drop, Takes, Spells, only_one, done, field, fitting, spelling, seen, ruled, byte, bind_ok, kept_false, ok_is, counted_parts, raw, small_count, small_from}
 use Rattle.rls_codec.proofs.PartFormats.{small, large, ident, next_run, vector, name, text}
@@ -126,10 +125,7 @@ limited {r = r} {s = s} {F = F} most one = record {
       subst (λ q. Takes bytes (s q.0) q.1 × (F q.0 × (length (s q.0) ≤ most))) g.1 (t.0, (t.1, short));
 }
 
-abbrev FieldsFit : ℕ → Op → Type 0
-FieldsFit members o = IsSmall o.author × IsSmall o.seq × FitsVector members o.context × FitsName o.epoch × FitsBody o.body
-
-op_fields : (members : ℕ) → Spells (op_fields_at members) op_bytes (FieldsFit members)
+pub op_fields : (members : ℕ) → Spells (op_fields_at members) op_bytes (FieldsFit members)
 unfolding op_fields_at op_bytes
 op_fields members = spelling op_bytes
     (fitting (FieldsFit members)

@@ -20,7 +20,7 @@ use Rattle.rls_codec.specs.Spelled.{Chained, FitsInner, FitTuples, FitsRun, Fits
 use Rattle.rls_codec.proofs.MessageFormats.{apart_from}
 use Rattle.rls_ops.specs.WellFormed.{IsSmall, IsName, IsBody, IsOp, IsVector}
 
-chain_small : (before : Option ℕ) (v : List ℕ) → Chained (λ b. IsSmall) before v → All IsSmall v
+pub chain_small : (before : Option ℕ) (v : List ℕ) → Chained (λ b. IsSmall) before v → All IsSmall v
 chain_small before [] c = All-nil IsSmall
 chain_small before (n ∷ v) c = All-cons IsSmall n v c.0 (chain_small (Some n) v c.1)
 
@@ -68,7 +68,7 @@ fits_idents xs f =
     let k = runs_sound None rs f.1 in
     subst AreIdents f.2 (all_idents rs k, increasing_of (idents_of rs) (idents_rise None rs (apart_from None rs f.1) k))
 
-fits_body : (b : Body) → FitsBody b → IsBody b
+pub fits_body : (b : Body) → FitsBody b → IsBody b
 fits_body (Insert first text) f = (tuples_ident first f.0.1, all_of_scalars text f.1.0)
 fits_body (Delete targets) f = fits_idents targets f
 fits_body (Rename former) f = fits_idents former f

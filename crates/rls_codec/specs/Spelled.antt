@@ -76,6 +76,10 @@ FitsBody Leave = Unit {0}
 abbrev pub FitsVector : ℕ → List ℕ → Type 0
 FitsVector members v = (length v ≡ members) × Chained (λ before. IsSmall) None v
 
+-- the fields of an operation among so many members have a spelling
+abbrev pub FieldsFit : ℕ → Op → Type 0
+FieldsFit members o = IsSmall o.author × IsSmall o.seq × FitsVector members o.context × FitsName o.epoch × FitsBody o.body
+
 -- an operation among so many members that has a spelling
 pub record IsSpelled (members : ℕ) (o : Op) : Type 0 where
   pub author : IsSmall o.author

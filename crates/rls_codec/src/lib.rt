@@ -19,5 +19,5 @@ pub use puts::{
     put_byte, put_i32, put_ident, put_name, put_run, put_runs, put_text, put_u32, put_u64,
     put_vector,
 };
-pub use reading::{decode_op, op, ops};
+pub use reading::{decode_op, op, op_fields, ops};
 pub use writing::{encode_message, encode_op, put_op, put_ops};

@@ -38,8 +38,9 @@ fn body(alloc: Global, bytes: &[u8]) -> Result<(Body, &[u8]), ReadError>
     }
 }
 
+/// An operation among this many members, however many bytes it has.
 #[tactic(auto, unfolding(crate::specs::Reading::op_fields_at))]
-fn op_fields(alloc: Global, members: u32, bytes: &[u8]) -> Result<(Op, &[u8]), ReadError>
+pub fn op_fields(alloc: Global, members: u32, bytes: &[u8]) -> Result<(Op, &[u8]), ReadError>
     ensures read { Gives (λ x. (x.0, x.1.now)) result (op_fields_at members bytes.now) }
 {
     let (author, rest) = u32_at(bytes)?;

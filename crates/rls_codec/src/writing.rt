@@ -7,7 +7,7 @@ ghost use Rattle.rls_ops.specs.Spelling.{counted, kind_of, body_bytes, op_bytes,
 ghost use Rattle.rls_ops.specs.Sizes.{op_size, message_size};
 ghost use Rattle.rls_ops.specs.WellFormed.{IsSmall, IsBody};
 ghost use Rattle.rls_codec.specs.Gives.{IsShort, IsFrontOf};
-ghost use Rattle.rls_codec.specs.Spelled.{FitsBody, IsSpelledIfFit, IsFit};
+ghost use Rattle.rls_codec.specs.Spelled.{FitsBody, FieldsFit, IsSpelledIfFit, IsFit};
 ghost use Rattle.rls_codec.specs.CodecLaws.{IsMessage};
 
 use crate::lists::{Part, put_list};
@@ -51,12 +51,13 @@ fn put_body(out: &mut Vec<u8>, body: &Body) -> Result<(), AllocError>
 }
 
 /// Appends an operation; the cost is that of its runs and characters.
-#[tactic(auto, using(crate::proofs::SizeLaws::short_op, crate::proofs::Fits::op_fits), unfolding(rls_ops::specs::Spelling::op_bytes))]
+#[tactic(auto, using(crate::proofs::SizeLaws::short_op, crate::proofs::Fits::op_fits, crate::proofs::Fits::fields_fit), unfolding(rls_ops::specs::Spelling::op_bytes))]
 pub fn put_op(out: &mut Vec<u8>, op: &Op) -> Result<(), AllocError>
     requires small { op_size op.now < 2 ^ 32 }
     ensures ok { OnOk result (out.new.items ≡ out.old.items ++ op_bytes op.now) }
     ensures keeps { IsFrontOf out.old.items out.new.items }
     ensures fits { OnOk result (IsSpelledIfFit op.now) }
+    ensures fields { OnOk result (IsBody op.now.body → FieldsFit (length op.now.context) op.now) }
 {
     put_u32(out, op.author)?;
     put_u32(out, op.seq)?;
@@ -72,6 +73,9 @@ pub fn encode_op(out: &mut Vec<u8>, op: &Op) -> Result<(), AllocError>
     ensures ok { OnOk result (out.new.items ≡ out.old.items ++ op_bytes op.now) }
     ensures err { OnErr result (out.new.items ≡ out.old.items) }
     ensures spelled { OnOk result (IsSpelledIfFit op.now) }
+
+    // Its fields have a spelling, however many bytes it has.
+    ensures fields { OnOk result (IsBody op.now.body → FieldsFit (length op.now.context) op.now) }
 {
     let start = out.len();
     match put_op(out, op) {
