@@ -20,7 +20,7 @@ mod write_text;
 pub use place::place_of_broken;
 pub use read_snapshot::snapshot;
 pub use write_epochs::{kept_epochs_len, put_epochs};
-pub use write_ops::{missing_len, put_missing, put_waiting, waiting_len};
+pub use write_ops::{put_missing, put_waiting, waiting_len};
 pub use write_rows::{left_count, other_rows_len, put_left, put_rows};
 pub use write_stems::{put_stems, stems_len};
 pub use write_text::{put_text_runs, tree_len};

@@ -79,12 +79,13 @@ fn before_log(form: u8, parts: &Parts) -> u64
         .saturating_add(entries_len(parts.text.as_slice()))
 }
 
+#[tactic(auto, using(std::proofs::lemmas::List::take_all))]
 fn before_held(form: u8, parts: &Parts) -> u64
     ensures before { result ≡ min (before_held form parts.now) (2 ^ 64 - 1) }
 {
     before_log(form, parts)
         .saturating_add(4)
-        .saturating_add(entries_len(parts.log.as_slice()))
+        .saturating_add(parts.log.first_len(parts.log.len() as u64))
 }
 
 // A stem stands after the numbers of the members up to its own.
@@ -116,7 +117,7 @@ pub fn place_of_broken(form: u8, parts: &Parts, rule: u8, index: u64) -> u64
             .saturating_add(entries_len(front(parts.text.as_slice(), index))),
         5 => before_log(form, parts)
             .saturating_add(4)
-            .saturating_add(entries_len(front(parts.log.as_slice(), index))),
+            .saturating_add(parts.log.first_len(index)),
         6 => before_log(form, parts),
         7 => before_epochs(form, parts),
         _ => before_held(form, parts)

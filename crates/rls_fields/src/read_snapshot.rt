@@ -9,6 +9,7 @@ use crate::read_rows::{left_members, rows};
 use crate::read_stems::stems;
 use crate::read_text::text_runs;
 use rls_codec::{ReadError, ops, vector};
+use rls_log::read_log;
 use rls_model::Parts;
 use std::alloc::Global;
 
@@ -40,7 +41,7 @@ pub fn snapshot(
     let (count, rest) = epoch_count(rest)?;
     let (epochs, rest) = epoch_list(alloc, count, rest)?;
     let (text, rest) = text_runs(alloc, rest)?;
-    let (log, rest) = ops(alloc, members, rest)?;
+    let (log, rest) = read_log(alloc, members, rest)?;
     let (held, rest) = ops(alloc, members, rest)?;
     let parts = Parts {
         group,

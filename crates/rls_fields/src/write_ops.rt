@@ -1,9 +1,7 @@
 //! Operations that are kept and that wait, written.
 
-ghost use Rattle.std.specs.Prelude.{◌≡◌, ◌<◌, ◌++◌, ◌-◌, ◌^◌, min, length, sum_by, All, OnOk};
+ghost use Rattle.std.specs.Prelude.{◌≡◌, ◌<◌, ◌++◌, ◌-◌, ◌^◌, min, sum_by, All, OnOk};
 ghost use Rattle.std.specs.List.{flat_map};
-ghost use Rattle.rls_ident.specs.Lists.{IsIn};
-ghost use Rattle.rls_ops.specs.declared.op.Op.{Op as OpSeen};
 ghost use Rattle.rls_ops.specs.Rows.{missing_for};
 ghost use Rattle.rls_ops.specs.Sizes.{op_size};
 ghost use Rattle.rls_ops.specs.Spelling.{counted, op_bytes};
@@ -11,68 +9,19 @@ ghost use Rattle.rls_codec.specs.Spelled.{IsSpelledIfFit};
 
 use rls_causal::Held;
 use rls_codec::{put_op, put_u32};
-use rls_ident::Vector;
-use rls_stable::Log;
+use rls_ident::{Vector, rely};
+use rls_log::Log;
 use std::alloc::AllocError;
-
-// How many operations of a log a vector doesn't cover.
-fn missing_count(log: &Log, vector: &Vector) -> usize
-    requires authors { (o : OpSeen) → IsIn o log.now.ops → o.author < length vector.now }
-    ensures count { result ≡ length (missing_for vector.now log.now.ops) }
-{
-    let mut count: usize = 0;
-    for i in 0..log.len() {
-        let op = log.op(i);
-        if op.seq <= vector.get(op.author) {
-            continue;
-        }
-        count += 1;
-    }
-    count
-}
-
-/// How many bytes they have, or the greatest u64 where there are more.
-pub fn missing_len(log: &Log, vector: &Vector) -> u64
-    requires authors { (o : OpSeen) → IsIn o log.now.ops → o.author < length vector.now }
-    ensures size { result ≡ min (sum_by op_size (missing_for vector.now log.now.ops)) (2 ^ 64 - 1) }
-{
-    let mut total: u64 = 0;
-    for i in 0..log.len() {
-        let op = log.op(i);
-        if op.seq <= vector.get(op.author) {
-            continue;
-        }
-        total = total.saturating_add(op.encoded_len());
-    }
-    total
-}
-
-// These operations.
-fn put_missing_list(out: &mut Vec<u8>, log: &Log, vector: &Vector) -> Result<(), AllocError>
-    requires authors { (o : OpSeen) → IsIn o log.now.ops → o.author < length vector.now }
-    requires small { sum_by op_size (missing_for vector.now log.now.ops) < 2 ^ 32 }
-    ensures ok { OnOk result (out.new.items ≡ out.old.items ++ flat_map op_bytes (missing_for vector.now log.now.ops)) }
-    ensures fits { OnOk result (All IsSpelledIfFit (missing_for vector.now log.now.ops)) }
-{
-    for i in 0..log.len() {
-        let op = log.op(i);
-        if op.seq <= vector.get(op.author) {
-            continue;
-        }
-        put_op(out, op)?;
-    }
-    Ok(())
-}
 
 /// The operations of a log that a vector doesn't cover, in order, after their number.
 pub fn put_missing(out: &mut Vec<u8>, log: &Log, vector: &Vector) -> Result<(), AllocError>
-    requires authors { (o : OpSeen) → IsIn o log.now.ops → o.author < length vector.now }
-    requires small { sum_by op_size (missing_for vector.now log.now.ops) < 2 ^ 32 }
-    ensures ok { OnOk result (out.new.items ≡ out.old.items ++ counted op_bytes (missing_for vector.now log.now.ops)) }
-    ensures fits { OnOk result (All IsSpelledIfFit (missing_for vector.now log.now.ops)) }
+    requires small { sum_by op_size (missing_for vector.now log.now) < 2 ^ 32 }
+    ensures ok { OnOk result (out.new.items ≡ out.old.items ++ counted op_bytes (missing_for vector.now log.now)) }
+    ensures fits { OnOk result (All IsSpelledIfFit (missing_for vector.now log.now)) }
 {
-    put_u32(out, missing_count(log, vector) as u32)?;
-    put_missing_list(out, log, vector)?;
+    rely!(log.fits());
+    put_u32(out, log.missing_count(vector, log.len()) as u32)?;
+    log.put_missing(out, vector, log.len())?;
     Ok(())
 }
 

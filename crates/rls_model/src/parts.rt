@@ -1,6 +1,7 @@
 //! The parts of a replica, as a snapshot holds them.
 
 use rls_ident::{EpochName, Vector};
+use rls_log::Log;
 use rls_ops::Ops;
 use rls_runs::{Run, Runs, Sequence, Text};
 
@@ -67,7 +68,7 @@ pub struct Parts {
     /// The text, by identifiers of the greatest epoch.
     pub text: TextRuns,
     /// The unstable operations, in the order in which they were accepted.
-    pub log: Ops,
+    pub log: Log,
     /// The waiting operations, by author and then by number.
     pub held: Ops,
     /// The members that have left, in increasing order.

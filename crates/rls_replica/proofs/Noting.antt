@@ -1,6 +1,7 @@
 -- What is kept of the identifiers that unstable deletions name stays right, and what isn't among them none names.
 use Rattle.std.proofs.Common.{◌≡◌, ◌∙◌, ◌⊎◌, ℕ, zero, suc, ◌+◌, ◌<◌, not, Bool, true, false, List, [], ◌∷◌, ◌++◌, length, map, take, drop, Option, Some, None, refl, sym, ap, subst, inl, inr, ⊎_elim, arith, append_assoc, append-nil}
-use Rattle.std.specs.Prelude.{IfSome, cond, slice_get}
+use Rattle.std.specs.Prelude.{IfSome, IfNone, cond, slice_get, ◌&&◌}
+use Rattle.std.specs.List.{list_any}
 use Rattle.std.proofs.lemmas.List.{length-append, take-append-le}
 use Rattle.rls_ident.specs.declared.tuple.Tuple.{Tuple}
 use Rattle.rls_ident.specs.declared.epoch_name.EpochName.{EpochName}
@@ -9,7 +10,7 @@ use Rattle.rls_ident.specs.Identifiers.{ident_eq}
 use Rattle.rls_ident.specs.Lists.{IsIn}
 use Rattle.rls_ident.specs.Vectors.{at_most}
 use Rattle.rls_ident.proofs.Ends.{eq_same, same_eq}
-use Rattle.rls_ident.proofs.Members.{map_in, any_in, in_any, filter_in, in_filter, in_left, in_right, in_split, in_take, in_drop, not_is, not_true, same_bool, some_is, take_or_drop}
+use Rattle.rls_ident.proofs.Members.{and_none, true_false, map_in, any_in, in_any, filter_in, in_filter, in_left, in_right, in_split, in_take, in_drop, not_is, not_true, same_bool, some_is, take_or_drop}
 use Rattle.rls_runs.specs.Entries.{has_ident}
 use Rattle.rls_runs.specs.Runs.{AreIdents, joined}
 use Rattle.rls_rename.specs.Tree.{is_kept, is_of, translate}
@@ -31,7 +32,9 @@ use Rattle.rls_seen.proofs.Fitting.{facts, name_new}
 use Rattle.rls_seen.proofs.TextLists.{ident_in}
 use Rattle.rls_seen.proofs.StableRows.{stable_accepted, stable_noted}
 use Rattle.rls_replica.specs.declared.gone.Gone.{Gone}
-use Rattle.rls_replica.specs.Gone.{AllNoted, AreNoted, AreNamed, IsGone}
+use Rattle.rls_log.specs.Heads.{kind_in}
+use Rattle.rls_log.specs.declared.head.OpKind.TheVariants as kind
+use Rattle.rls_replica.specs.Gone.{AllNoted, AreNoted, AreNamed, NamesNothing, IsGone}
 use Rattle.rls_replica.specs.Lookups.{is_named_by, is_named_over}
 use Rattle.rls_replica.proofs.KeptNames.{accepted_names}
 
@@ -54,6 +57,29 @@ put_last old new ids x e p = subst (IsIn x) (sym (joined_one_more old new ids e)
 
 pub take_last : (old new : List (List (List Tuple))) (ids : List (List Tuple)) (x : List Tuple) → old ≡ new ++ ids ∷ [] → IsIn x (joined old) → IsIn x (joined new) ⊎ IsIn x ids
 take_last old new ids x e p = in_split x (joined new) ids (subst (IsIn x) (joined_one_more new old ids e) p)
+
+-- ---- operations that name nothing
+
+no_targets : (b : Body) → (kind_in b ≡ kind.Delete → ⊥) → targets_of b ≡ []
+no_targets (Insert first text) h = refl
+no_targets (Delete targets) h = absurd (h refl)
+no_targets (Rename former) h = refl
+no_targets Leave h = refl
+
+pub nothing_named : (s : Seen) (e : EpochName) (x : List Tuple) (o : Op) → NamesNothing s o → false ≡ (not (is_covered (stable_over s) o) && is_named_by s e x o)
+nothing_named s e x o n =
+    ⊎_elim (λ c. ap (λ b. not b && is_named_by s e x o) (sym c))
+    (λ k. sym (and_none (not (is_covered (stable_over s) o))) ∙ ap (λ ts. not (is_covered (stable_over s) o) && list_any (λ t. ident_eq (translate_over s o.epoch e t) x) ts) (sym (no_targets o.body k))) n
+
+pub no_names : (s : Seen) (e : EpochName) (o : Op) → NamesNothing s o → AreNamed s e o None
+no_names s e o n t free p = ⊎_elim (λ c. true_false (is_covered (stable_over s) o) c free) (λ k. subst (IsIn t) (no_targets o.body k) p) n
+
+-- what was found at a place
+pub found_at : (os : List Op) (i : ℕ) (r : Option Op) (o : Op) → r ≡ Some o → IfSome r (λ (p : Op). slice_get os i ≡ Some p) → slice_get os i ≡ Some o
+found_at os i r o e h = subst (λ (x : Option Op). IfSome x (λ (p : Op). slice_get os i ≡ Some p)) e h
+
+pub nothing_at : (s : Seen) (i : ℕ) (r : Option Op) → r ≡ None → IfNone r ((o : Op) → slice_get s.log i ≡ Some o → NamesNothing s o) → (o : Op) → slice_get s.log i ≡ Some o → NamesNothing s o
+nothing_at s i r e h = subst (λ (x : Option Op). IfNone x ((o : Op) → slice_get s.log i ≡ Some o → NamesNothing s o)) e h
 
 -- ---- what isn't among them
 

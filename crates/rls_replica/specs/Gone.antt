@@ -1,5 +1,5 @@
 -- What is kept of the identifiers that unstable deletions name.
-use Rattle.std.specs.Prelude.{◌≡◌, ◌≤◌, List, Option, Some, None, length, take, false, IsTrue}
+use Rattle.std.specs.Prelude.{◌≡◌, ◌≤◌, ◌⊎◌, List, Option, Some, None, length, take, true, false, IsTrue}
 use Rattle.rls_ident.specs.declared.tuple.Tuple.{Tuple}
 use Rattle.rls_ident.specs.declared.epoch_name.EpochName.{EpochName}
 use Rattle.rls_ident.specs.Identifiers.{IsIdent}
@@ -8,6 +8,8 @@ use Rattle.rls_runs.specs.Runs.{joined}
 use Rattle.rls_rename.specs.Tree.{is_kept}
 use Rattle.rls_ops.specs.declared.op.Op.{Op}
 use Rattle.rls_ops.specs.Rows.{is_covered, missing_for}
+use Rattle.rls_log.specs.Heads.{kind_in}
+use Rattle.rls_log.specs.declared.head.OpKind.TheVariants.{Delete}
 use Rattle.rls_model.specs.Document.{targets_of}
 use Rattle.rls_seen.specs.Seen.{Seen, stable_over, translate_over}
 use Rattle.rls_replica.specs.declared.gone.Gone.{Gone}
@@ -25,6 +27,10 @@ pub record IsGone (s : Seen) (g : Gone) : Type 0 where
   pub kept : IsTrue (is_kept s.epochs.top s.epochs.nodes g.epoch)
   pub few : g.noted ≤ length s.log
   pub noted : AllNoted s g.epoch g.lists.items (take g.noted s.log)
+
+-- the operation is stable, or no deletion
+abbrev pub NamesNothing : Seen → Op → Type 0
+NamesNothing s d = (is_covered (stable_over s) d ≡ true) ⊎ (kind_in d.body ≡ Delete → ⊥)
 
 -- the identifiers that one operation names, if it is an unstable deletion
 abbrev pub AreNamed : Seen → EpochName → Op → Option (List (List Tuple)) → Type 0

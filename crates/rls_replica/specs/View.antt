@@ -15,7 +15,7 @@ seen r = record {
   epochs = r.epochs.epochs;
   text = entries_of r.document.blocks;
   waiting = r.held;
-  log = r.log.ops;
+  log = r.log;
 }
 
 -- what holds of the parts: they are sane, the table of stems has a place for each member, and what is kept of gone targets is right

@@ -21,10 +21,11 @@ use crate::replica::Replica;
 use rls_doc::Document;
 use rls_epoch::Epochs;
 use rls_ident::{EpochName, Ident, rely};
+use rls_log::Log;
 use rls_ops::{Body, Op};
 use rls_rename::{Renaming, RenamingError};
 use rls_runs::{Run, RunList, Runs, Text};
-use rls_stable::{Acks, Log};
+use rls_stable::Acks;
 use rls_stems::StemTable;
 use rls_tree::BlockTree;
 use std::alloc::{AllocError, Global};
@@ -52,8 +53,7 @@ impl Replica {
             &mut self.acks,
             &mut self.stems,
             &mut self.epochs,
-            &mut self.log,
-            op,
+            &op,
             renaming,
         );
         Ok(())
@@ -85,8 +85,7 @@ impl Replica {
             &mut self.acks,
             &mut self.stems,
             &mut self.epochs,
-            &mut self.log,
-            op,
+            &op,
             renaming,
         );
         Ok(())
@@ -113,12 +112,19 @@ fn prepare(
     ensures stem_room { OnOk result (0 < slice_index stems.new.spare op.now.author) }
     ensures epochs { epochs.new.epochs ≡ epochs.old.epochs }
     ensures epoch_room { IfOk result (λ renaming. IsSome renaming → 0 < epochs.new.spare) }
-    ensures log { log.new.ops ≡ log.old.ops }
-    ensures log_room { OnOk result (0 < log.new.spare) }
+    ensures log { OnOk result (log.new ≡ log.old ++ op.now ∷ []) }
+    ensures log_err { OnErr result (log.new ≡ log.old) }
 {
     stems.reserve(op.author)?;
-    log.reserve()?;
-    change(alloc, document, epochs, op, near)
+    let count = log.len();
+    log.push(op)?;
+    match change(alloc, document, epochs, op, near) {
+        Ok(renaming) => Ok(renaming),
+        Err(e) => {
+            log.truncate(count);
+            Err(e)
+        }
+    }
 }
 
 // Changes the text, and makes the renaming of a rename with room for its epoch.
@@ -283,26 +289,22 @@ fn finish(
     acks: &mut Acks,
     stems: &mut StemTable,
     epochs: &mut Epochs,
-    log: &mut Log,
-    op: Op,
+    op: &Op,
     renaming: Option<Renaming>,
 )
-    requires may { MayFinish acks.old stems.old.stems epochs.old.epochs op }
+    requires may { MayFinish acks.old stems.old.stems epochs.old.epochs op.now }
     requires members { stems.old.members ≡ length acks.old.mine }
-    requires renaming { renaming ≡ renaming_in op op.body }
-    requires stem_room { 0 < slice_index stems.old.spare op.author }
+    requires renaming { renaming ≡ renaming_in op.now op.now.body }
+    requires stem_room { 0 < slice_index stems.old.spare op.now.author }
     requires epoch_room { IsSome renaming → 0 < epochs.old.spare }
-    requires log_room { 0 < log.old.spare }
-    ensures acks { acks.new ≡ acks_after acks.old op.author op.body }
-    ensures stems { stems.new.stems ≡ stems_after stems.old.stems op.author op.seq op.body }
+    ensures acks { acks.new ≡ acks_after acks.old op.now.author op.now.body }
+    ensures stems { stems.new.stems ≡ stems_after stems.old.stems op.now.author op.now.seq op.now.body }
     ensures members { stems.new.members ≡ stems.old.members }
-    ensures epochs { epochs.new.epochs ≡ epochs_after epochs.old.epochs op }
-    ensures log { log.new.ops ≡ log.old.ops ++ op ∷ [] }
+    ensures epochs { epochs.new.epochs ≡ epochs_after epochs.old.epochs op.now }
 {
     stems.note(op.author, op.seq, &op.body);
-    add_epoch(epochs, &op, renaming);
-    count(acks, &op);
-    log.push(op);
+    add_epoch(epochs, op, renaming);
+    count(acks, op);
 }
 
 // Adds the epoch of a rename.

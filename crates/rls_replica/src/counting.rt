@@ -19,10 +19,10 @@ use crate::replica::Replica;
 use rls_doc::Document;
 use rls_epoch::{Epochs, Retained};
 use rls_ident::{EpochName, Vector};
+use rls_log::Log;
 use rls_model::{Counts, EpochParts, Members, Parts, Rows, Stems, TextRuns};
 use rls_ops::Ops;
-use rls_snapshot::{epoch_parts, left_members, missing, other_rows, text_runs, waiting};
-use rls_stable::Log;
+use rls_snapshot::{epoch_parts, left_members, other_rows, text_runs, waiting};
 use std::alloc::AllocError;
 
 /// What a replica keeps in memory beside its text and what waits.
@@ -130,7 +130,7 @@ impl Replica {
     }
 
     // The other parts: the epochs, the text, the unstable operations, and those that wait.
-    fn copy_contents(&self) -> Result<(EpochParts, TextRuns, Ops, Ops), AllocError>
+    fn copy_contents(&self) -> Result<(EpochParts, TextRuns, Log, Ops), AllocError>
         ensures epochs { IfOk result (λ all. all.0 ≡ epoch_parts self.now.epochs.nodes (retained_over self.now)) }
         ensures text { IfOk result (λ all. all.1 ≡ text_runs self.now.text) }
         ensures log { IfOk result (λ all. all.2 ≡ unstable_over self.now) }
@@ -139,7 +139,7 @@ impl Replica {
         let (_, retained) = self.unstable_and_retained()?;
         let epochs = epoch_parts(self.alloc, &self.epochs, &retained.names)?;
         let text = text_runs(self.alloc, &self.document)?;
-        let log = missing(self.alloc, &self.log, self.acks.stable())?;
+        let log = self.log.missing(self.acks.stable())?;
         let held = waiting(self.alloc, &self.held)?;
         Ok((epochs, text, log, held))
     }
@@ -161,11 +161,11 @@ impl Replica {
     {
         let mut names = Vec::new(self.alloc);
         for i in 0..self.log.len() {
-            let op = self.log.op(i);
-            if op.seq <= self.acks.stable().get(op.author) {
+            let head = self.log.head(i);
+            if head.is_covered(self.acks.stable()) {
                 continue;
             }
-            names.push(op.epoch)?;
+            names.push(head.epoch)?;
         }
         Ok(names)
     }
@@ -173,17 +173,16 @@ impl Replica {
 
 // Marks the epochs of the operations that a vector doesn't cover, and no others.
 fn mark_unstable(epochs: &mut Epochs, log: &Log, stable: &Vector)
-    requires authors { (o : Op) → IsIn o log.now.ops → o.author < length stable.now }
-    requires kept { (o : Op) → IsIn o (missing_for stable.now log.now.ops) → IsTrue (is_kept epochs.old.epochs.top epochs.old.epochs.nodes o.epoch) }
+    requires kept { (o : Op) → IsIn o (missing_for stable.now log.now) → IsTrue (is_kept epochs.old.epochs.top epochs.old.epochs.nodes o.epoch) }
     ensures epochs { epochs.new.epochs ≡ epochs.old.epochs }
-    ensures marks { (e : EpochName) → is_marked epochs.new.marks e ≡ is_marked (map (λ o. o.epoch) (missing_for stable.now log.now.ops)) e }
+    ensures marks { (e : EpochName) → is_marked epochs.new.marks e ≡ is_marked (map (λ o. o.epoch) (missing_for stable.now log.now)) e }
 {
     epochs.clear_marks();
     for i in 0..log.len() {
-        let op = log.op(i);
-        if op.seq <= stable.get(op.author) {
+        let head = log.head(i);
+        if head.is_covered(stable) {
             continue;
         }
-        epochs.mark(op.epoch);
+        epochs.mark(head.epoch);
     }
 }

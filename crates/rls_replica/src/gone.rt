@@ -66,7 +66,10 @@ impl Replica {
             mut lists,
         } = gone;
         for i in noted..self.log.len() {
-            let Some(ids) = self.named_ids(self.log.op(i), epoch)? else {
+            let Some(op) = self.logged_deletion(i)? else {
+                continue;
+            };
+            let Some(ids) = self.named_ids(&op, epoch)? else {
                 continue;
             };
             add(self.alloc, &mut lists, ids)?;

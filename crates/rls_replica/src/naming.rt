@@ -1,21 +1,23 @@
 //! Which targets unstable deletions name, run by run.
 
-ghost use Rattle.std.specs.Prelude.{◌≡◌, ℕ, pos, List, ◌+◌, ◌<◌, ◌≤◌, ◌&&◌, not, false, true, Some, IfOk, IfSome, IsTrue, length, drop, slice_get};
+ghost use Rattle.std.specs.Prelude.{◌≡◌, ℕ, pos, List, ◌+◌, ◌<◌, ◌≤◌, ◌&&◌, not, false, true, Some, IfOk, IfSome, IfNone, IsTrue, length, drop, slice_get};
 ghost use Rattle.rls_ident.specs.declared.tuple.Tuple.{Tuple};
 ghost use Rattle.rls_ident.specs.Identifiers.{shifted};
 ghost use Rattle.rls_ident.specs.Lists.{IsIn};
 ghost use Rattle.rls_runs.specs.Runs.{run_idents};
 ghost use Rattle.rls_rename.specs.Tree.{is_kept};
+ghost use Rattle.rls_ops.specs.declared.op.Op.{Op as OpSeen};
 ghost use Rattle.rls_ops.specs.Rows.{is_covered};
 ghost use Rattle.rls_seen.specs.Seen.{stable_over};
 ghost use Rattle.rls_seen.specs.Over.{is_known_over, first_unknown_over};
-ghost use Rattle.rls_replica.specs.Gone.{AreNamed};
+ghost use Rattle.rls_replica.specs.Gone.{AreNamed, NamesNothing};
 ghost use Rattle.rls_replica.specs.Lookups.{is_named_by, is_named_over};
 
 use crate::hints::{Hint, Hints};
 use crate::replica::Replica;
 use crate::uniting::common;
 use rls_ident::{EpochName, Ident, rely};
+use rls_log::OpKind;
 use rls_ops::{Body, Op};
 use rls_runs::{Run, Runs};
 use std::alloc::{AllocError, Global};
@@ -62,7 +64,7 @@ impl Replica {
         let Some(hint) = self.hint(epoch, target)? else {
             return Ok(0);
         };
-        if !self.is_stable(self.log.op(hint.place)) {
+        if !self.log.head(hint.place).is_covered(self.acks.stable()) {
             return self.names_run(hint, epoch, targets, at);
         }
         self.hints.set(None);
@@ -98,8 +100,10 @@ impl Replica {
             mut namings,
         } = self.hints_taken(epoch);
         for i in noted..self.log.len() {
-            let op = self.log.op(i);
-            if let Some(ids) = self.named_ids(op, to)? {
+            let Some(op) = self.logged_deletion(i)? else {
+                continue;
+            };
+            if let Some(ids) = self.named_ids(&op, to)? {
                 namings.note(&ids, i)?;
             }
         }
@@ -121,6 +125,23 @@ impl Replica {
             }
         }
         Hints::new(self.alloc, epoch)
+    }
+
+    // The operation at a place of the log, if it is an unstable deletion. Only then it is made of its bytes.
+    pub(crate) fn logged_deletion(&self, place: usize) -> Result<Option<Op>, AllocError>
+        requires place { place < length self.now.log }
+        ensures some { IfOk result (λ found. IfSome found (λ op. slice_get self.now.log place ≡ Some op)) }
+        ensures none { IfOk result (λ found. IfNone found ((o : OpSeen) → slice_get self.now.log place ≡ Some o → NamesNothing self.now o)) }
+    {
+        let head = self.log.head(place);
+        if head.is_covered(self.acks.stable()) {
+            return Ok(None);
+        }
+        let OpKind::Delete = head.kind else {
+            return Ok(None);
+        };
+        let op = self.log.op(place)?;
+        Ok(Some(op))
     }
 
     // The identifiers in an epoch that this operation of the log names, if it is an unstable deletion.
@@ -163,16 +184,16 @@ impl Replica {
         ensures within { IfOk result (λ n. at + n ≤ length targets.now) }
         ensures known { IfOk result (λ n. first_unknown_over self.now epoch (drop (at + n) targets.now) ≡ first_unknown_over self.now epoch (drop at targets.now)) }
     {
-        let op = self.log.op(hint.place);
+        let op = self.log.op(hint.place)?;
         let (run, from) = targets.locate(at);
         let most = hint.count.min(run.len() - from);
         if op.epoch.same(&epoch) {
-            return self.names_count(op, epoch, targets, at, most);
+            return self.names_count(&op, epoch, targets, at, most);
         }
         let mut named = 0;
         for doublings in 0..32u32 {
             let count = most.min(1 << doublings);
-            named = self.names_count(op, epoch, targets, at, count)?;
+            named = self.names_count(&op, epoch, targets, at, count)?;
             if named < count as u64 || count == most {
                 break;
             }
@@ -230,7 +251,10 @@ impl Replica {
     {
         let from = self.cleared(epoch, target)?;
         for i in from..self.log.len() {
-            if self.names(self.log.op(i), epoch, target)? {
+            let Some(op) = self.logged_deletion(i)? else {
+                continue;
+            };
+            if self.names(&op, epoch, target)? {
                 return Ok(true);
             }
         }

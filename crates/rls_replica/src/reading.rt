@@ -16,8 +16,8 @@ use crate::replica::Replica;
 use rls_causal::Held;
 use rls_doc::Document;
 use rls_ident::{EpochName, Ident, Vector, rely};
+use rls_log::Log;
 use rls_runs::{Runs, Text};
-use rls_stable::Log;
 use rls_tree::BlockTree;
 use std::alloc::AllocError;
 
@@ -98,10 +98,10 @@ impl Replica {
 
     /// The accepted operations that are kept, in order.
     pub fn logged(&self) -> &Log
-        ensures log { result.now.ops ≡ self.now.log }
+        ensures log { result.now ≡ self.now.log }
 
         // For every history and waiting operations that the replica stands for.
-        ensures stands { (t : State) → StandsFor self.now t → (gone : List ℕ) × IsLog result.now.ops t.history gone }
+        ensures stands { (t : State) → StandsFor self.now t → (gone : List ℕ) × IsLog result.now t.history gone }
     {
         &self.log
     }

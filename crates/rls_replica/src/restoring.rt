@@ -22,7 +22,6 @@ use rls_ident::rely;
 use rls_model::{EpochPart, Parts, TextRun, TextRuns};
 use rls_ops::{Op, Ops};
 use rls_rules::{PartsError, Tested, test_all};
-use rls_stable::Log;
 use rls_tree::{Block, BlockTree};
 use std::alloc::{AllocError, Global};
 use std::cell::Cell;
@@ -66,7 +65,7 @@ impl Replica {
             epochs,
             document,
             held,
-            log: Log::of(log),
+            log,
             hints: Cell::new(None),
             gone: None,
             wanted: Cell::new(false),
@@ -82,7 +81,7 @@ fn fit(parts: &Parts)
     rely!(let _len = parts.vector.len());
     former_fit(parts.epochs.as_slice());
     runs_fit(parts.text.as_slice());
-    ops_fit(parts.log.as_slice());
+    rely!(parts.log.fits());
     ops_fit(parts.held.as_slice());
 }
 

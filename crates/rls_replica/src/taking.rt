@@ -3,6 +3,8 @@
 ghost use Rattle.std.specs.Prelude.{◌≡◌, ◌+◌, ◌-◌, ◌^◌, ◌<◌, ◌≤◌, ◌↔◌, ◌∷◌, [], List, ℕ, length, Some, None, is_some, IfOk, OnOk, OnErr, IsErrOf};
 ghost use Rattle.rls_ident.specs.declared.limits.TheConstants.{MEMBERS};
 ghost use Rattle.rls_ops.specs.declared.op.Op.{Op};
+ghost use Rattle.rls_ident.specs.Vectors.{join};
+ghost use Rattle.rls_ops.specs.Rows.{row_of, stable_of};
 ghost use Rattle.rls_ops.specs.Sizes.{head_size};
 ghost use Rattle.rls_model.specs.Answers.{answer_of};
 ghost use Rattle.rls_model.specs.Receiving.{State, release_all};
@@ -20,7 +22,7 @@ ghost use Rattle.rls_replica.specs.Faults.{IsForeign};
 
 use crate::replica::Replica;
 use rls_ident::limits::INPUT_BYTES;
-use rls_ident::rely;
+use rls_ident::{Vector, rely};
 use rls_model::{Receipt, Release, Taken};
 use rls_ops::{Message, Op, Ops};
 use std::alloc::{AllocError, Global};
@@ -183,6 +185,16 @@ impl Replica {
         Ok(taken)
     }
 
+    /// How many operations of each member a member is known to have accepted, or all members are: no message for it has these.
+    pub fn known_to(&self, to: u32) -> Result<Vector, AllocError>
+        requires member { to < members self.now }
+        ensures known { IfOk result (λ v. v ≡ join (row_of self.now.acks to) (stable_of self.now.acks)) }
+    {
+        let mut known = self.acks.row(to).copy()?;
+        known.join_in(self.acks.stable());
+        Ok(known)
+    }
+
     /// The message for a member: one's own vector, and of the kept operations that the member isn't known to have accepted and that
     /// aren't stable as many of the first ones as a message holds.
     ///
@@ -200,8 +212,7 @@ impl Replica {
         if to >= members {
             return Err(SendError::NotMember);
         }
-        let mut known = self.acks.row(to).copy()?;
-        known.join_in(self.acks.stable());
+        let known = self.known_to(to)?;
         let room = INPUT_BYTES - head_len(members);
         let message = Message {
             group: self.group,

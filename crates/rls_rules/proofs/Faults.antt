@@ -1,6 +1,7 @@
 -- What is known of the entries of parts, place by place.
-use Rattle.std.proofs.Common.{◌≡◌, ℕ, suc, zero, ◌+◌, ◌<◌, ◌≤◌, ◌&&◌, Bool, true, false, List, [], ◌∷◌, ◌++◌, length, map, get_or, take, drop, refl, sym, ap, ◌∙◌, subst, arith, inl, inr, Some, None, if◌then◌else◌, add-one, drop-cons}
+use Rattle.std.proofs.Common.{◌≡◌, ℕ, suc, zero, ◌+◌, ◌<◌, ◌≤◌, ◌&&◌, Bool, true, false, List, [], ◌∷◌, ◌++◌, length, map, get_or, take, drop, refl, sym, ap, ◌∙◌, subst, arith, inl, inr, Some, None, if◌then◌else◌}
 use Rattle.std.proofs.lemmas.List.{drop_all}
+use Rattle.std.specs.Prelude.{slice_get}
 use Rattle.std.specs.List.{list_any}
 use Rattle.rls_ident.specs.declared.epoch_name.EpochName.{EpochName}
 use Rattle.rls_ident.specs.declared.epoch_name.EpochName.TheVariants.{Origin, Of}
@@ -8,6 +9,7 @@ use Rattle.rls_ident.specs.EpochNames.{name_eq, is_of_member, is_within}
 use Rattle.rls_ident.specs.Lists.{IsIn}
 use Rattle.rls_ident.specs.Vectors.{raise}
 use Rattle.rls_ident.proofs.Members.{and_none, any_in, in_all, in_any, lt_test, same_bool}
+use Rattle.rls_ident.proofs.Loops.{drop_reads}
 use Rattle.rls_ident.proofs.Named.{name_eq_is, name_eq_refl}
 use Rattle.rls_rename.specs.Connected.{spanned}
 use Rattle.rls_rename.specs.Keeping.{reached}
@@ -115,25 +117,23 @@ before_there v list ts so_far i d e f a l t q = taken_before v list i d (subst (
 
 -- ---- operations
 
-drop_there : {A : Type 0} (xs : List A) (i : ℕ) (d : A) → i < length xs → drop i xs ≡ get_or xs i d ∷ drop (i + 1) xs
-drop_there xs i d l = rw add-one (drop-cons xs i d l)
-
-pub log_on : (p : Parts) (v : List ℕ) (i : ℕ) (list os : List Op) (d : Op) → list ≡ os → i < length list → is_next p v (get_or list i d) ≡ true → log_fault p v i (drop i os) ≡ log_fault p (raise v (get_or list i d).author) (i + 1) (drop (i + 1) os)
-log_on p v i list os d e l n =
-    let o = get_or list i d in
+pub log_on : (p : Parts) (v : List ℕ) (i : ℕ) (os : List Op) (o : Op) → slice_get os i ≡ Some o → is_next p v o ≡ true → log_fault p v i (drop i os) ≡ log_fault p (raise v o.author) (i + 1) (drop (i + 1) os)
+log_on p v i os o h n =
     let one : suc i ≡ i + 1 = omega arith in
-    ap (log_fault p v i) (ap (drop i) (sym e) ∙ drop_there list i d l)
-    ∙ (ap (λ b. if b then log_fault p (raise v o.author) (suc i) (drop (i + 1) list) else Some i) n
-    ∙ (ap (λ k. log_fault p (raise v o.author) k (drop (i + 1) list)) one ∙ ap (λ xs. log_fault p (raise v o.author) (i + 1) (drop (i + 1) xs)) e))
+    ap (log_fault p v i) (drop_reads os i o h)
+    ∙ (ap (λ b. if b then log_fault p (raise v o.author) (suc i) (drop (i + 1) os) else Some i) n ∙ ap (λ k. log_fault p (raise v o.author) k (drop (i + 1) os)) one)
 
-pub raised_on : (v : List ℕ) (i : ℕ) (list os : List Op) (d : Op) → list ≡ os → i < length list → raised_by v (drop i os) ≡ raised_by (raise v (get_or list i d).author) (drop (i + 1) os)
-raised_on v i list os d e l = ap (raised_by v) (ap (drop i) (sym e) ∙ drop_there list i d l) ∙ ap (λ xs. raised_by (raise v (get_or list i d).author) (drop (i + 1) xs)) e
+pub log_stops : (p : Parts) (v : List ℕ) (i : ℕ) (os : List Op) (o : Op) → slice_get os i ≡ Some o → is_next p v o ≡ false → log_fault p v i (drop i os) ≡ Some i
+log_stops p v i os o h n = ap (log_fault p v i) (drop_reads os i o h) ∙ ap (λ b. if b then log_fault p (raise v o.author) (suc i) (drop (i + 1) os) else Some i) n
 
-pub log_done : (p : Parts) (v : List ℕ) (i : ℕ) (list os : List Op) → list ≡ os → length list ≤ i → log_fault p v i (drop i os) ≡ None
-log_done p v i list os e l = ap (log_fault p v i) (ap (drop i) (sym e) ∙ drop_all i list l)
+pub raised_on : (v : List ℕ) (i : ℕ) (os : List Op) (o : Op) → slice_get os i ≡ Some o → raised_by v (drop i os) ≡ raised_by (raise v o.author) (drop (i + 1) os)
+raised_on v i os o h = ap (raised_by v) (drop_reads os i o h)
 
-pub raised_done : (v : List ℕ) (i : ℕ) (list os : List Op) → list ≡ os → length list ≤ i → raised_by v (drop i os) ≡ v
-raised_done v i list os e l = ap (raised_by v) (ap (drop i) (sym e) ∙ drop_all i list l)
+pub log_done : (p : Parts) (v : List ℕ) (i : ℕ) (os : List Op) → length os ≤ i → log_fault p v i (drop i os) ≡ None
+log_done p v i os l = ap (log_fault p v i) (drop_all i os l)
+
+pub raised_done : (v : List ℕ) (i : ℕ) (os : List Op) → length os ≤ i → raised_by v (drop i os) ≡ v
+raised_done v i os l = ap (raised_by v) (drop_all i os l)
 
 -- ---- rows
 

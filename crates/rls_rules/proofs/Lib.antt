@@ -4,3 +4,4 @@ pub mod Building
 pub mod Faults
 pub mod InOrder
 pub mod TextEpochs
+pub mod Heads

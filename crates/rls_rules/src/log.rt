@@ -4,13 +4,13 @@ ghost use Rattle.std.specs.Prelude.{◌≡◌, ◌-◌, ◌^◌, ◌<◌, [], No
 ghost use Rattle.rls_ops.specs.Same.{numbers_eq};
 ghost use Rattle.rls_parts.specs.Given.{AreEpochParts, AreGiven};
 ghost use Rattle.rls_parts.specs.Reading.{epochs_of, has_member, stable_of_parts};
-ghost use Rattle.rls_parts.specs.Rules.{epoch_fault, is_kept_name, is_last, is_next};
-ghost use Rattle.rls_rules.specs.Tested.{IsLogTested};
+ghost use Rattle.rls_parts.specs.Rules.{epoch_fault, is_kept_name};
+ghost use Rattle.rls_rules.specs.Tested.{is_head_last, is_head_next, IsLogTested};
 
 use rls_epoch::Epochs;
 use rls_ident::{EpochName, Vector};
+use rls_log::{OpHead, OpKind};
 use rls_model::{Members, Parts};
-use rls_ops::{Body, Op};
 use std::alloc::AllocError;
 
 /// Whether the member is one of these.
@@ -21,36 +21,44 @@ pub(crate) fn has_member(members: &Members, member: u32) -> bool
 }
 
 // Whether the operation isn't a leave, or its author's last, and its author has left.
-fn is_last(parts: &Parts, op: &Op) -> bool
-    requires author { op.now.author < length parts.now.vector }
-    ensures last { result ≡ is_last parts.now op.now }
+fn is_last(parts: &Parts, head: &OpHead) -> bool
+    requires author { head.now.author < length parts.now.vector }
+    ensures last { result ≡ is_head_last parts.now head.now }
 {
-    match &op.body {
-        Body::Insert { .. } | Body::Delete { .. } | Body::Rename { .. } => true,
-        Body::Leave => {
-            has_member(&parts.left, op.author) && op.seq == parts.vector.get(op.author)
+    match head.kind {
+        OpKind::Insert => true,
+        OpKind::Delete => true,
+        OpKind::Rename => true,
+        OpKind::Leave => {
+            has_member(&parts.left, head.author) && head.seq == parts.vector.get(head.author)
         }
     }
 }
 
-// Whether the operation comes next after those that the vector counts.
-fn is_next(parts: &Parts, epochs: &Epochs, running: &Vector, op: &Op) -> bool
+// Whether the operation with this head and this context comes next after those that the vector counts.
+fn is_next(
+    parts: &Parts,
+    epochs: &Epochs,
+    running: &Vector,
+    head: &OpHead,
+    context: &Vector,
+) -> bool
     requires counts { length parts.now.vector ≡ parts.now.members }
     requires running { length running.now ≡ parts.now.members }
     requires epochs_are { epochs.now.epochs ≡ epochs_of parts.now }
     requires rule { epoch_fault parts.now [] parts.now.epochs ≡ None }
     requires given { AreEpochParts parts.now.epochs }
-    ensures next { result ≡ is_next parts.now running.now op.now }
-    ensures author { IsTrue result → op.now.author < parts.now.members }
-    ensures room { IsTrue result → slice_index running.now op.now.author < 2 ^ 32 - 1 }
+    ensures next { result ≡ is_head_next parts.now running.now head.now context.now }
+    ensures author { IsTrue result → head.now.author < parts.now.members }
+    ensures room { IsTrue result → slice_index running.now head.now.author < 2 ^ 32 - 1 }
 {
-    if op.check_shape(parts.members).is_err() {
+    if head.author >= parts.members || head.members != parts.members || !head.is_shaped {
         return false;
     }
-    op.seq as u64 == running.get(op.author) as u64 + 1
-        && op.context.at_most(running)
-        && is_kept_name(parts, epochs, op.epoch)
-        && is_last(parts, op)
+    head.seq as u64 == running.get(head.author) as u64 + 1
+        && context.at_most(running)
+        && is_kept_name(parts, epochs, head.epoch)
+        && is_last(parts, head)
 }
 
 // Whether the epoch is one of the list.
@@ -84,13 +92,13 @@ pub fn log_fault(
     ensures tested { IfOk result (IsLogTested parts.now) }
 {
     let mut running = stable.copy()?;
-    let ops = parts.log.as_slice();
-    for i in 0..ops.len() {
-        let op = &ops[i];
-        if !is_next(parts, epochs, &running, op) {
+    for i in 0..parts.log.len() {
+        let head = parts.log.head(i);
+        let context = parts.log.context(i)?;
+        if !is_next(parts, epochs, &running, &head, &context) {
             return Ok(Err(i as u64));
         }
-        running.raise(op.author);
+        running.raise(head.author);
     }
     Ok(Ok(same_counts(&running, &parts.vector)))
 }

@@ -11,8 +11,8 @@ ghost use Rattle.rls_parts.specs.Rules.{epoch_fault, log_fault, names_eq, are_re
 
 use rls_epoch::Epochs;
 use rls_ident::{EpochName, Vector};
+use rls_log::Log;
 use rls_model::{EpochPart, Parts};
-use rls_ops::Op;
 use std::alloc::{AllocError, Global};
 
 // Whether some epoch of the list is stable.
@@ -45,12 +45,12 @@ fn names_eq(list: &[EpochPart], names: &[EpochName]) -> bool
 }
 
 // The epochs of these operations, in order.
-fn epochs_of_ops(alloc: Global, ops: &[Op]) -> Result<Vec<EpochName>, AllocError>
+fn epochs_of_ops(alloc: Global, ops: &Log) -> Result<Vec<EpochName>, AllocError>
     ensures epochs { IfOk result (λ names. names.items ≡ map (λ o. o.epoch) ops.now) }
 {
     let mut names = Vec::with_capacity(alloc, ops.len())?;
-    for op in ops {
-        names.push(op.epoch)?;
+    for i in 0..ops.len() {
+        names.push(ops.head(i).epoch)?;
     }
     Ok(names)
 }
@@ -72,7 +72,7 @@ pub fn are_retained(
     if !has_stable(parts, stable) {
         return Ok(false);
     }
-    let marked = epochs_of_ops(alloc, parts.log.as_slice())?;
+    let marked = epochs_of_ops(alloc, &parts.log)?;
     let part = epochs.retained(stable, marked.as_slice())?;
     Ok(names_eq(parts.epochs.as_slice(), part.names.as_slice()))
 }

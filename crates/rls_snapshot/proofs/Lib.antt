@@ -1,4 +1,3 @@
-pub mod Uncovered
 pub mod NamedNodes
 pub mod FirstPlaces
 pub mod MaximalRuns

@@ -7,6 +7,6 @@ mod places;
 mod text;
 
 pub use epochs::epoch_parts;
-pub use lists::{left_members, missing, other_rows, waiting};
+pub use lists::{left_members, other_rows, waiting};
 pub use places::Places;
 pub use text::text_runs;

@@ -1,16 +1,13 @@
 //! Parts that are lists of rows, members and operations.
 
-ghost use Rattle.std.specs.Prelude.{◌≡◌, ◌<◌, length, IfOk};
-ghost use Rattle.rls_ident.specs.Lists.{IsIn};
-ghost use Rattle.rls_ops.specs.declared.op.Op.{Op};
-ghost use Rattle.rls_ops.specs.Rows.{missing_for};
+ghost use Rattle.std.specs.Prelude.{◌≡◌, length, IfOk};
 ghost use Rattle.rls_seen.specs.Kept.{other_rows, left_below};
 
 use rls_causal::Held;
 use rls_ident::Vector;
 use rls_model::{Members, Rows};
 use rls_ops::Ops;
-use rls_stable::{Acks, Log};
+use rls_stable::Acks;
 use std::alloc::{AllocError, Global};
 
 /// The rows of all members but the own one, in order.
@@ -40,22 +37,6 @@ pub fn left_members(alloc: Global, acks: &Acks, members: u32) -> Result<Members,
         }
     }
     Ok(left)
-}
-
-/// The operations of a log that a vector doesn't cover, in order.
-pub fn missing(alloc: Global, log: &Log, vector: &Vector) -> Result<Ops, AllocError>
-    requires authors { (o : Op) → IsIn o log.now.ops → o.author < length vector.now }
-    ensures ops { IfOk result (λ ops. ops ≡ missing_for vector.now log.now.ops) }
-{
-    let mut ops = Ops::new(alloc);
-    for i in 0..log.len() {
-        let op = log.op(i);
-        if op.seq <= vector.get(op.author) {
-            continue;
-        }
-        ops.push(op.copy()?)?;
-    }
-    Ok(ops)
 }
 
 /// The waiting operations, in order.

@@ -1,9 +1,7 @@
-//! What every member has accepted, and the operations that not every member has.
+//! What every member has accepted.
 #![tactic(auto)]
 
 mod acks;
-mod log;
 mod rows;
 
 pub use acks::Acks;
-pub use log::Log;

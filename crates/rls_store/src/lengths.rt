@@ -5,7 +5,7 @@ ghost use Rattle.rls_seen.specs.Kept.{retained_over};
 ghost use Rattle.rls_store.specs.Sizes.{rows_size, stems_size, epochs_size, text_size, log_size, held_size, stored_size};
 
 use rls_fields::{
-    kept_epochs_len, left_count, missing_len, other_rows_len, stems_len, tree_len, waiting_len,
+    kept_epochs_len, left_count, other_rows_len, stems_len, tree_len, waiting_len,
 };
 use rls_ident::rely;
 use rls_replica::Replica;
@@ -48,7 +48,7 @@ fn log_part(replica: &Replica) -> u64
     ensures size { result ≡ min (log_size replica.now) (2 ^ 64 - 1) }
 {
     rely!(replica.sane());
-    missing_len(replica.logged(), replica.acks().stable())
+    replica.logged().missing_len(replica.acks().stable())
 }
 
 fn held_part(replica: &Replica) -> u64

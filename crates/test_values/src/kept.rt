@@ -1,8 +1,9 @@
 //! What a replica keeps: rows, a log, and stems.
 
 use rls_ident::{Ident, Spot, Vector};
+use rls_log::Log;
 use rls_ops::{Body, Op, Text};
-use rls_stable::{Acks, Log};
+use rls_stable::Acks;
 use rls_stems::StemTable;
 use std::alloc::Global;
 use std::test::Fail;
@@ -100,8 +101,7 @@ fn put_three(alloc: Global, log: &mut Log) -> Result<(), Fail> {
         (0, 2, &[1, 1], ORIGIN, Deed::Leave),
     ];
     for told in all {
-        log.reserve()?;
-        log.push(op_of(alloc, *told)?);
+        log.push(&op_of(alloc, *told)?)?;
     }
     Ok(())
 }
@@ -120,6 +120,20 @@ fn are(ops: &[Op], numbers: &[(u32, u32)]) -> bool {
     }
     for (i, op) in ops.iter().enumerate() {
         if (op.author, op.seq) != numbers[i] {
+            return false;
+        }
+    }
+    true
+}
+
+/// Whether these are the authors and the numbers of the operations of a log.
+fn are_logged(log: &Log, numbers: &[(u32, u32)]) -> bool {
+    if log.len() != numbers.len() {
+        return false;
+    }
+    for i in 0..log.len() {
+        let head = log.head(i);
+        if (head.author, head.seq) != numbers[i] {
             return false;
         }
     }
@@ -146,7 +160,7 @@ fn lacks(alloc: Global, log: &Log, lack: &Lack) -> Result<bool, Fail> {
 
 /// Whether the log has three operations, of which the last has the number 2.
 fn has_three(log: &Log) -> bool {
-    log.len() == 3 && log.op(2).seq == 2
+    log.len() == 3 && log.head(2).seq == 2
 }
 
 /// Whether these operations are left when the stable ones are dropped.
@@ -158,7 +172,7 @@ fn keeps(
 ) -> Result<bool, Fail> {
     let vector = Vector::from_counts(alloc, stable)?;
     log.drop_at_most(&vector);
-    Ok(are(log.as_slice(), numbers))
+    Ok(are_logged(log, numbers))
 }
 
 #[test]

@@ -20,7 +20,7 @@ pub returns-in-4 : goal.returns-in-4
 returns-in-4 c = record { place = omega (arith, named c.args.form c.args.parts.now c.args.rule 4 c.args.index c.in-4.is ∙ at_text_run c.args.form c.args.parts.now c.args.index, ap (sum_by text_run_size) (c.front-in-4.ensures.front ∙ ap (take c.args.index) c.as_slice-in-4.ensures.items)) }
 
 pub returns-in-5 : goal.returns-in-5
-returns-in-5 c = record { place = omega (arith, named c.args.form c.args.parts.now c.args.rule 5 c.args.index c.in-5.is ∙ at_logged c.args.form c.args.parts.now c.args.index, ap (sum_by op_size) (c.front-in-5.ensures.front ∙ ap (take c.args.index) c.as_slice-in-5.ensures.ops)) }
+returns-in-5 c = record { place = omega (arith, named c.args.form c.args.parts.now c.args.rule 5 c.args.index c.in-5.is ∙ at_logged c.args.form c.args.parts.now c.args.index) }
 
 pub returns-in-6 : goal.returns-in-6
 returns-in-6 c = record { place = omega (arith, named c.args.form c.args.parts.now c.args.rule 6 c.args.index c.in-6.is ∙ at_log c.args.form c.args.parts.now c.args.index) }

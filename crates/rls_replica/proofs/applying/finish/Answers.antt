@@ -11,14 +11,14 @@ use Rattle.rls_replica.proofs.applying.finish.Goals as goal
 pub note-requires-clause-newest : goal.note-requires-clause-newest
 note-requires-clause-newest c =
     let m = c.requires.may in
-    subst (λ (ss : List Stem). IsNewest ss c.args.op.author c.args.op.seq) m.stems_are (newest m.replica c.args.op m.sane m.may)
+    subst (λ (ss : List Stem). IsNewest ss c.args.op.now.author c.args.op.now.seq) m.stems_are (newest m.replica c.args.op.now m.sane m.may)
 
 pub add_epoch-requires-clause-may : goal.add_epoch-requires-clause-may
 add_epoch-requires-clause-may c = λ h.
     let m = c.requires.may in
-    subst (λ (E : Epochs). MayRename E c.args.op (former_in c.args.op.body)) m.epochs_are (may_add m.replica c.args.op m.sane m.may (subst (λ (r : Option Renaming). IsSome r) c.requires.renaming h))
+    subst (λ (E : Epochs). MayRename E c.args.op.now (former_in c.args.op.now.body)) m.epochs_are (may_add m.replica c.args.op.now m.sane m.may (subst (λ (r : Option Renaming). IsSome r) c.requires.renaming h))
 
 pub add_epoch-requires-clause-total : goal.add_epoch-requires-clause-total
 add_epoch-requires-clause-total c = λ h.
     let m = c.requires.may in
-    subst (λ (E : Epochs). former_sum E.nodes + length (former_in c.args.op.body) < 2 ^ 64) m.epochs_are (add_room m.replica c.args.op m.sane m.may (subst (λ (r : Option Renaming). IsSome r) c.requires.renaming h))
+    subst (λ (E : Epochs). former_sum E.nodes + length (former_in c.args.op.now.body) < 2 ^ 64) m.epochs_are (add_room m.replica c.args.op.now m.sane m.may (subst (λ (r : Option Renaming). IsSome r) c.requires.renaming h))

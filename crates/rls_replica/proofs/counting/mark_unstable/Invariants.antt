@@ -8,5 +8,5 @@ use Rattle.rls_replica.proofs.counting.mark_unstable.Given as goal
 abbrev pub invariant-loop-i : goal.invariant-loop-i
 invariant-loop-i l = record {
   epochs : l.epochs.epochs ≡ l.fn.epochs.epochs;
-  marks : (e : EpochName) → (is_marked (map (λ o. o.epoch) (missing_for l.stable (drop l.i l.log.ops))) e || is_marked l.epochs.marks e) ≡ is_marked (map (λ o. o.epoch) (missing_for l.stable l.log.ops)) e;
+  marks : (e : EpochName) → (is_marked (map (λ o. o.epoch) (missing_for l.stable (drop l.i l.log))) e || is_marked l.epochs.marks e) ≡ is_marked (map (λ o. o.epoch) (missing_for l.stable l.log)) e;
 }

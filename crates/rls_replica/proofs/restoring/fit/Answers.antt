@@ -9,15 +9,14 @@ use Rattle.rls_replica.proofs.restoring.fit.Goals as goal
 pub returns : goal.returns
 returns c =
     let p = c.args.parts.now in
-    let log = subst AreFit c.as_slice-3.ensures.ops c.ops_fit.ensures.ops in
-    let waiting = subst AreFit c.as_slice-4.ensures.ops c.ops_fit-2.ensures.ops in
+    let waiting = subst AreFit c.as_slice-3.ensures.ops c.ops_fit.ensures.ops in
     record {
       ranged = record {
         group = c.large.ensures.large;
         vector = c.len-len.ensures.bounded;
         former = former_each p.epochs (subst HaveFormer c.as_slice.ensures.items c.former_fit.ensures.former);
         runs = subst (λ rs. list_all is_run (map (λ (r : TextRun). r.run) rs) ≡ true) c.as_slice-2.ensures.items c.runs_fit.ensures.runs;
-        log = λ o q. (fit_each p.log log o q).0;
+        log = λ o q. (fit_each p.log c.fits.ensures.whole o q).0;
         held = λ o q. fit_each p.held waiting o q;
       };
     }

@@ -1,10 +1,12 @@
-use Rattle.std.proofs.Common.{sym, ap, ◌∙◌}
+use Rattle.std.proofs.Common.{◌≡◌, sym, ap, ◌∙◌, true, false}
 use Rattle.rls_ident.specs.Vectors.{raise}
 use Rattle.rls_ident.proofs.Vectors.{length-raise}
 use Rattle.rls_ops.specs.Same.{numbers_eq}
 use Rattle.rls_parts.specs.Rules.{is_next, log_fault, raised_by}
-use Rattle.std.proofs.Common.{length, drop, ◌+◌}
-use Rattle.rls_rules.proofs.Faults.{length-stable_parts, log_on, raised_on, log_done, raised_done}
+use Rattle.std.proofs.Common.{length, drop, ◌+◌, arith}
+use Rattle.rls_rules.specs.Tested.{is_head_next}
+use Rattle.rls_rules.proofs.Faults.{length-stable_parts, log_on, log_stops, raised_on, log_done, raised_done}
+use Rattle.rls_rules.proofs.Heads.{head_next}
 use Rattle.rls_rules.proofs.log.log_fault.Goals as goal
 
 pub loop-i-init : goal.loop-i-init
@@ -17,22 +19,27 @@ loop-i-init c =
       raised = ap (λ v. raised_by v p.log) e;
     }
 
+pub returns-then-not-is_next : goal.returns-then-not-is_next
+returns-then-not-is_next c =
+    let p = c.args.parts.now in
+    let v = c.loop-i.running in
+    let h = c.head-head.ensures.head in
+    let n = sym (head_next p v c.head-head.result h.0 h.2) ∙ ap (is_head_next p v c.head-head.result) (sym (c.in_ok-context.ensures.context h.0 h.1)) ∙ sym c.if-not-is_next.ensures.next in
+    record { tested = sym c.loop-i.invariant.pass ∙ log_stops p v c.loop-i.i p.log h.0 h.1 n }
+
 pub loop-i-preserved : goal.loop-i-preserved
 loop-i-preserved c =
     let p = c.args.parts.now in
     let v = c.loop-i.running in
     let i = c.loop-i.i in
-    let list = c.as_slice-ops.result.now in
-    let d = c.index-ops-i.result in
-    let e = c.as_slice-ops.ensures.ops in
-    let n = sym c.if-not-is_next.ensures.next in
-    let r = c.raise.ensures.raise in
+    let h = c.head-head.ensures.head in
+    let o = h.0 in
+    let n = sym (head_next p v c.head-head.result o h.2) ∙ ap (is_head_next p v c.head-head.result) (sym (c.in_ok-context.ensures.context o h.1)) ∙ sym c.if-not-is_next.ensures.next in
+    let r = c.raise.ensures.raise ∙ ap (raise v) h.2.author in
     record {
-      counts = ap length r ∙ (length-raise v d.author ∙ c.loop-i.invariant.counts);
-      pass = ap (λ u. log_fault p u (i + 1) (drop (i + 1) p.log)) (r ∙ ap (λ o. raise v o.author) c.index-ops-i.is)
-          ∙ (sym (log_on p v i list p.log d e c.loop-i-test.true (ap (λ o. is_next p v o) (sym c.index-ops-i.is) ∙ n)) ∙ c.loop-i.invariant.pass);
-      raised = ap (λ u. raised_by u (drop (i + 1) p.log)) (r ∙ ap (λ o. raise v o.author) c.index-ops-i.is)
-          ∙ (sym (raised_on v i list p.log d e c.loop-i-test.true) ∙ c.loop-i.invariant.raised);
+      counts = ap length r ∙ (length-raise v o.author ∙ c.loop-i.invariant.counts);
+      pass = ap (λ u. log_fault p u (i + 1) (drop (i + 1) p.log)) r ∙ (sym (log_on p v i p.log o h.1 n) ∙ c.loop-i.invariant.pass);
+      raised = ap (λ u. raised_by u (drop (i + 1) p.log)) r ∙ (sym (raised_on v i p.log o h.1) ∙ c.loop-i.invariant.raised);
     }
 
 pub returns : goal.returns
@@ -40,11 +47,10 @@ returns c =
     let p = c.args.parts.now in
     let v = c.loop-i.running in
     let i = c.loop-i.i in
-    let list = c.as_slice-ops.result.now in
-    let e = c.as_slice-ops.ensures.ops in
+    let end = c.len-i-end.ensures.len in
     record {
       tested = (
-        sym c.loop-i.invariant.pass ∙ log_done p v i list p.log e c.loop-i-test.false,
-        c.same_counts.ensures.same ∙ ap (λ u. numbers_eq u p.vector) (sym (raised_done v i list p.log e c.loop-i-test.false) ∙ c.loop-i.invariant.raised),
+        sym c.loop-i.invariant.pass ∙ log_done p v i p.log (omega (arith, c.loop-i-test.false, end)),
+        c.same_counts.ensures.same ∙ ap (λ u. numbers_eq u p.vector) (sym (raised_done v i p.log (omega (arith, c.loop-i-test.false, end))) ∙ c.loop-i.invariant.raised),
       );
     }

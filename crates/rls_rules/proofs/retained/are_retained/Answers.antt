@@ -19,7 +19,7 @@ pub retained-requires-clause-marked : goal.retained-requires-clause-marked
 retained-requires-clause-marked c e q =
     let r = c.requires in
     let p = c.args.parts.now in
-    let list = c.as_slice-2.ensures.value ∙ (c.in_ok-marked.ensures.epochs ∙ ap (map (λ (o : Op). o.epoch)) c.as_slice.ensures.ops) in
+    let list = c.as_slice.ensures.value ∙ c.in_ok-marked.ensures.epochs in
     let w = in_map (λ (o : Op). o.epoch) e p.log (subst (IsIn e) list q) in
     kept_at p c.args.epochs.now.epochs r.given.epochs r.rule r.epochs_are e (subst (λ f. IsIn f (names_of p.epochs)) w.2 (epoch_named p (stable_of_parts p) r.log w.0 w.1))
 
@@ -27,8 +27,8 @@ pub returns : goal.returns
 returns c =
     let r = c.requires in
     let p = c.args.parts.now in
-    let list = c.as_slice-2.ensures.value ∙ (c.in_ok-marked.ensures.epochs ∙ ap (map (λ (o : Op). o.epoch)) c.as_slice.ensures.ops) in
+    let list = c.as_slice.ensures.value ∙ c.in_ok-marked.ensures.epochs in
     record {
-      retained = retained_done p c.args.epochs.now.epochs c.args.stable.now c.as_slice-2.result.now c.as_slice-4.result.now c.as_slice-3.result.now c.names_eq.result r.epochs_are r.stable_is list
-          (c.as_slice-4.ensures.value ∙ c.in_ok-part.ensures.names) c.as_slice-3.ensures.items c.if-not-has_stable.ensures.has c.names_eq.ensures.equal;
+      retained = retained_done p c.args.epochs.now.epochs c.args.stable.now c.as_slice.result.now c.as_slice-3.result.now c.as_slice-2.result.now c.names_eq.result r.epochs_are r.stable_is list
+          (c.as_slice-3.ensures.value ∙ c.in_ok-part.ensures.names) c.as_slice-2.ensures.items c.if-not-has_stable.ensures.has c.names_eq.ensures.equal;
     }

@@ -2,7 +2,6 @@ use Rattle.std.proofs.Common.{◌≡◌, ◌++◌, ◌∙◌, ℕ, true, List, l
 use Rattle.std.specs.Prelude.{All}
 use Rattle.std.specs.List.{flat_map}
 use Rattle.rls_ident.specs.declared.epoch_name.EpochName.{EpochName}
-use Rattle.rls_ident.specs.Lists.{IsIn}
 use Rattle.rls_rename.specs.Tree.{Epochs, is_kept}
 use Rattle.rls_ops.specs.declared.op.Op.{Op}
 use Rattle.rls_ops.specs.Rows.{AcksSeen, stable_of, missing_for}
@@ -13,7 +12,6 @@ use Rattle.rls_model.specs.declared.parts.Stem.{Stem}
 use Rattle.rls_model.specs.Parts.{epoch_parts, text_runs}
 use Rattle.rls_seen.specs.Seen.{members, vector, stable_over, unstable_over}
 use Rattle.rls_seen.specs.Kept.{retained_over, other_rows, left_below}
-use Rattle.rls_seen.proofs.Needed.{log_author}
 use Rattle.rls_replica.proofs.Marking.{retained_kept}
 use Rattle.rls_fields.specs.Fields.{head_bytes, stems_bytes, epoch_bytes, text_run_bytes}
 use Rattle.rls_fields.specs.FieldSizes.{epoch_size, text_run_size}
@@ -48,13 +46,8 @@ put_text_runs-requires c = record { small = omega (arith, ap (λ es. sum_by text
 pub put_missing-requires : goal.put_missing-requires
 put_missing-requires c =
     let s = c.args.replica.now in
-    let log = ap (λ (v : List ℕ). missing_for v c.logged.result.now.ops) (c.stable.ensures.stable ∙ ap (λ (a : AcksSeen). stable_of a) c.acks-acks.ensures.acks) ∙ ap (λ (os : List Op). missing_for (stable_over s) os) c.logged.ensures.log in
-    record {
-      authors = λ o p.
-          let l = log_author s o c.sane.ensures.sane (subst (λ (os : List Op). IsIn o os) c.logged.ensures.log p) in
-          omega (arith, l, c.stable.ensures.len, ap (λ (a : AcksSeen). length a.mine) c.acks-acks.ensures.acks);
-      small = omega (arith, ap (sum_by op_size) log, c.requires.small);
-    }
+    let log = ap (λ (v : List ℕ). missing_for v c.logged.result.now) (c.stable.ensures.stable ∙ ap (λ (a : AcksSeen). stable_of a) c.acks-acks.ensures.acks) ∙ ap (λ (os : List Op). missing_for (stable_over s) os) c.logged.ensures.log in
+    record { small = omega (arith, ap (sum_by op_size) log, c.requires.small) }
 
 pub put_waiting-requires : goal.put_waiting-requires
 put_waiting-requires c = record { small = omega (arith, ap (sum_by op_size) c.held.ensures.held, c.requires.small) }
@@ -74,7 +67,7 @@ returns c =
     let p8 = c.put_missing.new.out.items in
     let p9 = c.put_waiting.new.out.items in
     let epochs = ap (λ (E : Epochs). epoch_parts E.nodes c.args.places.now) c.epochs.ensures.epochs ∙ ap (λ (es : List EpochName). epoch_parts s.epochs.nodes es) c.requires.names in
-    let log = ap (λ (v : List ℕ). missing_for v c.logged.result.now.ops) (c.stable.ensures.stable ∙ ap (λ (a : AcksSeen). stable_of a) c.acks-acks.ensures.acks) ∙ ap (λ (os : List Op). missing_for (stable_over s) os) c.logged.ensures.log in
+    let log = ap (λ (v : List ℕ). missing_for v c.logged.result.now) (c.stable.ensures.stable ∙ ap (λ (a : AcksSeen). stable_of a) c.acks-acks.ensures.acks) ∙ ap (λ (os : List Op). missing_for (stable_over s) os) c.logged.ensures.log in
     let head : head_bytes 4 c.group.result n c.me.result ≡ head_bytes 4 s.group (members s) s.acks.me =
     ap (λ g. head_bytes 4 g n c.me.result) c.group.ensures.group ∙ ap (λ m. head_bytes 4 s.group m c.me.result) c.members-members.ensures.members ∙ ap (λ a. head_bytes 4 s.group (members s) a) c.me.ensures.me in
     let mine = c.mine.ensures.mine ∙ ap (λ (a : AcksSeen). a.mine) c.acks-acks.ensures.acks in

@@ -1,6 +1,5 @@
-use Rattle.std.proofs.Common.{◌∙◌, ◌++◌, List, [], ◌∷◌, ap, subst, refl}
+use Rattle.std.proofs.Common.{◌∙◌, List, ap, subst, refl}
 use Rattle.rls_rename.specs.Tree.{Epochs}
-use Rattle.rls_ops.specs.declared.op.Op.{Op}
 use Rattle.rls_model.specs.declared.parts.Stem.{Stem}
 use Rattle.rls_model.specs.Stems.{stems_after}
 use Rattle.rls_seen.specs.Seen.{Seen}
@@ -21,13 +20,13 @@ after c =
     let o = c.args.op in
     let p = c.in_ok-renaming.ensures in
     let f = c.finish.ensures in
-    accepted_is i o c.finish.new.acks c.finish.new.stems.stems c.finish.new.epochs.epochs (entries_of c.prepare.new.document.blocks) c.remove-held.new.self c.finish.new.log.ops
+    accepted_is i o c.finish.new.acks c.finish.new.stems.stems c.finish.new.epochs.epochs (entries_of c.prepare.new.document.blocks) c.remove-held.new.self c.prepare.new.log
     f.acks
     (f.stems ∙ ap (λ (ss : List Stem). stems_after ss o.author o.seq o.body) p.stems)
     (f.epochs ∙ ap (λ (E : Epochs). epochs_after E o) p.epochs)
     (p.text i refl refl)
     c.remove-held.ensures.others
-    (f.log ∙ ap (λ (os : List Op). os ++ o ∷ []) p.log)
+    p.log
     ∙ ap (λ (s : Seen). accepted s o) c.self.view_is
 
 pub returns-clause-ok : goal.returns-clause-ok

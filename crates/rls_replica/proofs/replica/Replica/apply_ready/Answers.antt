@@ -1,4 +1,4 @@
-use Rattle.std.proofs.Common.{◌≡◌, ◌∙◌, ◌++◌, ◌<◌, List, [], ◌∷◌, Some, None, slice_index, ap, sym, subst, refl, arith}
+use Rattle.std.proofs.Common.{◌≡◌, ◌∙◌, ◌<◌, List, Some, None, slice_index, ap, sym, subst, refl, arith}
 use Rattle.rls_rename.specs.Tree.{Epochs}
 use Rattle.rls_ops.specs.declared.op.Op.{Op}
 use Rattle.rls_model.specs.declared.parts.Stem.{Stem}
@@ -73,13 +73,13 @@ after c =
     let e = next_taken _ c.args.self.now _ c.in-Some.op.now c.in-Some-remove.op c.remove.result c.self.view_is c.self.invariant.sane c.mine.ensures.mine c.in-Some.ensures.ready c.requires.fits c.remove.ensures.found c.in-Some-remove.is in
     let p = c.in_ok-renaming.ensures in
     let f = c.finish.ensures in
-    accepted_is i w c.finish.new.acks c.finish.new.stems.stems c.finish.new.epochs.epochs (entries_of c.prepare.new.document.blocks) c.remove.new.self c.finish.new.log.ops
+    accepted_is i w c.finish.new.acks c.finish.new.stems.stems c.finish.new.epochs.epochs (entries_of c.prepare.new.document.blocks) c.remove.new.self c.prepare.new.log
     (f.acks ∙ ap (λ (o : Op). acks_after i.acks o.author o.body) e)
     (f.stems ∙ (ap (λ (ss : List Stem). stems_after ss c.in-Some-remove.op.author c.in-Some-remove.op.seq c.in-Some-remove.op.body) p.stems ∙ ap (λ (o : Op). stems_after i.stems o.author o.seq o.body) e))
     (f.epochs ∙ (ap (λ (E : Epochs). epochs_after E c.in-Some-remove.op) p.epochs ∙ ap (epochs_after i.epochs) e))
     (p.text i refl refl)
     c.remove.ensures.others
-    (f.log ∙ (ap (λ (os : List Op). os ++ c.in-Some-remove.op ∷ []) p.log ∙ ap (λ (o : Op). i.log ++ o ∷ []) e))
+    p.log
     ∙ (released_accepted i w h.first h.fits ∙ ap released c.self.view_is)
 
 pub returns-clause-ok : goal.returns-clause-ok

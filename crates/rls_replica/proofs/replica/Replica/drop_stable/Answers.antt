@@ -1,4 +1,4 @@
-use Rattle.std.proofs.Common.{◌∙◌, ℕ, List, None, map, sym, ap, subst, refl, arith}
+use Rattle.std.proofs.Common.{◌∙◌, ℕ, List, None, map, sym, ap, subst, refl}
 use Rattle.rls_rename.specs.Tree.{Epochs}
 use Rattle.rls_rename.specs.Keeping.{kept_part}
 use Rattle.rls_ops.specs.declared.op.Op.{Op}
@@ -12,7 +12,6 @@ use Rattle.rls_seen.specs.Sane.{IsSane}
 use Rattle.rls_seen.specs.Stands.{StandsFor}
 use Rattle.rls_seen.proofs.Dropped.{dropped_sane}
 use Rattle.rls_seen.proofs.Keeping.{counts_alike, dropped_stands}
-use Rattle.rls_seen.proofs.Needed.{log_author}
 use Rattle.rls_replica.specs.KeptJust.{KeepsJust}
 use Rattle.rls_replica.specs.View.{seen}
 use Rattle.rls_replica.proofs.Marking.{dropped_is, keeps_just, members_dropped}
@@ -20,14 +19,11 @@ use Rattle.rls_replica.proofs.StillNumbers.{counts_still}
 use Rattle.rls_replica.proofs.Whole.{whole_next}
 use Rattle.rls_replica.proofs.replica.Replica.drop_stable.Goals as goal
 
-pub mark_unstable-requires-clause-authors : goal.mark_unstable-requires-clause-authors
-mark_unstable-requires-clause-authors c = λ o p. let l = log_author (seen c.self.inside) o c.self.invariant.sane p in omega (arith, l, c.stable.ensures.len)
-
 after : goal.returns-clause-after
 after c =
     let s = seen c.self.inside in
     let marks = c.mark_unstable.new.epochs.marks in
-    dropped_is s c.keep.new.self.epochs marks c.drop_at_most.new.self.ops c.self.invariant.sane.epochs.nodes
+    dropped_is s c.keep.new.self.epochs marks c.drop_at_most.new.self c.self.invariant.sane.epochs.nodes
     (λ e. c.mark_unstable.ensures.marks e ∙ ap (λ (v : List ℕ). is_marked (map (λ (o : Op). o.epoch) (missing_for v s.log)) e) c.stable.ensures.stable)
     (c.keep.ensures.epochs ∙ (ap (λ (E : Epochs). kept_part E c.stable-2.result.now marks) c.mark_unstable.ensures.epochs ∙ ap (λ (v : List ℕ). kept_part s.epochs v marks) c.stable-2.ensures.stable))
     (c.drop_at_most.ensures.kept ∙ ap (λ (v : List ℕ). missing_for v s.log) c.stable-3.ensures.stable)

@@ -1,4 +1,4 @@
-use Rattle.std.proofs.Common.{length, sym, ap, ◌∙◌, subst}
+use Rattle.std.proofs.Common.{length, sym, ap, ◌∙◌, refl, subst}
 use Rattle.rls_ops.specs.Rows.{AcksSeen}
 use Rattle.rls_seen.specs.Kept.{parts_over}
 use Rattle.rls_seen.specs.Sane.{IsSane}
@@ -26,7 +26,7 @@ invariant_of-result c =
     let p = c.args.parts in
     let a = c.in_ok-acks.field-0 in
     let made = c.in_ok-acks.ensures.made in
-    let same = seen_so p a.acks (a.stems).stems (a.epochs).epochs (entries_of c.in_ok-document.document.blocks) c.in_ok-document.held c.of.result.ops made.acks made.stems made.epochs c.in_ok-document.ensures.text c.in_ok-document.ensures.held c.of.ensures.ops in
+    let same = seen_so p a.acks (a.stems).stems (a.epochs).epochs (entries_of c.in_ok-document.document.blocks) c.in_ok-document.held c.args.parts.log made.acks made.stems made.epochs c.in_ok-document.ensures.text c.in_ok-document.ensures.held refl in
     record {
       sane = subst IsSane (sym same) (sane p c.requires.given c.fit.ensures.ranged made.unbroken);
       authors_are = made.members ∙ (sym c.requires.given.vector ∙ sym (ap (λ (x : AcksSeen). length x.mine) made.acks));
@@ -37,7 +37,7 @@ pub returns-clause-replica : goal.returns-clause-replica
 returns-clause-replica c =
     let a = c.in_ok-acks.field-0 in
     let made = c.in_ok-acks.ensures.made in
-    seen_so c.args.parts a.acks (a.stems).stems (a.epochs).epochs (entries_of c.in_ok-document.document.blocks) c.in_ok-document.held c.of.result.ops made.acks made.stems made.epochs c.in_ok-document.ensures.text c.in_ok-document.ensures.held c.of.ensures.ops
+    seen_so c.args.parts a.acks (a.stems).stems (a.epochs).epochs (entries_of c.in_ok-document.document.blocks) c.in_ok-document.held c.args.parts.log made.acks made.stems made.epochs c.in_ok-document.ensures.text c.in_ok-document.ensures.held refl
 
 pub returns-clause-back : goal.returns-clause-back
 returns-clause-back c =

@@ -17,12 +17,11 @@ returns-clause-message c =
     let n = c.members-members.ensures.members ∙ sym (ap members e) in
     let me = c.me.ensures.me ∙ sym (ap (λ (u : Seen). u.acks.me) e) in
     let to = c.args.to in
-    let known : c.join_in.new.self ≡ join (row_of r.acks to) (stable_over r) =
-    c.join_in.ensures.join ∙ (ap (λ v. join v c.stable.result.now) (c.in_ok-known.ensures.copy ∙ c.row.ensures.row) ∙ ap (join (row_of r.acks to)) c.stable.ensures.stable) in
+    let known : c.in_ok-known.known ≡ join (row_of r.acks to) (stable_over r) = c.in_ok-known.ensures.known ∙ ap (λ (u : Seen). join (row_of u.acks to) (stable_over u)) (sym e) in
     let room : INPUT_BYTES - c.head_len-room.result ≡ INPUT_BYTES - head_size (members r) = ap (λ k. INPUT_BYTES - k) (c.head_len-room.ensures.size ∙ ap head_size n) in
     let few = c.members-members.ensures.few in
     let missing = c.in_ok-missing_for.ensures.missing
-    ∙ (ap (λ l. front_within 0 l (missing_for c.join_in.new.self r.log)) room ∙ ap (λ v. front_within 0 (INPUT_BYTES - head_size (members r)) (missing_for v r.log)) known) in
+    ∙ (ap (λ l. front_within 0 l (missing_for c.in_ok-known.known r.log)) room ∙ ap (λ v. front_within 0 (INPUT_BYTES - head_size (members r)) (missing_for v r.log)) known) in
     message_is r c.args.to r.group c.members-members.result c.me.result c.in_ok-copy.field-0 c.in_ok-missing_for.field-0 refl n me (c.in_ok-copy.ensures.copy ∙ c.mine.ensures.mine) (omega arith) missing
     ∙ ap (λ (u : Seen). message_over u c.args.to) e
 

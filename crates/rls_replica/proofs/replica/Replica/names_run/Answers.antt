@@ -6,8 +6,8 @@ use Rattle.rls_replica.proofs.replica.Replica.names_run.Goals as goal
 
 pub names_count-requires-clause-logged : goal.names_count-requires-clause-logged
 names_count-requires-clause-logged c =
-    subst (λ (s : Seen). IsIn c.op-op.result.now s.log) c.self.view_is (get_in c.self.inside.log.ops c.args.hint.place c.op-op.result.now c.op-op.ensures.op)
+    subst (λ (s : Seen). IsIn c.in_ok-op.op s.log) c.self.view_is (get_in c.self.inside.log c.args.hint.place c.in_ok-op.op c.in_ok-op.ensures.op)
 
 pub names_count-requires-in-loop-doublings-clause-logged : goal.names_count-requires-in-loop-doublings-clause-logged
 names_count-requires-in-loop-doublings-clause-logged c =
-    subst (λ (s : Seen). IsIn c.op-op.result.now s.log) c.self.view_is (get_in c.self.inside.log.ops c.args.hint.place c.op-op.result.now c.op-op.ensures.op)
+    subst (λ (s : Seen). IsIn c.in_ok-op.op s.log) c.self.view_is (get_in c.self.inside.log c.args.hint.place c.in_ok-op.op c.in_ok-op.ensures.op)

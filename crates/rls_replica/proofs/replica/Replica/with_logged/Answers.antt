@@ -1,30 +1,37 @@
-use Rattle.std.proofs.Common.{◌≡◌, ◌∙◌, length, take, Option, Some, List, ap, subst, arith}
-use Rattle.std.specs.Prelude.{slice_get}
+use Rattle.std.proofs.Common.{◌∙◌, ◌<◌, length, take, Option, List, ap, subst, arith}
 use Rattle.rls_ident.specs.declared.tuple.Tuple.{Tuple}
-use Rattle.rls_ident.specs.Lists.{IsIn}
 use Rattle.rls_ident.proofs.Members.{get_in}
 use Rattle.rls_seen.specs.Seen.{Seen}
 use Rattle.rls_replica.specs.Gone.{AllNoted, AreNamed}
-use Rattle.rls_replica.proofs.Noting.{with_names, without_names}
+use Rattle.rls_log.proofs.Steps.{read}
+use Rattle.rls_replica.proofs.Noting.{found_at, nothing_at, no_names, with_names, without_names}
 use Rattle.rls_replica.proofs.replica.Replica.with_logged.Goals as goal
 
 pub named_ids-requires-clause-logged : goal.named_ids-requires-clause-logged
 named_ids-requires-clause-logged c =
-    subst (λ (s : Seen). IsIn c.op.result.now s.log) c.self.view_is (get_in c.self.inside.log.ops c.loop-i.i c.op.result.now c.op.ensures.op)
+    get_in c.args.self.now.log c.loop-i.i c.in-Some.op (found_at c.args.self.now.log c.loop-i.i c.in_ok-op.field-0 c.in-Some.op c.in-Some.is c.in_ok-op.ensures.some)
 
 pub loop-i-preserved-in_default : goal.loop-i-preserved-in_default
 loop-i-preserved-in_default c =
     let s = c.args.self.now in
-    let o = c.op.result.now in
-    let here = subst (λ (u : Seen). slice_get u.log c.loop-i.i ≡ Some o) c.self.view_is c.op.ensures.op in
-    without_names s c.args.gone.epoch c.loop-i.lists.items c.loop-i.i o here c.loop-i.invariant (subst (λ (r : Option (List (List Tuple))). AreNamed s c.args.gone.epoch o r) c.in_default.is c.in_ok-ids.ensures.named)
+    let i = c.loop-i.i in
+    let lt : i < length s.log = omega (arith, c.loop-i-test.true, c.len-i-end.ensures.len, ap (λ (u : Seen). length u.log) c.self.view_is) in
+    let o = read s.log i lt in
+    without_names s c.args.gone.epoch c.loop-i.lists.items i o.0 o.1 c.loop-i.invariant (no_names s c.args.gone.epoch o.0 (nothing_at s i c.in_ok-op.field-0 c.in_default.is c.in_ok-op.ensures.none o.0 o.1))
+
+pub loop-i-preserved-in_default-2 : goal.loop-i-preserved-in_default-2
+loop-i-preserved-in_default-2 c =
+    let s = c.args.self.now in
+    let o = c.in-Some.op in
+    let here = found_at s.log c.loop-i.i c.in_ok-op.field-0 o c.in-Some.is c.in_ok-op.ensures.some in
+    without_names s c.args.gone.epoch c.loop-i.lists.items c.loop-i.i o here c.loop-i.invariant (subst (λ (r : Option (List (List Tuple))). AreNamed s c.args.gone.epoch o r) c.in_default-2.is c.in_ok-ids.ensures.named)
 
 pub loop-i-preserved : goal.loop-i-preserved
 loop-i-preserved c =
     let s = c.args.self.now in
-    let o = c.op.result.now in
-    let here = subst (λ (u : Seen). slice_get u.log c.loop-i.i ≡ Some o) c.self.view_is c.op.ensures.op in
-    with_names s c.args.gone.epoch c.loop-i.lists.items c.add.new.lists.items c.loop-i.i o here c.loop-i.invariant c.in-Some.ids (subst (λ (r : Option (List (List Tuple))). AreNamed s c.args.gone.epoch o r) c.in-Some.is c.in_ok-ids.ensures.named) c.in_ok-add.ensures.ok
+    let o = c.in-Some.op in
+    let here = found_at s.log c.loop-i.i c.in_ok-op.field-0 o c.in-Some.is c.in_ok-op.ensures.some in
+    with_names s c.args.gone.epoch c.loop-i.lists.items c.add.new.lists.items c.loop-i.i o here c.loop-i.invariant c.in-Some-2.ids (subst (λ (r : Option (List (List Tuple))). AreNamed s c.args.gone.epoch o r) c.in-Some-2.is c.in_ok-ids.ensures.named) c.in_ok-add.ensures.ok
 
 pub returns : goal.returns
 returns c =

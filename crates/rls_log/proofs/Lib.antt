@@ -1,0 +1,3 @@
+pub mod Uncovered
+pub mod Entries
+pub mod Steps

@@ -1,0 +1,36 @@
+//! Where the bytes of an operation stand.
+
+ghost use Rattle.std.specs.Prelude.{◌≡◌, ◌+◌, ◌≤◌, length};
+ghost use Rattle.rls_log.specs.Encoded.{part_of};
+
+use crate::head::OpHead;
+
+/// Where the bytes of an operation stand, and what is known of it without its body.
+#[derive(Clone, Copy)]
+pub(crate) struct Entry {
+    pub(crate) start: usize,
+    pub(crate) len: u32,
+    pub(crate) head: OpHead,
+}
+
+impl Entry {
+    // The same operation, whose bytes stand from another place on.
+    pub(crate) fn moved_to(&self, start: usize) -> Entry
+        ensures moved { result ≡ record { head = self.now.head; start = start; len = self.now.len } }
+    {
+        Entry {
+            head: self.head,
+            start,
+            len: self.len,
+        }
+    }
+
+    // The bytes of the operation, of these.
+    pub(crate) fn part<'a>(&self, bytes: &'a [u8]) -> &'a [u8]
+        requires within { self.now.start + self.now.len ≤ length bytes.now }
+        ensures part { result.now ≡ part_of bytes.now self.now }
+    {
+        let (_, rest) = bytes.split_at(self.start);
+        rest.split_at(self.len as usize).0
+    }
+}

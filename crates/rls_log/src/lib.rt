@@ -1,0 +1,12 @@
+//! Operations in order, kept as the bytes that spell them.
+#![tactic(auto)]
+
+mod entry;
+mod head;
+mod log;
+mod missing;
+mod reading;
+
+pub use head::{OpHead, OpKind};
+pub use log::Log;
+pub use reading::read_log;

@@ -1,0 +1,221 @@
+//! The log: operations in order, kept as bytes.
+
+ghost use Rattle.std.specs.Prelude.{◌≡◌, ◌<◌, All, ◌++◌, ◌∷◌, [], ◌==◌, Some, length, take, slice_get, IfOk, OnOk, OnErr};
+ghost use Rattle.rls_ops.specs.declared.op.Op.{Op as OpSeen};
+ghost use Rattle.rls_codec.specs.Spelled.{IsSpelledIfFit};
+ghost use Rattle.rls_ops.specs.Rows.{missing_for};
+ghost use Rattle.rls_ops.specs.Spelling.{op_bytes};
+ghost use Rattle.rls_log.specs.Heads.{IsHeadOf};
+ghost use Rattle.rls_log.specs.Fitting.{AreFit};
+ghost use Rattle.rls_log.specs.Encoded.{SpellOne, op_spelled};
+
+use crate::entry::Entry;
+use crate::head::OpHead;
+use rls_codec::{ReadError, encode_op, op_fields, vector};
+use rls_ident::{Vector, rely};
+use rls_ops::Op;
+use std::alloc::{AllocError, Global};
+use std::marker::Model;
+
+/// How many bytes an operation has before its context.
+const BEFORE_CONTEXT: usize = 8;
+
+/// Operations in order, kept as the bytes that spell them. What is asked most of an operation, all but its context and its body,
+/// stands beside the bytes: it costs no reading. An operation takes its bytes in memory, and 40 more.
+#[derive(Drop)]
+pub struct Log {
+    pub(crate) bytes: Vec<u8>,
+    pub(crate) entries: Vec<Entry>,
+}
+
+impl Model for Log {
+    ghost use Rattle.std.specs.Prelude.{List};
+    ghost use Rattle.rls_ops.specs.declared.op.Op.{Op};
+
+    ghost Value = { List Op };
+
+    ghost use Rattle.rls_log.specs.Encoded.{ops_in, AreEntries};
+
+    ghost view = { λ l. ops_in l.bytes.items l.entries.items };
+
+    ghost invariant = { λ l. AreEntries l.bytes.items l.entries.items };
+}
+
+impl Log {
+    /// No operation. It takes no memory.
+    pub fn new(alloc: Global) -> Log
+        ensures empty { result ≡ [] }
+    {
+        Log {
+            bytes: Vec::new(alloc),
+            entries: Vec::new(alloc),
+        }
+    }
+
+    /// Puts a copy of an operation after the last one. It costs what spelling it costs. After an error all is as before; an operation of
+    /// 4,294,967,296 bytes or more always fails.
+    pub fn push(&mut self, op: &Op) -> Result<(), AllocError>
+        ensures ok { OnOk result (self.new ≡ self.old ++ op.now ∷ []) }
+        ensures err { OnErr result (self.new ≡ self.old) }
+    {
+        if op.encoded_len() > u32::MAX as u64 {
+            return Err(AllocError);
+        }
+        rely!(op.fits());
+        self.entries.reserve(1)?;
+        let start = self.bytes.len();
+        encode_op(&mut self.bytes, op)?;
+        let entry = Entry {
+            head: OpHead::of(op, op.context.len() as u32),
+            start,
+            len: (self.bytes.len() - start) as u32,
+        };
+        self.entries.push(entry).unwrap();
+        Ok(())
+    }
+
+    /// Keeps the first `n` operations, or all of them if they are fewer. It takes no memory.
+    pub fn truncate(&mut self, n: usize)
+        ensures first { self.new ≡ take n self.old }
+    {
+        self.entries.truncate(n);
+    }
+
+    /// The number of operations.
+    pub fn len(&self) -> usize
+        ensures len { result ≡ length self.now }
+    {
+        self.entries.len()
+    }
+
+    /// Whether there is none.
+    pub fn is_empty(&self) -> bool
+        ensures empty { result ≡ (length self.now == 0) }
+    {
+        self.entries.is_empty()
+    }
+
+    /// What is known without its body of the operation at a place, counted from 0.
+    pub fn head(&self, i: usize) -> OpHead
+        requires place { i < length self.now }
+        ensures head { (o : OpSeen) × (slice_get self.now i ≡ Some o) × IsHeadOf result o }
+    {
+        self.entries[i].head
+    }
+
+    /// The bytes of the operation at a place, counted from 0.
+    pub fn part(&self, i: usize) -> &[u8]
+        requires place { i < length self.now }
+        ensures part { (o : OpSeen) → slice_get self.now i ≡ Some o → result.now ≡ op_bytes o }
+    {
+        let entry = self.entries[i];
+        entry.part(&self.bytes)
+    }
+
+    /// The operation at a place, counted from 0, made of its bytes.
+    pub fn op(&self, i: usize) -> Result<Op, AllocError>
+        requires place { i < length self.now }
+        ensures op { IfOk result (λ op. slice_get self.now i ≡ Some op) }
+    {
+        let entry = self.entries[i];
+        read_op(
+            *self.bytes.allocator(),
+            entry.head.members,
+            entry.part(&self.bytes),
+        )
+    }
+
+    /// The context of the operation at a place, counted from 0, made of its bytes.
+    pub fn context(&self, i: usize) -> Result<Vector, AllocError>
+        requires place { i < length self.now }
+        ensures context { IfOk result (λ v. (o : OpSeen) → slice_get self.now i ≡ Some o → v ≡ o.context) }
+    {
+        let entry = self.entries[i];
+        read_context(
+            *self.bytes.allocator(),
+            entry.head.members,
+            entry.part(&self.bytes),
+        )
+    }
+
+    /// Keeps the operations whose number is above the vector's count of their author. If most of the bytes are of none then, what is
+    /// left moves together if there is memory for it, and stays where it is if there isn't.
+    #[tactic(auto, using(crate::proofs::Uncovered::uncovered_again))]
+    pub fn drop_at_most(&mut self, stable: &Vector)
+        ensures kept { self.new ≡ missing_for stable.now self.old }
+    {
+        self.keep_missing(stable);
+        if self.is_mostly_waste() {
+            if let Ok(log) = self.missing(stable) {
+                *self = log;
+            }
+        }
+    }
+
+    // Keeps the operations that a vector doesn't cover, and all bytes.
+    fn keep_missing(&mut self, vector: &Vector)
+        ensures kept { self.new ≡ missing_for vector.now self.old }
+    {
+        self.entries.retain(|entry| !entry.head.is_covered(vector));
+    }
+
+    /// A log of the operations that a vector doesn't cover, in order.
+    pub fn missing(&self, vector: &Vector) -> Result<Log, AllocError>
+        ensures missing { IfOk result (λ log. log ≡ missing_for vector.now self.now) }
+    {
+        let alloc = *self.bytes.allocator();
+        let (mut bytes, mut entries) = (Vec::new(alloc), Vec::new(alloc));
+        for i in 0..self.entries.len() {
+            let entry = &self.entries[i];
+            if entry.head.is_covered(vector) {
+                continue;
+            }
+            let start = bytes.len();
+            bytes.extend_from_slice(entry.part(&self.bytes))?;
+            entries.push(entry.moved_to(start))?;
+        }
+        Ok(Log { bytes, entries })
+    }
+
+    // Whether most of the bytes are of no operation any more.
+    fn is_mostly_waste(&self) -> bool {
+        let mut waste = self.bytes.len();
+        for entry in &self.entries {
+            waste = waste.saturating_sub(entry.len as usize);
+        }
+        waste > self.bytes.len() / 2
+    }
+
+    /// What the log promises: each of its operations is well formed.
+    pub fn fits(&self)
+        ensures whole { AreFit self.now }
+        ensures spelled { All IsSpelledIfFit self.now }
+    {
+        rely!(let _len = self.entries.len());
+    }
+}
+
+// The operation that the bytes spell.
+fn read_op(alloc: Global, members: u32, bytes: &[u8]) -> Result<Op, AllocError>
+    requires spelled { SpellOne members bytes.now }
+    ensures op { IfOk result (λ op. op ≡ op_spelled members bytes.now) }
+{
+    match op_fields(alloc, members, bytes) {
+        Ok((op, _)) => Ok(op),
+        Err(ReadError::Fault { .. }) => unreachable!(),
+        Err(ReadError::OutOfMemory) => Err(AllocError),
+    }
+}
+
+// The context of the operation that the bytes spell.
+fn read_context(alloc: Global, members: u32, bytes: &[u8]) -> Result<Vector, AllocError>
+    requires spelled { SpellOne members bytes.now }
+    ensures context { IfOk result (λ v. v ≡ (op_spelled members bytes.now).context) }
+{
+    let (_, rest) = bytes.split_at(BEFORE_CONTEXT);
+    match vector(alloc, members, rest) {
+        Ok((vector, _)) => Ok(vector),
+        Err(ReadError::Fault { .. }) => unreachable!(),
+        Err(ReadError::OutOfMemory) => Err(AllocError),
+    }
+}
