@@ -1,21 +1,29 @@
 -- The message for a member keeps the rules of the format where each kept operation is within the limit.
-use Rattle.std.proofs.Common.{◌≤◌, ◌+◌, ℕ, true, false, Bool, List, [], ◌∷◌, refl, arith, inl, inr}
+use Rattle.std.proofs.Common.{◌≡◌, ◌∙◌, ◌<◌, ◌≤◌, ◌+◌, ◌-◌, ◌^◌, ◌++◌, ℕ, true, false, Bool, List, [], ◌∷◌, length, take, refl, sym, ap, subst, append_assoc, append-nil, arith, inl, inr}
 use Rattle.std.specs.Prelude.{All, nat_le, nat_lt, not, if◌then◌else◌}
+use Rattle.std.specs.List.{concat}
 use Rattle.std.proofs.lemmas.List.Elements.{All-cons, All-filter, All-head, All-nil, All-tail}
 use Rattle.rls_ident.specs.declared.limits.TheConstants.{MEMBERS, INPUT_BYTES, OPERATION_BYTES}
 use Rattle.rls_ident.specs.Lists.{IsIn}
 use Rattle.rls_ident.specs.Vectors.{join, raise}
 use Rattle.rls_ident.proofs.Members.{and_true, le_test, lt_test}
 use Rattle.rls_ops.specs.declared.op.Op.{Op}
-use Rattle.rls_ops.specs.Rows.{is_covered, row_of}
+use Rattle.rls_ops.specs.Rows.{is_covered, missing_for, row_of}
+use Rattle.rls_ops.specs.Spelling.{counted, message_bytes, message_in_form, op_bytes}
 use Rattle.rls_ops.specs.Sizes.{front_within, head_size, op_size}
+use Rattle.rls_ops.proofs.Fronts.{front_from}
 use Rattle.rls_ops.proofs.Shaped.{shaped}
-use Rattle.rls_codec.specs.Spelled.{IsFit, IsFitAmong}
+use Rattle.rls_codec.specs.CodecLaws.{IsMessage}
+use Rattle.rls_codec.specs.Spelled.{IsFit, IsFitAmong, IsSpelledIfFit}
+use Rattle.rls_codec.proofs.Fits.{message_fits}
+use Rattle.rls_codec.proofs.SizeLaws.{few_ops}
+use Rattle.rls_seen.proofs.Sending.{message_fits as within_input}
+use Rattle.rls_sync.specs.Heads.{message_start}
 use Rattle.rls_seen.specs.Messages.{message_over}
 use Rattle.rls_seen.specs.Sane.{Follow, IsSane}
 use Rattle.rls_seen.specs.Seen.{Seen, members, stable_over, vector}
 
-front_all : (P : Op → Type 0) (used limit : ℕ) (os : List Op) → All P os → All P (front_within used limit os)
+pub front_all : (P : Op → Type 0) (used limit : ℕ) (os : List Op) → All P os → All P (front_within used limit os)
 front_all P used limit [] a = a
 front_all P used limit (o ∷ os) a = go (nat_le (used + op_size o) limit) (All-head P o os a) (front_all P (used + op_size o) limit os (All-tail P o os a))
   where
@@ -39,3 +47,36 @@ message_fit s to h few =
       vector = refl;
       ops = front_all (IsFitAmong n) (head_size n) INPUT_BYTES _ (All-filter (λ o. not (is_covered (join (row_of s.acks to) (stable_over s)) o)) (IsFitAmong n) s.log (log_fits n log.0 s.log (vector s) log.1.follow few));
     }
+
+-- ---- the message as it is put
+
+-- the operations that are put are those of the message
+pub sent_ops : (s : Seen) (to : ℕ) (known : List ℕ) (end room : ℕ) → members s ≤ MEMBERS → known ≡ join (row_of s.acks to) (stable_over s) → room ≡ INPUT_BYTES - head_size (members s)
+    → missing_for known (take end s.log) ≡ front_within 0 room (missing_for known s.log) → missing_for known (take end s.log) ≡ (message_over s to).ops
+unfolding message_over
+sent_ops s to known end room few k r e =
+    e ∙ ap (λ n. front_within 0 n (missing_for known s.log)) r ∙ ap (λ v. front_within 0 (INPUT_BYTES - head_size (members s)) (missing_for v s.log)) k
+    ∙ sym (front_from (head_size (members s)) INPUT_BYTES (missing_for (join (row_of s.acks to) (stable_over s)) s.log) (omega arith))
+
+pub sent_log : (s : Seen) (to : ℕ) (known : List ℕ) (log : List Op) (end head : ℕ) → members s ≤ MEMBERS → known ≡ join (row_of s.acks to) (stable_over s) → head ≡ head_size (members s) → log ≡ s.log
+    → missing_for known (take end log) ≡ front_within 0 (INPUT_BYTES - head) (missing_for known log) → missing_for known (take end log) ≡ (message_over s to).ops
+sent_log s to known log end head few k h l e =
+    ap (λ (os : List Op). missing_for known (take end os)) l
+    ∙ sent_ops s to known end (INPUT_BYTES - head) few k (ap (λ n. INPUT_BYTES - n) h) (subst (λ (os : List Op). missing_for known (take end os) ≡ front_within 0 (INPUT_BYTES - head) (missing_for known os)) l e)
+
+pub six_puts : (o p q r s t u a b c d e f : List ℕ) → p ≡ o ++ a → q ≡ p ++ b → r ≡ q ++ c → s ≡ r ++ d → t ≡ s ++ e → u ≡ t ++ f → u ≡ o ++ concat (a ∷ b ∷ c ∷ d ∷ e ∷ f ∷ [])
+six_puts o p q r s t u a b c d e f h1 h2 h3 h4 h5 h6 = rw (h6, h5, h4, h3, h2, h1) (simp (append_assoc, append-nil))
+
+pub message_put : (s : Seen) (to : ℕ) (ops : List Op) → ops ≡ (message_over s to).ops → message_start s ++ counted op_bytes ops ≡ message_bytes (message_over s to)
+unfolding message_over message_start message_in_form
+message_put s to ops e = ap (λ os. message_start s ++ counted op_bytes os) e ∙ simp (append_assoc, append-nil)
+
+pub few_sent : (s : Seen) (to : ℕ) → members s ≤ MEMBERS → length (message_over s to).ops < 2 ^ 32
+few_sent s to few = few_ops (message_over s to) (within_input s to few)
+
+-- what is put is a message
+pub sent_message : (s : Seen) (to : ℕ) (bytes : List ℕ) → IsSane s → bytes ≡ message_bytes (message_over s to) → All IsSpelledIfFit s.log → ((o : Op) → IsIn o s.log → op_size o ≤ OPERATION_BYTES) → IsMessage bytes (message_over s to)
+unfolding message_over
+sent_message s to bytes h e spelled few =
+    message_fits bytes (message_over s to) e h.group h.small (few_sent s to h.few)
+    (front_all IsSpelledIfFit (head_size (members s)) INPUT_BYTES _ (All-filter (λ o. not (is_covered (join (row_of s.acks to) (stable_over s)) o)) IsSpelledIfFit s.log spelled)) (message_fit s to h few)

@@ -1,12 +1,13 @@
 //! What members send each other.
 
-ghost use Rattle.std.specs.Prelude.{◌≡◌, ◌≤◌, ◌↔◌, ◌⊎◌, ℕ, Ok, Err, IfOk, IsErrOf};
-ghost use Rattle.rls_ident.specs.declared.limits.TheConstants.{OPERATION_BYTES};
+ghost use Rattle.std.specs.Prelude.{◌≡◌, ◌<◌, ◌≤◌, ◌^◌, ◌++◌, ◌↔◌, ◌⊎◌, ℕ, Ok, Err, codes, length, take, IfOk, OnOk, IsErrOf};
+ghost use Rattle.rls_ident.specs.declared.limits.TheConstants.{MEMBERS, OPERATION_BYTES};
 ghost use Rattle.rls_ident.specs.Lists.{IsIn};
 ghost use Rattle.rls_ops.specs.declared.message.Message.{Message};
 ghost use Rattle.rls_ops.specs.declared.op.Op.{Op};
-ghost use Rattle.rls_ops.specs.Sizes.{op_size};
-ghost use Rattle.rls_ops.specs.Spelling.{message_bytes};
+ghost use Rattle.rls_ops.specs.Sizes.{head_size, op_size};
+ghost use Rattle.rls_ops.specs.Rows.{missing_for};
+ghost use Rattle.rls_ops.specs.Spelling.{counted, message_bytes, op_bytes};
 ghost use Rattle.rls_codec.specs.CodecLaws.{IsMessage};
 ghost use Rattle.rls_codec.specs.Reading.{message_of};
 ghost use Rattle.rls_model.specs.Receiving.{State};
@@ -14,14 +15,20 @@ ghost use Rattle.rls_model.specs.Taking.{message_for, take_message};
 ghost use Rattle.rls_model.specs.Taking as model;
 ghost use Rattle.rls_seen.specs.Messages.{message_over, taken_over, taken_of, IsPartTaken};
 ghost use Rattle.rls_seen.specs.Seen.{members};
+ghost use Rattle.rls_sync.specs.Heads.{message_start};
 ghost use Rattle.rls_seen.specs.Stands.{StandsFor};
 ghost use Rattle.rls_replica.specs.Faults.{IsForeign};
 ghost use Rattle.rls_replica.specs.Names.{KeepsNames};
 
-use rls_codec::{DecodeError, decode_message, encode_message};
-use rls_ident::rely;
+use rls_codec::{DecodeError, decode_message, put_byte, put_u32, put_u64, put_vector};
+use rls_ident::limits::INPUT_BYTES;
+use rls_ident::{Vector, rely};
+use rls_log::Log;
 use rls_replica::{Replica, SendError, TakeError, Taken};
-use std::alloc::Global;
+use std::alloc::{AllocError, Global};
+
+/// The form in which messages are written.
+const MESSAGE_FORM: u8 = 3;
 
 /// Why bytes aren't taken as a message, or not to its end.
 #[derive(Clone, Copy, Debug, PartialEq, Eq)]
@@ -50,13 +57,69 @@ pub fn message_bytes(alloc: Global, replica: &Replica, to: u32) -> Result<Vec<u8
     ensures stands { IfOk result (λ bytes. (t : State) → StandsFor replica.now t → bytes.items ≡ message_bytes (message_for t.history to)) }
 {
     rely!(replica.sane());
-    match replica.message_for(to) {
-        Ok(message) => match encode_message(alloc, &message) {
-            Ok(bytes) => Ok(bytes),
-            Err(_) => Err(SendError::OutOfMemory),
-        },
-        Err(error) => Err(error),
+    if to >= replica.members() {
+        return Err(SendError::NotMember);
     }
+    match spelled(alloc, replica, to) {
+        Ok(bytes) => Ok(bytes),
+        Err(_) => Err(SendError::OutOfMemory),
+    }
+}
+
+// The message for a member. Its operations are copied byte by byte, and none is made.
+fn spelled(alloc: Global, replica: &Replica, to: u32) -> Result<Vec<u8>, AllocError>
+    requires member { to < members replica.now }
+    ensures bytes { IfOk result (λ bytes. bytes.items ≡ message_bytes (message_over replica.now to)) }
+    ensures message { IfOk result (λ bytes. ((o : Op) → IsIn o replica.now.log → op_size o ≤ OPERATION_BYTES) → IsMessage bytes.items (message_over replica.now to)) }
+{
+    rely!(replica.sane());
+    let known = replica.known_to(to)?;
+    let log = replica.logged();
+    rely!(log.fits());
+    let room = INPUT_BYTES - head_len(replica.members());
+    let end = log.reach(&known, room);
+    let mut out = Vec::with_capacity(alloc, log.missing_len(&known).min(room) as usize)?;
+    put_head(&mut out, replica)?;
+    put_ops(&mut out, log, &known, end)?;
+    Ok(out)
+}
+
+// Those of the first `end` operations of a log that a vector doesn't cover, after their number.
+fn put_ops(out: &mut Vec<u8>, log: &Log, known: &Vector, end: usize) -> Result<(), AllocError>
+    requires within { end ≤ length log.now }
+    requires few { length (missing_for known.now (take end log.now)) < 2 ^ 32 }
+    ensures ok { OnOk result (out.new.items ≡ out.old.items ++ counted op_bytes (missing_for known.now (take end log.now))) }
+{
+    put_u32(out, log.missing_count(known, end) as u32)?;
+    log.put_missing(out, known, end)?;
+    Ok(())
+}
+
+// How many bytes a message has beside its operations.
+fn head_len(members: u32) -> u64
+    requires few { members ≤ MEMBERS }
+    ensures size { result ≡ head_size members }
+{
+    25 + 4 * members as u64
+}
+
+fn put_magic(out: &mut Vec<u8>) -> Result<(), AllocError>
+    ensures ok { OnOk result (out.new.items ≡ out.old.items ++ codes "RLSM") }
+{
+    out.extend_from_slice(b"RLSM")
+}
+
+// What stands before the number of operations: magic text, form, group, count of members, sender and vector.
+fn put_head(out: &mut Vec<u8>, replica: &Replica) -> Result<(), AllocError>
+    ensures ok { OnOk result (out.new.items ≡ out.old.items ++ message_start replica.now) }
+{
+    put_magic(out)?;
+    put_byte(out, MESSAGE_FORM)?;
+    put_u64(out, replica.group())?;
+    put_u32(out, replica.members())?;
+    put_u32(out, replica.me())?;
+    put_vector(out, replica.acks().mine())?;
+    Ok(())
 }
 
 /// Takes the message that the bytes are: receives each of its operations in turn, releases after each what is ready, and at last

@@ -1,0 +1,34 @@
+use Rattle.std.proofs.Common.{◌≡◌, ◌∙◌, ◌++◌, List, ℕ, length, take, ap, subst, arith}
+use Rattle.std.specs.Prelude.{All}
+use Rattle.rls_codec.specs.Spelled.{IsSpelledIfFit}
+use Rattle.rls_ops.specs.declared.op.Op.{Op}
+use Rattle.rls_ops.specs.Rows.{missing_for}
+use Rattle.rls_ops.specs.Sizes.{head_size}
+use Rattle.rls_ops.specs.Spelling.{counted, op_bytes}
+use Rattle.rls_sync.specs.Heads.{message_start}
+use Rattle.rls_sync.proofs.Sent.{sent_log, message_put, few_sent, sent_message}
+use Rattle.rls_sync.proofs.sync.spelled.Goals as goal
+
+pub put_ops-requires-clause-few : goal.put_ops-requires-clause-few
+put_ops-requires-clause-few c =
+    let s = c.args.replica.now in
+    let few = c.sane.ensures.sane.few in
+    let sent = sent_log s c.args.to c.in_ok-known.known c.logged-log.result.now c.reach-end.result c.head_len-room.result few c.in_ok-known.ensures.known (c.head_len-room.ensures.size ∙ ap head_size c.members.ensures.members) c.logged-log.ensures.log c.reach-end.ensures.reach in
+    let less = few_sent s c.args.to few in
+    omega (arith, less, ap (λ (os : List Op). length os) sent)
+
+bytes : goal.returns-clause-bytes
+bytes c =
+    let s = c.args.replica.now in
+    let few = c.sane.ensures.sane.few in
+    let ops = missing_for c.in_ok-known.known (take c.reach-end.result c.logged-log.result.now) in
+    let sent = sent_log s c.args.to c.in_ok-known.known c.logged-log.result.now c.reach-end.result c.head_len-room.result few c.in_ok-known.ensures.known (c.head_len-room.ensures.size ∙ ap head_size c.members.ensures.members) c.logged-log.ensures.log c.reach-end.ensures.reach in
+    c.in_ok-put_ops.ensures.ok
+    ∙ ap (λ (w : List ℕ). w ++ counted op_bytes ops) (c.in_ok-put_head.ensures.ok ∙ ap (λ (w : List ℕ). w ++ message_start s) c.in_ok-out.ensures.items)
+    ∙ message_put s c.args.to ops sent
+
+pub returns-clause-bytes : goal.returns-clause-bytes
+returns-clause-bytes c = bytes c
+
+pub returns-clause-message : goal.returns-clause-message
+returns-clause-message c = λ few. let s = c.args.replica.now in sent_message s c.args.to c.put_ops.new.out.items c.sane.ensures.sane (bytes c) (subst (All IsSpelledIfFit) c.logged-log.ensures.log c.fits.ensures.spelled) few
