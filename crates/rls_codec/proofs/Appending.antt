@@ -27,6 +27,10 @@ encodes_within cs i c lt e =
 pub five_puts : (o p q r s t a b c d e : List ℕ) → p ≡ o ++ a → q ≡ p ++ b → r ≡ q ++ c → s ≡ r ++ d → t ≡ s ++ e → t ≡ o ++ concat (a ∷ b ∷ c ∷ d ∷ e ∷ [])
 five_puts o p q r s t a b c d e h1 h2 h3 h4 h5 = rw (h5, h4, h3, h2, h1) (simp (append_assoc, append-nil))
 
+-- six
+pub six_puts : (o p q r s t u a b c d e f : List ℕ) → p ≡ o ++ a → q ≡ p ++ b → r ≡ q ++ c → s ≡ r ++ d → t ≡ s ++ e → u ≡ t ++ f → u ≡ o ++ concat (a ∷ b ∷ c ∷ d ∷ e ∷ f ∷ [])
+six_puts o p q r s t u a b c d e f h1 h2 h3 h4 h5 h6 = rw (h6, h5, h4, h3, h2, h1) (simp (append_assoc, append-nil))
+
 -- what stands at the front
 pub front_same : (a b : List ℕ) → b ≡ a → IsFrontOf a b
 front_same a b e = record { front = rw e (take_all (length a) a (omega arith)) }

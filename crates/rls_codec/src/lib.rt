@@ -20,4 +20,4 @@ pub use puts::{
     put_vector,
 };
 pub use reading::{decode_op, op, op_fields, ops};
-pub use writing::{encode_message, encode_op, put_op, put_ops};
+pub use writing::{encode_message, encode_op, put_head, put_op, put_ops};

@@ -3,7 +3,7 @@
 ghost use Rattle.std.specs.Prelude.{◌≡◌, ◌<◌, ◌≤◌, ◌^◌, ◌++◌, [], ◌∷◌, length, codes, All, IfOk, OnOk, OnErr};
 ghost use Rattle.std.specs.List.{flat_map};
 ghost use Rattle.rls_ident.specs.declared.limits.TheConstants.{INPUT_BYTES};
-ghost use Rattle.rls_ops.specs.Spelling.{counted, kind_of, body_bytes, op_bytes, message_bytes};
+ghost use Rattle.rls_ops.specs.Spelling.{counted, kind_of, body_bytes, op_bytes, message_bytes, message_form, message_head};
 ghost use Rattle.rls_ops.specs.Sizes.{op_size, message_size};
 ghost use Rattle.rls_ops.specs.WellFormed.{IsSmall, IsBody};
 ghost use Rattle.rls_codec.specs.Gives.{IsShort, IsFrontOf};
@@ -14,6 +14,7 @@ use crate::lists::{Part, put_list};
 use crate::puts::{
     put_byte, put_ident, put_name, put_runs, put_text, put_u32, put_u64, put_vector,
 };
+use rls_ident::Vector;
 use rls_ops::{Body, Message, Op, Ops};
 use std::alloc::{AllocError, Global};
 
@@ -119,7 +120,28 @@ fn put_magic(out: &mut Vec<u8>) -> Result<(), AllocError>
     out.extend_from_slice(b"RLSM")
 }
 
-#[tactic(auto, using(crate::proofs::SizeLaws::few_ops, crate::proofs::SizeLaws::small_ops), unfolding(rls_ops::specs::Spelling::message_in_form))]
+/// Appends what stands in a message of the newest form before its operations: magic text, form, group, count of members, sender, and how
+/// many operations of each member the sender has accepted.
+pub fn put_head(
+    out: &mut Vec<u8>,
+    group: u64,
+    members: u32,
+    from: u32,
+    vector: &Vector,
+) -> Result<(), AllocError>
+    ensures ok { OnOk result (out.new.items ≡ out.old.items ++ message_head message_form group members from vector.now) }
+    ensures small { OnOk result (All IsSmall vector.now) }
+{
+    put_magic(out)?;
+    put_byte(out, MESSAGE_FORM)?;
+    put_u64(out, group)?;
+    put_u32(out, members)?;
+    put_u32(out, from)?;
+    put_vector(out, vector)?;
+    Ok(())
+}
+
+#[tactic(auto, using(crate::proofs::SizeLaws::few_ops, crate::proofs::SizeLaws::small_ops), unfolding(rls_ops::specs::Spelling::message_head, rls_ops::specs::Spelling::message_in_form))]
 fn written(alloc: Global, message: &Message) -> Result<Vec<u8>, AllocError>
     requires limit { message_size message.now ≤ INPUT_BYTES }
     ensures bytes { IfOk result (λ bytes. bytes.items ≡ message_bytes message.now) }
@@ -129,12 +151,13 @@ fn written(alloc: Global, message: &Message) -> Result<Vec<u8>, AllocError>
     ensures ops { OnOk result (All IsSpelledIfFit message.now.ops) }
 {
     let mut out = Vec::new(alloc);
-    put_magic(&mut out)?;
-    put_byte(&mut out, MESSAGE_FORM)?;
-    put_u64(&mut out, message.group)?;
-    put_u32(&mut out, message.members)?;
-    put_u32(&mut out, message.from)?;
-    put_vector(&mut out, &message.vector)?;
+    put_head(
+        &mut out,
+        message.group,
+        message.members,
+        message.from,
+        &message.vector,
+    )?;
     put_ops(&mut out, &message.ops)?;
     Ok(out)
 }

@@ -71,6 +71,11 @@ unfoldable pub op_bytes : Op → List ℕ
 op_bytes o = concat
     (four_bytes o.author ∷ four_bytes o.seq ∷ vector_bytes o.context ∷ name_bytes o.epoch ∷ (kind_of o.body ∷ []) ∷ body_bytes o.body ∷ [])
 
+-- what stands in a message before its operations: magic text, form, group, count of members, sender and vector
+unfoldable pub message_head : ℕ → ℕ → ℕ → ℕ → List ℕ → List ℕ
+message_head form group members from vector = concat
+    (codes "RLSM" ∷ (form ∷ []) ∷ eight_bytes group ∷ four_bytes members ∷ four_bytes from ∷ vector_bytes vector ∷ [])
+
 -- a message with this form byte
 unfoldable pub message_in_form : ℕ → Message → List ℕ
 message_in_form form m = concat

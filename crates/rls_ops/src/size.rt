@@ -1,7 +1,8 @@
-//! How many bytes an operation and its fields have where they are written. Each number is the greatest u64 if there are more.
+//! How many bytes an operation and its fields have where they are written, and what stands before the operations of a message. Each number
+//! is the greatest u64 if there are more.
 
 ghost use Rattle.std.specs.Prelude.{◌≡◌, ◌-◌, ◌+◌, ◌^◌, min, sum_by};
-ghost use Rattle.rls_ops.specs.Sizes.{tuple_size, ident_size, run_size, runs_size, char_size, name_size, body_size, op_size};
+ghost use Rattle.rls_ops.specs.Sizes.{tuple_size, ident_size, run_size, runs_size, char_size, name_size, body_size, op_size, head_size};
 
 use crate::op::{Body, Op};
 use rls_ident::{EpochName, Ident, Tuple};
@@ -97,4 +98,11 @@ fn body_len(body: &Body) -> u64
         Body::Rename { former } => runs_len(former.as_slice()),
         Body::Leave => 0,
     }
+}
+
+/// The bytes of a message among this many members beside its operations.
+pub fn head_len(members: u32) -> u64
+    ensures size { result ≡ head_size members }
+{
+    25 + 4 * members as u64
 }

@@ -1,11 +1,9 @@
 //! Messages, sent and taken.
 
 ghost use Rattle.std.specs.Prelude.{◌≡◌, ◌+◌, ◌-◌, ◌^◌, ◌<◌, ◌≤◌, ◌↔◌, ◌∷◌, [], List, ℕ, length, Some, None, is_some, IfOk, OnOk, OnErr, IsErrOf};
-ghost use Rattle.rls_ident.specs.declared.limits.TheConstants.{MEMBERS};
 ghost use Rattle.rls_ops.specs.declared.op.Op.{Op};
 ghost use Rattle.rls_ident.specs.Vectors.{join};
 ghost use Rattle.rls_ops.specs.Rows.{row_of, stable_of};
-ghost use Rattle.rls_ops.specs.Sizes.{head_size};
 ghost use Rattle.rls_model.specs.Answers.{answer_of};
 ghost use Rattle.rls_model.specs.Receiving.{State, release_all};
 ghost use Rattle.rls_model.specs.Taking.{message_for, take_message, take_within, taken};
@@ -24,6 +22,7 @@ use crate::replica::Replica;
 use rls_ident::limits::INPUT_BYTES;
 use rls_ident::{Vector, rely};
 use rls_model::{Receipt, Release, Taken};
+use rls_ops::size::head_len;
 use rls_ops::{Message, Op, Ops};
 use std::alloc::{AllocError, Global};
 
@@ -223,14 +222,6 @@ impl Replica {
         };
         Ok(message)
     }
-}
-
-// How many bytes a message has beside its operations.
-fn head_len(members: u32) -> u64
-    requires few { members ≤ MEMBERS }
-    ensures size { result ≡ head_size members }
-{
-    25 + 4 * members as u64
 }
 
 // Counts an operation that arrived. After an error nothing is counted.

@@ -1,7 +1,6 @@
 -- The message for a member keeps the rules of the format where each kept operation is within the limit.
 use Rattle.std.proofs.Common.{◌≡◌, ◌∙◌, ◌<◌, ◌≤◌, ◌+◌, ◌-◌, ◌^◌, ◌++◌, ℕ, true, false, Bool, List, [], ◌∷◌, length, take, refl, sym, ap, subst, append_assoc, append-nil, arith, inl, inr}
 use Rattle.std.specs.Prelude.{All, nat_le, nat_lt, not, if◌then◌else◌}
-use Rattle.std.specs.List.{concat}
 use Rattle.std.proofs.lemmas.List.Elements.{All-cons, All-filter, All-head, All-nil, All-tail}
 use Rattle.rls_ident.specs.declared.limits.TheConstants.{MEMBERS, INPUT_BYTES, OPERATION_BYTES}
 use Rattle.rls_ident.specs.Lists.{IsIn}
@@ -9,7 +8,7 @@ use Rattle.rls_ident.specs.Vectors.{join, raise}
 use Rattle.rls_ident.proofs.Members.{and_true, le_test, lt_test}
 use Rattle.rls_ops.specs.declared.op.Op.{Op}
 use Rattle.rls_ops.specs.Rows.{is_covered, missing_for, row_of}
-use Rattle.rls_ops.specs.Spelling.{counted, message_bytes, message_in_form, op_bytes}
+use Rattle.rls_ops.specs.Spelling.{counted, message_bytes, message_head, message_in_form, op_bytes}
 use Rattle.rls_ops.specs.Sizes.{front_within, head_size, op_size}
 use Rattle.rls_ops.proofs.Fronts.{front_from}
 use Rattle.rls_ops.proofs.Shaped.{shaped}
@@ -18,7 +17,7 @@ use Rattle.rls_codec.specs.Spelled.{IsFit, IsFitAmong, IsSpelledIfFit}
 use Rattle.rls_codec.proofs.Fits.{message_fits}
 use Rattle.rls_codec.proofs.SizeLaws.{few_ops}
 use Rattle.rls_seen.proofs.Sending.{message_fits as within_input}
-use Rattle.rls_sync.specs.Heads.{message_start}
+use Rattle.rls_sync.specs.Heads.{start_of}
 use Rattle.rls_seen.specs.Messages.{message_over}
 use Rattle.rls_seen.specs.Sane.{Follow, IsSane}
 use Rattle.rls_seen.specs.Seen.{Seen, members, stable_over, vector}
@@ -64,12 +63,9 @@ sent_log s to known log end head few k h l e =
     ap (λ (os : List Op). missing_for known (take end os)) l
     ∙ sent_ops s to known end (INPUT_BYTES - head) few k (ap (λ n. INPUT_BYTES - n) h) (subst (λ (os : List Op). missing_for known (take end os) ≡ front_within 0 (INPUT_BYTES - head) (missing_for known os)) l e)
 
-pub six_puts : (o p q r s t u a b c d e f : List ℕ) → p ≡ o ++ a → q ≡ p ++ b → r ≡ q ++ c → s ≡ r ++ d → t ≡ s ++ e → u ≡ t ++ f → u ≡ o ++ concat (a ∷ b ∷ c ∷ d ∷ e ∷ f ∷ [])
-six_puts o p q r s t u a b c d e f h1 h2 h3 h4 h5 h6 = rw (h6, h5, h4, h3, h2, h1) (simp (append_assoc, append-nil))
-
-pub message_put : (s : Seen) (to : ℕ) (ops : List Op) → ops ≡ (message_over s to).ops → message_start s ++ counted op_bytes ops ≡ message_bytes (message_over s to)
-unfolding message_over message_start message_in_form
-message_put s to ops e = ap (λ os. message_start s ++ counted op_bytes os) e ∙ simp (append_assoc, append-nil)
+pub message_put : (s : Seen) (to : ℕ) (ops : List Op) → ops ≡ (message_over s to).ops → start_of s ++ counted op_bytes ops ≡ message_bytes (message_over s to)
+unfolding message_over message_head message_in_form
+message_put s to ops e = ap (λ os. start_of s ++ counted op_bytes os) e ∙ simp (append_assoc, append-nil)
 
 pub few_sent : (s : Seen) (to : ℕ) → members s ≤ MEMBERS → length (message_over s to).ops < 2 ^ 32
 few_sent s to few = few_ops (message_over s to) (within_input s to few)

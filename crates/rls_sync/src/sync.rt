@@ -1,11 +1,11 @@
 //! What members send each other.
 
-ghost use Rattle.std.specs.Prelude.{◌≡◌, ◌<◌, ◌≤◌, ◌^◌, ◌++◌, ◌↔◌, ◌⊎◌, ℕ, Ok, Err, codes, length, take, IfOk, OnOk, IsErrOf};
-ghost use Rattle.rls_ident.specs.declared.limits.TheConstants.{MEMBERS, OPERATION_BYTES};
+ghost use Rattle.std.specs.Prelude.{◌≡◌, ◌<◌, ◌≤◌, ◌^◌, ◌++◌, ◌↔◌, ◌⊎◌, ℕ, Ok, Err, length, take, IfOk, OnOk, IsErrOf};
+ghost use Rattle.rls_ident.specs.declared.limits.TheConstants.{OPERATION_BYTES};
 ghost use Rattle.rls_ident.specs.Lists.{IsIn};
 ghost use Rattle.rls_ops.specs.declared.message.Message.{Message};
 ghost use Rattle.rls_ops.specs.declared.op.Op.{Op};
-ghost use Rattle.rls_ops.specs.Sizes.{head_size, op_size};
+ghost use Rattle.rls_ops.specs.Sizes.{op_size};
 ghost use Rattle.rls_ops.specs.Rows.{missing_for};
 ghost use Rattle.rls_ops.specs.Spelling.{counted, message_bytes, op_bytes};
 ghost use Rattle.rls_codec.specs.CodecLaws.{IsMessage};
@@ -15,20 +15,18 @@ ghost use Rattle.rls_model.specs.Taking.{message_for, take_message};
 ghost use Rattle.rls_model.specs.Taking as model;
 ghost use Rattle.rls_seen.specs.Messages.{message_over, taken_over, taken_of, IsPartTaken};
 ghost use Rattle.rls_seen.specs.Seen.{members};
-ghost use Rattle.rls_sync.specs.Heads.{message_start};
+ghost use Rattle.rls_sync.specs.Heads.{start_of};
 ghost use Rattle.rls_seen.specs.Stands.{StandsFor};
 ghost use Rattle.rls_replica.specs.Faults.{IsForeign};
 ghost use Rattle.rls_replica.specs.Names.{KeepsNames};
 
-use rls_codec::{DecodeError, decode_message, put_byte, put_u32, put_u64, put_vector};
+use rls_codec::{DecodeError, decode_message, put_head, put_u32};
 use rls_ident::limits::INPUT_BYTES;
 use rls_ident::{Vector, rely};
 use rls_log::Log;
+use rls_ops::size::head_len;
 use rls_replica::{Replica, SendError, TakeError, Taken};
 use std::alloc::{AllocError, Global};
-
-/// The form in which messages are written.
-const MESSAGE_FORM: u8 = 3;
 
 /// Why bytes aren't taken as a message, or not to its end.
 #[derive(Clone, Copy, Debug, PartialEq, Eq)]
@@ -79,7 +77,7 @@ fn spelled(alloc: Global, replica: &Replica, to: u32) -> Result<Vec<u8>, AllocEr
     let room = INPUT_BYTES - head_len(replica.members());
     let end = log.reach(&known, room);
     let mut out = Vec::with_capacity(alloc, log.missing_len(&known).min(room) as usize)?;
-    put_head(&mut out, replica)?;
+    put_start(&mut out, replica)?;
     put_ops(&mut out, log, &known, end)?;
     Ok(out)
 }
@@ -95,30 +93,17 @@ fn put_ops(out: &mut Vec<u8>, log: &Log, known: &Vector, end: usize) -> Result<(
     Ok(())
 }
 
-// How many bytes a message has beside its operations.
-fn head_len(members: u32) -> u64
-    requires few { members ≤ MEMBERS }
-    ensures size { result ≡ head_size members }
+// What stands in a message of this replica before its operations.
+fn put_start(out: &mut Vec<u8>, replica: &Replica) -> Result<(), AllocError>
+    ensures ok { OnOk result (out.new.items ≡ out.old.items ++ start_of replica.now) }
 {
-    25 + 4 * members as u64
-}
-
-fn put_magic(out: &mut Vec<u8>) -> Result<(), AllocError>
-    ensures ok { OnOk result (out.new.items ≡ out.old.items ++ codes "RLSM") }
-{
-    out.extend_from_slice(b"RLSM")
-}
-
-// What stands before the number of operations: magic text, form, group, count of members, sender and vector.
-fn put_head(out: &mut Vec<u8>, replica: &Replica) -> Result<(), AllocError>
-    ensures ok { OnOk result (out.new.items ≡ out.old.items ++ message_start replica.now) }
-{
-    put_magic(out)?;
-    put_byte(out, MESSAGE_FORM)?;
-    put_u64(out, replica.group())?;
-    put_u32(out, replica.members())?;
-    put_u32(out, replica.me())?;
-    put_vector(out, replica.acks().mine())?;
+    put_head(
+        out,
+        replica.group(),
+        replica.members(),
+        replica.me(),
+        replica.acks().mine(),
+    )?;
     Ok(())
 }
 

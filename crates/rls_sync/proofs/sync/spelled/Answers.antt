@@ -1,11 +1,11 @@
-use Rattle.std.proofs.Common.{◌≡◌, ◌∙◌, ◌++◌, List, ℕ, length, take, ap, subst, arith}
+use Rattle.std.proofs.Common.{◌∙◌, ◌++◌, List, ℕ, length, take, ap, subst, arith}
 use Rattle.std.specs.Prelude.{All}
 use Rattle.rls_codec.specs.Spelled.{IsSpelledIfFit}
 use Rattle.rls_ops.specs.declared.op.Op.{Op}
 use Rattle.rls_ops.specs.Rows.{missing_for}
 use Rattle.rls_ops.specs.Sizes.{head_size}
 use Rattle.rls_ops.specs.Spelling.{counted, op_bytes}
-use Rattle.rls_sync.specs.Heads.{message_start}
+use Rattle.rls_sync.specs.Heads.{start_of}
 use Rattle.rls_sync.proofs.Sent.{sent_log, message_put, few_sent, sent_message}
 use Rattle.rls_sync.proofs.sync.spelled.Goals as goal
 
@@ -24,7 +24,7 @@ bytes c =
     let ops = missing_for c.in_ok-known.known (take c.reach-end.result c.logged-log.result.now) in
     let sent = sent_log s c.args.to c.in_ok-known.known c.logged-log.result.now c.reach-end.result c.head_len-room.result few c.in_ok-known.ensures.known (c.head_len-room.ensures.size ∙ ap head_size c.members.ensures.members) c.logged-log.ensures.log c.reach-end.ensures.reach in
     c.in_ok-put_ops.ensures.ok
-    ∙ ap (λ (w : List ℕ). w ++ counted op_bytes ops) (c.in_ok-put_head.ensures.ok ∙ ap (λ (w : List ℕ). w ++ message_start s) c.in_ok-out.ensures.items)
+    ∙ ap (λ (w : List ℕ). w ++ counted op_bytes ops) (c.in_ok-put_start.ensures.ok ∙ ap (λ (w : List ℕ). w ++ start_of s) c.in_ok-out.ensures.items)
     ∙ message_put s c.args.to ops sent
 
 pub returns-clause-bytes : goal.returns-clause-bytes
