@@ -1,3 +1,4 @@
 pub mod Heads
+pub mod Values
 pub mod Fitting
 pub mod Encoded

@@ -1,28 +1,44 @@
 //! Where the bytes of an operation stand.
 
-ghost use Rattle.std.specs.Prelude.{◌≡◌, ◌+◌, ◌≤◌, length};
-ghost use Rattle.rls_log.specs.Encoded.{part_of};
+ghost use Rattle.std.specs.Prelude.{◌≡◌, ◌+◌, ◌≤◌, length, IfOk, IfSome};
+ghost use Rattle.rls_log.specs.Encoded.{part_of, large_of};
+ghost use Rattle.rls_log.specs.Values.{value_of};
 
 use crate::head::OpHead;
+use rls_ops::{Body, Op};
+use std::alloc::{AllocError, Global};
+
+/// Up to how many bytes a deletion is made of its bytes whenever it is asked for.
+const SMALL: u64 = 512;
 
 /// Where the bytes of an operation stand, and what is known of it without its body.
-#[derive(Clone, Copy)]
+#[derive(Drop)]
 pub(crate) struct Entry {
     pub(crate) start: usize,
     pub(crate) len: u32,
     pub(crate) head: OpHead,
+    /// The operation itself, if it is a large deletion.
+    pub(crate) large: Large,
 }
+
+/// An operation, or none.
+pub(crate) type Large = Option<Box<Op>>;
 
 impl Entry {
     // The same operation, whose bytes stand from another place on.
-    pub(crate) fn moved_to(&self, start: usize) -> Entry
-        ensures moved { result ≡ record { head = self.now.head; start = start; len = self.now.len } }
+    pub(crate) fn moved_to(&self, alloc: Global, start: usize) -> Result<Entry, AllocError>
+        ensures start { IfOk result (λ e. e.start ≡ start) }
+        ensures len { IfOk result (λ e. e.len ≡ self.now.len) }
+        ensures head { IfOk result (λ e. e.head ≡ self.now.head) }
+        ensures large { IfOk result (λ e. large_of e ≡ large_of self.now) }
     {
-        Entry {
+        let large = copy_of(alloc, &self.large)?;
+        Ok(Entry {
             head: self.head,
             start,
             len: self.len,
-        }
+            large,
+        })
     }
 
     // The bytes of the operation, of these.
@@ -33,4 +49,29 @@ impl Entry {
         let (_, rest) = bytes.split_at(self.start);
         rest.split_at(self.len as usize).0
     }
+}
+
+// A copy of an operation, or none.
+fn copy_of(alloc: Global, large: &Large) -> Result<Large, AllocError>
+    ensures copy { IfOk result (λ copy. value_of copy ≡ value_of large.now) }
+{
+    let Some(op) = large else {
+        return Ok(None);
+    };
+    let copy = Box::new(alloc, op.copy()?)?;
+    Ok(Some(copy))
+}
+
+// A copy of an operation with this many bytes, if it is a large deletion.
+pub(crate) fn large_deletion(alloc: Global, op: &Op, len: u64) -> Result<Large, AllocError>
+    ensures large { IfOk result (λ large. IfSome (value_of large) (λ o. o ≡ op.now)) }
+{
+    let Body::Delete { .. } = &op.body else {
+        return Ok(None);
+    };
+    if len <= SMALL {
+        return Ok(None);
+    }
+    let copy = Box::new(alloc, op.copy()?)?;
+    Ok(Some(copy))
 }

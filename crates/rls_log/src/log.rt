@@ -1,6 +1,6 @@
 //! The log: operations in order, kept as bytes.
 
-ghost use Rattle.std.specs.Prelude.{◌≡◌, ◌<◌, All, ◌++◌, ◌∷◌, [], ◌==◌, Some, length, take, slice_get, IfOk, OnOk, OnErr};
+ghost use Rattle.std.specs.Prelude.{◌≡◌, ◌<◌, All, ◌++◌, ◌∷◌, [], ◌==◌, Some, length, take, slice_get, IfOk, IfSome, OnOk, OnErr};
 ghost use Rattle.rls_ops.specs.declared.op.Op.{Op as OpSeen};
 ghost use Rattle.rls_codec.specs.Spelled.{IsSpelledIfFit};
 ghost use Rattle.rls_ops.specs.Rows.{missing_for};
@@ -9,7 +9,7 @@ ghost use Rattle.rls_log.specs.Heads.{IsHeadOf};
 ghost use Rattle.rls_log.specs.Fitting.{AreFit};
 ghost use Rattle.rls_log.specs.Encoded.{SpellOne, op_spelled};
 
-use crate::entry::Entry;
+use crate::entry::{Entry, large_deletion};
 use crate::head::OpHead;
 use rls_codec::{ReadError, encode_op, op_fields, vector};
 use rls_ident::{Vector, rely};
@@ -21,7 +21,8 @@ use std::marker::Model;
 const BEFORE_CONTEXT: usize = 8;
 
 /// Operations in order, kept as the bytes that spell them. What is asked most of an operation, all but its context and its body,
-/// stands beside the bytes: it costs no reading. An operation takes its bytes in memory, and 40 more.
+/// stands beside the bytes: it costs no reading. An operation takes its bytes in memory, and 48 more. A deletion of more than 512 bytes
+/// is there as a value too, since its targets may be looked up again and again.
 #[derive(Drop)]
 pub struct Log {
     pub(crate) bytes: Vec<u8>,
@@ -58,10 +59,12 @@ impl Log {
         ensures ok { OnOk result (self.new ≡ self.old ++ op.now ∷ []) }
         ensures err { OnErr result (self.new ≡ self.old) }
     {
-        if op.encoded_len() > u32::MAX as u64 {
+        let len = op.encoded_len();
+        if len > u32::MAX as u64 {
             return Err(AllocError);
         }
         rely!(op.fits());
+        let large = large_deletion(*self.bytes.allocator(), op, len)?;
         self.entries.reserve(1)?;
         let start = self.bytes.len();
         encode_op(&mut self.bytes, op)?;
@@ -69,6 +72,7 @@ impl Log {
             head: OpHead::of(op, op.context.len() as u32),
             start,
             len: (self.bytes.len() - start) as u32,
+            large,
         };
         self.entries.push(entry).unwrap();
         Ok(())
@@ -108,8 +112,7 @@ impl Log {
         requires place { i < length self.now }
         ensures part { (o : OpSeen) → slice_get self.now i ≡ Some o → result.now ≡ op_bytes o }
     {
-        let entry = self.entries[i];
-        entry.part(&self.bytes)
+        self.entries[i].part(&self.bytes)
     }
 
     /// The operation at a place, counted from 0, made of its bytes.
@@ -117,7 +120,7 @@ impl Log {
         requires place { i < length self.now }
         ensures op { IfOk result (λ op. slice_get self.now i ≡ Some op) }
     {
-        let entry = self.entries[i];
+        let entry = &self.entries[i];
         read_op(
             *self.bytes.allocator(),
             entry.head.members,
@@ -125,12 +128,23 @@ impl Log {
         )
     }
 
+    /// The operation at a place, counted from 0, if the log has it as a value: a large deletion. It takes no memory.
+    pub fn large_deletion(&self, i: usize) -> Option<&Op>
+        requires place { i < length self.now }
+        ensures op { IfSome result (λ op. slice_get self.now i ≡ Some op.now) }
+    {
+        match &self.entries[i].large {
+            Some(op) => Some(&**op),
+            None => None,
+        }
+    }
+
     /// The context of the operation at a place, counted from 0, made of its bytes.
     pub fn context(&self, i: usize) -> Result<Vector, AllocError>
         requires place { i < length self.now }
         ensures context { IfOk result (λ v. (o : OpSeen) → slice_get self.now i ≡ Some o → v ≡ o.context) }
     {
-        let entry = self.entries[i];
+        let entry = &self.entries[i];
         read_context(
             *self.bytes.allocator(),
             entry.head.members,
@@ -172,7 +186,7 @@ impl Log {
             }
             let start = bytes.len();
             bytes.extend_from_slice(entry.part(&self.bytes))?;
-            entries.push(entry.moved_to(start))?;
+            entries.push(entry.moved_to(alloc, start)?)?;
         }
         Ok(Log { bytes, entries })
     }

@@ -5,7 +5,7 @@ ghost use Rattle.rls_codec.specs.Reading.{op_at, chain_at, counted_at};
 ghost use Rattle.rls_codec.specs.Gives.{Gives, Fails};
 ghost use Rattle.rls_log.specs.Encoded.{EntryFound, EntriesFound, ops_in};
 
-use crate::entry::Entry;
+use crate::entry::{Entry, large_deletion};
 use crate::head::OpHead;
 use crate::log::Log;
 use rls_codec::{ReadError, op, u32_at};
@@ -24,10 +24,13 @@ fn entry_at<'a>(
     ensures fails { IfErr result (λ e. Fails e (op_at members bytes.now)) }
 {
     let (found, rest) = op(alloc, members, bytes)?;
+    let len = bytes.len() - rest.len();
+    let large = large_deletion(alloc, &found, len as u64)?;
     let entry = Entry {
         head: OpHead::of(&found, members),
         start: all.len() - bytes.len(),
-        len: (bytes.len() - rest.len()) as u32,
+        len: len as u32,
+        large,
     };
     Ok((entry, rest))
 }

@@ -169,8 +169,8 @@ impl Replica {
         op.seq <= self.acks.stable().get(op.author)
     }
 
-    // How many targets from a place on, within their run, the operation names that a hint tells. If it is of another epoch, those that
-    // follow may be elsewhere there: so it tries one, two, four and so on, up to the number that the hint tells.
+    // How many targets from a place on, within their run, the operation names that a hint tells. If the log has it as a value, it isn't
+    // made of its bytes.
     fn names_run(
         &self,
         hint: Hint,
@@ -184,16 +184,38 @@ impl Replica {
         ensures within { IfOk result (λ n. at + n ≤ length targets.now) }
         ensures known { IfOk result (λ n. first_unknown_over self.now epoch (drop (at + n) targets.now) ≡ first_unknown_over self.now epoch (drop at targets.now)) }
     {
+        if let Some(op) = self.log.large_deletion(hint.place) {
+            return self.names_most(op, hint.count, epoch, targets, at);
+        }
         let op = self.log.op(hint.place)?;
+        self.names_most(&op, hint.count, epoch, targets, at)
+    }
+
+    // How many targets from a place on, within their run and at most so many, an operation names. If it is of another epoch, those that
+    // follow may be elsewhere there: so it tries one, two, four and so on.
+    fn names_most(
+        &self,
+        op: &Op,
+        limit: u32,
+        epoch: EpochName,
+        targets: &Runs,
+        at: u64,
+    ) -> Result<u64, AllocError>
+        requires logged { IsIn op.now self.now.log }
+        requires kept { IsTrue (is_kept self.now.epochs.top self.now.epochs.nodes epoch) }
+        requires place { at < length targets.now }
+        ensures within { IfOk result (λ n. at + n ≤ length targets.now) }
+        ensures known { IfOk result (λ n. first_unknown_over self.now epoch (drop (at + n) targets.now) ≡ first_unknown_over self.now epoch (drop at targets.now)) }
+    {
         let (run, from) = targets.locate(at);
-        let most = hint.count.min(run.len() - from);
+        let most = limit.min(run.len() - from);
         if op.epoch.same(&epoch) {
-            return self.names_count(&op, epoch, targets, at, most);
+            return self.names_count(op, epoch, targets, at, most);
         }
         let mut named = 0;
         for doublings in 0..32u32 {
             let count = most.min(1 << doublings);
-            named = self.names_count(&op, epoch, targets, at, count)?;
+            named = self.names_count(op, epoch, targets, at, count)?;
             if named < count as u64 || count == most {
                 break;
             }
@@ -251,15 +273,30 @@ impl Replica {
     {
         let from = self.cleared(epoch, target)?;
         for i in from..self.log.len() {
-            let Some(op) = self.logged_deletion(i)? else {
-                continue;
-            };
-            if self.names(&op, epoch, target)? {
+            if self.names_at(i, epoch, target)? {
                 return Ok(true);
             }
         }
         self.wanted.set(from < self.log.len());
         Ok(false)
+    }
+
+    // Whether the operation at a place of the log is an unstable deletion that names the target. If the log has it as a value, it isn't
+    // made of its bytes.
+    fn names_at(&self, place: usize, epoch: EpochName, target: &Ident) -> Result<bool, AllocError>
+        requires place { place < length self.now.log }
+        requires kept { IsTrue (is_kept self.now.epochs.top self.now.epochs.nodes epoch) }
+        ensures names { IfOk result (λ b. (o : OpSeen) → slice_get self.now.log place ≡ Some o → b ≡ (not (is_covered (stable_over self.now) o) && is_named_by self.now epoch target.now o)) }
+    {
+        if let Some(op) = self.log.large_deletion(place) {
+            let named = self.names(op, epoch, target)?;
+            return Ok(named);
+        }
+        let Some(op) = self.logged_deletion(place)? else {
+            return Ok(false);
+        };
+        let named = self.names(&op, epoch, target)?;
+        Ok(named)
     }
 
     // Whether this operation of the log is an unstable deletion that names the target.

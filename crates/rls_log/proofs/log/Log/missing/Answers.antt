@@ -40,9 +40,9 @@ loop-i-preserved c =
     let got : slice_get es i ≡ Some e = slice_get_read es (length es) i e refl lt c.index-entry.ensures in
     let k = entry_at_place bytes es i e got c.self.invariant in
     let test : is_covered v (op_in bytes e) ≡ _ = sym (covers bytes v e k) ∙ sym c.is_covered.ensures.test ∙ c.if-is_covered.false in
-    let m = c.moved_to.ensures.moved in
+    let m = c.in_ok-moved_to.ensures in
     let out = c.loop-i.bytes.items in
-    let p = copied out c.loop-i.entries.items bytes e c.moved_to.result c.loop-i.invariant.entries k (ap (λ (d : Entry). d.head) m) (ap (λ (d : Entry). d.start) m ∙ c.len-start.ensures ∙ c.loop-i.bytes.ok.0) (ap (λ (d : Entry). d.len) m) in
+    let p = copied out c.loop-i.entries.items bytes e c.in_ok-moved_to.field-0 c.loop-i.invariant.entries k m.head m.large (m.start ∙ c.len-start.ensures ∙ c.loop-i.bytes.ok.0) m.len in
     let from : c.extend_from_slice.new.self.items ≡ out ++ part_of bytes e = c.in_ok-extend_from_slice.ensures.items ∙ ap (λ (w : List ℕ). out ++ w) (c.part.ensures.part ∙ ap (λ (w : List ℕ). part_of w e) c.deref.ensures.value) in
     rw (from, c.in_ok-push.ensures.items) record {
       entries = p.0;

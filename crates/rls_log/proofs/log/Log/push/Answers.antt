@@ -12,11 +12,11 @@ use Rattle.rls_log.proofs.log.Log.push.Goals as goal
 pub overflow_cast-entry : goal.overflow_cast-entry
 overflow_cast-entry c =
     let o = c.args.op.now in
-    omega (arith, c.len-2.ensures, c.len-start.ensures, c.encode_op.new.out.ok.0, c.self.inside.bytes.ok.0, ap length c.in_ok-encode_op.ensures.ok, length-append c.self.inside.bytes.items (op_bytes o), op_length o, c.encoded_len.ensures.size, c.if-encoded_len.false)
+    omega (arith, c.len-2.ensures, c.len-start.ensures, c.encode_op.new.out.ok.0, c.self.inside.bytes.ok.0, ap length c.in_ok-encode_op.ensures.ok, length-append c.self.inside.bytes.items (op_bytes o), op_length o, c.encoded_len-len.ensures.size, c.if-len.false)
 
 module _ (c : goal.After-unwrap) where
   abbrev entry : Entry
-  entry = record { head = c.of.result; start = c.len-start.result; len = c.len-2.result - c.len-start.result }
+  entry = record { head = c.of.result; start = c.len-start.result; len = c.len-2.result - c.len-start.result; large = c.in_ok-large.large }
 
   entries : c.push.new.self.items ≡ c.self.inside.entries.items ++ entry ∷ []
   entries = c.push.ensures.items ∙ ap (λ r. if is_ok r then c.reserve.new.self.items ++ entry ∷ [] else c.reserve.new.self.items) c.unwrap.ensures ∙ ap (λ (es : List Entry). es ++ entry ∷ []) c.reserve.ensures.items
@@ -26,7 +26,7 @@ module _ (c : goal.After-unwrap) where
   put =
       let o = c.args.op.now in
       let bytes = c.self.inside.bytes.items in
-      pushed bytes c.self.inside.entries.items o entry c.self.invariant (c.in_ok-encode_op.ensures.fields c.fits.ensures.whole.body) c.of.ensures.head (omega (arith, c.len-start.ensures, c.self.inside.bytes.ok.0))
+      pushed bytes c.self.inside.entries.items o entry c.self.invariant (c.in_ok-encode_op.ensures.fields c.fits.ensures.whole.body) c.of.ensures.head c.in_ok-large.ensures.large (omega (arith, c.len-start.ensures, c.self.inside.bytes.ok.0))
       (omega (arith, c.len-2.ensures, c.len-start.ensures, c.encode_op.new.out.ok.0, c.self.inside.bytes.ok.0, ap length c.in_ok-encode_op.ensures.ok, length-append bytes (op_bytes o)))
 
 pub invariant_of-self-2 : goal.invariant_of-self-2

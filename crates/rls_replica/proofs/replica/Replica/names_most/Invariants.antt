@@ -1,6 +1,6 @@
 use Rattle.std.proofs.Common.{◌≡◌, ◌+◌, ◌≤◌, length, drop}
 use Rattle.rls_seen.specs.Over.{first_unknown_over}
-use Rattle.rls_replica.proofs.replica.Replica.names_run.Given as goal
+use Rattle.rls_replica.proofs.replica.Replica.names_most.Given as goal
 
 -- those that it was found to name are known
 abbrev pub invariant-loop-doublings : goal.invariant-loop-doublings
