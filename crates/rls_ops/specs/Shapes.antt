@@ -2,6 +2,7 @@
 use Rattle.std.specs.Prelude.{ℕ, ◌-◌, pos, ◌+ℤ◌, Bool, false, ◌&&◌, not, length, slice_index, ◌==◌, nat_lt, if◌then◌else◌, Option, Some, None}
 use Rattle.std.specs.Int.RustNames.{int_lt}
 use Rattle.rls_ident.specs.declared.limits.TheConstants.{CHARACTERS, IDENTIFIERS}
+use Rattle.rls_ident.specs.declared.tuple.Tuple.{Tuple}
 use Rattle.rls_ident.specs.Tuples.{offset_of}
 use Rattle.rls_ident.specs.Identifiers.{last_of, greatest_offset}
 use Rattle.rls_ops.specs.declared.op.Op.{Op}
@@ -47,6 +48,18 @@ body_fault b =
     else if nat_lt (body_limit b) (body_len b) then Some (TooLong (body_len b))
     else if passes_end b then Some OffsetEnd
     else None
+
+-- the first fault of an insertion of so many characters, whose first identifier has this last tuple
+abbrev pub insertion_fault : Tuple → ℕ → Option Shape
+insertion_fault last n =
+    if n == 0 then Some EmptyBody
+    else if nat_lt CHARACTERS n then Some (TooLong n)
+    else if int_lt (greatest_offset +ℤ pos 1) (offset_of last +ℤ pos n) then Some OffsetEnd
+    else None
+
+-- the first fault of a deletion or rename of so many identifiers
+abbrev pub listed_fault : ℕ → Option Shape
+listed_fault n = if n == 0 then Some EmptyBody else if nat_lt IDENTIFIERS n then Some (TooLong n) else None
 
 -- the first fault of the shape, if there is one
 abbrev pub shape_fault : ℕ → Op → Option Shape

@@ -1,15 +1,12 @@
 //! The shape of operations.
 
-ghost use Rattle.std.specs.Prelude.{◌≡◌, ◌<◌, ◌==◌, OnOk, IfErr, None, Some, nat_lt, if◌then◌else◌};
-ghost use Rattle.rls_ident.specs.declared.limits.TheConstants.{IDENTIFIERS};
-ghost use Rattle.rls_ops.specs.Shapes.{is_next_of, body_fault, shape_fault};
-ghost use Rattle.rls_ops.specs.declared.op.Body.TheVariants.{Insert};
-ghost use Rattle.rls_ops.specs.declared.op.Shape.TheVariants.{EmptyBody, TooLong};
+ghost use Rattle.std.specs.Prelude.{◌≡◌, ◌<◌, OnOk, IfErr, None, Some};
+ghost use Rattle.rls_ident.specs.Tuples.{at_spot};
+ghost use Rattle.rls_ops.specs.Shapes.{is_next_of, body_fault, insertion_fault, listed_fault, shape_fault};
 
 use crate::op::{Body, Op, Shape};
-use rls_ident::Ident;
+use rls_ident::Spot;
 use rls_ident::limits::{CHARACTERS, IDENTIFIERS, OFFSETS_END};
-use rls_runs::Text;
 
 impl Op {
     /// Whether the operation has the right shape in a group of this many members. It takes no memory.
@@ -47,39 +44,50 @@ fn check_body(body: &Body) -> Result<(), Shape>
     ensures fault { IfErr result (λ fault. body_fault body.now ≡ Some fault) }
 {
     match body {
-        Body::Insert { first, text } => check_insertion(first, text),
-        Body::Delete { targets } => check_idents(targets.total()),
-        Body::Rename { former } => check_idents(former.total()),
+        Body::Insert { first, text } => Shape::check_insertion(first.last(), text.len() as u64),
+        Body::Delete { targets } => Shape::check_idents(targets.total()),
+        Body::Rename { former } => Shape::check_idents(former.total()),
         Body::Leave => Ok(()),
     }
 }
 
-fn check_insertion(first: &Ident, text: &Text) -> Result<(), Shape>
-    ensures ok { OnOk result (body_fault (Insert first.now text.now) ≡ None) }
-    ensures fault { IfErr result (λ fault. body_fault (Insert first.now text.now) ≡ Some fault) }
-{
-    let n = text.len() as u64;
-    if n == 0 {
-        return Err(Shape::EmptyBody);
+impl Shape {
+    /// Whether an insertion of `n` characters has the right shape, where this is the last tuple of its first identifier. It takes no memory.
+    ///
+    /// # Errors
+    ///
+    /// The first fault, in the order of `Shape`.
+    pub fn check_insertion(last: Spot, n: u64) -> Result<(), Shape>
+        ensures ok { OnOk result (insertion_fault (at_spot last) n ≡ None) }
+        ensures fault { IfErr result (λ fault. insertion_fault (at_spot last) n ≡ Some fault) }
+    {
+        if n == 0 {
+            return Err(Shape::EmptyBody);
+        }
+        if n > CHARACTERS {
+            return Err(Shape::TooLong { n });
+        }
+        if last.offset as i64 + n as i64 > OFFSETS_END as i64 {
+            return Err(Shape::OffsetEnd);
+        }
+        Ok(())
     }
-    if n > CHARACTERS {
-        return Err(Shape::TooLong { n });
-    }
-    if first.last().offset as i64 + n as i64 > OFFSETS_END as i64 {
-        return Err(Shape::OffsetEnd);
-    }
-    Ok(())
-}
 
-fn check_idents(n: u64) -> Result<(), Shape>
-    ensures ok { OnOk result ((if n == 0 then Some EmptyBody else if nat_lt IDENTIFIERS n then Some (TooLong n) else None) ≡ None) }
-    ensures fault { IfErr result (λ fault. (if n == 0 then Some EmptyBody else if nat_lt IDENTIFIERS n then Some (TooLong n) else None) ≡ Some fault) }
-{
-    if n == 0 {
-        return Err(Shape::EmptyBody);
+    /// Whether a deletion or rename of `n` identifiers has the right shape. It takes no memory.
+    ///
+    /// # Errors
+    ///
+    /// The first fault, in the order of `Shape`.
+    pub fn check_idents(n: u64) -> Result<(), Shape>
+        ensures ok { OnOk result (listed_fault n ≡ None) }
+        ensures fault { IfErr result (λ fault. listed_fault n ≡ Some fault) }
+    {
+        if n == 0 {
+            return Err(Shape::EmptyBody);
+        }
+        if n > IDENTIFIERS {
+            return Err(Shape::TooLong { n });
+        }
+        Ok(())
     }
-    if n > IDENTIFIERS {
-        return Err(Shape::TooLong { n });
-    }
-    Ok(())
 }
