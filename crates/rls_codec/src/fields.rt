@@ -100,10 +100,10 @@ fn text_of(alloc: Global, text: &str) -> Result<Text, AllocError>
     Text::from_str(alloc, text)
 }
 
-/// A text in UTF-8 after its number of bytes. Bytes that aren't UTF-8 are a fault of the bytes, not of their number.
+/// A text in UTF-8 after its number of bytes, where it stands. Bytes that aren't UTF-8 are a fault of the bytes, not of their number.
 #[tactic(auto, using(rls_runs::proofs::Texts::utf8_from_text, rls_runs::proofs::Texts::no_utf8), unfolding(crate::specs::Reading::text_at))]
-pub fn text(alloc: Global, bytes: &[u8]) -> Result<(Text, &[u8]), ReadError>
-    ensures read { Gives (λ x. (x.0, x.1.now)) result (text_at bytes.now) }
+pub fn text_slice(bytes: &[u8]) -> Result<(&str, &[u8]), ReadError>
+    ensures read { Gives (λ x. (chars x.0.now, x.1.now)) result (text_at bytes.now) }
 {
     let (len, rest) = u32_at(bytes)?;
     let len = len as usize;
@@ -112,10 +112,16 @@ pub fn text(alloc: Global, bytes: &[u8]) -> Result<(Text, &[u8]), ReadError>
     }
     let (front, after) = rest.split_at(len);
     match str::from_utf8(front) {
-        Ok(text) => {
-            let found = text_of(alloc, text)?;
-            Ok((found, after))
-        }
+        Ok(text) => Ok((text, after)),
         Err(_) => Err(ReadError::Fault { left: rest.len() }),
     }
+}
+
+/// A text in UTF-8 after its number of bytes, copied from where `text_slice` finds it.
+pub fn text(alloc: Global, bytes: &[u8]) -> Result<(Text, &[u8]), ReadError>
+    ensures read { Gives (λ x. (x.0, x.1.now)) result (text_at bytes.now) }
+{
+    let (found, after) = text_slice(bytes)?;
+    let text = text_of(alloc, found)?;
+    Ok((text, after))
 }

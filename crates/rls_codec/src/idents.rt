@@ -5,7 +5,8 @@ ghost use Rattle.rls_runs.specs.Runs.{runs_of, are_apart, run_before};
 ghost use Rattle.std.specs.List.{All};
 ghost use Rattle.rls_ident.specs.Tuples.{at_spot};
 ghost use Rattle.rls_ident.specs.Identifiers.{is_inner_bounded, is_last_bounded};
-ghost use Rattle.rls_codec.specs.Reading.{is_offset, spot_at, inner_at, last_at, many_at, ident_at, run_at, next_run_at, chain_at, runs_at};
+ghost use Rattle.std.specs.Int.{w32};
+ghost use Rattle.rls_codec.specs.Reading.{with_rule, number_at, is_offset, spot_at, inner_at, last_at, many_at, ident_at, run_at, next_run_at, chain_at, runs_at};
 ghost use Rattle.rls_codec.specs.Gives.{Gives, Fails, PutsRun};
 
 use crate::fault::ReadError;
@@ -46,8 +47,9 @@ fn spot(least: i32, bytes: &[u8]) -> Result<(Spot, &[u8]), ReadError>
     Ok((spot, after))
 }
 
+/// A tuple that stands before another one in an identifier.
 #[tactic(auto, unfolding(crate::specs::Reading::inner_at))]
-fn inner(bytes: &[u8]) -> Result<(Tuple, &[u8]), ReadError>
+pub fn inner(bytes: &[u8]) -> Result<(Tuple, &[u8]), ReadError>
     ensures read { Gives (λ x. (x.0, x.1.now)) result (inner_at bytes.now) }
     ensures bounded { IfOk result (λ x. IsTrue (is_inner_bounded x.0)) }
 {
@@ -63,8 +65,9 @@ fn inner(bytes: &[u8]) -> Result<(Tuple, &[u8]), ReadError>
     }
 }
 
+/// The last tuple of an identifier, which is an `At`.
 #[tactic(auto, unfolding(crate::specs::Reading::last_at))]
-fn last(bytes: &[u8]) -> Result<(Spot, &[u8]), ReadError>
+pub fn last(bytes: &[u8]) -> Result<(Spot, &[u8]), ReadError>
     ensures read { Gives (λ x. (at_spot x.0, x.1.now)) result (last_at bytes.now) }
     ensures bounded { IfOk result (λ x. IsTrue (is_last_bounded (at_spot x.0))) }
 {
@@ -95,15 +98,24 @@ fn inners(alloc: Global, count: u32, bytes: &[u8]) -> Result<(Vec<Tuple>, &[u8])
     Ok((tuples, rest))
 }
 
-/// An identifier: a number of tuples from 1 on, and the tuples, of which the last is an `At`.
-#[tactic(auto, unfolding(crate::specs::Reading::ident_at))]
-pub fn ident(alloc: Global, bytes: &[u8]) -> Result<(Ident, &[u8]), ReadError>
-    ensures read { Gives (λ x. (x.0, x.1.now)) result (ident_at bytes.now) }
+/// The number of an identifier's tuples, from 1 on.
+pub fn tuple_count(bytes: &[u8]) -> Result<(u32, &[u8]), ReadError>
+    ensures read { Gives (λ x. (x.0, x.1.now)) result (with_rule (nat_lt 0) (number_at w32) bytes.now) }
+    ensures some { IfOk result (λ x. 0 < x.0) }
 {
     let (count, rest) = u32_at(bytes)?;
     if count == 0 {
         return Err(ReadError::Fault { left: bytes.len() });
     }
+    Ok((count, rest))
+}
+
+/// An identifier: a number of tuples from 1 on, and the tuples, of which the last is an `At`.
+#[tactic(auto, unfolding(crate::specs::Reading::ident_at))]
+pub fn ident(alloc: Global, bytes: &[u8]) -> Result<(Ident, &[u8]), ReadError>
+    ensures read { Gives (λ x. (x.0, x.1.now)) result (ident_at bytes.now) }
+{
+    let (count, rest) = tuple_count(bytes)?;
     let (front, rest) = inners(alloc, count - 1, rest)?;
     let (spot, rest) = last(rest)?;
     Ok((Ident::ending(front, spot), rest))

@@ -12,8 +12,8 @@ mod reading;
 mod writing;
 
 pub use fault::{DecodeError, ReadError};
-pub use fields::{byte, epoch_name, i32_at, text, u32_at, u64_at, vector};
-pub use idents::{ident, run, runs};
+pub use fields::{byte, epoch_name, i32_at, text, text_slice, u32_at, u64_at, vector};
+pub use idents::{ident, inner, last, run, runs, tuple_count};
 pub use messages::{decode_message, magic, member, member_count};
 pub use puts::{
     put_byte, put_i32, put_ident, put_name, put_run, put_runs, put_text, put_u32, put_u64,
