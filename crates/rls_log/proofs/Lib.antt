@@ -1,3 +1,4 @@
 pub mod Uncovered
 pub mod Entries
 pub mod Steps
+pub mod FoundOut

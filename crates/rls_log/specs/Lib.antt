@@ -2,3 +2,4 @@ pub mod Heads
 pub mod Values
 pub mod Fitting
 pub mod Encoded
+pub mod Scanned

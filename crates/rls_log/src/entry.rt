@@ -4,8 +4,8 @@ ghost use Rattle.std.specs.Prelude.{◌≡◌, ◌+◌, ◌≤◌, length, IfOk,
 ghost use Rattle.rls_log.specs.Encoded.{part_of, large_of};
 ghost use Rattle.rls_log.specs.Values.{value_of};
 
-use crate::head::OpHead;
-use rls_ops::{Body, Op};
+use crate::head::{OpHead, OpKind};
+use rls_ops::Op;
 use std::alloc::{AllocError, Global};
 
 /// Up to how many bytes a deletion is made of its bytes whenever it is asked for.
@@ -62,14 +62,16 @@ fn copy_of(alloc: Global, large: &Large) -> Result<Large, AllocError>
     Ok(Some(copy))
 }
 
+// Whether an operation of this kind and with this many bytes is a large deletion.
+pub(crate) fn is_large(kind: OpKind, len: u64) -> bool {
+    kind == OpKind::Delete && len > SMALL
+}
+
 // A copy of an operation with this many bytes, if it is a large deletion.
 pub(crate) fn large_deletion(alloc: Global, op: &Op, len: u64) -> Result<Large, AllocError>
     ensures large { IfOk result (λ large. IfSome (value_of large) (λ o. o ≡ op.now)) }
 {
-    let Body::Delete { .. } = &op.body else {
-        return Ok(None);
-    };
-    if len <= SMALL {
+    if !is_large(OpKind::of(&op.body), len) {
         return Ok(None);
     }
     let copy = Box::new(alloc, op.copy()?)?;

@@ -6,6 +6,7 @@ mod head;
 mod log;
 mod missing;
 mod reading;
+mod scanning;
 
 pub use head::{OpHead, OpKind};
 pub use log::Log;

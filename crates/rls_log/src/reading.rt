@@ -1,14 +1,18 @@
 //! A log, read.
 
-ghost use Rattle.std.specs.Prelude.{◌≡◌, ◌-◌, ◌≤◌, ◌^◌, length, drop, None, IfOk, IfErr};
-ghost use Rattle.rls_codec.specs.Reading.{op_at, chain_at, counted_at};
+ghost use Rattle.std.specs.Prelude.{◌≡◌, ◌-◌, ◌≤◌, ◌^◌, ℕ, List, length, drop, None, Ok, IfOk, IfErr, IfSome};
+ghost use Rattle.rls_ops.specs.declared.op.Op.{Op as OpSeen};
+ghost use Rattle.rls_codec.specs.Reading.{op_fields_at, op_at, chain_at, counted_at};
 ghost use Rattle.rls_codec.specs.Gives.{Gives, Fails};
 ghost use Rattle.rls_log.specs.Encoded.{EntryFound, EntriesFound, ops_in};
+ghost use Rattle.rls_log.specs.Values.{value_of};
 
-use crate::entry::{Entry, large_deletion};
+use crate::entry::{Entry, Large, is_large};
 use crate::head::OpHead;
 use crate::log::Log;
-use rls_codec::{ReadError, op, u32_at};
+use crate::scanning::scan_op;
+use rls_codec::{ReadError, op_fields, u32_at};
+use rls_ident::limits::OPERATION_BYTES;
 use std::alloc::{AllocError, Global};
 
 // The entry of the operation at the front of the last bytes of these, and the bytes after it.
@@ -23,16 +27,38 @@ fn entry_at<'a>(
     ensures found { IfOk result (λ x. EntryFound all.now bytes.now members x.0 x.1.now) }
     ensures fails { IfErr result (λ e. Fails e (op_at members bytes.now)) }
 {
-    let (found, rest) = op(alloc, members, bytes)?;
+    let (head, rest) = scan_op(alloc, members, bytes)?;
     let len = bytes.len() - rest.len();
-    let large = large_deletion(alloc, &found, len as u64)?;
+    if len > OPERATION_BYTES as usize {
+        return Err(ReadError::Fault { left: bytes.len() });
+    }
+    let large = large_at(alloc, members, &head, len, bytes)?;
     let entry = Entry {
-        head: OpHead::of(&found, members),
+        head,
         start: all.len() - bytes.len(),
         len: len as u32,
         large,
     };
     Ok((entry, rest))
+}
+
+// The operation at the front of the bytes, of which this is the head, if it is a large deletion. It has this many bytes.
+fn large_at(
+    alloc: Global,
+    members: u32,
+    head: &OpHead,
+    len: usize,
+    bytes: &[u8],
+) -> Result<Large, ReadError>
+    ensures large { IfOk result (λ large. (o : OpSeen) (rest : List ℕ) → op_fields_at members bytes.now ≡ Ok (o, rest) → IfSome (value_of large) (λ p. p ≡ o)) }
+    ensures fails { IfErr result (λ e. Fails e (op_fields_at members bytes.now)) }
+{
+    if !is_large(head.kind, len as u64) {
+        return Ok(None);
+    }
+    let (op, _) = op_fields(alloc, members, bytes)?;
+    let large = Box::new(alloc, op)?;
+    Ok(Some(large))
 }
 
 // The entries of this many operations at the front of the bytes, and the bytes after them.
