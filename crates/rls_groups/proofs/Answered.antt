@@ -49,17 +49,24 @@ use Rattle.rls_stages.proofs.Meant.{IsLine, IsMeantWell, line_well}
 use Rattle.rls_top.specs.Groups.{Group}
 use Rattle.rls_top.proofs.Groups.{Matches, of_file, shown}
 use Rattle.rls_session.specs.declared.orders.Order.TheVariants as orders
-use Rattle.rls_session.specs.Answers.{Sitting, answer, edited, made_changes, message_changes, pointed, read_line, rested, sent, taken, taken_at, text_reply, told, told_rested, undone, undone_by_plan, undone_changes, with_caught_up, with_changes, with_state}
+use Rattle.rls_session.specs.Answers.{Sitting, answer, edited, if_steps, made_changes, message_changes, pointed, read_line, rested, sent, taken, taken_at, text_reply, told, told_rested, undone, undone_by_plan, undone_changes, with_begun, with_caught_up, with_changes, with_state}
 use Rattle.rls_changes.specs.declared.change.Change.{Change}
+use Rattle.rls_changes.specs.Edits.{edit_changes}
 use Rattle.rls_changes.specs.Telling.{all_released_changes, all_released_changes_in, ready_changes, times_changes}
 use Rattle.rls_changes.proofs.TakenAlike.{released_alike}
+use Rattle.rls_steps.specs.declared.piece.Step.{Step}
+use Rattle.rls_steps.specs.Grounds.{Turned, over, within, again_edits, again_on, back_edits, back_on}
+use Rattle.rls_steps.proofs.Performing.{turned_performed_in}
 use Rattle.rls_session.specs.Answers as answers
 use Rattle.rls_session.specs.Courses.{Answered}
-use Rattle.rls_session.specs.Replies.{bytes_text}
+use Rattle.rls_session.specs.Replies.{again_text, back_text, bytes_text, nothing_text}
 use Rattle.rls_session.specs.Requests.{Request, Does, Takes}
 use Rattle.rls_session.specs.Sessions.{by_history, by_parts}
 use Rattle.rls_session.proofs.Given.{IsGiven}
-use Rattle.rls_session.proofs.Agreeing.{AreAlike, IsAlike, answer_alike, caught_up_stays, line_almost, taken_alike, undo_almost}
+use Rattle.rls_session.proofs.AlikeSittings.{AreAlike, IsAlike}
+use Rattle.rls_session.proofs.AlikeSteps.{backed_almost, begun_stays, redone_almost, turned_whole}
+use Rattle.rls_session.proofs.Agreeing.{answer_alike, caught_up_stays, line_almost, taken_alike, undo_almost}
+use Rattle.rls_session.proofs.Steps.{steps_begun}
 use Rattle.rls_session.proofs.Entries.{whole_at}
 use Rattle.rls_session.proofs.Whole.{last_undoable}
 use Rattle.rls_groups.specs.Events.{IsWritten, replied}
@@ -222,6 +229,44 @@ module _ (g n : ℕ) (G : Group) (w : World) (x : Matches g n G w) (i : ℕ) (s 
         rested_moves r t (record { underway = q.0; follows = q.1; same = rests t ((q.0).storable).rest }) (answer_alike d f r tt b.alike)
         (told_same e (undone_changes by_parts e.state (last_of e.entries)) (undone by_parts e (last_of e.entries)) t ((undo_almost e u alike).states).stands ((q.0).storable).rest) tt refl
 
+    -- ---- steps
+
+    -- a group that is taken back or done again by these edits, if there is one
+    turned_goes : (xs : List Step) (text : ℕ → List ℕ) (u : Sitting State) (a : Turned State) (es : List Edit) → u.state ≡ f.state → AreEdits es → a.state ≡ performed f.state es
+        → let t = ((if_steps xs (answers.says nothing_text u) (answers.turned by_history u text a)).state).state in IsUnderway g n w i t out × Follows f.state t
+    turned_goes [] text u a es same are is = (subst (λ (t : State). IsUnderway g n w i t out) (sym same) b.underway, subst (Follows f.state) (sym same) (follows_self f.state))
+    turned_goes (x ∷ xs) text u a es same are is = subst (λ (t : State). IsUnderway g n w i t out × Follows f.state t) (sym is) (performs g n w i s h es f.state out are b.underway)
+
+    back_step : Stepped d f out (Does orders.Back)
+    unfolding answer
+    back_step =
+        let r = Does orders.Back in
+        let e = with_begun by_parts d in
+        let u = with_begun by_history f in
+        let alike = begun_stays d f b.alike in
+        let begun = steps_begun d.state f.state d.recorded f.recorded (b.alike).stands (b.alike).steps in
+        let q = turned_goes (u.recorded).past back_text u (back_on within f.state u.recorded) (back_edits within f.state u.recorded) refl (turned_whole e u begun alike).0 ((turned_performed_in f.state u.recorded).0).state in
+        let t = ((answers.backed by_history u).state).state in
+        rested_moves r t (record { underway = q.0; follows = q.1; same = rests t ((q.0).storable).rest }) (answer_alike d f r tt b.alike)
+        (told_same e (edit_changes (back_edits over e.state e.recorded)) (answers.backed by_parts e) t ((backed_almost e u begun alike).states).stands ((q.0).storable).rest) tt refl
+
+    again_step : Stepped d f out (Does orders.Again)
+    unfolding answer
+    again_step =
+        let r = Does orders.Again in
+        let e = with_begun by_parts d in
+        let u = with_begun by_history f in
+        let alike = begun_stays d f b.alike in
+        let begun = steps_begun d.state f.state d.recorded f.recorded (b.alike).stands (b.alike).steps in
+        let q = turned_goes (u.recorded).future again_text u (again_on within f.state u.recorded) (again_edits within f.state u.recorded) refl (turned_whole e u begun alike).1 ((turned_performed_in f.state u.recorded).1).state in
+        let t = ((answers.redone by_history u).state).state in
+        rested_moves r t (record { underway = q.0; follows = q.1; same = rests t ((q.0).storable).rest }) (answer_alike d f r tt b.alike)
+        (told_same e (edit_changes (again_edits over e.state e.recorded)) (answers.redone by_parts e) t ((redone_almost e u begun alike).states).stands ((q.0).storable).rest) tt refl
+
+    close_step : Stepped d f out (Does orders.Close)
+    unfolding answer
+    close_step = quiet (Does orders.Close) (answer_alike d f (Does orders.Close) tt b.alike) refl tt tt refl
+
     -- ---- the cursor and the text
 
     either : (c : Bool) (a e : Answered (Sitting State)) → (a.state).state ≡ f.state → (e.state).state ≡ f.state → ((cond c a e).state).state ≡ f.state
@@ -363,6 +408,9 @@ module _ (g n : ℕ) (G : Group) (w : World) (x : Matches g n G w) (i : ℕ) (s 
     pub steps : (r : Request) → IsGiven r → IsWritten G d r → Stepped d f out r
     steps (Does (orders.Edit line)) ok given = edit_step line ok
     steps (Does orders.Undo) ok given = undo_step
+    steps (Does orders.Back) ok given = back_step
+    steps (Does orders.Again) ok given = again_step
+    steps (Does orders.Close) ok given = close_step
     steps (Does (orders.Point p k)) ok given = point_step p k
     steps (Does (orders.Place k)) ok given = place_step k
     steps (Does orders.Text) ok given = text_step

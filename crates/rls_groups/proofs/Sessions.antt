@@ -65,7 +65,7 @@ module _ (g n : ℕ) (G : Group) (w : World) (x : Matches g n G w) (i : ℕ) (r 
 
   first : IsSession G s desk input → Both g n G w x i r.state r.at (at_desk s desk) (at_desk r.state desk) []
   first q = record {
-    alike = record { stands = o.stands; sane = o.sane; writable = o.writable; entries = refl; cursors = refl; tells = refl; whole = q.whole; texts = q.texts };
+    alike = record { stands = o.stands; sane = o.sane; writable = o.writable; entries = refl; cursors = refl; tells = refl; whole = q.whole; texts = q.texts; steps = record { same = refl; kept = q.kept; spelled = q.spelled } };
     underway = record { stands = begins; storable = (r.kept).storable };
     front = front_self (r.state).history;
   }

@@ -23,6 +23,8 @@ use Rattle.rls_undo.specs.declared.entry.Entry.TheVariants.{Inserted, Removed}
 use Rattle.rls_undo.specs.Plans.{epoch_in}
 use Rattle.rls_undo.specs.UndoLaws.{AreWhole}
 use Rattle.rls_undo.specs.Undoing.{last_entries, settled}
+use Rattle.rls_steps.specs.GroundLaws as steps
+use Rattle.rls_steps.specs.Labelled.{Names}
 use Rattle.rls_session.specs.declared.desk.TheConstants.{KEPT_ENTRIES}
 use Rattle.rls_anchor.specs.declared.anchor.Anchor.{Anchor}
 use Rattle.rls_anchor.specs.declared.anchor.Anchor.TheVariants.{Beginning, After}
@@ -39,13 +41,15 @@ use Rattle.rls_session.specs.declared.cursors.Cursor.{Cursor}
 use Rattle.rls_session.specs.Cursors.{AreAnchored, moved}
 use Rattle.rls_session.specs.Answers.{Sitting, answer, resumed, sitting_at}
 use Rattle.rls_session.specs.Courses.{Course, course, course_of, stretches, stretches_within}
-use Rattle.rls_session.specs.Desks.{AreUndoable, IsWhole, sitting_of}
+use Rattle.rls_session.specs.Desks.{AreKept, AreUndoable, IsWhole, sitting_of}
 use Rattle.rls_session.specs.Due.{Due, due, due_of, due_on, stops}
 use Rattle.rls_session.specs.Endings.{Ends, EndsIn, EndsOn, FailsAt, IsKept}
 use Rattle.rls_session.specs.Sessions.{by_history, by_parts}
 use Rattle.rls_session.proofs.Given.{IsGiven, cut_given}
-use Rattle.rls_session.proofs.Agreeing.{IsAlike, answer_alike}
+use Rattle.rls_session.proofs.AlikeSittings.{IsAlike}
+use Rattle.rls_session.proofs.Agreeing.{answer_alike}
 use Rattle.rls_session.proofs.Alike.{resumed_alike}
+use Rattle.rls_session.proofs.Steps.{AreStepsAlike}
 use Rattle.rls_session.proofs.Courses.{IsSameCourse, courses_alike}
 use Rattle.rls_groups.specs.Events as events
 use Rattle.rls_groups.specs.Events.{Deed, Sits, after_run, at_desk, replica_at, saved_of, session_due}
@@ -55,7 +59,7 @@ use Rattle.rls_groups.proofs.Sessions.{EndsSo, ends_so}
 
 -- ---- what a session goes back to, after a store
 
--- entries and cursors of this epoch
+-- entries, cursors and names of this epoch
 abbrev AreAt : EpochName → List Entry → Type 0
 AreAt g [] = Unit {0}
 AreAt g (e ∷ es) = (epoch_in e ≡ g) × AreAt g es
@@ -68,9 +72,14 @@ abbrev ArePut : EpochName → List Cursor → Type 0
 ArePut g [] = Unit {0}
 ArePut g (c ∷ cs) = IsAt g c.anchor × ArePut g cs
 
+abbrev AreNamed : EpochName → EpochName → Names → Type 0
+AreNamed g e [] = Unit {0}
+AreNamed g e (n ∷ ns) = e ≡ g
+
 record IsRecent (u : Sitting State) : Type 0 where
   entries : AreAt (greatest (u.state).history) u.entries
   cursors : ArePut (greatest (u.state).history) u.cursors
+  named : AreNamed (greatest (u.state).history) (u.recorded).epoch (u.recorded).names
 
 settled_at : (t : State) (e : Entry) → epoch_in (settled t.history e) ≡ greatest t.history
 settled_at t (Inserted e ids) = refl
@@ -88,8 +97,12 @@ cursors_at : (t : State) (cs : List Cursor) → ArePut (greatest t.history) (map
 cursors_at t [] = tt
 cursors_at t (c ∷ cs) = (cursor_at t c.anchor, cursors_at t cs)
 
+named_at : (g : EpochName) (ns : Names) → AreNamed g g ns
+named_at g [] = tt
+named_at g (n ∷ ns) = refl
+
 recent : (u : Sitting State) → IsRecent (resumed by_history u)
-recent u = record { entries = all_at u.state (last_entries KEPT_ENTRIES u.entries); cursors = cursors_at u.state u.cursors }
+recent u = record { entries = all_at u.state (last_entries KEPT_ENTRIES u.entries); cursors = cursors_at u.state u.cursors; named = named_at (greatest (u.state).history) ((resumed by_history u).recorded).names }
 
 -- is kept by each replica that stands for the history
 kept_at : (o : Seen) (t : State) → StandsFor o t → keeps o (greatest t.history) ≡ true
@@ -106,6 +119,10 @@ cursor_kept o g (After e x) k h = subst (λ (y : EpochName). keeps o y ≡ true)
 cursors_kept : (o : Seen) (g : EpochName) (cs : List Cursor) → keeps o g ≡ true → ArePut g cs → AreAnchored o cs
 cursors_kept o g [] k h = tt
 cursors_kept o g (c ∷ cs) k h = (cursor_kept o g c.anchor k h.0, cursors_kept o g cs k h.1)
+
+names_kept : (o : Seen) (g e : EpochName) (ns : Names) → keeps o g ≡ true → AreNamed g e ns → AreKept o e ns
+names_kept o g e [] k h = tt
+names_kept o g e (n ∷ ns) k h = subst (λ (y : EpochName). keeps o y ≡ true) (sym h) k
 
 usable : (o : Seen) (u : Sitting State) → StandsFor o u.state → IsRecent u → IsWhole o u.entries u.cursors
 usable o u h r = record { undoable = entries_kept o _ u.entries (kept_at o u.state h) r.entries; anchored = cursors_kept o _ u.cursors (kept_at o u.state h) r.cursors }
@@ -175,10 +192,13 @@ module _ (i : ℕ) where
       same = alike_course d u input b h
 
       mine : Sitting Seen
-      mine = sitting_of o.0 u.entries u.cursors u.tells
+      mine = sitting_of o.0 u.entries u.cursors u.recorded u.tells
+
+      recorded : AreStepsAlike o.0 u.recorded u.recorded
+      recorded = record { same = refl; kept = names_kept o.0 _ _ (u.recorded).names (kept_at o.0 u.state o.1.stands) r.named; spelled = subst steps.IsWhole (h.steps).same (h.steps).spelled }
 
       other : IsSameCourse IsAlike (course (answer by_parts) mine input) (course (answer by_history) u input)
-      other = alike_course mine u input b (record { stands = o.1.stands; sane = o.1.sane; writable = o.1.writable; entries = refl; cursors = refl; tells = refl; whole = usable o.0 u o.1.stands r; texts = subst AreWhole h.entries h.texts })
+      other = alike_course mine u input b (record { stands = o.1.stands; sane = o.1.sane; writable = o.1.writable; entries = refl; cursors = refl; tells = refl; whole = usable o.0 u o.1.stands r; texts = subst AreWhole h.entries h.texts; steps = recorded })
 
       saved : Some (bytes_over ((course (answer by_parts) d input).state).state) ≡ Some (bytes_over ((course (answer by_parts) mine input).state).state)
       saved = ap (λ (x : List ℕ). Some x) (bytes_of_state _ ((course (answer by_history) u input).state).state (same.states).stands ∙ sym (bytes_of_state _ ((course (answer by_history) u input).state).state (other.states).stands))
@@ -186,7 +206,7 @@ module _ (i : ℕ) where
       ending : (due_of (course (answer by_parts) mine input)).ending ≡ Ok ((course (answer by_parts) mine input).state).state
       ending = same_bytes (course (answer by_parts) d input) (course (answer by_parts) mine input) (course (answer by_history) u input) same other is
 
-      there : (x : Result Seen CommandError) → x ≡ Ok o.0 → slice_get (files_with g.files i (saved_of (events.due_on x (record { entries = u.entries; cursors = u.cursors; tells = u.tells }) input).ending)) i ≡ Some (bytes_over ((course (answer by_parts) mine input).state).state)
+      there : (x : Result Seen CommandError) → x ≡ Ok o.0 → slice_get (files_with g.files i (saved_of (events.due_on x (record { entries = u.entries; cursors = u.cursors; recorded = u.recorded; tells = u.tells }) input).ending)) i ≡ Some (bytes_over ((course (answer by_parts) mine input).state).state)
       there x e = rw (e, ending) (set_there g i ((course (answer by_parts) mine input).state).state l)
 
   -- what is kept after a course that is stored
@@ -304,7 +324,7 @@ stores_leave S W load store g i input n now t bytes keeper_old keeper_new input_
         let o = opened bytes t stands in
         let found : replica_in (loaded (Some bytes)) ≡ Ok o.0 = opened_at bytes o.0 few.0 o.1.found in
         let left = ends_within i n now new.told (suc (length input)) g l bytes (sitting_at o.0) (sitting_at t) input old.told at few.0 stands b
-        (record { stands = o.1.stands; sane = o.1.sane; writable = o.1.writable; entries = refl; cursors = refl; tells = refl; whole = record { undoable = tt; anchored = tt }; texts = tt }) (record { entries = tt; cursors = tt })
+        (record { stands = o.1.stands; sane = o.1.sane; writable = o.1.writable; entries = refl; cursors = refl; tells = refl; whole = record { undoable = tt; anchored = tt }; texts = tt; steps = record { same = refl; kept = tt; spelled = (tt, tt) } }) (record { entries = tt; cursors = tt; named = tt })
         (subst (λ (r : Result Seen CommandError). IfSome (due_on (Some r) (Some input)) (λ ds. Ends ds n (Some (Some bytes)) (Some now) old.told new.told)) found told) in
         (left.all, left.some)
     go (inr long) =

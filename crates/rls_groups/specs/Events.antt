@@ -7,6 +7,8 @@ use Rattle.rls_seen.specs.Messages.{message_over}
 use Rattle.rls_seen.specs.Seen.{Seen, members}
 use Rattle.rls_undo.specs.declared.entry.Entry.{Entry}
 use Rattle.rls_undo.specs.UndoLaws.{AreWhole}
+use Rattle.rls_steps.specs.GroundLaws as steps
+use Rattle.rls_steps.specs.Recorded.{Recorded, unused}
 use Rattle.rls_report.specs.declared.failures.CommandError.{CommandError}
 use Rattle.rls_stages.specs.KeptFile.{loaded, replica_in}
 use Rattle.rls_top.specs.declared.words.Command.{Command}
@@ -19,7 +21,7 @@ use Rattle.rls_session.specs.declared.orders.Order.TheVariants.{Quit, Send, Stor
 use Rattle.rls_session.specs.declared.cursors.Cursor.{Cursor}
 use Rattle.rls_session.specs.Answers.{Kind, Sitting, answer}
 use Rattle.rls_session.specs.Courses.{Answered, Course, course, holds}
-use Rattle.rls_session.specs.Desks.{IsWhole}
+use Rattle.rls_session.specs.Desks.{AreKept, IsWhole}
 use Rattle.rls_session.specs.Due as session
 use Rattle.rls_session.specs.Due.{due_of as due_of_course, stops}
 use Rattle.rls_session.specs.Requests.{Request, Does, Takes, cut}
@@ -27,19 +29,19 @@ use Rattle.rls_session.specs.Sessions.{by_parts}
 
 -- ---- sessions
 
--- What a session works on beside the replica. At its beginning that is nothing that can be undone, no cursor that was put, and that
--- changes aren't told. A
--- session that stores more than once begins what follows a store with what it has then.
+-- What a session works on beside the replica. At its beginning that is nothing that can be undone, no cursor that was put, no step that is
+-- recorded, and that changes aren't told. A session that stores more than once begins what follows a store with what it has then.
 pub record Desk : Type 0 where
   pub entries : List Entry
   pub cursors : List Cursor
+  pub recorded : Recorded
   pub tells : Bool
 
 abbrev pub empty_desk : Desk
-empty_desk = record { entries = []; cursors = []; tells = false }
+empty_desk = record { entries = []; cursors = []; recorded = unused; tells = false }
 
 abbrev pub at_desk : {X : Type 0} → X → Desk → Sitting X
-at_desk s desk = record { state = s; entries = desk.entries; cursors = desk.cursors; tells = desk.tells }
+at_desk s desk = record { state = s; entries = desk.entries; cursors = desk.cursors; recorded = desk.recorded; tells = desk.tells }
 
 -- the session from this state and desk over this input, up to its next store
 abbrev pub session_at : {X : Type 0} → Kind X → X → Desk → List ℕ → Course (Sitting X)
@@ -151,6 +153,8 @@ pub record IsSession (g : Group) (s : Seen) (desk : Desk) (input : List ℕ) : T
   pub bytes : IsBytes input
   pub whole : IsWhole s desk.entries desk.cursors
   pub texts : AreWhole desk.entries
+  pub kept : AreKept s (desk.recorded).epoch (desk.recorded).names
+  pub spelled : steps.IsWhole desk.recorded
   pub given : holds (answer by_parts) (IsWritten g) (at_desk s desk) input
 
 -- what a run is given: messages that may be handed on, for whomever they are, and whether or not they were taken before

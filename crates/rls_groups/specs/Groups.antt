@@ -32,10 +32,12 @@ use Rattle.rls_top.specs.declared.words.FileCommand.TheVariants as commands
 use Rattle.rls_top.specs.Due.{Due, Makes, NoCommand, Stops, shows}
 use Rattle.rls_top.specs.Groups.{AllTaken, BeginsWithNew, EqualCountsShowSame, Group, IsFileOf, IsOfMember, IsOrderedBy, NoneRefused, NoneReleased, WaitingMade, due_of, fresh_group}
 use Rattle.rls_top.specs.Words.{command_of}
-use Rattle.rls_session.specs.declared.orders.Order.TheVariants.{Edit, Undo, Text, Send}
+use Rattle.rls_session.specs.declared.orders.Order.TheVariants.{Edit, Undo, Back, Again, Text, Send}
 use Rattle.rls_codec.specs.Reading.{message_of}
 use Rattle.rls_changes.specs.ChangesLaws.{own_changes}
-use Rattle.rls_session.specs.Answers.{Sitting, answer, edited as edited_by, made_changes, message_changes, read_line, told, undone_changes, undone_last, with_caught_up, with_changes}
+use Rattle.rls_changes.specs.Edits.{edit_changes}
+use Rattle.rls_steps.specs.Grounds.{over, again_edits, back_edits}
+use Rattle.rls_session.specs.Answers.{Sitting, answer, backed, edited as edited_by, made_changes, message_changes, read_line, redone, told, undone_changes, undone_last, with_begun, with_caught_up, with_changes}
 use Rattle.rls_session.specs.Courses.{Course, holds}
 use Rattle.rls_session.specs.Replies.{bytes_text, ok_text}
 use Rattle.rls_session.specs.Requests.{Request, Does, Takes}
@@ -50,11 +52,13 @@ abbrev pub IsTextOfAll : Group → List ℕ → List ℕ → Type 0
 IsTextOfAll g v reply = (j : ℕ) (t : State) (words : List (List ℕ)) (input : List ℕ) → IsFileOf g j t → count t.history ≡ v → command_of words ≡ Some (OnFile commands.Text) →
     (report : List ℕ) × (due_of g j words input ≡ Some (shows report)) × (reply ≡ bytes_text (codes "text") report)
 
--- an edit and an undo release nothing that waits, and tell what they change alone; `t` shows what others show; a message is taken, with none of its operations refused; and the
+-- an edit, an undo and steps that are taken back or done again release nothing that waits, and tell what they change alone; `t` shows what others show; a message is taken, with none of its operations refused; and the
 -- reply to `s` is the message that may be handed on
 abbrev pub IsClean : Group → Sitting Seen → Request → Type 0
 IsClean g d (Does (Edit line)) = let r = read_line by_parts d.state line in answer by_parts d (Does (Edit line)) ≡ told d (made_changes r) (edited_by by_parts d r)
 IsClean g d (Does Undo) = let e = with_caught_up by_parts d in answer by_parts d (Does Undo) ≡ told e (undone_changes by_parts e.state (last_of e.entries)) (undone_last by_parts e)
+IsClean g d (Does Back) = let e = with_begun by_parts d in answer by_parts d (Does Back) ≡ told e (edit_changes (back_edits over e.state e.recorded)) (backed by_parts e)
+IsClean g d (Does Again) = let e = with_begun by_parts d in answer by_parts d (Does Again) ≡ told e (edit_changes (again_edits over e.state e.recorded)) (redone by_parts e)
 IsClean g d (Does Text) = IsTextOfAll g (vector d.state) (answer by_parts d (Does Text)).reply
 IsClean g d (Takes message) = (applied released repeated held : ℕ) ×
     ((answer by_parts d (Takes message)).reply ≡ with_changes d.tells (message_changes by_parts d.state (message_of message)) (take_text applied released repeated held 0))

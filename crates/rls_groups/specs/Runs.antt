@@ -64,7 +64,7 @@ SessionsLeave {K} S W load store = (g : Group) (i : ℕ) (input : List ℕ) (n :
 
 -- the deeds of a session that begins at this state, one for each of its stores and one for its end
 abbrev pub deed_of : Stretch (Sitting State) → Deed
-deed_of a = Sits (record { entries = (a.state).entries; cursors = (a.state).cursors; tells = (a.state).tells }) a.input
+deed_of a = Sits (record { entries = (a.state).entries; cursors = (a.state).cursors; recorded = (a.state).recorded; tells = (a.state).tells }) a.input
 
 abbrev pub deeds_of : List (Stretch (Sitting State)) → List Deed
 deeds_of [] = []

@@ -25,42 +25,37 @@ use Rattle.rls_model.specs.Taking.{message_for, take_message}
 use Rattle.rls_seen.specs.Edits.{edit_fault_over, edited, made_over}
 use Rattle.rls_seen.specs.Messages.{message_over, taken_over}
 use Rattle.rls_seen.specs.Messages as seen
-use Rattle.rls_seen.specs.Over.{acknowledged, released_all}
-use Rattle.rls_seen.specs.Sane.{IsSane}
+use Rattle.rls_seen.specs.Over.{acknowledged}
 use Rattle.rls_seen.specs.Seen.{Seen, members, own_count, idents_over, text_over}
 use Rattle.rls_seen.specs.Stands.{StandsFor}
 use Rattle.rls_seen.proofs.Alike.{greatest_alike, members_alike}
 use Rattle.rls_seen.proofs.Editing.{edited_stands, idents_alike, made_alike}
 use Rattle.rls_seen.proofs.Keeping.{text_alike}
-use Rattle.rls_seen.proofs.Releasing.{released_all_stands}
 use Rattle.rls_seen.proofs.Sending.{message_alike}
 use Rattle.rls_seen.proofs.Taking.{taken_stands}
 use Rattle.rls_replica.specs.Names.{KeepsNames}
-use Rattle.rls_replica.proofs.KeptNames.{accepted_names, all_names, acknowledged_names, names_on, ops_names}
+use Rattle.rls_replica.proofs.KeptNames.{accepted_names, acknowledged_names, names_on, ops_names}
 use Rattle.rls_report.specs.declared.failures.CommandError.TheVariants.{NotMember, OtherGroup}
 use Rattle.rls_report.specs.declared.failures.LineFault.{LineFault}
 use Rattle.rls_report.specs.declared.failures.LineFault.TheVariants.{Range}
 use Rattle.rls_report.specs.Reports.{take_text}
 use Rattle.rls_report.proofs.Numbers.{stat_alike}
 use Rattle.rls_script.specs.declared.lines.Line.{Line}
-use Rattle.rls_store.specs.Stored.{AreWritable}
-use Rattle.rls_stages.specs.Lines.{fault_in, line_by, line_fault, text_in}
+use Rattle.rls_stages.specs.Lines.{fault_in, line_by, text_in}
 use Rattle.rls_stages.specs.Lines as lines
 use Rattle.rls_stages.proofs.Alike.{lines_alike}
 use Rattle.rls_stages.proofs.Meant.{IsLine, IsMeantWell, line_well}
 use Rattle.rls_store.proofs.Storable.{IsStoring, edited_storing, given_op, storing, taken_writable}
 use Rattle.rls_undo.specs.declared.entry.Entry.{Entry}
-use Rattle.rls_undo.specs.UndoLaws.{AreEdits, AreWhole}
 use Rattle.rls_undo.specs.Undoing.{caught_up, entries_over, last_of, performed, performed_over, planned, planned_over, refusal, refusal_over, without_last}
 use Rattle.rls_undo.proofs.Alike.{caught_up_alike, performed_stands, planned_alike}
 use Rattle.rls_undo.proofs.Histories.{plan_edits}
 use Rattle.rls_undo.proofs.Performed.{performed_names}
-use Rattle.rls_changes.specs.declared.change.Change.{Change}
 use Rattle.rls_changes.specs.ChangesLaws.{AreInRange}
 use Rattle.rls_changes.specs.Edits.{edit_changes, performed_edits_in}
-use Rattle.rls_changes.specs.Telling.{all_released_changes, taken_changes, taken_changes_in}
+use Rattle.rls_changes.specs.Telling.{taken_changes, taken_changes_in}
 use Rattle.rls_changes.proofs.EditsAlike.{performed_alike}
-use Rattle.rls_changes.proofs.TakenAlike.{released_alike, taken_alike as changes_taken_alike}
+use Rattle.rls_changes.proofs.TakenAlike.{taken_alike as changes_taken_alike}
 use Rattle.rls_anchor.specs.Anchors.{anchor_over, before, behind, place, place_over, settled}
 use Rattle.rls_anchor.specs.declared.anchor.Anchor.{Anchor}
 use Rattle.rls_anchor.specs.Anchors as anchors
@@ -69,83 +64,18 @@ use Rattle.rls_session.specs.declared.cursors.Cursor.{Cursor}
 use Rattle.rls_session.specs.Cursors.{cursor_in, cursors_moved, cursors_with}
 use Rattle.rls_session.proofs.Numbered.{anchored_moved, anchored_with, in_anchored, moved_alike}
 use Rattle.rls_session.specs.declared.orders.Order.TheVariants as orders
-use Rattle.rls_session.specs.Answers.{Sitting, answer, done, place_text, placed, pointed, rested, sent, sitting_at, made_changes, message_changes, taken, text_reply, told, told_rested, undone, undone_changes, with_caught_up, with_changes, with_cursors}
+use Rattle.rls_session.specs.Answers.{Sitting, answer, place_text, placed, pointed, sent, made_changes, message_changes, taken, undone, undone_changes, with_begun, with_caught_up, with_cursors}
 use Rattle.rls_session.specs.Answers as answers
 use Rattle.rls_session.specs.Courses.{Answered}
-use Rattle.rls_session.specs.Desks.{IsWhole}
 use Rattle.rls_session.specs.Replies.{bytes_text, cursor_text, failed_text, ok_text, refused_text}
 use Rattle.rls_session.specs.Requests.{Does, Request, Takes}
 use Rattle.rls_session.specs.Sessions.{by_history, by_parts}
 use Rattle.rls_session.proofs.Entries.{caught_up_whole, entries_alike, entries_whole, whole_at, whole_front, whole_more}
+use Rattle.rls_session.proofs.Steps.{steps_begun, made_steps, steps_after}
 use Rattle.rls_session.proofs.Given.{IsGiven}
-use Rattle.rls_store.proofs.Storable.{all_writable}
 use Rattle.rls_session.proofs.Whole.{last_undoable, whole_edited, whole_on, whole_undone}
-
--- ---- sittings
-
--- the texts of entries
-pub record IsAlike (d : Sitting Seen) (f : Sitting State) : Type 0 where
-  pub stands : StandsFor d.state f.state
-  pub sane : IsSane d.state
-  pub writable : AreWritable d.state
-  pub entries : d.entries ≡ f.entries
-  pub cursors : d.cursors ≡ f.cursors
-  pub tells : d.tells ≡ f.tells
-  pub whole : IsWhole d.state d.entries d.cursors
-  pub texts : AreWhole d.entries
-
--- the same is answered, and what follows is alike
-pub record AreAlike (a : Answered (Sitting Seen)) (b : Answered (Sitting State)) : Type 0 where
-  pub reply : a.reply ≡ b.reply
-  pub states : IsAlike a.state b.state
-
--- before waiting operations are released it needn't be at rest
-pub record IsAlmost (d : Sitting Seen) (f : Sitting State) : Type 0 where
-  pub stands : StandsFor d.state f.state
-  pub storing_is : IsStoring d.state
-  pub entries : d.entries ≡ f.entries
-  pub cursors : d.cursors ≡ f.cursors
-  pub tells : d.tells ≡ f.tells
-  pub whole : IsWhole d.state d.entries d.cursors
-  pub texts : AreWhole d.entries
-
-pub record AreAlmost (a : Answered (Sitting Seen)) (b : Answered (Sitting State)) : Type 0 where
-  pub reply : a.reply ≡ b.reply
-  pub states : IsAlmost a.state b.state
-
-almost : (d : Sitting Seen) (f : Sitting State) → IsAlike d f → IsAlmost d f
-almost d f h = record { stands = h.stands; storing_is = storing d.state h.sane h.writable; entries = h.entries; cursors = h.cursors; tells = h.tells; whole = h.whole; texts = h.texts }
-
-rested_alike : (a : Answered (Sitting Seen)) (b : Answered (Sitting State)) → AreAlmost a b → AreAlike (rested by_parts a) (rested by_history b)
-rested_alike a b h =
-    let k = h.states in
-    let w = all_writable (a.state).state k.storing_is in
-    record {
-      reply = h.reply;
-      states = record {
-        stands = released_all_stands (a.state).state (b.state).state k.stands;
-        sane = w.0;
-        writable = w.1;
-        entries = k.entries;
-        cursors = k.cursors;
-        tells = k.tells;
-        whole = whole_on (a.state).state (released_all (a.state).state) (a.state).entries (a.state).cursors (all_names (a.state).state) k.whole;
-        texts = k.texts;
-      };
-    }
-
--- what is told of them is the same
-told_alike : (d : Sitting Seen) (f : Sitting State) (cs ds : List Change) (a : Answered (Sitting Seen)) (b : Answered (Sitting State)) → d.tells ≡ f.tells → cs ≡ ds → AreAlike a b → AreAlike (told d cs a) (told f ds b)
-told_alike d f cs ds a b t e h = record {
-  reply = ap (λ x. with_changes d.tells cs x) h.reply ∙ (ap (λ x. with_changes d.tells x b.reply) e ∙ ap (λ (x : Bool). with_changes x ds b.reply) t);
-  states = h.states;
-}
-
-told_rested_alike : (d : Sitting Seen) (f : Sitting State) (cs ds : List Change) (a : Answered (Sitting Seen)) (b : Answered (Sitting State)) → d.tells ≡ f.tells → cs ≡ ds → AreAlmost a b → AreAlike (told_rested by_parts d cs a) (told_rested by_history f ds b)
-told_rested_alike d f cs ds a b t e h =
-    let k = h.states in
-    let r = released_alike (a.state).state (b.state).state (k.storing_is).sane k.stands in
-    told_alike d f _ _ _ _ t (ap (λ xs. xs ++ all_released_changes (a.state).state) e ∙ ap (λ xs. ds ++ xs) r) (rested_alike a b h)
+use Rattle.rls_session.proofs.AlikeSittings.{IsAlike, AreAlike, AreAlmost, almost, performed_storing, told_alike, told_rested_alike}
+use Rattle.rls_session.proofs.AlikeSteps.{backed_almost, redone_almost, turned_changes, begun_stays, ended_alike}
 
 -- ---- edits
 
@@ -168,6 +98,7 @@ edited_almost d f (Ok edit) h w =
         tells = h.tells;
         whole = whole_edited s (edited s edit) d.entries (d.entries ++ entries_over s edit) d.cursors edit (accepted_names s (made_over s edit)) refl h.whole;
         texts = whole_more d.entries (entries_over s edit) h.texts (entries_whole s t edit h.stands);
+        steps = made_steps s t edit d.recorded f.recorded h.stands (edited_stands s t edit w.0 w.1 h.stands) h.steps;
       };
     }
 
@@ -183,15 +114,6 @@ line_changes_alike d f line h =
 
 -- ---- undoing
 
--- edits that may be made leave what may be stored
-performed_storing : (s : Seen) (es : List Edit) → AreEdits es → IsStoring s → IsStoring (performed_over s es)
-performed_storing s [] w h = h
-performed_storing s (e ∷ es) w h = go (edit_fault_over s e) refl (λ k. performed_storing (edited s e) es w.1 k)
-  where
-    go : (f : Option EditError) → edit_fault_over s e ≡ f → (IsStoring (edited s e) → IsStoring (performed_over (edited s e) es)) → IsStoring (performed_over s (e ∷ es))
-    go None q rest = rw q (rest (edited_storing s e h w.0 q))
-    go (Some x) q rest = rw q h
-
 -- what a plan comes to
 by_plan : (d : Sitting Seen) (f : Sitting State) (plan : List Edit) (o : Option EditError) → IsAlike d f → StandsFor (performed_over d.state plan) (performed f.state plan) → IsStoring (performed_over d.state plan)
     → AreAlmost (answers.undone_by_plan by_parts d plan o) (answers.undone_by_plan by_history f plan o)
@@ -205,6 +127,7 @@ by_plan d f plan None h k st = record {
     tells = h.tells;
     whole = whole_undone d.state (performed_over d.state plan) d.entries (without_last d.entries) d.cursors (performed_names plan d.state) refl h.whole;
     texts = whole_front (length d.entries - 1) d.entries h.texts;
+    steps = steps_after d.state (performed_over d.state plan) d.recorded f.recorded (performed_names plan d.state) h.steps;
   };
 }
 by_plan d f plan (Some e) h k st = record {
@@ -217,6 +140,7 @@ by_plan d f plan (Some e) h k st = record {
     tells = h.tells;
     whole = whole_on d.state (performed_over d.state plan) d.entries d.cursors (performed_names plan d.state) h.whole;
     texts = h.texts;
+    steps = steps_after d.state (performed_over d.state plan) d.recorded f.recorded (performed_names plan d.state) h.steps;
   };
 }
 
@@ -247,6 +171,7 @@ caught_up_stays d f h =
       tells = h.tells;
       whole = record { undoable = a.1; anchored = (h.whole).anchored };
       texts = caught_up_whole d.state d.entries h.texts;
+      steps = h.steps;
     }
 
 pub undo_almost : (d : Sitting Seen) (f : Sitting State) → IsAlike d f → AreAlmost (undone by_parts d (last_of d.entries)) (undone by_history f (last_of f.entries))
@@ -303,6 +228,7 @@ pointed_alike d f at n h = subst (λ (cs : List ℕ). AreAlike (pointed by_parts
         tells = h.tells;
         whole = record { undoable = (h.whole).undoable; anchored = anchored_with s d.cursors n (anchor_over s at) (made_kept s at) (h.whole).anchored };
         texts = h.texts;
+        steps = h.steps;
       };
     }
 
@@ -319,6 +245,7 @@ where_alike d f n h = record {
     tells = h.tells;
     whole = record { undoable = (h.whole).undoable; anchored = anchored_moved s (anchors.settled_over s) d.cursors n (λ a k. (settled_alike s t a h.stands k).1) (h.whole).anchored };
     texts = h.texts;
+    steps = h.steps;
   };
 }
   where
@@ -392,6 +319,7 @@ taken_alike d f bytes (Ok m) b e h = subst (λ (x : Bool). AreAlike (taken by_pa
             tells = h.tells;
             whole = whole_on s (taken_over s m).state d.entries d.cursors (taken_names s m) h.whole;
             texts = h.texts;
+            steps = steps_after s (taken_over s m).state d.recorded f.recorded (taken_names s m) h.steps;
           };
         }
 
@@ -453,6 +381,19 @@ answer_alike d f (Does orders.Undo) g h =
     let u = with_caught_up by_history f in
     let k = caught_up_stays d f h in
     told_rested_alike e u _ _ _ _ h.tells (undone_alike e u k) (undo_almost e u k)
+answer_alike d f (Does orders.Back) g h =
+    let e = with_begun by_parts d in
+    let u = with_begun by_history f in
+    let b = steps_begun d.state f.state d.recorded f.recorded h.stands h.steps in
+    let k = begun_stays d f h in
+    told_rested_alike e u _ _ _ _ h.tells (turned_changes e u b k).0 (backed_almost e u b k)
+answer_alike d f (Does orders.Again) g h =
+    let e = with_begun by_parts d in
+    let u = with_begun by_history f in
+    let b = steps_begun d.state f.state d.recorded f.recorded h.stands h.steps in
+    let k = begun_stays d f h in
+    told_rested_alike e u _ _ _ _ h.tells (turned_changes e u b k).1 (redone_almost e u b k)
+answer_alike d f (Does orders.Close) g h = ended_alike d f h
 answer_alike d f (Does (orders.Point at n)) g h = pointed_alike d f at n h
 answer_alike d f (Does (orders.Place n)) g h = where_alike d f n h
 answer_alike d f (Does orders.Text) g h = record { reply = ap (λ cs. bytes_text (codes "text") (encode_utf8_all cs)) (text_alike d.state f.state h.stands); states = h }
@@ -462,7 +403,7 @@ answer_alike d f (Does orders.Stat) g h = record { reply = ap (λ (t : List ℕ)
 answer_alike d f (Does orders.Store) g h = record { reply = refl; states = h }
 answer_alike d f (Does (orders.Tell on)) g h = record {
   reply = refl;
-  states = record { stands = h.stands; sane = h.sane; writable = h.writable; entries = h.entries; cursors = h.cursors; tells = refl; whole = h.whole; texts = h.texts };
+  states = record { stands = h.stands; sane = h.sane; writable = h.writable; entries = h.entries; cursors = h.cursors; tells = refl; whole = h.whole; texts = h.texts; steps = h.steps };
 }
 answer_alike d f (Does orders.Quit) g h = record { reply = refl; states = h }
 answer_alike d f (Does orders.Bad) g h = record { reply = refl; states = h }

@@ -34,8 +34,12 @@ use Rattle.rls_session.proofs.Courses.{IsSameCourse, courses_alike}
 use Rattle.rls_session.proofs.Resumed.{dropped_writable, whole_left}
 use Rattle.rls_session.proofs.Whole.{undoable_back}
 use Rattle.rls_session.proofs.Entries.{all_settled_whole, whole_back}
+use Rattle.rls_session.proofs.Steps.{settled_steps}
+use Rattle.rls_seen.specs.Kept.{dropped}
+use Rattle.rls_undo.proofs.Dropping.{greatest_stays}
 use Rattle.rls_session.proofs.Given.{IsGiven, cut_given}
-use Rattle.rls_session.proofs.Agreeing.{IsAlike, answer_alike}
+use Rattle.rls_session.proofs.AlikeSittings.{IsAlike}
+use Rattle.rls_session.proofs.Agreeing.{answer_alike}
 
 -- ---- after a store
 
@@ -65,6 +69,7 @@ resumed_alike d f h =
       tells = h.tells;
       whole = whole_left s (last_entries KEPT_ENTRIES d.entries) d.cursors h.sane;
       texts = all_settled_whole s (last_entries KEPT_ENTRIES d.entries) (whole_back (length d.entries - KEPT_ENTRIES) d.entries h.texts);
+      steps = settled_steps s (dropped s) t d.recorded f.recorded h.stands (greatest_stays s h.sane) h.steps;
     }
 
 -- courses that are the same, one after another
@@ -102,4 +107,4 @@ pub sessions_alike : (s : Seen) (t : State) (input : List ℕ) → IsBytes input
 unfolding stretches
 sessions_alike s t input b h sane writable =
     stretches_alike (suc (length input)) (sitting_at s) (sitting_at t) input b
-    (record { stands = h; sane = sane; writable = writable; entries = refl; cursors = refl; tells = refl; whole = record { undoable = tt; anchored = tt }; texts = tt })
+    (record { stands = h; sane = sane; writable = writable; entries = refl; cursors = refl; tells = refl; whole = record { undoable = tt; anchored = tt }; texts = tt; steps = record { same = refl; kept = tt; spelled = (tt, tt) } })

@@ -1,6 +1,6 @@
 -- What is answered, from its parts.
 use Rattle.std.proofs.Common.{◌≡◌, ◌∙◌, ◌<◌, ◌≤◌, ◌+◌, ◌-◌, ℕ, Bool, suc, true, false, ltb, List, [], ◌∷◌, ◌++◌, length, Option, Some, None, Result, Ok, Err, IfOk, OnOk, OnErr, append-nil, refl, sym, ap, subst, arith, get_or}
-use Rattle.std.specs.Prelude.{codes}
+use Rattle.std.specs.Prelude.{IsTrue, codes}
 use Rattle.std.proofs.lemmas.Bool.Decides.{nat_tests}
 use Rattle.std.proofs.lemmas.Option.{slice_get-get_or}
 use Rattle.rls_runs.specs.Entries.{Entries, chars_in}
@@ -27,11 +27,19 @@ use Rattle.rls_undo.specs.declared.undo.UndoError.TheVariants as undo
 use Rattle.rls_changes.specs.declared.change.Change.{Change}
 use Rattle.rls_changes.specs.Edits.{IsToldPart, edit_changes}
 use Rattle.rls_undo.specs.Undoing.{IsPart, entries_over, last_of, performed_over, plan_over, refusal_over, undone_by, without_last}
+use Rattle.rls_seen.specs.Over.{released_all}
+use Rattle.rls_changes.specs.Telling.{all_released_changes}
+use Rattle.rls_steps.specs.declared.piece.Step.{Step}
+use Rattle.rls_steps.specs.declared.steps.StepError.{StepError}
+use Rattle.rls_steps.specs.declared.steps.StepError.TheVariants as steps
+use Rattle.rls_steps.specs.Grounds.{over, recorded_on, Turned}
+use Rattle.rls_steps.specs.Recorded.{Recorded}
+use Rattle.rls_session.specs.Courses.{Answered}
 use Rattle.rls_anchor.specs.declared.anchor.Anchor.{Anchor}
 use Rattle.rls_anchor.specs.Anchors.{anchor_over}
 use Rattle.rls_stages.proofs.Kept.{is_ours, not_for}
 use Rattle.rls_session.specs.Answering.{IsAnswered}
-use Rattle.rls_session.specs.Answers.{Sitting, edited, pointed, sent, taken, undone, undone_changes, with_cursors, with_state}
+use Rattle.rls_session.specs.Answers.{Sitting, edited, if_steps, made_sitting, says, told_rested, turned, turned_reply, with_changes, with_begun, with_entries, with_recorded, pointed, sent, taken, undone, undone_changes, with_cursors, with_state}
 use Rattle.rls_session.specs.declared.cursors.Cursor.{Cursor}
 use Rattle.rls_session.specs.Cursors.{cursors_with}
 use Rattle.rls_session.specs.Desks.{TellsFault, planned_changes, sitting_of}
@@ -58,7 +66,7 @@ ok_is_not_err x e h = cc
 -- ---- edits
 
 pub edit_said : (d e : Sitting Seen) (edit : Edit) (seq : ℕ) (reply : List ℕ) → edit_fault_over d.state edit ≡ None → seq ≡ own_count d.state + 1
-    → e ≡ sitting_of (edits.edited d.state edit) (d.entries ++ entries_over d.state edit) d.cursors d.tells → reply ≡ ok_text seq → IsAnswered (edited by_parts d (allowed d.state edit)) reply e
+    → e ≡ made_sitting by_parts d edit → reply ≡ ok_text seq → IsAnswered (edited by_parts d (allowed d.state edit)) reply e
 edit_said d e edit seq reply none number is text = rw none (record { reply_is = text ∙ ap ok_text number; state_is = is })
 
 pub edit_refused : (d e : Sitting Seen) (edit : Edit) (error : EditError) (reply : List ℕ) → IsFault error (edit_fault_over d.state edit) → TellsFault error reply → e ≡ d
@@ -81,10 +89,10 @@ last_is (x ∷ es) some none =
 
 -- the plan was performed
 pub undone_said : (d e : Sitting Seen) (u : Undone) (reply : List ℕ) → (d.entries ≡ [] → ⊥) → refusal_over d.state (plan_over d.state (last_of d.entries)) ≡ None → u ≡ undone_by (plan_over d.state (last_of d.entries))
-    → e ≡ sitting_of (performed_over d.state (plan_over d.state (last_of d.entries))) (without_last d.entries) d.cursors d.tells → reply ≡ undone_text u.edits u.chars → IsAnswered (undone by_parts d (last_of d.entries)) reply e
+    → e ≡ sitting_of (performed_over d.state (plan_over d.state (last_of d.entries))) (without_last d.entries) d.cursors d.recorded d.tells → reply ≡ undone_text u.edits u.chars → IsAnswered (undone by_parts d (last_of d.entries)) reply e
 undone_said d e u reply some none counts is text = go (last_of d.entries) (last_is d.entries some) none counts is
   where
-    go : (o : Option Entry) → (o ≡ None → ⊥) → refusal_over d.state (plan_over d.state o) ≡ None → u ≡ undone_by (plan_over d.state o) → e ≡ sitting_of (performed_over d.state (plan_over d.state o)) (without_last d.entries) d.cursors d.tells
+    go : (o : Option Entry) → (o ≡ None → ⊥) → refusal_over d.state (plan_over d.state o) ≡ None → u ≡ undone_by (plan_over d.state o) → e ≡ sitting_of (performed_over d.state (plan_over d.state o)) (without_last d.entries) d.cursors d.recorded d.tells
         → IsAnswered (undone by_parts d o) reply e
     go None some none counts is = absurd (some refl)
     go (Some entry) some none counts is = rw none (record { reply_is = text ∙ ap (λ (x : Undone). undone_text x.edits x.chars) counts; state_is = is })
@@ -135,8 +143,65 @@ undone_planned s None = refl
 undone_planned s (Some entry) = refl
 
 -- sittings are the same if their parts are
-pub same_sitting : (s t : Seen) (xs ys : List Entry) (a : List Cursor) (b : Bool) → s ≡ t → xs ≡ ys → sitting_of s xs a b ≡ sitting_of t ys a b
-same_sitting s t xs ys a b e f = rw (e, f) refl
+pub same_sitting : (s t : Seen) (xs ys : List Entry) (a : List Cursor) (r : Recorded) (b : Bool) → s ≡ t → xs ≡ ys → sitting_of s xs a r b ≡ sitting_of t ys a r b
+same_sitting s t xs ys a r b e f = rw (e, f) refl
+
+-- ---- steps
+
+-- the parts of a sitting after an edit that isn't refused
+pub made_said : (d b e : Sitting Seen) (fs : List Entry) (n : Seen) (q : Recorded) (edit : Edit) → b ≡ with_begun by_parts (with_entries d fs) → fs ≡ d.entries ++ entries_over d.state edit → n ≡ edits.edited b.state edit
+    → q ≡ recorded_on over b.state edit b.recorded → e ≡ with_recorded (sitting_of n b.entries b.cursors q b.tells) (by_parts.kept n q) → e ≡ made_sitting by_parts d edit
+made_said d b e fs n q edit begun entries after recorded is =
+    let now : Seen → List Entry → List Cursor → Recorded → Bool → Sitting Seen = λ s es a r t. with_recorded (sitting_of s es a r t) (by_parts.kept s r) in
+    is
+    ∙ (ap (λ (z : Seen). now z b.entries b.cursors q b.tells) after
+    ∙ (ap (λ (r : Recorded). now (edits.edited b.state edit) b.entries b.cursors r b.tells) recorded
+    ∙ (ap (λ (y : Sitting Seen). now (edits.edited y.state edit) y.entries y.cursors (recorded_on over y.state edit y.recorded) y.tells) begun
+    ∙ ap (λ (es : List Entry). now (edits.edited d.state edit) es d.cursors (recorded_on over d.state edit (by_parts.begun d.state d.recorded)) d.tells) entries)))
+
+pub fault_told : (f : EditError) (reply : List ℕ) → TellsFault f reply → reply ≡ refused_text (line_fault f)
+fault_told errors.OutOfMemory reply h = absurd h
+fault_told f reply h = h
+
+-- an answer isn't two errors
+pub errors_apart : (r : Result ℕ StepError) (f : EditError) → r ≡ Err (steps.Edit f) → r ≡ Err steps.Nothing → ⊥
+errors_apart r f e h = let both : Err (steps.Edit f) ≡ Err steps.Nothing = sym e ∙ h in cc
+
+-- a group was taken back or done again, to its end or not
+pub turned_said : (d e : Sitting Seen) (xs : List Step) (text : ℕ → List ℕ) (t : Turned Seen) (n : ℕ) (f : Option EditError) (s : Seen) (q : Recorded) (reply : List ℕ) → (xs ≡ [] → ⊥)
+    → t ≡ record { steps = n; fault = f; state = s; recorded = q } → e ≡ with_recorded (with_state d s) (by_parts.kept s q) → reply ≡ turned_reply text n f → IsAnswered (if_steps xs (says nothing_text d) (turned by_parts d text t)) reply e
+turned_said d e [] text t n f s q reply some is same told = absurd (some refl)
+turned_said d e (x ∷ xs) text t n f s q reply some is same told = subst (λ (y : Turned Seen). IsAnswered (turned by_parts d text y) reply e) (sym is) (record { reply_is = told; state_is = same })
+
+-- there was none
+pub none_turned : (d e : Sitting Seen) (xs : List Step) (a : Answered (Sitting Seen)) (reply : List ℕ) → xs ≡ [] → e ≡ d → reply ≡ nothing_text → IsAnswered (if_steps xs (says nothing_text d) a) reply e
+none_turned d e [] a reply none is text = record { reply_is = text; state_is = is }
+none_turned d e (x ∷ xs) a reply none is text = absurd cc
+
+pub same_turned : (s t : Seen) (es : List Entry) (a : List Cursor) (r q : Recorded) (b : Bool) → s ≡ t → r ≡ q → sitting_of s es a r b ≡ sitting_of t es a q b
+same_turned s t es a r q b e f = rw (e, f) refl
+
+pub tells_stay : (xs : List Step) (d : Sitting Seen) (text : ℕ → List ℕ) (t : Turned Seen) → ((if_steps xs (says nothing_text d) (turned by_parts d text t)).state).tells ≡ d.tells
+tells_stay [] d text t = refl
+tells_stay (x ∷ xs) d text t = refl
+
+-- what is told of it, and of what is released after it
+pub turned_told : (d m e : Sitting Seen) (cs xs ys zs : List Change) (a : Answered (Sitting Seen)) (reply all : List ℕ) → IsAnswered a reply m → (a.state).tells ≡ d.tells → xs ≡ [] → ys ≡ xs ++ cs → (IsTrue m.tells → zs ≡ ys ++ all_released_changes m.state)
+    → e ≡ with_state m (released_all m.state) → all ≡ with_changes e.tells zs reply → IsAnswered (told_rested by_parts d cs a) all e
+turned_told d m e cs xs ys zs a reply all h same none made more is text = record {
+  reply_is = text ∙ (ap (λ (b : Bool). with_changes b zs reply) (ap (λ (x : Sitting Seen). x.tells) is ∙ tells) ∙ go d.tells tells);
+  state_is = is ∙ ap (λ (x : Sitting Seen). with_state x (released_all x.state)) h.state_is;
+}
+  where
+    tells : m.tells ≡ d.tells
+    tells = ap (λ (x : Sitting Seen). x.tells) h.state_is ∙ same
+
+    all_are : IsTrue m.tells → zs ≡ cs ++ all_released_changes (a.state).state
+    all_are t = more t ∙ (ap (λ (us : List Change). us ++ all_released_changes m.state) (made ∙ ap (λ (us : List Change). us ++ cs) none) ∙ ap (λ (x : Sitting Seen). cs ++ all_released_changes x.state) h.state_is)
+
+    go : (b : Bool) → m.tells ≡ b → with_changes b zs reply ≡ with_changes b (cs ++ all_released_changes (a.state).state) a.reply
+    go false p = h.reply_is
+    go true p = ap (with_changes true zs) h.reply_is ∙ ap (λ (us : List Change). with_changes true us a.reply) (all_are p)
 
 -- ---- the cursor
 

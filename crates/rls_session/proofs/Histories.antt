@@ -25,7 +25,7 @@ use Rattle.rls_session.specs.Due.{Due, due, due_of, due_on, ending_status, stops
 use Rattle.rls_session.specs.Endings.{ByReplies, Ends, EndsIn, EndsOn, FailsAt, IsKept, IsTooLong, Serves, ServesIn, ServesOn}
 use Rattle.rls_session.specs.Replies.{saved_text}
 use Rattle.rls_session.specs.Sessions.{by_history, session, session_in}
-use Rattle.rls_session.proofs.Agreeing.{IsAlike}
+use Rattle.rls_session.proofs.AlikeSittings.{IsAlike}
 use Rattle.rls_session.proofs.Alike.{AreSameCourses, sessions_alike}
 use Rattle.rls_session.proofs.Courses.{IsSameCourse, courses_begin}
 use Rattle.rls_session.proofs.Served.{part_all}

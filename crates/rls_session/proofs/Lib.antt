@@ -19,6 +19,9 @@ pub mod Called
 pub mod Closing
 pub mod Entries
 pub mod Given
+pub mod Steps
+pub mod AlikeSittings
+pub mod AlikeSteps
 pub mod Agreeing
 pub mod Alike
 pub mod Histories

@@ -134,6 +134,11 @@ pub whole_made : (r : Result ℕ EditError) (s n : Seen) (es fs : List Entry) (a
 whole_made (Ok x) s n es fs a edit k made stays h = whole_edited s n es fs a edit k made h
 whole_made (Err e) s n es fs a edit k made stays h = whole_as s n es fs a k stays h
 
+-- after an edit's entry was recorded or wasn't
+pub whole_recorded : {E : Type 0} (r : Result (Unit {0}) E) (s : Seen) (es fs : List Entry) (a : List Cursor) (edit : Edit) → OnOk r (fs ≡ es ++ entries_over s edit) → OnErr r (fs ≡ es) → IsWhole s es a → IsWhole s fs a
+whole_recorded (Ok u) s es fs a edit made stays h = whole_edited s s es fs a edit (λ n k. k) made h
+whole_recorded (Err e) s es fs a edit made stays h = whole_as s s es fs a (λ n k. k) stays h
+
 -- the entries of an undo that was made to its end or wasn't
 pub undoable_undone : (r : Result Undone UndoError) (s n : Seen) (es fs : List Entry) → KeepsNames s n → OnOk r (fs ≡ without_last es) → OnErr r (fs ≡ es) → AreUndoable s es → AreUndoable n fs
 undoable_undone (Ok u) s n es fs k made stays h = subst (AreUndoable n) (sym made) (undoable_on s n (without_last es) k (undoable_front s (length es - 1) es h))

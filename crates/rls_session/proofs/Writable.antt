@@ -28,15 +28,18 @@ use Rattle.rls_store.proofs.Storable.{taken_writable}
 use Rattle.rls_session.proofs.Sized.{IsSized, all_sized, edited_sized, sized}
 use Rattle.rls_stages.specs.Lines.{allowed_by, backward_by, line_by, line_fault_of}
 use Rattle.rls_undo.specs.declared.entry.Entry.{Entry}
+use Rattle.rls_steps.specs.declared.piece.Step.{Step}
+use Rattle.rls_steps.specs.Grounds.{over, back_on, again_on, back_edits, again_edits}
+use Rattle.rls_steps.proofs.Performing.{turned_state}
 use Rattle.rls_undo.specs.Undoing.{last_of, performed_over, planned_over, refusal_over}
 use Rattle.rls_session.specs.declared.orders.Order.{Order}
 use Rattle.rls_session.specs.declared.orders.Order.TheVariants as orders
 use Rattle.rls_session.specs.Answering.{IsAnswered}
-use Rattle.rls_session.specs.Answers.{Sitting, done, pointed, read_line, take_told, taken, taken_at, undone, undone_by_plan, with_caught_up, with_cursors}
+use Rattle.rls_session.specs.Answers.{Sitting, done, if_steps, pointed, read_line, take_told, taken, taken_at, undone, undone_by_plan, with_begun, with_caught_up, with_cursors}
 use Rattle.rls_session.specs.Answers as answers
 use Rattle.rls_session.specs.Courses.{Answered}
 use Rattle.rls_session.specs.Cursors.{cursors_with}
-use Rattle.rls_session.specs.Replies.{cursor_text, failed_text, refused_text}
+use Rattle.rls_session.specs.Replies.{again_text, back_text, cursor_text, failed_text, nothing_text, refused_text}
 use Rattle.rls_session.specs.Sessions.{by_parts}
 
 -- ---- edits
@@ -86,6 +89,15 @@ undone_sized d (Some entry) h = go (refusal_over d.state (planned_over d.state e
     go None = performed_sized d.state (planned_over d.state entry) h
     go (Some e) = performed_sized d.state (planned_over d.state entry) h
 
+-- ---- steps
+
+none_or_sized : (xs : List Step) (a b : Answered (Sitting Seen)) → IsSized (a.state).state → IsSized (b.state).state → IsSized ((if_steps xs a b).state).state
+none_or_sized [] a b h k = h
+none_or_sized (x ∷ xs) a b h k = k
+
+turned_sized : (s n : Seen) (es : List Edit) → n ≡ performed_over s es → IsSized s → IsSized n
+turned_sized s n es e h = subst IsSized (sym e) (performed_sized s es h)
+
 -- ---- all orders
 
 pointed_same : (d : Sitting Seen) (at n : ℕ) → AreWritable d.state → AreWritable ((pointed by_parts d at n).state).state
@@ -100,6 +112,17 @@ done_writable d (orders.Edit line) w = all_sized _ (edit_sized d (read_line by_p
 done_writable d orders.Undo w =
     let e = with_caught_up by_parts d in
     all_sized _ (undone_sized e (last_of e.entries) (sized d.state w))
+done_writable d orders.Back w =
+    let s = d.state in
+    let e = with_begun by_parts d in
+    let r = e.recorded in
+    all_sized _ (none_or_sized r.past (answers.says nothing_text e) (answers.turned by_parts e back_text (back_on over s r)) (sized s w) (turned_sized s (back_on over s r).state (back_edits over s r) (turned_state s r).0 (sized s w)))
+done_writable d orders.Again w =
+    let s = d.state in
+    let e = with_begun by_parts d in
+    let r = e.recorded in
+    all_sized _ (none_or_sized r.future (answers.says nothing_text e) (answers.turned by_parts e again_text (again_on over s r)) (sized s w) (turned_sized s (again_on over s r).state (again_edits over s r) (turned_state s r).1 (sized s w)))
+done_writable d orders.Close w = w
 done_writable d (orders.Point at n) w = pointed_same d at n w
 done_writable d (orders.Place n) w = w
 done_writable d orders.Text w = w

@@ -1,5 +1,5 @@
 -- What a session answers to a request, and what it changes.
-use Rattle.std.specs.Prelude.{ℕ, Bool, true, false, ◌&&◌, ◌==◌, ◌++◌, List, [], length, map, encode_utf8_all, codes, nat_lt, Option, Some, None, option_map, Result, Ok, Err, if◌then◌else◌}
+use Rattle.std.specs.Prelude.{ℕ, Bool, true, false, ◌&&◌, ◌==◌, ◌++◌, List, [], ◌∷◌, length, map, encode_utf8_all, codes, nat_lt, Option, Some, None, option_map, Result, Ok, Err, if◌then◌else◌}
 use Rattle.rls_codec.specs.Reading.{message_of}
 use Rattle.rls_ops.specs.declared.message.Message.{Message}
 use Rattle.rls_ops.specs.Spelling.{message_bytes}
@@ -16,6 +16,11 @@ use Rattle.rls_undo.specs.declared.entry.Entry.{Entry}
 use Rattle.rls_undo.specs.Undoing.{undone_by, last_entries, last_of, without_last}
 use Rattle.rls_changes.specs.declared.change.Change.{Change}
 use Rattle.rls_changes.specs.ChangesLaws.{own_changes}
+use Rattle.rls_changes.specs.Edits.{edit_changes}
+use Rattle.rls_steps.specs.declared.piece.Step.{Step}
+use Rattle.rls_steps.specs.Recorded.{Recorded, unused}
+use Rattle.rls_steps.specs.Grounds.{Turned, closed}
+use Rattle.rls_steps.specs.Groups.{group_count}
 use Rattle.rls_anchor.specs.declared.anchor.Anchor.{Anchor}
 use Rattle.rls_session.specs.declared.desk.TheConstants.{KEPT_ENTRIES}
 use Rattle.rls_session.specs.declared.cursors.Cursor.{Cursor}
@@ -25,7 +30,7 @@ use Rattle.rls_session.specs.declared.orders.Order.TheVariants as orders
 use Rattle.rls_session.specs.Requests.{Request, Does, Takes}
 use Rattle.rls_session.specs.Courses.{Answered, Course, Stretch, courses, stretches}
 use Rattle.rls_session.specs.ChangeLines.{changes_text}
-use Rattle.rls_session.specs.Replies.{telling_text, no_cursor_text, ok_text, undone_text, nothing_text, cursor_text, bytes_text, refused_text, failed_text, bad_text}
+use Rattle.rls_session.specs.Replies.{telling_text, no_cursor_text, ok_text, undone_text, back_text, again_text, groups_text, nothing_text, cursor_text, bytes_text, refused_text, failed_text, bad_text}
 
 -- what a session asks of a state, and how it changes one, whatever states are
 pub record Kind (X : Type 0) : Type 0 where
@@ -50,6 +55,15 @@ pub record Kind (X : Type 0) : Type 0 where
   -- the anchor at a place, and the place of one
   pub anchor : X → ℕ → Anchor
   pub place : X → Anchor → ℕ
+  -- what is recorded, in the greatest epoch if nothing is yet; with an edit that isn't refused, at the state before it; and within bounds
+  pub begun : X → Recorded → Recorded
+  pub recorded : X → Edit → Recorded → Recorded
+  pub kept : X → Recorded → Recorded
+  -- the last group of steps taken back, or done again, and the edits that this makes, up to the first that is refused
+  pub backed : X → Recorded → Turned X
+  pub redone : X → Recorded → Turned X
+  pub back_edits : X → Recorded → List Edit
+  pub again_edits : X → Recorded → List Edit
   -- entries that have caught up with the renames: they undo the same
   pub caught_up : X → List Entry → List Entry
   -- the group, and the count of its members
@@ -60,38 +74,47 @@ pub record Kind (X : Type 0) : Type 0 where
   pub message : X → ℕ → Message
   -- the numbers, as `stat` prints them
   pub stat : X → List ℕ
-  -- an entry and an anchor, taken to the greatest epoch, and the state without what every member has
+  -- an entry, an anchor, and what is recorded, taken to the greatest epoch, and the state without what every member has
   pub settled : X → Entry → Entry
   pub settled_anchor : X → Anchor → Anchor
+  pub settled_steps : X → Recorded → Recorded
   pub dropped : X → X
 
--- a state, what undoes the edits of this session, the cursors that were put, and whether changes are told
+-- a state, what undoes the edits of this session, the cursors that were put, what is recorded of its steps, and whether changes are told
 pub record Sitting (X : Type 0) : Type 0 where
   pub state : X
   pub entries : List Entry
   pub cursors : List Cursor
+  pub recorded : Recorded
   pub tells : Bool
 
 -- the one at the start of a session
 abbrev pub sitting_at : {X : Type 0} → X → Sitting X
-sitting_at s = record { state = s; entries = []; cursors = []; tells = false }
+sitting_at s = record { state = s; entries = []; cursors = []; recorded = unused; tells = false }
 
 -- this is answered, and this is the sitting after it
 abbrev pub says : {X : Type 0} → List ℕ → Sitting X → Answered (Sitting X)
 says reply d = record { reply = reply; state = d }
 
--- the same at this state, with these entries, with these cursors, and telling changes or not
+-- the same at this state, with these entries, with these cursors, with this recorded, and telling changes or not
 abbrev pub with_state : {X : Type 0} → Sitting X → X → Sitting X
-with_state d s = record { state = s; entries = d.entries; cursors = d.cursors; tells = d.tells }
+with_state d s = record { state = s; entries = d.entries; cursors = d.cursors; recorded = d.recorded; tells = d.tells }
 
 abbrev pub with_entries : {X : Type 0} → Sitting X → List Entry → Sitting X
-with_entries d es = record { state = d.state; entries = es; cursors = d.cursors; tells = d.tells }
+with_entries d es = record { state = d.state; entries = es; cursors = d.cursors; recorded = d.recorded; tells = d.tells }
 
 abbrev pub with_cursors : {X : Type 0} → Sitting X → List Cursor → Sitting X
-with_cursors d cs = record { state = d.state; entries = d.entries; cursors = cs; tells = d.tells }
+with_cursors d cs = record { state = d.state; entries = d.entries; cursors = cs; recorded = d.recorded; tells = d.tells }
+
+abbrev pub with_recorded : {X : Type 0} → Sitting X → Recorded → Sitting X
+with_recorded d r = record { state = d.state; entries = d.entries; cursors = d.cursors; recorded = r; tells = d.tells }
 
 abbrev pub with_telling : {X : Type 0} → Sitting X → Bool → Sitting X
-with_telling d on = record { state = d.state; entries = d.entries; cursors = d.cursors; tells = on }
+with_telling d on = record { state = d.state; entries = d.entries; cursors = d.cursors; recorded = d.recorded; tells = on }
+
+-- what is recorded begins in the greatest epoch
+abbrev pub with_begun : {X : Type 0} → Kind X → Sitting X → Sitting X
+with_begun K d = with_recorded d (K.begun d.state d.recorded)
 
 -- what is kept has caught up with the renames, so that they cost once what it takes to translate it
 abbrev pub with_caught_up : {X : Type 0} → Kind X → Sitting X → Sitting X
@@ -102,9 +125,14 @@ with_settled K d n = with_cursors d (cursors_moved (K.settled_anchor d.state) d.
 
 -- ---- edits
 
+-- the sitting after an edit that isn't refused
+abbrev pub made_sitting : {X : Type 0} → Kind X → Sitting X → Edit → Sitting X
+made_sitting K d edit =
+    with_recorded (with_entries (with_state d (K.edited d.state edit)) (d.entries ++ K.entries d.state edit)) (K.kept (K.edited d.state edit) (K.recorded d.state edit (K.begun d.state d.recorded)))
+
 -- an edit that is allowed is made
 abbrev pub edited : {X : Type 0} → Kind X → Sitting X → Result Edit LineFault → Answered (Sitting X)
-edited K d (Ok edit) = says (ok_text (K.number d.state)) (with_entries (with_state d (K.edited d.state edit)) (d.entries ++ K.entries d.state edit))
+edited K d (Ok edit) = says (ok_text (K.number d.state)) (made_sitting K d edit)
 edited K d (Err fault) = says (refused_text fault) d
 
 -- the edit that a line means, or its fault
@@ -126,6 +154,33 @@ undone K d (Some entry) = undone_by_plan K d (K.planned d.state entry) (K.refusa
 -- after the entries have caught up
 abbrev pub undone_last : {X : Type 0} → Kind X → Sitting X → Answered (Sitting X)
 undone_last K d = undone K d (last_of d.entries)
+
+-- ---- steps
+
+-- whether there is one
+abbrev pub if_steps : {A : Type 0} → List Step → A → A → A
+if_steps [] none some = none
+if_steps (x ∷ xs) none some = some
+
+-- a group was taken back or done again, to its end or up to the first edit that is refused
+abbrev pub turned_reply : (ℕ → List ℕ) → ℕ → Option EditError → List ℕ
+turned_reply text steps None = text steps
+turned_reply text steps (Some e) = refused_text (line_fault e)
+
+abbrev pub turned : {X : Type 0} → Kind X → Sitting X → (ℕ → List ℕ) → Turned X → Answered (Sitting X)
+turned K d text t = says (turned_reply text t.steps t.fault) (with_recorded (with_state d t.state) (K.kept t.state t.recorded))
+
+-- the last group is taken back, if there is one
+abbrev pub backed : {X : Type 0} → Kind X → Sitting X → Answered (Sitting X)
+backed K d = if_steps (d.recorded).past (says nothing_text d) (turned K d back_text (K.backed d.state d.recorded))
+
+-- the group that was taken back last is done again, if there is one
+abbrev pub redone : {X : Type 0} → Kind X → Sitting X → Answered (Sitting X)
+redone K d = if_steps (d.recorded).future (says nothing_text d) (turned K d again_text (K.redone d.state d.recorded))
+
+-- the open group is ended
+abbrev pub ended : {X : Type 0} → Sitting X → Answered (Sitting X)
+ended d = let r = closed d.recorded in says (groups_text (group_count r.past) (group_count r.future)) (with_recorded d r)
 
 -- after an edit and after an undo, accepted or not, waiting operations are released until none is ready
 abbrev pub rested : {X : Type 0} → Kind X → Answered (Sitting X) → Answered (Sitting X)
@@ -206,12 +261,18 @@ stat_reply K s = bytes_text (codes "stat") (K.stat s)
 
 -- ---- all
 
--- with what is told of it: an edit, an undo, and a message
+-- with what is told of it: an edit, an undo, steps that are taken back or done again, and a message
 abbrev pub edit_told : {X : Type 0} → Kind X → Sitting X → Result Edit LineFault → Answered (Sitting X)
 edit_told K d r = told_rested K d (made_changes r) (edited K d r)
 
 abbrev pub undo_told : {X : Type 0} → Kind X → Sitting X → Answered (Sitting X)
 undo_told K d = told_rested K d (undone_changes K d.state (last_of d.entries)) (undone_last K d)
+
+abbrev pub back_told : {X : Type 0} → Kind X → Sitting X → Answered (Sitting X)
+back_told K d = told_rested K d (edit_changes (K.back_edits d.state d.recorded)) (backed K d)
+
+abbrev pub again_told : {X : Type 0} → Kind X → Sitting X → Answered (Sitting X)
+again_told K d = told_rested K d (edit_changes (K.again_edits d.state d.recorded)) (redone K d)
 
 abbrev pub take_told : {X : Type 0} → Kind X → Sitting X → Result Message ℕ → Answered (Sitting X)
 take_told K d r = told d (message_changes K d.state r) (taken K d r)
@@ -220,6 +281,9 @@ take_told K d r = told d (message_changes K d.state r) (taken K d r)
 abbrev pub done : {X : Type 0} → Kind X → Sitting X → Order → Answered (Sitting X)
 done K d (orders.Edit line) = edit_told K d (read_line K d.state line)
 done K d orders.Undo = undo_told K (with_caught_up K d)
+done K d orders.Back = back_told K (with_begun K d)
+done K d orders.Again = again_told K (with_begun K d)
+done K d orders.Close = ended d
 done K d (orders.Point at n) = pointed K d at n
 done K d (orders.Place n) = placed K d n
 done K d orders.Text = says (text_reply K d.state) d
@@ -239,7 +303,7 @@ answer K d (Takes message) = take_told K d (message_of message)
 
 -- what the session goes back to, taken to the greatest epoch; of what undoes edits the last part alone
 abbrev pub settled_sitting : {X : Type 0} → Kind X → Sitting X → Sitting X
-settled_sitting K d = record { state = d.state; entries = map (K.settled d.state) (last_entries KEPT_ENTRIES d.entries); cursors = map (moved (K.settled_anchor d.state)) d.cursors; tells = d.tells }
+settled_sitting K d = record { state = d.state; entries = map (K.settled d.state) (last_entries KEPT_ENTRIES d.entries); cursors = map (moved (K.settled_anchor d.state)) d.cursors; recorded = K.settled_steps d.state (K.begun d.state d.recorded); tells = d.tells }
 
 -- after a store it is so, and what every member has is dropped
 abbrev pub resumed : {X : Type 0} → Kind X → Sitting X → Sitting X

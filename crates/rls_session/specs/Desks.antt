@@ -1,5 +1,6 @@
 -- What the code keeps of a session.
 use Rattle.std.specs.Prelude.{◌≡◌, ℕ, Bool, List, [], ◌∷◌, IsTrue, Option}
+use Rattle.rls_ident.specs.declared.epoch_name.EpochName.{EpochName}
 use Rattle.rls_model.specs.declared.edit.EditError.{EditError}
 use Rattle.rls_model.specs.declared.edit.EditError.TheVariants as edits
 use Rattle.rls_seen.specs.Seen.{Seen}
@@ -9,14 +10,16 @@ use Rattle.rls_undo.specs.Plans.{epoch_in}
 use Rattle.rls_undo.specs.Undoing.{plan_over}
 use Rattle.rls_changes.specs.declared.change.Change.{Change}
 use Rattle.rls_changes.specs.Edits.{edit_changes, performed_edits}
+use Rattle.rls_steps.specs.Labelled.{Names}
+use Rattle.rls_steps.specs.Recorded.{Recorded}
 use Rattle.rls_session.specs.declared.cursors.Cursor.{Cursor}
 use Rattle.rls_session.specs.Cursors.{AreAnchored}
 use Rattle.rls_stages.specs.Lines.{line_fault}
 use Rattle.rls_session.specs.Answers.{Sitting}
 use Rattle.rls_session.specs.Replies.{refused_text}
 
-abbrev pub sitting_of : Seen → List Entry → List Cursor → Bool → Sitting Seen
-sitting_of s es cs tells = record { state = s; entries = es; cursors = cs; tells = tells }
+abbrev pub sitting_of : Seen → List Entry → List Cursor → Recorded → Bool → Sitting Seen
+sitting_of s es cs r tells = record { state = s; entries = es; cursors = cs; recorded = r; tells = tells }
 
 -- the epoch of each entry is kept
 abbrev pub AreUndoable : Seen → List Entry → Type 0
@@ -27,6 +30,11 @@ AreUndoable s (e ∷ es) = IsTrue (keeps s (epoch_in e)) × AreUndoable s es
 pub record IsWhole (s : Seen) (es : List Entry) (cs : List Cursor) : Type 0 where
   pub undoable : AreUndoable s es
   pub anchored : AreAnchored s cs
+
+-- the epoch of these names is kept, if there are names
+abbrev pub AreKept : Seen → EpochName → Names → Type 0
+AreKept s e [] = Unit {0}
+AreKept s e (n ∷ ns) = IsTrue (keeps s e)
 
 -- the reply tells the fault of this refused edit, which isn't want of memory
 abbrev pub TellsFault : EditError → List ℕ → Type 0

@@ -14,6 +14,17 @@ ok_text seq = line (codes "ok " ∷ decimal seq ∷ [])
 abbrev pub undone_text : ℕ → ℕ → List ℕ
 undone_text edits chars = line (codes "undone " ∷ decimal edits ∷ codes " " ∷ decimal chars ∷ [])
 
+-- how many steps were taken back, or done again
+abbrev pub back_text : ℕ → List ℕ
+back_text steps = line (codes "back " ∷ decimal steps ∷ [])
+
+abbrev pub again_text : ℕ → List ℕ
+again_text steps = line (codes "again " ∷ decimal steps ∷ [])
+
+-- how many groups can be taken back, and how many can be done again
+abbrev pub groups_text : ℕ → ℕ → List ℕ
+groups_text back again = line (codes "groups " ∷ decimal back ∷ codes " " ∷ decimal again ∷ [])
+
 abbrev pub nothing_text : List ℕ
 nothing_text = codes "no nothing\n"
 

@@ -17,6 +17,9 @@ use Rattle.rls_report.specs.Stat.{stat_of, stat_over}
 use Rattle.rls_undo.specs.Undoing.{caught_up, caught_up_over, entries_of, entries_over, performed, performed_over, planned, planned_over, refusal, refusal_over, settled, settled_over}
 use Rattle.rls_changes.specs.Edits.{edit_changes, performed_edits, performed_edits_in}
 use Rattle.rls_changes.specs.Telling.{all_released_changes, all_released_changes_in, taken_changes, taken_changes_in}
+use Rattle.rls_steps.specs.Grounds.{over, within, begun_on, recorded_on, kept_on, back_on, again_on, back_edits, again_edits, settled_on}
+use Rattle.rls_steps.specs.Sweeping.{kept_within}
+use Rattle.rls_session.specs.declared.desk.TheConstants.{KEPT_STEPS, KEPT_CHARACTERS}
 use Rattle.rls_anchor.specs.Anchors.{anchor_over, before, behind, place, place_over}
 use Rattle.rls_anchor.specs.Anchors as anchors
 use Rattle.rls_session.specs.Answers.{Kind, Sitting, session_from}
@@ -37,6 +40,13 @@ by_parts = record {
   released_changes = all_released_changes;
   taken_changes = taken_changes;
   planned_changes = λ s plan. edit_changes (performed_edits s plan);
+  begun = begun_on over;
+  recorded = recorded_on over;
+  kept = λ s r. kept_within s KEPT_STEPS KEPT_CHARACTERS r;
+  backed = back_on over;
+  redone = again_on over;
+  back_edits = back_edits over;
+  again_edits = again_edits over;
   text = text_over;
   anchor = anchor_over;
   place = place_over;
@@ -48,6 +58,7 @@ by_parts = record {
   stat = stat_over;
   settled = settled_over;
   settled_anchor = anchors.settled_over;
+  settled_steps = settled_on over;
   dropped = dropped;
 }
 
@@ -70,6 +81,13 @@ by_history = record {
   released_changes = all_released_changes_in;
   taken_changes = taken_changes_in;
   planned_changes = λ t plan. edit_changes (performed_edits_in t plan);
+  begun = begun_on within;
+  recorded = recorded_on within;
+  kept = λ s r. kept_on within s KEPT_STEPS KEPT_CHARACTERS r;
+  backed = back_on within;
+  redone = again_on within;
+  back_edits = back_edits within;
+  again_edits = again_edits within;
   text = text_in;
   anchor = λ t at. behind (greatest t.history) (before (idents t.history) at);
   place = λ t a. place t.history a;
@@ -81,6 +99,7 @@ by_history = record {
   stat = stat_of;
   settled = λ t entry. settled t.history entry;
   settled_anchor = λ t a. anchors.settled t.history a;
+  settled_steps = settled_on within;
   dropped = λ t. t;
 }
 

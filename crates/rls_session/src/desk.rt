@@ -1,59 +1,65 @@
 //! What a session works on.
 
-ghost use Rattle.std.specs.Prelude.{◌≡◌, ◌≤◌, ◌++◌, ◌↔◌, [], ℕ, Bool, List, map, option_map, Some, None, Ok, Err, IfOk, OnOk, OnErr, IsErrOf, IsTrue, IsFalse};
+ghost use Rattle.std.specs.Prelude.{◌≡◌, ◌+◌, ◌++◌, map, option_map, None, IfOk, OnOk, IsTrue};
 ghost use Rattle.rls_ident.specs.declared.epoch_name.EpochName.{EpochName};
-ghost use Rattle.rls_ops.specs.declared.message.Message.{Message};
 ghost use Rattle.rls_codec.specs.CodecLaws.{IsBytes};
 ghost use Rattle.rls_codec.specs.Reading.{message_of};
-ghost use Rattle.rls_model.specs.declared.edit.EditError as edits;
-ghost use Rattle.rls_seen.specs.Messages.{taken_of, taken_over};
-ghost use Rattle.rls_seen.specs.Sane.{IsSane};
-ghost use Rattle.rls_seen.specs.Seen.{Seen};
+ghost use Rattle.rls_seen.specs.Edits.{edit_fault_over};
 ghost use Rattle.rls_seen.specs.Kept.{dropped};
 ghost use Rattle.rls_seen.specs.Over.{released_all};
+ghost use Rattle.rls_seen.specs.Sane.{IsSane};
+ghost use Rattle.rls_seen.specs.Seen.{Seen, own_count};
 ghost use Rattle.rls_anchor.specs.Anchors.{place_over, settled_over};
 ghost use Rattle.rls_stages.specs.Lines.{allowed};
-ghost use Rattle.rls_undo.specs.Undoing.{epoch_of, last_of, performed_over, plan_over, refusal_over, undone_by, without_last};
-ghost use Rattle.rls_changes.specs.Telling.{all_released_changes, taken_changes};
+ghost use Rattle.rls_undo.specs.Undoing.{last_of};
+ghost use Rattle.rls_changes.specs.Edits.{edit_changes};
+ghost use Rattle.rls_changes.specs.Telling.{all_released_changes};
+ghost use Rattle.rls_steps.specs.Grounds.{over, again_edits, back_edits};
 ghost use Rattle.rls_session.specs.Answering.{IsAnswered};
-ghost use Rattle.rls_session.specs.Answers.{done, edit_told, edited, made_changes, message_changes, placed, pointed, read_line, says, sent, settled_sitting, sitting_at, stat_reply, take_told, taken, text_reply, undo_told, undone, undone_changes, undone_last, with_caught_up, with_changes, with_cursors, with_settled, with_state, with_telling};
-ghost use Rattle.rls_replica.specs.Faults.{IsForeign};
-ghost use Rattle.rls_replica.specs.Names.{KeepsNames, keeps};
+ghost use Rattle.rls_session.specs.Answers.{again_told, back_told, backed, done, edit_told, edited, ended, made_changes, made_sitting, message_changes, placed, pointed, read_line, redone, says, settled_sitting, sitting_at, take_told, taken, undo_told, undone_changes, undone_last, with_begun, with_caught_up, with_changes, with_cursors, with_recorded, with_settled, with_state, with_telling};
 ghost use Rattle.rls_session.specs.Cursors.{cursor_in, moved};
-ghost use Rattle.rls_session.specs.declared.cursors.Cursor as cursors;
-ghost use Rattle.rls_session.specs.Desks.{AreUndoable, IsWhole, TellsFault, planned_changes, sitting_of};
+ghost use Rattle.rls_session.specs.Desks.{IsWhole};
 ghost use Rattle.rls_session.specs.Replies.{telling_text};
 ghost use Rattle.rls_session.specs.Requests.{Does};
-ghost use Rattle.rls_session.specs.Sent.{CanSend, SendsMessage};
+ghost use Rattle.rls_session.specs.Sent.{SendsMessage};
 ghost use Rattle.rls_session.specs.Sessions.{by_parts};
 ghost use Rattle.rls_store.specs.Stored.{AreWritable};
 
 use crate::change_lines::push_changes;
 use crate::cursors::Cursors;
 use crate::orders::Order;
-use crate::replies;
+use crate::telling::{refused, take_message, undo_last};
+use crate::{replies, showing};
 use rls_anchor::{Anchor, AnchorError};
 use rls_changes::{Change, push_own, release_all};
 use rls_ident::rely;
-use rls_model::{Edit, EditError, Taken};
-use rls_replica::{PastError, Replica, SendError};
-use rls_report::{CommandError, LineFault, stat_text};
+use rls_model::{Edit, Taken};
+use rls_replica::{PastError, Replica};
+use rls_report::{CommandError, LineFault};
 use rls_script::Line;
-use rls_stages::{LineError, edit_of, utf8_text};
-use rls_sync::{TakeBytesError, message_bytes};
-use rls_undo::{Undo, UndoError, Undone};
+use rls_stages::{LineError, edit_of};
+use rls_steps::{StepError, Steps};
+use rls_sync::TakeBytesError;
+use rls_undo::Undo;
 use std::alloc::{AllocError, Global};
 use std::marker::Model;
 
 /// How many edits can be undone that a session made before a store.
 pub const KEPT_ENTRIES: usize = 10_000;
 
-/// What a session works on: the replica, what undoes its edits, the cursors, and whether changes are told.
+/// How many steps can be taken back: where there are more, the oldest groups are forgotten.
+pub const KEPT_STEPS: usize = 10_000;
+
+/// How many characters these steps put in or cut out, at most.
+pub const KEPT_CHARACTERS: u64 = 4_194_304;
+
+/// What a session works on: the replica, what undoes its edits, the cursors, what is recorded of its steps, and whether changes are told.
 #[derive(Drop)]
 pub(crate) struct Desk {
     replica: Replica,
     undo: Undo,
     cursors: Cursors,
+    steps: Steps,
     tells: bool,
 }
 
@@ -64,7 +70,7 @@ impl Model for Desk {
 
     ghost Value = { Sitting Seen };
 
-    ghost view = { λ d. sitting_of d.replica d.undo d.cursors d.tells };
+    ghost view = { λ d. sitting_of d.replica d.undo d.cursors d.steps d.tells };
 
     ghost invariant = { λ d. IsWhole d.replica d.undo d.cursors };
 }
@@ -78,6 +84,7 @@ impl Desk {
             replica,
             undo: Undo::new(alloc),
             cursors: Cursors::new(alloc),
+            steps: Steps::new(alloc),
             tells: false,
         }
     }
@@ -97,11 +104,14 @@ impl Desk {
         match order {
             Order::Edit { line } => self.edit(alloc, &line),
             Order::Undo => self.undo(alloc),
+            Order::Back => self.back(alloc),
+            Order::Again => self.again(alloc),
+            Order::Close => self.end_group(alloc),
             Order::Point { at, number } => self.point(alloc, at, number),
             Order::Place { number } => self.place(alloc, number),
-            Order::Text => self.text(alloc),
-            Order::Send { to } => self.send(alloc, to),
-            Order::Stat => self.stat(alloc),
+            Order::Text => showing::text(alloc, &self.replica),
+            Order::Send { to } => showing::message(alloc, &self.replica, to),
+            Order::Stat => showing::stat(alloc, &self.replica),
             Order::Tell { on } => self.tell_from_now(alloc, on),
             Order::Bad => replies::bad(alloc),
             Order::Take { .. } | Order::Store | Order::Quit => Ok(Vec::new(alloc)),
@@ -170,15 +180,125 @@ impl Desk {
         ensures answered { IfOk result (λ reply. IsAnswered (edited by_parts self.old (allowed self.old.state edit.now)) reply.items self.new) }
         ensures changes { IsTrue self.old.tells → OnOk result (changes.new.items ≡ changes.old.items ++ made_changes (allowed self.old.state edit.now)) }
     {
-        match self.undo.edit(&mut self.replica, edit) {
-            Ok(seq) => {
-                if self.tells {
-                    push_own(changes, edit)?;
-                }
-                replies::ok(alloc, seq)
-            }
-            Err(error) => refused(alloc, error),
+        if let Err(error) = self.replica.made(edit) {
+            return refused(alloc, error);
         }
+        let seq = self.record(edit)?;
+        if self.tells {
+            push_own(changes, edit)?;
+        }
+        replies::ok(alloc, seq)
+    }
+
+    // Makes an edit that has no fault, with what undoes it and its steps.
+    fn record(&mut self, edit: &Edit) -> Result<u32, AllocError>
+        requires fits { edit_fault_over self.old.state edit.now ≡ None }
+        ensures seq { IfOk result (λ n. n ≡ own_count self.old.state + 1) }
+        ensures recorded { OnOk result (self.new ≡ made_sitting by_parts self.old edit.now) }
+    {
+        let Ok(()) = self.undo.record(&self.replica, edit) else {
+            return Err(AllocError);
+        };
+        self.begin();
+        // It has no fault, and a session drops nothing that it goes back to.
+        let Ok(seq) = self.steps.edit(&mut self.replica, edit) else {
+            return Err(AllocError);
+        };
+        self.keep_within()?;
+        Ok(seq)
+    }
+
+    // ---- steps
+
+    // Takes the last group back, and releases what is ready.
+    fn back(&mut self, alloc: Global) -> Result<Vec<u8>, AllocError>
+        ensures answered { IfOk result (λ reply. IsAnswered (back_told by_parts (with_begun by_parts self.old)) reply.items self.new) }
+    {
+        self.begin();
+        let mut changes = Vec::new(alloc);
+        let reply = self.take_back(alloc, &mut changes)?;
+        self.release(alloc, &mut changes)?;
+        self.tell(alloc, reply, &changes)
+    }
+
+    // Takes the last group back.
+    fn take_back(&mut self, alloc: Global, changes: &mut Vec<Change>) -> Result<Vec<u8>, AllocError>
+        ensures answered { IfOk result (λ reply. IsAnswered (backed by_parts self.old) reply.items self.new) }
+        ensures changes { OnOk result (changes.new.items ≡ changes.old.items ++ edit_changes (back_edits over self.old.state self.old.recorded)) }
+    {
+        match self.steps.undo(&mut self.replica, changes) {
+            Ok(steps) => {
+                self.keep_within()?;
+                replies::back(alloc, steps)
+            }
+            Err(StepError::Nothing) => replies::nothing(alloc),
+            Err(StepError::Edit(error)) => {
+                self.keep_within()?;
+                refused(alloc, error)
+            }
+            // A session drops nothing that it goes back to.
+            Err(StepError::Dropped { .. } | StepError::OutOfMemory) => Err(AllocError),
+        }
+    }
+
+    // Does the group again that was taken back last, and releases what is ready.
+    fn again(&mut self, alloc: Global) -> Result<Vec<u8>, AllocError>
+        ensures answered { IfOk result (λ reply. IsAnswered (again_told by_parts (with_begun by_parts self.old)) reply.items self.new) }
+    {
+        self.begin();
+        let mut changes = Vec::new(alloc);
+        let reply = self.do_again(alloc, &mut changes)?;
+        self.release(alloc, &mut changes)?;
+        self.tell(alloc, reply, &changes)
+    }
+
+    // Does the group again that was taken back last.
+    fn do_again(&mut self, alloc: Global, changes: &mut Vec<Change>) -> Result<Vec<u8>, AllocError>
+        ensures answered { IfOk result (λ reply. IsAnswered (redone by_parts self.old) reply.items self.new) }
+        ensures changes { OnOk result (changes.new.items ≡ changes.old.items ++ edit_changes (again_edits over self.old.state self.old.recorded)) }
+    {
+        match self.steps.redo(&mut self.replica, changes) {
+            Ok(steps) => {
+                self.keep_within()?;
+                replies::again(alloc, steps)
+            }
+            Err(StepError::Nothing) => replies::nothing(alloc),
+            Err(StepError::Edit(error)) => {
+                self.keep_within()?;
+                refused(alloc, error)
+            }
+            // A session drops nothing that it goes back to.
+            Err(StepError::Dropped { .. } | StepError::OutOfMemory) => Err(AllocError),
+        }
+    }
+
+    // Ends the open group, and tells how many groups there are.
+    fn end_group(&mut self, alloc: Global) -> Result<Vec<u8>, AllocError>
+        ensures answered { IfOk result (λ reply. IsAnswered (ended self.old) reply.items self.new) }
+    {
+        self.steps.close();
+        replies::groups(alloc, self.steps.undoable(), self.steps.redoable())
+    }
+
+    // What is recorded begins in the greatest epoch.
+    fn begin(&mut self)
+        ensures begun { self.new ≡ with_begun by_parts self.old }
+    {
+        self.steps.begin(&self.replica);
+    }
+
+    // Keeps what is recorded within bounds.
+    fn keep_within(&mut self) -> Result<(), AllocError>
+        ensures kept { OnOk result (self.new ≡ with_recorded self.old (by_parts.kept self.old.state self.old.recorded)) }
+    {
+        // A session drops nothing that it goes back to.
+        let Ok(()) = self
+            .steps
+            .keep_within(&self.replica, KEPT_STEPS, KEPT_CHARACTERS)
+        else {
+            return Err(AllocError);
+        };
+        Ok(())
     }
 
     // Undoes the last edit.
@@ -278,37 +398,7 @@ impl Desk {
         }
     }
 
-    // ---- the text
-
-    fn text(&self, alloc: Global) -> Result<Vec<u8>, AllocError>
-        ensures reply { IfOk result (λ reply. reply.items ≡ text_reply by_parts self.now.state) }
-    {
-        let text = utf8_text(&self.replica)?;
-        replies::counted(alloc, "text", text.as_bytes())
-    }
-
-    // ---- the numbers
-
-    fn stat(&self, alloc: Global) -> Result<Vec<u8>, AllocError>
-        ensures reply { IfOk result (λ reply. reply.items ≡ stat_reply by_parts self.now.state) }
-    {
-        let lines = stat_text(alloc, &self.replica)?;
-        replies::counted(alloc, "stat", lines.as_bytes())
-    }
-
     // ---- messages
-
-    // Makes the message for a member.
-    fn send(&self, alloc: Global, to: u32) -> Result<Vec<u8>, AllocError>
-        ensures reply { IfOk result (λ reply. reply.items ≡ sent by_parts self.now.state to) }
-        ensures message { AreWritable self.now.state → OnOk result (CanSend self.now.state to) }
-    {
-        match message_bytes(alloc, &self.replica, to) {
-            Err(SendError::OutOfMemory) => Err(AllocError),
-            Err(SendError::NotMember) => replies::failed(alloc, CommandError::NotMember { to }),
-            Ok(bytes) => replies::counted(alloc, "message", &bytes),
-        }
-    }
 
     /// Takes the message that these bytes are.
     pub(crate) fn take(&mut self, alloc: Global, bytes: &[u8]) -> Result<Vec<u8>, AllocError>
@@ -360,6 +450,11 @@ impl Desk {
         if let Err(error) = self.undo.settle(&self.replica) {
             return Err(unsettled(error));
         }
+        self.begin();
+        if self.steps.settle(&self.replica).is_err() {
+            // A session drops nothing that it goes back to.
+            return Err(AllocError);
+        }
         self.settle_cursors()
     }
 
@@ -391,91 +486,5 @@ fn unsettled(error: PastError) -> AllocError
         // A session drops nothing that it goes back to.
         PastError::Dropped { epoch: _epoch } => unreachable!(),
         PastError::OutOfMemory => AllocError,
-    }
-}
-
-// Takes the message that these bytes are, and puts what it changes after these changes, if that is told.
-fn take_message(
-    alloc: Global,
-    replica: &mut Replica,
-    bytes: &[u8],
-    tells: bool,
-    changes: &mut Vec<Change>,
-) -> Result<Taken, TakeBytesError>
-    ensures taken { IfOk result (λ taken. (m : Message) × (message_of bytes.now ≡ Ok m) × (IsForeign replica.old m → ⊥)
-        × (taken ≡ taken_of (taken_over replica.old m)) × (replica.new ≡ (taken_over replica.old m).state)
-        × (IsTrue tells → changes.new.items ≡ changes.old.items ++ taken_changes replica.old m)) }
-    ensures malformed { (at : ℕ) → IsErrOf result (TakeBytesError.Malformed at)
-        → (message_of bytes.now ≡ Err at) × (replica.new ≡ replica.old) × (changes.new.items ≡ changes.old.items) }
-    ensures other_group { (g n : ℕ) → IsErrOf result (TakeBytesError.OtherGroup g n)
-        → (m : Message) × (message_of bytes.now ≡ Ok m) × IsForeign replica.old m × (g ≡ m.group) × (n ≡ m.members)
-        × (replica.new ≡ replica.old) × (changes.new.items ≡ changes.old.items) }
-    ensures names { KeepsNames replica.old replica.new }
-    ensures bytes { IsBytes bytes.now }
-{
-    if tells {
-        return rls_changes::take_bytes(alloc, replica, bytes, changes);
-    }
-    rls_sync::take_bytes(alloc, replica, bytes)
-}
-
-// Undoes the last entry, and puts what that changes after these changes, if that is told.
-fn undo_last(
-    alloc: Global,
-    undo: &mut Undo,
-    replica: &mut Replica,
-    tells: bool,
-    changes: &mut Vec<Change>,
-) -> Result<Vec<u8>, AllocError>
-    requires undoable { AreUndoable replica.old undo.old }
-    ensures answered { IfOk result (λ reply. (a : List cursors.Cursor) (t : Bool) → IsAnswered (undone by_parts (sitting_of replica.old undo.old a t) (last_of undo.old)) reply.items (sitting_of replica.new undo.new a t)) }
-    ensures undoable { AreUndoable replica.new undo.new }
-    ensures names { KeepsNames replica.old replica.new }
-    ensures changes { IsTrue tells → OnOk result (changes.new.items ≡ changes.old.items ++ undone_changes by_parts replica.old (last_of undo.old)) }
-{
-    match undo_entry(undo, replica, tells, changes) {
-        Ok(Undone { edits, chars }) => replies::undone(alloc, edits, chars),
-        Err(UndoError::Nothing) => replies::nothing(alloc),
-        Err(UndoError::Edit(error)) => refused(alloc, error),
-        // A session drops nothing.
-        Err(UndoError::Dropped { epoch: _epoch }) => unreachable!(),
-        Err(UndoError::OutOfMemory) => Err(AllocError),
-    }
-}
-
-// Undoes the last entry, and puts what that changes after these changes, if that is told.
-fn undo_entry(
-    undo: &mut Undo,
-    replica: &mut Replica,
-    tells: bool,
-    changes: &mut Vec<Change>,
-) -> Result<Undone, UndoError>
-    ensures nothing { IsErrOf result UndoError.Nothing ↔ (undo.old ≡ []) }
-    ensures dropped { (e : EpochName) → (IsErrOf result (UndoError.Dropped e) ↔ ((epoch_of (last_of undo.old) ≡ Some e) × IsFalse (keeps replica.old e))) }
-    ensures refused { (f : edits.EditError) → IsErrOf result (UndoError.Edit f) → (refusal_over replica.old (plan_over replica.old (last_of undo.old)) ≡ Some f)
-        × (replica.new ≡ performed_over replica.old (plan_over replica.old (last_of undo.old)))
-        × (IsTrue tells → changes.new.items ≡ changes.old.items ++ planned_changes replica.old (last_of undo.old)) }
-    ensures fits { OnOk result (refusal_over replica.old (plan_over replica.old (last_of undo.old)) ≡ None) }
-    ensures undone { IfOk result (λ u. u ≡ undone_by (plan_over replica.old (last_of undo.old))) }
-    ensures after { OnOk result (replica.new ≡ performed_over replica.old (plan_over replica.old (last_of undo.old))) }
-    ensures changes { IsTrue tells → OnOk result (changes.new.items ≡ changes.old.items ++ planned_changes replica.old (last_of undo.old)) }
-    ensures entries { OnOk result (undo.new ≡ without_last undo.old) }
-    ensures stays { OnErr result (undo.new ≡ undo.old) }
-    ensures none { IsErrOf result UndoError.Nothing → (replica.new ≡ replica.old) × (IsTrue tells → changes.new.items ≡ changes.old.items) }
-    ensures names { KeepsNames replica.old replica.new }
-{
-    if tells {
-        return rls_changes::undo(undo, replica, changes);
-    }
-    undo.undo(replica)
-}
-
-// The reply to an edit that is refused for this reason.
-fn refused(alloc: Global, error: EditError) -> Result<Vec<u8>, AllocError>
-    ensures reply { IfOk result (λ reply. TellsFault error reply.items) }
-{
-    match LineError::from(error) {
-        LineError::Refused { fault } => replies::refused(alloc, fault),
-        LineError::OutOfMemory => Err(AllocError),
     }
 }

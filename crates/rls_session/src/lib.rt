@@ -9,6 +9,8 @@ mod intake;
 mod orders;
 mod replies;
 mod serving;
+mod showing;
+mod telling;
 mod words;
 
 pub use serving::serve;

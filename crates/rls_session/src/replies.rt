@@ -2,7 +2,7 @@
 
 ghost use Rattle.std.specs.Prelude.{◌≡◌, length, IfOk};
 ghost use Rattle.rls_report.specs.Reports.{take_text};
-ghost use Rattle.rls_session.specs.Replies.{ok_text, undone_text, nothing_text, cursor_text, no_cursor_text, telling_text, bytes_text, refused_text, failed_text, bad_text};
+ghost use Rattle.rls_session.specs.Replies.{ok_text, undone_text, back_text, again_text, groups_text, nothing_text, cursor_text, no_cursor_text, telling_text, bytes_text, refused_text, failed_text, bad_text};
 
 use rls_model::Taken;
 use rls_report::{CommandError, Failure, LineFault, failure_line, fault_text, taken_report};
@@ -20,6 +20,27 @@ pub(crate) fn undone(alloc: Global, edits: u32, chars: u64) -> Result<Vec<u8>, A
     ensures text { IfOk result (λ text. text.items ≡ undone_text edits chars) }
 {
     Ok(format!(in alloc; "undone {edits} {chars}\n")?.into_bytes())
+}
+
+/// How many steps were taken back.
+pub(crate) fn back(alloc: Global, steps: usize) -> Result<Vec<u8>, AllocError>
+    ensures text { IfOk result (λ text. text.items ≡ back_text steps) }
+{
+    Ok(format!(in alloc; "back {steps}\n")?.into_bytes())
+}
+
+/// How many steps were done again.
+pub(crate) fn again(alloc: Global, steps: usize) -> Result<Vec<u8>, AllocError>
+    ensures text { IfOk result (λ text. text.items ≡ again_text steps) }
+{
+    Ok(format!(in alloc; "again {steps}\n")?.into_bytes())
+}
+
+/// How many groups can be taken back, and how many can be done again.
+pub(crate) fn groups(alloc: Global, back: usize, again: usize) -> Result<Vec<u8>, AllocError>
+    ensures text { IfOk result (λ text. text.items ≡ groups_text back again) }
+{
+    Ok(format!(in alloc; "groups {back} {again}\n")?.into_bytes())
 }
 
 /// There is nothing to undo.

@@ -12,7 +12,7 @@ use Rattle.rls_session.proofs.desk.Desk.point.Goals as goal
 pub returns-in-Err-Range : goal.returns-in-Err-Range
 returns-in-Err-Range c =
     let s = c.self.inside in
-    let d = sitting_of s.replica s.undo s.cursors s.tells in
+    let d = sitting_of s.replica s.undo s.cursors s.steps s.tells in
     let e = c.in-Err-Range in
     let cause = (c.at.ensures.range e.at e.total).0 (e.is ∙ ap Err e.field-0-is) in
     record {
@@ -23,11 +23,11 @@ returns-in-Err-Range c =
 pub returns-in_ok-put-in-Ok : goal.returns-in_ok-put-in-Ok
 returns-in_ok-put-in-Ok c =
     let s = c.self.inside in
-    let d = sitting_of s.replica s.undo s.cursors s.tells in
-    let e = sitting_of s.replica s.undo c.put.new.self s.tells in
+    let d = sitting_of s.replica s.undo s.cursors s.steps s.tells in
+    let e = sitting_of s.replica s.undo c.put.new.self s.steps s.tells in
     record {
       answered = subst (λ (x : Sitting Seen). IfOk c.cursor.result (λ reply. IsAnswered (pointed by_parts x c.args.at c.args.number) reply.items e)) c.self.view_is
-          (on_ok c.cursor.result _ _ (λ reply text. pointed_there d e c.args.at c.args.number c.in-Ok.anchor reply.items c.in-Ok.ensures.within c.in-Ok.ensures.anchor (ap (λ (cs : List Cursor). sitting_of s.replica s.undo cs s.tells) c.in_ok-put-in-Ok.ensures.ok) text) c.cursor.ensures.text);
+          (on_ok c.cursor.result _ _ (λ reply text. pointed_there d e c.args.at c.args.number c.in-Ok.anchor reply.items c.in-Ok.ensures.within c.in-Ok.ensures.anchor (ap (λ (cs : List Cursor). sitting_of s.replica s.undo cs s.steps s.tells) c.in_ok-put-in-Ok.ensures.ok) text) c.cursor.ensures.text);
     }
 
 pub invariant_of-self : goal.invariant_of-self

@@ -6,7 +6,7 @@ use Rattle.rls_undo.specs.declared.undo.UndoError.TheVariants as errors
 use Rattle.rls_session.specs.Desks.{sitting_of}
 use Rattle.rls_session.proofs.Answered.{nothing_said, ok_is_not_err, on_ok, same_sitting, undo_refused, undone_said}
 use Rattle.rls_session.proofs.Whole.{undo_not_dropped, undoable_undone}
-use Rattle.rls_session.proofs.desk.undo_last.Goals as goal
+use Rattle.rls_session.proofs.telling.undo_last.Goals as goal
 
 -- an answer isn't two errors
 not_both : (r : Result Undone UndoError) (f : EditError) → r ≡ Err (errors.Edit f) → r ≡ Err errors.Nothing → ⊥
@@ -16,9 +16,9 @@ pub returns-in-Ok-clause-answered : goal.returns-in-Ok-clause-answered
 returns-in-Ok-clause-answered c =
     let s = c.args.replica.now in
     let es = c.args.undo.now in
-    on_ok c.undone.result _ _ (λ reply text a t.
-    undone_said (sitting_of s es a t) (sitting_of c.undo_entry.new.replica c.undo_entry.new.undo a t) c.in-Ok.field-0 reply.items (λ h. ok_is_not_err c.in-Ok.field-0 errors.Nothing (c.in-Ok.ensures.nothing.1 h)) c.in-Ok.ensures.fits c.in-Ok.ensures.undone
-    (same_sitting _ _ _ _ a t c.in-Ok.ensures.after c.in-Ok.ensures.entries) text) c.undone.ensures.text
+    on_ok c.undone.result _ _ (λ reply text a r t.
+    undone_said (sitting_of s es a r t) (sitting_of c.undo_entry.new.replica c.undo_entry.new.undo a r t) c.in-Ok.field-0 reply.items (λ h. ok_is_not_err c.in-Ok.field-0 errors.Nothing (c.in-Ok.ensures.nothing.1 h)) c.in-Ok.ensures.fits c.in-Ok.ensures.undone
+    (same_sitting _ _ _ _ a r t c.in-Ok.ensures.after c.in-Ok.ensures.entries) text) c.undone.ensures.text
 
 pub returns-in-Err-Nothing-clause-answered : goal.returns-in-Err-Nothing-clause-answered
 returns-in-Err-Nothing-clause-answered c =
@@ -26,7 +26,7 @@ returns-in-Err-Nothing-clause-answered c =
     let es = c.args.undo.now in
     let none = c.undo_entry.ensures.nothing.0 (c.in-Err-Nothing.is ∙ ap Err c.in-Err-Nothing.field-0-is) in
     let same = (c.undo_entry.ensures.none (c.in-Err-Nothing.is ∙ ap Err c.in-Err-Nothing.field-0-is)).0 in
-    on_ok c.nothing.result _ _ (λ reply text a t. nothing_said (sitting_of s es a t) (sitting_of c.undo_entry.new.replica c.undo_entry.new.undo a t) reply.items none (same_sitting _ _ _ _ a t same c.in-Err-Nothing.ensures.stays) text) c.nothing.ensures.text
+    on_ok c.nothing.result _ _ (λ reply text a r t. nothing_said (sitting_of s es a r t) (sitting_of c.undo_entry.new.replica c.undo_entry.new.undo a r t) reply.items none (same_sitting _ _ _ _ a r t same c.in-Err-Nothing.ensures.stays) text) c.nothing.ensures.text
 
 pub returns-in-Err-Edit-clause-answered : goal.returns-in-Err-Edit-clause-answered
 returns-in-Err-Edit-clause-answered c =
@@ -35,8 +35,8 @@ returns-in-Err-Edit-clause-answered c =
     let f = c.in-Err-Edit.error in
     let is = c.in-Err-Edit.is ∙ ap Err c.in-Err-Edit.field-0-is in
     let refused = c.undo_entry.ensures.refused f is in
-    on_ok c.refused.result _ _ (λ reply told a t.
-    undo_refused (sitting_of s es a t) (sitting_of c.undo_entry.new.replica c.undo_entry.new.undo a t) f reply.items (λ h. not_both c.undo_entry.result f is (c.undo_entry.ensures.nothing.1 h)) refused.0 (same_sitting _ _ _ _ a t refused.1 c.in-Err-Edit.ensures.stays) told) c.refused.ensures.reply
+    on_ok c.refused.result _ _ (λ reply told a r t.
+    undo_refused (sitting_of s es a r t) (sitting_of c.undo_entry.new.replica c.undo_entry.new.undo a r t) f reply.items (λ h. not_both c.undo_entry.result f is (c.undo_entry.ensures.nothing.1 h)) refused.0 (same_sitting _ _ _ _ a r t refused.1 c.in-Err-Edit.ensures.stays) told) c.refused.ensures.reply
 
 pub unreachable-requires : goal.unreachable-requires
 unreachable-requires c =

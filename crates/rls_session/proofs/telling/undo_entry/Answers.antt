@@ -3,7 +3,7 @@ use Rattle.rls_undo.specs.Undoing.{last_of, plan_over}
 use Rattle.rls_changes.specs.Edits.{edit_changes}
 use Rattle.rls_changes.proofs.Edited.{all_performed}
 use Rattle.rls_session.proofs.Answered.{nothing_told, nothing_untold, on_both}
-use Rattle.rls_session.proofs.desk.undo_entry.Goals as goal
+use Rattle.rls_session.proofs.telling.undo_entry.Goals as goal
 
 pub returns-then-tells-clause-changes : goal.returns-then-tells-clause-changes
 returns-then-tells-clause-changes c = λ t.

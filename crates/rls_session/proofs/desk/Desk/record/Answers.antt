@@ -1,0 +1,22 @@
+use Rattle.std.proofs.Common.{◌≡◌, ◌∙◌, subst}
+use Rattle.rls_seen.specs.Seen.{Seen}
+use Rattle.rls_session.specs.Answers.{Sitting, made_sitting}
+use Rattle.rls_session.specs.Desks.{sitting_of}
+use Rattle.rls_session.specs.Sessions.{by_parts}
+use Rattle.rls_session.proofs.Answered.{made_said}
+use Rattle.rls_session.proofs.Whole.{whole_on, whole_recorded}
+use Rattle.rls_session.proofs.desk.Desk.record.Goals as goal
+
+pub invariant_of-self-2 : goal.invariant_of-self-2
+invariant_of-self-2 c = let s = c.self.inside in whole_recorded c.record.result s.replica s.undo c.record.new.self s.cursors c.args.edit.now c.record.ensures.ok c.record.ensures.err c.self.invariant
+
+pub invariant_of-self-3 : goal.invariant_of-self-3
+invariant_of-self-3 c = let s = c.self-2.inside in whole_on s.replica c.edit.new.replica s.undo s.cursors c.edit.ensures.names c.self-2.invariant
+
+pub returns-clause-recorded : goal.returns-clause-recorded
+returns-clause-recorded c =
+    let s = c.self.inside in
+    let b = c.self-2.inside in
+    let d = sitting_of s.replica s.undo s.cursors s.steps s.tells in
+    subst (λ (x : Sitting Seen). c.keep_within.new.self ≡ made_sitting by_parts x c.args.edit.now) c.self.view_is
+    (made_said d (sitting_of b.replica b.undo b.cursors b.steps b.tells) c.keep_within.new.self c.record.new.self c.edit.new.replica c.edit.new.self c.args.edit.now (c.self-2.view_is ∙ c.begin.ensures.begun) c.in-Ok.ensures.ok c.in-Ok-edit.ensures.after c.in-Ok-edit.ensures.exact c.in_ok-keep_within.ensures.kept)
