@@ -119,6 +119,17 @@ const ROWS: &[&str] = &[
     // Cursors with numbers.
     "k 1 0\nk 5 63\nk 3 7\np 7\np 63\np\np 0\np 8\nk 4 7\ni 2 AB\nr\np 7\np 63\np 0\nk 8 7\np 7\n | cursor 1\ncursor 5\ncursor 3\ncursor 3\ncursor 5\ncursor 1\ncursor 1\nno cursor 8\ncursor 4\nok 2\nok 3\ncursor 6\ncursor 7\ncursor 1\nno range 8 7\ncursor 6\nsaved\n | other",
     "p 0\np 1\np 64\np 01\np 1 \nk 1 64\nk 1  1\nk 1 1 1\nk x 1\nk 9 1\np 1\n | cursor 0\nno cursor 1\nbad\nbad\nbad\nbad\nbad\nbad\nbad\nno range 9 5\nno cursor 1\nsaved\n | same",
+    // Steps that are taken back and done again, in groups, and what that changes.
+    "z\ny\ng\nc 1\nz\ny\n | no nothing\nno nothing\ngroups 0 0\ntelling 1\nno nothing\nchanges 0\nno nothing\nchanges 0\nsaved\n | same",
+    "i 5 !\nd 0 2\ng\ni 0 AB\ng\nc 1\nz\nz\ny\ny\ny\nt\n | ok 2\nok 3\ngroups 1 0\nok 4\ngroups 2 0\ntelling 1\nback 1\nchanges 1\nd 0 2\nback 2\nchanges 2\ni 0 he\nd 5 1\nagain 2\nchanges 2\ni 5 !\nd 0 2\nagain 1\nchanges 1\ni 0 AB\nno nothing\nchanges 0\ntext 6\nABllo!\nsaved\n | other",
+    // Both end the open group, and an edit after them can't be followed by what was taken back before it.
+    "i 0 A\nz\ny\ni 1 B\ng\nz\nz\nt\n | ok 2\nback 1\nagain 1\nok 5\ngroups 2 0\nback 1\nback 1\ntext 5\nhello\nsaved\n | other",
+    "i 0 A\nz\ni 5 B\ny\nt\n | ok 2\nback 1\nok 4\nno nothing\ntext 6\nhelloB\nsaved\n | other",
+    // Over a rename and stores, beside an undo, which is no step, and where an edit was refused.
+    "i 0 A\nr\nw\nz\nw\ng\ny\nt\n | ok 2\nok 3\nsaved\nback 1\nsaved\ngroups 0 1\nagain 1\ntext 6\nAhello\nsaved\n | other",
+    "i 0 A\nz\nu\ny\nt\n | ok 2\nback 1\nundone 0 0\nagain 1\ntext 6\nAhello\nsaved\n | other",
+    "i 9 x\nb 5\nr\nz\nt\n | no range 9 5\nok 2\nok 3\nback 1\ntext 5\nhello\nsaved\n | other",
+    "z 1\ny \nzz\ng 0\nZ\n | bad\nbad\nbad\nbad\nbad\nsaved\n | same",
     // An undo and a cursor over two renames.
     "k 3\ni 1 XY\nr\nr\np\nu\np\nr\np\nu\nt\n | cursor 3\nok 2\nok 3\nok 4\ncursor 5\nundone 1 2\ncursor 3\nok 6\ncursor 3\nno nothing\ntext 5\nhello\nsaved\n | other",
 ];
