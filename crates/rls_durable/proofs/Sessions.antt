@@ -4,12 +4,13 @@ use Rattle.rls_ident.specs.Lists.{IsIn}
 use Rattle.rls_ident.proofs.Members.{in_left, in_right}
 use Rattle.rls_journal.specs.Areas.{Areas, kept}
 use Rattle.rls_journal.specs.Disk.{LeavesOnly}
-use Rattle.rls_journal.specs.Keeper.{IsAtRest, IsOldOrNew, LoadGives, StoreGives}
-use Rattle.rls_journal.specs.Slots.{HasStored}
+use Rattle.rls_journal.specs.Keeper.{IsAtRest, IsOldOrNew, LoadGives, Rests, StoreGives}
+use Rattle.rls_journal.specs.Slots.{HasStored, IsSound}
+use Rattle.rls_journal.proofs.Rests.{rest_again, rest_kept}
 use Rattle.rls_session.specs.Calls.{AreAllFilesOf, AreDue, Calls, CallsNothing, FailsOnce, FailsToLoad, IsFileOf, IsLastDue, IsLastOf, Loads, IsStatusAfter, Stores, StoresEach, and_failed, no_stores, tried}
 use Rattle.rls_session.specs.Due.{Due}
 use Rattle.rls_durable.specs.Stops.{HasDue, IsOld, IsOldOrOneOf, LeavesInTurn, LeavesOldOrStores}
-use Rattle.rls_durable.proofs.Survived.{at_some, loaded_only, stored_rest, to_some, uncalled_only}
+use Rattle.rls_durable.proofs.Survived.{at_some, loaded_only, to_some, uncalled_only}
 
 -- the last of these files
 abbrev pub last_of : List ℕ → List (List ℕ) → List ℕ
@@ -33,12 +34,12 @@ stored_later : (bytes first : List ℕ) (old mid new : Option Areas) (may_leave 
 stored_later bytes first None mid new may_leave any h k = subst (λ o. HasStored bytes o new may_leave) h k
 stored_later bytes first (Some old) mid new may_leave any h k = subst (λ o. HasStored bytes o new may_leave) h.1 k
 
-module _ {D : Type 0} (seen : D → Option Areas) (may_leave : D → Areas → Type 0) (moment : D → ℕ) (left_since : D → ℕ → Areas → Type 0) (only : (disk : D) (c : Areas) → left_since disk (moment disk) c → may_leave disk c) {K : Type 0} (disk : K → D) where
+module _ {D : Type 0} (retries : Type 0) (seen : D → Option Areas) (may_leave : D → Areas → Type 0) (moment : D → ℕ) (left_since : D → ℕ → Areas → Type 0) (only : (disk : D) (c : Areas) → left_since disk (moment disk) c → may_leave disk c) {K : Type 0} (disk : K → D) where
   abbrev load : K → Bool → K → Type 0
-  load before ok after = LoadGives seen may_leave moment left_since ok (disk before) (disk after)
+  load before ok after = LoadGives retries seen may_leave moment left_since ok (disk before) (disk after)
 
   abbrev store : K → List ℕ → Bool → K → Type 0
-  store before bytes ok after = StoreGives seen may_leave moment left_since bytes ok (disk before) (disk after)
+  store before bytes ok after = StoreGives retries seen may_leave moment left_since bytes ok (disk before) (disk after)
 
   abbrev Leaves : K → K → (Areas → Type 0) → Type 0
   Leaves k l P = LeavesOnly moment left_since (disk k) (disk l) P
@@ -59,32 +60,35 @@ module _ {D : Type 0} (seen : D → Option Areas) (may_leave : D → Areas → T
   both k m l P front back = both_disks (disk k) (disk m) (disk l) P front back
 
   -- at rest, with this file
-  pub record Rests (k : K) (file : Option (List ℕ)) : Type 0 where
+  pub record RestsWith (k : K) (file : Option (List ℕ)) : Type 0 where
     pub areas : Areas
     pub is : seen (disk k) ≡ Some areas
     pub same : kept areas ≡ file
-    pub left : (c : Areas) → may_leave (disk k) c → kept c ≡ file
+    pub rest : Rests retries areas (may_leave (disk k))
 
-  rest_is : (k : K) (file : Option (List ℕ)) → Rests k file → IsAtRest seen may_leave (disk k)
-  rest_is k file r = subst (λ o. IfSome o (λ s. (c : Areas) → may_leave (disk k) c → kept c ≡ kept s)) (sym r.is) (λ c left. r.left c left ∙ sym r.same)
+  left_is : (k : K) (file : Option (List ℕ)) → RestsWith k file → (c : Areas) → may_leave (disk k) c → kept c ≡ file
+  left_is k file r c left = rest_kept retries seen may_leave moment left_since only r.areas (disk k) r.rest c left ∙ r.same
+
+  rest_is : (k : K) (file : Option (List ℕ)) → RestsWith k file → IsAtRest retries seen may_leave (disk k)
+  rest_is k file r = subst (λ o. IfSome o (λ s. Rests retries s (may_leave (disk k)))) (sym r.is) r.rest
 
   -- a store of one file
-  stores_only : (ok : Bool) (bytes : List ℕ) (k l : K) (file : Option (List ℕ)) → Rests k file → store k bytes ok l → Leaves k l (λ c. (kept c ≡ file) ⊎ (kept c ≡ Some bytes))
+  stores_only : (ok : Bool) (bytes : List ℕ) (k l : K) (file : Option (List ℕ)) → RestsWith k file → store k bytes ok l → Leaves k l (λ c. (kept c ≡ file) ⊎ (kept c ≡ Some bytes))
   stores_only ok bytes k l file r h =
       weaker k l (IsOldOrNew (kept r.areas) bytes) (λ c. (kept c ≡ file) ⊎ (kept c ≡ Some bytes)) (λ c p. ⊎_elim (λ q. inl (q ∙ r.same)) (λ q. inr q) p)
       (at_some (seen (disk k)) (λ s. Leaves k l (IsOldOrNew (kept s) bytes)) r.areas r.is (h.any_moment (rest_is k file r)))
 
-  rests_with : (bytes : List ℕ) (k l : K) (file : Option (List ℕ)) → Rests k file → store k bytes true l → Rests l (Some bytes)
-  rests_with bytes k l file r h = let q = subst (λ o. HasStored bytes o (seen (disk l)) (may_leave (disk l))) r.is (h.stored refl) in record { areas = q.0; is = q.1; same = q.2; left = q.3 }
+  rests_with : (bytes : List ℕ) (k l : K) (file : Option (List ℕ)) → RestsWith k file → store k bytes true l → RestsWith l (Some bytes)
+  rests_with bytes k l file r h = let q = subst (λ o. HasStored bytes o (seen (disk l)) (may_leave (disk l))) r.is (h.stored refl) in record { areas = q.0; is = q.1; same = q.2; rest = at_some (seen (disk l)) (λ s. Rests retries s (may_leave (disk l))) q.0 q.1 (h.rest refl) }
 
   -- stores of several, and what is kept then
   abbrev Kept : List (List ℕ) → K → K → Option (List ℕ) → Type 0
-  Kept files k l file = Leaves k l (IsOldOrOneOf file files) × ((now : Option (List ℕ)) × Rests l now × ((now ≡ file) ⊎ ((bytes : List ℕ) × IsIn bytes files × (now ≡ Some bytes))))
+  Kept files k l file = Leaves k l (IsOldOrOneOf file files) × ((now : Option (List ℕ)) × RestsWith l now × ((now ≡ file) ⊎ ((bytes : List ℕ) × IsIn bytes files × (now ≡ Some bytes))))
 
-  each_only : (files : List (List ℕ)) (k l : K) (file : Option (List ℕ)) → Rests k file → StoresEach store files k l → Kept files k l file
+  each_only : (files : List (List ℕ)) (k l : K) (file : Option (List ℕ)) → RestsWith k file → StoresEach store files k l → Kept files k l file
   each_only [] k l file r h =
-      let same = subst (λ (x : K). Leaves k x (IsOldOrOneOf file [])) (sym h) (weaker k k (IsOld file) (IsOldOrOneOf file []) (λ c p. inl p) (uncalled_only seen may_leave moment left_since only (disk k) file r.left)) in
-      (same, (file, subst (λ (x : K). Rests x file) (sym h) r, inl refl))
+      let same = subst (λ (x : K). Leaves k x (IsOldOrOneOf file [])) (sym h) (weaker k k (IsOld file) (IsOldOrOneOf file []) (λ c p. inl p) (uncalled_only retries seen may_leave moment left_since only (disk k) file (left_is k file r))) in
+      (same, (file, subst (λ (x : K). RestsWith x file) (sym h) r, inl refl))
   each_only (bytes ∷ files) k l file r h =
       let m = h.0 in
       let next = each_only files m l (Some bytes) (rests_with bytes k m file r h.1) h.2 in
@@ -93,17 +97,17 @@ module _ {D : Type 0} (seen : D → Option Areas) (may_leave : D → Areas → T
       (both k m l (IsOldOrOneOf file (bytes ∷ files)) front back, ((next.1).0, (next.1).1, ⊎_elim (λ q. inr (bytes, inl refl, q)) (λ q. inr (q.0, inr q.1, q.2)) (next.1).2))
 
   -- and then of one that fails
-  failed_only : (failed : Option (List ℕ)) (k l : K) (file : Option (List ℕ)) → Rests k file → FailsOnce store failed k l → Leaves k l (IsOldOrOneOf file (and_failed failed))
-  failed_only None k l file r h = subst (λ (x : K). Leaves k x (IsOldOrOneOf file [])) (sym h) (weaker k k (IsOld file) (IsOldOrOneOf file []) (λ c p. inl p) (uncalled_only seen may_leave moment left_since only (disk k) file r.left))
+  failed_only : (failed : Option (List ℕ)) (k l : K) (file : Option (List ℕ)) → RestsWith k file → FailsOnce store failed k l → Leaves k l (IsOldOrOneOf file (and_failed failed))
+  failed_only None k l file r h = subst (λ (x : K). Leaves k x (IsOldOrOneOf file [])) (sym h) (weaker k k (IsOld file) (IsOldOrOneOf file []) (λ c p. inl p) (uncalled_only retries seen may_leave moment left_since only (disk k) file (left_is k file r)))
   failed_only (Some bytes) k l file r h = weaker k l (λ c. (kept c ≡ file) ⊎ (kept c ≡ Some bytes)) (IsOldOrOneOf file (bytes ∷ [])) (λ c p. ⊎_elim (λ q. inl q) (λ q. inr (bytes, inl refl, q)) p) (stores_only false bytes k l file r h)
 
   -- the same in turn
   abbrev InTurn : Option (List ℕ) → List (List ℕ) → Option (List ℕ) → K → K → Type 0
   InTurn file files failed k l = LeavesInTurn moment left_since file files failed (disk k) (disk l)
 
-  turns : (files : List (List ℕ)) (failed : Option (List ℕ)) (k m l : K) (file : Option (List ℕ)) → Rests k file → StoresEach store files k m → FailsOnce store failed m l → InTurn file files failed k l
+  turns : (files : List (List ℕ)) (failed : Option (List ℕ)) (k m l : K) (file : Option (List ℕ)) → RestsWith k file → StoresEach store files k m → FailsOnce store failed m l → InTurn file files failed k l
   turns [] None k m l file r h f =
-      subst (λ (x : K). Leaves k x (IsOld file)) (sym (f ∙ h)) (uncalled_only seen may_leave moment left_since only (disk k) file r.left)
+      subst (λ (x : K). Leaves k x (IsOld file)) (sym (f ∙ h)) (uncalled_only retries seen may_leave moment left_since only (disk k) file (left_is k file r))
   turns [] (Some bytes) k m l file r h f =
       stores_only false bytes k l file r (subst (λ (x : K). store x bytes false l) h f)
   turns (bytes ∷ files) failed k m l file r h f = (disk h.0, stores_only true bytes k h.0 file r h.1, turns files failed h.0 m l (Some bytes) (rests_with bytes k h.0 file r h.1) h.2 f)
@@ -116,7 +120,7 @@ module _ {D : Type 0} (seen : D → Option Areas) (may_leave : D → Areas → T
       (back.0, both_disks (disk k) (disk m) back.0 (IsOldOrNew file bytes) (weaker k m (IsOld file) (IsOldOrNew file bytes) (λ c p. inl p) front) back.1, back.2)
 
   -- all stores of a session
-  tried_only : (x : Stores) (k m l : K) (file : Option (List ℕ)) → Rests k file → StoresEach store x.stored k m → FailsOnce store x.failed m l → Leaves k l (IsOldOrOneOf file (tried x))
+  tried_only : (x : Stores) (k m l : K) (file : Option (List ℕ)) → RestsWith k file → StoresEach store x.stored k m → FailsOnce store x.failed m l → Leaves k l (IsOldOrOneOf file (tried x))
   tried_only x k m l file r h f =
       let first = each_only x.stored k m file r h in
       let now = (first.1).0 in
@@ -130,32 +134,32 @@ module _ {D : Type 0} (seen : D → Option Areas) (may_leave : D → Areas → T
     Called = Calls load store x untouched n old new
 
     -- a load leaves the file as it was
-    loaded_rests : (s : Areas) (mid : K) → seen (disk old) ≡ Some s → ((c : Areas) → may_leave (disk old) c → kept c ≡ kept s) → load old true mid → Rests mid (kept s)
-    loaded_rests s mid is rest l = record { areas = s; is = (l.unchanged).same ∙ is; same = refl; left = at_some (seen (disk mid)) (λ a. (c : Areas) → may_leave (disk mid) c → kept c ≡ kept a) s ((l.unchanged).same ∙ is) (l.rest refl) }
+    loaded_rests : (s : Areas) (mid : K) → seen (disk old) ≡ Some s → Rests retries s (may_leave (disk old)) → load old true mid → RestsWith mid (kept s)
+    loaded_rests s mid is rest l = record { areas = s; is = (l.looks).same ∙ is; same = refl; rest = rest_again retries seen may_leave moment left_since only s (disk old) (disk mid) is rest l.looks }
 
-    survived_at : (s : Areas) → seen (disk old) ≡ Some s → ((c : Areas) → may_leave (disk old) c → kept c ≡ kept s) → Called → Leaves old new (IsOldOrOneOf (kept s) (tried x))
+    survived_at : (s : Areas) → seen (disk old) ≡ Some s → Rests retries s (may_leave (disk old)) → Called → Leaves old new (IsOldOrOneOf (kept s) (tried x))
     survived_at s is rest (CallsNothing same ten none) =
-        subst (λ (k : K). Leaves old k (IsOldOrOneOf (kept s) (tried x))) (sym same) (weaker old old (IsOld (kept s)) (IsOldOrOneOf (kept s) (tried x)) (λ c p. inl p) (uncalled_only seen may_leave moment left_since only (disk old) (kept s) rest))
-    survived_at s is rest (FailsToLoad l at u none) = weaker old new (IsOld (kept s)) (IsOldOrOneOf (kept s) (tried x)) (λ c p. inl p) (loaded_only seen may_leave moment left_since only false (disk old) (disk new) (kept s) rest l)
+        subst (λ (k : K). Leaves old k (IsOldOrOneOf (kept s) (tried x))) (sym same) (weaker old old (IsOld (kept s)) (IsOldOrOneOf (kept s) (tried x)) (λ c p. inl p) (uncalled_only retries seen may_leave moment left_since only (disk old) (kept s) (rest_kept retries seen may_leave moment left_since only s (disk old) rest)))
+    survived_at s is rest (FailsToLoad l at u none) = weaker old new (IsOld (kept s)) (IsOldOrOneOf (kept s) (tried x)) (λ c p. inl p) (loaded_only retries seen may_leave moment left_since only false (disk old) (disk new) s is rest l)
     survived_at s is rest (Loads l status) =
-        let front = weaker old l.at_load (IsOld (kept s)) (IsOldOrOneOf (kept s) (tried x)) (λ c p. inl p) (loaded_only seen may_leave moment left_since only true (disk old) (disk l.at_load) (kept s) rest l.loaded) in
+        let front = weaker old l.at_load (IsOld (kept s)) (IsOldOrOneOf (kept s) (tried x)) (λ c p. inl p) (loaded_only retries seen may_leave moment left_since only true (disk old) (disk l.at_load) s is rest l.loaded) in
         both old l.at_load new (IsOldOrOneOf (kept s) (tried x)) front (tried_only x l.at_load l.at_failure new (kept s) (loaded_rests s l.at_load is rest l.loaded) l.stored l.failed)
 
-    turns_at : (s : Areas) → seen (disk old) ≡ Some s → ((c : Areas) → may_leave (disk old) c → kept c ≡ kept s) → Called → InTurn (kept s) x.stored x.failed old new
+    turns_at : (s : Areas) → seen (disk old) ≡ Some s → Rests retries s (may_leave (disk old)) → Called → InTurn (kept s) x.stored x.failed old new
     turns_at s is rest (CallsNothing same ten none) =
-        subst (λ (y : Stores). InTurn (kept s) y.stored y.failed old new) (sym none) (subst (λ (k : K). Leaves old k (IsOld (kept s))) (sym same) (uncalled_only seen may_leave moment left_since only (disk old) (kept s) rest))
-    turns_at s is rest (FailsToLoad l at u none) = subst (λ (y : Stores). InTurn (kept s) y.stored y.failed old new) (sym none) (loaded_only seen may_leave moment left_since only false (disk old) (disk new) (kept s) rest l)
+        subst (λ (y : Stores). InTurn (kept s) y.stored y.failed old new) (sym none) (subst (λ (k : K). Leaves old k (IsOld (kept s))) (sym same) (uncalled_only retries seen may_leave moment left_since only (disk old) (kept s) (rest_kept retries seen may_leave moment left_since only s (disk old) rest)))
+    turns_at s is rest (FailsToLoad l at u none) = subst (λ (y : Stores). InTurn (kept s) y.stored y.failed old new) (sym none) (loaded_only retries seen may_leave moment left_since only false (disk old) (disk new) s is rest l)
     turns_at s is rest (Loads l status) =
-        turns_after x.stored x.failed old l.at_load new (kept s) (loaded_only seen may_leave moment left_since only true (disk old) (disk l.at_load) (kept s) rest l.loaded)
+        turns_after x.stored x.failed old l.at_load new (kept s) (loaded_only retries seen may_leave moment left_since only true (disk old) (disk l.at_load) s is rest l.loaded)
         (turns x.stored x.failed l.at_load l.at_failure new (kept s) (loaded_rests s l.at_load is rest l.loaded) l.stored l.failed)
 
     -- a stop at any moment
-    pub stores_survived : (ds : Option (List Due)) → Called → AreDue ds (tried x) → IsAtRest seen may_leave (disk old) → IfSome (seen (disk old)) (λ s. LeavesOldOrStores moment left_since ds (kept s) (disk old) (disk new))
+    pub stores_survived : (ds : Option (List Due)) → Called → AreDue ds (tried x) → IsAtRest retries seen may_leave (disk old) → IfSome (seen (disk old)) (λ s. LeavesOldOrStores moment left_since ds (kept s) (disk old) (disk new))
     stores_survived ds calls due rest = to_some (seen (disk old)) (λ s. LeavesOldOrStores moment left_since ds (kept s) (disk old) (disk new)) (λ s is. record {
       stores = x;
       due = due;
-      leaves = survived_at s is (at_some (seen (disk old)) (λ s. (c : Areas) → may_leave (disk old) c → kept c ≡ kept s) s is rest) calls;
-      in_turn = turns_at s is (at_some (seen (disk old)) (λ s. (c : Areas) → may_leave (disk old) c → kept c ≡ kept s) s is rest) calls;
+      leaves = survived_at s is (at_some (seen (disk old)) (λ s. Rests retries s (may_leave (disk old))) s is rest) calls;
+      in_turn = turns_at s is (at_some (seen (disk old)) (λ s. Rests retries s (may_leave (disk old))) s is rest) calls;
     })
 
     -- after a session that stored all
@@ -178,18 +182,18 @@ module _ {D : Type 0} (seen : D → Option Areas) (may_leave : D → Areas → T
         go : Called → HasDue seen may_leave (IsLastDue ds) (disk old) (disk new)
         go (CallsNothing same ten none) = none_some none
         go (FailsToLoad l at u none) = none_some none
-        go (Loads l status) = let q = stored x.stored x.failed l.at_load l.at_failure some status l.stored l.failed all in (q.0, q.1, subst (λ o. HasStored q.0 o (seen (disk new)) (may_leave (disk new))) ((l.loaded).unchanged.same) q.2)
+        go (Loads l status) = let q = stored x.stored x.failed l.at_load l.at_failure some status l.stored l.failed all in (q.0, q.1, subst (λ o. HasStored q.0 o (seen (disk new)) (may_leave (disk new))) ((l.loaded).looks.same) q.2)
 
     -- at rest, but after a store that failed
-    pub rests_after : Called → n ≢ 7 → n ≢ 10 → IsAtRest seen may_leave (disk new)
-    rests_after (CallsNothing same ten none) seven other = absurd (other ten)
-    rests_after (FailsToLoad l at u none) seven other = absurd (⊎_elim seven other at)
-    rests_after (Loads l status) seven other = go x.failed l.failed status (each_rest x.stored l.at_load l.at_failure ((l.loaded).rest refl) l.stored)
+    pub rests_after : Called → n ≢ 7 → n ≢ 10 → IsSound retries seen may_leave (disk old) → IsAtRest retries seen may_leave (disk new)
+    rests_after (CallsNothing same ten none) seven other sound = absurd (other ten)
+    rests_after (FailsToLoad l at u none) seven other sound = absurd (⊎_elim seven other at)
+    rests_after (Loads l status) seven other sound = go x.failed l.failed status (each_rest x.stored l.at_load l.at_failure ((l.loaded).rest refl sound) l.stored)
       where
-        each_rest : (files : List (List ℕ)) (k m : K) → IsAtRest seen may_leave (disk k) → StoresEach store files k m → IsAtRest seen may_leave (disk m)
-        each_rest [] k m rest h = subst (λ (y : K). IsAtRest seen may_leave (disk y)) (sym h) rest
-        each_rest (bytes ∷ files) k m rest h = each_rest files h.0 m (stored_rest seen may_leave moment left_since only bytes (disk k) (disk h.0) ((h.1).stored refl)) h.2
+        each_rest : (files : List (List ℕ)) (k m : K) → IsAtRest retries seen may_leave (disk k) → StoresEach store files k m → IsAtRest retries seen may_leave (disk m)
+        each_rest [] k m rest h = subst (λ (y : K). IsAtRest retries seen may_leave (disk y)) (sym h) rest
+        each_rest (bytes ∷ files) k m rest h = each_rest files h.0 m ((h.1).rest refl) h.2
 
-        go : (failed : Option (List ℕ)) → FailsOnce store failed l.at_failure new → IsStatusAfter failed n → IsAtRest seen may_leave (disk l.at_failure) → IsAtRest seen may_leave (disk new)
-        go None f status rest = subst (λ (y : K). IsAtRest seen may_leave (disk y)) (sym f) rest
+        go : (failed : Option (List ℕ)) → FailsOnce store failed l.at_failure new → IsStatusAfter failed n → IsAtRest retries seen may_leave (disk l.at_failure) → IsAtRest retries seen may_leave (disk new)
+        go None f status rest = subst (λ (y : K). IsAtRest retries seen may_leave (disk y)) (sym f) rest
         go (Some bytes) f status rest = absurd (⊎_elim seven other status)

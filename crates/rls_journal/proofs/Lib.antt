@@ -1,7 +1,9 @@
-mod Parts
+pub mod Held
 mod Images
 mod Moments
+mod Parts
 mod Recorded
 mod Replays
+pub mod Rests
 mod States
 mod Stops

@@ -1,7 +1,7 @@
 -- How a run of device calls goes on.
 use Rattle.std.proofs.Common.{◌≡◌, ◌∙◌, inl, inr, ⊎_elim, ℕ, Option, arith}
 use Rattle.rls_journal.specs.Areas.{Areas}
-use Rattle.rls_journal.specs.Disk.{Narrows, Elapses, LeavesOnly, IsUnchanged, Changes}
+use Rattle.rls_journal.specs.Disk.{Narrows, Follows, Elapses, LeavesOnly, IsUnchanged, Changes}
 
 module _ {D : Type 0} (may_leave : D → Areas → Type 0) (moment : D → ℕ) (left_since : D → ℕ → Areas → Type 0) where
   -- before the first call
@@ -25,6 +25,22 @@ module _ {D : Type 0} (may_leave : D → Areas → Type 0) (moment : D → ℕ) 
     each = λ c left. ⊎_elim (so_far.each c) (λ now. here c (narrows c now)) (time.nothing_else (moment old) c so_far.later left);
     before = λ t c le left. ⊎_elim (so_far.before t c le) (λ now. inr (here c (narrows c now))) (time.nothing_else t c (omega (arith, le, so_far.later)) left);
   }
+
+  -- what follows of what is left
+  pub weaker : (old new : D) (P Q : Areas → Type 0) → ((c : Areas) → P c → Q c) → LeavesOnly moment left_since old new P → LeavesOnly moment left_since old new Q
+  weaker old new P Q f run = record { later = run.later; each = λ c left. f c (run.each c left); before = λ t c le left. ⊎_elim (λ past. inl past) (λ p. inr (f c p)) (run.before t c le left) }
+
+  -- one run after another
+  pub both : (old mid new : D) (P : Areas → Type 0) → LeavesOnly moment left_since old mid P → LeavesOnly moment left_since mid new P → LeavesOnly moment left_since old new P
+  both old mid new P front back = record {
+    later = omega (arith, front.later, back.later);
+    each = λ c left. ⊎_elim (λ past. front.each c past) (λ p. p) (back.before (moment old) c front.later left);
+    before = λ t c le left. ⊎_elim (λ past. front.before t c le past) (λ p. inr p) (back.before t c (omega (arith, le, front.later)) left);
+  }
+
+  -- a call that changes something
+  pub changed : (old new : D) (step : Areas → Areas → Type 0) → Follows step (may_leave old) (may_leave new) → Elapses (moment old) (moment new) (left_since old) (left_since new) (may_leave new) → Changes may_leave moment left_since step old new
+  changed old new step follows time = record { later = time.later; crash = follows; before = λ t c le left. ⊎_elim (λ past. inl past) (λ now. inr (follows c now)) (time.nothing_else t c le left) }
 
 module _ {D : Type 0} (seen : D → Option Areas) (may_leave : D → Areas → Type 0) (moment : D → ℕ) (left_since : D → ℕ → Areas → Type 0) where
   -- a call that changes nothing that is read

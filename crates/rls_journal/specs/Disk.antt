@@ -1,5 +1,5 @@
 -- What the calls of a disk do, and what a crash may do between two syncs.
-use Rattle.std.specs.Prelude.{◌≡◌, ◌⊎◌, ℕ, ◌+◌, ◌≤◌, max, List, length, take, drop, Option, Some, None}
+use Rattle.std.specs.Prelude.{◌≡◌, ◌≢◌, ◌⊎◌, ℕ, ◌+◌, ◌≤◌, max, List, length, take, drop, Option, Some, None}
 use Rattle.rls_journal.specs.Areas.{Areas, area_of, with_area, spliced}
 
 -- after a write of n bytes that a crash cuts short: any bytes in the range and past the old end, the same elsewhere
@@ -35,6 +35,28 @@ Follows step old new = (c : Areas) → new c → (d : Areas) × old d × step d 
 -- a crash leaves what is read of this area
 abbrev pub IsDurable : ℕ → Areas → (Areas → Type 0) → Type 0
 IsDurable area seen may_leave = (c : Areas) → may_leave c → area_of c area ≡ area_of seen area
+
+-- of n bytes of an area, from a place on, or those that there are, the same
+abbrev pub IsDurableAt : ℕ → ℕ → ℕ → Areas → (Areas → Type 0) → Type 0
+IsDurableAt area at n seen may_leave = (c : Areas) → may_leave c → take n (drop at (area_of c area)) ≡ take n (drop at (area_of seen area))
+
+-- After a sync of an area that succeeded: a crash leaves what is read of the bytes that were dirty, and no longer an area than the one that is read.
+pub record IsWritten (area : ℕ) (dirty : ℕ → ℕ → ℕ → Type 0) (seen : Areas) (may_leave : Areas → Type 0) : Type 0 where
+  pub durable : (at n : ℕ) → dirty area at n → IsDurableAt area at n seen may_leave
+  pub no_longer : (c : Areas) → may_leave c → length (area_of c area) ≤ length (area_of seen area)
+
+-- after the first byte of the gate was to be written as it is read: where the disk has it so, all stays; elsewhere the write may be torn
+pub record Renews (seen old new : Areas) : Type 0 where
+  pub stays : take 1 old.gate ≡ take 1 seen.gate → new ≡ old
+  pub tears : Tears 2 0 1 old new
+
+-- what was dirty is dirty
+abbrev pub StaysDirty : (ℕ → ℕ → ℕ → Type 0) → (ℕ → ℕ → ℕ → Type 0) → Type 0
+StaysDirty old new = (area at n : ℕ) → old area at n → new area at n
+
+-- the same in the other areas
+abbrev pub StaysDirtyBut : ℕ → (ℕ → ℕ → ℕ → Type 0) → (ℕ → ℕ → ℕ → Type 0) → Type 0
+StaysDirtyBut synced old new = (area at n : ℕ) → area ≢ synced → old area at n → new area at n
 
 -- Time goes on: a crash since t might have left what it might have left before, or what it may leave now.
 pub record Elapses (before now : ℕ) (past since : ℕ → Areas → Type 0) (may_leave : Areas → Type 0) : Type 0 where

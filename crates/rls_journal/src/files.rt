@@ -5,7 +5,7 @@ ghost use Rattle.std.specs.Prelude.{◌≡◌, ◌≤◌, None, IsErr, OnOk};
 ghost use Rattle.rls_io.specs.Device.{Rose, one_more};
 ghost use Rattle.rls_journal.specs.Files.{disk_faults};
 
-use crate::disk::Disk;
+use crate::disk::{Disk, GATE};
 use rls_io::Failed;
 use std::fs::{File, OpenFile};
 use std::io;
@@ -36,17 +36,20 @@ struct AreaFiles<R: Files> {
     slot1: Option<R::File>,
     gate: Option<R::File>,
     is_open: bool,
+    // one of them may only be read
+    is_read_only: bool,
     // no file was made since this process has synced the folder
     is_folder_synced: bool,
 }
 
 impl<R: Files> AreaFiles<R> {
     // A file, where there is one. A file that may not be written is opened to be read, and a write to it fails.
-    fn found(&self, area: u8) -> io::Result<Option<R::File>> {
+    fn found(&mut self, area: u8) -> io::Result<Option<R::File>> {
         let name = name_of(area);
         let mut file = File::options().read(true).write(true).open(&self.rt, name);
         if file.as_ref().is_err_and(is_forbidden) {
             file = File::open(&self.rt, name);
+            self.is_read_only = true;
         }
         match file {
             Ok(file) => Ok(Some(file)),
@@ -86,13 +89,14 @@ impl<R: Files> AreaFiles<R> {
         }
     }
 
-    // A file that is missing has no bytes.
+    // A file that is missing has no bytes. The gate has no more than one.
     fn size(&mut self, area: u8) -> io::Result<u64> {
         self.open()?;
-        match self.slot(area) {
-            Some(file) => Ok(file.metadata()?.len()),
-            None => Ok(0),
-        }
+        let len = match self.slot(area) {
+            Some(file) => file.metadata()?.len(),
+            None => 0,
+        };
+        Ok(if area == GATE { len.min(1) } else { len })
     }
 
     fn read(&mut self, area: u8, at: u64, buf: &mut [u8]) -> io::Result<()> {
@@ -125,6 +129,16 @@ impl<R: Files> AreaFiles<R> {
         }
     }
 
+    // Has the system take the gate's first byte for changed, by a second byte beside it: the first isn't written, since another
+    // process may just have named the other slot.
+    fn renew_gate(&mut self) -> io::Result<()> {
+        self.open()?;
+        if self.is_read_only {
+            return Ok(());
+        }
+        self.write(GATE, 1, &[0])
+    }
+
     // Has the system write a file to the disk. The names of the files too, unless this process has done so since the last
     // was made: the process that made one may have been stopped right after.
     fn sync(&mut self, area: u8) -> io::Result<()> {
@@ -140,10 +154,12 @@ impl<R: Files> AreaFiles<R> {
     }
 }
 
-/// The files `replica.0`, `replica.1` and `replica.gate` in the current folder, as the areas 0, 1 and 2. They are opened at
-/// the first call. A file that is missing reads as empty, and is made by the first write of some bytes, so that what only
-/// reads leaves an empty folder empty. A sync reaches the disk as far as the system's `fsync` does, of the file, and of the
-/// folder where a file was made. Each failure of the system is counted, up to the greatest u64.
+/// The files `replica.0` and `replica.1` in the current folder as the areas 0 and 1, and the first byte of `replica.gate` as
+/// the area 2. They are opened at the first call. A file that is missing reads as empty, and is made by the first write of
+/// some bytes, so that what only reads leaves an empty folder empty. A sync reaches the disk as far as the system's `fsync`
+/// does, of the file, and of the folder where a file was made. The gate is renewed by a second byte, which the system writes
+/// with the first; where one of the files may only be read, it isn't renewed. Each failure of the system is counted, up to
+/// the greatest u64.
 #[derive(Drop)]
 pub struct FileDisk<R: Files> {
     files: AreaFiles<R>,
@@ -178,6 +194,7 @@ impl<R: Files> FileDisk<R> {
                 slot1: None,
                 gate: None,
                 is_open: false,
+                is_read_only: false,
                 is_folder_synced: false,
             },
             faults: 0,
@@ -186,9 +203,13 @@ impl<R: Files> FileDisk<R> {
 }
 
 impl<R: Files> Disk for FileDisk<R> {
+    ghost retries = { ⊥ };
+
     ghost seen = { λ _. None };
 
     ghost may_leave = { λ _ _. Unit {0} };
+
+    ghost is_dirty = { λ _ _ _ _. Unit {0} };
 
     ghost moment = { λ _. 0 };
 
@@ -214,6 +235,11 @@ impl<R: Files> Disk for FileDisk<R> {
 
     fn write(&mut self, area: u8, at: u64, bytes: &[u8]) -> Result<(), Failed> {
         let answer = self.files.write(area, at, bytes);
+        count(&mut self.faults, answer)
+    }
+
+    fn renew_gate(&mut self) -> Result<(), Failed> {
+        let answer = self.files.renew_gate();
         count(&mut self.faults, answer)
     }
 

@@ -3,7 +3,7 @@
 ghost use Rattle.std.specs.Prelude.{◌≡◌, ◌+◌, ◌<◌, ◌≤◌, ◌↔◌, [], ◌∷◌, length, take, drop, Some, false, IsTrue, IsErr, IfOk, OnOk, OnErr};
 ghost use Rattle.rls_io.specs.Device.{Rose, one_more};
 ghost use Rattle.rls_journal.specs.Areas.{area_of};
-ghost use Rattle.rls_journal.specs.Disk.{Writes, MayTear, Tears, Narrows, Follows, IsDurable, Elapses};
+ghost use Rattle.rls_journal.specs.Disk.{Writes, MayTear, Tears, Renews, Narrows, Follows, IsDurable, IsWritten, Elapses};
 ghost use Rattle.rls_journal.specs.Memory.{Looked, Wrote, Synced, MayLeave, written_at, seen_step, image_step, image_after, filled_after, bytes_written, reading, can_leave, might_have_left, Refuses, done, recorded, refused};
 ghost use Rattle.rls_journal.specs.Records.{WritesNothing, call_of, calls_of, bytes_in};
 ghost use Rattle.rls_journal.specs.MemoryLaws.{reads_left, now_counts, now_only};
@@ -295,9 +295,13 @@ fn image_of(
 }
 
 impl Disk for MemoryDisk {
+    ghost retries = { Unit {0} };
+
     ghost seen = { λ d. Some (reading d) };
 
     ghost may_leave = { λ d. can_leave d };
+
+    ghost is_dirty = { λ _ _ _ _. Unit {0} };
 
     ghost moment = { λ d. length d.calls };
 
@@ -377,9 +381,30 @@ impl Disk for MemoryDisk {
         Ok(())
     }
 
+    // It does nothing.
+    fn renew_gate(&mut self) -> Result<(), Failed>
+        requires some { 0 < length (reading self.old).gate }
+        ensures same { Some (reading self.new) ≡ Some (reading self.old) }
+        ensures crash { Follows (Renews (reading self.old)) (can_leave self.old) (can_leave self.new) }
+        ensures idle { Unit {0} → Narrows (can_leave self.old) (can_leave self.new) }
+        ensures time { Elapses (length self.old.calls) (length self.new.calls) (might_have_left self.old) (might_have_left self.new) (can_leave self.new) }
+        ensures counted { IsErr result → self.new.faults ≡ one_more self.old.faults }
+        ensures uncounted { OnOk result (self.new.faults ≡ self.old.faults) }
+        ensures never_falls { self.old.faults ≤ self.new.faults }
+        ensures cause { IsErr result → Rose self.old.faults self.new.faults }
+
+        // It fails exactly where it is to fail, or no record is left.
+        ensures exact { IsErr result ↔ Refuses self.old 0 }
+        ensures done { OnOk result (self.new ≡ done self.old Looked) }
+        ensures refused { OnErr result (self.new ≡ refused self.old) }
+    {
+        self.quiet()
+    }
+
     fn sync(&mut self, area: u8) -> Result<(), Failed>
         requires area { area < 3 }
-        ensures durable { OnOk result (IsDurable area (reading self.old) (can_leave self.new)) }
+        ensures durable { OnOk result (Unit {0} → IsDurable area (reading self.old) (can_leave self.new)) }
+        ensures written { OnOk result (IsWritten area (λ area at n. Unit {0}) (reading self.old) (can_leave self.new)) }
         ensures same { Some (reading self.new) ≡ Some (reading self.old) }
         ensures crash { Narrows (can_leave self.old) (can_leave self.new) }
         ensures time { Elapses (length self.old.calls) (length self.new.calls) (might_have_left self.old) (might_have_left self.new) (can_leave self.new) }

@@ -4,45 +4,43 @@ ghost use Rattle.std.specs.Prelude.{◌≡◌, ◌-◌, ◌<◌, ◌≤◌, [], 
 ghost use Rattle.rls_io.specs.Device.{Rose, Loads, one_more};
 ghost use Rattle.rls_io.specs.declared.devices.LoadError.TheVariants as load;
 ghost use Rattle.rls_journal.specs.Areas.{Areas, area_of, named_by, file_of, kept};
-ghost use Rattle.rls_journal.specs.Disk.{Tears, IsDurable, IsUnchanged, Changes, LeavesOnly};
-ghost use Rattle.rls_journal.specs.Slots.{Strays, IsSettled, Puts, Names, HasStored};
-ghost use Rattle.rls_journal.specs.Keeper.{IsOldOrNew};
+ghost use Rattle.rls_journal.specs.Disk.{Tears, IsDurable, IsDurableAt, IsUnchanged, Changes, StaysDirty};
+ghost use Rattle.rls_journal.specs.Slots.{Strays, MayStray, IsSettled, IsSettledNow, IsSound, HoldsOn, Looks, Puts, Names, HasStored};
 
-use crate::disk::Disk;
+use crate::disk::{Disk, GATE};
 use rls_io::{Failed, Found, LoadError};
 use std::alloc::Global;
 
-/// The area of the gate.
-const GATE: u8 = 2;
-
-/// Syncs the gate, and answers the slot that it names, if it names one.
+/// Renews the gate and syncs it, and answers the slot that it names, if it names one.
 fn gate_slot<D: Disk>(disk: &mut D) -> Result<Option<u8>, Failed>
     ensures named { IfOk result (λ slot. IfSome (D.seen disk.old) (λ s. slot ≡ named_by s.gate)) }
     ensures small { IfOk result (λ slot. IfSome slot (λ n. n < 2)) }
-    ensures durable { OnOk result (IfSome (D.seen disk.old) (λ s. IsDurable 2 s (D.may_leave disk.new))) }
-    ensures unchanged { IsUnchanged D.seen D.may_leave D.moment D.left_since disk.old disk.new }
+    ensures durable { OnOk result (D.retries → IfSome (D.seen disk.old) (λ s. IsDurable 2 s (D.may_leave disk.new))) }
+    ensures gate { OnOk result (IfSome (D.seen disk.old) (λ s. IsDurableAt 2 0 1 s (D.may_leave disk.new))) }
+    ensures looks { Looks D.retries D.seen D.may_leave D.moment D.left_since disk.old disk.new }
     ensures counted { IsErr result → D.faults disk.new ≡ one_more (D.faults disk.old) }
     ensures uncounted { OnOk result (D.faults disk.new ≡ D.faults disk.old) }
     ensures never_falls { D.faults disk.old ≤ D.faults disk.new }
     ensures cause { IsErr result → Rose (D.faults disk.old) (D.faults disk.new) }
 {
-    disk.sync(GATE)?;
-    let size = disk.size(GATE)?;
-    if size == 0 {
+    if disk.size(GATE)? == 0 {
+        disk.sync(GATE)?;
         return Ok(None);
     }
+    disk.renew_gate()?;
+    disk.sync(GATE)?;
     let mut first = [0];
     disk.read(GATE, 0, &mut first)?;
     Ok(Some(first[0] % 2))
 }
 
-/// Syncs the gate and the slot that it names, and answers that slot, if it names one. From then on a crash leaves the file
-/// that is read.
+/// Renews the gate, syncs it and the slot that it names, and answers that slot, if it names one. From then on a crash leaves the
+/// file that is read.
 pub fn settle<D: Disk>(disk: &mut D) -> Result<Option<u8>, Failed>
     ensures named { IfOk result (λ slot. IfSome (D.seen disk.old) (λ s. slot ≡ named_by s.gate)) }
     ensures small { IfOk result (λ slot. IfSome slot (λ n. n < 2)) }
-    ensures settled { IfOk result (λ slot. IfSome (D.seen disk.old) (λ s. IsSettled slot s (D.may_leave disk.new))) }
-    ensures unchanged { IsUnchanged D.seen D.may_leave D.moment D.left_since disk.old disk.new }
+    ensures settled { OnOk result (IsSound D.retries D.seen D.may_leave disk.old → IfSome (D.seen disk.old) (λ s. IsSettled s (D.may_leave disk.new))) }
+    ensures looks { Looks D.retries D.seen D.may_leave D.moment D.left_since disk.old disk.new }
     ensures counted { IsErr result → D.faults disk.new ≡ one_more (D.faults disk.old) }
     ensures uncounted { OnOk result (D.faults disk.new ≡ D.faults disk.old) }
     ensures never_falls { D.faults disk.old ≤ D.faults disk.new }
@@ -104,6 +102,10 @@ pub fn read_file<D: Disk>(
 fn put<D: Disk>(disk: &mut D, slot: u8, bytes: &[u8]) -> Result<(), Failed>
     requires slot { slot < 2 }
     ensures put { OnOk result (Puts slot bytes.now (D.seen disk.old) (D.seen disk.new)) }
+    ensures strays { MayStray slot (D.seen disk.old) (D.seen disk.new) }
+    ensures dirty { StaysDirty (D.is_dirty disk.old) (D.is_dirty disk.new) }
+    ensures number { OnOk result (D.is_dirty disk.new slot 0 8) }
+    ensures bytes { OnOk result (D.is_dirty disk.new slot 8 (length bytes.now)) }
     ensures changes { Changes D.may_leave D.moment D.left_since (Strays slot) disk.old disk.new }
     ensures counted { IsErr result → D.faults disk.new ≡ one_more (D.faults disk.old) }
     ensures uncounted { OnOk result (D.faults disk.new ≡ D.faults disk.old) }
@@ -119,6 +121,7 @@ fn put<D: Disk>(disk: &mut D, slot: u8, bytes: &[u8]) -> Result<(), Failed>
 fn name_slot<D: Disk>(disk: &mut D, slot: u8) -> Result<(), Failed>
     requires slot { slot < 2 }
     ensures names { OnOk result (Names slot (D.seen disk.old) (D.seen disk.new) (D.may_leave disk.new)) }
+    ensures strays { MayStray 2 (D.seen disk.old) (D.seen disk.new) }
     ensures changes { Changes D.may_leave D.moment D.left_since (Tears 2 0 1) disk.old disk.new }
     ensures counted { IsErr result → D.faults disk.new ≡ one_more (D.faults disk.old) }
     ensures uncounted { OnOk result (D.faults disk.new ≡ D.faults disk.old) }
@@ -135,8 +138,9 @@ pub fn replace<D: Disk>(disk: &mut D, slot: u8, bytes: &[u8]) -> Result<(), Fail
     ensures stored { OnOk result (HasStored bytes.now (D.seen disk.old) (D.seen disk.new) (D.may_leave disk.new)) }
 
     // Each crash leaves the file from before or these bytes.
-    ensures any_moment { IfSome (D.seen disk.old) (λ s. named_by s.gate ≡ Some (1 - slot) → IsSettled (Some (1 - slot)) s (D.may_leave disk.old)
-        → LeavesOnly D.moment D.left_since disk.old disk.new (IsOldOrNew (kept s) bytes.now)) }
+    ensures any_moment { IfSome (D.seen disk.old) (λ s. named_by s.gate ≡ Some (1 - slot) → IsSettled s (D.may_leave disk.old)
+        → HoldsOn D.seen D.may_leave D.moment D.left_since (kept s) (Some bytes.now) disk.old disk.new) }
+    ensures settled { OnOk result (IsSettledNow D.seen D.may_leave disk.new) }
     ensures counted { IsErr result → D.faults disk.new ≡ one_more (D.faults disk.old) }
     ensures uncounted { OnOk result (D.faults disk.new ≡ D.faults disk.old) }
     ensures never_falls { D.faults disk.old ≤ D.faults disk.new }
@@ -152,8 +156,9 @@ pub fn begin<D: Disk>(disk: &mut D, bytes: &[u8]) -> Result<(), Failed>
     ensures stored { OnOk result (HasStored bytes.now (D.seen disk.old) (D.seen disk.new) (D.may_leave disk.new)) }
 
     // Each crash leaves no file or these bytes.
-    ensures any_moment { IfSome (D.seen disk.old) (λ s. named_by s.gate ≡ None → IsSettled None s (D.may_leave disk.old)
-        → LeavesOnly D.moment D.left_since disk.old disk.new (IsOldOrNew (kept s) bytes.now)) }
+    ensures any_moment { IfSome (D.seen disk.old) (λ s. named_by s.gate ≡ None → IsSettled s (D.may_leave disk.old)
+        → HoldsOn D.seen D.may_leave D.moment D.left_since (kept s) (Some bytes.now) disk.old disk.new) }
+    ensures settled { OnOk result (IsSettledNow D.seen D.may_leave disk.new) }
     ensures counted { IsErr result → D.faults disk.new ≡ one_more (D.faults disk.old) }
     ensures uncounted { OnOk result (D.faults disk.new ≡ D.faults disk.old) }
     ensures never_falls { D.faults disk.old ≤ D.faults disk.new }

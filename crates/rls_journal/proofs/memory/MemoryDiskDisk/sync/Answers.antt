@@ -1,6 +1,7 @@
 use Rattle.std.proofs.Common.{◌∙◌, ap, Some}
 use Rattle.rls_journal.specs.Areas.{Areas}
-use Rattle.rls_journal.specs.Memory.{DiskState, Synced, done}
+use Rattle.rls_journal.specs.Memory.{DiskState, Synced, can_leave, done, reading}
+use Rattle.rls_journal.proofs.Parts.{durable_written}
 use Rattle.rls_journal.proofs.States.{IsSynced, is_synced, quiet_refused}
 use Rattle.rls_journal.proofs.memory.MemoryDiskDisk.sync.Goals as goal
 
@@ -14,7 +15,10 @@ pub returns-in_err-enter-clause-crash : goal.returns-in_err-enter-clause-crash
 returns-in_err-enter-clause-crash c = (quiet_refused c.args.self.now c.enter.new.self c.in_err-enter.ensures.refused).narrows
 
 pub returns-clause-durable : goal.returns-clause-durable
-returns-clause-durable c = (synced c).durable
+returns-clause-durable c = λ retries. (synced c).durable
+
+pub returns-clause-written : goal.returns-clause-written
+returns-clause-written c = durable_written c.args.area (λ area at n. Unit {0}) (reading c.args.self.now) (can_leave c.note.new.self) (synced c).durable
 
 pub returns-clause-same : goal.returns-clause-same
 returns-clause-same c = ap (λ (a : Areas). Some a) (synced c).same
