@@ -188,6 +188,9 @@ def stores_nothing(room):
             before = files_of(folder)
             found = room.run(folder, words, given)
             room.equal("%s: %s on %d bytes" % (kind, words_of(words), len(content or b"")), (found, files_of(folder)), (Result(status, out, err), before))
+    folder = room.replica("slots", HELLO, leftover={"replica.gate": b"\1"})
+    before = files_of(folder)
+    room.equal("text, and a gate of one byte", (room.text(folder), files_of(folder)), ((0, b"hello", b""), {**before, "replica.gate": b"\1\0"}))
 
 
 def plays(room):

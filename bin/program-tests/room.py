@@ -48,7 +48,7 @@ def ending(wait_status):
 
 
 def put(folder, kind, content, leftover=None):
-    """Makes a folder anew, with a replica of this content, or without one if it is None. The slots are those of a first store, as
+    """Makes a folder anew, with a replica of this content, or without one if it is None. The slots are those of a first store and a load, as
     docs/DURABILITY.md has them."""
     shutil.rmtree(folder, ignore_errors=True)
     os.makedirs(folder)
@@ -56,7 +56,7 @@ def put(folder, kind, content, leftover=None):
     if content is not None and kind == "file":
         files["replica.rls"] = content
     elif content is not None:
-        files = {"replica.0": u64(len(content)) + content, "replica.1": u64(len(content)) + content, "replica.gate": b"\0"}
+        files = {"replica.0": u64(len(content)) + content, "replica.1": u64(len(content)) + content, "replica.gate": b"\0\0"}
     files.update(leftover or {})
     for name, data in files.items():
         with open(os.path.join(folder, name), "wb") as file:

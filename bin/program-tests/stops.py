@@ -3,7 +3,8 @@ the disk may have after a stop is put into a folder and opened by the program: i
 
 The disk is the one that docs/DURABILITY.md assumes. A write that isn't synced may be there, be missing, be there in part, or be something else,
 whatever became of the writes before and after it; so may the cutting off of a file that is opened anew. A name that is made or changed is there
-for sure once the folder is synced, and may be missing before. A sync that fails leaves everything as unsure as it was."""
+for sure once the folder is synced, and may be missing before. A sync that fails leaves everything as unsure as it was; on the disk of `lost.py`
+what it hasn't written is written by no later one, as on Linux."""
 import itertools
 import os
 from commands import HELLO_1, LEFT
@@ -20,6 +21,12 @@ class Inode:
     def change(self, what):
         self.pending.append(what)
         self.seen = apply(self.seen, what)
+
+    def sync(self):
+        self.synced, self.pending = self.seen, []
+
+    def sync_fails(self):
+        """All stays pending."""
 
     def variants(self):
         """All that a stop may leave."""
@@ -54,9 +61,10 @@ def torn(what):
 
 class Disk:
     """A folder on a disk."""
+    inode = Inode
 
     def __init__(self, files):
-        self.names = {name: Inode(content) for name, content in files.items()}
+        self.names = {name: self.inode(content) for name, content in files.items()}
         self.synced_names, self.pending_names, self.open_files = dict(self.names), [], {}
 
     def play(self, line):
@@ -68,7 +76,7 @@ class Disk:
                 self.open_files[number] = "folder"
             elif "/" not in name:
                 if is_new:
-                    self.names[name] = Inode()
+                    self.names[name] = self.inode()
                     self.pending_names.append(("make", name, self.names[name]))
                 self.open_files[number] = self.names[name]
                 if is_cut and self.names[name].seen:
@@ -88,7 +96,9 @@ class Disk:
         elif call == "fsync" and file == "folder":
             self.synced_names, self.pending_names = dict(self.names), []
         elif call == "fsync" and file is not None:
-            file.synced, file.pending = file.seen, []
+            file.sync()
+        elif call == "unsynced" and file not in (None, "folder"):
+            file.sync_fails()
         return call in ("write", "truncate", "fsync")
 
     def images(self):
@@ -181,7 +191,7 @@ FILE_STORES = [(name, content, {}, words, given) for name, content, _, words, gi
     ("edit over what was left over", FRESH, {"replica.rls.new": b"z" * 500}, ["edit"], b"i 0 hello\n")]
 
 
-def begin(room, kind, content, extra):
+def begin(room, kind, content, extra, make=Disk):
     folder = room.replica(kind, content)
     for name, data in extra.items():
         path = os.path.join(folder, name)
@@ -190,7 +200,7 @@ def begin(room, kind, content, extra):
             continue
         with open(path, "wb") as file:
             file.write(data)
-    return folder, Disk(files_of(folder))
+    return folder, make(files_of(folder))
 
 
 def judged(room, opener, disk, allowed, what):
@@ -204,12 +214,17 @@ def judged(room, opener, disk, allowed, what):
     return True
 
 
+def begins(line):
+    """Whether a call begins to store. The second byte of the gate is written by loads too."""
+    return line[0] == "rename" or (line[0] == "open" and line[2:4] != ["0", "0"]) or (line[0] == "write" and line[2:] != ["1", "00"])
+
+
 def follow(room, opener, disk, lines, before_write, after_write, what):
     """Plays recorded calls to the disk, and stops after each. Until the first write one set of stored files may be left, from then on another."""
     allowed = before_write
     right = judged(room, opener, disk, allowed, what + ": at first")
     for number, line in enumerate(lines):
-        if line[0] in ("write", "rename") or (line[0] == "open" and line[2:4] != ["0", "0"]):
+        if begins(line):
             allowed = after_write
         if disk.play(line) and not judged(room, opener, disk, allowed, "%s: after call %d, %s" % (what, number, " ".join(line)[:60])):
             right = False
@@ -236,7 +251,7 @@ def stores(room, kind, rows):
 def sees(room, kind, content, extra, lines, new, name):
     """Without one of the syncs after the first write the model finds a wrong state: so it sees what a store forgets. (The slots of a first
     store are synced twice over: their names, and what they hold.)"""
-    first = [line[0] for line in lines].index("write")
+    first = [line[0] == "write" and begins(line) for line in lines].index(True)
     for number in range(first, len(lines)):
         if lines[number][0] != "fsync":
             continue
@@ -250,7 +265,7 @@ def sees(room, kind, content, extra, lines, new, name):
         room.check("%s: a store without sync %d is refused" % (name, number), found)
 
 
-def chains(room, kind):
+def chains(room, kind, make=Disk):
     """A command that is killed at each call, or whose call fails, and then another one: over what the first left unsynced."""
     opener = Opener(room)
     commands = [(FRESH, ["edit"], b"i 0 hello\n")] + ([(None, ["new", "7", "0", "2"], b"")] if kind == "slots" else [])
@@ -263,7 +278,7 @@ def chains(room, kind):
         ways += [{"FAIL": "%s:%d:%d" % (call, number, error)} for call, error in (("write", 28), ("fsync", 5), ("rename", 5), ("open", 5))
                  for number in range(1, counts[call] + 1)]
         for way in ways:
-            folder, disk = begin(room, kind, content, {})
+            folder, disk = begin(room, kind, content, {}, make)
             room.run(folder, words, given, calls=dict(way, RECORD=room.record_path))
             for line in room.record():
                 disk.play(line)
