@@ -83,7 +83,7 @@ fn outcomes(rt: &HostRuntime, kind: Kind) -> Result<String, Fail> {
 fn a_call_that_fails_leaves_a_whole_file(rt: HostRuntime) -> Result<(), Fail> {
     assert_eq!(rt;
         outcomes(&rt, Kind::Slots)?.as_str(),
-        "oooooooooooooooooonN"
+        "oooooooooooooooooooonN"
     );
     assert_eq!(rt; outcomes(&rt, Kind::File)?.as_str(), "ooooonnN");
     Ok(())
@@ -104,7 +104,7 @@ fn calls(rt: &HostRuntime, kind: Kind) -> Result<String, Fail> {
 fn what_is_stored_is_synced_before_it_is_named(rt: HostRuntime) -> Result<(), Fail> {
     assert_eq!(rt;
         calls(&rt, Kind::Slots)?.as_str(),
-        " sync replica.gate sync . sync replica.0 write replica.1 write replica.1 sync replica.1 write replica.gate sync replica.gate"
+        " write replica.gate sync replica.gate sync . sync replica.0 write replica.1 write replica.1 sync replica.1 write replica.gate sync replica.gate"
     );
     assert_eq!(rt;
         calls(&rt, Kind::File)?.as_str(),
@@ -151,7 +151,7 @@ fn loads(rt: &HostRuntime, kind: Kind) -> Result<String, Fail> {
 
 #[test]
 fn a_file_that_cannot_be_read_is_not_missing(rt: HostRuntime) -> Result<(), Fail> {
-    assert_eq!(rt; loads(&rt, Kind::Slots)?.as_str(), "????????????????o");
+    assert_eq!(rt; loads(&rt, Kind::Slots)?.as_str(), "??????????????????o");
     assert_eq!(rt; loads(&rt, Kind::File)?.as_str(), "??????o");
     Ok(())
 }

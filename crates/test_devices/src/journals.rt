@@ -1,5 +1,6 @@
 //! What a keeper over a disk keeps, and what is left of it after a stop.
 
+use crate::lossy::LossyDisk;
 use rls_io::{Found, Keeper, StoreError};
 use rls_journal::{DiskKeeper, FileDisk, MemoryDisk};
 use std::alloc::Global;
@@ -11,16 +12,25 @@ fn name_of(bytes: &[u8]) -> &'static str {
     match bytes {
         b"old!" => "old",
         b"new" => "new",
+        b"newer" => "newer",
         _ => "other",
+    }
+}
+
+/// The name of what was found.
+fn name_found(found: Found) -> &'static str {
+    match found {
+        Found::Missing => "missing",
+        Found::Bytes(bytes) => name_of(bytes.as_slice()),
+        Found::Longer => "longer",
     }
 }
 
 /// The name of what is loaded.
 fn load(alloc: Global, keeper: &mut impl Keeper) -> &'static str {
     match keeper.load(alloc, 100) {
-        Ok(Found::Missing) => "missing",
-        Ok(Found::Bytes(bytes)) => name_of(bytes.as_slice()),
-        _ => "other",
+        Ok(found) => name_found(found),
+        Err(_) => "failed",
     }
 }
 
@@ -42,15 +52,15 @@ fn loaded_after(
 fn wanted(calls: u64, filler: u8) -> &'static str {
     match calls {
         0..11 => "missing",
-        11..20 => "old",
-        20 if filler == 0 => "old",
+        11..21 => "old",
+        21 if filler == 0 => "old",
         _ => "new",
     }
 }
 
 /// The first number of calls after which a crash leaves something else than it has to.
 fn fault(alloc: Global, disk: &MemoryDisk, filler: u8) -> Result<Option<u64>, Fail> {
-    for calls in 0..22 {
+    for calls in 0..23 {
         if loaded_after(alloc, disk, calls, filler)? != wanted(calls, filler) {
             return Ok(Some(calls));
         }
@@ -62,7 +72,7 @@ fn fault(alloc: Global, disk: &MemoryDisk, filler: u8) -> Result<Option<u64>, Fa
 fn stores(alloc: Global, keeper: &mut DiskKeeper<MemoryDisk>) -> bool {
     let missing = load(alloc, keeper) == "missing" && keeper.disk().calls() == 2;
     let old = keeper.store(alloc, b"old!").is_ok() && keeper.disk().calls() == 12;
-    let new = keeper.store(alloc, b"new").is_ok() && keeper.disk().calls() == 21;
+    let new = keeper.store(alloc, b"new").is_ok() && keeper.disk().calls() == 22;
     missing && old && new
 }
 
@@ -78,11 +88,11 @@ fn a_stop_leaves_the_old_file_or_the_new(rt: HostRuntime) -> Result<(), Fail> {
     Ok(())
 }
 
-/// Whether the second store fails at the gate after 18 calls.
+/// Whether the second store fails at the gate after 19 calls.
 fn fails_at_gate(alloc: Global, keeper: &mut DiskKeeper<MemoryDisk>) -> bool {
     let old = keeper.store(alloc, b"old!").is_ok();
     let new = keeper.store(alloc, b"new");
-    old && matches!(new, Err(StoreError::Failed)) && keeper.disk().calls() == 18
+    old && matches!(new, Err(StoreError::Failed)) && keeper.disk().calls() == 19
 }
 
 /// Whether the file is as before then, and is stored afterwards.
@@ -95,10 +105,71 @@ fn stores_again(alloc: Global, keeper: &mut DiskKeeper<MemoryDisk>) -> bool {
 #[test]
 fn a_gate_that_fails_leaves_the_old_file(rt: HostRuntime) -> Result<(), Fail> {
     let alloc = rt.alloc();
-    let disk = MemoryDisk::new(alloc, &[], &[], &[], 60, 100, &[17])?;
+    let disk = MemoryDisk::new(alloc, &[], &[], &[], 60, 100, &[18])?;
     let mut keeper = DiskKeeper::new(disk);
     assert!(rt; fails_at_gate(alloc, &mut keeper));
     assert!(rt; stores_again(alloc, &mut keeper));
+    Ok(())
+}
+
+/// The names of the files one of which a stop leaves.
+#[derive(Drop)]
+struct Known {
+    first: &'static str,
+    second: &'static str,
+}
+
+impl Known {
+    fn has(&self, name: &str) -> bool {
+        name == self.first || name == self.second
+    }
+}
+
+/// Loads, and stores these bytes if that is done. Whether what is loaded is one of the files that are known.
+fn goes_on(
+    alloc: Global,
+    keeper: &mut DiskKeeper<LossyDisk>,
+    known: &mut Known,
+    bytes: &[u8],
+) -> bool {
+    let Ok(found) = keeper.load(alloc, 100) else {
+        return true;
+    };
+    let loaded = name_found(found);
+    let is_right = known.has(loaded);
+    known.first = loaded;
+    known.second = name_of(bytes);
+    if keeper.store(alloc, bytes).is_ok() {
+        known.first = known.second;
+    }
+    is_right
+}
+
+/// Whether three files are stored after one another, and a stop leaves one that is known, where this call fails and the machine
+/// stops at that one.
+fn survives(alloc: Global, failing: u64, stop: u64) -> Result<bool, Fail> {
+    let mut keeper = DiskKeeper::new(LossyDisk::new(alloc, failing, stop)?);
+    let mut known = Known {
+        first: "missing",
+        second: "missing",
+    };
+    let mut is_right = true;
+    for bytes in [b"old!".as_slice(), b"new".as_slice(), b"newer".as_slice()] {
+        is_right &= goes_on(alloc, &mut keeper, &mut known, bytes);
+    }
+    let mut left = DiskKeeper::new(keeper.disk().left()?);
+    Ok(is_right && known.has(load(alloc, &mut left)))
+}
+
+#[test]
+fn a_stop_after_a_sync_that_failed_leaves_the_old_file_or_the_new(
+    rt: HostRuntime,
+) -> Result<(), Fail> {
+    for failing in 0..50 {
+        for stop in 0..60 {
+            assert!(rt; survives(rt.alloc(), failing, stop)?);
+        }
+    }
     Ok(())
 }
 

@@ -5,3 +5,5 @@
 mod devices;
 #[cfg(test)]
 mod journals;
+#[cfg(test)]
+mod lossy;

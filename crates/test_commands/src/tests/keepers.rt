@@ -138,7 +138,8 @@ const KEPT: &[(u64, &[u8])] = &[
     (5, b"old!"),
     (6, b"old!"),
     (7, b"old!"),
-    (8, b"new"),
+    (8, b"old!"),
+    (9, b"new"),
 ];
 
 #[test]
