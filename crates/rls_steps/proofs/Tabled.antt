@@ -9,8 +9,36 @@ use Rattle.rls_seen.specs.Seen.{Seen, idents_over, text_over}
 use Rattle.rls_steps.specs.Marks.{Mark, marks, Cut}
 use Rattle.rls_steps.specs.Labelled.{Names, label_of, mark_by, mark, marked_by, labels_in, label_at, left_of, cut_piece}
 use Rattle.rls_steps.specs.Recorded.{held_by}
-use Rattle.rls_steps.specs.Tables.{given_labels, label_there, left_there}
+use Rattle.rls_steps.specs.Tables.{given_labels, left_in}
 use Rattle.rls_steps.proofs.Tabling.{get_drop, get_take}
+
+-- ---- labels where there are some
+
+-- the label at a place
+abbrev pub label_there : Option (Option ℕ) → Option ℕ
+label_there None = None
+label_there (Some o) = o
+
+-- the first one, but for the front of the text
+abbrev pub left_there : ℕ → List (Option ℕ) → Option ℕ
+left_there zero os = None
+left_there (suc k) os = label_there (slice_get os 0)
+
+all_given : (ls : List ℕ) → given_labels (map Some ls) ≡ ls
+all_given [] = refl
+all_given (l ∷ ls) = ap (λ ms. l ∷ ms) (all_given ls)
+
+pub part_given : (n k : ℕ) (ls : List ℕ) → given_labels (take n (drop k (map Some ls))) ≡ take n (drop k ls)
+part_given n k ls = ap given_labels (sym (take_map Some n (drop k ls) ∙ ap (take n) (drop_map Some k ls))) ∙ all_given (take n (drop k ls))
+
+pub one_given : (ls : List ℕ) (k : ℕ) → label_there (slice_get (map Some ls) k) ≡ slice_get ls k
+one_given [] k = refl
+one_given (l ∷ ls) zero = refl
+one_given (l ∷ ls) (suc k) = one_given ls k
+
+pub left_given : (at : ℕ) (ls : List ℕ) → left_there at (map Some ls) ≡ left_in at ls
+left_given zero ls = refl
+left_given (suc k) ls = one_given ls 0
 
 -- ---- marks
 

@@ -68,14 +68,6 @@ part_length (suc k) n (x ∷ xs) h = part_length k n xs (omega (arith, h))
 pub table_length : (xs : List (List Tuple)) (from count : ℕ) (names : Names) (os : List (Option ℕ)) → from + count ≤ length xs → os ≡ map (label_of names) (take count (drop from xs)) → length os ≡ count
 table_length xs from count names os w e = ap length e ∙ (length-map (take count (drop from xs)) (label_of names) ∙ sym (part_length from count xs w))
 
-pub table_at : (xs : List (List Tuple)) (os : List (Option ℕ)) (i : ℕ) (f : List Tuple → Option ℕ) → i < length os → os ≡ map f xs → get_or os i None ≡ f (get_or xs i [])
-table_at xs os i f h e = ap (λ (ps : List (Option ℕ)). get_or ps i None) e ∙ go xs i (let l = length-map xs f in let k = ap length e in omega (arith, h, l, k))
-  where
-    go : (ys : List (List Tuple)) (j : ℕ) → j < length ys → get_or (map f ys) j None ≡ f (get_or ys j [])
-    go [] j h = absurd (omega (arith, h))
-    go (y ∷ ys) zero h = refl
-    go (y ∷ ys) (suc j) h = go ys j (omega (arith, h))
-
 -- one more element of a part of a list
 pub mapped_next : {A B : Type 0} (f : A → B) (xs : List A) (from i : ℕ) (x : A) (y : B) (old new : List B) → slice_get xs (from + i) ≡ Some x → y ≡ f x → old ≡ map f (take i (drop from xs)) → new ≡ old ++ y ∷ [] → new ≡ map f (take (i + 1) (drop from xs))
 mapped_next f xs from i x y old new g e o n =

@@ -7,12 +7,7 @@ given_labels [] = []
 given_labels (None ∷ os) = given_labels os
 given_labels (Some n ∷ os) = n ∷ given_labels os
 
--- the label at a place
-abbrev pub label_there : Option (Option ℕ) → Option ℕ
-label_there None = None
-label_there (Some o) = o
-
 -- the first one, but for the front of the text
-abbrev pub left_there : ℕ → List (Option ℕ) → Option ℕ
-left_there zero os = None
-left_there (suc k) os = label_there (slice_get os 0)
+abbrev pub left_in : ℕ → List ℕ → Option ℕ
+left_in zero ls = None
+left_in (suc k) ls = slice_get ls 0

@@ -4,13 +4,13 @@ ghost use Rattle.std.specs.Prelude.{◌≡◌, ◌≤◌, ◌<◌, ◌+◌, ◌-
 ghost use Rattle.rls_ident.specs.declared.tuple.Tuple.{Tuple};
 ghost use Rattle.rls_runs.specs.Runs.{run_idents};
 ghost use Rattle.rls_seen.specs.Over.{placed_over};
-ghost use Rattle.rls_seen.specs.Seen.{idents_over};
+ghost use Rattle.rls_seen.specs.Seen.{Seen, idents_over};
 ghost use Rattle.rls_steps.specs.declared.piece.Piece.TheVariants.{Cut};
 ghost use Rattle.rls_steps.specs.Labelled.{label_of, label_all, new_label, ready_over, cut_piece, inserted_by};
-ghost use Rattle.rls_steps.specs.Tables.{label_there, left_there, given_labels};
+ghost use Rattle.rls_steps.specs.Tables.{left_in};
 ghost use Rattle.rls_steps.specs.Recorded.{held_by};
 
-use crate::names::Names;
+use crate::names::{Key, Names};
 use crate::piece::{Labels, Piece};
 use rls_ident::{EpochName, Ident, rely};
 use rls_ops::{Body, Op};
@@ -18,70 +18,51 @@ use rls_replica::Replica;
 use rls_runs::{Run, Runs, Text};
 use std::alloc::{AllocError, Global};
 
-/// The labels of the characters from a place on, where they have any. It costs a search in the text and one among the names for each.
-pub(crate) fn labels_of(
-    replica: &Replica,
-    names: &Names,
-    from: u64,
-    count: u64,
-) -> Result<Vec<Option<u64>>, AllocError>
-    requires places { from + count ≤ length replica.now.text }
-    ensures labels { IfOk result (λ ls. ls.items ≡ map (label_of (reverse names.now)) (take count (drop from (idents_over replica.now)))) }
-{
-    rely!(replica.sane());
-    let mut labels = Vec::with_capacity(names.alloc(), count as usize)?;
-    'places: for i in 0..count {
-        let ident = replica.ident_at(from + i)?;
-        labels.push(names.label_of(ident))?;
-    }
-    Ok(labels)
-}
-
-/// Gives a label to each character from a place on that has none.
+/// Gives a label to each character from a place on that has none, and answers the labels of all of them. It costs a search in the text and
+/// one among the names for each.
 pub(crate) fn give(
     replica: &Replica,
     names: &mut Names,
     next: &mut u64,
     from: u64,
-    labels: &Vec<Option<u64>>,
-) -> Result<(), AllocError>
-    requires places { from + length labels.now.items ≤ length replica.now.text }
-    requires labels { labels.now.items ≡ map (label_of (reverse names.old)) (take (length labels.now.items) (drop from (idents_over replica.now))) }
-    ensures ok { OnOk result (held_by replica.now next.new names.new ≡ label_all (held_by replica.now next.old names.old) (take (length labels.now.items) (drop from (idents_over replica.now)))) }
+    count: u64,
+) -> Result<Vec<u64>, AllocError>
+    requires places { from + count ≤ length replica.now.text }
+    ensures ok { OnOk result (held_by replica.now next.new names.new ≡ label_all (held_by replica.now next.old names.old) (take count (drop from (idents_over replica.now)))) }
+    ensures labels { IfOk result (λ ls. map Some ls.items ≡ map (label_of (reverse names.new)) (take count (drop from (idents_over replica.now)))) }
     ensures front { take (length names.old) names.new ≡ names.old }
 {
     rely!(replica.sane());
-    'labels: for i in 0..labels.len() {
-        give_one(replica, names, next, from + i as u64, labels[i])?;
+    let mut labels = Vec::with_capacity(names.alloc(), count as usize)?;
+    'labels: for i in 0..count {
+        let ident = replica.ident_at(from + i)?;
+        let label = give_one(ident, names, next)?;
+        labels.push(label)?;
     }
-    Ok(())
+    Ok(labels)
 }
 
-// Gives the character at a place a label, unless it has this one.
-fn give_one(
-    replica: &Replica,
-    names: &mut Names,
-    next: &mut u64,
-    at: u64,
-    label: Option<u64>,
-) -> Result<(), AllocError>
-    requires place { at < length replica.now.text }
-    ensures given { OnOk result ((x : List Tuple) → slice_get (idents_over replica.now) at ≡ Some x → held_by replica.now next.new names.new ≡ new_label label (held_by replica.now next.old names.old) x) }
+// The label of an identifier. If it had none, it gets the next one.
+fn give_one(ident: Ident, names: &mut Names, next: &mut u64) -> Result<u64, AllocError>
+    ensures given { OnOk result ((s : Seen) → held_by s next.new names.new ≡ new_label (label_of (reverse names.old) ident) (held_by s next.old names.old) ident) }
+    ensures label { IfOk result (λ l. label_of (reverse names.new) ident ≡ Some l) }
     ensures front { take (length names.old) names.new ≡ names.old }
 {
-    match label {
-        Some(_) => Ok(()),
+    let key = Key(ident);
+    match names.label_of(&key) {
+        Some(label) => Ok(label),
         None => {
-            let ident = replica.ident_at(at)?;
-            name(ident, names, next)
+            let label = name(key.0, names, next)?;
+            Ok(label)
         }
     }
 }
 
-// One more name.
-fn name(ident: Ident, names: &mut Names, next: &mut u64) -> Result<(), AllocError>
+// One more name, and its label.
+fn name(ident: Ident, names: &mut Names, next: &mut u64) -> Result<u64, AllocError>
     ensures names { OnOk result (names.new ≡ names.old ++ (ident, next.old) ∷ []) }
     ensures next { OnOk result (next.new ≡ next.old + 1) }
+    ensures label { IfOk result (λ l. l ≡ next.old) }
     ensures stay { OnErr result (names.new ≡ names.old) }
     ensures err { OnErr result (next.new ≡ next.old) }
 {
@@ -91,7 +72,7 @@ fn name(ident: Ident, names: &mut Names, next: &mut u64) -> Result<(), AllocErro
     };
     names.push(ident, label)?;
     *next = more;
-    Ok(())
+    Ok(label)
 }
 
 /// Gives labels to the characters of a range and to its neighbours, and answers the piece that its deletion leaves.
@@ -110,9 +91,7 @@ pub(crate) fn ready(
     let total = replica.total();
     let from = before(at);
     let many = near(total - from, count);
-    let old = labels_of(replica, names, from, many)?;
-    give(replica, names, next, from, &old)?;
-    let labels = labels_of(replica, names, from, many)?;
+    let labels = give(replica, names, next, from, many)?;
     let text = replica.text_of(at, count)?;
     match piece_of(&labels, from, at, count, text) {
         Err(_) => Err(AllocError),
@@ -143,7 +122,7 @@ fn near(rest: u64, count: u64) -> u64
 
 // The piece of a range, where these are the labels of its characters and of its neighbours.
 fn piece_of(
-    labels: &Vec<Option<u64>>,
+    labels: &Vec<u64>,
     from: u64,
     at: u64,
     count: u64,
@@ -151,60 +130,27 @@ fn piece_of(
 ) -> Result<Piece, AllocError>
     requires from { from ≤ at }
     requires labels { (at - from) + count ≤ length labels.now.items }
-    ensures piece { IfOk result (λ p. p ≡ Cut (given_labels (take count (drop (at - from) labels.now.items))) text (left_there at labels.now.items) (label_there (slice_get labels.now.items ((at - from) + count)))) }
+    ensures piece { IfOk result (λ p. p ≡ Cut (take count (drop (at - from) labels.now.items)) text (left_in at labels.now.items) (slice_get labels.now.items ((at - from) + count))) }
 {
     let skip = (at - from) as usize;
+    let (_, behind) = labels.split_at(skip);
+    let (own, _) = behind.split_at(count as usize);
     Ok(Piece::Cut {
-        labels: Labels::from_vec(known(labels, skip, count as usize)?),
+        labels: Labels::from_vec(Vec::from_slice(*labels.allocator(), own)?),
         text,
         left: left(labels, at),
-        right: there(labels, skip + count as usize),
+        right: labels.get(skip + count as usize).copied(),
     })
 }
 
-// The labels within a range.
-fn known(labels: &Vec<Option<u64>>, from: usize, count: usize) -> Result<Vec<u64>, AllocError>
-    requires places { from + count ≤ length labels.now.items }
-    ensures known { IfOk result (λ ns. ns.items ≡ given_labels (take count (drop from labels.now.items))) }
-{
-    let mut numbers = Vec::new(*labels.allocator());
-    'places: for i in 0..count {
-        push_known(&mut numbers, labels[from + i])?;
-    }
-    Ok(numbers)
-}
-
-/// One more label, if it is one.
-pub(crate) fn push_known(numbers: &mut Vec<u64>, label: Option<u64>) -> Result<(), AllocError>
-    ensures ok { OnOk result (numbers.new.items ≡ numbers.old.items ++ given_labels (label ∷ [])) }
-{
-    match label {
-        None => Ok(()),
-        Some(label) => {
-            numbers.push(label)?;
-            Ok(())
-        }
-    }
-}
-
 // The first label, but for the front of the text.
-fn left(labels: &Vec<Option<u64>>, at: u64) -> Option<u64>
-    ensures left { result ≡ left_there at labels.now.items }
+fn left(labels: &[u64], at: u64) -> Option<u64>
+    ensures left { result ≡ left_in at labels.now }
 {
     if at == 0 {
         return None;
     }
-    there(labels, 0)
-}
-
-// The label at a place, if there is one.
-fn there(labels: &Vec<Option<u64>>, i: usize) -> Option<u64>
-    ensures there { result ≡ label_there (slice_get labels.now.items i) }
-{
-    if i < labels.len() {
-        return labels[i];
-    }
-    None
+    labels.first().copied()
 }
 
 /// Names the characters that an operation inserts.

@@ -20,7 +20,7 @@ use std::marker::Model;
 
 /// An identifier, as it is looked up.
 #[derive(Drop)]
-pub(crate) struct Key(Ident);
+pub(crate) struct Key(pub(crate) Ident);
 
 impl PartialEq for Key {
     ghost eq = { λ a b. ident_eq a.0 b.0 };
@@ -122,11 +122,10 @@ impl Names {
     }
 
     // The label of an identifier, if it has one. It costs a search.
-    pub(crate) fn label_of(&self, ident: Ident) -> Option<u64>
-        ensures label { result ≡ label_of (reverse self.now) ident }
+    pub(crate) fn label_of(&self, key: &Key) -> Option<u64>
+        ensures label { result ≡ label_of (reverse self.now) key.now.0 }
     {
-        let key = Key(ident);
-        self.labels.get(&key).copied()
+        self.labels.get(key).copied()
     }
 
     // The place of a label's newest name, if it has one. It costs a search.

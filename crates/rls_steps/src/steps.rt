@@ -222,8 +222,8 @@ impl Steps {
     /// Performs an edit as `Replica::edit` does. An insertion and a deletion are steps of the open group, and what could be redone
     /// is forgotten. After an error all is as before, but that everything may be in the greatest epoch.
     ///
-    /// It costs what `Replica::edit` does. An insertion costs a search among the names for each of its characters, and a deletion two
-    /// searches in the text and among the names for each of its characters and for both its neighbours. After a rename everything is
+    /// It costs what `Replica::edit` does. An insertion costs a search among the names for each of its characters, and a deletion a
+    /// search in the text and one among the names for each of its characters and for both its neighbours. After a rename everything is
     /// translated first, as by `settle`.
     ///
     /// # Errors

@@ -4,9 +4,9 @@ ghost use Rattle.std.specs.Prelude.{◌≡◌, ◌<◌, ◌++◌, ◌∷◌, [],
 ghost use Rattle.std.specs.List.Sorted.{IsNonDecreasing};
 ghost use Rattle.rls_ident.specs.declared.tuple.Tuple.{Tuple};
 ghost use Rattle.rls_seen.specs.Seen.{idents_over};
+ghost use Rattle.rls_steps.specs.Tables.{given_labels};
 ghost use Rattle.rls_steps.specs.Sweeping.{piece_labels, step_labels, is_needed, is_newest, is_kept, kept_names};
 
-use crate::labelling::push_known;
 use crate::names::{Name, Names};
 use crate::piece::{Piece, Step};
 use rls_replica::Replica;
@@ -68,6 +68,19 @@ fn push_piece(labels: &mut Vec<u64>, piece: &Piece) -> Result<(), AllocError>
             labels.extend_from_slice(more.as_slice())?;
             push_known(labels, *left)?;
             push_known(labels, *right)?;
+            Ok(())
+        }
+    }
+}
+
+// One more label, if it is one.
+fn push_known(labels: &mut Vec<u64>, label: Option<u64>) -> Result<(), AllocError>
+    ensures ok { OnOk result (labels.new.items ≡ labels.old.items ++ given_labels (label ∷ [])) }
+{
+    match label {
+        None => Ok(()),
+        Some(label) => {
+            labels.push(label)?;
             Ok(())
         }
     }
