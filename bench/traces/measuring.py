@@ -23,8 +23,8 @@ class Bench:
         self.node = shutil.which("node")
         if self.node and subprocess.run([self.node, "-e", "require('yjs')"], env={**os.environ, **NODE}, capture_output=True).returncode:
             self.node = None
-        # What was measured, for --json.
-        self.rows = []
+        # What was measured, for --json. Without seconds, if the machine does other work.
+        self.rows, self.is_timed = [], True
 
     # --- Running
 
@@ -76,6 +76,8 @@ class Bench:
     # --- Telling
 
     def note(self, **row):
+        if not self.is_timed:
+            row.pop("seconds", None)
         self.rows.append(row)
 
 
