@@ -1,7 +1,6 @@
 #!/usr/bin/env python3
 """Writes a message to member 0 of a group of three, group 7, that costs as much as it can: NAME N > MESSAGE. docs/FORMATS.md tells the
-bytes. Member 1 has made all operations of a message but the last ones of `gone`, `same`, `each`, `again`, `wrong_epoch` and
-`old_deletions` and those that are refused in `refused` and `refused_in_turn`, which are member 2's."""
+bytes. Member 1 has made the operations of a message, and member 2 those that meet them or are refused."""
 import struct
 import sys
 
@@ -17,6 +16,11 @@ def u32(*numbers):
 def ident(seq, offset, pos=MIDDLE, replica=1):
     """An identifier of one tuple."""
     return u32(1) + b"\1" + u32(pos, replica, seq) + struct.pack(">i", offset)
+
+
+def between(offset, replica, seq):
+    """The first identifier of a run that stands between two identifiers of the first insertion."""
+    return u32(2) + b"\1" + u32(MIDDLE, 1, 1) + struct.pack(">i", offset) + b"\1" + u32(MIDDLE, replica, seq) + struct.pack(">i", 0)
 
 
 def runs(*parts):
@@ -115,6 +119,18 @@ def again(n):
     return [text(10_000), *alone, *[op(2, 1, (0, 1, 0), deletion((0, 10_001)))] * n]
 
 
+def refused_standing(n):
+    """A run of n characters with another character after each; n operations that are refused for the last target, whose others are there."""
+    others = [later(k + 2, insertion(between(k, 1, k + 2), b"b")) for k in range(n)]
+    return [text(n), *others, *[op(2, 1, (0, 1, 0), deletion((0, n + 1)))] * n]
+
+
+def refused_gone(n):
+    """n deletions of one character each; n operations that are refused for the last target, whose others are gone."""
+    alone = [later(k + 2, deletion((k, 1))) for k in range(n)]
+    return [text(n), *alone, *[op(2, 1, (0, 1, 0), deletion((0, n + 1)))] * n]
+
+
 def refused(n):
     """After n deletions of one character each come 2n operations that are refused for their one target: in turn one that nobody
     inserted, and one that differs from a deleted one only in its position."""
@@ -129,24 +145,75 @@ def refused_in_turn(n):
     return [text(n), *[one for pair in pairs for one in pair]]
 
 
-def small_renames(n):
-    """n runs, and 20 renames of one identifier: each makes all others longer."""
-    ops = [later(k, insertion(ident(k, 0, pos=1000 * k), b"a")) for k in range(1, n + 1)]
-    epoch = ORIGIN
-    for k in range(n + 1, n + 21):
+def apart(n):
+    """n runs of one character, each an insertion of its own."""
+    return [later(k, insertion(ident(k, 0, pos=1000 * k), b"a")) for k in range(1, n + 1)]
+
+
+def opened(replica, seq):
+    """The name of the epoch that this rename opens."""
+    return b"\1" + u32(replica, seq)
+
+
+def renamed_one(n, count):
+    """n runs, and renames of one identifier: each makes all others longer."""
+    ops, epoch = apart(n), ORIGIN
+    for k in range(n + 1, n + 1 + count):
         ops.append(later(k, b"\2" + u32(1) + ident(1, 0, pos=1) + u32(1), epoch))
-        epoch = b"\1" + u32(1, k)
+        epoch = opened(1, k)
+    return ops
+
+
+def small_renames(n):
+    return renamed_one(n, 20)
+
+
+def wide(n):
+    return renamed_one(1000, n)
+
+
+def chain_of(author, first, count, former, length):
+    """So many renames by one member, which knows of no others, from this number on: the first is of these runs, told as bytes, and of so
+    many identifiers; each other is of the one before."""
+    ops, epoch = [], ORIGIN
+    for k in range(first, first + count):
+        context = (0, k - 1, 0) if author == 1 else (0, 1, k - 1)
+        ops.append(op(author, k, context, b"\2" + former, epoch))
+        epoch, former = opened(author, k), u32(1) + ident(k, 0, replica=author) + u32(length)
     return ops
 
 
 def renames(n):
     """A text of one run, and n renames of it: the operations, and the epoch that the last one opens."""
-    ops, epoch = [text(2 * n)], ORIGIN
-    first = ident(1, 0)
-    for k in range(2, n + 2):
-        ops.append(later(k, b"\2" + u32(1) + first + u32(2 * n), epoch))
-        epoch, first = b"\1" + u32(1, k), ident(k, 0)
-    return ops, epoch
+    return [text(2 * n), *chain_of(1, 2, n, runs((0, 2 * n)), 2 * n)], opened(1, n + 1)
+
+
+def two_chains(n):
+    """Two members rename n times each, alone; the renames that open the greater epochs come first."""
+    return [text(2), *chain_of(2, 1, n, runs((0, 2)), 2), *chain_of(1, 2, n, runs((0, 2)), 2)]
+
+
+def two_chains_lesser_first(n):
+    return [text(2), *chain_of(1, 2, n, runs((0, 2)), 2), *chain_of(2, 1, n, runs((0, 2)), 2)]
+
+
+def two_chains_in_turn(n):
+    pairs = zip(chain_of(2, 1, n, runs((0, 2)), 2), chain_of(1, 2, n, runs((0, 2)), 2))
+    return [text(2), *[one for pair in pairs for one in pair]]
+
+
+def rename_each(n):
+    """In turn a rename and an insertion, whose author knows of no rename, between two characters: n times."""
+    renamings = chain_of(1, 2, n, runs((0, 2 * n)), 2 * n)
+    pairs = [(renaming, op(2, k + 1, (0, 1, k), insertion(between(2 * k, 2, k + 1), b"b"))) for k, renaming in enumerate(renamings)]
+    return [text(2 * n), *[one for pair in pairs for one in pair]]
+
+
+def gone_deep(n):
+    """n renames, n deletions of one character each, and a deletion of the same whose author knew of none of them."""
+    ops, epoch = renames(n)
+    alone = [later(n + 2 + k, b"\1" + u32(1) + ident(n + 1, 2 * k) + u32(1), epoch) for k in range(n)]
+    return [*ops, *alone, op(2, 1, (0, 1, 0), deletion(*[(2 * k, 1) for k in range(n)]))]
 
 
 def wrong_epoch(n):
@@ -161,9 +228,22 @@ def old_deletions(n):
     return [*ops, *[op(2, k + 1, (0, 1, k), deletion((2 * k, 1))) for k in range(n)]]
 
 
+def old_deletions_apart(n):
+    """The same, each in another run."""
+    former = u32(n) + b"".join(ident(k, 0, pos=1000 * k) + u32(1) for k in range(1, n + 1))
+    old = [op(2, k, (0, n, k - 1), b"\1" + u32(1) + ident(k, 0, pos=1000 * k) + u32(1)) for k in range(1, n + 1)]
+    return [*apart(n), *chain_of(1, n + 1, n, former, n), *old]
+
+
 def scattered(n):
     """20 deletions of two characters that aren't adjacent, out of n."""
     return [text(n), *[later(k + 2, deletion((10 * k, 1), (10 * k + 5, 1))) for k in range(20)]]
 
 
-sys.stdout.buffer.write(message(globals()[sys.argv[1]](int(sys.argv[2]))))
+def scattered_each(n):
+    """n such deletions, out of 20 n characters."""
+    return [text(20 * n), *[later(k + 2, deletion((10 * k, 1), (10 * k + 5, 1))) for k in range(n)]]
+
+
+if __name__ == "__main__":
+    sys.stdout.buffer.write(message(globals()[sys.argv[1]](int(sys.argv[2]))))
