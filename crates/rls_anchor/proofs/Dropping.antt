@@ -5,12 +5,13 @@ use Rattle.rls_ident.specs.declared.epoch_name.EpochName.{EpochName}
 use Rattle.rls_rename.proofs.Growth.{translate_same}
 use Rattle.rls_rename.proofs.Kept.{greatest_kept}
 use Rattle.rls_rename.proofs.Paths.{translate_ident}
+use Rattle.rls_runs.specs.Places.{below_count}
 use Rattle.rls_seen.specs.Kept.{dropped}
 use Rattle.rls_seen.specs.Seen.{greatest_over, idents_over}
 use Rattle.rls_seen.specs.Over.{placed_over}
 use Rattle.rls_seen.proofs.Dropped.{greatest_left, dropped_sane}
 use Rattle.rls_replica.specs.Names.{keeps}
-use Rattle.rls_anchor.specs.declared.anchor.Anchor.TheVariants.{Beginning, After}
+use Rattle.rls_anchor.specs.declared.anchor.Anchor.TheVariants.{Beginning, After, Before}
 use Rattle.rls_anchor.specs.Anchors.{count_upto, place_over}
 use Rattle.rls_anchor.specs.AnchorLaws.{SettledLasts}
 
@@ -23,5 +24,13 @@ settled_lasts s (After e x) sane i =
     let y = placed_over s e x in
     let same = translate_same d.epochs.nodes (greatest_over d) y (dropped_sane s sane).epochs.nodes (translate_ident s.epochs.nodes e (greatest_over s) x sane.epochs.nodes i) in (
       ap (count_upto (idents_over s)) (subst (λ (h : EpochName). placed_over d h y ≡ y) g same),
+      subst (λ h. keeps d h ≡ true) g (greatest_kept d.epochs.top d.epochs.nodes),
+    )
+settled_lasts s (Before e x) sane i =
+    let d = dropped s in
+    let g = greatest_left s sane in
+    let y = placed_over s e x in
+    let same = translate_same d.epochs.nodes (greatest_over d) y (dropped_sane s sane).epochs.nodes (translate_ident s.epochs.nodes e (greatest_over s) x sane.epochs.nodes i) in (
+      ap (below_count (idents_over s)) (subst (λ (h : EpochName). placed_over d h y ≡ y) g same),
       subst (λ h. keeps d h ≡ true) g (greatest_kept d.epochs.top d.epochs.nodes),
     )

@@ -1,14 +1,14 @@
 -- The places of anchors.
-use Rattle.std.proofs.Common.{◌≡◌, ℕ, zero, suc, ◌+◌, ◌-◌, ◌≤◌, ◌<◌, true, false, List, [], ◌∷◌, ◌++◌, map, length, take, drop, refl, sym, ap, ◌∙◌, subst, arith, inl, inr, ⊎_elim}
-use Rattle.std.specs.Prelude.{pos, slice_get, Option, Some, None, nat_lt, if◌then◌else◌}
+use Rattle.std.proofs.Common.{◌≡◌, ℕ, zero, suc, ◌+◌, ◌-◌, ◌≤◌, ◌<◌, Bool, true, false, List, [], ◌∷◌, ◌++◌, map, length, take, drop, refl, sym, ap, ◌∙◌, subst, arith, inl, inr, ⊎_elim}
+use Rattle.std.specs.Prelude.{not, pos, slice_get, Option, Some, None, nat_lt, if◌then◌else◌}
 use Rattle.std.proofs.lemmas.List.{take-append-drop, length-map, length-drop}
 use Rattle.rls_ident.specs.declared.tuple.Tuple.{Tuple}
 use Rattle.rls_ident.specs.declared.epoch_name.EpochName.{EpochName}
 use Rattle.rls_ident.specs.declared.epoch_name.EpochName.TheVariants.{Origin}
-use Rattle.rls_ident.specs.Identifiers.{ident_eq, shifted}
+use Rattle.rls_ident.specs.Identifiers.{ident_eq, ident_lt, shifted}
 use Rattle.rls_ident.specs.Lists.{IsIn}
 use Rattle.rls_ident.proofs.Lists.{Lt, lt_irrefl, lt_trans}
-use Rattle.rls_ident.proofs.Members.{in_map, map_in, in_left, in_right, in_split, get_in, in_any, bool_cases, lt_is, not_lt_is, not_lt_test}
+use Rattle.rls_ident.proofs.Members.{in_map, map_in, in_left, in_right, in_split, get_in, any_in, in_any, bool_cases, lt_is, not_lt_is, not_lt_test}
 use Rattle.rls_ident.proofs.Ends.{eq_same}
 use Rattle.rls_ident.proofs.Tuples.{tuples}
 use Rattle.rls_rename.specs.Tree.{is_kept}
@@ -17,6 +17,8 @@ use Rattle.rls_rename.proofs.Kept.{greatest_kept}
 use Rattle.rls_rename.proofs.Paths.{translate_ident, translate_translate}
 use Rattle.rls_rename.proofs.SameNodes.{translate_within}
 use Rattle.rls_runs.specs.Entries.{has_ident}
+use Rattle.rls_runs.specs.Places.{below_count}
+use Rattle.rls_runs.proofs.Gaps.{at_same}
 use Rattle.rls_runs.proofs.RunOrder.{AllMore, Rising, rising_of}
 use Rattle.rls_runs.proofs.Sorted.{Entry, IsBelow, Rises, rises_of_increasing}
 use Rattle.rls_model.specs.declared.edit.Edit.TheVariants as edits
@@ -33,6 +35,8 @@ use Rattle.rls_seen.specs.Seen.{Seen, idents_over, greatest_over}
 use Rattle.rls_seen.specs.Over.{accepted, placed_over}
 use Rattle.rls_seen.specs.Edits.{made_over, edited}
 use Rattle.rls_seen.specs.Sane.{IsSane}
+use Rattle.rls_seen.specs.Stands.{StandsFor}
+use Rattle.rls_model.specs.Receiving.{State}
 use Rattle.rls_seen.proofs.Accepting.{placed_alike}
 use Rattle.rls_seen.proofs.Alike.{greatest_alike}
 use Rattle.rls_seen.proofs.EditedText.{inserted_entries, deleted_entries, delete_place, insert_place, first_made, cross, rises_right, take_drop_drop}
@@ -40,10 +44,10 @@ use Rattle.rls_seen.proofs.Editing.{idents_alike}
 use Rattle.rls_seen.proofs.Making.{edited_sane}
 use Rattle.rls_seen.proofs.TextLists.{ident_in}
 use Rattle.rls_anchor.specs.declared.anchor.Anchor.{Anchor}
-use Rattle.rls_anchor.specs.declared.anchor.Anchor.TheVariants.{Beginning, After}
-use Rattle.rls_anchor.specs.Anchors.{count_upto, place, place_over, anchor_over, upto, there_in, behind}
-use Rattle.rls_anchor.specs.AnchorLaws.{IsAnchor, IsAnchored, MadeThere, SettledAlike, SettledThere, MovedThere, PlaceAlike, SamePlace, OwnInsertion, OwnDeletion}
-use Rattle.rls_anchor.proofs.Counting.{upto_append, upto_all, upto_none, upto_some, upto_few}
+use Rattle.rls_anchor.specs.declared.anchor.Anchor.TheVariants.{Beginning, After, Before}
+use Rattle.rls_anchor.specs.Anchors.{count_before, count_upto, place, place_over, anchor_before_over, anchor_over, behind, in_front, settled_over}
+use Rattle.rls_anchor.specs.AnchorLaws.{IsAnchor, IsAnchored, MadeThere, SettledAlike, SettledThere, MovedThere, PlaceAlike, SamePlace, OwnInsertion, OwnInsertionBefore, OwnDeletion}
+use Rattle.rls_anchor.proofs.Counting.{IsClosed, below_closed, below_is, count_of, of_all, of_append, of_few, of_some, upto_append, upto_all, upto_closed, upto_few, upto_is, upto_none, upto_some}
 
 length_front : {A : Type 0} (n : ℕ) (xs : List A) → n ≤ length xs → length (take n xs) ≡ n
 length_front zero xs h = refl
@@ -99,16 +103,56 @@ made_kept s (suc k) = go (slice_get (idents_over s) k)
     go None = tt
     go (Some x) = greatest_kept s.epochs.top s.epochs.nodes
 
-pub made_there : MadeThere
+-- and that of one which belongs to the character after it
+pub before_kept : (s : Seen) (at : ℕ) → IsAnchored s (anchor_before_over s at)
+before_kept s at = go (slice_get (idents_over s) at)
+  where
+    go : (x : Option (List Tuple)) → IsAnchored s (in_front (greatest_over s) x (anchor_over s at))
+    go None = made_kept s at
+    go (Some x) = greatest_kept s.epochs.top s.epochs.nodes
+
+pub made_at : (s : Seen) (at : ℕ) → IsSane s → at ≤ length s.text → place_over s (anchor_over s at) ≡ at
 unfolding place_over
-made_there s zero sane h = refl
-made_there s (suc k) sane h =
+made_at s zero sane h = refl
+made_at s (suc k) sane h =
     let xs = idents_over s in
     let l = length-map s.text (λ (y : Entry). y.0) in
     let g = get_there xs k (omega arith) in
     let i = ident_in xs sane.idents g.0 (get_in xs k g.0 g.1) in
     let same = translate_same s.epochs.nodes (greatest_over s) g.0 sane.epochs.nodes i in
-    ap (λ o. upto xs (there_in (placed_over s) (behind (greatest_over s) o))) g.1 ∙ (ap (count_upto xs) same ∙ upto_at xs k g.0 (rising_of xs sane.idents.1) g.1)
+    ap (λ o. place_over s (behind (greatest_over s) o)) g.1 ∙ (ap (count_upto xs) same ∙ upto_at xs k g.0 (rising_of xs sane.idents.1) g.1)
+
+none_there : {A : Type 0} (xs : List A) (k : ℕ) → length xs ≤ k → slice_get xs k ≡ None
+none_there [] k h = refl
+none_there (x ∷ xs) zero h = absurd (omega arith)
+none_there (x ∷ xs) (suc k) h = none_there xs k (omega arith)
+
+pub made_before : (s : Seen) (at : ℕ) → IsSane s → at ≤ length s.text → place_over s (anchor_before_over s at) ≡ at
+unfolding place_over
+made_before s at sane h =
+    bool_cases (nat_lt at (length (idents_over s))) (λ t. inner (lt_is at (length (idents_over s)) t)) (λ t. outer (not_lt_is at (length (idents_over s)) t))
+  where
+    inner : at < length (idents_over s) → place_over s (anchor_before_over s at) ≡ at
+    inner l =
+        let xs = idents_over s in
+        let g = get_there xs at l in
+        let i = ident_in xs sane.idents g.0 (get_in xs at g.0 g.1) in
+        let same = translate_same s.epochs.nodes (greatest_over s) g.0 sane.epochs.nodes i in
+        ap (λ o. place_over s (in_front (greatest_over s) o (anchor_over s at))) g.1 ∙ (ap (below_count xs) same ∙ at_same xs at g.0 (rising_of xs sane.idents.1) g.1)
+
+    outer : length (idents_over s) ≤ at → place_over s (anchor_before_over s at) ≡ at
+    outer l = ap (λ o. place_over s (in_front (greatest_over s) o (anchor_over s at))) (none_there (idents_over s) at l) ∙ made_at s at sane h
+
+-- the one that names the character at a place
+pub before_at : (s : Seen) (at : ℕ) (x : List Tuple) → IsSane s → slice_get (idents_over s) at ≡ Some x → place_over s (Before (greatest_over s) x) ≡ at
+unfolding place_over
+before_at s at x sane h =
+    let xs = idents_over s in
+    let i = ident_in xs sane.idents x (get_in xs at x h) in
+    ap (below_count xs) (translate_same s.epochs.nodes (greatest_over s) x sane.epochs.nodes i) ∙ at_same xs at x (rising_of xs sane.idents.1) h
+
+pub made_there : MadeThere
+made_there s at sane h = (made_at s at sane h, made_before s at sane h)
 
 -- ---- another epoch
 
@@ -116,10 +160,13 @@ pub settled_there : SettledThere
 unfolding place_over
 settled_there s Beginning sane i = refl
 settled_there s (After e x) sane i = ap (count_upto (idents_over s)) (translate_same s.epochs.nodes (greatest_over s) (placed_over s e x) sane.epochs.nodes (translate_ident s.epochs.nodes e (greatest_over s) x sane.epochs.nodes i))
+settled_there s (Before e x) sane i = ap (below_count (idents_over s)) (translate_same s.epochs.nodes (greatest_over s) (placed_over s e x) sane.epochs.nodes (translate_ident s.epochs.nodes e (greatest_over s) x sane.epochs.nodes i))
 
 pub moved_there : MovedThere
 unfolding place_over
-moved_there s e g x sane i k l = ap (count_upto (idents_over s)) (translate_translate s.epochs.nodes e g (greatest_over s) x sane.epochs.nodes i)
+moved_there s g Beginning sane i k l = refl
+moved_there s g (After e x) sane i k l = ap (count_upto (idents_over s)) (translate_translate s.epochs.nodes e g (greatest_over s) x sane.epochs.nodes i)
+moved_there s g (Before e x) sane i k l = ap (below_count (idents_over s)) (translate_translate s.epochs.nodes e g (greatest_over s) x sane.epochs.nodes i)
 
 -- ---- histories
 
@@ -129,11 +176,16 @@ settled_alike s t (After e x) h k = (
   ap (λ g. After g (placed_over s e x)) (greatest_alike s t h) ∙ ap (After (greatest t.history)) (placed_alike s t h e x k),
   greatest_kept s.epochs.top s.epochs.nodes,
 )
+settled_alike s t (Before e x) h k = (
+  ap (λ g. Before g (placed_over s e x)) (greatest_alike s t h) ∙ ap (Before (greatest t.history)) (placed_alike s t h e x k),
+  greatest_kept s.epochs.top s.epochs.nodes,
+)
 
 pub place_alike : PlaceAlike
 unfolding place place_over
 place_alike s t Beginning h k = refl
 place_alike s t (After e x) h k = ap (λ xs. count_upto xs (placed_over s e x)) (idents_alike s t h) ∙ ap (count_upto (idents t.history)) (placed_alike s t h e x k)
+place_alike s t (Before e x) h k = ap (λ xs. below_count xs (placed_over s e x)) (idents_alike s t h) ∙ ap (below_count (idents t.history)) (placed_alike s t h e x k)
 
 same_placed : (G H : History) (e : EpochName) (x : List Tuple) (l : IsLegal G) (m : IsLegal H) → HaveSameOps G H → is_kept Origin (epochs G) e ≡ true
     → translate G e (greatest G) x ≡ translate H e (greatest G) x
@@ -147,6 +199,10 @@ same_place G H (After e x) l m h a b =
     let w = same_ops.law G H l m h in
     ap (λ xs. count_upto xs (translate G e (greatest G) x)) w.2
     ∙ (ap (count_upto (idents H)) (same_placed G H e x l m h a.0) ∙ ap (λ g. count_upto (idents H) (translate H e g x)) w.0)
+same_place G H (Before e x) l m h a b =
+    let w = same_ops.law G H l m h in
+    ap (λ xs. below_count xs (translate G e (greatest G) x)) w.2
+    ∙ (ap (below_count (idents H)) (same_placed G H e x l m h a.0) ∙ ap (λ g. below_count (idents H) (translate H e g x)) w.0)
 
 -- ---- own edits
 
@@ -239,16 +295,19 @@ own_insertion s q cs e x sane i f live =
     ∙ ap (λ c. if nat_lt q (count_upto (idents_over s) z) then count_upto (idents_over s) z + c else count_upto (idents_over s) z) (length-entries (first_made s q (length cs)) cs))))
 
 -- where some of the second part counts, all of the first does
-front_counts : (a b : List Entry) (z : List Tuple) → Rises (a ++ b) → 0 < count_upto (ids b) z → count_upto (ids a) z ≡ length a
-front_counts a b z r h =
+front_counts : (t : List Tuple → Bool) → IsClosed t → (a b : List Entry) → Rises (a ++ b) → 0 < count_of t (ids b) → count_of t (ids a) ≡ length a
+front_counts t closed a b r h =
     let f : Entry → List Tuple = λ y. y.0 in
-    let w = upto_some (ids b) z h in
+    let w = of_some t (ids b) h in
     let v = in_map f w.0 b w.1 in
-    upto_all (ids a) z (λ y u g.
+    of_all t (ids a) (λ y u.
     let x = in_map f y a u in
     let c : IsBelow x.0 v.0 = cross a b r x.0 v.0 x.1 v.1 in
-    w.2 (subst (λ n. Lt tuples z n) v.2 (lt_trans g (subst (λ n. Lt tuples n v.0.0) x.2 c))))
+    closed y w.0 (subst (λ n. Lt tuples y n) v.2 (subst (λ n. Lt tuples n v.0.0) x.2 c)) w.2)
     ∙ length-map a f
+
+two_of : (t : List Tuple → Bool) (a b : List Entry) → count_of t (ids (a ++ b)) ≡ count_of t (ids a) + count_of t (ids b)
+two_of t a b = ap (count_of t) (append_map (λ (y : Entry). y.0) a b) ∙ of_append t (ids a) (ids b)
 
 -- what a deletion of m between a and b leaves, by the three counts
 deleted_count : (q m ca cb cc : ℕ) → ca ≤ q → cb ≤ m → (0 < cb + cc → ca ≡ q) → (0 < cc → cb ≡ m) → let p = ca + (cb + cc) in ca + cc ≡ (if nat_lt q p then (if nat_lt p (q + m) then q else p - m) else p)
@@ -269,10 +328,10 @@ deleted_count q m ca cb cc la lb f g =
     zero_case zero P s t = s refl
     zero_case (suc n) P s t = t (omega arith)
 
-deleted_upto : (es : List Entry) (q m : ℕ) (z : List Tuple) → Rises es → q + m ≤ length es →
-    let p = count_upto (ids es) z in
-    count_upto (ids (take q es ++ drop (q + m) es)) z ≡ (if nat_lt q p then (if nat_lt p (q + m) then q else p - m) else p)
-deleted_upto es q m z r l =
+deleted_of : (t : List Tuple → Bool) → IsClosed t → (es : List Entry) (q m : ℕ) → Rises es → q + m ≤ length es →
+    let p = count_of t (ids es) in
+    count_of t (ids (take q es ++ drop (q + m) es)) ≡ (if nat_lt q p then (if nat_lt p (q + m) then q else p - m) else p)
+deleted_of t closed es q m r l =
     let a = take q es in
     let b = take m (drop q es) in
     let c = drop (q + m) es in
@@ -281,34 +340,83 @@ deleted_upto es q m z r l =
     let la : length a ≡ q = length_front q es (omega arith) in
     let ld : length (drop q es) ≡ length es - q = length-drop q es in
     let lb : length b ≡ m = length_front m (drop q es) (omega arith) in
-    let ca = count_upto (ids a) z in
-    let cb = count_upto (ids b) z in
-    let cc = count_upto (ids c) z in
-    let fa = upto_few (ids a) z in
-    let fb = upto_few (ids b) z in
+    let ca = count_of t (ids a) in
+    let cb = count_of t (ids b) in
+    let cc = count_of t (ids c) in
+    let fa = of_few t (ids a) in
+    let fb = of_few t (ids b) in
     let ma = length-map a (λ (y : Entry). y.0) in
     let mb = length-map b (λ (y : Entry). y.0) in
-    let sum : count_upto (ids es) z ≡ ca + (cb + cc) = ap (λ ys. count_upto (ids ys) z) (sym back) ∙ parts_upto a b c z in
-    let two = two_upto b c z in
-    two_upto a c z
+    let two = two_of t b c in
+    let sum : count_of t (ids es) ≡ ca + (cb + cc) = ap (λ ys. count_of t (ids ys)) (sym back) ∙ (two_of t a (b ++ c) ∙ ap (λ n. ca + n) two) in
+    two_of t a c
     ∙ (deleted_count q m ca cb cc (omega arith) (omega arith)
-    (λ h. front_counts a (b ++ c) z whole (subst (λ n. 0 < n) (sym two) h) ∙ la)
-    (λ h. front_counts b c z (rises_right a (b ++ c) whole) h ∙ lb)
+    (λ h. front_counts t closed a (b ++ c) whole (subst (λ n. 0 < n) (sym two) h) ∙ la)
+    (λ h. front_counts t closed b c (rises_right a (b ++ c) whole) h ∙ lb)
     ∙ ap (λ p. if nat_lt q p then (if nat_lt p (q + m) then q else p - m) else p) (sym sum))
 
 pub own_deletion : OwnDeletion
 unfolding place_over
 own_deletion s q m Beginning sane f = rw (not_lt_test q 0 (omega arith)) refl
 own_deletion s q m (After e x) sane f =
+    let z = placed_over s e x in
     ap (count_upto (idents_over (edited s (edits.Delete q m)))) (placed_delete s q m e x)
-    ∙ (ap (λ es. count_upto (ids es) (placed_over s e x)) (deleted_entries s q m sane)
-    ∙ deleted_upto s.text q m (placed_over s e x) (rises_of_increasing s.text sane.idents.1) (delete_place s q m f).0)
+    ∙ (ap (λ es. count_upto (ids es) z) (deleted_entries s q m sane)
+    ∙ deleted_of (λ y. not (ident_lt z y)) (upto_closed z) s.text q m (rises_of_increasing s.text sane.idents.1) (delete_place s q m f).0)
+own_deletion s q m (Before e x) sane f =
+    let z = placed_over s e x in
+    ap (below_count (idents_over (edited s (edits.Delete q m)))) (placed_delete s q m e x)
+    ∙ (ap (λ es. below_count (ids es) z) (deleted_entries s q m sane)
+    ∙ (below_is (ids (take q s.text ++ drop (q + m) s.text)) z
+    ∙ (deleted_of (λ y. ident_lt y z) (below_closed z) s.text q m (rises_of_increasing s.text sane.idents.1) (delete_place s q m f).0
+    ∙ ap (λ p. if nat_lt q p then (if nat_lt p (q + m) then q else p - m) else p) (sym (below_is (ids s.text) z)))))
 
--- ---- by the identifier in the greatest epoch
+-- ---- an insertion right before
 
-pub place_by : (s : Seen) (a : Anchor) (x : Option (List Tuple)) → x ≡ there_in (placed_over s) a → upto (idents_over s) x ≡ place_over s a
+before_count : (q p all n new l : ℕ) → all ≡ suc p → new ≡ suc n → new ≡ (if nat_lt q all then all + l else all) → n ≡ (if nat_lt p q then p else p + l)
+before_count q p all n new l a b c =
+    bool_cases (nat_lt q all)
+    (λ h. let k = lt_is q all h in let d : new ≡ all + l = c ∙ ap (λ t. if t then all + l else all) h in rw (not_lt_test p q (omega arith)) (omega arith))
+    (λ h. let k = not_lt_is q all h in let d : new ≡ all = c ∙ ap (λ t. if t then all + l else all) h in
+    bool_cases (nat_lt p q) (λ i. rw i (omega arith)) (λ i. let j = not_lt_is p q i in absurd (omega arith)))
+
+-- a live identifier is one more than those below it
+live_upto : (xs : List (List Tuple)) (z : List Tuple) → Rising xs → has_ident xs z ≡ true → count_upto xs z ≡ suc (below_count xs z)
+live_upto xs z r live = upto_is xs z r ∙ ap (λ b. if b then suc (below_count xs z) else below_count xs z) live
+
+still_live : (a m b : List Entry) (z : List Tuple) → has_ident (ids (a ++ b)) z ≡ true → has_ident (ids (a ++ (m ++ b))) z ≡ true
+still_live a m b z live =
+    let f : Entry → List Tuple = λ y. y.0 in
+    let u = in_any (λ y. ident_eq y z) (ids (a ++ b)) live in
+    let v = in_map f u.0 (a ++ b) u.1 in
+    let p : IsIn v.0 (a ++ (m ++ b)) = ⊎_elim (λ h. in_left v.0 a (m ++ b) h) (λ h. in_right v.0 a (m ++ b) (in_right v.0 m b h)) (in_split v.0 a b v.1) in
+    any_in (λ y. ident_eq y z) u.0 (ids (a ++ (m ++ b))) (subst (λ y. IsIn y (ids (a ++ (m ++ b)))) v.2 (map_in f v.0 (a ++ (m ++ b)) p)) u.2
+
+pub own_insertion_before : OwnInsertionBefore
 unfolding place_over
-place_by s a x h = ap (upto (idents_over s)) h
+own_insertion_before s q cs e x sane i f live =
+    let n = edited s (edits.Insert q cs) in
+    let z = placed_over s e x in
+    let a = take q s.text in
+    let b = drop q s.text in
+    let m = entries (first_made s q (length cs)) cs in
+    let back = take-append-drop q s.text in
+    let there = inserted_entries s q cs sane i f in
+    let new : has_ident (idents_over n) z ≡ true = ap (λ es. has_ident (ids es) z) there ∙ still_live a m b z (subst (λ (es : List Entry). has_ident (ids es) z ≡ true) (sym back) live) in
+    ap (below_count (idents_over n)) (placed_insert s q cs e x)
+    ∙ before_count q (below_count (idents_over s) z) (count_upto (idents_over s) z) (below_count (idents_over n) z) (count_upto (idents_over n) z) (length cs)
+    (live_upto (idents_over s) z (rising_of (idents_over s) sane.idents.1) live)
+    (live_upto (idents_over n) z (rising_of (idents_over n) (edited_sane s (edits.Insert q cs) sane i f).idents.1) new)
+    (ap (count_upto (idents_over n)) (sym (placed_insert s q cs e x)) ∙ own_insertion s q cs e x sane i f live)
 
-pub settled_by : (s : Seen) (a : Anchor) (x : Option (List Tuple)) → IsSane s → IsAnchor a → x ≡ there_in (placed_over s) a → place_over s (behind (greatest_over s) x) ≡ place_over s a
-settled_by s a x sane i h = ap (λ y. place_over s (behind (greatest_over s) y)) h ∙ settled_there s a sane i
+-- ---- by the anchor at the greatest epoch
+
+pub place_by : (s : Seen) (a b : Anchor) → b ≡ settled_over s a → count_before (idents_over s) b ≡ place_over s a
+unfolding place_over
+place_by s a b h = ap (count_before (idents_over s)) h
+
+pub settled_by : (s : Seen) (a b : Anchor) → IsSane s → IsAnchor a → b ≡ settled_over s a → place_over s b ≡ place_over s a
+settled_by s a b sane i h = ap (place_over s) h ∙ settled_there s a sane i
+
+pub before_stands : (s : Seen) (t : State) (at : ℕ) (x : List Tuple) → IsSane s → slice_get (idents_over s) at ≡ Some x → StandsFor s t → place t.history (Before (greatest_over s) x) ≡ at
+before_stands s t at x sane h k = sym (place_alike s t (Before (greatest_over s) x) k (greatest_kept s.epochs.top s.epochs.nodes)) ∙ before_at s at x sane h

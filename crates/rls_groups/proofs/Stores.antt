@@ -27,7 +27,7 @@ use Rattle.rls_steps.specs.GroundLaws as steps
 use Rattle.rls_steps.specs.Labelled.{Names}
 use Rattle.rls_session.specs.declared.desk.TheConstants.{KEPT_ENTRIES}
 use Rattle.rls_anchor.specs.declared.anchor.Anchor.{Anchor}
-use Rattle.rls_anchor.specs.declared.anchor.Anchor.TheVariants.{Beginning, After}
+use Rattle.rls_anchor.specs.declared.anchor.Anchor.TheVariants.{Beginning, After, Before}
 use Rattle.rls_anchor.specs.AnchorLaws.{IsAnchored}
 use Rattle.rls_anchor.specs.Anchors as anchors
 use Rattle.rls_report.specs.declared.failures.CommandError.{CommandError}
@@ -67,6 +67,7 @@ AreAt g (e ∷ es) = (epoch_in e ≡ g) × AreAt g es
 abbrev IsAt : EpochName → Anchor → Type 0
 IsAt g Beginning = Unit {0}
 IsAt g (After e x) = e ≡ g
+IsAt g (Before e x) = e ≡ g
 
 abbrev ArePut : EpochName → List Cursor → Type 0
 ArePut g [] = Unit {0}
@@ -92,6 +93,7 @@ all_at t (e ∷ es) = (settled_at t e, all_at t es)
 cursor_at : (t : State) (a : Anchor) → IsAt (greatest t.history) (anchors.settled t.history a)
 cursor_at t Beginning = tt
 cursor_at t (After e x) = refl
+cursor_at t (Before e x) = refl
 
 cursors_at : (t : State) (cs : List Cursor) → ArePut (greatest t.history) (map (moved (anchors.settled t.history)) cs)
 cursors_at t [] = tt
@@ -115,6 +117,7 @@ entries_kept o g (e ∷ es) k h = (subst (λ (x : EpochName). keeps o x ≡ true
 cursor_kept : (o : Seen) (g : EpochName) (a : Anchor) → keeps o g ≡ true → IsAt g a → IsAnchored o a
 cursor_kept o g Beginning k h = tt
 cursor_kept o g (After e x) k h = subst (λ (y : EpochName). keeps o y ≡ true) (sym h) k
+cursor_kept o g (Before e x) k h = subst (λ (y : EpochName). keeps o y ≡ true) (sym h) k
 
 cursors_kept : (o : Seen) (g : EpochName) (cs : List Cursor) → keeps o g ≡ true → ArePut g cs → AreAnchored o cs
 cursors_kept o g [] k h = tt

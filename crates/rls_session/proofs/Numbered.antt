@@ -7,7 +7,7 @@ use Rattle.rls_rename.proofs.Kept.{greatest_kept}
 use Rattle.rls_seen.specs.Seen.{Seen}
 use Rattle.rls_replica.specs.Names.{KeepsNames, keeps}
 use Rattle.rls_anchor.specs.declared.anchor.Anchor.{Anchor}
-use Rattle.rls_anchor.specs.declared.anchor.Anchor.TheVariants.{Beginning, After}
+use Rattle.rls_anchor.specs.declared.anchor.Anchor.TheVariants.{Beginning, After, Before}
 use Rattle.rls_anchor.specs.AnchorLaws.{IsAnchored}
 use Rattle.rls_anchor.specs.Anchors.{epoch_of, place_over, settled_over}
 use Rattle.rls_session.specs.declared.cursors.Cursor.{Cursor}
@@ -172,6 +172,7 @@ others_all cs n k is h = go cs (subst (λ i. AreOthers (take i cs) n) is h)
 anchor_on : (s n : Seen) (a : Anchor) → KeepsNames s n → IsAnchored s a → IsAnchored n a
 anchor_on s n Beginning k h = tt
 anchor_on s n (After e x) k h = k e h
+anchor_on s n (Before e x) k h = k e h
 
 pub anchored_on : (s n : Seen) (cs : List Cursor) → KeepsNames s n → AreAnchored s cs → AreAnchored n cs
 anchored_on s n [] k h = tt
@@ -196,6 +197,7 @@ anchored_moved s f (c ∷ cs) n k h = go (c.number == n) (anchored_moved s f cs 
 pub anchor_here : (s : Seen) (a : Anchor) → IsAnchored s (settled_over s a)
 anchor_here s Beginning = tt
 anchor_here s (After e x) = greatest_kept s.epochs.top s.epochs.nodes
+anchor_here s (Before e x) = greatest_kept s.epochs.top s.epochs.nodes
 
 pub all_anchored : (s : Seen) (f : Anchor → Anchor) (cs : List Cursor) → ((a : Anchor) → IsAnchored s (f a)) → AreAnchored s (map (moved f) cs)
 all_anchored s f [] k = tt
@@ -226,10 +228,14 @@ in_anchored s (c ∷ cs) n a e h = go (c.number == n) e (λ q. in_anchored s cs 
 
 -- ---- nothing is dropped
 
-pub anchor_not_dropped : (s : Seen) (a : Anchor) (e : EpochName) → IsAnchored s a → epoch_of a ≡ Some e → IsFalse (keeps s e) → ⊥
-anchor_not_dropped s Beginning e h is d = cc
-anchor_not_dropped s (After f x) e h is d =
+epoch_not_dropped : (s : Seen) (f e : EpochName) → keeps s f ≡ true → Some f ≡ Some e → IsFalse (keeps s e) → ⊥
+epoch_not_dropped s f e h is d =
     let same : f ≡ e = cc in
     let kept : keeps s e ≡ true = subst (λ (y : EpochName). keeps s y ≡ true) same h in
     let both : true ≡ false = sym kept ∙ d in
     cc
+
+pub anchor_not_dropped : (s : Seen) (a : Anchor) (e : EpochName) → IsAnchored s a → epoch_of a ≡ Some e → IsFalse (keeps s e) → ⊥
+anchor_not_dropped s Beginning e h is d = cc
+anchor_not_dropped s (After f x) e h is d = epoch_not_dropped s f e h is d
+anchor_not_dropped s (Before f x) e h is d = epoch_not_dropped s f e h is d

@@ -16,7 +16,7 @@ use Rattle.rls_undo.specs.Plans.{epoch_in}
 use Rattle.rls_undo.specs.Undoing.{dropped_or, first_dropped, settled_over}
 use Rattle.rls_undo.proofs.Dropping.{greatest_stays}
 use Rattle.rls_anchor.specs.declared.anchor.Anchor.{Anchor}
-use Rattle.rls_anchor.specs.declared.anchor.Anchor.TheVariants.{Beginning, After}
+use Rattle.rls_anchor.specs.declared.anchor.Anchor.TheVariants.{Beginning, After, Before}
 use Rattle.rls_anchor.specs.AnchorLaws.{IsAnchored}
 use Rattle.rls_anchor.specs.Anchors as anchors
 use Rattle.rls_session.specs.declared.cursors.Cursor.{Cursor}
@@ -42,6 +42,7 @@ settled_left s sane (Removed e first text) = greatest_stays s sane
 anchor_left : (s : Seen) → IsSane s → (a : Anchor) → IsAnchored (dropped s) (anchors.settled_over s a)
 anchor_left s sane Beginning = tt
 anchor_left s sane (After e x) = greatest_stays s sane
+anchor_left s sane (Before e x) = greatest_stays s sane
 
 -- the entries alone, taken there
 pub whole_entries : (s : Seen) (es : List Entry) (a : List Cursor) → IsWhole s es a → IsWhole s (map (settled_over s) es) a

@@ -27,8 +27,10 @@ enum Move {
     Undo,
     Skip,
     SettleEntries,
-    /// The first sets its anchor.
+    /// The first sets its anchor, after the character before it.
     Set(u64),
+    /// And before the character after it.
+    SetBefore(u64),
     /// The place of the anchor.
     Place,
     /// The epoch of the anchor, the length of its identifier and the last of its tuples.
@@ -39,7 +41,7 @@ enum Move {
 /// A move, its answer, and the text that the first member then shows, with ` | ` between them.
 type Row = &'static str;
 
-/// The move: `edit`, `pass` or `other` with an edit after it, `set 3`, or the words for the others.
+/// The move: `edit`, `pass` or `other` with an edit after it, `set 3` or `before 3`, or the words for the others.
 fn move_of(words: &'static str) -> Result<Move, Fail> {
     let (verb, rest) = word(words);
     match verb {
@@ -47,6 +49,7 @@ fn move_of(words: &'static str) -> Result<Move, Fail> {
         "pass" => Ok(Move::Pass(change_of(rest)?)),
         "other" => Ok(Move::Other(change_of(rest)?)),
         "set" => Ok(Move::Set(number(rest)?.0)),
+        "before" => Ok(Move::SetBefore(number(rest)?.0)),
         _ => plain_move(words).ok_or_else(|| Fail::new(words)),
     }
 }
@@ -98,6 +101,10 @@ fn text_of_anchor(alloc: Global, anchor: &Anchor) -> Result<String, AllocError> 
             let (len, last) = (id.len(), id.last());
             format!(in alloc; "{epoch:?} {len} {last:?}")
         }
+        Anchor::Before { epoch, id } => {
+            let (len, last) = (id.len(), id.last());
+            format!(in alloc; "before {epoch:?} {len} {last:?}")
+        }
     }
 }
 
@@ -105,10 +112,9 @@ fn text_of_anchor(alloc: Global, anchor: &Anchor) -> Result<String, AllocError> 
 fn set(
     alloc: Global,
     anchor: &mut Anchor,
-    replica: &Replica,
-    at: u64,
+    made: Result<Anchor, AnchorError>,
 ) -> Result<String, AllocError> {
-    match Anchor::at(replica, at) {
+    match made {
         Ok(there) => {
             *anchor = there;
             String::from_str(alloc, "set")
@@ -171,7 +177,8 @@ fn look(alloc: Global, pair: &mut Pair, what: &Move) -> Result<String, AllocErro
         Move::Drop => drop_stable(alloc, &mut pair.first),
         Move::Skip => skip(alloc, &mut pair.undo),
         Move::SettleEntries => text_of_settled(alloc, pair.undo.settle(&pair.first)),
-        Move::Set(at) => set(alloc, &mut pair.anchor, &pair.first, *at),
+        Move::Set(at) => set(alloc, &mut pair.anchor, Anchor::at(&pair.first, *at)),
+        Move::SetBefore(at) => set(alloc, &mut pair.anchor, Anchor::before(&pair.first, *at)),
         Move::Place => text_of_place(alloc, pair.anchor.place(&pair.first)),
         Move::SettleAnchor => text_of_settled(alloc, pair.anchor.settle(&pair.first)),
         _ => text_of_anchor(alloc, &pair.anchor),
@@ -325,6 +332,49 @@ const ANCHORS_ARE_RENAMED: &[Row] = &[
     "place | Ok(4) | hqel!lo",
 ];
 
+/// A cursor of the character after it stays before it, also when a line is opened above its line, and at the character's place once
+/// that is gone. At the end of the text, where there is none, it is the other one.
+const ANCHORS_STAY_BEFORE: &[Row] = &[
+    "before 0 | set | ",
+    "show | beginning | ",
+    "pass insert 0 one/two | 1 | one/two",
+    "place | Ok(0) | one/two",
+    "before 8 | 8 7 | one/two",
+    "before 7 | set | one/two",
+    "pass insert 7 ! | 2 | one/two!",
+    "place | Ok(7) | one/two!",
+    "before 4 | set | one/two!",
+    "place | Ok(4) | one/two!",
+    "pass insert 4 new/ | 3 | one/new/two!",
+    "place | Ok(8) | one/new/two!",
+    "pass insert 9 X | 4 | one/new/tXwo!",
+    "place | Ok(8) | one/new/tXwo!",
+    "pass delete 7 3 | 5 | one/newwo!",
+    "place | Ok(7) | one/newwo!",
+    "pass insert 0 ab | 6 | abone/newwo!",
+    "place | Ok(9) | abone/newwo!",
+];
+
+/// Renames don't move it either.
+const ANCHORS_BEFORE_ARE_RENAMED: &[Row] = &[
+    "pass insert 0 hello | 1 | hello",
+    "before 3 | set | hello",
+    "pass rename | 2 | hello",
+    "place | Ok(3) | hello",
+    "settle anchor | Ok(()) | hello",
+    "place | Ok(3) | hello",
+    "show | before Of { replica: 0, seq: 2 } 1 Spot { pos: 2147483647, replica: 0, seq: 2, offset: 3 } | hello",
+    "give | true | hello",
+    "other insert 3 q | 1 | hello",
+    "other rename | 2 | hello",
+    "take | true | helqlo",
+    "place | Ok(4) | helqlo",
+    "pass delete 4 1 | 3 | helqo",
+    "place | Ok(4) | helqo",
+    "pass delete 0 2 | 4 | lqo",
+    "place | Ok(2) | lqo",
+];
+
 /// What names a dropped epoch says so; what was settled before is as good as ever.
 const DROPPED_EPOCHS: &[Row] = &[
     "pass insert 0 hello | 1 | hello",
@@ -355,6 +405,8 @@ const TABLES: &[(u32, &[Row])] = &[
     (2, UNDONE_NOT_ALL_THE_WAY),
     (2, ANCHORS_STAY),
     (2, ANCHORS_ARE_RENAMED),
+    (2, ANCHORS_STAY_BEFORE),
+    (2, ANCHORS_BEFORE_ARE_RENAMED),
     (1, DROPPED_EPOCHS),
 ];
 
