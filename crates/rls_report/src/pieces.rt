@@ -40,8 +40,9 @@ fn put_tuple(text: &mut String, tuple: Tuple) -> Result<(), AllocError>
     }
 }
 
-/// The tuples of an identifier.
-pub(crate) fn put_ident(text: &mut String, ident: &Ident) -> Result<(), AllocError>
+/// The tuples of an identifier, after what stands in the text, each as `low`, `high` or four numbers with points between, with a slash
+/// between two. After an error a part of them may stand there.
+pub fn put_ident(text: &mut String, ident: &Ident) -> Result<(), AllocError>
     ensures ok { OnOk result (string_bytes text.new ≡ string_bytes text.old ++ ident_text ident.now) }
 {
     for tuple in ident.front() {

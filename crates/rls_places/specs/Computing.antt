@@ -1,0 +1,9 @@
+-- Opens the words of this crate, so that closed terms compute.
+use Rattle.std.specs.Fmt.{digits}
+use Rattle.rls_script.specs.Scripts.{number_of}
+use Rattle.rls_places.specs.Words.{place_of}
+
+-- name it under `unfolding`
+unfoldable pub computing : Unit {0}
+unfolding digits number_of place_of
+computing = tt

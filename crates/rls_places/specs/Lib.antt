@@ -1,0 +1,3 @@
+pub mod Words
+pub mod PlacesLaws
+pub mod Computing

@@ -1,0 +1,8 @@
+//! Places that travel: anchors as words, which other members read.
+#![tactic(auto)]
+
+mod reading;
+mod writing;
+
+pub use reading::place_of;
+pub use writing::place_word;
