@@ -48,6 +48,8 @@ use Rattle.rls_stages.specs.Lines.{fault_in, text_in}
 use Rattle.rls_stages.proofs.Meant.{IsLine, IsMeantWell, line_well}
 use Rattle.rls_top.specs.Groups.{Group}
 use Rattle.rls_top.proofs.Groups.{Matches, of_file, shown}
+use Rattle.rls_anchor.specs.declared.anchor.Anchor.{Anchor}
+use Rattle.rls_session.specs.declared.orders.Side.{Side}
 use Rattle.rls_session.specs.declared.orders.Order.TheVariants as orders
 use Rattle.rls_session.specs.Answers.{Sitting, answer, edited, if_steps, made_changes, message_changes, pointed, read_line, rested, sent, taken, taken_at, text_reply, told, told_rested, undone, undone_by_plan, undone_changes, with_begun, with_caught_up, with_changes, with_state}
 use Rattle.rls_changes.specs.declared.change.Change.{Change}
@@ -273,13 +275,21 @@ module _ (g n : ℕ) (G : Group) (w : World) (x : Matches g n G w) (i : ℕ) (s 
     either true a e p q = p
     either false a e p q = q
 
-    point_step : (p k : ℕ) → Stepped d f out (Does (orders.Point p k))
+    point_step : (side : Side) (p k : ℕ) → Stepped d f out (Does (orders.Point side p k))
     unfolding answer
-    point_step p k = quiet (Does (orders.Point p k)) (answer_alike d f (Does (orders.Point p k)) tt b.alike) (either (ltb (length (text_in f.state)) p) _ _ refl refl) tt tt refl
+    point_step side p k = quiet (Does (orders.Point side p k)) (answer_alike d f (Does (orders.Point side p k)) tt b.alike) (either (ltb (length (text_in f.state)) p) _ _ refl refl) tt tt refl
 
     place_step : (k : ℕ) → Stepped d f out (Does (orders.Place k))
     unfolding answer
     place_step k = quiet (Does (orders.Place k)) (answer_alike d f (Does (orders.Place k)) tt b.alike) refl tt tt refl
+
+    spell_step : (p : ℕ) → Stepped d f out (Does (orders.Spell p))
+    unfolding answer
+    spell_step p = quiet (Does (orders.Spell p)) (answer_alike d f (Does (orders.Spell p)) tt b.alike) refl tt tt refl
+
+    locate_step : (place : Anchor) → Stepped d f out (Does (orders.Locate place))
+    unfolding answer
+    locate_step place = quiet (Does (orders.Locate place)) (answer_alike d f (Does (orders.Locate place)) tt b.alike) refl tt tt refl
 
     order_step : (len : ℕ) → Stepped d f out (Does (orders.Take len))
     unfolding answer
@@ -411,8 +421,10 @@ module _ (g n : ℕ) (G : Group) (w : World) (x : Matches g n G w) (i : ℕ) (s 
     steps (Does orders.Back) ok given = back_step
     steps (Does orders.Again) ok given = again_step
     steps (Does orders.Close) ok given = close_step
-    steps (Does (orders.Point p k)) ok given = point_step p k
+    steps (Does (orders.Point side p k)) ok given = point_step side p k
     steps (Does (orders.Place k)) ok given = place_step k
+    steps (Does (orders.Spell p)) ok given = spell_step p
+    steps (Does (orders.Locate place)) ok given = locate_step place
     steps (Does orders.Text) ok given = text_step
     steps (Does (orders.Take len)) ok given = order_step len
     steps (Does (orders.Send to)) ok given = send_step to

@@ -16,9 +16,7 @@ use Rattle.rls_ops.specs.declared.op.Op.{Op}
 use Rattle.rls_model.specs.declared.edit.Edit.{Edit}
 use Rattle.rls_model.specs.declared.edit.EditError.{EditError}
 use Rattle.rls_model.specs.declared.receipt.Taken.{Taken}
-use Rattle.rls_model.specs.Document.{idents}
 use Rattle.rls_model.specs.Editing.{made, next_seq}
-use Rattle.rls_model.specs.Epochs.{greatest}
 use Rattle.rls_model.specs.History.{group_of, members_of}
 use Rattle.rls_model.specs.Receiving.{State}
 use Rattle.rls_model.specs.Taking.{message_for, take_message}
@@ -26,10 +24,10 @@ use Rattle.rls_seen.specs.Edits.{edit_fault_over, edited, made_over}
 use Rattle.rls_seen.specs.Messages.{message_over, taken_over}
 use Rattle.rls_seen.specs.Messages as seen
 use Rattle.rls_seen.specs.Over.{acknowledged}
-use Rattle.rls_seen.specs.Seen.{Seen, members, own_count, idents_over, text_over}
+use Rattle.rls_seen.specs.Seen.{Seen, members, own_count, text_over}
 use Rattle.rls_seen.specs.Stands.{StandsFor}
-use Rattle.rls_seen.proofs.Alike.{greatest_alike, members_alike}
-use Rattle.rls_seen.proofs.Editing.{edited_stands, idents_alike, made_alike}
+use Rattle.rls_seen.proofs.Alike.{members_alike}
+use Rattle.rls_seen.proofs.Editing.{edited_stands, made_alike}
 use Rattle.rls_seen.proofs.Keeping.{text_alike}
 use Rattle.rls_seen.proofs.Sending.{message_alike}
 use Rattle.rls_seen.proofs.Taking.{taken_stands}
@@ -56,10 +54,13 @@ use Rattle.rls_changes.specs.Edits.{edit_changes, performed_edits_in}
 use Rattle.rls_changes.specs.Telling.{taken_changes, taken_changes_in}
 use Rattle.rls_changes.proofs.EditsAlike.{performed_alike}
 use Rattle.rls_changes.proofs.TakenAlike.{taken_alike as changes_taken_alike}
-use Rattle.rls_anchor.specs.Anchors.{anchor_over, before, behind, place, place_over, settled}
+use Rattle.rls_anchor.specs.Anchors.{place, place_over, settled}
 use Rattle.rls_anchor.specs.declared.anchor.Anchor.{Anchor}
 use Rattle.rls_anchor.specs.Anchors as anchors
-use Rattle.rls_anchor.proofs.Places.{made_kept, place_alike, settled_alike}
+use Rattle.rls_anchor.proofs.Elsewhere.{located_alike}
+use Rattle.rls_anchor.proofs.Places.{place_alike, settled_alike}
+use Rattle.rls_session.specs.declared.orders.Side.{Side}
+use Rattle.rls_session.proofs.Sides.{anchor_alike, anchor_kept, spelled_alike}
 use Rattle.rls_session.specs.declared.cursors.Cursor.{Cursor}
 use Rattle.rls_session.specs.Cursors.{cursor_in, cursors_moved, cursors_with}
 use Rattle.rls_session.proofs.Numbered.{anchored_moved, anchored_with, in_anchored, moved_alike}
@@ -67,7 +68,7 @@ use Rattle.rls_session.specs.declared.orders.Order.TheVariants as orders
 use Rattle.rls_session.specs.Answers.{Sitting, answer, place_text, placed, pointed, sent, made_changes, message_changes, taken, undone, undone_changes, with_begun, with_caught_up, with_cursors}
 use Rattle.rls_session.specs.Answers as answers
 use Rattle.rls_session.specs.Courses.{Answered}
-use Rattle.rls_session.specs.Replies.{bytes_text, cursor_text, failed_text, ok_text, refused_text}
+use Rattle.rls_session.specs.Replies.{bytes_text, cursor_text, failed_text, located_text, ok_text, refused_text}
 use Rattle.rls_session.specs.Requests.{Does, Request, Takes}
 use Rattle.rls_session.specs.Sessions.{by_history, by_parts}
 use Rattle.rls_session.proofs.Entries.{caught_up_whole, entries_alike, entries_whole, whole_at, whole_front, whole_more}
@@ -192,8 +193,8 @@ undone_alike d f h = entry_alike d f (last_of d.entries) refl h ∙ ap (λ (es :
 
 -- ---- cursors
 
-pointed_alike : (d : Sitting Seen) (f : Sitting State) (at n : ℕ) → IsAlike d f → AreAlike (pointed by_parts d at n) (pointed by_history f at n)
-pointed_alike d f at n h = subst (λ (cs : List ℕ). AreAlike (pointed by_parts d at n) (by_text cs)) (text_alike s t h.stands) (go (ltb (length (text_over s)) at))
+pointed_alike : (d : Sitting Seen) (f : Sitting State) (side : Side) (at n : ℕ) → IsAlike d f → AreAlike (pointed by_parts d side at n) (pointed by_history f side at n)
+pointed_alike d f side at n h = subst (λ (cs : List ℕ). AreAlike (pointed by_parts d side at n) (by_text cs)) (text_alike s t h.stands) (go (ltb (length (text_over s)) at))
   where
     s : Seen
     s = d.state
@@ -204,17 +205,17 @@ pointed_alike d f at n h = subst (λ (cs : List ℕ). AreAlike (pointed by_parts
     past : ℕ → List ℕ
     past n = refused_text (Range at n)
 
+    here : Anchor
+    here = by_parts.anchor s side at
+
     there : Anchor
-    there = behind (greatest t.history) (before (idents t.history) at)
+    there = by_history.anchor t side at
 
     by_text : List ℕ → Answered (Sitting State)
     by_text cs = cond (ltb (length cs) at) (answers.says (past (length cs)) f) (answers.says (cursor_text at) (with_cursors f (cursors_with f.cursors n there)))
 
-    made_same : anchor_over s at ≡ there
-    made_same = ap (λ g. behind g (before (idents_over s) at)) (greatest_alike s t h.stands) ∙ ap (λ xs. behind (greatest t.history) (before xs at)) (idents_alike s t h.stands)
-
     go : (b : Bool) → AreAlike
-        (cond b (answers.says (past (length (text_over s))) d) (answers.says (cursor_text at) (with_cursors d (cursors_with d.cursors n (anchor_over s at)))))
+        (cond b (answers.says (past (length (text_over s))) d) (answers.says (cursor_text at) (with_cursors d (cursors_with d.cursors n here))))
         (cond b (answers.says (past (length (text_over s))) f) (answers.says (cursor_text at) (with_cursors f (cursors_with f.cursors n there))))
     go true = record { reply = refl; states = h }
     go false = record {
@@ -224,9 +225,9 @@ pointed_alike d f at n h = subst (λ (cs : List ℕ). AreAlike (pointed by_parts
         sane = h.sane;
         writable = h.writable;
         entries = h.entries;
-        cursors = ap (λ (cs : List Cursor). cursors_with cs n (anchor_over s at)) h.cursors ∙ ap (cursors_with f.cursors n) made_same;
+        cursors = ap (λ (cs : List Cursor). cursors_with cs n here) h.cursors ∙ ap (cursors_with f.cursors n) (anchor_alike s t side at h.stands);
         tells = h.tells;
-        whole = record { undoable = (h.whole).undoable; anchored = anchored_with s d.cursors n (anchor_over s at) (made_kept s at) (h.whole).anchored };
+        whole = record { undoable = (h.whole).undoable; anchored = anchored_with s d.cursors n here (anchor_kept s side at) (h.whole).anchored };
         texts = h.texts;
         steps = h.steps;
       };
@@ -394,8 +395,10 @@ answer_alike d f (Does orders.Again) g h =
     let k = begun_stays d f h in
     told_rested_alike e u _ _ _ _ h.tells (turned_changes e u b k).1 (redone_almost e u b k)
 answer_alike d f (Does orders.Close) g h = ended_alike d f h
-answer_alike d f (Does (orders.Point at n)) g h = pointed_alike d f at n h
+answer_alike d f (Does (orders.Point side at n)) g h = pointed_alike d f side at n h
 answer_alike d f (Does (orders.Place n)) g h = where_alike d f n h
+answer_alike d f (Does (orders.Spell at)) g h = record { reply = spelled_alike d.state f.state at h.stands; states = h }
+answer_alike d f (Does (orders.Locate place)) g h = record { reply = ap located_text (located_alike d.state f.state place h.stands).0; states = h }
 answer_alike d f (Does orders.Text) g h = record { reply = ap (λ cs. bytes_text (codes "text") (encode_utf8_all cs)) (text_alike d.state f.state h.stands); states = h }
 answer_alike d f (Does (orders.Take len)) g h = record { reply = refl; states = h }
 answer_alike d f (Does (orders.Send to)) g h = record { reply = sent_alike d.state f.state to h.stands; states = h }

@@ -39,11 +39,12 @@ use Rattle.rls_anchor.specs.declared.anchor.Anchor.{Anchor}
 use Rattle.rls_anchor.specs.Anchors.{anchor_over}
 use Rattle.rls_stages.proofs.Kept.{is_ours, not_for}
 use Rattle.rls_session.specs.Answering.{IsAnswered}
-use Rattle.rls_session.specs.Answers.{Sitting, edited, if_steps, made_sitting, says, told_rested, turned, turned_reply, with_changes, with_begun, with_entries, with_recorded, pointed, sent, taken, undone, undone_changes, with_cursors, with_state}
+use Rattle.rls_session.specs.declared.orders.Side.{Side}
+use Rattle.rls_session.specs.Answers.{Sitting, edited, if_steps, made_sitting, says, told_rested, turned, turned_reply, with_changes, with_begun, with_entries, with_recorded, pointed, sent, spelled, taken, undone, undone_changes, with_cursors, with_state}
 use Rattle.rls_session.specs.declared.cursors.Cursor.{Cursor}
 use Rattle.rls_session.specs.Cursors.{cursors_with}
 use Rattle.rls_session.specs.Desks.{TellsFault, planned_changes, sitting_of}
-use Rattle.rls_session.specs.Replies.{ok_text, undone_text, nothing_text, cursor_text, bytes_text, refused_text, failed_text}
+use Rattle.rls_session.specs.Replies.{anchor_text, ok_text, undone_text, nothing_text, cursor_text, bytes_text, refused_text, failed_text}
 use Rattle.rls_session.specs.Sessions.{by_parts}
 
 -- what holds of an answer
@@ -209,18 +210,33 @@ text_length : (es : Entries) → length (chars_in es) ≡ length es
 text_length [] = refl
 text_length (e ∷ es) = ap suc (text_length es)
 
-pub pointed_past : (d e : Sitting Seen) (at k n m : ℕ) (reply : List ℕ) → n ≡ at → m ≡ length (d.state).text → length (d.state).text < at → e ≡ d → reply ≡ refused_text (faults.Range n m) → IsAnswered (pointed by_parts d at k) reply e
-pointed_past d e at k n m reply f g past is text =
+pub pointed_past : (d e : Sitting Seen) (side : Side) (at k n m : ℕ) (reply : List ℕ) → n ≡ at → m ≡ length (d.state).text → length (d.state).text < at → e ≡ d → reply ≡ refused_text (faults.Range n m) → IsAnswered (pointed by_parts d side at k) reply e
+pointed_past d e side at k n m reply f g past is text =
     let len = text_length (d.state).text in
     let test : ltb (length (text_over d.state)) at ≡ true = grind (arith, nat_tests, len) in
     let total : m ≡ length (text_over d.state) = g ∙ sym len in
     rw test (record { reply_is = rw (← f, ← total) text; state_is = is })
 
-pub pointed_there : (d e : Sitting Seen) (at k : ℕ) (a : Anchor) (reply : List ℕ) → at ≤ length (d.state).text → a ≡ anchor_over d.state at → e ≡ with_cursors d (cursors_with d.cursors k a) → reply ≡ cursor_text at → IsAnswered (pointed by_parts d at k) reply e
-pointed_there d e at k a reply within made is text =
+pub pointed_there : (d e : Sitting Seen) (side : Side) (at k : ℕ) (a : Anchor) (reply : List ℕ) → at ≤ length (d.state).text → a ≡ by_parts.anchor d.state side at → e ≡ with_cursors d (cursors_with d.cursors k a) → reply ≡ cursor_text at → IsAnswered (pointed by_parts d side at k) reply e
+pointed_there d e side at k a reply within made is text =
     let len = text_length (d.state).text in
     let test : ltb (length (text_over d.state)) at ≡ false = grind (arith, nat_tests, len) in
     rw test (record { reply_is = text; state_is = is ∙ ap (λ (x : Anchor). with_cursors d (cursors_with d.cursors k x)) made })
+
+-- ---- places that travel
+
+pub spelled_past : (s : Seen) (at n m : ℕ) (reply : List ℕ) → n ≡ at → m ≡ length s.text → length s.text < at → reply ≡ refused_text (faults.Range n m) → reply ≡ spelled by_parts s at
+spelled_past s at n m reply f g past is =
+    let len = text_length s.text in
+    let test : ltb (length (text_over s)) at ≡ true = grind (arith, nat_tests, len) in
+    let total : m ≡ length (text_over s) = g ∙ sym len in
+    rw test (rw (← f, ← total) is)
+
+pub spelled_there : (s : Seen) (at : ℕ) (a : Anchor) (reply : List ℕ) → at ≤ length s.text → a ≡ anchor_over s at → reply ≡ anchor_text a → reply ≡ spelled by_parts s at
+spelled_there s at a reply within made is =
+    let len = text_length s.text in
+    let test : ltb (length (text_over s)) at ≡ false = grind (arith, nat_tests, len) in
+    rw test (is ∙ ap (λ (x : Anchor). anchor_text x) made)
 
 -- ---- messages
 

@@ -8,6 +8,10 @@ use Rattle.rls_codec.proofs.Formats.{IsBytes-drop, IsBytes-take}
 use Rattle.rls_script.specs.Scripts.{is_line_feed, line_of, line_of_text, number_of, parts_of}
 use Rattle.rls_script.specs.declared.lines.Line.{Line}
 use Rattle.rls_stages.proofs.Meant.{IsGood, IsLine, line_good}
+use Rattle.rls_anchor.specs.declared.anchor.Anchor.{Anchor}
+use Rattle.rls_places.specs.Words.{place_of}
+use Rattle.rls_session.specs.declared.orders.Side.{Side}
+use Rattle.rls_session.specs.declared.orders.Side.TheVariants.{Before, After}
 use Rattle.rls_session.specs.declared.orders.Order.{Order}
 use Rattle.rls_session.specs.declared.orders.Order.TheVariants as orders
 use Rattle.rls_session.specs.Orders.{member_of, order_of, order_of_letter, order_of_parts, order_of_words, order_or_bad, switch_of, cursor_of, point_by, point_of}
@@ -42,25 +46,34 @@ letter_given bytes g =
     (given_or (bytes_eq bytes (codes "w")) orders.Store _ tt (given_or (bytes_eq bytes (codes "q")) orders.Quit _ tt (edit_given bytes (line_of_text bytes) g)))))))))
 
 parts_given : (bytes word others : List ℕ) → IsGood (line_of_text bytes) → IsGiven (Does (order_of_parts bytes word others))
-parts_given bytes word others g = go (bytes_eq word (codes "k")) (bytes_eq word (codes "p")) (bytes_eq word (codes "m")) (bytes_eq word (codes "s")) (bytes_eq word (codes "c")) (number_of others) (member_of others) (switch_of others)
+parts_given bytes word others g =
+    go (bytes_eq word (codes "k")) (bytes_eq word (codes "j")) (bytes_eq word (codes "p")) (bytes_eq word (codes "a")) (bytes_eq word (codes "l")) (bytes_eq word (codes "m")) (bytes_eq word (codes "s")) (bytes_eq word (codes "c"))
+    (number_of others) (member_of others) (switch_of others) (place_of others)
   where
     -- orders of which nothing is asked
     any : {A : Type 0} (order : A → Order) → ((x : A) → IsGiven (Does (order x))) → (o : Option A) → IsGiven (Does (order_or_bad order o))
     any order f None = tt
     any order f (Some x) = f x
 
-    point : (p : Option (List ℕ × List ℕ)) → IsGiven (Does (point_by others p))
-    point None = any (λ at. orders.Point at 0) (λ x. tt) (number_of others)
-    point (Some parts) = any (λ at. order_or_bad (orders.Point at) (cursor_of parts.1)) (λ at. any (orders.Point at) (λ x. tt) (cursor_of parts.1)) (number_of parts.0)
+    point : (side : Side) (p : Option (List ℕ × List ℕ)) → IsGiven (Does (point_by side others p))
+    point side None = any (λ at. orders.Point side at 0) (λ x. tt) (number_of others)
+    point side (Some parts) = any (λ at. order_or_bad (orders.Point side at) (cursor_of parts.1)) (λ at. any (orders.Point side at) (λ x. tt) (cursor_of parts.1)) (number_of parts.0)
 
-    go : (a p b c d : Bool) (n m : Option ℕ) (o : Option Bool)
-        → IsGiven (Does (cond a (point_of others) (cond p (order_or_bad orders.Place (cursor_of others)) (cond b (order_or_bad orders.Take n) (cond c (order_or_bad orders.Send m) (cond d (order_or_bad orders.Tell o) (order_or_bad orders.Edit (line_of_text bytes))))))))
-    go true p b c d n m o = point (parts_of others)
-    go false true b c d n m o = any orders.Place (λ x. tt) (cursor_of others)
-    go false false true c d n m o = any orders.Take (λ x. tt) n
-    go false false false true d n m o = any orders.Send (λ x. tt) m
-    go false false false false true n m o = any orders.Tell (λ x. tt) o
-    go false false false false false n m o = edit_given bytes (line_of_text bytes) g
+    rest : (b c d : Bool) (n m : Option ℕ) (o : Option Bool) → IsGiven (Does (cond b (order_or_bad orders.Take n) (cond c (order_or_bad orders.Send m) (cond d (order_or_bad orders.Tell o) (order_or_bad orders.Edit (line_of_text bytes))))))
+    rest true c d n m o = any orders.Take (λ x. tt) n
+    rest false true d n m o = any orders.Send (λ x. tt) m
+    rest false false true n m o = any orders.Tell (λ x. tt) o
+    rest false false false n m o = edit_given bytes (line_of_text bytes) g
+
+    go : (k j p a l b c d : Bool) (n m : Option ℕ) (o : Option Bool) (at : Option Anchor)
+        → IsGiven (Does (cond k (point_of Before others) (cond j (point_of After others) (cond p (order_or_bad orders.Place (cursor_of others)) (cond a (order_or_bad orders.Spell n) (cond l (order_or_bad orders.Locate at)
+        (cond b (order_or_bad orders.Take n) (cond c (order_or_bad orders.Send m) (cond d (order_or_bad orders.Tell o) (order_or_bad orders.Edit (line_of_text bytes)))))))))))
+    go true j p a l b c d n m o at = point Before (parts_of others)
+    go false true p a l b c d n m o at = point After (parts_of others)
+    go false false true a l b c d n m o at = any orders.Place (λ x. tt) (cursor_of others)
+    go false false false true l b c d n m o at = any orders.Spell (λ x. tt) n
+    go false false false false true b c d n m o at = any orders.Locate (λ x. tt) at
+    go false false false false false b c d n m o at = rest b c d n m o
 
 order_given : (bytes : List ℕ) → IsGiven (Does (order_of bytes))
 unfolding order_of

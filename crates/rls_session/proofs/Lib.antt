@@ -22,6 +22,7 @@ pub mod Given
 pub mod Steps
 pub mod AlikeSittings
 pub mod AlikeSteps
+pub mod Sides
 pub mod Agreeing
 pub mod Alike
 pub mod Histories

@@ -10,8 +10,12 @@ use Rattle.std.proofs.lemmas.Slice.Eq.{bytes_eq-Decides}
 use Rattle.rls_script.proofs.LineEnds.{position_or_len_le}
 use Rattle.rls_script.specs.Scripts.{is_line_feed, line_of_text, number_of, parts_of}
 use Rattle.rls_script.specs.declared.lines.Line.{Line}
+use Rattle.rls_anchor.specs.declared.anchor.Anchor.{Anchor}
+use Rattle.rls_places.specs.Words.{place_of}
+use Rattle.rls_session.specs.declared.orders.Side.{Side}
+use Rattle.rls_session.specs.declared.orders.Side.TheVariants.{Before, After}
 use Rattle.rls_session.specs.declared.orders.Order.{Order}
-use Rattle.rls_session.specs.declared.orders.Order.TheVariants.{Edit, Place, Point, Take, Send, Store, Tell, Quit, Bad}
+use Rattle.rls_session.specs.declared.orders.Order.TheVariants.{Edit, Place, Spell, Locate, Point, Take, Send, Store, Tell, Quit, Bad}
 use Rattle.rls_session.specs.Answering.{HasAll, LacksPart}
 use Rattle.rls_session.specs.Courses.{Course, go_on, course}
 use Rattle.rls_session.specs.Orders.{order_or_bad, member_of, order_of_letter, order_of_parts, order_of_words, order_of, switch_of, cursor_of, point_by}
@@ -54,17 +58,25 @@ any_halts order f None (Stores e) = cc
 any_halts order f None (Quits e) = cc
 any_halts order f (Some x) h = f x h
 
-at_halts : (at n : ℕ) → IsHalt (Point at n) → ⊥
-at_halts at n (Stores e) = cc
-at_halts at n (Quits e) = cc
+at_halts : (side : Side) (at n : ℕ) → IsHalt (Point side at n) → ⊥
+at_halts side at n (Stores e) = cc
+at_halts side at n (Quits e) = cc
+
+spell_halts : (at : ℕ) → IsHalt (Spell at) → ⊥
+spell_halts at (Stores e) = cc
+spell_halts at (Quits e) = cc
+
+locate_halts : (place : Anchor) → IsHalt (Locate place) → ⊥
+locate_halts place (Stores e) = cc
+locate_halts place (Quits e) = cc
 
 place_halts : (n : ℕ) → IsHalt (Place n) → ⊥
 place_halts n (Stores e) = cc
 place_halts n (Quits e) = cc
 
-point_halts : (others : List ℕ) (p : Option (List ℕ × List ℕ)) → IsHalt (point_by others p) → ⊥
-point_halts others None = any_halts (λ at. Point at 0) (λ at. at_halts at 0) (number_of others)
-point_halts others (Some parts) = any_halts (λ at. order_or_bad (Point at) (cursor_of parts.1)) (λ at. any_halts (Point at) (at_halts at) (cursor_of parts.1)) (number_of parts.0)
+point_halts : (side : Side) (others : List ℕ) (p : Option (List ℕ × List ℕ)) → IsHalt (point_by side others p) → ⊥
+point_halts side others None = any_halts (λ at. Point side at 0) (λ at. at_halts side at 0) (number_of others)
+point_halts side others (Some parts) = any_halts (λ at. order_or_bad (Point side at) (cursor_of parts.1)) (λ at. any_halts (Point side at) (at_halts side at) (cursor_of parts.1)) (number_of parts.0)
 
 take_halts : (o : Option ℕ) → IsHalt (order_or_bad Take o) → ⊥
 take_halts None (Stores e) = cc
@@ -86,7 +98,8 @@ tell_halts (Some x) (Quits e) = cc
 
 parts_halt : (bs word others : List ℕ) → IsHalt (order_of_parts bs word others) → ⊥
 parts_halt bs word others h =
-    skips (bytes_eq word (codes "k")) _ _ ⊥ (point_halts others (parts_of others)) (skips (bytes_eq word (codes "p")) _ _ ⊥ (any_halts Place place_halts (cursor_of others)) (skips (bytes_eq word (codes "m")) _ _ ⊥ (take_halts (number_of others)) (skips (bytes_eq word (codes "s")) _ _ ⊥ (send_halts (member_of others)) (skips (bytes_eq word (codes "c")) _ _ ⊥ (tell_halts (switch_of others)) (edit_halts (line_of_text bs)))))) h
+    skips (bytes_eq word (codes "k")) _ _ ⊥ (point_halts Before others (parts_of others)) (skips (bytes_eq word (codes "j")) _ _ ⊥ (point_halts After others (parts_of others)) (skips (bytes_eq word (codes "p")) _ _ ⊥ (any_halts Place place_halts (cursor_of others)) (
+    skips (bytes_eq word (codes "a")) _ _ ⊥ (any_halts Spell spell_halts (number_of others)) (skips (bytes_eq word (codes "l")) _ _ ⊥ (any_halts Locate locate_halts (place_of others)) (skips (bytes_eq word (codes "m")) _ _ ⊥ (take_halts (number_of others)) (skips (bytes_eq word (codes "s")) _ _ ⊥ (send_halts (member_of others)) (skips (bytes_eq word (codes "c")) _ _ ⊥ (tell_halts (switch_of others)) (edit_halts (line_of_text bs))))))))) h
 
 halt_letter : (bs : List ℕ) → IsHalt (order_of bs) → length bs ≡ 1
 unfolding order_of

@@ -21,9 +21,10 @@ use Rattle.rls_anchor.specs.AnchorLaws.{IsAnchored}
 use Rattle.rls_session.specs.declared.cursors.Cursor.{Cursor}
 use Rattle.rls_session.specs.Cursors.{AreAnchored, cursors_moved, cursors_with}
 use Rattle.rls_session.proofs.Numbered.{anchor_here, anchored_moved, anchored_on, anchored_with}
-use Rattle.rls_anchor.specs.Anchors.{anchor_over}
 use Rattle.rls_anchor.specs.Anchors as anchors
-use Rattle.rls_anchor.proofs.Places.{made_kept}
+use Rattle.rls_session.specs.Sessions.{by_parts}
+use Rattle.rls_session.specs.declared.orders.Side.{Side}
+use Rattle.rls_session.proofs.Sides.{anchor_kept}
 use Rattle.rls_session.specs.Desks.{AreUndoable, IsWhole}
 
 -- ---- entries
@@ -108,9 +109,9 @@ pub whole_as : (s n : Seen) (es fs : List Entry) (a : List Cursor) → KeepsName
 whole_as s n es fs a k is h = subst (λ (xs : List Entry). IsWhole n xs a) (sym is) (whole_on s n es a k h)
 
 -- with a cursor that was just put
-pub whole_pointed : {E : Type 0} (r : Result (Unit {0}) E) (s : Seen) (es : List Entry) (a b : List Cursor) (c : Anchor) (at n : ℕ) → OnOk r (b ≡ cursors_with a n c) → OnErr r (b ≡ a) → c ≡ anchor_over s at → IsWhole s es a → IsWhole s es b
-whole_pointed (Ok u) s es a b c at n is stays made h = record { undoable = h.undoable; anchored = subst (AreAnchored s) (sym is) (anchored_with s a n c (subst (IsAnchored s) (sym made) (made_kept s at)) h.anchored) }
-whole_pointed (Err e) s es a b c at n is stays made h = record { undoable = h.undoable; anchored = subst (AreAnchored s) (sym stays) h.anchored }
+pub whole_pointed : {E : Type 0} (r : Result (Unit {0}) E) (s : Seen) (es : List Entry) (a b : List Cursor) (c : Anchor) (side : Side) (at n : ℕ) → OnOk r (b ≡ cursors_with a n c) → OnErr r (b ≡ a) → c ≡ by_parts.anchor s side at → IsWhole s es a → IsWhole s es b
+whole_pointed (Ok u) s es a b c side at n is stays made h = record { undoable = h.undoable; anchored = subst (AreAnchored s) (sym is) (anchored_with s a n c (subst (IsAnchored s) (sym made) (anchor_kept s side at)) h.anchored) }
+whole_pointed (Err e) s es a b c side at n is stays made h = record { undoable = h.undoable; anchored = subst (AreAnchored s) (sym stays) h.anchored }
 
 -- with the last entries
 pub whole_last : (s : Seen) (es fs : List Entry) (a : List Cursor) (n : ℕ) → fs ≡ last_entries n es → IsWhole s es a → IsWhole s fs a

@@ -32,6 +32,7 @@ use Rattle.rls_steps.specs.declared.piece.Step.{Step}
 use Rattle.rls_steps.specs.Grounds.{over, back_on, again_on, back_edits, again_edits}
 use Rattle.rls_steps.proofs.Performing.{turned_state}
 use Rattle.rls_undo.specs.Undoing.{last_of, performed_over, planned_over, refusal_over}
+use Rattle.rls_session.specs.declared.orders.Side.{Side}
 use Rattle.rls_session.specs.declared.orders.Order.{Order}
 use Rattle.rls_session.specs.declared.orders.Order.TheVariants as orders
 use Rattle.rls_session.specs.Answering.{IsAnswered}
@@ -100,10 +101,10 @@ turned_sized s n es e h = subst IsSized (sym e) (performed_sized s es h)
 
 -- ---- all orders
 
-pointed_same : (d : Sitting Seen) (at n : ℕ) → AreWritable d.state → AreWritable ((pointed by_parts d at n).state).state
-pointed_same d at n w = go (ltb (length (text_over d.state)) at)
+pointed_same : (d : Sitting Seen) (side : Side) (at n : ℕ) → AreWritable d.state → AreWritable ((pointed by_parts d side at n).state).state
+pointed_same d side at n w = go (ltb (length (text_over d.state)) at)
   where
-    go : (b : Bool) → AreWritable ((cond {A = Answered (Sitting Seen)} b (answers.says (refused_text (Range at (length (text_over d.state)))) d) (answers.says (cursor_text at) (with_cursors d (cursors_with d.cursors n (by_parts.anchor d.state at))))).state).state
+    go : (b : Bool) → AreWritable ((cond {A = Answered (Sitting Seen)} b (answers.says (refused_text (Range at (length (text_over d.state)))) d) (answers.says (cursor_text at) (with_cursors d (cursors_with d.cursors n (by_parts.anchor d.state side at))))).state).state
     go true = w
     go false = w
 
@@ -123,8 +124,10 @@ done_writable d orders.Again w =
     let r = e.recorded in
     all_sized _ (none_or_sized r.future (answers.says nothing_text e) (answers.turned by_parts e again_text (again_on over s r)) (sized s w) (turned_sized s (again_on over s r).state (again_edits over s r) (turned_state s r).1 (sized s w)))
 done_writable d orders.Close w = w
-done_writable d (orders.Point at n) w = pointed_same d at n w
+done_writable d (orders.Point side at n) w = pointed_same d side at n w
 done_writable d (orders.Place n) w = w
+done_writable d (orders.Spell at) w = w
+done_writable d (orders.Locate place) w = w
 done_writable d orders.Text w = w
 done_writable d (orders.Take len) w = w
 done_writable d (orders.Send to) w = w

@@ -25,12 +25,14 @@ use Rattle.rls_anchor.specs.declared.anchor.Anchor.{Anchor}
 use Rattle.rls_session.specs.declared.desk.TheConstants.{KEPT_ENTRIES}
 use Rattle.rls_session.specs.declared.cursors.Cursor.{Cursor}
 use Rattle.rls_session.specs.Cursors.{cursor_in, cursors_moved, cursors_with, moved}
+use Rattle.rls_session.specs.declared.orders.Side.{Side}
+use Rattle.rls_session.specs.declared.orders.Side.TheVariants.{Before}
 use Rattle.rls_session.specs.declared.orders.Order.{Order}
 use Rattle.rls_session.specs.declared.orders.Order.TheVariants as orders
 use Rattle.rls_session.specs.Requests.{Request, Does, Takes}
 use Rattle.rls_session.specs.Courses.{Answered, Course, Stretch, courses, stretches}
 use Rattle.rls_session.specs.ChangeLines.{changes_text}
-use Rattle.rls_session.specs.Replies.{telling_text, no_cursor_text, ok_text, undone_text, back_text, again_text, groups_text, nothing_text, cursor_text, bytes_text, refused_text, failed_text, bad_text}
+use Rattle.rls_session.specs.Replies.{telling_text, no_cursor_text, ok_text, undone_text, back_text, again_text, groups_text, nothing_text, cursor_text, anchor_text, located_text, bytes_text, refused_text, failed_text, bad_text}
 
 -- what a session asks of a state, and how it changes one, whatever states are
 pub record Kind (X : Type 0) : Type 0 where
@@ -52,9 +54,10 @@ pub record Kind (X : Type 0) : Type 0 where
   pub planned_changes : X → List Edit → List Change
   -- the text
   pub text : X → List ℕ
-  -- the anchor at a place, and the place of one
-  pub anchor : X → ℕ → Anchor
+  -- the anchor at a place, of the character on this side, the place of one, and where one is that comes from elsewhere
+  pub anchor : X → Side → ℕ → Anchor
   pub place : X → Anchor → ℕ
+  pub located : X → Anchor → Option ℕ
   -- what is recorded, in the greatest epoch if nothing is yet; with an edit that isn't refused, at the state before it; and within bounds
   pub begun : X → Recorded → Recorded
   pub recorded : X → Edit → Recorded → Recorded
@@ -212,10 +215,10 @@ told_rested K d cs a = told d (cs ++ K.released_changes (a.state).state) (rested
 -- ---- cursors
 
 -- the cursor with this number is put to a place, unless that lies past the end
-abbrev pub pointed : {X : Type 0} → Kind X → Sitting X → ℕ → ℕ → Answered (Sitting X)
-pointed K d at n =
+abbrev pub pointed : {X : Type 0} → Kind X → Sitting X → Side → ℕ → ℕ → Answered (Sitting X)
+pointed K d side at n =
     if nat_lt (length (K.text d.state)) at then says (refused_text (faults.Range at (length (K.text d.state)))) d
-    else says (cursor_text at) (with_cursors d (cursors_with d.cursors n (K.anchor d.state at)))
+    else says (cursor_text at) (with_cursors d (cursors_with d.cursors n (K.anchor d.state side at)))
 
 -- where the cursor with this number is, if there is one
 abbrev pub place_text : ℕ → Option ℕ → List ℕ
@@ -224,6 +227,12 @@ place_text n (Some at) = cursor_text at
 
 abbrev pub placed : {X : Type 0} → Kind X → Sitting X → ℕ → Answered (Sitting X)
 placed K d n = says (place_text n (option_map (K.place d.state) (cursor_in d.cursors n))) (with_settled K d n)
+
+-- ---- places that travel
+
+-- the place as a word, unless it lies past the end
+abbrev pub spelled : {X : Type 0} → Kind X → X → ℕ → List ℕ
+spelled K s at = if nat_lt (length (K.text s)) at then refused_text (faults.Range at (length (K.text s))) else anchor_text (K.anchor s Before at)
 
 -- ---- messages
 
@@ -284,8 +293,10 @@ done K d orders.Undo = undo_told K (with_caught_up K d)
 done K d orders.Back = back_told K (with_begun K d)
 done K d orders.Again = again_told K (with_begun K d)
 done K d orders.Close = ended d
-done K d (orders.Point at n) = pointed K d at n
+done K d (orders.Point side at n) = pointed K d side at n
 done K d (orders.Place n) = placed K d n
+done K d (orders.Spell at) = says (spelled K d.state at) d
+done K d (orders.Locate place) = says (located_text (K.located d.state place)) d
 done K d orders.Text = says (text_reply K d.state) d
 done K d (orders.Take len) = says [] d
 done K d (orders.Send to) = says (sent K d.state to) d

@@ -5,6 +5,8 @@ use Rattle.rls_anchor.specs.declared.anchor.Anchor.{Anchor}
 use Rattle.rls_anchor.specs.declared.anchor.Anchor.TheVariants.{Beginning}
 use Rattle.rls_anchor.specs.AnchorLaws.{IsAnchored}
 use Rattle.rls_session.specs.declared.cursors.Cursor.{Cursor}
+use Rattle.rls_session.specs.declared.orders.Side.{Side}
+use Rattle.rls_session.specs.declared.orders.Side.TheVariants.{Before, After}
 
 -- number 0 is at the beginning until it is put
 abbrev pub unput : ℕ → Option Anchor
@@ -29,6 +31,11 @@ moved f c = record { number = c.number; anchor = f c.anchor }
 abbrev pub cursors_moved : (Anchor → Anchor) → List Cursor → ℕ → List Cursor
 cursors_moved f [] n = []
 cursors_moved f (c ∷ cs) n = if c.number == n then moved f c ∷ cs else c ∷ cursors_moved f cs n
+
+-- the anchor of the character on this side, of those of the one before and of the one after
+abbrev pub on_side : Side → Anchor → Anchor → Anchor
+on_side Before of_before of_after = of_before
+on_side After of_before of_after = of_after
 
 -- ---- of calls
 

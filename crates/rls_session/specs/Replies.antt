@@ -1,8 +1,10 @@
 -- What a session answers.
-use Rattle.std.specs.Prelude.{ℕ, Bool, true, false, List, [], ◌∷◌, ◌++◌, codes, length}
+use Rattle.std.specs.Prelude.{ℕ, Bool, true, false, List, [], ◌∷◌, ◌++◌, codes, length, Option, Some, None}
 use Rattle.std.specs.Fmt.{decimal}
 use Rattle.rls_report.specs.Texts.{line}
 use Rattle.rls_report.specs.Failures.{error_line, fault_text}
+use Rattle.rls_anchor.specs.declared.anchor.Anchor.{Anchor}
+use Rattle.rls_places.specs.Words.{place_word}
 use Rattle.rls_report.specs.declared.failures.LineFault.{LineFault}
 use Rattle.rls_report.specs.declared.failures.CommandError.{CommandError}
 
@@ -34,6 +36,15 @@ cursor_text at = line (codes "cursor " ∷ decimal at ∷ [])
 -- no cursor was put with this number
 abbrev pub no_cursor_text : ℕ → List ℕ
 no_cursor_text n = line (codes "no cursor " ∷ decimal n ∷ [])
+
+-- a place as a word
+abbrev pub anchor_text : Anchor → List ℕ
+anchor_text place = line (codes "anchor " ∷ place_word place ∷ [])
+
+-- where a place is, if its epoch is retained
+abbrev pub located_text : Option ℕ → List ℕ
+located_text None = codes "no epoch\n"
+located_text (Some at) = cursor_text at
 
 -- whether changes are told from now on
 abbrev pub telling_text : Bool → List ℕ

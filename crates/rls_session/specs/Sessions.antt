@@ -1,5 +1,5 @@
 -- Sessions over what a replica consists of, and over a history and what waits beside it.
-use Rattle.std.specs.Prelude.{◌+◌, List, ℕ}
+use Rattle.std.specs.Prelude.{◌+◌, List, ℕ, slice_get}
 use Rattle.rls_model.specs.Document.{idents}
 use Rattle.rls_model.specs.Editing.{made, next_seq}
 use Rattle.rls_model.specs.Epochs.{greatest}
@@ -20,10 +20,13 @@ use Rattle.rls_changes.specs.Telling.{all_released_changes, all_released_changes
 use Rattle.rls_steps.specs.Grounds.{over, within, begun_on, recorded_on, kept_on, back_on, again_on, back_edits, again_edits, settled_on}
 use Rattle.rls_steps.specs.Sweeping.{kept_within}
 use Rattle.rls_session.specs.declared.desk.TheConstants.{KEPT_STEPS, KEPT_CHARACTERS}
-use Rattle.rls_anchor.specs.Anchors.{anchor_over, before, behind, place, place_over}
+use Rattle.rls_anchor.specs.declared.anchor.Anchor.{Anchor}
+use Rattle.rls_anchor.specs.Anchors.{anchor_before_over, anchor_over, before, behind, in_front, place, place_over}
+use Rattle.rls_anchor.specs.Elsewhere.{located, located_over}
 use Rattle.rls_anchor.specs.Anchors as anchors
 use Rattle.rls_session.specs.Answers.{Kind, Sitting, session_from}
 use Rattle.rls_session.specs.Courses.{Course}
+use Rattle.rls_session.specs.Cursors.{on_side}
 
 -- ---- what a replica consists of
 
@@ -48,8 +51,9 @@ by_parts = record {
   back_edits = back_edits over;
   again_edits = again_edits over;
   text = text_over;
-  anchor = anchor_over;
+  anchor = λ s side at. on_side side (anchor_over s at) (anchor_before_over s at);
   place = place_over;
+  located = located_over;
   caught_up = caught_up_over;
   group = λ s. s.group;
   members = members;
@@ -67,6 +71,13 @@ abbrev pub session : Seen → List ℕ → List (Course (Sitting Seen))
 session s input = session_from by_parts s input
 
 -- ---- a history and what waits beside it
+
+-- the anchor at a place, of the character before it, and of the one after it
+abbrev pub anchor_in : State → ℕ → Anchor
+anchor_in t at = behind (greatest t.history) (before (idents t.history) at)
+
+abbrev pub anchor_before_in : State → ℕ → Anchor
+anchor_before_in t at = in_front (greatest t.history) (slice_get (idents t.history) at) (anchor_in t at)
 
 abbrev pub by_history : Kind State
 by_history = record {
@@ -89,8 +100,9 @@ by_history = record {
   back_edits = back_edits within;
   again_edits = again_edits within;
   text = text_in;
-  anchor = λ t at. behind (greatest t.history) (before (idents t.history) at);
+  anchor = λ t side at. on_side side (anchor_in t at) (anchor_before_in t at);
   place = λ t a. place t.history a;
+  located = λ t a. located t.history a;
   caught_up = λ t entries. caught_up t.history entries;
   group = λ t. group_of t.history;
   members = λ t. members_of t.history;

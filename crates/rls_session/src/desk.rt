@@ -27,10 +27,11 @@ ghost use Rattle.rls_store.specs.Stored.{AreWritable};
 
 use crate::change_lines::push_changes;
 use crate::cursors::Cursors;
-use crate::orders::Order;
+use crate::orders::{Order, Side};
+use crate::places::anchor_of;
 use crate::telling::{refused, take_message, undo_last};
-use crate::{replies, showing};
-use rls_anchor::{Anchor, AnchorError};
+use crate::{places, replies, showing};
+use rls_anchor::AnchorError;
 use rls_changes::{Change, push_own, release_all};
 use rls_ident::rely;
 use rls_model::{Edit, Taken};
@@ -107,8 +108,10 @@ impl Desk {
             Order::Back => self.back(alloc),
             Order::Again => self.again(alloc),
             Order::Close => self.end_group(alloc),
-            Order::Point { at, number } => self.point(alloc, at, number),
+            Order::Point { side, at, number } => self.point(alloc, side, at, number),
             Order::Place { number } => self.place(alloc, number),
+            Order::Spell { at } => places::spell(alloc, &self.replica, at),
+            Order::Locate { place } => places::locate(alloc, &self.replica, &place),
             Order::Text => showing::text(alloc, &self.replica),
             Order::Send { to } => showing::message(alloc, &self.replica, to),
             Order::Stat => showing::stat(alloc, &self.replica),
@@ -351,10 +354,16 @@ impl Desk {
     // ---- cursors
 
     // Puts a cursor to a place.
-    fn point(&mut self, alloc: Global, at: u64, number: u8) -> Result<Vec<u8>, AllocError>
-        ensures answered { IfOk result (λ reply. IsAnswered (pointed by_parts self.old at number) reply.items self.new) }
+    fn point(
+        &mut self,
+        alloc: Global,
+        side: Side,
+        at: u64,
+        number: u8,
+    ) -> Result<Vec<u8>, AllocError>
+        ensures answered { IfOk result (λ reply. IsAnswered (pointed by_parts self.old side at number) reply.items self.new) }
     {
-        match Anchor::at(&self.replica, at) {
+        match anchor_of(&self.replica, side, at) {
             Err(AnchorError::OutOfMemory) => Err(AllocError),
             Err(AnchorError::Range { at, total }) => {
                 replies::refused(alloc, LineFault::Range { at, total })

@@ -7,6 +7,7 @@ mod cursors;
 mod desk;
 mod intake;
 mod orders;
+mod places;
 mod replies;
 mod serving;
 mod showing;

@@ -1,10 +1,12 @@
 //! What a session answers, in words.
 
-ghost use Rattle.std.specs.Prelude.{◌≡◌, length, IfOk};
+ghost use Rattle.std.specs.Prelude.{◌≡◌, length, None, IfOk};
 ghost use Rattle.rls_report.specs.Reports.{take_text};
-ghost use Rattle.rls_session.specs.Replies.{ok_text, undone_text, back_text, again_text, groups_text, nothing_text, cursor_text, no_cursor_text, telling_text, bytes_text, refused_text, failed_text, bad_text};
+ghost use Rattle.rls_session.specs.Replies.{ok_text, undone_text, back_text, again_text, groups_text, nothing_text, cursor_text, anchor_text, located_text, no_cursor_text, telling_text, bytes_text, refused_text, failed_text, bad_text};
 
+use rls_anchor::Anchor;
 use rls_model::Taken;
+use rls_places::place_word;
 use rls_report::{CommandError, Failure, LineFault, failure_line, fault_text, taken_report};
 use std::alloc::{AllocError, Global};
 
@@ -62,6 +64,21 @@ pub(crate) fn no_cursor(alloc: Global, number: u8) -> Result<Vec<u8>, AllocError
     ensures text { IfOk result (λ text. text.items ≡ no_cursor_text number) }
 {
     Ok(format!(in alloc; "no cursor {number}\n")?.into_bytes())
+}
+
+/// A place as a word.
+pub(crate) fn anchor(alloc: Global, place: &Anchor) -> Result<Vec<u8>, AllocError>
+    ensures text { IfOk result (λ text. text.items ≡ anchor_text place.now) }
+{
+    let word = place_word(alloc, place)?;
+    Ok(format!(in alloc; "anchor {word}\n")?.into_bytes())
+}
+
+/// The place's epoch isn't one that must stay.
+pub(crate) fn no_epoch(alloc: Global) -> Result<Vec<u8>, AllocError>
+    ensures text { IfOk result (λ text. text.items ≡ located_text None) }
+{
+    Vec::from_slice(alloc, b"no epoch\n")
 }
 
 /// Whether changes are told from now on.

@@ -130,6 +130,11 @@ const ROWS: &[&str] = &[
     "i 0 A\nz\nu\ny\nt\n | ok 2\nback 1\nundone 0 0\nagain 1\ntext 6\nAhello\nsaved\n | other",
     "i 9 x\nb 5\nr\nz\nt\n | no range 9 5\nok 2\nok 3\nback 1\ntext 5\nhello\nsaved\n | other",
     "z 1\ny \nzz\ng 0\nZ\n | bad\nbad\nbad\nbad\nbad\nsaved\n | same",
+    // A cursor of the character after it, beside one of the character before it; at the end both are the same.
+    "j 3\nk 3 1\ni 3 XY\np\np 1\nd 5 1\np\nj 6 2\ni 6 !\np 2\nj 8\nj 3 64\nj\nj x\n | cursor 3\ncursor 3\nok 2\ncursor 5\ncursor 3\nok 3\ncursor 5\ncursor 6\nok 4\ncursor 6\nno range 8 7\nbad\nbad\nbad\nsaved\n | other",
+    // Places as words, here and from elsewhere: of a character that never came, and of an epoch that isn't known.
+    "a 0\na 3\na 6\nl beginning\nl after:origin:2147483647.0.1.2\nl before:origin:2147483647.0.1.2\nl after:origin:2147483647.9.9.9\nl after:0.9:1.1.1.1\nl after:origin:2147483647.0.1.2 \nl\na x\n | anchor beginning\nanchor after:origin:2147483647.0.1.2\nno range 6 5\ncursor 0\ncursor 3\ncursor 2\ncursor 5\nno epoch\nbad\nbad\nbad\nsaved\n | same",
+    "r\na 3\nl after:0.2:2147483647.0.2.2\nl after:origin:2147483647.0.1.2\ni 0 A\nl after:origin:2147483647.0.1.2\n | ok 2\nanchor after:0.2:2147483647.0.2.2\ncursor 3\ncursor 3\nok 3\ncursor 4\nsaved\n | other",
     // An undo and a cursor over two renames.
     "k 3\ni 1 XY\nr\nr\np\nu\np\nr\np\nu\nt\n | cursor 3\nok 2\nok 3\nok 4\ncursor 5\nundone 1 2\ncursor 3\nok 6\ncursor 3\nno nothing\ntext 5\nhello\nsaved\n | other",
 ];
