@@ -299,6 +299,10 @@ module _ (g n : ℕ) (G : Group) (w : World) (x : Matches g n G w) (i : ℕ) (s 
     unfolding answer
     stat_step = quiet (Does orders.Stat) (answer_alike d f (Does orders.Stat) tt b.alike) refl tt tt refl
 
+    version_step : Stepped d f out (Does orders.Version)
+    unfolding answer
+    version_step = quiet (Does orders.Version) (answer_alike d f (Does orders.Version) tt b.alike) refl tt tt refl
+
     store_step : Stepped d f out (Does orders.Store)
     unfolding answer
     store_step = quiet (Does orders.Store) (answer_alike d f (Does orders.Store) tt b.alike) refl tt tt refl
@@ -429,6 +433,7 @@ module _ (g n : ℕ) (G : Group) (w : World) (x : Matches g n G w) (i : ℕ) (s 
     steps (Does (orders.Take len)) ok given = order_step len
     steps (Does (orders.Send to)) ok given = send_step to
     steps (Does orders.Stat) ok given = stat_step
+    steps (Does orders.Version) ok given = version_step
     steps (Does orders.Store) ok given = store_step
     steps (Does (orders.Tell on)) ok given = tell_step on
     steps (Does orders.Quit) ok given = quit_step

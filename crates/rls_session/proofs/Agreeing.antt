@@ -403,6 +403,7 @@ answer_alike d f (Does orders.Text) g h = record { reply = ap (λ cs. bytes_text
 answer_alike d f (Does (orders.Take len)) g h = record { reply = refl; states = h }
 answer_alike d f (Does (orders.Send to)) g h = record { reply = sent_alike d.state f.state to h.stands; states = h }
 answer_alike d f (Does orders.Stat) g h = record { reply = ap (λ (t : List ℕ). bytes_text (codes "stat") t) (stat_alike d.state f.state h.stands); states = h }
+answer_alike d f (Does orders.Version) g h = record { reply = refl; states = h }
 answer_alike d f (Does orders.Store) g h = record { reply = refl; states = h }
 answer_alike d f (Does (orders.Tell on)) g h = record {
   reply = refl;

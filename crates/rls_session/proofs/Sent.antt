@@ -84,6 +84,7 @@ sent_after d (orders.Spell at) rest f = tt
 sent_after d (orders.Locate place) rest f = tt
 sent_after d orders.Text rest f = tt
 sent_after d orders.Stat rest f = tt
+sent_after d orders.Version rest f = tt
 sent_after d orders.Store rest f = tt
 sent_after d (orders.Tell on) rest f = tt
 sent_after d orders.Quit rest f = tt

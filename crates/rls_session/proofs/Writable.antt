@@ -132,6 +132,7 @@ done_writable d orders.Text w = w
 done_writable d (orders.Take len) w = w
 done_writable d (orders.Send to) w = w
 done_writable d orders.Stat w = w
+done_writable d orders.Version w = w
 done_writable d orders.Store w = w
 done_writable d (orders.Tell on) w = w
 done_writable d orders.Quit w = w

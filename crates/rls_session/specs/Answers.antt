@@ -32,7 +32,7 @@ use Rattle.rls_session.specs.declared.orders.Order.TheVariants as orders
 use Rattle.rls_session.specs.Requests.{Request, Does, Takes}
 use Rattle.rls_session.specs.Courses.{Answered, Course, Stretch, courses, stretches}
 use Rattle.rls_session.specs.ChangeLines.{changes_text}
-use Rattle.rls_session.specs.Replies.{telling_text, no_cursor_text, ok_text, undone_text, back_text, again_text, groups_text, nothing_text, cursor_text, anchor_text, located_text, bytes_text, refused_text, failed_text, bad_text}
+use Rattle.rls_session.specs.Replies.{telling_text, no_cursor_text, ok_text, undone_text, back_text, again_text, groups_text, nothing_text, cursor_text, anchor_text, located_text, bytes_text, refused_text, failed_text, bad_text, version_text}
 
 -- what a session asks of a state, and how it changes one, whatever states are
 pub record Kind (X : Type 0) : Type 0 where
@@ -301,6 +301,7 @@ done K d orders.Text = says (text_reply K d.state) d
 done K d (orders.Take len) = says [] d
 done K d (orders.Send to) = says (sent K d.state to) d
 done K d orders.Stat = says (stat_reply K d.state) d
+done K d orders.Version = says version_text d
 done K d orders.Store = says [] d
 done K d (orders.Tell on) = says (telling_text on) (with_telling d on)
 done K d orders.Quit = says [] d

@@ -66,6 +66,10 @@ failed_text error = codes "no " ++ error_line error
 abbrev pub bad_text : List ℕ
 bad_text = codes "bad\n"
 
+-- the version of the protocol
+abbrev pub version_text : List ℕ
+version_text = codes "version 2\n"
+
 -- the file was stored
 abbrev pub saved_text : List ℕ
 saved_text = codes "saved\n"

@@ -116,6 +116,7 @@ impl Desk {
             Order::Send { to } => showing::message(alloc, &self.replica, to),
             Order::Stat => showing::stat(alloc, &self.replica),
             Order::Tell { on } => self.tell_from_now(alloc, on),
+            Order::Version => replies::version(alloc),
             Order::Bad => replies::bad(alloc),
             Order::Take { .. } | Order::Store | Order::Quit => Ok(Vec::new(alloc)),
         }

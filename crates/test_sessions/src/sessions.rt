@@ -106,6 +106,7 @@ const ROWS: &[&str] = &[
     "k 3\ni 0 A\nw\np\nu\nt\n | cursor 3\nok 2\nsaved\ncursor 4\nundone 1 1\ntext 5\nhello\nsaved\n | other",
     "d 1 3\nr\nw\ni 2 x\nw\nu\nu\nt\n | ok 2\nok 3\nsaved\nok 4\nsaved\nundone 1 1\nundone 1 3\ntext 5\nhello\nsaved\n | other",
     "m 2\nw\nw\nm 9\nw\n | no malformed at 0\nsaved\nbad\nsaved\n | same",
+    "v\nv \nv 2\nV\n | version 2\nbad\nbad\nbad\nsaved\n | same",
     // The numbers, as `stat` prints them.
     "n\nn 1\nn | stat 87\ngroup 7\nme 0\nmembers 2\naccepted 1 0\ntotal 5\nruns 1\nheld 0\nunstable 1\nepochs 1\nformer 0\n\nbad\nstat 87\ngroup 7\nme 0\nmembers 2\naccepted 1 0\ntotal 5\nruns 1\nheld 0\nunstable 1\nepochs 1\nformer 0\n\nsaved\n | same",
     "r\nd 0 1\nw\nn\n | ok 2\nok 3\nsaved\nstat 87\ngroup 7\nme 0\nmembers 2\naccepted 3 0\ntotal 4\nruns 1\nheld 0\nunstable 3\nepochs 2\nformer 5\n\nsaved\n | other",
