@@ -81,13 +81,13 @@ all_places_in xs (i ∷ ls) ns l k (inr p) q = in_right k (named_places xs i ns)
 
 -- ---- the label of an identifier
 
-label_name : (ns : Names) (x : List Tuple) (l : ℕ) → label_of ns x ≡ Some l → IsIn (x, l) ns
+pub label_name : (ns : Names) (x : List Tuple) (l : ℕ) → label_of ns x ≡ Some l → IsIn (x, l) ns
 label_name [] x l e = absurd (cc)
 label_name (n ∷ ns) x l e = bool_cases (ident_eq n.0 x)
     (λ t. let q = some_is n.1 l (sym (ap (λ (c : Bool). if c then Some n.1 else label_of ns x) t) ∙ e) in inl (ap (λ y. (y, n.1)) (eq_same n.0 x t) ∙ ap (λ i. (x, i)) q))
     (λ t. inr (label_name ns x l (sym (ap (λ (c : Bool). if c then Some n.1 else label_of ns x) t) ∙ e)))
 
-name_label : (ns : Names) (x : List Tuple) (l : ℕ) → AreApart ns → IsIn (x, l) ns → label_of ns x ≡ Some l
+pub name_label : (ns : Names) (x : List Tuple) (l : ℕ) → AreApart ns → IsIn (x, l) ns → label_of ns x ≡ Some l
 name_label [] x l a p = absurd p
 name_label (n ∷ ns) x l a (inl e) =
     ap (λ (c : Bool). if c then Some n.1 else label_of ns x) (same_eq n.0 x (ap (λ (m : List Tuple × ℕ). m.0) e)) ∙ ap (λ (m : List Tuple × ℕ). Some m.1) e

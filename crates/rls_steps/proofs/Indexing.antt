@@ -1,56 +1,72 @@
 -- Names, and what is kept of their labels and of their identifiers.
-use Rattle.std.proofs.Common.{◌≡◌, ℕ, zero, suc, ◌+◌, ◌<◌, Bool, List, [], ◌∷◌, ◌++◌, length, refl, sym, ap, ◌∙◌, subst, arith}
-use Rattle.std.specs.Prelude.{reverse, slice_get, ◌==◌, Some, None, if◌then◌else◌}
+use Rattle.std.proofs.Common.{◌≡◌, ℕ, zero, suc, ◌+◌, ◌-◌, ◌<◌, ◌≤◌, Bool, List, [], ◌∷◌, ◌++◌, length, length-append, take, set, append_assoc, get_or, refl, sym, ap, ◌∙◌, subst, arith}
+use Rattle.std.specs.Prelude.{reverse, slice_get, ◌==◌, nat_lt, Option, Some, None, Result, Ok, Err, IfOk, if◌then◌else◌}
 use Rattle.std.specs.BTreeMap.{is_at}
 use Rattle.std.specs.Cmp.{unsigned_tied}
 use Rattle.std.specs.Ordering.{nat_cmp}
-use Rattle.std.proofs.lemmas.List.{reverse-append, reverse-reverse, length-map, length-reverse}
+use Rattle.std.proofs.lemmas.Option.{slice_get-get_or, slice_get_read}
+use Rattle.std.proofs.lemmas.List.{reverse-reverse, length-reverse}
 use Rattle.rls_ident.specs.declared.tuple.Tuple.{Tuple}
 use Rattle.rls_ident.specs.Identifiers.{ident_eq}
 use Rattle.rls_ident.proofs.Ends.{eq_same}
-use Rattle.rls_ident.proofs.Members.{bool_cases, eq_is, neq_test, some_is}
-use Rattle.rls_model.proofs.Spliced.{append_map}
+use Rattle.rls_ident.proofs.Members.{bool_cases, lt_is, not_lt_is, eq_is, neq_test, some_is}
 use Rattle.rls_runs.proofs.RunPlaces.{get_left, get_right}
-use Rattle.rls_steps.specs.declared.names.Key.{Key}
-use Rattle.rls_steps.specs.declared.names.Name.{Name}
+use Rattle.rls_steps.specs.declared.key.Key.{Key}
 use Rattle.rls_steps.specs.Labelled.{Names, label_of}
-use Rattle.rls_steps.specs.Index.{place_in, label_in, named, olders, AreApart, newest_at, older_of, tail_at, IsIndexed}
-use Rattle.rls_steps.proofs.Giving.{reverse_snoc}
+use Rattle.rls_steps.specs.NameRuns.{Stretch, IsStretch, AreSound, AreKept, name_at, names_by, names_of, named, starts_of, run_in, run_of, key_cmp}
+use Rattle.rls_steps.specs.Index.{place_in, AreApart, newest_at, older_of, tail_at, IsIndexed}
+use Rattle.rls_steps.proofs.Giving.{reverse_snoc, front_stays, front_whole}
+use Rattle.rls_steps.proofs.Stretches.{names_long, names_get, one_name, shorter, named_snoc, first_by, reverse_cons, one_run, run_there, sound_at}
+use Rattle.rls_steps.proofs.Widths.{wide_same}
 
-reverse_cons : {A : Type 0} (x : A) (xs : List A) → reverse (x ∷ xs) ≡ reverse xs ++ x ∷ []
-reverse_cons x xs = reverse-append (x ∷ []) xs
+-- ---- names, one by one
 
--- ---- the last name
+pub names_count : (rs : List Stretch) (starts : List ℕ) (firsts : List (Key × ℕ)) (olders : List (Option ℕ)) (newest : List (ℕ × ℕ)) → IsIndexed rs starts firsts olders newest → length olders ≡ length (named rs)
+names_count rs starts firsts olders newest i =
+    sym (length-reverse olders) ∙ (ap length i.older ∙ (olders_long (reverse (named rs)) ∙ length-reverse (named rs)))
+  where
+    olders_long : (ns : Names) → length (older_of ns) ≡ length ns
+    olders_long [] = refl
+    olders_long (n ∷ ns) = ap suc (olders_long ns)
 
-pub named_more : (xs : List Name) (x : Name) → reverse (named (xs ++ x ∷ [])) ≡ (x.ident, x.label) ∷ reverse (named xs)
-named_more xs x = ap reverse (append_map (λ (y : Name). (y.ident, y.label)) xs (x ∷ [])) ∙ reverse_snoc (named xs) (x.ident, x.label)
-
-olders_more : (xs : List Name) (x : Name) → olders (reverse (xs ++ x ∷ [])) ≡ x.older ∷ olders (reverse xs)
-olders_more xs x = ap olders (reverse_snoc xs x)
-
-pub indexed_less : (xs : List Name) (newest newest' : List (ℕ × ℕ)) (labels labels' : List (Key × ℕ)) (x : Name) → IsIndexed (xs ++ x ∷ []) newest labels →
-    ((l : ℕ) → place_in newest' l ≡ (if is_at (nat_cmp x.label) l then x.older else place_in newest l)) →
-    ((j : Key) → label_in labels' j ≡ (if ident_eq x.ident j.0 then None else label_in labels j)) → IsIndexed xs newest' labels'
-indexed_less xs newest newest' labels labels' x i f g =
-    let ns = reverse (named xs) in
-    let whole = named_more xs x in
-    let both : AreApart ((x.ident, x.label) ∷ ns) = subst AreApart whole i.apart in
-    let old : (x.older ∷ olders (reverse xs)) ≡ (newest_at ns x.label ∷ older_of ns) = sym (olders_more xs x) ∙ (i.older ∙ ap older_of whole) in
-    let head : x.older ≡ newest_at ns x.label = cc in
-    let rest : olders (reverse xs) ≡ older_of ns = cc in
+-- one more name
+pub indexed_more : (rs rs' : List Stretch) (starts starts' : List ℕ) (firsts firsts' : List (Key × ℕ)) (olders : List (Option ℕ)) (newest newest' : List (ℕ × ℕ)) (x : List Tuple) (l : ℕ) → IsIndexed rs starts firsts olders newest →
+    AreKept rs' starts' firsts' → named rs' ≡ named rs ++ (x, l) ∷ [] → label_of (reverse (named rs)) x ≡ None →
+    ((k : ℕ) → place_in newest' k ≡ (if is_at (nat_cmp l) k then Some (length olders) else place_in newest k)) → IsIndexed rs' starts' firsts' (olders ++ newest_at (reverse (named rs)) l ∷ []) newest'
+indexed_more rs rs' starts starts' firsts firsts' olders newest newest' x l i kept more none f =
+    let ns = reverse (named rs) in
+    let whole : reverse (named rs') ≡ (x, l) ∷ ns = ap reverse more ∙ reverse_snoc (named rs) (x, l) in
+    let size : length olders ≡ length ns = names_count rs starts firsts olders newest i ∙ sym (length-reverse (named rs)) in
     record {
+      kept = kept;
+      apart = subst AreApart (sym whole) (none, i.apart);
+      older = reverse_snoc olders (newest_at ns l) ∙ (ap (λ os. newest_at ns l ∷ os) i.older ∙ ap older_of (sym whole));
+      newest = λ k. f k
+          ∙ (ap (λ n. if is_at (nat_cmp l) k then Some n else place_in newest k) size
+          ∙ (ap (λ o. if is_at (nat_cmp l) k then Some (length ns) else o) (i.newest k)
+          ∙ (ap (λ (b : Bool). if b then Some (length ns) else newest_at ns k) (unsigned_tied l k) ∙ ap (λ (ms : Names). newest_at ms k) (sym whole))));
+    }
+
+-- one less
+pub indexed_less : (rs rs' : List Stretch) (starts starts' : List ℕ) (firsts firsts' : List (Key × ℕ)) (olders : List (Option ℕ)) (older : Option ℕ) (newest newest' : List (ℕ × ℕ)) (x : List Tuple) (l : ℕ) → IsIndexed rs starts firsts (olders ++ older ∷ []) newest →
+    (AreApart (reverse (named rs)) → AreKept rs starts firsts → AreKept rs' starts' firsts') → named rs ≡ named rs' ++ (x, l) ∷ [] →
+    ((k : ℕ) → place_in newest' k ≡ (if is_at (nat_cmp l) k then older else place_in newest k)) → IsIndexed rs' starts' firsts' olders newest'
+indexed_less rs rs' starts starts' firsts firsts' olders older newest newest' x l i kept less f =
+    let ns = reverse (named rs') in
+    let whole : reverse (named rs) ≡ (x, l) ∷ ns = ap reverse less ∙ reverse_snoc (named rs') (x, l) in
+    let both : AreApart ((x, l) ∷ ns) = subst AreApart whole i.apart in
+    let old : (older ∷ reverse olders) ≡ (newest_at ns l ∷ older_of ns) = sym (reverse_snoc olders older) ∙ (i.older ∙ ap older_of whole) in
+    let head : older ≡ newest_at ns l = cc in
+    let rest : reverse olders ≡ older_of ns = cc in
+    record {
+      kept = kept i.apart i.kept;
       apart = both.1;
       older = rest;
-      newest = λ l. f l
-          ∙ bool_cases (is_at (nat_cmp x.label) l)
-          (λ t. ap (λ (b : Bool). if b then x.older else place_in newest l) t ∙ (head ∙ ap (newest_at ns) (eq_is x.label l (sym (unsigned_tied x.label l) ∙ t))))
-          (λ t. ap (λ (b : Bool). if b then x.older else place_in newest l) t
-          ∙ (i.newest l ∙ (ap (λ (ms : Names). newest_at ms l) whole ∙ ap (λ (b : Bool). if b then Some (length ns) else newest_at ns l) (sym (unsigned_tied x.label l) ∙ t))));
-      labels = λ j. g j
-          ∙ bool_cases (ident_eq x.ident j.0)
-          (λ t. ap (λ (b : Bool). if b then None else label_in labels j) t ∙ sym (subst (λ y. label_of ns y ≡ None) (eq_same x.ident j.0 t) both.0))
-          (λ t. ap (λ (b : Bool). if b then None else label_in labels j) t
-          ∙ (i.labels j ∙ (ap (λ (ms : Names). label_of ms j.0) whole ∙ ap (λ (b : Bool). if b then Some x.label else label_of ns j.0) t)));
+      newest = λ k. f k
+          ∙ bool_cases (is_at (nat_cmp l) k)
+          (λ t. ap (λ (b : Bool). if b then older else place_in newest k) t ∙ (head ∙ ap (newest_at ns) (eq_is l k (sym (unsigned_tied l k) ∙ t))))
+          (λ t. ap (λ (b : Bool). if b then older else place_in newest k) t
+          ∙ (i.newest k ∙ (ap (λ (ms : Names). newest_at ms k) whole ∙ ap (λ (b : Bool). if b then Some (length ns) else newest_at ns k) (sym (unsigned_tied l k) ∙ t))));
     }
 
 -- ---- the name at a place
@@ -77,43 +93,281 @@ tail_within (m ∷ ns) i n ms t j h = bool_cases (length ns == i)
     let s = (tail_short ns i n ms later).0 in
     ap (λ (c : Bool). if c then m ∷ ns else tail_at ns j) (neq_test (length ns) j (λ e. absurd (omega (arith, e, s, h)))) ∙ tail_within ns i n ms later j h)
 
-named_reverse : (xs : List Name) → named (reverse xs) ≡ reverse (named xs)
-named_reverse [] = refl
-named_reverse (x ∷ xs) =
-    let f : Name → List Tuple × ℕ = λ (y : Name). (y.ident, y.label) in
-    ap named (reverse_cons x xs) ∙ (append_map f (reverse xs) (x ∷ []) ∙ (ap (λ (ns : Names). ns ++ (x.ident, x.label) ∷ []) (named_reverse xs) ∙ sym (reverse_cons (x.ident, x.label) (named xs))))
-
-back_name : (ds : List Name) (i : ℕ) (x : Name) (n : List Tuple × ℕ) (ms : Names) → olders ds ≡ older_of (named ds) → slice_get (reverse ds) i ≡ Some x → tail_at (named ds) i ≡ n ∷ ms →
-    (x.ident ≡ n.0) × (x.label ≡ n.1) × (x.older ≡ newest_at ms n.1)
-back_name [] i x n ms o g t = absurd (cc)
-back_name (d ∷ ds) i x n ms o g t =
-    let here : slice_get (reverse ds ++ d ∷ []) i ≡ Some x = ap (λ (zs : List Name). slice_get zs i) (sym (reverse_cons d ds)) ∙ g in
-    let f : Name → List Tuple × ℕ = λ y. (y.ident, y.label) in
-    let size : length (reverse ds) ≡ length (named ds) = length-reverse ds ∙ sym (length-map ds f) in
-    let head : d.older ≡ newest_at (named ds) d.label = cc in
-    let rest : olders ds ≡ older_of (named ds) = cc in
-    bool_cases (length (named ds) == i)
-    (λ b. let whole : ((d.ident, d.label) ∷ named ds) ≡ (n ∷ ms) = sym (ap (λ (c : Bool). if c then (d.ident, d.label) ∷ named ds else tail_at (named ds) i) b) ∙ t in
-    let first : (d.ident, d.label) ≡ n = cc in
-    let others : named ds ≡ ms = cc in
-    let q = eq_is (length (named ds)) i b in
+tail_get : (ds : Names) (i : ℕ) (n : List Tuple × ℕ) (ms : Names) → tail_at ds i ≡ n ∷ ms → slice_get (reverse ds) i ≡ Some n
+tail_get [] i n ms t = absurd (cc)
+tail_get (d ∷ ds) i n ms t =
+    let size = length-reverse ds in
+    ap (λ (zs : Names). slice_get zs i) (reverse_cons d ds)
+    ∙ bool_cases (length ds == i)
+    (λ b. let whole : (d ∷ ds) ≡ (n ∷ ms) = sym (ap (λ (c : Bool). if c then d ∷ ds else tail_at ds i) b) ∙ t in
+    let first : d ≡ n = cc in
+    let q = eq_is (length ds) i b in
     let at : length (reverse ds) + 0 ≡ i = omega (arith, size, q) in
-    let same : d ≡ x = some_is d x (sym (get_right (reverse ds) (d ∷ []) 0) ∙ (ap (slice_get (reverse ds ++ d ∷ [])) at ∙ here)) in
-    let label = ap (λ (m : List Tuple × ℕ). m.1) first in (
-      ap (λ (y : Name). y.ident) (sym same) ∙ ap (λ (m : List Tuple × ℕ). m.0) first,
-      ap (λ (y : Name). y.label) (sym same) ∙ label,
-      ap (λ (y : Name). y.older) (sym same) ∙ (head ∙ (ap (λ (ks : Names). newest_at ks d.label) others ∙ ap (newest_at ms) label)),
-    ))
-    (λ b. let later = sym (ap (λ (c : Bool). if c then (d.ident, d.label) ∷ named ds else tail_at (named ds) i) b) ∙ t in
-    let s = (tail_short (named ds) i n ms later).0 in
-    back_name ds i x n ms rest (sym (get_left (reverse ds) (d ∷ []) i (omega (arith, size, s))) ∙ here) later)
+    ap (slice_get (reverse ds ++ d ∷ [])) (sym at) ∙ (get_right (reverse ds) (d ∷ []) 0 ∙ ap Some first))
+    (λ b. let later = sym (ap (λ (c : Bool). if c then d ∷ ds else tail_at ds i) b) ∙ t in
+    let s = (tail_short ds i n ms later).0 in
+    get_left (reverse ds) (d ∷ []) i (omega (arith, size, s)) ∙ tail_get ds i n ms later)
 
-pub tail_name : (xs : List Name) (i : ℕ) (x : Name) (n : List Tuple × ℕ) (ms : Names) → olders (reverse xs) ≡ older_of (reverse (named xs)) → slice_get xs i ≡ Some x → tail_at (reverse (named xs)) i ≡ n ∷ ms →
-    (x.ident ≡ n.0) × (x.label ≡ n.1) × (x.older ≡ newest_at ms n.1)
-tail_name xs i x n ms o g t =
-    back_name (reverse xs) i x n ms (o ∙ sym (ap older_of (named_reverse xs))) (ap (λ (zs : List Name). slice_get zs i) (reverse-reverse xs) ∙ g) (ap (λ (ks : Names). tail_at ks i) (named_reverse xs) ∙ t)
+-- the name at a place is the first of those that aren't newer
+pub tail_name : (names : Names) (i : ℕ) (m n : List Tuple × ℕ) (ms : Names) → slice_get names i ≡ Some m → tail_at (reverse names) i ≡ n ∷ ms → m ≡ n
+tail_name names i m n ms g t = some_is m n (sym g ∙ (ap (λ (zs : Names). slice_get zs i) (sym (reverse-reverse names)) ∙ tail_get (reverse names) i n ms t))
 
-pub named_at : (xs : List Name) (i : ℕ) (x : Name) → slice_get xs i ≡ Some x → slice_get (named xs) i ≡ Some (x.ident, x.label)
-named_at [] i x g = absurd (cc)
-named_at (y ∷ ys) zero x g = let e : y ≡ x = cc in ap (λ (z : Name). Some (z.ident, z.label)) e
-named_at (y ∷ ys) (suc i) x g = named_at ys i x g
+pub tail_ok : {E : Type 0} (names : Names) (i : ℕ) (r : Result (List Tuple × ℕ) E) → IfOk r (λ m. slice_get names i ≡ Some m) → IfOk r (λ m. (n : List Tuple × ℕ) (ns : Names) → tail_at (reverse names) i ≡ n ∷ ns → m ≡ n)
+tail_ok names i (Ok m) w = λ n ns t. tail_name names i m n ns w t
+tail_ok names i (Err e) w = tt
+
+pub none_left : (ns : Names) (k : ℕ) → length ns ≡ 0 → ns ≡ take k ns
+none_left [] zero e = refl
+none_left [] (suc k) e = refl
+none_left (n ∷ ns) k e = absurd (omega (arith, e))
+
+tail_older : (ds : Names) (os : List (Option ℕ)) (i : ℕ) (o : Option ℕ) (n : List Tuple × ℕ) (ms : Names) → os ≡ older_of ds → slice_get (reverse os) i ≡ Some o → tail_at ds i ≡ n ∷ ms → o ≡ newest_at ms n.1
+tail_older [] os i o n ms e g t = absurd (cc)
+tail_older (d ∷ ds) [] i o n ms e g t = absurd (cc)
+tail_older (d ∷ ds) (p ∷ os) i o n ms e g t =
+    let head : p ≡ newest_at ds d.1 = cc in
+    let rest : os ≡ older_of ds = cc in
+    let here : slice_get (reverse os ++ p ∷ []) i ≡ Some o = ap (λ (zs : List (Option ℕ)). slice_get zs i) (sym (reverse_cons p os)) ∙ g in
+    let size : length (reverse os) ≡ length ds = length-reverse os ∙ (ap length rest ∙ olders_long ds) in
+    bool_cases (length ds == i)
+    (λ b. let whole : (d ∷ ds) ≡ (n ∷ ms) = sym (ap (λ (c : Bool). if c then d ∷ ds else tail_at ds i) b) ∙ t in
+    let first : d ≡ n = cc in
+    let others : ds ≡ ms = cc in
+    let q = eq_is (length ds) i b in
+    let at : length (reverse os) + 0 ≡ i = omega (arith, size, q) in
+    let same : p ≡ o = some_is p o (sym (get_right (reverse os) (p ∷ []) 0) ∙ (ap (slice_get (reverse os ++ p ∷ [])) at ∙ here)) in
+    sym same ∙ (head ∙ (ap (λ (ks : Names). newest_at ks d.1) others ∙ ap (λ (m : List Tuple × ℕ). newest_at ms m.1) first)))
+    (λ b. let later = sym (ap (λ (c : Bool). if c then d ∷ ds else tail_at ds i) b) ∙ t in
+    let s = (tail_short ds i n ms later).0 in
+    tail_older ds os i o n ms rest (sym (get_left (reverse os) (p ∷ []) i (omega (arith, size, s))) ∙ here) later)
+  where
+    olders_long : (ns : Names) → length (older_of ns) ≡ length ns
+    olders_long [] = refl
+    olders_long (m ∷ ns) = ap suc (olders_long ns)
+
+pub older_at : (rs : List Stretch) (olders : List (Option ℕ)) (i : ℕ) (o : Option ℕ) (n : List Tuple × ℕ) (ms : Names) → reverse olders ≡ older_of (reverse (named rs)) → slice_get olders i ≡ Some o → tail_at (reverse (named rs)) i ≡ n ∷ ms → o ≡ newest_at ms n.1
+older_at rs olders i o n ms e g t = tail_older (reverse (named rs)) (reverse olders) i o n ms e (ap (λ (zs : List (Option ℕ)). slice_get zs i) (reverse-reverse olders) ∙ g) t
+
+-- ---- runs that change
+
+pub starts_long : (n : ℕ) (rs : List Stretch) → length (starts_of n rs) ≡ length rs
+starts_long n [] = refl
+starts_long n (r ∷ rs) = ap suc (starts_long (n + r.len) rs)
+
+sound_front : (rs : List Stretch) (r : Stretch) → AreSound (rs ++ r ∷ []) → AreSound rs
+sound_front [] r s = tt
+sound_front (q ∷ qs) r s = (s.0, sound_front qs r s.1)
+
+sound_more : (rs : List Stretch) (r : Stretch) → AreSound rs → IsStretch r.first r.label r.down r.len → AreSound (rs ++ r ∷ [])
+sound_more [] r s n = (n, tt)
+sound_more (q ∷ qs) r s n = (s.0, sound_more qs r s.1 n)
+
+starts_more : (n : ℕ) (rs : List Stretch) (r : Stretch) → starts_of n (rs ++ r ∷ []) ≡ starts_of n rs ++ (n + length (named rs)) ∷ []
+starts_more n [] r = let e : n + 0 ≡ n = omega arith in ap (λ k. k ∷ []) (sym e)
+starts_more n (q ∷ rs) r =
+    let long = length-append (names_of q) (named rs) in
+    let own = names_long q.down q.first q.label 0 q.len in
+    let e : (n + q.len) + length (named rs) ≡ n + length (named (q ∷ rs)) = omega (arith, long, own) in
+    ap (λ ks. n ∷ ks) (starts_more (n + q.len) rs r ∙ ap (λ k. starts_of (n + q.len) rs ++ k ∷ []) e)
+
+-- the last run is longer or shorter
+pub kept_last : (rs : List Stretch) (r s : Stretch) (starts : List ℕ) (firsts : List (Key × ℕ)) → IsStretch s.first s.label s.down s.len → s.first ≡ r.first → AreKept (rs ++ r ∷ []) starts firsts → AreKept (rs ++ s ∷ []) starts firsts
+kept_last rs r s starts firsts n e k = record {
+  sound = sound_more rs s (sound_front rs r k.sound) n;
+  starts = k.starts ∙ (starts_more 0 rs r ∙ sym (starts_more 0 rs s));
+  firsts = λ q. k.firsts q
+      ∙ (ap (λ ds. run_of ds q.ident) (reverse_snoc rs r) ∙ (ap (λ y. if ident_eq y q.ident then Some (length (reverse rs)) else run_of (reverse rs) q.ident) (sym e) ∙ sym (ap (λ ds. run_of ds q.ident) (reverse_snoc rs s))));
+}
+
+-- one more run
+pub kept_more : (rs : List Stretch) (r : Stretch) (starts : List ℕ) (firsts firsts' : List (Key × ℕ)) (k : Key) → IsStretch r.first r.label r.down r.len → k.ident ≡ r.first → AreKept rs starts firsts →
+    ((q : Key) → run_in firsts' q ≡ (if is_at (key_cmp k) q then Some (length rs) else run_in firsts q)) → AreKept (rs ++ r ∷ []) (starts ++ length (named rs) ∷ []) firsts'
+kept_more rs r starts firsts firsts' k n e h f = record {
+  sound = sound_more rs r h.sound n;
+  starts = ap (λ ks. ks ++ length (named rs) ∷ []) h.starts ∙ (let z : length (named rs) ≡ 0 + length (named rs) = omega arith in ap (λ m. starts_of 0 rs ++ m ∷ []) z ∙ sym (starts_more 0 rs r));
+  firsts = λ q. f q
+      ∙ (ap (λ (b : Bool). if b then Some (length rs) else run_in firsts q) (wide_same k.ident q.ident ∙ ap (λ y. ident_eq y q.ident) e)
+      ∙ (ap (λ o. if ident_eq r.first q.ident then Some (length rs) else o) (h.firsts q)
+      ∙ (ap (λ m. if ident_eq r.first q.ident then Some m else run_of (reverse rs) q.ident) (sym (length-reverse rs)) ∙ sym (ap (λ ds. run_of ds q.ident) (reverse_snoc rs r)))));
+}
+
+-- no other run begins with the identifier of a last one
+last_alone : (rs : List Stretch) (r : Stretch) → AreApart (reverse (named (rs ++ r ∷ []))) → AreSound (rs ++ r ∷ []) → run_of (reverse rs) r.first ≡ None
+last_alone rs r a s = go (run_of (reverse rs) r.first) refl
+  where
+    go : (o : Option ℕ) → run_of (reverse rs) r.first ≡ o → o ≡ None
+    go None e = refl
+    go (Some i) e =
+        let w = run_there (reverse rs) r.first i e in
+        let size = length-reverse rs in
+        let short = w.3 in
+        let all = rs ++ r ∷ [] in
+        let there : slice_get all i ≡ Some w.0 = get_left rs (r ∷ []) i (omega (arith, size, short)) ∙ (ap (λ (zs : List Stretch). slice_get zs i) (sym (reverse-reverse rs)) ∙ w.1) in
+        let z : length rs + 0 ≡ length rs = omega arith in
+        let last : slice_get all (length rs) ≡ Some r = ap (slice_get all) (sym z) ∙ get_right rs (r ∷ []) 0 in
+        let first : (name_at w.0 0).0 ≡ (name_at r 0).0 =
+        ap (λ (n : List Tuple × ℕ). n.0) (first_by w.0.down w.0.first w.0.label) ∙ (w.2 ∙ sym (ap (λ (n : List Tuple × ℕ). n.0) (first_by r.down r.first r.label))) in
+        let same = one_run all i (length rs) w.0 r 0 0 a there last (sound_at all i w.0 s there).some (sound_at all (length rs) r s last).some first in
+        absurd (omega (arith, size, short, same))
+
+-- one run less
+pub kept_less : (rs : List Stretch) (r : Stretch) (ss ss' : List ℕ) (fs fs' : List (Key × ℕ)) (k : Key) → k.ident ≡ r.first → ss' ≡ take (length rs) ss → AreApart (reverse (named (rs ++ r ∷ []))) → AreKept (rs ++ r ∷ []) ss fs →
+    ((q : Key) → run_in fs' q ≡ (if is_at (key_cmp k) q then None else run_in fs q)) → AreKept rs ss' fs'
+kept_less rs r ss ss' fs fs' k e t a h f =
+    let own = starts_of 0 rs in
+    let last = (0 + length (named rs)) ∷ [] in
+    record {
+      sound = sound_front rs r h.sound;
+      starts = t ∙ (ap (take (length rs)) (h.starts ∙ starts_more 0 rs r) ∙ (ap (λ n. take n (own ++ last)) (sym (starts_long 0 rs)) ∙ front_stays own own last (front_whole own)));
+      firsts = λ q. f q
+          ∙ (ap (λ (b : Bool). if b then None else run_in fs q) (wide_same k.ident q.ident ∙ ap (λ y. ident_eq y q.ident) e)
+          ∙ bool_cases (ident_eq r.first q.ident)
+          (λ b. ap (λ (c : Bool). if c then None else run_in fs q) b ∙ sym (subst (λ y. run_of (reverse rs) y ≡ None) (eq_same r.first q.ident b) (last_alone rs r a h.sound)))
+          (λ b. ap (λ (c : Bool). if c then None else run_in fs q) b
+          ∙ (h.firsts q ∙ (ap (λ ds. run_of ds q.ident) (reverse_snoc rs r) ∙ ap (λ (c : Bool). if c then Some (length (reverse rs)) else run_of (reverse rs) q.ident) b))));
+    }
+
+-- ---- the last run
+
+split_last : (rs : List Stretch) (m : ℕ) (r : Stretch) → length rs ≡ suc m → r ≡ get_or rs m r → (front : List Stretch) × (rs ≡ front ++ r ∷ []) × ((s : Stretch) → set rs m s ≡ front ++ s ∷ [])
+split_last [] m r e g = absurd (omega (arith, e))
+split_last (x ∷ []) zero r e g = ([], ap (λ z. z ∷ []) (sym g), λ s. refl)
+split_last (x ∷ []) (suc m) r e g = absurd (omega (arith, e))
+split_last (x ∷ (y ∷ ys)) zero r e g = absurd (omega (arith, e))
+split_last (x ∷ (y ∷ ys)) (suc m) r e g =
+    let w = split_last (y ∷ ys) m r (omega (arith, e)) g in
+    (x ∷ w.0, ap (λ zs. x ∷ zs) w.1, λ s. ap (λ zs. x ∷ zs) (w.2 s))
+
+pub last_split : (rs : List Stretch) (n : ℕ) (r : Stretch) → n ≡ length rs → 0 < length rs → r ≡ get_or rs (n - 1) r → (front : List Stretch) × (rs ≡ front ++ r ∷ []) × ((s : Stretch) → set rs (n - 1) s ≡ front ++ s ∷ [])
+last_split rs n r e h g = split_last rs (n - 1) r (omega (arith, e, h)) g
+
+pub last_more : (rs : List Stretch) (n : ℕ) (r s : Stretch) (x : List Tuple) (l : ℕ) → n ≡ length rs → 0 < length rs → r ≡ get_or rs (n - 1) r → names_of s ≡ names_of r ++ (x, l) ∷ [] → named (set rs (n - 1) s) ≡ named rs ++ (x, l) ∷ []
+last_more rs n r s x l e h g w =
+    let t = last_split rs n r e h g in
+    let f = t.0 in
+    ap named (t.2 s)
+    ∙ (named_snoc f s
+    ∙ (ap (λ (ns : Names). named f ++ ns) w
+    ∙ (sym (append_assoc (named f) (names_of r) ((x, l) ∷ [])) ∙ (ap (λ (ns : Names). ns ++ (x, l) ∷ []) (sym (named_snoc f r)) ∙ ap (λ (zs : List Stretch). named zs ++ (x, l) ∷ []) (sym t.1)))))
+
+pub last_kept : (rs : List Stretch) (n : ℕ) (r s : Stretch) (ss : List ℕ) (fs : List (Key × ℕ)) → n ≡ length rs → 0 < length rs → r ≡ get_or rs (n - 1) r → IsStretch s.first s.label s.down s.len → s.first ≡ r.first → AreKept rs ss fs → AreKept (set rs (n - 1) s) ss fs
+last_kept rs n r s ss fs e h g i q k =
+    let t = last_split rs n r e h g in
+    subst (λ (zs : List Stretch). AreKept zs ss fs) (sym (t.2 s)) (kept_last t.0 r s ss fs i q (subst (λ (zs : List Stretch). AreKept zs ss fs) t.1 k))
+
+same_last : (rs : List Stretch) (n : ℕ) (r q : Stretch) → n ≡ length rs → 0 < length rs → r ≡ get_or rs (n - 1) r → q ≡ get_or rs (n - 1) q → r ≡ q
+same_last rs n r q e h g k =
+    let short : n - 1 < length rs = omega (arith, e, h) in
+    some_is r q (sym (slice_get_read rs (length rs) (n - 1) r refl short g) ∙ slice_get_read rs (length rs) (n - 1) q refl short k)
+
+pub last_less : (rs : List Stretch) (n : ℕ) (r q s : Stretch) (len l : ℕ) → n ≡ length rs → 0 < length rs → r ≡ get_or rs (n - 1) r → q ≡ get_or rs (n - 1) q → len ≡ r.len → 0 < len - 1 → l ≡ (name_at r (len - 1)).1 →
+    s ≡ record { first = q.first; label = q.label; down = q.down; len = q.len - 1 } → (x : List Tuple) × (named rs ≡ named (set rs (n - 1) s) ++ (x, l) ∷ [])
+last_less rs n r q s len l e h g k size more label is =
+    let t = last_split rs n q e h k in
+    let f = t.0 in
+    let same = same_last rs n r q e h g k in
+    let long : len ≡ q.len = size ∙ ap (λ (u : Stretch). u.len) same in
+    let some : 0 < q.len = omega (arith, long, more) in
+    let x = (name_at q (q.len - 1)).0 in
+    let own : l ≡ (name_at q (q.len - 1)).1 = label ∙ (ap (λ (u : Stretch). (name_at u (len - 1)).1) same ∙ ap (λ m. (name_at q (m - 1)).1) long) in
+    let names : names_of q ≡ names_of s ++ (x, l) ∷ [] =
+    shorter q.down q.first q.label q.len some
+    ∙ (ap (λ (u : Stretch). names_of u ++ name_at q (q.len - 1) ∷ []) (sym is) ∙ ap (λ m. names_of s ++ (x, m) ∷ []) (sym own)) in (
+      x,
+      ap named t.1
+          ∙ (named_snoc f q
+          ∙ (ap (λ (ns : Names). named f ++ ns) names
+          ∙ (sym (append_assoc (named f) (names_of s) ((x, l) ∷ [])) ∙ (ap (λ (ns : Names). ns ++ (x, l) ∷ []) (sym (named_snoc f s)) ∙ ap (λ (zs : List Stretch). named zs ++ (x, l) ∷ []) (sym (t.2 s)))))),
+    )
+
+pub alone_less : (rs zs : List Stretch) (n : ℕ) (r q : Stretch) (len l : ℕ) → n ≡ length rs → 0 < length rs → r ≡ get_or rs (n - 1) r → rs ≡ zs ++ q ∷ [] → len ≡ r.len → len - 1 ≡ 0 → 0 < len → l ≡ (name_at r (len - 1)).1 → (x : List Tuple) × (named rs ≡ named zs ++ (x, l) ∷ [])
+alone_less rs zs n r q len l e h g w size one some label =
+    let short : n - 1 < length rs = omega (arith, e, h) in
+    let all = ap length w ∙ length-append zs (q ∷ []) in
+    let at : length zs + 0 ≡ n - 1 = omega (arith, e, all) in
+    let here : slice_get rs (n - 1) ≡ Some q = ap (λ (ts : List Stretch). slice_get ts (n - 1)) w ∙ (ap (slice_get (zs ++ q ∷ [])) (sym at) ∙ get_right zs (q ∷ []) 0) in
+    let same : r ≡ q = some_is r q (sym (slice_get_read rs (length rs) (n - 1) r refl short g) ∙ here) in
+    let long : q.len ≡ 1 = let u = size ∙ ap (λ (u : Stretch). u.len) same in omega (arith, u, one, some) in
+    let own : l ≡ q.label = label ∙ (ap (λ (u : Stretch). (name_at u (len - 1)).1) same ∙ (ap (λ m. (name_at q m).1) one ∙ ap (λ (m : List Tuple × ℕ). m.1) (first_by q.down q.first q.label))) in
+    let names : names_of q ≡ (q.first, l) ∷ [] = ap (names_by q.down q.first q.label 0) long ∙ (one_name q.down q.first q.label ∙ ap (λ m. (q.first, m) ∷ []) (sym own)) in
+    (q.first, ap named w ∙ (named_snoc zs q ∙ ap (λ (ns : Names). named zs ++ ns) names))
+
+-- ---- the run at a place
+
+pub placed_name : (n : ℕ) (rs : List Stretch) (k : ℕ) (r : Stretch) (s i : ℕ) → slice_get rs k ≡ Some r → slice_get (starts_of n rs) k ≡ Some s → s ≤ i → i - s < r.len → (n ≤ s) × (slice_get (named rs) (i - n) ≡ Some (name_at r (i - s)))
+placed_name n [] k r s i g h w l = absurd (cc)
+placed_name n (q ∷ qs) zero r s i g h w l =
+    let same : q ≡ r = some_is q r g in
+    let here : n ≡ s = some_is n s h in
+    let short : i - n < r.len = omega (arith, here, l) in
+    let long = names_long q.down q.first q.label 0 q.len in
+    let size : q.len ≡ r.len = ap (λ (t : Stretch). t.len) same in
+    let back : 0 + (i - n) ≡ i - s = omega (arith, here) in (
+      omega (arith, here),
+      get_left (names_of q) (named qs) (i - n) (omega (arith, long, size, short))
+          ∙ (names_get q.down q.first q.label 0 q.len (i - n) (omega (arith, size, short)) ∙ (ap (λ m. Some (name_at q m)) back ∙ ap (λ (t : Stretch). Some (name_at t (i - s))) same)),
+    )
+placed_name n (q ∷ qs) (suc k) r s i g h w l =
+    let ih = placed_name (n + q.len) qs k r s i g h w l in
+    let low = ih.0 in
+    let long = names_long q.down q.first q.label 0 q.len in
+    let on : length (names_of q) + (i - (n + q.len)) ≡ i - n = omega (arith, long, low, w) in
+    (omega (arith, low), ap (slice_get (names_of q ++ named qs)) (sym on) ∙ (get_right (names_of q) (named qs) (i - (n + q.len)) ∙ ih.1))
+
+pub next_start : (n : ℕ) (rs : List Stretch) (k : ℕ) (r : Stretch) (s t : ℕ) → slice_get rs k ≡ Some r → slice_get (starts_of n rs) k ≡ Some s → slice_get (starts_of n rs) (suc k) ≡ Some t → t ≡ s + r.len
+next_start n [] k r s t g h l = absurd (cc)
+next_start n (q ∷ []) zero r s t g h l = absurd (cc)
+next_start n (q ∷ (p ∷ qs)) zero r s t g h l =
+    let same : q ≡ r = some_is q r g in
+    let here : n ≡ s = some_is n s h in
+    let there : n + q.len ≡ t = some_is (n + q.len) t l in
+    let size : q.len ≡ r.len = ap (λ (u : Stretch). u.len) same in
+    omega (arith, here, there, size)
+next_start n (q ∷ qs) (suc k) r s t g h l = next_start (n + q.len) qs k r s t g h l
+
+pub last_start : (n : ℕ) (rs : List Stretch) (k : ℕ) (r : Stretch) (s : ℕ) → slice_get rs k ≡ Some r → slice_get (starts_of n rs) k ≡ Some s → suc k ≡ length rs → n + length (named rs) ≡ s + r.len
+last_start n [] k r s g h e = absurd (cc)
+last_start n (q ∷ []) zero r s g h e =
+    let same : q ≡ r = some_is q r g in
+    let here : n ≡ s = some_is n s h in
+    let size : q.len ≡ r.len = ap (λ (u : Stretch). u.len) same in
+    let long = length-append (names_of q) [] in
+    let own = names_long q.down q.first q.label 0 q.len in
+    omega (arith, here, size, long, own)
+last_start n (q ∷ (p ∷ qs)) zero r s g h e = absurd (omega (arith, e))
+last_start n (q ∷ qs) (suc k) r s g h e =
+    let ih = last_start (n + q.len) qs k r s g h (omega (arith, e)) in
+    let long = length-append (names_of q) (named qs) in
+    let own = names_long q.down q.first q.label 0 q.len in
+    omega (arith, ih, long, own)
+
+pub some_starts : (rs : List Stretch) (ss : List ℕ) (i : ℕ) → ss ≡ starts_of 0 rs → i < length (named rs) → 0 < length ss
+some_starts [] ss i e h = absurd (omega (arith, h))
+some_starts (r ∷ rs) ss i e h = let n = ap length e in omega (arith, n)
+
+pub first_start : (rs : List Stretch) (ss : List ℕ) (i : ℕ) → ss ≡ starts_of 0 rs → get_or ss 0 0 ≤ i
+first_start [] ss i e = let n = ap (λ (ks : List ℕ). get_or ks 0 0) e in omega (arith, n)
+first_start (r ∷ rs) ss i e = let n = ap (λ (ks : List ℕ). get_or ks 0 0) e in omega (arith, n)
+
+pub place_short : (rs : List Stretch) (ss : List ℕ) (i k : ℕ) (r : Stretch) → ss ≡ starts_of 0 rs → i < length (named rs) → k < length ss → get_or ss k 0 ≤ i → (k + 1 < length ss → i < get_or ss (k + 1) 0) → slice_get rs k ≡ Some r → i - get_or ss k 0 < r.len
+place_short rs ss i k r e w h low high g =
+    let s = get_or ss k 0 in
+    let at : slice_get (starts_of 0 rs) k ≡ Some s = ap (λ (ks : List ℕ). slice_get ks k) (sym e) ∙ slice_get-get_or ss k 0 h in
+    let long = ap length e ∙ starts_long 0 rs in
+    let one : k + 1 ≡ suc k = omega arith in
+    bool_cases (nat_lt (k + 1) (length ss))
+    (λ b. let more = lt_is (k + 1) (length ss) b in
+    let next : slice_get (starts_of 0 rs) (suc k) ≡ Some (get_or ss (k + 1) 0) = ap (slice_get (starts_of 0 rs)) (sym one) ∙ (ap (λ (ks : List ℕ). slice_get ks (k + 1)) (sym e) ∙ slice_get-get_or ss (k + 1) 0 more) in
+    let t = next_start 0 rs k r s (get_or ss (k + 1) 0) g at next in
+    let over = high more in
+    omega (arith, t, over, low))
+    (λ b. let last = not_lt_is (k + 1) (length ss) b in
+    let t = last_start 0 rs k r s g at (omega (arith, last, h, long)) in
+    omega (arith, t, w, low))
+
+pub place_name : (rs : List Stretch) (ss : List ℕ) (i k : ℕ) (r : Stretch) → ss ≡ starts_of 0 rs → k < length ss → get_or ss k 0 ≤ i → slice_get rs k ≡ Some r → i - get_or ss k 0 < r.len → slice_get (named rs) i ≡ Some (name_at r (i - get_or ss k 0))
+place_name rs ss i k r e h low g short =
+    let s = get_or ss k 0 in
+    let at : slice_get (starts_of 0 rs) k ≡ Some s = ap (λ (ks : List ℕ). slice_get ks k) (sym e) ∙ slice_get-get_or ss k 0 h in
+    let z : i ≡ i - 0 = omega arith in
+    ap (slice_get (named rs)) z ∙ (placed_name 0 rs k r s i g at low short).1

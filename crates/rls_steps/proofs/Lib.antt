@@ -13,6 +13,9 @@ pub mod Giving
 pub mod Tabled
 pub mod Stacks
 pub mod Zipping
+pub mod Widths
+pub mod Stretches
+pub mod RunLookups
 pub mod Indexing
 pub mod Walking
 pub mod Found

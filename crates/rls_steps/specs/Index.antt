@@ -1,34 +1,19 @@
 -- Names that are looked up, by identifier and by label. The newest comes first, if nothing else is said.
-use Rattle.std.specs.Prelude.{◌≡◌, ℕ, suc, ◌==◌, List, [], ◌∷◌, ◌++◌, map, length, reverse, Option, Some, None, Result, Ok, Err, if◌then◌else◌}
-use Rattle.std.specs.declared.cmp.Ordering.{Ordering}
+use Rattle.std.specs.Prelude.{◌≡◌, ℕ, suc, ◌==◌, List, [], ◌∷◌, ◌++◌, length, reverse, Option, Some, None, Result, Ok, Err, if◌then◌else◌}
 use Rattle.std.specs.Ordering.{nat_cmp}
 use Rattle.std.specs.Map.{lookup}
 use Rattle.std.specs.BTreeMap.{is_at}
 use Rattle.rls_ident.specs.declared.tuple.Tuple.{Tuple}
-use Rattle.rls_ident.specs.Identifiers.{ident_cmp}
 use Rattle.rls_runs.specs.Runs.{place_of}
-use Rattle.rls_steps.specs.declared.names.Key.{Key}
-use Rattle.rls_steps.specs.declared.names.Name.{Name}
+use Rattle.rls_steps.specs.declared.key.Key.{Key}
 use Rattle.rls_steps.specs.Labelled.{Names, label_of}
+use Rattle.rls_steps.specs.NameRuns.{Stretch, named, AreKept}
 
 -- ---- what is kept
 
-abbrev pub key_cmp : Key → Key → Ordering
-key_cmp a b = ident_cmp a.0 b.0
-
--- what is kept of a label, and of an identifier
+-- what is kept of a label
 abbrev pub place_in : List (ℕ × ℕ) → ℕ → Option ℕ
 place_in es l = lookup (is_at (nat_cmp l)) es
-
-abbrev pub label_in : List (Key × ℕ) → Key → Option ℕ
-label_in es k = lookup (is_at (key_cmp k)) es
-
--- the identifier and the label of each
-abbrev pub named : List Name → Names
-named xs = map (λ (x : Name). (x.ident, x.label)) xs
-
-abbrev pub olders : List Name → List (Option ℕ)
-olders xs = map (λ (x : Name). x.older) xs
 
 -- ---- names
 
@@ -52,12 +37,12 @@ abbrev pub tail_at : Names → ℕ → Names
 tail_at [] i = []
 tail_at (n ∷ ns) i = if length ns == i then n ∷ ns else tail_at ns i
 
--- names, the oldest first, and what is kept of their labels and of their identifiers
-pub record IsIndexed (xs : List Name) (by_label : List (ℕ × ℕ)) (by_ident : List (Key × ℕ)) : Type 0 where
-  pub apart : AreApart (reverse (named xs))
-  pub older : olders (reverse xs) ≡ older_of (reverse (named xs))
-  pub newest : (l : ℕ) → place_in by_label l ≡ newest_at (reverse (named xs)) l
-  pub labels : (k : Key) → label_in by_ident k ≡ label_of (reverse (named xs)) k.0
+-- runs of names, the oldest first, and what is kept of their identifiers and of their labels
+pub record IsIndexed (rs : List Stretch) (ss : List ℕ) (fs : List (Key × ℕ)) (os : List (Option ℕ)) (ns : List (ℕ × ℕ)) : Type 0 where
+  pub kept : AreKept rs ss fs
+  pub apart : AreApart (reverse (named rs))
+  pub older : reverse os ≡ older_of (reverse (named rs))
+  pub newest : (l : ℕ) → place_in ns l ≡ newest_at (reverse (named rs)) l
 
 -- ---- places in a text
 

@@ -3,6 +3,7 @@ pub mod Tables
 pub mod Back
 pub mod BackLaws
 pub mod Labelled
+pub mod NameRuns
 pub mod Index
 pub mod StepLaws
 pub mod Courses

@@ -65,9 +65,9 @@ fn push_places(
 {
     let mut cursor = names.newest(label);
     'names: while let Some(at) = cursor {
-        let name = names.name(at);
-        push_place(places, replica, &name.ident)?;
-        cursor = name.older;
+        let (ident, _) = names.name(at)?;
+        push_place(places, replica, &ident)?;
+        cursor = names.older(at);
     }
     Ok(())
 }
@@ -148,11 +148,11 @@ fn place_before(
     ensures place { IfOk result (λ at. (next : ℕ) → at ≡ place_over (held_by replica.now next names.now) (Some left) right) }
 {
     let Some(right) = right else {
-        return Ok(gone(replica, names, left));
+        return gone(replica, names, left);
     };
     match place_of(replica, names, right)? {
         Some(at) => Ok(at),
-        None => Ok(gone(replica, names, left)),
+        None => gone(replica, names, left),
     }
 }
 
@@ -167,12 +167,15 @@ fn place_of(replica: &Replica, names: &Names, label: u64) -> Result<Option<u64>,
 }
 
 // Where the character with this label would be that is gone.
-fn gone(replica: &Replica, names: &Names, label: u64) -> u64
-    ensures gone { result ≡ below_or_none (idents_over replica.now) (ident_of (reverse names.now) label) }
+fn gone(replica: &Replica, names: &Names, label: u64) -> Result<u64, AllocError>
+    ensures gone { IfOk result (λ at. at ≡ below_or_none (idents_over replica.now) (ident_of (reverse names.now) label)) }
 {
     match names.newest(label) {
-        None => 0,
-        Some(at) => below(replica, &names.name(at).ident),
+        None => Ok(0),
+        Some(at) => {
+            let (ident, _) = names.name(at)?;
+            Ok(below(replica, &ident))
+        }
     }
 }
 

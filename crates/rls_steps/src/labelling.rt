@@ -10,7 +10,8 @@ ghost use Rattle.rls_steps.specs.Labelled.{label_of, label_all, new_label, ready
 ghost use Rattle.rls_steps.specs.Tables.{left_in};
 ghost use Rattle.rls_steps.specs.Recorded.{held_by};
 
-use crate::names::{Key, Names};
+use crate::key::Key;
+use crate::names::Names;
 use crate::piece::{Labels, Piece};
 use rls_ident::{EpochName, Ident, rely};
 use rls_ops::{Body, Op};
@@ -48,11 +49,11 @@ fn give_one(ident: Ident, names: &mut Names, next: &mut u64) -> Result<u64, Allo
     ensures label { IfOk result (λ l. label_of (reverse names.new) ident ≡ Some l) }
     ensures front { take (length names.old) names.new ≡ names.old }
 {
-    let key = Key(ident);
+    let key = Key { ident };
     match names.label_of(&key) {
         Some(label) => Ok(label),
         None => {
-            let label = name(key.0, names, next)?;
+            let label = name(key.ident, names, next)?;
             Ok(label)
         }
     }
@@ -227,11 +228,11 @@ pub(crate) fn translated(
 {
     let mut there = Names::new(names.alloc());
     'names: for i in 0..names.len() {
-        let name = names.name(i);
-        let Ok(ident) = replica.ident_to_greatest(epoch, &name.ident) else {
+        let (ident, label) = names.name(i)?;
+        let Ok(ident) = replica.ident_to_greatest(epoch, &ident) else {
             return Err(AllocError);
         };
-        there.push(ident, name.label)?;
+        there.push(ident, label)?;
     }
     Ok(there)
 }

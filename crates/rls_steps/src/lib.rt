@@ -4,8 +4,10 @@
 mod changing;
 mod dropping;
 mod finding;
+mod key;
 mod labelling;
 pub mod laws;
+mod name_run;
 mod names;
 mod piece;
 mod returning;

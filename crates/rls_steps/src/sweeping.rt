@@ -7,8 +7,9 @@ ghost use Rattle.rls_seen.specs.Seen.{idents_over};
 ghost use Rattle.rls_steps.specs.Tables.{given_labels};
 ghost use Rattle.rls_steps.specs.Sweeping.{piece_labels, step_labels, is_needed, is_newest, is_kept, kept_names};
 
-use crate::names::{Name, Names};
+use crate::names::Names;
 use crate::piece::{Piece, Step};
+use rls_ident::Ident;
 use rls_replica::Replica;
 use std::alloc::{AllocError, Global};
 
@@ -110,19 +111,28 @@ fn push_kept(
     requires sorted { IsNonDecreasing labels.now }
     ensures kept { OnOk result ((n : List Tuple × ℕ) → slice_get names.now i ≡ Some n → kept.new ≡ kept.old ++ filter (is_kept (idents_over replica.now) labels.now (reverse names.now)) (n ∷ [])) }
 {
-    let name = names.name(i);
-    if is_kept(replica, names, labels, name) {
-        kept.push(name.ident.copy()?, name.label)?;
+    let (ident, label) = names.name(i)?;
+    if is_kept(replica, names, labels, &ident, label)? {
+        kept.push(ident, label)?;
     }
     Ok(())
 }
 
 // Whether a name is kept where these are the labels that steps name, in increasing order.
-fn is_kept(replica: &Replica, names: &Names, labels: &[u64], name: &Name) -> bool
+fn is_kept(
+    replica: &Replica,
+    names: &Names,
+    labels: &[u64],
+    ident: &Ident,
+    label: u64,
+) -> Result<bool, AllocError>
     requires sorted { IsNonDecreasing labels.now }
-    ensures kept { result ≡ is_kept (idents_over replica.now) labels.now (reverse names.now) (name.now.ident, name.now.label) }
+    ensures kept { IfOk result (λ b. b ≡ is_kept (idents_over replica.now) labels.now (reverse names.now) (ident.now, label)) }
 {
-    is_needed(labels, name.label) && (is_newest(names, name) || replica.find(&name.ident).is_ok())
+    if !is_needed(labels, label) {
+        return Ok(false);
+    }
+    Ok(is_newest(names, ident, label)? || replica.find(ident).is_ok())
 }
 
 // Whether a label is one of these, which are in increasing order.
@@ -134,11 +144,14 @@ fn is_needed(labels: &[u64], label: u64) -> bool
 }
 
 // Whether a name is the newest one of its label.
-fn is_newest(names: &Names, name: &Name) -> bool
-    ensures newest { result ≡ is_newest (reverse names.now) (name.now.ident, name.now.label) }
+fn is_newest(names: &Names, ident: &Ident, label: u64) -> Result<bool, AllocError>
+    ensures newest { IfOk result (λ b. b ≡ is_newest (reverse names.now) (ident.now, label)) }
 {
-    match names.newest(name.label) {
-        None => false,
-        Some(at) => names.name(at).ident.compare(&name.ident).is_eq(),
+    match names.newest(label) {
+        None => Ok(false),
+        Some(at) => {
+            let (newest, _) = names.name(at)?;
+            Ok(newest.compare(ident).is_eq())
+        }
     }
 }

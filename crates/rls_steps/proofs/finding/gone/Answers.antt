@@ -1,6 +1,7 @@
-use Rattle.std.proofs.Common.{sym, ap, ◌∙◌, arith}
+use Rattle.std.proofs.Common.{ℕ, List, sym, ap, ◌∙◌, arith}
 use Rattle.std.specs.Prelude.{reverse}
 use Rattle.std.proofs.lemmas.List.{length-reverse}
+use Rattle.rls_ident.specs.declared.tuple.Tuple.{Tuple}
 use Rattle.rls_runs.specs.Places.{below_count}
 use Rattle.rls_seen.specs.Seen.{idents_over}
 use Rattle.rls_steps.specs.Courses.{below_or_none}
@@ -16,9 +17,9 @@ name-requires c =
 pub returns-in-None : goal.returns-in-None
 returns-in-None c = record { gone = sym (ap (below_or_none (idents_over c.args.replica.now)) (none_ident (reverse c.args.names.now) c.args.label (sym c.in-None.ensures.newest))) }
 
-pub returns-in-Some : goal.returns-in-Some
-returns-in-Some c =
+pub returns-in_ok-ident-in-Some : goal.returns-in_ok-ident-in-Some
+returns-in_ok-ident-in-Some c =
     let xs = idents_over c.args.replica.now in
     let r = newest_ident (reverse c.args.names.now) c.args.label c.in-Some.at (sym c.in-Some.ensures.newest) in
-    let parts = c.name.ensures.older r.0 r.1 r.2 in
-    record { gone = c.below.ensures.below ∙ (ap (below_count xs) parts.0 ∙ sym (ap (below_or_none xs) r.3)) }
+    let name = ap (λ (m : List Tuple × ℕ). m.0) (c.in_ok-ident-in-Some.ensures.tail r.0 r.1 r.2) in
+    record { gone = c.below.ensures.below ∙ (ap (below_count xs) name ∙ sym (ap (below_or_none xs) r.3)) }

@@ -8,7 +8,6 @@ use Rattle.rls_steps.proofs.labelling.translated.Goals as goal
 pub names-preserved : goal.names-preserved
 names-preserved c =
     let f : List Tuple × ℕ → List Tuple × ℕ = λ n. (placed_over c.args.replica.now c.args.epoch n.0, n.1) in
-    let name = c.name-name.result.now in
     let none : 0 + c.names.i ≡ c.names.i = omega arith in
-    mapped_next f c.args.names.now 0 c.names.i (name.ident, name.label) (c.in-Ok.ident, name.label) c.names.there c.push.new.self
-    (ap (slice_get c.args.names.now) none ∙ c.name-name.ensures.name) (ap (λ x. (x, name.label)) c.in-Ok.ensures.ident) c.names.invariant c.in_ok-push.ensures.names
+    let placed = c.in-Ok.ensures.ident in
+    mapped_next f c.args.names.now 0 c.names.i _ _ c.names.there c.push.new.self (ap (slice_get c.args.names.now) none ∙ c.in_ok-ident.ensures.name) (cc) c.names.invariant c.in_ok-push.ensures.names

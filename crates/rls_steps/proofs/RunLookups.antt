@@ -1,0 +1,166 @@
+-- The label of an identifier, by the runs that begin next to it.
+use Rattle.std.proofs.Common.{◌≡◌, ℕ, zero, suc, ◌+◌, ◌-◌, ◌<◌, ◌≤◌, Bool, true, false, List, [], ◌∷◌, ◌++◌, length, refl, sym, ap, ◌∙◌, subst, arith}
+use Rattle.std.specs.Prelude.{pos, ◌+ℤ◌, ◌-ℤ◌, reverse, slice_get, Option, Some, None, IfSome}
+use Rattle.std.specs.Option.{IsSome}
+use Rattle.std.specs.Ordering.{is_gt, is_lt, ordering_reverse}
+use Rattle.std.specs.declared.cmp.Ordering.{Ordering}
+use Rattle.std.specs.declared.cmp.Ordering.TheVariants.{Less, Equal, Greater}
+use Rattle.std.proofs.lemmas.Int.{ints}
+use Rattle.std.proofs.lemmas.List.{reverse-reverse, length-reverse}
+use Rattle.rls_ident.specs.declared.tuple.Tuple.{Tuple}
+use Rattle.rls_ident.specs.Identifiers.{IsIdent, shifted}
+use Rattle.rls_ident.specs.Lists.{IsIn}
+use Rattle.rls_ident.proofs.Members.{bool_cases, some_is, get_in}
+use Rattle.rls_ident.proofs.Shifted.{shifted_shifted, shifted_none, ident_shifted}
+use Rattle.rls_steps.specs.declared.key.Key.{Key}
+use Rattle.rls_steps.specs.Labelled.{Names, label_of}
+use Rattle.rls_steps.specs.NameRuns.{Stretch, IsStretch, AreSound, AreKept, IsBelow, IsAbove, IsLabelOf, IsLabelIn, step_by, name_by, name_at, names_of, named, run_in, run_of, wide_cmp, key_cmp}
+use Rattle.rls_steps.specs.Index.{AreApart}
+use Rattle.rls_steps.proofs.Widths.{wide_total, between, on_up}
+use Rattle.rls_steps.proofs.Stretches.{first_by, in_named, named_in, in_reverse, reverse_in, one_run, run_there, run_some, sound_at}
+use Rattle.rls_steps.proofs.Found.{label_name, name_label}
+
+-- ---- a label that is found
+
+pub found_label : (rs : List Stretch) (i : Option ℕ) (x : List Tuple) (l : ℕ) → AreApart (reverse (named rs)) → IsLabelIn rs i x (Some l) → label_of (reverse (named rs)) x ≡ Some l
+found_label rs None x l a f = absurd (cc)
+found_label rs (Some i) x l a f =
+    let r = f.0 in
+    let w = f.2 in
+    name_label (reverse (named rs)) x l a (in_reverse (x, l) (named rs) (subst (λ n. IsIn n (named rs)) w.2 (named_in rs i r w.0 f.1 w.1)))
+
+-- ---- none
+
+-- b isn't less than a, so a is at most b
+turned : (a b : List Tuple) → is_lt (wide_cmp a b) ≡ false → is_gt (wide_cmp b a) ≡ false
+turned a b h = ap is_gt (wide_total.antisymm b a) ∙ go (wide_cmp a b) h
+  where
+    go : (o : Ordering) → is_lt o ≡ false → is_gt (ordering_reverse o) ≡ false
+    go Less e = absurd (cc)
+    go Equal e = refl
+    go Greater e = refl
+
+-- a run whose first identifier is one of another run is that run
+same_run : (rs : List Stretch) (i j : ℕ) (r s : Stretch) (k : ℕ) → AreApart (reverse (named rs)) → AreSound rs → slice_get rs i ≡ Some r → slice_get rs j ≡ Some s → k < r.len → (name_at r k).0 ≡ s.first → r ≡ s
+same_run rs i j r s k a o g h p e =
+    let some = (sound_at rs j s o h).some in
+    let first : (name_at s 0).0 ≡ s.first = ap (λ (n : List Tuple × ℕ). n.0) (first_by s.down s.first s.label) in
+    let q = one_run rs i j r s k 0 a g h p some (e ∙ sym first) in
+    some_is r s (sym g ∙ (ap (slice_get rs) q ∙ h))
+
+-- the run at a key, where that is the identifier of a name
+run_is : (rs : List Stretch) (es : List (Key × ℕ)) (k : Key) (i j m : ℕ) (r : Stretch) → AreApart (reverse (named rs)) → AreSound rs → ((q : Key) → run_in es q ≡ run_of (reverse rs) q.ident) → run_in es k ≡ Some j → slice_get rs i ≡ Some r → m < r.len →
+    (name_at r m).0 ≡ k.ident → slice_get rs j ≡ Some r
+run_is rs es k i j m r a o f e g h q =
+    let w = run_there (reverse rs) k.ident j (sym (f k) ∙ e) in
+    let there : slice_get rs j ≡ Some w.0 = ap (λ (zs : List Stretch). slice_get zs j) (sym (reverse-reverse rs)) ∙ w.1 in
+    there ∙ ap Some (sym (same_run rs i j r w.0 m a o g there h (q ∙ sym w.2)))
+
+-- what a run with a name of an identifier says isn't nothing
+says : (rs : List Stretch) (j m : ℕ) (r : Stretch) (x : List Tuple) → slice_get rs j ≡ Some r → m < r.len → (name_at r m).0 ≡ x → IsLabelIn rs (Some j) x None → ⊥
+says rs j m r x g h q f =
+    let same : f.0 ≡ r = some_is f.0 r (sym f.1 ∙ g) in
+    let none = subst (λ (s : Stretch). IsLabelOf s x None) same f.2 in
+    none m h q
+
+first_there : (rs : List Stretch) (es : List (Key × ℕ)) (i : ℕ) (r : Stretch) (k : Key) → ((q : Key) → run_in es q ≡ run_of (reverse rs) q.ident) → slice_get rs i ≡ Some r → k.ident ≡ r.first → (j : ℕ) × (run_in es k ≡ Some j)
+first_there rs es i r k f g e =
+    let w = run_some (reverse rs) r (in_reverse r rs (get_in rs i r g)) in
+    (w.0, f k ∙ (ap (run_of (reverse rs)) e ∙ w.1))
+
+is_some_of : (o : Option ℕ) (j : ℕ) → o ≡ Some j → IsSome o
+is_some_of None j e = absurd (cc)
+is_some_of (Some i) j e = refl
+
+-- the place of a number with a key
+abbrev pub HasKey : List (Key × ℕ) → Key → Type 0
+HasKey es k = (j : ℕ) × (run_in es k ≡ Some j)
+
+-- what the runs, their numbers and a look-up are about
+pub record IsAbout (rs : List Stretch) (es : List (Key × ℕ)) : Type 0 where
+  pub apart : AreApart (reverse (named rs))
+  pub sound : AreSound rs
+  pub firsts : (q : Key) → run_in es q ≡ run_of (reverse rs) q.ident
+
+-- a run upwards is found from below
+up_missed : (rs : List Stretch) (es : List (Key × ℕ)) (x own : Key) (b : Option ℕ) (i m : ℕ) (r : Stretch) → IsAbout rs es → IsBelow es x b → IsLabelIn rs b x.ident None → slice_get rs i ≡ Some r → m < r.len → r.down ≡ false →
+    (name_at r m).0 ≡ x.ident → own.ident ≡ r.first → is_gt (key_cmp own x) ≡ false → IsIdent r.first → HasKey es own → ⊥
+up_missed rs es x own None i m r o below said g h d q e low ident there = let none = below own low in let some = there.1 in absurd (cc)
+up_missed rs es x own (Some j) i m r o below said g h d q e low ident there =
+    let k = below.0 in
+    let most = turned k.ident own.ident (below.3 own low (is_some_of (run_in es own) there.0 there.1)) in
+    let up : shifted (pos m) r.first ≡ x.ident = ap (λ (c : Bool). shifted (step_by c m) r.first) (sym d) ∙ q in
+    let low' : is_gt (wide_cmp r.first k.ident) ≡ false = ap (λ y. is_gt (wide_cmp y k.ident)) (sym e) ∙ most in
+    let high : is_gt (wide_cmp k.ident (shifted (pos m) r.first)) ≡ false = ap (λ y. is_gt (wide_cmp k.ident y)) up ∙ below.2 in
+    let w = between r.first k.ident m ident low' high in
+    let n = w.1 in
+    let here : (name_at r w.0).0 ≡ k.ident = ap (λ (c : Bool). shifted (step_by c w.0) r.first) d ∙ w.2 in
+    let run = run_is rs es k i j w.0 r o.apart o.sound o.firsts below.1 g (omega (arith, n, h)) here in
+    says rs j m r x.ident run h q said
+
+-- a run downwards from above
+down_missed : (rs : List Stretch) (es : List (Key × ℕ)) (x own : Key) (b : Option ℕ) (i m : ℕ) (r : Stretch) → IsAbout rs es → IsAbove es x b → IsLabelIn rs b x.ident None → slice_get rs i ≡ Some r → m < r.len → r.down ≡ true →
+    (name_at r m).0 ≡ x.ident → own.ident ≡ r.first → is_gt (key_cmp x own) ≡ false → IsIdent x.ident → HasKey es own → ⊥
+down_missed rs es x own None i m r o above said g h d q e low ident there = let none = above own low in let some = there.1 in absurd (cc)
+down_missed rs es x own (Some j) i m r o above said g h d q e low ident there =
+    let k = above.0 in
+    let most = above.3 own low (is_some_of (run_in es own) there.0 there.1) in
+    let down : shifted (pos 0 -ℤ pos m) r.first ≡ x.ident = ap (λ (c : Bool). shifted (step_by c m) r.first) (sym d) ∙ q in
+    let up : shifted (pos m) x.ident ≡ r.first = ap (shifted (pos m)) (sym down) ∙ (shifted_shifted (pos m) (pos 0 -ℤ pos m) r.first ∙ back_none m r.first) in
+    let high : is_gt (wide_cmp k.ident (shifted (pos m) x.ident)) ≡ false = ap (λ y. is_gt (wide_cmp k.ident y)) (up ∙ sym e) ∙ most in
+    let w = between x.ident k.ident m ident above.2 high in
+    let n = w.1 in
+    let by : pos m +ℤ (pos 0 -ℤ pos (m - w.0)) ≡ pos w.0 = omega (arith, ints, n) in
+    let here : (name_at r (m - w.0)).0 ≡ k.ident =
+    ap (λ (c : Bool). shifted (step_by c (m - w.0)) r.first) d
+    ∙ (ap (shifted (pos 0 -ℤ pos (m - w.0))) (sym up) ∙ (shifted_shifted (pos 0 -ℤ pos (m - w.0)) (pos m) x.ident ∙ (ap (λ z. shifted z x.ident) by ∙ w.2))) in
+    let run = run_is rs es k i j (m - w.0) r o.apart o.sound o.firsts above.1 g (omega (arith, h)) here in
+    says rs j m r x.ident run h q said
+  where
+    back_none : (n : ℕ) (y : List Tuple) → shifted ((pos 0 -ℤ pos n) +ℤ pos n) y ≡ y
+    back_none n y = let z : (pos 0 -ℤ pos n) +ℤ pos n ≡ pos 0 = omega (arith, ints) in ap (λ d. shifted d y) z ∙ shifted_none y
+
+no_name : (rs : List Stretch) (es : List (Key × ℕ)) (x own : Key) (b a : Option ℕ) (i m : ℕ) (r : Stretch) → IsAbout rs es → IsIdent x.ident → IsBelow es x b → IsAbove es x a → IsLabelIn rs b x.ident None → IsLabelIn rs a x.ident None →
+    slice_get rs i ≡ Some r → m < r.len → (name_at r m).0 ≡ x.ident → own.ident ≡ r.first → ⊥
+no_name rs es x own b a i m r o ident below above s t g h q e =
+    let first = (sound_at rs i r o.sound g).ident in
+    let there = first_there rs es i r own o.firsts g e in
+    bool_cases r.down
+    (λ d. let down : shifted (pos 0 -ℤ pos m) r.first ≡ x.ident = ap (λ (c : Bool). shifted (step_by c m) r.first) (sym d) ∙ q in
+    let z : (pos 0 -ℤ pos m) +ℤ pos m ≡ pos 0 = omega (arith, ints) in
+    let up : shifted (pos m) x.ident ≡ own.ident = ap (shifted (pos m)) (sym down) ∙ (shifted_shifted (pos m) (pos 0 -ℤ pos m) r.first ∙ (ap (λ y. shifted y r.first) z ∙ (shifted_none r.first ∙ sym e))) in
+    down_missed rs es x own a i m r o above t g h d q e (subst (λ y. is_gt (wide_cmp x.ident y) ≡ false) up (on_up x.ident m ident)) ident there)
+    (λ d. let up : shifted (pos m) r.first ≡ x.ident = ap (λ (c : Bool). shifted (step_by c m) r.first) (sym d) ∙ q in
+    let low : is_gt (key_cmp own x) ≡ false = ap (λ y. is_gt (wide_cmp y x.ident)) e ∙ subst (λ y. is_gt (wide_cmp r.first y) ≡ false) up (on_up r.first m first) in
+    up_missed rs es x own b i m r o below s g h d q e low first there)
+
+pub missed_label : (rs : List Stretch) (es : List (Key × ℕ)) (x : Key) (b a : Option ℕ) → IsAbout rs es → IsIdent x.ident → IsBelow es x b → IsAbove es x a → IsLabelIn rs b x.ident None → IsLabelIn rs a x.ident None → label_of (reverse (named rs)) x.ident ≡ None
+missed_label rs es x b a o ident below above s t = go (label_of (reverse (named rs)) x.ident) refl
+  where
+    go : (c : Option ℕ) → label_of (reverse (named rs)) x.ident ≡ c → c ≡ None
+    go None e = refl
+    go (Some l) e =
+        let w = in_named rs (x.ident, l) (reverse_in (x.ident, l) (named rs) (label_name (reverse (named rs)) x.ident l e)) in
+        absurd (no_name rs es x (record { ident = w.1.first }) b a w.0 w.2 w.1 o ident below above s t w.3 w.4 (ap (λ (n : List Tuple × ℕ). n.0) w.5) refl)
+
+-- ---- numbers of runs
+
+pub below_short : (rs : List Stretch) (es : List (Key × ℕ)) (x : Key) (b : Option ℕ) → ((q : Key) → run_in es q ≡ run_of (reverse rs) q.ident) → IsBelow es x b → IfSome b (λ i. i < length rs)
+below_short rs es x None f w = tt
+below_short rs es x (Some i) f w =
+    let r = run_there (reverse rs) w.0.ident i (sym (f w.0) ∙ w.1) in
+    let h = r.3 in
+    let size = length-reverse rs in
+    omega (arith, h, size)
+
+pub above_short : (rs : List Stretch) (es : List (Key × ℕ)) (x : Key) (b : Option ℕ) → ((q : Key) → run_in es q ≡ run_of (reverse rs) q.ident) → IsAbove es x b → IfSome b (λ i. i < length rs)
+above_short rs es x None f w = tt
+above_short rs es x (Some i) f w =
+    let r = run_there (reverse rs) w.0.ident i (sym (f w.0) ∙ w.1) in
+    let h = r.3 in
+    let size = length-reverse rs in
+    omega (arith, h, size)
+
+pub label_is : (rs : List Stretch) (es : List (Key × ℕ)) (x : Key) (b a o : Option ℕ) → IsAbout rs es → IsIdent x.ident → IsBelow es x b → IsAbove es x a → IsLabelIn rs b x.ident None → IsLabelIn rs a x.ident o → o ≡ label_of (reverse (named rs)) x.ident
+label_is rs es x b a None w i below above s t = sym (missed_label rs es x b a w i below above s t)
+label_is rs es x b a (Some l) w i below above s t = sym (found_label rs a x.ident l w.apart t)
