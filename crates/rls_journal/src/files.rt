@@ -43,7 +43,7 @@ struct AreaFiles<R: Files> {
 }
 
 impl<R: Files> AreaFiles<R> {
-    // A file, where there is one. A file that may not be written is opened to be read, and a write to it fails.
+    // A file, where there is one. A file that may not be written is opened to be read.
     fn found(&mut self, area: u8) -> io::Result<Option<R::File>> {
         let name = name_of(area);
         let mut file = File::options().read(true).write(true).open(&self.rt, name);
@@ -111,11 +111,15 @@ impl<R: Files> AreaFiles<R> {
         }
     }
 
-    // Makes a file that is missing, where there are bytes to write.
+    // Makes a file that is missing, where there are bytes to write. Where one may only be read, none is written: the gate wasn't
+    // renewed then.
     fn write(&mut self, area: u8, at: u64, bytes: &[u8]) -> io::Result<()> {
         self.open()?;
         if bytes.is_empty() {
             return Ok(());
+        }
+        if self.is_read_only {
+            return Err(io::Error::from(ErrorKind::PermissionDenied));
         }
         if self.slot(area).is_none() {
             self.make(area)?;
@@ -158,8 +162,8 @@ impl<R: Files> AreaFiles<R> {
 /// the area 2. They are opened at the first call. A file that is missing reads as empty, and is made by the first write of
 /// some bytes, so that what only reads leaves an empty folder empty. A sync reaches the disk as far as the system's `fsync`
 /// does, of the file, and of the folder where a file was made. The gate is renewed by a second byte, which the system writes
-/// with the first; where one of the files may only be read, it isn't renewed. Each failure of the system is counted, up to
-/// the greatest u64.
+/// with the first; where one of the files may only be read, it isn't renewed, and no file is written. Each failure of the
+/// system is counted, up to the greatest u64.
 #[derive(Drop)]
 pub struct FileDisk<R: Files> {
     files: AreaFiles<R>,

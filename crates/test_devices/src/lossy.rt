@@ -56,7 +56,12 @@ impl Area {
 }
 
 impl Areas {
-    fn new(alloc: Global, contents: [&[u8]; 3], failing: u64, stop: u64) -> Result<Areas, AllocError> {
+    fn new(
+        alloc: Global,
+        contents: [&[u8]; 3],
+        failing: u64,
+        stop: u64,
+    ) -> Result<Areas, AllocError> {
         let [slot0, slot1, gate] = contents;
         Ok(Areas {
             alloc,
