@@ -4,9 +4,7 @@ ghost use Rattle.std.specs.Prelude.{◌≡◌, ◌-◌, ◌^◌, min};
 ghost use Rattle.rls_seen.specs.Kept.{retained_over};
 ghost use Rattle.rls_store.specs.Sizes.{rows_size, stems_size, epochs_size, text_size, log_size, held_size, stored_size};
 
-use rls_fields::{
-    kept_epochs_len, left_count, other_rows_len, stems_len, tree_len, waiting_len,
-};
+use rls_fields::{kept_epochs_len, left_count, other_rows_len, stems_len, tree_len, waiting_len};
 use rls_ident::rely;
 use rls_replica::Replica;
 use rls_snapshot::Places;
