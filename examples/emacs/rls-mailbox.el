@@ -21,6 +21,8 @@
 (defvar-local rls--problems nil "What was wrong with the last message from, or to, each member.")
 (defvar-local rls--shown nil "Where point was when others were told.")
 (defvar-local rls--place nil "What others were told of point.")
+(defvar-local rls--places nil "The place and the name that each other member told of its cursor.")
+(defvar-local rls--lookup-due nil "Whether places of others have to be looked up again, since messages came.")
 (defvar-local rls--overlays nil "The overlay that shows each other member's cursor.")
 
 ;;;; Messages.  One file for each sender and receiver: a message has all that its receiver isn't known to have, so the latest is enough.
@@ -105,17 +107,26 @@ one that is there and answers, and gets the rest."
           (setq rls--place line)
           (ignore-errors (rls--write (rls--cursor-path rls--me) (concat (encode-coding-string line 'utf-8-unix) "\n"))))))))
 
+(defun rls--told-place (path from)
+  "The place and the name that PATH tells of the cursor of member FROM; nil if none."
+  (let ((data (or (ignore-errors (rls--read path rls--most-cursor)) "")))
+    (when (string-match "\\`\\([!-~]+\\)\\(?: \\(.*\\)\\)?$" data)
+      (list (match-string 1 data)
+            (if (match-string 2 data) (decode-coding-string (match-string 2 data) 'utf-8-unix) (format "member %d" from))))))
+
 (defun rls--show-others ()
-  "Shows where the cursors of others are.  What can't be read as a cursor isn't shown."
+  "Shows where the cursors of others are.  What can't be read as a cursor isn't shown.
+They are looked up again when messages came: then the session may know of places
+that it didn't know before."
   (dotimes (from rls--members)
-    (let ((path (rls--cursor-path from)))
-      (when (and (/= from rls--me) (rls--new-p path))
-        (let* ((data (or (ignore-errors (rls--read path rls--most-cursor)) ""))
-               (place (and (string-match "\\`[!-~]+" data) (match-string 0 data)))
-               (name (and place (string-match "\\`[!-~]+ \\(.*\\)$" data) (decode-coding-string (match-string 1 data) 'utf-8-unix)))
-               (reply (if place (rls--ask (concat "l " place)) "no")))
-          (rls--mark-other from (and (string-match "\\`cursor \\([0-9]+\\)\\'" reply) (1+ (string-to-number (match-string 1 reply))))
-                           (or name (format "member %d" from))))))))
+    (let* ((path (rls--cursor-path from)) (is-new (and (/= from rls--me) (rls--new-p path))))
+      (when is-new (setf (alist-get from rls--places) (rls--told-place path from)))
+      (let ((told (alist-get from rls--places)))
+        (when (or is-new (and told rls--lookup-due))
+          (let ((reply (if told (rls--ask (concat "l " (car told))) "no")))
+            (rls--mark-other from (and (string-match "\\`cursor \\([0-9]+\\)\\'" reply) (1+ (string-to-number (match-string 1 reply))))
+                             (cadr told)))))))
+  (setq rls--lookup-due nil))
 
 (defun rls--mark-other (from at name)
   "Shows the cursor of member FROM by an overlay AT a place; none if that is nil."

@@ -196,7 +196,9 @@ changes are of the text as it is then."
              (let ((now (1+ (rls--number (rls--ask "p") "cursor"))))
                (goto-char now)
                (when window (set-window-point window now))))))
-    (when taken (rls--edited t))))
+    (when taken
+      (setq rls--lookup-due t)
+      (rls--edited t))))
 
 (defun rls--stored (reply)
   (unless (equal reply "saved") (error "rls: not stored"))

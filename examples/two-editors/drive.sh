@@ -11,6 +11,7 @@ trap 'leave_tmux; rm -rf "$room"' EXIT
 
 # Two fresh replicas and the folder between them.
 replicas() {
+  rm -rf "$room/ada" "$room/ben" "$room/shared"
   mkdir -p "$room/ada" "$room/ben" "$room/shared"
   (cd "$room/ada" && "$RLS" new 7 0 2 >/dev/null)
   (cd "$room/ben" && "$RLS" new 7 1 2 >/dev/null)
@@ -76,7 +77,9 @@ stored_text() { (cd "$room/ada" && "$RLS" text); }
 # the place where the editor waits), to_end (goes to the end of the text's first line), replace_last_line TEXT, type_at_end TEXT,
 # delete_first_line, never_idle (from now on no pause is long enough to send), hold_back (nothing is sent from now on, unless `store` asks for
 # it), go_on (as at the beginning), take_back, store and leave_editor.
-play() {
+play_typing() {
+  replicas
+  begin "$1"
   shows 'the status line' 'member 0 of 2'
   append 'Bread and tea'
   ben_has 'what was typed is sent' 'Bread and tea'
@@ -118,60 +121,26 @@ play() {
   wait_for 'the last edits are stored' "------Butter, Bread and tea!${burst}end"$'\nSalt \\ é😀+?' stored_text
 }
 
-# Whether the program has the second version of the session.
-is_second() { [ "$(cd "$room/ben" && printf 'v\n' | "$RLS" session | head -n 1)" = 'version 2' ]; }
+# shellcheck source-path=SCRIPTDIR source=second.sh
+. "$(dirname "${BASH_SOURCE[0]}")/second.sh"
 
-# What only the second version does: the editor's own keys of undo, a line that is opened above the cursor, and one process for all of it. $1 begins the
-# editor; its test says how that is typed by undo, redo, at_third_line and end_typing.
-play_second() {
-  is_second || { echo 'skipped what needs the second version of the session'; return 0; }
-  rm -rf "$room/ada" "$room/ben" "$room/shared"
-  replicas
-  begin "$1"
-  shows 'the status line' 'member 0 of 2'
-  begin_typing=i
-  append 'one'
-  end_typing
-  ben_has 'the first word' one
-  store
-  ben_edits 'i 0 zero\n' 'i 8 \nthree\nfour'
-  shows 'what others wrote' four
-  undo
-  ben_has 'an undo after storing leaves what others wrote' $'zero\n\nthree\nfour'
-  redo
-  ben_has 'and a redo does it again' $'zero\none\nthree\nfour'
-  at_third_line
-  told_cursor() { (cd "$room/ben" && printf 'l %s\n' "$(cut -d ' ' -f 1 "$room/shared/7-0.cursor")" | "$RLS" session | head -n 1); }
-  wait_for 'others are told where the cursor is' $'cursor 9\n' told_cursor
-  ben_shows_cursor 11
-  shows 'the cursor of another member' "${shown_cursor:-three}"
-  ben_edits 'i 5 new\n' 'd 0 4'
-  shows 'a line that others opened' new
-  begin_typing=i
-  append 'here '
-  end_typing
-  ben_has 'the cursor at the beginning of a line stays with it' $'\nnew\none\nhere three\nfour'
-  undo
-  undo
-  ben_has 'own steps are taken back alone' $'\nnew\n\nthree\nfour'
-  redo
-  ben_has 'and done again' $'\nnew\none\nthree\nfour'
-  local program
-  program=$(session_of "$room/ada")
-  at_third_line
-  begin_typing=i
-  append 'more '
-  end_typing
-  store
-  ben_has 'one word more' $'\nnew\nmore one\nthree\nfour'
-  [ "$program" = "$(session_of "$room/ada")" ] || { echo 'FAILED  one process for the whole life of the buffer'; exit 1; }
-  leave_editor
-  same_texts
+# Plays what is named from the third word on, or else all of it: $1 begins the editor, and $2 begins one that opens the folders of the environment's
+# ODD. The test of the editor has the play `random`.
+play_all() {
+  local name command=$1 odd=$2
+  local -a names=("${@:3}")
+  [ ${#names[@]} -gt 0 ] || names=(random typing undo beside elsewhere cursors again kill waiting killed odd)
+  for name in "${names[@]}"; do
+    case $name in
+      undo | beside | elsewhere | cursors) if is_second; then "play_$name" "$command"; else echo "skipped $name: it needs the second version of the session"; fi ;;
+      odd) play_odd "$odd" ;;
+      *) "play_$name" "$command" ;;
+    esac
+  done
 }
 
 # A program that is killed, and its buffer that is opened again on the spot. $1 begins the editor; its test says how by open_again.
 play_again() {
-  rm -rf "$room/ada" "$room/ben" "$room/shared"
   replicas
   begin "$1"
   shows 'the status line' 'member 0 of 2'
@@ -198,9 +167,46 @@ play_again() {
   same_texts
 }
 
-# Member 1 tells where its cursor is.
-ben_shows_cursor() {
-  (cd "$room/ben" && printf 'a %s\n' "$1" | "$RLS" session | sed -n 's/^anchor \(.*\)/\1 Ben B./p' >"$room/shared/.new" && mv "$room/shared/.new" "$room/shared/7-1.cursor")
+# A program that is killed at any moment while somebody types, and its buffer that is opened again: each word is there, once. $1 begins the editor.
+play_killed() {
+  local round word program
+  replicas
+  begin "$1"
+  shows 'the status line' 'member 0 of 2'
+  begin_typing=i
+  append 'first'
+  end_typing
+  store
+  for round in 1 2 3 4; do
+    program=$(session_of "$room/ada")
+    (sleep "0.$((RANDOM % 9))"; kill -KILL "$program") &
+    for word in a b c d; do type_at_end " $word$round"; done
+    wait $!
+    shows 'a program that was killed while somebody typed' 'the session'
+    open_again
+    shows 'its buffer that is opened again' 'member 0 of 2'
+  done
+  ben_has 'all that was typed, once' 'first a1 b1 c1 d1 a2 b2 c2 d2 a3 b3 c3 d3 a4 b4 c4 d4'
+  leave_editor
+  same_texts
+}
+
+# Folders whose names have what names may have, for the replica and for the messages. $1 begins an editor that opens those of the environment's ODD.
+play_odd() {
+  local member
+  export ODD=$room/$' a b\n\'$HOME"*\\'
+  for member in 0 1; do mkdir -p "$ODD/m $member" && (cd "$ODD/m $member" && "$RLS" new 7 "$member" 2 >/dev/null); done
+  begin "$1"
+  shows 'the status line' 'member 0 of 2'
+  begin_typing=i
+  append 'odd'
+  end_typing
+  store
+  odd_text() { (cd "$ODD/m 1" && "$RLS" take <"$ODD/a shared/7-0-1.rlsm" >/dev/null && "$RLS" text); }
+  wait_for 'a message in a folder with an odd name' odd odd_text
+  leave_editor
+  odd_stored() { (cd "$ODD/m 0" && "$RLS" text); }
+  wait_for 'what is stored in a folder with an odd name' odd odd_stored
 }
 
 # The process of the program that works on a folder.
@@ -224,7 +230,6 @@ same_texts() {
 # well, what came after the last store is lost, and nobody's copy differs. $1 begins the editor.
 play_kill() {
   local word editor
-  rm -rf "$room/ada" "$room/ben" "$room/shared"
   replicas
   for word in one two three four five six; do
     begin "$1"
@@ -277,4 +282,8 @@ end_typing() { keys Escape; }
 undo() { keys u; }
 redo() { keys C-r; }
 at_third_line() { type_text '3G0'; }
+shows_name() { :; }
+place_marks() { keys '5G0ma' ':8,9fold' Enter '11G0wve'; }
+delete_selection() { keys d; }
+type_at_mark() { type_text "'aA$1"; keys Escape; }
 leave_editor() { keys Escape ':qa!' Enter; }

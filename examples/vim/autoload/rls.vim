@@ -288,6 +288,7 @@ function s:take(buf) abort
     endif
   endif
   if taken
+    let r.is_lookup_due = 1
     call s:is_edited(r, 1)
   endif
 endfunction
@@ -334,7 +335,8 @@ endfunction
 
 function s:open_replica(folder, shared) abort
   let r = {'folder': s:full(a:folder), 'shared': s:full(a:shared), 'taken': {}, 'sent': {}, 'seen': {}, 'problems': {}, 'failed': '', 'unsaved': 0,
-        \ 'since': reltime(), 'changes': g:rls_rename_at, 'told': 0, 'silent': 0, 'boundary': 0, 'behind': 0, 'due': -1, 'shown': -1, 'cursor': '', 'marks': {}}
+        \ 'since': reltime(), 'changes': g:rls_rename_at, 'told': 0, 'silent': 0, 'boundary': 0, 'behind': 0, 'due': -1, 'shown': -1, 'cursor': '',
+        \ 'places': {}, 'is_lookup_due': 0}
   if !isdirectory(r.folder)
     throw 'rls: there is no folder ' . r.folder
   endif

@@ -78,20 +78,27 @@ function M:show_cursor()
   end)
 end
 
--- Shows where the cursors of others are. What can't be read as a cursor isn't shown.
+-- The place that a member tells of its cursor, and a name; nil if there is none. What can't be read as a cursor isn't shown.
+local function told_cursor(path)
+  local word, name = (files.read(path, MOST_CURSOR) or ''):match('^[^\n]*'):match('^([!-~]+) ?(.*)$')
+  return word and { word = word, name = name }
+end
+
+-- Shows where the cursors of others are. They are looked up again when messages came: then the session may know of places that it didn't know
+-- before.
 function M:show_others()
   for from = 0, self.members - 1 do
     local path = self:cursor_path(from)
-    if from ~= self.me and self:is_new(path) then
-      local line = (files.read(path, MOST_CURSOR) or ''):match('^[^\n]*')
-      local word, name = line:match('^([!-~]+) ?(.*)$')
-      if word then
-        self.session:send('l ' .. word, nil, function(reply) self:mark(from, tonumber(reply:match('^cursor (%d+)$')), name) end)
-      else
-        self:mark(from)
-      end
+    local is_new = from ~= self.me and self:is_new(path)
+    if is_new then self.places[from] = told_cursor(path) end
+    local told = self.places[from]
+    if is_new and not told then
+      self:mark(from)
+    elseif told and (is_new or self.is_lookup_due) then
+      self.session:send('l ' .. told.word, nil, function(reply) self:mark(from, tonumber(reply:match('^cursor (%d+)$')), told.name) end)
     end
   end
+  self.is_lookup_due = false
 end
 
 -- Shows a member's cursor at a place, or no more if there is none.

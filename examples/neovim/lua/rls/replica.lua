@@ -154,12 +154,17 @@ local function after_deletion(cursor, row, byte, last_row, last_byte)
   end
 end
 
--- The cursors of the windows that show the buffer.
+-- The cursors of the windows that show the buffer, and the other end of a selection, which is in no window.
 function Replica:cursors()
   local found = {}
+  local function add(window, row, byte) found[#found + 1] = { window = window, row = row, byte = byte, is_before = self:is_before(row, byte) } end
   for _, window in ipairs(vim.fn.win_findbuf(self.buf)) do
     local at = api.nvim_win_get_cursor(window)
-    found[#found + 1] = { window = window, row = at[1] - 1, byte = at[2], is_before = self:is_before(at[1] - 1, at[2]) }
+    add(window, at[1] - 1, at[2])
+  end
+  if api.nvim_get_current_buf() == self.buf and api.nvim_get_mode().mode:match('^[vV\22]') then
+    local at = vim.fn.getpos('v')
+    add(nil, at[2] - 1, at[3] - 1)
   end
   return found
 end
@@ -192,7 +197,11 @@ function Replica:apply(changes)
 end
 
 function Replica:put(cursors)
-  for _, cursor in ipairs(cursors) do api.nvim_win_set_cursor(cursor.window, { cursor.row + 1, cursor.byte }) end
+  for _, cursor in ipairs(cursors) do
+    if not cursor.window then vim.cmd('normal! o') end
+    api.nvim_win_set_cursor(cursor.window or 0, { cursor.row + 1, cursor.byte })
+    if not cursor.window then vim.cmd('normal! o') end
+  end
 end
 
 -- Makes the buffer the session's text by what is between the equal fronts and ends, where the session doesn't tell what changed. With the
@@ -329,7 +338,10 @@ function Replica:take(is_asked)
       api.nvim_win_set_cursor(0, { row + 1, byte })
     end
   end
-  if taken then self:is_edited(true) end
+  if taken then
+    self.is_lookup_due = true
+    self:is_edited(true)
+  end
 end
 
 -- What `:w` does.

@@ -1,20 +1,30 @@
 " Changes of the session in the buffer, at their places.
 
-" The cursors of the windows that show the buffer. One stays with the character after it if it is at the beginning of a line, or stands on a
-" character.
+" A cursor. It stays with the character after it if it is at the beginning of a line, or stands on a character.
+function s:cursor(r, window, line, column) abort
+  let is_last = a:line == len(a:r.text.lines) && a:column > len(a:r.text.lines[-1])
+  return {'window': a:window, 'line': a:line, 'byte': a:column - 1, 'before': !is_last && (a:column == 1 || mode() !~# '^[iR]')}
+endfunction
+
+" The cursors of the windows that show the buffer, and the other end of a selection, which is in no window.
 function s:cursors(r) abort
-  let cursors = []
-  for window in win_findbuf(a:r.buf)
-    let [line, column] = getcurpos(window)[1:2]
-    let is_last = line == len(a:r.text.lines) && column > len(a:r.text.lines[-1])
-    call add(cursors, {'window': window, 'line': line, 'byte': column - 1, 'before': !is_last && (column == 1 || mode() !~# '^[iR]')})
-  endfor
+  let cursors = map(win_findbuf(a:r.buf), {_, window -> call('s:cursor', [a:r, window] + getcurpos(window)[1:2])})
+  if bufnr('%') == a:r.buf && mode() =~# "^[vV\<C-V>]"
+    call add(cursors, call('s:cursor', [a:r, 0] + getpos('v')[1:2]))
+  endif
   return cursors
 endfunction
 
 function s:put(cursors) abort
   for c in a:cursors
-    call win_execute(c.window, printf('call cursor(%d, %d)', c.line, c.byte + 1))
+    let place = printf('call cursor(%d, %d)', c.line, c.byte + 1)
+    if c.window
+      call win_execute(c.window, place)
+    else
+      normal! o
+      execute place
+      normal! o
+    endif
   endfor
 endfunction
 

@@ -96,7 +96,7 @@ function rls#mailbox#write(r, to, message) abort
   endtry
 endfunction
 
-" Tells others where the cursor is, if it has moved.
+" Tells others where the cursor is, if it has moved. They do without it if it can't be written.
 function rls#mailbox#show_cursor(r) abort
   if bufnr('%') != a:r.buf
     return
@@ -110,28 +110,42 @@ function rls#mailbox#show_cursor(r) abort
   let line = word . (g:rls_name ==# '' ? '' : ' ' . substitute(g:rls_name, '[[:cntrl:]]', '', 'g'))
   if word !=# '' && line !=# a:r.cursor
     let a:r.cursor = line
-    silent! call rls#files#write(s:cursor_path(a:r, a:r.me), [line])
+    try
+      call rls#files#write(s:cursor_path(a:r, a:r.me), [line])
+    catch /^rls:\|^Vim(let):E/
+    endtry
   endif
 endfunction
 
-" Shows where the cursors of others are, by text properties. What can't be read as a cursor isn't shown.
+" The place that a member tells of its cursor; '' if there is none. What can't be read as a cursor isn't shown.
+function s:told_place(path) abort
+  try
+    let found = rls#files#read(a:path, s:most_cursor)
+    return empty(found) ? '' : matchstr(rls#session#lines_of(found[0])[0], '^[!-~]\+')
+  catch /^rls:\|^Vim(return):E48\d/
+    return ''
+  endtry
+endfunction
+
+" Shows where the cursors of others are, by text properties. They are looked up again when messages came: then the session may know of places
+" that it didn't know before.
 function rls#mailbox#show_others(r) abort
   for from in filter(range(a:r.members), {_, k -> k != a:r.me})
     let path = s:cursor_path(a:r, from)
-    if !s:is_new(a:r, path)
-      continue
+    let is_new = s:is_new(a:r, path)
+    if is_new
+      let a:r.places[from] = s:told_place(path)
     endif
-    call s:unmark(a:r, from)
-    let word = ''
-    silent! let word = matchstr(rls#session#lines_of(rls#files#read(path, s:most_cursor)[0])[0], '^[!-~]\+')
-    if word ==# ''
-      continue
-    endif
-    let reply = rls#session#ask(a:r, 'l ' . word)[0]
-    if reply =~# '^cursor \d\+$'
-      call s:mark(a:r, from, str2nr(reply[7:]))
+    let word = get(a:r.places, from, '')
+    if is_new || (a:r.is_lookup_due && word !=# '')
+      call s:unmark(a:r, from)
+      let reply = word ==# '' ? '' : rls#session#ask(a:r, 'l ' . word)[0]
+      if reply =~# '^cursor \d\+$'
+        call s:mark(a:r, from, str2nr(reply[7:]))
+      endif
     endif
   endfor
+  let a:r.is_lookup_due = 0
 endfunction
 
 function s:unmark(r, from) abort

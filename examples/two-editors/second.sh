@@ -1,0 +1,160 @@
+# What only the second version of the session does, typed into a real editor: the editor's own keys of undo, changes that are put in place, cursors
+# of others, one process for all of it. drive.sh reads this file, and an editor's test says how things are typed there.
+# shellcheck shell=bash disable=SC2154
+
+# Whether the program has the second version of the session.
+is_second() { replicas && [ "$(cd "$room/ben" && printf 'v\n' | "$RLS" session | sed -n 1p)" = 'version 2' ]; }
+
+# Member 1 tells where its cursor is.
+ben_shows_cursor() {
+  (cd "$room/ben" && printf 'a %s\n' "$1" | "$RLS" session | sed -n 's/^anchor \(.*\)/\1 Ben B./p' >"$room/shared/.new" && mv "$room/shared/.new" "$room/shared/7-1.cursor")
+}
+
+# Whether the editor shows a letter in other colours than what follows it: so a cursor is shown.
+is_lit() { tmux -L "$socket" capture-pane -e -p -t "${pane:-test}" | grep -qP "\x1b\[[0-9;]*m$1(\x1b\[[0-9;]*m)+$2" && printf yes; }
+
+# Two fresh replicas, of which the editor that $1 begins has one, and what member 1 wrote by these edits, of which $2 is seen.
+begin_with() {
+  replicas
+  begin "$1"
+  shows 'the status line' 'member 0 of 2'
+  ben_edits "${@:3}"
+  shows 'the text' "$2"
+}
+
+# Undo of own steps after they were stored, a line that is opened above the cursor, and one process for all of it.
+play_undo() {
+  replicas
+  begin "$1"
+  shows 'the status line' 'member 0 of 2'
+  begin_typing=i
+  append 'one'
+  end_typing
+  ben_has 'the first word' one
+  store
+  ben_edits 'i 0 zero\n' 'i 8 \nthree\nfour'
+  shows 'what others wrote' four
+  undo
+  ben_has 'an undo after storing leaves what others wrote' $'zero\n\nthree\nfour'
+  redo
+  ben_has 'and a redo does it again' $'zero\none\nthree\nfour'
+  at_third_line
+  told_cursor() { (cd "$room/ben" && printf 'l %s\n' "$(cut -d ' ' -f 1 "$room/shared/7-0.cursor")" | "$RLS" session | sed -n 1p); }
+  wait_for 'others are told where the cursor is' $'cursor 9\n' told_cursor
+  ben_edits 'i 5 new\n' 'd 0 4'
+  shows 'a line that others opened' new
+  begin_typing=i
+  append 'here '
+  end_typing
+  ben_has 'the cursor at the beginning of a line stays with it' $'\nnew\none\nhere three\nfour'
+  undo
+  undo
+  ben_has 'own steps are taken back alone' $'\nnew\n\nthree\nfour'
+  redo
+  ben_has 'and done again' $'\nnew\none\nthree\nfour'
+  local program
+  program=$(session_of "$room/ada")
+  at_third_line
+  begin_typing=i
+  append 'more '
+  end_typing
+  store
+  ben_has 'one word more' $'\nnew\nmore one\nthree\nfour'
+  [ "$program" = "$(session_of "$room/ada")" ] || { echo 'FAILED  one process for the whole life of the buffer'; exit 1; }
+  leave_editor
+  same_texts
+}
+
+# Undo and redo while another member types.
+play_beside() {
+  local typing
+  begin_with "$1" 'Start.' 'i 0 Start.'
+  (for _ in {1..12}; do ben_edits 'i 0 b'; sleep 0.3; done) &
+  typing=$!
+  type_at_end ' one'
+  type_at_end ' two'
+  type_at_end ' three'
+  store
+  undo
+  shows 'an undo while another member types' 'Start. one two'
+  undo
+  redo
+  redo
+  shows 'two steps back and forth' 'Start. one two three'
+  undo
+  type_at_end ' four'
+  undo
+  redo
+  shows 'what was typed after an undo' 'Start. one two four'
+  wait "$typing"
+  ben_has 'all that both typed' 'bbbbbbbbbbbbStart. one two four'
+  undo
+  undo
+  undo
+  ben_has 'own steps are taken back to the first, and nothing else' 'bbbbbbbbbbbbStart.'
+  undo
+  redo
+  redo
+  redo
+  ben_has 'and done again to the last' 'bbbbbbbbbbbbStart. one two four'
+  leave_editor
+  same_texts
+}
+
+# What others change elsewhere leaves a mark, a fold and a selection where they are. The editor's test says how by place_marks (a mark in line 5, a
+# fold over lines 8 and 9, and the middle word of line 11 selected), delete_selection and type_at_mark.
+play_elsewhere() {
+  begin_with "$1" bottom 'i 0 one two\nthree\nfour five\nsix\nseven eight\nnine\nten\nfolded\nhidden\neleven\ntake this away\nbottom'
+  place_marks
+  hides() { screen_has hidden || printf yes; }
+  wait_for 'lines that are folded' yes hides
+  ben_edits 'i 0 zero\n' 'i 24 and ' 'd 49 5' 'i 74 low\n'
+  shows 'what others changed above and below' low
+  shows 'a line of others' 'four and five'
+  wait_for 'the fold stays' yes hides
+  delete_selection
+  ben_has 'the selection stays on its word' $'zero\none two\nthree\nfour and five\nsix\nseven eight\nten\nfolded\nhidden\neleven\nlow\ntake  away\nbottom'
+  type_at_mark '!'
+  ben_has 'the mark stays with its line' $'zero\none two\nthree\nfour and five\nsix\nseven eight!\nten\nfolded\nhidden\neleven\nlow\ntake  away\nbottom'
+  leave_editor
+  same_texts
+}
+
+# The cursor of another member is shown, and moves. What isn't known as yet is shown once it is.
+play_cursors() {
+  begin_with "$1" three 'i 0 one\ntwo\nthree'
+  ben_shows_cursor 8
+  lit() { is_lit "$@"; }
+  wait_for 'the cursor of another member' yes lit t hree
+  shows_name
+  type_at_end ' four'
+  ben_has 'what was typed then' $'one\ntwo\nthree four'
+  ben_shows_cursor 4
+  wait_for 'the cursor in another line' yes lit t wo
+  # The message with the rename comes after the cursor that needs it.
+  (cd "$room/ben" && printf '%s\n' 'i 0 new\n' 'd 4 1' r | "$RLS" edit >/dev/null)
+  ben_shows_cursor 7
+  sleep 2
+  shows 'no fault where a place is not known' 'member 0 of 2'
+  (cd "$room/ben" && "$RLS" send 0 >"$room/shared/.new" && mv "$room/shared/.new" "$room/shared/7-1-0.rlsm")
+  shows 'the message with the rename' new
+  wait_for 'the cursor once its epoch is known' yes lit t wo
+  # What others may have put at the names of cursors.
+  printf mine >"$room/victim"
+  for name in 0 1; do ln -sf "$room/victim" "$room/shared/7-$name.cursor"; done
+  type_at_end ' five'
+  own_is_file() { [ -f "$room/shared/7-0.cursor" ] && [ ! -L "$room/shared/7-0.cursor" ] && cat "$room/victim"; }
+  wait_for 'a link at the name of the own cursor is not written through' mine own_is_file
+  rm "$room/shared/7-0.cursor"
+  mkdir "$room/shared/7-0.cursor"
+  for bad in 'mkdir' 'mkfifo' 'truncate -s 1000000' 'printf "\033[31m\033]0;x\007\n" >' 'printf "after:origin:1.2.3" >' 'printf "l\nq\n" >' 'printf "beginning \033[2JEve\302\205\n" >'; do
+    rm -rf "$room/shared/7-1.cursor"
+    eval "$bad" '"$room/shared/7-1.cursor"'
+    sleep 0.7
+  done
+  type_at_end ' six'
+  ben_has 'what was typed after all of these' $'new\nne\ntwo\nthree four five six'
+  shows 'no fault after that' 'member 0 of 2'
+  leave_editor
+  same_texts
+}
