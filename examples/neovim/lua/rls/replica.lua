@@ -154,17 +154,26 @@ local function after_deletion(cursor, row, byte, last_row, last_byte)
   end
 end
 
--- The cursors of the windows that show the buffer, and the other end of a selection, which is in no window.
+-- What stays with its character: the cursors of the windows that show the buffer, the other end of a selection, and the marks a to z, of which Neovim
+-- forgets those in lines that are cut or put together. Each has a function that puts it elsewhere.
 function Replica:cursors()
   local found = {}
-  local function add(window, row, byte) found[#found + 1] = { window = window, row = row, byte = byte, is_before = self:is_before(row, byte) } end
+  local function add(row, byte, put) found[#found + 1] = { row = row, byte = byte, is_before = self:is_before(row, byte), put = put } end
   for _, window in ipairs(vim.fn.win_findbuf(self.buf)) do
     local at = api.nvim_win_get_cursor(window)
-    add(window, at[1] - 1, at[2])
+    add(at[1] - 1, at[2], function(place) api.nvim_win_set_cursor(window, place) end)
   end
   if api.nvim_get_current_buf() == self.buf and api.nvim_get_mode().mode:match('^[vV\22]') then
     local at = vim.fn.getpos('v')
-    add(nil, at[2] - 1, at[3] - 1)
+    add(at[2] - 1, at[3] - 1, function(place)
+      vim.cmd('normal! o')
+      api.nvim_win_set_cursor(0, place)
+      vim.cmd('normal! o')
+    end)
+  end
+  for mark in ('abcdefghijklmnopqrstuvwxyz'):gmatch('.') do
+    local at = api.nvim_buf_get_mark(self.buf, mark)
+    if at[1] > 0 then add(at[1] - 1, at[2], function(place) api.nvim_buf_set_mark(self.buf, mark, place[1], place[2], {}) end) end
   end
   return found
 end
@@ -181,6 +190,8 @@ function Replica:apply(changes)
       first = math.min(first or tonumber(at), tonumber(at))
       if change:sub(1, 1) == 'd' then
         local last_row, last_byte = self.lines:find(tonumber(at) + tonumber(rest))
+        -- Neovim 0.7 reads a line that was changed just before from memory that is free by then, if it reads another one in the same call.
+        api.nvim_buf_get_lines(self.buf, last_row, last_row + 1, true)
         api.nvim_buf_set_text(self.buf, row, byte, last_row, last_byte, { '' })
         for _, cursor in ipairs(cursors) do after_deletion(cursor, row, byte, last_row, last_byte) end
       else
@@ -197,11 +208,7 @@ function Replica:apply(changes)
 end
 
 function Replica:put(cursors)
-  for _, cursor in ipairs(cursors) do
-    if not cursor.window then vim.cmd('normal! o') end
-    api.nvim_win_set_cursor(cursor.window or 0, { cursor.row + 1, cursor.byte })
-    if not cursor.window then vim.cmd('normal! o') end
-  end
+  for _, cursor in ipairs(cursors) do cursor.put({ cursor.row + 1, cursor.byte }) end
 end
 
 -- Makes the buffer the session's text by what is between the equal fronts and ends, where the session doesn't tell what changed. With the
