@@ -105,6 +105,16 @@ function s:places() abort
   call s:want(join(getline(1, '$'), '|') ==# "zero|ONE|o\\n\U1F600|three|and some more|four|Five", join(getline(1, '$'), '|'))
   call s:want(line("'a") == 4, 'the mark is in line ' . line("'a"))
   call s:want(line('.') == 6 && col('.') == 3, 'the cursor is at ' . string(getpos('.')))
+  " Lines that changed at once are handed on one by one.
+  execute 'buffer!' buffers[1]
+  %s/e/E/g
+  call listener_flush()
+  for buf in [1, 0]
+    execute 'buffer!' buffers[buf]
+    write
+  endfor
+  call s:want(join(getline(1, '$'), '|') ==# "zEro|ONE|o\\n\U1F600|thrEE|and somE morE|four|FivE", join(getline(1, '$'), '|'))
+  call s:want(line("'a") == 4 && line('.') == 6 && col('.') == 3, 'then the cursor is at ' . string(getpos('.')))
   for buf in buffers
     execute 'bwipeout!' buf
   endfor

@@ -11,7 +11,7 @@ function s:changed(buf, start, end, added, changes) abort
   endif
 endfunction
 
-" Hands changes of lines to the session: at most one deletion and one insertion.
+" Hands changes of lines to the session: at most one deletion and one insertion, or for each line if lines have changed, and none came or went.
 function s:tell(buf, changes) abort
   let r = s:open[a:buf]
   let [first, last, now] = [0, 0, 0]        " from `first` to before `last`, which is `now` in the buffer
@@ -28,8 +28,17 @@ function s:tell(buf, changes) abort
   if empty(new) && last - first == len(r.text.lines)
     let new = ['']
   endif
-  call s:hand(r, first, rls#lines#middle(r.text.lines, first - 1, len(r.text.lines) + 1 - last), new)
-  call rls#lines#splice(r.text, first, last - first, new)
+  let old = rls#lines#middle(r.text.lines, first - 1, len(r.text.lines) + 1 - last)
+  if empty(filter(copy(a:changes), {_, change -> change.added != 0})) && len(old) == len(new)
+    call map(copy(old), {k, line -> line ==# new[k] ? 0 : s:replace(r, first + k, [line], [new[k]])})
+  else
+    call s:replace(r, first, old, new)
+  endif
+endfunction
+
+function s:replace(r, first, old, new) abort
+  call s:hand(a:r, a:first, a:old, a:new)
+  call rls#lines#splice(a:r.text, a:first, len(a:old), a:new)
 endfunction
 
 " Hands it on that these lines are now those.
