@@ -87,14 +87,13 @@ end
 local function places()
   rls.rename_at = 500
   local all = {}
-  for member = 0, 1 do all[member] = rls.open(('%s/h%d'):format(room, member), room .. '/places') end
+  for member = 0, 1 do all[member] = rls.open(('%s/p%d'):format(room, member), room .. '/places') end
   if all[0].version == 1 then return end
   local function turn(member)
     api.nvim_set_current_buf(all[member].buf)
     all[member]:sync()
   end
-  api.nvim_buf_set_lines(all[1].buf, 0, -1, true, {})
-  for _ = 1, 2 do turn(1) turn(0) end
+  api.nvim_set_current_buf(all[0].buf)
   api.nvim_buf_set_lines(all[0].buf, 0, -1, true, { 'one', 'two', 'three', 'four', 'five' })
   api.nvim_buf_set_mark(all[0].buf, 'a', 3, 2, {})
   api.nvim_win_set_cursor(0, { 4, 2 })

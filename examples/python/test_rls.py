@@ -17,11 +17,13 @@ from rls import Change, Commands, Groups, Head, Mailbox, Refused, RlsError, Sess
 
 
 class Room(unittest.TestCase):
-    def setUp(self):
-        self.room = tempfile.mkdtemp()
+    """A folder whose name has what names may have."""
 
-    def tearDown(self):
-        shutil.rmtree(self.room)
+    def setUp(self):
+        top = tempfile.mkdtemp()
+        self.addCleanup(shutil.rmtree, top)
+        self.room = os.path.join(top, " a b\n'*")
+        os.mkdir(self.room)
 
     def path(self, *names):
         return os.path.join(self.room, *names)
@@ -46,7 +48,8 @@ class Room(unittest.TestCase):
         """Runs code in another Python, with a program that goes on for a second after its work, and kills that Python in the middle."""
         slow = self.path("slow")
         with open(slow, "w") as f:
-            f.write(f'#!/bin/sh\n: >"{self.path("begun")}"\n"{os.environ["RLS"]}" "$@"\nstatus=$?\nsleep 1\nexit $status\n')
+            begun = f': >"{self.path("begun")}"'
+            f.write(f'#!/bin/sh\n[ "$1" != session ] || {begun}\n"{os.environ["RLS"]}" "$@"\nstatus=$?\n{begun}\nsleep 1\nexit $status\n')
         os.chmod(slow, 0o755)
         here = os.path.dirname(os.path.abspath(__file__))
         p = subprocess.Popen([sys.executable, "-c", f"import rls, time\n{code}"], env={**os.environ, "RLS": slow, "PYTHONPATH": here})

@@ -71,6 +71,15 @@ screen_has() { screen | grep -qF -- "$1" && printf yes; }
 # Waits until the editor shows this.
 shows() { wait_for "$1" yes screen_has "$2"; }
 
+# Two fresh replicas, of which the editor that $1 begins has one, and what member 1 wrote by these edits, of which $2 is seen.
+begin_with() {
+  replicas
+  begin "$1"
+  shows 'the status line' 'member 0 of 2'
+  ben_edits "${@:3}"
+  shows 'the text' "$2"
+}
+
 stored_text() { (cd "$room/ada" && "$RLS" text); }
 
 # What member 0 types into its editor, and what both members then have. An editor's test says how, by these functions: append TEXT (types at
@@ -156,7 +165,7 @@ play_again() {
   begin_typing=i
   append 'also '
   end_typing
-  kill -KILL "$(session_of "$room/ada")"
+  kill_program "$room/ada"
   shows 'a program that was killed' 'the session'
   go_on
   open_again
@@ -169,17 +178,10 @@ play_again() {
 
 # A program that is killed at any moment while somebody types, and its buffer that is opened again: each word is there, once. $1 begins the editor.
 play_killed() {
-  local round word program
-  replicas
-  begin "$1"
-  shows 'the status line' 'member 0 of 2'
-  begin_typing=i
-  append 'first'
-  end_typing
-  store
+  local round word
+  begin_with "$1" first 'i 0 first'
   for round in 1 2 3 4; do
-    program=$(session_of "$room/ada")
-    (sleep "0.$((RANDOM % 9))"; kill -KILL "$program") &
+    (sleep "0.$((RANDOM % 9))"; kill_program "$room/ada") &
     for word in a b c d; do type_at_end " $word$round"; done
     wait $!
     shows 'a program that was killed while somebody typed' 'the session'
@@ -217,6 +219,16 @@ session_of() {
   done | sort -n | head -n 1
 }
 
+# Kills the program that works on a folder. With the first version of the session there is none for a moment when it stores.
+kill_program() {
+  for _ in {1..200}; do
+    if kill -KILL "$(session_of "$1")" 2>/dev/null; then return; fi
+    sleep 0.05
+  done
+  echo 'FAILED  there is no program to kill'
+  return 1
+}
+
 # Both have the same text and identifiers, once each has what the other one sent.
 same_texts() {
   ended() { (cd "$room/ada" && flock -n . true && echo yes); }
@@ -229,7 +241,7 @@ same_texts() {
 # An editor that is killed at any moment: what was typed is stored, since the program goes on to the end of its input. If the program is killed as
 # well, what came after the last store is lost, and nobody's copy differs. $1 begins the editor.
 play_kill() {
-  local word editor
+  local word editor programs
   replicas
   for word in one two three four five six; do
     begin "$1"
@@ -242,7 +254,10 @@ play_kill() {
     sleep "0.$((RANDOM % 10))"
     case $word in
       one | two | three) kill -KILL "$editor" ;;
-      *) kill -KILL "$editor" "$(session_of "$room/ada")" ;;
+      *)
+        mapfile -t programs < <(session_of "$room/ada")
+        kill -KILL "$editor" "${programs[@]}"
+        ;;
     esac
     leave_tmux
     ended() { (cd "$room/ada" && flock -n . true && echo yes); }
@@ -260,7 +275,9 @@ play_kill() {
 
 # An editor that opens a replica in whose folder another command works waits, also for more than ten seconds, and says so. $1 begins it.
 play_waiting() {
+  replicas
   flock "$room/ada" sleep 12 &
+  while flock -n "$room/ada" true; do sleep 0.1; done
   begin "$1"
   shows 'that it waits for another command' 'waiting for the program'
   shows 'what it waited for' 'member 0 of 2'

@@ -3,7 +3,7 @@
 # shellcheck shell=bash disable=SC2154
 
 # Whether the program has the second version of the session.
-is_second() { replicas && [ "$(cd "$room/ben" && printf 'v\n' | "$RLS" session | sed -n 1p)" = 'version 2' ]; }
+is_second() { (cd "$(mktemp -d -p "$room")" && "$RLS" new 7 0 1 >/dev/null && [ "$(printf 'v\n' | "$RLS" session | sed -n 1p)" = 'version 2' ]); }
 
 # Member 1 tells where its cursor is.
 ben_shows_cursor() {
@@ -12,15 +12,6 @@ ben_shows_cursor() {
 
 # Whether the editor shows a letter in other colours than what follows it: so a cursor is shown.
 is_lit() { tmux -L "$socket" capture-pane -e -p -t "${pane:-test}" | grep -qP "\x1b\[[0-9;]*m$1(\x1b\[[0-9;]*m)+$2" && printf yes; }
-
-# Two fresh replicas, of which the editor that $1 begins has one, and what member 1 wrote by these edits, of which $2 is seen.
-begin_with() {
-  replicas
-  begin "$1"
-  shows 'the status line' 'member 0 of 2'
-  ben_edits "${@:3}"
-  shows 'the text' "$2"
-}
 
 # Undo of own steps after they were stored, a line that is opened above the cursor, and one process for all of it.
 play_undo() {

@@ -75,18 +75,14 @@ endfunction
 function s:places() abort
   let buffers = []
   for member in range(2)
-    execute 'RlsOpen' $ROOM . '/h' . member $ROOM . '/places'
+    execute 'RlsOpen' $ROOM . '/p' . member $ROOM . '/places'
     call add(buffers, bufnr('%'))
   endfor
   if maparg('u', 'n') ==# ''
     return
   endif
   set nostartofline
-  %delete
-  for buf in [1, 0, 1, 0]
-    execute 'buffer!' buffers[buf]
-    write
-  endfor
+  execute 'buffer!' buffers[0]
   call setline(1, ['one', 'two', 'three', 'four', 'five'])
   normal! 3Gma
   call cursor(4, 3)
@@ -94,10 +90,10 @@ function s:places() abort
     execute 'buffer!' buffers[buf]
     write
   endfor
-  1,2delete
-  call append(0, ['zero', 'ONE', "o\\n\U1F600"])
-  call append(4, 'and some more')
-  call setline(7, 'Five')
+  for edit in ['1,2delete', 'call append(0, ["zero", "ONE", "o\\n\U1F600"])', 'call append(4, "and some more")', 'call setline(7, "Five")']
+    execute edit
+    call listener_flush()
+  endfor
   for buf in [1, 0]
     execute 'buffer!' buffers[buf]
     write
