@@ -122,6 +122,19 @@
           (should (string-search "zero\\n😀\none\ntwo\nthree\nand some more\n" (buffer-string))))))
     (rls-test-close (list a b))))
 
+;; What one command did in many edits is undone in parts, since a session forgets a group that has too many (second version).
+(ert-deftest rls-many-edits ()
+  (pcase-let ((`(,a) (rls-test-open 1)))
+    (when (= 2 (buffer-local-value 'rls--version a))
+      (with-current-buffer a
+        (let ((rls--most-steps 5))
+          (rls--before-command)
+          (dotimes (_ 12) (insert "x"))
+          (should (equal (mapcar (lambda (_) (rls-undo) (buffer-size)) '(1 2 3 4)) '(10 5 0 0)))
+          (rls-redo 3)
+          (should (= (buffer-size) 12)))))
+    (rls-test-close (list a))))
+
 ;; Folders whose names have what names may have.
 (ert-deftest rls-odd-names ()
   (let* ((top (expand-file-name " a b\n'$HOME\"*\\" (make-temp-file "rls" t)))

@@ -32,6 +32,8 @@
 (defvar-local rls--due nil "The timer that sends.")
 (defvar-local rls--boundary nil "Whether the next edit begins a group of undo.")
 (defvar-local rls--typed 0 "How many keys the group has that inserted themselves.")
+(defconst rls--most-steps 5000 "Edits that are undone at once: a session forgets a group that has more than 10,000.")
+(defvar-local rls--steps 0 "How many edits the group has.")
 (defvar-local rls--behind nil "Whether the session changed something that isn't told.")
 (defvar-local rls--told nil "Whether it was said that a rename was refused.")
 (defvar-local rls--timer nil)
@@ -55,7 +57,9 @@
   (unless (or rls--silent rls--failed)
     (save-match-data
       (rls--try (lambda ()
-                  (when (and rls--boundary (= rls--version 2)) (rls--send-request "g" nil #'ignore))
+                  (when (and (= rls--version 2) (or rls--boundary (>= rls--steps rls--most-steps)))
+                    (rls--send-request "g" nil #'ignore)
+                    (setq rls--steps 0))
                   (setq rls--boundary nil)
                   (when (> gone 0) (rls--edit (format "d %d %d" (1- from) gone)))
                   (when (> to from)
@@ -65,6 +69,7 @@
 
 (defun rls--edit (request)
   "Asks for an edit that is in the buffer already."
+  (setq rls--steps (1+ rls--steps))
   (rls--send-request request nil
                      (lambda (reply _ changes)
                        (rls--number reply "ok")

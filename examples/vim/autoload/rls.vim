@@ -1,6 +1,8 @@
 " Replicas in buffers: what is typed goes to the session as it is typed, and what others changed is put in place in the buffer.
 let s:open = {}                                 " what is known of each buffer's replica
 let s:most_input = 67108864 - 4096              " bytes that a session reads before it stores, less some
+let s:most_steps = 5000                         " edits that are undone at once: a session forgets a group that has more than 10,000
+let s:most_lines = 1000                         " changed lines that are handed on one by one
 
 " --- From the buffer to the session
 
@@ -11,7 +13,7 @@ function s:changed(buf, start, end, added, changes) abort
   endif
 endfunction
 
-" Hands changes of lines to the session: at most one deletion and one insertion, or for each line if lines have changed, and none came or went.
+" Hands changes of lines to the session: at most one deletion and one insertion, or as much for each line if some have changed and none came or went.
 function s:tell(buf, changes) abort
   let r = s:open[a:buf]
   let [first, last, now] = [0, 0, 0]        " from `first` to before `last`, which is `now` in the buffer
@@ -29,7 +31,7 @@ function s:tell(buf, changes) abort
     let new = ['']
   endif
   let old = rls#lines#middle(r.text.lines, first - 1, len(r.text.lines) + 1 - last)
-  if empty(filter(copy(a:changes), {_, change -> change.added != 0})) && len(old) == len(new)
+  if empty(filter(copy(a:changes), {_, change -> change.added != 0})) && len(old) == len(new) && len(old) <= s:most_lines
     call map(copy(old), {k, line -> line ==# new[k] ? 0 : s:replace(r, first + k, [line], [new[k]])})
   else
     call s:replace(r, first, old, new)
@@ -61,8 +63,9 @@ function s:hand(r, first, old, new) abort
     return
   endif
   let at = rls#lines#place(a:r.text, first) + front
-  if a:r.boundary && a:r.version == 2
+  if a:r.version == 2 && (a:r.boundary || a:r.steps >= s:most_steps)
     call rls#session#send(a:r, 'g', 0z, {-> 0})
+    let a:r.steps = 0
   endif
   let a:r.boundary = 0
   if len(gone) > front + end
@@ -75,6 +78,7 @@ function s:hand(r, first, old, new) abort
 endfunction
 
 function s:edit(r, request) abort
+  let a:r.steps += 1
   call rls#session#send(a:r, a:request, 0z, function('s:edited', [a:r]))
 endfunction
 
@@ -344,7 +348,7 @@ endfunction
 
 function s:open_replica(folder, shared) abort
   let r = {'folder': s:full(a:folder), 'shared': s:full(a:shared), 'taken': {}, 'sent': {}, 'seen': {}, 'problems': {}, 'failed': '', 'unsaved': 0,
-        \ 'since': reltime(), 'changes': g:rls_rename_at, 'told': 0, 'silent': 0, 'boundary': 0, 'behind': 0, 'due': -1, 'shown': -1, 'cursor': '',
+        \ 'since': reltime(), 'changes': g:rls_rename_at, 'told': 0, 'silent': 0, 'boundary': 0, 'steps': 0, 'behind': 0, 'due': -1, 'shown': -1, 'cursor': '',
         \ 'places': {}, 'is_lookup_due': 0}
   if !isdirectory(r.folder)
     throw 'rls: there is no folder ' . r.folder

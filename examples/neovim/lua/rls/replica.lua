@@ -3,6 +3,7 @@ local Session, Lines, Mailbox = require('rls.session'), require('rls.lines'), re
 local files = require('rls.files')
 local uv, api = vim.loop, vim.api
 local MOST_INPUT = 67108864 - 4096 -- bytes that a session reads before it stores, less some
+local MOST_STEPS = 5000 -- edits that are undone at once: a session forgets a group that has more than 10,000
 local count = Lines.count
 
 local Replica = {}
@@ -17,7 +18,7 @@ local function number(reply, word) return tonumber(reply:match('^' .. word .. ' 
 
 function Replica.open(options, namespace, folder, shared)
   local self = setmetatable({ options = options, namespace = namespace, folder = folder, shared = shared, taken = {}, sent = {}, seen = {}, problems = {},
-    places = {}, changes = options.rename_at, unsaved = false }, Replica)
+    places = {}, steps = 0, changes = options.rename_at, unsaved = false }, Replica)
   if vim.fn.isdirectory(folder) == 0 then error('rls: there is no folder ' .. folder, 0) end
   vim.fn.mkdir(shared, 'p')
   self:start()
@@ -99,7 +100,10 @@ function Replica:tell(first, last, new)
   local at = self.lines:place(first, 0) + (front > 0 and count(gone:sub(1, front)) or 0)
   gone, come = gone:sub(front + 1, #gone - tail), come:sub(front + 1, #come - tail)
   if gone == '' and come == '' then return end
-  if self.is_boundary and self.version == 2 then self.session:send('g', nil, function() end) end
+  if self.version == 2 and (self.is_boundary or self.steps >= MOST_STEPS) then
+    self.session:send('g', nil, function() end)
+    self.steps = 0
+  end
   self.is_boundary = false
   if gone ~= '' then self:edit(('d %d %d'):format(at, count(gone))) end
   if come ~= '' then self:edit(('i %d %s'):format(at, escaped(come))) end
@@ -107,6 +111,7 @@ function Replica:tell(first, last, new)
 end
 
 function Replica:edit(request)
+  self.steps = self.steps + 1
   self.session:send(request, nil, function(reply, _, changes)
     if not reply:match('^ok ') then return self:fail('rls: ' .. reply) end
     -- The first change is the edit itself. More are rare, and come from operations that waited: the buffer may have gone on since.
