@@ -1,6 +1,6 @@
 # What only the second version of the session does, typed into a real editor: the editor's own keys of undo, changes that are put in place, cursors
 # of others, one process for all of it. drive.sh reads this file, and an editor's test says how things are typed there.
-# shellcheck shell=bash disable=SC2154
+# shellcheck shell=bash disable=SC2154,SC2034
 
 # Whether the program has the second version of the session.
 is_second() { (cd "$(mktemp -d -p "$room")" && "$RLS" new 7 0 1 >/dev/null && [ "$(printf 'v\n' | "$RLS" session | sed -n 1p)" = 'version 2' ]); }
