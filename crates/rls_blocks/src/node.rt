@@ -1,6 +1,7 @@
 //! Nodes of the tree.
 
-ghost use Rattle.std.specs.Prelude.{◌≡◌, ℕ, ◌+◌, ◌^◌, ◌<◌, ◌≤◌, max, [], ◌∷◌, ◌++◌, length, Some, None, IfSome, IfNone, OnOk, IsTrue};
+ghost use Rattle.std.specs.Prelude.{◌≡◌, ℕ, ◌+◌, ◌^◌, ◌<◌, ◌≤◌, max, [], ◌∷◌, ◌++◌, length, Some, None, IfSome, IfNone, OnOk, IsTrue, encode_utf8_all};
+ghost use Rattle.std.specs.String.{string_bytes};
 ghost use Rattle.rls_runs.specs.Runs.{idents_of};
 ghost use Rattle.rls_runs.specs.Entries.{chars_in};
 ghost use Rattle.rls_runs.specs.Places.{find_ident};
@@ -208,6 +209,17 @@ impl Link {
             Some(node) => node.push_text(text),
         }
     }
+
+    /// Puts the characters in UTF-8 after what a string has. It costs their number. After an error some of them are there.
+    #[cycle(push_utf8)]
+    pub fn push_utf8(&self, to: &mut String) -> Result<(), AllocError>
+        ensures ok { OnOk result (string_bytes to.new ≡ string_bytes to.old ++ encode_utf8_all (chars_in (entries_of self.now.blocks))) }
+    {
+        match self.node() {
+            None => Ok(()),
+            Some(node) => node.push_utf8(to),
+        }
+    }
 }
 
 impl Node {
@@ -355,6 +367,17 @@ impl Node {
         self.left.push_text(text)?;
         text.append(self.block.text().copy()?)?;
         self.right.push_text(text)?;
+        Ok(())
+    }
+
+    // Puts its characters in UTF-8 after what a string has. It costs their number.
+    #[cycle(push_utf8)]
+    pub(crate) fn push_utf8(&self, to: &mut String) -> Result<(), AllocError>
+        ensures ok { OnOk result (string_bytes to.new ≡ string_bytes to.old ++ encode_utf8_all (chars_in (entries_of self.now.blocks))) }
+    {
+        self.left.push_utf8(to)?;
+        self.block.text().push_utf8(to)?;
+        self.right.push_utf8(to)?;
         Ok(())
     }
 

@@ -153,6 +153,9 @@ fn put_char(out: &mut Vec<u8>, c: char) -> Result<(), AllocError>
     ensures ok { OnOk result (out.new.items ≡ out.old.items ++ encode_utf8 c) }
     ensures keeps { IsFrontOf out.old.items out.new.items }
 {
+    if c.is_ascii() {
+        return put_byte(out, c as u8);
+    }
     let mut buffer = [0; 4];
     out.extend_from_slice(c.encode_utf8(&mut buffer).as_bytes())
 }

@@ -1,6 +1,7 @@
 //! What a replica tells of itself.
 
-ghost use Rattle.std.specs.Prelude.{◌≡◌, ℕ, List, ◌+◌, ◌-◌, ◌^◌, ◌<◌, ◌≤◌, length, take, drop, slice_get, Some, IfOk};
+ghost use Rattle.std.specs.Prelude.{◌≡◌, ℕ, List, ◌+◌, ◌-◌, ◌^◌, ◌<◌, ◌≤◌, length, take, drop, slice_get, Some, IfOk, encode_utf8_all};
+ghost use Rattle.std.specs.String.{string_bytes};
 ghost use Rattle.rls_ident.specs.declared.limits.TheConstants.{MEMBERS};
 ghost use Rattle.rls_ops.specs.Rows.{left};
 ghost use Rattle.rls_runs.specs.Runs.{place_of};
@@ -125,6 +126,17 @@ impl Replica {
         ensures stands { IfOk result (λ cs. (t : State) → StandsFor self.now t → cs ≡ text t.history) }
     {
         let text = self.document.text()?;
+        Ok(text)
+    }
+
+    /// All characters in UTF-8, with no list of them between. It costs their number and that of runs.
+    pub fn utf8(&self) -> Result<String, AllocError>
+        ensures utf8 { IfOk result (λ utf8. string_bytes utf8 ≡ encode_utf8_all (text_over self.now)) }
+
+        // For every history and waiting operations that the replica stands for.
+        ensures stands { IfOk result (λ utf8. (t : State) → StandsFor self.now t → string_bytes utf8 ≡ encode_utf8_all (text t.history)) }
+    {
+        let text = self.document.utf8()?;
         Ok(text)
     }
 

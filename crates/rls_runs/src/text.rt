@@ -139,11 +139,19 @@ impl Text {
     pub fn to_utf8(&self) -> Result<String, AllocError>
         ensures utf8 { IfOk result (λ s. string_bytes s ≡ encode_utf8_all self.now) }
     {
-        let (front, back) = self.chars.as_slices();
         let mut text = String::with_capacity(*self.chars.allocator(), self.chars.len())?;
-        push_chars(&mut text, front)?;
-        push_chars(&mut text, back)?;
+        self.push_utf8(&mut text)?;
         Ok(text)
+    }
+
+    /// Puts the characters in UTF-8 after what a string has. It costs their number. After an error some of them are there.
+    pub fn push_utf8(&self, to: &mut String) -> Result<(), AllocError>
+        ensures ok { OnOk result (string_bytes to.new ≡ string_bytes to.old ++ encode_utf8_all self.now) }
+    {
+        let (front, back) = self.chars.as_slices();
+        push_chars(to, front)?;
+        push_chars(to, back)?;
+        Ok(())
     }
 
     /// The number of characters.

@@ -9,7 +9,6 @@ ghost use Rattle.rls_store.specs.Stored.{AreWritable};
 use crate::replies;
 use rls_replica::{Replica, SendError};
 use rls_report::{CommandError, stat_text};
-use rls_stages::utf8_text;
 use rls_sync::message_bytes;
 use std::alloc::{AllocError, Global};
 
@@ -17,7 +16,7 @@ use std::alloc::{AllocError, Global};
 pub(crate) fn text(alloc: Global, replica: &Replica) -> Result<Vec<u8>, AllocError>
     ensures reply { IfOk result (λ reply. reply.items ≡ text_reply by_parts replica.now) }
 {
-    let text = utf8_text(replica)?;
+    let text = replica.utf8()?;
     replies::counted(alloc, "text", text.as_bytes())
 }
 

@@ -8,7 +8,7 @@ mod saving;
 mod telling;
 
 pub use errors::{LineError, OpenError, WorkError};
-pub use lines::{edit_of, perform_edit, perform_line, utf8_text};
+pub use lines::{edit_of, perform_edit, perform_line};
 pub use loading::{load, open};
 pub use saving::file_of;
 pub use telling::{tell_failure, write_line};

@@ -1,6 +1,6 @@
 //! Lines as edits.
 
-ghost use Rattle.std.specs.Prelude.{◌≡◌, IfOk, IfErr, OnErr, OnOk, encode_utf8_all, string_bytes};
+ghost use Rattle.std.specs.Prelude.{◌≡◌, IfOk, IfErr, OnErr, OnOk};
 ghost use Rattle.rls_script.specs.Clusters.{cluster_before};
 ghost use Rattle.rls_seen.specs.Edits.{edit_fault_over};
 ghost use Rattle.rls_seen.specs.Seen.{text_over};
@@ -16,14 +16,6 @@ use std::alloc::AllocError;
 
 /// How far before a position its grapheme cluster is looked for first, in characters.
 const FIRST_REACH: u64 = 8;
-
-/// The text in UTF-8. The time is linear in its length.
-pub fn utf8_text(replica: &Replica) -> Result<String, AllocError>
-    ensures utf8 { IfOk result (λ utf8. string_bytes utf8 ≡ encode_utf8_all (text_over replica.now)) }
-{
-    let text = replica.text()?;
-    text.to_utf8()
-}
 
 /// Performs a line: makes the edit that it means. After an error the replica is as before.
 ///

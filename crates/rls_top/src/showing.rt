@@ -12,7 +12,7 @@ ghost use Rattle.rls_top.specs.Stages.{IsDue};
 use crate::made::{Made, showing};
 use rls_replica::{Replica, SendError};
 use rls_report::{CommandError, ids_json, stat_text, trial_report};
-use rls_stages::{WorkError, utf8_text};
+use rls_stages::WorkError;
 use rls_sync::message_bytes;
 use rls_world::{Summary, trial};
 use std::alloc::{AllocError, Global};
@@ -22,7 +22,7 @@ pub(crate) fn show_text(alloc: Global, replica: &Replica) -> Result<Made, WorkEr
     ensures due { IsDue of_work result (due_of_text replica.now) }
     ensures unstored { IfOk result (λ made. made.stored ≡ None) }
 {
-    let text = utf8_text(replica)?;
+    let text = replica.utf8()?;
     Ok(showing(alloc, text.into_bytes()))
 }
 

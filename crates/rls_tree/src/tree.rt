@@ -1,7 +1,8 @@
 //! The block tree.
 
-ghost use Rattle.std.specs.Prelude.{◌≡◌, ℕ, ◌+◌, ◌*◌, ◌^◌, ◌≤◌, [], ◌<◌, pos, None, length, take, drop, reverse, slice_get, Some, IfSome, IfNone, IfOk, OnOk, OnErr, IsTrue, IsFalse};
+ghost use Rattle.std.specs.Prelude.{◌≡◌, ℕ, ◌+◌, ◌*◌, ◌^◌, ◌≤◌, [], ◌<◌, pos, None, length, take, drop, reverse, slice_get, Some, IfSome, IfNone, IfOk, OnOk, OnErr, IsTrue, IsFalse, encode_utf8_all};
 ghost use Rattle.std.specs.List.{list_all};
+ghost use Rattle.std.specs.String.{string_bytes};
 ghost use Rattle.rls_ident.specs.Identifiers.{is_ident, shifted};
 ghost use Rattle.rls_runs.specs.Runs.{run_idents, runs_of, are_apart, is_increasing, place_of};
 ghost use Rattle.rls_runs.specs.Entries.{idents_in, chars_in, has_ident};
@@ -233,6 +234,15 @@ impl BlockTree {
     {
         let mut text = Text::new(self.alloc);
         self.root.push_text(&mut text)?;
+        Ok(text)
+    }
+
+    /// All characters in UTF-8, with no list of them between. It costs their number and that of runs.
+    pub fn utf8(&self) -> Result<String, AllocError>
+        ensures utf8 { IfOk result (λ s. string_bytes s ≡ encode_utf8_all (chars_in (entries_of self.now.blocks))) }
+    {
+        let mut text = String::with_capacity(self.alloc, self.chars() as usize)?;
+        self.root.push_utf8(&mut text)?;
         Ok(text)
     }
 
