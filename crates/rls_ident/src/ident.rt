@@ -246,9 +246,8 @@ fn same_tuples(tuples: &[Tuple], others: &[Tuple]) -> bool
         return false;
     }
     for i in 0..tuples.len() {
-        match tuples[i].compare(&others[i]) {
-            Ordering::Equal => {}
-            _ => return false,
+        if !tuples[i].same(&others[i]) {
+            return false;
         }
     }
     true

@@ -1,7 +1,7 @@
 //! Tuples, of which identifiers consist (LogootSplit: André and others, 2013).
 
 ghost use Rattle.std.specs.Prelude.{◌≡◌, ◌+ℤ◌, ◌-ℤ◌, ◌≤ℤ◌, pos, IsTrue};
-ghost use Rattle.rls_ident.specs.Tuples.{at_spot, spot_cmp, tuple_cmp};
+ghost use Rattle.rls_ident.specs.Tuples.{at_spot, spot_cmp, tuple_cmp, tuple_eq};
 ghost use Rattle.rls_ident.specs.Identifiers.{least_offset, greatest_offset, is_inner_bounded, is_last_bounded};
 
 use crate::limits::{GREATEST_OFFSET, LEAST_OFFSET};
@@ -51,6 +51,36 @@ impl Tuple {
             (Tuple::Low, Tuple::Low) | (Tuple::High, Tuple::High) => Ordering::Equal,
             (Tuple::Low, _) | (_, Tuple::High) => Ordering::Less,
             (Tuple::High, _) | (_, Tuple::Low) => Ordering::Greater,
+        }
+    }
+
+    /// Whether two tuples are the same, which takes half of what `compare` takes.
+    #[tactic(auto, unfolding(crate::specs::Tuples::tuple_cmp, crate::specs::Tuples::spot_cmp))]
+    pub fn same(&self, other: &Tuple) -> bool
+        ensures same { result ≡ tuple_eq self.now other.now }
+    {
+        match (self, other) {
+            (
+                Tuple::At {
+                    pos,
+                    replica,
+                    seq,
+                    offset,
+                },
+                Tuple::At {
+                    pos: other_pos,
+                    replica: other_replica,
+                    seq: other_seq,
+                    offset: other_offset,
+                },
+            ) => {
+                pos == other_pos
+                    && replica == other_replica
+                    && seq == other_seq
+                    && offset == other_offset
+            }
+            (Tuple::Low, Tuple::Low) | (Tuple::High, Tuple::High) => true,
+            _ => false,
         }
     }
 
