@@ -80,6 +80,15 @@ pub kept_placed_none : (all ms : List ℕ) → kept_placed all ms [] ≡ []
 kept_placed_none all [] = refl
 kept_placed_none all (m ∷ ms) = refl
 
+pub kept_placed_fewer : (all ms : List ℕ) (ps : List Placed) → length (kept_placed all ms ps) ≤ length ps
+kept_placed_fewer all [] ps = omega arith
+kept_placed_fewer all (m ∷ ms) [] = omega arith
+kept_placed_fewer all (m ∷ ms) (p ∷ ps) = go (nat_lt 1 m) (kept_placed_fewer all ms ps)
+  where
+    go : (b : Bool) → length (kept_placed all ms ps) ≤ length ps → length (if b then moved all p ∷ kept_placed all ms ps else kept_placed all ms ps) ≤ suc (length ps)
+    go true h = omega (arith, h)
+    go false h = omega (arith, h)
+
 pub kept_placed_more : (all ms : List ℕ) (ps : List Placed) (i m : ℕ) (p : Placed) → slice_get ps i ≡ Some p → slice_get ms i ≡ Some m → kept_placed all ms (take (suc i) ps) ≡ kept_placed all ms (take i ps) ++ (if nat_lt 1 m then moved all p ∷ [] else [])
 kept_placed_more all ms [] i m p g h = absurd (cc)
 kept_placed_more all [] (q ∷ ps) i m p g h = absurd (cc)

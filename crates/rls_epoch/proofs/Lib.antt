@@ -3,6 +3,7 @@ pub mod Moving
 pub mod Found
 pub mod Laid
 pub mod Meeting
+pub mod Jumping
 pub mod Reading
 pub mod Sorting
 pub mod Ordering

@@ -21,6 +21,7 @@ use Rattle.rls_epoch.specs.declared.climb.Climb.{Climb}
 use Rattle.rls_epoch.specs.declared.placed.Placed.{Placed}
 use Rattle.rls_epoch.specs.Climbing.{side_cmp}
 pub use Rattle.rls_epoch.specs.Climbs.{StartsAt, IsAbove, AreTwo, below_or}
+use Rattle.rls_epoch.specs.Jumps.{IsUpFrom}
 use Rattle.rls_epoch.specs.Links.{name_at, epoch_at, up_at}
 use Rattle.rls_epoch.specs.Seen.{node_of, nodes_of, AreLaid}
 use Rattle.rls_epoch.specs.Sorted.{place_name}
@@ -101,20 +102,24 @@ places_apart ps d h k p q g j n e =
 
 -- ---- ways up
 
+-- a parent has the path of its child but for the last renaming
+pub path_up : (top : EpochName) (ps : List Placed) → AreLaid top ps → (k : ℕ) (p : Placed) → slice_get ps k ≡ Some p → path (nodes_of ps) (epoch_at top ps (suc k)) ≡ path (nodes_of ps) (epoch_at top ps p.up) ++ (p.renaming ∷ [])
+path_up top ps l k p g =
+    let up : epoch_at top ps p.up ≡ p.parent = at_is top ps p.up p.parent (l.links.parents k p g) in
+    ap (path (nodes_of ps)) (name_read ps k p g) ∙ (path_member top (node_of p) (nodes_of ps) l.nodes l.below (node_in ps k p g) ∙ ap (λ z. path (nodes_of ps) z ++ (p.renaming ∷ [])) (sym up))
+
 -- one step up
-pub above_more : (top : EpochName) (ps : List Placed) → AreLaid top ps → (e : EpochName) (c d : Climb) → 0 < c.at → c.at ≤ length ps → d.at ≡ up_at ps (c.at - 1) → d.below ≡ Some (c.at - 1) → IsAbove top ps e c → IsAbove top ps e d
-above_more top ps l e c d h w a b i =
-    let k = c.at - 1 in
+pub above_more : (top : EpochName) (ps : List Placed) → AreLaid top ps → (n m : ℕ) (d : Climb) → 0 < m → m ≤ length ps → d.at ≡ up_at ps (m - 1) → d.below ≡ Some (m - 1) → IsUpFrom top ps n m → IsAbove top ps (epoch_at top ps n) d
+above_more top ps l n m d h w a b i =
+    let k = m - 1 in
     let r = get_of ps k (omega arith) in
     let p = r.0 in
-    let ns = nodes_of ps in
-    let n : c.at ≡ suc k = omega arith in
-    let up : epoch_at top ps d.at ≡ p.parent = ap (epoch_at top ps) (a ∙ up_read ps k p r.1) ∙ at_is top ps p.up p.parent (l.links.parents k p r.1) in
-    let here : epoch_at top ps c.at ≡ name_of p.renaming = ap (epoch_at top ps) n ∙ name_read ps k p r.1 in
-    let one : path ns (epoch_at top ps c.at) ≡ path ns (epoch_at top ps d.at) ++ (p.renaming ∷ []) =
-    ap (path ns) here ∙ (path_member top (node_of p) ns l.nodes l.below (node_in ps k p r.1) ∙ ap (λ z. path ns z ++ (p.renaming ∷ [])) (sym up)) in (
+    let q : m ≡ suc k = omega arith in
+    let up : d.at ≡ p.up = a ∙ up_read ps k p r.1 in
+    let one : path (nodes_of ps) (epoch_at top ps m) ≡ path (nodes_of ps) (epoch_at top ps d.at) ++ (p.renaming ∷ []) =
+    ap (λ (z : ℕ). path (nodes_of ps) (epoch_at top ps z)) q ∙ (path_up top ps l k p r.1 ∙ ap (λ (z : ℕ). path (nodes_of ps) (epoch_at top ps z) ++ (p.renaming ∷ [])) (sym up)) in (
       p.renaming ∷ i.0,
-      i.1 ∙ (ap (λ z. z ++ i.0) one ∙ append_assoc (path ns (epoch_at top ps d.at)) (p.renaming ∷ []) i.0),
+      i.1 ∙ (ap (λ z. z ++ i.0) one ∙ append_assoc (path (nodes_of ps) (epoch_at top ps d.at)) (p.renaming ∷ []) i.0),
       subst (λ o. StartsAt ps o (p.renaming ∷ i.0)) (sym b) (p, i.0, r.1, refl),
     )
 
@@ -147,15 +152,10 @@ met_is top ps n e f c d h two i j =
     ∙ (sym (front_same P i.0 j.0)
     ∙ (ap (λ z. slice_cmp renaming_cmp z (P ++ j.0)) (sym i.1) ∙ ap (slice_cmp renaming_cmp (path (nodes_of ps) e)) (sym q)))))
 
-pub two_left : (a b : Option ℕ) (k : ℕ) → a ≡ Some k → ((h : ℕ) → b ≡ Some h → k < h) → AreTwo a b
-two_left None b k e f = tt
-two_left (Some j) None k e f = tt
-two_left (Some j) (Some h) k e f = λ q. let l = f h refl in let m = some_is j k e in omega arith
-
-pub two_right : (a b : Option ℕ) (k : ℕ) → b ≡ Some k → ((h : ℕ) → a ≡ Some h → k < h) → AreTwo a b
-two_right None b k e f = tt
-two_right (Some j) None k e f = tt
-two_right (Some j) (Some h) k e f = λ q. let l = f j refl in let m = some_is h k e in omega arith
+-- where one way has no child
+pub two_none : (o : Option ℕ) → AreTwo o None
+two_none None = tt
+two_none (Some h) = tt
 
 -- ---- an epoch that is to be opened
 

@@ -22,11 +22,15 @@ use Rattle.rls_epoch.proofs.Sorting.{Cmp, IsOrder, all_in, cut_insert, in_insert
 
 -- ---- links
 
-get_end : (ps : List Placed) (p : Placed) (k : ℕ) (q : Placed) → slice_get (ps ++ p ∷ []) k ≡ Some q → (slice_get ps k ≡ Some q) ⊎ ((k ≡ length ps) × (p ≡ q))
-get_end [] p zero q h = inr (refl, some_is p q h)
-get_end [] p (suc k) q h = absurd (cc)
-get_end (r ∷ ps) p zero q h = inl h
-get_end (r ∷ ps) p (suc k) q h = ⊎_elim (λ g. inl g) (λ g. inr (ap suc g.0, g.1)) (get_end ps p k q h)
+pub get_end : {A : Type 0} (xs : List A) (x : A) (k : ℕ) (y : A) → slice_get (xs ++ x ∷ []) k ≡ Some y → (slice_get xs k ≡ Some y) ⊎ ((k ≡ length xs) × (x ≡ y))
+get_end [] x zero y h = inr (refl, some_is x y h)
+get_end [] x (suc k) y h = absurd (cc)
+get_end (z ∷ xs) x zero y h = inl h
+get_end (z ∷ xs) x (suc k) y h = ⊎_elim (λ g. inl g) (λ g. inr (ap suc g.0, g.1)) (get_end xs x k y h)
+
+pub get_last : {A : Type 0} (xs : List A) (x : A) → slice_get (xs ++ x ∷ []) (length xs) ≡ Some x
+get_last [] x = refl
+get_last (y ∷ xs) x = get_last xs x
 
 get_more : (ps : List Placed) (p : Placed) (k : ℕ) (q : Placed) → slice_get ps k ≡ Some q → slice_get (ps ++ p ∷ []) k ≡ Some q
 get_more [] p k q h = absurd (cc)

@@ -1,6 +1,7 @@
 pub mod Climbing
 pub mod Climbs
 pub mod Links
+pub mod Jumps
 pub mod Marks
 pub mod Seen
 pub mod Sorted

@@ -131,7 +131,8 @@ impl Epochs {
     }
 
     /// The order of two epochs: lexicographic by their paths from the topmost one, in which a proper
-    /// prefix is less. It takes no memory, and costs a step for each epoch on the way between them.
+    /// prefix is less. It takes no memory, and costs a few steps for each halving of the way between
+    /// them.
     pub fn compare(&self, a: EpochName, b: EpochName) -> Ordering
         requires first { IsTrue (is_kept self.now.epochs.top self.now.epochs.nodes a) }
         requires second { IsTrue (is_kept self.now.epochs.top self.now.epochs.nodes b) }
@@ -150,7 +151,7 @@ impl Epochs {
     }
 
     /// Whether the epoch that a rename would open in another is greater than all that are kept. It
-    /// takes no memory, and costs a step for each epoch on the way between that epoch and the
+    /// takes no memory, and costs a few steps for each halving of the way between that epoch and the
     /// greatest.
     pub fn opens_greatest(&self, replica: u32, seq: u32, parent: EpochName) -> bool
         requires fresh { IsFalse (is_kept self.now.epochs.top self.now.epochs.nodes (EpochName.Of replica seq)) }

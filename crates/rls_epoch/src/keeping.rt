@@ -11,6 +11,7 @@ ghost use Rattle.rls_epoch.specs.Links.{epoch_at};
 ghost use Rattle.rls_epoch.specs.Marks.{AreNamed, AreNumbered, numbered, kept_placed, kept_places, kept_names, kept_sum};
 ghost use Rattle.rls_epoch.specs.Seen.{former_sum, nodes_of};
 
+use crate::jumps::renew_jumps;
 use crate::mark::{Mark, mark_of};
 use crate::nodes::Nodes;
 use crate::placed::Placed;
@@ -116,8 +117,10 @@ impl Nodes {
         ensures top { self.new.top ≡ epoch_at self.old.top self.old.placed number }
         ensures placed { self.new.placed ≡ kept_placed marks.now (drop 1 marks.now) self.old.placed }
     {
+        rely!(let _count = self.count());
         self.top = self.epoch_of(number);
         keep_nodes(&mut self.list, marks);
+        renew_jumps(&mut self.jumps, &self.list);
         self.known.clear();
     }
 

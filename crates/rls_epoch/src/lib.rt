@@ -8,6 +8,7 @@ mod epochs;
 mod greatest;
 mod heads;
 mod images;
+mod jumps;
 mod keeping;
 mod known;
 mod learning;

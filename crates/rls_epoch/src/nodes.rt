@@ -3,10 +3,12 @@
 ghost use Rattle.std.specs.Prelude.{◌≡◌, ℕ, ◌-◌, ◌^◌, ◌≤◌, ◌<◌, slice_get, ◌∷◌, [], ◌++◌, Some, IfOk, OnOk, IsFalse, length};
 ghost use Rattle.rls_ident.specs.Lists.{IsIn};
 ghost use Rattle.rls_rename.specs.Tree.{name_of, is_kept, epoch_cmp};
+ghost use Rattle.rls_epoch.specs.Jumps.{depth_at, IsUpFrom};
 ghost use Rattle.rls_epoch.specs.Links.{name_at, epoch_at, up_at};
 ghost use Rattle.rls_epoch.specs.Seen.{nodes_of, AreLaid};
 ghost use Rattle.rls_epoch.specs.Sorted.{names_at, place_name, IsCut};
 
+use crate::jumps::{Jump, depth_of, next_jump, target_of};
 use crate::known::KnownImages;
 use crate::placed::Placed;
 use rls_ident::{EpochName, rely};
@@ -20,20 +22,23 @@ use std::marker::Model;
 pub(crate) struct Nodes {
     pub(crate) top: EpochName,
     pub(crate) list: Vec<Placed>,
+    // the jump of each node
+    pub(crate) jumps: Vec<Jump>,
     // images in one of the epochs that are known
     pub(crate) known: KnownImages,
 }
 
 impl Model for Nodes {
-    ghost use Rattle.std.specs.Prelude.{◌-◌, length, vec_capacity};
+    ghost use Rattle.std.specs.Prelude.{◌≡◌, ◌-◌, length, min, vec_capacity};
+    ghost use Rattle.rls_epoch.specs.Jumps.{AreJumps};
     ghost use Rattle.rls_epoch.specs.KnownRuns.{AreKnown};
     ghost use Rattle.rls_epoch.specs.Seen.{NodesSeen, AreLaid, nodes_of};
 
     ghost Value = { NodesSeen };
 
-    ghost view = { λ a. record { top = a.top; placed = a.list.items; spare = vec_capacity a.list - length a.list.items } };
+    ghost view = { λ a. record { top = a.top; placed = a.list.items; spare = min (vec_capacity a.list - length a.list.items) (vec_capacity a.jumps - length a.jumps.items) } };
 
-    ghost invariant = { λ a. AreLaid a.top a.list.items × AreKnown (nodes_of a.list.items) a.known };
+    ghost invariant = { λ a. AreLaid a.top a.list.items × AreKnown (nodes_of a.list.items) a.known × (length a.jumps.items ≡ length a.list.items) × AreJumps a.top a.list.items a.jumps.items };
 }
 
 impl Nodes {
@@ -45,6 +50,7 @@ impl Nodes {
         Nodes {
             top,
             list: Vec::new(alloc),
+            jumps: Vec::new(alloc),
             known: KnownImages::new(alloc, top),
         }
     }
@@ -56,6 +62,7 @@ impl Nodes {
         ensures ok { OnOk result (0 < self.new.spare) }
     {
         self.list.reserve(1)?;
+        self.jumps.reserve(1)?;
         Ok(())
     }
 
@@ -69,6 +76,8 @@ impl Nodes {
         ensures placed { self.new.placed ≡ self.old.placed ++ node ∷ [] }
     {
         rely!(let _total = node.renaming.total());
+        let jump = next_jump(&self.jumps, node.up);
+        self.jumps.push(jump).unwrap();
         self.list.push(node).unwrap();
         self.known.clear();
     }
@@ -110,6 +119,25 @@ impl Nodes {
         ensures up { result ≡ up_at self.now.placed place }
     {
         self.at(place).up
+    }
+
+    // How many renamings lie above the epoch of a number.
+    pub(crate) fn depth(&self, number: usize) -> usize
+        requires within { number ≤ length self.now.placed }
+        ensures depth { result ≡ depth_at self.now.top self.now.placed number }
+        ensures most { result ≤ number }
+    {
+        depth_of(&self.jumps, number)
+    }
+
+    // The number of an epoch further up.
+    pub(crate) fn jump(&self, number: usize) -> usize
+        requires some { 0 < number }
+        requires within { number ≤ length self.now.placed }
+        ensures lesser { result < number }
+        ensures above { IsUpFrom self.now.top self.now.placed number result }
+    {
+        target_of(&self.jumps, number)
     }
 
     // The epoch of a number.
@@ -169,6 +197,7 @@ impl Nodes {
         Ok(Nodes {
             top: self.top,
             list,
+            jumps: self.jumps.clone()?,
             known: KnownImages::new(self.allocator(), self.top),
         })
     }

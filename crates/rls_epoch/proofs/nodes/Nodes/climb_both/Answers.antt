@@ -1,56 +1,24 @@
-use Rattle.std.proofs.Common.{◌≡◌, ◌+◌, ◌-◌, ◌<◌, sym, ◌∙◌, arith}
-use Rattle.rls_ident.proofs.Members.{some_is}
-use Rattle.rls_epoch.specs.Links.{epoch_at}
-use Rattle.rls_epoch.proofs.Found.{up_earlier}
-use Rattle.rls_epoch.proofs.Meeting.{above_more, two_left, two_right}
+use Rattle.std.proofs.Common.{◌≤◌, length, arith}
+use Rattle.rls_epoch.proofs.Jumping.{up_again}
+use Rattle.rls_epoch.proofs.Meeting.{above_more}
 use Rattle.rls_epoch.proofs.nodes.Nodes.climb_both.Goals as goal
 
-pub loop-left-smaller-then-right-left : goal.loop-left-smaller-then-right-left
-loop-left-smaller-then-right-left c =
-    let i = c.loop-left.invariant in
-    let u = up_earlier c.args.self.now.top c.args.self.now.placed c.count-count.ensures.laid (c.loop-left.left.at - 1) (omega arith) in
-    let a = c.climbed-left.ensures.at in
-    let h : c.climbed-left.result.at + c.loop-left.right.at < c.loop-left.left.at + c.loop-left.right.at = omega arith in
-    h
-
-pub loop-left-preserved-then-right-left : goal.loop-left-preserved-then-right-left
-loop-left-preserved-then-right-left c =
-    let i = c.loop-left.invariant in
+pub returns-clause-left : goal.returns-clause-left
+returns-clause-left c =
+    let top = c.args.self.now.top in
     let ps = c.args.self.now.placed in
-    let k = c.loop-left.left.at - 1 in
-    let u = up_earlier c.args.self.now.top ps c.count-count.ensures.laid k (omega arith) in
-    let a = c.climbed-left.ensures.at in
-    let b = c.climbed-left.ensures.below in
-    record {
-      left_within = omega arith;
-      right_within = i.right_within;
-      left_below = λ h e. let q : k ≡ h = some_is k h (sym b ∙ e) in (omega arith, omega arith, omega arith);
-      right_below = λ h e. let q = i.right_below h e in (omega arith, omega arith, omega arith);
-      two = two_left c.climbed-left.result.below c.loop-left.right.below k b (λ h e. let q = i.right_below h e in omega arith);
-      left_above = above_more c.args.self.now.top ps c.count-count.ensures.laid (epoch_at c.args.self.now.top ps c.args.a) c.loop-left.left c.climbed-left.result (omega arith) i.left_within a b i.left_above;
-      right_above = i.right_above;
-    }
+    let x = c.siblings_above-x in
+    let s = c.climb_to-left.ensures.above in
+    let w : x.result.0 ≤ length ps = let u = x.ensures.within in let v = c.climb_to-left.ensures.within in omega (arith, u, v) in
+    above_more top ps c.count-count.ensures.laid c.args.a x.result.0 c.climbed.result x.ensures.some w (rw c.starting_at.ensures.start at c.climbed.ensures.at) (rw c.starting_at.ensures.start at c.climbed.ensures.below)
+    (up_again top ps c.args.a c.climb_to-left.result.at x.result.0 (s.0, s.1) x.ensures.left)
 
-pub loop-left-smaller : goal.loop-left-smaller
-loop-left-smaller c =
-    let i = c.loop-left.invariant in
-    let u = up_earlier c.args.self.now.top c.args.self.now.placed c.count-count.ensures.laid (c.loop-left.right.at - 1) (omega arith) in
-    let a = c.climbed-right.ensures.at in
-    let h : c.loop-left.left.at + c.climbed-right.result.at < c.loop-left.left.at + c.loop-left.right.at = omega arith in
-    h
-
-pub loop-left-preserved : goal.loop-left-preserved
-loop-left-preserved c =
-    let at = c.climbed-right.ensures.at in
-    let below = c.climbed-right.ensures.below in
-    let u = up_earlier c.args.self.now.top c.args.self.now.placed c.count-count.ensures.laid (c.loop-left.right.at - 1) (omega arith) in
-    let i = c.loop-left.invariant in
-    record {
-      left_within = i.left_within;
-      right_within = omega arith;
-      left_below = λ h e. let q = i.left_below h e in (omega arith, omega arith, omega arith);
-      right_below = λ h e. let q : c.loop-left.right.at - 1 ≡ h = some_is (c.loop-left.right.at - 1) h (sym below ∙ e) in (omega arith, omega arith, omega arith);
-      two = two_right c.loop-left.left.below c.climbed-right.result.below (c.loop-left.right.at - 1) below (λ h e. let q = i.left_below h e in omega arith);
-      left_above = i.left_above;
-      right_above = above_more c.args.self.now.top c.args.self.now.placed c.count-count.ensures.laid (epoch_at c.args.self.now.top c.args.self.now.placed c.args.b) c.loop-left.right c.climbed-right.result (omega arith) i.right_within at below i.right_above;
-    }
+pub returns-clause-right : goal.returns-clause-right
+returns-clause-right c =
+    let top = c.args.self.now.top in
+    let ps = c.args.self.now.placed in
+    let x = c.siblings_above-x in
+    let s = c.climb_to-right.ensures.above in
+    let w : x.result.1 ≤ length ps = let u = x.ensures.other_within in let v = c.climb_to-right.ensures.within in omega (arith, u, v) in
+    above_more top ps c.count-count.ensures.laid c.args.b x.result.1 c.climbed-2.result x.ensures.other_some w (rw c.starting_at-2.ensures.start at c.climbed-2.ensures.at) (rw c.starting_at-2.ensures.start at c.climbed-2.ensures.below)
+    (up_again top ps c.args.b c.climb_to-right.result.at x.result.1 (s.0, s.1) x.ensures.right)

@@ -1,4 +1,4 @@
-use Rattle.std.proofs.Common.{◌≡◌, get_or, false, true, sym, ap, ◌∙◌, arith}
+use Rattle.std.proofs.Common.{◌≡◌, get_or, false, sym, ap, ◌∙◌, arith}
 use Rattle.rls_ident.specs.EpochNames.{name_eq}
 use Rattle.rls_epoch.specs.Sorted.{place_name}
 use Rattle.rls_epoch.proofs.Found.{name_next, none_at_end, none_here}
