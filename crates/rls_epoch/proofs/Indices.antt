@@ -9,7 +9,7 @@ use Rattle.rls_ident.specs.declared.epoch_name.EpochName.{EpochName}
 use Rattle.rls_ident.specs.Lists.{IsIn}
 use Rattle.rls_ident.proofs.Members.{in_map, map_in}
 use Rattle.rls_epoch.specs.declared.placed.Placed.{Placed}
-use Rattle.rls_epoch.specs.Ranks.{name_in, AreDistinct}
+use Rattle.rls_epoch.specs.Maxima.{name_in, AreDistinct}
 use Rattle.rls_epoch.specs.Sorted.{place_name, names_at, AreRising, IsCut}
 use Rattle.rls_epoch.proofs.Found.{read_in}
 use Rattle.rls_epoch.proofs.Sorting.{Cmp, IsOrder, before_at}

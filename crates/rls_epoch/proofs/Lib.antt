@@ -23,6 +23,6 @@ pub mod Left
 pub mod Listed
 pub mod Parting
 pub mod Indices
-pub mod Ranking
+pub mod UpTo
 pub mod Looking
 pub mod KnownRuns

@@ -322,7 +322,7 @@ pub record IsLeft (top : EpochName) (ps : List Placed) (marks xs : List ℕ) (t 
   pub sum : kept_sum (drop 1 xs) ps ≡ former_sum (nodes_of (kept_placed xs (drop 1 xs) ps))
   pub part_is : record { top = epoch_at top ps t; nodes = nodes_of (kept_placed xs (drop 1 xs) ps) } ≡ kept_part (record { top = top; nodes = nodes_of ps }) v (marks_of top ps marks)
 
-pub left_of : {top : EpochName} {ps : List Placed} {order ranks marks : List ℕ} {total : ℕ} → IsWhole top ps order ranks marks total → (ns xs : List ℕ) (t : ℕ) (v : List ℕ) → ns ≡ marks → length xs ≡ length ns → t ≤ length ps → NumberedFor top ps ns xs t v → IsLeft top ps marks xs t v
+pub left_of : {top : EpochName} {ps : List Placed} {maxima marks : List ℕ} {total : ℕ} → IsWhole top ps maxima marks total → (ns xs : List ℕ) (t : ℕ) (v : List ℕ) → ns ≡ marks → length xs ≡ length ns → t ≤ length ps → NumberedFor top ps ns xs t v → IsLeft top ps marks xs t v
 left_of {top = top} {ps = ps} {marks = marks} w ns xs t v e lx tl h =
     let g = greatest top (nodes_of ps) in
     let es = needed_by top ps marks v in

@@ -8,6 +8,6 @@ pub mod Sorted
 pub mod Ways
 pub mod Heads
 pub mod Parts
-pub mod Ranks
+pub mod Maxima
 pub mod KnownRuns
 pub mod MarkStates

@@ -1,13 +1,13 @@
 -- What a tree of epochs is seen as.
-use Rattle.std.specs.Prelude.{◌≡◌, ℕ, zero, suc, Bool, false, ◌||◌, Option, Some, None, List, [], ◌∷◌, length, map, reverse, sum_by, if◌then◌else◌}
+use Rattle.std.specs.Prelude.{◌≡◌, ℕ, zero, suc, Bool, false, ◌||◌, Option, Some, None, List, [], ◌∷◌, ◌++◌, length, map, reverse, sum_by, if◌then◌else◌}
 use Rattle.rls_ident.specs.declared.epoch_name.EpochName.{EpochName}
 use Rattle.rls_ident.specs.EpochNames.{name_eq}
 use Rattle.rls_rename.specs.Renaming.{Renaming}
-use Rattle.rls_rename.specs.Tree.{Node, Epochs, name_of, is_of, AreNodes, AreBelow, greatest, names}
+use Rattle.rls_rename.specs.Tree.{Node, Epochs, name_of, is_of, AreNodes, AreBelow, epoch_cmp, greatest, names}
 use Rattle.rls_rename.specs.Connected.{in_order}
 use Rattle.rls_epoch.specs.declared.placed.Placed.{Placed}
 use Rattle.rls_epoch.specs.Links.{AreLinked}
-use Rattle.rls_epoch.specs.Ranks.{AreRanked}
+use Rattle.rls_epoch.specs.Maxima.{AreMaxima}
 
 -- the epochs, those that are marked, and for how many more nodes there is room
 pub record EpochsSeen : Type 0 where
@@ -72,9 +72,18 @@ pub record NodesSeen : Type 0 where
   pub placed : List Placed
   pub spare : ℕ
 
--- with the ranks of the nodes in the order of the epochs, a mark for each epoch, and this number of former identifiers
-pub record IsWhole (top : EpochName) (placed : List Placed) (order ranks marks : List ℕ) (total : ℕ) : Type 0 where
+-- with the maxima of the nodes, a mark for each epoch, and this number of former identifiers
+pub record IsWhole (top : EpochName) (placed : List Placed) (maxima marks : List ℕ) (total : ℕ) : Type 0 where
   pub laid : AreLaid top placed
-  pub ranked : AreRanked placed order ranks
+  pub maxima_are : AreMaxima (epoch_cmp (nodes_of placed)) top placed maxima
   pub marks_whole : length marks ≡ suc (length placed)
   pub sum : total ≡ former_sum (nodes_of placed)
+
+-- the last node was added, and those before it have their maxima without it
+pub record IsAdded (top : EpochName) (placed : List Placed) (maxima : List ℕ) : Type 0 where
+  pub older : List Placed
+  pub node : Placed
+  pub before : List ℕ
+  pub nodes_are : placed ≡ older ++ (node ∷ [])
+  pub numbers_are : maxima ≡ before ++ (0 ∷ [])
+  pub maxima_are : AreMaxima (epoch_cmp (nodes_of older)) top older before

@@ -1,7 +1,7 @@
 //! The order of two epochs, by the ways up from both: first to one depth, and then by jumps to where they
 //! meet.
 
-ghost use Rattle.std.specs.Prelude.{◌≡◌, ◌-◌, ◌<◌, ◌≤◌, ◌∷◌, length, IfSome, Some, None};
+ghost use Rattle.std.specs.Prelude.{◌≡◌, ◌-◌, ◌<◌, ◌≤◌, ◌∷◌, length, if◌then◌else◌, IfSome, Some, None};
 ghost use Rattle.std.specs.Option.{option_map};
 ghost use Rattle.std.specs.Ordering.{is_lt};
 ghost use Rattle.rls_rename.specs.Tree.{Node, epoch_cmp};
@@ -60,6 +60,15 @@ impl Nodes {
         rely!(let _count = self.count());
         let (left, right) = self.climb_both(a, b);
         self.compare_sides(left.below, right.below)
+    }
+
+    // The number of the greater of two epochs.
+    pub(crate) fn greater(&self, a: usize, b: usize) -> usize
+        requires first { a ≤ length self.now.placed }
+        requires second { b ≤ length self.now.placed }
+        ensures greater { result ≡ (if is_lt (epoch_cmp (nodes_of self.now.placed) (epoch_at self.now.top self.now.placed a) (epoch_at self.now.top self.now.placed b)) then b else a) }
+    {
+        if self.compare(a, b).is_lt() { b } else { a }
     }
 
     // Whether an epoch of this name, which is to be opened in another, is greater than an epoch, by

@@ -30,8 +30,8 @@ const FEWEST_STEPS: usize = 2;
 /// A topmost epoch and the nodes below it, some of which are marked. The earliest node comes first.
 pub struct Epochs {
     tree: Tree,
-    // for each node the rank of the greatest epoch that its member opened up to it
-    ranks: Vec<usize>,
+    // for each node the number of the greatest epoch that its member opened up to it
+    maxima: Vec<usize>,
     // the marks of the epochs, by their numbers
     marks: Vec<Mark>,
     total: u64,
@@ -46,10 +46,10 @@ impl Model for Epochs {
     ghost view = { λ a. record {
       epochs = record { top = a.tree.nodes.top; nodes = nodes_of a.tree.nodes.placed };
       marks = marks_of a.tree.nodes.top a.tree.nodes.placed a.marks.items;
-      spare = min (min a.tree.nodes.spare (vec_capacity a.marks - length a.marks.items)) (min (vec_capacity a.tree.by_name - length a.tree.by_name.items) (min (vec_capacity a.tree.order - length a.tree.order.items) (vec_capacity a.ranks - length a.ranks.items)));
+      spare = min (min a.tree.nodes.spare (vec_capacity a.marks - length a.marks.items)) (min (vec_capacity a.tree.by_name - length a.tree.by_name.items) (min (vec_capacity a.tree.order - length a.tree.order.items) (vec_capacity a.maxima - length a.maxima.items)));
     } };
 
-    ghost invariant = { λ a. IsWhole a.tree.nodes.top a.tree.nodes.placed a.tree.order.items a.ranks.items a.marks.items a.total };
+    ghost invariant = { λ a. IsWhole a.tree.nodes.top a.tree.nodes.placed a.maxima.items a.marks.items a.total };
 }
 
 // Written out, and not derived, so that the proof of a caller sees one call and not the drop of each field.
@@ -57,7 +57,7 @@ impl Drop for Epochs {
     fn drop(self) {
         let Epochs {
             tree: _tree,
-            ranks: _ranks,
+            maxima: _maxima,
             marks: _marks,
             total: _,
         } = self;
@@ -74,7 +74,7 @@ impl Epochs {
         marks.push(Mark::none())?;
         Ok(Epochs {
             tree: Tree::starting_at(alloc, name),
-            ranks: Vec::new(alloc),
+            maxima: Vec::new(alloc),
             marks,
             total: 0,
         })
@@ -87,15 +87,15 @@ impl Epochs {
         ensures ok { OnOk result (0 < self.new.spare) }
     {
         self.tree.reserve()?;
-        self.ranks.reserve(1)?;
+        self.maxima.reserve(1)?;
         self.marks.reserve(1)?;
         Ok(())
     }
 
     /// Adds the epoch that a rename opened in another. The new one isn't marked. It takes no memory,
-    /// and cannot fail. It costs a few comparisons of names for each halving of the nodes and one of
+    /// and cannot fail. It costs a few comparisons of names for each halving of the nodes and two of
     /// epochs, and moves the numbers of those with greater names. If an epoch is greater, it costs a
-    /// comparison of epochs for each halving of them, too, and goes over the numbers of all.
+    /// comparison of epochs for each halving of them, too, and moves the numbers of the greater ones.
     pub fn add(&mut self, replica: u32, seq: u32, parent: EpochName, renaming: Renaming)
         requires room { 0 < self.old.spare }
         requires fresh { IsFalse (is_kept self.old.epochs.top self.old.epochs.nodes (EpochName.Of replica seq)) }
@@ -108,14 +108,14 @@ impl Epochs {
     {
         let up = self.tree.number_of(parent);
         self.total += renaming.total();
-        let (index, at) = self.tree.add(Placed {
+        let index = self.tree.add(Placed {
             parent,
             up,
             renaming,
         });
-        self.ranks.push(0).unwrap();
+        self.maxima.push(0).unwrap();
         self.marks.push(Mark::none()).unwrap();
-        self.tree.rank_added(&mut self.ranks, index, at);
+        self.tree.add_maximum(&mut self.maxima, index);
     }
 
     /// Whether the epoch is kept. It costs a comparison of names for each halving of the nodes.
@@ -167,12 +167,12 @@ impl Epochs {
 
     /// The greatest epoch within a vector that counts the replica of each kept epoch, or the topmost
     /// one if none is. It takes no memory, and costs a few comparisons of names for each halving of
-    /// the nodes, for each replica that opened a kept epoch.
+    /// the nodes and one of epochs, for each replica that opened a kept epoch.
     pub fn greatest_in(&self, v: &Vector) -> EpochName
         requires members { (e : EpochName) → IsTrue (is_kept self.now.epochs.top self.now.epochs.nodes e) → IsTrue (is_of_member (length v.now) e) }
         ensures greatest { result ≡ greatest_within self.now.epochs.top self.now.epochs.nodes v.now }
     {
-        self.tree.greatest_in(&self.ranks, v)
+        self.tree.greatest_in(&self.maxima, v)
     }
 
     /// An identifier of the one epoch in the other: back by the renamings up to the nearest common
@@ -296,8 +296,8 @@ impl Epochs {
         self.total = tree.nodes.former_kept(&self.marks);
         self.tree.keep(number, &self.marks);
         let count = self.tree.nodes.count();
-        self.ranks.truncate(count);
-        self.tree.rank_all(&mut self.ranks);
+        self.maxima.truncate(count);
+        self.tree.find_maxima(&mut self.maxima);
         self.marks.truncate(count + 1);
         self.marks.fill(Mark::none());
     }
@@ -393,7 +393,7 @@ impl Epochs {
     {
         Ok(Epochs {
             tree: self.tree.copy()?,
-            ranks: self.ranks.clone()?,
+            maxima: self.maxima.clone()?,
             marks: self.marks.clone()?,
             total: self.total,
         })

@@ -1,12 +1,12 @@
 //! A tree of epochs, with the places of its nodes in two orders.
 
-ghost use Rattle.std.specs.Prelude.{◌≡◌, List, ◌-◌, ◌<◌, ◌≤◌, suc, [], ◌∷◌, ◌++◌, Some, IfOk, IfSome, IfNone, OnOk, IsTrue, IsFalse, false, length, drop, insert, slice_index, vec_capacity};
+ghost use Rattle.std.specs.Prelude.{◌≡◌, List, ◌-◌, ◌<◌, ◌≤◌, suc, [], ◌∷◌, ◌++◌, Some, IfOk, IfSome, IfNone, OnOk, IsTrue, IsFalse, false, length, drop, slice_index, vec_capacity};
 ghost use Rattle.rls_ident.specs.declared.epoch_name.EpochName.{EpochName};
 ghost use Rattle.rls_rename.specs.Tree.{name_of, is_kept, epoch_cmp};
 ghost use Rattle.rls_epoch.specs.Climbing.{name_cmp};
 ghost use Rattle.rls_epoch.specs.Links.{name_at, epoch_at};
 ghost use Rattle.rls_epoch.specs.Marks.{AreNumbered, kept_placed};
-ghost use Rattle.rls_epoch.specs.Ranks.{name_in};
+ghost use Rattle.rls_epoch.specs.Maxima.{name_in};
 ghost use Rattle.rls_epoch.specs.Seen.{nodes_of, AreLaid};
 ghost use Rattle.rls_epoch.specs.Sorted.{names_at, sorted_prop, AreSorted, IsCut};
 
@@ -36,7 +36,6 @@ impl Tree {
     pub(crate) fn starting_at(alloc: Global, top: EpochName) -> Tree
         ensures top { result.nodes.top ≡ top }
         ensures none { result.nodes.placed ≡ [] }
-        ensures order { result.order.items ≡ [] }
     {
         Tree {
             nodes: Nodes::starting_at(alloc, top),
@@ -49,7 +48,6 @@ impl Tree {
     pub(crate) fn reserve(&mut self) -> Result<(), AllocError>
         ensures top { self.new.nodes.top ≡ self.old.nodes.top }
         ensures placed { self.new.nodes.placed ≡ self.old.nodes.placed }
-        ensures order { self.new.order.items ≡ self.old.order.items }
         ensures nodes { OnOk result (0 < self.new.nodes.spare) }
         ensures by_name { OnOk result (length self.new.by_name.items < vec_capacity self.new.by_name) }
         ensures room { OnOk result (length self.new.order.items < vec_capacity self.new.order) }
@@ -60,8 +58,8 @@ impl Tree {
         Ok(())
     }
 
-    // Adds a node, and answers its indices in order of names and of the epochs. It takes no memory.
-    pub(crate) fn add(&mut self, node: Placed) -> (usize, usize)
+    // Adds a node, and answers its index in order of names. It takes no memory.
+    pub(crate) fn add(&mut self, node: Placed) -> usize
         requires nodes { 0 < self.old.nodes.spare }
         requires by_name { length self.old.by_name.items < vec_capacity self.old.by_name }
         requires room { length self.old.order.items < vec_capacity self.old.order }
@@ -71,10 +69,8 @@ impl Tree {
         ensures top { self.new.nodes.top ≡ self.old.nodes.top }
         ensures placed { self.new.nodes.placed ≡ self.old.nodes.placed ++ node ∷ [] }
         ensures laid { AreLaid self.new.nodes.top self.new.nodes.placed }
-        ensures index { result.0 < length self.new.by_name.items }
-        ensures last { suc (slice_index self.new.by_name.items result.0) ≡ length self.new.nodes.placed }
-        ensures at { result.1 ≤ length self.old.order.items }
-        ensures order { self.new.order.items ≡ insert self.old.order.items result.1 (length self.old.nodes.placed) }
+        ensures index { result < length self.new.by_name.items }
+        ensures last { suc (slice_index self.new.by_name.items result) ≡ length self.new.nodes.placed }
     {
         let place = self.nodes.count();
         let index = self.names_below(node.name());
@@ -83,7 +79,7 @@ impl Tree {
         let at = self.nodes.epochs_below_newest(&self.order, count);
         self.by_name.insert(index, place).unwrap();
         self.order.insert(at, place).unwrap();
-        (index, at)
+        index
     }
 
     // Keeps the part that is marked, whose marks have their new places, and of which the epoch with this
@@ -183,7 +179,6 @@ impl Tree {
     pub(crate) fn copy(&self) -> Result<Tree, AllocError>
         ensures top { IfOk result (λ copy. copy.nodes.top ≡ self.now.nodes.top) }
         ensures placed { IfOk result (λ copy. copy.nodes.placed ≡ self.now.nodes.placed) }
-        ensures order { IfOk result (λ copy. copy.order.items ≡ self.now.order.items) }
     {
         Ok(Tree {
             nodes: self.nodes.copy()?,

@@ -1,11 +1,12 @@
 use Rattle.std.proofs.Common.{vec_len, ◌≡◌, ℕ, suc, List, length, drop, replicate, sym, ap, ◌∙◌, subst, arith}
 use Rattle.std.proofs.lemmas.List.{length-replicate}
 use Rattle.rls_rename.specs.Keeping.{kept_part}
+use Rattle.rls_rename.specs.Tree.{epoch_cmp}
 use Rattle.rls_ident.specs.declared.epoch_name.EpochName.{EpochName}
 use Rattle.rls_epoch.specs.declared.placed.Placed.{Placed}
 use Rattle.rls_epoch.specs.Links.{epoch_at}
 use Rattle.rls_epoch.specs.Marks.{kept_placed, kept_sum}
-use Rattle.rls_epoch.specs.Ranks.{AreRanked}
+use Rattle.rls_epoch.specs.Maxima.{AreMaxima}
 use Rattle.rls_epoch.specs.Seen.{EpochsSeen, former_sum, marks_of, nodes_of}
 use Rattle.rls_epoch.proofs.Numbers.{kept_fewer}
 use Rattle.rls_epoch.proofs.Shrinking.{IsLeft, left_of, written}
@@ -54,27 +55,27 @@ module _ (c : After-deref_mut-2) where
   short =
       let few = kept_fewer xs (drop 1 xs) ps in
       let n = ap length nodes in
-      let w = c.self.invariant.ranked.whole in
+      let w = c.self.invariant.maxima_are.whole in
       let k = c.count-count.ensures.count in
       let l = c.truncate.ensures.len in
       omega (arith, n, k, l)
 
-pub rank_all-requires : goal.rank_all-requires
-rank_all-requires c = record { whole = c.deref_mut-2.ensures.len ∙ short c }
+pub find_maxima-requires : goal.find_maxima-requires
+find_maxima-requires c = record { whole = c.deref_mut-2.ensures.len ∙ short c }
 
 pub invariant_of-self : goal.invariant_of-self
 invariant_of-self c =
     let x : After-deref_mut-2 = c.before.before.before.before.before.before.before in
-    let ranks = c.rank_all.new.ranks in
+    let maxima = c.find_maxima.new.maxima in
     let t = c.keep.new.self in
-    let each = c.rank_all.ensures.ranked.whole in
+    let each = c.find_maxima.ensures.maxima.whole in
     let size = short x in
     let filled : c.fill.new.self.items ≡ replicate (vec_len c.truncate-2.new.self) 0 = rw c.none.ensures.mark at (c.fill.ensures.items (λ y e. e)) in
     let cut : vec_len c.truncate-2.new.self ≡ suc (length t.nodes.placed) =
     let n = ap length (nodes x) in let few = kept_fewer (xs x) (drop 1 (xs x)) (ps x) in let k = c.count-count.ensures.count in let l = c.truncate-2.ensures.len in let m = c.self.invariant.marks_whole in omega (arith, n, k, l, m) in
     record {
       laid = c.count-count.ensures.laid;
-      ranked = subst (AreRanked t.nodes.placed t.order.items) (sym (written ranks c.truncate.new.self.items c.truncate.new.self.len (omega arith) (omega arith))) c.rank_all.ensures.ranked;
+      maxima_are = subst (AreMaxima (epoch_cmp (nodes_of t.nodes.placed)) t.nodes.top t.nodes.placed) (sym (written maxima c.truncate.new.self.items c.truncate.new.self.len (omega arith) (omega arith))) c.find_maxima.ensures.maxima;
       marks_whole = ap length filled ∙ (length-replicate (vec_len c.truncate-2.new.self) 0 ∙ cut);
       sum = sum x ∙ ((left x).sum ∙ sym (ap (λ (zs : List Placed). former_sum (nodes_of zs)) (nodes x)));
     }

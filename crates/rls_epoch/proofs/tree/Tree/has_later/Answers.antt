@@ -1,6 +1,6 @@
 use Rattle.std.proofs.Common.{◌≡◌, ◌+◌, false, sym, ◌∙◌, arith}
-use Rattle.rls_epoch.specs.Ranks.{name_in, up_to}
-use Rattle.rls_epoch.proofs.Ranking.{alone_last, alone_next}
+use Rattle.rls_epoch.specs.Maxima.{name_in, up_to}
+use Rattle.rls_epoch.proofs.UpTo.{alone_last, alone_next}
 use Rattle.rls_epoch.proofs.tree.Tree.has_later.Goals as goal
 
 pub returns-then-next-len : goal.returns-then-next-len

@@ -2,7 +2,7 @@ use Rattle.std.proofs.Common.{◌≡◌, ◌+◌, ◌-◌, ◌/◌, ℕ, sym, ap
 use Rattle.std.specs.declared.cmp.Ordering.TheVariants.{Less}
 use Rattle.std.proofs.lemmas.Bool.{cases_lt}
 use Rattle.rls_epoch.specs.Climbing.{name_cmp}
-use Rattle.rls_epoch.specs.Ranks.{name_in}
+use Rattle.rls_epoch.specs.Maxima.{name_in}
 use Rattle.rls_epoch.proofs.Indices.{rising_at}
 use Rattle.rls_epoch.proofs.Ordering.{names_order}
 use Rattle.rls_epoch.proofs.tree.Tree.names_up_to.Goals as goal

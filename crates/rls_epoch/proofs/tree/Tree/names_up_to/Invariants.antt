@@ -1,7 +1,7 @@
 use Rattle.std.proofs.Common.{◌≡◌, ◌<◌, ◌≤◌, ◌-◌, ℕ, length}
 use Rattle.std.specs.declared.cmp.Ordering.TheVariants.{Less}
 use Rattle.rls_epoch.specs.Climbing.{name_cmp}
-use Rattle.rls_epoch.specs.Ranks.{name_in}
+use Rattle.rls_epoch.specs.Maxima.{name_in}
 use Rattle.rls_epoch.proofs.tree.Tree.names_up_to.Given as goal
 
 -- none of those before the lower end is greater, and those from the upper end on are
