@@ -31,7 +31,7 @@ lock() {
     flock -n 9 && return 0
     # 1 is the answer of a lock that another one has.
     if [ $? = 1 ]; then
-      say 'another command stores into this folder; waiting for it.'
+      say 'another command works in this folder, or an editor has it open; waiting for it.'
       flock 9 && return 0
     fi
   fi
