@@ -141,7 +141,7 @@ play_all() {
   [ ${#names[@]} -gt 0 ] || names=(random typing undo beside elsewhere cursors again kill waiting killed odd)
   for name in "${names[@]}"; do
     case $name in
-      undo | beside | elsewhere | cursors) if is_second; then "play_$name" "$command"; else echo "skipped $name: it needs the second version of the session"; fi ;;
+      undo | beside | elsewhere | cursors | places) if is_second; then "play_$name" "$command"; else echo "skipped $name: it needs the second version of the session"; fi ;;
       odd) play_odd "$odd" ;;
       *) "play_$name" "$command" ;;
     esac
@@ -304,3 +304,5 @@ place_marks() { keys '5G0ma' ':8,9fold' Enter '11G0wve'; }
 delete_selection() { keys d; }
 type_at_mark() { type_text "'aA$1"; keys Escape; }
 leave_editor() { keys Escape ':qa!' Enter; }
+substitute() { keys ':%s/e/E/g' Enter; }
+fill() { keys ':set tw=40' Enter 4G gqG; }

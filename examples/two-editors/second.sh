@@ -111,6 +111,29 @@ play_elsewhere() {
   same_texts
 }
 
+# A substitution in the whole text, and a paragraph that is filled anew, change what they change and nothing between: what others write there
+# meanwhile stays at its place. The editor's test says how by substitute (e by E in the whole text) and fill (the paragraph that follows the first
+# empty line, to lines of 40).
+play_places() {
+  begin_with "$1" meadow 'i 0 Three green trees\nstood here\n\nand between them there was a meadow where'
+  hold_back
+  never_idle
+  substitute
+  shows 'a substitution' 'ThrEE grEEn'
+  ben_edits 'i 11 , old' 'i 35 quietly '
+  store
+  ben_has 'what others wrote within a substitution is where they wrote it' $'ThrEE grEEn, old trEEs\nstood hErE\n\nquietly and bEtwEEn thEm thErE was a mEadow whErE'
+  shows 'it is shown there' 'quietly and'
+  fill
+  is_filled() { screen | grep -q '^ *mEadow' && printf yes; }
+  wait_for 'a paragraph that is filled' yes is_filled
+  ben_edits 'i 60 always '
+  store
+  ben_has 'and within a paragraph that was filled' $'ThrEE grEEn, old trEEs\nstood hErE\n\nquietly and bEtwEEn thEm always thErE was a\nmEadow whErE'
+  leave_editor
+  same_texts
+}
+
 # The cursor of another member is shown, and moves. What isn't known as yet is shown once it is.
 play_cursors() {
   begin_with "$1" three 'i 0 one\ntwo\nthree'

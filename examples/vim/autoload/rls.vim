@@ -32,19 +32,22 @@ function s:tell(buf, changes) abort
   endif
   let old = rls#lines#middle(r.text.lines, first - 1, len(r.text.lines) + 1 - last)
   if empty(filter(copy(a:changes), {_, change -> change.added != 0})) && len(old) == len(new) && len(old) <= s:most_lines
-    call map(copy(old), {k, line -> line ==# new[k] ? 0 : s:replace(r, first + k, [line], [new[k]])})
+    let changed = filter(range(len(old)), {_, k -> old[k] !=# new[k]})
+    for k in changed
+      call s:replace(r, first + k, [old[k]], [new[k]], len(changed))
+    endfor
   else
-    call s:replace(r, first, old, new)
+    call s:replace(r, first, old, new, 1)
   endif
 endfunction
 
-function s:replace(r, first, old, new) abort
-  call s:hand(a:r, a:first, a:old, a:new)
+function s:replace(r, first, old, new, share) abort
+  call s:hand(a:r, a:first, a:old, a:new, a:share)
   call rls#lines#splice(a:r.text, a:first, len(a:old), a:new)
 endfunction
 
-" Hands it on that these lines are now those.
-function s:hand(r, first, old, new) abort
+" Hands it on that these lines are now those, one of as many that were changed at once: a deletion and an insertion for each place where they differ.
+function s:hand(r, first, old, new, share) abort
   let [first, old, new] = [a:first, copy(a:old), copy(a:new)]
   " One line of each, so that what is compared next are whole lines of both.
   if empty(old) || empty(new)
@@ -68,12 +71,17 @@ function s:hand(r, first, old, new) abort
     let a:r.steps = 0
   endif
   let a:r.boundary = 0
-  if len(gone) > front + end
-    call s:edit(a:r, printf('d %d %d', at, len(gone) - front - end))
-  endif
-  if len(come) > front + end
-    call s:edit(a:r, rls#lines#insertion(at, rls#lines#middle(come, front, end)))
-  endif
+  let [gone, come] = [rls#lines#middle(gone, front, end), rls#lines#middle(come, front, end)]
+  let moved = 0
+  for [from, to, from_new, to_new] in rls#lines#differences(gone, come, a:share)
+    if to > from
+      call s:edit(a:r, printf('d %d %d', at + from + moved, to - from))
+    endif
+    if to_new > from_new
+      call s:edit(a:r, rls#lines#insertion(at + from + moved, come[from_new : to_new - 1]))
+    endif
+    let moved += to_new - from_new - (to - from)
+  endfor
   call s:is_edited(a:r, 0)
 endfunction
 

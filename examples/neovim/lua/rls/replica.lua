@@ -81,7 +81,8 @@ function Replica:changed(first, last, new_last)
   self.lines:splice(first, last, new)
 end
 
--- Hands a change of lines to the session: at most one deletion and one insertion.
+-- Hands a change of lines to the session: a deletion and an insertion for each place where they differ. Neovim tells all lines from the first to
+-- the last that a command changed, such as a substitution in the whole text.
 function Replica:tell(first, last, new)
   local old = self.lines:slice(first, last)
   -- One line of each, so that what is compared next are whole lines of both.
@@ -105,8 +106,16 @@ function Replica:tell(first, last, new)
     self.steps = 0
   end
   self.is_boundary = false
-  if gone ~= '' then self:edit(('d %d %d'):format(at, count(gone))) end
-  if come ~= '' then self:edit(('i %d %s'):format(at, escaped(come))) end
+  local passed = 0 -- bytes of what was there
+  for _, place in ipairs(Lines.differences(gone, come)) do
+    if place.at > passed then at = at + count(gone:sub(passed + 1, place.at)) end
+    if place.gone ~= '' then self:edit(('d %d %d'):format(at, count(place.gone))) end
+    if place.come ~= '' then
+      self:edit(('i %d %s'):format(at, escaped(place.come)))
+      at = at + count(place.come)
+    end
+    passed = place.at + #place.gone
+  end
   self:is_edited()
 end
 
