@@ -16,7 +16,11 @@
 (defvar-local rls--me nil)
 (defvar-local rls--seen nil "What was at each path in the shared folder.")
 (defvar-local rls--taken nil "The last message from each member.")
-(defvar-local rls--sent nil "The last message to each member.")
+(defvar-local rls--sent nil "The last message to each member that was written.")
+(defvar-local rls--last nil "The last message to each member, written or not.")
+(defvar-local rls--marks nil "What the file of each written message was when it was looked at last.")
+(defvar-local rls--looked 0 "How often the written messages were looked at.")
+(defvar-local rls--away nil "Whether the shared folder isn't there.")
 (defvar-local rls--changes 0 "How much has changed since the runs were looked at.")
 (defvar-local rls--problems nil "What was wrong with the last message from, or to, each member.")
 (defvar-local rls--shown nil "Where point was when others were told.")
@@ -57,8 +61,9 @@ Then the replica's files are old, or two members have its number."
   (setf (alist-get message rls--problems nil t #'equal) problem))
 
 (defun rls--take-from (from)
-  "Takes what came from a member.  Answers a list of what it changed, or t, if there was anything.
-What can't be read as a message is told, and stops no other member's."
+  "Takes what came from a member.
+Answers a list of what it changed, or t, if there was anything.  What can't be
+read as a message is told, and stops no other member's."
   (let* ((name (format "of %d" from)) (path (rls--path from rls--me))
          (message (and (/= from rls--me) (rls--new-p path)
                        (condition-case fault
@@ -84,14 +89,45 @@ one that is there and answers, and gets the rest."
     (and there (zerop (rls--u32 message (+ 21 (* 4 to)))) (> (* 2 there) (length message))
          (not (rls--size (rls--path to rls--me))))))
 
+(defun rls--shared-p ()
+  "Whether the shared folder is there: a drive may go and come back."
+  (setq rls--away (not (file-directory-p rls--shared)))
+  (not rls--away))
+
 (defun rls--write-message (to message)
   "Writes MESSAGE to a member, if it is new."
   (unless (or (equal message (alist-get to rls--sent)) (rls--enough-p to message))
-    (condition-case fault
-        (progn (rls--write (rls--path rls--me to) message)
-               (rls--note (format "to %d" to) nil)
-               (setf (alist-get to rls--sent) message))
-      (file-error (rls--note (format "to %d" to) (error-message-string fault))))))
+    (setf (alist-get to rls--last) message)
+    (when (rls--shared-p)
+      (condition-case fault
+          (progn (rls--write (rls--path rls--me to) message)
+                 (rls--note (format "to %d" to) nil)
+                 (setf (alist-get to rls--sent) message
+                       (alist-get to rls--marks) (rls--mark (rls--path rls--me to))))
+        ;; The name of the file is one that nobody knows.
+        (file-error (rls--note (format "to %d" to) (or (nth 2 fault) (error-message-string fault))))))))
+
+(defun rls--there-p (to message)
+  "Whether the MESSAGE to a member is there as it was written.
+The file is read only if it is another one than when this was asked last."
+  (let* ((path (rls--path rls--me to)) (mark (rls--mark path)))
+    (and mark (equal message (alist-get to rls--sent))
+         (or (equal mark (alist-get to rls--marks))
+             (progn (setf (alist-get to rls--marks) mark)
+                    (equal message (ignore-errors (rls--read path rls--most-input))))))))
+
+(defun rls--write-again ()
+  "Writes again what could not be written, and what isn't there any more.
+The folder may have an older state.  It is looked at when the folder is back,
+and each tenth time that this is called."
+  (let ((was-away rls--away))
+    (setq rls--looked (1+ rls--looked))
+    (when (and (rls--shared-p) (or was-away (zerop (% rls--looked 10))))
+      (dolist (x (copy-sequence rls--last))
+        (unless (rls--there-p (car x) (cdr x))
+          (setf (alist-get (car x) rls--sent nil t) nil)
+          (rls--write-message (car x) (cdr x))))
+      (when was-away (setq rls--shown nil rls--place nil)))))
 
 ;;;; Cursors
 
@@ -108,16 +144,16 @@ one that is there and answers, and gets the rest."
           (ignore-errors (rls--write (rls--cursor-path rls--me) (concat (encode-coding-string line 'utf-8-unix) "\n"))))))))
 
 (defun rls--told-place (path from)
-  "The place and the name that PATH tells of the cursor of member FROM; nil if none."
+  "The place and the name that PATH tells of FROM's cursor; nil if none."
   (let ((data (or (ignore-errors (rls--read path rls--most-cursor)) "")))
     (when (string-match "\\`\\([!-~]+\\)\\(?: \\(.*\\)\\)?$" data)
       (list (match-string 1 data)
             (if (match-string 2 data) (decode-coding-string (match-string 2 data) 'utf-8-unix) (format "member %d" from))))))
 
 (defun rls--show-others ()
-  "Shows where the cursors of others are.  What can't be read as a cursor isn't shown.
-They are looked up again when messages came: then the session may know of places
-that it didn't know before."
+  "Shows where the cursors of others are.
+What can't be read as a cursor isn't shown.  They are looked up again when
+messages came: then the session may know of places that it didn't know before."
   (dotimes (from rls--members)
     (let* ((path (rls--cursor-path from)) (is-new (and (/= from rls--me) (rls--new-p path))))
       (when is-new (setf (alist-get from rls--places) (rls--told-place path from)))

@@ -12,7 +12,9 @@
 (defvar-local rls--version 1 "What the program speaks: 1 or 2.")
 (defvar-local rls--telling nil "Whether replies tell changes.")
 (defvar-local rls--given 0 "Bytes that the session was given since it stored.")
-(defvar-local rls--waiting nil "A request without a reply after the other: its first character, and what handles its reply.")
+(defvar-local rls--waiting nil
+  "A request without a reply after the other.
+Each is its first character, and what handles its reply.")
 (defvar-local rls--failed nil "Why nothing more is done with this buffer.")
 
 (defun rls--begin (program folder)

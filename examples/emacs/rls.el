@@ -22,7 +22,10 @@
 (defcustom rls-idle 1 "Seconds without an edit, after which edits are stored and sent." :type 'number)
 (defcustom rls-most 3 "Seconds after which edits are stored and sent also while somebody types on." :type 'number)
 (defcustom rls-rename-at 500 "Runs of identifiers from which it renames (docs/USE.md); 0 for never." :type 'natnum)
-(defcustom rls-cursors t "Whether to tell where point is, and to show that of others (second version of the session)." :type 'boolean)
+(defcustom rls-cursors t
+  "Whether to tell where point is, and to show that of others.
+It needs the second version of the session."
+  :type 'boolean)
 
 (defvar rls--busy nil "Whether a request waits for its reply, so that nothing else may ask.")
 (defvar rls--silent nil "Whether a change of the buffer comes from the session.")
@@ -32,7 +35,9 @@
 (defvar-local rls--due nil "The timer that sends.")
 (defvar-local rls--boundary nil "Whether the next edit begins a group of undo.")
 (defvar-local rls--typed 0 "How many keys the group has that inserted themselves.")
-(defconst rls--most-steps 5000 "Edits that are undone at once: a session forgets a group that has more than 10,000.")
+(defconst rls--most-steps 5000
+  "Edits that are undone at once.
+A session forgets a group that has more than 10,000.")
 (defvar-local rls--steps 0 "How many edits the group has.")
 (defvar-local rls--behind nil "Whether the session changed something that isn't told.")
 (defvar-local rls--told nil "Whether it was said that a rename was refused.")
@@ -47,7 +52,8 @@
   (replace-regexp-in-string "\\\\." (lambda (c) (pcase (aref c 1) (?n "\n") (?r "\r") (_ "\\"))) text t t))
 
 (defun rls--before-command ()
-  "Keys that insert themselves are undone together, twenty at most.  What each other command did is undone by itself."
+  "Keys that insert themselves are undone together, twenty at most.
+What each other command did is undone by itself."
   (if (and (eq this-command 'self-insert-command) (eq last-command 'self-insert-command) (< rls--typed 20))
       (setq rls--typed (1+ rls--typed))
     (setq rls--boundary t rls--typed 1)))
@@ -98,12 +104,13 @@ the first.  If IS-TAKEN, it counts as an edit only if nothing else waits."
 ;;;; From the session to the buffer
 
 (defun rls--before-p (at)
-  "Whether a cursor AT stays with the character after it: at the beginning of a line."
+  "Whether a cursor AT stays with the character after it.
+That is so at the beginning of a line."
   (and (<= (point-min) at) (< at (point-max)) (or (= at (point-min)) (eq (char-before at) ?\n))))
 
 (defun rls--apply (changes)
-  "Makes CHANGES of the session in the buffer, at their places, so what is elsewhere stays.
-Answers the end of the last one; nil if there is none."
+  "Makes CHANGES of the session in the buffer, at their places.
+What is elsewhere stays.  Answers the end of the last one; nil if there is none."
   (save-restriction
     (widen)
     (let ((cursors (mapcar (lambda (window) (cons window (copy-marker (window-point window) (rls--before-p (window-point window)))))
@@ -210,8 +217,9 @@ changes are of the text as it is then."
   (setq rls--given 0))
 
 (defun rls--begin-again ()
-  "With the first version only the end of a session writes the file, so another one begins.
-The cursor goes over, and what `u' could take back doesn't."
+  "Ends the session, and begins another one.
+With the first version only the end of a session writes the file.  The cursor
+goes over, and what `u' could take back doesn't."
   (let ((at (rls--number (rls--ask "p") "cursor")))
     (rls--stored (rls--ask "q"))
     (rls--end-process)
@@ -278,6 +286,7 @@ for, then it is stored, and what was answered is written after that."
   (unless (process-live-p rls--process) (rls--drain))
   (unless rls--waiting
     (rls--take)
+    (rls--write-again)
     (when (and rls-cursors (= rls--version 2))
       (rls--show-point)
       (rls--show-others)))
@@ -334,7 +343,8 @@ process that is dead; so it waits only if it was asked to end just now."
 
 (defun rls--status ()
   (or rls--failed
-      (format "member %s of %s%s%s" rls--me rls--members (if rls--unsaved ", not stored" "")
+      (format "member %s of %s%s%s%s" rls--me rls--members (if rls--unsaved ", not stored" "")
+              (if rls--away ", the shared folder is not there" "")
               (mapconcat (lambda (x) (format ", message %s: %s" (car x) (cdr x))) rls--problems ""))))
 
 (define-minor-mode rls-mode
@@ -377,7 +387,8 @@ since what isn't in the buffer may be of others."
     (insert (substring shown front (- (length shown) end)))))
 
 (defun rls--learn ()
-  "Which member this is: the head of a message tells it.  A message to oneself has a head alone."
+  "Which member this is: the head of a message tells it.
+A message to oneself has a head alone."
   (setq rls--head (rls--message (if (= rls--version 2) (rls--number-of "me" (rls--stat)) 0))
         rls--group (+ (ash (rls--u32 rls--head 5) 32) (rls--u32 rls--head 9))
         rls--members (rls--u32 rls--head 13) rls--me (rls--u32 rls--head 17)))
@@ -389,7 +400,9 @@ since what isn't in the buffer may be of others."
       (text-mode)
       (setq-local require-final-newline nil)
       (setq rls--folder folder rls--shared shared)
-      (make-directory rls--shared t)
+      (unless (file-directory-p rls--shared)
+        (make-directory rls--shared t)
+        (message "The shared folder was not there and was made: %s" rls--shared))
       (setq rls--changes rls-rename-at)
       (rls--begin rls-program folder)
       (rls--learn)
@@ -406,6 +419,8 @@ since what isn't in the buffer may be of others."
 After a fault it opens the replica again in its buffer."
   (interactive "DReplica: \nDShared folder: ")
   (unless (file-directory-p folder) (user-error "There is no folder %s" folder))
+  (unless (seq-some (lambda (name) (file-exists-p (expand-file-name name folder))) '("replica.gate" "replica.rls"))
+    (user-error "There is no replica in %s; `rls new GROUP ME MEMBERS' begins one there" folder))
   (let* ((folder (file-name-as-directory (expand-file-name folder)))
          (buffer (seq-find (lambda (x) (equal folder (buffer-local-value 'rls--folder x))) (buffer-list))))
     (if (not buffer) (setq buffer (rls--open-new folder (expand-file-name shared)))

@@ -138,7 +138,7 @@ play_typing() {
 play_all() {
   local name command=$1 odd=$2
   local -a names=("${@:3}")
-  [ ${#names[@]} -gt 0 ] || names=(random typing undo beside elsewhere cursors again kill waiting killed odd)
+  [ ${#names[@]} -gt 0 ] || names=(random typing undo beside elsewhere cursors places away empty again kill waiting killed odd)
   for name in "${names[@]}"; do
     case $name in
       undo | beside | elsewhere | cursors | places) if is_second; then "play_$name" "$command"; else echo "skipped $name: it needs the second version of the session"; fi ;;
@@ -209,6 +209,38 @@ play_odd() {
   leave_editor
   odd_stored() { (cd "$ODD/m 0" && "$RLS" text); }
   wait_for 'what is stored in a folder with an odd name' odd odd_stored
+}
+
+# A folder in which no replica was begun. $1 begins the editor.
+play_empty() {
+  rm -rf "$room/ada"
+  mkdir "$room/ada"
+  begin "$1"
+  shows 'that there is no replica' 'here is no replica in'
+  leave_tmux
+}
+
+# The shared folder goes away and comes back, and then it comes back with older files: what was written meanwhile reaches the other member without
+# another key. $1 begins the editor.
+play_away() {
+  begin_with "$1" Start 'i 0 Start'
+  type_at_end ' one'
+  ben_has 'a word' 'Start one'
+  cp -r "$room/shared" "$room/before"
+  mv "$room/shared" "$room/away"
+  shows 'that the shared folder is away' 'the shared folder is not there'
+  type_at_end ' two'
+  wait_for 'what is written meanwhile is stored' 'Start one two' stored_text
+  shows 'that it still is' 'the shared folder is not there'
+  mv "$room/away" "$room/shared"
+  ben_has 'what was written meanwhile, once the folder is back' 'Start one two'
+  type_at_end ' three'
+  wait_for 'one word more' 'Start one two three' stored_text
+  sleep 2
+  rm "$room/shared"/* && cp "$room/before"/* "$room/shared" && rm -r "$room/before"
+  ben_has 'it is written again where an older state of the folder came back' 'Start one two three'
+  leave_editor
+  same_texts
 }
 
 # The process of the program that works on a folder.
@@ -298,11 +330,11 @@ to_end() { type_text 'ggA'; }
 end_typing() { keys Escape; }
 undo() { keys u; }
 redo() { keys C-r; }
+substitute() { keys ':%s/e/E/g' Enter; }
+fill() { keys ':set tw=40' Enter 4G gqG; }
 at_third_line() { type_text '3G0'; }
 shows_name() { :; }
 place_marks() { keys '5G0ma' ':8,9fold' Enter '11G0wve'; }
 delete_selection() { keys d; }
 type_at_mark() { type_text "'aA$1"; keys Escape; }
 leave_editor() { keys Escape ':qa!' Enter; }
-substitute() { keys ':%s/e/E/g' Enter; }
-fill() { keys ':set tw=40' Enter 4G gqG; }

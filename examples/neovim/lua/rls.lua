@@ -57,7 +57,7 @@ local function show(self)
   options.buftype, options.bufhidden, options.swapfile, options.endofline, options.fixendofline = 'acwrite', 'hide', false, false, false
   self:attach()
   options.modified = false
-  vim.wo.statusline = "%f%m %{luaeval('require(\"rls\").status()')}%=%l,%c"
+  vim.wo.statusline = "%f%m %{luaeval('require(\"rls\").status()')}%<%=%l,%c"
 end
 
 -- The replica of this folder that is open, if one is.
@@ -68,6 +68,7 @@ local function known(folder)
 end
 
 local function opened(folder, shared)
+  if not (folder and shared) then error('rls: say the folder of the replica, and the shared folder', 0) end
   folder, shared = vim.fn.fnamemodify(folder, ':p'), vim.fn.fnamemodify(shared, ':p'):gsub('/$', '')
   local self = known(folder)
   if self then

@@ -327,6 +327,7 @@ function s:tick(buf) abort
   call rls#session#pump(r)
   if empty(r.waiting)
     call s:take(a:buf)
+    call rls#mailbox#write_again(r)
     if r.version == 2 && g:rls_cursors
       call rls#mailbox#show_cursor(r)
       call rls#mailbox#show_others(r)
@@ -357,7 +358,7 @@ endfunction
 function s:open_replica(folder, shared) abort
   let r = {'folder': s:full(a:folder), 'shared': s:full(a:shared), 'taken': {}, 'sent': {}, 'seen': {}, 'problems': {}, 'failed': '', 'unsaved': 0,
         \ 'since': reltime(), 'changes': g:rls_rename_at, 'told': 0, 'silent': 0, 'boundary': 0, 'steps': 0, 'behind': 0, 'due': -1, 'shown': -1, 'cursor': '',
-        \ 'places': {}, 'is_lookup_due': 0}
+        \ 'places': {}, 'is_lookup_due': 0, 'last': {}, 'marks': {}, 'looked': 0, 'is_away': 0}
   if !isdirectory(r.folder)
     throw 'rls: there is no folder ' . r.folder
   endif
@@ -367,7 +368,15 @@ function s:open_replica(folder, shared) abort
       return other.failed ==# '' ? 0 : s:open_again(other)
     endif
   endfor
-  call mkdir(r.shared, 'p')
+  if getftype(r.folder . '/replica.gate') ==# '' && getftype(r.folder . '/replica.rls') ==# ''
+    throw printf('rls: there is no replica in %s; `rls new GROUP ME MEMBERS` begins one there', r.folder)
+  elseif &encoding !=# 'utf-8'
+    throw 'rls: Vim has to work in UTF-8: put `set encoding=utf-8` into your vimrc'
+  endif
+  if !isdirectory(r.shared)
+    call mkdir(r.shared, 'p')
+    echomsg 'rls: the shared folder was not there and was made: ' . r.shared
+  endif
   call rls#session#start(r)
   try
     call s:learn(r)
@@ -390,7 +399,7 @@ function s:show(r, lines) abort
   call setline(1, a:lines)
   let &l:undolevels = levels
   let a:r.text = rls#lines#new(a:lines)
-  setlocal nomodified statusline=%f%m\ %{RlsStatus()}%=%l,%c
+  setlocal nomodified statusline=%f%m\ %{RlsStatus()}%<%=%l,%c
   " Faults are told in the status line, and by default Vim shows none for a lone window.
   if &laststatus == 1
     set laststatus=2
@@ -453,8 +462,11 @@ function s:look(buf, timer) abort
 endfunction
 
 " What `:RlsOpen` does: a replica that can't be opened is told in one line.
-function rls#open(folder, shared) abort
+function rls#open(folder = '', shared = '', ...) abort
   try
+    if a:shared ==# '' || a:0 > 0
+      throw 'rls: say the folder of the replica, and the shared folder: :RlsOpen FOLDER SHARED'
+    endif
     call s:open_replica(a:folder, a:shared)
   catch
     echohl ErrorMsg | echomsg v:exception | echohl None
@@ -497,6 +509,6 @@ function rls#status(buf) abort
   if empty(r)
     return ''
   endif
-  let problems = join(values(map(copy(r.problems), {message, problem -> ', message ' . message . ': ' . problem})), '')
+  let problems = (r.is_away ? ', the shared folder is not there' : '') . join(values(map(copy(r.problems), {message, problem -> ', message ' . message . ': ' . problem})), '')
   return r.failed !=# '' ? r.failed : printf('member %d of %d%s%s', r.me, r.members, r.unsaved ? ', not stored' : '', problems)
 endfunction

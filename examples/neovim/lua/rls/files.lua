@@ -50,12 +50,15 @@ function M.size_of(path)
   return told and told.type == 'file' and told.size or nil
 end
 
+-- What the system says of a file, without the file's name, which nobody knows.
+local function said(why) return why and why:match('^%u+: ([^:]+)') or why end
+
 -- Writes a file so that whoever reads it sees the old one or the new one; answers why it could not, if so. It is made under a name that
 -- nobody can know before and that nobody has, and a link at its own name is replaced, and not written through.
 function M.write(path, data)
   local new = vim.fn.fnamemodify(path, ':h') .. '/.new-' .. uv.random(16):gsub('.', function(c) return ('%02x'):format(c:byte()) end)
   local file, why = uv.fs_open(new, 'wx', 438) -- 438: what the umask leaves of reading and writing for all
-  if not file then return why end
+  if not file then return said(why) end
   local at, count, done = 0, nil, nil
   repeat
     count, why = uv.fs_write(file, data:sub(at + 1), at)
@@ -66,7 +69,7 @@ function M.write(path, data)
   if done then done, why = uv.fs_rename(new, path) end
   if done then return nil end
   uv.fs_unlink(new)
-  return why
+  return said(why)
 end
 
 -- What tells whether a file is another one than before; nil if nothing is there.

@@ -53,12 +53,40 @@ function M:is_enough(to, message)
   return files.u32(message, 21 + 4 * to) == 0 and there ~= nil and 2 * there > #message and not files.size_of(self:path(to, self.me))
 end
 
+-- Whether the shared folder is there: it may be a drive or a mount, which goes and comes back.
+function M:has_shared()
+  self.is_away = vim.fn.isdirectory(self.shared) == 0
+  return not self.is_away
+end
+
 -- Writes the message to a member, if it is new.
 function M:write(to, message)
   if message == self.sent[to] or self:is_enough(to, message) then return end
+  self.last[to] = message
+  if not self:has_shared() then return end
   local why = files.write(self:path(self.me, to), message)
   self.problems['to ' .. to] = why
-  if not why then self.sent[to] = message end
+  if why then return end
+  self.sent[to], self.marks[to] = message, files.mark_of(self:path(self.me, to))
+end
+
+-- Writes again what could not be written, and what isn't there any more since the folder has an older state: when the folder is back, and each
+-- tenth time that this is called.
+function M:write_again()
+  local was_away = self.is_away
+  self.looked = self.looked + 1
+  if not self:has_shared() or not (was_away or self.looked % 10 == 0) then return end
+  for to, message in pairs(self.last) do
+    local path = self:path(self.me, to)
+    local mark = files.mark_of(path)
+    if self.sent[to] ~= message or (mark ~= self.marks[to] and files.read(path, MOST_MESSAGE) ~= message) then
+      self.sent[to] = nil
+      self:write(to, message)
+    else
+      self.marks[to] = mark
+    end
+  end
+  if was_away then self.told_cursor, self.shown = nil, nil end
 end
 
 -- Tells others where the cursor is, if it has moved.

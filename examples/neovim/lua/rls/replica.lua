@@ -17,10 +17,16 @@ local function unescaped(text) return (text:gsub('\\(.)', { n = '\n', r = '\r', 
 local function number(reply, word) return tonumber(reply:match('^' .. word .. ' (%d+)')) or error('rls: ' .. reply, 0) end
 
 function Replica.open(options, namespace, folder, shared)
-  local self = setmetatable({ options = options, namespace = namespace, folder = folder, shared = shared, taken = {}, sent = {}, seen = {}, problems = {},
-    places = {}, steps = 0, changes = options.rename_at, unsaved = false }, Replica)
+  local self = setmetatable({ options = options, namespace = namespace, folder = folder, shared = shared, taken = {}, sent = {}, last = {}, marks = {}, looked = 0,
+    seen = {}, problems = {}, places = {}, steps = 0, changes = options.rename_at, unsaved = false }, Replica)
   if vim.fn.isdirectory(folder) == 0 then error('rls: there is no folder ' .. folder, 0) end
-  vim.fn.mkdir(shared, 'p')
+  if not (uv.fs_stat(folder .. '/replica.gate') or uv.fs_stat(folder .. '/replica.rls')) then
+    error(('rls: there is no replica in %s; `rls new GROUP ME MEMBERS` begins one there'):format(folder), 0)
+  end
+  if vim.fn.isdirectory(shared) == 0 then
+    vim.fn.mkdir(shared, 'p')
+    vim.notify('rls: the shared folder was not there and was made: ' .. shared)
+  end
   self:start()
   local done, fault = pcall(self.learn, self)
   if not done then
@@ -376,6 +382,7 @@ end
 function Replica:tick()
   if self.session.ended ~= false then self.session:drain() end
   self:take()
+  self:write_again()
   if self.version == 2 and self.options.cursors and self.session:is_idle() then
     self:show_cursor()
     self:show_others()
@@ -450,7 +457,7 @@ function Replica:close()
 end
 
 function Replica:status()
-  local problems = ''
+  local problems = self.is_away and ', the shared folder is not there' or ''
   for message, problem in pairs(self.problems) do problems = problems .. (', message %s: %s'):format(message, problem) end
   return self.failed or ('member %d of %d%s%s'):format(self.me, self.members, self.unsaved and ', not stored' or '', problems)
 end

@@ -82,9 +82,19 @@ function s:is_enough(r, to, message) abort
         \ && 2 * rls#files#size(s:path(a:r, a:r.me, a:to)) > len(a:message)
 endfunction
 
+" Whether the shared folder is there: it may be a drive or a mount, which goes and comes back.
+function s:has_shared(r) abort
+  let a:r.is_away = !isdirectory(a:r.shared)
+  return !a:r.is_away
+endfunction
+
 " Writes the message to a member, if it is new.
 function rls#mailbox#write(r, to, message) abort
   if a:message ==# get(a:r.sent, a:to, 0z) || s:is_enough(a:r, a:to, a:message)
+    return
+  endif
+  let a:r.last[a:to] = a:message
+  if !s:has_shared(a:r)
     return
   endif
   try
@@ -94,6 +104,43 @@ function rls#mailbox#write(r, to, message) abort
   catch /^rls:\|^Vim(let):E/
     call s:note(a:r, 'to ' . a:to, v:exception)
   endtry
+endfunction
+
+" Whether a message is still there as it was written. The file is read only if it is another one than when this was asked last.
+function s:is_there(r, to, message) abort
+  let path = s:path(a:r, a:r.me, a:to)
+  let mark = rls#files#mark_of(path)
+  if get(a:r.sent, a:to, 0z) !=# a:message || mark ==# ''
+    return 0
+  elseif mark ==# get(a:r.marks, a:to, '')
+    return 1
+  endif
+  let a:r.marks[a:to] = mark
+  try
+    return rls#files#read(path, s:most_message) ==# [a:message]
+  catch /^rls:\|^Vim(\(return\|let\)):E48\d/
+    return 0
+  endtry
+endfunction
+
+" Writes again what could not be written, and what isn't there any more since the folder has an older state: when the folder is back, and each
+" tenth time that this is called.
+function rls#mailbox#write_again(r) abort
+  let was_away = a:r.is_away
+  let a:r.looked += 1
+  if !s:has_shared(a:r) || !(was_away || a:r.looked % 10 == 0)
+    return
+  endif
+  for [to, message] in items(a:r.last)
+    if s:is_there(a:r, to, message)
+      continue
+    endif
+    let a:r.sent[to] = 0z
+    call rls#mailbox#write(a:r, to, message)
+  endfor
+  if was_away
+    let [a:r.cursor, a:r.shown] = ['', -1]
+  endif
 endfunction
 
 " Tells others where the cursor is, if it has moved. They do without it if it can't be written.
