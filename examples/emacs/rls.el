@@ -30,6 +30,7 @@ It needs the second version of the session."
 (defvar rls--busy nil "Whether a request waits for its reply, so that nothing else may ask.")
 (defvar rls--silent nil "Whether a change of the buffer comes from the session.")
 (defvar-local rls--folder nil)
+(defvar-local rls--name nil "The name of the buffer.")
 (defvar-local rls--unsaved nil "Whether something isn't stored yet.")
 (defvar-local rls--since 0 "When the first edit was made that isn't stored.")
 (defvar-local rls--due nil "The timer that sends.")
@@ -347,6 +348,34 @@ process that is dead; so it waits only if it was asked to end just now."
               (if rls--away ", the shared folder is not there" "")
               (mapconcat (lambda (x) (format ", message %s: %s" (car x) (cdr x))) rls--problems ""))))
 
+(defun rls--save ()
+  "What saving does: `rls-sync'.
+If a file was named, by `write-file', the text is written there as a copy, as
+`rls text' prints it, and the buffer goes on with the replica."
+  (let ((file buffer-file-name))
+    (when file
+      (let ((change-major-mode-with-file-name nil)) (set-visited-file-name nil t))
+      (rename-buffer rls--name t)
+      (save-restriction
+        (widen)
+        (let ((coding-system-for-write 'utf-8-unix)) (write-region (point-min) (point-max) file)))))
+  (rls-sync))
+
+;; Another major mode forgets what is local to a buffer; the replica stays in it.
+(defvar rls-mode)
+(defun rls--stay ()
+  "Has Emacs call `rls--changed' after a change of the major mode.
+Emacs keeps the hook, and calls it only once somebody has looked at it."
+  (when rls-mode (add-hook 'after-change-functions #'rls--changed nil t)))
+
+(dolist (function '(rls--before-command rls--changed rls--save rls--close)) (put function 'permanent-local-hook t))
+(dolist (variable '(rls-mode rls-undo-mode rls--folder rls--name rls--unsaved rls--since rls--due rls--timer rls--steps rls--boundary
+                             rls--typed rls--told rls--behind rls--process rls--version rls--telling rls--given rls--waiting rls--failed
+                             rls--shared rls--head rls--group rls--members rls--me rls--seen rls--taken rls--sent rls--last rls--marks
+                             rls--looked rls--away rls--changes rls--problems rls--shown rls--place rls--places rls--lookup-due
+                             rls--overlays))
+  (put variable 'permanent-local t))
+
 (define-minor-mode rls-mode
   "What `rls-open' turns on in its buffers."
   :lighter (" " (:eval (rls--status)))
@@ -354,8 +383,9 @@ process that is dead; so it waits only if it was asked to end just now."
   (when rls-mode
     (add-hook 'pre-command-hook #'rls--before-command nil t)
     (add-hook 'after-change-functions #'rls--changed nil t)
-    (add-hook 'write-contents-functions #'rls-sync nil t)
+    (add-hook 'write-contents-functions #'rls--save nil t)
     (add-hook 'kill-buffer-hook #'rls--close nil t)
+    (add-hook 'after-change-major-mode-hook #'rls--stay)
     (add-hook 'kill-emacs-query-functions #'rls--asked)
     (add-hook 'kill-emacs-hook #'rls--close-all)
     (when (= rls--version 2) (rls-undo-mode 1))))
@@ -399,7 +429,7 @@ A message to oneself has a head alone."
     (with-current-buffer buffer
       (text-mode)
       (setq-local require-final-newline nil)
-      (setq rls--folder folder rls--shared shared)
+      (setq rls--folder folder rls--shared shared rls--name (buffer-name))
       (unless (file-directory-p rls--shared)
         (make-directory rls--shared t)
         (message "The shared folder was not there and was made: %s" rls--shared))

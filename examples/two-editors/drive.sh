@@ -138,10 +138,10 @@ play_typing() {
 play_all() {
   local name command=$1 odd=$2
   local -a names=("${@:3}")
-  [ ${#names[@]} -gt 0 ] || names=(random typing undo beside elsewhere cursors places away empty again kill waiting killed odd)
+  [ ${#names[@]} -gt 0 ] || names=(random typing undo beside elsewhere cursors places away copy empty again kill waiting killed odd)
   for name in "${names[@]}"; do
     case $name in
-      undo | beside | elsewhere | cursors | places) if is_second; then "play_$name" "$command"; else echo "skipped $name: it needs the second version of the session"; fi ;;
+      undo | beside | elsewhere | cursors | places | copy) if is_second; then "play_$name" "$command"; else echo "skipped $name: it needs the second version of the session"; fi ;;
       odd) play_odd "$odd" ;;
       *) "play_$name" "$command" ;;
     esac
@@ -243,6 +243,28 @@ play_away() {
   same_texts
 }
 
+# A copy of the text in a file, as a writer's own backup; and then Vim and Neovim read the buffer again, and Emacs gives it another major mode: the
+# replica goes on in it. $1 begins the editor; its test says how by write_copy FILE and read_again.
+play_copy() {
+  begin_with "$1" Start 'i 0 Start'
+  write_copy "$room/copy.md"
+  copy_text() { cat "$room/copy.md"; }
+  wait_for 'a copy of the text in a file' Start copy_text
+  type_at_end ' one'
+  ben_has 'what is typed after that' 'Start one'
+  read_again
+  shows 'the replica, which goes on' 'member 0 of 2'
+  type_at_end ' two'
+  ben_has 'what is typed once the buffer was read again' 'Start one two'
+  ben_edits 'i 0 Soon: '
+  shows 'what others write then' 'Soon: Start one two'
+  undo
+  ben_has 'an undo of it' 'Soon: Start one'
+  wait_for 'the copy, which stays as it was' Start copy_text
+  leave_editor
+  same_texts
+}
+
 # The process of the program that works on a folder.
 session_of() {
   local found
@@ -330,6 +352,8 @@ to_end() { type_text 'ggA'; }
 end_typing() { keys Escape; }
 undo() { keys u; }
 redo() { keys C-r; }
+write_copy() { keys ":w $1" Enter; }
+read_again() { keys ':e!' Enter; }
 substitute() { keys ':%s/e/E/g' Enter; }
 fill() { keys ':set tw=40' Enter 4G gqG; }
 at_third_line() { type_text '3G0'; }

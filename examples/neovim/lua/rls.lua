@@ -37,11 +37,26 @@ local function close(self)
   self:close()
 end
 
+-- What `:w FILE` does beside storing: it writes the text there, as `rls text` prints it.
+local function write_copy(self, event)
+  local own = 'rls:' .. self.folder
+  if event.file == '' or event.file:sub(-#own) == own then return end
+  local lines = api.nvim_buf_get_lines(self.buf, 0, -1, true)
+  if vim.fn.writefile(lines, event.file, 'b') == 0 then api.nvim_echo({ { ('"%s" a copy of the text, %d lines'):format(event.file, #lines) } }, false, {}) end
+end
+
+local read_again
+
 local function watch(self)
-  local function on(events, callback) api.nvim_create_autocmd(events, { buffer = self.buf, callback = callback }) end
+  local group = api.nvim_create_augroup('rls' .. self.buf, { clear = true })
+  local function on(events, callback) api.nvim_create_autocmd(events, { group = group, buffer = self.buf, callback = callback }) end
   on({ 'TextChanged', 'InsertLeave' }, function() self.is_boundary = true end)
-  on('BufWriteCmd', function() self:try('sync') end)
+  on('BufWriteCmd', function(event)
+    self:try('sync')
+    write_copy(self, event)
+  end)
   on('BufUnload', function() close(self) end)
+  on('BufReadCmd', function() read_again(self) end)
   self.looks = vim.loop.new_timer()
   self.looks:start(M.every, M.every, vim.schedule_wrap(function()
     if replicas[self.buf] ~= self then return end
@@ -60,6 +75,19 @@ local function show(self)
   vim.wo.statusline = "%f%m %{luaeval('require(\"rls\").status()')}%<%=%l,%c"
 end
 
+-- What `:e` does, which empties the buffer and ends the session: opens the replica in its buffer again.
+read_again = function(old)
+  local done, self = pcall(Replica.open, M, place_of_others, old.folder, old.shared)
+  if not done then return vim.notify(tostring(self), vim.log.levels.ERROR) end
+  self.buf = old.buf
+  replicas[self.buf] = self
+  self:attach()
+  vim.bo[self.buf].modified = false
+  watch(self)
+  map(self)
+  self:try('sync')
+end
+
 -- The replica of this folder that is open, if one is.
 local function known(folder)
   for _, self in pairs(replicas) do
@@ -69,7 +97,8 @@ end
 
 local function opened(folder, shared)
   if not (folder and shared) then error('rls: say the folder of the replica, and the shared folder', 0) end
-  folder, shared = vim.fn.fnamemodify(folder, ':p'), vim.fn.fnamemodify(shared, ':p'):gsub('/$', '')
+  folder, shared = vim.fn.fnamemodify(folder, ':p'):gsub('(.)/$', '%1'), vim.fn.fnamemodify(shared, ':p')
+  shared = shared:gsub('(.)/$', '%1')
   local self = known(folder)
   if self then
     api.nvim_set_current_buf(self.buf)

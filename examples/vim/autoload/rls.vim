@@ -355,19 +355,14 @@ function s:learn(r) abort
   let a:r.group = printf('%u', a:r.group)
 endfunction
 
-function s:open_replica(folder, shared) abort
+" A replica with its session, which has no buffer as yet.
+function s:begun(folder, shared) abort
   let r = {'folder': s:full(a:folder), 'shared': s:full(a:shared), 'taken': {}, 'sent': {}, 'seen': {}, 'problems': {}, 'failed': '', 'unsaved': 0,
         \ 'since': reltime(), 'changes': g:rls_rename_at, 'told': 0, 'silent': 0, 'boundary': 0, 'steps': 0, 'behind': 0, 'due': -1, 'shown': -1, 'cursor': '',
         \ 'places': {}, 'is_lookup_due': 0, 'last': {}, 'marks': {}, 'looked': 0, 'is_away': 0}
   if !isdirectory(r.folder)
     throw 'rls: there is no folder ' . r.folder
   endif
-  for [buf, other] in items(s:open)
-    if other.folder ==# r.folder
-      execute 'buffer' buf
-      return other.failed ==# '' ? 0 : s:open_again(other)
-    endif
-  endfor
   if getftype(r.folder . '/replica.gate') ==# '' && getftype(r.folder . '/replica.rls') ==# ''
     throw printf('rls: there is no replica in %s; `rls new GROUP ME MEMBERS` begins one there', r.folder)
   elseif &encoding !=# 'utf-8'
@@ -380,17 +375,32 @@ function s:open_replica(folder, shared) abort
   call rls#session#start(r)
   try
     call s:learn(r)
-    let lines = rls#session#lines_of(s:text(r))
   catch
     call job_stop(r.job)
     throw substitute(v:exception, '^Vim', 'rls: Vim', '')
   endtry
-  call s:show(r, lines)
+  return r
+endfunction
+
+function s:open_replica(folder, shared) abort
+  for [buf, other] in items(s:open)
+    if other.folder ==# s:full(a:folder)
+      execute 'buffer' buf
+      return other.failed ==# '' ? 0 : s:open_again(other)
+    endif
+  endfor
+  let r = s:begun(a:folder, a:shared)
+  call s:show(r, rls#session#lines_of(s:text(r)))
 endfunction
 
 function s:show(r, lines) abort
   enew
   execute 'silent file' fnameescape('rls:' . a:r.folder)
+  call s:fill(a:r, a:lines)
+endfunction
+
+" Shows lines in the current buffer, which is empty, and edits the replica there.
+function s:fill(r, lines) abort
   setlocal buftype=acwrite bufhidden=hide noswapfile noendofline nofixendofline fileformat=unix
   let a:r.buf = bufnr('%')
   let s:open[a:r.buf] = a:r
@@ -406,7 +416,7 @@ function s:show(r, lines) abort
   endif
   call s:map(a:r)
   call listener_flush(a:r.buf)
-  call listener_add(function('s:changed'), a:r.buf)
+  let a:r.listener = listener_add(function('s:changed'), a:r.buf)
   call s:watch(a:r.buf)
   let buf = a:r.buf
   let a:r.timer = timer_start(g:rls_every, {_ -> rls#try('tick', buf)}, {'repeat': -1})
@@ -415,10 +425,35 @@ endfunction
 
 function s:watch(buf) abort
   augroup rls
+    execute 'autocmd! * <buffer=' . a:buf . '>'
     execute 'autocmd TextChanged,InsertLeave <buffer=' . a:buf . '> call rls#try("end_group", ' . a:buf . ')'
-    execute 'autocmd BufWriteCmd <buffer=' . a:buf . '> call rls#try("sync", ' . a:buf . ')'
+    execute 'autocmd BufWriteCmd <buffer=' . a:buf . '> call rls#try("sync", ' . a:buf . ') | call s:write_copy(' . a:buf . ', expand("<afile>"))'
     execute 'autocmd BufUnload <buffer=' . a:buf . '> call s:close(' . a:buf . ')'
+    let r = s:open[a:buf]
+    execute 'autocmd BufReadCmd <buffer=' . a:buf . '> call s:read_again(' . string(r.folder) . ', ' . string(r.shared) . ')'
   augroup END
+endfunction
+
+" What `:w FILE` does beside storing: it writes the text there, as `rls text` prints it.
+function s:write_copy(buf, file) abort
+  let own = 'rls:' . get(get(s:open, a:buf, {}), 'folder', '')
+  if a:file ==# '' || strpart(a:file, len(a:file) - len(own)) ==# own
+    return
+  endif
+  let lines = getbufline(a:buf, 1, '$')
+  if writefile(lines, a:file, 'b') == 0
+    echo printf('"%s" a copy of the text, %d lines', a:file, len(lines))
+  endif
+endfunction
+
+" What `:e` does, which empties the buffer and ends the session: opens the replica in its buffer again.
+function s:read_again(folder, shared) abort
+  try
+    let r = s:begun(a:folder, a:shared)
+    call s:fill(r, rls#session#lines_of(s:text(r)))
+  catch
+    echohl ErrorMsg | echomsg v:exception | echohl None
+  endtry
 endfunction
 
 " What is typed from now on is undone by itself.
@@ -493,6 +528,7 @@ endfunction
 function s:close(buf) abort
   call listener_flush(a:buf)
   let r = remove(s:open, a:buf)
+  call listener_remove(r.listener)
   call timer_stop(get(r, 'timer', -1))
   call timer_stop(r.due)
   if r.failed ==# ''
