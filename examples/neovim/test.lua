@@ -8,7 +8,7 @@ local function run()
   for member = 0, 1 do all[member] = rls.open(room .. '/' .. member, room .. '/shared') end
   math.randomseed(6)
   local keys = { 'onew line\27', 'ggx', 'GAé😀\27', 'dd', 'u', 'p', 'J', 'yyP', '>>', 'ggVGd', 'ia\\nb\27', 'Go\27', 'ggO\27', '\18', 'xp', 'ggguG~',
-    'i\22000\22013\27' }
+    'i\22000\22013\27', 'Gome words that are long enough to be filled: é日本 e\27', ':%s/e/o/ge\13', ':%s/o/e/ge\13', ':%s/\\w\\+/&&/ge\13', 'gggqG', ':sort\13' }
   local function turn(self, what)
     api.nvim_set_current_buf(self.buf)
     self[what](self)

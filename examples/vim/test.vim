@@ -2,7 +2,8 @@
 let g:rls_program = $RLS
 let g:rls_every = 1000000
 let g:rls_rename_at = 8
-let s:keys = ["onew line\<Esc>", 'ggx', "GA\u00e9\U1F600\<Esc>", 'dd', 'u', 'p', 'J', 'yyP', '>>', 'ggVGd', "ia\\nb\<Esc>", "Go\<Esc>", "ggO\<Esc>", 'xp', 'ggguG~', "i\<C-V>000\<C-V>013\<Esc>"]
+let s:keys = ["onew line\<Esc>", 'ggx', "GA\u00e9\U1F600\<Esc>", 'dd', 'u', 'p', 'J', 'yyP', '>>', 'ggVGd', "ia\\nb\<Esc>", "Go\<Esc>", "ggO\<Esc>", 'xp', 'ggguG~', "i\<C-V>000\<C-V>013\<Esc>",
+      \ "Gome words that are long enough to be filled: \u00e9\u65e5\u672c e\<Esc>", ":%s/e/o/ge\<CR>", ":%s/o/e/ge\<CR>", ":%s/\\w\\+/&&/ge\<CR>", 'gggqG', ":sort\<CR>"]
 let s:seed = srand(6)
 
 function s:text(buf) abort
