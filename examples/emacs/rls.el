@@ -432,7 +432,7 @@ A message to oneself has a head alone."
       (setq rls--folder folder rls--shared shared rls--name (buffer-name))
       (unless (file-directory-p rls--shared)
         (make-directory rls--shared t)
-        (message "The shared folder was not there and was made: %s" rls--shared))
+        (message "The shared folder was not there and was made"))
       (setq rls--changes rls-rename-at)
       (rls--begin rls-program folder)
       (rls--learn)

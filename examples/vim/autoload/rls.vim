@@ -370,7 +370,7 @@ function s:begun(folder, shared) abort
   endif
   if !isdirectory(r.shared)
     call mkdir(r.shared, 'p')
-    echomsg 'rls: the shared folder was not there and was made: ' . r.shared
+    echomsg 'rls: the shared folder was not there and was made'
   endif
   call rls#session#start(r)
   try

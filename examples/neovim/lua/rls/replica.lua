@@ -25,7 +25,7 @@ function Replica.open(options, namespace, folder, shared)
   end
   if vim.fn.isdirectory(shared) == 0 then
     vim.fn.mkdir(shared, 'p')
-    vim.notify('rls: the shared folder was not there and was made: ' .. shared)
+    api.nvim_echo({ { 'rls: the shared folder was not there and was made' } }, true, {})
   end
   self:start()
   local done, fault = pcall(self.learn, self)
