@@ -1,15 +1,19 @@
 -- What a window of a text tells of the text's grapheme clusters.
-use Rattle.std.proofs.Common.{◌≡◌, ◌∙◌, ℕ, zero, suc, ◌+◌, ◌-◌, ◌<◌, ◌≤◌, ◌⊎◌, inl, inr, ⊎_elim, min, Bool, true, false, cond, List, [], ◌∷◌, ◌++◌, length, length-append, get_or, take, drop, Option, Some, None, IfSome, Result, Ok, Err, refl, sym, ap, append_assoc, eq-or-lt_of_le, drop-cons, drop_of_length-le, length-drop, length-take, take-append-drop, arith}
+use Rattle.std.proofs.Common.{◌≡◌, ◌∙◌, ℕ, zero, suc, ◌+◌, ◌-◌, ◌<◌, ◌≤◌, ◌⊎◌, inl, inr, ⊎_elim, min, Bool, true, false, not, cond, List, [], ◌∷◌, ◌++◌, length, length-append, get_or, take, drop, Option, Some, None, IfSome, Result, Ok, Err, refl, sym, ap, append_assoc, eq-or-lt_of_le, drop-cons, drop_of_length-le, length-drop, length-take, take-append-drop, arith}
 use Rattle.std.specs.Prelude.{◌&&◌, ◌==◌, nat_lt}
 use Rattle.std.specs.List.{position_or_len}
 use Rattle.std.proofs.lemmas.Bool.{eqb-false, eqb-true, ne_eqb, eq-eqb, le-ltb, lt-ltb, ltb-true}
 use Rattle.std.proofs.lemmas.List.Sums.{passes_at_first}
-use Rattle.unicode_segmentation.specs.Grapheme.{is_grapheme_break}
+use Rattle.ucd_breaks.specs.GraphemeClusterBreak.{grapheme_cluster_break}
+use Rattle.ucd_breaks.specs.declared.GraphemeClusterBreak.{GraphemeClusterBreak}
+use Rattle.ucd_breaks.specs.declared.GraphemeClusterBreak.TheVariants as breaks
+use Rattle.unicode_segmentation.specs.Grapheme.{break_by_pair, is_grapheme_break}
 use Rattle.unicode_segmentation.specs.Segments.{cut}
 use Rattle.rls_script.specs.declared.clusters.ClusterError.{ClusterError}
 use Rattle.rls_script.specs.declared.clusters.ClusterError.TheVariants.{NotBoundary}
-use Rattle.rls_script.specs.Clusters.{begin_of, cluster_before, cluster_in, clusters_of, is_barrier, left_out, or_no_boundary, placed}
+use Rattle.rls_script.specs.Clusters.{begin_of, cluster_before, cluster_in, clusters_of, found_after, is_barrier, is_control, is_inside, is_mark, are_joined, left_out, or_no_boundary, placed}
 use Rattle.rls_script.proofs.Barriers.{breaks_at_end, hides, reads_next}
+use Rattle.rls_script.proofs.Places.{both}
 use Rattle.rls_script.proofs.Walks.{Agrees, onto, pieces_walk, prepend_none, reached, walk, windowed}
 
 -- ---- a cluster by a walk
@@ -26,6 +30,35 @@ by_walk_at : (text : List ℕ) (at : ℕ) → 0 < at → at ≤ length text → 
 by_walk_at [] at p l = absurd (omega arith)
 by_walk_at (c ∷ cs) zero p l = absurd (omega arith)
 by_walk_at (c ∷ cs) (suc k) p l = by_walk k c cs (omega arith)
+
+-- ---- inside a cluster
+
+joined_break : (v w : GraphemeClusterBreak) → is_control v ≡ false → is_mark w ≡ true → break_by_pair true v w ≡ Some false
+joined_break breaks.Control w h k = absurd cc
+joined_break breaks.Cr w h k = absurd cc
+joined_break breaks.Lf w h k = absurd cc
+joined_break _ breaks.Extend h k = refl
+joined_break _ breaks.Zwj h k = refl
+joined_break _ breaks.SpacingMark h k = refl
+joined_break _ _ h k = absurd cc
+
+not_false : (b : Bool) → not b ≡ true → b ≡ false
+not_false true h = absurd cc
+not_false false h = refl
+
+no_break : (c d : ℕ) (before after : List ℕ) → are_joined c d ≡ true → is_grapheme_break true (c ∷ before) (d ∷ after) ≡ false
+unfolding are_joined is_grapheme_break
+no_break c d before after h =
+    let k = both (not (is_control (grapheme_cluster_break c))) (is_mark (grapheme_cluster_break d)) h in
+    rw (joined_break (grapheme_cluster_break c) (grapheme_cluster_break d) (not_false (is_control (grapheme_cluster_break c)) k.0) k.1) refl
+
+joined_inside : (front : List ℕ) (c d : ℕ) (rest : List ℕ) (at : ℕ) → at ≡ suc (length front) → are_joined c d ≡ true → cluster_before (front ++ c ∷ d ∷ rest) at ≡ Err (NotBoundary at)
+joined_inside front c d rest at e h =
+    let text = front ++ c ∷ d ∷ rest in
+    let there = reached (is_grapheme_break true) front [] (c ∷ d ∷ rest) 0 0 (length front) 0 (length front) (omega arith) (omega arith) in
+    let stops : walk (is_grapheme_break true) 1 (onto front []) (c ∷ d ∷ rest) there.0 (length front) ≡ None = ap (λ b. cond b (Some there.0) None) (no_break c d (onto front []) rest h) in
+    by_walk_at text at (omega arith) (omega (arith, length-append front (c ∷ d ∷ rest)))
+    ∙ ap (or_no_boundary at) (ap (λ n. walk (is_grapheme_break true) n [] text 0 0) e ∙ there.1 ∙ stops)
 
 -- ---- from a window to its text
 
@@ -136,9 +169,20 @@ module _ (text window : List ℕ) (from at : ℕ) (r : Result ℕ ClusterError) 
             let some = eqb-false (from + n) 0 e in
             from_barrier c ws rest k at (from + n) r at_is most later seen front begun (omega arith) (barrier (omega arith)) ∙ ap (λ t. cluster_before t at) (sym whole)
 
-  pub told : cluster_in window from at ≡ Some r → r ≡ cluster_before text at
-  unfolding cluster_in
-  told h = go (nat_lt (left_out from window) (at - from)) refl h
+  -- at its place in the text it is so too
+  joined_at : (k : ℕ) → k ≡ at - from → is_inside window k ≡ true → Err (NotBoundary at) ≡ cluster_before text at
+  joined_at zero e h = absurd (omega arith)
+  joined_at (suc n) e h =
+      let back : n ≡ suc n - 1 = omega arith in
+      let i = both (nat_lt (suc n) (length window)) (are_joined (get_or window n 0) (get_or window (suc n) 0)) (ap (λ m. nat_lt (suc n) (length window) && are_joined (get_or window m 0) (get_or window (suc n) 0)) back ∙ h) in
+      let l = ltb-true (suc n) (length window) i.0 in
+      let few : n < at - from = omega arith in
+      let two : ws n few ≡ get_or window (suc n) 0 ∷ drop (suc (suc n)) window = drop-cons window (suc n) 0 l in
+      let parts : text ≡ front n few ++ get_or window n 0 ∷ get_or window (suc n) 0 ∷ (drop (suc (suc n)) window ++ rest) = whole n few ∙ ap (λ (zs : List ℕ). front n few ++ get_or window n 0 ∷ (zs ++ rest)) two in
+      sym (joined_inside (front n few) (get_or window n 0) (get_or window (suc n) 0) (drop (suc (suc n)) window ++ rest) at (omega (arith, begun n few)) i.1) ∙ ap (λ (zs : List ℕ). cluster_before zs at) (sym parts)
+
+  found_told : found_after (left_out from window) window from at ≡ Some r → r ≡ cluster_before text at
+  found_told h = go (nat_lt (left_out from window) (at - from)) refl h
     where
       go : (b : Bool) → nat_lt (left_out from window) (at - from) ≡ b
           → cond b (placed (from + left_out from window) at (cluster_before (drop (left_out from window) window) (at - from - left_out from window))) None ≡ Some r → r ≡ cluster_before text at
@@ -147,6 +191,14 @@ module _ (text window : List ℕ) (from at : ℕ) (r : Result ℕ ClusterError) 
           found (left_out from window) few h (barrier_there from window (from == 0) refl (omega arith))
       go false e h = absurd cc
 
+  pub told : cluster_in window from at ≡ Some r → r ≡ cluster_before text at
+  unfolding cluster_in
+  told h = go (is_inside window (at - from)) refl h
+    where
+      go : (b : Bool) → is_inside window (at - from) ≡ b → cond b (Some (Err (NotBoundary at))) (found_after (left_out from window) window from at) ≡ Some r → r ≡ cluster_before text at
+      go true e h = let same : Err (NotBoundary at) ≡ r = cc in sym same ∙ joined_at (at - from) refl e
+      go false e h = found_told h
+
 -- ---- for the function
 
 pub told_if_found : (window : List ℕ) (from at : ℕ) (o : Option (Result ℕ ClusterError)) → from < at → at ≤ from + length window → o ≡ cluster_in window from at
@@ -154,12 +206,16 @@ pub told_if_found : (window : List ℕ) (from at : ℕ) (o : Option (Result ℕ 
 told_if_found window from at None p q e = tt
 told_if_found window from at (Some r) p q e = λ text part. told text window from at r p q part (sym e)
 
-pub too_few : (window : List ℕ) (from at n : ℕ) → n ≡ left_out from window → at - from ≤ n → None ≡ cluster_in window from at
+pub joined_is : (window : List ℕ) (from at : ℕ) → is_inside window (at - from) ≡ true → Some (Err (NotBoundary at)) ≡ cluster_in window from at
 unfolding cluster_in
-too_few window from at n e h = rw (sym e, le-ltb n (at - from) h) refl
+joined_is window from at h = rw h refl
 
-pub enough : (window : List ℕ) (from at n : ℕ) → n ≡ left_out from window → n < at - from → placed (from + n) at (cluster_before (drop n window) (at - (from + n))) ≡ cluster_in window from at
+pub too_few : (window : List ℕ) (from at n : ℕ) → is_inside window (at - from) ≡ false → n ≡ left_out from window → at - from ≤ n → None ≡ cluster_in window from at
 unfolding cluster_in
-enough window from at n e h =
+too_few window from at n i e h = rw (i, sym e, le-ltb n (at - from) h) refl
+
+pub enough : (window : List ℕ) (from at n : ℕ) → is_inside window (at - from) ≡ false → n ≡ left_out from window → n < at - from → placed (from + n) at (cluster_before (drop n window) (at - (from + n))) ≡ cluster_in window from at
+unfolding cluster_in
+enough window from at n i e h =
     let same : at - (from + n) ≡ at - from - n = omega arith in
-    rw (sym e, lt-ltb n (at - from) h) (ap (λ k. placed (from + n) at (cluster_before (drop n window) k)) same)
+    rw (i, sym e, lt-ltb n (at - from) h) (ap (λ k. placed (from + n) at (cluster_before (drop n window) k)) same)

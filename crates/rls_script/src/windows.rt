@@ -2,7 +2,7 @@
 
 ghost use Rattle.std.specs.Prelude.{◌≡◌, ℕ, ◌+◌, ◌-◌, ◌<◌, ◌≤◌, List, length, drop, take, IfOk, IfSome, IfNone};
 ghost use Rattle.std.specs.List.{position_or_len};
-ghost use Rattle.rls_script.specs.Clusters.{cluster_before, is_barrier_break, cluster_in, is_barrier_conjunct, is_barrier, left_out, placed};
+ghost use Rattle.rls_script.specs.Clusters.{cluster_before, is_barrier_break, cluster_in, is_barrier_conjunct, is_barrier, is_control, is_inside, is_mark, are_joined, left_out, placed};
 
 use crate::clusters::{ClusterError, cluster_before};
 use rls_runs::Text;
@@ -39,6 +39,46 @@ fn is_barrier(c: char) -> bool
 {
     is_barrier_break(GraphemeClusterBreak::for_char(c))
         && is_barrier_conjunct(IndicConjunctBreak::for_char(c))
+}
+
+// Whether the value is one of a character that ends a cluster by itself.
+fn is_control(value: GraphemeClusterBreak) -> bool
+    ensures control { result ≡ is_control value }
+{
+    matches!(
+        value,
+        GraphemeClusterBreak::Control | GraphemeClusterBreak::Cr | GraphemeClusterBreak::Lf
+    )
+}
+
+// Whether the value is one of a mark or a joiner.
+fn is_mark(value: GraphemeClusterBreak) -> bool
+    ensures mark { result ≡ is_mark value }
+{
+    matches!(
+        value,
+        GraphemeClusterBreak::Extend
+            | GraphemeClusterBreak::Zwj
+            | GraphemeClusterBreak::SpacingMark
+    )
+}
+
+// Whether no boundary is between the two characters, whatever stands before them.
+#[tactic(auto, unfolding(crate::specs::Clusters::are_joined))]
+fn are_joined(before: char, after: char) -> bool
+    ensures joined { result ≡ are_joined before after }
+{
+    !is_control(GraphemeClusterBreak::for_char(before))
+        && is_mark(GraphemeClusterBreak::for_char(after))
+}
+
+// Whether so it is at this place of a window.
+fn is_inside(window: &Text, place: usize) -> bool
+    requires some { 0 < place }
+    requires within { place ≤ length window.now }
+    ensures inside { result ≡ is_inside window.now place }
+{
+    place < window.len() && are_joined(window.get(place - 1), window.get(place))
 }
 
 // The place of the first barrier, or the number of characters.
@@ -80,7 +120,8 @@ fn placed(
 /// before the window, and else what `cluster_before` gives. The window begins at position `from` of the text, and holds the
 /// character after `at` too, if there is one. A window that begins at the text's start tells it always.
 ///
-/// The time is linear in the length of the window.
+/// The time is linear in the length of the window. Where the characters around `at` alone tell that no cluster ends between them, as
+/// before a mark or a joiner mostly, it is constant.
 pub fn cluster_in(
     window: Text,
     from: u64,
@@ -94,6 +135,9 @@ pub fn cluster_in(
     ensures told { IfOk result (λ found. IfSome found (λ begin. (text : List ℕ) → take (at + 1 - from) (drop from text) ≡ window → begin ≡ cluster_before text at)) }
     ensures start { IfOk result (λ found. IfNone found (0 < from)) }
 {
+    if is_inside(&window, (at - from) as usize) {
+        return Ok(Some(Err(ClusterError::NotBoundary { at })));
+    }
     let mut window = window;
     let skipped = left_out(&window, from);
     if at - from <= skipped as u64 {
