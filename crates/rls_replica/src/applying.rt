@@ -31,11 +31,11 @@ use rls_tree::BlockTree;
 use std::alloc::{AllocError, Global};
 
 impl Replica {
-    // Accepts an operation that fits. After an error the replica is as before, and the operation is given up. The characters of
-    // an insertion are looked for at the place that is told, if one is, before they are searched.
-    pub(crate) fn apply(&mut self, op: Op, near: Option<u64>) -> Result<(), AllocError>
-        requires may { MayApply self.old op }
-        ensures ok { OnOk result (self.new ≡ accepted self.old op) }
+    // Accepts an operation that fits. After an error the replica is as before. The characters of an insertion are looked for at
+    // the place that is told, if one is, before they are searched.
+    pub(crate) fn apply(&mut self, op: &Op, near: Option<u64>) -> Result<(), AllocError>
+        requires may { MayApply self.old op.now }
+        ensures ok { OnOk result (self.new ≡ accepted self.old op.now) }
         ensures err { OnErr result (self.new ≡ self.old) }
     {
         rely!(op.fits());
@@ -45,7 +45,7 @@ impl Replica {
             &mut self.stems,
             &mut self.epochs,
             &mut self.log,
-            &op,
+            op,
             near,
         )?;
         let _held = self.held.remove(op.author, op.seq);
@@ -53,7 +53,7 @@ impl Replica {
             &mut self.acks,
             &mut self.stems,
             &mut self.epochs,
-            &op,
+            op,
             renaming,
         );
         Ok(())

@@ -57,7 +57,37 @@ impl Replica {
         // And typing at its front goes on with it there.
         ensures fronted { OnOk result ((first : List Tuple) (n : ℕ) (cs : List ℕ) → edit.now ≡ Insert 0 cs → IsOwnFront self.old first n → HasRoomBelow first (length cs) → IsOwnFront self.new (shifted (pos 0 -ℤ pos (length cs)) first) (n + length cs)) }
     {
-        let seq = self.edit_exactly(edit)?;
+        let op = self.made(edit)?;
+        match self.accept_own(edit, &op) {
+            Ok(seq) => Ok(seq),
+            Err(_) => Err(EditError::OutOfMemory),
+        }
+    }
+
+    /// Accepts the operation that `made` has given for an edit here, and answers its number: `edit` is `made` and then this. So whoever
+    /// records an edit looks at its operation before, and nobody makes it twice. After an error the replica is as before. It costs as much
+    /// as accepting the operation.
+    pub fn accept_own(&mut self, edit: &Edit, op: &Op) -> Result<u32, AllocError>
+        requires fits { edit_fault_over self.old edit.now ≡ None }
+        requires op { op.now ≡ made_over self.old edit.now }
+        ensures seq { IfOk result (λ n. n ≡ own_count self.old + 1) }
+        ensures after { OnOk result (self.new ≡ edited self.old edit.now) }
+        ensures err { OnErr result (self.new ≡ self.old) }
+        ensures names { KeepsNames self.old self.new }
+
+        // The text, as after `edit`.
+        ensures text { OnOk result (text_over self.new ≡ edited_text edit.now (text_over self.old)) }
+
+        // For every history and waiting operations that the replica stands for.
+        ensures answer { IfOk result (λ n. (t : State) → StandsFor self.old t → (edit_fault t.history edit.now ≡ None) × (n ≡ next_seq t.history)) }
+        ensures stands { OnOk result ((t : State) → StandsFor self.old t → StandsFor self.new (accept t (made t.history edit.now))) }
+        ensures one_run { OnOk result (edit.now ≡ Rename → (t : State) → StandsFor self.old t → IsOneRun self.old self.new) }
+
+        // Typing at either end of a text that is one run of the member's own, as by `edit`.
+        ensures typed { OnOk result ((first : List Tuple) (n : ℕ) (cs : List ℕ) → edit.now ≡ Insert n cs → IsOwnRun self.old first n → HasRoom first (n + length cs) → IsOwnRun self.new first (n + length cs)) }
+        ensures fronted { OnOk result ((first : List Tuple) (n : ℕ) (cs : List ℕ) → edit.now ≡ Insert 0 cs → IsOwnFront self.old first n → HasRoomBelow first (length cs) → IsOwnFront self.new (shifted (pos 0 -ℤ pos (length cs)) first) (n + length cs)) }
+    {
+        let seq = self.accept_exactly(edit, op)?;
         Ok(seq)
     }
 
@@ -85,9 +115,9 @@ impl Replica {
     }
 
     // By what the replica consists of.
-    fn edit_exactly(&mut self, edit: &Edit) -> Result<u32, EditError>
-        ensures fault { IfErr result (λ e. IsFault e (edit_fault_over self.old edit.now)) }
-        ensures fits { OnOk result (edit_fault_over self.old edit.now ≡ None) }
+    fn accept_exactly(&mut self, edit: &Edit, op: &Op) -> Result<u32, AllocError>
+        requires fits { edit_fault_over self.old edit.now ≡ None }
+        requires op { op.now ≡ made_over self.old edit.now }
         ensures seq { IfOk result (λ n. n ≡ own_count self.old + 1) }
         ensures after { OnOk result (self.new ≡ edited self.old edit.now) }
         ensures err { OnErr result (self.new ≡ self.old) }
@@ -96,12 +126,8 @@ impl Replica {
     {
         rely!(self.sane());
         rely!(edit.fits());
-        let op = self.made_exactly(edit)?;
-        let seq = op.seq;
-        match self.apply(op, place_of(edit)) {
-            Ok(()) => Ok(seq),
-            Err(_) => Err(EditError::OutOfMemory),
-        }
+        self.apply(op, place_of(edit))?;
+        Ok(op.seq)
     }
 
     fn made_exactly(&self, edit: &Edit) -> Result<Op, EditError>

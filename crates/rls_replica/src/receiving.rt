@@ -63,7 +63,7 @@ impl Replica {
         self.note_gone();
         match self.look(&op, own)? {
             Receipt::Applied => {
-                self.apply(op, None)?;
+                self.apply(&op, None)?;
                 Ok(Receipt::Applied)
             }
             Receipt::Held => {

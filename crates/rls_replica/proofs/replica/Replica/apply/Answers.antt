@@ -17,7 +17,7 @@ use Rattle.rls_replica.proofs.replica.Replica.apply.Goals as goal
 after : goal.returns-clause-ok
 after c =
     let i = seen c.self.inside in
-    let o = c.args.op in
+    let o = c.args.op.now in
     let p = c.in_ok-renaming.ensures in
     let f = c.finish.ensures in
     accepted_is i o c.finish.new.acks c.finish.new.stems.stems c.finish.new.epochs.epochs (entries_of c.prepare.new.document.blocks) c.remove-held.new.self c.prepare.new.log
@@ -35,6 +35,6 @@ returns-clause-ok c = after c
 pub invariant_of-self-2 : goal.invariant_of-self-2
 invariant_of-self-2 c =
     let s = c.args.self.now in
-    let o = c.args.op in
+    let o = c.args.op.now in
     let sane : IsSane (accepted s o) = accepted_sane s o (subst IsSane c.self.view_is c.self.invariant.sane) c.requires.may c.fits.ensures.range in
     whole_kept (seen c.self.inside) s _ (accepted s o) c.self.inside.stems.members c.finish.new.stems.members c.self.inside.gone c.self.view_is c.self.invariant (after c) sane (members_accepted s o) (c.finish.ensures.members ∙ c.in_ok-renaming.ensures.members) (gone_accepted s o (subst IsSane c.self.view_is c.self.invariant.sane) c.requires.may)

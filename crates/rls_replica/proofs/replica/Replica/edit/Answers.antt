@@ -1,66 +1,17 @@
-use Rattle.std.proofs.Common.{◌≡◌, ◌+◌, ◌∙◌, ap, sym, subst, None}
+use Rattle.std.proofs.Common.{refl}
 use Rattle.std.proofs.lemmas.Result.{err_from_is_err_and}
-use Rattle.rls_model.specs.declared.edit.Edit.{Edit}
-use Rattle.rls_model.specs.declared.edit.Edit.TheVariants as edits
-use Rattle.rls_model.specs.WellFormed.{IsEdit}
-use Rattle.rls_seen.specs.Edits.{edit_fault_over, made_over, IsFault}
-use Rattle.rls_seen.specs.Seen.{text_over}
-use Rattle.rls_seen.proofs.Editing.{edited_stands, edit_faults_alike, own_alike}
-use Rattle.rls_replica.proofs.EditLaws.{refused_alike, one_run, text-edited}
-use Rattle.rls_replica.proofs.OwnFronts.{goes_before}
-use Rattle.rls_replica.proofs.OwnRuns.{goes_on}
-use Rattle.rls_replica.proofs.LeaveFaults.{leave_fault}
-use Rattle.rls_replica.proofs.KeptNames.{accepted_names, names_unchanged}
+use Rattle.rls_replica.proofs.KeptNames.{names_unchanged}
 use Rattle.rls_replica.proofs.replica.Replica.edit.Goals as goal
 
-pub returns-in_err-seq-clause-refused : goal.returns-in_err-seq-clause-refused
-returns-in_err-seq-clause-refused c =
+pub returns-in_err-op-clause-refused : goal.returns-in_err-op-clause-refused
+returns-in_err-op-clause-refused c =
     let p = err_from_is_err_and c.from_residual.result c.from_residual.ensures.1 in
-    rw (p.1, p.2) (λ t h. refused_alike c.args.self.now t c.args.edit.now c.in_err-seq.field-0.0 h c.in_err-seq.ensures.fault)
+    rw (p.1, p.2) c.in_err-op.ensures.refused
 
-pub returns-in_err-seq-clause-leave : goal.returns-in_err-seq-clause-leave
-returns-in_err-seq-clause-leave c =
+pub returns-in_err-op-clause-leave : goal.returns-in_err-op-clause-leave
+returns-in_err-op-clause-leave c =
     let p = err_from_is_err_and c.from_residual.result c.from_residual.ensures.1 in
-    let e = c.in_err-seq.ensures in
-    rw (p.1, p.2) (λ is. leave_fault c.args.self.now c.in_err-seq.field-0.0 e.sane.few (subst (λ (x : Edit). IsFault c.in_err-seq.field-0.0 (edit_fault_over c.args.self.now x)) is e.fault))
+    rw (p.1, p.2) c.in_err-op.ensures.leave
 
-pub returns-clause-answer : goal.returns-clause-answer
-returns-clause-answer c = λ t h.
-    let e = c.in_ok-seq.ensures in
-    (sym (edit_faults_alike c.args.self.now t c.args.edit.now h) ∙ e.fits, e.seq ∙ ap (λ n. n + 1) (own_alike c.args.self.now t h))
-
-pub returns-clause-text : goal.returns-clause-text
-returns-clause-text c =
-    let e = c.in_ok-seq.ensures in
-    ap text_over e.after ∙ text-edited c.args.self.now c.args.edit.now e.sane e.whole e.fits
-
-pub returns-clause-stands : goal.returns-clause-stands
-returns-clause-stands c = λ t h.
-    let e = c.in_ok-seq.ensures in
-    rw e.after (edited_stands c.args.self.now t c.args.edit.now e.whole e.fits h)
-
-pub returns-clause-one_run : goal.returns-clause-one_run
-returns-clause-one_run c = λ is t h.
-    let e = c.in_ok-seq.ensures in
-    let f = subst (λ (x : Edit). edit_fault_over c.args.self.now x ≡ None) is e.fits in
-    rw (e.after, is) (one_run c.args.self.now t h f)
-
-pub returns-clause-typed : goal.returns-clause-typed
-returns-clause-typed c = λ first n cs is run room.
-    let e = c.in_ok-seq.ensures in
-    let i : IsEdit (edits.Insert n cs) = subst IsEdit is e.whole in
-    let f = subst (λ (x : Edit). edit_fault_over c.args.self.now x ≡ None) is e.fits in
-    rw (e.after, is) (goes_on c.args.self.now n cs first e.sane i f run room)
-
-pub returns-clause-fronted : goal.returns-clause-fronted
-returns-clause-fronted c = λ first n cs is run room.
-    let e = c.in_ok-seq.ensures in
-    let i : IsEdit (edits.Insert 0 cs) = subst IsEdit is e.whole in
-    let f = subst (λ (x : Edit). edit_fault_over c.args.self.now x ≡ None) is e.fits in
-    rw (e.after, is) (goes_before c.args.self.now n cs first e.sane i f run room)
-
-pub returns-in_err-seq-clause-names : goal.returns-in_err-seq-clause-names
-returns-in_err-seq-clause-names c = names_unchanged c.args.self.now _ c.in_err-seq.ensures.err
-
-pub returns-clause-names : goal.returns-clause-names
-returns-clause-names c = rw c.in_ok-seq.ensures.after (accepted_names c.args.self.now (made_over c.args.self.now c.args.edit.now))
+pub returns-in_err-op-clause-names : goal.returns-in_err-op-clause-names
+returns-in_err-op-clause-names c = names_unchanged c.args.self.now _ refl
