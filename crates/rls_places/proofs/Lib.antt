@@ -1,2 +1,6 @@
 pub mod Worked
+mod Located
 pub mod Pieces
+pub mod Cuts
+pub mod ReadBack
+pub mod OneWord

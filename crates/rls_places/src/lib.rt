@@ -1,6 +1,7 @@
 //! Places that travel: anchors as words, which other members read.
 #![tactic(auto)]
 
+pub mod laws;
 mod reading;
 mod writing;
 
