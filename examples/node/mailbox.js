@@ -141,7 +141,9 @@ export class Mailbox {
     for (const to of this.#others()) {
       const message = await session.message(to);
       const mark = createHash('sha256').update(message).digest('hex');
-      if (this.#sent.get(to) === mark || (await this.#isEnough(to, message))) continue;
+      // Of an older state of the folder, which came back, what is there would have another size.
+      const isThere = this.#sent.get(to) === mark && (await sizeOf(this.path(this.head.me, to))) === message.length;
+      if (isThere || (await this.#isEnough(to, message))) continue;
       try {
         await replace(this.path(this.head.me, to), message);
         this.#sent.set(to, mark);

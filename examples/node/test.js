@@ -264,6 +264,22 @@ test('messages through a folder', async (t) => {
   assert.deepEqual(fs.readdirSync(shared).filter((name) => name.startsWith('.new')), []);
 });
 
+test('a folder that comes back as it was before', async (t) => {
+  const [a, b] = await opened(t, 2, 2);
+  const shared = path.join(path.dirname(a.folder), 'shared');
+  const boxes = [await Mailbox.open(shared, a), await Mailbox.open(shared, b)];
+  await type(a, 0, 0, 'one');
+  for (const [box, member] of [[boxes[0], a], [boxes[1], b], [boxes[0], a]]) await box.sync(member);
+  fs.cpSync(shared, `${shared}-before`, { recursive: true });
+  await type(a, 3, 0, ' two');
+  await boxes[0].sync(a);
+  fs.rmSync(shared, { recursive: true });
+  fs.renameSync(`${shared}-before`, shared);
+  await boxes[0].sync(a);
+  await boxes[1].sync(b);
+  assert.equal(b.text, 'one two');
+});
+
 test('what others put into the folder', { timeout: 60_000 }, async (t) => {
   const [a, b] = await opened(t, 2, 8);
   const shared = path.join(path.dirname(a.folder), 'shared');

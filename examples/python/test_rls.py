@@ -151,6 +151,22 @@ class ByCommands(Room):
         with self.assertRaises(Stale):
             boxes[0].sync(a)
 
+    def test_older_folder(self):
+        """A message is written again if the folder comes back as it was before, or empty."""
+        a, b = self.two()
+        boxes = [Mailbox(self.path("shared"), x.head()) for x in (a, b)]
+        a.insert(0, "one")
+        boxes[0].sync(a), boxes[1].sync(b), boxes[0].sync(a)
+        shutil.copytree(self.path("shared"), self.path("before"))
+        a.insert(3, " two")
+        self.assertEqual(boxes[0].sync(a)[1], 1)
+        self.assertEqual(boxes[0].sync(a)[1], 0)
+        shutil.rmtree(self.path("shared"))
+        shutil.copytree(self.path("before"), self.path("shared"))
+        self.assertEqual(boxes[0].sync(a)[1], 1)
+        boxes[1].sync(b)
+        self.assertEqual(b.text(), "one two")
+
     def test_made_again(self):
         a, b = self.two()
         boxes = [Mailbox(self.path("shared"), x.head()) for x in (a, b)]

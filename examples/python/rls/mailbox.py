@@ -89,8 +89,8 @@ class Mailbox:
                 continue
             message = replica.message(to)
             mark = hashlib.sha256(message).digest()
-            if self.sent.get(to) == mark or self.is_enough(to, message):
-                continue
+            if self.sent.get(to) == mark and size_of(self.path(self.me, to)) == len(message) or self.is_enough(to, message):
+                continue                        # it is there: of an older state of the folder it would have another size
             try:
                 replace(self.path(self.me, to), message)
             except RlsError as e:
