@@ -72,7 +72,7 @@ local function show(self)
   options.buftype, options.bufhidden, options.swapfile, options.endofline, options.fixendofline = 'acwrite', 'hide', false, false, false
   self:attach()
   options.modified = false
-  vim.wo.statusline = "%f%m %{luaeval('require(\"rls\").status()')}%<%=%l,%c"
+  vim.wo.statusline = "rls:%t%m %{luaeval('require(\"rls\").status()')}%<%=%l,%c"
 end
 
 -- What `:e` does, which empties the buffer and ends the session: opens the replica in its buffer again.

@@ -409,7 +409,7 @@ function s:fill(r, lines) abort
   call setline(1, a:lines)
   let &l:undolevels = levels
   let a:r.text = rls#lines#new(a:lines)
-  setlocal nomodified statusline=%f%m\ %{RlsStatus()}%<%=%l,%c
+  setlocal nomodified statusline=rls:%t%m\ %{RlsStatus()}%<%=%l,%c
   " Faults are told in the status line, and by default Vim shows none for a lone window.
   if &laststatus == 1
     set laststatus=2
