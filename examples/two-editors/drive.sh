@@ -351,6 +351,7 @@ store() { keys ':w' Enter; }
 to_end() { type_text 'ggA'; }
 end_typing() { keys Escape; }
 undo() { keys u; }
+undo_often() { type_text 200u; }
 redo() { keys C-r; }
 write_copy() { keys ":w $1" Enter; }
 read_again() { keys ':e!' Enter; }

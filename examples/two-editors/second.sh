@@ -27,6 +27,8 @@ play_undo() {
   shows 'what others wrote' four
   undo
   ben_has 'an undo after storing leaves what others wrote' $'zero\n\nthree\nfour'
+  undo_often
+  shows 'more undos than there is to take back' 'member 0 of 2'
   redo
   ben_has 'and a redo does it again' $'zero\none\nthree\nfour'
   at_third_line

@@ -27,7 +27,7 @@ local function current() return replicas[api.nvim_get_current_buf()] end
 local function map(self)
   if self.version < 2 then return end
   vim.bo[self.buf].undolevels = -1 -- Neovim's own undo would take back what others wrote
-  local function key(lhs, what) vim.keymap.set('n', lhs, function() for _ = 1, vim.v.count1 do self:try(what) end end, { buffer = self.buf }) end
+  local function key(lhs, what) vim.keymap.set('n', lhs, function() self:try('times', vim.v.count1, what) end, { buffer = self.buf }) end
   key('u', 'undo')
   key('<C-R>', 'redo')
 end

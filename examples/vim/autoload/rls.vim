@@ -148,7 +148,7 @@ function s:take_back(buf, request, nothing) abort
   let [reply, _, changes] = rls#session#ask(r, a:request)
   if reply ==# 'no nothing'
     echo a:nothing
-    return
+    return 0
   elseif reply =~# '^no '
     throw 'rls: ' . reply
   endif
@@ -163,24 +163,32 @@ function s:take_back(buf, request, nothing) abort
   endif
   let r.boundary = 1
   call s:is_edited(r, 0)
+  return 1
+endfunction
+
+" Undoes or does again as often as is said, as far as there is something.
+function s:times(buf, count, what) abort
+  for _ in range(a:count)
+    if !call('s:' . a:what, [a:buf])
+      return
+    endif
+  endfor
 endfunction
 
 function s:undo(buf) abort
-  call s:take_back(a:buf, s:open[a:buf].version == 2 ? 'z' : 'u', 'Already at oldest change')
+  return s:take_back(a:buf, s:open[a:buf].version == 2 ? 'z' : 'u', 'Already at oldest change')
 endfunction
 
 function s:redo(buf) abort
-  if s:open[a:buf].version == 2
-    call s:take_back(a:buf, 'y', 'Already at newest change')
-  endif
+  return s:open[a:buf].version == 2 && s:take_back(a:buf, 'y', 'Already at newest change')
 endfunction
 
 " What the keys `u` and Ctrl-R do with the second version. Vim's own undo would take back what others wrote.
 function s:map(r) abort
   if a:r.version == 2
     call setbufvar(a:r.buf, '&undolevels', -1)
-    nnoremap <buffer> <silent> u :<C-U>for _ in range(v:count1) <Bar> call rls#try('undo', bufnr('%')) <Bar> endfor<CR>
-    nnoremap <buffer> <silent> <C-R> :<C-U>for _ in range(v:count1) <Bar> call rls#try('redo', bufnr('%')) <Bar> endfor<CR>
+    nnoremap <buffer> <silent> u :<C-U>call rls#try('times', bufnr('%'), v:count1, 'undo')<CR>
+    nnoremap <buffer> <silent> <C-R> :<C-U>call rls#try('times', bufnr('%'), v:count1, 'redo')<CR>
   endif
 endfunction
 

@@ -250,7 +250,7 @@ function Replica:take_back(request, nothing)
   local reply, _, changes = self.session:ask(request)
   if reply == 'no nothing' then
     api.nvim_echo({ { nothing } }, false, {})
-    return
+    return false
   end
   if not reply:match('^%a+ %d') then error('rls: ' .. reply, 0) end
   if changes then
@@ -264,12 +264,20 @@ function Replica:take_back(request, nothing)
   end
   self.is_boundary = true
   self:is_edited()
+  return true
 end
 
-function Replica:undo() self:take_back(self.version == 2 and 'z' or 'u', 'Already at oldest change') end
+-- Undoes or does again as often as is said, as far as there is something.
+function Replica:times(count, what)
+  for _ = 1, count do
+    if not self[what](self) then return end
+  end
+end
+
+function Replica:undo() return self:take_back(self.version == 2 and 'z' or 'u', 'Already at oldest change') end
 
 function Replica:redo()
-  if self.version == 2 then self:take_back('y', 'Already at newest change') end
+  return self.version == 2 and self:take_back('y', 'Already at newest change')
 end
 
 -- Storing and sending -----------------------------------------------------------

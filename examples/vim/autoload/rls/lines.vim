@@ -199,18 +199,36 @@ def s:Way(all: list<list<number>>, old: number, new: number, limit: number): lis
   return reverse(found)
 enddef
 
+" Where two lists of as many members differ, one by one.
+def s:Pairs(old: list<number>, new: list<number>): list<list<number>>
+  var found: list<list<number>> = []
+  for k in range(len(old))
+    if old[k] != new[k]
+      if !empty(found) && found[-1][1] == k
+        found[-1][1] = k + 1
+        found[-1][3] = k + 1
+      else
+        add(found, [k, k + 1, k, k + 1])
+      endif
+    endif
+  endfor
+  return found
+enddef
+
 " Where two lists of characters differ, by words: where each place begins and ends in the old and in the new list. What is between stays as it is,
-" also for others who write there. Lists that differ too much are one place. They are one of `share` pairs that are compared at once, and the time is
+" also for others who write there. Lists that differ too much are compared word by word if they have as many, and are one place otherwise. They are one of `share` pairs that are compared at once, and the time is
 " for all of them.
 def rls#lines#differences(old: list<number>, new: list<number>, share: number): list<list<number>>
   const [from, to] = [s:Beginnings(old), s:Beginnings(new)]
   var numbers: dict<number> = {}
   const limit = min([float2nr(s:most_words * 2 / sqrt(max([share, 4]))), len(from) + len(to) - 2])
-  const all = s:Reached(s:Numbered(old, from, numbers), s:Numbered(new, to, numbers), limit)
-  if empty(old) || empty(new) || empty(all)
+  const words = [s:Numbered(old, from, numbers), s:Numbered(new, to, numbers)]
+  const all = s:Reached(words[0], words[1], limit)
+  if empty(old) || empty(new) || (empty(all) && len(from) != len(to))
     return [[0, len(old), 0, len(new)]]
   endif
-  return mapnew(s:Way(all, len(from) - 1, len(to) - 1, limit), (_, place) => [from[place[0]], from[place[1]], to[place[2]], to[place[3]]])
+  const places = empty(all) ? s:Pairs(words[0], words[1]) : s:Way(all, len(from) - 1, len(to) - 1, limit)
+  return mapnew(places, (_, place) => [from[place[0]], from[place[1]], to[place[2]], to[place[3]]])
 enddef
 
 " How many members are equal at the front and at the end of two lists.
