@@ -9,22 +9,26 @@ use Rattle.std.proofs.lemmas.Cmp.{tied_itself, nat_cmp_total, on_total, then_tot
 use Rattle.std.proofs.lemmas.Int.{ints}
 use Rattle.rls_ident.specs.declared.tuple.Tuple.{Tuple}
 use Rattle.rls_ident.specs.declared.tuple.Tuple.TheVariants.{Low, At, High}
-use Rattle.rls_ident.specs.Tuples.{spot_cmp, tuple_cmp}
-use Rattle.rls_ident.specs.Identifiers.{IsIdent, ident_cmp, ident_eq, shifted}
+use Rattle.rls_ident.specs.Tuples.{seq_of, raised, spot_cmp, tuple_cmp}
+use Rattle.rls_ident.specs.Identifiers.{IsIdent, ident_cmp, ident_eq, last_of, shifted}
 use Rattle.rls_ident.proofs.Ends.{eq_same}
 use Rattle.rls_ident.proofs.Lists.{then_equal}
 use Rattle.rls_ident.proofs.Members.{same_bool, equal_is}
-use Rattle.rls_ident.proofs.Shifted.{shifted_none, shifted_less}
+use Rattle.rls_ident.proofs.Shifted.{last_shifted, shifted_none, shifted_less}
 use Rattle.rls_ident.proofs.Tuples.{ident_total, nat_same, tuple_same, tuples}
-use Rattle.rls_steps.specs.NameRuns.{wide_cmp}
+use Rattle.rls_steps.specs.NameRuns.{long_cmp, wide_cmp}
+
+long_total : IsTotalOrder long_cmp
+long_total = then_total (on_total (λ (x : List Tuple). length x) nat_cmp_total) ident_total
 
 pub wide_total : IsTotalOrder wide_cmp
-wide_total = then_total (on_total (λ (x : List Tuple). length x) nat_cmp_total) ident_total
+wide_total = then_total (on_total (λ (x : List Tuple). seq_of (last_of x)) nat_cmp_total) long_total
 
 pub wide_same : (x y : List Tuple) → is_eq (wide_cmp x y) ≡ ident_eq x y
 wide_same x y =
     same_bool (is_eq (wide_cmp x y)) (ident_eq x y)
-    (λ t. ap is_eq (then_equal (nat_cmp (length x) (length y)) (ident_cmp x y) (equal_is (wide_cmp x y) t)).1)
+    (λ t. let long = (then_equal (nat_cmp (seq_of (last_of x)) (seq_of (last_of y))) (long_cmp x y) (equal_is (wide_cmp x y) t)).1 in
+    ap is_eq (then_equal (nat_cmp (length x) (length y)) (ident_cmp x y) long).1)
     (λ t. subst (λ z. is_eq (wide_cmp x z) ≡ true) (eq_same x y t) (ap is_eq (tied_itself wide_total x)))
 
 -- ---- two comparisons that leave room for nothing else
@@ -95,7 +99,7 @@ shifted_length k [] = refl
 shifted_length k (t ∷ []) = refl
 shifted_length k (t ∷ (u ∷ x)) = ap suc (shifted_length k (u ∷ x))
 
--- of one length at the most if it isn't greater
+-- a number at most another, if the comparison that begins with them isn't greater
 not_longer : (m n : ℕ) (o : Ordering) → is_gt (ordering_then (nat_cmp m n) o) ≡ false → m ≤ n
 not_longer m n o h = go (nat_cmp m n) (ranked m n (nat_cmp m n) refl) h
   where
@@ -104,13 +108,13 @@ not_longer m n o h = go (nat_cmp m n) (ranked m n (nat_cmp m n) refl) h
     go Equal r e = omega (arith, r)
     go Greater r e = absurd (cc)
 
-up_to : (x z : List Tuple) → length x ≡ length z → is_gt (wide_cmp x z) ≡ false → is_gt (ident_cmp x z) ≡ false
+up_to : (x z : List Tuple) → length x ≡ length z → is_gt (long_cmp x z) ≡ false → is_gt (ident_cmp x z) ≡ false
 up_to x z n h =
     let e : nat_cmp (length x) (length z) ≡ Equal = ap (nat_cmp (length x)) (sym n) ∙ tied_itself nat_cmp_total (length x) in
     sym (ap (λ c. is_gt (ordering_then c (ident_cmp x z))) e) ∙ h
 
-pub between : (x z : List Tuple) (k : ℕ) → IsIdent x → is_gt (wide_cmp x z) ≡ false → is_gt (wide_cmp z (shifted (pos k) x)) ≡ false → (j : ℕ) × (j ≤ k) × (shifted (pos j) x ≡ z)
-between x z k i h g =
+between_long : (x z : List Tuple) (k : ℕ) → IsIdent x → is_gt (long_cmp x z) ≡ false → is_gt (long_cmp z (shifted (pos k) x)) ≡ false → (j : ℕ) × (j ≤ k) × (shifted (pos j) x ≡ z)
+between_long x z k i h g =
     let y = shifted (pos k) x in
     let long = shifted_length (pos k) x in
     let a = not_longer (length x) (length z) (ident_cmp x z) h in
@@ -126,9 +130,33 @@ between x z k i h g =
     go Less Equal p q n e f = (k, omega arith, sym (eq_same z (shifted (pos k) x) (ap is_eq q)))
     go Less Less p q n e f = mid_ident x z k i n p q
 
--- what comes later in a run isn't less
-pub on_up : (x : List Tuple) (k : ℕ) → IsIdent x → is_gt (wide_cmp x (shifted (pos k) x)) ≡ false
-on_up x k i =
+-- ---- and with the seq
+
+shifted_seq : (k : ℤ) (x : List Tuple) → seq_of (last_of (shifted k x)) ≡ seq_of (last_of x)
+shifted_seq k x = ap seq_of (last_shifted k x) ∙ go (last_of x)
+  where
+    go : (t : Tuple) → seq_of (raised k t) ≡ seq_of t
+    go Low = refl
+    go (At p r s o) = refl
+    go High = refl
+
+of_one_seq : (x z : List Tuple) → seq_of (last_of x) ≡ seq_of (last_of z) → wide_cmp x z ≡ long_cmp x z
+of_one_seq x z n =
+    let e : nat_cmp (seq_of (last_of x)) (seq_of (last_of z)) ≡ Equal = ap (nat_cmp (seq_of (last_of x))) (sym n) ∙ tied_itself nat_cmp_total (seq_of (last_of x)) in
+    ap (λ c. ordering_then c (long_cmp x z)) e
+
+pub between : (x z : List Tuple) (k : ℕ) → IsIdent x → is_gt (wide_cmp x z) ≡ false → is_gt (wide_cmp z (shifted (pos k) x)) ≡ false → (j : ℕ) × (j ≤ k) × (shifted (pos j) x ≡ z)
+between x z k i h g =
+    let y = shifted (pos k) x in
+    let same = shifted_seq (pos k) x in
+    let a = not_longer (seq_of (last_of x)) (seq_of (last_of z)) (long_cmp x z) h in
+    let b = not_longer (seq_of (last_of z)) (seq_of (last_of y)) (long_cmp z y) g in
+    let n : seq_of (last_of x) ≡ seq_of (last_of z) = omega (arith, a, b, same) in
+    let m : seq_of (last_of z) ≡ seq_of (last_of y) = omega (arith, a, b, same) in
+    between_long x z k i (sym (ap is_gt (of_one_seq x z n)) ∙ h) (sym (ap is_gt (of_one_seq z y m)) ∙ g)
+
+on_up_long : (x : List Tuple) (k : ℕ) → IsIdent x → is_gt (long_cmp x (shifted (pos k) x)) ≡ false
+on_up_long x k i =
     let y = shifted (pos k) x in
     let n : nat_cmp (length x) (length y) ≡ Equal = ap (nat_cmp (length x)) (shifted_length (pos k) x) ∙ tied_itself nat_cmp_total (length x) in
     ap (λ c. is_gt (ordering_then c (ident_cmp x y))) n ∙ go k
@@ -138,3 +166,9 @@ on_up x k i =
     go (suc m) =
         let l = (shifted_less (pos 0) (pos (suc m)) x i (omega (arith, ints))).less in
         sym (ap (λ z. is_gt (ident_cmp z (shifted (pos (suc m)) x))) (shifted_none x)) ∙ ap is_gt l
+
+-- what comes later in a run isn't less
+pub on_up : (x : List Tuple) (k : ℕ) → IsIdent x → is_gt (wide_cmp x (shifted (pos k) x)) ≡ false
+on_up x k i =
+    let y = shifted (pos k) x in
+    ap is_gt (of_one_seq x y (sym (shifted_seq (pos k) x))) ∙ on_up_long x k i

@@ -6,7 +6,7 @@ use Rattle.std.specs.Option.{IsSome}
 use Rattle.std.specs.Map.{lookup}
 use Rattle.std.specs.BTreeMap.{is_at}
 use Rattle.rls_ident.specs.declared.tuple.Tuple.{Tuple}
-use Rattle.rls_ident.specs.Tuples.{offset_of}
+use Rattle.rls_ident.specs.Tuples.{offset_of, seq_of}
 use Rattle.rls_ident.specs.Identifiers.{ident_cmp, ident_eq, IsIdent, last_of, shifted, least_offset, greatest_offset}
 use Rattle.rls_steps.specs.declared.key.Key.{Key}
 use Rattle.rls_steps.specs.Labelled.{Names}
@@ -65,8 +65,12 @@ starts_of n (r ∷ rs) = n ∷ starts_of (n + r.len) rs
 -- ---- the first identifier of each
 
 -- shorter ones first
+abbrev pub long_cmp : List Tuple → List Tuple → Ordering
+long_cmp x y = ordering_then (nat_cmp (length x) (length y)) (ident_cmp x y)
+
+-- by the seq of the last tuple, which tells most of them apart, and then shorter ones first
 abbrev pub wide_cmp : List Tuple → List Tuple → Ordering
-wide_cmp x y = ordering_then (nat_cmp (length x) (length y)) (ident_cmp x y)
+wide_cmp x y = ordering_then (nat_cmp (seq_of (last_of x)) (seq_of (last_of y))) (long_cmp x y)
 
 abbrev pub key_cmp : Key → Key → Ordering
 key_cmp a b = wide_cmp a.ident b.ident
