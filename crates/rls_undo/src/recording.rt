@@ -1,10 +1,10 @@
 //! Entries of edits.
 
-ghost use Rattle.std.specs.Prelude.{◌≡◌, ◌+◌, ◌≤◌, ◌∷◌, [], List, ℕ, ◌↔◌, Some, None, IfOk, IfErr, OnOk, IsErrOf};
+ghost use Rattle.std.specs.Prelude.{◌≡◌, ◌+◌, ◌≤◌, ◌∷◌, [], List, ℕ, ◌↔◌, Some, None, IfOk, OnOk, IsErrOf};
 ghost use Rattle.rls_ident.specs.declared.epoch_name.EpochName.{EpochName};
 ghost use Rattle.rls_ident.specs.declared.tuple.Tuple.{Tuple};
 ghost use Rattle.rls_ops.specs.declared.op.Body.TheVariants as body;
-ghost use Rattle.rls_seen.specs.Edits.{edit_fault_over, IsFault};
+ghost use Rattle.rls_seen.specs.Edits.{edit_fault_over, made_over};
 ghost use Rattle.rls_replica.specs.Names.{keeps};
 ghost use Rattle.rls_undo.specs.declared.entry.Entry.{Entry};
 ghost use Rattle.rls_undo.specs.Plans.{epoch_in, entries_by};
@@ -14,41 +14,31 @@ ghost use Rattle.rls_undo.specs.Undoing.{entry_list, entries_over, first_dropped
 use crate::entry::Entry;
 use rls_ident::{EpochName, rely};
 use rls_ops::{Body, Op};
-use rls_replica::{Edit, EditError, PastError, Replica};
+use rls_replica::{Edit, PastError, Replica};
 use rls_runs::{Run, Runs, Text};
-use std::alloc::Global;
+use std::alloc::{AllocError, Global};
 
-/// The entry that an edit leaves here, if any.
-///
-/// # Errors
-///
-/// The first fault of the edit; or `OutOfMemory`.
+/// The entry that an edit leaves, which has no fault here and makes this operation; `None` if it leaves none.
 pub(crate) fn entry_for(
     alloc: Global,
     replica: &Replica,
     edit: &Edit,
-) -> Result<Option<Entry>, EditError>
+    op: &Op,
+) -> Result<Option<Entry>, AllocError>
+    requires fits { edit_fault_over replica.now edit.now ≡ None }
+    requires op { op.now ≡ made_over replica.now edit.now }
     ensures entry { IfOk result (λ e. entry_list e ≡ entries_over replica.now edit.now) }
     ensures whole { IfOk result (λ e. AreWhole (entry_list e)) }
-    ensures fault { IfErr result (λ e. IsFault e (edit_fault_over replica.now edit.now)) }
 {
     match edit {
         Edit::Insert { .. } => {
-            let op = replica.made(edit)?;
-            match insertion(alloc, op) {
-                Err(error) => Err(error),
-                Ok(entry) => Ok(entry),
-            }
+            let entry = insertion(alloc, op)?;
+            Ok(entry)
         }
         Edit::Delete { at, count } => {
-            let op = replica.made(edit)?;
-            let Ok(gone) = replica.text_of(*at, *count) else {
-                return Err(EditError::OutOfMemory);
-            };
-            match deletion(op, gone) {
-                Err(error) => Err(error),
-                Ok(entry) => Ok(entry),
-            }
+            let gone = replica.text_of(*at, *count)?;
+            let entry = deletion(op, gone)?;
+            Ok(entry)
         }
         Edit::Rename => Ok(None),
         Edit::Leave => Ok(None),
@@ -56,51 +46,46 @@ pub(crate) fn entry_for(
 }
 
 // That of an operation that inserts.
-fn insertion(alloc: Global, op: Op) -> Result<Option<Entry>, EditError>
-    ensures entry { IfOk result (λ e. (first : List Tuple) (cs : List ℕ) → op.body ≡ body.Insert first cs → entry_list e ≡ entries_by op.epoch op.body []) }
+fn insertion(alloc: Global, op: &Op) -> Result<Option<Entry>, AllocError>
+    ensures entry { IfOk result (λ e. (first : List Tuple) (cs : List ℕ) → op.now.body ≡ body.Insert first cs → entry_list e ≡ entries_by op.now.epoch op.now.body []) }
     ensures whole { IfOk result (λ e. AreWhole (entry_list e)) }
-    ensures fault { IfErr result (λ e. e ≡ EditError.OutOfMemory) }
 {
-    let (epoch, body) = op.into_body();
-    let Body::Insert { first, text } = body else {
+    let Body::Insert { first, text } = &op.body else {
         return Ok(None);
     };
     // The identifiers of an insertion are a run, so there is always one.
     let Ok(len) = u32::try_from(text.len()) else {
-        return Err(EditError::OutOfMemory);
+        return Err(AllocError);
     };
-    let Ok(run) = Run::new(first, len) else {
-        return Err(EditError::OutOfMemory);
+    let Ok(run) = Run::new(first.copy()?, len) else {
+        return Err(AllocError);
     };
     let mut ids = Runs::new(alloc);
-    match ids.append(run) {
-        Err(_) => Err(EditError::OutOfMemory),
-        Ok(()) => Ok(Some(Entry::Inserted { epoch, ids })),
-    }
+    ids.append(run)?;
+    Ok(Some(Entry::Inserted {
+        epoch: op.epoch,
+        ids,
+    }))
 }
 
 // That of an operation that deletes these characters.
-fn deletion(op: Op, gone: Text) -> Result<Option<Entry>, EditError>
-    ensures entry { IfOk result (λ e. (targets : List (List Tuple)) → op.body ≡ body.Delete targets → entry_list e ≡ entries_by op.epoch op.body gone) }
+fn deletion(op: &Op, gone: Text) -> Result<Option<Entry>, AllocError>
+    ensures entry { IfOk result (λ e. (targets : List (List Tuple)) → op.now.body ≡ body.Delete targets → entry_list e ≡ entries_by op.now.epoch op.now.body gone) }
     ensures whole { IfOk result (λ e. AreWhole (entry_list e)) }
-    ensures fault { IfErr result (λ e. e ≡ EditError.OutOfMemory) }
 {
     rely!(let _len = gone.len());
-    let (epoch, body) = op.into_body();
-    let Body::Delete { targets } = body else {
+    let Body::Delete { targets } = &op.body else {
         return Ok(None);
     };
     if targets.total() == 0 {
         return Ok(None);
     }
-    match targets.get(0) {
-        Err(_) => Err(EditError::OutOfMemory),
-        Ok(first) => Ok(Some(Entry::Removed {
-            epoch,
-            first,
-            text: gone,
-        })),
-    }
+    let first = targets.get(0)?;
+    Ok(Some(Entry::Removed {
+        epoch: op.epoch,
+        first,
+        text: gone,
+    }))
 }
 
 /// Whether the replica keeps the epoch of each entry.
