@@ -4,7 +4,7 @@ ghost use Rattle.std.specs.Prelude.{◌≡◌, ◌+◌, ◌++◌, map, option_ma
 ghost use Rattle.rls_ident.specs.declared.epoch_name.EpochName.{EpochName};
 ghost use Rattle.rls_codec.specs.CodecLaws.{IsBytes};
 ghost use Rattle.rls_codec.specs.Reading.{message_of};
-ghost use Rattle.rls_seen.specs.Edits.{edit_fault_over};
+ghost use Rattle.rls_seen.specs.Edits.{edit_fault_over, made_over};
 ghost use Rattle.rls_seen.specs.Kept.{dropped};
 ghost use Rattle.rls_seen.specs.Over.{released_all};
 ghost use Rattle.rls_seen.specs.Sane.{IsSane};
@@ -35,6 +35,7 @@ use rls_anchor::AnchorError;
 use rls_changes::{Change, push_own, release_all};
 use rls_ident::rely;
 use rls_model::{Edit, Taken};
+use rls_ops::Op;
 use rls_replica::{PastError, Replica};
 use rls_report::{CommandError, LineFault};
 use rls_script::Line;
@@ -184,23 +185,25 @@ impl Desk {
         ensures answered { IfOk result (λ reply. IsAnswered (edited by_parts self.old (allowed self.old.state edit.now)) reply.items self.new) }
         ensures changes { IsTrue self.old.tells → OnOk result (changes.new.items ≡ changes.old.items ++ made_changes (allowed self.old.state edit.now)) }
     {
-        if let Err(error) = self.replica.made(edit) {
-            return refused(alloc, error);
-        }
-        let seq = self.record(edit)?;
+        let op = match self.replica.made(edit) {
+            Ok(op) => op,
+            Err(error) => return refused(alloc, error),
+        };
+        let seq = self.record(edit, &op)?;
         if self.tells {
             push_own(changes, edit)?;
         }
         replies::ok(alloc, seq)
     }
 
-    // Makes an edit that has no fault, with what undoes it and its steps.
-    fn record(&mut self, edit: &Edit) -> Result<u32, AllocError>
+    // Makes an edit that has no fault and makes this operation, with what undoes it and its steps.
+    fn record(&mut self, edit: &Edit, op: &Op) -> Result<u32, AllocError>
         requires fits { edit_fault_over self.old.state edit.now ≡ None }
+        requires op { op.now ≡ made_over self.old.state edit.now }
         ensures seq { IfOk result (λ n. n ≡ own_count self.old.state + 1) }
         ensures recorded { OnOk result (self.new ≡ made_sitting by_parts self.old edit.now) }
     {
-        let Ok(()) = self.undo.record(&self.replica, edit) else {
+        let Ok(()) = self.undo.record_own(&self.replica, edit, op) else {
             return Err(AllocError);
         };
         self.begin();

@@ -8,7 +8,7 @@ use Rattle.rls_session.proofs.Whole.{whole_on, whole_recorded}
 use Rattle.rls_session.proofs.desk.Desk.record.Goals as goal
 
 pub invariant_of-self-2 : goal.invariant_of-self-2
-invariant_of-self-2 c = let s = c.self.inside in whole_recorded c.record.result s.replica s.undo c.record.new.self s.cursors c.args.edit.now c.record.ensures.ok c.record.ensures.err c.self.invariant
+invariant_of-self-2 c = let s = c.self.inside in whole_recorded c.record_own.result s.replica s.undo c.record_own.new.self s.cursors c.args.edit.now c.record_own.ensures.ok c.record_own.ensures.err c.self.invariant
 
 pub invariant_of-self-3 : goal.invariant_of-self-3
 invariant_of-self-3 c = let s = c.self-2.inside in whole_on s.replica c.edit.new.replica s.undo s.cursors c.edit.ensures.names c.self-2.invariant
@@ -19,4 +19,4 @@ returns-clause-recorded c =
     let b = c.self-2.inside in
     let d = sitting_of s.replica s.undo s.cursors s.steps s.tells in
     subst (λ (x : Sitting Seen). c.keep_within.new.self ≡ made_sitting by_parts x c.args.edit.now) c.self.view_is
-    (made_said d (sitting_of b.replica b.undo b.cursors b.steps b.tells) c.keep_within.new.self c.record.new.self c.edit.new.replica c.edit.new.self c.args.edit.now (c.self-2.view_is ∙ c.begin.ensures.begun) c.in-Ok.ensures.ok c.in-Ok-edit.ensures.after c.in-Ok-edit.ensures.exact c.in_ok-keep_within.ensures.kept)
+    (made_said d (sitting_of b.replica b.undo b.cursors b.steps b.tells) c.keep_within.new.self c.record_own.new.self c.edit.new.replica c.edit.new.self c.args.edit.now (c.self-2.view_is ∙ c.begin.ensures.begun) c.in-Ok.ensures.ok c.in-Ok-edit.ensures.after c.in-Ok-edit.ensures.exact c.in_ok-keep_within.ensures.kept)
