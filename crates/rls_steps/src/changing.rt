@@ -15,6 +15,7 @@ use crate::names::Names;
 use crate::piece::{Labels, Piece, Step};
 use crate::splitting::push_parts;
 use rls_ident::rely;
+use rls_ops::Op;
 use rls_replica::{Edit, EditError, Replica};
 use rls_runs::Text;
 use std::alloc::{AllocError, Global};
@@ -43,7 +44,7 @@ pub(crate) fn cut(
 {
     let edit = Edit::Delete { at, count };
     rely!(edit.fits());
-    let _op = replica.made(&edit)?;
+    let op = replica.made(&edit)?;
     let before = names.len();
     let first = *next;
     match ready(replica, names, next, at, count) {
@@ -52,12 +53,12 @@ pub(crate) fn cut(
             *next = first;
             Err(EditError::OutOfMemory)
         }
-        Ok(piece) => match perform(replica, &edit, stack, Step { group, piece }) {
+        Ok(piece) => match perform(replica, &edit, &op, stack, Step { group, piece }) {
             Ok(seq) => Ok(seq),
-            Err(error) => {
+            Err(_) => {
                 names.truncate(before);
                 *next = first;
-                Err(error)
+                Err(EditError::OutOfMemory)
             }
         },
     }
@@ -89,7 +90,7 @@ pub(crate) fn delete(
 {
     let edit = Edit::Delete { at, count };
     rely!(edit.fits());
-    let _op = replica.made(&edit)?;
+    let op = replica.made(&edit)?;
     let before = names.len();
     let steps = stack.len();
     let first = *next;
@@ -100,13 +101,13 @@ pub(crate) fn delete(
             *next = first;
             Err(EditError::OutOfMemory)
         }
-        Ok(()) => match replica.edit(&edit) {
+        Ok(()) => match replica.accept_own(&edit, &op) {
             Ok(seq) => Ok(seq),
-            Err(error) => {
+            Err(_) => {
                 names.truncate(before);
                 stack.truncate(steps);
                 *next = first;
-                Err(error)
+                Err(EditError::OutOfMemory)
             }
         },
     }
@@ -190,25 +191,13 @@ fn put_named(
     ensures front { take (length names.old) names.new ≡ names.old }
     ensures stays { OnErr result (stack.new.items ≡ stack.old.items) }
 {
-    name_made(replica, names, edit, labels.as_slice())?;
-    let piece = Piece::Put { labels };
-    perform(replica, edit, stack, Step { group, piece })
-}
-
-// Names the characters that an edit inserts. After an error names may have been added.
-fn name_made(
-    replica: &Replica,
-    names: &mut Names,
-    edit: &Edit,
-    labels: &[u64],
-) -> Result<(), EditError>
-    ensures fault { IfErr result (λ e. IsFault e (edit_fault_over replica.now edit.now)) }
-    ensures named { OnOk result (reverse names.new ≡ zip (inserted_by (made_over replica.now edit.now).body) labels.now ++ reverse names.old) }
-    ensures front { take (length names.old) names.new ≡ names.old }
-{
     let op = replica.made(edit)?;
-    match name_inserted(names, &op, labels) {
-        Ok(()) => Ok(()),
+    if name_inserted(names, &op, labels.as_slice()).is_err() {
+        return Err(EditError::OutOfMemory);
+    }
+    let piece = Piece::Put { labels };
+    match perform(replica, edit, &op, stack, Step { group, piece }) {
+        Ok(seq) => Ok(seq),
         Err(_) => Err(EditError::OutOfMemory),
     }
 }
@@ -272,15 +261,16 @@ fn numbers(alloc: Global, first: u64, count: usize) -> Result<Vec<u64>, AllocErr
     Ok(numbers)
 }
 
-// Performs an edit, with its step on the stack.
+// Performs an edit, which makes this operation, with its step on the stack. After an error all is as before.
 fn perform(
     replica: &mut Replica,
     edit: &Edit,
+    op: &Op,
     stack: &mut Vec<Step>,
     step: Step,
-) -> Result<u32, EditError>
-    ensures fault { IfErr result (λ e. IsFault e (edit_fault_over replica.old edit.now)) }
-    ensures fits { OnOk result (edit_fault_over replica.old edit.now ≡ None) }
+) -> Result<u32, AllocError>
+    requires fits { edit_fault_over replica.old edit.now ≡ None }
+    requires op { op.now ≡ made_over replica.old edit.now }
     ensures seq { IfOk result (λ n. n ≡ own_count replica.old + 1) }
     ensures after { OnOk result (replica.new ≡ edited replica.old edit.now) }
     ensures stack { OnOk result (stack.new.items ≡ stack.old.items ++ step ∷ []) }
@@ -288,10 +278,8 @@ fn perform(
     ensures stays { OnErr result (stack.new.items ≡ stack.old.items) }
 {
     let before = stack.len();
-    if stack.push(step).is_err() {
-        return Err(EditError::OutOfMemory);
-    }
-    match replica.edit(edit) {
+    stack.push(step)?;
+    match replica.accept_own(edit, op) {
         Ok(seq) => Ok(seq),
         Err(error) => {
             stack.truncate(before);

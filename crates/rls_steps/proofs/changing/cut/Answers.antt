@@ -5,7 +5,7 @@ use Rattle.rls_steps.proofs.Unchanged.{delete_epochs}
 use Rattle.rls_steps.proofs.changing.cut.Goals as goal
 
 pub ready-requires : goal.ready-requires
-ready-requires c = record { places = (delete_place c.args.replica.now c.args.at c.args.count c.in_ok-_op.ensures.fits).0 }
+ready-requires c = record { places = (delete_place c.args.replica.now c.args.at c.args.count c.in_ok-op.ensures.fits).0 }
 
 pub returns-in-Ok-perform-clause-epochs : goal.returns-in-Ok-perform-clause-epochs
 returns-in-Ok-perform-clause-epochs c = ap (λ (s : Seen). s.epochs) c.in-Ok-perform.ensures.after ∙ delete_epochs c.args.replica.now c.args.at c.args.count
