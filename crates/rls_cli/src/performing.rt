@@ -1,11 +1,12 @@
 //! The choice between a session and a command.
 
-ghost use Rattle.std.specs.Prelude.{◌≡◌, map, string_bytes, IfSome, IsErr, IsTrue, IsFalse};
+ghost use Rattle.std.specs.Prelude.{◌≡◌, map, string_bytes, IsErr, IsTrue, IsFalse};
 ghost use Rattle.rls_io.specs.Device.{Rose};
 ghost use Rattle.rls_cli.specs.Folder.{CountsWith, faults_of};
-ghost use Rattle.rls_cli.specs.Performing.{CommandCalls, CommandEnds, begins_session};
+ghost use Rattle.rls_cli.specs.Performing.{begins_session};
 ghost use Rattle.rls_session.specs.Devices.{devices};
 ghost use Rattle.rls_session.specs.Serving.{SessionEnds};
+ghost use Rattle.rls_top.specs.Running.{CommandEnds};
 
 use crate::folder::FolderKeeper;
 use rls_io::{Keeper, Sink, Source};
@@ -27,11 +28,10 @@ pub(crate) fn perform<K: Keeper, S: Source, W: Sink, E: Sink>(
     output: &mut W,
     errors: &mut E,
 ) -> u8
-    // How it ends, and which calls of the keeper it makes.
+    // How it ends, what it leaves, and which calls it makes of which devices.
     ensures session { IsTrue (begins_session (map string_bytes words.now)) → SessionEnds K.load_gives K.store_gives ((input.new ≡ input.old) × (output.new ≡ output.old)) result keeper.old keeper.new
         (devices K.file K.faults S.left S.faults W.told W.faults keeper.old input.old output.old) (devices K.file K.faults S.left S.faults W.told W.faults keeper.new input.new output.new) }
-    ensures command { IsFalse (begins_session (map string_bytes words.now)) → CommandEnds (map string_bytes words.now) (K.file keeper.old) (S.left input.old) result }
-    ensures command_calls { IsFalse (begins_session (map string_bytes words.now)) → CommandCalls K.load_gives K.store_gives (map string_bytes words.now) (K.file keeper.old) (S.left input.old) (input.new ≡ input.old) result keeper.old keeper.new }
+    ensures command { IsFalse (begins_session (map string_bytes words.now)) → CommandEnds K.file K.faults K.load_gives K.store_gives S.left S.faults W.told W.faults (map string_bytes words.now) result keeper.old keeper.new input.old input.new output.old output.new }
 
     // The device of the status has failed.
     ensures keeper { result ≡ 7 → Rose (K.faults keeper.old) (K.faults keeper.new) }

@@ -79,14 +79,17 @@ printed c NoCommand to old new e k = absurd k
 printed c (Makes stored report refused) to old new e k = (report, some_is new (old ++ report) k, subst (λ (x : Option Command). IsIn report (messages_of x report)) (sym e) (inl refl))
 printed c (Stops x) to old new e k = absurd k
 
-pub commands_leave : CommandsLeave
-commands_leave g i words input n l =
+pub commands_leave : {K S W : Type 0} (file_of : K → Option (Option (List ℕ))) (keeper_faults : K → ℕ) (load : K → Bool → K → Type 0) (store : K → List ℕ → Bool → K → Type 0) (left_of : S → Option (List ℕ)) (input_faults : S → ℕ) (told_of : W → Option (List ℕ)) (output_faults : W → ℕ)
+    → CommandsLeave file_of keeper_faults load store left_of input_faults told_of output_faults
+commands_leave file_of keeper_faults load store left_of input_faults told_of output_faults g i words input n keeper_old keeper_new input_old input_new output_old output_new l e before given =
     let q = words_told (command_of words) (file_at g i) input in
     let d = q.0 in (
-      λ now kept stored. kept_after g i now d l (subst (λ (o : Option Due). IfSome o (λ d. IsKept d (Some (file_at g i)) (Some now))) q.1 (kept stored)) ∙ ap (λ (o : Option Due). slice_get (files_with g.files i (stored_of o)) i) (sym q.1),
-      λ now stays other. stays other,
-      λ to old new report done is.
-          let k = printed (command_of words) d to old new is (subst (λ (o : Option Due). IfSome o (λ d. IsWritten d (Some old) (Some new))) q.1 (report done)) in
+      λ now after. (
+        λ stored. kept_after g i now d l (subst (λ (o : Option Due). IfSome o (λ d. IsKept d (Some (file_at g i)) (Some now))) q.1 (rw after at (rw given at (rw before at (e.file stored))))) ∙ ap (λ (o : Option Due). slice_get (files_with g.files i (stored_of o)) i) (sym q.1),
+        λ other. rw after at (rw before at (e.stays other)),
+      ),
+      λ to old new done is told told_new.
+          let k = printed (command_of words) d to old new is (subst (λ (o : Option Due). IfSome o (λ d. IsWritten d (Some old) (Some new))) q.1 (rw told_new at (rw told at (rw given at (rw before at (e.report done)))))) in
           (k.0, k.1, in_right k.0 g.written (printed_of (command_of words) (due_of g i words input)) (subst (λ (o : Option Due). IsIn k.0 (printed_of (command_of words) o)) (sym q.1) k.2)),
     )
 

@@ -6,13 +6,14 @@ use Rattle.rls_model.specs.Receiving.{State}
 use Rattle.rls_io.specs.Device.{Appends}
 use Rattle.rls_journal.specs.Areas.{Areas, kept}
 use Rattle.rls_journal.specs.Disk.{LeavesOnly}
-use Rattle.rls_stages.specs.KeptFile.{IsFileFor, Stays}
+use Rattle.rls_stages.specs.KeptFile.{IsFileFor}
 use Rattle.rls_top.specs.declared.words.Command.TheVariants.{OnFile}
 use Rattle.rls_top.specs.declared.words.FileCommand.TheVariants.{Send}
 use Rattle.rls_top.specs.Calls as commands
 use Rattle.rls_top.specs.Due.{due}
-use Rattle.rls_top.specs.Endings.{IsDone, IsKept, IsStored, IsWritten}
+use Rattle.rls_top.specs.Endings.{IsDone, IsStored}
 use Rattle.rls_top.specs.Groups.{Group}
+use Rattle.rls_top.specs.Running.{CommandEnds}
 use Rattle.rls_top.specs.Words.{command_of}
 use Rattle.rls_session.specs.Devices.{Devices}
 use Rattle.rls_session.specs.Due as session
@@ -38,13 +39,13 @@ IsLeft g i deed now = (done : Bool) × (now ≡ file_after done g i deed)
 
 -- ---- commands
 
--- With a status with which `run` stores, the file that is kept is that of a run that is done, by its clause `file`; with any other one it is as before, if
--- the keeper tells it, by its clause `stays`. And what a `send` prints with status 0 may be handed on, by its clause `report`.
-abbrev pub CommandsLeave : Type 0
-CommandsLeave = (g : Group) (i : ℕ) (words : List (List ℕ)) (input : List ℕ) (n : ℕ) → i < length g.files → let file = Some (file_at g i) in let deed = Commands words input in
-    ((now : Option (List ℕ)) → (IsStored n → IfSome (due words file (Some input)) (λ d. IsKept d file (Some now))) → IsStored n → now ≡ file_after true g i deed)
-    × ((now : Option (List ℕ)) → ((IsStored n → ⊥) → Stays file (Some now)) → (IsStored n → ⊥) → now ≡ file_at g i)
-    × ((to : ℕ) (old new : List ℕ) → (IsDone n → IfSome (due words file (Some input)) (λ d. IsWritten d (Some old) (Some new))) → IsDone n → command_of words ≡ Some (OnFile (Send to)) →
+-- Of any command, by the clause `ends` of `run`: with a status with which it stores, the file that is kept is that of a run that is done; with any other one it is the
+-- one from before, if the keeper tells it. And what a `send` prints with status 0 may be handed on.
+abbrev pub CommandsLeave : {K S W : Type 0} → (K → Option (Option (List ℕ))) → (K → ℕ) → (K → Bool → K → Type 0) → (K → List ℕ → Bool → K → Type 0) → (S → Option (List ℕ)) → (S → ℕ) → (W → Option (List ℕ)) → (W → ℕ) → Type 0
+CommandsLeave {K} {S} {W} file_of keeper_faults load store left_of input_faults told_of output_faults = (g : Group) (i : ℕ) (words : List (List ℕ)) (input : List ℕ) (n : ℕ) (keeper_old keeper_new : K) (input_old input_new : S) (output_old output_new : W) → i < length g.files → let deed = Commands words input in
+    CommandEnds file_of keeper_faults load store left_of input_faults told_of output_faults words n keeper_old keeper_new input_old input_new output_old output_new → file_of keeper_old ≡ Some (file_at g i) → left_of input_old ≡ Some input →
+    ((now : Option (List ℕ)) → file_of keeper_new ≡ Some now → (IsStored n → now ≡ file_after true g i deed) × ((IsStored n → ⊥) → now ≡ file_at g i))
+    × ((to : ℕ) (old new : List ℕ) → IsDone n → command_of words ≡ Some (OnFile (Send to)) → told_of output_old ≡ Some old → told_of output_new ≡ Some new →
     (message : List ℕ) × (new ≡ old ++ message) × IsIn message (after_run true g i deed).written)
 
 -- ---- sessions

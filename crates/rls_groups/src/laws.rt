@@ -20,7 +20,7 @@ pub fn groups_converge()
 /// as the run leaves it that came to its end; and which of the two, by the status. A session that stores more than once is one event for each
 /// of its stores, one after another.
 pub fn runs_are_events<K: Keeper, S: Source, W: Sink>()
-    ensures commands { CommandsLeave }
+    ensures commands { CommandsLeave K.file K.faults K.load_gives K.store_gives S.left S.faults W.told W.faults }
     ensures sessions { SessionsLeave S W K.load_gives K.store_gives }
     ensures stores { StoresLeave S W K.load_gives K.store_gives }
 {}

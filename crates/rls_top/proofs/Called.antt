@@ -21,19 +21,12 @@ use Rattle.rls_top.specs.Due.{Due, Makes, Stops, calls_keeper, may_store}
 use Rattle.rls_top.specs.Due as due
 use Rattle.rls_top.specs.Endings.{IsStored}
 use Rattle.rls_top.specs.Stages.{IsAsDue, IsStatusOf, of_device, of_make}
-use Rattle.rls_top.proofs.Finishing.{for_due, unstored}
-use Rattle.rls_top.proofs.Statuses.{done_made, ended_by, keeper_fault, made_apart, made_stored, sink_fault, stored_done}
+use Rattle.rls_stages.proofs.Statuses.{not_failure}
+use Rattle.rls_top.proofs.Faults.{ended_by, failure_of, same_failure}
+use Rattle.rls_top.proofs.Finishing.{ended, for_due}
+use Rattle.rls_top.proofs.Statuses.{keeper_fault, made_apart, made_stored, sink_fault, stored_done}
 
 -- ---- which status is whose
-
-abbrev made_by : Made → Result Made Failure
-made_by made = Ok made
-
-unmade : (f : Failure) (made : Made) → ended_by f ≡ made_by made → ⊥
-unmade f made e = cc
-
-same_failure : (f g : Failure) → ended_by f ≡ ended_by g → f ≡ g
-same_failure f g e = cc
 
 -- an end by this failure isn't the keeper's
 not_keeper : (f : Failure) (n : ℕ) → IsStatusOf (Err f) n → f ≢ Fault Keeper → n ≢ 7
@@ -41,15 +34,15 @@ not_keeper f n s other e = other (same_failure f (Fault Keeper) (keeper_fault (E
 
 -- nor one after storing
 not_stored : {X : Type 0} (f : Failure) (n : ℕ) → IsStatusOf (Err f) n → f ≢ Fault Sink → IsStored n → X
-not_stored f n s other (inl e) = let m = done_made (Err f) n s (inl e) in absurd (unmade f m.0 m.1)
-not_stored f n s other (inr (inl e)) = let m = done_made (Err f) n s (inr e) in absurd (unmade f m.0 m.1)
+not_stored f n s other (inl e) = not_failure f n 0 s e refl
+not_stored f n s other (inr (inl e)) = not_failure f n 5 s e refl
 not_stored f n s other (inr (inr e)) = absurd (other (same_failure f (Fault Sink) (sink_fault (Err f) n s e)))
 
 -- ---- nothing was made
 
-pub unmade_calls : {K : Type 0} (load : K → Bool → K → Type 0) (store : K → List ℕ → Bool → K → Type 0) (c : Option words.Command) (d : Option Due) (unread : Type 0) (e : MakeError) (f : Failure) (old new : K) → f ≡ of_make e
-    → (IsFalse (calls_keeper c) → new ≡ old) → (IsTrue (calls_keeper c) → HasMade load (Err e) old new) → UnlessOpened e unread → (n : ℕ) → IsStatusOf (Err f) n → Calls load store c d unread n old new
-unmade_calls {K} load store c d unread e f old new is none made untouched n s = go (calls_keeper c) none made (λ h. h)
+pub unmade_calls : {K : Type 0} (load : K → Bool → K → Type 0) (store : K → List ℕ → Bool → K → Type 0) (c : Option words.Command) (d : Option Due) (unread : Type 0) (e : MakeError) (old new : K)
+    → (IsFalse (calls_keeper c) → new ≡ old) → (IsTrue (calls_keeper c) → HasMade load (Err e) old new) → UnlessOpened e unread → (n : ℕ) → IsStatusOf (Err (of_make e)) n → Calls load store c d unread n old new
+unmade_calls {K} load store c d unread e old new none made untouched n s = go (calls_keeper c) none made (λ h. h)
   where
     loads : (f : Failure) → load old true new → IsStatusOf (Err f) n → f ≢ Fault Keeper → f ≢ Fault Sink → Calls load store c d unread n old new
     loads f l s keeper sink = Loads l (not_keeper f n s keeper) (λ h. not_stored f n s sink h)
@@ -65,8 +58,8 @@ unmade_calls {K} load store c d unread e f old new is none made untouched n s = 
     by_error (make.Input input.SourceFault) h u s = loads (Fault Source) h s (λ e. cc) (λ e. cc)
 
     go : (b : Bool) → (IsFalse b → new ≡ old) → (IsTrue b → HasMade load (Err e) old new) → (IsFalse b → IsFalse (calls_keeper c)) → Calls load store c d unread n old new
-    go true none made same = by_error e (made refl) untouched (subst (λ (g : Failure). IsStatusOf (Err g) n) is s)
-    go false none made same = CallsNothing (none refl) (inl (same refl)) (λ h. not_stored f n s (unstored f e is) h)
+    go true none made same = by_error e (made refl) untouched s
+    go false none made same = CallsNothing (none refl) (inl (same refl)) (λ h. not_stored (of_make e) n s (failure_of e).sink h)
 
 -- ---- it was made
 
@@ -80,11 +73,6 @@ due_file made b (Makes (Some s) report refused) e m = let is = m.stored_is in cc
 nothing : {A : Type 0} (o : Option A) → o ≡ None → IsSome o → ⊥
 nothing None e p = let never : false ≡ true = p in cc
 nothing (Some x) e p = cc
-
--- how the command ends if storing and writing end so
-abbrev pub ended : Made → Result (Unit {0}) DeviceError → Result Made Failure
-ended made (Ok done) = Ok made
-ended made (Err e) = Err (of_device e)
 
 abbrev finished_by : DeviceError → Result (Unit {0}) DeviceError
 finished_by e = Err e

@@ -1,26 +1,20 @@
 -- What is stored and written of what was made.
-use Rattle.std.proofs.Common.{◌≡◌, ◌≢◌, ℕ, List, Option, Some, None, IfSome, Result, Ok, Err, refl, sym, ◌∙◌, subst}
+use Rattle.std.proofs.Common.{◌≡◌, ◌≢◌, ℕ, List, Option, Some, None, IfSome, IfErr, OnOk, Result, Ok, Err, refl, subst}
 use Rattle.rls_io.specs.Device.{Appends, Keeps, Stores}
 use Rattle.rls_io.specs.Memory.{bytes_of}
-use Rattle.rls_stages.specs.declared.errors.OpenError.TheVariants as opening
-use Rattle.rls_stages.specs.declared.errors.WorkError.TheVariants as work
 use Rattle.rls_report.specs.declared.failures.Failure.{Failure}
-use Rattle.rls_report.specs.declared.failures.Failure.TheVariants.{Command, Fault}
-use Rattle.rls_report.specs.declared.failures.Fault.TheVariants.{Keeper, Source, Sink, Memory}
+use Rattle.rls_report.specs.declared.failures.Failure.TheVariants.{Fault}
+use Rattle.rls_report.specs.declared.failures.Fault.TheVariants.{Keeper, Sink, Memory}
 use Rattle.rls_top.specs.declared.made.Made.{Made}
 use Rattle.rls_top.specs.declared.stages.DeviceError.{DeviceError}
 use Rattle.rls_top.specs.declared.stages.DeviceError.TheVariants.{KeeperFault, SinkFault, OutOfMemory}
-use Rattle.rls_top.specs.declared.stages.InputError.TheVariants as input
-use Rattle.rls_top.specs.declared.stages.MakeError.{MakeError}
-use Rattle.rls_top.specs.declared.stages.MakeError.TheVariants as make
-use Rattle.rls_top.specs.declared.words.Command as commands
-use Rattle.rls_top.specs.Due.{Due, Makes, Stops, due_of_command, due_of_words}
+use Rattle.rls_top.specs.Due.{Due, Makes, Stops}
 use Rattle.rls_top.specs.Due as due
 use Rattle.rls_stages.specs.Endings.{IsPart}
 use Rattle.rls_stages.specs.KeptFile.{LeavesFile}
 use Rattle.rls_stages.proofs.Kept.{keeps_on}
 use Rattle.rls_top.specs.Endings.{IsWritten, IsPartWritten, IsKept}
-use Rattle.rls_top.specs.Stages.{IsAsDue, Reports, Leaves, of_device, of_make}
+use Rattle.rls_top.specs.Stages.{IsAsDue, IsDue, Reports, Leaves, of_device, of_failure}
 
 -- ---- the file
 
@@ -54,59 +48,40 @@ pub for_due : (d : Option Due) (P Q : Due → Type 0) → ((d : Due) → P d →
 for_due None P Q f h = tt
 for_due (Some d) P Q f h = f d h
 
--- stored and written
-pub done_reports : (d : Option Due) (made : Made) (old new : Option (List ℕ)) → IfSome d (IsAsDue made) → Appends old new made.report.items → IfSome d (λ d. Reports (Ok made) d old new)
-done_reports d made old new m a = for_due d (IsAsDue made) (λ d. Reports (Ok made) d old new) (λ d m. written_so made d old new m a) m
+-- and what holds of each holds of it
+pub all_due : (d : Option Due) (P : Due → Type 0) → ((d : Due) → P d) → IfSome d P
+all_due None P f = tt
+all_due (Some d) P f = f d
 
-pub done_leaves : (d : Option Due) (made : Made) (old mid new : Option (Option (List ℕ))) → IfSome d (IsAsDue made) → Keeps old mid → LeavesFile (bytes_of made.stored) mid new → IfSome d (λ d. Leaves (Ok made) d old new)
-done_leaves d made old mid new m h k = for_due d (IsAsDue made) (λ d. Leaves (Ok made) d old new) (λ d m. kept_so made d old mid new m h k) m
+-- how the command ends if storing and writing end so
+abbrev pub ended : Made → Result (Unit {0}) DeviceError → Result Made Failure
+ended made (Ok done) = Ok made
+ended made (Err e) = Err (of_device e)
 
--- the end of storing and writing
-abbrev failed : DeviceError → Result (Unit {0}) DeviceError
-failed e = Err e
+module _ (d : Option Due) (made : Made) (m : IfSome d (IsAsDue made)) where
+  pub ended_due : (r : Result (Unit {0}) DeviceError) → IfSome d (IsDue of_failure (ended made r))
+  ended_due (Ok done) = m
+  ended_due (Err KeeperFault) = all_due d (IsDue of_failure (Err (Fault Keeper))) (λ d. tt)
+  ended_due (Err SinkFault) = all_due d (IsDue of_failure (Err (Fault Sink))) (λ d. tt)
+  ended_due (Err OutOfMemory) = all_due d (IsDue of_failure (Err (Fault Memory))) (λ d. tt)
 
--- stored or written in part
-pub cut_reports : (d : Option Due) (made : Made) (e : DeviceError) (f : Failure) (old new : Option (List ℕ)) → f ≡ of_device e → IfSome d (IsAsDue made) → (failed e ≡ failed SinkFault → IsPart old new made.report.items) → (e ≢ SinkFault → new ≡ old)
-    → IfSome d (λ d. Reports (Err f) d old new)
-cut_reports d made e f old new is m part none = for_due d (IsAsDue made) (λ d. Reports (Err f) d old new) (λ d m. subst (λ (f : Failure). Reports (Err f) d old new) (sym is) (go d e m part none)) m
-  where
-    go : (d : Due) (e : DeviceError) → IsAsDue made d → (failed e ≡ failed SinkFault → IsPart old new made.report.items) → (e ≢ SinkFault → new ≡ old) → Reports (Err (of_device e)) d old new
-    go d KeeperFault m part none = none (λ h. cc)
-    go d SinkFault m part none = partly_so made d old new m (part refl)
-    go d OutOfMemory m part none = none (λ h. cc)
+  pub ended_reports : (r : Result (Unit {0}) DeviceError) (old new : Option (List ℕ)) → OnOk r (Appends old new made.report.items) → (r ≡ Err SinkFault → IsPart old new made.report.items) → IfErr r (λ e. e ≢ SinkFault → new ≡ old)
+      → IfSome d (λ d. Reports (ended made r) d old new)
+  ended_reports (Ok done) old new all part none = for_due d (IsAsDue made) (λ d. Reports (Ok made) d old new) (λ d m. written_so made d old new m all) m
+  ended_reports (Err KeeperFault) old new all part none = all_due d (λ d. Reports (Err (Fault Keeper)) d old new) (λ d. none (λ h. cc))
+  ended_reports (Err SinkFault) old new all part none = for_due d (IsAsDue made) (λ d. Reports (Err (Fault Sink)) d old new) (λ d m. partly_so made d old new m (part refl)) m
+  ended_reports (Err OutOfMemory) old new all part none = all_due d (λ d. Reports (Err (Fault Memory)) d old new) (λ d. none (λ h. cc))
 
-pub cut_leaves : (d : Option Due) (made : Made) (e : DeviceError) (f : Failure) (old mid new : Option (Option (List ℕ))) → f ≡ of_device e → IfSome d (IsAsDue made) → Keeps old mid → (failed e ≡ failed SinkFault → LeavesFile (bytes_of made.stored) mid new)
-    → IfSome d (λ d. Leaves (Err f) d old new)
-cut_leaves d made e f old mid new is m h part = for_due d (IsAsDue made) (λ d. Leaves (Err f) d old new) (λ d m. subst (λ (f : Failure). Leaves (Err f) d old new) (sym is) (go d e m part)) m
-  where
-    go : (d : Due) (e : DeviceError) → IsAsDue made d → (failed e ≡ failed SinkFault → LeavesFile (bytes_of made.stored) mid new) → Leaves (Err (of_device e)) d old new
-    go d KeeperFault m part = tt
-    go d SinkFault m part = kept_so made d old mid new m h (part refl)
-    go d OutOfMemory m part = tt
-
--- what holds of what the command calls for holds of what its words call for
-pub for_command : (words : Option commands.Command) (c : commands.Command) (file : Option (Option (List ℕ))) (left : Option (List ℕ)) (P : Due → Type 0) → Some c ≡ words → IfSome (due_of_command c file left) P → IfSome (due_of_words words file left) P
-for_command words c file left P e h = subst (λ (w : Option commands.Command). IfSome (due_of_words w file left) P) e h
+  pub ended_leaves : (r : Result (Unit {0}) DeviceError) (old mid new : Option (Option (List ℕ))) → Keeps old mid → OnOk r (LeavesFile (bytes_of made.stored) mid new) → (r ≡ Err SinkFault → LeavesFile (bytes_of made.stored) mid new)
+      → IfSome d (λ d. Leaves (ended made r) d old new)
+  ended_leaves (Ok done) old mid new h all part = for_due d (IsAsDue made) (λ d. Leaves (Ok made) d old new) (λ d m. kept_so made d old mid new m h all) m
+  ended_leaves (Err KeeperFault) old mid new h all part = all_due d (λ d. Leaves (Err (Fault Keeper)) d old new) (λ d. tt)
+  ended_leaves (Err SinkFault) old mid new h all part = for_due d (IsAsDue made) (λ d. Leaves (Err (Fault Sink)) d old new) (λ d m. kept_so made d old mid new m h (part refl)) m
+  ended_leaves (Err OutOfMemory) old mid new h all part = all_due d (λ d. Leaves (Err (Fault Memory)) d old new) (λ d. tt)
 
 -- ---- nothing was made
 
--- before anything is stored the output doesn't fail
-pub unstored : (f : Failure) (e : MakeError) → f ≡ of_make e → f ≢ Fault Sink
-unstored f (make.Open (opening.Command x)) is h = let never : Command x ≡ Fault Sink = sym is ∙ h in cc
-unstored f (make.Open opening.KeeperFault) is h = let never : Fault Keeper ≡ Fault Sink = sym is ∙ h in cc
-unstored f (make.Open opening.OutOfMemory) is h = let never : Fault Memory ≡ Fault Sink = sym is ∙ h in cc
-unstored f (make.Input (input.Work (work.Command x))) is h = let never : Command x ≡ Fault Sink = sym is ∙ h in cc
-unstored f (make.Input (input.Work work.OutOfMemory)) is h = let never : Fault Memory ≡ Fault Sink = sym is ∙ h in cc
-unstored f (make.Input input.SourceFault) is h = let never : Fault Source ≡ Fault Sink = sym is ∙ h in cc
-
-unmade : (d : Due) (f : Failure) (told : Option (List ℕ)) (old new : Option (Option (List ℕ))) → f ≢ Fault Sink → Reports (Err f) d told told × Leaves (Err f) d old new
+-- an end by this failure, which isn't that of the output
+pub unmade : (d : Due) (f : Failure) (told : Option (List ℕ)) (old new : Option (Option (List ℕ))) → f ≢ Fault Sink → Reports (Err f) d told told × Leaves (Err f) d old new
 unmade d (Fault Sink) told old new other = absurd (other refl)
 unmade d _ told old new other = (refl, tt)
-
-pub unmade_reports : (d : Option Due) (e : MakeError) (f : Failure) (told : Option (List ℕ)) → f ≡ of_make e → IfSome d (λ d. Reports (Err f) d told told)
-unmade_reports None e f told is = tt
-unmade_reports (Some d) e f told is = (unmade d f told None None (unstored f e is)).0
-
-pub unmade_leaves : (d : Option Due) (e : MakeError) (f : Failure) (old new : Option (Option (List ℕ))) → f ≡ of_make e → IfSome d (λ d. Leaves (Err f) d old new)
-unmade_leaves None e f old new is = tt
-unmade_leaves (Some d) e f old new is = (unmade d f None old new (unstored f e is)).1

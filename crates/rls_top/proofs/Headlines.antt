@@ -1,5 +1,5 @@
 -- What comes of a command where the kept file stands for a history, from what it calls for.
-use Rattle.std.proofs.Common.{◌≡◌, ◌∙◌, ◌⊎◌, ◌<◌, ◌≤◌, ℕ, true, false, ltb, List, [], ◌∷◌, length, Option, Some, None, IfSome, Result, Ok, Err, IsTrue, IsFalse, refl, sym, ap, subst, arith, inl, inr}
+use Rattle.std.proofs.Common.{◌≡◌, ◌∙◌, ◌⊎◌, ◌<◌, ◌≤◌, ℕ, Bool, true, false, ltb, List, [], ◌∷◌, length, Option, Some, None, IfSome, Result, Ok, Err, IsTrue, IsFalse, refl, sym, ap, subst, arith, inl, inr}
 use Rattle.std.specs.Prelude.{encode_utf8_all, ◌&&◌, ◌==◌, nat_le, nat_lt}
 use Rattle.std.proofs.lemmas.Bool.{eqb-true}
 use Rattle.std.proofs.lemmas.Bool.Decides.{nat_tests}
@@ -59,13 +59,14 @@ use Rattle.rls_top.specs.declared.words.Command.{Command}
 use Rattle.rls_top.specs.declared.words.Command.TheVariants.{New, OnFile}
 use Rattle.rls_top.specs.declared.words.FileCommand.{FileCommand}
 use Rattle.rls_top.specs.declared.words.FileCommand.TheVariants.{Edit, Text, Ids, Stat, Send, Take, Leave}
+use Rattle.rls_top.specs.Running.{CommandEnds}
 use Rattle.rls_top.specs.Words.{command_of}
 use Rattle.rls_stages.specs.KeptFile.{loaded, replica_in, saved, IsReadBack, StandsIn, Stays}
 use Rattle.rls_top.specs.Due.{Due, Makes, Stops, due, due_at, due_of_run, due_of_taken, due_of_words, due_of_input, due_of_message, due_of_script, due_line, due_on, due_status, read, refused_lines, stores}
 use Rattle.rls_top.specs.Due as dues
 use Rattle.rls_stages.specs.Endings.{IsFault, EndsWith, Writes, or_else, own_line}
 use Rattle.rls_top.specs.Endings.{IsDone, IsKept, IsPartWritten, IsStored, IsWritten, MayStore, line_at}
-use Rattle.rls_top.specs.Headline.{Asks, IsFileTooLong, IsReadTooLong, IsTooLong, Refuses, Saves, Shows, is_for, new_state}
+use Rattle.rls_top.specs.Headline.{Asks, CommandMeans, IsFileTooLong, IsReadTooLong, IsTooLong, Refuses, Saves, Shows, is_for, new_state}
 use Rattle.rls_stages.specs.Lines.{allowed, allowed_by, fault_in, line_by, read_line, text_in}
 use Rattle.rls_top.specs.Scripts.{leave_in, script_in}
 use Rattle.rls_stages.proofs.Alike.{allowed_alike, lines_alike}
@@ -444,3 +445,33 @@ module _ {words : List (List ℕ)} {file new_file : Option (Option (List ℕ))} 
       let is : due words file left ≡ Some d = ap (λ (w : Option Command). due_of_words w file left) command ∙ (ap (λ (x : Option (Option (List ℕ))). due_of_words (Some (New group me members)) x left) missing ∙ rw (right.0, short) refl) in
       saves_so d s (new_state group me members) (new_text group me members) [] ⊥ None (inl (few, refl)) (ends_at (due words file left) d is ran.ends) missing
       (fresh_stands group me members numbers) (fresh_writable group me members)
+
+-- ---- all of it
+
+-- what a command means, by how it ended and what line it wrote
+pub means_so : {K S W : Type 0} {file_of : K → Option (Option (List ℕ))} {keeper_faults : K → ℕ} {load : K → Bool → K → Type 0} {store : K → List ℕ → Bool → K → Type 0} {left_of : S → Option (List ℕ)} {input_faults : S → ℕ} {told_of : W → Option (List ℕ)} {output_faults : W → ℕ} {fails : Type 0} {errors new_errors : Option (List ℕ)}
+    (words : List (List ℕ)) (n : ℕ) (k l : K) (i j : S) (o p : W) → CommandEnds file_of keeper_faults load store left_of input_faults told_of output_faults words n k l i j o p
+    → IfSome (line_at (due words (file_of k) (left_of i)) n) (λ line. Writes fails errors new_errors line) → CommandMeans words n (file_of k) (file_of l) (left_of i) (told_of o) (told_of p) fails errors new_errors
+means_so {K} {S} {W} {file_of} {keeper_faults} {load} {store} {left_of} {input_faults} {told_of} {output_faults} {fails} {errors} {new_errors} words n k l i j o p e line =
+    let ran : Ran words (file_of k) (file_of l) (left_of i) n (told_of o) (told_of p) fails errors new_errors = record {
+      ends = record { status = e.status; report = e.report; partly = e.partly; keeps = e.file; line = line };
+      nothing = e.nothing;
+      stays = e.stays;
+      unstored = e.unstored;
+    } in
+    record {
+      text = λ t bytes a. text_shown ran a;
+      ids = λ t bytes a. ids_shown ran a;
+      stat = λ t bytes a. stat_shown ran a;
+      send = λ t bytes to a h. message_shown ran a h;
+      edit = λ t bytes script lines p a l parsed ended. edits_saved ran script lines p a l parsed ended;
+      leave = λ t bytes p a ended. leave_saved ran p a ended;
+      take = λ t bytes given m a l is right. message_saved ran given m a l is right;
+      new = new_saved ran;
+      send_refused = λ t bytes to a l. send_refused ran a l;
+      script_refused = λ t bytes script k a l parsed. script_refused ran script k a l parsed;
+      edit_refused = λ t bytes script lines k fault a l parsed ended. edits_refused ran script lines k fault a l parsed ended;
+      leave_refused = λ t bytes k fault a ended. leave_refused ran k fault a ended;
+      bytes_refused = λ t bytes given at a l malformed. bytes_refused ran given at a l malformed;
+      message_refused = λ t bytes given m a l is other. message_refused ran given m a l is other;
+    }

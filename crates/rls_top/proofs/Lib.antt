@@ -1,6 +1,8 @@
 pub mod Alike
 mod Called
+mod Closing
 mod EditsAlone
+mod Faults
 mod Finishing
 mod Fresh
 pub mod GroupCommands

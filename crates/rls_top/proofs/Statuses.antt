@@ -15,13 +15,10 @@ use Rattle.rls_stages.specs.Endings.{IsFault}
 use Rattle.rls_stages.proofs.Statuses.{apart, at_most, failure_at_1, failure_at_7, failure_at_8, failure_at_9, failure_below_twelve, failure_line_told, not_failure}
 use Rattle.rls_top.specs.Endings.{IsDone, IsStored, IsWritten, IsPartWritten, IsKept, MayStore, line_at}
 use Rattle.rls_top.specs.Stages.{IsAsDue, IsDue, IsEarly, IsStatusOf, Leaves, Reports, line_of, of_failure}
+use Rattle.rls_top.proofs.Faults.{ended_by}
 use Rattle.rls_top.proofs.Finishing.{for_due}
 
 -- ---- which status is whose
-
--- an end by this failure
-abbrev pub ended_by : Failure → Result Made Failure
-ended_by f = Err f
 
 -- the status of what was made
 pub made_apart : {X : Type 0} (b : Bool) (n k : ℕ) → n ≡ cond b 0 5 → n ≡ k → eqb 0 k ≡ false → eqb 5 k ≡ false → X

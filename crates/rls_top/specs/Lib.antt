@@ -4,5 +4,6 @@ pub mod Due
 pub mod Endings
 pub mod Stages
 pub mod Calls
+pub mod Running
 pub mod Headline
 pub mod Groups

@@ -1,19 +1,18 @@
 //! What a command makes.
 
-ghost use Rattle.std.specs.Prelude.{◌≡◌, ◌≢◌, ◌≤◌, [], Option, Some, None, Err, IfOk, OnOk, IfErr, IfSome, IsErr, IsSome, IsTrue, IsFalse};
+ghost use Rattle.std.specs.Prelude.{◌≡◌, ◌≢◌, ◌≤◌, [], Some, Err, IfOk, IfErr, IfSome, IsErr, IsSome, IsTrue, IsFalse};
 ghost use Rattle.rls_io.specs.Device.{Rose, Keeps};
-ghost use Rattle.rls_top.specs.declared.words.Command.TheVariants as commands;
-ghost use Rattle.rls_top.specs.Due.{due_at, due_of_command, due_of_file, due_of_fresh, due_of_new, error_of_numbers, calls_keeper, may_store, reads_input, stores};
-ghost use Rattle.rls_top.specs.Endings.{IsSentBy, SendsMessage};
-ghost use Rattle.rls_top.specs.Stages.{IsUncalled, IsDue, of_input, of_make};
-ghost use Rattle.rls_stages.specs.KeptFile.{IsUsable, loaded, saved};
 ghost use Rattle.rls_report.specs.Reports.{new_text};
 ghost use Rattle.rls_seen.specs.Sane.{IsSane};
 ghost use Rattle.rls_seen.specs.Seen.{fresh};
 ghost use Rattle.rls_store.specs.Stored.{AreWritable};
-ghost use Rattle.rls_stages.specs.Errors.{of_open, of_work};
 ghost use Rattle.rls_stages.specs.Calls.{HasLoaded};
-ghost use Rattle.rls_top.specs.Calls.{HasMade, UnlessOpened};
+ghost use Rattle.rls_stages.specs.Errors.{of_open, of_work};
+ghost use Rattle.rls_stages.specs.KeptFile.{loaded, saved};
+ghost use Rattle.rls_top.specs.declared.words.Command.TheVariants as commands;
+ghost use Rattle.rls_top.specs.Due.{due_of_fresh, due_of_new, error_of_numbers, calls_keeper, stores};
+ghost use Rattle.rls_top.specs.Running.{MakeEnds, WorkEnds};
+ghost use Rattle.rls_top.specs.Stages.{IsDue};
 
 use crate::editing::{edit, leave};
 use crate::made::{Made, saving};
@@ -36,19 +35,7 @@ pub(crate) fn make<K: Keeper, S: Source>(
     keeper: &mut K,
     input: &mut S,
 ) -> Result<Made, MakeError>
-    ensures due { IfSome (due_of_command command (K.file keeper.old) (S.left input.old)) (IsDue of_make result) }
-    ensures keeper { result ≡ Err (MakeError.Open OpenError.KeeperFault) → Rose (K.faults keeper.old) (K.faults keeper.new) }
-    ensures uncounted { result ≢ Err (MakeError.Open OpenError.KeeperFault) → K.faults keeper.new ≡ K.faults keeper.old }
-    ensures input { result ≡ Err (MakeError.Input InputError.SourceFault) → IsTrue (reads_input (Some command)) × IfSome (K.file keeper.old) IsUsable × Rose (S.faults input.old) (S.faults input.new) }
-    ensures never_falls { K.faults keeper.old ≤ K.faults keeper.new }
-    ensures kept { Keeps (K.file keeper.old) (K.file keeper.new) }
-    ensures uncalled { IsFalse (calls_keeper (Some command)) → IsUncalled result keeper.old keeper.new }
-    ensures unstored { IsFalse (may_store (Some command)) → IfOk result (λ made. made.stored ≡ None) }
-    ensures unread { IsFalse (reads_input (Some command)) → input.new ≡ input.old }
-    ensures storing { IsTrue (may_store (Some command)) → IfOk result (λ made. IsSome made.stored) }
-    ensures calls { IsTrue (calls_keeper (Some command)) → HasMade K.load_gives result keeper.old keeper.new }
-    ensures sent { OnOk result (SendsMessage (Some command) (K.file keeper.old)) }
-    ensures unopened { IfErr result (λ e. UnlessOpened e (input.new ≡ input.old)) }
+    ensures ends { MakeEnds K.file K.faults K.load_gives S.left S.faults command result keeper.old keeper.new input.old input.new }
 {
     match command {
         Command::New { group, me, members } => {
@@ -150,18 +137,7 @@ fn make_on_file<K: Keeper, S: Source>(
     keeper: &mut K,
     input: &mut S,
 ) -> Result<Made, MakeError>
-    ensures due { IfSome (due_of_file command (K.file keeper.old) (S.left input.old)) (IsDue of_make result) }
-    ensures keeper { result ≡ Err (MakeError.Open OpenError.KeeperFault) → Rose (K.faults keeper.old) (K.faults keeper.new) }
-    ensures uncounted { result ≢ Err (MakeError.Open OpenError.KeeperFault) → K.faults keeper.new ≡ K.faults keeper.old }
-    ensures input { result ≡ Err (MakeError.Input InputError.SourceFault) → IsTrue (reads_input (Some (commands.OnFile command))) × IfSome (K.file keeper.old) IsUsable × Rose (S.faults input.old) (S.faults input.new) }
-    ensures never_falls { K.faults keeper.old ≤ K.faults keeper.new }
-    ensures kept { Keeps (K.file keeper.old) (K.file keeper.new) }
-    ensures unstored { IsFalse (may_store (Some (commands.OnFile command))) → IfOk result (λ made. made.stored ≡ None) }
-    ensures unread { IsFalse (reads_input (Some (commands.OnFile command))) → input.new ≡ input.old }
-    ensures storing { IsTrue (may_store (Some (commands.OnFile command))) → IfOk result (λ made. IsSome made.stored) }
-    ensures calls { HasMade K.load_gives result keeper.old keeper.new }
-    ensures sent { OnOk result (SendsMessage (Some (commands.OnFile command)) (K.file keeper.old)) }
-    ensures unopened { IfErr result (λ e. UnlessOpened e (input.new ≡ input.old)) }
+    ensures ends { MakeEnds K.file K.faults K.load_gives S.left S.faults (commands.OnFile command) result keeper.old keeper.new input.old input.new }
 {
     match open(alloc, keeper) {
         Err(error) => Err(MakeError::from(error)),
@@ -181,12 +157,7 @@ fn make_of<S: Source>(
 ) -> Result<Made, InputError>
     requires sane { IsSane replica.old }
     requires writable { AreWritable replica.old }
-    ensures due { IfSome (due_at command replica.old (S.left input.old)) (IsDue of_input result) }
-    ensures input { result ≡ Err InputError.SourceFault → IsTrue (reads_input (Some (commands.OnFile command))) × Rose (S.faults input.old) (S.faults input.new) }
-    ensures unstored { IsFalse (may_store (Some (commands.OnFile command))) → IfOk result (λ made. made.stored ≡ None) }
-    ensures unread { IsFalse (reads_input (Some (commands.OnFile command))) → input.new ≡ input.old }
-    ensures storing { IsTrue (may_store (Some (commands.OnFile command))) → IfOk result (λ made. IsSome made.stored) }
-    ensures sent { OnOk result (IsSentBy command replica.old) }
+    ensures ends { WorkEnds S.left S.faults command replica.old result input.old input.new }
 {
     let made = match command {
         FileCommand::Text => show_text(alloc, replica)?,

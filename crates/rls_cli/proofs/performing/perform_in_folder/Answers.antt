@@ -12,4 +12,4 @@ returns-clause-keeper g c = counts_with c.perform.result (faults_of c.args.keepe
     go : (b : Bool) → begins_session (map string_bytes c.args.words.now) ≡ b
         → (faults_of c.perform.new.keeper ≡ faults_of c.args.keeper.now) ⊎ (IsKeepersStatus c.perform.result × (faults_of c.perform.new.keeper ≡ one_more (faults_of c.args.keeper.now)))
     go true h = counted_session ((c.perform.ensures.session h).calls)
-    go false h = counted (c.perform.ensures.command_calls h)
+    go false h = counted ((c.perform.ensures.command h).calls)
