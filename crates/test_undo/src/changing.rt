@@ -1,5 +1,6 @@
 //! What changes in the text: two members who take each other's messages, of whom the first has entries of undo and steps besides.
 
+use crate::pairs::shows;
 use rls_changes::{Change, push_own, take, take_bytes, undo};
 use rls_ops::{Message, Ops};
 use rls_replica::Replica;
@@ -7,6 +8,7 @@ use rls_steps::Steps;
 use rls_sync::message_bytes;
 use rls_undo::Undo;
 use std::alloc::{AllocError, Global};
+use std::fmt::Debug;
 use std::test::Fail;
 use test_steps::rows::{all_go_within, change_of, cut, first_fault, word};
 use test_steps::steps::{edit_of, letter};
@@ -99,10 +101,17 @@ fn lines_of(alloc: Global, changes: &[Change]) -> Result<String, AllocError> {
     Ok(lines)
 }
 
-/// The lines, and the error after them.
-fn lines_and(alloc: Global, changes: &[Change], error: &str) -> Result<String, AllocError> {
+/// The lines, and the error after them if there is one.
+fn lines_and<T: Drop, E: Debug + Drop>(
+    alloc: Global,
+    changes: &[Change],
+    answer: Result<T, E>,
+) -> Result<String, AllocError> {
     let mut lines = lines_of(alloc, changes)?;
-    lines.push_str(error)?;
+    if let Err(error) = answer {
+        let error = format!(in alloc; "{error:?}")?;
+        lines.push_str(&error)?;
+    }
     Ok(lines)
 }
 
@@ -119,13 +128,8 @@ fn takes(alloc: Global, replica: &mut Replica, message: Message) -> Result<Strin
 /// The same of a message as bytes, or why they are none.
 fn takes_bytes(alloc: Global, replica: &mut Replica, bytes: &[u8]) -> Result<String, AllocError> {
     let mut changes = Vec::new(alloc);
-    match take_bytes(alloc, replica, bytes, &mut changes) {
-        Ok(_) => lines_of(alloc, &changes),
-        Err(error) => {
-            let error = format!(in alloc; "{error:?}")?;
-            lines_and(alloc, &changes, &error)
-        }
-    }
+    let answer = take_bytes(alloc, replica, bytes, &mut changes);
+    lines_and(alloc, &changes, answer)
 }
 
 fn gives(alloc: Global, from: &Replica, to: &mut Replica) -> Result<String, Fail> {
@@ -205,13 +209,8 @@ fn steps(
 /// What an undo changes, or why nothing or not all is undone.
 fn undoes(alloc: Global, entries: &mut Undo, replica: &mut Replica) -> Result<String, AllocError> {
     let mut changes = Vec::new(alloc);
-    match undo(entries, replica, &mut changes) {
-        Ok(_) => lines_of(alloc, &changes),
-        Err(error) => {
-            let error = format!(in alloc; "{error:?}")?;
-            lines_and(alloc, &changes, &error)
-        }
-    }
+    let answer = undo(entries, replica, &mut changes);
+    lines_and(alloc, &changes, answer)
 }
 
 /// The same of a group of steps.
@@ -221,13 +220,8 @@ fn goes_back(
     replica: &mut Replica,
 ) -> Result<String, AllocError> {
     let mut changes = Vec::new(alloc);
-    match steps.undo(replica, &mut changes) {
-        Ok(_) => lines_of(alloc, &changes),
-        Err(error) => {
-            let error = format!(in alloc; "{error:?}")?;
-            lines_and(alloc, &changes, &error)
-        }
-    }
+    let answer = steps.undo(replica, &mut changes);
+    lines_and(alloc, &changes, answer)
 }
 
 /// And of one that is done again.
@@ -237,13 +231,8 @@ fn goes_again(
     replica: &mut Replica,
 ) -> Result<String, AllocError> {
     let mut changes = Vec::new(alloc);
-    match steps.redo(replica, &mut changes) {
-        Ok(_) => lines_of(alloc, &changes),
-        Err(error) => {
-            let error = format!(in alloc; "{error:?}")?;
-            lines_and(alloc, &changes, &error)
-        }
-    }
+    let answer = steps.redo(replica, &mut changes);
+    lines_and(alloc, &changes, answer)
 }
 
 /// An edit of a member.
@@ -285,11 +274,6 @@ fn returned(alloc: Global, pair: &mut Pair, what: &Move) -> Result<String, Alloc
             Ok(String::new(alloc))
         }
     }
-}
-
-/// Whether the replica shows this text.
-fn shows(replica: &Replica, text: &str) -> Result<bool, Fail> {
-    Ok(replica.text()?.to_utf8()?.as_str() == text)
 }
 
 /// Whether the move changes this.

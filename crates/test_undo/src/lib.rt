@@ -8,6 +8,8 @@ mod courses;
 #[cfg(test)]
 mod following;
 #[cfg(test)]
+mod pairs;
+#[cfg(test)]
 mod stepping;
 #[cfg(test)]
 mod together;

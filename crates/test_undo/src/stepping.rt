@@ -1,12 +1,12 @@
 //! Undo by steps: two members, of whom the first keeps steps.
 
+use crate::pairs::{Pair, Row, drop_stable, fault_among, give, pass};
 use rls_replica::{PastError, Replica};
 use rls_steps::{StepError, Steps};
 use std::alloc::{AllocError, Global};
 use std::test::Fail;
-use test_steps::answers::edited;
-use test_steps::rows::{all_go_within, change_of, cut, first_fault, number, word};
-use test_steps::steps::{Change, edit_of, letter, takes};
+use test_steps::rows::{all_go_within, change_of, number, word};
+use test_steps::steps::{Change, edit_of};
 
 /// What is done.
 #[derive(Clone, Copy)]
@@ -36,9 +36,6 @@ enum Move {
     Keep(usize, u64),
     Settle,
 }
-
-/// A move, its answer, and the text that the first member then shows, with ` | ` between them.
-type Row = &'static str;
 
 /// The move: `edit`, `pass` or `other` with an edit after it, `forget 2 100`, `keep 2 100`, or the words for the others.
 fn move_of(words: &'static str) -> Result<Move, Fail> {
@@ -84,7 +81,7 @@ fn plain_move(words: &str) -> Option<Move> {
 
 /// The two members, and the steps of the first one.
 #[derive(Drop)]
-struct Pair {
+struct Steppers {
     first: Replica,
     second: Replica,
     steps: Steps,
@@ -120,23 +117,6 @@ pub(crate) fn edit(
 ) -> Result<String, AllocError> {
     let edit = edit_of(alloc, change)?;
     text_of_edit(alloc, steps.edit(replica, &edit))
-}
-
-/// An edit that is no step.
-pub(crate) fn pass(
-    alloc: Global,
-    replica: &mut Replica,
-    change: Change,
-) -> Result<String, AllocError> {
-    let edit = edit_of(alloc, change)?;
-    edited(alloc, replica.edit(&edit))
-}
-
-/// The one's message is taken by the other.
-pub(crate) fn give(alloc: Global, from: &Replica, to: &mut Replica) -> Result<String, Fail> {
-    let message = letter(from, to)?;
-    let taken = takes(to, message)?.is_ok();
-    Ok(format!(in alloc; "{taken}")?)
 }
 
 pub(crate) fn undo(
@@ -176,13 +156,8 @@ fn forget(alloc: Global, steps: &mut Steps, most: usize, chars: u64) -> Result<S
     String::from_str(alloc, "forgotten")
 }
 
-fn drop_stable(alloc: Global, replica: &mut Replica) -> Result<String, AllocError> {
-    replica.drop_stable();
-    String::from_str(alloc, "dropped")
-}
-
 /// Does what changes the text of a member.
-fn change(alloc: Global, pair: &mut Pair, what: &Move) -> Result<String, Fail> {
+fn change(alloc: Global, pair: &mut Steppers, what: &Move) -> Result<String, Fail> {
     match what {
         Move::Edit(change) => Ok(edit(alloc, &mut pair.steps, &mut pair.first, *change)?),
         Move::Pass(change) => Ok(pass(alloc, &mut pair.first, *change)?),
@@ -196,7 +171,7 @@ fn change(alloc: Global, pair: &mut Pair, what: &Move) -> Result<String, Fail> {
 }
 
 /// Does what doesn't.
-fn look(alloc: Global, pair: &mut Pair, what: &Move) -> Result<String, AllocError> {
+fn look(alloc: Global, pair: &mut Steppers, what: &Move) -> Result<String, AllocError> {
     match what {
         Move::Drop => drop_stable(alloc, &mut pair.first),
         Move::Close => close(alloc, &mut pair.steps),
@@ -211,34 +186,19 @@ fn look(alloc: Global, pair: &mut Pair, what: &Move) -> Result<String, AllocErro
     }
 }
 
-/// Whether the move is answered so.
-fn is_answered(alloc: Global, pair: &mut Pair, what: &Move, expected: &str) -> Result<bool, Fail> {
-    Ok(change(alloc, pair, what)?.as_str() == expected)
-}
+impl Pair for Steppers {
+    fn play(&mut self, alloc: Global, words: &'static str) -> Result<String, Fail> {
+        change(alloc, self, &move_of(words)?)
+    }
 
-/// Whether the replica shows this text.
-pub(crate) fn shows(replica: &Replica, text: &str) -> Result<bool, Fail> {
-    Ok(replica.text()?.to_utf8()?.as_str() == text)
-}
-
-/// Whether the move goes as it has to.
-fn goes(alloc: Global, pair: &mut Pair, row: Row) -> Result<bool, Fail> {
-    let (words, rest) = cut(row)?;
-    let (expected, text) = cut(rest)?;
-    let what = move_of(words)?;
-    match is_answered(alloc, pair, &what, expected)? {
-        true => shows(&pair.first, text),
-        false => Ok(false),
+    fn first(&self) -> &Replica {
+        &self.first
     }
 }
 
-fn fault_among(alloc: Global, pair: &mut Pair, rows: &[Row]) -> Result<Option<usize>, Fail> {
-    first_fault(rows, |row| goes(alloc, pair, *row))
-}
-
 /// Two fresh members of group 7, of which the first knows of this many.
-fn pair_of(alloc: Global, members: u32) -> Result<Pair, Fail> {
-    Ok(Pair {
+fn pair_of(alloc: Global, members: u32) -> Result<Steppers, Fail> {
+    Ok(Steppers {
         first: Replica::new(alloc, 7, 0, members)?,
         second: Replica::new(alloc, 7, 1, 2)?,
         steps: Steps::new(alloc),

@@ -1,6 +1,7 @@
 //! Undo by steps at three members who edit and rename at the same time.
 
-use crate::stepping::{close, count, edit, give, pass, redo, shows, undo};
+use crate::pairs::{give, pass, shows};
+use crate::stepping::{close, count, edit, redo, undo};
 use rls_replica::Replica;
 use rls_steps::Steps;
 use std::alloc::Global;

@@ -1,13 +1,14 @@
 //! Undo and cursors: two members, of whom the first has entries and an anchor.
 
+use crate::pairs::{Pair, Row, drop_stable, fault_among, give, pass};
 use rls_anchor::{Anchor, AnchorError};
 use rls_replica::{PastError, Replica};
 use rls_undo::{Undo, UndoError, Undone};
 use std::alloc::{AllocError, Global};
 use std::test::Fail;
 use test_steps::answers::edited;
-use test_steps::rows::{all_go_within, change_of, cut, first_fault, number, word};
-use test_steps::steps::{Change, edit_of, letter, takes};
+use test_steps::rows::{all_go_within, change_of, number, word};
+use test_steps::steps::{Change, edit_of};
 
 /// What is done.
 #[derive(Clone, Copy)]
@@ -37,9 +38,6 @@ enum Move {
     Show,
     SettleAnchor,
 }
-
-/// A move, its answer, and the text that the first member then shows, with ` | ` between them.
-type Row = &'static str;
 
 /// The move: `edit`, `pass` or `other` with an edit after it, `set 3` or `before 3`, or the words for the others.
 fn move_of(words: &'static str) -> Result<Move, Fail> {
@@ -72,7 +70,7 @@ fn plain_move(words: &str) -> Option<Move> {
 
 /// The two members, and what the first one keeps.
 #[derive(Drop)]
-struct Pair {
+struct Undoers {
     first: Replica,
     second: Replica,
     undo: Undo,
@@ -135,31 +133,13 @@ fn edit(
     edited(alloc, undo.edit(replica, &edit))
 }
 
-/// An edit that leaves none.
-fn pass(alloc: Global, replica: &mut Replica, change: Change) -> Result<String, AllocError> {
-    let edit = edit_of(alloc, change)?;
-    edited(alloc, replica.edit(&edit))
-}
-
-/// The one's message is taken by the other.
-fn give(alloc: Global, from: &Replica, to: &mut Replica) -> Result<String, Fail> {
-    let message = letter(from, to)?;
-    let taken = takes(to, message)?.is_ok();
-    Ok(format!(in alloc; "{taken}")?)
-}
-
 fn skip(alloc: Global, undo: &mut Undo) -> Result<String, AllocError> {
     let some = undo.skip();
     format!(in alloc; "{some}")
 }
 
-fn drop_stable(alloc: Global, replica: &mut Replica) -> Result<String, AllocError> {
-    replica.drop_stable();
-    String::from_str(alloc, "dropped")
-}
-
 /// Does what changes the text of a member.
-fn change(alloc: Global, pair: &mut Pair, what: &Move) -> Result<String, Fail> {
+fn change(alloc: Global, pair: &mut Undoers, what: &Move) -> Result<String, Fail> {
     match what {
         Move::Edit(change) => Ok(edit(alloc, &mut pair.undo, &mut pair.first, *change)?),
         Move::Pass(change) => Ok(pass(alloc, &mut pair.first, *change)?),
@@ -172,7 +152,7 @@ fn change(alloc: Global, pair: &mut Pair, what: &Move) -> Result<String, Fail> {
 }
 
 /// Does what doesn't.
-fn look(alloc: Global, pair: &mut Pair, what: &Move) -> Result<String, AllocError> {
+fn look(alloc: Global, pair: &mut Undoers, what: &Move) -> Result<String, AllocError> {
     match what {
         Move::Drop => drop_stable(alloc, &mut pair.first),
         Move::Skip => skip(alloc, &mut pair.undo),
@@ -185,34 +165,19 @@ fn look(alloc: Global, pair: &mut Pair, what: &Move) -> Result<String, AllocErro
     }
 }
 
-/// Whether the move is answered so.
-fn is_answered(alloc: Global, pair: &mut Pair, what: &Move, expected: &str) -> Result<bool, Fail> {
-    Ok(change(alloc, pair, what)?.as_str() == expected)
-}
+impl Pair for Undoers {
+    fn play(&mut self, alloc: Global, words: &'static str) -> Result<String, Fail> {
+        change(alloc, self, &move_of(words)?)
+    }
 
-/// Whether the replica shows this text.
-fn shows(replica: &Replica, text: &str) -> Result<bool, Fail> {
-    Ok(replica.text()?.to_utf8()?.as_str() == text)
-}
-
-/// Whether the move goes as it has to.
-fn goes(alloc: Global, pair: &mut Pair, row: Row) -> Result<bool, Fail> {
-    let (words, rest) = cut(row)?;
-    let (expected, text) = cut(rest)?;
-    let what = move_of(words)?;
-    match is_answered(alloc, pair, &what, expected)? {
-        true => shows(&pair.first, text),
-        false => Ok(false),
+    fn first(&self) -> &Replica {
+        &self.first
     }
 }
 
-fn fault_among(alloc: Global, pair: &mut Pair, rows: &[Row]) -> Result<Option<usize>, Fail> {
-    first_fault(rows, |row| goes(alloc, pair, *row))
-}
-
 /// Two fresh members of group 7, of which the first knows of this many.
-fn pair_of(alloc: Global, members: u32) -> Result<Pair, Fail> {
-    Ok(Pair {
+fn pair_of(alloc: Global, members: u32) -> Result<Undoers, Fail> {
+    Ok(Undoers {
         first: Replica::new(alloc, 7, 0, members)?,
         second: Replica::new(alloc, 7, 1, 2)?,
         undo: Undo::new(alloc),
