@@ -66,17 +66,10 @@ ok_is_not_err x e h = cc
 
 -- ---- edits
 
-pub edit_said : (d e : Sitting Seen) (edit : Edit) (seq : ℕ) (reply : List ℕ) → edit_fault_over d.state edit ≡ None → seq ≡ own_count d.state + 1
-    → e ≡ made_sitting by_parts d edit → reply ≡ ok_text seq → IsAnswered (edited by_parts d (allowed d.state edit)) reply e
-edit_said d e edit seq reply none number is text = rw none (record { reply_is = text ∙ ap ok_text number; state_is = is })
-
 pub edit_refused : (d e : Sitting Seen) (edit : Edit) (error : EditError) (reply : List ℕ) → IsFault error (edit_fault_over d.state edit) → TellsFault error reply → e ≡ d
     → IsAnswered (edited by_parts d (allowed d.state edit)) reply e
 edit_refused d e edit errors.OutOfMemory reply fault told is = absurd told
 edit_refused d e edit error reply fault told is = rw fault (record { reply_is = told; state_is = is })
-
-pub line_refused : (d e : Sitting Seen) (r : Result Edit LineFault) (fault : LineFault) (reply : List ℕ) → r ≡ Err fault → e ≡ d → reply ≡ refused_text fault → IsAnswered (edited by_parts d r) reply e
-line_refused d e r fault reply is same text = rw is (record { reply_is = text; state_is = same })
 
 -- ---- undoing
 
@@ -137,11 +130,6 @@ pub nothing_said : (d e : Sitting Seen) (reply : List ℕ) → d.entries ≡ [] 
 nothing_said d e reply none is text =
     let last : last_of d.entries ≡ None = ap last_of none in
     subst (λ (o : Option Entry). IsAnswered (undone by_parts d o) reply e) (sym last) (record { reply_is = text; state_is = is })
-
--- what was undone changed what was planned
-pub undone_planned : (s : Seen) (o : Option Entry) → planned_changes s o ≡ undone_changes by_parts s o
-undone_planned s None = refl
-undone_planned s (Some entry) = refl
 
 -- sittings are the same if their parts are
 pub same_sitting : (s t : Seen) (xs ys : List Entry) (a : List Cursor) (r : Recorded) (b : Bool) → s ≡ t → xs ≡ ys → sitting_of s xs a r b ≡ sitting_of t ys a r b
@@ -250,18 +238,3 @@ pub sent_none : (s : Seen) (to : ℕ) → members s ≤ to → failed_text (NotM
 sent_none s to h =
     let test : ltb to (members s) ≡ false = grind (arith, nat_tests) in
     rw test refl
-
-pub malformed_said : (d e : Sitting Seen) (r : Result Message ℕ) (at : ℕ) (reply : List ℕ) → r ≡ Err at → e ≡ d → reply ≡ failed_text (Malformed at) → IsAnswered (taken by_parts d r) reply e
-malformed_said d e r at reply is same text = rw is (record { reply_is = text; state_is = same })
-
-pub foreign_said : (d e : Sitting Seen) (r : Result Message ℕ) (m : Message) (g n : ℕ) (reply : List ℕ) → r ≡ Ok m → IsForeign d.state m → g ≡ m.group → n ≡ m.members → e ≡ d → reply ≡ failed_text (OtherGroup g n)
-    → IsAnswered (taken by_parts d r) reply e
-foreign_said d e r m g n reply is foreign group count same text =
-    let said : failed_text (OtherGroup g n) ≡ failed_text (OtherGroup m.group m.members) = rw (group, count) refl in
-    rw (is, not_for d.state m foreign) (record { reply_is = text ∙ said; state_is = same })
-
-pub taken_said : (d e : Sitting Seen) (r : Result Message ℕ) (m : Message) (found : Taken) (reply : List ℕ) → r ≡ Ok m → (IsForeign d.state m → ⊥) → found ≡ taken_of (taken_over d.state m) → e ≡ with_state d (taken_over d.state m).state
-    → reply ≡ take_text found.applied found.released found.repeated found.held (length found.refused) → IsAnswered (taken by_parts d r) reply e
-taken_said d e r m found reply is ours counts same text =
-    let said = text ∙ ap (λ (f : Taken). take_text f.applied f.released f.repeated f.held (length f.refused)) counts in
-    rw (is, is_ours d.state m ours) (record { reply_is = said; state_is = same })

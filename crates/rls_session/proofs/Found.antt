@@ -165,19 +165,6 @@ line_near a0 a (Some xs) (Some rest) keeps ahead =
     let at : position_or_len is_line_feed (a.waiting ++ rest) ≡ position_or_len is_line_feed (a0.waiting ++ xs) = ap (position_or_len is_line_feed) split in
     omega (arith, ap length split, length-append a.waiting rest)
 
--- as far as a message ends
-pub message_near : (a0 a : IntakeSeen) (x0 y : Option (List ℕ)) (n : ℕ) → Keeps (to_come a0 x0) (to_come a y) → length a.waiting ≤ n + 4096 → IfSome (to_come a0 x0) (λ bytes. IsNear bytes y (cut_after (Take n) bytes).size)
-message_near a0 a None y n keeps ahead = tt
-message_near a0 a (Some xs) None n keeps ahead = tt
-message_near a0 a (Some xs) (Some rest) n keeps ahead =
-    let split : a.waiting ++ rest ≡ a0.waiting ++ xs = cc in
-    go (leb n (length (a0.waiting ++ xs))) refl (ap length split) (length-append a.waiting rest)
-  where
-    go : (b : Bool) → leb n (length (a0.waiting ++ xs)) ≡ b → length (a.waiting ++ rest) ≡ length (a0.waiting ++ xs) → length (a.waiting ++ rest) ≡ length a.waiting + length rest
-        → length (a0.waiting ++ xs) ≤ length rest + (cond {A = Cut} b (record { request = Takes (take n (a0.waiting ++ xs)); size = n }) (record { request = Does Bad; size = length (a0.waiting ++ xs) })).size + 4096
-    go true t e l = omega arith
-    go false t e l = omega arith
-
 -- and no further for an order that is whole in its line
 pub order_near : (order : Order) (a : IntakeSeen) (x : Option (List ℕ)) → length a.waiting ≤ 4096 → IfSome (to_come a x) (λ bytes. IsNear bytes x (cut_after order bytes).size)
 order_near order a None few = tt

@@ -30,10 +30,6 @@ use Rattle.rls_session.proofs.Alike.{AreSameCourses, sessions_alike}
 use Rattle.rls_session.proofs.Courses.{IsSameCourse, courses_begin}
 use Rattle.rls_session.proofs.Served.{part_all}
 
--- what is called for at the end of a course, or the end for what is too long
-EndingOf : Type 0 → Result Seen CommandError → Seen → Type 0
-EndingOf too_long r s = (r ≡ Ok s) ⊎ (too_long × (r ≡ Err TooLarge))
-
 saved_or_long : (s : Seen) → (saved s ≡ Ok s) ⊎ ((FILE_BYTES < length (bytes_over s)) × (saved s ≡ Err TooLarge))
 saved_or_long s = go (within_or_past FILE_BYTES (length (bytes_over s)))
   where

@@ -55,11 +55,6 @@ at_within [] n i h = absurd h
 at_within (c ∷ cs) n zero h = omega arith
 at_within (c ∷ cs) n (suc i) h = let l = at_within cs n i h.1 in omega arith
 
-pub at_anchored : (s : Seen) (cs : List Cursor) (n i : ℕ) (c : Cursor) → IsAt cs n i → slice_get cs i ≡ Some c → AreAnchored s cs → IsAnchored s c.anchor
-at_anchored s [] n i c h is k = absurd h
-at_anchored s (x ∷ cs) n zero c h is k = let same : x ≡ c = cc in subst (λ (y : Cursor). IsAnchored s y.anchor) same k.0
-at_anchored s (x ∷ cs) n (suc i) c h is k = at_anchored s cs n i c h.1 is k.1
-
 pub at_put : (cs : List Cursor) (n i : ℕ) (a : Anchor) → IsAt cs n i → cursor_in (set cs i (record { number = n; anchor = a })) n ≡ Some a
 at_put [] n i a h = absurd h
 at_put (c ∷ cs) n zero a h = rw (eq_refl n) refl
@@ -159,13 +154,6 @@ others_more cs n i c l is h e = rw add-one (go cs i l is h)
     go [] i l is h = absurd (omega (arith, l))
     go (x ∷ cs) zero l is h = let same : x ≡ c = cc in (subst (λ (y : Cursor). (y.number == n) ≡ false) (sym same) e, tt)
     go (x ∷ cs) (suc i) l is h = (h.0, go cs i (omega (arith, l)) is h.1)
-
-pub others_all : (cs : List Cursor) (n k : ℕ) → k ≡ length cs → AreOthers (take k cs) n → AreOthers cs n
-others_all cs n k is h = go cs (subst (λ i. AreOthers (take i cs) n) is h)
-  where
-    go : (cs : List Cursor) → AreOthers (take (length cs) cs) n → AreOthers cs n
-    go [] h = tt
-    go (c ∷ cs) h = (h.0, go cs h.1)
 
 -- ---- what stays
 

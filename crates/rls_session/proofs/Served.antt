@@ -67,14 +67,6 @@ unsaved work.OutOfMemory r file new_file old h = (tt, refl)
 pub is_kept : (s : Seen) (r : Result Seen CommandError) (bytes : List ℕ) (file new_file : Option (Option (List ℕ))) → r ≡ Ok s → bytes ≡ bytes_over s → IsReadBack s → Stores file new_file bytes → IsKept r file new_file
 is_kept s r bytes file new_file is same back stored = rw is (subst (Stores file new_file) same stored, back)
 
-pub saved_all : (s : Seen) (r : Result Seen CommandError) (bytes : List ℕ) (file new_file : Option (Option (List ℕ))) (old new : Option (List ℕ)) → r ≡ Ok s → bytes ≡ bytes_over s → IsReadBack s → Stores file new_file bytes → Appends old new saved_text
-    → Saves (Ok tt) r file new_file old new
-saved_all s r bytes file new_file old new is same back stored wrote = (is_kept s r bytes file new_file is same back stored, wrote)
-
-pub saved_part : (s : Seen) (r : Result Seen CommandError) (e : AnswerError) (bytes : List ℕ) (file new_file : Option (Option (List ℕ))) (old new : Option (List ℕ)) → e ≡ SinkFault → r ≡ Ok s → bytes ≡ bytes_over s → IsReadBack s
-    → Stores file new_file bytes → IsCutShort old new saved_text → Saves (Err (of_answer e)) r file new_file old new
-saved_part s r e bytes file new_file old new sink is same back stored wrote = rw sink (is_kept s r bytes file new_file is same back stored, wrote)
-
 -- ---- what is left
 
 pub ending_is : (c : Course (Sitting Seen)) → c.used ≤ INPUT_BYTES → (due_of c).ending ≡ saved (c.state).state
@@ -233,14 +225,6 @@ answered_own SourceFault = tt
 answered_own SinkFault = tt
 answered_own TooLarge = tt
 answered_own OutOfMemory = tt
-
-pub saved_own : (e : WorkError) (s : Seen) → GivesError (of_work e) (saved s) → IsSessionsOwn (Err (of_work e))
-saved_own work.OutOfMemory s h = tt
-saved_own (work.Command e) s h = go (ltb FILE_BYTES (length (bytes_over s))) h
-  where
-    go : (b : Bool) → (if b then Err errors.TooLarge else Ok s) ≡ Err e → IsOfFile e
-    go true h = let same : errors.TooLarge ≡ e = cc in subst IsOfFile same tt
-    go false h = let never : Ok s ≡ Err e = h in cc
 
 -- a session has no other status
 pub no_other : (r : Result (Unit {0}) Failure) (n : ℕ) → IsSessionsOwn r → IsStatusOf r n → IsSessionStatus n
@@ -410,11 +394,6 @@ unread_near (Some (Err e)) left = tt
 other_end : {X : Type 0} {f g h : Failure} → f ≡ g → (g ≡ h → X) → ended f ≡ ended h → X
 other_end {f = f} {h = h} is none e = let same : f ≡ h = cc in none (sym is ∙ same)
 
--- the file of the replica isn't made
-pub work_inner : (e : WorkError) (f : Failure) → f ≡ of_work e → (ended f ≢ ended (Fault Keeper)) × (ended f ≢ ended (Fault Source)) × (ended f ≢ ended (Fault Sink))
-work_inner (work.Command e) f is = (other_end is (λ q. cc), other_end is (λ q. cc), other_end is (λ q. cc))
-work_inner work.OutOfMemory f is = (other_end is (λ q. cc), other_end is (λ q. cc), other_end is (λ q. cc))
-
 -- answering fails for the input or the output
 pub answer_failed : (e : AnswerError) (f : Failure) → f ≡ of_answer e → (ended f ≢ ended (Fault Keeper)) × (ended f ≡ ended (Fault Source) → e ≡ SourceFault) × (ended f ≡ ended (Fault Sink) → e ≡ SinkFault)
 answer_failed SourceFault f is = (other_end is (λ q. cc), λ h. refl, other_end is (λ q. cc))
@@ -431,13 +410,6 @@ pub open_failed : (e : OpenError) (f : Failure) → f ≡ of_open e → (ended f
 open_failed (opening.Command e) f is = (other_end is (λ q. cc), other_end is (λ q. cc), other_end is (λ q. cc))
 open_failed opening.KeeperFault f is = (λ h. refl, other_end is (λ q. cc), other_end is (λ q. cc))
 open_failed opening.OutOfMemory f is = (other_end is (λ q. cc), other_end is (λ q. cc), other_end is (λ q. cc))
-
--- opening failed for the keeper only if the session did
-pub open_other : {X : Type 0} (e : OpenError) (f : Failure) → f ≡ of_open e → ended f ≢ ended (Fault Keeper) → opened_by {X = X} e ≢ opened_by opening.KeeperFault
-open_other e f is other h = other (ap ended (is ∙ ap of_open (same_error e opening.KeeperFault h)))
-  where
-    same_error : {X : Type 0} (e k : OpenError) → opened_by {X = X} e ≡ opened_by k → e ≡ k
-    same_error e k h = cc
 
 -- ---- what is told
 

@@ -126,15 +126,6 @@ pub whole_settled : {E : Type 0} (r : Result (Unit {0}) E) (s : Seen) (es : List
 whole_settled (Ok u) s es a b n is stays h = record { undoable = h.undoable; anchored = subst (AreAnchored s) (sym is) (anchored_moved s (anchors.settled_over s) a n (λ x k. anchor_here s x) h.anchored) }
 whole_settled (Err e) s es a b n is stays h = record { undoable = h.undoable; anchored = subst (AreAnchored s) (sym stays) h.anchored }
 
--- at the start
-pub whole_first : (s : Seen) (es : List Entry) → es ≡ [] → IsWhole s es []
-whole_first s es is = record { undoable = subst (AreUndoable s) (sym is) tt; anchored = tt }
-
--- after an edit that was made or refused
-pub whole_made : (r : Result ℕ EditError) (s n : Seen) (es fs : List Entry) (a : List Cursor) (edit : Edit) → KeepsNames s n → OnOk r (fs ≡ es ++ entries_over s edit) → OnErr r (fs ≡ es) → IsWhole s es a → IsWhole n fs a
-whole_made (Ok x) s n es fs a edit k made stays h = whole_edited s n es fs a edit k made h
-whole_made (Err e) s n es fs a edit k made stays h = whole_as s n es fs a k stays h
-
 -- after an edit's entry was recorded or wasn't
 pub whole_recorded : {E : Type 0} (r : Result (Unit {0}) E) (s : Seen) (es fs : List Entry) (a : List Cursor) (edit : Edit) → OnOk r (fs ≡ es ++ entries_over s edit) → OnErr r (fs ≡ es) → IsWhole s es a → IsWhole s fs a
 whole_recorded (Ok u) s es fs a edit made stays h = whole_edited s s es fs a edit (λ n k. k) made h
