@@ -57,9 +57,7 @@ fn is_mark(value: GraphemeClusterBreak) -> bool
 {
     matches!(
         value,
-        GraphemeClusterBreak::Extend
-            | GraphemeClusterBreak::Zwj
-            | GraphemeClusterBreak::SpacingMark
+        GraphemeClusterBreak::Extend | GraphemeClusterBreak::Zwj | GraphemeClusterBreak::SpacingMark
     )
 }
 
