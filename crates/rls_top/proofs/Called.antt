@@ -20,9 +20,9 @@ use Rattle.rls_top.specs.Calls.{Calls, HasFinished, HasMade, IsDueFile, UnlessOp
 use Rattle.rls_top.specs.Due.{Due, Makes, Stops, calls_keeper, may_store}
 use Rattle.rls_top.specs.Due as due
 use Rattle.rls_top.specs.Endings.{IsStored}
-use Rattle.rls_top.specs.Stages.{IsAsDue, IsStatusOf, of_device, of_make}
+use Rattle.rls_top.specs.Stages.{IsAsDue, IsStatusOf, of_make}
 use Rattle.rls_stages.proofs.Statuses.{not_failure}
-use Rattle.rls_top.proofs.Faults.{ended_by, failure_of, same_failure}
+use Rattle.rls_top.proofs.Faults.{failure_of, same_failure}
 use Rattle.rls_top.proofs.Finishing.{ended, for_due}
 use Rattle.rls_top.proofs.Statuses.{keeper_fault, made_apart, made_stored, sink_fault, stored_done}
 

@@ -1,21 +1,19 @@
 -- How a command ends, from how its stages do.
-use Rattle.std.proofs.Common.{◌≡◌, ◌≢◌, ◌∙◌, ℕ, Bool, List, Option, Some, None, IfErr, OnOk, Result, Ok, Err, refl, sym, ap, subst, inl}
+use Rattle.std.proofs.Common.{◌≡◌, ◌≢◌, ◌∙◌, ℕ, Bool, List, Option, Some, None, IfErr, OnOk, Result, Ok, Err, refl, sym, ap, subst}
 use Rattle.rls_io.specs.Device.{Keeps, Rose}
 use Rattle.rls_report.specs.declared.failures.Fault.TheVariants.{Keeper, Source, Sink}
 use Rattle.rls_report.specs.declared.failures.Failure.{Failure}
 use Rattle.rls_report.specs.declared.failures.Failure.TheVariants.{NoCommand, Fault}
-use Rattle.rls_stages.specs.Calls.{CallsNothing}
 use Rattle.rls_stages.specs.declared.errors.OpenError.TheVariants as opening
 use Rattle.rls_stages.specs.KeptFile.{Stays}
 use Rattle.rls_stages.proofs.Kept.{stays_on, stays_so}
 use Rattle.rls_top.specs.declared.made.Made.{Made}
 use Rattle.rls_top.specs.declared.stages.DeviceError.{DeviceError}
 use Rattle.rls_top.specs.declared.stages.DeviceError.TheVariants.{KeeperFault, SinkFault, OutOfMemory}
-use Rattle.rls_top.specs.declared.stages.InputError.TheVariants as input
 use Rattle.rls_top.specs.declared.stages.MakeError.{MakeError}
 use Rattle.rls_top.specs.declared.stages.MakeError.TheVariants as make
 use Rattle.rls_top.specs.declared.words.Command.{Command}
-use Rattle.rls_top.specs.Due.{Due, due_of_words}
+use Rattle.rls_top.specs.Due.{due_of_words}
 use Rattle.rls_top.specs.Running.{CommandEnds, FinishEnds, MakeEnds, StageEnds}
 use Rattle.rls_top.specs.Stages.{IsEarly, IsStatusOf, Leaves, Reports, of_device, of_make}
 use Rattle.rls_top.specs.Words.{command_of}

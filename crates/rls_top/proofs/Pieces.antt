@@ -15,7 +15,7 @@ use Rattle.rls_report.specs.declared.failures.CommandError.TheVariants.{NotMembe
 use Rattle.rls_report.specs.declared.failures.Failure.TheVariants.{Command}
 use Rattle.rls_replica.specs.Faults.{IsNoCount, IsNoMember}
 use Rattle.rls_seen.specs.Messages.{message_over}
-use Rattle.rls_seen.specs.Seen.{Seen, fresh, members}
+use Rattle.rls_seen.specs.Seen.{Seen, members}
 use Rattle.rls_top.specs.declared.made.Made.{Made}
 use Rattle.rls_top.specs.declared.words.Command.TheVariants.{New}
 use Rattle.rls_stages.specs.KeptFile.{loaded}

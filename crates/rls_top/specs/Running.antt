@@ -1,5 +1,5 @@
 -- How a command ends, in one relation: of its stages, and of the whole with its status.
-use Rattle.std.specs.Prelude.{◌≡◌, ◌≢◌, ◌<◌, ◌≤◌, ◌⊎◌, ℕ, Bool, List, Option, Some, None, IfSome, IsSome, IfOk, IfErr, OnOk, IsTrue, IsFalse, Result, Ok, Err}
+use Rattle.std.specs.Prelude.{◌≡◌, ◌≢◌, ◌<◌, ◌≤◌, ◌⊎◌, ℕ, Bool, List, Option, Some, None, IfSome, IsSome, IfOk, IfErr, OnOk, IsTrue, IsFalse, Result, Err}
 use Rattle.rls_io.specs.Device.{Appends, Keeps, Rose}
 use Rattle.rls_io.specs.Memory.{bytes_of}
 use Rattle.rls_report.specs.declared.failures.Failure.{Failure}

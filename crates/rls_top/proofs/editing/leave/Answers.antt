@@ -1,4 +1,4 @@
-use Rattle.std.proofs.Common.{List, [], ◌∷◌, sym, subst, ap}
+use Rattle.std.proofs.Common.{[], ◌∷◌, sym, subst, ap}
 use Rattle.rls_stages.specs.declared.errors.WorkError.{WorkError}
 use Rattle.rls_model.specs.declared.edit.Edit.TheVariants as edits
 use Rattle.rls_top.specs.Due.{Due, due_of_run}
