@@ -24,5 +24,5 @@ function RlsStatus() abort
 endfunction
 
 command -nargs=+ -complete=dir RlsOpen call rls#open(<f-args>)
-command RlsUndo call rls#try('undo', bufnr('%'))
-command RlsRedo call rls#try('redo', bufnr('%'))
+command RlsUndo call rls#try('rls#undo#undo', bufnr('%'))
+command RlsRedo call rls#try('rls#undo#redo', bufnr('%'))

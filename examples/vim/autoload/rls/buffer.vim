@@ -1,4 +1,4 @@
-" Changes of the session in the buffer, at their places.
+" Changes of the session in the buffer, at their places, or the whole text where the session doesn't tell them.
 
 " A cursor. It stays with the character after it if it is at the beginning of a line, or stands on a character.
 function s:cursor(r, window, line, column) abort
@@ -121,4 +121,21 @@ function rls#buffer#apply(r, changes) abort
   endtry
   call s:put(cursors)
   return first
+endfunction
+
+" Makes the buffer the session's text by what is between the equal fronts and ends, where the session doesn't tell what changed. With the first
+" version Vim's own undo goes back to here and no further: it would take back what others wrote.
+function rls#buffer#compare(r) abort
+  let new = rls#session#lines_of(rls#session#text(a:r))
+  let [front, end] = rls#lines#common(a:r.text.lines, new)
+  if new ==# a:r.text.lines
+    return
+  endif
+  let levels = getbufvar(a:r.buf, '&undolevels')
+  call setbufvar(a:r.buf, '&undolevels', -1)
+  let a:r.silent = 1
+  call rls#buffer#replace(a:r, front + 1, len(a:r.text.lines) - front - end, rls#lines#middle(new, front, end))
+  call listener_flush(a:r.buf)
+  let a:r.silent = 0
+  call setbufvar(a:r.buf, '&undolevels', levels)
 endfunction

@@ -172,3 +172,10 @@ function rls#session#stat(r) abort
   endwhile
   return numbers
 endfunction
+
+" The text, in bytes.
+function rls#session#text(r) abort
+  let [reply, bytes, _] = rls#session#ask(a:r, 't')
+  call rls#session#number(reply, 'text')
+  return bytes
+endfunction
