@@ -1,29 +1,29 @@
 //! What a session works on.
 
-ghost use Rattle.std.specs.Prelude.{◌≡◌, ◌+◌, ◌++◌, map, option_map, None, IfOk, OnOk, IsTrue};
+ghost use Rattle.std.specs.Prelude.{◌≡◌, ◌+◌, ◌++◌, option_map, None, IfOk, OnOk, IsTrue};
 ghost use Rattle.rls_ident.specs.declared.epoch_name.EpochName.{EpochName};
 ghost use Rattle.rls_codec.specs.CodecLaws.{IsBytes};
 ghost use Rattle.rls_codec.specs.Reading.{message_of};
 ghost use Rattle.rls_seen.specs.Edits.{edit_fault_over, made_over};
-ghost use Rattle.rls_seen.specs.Kept.{dropped};
 ghost use Rattle.rls_seen.specs.Over.{released_all};
 ghost use Rattle.rls_seen.specs.Sane.{IsSane};
 ghost use Rattle.rls_seen.specs.Seen.{Seen, own_count};
-ghost use Rattle.rls_anchor.specs.Anchors.{place_over, settled_over};
+ghost use Rattle.rls_anchor.specs.Anchors.{place_over};
 ghost use Rattle.rls_stages.specs.Lines.{allowed};
 ghost use Rattle.rls_undo.specs.Undoing.{last_of};
 ghost use Rattle.rls_changes.specs.Edits.{edit_changes};
 ghost use Rattle.rls_changes.specs.Telling.{all_released_changes};
 ghost use Rattle.rls_steps.specs.Grounds.{over, again_edits, back_edits};
 ghost use Rattle.rls_session.specs.Answering.{IsAnswered};
-ghost use Rattle.rls_session.specs.Answers.{again_told, back_told, backed, done, edit_told, edited, ended, made_changes, made_sitting, message_changes, placed, pointed, read_line, redone, says, settled_sitting, sitting_at, take_told, taken, undo_told, undone_changes, undone_last, with_begun, with_caught_up, with_changes, with_cursors, with_recorded, with_settled, with_state, with_telling};
-ghost use Rattle.rls_session.specs.Cursors.{cursor_in, moved};
-ghost use Rattle.rls_session.specs.Desks.{IsWhole};
+ghost use Rattle.rls_session.specs.Answers.{again_told, back_told, backed, done, edit_told, edited, ended, made_changes, made_sitting, message_changes, placed, pointed, read_line, redone, says, sitting_at, take_told, taken, undo_told, undone_changes, undone_last, with_begun, with_caught_up, with_changes, with_recorded, with_settled, with_state, with_telling};
+ghost use Rattle.rls_session.specs.Cursors.{cursor_in};
 ghost use Rattle.rls_session.specs.Replies.{telling_text};
 ghost use Rattle.rls_session.specs.Requests.{Does};
 ghost use Rattle.rls_session.specs.Sent.{SendsMessage};
 ghost use Rattle.rls_session.specs.Sessions.{by_parts};
 ghost use Rattle.rls_store.specs.Stored.{AreWritable};
+
+mod settling;
 
 use crate::change_lines::push_changes;
 use crate::cursors::Cursors;
@@ -447,47 +447,6 @@ impl Desk {
             }
             Ok(found) => replies::taken(alloc, &found),
         }
-    }
-
-    // ---- storing
-
-    /// Takes what the session goes back to to the greatest epoch, as is needed before `drop_stable`, and lets go of what undoes edits but for
-    /// the last `KEPT_ENTRIES` of them. The replica stays as it is.
-    pub(crate) fn settle(&mut self) -> Result<(), AllocError>
-        ensures settled { OnOk result (self.new ≡ settled_sitting by_parts self.old) }
-        ensures state { self.new.state ≡ self.old.state }
-        ensures sane { IsSane self.old.state }
-    {
-        rely!(self.replica.sane());
-        self.undo.keep_last(KEPT_ENTRIES);
-        if let Err(error) = self.undo.settle(&self.replica) {
-            return Err(unsettled(error));
-        }
-        self.begin();
-        if self.steps.settle(&self.replica).is_err() {
-            // A session drops nothing that it goes back to.
-            return Err(AllocError);
-        }
-        self.settle_cursors()
-    }
-
-    // Takes the cursors to the greatest epoch.
-    fn settle_cursors(&mut self) -> Result<(), AllocError>
-        ensures settled { OnOk result (self.new ≡ with_cursors self.old (map (moved (settled_over self.old.state)) self.old.cursors)) }
-        ensures state { self.new.state ≡ self.old.state }
-    {
-        match self.cursors.settle_all(&self.replica) {
-            Ok(()) => Ok(()),
-            Err(error) => Err(unsettled(error)),
-        }
-    }
-
-    /// Drops what every member has.
-    pub(crate) fn drop_stable(&mut self)
-        requires lasts { IsWhole (dropped self.old.state) self.old.entries self.old.cursors }
-        ensures dropped { self.new ≡ with_state self.old (dropped self.old.state) }
-    {
-        self.replica.drop_stable();
     }
 }
 
