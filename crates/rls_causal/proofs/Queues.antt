@@ -213,19 +213,26 @@ joined_without a s (e ∷ es) W h r f = go (nat_eq a e.0) refl f (joined_without
 
 -- ---- the same of a map in which an author's queue was changed
 
-module _ (a : ℕ) (es ds : List (ℕ × List Op)) (W V : List Op) (q : AreQueues es) (at : lookup (nat_eq a) es ≡ Some W) (is : ds ≡ set_value (nat_eq a) es V) where
-  -- what waits under a number of the author
-  pub under_is : (s : ℕ) → waiting_under (joined (values_of es)) a s ≡ waiting_under W a s
-  under_is s = looked_up a s es q.own (in_order es q) ∙ ap (λ r. queued_under r a s) at
+-- What waits under a number, if anything does, was taken out of the queues es, which are ds then.
+pub record IsTaken (a s : ℕ) (es ds : List (ℕ × List Op)) (found : Option Op) : Type 0 where
+  pub under : found ≡ waiting_under (joined (values_of es)) a s
+  pub others : joined (values_of ds) ≡ without a s (joined (values_of es))
+  pub queues : AreQueues ds
 
+module _ (a : ℕ) (es ds : List (ℕ × List Op)) (W V : List Op) (q : AreQueues es) (at : lookup (nat_eq a) es ≡ Some W) (is : ds ≡ set_value (nat_eq a) es V) where
   changed : list_all (is_by a) V ≡ true → is_in_order (joined (values_of ds)) ≡ true → AreQueues ds
   changed k o = rw is (queues_set a es V q k (ap (λ cs. is_in_order (joined (values_of cs))) (sym is) ∙ o))
 
-  pub taken_joined : (s : ℕ) → V ≡ without a s W → joined (values_of ds) ≡ without a s (joined (values_of es))
-  taken_joined s v = ap (λ cs. joined (values_of cs)) is ∙ ap (λ U. joined (values_of (set_value (nat_eq a) es U))) v ∙ joined_without a s es W q.own (in_order es q) at
-
-  pub taken_queues : (s : ℕ) → V ≡ without a s W → AreQueues ds
-  taken_queues s v = changed (ap (list_all (is_by a)) v ∙ without_passing (is_by a) a s W (own_queue a es W q.own at)) (ap is_in_order (taken_joined s v) ∙ without_in_order a s (joined (values_of es)) q.order)
+  -- what was found in the author's queue, and what is left of it
+  pub taken : (s : ℕ) (found : Option Op) → (list_all (is_by a) W ≡ true → found ≡ waiting_under W a s) → (list_all (is_by a) W ≡ true → V ≡ without a s W) → IsTaken a s es ds found
+  taken s found f v =
+      let own = own_queue a es W q.own at in
+      let others : joined (values_of ds) ≡ without a s (joined (values_of es)) = ap (λ cs. joined (values_of cs)) is ∙ ap (λ U. joined (values_of (set_value (nat_eq a) es U))) (v own) ∙ joined_without a s es W q.own (in_order es q) at in
+      record {
+        under = f own ∙ sym (looked_up a s es q.own (in_order es q) ∙ ap (λ r. queued_under r a s) at);
+        others = others;
+        queues = changed (ap (list_all (is_by a)) (v own) ∙ without_passing (is_by a) a s W own) (ap is_in_order others ∙ without_in_order a s (joined (values_of es)) q.order);
+      }
 
   module _ (o : Op) (by : o.author ≡ a) (v : V ≡ with_waiting o W) where
     pub added_joined : joined (values_of ds) ≡ with_waiting o (joined (values_of es))
