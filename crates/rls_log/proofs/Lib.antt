@@ -1,4 +1,5 @@
 pub mod Uncovered
 pub mod Entries
 pub mod Steps
+pub mod Bounds
 pub mod FoundOut

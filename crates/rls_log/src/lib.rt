@@ -3,6 +3,7 @@
 
 mod entry;
 mod head;
+mod latest;
 mod log;
 mod missing;
 mod reading;

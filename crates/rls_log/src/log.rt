@@ -11,6 +11,7 @@ ghost use Rattle.rls_log.specs.Encoded.{SpellOne, op_spelled};
 
 use crate::entry::{Entry, large_deletion};
 use crate::head::OpHead;
+use crate::latest::Latest;
 use rls_codec::{ReadError, encode_op, op_fields, vector};
 use rls_ident::{Vector, rely};
 use rls_ops::Op;
@@ -22,11 +23,13 @@ const BEFORE_CONTEXT: usize = 8;
 
 /// Operations in order, kept as the bytes that spell them. What is asked most of an operation, all but its context and its body,
 /// stands beside the bytes: it costs no reading. An operation takes its bytes in memory, and 48 more. A deletion of more than 512 bytes
-/// is there as a value too, since its targets may be looked up again and again.
+/// is there as a value too, since its targets may be looked up again and again. A member takes four bytes, for the number of its last
+/// operation: by these numbers a call that asks for what a vector doesn't cover finds from the end of the log where it begins.
 #[derive(Drop)]
 pub struct Log {
     pub(crate) bytes: Vec<u8>,
     pub(crate) entries: Vec<Entry>,
+    pub(crate) latest: Latest,
 }
 
 impl Model for Log {
@@ -35,11 +38,12 @@ impl Model for Log {
 
     ghost Value = { List Op };
 
-    ghost use Rattle.rls_log.specs.Encoded.{ops_in, AreEntries};
+    ghost use Rattle.rls_log.specs.Encoded.{ops_in};
+    ghost use Rattle.rls_log.specs.Latest.{IsLog};
 
     ghost view = { λ l. ops_in l.bytes.items l.entries.items };
 
-    ghost invariant = { λ l. AreEntries l.bytes.items l.entries.items };
+    ghost invariant = { λ l. IsLog l.bytes.items l.entries.items l.latest };
 }
 
 impl Log {
@@ -50,6 +54,7 @@ impl Log {
         Log {
             bytes: Vec::new(alloc),
             entries: Vec::new(alloc),
+            latest: Latest::new(alloc),
         }
     }
 
@@ -66,6 +71,7 @@ impl Log {
         rely!(op.fits());
         let large = large_deletion(*self.bytes.allocator(), op, len)?;
         self.entries.reserve(1)?;
+        self.latest.reserve(op.context.len() as u32)?;
         let start = self.bytes.len();
         encode_op(&mut self.bytes, op)?;
         let entry = Entry {
@@ -74,6 +80,7 @@ impl Log {
             len: (self.bytes.len() - start) as u32,
             large,
         };
+        self.latest.note(&entry.head);
         self.entries.push(entry).unwrap();
         Ok(())
     }
@@ -188,7 +195,12 @@ impl Log {
             bytes.extend_from_slice(entry.part(&self.bytes))?;
             entries.push(entry.moved_to(alloc, start)?)?;
         }
-        Ok(Log { bytes, entries })
+        let latest = Latest::of(alloc, &entries)?;
+        Ok(Log {
+            bytes,
+            entries,
+            latest,
+        })
     }
 
     // Whether most of the bytes are of no operation any more.

@@ -1,6 +1,6 @@
 //! The operations of a log that a vector doesn't cover.
 
-ghost use Rattle.std.specs.Prelude.{◌≡◌, ◌-◌, ◌^◌, ◌≤◌, ◌++◌, min, length, take, sum_by, All, IfOk, OnOk};
+ghost use Rattle.std.specs.Prelude.{◌≡◌, ◌-◌, ◌^◌, ◌≤◌, ◌++◌, [], min, length, take, sum_by, All, IfOk, OnOk};
 ghost use Rattle.std.specs.List.{flat_map};
 ghost use Rattle.rls_ops.specs.Rows.{missing_for};
 ghost use Rattle.rls_ops.specs.Sizes.{op_size, front_within};
@@ -27,7 +27,8 @@ impl Log {
         ensures missing { IfOk result (λ ops. ops ≡ missing_for vector.now (take n self.now)) }
     {
         let mut ops = Ops::new(*self.bytes.allocator());
-        for i in 0..n {
+        let start = self.missing_start(vector, n);
+        for i in start..n {
             if self.head(i).is_covered(vector) {
                 continue;
             }
@@ -36,24 +37,54 @@ impl Log {
         Ok(ops)
     }
 
-    /// How many of the first operations have together, of those that a vector doesn't cover, at most this many bytes. It goes over the
-    /// log up to there.
+    // A place up to this one before which the vector covers each operation. It is found from the end of the log: where no author's number
+    // fell, as far back as operations are missing.
+    fn missing_start(&self, vector: &Vector, n: usize) -> usize
+        requires within { n ≤ length self.now }
+        ensures within { result ≤ n }
+        ensures covered { missing_for vector.now (take result self.now) ≡ [] }
+    {
+        let mut left = self.uncovered(vector);
+        if left >= self.len() {
+            return 0;
+        }
+        let mut start = self.len();
+        while left.min(start) > 0 {
+            start -= 1;
+            if self.head(start).is_covered(vector) {
+                continue;
+            }
+            left -= 1;
+        }
+        start.min(n)
+    }
+
+    // How many operations the vector doesn't cover, at most.
+    fn uncovered(&self, vector: &Vector) -> usize
+        ensures bound { length (missing_for vector.now self.now) ≤ result }
+    {
+        self.latest.uncovered(vector, self.entries.len())
+    }
+
+    /// How many of the first operations have together, of those that a vector doesn't cover, at most this many bytes.
     pub fn reach(&self, vector: &Vector, limit: u64) -> usize
         ensures within { result ≤ length self.now }
         ensures reach { missing_for vector.now (take result self.now) ≡ front_within 0 limit (missing_for vector.now self.now) }
     {
         let mut used = 0;
-        for i in 0..self.len() {
+        let len = self.len();
+        let start = self.missing_start(vector, len);
+        for i in start..len {
             if self.head(i).is_covered(vector) {
                 continue;
             }
-            let len = self.part(i).len() as u64;
-            if len > limit - used {
+            let size = self.part(i).len() as u64;
+            if size > limit - used {
                 return i;
             }
-            used += len;
+            used += size;
         }
-        self.len()
+        len
     }
 
     /// How many of the first `n` operations a vector doesn't cover.
@@ -62,7 +93,8 @@ impl Log {
         ensures count { result ≡ length (missing_for vector.now (take n self.now)) }
     {
         let mut count: usize = 0;
-        for i in 0..n {
+        let start = self.missing_start(vector, n);
+        for i in start..n {
             if self.head(i).is_covered(vector) {
                 continue;
             }
@@ -76,7 +108,9 @@ impl Log {
         ensures size { result ≡ min (sum_by op_size (missing_for vector.now self.now)) (2 ^ 64 - 1) }
     {
         let mut total: u64 = 0;
-        for i in 0..self.len() {
+        let len = self.len();
+        let start = self.missing_start(vector, len);
+        for i in start..len {
             if self.head(i).is_covered(vector) {
                 continue;
             }
@@ -109,7 +143,8 @@ impl Log {
         requires within { n ≤ length self.now }
         ensures ok { OnOk result (out.new.items ≡ out.old.items ++ flat_map op_bytes (missing_for vector.now (take n self.now))) }
     {
-        for i in 0..n {
+        let start = self.missing_start(vector, n);
+        for i in start..n {
             if self.head(i).is_covered(vector) {
                 continue;
             }

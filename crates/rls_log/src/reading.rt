@@ -9,6 +9,7 @@ ghost use Rattle.rls_log.specs.Values.{value_of};
 
 use crate::entry::{Entry, Large, is_large};
 use crate::head::OpHead;
+use crate::latest::Latest;
 use crate::log::Log;
 use crate::scanning::scan_op;
 use rls_codec::{ReadError, op_fields, u32_at};
@@ -95,7 +96,12 @@ fn log_of(
 {
     let (front, _) = bytes.split_at(bytes.len() - rest.len());
     let bytes = Vec::from_slice(alloc, front)?;
-    Ok(Log { bytes, entries })
+    let latest = Latest::of(alloc, &entries)?;
+    Ok(Log {
+        bytes,
+        entries,
+        latest,
+    })
 }
 
 /// A number of operations, and the operations among this many members, which stay the bytes that they are. Each has at most

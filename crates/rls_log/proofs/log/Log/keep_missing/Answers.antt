@@ -6,6 +6,7 @@ use Rattle.rls_ops.specs.Rows.{missing_for}
 use Rattle.rls_log.specs.declared.entry.Entry.{Entry}
 use Rattle.rls_log.specs.Heads.{is_head_covered}
 use Rattle.rls_log.specs.Encoded.{IsEntry, ops_in}
+use Rattle.rls_log.proofs.Bounds.{bounds_kept}
 use Rattle.rls_log.proofs.Entries.{uncovered, covers}
 use Rattle.rls_log.proofs.log.Log.keep_missing.Goals as goal
 
@@ -13,14 +14,22 @@ module _ (c : goal.After-retain) where
   kept : c.retain.new.self.items ≡ filter (λ (e : Entry). not (is_head_covered c.args.vector.now e.head)) c.self.inside.entries.items
   kept = filter_same _ _ _ (λ x b f' k. search rules) _ _ c.retain.ensures.filtered
 
+  left : ops_in c.self.inside.bytes.items c.retain.new.self.items ≡ missing_for c.args.vector.now (ops_in c.self.inside.bytes.items c.self.inside.entries.items)
+  left =
+      let bytes = c.self.inside.bytes.items in
+      let v = c.args.vector.now in
+      ap (ops_in bytes) kept ∙ uncovered bytes v (λ (e : Entry). is_head_covered v e.head) c.self.inside.entries.items c.self.invariant.entries (covers bytes v)
+
 pub invariant_of-self : goal.invariant_of-self
 invariant_of-self c =
     let bytes = c.self.inside.bytes.items in
     let es = c.self.inside.entries.items in
-    All-same (IsEntry bytes) _ _ (kept c) (All-filter (λ (e : Entry). not (is_head_covered c.args.vector.now e.head)) (IsEntry bytes) es c.self.invariant)
+    let v = c.args.vector.now in
+    record {
+      entries = All-same (IsEntry bytes) _ _ (kept c) (All-filter (λ (e : Entry). not (is_head_covered v e.head)) (IsEntry bytes) es c.self.invariant.entries);
+      latest = bounds_kept c.self.inside.latest v (ops_in bytes es) (ops_in bytes c.retain.new.self.items) (left c) c.self.invariant.latest;
+    }
 
 pub returns : goal.returns
 returns c =
-    let bytes = c.self.inside.bytes.items in
-    let v = c.args.vector.now in
-    record { kept = ap (ops_in bytes) (kept c) ∙ uncovered bytes v (λ (e : Entry). is_head_covered v e.head) c.self.inside.entries.items c.self.invariant (covers bytes v) ∙ ap (missing_for v) c.self.view_is }
+    record { kept = left c ∙ ap (missing_for c.args.vector.now) c.self.view_is }

@@ -7,6 +7,7 @@ use Rattle.rls_ops.specs.declared.op.Op.{Op}
 use Rattle.rls_ops.specs.Rows.{is_covered, missing_for}
 use Rattle.rls_log.specs.declared.entry.Entry.{Entry}
 use Rattle.rls_log.specs.Encoded.{part_of, op_in, IsEntry, AreEntries, ops_in}
+use Rattle.rls_log.specs.Latest.{Bounds}
 use Rattle.rls_log.proofs.Entries.{copied, covers, at_place, entry_at_place}
 use Rattle.rls_log.proofs.Steps.{taken_covered, taken_uncovered}
 use Rattle.rls_log.proofs.log.Log.missing.Goals as goal
@@ -26,7 +27,7 @@ loop-i-preserved-then-is_covered c =
     let e = c.index-entry.result.now in
     let lt : i < length es = omega (arith, c.loop-i-test.true, c.len-i-end.ensures, c.self.inside.entries.ok.0) in
     let got : slice_get es i ≡ Some e = slice_get_read es (length es) i e refl lt c.index-entry.ensures in
-    let test : is_covered v (op_in bytes e) ≡ _ = sym (covers bytes v e (entry_at_place bytes es i e got c.self.invariant)) ∙ sym c.is_covered.ensures.test ∙ c.if-is_covered.true in
+    let test : is_covered v (op_in bytes e) ≡ _ = sym (covers bytes v e (entry_at_place bytes es i e got c.self.invariant.entries)) ∙ sym c.is_covered.ensures.test ∙ c.if-is_covered.true in
     record { entries = c.loop-i.invariant.entries; missing = c.loop-i.invariant.missing ∙ sym (taken_covered v (ops_in bytes es) i (op_in bytes e) (at_place bytes es i e got) test) }
 
 pub loop-i-preserved : goal.loop-i-preserved
@@ -38,7 +39,7 @@ loop-i-preserved c =
     let e = c.index-entry.result.now in
     let lt : i < length es = omega (arith, c.loop-i-test.true, c.len-i-end.ensures, c.self.inside.entries.ok.0) in
     let got : slice_get es i ≡ Some e = slice_get_read es (length es) i e refl lt c.index-entry.ensures in
-    let k = entry_at_place bytes es i e got c.self.invariant in
+    let k = entry_at_place bytes es i e got c.self.invariant.entries in
     let test : is_covered v (op_in bytes e) ≡ _ = sym (covers bytes v e k) ∙ sym c.is_covered.ensures.test ∙ c.if-is_covered.false in
     let m = c.in_ok-moved_to.ensures in
     let out = c.loop-i.bytes.items in
@@ -50,7 +51,10 @@ loop-i-preserved c =
     }
 
 pub invariant_of-result : goal.invariant_of-result
-invariant_of-result c = c.loop-i.invariant.entries
+invariant_of-result c = record {
+  entries = c.loop-i.invariant.entries;
+  latest = subst (λ (es : List Entry). AreEntries c.loop-i.bytes.items es → Bounds c.in_ok-latest.latest (ops_in c.loop-i.bytes.items es)) c.deref-2.ensures.value (c.in_ok-latest.ensures.bounds c.loop-i.bytes.items) c.loop-i.invariant.entries;
+}
 
 pub returns : goal.returns
 returns c =

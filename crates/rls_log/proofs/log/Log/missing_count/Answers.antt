@@ -1,8 +1,11 @@
-use Rattle.std.proofs.Common.{◌≡◌, ◌∙◌, ◌∷◌, [], ap, sym, length, take, arith}
+use Rattle.std.proofs.Common.{◌≡◌, ◌∙◌, ◌≤◌, ◌∷◌, [], ap, sym, length, take, arith}
 use Rattle.std.proofs.lemmas.List.{length-append}
 use Rattle.rls_ops.specs.Rows.{missing_for}
 use Rattle.rls_log.proofs.Steps.{taken_covered, taken_uncovered}
 use Rattle.rls_log.proofs.log.Log.missing_count.Goals as goal
+
+pub loop-i-init : goal.loop-i-init
+loop-i-init c = record { count = sym (ap length c.missing_start-start.ensures.covered); few = omega arith }
 
 pub loop-i-preserved-then-is_covered : goal.loop-i-preserved-then-is_covered
 loop-i-preserved-then-is_covered c =
@@ -21,5 +24,6 @@ loop-i-preserved c =
 
 pub returns : goal.returns
 returns c =
-    let end : c.loop-i.i ≡ c.args.n = omega arith in
+    let most : c.loop-i.i ≤ c.args.n = c.loop-i.auto.i-end c.missing_start-start.ensures.within in
+    let end : c.loop-i.i ≡ c.args.n = omega (arith, most, c.loop-i-test.false) in
     record { count = c.loop-i.invariant.count ∙ ap (λ n. length (missing_for c.args.vector.now (take n c.args.self.now))) end }

@@ -1,10 +1,14 @@
-use Rattle.std.proofs.Common.{◌≡◌, ◌∙◌, ◌++◌, ℕ, List, ap, sym, take, append_assoc, arith}
+use Rattle.std.proofs.Common.{◌≡◌, ◌∙◌, ◌≤◌, ◌++◌, ℕ, List, ap, sym, take, append_assoc, arith}
 use Rattle.std.specs.List.{flat_map}
+use Rattle.std.proofs.lemmas.List.{append-nil}
 use Rattle.rls_ops.specs.declared.op.Op.{Op}
 use Rattle.rls_ops.specs.Rows.{missing_for}
 use Rattle.rls_ops.specs.Spelling.{op_bytes}
 use Rattle.rls_log.proofs.Steps.{taken_covered, taken_uncovered, flat_pushed}
 use Rattle.rls_log.proofs.log.Log.put_missing.Goals as goal
+
+pub loop-i-init : goal.loop-i-init
+loop-i-init c = sym (ap (λ (os : List Op). c.args.out.now.items ++ flat_map op_bytes os) c.missing_start-start.ensures.covered ∙ append-nil c.args.out.now.items)
 
 pub loop-i-preserved-then-is_covered : goal.loop-i-preserved-then-is_covered
 loop-i-preserved-then-is_covered c =
@@ -25,5 +29,6 @@ loop-i-preserved c =
 
 pub returns : goal.returns
 returns c =
-    let end : c.loop-i.i ≡ c.args.n = omega arith in
+    let most : c.loop-i.i ≤ c.args.n = c.loop-i.auto.i-end c.missing_start-start.ensures.within in
+    let end : c.loop-i.i ≡ c.args.n = omega (arith, most, c.loop-i-test.false) in
     record { ok = c.loop-i.invariant ∙ ap (λ n. c.args.out.now.items ++ flat_map op_bytes (missing_for c.args.vector.now (take n c.args.self.now))) end }
