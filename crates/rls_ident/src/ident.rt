@@ -130,7 +130,13 @@ impl Ident {
         ensures order { result ≡ ident_cmp self.now other.now }
     {
         for i in 0..self.len().min(other.len()) {
-            match self.tuple(i).compare(&other.tuple(i)) {
+            let tuple = self.tuple(i);
+            let against = other.tuple(i);
+            // Two identifiers that are compared mostly begin alike, and to see that two tuples are equal costs half of their order.
+            if tuple.same(&against) {
+                continue;
+            }
+            match tuple.compare(&against) {
                 Ordering::Equal => {}
                 order => return order,
             }
