@@ -21,3 +21,5 @@ pub mod StillNumbers
 pub mod Fronts
 pub mod Merges
 pub mod Noting
+pub mod Remembering
+pub mod KeptKnown

@@ -1,12 +1,13 @@
 -- Two lists of identifiers become one.
 use Rattle.std.proofs.Common.{◌≡◌, ◌∙◌, ℕ, zero, suc, ◌+◌, ◌-◌, ◌<◌, ◌≤◌, ◌⊎◌, List, [], ◌∷◌, ◌++◌, length, Some, None, true, false, refl, sym, ap, subst, inl, inr, arith, ⊎_elim, get_or}
+use Rattle.std.proofs.lemmas.Bool.{cases_lt}
 use Rattle.std.proofs.lemmas.Option.{slice_get_cases}
 use Rattle.std.specs.Prelude.{slice_get, pos}
 use Rattle.std.proofs.lemmas.Int.{ints}
 use Rattle.rls_ident.specs.declared.tuple.Tuple.{Tuple}
 use Rattle.rls_ident.specs.Identifiers.{ident_lt, shifted}
 use Rattle.rls_ident.specs.Lists.{IsIn}
-use Rattle.rls_ident.proofs.Lists.{lt_trans, tri}
+use Rattle.rls_ident.proofs.Lists.{lt_irrefl, lt_trans, tri}
 use Rattle.rls_ident.proofs.Members.{some_is, get_in, in_left, in_right, in_split, not_true}
 use Rattle.rls_ident.proofs.Shifted.{shifted_shifted}
 use Rattle.rls_ident.proofs.Tuples.{tuples, lt_of, of_lt}
@@ -153,3 +154,39 @@ go_on xs ys i j p q n a b same f g k l = f k l ∙ (ap Some (sym (further p a) �
     first =
         some_is (shifted (pos p) a) (shifted (pos q) b)
         (ap (λ m. Some (shifted (pos m) a)) (sym (none p)) ∙ (sym (f 0 some) ∙ (ap (slice_get xs) (none i) ∙ (same ∙ (ap (slice_get ys) (sym (none j)) ∙ (g 0 some ∙ ap (λ m. Some (shifted (pos m) b)) (none q)))))))
+
+-- ---- what isn't in a list
+
+-- no identifier is less than itself, or than a lesser one
+itself_not : (x : List Tuple) → ident_lt x x ≡ true → ⊥
+itself_not x h = lt_irrefl {A = tuples} {x = x} (lt_of x x h)
+
+both_not : (x y : List Tuple) → ident_lt x y ≡ true → ident_lt y x ≡ true → ⊥
+both_not x y h k = lt_irrefl {A = tuples} {x = x} (lt_trans (lt_of x y h) (lt_of y x k))
+
+-- what comes from a place on, and is less than the first identifier of a list that isn't less than the one there, isn't in that list
+pub not_among : (xs list : List (List Tuple)) (at end i k : ℕ) (first x : List Tuple) → Rising xs → Rising list → slice_get xs at ≡ Some first → i ≡ below_count list first
+    → ((y : List Tuple) → slice_get list i ≡ Some y → (z : List Tuple) → Stands xs 0 end z → ident_lt z y ≡ true) → k < end - at → slice_get xs (at + k) ≡ Some x → IsIn x list → ⊥
+not_among xs list at end i k first x r q f e less l g p = ⊎_elim before after (cases_lt s.0 i)
+  where
+    s : Stands list 0 (length list) x
+    s = stands_in list x p
+
+    before : s.0 < i → ⊥
+    before m =
+        let h = counted_less list i x first first q e refl (s.0, omega arith, m, s.3) in
+        ⊎_elim (λ n. both_not x first h (earlier xs at (at + k) first x r f g (omega (arith, n))))
+        (λ n.
+        let z : at + k ≡ at = omega (arith, n) in
+        let same : first ≡ x = some_is first x (sym f ∙ (ap (slice_get xs) (sym z) ∙ g)) in
+        itself_not x (subst (λ w. ident_lt x w ≡ true) same h)) (cases_lt 0 k)
+
+    after : i ≤ s.0 → ⊥
+    after m = ⊎_elim (λ c.
+        let h = less c.0 c.2 x (at + k, omega arith, omega (arith, l), g) in
+        ⊎_elim (λ n. both_not x c.0 h (earlier list i s.0 c.0 x q c.2 s.3 n))
+        (λ n.
+        let z : s.0 ≡ i = omega (arith, n, m) in
+        let same : c.0 ≡ x = some_is c.0 x (sym c.2 ∙ (ap (slice_get list) (sym z) ∙ s.3)) in
+        itself_not x (subst (λ w. ident_lt x w ≡ true) same h)) (cases_lt i s.0))
+        (λ c. let d = s.2 in absurd (omega (arith, c.0, d, m))) (slice_get_cases list i).1

@@ -36,7 +36,7 @@ text_has x [] = refl
 text_has x (y ∷ es) = ap (λ b. ident_eq y.0 x || b) (text_has x es)
 
 -- the two places at which a target is looked for
-known_here : (s : Seen) (e : EpochName) (x : List Tuple) → is_known_over s e x ≡ (has_ident (idents_in s.text) (translate_over s e (greatest_over s) x) || is_named_over s e x s.log)
+pub known_here : (s : Seen) (e : EpochName) (x : List Tuple) → is_known_over s e x ≡ (has_ident (idents_in s.text) (translate_over s e (greatest_over s) x) || is_named_over s e x s.log)
 unfolding is_known_over
 known_here s e x = ap (λ b. b || is_named_over s e x s.log) (sym (text_has (translate_over s e (greatest_over s) x) s.text))
 

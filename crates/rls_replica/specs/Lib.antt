@@ -7,6 +7,7 @@ pub mod Editing
 pub mod Names
 pub mod Unions
 pub mod Gone
+pub mod Known
 pub mod View
 pub mod Fitting
 pub mod KeptJust

@@ -5,7 +5,9 @@ use Rattle.rls_seen.specs.Seen.{Seen, members}
 use Rattle.rls_seen.specs.Sane.{IsSane}
 use Rattle.rls_replica.specs.declared.replica.Replica.TheInside.{Inside}
 use Rattle.rls_replica.specs.declared.gone.Gone.{Gone}
+use Rattle.rls_replica.specs.declared.known.Known.{Known}
 use Rattle.rls_replica.specs.Gone.{IsGone}
+use Rattle.rls_replica.specs.Known.{IsKnown}
 
 abbrev pub seen : Inside → Seen
 seen r = record {
@@ -18,8 +20,9 @@ seen r = record {
   log = r.log;
 }
 
--- what holds of the parts: they are sane, the table of stems has a place for each member, and what is kept of gone targets is right
-pub record IsWhole (s : Seen) (authors : ℕ) (gone : Option Gone) : Type 0 where
+-- what holds of the parts: they are sane, the table of stems has a place for each member, and what is kept of gone and of known targets is right
+pub record IsWhole (s : Seen) (authors : ℕ) (gone : Option Gone) (known : Option Known) : Type 0 where
   pub sane : IsSane s
   pub authors_are : authors ≡ members s
   pub gone_are : IfSome gone (λ g. IsGone s g)
+  pub known_are : IfSome known (λ k. IsKnown s k)

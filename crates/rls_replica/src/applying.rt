@@ -16,6 +16,7 @@ ghost use Rattle.rls_epoch.specs.Seen.{former_sum};
 ghost use Rattle.rls_blocks.specs.Trees.{entries_of};
 ghost use Rattle.rls_replica.specs.Changing.{former_in, renaming_in, MayPrepare, IsTextAfter, MayFinish, MayInsert, MayRename};
 
+use crate::known::kept_known;
 use crate::renaming_text::RenamingText;
 use crate::replica::Replica;
 use rls_doc::Document;
@@ -56,6 +57,8 @@ impl Replica {
             op,
             renaming,
         );
+        let known = self.known.take();
+        self.known = kept_known(self.alloc, known, &self.epochs, op, self.acks.stable());
         Ok(())
     }
 
@@ -88,6 +91,8 @@ impl Replica {
             &op,
             renaming,
         );
+        let known = self.known.take();
+        self.known = kept_known(self.alloc, known, &self.epochs, &op, self.acks.stable());
         Ok(())
     }
 }

@@ -51,6 +51,7 @@ impl Replica {
         ensures stands { (t : State) → StandsFor self.old t → StandsFor self.new t × KeepsJust self.new (counts t) }
     {
         self.gone = None;
+        self.known = None;
         mark_unstable(&mut self.epochs, &self.log, self.acks.stable());
         self.epochs.keep(self.acks.stable());
         self.log.drop_at_most(self.acks.stable());

@@ -112,8 +112,9 @@ fn lacks(lists: &[Runs], id: &Ident) -> bool
 
 // Puts a list after the others, together with those that have less than twice as many runs. So each has at least twice as many runs as
 // the next, and n runs that come one after another take part in a logarithm of n unions each.
-fn add(alloc: Global, lists: &mut Vec<Runs>, ids: Runs) -> Result<(), AllocError>
+pub(crate) fn add(alloc: Global, lists: &mut Vec<Runs>, ids: Runs) -> Result<(), AllocError>
     ensures ok { OnOk result ((x : List Tuple) → IsIn x (joined lists.old.items) ⊎ IsIn x ids → IsIn x (joined lists.new.items)) }
+    ensures only { OnOk result ((x : List Tuple) → IsIn x (joined lists.new.items) → IsIn x (joined lists.old.items) ⊎ IsIn x ids) }
 {
     let mut ids = ids;
     while let Some(last) = take_short(lists, ids.run_count()) {

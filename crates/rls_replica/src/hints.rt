@@ -46,10 +46,12 @@ pub(crate) struct Hint {
     pub(crate) count: u32,
 }
 
-/// For each identifier that deletions of the log name, the last of these: runs of them, of which no two have an identifier in common,
-/// each under the mark of its first one.
+/// For each identifier that deletions of one author name, the last of these: runs of them, of which no two have an identifier in common,
+/// each under the mark of its first one. The operations of an author become stable in their order, so if the last one is stable, so are
+/// the others.
 #[derive(Drop)]
 pub(crate) struct Namings {
+    author: u32,
     runs: BTreeMap<Mark, Naming>,
 }
 
@@ -70,7 +72,7 @@ impl Namings {
 
     // Notes that the deletion at a place of the log, which comes after those that were noted, names these identifiers. It takes a
     // logarithm of the runs for each of theirs and for each that it replaces.
-    pub(crate) fn note(&mut self, ids: &Runs, place: usize) -> Result<(), AllocError> {
+    fn note(&mut self, ids: &Runs, place: usize) -> Result<(), AllocError> {
         for run in ids.as_slice() {
             let first = Mark::of(run.first().last());
             let end = first.offset.saturating_add(run.len() as i64);
@@ -140,7 +142,8 @@ pub(crate) struct Hints {
     pub(crate) epoch: EpochName,
     // How many operations of the log were noted.
     pub(crate) noted: usize,
-    pub(crate) namings: Namings,
+    // What the deletions of each author name.
+    pub(crate) namings: Vec<Namings>,
 }
 
 impl Hints {
@@ -151,9 +154,29 @@ impl Hints {
         Hints {
             epoch,
             noted: 0,
-            namings: Namings {
-                runs: BTreeMap::new(alloc),
-            },
+            namings: Vec::new(alloc),
         }
     }
+}
+
+// Notes that the deletion of an author at a place of the log, which comes after those that were noted, names these identifiers.
+pub(crate) fn note(
+    alloc: Global,
+    namings: &mut Vec<Namings>,
+    author: u32,
+    ids: &Runs,
+    place: usize,
+) -> Result<(), AllocError> {
+    for known in namings.iter_mut() {
+        if known.author == author {
+            return known.note(ids, place);
+        }
+    }
+    let mut first = Namings {
+        author,
+        runs: BTreeMap::new(alloc),
+    };
+    first.note(ids, place)?;
+    namings.push(first)?;
+    Ok(())
 }

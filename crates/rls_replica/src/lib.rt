@@ -8,6 +8,7 @@ mod editing;
 mod gone;
 mod hints;
 mod keeping;
+mod known;
 mod looking;
 mod naming;
 mod reading;

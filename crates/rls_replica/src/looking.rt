@@ -93,16 +93,20 @@ impl Replica {
     }
 
     // The answer to one that is alone under its number.
-    fn look_at_causes(&self, op: &Op) -> Result<Receipt, AllocError>
-        requires shape { shape_fault (members self.now) op.now ≡ None }
-        ensures answer { IfOk result (λ r. answer_of r ≡ (if not (at_most op.now.context (vector self.now)) then Waits else verdict_of (refusal_over self.now op.now))) }
+    fn look_at_causes(&mut self, op: &Op) -> Result<Receipt, AllocError>
+        requires shape { shape_fault (members self.old) op.now ≡ None }
+        ensures answer { IfOk result (λ r. answer_of r ≡ (if not (at_most op.now.context (vector self.old)) then Waits else verdict_of (refusal_over self.old op.now))) }
+        ensures same { self.new ≡ self.old }
     {
         if !op.context.at_most(self.acks.mine()) {
             return Ok(Receipt::Held);
         }
         match self.refusal(op)? {
             None => Ok(Receipt::Applied),
-            Some(refusal) => Ok(Receipt::Refused(refusal)),
+            Some(refusal) => {
+                self.remember(op, &refusal);
+                Ok(Receipt::Refused(refusal))
+            }
         }
     }
 
@@ -178,8 +182,35 @@ impl Replica {
     }
 
     // How many targets from a place on, which are these identifiers of the greatest epoch, are known at once: those that are
-    // adjacent in the text, or else those that an unstable deletion names.
+    // remembered, or those that are found, whichever are more. The others of a run that is remembered aren't looked for.
     fn known_from(
+        &self,
+        epoch: EpochName,
+        targets: &Runs,
+        images: &Runs,
+        at: u64,
+    ) -> Result<u64, AllocError>
+        requires kept { IsTrue (is_kept self.now.epochs.top self.now.epochs.nodes epoch) }
+        requires place { at < length targets.now }
+        requires images { images.now ≡ map (translate_over self.now epoch (greatest_over self.now)) targets.now }
+        ensures within { IfOk result (λ n. at + n ≤ length targets.now) }
+        ensures known { IfOk result (λ n. first_unknown_over self.now epoch (drop (at + n) targets.now) ≡ first_unknown_over self.now epoch (drop at targets.now)) }
+        ensures unknown { IfOk result (λ n. n ≡ 0 → (x : List Tuple) → slice_get targets.now at ≡ Some x → first_unknown_over self.now epoch (drop at targets.now) ≡ Some (UnknownTarget x)) }
+    {
+        let remembered = self.remembered_from(epoch, targets, images, at)?;
+        let (run, from) = images.locate(at);
+        if remembered == (run.len() - from) as u64 {
+            return Ok(remembered);
+        }
+        let found = self.found_from(epoch, targets, images, at)?;
+        if found < remembered {
+            return Ok(remembered);
+        }
+        Ok(found)
+    }
+
+    // How many of them are found to be so: those that are adjacent in the text, or else those that an unstable deletion names.
+    fn found_from(
         &self,
         epoch: EpochName,
         targets: &Runs,

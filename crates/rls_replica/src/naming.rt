@@ -13,10 +13,10 @@ ghost use Rattle.rls_seen.specs.Over.{is_known_over, first_unknown_over};
 ghost use Rattle.rls_replica.specs.Gone.{AreNamed, NamesNothing};
 ghost use Rattle.rls_replica.specs.Lookups.{is_named_by, is_named_over};
 
-use crate::hints::{Hint, Hints};
+use crate::hints::{Hint, Hints, Namings, note};
 use crate::replica::Replica;
 use crate::uniting::common;
-use rls_ident::{EpochName, Ident, rely};
+use rls_ident::{EpochName, Ident, Spot, rely};
 use rls_log::OpKind;
 use rls_ops::{Body, Op};
 use rls_runs::{Run, Runs};
@@ -47,8 +47,7 @@ impl Replica {
         Ok(0)
     }
 
-    // How many targets from a place on, of which the first is given, the deletion names at which a hint points. A hint that points at
-    // an operation that is stable by now is out of date: then all are made anew, once.
+    // How many targets from a place on, of which the first is given, the deletion names at which a hint points.
     fn hinted_from(
         &self,
         epoch: EpochName,
@@ -64,28 +63,50 @@ impl Replica {
         let Some(hint) = self.hint(epoch, target)? else {
             return Ok(0);
         };
-        if !self.log.head(hint.place).is_covered(self.acks.stable()) {
-            return self.names_run(hint, epoch, targets, at);
-        }
-        self.hints.set(None);
-        let Some(hint) = self.hint(epoch, target)? else {
-            return Ok(0);
-        };
         self.names_run(hint, epoch, targets, at)
     }
 
-    // Which operation of the log the hints tell for a target.
+    // Which unstable operation of the log the hints tell for a target.
     fn hint(&self, epoch: EpochName, target: &Ident) -> Result<Option<Hint>, AllocError>
         requires kept { IsTrue (is_kept self.now.epochs.top self.now.epochs.nodes epoch) }
         ensures within { IfOk result (λ found. IfSome found (λ hint. hint.place < length self.now.log)) }
     {
         let hints = self.hints_up_to_date(epoch)?;
         let there = self.epochs.translate(epoch, hints.epoch, target)?;
-        let found = hints.namings.find(there.last());
+        let found = self.longest(&hints.namings, there.last());
         self.hints.set(Some(hints));
-        match found {
-            Some(hint) if hint.place < self.log.len() => Ok(Some(hint)),
-            _ => Ok(None),
+        Ok(found)
+    }
+
+    // Of the unstable deletions that name the identifier that ends so, each the last one of its author, that which names most from
+    // there on. Those that are stable by now are passed over, so nothing is made anew for their sake.
+    fn longest(&self, namings: &[Namings], last: Spot) -> Option<Hint>
+        ensures within { IfSome result (λ hint. hint.place < length self.now.log) }
+    {
+        let mut longest = None;
+        for of_author in namings {
+            longest = self.longer(longest, of_author.find(last));
+        }
+        longest
+    }
+
+    // The longer one of two hints, of which the second one counts only if it tells an unstable operation.
+    fn longer(&self, one: Option<Hint>, other: Option<Hint>) -> Option<Hint>
+        requires within { IfSome one (λ hint. hint.place < length self.now.log) }
+        ensures within { IfSome result (λ hint. hint.place < length self.now.log) }
+    {
+        let Some(hint) = other else {
+            return one;
+        };
+        if hint.place >= self.log.len() {
+            return one;
+        }
+        if self.log.head(hint.place).is_covered(self.acks.stable()) {
+            return one;
+        }
+        match one {
+            Some(before) if before.count >= hint.count => Some(before),
+            _ => Some(hint),
         }
     }
 
@@ -104,7 +125,7 @@ impl Replica {
                 continue;
             };
             if let Some(ids) = self.named_ids(&op, to)? {
-                namings.note(&ids, i)?;
+                note(self.alloc, &mut namings, op.author, &ids, i)?;
             }
         }
         Ok(Hints {

@@ -16,6 +16,7 @@ ghost use Rattle.rls_replica.specs.Names.{KeepsNames};
 
 use crate::gone::Gone;
 use crate::hints::Hints;
+use crate::known::Known;
 use rls_causal::Held;
 use rls_epoch::Epochs;
 use rls_ident::limits::MEMBERS;
@@ -46,6 +47,7 @@ pub struct Replica {
     pub(crate) gone: Option<Gone>,
     // Whether identifiers shall be noted as gone, anew.
     pub(crate) wanted: Cell<bool>,
+    pub(crate) known: Option<Known>,
 }
 
 impl Model for Replica {
@@ -57,7 +59,7 @@ impl Model for Replica {
 
     ghost view = { seen };
 
-    ghost invariant = { λ r. IsWhole (seen r) r.stems.members r.gone };
+    ghost invariant = { λ r. IsWhole (seen r) r.stems.members r.gone r.known };
 }
 
 // Written out, and not derived, so that the proof of a caller sees one call and not the drop of each field.
@@ -75,6 +77,7 @@ impl Drop for Replica {
             hints: _hints,
             gone: _gone,
             wanted: _wanted,
+            known: _known,
         } = self;
     }
 }
@@ -144,6 +147,7 @@ impl Replica {
             hints: Cell::new(None),
             gone: None,
             wanted: Cell::new(false),
+            known: None,
         })
     }
 
@@ -168,6 +172,7 @@ impl Replica {
         ensures stands { (t : State) → StandsFor self.old t → (result ≡ is_counted t.history from vector.now) × StandsFor self.new (acknowledge t from vector.now) }
     {
         rely!(let _len = vector.len());
+        self.known = None;
         self.acks.note(from, vector)
     }
 }

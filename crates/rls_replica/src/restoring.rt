@@ -69,6 +69,7 @@ impl Replica {
             hints: Cell::new(None),
             gone: None,
             wanted: Cell::new(false),
+            known: None,
         })
     }
 }

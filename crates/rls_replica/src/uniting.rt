@@ -15,6 +15,7 @@ use std::alloc::{AllocError, Global};
 pub(crate) fn union(alloc: Global, a: &Runs, b: &Runs) -> Result<Runs, AllocError>
     ensures first { IfOk result (λ both. (x : List Tuple) → IsIn x a.now → IsIn x both) }
     ensures second { IfOk result (λ both. (x : List Tuple) → IsIn x b.now → IsIn x both) }
+    ensures only { IfOk result (λ both. (x : List Tuple) → IsIn x both → IsIn x a.now ⊎ IsIn x b.now) }
 {
     let mut both = Runs::new(alloc);
     let (mut i, mut j) = (0, 0);
@@ -34,6 +35,7 @@ fn put_next(both: &mut Runs, a: &Runs, i: u64, b: &Runs, j: u64) -> Result<(u64,
     ensures first { IfOk result (λ next. IsPut a.now next.0 both.new) }
     ensures second { IfOk result (λ next. IsPut b.now next.1 both.new) }
     ensures later { IfOk result (λ next. i + j < next.0 + next.1) }
+    ensures only { IfOk result (λ next. (x : List Tuple) → IsIn x both.new → IsIn x both.old ⊎ (IsIn x a.now ⊎ IsIn x b.now)) }
 {
     let (_a, _b) = (a.total(), b.total());
     let end = below(a, b, j)?;
@@ -52,7 +54,7 @@ fn put_next(both: &mut Runs, a: &Runs, i: u64, b: &Runs, j: u64) -> Result<(u64,
 }
 
 // How many identifiers of a list are less than the one at a place of another: all if there is none.
-fn below(ids: &Runs, others: &Runs, at: u64) -> Result<u64, AllocError>
+pub(crate) fn below(ids: &Runs, others: &Runs, at: u64) -> Result<u64, AllocError>
     ensures within { IfOk result (λ n. n ≤ length ids.now) }
     ensures all { IfOk result (λ n. length others.now ≤ at → n ≡ length ids.now) }
     ensures less { IfOk result (λ n. (y : List Tuple) → slice_get others.now at ≡ Some y → (x : List Tuple) → Stands ids.now 0 n x → IsTrue (ident_lt x y)) }
@@ -67,7 +69,7 @@ fn below(ids: &Runs, others: &Runs, at: u64) -> Result<u64, AllocError>
 }
 
 // How many identifiers of a list are less than this one.
-fn count_below(ids: &Runs, id: &Ident) -> u64
+pub(crate) fn count_below(ids: &Runs, id: &Ident) -> u64
     ensures count { result ≡ below_count ids.now id.now }
 {
     match ids.find(id) {
@@ -78,7 +80,7 @@ fn count_below(ids: &Runs, id: &Ident) -> u64
 
 // Puts identifiers of a list after others: those from a place on that are in one run there, at most up to an end. Answers the place
 // after them.
-fn put_part(both: &mut Runs, ids: &Runs, from: u64, end: u64) -> Result<u64, AllocError>
+pub(crate) fn put_part(both: &mut Runs, ids: &Runs, from: u64, end: u64) -> Result<u64, AllocError>
     requires some { from < end }
     requires within { end ≤ length ids.now }
     requires above { (x : List Tuple) → slice_get ids.now from ≡ Some x → AreBelow both.old x }

@@ -1,4 +1,5 @@
 use Rattle.std.proofs.Common.{◌+◌, ◌-◌, inl, inr, ⊎_elim, arith}
+use Rattle.rls_ident.proofs.Members.{get_in}
 use Rattle.rls_runs.proofs.RunOrder.{rising_of}
 use Rattle.rls_replica.proofs.Merges.{both_next, put_more, put_still, moved, moved_back}
 use Rattle.rls_replica.proofs.uniting.put_next.Goals as goal
@@ -48,3 +49,12 @@ returns-clause-second c =
     let back = moved_back a b c.args.i c.args.j c.common-count.result n.next c.common-count.ensures.same (omega (arith, n.ensures.later)) n.ensures.within in
     put_more b c.args.j (c.args.j + (n.next - c.args.i)) c.args.both.now c.put_part-2.new.both (rising_of b c.total-b.ensures.idents.1) c.requires.second (omega (arith, n.ensures.later)) (omega (arith, n.ensures.within, n.ensures.later, c.common-count.ensures.other_within))
     (λ x p. n.ensures.all x (⊎_elim inl (λ s. inr (to x s)) p)) (λ x p. ⊎_elim inl (λ s. inr (back x s)) (n.ensures.only x p))
+
+pub returns-then-i-end-clause-only : goal.returns-then-i-end-clause-only
+returns-then-i-end-clause-only c = λ x p. ⊎_elim inl (λ s. inr (inl (get_in c.args.a.now s.0 x s.3))) (c.in_ok-next.ensures.only x p)
+
+pub returns-then-j-end-clause-only : goal.returns-then-j-end-clause-only
+returns-then-j-end-clause-only c = λ x p. ⊎_elim inl (λ s. inr (inr (get_in c.args.b.now s.0 x s.3))) (c.in_ok-next-2.ensures.only x p)
+
+pub returns-clause-only : goal.returns-clause-only
+returns-clause-only c = λ x p. ⊎_elim inl (λ s. inr (inl (get_in c.args.a.now s.0 x s.3))) (c.in_ok-next-3.ensures.only x p)

@@ -1,4 +1,4 @@
-use Rattle.std.proofs.Common.{◌∙◌, ap, sym, subst, refl}
+use Rattle.std.proofs.Common.{◌∙◌, None, ap, sym, subst, refl}
 use Rattle.rls_ops.specs.Rows.{counts}
 use Rattle.rls_seen.specs.Seen.{Seen}
 use Rattle.rls_seen.specs.Over.{acknowledged}
@@ -26,8 +26,8 @@ pub invariant_of-self : goal.invariant_of-self
 invariant_of-self c =
     let s = c.args.self.now in
     let sane = acknowledged_sane s c.args.from c.args.vector.now (subst IsSane c.self.view_is c.self.invariant.sane) c.requires.member c.requires.counts in
-    whole_kept (seen c.self.inside) s _ (acknowledged s c.args.from c.args.vector.now) c.self.inside.stems.members c.self.inside.stems.members c.self.inside.gone c.self.view_is c.self.invariant (after c) sane (members_acknowledged s c.args.from c.args.vector.now) refl
-    (gone_acknowledged s c.args.from c.args.vector.now (subst IsSane c.self.view_is c.self.invariant.sane) c.requires.member c.requires.counts)
+    whole_kept (seen c.self.inside) s _ (acknowledged s c.args.from c.args.vector.now) c.self.inside.stems.members c.self.inside.stems.members c.self.inside.gone c.self.inside.known None c.self.view_is c.self.invariant (after c) sane (members_acknowledged s c.args.from c.args.vector.now) refl
+    (gone_acknowledged s c.args.from c.args.vector.now (subst IsSane c.self.view_is c.self.invariant.sane) c.requires.member c.requires.counts) tt
 
 pub returns-clause-stands : goal.returns-clause-stands
 returns-clause-stands c = λ t h.

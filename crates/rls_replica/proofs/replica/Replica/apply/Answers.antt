@@ -3,12 +3,14 @@ use Rattle.rls_rename.specs.Tree.{Epochs}
 use Rattle.rls_model.specs.declared.parts.Stem.{Stem}
 use Rattle.rls_model.specs.Stems.{stems_after}
 use Rattle.rls_seen.specs.Seen.{Seen}
-use Rattle.rls_seen.specs.Over.{accepted, epochs_after}
+use Rattle.rls_ops.specs.Rows.{stable_of}
+use Rattle.rls_seen.specs.Over.{accepted, acks_after, epochs_after}
 use Rattle.rls_seen.specs.Sane.{IsSane}
 use Rattle.rls_seen.proofs.Applied.{accepted_sane}
 use Rattle.rls_seen.proofs.Counting.{members_accepted}
 use Rattle.rls_replica.specs.View.{seen}
 use Rattle.rls_replica.proofs.Accepted.{accepted_is}
+use Rattle.rls_replica.proofs.KeptKnown.{next_known}
 use Rattle.rls_replica.proofs.Noting.{gone_accepted}
 use Rattle.rls_replica.proofs.Whole.{whole_kept}
 use Rattle.rls_blocks.specs.Trees.{entries_of}
@@ -37,4 +39,7 @@ invariant_of-self-2 c =
     let s = c.args.self.now in
     let o = c.args.op.now in
     let sane : IsSane (accepted s o) = accepted_sane s o (subst IsSane c.self.view_is c.self.invariant.sane) c.requires.may c.fits.ensures.range in
-    whole_kept (seen c.self.inside) s _ (accepted s o) c.self.inside.stems.members c.finish.new.stems.members c.self.inside.gone c.self.view_is c.self.invariant (after c) sane (members_accepted s o) (c.finish.ensures.members ∙ c.in_ok-renaming.ensures.members) (gone_accepted s o (subst IsSane c.self.view_is c.self.invariant.sane) c.requires.may)
+    whole_kept (seen c.self.inside) s _ (accepted s o) c.self.inside.stems.members c.finish.new.stems.members c.self.inside.gone c.self.inside.known c.kept_known.result c.self.view_is c.self.invariant (after c) sane (members_accepted s o) (c.finish.ensures.members ∙ c.in_ok-renaming.ensures.members) (gone_accepted s o (subst IsSane c.self.view_is c.self.invariant.sane) c.requires.may)
+    (next_known (seen c.self.inside) s c.self.inside.stems.members c.self.inside.gone c.self.inside.known c.take-known.result c.kept_known.result o c.finish.new.epochs.epochs c.stable.result.now c.self.view_is c.self.invariant c.take-known.ensures.value
+    (c.finish.ensures.epochs ∙ (ap (λ (E : Epochs). epochs_after E o) c.in_ok-renaming.ensures.epochs ∙ ap (λ (u : Seen). epochs_after u.epochs o) c.self.view_is))
+    (c.stable.ensures.stable ∙ (ap stable_of c.finish.ensures.acks ∙ ap (λ (u : Seen). stable_of (acks_after u.acks o.author o.body)) c.self.view_is)) c.kept_known.ensures.kept)

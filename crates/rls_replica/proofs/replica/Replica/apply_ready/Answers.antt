@@ -1,9 +1,11 @@
 use Rattle.std.proofs.Common.{◌≡◌, ◌∙◌, ◌<◌, List, Some, None, slice_index, ap, sym, subst, refl, arith}
 use Rattle.rls_rename.specs.Tree.{Epochs}
+use Rattle.std.specs.Prelude.{IfSome}
 use Rattle.rls_ops.specs.declared.op.Op.{Op}
+use Rattle.rls_ops.specs.Rows.{stable_of}
 use Rattle.rls_model.specs.declared.parts.Stem.{Stem}
 use Rattle.rls_model.specs.Stems.{stems_after}
-use Rattle.rls_seen.specs.Over.{acks_after, epochs_after, released}
+use Rattle.rls_seen.specs.Over.{accepted, acks_after, epochs_after, released}
 use Rattle.rls_seen.specs.Sane.{IsSane, MayApply}
 use Rattle.rls_seen.proofs.Counting.{members_released}
 use Rattle.rls_seen.proofs.Needed.{author_in}
@@ -12,6 +14,8 @@ use Rattle.rls_seen.proofs.Staying.{released_sane}
 use Rattle.rls_replica.specs.Changing.{renaming_in}
 use Rattle.rls_seen.specs.Seen.{Seen}
 use Rattle.rls_replica.specs.Gone.{IsGone}
+use Rattle.rls_replica.specs.Known.{IsKnown}
+use Rattle.rls_replica.proofs.KeptKnown.{next_known}
 use Rattle.rls_replica.specs.View.{seen}
 use Rattle.rls_replica.proofs.Accepted.{accepted_is, next_is, next_taken}
 use Rattle.rls_replica.proofs.Noting.{gone_accepted}
@@ -89,7 +93,15 @@ pub invariant_of-self-2 : goal.invariant_of-self-2
 invariant_of-self-2 c =
     let s = c.args.self.now in
     let sane = released_sane s (subst IsSane c.self.view_is c.self.invariant.sane) in
-    whole_kept (seen c.self.inside) s _ (released s) c.self.inside.stems.members c.finish.new.stems.members c.self.inside.gone c.self.view_is c.self.invariant (after c) sane (members_released s) (c.finish.ensures.members ∙ c.in_ok-renaming.ensures.members)
+    whole_kept (seen c.self.inside) s _ (released s) c.self.inside.stems.members c.finish.new.stems.members c.self.inside.gone c.self.inside.known c.kept_known.result c.self.view_is c.self.invariant (after c) sane (members_released s) (c.finish.ensures.members ∙ c.in_ok-renaming.ensures.members)
     (λ g k. let i = seen c.self.inside in
     let h = next_is i s c.mine.result.now c.in-Some.op.now c.self.view_is c.self.invariant.sane c.mine.ensures.mine c.in-Some.ensures.ready c.requires.fits in
     subst (λ (u : Seen). IsGone u g) (released_accepted i c.in-Some.op.now h.first h.fits ∙ ap released c.self.view_is) (gone_accepted i c.in-Some.op.now c.self.invariant.sane h.may g (subst (λ (u : Seen). IsGone u g) (sym c.self.view_is) k)))
+    (let i = seen c.self.inside in
+    let w = c.in-Some.op.now in
+    let h = next_is i s c.mine.result.now w c.self.view_is c.self.invariant.sane c.mine.ensures.mine c.in-Some.ensures.ready c.requires.fits in
+    let o = c.in-Some-remove.op in
+    let e = next_taken _ s _ w o c.remove.result c.self.view_is c.self.invariant.sane c.mine.ensures.mine c.in-Some.ensures.ready c.requires.fits c.remove.ensures.found c.in-Some-remove.is in
+    subst (λ (u : Seen). IfSome c.kept_known.result (λ k. IsKnown u k)) (ap (accepted i) e ∙ (released_accepted i w h.first h.fits ∙ ap released c.self.view_is))
+    (next_known i i c.self.inside.stems.members c.self.inside.gone c.self.inside.known c.take-known.result c.kept_known.result o c.finish.new.epochs.epochs c.stable.result.now refl c.self.invariant c.take-known.ensures.value
+    (c.finish.ensures.epochs ∙ ap (λ (E : Epochs). epochs_after E o) c.in_ok-renaming.ensures.epochs) (c.stable.ensures.stable ∙ ap stable_of c.finish.ensures.acks) c.kept_known.ensures.kept))

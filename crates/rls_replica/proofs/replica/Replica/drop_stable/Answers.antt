@@ -48,5 +48,5 @@ returns-clause-stands c = λ t h. (
 pub invariant_of-self : goal.invariant_of-self
 invariant_of-self c =
     let s = c.args.self.now in
-    whole_next (seen c.self.inside) s _ (dropped s) c.self.inside.stems.members c.self.inside.stems.members c.self.inside.gone None c.self.view_is c.self.invariant (after c)
-    (dropped_sane s (subst IsSane c.self.view_is c.self.invariant.sane)) (members_dropped s) refl tt
+    whole_next (seen c.self.inside) s _ (dropped s) c.self.inside.stems.members c.self.inside.stems.members c.self.inside.gone None c.self.inside.known None c.self.view_is c.self.invariant (after c)
+    (dropped_sane s (subst IsSane c.self.view_is c.self.invariant.sane)) (members_dropped s) refl tt tt

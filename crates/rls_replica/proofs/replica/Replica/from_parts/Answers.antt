@@ -31,6 +31,7 @@ invariant_of-result c =
       sane = subst IsSane (sym same) (sane p c.requires.given c.fit.ensures.ranged made.unbroken);
       authors_are = made.members ∙ (sym c.requires.given.vector ∙ sym (ap (λ (x : AcksSeen). length x.mine) made.acks));
       gone_are = tt;
+      known_are = tt;
     }
 
 pub returns-clause-replica : goal.returns-clause-replica

@@ -9,7 +9,7 @@ use Rattle.rls_seen.proofs.Staying.{put_sane}
 use Rattle.rls_replica.specs.View.{seen}
 use Rattle.rls_replica.proofs.Answered.{held_in_order, members_holding}
 use Rattle.rls_replica.proofs.Noting.{gone_holding}
-use Rattle.rls_replica.proofs.Whole.{whole_kept}
+use Rattle.rls_replica.proofs.Whole.{still_known, whole_kept}
 use Rattle.rls_replica.proofs.replica.Replica.hold.Goals as goal
 
 after : goal.returns-clause-ok
@@ -28,5 +28,6 @@ pub invariant_of-self-2 : goal.invariant_of-self-2
 invariant_of-self-2 c =
     let s = c.args.self.now in
     let W = with_waiting c.args.op (without c.args.op.author c.args.op.seq s.waiting) in
-    whole_kept (seen c.self.inside) s _ (holding s W) c.self.inside.stems.members c.self.inside.stems.members c.self.inside.gone c.self.view_is c.self.invariant (after c)
+    whole_kept (seen c.self.inside) s _ (holding s W) c.self.inside.stems.members c.self.inside.stems.members c.self.inside.gone c.self.inside.known c.self.inside.known c.self.view_is c.self.invariant (after c)
     (put_sane s c.args.op (subst IsSane c.self.view_is c.self.invariant.sane) c.requires.may c.fits.ensures.range) (members_holding s W) refl (gone_holding s W)
+    (still_known (seen c.self.inside) s c.self.inside.stems.members c.self.inside.gone c.self.inside.known W c.self.view_is c.self.invariant)

@@ -9,7 +9,7 @@ pub invariant_of-result : goal.invariant_of-result
 invariant_of-result c =
     let numbers : AreNumbers c.args.group c.args.me c.args.members = (c.ranges.group.fits, c.requires.me, c.requires.few) in
     rw (c.in_ok-new.ensures.fresh, c.in_ok-new-2.ensures.stems, c.in_ok-new-2.ensures.members, c.in_ok-starting_at.ensures.epochs, c.new-3.ensures.empty, c.new-4.ensures.empty, c.new-5.ensures.empty)
-    (record { sane = fresh_sane c.args.group c.args.me c.args.members numbers; authors_are = sym (length-replicate c.args.members 0); gone_are = tt })
+    (record { sane = fresh_sane c.args.group c.args.me c.args.members numbers; authors_are = sym (length-replicate c.args.members 0); gone_are = tt; known_are = tt })
 
 pub returns-clause-stands : goal.returns-clause-stands
 returns-clause-stands c =

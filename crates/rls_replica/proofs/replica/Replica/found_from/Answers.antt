@@ -6,7 +6,7 @@ use Rattle.rls_ident.specs.Identifiers.{shifted}
 use Rattle.rls_runs.specs.Entries.{has_ident, idents_in}
 use Rattle.rls_seen.specs.Seen.{greatest_over, translate_over}
 use Rattle.rls_replica.proofs.Targets.{got_mapped, known_in_text, known_many, out_of_text, unknown_at}
-use Rattle.rls_replica.proofs.replica.Replica.known_from.Goals as goal
+use Rattle.rls_replica.proofs.replica.Replica.found_from.Goals as goal
 
 -- the targets of a run that stand in the text
 pub returns-then-standing-gt0-clause-known : goal.returns-then-standing-gt0-clause-known
