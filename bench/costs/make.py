@@ -131,6 +131,14 @@ def refused_gone(n):
     return [text(n), *alone, *[op(2, 1, (0, 1, 0), deletion((0, n + 1)))] * n]
 
 
+def refused_between(n):
+    """As refused_standing, and before each refused operation one that is accepted, far from there."""
+    first, *others = refused_standing(n)
+    inserted, deleted = others[:n], others[n:]
+    far = [later(k, insertion(ident(k, 0, pos=k), b"c")) for k in range(n + 2, 2 * n + 2)]
+    return [first, *inserted, *[one for pair in zip(far, deleted) for one in pair]]
+
+
 def refused(n):
     """After n deletions of one character each come 2n operations that are refused for their one target: in turn one that nobody
     inserted, and one that differs from a deleted one only in its position."""

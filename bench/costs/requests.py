@@ -42,6 +42,11 @@ def acked_gone(n):
     return [*deletions(n + 1), taking((2, 0)), *[taking((k + 1, k - 1), ops) for k, ops in enumerate(both, 2)]]
 
 
+def acked_each(n):
+    """Each message tells of one more deletion that it is known, and deletes what the one before took out."""
+    return [*deletions(n), taking((2, 0)), *[taking((k + 1, 0), [deletion(1, k, 2 * (k - 2))]) for k in range(2, n + 1)]]
+
+
 def acked_sends(n):
     """n insertions, which the other member knows, and n times a message for it, which has no operation."""
     return [*[line("i", k, "a") for k in range(n)], taking((n, 0)), *[line("s", 1)] * n]
