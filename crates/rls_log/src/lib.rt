@@ -1,6 +1,7 @@
 //! Operations in order, kept as the bytes that spell them.
 #![tactic(auto)]
 
+mod context;
 mod entry;
 mod head;
 mod latest;

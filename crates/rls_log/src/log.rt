@@ -1,6 +1,7 @@
 //! The log: operations in order, kept as bytes.
 
 ghost use Rattle.std.specs.Prelude.{◌≡◌, ◌<◌, All, ◌++◌, ◌∷◌, [], ◌==◌, Some, length, take, slice_get, IfOk, IfSome, OnOk, OnErr};
+ghost use Rattle.rls_ident.specs.Vectors.{at_most};
 ghost use Rattle.rls_ops.specs.declared.op.Op.{Op as OpSeen};
 ghost use Rattle.rls_codec.specs.Spelled.{IsSpelledIfFit};
 ghost use Rattle.rls_ops.specs.Rows.{missing_for};
@@ -9,6 +10,7 @@ ghost use Rattle.rls_log.specs.Heads.{IsHeadOf};
 ghost use Rattle.rls_log.specs.Fitting.{AreFit};
 ghost use Rattle.rls_log.specs.Encoded.{SpellOne, op_spelled};
 
+use crate::context::{BEFORE_CONTEXT, is_context_at_most};
 use crate::entry::{Entry, large_deletion};
 use crate::head::OpHead;
 use crate::latest::Latest;
@@ -17,9 +19,6 @@ use rls_ident::{Vector, rely};
 use rls_ops::Op;
 use std::alloc::{AllocError, Global};
 use std::marker::Model;
-
-/// How many bytes an operation has before its context.
-const BEFORE_CONTEXT: usize = 8;
 
 /// Operations in order, kept as the bytes that spell them. What is asked most of an operation, all but its context and its body,
 /// stands beside the bytes: it costs no reading. An operation takes its bytes in memory, and 48 more. A deletion of more than 512 bytes
@@ -157,6 +156,16 @@ impl Log {
             entry.head.members,
             entry.part(&self.bytes),
         )
+    }
+
+    /// Whether the context of the operation at a place, counted from 0, counts at most what a vector counts, member by member. It is
+    /// compared where it stands, which takes no memory.
+    pub fn context_at_most(&self, i: usize, vector: &Vector) -> bool
+        requires place { i < length self.now }
+        ensures test { (o : OpSeen) → slice_get self.now i ≡ Some o → result ≡ at_most o.context vector.now }
+    {
+        let entry = &self.entries[i];
+        is_context_at_most(entry.head.members, entry.part(&self.bytes), vector.counts())
     }
 
     /// Keeps the operations whose number is above the vector's count of their author. If most of the bytes are of none then, what is
