@@ -1,6 +1,5 @@
 -- Rule 5 of an operation, by its head and its context.
-use Rattle.std.proofs.Common.{◌≡◌, ◌∙◌, ℕ, ◌+◌, Bool, true, false, not, ◌&&◌, ◌||◌, ◌==◌, nat_lt, slice_index, List, length, Option, Some, None, refl, sym, ap, subst}
-use Rattle.std.specs.Prelude.{is_some}
+use Rattle.std.proofs.Common.{◌≡◌, ◌∙◌, ℕ, ◌+◌, true, not, ◌&&◌, ◌||◌, ◌==◌, nat_lt, slice_index, List, length, Option, Some, None, refl, sym, ap, subst}
 use Rattle.rls_ident.specs.Vectors.{at_most}
 use Rattle.rls_ident.proofs.Members.{and_left, and_right, and_true, eq_is, eq_test, lt_test, same_bool}
 use Rattle.rls_ops.specs.declared.op.Op.{Op}
@@ -14,8 +13,8 @@ use Rattle.rls_log.specs.Heads.{kind_in, is_shaped, IsHeadOf}
 use Rattle.rls_model.specs.declared.parts.Parts.{Parts}
 use Rattle.rls_model.specs.History.{is_leave}
 use Rattle.rls_parts.specs.Reading.{has_member}
-use Rattle.rls_parts.specs.Rules.{is_fine, is_kept_name, is_last, is_next}
-use Rattle.rls_rules.specs.Tested.{is_leaving, is_head_last, is_head_next}
+use Rattle.rls_parts.specs.Rules.{is_fine, is_kept_name, is_next}
+use Rattle.rls_rules.specs.Tested.{is_leaving, is_head_next}
 
 none_of : (x : Option Shape) → is_fine x ≡ true → x ≡ None
 none_of None e = refl

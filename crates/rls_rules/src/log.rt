@@ -1,6 +1,7 @@
 //! Unstable operations.
 
-ghost use Rattle.std.specs.Prelude.{◌≡◌, ◌-◌, ◌^◌, ◌<◌, [], None, length, slice_index, IfOk, IsTrue};
+ghost use Rattle.std.specs.Prelude.{◌≡◌, ℕ, List, ◌-◌, ◌^◌, ◌<◌, [], None, length, slice_index, IfOk, IsTrue};
+ghost use Rattle.rls_ident.specs.Vectors.{at_most};
 ghost use Rattle.rls_ops.specs.Same.{numbers_eq};
 ghost use Rattle.rls_parts.specs.Given.{AreEpochParts, AreGiven};
 ghost use Rattle.rls_parts.specs.Reading.{epochs_of, has_member, stable_of_parts};
@@ -35,20 +36,21 @@ fn is_last(parts: &Parts, head: &OpHead) -> bool
     }
 }
 
-// Whether the operation with this head and this context comes next after those that the vector counts.
+// Whether the operation with this head comes next after those that the vector counts, where it was tested whether its context counts no
+// more of them.
 fn is_next(
     parts: &Parts,
     epochs: &Epochs,
     running: &Vector,
     head: &OpHead,
-    context: &Vector,
+    is_counted: bool,
 ) -> bool
     requires counts { length parts.now.vector ≡ parts.now.members }
     requires running { length running.now ≡ parts.now.members }
     requires epochs_are { epochs.now.epochs ≡ epochs_of parts.now }
     requires rule { epoch_fault parts.now [] parts.now.epochs ≡ None }
     requires given { AreEpochParts parts.now.epochs }
-    ensures next { result ≡ is_head_next parts.now running.now head.now context.now }
+    ensures next { (context : List ℕ) → is_counted ≡ at_most context running.now → result ≡ is_head_next parts.now running.now head.now context }
     ensures author { IsTrue result → head.now.author < parts.now.members }
     ensures room { IsTrue result → slice_index running.now head.now.author < 2 ^ 32 - 1 }
 {
@@ -56,7 +58,7 @@ fn is_next(
         return false;
     }
     head.seq as u64 == running.get(head.author) as u64 + 1
-        && context.at_most(running)
+        && is_counted
         && is_kept_name(parts, epochs, head.epoch)
         && is_last(parts, head)
 }
@@ -94,8 +96,8 @@ pub fn log_fault(
     let mut running = stable.copy()?;
     for i in 0..parts.log.len() {
         let head = parts.log.head(i);
-        let context = parts.log.context(i)?;
-        if !is_next(parts, epochs, &running, &head, &context) {
+        let is_counted = parts.log.context_at_most(i, &running);
+        if !is_next(parts, epochs, &running, &head, is_counted) {
             return Ok(Err(i as u64));
         }
         running.raise(head.author);

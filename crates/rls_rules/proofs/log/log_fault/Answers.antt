@@ -1,10 +1,9 @@
-use Rattle.std.proofs.Common.{◌≡◌, sym, ap, ◌∙◌, true, false}
+use Rattle.std.proofs.Common.{sym, ap, ◌∙◌}
 use Rattle.rls_ident.specs.Vectors.{raise}
 use Rattle.rls_ident.proofs.Vectors.{length-raise}
 use Rattle.rls_ops.specs.Same.{numbers_eq}
-use Rattle.rls_parts.specs.Rules.{is_next, log_fault, raised_by}
+use Rattle.rls_parts.specs.Rules.{log_fault, raised_by}
 use Rattle.std.proofs.Common.{length, drop, ◌+◌, arith}
-use Rattle.rls_rules.specs.Tested.{is_head_next}
 use Rattle.rls_rules.proofs.Faults.{length-stable_parts, log_on, log_stops, raised_on, log_done, raised_done}
 use Rattle.rls_rules.proofs.Heads.{head_next}
 use Rattle.rls_rules.proofs.log.log_fault.Goals as goal
@@ -24,7 +23,7 @@ returns-then-not-is_next c =
     let p = c.args.parts.now in
     let v = c.loop-i.running in
     let h = c.head-head.ensures.head in
-    let n = sym (head_next p v c.head-head.result h.0 h.2) ∙ ap (is_head_next p v c.head-head.result) (sym (c.in_ok-context.ensures.context h.0 h.1)) ∙ sym c.if-not-is_next.ensures.next in
+    let n = sym (head_next p v c.head-head.result h.0 h.2) ∙ sym (c.if-not-is_next.ensures.next h.0.context (c.context_at_most-is_counted.ensures.test h.0 h.1)) in
     record { tested = sym c.loop-i.invariant.pass ∙ log_stops p v c.loop-i.i p.log h.0 h.1 n }
 
 pub loop-i-preserved : goal.loop-i-preserved
@@ -34,7 +33,7 @@ loop-i-preserved c =
     let i = c.loop-i.i in
     let h = c.head-head.ensures.head in
     let o = h.0 in
-    let n = sym (head_next p v c.head-head.result o h.2) ∙ ap (is_head_next p v c.head-head.result) (sym (c.in_ok-context.ensures.context o h.1)) ∙ sym c.if-not-is_next.ensures.next in
+    let n = sym (head_next p v c.head-head.result o h.2) ∙ sym (c.if-not-is_next.ensures.next o.context (c.context_at_most-is_counted.ensures.test o h.1)) in
     let r = c.raise.ensures.raise ∙ ap (raise v) h.2.author in
     record {
       counts = ap length r ∙ (length-raise v o.author ∙ c.loop-i.invariant.counts);
