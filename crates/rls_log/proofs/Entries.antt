@@ -67,13 +67,6 @@ context_read members bytes s =
     let a = context_after o in
     (a.0, ap (λ b. vector_at members (drop 8 b)) s.bytes_are ∙ ap (vector_at members) a.1 ∙ (vector members).again o.context a.0 s.fits.2)
 
-pub context_never_fails : (members : ℕ) (bytes : List ℕ) (left : ℕ) → SpellOne members bytes → vector_at members (drop 8 bytes) ≡ Err left → ⊥
-context_never_fails members bytes left s e = let h = sym (context_read members bytes s).1 ∙ e in absurd cc
-
-pub context_is : (members : ℕ) (bytes : List ℕ) (v rest : List ℕ) → SpellOne members bytes → vector_at members (drop 8 bytes) ≡ Ok (v, rest) → v ≡ (op_spelled members bytes).context
-context_is members bytes v rest s e = let r = context_read members bytes s in
-    ap (λ (x : List ℕ × List ℕ). x.0) (ok_is (v, rest) ((op_spelled members bytes).context, r.0) (sym e ∙ r.1))
-
 pub long_enough : (members : ℕ) (bytes : List ℕ) → SpellOne members bytes → 8 ≤ length bytes
 long_enough members bytes s = let l = ap length s.bytes_are in let n = op_length (op_spelled members bytes) in omega arith
 

@@ -7,7 +7,7 @@ ghost use Rattle.rls_codec.specs.Reading.{number_at};
 ghost use Rattle.rls_log.specs.Encoded.{SpellOne, op_spelled};
 
 /// How many bytes an operation has before its context.
-pub(crate) const BEFORE_CONTEXT: usize = 8;
+const BEFORE_CONTEXT: usize = 8;
 
 // Whether the context of the operation that the bytes spell counts at most what these counts say, member by member.
 pub(crate) fn is_context_at_most(members: u32, bytes: &[u8], counts: &[u32]) -> bool

@@ -10,11 +10,11 @@ ghost use Rattle.rls_log.specs.Heads.{IsHeadOf};
 ghost use Rattle.rls_log.specs.Fitting.{AreFit};
 ghost use Rattle.rls_log.specs.Encoded.{SpellOne, op_spelled};
 
-use crate::context::{BEFORE_CONTEXT, is_context_at_most};
+use crate::context::is_context_at_most;
 use crate::entry::{Entry, large_deletion};
 use crate::head::OpHead;
 use crate::latest::Latest;
-use rls_codec::{ReadError, encode_op, op_fields, vector};
+use rls_codec::{ReadError, encode_op, op_fields};
 use rls_ident::{Vector, rely};
 use rls_ops::Op;
 use std::alloc::{AllocError, Global};
@@ -145,19 +145,6 @@ impl Log {
         }
     }
 
-    /// The context of the operation at a place, counted from 0, made of its bytes.
-    pub fn context(&self, i: usize) -> Result<Vector, AllocError>
-        requires place { i < length self.now }
-        ensures context { IfOk result (λ v. (o : OpSeen) → slice_get self.now i ≡ Some o → v ≡ o.context) }
-    {
-        let entry = &self.entries[i];
-        read_context(
-            *self.bytes.allocator(),
-            entry.head.members,
-            entry.part(&self.bytes),
-        )
-    }
-
     /// Whether the context of the operation at a place, counted from 0, counts at most what a vector counts, member by member. It is
     /// compared where it stands, which takes no memory.
     pub fn context_at_most(&self, i: usize, vector: &Vector) -> bool
@@ -237,19 +224,6 @@ fn read_op(alloc: Global, members: u32, bytes: &[u8]) -> Result<Op, AllocError>
 {
     match op_fields(alloc, members, bytes) {
         Ok((op, _)) => Ok(op),
-        Err(ReadError::Fault { .. }) => unreachable!(),
-        Err(ReadError::OutOfMemory) => Err(AllocError),
-    }
-}
-
-// The context of the operation that the bytes spell.
-fn read_context(alloc: Global, members: u32, bytes: &[u8]) -> Result<Vector, AllocError>
-    requires spelled { SpellOne members bytes.now }
-    ensures context { IfOk result (λ v. v ≡ (op_spelled members bytes.now).context) }
-{
-    let (_, rest) = bytes.split_at(BEFORE_CONTEXT);
-    match vector(alloc, members, rest) {
-        Ok((vector, _)) => Ok(vector),
         Err(ReadError::Fault { .. }) => unreachable!(),
         Err(ReadError::OutOfMemory) => Err(AllocError),
     }
