@@ -1,5 +1,5 @@
 -- The greatest number of each author, and what a vector leaves uncovered.
-use Rattle.std.proofs.Common.{◌≡◌, ◌∙◌, ℕ, zero, suc, ◌+◌, ◌-◌, ◌^◌, ◌<◌, ◌≤◌, min, Bool, true, false, not, List, [], ◌∷◌, ◌++◌, Some, length, take, drop, refl, sym, ap, arith}
+use Rattle.std.proofs.Common.{◌≡◌, ◌∙◌, ℕ, zero, suc, ◌+◌, ◌-◌, ◌<◌, ◌≤◌, min, Bool, true, false, not, List, [], ◌∷◌, ◌++◌, Some, length, take, drop, refl, sym, ap, arith}
 use Rattle.std.specs.Prelude.{slice_get, slice_index, slice_set, if◌then◌else◌}
 use Rattle.std.proofs.lemmas.List.{length-append, length-take, take-append-drop, take-take, take_all}
 use Rattle.std.proofs.lemmas.List.Elements.{filter-append}

@@ -1,7 +1,7 @@
 -- A context, compared count by count where it stands.
-use Rattle.std.proofs.Common.{◌≡◌, ◌∙◌, ℕ, ◌+◌, ◌-◌, ◌<◌, ◌≤◌, Bool, true, false, List, [], ◌∷◌, ◌++◌, Some, Ok, Err, length, take, drop, refl, sym, ap, arith}
-use Rattle.std.specs.Prelude.{◌&&◌, nat_le, nat_lt, slice_get, None, if◌then◌else◌}
-use Rattle.std.specs.Int.{w32, byte_len, from_be_bytes}
+use Rattle.std.proofs.Common.{◌≡◌, ◌∙◌, ℕ, ◌+◌, ◌-◌, ◌<◌, ◌≤◌, Bool, true, false, List, [], ◌∷◌, ◌++◌, Ok, Err, length, take, drop, refl, sym, ap, arith}
+use Rattle.std.specs.Prelude.{◌&&◌, nat_le, nat_lt, None, if◌then◌else◌}
+use Rattle.std.specs.Int.{w32, from_be_bytes}
 use Rattle.std.proofs.lemmas.List.{length-append}
 use Rattle.rls_ident.proofs.Members.{bool_cases, not_lt_is, and_none}
 use Rattle.rls_ident.specs.Vectors.{at_most}

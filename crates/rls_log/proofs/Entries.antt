@@ -21,7 +21,6 @@ use Rattle.rls_codec.specs.CodecLaws.{IsBytes}
 use Rattle.rls_codec.specs.Reading.{Read, chain_at, op_fields_at, op_at, vector_at}
 use Rattle.rls_codec.proofs.Loop.{with_front, goes_on_many, is_done}
 use Rattle.rls_codec.specs.Spelled.{FieldsFit, FitTuples, FitsBody, IsSpelledIfFit}
-use Rattle.rls_codec.proofs.Formats.{ok_is}
 use Rattle.rls_codec.proofs.MessageFormats.{op_fields, op_takes}
 use Rattle.rls_codec.proofs.PartFormats.{vector}
 use Rattle.rls_codec.proofs.SizeLaws.{op_length}

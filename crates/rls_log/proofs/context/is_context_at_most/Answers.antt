@@ -1,4 +1,4 @@
-use Rattle.std.proofs.Common.{◌≡◌, ◌∙◌, List, ℕ, drop, sym, ap, subst}
+use Rattle.std.proofs.Common.{◌∙◌, drop, sym, subst}
 use Rattle.rls_log.proofs.Contexts.{AtMostSoFar, none_compared, count_there, most_next, most_ends, most_all}
 use Rattle.rls_log.proofs.Entries.{context_read, long_enough}
 use Rattle.rls_log.proofs.context.is_context_at_most.Goals as goal

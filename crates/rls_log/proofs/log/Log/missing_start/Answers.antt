@@ -1,4 +1,4 @@
-use Rattle.std.proofs.Common.{◌∙◌, ◌<◌, ◌≤◌, length, take, sym, ap, arith}
+use Rattle.std.proofs.Common.{◌∙◌, ◌<◌, length, sym, ap, arith}
 use Rattle.std.proofs.lemmas.List.{take_all}
 use Rattle.rls_ops.specs.Rows.{missing_for}
 use Rattle.rls_log.proofs.Bounds.{back_covered, back_uncovered, back_ends}
