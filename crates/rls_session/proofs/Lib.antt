@@ -13,6 +13,7 @@ pub mod Sized
 pub mod Writable
 pub mod Sent
 pub mod Answered
+mod Told
 pub mod Served
 pub mod Stages
 pub mod Called

@@ -7,6 +7,7 @@ pub mod ChangeLines
 pub mod Cursors
 pub mod Answers
 pub mod Sessions
+pub mod SessionLaws
 pub mod Sent
 pub mod Desks
 pub mod Devices

@@ -6,6 +6,7 @@ mod change_lines;
 mod cursors;
 mod desk;
 mod intake;
+pub mod laws;
 mod orders;
 mod places;
 mod replies;
