@@ -1,3 +1,4 @@
 mod Stored
+pub mod Leaving
 pub mod Survived
 mod Sessions

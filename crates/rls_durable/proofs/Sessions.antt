@@ -9,7 +9,8 @@ use Rattle.rls_journal.specs.Slots.{HasStored, IsSound}
 use Rattle.rls_journal.proofs.Rests.{rest_again, rest_kept}
 use Rattle.rls_session.specs.Calls.{AreAllFilesOf, AreDue, Calls, CallsNothing, FailsOnce, FailsToLoad, IsFileOf, IsLastDue, IsLastOf, Loads, IsStatusAfter, Stores, StoresEach, and_failed, no_stores, tried}
 use Rattle.rls_session.specs.Due.{Due}
-use Rattle.rls_durable.specs.Stops.{HasDue, IsOld, IsOldOrOneOf, LeavesInTurn, LeavesOldOrStores}
+use Rattle.rls_durable.specs.Stops.{HasDue, IsOld, IsOldOrOneOf, LeavesInStore, LeavesInTurn, LeavesOldOrStores}
+use Rattle.rls_durable.proofs.Leaving.{leaves_both, leaves_weaker}
 use Rattle.rls_durable.proofs.Survived.{at_some, loaded_only, to_some, uncalled_only}
 
 -- the last of these files
@@ -46,18 +47,11 @@ module _ {D : Type 0} (retries : Type 0) (seen : D → Option Areas) (may_leave 
 
   -- what follows of what is left
   weaker : (k l : K) (P Q : Areas → Type 0) → ((c : Areas) → P c → Q c) → Leaves k l P → Leaves k l Q
-  weaker k l P Q f h = record { later = h.later; each = λ c left. f c (h.each c left); before = λ t c le left. ⊎_elim (λ past. inl past) (λ p. inr (f c p)) (h.before t c le left) }
+  weaker k l = leaves_weaker moment left_since (disk k) (disk l)
 
   -- one call after another
-  both_disks : (d e f : D) (P : Areas → Type 0) → LeavesOnly moment left_since d e P → LeavesOnly moment left_since e f P → LeavesOnly moment left_since d f P
-  both_disks d e f P front back = record {
-    later = omega (arith, front.later, back.later);
-    each = λ c left. ⊎_elim (λ past. front.each c past) (λ p. p) (back.before (moment d) c front.later left);
-    before = λ t c le left. ⊎_elim (λ past. front.before t c le past) (λ p. inr p) (back.before t c (omega (arith, le, front.later)) left);
-  }
-
   both : (k m l : K) (P : Areas → Type 0) → Leaves k m P → Leaves m l P → Leaves k l P
-  both k m l P front back = both_disks (disk k) (disk m) (disk l) P front back
+  both k m l = leaves_both moment left_since (disk k) (disk m) (disk l)
 
   -- at rest, with this file
   pub record RestsWith (k : K) (file : Option (List ℕ)) : Type 0 where
@@ -68,6 +62,10 @@ module _ {D : Type 0} (retries : Type 0) (seen : D → Option Areas) (may_leave 
 
   left_is : (k : K) (file : Option (List ℕ)) → RestsWith k file → (c : Areas) → may_leave (disk k) c → kept c ≡ file
   left_is k file r c left = rest_kept retries seen may_leave moment left_since only r.areas (disk k) r.rest c left ∙ r.same
+
+  -- which isn't called
+  uncalled : (k : K) (file : Option (List ℕ)) → RestsWith k file → Leaves k k (IsOld file)
+  uncalled k file r = uncalled_only retries seen may_leave moment left_since only (disk k) file (left_is k file r)
 
   rest_is : (k : K) (file : Option (List ℕ)) → RestsWith k file → IsAtRest retries seen may_leave (disk k)
   rest_is k file r = subst (λ o. IfSome o (λ s. Rests retries s (may_leave (disk k)))) (sym r.is) r.rest
@@ -87,7 +85,7 @@ module _ {D : Type 0} (retries : Type 0) (seen : D → Option Areas) (may_leave 
 
   each_only : (files : List (List ℕ)) (k l : K) (file : Option (List ℕ)) → RestsWith k file → StoresEach store files k l → Kept files k l file
   each_only [] k l file r h =
-      let same = subst (λ (x : K). Leaves k x (IsOldOrOneOf file [])) (sym h) (weaker k k (IsOld file) (IsOldOrOneOf file []) (λ c p. inl p) (uncalled_only retries seen may_leave moment left_since only (disk k) file (left_is k file r))) in
+      let same = subst (λ (x : K). Leaves k x (IsOldOrOneOf file [])) (sym h) (weaker k k (IsOld file) (IsOldOrOneOf file []) (λ c p. inl p) (uncalled k file r)) in
       (same, (file, subst (λ (x : K). RestsWith x file) (sym h) r, inl refl))
   each_only (bytes ∷ files) k l file r h =
       let m = h.0 in
@@ -98,26 +96,32 @@ module _ {D : Type 0} (retries : Type 0) (seen : D → Option Areas) (may_leave 
 
   -- and then of one that fails
   failed_only : (failed : Option (List ℕ)) (k l : K) (file : Option (List ℕ)) → RestsWith k file → FailsOnce store failed k l → Leaves k l (IsOldOrOneOf file (and_failed failed))
-  failed_only None k l file r h = subst (λ (x : K). Leaves k x (IsOldOrOneOf file [])) (sym h) (weaker k k (IsOld file) (IsOldOrOneOf file []) (λ c p. inl p) (uncalled_only retries seen may_leave moment left_since only (disk k) file (left_is k file r)))
+  failed_only None k l file r h = subst (λ (x : K). Leaves k x (IsOldOrOneOf file [])) (sym h) (weaker k k (IsOld file) (IsOldOrOneOf file []) (λ c p. inl p) (uncalled k file r))
   failed_only (Some bytes) k l file r h = weaker k l (λ c. (kept c ≡ file) ⊎ (kept c ≡ Some bytes)) (IsOldOrOneOf file (bytes ∷ [])) (λ c p. ⊎_elim (λ q. inl q) (λ q. inr (bytes, inl refl, q)) p) (stores_only false bytes k l file r h)
 
   -- the same in turn
+  abbrev InStore : Option (List ℕ) → List ℕ → Bool → D → D → Type 0
+  InStore = LeavesInStore moment left_since (StoreGives retries seen may_leave moment left_since)
+
   abbrev InTurn : Option (List ℕ) → List (List ℕ) → Option (List ℕ) → K → K → Type 0
-  InTurn file files failed k l = LeavesInTurn moment left_since file files failed (disk k) (disk l)
+  InTurn file files failed k l = LeavesInTurn moment left_since (StoreGives retries seen may_leave moment left_since) file files failed (disk k) (disk l)
+
+  in_store : (ok : Bool) (bytes : List ℕ) (k l : K) (file : Option (List ℕ)) → RestsWith k file → store k bytes ok l → InStore file bytes ok (disk k) (disk l)
+  in_store ok bytes k l file r h = record { called = disk k; until = uncalled k file r; store = h; within = stores_only ok bytes k l file r h }
 
   turns : (files : List (List ℕ)) (failed : Option (List ℕ)) (k m l : K) (file : Option (List ℕ)) → RestsWith k file → StoresEach store files k m → FailsOnce store failed m l → InTurn file files failed k l
-  turns [] None k m l file r h f =
-      subst (λ (x : K). Leaves k x (IsOld file)) (sym (f ∙ h)) (uncalled_only retries seen may_leave moment left_since only (disk k) file (left_is k file r))
-  turns [] (Some bytes) k m l file r h f =
-      stores_only false bytes k l file r (subst (λ (x : K). store x bytes false l) h f)
-  turns (bytes ∷ files) failed k m l file r h f = (disk h.0, stores_only true bytes k h.0 file r h.1, turns files failed h.0 m l (Some bytes) (rests_with bytes k h.0 file r h.1) h.2 f)
+  turns [] None k m l file r h f = subst (λ (x : K). Leaves k x (IsOld file)) (sym (f ∙ h)) (uncalled k file r)
+  turns [] (Some bytes) k m l file r h f = in_store false bytes k l file r (subst (λ (x : K). store x bytes false l) h f)
+  turns (bytes ∷ files) failed k m l file r h f = (disk h.0, in_store true bytes k h.0 file r h.1, turns files failed h.0 m l (Some bytes) (rests_with bytes k h.0 file r h.1) h.2 f)
 
   -- before which the file stays
+  later_store : (k m : K) (d : D) (bytes : List ℕ) (ok : Bool) (file : Option (List ℕ)) → Leaves k m (IsOld file) → InStore file bytes ok (disk m) d → InStore file bytes ok (disk k) d
+  later_store k m d bytes ok file front back = record { called = back.called; until = leaves_both moment left_since (disk k) (disk m) back.called (IsOld file) front back.until; store = back.store; within = back.within }
+
   turns_after : (files : List (List ℕ)) (failed : Option (List ℕ)) (k m l : K) (file : Option (List ℕ)) → Leaves k m (IsOld file) → InTurn file files failed m l → InTurn file files failed k l
   turns_after [] None k m l file front back = both k m l (IsOld file) front back
-  turns_after [] (Some bytes) k m l file front back = both k m l (IsOldOrNew file bytes) (weaker k m (IsOld file) (IsOldOrNew file bytes) (λ c p. inl p) front) back
-  turns_after (bytes ∷ files) failed k m l file front back =
-      (back.0, both_disks (disk k) (disk m) back.0 (IsOldOrNew file bytes) (weaker k m (IsOld file) (IsOldOrNew file bytes) (λ c p. inl p) front) back.1, back.2)
+  turns_after [] (Some bytes) k m l file front back = later_store k m (disk l) bytes false file front back
+  turns_after (bytes ∷ files) failed k m l file front back = (back.0, later_store k m back.0 bytes true file front back.1, back.2)
 
   -- all stores of a session
   tried_only : (x : Stores) (k m l : K) (file : Option (List ℕ)) → RestsWith k file → StoresEach store x.stored k m → FailsOnce store x.failed m l → Leaves k l (IsOldOrOneOf file (tried x))
@@ -154,9 +158,9 @@ module _ {D : Type 0} (retries : Type 0) (seen : D → Option Areas) (may_leave 
         (turns x.stored x.failed l.at_load l.at_failure new (kept s) (loaded_rests s l.at_load is rest l.loaded) l.stored l.failed)
 
     -- a stop at any moment
-    pub stores_survived : (ds : Option (List Due)) → Called → AreDue ds (tried x) → IsAtRest retries seen may_leave (disk old) → IfSome (seen (disk old)) (λ s. LeavesOldOrStores moment left_since ds (kept s) (disk old) (disk new))
-    stores_survived ds calls due rest = to_some (seen (disk old)) (λ s. LeavesOldOrStores moment left_since ds (kept s) (disk old) (disk new)) (λ s is. record {
-      stores = x;
+    pub stores_survived : (ds : Option (List Due)) → Called → AreDue ds (tried x) → IsAtRest retries seen may_leave (disk old) → IfSome (seen (disk old)) (λ s. LeavesOldOrStores moment left_since (StoreGives retries seen may_leave moment left_since) ds (kept s) (disk old) (disk new))
+    stores_survived ds calls due rest = to_some (seen (disk old)) (λ s. LeavesOldOrStores moment left_since (StoreGives retries seen may_leave moment left_since) ds (kept s) (disk old) (disk new)) (λ s is. record {
+      files = x;
       due = due;
       leaves = survived_at s is (at_some (seen (disk old)) (λ s. Rests retries s (may_leave (disk old))) s is rest) calls;
       in_turn = turns_at s is (at_some (seen (disk old)) (λ s. Rests retries s (may_leave (disk old))) s is rest) calls;

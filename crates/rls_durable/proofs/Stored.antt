@@ -10,7 +10,3 @@ stored_apart n (inl a) (inr (inr b)) = omega (arith, a, b)
 stored_apart n (inr a) (inl b) = omega (arith, a, b)
 stored_apart n (inr a) (inr (inl b)) = omega (arith, a, b)
 stored_apart n (inr a) (inr (inr b)) = omega (arith, a, b)
-
-pub done_apart : (n : ℕ) → IsKeepersStatus n → n ≡ 0 → ⊥
-done_apart n (inl a) b = omega (arith, a, b)
-done_apart n (inr a) b = omega (arith, a, b)

@@ -1,5 +1,5 @@
 -- What a stop at any moment of a command or a session leaves.
-use Rattle.std.specs.Prelude.{◌≡◌, ◌⊎◌, ℕ, Bool, List, [], ◌∷◌, Option, Some, None, IsTrue}
+use Rattle.std.specs.Prelude.{◌≡◌, ◌⊎◌, ℕ, Bool, true, false, List, [], ◌∷◌, Option, Some, None, IsTrue}
 use Rattle.rls_ident.specs.Lists.{IsIn}
 use Rattle.rls_journal.specs.Areas.{Areas, kept}
 use Rattle.rls_journal.specs.Disk.{LeavesOnly}
@@ -28,18 +28,26 @@ HasDue seen may_leave IsDue old new = (bytes : List ℕ) × IsDue bytes × HasSt
 abbrev pub IsOldOrOneOf : Option (List ℕ) → List (List ℕ) → Areas → Type 0
 IsOldOrOneOf before files areas = (kept areas ≡ before) ⊎ ((bytes : List ℕ) × IsIn bytes files × (kept areas ≡ Some bytes))
 
--- A stop at any moment since old leaves, in turn for each of these stores: until the store begins the file of the one before it, within the
--- store that or its own, and from its end on its own. The last one may have failed: then it is either.
-abbrev pub LeavesInTurn : {D : Type 0} → (D → ℕ) → (D → ℕ → Areas → Type 0) → Option (List ℕ) → List (List ℕ) → Option (List ℕ) → D → D → Type 0
-LeavesInTurn {D} moment left_since before [] None old new = LeavesOnly moment left_since old new (IsOld before)
-LeavesInTurn {D} moment left_since before [] (Some bytes) old new = LeavesOnly moment left_since old new (IsOldOrNew before bytes)
-LeavesInTurn {D} moment left_since before (bytes ∷ files) failed old new =
-    (mid : D) × LeavesOnly moment left_since old mid (IsOldOrNew before bytes) × LeavesInTurn moment left_since (Some bytes) files failed mid new
+-- A stop at any moment since old leaves the file from before until the keeper is called to store these bytes, and until it answers that file or
+-- these bytes. It answers Ok or not.
+pub record LeavesInStore {D : Type 0} (moment : D → ℕ) (left_since : D → ℕ → Areas → Type 0) (stores : List ℕ → Bool → D → D → Type 0) (before : Option (List ℕ)) (bytes : List ℕ) (ok : Bool) (old new : D) : Type 0 where
+  pub called : D
+  pub until : LeavesOnly moment left_since old called (IsOld before)
+  pub store : stores bytes ok called new
+  pub within : LeavesOnly moment left_since called new (IsOldOrNew before bytes)
+
+-- In turn for each of these stores: the file of the last one that answered Ok (or the one from before, if none has), until the next is called;
+-- then that or its own, until it answers. The last one may have failed.
+abbrev pub LeavesInTurn : {D : Type 0} → (D → ℕ) → (D → ℕ → Areas → Type 0) → (List ℕ → Bool → D → D → Type 0) → Option (List ℕ) → List (List ℕ) → Option (List ℕ) → D → D → Type 0
+LeavesInTurn {D} moment left_since stores before [] None old new = LeavesOnly moment left_since old new (IsOld before)
+LeavesInTurn {D} moment left_since stores before [] (Some bytes) old new = LeavesInStore moment left_since stores before bytes false old new
+LeavesInTurn {D} moment left_since stores before (bytes ∷ files) failed old new =
+    (answered : D) × LeavesInStore moment left_since stores before bytes true old answered × LeavesInTurn moment left_since stores (Some bytes) files failed answered new
 
 -- A stop at any moment since old leaves the file from before or one of those that the session is to store, in turn. These are files that are
 -- called for, in order, if it is known what is called for.
-pub record LeavesOldOrStores {D : Type 0} (moment : D → ℕ) (left_since : D → ℕ → Areas → Type 0) (ds : Option (List Due)) (before : Option (List ℕ)) (old new : D) : Type 0 where
-  pub stores : Stores
-  pub due : AreDue ds (tried stores)
-  pub leaves : LeavesOnly moment left_since old new (IsOldOrOneOf before (tried stores))
-  pub in_turn : LeavesInTurn moment left_since before stores.stored stores.failed old new
+pub record LeavesOldOrStores {D : Type 0} (moment : D → ℕ) (left_since : D → ℕ → Areas → Type 0) (stores : List ℕ → Bool → D → D → Type 0) (ds : Option (List Due)) (before : Option (List ℕ)) (old new : D) : Type 0 where
+  pub files : Stores
+  pub due : AreDue ds (tried files)
+  pub leaves : LeavesOnly moment left_since old new (IsOldOrOneOf before (tried files))
+  pub in_turn : LeavesInTurn moment left_since stores before files.stored files.failed old new

@@ -29,6 +29,7 @@ use Rattle.rls_session.specs.Endings as endings
 use Rattle.rls_session.specs.Replies.{saved_text}
 use Rattle.rls_session.specs.Sessions.{by_parts}
 use Rattle.rls_session.proofs.Courses.{courses_end}
+use Rattle.rls_durable.proofs.Leaving.{leaves_weaker}
 use Rattle.rls_durable.specs.Stops.{IsOld, IsOldOrOneOf, LeavesOldOrDue}
 use Rattle.rls_journal.specs.Keeper.{IsOldOrNew}
 use Rattle.rls_groups.specs.Events as events
@@ -127,23 +128,19 @@ sessions_leave S W load store g i input n now keeper_old keeper_new input_old in
 
 -- ---- stops
 
-module _ {D : Type 0} (moment : D → ℕ) (left_since : D → ℕ → Areas → Type 0) where
-  -- what is left has this too, if it follows
-  only : (old new : D) (P Q : Areas → Type 0) → ((c : Areas) → P c → Q c) → LeavesOnly moment left_since old new P → LeavesOnly moment left_since old new Q
-  only old new P Q f k = record { later = k.later; each = λ c h. f c (k.each c h); before = λ t c le h. ⊎_elim (λ p. inl p) (λ p. inr (f c p)) (k.before t c le h) }
-
+module _ {D : Type 0} (moment : D → ℕ) (left_since : D → ℕ → Areas → Type 0) (stores_so : List ℕ → Bool → D → D → Type 0) where
   -- the file from before, or bytes that a run is to store
   by_deed : (g : Group) (i : ℕ) (deed : Deed) (stores : Bool) (IsDue : List ℕ → Type 0) (old new : D) → ((bytes : List ℕ) → IsDue bytes → Some bytes ≡ file_after true g i deed) → LeavesOldOrDue moment left_since stores IsDue (file_at g i) old new →
       LeavesOnly moment left_since old new (λ c. IsLeft g i deed (kept c))
-  by_deed g i deed stores IsDue old new f (inl k) = only old new (IsOld (file_at g i)) (λ c. IsLeft g i deed (kept c)) (λ c p. (false, p)) k
+  by_deed g i deed stores IsDue old new f (inl k) = leaves_weaker moment left_since old new (IsOld (file_at g i)) (λ c. IsLeft g i deed (kept c)) (λ c p. (false, p)) k
   by_deed g i deed stores IsDue old new f (inr k) =
-      only old new (IsOldOrNew (file_at g i) (k.1).0) (λ c. IsLeft g i deed (kept c)) (λ c p. ⊎_elim (λ q. (false, q)) (λ q. (true, q ∙ f (k.1).0 (k.1).1)) p) (k.1).2
+      leaves_weaker moment left_since old new (IsOldOrNew (file_at g i) (k.1).0) (λ c. IsLeft g i deed (kept c)) (λ c p. ⊎_elim (λ q. (false, q)) (λ q. (true, q ∙ f (k.1).0 (k.1).1)) p) (k.1).2
 
-  pub stops_leave : StopsLeave moment left_since
+  pub stops_leave : StopsLeave moment left_since stores_so
   stops_leave g i input old new l = (
     λ words stores k. by_deed g i (Commands words input) stores (commands.IsDueOf (due words (Some (file_at g i)) (Some input))) old new (λ bytes p. of_command words bytes p) k,
-    λ at_end k. only old new (IsOldOrOneOf (file_at g i) (tried k.stores)) (λ c. IsLeft g i (Sits empty_desk input) (kept c))
-        (λ c p. ⊎_elim (λ q. (false, q)) (λ q. (true, q.2 ∙ of_session q.0 d.ending (one_file d (tried k.stores) q.0 (subst (λ (o : Option (List session.Due)). AreDue o (tried k.stores)) (session_told (replica_at g i) input at_end) k.due) q.1))) p) k.leaves,
+    λ at_end k. leaves_weaker moment left_since old new (IsOldOrOneOf (file_at g i) (tried k.files)) (λ c. IsLeft g i (Sits empty_desk input) (kept c))
+        (λ c p. ⊎_elim (λ q. (false, q)) (λ q. (true, q.2 ∙ of_session q.0 d.ending (one_file d (tried k.files) q.0 (subst (λ (o : Option (List session.Due)). AreDue o (tried k.files)) (session_told (replica_at g i) input at_end) k.due) q.1))) p) k.leaves,
   )
     where
       of_file : (bytes : List ℕ) (d : Due) → commands.IsDueFile d bytes → Some bytes ≡ slice_get (files_with g.files i (stored_of (Some d))) i
@@ -168,5 +165,5 @@ module _ {D : Type 0} (moment : D → ℕ) (left_since : D → ℕ → Areas →
       one_file d (x ∷ (y ∷ files)) bytes h p = absurd h.1
 
       of_session : (bytes : List ℕ) (r : Result Seen CommandError) → IsFileOf r bytes → Some bytes ≡ slice_get (files_with g.files i (saved_of r)) i
-      of_session bytes (Ok s) p = ap (λ (b : List ℕ). Some b) p ∙ sym (set_there g i s l)
+      of_session bytes (Ok s) p = ap (λ (b : List ℕ). Some b) p.0 ∙ sym (set_there g i s l)
       of_session bytes (Err e) p = absurd p

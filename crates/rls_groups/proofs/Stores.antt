@@ -1,5 +1,5 @@
 -- What a session of a member leaves that stores more than once.
-use Rattle.std.proofs.Common.{◌≡◌, ◌≢◌, ◌∙◌, ◌<◌, ◌≤◌, ◌⊎◌, ℕ, zero, suc, Bool, true, false, cond, eqb, ltb, List, [], ◌∷◌, length, take, drop, map, Option, Some, None, IfSome, Result, Ok, Err, refl, sym, ap, subst, inl, inr, arith}
+use Rattle.std.proofs.Common.{◌≡◌, ◌≢◌, ◌∙◌, ◌<◌, ◌≤◌, ◌⊎◌, ℕ, zero, suc, Bool, true, false, cond, eqb, ltb, List, [], ◌∷◌, ◌++◌, length, take, drop, map, Option, Some, None, IfSome, Result, Ok, Err, refl, sym, ap, subst, inl, inr, ⊎_elim, arith}
 use Rattle.std.specs.Prelude.{slice_get}
 use Rattle.std.proofs.lemmas.Bool.Decides.{eqb_tells, nat_tests}
 use Rattle.rls_ident.specs.declared.limits.TheConstants.{FILE_BYTES, INPUT_BYTES}
@@ -40,6 +40,7 @@ use Rattle.rls_top.proofs.GroupCommands.{opened_at}
 use Rattle.rls_session.specs.declared.cursors.Cursor.{Cursor}
 use Rattle.rls_session.specs.Cursors.{AreAnchored, moved}
 use Rattle.rls_session.specs.Answers.{Sitting, answer, resumed, sitting_at}
+use Rattle.rls_session.specs.Calls.{AreDue, AreFilesOf, IsFileOf, and_failed}
 use Rattle.rls_session.specs.Courses.{Course, course, course_of, stretches, stretches_within}
 use Rattle.rls_session.specs.Desks.{AreKept, AreUndoable, IsWhole, sitting_of}
 use Rattle.rls_session.specs.Due.{Due, due, due_of, due_on, stops}
@@ -51,9 +52,14 @@ use Rattle.rls_session.proofs.Agreeing.{answer_alike}
 use Rattle.rls_session.proofs.Alike.{resumed_alike}
 use Rattle.rls_session.proofs.Steps.{AreStepsAlike}
 use Rattle.rls_session.proofs.Courses.{IsSameCourse, courses_alike}
+use Rattle.rls_journal.specs.Areas.{Areas, kept}
+use Rattle.rls_journal.specs.Disk.{LeavesOnly}
+use Rattle.rls_journal.specs.Keeper.{IsOldOrNew}
+use Rattle.rls_durable.specs.Stops.{IsOld, LeavesInStore, LeavesInTurn}
+use Rattle.rls_durable.proofs.Leaving.{leaves_both, leaves_weaker}
 use Rattle.rls_groups.specs.Events as events
 use Rattle.rls_groups.specs.Events.{Deed, Sits, after_run, at_desk, replica_at, saved_of, session_due}
-use Rattle.rls_groups.specs.Runs.{StoresLeave, after_deeds, deed_of, deeds_from, deeds_of, file_at}
+use Rattle.rls_groups.specs.Runs.{IsLeft, LeavesDeeds, StoppedStores, StoresLeave, after_deeds, deed_of, deeds_from, deeds_of, file_at}
 use Rattle.rls_groups.proofs.Runs.{set_there}
 use Rattle.rls_groups.proofs.Sessions.{EndsSo, ends_so}
 
@@ -300,6 +306,69 @@ module _ (i : ℕ) where
         on false mid stored there few files ends f = absurd ends
         on true mid stored there few files ends f = f ends
 
+  -- ---- a stop
+
+  -- what is stored after a course
+  file_stored : (c : Course (Sitting Seen)) (f : Course (Sitting State)) (bytes : List ℕ) → IsSameCourse IsAlike c f → IsFileOf (due_of c).ending bytes → ((due_of c).ending ≡ Ok (c.state).state) × (Some bytes ≡ Some (bytes_over (c.state).state)) × (length bytes ≤ FILE_BYTES) × IsFileFor bytes (f.state).state
+  file_stored c f bytes same h = go (ends_so c)
+    where
+      go : EndsSo c → ((due_of c).ending ≡ Ok (c.state).state) × (Some bytes ≡ Some (bytes_over (c.state).state)) × (length bytes ≤ FILE_BYTES) × IsFileFor bytes (f.state).state
+      go (inl e) =
+          let here = subst (λ (x : Result Seen CommandError). IsFileOf x bytes) e.0 h in
+          (e.0, ap (λ (x : List ℕ). Some x) here.0, subst (λ (x : List ℕ). length x ≤ FILE_BYTES) (sym here.0) e.1, subst (λ (x : List ℕ). IsFileFor x (f.state).state) (sym here.0) (stands_stored (c.state).state (f.state).state (same.states).stands here.1))
+      go (inr e) = absurd (subst (λ (x : Result Seen CommandError). IsFileOf x bytes) e.0 h)
+
+  module _ {D : Type 0} (moment : D → ℕ) (left_since : D → ℕ → Areas → Type 0) (stores_so : List ℕ → Bool → D → D → Type 0) where
+    abbrev InTurn : Option (List ℕ) → List (List ℕ) → Option (List ℕ) → D → D → Type 0
+    InTurn = LeavesInTurn moment left_since stores_so
+
+    -- the store of a deed, which is done or isn't
+    in_deed : (g : Group) (deed : Deed) (bytes : List ℕ) (ok : Bool) (now : Option (List ℕ)) (old new : D) → now ≡ file_at g i → Some bytes ≡ file_at (after_run true g i deed) i → LeavesInStore moment left_since stores_so now bytes ok old new → LeavesOnly moment left_since old new (λ c. IsLeft g i deed (kept c))
+    in_deed g deed bytes ok now old new at is h =
+        leaves_both moment left_since old h.called new (λ c. IsLeft g i deed (kept c)) (leaves_weaker moment left_since old h.called (IsOld now) (λ c. IsLeft g i deed (kept c)) (λ c p. (false, p ∙ at)) h.until)
+        (leaves_weaker moment left_since h.called new (IsOldOrNew now bytes) (λ c. IsLeft g i deed (kept c)) (λ c p. ⊎_elim (λ q. (false, q ∙ at)) (λ q. (true, q ∙ is)) p) h.within)
+
+    -- no file is called for
+    none_more : (g : Group) (now : Option (List ℕ)) (files : List (List ℕ)) (failed : Option (List ℕ)) (old new : D) → now ≡ file_at g i → AreFilesOf [] (files ++ and_failed failed) → InTurn now files failed old new → LeavesOnly moment left_since old new (λ c. kept c ≡ file_at g i)
+    none_more g now [] None old new at a h = leaves_weaker moment left_since old new (IsOld now) (λ c. kept c ≡ file_at g i) (λ c p. p ∙ at) h
+    none_more g now [] (Some bytes) old new at a h = absurd a
+    none_more g now (bytes ∷ files) failed old new at a h = absurd a
+
+    -- it came no further than this stretch, or stored and went on
+    at_stop : (g : Group) (l : i < length g.files) (bytes : List ℕ) (d : Sitting Seen) (u : Sitting State) (input : List ℕ) (ds : List Due) (deeds : List Deed) (files : List (List ℕ)) (failed : Option (List ℕ)) (old new : D) → file_at g i ≡ Some bytes → length bytes ≤ FILE_BYTES → IsFileFor bytes u.state → IsBytes input
+        → IsAlike d u → IsRecent u → AreFilesOf (due_of (course (answer by_parts) d input) ∷ ds) (files ++ and_failed failed) → InTurn (Some bytes) files failed old new
+        → ((stored : List ℕ) (others : List (List ℕ)) (mid : D) → file_at (after_run true g i (deed_of (record { state = u; input = input }))) i ≡ Some stored → length stored ≤ FILE_BYTES → IsFileFor stored ((course (answer by_history) u input).state).state → AreFilesOf ds (others ++ and_failed failed)
+        → InTurn (Some stored) others failed mid new → LeavesDeeds moment left_since (after_run true g i (deed_of (record { state = u; input = input }))) i deeds mid new) → LeavesDeeds moment left_since g i (deed_of (record { state = u; input = input }) ∷ deeds) old new
+    at_stop g l bytes d u input ds deeds [] None old new at short stands b h r a left more = inl (leaves_weaker moment left_since old new (IsOld (Some bytes)) _ (λ c p. (false, p ∙ sym at)) left)
+    at_stop g l bytes d u input ds deeds [] (Some x) old new at short stands b h r a left more =
+        let k = file_stored (course (answer by_parts) d input) (course (answer by_history) u input) x (alike_course d u input b h) a.0 in
+        inl (in_deed g (deed_of (record { state = u; input = input })) x false (Some bytes) old new (sym at) (k.1 ∙ stored_at g l bytes d u input at short stands b h r k.0) left)
+    at_stop g l bytes d u input ds deeds (x ∷ files) failed old new at short stands b h r a left more =
+        let k = file_stored (course (answer by_parts) d input) (course (answer by_history) u input) x (alike_course d u input b h) a.0 in
+        let there = k.1 ∙ stored_at g l bytes d u input at short stands b h r k.0 in
+        inr (left.0, in_deed g (deed_of (record { state = u; input = input })) x true (Some bytes) old left.0 (sym at) there left.1, more x files left.0 (sym there) k.2 k.3 a.1 left.2)
+
+    -- from stretch to stretch
+    stops_within : (m : ℕ) (g : Group) (l : i < length g.files) (bytes : List ℕ) (d : Sitting Seen) (u : Sitting State) (input : List ℕ) (files : List (List ℕ)) (failed : Option (List ℕ)) (old new : D) → file_at g i ≡ Some bytes → length bytes ≤ FILE_BYTES → IsFileFor bytes u.state → IsBytes input → IsAlike d u → IsRecent u
+        → AreFilesOf (map due_of (map (course_of (answer by_parts)) (stretches_within (answer by_parts) (resumed by_parts) m d input))) (files ++ and_failed failed) → InTurn (Some bytes) files failed old new
+        → LeavesDeeds moment left_since g i (deeds_of (stretches_within (answer by_history) (resumed by_history) m u input)) old new
+    unfolding mine theirs
+    stops_within zero g l bytes d u input files failed old new at short stands b h r a left = none_more g (Some bytes) files failed old new (sym at) a left
+    stops_within (suc m) g l bytes d u input files failed old new at short stands b h r a left =
+        let same = alike_course d u input b h in
+        subst (λ (k : ℕ). LeavesDeeds moment left_since g i (deed_of (record { state = u; input = input }) ∷ theirs m u input (course (answer by_history) u input).stores k) old new) same.used
+        (subst (λ (x : Bool). LeavesDeeds moment left_since g i (deed_of (record { state = u; input = input }) ∷ theirs m u input x (course (answer by_parts) d input).used) old new) same.stores
+        (at_stop g l bytes d u input (mine m d input (course (answer by_parts) d input).stores) (theirs m u input (course (answer by_parts) d input).stores (course (answer by_parts) d input).used) files failed old new at short stands b h r a left
+        (λ stored others mid there few file asked rest. on (course (answer by_parts) d input).stores stored others mid there asked rest
+        (λ asked. stops_within m (after_run true g i (deed_of (record { state = u; input = input }))) (there_still g l (deed_of (record { state = u; input = input }))) stored (resumed by_parts (course (answer by_parts) d input).state) (resumed by_history (course (answer by_history) u input).state) (drop (suc (course (answer by_parts) d input).used) input) others failed mid new there few file
+        (IsBytes-drop (suc (course (answer by_parts) d input).used) input b) (resumed_alike _ _ same.states) (recent (course (answer by_history) u input).state) asked rest))))
+      where
+        on : (x : Bool) (stored : List ℕ) (others : List (List ℕ)) (mid : D) → file_at (after_run true g i (deed_of (record { state = u; input = input }))) i ≡ Some stored → AreFilesOf (mine m d input x) (others ++ and_failed failed) → InTurn (Some stored) others failed mid new
+            → (AreFilesOf (mine m d input true) (others ++ and_failed failed) → LeavesDeeds moment left_since (after_run true g i (deed_of (record { state = u; input = input }))) i (theirs m u input true (course (answer by_parts) d input).used) mid new)
+            → LeavesDeeds moment left_since (after_run true g i (deed_of (record { state = u; input = input }))) i (theirs m u input x (course (answer by_parts) d input).used) mid new
+        on false stored others mid there asked rest f = none_more (after_run true g i (deed_of (record { state = u; input = input }))) (Some stored) others failed mid new (sym there) asked rest
+        on true stored others mid there asked rest f = f asked
+
 -- a session over a member's file that stands for a history
 pub stores_leave : {K : Type 0} (S W : Type 0) (load : K → Bool → K → Type 0) (store : K → List ℕ → Bool → K → Type 0) → StoresLeave S W load store
 unfolding stretches
@@ -333,3 +402,37 @@ stores_leave S W load store g i input n now t bytes keeper_old keeper_new input_
     go (inr long) =
         let large : replica_in (loaded (Some bytes)) ≡ Err TooLarge = rw (long.1) refl in
         unread (subst (λ (r : Result Seen CommandError). IfSome (due_on (Some r) (Some input)) (λ ds. Ends ds n (Some (Some bytes)) (Some now) old.told new.told)) large told)
+
+-- and what a stop of it leaves
+pub stopped_stores : {D : Type 0} (moment : D → ℕ) (left_since : D → ℕ → Areas → Type 0) (stores_so : List ℕ → Bool → D → D → Type 0) → StoppedStores moment left_since stores_so
+unfolding stretches
+stopped_stores {D} moment left_since stores_so g i input t bytes old new l at stands b k = go (within_or_past FILE_BYTES (length bytes))
+  where
+    files : List (List ℕ)
+    files = (k.files).stored
+
+    failed : Option (List ℕ)
+    failed = (k.files).failed
+
+    due_so : AreDue (due (Some (Some bytes)) (Some input)) (files ++ and_failed failed)
+    due_so = subst (λ (f : Option (List ℕ)). AreDue (due (Some f) (Some input)) (files ++ and_failed failed)) at k.due
+
+    turns : LeavesInTurn moment left_since stores_so (Some bytes) files failed old new
+    turns = subst (λ (f : Option (List ℕ)). LeavesInTurn moment left_since stores_so f files failed old new) at k.in_turn
+
+    -- the file is too long
+    unread : (done : List (List ℕ)) (last : Option (List ℕ)) → AreFilesOf (stops TooLarge ∷ []) (done ++ and_failed last) → LeavesInTurn moment left_since stores_so (Some bytes) done last old new → LeavesDeeds moment left_since g i (deeds_from t input) old new
+    unread [] None a h = inl (leaves_weaker moment left_since old new (IsOld (Some bytes)) _ (λ c p. (false, p ∙ sym at)) h)
+    unread [] (Some x) a h = absurd a.0
+    unread (x ∷ done) last a h = absurd a.0
+
+    go : WithinOrPast FILE_BYTES (length bytes) → LeavesDeeds moment left_since g i (deeds_from t input) old new
+    go (inl few) =
+        let o = opened bytes t stands in
+        let found : replica_in (loaded (Some bytes)) ≡ Ok o.0 = opened_at bytes o.0 few.0 o.1.found in
+        stops_within i moment left_since stores_so (suc (length input)) g l bytes (sitting_at o.0) (sitting_at t) input files failed old new at few.0 stands b
+        (record { stands = o.1.stands; sane = o.1.sane; writable = o.1.writable; entries = refl; cursors = refl; tells = refl; whole = record { undoable = tt; anchored = tt }; texts = tt; steps = record { same = refl; kept = tt; spelled = (tt, tt) } }) (record { entries = tt; cursors = tt; named = tt })
+        (subst (λ (r : Result Seen CommandError). AreDue (due_on (Some r) (Some input)) (files ++ and_failed failed)) found due_so) turns
+    go (inr long) =
+        let large : replica_in (loaded (Some bytes)) ≡ Err TooLarge = rw (long.1) refl in
+        unread files failed (subst (λ (r : Result Seen CommandError). AreDue (due_on (Some r) (Some input)) (files ++ and_failed failed)) large due_so) turns

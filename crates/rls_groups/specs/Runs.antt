@@ -1,5 +1,5 @@
 -- What a run of the program leaves of its member's file, and what it prints, by the clauses of `run` and `serve`: it is an event of the group.
-use Rattle.std.specs.Prelude.{◌≡◌, ◌≢◌, ◌<◌, ◌++◌, ℕ, Bool, true, List, [], ◌∷◌, length, take, slice_get, Option, Some, IfSome, IfOk, IsFalse}
+use Rattle.std.specs.Prelude.{◌≡◌, ◌≢◌, ◌⊎◌, ◌<◌, ◌++◌, ℕ, Bool, true, List, [], ◌∷◌, length, take, slice_get, Option, Some, IfSome, IfOk, IsFalse}
 use Rattle.rls_ident.specs.Lists.{IsIn}
 use Rattle.rls_codec.specs.CodecLaws.{IsBytes}
 use Rattle.rls_model.specs.Receiving.{State}
@@ -88,9 +88,23 @@ StoresLeave {K} S W load store = (g : Group) (i : ℕ) (input : List ℕ) (n : �
 
 -- ---- over the keeper with two slots
 
--- A stop at any moment leaves the member's file as a run leaves it that is done, or that isn't: by the clause `any_moment` of `run_on_disk` and of `serve_on_disk`.
-abbrev pub StopsLeave : {D : Type 0} → (D → ℕ) → (D → ℕ → Areas → Type 0) → Type 0
-StopsLeave {D} moment left_since = (g : Group) (i : ℕ) (input : List ℕ) (old new : D) → i < length g.files → let file = file_at g i in
+-- A stop at any moment leaves the member's file as a run leaves it that is done, or that isn't: by the clause `any_moment` of `run_on_disk`, and
+-- of `serve_on_disk` for a session that stores at its end alone.
+abbrev pub StopsLeave : {D : Type 0} → (D → ℕ) → (D → ℕ → Areas → Type 0) → (List ℕ → Bool → D → D → Type 0) → Type 0
+StopsLeave {D} moment left_since stores_so = (g : Group) (i : ℕ) (input : List ℕ) (old new : D) → i < length g.files → let file = file_at g i in
     ((words : List (List ℕ)) (stores : Bool) → LeavesOldOrDue moment left_since stores (commands.IsDueOf (due words (Some file) (Some input))) file old new →
     LeavesOnly moment left_since old new (λ c. IsLeft g i (Commands words input) (kept c)))
-    × (StoresAtEnd g i input → LeavesOldOrStores moment left_since (session.due (Some file) (Some input)) file old new → LeavesOnly moment left_since old new (λ c. IsLeft g i (Sits empty_desk input) (kept c)))
+    × (StoresAtEnd g i input → LeavesOldOrStores moment left_since stores_so (session.due (Some file) (Some input)) file old new → LeavesOnly moment left_since old new (λ c. IsLeft g i (Sits empty_desk input) (kept c)))
+
+-- A stop at any moment since old leaves the file of these deeds, one after another: while one is at work, the file as it was before it or as it is
+-- after it, done; and after the last, that one. It needn't have come to all of them.
+abbrev pub LeavesDeeds : {D : Type 0} → (D → ℕ) → (D → ℕ → Areas → Type 0) → Group → ℕ → List Deed → D → D → Type 0
+LeavesDeeds moment left_since g i [] old new = LeavesOnly moment left_since old new (λ c. kept c ≡ file_at g i)
+LeavesDeeds {D} moment left_since g i (deed ∷ deeds) old new =
+    LeavesOnly moment left_since old new (λ c. IsLeft g i deed (kept c))
+    ⊎ ((mid : D) × LeavesOnly moment left_since old mid (λ c. IsLeft g i deed (kept c)) × LeavesDeeds moment left_since (after_run true g i deed) i deeds mid new)
+
+-- Of any session over a member's file that stands for a history: a stop leaves the file of one of its stores, in turn, each of which is an event.
+abbrev pub StoppedStores : {D : Type 0} → (D → ℕ) → (D → ℕ → Areas → Type 0) → (List ℕ → Bool → D → D → Type 0) → Type 0
+StoppedStores {D} moment left_since stores_so = (g : Group) (i : ℕ) (input : List ℕ) (t : State) (bytes : List ℕ) (old new : D) → i < length g.files → file_at g i ≡ Some bytes → IsFileFor bytes t → IsBytes input →
+    LeavesOldOrStores moment left_since stores_so (session.due (Some (file_at g i)) (Some input)) (file_at g i) old new → LeavesDeeds moment left_since g i (deeds_from t input) old new

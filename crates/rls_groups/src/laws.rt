@@ -1,8 +1,9 @@
 //! Laws of groups. Each function runs nothing and takes no memory; its contract states the fact.
 
+ghost use Rattle.rls_journal.specs.Keeper.{StoreGives};
 ghost use Rattle.rls_groups.specs.Groups.{GroupsConverge};
 ghost use Rattle.rls_groups.specs.Premises.{PutBack, UnsavedHandedOn, UsedTwice};
-ghost use Rattle.rls_groups.specs.Runs.{CommandsLeave, SessionsLeave, StopsLeave, StoresLeave};
+ghost use Rattle.rls_groups.specs.Runs.{CommandsLeave, SessionsLeave, StoppedStores, StopsLeave, StoresLeave};
 
 use rls_io::{Keeper, Sink, Source};
 use rls_journal::Disk;
@@ -25,9 +26,11 @@ pub fn runs_are_events<K: Keeper, S: Source, W: Sink>()
     ensures stores { StoresLeave S W K.load_gives K.store_gives }
 {}
 
-/// The same of a stop at any moment, by the clauses of `rls_durable`.
+/// The same of a stop at any moment, by the clauses of `rls_durable`. Of a session that stores more than once it leaves the file of one of its
+/// stores, one after another.
 pub fn stops_are_events<D: Disk>()
-    ensures stops { StopsLeave D.moment D.left_since }
+    ensures stops { StopsLeave D.moment D.left_since (StoreGives D.retries D.seen D.may_leave D.moment D.left_since) }
+    ensures stores { StoppedStores D.moment D.left_since (StoreGives D.retries D.seen D.may_leave D.moment D.left_since) }
 {}
 
 /// Without the premises it fails, by three worked examples: a message that is handed on though its session stores nothing, a file that is put

@@ -11,7 +11,7 @@ use Rattle.rls_stages.specs.declared.errors.WorkError.{WorkError}
 use Rattle.rls_stages.specs.declared.errors.WorkError.TheVariants as work
 use Rattle.rls_stages.specs.Calls.{HasLoaded}
 use Rattle.rls_stages.specs.Errors.{of_open, of_work}
-use Rattle.rls_stages.specs.KeptFile.{bytes_over}
+use Rattle.rls_stages.specs.KeptFile.{IsReadBack, bytes_over}
 use Rattle.rls_stages.proofs.Statuses.{apart, failure_at_7, not_failure}
 use Rattle.rls_session.specs.declared.answering.AnswerError.{AnswerError}
 use Rattle.rls_session.specs.declared.answering.AnswerError.TheVariants.{SinkFault}
@@ -22,18 +22,9 @@ use Rattle.rls_session.specs.Endings.{IsStatusOf}
 
 -- ---- one call or none
 
--- the session ended before the file was to be stored
-pub unsaved_served : {K : Type 0} (store : K → List ℕ → Bool → K → Type 0) (IsDue : List ℕ → Type 0) (e : WorkError) (k : K) → HasSaved store IsDue (Err (of_work e)) k k
-unsaved_served store IsDue (work.Command e) k = refl
-unsaved_served store IsDue work.OutOfMemory k = inl refl
-
--- the file was stored, and the last reply wasn't written
-pub untold_served : {K : Type 0} (store : K → List ℕ → Bool → K → Type 0) (IsDue : List ℕ → Type 0) (e : AnswerError) (old new : K) → e ≡ SinkFault → StoresOnce store IsDue true old new → HasSaved store IsDue (Err (of_answer e)) old new
-untold_served store IsDue e old new is h = rw is (inr h)
-
 -- the bytes of the replica's file are those of the replica that is saved
-pub file_is : (r : Result Seen CommandError) (s : Seen) (bytes : List ℕ) → r ≡ Ok s → bytes ≡ bytes_over s → IsFileOf r bytes
-file_is r s bytes is same = rw is same
+pub file_is : (r : Result Seen CommandError) (s : Seen) (bytes : List ℕ) → r ≡ Ok s → bytes ≡ bytes_over s → IsReadBack s → IsFileOf r bytes
+file_is r s bytes is same back = rw is (same, back)
 
 -- ---- a session
 

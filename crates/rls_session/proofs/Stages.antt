@@ -77,7 +77,7 @@ after_store files bytes None mid P none h p = subst P (sym (after_none files)) n
 after_store files bytes (Some kept) mid P none h p = subst (λ (o : Option (Option (List ℕ))). P (file_after files o)) h p
 
 stores_bytes : (r : Result Seen CommandError) (bytes : List ℕ) (file new_file : Option (Option (List ℕ))) → IsFileOf r bytes → IsKept r file new_file → device.Stores file new_file bytes
-stores_bytes (Ok s) bytes file new_file is k = subst (device.Stores file new_file) (sym is) k.0
+stores_bytes (Ok s) bytes file new_file is k = subst (device.Stores file new_file) (sym is.0) k.0
 stores_bytes (Err e) bytes file new_file is k = absurd is
 
 -- ---- one store at most

@@ -6,14 +6,14 @@ use Rattle.rls_report.specs.declared.failures.Failure.TheVariants.{NoCommand, Co
 use Rattle.rls_report.specs.declared.failures.Fault.TheVariants.{Keeper, Source, Sink, Memory}
 use Rattle.rls_seen.specs.Seen.{Seen}
 use Rattle.rls_stages.specs.Calls.{IsKeepersStatus}
-use Rattle.rls_stages.specs.KeptFile.{bytes_over}
+use Rattle.rls_stages.specs.KeptFile.{IsReadBack, bytes_over}
 use Rattle.rls_session.specs.Due.{Due}
 
 -- ---- what is stored
 
--- the bytes are those of this replica's file
+-- the bytes are those of this replica's file, which is read back
 abbrev pub IsFileOf : Result Seen CommandError → List ℕ → Type 0
-IsFileOf (Ok s) bytes = bytes ≡ bytes_over s
+IsFileOf (Ok s) bytes = (bytes ≡ bytes_over s) × IsReadBack s
 IsFileOf (Err e) bytes = ⊥
 
 -- these are files that are called for, in order, from the first on
