@@ -5,7 +5,7 @@ use Rattle.std.specs.BTreeMap.{is_at}
 use Rattle.std.specs.Cmp.{unsigned_tied}
 use Rattle.std.specs.Ordering.{nat_cmp}
 use Rattle.std.proofs.lemmas.Option.{slice_get-get_or, slice_get_read}
-use Rattle.std.proofs.lemmas.List.{reverse-reverse, length-reverse}
+use Rattle.std.proofs.lemmas.List.{reverse-append, reverse-reverse, length-reverse}
 use Rattle.rls_ident.specs.declared.tuple.Tuple.{Tuple}
 use Rattle.rls_ident.specs.Identifiers.{ident_eq}
 use Rattle.rls_ident.proofs.Ends.{eq_same}
@@ -14,60 +14,59 @@ use Rattle.rls_runs.proofs.RunPlaces.{get_left, get_right}
 use Rattle.rls_steps.specs.declared.key.Key.{Key}
 use Rattle.rls_steps.specs.Labelled.{Names, label_of}
 use Rattle.rls_steps.specs.NameRuns.{Stretch, IsStretch, AreSound, AreKept, name_at, names_by, names_of, named, starts_of, run_in, run_of, key_cmp}
-use Rattle.rls_steps.specs.Index.{place_in, AreApart, newest_at, older_of, tail_at, IsIndexed}
+use Rattle.rls_steps.specs.Index.{AreApart, tail_at}
+use Rattle.rls_steps.specs.declared.bound.Bounds.{Bounds}
+use Rattle.rls_steps.specs.Bounds.{AreBounded, IsMore, IsIndexed}
 use Rattle.rls_steps.proofs.Giving.{reverse_snoc, front_stays, front_whole}
 use Rattle.rls_steps.proofs.Stretches.{names_long, names_get, one_name, shorter, named_snoc, first_by, reverse_cons, one_run, run_there, sound_at}
 use Rattle.rls_steps.proofs.Widths.{wide_same}
+use Rattle.rls_steps.proofs.Bounded.{more_extended, less_shortened, bounded_fewer}
 
--- ---- names, one by one
-
-pub names_count : (rs : List Stretch) (starts : List ℕ) (firsts : List (Key × ℕ)) (olders : List (Option ℕ)) (newest : List (ℕ × ℕ)) → IsIndexed rs starts firsts olders newest → length olders ≡ length (named rs)
-names_count rs starts firsts olders newest i =
-    sym (length-reverse olders) ∙ (ap length i.older ∙ (olders_long (reverse (named rs)) ∙ length-reverse (named rs)))
-  where
-    olders_long : (ns : Names) → length (older_of ns) ≡ length ns
-    olders_long [] = refl
-    olders_long (n ∷ ns) = ap suc (olders_long ns)
+-- ---- all that is kept
 
 -- one more name
-pub indexed_more : (rs rs' : List Stretch) (starts starts' : List ℕ) (firsts firsts' : List (Key × ℕ)) (olders : List (Option ℕ)) (newest newest' : List (ℕ × ℕ)) (x : List Tuple) (l : ℕ) → IsIndexed rs starts firsts olders newest →
-    AreKept rs' starts' firsts' → named rs' ≡ named rs ++ (x, l) ∷ [] → label_of (reverse (named rs)) x ≡ None →
-    ((k : ℕ) → place_in newest' k ≡ (if is_at (nat_cmp l) k then Some (length olders) else place_in newest k)) → IsIndexed rs' starts' firsts' (olders ++ newest_at (reverse (named rs)) l ∷ []) newest'
-indexed_more rs rs' starts starts' firsts firsts' olders newest newest' x l i kept more none f =
-    let ns = reverse (named rs) in
-    let whole : reverse (named rs') ≡ (x, l) ∷ ns = ap reverse more ∙ reverse_snoc (named rs) (x, l) in
-    let size : length olders ≡ length ns = names_count rs starts firsts olders newest i ∙ sym (length-reverse (named rs)) in
-    record {
-      kept = kept;
-      apart = subst AreApart (sym whole) (none, i.apart);
-      older = reverse_snoc olders (newest_at ns l) ∙ (ap (λ os. newest_at ns l ∷ os) i.older ∙ ap older_of (sym whole));
-      newest = λ k. f k
-          ∙ (ap (λ n. if is_at (nat_cmp l) k then Some n else place_in newest k) size
-          ∙ (ap (λ o. if is_at (nat_cmp l) k then Some (length ns) else o) (i.newest k)
-          ∙ (ap (λ (b : Bool). if b then Some (length ns) else newest_at ns k) (unsigned_tied l k) ∙ ap (λ (ms : Names). newest_at ms k) (sym whole))));
-    }
+pub indexed_more : (rs rs' : List Stretch) (ss ss' : List ℕ) (fs fs' : List (Key × ℕ)) (b b' : Bounds) (n : ℕ) (x : List Tuple) (l : ℕ) → IsIndexed rs ss fs b n → AreKept rs' ss' fs' → AreBounded rs' b' →
+    named rs' ≡ named rs ++ (x, l) ∷ [] → label_of (reverse (named rs)) x ≡ None → IsIndexed rs' ss' fs' b' (n + 1)
+indexed_more rs rs' ss ss' fs fs' b b' n x l i kept bounded more none =
+    let whole : reverse (named rs') ≡ (x, l) ∷ reverse (named rs) = ap reverse more ∙ reverse_snoc (named rs) (x, l) in
+    let size = ap length more ∙ length-append (named rs) ((x, l) ∷ []) in
+    let count = i.count in
+    record { kept = kept; apart = subst AreApart (sym whole) (none, i.apart); bounded = bounded; count = omega (arith, size, count) }
+
+-- one more run
+pub indexed_run : (rs rs' : List Stretch) (ss ss' : List ℕ) (fs fs' : List (Key × ℕ)) (b b' : Bounds) (n : ℕ) (r : Stretch) → IsIndexed rs ss fs b n → AreKept rs' ss' fs' → AreBounded rs' b' → named rs' ≡ named rs ++ names_of r →
+    AreApart (reverse (names_of r) ++ reverse (named rs)) → IsIndexed rs' ss' fs' b' (n + r.len)
+indexed_run rs rs' ss ss' fs fs' b b' n r i kept bounded more apart =
+    let whole : reverse (named rs') ≡ reverse (names_of r) ++ reverse (named rs) = ap reverse more ∙ reverse-append (named rs) (names_of r) in
+    let size = ap length more ∙ length-append (named rs) (names_of r) in
+    let long = names_long r.down r.first r.label 0 r.len in
+    let count = i.count in
+    record { kept = kept; apart = subst AreApart (sym whole) apart; bounded = bounded; count = omega (arith, size, long, count) }
 
 -- one less
-pub indexed_less : (rs rs' : List Stretch) (starts starts' : List ℕ) (firsts firsts' : List (Key × ℕ)) (olders : List (Option ℕ)) (older : Option ℕ) (newest newest' : List (ℕ × ℕ)) (x : List Tuple) (l : ℕ) → IsIndexed rs starts firsts (olders ++ older ∷ []) newest →
-    (AreApart (reverse (named rs)) → AreKept rs starts firsts → AreKept rs' starts' firsts') → named rs ≡ named rs' ++ (x, l) ∷ [] →
-    ((k : ℕ) → place_in newest' k ≡ (if is_at (nat_cmp l) k then older else place_in newest k)) → IsIndexed rs' starts' firsts' olders newest'
-indexed_less rs rs' starts starts' firsts firsts' olders older newest newest' x l i kept less f =
-    let ns = reverse (named rs') in
-    let whole : reverse (named rs) ≡ (x, l) ∷ ns = ap reverse less ∙ reverse_snoc (named rs') (x, l) in
-    let both : AreApart ((x, l) ∷ ns) = subst AreApart whole i.apart in
-    let old : (older ∷ reverse olders) ≡ (newest_at ns l ∷ older_of ns) = sym (reverse_snoc olders older) ∙ (i.older ∙ ap older_of whole) in
-    let head : older ≡ newest_at ns l = cc in
-    let rest : reverse olders ≡ older_of ns = cc in
-    record {
-      kept = kept i.apart i.kept;
-      apart = both.1;
-      older = rest;
-      newest = λ k. f k
-          ∙ bool_cases (is_at (nat_cmp l) k)
-          (λ t. ap (λ (b : Bool). if b then older else place_in newest k) t ∙ (head ∙ ap (newest_at ns) (eq_is l k (sym (unsigned_tied l k) ∙ t))))
-          (λ t. ap (λ (b : Bool). if b then older else place_in newest k) t
-          ∙ (i.newest k ∙ (ap (λ (ms : Names). newest_at ms k) whole ∙ ap (λ (b : Bool). if b then Some (length ns) else newest_at ns k) (sym (unsigned_tied l k) ∙ t))));
-    }
+pub indexed_less : (rs rs' : List Stretch) (ss ss' : List ℕ) (fs fs' : List (Key × ℕ)) (b : Bounds) (n : ℕ) → IsIndexed rs ss fs b n → (AreApart (reverse (named rs)) → AreKept rs ss fs → AreKept rs' ss' fs') → IsMore rs rs' [] → length rs' ≤ length rs →
+    (m : List Tuple × ℕ) × (named rs ≡ named rs' ++ m ∷ []) → IsIndexed rs' ss' fs' b (n - 1)
+indexed_less rs rs' ss ss' fs fs' b n i kept fewer short w =
+    let m = w.0 in
+    let whole : reverse (named rs) ≡ m ∷ reverse (named rs') = ap reverse w.1 ∙ reverse_snoc (named rs') m in
+    let both : AreApart (m ∷ reverse (named rs')) = subst AreApart whole i.apart in
+    let size = ap length w.1 ∙ length-append (named rs') (m ∷ []) in
+    let count = i.count in
+    record { kept = kept i.apart i.kept; apart = both.1; bounded = bounded_fewer rs rs' b i.bounded fewer short; count = omega (arith, size, count) }
+
+-- other bounds
+pub indexed_bounded : (rs : List Stretch) (ss : List ℕ) (fs : List (Key × ℕ)) (b b' : Bounds) (n : ℕ) → IsIndexed rs ss fs b n → AreBounded rs b' → IsIndexed rs ss fs b' n
+indexed_bounded rs ss fs b b' n i bounded = record { kept = i.kept; apart = i.apart; bounded = bounded; count = i.count }
+
+pub some_runs : (rs : List Stretch) → 0 < length (named rs) → 0 < length rs
+some_runs [] h = h
+some_runs (r ∷ rs) h = omega arith
+
+pub less_take : (ns ms : Names) (m : List Tuple × ℕ) → ns ≡ ms ++ m ∷ [] → ms ≡ take (length ns - 1) ns
+less_take ns ms m e =
+    let size = ap length e ∙ length-append ms (m ∷ []) in
+    let less : length ns - 1 ≡ length ms = omega (arith, size) in
+    sym (ap (λ k. take k ns) less ∙ (ap (take (length ms)) e ∙ front_stays ms ms (m ∷ []) (front_whole ms)))
 
 -- ---- the name at a place
 
@@ -120,33 +119,6 @@ pub none_left : (ns : Names) (k : ℕ) → length ns ≡ 0 → ns ≡ take k ns
 none_left [] zero e = refl
 none_left [] (suc k) e = refl
 none_left (n ∷ ns) k e = absurd (omega (arith, e))
-
-tail_older : (ds : Names) (os : List (Option ℕ)) (i : ℕ) (o : Option ℕ) (n : List Tuple × ℕ) (ms : Names) → os ≡ older_of ds → slice_get (reverse os) i ≡ Some o → tail_at ds i ≡ n ∷ ms → o ≡ newest_at ms n.1
-tail_older [] os i o n ms e g t = absurd (cc)
-tail_older (d ∷ ds) [] i o n ms e g t = absurd (cc)
-tail_older (d ∷ ds) (p ∷ os) i o n ms e g t =
-    let head : p ≡ newest_at ds d.1 = cc in
-    let rest : os ≡ older_of ds = cc in
-    let here : slice_get (reverse os ++ p ∷ []) i ≡ Some o = ap (λ (zs : List (Option ℕ)). slice_get zs i) (sym (reverse_cons p os)) ∙ g in
-    let size : length (reverse os) ≡ length ds = length-reverse os ∙ (ap length rest ∙ olders_long ds) in
-    bool_cases (length ds == i)
-    (λ b. let whole : (d ∷ ds) ≡ (n ∷ ms) = sym (ap (λ (c : Bool). if c then d ∷ ds else tail_at ds i) b) ∙ t in
-    let first : d ≡ n = cc in
-    let others : ds ≡ ms = cc in
-    let q = eq_is (length ds) i b in
-    let at : length (reverse os) + 0 ≡ i = omega (arith, size, q) in
-    let same : p ≡ o = some_is p o (sym (get_right (reverse os) (p ∷ []) 0) ∙ (ap (slice_get (reverse os ++ p ∷ [])) at ∙ here)) in
-    sym same ∙ (head ∙ (ap (λ (ks : Names). newest_at ks d.1) others ∙ ap (λ (m : List Tuple × ℕ). newest_at ms m.1) first)))
-    (λ b. let later = sym (ap (λ (c : Bool). if c then d ∷ ds else tail_at ds i) b) ∙ t in
-    let s = (tail_short ds i n ms later).0 in
-    tail_older ds os i o n ms rest (sym (get_left (reverse os) (p ∷ []) i (omega (arith, size, s))) ∙ here) later)
-  where
-    olders_long : (ns : Names) → length (older_of ns) ≡ length ns
-    olders_long [] = refl
-    olders_long (m ∷ ns) = ap suc (olders_long ns)
-
-pub older_at : (rs : List Stretch) (olders : List (Option ℕ)) (i : ℕ) (o : Option ℕ) (n : List Tuple × ℕ) (ms : Names) → reverse olders ≡ older_of (reverse (named rs)) → slice_get olders i ≡ Some o → tail_at (reverse (named rs)) i ≡ n ∷ ms → o ≡ newest_at ms n.1
-older_at rs olders i o n ms e g t = tail_older (reverse (named rs)) (reverse olders) i o n ms e (ap (λ (zs : List (Option ℕ)). slice_get zs i) (reverse-reverse olders) ∙ g) t
 
 -- ---- runs that change
 
@@ -255,42 +227,48 @@ last_kept rs n r s ss fs e h g i q k =
     let t = last_split rs n r e h g in
     subst (λ (zs : List Stretch). AreKept zs ss fs) (sym (t.2 s)) (kept_last t.0 r s ss fs i q (subst (λ (zs : List Stretch). AreKept zs ss fs) t.1 k))
 
-same_last : (rs : List Stretch) (n : ℕ) (r q : Stretch) → n ≡ length rs → 0 < length rs → r ≡ get_or rs (n - 1) r → q ≡ get_or rs (n - 1) q → r ≡ q
+pub same_last : (rs : List Stretch) (n : ℕ) (r q : Stretch) → n ≡ length rs → 0 < length rs → r ≡ get_or rs (n - 1) r → q ≡ get_or rs (n - 1) q → r ≡ q
 same_last rs n r q e h g k =
     let short : n - 1 < length rs = omega (arith, e, h) in
     some_is r q (sym (slice_get_read rs (length rs) (n - 1) r refl short g) ∙ slice_get_read rs (length rs) (n - 1) q refl short k)
 
-pub last_less : (rs : List Stretch) (n : ℕ) (r q s : Stretch) (len l : ℕ) → n ≡ length rs → 0 < length rs → r ≡ get_or rs (n - 1) r → q ≡ get_or rs (n - 1) q → len ≡ r.len → 0 < len - 1 → l ≡ (name_at r (len - 1)).1 →
-    s ≡ record { first = q.first; label = q.label; down = q.down; len = q.len - 1 } → (x : List Tuple) × (named rs ≡ named (set rs (n - 1) s) ++ (x, l) ∷ [])
-last_less rs n r q s len l e h g k size more label is =
+pub last_less : (rs : List Stretch) (n : ℕ) (q s : Stretch) → n ≡ length rs → 0 < length rs → q ≡ get_or rs (n - 1) q → 1 < q.len → s ≡ record { first = q.first; label = q.label; down = q.down; len = q.len - 1 } →
+    (m : List Tuple × ℕ) × (named rs ≡ named (set rs (n - 1) s) ++ m ∷ [])
+last_less rs n q s e h k more is =
     let t = last_split rs n q e h k in
     let f = t.0 in
-    let same = same_last rs n r q e h g k in
-    let long : len ≡ q.len = size ∙ ap (λ (u : Stretch). u.len) same in
-    let some : 0 < q.len = omega (arith, long, more) in
-    let x = (name_at q (q.len - 1)).0 in
-    let own : l ≡ (name_at q (q.len - 1)).1 = label ∙ (ap (λ (u : Stretch). (name_at u (len - 1)).1) same ∙ ap (λ m. (name_at q (m - 1)).1) long) in
-    let names : names_of q ≡ names_of s ++ (x, l) ∷ [] =
-    shorter q.down q.first q.label q.len some
-    ∙ (ap (λ (u : Stretch). names_of u ++ name_at q (q.len - 1) ∷ []) (sym is) ∙ ap (λ m. names_of s ++ (x, m) ∷ []) (sym own)) in (
-      x,
+    let m = name_at q (q.len - 1) in
+    let names : names_of q ≡ names_of s ++ m ∷ [] = shorter q.down q.first q.label q.len (omega (arith, more)) ∙ ap (λ (u : Stretch). names_of u ++ m ∷ []) (sym is) in (
+      m,
       ap named t.1
           ∙ (named_snoc f q
           ∙ (ap (λ (ns : Names). named f ++ ns) names
-          ∙ (sym (append_assoc (named f) (names_of s) ((x, l) ∷ [])) ∙ (ap (λ (ns : Names). ns ++ (x, l) ∷ []) (sym (named_snoc f s)) ∙ ap (λ (zs : List Stretch). named zs ++ (x, l) ∷ []) (sym (t.2 s)))))),
+          ∙ (sym (append_assoc (named f) (names_of s) (m ∷ [])) ∙ (ap (λ (ns : Names). ns ++ m ∷ []) (sym (named_snoc f s)) ∙ ap (λ (zs : List Stretch). named zs ++ m ∷ []) (sym (t.2 s)))))),
     )
 
-pub alone_less : (rs zs : List Stretch) (n : ℕ) (r q : Stretch) (len l : ℕ) → n ≡ length rs → 0 < length rs → r ≡ get_or rs (n - 1) r → rs ≡ zs ++ q ∷ [] → len ≡ r.len → len - 1 ≡ 0 → 0 < len → l ≡ (name_at r (len - 1)).1 → (x : List Tuple) × (named rs ≡ named zs ++ (x, l) ∷ [])
-alone_less rs zs n r q len l e h g w size one some label =
+pub last_fewer : (rs : List Stretch) (n : ℕ) (q s : Stretch) → n ≡ length rs → 0 < length rs → q ≡ get_or rs (n - 1) q → 1 < q.len → s ≡ record { first = q.first; label = q.label; down = q.down; len = q.len - 1 } → IsMore rs (set rs (n - 1) s) []
+last_fewer rs n q s e h k more is =
+    let t = last_split rs n q e h k in
+    let m = name_at q (q.len - 1) in
+    let names : names_of q ≡ names_of s ++ m ∷ [] = shorter q.down q.first q.label q.len (omega (arith, more)) ∙ ap (λ (u : Stretch). names_of u ++ m ∷ []) (sym is) in
+    subst (λ (zs : List Stretch). IsMore zs (set rs (n - 1) s) []) (sym t.1) (subst (λ (zs : List Stretch). IsMore (t.0 ++ q ∷ []) zs []) (sym (t.2 s)) (less_shortened t.0 q s m names))
+
+pub last_longer : (rs : List Stretch) (n : ℕ) (r s : Stretch) (x : List Tuple) (l : ℕ) → n ≡ length rs → 0 < length rs → r ≡ get_or rs (n - 1) r → names_of s ≡ names_of r ++ (x, l) ∷ [] → IsMore rs (set rs (n - 1) s) ((x, l) ∷ [])
+last_longer rs n r s x l e h g w =
+    let t = last_split rs n r e h g in
+    subst (λ (zs : List Stretch). IsMore zs (set rs (n - 1) s) ((x, l) ∷ [])) (sym t.1) (subst (λ (zs : List Stretch). IsMore (t.0 ++ r ∷ []) zs ((x, l) ∷ [])) (sym (t.2 s)) (more_extended t.0 r s ((x, l) ∷ []) w))
+
+-- the last run, which has one name
+pub alone_less : (rs zs : List Stretch) (n : ℕ) (r q : Stretch) → n ≡ length rs → 0 < length rs → r ≡ get_or rs (n - 1) r → rs ≡ zs ++ q ∷ [] → r.len ≤ 1 → 0 < r.len → (m : List Tuple × ℕ) × (named rs ≡ named zs ++ m ∷ [])
+alone_less rs zs n r q e h g w one some =
     let short : n - 1 < length rs = omega (arith, e, h) in
     let all = ap length w ∙ length-append zs (q ∷ []) in
     let at : length zs + 0 ≡ n - 1 = omega (arith, e, all) in
     let here : slice_get rs (n - 1) ≡ Some q = ap (λ (ts : List Stretch). slice_get ts (n - 1)) w ∙ (ap (slice_get (zs ++ q ∷ [])) (sym at) ∙ get_right zs (q ∷ []) 0) in
     let same : r ≡ q = some_is r q (sym (slice_get_read rs (length rs) (n - 1) r refl short g) ∙ here) in
-    let long : q.len ≡ 1 = let u = size ∙ ap (λ (u : Stretch). u.len) same in omega (arith, u, one, some) in
-    let own : l ≡ q.label = label ∙ (ap (λ (u : Stretch). (name_at u (len - 1)).1) same ∙ (ap (λ m. (name_at q m).1) one ∙ ap (λ (m : List Tuple × ℕ). m.1) (first_by q.down q.first q.label))) in
-    let names : names_of q ≡ (q.first, l) ∷ [] = ap (names_by q.down q.first q.label 0) long ∙ (one_name q.down q.first q.label ∙ ap (λ m. (q.first, m) ∷ []) (sym own)) in
-    (q.first, ap named w ∙ (named_snoc zs q ∙ ap (λ (ns : Names). named zs ++ ns) names))
+    let long : q.len ≡ 1 = let u = ap (λ (u : Stretch). u.len) same in omega (arith, u, one, some) in
+    let names : names_of q ≡ (q.first, q.label) ∷ [] = ap (names_by q.down q.first q.label 0) long ∙ one_name q.down q.first q.label in
+    ((q.first, q.label), ap named w ∙ (named_snoc zs q ∙ ap (λ (ns : Names). named zs ++ ns) names))
 
 -- ---- the run at a place
 

@@ -15,8 +15,12 @@ pub mod Stacks
 pub mod Zipping
 pub mod Widths
 pub mod Stretches
+pub mod CutRuns
 pub mod RunLookups
+pub mod Bounded
 pub mod Indexing
+pub mod LabelRuns
+pub mod FreeRuns
 pub mod Walking
 pub mod Found
 pub mod Parting
@@ -34,6 +38,7 @@ pub mod Inserted
 pub mod Returned
 pub mod Newest
 pub mod Swept
+pub mod SweptRuns
 pub mod Keeping
 pub mod Grounded
 pub mod EditsTold

@@ -63,12 +63,12 @@ says rs j m r x g h q f =
     let none = subst (λ (s : Stretch). IsLabelOf s x None) same f.2 in
     none m h q
 
-first_there : (rs : List Stretch) (es : List (Key × ℕ)) (i : ℕ) (r : Stretch) (k : Key) → ((q : Key) → run_in es q ≡ run_of (reverse rs) q.ident) → slice_get rs i ≡ Some r → k.ident ≡ r.first → (j : ℕ) × (run_in es k ≡ Some j)
+pub first_there : (rs : List Stretch) (es : List (Key × ℕ)) (i : ℕ) (r : Stretch) (k : Key) → ((q : Key) → run_in es q ≡ run_of (reverse rs) q.ident) → slice_get rs i ≡ Some r → k.ident ≡ r.first → (j : ℕ) × (run_in es k ≡ Some j)
 first_there rs es i r k f g e =
     let w = run_some (reverse rs) r (in_reverse r rs (get_in rs i r g)) in
     (w.0, f k ∙ (ap (run_of (reverse rs)) e ∙ w.1))
 
-is_some_of : (o : Option ℕ) (j : ℕ) → o ≡ Some j → IsSome o
+pub is_some_of : (o : Option ℕ) (j : ℕ) → o ≡ Some j → IsSome o
 is_some_of None j e = absurd (cc)
 is_some_of (Some i) j e = refl
 

@@ -15,7 +15,7 @@ use Rattle.rls_ident.proofs.Members.{bool_cases, and_left, and_right, int_le_is,
 use Rattle.rls_ident.proofs.Shifted.{shifted_shifted, shifted_none, last_offset}
 use Rattle.rls_runs.proofs.RunPlaces.{get_left, get_right}
 use Rattle.rls_steps.specs.Labelled.{Names, label_of}
-use Rattle.rls_steps.specs.NameRuns.{Stretch, IsStretch, AreSound, step_by, label_by, name_by, names_by, name_at, names_of, named, starts_of, run_of}
+use Rattle.rls_steps.specs.NameRuns.{Stretch, IsStretch, IsWithin, AreSound, step_by, label_by, name_by, names_by, name_at, names_of, named, starts_of, run_of}
 use Rattle.rls_steps.specs.Index.{AreApart}
 
 -- ---- the names of a run
@@ -29,7 +29,7 @@ names_get down x l k zero i h = absurd (omega (arith, h))
 names_get down x l k (suc n) zero h = let e : k ≡ k + 0 = omega arith in ap (λ m. Some (name_by down x l m)) e
 names_get down x l k (suc n) (suc i) h = let e : suc k + i ≡ k + suc i = omega arith in names_get down x l (suc k) n i (omega (arith, h)) ∙ ap (λ m. Some (name_by down x l m)) e
 
-names_suc : (down : Bool) (x : List Tuple) (l k n : ℕ) → names_by down x l k (suc n) ≡ names_by down x l k n ++ name_by down x l (k + n) ∷ []
+pub names_suc : (down : Bool) (x : List Tuple) (l k n : ℕ) → names_by down x l k (suc n) ≡ names_by down x l k n ++ name_by down x l (k + n) ∷ []
 names_suc down x l k zero = let e : k ≡ k + 0 = omega arith in ap (λ m. name_by down x l m ∷ []) e
 names_suc down x l k (suc n) = let e : suc k + n ≡ k + suc n = omega arith in ap (λ ns. name_by down x l k ∷ ns) (names_suc down x l (suc k) n ∙ ap (λ m. names_by down x l (suc k) n ++ name_by down x l m ∷ []) e)
 
@@ -49,7 +49,7 @@ first_by true x l =
 pub one_name : (down : Bool) (x : List Tuple) (l : ℕ) → names_by down x l 0 1 ≡ (x, l) ∷ []
 one_name down x l = ap (λ n. n ∷ []) (first_by down x l)
 
-in_names : (down : Bool) (x : List Tuple) (l k m : ℕ) (n : List Tuple × ℕ) → IsIn n (names_by down x l k m) → (i : ℕ) × (i < m) × (name_by down x l (k + i) ≡ n)
+pub in_names : (down : Bool) (x : List Tuple) (l k m : ℕ) (n : List Tuple × ℕ) → IsIn n (names_by down x l k m) → (i : ℕ) × (i < m) × (name_by down x l (k + i) ≡ n)
 in_names down x l k zero n p = absurd p
 in_names down x l k (suc m) n (inl e) = let z : k + 0 ≡ k = omega arith in (0, omega arith, ap (name_by down x l) z ∙ e)
 in_names down x l k (suc m) n (inr p) =
@@ -235,7 +235,62 @@ short_within x l true n h s = let a = s.within.0 in let b = s.within.1 in record
 pub shorter : (down : Bool) (x : List Tuple) (l n : ℕ) → 0 < n → names_by down x l 0 n ≡ names_by down x l 0 (n - 1) ++ name_by down x l (n - 1) ∷ []
 shorter down x l n h = let e : n ≡ (n - 1) + 1 = omega (arith, h) in ap (names_by down x l 0) e ∙ names_more down x l (n - 1)
 
+-- ---- the least and the greatest of a run
+
+pub labels_down : (d : Bool) (x : List Tuple) (l m : ℕ) (n : List Tuple × ℕ) → d ≡ true → IsIn n (names_by d x l 0 m) → (label_by d l (m - 1) ≤ n.1) × (n.1 ≤ l)
+labels_down false x l m n q p = absurd (cc)
+labels_down true x l m n q p =
+    let w = in_names true x l 0 m n p in
+    let e = ap (λ (k : List Tuple × ℕ). k.1) w.2 in
+    let h = w.1 in
+    (omega (arith, e, h), omega (arith, e, h))
+
+pub labels_up : (d : Bool) (x : List Tuple) (l m : ℕ) (n : List Tuple × ℕ) → d ≡ false → IsIn n (names_by d x l 0 m) → (l ≤ n.1) × (n.1 ≤ label_by d l (m - 1))
+labels_up true x l m n q p = absurd (cc)
+labels_up false x l m n q p =
+    let w = in_names false x l 0 m n p in
+    let e = ap (λ (k : List Tuple × ℕ). k.1) w.2 in
+    let h = w.1 in
+    (omega (arith, e, h), omega (arith, e, h))
+
+pub order_down : (d : Bool) (l k : ℕ) → d ≡ true → label_by d l k ≤ l
+order_down false l k q = absurd (cc)
+order_down true l k q = omega arith
+
+pub order_up : (d : Bool) (l k : ℕ) → d ≡ false → l ≤ label_by d l k
+order_up true l k q = absurd (cc)
+order_up false l k q = omega arith
+
+pub ends_down : (r : Stretch) (y : List Tuple) → r.down ≡ true → y ≡ (name_at r (r.len - 1)).0 → (k : ℕ) → k < r.len → (j : ℕ) × (j < r.len) × ((name_at r k).0 ≡ shifted (pos j) y)
+ends_down r y d e k s =
+    let j = r.len - 1 - k in
+    let low : y ≡ shifted (pos 0 -ℤ pos (r.len - 1)) r.first = e ∙ ap (λ (c : Bool). shifted (step_by c (r.len - 1)) r.first) d in
+    let by : (pos 0 -ℤ pos (r.len - 1)) +ℤ pos j ≡ pos 0 -ℤ pos k = omega (arith, ints, s) in (
+      j,
+      omega (arith, s),
+      ap (λ (c : Bool). shifted (step_by c k) r.first) d
+          ∙ (ap (λ z. shifted z r.first) (sym by) ∙ (sym (shifted_shifted (pos j) (pos 0 -ℤ pos (r.len - 1)) r.first) ∙ ap (shifted (pos j)) (sym low))),
+    )
+
+pub ends_up : (r : Stretch) (y : List Tuple) → r.down ≡ false → y ≡ r.first → (k : ℕ) → k < r.len → (j : ℕ) × (j < r.len) × ((name_at r k).0 ≡ shifted (pos j) y)
+ends_up r y d e k s = (k, s, ap (λ (c : Bool). shifted (step_by c k) r.first) d ∙ ap (shifted (pos k)) (sym e))
+
+pub top_down : (r : Stretch) (y : List Tuple) → r.down ≡ true → y ≡ (name_at r (r.len - 1)).0 → r.first ≡ shifted (pos (r.len - 1)) y
+top_down r y d e =
+    let m = r.len - 1 in
+    let low : y ≡ shifted (pos 0 -ℤ pos m) r.first = e ∙ ap (λ (c : Bool). shifted (step_by c m) r.first) d in
+    let by : (pos 0 -ℤ pos m) +ℤ pos m ≡ pos 0 = omega (arith, ints) in
+    sym (ap (shifted (pos m)) low ∙ (shifted_shifted (pos m) (pos 0 -ℤ pos m) r.first ∙ (ap (λ z. shifted z r.first) by ∙ shifted_none r.first)))
+
 -- ---- places in a run
+
+pub label_down : (d : Bool) (o : ℤ) (l n k m : ℕ) → d ≡ true → IsWithin d o l n → k < n → label_by d l k ≡ m → m + k ≡ l
+label_down false o l n k m q w h e = absurd (cc)
+label_down true o l n k m q w h e = let room = w.1 in omega (arith, room, h, e)
+
+pub label_up : (d : Bool) (l k m : ℕ) → d ≡ false → label_by d l k ≡ m → l + k ≡ m
+label_up false l k m q e = e
+label_up true l k m q e = absurd (cc)
 
 pub shifted_offset : (x y : List Tuple) (s t : Spot) (k : ℕ) → IsIdent x → last_of x ≡ at_spot s → last_of y ≡ at_spot t → y ≡ shifted (pos k) x → s.offset +ℤ pos k ≡ t.offset
 shifted_offset x y s t k i p q e =

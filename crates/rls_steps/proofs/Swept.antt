@@ -352,7 +352,7 @@ sweeping_shows s r c q a x =
 
 -- ---- labels that are looked up
 
-in_list : (xs : List ℕ) (x i : ℕ) → i < length xs → get_or xs i 0 ≡ x → IsIn x xs
+pub in_list : (xs : List ℕ) (x i : ℕ) → i < length xs → get_or xs i 0 ≡ x → IsIn x xs
 in_list [] x i h e = absurd (omega (arith, h))
 in_list (y ∷ ys) x zero h e = inl e
 in_list (y ∷ ys) x (suc i) h e = inr (in_list ys x i (omega (arith, h)) e)

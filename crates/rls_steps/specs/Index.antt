@@ -1,19 +1,8 @@
 -- Names that are looked up, by identifier and by label. The newest comes first, if nothing else is said.
 use Rattle.std.specs.Prelude.{◌≡◌, ℕ, suc, ◌==◌, List, [], ◌∷◌, ◌++◌, length, reverse, Option, Some, None, Result, Ok, Err, if◌then◌else◌}
-use Rattle.std.specs.Ordering.{nat_cmp}
-use Rattle.std.specs.Map.{lookup}
-use Rattle.std.specs.BTreeMap.{is_at}
 use Rattle.rls_ident.specs.declared.tuple.Tuple.{Tuple}
 use Rattle.rls_runs.specs.Runs.{place_of}
-use Rattle.rls_steps.specs.declared.key.Key.{Key}
 use Rattle.rls_steps.specs.Labelled.{Names, label_of}
-use Rattle.rls_steps.specs.NameRuns.{Stretch, named, AreKept}
-
--- ---- what is kept
-
--- what is kept of a label
-abbrev pub place_in : List (ℕ × ℕ) → ℕ → Option ℕ
-place_in es l = lookup (is_at (nat_cmp l)) es
 
 -- ---- names
 
@@ -27,22 +16,10 @@ abbrev pub newest_at : Names → ℕ → Option ℕ
 newest_at [] l = None
 newest_at (n ∷ ns) l = if n.1 == l then Some (length ns) else newest_at ns l
 
--- for each name, the place of the name that its label had before
-abbrev pub older_of : Names → List (Option ℕ)
-older_of [] = []
-older_of (n ∷ ns) = newest_at ns n.1 ∷ older_of ns
-
 -- the name at a place, and those that are older
 abbrev pub tail_at : Names → ℕ → Names
 tail_at [] i = []
 tail_at (n ∷ ns) i = if length ns == i then n ∷ ns else tail_at ns i
-
--- runs of names, the oldest first, and what is kept of their identifiers and of their labels
-pub record IsIndexed (rs : List Stretch) (ss : List ℕ) (fs : List (Key × ℕ)) (os : List (Option ℕ)) (ns : List (ℕ × ℕ)) : Type 0 where
-  pub kept : AreKept rs ss fs
-  pub apart : AreApart (reverse (named rs))
-  pub older : reverse os ≡ older_of (reverse (named rs))
-  pub newest : (l : ℕ) → place_in ns l ≡ newest_at (reverse (named rs)) l
 
 -- ---- places in a text
 

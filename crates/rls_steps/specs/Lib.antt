@@ -5,6 +5,7 @@ pub mod BackLaws
 pub mod Labelled
 pub mod NameRuns
 pub mod Index
+pub mod Bounds
 pub mod StepLaws
 pub mod Courses
 pub mod Parts

@@ -42,6 +42,10 @@ name_at r k = name_by r.down r.first r.label k
 abbrev pub names_of : Stretch → Names
 names_of r = names_by r.down r.first r.label 0 r.len
 
+abbrev pub names_in : Option Stretch → Names
+names_in None = []
+names_in (Some r) = names_of r
+
 -- the names of these, one after another
 abbrev pub named : List Stretch → Names
 named [] = []
@@ -102,6 +106,11 @@ IsLabelOf r x (Some l) = (k : ℕ) × (k < r.len) × (name_at r k ≡ (x, l))
 abbrev pub IsLabelIn : List Stretch → Option ℕ → List Tuple → Option ℕ → Type 0
 IsLabelIn rs None x o = o ≡ None
 IsLabelIn rs (Some i) x o = (r : Stretch) × (slice_get rs i ≡ Some r) × IsLabelOf r x o
+
+-- the one with this number, if it is one, doesn't begin among n identifiers from x on
+abbrev pub IsOutside : List Stretch → Option ℕ → List Tuple → ℕ → Type 0
+IsOutside rs None x n = Unit {0}
+IsOutside rs (Some i) x n = (r : Stretch) × (slice_get rs i ≡ Some r) × ((k : ℕ) → k < n → r.first ≡ shifted (pos k) x → ⊥)
 
 -- each is one
 abbrev pub AreSound : List Stretch → Type 0

@@ -10,7 +10,8 @@ ghost use Rattle.rls_steps.specs.Labelled.{ready_over, cut_over, cut_piece, put_
 ghost use Rattle.rls_steps.specs.Parts.{parts};
 ghost use Rattle.rls_steps.specs.Recorded.{held_by, steps_of};
 
-use crate::labelling::{name_inserted, ready};
+use crate::inserting::name_inserted;
+use crate::labelling::ready;
 use crate::names::Names;
 use crate::piece::{Labels, Piece, Step};
 use crate::splitting::push_parts;

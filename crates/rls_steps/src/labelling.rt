@@ -1,12 +1,11 @@
 //! Labels of a replica's characters.
 
-ghost use Rattle.std.specs.Prelude.{◌≡◌, ◌≤◌, ◌<◌, ◌+◌, ◌-◌, ◌++◌, ◌∷◌, [], ℕ, List, length, take, drop, reverse, map, zip, min, slice_get, Some, None, IfOk, OnOk, OnErr};
+ghost use Rattle.std.specs.Prelude.{◌≡◌, ◌≤◌, ◌<◌, ◌+◌, ◌-◌, ◌++◌, ◌∷◌, [], ℕ, List, length, take, drop, reverse, map, min, slice_get, Some, None, IfOk, OnOk, OnErr};
 ghost use Rattle.rls_ident.specs.declared.tuple.Tuple.{Tuple};
-ghost use Rattle.rls_runs.specs.Runs.{run_idents};
 ghost use Rattle.rls_seen.specs.Over.{placed_over};
 ghost use Rattle.rls_seen.specs.Seen.{Seen, idents_over};
 ghost use Rattle.rls_steps.specs.declared.piece.Piece.TheVariants.{Cut};
-ghost use Rattle.rls_steps.specs.Labelled.{label_of, label_all, new_label, ready_over, cut_piece, inserted_by};
+ghost use Rattle.rls_steps.specs.Labelled.{label_of, label_all, new_label, ready_over, cut_piece};
 ghost use Rattle.rls_steps.specs.Tables.{left_in};
 ghost use Rattle.rls_steps.specs.Recorded.{held_by};
 
@@ -14,9 +13,8 @@ use crate::key::Key;
 use crate::names::Names;
 use crate::piece::{Labels, Piece};
 use rls_ident::{EpochName, Ident, rely};
-use rls_ops::{Body, Op};
 use rls_replica::Replica;
-use rls_runs::{Run, Runs, Text};
+use rls_runs::Text;
 use std::alloc::{AllocError, Global};
 
 /// Gives a label to each character from a place on that has none, and answers the labels of all of them. It costs a search in the text and
@@ -152,70 +150,6 @@ fn left(labels: &[u64], at: u64) -> Option<u64>
         return None;
     }
     labels.first().copied()
-}
-
-/// Names the characters that an operation inserts.
-pub(crate) fn name_inserted(names: &mut Names, op: &Op, labels: &[u64]) -> Result<(), AllocError>
-    ensures ok { OnOk result (reverse names.new ≡ zip (inserted_by op.now.body) labels.now ++ reverse names.old) }
-    ensures front { take (length names.old) names.new ≡ names.old }
-{
-    match &op.body {
-        Body::Insert { first, text } => {
-            let ids = ids_of(names.alloc(), first, text.len())?;
-            match name_all(names, &ids, labels) {
-                Err(_) => Err(AllocError),
-                Ok(()) => Ok(()),
-            }
-        }
-        _ => Ok(()),
-    }
-}
-
-// The run of so many identifiers. There is always one, where an insertion has them.
-fn run_of(first: &Ident, count: usize) -> Result<Run, AllocError>
-    ensures run { IfOk result (λ run. run ≡ (first.now, count)) }
-{
-    let Ok(len) = u32::try_from(count) else {
-        return Err(AllocError);
-    };
-    let first = first.copy()?;
-    match Run::new(first, len) {
-        Ok(run) => Ok(run),
-        Err(_) => Err(AllocError),
-    }
-}
-
-// The identifiers of that run.
-fn ids_of(alloc: Global, first: &Ident, count: usize) -> Result<Runs, AllocError>
-    ensures ids { IfOk result (λ xs. xs ≡ run_idents first.now count) }
-{
-    let run = run_of(first, count)?;
-    let mut ids = Runs::new(alloc);
-    ids.append(run)?;
-    Ok(ids)
-}
-
-// Gives these identifiers these labels, the first one last.
-fn name_all(names: &mut Names, ids: &Runs, labels: &[u64]) -> Result<(), AllocError>
-    ensures ok { OnOk result (reverse names.new ≡ zip ids.now labels.now ++ reverse names.old) }
-    ensures front { take (length names.old) names.new ≡ names.old }
-{
-    let mut i = fewer(ids.total(), labels.len());
-    'names: while i > 0 {
-        i -= 1;
-        names.push(ids.get(i as u64)?, labels[i])?;
-    }
-    Ok(())
-}
-
-// The lesser of two numbers.
-fn fewer(total: u64, len: usize) -> usize
-    ensures fewer { result ≡ min total len }
-{
-    if total < len as u64 {
-        return total as usize;
-    }
-    len
 }
 
 /// Identifiers of an epoch in the greatest one.

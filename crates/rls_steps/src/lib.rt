@@ -1,14 +1,18 @@
 //! Undo by steps: what a member did is taken back all the way, and done again.
 #![tactic(auto)]
 
+mod bound;
 mod changing;
 mod dropping;
 mod finding;
+mod inserting;
 mod key;
 mod labelling;
+mod latest;
 pub mod laws;
 mod name_run;
 mod names;
+mod pending;
 mod piece;
 mod returning;
 mod splitting;

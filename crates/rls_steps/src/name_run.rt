@@ -1,8 +1,10 @@
 //! Names that follow one another.
 
-ghost use Rattle.std.specs.Prelude.{◌≡◌, ◌<◌, ◌+◌, ◌-◌, ◌++◌, ◌∷◌, [], ℕ, None, IfOk, IfSome, IsTrue, IsFalse, true, false, ◌+ℤ◌, ◌^◌, pos};
+ghost use Rattle.std.specs.Prelude.{◌≡◌, ◌<◌, ◌≤◌, ◌+◌, ◌-◌, ◌++◌, ◌∷◌, [], ℕ, List, length, None, IfOk, IfSome, IsTrue, IsFalse, true, false, ◌+ℤ◌, ◌^◌, pos};
+ghost use Rattle.rls_ident.specs.declared.tuple.Tuple.{Tuple};
 ghost use Rattle.rls_ident.specs.Identifiers.{shifted};
-ghost use Rattle.rls_steps.specs.NameRuns.{IsStretch, name_at, names_of, names_by, step_by};
+ghost use Rattle.rls_ident.specs.Lists.{IsIn};
+ghost use Rattle.rls_steps.specs.NameRuns.{IsStretch, name_at, names_in, names_of, names_by, step_by};
 
 use rls_ident::{Ident, Spot, rely};
 use std::alloc::AllocError;
@@ -44,6 +46,31 @@ impl NameRun {
         }
     }
 
+    // Names of which the oldest is this one, where the identifiers and the labels of the others fall. It takes no memory.
+    pub(crate) fn falling(first: Ident, label: u64, len: u32) -> NameRun
+        requires sound { IsStretch first label true len }
+        ensures run { result ≡ record { first = first; label = label; down = true; len = len } }
+    {
+        NameRun {
+            first,
+            label,
+            down: true,
+            len,
+        }
+    }
+
+    // The same again.
+    pub(crate) fn copy(&self) -> Result<NameRun, AllocError>
+        ensures copy { IfOk result (λ r. r ≡ self.now) }
+    {
+        Ok(NameRun {
+            first: self.first.copy()?,
+            label: self.label,
+            down: self.down,
+            len: self.len,
+        })
+    }
+
     // How many names there are.
     pub(crate) fn len(&self) -> usize
         ensures len { result ≡ self.now.len }
@@ -51,6 +78,14 @@ impl NameRun {
         ensures few { result < 2 ^ 32 }
     {
         self.len as usize
+    }
+
+    // The identifier of the first name, again.
+    pub(crate) fn first(&self) -> Result<Ident, AllocError>
+        ensures first { IfOk result (λ x. x ≡ self.now.first) }
+        ensures sound { IsStretch self.now.first self.now.label self.now.down self.now.len }
+    {
+        self.first.copy()
     }
 
     // The identifier of the first name.
@@ -92,6 +127,95 @@ impl NameRun {
             return place_from(ident, &self.first, self.len);
         }
         place_from(&self.first, ident, self.len)
+    }
+
+    // The place of a label, if one of these names has it.
+    pub(crate) fn find_label(&self, label: u64) -> Option<usize>
+        ensures found { IfSome result (λ k. (k < self.now.len) × ((name_at self.now k).1 ≡ label)) }
+        ensures missed { result ≡ None → (k : ℕ) → k < self.now.len → (name_at self.now k).1 ≡ label → ⊥ }
+    {
+        rely!(let _len = self.len());
+        if self.down {
+            return number_place(label, self.label, self.len);
+        }
+        number_place(self.label, label, self.len)
+    }
+
+    // The least identifier and the greatest one.
+    pub(crate) fn ends(&self) -> Result<(Ident, Ident), AllocError>
+        ensures all { IfOk result (λ e. (k : ℕ) → k < self.now.len → (j : ℕ) × (j < self.now.len) × ((name_at self.now k).0 ≡ shifted (pos j) e.0)) }
+        ensures high { IfOk result (λ e. e.1 ≡ shifted (pos (self.now.len - 1)) e.0) }
+    {
+        let count = self.len();
+        let last = self.ident(count - 1)?;
+        let first = self.first.copy()?;
+        if self.down {
+            return Ok((last, first));
+        }
+        Ok((first, last))
+    }
+
+    // The least label and the greatest one.
+    pub(crate) fn labels(&self) -> (u64, u64)
+        ensures labels { (n : List Tuple × ℕ) → IsIn n (names_of self.now) → (result.0 ≤ n.1) × (n.1 ≤ result.1) }
+        ensures order { result.0 ≤ result.1 }
+        ensures least { (k : ℕ) × (k < self.now.len) × ((name_at self.now k).1 ≡ result.0) }
+        ensures greatest { (k : ℕ) × (k < self.now.len) × ((name_at self.now k).1 ≡ result.1) }
+    {
+        let count = self.len();
+        let last = self.label(count - 1);
+        if self.down {
+            return (last, self.label);
+        }
+        (self.label, last)
+    }
+
+    // How many of the first names have labels between these, as the first one has.
+    pub(crate) fn fitting(&self, low: u64, high: u64) -> u32
+        requires low { low ≤ self.now.label }
+        requires high { self.now.label ≤ high }
+        ensures some { 0 < result }
+        ensures most { result ≤ self.now.len }
+        ensures between { (k : ℕ) → k < result → (low ≤ (name_at self.now k).1) × ((name_at self.now k).1 ≤ high) }
+    {
+        rely!(let _len = self.len());
+        if self.down {
+            return fewer(self.label - low, self.len);
+        }
+        fewer(high - self.label, self.len)
+    }
+
+    // The first names, so many, and the others.
+    pub(crate) fn cut(self, count: u32) -> Result<(NameRun, Option<NameRun>), AllocError>
+        requires some { 0 < count }
+        requires most { count ≤ self.len }
+        ensures front { IfOk result (λ p. p.0 ≡ record { first = self.first; label = self.label; down = self.down; len = count }) }
+        ensures names { IfOk result (λ p. names_of self ≡ names_of p.0 ++ names_in p.1) }
+        ensures fewer { IfOk result (λ p. length (names_in p.1) < self.len) }
+    {
+        if count == self.len {
+            return Ok((self, None));
+        }
+        let rest = NameRun {
+            first: self.ident(count as usize)?,
+            label: self.label(count as usize),
+            down: self.down,
+            len: self.len - count,
+        };
+        let front = NameRun {
+            first: self.first,
+            label: self.label,
+            down: self.down,
+            len: count,
+        };
+        Ok((front, Some(rest)))
+    }
+
+    // Whether it begins among so many identifiers from one on. It takes no memory.
+    pub(crate) fn begins_in(&self, low: &Ident, len: u32) -> bool
+        ensures out { IsFalse result → (k : ℕ) → k < len → self.now.first ≡ shifted (pos k) low.now → ⊥ }
+    {
+        place_from(low, &self.first, len).is_some()
     }
 
     // Takes one more name, if that goes on from the last one.
@@ -166,6 +290,33 @@ fn place_from(low: &Ident, high: &Ident, len: u32) -> Option<usize>
             None
         }
     }
+}
+
+// One more than there is room for, or all where there is room.
+fn fewer(room: u64, len: u32) -> u32
+    requires some { 0 < len }
+    ensures some { 0 < result }
+    ensures most { result ≤ len }
+    ensures room { result ≤ room + 1 }
+{
+    if room < len as u64 {
+        return room as u32 + 1;
+    }
+    len
+}
+
+// How far a number is from a lower one, if it is less than so far.
+fn number_place(low: u64, high: u64, len: u32) -> Option<usize>
+    ensures found { IfSome result (λ k. (k < len) × (low + k ≡ high)) }
+    ensures missed { result ≡ None → (k : ℕ) → k < len → low + k ≡ high → ⊥ }
+{
+    if high < low {
+        return None;
+    }
+    if high - low < len as u64 {
+        return Some((high - low) as usize);
+    }
+    None
 }
 
 // The place of an offset among so many that go on from the first one.

@@ -1,16 +1,17 @@
 //! Names of characters: identifiers with their labels, which are looked up by either.
 
-ghost use Rattle.std.specs.Prelude.{◌≡◌, ◌<◌, ◌≤◌, ◌+◌, ◌-◌, ◌++◌, ◌∷◌, [], ℕ, List, length, take, reverse, slice_get, slice_index, Some, None, IfOk, IfSome, OnOk, OnErr, IsTrue, IsFalse, map, if◌then◌else◌};
-ghost use Rattle.std.specs.Option.{IsSome};
-ghost use Rattle.std.specs.BTreeMap.{is_at};
-ghost use Rattle.std.specs.Ordering.{nat_cmp};
+ghost use Rattle.std.specs.Prelude.{◌≡◌, ◌<◌, ◌≤◌, ◌+◌, ◌-◌, ◌++◌, ◌∷◌, [], ℕ, List, length, take, reverse, slice_get, slice_index, Some, None, IfOk, IfSome, OnOk, OnErr, IsTrue, IsFalse, pos};
 ghost use Rattle.rls_ident.specs.declared.tuple.Tuple.{Tuple};
+ghost use Rattle.rls_ident.specs.Identifiers.{shifted};
 ghost use Rattle.rls_steps.specs.Labelled.{label_of};
-ghost use Rattle.rls_steps.specs.NameRuns.{AreKept, AreSound, IsBelow, IsAbove, IsLabelIn, IsLabelOf, named, starts_of, run_in, run_of};
-ghost use Rattle.rls_steps.specs.Index.{AreApart, newest_at, tail_at, place_in};
+ghost use Rattle.rls_steps.specs.NameRuns.{AreKept, AreSound, IsBelow, IsAbove, IsLabelIn, IsLabelOf, IsOutside, name_at, names_in, names_of, named, starts_of, run_in, run_of};
+ghost use Rattle.rls_steps.specs.Index.{AreApart, newest_at, tail_at};
+ghost use Rattle.rls_steps.specs.Bounds.{AreBounded, IsLatest, IsMore};
 ghost use Rattle.rls_steps.specs.declared.key.Key as keys;
 
+use crate::bound::Bounds;
 use crate::key::Key;
+use crate::latest::newest_in;
 use crate::name_run::NameRun;
 use rls_ident::{Ident, rely};
 use std::alloc::{AllocError, Global};
@@ -27,23 +28,23 @@ pub(crate) struct Names {
     starts: Vec<usize>,
     // The run that begins with an identifier.
     firsts: BTreeMap<Key, usize>,
-    // For each name the place of the name that its label had before.
-    olders: Vec<Option<usize>>,
-    // The place of each label's newest name.
-    newest: BTreeMap<u64, usize>,
+    // Which runs may have names of a label.
+    bounds: Bounds,
+    // How many names there are.
+    len: usize,
 }
 
 impl Model for Names {
     ghost use Rattle.std.specs.Prelude.{List, ℕ};
     ghost use Rattle.rls_steps.specs.Labelled.{Names};
     ghost use Rattle.rls_steps.specs.NameRuns.{named};
-    ghost use Rattle.rls_steps.specs.Index.{IsIndexed};
+    ghost use Rattle.rls_steps.specs.Bounds.{IsIndexed};
 
     ghost Value = { Names };
 
     ghost view = { λ n. named n.runs.items };
 
-    ghost invariant = { λ n. IsIndexed n.runs.items n.starts.items n.firsts.entries n.olders.items n.newest.entries };
+    ghost invariant = { λ n. IsIndexed n.runs.items n.starts.items n.firsts.entries n.bounds n.len };
 }
 
 impl Names {
@@ -55,21 +56,21 @@ impl Names {
             runs: Vec::new(alloc),
             starts: Vec::new(alloc),
             firsts: BTreeMap::new(alloc),
-            olders: Vec::new(alloc),
-            newest: BTreeMap::new(alloc),
+            bounds: Bounds::new(alloc),
+            len: 0,
         }
     }
 
     // The allocator that they were made with.
     pub(crate) fn alloc(&self) -> Global {
-        *self.olders.allocator()
+        *self.runs.allocator()
     }
 
     // How many there are.
     pub(crate) fn len(&self) -> usize
         ensures len { result ≡ length self.now }
     {
-        self.olders.len()
+        self.len
     }
 
     // An identifier is there once.
@@ -90,7 +91,9 @@ impl Names {
     pub(crate) fn newest(&self, label: u64) -> Option<usize>
         ensures newest { result ≡ newest_at (reverse self.now) label }
     {
-        self.newest.get(&label).copied()
+        rely!(let _len = self.len());
+        let count = self.bounds.count_at(label, self.runs.len());
+        newest_in(&self.runs, &self.starts, count, label)
     }
 
     // The name at a place. It costs a search among the runs.
@@ -107,7 +110,20 @@ impl Names {
         requires place { i < length self.now }
         ensures older { (n : List Tuple × ℕ) (ns : List (List Tuple × ℕ)) → tail_at (reverse self.now) i ≡ n ∷ ns → result ≡ newest_at ns n.1 }
     {
-        self.olders[i]
+        rely!(let _len = self.len());
+        let run = run_at(&self.starts, i);
+        let label = self.runs[run].label(i - self.starts[run]);
+        let count = self.bounds.count_before(run);
+        newest_in(&self.runs, &self.starts, count, label)
+    }
+
+    // The names of a run, if it begins at this place and each of them is the newest of its label. It costs a few searches.
+    pub(crate) fn latest_run(&self, i: usize) -> Result<Option<NameRun>, AllocError>
+        requires place { i < length self.now }
+        ensures run { IfOk result (λ o. IfSome o (λ r. IsLatest self.now i r)) }
+    {
+        let run = latest_at(&self.runs, &self.starts, &self.bounds, i)?;
+        Ok(run)
     }
 
     // One more name. An identifier that is there already answers as if there was no memory: no replica makes one twice.
@@ -128,38 +144,112 @@ impl Names {
         ensures names { OnOk result (self.new ≡ self.old ++ (key.ident, label) ∷ []) }
         ensures stay { OnErr result (self.new ≡ self.old) }
     {
-        let older = self.newest(label);
-        let place = self.olders.len();
-        self.olders.reserve(1)?;
-        self.newest.insert(label, place)?;
-        match put_last(
+        if self.extend(&key, label) {
+            return Ok(());
+        }
+        let _rest = self.add_front(NameRun::of(key.ident, label))?;
+        Ok(())
+    }
+
+    // The same, if the last run goes on with it and no name has its label or a greater one. It takes no memory.
+    fn extend(&mut self, key: &Key, label: u64) -> bool
+        requires fresh { label_of (reverse self.old) key.now.ident ≡ None }
+        ensures names { IsTrue result → self.new ≡ self.old ++ (key.now.ident, label) ∷ [] }
+        ensures stay { IsFalse result → self.new ≡ self.old }
+    {
+        let Some(len) = self.len.checked_add(1) else {
+            return false;
+        };
+        if !self.bounds.is_open(label, self.runs.len()) {
+            return false;
+        }
+        if !extend_last(&mut self.runs, &key.ident, label) {
+            return false;
+        }
+        self.bounds.above = label + 1;
+        self.len = len;
+        true
+    }
+
+    // The names of a run. An identifier that is there already answers as if there was no memory, as in `push`. It costs a few searches
+    // for each run that had some of its labels before.
+    pub(crate) fn push_run(&mut self, run: NameRun) -> Result<(), AllocError>
+        ensures names { OnOk result (self.new ≡ self.old ++ names_of run) }
+        ensures stay { OnErr result (self.new ≡ self.old) }
+    {
+        let count = self.len();
+        match self.push_fronts(run) {
+            Ok(()) => Ok(()),
+            Err(_) => {
+                self.truncate(count);
+                Err(AllocError)
+            }
+        }
+    }
+
+    // The same. After an error the first names may be there.
+    fn push_fronts(&mut self, run: NameRun) -> Result<(), AllocError>
+        ensures names { OnOk result (self.new ≡ self.old ++ names_of run) }
+        ensures front { take (length self.old) self.new ≡ self.old }
+    {
+        let mut rest = Some(run);
+        'fronts: while let Some(run) = rest {
+            rest = self.push_front(run)?;
+        }
+        Ok(())
+    }
+
+    // The first names of a run: as many as have labels of which the same runs may have had names before. Answers the others.
+    fn push_front(&mut self, run: NameRun) -> Result<Option<NameRun>, AllocError>
+        ensures names { IfOk result (λ rest. self.old ++ names_of run ≡ self.new ++ names_in rest) }
+        ensures front { take (length self.old) self.new ≡ self.old }
+        ensures fewer { IfOk result (λ rest. length (names_in rest) < run.len) }
+    {
+        let (low, high) = run.ends()?;
+        let low = Key { ident: low };
+        let high = Key { ident: high };
+        if !is_free(&self.runs, &self.firsts, &low, &high, run.len() as u32) {
+            return Err(AllocError);
+        }
+        self.add_front(run)
+    }
+
+    // The same of a run of which no identifier is there.
+    fn add_front(&mut self, run: NameRun) -> Result<Option<NameRun>, AllocError>
+        requires fresh { (k : ℕ) → k < run.len → label_of (reverse self.old) (name_at run k).0 ≡ None }
+        ensures names { IfOk result (λ rest. self.old ++ names_of run ≡ self.new ++ names_in rest) }
+        ensures stay { OnErr result (self.new ≡ self.old) }
+        ensures front { take (length self.old) self.new ≡ self.old }
+        ensures fewer { IfOk result (λ rest. length (names_in rest) < run.len) }
+    {
+        let span = self.bounds.span_at(run.label(0));
+        let count = run.fitting(span.low, span.high);
+        let (front, rest) = run.cut(count)?;
+        let (low, high) = front.labels();
+        let Some(len) = self.len.checked_add(front.len()) else {
+            return Err(AllocError);
+        };
+        self.bounds.put(self.runs.len(), span, low, high)?;
+        put_run(
             &mut self.runs,
             &mut self.starts,
             &mut self.firsts,
-            key,
-            label,
-            place,
-        ) {
-            Err(_) => {
-                put_newest(&mut self.newest, label, older);
-                Err(AllocError)
-            }
-            Ok(()) => {
-                self.olders.push(older).unwrap();
-                Ok(())
-            }
-        }
+            front,
+            self.len,
+        )?;
+        self.len = len;
+        Ok(rest)
     }
 
     // Without the last name. It takes no memory.
     fn pop(&mut self)
         ensures names { self.new ≡ take (length self.old - 1) self.old }
     {
-        let Some(older) = self.olders.pop() else {
+        if self.len == 0 {
             return;
-        };
-        let label = drop_last(&mut self.runs, &mut self.starts, &mut self.firsts);
-        put_newest(&mut self.newest, label, older);
+        }
+        drop_last(&mut self.runs, &mut self.starts, &mut self.firsts);
+        self.len -= 1;
     }
 
     // Only the first ones, so many. It takes no memory.
@@ -183,6 +273,33 @@ fn label_at(runs: &[NameRun], firsts: &BTreeMap<Key, usize>, key: &Key) -> Optio
     match label_in(runs, run_below(firsts, key), &key.ident) {
         Some(label) => Some(label),
         None => label_in(runs, run_above(firsts, key), &key.ident),
+    }
+}
+
+// Whether none of so many identifiers, from one to another, has a name.
+fn is_free(runs: &[NameRun], firsts: &BTreeMap<Key, usize>, low: &Key, high: &Key, len: u32) -> bool
+    requires sound { AreSound runs.now }
+    requires firsts { (k : keys.Key) → run_in firsts.now.entries k ≡ run_of (reverse runs.now) k.ident }
+    requires apart { AreApart (reverse (named runs.now)) }
+    requires some { 0 < len }
+    requires high { high.now.ident ≡ shifted (pos (len - 1)) low.now.ident }
+    ensures free { IsTrue result → (k : ℕ) → k < len → label_of (reverse (named runs.now)) (shifted (pos k) low.now.ident) ≡ None }
+{
+    rely!(let _last = low.ident.last());
+    if label_at(runs, firsts, low).is_some() || label_at(runs, firsts, high).is_some() {
+        return false;
+    }
+    !begins_in(runs, run_above(firsts, low), &low.ident, len)
+}
+
+// Whether a run begins among so many identifiers from one on.
+fn begins_in(runs: &[NameRun], run: Option<usize>, low: &Ident, len: u32) -> bool
+    requires within { IfSome run (λ i. i < length runs.now) }
+    ensures out { IsFalse result → IsOutside runs.now run low.now len }
+{
+    match run {
+        None => false,
+        Some(i) => runs[i].begins_in(low, len),
     }
 }
 
@@ -245,6 +362,30 @@ fn name_in(runs: &Vec<NameRun>, starts: &[usize], i: usize) -> Result<(Ident, u6
     Ok((run.ident(place)?, run.label(place)))
 }
 
+// The names of a run, if it begins at this place and each of them is the newest of its label.
+fn latest_at(
+    runs: &[NameRun],
+    starts: &[usize],
+    bounds: &Bounds,
+    i: usize,
+) -> Result<Option<NameRun>, AllocError>
+    requires sound { AreSound runs.now }
+    requires starts { starts.now ≡ starts_of 0 runs.now }
+    requires bounded { AreBounded runs.now bounds.now }
+    requires place { i < length (named runs.now) }
+    ensures run { IfOk result (λ o. IfSome o (λ r. IsLatest (named runs.now) i r)) }
+{
+    let k = run_at(starts, i);
+    let run = &runs[k];
+    let (low, high) = run.labels();
+    let span = bounds.span_at(low);
+    if starts[k] == i && span.count <= k + 1 && high <= span.high {
+        let copy = run.copy()?;
+        return Ok(Some(copy));
+    }
+    Ok(None)
+}
+
 // The last of these increasing numbers that is at most i, as the first is.
 fn run_at(starts: &[usize], i: usize) -> usize
     requires some { 0 < length starts.now }
@@ -265,31 +406,30 @@ fn run_at(starts: &[usize], i: usize) -> usize
     low
 }
 
-// One more name, in the last run or in another one. After an error all is as before.
-fn put_last(
+// One more run of names. After an error all is as before.
+fn put_run(
     runs: &mut Vec<NameRun>,
     starts: &mut Vec<usize>,
     firsts: &mut BTreeMap<Key, usize>,
-    key: Key,
-    label: u64,
+    run: NameRun,
     place: usize,
 ) -> Result<(), AllocError>
     requires place { place ≡ length (named runs.old.items) }
-    ensures names { OnOk result (named runs.new.items ≡ named runs.old.items ++ (key.ident, label) ∷ []) }
+    ensures names { OnOk result (named runs.new.items ≡ named runs.old.items ++ names_of run) }
     ensures kept { OnOk result (AreKept runs.old.items starts.old.items firsts.old.entries → AreKept runs.new.items starts.new.items firsts.new.entries) }
+    ensures more { OnOk result (runs.new.items ≡ runs.old.items ++ run ∷ []) }
     ensures runs_stay { OnErr result (runs.new.items ≡ runs.old.items) }
     ensures starts_stay { OnErr result (starts.new.items ≡ starts.old.items) }
     ensures firsts_stay { OnErr result (firsts.new.entries ≡ firsts.old.entries) }
 {
-    if extend_last(runs, &key.ident, label) {
-        return Ok(());
-    }
-    let run = runs.len();
-    let first = key.ident.copy()?;
+    let number = runs.len();
+    let key = Key {
+        ident: run.first()?,
+    };
     runs.reserve(1)?;
     starts.reserve(1)?;
-    firsts.insert(key, run)?;
-    runs.push(NameRun::of(first, label)).unwrap();
+    firsts.insert(key, number)?;
+    runs.push(run).unwrap();
     starts.push(place).unwrap();
     Ok(())
 }
@@ -298,6 +438,8 @@ fn put_last(
 fn extend_last(runs: &mut Vec<NameRun>, ident: &Ident, label: u64) -> bool
     ensures names { IsTrue result → named runs.new.items ≡ named runs.old.items ++ (ident.now, label) ∷ [] }
     ensures kept { IsTrue result → (starts : List ℕ) (firsts : List (keys.Key × ℕ)) → AreKept runs.old.items starts firsts → AreKept runs.new.items starts firsts }
+    ensures more { IsTrue result → IsMore runs.old.items runs.new.items ((ident.now, label) ∷ []) }
+    ensures count { length runs.new.items ≡ length runs.old.items }
     ensures stays { IsFalse result → runs.new.items ≡ runs.old.items }
 {
     let n = runs.len();
@@ -307,23 +449,18 @@ fn extend_last(runs: &mut Vec<NameRun>, ident: &Ident, label: u64) -> bool
     runs[n - 1].take(ident, label)
 }
 
-// Without the last name, whose label it answers. It takes no memory.
-fn drop_last(
-    runs: &mut Vec<NameRun>,
-    starts: &mut Vec<usize>,
-    firsts: &mut BTreeMap<Key, usize>,
-) -> u64
+// Without the last name. It takes no memory.
+fn drop_last(runs: &mut Vec<NameRun>, starts: &mut Vec<usize>, firsts: &mut BTreeMap<Key, usize>)
     requires some { 0 < length runs.old.items }
-    ensures names { (x : List Tuple) × (named runs.old.items ≡ named runs.new.items ++ (x, result) ∷ []) }
+    ensures names { (n : List Tuple × ℕ) × (named runs.old.items ≡ named runs.new.items ++ n ∷ []) }
+    ensures fewer { IsMore runs.old.items runs.new.items [] }
+    ensures count { length runs.new.items ≤ length runs.old.items }
     ensures kept { AreApart (reverse (named runs.old.items)) → AreKept runs.old.items starts.old.items firsts.old.entries → AreKept runs.new.items starts.new.items firsts.new.entries }
 {
     let last = runs.len() - 1;
-    let run = &runs[last];
-    let more = run.len() - 1;
-    let label = run.label(more);
-    if more > 0 {
+    if runs[last].len() > 1 {
         runs[last].shorten();
-        return label;
+        return;
     }
     let Some(run) = runs.pop() else {
         unreachable!()
@@ -333,22 +470,4 @@ fn drop_last(
         ident: run.into_first(),
     };
     let _run = firsts.remove(&key);
-    label
-}
-
-// The place of a label's newest name, which has one already. It takes no memory.
-fn put_newest(newest: &mut BTreeMap<u64, usize>, label: u64, place: Option<usize>)
-    requires there { IsSome (place_in newest.old.entries label) }
-    ensures newest { (l : ℕ) → place_in newest.new.entries l ≡ (if is_at (nat_cmp label) l then place else place_in newest.old.entries l) }
-{
-    match place {
-        None => {
-            let _place = newest.remove(&label);
-        }
-        Some(place) => {
-            if newest.insert(label, place).is_err() {
-                unreachable!()
-            }
-        }
-    }
 }

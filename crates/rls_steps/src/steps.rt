@@ -143,8 +143,8 @@ impl Steps {
     /// needed again, so what is left leads to the same texts as before. After an error all is as before, but that everything may be in
     /// the greatest epoch.
     ///
-    /// Each call costs nothing but a comparison, until there is a sweep. That costs a pass over the steps and a few searches for each
-    /// name, of which it lets at least as many go as were added since the last one, or the steps need them.
+    /// Each call costs nothing but a comparison, until there is a sweep. That costs a pass over the steps and a sort of the labels
+    /// that they name, a few searches for each run of names that is kept whole, and a few for each name of the others.
     ///
     /// # Errors
     ///
@@ -222,8 +222,8 @@ impl Steps {
     /// Performs an edit as `Replica::edit` does. An insertion and a deletion are steps of the open group, and what could be redone
     /// is forgotten. After an error all is as before, but that everything may be in the greatest epoch.
     ///
-    /// It costs what `Replica::edit` does. An insertion costs a search among the names for each of its characters, and a deletion a
-    /// search in the text and one among the names for each of its characters and for both its neighbours. After a rename everything is
+    /// It costs what `Replica::edit` does. An insertion costs a few searches among the names, and a deletion a search in the
+    /// text and one among the names for each of its characters and for both its neighbours. After a rename everything is
     /// translated first, as by `settle`.
     ///
     /// # Errors

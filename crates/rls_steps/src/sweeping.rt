@@ -1,13 +1,18 @@
 //! Names that no step needs, which go.
 
-ghost use Rattle.std.specs.Prelude.{◌≡◌, ◌<◌, ◌++◌, ◌∷◌, [], ℕ, List, length, filter, reverse, slice_get, Some, IfOk, OnOk};
+ghost use Rattle.std.specs.Prelude.{◌≡◌, ◌<◌, ◌≤◌, ◌+◌, ◌++◌, ◌∷◌, [], ℕ, List, length, take, drop, filter, reverse, slice_get, Some, IfOk, IfSome, OnOk, IsTrue, true};
 ghost use Rattle.std.specs.List.Sorted.{IsNonDecreasing};
 ghost use Rattle.rls_ident.specs.declared.tuple.Tuple.{Tuple};
+ghost use Rattle.rls_ident.specs.Lists.{IsIn};
 ghost use Rattle.rls_seen.specs.Seen.{idents_over};
-ghost use Rattle.rls_steps.specs.Tables.{given_labels};
+ghost use Rattle.rls_steps.specs.NameRuns.{names_in, names_of};
+ghost use Rattle.rls_steps.specs.Tables.{IsRising, given_labels};
+ghost use Rattle.rls_steps.specs.Bounds.{IsLatest};
 ghost use Rattle.rls_steps.specs.Sweeping.{piece_labels, step_labels, is_needed, is_newest, is_kept, kept_names};
 
+use crate::name_run::NameRun;
 use crate::names::Names;
+use crate::pending::{add_pending, push_pending};
 use crate::piece::{Piece, Step};
 use rls_ident::Ident;
 use rls_replica::Replica;
@@ -15,7 +20,9 @@ use std::alloc::{AllocError, Global};
 
 /// The names that are kept beside these steps. All are in the greatest epoch.
 ///
-/// It costs a search among the labels that the steps name for each name, and a search in the text for each but the newest of a label.
+/// It costs a sort of the labels that the steps name; for each run of names a few searches among these and among the names, where all of
+/// the run is kept as the newest of its labels; and else for each of its names a search among the labels, and one in the text for each but
+/// the newest of a label.
 pub(crate) fn kept_names(
     replica: &Replica,
     names: &Names,
@@ -29,15 +36,16 @@ pub(crate) fn kept_names(
     Ok(kept)
 }
 
-// The labels that these steps name, in increasing order.
+// The labels that these steps name, each once, in increasing order.
 fn needed_labels(alloc: Global, past: &[Step], future: &[Step]) -> Result<Vec<u64>, AllocError>
     ensures same { IfOk result (λ ls. (l : ℕ) → is_needed ls.items l ≡ is_needed (step_labels past.now ++ step_labels future.now) l) }
-    ensures sorted { IfOk result (λ ls. IsNonDecreasing ls.items) }
+    ensures rising { IfOk result (λ ls. IsRising ls.items) }
 {
     let mut labels = Vec::new(alloc);
     push_steps(&mut labels, past)?;
     push_steps(&mut labels, future)?;
     labels.sort_unstable();
+    labels.dedup();
     Ok(labels)
 }
 
@@ -89,33 +97,87 @@ fn push_known(labels: &mut Vec<u64>, label: Option<u64>) -> Result<(), AllocErro
 
 // The names that are kept where these are the labels that steps name, in increasing order.
 fn kept_among(replica: &Replica, names: &Names, labels: &[u64]) -> Result<Names, AllocError>
-    requires sorted { IsNonDecreasing labels.now }
+    requires rising { IsRising labels.now }
     ensures kept { IfOk result (λ ns. ns ≡ kept_names (idents_over replica.now) labels.now names.now) }
 {
     let mut kept = Names::new(names.alloc());
-    'names: for i in 0..names.len() {
-        push_kept(&mut kept, replica, names, labels, i)?;
+    let mut last = None;
+    let mut i = 0;
+    'names: while i < names.len() {
+        let (run, count) = add_next(&mut kept, last, replica, names, labels, i)?;
+        last = run;
+        i += count;
     }
+    push_pending(&mut kept, last)?;
     Ok(kept)
 }
 
-// The name at a place, too, if it is kept.
-fn push_kept(
+// The next names that are kept, too: those of a run, if it begins at this place and all of it is kept as the newest of its labels, or else
+// the name at the place, if it is kept. Answers the names that wait now, and how many were looked at.
+fn add_next(
     kept: &mut Names,
+    last: Option<NameRun>,
     replica: &Replica,
     names: &Names,
     labels: &[u64],
     i: usize,
-) -> Result<(), AllocError>
+) -> Result<(Option<NameRun>, usize), AllocError>
+    requires place { i < length names.now }
+    requires rising { IsRising labels.now }
+    ensures some { IfOk result (λ p. 0 < p.1) }
+    ensures within { IfOk result (λ p. i + p.1 ≤ length names.now) }
+    ensures kept { IfOk result (λ p. kept.new ++ names_in p.0 ≡ (kept.old ++ names_in last) ++ filter (is_kept (idents_over replica.now) labels.now (reverse names.now)) (take p.1 (drop i names.now))) }
+{
+    match whole_run(names, labels, i)? {
+        Some(run) => {
+            let count = run.len();
+            push_pending(kept, last)?;
+            Ok((Some(run), count))
+        }
+        None => {
+            let run = add_kept(kept, last, replica, names, labels, i)?;
+            Ok((run, 1))
+        }
+    }
+}
+
+// The names of a run, if it begins at this place and all of it is kept as the newest of its labels.
+fn whole_run(names: &Names, labels: &[u64], i: usize) -> Result<Option<NameRun>, AllocError>
+    requires place { i < length names.now }
+    requires rising { IsRising labels.now }
+    ensures latest { IfOk result (λ o. IfSome o (λ r. IsLatest names.now i r)) }
+    ensures needed { IfOk result (λ o. IfSome o (λ r. (n : List Tuple × ℕ) → IsIn n (names_of r) → is_needed labels.now n.1 ≡ true)) }
+{
+    match names.latest_run(i)? {
+        None => Ok(None),
+        Some(run) => {
+            if are_needed(labels, &run) {
+                return Ok(Some(run));
+            }
+            Ok(None)
+        }
+    }
+}
+
+// The name at a place, too, if it is kept. Answers the names that wait now.
+fn add_kept(
+    kept: &mut Names,
+    last: Option<NameRun>,
+    replica: &Replica,
+    names: &Names,
+    labels: &[u64],
+    i: usize,
+) -> Result<Option<NameRun>, AllocError>
     requires place { i < length names.now }
     requires sorted { IsNonDecreasing labels.now }
-    ensures kept { OnOk result ((n : List Tuple × ℕ) → slice_get names.now i ≡ Some n → kept.new ≡ kept.old ++ filter (is_kept (idents_over replica.now) labels.now (reverse names.now)) (n ∷ [])) }
+    ensures kept { IfOk result (λ o. (n : List Tuple × ℕ) → slice_get names.now i ≡ Some n → kept.new ++ names_in o ≡ (kept.old ++ names_in last) ++ filter (is_kept (idents_over replica.now) labels.now (reverse names.now)) (n ∷ [])) }
 {
     let (ident, label) = names.name(i)?;
     if is_kept(replica, names, labels, &ident, label)? {
-        kept.push(ident, label)?;
+        let run = add_pending(kept, last, ident, label)?;
+        return Ok(Some(run));
     }
-    Ok(())
+    Ok(last)
 }
 
 // Whether a name is kept where these are the labels that steps name, in increasing order.
@@ -133,6 +195,21 @@ fn is_kept(
         return Ok(false);
     }
     Ok(is_newest(names, ident, label)? || replica.find(ident).is_ok())
+}
+
+// Whether the labels of all names of a run are among these, which are in increasing order. It costs a search.
+fn are_needed(labels: &[u64], run: &NameRun) -> bool
+    requires rising { IsRising labels.now }
+    ensures needed { IsTrue result → (n : List Tuple × ℕ) → IsIn n (names_of run.now) → is_needed labels.now n.1 ≡ true }
+{
+    let (low, high) = run.labels();
+    match labels.binary_search(&low) {
+        Err(_) => false,
+        Ok(at) => {
+            let more = high - low;
+            more < (labels.len() - at) as u64 && labels[at + more as usize] == high
+        }
+    }
 }
 
 // Whether a label is one of these, which are in increasing order.

@@ -1,30 +1,44 @@
-use Rattle.std.proofs.Common.{◌≡◌, ◌-◌, ◌<◌, ◌∷◌, [], ◌++◌, List, length, length-append, take, sym, ap, ◌∙◌, subst, arith}
+use Rattle.std.proofs.Common.{◌≡◌, ◌-◌, ◌<◌, ◌≤◌, ◌∷◌, [], ◌++◌, List, length, length-append, take, sym, ap, ◌∙◌, subst, arith}
 use Rattle.std.specs.Prelude.{reverse}
 use Rattle.rls_steps.specs.NameRuns.{Stretch, AreKept, named}
 use Rattle.rls_steps.specs.Index.{AreApart}
-use Rattle.rls_steps.proofs.Indexing.{last_less, last_kept, alone_less, kept_less}
+use Rattle.rls_steps.specs.Bounds.{IsMore}
+use Rattle.rls_steps.proofs.Indexing.{same_last, last_less, last_fewer, last_kept, alone_less, kept_less}
+use Rattle.rls_steps.proofs.Bounded.{less_popped}
 use Rattle.rls_steps.proofs.names.drop_last.Goals as goal
 
-pub returns-then-more-gt0-clause-names : goal.returns-then-more-gt0-clause-names
-returns-then-more-gt0-clause-names c =
+pub returns-then-len-gt1-clause-names : goal.returns-then-len-gt1-clause-names
+returns-then-len-gt1-clause-names c =
     let rs = c.args.runs.now.items in
     let n : c.len-last.result ≡ length rs = omega arith in
-    last_less rs c.len-last.result c.index-run.result.now c.index_mut.result.now c.shorten.new.self c.len-more.result c.label-label.result n c.requires.some c.index-run.ensures c.index_mut.ensures.value c.len-more.ensures.len c.if-more-gt0.true c.label-label.ensures.label
-    c.shorten.ensures.shorter
+    let same = same_last rs c.len-last.result c.index.result.now c.index_mut.result.now n c.requires.some c.index.ensures c.index_mut.ensures.value in
+    let size = c.len.ensures.len ∙ ap (λ (r : Stretch). r.len) same in
+    let more = c.if-len-gt1.true in
+    last_less rs c.len-last.result c.index_mut.result.now c.shorten.new.self n c.requires.some c.index_mut.ensures.value (omega (arith, size, more)) c.shorten.ensures.shorter
 
-pub returns-then-more-gt0-clause-kept : goal.returns-then-more-gt0-clause-kept
-returns-then-more-gt0-clause-kept c =
+pub returns-then-len-gt1-clause-kept : goal.returns-then-len-gt1-clause-kept
+returns-then-len-gt1-clause-kept c =
     λ a k. let rs = c.args.runs.now.items in
     let n : c.len-last.result ≡ length rs = omega arith in
     last_kept rs c.len-last.result c.index_mut.result.now c.shorten.new.self c.args.starts.now.items c.args.firsts.now.entries n c.requires.some c.index_mut.ensures.value c.shorten.ensures.sound (ap (λ (r : Stretch). r.first) c.shorten.ensures.shorter) k
+
+pub returns-then-len-gt1-clause-fewer : goal.returns-then-len-gt1-clause-fewer
+returns-then-len-gt1-clause-fewer c =
+    let rs = c.args.runs.now.items in
+    let n : c.len-last.result ≡ length rs = omega arith in
+    let same = same_last rs c.len-last.result c.index.result.now c.index_mut.result.now n c.requires.some c.index.ensures c.index_mut.ensures.value in
+    let size = c.len.ensures.len ∙ ap (λ (r : Stretch). r.len) same in
+    let more = c.if-len-gt1.true in
+    last_fewer rs c.len-last.result c.index_mut.result.now c.shorten.new.self n c.requires.some c.index_mut.ensures.value (omega (arith, size, more)) c.shorten.ensures.shorter
 
 pub returns-clause-names : goal.returns-clause-names
 returns-clause-names c =
     let rs = c.args.runs.now.items in
     let n : c.len-last.result ≡ length rs = omega arith in
-    let none : c.len-more.result - 1 ≡ 0 = let w = c.if-more-gt0.false in omega (arith, w) in
-    alone_less rs c.pop.new.self.items c.len-last.result c.index-run.result.now c.in-Some.run' c.len-more.result c.label-label.result n c.requires.some c.index-run.ensures c.in-Some.ensures.items c.len-more.ensures.len none c.len-more.ensures.some
-    c.label-label.ensures.label
+    let size = c.len.ensures.len in
+    let one = c.if-len-gt1.false in
+    let some = c.len.ensures.some in
+    alone_less rs c.pop.new.self.items c.len-last.result c.index.result.now c.in-Some.run' n c.requires.some c.index.ensures c.in-Some.ensures.items (omega (arith, size, one)) (omega (arith, size, some))
 
 pub returns-clause-kept : goal.returns-clause-kept
 returns-clause-kept c =
@@ -38,3 +52,6 @@ returns-clause-kept c =
     let size : c.len-last.result - 1 ≡ length zs = omega (arith, all, n) in
     kept_less zs q ss c.truncate.new.self.items fs c.remove-run.new.self.entries (record { ident = c.into_first.result }) c.into_first.ensures.first (c.truncate.ensures.items ∙ ap (λ m. take m ss) size)
     (subst (λ (ts : List Stretch). AreApart (reverse (named ts))) is a) (subst (λ (ts : List Stretch). AreKept ts ss fs) is k) c.remove-run.ensures.updates.0
+
+pub returns-clause-fewer : goal.returns-clause-fewer
+returns-clause-fewer c = subst (λ (ts : List Stretch). IsMore ts c.pop.new.self.items []) (sym c.in-Some.ensures.items) (less_popped c.pop.new.self.items c.in-Some.run')

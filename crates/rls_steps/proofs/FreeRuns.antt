@@ -1,0 +1,208 @@
+-- A run of names that is added at once: none of its identifiers has a name, and they are apart.
+use Rattle.std.proofs.Common.{◌≡◌, ℕ, zero, suc, ◌+◌, ◌-◌, ◌<◌, ◌≤◌, Bool, true, false, List, [], ◌∷◌, ◌++◌, length, take, inl, inr, refl, sym, ap, ◌∙◌, subst, arith}
+use Rattle.std.specs.Prelude.{ℤ, pos, ◌+ℤ◌, ◌-ℤ◌, nat_lt, reverse, zip, slice_get, Option, Some, None, if◌then◌else◌}
+use Rattle.std.specs.Ordering.{is_gt}
+use Rattle.std.proofs.lemmas.Int.{ints}
+use Rattle.std.proofs.lemmas.List.{append-nil, reverse-append, reverse-reverse}
+use Rattle.rls_ident.specs.declared.tuple.Tuple.{Tuple}
+use Rattle.rls_ident.specs.Tuples.{offset_of}
+use Rattle.rls_ident.specs.Identifiers.{IsIdent, ident_eq, last_of, shifted}
+use Rattle.rls_ident.specs.Lists.{IsIn}
+use Rattle.rls_ident.proofs.Ends.{eq_same}
+use Rattle.rls_ident.proofs.Members.{bool_cases, lt_is, not_lt_is, some_is}
+use Rattle.rls_ident.proofs.Shifted.{shifted_shifted, shifted_none, last_offset}
+use Rattle.rls_runs.specs.Runs.{run_idents}
+use Rattle.rls_steps.specs.declared.key.Key.{Key}
+use Rattle.rls_steps.specs.Labelled.{Names, label_of}
+use Rattle.rls_steps.specs.Marks.{numbers_from}
+use Rattle.rls_steps.specs.NameRuns.{Stretch, IsStretch, IsAbove, IsOutside, step_by, name_by, names_by, name_at, names_of, named, run_in, run_of, wide_cmp, key_cmp}
+use Rattle.rls_steps.specs.Index.{AreApart}
+use Rattle.rls_steps.proofs.Tabling.{take_snoc}
+use Rattle.rls_steps.proofs.Giving.{reverse_snoc, numbers_snoc}
+use Rattle.rls_steps.proofs.Widths.{between, on_up}
+use Rattle.rls_steps.proofs.Stretches.{name_in, names_suc, in_names, in_named, named_in, none_in, in_reverse, reverse_in, run_there, run_some}
+use Rattle.rls_steps.proofs.Found.{label_name}
+use Rattle.rls_steps.proofs.RunLookups.{IsAbout, first_there, is_some_of}
+
+-- ---- identifiers of a run are apart
+
+idents_apart : (d : Bool) (x : List Tuple) (j m : ℕ) → IsIdent x → shifted (step_by d j) x ≡ shifted (step_by d m) x → j ≡ m
+idents_apart d x j m i e =
+    let same : offset_of (last_of x) +ℤ step_by d j ≡ offset_of (last_of x) +ℤ step_by d m = sym (last_offset (step_by d j) x i) ∙ (ap (λ y. offset_of (last_of y)) e ∙ last_offset (step_by d m) x i) in
+    go d same
+  where
+    go : (c : Bool) → offset_of (last_of x) +ℤ step_by c j ≡ offset_of (last_of x) +ℤ step_by c m → j ≡ m
+    go false q = omega (arith, ints, q)
+    go true q = omega (arith, ints, q)
+
+label_skip : (xs ys : Names) (y : List Tuple) → ((n : List Tuple × ℕ) → IsIn n xs → n.0 ≡ y → ⊥) → label_of (xs ++ ys) y ≡ label_of ys y
+label_skip [] ys y f = refl
+label_skip (x ∷ xs) ys y f = bool_cases (ident_eq x.0 y)
+    (λ b. absurd (f x (inl refl) (eq_same x.0 y b)))
+    (λ b. ap (λ (c : Bool). if c then Some x.1 else label_of (xs ++ ys) y) b ∙ label_skip xs ys y (λ n p. f n (inr p)))
+
+names_apart : (d : Bool) (x : List Tuple) (l m : ℕ) (ys : Names) → IsIdent x → AreApart ys → ((k : ℕ) → k < m → label_of ys (name_by d x l k).0 ≡ None) → AreApart (reverse (names_by d x l 0 m) ++ ys)
+names_apart d x l zero ys i a f = a
+names_apart d x l (suc m) ys i a f =
+    let ns = names_by d x l 0 m in
+    let z : 0 + m ≡ m = omega arith in
+    let whole : reverse (names_by d x l 0 (suc m)) ++ ys ≡ name_by d x l m ∷ (reverse ns ++ ys) =
+    ap (λ (zs : Names). reverse zs ++ ys) (names_suc d x l 0 m ∙ ap (λ j. ns ++ name_by d x l j ∷ []) z) ∙ ap (λ (zs : Names). zs ++ ys) (reverse_snoc ns (name_by d x l m)) in
+    subst AreApart (sym whole) (
+      label_skip (reverse ns) ys (name_by d x l m).0 none ∙ f m (omega arith),
+      names_apart d x l m ys i a (λ k h. f k (omega (arith, h))),
+    )
+  where
+    none : (n : List Tuple × ℕ) → IsIn n (reverse (names_by d x l 0 m)) → n.0 ≡ (name_by d x l m).0 → ⊥
+    none n p e =
+        let w = in_names d x l 0 m n (reverse_in n (names_by d x l 0 m) p) in
+        let z : w.0 ≡ 0 + w.0 = omega arith in
+        let h = w.1 in
+        let same = idents_apart d x w.0 m i (ap (λ j. (name_by d x l j).0) z ∙ (ap (λ (k : List Tuple × ℕ). k.0) w.2 ∙ e)) in
+        absurd (omega (arith, same, h))
+
+pub run_apart : (r : Stretch) (ys : Names) → IsStretch r.first r.label r.down r.len → AreApart ys → ((k : ℕ) → k < r.len → label_of ys (name_at r k).0 ≡ None) → AreApart (reverse (names_of r) ++ ys)
+run_apart r ys s a f = names_apart r.down r.first r.label r.len ys s.ident a f
+
+-- ---- none of them has a name
+
+-- no run begins among the identifiers
+no_start : (rs : List Stretch) (es : List (Key × ℕ)) (low : Key) (a : Option ℕ) (n j i : ℕ) (r : Stretch) → IsAbout rs es → IsIdent low.ident → IsAbove es low a → IsOutside rs a low.ident n → slice_get rs i ≡ Some r → j < n → r.first ≡ shifted (pos j) low.ident → ⊥
+no_start rs es low None n j i r o ident above out g h e =
+    let own : Key = record { ident = r.first } in
+    let there = first_there rs es i r own o.firsts g refl in
+    let up : is_gt (key_cmp low own) ≡ false = ap (λ y. is_gt (wide_cmp low.ident y)) e ∙ on_up low.ident j ident in
+    let none = above own up in
+    let some = there.1 in
+    absurd (cc)
+no_start rs es low (Some k) n j i r o ident above out g h e =
+    let own : Key = record { ident = r.first } in
+    let there = first_there rs es i r own o.firsts g refl in
+    let up : is_gt (key_cmp low own) ≡ false = ap (λ y. is_gt (wide_cmp low.ident y)) e ∙ on_up low.ident j ident in
+    let key = above.0 in
+    let least = above.3 own up (is_some_of (run_in es own) there.0 there.1) in
+    let high : is_gt (wide_cmp key.ident (shifted (pos j) low.ident)) ≡ false = ap (λ y. is_gt (wide_cmp key.ident y)) (sym e) ∙ least in
+    let w = between low.ident key.ident j ident above.2 high in
+    let short = w.1 in
+    let v = run_there (reverse rs) key.ident k (sym (o.firsts key) ∙ above.1) in
+    let at : slice_get rs k ≡ Some v.0 = ap (λ (zs : List Stretch). slice_get zs k) (sym (reverse-reverse rs)) ∙ v.1 in
+    let same : out.0 ≡ v.0 = some_is out.0 v.0 (sym out.1 ∙ at) in
+    out.2 w.0 (omega (arith, short, h)) (ap (λ (s : Stretch). s.first) same ∙ (v.2 ∙ sym w.2))
+
+-- a name of a run has a label
+has_label : (rs : List Stretch) (i m : ℕ) (r : Stretch) (x : List Tuple) → slice_get rs i ≡ Some r → m < r.len → (name_at r m).0 ≡ x → label_of (reverse (named rs)) x ≡ None → ⊥
+has_label rs i m r x g h e none =
+    none_in (reverse (named rs)) x (name_at r m).1 none (subst (λ y. IsIn (y, (name_at r m).1) (reverse (named rs))) e (in_reverse (name_at r m) (named rs) (named_in rs i r m g h)))
+
+back_by : (y z : List Tuple) (a b : ℤ) → shifted a y ≡ z → shifted (a +ℤ b) y ≡ shifted b z
+back_by y z a b e = sym (shifted_shifted b a y) ∙ ap (shifted b) e
+
+no_name_up : (rs : List Stretch) (es : List (Key × ℕ)) (low : Key) (a : Option ℕ) (n k i m : ℕ) (r : Stretch) → IsAbout rs es → IsIdent low.ident → IsAbove es low a → IsOutside rs a low.ident n → label_of (reverse (named rs)) low.ident ≡ None →
+    slice_get rs i ≡ Some r → m < r.len → k < n → r.down ≡ false → (name_at r m).0 ≡ shifted (pos k) low.ident → ⊥
+no_name_up rs es low a n k i m r o ident above out none g h short d e =
+    let up : shifted (pos m) r.first ≡ shifted (pos k) low.ident = ap (λ (c : Bool). shifted (step_by c m) r.first) (sym d) ∙ e in
+    bool_cases (nat_lt k m)
+    (λ b. let less = lt_is k m b in
+    let by : pos m +ℤ (pos 0 -ℤ pos k) ≡ pos (m - k) = omega (arith, ints, less) in
+    let zero' : pos k +ℤ (pos 0 -ℤ pos k) ≡ pos 0 = omega (arith, ints) in
+    let here : shifted (pos (m - k)) r.first ≡ low.ident =
+    ap (λ z. shifted z r.first) (sym by) ∙ (back_by r.first (shifted (pos k) low.ident) (pos m) (pos 0 -ℤ pos k) up ∙ (shifted_shifted (pos 0 -ℤ pos k) (pos k) low.ident ∙ (ap (λ z. shifted z low.ident) zero' ∙ shifted_none low.ident))) in
+    has_label rs i (m - k) r low.ident g (omega (arith, h)) (ap (λ (c : Bool). shifted (step_by c (m - k)) r.first) d ∙ here) none)
+    (λ b. let most = not_lt_is k m b in
+    let by : pos m +ℤ (pos 0 -ℤ pos m) ≡ pos 0 = omega (arith, ints) in
+    let on : pos k +ℤ (pos 0 -ℤ pos m) ≡ pos (k - m) = omega (arith, ints, most) in
+    let first : r.first ≡ shifted (pos (k - m)) low.ident =
+    sym (ap (λ z. shifted z r.first) by ∙ shifted_none r.first)
+    ∙ (back_by r.first (shifted (pos k) low.ident) (pos m) (pos 0 -ℤ pos m) up ∙ (shifted_shifted (pos 0 -ℤ pos m) (pos k) low.ident ∙ ap (λ z. shifted z low.ident) on)) in
+    no_start rs es low a n (k - m) i r o ident above out g (omega (arith, short)) first)
+
+no_name_down : (rs : List Stretch) (es : List (Key × ℕ)) (low : Key) (a : Option ℕ) (n k i m : ℕ) (r : Stretch) → IsAbout rs es → IsIdent low.ident → IsAbove es low a → IsOutside rs a low.ident n → label_of (reverse (named rs)) (shifted (pos (n - 1)) low.ident) ≡ None →
+    slice_get rs i ≡ Some r → m < r.len → k < n → r.down ≡ true → (name_at r m).0 ≡ shifted (pos k) low.ident → ⊥
+no_name_down rs es low a n k i m r o ident above out none g h short d e =
+    let down : shifted (pos 0 -ℤ pos m) r.first ≡ shifted (pos k) low.ident = ap (λ (c : Bool). shifted (step_by c m) r.first) (sym d) ∙ e in
+    bool_cases (nat_lt (k + m) n)
+    (λ b. let less = lt_is (k + m) n b in
+    let by : (pos 0 -ℤ pos m) +ℤ pos m ≡ pos 0 = omega (arith, ints) in
+    let on : pos k +ℤ pos m ≡ pos (k + m) = omega (arith, ints) in
+    let first : r.first ≡ shifted (pos (k + m)) low.ident =
+    sym (ap (λ z. shifted z r.first) by ∙ shifted_none r.first)
+    ∙ (back_by r.first (shifted (pos k) low.ident) (pos 0 -ℤ pos m) (pos m) down ∙ (shifted_shifted (pos m) (pos k) low.ident ∙ ap (λ z. shifted z low.ident) on)) in
+    no_start rs es low a n (k + m) i r o ident above out g less first)
+    (λ b. let most = not_lt_is (k + m) n b in
+    let j = m - (n - 1 - k) in
+    let by : (pos 0 -ℤ pos m) +ℤ pos (n - 1 - k) ≡ pos 0 -ℤ pos j = omega (arith, ints, most, short) in
+    let on : pos k +ℤ pos (n - 1 - k) ≡ pos (n - 1) = omega (arith, ints, short) in
+    let here : shifted (pos 0 -ℤ pos j) r.first ≡ shifted (pos (n - 1)) low.ident =
+    ap (λ z. shifted z r.first) (sym by)
+    ∙ (back_by r.first (shifted (pos k) low.ident) (pos 0 -ℤ pos m) (pos (n - 1 - k)) down ∙ (shifted_shifted (pos (n - 1 - k)) (pos k) low.ident ∙ ap (λ z. shifted z low.ident) on)) in
+    has_label rs i j r (shifted (pos (n - 1)) low.ident) g (omega (arith, h)) (ap (λ (c : Bool). shifted (step_by c j) r.first) d ∙ here) none)
+
+pub free_run : (rs : List Stretch) (es : List (Key × ℕ)) (low : Key) (a : Option ℕ) (n : ℕ) → IsAbout rs es → IsIdent low.ident → IsAbove es low a → IsOutside rs a low.ident n → label_of (reverse (named rs)) low.ident ≡ None →
+    label_of (reverse (named rs)) (shifted (pos (n - 1)) low.ident) ≡ None → (k : ℕ) → k < n → label_of (reverse (named rs)) (shifted (pos k) low.ident) ≡ None
+free_run rs es low a n o ident above out first last k h = go (label_of (reverse (named rs)) (shifted (pos k) low.ident)) refl
+  where
+    go : (c : Option ℕ) → label_of (reverse (named rs)) (shifted (pos k) low.ident) ≡ c → c ≡ None
+    go None e = refl
+    go (Some l) e =
+        let y = shifted (pos k) low.ident in
+        let w = in_named rs (y, l) (reverse_in (y, l) (named rs) (label_name (reverse (named rs)) y l e)) in
+        let q = ap (λ (n : List Tuple × ℕ). n.0) w.5 in
+        absurd (bool_cases w.1.down
+        (λ d. no_name_down rs es low a n k w.0 w.2 w.1 o ident above out last w.3 w.4 h d q)
+        (λ d. no_name_up rs es low a n k w.0 w.2 w.1 o ident above out first w.3 w.4 h d q))
+
+-- ---- an insertion's names, the last one first
+
+pub falling_names : (m : ℕ) (x y : List Tuple) (l k : ℕ) → y ≡ shifted (pos m) x → k ≡ l + m → reverse (names_by true y k 0 (suc m)) ≡ zip (run_idents x (suc m)) (numbers_from l (suc m))
+falling_names zero x y l k e f =
+    let none : k - 0 ≡ l = omega (arith, f) in
+    let z : pos 0 +ℤ (pos 0 -ℤ pos 0) ≡ pos 0 = omega (arith, ints) in
+    let first : shifted (pos 0 -ℤ pos 0) y ≡ x = ap (shifted (pos 0 -ℤ pos 0)) e ∙ (shifted_shifted (pos 0 -ℤ pos 0) (pos 0) x ∙ (ap (λ d. shifted d x) z ∙ shifted_none x)) in
+    ap (λ v. (v, k - 0) ∷ []) first ∙ ap (λ v. (x, v) ∷ []) none
+falling_names (suc m) x y l k e f =
+    let ns = names_by true y k 0 (suc m) in
+    let one : 0 + suc m ≡ suc m = omega arith in
+    let z : pos (suc m) +ℤ (pos 0 -ℤ pos (suc m)) ≡ pos 0 = omega (arith, ints) in
+    let last : shifted (pos 0 -ℤ pos (suc m)) y ≡ x = ap (shifted (pos 0 -ℤ pos (suc m))) e ∙ (shifted_shifted (pos 0 -ℤ pos (suc m)) (pos (suc m)) x ∙ (ap (λ d. shifted d x) z ∙ shifted_none x)) in
+    let label : k - suc m ≡ l = omega (arith, f) in
+    let on : pos 1 +ℤ pos m ≡ pos (suc m) = omega (arith, ints) in
+    let next : y ≡ shifted (pos m) (shifted (pos 1) x) = e ∙ (ap (λ d. shifted d x) (sym on) ∙ sym (shifted_shifted (pos m) (pos 1) x)) in
+    ap reverse (names_suc true y k 0 (suc m) ∙ ap (λ j. ns ++ name_by true y k j ∷ []) one)
+    ∙ (reverse_snoc ns (name_by true y k (suc m))
+    ∙ (ap (λ v. (v, k - suc m) ∷ reverse ns) last ∙ (ap (λ v. (x, v) ∷ reverse ns) label ∙ ap (λ (zs : Names). (x, l) ∷ zs) (falling_names m (shifted (pos 1) x) y (suc l) k next (omega (arith, f))))))
+
+pub falling_named : (old new : Names) (r : Stretch) (x y : List Tuple) (l k n : ℕ) → new ≡ old ++ names_of r → r ≡ record { first = y; label = k; down = true; len = n } → y ≡ shifted (pos (n - 1)) x → k ≡ l + (n - 1) → 0 < n →
+    reverse new ≡ zip (run_idents x n) (numbers_from l n) ++ reverse old
+falling_named old new r x y l k n e q f g h =
+    let m = n - 1 in
+    let size : n ≡ suc m = omega (arith, h) in
+    let names : reverse (names_of r) ≡ zip (run_idents x n) (numbers_from l n) =
+    ap (λ (u : Stretch). reverse (names_of u)) q
+    ∙ (ap (λ j. reverse (names_by true y k 0 j)) size ∙ (falling_names m x y l k f g ∙ ap (λ j. zip (run_idents x j) (numbers_from l j)) (sym size))) in
+    ap reverse e ∙ (reverse-append old (names_of r) ∙ ap (λ (zs : Names). zs ++ reverse old) names)
+
+pub one_named : (old new : Names) (x y : List Tuple) (l n : ℕ) → new ≡ old ++ (y, l) ∷ [] → y ≡ shifted (pos (n - 1)) x → n - 1 ≡ 0 → 0 < n → reverse new ≡ zip (run_idents x n) (numbers_from l n) ++ reverse old
+one_named old new x y l n e f z h =
+    let one : suc zero ≡ n = omega (arith, h, z) in
+    let first : y ≡ x = f ∙ (ap (λ j. shifted (pos j) x) z ∙ shifted_none x) in
+    ap reverse e ∙ (reverse_snoc old (y, l) ∙ (ap (λ v. (v, l) ∷ reverse old) first ∙ ap (λ j. zip (run_idents x j) (numbers_from l j) ++ reverse old) one))
+
+-- labels that follow one another
+pub rising_next : (ls : List ℕ) (first i x : ℕ) → slice_get ls i ≡ Some x → x ≡ first + i → take i ls ≡ numbers_from first i → take (i + 1) ls ≡ numbers_from first (i + 1)
+rising_next ls first i x g e h =
+    let one : suc i ≡ i + 1 = omega arith in
+    ap (λ n. take n ls) (sym one) ∙ (take_snoc ls i x g ∙ (ap (λ zs. zs ++ x ∷ []) h ∙ (ap (λ y. numbers_from first i ++ y ∷ []) e ∙ sym (numbers_snoc first i))))
+
+-- ---- a run that is pushed piece by piece
+
+pub one_fresh : (r : Stretch) (x : List Tuple) (l : ℕ) (ys : Names) → names_of r ≡ (x, l) ∷ [] → label_of ys x ≡ None → (k : ℕ) → k < r.len → label_of ys (name_at r k).0 ≡ None
+one_fresh r x l ys e none k h = go (subst (IsIn (name_at r k)) e (name_in r k h))
+  where
+    go : IsIn (name_at r k) ((x, l) ∷ []) → label_of ys (name_at r k).0 ≡ None
+    go (inl q) = ap (λ (n : List Tuple × ℕ). label_of ys n.0) (sym q) ∙ none
+    go (inr p) = absurd p
+
+-- the first names are all, where no others are left
+pub all_pushed : (old new names rest : Names) → old ++ names ≡ new ++ rest → length rest < 1 → new ≡ old ++ names
+all_pushed old new names [] e h = sym (e ∙ append-nil new)
+all_pushed old new names (n ∷ ns) e h = absurd (omega (arith, h))

@@ -1,0 +1,129 @@
+//! Names of the characters that an operation inserts.
+
+ghost use Rattle.std.specs.Prelude.{◌≡◌, ◌<◌, ◌++◌, ◌∷◌, [], length, take, reverse, zip, min, IfOk, IfSome, OnOk};
+ghost use Rattle.rls_runs.specs.Runs.{run_idents};
+ghost use Rattle.rls_steps.specs.Labelled.{inserted_by};
+ghost use Rattle.rls_steps.specs.Marks.{numbers_from};
+
+use crate::name_run::NameRun;
+use crate::names::Names;
+use crate::pending::{add_pending, push_pending};
+use rls_ident::{Ident, rely};
+use rls_ops::{Body, Op};
+use rls_runs::{Run, Runs};
+use std::alloc::{AllocError, Global};
+
+/// Names the characters that an operation inserts. It costs a few searches among the names for each run of labels that follow one another,
+/// and for each run that had some of these labels before.
+pub(crate) fn name_inserted(names: &mut Names, op: &Op, labels: &[u64]) -> Result<(), AllocError>
+    ensures ok { OnOk result (reverse names.new ≡ zip (inserted_by op.now.body) labels.now ++ reverse names.old) }
+    ensures front { take (length names.old) names.new ≡ names.old }
+{
+    match &op.body {
+        Body::Insert { first, text } => {
+            let run = run_of(first, text.len())?;
+            match rising_from(labels, text.len()) {
+                Some(label) => name_run(names, &run, label),
+                None => name_apart(names, run, labels),
+            }
+        }
+        _ => Ok(()),
+    }
+}
+
+// The run of so many identifiers. There is always one, where an insertion has them.
+fn run_of(first: &Ident, count: usize) -> Result<Run, AllocError>
+    ensures run { IfOk result (λ run. run ≡ (first.now, count)) }
+{
+    let Ok(len) = u32::try_from(count) else {
+        return Err(AllocError);
+    };
+    let first = first.copy()?;
+    match Run::new(first, len) {
+        Ok(run) => Ok(run),
+        Err(_) => Err(AllocError),
+    }
+}
+
+// The first of so many labels, if they follow one another.
+fn rising_from(labels: &[u64], count: usize) -> Option<u64>
+    ensures rising { IfSome result (λ l. labels.now ≡ numbers_from l count) }
+{
+    if count == 0 || labels.len() != count {
+        return None;
+    }
+    let first = labels[0];
+    'labels: for i in 0..count {
+        if labels[i] < first || labels[i] - first != i as u64 {
+            return None;
+        }
+    }
+    Some(first)
+}
+
+// Gives the identifiers of a run labels that follow one another from this one on, the first identifier last.
+fn name_run(names: &mut Names, run: &Run, label: u64) -> Result<(), AllocError>
+    ensures ok { OnOk result (reverse names.new ≡ zip (run_idents run.now.0 run.now.1) (numbers_from label run.now.1) ++ reverse names.old) }
+    ensures front { take (length names.old) names.new ≡ names.old }
+{
+    let more = run.len() - 1;
+    let Some(top) = label.checked_add(more as u64) else {
+        return Err(AllocError);
+    };
+    let first = run.first();
+    rely!(let _first = first.last());
+    let last = first.shifted(more)?;
+    rely!(let _last = last.last());
+    if more == 0 {
+        names.push(last, label)?;
+        return Ok(());
+    }
+    names.push_run(NameRun::falling(last, top, run.len()))?;
+    Ok(())
+}
+
+// Gives the identifiers of a run any labels, the first identifier last.
+fn name_apart(names: &mut Names, run: Run, labels: &[u64]) -> Result<(), AllocError>
+    ensures ok { OnOk result (reverse names.new ≡ zip (run_idents run.0 run.1) labels.now ++ reverse names.old) }
+    ensures front { take (length names.old) names.new ≡ names.old }
+{
+    let ids = ids_of(names.alloc(), run)?;
+    match name_all(names, &ids, labels) {
+        Err(_) => Err(AllocError),
+        Ok(()) => Ok(()),
+    }
+}
+
+// The identifiers of a run.
+fn ids_of(alloc: Global, run: Run) -> Result<Runs, AllocError>
+    ensures ids { IfOk result (λ xs. xs ≡ run_idents run.0 run.1) }
+{
+    let mut ids = Runs::new(alloc);
+    ids.append(run)?;
+    Ok(ids)
+}
+
+// Gives these identifiers these labels, the first one last.
+fn name_all(names: &mut Names, ids: &Runs, labels: &[u64]) -> Result<(), AllocError>
+    ensures ok { OnOk result (reverse names.new ≡ zip ids.now labels.now ++ reverse names.old) }
+    ensures front { take (length names.old) names.new ≡ names.old }
+{
+    let mut i = fewer(ids.total(), labels.len());
+    let mut last = None;
+    'names: while i > 0 {
+        i -= 1;
+        last = Some(add_pending(names, last, ids.get(i as u64)?, labels[i])?);
+    }
+    push_pending(names, last)?;
+    Ok(())
+}
+
+// The lesser of two numbers.
+fn fewer(total: u64, len: usize) -> usize
+    ensures fewer { result ≡ min total len }
+{
+    if total < len as u64 {
+        return total as usize;
+    }
+    len
+}
