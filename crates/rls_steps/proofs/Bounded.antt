@@ -1,10 +1,10 @@
 -- Bounds of labels, and runs that change.
-use Rattle.std.proofs.Common.{◌≡◌, ℕ, zero, suc, ◌+◌, ◌-◌, ◌*◌, ◌<◌, ◌≤◌, List, [], ◌∷◌, ◌++◌, length, length-append, set, get_or, inl, inr, ◌⊎◌, ⊎_elim, refl, sym, take, ap, ◌∙◌, subst, arith}
+use Rattle.std.proofs.Common.{◌≡◌, ℕ, zero, suc, ◌+◌, ◌<◌, ◌≤◌, List, [], ◌∷◌, ◌++◌, length, length-append, inl, inr, ◌⊎◌, ⊎_elim, refl, sym, take, ap, ◌∙◌, subst, arith}
 use Rattle.std.specs.Prelude.{slice_get, nat_lt, Option, Some, None}
-use Rattle.std.proofs.lemmas.Option.{slice_get_read, slice_get_within}
+use Rattle.std.proofs.lemmas.Option.{slice_get_within}
 use Rattle.std.specs.Prelude.{◌==◌, Bool, false, cond}
 use Rattle.std.specs.Option.{IsSome}
-use Rattle.std.specs.Ordering.{nat_cmp, is_gt, is_lt}
+use Rattle.std.specs.Ordering.{nat_cmp, is_gt}
 use Rattle.std.specs.declared.cmp.Ordering.TheVariants.{Less, Equal, Greater}
 use Rattle.std.proofs.lemmas.Map.Keys.{le_from_not_gt, ge_from_not_lt}
 use Rattle.std.proofs.lemmas.List.{length-take}
@@ -162,9 +162,13 @@ none_span : (rs : List Stretch) (es : List (ℕ × ℕ)) (a end label high k v :
 none_span rs es a end label high k v c b f i l x y has m n =
     let e = c.each i l has in
     let less = e.3 in
-    let here : IsBound es l k v = (b.0, m, λ q g h. bool_cases (nat_lt label q)
-    (λ t. f q (lt_is label q t) (omega (arith, h, n)))
-    (λ t. b.2 q g (not_lt_is label q t))) in
+    let here : IsBound es l k v = (
+      b.0,
+      m,
+      λ q g h. bool_cases (nat_lt label q)
+          (λ t. f q (lt_is label q t) (omega (arith, h, n)))
+          (λ t. b.2 q g (not_lt_is label q t)),
+    ) in
     let one = bound_one es l e.0 e.1 k v e.2 here in
     absurd (omega (arith, less, one, x))
 
@@ -343,7 +347,6 @@ bounded_more rs r b b' c low high v low' high' o counted e none lower higher own
   counted = counted_more rs r b'.counts.entries b'.above low high v counted own up most f;
   older = subst (AreOlder (rs ++ r ∷ [])) (sym e) (older_more rs r b.olders.items c low high o.older (none_within rs c c (length rs) low' low high' high none (omega arith) lower higher) own);
 }
-
 
 -- ---- bounds that are put, and an error
 

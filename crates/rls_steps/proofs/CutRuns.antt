@@ -1,12 +1,11 @@
 -- A run of names that is cut in two.
-use Rattle.std.proofs.Common.{◌≡◌, ℕ, zero, suc, ◌+◌, ◌-◌, ◌<◌, ◌≤◌, Bool, true, false, [], ◌∷◌, ◌++◌, List, length, refl, sym, ap, ◌∙◌, subst, arith}
+use Rattle.std.proofs.Common.{◌≡◌, ℕ, zero, suc, ◌+◌, ◌-◌, ◌<◌, ◌≤◌, Bool, true, false, ◌∷◌, ◌++◌, List, length, refl, sym, ap, ◌∙◌, subst, arith}
 use Rattle.std.specs.Prelude.{pos, ◌+ℤ◌, ◌-ℤ◌}
 use Rattle.std.proofs.lemmas.Int.{ints}
 use Rattle.rls_ident.specs.declared.tuple.Tuple.{Tuple}
-use Rattle.rls_ident.specs.Tuples.{offset_of}
-use Rattle.rls_ident.specs.Identifiers.{last_of, shifted}
+use Rattle.rls_ident.specs.Identifiers.{shifted}
 use Rattle.rls_ident.proofs.Shifted.{shifted_shifted, ident_shifted, last_offset}
-use Rattle.rls_steps.specs.NameRuns.{Stretch, IsStretch, IsWithin, step_by, label_by, name_by, names_by, name_at, names_of}
+use Rattle.rls_steps.specs.NameRuns.{Stretch, IsStretch, step_by, label_by, name_by, names_by, name_at, names_of}
 use Rattle.rls_steps.proofs.Stretches.{names_long}
 
 name_later : (d : Bool) (x : List Tuple) (l c k : ℕ) → name_by d (shifted (step_by d c) x) (label_by d l c) k ≡ name_by d x l (c + k)

@@ -1,5 +1,5 @@
 -- A run of names that is added at once: none of its identifiers has a name, and they are apart.
-use Rattle.std.proofs.Common.{◌≡◌, ℕ, zero, suc, ◌+◌, ◌-◌, ◌<◌, ◌≤◌, Bool, true, false, List, [], ◌∷◌, ◌++◌, length, take, inl, inr, refl, sym, ap, ◌∙◌, subst, arith}
+use Rattle.std.proofs.Common.{◌≡◌, ℕ, zero, suc, ◌+◌, ◌-◌, ◌<◌, Bool, true, false, List, [], ◌∷◌, ◌++◌, length, take, inl, inr, refl, sym, ap, ◌∙◌, subst, arith}
 use Rattle.std.specs.Prelude.{ℤ, pos, ◌+ℤ◌, ◌-ℤ◌, nat_lt, reverse, zip, slice_get, Option, Some, None, if◌then◌else◌}
 use Rattle.std.specs.Ordering.{is_gt}
 use Rattle.std.proofs.lemmas.Int.{ints}
@@ -15,12 +15,12 @@ use Rattle.rls_runs.specs.Runs.{run_idents}
 use Rattle.rls_steps.specs.declared.key.Key.{Key}
 use Rattle.rls_steps.specs.Labelled.{Names, label_of}
 use Rattle.rls_steps.specs.Marks.{numbers_from}
-use Rattle.rls_steps.specs.NameRuns.{Stretch, IsStretch, IsAbove, IsOutside, step_by, name_by, names_by, name_at, names_of, named, run_in, run_of, wide_cmp, key_cmp}
+use Rattle.rls_steps.specs.NameRuns.{Stretch, IsStretch, IsAbove, IsOutside, step_by, name_by, names_by, name_at, names_of, named, run_in, wide_cmp, key_cmp}
 use Rattle.rls_steps.specs.Index.{AreApart}
 use Rattle.rls_steps.proofs.Tabling.{take_snoc}
 use Rattle.rls_steps.proofs.Giving.{reverse_snoc, numbers_snoc}
 use Rattle.rls_steps.proofs.Widths.{between, on_up}
-use Rattle.rls_steps.proofs.Stretches.{name_in, names_suc, in_names, in_named, named_in, none_in, in_reverse, reverse_in, run_there, run_some}
+use Rattle.rls_steps.proofs.Stretches.{name_in, names_suc, in_names, in_named, named_in, none_in, in_reverse, reverse_in, run_there}
 use Rattle.rls_steps.proofs.Found.{label_name}
 use Rattle.rls_steps.proofs.RunLookups.{IsAbout, first_there, is_some_of}
 

@@ -1,7 +1,7 @@
 -- The newest name of a label, run by run.
-use Rattle.std.proofs.Common.{◌≡◌, ℕ, zero, suc, ◌+◌, ◌-◌, ◌*◌, ◌<◌, ◌≤◌, Bool, true, false, List, [], ◌∷◌, ◌++◌, length, length-append, take, drop, get_or, inl, inr, ◌⊎◌, ⊎_elim, refl, sym, ap, ◌∙◌, subst, append_assoc, arith}
-use Rattle.std.specs.Prelude.{◌==◌, nat_lt, reverse, slice_get, Option, Some, None, IfSome, if◌then◌else◌}
-use Rattle.std.proofs.lemmas.Option.{slice_get_read, slice_get_within, slice_get-get_or}
+use Rattle.std.proofs.Common.{◌≡◌, ℕ, zero, suc, ◌+◌, ◌-◌, ◌<◌, ◌≤◌, Bool, true, false, List, [], ◌∷◌, ◌++◌, length, length-append, take, drop, inl, inr, refl, sym, ap, ◌∙◌, subst, append_assoc, arith}
+use Rattle.std.specs.Prelude.{◌==◌, nat_lt, reverse, slice_get, Some, if◌then◌else◌}
+use Rattle.std.proofs.lemmas.Option.{slice_get_within}
 use Rattle.std.proofs.Math.Seq.{take-append-add}
 use Rattle.std.proofs.lemmas.List.{reverse-append, reverse-reverse, length-reverse, length-take, take-append-le}
 use Rattle.rls_ident.specs.declared.tuple.Tuple.{Tuple}
@@ -12,7 +12,7 @@ use Rattle.rls_ident.proofs.Members.{bool_cases, lt_is, not_lt_is, eq_is, eq_tes
 use Rattle.rls_steps.specs.Labelled.{Names}
 use Rattle.rls_steps.specs.NameRuns.{Stretch, IsStretch, IsWithin, AreSound, label_by, name_by, names_by, name_at, names_of, named, starts_of}
 use Rattle.rls_steps.specs.Index.{newest_at, tail_at}
-use Rattle.rls_steps.specs.Bounds.{HasLabel, HaveNone, IsLatest}
+use Rattle.rls_steps.specs.Bounds.{HaveNone, IsLatest}
 use Rattle.rls_steps.proofs.Giving.{reverse_snoc, front_stays, front_whole}
 use Rattle.rls_steps.proofs.Stretches.{names_long, names_suc, in_names, name_in, named_snoc, reverse_cons, reverse_in, sound_at}
 use Rattle.rls_steps.proofs.Indexing.{tail_short, placed_name}

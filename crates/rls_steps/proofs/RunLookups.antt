@@ -1,5 +1,5 @@
 -- The label of an identifier, by the runs that begin next to it.
-use Rattle.std.proofs.Common.{◌≡◌, ℕ, zero, suc, ◌+◌, ◌-◌, ◌<◌, ◌≤◌, Bool, true, false, List, [], ◌∷◌, ◌++◌, length, refl, sym, ap, ◌∙◌, subst, arith}
+use Rattle.std.proofs.Common.{◌≡◌, ℕ, ◌-◌, ◌<◌, Bool, true, false, List, length, refl, sym, ap, ◌∙◌, subst, arith}
 use Rattle.std.specs.Prelude.{pos, ◌+ℤ◌, ◌-ℤ◌, reverse, slice_get, Option, Some, None, IfSome}
 use Rattle.std.specs.Option.{IsSome}
 use Rattle.std.specs.Ordering.{is_gt, is_lt, ordering_reverse}
@@ -11,10 +11,10 @@ use Rattle.rls_ident.specs.declared.tuple.Tuple.{Tuple}
 use Rattle.rls_ident.specs.Identifiers.{IsIdent, shifted}
 use Rattle.rls_ident.specs.Lists.{IsIn}
 use Rattle.rls_ident.proofs.Members.{bool_cases, some_is, get_in}
-use Rattle.rls_ident.proofs.Shifted.{shifted_shifted, shifted_none, ident_shifted}
+use Rattle.rls_ident.proofs.Shifted.{shifted_shifted, shifted_none}
 use Rattle.rls_steps.specs.declared.key.Key.{Key}
-use Rattle.rls_steps.specs.Labelled.{Names, label_of}
-use Rattle.rls_steps.specs.NameRuns.{Stretch, IsStretch, AreSound, AreKept, IsBelow, IsAbove, IsLabelOf, IsLabelIn, step_by, name_by, name_at, names_of, named, run_in, run_of, wide_cmp, key_cmp}
+use Rattle.rls_steps.specs.Labelled.{label_of}
+use Rattle.rls_steps.specs.NameRuns.{Stretch, AreSound, IsBelow, IsAbove, IsLabelOf, IsLabelIn, step_by, name_at, named, run_in, run_of, wide_cmp, key_cmp}
 use Rattle.rls_steps.specs.Index.{AreApart}
 use Rattle.rls_steps.proofs.Widths.{wide_total, between, on_up}
 use Rattle.rls_steps.proofs.Stretches.{first_by, in_named, named_in, in_reverse, reverse_in, one_run, run_there, run_some, sound_at}

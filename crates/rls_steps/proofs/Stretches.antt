@@ -15,7 +15,7 @@ use Rattle.rls_ident.proofs.Members.{bool_cases, and_left, and_right, int_le_is,
 use Rattle.rls_ident.proofs.Shifted.{shifted_shifted, shifted_none, last_offset}
 use Rattle.rls_runs.proofs.RunPlaces.{get_left, get_right}
 use Rattle.rls_steps.specs.Labelled.{Names, label_of}
-use Rattle.rls_steps.specs.NameRuns.{Stretch, IsStretch, IsWithin, AreSound, step_by, label_by, name_by, names_by, name_at, names_of, named, starts_of, run_of}
+use Rattle.rls_steps.specs.NameRuns.{Stretch, IsStretch, IsWithin, AreSound, step_by, label_by, name_by, names_by, name_at, names_of, named, run_of}
 use Rattle.rls_steps.specs.Index.{AreApart}
 
 -- ---- the names of a run

@@ -1,6 +1,6 @@
 -- The labels of a text, place by place.
 use Rattle.std.proofs.Common.{◌≡◌, ℕ, zero, suc, ◌+◌, ◌<◌, ◌≤◌, List, [], ◌∷◌, ◌++◌, map, length, take, drop, inl, inr, refl, sym, ap, ◌∙◌, subst, arith}
-use Rattle.std.specs.Prelude.{get_or, slice_get, Option, Some, None, Ok}
+use Rattle.std.specs.Prelude.{slice_get, Option, Some, Ok}
 use Rattle.std.proofs.lemmas.List.{take-append-drop, length-map}
 use Rattle.rls_ident.specs.declared.tuple.Tuple.{Tuple}
 use Rattle.rls_ident.specs.Lists.{IsIn}

@@ -99,7 +99,13 @@ impl Bounds {
     }
 
     // One more run after so many, with labels between these. After an error the bounds may be higher. It costs a few searches.
-    pub(crate) fn put(&mut self, runs: usize, span: Span, low: u64, high: u64) -> Result<(), AllocError>
+    pub(crate) fn put(
+        &mut self,
+        runs: usize,
+        span: Span,
+        low: u64,
+        high: u64,
+    ) -> Result<(), AllocError>
         requires order { low ≤ high }
         requires low { span.low ≤ low }
         requires high { high ≤ span.high }

@@ -1,4 +1,4 @@
-use Rattle.std.proofs.Common.{◌<◌, ◌≤◌, ℕ, List, sym, subst, arith}
+use Rattle.std.proofs.Common.{ℕ, List, sym, subst, arith}
 use Rattle.rls_steps.specs.Bounds.{AreCounted}
 use Rattle.rls_steps.proofs.Bounded.{counted_gap, counted_wider}
 use Rattle.rls_steps.proofs.bound.open_gap.Goals as goal

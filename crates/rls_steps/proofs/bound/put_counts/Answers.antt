@@ -1,4 +1,4 @@
-use Rattle.std.proofs.Common.{◌<◌, ◌≤◌, ◌∙◌, ℕ, arith}
+use Rattle.std.proofs.Common.{arith}
 use Rattle.rls_steps.proofs.Bounded.{counted_all, counted_wider}
 use Rattle.rls_steps.proofs.bound.put_counts.Goals as goal
 

@@ -1,4 +1,4 @@
-use Rattle.std.proofs.Common.{◌≡◌, ◌+◌, ◌-◌, ◌<◌, ◌≤◌, ◌++◌, true, sym, ap, ◌∙◌, subst, arith}
+use Rattle.std.proofs.Common.{◌≡◌, ◌+◌, ◌-◌, ◌++◌, true, sym, ap, ◌∙◌, subst, arith}
 use Rattle.std.specs.Prelude.{pos, reverse, zip}
 use Rattle.rls_ident.specs.Identifiers.{shifted, is_last_bounded}
 use Rattle.rls_runs.specs.Runs.{run_idents}

@@ -1,4 +1,4 @@
-use Rattle.std.proofs.Common.{◌+◌, ◌<◌, ◌≤◌, length, map, take, drop, sym, ap, ◌∙◌, refl, arith}
+use Rattle.std.proofs.Common.{map, take, drop, ap, ◌∙◌, refl, arith}
 use Rattle.std.specs.Prelude.{Some}
 use Rattle.rls_seen.specs.Seen.{idents_over}
 use Rattle.rls_seen.proofs.Needed.{total_room}

@@ -1,7 +1,7 @@
-use Rattle.std.proofs.Common.{◌≡◌, ◌≤◌, ◌<◌, ◌+◌, ◌-◌, ◌^◌, length, take, get_or, refl, sym, ap, ◌∙◌, arith}
-use Rattle.std.specs.Prelude.{reverse, slice_get, Some, None}
+use Rattle.std.proofs.Common.{◌≡◌, ◌+◌, ◌-◌, length, take, get_or, refl, sym, ap, ◌∙◌, arith}
+use Rattle.std.specs.Prelude.{reverse}
 use Rattle.std.proofs.lemmas.Option.{slice_get_read, slice_get-get_or}
-use Rattle.rls_steps.specs.NameRuns.{named, starts_of}
+use Rattle.rls_steps.specs.NameRuns.{named}
 use Rattle.rls_steps.specs.Index.{newest_at}
 use Rattle.rls_steps.proofs.Indexing.{starts_long}
 use Rattle.rls_steps.proofs.LabelRuns.{run_missed, run_found, place_few}

@@ -1,4 +1,4 @@
-use Rattle.std.proofs.Common.{◌≡◌, ◌-◌, ◌<◌, ◌≤◌, ◌∷◌, [], ◌++◌, List, length, length-append, take, sym, ap, ◌∙◌, subst, arith}
+use Rattle.std.proofs.Common.{◌≡◌, ◌-◌, ◌∷◌, [], List, length, length-append, take, sym, ap, ◌∙◌, subst, arith}
 use Rattle.std.specs.Prelude.{reverse}
 use Rattle.rls_steps.specs.NameRuns.{Stretch, AreKept, named}
 use Rattle.rls_steps.specs.Index.{AreApart}

@@ -1,4 +1,4 @@
-use Rattle.std.proofs.Common.{◌≡◌, ◌<◌, length, arith}
+use Rattle.std.proofs.Common.{◌≡◌, length, arith}
 use Rattle.rls_steps.proofs.Indexing.{last_more, last_kept, last_longer}
 use Rattle.rls_steps.proofs.names.extend_last.Goals as goal
 

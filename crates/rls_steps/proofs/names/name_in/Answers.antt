@@ -1,4 +1,4 @@
-use Rattle.std.proofs.Common.{◌<◌, ◌≤◌, length, sym, ap, ◌∙◌, refl, arith}
+use Rattle.std.proofs.Common.{length, ap, ◌∙◌, refl, arith}
 use Rattle.std.proofs.lemmas.Option.{slice_get_read}
 use Rattle.rls_steps.proofs.Indexing.{starts_long, some_starts, first_start, place_short, place_name}
 use Rattle.rls_steps.proofs.names.name_in.Goals as goal

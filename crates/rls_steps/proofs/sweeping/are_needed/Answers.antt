@@ -1,4 +1,4 @@
-use Rattle.std.proofs.Common.{◌≡◌, ◌+◌, ◌-◌, ◌<◌, ◌≤◌, length, get_or, arith}
+use Rattle.std.proofs.Common.{◌+◌, ◌-◌, get_or, arith}
 use Rattle.rls_ident.proofs.Members.{eq_is}
 use Rattle.rls_steps.proofs.SweptRuns.{found_at, needed_between}
 use Rattle.rls_steps.proofs.sweeping.are_needed.Goals as goal

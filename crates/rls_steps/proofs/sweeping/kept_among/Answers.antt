@@ -1,4 +1,4 @@
-use Rattle.std.proofs.Common.{◌≤◌, ◌<◌, ◌+◌, ◌++◌, arith}
+use Rattle.std.proofs.Common.{◌++◌}
 use Rattle.std.specs.Prelude.{reverse}
 use Rattle.rls_seen.specs.Seen.{idents_over}
 use Rattle.rls_steps.specs.NameRuns.{names_in}

@@ -1,4 +1,4 @@
-use Rattle.std.proofs.Common.{◌≡◌, ◌≤◌, ◌<◌, inl, refl, sym, arith}
+use Rattle.std.proofs.Common.{arith}
 use Rattle.rls_steps.proofs.Bounded.{none_above, none_around, none_less}
 use Rattle.rls_steps.proofs.bound.Bounds.count_at.Goals as goal
 

@@ -1,4 +1,4 @@
-use Rattle.std.proofs.Common.{◌≡◌, ◌≤◌, ◌<◌, length, refl, arith}
+use Rattle.std.proofs.Common.{length, refl}
 use Rattle.std.proofs.lemmas.Option.{slice_get_read}
 use Rattle.rls_steps.proofs.Bounded.{none_before}
 use Rattle.rls_steps.proofs.bound.Bounds.count_before.Goals as goal

@@ -1,5 +1,4 @@
-use Rattle.std.proofs.Common.{◌≡◌, ◌<◌, ◌≤◌, ◌+◌, ◌++◌, ◌∷◌, [], ℕ, List, length, take, sym, ap, ◌∙◌, subst, arith}
-use Rattle.rls_steps.specs.Bounds.{AreCounted}
+use Rattle.std.proofs.Common.{◌≡◌, ◌++◌, ◌∷◌, [], ℕ, List, length, take, sym, ap, ◌∙◌, arith}
 use Rattle.rls_steps.specs.declared.bound.Bounds.{Bounds}
 use Rattle.rls_steps.proofs.Bounded.{bounded_long, bounded_more}
 use Rattle.rls_steps.proofs.bound.Bounds.put.Goals as goal

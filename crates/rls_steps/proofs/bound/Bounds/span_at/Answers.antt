@@ -1,4 +1,4 @@
-use Rattle.std.proofs.Common.{◌≡◌, ◌≤◌, ◌<◌, ◌-◌, length, arith}
+use Rattle.std.proofs.Common.{◌-◌, length, arith}
 use Rattle.rls_steps.proofs.Bounded.{none_above, none_around}
 use Rattle.rls_steps.proofs.bound.Bounds.span_at.Goals as goal
 

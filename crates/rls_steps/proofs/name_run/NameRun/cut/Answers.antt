@@ -1,5 +1,4 @@
-use Rattle.std.proofs.Common.{◌≡◌, ◌<◌, ◌≤◌, ◌-◌, ◌++◌, List, ℕ, length, sym, ap, ◌∙◌, subst, arith}
-use Rattle.rls_ident.specs.declared.tuple.Tuple.{Tuple}
+use Rattle.std.proofs.Common.{◌≡◌, ◌<◌, ◌-◌, length, sym, ap, ◌∙◌, subst, arith}
 use Rattle.rls_steps.specs.NameRuns.{Stretch, name_at, names_by, names_of}
 use Rattle.rls_steps.proofs.CutRuns.{cut_names, cut_fewer, cut_sound}
 use Rattle.rls_steps.proofs.name_run.NameRun.cut.Goals as goal

@@ -1,7 +1,5 @@
-use Rattle.std.proofs.Common.{◌≡◌, ◌-◌, sym, ap, ◌∙◌, subst}
-use Rattle.std.specs.Prelude.{pos}
-use Rattle.rls_ident.specs.Identifiers.{shifted}
-use Rattle.rls_steps.specs.NameRuns.{Stretch, name_at, step_by}
+use Rattle.std.proofs.Common.{◌-◌, sym, ap, ◌∙◌}
+use Rattle.rls_steps.specs.NameRuns.{Stretch, name_at}
 use Rattle.rls_steps.proofs.Stretches.{ends_down, ends_up, top_down}
 use Rattle.rls_steps.proofs.name_run.NameRun.ends.Goals as goal
 

@@ -1,7 +1,7 @@
-use Rattle.std.proofs.Common.{◌≡◌, ◌<◌, ◌∷◌, [], ◌++◌, length, sym, ap, ◌∙◌, subst, arith}
+use Rattle.std.proofs.Common.{◌∷◌, [], ◌++◌, length, sym, ap, ◌∙◌, arith}
 use Rattle.std.specs.Prelude.{reverse}
 use Rattle.rls_steps.specs.Labelled.{Names, label_of}
-use Rattle.rls_steps.specs.NameRuns.{names_in, names_of}
+use Rattle.rls_steps.specs.NameRuns.{names_in}
 use Rattle.rls_steps.proofs.Stretches.{names_long}
 use Rattle.rls_steps.proofs.FreeRuns.{all_pushed, one_fresh}
 use Rattle.rls_steps.proofs.names.Names.add.Goals as goal

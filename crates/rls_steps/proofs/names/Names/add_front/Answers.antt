@@ -1,5 +1,5 @@
-use Rattle.std.proofs.Common.{◌≡◌, ◌<◌, ◌≤◌, ◌+◌, ◌++◌, ◌∷◌, [], ℕ, List, length, ap, ◌∙◌, sym, subst, arith}
-use Rattle.std.specs.Prelude.{reverse, None}
+use Rattle.std.proofs.Common.{◌≡◌, ◌<◌, ◌≤◌, ◌+◌, ◌++◌, ℕ, List, length, ap, ◌∙◌, sym, subst, arith}
+use Rattle.std.specs.Prelude.{reverse}
 use Rattle.rls_steps.specs.NameRuns.{Stretch, IsStretch, named, names_of, name_at}
 use Rattle.rls_steps.specs.Labelled.{Names, label_of}
 use Rattle.rls_steps.specs.Index.{AreApart}

@@ -1,4 +1,4 @@
-use Rattle.std.proofs.Common.{◌≡◌, ◌≤◌, ◌+◌, ◌∷◌, [], length, refl, ap, ◌∙◌, subst, arith}
+use Rattle.std.proofs.Common.{◌≡◌, ◌+◌, length, refl, ap, ◌∙◌, subst, arith}
 use Rattle.std.specs.Prelude.{reverse, None}
 use Rattle.rls_steps.specs.NameRuns.{named}
 use Rattle.rls_steps.specs.Labelled.{Names, label_of}

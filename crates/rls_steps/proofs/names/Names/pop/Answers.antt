@@ -1,7 +1,7 @@
-use Rattle.std.proofs.Common.{◌≡◌, ◌-◌, ◌<◌, length, take, ap, ◌∙◌, sym, subst, arith}
+use Rattle.std.proofs.Common.{◌-◌, length, take, ap, ◌∙◌, arith}
 use Rattle.rls_steps.specs.Labelled.{Names}
 use Rattle.rls_steps.specs.NameRuns.{named}
-use Rattle.rls_steps.proofs.Indexing.{indexed_less, some_runs, less_take, none_left}
+use Rattle.rls_steps.proofs.Indexing.{indexed_less, some_runs, less_take}
 use Rattle.rls_steps.proofs.names.Names.pop.Goals as goal
 
 pub drop_last-requires : goal.drop_last-requires

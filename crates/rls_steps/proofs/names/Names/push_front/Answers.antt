@@ -1,5 +1,5 @@
-use Rattle.std.proofs.Common.{◌≡◌, ◌<◌, ◌-◌, List, ap, ◌∙◌, sym, arith}
-use Rattle.std.specs.Prelude.{reverse, None}
+use Rattle.std.proofs.Common.{List, ap, ◌∙◌, sym, arith}
+use Rattle.std.specs.Prelude.{reverse}
 use Rattle.rls_steps.specs.Labelled.{Names, label_of}
 use Rattle.rls_steps.specs.NameRuns.{Stretch, name_at, named}
 use Rattle.rls_steps.proofs.names.Names.push_front.Goals as goal
