@@ -165,21 +165,6 @@ impl Op {
             body: self.body.copy()?,
         })
     }
-
-    /// Its epoch and what it does. The rest is given up.
-    pub fn into_body(self) -> (EpochName, Body)
-        ensures epoch { result.0 ≡ self.epoch }
-        ensures body { result.1 ≡ self.body }
-    {
-        let Op {
-            author: _,
-            seq: _,
-            context: _context,
-            epoch,
-            body,
-        } = self;
-        (epoch, body)
-    }
 }
 
 impl Body {
