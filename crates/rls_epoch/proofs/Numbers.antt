@@ -182,13 +182,3 @@ kept_former all (m ∷ ms) (p ∷ ps) = go (nat_lt 1 m) (kept_former all ms ps)
     go : (b : Bool) → kept_sum ms ps ≡ former_sum (nodes_of (kept_placed all ms ps)) → (if b then length p.renaming.former else 0) + kept_sum ms ps ≡ former_sum (nodes_of (if b then moved all p ∷ kept_placed all ms ps else kept_placed all ms ps))
     go true e = let a = former_first (moved all p) (kept_placed all ms ps) in omega (arith, e, a)
     go false e = omega (arith, e)
-
--- at most as many as there were
-pub kept_fewer : (all ms : List ℕ) (ps : List Placed) → length (kept_placed all ms ps) ≤ length ps
-kept_fewer all [] ps = omega arith
-kept_fewer all (m ∷ ms) [] = omega arith
-kept_fewer all (m ∷ ms) (p ∷ ps) = go (nat_lt 1 m) (kept_fewer all ms ps)
-  where
-    go : (b : Bool) → length (kept_placed all ms ps) ≤ length ps → length (if b then moved all p ∷ kept_placed all ms ps else kept_placed all ms ps) ≤ suc (length ps)
-    go true e = omega (arith, e)
-    go false e = omega (arith, e)

@@ -8,7 +8,7 @@ use Rattle.rls_epoch.specs.Links.{epoch_at}
 use Rattle.rls_epoch.specs.Marks.{kept_placed, kept_sum}
 use Rattle.rls_epoch.specs.Maxima.{AreMaxima}
 use Rattle.rls_epoch.specs.Seen.{EpochsSeen, former_sum, marks_of, nodes_of}
-use Rattle.rls_epoch.proofs.Numbers.{kept_fewer}
+use Rattle.rls_epoch.proofs.Compacting.{kept_placed_fewer}
 use Rattle.rls_epoch.proofs.Shrinking.{IsLeft, left_of, written}
 use Rattle.rls_epoch.proofs.Whole.{marks_none}
 use Rattle.rls_epoch.proofs.epochs.Epochs.keep.Goals as goal
@@ -53,7 +53,7 @@ module _ (c : After-deref_mut-2) where
 
   short : vec_len c.truncate.new.self ≡ length c.keep.new.self.nodes.placed
   short =
-      let few = kept_fewer xs (drop 1 xs) ps in
+      let few = kept_placed_fewer xs (drop 1 xs) ps in
       let n = ap length nodes in
       let w = c.self.invariant.maxima_are.whole in
       let k = c.count-count.ensures.count in
@@ -72,7 +72,7 @@ invariant_of-self c =
     let size = short x in
     let filled : c.fill.new.self.items ≡ replicate (vec_len c.truncate-2.new.self) 0 = rw c.none.ensures.mark at (c.fill.ensures.items (λ y e. e)) in
     let cut : vec_len c.truncate-2.new.self ≡ suc (length t.nodes.placed) =
-    let n = ap length (nodes x) in let few = kept_fewer (xs x) (drop 1 (xs x)) (ps x) in let k = c.count-count.ensures.count in let l = c.truncate-2.ensures.len in let m = c.self.invariant.marks_whole in omega (arith, n, k, l, m) in
+    let n = ap length (nodes x) in let few = kept_placed_fewer (xs x) (drop 1 (xs x)) (ps x) in let k = c.count-count.ensures.count in let l = c.truncate-2.ensures.len in let m = c.self.invariant.marks_whole in omega (arith, n, k, l, m) in
     record {
       laid = c.count-count.ensures.laid;
       maxima_are = subst (AreMaxima (epoch_cmp (nodes_of t.nodes.placed)) t.nodes.top t.nodes.placed) (sym (written maxima c.truncate.new.self.items c.truncate.new.self.len (omega arith) (omega arith))) c.find_maxima.ensures.maxima;
