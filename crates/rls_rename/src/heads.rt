@@ -9,100 +9,72 @@ ghost use Rattle.rls_ident.specs.Maps.{low, high, low_inverse, high_inverse};
 ghost use Rattle.rls_ident.specs.Identifiers.{ident_cmp, is_inner_bounded};
 ghost use Rattle.rls_runs.specs.Runs.{place_of};
 ghost use Rattle.rls_rename.specs.Heads.{head_less, Replaces};
-ghost use Rattle.rls_rename.specs.Renaming.{IsFormer, forward_by, new_above, new_below, old_above_inverse, old_below_inverse, old_between_inverse};
+ghost use Rattle.rls_rename.specs.Renaming.{forward_by, new_above, new_below, old_above_inverse, old_below_inverse, old_between_inverse};
 
 use crate::gap_maps::{above_pattern, below_pattern, inner_end};
 use crate::new_maps::{tuple_at, tuple_before};
+use crate::pairing::Pairing;
 use rls_ident::{Ident, Spot, Tuple};
-use rls_runs::Runs;
 use std::alloc::{AllocError, Global};
 use std::cmp::Ordering;
 
-// What forward puts in the place of the head, by the tuple of the first new identifier, if the head alone decides it.
-pub(crate) fn forward_head(
-    alloc: Global,
-    former: &Runs,
-    first: Spot,
-    head: &Ident,
-) -> Result<Option<Ident>, AllocError>
-    requires former { IsFormer former.now }
-    requires most { length former.now ≤ IDENTIFIERS }
-    ensures replaces { IfOk result (λ z. IfSome z (λ z. Replaces (forward_by first former.now) head.now z)) }
-{
-    let Err(gap) = former.find(head) else {
-        return Ok(None);
-    };
-    let total = former.total();
-    if gap == 0 {
-        return forward_head_below(alloc, former, first, head);
+impl Pairing {
+    // What forward puts in the place of the head, if the head alone decides it.
+    pub(crate) fn forward_head(&self, head: &Ident) -> Result<Option<Ident>, AllocError>
+        ensures replaces { IfOk result (λ z. IfSome z (λ z. Replaces (forward_by self.now.first self.now.former) head.now z)) }
+    {
+        let Err(gap) = self.former.find(head) else {
+            return Ok(None);
+        };
+        let total = self.former.total();
+        if gap == 0 {
+            return self.forward_head_below(head);
+        }
+        if gap == total {
+            return self.forward_head_above(gap, head);
+        }
+        self.forward_head_between(gap, head)
     }
-    if gap == total {
-        return forward_head_above(alloc, former, first, gap, head);
+
+    // The same, below all former identifiers.
+    fn forward_head_below(&self, head: &Ident) -> Result<Option<Ident>, AllocError>
+        ensures replaces { IfOk result (λ z. IfSome z (λ z. Replaces (forward_by self.now.first self.now.former) head.now z)) }
+    {
+        let a = self.former.get(0)?;
+        let Some(moved) = head_below(self.alloc, self.first, &a, head)? else {
+            return Ok(None);
+        };
+        Ok(Some(moved))
     }
-    forward_head_between(alloc, former, first, gap, head)
-}
 
-// The same, below all former identifiers.
-fn forward_head_below(
-    alloc: Global,
-    former: &Runs,
-    first: Spot,
-    head: &Ident,
-) -> Result<Option<Ident>, AllocError>
-    requires former { IsFormer former.now }
-    requires most { length former.now ≤ IDENTIFIERS }
-    ensures replaces { IfOk result (λ z. IfSome z (λ z. Replaces (forward_by first former.now) head.now z)) }
-{
-    let a = former.get(0)?;
-    let Some(moved) = head_below(alloc, first, &a, head)? else {
-        return Ok(None);
-    };
-    Ok(Some(moved))
-}
+    // The same, above all former identifiers.
+    fn forward_head_above(&self, gap: u64, head: &Ident) -> Result<Option<Ident>, AllocError>
+        requires gap { place_of head.now self.now.former ≡ Err gap }
+        requires some { 0 < gap }
+        requires end { gap ≡ length self.now.former }
+        ensures replaces { IfOk result (λ z. IfSome z (λ z. Replaces (forward_by self.now.first self.now.former) head.now z)) }
+    {
+        let a = self.former.get(gap - 1)?;
+        let Some(moved) = head_above(self.alloc, self.first, gap - 1, &a, head)? else {
+            return Ok(None);
+        };
+        Ok(Some(moved))
+    }
 
-// The same, above all former identifiers.
-fn forward_head_above(
-    alloc: Global,
-    former: &Runs,
-    first: Spot,
-    gap: u64,
-    head: &Ident,
-) -> Result<Option<Ident>, AllocError>
-    requires former { IsFormer former.now }
-    requires most { length former.now ≤ IDENTIFIERS }
-    requires gap { place_of head.now former.now ≡ Err gap }
-    requires some { 0 < gap }
-    requires end { gap ≡ length former.now }
-    ensures replaces { IfOk result (λ z. IfSome z (λ z. Replaces (forward_by first former.now) head.now z)) }
-{
-    let a = former.get(gap - 1)?;
-    let Some(moved) = head_above(alloc, first, gap - 1, &a, head)? else {
-        return Ok(None);
-    };
-    Ok(Some(moved))
-}
-
-// The same, between two former identifiers.
-fn forward_head_between(
-    alloc: Global,
-    former: &Runs,
-    first: Spot,
-    gap: u64,
-    head: &Ident,
-) -> Result<Option<Ident>, AllocError>
-    requires former { IsFormer former.now }
-    requires most { length former.now ≤ IDENTIFIERS }
-    requires gap { place_of head.now former.now ≡ Err gap }
-    requires some { 0 < gap }
-    requires within { gap < length former.now }
-    ensures replaces { IfOk result (λ z. IfSome z (λ z. Replaces (forward_by first former.now) head.now z)) }
-{
-    let a = former.get(gap - 1)?;
-    let b = former.get(gap)?;
-    let Some(inner) = head_between(alloc, &a, b, head)? else {
-        return Ok(None);
-    };
-    Ok(Some(inner.prefixed(&[tuple_at(first, gap - 1)])?))
+    // The same, between two former identifiers.
+    fn forward_head_between(&self, gap: u64, head: &Ident) -> Result<Option<Ident>, AllocError>
+        requires gap { place_of head.now self.now.former ≡ Err gap }
+        requires some { 0 < gap }
+        requires within { gap < length self.now.former }
+        ensures replaces { IfOk result (λ z. IfSome z (λ z. Replaces (forward_by self.now.first self.now.former) head.now z)) }
+    {
+        let a = self.former.get(gap - 1)?;
+        let b = self.former.get(gap)?;
+        let Some(inner) = head_between(self.alloc, &a, b, head)? else {
+            return Ok(None);
+        };
+        Ok(Some(inner.prefixed(&[tuple_at(self.first, gap - 1)])?))
+    }
 }
 
 // What forward puts in the place of a head below the first former identifier a, if the head alone decides it, and that it is below a.

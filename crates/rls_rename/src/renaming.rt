@@ -9,9 +9,8 @@ ghost use Rattle.rls_rename.specs.Heads.{Replaces};
 ghost use Rattle.rls_rename.specs.Stretches.{GoesAlong};
 ghost use Rattle.rls_rename.specs.Ways.{renamed};
 
-use crate::gaps::{back_front, forward_front};
-use crate::heads::forward_head;
 use crate::images::Image;
+use crate::pairing::Pairing;
 use crate::stretch::Stretch;
 use rls_ident::limits::IDENTIFIERS;
 use rls_ident::{Ident, Spot, Tuple};
@@ -22,22 +21,18 @@ use std::marker::Model;
 /// The former identifiers of a rename, with the rename's author and number.
 #[derive(Drop)]
 pub struct Renaming {
-    alloc: Global,
-    former: Runs,
-    // the tuple of the first new identifier
-    first: Spot,
+    pairing: Pairing,
 }
 
 impl Model for Renaming {
-    ghost use Rattle.std.specs.Prelude.{◌≡◌, ◌≤◌, length, pos};
-    ghost use Rattle.rls_ident.specs.declared.limits.TheConstants.{IDENTIFIERS};
-    ghost use Rattle.rls_rename.specs.Renaming.{Renaming, IsFormer, new_pos};
+    ghost use Rattle.std.specs.Prelude.{◌≡◌, pos};
+    ghost use Rattle.rls_rename.specs.Renaming.{Renaming, new_pos};
 
     ghost Value = { Renaming };
 
-    ghost view = { λ a. record { former = a.former; replica = a.first.replica; seq = a.first.seq } };
+    ghost view = { λ a. record { former = a.pairing.former; replica = a.pairing.first.replica; seq = a.pairing.first.seq } };
 
-    ghost invariant = { λ a. IsFormer a.former × (length a.former ≤ IDENTIFIERS) × (a.first.pos ≡ new_pos a.former) × (a.first.offset ≡ pos 0) };
+    ghost invariant = { λ a. (a.pairing.first.pos ≡ new_pos a.pairing.former) × (a.pairing.first.offset ≡ pos 0) };
 }
 
 /// Why there is no such renaming.
@@ -82,14 +77,17 @@ impl Renaming {
             return Err(RenamingError::TooMany { total });
         }
         let pos = first_pos(former.run(0).first());
+        let first = Spot {
+            pos,
+            replica,
+            seq,
+            offset: 0,
+        };
         Ok(Renaming {
-            alloc,
-            former,
-            first: Spot {
-                pos,
-                replica,
-                seq,
-                offset: 0,
+            pairing: Pairing {
+                alloc,
+                former,
+                first,
             },
         })
     }
@@ -102,28 +100,28 @@ impl Renaming {
         ensures most { result ≤ IDENTIFIERS }
         ensures former { IsFormer self.now.former }
     {
-        self.former.total()
+        self.pairing.former.total()
     }
 
     /// The former identifiers.
     pub fn former(&self) -> &Runs
         ensures former { result.now ≡ self.now.former }
     {
-        &self.former
+        &self.pairing.former
     }
 
     /// The replica of the rename.
     pub fn replica(&self) -> u32
         ensures replica { result ≡ self.now.replica }
     {
-        self.first.replica
+        self.pairing.first.replica
     }
 
     /// The number of the rename among its replica's operations.
     pub fn seq(&self) -> u32
         ensures seq { result ≡ self.now.seq }
     {
-        self.first.seq
+        self.pairing.first.seq
     }
 
     /// The renaming of an identifier: a former one goes to the new one at its place, and any other
@@ -172,7 +170,7 @@ impl Renaming {
     pub fn forward_head(&self, head: &Ident) -> Result<Option<Ident>, AllocError>
         ensures replaces { IfOk result (λ z. IfSome z (λ z. Replaces (forward self.now) head.now z)) }
     {
-        let Some(moved) = forward_head(self.alloc, &self.former, self.first, head)? else {
+        let Some(moved) = self.pairing.forward_head(head)? else {
             return Ok(None);
         };
         Ok(Some(moved))
@@ -192,8 +190,8 @@ impl Renaming {
         ensures renamed { IfOk result (λ z. GoesAlong (renamed way self.now) run.now.0 run.now.1 z.first z.len) }
     {
         match way {
-            Way::Forward => forward_front(self.alloc, &self.former, self.first, run),
-            Way::Back => back_front(self.alloc, &self.former, self.first, run),
+            Way::Forward => self.pairing.forward_front(run),
+            Way::Back => self.pairing.back_front(run),
         }
     }
 
@@ -203,7 +201,7 @@ impl Renaming {
     {
         let front = self.renamed_front(way, run)?;
         let mut done = front.len;
-        let mut image = Image::new(self.alloc, front);
+        let mut image = Image::new(self.pairing.alloc, front);
         while done < run.len() {
             let rest = Stretch::behind(run, done)?.into_run();
             let front = self.renamed_front(way, &rest)?;
@@ -218,9 +216,7 @@ impl Renaming {
         ensures copy { IfOk result (λ renaming. renaming ≡ self.now) }
     {
         Ok(Renaming {
-            alloc: self.alloc,
-            former: self.former.copy()?,
-            first: self.first,
+            pairing: self.pairing.copy()?,
         })
     }
 }

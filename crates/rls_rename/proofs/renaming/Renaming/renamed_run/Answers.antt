@@ -27,7 +27,7 @@ with-requires c =
     let F = renamed c.args.way c.args.self.now in
     let first = ap (λ r. r.0) c.into_run-rest.ensures.run ∙ c.in_ok-behind.ensures.first in
     let goes = subst (λ y. GoesAlong F y rest.1 z.first z.len) first c.in_ok-front-2.ensures.renamed in
-    let former = subst (λ R. IsFormer R.former) c.self.view_is c.self.invariant.0 in
+    let former = subst (λ R. IsFormer R.former) c.self.view_is c.self.inside.pairing.increase in
     record {
       above = next_above c.args.way c.args.self.now run.0 c.loop-done.done rest.1 z.first z.len c.loop-done.image former (run_ident run c.len.ensures.run) c.loop-done.invariant.some z.some goes c.loop-done.invariant.idents;
     }

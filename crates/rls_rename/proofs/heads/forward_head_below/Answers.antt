@@ -1,8 +1,0 @@
-use Rattle.rls_rename.proofs.Replacing.{first_replaced}
-use Rattle.rls_rename.proofs.heads.forward_head_below.Goals as goal
-
-pub returns : goal.returns
-returns c =
-    let below = rw c.in-Some.is at c.in_ok-moved.ensures.below in
-    let moved = rw c.in-Some.is at c.in_ok-moved.ensures.replaces in
-    record { replaces = first_replaced c.args.first c.args.former.now c.args.head.now c.in_ok-a.a c.in-Some.moved c.in_ok-a.ensures.found below moved }
