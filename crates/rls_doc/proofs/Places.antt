@@ -1,23 +1,17 @@
 -- The place of an identifier among entries, and the runs of entries.
-use Rattle.std.proofs.Common.{◌≡◌, ℕ, zero, suc, ◌+◌, ◌<◌, ◌≤◌, Bool, true, false, List, [], ◌∷◌, length, drop, Some, Ok, Err, slice_get, refl, sym, ap, subst, ◌∙◌, arith, inl, inr, not}
+use Rattle.std.proofs.Common.{◌≡◌, ℕ, zero, suc, ◌+◌, ◌<◌, ◌≤◌, Bool, true, false, List, [], ◌∷◌, length, drop, Some, Ok, Err, slice_get, refl, sym, ap, subst, ◌∙◌, arith, not}
 use Rattle.std.specs.Prelude.{if◌then◌else◌, is_ok}
 use Rattle.std.specs.declared.cmp.Ordering.TheVariants.{Less, Equal, Greater}
 use Rattle.std.proofs.lemmas.Cmp.{tied_itself}
 use Rattle.rls_ident.specs.declared.tuple.Tuple.{Tuple}
-use Rattle.rls_ident.specs.Lists.{IsIn}
 use Rattle.rls_ident.specs.Identifiers.{ident_cmp, follows}
 use Rattle.rls_ident.proofs.Lists.{Lt, lt_trans}
 use Rattle.rls_ident.proofs.Tuples.{tuples, ident_same, ident_total}
-use Rattle.rls_ident.proofs.Members.{some_is}
+use Rattle.rls_ident.proofs.Members.{get_in, some_is}
 use Rattle.rls_runs.specs.Runs.{is_increasing, place_from, place_of, placed, put_run, runs_of}
 use Rattle.rls_runs.specs.Entries.{idents_in, has_ident}
 use Rattle.rls_runs.proofs.Sorted.{Entry, Rises, above_at, rises_of_increasing}
 use Rattle.rls_runs.specs.Places.{find_ident, below_count}
-
-in_from : (es : List Entry) (i : ℕ) (e : Entry) → slice_get es i ≡ Some e → IsIn e es
-in_from [] i e h = absurd (cc)
-in_from (x ∷ es) zero e h = inl (some_is x e h)
-in_from (x ∷ es) (suc i) e h = inr (in_from es i e h)
 
 -- after a lesser one
 less_at : (n : ℕ) (es : List Entry) (m : ℕ) (e : Entry) (x : List Tuple) → Rises es → slice_get es m ≡ Some e → Lt tuples e.0 x → place_from n x (idents_in es) ≡ place_from (n + suc m) x (idents_in (drop (suc m) es))
@@ -26,7 +20,7 @@ less_at n (y ∷ es) zero e x r g l =
     let q : ident_cmp y.0 x ≡ Less = subst (λ (z : Entry). ident_cmp z.0 x ≡ Less) (sym (some_is y e g)) l.less in
     ap (λ o. placed o n (place_from (suc n) x (idents_in es))) q ∙ ap (λ k. place_from k x (idents_in es)) (omega arith)
 less_at n (y ∷ es) (suc m) e x r g l =
-    let b : Lt tuples y.0 x = lt_trans (above_at y e es r.0 (in_from es m e g)) l in
+    let b : Lt tuples y.0 x = lt_trans (above_at y e es r.0 (get_in es m e g)) l in
     ap (λ o. placed o n (place_from (suc n) x (idents_in es))) b.less ∙ less_at (suc n) es m e x r.1 g l ∙ ap (λ k. place_from k x (idents_in (drop (suc m) es))) (omega arith)
 
 same_at : (n : ℕ) (es : List Entry) (m : ℕ) (e : Entry) → Rises es → slice_get es m ≡ Some e → place_from n e.0 (idents_in es) ≡ Ok (n + m)
@@ -36,7 +30,7 @@ same_at n (y ∷ es) zero e r g =
     let q : ident_cmp y.0 e.0 ≡ Equal = subst (λ (z : Entry). ident_cmp y.0 z.0 ≡ Equal) s (tied_itself ident_total y.0) in
     ap (λ o. placed o n (place_from (suc n) e.0 (idents_in es))) q ∙ ap (λ k. Ok k) (omega arith)
 same_at n (y ∷ es) (suc m) e r g =
-    let b : Lt tuples y.0 e.0 = above_at y e es r.0 (in_from es m e g) in
+    let b : Lt tuples y.0 e.0 = above_at y e es r.0 (get_in es m e g) in
     ap (λ o. placed o n (place_from (suc n) e.0 (idents_in es))) b.less ∙ same_at (suc n) es m e r.1 g ∙ ap (λ k. Ok k) (omega arith)
 
 pub place_begins : (x : List Tuple) (es : List Entry) → place_from 0 x (idents_in (drop 0 es)) ≡ place_of x (idents_in es)
