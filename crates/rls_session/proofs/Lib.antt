@@ -9,7 +9,6 @@ pub mod ChangeLines
 pub mod Numbered
 pub mod Whole
 pub mod Resumed
-pub mod Sized
 pub mod Writable
 pub mod Sent
 pub mod Answered

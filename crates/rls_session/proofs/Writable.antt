@@ -24,8 +24,7 @@ use Rattle.rls_script.specs.declared.clusters.ClusterError.TheVariants as cluste
 use Rattle.rls_script.specs.declared.lines.Line.{Line}
 use Rattle.rls_script.specs.declared.lines.Line.TheVariants as lines
 use Rattle.rls_store.specs.Stored.{AreWritable}
-use Rattle.rls_store.proofs.Storable.{taken_writable}
-use Rattle.rls_session.proofs.Sized.{IsSized, all_sized, edited_sized, sized}
+use Rattle.rls_store.proofs.Storable.{IsSized, all_sized, edited_sized, sized, taken_writable}
 use Rattle.rls_stages.specs.Lines.{allowed_by, backward_by, line_by, line_fault_of}
 use Rattle.rls_undo.specs.declared.entry.Entry.{Entry}
 use Rattle.rls_steps.specs.declared.piece.Step.{Step}
