@@ -1,4 +1,3 @@
 mod Stored
-pub mod Leaving
 pub mod Survived
 mod Sessions

@@ -10,7 +10,7 @@ use Rattle.rls_journal.proofs.Rests.{rest_again, rest_kept}
 use Rattle.rls_session.specs.Calls.{AreAllFilesOf, AreDue, Calls, CallsNothing, FailsOnce, FailsToLoad, IsFileOf, IsLastDue, IsLastOf, Loads, IsStatusAfter, Stores, StoresEach, and_failed, no_stores, tried}
 use Rattle.rls_session.specs.Due.{Due}
 use Rattle.rls_durable.specs.Stops.{HasDue, IsOld, IsOldOrOneOf, LeavesInStore, LeavesInTurn, LeavesOldOrStores}
-use Rattle.rls_durable.proofs.Leaving.{leaves_both, leaves_weaker}
+use Rattle.rls_journal.proofs.Moments.{leaves_both, leaves_weaker}
 use Rattle.rls_durable.proofs.Survived.{at_some, loaded_only, to_some, uncalled_only}
 
 -- the last of these files

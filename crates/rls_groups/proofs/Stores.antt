@@ -56,7 +56,7 @@ use Rattle.rls_journal.specs.Areas.{Areas, kept}
 use Rattle.rls_journal.specs.Disk.{LeavesOnly}
 use Rattle.rls_journal.specs.Keeper.{IsOldOrNew}
 use Rattle.rls_durable.specs.Stops.{IsOld, LeavesInStore, LeavesInTurn}
-use Rattle.rls_durable.proofs.Leaving.{leaves_both, leaves_weaker}
+use Rattle.rls_journal.proofs.Moments.{leaves_both, leaves_weaker}
 use Rattle.rls_groups.specs.Events as events
 use Rattle.rls_groups.specs.Events.{Deed, Sits, after_run, at_desk, replica_at, saved_of, session_due}
 use Rattle.rls_groups.specs.Runs.{IsLeft, LeavesDeeds, StoppedStores, StoresLeave, after_deeds, deed_of, deeds_from, deeds_of, file_at}

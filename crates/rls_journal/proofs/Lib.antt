@@ -1,6 +1,6 @@
 pub mod Held
 mod Images
-mod Moments
+pub mod Moments
 mod Parts
 mod Recorded
 mod Replays

@@ -3,6 +3,19 @@ use Rattle.std.proofs.Common.{◌≡◌, ◌∙◌, inl, inr, ⊎_elim, ℕ, Opt
 use Rattle.rls_journal.specs.Areas.{Areas}
 use Rattle.rls_journal.specs.Disk.{Narrows, Follows, Elapses, LeavesOnly, IsUnchanged, Changes}
 
+module _ {D : Type 0} (moment : D → ℕ) (left_since : D → ℕ → Areas → Type 0) where
+  -- what follows of what is left
+  pub leaves_weaker : (old new : D) (P Q : Areas → Type 0) → ((c : Areas) → P c → Q c) → LeavesOnly moment left_since old new P → LeavesOnly moment left_since old new Q
+  leaves_weaker old new P Q f run = record { later = run.later; each = λ c left. f c (run.each c left); before = λ t c le left. ⊎_elim (λ past. inl past) (λ p. inr (f c p)) (run.before t c le left) }
+
+  -- one run after another
+  pub leaves_both : (old mid new : D) (P : Areas → Type 0) → LeavesOnly moment left_since old mid P → LeavesOnly moment left_since mid new P → LeavesOnly moment left_since old new P
+  leaves_both old mid new P front back = record {
+    later = omega (arith, front.later, back.later);
+    each = λ c left. ⊎_elim (λ past. front.each c past) (λ p. p) (back.before (moment old) c front.later left);
+    before = λ t c le left. ⊎_elim (λ past. front.before t c le past) (λ p. inr p) (back.before t c (omega (arith, le, front.later)) left);
+  }
+
 module _ {D : Type 0} (may_leave : D → Areas → Type 0) (moment : D → ℕ) (left_since : D → ℕ → Areas → Type 0) where
   -- before the first call
   pub started : (old : D) (P : Areas → Type 0) → ((c : Areas) → left_since old (moment old) c → may_leave old c) → ((c : Areas) → may_leave old c → P c) → LeavesOnly moment left_since old old P
@@ -24,18 +37,6 @@ module _ {D : Type 0} (may_leave : D → Areas → Type 0) (moment : D → ℕ) 
     later = omega (arith, so_far.later, time.later);
     each = λ c left. ⊎_elim (so_far.each c) (λ now. here c (narrows c now)) (time.nothing_else (moment old) c so_far.later left);
     before = λ t c le left. ⊎_elim (so_far.before t c le) (λ now. inr (here c (narrows c now))) (time.nothing_else t c (omega (arith, le, so_far.later)) left);
-  }
-
-  -- what follows of what is left
-  pub weaker : (old new : D) (P Q : Areas → Type 0) → ((c : Areas) → P c → Q c) → LeavesOnly moment left_since old new P → LeavesOnly moment left_since old new Q
-  weaker old new P Q f run = record { later = run.later; each = λ c left. f c (run.each c left); before = λ t c le left. ⊎_elim (λ past. inl past) (λ p. inr (f c p)) (run.before t c le left) }
-
-  -- one run after another
-  pub both : (old mid new : D) (P : Areas → Type 0) → LeavesOnly moment left_since old mid P → LeavesOnly moment left_since mid new P → LeavesOnly moment left_since old new P
-  both old mid new P front back = record {
-    later = omega (arith, front.later, back.later);
-    each = λ c left. ⊎_elim (λ past. front.each c past) (λ p. p) (back.before (moment old) c front.later left);
-    before = λ t c le left. ⊎_elim (λ past. front.before t c le past) (λ p. inr p) (back.before t c (omega (arith, le, front.later)) left);
   }
 
   -- a call that changes something

@@ -5,7 +5,7 @@ use Rattle.rls_journal.specs.Disk.{Renews, Narrows, Follows, IsDurableAt, Elapse
 use Rattle.rls_journal.specs.Slots.{HasFile, Holds, HoldsEither, HoldsOn, IsSettled, IsSound, KeepsOneOf, Looks}
 use Rattle.rls_journal.specs.Keeper.{IsAtRest, IsOldOrNew, Rests}
 use Rattle.rls_journal.proofs.Parts.{at_some, to_some}
-use Rattle.rls_journal.proofs.Moments.{started, goes_on, rests, weaker, both, changed, stays, stays_both}
+use Rattle.rls_journal.proofs.Moments.{started, goes_on, rests, leaves_weaker, leaves_both, changed, stays, stays_both}
 use Rattle.rls_journal.proofs.Held.{Stepped, holds_narrows, holds_now, holds_renewed, holds_settled, holds_weaker, settled_narrows}
 
 module _ {D : Type 0} (retries : Type 0) (seen : D → Option Areas) (may_leave : D → Areas → Type 0) (moment : D → ℕ) (left_since : D → ℕ → Areas → Type 0) (only : (disk : D) (c : Areas) → left_since disk (moment disk) c → may_leave disk c) where
@@ -69,7 +69,7 @@ module _ {D : Type 0} (retries : Type 0) (seen : D → Option Areas) (may_leave 
     holds = λ s is first second h.
         let one = front.holds s is first second h in
         let two = back.holds s (front.same ∙ is) first second (at_some (seen mid) (λ s. Holds first second s (may_leave mid)) s (front.same ∙ is) one.1) in
-        (both may_leave moment left_since old mid new (KeepsOneOf first second) one.0 two.0, two.1);
+        (leaves_both moment left_since old mid new (KeepsOneOf first second) one.0 two.0, two.1);
   }
 
   -- once the gate is on the disk, and on one that retries the slot that it names
@@ -111,7 +111,7 @@ module _ {D : Type 0} (retries : Type 0) (seen : D → Option Areas) (may_leave 
         each = λ c left. r.1 c (⊎_elim (λ past. only old c past) (λ now. now) (u.before (moment old) c (omega arith) left));
         before = λ t c le left. ⊎_elim (λ past. inl past) (λ now. inr (r.1 c now)) (u.before t c le left);
       })
-      (λ h. weaker may_leave moment left_since old new (KeepsOneOf (kept s) (kept s)) (λ c. kept c ≡ kept s) (λ c p. ⊎_elim (λ e. e) (λ e. e) p) (look.holds s is (kept s) (kept s) h).0)
+      (λ h. leaves_weaker moment left_since old new (KeepsOneOf (kept s) (kept s)) (λ c. kept c ≡ kept s) (λ c p. ⊎_elim (λ e. e) (λ e. e) p) (look.holds s is (kept s) (kept s) h).0)
       rest
 
   pub rest_again : (s : Areas) (old new : D) → seen old ≡ Some s → Rests retries s (may_leave old) → Look old new → Rests retries s (may_leave new)
@@ -149,12 +149,12 @@ module _ {D : Type 0} (retries : Type 0) (seen : D → Option Areas) (may_leave 
   pub store_leaves : (old mid new : D) (bytes : List ℕ) → Look old mid → Stores bytes old mid new → IsAtRest retries seen may_leave old → IfSome (seen old) (λ s. Leaves old new (IsOldOrNew (kept s) bytes))
   store_leaves old mid new bytes look stores rest = to_some (seen old) (λ s. Leaves old new (IsOldOrNew (kept s) bytes)) (λ s is.
       let front = rest_leaves s old mid is (at_some (seen old) (λ s. Rests retries s (may_leave old)) s is rest) look in
-      both may_leave moment left_since old mid new (IsOldOrNew (kept s) bytes) (weaker may_leave moment left_since old mid (λ c. kept c ≡ kept s) (IsOldOrNew (kept s) bytes) (λ c same. inl same) front) (stores s is (rest_sound old rest)).0)
+      leaves_both moment left_since old mid new (IsOldOrNew (kept s) bytes) (leaves_weaker moment left_since old mid (λ c. kept c ≡ kept s) (IsOldOrNew (kept s) bytes) (λ c same. inl same) front) (stores s is (rest_sound old rest)).0)
 
   -- a load that failed
   pub store_fails : (old mid : D) (bytes : List ℕ) → Look old mid → IsAtRest retries seen may_leave old → IfSome (seen old) (λ s. Leaves old mid (IsOldOrNew (kept s) bytes))
   store_fails old mid bytes look rest = to_some (seen old) (λ s. Leaves old mid (IsOldOrNew (kept s) bytes)) (λ s is.
-      weaker may_leave moment left_since old mid (λ c. kept c ≡ kept s) (IsOldOrNew (kept s) bytes) (λ c same. inl same) (rest_leaves s old mid is (at_some (seen old) (λ s. Rests retries s (may_leave old)) s is rest) look))
+      leaves_weaker moment left_since old mid (λ c. kept c ≡ kept s) (IsOldOrNew (kept s) bytes) (λ c same. inl same) (rest_leaves s old mid is (at_some (seen old) (λ s. Rests retries s (may_leave old)) s is rest) look))
 
   pub store_holds : (old mid new : D) (bytes : List ℕ) → ((disk : D) (s : Areas) → seen disk ≡ Some s → may_leave disk s) → Stores bytes old mid new → IfSome (seen old) (λ s. (file : Option (List ℕ)) → Holds file file s (may_leave old) → HoldsEither seen may_leave file (Some bytes) new)
   store_holds old mid new bytes reads stores = to_some (seen old) (λ s. (file : Option (List ℕ)) → Holds file file s (may_leave old) → HoldsEither seen may_leave file (Some bytes) new) (λ s is file h.
