@@ -1,9 +1,9 @@
 -- What an own edit changes is the edit itself.
 use Rattle.std.proofs.Common.{◌≡◌, ℕ, suc, ◌+◌, ◌-◌, ◌<◌, ◌==◌, false, List, [], ◌∷◌, ◌++◌, map, length, take, drop, refl, sym, ap, ◌∙◌, subst, arith, inl, inr}
-use Rattle.std.specs.Prelude.{pos, zip, None}
+use Rattle.std.specs.Prelude.{pos, None}
 use Rattle.std.proofs.lemmas.List.{length-map, take-append-drop, length-drop, length-take-le}
 use Rattle.rls_ident.specs.declared.tuple.Tuple.{Tuple}
-use Rattle.rls_ident.specs.Identifiers.{IsIdent, shifted}
+use Rattle.rls_ident.specs.Identifiers.{shifted}
 use Rattle.rls_ident.specs.Lists.{IsIn}
 use Rattle.rls_ident.proofs.Agreeing.{map_itself}
 use Rattle.rls_ident.proofs.Lists.{Lt}
@@ -15,22 +15,17 @@ use Rattle.rls_runs.specs.Places.{below_count}
 use Rattle.rls_runs.proofs.RunOrder.{AllLess, AllMore, Rising, rising_of, rising_left, rising_right}
 use Rattle.rls_runs.proofs.RunPlaces.{tells_append, tells_less, tells_more}
 use Rattle.rls_runs.proofs.Sorted.{Entry, Rises, rises_of_increasing}
-use Rattle.rls_model.specs.declared.edit.Edit.{Edit}
 use Rattle.rls_model.specs.declared.edit.Edit.TheVariants as edits
 use Rattle.rls_model.specs.declared.edit.EditError.TheVariants as faults
 use Rattle.rls_ops.specs.declared.op.Body.{Body}
-use Rattle.rls_ops.specs.Rows.{left}
-use Rattle.rls_model.specs.Editing.{range_fault, or_fault}
-use Rattle.rls_model.proofs.Made.{or_none}
-use Rattle.rls_runs.specs.Runs.{run_idents}
 use Rattle.rls_model.specs.WellFormed.{IsEdit}
 use Rattle.rls_model.proofs.OneTree.{none_else}
 use Rattle.rls_model.proofs.Spliced.{ids, entries, chars-entries, take_map, drop_map}
-use Rattle.rls_seen.specs.Edits.{made_over, op_fault_over, edit_fault_over, edited}
+use Rattle.rls_seen.specs.Edits.{made_over, edit_fault_over, edited}
 use Rattle.rls_seen.specs.Over.{added_over, placed_over}
 use Rattle.rls_seen.specs.Sane.{IsSane}
 use Rattle.rls_seen.specs.Seen.{Seen, greatest_over, idents_over}
-use Rattle.rls_seen.proofs.EditedText.{cross, delete_place, first_ident, first_made, insert_made, insert_place, inserted_entries, rises_right, run_ident, take_drop_drop, zip_entries}
+use Rattle.rls_seen.proofs.EditedText.{cross, delete_place, first_ident, first_made, insert_made, insert_place, inserted_entries, rises_right, take_drop_drop, added_is, range_none}
 use Rattle.rls_seen.proofs.Making.{edited_sane}
 use Rattle.rls_seen.proofs.TextLists.{ident_in}
 use Rattle.rls_changes.specs.declared.change.Change.{Change}
@@ -66,18 +61,6 @@ at_place s at cs sane i h y q =
     let m = length-take-le at s.text (insert_place s at cs h) in
     let k : length (ids A) + 0 ≡ at = omega arith in
     sym (ap (λ xs. below_count xs y.0) e) ∙ (t.1 ∙ k)
-
--- what is added are the characters from the first identifier on
-added_is : (s : Seen) (x : List Tuple) (cs : List ℕ) → IsSane s → IsIdent x → added_over s (greatest_over s) x cs ≡ entries x cs
-added_is s x cs sane i =
-    ap (λ xs. zip xs cs) (map_itself (placed_over s (greatest_over s)) (run_idents x (length cs)) (λ y p. translate_same s.epochs.nodes (greatest_over s) y sane.epochs.nodes (run_ident x (length cs) i y p)))
-    ∙ zip_entries x cs
-
-range_none : (s : Seen) (edit : Edit) → edit_fault_over s edit ≡ None → range_fault (length (idents_over s)) edit ≡ None
-unfolding edit_fault_over
-range_none s edit h =
-    let p = none_else (left s.acks s.acks.me) faults.Left (or_fault (range_fault (length (idents_over s)) edit) (op_fault_over s edit)) h in
-    (or_none (range_fault (length (idents_over s)) edit) (op_fault_over s edit) p.1).0
 
 at_from : (g : ℕ) (xs : List (List Tuple)) (es : Entries) → ((y : Entry) → IsIn y es → below_count xs y.0 ≡ g) → AreAt g xs (idents_in es)
 at_from g xs [] f = tt
