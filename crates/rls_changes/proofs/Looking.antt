@@ -46,7 +46,7 @@ found xs y p r h =
     let f = found_is xs y (rising_of xs r) ∙ h in
     (found_there xs y p (rising_of xs r) f, (read_ok xs y p f).1)
 
-pub missed : (xs : List (List Tuple)) (y : List Tuple) (p : ℕ) → is_increasing xs ≡ true → place_of y xs ≡ Err p → (has_ident xs y ≡ false) × (below_count xs y ≡ p)
+missed : (xs : List (List Tuple)) (y : List Tuple) (p : ℕ) → is_increasing xs ≡ true → place_of y xs ≡ Err p → (has_ident xs y ≡ false) × (below_count xs y ≡ p)
 missed xs y p r h = read_err xs y p (found_is xs y (rising_of xs r) ∙ h)
 
 -- ---- pieces of an insertion

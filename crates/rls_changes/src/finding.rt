@@ -180,24 +180,12 @@ fn put_next(
 {
     rely!(replica.sane());
     let id = ids.get(at)?;
-    let place = below(replica, &id);
+    let place = replica.count_below(&id);
     let end = end_of_gap(replica, ids, at, &id, place)?;
     let alloc = *changes.allocator();
     let piece = part_of_text(alloc, text, at as usize, (end - at) as usize)?;
     push_insertion(changes, place + at, piece)?;
     Ok(end)
-}
-
-// How many identifiers of the text are below this one.
-fn below(replica: &Replica, id: &Ident) -> u64
-    ensures below { result ≡ below_count (idents_over replica.now) id.now }
-    ensures within { result ≤ length (idents_over replica.now) }
-{
-    rely!(replica.sane());
-    match replica.find(id) {
-        Ok(at) => at,
-        Err(at) => at,
-    }
 }
 
 // The place after those of the identifiers, from one on, that go in between the same two neighbours of the text.

@@ -4,6 +4,7 @@ ghost use Rattle.std.specs.Prelude.{◌≡◌, ℕ, List, ◌+◌, ◌-◌, ◌^
 ghost use Rattle.std.specs.String.{string_bytes};
 ghost use Rattle.rls_ident.specs.declared.limits.TheConstants.{MEMBERS};
 ghost use Rattle.rls_ops.specs.Rows.{left};
+ghost use Rattle.rls_runs.specs.Places.{below_count};
 ghost use Rattle.rls_runs.specs.Runs.{place_of};
 ghost use Rattle.rls_blocks.specs.Trees.{entries_of};
 ghost use Rattle.rls_model.specs.Document.{export, text, idents};
@@ -188,6 +189,20 @@ impl Replica {
         ensures stands { (t : State) → StandsFor self.now t → result ≡ place_of id.now (idents t.history) }
     {
         self.document.find(id)
+    }
+
+    /// How many identifiers of the text are below this one of the greatest epoch. It takes no memory, and costs what `find` does.
+    pub fn count_below(&self, id: &Ident) -> u64
+        ensures count { result ≡ below_count (idents_over self.now) id.now }
+        ensures within { result ≤ length (idents_over self.now) }
+
+        // For every history and waiting operations that the replica stands for.
+        ensures stands { (t : State) → StandsFor self.now t → result ≡ below_count (idents t.history) id.now }
+    {
+        rely!(self.sane());
+        match self.find(id) {
+            Ok(count) | Err(count) => count,
+        }
     }
 
     /// The tree in which the text is kept: its blocks are the maximal runs with their characters. It takes no memory.

@@ -75,7 +75,7 @@ fn plan_insertion(
 ) -> Result<Vec<Edit>, AllocError>
     ensures plan { IfOk result (λ plan. plan.items ≡ Insert (below_count (idents_over replica.now) first.now) text.now ∷ []) }
 {
-    let at = below(replica, first);
+    let at = replica.count_below(first);
     let text = text.copy()?;
     let mut plan = Vec::new(alloc);
     plan.push(Edit::Insert { at, text })?;
@@ -134,14 +134,4 @@ fn put_range(ranges: &mut Vec<(u64, u64)>, at: u64) -> Result<(), AllocError>
     ranges.push((next, count))?;
     ranges.push((at, 1))?;
     Ok(())
-}
-
-/// How many identifiers of the text are below one of the greatest epoch. It takes no memory.
-pub(crate) fn below(replica: &Replica, id: &Ident) -> u64
-    ensures below { result ≡ below_count (idents_over replica.now) id.now }
-{
-    rely!(replica.sane());
-    match replica.find(id) {
-        Ok(at) | Err(at) => at,
-    }
 }

@@ -12,12 +12,12 @@ pub overflow_add-place : goal.overflow_add-place
 overflow_add-place c =
     let l = length-map c.args.replica.now.text (λ y. y.0) in
     let r = total_room c.args.replica.now c.sane.ensures.sane in
-    omega (arith, c.below-place.ensures.within)
+    omega (arith, c.count_below-place.ensures.within)
 
 pub returns-clause-so_far : goal.returns-clause-so_far
 returns-clause-so_far c =
     let e = c.in_ok-end in
     c.in_ok-push_insertion.ensures.ok
-    ∙ (ap (λ cs. with_change cs (Insert (c.below-place.result + c.args.at) c.in_ok-piece.piece)) c.requires.so_far
-    ∙ (ap (λ zs. with_change (with_changes [] (puts 0 (idents_over c.args.replica.now) (take c.args.at (zip c.args.ids.now c.args.text.now)))) (Insert (c.below-place.result + c.args.at) zs)) c.in_ok-piece.ensures.part
-    ∙ pieces_more (idents_over c.args.replica.now) c.args.ids.now c.args.text.now c.args.at e.end c.below-place.result c.requires.as_many e.ensures.later e.ensures.within e.ensures.same))
+    ∙ (ap (λ cs. with_change cs (Insert (c.count_below-place.result + c.args.at) c.in_ok-piece.piece)) c.requires.so_far
+    ∙ (ap (λ zs. with_change (with_changes [] (puts 0 (idents_over c.args.replica.now) (take c.args.at (zip c.args.ids.now c.args.text.now)))) (Insert (c.count_below-place.result + c.args.at) zs)) c.in_ok-piece.ensures.part
+    ∙ pieces_more (idents_over c.args.replica.now) c.args.ids.now c.args.text.now c.args.at e.end c.count_below-place.result c.requires.as_many e.ensures.later e.ensures.within e.ensures.same))
