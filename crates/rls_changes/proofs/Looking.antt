@@ -11,7 +11,7 @@ use Rattle.rls_ident.proofs.Lists.{Lt}
 use Rattle.rls_ident.proofs.Loops.{drop_reads}
 use Rattle.rls_ident.proofs.Tuples.{tuples}
 use Rattle.rls_runs.specs.Entries.{idents_in, chars_in, has_ident}
-use Rattle.rls_runs.specs.Places.{below_count, find_ident}
+use Rattle.rls_runs.specs.Places.{below_count}
 use Rattle.rls_runs.specs.Runs.{is_increasing, place_of, run_idents}
 use Rattle.rls_runs.proofs.Gaps.{at_less, at_same, below_take, less_drop, more_drop, read_err, read_ok, rising_drop}
 use Rattle.rls_runs.proofs.RunOrder.{AllLess, AllMore, Rising, less_trans, more_trans, rising_of}
@@ -258,12 +258,6 @@ module _ (xs ts : List (List Tuple)) (at place : ℕ) (x : List Tuple) (r : Risi
       first_and n (below_count ts z - at) (omega (arith, l)) (all_missing (take n (drop (at + 1) ts)) z (drop (place + 1) xs) (drop_reads xs place z g) (more_front n (drop (at + 1) ts) later) less)
 
 -- ---- for calls
-
-pub below_found : (xs : List (List Tuple)) (y : List Tuple) (n : ℕ) → find_ident xs y ≡ Ok n → below_count xs y ≡ n
-below_found xs y n h = (read_ok xs y n h).1
-
-pub below_missed : (xs : List (List Tuple)) (y : List Tuple) (n : ℕ) → find_ident xs y ≡ Err n → below_count xs y ≡ n
-below_missed xs y n h = (read_err xs y n h).1
 
 pub gap_at_end : (xs ids : List (List Tuple)) (at place total : ℕ) (x : List Tuple) → is_increasing xs ≡ true → is_increasing ids ≡ true → slice_get ids at ≡ Some x → below_count xs x ≡ place → place ≡ length xs → total ≡ length ids
     → AreAt place xs (take (total - at) (drop at ids))

@@ -118,8 +118,7 @@ fn run_of(alloc: Global, first: &Ident, len: u32) -> Result<Runs, AllocError>
     let Ok(run) = Run::new(first.copy()?, len) else {
         return Err(AllocError);
     };
-    let mut ids = Runs::new(alloc);
-    ids.append(run)?;
+    let ids = Runs::from_run(alloc, run)?;
     Ok(ids)
 }
 
@@ -209,18 +208,8 @@ fn end_of_gap(
         return Ok(total);
     }
     let limit = replica.ident_at(place)?;
-    let behind = below_in(ids, &limit);
+    let behind = ids.count_below(&limit);
     Ok(behind.max(at + 1))
-}
-
-// How many of these identifiers are below one.
-fn below_in(ids: &Runs, id: &Ident) -> u64
-    ensures below { result ≡ below_count ids.now id.now }
-{
-    match ids.find(id) {
-        Ok(n) => n,
-        Err(n) => n,
-    }
 }
 
 // ---- deletions
@@ -328,6 +317,6 @@ fn end_of_missing(
         return Ok(total);
     }
     let limit = replica.ident_at(place)?;
-    let end = below_in(targets, &limit);
+    let end = targets.count_below(&limit);
     Ok(end)
 }

@@ -63,8 +63,7 @@ impl Nodes {
         let Ok(run) = Run::new(first, run.len()) else {
             return Ok(None);
         };
-        let mut ahead = Runs::new(self.allocator());
-        ahead.append(run)?;
+        let ahead = Runs::from_run(self.allocator(), run)?;
         Ok(Some((ahead, count)))
     }
 

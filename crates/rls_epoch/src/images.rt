@@ -25,7 +25,7 @@ impl Nodes {
             [step] => self.run_moved(*step, run),
             _ => maximal(
                 self.allocator(),
-                &self.runs_led(steps, &alone(self.allocator(), run)?)?,
+                &self.runs_led(steps, &Runs::from_run(self.allocator(), run.copy()?)?)?,
             ),
         }
     }
@@ -43,7 +43,7 @@ impl Nodes {
         if steps.is_empty() {
             return renaming.forward_run(run);
         }
-        let ids = self.runs_led(steps, &alone(self.allocator(), run)?)?;
+        let ids = self.runs_led(steps, &Runs::from_run(self.allocator(), run.copy()?)?)?;
         maximal(
             self.allocator(),
             &runs_renamed(self.allocator(), renaming, &ids)?,
@@ -147,16 +147,6 @@ fn listed(alloc: Global, run: &Run) -> Result<RunList, AllocError>
     let mut list = RunList::new(alloc);
     list.push(run.copy()?)?;
     Ok(list)
-}
-
-// Its identifiers.
-fn alone(alloc: Global, run: &Run) -> Result<Runs, AllocError>
-    ensures alone { IfOk result (λ ids. ids ≡ run_idents run.now.0 run.now.1) }
-{
-    let mut ids = Runs::new(alloc);
-    rely!(let _len = run.len());
-    ids.append(run.copy()?)?;
-    Ok(ids)
 }
 
 // The maximal runs.

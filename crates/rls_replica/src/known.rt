@@ -14,7 +14,7 @@ ghost use Rattle.rls_replica.specs.Unions.{Stands};
 
 use crate::gone::add;
 use crate::replica::Replica;
-use crate::uniting::{below, common, count_below, put_part};
+use crate::uniting::{below, common, put_part};
 use rls_epoch::Epochs;
 use rls_ident::{EpochName, Ident, Vector, rely};
 use rls_model::Refusal;
@@ -275,7 +275,7 @@ fn clear_from(list: &Runs, first: &Ident, ids: &Runs, at: u64) -> Result<u64, Al
     ensures clear { IfOk result (λ n. (k : ℕ) (x : List Tuple) → k < n → slice_get ids.now (at + k) ≡ Some x → IsIn x list.now → ⊥) }
 {
     let (_list, _ids) = (list.total(), ids.total());
-    let end = below(ids, list, count_below(list, first))?;
+    let end = below(ids, list, list.count_below(first))?;
     Ok(end.saturating_sub(at))
 }
 

@@ -4,7 +4,6 @@ ghost use Rattle.std.specs.Prelude.{◌≡◌, ℕ, pos, List, ◌+◌, ◌<◌,
 ghost use Rattle.rls_ident.specs.declared.tuple.Tuple.{Tuple};
 ghost use Rattle.rls_ident.specs.Identifiers.{shifted};
 ghost use Rattle.rls_ident.specs.Lists.{IsIn};
-ghost use Rattle.rls_runs.specs.Runs.{run_idents};
 ghost use Rattle.rls_rename.specs.Tree.{is_kept};
 ghost use Rattle.rls_ops.specs.declared.op.Op.{Op as OpSeen};
 ghost use Rattle.rls_ops.specs.Rows.{is_covered};
@@ -19,7 +18,7 @@ use crate::uniting::common;
 use rls_ident::{EpochName, Ident, Spot, rely};
 use rls_log::OpKind;
 use rls_ops::{Body, Op};
-use rls_runs::{Run, Runs};
+use rls_runs::Runs;
 use std::alloc::{AllocError, Global};
 
 impl Replica {
@@ -348,16 +347,6 @@ fn part_of(alloc: Global, ids: &Runs, at: u64, count: u32) -> Result<Runs, Alloc
     let (run, from) = ids.locate(at);
     let len = count.max(1).min(run.len() - from);
     let piece = run.part(from, len)?;
-    let part = alone(alloc, piece)?;
+    let part = Runs::from_run(alloc, piece)?;
     Ok(part)
-}
-
-// The list of one run's identifiers.
-fn alone(alloc: Global, run: Run) -> Result<Runs, AllocError>
-    ensures runs { IfOk result (λ runs. runs ≡ run_idents run.0 run.1) }
-{
-    rely!(let _len = run.len());
-    let mut runs = Runs::new(alloc);
-    runs.append(run)?;
-    Ok(runs)
 }

@@ -4,10 +4,9 @@ ghost use Rattle.std.specs.Prelude.{◌≡◌, ◌+◌, ◌<◌, ◌≤◌, ◌�
 ghost use Rattle.rls_ident.specs.declared.tuple.Tuple.{Tuple};
 ghost use Rattle.rls_ident.specs.Identifiers.{ident_lt};
 ghost use Rattle.rls_ident.specs.Lists.{IsIn};
-ghost use Rattle.rls_runs.specs.Places.{below_count};
 ghost use Rattle.rls_replica.specs.Unions.{Stands, AreBelow, IsPut};
 
-use rls_ident::{Ident, rely};
+use rls_ident::rely;
 use rls_runs::Runs;
 use std::alloc::{AllocError, Global};
 
@@ -65,17 +64,7 @@ pub(crate) fn below(ids: &Runs, others: &Runs, at: u64) -> Result<u64, AllocErro
     }
     rely!(let _total = ids.total());
     let other = others.get(at)?;
-    Ok(count_below(ids, &other))
-}
-
-// How many identifiers of a list are less than this one.
-pub(crate) fn count_below(ids: &Runs, id: &Ident) -> u64
-    ensures count { result ≡ below_count ids.now id.now }
-{
-    match ids.find(id) {
-        Ok(count) => count,
-        Err(count) => count,
-    }
+    Ok(ids.count_below(&other))
 }
 
 // Puts identifiers of a list after others: those from a place on that are in one run there, at most up to an end. Answers the place

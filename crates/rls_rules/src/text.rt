@@ -148,8 +148,7 @@ fn is_text_of(
     if are_all_used {
         return Ok(is_used_run(stems, &run.run));
     }
-    let mut ids = Runs::new(alloc);
-    ids.append(run.run.copy()?)?;
+    let ids = Runs::from_run(alloc, run.run.copy()?)?;
     are_used_everywhere(stems, epochs, parts.epochs.as_slice(), ids)
 }
 

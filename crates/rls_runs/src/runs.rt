@@ -4,7 +4,7 @@ ghost use Rattle.std.specs.Prelude.{◌≡◌, ℕ, ◌+◌, ◌-◌, ◌<◌, �
 ghost use Rattle.rls_ident.specs.declared.tuple.Tuple.{Tuple};
 ghost use Rattle.rls_ident.specs.Identifiers.{ident_lt, shifted};
 ghost use Rattle.rls_runs.specs.Runs.{run_idents, runs_of, place_of, AreIdents};
-ghost use Rattle.rls_runs.specs.Places.{find_ident, last_ident, is_above, touches};
+ghost use Rattle.rls_runs.specs.Places.{below_count, find_ident, last_ident, is_above, touches};
 
 use crate::run::Run;
 use rls_ident::{Ident, rely};
@@ -53,6 +53,16 @@ impl Runs {
             starts: Vec::new(alloc),
             total: 0,
         }
+    }
+
+    /// The identifiers of one run.
+    pub fn from_run(alloc: Global, run: Run) -> Result<Runs, AllocError>
+        ensures idents { IfOk result (λ runs. runs ≡ run_idents run.0 run.1) }
+    {
+        rely!(let _len = run.len());
+        let mut runs = Runs::new(alloc);
+        runs.append(run)?;
+        Ok(runs)
     }
 
     /// Puts a run after the last identifier, which it doesn't touch.
@@ -128,6 +138,16 @@ impl Runs {
         match self.runs[behind - 1].find(id) {
             Ok(place) => Ok(start + place as u64),
             Err(below) => Err(start + below as u64),
+        }
+    }
+
+    /// How many of the identifiers are below this one. It takes no memory, and costs what `find` does.
+    pub fn count_below(&self, id: &Ident) -> u64
+        ensures count { result ≡ below_count self.now id.now }
+        ensures within { result ≤ length self.now }
+    {
+        match self.find(id) {
+            Ok(count) | Err(count) => count,
         }
     }
 

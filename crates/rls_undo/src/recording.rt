@@ -60,8 +60,7 @@ fn insertion(alloc: Global, op: &Op) -> Result<Option<Entry>, AllocError>
     let Ok(run) = Run::new(first.copy()?, len) else {
         return Err(AllocError);
     };
-    let mut ids = Runs::new(alloc);
-    ids.append(run)?;
+    let ids = Runs::from_run(alloc, run)?;
     Ok(Some(Entry::Inserted {
         epoch: op.epoch,
         ids,

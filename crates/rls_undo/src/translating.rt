@@ -119,7 +119,7 @@ fn ids_there(
     if let Some(run) = only_run(ids)
         && let Some(part) = part_known(replica, known, epoch, run)?
     {
-        return alone(alloc, &part);
+        return Runs::from_run(alloc, part);
     }
     match replica.to_greatest(epoch, ids) {
         Err(_) => Err(AllocError),
@@ -203,7 +203,7 @@ fn translated(
 ) -> Result<Translation, AllocError>
     ensures right { IfOk result (λ translation. IsRight replica.now translation) }
 {
-    let ids = alone(alloc, &run)?;
+    let ids = Runs::from_run(alloc, run.copy()?)?;
     match replica.to_greatest(epoch, &ids) {
         Err(_) => Err(AllocError),
         Ok(there) => Ok(Translation { epoch, run, there }),
@@ -289,14 +289,4 @@ fn only_run(ids: &Runs) -> Option<&Run>
         return None;
     }
     Some(ids.run(0))
-}
-
-// A run as a list.
-fn alone(alloc: Global, run: &Run) -> Result<Runs, AllocError>
-    ensures alone { IfOk result (λ ids. ids ≡ run_idents run.now.0 run.now.1) }
-{
-    let mut ids = Runs::new(alloc);
-    rely!(let _len = run.len());
-    ids.append(run.copy()?)?;
-    Ok(ids)
 }

@@ -38,6 +38,6 @@ returns c =
     let k = count_most c.args.ids.now c.in_ok-limit.limit in
     record {
       later = above _ _ _ c.max.ensures;
-      within = most _ _ _ _ _ c.max.ensures c.below_in-behind.ensures.below k w;
-      same = gap_within (idents_over c.args.replica.now) c.args.ids.now c.args.at c.args.place c.below_in-behind.result c.max.result c.args.id.now c.in_ok-limit.limit c.sane.ensures.sane.idents.1 c.total-total.ensures.idents.1 c.requires.there c.requires.place c.in_ok-limit.ensures.ident c.below_in-behind.ensures.below c.max.ensures;
+      within = most _ _ _ _ _ c.max.ensures c.count_below-behind.ensures.count k w;
+      same = gap_within (idents_over c.args.replica.now) c.args.ids.now c.args.at c.args.place c.count_below-behind.result c.max.result c.args.id.now c.in_ok-limit.limit c.sane.ensures.sane.idents.1 c.total-total.ensures.idents.1 c.requires.there c.requires.place c.in_ok-limit.ensures.ident c.count_below-behind.ensures.count c.max.ensures;
     }

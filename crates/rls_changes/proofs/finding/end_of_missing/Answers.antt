@@ -19,9 +19,9 @@ returns-then-place-total c =
 pub returns : goal.returns
 returns c =
     let k = count_most c.args.targets.now c.in_ok-limit.limit in
-    let m = missing_within (idents_over c.args.replica.now) c.args.targets.now c.args.at c.args.place c.below_in-end.result c.args.id.now c.in_ok-limit.limit c.sane.ensures.sane.idents.1 c.total-total.ensures.idents.1 c.requires.there c.requires.missing c.in_ok-limit.ensures.ident c.below_in-end.ensures.below in
+    let m = missing_within (idents_over c.args.replica.now) c.args.targets.now c.args.at c.args.place c.count_below-end.result c.args.id.now c.in_ok-limit.limit c.sane.ensures.sane.idents.1 c.total-total.ensures.idents.1 c.requires.there c.requires.missing c.in_ok-limit.ensures.ident c.count_below-end.ensures.count in
     record {
       later = m.0;
-      within = omega (arith, k, c.below_in-end.ensures.below);
+      within = omega (arith, k, c.count_below-end.ensures.count);
       missing = m.1;
     }

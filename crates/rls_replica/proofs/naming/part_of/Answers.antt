@@ -7,7 +7,7 @@ use Rattle.rls_replica.proofs.naming.part_of.Goals as goal
 
 module _ (c : goal.In_ok-part) where
   idents : c.in_ok-part.part ≡ run_idents (shifted (pos c.locate-from.result.1) c.locate-from.result.0.now.0) c.min-len.result
-  idents = c.in_ok-part.ensures.runs ∙ ap (λ r. run_idents r.0 r.1) c.in_ok-piece.ensures.part
+  idents = c.in_ok-part.ensures.idents ∙ ap (λ r. run_idents r.0 r.1) c.in_ok-piece.ensures.part
 
   there : (k : ℕ) → k < c.min-len.result → slice_get c.args.ids.now (c.args.at + k) ≡ Some (shifted (pos (c.locate-from.result.1 + k)) c.locate-from.result.0.now.0)
   there k l = c.locate-from.ensures.idents k (omega (arith, l, c.min-len.ensures))

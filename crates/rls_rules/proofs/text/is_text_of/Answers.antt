@@ -1,4 +1,4 @@
-use Rattle.std.proofs.Common.{◌≡◌, ◌++◌, List, ℕ, sym, ap, ◌∙◌, subst}
+use Rattle.std.proofs.Common.{◌≡◌, List, ℕ, sym, ap, ◌∙◌, subst}
 use Rattle.std.specs.Prelude.{IfOk}
 use Rattle.rls_ident.specs.declared.tuple.Tuple.{Tuple}
 use Rattle.rls_ident.specs.Lists.{IsIn}
@@ -25,10 +25,7 @@ pub returns : goal.returns
 returns c =
     let p = c.args.parts.now in
     let r = c.requires in
-    let copy = c.in_ok-copy.field-0 in
-    let ids =
-    c.in_ok-append.ensures.ok
-    ∙ (ap (λ (xs : List (List Tuple)). xs ++ run_idents copy.0 copy.1) c.new-ids.ensures.empty ∙ ap (λ (q : List Tuple × ℕ). run_idents q.0 q.1) c.in_ok-copy.ensures.copy) in
+    let ids = c.in_ok-ids.ensures.idents ∙ ap (λ (q : List Tuple × ℕ). run_idents q.0 q.1) c.in_ok-copy.ensures.copy in
     record {
       used = subst (λ used. IfOk c.are_used_everywhere.result (λ b. b ≡ used)) (text_of p c.args.run.now _ c.as_slice.result.now ids c.as_slice.ensures.items)
           (c.are_used_everywhere.ensures.used p (sym r.stems_are) (sym r.epochs_are));

@@ -7,5 +7,5 @@ pub returns-clause-led : goal.returns-clause-led
 returns-clause-led c =
     let first = rw c.in-Some.is at c.in_ok-first.ensures.ident in
     let turned = rw c.first-2.ensures.first at c.in_ok-turned.ensures.turned in
-    let all = rw (c.new-ahead.ensures.empty, c.in-Ok.ensures.ok) at c.in_ok-append.ensures.ok in
-    run_led_ahead c.args.self.now.placed c.args.steps.now c.in_ok-count.count c.append.new.self c.args.run.now c.in_ok-turned.turned.items c.move_heads.new.turned.items c.in-Some.first turned c.in_ok-count.ensures.ahead (first ∙ ap reverse c.deref.ensures.value) (all ∙ ap (run_idents c.in-Some.first) c.len-2.ensures.len)
+    let all = rw c.in-Ok.ensures.ok at c.in_ok-ahead.ensures.idents in
+    run_led_ahead c.args.self.now.placed c.args.steps.now c.in_ok-count.count c.in_ok-ahead.ahead c.args.run.now c.in_ok-turned.turned.items c.move_heads.new.turned.items c.in-Some.first turned c.in_ok-count.ensures.ahead (first ∙ ap reverse c.deref.ensures.value) (all ∙ ap (run_idents c.in-Some.first) c.len-2.ensures.len)

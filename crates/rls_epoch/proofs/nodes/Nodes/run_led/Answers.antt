@@ -1,6 +1,6 @@
 use Rattle.std.proofs.Common.{arith, ◌≡◌, ◌∷◌, [], List, ℕ, map, ap, sym, ◌∙◌, subst}
 use Rattle.rls_ident.specs.declared.tuple.Tuple.{Tuple}
-use Rattle.rls_runs.specs.Runs.{IsImage, runs_of}
+use Rattle.rls_runs.specs.Runs.{IsImage, run_idents, runs_of}
 use Rattle.rls_epoch.specs.declared.ways.Step.{Step}
 use Rattle.rls_epoch.specs.Ways.{led}
 use Rattle.rls_epoch.proofs.Sorting.{nothing}
@@ -23,7 +23,7 @@ returns-in_ok-runs_led-in_default c =
     let f = led c.args.self.now.placed c.args.steps.now in
     let run = c.args.run.now in
     let xs = c.in_ok-runs_led-in_default.field-0 in
-    let e = c.in_ok-runs_led-in_default.ensures.led ∙ ap (map f) c.in_ok-alone-in_default.ensures.alone in
+    let e = c.in_ok-runs_led-in_default.ensures.led ∙ ap (map f) (c.in_ok-from_run-in_default.ensures.idents ∙ ap (λ (r : List Tuple × ℕ). run_idents r.0 r.1) c.in_ok-copy-in_default.ensures.copy) in
     record {
       led = if_ok (λ runs. runs ≡ runs_of xs) (λ runs. IsImage f run runs)
           (λ runs h. subst (λ (rs : List (List Tuple × ℕ)). IsImage f run rs) (sym h) (image_maximal f run xs e c.maximal-in_default.ensures.increasing))

@@ -13,7 +13,7 @@ returns c =
     let run = c.args.run.now in
     let xs = c.in_ok-runs_renamed.field-0 in
     let e : xs ≡ map (λ x. g (f x)) (run_idents run.0 run.1) =
-    c.in_ok-runs_renamed.ensures.renamed ∙ (ap (map g) (c.in_ok-ids.ensures.led ∙ ap (map f) c.in_ok-alone.ensures.alone) ∙ map_then f g (run_idents run.0 run.1)) in
+    c.in_ok-runs_renamed.ensures.renamed ∙ (ap (map g) (c.in_ok-ids.ensures.led ∙ ap (map f) (c.in_ok-from_run.ensures.idents ∙ ap (λ (r : List Tuple × ℕ). run_idents r.0 r.1) c.in_ok-copy.ensures.copy)) ∙ map_then f g (run_idents run.0 run.1)) in
     record {
       led = if_ok (λ runs. runs ≡ runs_of xs) (λ runs. IsImage (λ x. g (f x)) run runs)
           (λ runs h. subst (λ (rs : List (List Tuple × ℕ)). IsImage (λ x. g (f x)) run rs) (sym h) (image_maximal (λ x. g (f x)) run xs e c.maximal-2.ensures.increasing))
