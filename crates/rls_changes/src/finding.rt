@@ -291,7 +291,7 @@ fn common(ids: &Runs, at: u64, others: &Runs) -> u64
     ensures other_within { result ≤ length others.now }
     ensures same { (k : ℕ) → k < result → slice_get ids.now (at + k) ≡ slice_get others.now (0 + k) }
 {
-    let (_ids, _others) = (ids.total(), others.total());
+    rely!(let (_ids, _others) = (ids.total(), others.total()));
     let (run, start) = ids.locate(at);
     let (other, from) = others.locate(0);
     (run.len() - start).min(other.len() - from) as u64

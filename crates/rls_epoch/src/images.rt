@@ -58,7 +58,7 @@ impl Nodes {
         if steps.is_empty() {
             return ids.copy();
         }
-        let (_count, _total) = (self.count(), ids.total());
+        rely!(let (_count, _total) = (self.count(), ids.total()));
         let mut parts = Vec::new(self.allocator());
         self.push_parts(steps, 0, ids.as_slice(), &mut parts)?;
         let mut at_end = Runs::new(self.allocator());
@@ -105,7 +105,7 @@ impl Nodes {
 fn runs_renamed(alloc: Global, renaming: &Renaming, ids: &Runs) -> Result<Runs, AllocError>
     ensures renamed { IfOk result (λ xs. xs ≡ map (forward renaming.now) ids.now) }
 {
-    let (_total, _some) = (ids.total(), renaming.total());
+    rely!(let (_total, _some) = (ids.total(), renaming.total()));
     let mut renamed = Runs::new(alloc);
     for run in ids.as_slice() {
         append_all(&mut renamed, renaming.forward_run(run)?.as_slice())?;

@@ -175,7 +175,8 @@ impl Nodes {
         requires number { number ≤ length self.now.placed }
         ensures cut { IsCut (epoch_cmp (nodes_of self.now.placed)) (names_at self.now.placed places.now) (epoch_at self.now.top self.now.placed number) result }
     {
-        let (_count, end) = (self.count(), places.len());
+        rely!(let _count = self.count());
+        let end = places.len();
         if end == 0 {
             return self.epochs_below(places, number);
         }

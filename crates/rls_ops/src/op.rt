@@ -142,7 +142,7 @@ impl Op {
         rely!(let _author = self.author);
         rely!(let _seq = self.seq);
         rely!(let _len = self.context.len());
-        name_fits(&self.epoch);
+        rely!(name_fits(&self.epoch));
         rely!(self.body.fits());
     }
 

@@ -274,7 +274,7 @@ fn clear_from(list: &Runs, first: &Ident, ids: &Runs, at: u64) -> Result<u64, Al
     requires first { slice_get ids.now at ≡ Some first.now }
     ensures clear { IfOk result (λ n. (k : ℕ) (x : List Tuple) → k < n → slice_get ids.now (at + k) ≡ Some x → IsIn x list.now → ⊥) }
 {
-    let (_list, _ids) = (list.total(), ids.total());
+    rely!(let (_list, _ids) = (list.total(), ids.total()));
     let end = below(ids, list, list.count_below(first))?;
     Ok(end.saturating_sub(at))
 }

@@ -277,7 +277,7 @@ impl Replica {
         let Body::Delete { targets } = &op.body else {
             return Ok(0);
         };
-        let (_ids, _targets) = (ids.total(), targets.total());
+        rely!(let (_ids, _targets) = (ids.total(), targets.total()));
         let there = self.epochs.translate_runs(epoch, op.epoch, ids)?;
         let first = there.get(0)?;
         match targets.find(&first) {
@@ -331,7 +331,7 @@ impl Replica {
         let Body::Delete { targets } = &op.body else {
             return Ok(false);
         };
-        let (_total, _last) = (targets.total(), target.last());
+        rely!(let (_total, _last) = (targets.total(), target.last()));
         let there = self.epochs.translate(epoch, op.epoch, target)?;
         Ok(targets.find(&there).is_ok())
     }

@@ -43,7 +43,7 @@ impl Replica {
         // For every history and waiting operations of which these are the parts.
         ensures stands { IfOk result (λ r. (t : State) → IsLegal t.history → parts_of t ≡ parts → StandsFor r t) }
     {
-        fit(&parts);
+        rely!(fit(&parts));
         let Tested {
             acks,
             stems,
@@ -78,12 +78,12 @@ impl Replica {
 fn fit(parts: &Parts)
     ensures ranged { AreRanged parts.now }
 {
-    large(parts.group);
+    rely!(large(parts.group));
     rely!(let _len = parts.vector.len());
-    former_fit(parts.epochs.as_slice());
-    runs_fit(parts.text.as_slice());
+    rely!(former_fit(parts.epochs.as_slice()));
+    rely!(runs_fit(parts.text.as_slice()));
     rely!(parts.log.fits());
-    ops_fit(parts.held.as_slice());
+    rely!(ops_fit(parts.held.as_slice()));
 }
 
 fn large(n: u64)
@@ -141,7 +141,7 @@ fn document(alloc: Global, runs: Vec<TextRun>) -> Result<BlockTree, AllocError>
     requires few { length runs.items < 2 ^ 32 }
     ensures text { IfOk result (λ tree. entries_of tree.blocks ≡ entries_in runs.items) }
 {
-    runs_fit(&runs);
+    rely!(runs_fit(&runs));
     let mut blocks = Vec::with_capacity(alloc, runs.len())?;
     for entry in runs {
         let TextRun { run, text } = entry;

@@ -36,7 +36,7 @@ fn put_next(both: &mut Runs, a: &Runs, i: u64, b: &Runs, j: u64) -> Result<(u64,
     ensures later { IfOk result (λ next. i + j < next.0 + next.1) }
     ensures only { IfOk result (λ next. (x : List Tuple) → IsIn x both.new → IsIn x both.old ⊎ (IsIn x a.now ⊎ IsIn x b.now)) }
 {
-    let (_a, _b) = (a.total(), b.total());
+    rely!(let (_a, _b) = (a.total(), b.total()));
     let end = below(a, b, j)?;
     if i < end {
         let next = put_part(both, a, i, end)?;
@@ -99,7 +99,7 @@ pub(crate) fn common(ids: &Runs, i: u64, others: &Runs, j: u64) -> u64
     ensures other_within { j + result ≤ length others.now }
     ensures same { (k : ℕ) → k < result → slice_get ids.now (i + k) ≡ slice_get others.now (j + k) }
 {
-    let (_ids, _others) = (ids.total(), others.total());
+    rely!(let (_ids, _others) = (ids.total(), others.total()));
     let (run, start) = ids.locate(i);
     let (other, from) = others.locate(j);
     (run.len() - start).min(other.len() - from) as u64

@@ -14,7 +14,7 @@ ghost use Rattle.rls_rules.specs.Used.{covers, covers_new, is_used_renaming};
 ghost use Rattle.rls_parts.specs.Rules.{epoch_fault, is_used_tuple, is_text_of, text_fault};
 
 use rls_epoch::Epochs;
-use rls_ident::{EpochName, Spot};
+use rls_ident::{EpochName, Spot, rely};
 use rls_model::{EpochPart, Parts, Stem, TextRun};
 use rls_runs::{Run, Runs};
 use rls_stems::StemTable;
@@ -112,7 +112,7 @@ fn are_used_everywhere(
     ensures used { (p : PartsSeen) → p.stems ≡ stems.now.stems → epochs_of p ≡ epochs.now.epochs
         → IfOk result (λ b. b ≡ list_all (λ f. list_all (λ x. is_used_tuple p (last_of (in_epoch p f x))) ids) (names_of list.now)) }
 {
-    let (_count, _total) = (epochs.count(), ids.total());
+    rely!(let (_count, _total) = (epochs.count(), ids.total()));
     let (mut here, mut images, mut left) = (epochs.greatest(), ids, list.len());
     while 0 < left {
         left -= 1;
@@ -144,7 +144,7 @@ fn is_text_of(
     requires all { are_all_used ≡ list_all (is_used_renaming parts.now) (drop 1 parts.now.epochs) }
     ensures used { IfOk result (λ b. b ≡ is_text_of parts.now run.now) }
 {
-    let (_count, _len) = (epochs.count(), run.run.len());
+    rely!(let (_count, _len) = (epochs.count(), run.run.len()));
     if are_all_used {
         return Ok(is_used_run(stems, &run.run));
     }

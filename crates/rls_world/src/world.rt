@@ -132,8 +132,8 @@ impl World {
         ensures whole { IsEvent event.now }
         ensures one_group { (group : ℕ) × IsOneGroup self.old group }
     {
-        self.one_group();
-        fits(event);
+        rely!(self.one_group());
+        rely!(fits(event));
         match event {
             Event::Edit { member, edit } => self.edit(*member, edit),
             Event::Send { from, to } => self.send(*from, *to),
@@ -190,7 +190,7 @@ impl World {
         ensures message { IfOk result (λ m. (r : Seen) → slice_get self.now.replicas from ≡ Some r → m ≡ message_over r to) }
         ensures sent { IfOk result (λ m. (group : ℕ) → IsOneGroup self.now group → IsSent group (length self.now.replicas) m) }
     {
-        self.one_group();
+        rely!(self.one_group());
         let replica = self.replica(from);
         rely!(let _me = replica.me());
         match replica.message_for(to) {
@@ -340,10 +340,10 @@ fn fits(event: &Event)
             rely!(edit.fits());
         }
         Event::Send { from, to } => {
-            let (_from, _to) = (*from, *to);
+            rely!(let (_from, _to) = (*from, *to));
         }
         Event::Deliver { message, to } => {
-            let (_message, _to) = (*message, *to);
+            rely!(let (_message, _to) = (*message, *to));
         }
         Event::Drop { member } => {
             rely!(let _member = *member);
