@@ -1,7 +1,7 @@
 -- Where what an operation changes is found.
 use Rattle.std.proofs.Common.{◌≡◌, ℕ, zero, suc, ◌+◌, ◌-◌, ◌<◌, ◌≤◌, true, false, List, [], ◌∷◌, ◌++◌, map, length, take, drop, Some, Ok, Err, slice_get, refl, sym, ap, ◌∙◌, subst, arith}
 use Rattle.std.specs.Prelude.{max, nat_lt, slice_index, zip, None}
-use Rattle.std.proofs.lemmas.List.{drop-drop, length-drop, length-map, length-take-le, take_all, take-append-drop, take-map, drop-map, drop-take}
+use Rattle.std.proofs.lemmas.List.{length-drop, length-map, length-take-le, take_all, take-append-drop, take-map, drop-map, drop-take}
 use Rattle.std.proofs.lemmas.Option.{slice_get_within}
 use Rattle.std.proofs.lemmas.Slice.Zip.{firsts-zip, seconds-zip}
 use Rattle.std.proofs.Math.ListN.{drop_of_length-le}
@@ -13,9 +13,11 @@ use Rattle.rls_ident.proofs.Tuples.{tuples}
 use Rattle.rls_runs.specs.Entries.{idents_in, chars_in, has_ident}
 use Rattle.rls_runs.specs.Places.{below_count}
 use Rattle.rls_runs.specs.Runs.{is_increasing, place_of, run_idents}
-use Rattle.rls_runs.proofs.Gaps.{at_less, at_same, below_take, less_drop, more_drop, read_err, read_ok, rising_drop}
+use Rattle.rls_rename.proofs.GapPlaces.{gap_there}
+use Rattle.rls_runs.proofs.Gaps.{at_less, at_same, below_take, less_drop, more_drop, rising_drop, rising_take}
+use Rattle.rls_runs.proofs.Searches.{found_at, missed_at}
 use Rattle.rls_runs.proofs.RunOrder.{AllLess, AllMore, Rising, less_trans, more_trans, rising_of}
-use Rattle.rls_runs.proofs.RunPlaces.{found_is, found_there, tells_append, tells_less, tells_more}
+use Rattle.rls_runs.proofs.RunPlaces.{tells_append, tells_less, tells_more}
 use Rattle.rls_ident.specs.declared.limits.TheConstants.{CHARACTERS}
 use Rattle.rls_ident.specs.declared.epoch_name.EpochName.{EpochName}
 use Rattle.rls_ident.specs.Vectors.{at_most}
@@ -27,6 +29,7 @@ use Rattle.rls_ops.specs.Shapes.{body_len, body_limit, shape_fault}
 use Rattle.rls_ops.proofs.Shaped.{shaped}
 use Rattle.rls_replica.specs.Names.{keeps}
 use Rattle.rls_runs.proofs.Finding.{run_length}
+use Rattle.rls_seen.proofs.EditedText.{take_drop_drop}
 use Rattle.rls_seen.specs.Over.{placed_over}
 use Rattle.rls_seen.specs.Sane.{MayApply}
 use Rattle.rls_seen.proofs.Fitting.{facts}
@@ -42,12 +45,7 @@ use Rattle.rls_changes.proofs.Cutting.{cut_count, cut_missing, cuts_delete, few_
 -- ---- by what a search tells
 
 pub found : (xs : List (List Tuple)) (y : List Tuple) (p : ℕ) → is_increasing xs ≡ true → place_of y xs ≡ Ok p → (slice_get xs p ≡ Some y) × (below_count xs y ≡ p)
-found xs y p r h =
-    let f = found_is xs y (rising_of xs r) ∙ h in
-    (found_there xs y p (rising_of xs r) f, (read_ok xs y p f).1)
-
-missed : (xs : List (List Tuple)) (y : List Tuple) (p : ℕ) → is_increasing xs ≡ true → place_of y xs ≡ Err p → (has_ident xs y ≡ false) × (below_count xs y ≡ p)
-missed xs y p r h = read_err xs y p (found_is xs y (rising_of xs r) ∙ h)
+found xs y p r h = (gap_there xs y p h, (found_at xs y p r h).1)
 
 -- ---- pieces of an insertion
 
@@ -109,27 +107,13 @@ same_part (suc n) i j xs ys l m f =
         let q : j + suc k ≡ j + 1 + k = omega arith in
         ap (slice_get xs) p ∙ (f (suc k) (omega arith) ∙ ap (slice_get ys) q)
 
--- the three parts of a text
-thirds : (n p : ℕ) (xs : List (List Tuple)) → take p xs ++ (take n (drop p xs) ++ drop (p + n) xs) ≡ xs
-thirds n p xs = ap (λ zs. take p xs ++ (take n (drop p xs) ++ zs)) (sym (drop-drop n p xs)) ∙ (ap (λ zs. take p xs ++ zs) (take-append-drop n (drop p xs)) ∙ take-append-drop p xs)
-
-rising_front : (n : ℕ) (xs : List (List Tuple)) → Rising xs → Rising (take n xs)
-rising_front zero xs r = tt
-rising_front (suc n) [] r = tt
-rising_front (suc n) (x ∷ xs) r = (more n xs r.0, rising_front n xs r.1)
-  where
-    more : (m : ℕ) (ys : List (List Tuple)) → AllMore x ys → AllMore x (take m ys)
-    more zero ys h = tt
-    more (suc m) [] h = tt
-    more (suc m) (y ∷ ys) h = (h.0, more m ys h.1)
-
 parts : (at n : ℕ) (ts : List (List Tuple)) → take at ts ++ take n (drop at ts) ≡ take (at + n) ts
 parts at n ts = sym (take-add at n ts)
 
 module _ (xs ts : List (List Tuple)) (r : Rising xs) (s : Rising ts) (at n place : ℕ) (some : 0 < n) (room : place + n ≤ length xs) (within : at + n ≤ length ts) (same : take n (drop at ts) ≡ take n (drop place xs))
     (few : length (cuts 0 (take at ts) xs) ≤ place) where
   whole : take place xs ++ (take n (drop at ts) ++ drop (place + n) xs) ≡ xs
-  whole = ap (λ zs. take place xs ++ (zs ++ drop (place + n) xs)) same ∙ thirds n place xs
+  whole = ap (λ zs. take place xs ++ (zs ++ drop (place + n) xs)) same ∙ take_drop_drop n place xs
 
   front : length (take place xs) ≡ place
   front = length-take-le place xs (omega (arith, room))
@@ -138,7 +122,7 @@ module _ (xs ts : List (List Tuple)) (r : Rising xs) (s : Rising ts) (at n place
   size = let l = length-drop at ts in length-take-le n (drop at ts) (omega (arith, l, within))
 
   own : Rising (take at ts ++ take n (drop at ts))
-  own = subst Rising (sym (parts at n ts)) (rising_front (at + n) ts s)
+  own = subst Rising (sym (parts at n ts)) (rising_take (at + n) ts s)
 
   all : Rising (take place xs ++ (take n (drop at ts) ++ drop (place + n) xs))
   all = subst Rising (sym whole) r
@@ -273,13 +257,13 @@ gap_within xs ids at place low end x z r s g e f b m =
 pub missing_at_end : (xs ts : List (List Tuple)) (at place total : ℕ) (x : List Tuple) → is_increasing xs ≡ true → is_increasing ts ≡ true → slice_get ts at ≡ Some x → place_of x xs ≡ Err place → length xs ≤ place → total ≡ length ts
     → AreMissing (take (total - at) (drop at ts)) xs
 missing_at_end xs ts at place total x r s g h l t =
-    let m = missed xs x place r h in
+    let m = missed_at xs x place r h in
     subst (λ n. AreMissing (take (n - at) (drop at ts)) xs) (sym t) (missing_rest xs ts at place x (rising_of xs r) (rising_of ts s) g m.0 m.1 l)
 
 pub missing_within : (xs ts : List (List Tuple)) (at place end : ℕ) (x z : List Tuple) → is_increasing xs ≡ true → is_increasing ts ≡ true → slice_get ts at ≡ Some x → place_of x xs ≡ Err place → slice_get xs place ≡ Some z → end ≡ below_count ts z
     → (at < end) × AreMissing (take (end - at) (drop at ts)) xs
 missing_within xs ts at place end x z r s g h f b =
-    let m = missed xs x place r h in (
+    let m = missed_at xs x place r h in (
       subst (λ n. at < n) (sym b) (missing_later xs ts at place x (rising_of xs r) (rising_of ts s) g m.0 m.1 z f),
       subst (λ n. AreMissing (take (n - at) (drop at ts)) xs) (sym b) (missing_gap xs ts at place x (rising_of xs r) (rising_of ts s) g m.0 m.1 z f),
     )

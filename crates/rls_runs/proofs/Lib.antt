@@ -9,6 +9,7 @@ pub mod RunEnds
 pub mod RunLists
 pub mod Sorted
 pub mod Gaps
+pub mod Searches
 pub mod Cuts
 pub mod PartPlaces
 mod Worked
