@@ -1,7 +1,7 @@
 -- The places of anchors.
 use Rattle.std.proofs.Common.{◌≡◌, ℕ, zero, suc, ◌+◌, ◌-◌, ◌≤◌, ◌<◌, Bool, true, false, List, [], ◌∷◌, ◌++◌, map, length, take, drop, refl, sym, ap, ◌∙◌, subst, arith, inl, inr, ⊎_elim}
 use Rattle.std.specs.Prelude.{not, pos, slice_get, Option, Some, None, nat_lt, if◌then◌else◌}
-use Rattle.std.proofs.lemmas.List.{take-append-drop, length-map, length-drop}
+use Rattle.std.proofs.lemmas.List.{take-append-drop, length-map, length-drop, length-take-le}
 use Rattle.rls_ident.specs.declared.tuple.Tuple.{Tuple}
 use Rattle.rls_ident.specs.declared.epoch_name.EpochName.{EpochName}
 use Rattle.rls_ident.specs.declared.epoch_name.EpochName.TheVariants.{Origin}
@@ -9,6 +9,7 @@ use Rattle.rls_ident.specs.Identifiers.{ident_eq, ident_lt, shifted}
 use Rattle.rls_ident.specs.Lists.{IsIn}
 use Rattle.rls_ident.proofs.Lists.{Lt, lt_irrefl, lt_trans}
 use Rattle.rls_ident.proofs.Members.{in_map, map_in, in_left, in_right, in_split, get_in, any_in, in_any, bool_cases, lt_is, not_lt_is, not_lt_test}
+use Rattle.rls_ident.proofs.Reads.{get_of}
 use Rattle.rls_ident.proofs.Ends.{eq_same}
 use Rattle.rls_ident.proofs.Tuples.{tuples}
 use Rattle.rls_rename.specs.Tree.{is_kept}
@@ -28,7 +29,7 @@ use Rattle.rls_model.specs.History.{History}
 use Rattle.rls_model.specs.Laws.{HaveSameOps}
 use Rattle.rls_model.specs.Legal.{IsLegal}
 use Rattle.rls_model.proofs.OneTree.{nodes, parents}
-use Rattle.rls_model.proofs.SameOps.{same_epochs, same_export, top_kept}
+use Rattle.rls_model.proofs.SameOps.{same_epochs, top_kept}
 use Rattle.rls_model.proofs.SameOps as same_ops
 use Rattle.rls_model.proofs.Spliced.{ids, entries, append_map}
 use Rattle.rls_seen.specs.Seen.{Seen, idents_over, greatest_over}
@@ -48,11 +49,6 @@ use Rattle.rls_anchor.specs.declared.anchor.Anchor.TheVariants.{Beginning, After
 use Rattle.rls_anchor.specs.Anchors.{count_before, count_upto, place, place_over, anchor_before_over, anchor_over, behind, in_front, settled_over}
 use Rattle.rls_anchor.specs.AnchorLaws.{IsAnchor, IsAnchored, MadeThere, SettledAlike, SettledThere, MovedThere, PlaceAlike, SamePlace, OwnInsertion, OwnInsertionBefore, OwnDeletion}
 use Rattle.rls_anchor.proofs.Counting.{IsClosed, below_closed, below_is, count_of, of_all, of_append, of_few, of_some, upto_append, upto_all, upto_closed, upto_few, upto_is, upto_none, upto_some}
-
-length_front : {A : Type 0} (n : ℕ) (xs : List A) → n ≤ length xs → length (take n xs) ≡ n
-length_front zero xs h = refl
-length_front (suc n) [] h = absurd (omega arith)
-length_front (suc n) (x ∷ xs) h = ap suc (length_front n xs (omega arith))
 
 -- one that is there counts
 upto_one : (xs : List (List Tuple)) (z : List Tuple) → IsIn z xs → 0 < count_upto xs z
@@ -89,11 +85,6 @@ upto_at (y ∷ ys) (suc k) x r h =
     let c = upto_at ys k x r.1 h in
     omega arith
 
-get_there : {A : Type 0} (xs : List A) (k : ℕ) → k < length xs → (x : A) × (slice_get xs k ≡ Some x)
-get_there [] k h = absurd (omega arith)
-get_there (x ∷ xs) zero h = (x, refl)
-get_there (x ∷ xs) (suc k) h = get_there xs k (omega arith)
-
 -- its epoch is kept
 pub made_kept : (s : Seen) (at : ℕ) → IsAnchored s (anchor_over s at)
 made_kept s zero = tt
@@ -117,7 +108,7 @@ made_at s zero sane h = refl
 made_at s (suc k) sane h =
     let xs = idents_over s in
     let l = length-map s.text (λ (y : Entry). y.0) in
-    let g = get_there xs k (omega arith) in
+    let g = get_of xs k (omega arith) in
     let i = ident_in xs sane.idents g.0 (get_in xs k g.0 g.1) in
     let same = translate_same s.epochs.nodes (greatest_over s) g.0 sane.epochs.nodes i in
     ap (λ o. place_over s (behind (greatest_over s) o)) g.1 ∙ (ap (count_upto xs) same ∙ upto_at xs k g.0 (rising_of xs sane.idents.1) g.1)
@@ -135,7 +126,7 @@ made_before s at sane h =
     inner : at < length (idents_over s) → place_over s (anchor_before_over s at) ≡ at
     inner l =
         let xs = idents_over s in
-        let g = get_there xs at l in
+        let g = get_of xs at l in
         let i = ident_in xs sane.idents g.0 (get_in xs at g.0 g.1) in
         let same = translate_same s.epochs.nodes (greatest_over s) g.0 sane.epochs.nodes i in
         ap (λ o. place_over s (in_front (greatest_over s) o (anchor_over s at))) g.1 ∙ (ap (below_count xs) same ∙ at_same xs at g.0 (rising_of xs sane.idents.1) g.1)
@@ -286,7 +277,7 @@ own_insertion s q cs e x sane i f live =
     let there = inserted_entries s q cs sane i f in
     let r : Rises (a ++ (m ++ b)) = subst Rises there (rises_of_increasing n.text (edited_sane s (edits.Insert q cs) sane i f).idents.1) in
     let back = take-append-drop q s.text in
-    let l : length a ≡ q = length_front q s.text (insert_place s q cs f) in
+    let l : length a ≡ q = length-take-le q s.text (insert_place s q cs f) in
     let k = inserted_upto a m b z q r l (subst (λ (es : List Entry). has_ident (ids es) z ≡ true) (sym back) live) in
     ap (count_upto (idents_over n)) (placed_insert s q cs e x)
     ∙ (ap (λ es. count_upto (ids es) z) there
@@ -337,9 +328,9 @@ deleted_of t closed es q m r l =
     let c = drop (q + m) es in
     let back = take_drop_drop m q es in
     let whole : Rises (a ++ (b ++ c)) = subst Rises (sym back) r in
-    let la : length a ≡ q = length_front q es (omega arith) in
+    let la : length a ≡ q = length-take-le q es (omega arith) in
     let ld : length (drop q es) ≡ length es - q = length-drop q es in
-    let lb : length b ≡ m = length_front m (drop q es) (omega arith) in
+    let lb : length b ≡ m = length-take-le m (drop q es) (omega arith) in
     let ca = count_of t (ids a) in
     let cb = count_of t (ids b) in
     let cc = count_of t (ids c) in

@@ -8,6 +8,7 @@ use Rattle.rls_ident.specs.declared.epoch_name.EpochName.{EpochName}
 use Rattle.rls_ident.specs.EpochNames.{name_eq}
 use Rattle.rls_ident.specs.Lists.{IsIn}
 use Rattle.rls_ident.proofs.Members.{not_true, or_left, or_right, or_split, some_is, get_in}
+use Rattle.rls_ident.proofs.Reads.{get_of}
 use Rattle.rls_ident.proofs.Named.{name_eq_is, name_eq_refl}
 use Rattle.rls_rename.specs.Tree.{name_of, has_node, is_kept}
 use Rattle.rls_epoch.specs.declared.placed.Placed.{Placed}
@@ -18,7 +19,7 @@ use Rattle.rls_epoch.specs.Sorted.{place_name, names_at, AreSorted, IsCut}
 use Rattle.rls_epoch.proofs.Ordering.{names_order}
 use Rattle.rls_epoch.proofs.Orders.{sorted_in, place_kept}
 use Rattle.rls_epoch.proofs.Reading.{name_read, up_read}
-use Rattle.rls_epoch.proofs.Sorting.{cut_found, get_of}
+use Rattle.rls_epoch.proofs.Sorting.{cut_found}
 
 -- a place that is read is one of these
 pub read_in : (places : List ℕ) (m : ℕ) → m < length places → IsIn (get_or places m 0) places

@@ -4,6 +4,7 @@ use Rattle.std.specs.Prelude.{slice_get, if◌then◌else◌}
 use Rattle.std.proofs.lemmas.List.{append-nil, append_assoc}
 use Rattle.std.proofs.lemmas.Option.{slice_get_within}
 use Rattle.rls_ident.specs.declared.epoch_name.EpochName.{EpochName}
+use Rattle.rls_ident.proofs.Reads.{get_of}
 use Rattle.rls_rename.specs.Tree.{name_of, is_of, is_kept, path}
 use Rattle.rls_rename.proofs.Growth.{path_other}
 use Rattle.rls_rename.proofs.SameNodes.{path_top}
@@ -16,7 +17,6 @@ use Rattle.rls_epoch.proofs.Laid.{nodes_last}
 use Rattle.rls_epoch.proofs.Meeting.{path_up}
 use Rattle.rls_epoch.proofs.Opened.{apart}
 use Rattle.rls_epoch.proofs.Reading.{up_read}
-use Rattle.rls_epoch.proofs.Sorting.{get_of}
 use Rattle.rls_epoch.proofs.Spreading.{number_kept}
 use Rattle.rls_epoch.proofs.Whole.{get_end, get_last, place_more}
 

@@ -8,6 +8,7 @@ use Rattle.rls_ident.specs.declared.epoch_name.EpochName.{EpochName}
 use Rattle.rls_ident.specs.EpochNames.{name_eq}
 use Rattle.rls_ident.specs.Lists.{IsIn}
 use Rattle.rls_ident.proofs.Members.{map_in, not_true}
+use Rattle.rls_ident.proofs.Reads.{get_of}
 use Rattle.rls_ident.proofs.Named.{name_eq_is, name_eq_refl}
 use Rattle.rls_rename.specs.Tree.{Node, name_of, is_of, has_node, AreNodes, AreBelow, epoch_cmp, names}
 use Rattle.rls_rename.proofs.SameNodes.{node_named}
@@ -20,7 +21,7 @@ use Rattle.rls_epoch.proofs.Left.{rising_is}
 use Rattle.rls_epoch.proofs.Meeting.{at_is}
 use Rattle.rls_epoch.proofs.Orders.{epochs_order}
 use Rattle.rls_epoch.proofs.Reading.{name_read, up_read}
-use Rattle.rls_epoch.proofs.Sorting.{all_in, cut_found, get_of}
+use Rattle.rls_epoch.proofs.Sorting.{all_in, cut_found}
 use Rattle.rls_epoch.proofs.Steps.{node_in}
 
 -- ---- nodes by their names

@@ -9,6 +9,7 @@ use Rattle.rls_ident.specs.declared.epoch_name.EpochName.{EpochName}
 use Rattle.rls_ident.specs.declared.epoch_name.EpochName.TheVariants.{Origin, Of}
 use Rattle.rls_ident.specs.EpochNames.{is_within, is_of_member, name_eq}
 use Rattle.rls_ident.proofs.Members.{le_is, le_test, or_right, or_split}
+use Rattle.rls_ident.proofs.Reads.{get_of}
 use Rattle.rls_ident.proofs.Named.{name_eq_is}
 use Rattle.rls_rename.specs.Tree.{epoch_cmp, greatest_within, has_node, is_kept}
 use Rattle.rls_rename.proofs.Order.{within_is, IsAllowed}
@@ -24,7 +25,6 @@ use Rattle.rls_epoch.proofs.UpTo.{at_place, greater_either, greater_first, great
 use Rattle.rls_epoch.proofs.Ordering.{names_order}
 use Rattle.rls_epoch.proofs.Orders.{kept_place, place_kept}
 use Rattle.rls_epoch.proofs.Reading.{name_read}
-use Rattle.rls_epoch.proofs.Sorting.{get_of}
 use Rattle.rls_epoch.proofs.Spreading.{number_kept}
 
 -- ---- epochs within a vector

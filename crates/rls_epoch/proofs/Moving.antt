@@ -10,6 +10,7 @@ use Rattle.rls_ident.specs.declared.epoch_name.EpochName.{EpochName}
 use Rattle.rls_ident.specs.Identifiers.{is_ident, IsIdent, ident_cmp, ident_lt}
 use Rattle.rls_ident.proofs.Iso.{inverse, kept}
 use Rattle.rls_ident.proofs.Members.{and_left, and_right, and_true, lt_test}
+use Rattle.rls_ident.proofs.Reads.{get_of}
 use Rattle.rls_rename.specs.Renaming.{IsFormer, Renaming, back, forward}
 use Rattle.rls_rename.specs.Tree.{AreNodes, translate}
 use Rattle.rls_rename.proofs.Paths.{renaming_iso}
@@ -26,7 +27,6 @@ use Rattle.rls_epoch.specs.declared.ways.Step.TheVariants.{Back, Forward}
 use Rattle.rls_epoch.specs.Seen.{node_of, nodes_of}
 use Rattle.rls_epoch.specs.Ways.{IsWay, place_of_step, step_map, led}
 use Rattle.rls_epoch.proofs.Steps.{node_in, back_step, forward_step}
-use Rattle.rls_epoch.proofs.Sorting.{get_of}
 
 -- ---- the order of lists
 

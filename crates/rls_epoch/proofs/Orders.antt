@@ -7,6 +7,7 @@ use Rattle.rls_ident.specs.declared.epoch_name.EpochName.{EpochName}
 use Rattle.rls_ident.specs.EpochNames.{name_eq, is_within}
 use Rattle.rls_ident.specs.Lists.{IsIn}
 use Rattle.rls_ident.proofs.Members.{in_map, in_right, in_split, map_in, or_left, or_right, or_split}
+use Rattle.rls_ident.proofs.Reads.{get_of}
 use Rattle.rls_ident.proofs.Named.{name_eq_is, name_eq_refl}
 use Rattle.std.proofs.lemmas.Option.{slice_get_within}
 use Rattle.rls_rename.specs.Tree.{Node, name_of, has_node, is_kept, path, epoch_cmp, greatest, greatest_within}
@@ -18,7 +19,7 @@ use Rattle.rls_epoch.specs.declared.placed.Placed.{Placed}
 use Rattle.rls_epoch.specs.Seen.{node_of, nodes_of, AreLaid}
 use Rattle.rls_epoch.specs.Sorted.{place_name, names_at, AreRising, AreSorted}
 use Rattle.rls_epoch.proofs.Reading.{name_read}
-use Rattle.rls_epoch.proofs.Sorting.{Cmp, IsOrder, all_in, get_of, rising_across}
+use Rattle.rls_epoch.proofs.Sorting.{Cmp, IsOrder, all_in, rising_across}
 use Rattle.rls_epoch.proofs.Steps.{node_in}
 
 pub epochs_order : (ns : List Node) → IsOrder (epoch_cmp ns)

@@ -8,6 +8,7 @@ use Rattle.std.proofs.lemmas.Nat.{mul-le}
 use Rattle.rls_ident.specs.declared.tuple.Tuple.{Tuple}
 use Rattle.rls_ident.specs.Identifiers.{is_ident, IsIdent, ident_lt}
 use Rattle.rls_ident.proofs.Members.{and_left, and_right, and_true}
+use Rattle.rls_ident.proofs.Reads.{get_of}
 use Rattle.rls_rename.specs.Tree.{AreNodes}
 use Rattle.rls_rename.proofs.Former.{former_in}
 use Rattle.rls_rename.proofs.Paths.{renaming_iso}
@@ -23,7 +24,6 @@ use Rattle.rls_epoch.specs.Parts.{ends, work, AreUnderWay}
 use Rattle.rls_epoch.specs.Seen.{node_of, nodes_of}
 use Rattle.rls_epoch.specs.Ways.{AreWithin, place_of_step, step_map, led}
 use Rattle.rls_epoch.proofs.Moving.{KeepsOrder, increasing_front, increasing_map, map_none, step_order}
-use Rattle.rls_epoch.proofs.Sorting.{get_of}
 use Rattle.rls_epoch.proofs.Steps.{back_step, forward_step, node_in}
 use Rattle.rls_epoch.proofs.Turning.{drop_twice}
 

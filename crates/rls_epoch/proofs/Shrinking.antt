@@ -11,6 +11,7 @@ use Rattle.rls_ident.specs.declared.epoch_name.EpochName.{EpochName}
 use Rattle.rls_ident.specs.EpochNames.{name_eq}
 use Rattle.rls_ident.specs.Lists.{IsIn}
 use Rattle.rls_ident.proofs.Members.{and_true, in_map, lt_is, lt_test, map_in, or_right, same_bool, some_is}
+use Rattle.rls_ident.proofs.Reads.{get_of}
 use Rattle.rls_rename.specs.Tree.{Node, name_of, has_node, is_kept, path, epoch_cmp, greatest}
 use Rattle.rls_rename.specs.Connected.{begins_with, top_path, is_spanned}
 use Rattle.rls_rename.specs.Keeping.{end_of, is_below, kept_nodes, kept_part, part, reached}
@@ -29,7 +30,7 @@ use Rattle.rls_epoch.proofs.Meeting.{at_is}
 use Rattle.rls_epoch.proofs.Numbers.{in_places, kept_filter, kept_former, kept_place_at, kept_place_from, number_less, number_mark, number_one, places_in}
 use Rattle.rls_epoch.proofs.Orders.{in_sorted}
 use Rattle.rls_epoch.proofs.Reading.{name_read}
-use Rattle.rls_epoch.proofs.Sorting.{Cmp, all_in, before_all, before_at, get_of, rising_same}
+use Rattle.rls_epoch.proofs.Sorting.{Cmp, all_in, before_all, before_at, rising_same}
 use Rattle.rls_epoch.proofs.Spreading.{front_order, number_kept, number_same}
 use Rattle.rls_epoch.proofs.Steps.{node_in}
 

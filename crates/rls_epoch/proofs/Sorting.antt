@@ -13,6 +13,7 @@ use Rattle.std.proofs.Math.Logic.{∥∥₁_elim}
 use Rattle.rls_ident.specs.declared.epoch_name.EpochName.{EpochName}
 use Rattle.rls_ident.specs.Lists.{IsIn}
 use Rattle.rls_ident.proofs.Members.{in_left, in_right, in_split, some_is}
+use Rattle.rls_ident.proofs.Reads.{get_of}
 use Rattle.rls_epoch.specs.declared.placed.Placed.{Placed}
 use Rattle.rls_epoch.specs.Sorted.{place_name, names_at, IsBefore, AreRising, AreSorted, IsCut}
 
@@ -94,11 +95,6 @@ pub take_get : {A : Type 0} (xs : List A) (k : ℕ) (x : A) → slice_get xs k �
 take_get [] k x h = absurd (cc)
 take_get {A} (y ∷ xs) zero x h = ap (λ z. z ∷ []) (some_is y x h)
 take_get (y ∷ xs) (suc k) x h = ap (λ zs. y ∷ zs) (take_get xs k x h)
-
-pub get_of : {A : Type 0} (xs : List A) (k : ℕ) → k < length xs → (x : A) × (slice_get xs k ≡ Some x)
-get_of [] k h = absurd (omega arith)
-get_of (x ∷ xs) zero h = (x, refl)
-get_of (x ∷ xs) (suc k) h = get_of xs k (omega arith)
 
 module _ (cmp : Cmp) (o : IsOrder cmp) (es : List EpochName) (r : AreRising cmp es) (e : EpochName) (i : ℕ) (c : IsCut cmp es e i) where
   pub cut_below : (f : EpochName) → IsIn f (take i es) → cmp f e ≡ Less

@@ -5,6 +5,7 @@ use Rattle.std.proofs.Math.ListN.{length-set}
 use Rattle.rls_ident.specs.declared.epoch_name.EpochName.{EpochName}
 use Rattle.rls_ident.specs.EpochNames.{name_eq}
 use Rattle.rls_ident.proofs.Members.{or_left, or_right, same_bool}
+use Rattle.rls_ident.proofs.Reads.{get_of}
 use Rattle.rls_ident.proofs.Named.{name_eq_refl}
 use Rattle.rls_rename.specs.Renaming.{Renaming}
 use Rattle.rls_rename.specs.Tree.{Node, has_node, is_kept, path, name_of}
@@ -22,7 +23,6 @@ use Rattle.rls_epoch.proofs.Found.{up_earlier}
 use Rattle.rls_epoch.proofs.Meeting.{at_is, places_apart}
 use Rattle.rls_epoch.proofs.Orders.{place_kept}
 use Rattle.rls_epoch.proofs.Reading.{name_read, up_read}
-use Rattle.rls_epoch.proofs.Sorting.{get_of}
 use Rattle.rls_epoch.proofs.Steps.{node_in}
 
 -- ---- the state on the way up

@@ -2,6 +2,7 @@
 use Rattle.std.proofs.Common.{◌≡◌, ◌∙◌, ◌<◌, ℕ, List, length, None, sym, ap, subst}
 use Rattle.std.specs.Prelude.{slice_get}
 use Rattle.rls_ident.specs.Lists.{IsIn}
+use Rattle.rls_ident.proofs.Reads.{get_of}
 use Rattle.rls_ops.specs.declared.op.Op.{Op}
 use Rattle.rls_model.specs.declared.edit.Edit.{Edit}
 use Rattle.rls_model.specs.Editing.{edit_fault, made}
@@ -14,7 +15,6 @@ use Rattle.rls_model.proofs.HistoryNumbers.{front_me, front_ops, op_front}
 use Rattle.rls_model.proofs.OneOrder as order
 use Rattle.rls_model.proofs.WorldsGathered.{one_history}
 use Rattle.rls_model.proofs.WorldsInvariant.{IsGood, made_front}
-use Rattle.rls_world.proofs.Stepping.{place_of}
 use Rattle.rls_top.proofs.Groups.{moment}
 use Rattle.rls_groups.specs.Events.{Event}
 use Rattle.rls_groups.specs.Groups.{InOneOrder, IsHeld, WasHeld}
@@ -74,4 +74,4 @@ module _ (g n : ℕ) (l : Life) (w : World) (x : Lives g n l w) where
         }
 
   pub ordered : (es : List Event) → 0 < length w.states → AtEach g n (begun g n) es w → InOneOrder g n es l
-  ordered es some each = let s = place_of w.states 0 some in let all = one_history w 0 s.0 good s.1 in in_order all.0 all.1 es each
+  ordered es some each = let s = get_of w.states 0 some in let all = one_history w 0 s.0 good s.1 in in_order all.0 all.1 es each

@@ -3,11 +3,11 @@ use Rattle.std.proofs.Common.{◌≡◌, ◌∙◌, ◌<◌, ◌≢◌, ◌++◌
 use Rattle.std.specs.Prelude.{IfOk, IsFalse, map, slice_get}
 use Rattle.rls_ident.specs.Lists.{IsIn}
 use Rattle.rls_ident.proofs.Members.{in_right, some_is}
+use Rattle.rls_ident.proofs.Reads.{get_of}
 use Rattle.rls_io.specs.Device.{Appends}
 use Rattle.rls_journal.specs.Areas.{Areas, kept}
 use Rattle.rls_journal.specs.Disk.{LeavesOnly}
 use Rattle.rls_model.proofs.OnePlace.{get_set_same}
-use Rattle.rls_world.proofs.Stepping.{place_of}
 use Rattle.rls_seen.specs.Seen.{Seen}
 use Rattle.rls_report.specs.declared.failures.CommandError.{CommandError}
 use Rattle.rls_stages.specs.KeptFile.{bytes_over, loaded, replica_in}
@@ -39,7 +39,7 @@ use Rattle.rls_groups.specs.Runs.{CommandsLeave, IsLeft, SessionsLeave, StopsLea
 -- ---- the file of a member
 
 pub set_there : (g : Group) (i : ℕ) (bytes : Seen) → i < length g.files → slice_get (files_with g.files i (Some bytes)) i ≡ Some (bytes_over bytes)
-set_there g i s l = let p = place_of g.files i l in get_set_same g.files i p.0 (bytes_over s) p.1
+set_there g i s l = let p = get_of g.files i l in get_set_same g.files i p.0 (bytes_over s) p.1
 
 -- what is kept, by what is called for
 kept_after : (g : Group) (i : ℕ) (now : Option (List ℕ)) (d : Due) → i < length g.files → IsKept d (Some (file_at g i)) (Some now) → now ≡ slice_get (files_with g.files i (stored_of (Some d))) i

@@ -10,6 +10,7 @@ pub mod Down
 pub mod Loops
 pub mod BetweenLaws
 pub mod Members
+pub mod Reads
 pub mod Agreeing
 pub mod Vectors
 pub mod Named

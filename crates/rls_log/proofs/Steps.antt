@@ -1,5 +1,5 @@
 -- Going over a log, operation by operation.
-use Rattle.std.proofs.Common.{◌≡◌, ◌∙◌, ℕ, zero, suc, ◌+◌, ◌<◌, ◌≤◌, Bool, true, false, not, List, [], ◌∷◌, ◌++◌, length, take, drop, Some, refl, sym, ap, append_assoc, arith, sum_by}
+use Rattle.std.proofs.Common.{◌≡◌, ◌∙◌, ℕ, zero, suc, ◌+◌, ◌<◌, ◌≤◌, Bool, true, false, not, List, [], ◌∷◌, ◌++◌, length, take, drop, Some, sym, ap, append_assoc, arith, sum_by}
 use Rattle.std.specs.Prelude.{slice_get, if◌then◌else◌}
 use Rattle.std.specs.List.{flat_map}
 use Rattle.std.proofs.lemmas.List.{append-nil, drop_all, length-take}
@@ -21,11 +21,6 @@ get_take [] n i x l h = absurd cc
 get_take (y ∷ ys) zero i x l h = absurd (omega (arith, l))
 get_take (y ∷ ys) (suc n) zero x l h = h
 get_take (y ∷ ys) (suc n) (suc i) x l h = get_take ys n i x (omega (arith, l)) h
-
-pub read : {A : Type 0} (xs : List A) (i : ℕ) → i < length xs → (x : A) × (slice_get xs i ≡ Some x)
-read [] i l = absurd (omega (arith, l))
-read (y ∷ ys) zero l = (y, refl)
-read (y ∷ ys) (suc i) l = read ys i (omega (arith, l))
 
 pub take_reads : {A : Type 0} (xs : List A) (i : ℕ) (x : A) → slice_get xs i ≡ Some x → take (i + 1) xs ≡ take i xs ++ x ∷ []
 take_reads [] i x h = absurd cc

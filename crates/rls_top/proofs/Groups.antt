@@ -6,6 +6,7 @@ use Rattle.std.proofs.lemmas.Option.{slice_get-map}
 use Rattle.rls_ident.specs.declared.limits.TheConstants.{INPUT_BYTES, MEMBERS, FILE_BYTES}
 use Rattle.rls_ident.specs.Lists.{IsIn}
 use Rattle.rls_ident.proofs.Members.{bool_cases, eq_is, eq_not, in_left, in_right, in_split, not_lt_test, some_is}
+use Rattle.rls_ident.proofs.Reads.{get_of}
 use Rattle.rls_ops.specs.declared.message.Message.{Message}
 use Rattle.rls_ops.specs.declared.op.Op.{Op}
 use Rattle.rls_codec.specs.CodecLaws.{IsMessage}
@@ -33,7 +34,6 @@ use Rattle.rls_seen.proofs.Starting.{fresh_stands}
 use Rattle.rls_seen.proofs.Staying.{fresh_sane}
 use Rattle.rls_world.specs.Seen.{fresh_replicas}
 use Rattle.rls_world.proofs.Beginning.{fresh_length as replicas_length}
-use Rattle.rls_world.proofs.Stepping.{place_of}
 use Rattle.rls_store.proofs.HistoryRuns.{fresh_storable}
 use Rattle.rls_store.proofs.Storable.{fresh_writable}
 use Rattle.rls_report.specs.Listing.{ids_of, ids_text}
@@ -99,7 +99,7 @@ module _ (g n : ℕ) (G : Group) (w : World) (x : Matches g n G w) where
 
   pub there : (i : ℕ) → i < length G.files → IsThere i
   there i l =
-      let r = place_of w.states i (omega (arith, l, x.count)) in
+      let r = get_of w.states i (omega (arith, l, x.count)) in
       let f = x.file i r.0 r.1 in
       record { state = r.0; at = r.1; bytes = f.0; file = f.1; kept = f.2 }
 
@@ -319,7 +319,7 @@ moment g n G u v M i x later all l =
 
 ordered : (g n : ℕ) (cs : List MemberCommand) (v : World) → 0 < length v.states → Stands g n v → AtEach g n (fresh_group g n) cs v → InOneOrder g n cs
 ordered g n cs v some a each =
-    let s = place_of v.states 0 some in
+    let s = get_of v.states 0 some in
     let all = one_history v 0 s.0 a.good s.1 in
     let M = all.0 in
     (M, (all.1).0, (order.law M (all.1).0).0, λ before after i e l. let r = each before after e in let m = moment g n (after_commands (fresh_group g n) before) r.0 v M i r.1 r.2 all.1 l in (m.0, m.2, m.3))

@@ -1,7 +1,7 @@
 -- An edit that is undone at once.
 use Rattle.std.proofs.Common.{◌≡◌, ℕ, zero, suc, ◌+◌, ◌≤◌, List, [], ◌∷◌, ◌++◌, map, length, take, drop, refl, sym, ap, ◌∙◌, subst, arith, inl}
 use Rattle.std.specs.Prelude.{None, pos, zip}
-use Rattle.std.proofs.lemmas.List.{take-append-drop, length-map}
+use Rattle.std.proofs.lemmas.List.{take-append-drop, length-map, length-take-le}
 use Rattle.rls_ident.specs.declared.tuple.Tuple.{Tuple}
 use Rattle.rls_ident.specs.declared.epoch_name.EpochName.{EpochName}
 use Rattle.rls_ident.specs.Identifiers.{shifted}
@@ -101,11 +101,6 @@ drop_front zero xs ys h = refl
 drop_front (suc n) [] ys h = absurd (omega arith)
 drop_front (suc n) (x ∷ xs) ys h = drop_front n xs ys (omega arith)
 
-length_front : {A : Type 0} (n : ℕ) (xs : List A) → n ≤ length xs → length (take n xs) ≡ n
-length_front zero xs h = refl
-length_front (suc n) [] h = absurd (omega arith)
-length_front (suc n) (x ∷ xs) h = ap suc (length_front n xs (omega arith))
-
 -- the place of the first identifier that went
 place_gone : (es : List Entry) (at m : ℕ) (x : List Tuple) (xs : List (List Tuple)) → Rises es → at ≤ length es → take m (drop at (ids es)) ≡ x ∷ xs → below_count (ids (take at es ++ drop (at + m) es)) x ≡ at
 place_gone es at m x xs r l h =
@@ -125,7 +120,7 @@ place_gone es at m x xs r l h =
     (λ y q. let v = in_map (λ (z : Entry). z.0) y c q in
     let k : IsBelow e0 v.0 = cross b c (rises_right a (b ++ c) whole) e0 v.0 w.1 v.1 in
     subst (λ z. Lt tuples x z) v.2 (subst (λ z. Lt tuples z v.0.0) w.2 k))
-    ∙ (length-map a (λ (y : Entry). y.0) ∙ length_front at es l))
+    ∙ (length-map a (λ (y : Entry). y.0) ∙ length-take-le at es l))
 
 chars_there : (p : ℕ) (y : List Tuple) (cs : List ℕ) (es : List Entry) →
     map (λ (z : Entry). z.1) (take p es ++ (zip (run_idents y (length cs)) cs ++ drop p es)) ≡ take p (map (λ (z : Entry). z.1) es) ++ (cs ++ drop p (map (λ (z : Entry). z.1) es))

@@ -3,6 +3,7 @@ use Rattle.std.proofs.Common.{◌≡◌, ℕ, ◌<◌, ◌≤◌, ◌==◌, true
 use Rattle.std.specs.Prelude.{nat_le, slice_get}
 use Rattle.std.proofs.lemmas.List.{length-map}
 use Rattle.std.proofs.lemmas.Bool.Decides.{nat_tests}
+use Rattle.rls_ident.proofs.Members.{le_test, not_le_test}
 use Rattle.rls_model.specs.declared.edit.Edit.TheVariants.{Rename}
 use Rattle.rls_model.specs.declared.event.Event.{Event}
 use Rattle.rls_model.specs.declared.event.Event.TheVariants as events
@@ -20,12 +21,6 @@ use Rattle.rls_world.specs.Trial.{Course, step, step_of, after_events, total_of,
 pub total_alike : (s : Seen) (w : World) (i : ℕ) (t : State) (n : ℕ) → IsAt w i t → StandsFor s t → n ≡ length s.text → n ≡ total_of (slice_get w.states i)
 total_alike s w i t n a h e = e ∙ (sym (length-map s.text _) ∙ (ap length (idents_alike s t h) ∙ ap total_of (sym a)))
 
-le_is : (k n : ℕ) → k ≤ n → nat_le k n ≡ true
-le_is k n h = grind (arith, nat_tests)
-
-gt_is : (k n : ℕ) → n < k → nat_le k n ≡ false
-gt_is k n h = grind (arith, nat_tests)
-
 abbrev renames : ℕ → ℕ → List Event
 renames r total = if total == 0 then [] else events.Edit r Rename ∷ []
 
@@ -42,16 +37,16 @@ abbrev above_8 : World → ℕ → ℕ → ℕ → ℕ → List Event
 above_8 w r total kind x = if nat_le kind 11 then deletes r total x else above_11 w r total kind x
 
 pub inserts : (w : World) (r total kind x : ℕ) → kind ≤ 8 → kind_events w r total kind x ≡ events.Edit r (drawn_insertion total x) ∷ []
-inserts w r total kind x l = ap (λ b. if b then events.Edit r (drawn_insertion total x) ∷ [] else above_8 w r total kind x) (le_is kind 8 l)
+inserts w r total kind x l = ap (λ b. if b then events.Edit r (drawn_insertion total x) ∷ [] else above_8 w r total kind x) (le_test kind 8 l)
 
 not_8 : (w : World) (r total kind x : ℕ) → 8 < kind → kind_events w r total kind x ≡ above_8 w r total kind x
-not_8 w r total kind x l = ap (λ b. if b then events.Edit r (drawn_insertion total x) ∷ [] else above_8 w r total kind x) (gt_is kind 8 l)
+not_8 w r total kind x l = ap (λ b. if b then events.Edit r (drawn_insertion total x) ∷ [] else above_8 w r total kind x) (not_le_test kind 8 l)
 
 of_deletion : (w : World) (r total kind x : ℕ) → 8 < kind → kind ≤ 11 → kind_events w r total kind x ≡ deletes r total x
-of_deletion w r total kind x l m = not_8 w r total kind x l ∙ ap (λ b. if b then deletes r total x else above_11 w r total kind x) (le_is kind 11 m)
+of_deletion w r total kind x l m = not_8 w r total kind x l ∙ ap (λ b. if b then deletes r total x else above_11 w r total kind x) (le_test kind 11 m)
 
 not_11 : (w : World) (r total kind x : ℕ) → 11 < kind → kind_events w r total kind x ≡ above_11 w r total kind x
-not_11 w r total kind x l = not_8 w r total kind x (omega arith) ∙ ap (λ b. if b then deletes r total x else above_11 w r total kind x) (gt_is kind 11 l)
+not_11 w r total kind x l = not_8 w r total kind x (omega arith) ∙ ap (λ b. if b then deletes r total x else above_11 w r total kind x) (not_le_test kind 11 l)
 
 zero_is : (n : ℕ) → n ≡ 0 → (n == 0) ≡ true
 zero_is n h = grind (arith, nat_tests)
@@ -87,8 +82,8 @@ draws_above_8 total kind x = if nat_le kind 11 then (if total == 0 then x else a
 
 draws_11 : (total kind x : ℕ) → 8 < kind → kind ≤ 11 → kind_draws total kind x ≡ (if total == 0 then x else after_draws 2 x)
 draws_11 total kind x l m =
-    ap (λ b. if b then after_insertion x else draws_above_8 total kind x) (gt_is kind 8 l)
-    ∙ ap (λ b. if b then (if total == 0 then x else after_draws 2 x) else if kind == 12 then x else next_draw x) (le_is kind 11 m)
+    ap (λ b. if b then after_insertion x else draws_above_8 total kind x) (not_le_test kind 8 l)
+    ∙ ap (λ b. if b then (if total == 0 then x else after_draws 2 x) else if kind == 12 then x else next_draw x) (le_test kind 11 m)
 
 pub none_drawn : (total kind x : ℕ) → 8 < kind → kind ≤ 11 → total ≡ 0 → kind_draws total kind x ≡ x
 none_drawn total kind x l m z = draws_11 total kind x l m ∙ ap (λ b. if b then x else after_draws 2 x) (zero_is total z)

@@ -1,5 +1,5 @@
 -- Steps of a world, from what became of one replica.
-use Rattle.std.proofs.Common.{◌≡◌, ◌∙◌, ℕ, zero, suc, ◌+◌, ◌<◌, ◌++◌, List, [], ◌∷◌, length, refl, sym, ap, subst, inl, inr, ⊎_elim, arith, Some, None, Result, Ok, Err, if◌then◌else◌}
+use Rattle.std.proofs.Common.{◌≡◌, ◌∙◌, ℕ, ◌+◌, ◌<◌, ◌++◌, List, [], ◌∷◌, length, refl, sym, ap, subst, inl, inr, ⊎_elim, arith, Some, None, Result, Ok, Err, if◌then◌else◌}
 use Rattle.std.specs.Prelude.{All, ◌^◌, slice_get, slice_set}
 use Rattle.rls_ident.proofs.Members.{in_split, lt_test}
 use Rattle.rls_ops.specs.declared.message.Message.{Message}
@@ -22,13 +22,6 @@ use Rattle.rls_seen.specs.Over.{released_all, released_times}
 use Rattle.rls_world.specs.Events.{member_fault, message_fault, edit_fault_at, fault_over, with_replica, edited_at, sent_at, delivered_at, dropped_at, happened, edit_outcome, deliver_outcome, outcome_over, IsPartEdited, HasPart, PartTaken, IsStep, IsEdited, IsDelivered, IsPut}
 use Rattle.rls_world.specs.Seen.{WorldSeen, IsOfGroup, AreOfGroup, IsSent, IsOneGroup}
 use Rattle.rls_world.proofs.Groups.{IsAlike, alike_same, alike_on, accepted_alike, times_alike, all_alike, taken_alike, part_alike, group_at, group_set, of_group}
-
--- ---- places
-
-pub place_of : {A : Type 0} (xs : List A) (i : ℕ) → i < length xs → (x : A) × (slice_get xs i ≡ Some x)
-place_of [] i l = absurd (omega arith)
-place_of (x ∷ xs) zero l = (x, refl)
-place_of (x ∷ xs) (suc i) l = place_of xs i (omega arith)
 
 -- ---- one group
 

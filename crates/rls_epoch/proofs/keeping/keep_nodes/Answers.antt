@@ -5,11 +5,11 @@ use Rattle.std.proofs.lemmas.Grind.{drop_more_same}
 use Rattle.std.proofs.lemmas.List.Edits.{length-swap}
 use Rattle.std.proofs.lemmas.Option.{slice_get_read}
 use Rattle.rls_ident.proofs.Members.{lt_is, some_is}
+use Rattle.rls_ident.proofs.Reads.{get_of}
 use Rattle.rls_epoch.specs.declared.placed.Placed.{Placed}
 use Rattle.rls_epoch.specs.Marks.{kept_placed, moved}
 use Rattle.rls_epoch.proofs.Compacting.{dropped_get, kept_placed_more, kept_placed_none, read_rest, swap_front, swap_rest}
 use Rattle.rls_epoch.proofs.keeping.keep_nodes.Goals as goal
-use Rattle.rls_epoch.proofs.Sorting.{get_of}
 
 pub loop-i-init : goal.loop-i-init
 loop-i-init c = record { fewer = omega arith; same = refl; front = sym (kept_placed_none c.args.marks.now (drop 1 c.args.marks.now)); rest = refl }

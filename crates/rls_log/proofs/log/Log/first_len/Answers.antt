@@ -1,8 +1,9 @@
 use Rattle.std.proofs.Common.{◌+◌, drop, take, sum_by, ap, arith}
 use Rattle.std.proofs.lemmas.List.{drop_all, length-take}
 use Rattle.rls_ident.proofs.Loops.{drop_reads}
+use Rattle.rls_ident.proofs.Reads.{get_of}
 use Rattle.rls_ops.specs.Sizes.{op_size}
-use Rattle.rls_log.proofs.Steps.{get_take, read, size_next, part_size}
+use Rattle.rls_log.proofs.Steps.{get_take, size_next, part_size}
 use Rattle.rls_log.proofs.log.Log.first_len.Goals as goal
 
 pub loop-i-init : goal.loop-i-init
@@ -12,7 +13,7 @@ pub loop-i-preserved : goal.loop-i-preserved
 loop-i-preserved c =
     let os = take c.args.n c.args.self.now in
     let i = c.loop-i.i in
-    let h = read c.args.self.now i (omega (arith, c.loop-i-test.true, c.len-i-end.ensures.len)) in
+    let h = get_of c.args.self.now i (omega (arith, c.loop-i-test.true, c.len-i-end.ensures.len)) in
     let next = drop_reads os i h.0 (get_take c.args.self.now c.args.n i h.0 c.if-i-n.false h.1) in
     let size = part_size h.0 c.part.result.now (c.part.ensures.part h.0 h.1) in
     record { size = omega (arith, size_next h.0 (drop (i + 1) os) (drop i os) next, size, c.saturating_add-total.ensures, c.loop-i.invariant.size); fits = omega (arith, c.saturating_add-total.ensures) }

@@ -1,9 +1,9 @@
 use Rattle.std.proofs.Common.{◌∙◌, ◌<◌, length, take, Option, List, ap, subst, arith}
 use Rattle.rls_ident.specs.declared.tuple.Tuple.{Tuple}
 use Rattle.rls_ident.proofs.Members.{get_in}
+use Rattle.rls_ident.proofs.Reads.{get_of}
 use Rattle.rls_seen.specs.Seen.{Seen}
 use Rattle.rls_replica.specs.Gone.{AllNoted, AreNamed}
-use Rattle.rls_log.proofs.Steps.{read}
 use Rattle.rls_replica.proofs.Noting.{found_at, nothing_at, no_names, with_names, without_names}
 use Rattle.rls_replica.proofs.replica.Replica.with_logged.Goals as goal
 
@@ -16,7 +16,7 @@ loop-i-preserved-in_default c =
     let s = c.args.self.now in
     let i = c.loop-i.i in
     let lt : i < length s.log = omega (arith, c.loop-i-test.true, c.len-i-end.ensures.len, ap (λ (u : Seen). length u.log) c.self.view_is) in
-    let o = read s.log i lt in
+    let o = get_of s.log i lt in
     without_names s c.args.gone.epoch c.loop-i.lists.items i o.0 o.1 c.loop-i.invariant (no_names s c.args.gone.epoch o.0 (nothing_at s i c.in_ok-op.field-0 c.in_default.is c.in_ok-op.ensures.none o.0 o.1))
 
 pub loop-i-preserved-in_default-2 : goal.loop-i-preserved-in_default-2

@@ -1,11 +1,12 @@
 use Rattle.std.proofs.Common.{◌≡◌, ◌∙◌, ◌<◌, Some, length, sym, subst}
 use Rattle.std.specs.Prelude.{slice_get}
 use Rattle.rls_ident.proofs.Members.{lt_is}
+use Rattle.rls_ident.proofs.Reads.{get_of}
 use Rattle.rls_model.specs.declared.event.Event.TheVariants as events
 use Rattle.rls_seen.specs.Messages.{message_over}
 use Rattle.rls_world.specs.Events.{IsStep}
 use Rattle.rls_world.specs.Seen.{WorldSeen, IsOneGroup, IsSent}
-use Rattle.rls_world.proofs.Stepping.{place_of, put_step, put_one_group}
+use Rattle.rls_world.proofs.Stepping.{put_step, put_one_group}
 use Rattle.rls_world.proofs.world.World.send.Goals as goal
 
 pub returns : goal.returns
@@ -16,7 +17,7 @@ returns c =
     let m = c.in-Ok.message in
     let from_below : from < length s.replicas = subst (λ (w : WorldSeen). from < length w.replicas) (sym c.self.view_is) (lt_is from (length c.args.self.now.replicas) (sym c.has_member.ensures.below ∙ c.if-not-has_member.false)) in
     let to_below : to < length s.replicas = subst (λ (w : WorldSeen). to < length w.replicas) (sym c.self.view_is) (lt_is to (length c.args.self.now.replicas) (sym c.has_member-2.ensures.below ∙ c.if-not-has_member-2.false)) in
-    let at = place_of s.replicas from from_below in
+    let at = get_of s.replicas from from_below in
     let message : m ≡ message_over at.0 to = c.in-Ok.ensures.message at.0 (subst (λ (w : WorldSeen). slice_get w.replicas from ≡ Some at.0) c.self.view_is at.1) in
     record {
       step = subst (λ (w : WorldSeen). IsStep w (events.Send from to) c.put_message.result (record { replicas = s.replicas; sent = c.put_message.new.sent.items })) c.self.view_is
