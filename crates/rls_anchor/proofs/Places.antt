@@ -33,14 +33,14 @@ use Rattle.rls_model.proofs.SameOps.{same_epochs, top_kept}
 use Rattle.rls_model.proofs.SameOps as same_ops
 use Rattle.rls_model.proofs.Spliced.{ids, entries, append_map}
 use Rattle.rls_seen.specs.Seen.{Seen, idents_over, greatest_over}
-use Rattle.rls_seen.specs.Over.{accepted, placed_over}
-use Rattle.rls_seen.specs.Edits.{made_over, edited}
+use Rattle.rls_seen.specs.Over.{placed_over}
+use Rattle.rls_seen.specs.Edits.{edited}
 use Rattle.rls_seen.specs.Sane.{IsSane}
 use Rattle.rls_seen.specs.Stands.{StandsFor}
 use Rattle.rls_model.specs.Receiving.{State}
 use Rattle.rls_seen.proofs.Accepting.{placed_alike}
 use Rattle.rls_seen.proofs.Alike.{greatest_alike}
-use Rattle.rls_seen.proofs.EditedText.{inserted_entries, deleted_entries, delete_place, insert_place, first_made, cross, rises_right, take_drop_drop}
+use Rattle.rls_seen.proofs.EditedText.{inserted_entries, deleted_entries, delete_place, insert_place, first_made, cross, rises_right, take_drop_drop, placed_delete, placed_insert}
 use Rattle.rls_seen.proofs.Editing.{idents_alike}
 use Rattle.rls_seen.proofs.Making.{edited_sane}
 use Rattle.rls_seen.proofs.TextLists.{ident_in}
@@ -196,14 +196,6 @@ same_place G H (Before e x) l m h a b =
     ∙ (ap (below_count (idents H)) (same_placed G H e x l m h a.0) ∙ ap (λ g. below_count (idents H) (translate H e g x)) w.0)
 
 -- ---- own edits
-
-placed_insert : (s : Seen) (q : ℕ) (cs : List ℕ) (e : EpochName) (x : List Tuple) → placed_over (edited s (edits.Insert q cs)) e x ≡ placed_over s e x
-unfolding accepted made_over
-placed_insert s q cs e x = refl
-
-placed_delete : (s : Seen) (q n : ℕ) (e : EpochName) (x : List Tuple) → placed_over (edited s (edits.Delete q n)) e x ≡ placed_over s e x
-unfolding accepted made_over
-placed_delete s q n e x = refl
 
 length-entries : (y : List Tuple) (cs : List ℕ) → length (ids (entries y cs)) ≡ length cs
 length-entries y [] = refl

@@ -1,9 +1,8 @@
 -- What an own edit changes is the edit itself.
-use Rattle.std.proofs.Common.{◌≡◌, ℕ, suc, ◌+◌, ◌-◌, ◌<◌, ◌==◌, false, List, [], ◌∷◌, ◌++◌, map, length, take, drop, refl, sym, ap, ◌∙◌, subst, arith, inl, inr}
-use Rattle.std.specs.Prelude.{pos, None}
+use Rattle.std.proofs.Common.{◌≡◌, ℕ, ◌+◌, ◌-◌, ◌<◌, ◌==◌, false, List, [], ◌∷◌, ◌++◌, map, length, take, drop, refl, sym, ap, ◌∙◌, subst, arith, inl, inr}
+use Rattle.std.specs.Prelude.{None}
 use Rattle.std.proofs.lemmas.List.{length-map, take-append-drop, length-drop, length-take-le}
 use Rattle.rls_ident.specs.declared.tuple.Tuple.{Tuple}
-use Rattle.rls_ident.specs.Identifiers.{shifted}
 use Rattle.rls_ident.specs.Lists.{IsIn}
 use Rattle.rls_ident.proofs.Agreeing.{map_itself}
 use Rattle.rls_ident.proofs.Lists.{Lt}
@@ -21,6 +20,7 @@ use Rattle.rls_ops.specs.declared.op.Body.{Body}
 use Rattle.rls_model.specs.WellFormed.{IsEdit}
 use Rattle.rls_model.proofs.OneTree.{none_else}
 use Rattle.rls_model.proofs.Spliced.{ids, entries, chars-entries, take_map, drop_map}
+use Rattle.rls_model.proofs.RenamedRun.{length-entries}
 use Rattle.rls_seen.specs.Edits.{made_over, edit_fault_over, edited}
 use Rattle.rls_seen.specs.Over.{added_over, placed_over}
 use Rattle.rls_seen.specs.Sane.{IsSane}
@@ -71,10 +71,6 @@ some_chars s at cs h =
     let p = none_else (length cs == 0) faults.EmptyEdit _ (range_none s (edits.Insert at cs) h) in
     let n = eq_not (length cs) 0 p.0 in
     omega arith
-
-length-entries : (x : List Tuple) (cs : List ℕ) → length (entries x cs) ≡ length cs
-length-entries x [] = refl
-length-entries x (c ∷ cs) = ap suc (length-entries (shifted (pos 1) x) cs)
 
 own_insert : (s : Seen) (at : ℕ) (cs : List ℕ) → IsSane s → IsEdit (edits.Insert at cs) → edit_fault_over s (edits.Insert at cs) ≡ None
     → with_changes [] (puts 0 (idents_over s) (added_over s (greatest_over s) (first_made s at (length cs)) cs)) ≡ Insert at cs ∷ []

@@ -9,7 +9,7 @@ use Rattle.rls_ident.specs.declared.tuple.Tuple.{Tuple}
 use Rattle.rls_codec.specs.Gives.{IsFrontOf}
 use Rattle.rls_ops.specs.Spelling.{tuple_bytes, four_bytes, ident_bytes}
 
-flat_map_pushed : {A : Type 0} (f : A → List ℕ) (xs : List A) (x : A) → flat_map f (xs ++ x ∷ []) ≡ flat_map f xs ++ f x
+pub flat_map_pushed : {A : Type 0} (f : A → List ℕ) (xs : List A) (x : A) → flat_map f (xs ++ x ∷ []) ≡ flat_map f xs ++ f x
 flat_map_pushed f [] x = append-nil (f x)
 flat_map_pushed f (y ∷ ys) x = ap (λ w. f y ++ w) (flat_map_pushed f ys x) ∙ sym (append_assoc (f y) (flat_map f ys) (f x))
 

@@ -1,6 +1,6 @@
 -- What is spelled is well formed.
 use Rattle.std.proofs.Common.{◌≡◌, ℕ, true, List, [], ◌∷◌, Option, Some, None, refl, subst}
-use Rattle.std.specs.Prelude.{pos, ◌+ℤ◌, All, ◌&&◌, nat_lt, int_le}
+use Rattle.std.specs.Prelude.{pos, ◌+ℤ◌, All, ◌&&◌, nat_lt, int_le, ◌≤ℤ◌}
 use Rattle.std.specs.List.{list_all}
 use Rattle.std.proofs.lemmas.List.Elements.{All-cons, All-nil}
 use Rattle.rls_ident.specs.declared.tuple.Tuple.{Tuple}
@@ -8,8 +8,8 @@ use Rattle.rls_ident.specs.declared.tuple.Tuple.TheVariants.{Low, At, High}
 use Rattle.rls_ident.specs.declared.epoch_name.EpochName.{EpochName}
 use Rattle.rls_ident.specs.declared.epoch_name.EpochName.TheVariants.{Origin, Of}
 use Rattle.rls_ident.specs.Tuples.{offset_of}
-use Rattle.rls_ident.specs.Identifiers.{is_ident, is_bounded, is_inner_bounded, last_of}
-use Rattle.rls_ident.proofs.Members.{and_left, and_right, and_true}
+use Rattle.rls_ident.specs.Identifiers.{is_ident, is_bounded, is_inner_bounded, last_of, least_offset, greatest_offset}
+use Rattle.rls_ident.proofs.Members.{and_left, and_right, and_true, int_le_is}
 use Rattle.rls_runs.specs.Runs.{runs_of, idents_of, is_run, past_offsets, AreIdents}
 use Rattle.rls_runs.proofs.RunOrder.{all_idents, idents_rise, increasing_of}
 use Rattle.rls_runs.proofs.Texts.{all_of_scalars}
@@ -18,7 +18,7 @@ use Rattle.rls_ops.specs.declared.op.Body.{Body}
 use Rattle.rls_ops.specs.declared.op.Body.TheVariants.{Insert, Delete, Rename, Leave}
 use Rattle.rls_codec.specs.Spelled.{Chained, FitsInner, FitTuples, FitsRun, FitsBehind, FitRuns, FitsName, FitsBody, FitsVector, IsSpelled}
 use Rattle.rls_codec.proofs.MessageFormats.{apart_from}
-use Rattle.rls_ops.specs.WellFormed.{IsSmall, IsName, IsBody, IsOp, IsVector}
+use Rattle.rls_ops.specs.WellFormed.{IsSmall, IsName, IsBody, IsOp, IsVector, IsInRange}
 
 pub chain_small : (before : Option ℕ) (v : List ℕ) → Chained (λ b. IsSmall) before v → All IsSmall v
 chain_small before [] c = All-nil IsSmall
@@ -77,3 +77,17 @@ fits_body Leave f = tt
 pub spelled_op : (members : ℕ) (o : Op) → IsSpelled members o → IsOp o
 spelled_op members o s =
     record { author = s.author; seq = s.seq; context = chain_small None o.context s.context.1; epoch = fits_name o.epoch s.epoch; body = fits_body o.body s.body }
+
+-- the last offset of what is spelled is in range
+least_last : (x : List Tuple) → FitTuples x → least_offset ≤ℤ offset_of (last_of x)
+least_last [] f = absurd f
+least_last (At p r s o ∷ []) f = int_le_is least_offset o (and_left (int_le least_offset o) (int_le o greatest_offset) f.3)
+least_last (Low ∷ []) f = absurd f
+least_last (High ∷ []) f = absurd f
+least_last (t ∷ (u ∷ x)) f = least_last (u ∷ x) f.1
+
+pub in_range : (b : Body) → FitsBody b → IsInRange b
+in_range (Insert first text) f = least_last first f.0.1
+in_range (Delete targets) f = tt
+in_range (Rename former) f = tt
+in_range Leave f = tt

@@ -20,15 +20,12 @@ use Rattle.rls_model.specs.declared.parts.EpochPart.{EpochPart}
 use Rattle.rls_model.specs.declared.parts.TextRun.{TextRun}
 use Rattle.rls_model.specs.Parts.{epoch_part, epoch_parts, node_of, top_part}
 use Rattle.rls_blocks.specs.Trees.{Piece}
+use Rattle.rls_codec.proofs.Appending.{flat_map_pushed}
 use Rattle.rls_seen.specs.Kept.{other_rows, left_below}
 use Rattle.rls_snapshot.specs.Blocks.{run_with_text, runs_with_texts}
 use Rattle.rls_fields.specs.FieldSizes.{epoch_size, rest_size, opening, text_run_size}
 use Rattle.rls_fields.specs.Fields.{stem_bytes, own_of, others_of, stems_bytes}
 use Rattle.rls_fields.specs.Written.{FitsChars, FitsFormer}
-
-pub pushed : {A : Type 0} (f : A → List ℕ) (xs : List A) (x : A) → flat_map f (xs ++ x ∷ []) ≡ flat_map f xs ++ f x
-pushed f [] x = append-nil (f x)
-pushed f (y ∷ ys) x = ap (λ w. f y ++ w) (pushed f ys x) ∙ sym (append_assoc (f y) (flat_map f ys) (f x))
 
 pub sum_pushed : {A : Type 0} (f : A → ℕ) (xs : List A) (x : A) → sum_by f (xs ++ x ∷ []) ≡ sum_by f xs + f x
 sum_pushed f [] x = omega (arith, sum_by-cons f x [])
@@ -37,7 +34,7 @@ sum_pushed f (y ∷ ys) x = omega (arith, sum_by-cons f y (ys ++ x ∷ []), sum_
 -- one more part is put
 pub put_one : {A : Type 0} (f : A → List ℕ) (xs ys : List A) (x : A) (out before after : List ℕ) → ys ≡ xs ++ x ∷ [] → before ≡ out ++ flat_map f xs → after ≡ before ++ f x → after ≡ out ++ flat_map f ys
 put_one f xs ys x out before after e h g =
-    g ∙ ap (λ w. w ++ f x) h ∙ append_assoc out (flat_map f xs) (f x) ∙ ap (λ w. out ++ w) (sym (ap (flat_map f) e ∙ pushed f xs x))
+    g ∙ ap (λ w. w ++ f x) h ∙ append_assoc out (flat_map f xs) (f x) ∙ ap (λ w. out ++ w) (sym (ap (flat_map f) e ∙ flat_map_pushed f xs x))
 
 -- ---- members
 

@@ -2,6 +2,7 @@
 use Rattle.std.proofs.Common.{◌≡◌, ℕ, suc, ◌-◌, ◌+◌, ◌≤◌, ◌<◌, List, [], ◌∷◌, ◌++◌, length, Option, Some, Ok, Err, refl, sym, ap, ◌∙◌, append_assoc, arith}
 use Rattle.std.specs.Prelude.{slice_get}
 use Rattle.std.proofs.lemmas.List.{length-append, append-nil}
+use Rattle.rls_epoch.proofs.Whole.{get_last}
 use Rattle.rls_codec.specs.declared.fault.ReadError.{ReadError}
 use Rattle.rls_codec.specs.declared.fault.ReadError.TheVariants.{Fault, OutOfMemory}
 use Rattle.rls_codec.specs.Gives.{Fails}
@@ -14,14 +15,10 @@ use Rattle.rls_fields.specs.ReadingFields.{stem_at, stems_at}
 
 -- ---- the last of a list
 
-at_end : {A : Type 0} (xs : List A) (x : A) → slice_get (xs ++ x ∷ []) (length xs) ≡ Some x
-at_end [] x = refl
-at_end (y ∷ xs) x = at_end xs x
-
 latest_pushed : {A : Type 0} (xs : List A) (x : A) → latest (xs ++ x ∷ []) ≡ Some x
 latest_pushed xs x =
     let place : length (xs ++ x ∷ []) - 1 ≡ length xs = omega (arith, length-append xs (x ∷ [])) in
-    ap (slice_get (xs ++ x ∷ [])) place ∙ at_end xs x
+    ap (slice_get (xs ++ x ∷ [])) place ∙ get_last xs x
 
 pub reads_on : {A : Type 0} (part : Option A → List ℕ → Read A) (front : List A) (count i : ℕ) (bytes : List ℕ) (x : A) (after : List ℕ) (total : Read (List A)) → i < count → part (latest front) bytes ≡ Ok (x, after)
     → behind front (chain_at part (latest front) (count - i) bytes) ≡ total → behind (front ++ x ∷ []) (chain_at part (latest (front ++ x ∷ [])) (count - (i + 1)) after) ≡ total

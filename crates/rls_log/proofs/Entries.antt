@@ -2,29 +2,22 @@
 use Rattle.std.proofs.Common.{◌≡◌, ◌∙◌, ℕ, ◌+◌, ◌-◌, ◌^◌, zero, suc, ◌<◌, ◌≤◌, Bool, true, false, not, List, [], ◌∷◌, ◌++◌, length, take, drop, Some, None, Ok, Err, IfSome, refl, sym, ap, subst, arith}
 use Rattle.std.specs.Prelude.{All, slice_get, slice_index, option_map, nat_le, if◌then◌else◌}
 use Rattle.std.specs.List.{filter}
-use Rattle.std.specs.Int.RustNames.{int_le}
 use Rattle.std.proofs.lemmas.List.{append-nil, take_at, drop_at, map-append, length-append, length-drop, length-take, take-append-le, drop-append-le, take-append-drop, take_all, drop-drop}
 use Rattle.std.proofs.lemmas.List.Elements.{All-head, All-tail, All-cons, All-nil, All-push, All-weaker}
 use Rattle.std.proofs.lemmas.Option.{slice_get-map}
-use Rattle.rls_ident.proofs.Members.{and_left, some_is, int_le_is}
-use Rattle.rls_ident.specs.declared.tuple.Tuple.{Tuple}
-use Rattle.rls_ident.specs.declared.tuple.Tuple.TheVariants.{Low, At, High}
-use Rattle.rls_ident.specs.Identifiers.{last_of, least_offset, greatest_offset}
-use Rattle.rls_ident.specs.Tuples.{offset_of}
+use Rattle.rls_ident.proofs.Members.{some_is}
 use Rattle.rls_ops.specs.declared.op.Op.{Op}
-use Rattle.rls_ops.specs.declared.op.Body.{Body}
-use Rattle.rls_ops.specs.declared.op.Body.TheVariants.{Insert, Delete, Rename, Leave}
 use Rattle.rls_ops.specs.Rows.{is_covered, missing_for}
 use Rattle.rls_ops.specs.Spelling.{op_bytes, vector_bytes, name_bytes, kind_of, body_bytes}
 use Rattle.rls_ops.specs.WellFormed.{IsOp, IsInRange}
 use Rattle.rls_codec.specs.CodecLaws.{IsBytes}
 use Rattle.rls_codec.specs.Reading.{Read, chain_at, op_fields_at, op_at, vector_at}
 use Rattle.rls_codec.proofs.Loop.{with_front, goes_on_many, is_done}
-use Rattle.rls_codec.specs.Spelled.{FieldsFit, FitTuples, FitsBody, IsSpelledIfFit}
+use Rattle.rls_codec.specs.Spelled.{FieldsFit, IsSpelledIfFit}
 use Rattle.rls_codec.proofs.MessageFormats.{op_fields, op_takes}
 use Rattle.rls_codec.proofs.PartFormats.{vector}
 use Rattle.rls_codec.proofs.SizeLaws.{op_length}
-use Rattle.rls_codec.proofs.SpelledSound.{fits_name, fits_body, chain_small}
+use Rattle.rls_codec.proofs.SpelledSound.{fits_name, fits_body, chain_small, in_range}
 use Rattle.rls_log.specs.declared.entry.Entry.{Entry}
 use Rattle.rls_log.specs.declared.head.OpHead.{OpHead}
 use Rattle.rls_log.specs.Heads.{is_head_covered, IsHeadOf}
@@ -246,19 +239,6 @@ no_more bytes members count i es rest l h = record {
 }
 
 -- ---- what fits
-
-last_in_range : (x : List Tuple) → FitTuples x → int_le least_offset (offset_of (last_of x)) ≡ true
-last_in_range [] f = absurd f
-last_in_range (At p r s o ∷ []) f = and_left (int_le least_offset o) (int_le o greatest_offset) f.3
-last_in_range (Low ∷ []) f = absurd f
-last_in_range (High ∷ []) f = absurd f
-last_in_range (t ∷ (u ∷ x)) f = last_in_range (u ∷ x) f.1
-
-in_range : (b : Body) → FitsBody b → IsInRange b
-in_range (Insert first text) f = int_le_is least_offset (offset_of (last_of first)) (last_in_range first f.0.1)
-in_range (Delete targets) f = tt
-in_range (Rename former) f = tt
-in_range Leave f = tt
 
 fields_sound : (members : ℕ) (o : Op) → FieldsFit members o → IsOp o × IsInRange o.body
 fields_sound members o f = (record { author = f.0; seq = f.1; context = chain_small None o.context f.2.1; epoch = fits_name o.epoch f.3; body = fits_body o.body f.4 }, in_range o.body f.4)

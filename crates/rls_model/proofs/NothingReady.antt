@@ -39,7 +39,7 @@ rest_step p r = none_ready by_history p (ap (release_of p.state) r)
 pub rest_steps : (n : ℕ) (p : Progress) → IsAtRest p.state → release_steps n p ≡ p
 rest_steps n p r = releases_stay by_history n p (rest_step p r)
 
-empty_rests : (t : Op → Bool) (W : List Op) → length W ≤ 0 → find t W ≡ None
+pub empty_rests : (t : Op → Bool) (W : List Op) → length W ≤ 0 → find t W ≡ None
 empty_rests t [] h = refl
 empty_rests t (w ∷ ws) h = absurd (omega arith)
 

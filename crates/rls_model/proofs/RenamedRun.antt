@@ -204,7 +204,7 @@ one_run x (suc n) =
     plus : (n : ℕ) → suc n + 1 ≡ suc (suc n)
     plus n = omega arith
 
-some_run : (x : List Tuple) (n : ℕ) → 0 < n → runs_of (run_idents x n) ≡ (x, n) ∷ []
+pub some_run : (x : List Tuple) (n : ℕ) → 0 < n → runs_of (run_idents x n) ≡ (x, n) ∷ []
 some_run x zero h = absurd (omega arith)
 some_run x (suc n) h = one_run x n
 
@@ -327,7 +327,7 @@ appended_first H cs (suc n) e l h m =
     sum : (n : ℕ) → pos n +ℤ pos 1 ≡ pos (suc n)
     sum n = omega (arith, ints)
 
-length-entries : (x : List Tuple) (cs : List ℕ) → length (entries x cs) ≡ length cs
+pub length-entries : (x : List Tuple) (cs : List ℕ) → length (entries x cs) ≡ length cs
 length-entries x [] = refl
 length-entries x (c ∷ cs) = ap suc (length-entries (shifted (pos 1) x) cs)
 

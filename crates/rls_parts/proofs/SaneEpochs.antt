@@ -10,7 +10,6 @@ use Rattle.std.proofs.lemmas.Int.{ints}
 use Rattle.std.proofs.lemmas.List.Quantifiers.{position-Some}
 use Rattle.std.proofs.lemmas.List.{length-map, map-append, get_or_append_left}
 use Rattle.rls_ident.specs.declared.limits.TheConstants.{IDENTIFIERS}
-use Rattle.rls_ident.specs.declared.tuple.Tuple.{Tuple}
 use Rattle.rls_ident.specs.declared.epoch_name.EpochName.{EpochName}
 use Rattle.rls_ident.specs.declared.epoch_name.EpochName.TheVariants.{Origin, Of}
 use Rattle.rls_ident.specs.EpochNames.{name_eq}
@@ -24,9 +23,10 @@ use Rattle.rls_rename.specs.Connected.{spanned}
 use Rattle.rls_rename.proofs.Former.{former_in}
 use Rattle.rls_rename.proofs.Hull.{IsPart, front_none, node_at, path_same, spanned_in, spanned_part, spanned_top, top_spanned}
 use Rattle.rls_rename.proofs.Order.{less_flips, less_self, longer_less}
-use Rattle.rls_rename.proofs.Ordered.{Rises, IsBelowAll, spanned_rises}
+use Rattle.rls_rename.proofs.Ordered.{Rises, spanned_rises, below_at}
 use Rattle.rls_rename.proofs.SameNodes.{path_member, path_top}
 use Rattle.rls_rename.proofs.Windows.{Window, cmp_window}
+use Rattle.rls_rename.proofs.Made.{former_some}
 use Rattle.rls_model.specs.declared.parts.EpochPart.{EpochPart}
 use Rattle.rls_model.specs.declared.parts.Parts.{Parts}
 use Rattle.rls_model.specs.declared.parts.Stem.{Stem}
@@ -46,11 +46,6 @@ place_in : (es : List EpochName) (x : EpochName) → IsIn x es → (k : ℕ) × 
 place_in [] x q = absurd q
 place_in (e ∷ es) x (inl h) = (0, omega arith, sym h)
 place_in (e ∷ es) x (inr q) = let r = place_in es x q in (suc r.0, omega (arith, r.1), r.2)
-
-below_at : (ns : List Node) (e f : EpochName) (es : List EpochName) → IsBelowAll ns e es → IsIn f es → epoch_cmp ns e f ≡ Less
-below_at ns e f [] b p = absurd p
-below_at ns e f (g ∷ es) b (inl q) = subst (λ h. epoch_cmp ns e h ≡ Less) q b.0
-below_at ns e f (g ∷ es) b (inr p) = below_at ns e f es b.1 p
 
 -- ---- the rule's tests
 
@@ -90,11 +85,6 @@ offsets_used None n l h = absurd (cc)
 offsets_used (Some t) n l h =
     let k = int_less (pos (n - 1)) (pos t.next) (and_right (int_le t.low (pos (n - 1))) (int_lt (pos (n - 1)) (pos t.next)) h) in
     le_test n t.next (omega (arith, ints))
-
-former_some : (xs : List (List Tuple)) → IsFormer xs → 0 < length xs
-former_some [] f = absurd f
-former_some (x ∷ []) f = omega arith
-former_some (x ∷ (y ∷ xs)) f = omega arith
 
 covered_test : (ss : List Stem) (n : Node) → IsFormer n.renaming.former → IsCovered ss n → is_covered_by ss (name_of n.renaming) (length n.renaming.former) ≡ true
 covered_test ss n f c =

@@ -7,7 +7,7 @@ use Rattle.rls_ident.specs.EpochNames.{name_eq, is_within}
 use Rattle.rls_ident.specs.Identifiers.{follows, last_of}
 use Rattle.rls_ident.specs.Tuples.{replica_of, seq_of, offset_of}
 use Rattle.rls_ident.specs.Lists.{IsIn}
-use Rattle.rls_ident.proofs.Members.{all_in, and_true, any_in, filter_in, in_filter, in_left, in_right, less_is, map_in, not_true, in_split}
+use Rattle.rls_ident.proofs.Members.{all_in, and_true, any_in, filter_in, in_filter, in_left, in_right, map_in, in_split}
 use Rattle.rls_ident.proofs.Named.{name_eq_refl}
 use Rattle.rls_ops.proofs.Equal.{numbers_same}
 use Rattle.rls_runs.specs.Entries.{Entries, idents_in}
@@ -16,8 +16,7 @@ use Rattle.rls_rename.specs.Connected.{spanned}
 use Rattle.rls_rename.specs.Keeping.{reached}
 use Rattle.rls_rename.specs.Tree.{Node, Epochs, is_kept, names, epoch_cmp, greatest, greatest_within, translate}
 use Rattle.rls_rename.proofs.Hull.{in_kept, kept_in, needed_spanned, spanned_in}
-use Rattle.rls_rename.proofs.Kept.{greatest_kept, greatest_within_kept}
-use Rattle.rls_rename.proofs.Order.{less_self}
+use Rattle.rls_rename.proofs.Kept.{greatest_kept}
 use Rattle.rls_rename.proofs.Ordered.{spanned_members, spanned_same}
 use Rattle.rls_rename.proofs.Windows.{Window, cmp_window, greatest_window, kept_window, translate_window, within_window}
 use Rattle.rls_ops.specs.declared.op.Op.{Op}
@@ -31,7 +30,7 @@ use Rattle.rls_model.specs.Stems.{is_used}
 use Rattle.rls_seen.specs.Kept.{marked_over, needed_over, retained_over, parts_over}
 use Rattle.rls_seen.specs.Sane.{AreEpochs, Follow, IsSane}
 use Rattle.rls_seen.specs.Seen.{Seen, vector, members, stable_over, unstable_over, greatest_over, translate_over, idents_over}
-use Rattle.rls_seen.proofs.Dropped.{needed_kept, within_is_within}
+use Rattle.rls_seen.proofs.Dropped.{needed_kept, within_is_within, greatest_reached}
 use Rattle.rls_seen.proofs.Logs.{follow_dropped, follow_length}
 use Rattle.rls_seen.proofs.Sending.{length-stable}
 use Rattle.rls_seen.proofs.StableRows.{stable_mine}
@@ -56,7 +55,7 @@ put_texts e (r ∷ rs) h = go (follows r.run.0 e.0)
     go true = (let x = h.0 in omega arith, h.1)
     go false = (refl, h)
 
-have_texts : (es : Entries) → HaveTexts (text_runs es)
+pub have_texts : (es : Entries) → HaveTexts (text_runs es)
 have_texts [] = tt
 have_texts (e ∷ es) = put_texts e (text_runs es) (have_texts es)
 
@@ -77,12 +76,6 @@ text_passes p i (r ∷ rs) f = ap (λ b. if b then text_fault p (suc i) rs else 
 names_pass : (es : List EpochName) → names_eq es es ≡ true
 names_pass [] = refl
 names_pass (e ∷ es) = and_true (name_eq e e) (names_eq es es) (name_eq_refl e) (names_pass es)
-
-greatest_reached : (E : Epochs) (v : List ℕ) → IsIn (greatest_within E.top E.nodes v) (reached E v)
-greatest_reached E v =
-    let m = greatest_within E.top E.nodes v in
-    filter_in (λ e. not (is_lt (epoch_cmp E.nodes e m))) m (E.top ∷ names E.nodes) (kept_in E.top E.nodes m (greatest_within_kept E.top E.nodes v))
-    (ap not (not_true (is_lt (epoch_cmp E.nodes m m)) (λ h. less_self E.nodes m (less_is (epoch_cmp E.nodes m m) h))))
 
 -- the epochs that are at least the greatest one within a vector, where that is kept in the window
 reached_same : (E : Epochs) (U : EpochName) (A : List Node) (v : List ℕ) → Window U A E.top E.nodes → is_kept U A (greatest_within E.top E.nodes v) ≡ true → (g : EpochName) → is_kept U A g ≡ true

@@ -38,7 +38,7 @@ marks_same : (s : Seen) (a : ℕ) → a < members s → left (acks_of (parts_ove
 unfolding parts_over
 marks_same s a l = mark_at (left_below s.acks (members s)) (members s) a l ∙ left_same s a l
 
-length-others : (acks : AcksSeen) → AreRows acks → length (other_rows acks (length acks.mine)) + 1 ≡ length acks.mine
+pub length-others : (acks : AcksSeen) → AreRows acks → length (other_rows acks (length acks.mine)) + 1 ≡ length acks.mine
 length-others acks w =
     let n = length acks.mine in
     let m = w.member in

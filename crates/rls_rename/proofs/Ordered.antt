@@ -1,6 +1,6 @@
 -- The list of what is spanned rises strictly, so it is known by its elements, and it is the same over a window as over the whole.
 use Rattle.std.proofs.Common.{◌≡◌, Bool, true, false, List, [], ◌∷◌, refl, sym, ap, ◌∙◌, subst, inl, inr, ◌⊎◌, ⊎_elim, length, suc}
-use Rattle.std.specs.Prelude.{cond, filter, if◌then◌else◌}
+use Rattle.std.specs.Prelude.{filter, if◌then◌else◌}
 use Rattle.std.specs.declared.cmp.Ordering.TheVariants.{Less}
 use Rattle.std.specs.Ordering.{is_lt}
 use Rattle.rls_ident.specs.declared.epoch_name.EpochName.{EpochName}
@@ -25,7 +25,7 @@ abbrev pub Rises : List Node → List EpochName → Type 0
 Rises ns [] = Unit {0}
 Rises ns (e ∷ es) = IsBelowAll ns e es × Rises ns es
 
-below_at : (ns : List Node) (e f : EpochName) (es : List EpochName) → IsBelowAll ns e es → IsIn f es → epoch_cmp ns e f ≡ Less
+pub below_at : (ns : List Node) (e f : EpochName) (es : List EpochName) → IsBelowAll ns e es → IsIn f es → epoch_cmp ns e f ≡ Less
 below_at ns e f [] b p = absurd p
 below_at ns e f (g ∷ es) b (inl q) = subst (λ h. epoch_cmp ns e h ≡ Less) q b.0
 below_at ns e f (g ∷ es) b (inr p) = below_at ns e f es b.1 p

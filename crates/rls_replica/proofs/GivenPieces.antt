@@ -1,15 +1,14 @@
 -- The replica that has given parts, piece by piece.
-use Rattle.std.proofs.Common.{append_assoc, append-nil, ◌≡◌, ℕ, zero, suc, ◌+◌, ◌<◌, ◌&&◌, ◌==◌, true, false, List, [], ◌∷◌, ◌++◌, length, map, get_or, take, refl, sym, ap, ◌∙◌, subst, arith, inl, inr, ⊎_elim, None, if◌then◌else◌}
-use Rattle.std.specs.Prelude.{nat_lt, zip, IfOk, Result, Ok, Err}
+use Rattle.std.proofs.Common.{append_assoc, append-nil, ◌≡◌, ℕ, zero, suc, ◌+◌, ◌<◌, true, List, [], ◌∷◌, ◌++◌, length, map, get_or, take, refl, sym, ap, ◌∙◌, subst, arith, inl, inr, None, if◌then◌else◌}
+use Rattle.std.specs.Prelude.{zip, IfOk, Result, Ok, Err}
 use Rattle.std.specs.List.{list_all}
 use Rattle.rls_ident.specs.Lists.{IsIn}
-use Rattle.rls_ident.proofs.Members.{and_left, and_right, and_true, eq_is, in_all, lt_is, none_found, not_true, or_split}
+use Rattle.rls_ident.proofs.Members.{and_left, and_right, in_all, none_found}
 use Rattle.rls_runs.specs.Entries.{Entries}
 use Rattle.rls_runs.specs.Runs.{run_idents}
 use Rattle.rls_ops.specs.declared.op.Op.{Op}
 use Rattle.rls_ops.specs.Waiting.{comes_before, is_in_order, is_numbered, waiting_under, with_waiting}
 use Rattle.rls_model.specs.declared.parts.TextRun.{TextRun}
-use Rattle.rls_seen.specs.Sane.{AreHeld}
 use Rattle.rls_causal.specs.Putting.{put_beside, put_in}
 use Rattle.rls_blocks.specs.Trees.{Piece, Tree, entries_of, runs_in}
 use Rattle.rls_parts.specs.Given.{HaveTexts}
@@ -20,6 +19,7 @@ use Rattle.rls_rename.specs.Tree.{Epochs}
 use Rattle.rls_runs.specs.Runs.{AreIdents}
 use Rattle.rls_ops.specs.Rows.{AcksSeen}
 use Rattle.rls_ops.specs.WellFormed.{IsInRange, IsOp}
+use Rattle.rls_ops.proofs.Waiting.{before_other}
 use Rattle.rls_model.specs.declared.parts.EpochPart.{EpochPart}
 use Rattle.rls_model.specs.declared.parts.Parts.{Parts}
 use Rattle.rls_model.specs.declared.parts.Stem.{Stem}
@@ -65,21 +65,13 @@ texts_rest r rest h = h.1
 
 -- ---- waiting operations
 
-before_not : (w o : Op) → comes_before w o ≡ true → is_numbered o.author o.seq w ≡ false
-before_not w o h =
-    not_true (is_numbered o.author o.seq w)
-    (λ q. let a = eq_is w.author o.author (and_left (w.author == o.author) (w.seq == o.seq) q) in
-    let b = eq_is w.seq o.seq (and_right (w.author == o.author) (w.seq == o.seq) q) in
-    ⊎_elim (λ x. let l = lt_is w.author o.author x in absurd (omega arith)) (λ x. let l = lt_is w.seq o.seq (and_right (w.author == o.author) (nat_lt w.seq o.seq) x) in absurd (omega arith))
-    (or_split (nat_lt w.author o.author) ((w.author == o.author) && nat_lt w.seq o.seq) h))
-
 with_last : (o : Op) (ws : List Op) → ((w : Op) → IsIn w ws → comes_before w o ≡ true) → with_waiting o ws ≡ ws ++ o ∷ []
 with_last o [] h = refl
 with_last o (w ∷ ws) h = ap (λ b. if b then w ∷ with_waiting o ws else o ∷ w ∷ ws) (h w (inl refl)) ∙ ap (λ xs. w ∷ xs) (with_last o ws (λ x q. h x (inr q)))
 
 pub put_last : (o : Op) (ws : List Op) → ((w : Op) → IsIn w ws → comes_before w o ≡ true) → put_in o ws ≡ ws ++ o ∷ []
 put_last o ws h =
-    let none : waiting_under ws o.author o.seq ≡ None = none_found (is_numbered o.author o.seq) ws (λ w q. before_not w o (h w q)) in
+    let none : waiting_under ws o.author o.seq ≡ None = none_found (is_numbered o.author o.seq) ws (λ w q. before_other w o (h w q)) in
     ap (λ x. put_beside x o ws) none ∙ with_last o ws h
 
 in_order_at : (ws : List Op) (i : ℕ) (d : Op) → is_in_order ws ≡ true → i < length ws → (w : Op) → IsIn w (take i ws) → comes_before w (get_or ws i d) ≡ true
@@ -99,10 +91,6 @@ held_more ws so_far new i d o h l f e n =
     n
     ∙ (ap (λ x. put_in x so_far) e
     ∙ (ap (put_in (get_or ws i d)) f ∙ (put_last (get_or ws i d) (take i ws) (in_order_at ws i d h l) ∙ sym (take_more ws i d l))))
-
-pub held_order : (n : ℕ) (v : List ℕ) (ws : List Op) → AreHeld n v ws → is_in_order ws ≡ true
-held_order n v [] h = refl
-held_order n v (w ∷ ws) h = and_true (list_all (comes_before w) ws) (is_in_order ws) h.4 (held_order n v ws h.5)
 
 -- ---- the tree
 

@@ -1,17 +1,12 @@
 -- No step of a replica removes the name of a kept epoch.
 use Rattle.std.proofs.Common.{◌≡◌, ℕ, zero, suc, true, false, List, length, sym, subst, Option, Some, None}
-use Rattle.rls_ident.specs.declared.epoch_name.EpochName.{EpochName}
-use Rattle.rls_rename.specs.Tree.{Node, is_kept}
-use Rattle.rls_rename.proofs.Kept.{kept_more}
 use Rattle.rls_ops.specs.declared.op.Op.{Op}
-use Rattle.rls_ops.specs.declared.op.Body.{Body}
-use Rattle.rls_ops.specs.declared.op.Body.TheVariants.{Insert, Delete, Rename, Leave}
 use Rattle.rls_model.specs.Answers.{Reason, Answer, Applies, Repeats, Waits, Refuses}
-use Rattle.rls_model.specs.Epochs.{renaming_of, nodes_after}
 use Rattle.rls_model.proofs.Machines.{states_after_ops}
 use Rattle.rls_seen.specs.Seen.{Seen}
 use Rattle.rls_seen.specs.Over.{accepted, holding, after_answer, answer_over, received, replayed, refusal_over, first_ready, after_refusal, after_release, released, released_times, released_all, acknowledged, IsPartReleased}
 use Rattle.rls_seen.specs.Messages.{by_parts, Course, started, take_ops}
+use Rattle.rls_seen.proofs.Applied.{kept_after}
 use Rattle.rls_replica.specs.Names.{KeepsNames}
 use Rattle.rls_replica.specs.Steps.{IsPartOfOps}
 
@@ -27,15 +22,9 @@ names_unchanged s t q = subst (λ (u : Seen). KeepsNames s u) (sym q) (names_sam
 
 -- ---- one step
 
-after_body : (s : Seen) (o : Op) (b : Body) (e : EpochName) → is_kept s.epochs.top s.epochs.nodes e ≡ true → is_kept s.epochs.top (nodes_after s.epochs.nodes o b) e ≡ true
-after_body s o (Insert first text) e k = k
-after_body s o (Delete targets) e k = k
-after_body s o (Rename xs) e k = let node : Node = record { parent = o.epoch; renaming = renaming_of o xs } in kept_more s.epochs.top node s.epochs.nodes e k
-after_body s o Leave e k = k
-
 pub accepted_names : (s : Seen) (o : Op) → KeepsNames s (accepted s o)
 unfolding accepted
-accepted_names s o = λ e k. after_body s o o.body e k
+accepted_names s o = λ e k. kept_after s o o.body e k
 
 answered_names : (a : Answer) (s : Seen) (o : Op) → KeepsNames s (after_answer a s o)
 unfolding holding

@@ -18,12 +18,13 @@ use Rattle.rls_model.specs.declared.parts.Stem.{Stem}
 use Rattle.rls_model.specs.Editing.{own_stem, may_prepend, first_between}
 use Rattle.rls_model.specs.WellFormed.{IsEdit}
 use Rattle.rls_model.proofs.Spliced.{entries, append_map}
+use Rattle.rls_model.proofs.RenamedRun.{some_run}
 use Rattle.rls_seen.specs.Edits.{edit_fault_over, edited}
 use Rattle.rls_seen.specs.Sane.{IsSane}
 use Rattle.rls_seen.specs.Seen.{Seen, own_count, idents_over}
 use Rattle.rls_seen.proofs.EditedText.{first_made, inserted_entries}
 use Rattle.rls_replica.specs.Editing.{IsOwnFront, HasRoomBelow}
-use Rattle.rls_replica.proofs.OwnRuns.{begun_before, first_at, first_ident, first_is, grown_stem, idents_are, ids_entries, me_stays, own_shifted, some_run, stems_inserted}
+use Rattle.rls_replica.proofs.OwnRuns.{begun_before, first_at, first_ident, first_is, grown_stem, idents_are, ids_entries, me_stays, own_shifted, stems_inserted}
 
 -- so many identifiers before x
 abbrev below : ℕ → List Tuple → List Tuple

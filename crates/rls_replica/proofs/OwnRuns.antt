@@ -26,7 +26,7 @@ use Rattle.rls_model.specs.Editing.{own_stem, may_append, first_before, first_be
 use Rattle.rls_model.specs.Stems.{stem_of, with_stem, new_stem, extended, stems_after_insert, with_extended}
 use Rattle.rls_model.specs.WellFormed.{IsEdit}
 use Rattle.rls_model.proofs.Began.{own_split}
-use Rattle.rls_model.proofs.RenamedRun.{one_run}
+use Rattle.rls_model.proofs.RenamedRun.{some_run}
 use Rattle.rls_model.proofs.Spliced.{entries, append_map}
 use Rattle.rls_model.proofs.StemLists.{found_is, found_same}
 use Rattle.rls_seen.specs.Edits.{edit_fault_over, edited, made_over}
@@ -48,10 +48,6 @@ first_ident xs x m e h = and_left (is_ident x) (list_all is_ident (run_idents (s
 pub ids_entries : (x : List Tuple) (cs : List ℕ) → idents_in (entries x cs) ≡ run_idents x (length cs)
 ids_entries x [] = refl
 ids_entries x (c ∷ cs) = ap (λ ys. x ∷ ys) (ids_entries (shifted (pos 1) x) cs)
-
-pub some_run : (x : List Tuple) (n : ℕ) → 0 < n → runs_of (run_idents x n) ≡ (x, n) ∷ []
-some_run x zero h = absurd (omega arith)
-some_run x (suc n) h = one_run x n
 
 -- entries that are put at the end of a run
 joined : (es : Entries) (x y : List Tuple) (n : ℕ) (cs : List ℕ) → idents_in es ≡ run_idents x n → y ≡ shifted (pos n) x →

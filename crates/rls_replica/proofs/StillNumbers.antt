@@ -5,12 +5,10 @@ use Rattle.std.specs.Ordering.{is_lt}
 use Rattle.rls_ident.specs.declared.epoch_name.EpochName.{EpochName}
 use Rattle.rls_ident.specs.Lists.{IsIn}
 use Rattle.rls_ident.proofs.Agreeing.{filter_all}
-use Rattle.rls_ident.proofs.Members.{filter_in, in_filter, in_left, in_right, in_split, less_is, not_true}
+use Rattle.rls_ident.proofs.Members.{filter_in, in_filter, in_left, in_right, in_split}
 use Rattle.rls_rename.specs.Keeping.{is_below, kept_part, part, reached}
 use Rattle.rls_rename.specs.Tree.{Node, Epochs, epoch_cmp, greatest_within, is_kept, names}
 use Rattle.rls_rename.proofs.Hull.{in_kept, kept_in}
-use Rattle.rls_rename.proofs.Kept.{greatest_within_kept}
-use Rattle.rls_rename.proofs.Order.{less_self}
 use Rattle.rls_rename.proofs.Ordered.{spanned_members, spanned_same}
 use Rattle.rls_rename.proofs.Windows.{Window, cmp_window, kept_window, within_window}
 use Rattle.rls_runs.specs.Runs.{runs_of}
@@ -21,7 +19,7 @@ use Rattle.rls_seen.specs.Kept.{counts_over, dropped, kept_former, marked_over, 
 use Rattle.rls_seen.specs.Sane.{IsSane}
 use Rattle.rls_seen.specs.Seen.{Seen, greatest_over, idents_over, stable_over, unstable_over}
 use Rattle.rls_seen.specs.View.{plain}
-use Rattle.rls_seen.proofs.Dropped.{dropped_sane, greatest_left, needed_kept, part_left}
+use Rattle.rls_seen.proofs.Dropped.{dropped_sane, greatest_left, needed_kept, part_left, greatest_reached}
 use Rattle.rls_seen.proofs.Numbers.{kept_epochs_dropped, kept_former_dropped}
 
 -- ---- the epochs that are at least the greatest one within a vector
@@ -40,13 +38,6 @@ from_reached : (M E : Epochs) (v : List ℕ) → Window M.top M.nodes E.top E.no
 from_reached M E v w k g h p =
     let r = in_filter (λ e. not (is_lt (epoch_cmp E.nodes e (greatest_within E.top E.nodes v)))) g (E.top ∷ names E.nodes) p in
     filter_in (λ e. not (is_lt (epoch_cmp M.nodes e (greatest_within M.top M.nodes v)))) g (M.top ∷ names M.nodes) (kept_in M.top M.nodes g h) (ap (λ o. not (is_lt o)) (reached_cmp M E v w k g h) ∙ r.1)
-
--- that one itself is among them
-greatest_reached : (E : Epochs) (v : List ℕ) → IsIn (greatest_within E.top E.nodes v) (reached E v)
-greatest_reached E v =
-    let m = greatest_within E.top E.nodes v in
-    filter_in (λ e. not (is_lt (epoch_cmp E.nodes e m))) m (E.top ∷ names E.nodes) (kept_in E.top E.nodes m (greatest_within_kept E.top E.nodes v))
-    (ap not (not_true (is_lt (epoch_cmp E.nodes m m)) (λ h. less_self E.nodes m (less_is (epoch_cmp E.nodes m m) h))))
 
 -- ---- what must stay
 

@@ -110,7 +110,7 @@ epochs_go s o (Rename former) sane m e =
           p;
     }
 
-kept_after : (s : Seen) (o : Op) (b : Body) (e : EpochName) → is_kept s.epochs.top s.epochs.nodes e ≡ true → is_kept s.epochs.top (nodes_after s.epochs.nodes o b) e ≡ true
+pub kept_after : (s : Seen) (o : Op) (b : Body) (e : EpochName) → is_kept s.epochs.top s.epochs.nodes e ≡ true → is_kept s.epochs.top (nodes_after s.epochs.nodes o b) e ≡ true
 kept_after s o (Insert first text) e k = k
 kept_after s o (Delete targets) e k = k
 kept_after s o (Rename former) e k = kept_more s.epochs.top (record { parent = o.epoch; renaming = renaming_of o former }) s.epochs.nodes e k

@@ -55,7 +55,7 @@ within_is_within E v n b e k w =
 
 -- ---- what must stay
 
-greatest_reached : (E : Epochs) (v : List ℕ) → IsIn (greatest_within E.top E.nodes v) (reached E v)
+pub greatest_reached : (E : Epochs) (v : List ℕ) → IsIn (greatest_within E.top E.nodes v) (reached E v)
 greatest_reached E v =
     let m = greatest_within E.top E.nodes v in
     filter_in (λ e. not (is_lt (epoch_cmp E.nodes e m))) m (E.top ∷ names E.nodes) (kept_in E.top E.nodes m (greatest_within_kept E.top E.nodes v))

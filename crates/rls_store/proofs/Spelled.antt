@@ -42,8 +42,6 @@ use Rattle.rls_seen.specs.Sane.{AreHeld, AreStems, Follow, IsStem}
 use Rattle.rls_parts.specs.Given.{HaveTexts}
 use Rattle.rls_parts.specs.Rules.{epoch_fault, held_fault, is_fine, may_be_top, may_wait, waits_behind}
 use Rattle.rls_parts.proofs.EpochLists.{next_behind, opened_name}
-use Rattle.rls_parts.proofs.OwnRows.{length-rows_below, length-without_at, others_are, rows_below}
-use Rattle.rls_parts.proofs.RestoredParts.{rows_are}
 use Rattle.rls_parts.proofs.RestoredText.{runs_in}
 use Rattle.rls_fields.specs.Fields.{own_of, others_of}
 use Rattle.rls_fields.specs.ReadingFields.{is_above, run_before}
@@ -99,15 +97,6 @@ rows_length acks (suc k) h l = lengths_append (length acks.mine) (other_rows ack
     go : (b : Bool) → HaveLength (length acks.mine) (if b then [] else row_of acks k ∷ [])
     go true = tt
     go false = (length-row acks k h (omega arith), tt)
-
--- a row for each member but one
-pub rows_count : (acks : AcksSeen) → AreRows acks → length (other_rows acks (length acks.mine)) + 1 ≡ length acks.mine
-rows_count acks h =
-    let n = length acks.mine in
-    let e = ap length (rows_are acks n ∙ others_are (row_of acks) acks.me n) in
-    let k = length-rows_below (row_of acks) n in
-    let l : acks.me < length (rows_below (row_of acks) n) = omega (arith, k, h.member) in
-    omega (arith, e, k, h.member, length-without_at acks.me (rows_below (row_of acks) n) l)
 
 -- ---- members that have left
 
@@ -253,14 +242,6 @@ run_put x c (r ∷ rs) = bool_cases (follows r.run.0 x) (λ e. rw e refl) (λ e.
 pub text_runs_are : (es : Entries) → runs_in (text_runs es) ≡ runs_of (idents_in es)
 text_runs_are [] = refl
 text_runs_are (e ∷ es) = run_put e.0 e.1 (text_runs es) ∙ ap (put_run e.0) (text_runs_are es)
-
-texts_put : (x : List Tuple) (c : ℕ) (rs : List TextRun) → HaveTexts rs → HaveTexts (put_text (x, c) rs)
-texts_put x c [] h = (refl, tt)
-texts_put x c (r ∷ rs) h = bool_cases (follows r.run.0 x) (λ e. rw e ((let l = h.0 in omega (arith, l)), h.1)) (λ e. rw e (refl, h))
-
-pub have_texts : (es : Entries) → HaveTexts (text_runs es)
-have_texts [] = tt
-have_texts (e ∷ es) = texts_put e.0 e.1 (text_runs es) (have_texts es)
 
 pub text_fit : (before : Option TextRun) (rs : List TextRun) → are_apart (run_before before) (runs_in rs) ≡ true → HaveTexts rs → All FitsChars rs → Chained FitsTextRun before rs
 text_fit before [] a t f = tt

@@ -1,28 +1,22 @@
 -- A replica that may be written as a file may be written after edits and after messages, whether or not a history stands behind it.
 use Rattle.std.proofs.Common.{◌≡◌, ◌≢◌, ◌∙◌, ◌<◌, ◌≤◌, ◌&&◌, ℕ, zero, suc, Bool, true, false, cond, not, eqb, nat_lt, List, [], ◌∷◌, length, Option, Some, None, Ok, refl, sym, ap, subst, arith, ⊎_elim, inl, inr}
-use Rattle.std.specs.Prelude.{◌≤ℤ◌, int_le, if◌then◌else◌}
+use Rattle.std.specs.Prelude.{if◌then◌else◌}
 use Rattle.std.specs.List.{find}
 use Rattle.std.proofs.lemmas.Bool.Decides.{nat_tests}
 use Rattle.rls_ident.specs.declared.limits.TheConstants.{OPERATION_BYTES, GREATEST_NUMBER}
-use Rattle.rls_ident.specs.declared.tuple.Tuple.{Tuple}
-use Rattle.rls_ident.specs.declared.tuple.Tuple.TheVariants.{Low, At, High}
-use Rattle.rls_ident.specs.Identifiers.{last_of, least_offset}
 use Rattle.rls_ident.specs.Lists.{IsIn}
-use Rattle.rls_ident.specs.Tuples.{offset_of}
 use Rattle.rls_ident.specs.Vectors.{at_most}
-use Rattle.rls_ident.proofs.Members.{and_left, found_in, in_split, int_le_is}
+use Rattle.rls_ident.proofs.Members.{found_in, in_split}
 use Rattle.rls_ops.specs.declared.op.Op.{Op}
-use Rattle.rls_ops.specs.declared.op.Body.{Body}
-use Rattle.rls_ops.specs.declared.op.Body.TheVariants.{Insert, Delete, Rename, Leave}
 use Rattle.rls_ops.specs.declared.op.Shape.{Shape}
-use Rattle.rls_ops.specs.Rows.{AcksSeen, counts, left, noted}
+use Rattle.rls_ops.specs.Rows.{counts, left, noted}
 use Rattle.rls_ops.specs.Shapes.{shape_fault}
 use Rattle.rls_ops.specs.Sizes.{op_size}
 use Rattle.rls_ops.specs.WellFormed.{IsInRange, IsOp}
 use Rattle.rls_ops.proofs.Waiting.{in_with, in_without, less_without, numbered_test}
-use Rattle.rls_codec.specs.Spelled.{Chained, FitTuples, FitsBody, IsSpelled}
+use Rattle.rls_codec.specs.Spelled.{Chained, IsSpelled}
 use Rattle.rls_codec.proofs.SizeLaws.{op_length}
-use Rattle.rls_codec.proofs.SpelledSound.{spelled_op}
+use Rattle.rls_codec.proofs.SpelledSound.{spelled_op, in_range}
 use Rattle.rls_model.specs.declared.edit.Edit.{Edit}
 use Rattle.rls_model.specs.declared.edit.EditError.{EditError}
 use Rattle.rls_model.specs.declared.edit.EditError.TheVariants as errors
@@ -33,15 +27,17 @@ use Rattle.rls_model.specs.Machine.{one_less, started}
 use Rattle.rls_model.proofs.Machines.{edit_unlimited, received_limit, released_limit, releases_keep, running_keeps, taking_keeps}
 use Rattle.rls_model.specs.WellFormed.{IsEdit}
 use Rattle.rls_model.proofs.Made.{or_none}
+use Rattle.rls_model.proofs.NothingReady.{empty_rests}
 use Rattle.rls_seen.specs.Edits.{edit_fault_over, edited, made_over, op_fault_over}
 use Rattle.rls_seen.specs.Messages.{by_parts, Course, receive_step, release_step, release_steps, with_releases, edit_step, take_ops, taken_within}
-use Rattle.rls_seen.specs.Over.{acks_after, answer_over, accepted, holding, received, refusal_over, first_ready, after_refusal, after_release, released, released_all, released_times, acknowledged}
+use Rattle.rls_seen.specs.Over.{answer_over, accepted, holding, received, refusal_over, first_ready, after_refusal, after_release, released, released_all, released_times, acknowledged}
 use Rattle.rls_seen.specs.Sane.{IsSane}
 use Rattle.rls_seen.specs.Seen.{Seen, members, own_count, vector, idents_over}
 use Rattle.rls_seen.proofs.Counting.{members_accepted, members_received, members_released}
 use Rattle.rls_seen.proofs.Making.{edited_sane}
 use Rattle.rls_seen.proofs.Repeating.{acknowledged_seen, received_seen, released_seen}
 use Rattle.rls_seen.proofs.Staying.{acknowledged_sane, received_sane, released_all_sane, released_sane}
+use Rattle.rls_seen.proofs.Accepting.{acks_me}
 use Rattle.rls_store.specs.Stored.{AreWritable}
 use Rattle.rls_store.specs.Kept.{FreshIsWritable, LinesKeepWritable, TakenIsWritable}
 
@@ -53,22 +49,8 @@ pub record IsGiven (o : Op) : Type 0 where
   pub ranged : IsInRange o.body
   pub size : op_size o ≤ OPERATION_BYTES
 
--- the last offset of what is spelled is in range
-least_last : (x : List Tuple) → FitTuples x → least_offset ≤ℤ offset_of (last_of x)
-least_last [] f = absurd f
-least_last (At p r s o ∷ []) f = int_le_is least_offset o (and_left (int_le least_offset o) _ f.3)
-least_last (Low ∷ []) f = absurd f
-least_last (High ∷ []) f = absurd f
-least_last (t ∷ (u ∷ x)) f = least_last (u ∷ x) f.1
-
-ranged_body : (b : Body) → FitsBody b → IsInRange b
-ranged_body (Insert first text) f = least_last first f.0.1
-ranged_body (Delete targets) f = tt
-ranged_body (Rename former) f = tt
-ranged_body Leave f = tt
-
 pub given_op : (n : ℕ) (o : Op) → IsSpelled n o → IsGiven o
-given_op n o s = let few = s.limit in record { whole = spelled_op n o s; ranged = ranged_body o.body s.body; size = omega (arith, op_length o, few) }
+given_op n o s = let few = s.limit in record { whole = spelled_op n o s; ranged = in_range o.body s.body; size = omega (arith, op_length o, few) }
 
 -- ---- states
 
@@ -92,18 +74,12 @@ storing s h w = record { sane = h; sized = sized s w }
 pub writable : (s : Seen) → IsSized s → first_ready s ≡ None → AreWritable s
 writable s h r = record { log = h.log; waiting = h.waiting; others = h.others; rest = r }
 
-me_after : (acks : AcksSeen) (a : ℕ) (b : Body) → (acks_after acks a b).me ≡ acks.me
-me_after acks a (Insert first text) = refl
-me_after acks a (Delete targets) = refl
-me_after acks a (Rename former) = refl
-me_after acks a Leave = refl
-
 accept_sized : (s : Seen) (o : Op) → IsSized s → op_size o ≤ OPERATION_BYTES → IsSized (accepted s o)
 unfolding accepted
 accept_sized s o h few = record {
   log = λ x p. ⊎_elim (λ q. h.log x q) (λ q. last x q) (in_split x s.log (o ∷ []) p);
   waiting = λ w p. h.waiting w (in_without o.author o.seq w s.waiting p).0;
-  others = λ w p. subst (λ m. w.author ≢ m) (sym (me_after s.acks o.author o.body)) (h.others w (in_without o.author o.seq w s.waiting p).0);
+  others = λ w p. subst (λ m. w.author ≢ m) (sym (acks_me s.acks o.author o.body)) (h.others w (in_without o.author o.seq w s.waiting p).0);
 }
   where
     last : (x : Op) → IsIn x (o ∷ []) → op_size x ≤ OPERATION_BYTES
@@ -241,11 +217,6 @@ edit_way : (n : ℕ) (c : Course) (edit : Edit) → IsOnWay n c → IsEdit edit 
 edit_way n c edit h i f =
     subst (IsOnWay n) (sym (edit_unlimited by_parts c edit h.limit))
     (record { storing = edited_storing c.state edit h.storing i f; members_are = members_accepted c.state (made_over c.state edit) ∙ h.members_are; limit = ap one_less h.limit })
-
--- nothing is ready behind as many releases as wait
-empty_rests : (t : Op → Bool) (W : List Op) → length W ≤ 0 → find t W ≡ None
-empty_rests t [] h = refl
-empty_rests t (w ∷ ws) h = absurd (omega arith)
 
 released_still : (s : Seen) → first_ready s ≡ None → released s ≡ s
 unfolding released

@@ -26,13 +26,14 @@ use Rattle.rls_parts.specs.Rules.{broken, epoch_fault, held_fault}
 use Rattle.rls_parts.proofs.EpochLists.{first_top}
 use Rattle.rls_parts.proofs.Passing.{passes}
 use Rattle.rls_parts.proofs.SaneEpochs.{retained_is}
-use Rattle.rls_parts.proofs.SanePasses.{sane_passes}
+use Rattle.rls_parts.proofs.SanePasses.{sane_passes, have_texts}
+use Rattle.rls_parts.proofs.SaneRows.{length-others}
 use Rattle.rls_fields.specs.Written.{FitsFormer}
 use Rattle.rls_fields.proofs.Puts.{few_names, parts_count, runs_within}
 use Rattle.rls_file.specs.SpelledFiles.{FitsEpoch, IsSpelledSnapshot}
 use Rattle.rls_store.specs.Sizes.{stored_size}
 use Rattle.rls_store.specs.Stored.{AreWritable, FitFields, StoredAgain}
-use Rattle.rls_store.proofs.Spelled.{each_stem, epochs_fit, follow_each, grouped, have_texts, held_passes, left_fit, ops_fit, part_idents, rows_count, rows_fit, rows_length, stems_rise, text_fit, text_runs_are, top_fits}
+use Rattle.rls_store.proofs.Spelled.{each_stem, epochs_fit, follow_each, grouped, held_passes, left_fit, ops_fit, part_idents, rows_fit, rows_length, stems_rise, text_fit, text_runs_are, top_fits}
 use Rattle.rls_store.proofs.Stored.{few_stems, from_stems, stored_length}
 
 -- ---- epochs
@@ -77,7 +78,7 @@ spelled s h w f none few =
     let n = members s in
     let pass = passes p none in
     let member = h.rows.member in
-    let count = rows_count s.acks h.rows in
+    let count = length-others s.acks h.rows in
     let names = few_names s.epochs.nodes (retained_over s) (omega (arith, few)) in
     let parts = parts_count s.epochs.nodes (retained_over s) in
     let some = some_retained s h in

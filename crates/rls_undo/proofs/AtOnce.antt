@@ -27,7 +27,7 @@ use Rattle.rls_seen.specs.Seen.{Seen, greatest_over, idents_over, text_over}
 use Rattle.rls_seen.specs.Over.{accepted, placed_over}
 use Rattle.rls_seen.specs.Edits.{made_over, edit_fault_over, edited}
 use Rattle.rls_seen.specs.Sane.{IsSane}
-use Rattle.rls_seen.proofs.EditedText.{inserted_entries, deleted_entries, deleted, delete_place, first_made, first_ident, run_ident, insert_made, delete_made, epoch_made, taken_out, take_drop_drop, cross, rises_right, zip_entries}
+use Rattle.rls_seen.proofs.EditedText.{inserted_entries, deleted_entries, deleted, delete_place, first_made, first_ident, run_ident, insert_made, delete_made, epoch_made, taken_out, take_drop_drop, cross, rises_right, zip_entries, placed_delete, placed_insert}
 use Rattle.rls_seen.proofs.Making.{edited_sane}
 use Rattle.rls_seen.proofs.TextLists.{ident_in}
 use Rattle.rls_undo.specs.declared.entry.Entry as undo
@@ -46,10 +46,6 @@ head_is x y e = cc
 greatest_insert : (s : Seen) (at : ℕ) (cs : List ℕ) → greatest_over (edited s (edits.Insert at cs)) ≡ greatest_over s
 unfolding accepted made_over
 greatest_insert s at cs = refl
-
-placed_insert : (s : Seen) (at : ℕ) (cs : List ℕ) (e : EpochName) (x : List Tuple) → placed_over (edited s (edits.Insert at cs)) e x ≡ placed_over s e x
-unfolding accepted made_over
-placed_insert s at cs e x = refl
 
 run_entries : (x : List Tuple) (cs : List ℕ) → run_idents x (length cs) ≡ ids (entries x cs)
 run_entries x [] = refl
@@ -86,10 +82,6 @@ insert_back s at cs entry sane i f h k =
 greatest_delete : (s : Seen) (at m : ℕ) → greatest_over (edited s (edits.Delete at m)) ≡ greatest_over s
 unfolding accepted made_over
 greatest_delete s at m = refl
-
-placed_delete : (s : Seen) (at m : ℕ) (e : EpochName) (x : List Tuple) → placed_over (edited s (edits.Delete at m)) e x ≡ placed_over s e x
-unfolding accepted made_over
-placed_delete s at m e x = refl
 
 take_front : {A : Type 0} (n : ℕ) (xs ys : List A) → n ≤ length xs → take n (take n xs ++ ys) ≡ take n xs
 take_front zero xs ys h = refl

@@ -12,14 +12,15 @@ use Rattle.rls_parts.proofs.RestoredLog.{held_restored}
 use Rattle.rls_parts.proofs.RestoredParts.{back}
 use Rattle.rls_parts.proofs.RestoredSane.{sane}
 use Rattle.rls_parts.proofs.StandsAgain.{stand}
-use Rattle.rls_replica.proofs.GivenPieces.{held_order, seen_so}
+use Rattle.rls_replica.proofs.GivenPieces.{seen_so}
+use Rattle.rls_replica.proofs.Answered.{held_in_order}
 use Rattle.rls_replica.proofs.replica.Replica.from_parts.Goals as goal
 
 pub text_and_waiting-requires-clause-order : goal.text_and_waiting-requires-clause-order
 text_and_waiting-requires-clause-order c =
     let p = c.args.parts in
     let made = c.in_ok-acks.ensures.made in
-    (held_order (length p.vector) p.vector p.held (held_restored p c.requires.given c.fit.ensures.ranged.held (passes p made.unbroken).held))
+    (held_in_order (length p.vector) p.vector p.held (held_restored p c.requires.given c.fit.ensures.ranged.held (passes p made.unbroken).held))
 
 pub invariant_of-result : goal.invariant_of-result
 invariant_of-result c =
