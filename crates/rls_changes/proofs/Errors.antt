@@ -6,9 +6,7 @@ use Rattle.rls_replica.specs.declared.translating.PastError.{PastError}
 use Rattle.rls_replica.specs.declared.translating.PastError.TheVariants as past
 use Rattle.rls_undo.specs.declared.undo.UndoError.{UndoError}
 use Rattle.rls_undo.specs.declared.undo.UndoError.TheVariants as undo
-
-err_as : {T U E : Type 0} (x y : E) → IsErrOf {T = T} {E = E} (Err x) y → IsErrOf {T = U} {E = E} (Err x) y
-err_as x y h = let e : x ≡ y = cc in ap (λ z. Err z) e
+use Rattle.rls_undo.proofs.Parts.{err_as}
 
 -- of a call that answers something else
 pub handed_on : {T U E : Type 0} (x y : E) (P : Type 0) → (IsErrOf {T = T} {E = E} (Err x) y ↔ P) → (IsErrOf {T = U} {E = E} (Err x) y ↔ P)
