@@ -36,7 +36,7 @@ get_snoc [] x y (suc i) h = absurd (cc)
 get_snoc (z ∷ xs) x y zero h = inl h
 get_snoc (z ∷ xs) x y (suc i) h = ⊎_elim (λ e. inl e) (λ e. inr (ap suc e.0, e.1)) (get_snoc xs x y i h)
 
-length-snoc : {A : Type 0} (xs : List A) (x : A) → length (xs ++ (x ∷ [])) ≡ suc (length xs)
+pub length-snoc : {A : Type 0} (xs : List A) (x : A) → length (xs ++ (x ∷ [])) ≡ suc (length xs)
 length-snoc [] x = refl
 length-snoc (y ∷ xs) x = ap suc (length-snoc xs x)
 
@@ -80,7 +80,7 @@ or_none : (e f : Option StepError) → or_else e f ≡ None → f ≡ None
 or_none (Some x) f h = absurd (cc)
 or_none None f h = h
 
-edit_none : (f : Option EditError) → of_edit f ≡ None → f ≡ None
+pub edit_none : (f : Option EditError) → of_edit f ≡ None → f ≡ None
 edit_none (Some x) h = absurd (cc)
 edit_none None h = refl
 

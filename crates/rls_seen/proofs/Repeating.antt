@@ -96,7 +96,7 @@ some_is (Some r) e = (r, refl)
 
 -- ---- releasing until none is ready
 
-times_done : (n : ℕ) (s : Seen) → released s ≡ s → released_times n s ≡ s
+pub times_done : (n : ℕ) (s : Seen) → released s ≡ s → released_times n s ≡ s
 times_done zero s e = refl
 times_done (suc n) s e = ap (released_times n) e ∙ times_done n s e
 

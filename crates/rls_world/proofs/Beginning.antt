@@ -6,14 +6,11 @@ use Rattle.rls_model.specs.Laws.{IsAfter}
 use Rattle.rls_model.specs.Receiving.{State}
 use Rattle.rls_model.specs.WellFormed.{IsLarge}
 use Rattle.rls_model.specs.Worlds.{fresh_states, empty_world}
+use Rattle.rls_model.proofs.WorldsLaws.{length-snoc}
 use Rattle.rls_seen.specs.Seen.{Seen, fresh}
 use Rattle.rls_seen.specs.Stands.{StandsFor}
 use Rattle.rls_seen.proofs.Starting.{fresh_stands}
 use Rattle.rls_world.specs.Seen.{AllStand, StandsForWorld, IsOfGroup, AreOfGroup, IsOneGroup, fresh_replicas, fresh_world}
-
-length-snoc : {A : Type 0} (xs : List A) (x : A) → length (xs ++ (x ∷ [])) ≡ suc (length xs)
-length-snoc [] x = refl
-length-snoc (y ∷ xs) x = ap suc (length-snoc xs x)
 
 stand_snoc : (ss : List Seen) (ts : List State) (s : Seen) (t : State) → AllStand ss ts → StandsFor s t → AllStand (ss ++ s ∷ []) (ts ++ t ∷ [])
 stand_snoc [] [] s t h l = (l, tt)

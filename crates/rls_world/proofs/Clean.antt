@@ -10,10 +10,10 @@ use Rattle.rls_model.specs.Editing.{edit_fault}
 use Rattle.rls_model.specs.Laws.{IsAfter}
 use Rattle.rls_model.specs.Receiving.{State}
 use Rattle.rls_model.specs.WellFormed.{IsEvent}
-use Rattle.rls_model.specs.Worlds.{World, Happening, AreEvents, happens, whole, run, fault_of, outcome_of, edit_outcome, deliver_outcome, member_fault, edit_fault_at}
+use Rattle.rls_model.specs.Worlds.{World, Happening, happens, whole, fault_of, outcome_of, edit_outcome, deliver_outcome, member_fault, edit_fault_at}
 use Rattle.rls_model.proofs.Applied.{edit_applied}
 use Rattle.rls_model.proofs.WorldsRuns.{run_append, events_append}
-use Rattle.rls_model.proofs.WorldsLaws.{no_refusal, equal_vectors}
+use Rattle.rls_model.proofs.WorldsLaws.{no_refusal, equal_vectors, edit_none}
 use Rattle.rls_seen.specs.Seen.{Seen, vector}
 use Rattle.rls_seen.proofs.Alike.{greatest_alike}
 use Rattle.rls_seen.proofs.Editing.{idents_alike}
@@ -21,7 +21,7 @@ use Rattle.rls_seen.proofs.Keeping.{text_alike}
 use Rattle.rls_world.specs.Alike.{ShowsSame}
 use Rattle.rls_world.specs.Clean.{NoneRefused, EditsOwn, IsClean}
 use Rattle.rls_world.specs.Seen.{WorldSeen, StandsForWorld}
-use Rattle.rls_world.proofs.Standing.{BothAt, all_at, first_none, none_of}
+use Rattle.rls_world.proofs.Standing.{BothAt, all_at, first_none}
 
 -- ---- one more event
 
@@ -48,7 +48,7 @@ taken_clean w hs (events.Drop i) a = tt
 own_clean : (w : World) (hs : List Happening) (e : Event) → IsEvent e → IsAfter w hs → fault_of w e ≡ None → EditsOwn w hs e
 own_clean w hs (events.Edit i edit) d a f = λ t h.
     let r = no_refusal w hs a in
-    let g = none_of (edit_fault t.history edit) (ap (λ o. edit_fault_at o edit) (sym h) ∙ (first_none (member_fault w i) (edit_fault_at (slice_get w.states i) edit) f).1) in
+    let g = edit_none (edit_fault t.history edit) (ap (λ o. edit_fault_at o edit) (sym h) ∙ (first_none (member_fault w i) (edit_fault_at (slice_get w.states i) edit) f).1) in
     (edit_applied t edit None refl, r.1 i t edit None h d.1 g, λ q. r.3 q i t edit None h d.1 g)
 own_clean w hs (events.Send from to) d a f = tt
 own_clean w hs (events.Deliver k to) d a f = tt

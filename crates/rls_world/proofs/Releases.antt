@@ -16,7 +16,7 @@ use Rattle.rls_seen.specs.Over.{accepted, holding, refusal_over, first_ready, re
 use Rattle.rls_seen.specs.Edits.{edited, edit_fault_over}
 use Rattle.rls_seen.specs.Messages.{by_parts, Course, started, moved, with_release, release_step, release_steps, with_releases, edit_step}
 use Rattle.rls_seen.specs.Stands.{StandsFor}
-use Rattle.rls_seen.proofs.Repeating.{released_none, released_seen}
+use Rattle.rls_seen.proofs.Repeating.{released_none, released_seen, times_done}
 use Rattle.rls_seen.proofs.Taking.{Goes, edited_goes}
 use Rattle.rls_world.specs.Events.{IsPartEdited}
 
@@ -26,10 +26,6 @@ use Rattle.rls_world.specs.Events.{IsPartEdited}
 pub steps_seen : (n : ℕ) (c : Course) → c.limit ≡ None → (release_steps n c).state ≡ released_times n c.state
 steps_seen zero c e = refl
 steps_seen (suc n) c e = steps_seen n (release_step c) (released_limit by_parts c e) ∙ ap (released_times n) (released_seen c e)
-
-times_same : (n : ℕ) (s : Seen) → released s ≡ s → released_times n s ≡ s
-times_same zero s e = refl
-times_same (suc n) s e = ap (released_times n) e ∙ times_same n s e
 
 -- the lesser of two numbers
 abbrev pub least : ℕ → ℕ → ℕ
@@ -41,7 +37,7 @@ least (suc k) (suc m) = suc (least k m)
 cut_seen : (c : Course) (k : ℕ) (r : Option Released) → c.limit ≡ Some (suc k) → release_over c.state ≡ r → (m : ℕ)
     → ((d : Course) (j : ℕ) → d.limit ≡ Some j → (release_steps m d).state ≡ released_times (least j m) d.state)
     → (release_steps m (with_release c r)).state ≡ released_times (least k m) (released c.state)
-cut_seen c k None e f m ih = ih c (suc k) e ∙ (times_same (least (suc k) m) c.state (released_none c.state f) ∙ (sym (times_same (least k m) c.state (released_none c.state f)) ∙ ap (released_times (least k m)) (sym (released_none c.state f))))
+cut_seen c k None e f m ih = ih c (suc k) e ∙ (times_done (least (suc k) m) c.state (released_none c.state f) ∙ (sym (times_done (least k m) c.state (released_none c.state f)) ∙ ap (released_times (least k m)) (sym (released_none c.state f))))
 cut_seen c k (Some r) e f m ih = let q : suc k - 1 ≡ k = omega arith in ih (with_release c (Some r)) k (ap one_less e ∙ ap (λ j. Some j) q)
 
 -- releases that are cut short
@@ -71,10 +67,10 @@ fewer_or_same {P = P} s f g = go (first_ready s) refl
 
 -- more releases than operations wait release no more
 pub times_most : (m n : ℕ) (s : Seen) → length s.waiting ≤ m → m ≤ n → released_times n s ≡ released_times m s
-times_most zero n s l h = fewer_or_same s (λ e. times_same n s e) (λ k. absurd (omega arith))
+times_most zero n s l h = fewer_or_same s (λ e. times_done n s e) (λ k. absurd (omega arith))
 times_most (suc m) zero s l h = absurd (omega arith)
 times_most (suc m) (suc n) s l h =
-    fewer_or_same s (λ e. times_same (suc n) s e ∙ sym (times_same (suc m) s e)) (λ k. times_most m n (released s) (omega arith) (omega arith))
+    fewer_or_same s (λ e. times_done (suc n) s e ∙ sym (times_done (suc m) s e)) (λ k. times_most m n (released s) (omega arith) (omega arith))
 
 -- some number of releases is one of at most as many as wait
 pub times_least : (n : ℕ) (s : Seen) → released_times (least n (length s.waiting)) s ≡ released_times n s

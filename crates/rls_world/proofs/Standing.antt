@@ -4,7 +4,6 @@ use Rattle.std.specs.Prelude.{slice_get, slice_set}
 use Rattle.rls_ident.proofs.Members.{bool_cases, get_in, lt_is}
 use Rattle.rls_ops.specs.declared.message.Message.{Message}
 use Rattle.rls_model.specs.declared.edit.Edit.{Edit}
-use Rattle.rls_model.specs.declared.edit.EditError.{EditError}
 use Rattle.rls_model.specs.declared.event.Event.{Event}
 use Rattle.rls_model.specs.declared.event.Event.TheVariants as events
 use Rattle.rls_model.specs.declared.event.Outcome.TheVariants as outcomes
@@ -30,6 +29,7 @@ use Rattle.rls_world.specs.Events.{member_fault, message_fault, edit_fault_at, f
 use Rattle.rls_world.specs.Seen.{WorldSeen, AllStand, StandsForWorld, IsOneGroup}
 use Rattle.rls_model.proofs.CutShort.{cut_short}
 use Rattle.rls_model.proofs.OnePlace.{set_get}
+use Rattle.rls_model.proofs.WorldsLaws.{edit_none}
 use Rattle.rls_world.proofs.Groups.{group_at}
 use Rattle.rls_world.proofs.Releases.{edit_stands, edit_part}
 
@@ -130,15 +130,11 @@ outcome_alike s w (events.Drop i) group g h = refl
 replica_stands : (s : WorldSeen) (w : World) (i : ℕ) (r : Seen) (t : State) → StandsForWorld s w → StandsFor r t → StandsForWorld (record { replicas = slice_set s.replicas i r; sent = s.sent }) (with_state w i t)
 replica_stands s w i r t h k = record { states = all_set s.replicas w.states i r t h.states k; sent = h.sent }
 
-pub none_of : (f : Option EditError) → of_edit f ≡ None → f ≡ None
-none_of None e = refl
-none_of (Some x) e = absurd (cc)
-
 edited_go : (s : WorldSeen) (w : World) (i : ℕ) (edit : Edit) (r : Option Seen) (t : Option State) → IsEdit edit → StandsForWorld s w → BothAt r t → edit_fault_at r edit ≡ None → StandsForWorld (edited_at s i r edit) (model.edit_at None w i t edit)
 edited_go s w i edit None None d h b f = h
 edited_go s w i edit None (Some t) d h b f = absurd b
 edited_go s w i edit (Some r) None d h b f = absurd b
-edited_go s w i edit (Some r) (Some t) d h b f = replica_stands s w i _ _ h (edit_stands r t edit d (none_of (edit_fault_over r edit) f) b)
+edited_go s w i edit (Some r) (Some t) d h b f = replica_stands s w i _ _ h (edit_stands r t edit d (edit_none (edit_fault_over r edit) f) b)
 
 sent_go : (s : WorldSeen) (w : World) (to : ℕ) (r : Option Seen) (t : Option State) → StandsForWorld s w → BothAt r t → ((x : Seen) → r ≡ Some x → to < members x) → StandsForWorld (sent_at s r to) (model.send_at None w t to)
 sent_go s w to None None h b l = h
@@ -199,7 +195,7 @@ edit_part_go : (s : WorldSeen) (w : World) (i : ℕ) (edit : Edit) (new : WorldS
 edit_part_go s w i edit new None t d h b f p = absurd p
 edit_part_go s w i edit new (Some r) None d h b f p = absurd b
 edit_part_go s w i edit new (Some r) (Some t) d h b f p =
-    let q = edit_part r p.0 t edit d (none_of (edit_fault_over r edit) f) b p.1 in
+    let q = edit_part r p.0 t edit d (edit_none (edit_fault_over r edit) f) b p.1 in
     (q.0, subst (λ u. StandsForWorld u (with_state w i (edit_within (Some q.0) t edit).state)) (sym p.2) (replica_stands s w i p.0 _ h q.1))
 
 deliver_part_go : (s : WorldSeen) (w : World) (i : ℕ) (new : WorldSeen) (r : Option Seen) (t : Option State) (m : Option Message) → StandsForWorld s w → BothAt r t → ((x : Seen) (y : Message) → r ≡ Some x → m ≡ Some y → IsMessage (members x) y) → HasPart s i r (PartTaken m) new
