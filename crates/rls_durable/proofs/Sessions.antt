@@ -11,7 +11,8 @@ use Rattle.rls_session.specs.Calls.{AreAllFilesOf, AreDue, Calls, CallsNothing, 
 use Rattle.rls_session.specs.Due.{Due}
 use Rattle.rls_durable.specs.Stops.{HasDue, IsOld, IsOldOrOneOf, LeavesInStore, LeavesInTurn, LeavesOldOrStores}
 use Rattle.rls_journal.proofs.Moments.{leaves_both, leaves_weaker}
-use Rattle.rls_durable.proofs.Survived.{at_some, loaded_only, to_some, uncalled_only}
+use Rattle.rls_journal.proofs.Parts.{at_some, to_some}
+use Rattle.rls_durable.proofs.Survived.{loaded_only, uncalled_only}
 
 -- the last of these files
 abbrev pub last_of : List ℕ → List (List ℕ) → List ℕ

@@ -1,20 +1,13 @@
 -- What a stop leaves of the disk, from the calls of the keeper that a command or a session makes.
-use Rattle.std.proofs.Common.{◌≡◌, ◌≢◌, ◌∙◌, ⊎_elim, inl, inr, ℕ, Bool, true, false, List, Option, Some, None, IfSome, IsTrue, IsFalse, refl, sym, subst, arith}
+use Rattle.std.proofs.Common.{◌≡◌, ◌≢◌, ◌∙◌, ⊎_elim, inl, inr, ℕ, Bool, true, false, List, Option, Some, IfSome, IsTrue, IsFalse, refl, sym, subst, arith}
 use Rattle.rls_journal.specs.Areas.{Areas, kept}
 use Rattle.rls_journal.specs.Disk.{LeavesOnly}
 use Rattle.rls_journal.specs.Keeper.{IsAtRest, IsOldOrNew, LoadGives, Rests, StoreGives}
 use Rattle.rls_journal.specs.Slots.{HasStored, IsSound}
 use Rattle.rls_journal.proofs.Rests.{rest_again, rest_kept, rest_leaves}
+use Rattle.rls_journal.proofs.Parts.{at_some, to_some}
 use Rattle.rls_stages.specs.Calls.{CallsNothing, CallsOf, FailsToLoad, FailsToStore, IsKeepersStatus, Loads, Stores}
 use Rattle.rls_durable.specs.Stops.{HasDue, IsOld, LeavesOldOrDue}
-
--- what is said of a value that is there
-pub at_some : {A : Type 0} (o : Option A) (P : A → Type 0) (x : A) → o ≡ Some x → IfSome o P → P x
-at_some o P x e h = subst (λ o. IfSome o P) e h
-
-pub to_some : {A : Type 0} (o : Option A) (P : A → Type 0) → ((x : A) → o ≡ Some x → P x) → IfSome o P
-to_some None P f = tt
-to_some (Some x) P f = f x refl
 
 both : {X : Type 0} (b : Bool) → IsTrue b → IsFalse b → X
 both b is isnt = absurd (let never : true ≡ false = sym is ∙ isnt in cc)

@@ -1,7 +1,7 @@
 pub mod Held
 mod Images
 pub mod Moments
-mod Parts
+pub mod Parts
 mod Recorded
 mod Replays
 pub mod Rests
