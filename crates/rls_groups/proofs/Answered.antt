@@ -28,7 +28,7 @@ use Rattle.rls_model.proofs.WorldsInvariant.{at_later}
 use Rattle.rls_model.proofs.WorldsPast.{taking_goes_on}
 use Rattle.rls_model.proofs.WorldsArrived.{edit_stays, message_stays}
 use Rattle.rls_seen.specs.Messages.{message_over}
-use Rattle.rls_seen.specs.Over.{after_release, first_ready, release_of, release_over, released, released_all}
+use Rattle.rls_seen.specs.Over.{first_ready, release_of, release_over, released, released_all}
 use Rattle.rls_seen.specs.Seen.{Seen, members, vector}
 use Rattle.rls_seen.specs.Stands.{StandsFor}
 use Rattle.rls_seen.proofs.Keeping.{text_alike}
@@ -36,6 +36,7 @@ use Rattle.rls_seen.proofs.Releasing.{first_alike}
 use Rattle.rls_seen.proofs.Repeating.{all_done}
 use Rattle.rls_seen.proofs.Sending.{message_alike, message_fits}
 use Rattle.rls_store.proofs.HistoryMessages.{sent_is_message}
+use Rattle.rls_store.proofs.Storable.{released_still}
 use Rattle.rls_undo.specs.declared.entry.Entry.{Entry}
 use Rattle.rls_undo.specs.UndoLaws.{AreEdits}
 use Rattle.rls_undo.specs.Undoing.{last_of, performed, planned, refusal}
@@ -51,7 +52,7 @@ use Rattle.rls_top.proofs.Groups.{Matches, of_file, shown}
 use Rattle.rls_anchor.specs.declared.anchor.Anchor.{Anchor}
 use Rattle.rls_session.specs.declared.orders.Side.{Side}
 use Rattle.rls_session.specs.declared.orders.Order.TheVariants as orders
-use Rattle.rls_session.specs.Answers.{Sitting, answer, edited, if_steps, made_changes, message_changes, pointed, read_line, rested, sent, taken, taken_at, text_reply, told, told_rested, undone, undone_by_plan, undone_changes, with_begun, with_caught_up, with_changes, with_state}
+use Rattle.rls_session.specs.Answers.{Sitting, answer, edited, if_steps, made_changes, message_changes, read_line, rested, sent, taken, taken_at, text_reply, told, told_rested, undone, undone_by_plan, undone_changes, with_begun, with_caught_up, with_changes, with_state}
 use Rattle.rls_changes.specs.declared.change.Change.{Change}
 use Rattle.rls_changes.specs.Edits.{edit_changes}
 use Rattle.rls_changes.specs.Telling.{all_released_changes, all_released_changes_in, ready_changes, times_changes}
@@ -84,10 +85,6 @@ use Rattle.rls_groups.proofs.Steps.{IsUnderway, at, edits, performs, rests, send
 rested_at : (t : Seen) → first_ready t ≡ None → released_all t ≡ t
 unfolding release_over
 rested_at t e = all_done t (ap (λ o. is_some (release_of t o)) e)
-
-released_still : (t : Seen) → first_ready t ≡ None → released t ≡ t
-unfolding released
-released_still t e = ap (after_release t) e
 
 times_none : (n : ℕ) (t : Seen) → first_ready t ≡ None → times_changes n t ≡ []
 times_none zero t e = refl

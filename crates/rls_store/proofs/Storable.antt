@@ -218,7 +218,7 @@ edit_way n c edit h i f =
     subst (IsOnWay n) (sym (edit_unlimited by_parts c edit h.limit))
     (record { storing = edited_storing c.state edit h.storing i f; members_are = members_accepted c.state (made_over c.state edit) ∙ h.members_are; limit = ap one_less h.limit })
 
-released_still : (s : Seen) → first_ready s ≡ None → released s ≡ s
+pub released_still : (s : Seen) → first_ready s ≡ None → released s ≡ s
 unfolding released
 released_still s e = ap (after_release s) e
 
