@@ -1,26 +1,17 @@
 -- A session over what a replica consists of is that over each history, from store to store.
 use Rattle.std.proofs.Common.{◌≡◌, ◌∙◌, ◌-◌, ℕ, Bool, true, false, cond, zero, suc, List, [], ◌∷◌, length, map, drop, refl, ap, subst}
-use Rattle.rls_ident.specs.declared.tuple.Tuple.{Tuple}
-use Rattle.rls_ident.proofs.Agreeing.{map_same}
 use Rattle.rls_codec.specs.CodecLaws.{IsBytes}
 use Rattle.rls_codec.proofs.Formats.{IsBytes-drop, IsBytes-tail}
-use Rattle.rls_model.specs.Epochs.{greatest, translate}
 use Rattle.rls_model.specs.Receiving.{State}
-use Rattle.rls_seen.specs.Over.{placed_over}
 use Rattle.rls_seen.specs.Sane.{IsSane}
 use Rattle.rls_seen.specs.Seen.{Seen}
 use Rattle.rls_seen.specs.Stands.{StandsFor}
-use Rattle.rls_seen.proofs.Accepting.{placed_alike}
-use Rattle.rls_seen.proofs.Alike.{greatest_alike}
 use Rattle.rls_seen.proofs.Dropped.{dropped_sane}
 use Rattle.rls_seen.proofs.Keeping.{dropped_stands}
-use Rattle.rls_replica.specs.Names.{keeps}
 use Rattle.rls_store.specs.Stored.{AreWritable}
+use Rattle.rls_store.proofs.Files.{dropped_writable}
 use Rattle.rls_undo.specs.declared.entry.Entry.{Entry}
-use Rattle.rls_undo.specs.declared.entry.Entry.TheVariants.{Inserted, Removed}
-use Rattle.rls_undo.specs.Plans.{epoch_in}
 use Rattle.rls_undo.specs.Undoing.{last_entries, settled, settled_over}
-use Rattle.rls_anchor.specs.Anchors.{anchor_over, before, behind, place}
 use Rattle.rls_anchor.specs.Anchors as anchors
 use Rattle.rls_anchor.proofs.Places.{settled_alike as anchor_alike}
 use Rattle.rls_session.specs.declared.desk.TheConstants.{KEPT_ENTRIES}
@@ -31,25 +22,18 @@ use Rattle.rls_session.specs.Courses.{Course, course, course_of, stretches, stre
 use Rattle.rls_session.specs.Desks.{AreUndoable}
 use Rattle.rls_session.specs.Sessions.{by_history, by_parts, session, session_in}
 use Rattle.rls_session.proofs.Courses.{IsSameCourse, courses_alike}
-use Rattle.rls_session.proofs.Resumed.{dropped_writable, whole_left}
+use Rattle.rls_session.proofs.Resumed.{whole_left}
 use Rattle.rls_session.proofs.Whole.{undoable_back}
 use Rattle.rls_session.proofs.Entries.{all_settled_whole, whole_back}
 use Rattle.rls_session.proofs.Steps.{settled_steps}
 use Rattle.rls_seen.specs.Kept.{dropped}
 use Rattle.rls_undo.proofs.Dropping.{greatest_stays}
+use Rattle.rls_undo.proofs.Alike.{settled_alike}
 use Rattle.rls_session.proofs.Given.{IsGiven, cut_given}
 use Rattle.rls_session.proofs.AlikeSittings.{IsAlike}
 use Rattle.rls_session.proofs.Agreeing.{answer_alike}
 
 -- ---- after a store
-
--- entries taken to the greatest epoch
-settled_alike : (s : Seen) (t : State) (entry : Entry) → StandsFor s t → keeps s (epoch_in entry) ≡ true → settled_over s entry ≡ settled t.history entry
-settled_alike s t (Inserted e ids) h k =
-    let there : List Tuple → List Tuple = λ x. translate t.history e (greatest t.history) x in
-    ap (λ g. Inserted g (map (placed_over s e) ids)) (greatest_alike s t h) ∙ ap (Inserted (greatest t.history)) (map_same (placed_over s e) there ids (λ x p. placed_alike s t h e x k))
-settled_alike s t (Removed e first cs) h k =
-    ap (λ g. Removed g (placed_over s e first) cs) (greatest_alike s t h) ∙ ap (λ x. Removed (greatest t.history) x cs) (placed_alike s t h e first k)
 
 all_settled : (s : Seen) (t : State) (es : List Entry) → StandsFor s t → AreUndoable s es → map (settled_over s) es ≡ map (settled t.history) es
 all_settled s t [] h k = refl

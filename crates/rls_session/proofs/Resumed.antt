@@ -1,15 +1,12 @@
 -- What a session goes back to lasts when what every member has is dropped.
-use Rattle.std.proofs.Common.{◌≡◌, List, [], ◌∷◌, map, Some, not, subst}
+use Rattle.std.proofs.Common.{◌≡◌, List, [], ◌∷◌, map, Some, subst}
 use Rattle.std.specs.Prelude.{IsTrue}
 use Rattle.rls_ident.specs.declared.epoch_name.EpochName.{EpochName}
-use Rattle.rls_ident.proofs.Members.{in_filter}
 use Rattle.rls_rename.proofs.Kept.{greatest_kept}
-use Rattle.rls_ops.specs.Rows.{is_covered}
 use Rattle.rls_seen.specs.Kept.{dropped}
 use Rattle.rls_seen.specs.Sane.{IsSane}
-use Rattle.rls_seen.specs.Seen.{Seen, stable_over}
+use Rattle.rls_seen.specs.Seen.{Seen}
 use Rattle.rls_replica.specs.Names.{keeps}
-use Rattle.rls_store.specs.Stored.{AreWritable}
 use Rattle.rls_undo.specs.declared.entry.Entry.{Entry}
 use Rattle.rls_undo.specs.declared.entry.Entry.TheVariants.{Inserted, Removed}
 use Rattle.rls_undo.specs.Plans.{epoch_in}
@@ -59,8 +56,3 @@ whole_cursors s es a b k h = record { undoable = h.undoable; anchored = k h.anch
 pub none_dropped : (s : Seen) (es : List Entry) (e : EpochName) → AreUndoable s es → first_dropped s es ≡ Some e → ⊥
 none_dropped s [] e h is = cc
 none_dropped s (x ∷ es) e h is = none_dropped s es e h.1 (subst (λ b. dropped_or b (epoch_in x) (first_dropped s es) ≡ Some e) h.0 is)
-
--- what may be written still may
-pub dropped_writable : (s : Seen) → AreWritable s → AreWritable (dropped s)
-unfolding dropped
-dropped_writable s w = record { log = λ o p. w.log o (in_filter (λ x. not (is_covered (stable_over s) x)) o s.log p).0; waiting = w.waiting; others = w.others; rest = w.rest }

@@ -106,7 +106,7 @@ holding_writable s t k b = record {
 
 -- ---- what is stable is dropped
 
-dropped_writable : (s : Seen) → AreWritable s → AreWritable (dropped s)
+pub dropped_writable : (s : Seen) → AreWritable s → AreWritable (dropped s)
 unfolding dropped
 dropped_writable s w = record { log = λ o p. w.log o (in_filter (λ x. not (is_covered (stable_over s) x)) o s.log p).0; waiting = w.waiting; others = w.others; rest = w.rest }
 

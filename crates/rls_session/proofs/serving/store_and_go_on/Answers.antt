@@ -6,7 +6,8 @@ use Rattle.rls_undo.specs.Undoing.{last_entries}
 use Rattle.rls_session.specs.declared.desk.TheConstants.{KEPT_ENTRIES}
 use Rattle.rls_session.specs.Desks.{IsWhole}
 use Rattle.rls_store.specs.Stored.{AreWritable}
-use Rattle.rls_session.proofs.Resumed.{dropped_writable, whole_left}
+use Rattle.rls_store.proofs.Files.{dropped_writable}
+use Rattle.rls_session.proofs.Resumed.{whole_left}
 use Rattle.rls_session.proofs.serving.store_and_go_on.Goals as goal
 
 pub drop_stable-requires : goal.drop_stable-requires
