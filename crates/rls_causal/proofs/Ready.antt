@@ -1,19 +1,14 @@
 -- Of one author's waiting operations, those that are ready, and those that can't be.
-use Rattle.std.proofs.Common.{◌≡◌, ℕ, zero, suc, ◌≤◌, ◌<◌, Bool, true, false, cond, List, [], ◌∷◌, None, Some, sym, ap, ◌∙◌, arith, inl, inr, ◌⊎◌, nat_le}
+use Rattle.std.proofs.Common.{◌≡◌, ℕ, suc, ◌≤◌, ◌<◌, Bool, true, false, cond, List, ◌∷◌, None, Some, sym, ap, ◌∙◌, arith, inl, inr, ◌⊎◌}
 use Rattle.std.specs.Prelude.{slice_index}
 use Rattle.std.specs.List.{list_all}
 use Rattle.rls_ident.specs.Vectors.{at_most}
 use Rattle.rls_ident.proofs.Members.{and_left, and_right, in_all, eq_is, le_is, none_found, not_true}
+use Rattle.rls_ident.proofs.Vectors.{index_le}
 use Rattle.rls_ops.specs.declared.op.Op.{Op}
 use Rattle.rls_ops.specs.Waiting.{comes_before, first_ready_at, is_in_order}
 use Rattle.rls_ops.proofs.Waiting.{before_is}
 use Rattle.rls_causal.specs.Queued.{is_by, counts_own}
-
-count_most : (v w : List ℕ) (i : ℕ) → at_most v w ≡ true → slice_index v i ≤ slice_index w i
-count_most [] w i h = omega arith
-count_most (m ∷ v) [] i h = absurd (cc)
-count_most (m ∷ v) (n ∷ w) zero h = le_is m n (and_left (nat_le m n) (at_most v w) h)
-count_most (m ∷ v) (n ∷ w) (suc i) h = count_most v w i (and_right (nat_le m n) (at_most v w) h)
 
 -- what comes after an operation that comes after the vector's count, of the same author, counts more than the vector
 too_late : (w x : Op) (v : List ℕ) → comes_before w x ≡ true → w.author ≡ x.author → slice_index v w.author < w.seq → x.seq ≤ suc (slice_index x.context x.author) → slice_index x.context x.author ≤ slice_index v x.author → ⊥
@@ -57,4 +52,4 @@ module _ (v : List ℕ) (W : List Op) (w : Op) (ws rest : List Op) (at : rest �
       (eq_is w.author a (and_left (is_by a w) (list_all (is_by a) ws) (passes_at (is_by a) by)) ∙ sym (eq_is x.author a (in_all (is_by a) x ws (and_right (is_by a w) (list_all (is_by a) ws) (passes_at (is_by a) by)) p)))
       ahead
       (le_is x.seq (suc (slice_index x.context x.author)) (in_all counts_own x ws (and_right (counts_own w) (list_all counts_own ws) (passes_at counts_own counted)) p))
-      (count_most x.context v x.author ready)))
+      (index_le x.context v x.author ready)))
