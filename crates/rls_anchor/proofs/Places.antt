@@ -9,7 +9,7 @@ use Rattle.rls_ident.specs.Identifiers.{ident_eq, ident_lt, shifted}
 use Rattle.rls_ident.specs.Lists.{IsIn}
 use Rattle.rls_ident.proofs.Lists.{Lt, lt_irrefl, lt_trans}
 use Rattle.rls_ident.proofs.Members.{in_map, map_in, in_left, in_right, in_split, get_in, any_in, in_any, bool_cases, lt_is, not_lt_is, not_lt_test}
-use Rattle.rls_ident.proofs.Reads.{get_of}
+use Rattle.rls_ident.proofs.Positions.{get_of}
 use Rattle.rls_ident.proofs.Ends.{eq_same}
 use Rattle.rls_ident.proofs.Tuples.{tuples}
 use Rattle.rls_rename.specs.Tree.{is_kept}

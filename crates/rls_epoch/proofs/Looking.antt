@@ -9,7 +9,7 @@ use Rattle.rls_ident.specs.declared.epoch_name.EpochName.{EpochName}
 use Rattle.rls_ident.specs.declared.epoch_name.EpochName.TheVariants.{Origin, Of}
 use Rattle.rls_ident.specs.EpochNames.{is_within, is_of_member, name_eq}
 use Rattle.rls_ident.proofs.Members.{le_is, le_test, or_right, or_split}
-use Rattle.rls_ident.proofs.Reads.{get_of}
+use Rattle.rls_ident.proofs.Positions.{get_of}
 use Rattle.rls_ident.proofs.Named.{name_eq_is}
 use Rattle.rls_rename.specs.Tree.{epoch_cmp, greatest_within, has_node, is_kept}
 use Rattle.rls_rename.proofs.Order.{within_is, IsAllowed}

@@ -11,7 +11,7 @@ use Rattle.rls_ident.specs.declared.epoch_name.EpochName.{EpochName}
 use Rattle.rls_ident.specs.EpochNames.{name_eq}
 use Rattle.rls_ident.proofs.Named.{name_eq_is, name_eq_refl}
 use Rattle.rls_ident.proofs.Members.{not_true, some_is, true_false}
-use Rattle.rls_ident.proofs.Reads.{get_of}
+use Rattle.rls_ident.proofs.Positions.{get_of}
 use Rattle.rls_ident.proofs.Lists.{then_decided}
 use Rattle.rls_rename.specs.Renaming.{Renaming}
 use Rattle.rls_rename.specs.Tree.{Node, name_of, is_of, has_node, AreNodes, path, renaming_cmp, epoch_cmp}

@@ -10,7 +10,7 @@ use Rattle.rls_ident.specs.declared.epoch_name.EpochName.{EpochName}
 use Rattle.rls_ident.specs.Identifiers.{is_ident, IsIdent, ident_cmp, ident_lt}
 use Rattle.rls_ident.proofs.Iso.{inverse, kept}
 use Rattle.rls_ident.proofs.Members.{and_left, and_right, and_true, lt_test}
-use Rattle.rls_ident.proofs.Reads.{get_of}
+use Rattle.rls_ident.proofs.Positions.{get_of}
 use Rattle.rls_rename.specs.Renaming.{IsFormer, Renaming, back, forward}
 use Rattle.rls_rename.specs.Tree.{AreNodes, translate}
 use Rattle.rls_rename.proofs.Paths.{renaming_iso}

@@ -7,7 +7,7 @@ use Rattle.rls_ident.specs.declared.epoch_name.EpochName.{EpochName}
 use Rattle.rls_ident.specs.EpochNames.{name_eq, is_within}
 use Rattle.rls_ident.specs.Lists.{IsIn}
 use Rattle.rls_ident.proofs.Members.{in_map, in_right, in_split, map_in, or_left, or_right, or_split}
-use Rattle.rls_ident.proofs.Reads.{get_of}
+use Rattle.rls_ident.proofs.Positions.{get_of}
 use Rattle.rls_ident.proofs.Named.{name_eq_is, name_eq_refl}
 use Rattle.std.proofs.lemmas.Option.{slice_get_within}
 use Rattle.rls_rename.specs.Tree.{Node, name_of, has_node, is_kept, path, epoch_cmp, greatest, greatest_within}

@@ -8,7 +8,7 @@ use Rattle.std.proofs.lemmas.Nat.{mul-le}
 use Rattle.rls_ident.specs.declared.tuple.Tuple.{Tuple}
 use Rattle.rls_ident.specs.Identifiers.{is_ident, IsIdent, ident_lt}
 use Rattle.rls_ident.proofs.Members.{and_left, and_right, and_true}
-use Rattle.rls_ident.proofs.Reads.{get_of}
+use Rattle.rls_ident.proofs.Positions.{get_of}
 use Rattle.rls_rename.specs.Tree.{AreNodes}
 use Rattle.rls_rename.proofs.Former.{former_in}
 use Rattle.rls_rename.proofs.Paths.{renaming_iso}

@@ -11,7 +11,7 @@ use Rattle.rls_ident.specs.declared.epoch_name.EpochName.{EpochName}
 use Rattle.rls_ident.specs.EpochNames.{name_eq}
 use Rattle.rls_ident.specs.Lists.{IsIn}
 use Rattle.rls_ident.proofs.Members.{and_true, in_map, lt_is, lt_test, map_in, or_right, same_bool, some_is}
-use Rattle.rls_ident.proofs.Reads.{get_of}
+use Rattle.rls_ident.proofs.Positions.{get_of}
 use Rattle.rls_rename.specs.Tree.{Node, name_of, has_node, is_kept, path, epoch_cmp, greatest}
 use Rattle.rls_rename.specs.Connected.{begins_with, top_path, is_spanned}
 use Rattle.rls_rename.specs.Keeping.{end_of, is_below, kept_nodes, kept_part, part, reached}

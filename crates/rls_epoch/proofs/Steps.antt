@@ -12,7 +12,7 @@ use Rattle.rls_ident.specs.declared.epoch_name.EpochName.{EpochName}
 use Rattle.rls_ident.specs.Identifiers.{IsIdent}
 use Rattle.rls_ident.specs.Lists.{IsIn}
 use Rattle.rls_ident.proofs.Members.{map_in, in_left, in_right, some_is, get_in}
-use Rattle.rls_ident.proofs.Reads.{get_of}
+use Rattle.rls_ident.proofs.Positions.{get_of}
 use Rattle.rls_rename.specs.Renaming.{Renaming, IsFormer, forward, back}
 use Rattle.rls_rename.specs.Tree.{Node, name_of, AreNodes, AreBelow, path, forward_all, back_all, translate}
 use Rattle.rls_rename.proofs.Paths.{path_iso, path-renamings, renaming_iso, translate_is, translate_translate}

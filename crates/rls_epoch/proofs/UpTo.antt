@@ -14,7 +14,7 @@ use Rattle.rls_ident.specs.EpochNames.{name_eq}
 use Rattle.rls_ident.proofs.Lists.{then_less}
 use Rattle.rls_ident.proofs.Members.{and_left, and_right, and_true, bool_cases, eq_is, eq_test, le_is, le_test, less_is, or_left, or_right, true_false}
 use Rattle.rls_ident.proofs.Named.{name_eq_refl}
-use Rattle.rls_ident.proofs.Reads.{get_of}
+use Rattle.rls_ident.proofs.Positions.{get_of}
 use Rattle.rls_ident.proofs.Tuples.{nat_same}
 use Rattle.rls_rename.specs.Tree.{Node, has_node, is_kept, AreNodes, AreBelow, epoch_cmp}
 use Rattle.rls_rename.proofs.Order.{above_trans, less_self, older_cmp}

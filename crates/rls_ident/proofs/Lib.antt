@@ -10,7 +10,7 @@ pub mod Down
 pub mod Loops
 pub mod BetweenLaws
 pub mod Members
-pub mod Reads
+pub mod Positions
 pub mod Agreeing
 pub mod Vectors
 pub mod Named

@@ -6,7 +6,7 @@ use Rattle.std.proofs.lemmas.Option.{slice_get-map}
 use Rattle.rls_ident.specs.declared.limits.TheConstants.{INPUT_BYTES, MEMBERS, FILE_BYTES}
 use Rattle.rls_ident.specs.Lists.{IsIn}
 use Rattle.rls_ident.proofs.Members.{bool_cases, eq_is, eq_not, in_left, in_right, in_split, not_lt_test, some_is}
-use Rattle.rls_ident.proofs.Reads.{get_of}
+use Rattle.rls_ident.proofs.Positions.{get_of}
 use Rattle.rls_ops.specs.declared.message.Message.{Message}
 use Rattle.rls_ops.specs.declared.op.Op.{Op}
 use Rattle.rls_codec.specs.CodecLaws.{IsMessage}

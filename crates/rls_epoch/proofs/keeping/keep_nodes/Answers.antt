@@ -5,7 +5,7 @@ use Rattle.std.proofs.lemmas.Grind.{drop_more_same}
 use Rattle.std.proofs.lemmas.List.Edits.{length-swap}
 use Rattle.std.proofs.lemmas.Option.{slice_get_read}
 use Rattle.rls_ident.proofs.Members.{lt_is, some_is}
-use Rattle.rls_ident.proofs.Reads.{get_of}
+use Rattle.rls_ident.proofs.Positions.{get_of}
 use Rattle.rls_epoch.specs.declared.placed.Placed.{Placed}
 use Rattle.rls_epoch.specs.Marks.{kept_placed, moved}
 use Rattle.rls_epoch.proofs.Compacting.{dropped_get, kept_placed_more, kept_placed_none, read_rest, swap_front, swap_rest}

@@ -1,5 +1,5 @@
 use Rattle.std.proofs.Common.{◌≡◌, ◌+◌, true, false, take, drop, get_or, nat_lt, sym, ap, ◌∙◌, arith}
-use Rattle.rls_ident.proofs.Reads.{get_of}
+use Rattle.rls_ident.proofs.Positions.{get_of}
 use Rattle.rls_epoch.specs.Marks.{kept_sum}
 use Rattle.rls_epoch.proofs.Compacting.{dropped_get, kept_sum_most, kept_sum_none, kept_sum_taken, sum_next}
 use Rattle.rls_epoch.proofs.nodes.Nodes.former_kept.Goals as goal

@@ -1,7 +1,7 @@
 use Rattle.std.proofs.Common.{◌+◌, drop, take, sum_by, ap, arith}
 use Rattle.std.proofs.lemmas.List.{drop_all, length-take}
 use Rattle.rls_ident.proofs.Loops.{drop_reads}
-use Rattle.rls_ident.proofs.Reads.{get_of}
+use Rattle.rls_ident.proofs.Positions.{get_of}
 use Rattle.rls_ops.specs.Sizes.{op_size}
 use Rattle.rls_log.proofs.Steps.{get_take, size_next, part_size}
 use Rattle.rls_log.proofs.log.Log.first_len.Goals as goal

@@ -1,5 +1,5 @@
 use Rattle.std.proofs.Common.{◌<◌, ap, length, refl, arith}
-use Rattle.rls_ident.proofs.Reads.{get_of}
+use Rattle.rls_ident.proofs.Positions.{get_of}
 use Rattle.rls_seen.specs.Seen.{Seen}
 use Rattle.rls_replica.proofs.Targets.{named_at}
 use Rattle.rls_replica.proofs.replica.Replica.is_named.Goals as goal

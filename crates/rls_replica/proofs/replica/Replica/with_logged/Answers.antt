@@ -1,7 +1,7 @@
 use Rattle.std.proofs.Common.{◌∙◌, ◌<◌, length, take, Option, List, ap, subst, arith}
 use Rattle.rls_ident.specs.declared.tuple.Tuple.{Tuple}
 use Rattle.rls_ident.proofs.Members.{get_in}
-use Rattle.rls_ident.proofs.Reads.{get_of}
+use Rattle.rls_ident.proofs.Positions.{get_of}
 use Rattle.rls_seen.specs.Seen.{Seen}
 use Rattle.rls_replica.specs.Gone.{AllNoted, AreNamed}
 use Rattle.rls_replica.proofs.Noting.{found_at, nothing_at, no_names, with_names, without_names}

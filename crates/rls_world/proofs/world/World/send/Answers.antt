@@ -1,7 +1,7 @@
 use Rattle.std.proofs.Common.{◌≡◌, ◌∙◌, ◌<◌, Some, length, sym, subst}
 use Rattle.std.specs.Prelude.{slice_get}
 use Rattle.rls_ident.proofs.Members.{lt_is}
-use Rattle.rls_ident.proofs.Reads.{get_of}
+use Rattle.rls_ident.proofs.Positions.{get_of}
 use Rattle.rls_model.specs.declared.event.Event.TheVariants as events
 use Rattle.rls_seen.specs.Messages.{message_over}
 use Rattle.rls_world.specs.Events.{IsStep}
