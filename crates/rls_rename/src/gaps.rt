@@ -92,7 +92,11 @@ impl Pairing {
         let a = self.former.get(gap - 1)?;
         let b = self.former.get(gap)?;
         let x = Stretch::below(run, &b)?;
-        new_between(self.first, gap - 1, old_between_inverse(self.alloc, &a, b, x)?)
+        new_between(
+            self.first,
+            gap - 1,
+            old_between_inverse(self.alloc, &a, b, x)?,
+        )
     }
 
     // The place among the new identifiers, or where it isn't there the number of those less than it.
@@ -100,7 +104,10 @@ impl Pairing {
     fn new_place(&self, id: &Ident) -> Result<u64, u64>
         ensures place { result ≡ place_of id.now (new_from self.now.first 0 self.now.former) }
     {
-        let Ok(run) = Run::new(new_at(self.alloc, self.first, 0), self.former.total() as u32) else {
+        let Ok(run) = Run::new(
+            new_at(self.alloc, self.first, 0),
+            self.former.total() as u32,
+        ) else {
             unreachable!()
         };
         match run.find(id) {
