@@ -1,12 +1,8 @@
 //! The choice between a session and a command.
 
-ghost use Rattle.std.specs.Prelude.{◌≡◌, map, string_bytes, IsErr, IsTrue, IsFalse};
-ghost use Rattle.rls_io.specs.Device.{Rose};
-ghost use Rattle.rls_cli.specs.Folder.{CountsWith, faults_of};
-ghost use Rattle.rls_cli.specs.Performing.{begins_session};
-ghost use Rattle.rls_session.specs.Devices.{devices};
-ghost use Rattle.rls_session.specs.Serving.{SessionEnds};
-ghost use Rattle.rls_top.specs.Running.{CommandEnds};
+ghost use Rattle.std.specs.Prelude.{◌≡◌, None, map, string_bytes, IfOk, IsErr};
+ghost use Rattle.rls_cli.specs.Folder.{CountsWith, LoadGives, StoreGives, faults_of};
+ghost use Rattle.rls_cli.specs.Performing.{ProgramEnds};
 
 use crate::folder::FolderKeeper;
 use rls_io::{Keeper, Sink, Source};
@@ -28,15 +24,8 @@ pub(crate) fn perform<K: Keeper, S: Source, W: Sink, E: Sink>(
     output: &mut W,
     errors: &mut E,
 ) -> u8
-    // How it ends, what it leaves, and which calls it makes of which devices.
-    ensures session { IsTrue (begins_session (map string_bytes words.now)) → SessionEnds K.load_gives K.store_gives ((input.new ≡ input.old) × (output.new ≡ output.old)) result keeper.old keeper.new
-        (devices K.file K.faults S.left S.faults W.told W.faults keeper.old input.old output.old) (devices K.file K.faults S.left S.faults W.told W.faults keeper.new input.new output.new) }
-    ensures command { IsFalse (begins_session (map string_bytes words.now)) → CommandEnds K.file K.faults K.load_gives K.store_gives S.left S.faults W.told W.faults (map string_bytes words.now) result keeper.old keeper.new input.old input.new output.old output.new }
-
-    // The device of the status has failed.
-    ensures keeper { result ≡ 7 → Rose (K.faults keeper.old) (K.faults keeper.new) }
-    ensures input { result ≡ 8 → Rose (S.faults input.old) (S.faults input.new) }
-    ensures output { result ≡ 9 → Rose (W.faults output.old) (W.faults output.new) }
+    // How it ends, what it leaves, and which calls it makes of which devices, of which the one of the status has failed.
+    ensures ends { ProgramEnds K.file K.faults K.load_gives K.store_gives S.left S.faults W.told W.faults (map string_bytes words.now) result keeper.old keeper.new input.old input.new output.old output.new }
 {
     if begins_session(words) {
         return serve(alloc, keeper, input, output, errors);
@@ -44,8 +33,8 @@ pub(crate) fn perform<K: Keeper, S: Source, W: Sink, E: Sink>(
     run(alloc, words, keeper, input, output, errors)
 }
 
-/// The same over the keeper of the current folder, as the program does it. With status 7 the keeper has failed at one call, the last;
-/// with every other status but 10 it hasn't failed, so another device that failed was the first.
+/// The same over the keeper of the current folder, which doesn't tell its file, as the program does it. With status 7 the keeper has failed
+/// at one call, the last; with every other status but 10 it hasn't failed, so another device that failed was the first.
 pub(crate) fn perform_in_folder<R: Files, S: Source, W: Sink, E: Sink>(
     alloc: Global,
     words: &[String],
@@ -54,9 +43,8 @@ pub(crate) fn perform_in_folder<R: Files, S: Source, W: Sink, E: Sink>(
     output: &mut W,
     errors: &mut E,
 ) -> u8
+    ensures ends { ProgramEnds (λ _. None) faults_of LoadGives StoreGives S.left S.faults W.told W.faults (map string_bytes words.now) result keeper.old keeper.new input.old input.new output.old output.new }
     ensures keeper { CountsWith result (faults_of keeper.old) (faults_of keeper.new) }
-    ensures input { result ≡ 8 → Rose (S.faults input.old) (S.faults input.new) }
-    ensures output { result ≡ 9 → Rose (W.faults output.old) (W.faults output.new) }
 {
     perform(alloc, words, keeper, input, output, errors)
 }
@@ -71,9 +59,8 @@ pub(crate) fn perform_given<R: Files, S: Source, W: Sink, E: Sink>(
     errors: &mut E,
 ) -> u8
     ensures none { IsErr words → (result ≡ 10) × (keeper.new ≡ keeper.old) × (input.new ≡ input.old) × (output.new ≡ output.old) × (errors.new ≡ errors.old) }
+    ensures ends { IfOk words (λ ws. ProgramEnds (λ _. None) faults_of LoadGives StoreGives S.left S.faults W.told W.faults (map string_bytes ws.items) result keeper.old keeper.new input.old input.new output.old output.new) }
     ensures keeper { CountsWith result (faults_of keeper.old) (faults_of keeper.new) }
-    ensures input { result ≡ 8 → Rose (S.faults input.old) (S.faults input.new) }
-    ensures output { result ≡ 9 → Rose (W.faults output.old) (W.faults output.new) }
 {
     match words {
         Ok(words) => perform_in_folder(alloc, &words, keeper, input, output, errors),

@@ -1,0 +1,10 @@
+use Rattle.std.proofs.Common.{◌≡◌, ◌∙◌, true, false, map, string_bytes, sym}
+use Rattle.rls_session.specs.Words.{begins_session}
+use Rattle.rls_cli.proofs.Ending.{command_ending, session_ending}
+use Rattle.rls_cli.proofs.performing.perform.Goals as goal
+
+pub returns-then-begins_session : goal.returns-then-begins_session
+returns-then-begins_session g c = record { ends = session_ending (sym c.begins_session.ensures.session ∙ c.if-begins_session.true) c.serve.ensures.ends }
+
+pub returns : goal.returns
+returns g c = record { ends = command_ending (sym c.begins_session.ensures.session ∙ c.if-begins_session.false) c.run.ensures.ends }
