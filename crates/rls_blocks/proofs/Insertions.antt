@@ -1,20 +1,21 @@
 -- What a run put in at a place leaves.
-use Rattle.std.proofs.Common.{◌≡◌, ℕ, ◌+◌, ◌-◌, ◌<◌, None, Some, Bool, true, false, List, [], ◌∷◌, ◌++◌, length, refl, sym, ap, subst, ◌∙◌, arith, append_assoc}
-use Rattle.std.specs.Prelude.{nat_lt, if◌then◌else◌}
+use Rattle.std.proofs.Common.{◌≡◌, ℕ, ◌+◌, ◌-◌, ◌<◌, Option, None, Some, Bool, true, false, List, [], ◌∷◌, ◌++◌, length, refl, sym, ap, subst, ◌∙◌, arith, append_assoc}
+use Rattle.std.specs.Prelude.{nat_lt, nat_eq, ◌&&◌, IfSome, if◌then◌else◌}
 use Rattle.rls_ident.specs.Identifiers.{follows}
-use Rattle.rls_ident.proofs.Members.{lt_is, not_lt_is}
+use Rattle.rls_ident.proofs.Members.{and_left, and_right, eq_is, eq_test, lt_is, not_lt_is, not_true}
 use Rattle.rls_runs.specs.Runs.{run_last, is_increasing}
 use Rattle.rls_runs.specs.Entries.{idents_in}
 use Rattle.rls_runs.proofs.RunOrder.{run_some}
+use Rattle.rls_blocks.specs.declared.change.Change.TheVariants.{Grow}
 use Rattle.rls_blocks.specs.declared.side.Side.TheVariants.{Front, Behind}
 use Rattle.rls_blocks.specs.Trees.{Piece, IsPiece, ArePieces, piece_entries, entries_of, runs_in}
-use Rattle.rls_blocks.specs.Edits.{joined, part_of, located, put_among, begins_with, goes_on, leads_to, are_loose, inserted, Shows}
+use Rattle.rls_blocks.specs.Edits.{joined, part_of, located, put_among, changed_at, MayChange, begins_with, ends_with, goes_on, leads_to, are_loose, inserted, Shows}
 use Rattle.rls_blocks.proofs.Pieces.{entries_append, chars_append, are_append}
 use Rattle.rls_blocks.proofs.Loose.{last_run, last_append}
 use Rattle.rls_blocks.proofs.Changes.{put_between}
 use Rattle.rls_blocks.proofs.AtPlaces.{within_order, put_within}
 use Rattle.rls_blocks.proofs.Cases.{new_shows, grown_last, grown_first, within_shows, single_chars}
-use Rattle.rls_blocks.proofs.Placed.{Around, put_around, begins_is, begun}
+use Rattle.rls_blocks.proofs.Placed.{Around, put_around, changed_around, begins_is, begun}
 
 -- in front of all blocks
 pub first_shows : (bs : List Piece) (n : Piece) → ArePieces bs → are_loose None (runs_in bs) ≡ true → begins_with (located bs 0) n.0 ≡ false → Shows (inserted 0 (piece_entries n) (entries_of bs)) (n ∷ bs)
@@ -32,7 +33,7 @@ module _ (bs : List Piece) (n : Piece) (j : ℕ) (r : Around bs j) (own : IsPiec
   parted = ap (λ xs. are_loose None (runs_in xs)) (sym all) ∙ loose
 
   -- in front of it, joined to its block
-  pub front_shows : begins_with (located bs j) n.0 ≡ true → goes_on (last_run r.front) n.0.0 ≡ false → Shows (inserted j (piece_entries n) (entries_of bs)) (put_among Front n bs j)
+  pub front_shows : begins_with (located bs j) n.0 ≡ true → goes_on (last_run r.front) n.0.0 ≡ false → Shows (inserted j (piece_entries n) (entries_of bs)) (changed_at (Grow Front n) bs j)
   front_shows e a =
       let first = begun bs j r n.0 e in
       let none = first.0 in
@@ -40,7 +41,8 @@ module _ (bs : List Piece) (n : Piece) (j : ℕ) (r : Around bs j) (own : IsPiec
       let shows = grown_first r.front r.behind r.own n parted own.as_many sound (run_some r.own.0 r.own_is.sound) a first.1 in
       let put = put_between (entries_of r.front) (piece_entries n) (entries_of (r.own ∷ r.behind)) j (omega (arith, none, place))
       ∙ ap (inserted j (piece_entries n)) (sym (entries_append r.front (r.own ∷ r.behind)) ∙ ap entries_of (sym r.blocks_are)) in
-      subst (λ es. Shows es (put_among Front n bs j)) put (subst (Shows (entries_of r.front ++ piece_entries n ++ entries_of (r.own ∷ r.behind))) (sym (put_around Front n bs j r)) shows)
+      subst (λ es. Shows es (changed_at (Grow Front n) bs j)) put
+      (subst (Shows (entries_of r.front ++ piece_entries n ++ entries_of (r.own ∷ r.behind))) (append_assoc r.front (joined n r.own ∷ []) r.behind ∙ sym (changed_around (Grow Front n) bs j r)) shows)
 
   -- behind it
   module _ (i : ℕ) (next : i ≡ j + 1) (begins : begins_with (located bs i) n.0 ≡ false) (rises : is_increasing (idents_in (inserted i (piece_entries n) (entries_of bs))) ≡ true) where
@@ -82,18 +84,39 @@ module _ (bs : List Piece) (n : Piece) (j : ℕ) (r : Around bs j) (own : IsPiec
           (subst (Shows (entries_of (r.front ++ r.own ∷ []) ++ piece_entries n ++ entries_of r.behind)) (ap (λ xs. xs ++ r.behind) (append_assoc r.front (r.own ∷ []) (n ∷ [])))
           (new_shows (r.front ++ r.own ∷ []) r.behind n parted (ap (λ q. goes_on q n.0.0) (last_append r.front r.own) ∙ t) leads))
 
-    pub behind_shows : Shows (inserted i (piece_entries n) (entries_of bs)) (put_among Behind n bs j)
-    behind_shows = subst (Shows (inserted i (piece_entries n) (entries_of bs))) (sym (put_around Behind n bs j r)) (go (nat_lt (r.at + 1) (length r.own.1)) refl)
+    -- joined to its block
+    pub last_shows : ends_with (located bs j) n.0.0 ≡ true → Shows (inserted i (piece_entries n) (entries_of bs)) (changed_at (Grow Behind n) bs j)
+    last_shows e =
+        let both : (nat_eq (r.at + 1) (length r.own.1) && follows n.0.0 (run_last r.own.0)) ≡ true = ap (λ p. ends_with p n.0.0) (sym r.there) ∙ e in
+        let last = eq_is (r.at + 1) (length r.own.1) (and_left (nat_eq (r.at + 1) (length r.own.1)) (follows n.0.0 (run_last r.own.0)) both) in
+        let ends : nat_lt (r.at + 1) (length r.own.1) ≡ false = not_true (nat_lt (r.at + 1) (length r.own.1)) (λ t. let w = lt_is (r.at + 1) (length r.own.1) t in omega (arith, last, w)) in
+        subst (Shows (inserted i (piece_entries n) (entries_of bs))) (append_assoc r.front (joined r.own n ∷ []) r.behind ∙ sym (changed_around (Grow Behind n) bs j r))
+        (grown_shows ends (and_right (nat_eq (r.at + 1) (length r.own.1)) (follows n.0.0 (run_last r.own.0)) both))
+
+    -- as a block of its own
+    pub behind_shows : ends_with (located bs j) n.0.0 ≡ false → Shows (inserted i (piece_entries n) (entries_of bs)) (put_among n bs j)
+    behind_shows e = subst (Shows (inserted i (piece_entries n) (entries_of bs))) (sym (put_around n bs j r)) (go (nat_lt (r.at + 1) (length r.own.1)) refl)
       where
-        cut_in : Bool → Bool → List Piece
-        cut_in s t =
-            if s then part_of 0 (r.at + 1) r.own ∷ n ∷ part_of (r.at + 1) (r.own.0.1 - (r.at + 1)) r.own ∷ []
-            else (if t then joined r.own n ∷ [] else r.own ∷ n ∷ [])
+        cut_in : Bool → List Piece
+        cut_in s = if s then part_of 0 (r.at + 1) r.own ∷ n ∷ part_of (r.at + 1) (r.own.0.1 - (r.at + 1)) r.own ∷ [] else r.own ∷ n ∷ []
 
-        beside : (t : Bool) → nat_lt (r.at + 1) (length r.own.1) ≡ false → follows n.0.0 (run_last r.own.0) ≡ t → Shows (inserted i (piece_entries n) (entries_of bs)) (r.front ++ cut_in false t ++ r.behind)
-        beside true s t = grown_shows s t
-        beside false s t = alone_shows s t
+        free : nat_lt (r.at + 1) (length r.own.1) ≡ false → follows n.0.0 (run_last r.own.0) ≡ false
+        free s =
+            let w = not_lt_is (r.at + 1) (length r.own.1) s in
+            let v = r.within in
+            let last : nat_eq (r.at + 1) (length r.own.1) ≡ true = eq_test (r.at + 1) (length r.own.1) (omega (arith, w, v)) in
+            sym (ap (λ p. ends_with p n.0.0) r.there ∙ ap (λ t. t && follows n.0.0 (run_last r.own.0)) last) ∙ e
 
-        go : (s : Bool) → nat_lt (r.at + 1) (length r.own.1) ≡ s → Shows (inserted i (piece_entries n) (entries_of bs)) (r.front ++ cut_in s (follows n.0.0 (run_last r.own.0)) ++ r.behind)
+        go : (s : Bool) → nat_lt (r.at + 1) (length r.own.1) ≡ s → Shows (inserted i (piece_entries n) (entries_of bs)) (r.front ++ cut_in s ++ r.behind)
         go true s = cut_shows s
-        go false s = beside (follows n.0.0 (run_last r.own.0)) s refl
+        go false s = alone_shows s (free s)
+
+-- ---- a block that a run touches can grow by it
+
+pub may_first : (p : Option (Piece × ℕ)) (n : Piece) → begins_with p n.0 ≡ true → IfSome p (λ q. MayChange (Grow Front n) q.0)
+may_first None n e = tt
+may_first (Some q) n e = and_right (nat_eq q.1 0) (follows q.0.0.0 (run_last n.0)) e
+
+pub may_last : (p : Option (Piece × ℕ)) (n : Piece) → ends_with p n.0.0 ≡ true → IfSome p (λ q. MayChange (Grow Behind n) q.0)
+may_last None n e = tt
+may_last (Some q) n e = and_right (nat_eq (q.1 + 1) (length q.0.1)) (follows n.0.0 (run_last q.0.0)) e

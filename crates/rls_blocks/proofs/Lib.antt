@@ -9,5 +9,6 @@ pub mod AtPlaces
 pub mod Placed
 pub mod Insertions
 pub mod Ranges
+pub mod Changed
 pub mod Taken
 pub mod Patches

@@ -5,43 +5,44 @@ use Rattle.rls_ident.specs.declared.tuple.Tuple.{Tuple}
 use Rattle.rls_ident.specs.Identifiers.{follows}
 use Rattle.rls_ident.proofs.Members.{and_left, and_right, eq_is, eq_test, lt_is, lt_test, not_lt_is, not_true}
 use Rattle.rls_runs.specs.Runs.{run_last}
-use Rattle.rls_blocks.specs.declared.side.Side.{Side}
+use Rattle.rls_blocks.specs.declared.change.Change.{Change}
 use Rattle.rls_blocks.specs.Trees.{Piece, IsPiece, ArePieces, piece_entries, entries_of, runs_in}
-use Rattle.rls_blocks.specs.Edits.{located, may_put, put_in, put_among, begins_with, ends_with, goes_on, leads_to}
+use Rattle.rls_blocks.specs.Edits.{located, put_in, put_among, among, changed, changed_at, begins_with, ends_with, goes_on, leads_to}
 use Rattle.rls_blocks.proofs.Pieces.{piece_length, piece_some}
 use Rattle.rls_blocks.proofs.Loose.{last_run}
 use Rattle.rls_blocks.proofs.AtPlaces.{located_front, located_behind, located_here}
 use Rattle.rls_blocks.proofs.Cases.{single_chars}
 
-module _ (side : Side) (n : Piece) where
-  pub among_front : (f g : List Piece) (i : ℕ) → ArePieces f → i < length (entries_of f) → put_among side n (f ++ g) i ≡ put_among side n f i ++ g
+-- blocks, of which the one that has a place is replaced
+module _ (made : Piece → ℕ → List Piece) where
+  pub among_front : (f g : List Piece) (i : ℕ) → ArePieces f → i < length (entries_of f) → among made (f ++ g) i ≡ among made f i ++ g
   among_front [] g i h k = absurd (omega arith)
   among_front (b ∷ f) g i h k = go (nat_lt i (length b.1)) refl (λ l. among_front f g (i - length b.1) h.1 l)
     where
-      go : (t : Bool) → nat_lt i (length b.1) ≡ t → (i - length b.1 < length (entries_of f) → put_among side n (f ++ g) (i - length b.1) ≡ put_among side n f (i - length b.1) ++ g) → put_among side n (b ∷ (f ++ g)) i ≡ put_among side n (b ∷ f) i ++ g
+      go : (t : Bool) → nat_lt i (length b.1) ≡ t → (i - length b.1 < length (entries_of f) → among made (f ++ g) (i - length b.1) ≡ among made f (i - length b.1) ++ g) → among made (b ∷ (f ++ g)) i ≡ among made (b ∷ f) i ++ g
       go true e ih =
-          ap (λ t. if t then put_in side n b i ++ (f ++ g) else b ∷ put_among side n (f ++ g) (i - length b.1)) e
-          ∙ sym (append_assoc (put_in side n b i) f g)
-          ∙ sym (ap (λ t. (if t then put_in side n b i ++ f else b ∷ put_among side n f (i - length b.1)) ++ g) e)
+          ap (λ t. if t then made b i ++ (f ++ g) else b ∷ among made (f ++ g) (i - length b.1)) e
+          ∙ sym (append_assoc (made b i) f g)
+          ∙ sym (ap (λ t. (if t then made b i ++ f else b ∷ among made f (i - length b.1)) ++ g) e)
       go false e ih =
           let l = length-append (piece_entries b) (entries_of f) in
           let p = piece_length b h.0 in
           let m = not_lt_is i (length b.1) e in
-          ap (λ t. if t then put_in side n b i ++ (f ++ g) else b ∷ put_among side n (f ++ g) (i - length b.1)) e
+          ap (λ t. if t then made b i ++ (f ++ g) else b ∷ among made (f ++ g) (i - length b.1)) e
           ∙ ap (λ bs. b ∷ bs) (ih (omega (arith, k, l, p, m)))
-          ∙ sym (ap (λ t. (if t then put_in side n b i ++ f else b ∷ put_among side n f (i - length b.1)) ++ g) e)
+          ∙ sym (ap (λ t. (if t then made b i ++ f else b ∷ among made f (i - length b.1)) ++ g) e)
 
-  pub among_behind : (f g : List Piece) (i j : ℕ) → ArePieces f → i ≡ length (entries_of f) + j → put_among side n (f ++ g) i ≡ f ++ put_among side n g j
-  among_behind [] g i j h e = ap (put_among side n g) (omega arith)
+  pub among_behind : (f g : List Piece) (i j : ℕ) → ArePieces f → i ≡ length (entries_of f) + j → among made (f ++ g) i ≡ f ++ among made g j
+  among_behind [] g i j h e = ap (among made g) (omega arith)
   among_behind (b ∷ f) g i j h e =
       let l = length-append (piece_entries b) (entries_of f) in
       let p = piece_length b h.0 in
       let m : nat_lt i (length b.1) ≡ false = not_true (nat_lt i (length b.1)) (λ t. let k = lt_is i (length b.1) t in omega (arith, e, l, p, k)) in
-      ap (λ t. if t then put_in side n b i ++ (f ++ g) else b ∷ put_among side n (f ++ g) (i - length b.1)) m
+      ap (λ t. if t then made b i ++ (f ++ g) else b ∷ among made (f ++ g) (i - length b.1)) m
       ∙ ap (λ bs. b ∷ bs) (among_behind f g (i - length b.1) j h.1 (omega (arith, e, l, p)))
 
-  pub among_here : (b : Piece) (g : List Piece) (j : ℕ) → j < length b.1 → put_among side n (b ∷ g) j ≡ put_in side n b j ++ g
-  among_here b g j h = ap (λ t. if t then put_in side n b j ++ g else b ∷ put_among side n g (j - length b.1)) (lt_test j (length b.1) h)
+  pub among_here : (b : Piece) (g : List Piece) (j : ℕ) → j < length b.1 → among made (b ∷ g) j ≡ made b j ++ g
+  among_here b g j h = ap (λ t. if t then made b j ++ g else b ∷ among made g (j - length b.1)) (lt_test j (length b.1) h)
 
 -- ---- what stands around a place
 
@@ -104,10 +105,16 @@ around (c ∷ bs) i h l = go (nat_lt i (length c.1)) refl (λ k. around bs (i - 
         let all = length-append (piece_entries c) (entries_of bs) in
         around_more c bs i h.0 t (ih (omega (arith, l, w, n, all)))
 
-pub put_around : (side : Side) (n : Piece) (bs : List Piece) (i : ℕ) (r : Around bs i) → put_among side n bs i ≡ r.front ++ put_in side n r.own r.at ++ r.behind
-put_around side n bs i r =
-    ap (λ xs. put_among side n xs i) r.blocks_are ∙ among_behind side n r.front (r.own ∷ r.behind) i r.at r.front_are (sym r.place_is)
-    ∙ ap (λ xs. r.front ++ xs) (among_here side n r.own r.behind r.at r.within) ∙ sym (append_assoc r.front (put_in side n r.own r.at) r.behind)
+pub among_around : (made : Piece → ℕ → List Piece) (bs : List Piece) (i : ℕ) (r : Around bs i) → among made bs i ≡ r.front ++ (made r.own r.at ++ r.behind)
+among_around made bs i r =
+    ap (λ xs. among made xs i) r.blocks_are ∙ among_behind made r.front (r.own ∷ r.behind) i r.at r.front_are (sym r.place_is)
+    ∙ ap (λ xs. r.front ++ xs) (among_here made r.own r.behind r.at r.within)
+
+pub put_around : (n : Piece) (bs : List Piece) (i : ℕ) (r : Around bs i) → put_among n bs i ≡ r.front ++ put_in n r.own r.at ++ r.behind
+put_around n bs i r = among_around (put_in n) bs i r ∙ sym (append_assoc r.front (put_in n r.own r.at) r.behind)
+
+pub changed_around : (change : Change) (bs : List Piece) (i : ℕ) (r : Around bs i) → changed_at change bs i ≡ r.front ++ changed change r.own ∷ r.behind
+changed_around change bs i r = among_around (λ b at. changed change b ∷ []) bs i r
 
 -- the run leads to the first of the blocks from a place on
 pub begins_is : (f g : List Piece) (i : ℕ) (r : List Tuple × ℕ) → ArePieces f → ArePieces g → length (entries_of f) ≡ i → begins_with (located (f ++ g) i) r ≡ leads_to (Some r) (runs_in g)
@@ -152,27 +159,27 @@ begun bs i r q e =
 
 -- ---- around the block of a node
 
-module _ (side : Side) (n b : Piece) (l r link : List Piece) (i : ℕ) (is : link ≡ l ++ b ∷ r) (front : ArePieces l) (own : IsPiece b.0 b.1) where
+module _ (b : Piece) (l r link : List Piece) (i : ℕ) (is : link ≡ l ++ b ∷ r) (front : ArePieces l) (own : IsPiece b.0 b.1) where
   -- in front of the block
-  pub may_front : i < length (entries_of l) → may_put side n (located l i) ≡ may_put side n (located link i)
-  may_front h = ap (may_put side n) (sym (ap (λ bs. located bs i) is ∙ located_front l (b ∷ r) i front h))
+  pub there_front : i < length (entries_of l) → located l i ≡ located link i
+  there_front h = sym (ap (λ bs. located bs i) is ∙ located_front l (b ∷ r) i front h)
 
-  pub put_front : i < length (entries_of l) → put_among side n l i ++ b ∷ r ≡ put_among side n link i
-  put_front h = sym (ap (λ bs. put_among side n bs i) is ∙ among_front side n l (b ∷ r) i front h)
+  pub made_front : (made : Piece → ℕ → List Piece) → i < length (entries_of l) → among made l i ++ b ∷ r ≡ among made link i
+  made_front made h = sym (ap (λ bs. among made bs i) is ∙ among_front made l (b ∷ r) i front h)
 
   -- in the block
-  pub may_own : (j : ℕ) → i ≡ length (entries_of l) + j → j < length b.1 → may_put side n (Some (b, j)) ≡ may_put side n (located link i)
-  may_own j e h = ap (may_put side n) (sym (ap (λ bs. located bs i) is ∙ located_behind l (b ∷ r) i j front e ∙ located_here b r j h))
+  pub there_own : (j : ℕ) → i ≡ length (entries_of l) + j → j < length b.1 → Some (b, j) ≡ located link i
+  there_own j e h = sym (ap (λ bs. located bs i) is ∙ located_behind l (b ∷ r) i j front e ∙ located_here b r j h)
 
-  pub put_own : (j : ℕ) → i ≡ length (entries_of l) + j → j < length b.1 → l ++ put_in side n b j ++ r ≡ put_among side n link i
-  put_own j e h = append_assoc l (put_in side n b j) r ∙ ap (λ bs. l ++ bs) (sym (among_here side n b r j h)) ∙ sym (ap (λ bs. put_among side n bs i) is ∙ among_behind side n l (b ∷ r) i j front e)
+  pub made_own : (made : Piece → ℕ → List Piece) (j : ℕ) → i ≡ length (entries_of l) + j → j < length b.1 → l ++ (made b j ++ r) ≡ among made link i
+  made_own made j e h = ap (λ bs. l ++ bs) (sym (among_here made b r j h)) ∙ sym (ap (λ bs. among made bs i) is ∙ among_behind made l (b ∷ r) i j front e)
 
   -- after the block
-  pub may_behind : (j : ℕ) → i ≡ length (entries_of l) + (length b.1 + j) → may_put side n (located r j) ≡ may_put side n (located link i)
-  may_behind j e =
-      ap (may_put side n) (sym (ap (λ bs. located bs i) is ∙ located_behind l (b ∷ r) i (length b.1 + j) front e ∙ located_behind (b ∷ []) r (length b.1 + j) j (own, tt) (omega (arith, single_chars b own))))
+  pub there_behind : (j : ℕ) → i ≡ length (entries_of l) + (length b.1 + j) → located r j ≡ located link i
+  there_behind j e =
+      sym (ap (λ bs. located bs i) is ∙ located_behind l (b ∷ r) i (length b.1 + j) front e ∙ located_behind (b ∷ []) r (length b.1 + j) j (own, tt) (omega (arith, single_chars b own)))
 
-  pub put_behind : (j : ℕ) → i ≡ length (entries_of l) + (length b.1 + j) → l ++ b ∷ put_among side n r j ≡ put_among side n link i
-  put_behind j e =
-      ap (λ bs. l ++ bs) (sym (among_behind side n (b ∷ []) r (length b.1 + j) j (own, tt) (omega (arith, single_chars b own))))
-      ∙ sym (ap (λ bs. put_among side n bs i) is ∙ among_behind side n l (b ∷ r) i (length b.1 + j) front e)
+  pub made_behind : (made : Piece → ℕ → List Piece) (j : ℕ) → i ≡ length (entries_of l) + (length b.1 + j) → l ++ b ∷ among made r j ≡ among made link i
+  made_behind made j e =
+      ap (λ bs. l ++ bs) (sym (among_behind made (b ∷ []) r (length b.1 + j) j (own, tt) (omega (arith, single_chars b own))))
+      ∙ sym (ap (λ bs. among made bs i) is ∙ among_behind made l (b ∷ r) i (length b.1 + j) front e)

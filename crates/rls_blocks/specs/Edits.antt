@@ -1,9 +1,11 @@
 -- Changes of blocks.
-use Rattle.std.specs.Prelude.{◌≡◌, ℕ, ◌+◌, ◌-◌, pos, Bool, true, false, not, ◌&&◌, nat_eq, nat_lt, List, [], ◌∷◌, ◌++◌, length, take, drop, Option, Some, None, if◌then◌else◌, IsTrue}
+use Rattle.std.specs.Prelude.{◌≡◌, ℕ, ◌+◌, ◌-◌, ◌<◌, ◌≤◌, pos, Bool, true, false, not, ◌&&◌, nat_eq, nat_lt, List, [], ◌∷◌, ◌++◌, length, take, drop, Option, Some, None, if◌then◌else◌, IsTrue}
 use Rattle.rls_ident.specs.declared.tuple.Tuple.{Tuple}
 use Rattle.rls_ident.specs.Identifiers.{shifted, follows}
 use Rattle.rls_runs.specs.Runs.{run_last}
 use Rattle.rls_runs.specs.Entries.{Entries}
+use Rattle.rls_blocks.specs.declared.change.Change.{Change}
+use Rattle.rls_blocks.specs.declared.change.Change.TheVariants.{Grow, KeepFront, KeepBack}
 use Rattle.rls_blocks.specs.declared.side.Side.{Side}
 use Rattle.rls_blocks.specs.declared.side.Side.TheVariants.{Front, Behind}
 use Rattle.rls_blocks.specs.Trees.{Piece, runs_in, entries_of}
@@ -79,22 +81,40 @@ abbrev pub ends_with : Option (Piece × ℕ) → List Tuple → Bool
 ends_with None x = false
 ends_with (Some p) x = nat_eq (p.1 + 1) (length p.0.1) && follows x (run_last p.0.0)
 
--- the run with its characters goes in on this side of a place of a block
-abbrev pub may_put : Side → Piece → Option (Piece × ℕ) → Bool
-may_put Front n p = begins_with p n.0
-may_put Behind n p = true
+-- a block, and a run with its characters as a block of its own behind a place of it
+abbrev pub put_in : Piece → Piece → ℕ → List Piece
+put_in n b at = if nat_lt (at + 1) (length b.1) then part_of 0 (at + 1) b ∷ n ∷ part_of (at + 1) (b.0.1 - (at + 1)) b ∷ [] else b ∷ n ∷ []
 
--- a block with a run and its characters on this side of a place
-abbrev pub put_in : Side → Piece → Piece → ℕ → List Piece
-put_in Front n b at = joined n b ∷ []
-put_in Behind n b at =
-    if nat_lt (at + 1) (length b.1) then part_of 0 (at + 1) b ∷ n ∷ part_of (at + 1) (b.0.1 - (at + 1)) b ∷ []
-    else (if follows n.0.0 (run_last b.0) then joined b n ∷ [] else b ∷ n ∷ [])
+-- blocks, of which the one that has a place is replaced by what is made of it and of the place within it
+abbrev pub among : (Piece → ℕ → List Piece) → List Piece → ℕ → List Piece
+among made [] i = []
+among made (b ∷ bs) i = if nat_lt i (length b.1) then made b i ++ bs else b ∷ among made bs (i - length b.1)
 
 -- the same among other blocks
-abbrev pub put_among : Side → Piece → List Piece → ℕ → List Piece
-put_among side n [] i = []
-put_among side n (b ∷ bs) i = if nat_lt i (length b.1) then put_in side n b i ++ bs else b ∷ put_among side n bs (i - length b.1)
+abbrev pub put_among : Piece → List Piece → ℕ → List Piece
+put_among n bs i = among (put_in n) bs i
+
+-- the block can change so: it touches what it grows by, or it has more characters than those that go
+abbrev pub MayChange : Change → Piece → Type 0
+MayChange (Grow side n) b = IsTrue (may_grow side n b)
+MayChange (KeepFront at) b = (0 < at) × (at ≤ length b.1)
+MayChange (KeepBack from) b = from < length b.1
+
+-- the block after the change
+abbrev pub changed : Change → Piece → Piece
+changed (Grow side n) b = grown side n b
+changed (KeepFront at) b = part_of 0 at b
+changed (KeepBack from) b = part_of from (b.0.1 - from) b
+
+-- so many characters come with the change
+abbrev pub gain : Change → ℕ
+gain (Grow side n) = length n.1
+gain (KeepFront at) = 0
+gain (KeepBack from) = 0
+
+-- blocks, of which the one that has a place changes so
+abbrev pub changed_at : Change → List Piece → ℕ → List Piece
+changed_at change bs i = among (λ b at. changed change b ∷ []) bs i
 
 -- blocks with these entries, of which none goes on with the one before it
 pub record Shows (es : Entries) (bs : List Piece) : Type 0 where

@@ -9,6 +9,7 @@ ghost use Rattle.rls_blocks.specs.Edits.{joined, goes_on, leads_to, are_loose, i
 
 use crate::balance::join;
 use crate::block::Block;
+use crate::change::Change;
 use crate::node::{Link, Single};
 use crate::put::put_at;
 use crate::side::Side;
@@ -19,7 +20,7 @@ use std::alloc::{AllocError, Global};
 
 /// Puts a run and its characters in at a place. It costs a step for each level and the run's characters;
 /// if a block is cut in two there, the characters of the shorter part, and if it joins two blocks,
-/// those of the shorter one. It answers the new tree.
+/// those of the shorter one. Where it only makes one block longer, no node is made or taken apart. It answers the new tree.
 ///
 /// # Errors
 ///
@@ -35,16 +36,19 @@ pub fn insert_at(alloc: Global, link: Link, i: u64, piece: Block) -> Result<Link
     rely!(let _chars = link.chars());
     rely!(let _len = piece.len());
     if link.begins_with(i, piece.run()) {
-        return insert_before(alloc, link, i, piece);
+        return insert_before(link, i, piece);
     }
     if i == 0 {
         return put_first(alloc, link, piece);
     }
-    put_at(alloc, link, i - 1, Side::Behind, piece)
+    if link.ends_with(i - 1, piece.run().first()) {
+        return link.with_change(i - 1, Change::Grow(Side::Behind, piece));
+    }
+    put_at(alloc, link, i - 1, piece)
 }
 
 // In front of a block that goes on with it.
-fn insert_before(alloc: Global, link: Link, i: u64, piece: Block) -> Result<Link, Link>
+fn insert_before(link: Link, i: u64, piece: Block) -> Result<Link, Link>
     requires chars_fit { length (entries_of link.blocks) + length piece.1 < 2 ^ 64 }
     requires loose { IsTrue (are_loose None (runs_in link.blocks)) }
     requires begins { IsTrue (begins_with (located link.blocks i) piece.0) }
@@ -55,12 +59,12 @@ fn insert_before(alloc: Global, link: Link, i: u64, piece: Block) -> Result<Link
     rely!(let _chars = link.chars());
     rely!(let _len = piece.len());
     if i == 0 {
-        return put_at(alloc, link, i, Side::Front, piece);
+        return link.with_change(i, Change::Grow(Side::Front, piece));
     }
     if link.ends_with(i - 1, piece.run().first()) {
         return fill_at(link, i, piece);
     }
-    put_at(alloc, link, i, Side::Front, piece)
+    link.with_change(i, Change::Grow(Side::Front, piece))
 }
 
 // In front of all blocks, of which the first doesn't go on with it.

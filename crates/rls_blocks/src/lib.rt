@@ -4,6 +4,7 @@
 mod balance;
 mod block;
 mod build;
+mod change;
 mod cut;
 mod insert;
 mod node;

@@ -9,6 +9,7 @@ ghost use Rattle.rls_runs.proofs.RunOrder.{Rising};
 ghost use Rattle.rls_blocks.specs.Trees.{runs_in, IsLow, IsPiece, ArePieces, Tree, entries_of};
 ghost use Rattle.rls_blocks.specs.Edits.{around, located, begins_with, ends_with};
 
+mod in_place;
 mod opened;
 mod single;
 

@@ -1,10 +1,9 @@
-//! A run put in beside a character, in place: one descent, and the same path back. Each call answers the new tree, or if it finds no
-//! memory the old one.
+//! A run put in behind a character, as a block of its own: one descent, and the same path back. Each call answers the new tree, or if it
+//! finds no memory the old one.
 
-ghost use Rattle.std.specs.Prelude.{◌≡◌, ◌+◌, ◌-◌, ◌^◌, ◌<◌, ◌∷◌, ◌++◌, length, Some, IfOk, IfErr, IsTrue};
-ghost use Rattle.rls_blocks.specs.declared.side.Side.TheVariants.{Behind};
+ghost use Rattle.std.specs.Prelude.{◌≡◌, ◌+◌, ◌-◌, ◌^◌, ◌<◌, ◌∷◌, ◌++◌, length, IfOk, IfErr};
 ghost use Rattle.rls_blocks.specs.Trees.{entries_of};
-ghost use Rattle.rls_blocks.specs.Edits.{part_of, grown, may_grow, located, may_put, put_in, put_among};
+ghost use Rattle.rls_blocks.specs.Edits.{part_of, put_in, put_among};
 
 use crate::balance::join;
 use crate::block::Block;
@@ -13,19 +12,12 @@ use crate::node::{Link, Opened, Single};
 use crate::side::Side;
 use std::alloc::Global;
 
-/// Puts a run and its characters in on a side of the character at a place. It costs a step for each level and the run's
-/// characters, and if a block is cut in two there, the characters of the shorter part.
-pub(crate) fn put_at(
-    alloc: Global,
-    link: Link,
-    i: u64,
-    side: Side,
-    piece: Block,
-) -> Result<Link, Link>
+/// Puts a run and its characters in behind the character at a place, as a block of its own. It costs a step for each level and the
+/// run's characters, and if a block is cut in two there, the characters of the shorter part.
+pub(crate) fn put_at(alloc: Global, link: Link, i: u64, piece: Block) -> Result<Link, Link>
     requires place { i < length (entries_of link.blocks) }
-    requires may { IsTrue (may_put side piece (located link.blocks i)) }
     requires chars_fit { length (entries_of link.blocks) + length piece.1 < 2 ^ 64 }
-    ensures ok { IfOk result (λ new. new.blocks ≡ put_among side piece link.blocks i) }
+    ensures ok { IfOk result (λ new. new.blocks ≡ put_among piece link.blocks i) }
     ensures chars { IfOk result (λ new. length (entries_of new.blocks) ≡ length (entries_of link.blocks) + length piece.1) }
     ensures err { IfErr result (λ old. old.blocks ≡ link.blocks) }
 {
@@ -35,40 +27,19 @@ pub(crate) fn put_at(
     let end = opened.front + opened.own.len() as u64;
     if i < opened.front {
         let (left, frame) = opened.take(Side::Front);
-        return match put_at(alloc, left, i, side, piece) {
+        return match put_at(alloc, left, i, piece) {
             Ok(left) => Ok(frame.hang(left)),
             Err(left) => Err(frame.hang(left)),
         };
     }
     if i < end {
         let at = (i - opened.front) as u32;
-        return put_beside(alloc, opened, at, side, piece);
+        return put_after(alloc, opened, at, piece);
     }
     let (right, frame) = opened.take(Side::Behind);
-    match put_at(alloc, right, i - end, side, piece) {
+    match put_at(alloc, right, i - end, piece) {
         Ok(right) => Ok(frame.hang(right)),
         Err(right) => Err(frame.hang(right)),
-    }
-}
-
-// Puts a run in on a side of a character of a node's block.
-fn put_beside(
-    alloc: Global,
-    opened: Opened,
-    at: u32,
-    side: Side,
-    piece: Block,
-) -> Result<Link, Link>
-    requires within { at < length opened.own.1 }
-    requires may { IsTrue (may_put side piece (Some (opened.own, at))) }
-    requires chars_fit { opened.front + length opened.own.1 + opened.behind + length piece.1 < 2 ^ 64 }
-    ensures ok { IfOk result (λ new. new.blocks ≡ opened.left.blocks ++ put_in side piece opened.own at ++ opened.right.blocks) }
-    ensures chars { IfOk result (λ new. length (entries_of new.blocks) ≡ opened.front + length opened.own.1 + opened.behind + length piece.1) }
-    ensures err { IfErr result (λ old. old.blocks ≡ opened.left.blocks ++ opened.own ∷ opened.right.blocks) }
-{
-    match side {
-        Side::Front => grow(opened, side, piece),
-        Side::Behind => put_after(alloc, opened, at, piece),
     }
 }
 
@@ -76,7 +47,7 @@ fn put_beside(
 fn put_after(alloc: Global, opened: Opened, at: u32, piece: Block) -> Result<Link, Link>
     requires within { at < length opened.own.1 }
     requires chars_fit { opened.front + length opened.own.1 + opened.behind + length piece.1 < 2 ^ 64 }
-    ensures ok { IfOk result (λ new. new.blocks ≡ opened.left.blocks ++ put_in Behind piece opened.own at ++ opened.right.blocks) }
+    ensures ok { IfOk result (λ new. new.blocks ≡ opened.left.blocks ++ put_in piece opened.own at ++ opened.right.blocks) }
     ensures chars { IfOk result (λ new. length (entries_of new.blocks) ≡ opened.front + length opened.own.1 + opened.behind + length piece.1) }
     ensures err { IfErr result (λ old. old.blocks ≡ opened.left.blocks ++ opened.own ∷ opened.right.blocks) }
 {
@@ -84,25 +55,7 @@ fn put_after(alloc: Global, opened: Opened, at: u32, piece: Block) -> Result<Lin
     if at + 1 < len {
         return put_within(alloc, opened, at + 1, piece);
     }
-    if opened.own.run().touches(piece.run().first()) {
-        return grow(opened, Side::Behind, piece);
-    }
     put_behind(alloc, opened, piece)
-}
-
-// Joins it to the block, which it touches on a side.
-fn grow(mut opened: Opened, side: Side, piece: Block) -> Result<Link, Link>
-    requires may { IsTrue (may_grow side piece opened.own) }
-    requires chars_fit { opened.front + length opened.own.1 + opened.behind + length piece.1 < 2 ^ 64 }
-    ensures ok { IfOk result (λ new. new.blocks ≡ opened.left.blocks ++ grown side piece opened.own ∷ opened.right.blocks) }
-    ensures chars { IfOk result (λ new. length (entries_of new.blocks) ≡ opened.front + length opened.own.1 + opened.behind + length piece.1) }
-    ensures err { IfErr result (λ old. old.blocks ≡ opened.left.blocks ++ opened.own ∷ opened.right.blocks) }
-{
-    let (run, text) = piece.into_parts();
-    match opened.grow(side, &run, text) {
-        Ok(()) => Ok(opened.close()),
-        Err(_) => Err(opened.close()),
-    }
 }
 
 // Puts it after the block, as one of its own.

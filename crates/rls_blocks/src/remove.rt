@@ -1,12 +1,13 @@
 //! Characters taken out of a tree.
 
-ghost use Rattle.std.specs.Prelude.{◌≡◌, ◌+◌, ◌-◌, ◌^◌, ◌<◌, ◌≤◌, ◌∷◌, ◌++◌, length, None, IfOk, IfErr, IsTrue};
+ghost use Rattle.std.specs.Prelude.{◌≡◌, ◌+◌, ◌-◌, ◌^◌, ◌<◌, ◌≤◌, ◌∷◌, ◌++◌, length, None, IfSome, IfOk, IfErr, IsTrue};
 ghost use Rattle.rls_ident.specs.Identifiers.{follows};
 ghost use Rattle.rls_runs.specs.Runs.{run_last, are_apart};
 ghost use Rattle.rls_blocks.specs.Trees.{entries_of, runs_in};
-ghost use Rattle.rls_blocks.specs.Edits.{part_of, joined, removed, Shows};
+ghost use Rattle.rls_blocks.specs.Edits.{part_of, joined, removed, located, changed_at, gain, MayChange, Shows};
 
 use crate::balance::join;
+use crate::change::Change;
 use crate::cut::{cut, keep_ends};
 use crate::node::{Link, Single};
 use crate::side::Side;
@@ -16,12 +17,49 @@ use std::alloc::Global;
 
 /// Takes this many characters out from a place on. It costs a step for each level and for each block that goes,
 /// and their number; if it cuts one block in two, also the characters of the shorter part, and if two
-/// blocks touch then, those of the shorter one. It answers the new tree.
+/// blocks touch then, those of the shorter one. Where they are the first or the last ones of one block, and not all of it, no
+/// node is made or taken apart. It answers the new tree.
 ///
 /// # Errors
 ///
 /// The tree with the blocks that it had, if there is no memory.
 pub fn remove_range(alloc: Global, link: Link, i: u64, count: u64) -> Result<Link, Link>
+    requires some { 0 < count }
+    requires within { i + count ≤ length (entries_of link.blocks) }
+    requires apart { IsTrue (are_apart None (runs_in link.blocks)) }
+    ensures ok { IfOk result (λ new. Shows (removed i count (entries_of link.blocks)) new.blocks) }
+    ensures err { IfErr result (λ old. old.blocks ≡ link.blocks) }
+{
+    rely!(let _chars = link.chars());
+    match shortening(&link, i, count) {
+        Some(change) => link.with_change(i, change),
+        None => remove_blocks(alloc, link, i, count),
+    }
+}
+
+// How the block of a place changes where these characters are the first or the last ones of it, and not all.
+fn shortening(link: &Link, i: u64, count: u64) -> Option<Change>
+    requires some { 0 < count }
+    requires within { i + count ≤ length (entries_of link.now.blocks) }
+    requires apart { IsTrue (are_apart None (runs_in link.now.blocks)) }
+    ensures may { IfSome result (λ change. IfSome (located link.now.blocks i) (λ p. MayChange change p.0)) }
+    ensures no_gain { IfSome result (λ change. gain change ≡ 0) }
+    ensures shows { IfSome result (λ change. Shows (removed i count (entries_of link.now.blocks)) (changed_at change link.now.blocks i)) }
+{
+    rely!(let _chars = link.chars());
+    let (block, at) = link.locate(i);
+    let rest = (block.len() - at) as u64;
+    if at == 0 && count < rest {
+        return Some(Change::KeepBack(count as u32));
+    }
+    if at > 0 && count == rest {
+        return Some(Change::KeepFront(at));
+    }
+    None
+}
+
+// Takes characters out where blocks go, or where one is cut in two.
+fn remove_blocks(alloc: Global, link: Link, i: u64, count: u64) -> Result<Link, Link>
     requires some { 0 < count }
     requires within { i + count ≤ length (entries_of link.blocks) }
     requires apart { IsTrue (are_apart None (runs_in link.blocks)) }

@@ -1,14 +1,12 @@
 //! Nodes taken apart and put together again.
 
-ghost use Rattle.std.specs.Prelude.{◌≡◌, ◌+◌, ◌^◌, ◌<◌, ◌≤◌, max, ◌∷◌, ◌++◌, length, IsTrue, OnOk, OnErr};
+ghost use Rattle.std.specs.Prelude.{◌≡◌, ◌+◌, ◌^◌, ◌<◌, ◌≤◌, max, ◌∷◌, ◌++◌, length};
 ghost use Rattle.rls_blocks.specs.Trees.{ArePieces, IsLow, entries_of, pieces_prop};
-ghost use Rattle.rls_blocks.specs.Edits.{on, grown, may_grow};
+ghost use Rattle.rls_blocks.specs.Edits.{on};
 
 use super::{Link, Node, Single};
 use crate::balance::join;
 use crate::side::Side;
-use rls_runs::{Run, Text};
-use std::alloc::AllocError;
 use std::mem;
 
 /// A node taken apart: its block, the trees on both sides, and their numbers, so that it is put together again with no look into them.
@@ -91,21 +89,6 @@ impl Opened {
             blocks,
             height,
         }
-    }
-
-    /// The block grows on a side by a run with which it touches there. It costs the run's characters.
-    pub(crate) fn grow(&mut self, side: Side, run: &Run, text: Text) -> Result<(), AllocError>
-        requires as_many { length text ≡ run.now.1 }
-        requires may { IsTrue (may_grow side (run.now, text) self.old.own) }
-        ensures ok { OnOk result (self.new.own ≡ grown side (run.now, text) self.old.own) }
-        ensures chars { OnOk result (length self.new.own.1 ≡ length self.old.own.1 + length text) }
-        ensures err { OnErr result (self.new.own ≡ self.old.own) }
-        ensures left { self.new.left ≡ self.old.left }
-        ensures right { self.new.right ≡ self.old.right }
-        ensures front { self.new.front ≡ self.old.front }
-        ensures behind { self.new.behind ≡ self.old.behind }
-    {
-        self.own.grow(side, run, text)
     }
 
     /// The node put together.

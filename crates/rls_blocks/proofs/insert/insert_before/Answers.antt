@@ -4,8 +4,14 @@ use Rattle.rls_blocks.specs.Trees.{entries_of, piece_entries}
 use Rattle.rls_blocks.specs.Edits.{located, ends_with, goes_on, inserted, Shows}
 use Rattle.rls_blocks.proofs.Loose.{last_run}
 use Rattle.rls_blocks.proofs.Placed.{around, none_before, ends_is, begun}
-use Rattle.rls_blocks.proofs.Insertions.{front_shows}
+use Rattle.rls_blocks.proofs.Insertions.{front_shows, may_first}
 use Rattle.rls_blocks.proofs.insert.insert_before.Goals as goal
+
+pub with_change-requires-clause-may : goal.with_change-requires-clause-may
+with_change-requires-clause-may c = may_first (located c.args.link.blocks c.args.i) c.args.piece c.requires.begins
+
+pub with_change-requires-2-clause-may : goal.with_change-requires-2-clause-may
+with_change-requires-2-clause-may c = may_first (located c.args.link.blocks c.args.i) c.args.piece c.requires.begins
 
 pub returns-then-i-eq0-clause-ok : goal.returns-then-i-eq0-clause-ok
 returns-then-i-eq0-clause-ok c =
@@ -14,7 +20,7 @@ returns-then-i-eq0-clause-ok c =
     let r = around bs c.args.i c.chars-chars.ensures.pieces c.requires.place in
     let place = r.place_is in
     let shows = front_shows bs n c.args.i r c.len-len.ensures.piece c.requires.loose c.requires.begins (none_before r.front n.0.0 r.front_are (omega (arith, place))) in
-    IfOk-weaker c.put_at.result _ _ (λ new h. subst (Shows (inserted c.args.i (piece_entries n) (entries_of bs))) (sym h) shows) c.put_at.ensures.ok
+    IfOk-weaker c.with_change.result _ _ (λ new h. subst (Shows (inserted c.args.i (piece_entries n) (entries_of bs))) (sym h) shows) c.with_change.ensures.ok
 
 pub returns-clause-ok : goal.returns-clause-ok
 returns-clause-ok c =
@@ -30,4 +36,4 @@ returns-clause-ok c =
     ∙ sym (ap (ends_with (located bs (i - 1))) (c.first.ensures.first ∙ ap (λ q. q.0) c.run.ensures.run))
     ∙ sym c.if-ends_with.ensures.ends in
     let shows = front_shows bs n i r c.len-len.ensures.piece c.requires.loose c.requires.begins ends in
-    IfOk-weaker c.put_at-2.result _ _ (λ new h. subst (Shows (inserted i (piece_entries n) (entries_of bs))) (sym h) shows) c.put_at-2.ensures.ok
+    IfOk-weaker c.with_change-2.result _ _ (λ new h. subst (Shows (inserted i (piece_entries n) (entries_of bs))) (sym h) shows) c.with_change-2.ensures.ok
