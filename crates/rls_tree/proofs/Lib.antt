@@ -1,6 +1,7 @@
 pub mod Located
 pub mod Starts
 pub mod Puts
+pub mod AtBlocks
 pub mod Without
 pub mod Mapping
 pub mod Standing

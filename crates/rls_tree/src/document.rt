@@ -53,25 +53,9 @@ impl Document for BlockTree {
         self.insert_near(None, runs, text)
     }
 
-    /// Targets that are adjacent in the tree cost a comparison of identifiers for each level,
-    /// a step for each level and each of their runs, and their own characters; out of the middle of a run, also
-    /// those in front of them there or those after them, whichever are fewer, and where two runs touch then,
-    /// those of the shorter one. Other targets cost a few comparisons of identifiers for each level and each stretch that is
-    /// adjacent in one block, and the characters of the blocks that lose some and of those just before one that loses its first.
+    /// It costs what `remove_near` says, and for targets that are adjacent a comparison of identifiers for each level.
     fn remove_all(&mut self, targets: &Runs) -> Result<u64, AllocError> {
-        let count = targets.total();
-        if count == 0 {
-            return Ok(0);
-        }
-        if let Some(i) = self.range_of(targets)? {
-            self.remove_range(i, count)?;
-            return Ok(count);
-        }
-        rely!(let _blocks = self.blocks());
-        let before = self.chars();
-        let patches = self.patches_without(targets)?;
-        self.put_patches(patches);
-        Ok(before - self.chars())
+        self.remove_near(None, targets)
     }
 
     /// It costs a step for each level and each run that it answers.
@@ -135,42 +119,105 @@ impl BlockTree {
         Ok(())
     }
 
-    // The place from which on the targets stand one right behind another, if they do. It costs a comparison of
-    // identifiers for each level, and a step for each level and each run.
-    fn range_of(&self, targets: &Runs) -> Result<Option<u64>, AllocError>
+    /// Does what `remove_all` does. If the targets are adjacent from the place on that is told, if one is, it doesn't search for them.
+    ///
+    /// Targets that are adjacent in the tree cost a comparison of identifiers for each of their runs, a step for each level and each of
+    /// them, and their own characters; out of the middle of a run, also those in front of them there or those after them, whichever are
+    /// fewer, and where two runs touch then, those of the shorter one. Other targets cost a few comparisons of identifiers for each level
+    /// and each stretch that is adjacent in one block, and the characters of the blocks that lose some and of those just before one that
+    /// loses its first.
+    ///
+    /// # Errors
+    ///
+    /// `AllocError` where it finds no memory. The tree is as before then.
+    pub fn remove_near(&mut self, near: Option<u64>, targets: &Runs) -> Result<u64, AllocError>
+        ensures ok { OnOk result (entries_of self.new.blocks ≡ without_all targets.now (entries_of self.old.blocks)) }
+        ensures removed { IfOk result (λ n. n + length (entries_of self.new.blocks) ≡ length (entries_of self.old.blocks)) }
+        ensures err { OnErr result (entries_of self.new.blocks ≡ entries_of self.old.blocks) }
+    {
+        let count = targets.total();
+        if count == 0 {
+            return Ok(0);
+        }
+        if let Some(i) = self.range_near(near, targets) {
+            self.remove_range(i, count)?;
+            return Ok(count);
+        }
+        rely!(let _blocks = self.blocks());
+        let before = self.chars();
+        let patches = self.patches_without(targets)?;
+        self.put_patches(patches);
+        Ok(before - self.chars())
+    }
+
+    // The same as `range_of`, but one place is looked at first.
+    fn range_near(&self, near: Option<u64>, targets: &Runs) -> Option<u64>
         requires some { 0 < length targets.now }
-        ensures within { IfOk result (λ place. IfSome place (λ i. i + length targets.now ≤ length (entries_of self.now.blocks))) }
-        ensures removed { IfOk result (λ place. IfSome place (λ i. removed i (length targets.now) (entries_of self.now.blocks) ≡ without_all targets.now (entries_of self.now.blocks))) }
+        ensures within { IfSome result (λ i. i + length targets.now ≤ length (entries_of self.now.blocks)) }
+        ensures removed { IfSome result (λ i. removed i (length targets.now) (entries_of self.now.blocks) ≡ without_all targets.now (entries_of self.now.blocks)) }
+    {
+        match near {
+            Some(i) if self.stand_from(i, targets) => Some(i),
+            _ => self.range_of(targets),
+        }
+    }
+
+    // The place from which on the targets stand one right behind another, if they do. It costs a comparison of
+    // identifiers for each level, and takes no memory.
+    fn range_of(&self, targets: &Runs) -> Option<u64>
+        requires some { 0 < length targets.now }
+        ensures within { IfSome result (λ i. i + length targets.now ≤ length (entries_of self.now.blocks)) }
+        ensures removed { IfSome result (λ i. removed i (length targets.now) (entries_of self.now.blocks) ≡ without_all targets.now (entries_of self.now.blocks)) }
+    {
+        let Ok(from) = self.place(targets.run(0).first()) else {
+            return None;
+        };
+        if self.stand_from(from, targets) {
+            return Some(from);
+        }
+        None
+    }
+
+    // Whether the targets stand one right behind another from a place on. It costs a step for each level and each run, and a
+    // comparison of identifiers for each run, and takes no memory.
+    fn stand_from(&self, from: u64, targets: &Runs) -> bool
+        ensures within { result ≡ true → from + length targets.now ≤ length (entries_of self.now.blocks) }
+        ensures removed { result ≡ true → removed from (length targets.now) (entries_of self.now.blocks) ≡ without_all targets.now (entries_of self.now.blocks) }
     {
         rely!(let _blocks = self.blocks());
         rely!(let _chars = self.chars());
-        let Ok(from) = self.place(targets.run(0).first()) else {
-            return Ok(None);
-        };
+        if from >= self.chars() {
+            return false;
+        }
         let mut at = from;
         let runs = targets.as_slice();
         for run in runs {
-            if !self.stands_at(at, run)? {
-                return Ok(None);
+            if !self.stands_at(at, run) {
+                return false;
             }
             at += run.len() as u64;
         }
-        Ok(Some(from))
+        true
     }
 
-    // Whether a run stands whole in one of the tree's, from a place on. It costs a step for each level.
-    fn stands_at(&self, i: u64, run: &Run) -> Result<bool, AllocError>
-        ensures within { IfOk result (λ stands. stands ≡ true → i + run.now.1 ≤ length (entries_of self.now.blocks)) }
-        ensures idents { IfOk result (λ stands. stands ≡ true → take run.now.1 (drop i (idents_in (entries_of self.now.blocks))) ≡ run_idents run.now.0 run.now.1) }
+    // Whether a run stands whole in one of the tree's, from a place on. It costs a step for each level and a comparison of identifiers,
+    // and takes no memory.
+    fn stands_at(&self, i: u64, run: &Run) -> bool
+        ensures within { result ≡ true → i + run.now.1 ≤ length (entries_of self.now.blocks) }
+        ensures idents { result ≡ true → take run.now.1 (drop i (idents_in (entries_of self.now.blocks))) ≡ run_idents run.now.0 run.now.1 }
     {
+        rely!(let _len = run.len());
         if i >= self.chars() {
-            return Ok(false);
+            return false;
         }
-        let part = self.run_from(i, run.len())?;
-        if part.len() < run.len() {
-            return Ok(false);
+        let (block, at) = self.locate(i);
+        if block.len() - at < run.len() {
+            return false;
         }
-        Ok(part.first().compare(run.first()).is_eq())
+        match block.run().find(run.first()) {
+            Ok(place) => place == at,
+            Err(_) => false,
+        }
     }
 
     // The identifiers between two places.

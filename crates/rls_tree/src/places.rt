@@ -45,19 +45,27 @@ impl BlockTree {
         Ok(None)
     }
 
-    // Whether the identifier in front of a place, if there is one, is less than this one. It costs a step for each level.
-    fn begins_at(&self, i: u64, id: &Ident) -> Result<bool, AllocError>
+    // Whether the identifier in front of a place, if there is one, is less than this one. It costs a step for each level and a comparison
+    // of identifiers, and takes no memory.
+    fn begins_at(&self, i: u64, id: &Ident) -> bool
         requires place { i ≤ length (entries_of self.now.blocks) }
-        ensures less { IfOk result (λ is. IsTrue is → AllLess (take i (idents_in (entries_of self.now.blocks))) id.now) }
+        ensures less { IsTrue result → AllLess (take i (idents_in (entries_of self.now.blocks))) id.now }
     {
         rely!(let _blocks = self.blocks());
+        rely!(let _chars = self.chars());
         if i == 0 {
-            return Ok(true);
+            return true;
         }
-        Ok(self.ident(i - 1)?.compare(id).is_lt())
+        let (block, at) = self.locate(i - 1);
+        rely!(let _len = block.len());
+        match block.run().find(id) {
+            Ok(below) => at < below,
+            Err(below) => at < below,
+        }
     }
 
-    // Whether all identifiers of a run are less than the one at a place, if there is one. It costs a step for each level.
+    // Whether all identifiers of a run are less than the one at a place, if there is one. It costs a step for each level and a comparison
+    // of identifiers, and takes memory only if the place is within a block.
     fn ends_at(&self, i: u64, run: &Run) -> Result<bool, AllocError>
         requires place { i ≤ length (entries_of self.now.blocks) }
         ensures less { IfOk result (λ is. IsTrue is → AreBelow (run_idents run.now.0 run.now.1) (drop i (idents_in (entries_of self.now.blocks)))) }
@@ -66,6 +74,10 @@ impl BlockTree {
         rely!(let _len = run.len());
         if i == self.chars() {
             return Ok(true);
+        }
+        let (block, at) = self.locate(i);
+        if at == 0 {
+            return Ok(run.ends_below(block.run().first()));
         }
         Ok(run.ends_below(&self.ident(i)?))
     }
@@ -76,7 +88,7 @@ impl BlockTree {
         ensures rises { IfOk result (λ is. IsTrue is → IsTrue (is_increasing (take i (idents_in (entries_of self.now.blocks)) ++ (run_idents run.now.0 run.now.1 ++ drop i (idents_in (entries_of self.now.blocks)))))) }
     {
         rely!(let _blocks = self.blocks());
-        Ok(self.begins_at(i, run.first())? && self.ends_at(i, run)?)
+        Ok(self.begins_at(i, run.first()) && self.ends_at(i, run)?)
     }
 
     // The same as `gap_for`, but one place is looked at first.

@@ -1,16 +1,19 @@
-use Rattle.std.proofs.Common.{◌≡◌, true, take, drop, sym, ap, ◌∙◌, arith}
-use Rattle.std.specs.Ordering.{is_eq}
-use Rattle.rls_ident.specs.Identifiers.{ident_eq}
-use Rattle.rls_ident.proofs.Ends.{eq_same}
+use Rattle.std.proofs.Common.{◌≡◌, ◌+◌, ◌≤◌, Ok, length, take, drop, ap, sym, ◌∙◌, arith}
+use Rattle.rls_ident.proofs.Members.{eq_is}
 use Rattle.rls_runs.specs.Runs.{run_idents}
 use Rattle.rls_runs.specs.Entries.{idents_in}
+use Rattle.rls_runs.specs.Places.{find_ident}
 use Rattle.rls_blocks.specs.Trees.{entries_of}
+use Rattle.rls_runs.proofs.RunOrder.{run_some}
+use Rattle.rls_tree.proofs.AtBlocks.{run_stands}
 use Rattle.rls_tree.proofs.tree.BlockTree.stands_at.Goals as goal
 
-pub returns-clause-idents : goal.returns-clause-idents
-returns-clause-idents c h =
-    let part = c.in_ok-part.part in
-    let run = c.args.run.now in
-    let same : ident_eq part.0 run.0 ≡ true = ap (λ x. ident_eq x run.0) (sym c.first.ensures.first) ∙ ap (ident_eq c.first.result.now) (sym c.first-2.ensures.first) ∙ ap is_eq (sym c.compare.ensures.order) ∙ sym c.is_eq.ensures ∙ h in
-    let long : part.1 ≡ run.1 = omega (arith, c.len.ensures.len, c.len-2.ensures.len, c.len-3.ensures.len, c.if-len.false, c.in_ok-part.ensures.most) in
-    ap (λ n. take n (drop c.args.i (idents_in (entries_of c.args.self.now.blocks)))) (sym long) ∙ c.in_ok-part.ensures.idents ∙ ap (λ x. run_idents x part.1) (eq_same part.0 run.0 same) ∙ ap (run_idents run.0) long
+pub returns-in-Ok : goal.returns-in-Ok
+returns-in-Ok c =
+    let b = c.locate-at.result.0.now in
+    let r = c.args.run.now in
+    let some = run_some r c.len-len.ensures.run in
+    let found = ap (λ q. find_ident (run_idents q.0 q.1) r.0) (sym c.run.ensures.run) ∙ ap (find_ident (run_idents c.run.result.now.0 c.run.result.now.1)) (sym c.first.ensures.first) ∙ sym c.in-Ok.ensures.find in
+    let here : c.in-Ok.place ≡ c.locate-at.result.1 → (c.args.i + r.1 ≤ length (entries_of c.args.self.now.blocks)) × (take r.1 (drop c.args.i (idents_in (entries_of c.args.self.now.blocks))) ≡ run_idents r.0 r.1) =
+    λ e. run_stands c.args.self.now.blocks c.args.i c.locate-at.result.1 b c.chars.ensures.pieces c.locate-at.ensures.located c.len.ensures.piece c.locate-at.ensures.within r (found ∙ ap Ok e) some (omega arith) in
+    record { within = λ t. (here (eq_is c.in-Ok.place c.locate-at.result.1 t)).0; idents = λ t. (here (eq_is c.in-Ok.place c.locate-at.result.1 t)).1 }

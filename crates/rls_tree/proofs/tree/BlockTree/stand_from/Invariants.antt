@@ -2,7 +2,7 @@ use Rattle.std.proofs.Common.{◌≡◌, ◌-◌, ◌≤◌, length, take, drop}
 use Rattle.rls_runs.specs.Runs.{idents_of}
 use Rattle.rls_runs.specs.Entries.{idents_in}
 use Rattle.rls_blocks.specs.Trees.{entries_of}
-use Rattle.rls_tree.proofs.tree.BlockTree.range_of.Given as goal
+use Rattle.rls_tree.proofs.tree.BlockTree.stand_from.Given as goal
 
 abbrev pub invariant-loop-run : goal.invariant-loop-run
 invariant-loop-run l = record {

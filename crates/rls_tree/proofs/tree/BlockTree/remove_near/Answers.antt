@@ -9,7 +9,7 @@ use Rattle.rls_runs.proofs.Sorted.{Entry}
 use Rattle.rls_runs.specs.Runs.{is_increasing}
 use Rattle.rls_doc.proofs.Rising.{increasing_filter}
 use Rattle.rls_tree.proofs.Without.{filter_short, without_none}
-use Rattle.rls_tree.proofs.document.BlockTreeDocument.remove_all.Goals as goal
+use Rattle.rls_tree.proofs.tree.BlockTree.remove_near.Goals as goal
 
 none_gone : (ts : List (List Tuple)) (es : Entries) → length ts ≡ 0 → es ≡ without_all ts es
 none_gone [] es h = sym (without_none es)
@@ -23,7 +23,7 @@ returns-in-Some-clause-ok c =
     let es = entries_of c.args.self.now.blocks in
     let ts = c.args.targets.now in
     let Gone : Option ℕ → Type 0 = λ o. IfSome o (λ i. removed i (length ts) es ≡ without_all ts es) in
-    c.in_ok-remove_range.ensures.ok ∙ ap (λ n. removed c.in-Some.i n es) c.total-count.ensures.total ∙ subst Gone c.in-Some.is c.in_ok-i.ensures.removed
+    c.in_ok-remove_range.ensures.ok ∙ ap (λ n. removed c.in-Some.i n es) c.total-count.ensures.total ∙ subst Gone c.in-Some.is c.range_near.ensures.removed
 
 pub put_patches-requires-clause-chars_fit : goal.put_patches-requires-clause-chars_fit
 put_patches-requires-clause-chars_fit c =
