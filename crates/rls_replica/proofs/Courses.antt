@@ -207,14 +207,11 @@ taken_all s r u t v o os rest h e w =
 pub unreceived_counts : (s : Seen) (t : Taken) (o : Op) → CountsReleased s t → CountsReleased (received s o) t
 unreceived_counts s t o k = let a = released_or_more s o in omega arith
 
-few_after : (n : ℕ) (t : Taken) (a q : ℕ) (x : Answer) → AreFew n t → AreFew (n + 1) (with_receipt t a q x)
-few_after n t a q Applies h = let i = h.applied in let j = h.repeated in let k = h.held in record { applied = omega arith; repeated = omega arith; held = omega arith }
-few_after n t a q Repeats h = let i = h.applied in let j = h.repeated in let k = h.held in record { applied = omega arith; repeated = omega arith; held = omega arith }
-few_after n t a q Waits h = let i = h.applied in let j = h.repeated in let k = h.held in record { applied = omega arith; repeated = omega arith; held = omega arith }
-few_after n t a q (Refuses r) h = let i = h.applied in let j = h.repeated in let k = h.held in record { applied = omega arith; repeated = omega arith; held = omega arith }
-
-pub receipt_few : (n : ℕ) (t v : Taken) (o : Op) (x : Answer) → v ≡ with_receipt t o.author o.seq x → AreFew n t → AreFew (n + 1) v
-receipt_few n t v o x e h = subst (AreFew (n + 1)) (sym e) (few_after n t o.author o.seq x h)
+pub receipt_few : (n : ℕ) (t : Taken) (a q : ℕ) (x : Answer) → AreFew n t → AreFew (n + 1) (with_receipt t a q x)
+receipt_few n t a q Applies h = let i = h.applied in let j = h.repeated in let k = h.held in record { applied = omega arith; repeated = omega arith; held = omega arith }
+receipt_few n t a q Repeats h = let i = h.applied in let j = h.repeated in let k = h.held in record { applied = omega arith; repeated = omega arith; held = omega arith }
+receipt_few n t a q Waits h = let i = h.applied in let j = h.repeated in let k = h.held in record { applied = omega arith; repeated = omega arith; held = omega arith }
+receipt_few n t a q (Refuses r) h = let i = h.applied in let j = h.repeated in let k = h.held in record { applied = omega arith; repeated = omega arith; held = omega arith }
 
 -- ---- all operations
 
