@@ -22,7 +22,7 @@ use Rattle.rls_runs.proofs.Sorted.{Entry}
 use Rattle.rls_seen.specs.Sane.{IsSane}
 use Rattle.rls_seen.specs.Seen.{Seen}
 use Rattle.rls_seen.proofs.Needed.{total_room}
-use Rattle.rls_runs.proofs.Searches.{missed_at}
+use Rattle.rls_undo.proofs.Finding.{missed_at}
 use Rattle.rls_steps.specs.Marks.{Mark, marks, is_one_of, label_places, first_of, label_place}
 use Rattle.rls_steps.specs.Labelled.{Names, label_of, mark_by, mark, marked_by}
 use Rattle.rls_steps.specs.Index.{AreApart, place_list, named_places, all_places}

@@ -1,6 +1,6 @@
 use Rattle.std.proofs.Common.{sym}
 use Rattle.rls_seen.specs.Seen.{idents_over}
-use Rattle.rls_runs.proofs.Searches.{found_at, missed_at}
+use Rattle.rls_undo.proofs.Finding.{found_at, missed_at}
 use Rattle.rls_steps.proofs.finding.below.Goals as goal
 
 pub returns-in-Ok : goal.returns-in-Ok
