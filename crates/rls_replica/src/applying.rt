@@ -32,8 +32,8 @@ use rls_tree::BlockTree;
 use std::alloc::{AllocError, Global};
 
 impl Replica {
-    // Accepts an operation that fits. After an error the replica is as before. The characters of an insertion are looked for at
-    // the place that is told, if one is, before they are searched.
+    // Accepts an operation that fits. After an error the replica is as before. The characters of an insertion or a deletion are looked
+    // for at the place that is told, if one is, before they are searched.
     pub(crate) fn apply(&mut self, op: &Op, near: Option<u64>) -> Result<(), AllocError>
         requires may { MayApply self.old op.now }
         ensures ok { OnOk result (self.new ≡ accepted self.old op.now) }
@@ -153,7 +153,7 @@ fn change(
             Ok(None)
         }
         Body::Delete { targets } => {
-            delete(document, epochs, op.epoch, targets)?;
+            delete(document, epochs, op.epoch, targets, near)?;
             Ok(None)
         }
         Body::Rename { former } => {
@@ -220,6 +220,7 @@ fn delete(
     epochs: &mut Epochs,
     epoch: EpochName,
     targets: &Runs,
+    near: Option<u64>,
 ) -> Result<(), AllocError>
     requires kept { IsTrue (is_kept epochs.old.epochs.top epochs.old.epochs.nodes epoch) }
     ensures ok { OnOk result (entries_of document.new.blocks ≡ without_all (map (translate epochs.old.epochs.nodes epoch (greatest epochs.old.epochs.top epochs.old.epochs.nodes)) targets.now) (entries_of document.old.blocks)) }
@@ -228,7 +229,7 @@ fn delete(
 {
     let greatest = epochs.greatest();
     if epoch.same(&greatest) {
-        let _removed = document.remove_all(targets)?;
+        let _removed = document.remove_near(near, targets)?;
         return Ok(());
     }
     epochs.prepare(epoch, greatest, targets)?;

@@ -242,10 +242,11 @@ impl Replica {
     }
 }
 
-// The place to which an insertion goes.
+// The place to which an insertion goes, or from which a deletion takes.
 fn place_of(edit: &Edit) -> Option<u64> {
     match edit {
         Edit::Insert { at, .. } => Some(*at),
+        Edit::Delete { at, .. } => Some(*at),
         _ => None,
     }
 }
