@@ -16,7 +16,7 @@ module _ {K S W : Type 0} {file_of : K → Option (Option (List ℕ))} {keeper_f
   -- of a session
   pub session_ending : begins_session words ≡ true
       → SessionEnds load store ((input_new ≡ input_old) × (output_new ≡ output_old)) n keeper_old keeper_new
-        (devices file_of keeper_faults left_of input_faults told_of output_faults keeper_old input_old output_old) (devices file_of keeper_faults left_of input_faults told_of output_faults keeper_new input_new output_new)
+      (devices file_of keeper_faults left_of input_faults told_of output_faults keeper_old input_old output_old) (devices file_of keeper_faults left_of input_faults told_of output_faults keeper_new input_new output_new)
       → ProgramEnds file_of keeper_faults load store left_of input_faults told_of output_faults words n keeper_old keeper_new input_old input_new output_old output_new
   session_ending is ends = record {
     session = λ _. ends;

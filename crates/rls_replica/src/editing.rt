@@ -245,8 +245,7 @@ impl Replica {
 // The place to which an insertion goes, or from which a deletion takes.
 fn place_of(edit: &Edit) -> Option<u64> {
     match edit {
-        Edit::Insert { at, .. } => Some(*at),
-        Edit::Delete { at, .. } => Some(*at),
+        Edit::Insert { at, .. } | Edit::Delete { at, .. } => Some(*at),
         _ => None,
     }
 }
