@@ -1,6 +1,6 @@
 -- Bounds of labels, and runs that change.
 use Rattle.std.proofs.Common.{◌≡◌, ℕ, zero, suc, ◌+◌, ◌<◌, ◌≤◌, List, [], ◌∷◌, ◌++◌, length, length-append, inl, inr, ◌⊎◌, ⊎_elim, refl, sym, take, ap, ◌∙◌, subst, arith}
-use Rattle.std.specs.Prelude.{slice_get, nat_lt, Option, Some, None}
+use Rattle.std.specs.Prelude.{slice_get, min, nat_lt, Option, Some, None}
 use Rattle.std.proofs.lemmas.Option.{slice_get_within}
 use Rattle.std.specs.Prelude.{◌==◌, Bool, false, cond}
 use Rattle.std.specs.Option.{IsSome}
@@ -25,10 +25,10 @@ snoc_get [] x y (suc i) g = absurd (cc)
 snoc_get (z ∷ xs) x y zero g = inl g
 snoc_get (z ∷ xs) x y (suc i) g = ⊎_elim (λ h. inl h) (λ h. inr (ap suc h.0, h.1)) (snoc_get xs x y i g)
 
-last_of_snoc : {A : Type 0} (xs : List A) (x : A) → length (xs ++ x ∷ []) ≡ length xs + 1
+pub last_of_snoc : {A : Type 0} (xs : List A) (x : A) → length (xs ++ x ∷ []) ≡ length xs + 1
 last_of_snoc xs x = length-append xs (x ∷ [])
 
-at_end : {A : Type 0} (xs : List A) (x : A) (i : ℕ) → i ≡ length xs → slice_get (xs ++ x ∷ []) i ≡ Some x
+pub at_end : {A : Type 0} (xs : List A) (x : A) (i : ℕ) → i ≡ length xs → slice_get (xs ++ x ∷ []) i ≡ Some x
 at_end xs x i e = let z : i ≡ length xs + 0 = omega (arith, e) in ap (slice_get (xs ++ x ∷ [])) z ∙ get_right xs (x ∷ []) 0
 
 stays_there : {A : Type 0} (xs : List A) (x y : A) (i : ℕ) → slice_get xs i ≡ Some y → slice_get (xs ++ x ∷ []) i ≡ Some y
@@ -62,19 +62,19 @@ less_popped fs r i t n g p = inl (t, stays_there fs r t i g, p)
 
 -- ---- labels of runs
 
-has_more : (rs rs' : List Stretch) (ns : Names) (i l : ℕ) → IsMore rs rs' ns → HasLabel rs' i l → HasLabel rs i l ⊎ ((i + 1 ≡ length rs') × (n : List Tuple × ℕ) × IsIn n ns × (n.1 ≡ l))
+pub has_more : (rs rs' : List Stretch) (ns : Names) (i l : ℕ) → IsMore rs rs' ns → HasLabel rs' i l → HasLabel rs i l ⊎ ((i + 1 ≡ length rs') × (n : List Tuple × ℕ) × IsIn n ns × (n.1 ≡ l))
 has_more rs rs' ns i l more h = ⊎_elim
     (λ k. inl (k.0, h.1, k.1, k.2, h.4))
     (λ k. inr (k.0, h.1, k.1, h.4))
     (more i h.0 h.1 h.2 h.3)
 
-has_snoc : (rs : List Stretch) (r : Stretch) (i l : ℕ) → HasLabel (rs ++ r ∷ []) i l → HasLabel rs i l ⊎ ((i ≡ length rs) × (n : List Tuple × ℕ) × IsIn n (names_of r) × (n.1 ≡ l))
+pub has_snoc : (rs : List Stretch) (r : Stretch) (i l : ℕ) → HasLabel (rs ++ r ∷ []) i l → HasLabel rs i l ⊎ ((i ≡ length rs) × (n : List Tuple × ℕ) × IsIn n (names_of r) × (n.1 ≡ l))
 has_snoc rs r i l h = ⊎_elim
     (λ g. inl (h.0, h.1, g, h.3, h.4))
     (λ g. inr (g.0, h.1, subst (λ (u : Stretch). IsIn h.1 (names_of u)) (sym g.1) h.3, h.4))
     (snoc_get rs r h.0 i h.2)
 
-has_short : (rs : List Stretch) (i l : ℕ) → HasLabel rs i l → i < length rs
+pub has_short : (rs : List Stretch) (i l : ℕ) → HasLabel rs i l → i < length rs
 has_short rs i l h = slice_get_within rs i h.0 h.2
 
 -- ---- bounds
@@ -191,17 +191,13 @@ pub none_within : (rs : List Stretch) (from from' end low low' high high' : ℕ)
 none_within rs from from' end low low' high high' none f g h i l x y has m n = none i l (omega (arith, x, f)) y has (omega (arith, m, g)) (omega (arith, n, h))
 
 -- the same where only so many runs are
-pub none_less : (rs : List Stretch) (from count end low low' high : ℕ) → HaveNone rs from end low high → (count ≡ from) ⊎ (count ≡ end) → low ≤ low' → low' ≤ high → HaveNone rs count end low' low'
-none_less rs from count end low low' high none e g h i l x y has m n = ⊎_elim
-    (λ w. none i l (omega (arith, x, w)) y has (omega (arith, m, g)) (omega (arith, n, h)))
-    (λ w. absurd (omega (arith, x, y, w)))
-    e
+pub none_less : (rs : List Stretch) (from count end low low' high : ℕ) → HaveNone rs from end low high → count ≡ min from end → low ≤ low' → low' ≤ high → HaveNone rs count end low' low'
+none_less rs from count end low low' high none e g h i l x y has m n = none i l (omega (arith, x, y, e)) y has (omega (arith, m, g)) (omega (arith, n, h))
 
-pub none_before : (rs : List Stretch) (os : List ℕ) (run o count l : ℕ) → AreOlder rs os → slice_get os run ≡ Some o → HasLabel rs run l → (count ≡ o) ⊎ (count ≡ run) → HaveNone rs count run l l
-none_before rs os run o count l older g has e i m x y other p q = ⊎_elim
-    (λ w. let same : m ≡ l = omega (arith, p, q) in older.each run o i l g has (omega (arith, x, w)) y (subst (HasLabel rs i) same other))
-    (λ w. absurd (omega (arith, x, y, w)))
-    e
+pub none_before : (rs : List Stretch) (os : List ℕ) (run o count l : ℕ) → AreOlder rs os → slice_get os run ≡ Some o → HasLabel rs run l → count ≡ min o run → HaveNone rs count run l l
+none_before rs os run o count l older g has e i m x y other p q =
+    let same : m ≡ l = omega (arith, p, q) in
+    older.each run o i l g has (omega (arith, x, y, e)) y (subst (HasLabel rs i) same other)
 
 -- ---- runs that change
 
@@ -290,7 +286,7 @@ counted_more rs r es a low high v c own up most f = record {
   keys = c.keys;
 }
 
-take_got : (n i w : ℕ) (ws : List ℕ) → slice_get (take n ws) i ≡ Some w → slice_get ws i ≡ Some w
+pub take_got : {A : Type 0} (n i : ℕ) (w : A) (ws : List A) → slice_get (take n ws) i ≡ Some w → slice_get ws i ≡ Some w
 take_got zero i w ws g = absurd (cc)
 take_got (suc n) i w [] g = g
 take_got (suc n) zero w (v ∷ ws) g = g

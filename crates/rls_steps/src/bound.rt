@@ -48,7 +48,7 @@ impl Bounds {
             return 0;
         }
         let (_, count) = low_at(&self.counts, label);
-        lesser(count, runs)
+        count.min(runs)
     }
 
     // How many of the runs before a run may have its labels.
@@ -57,7 +57,7 @@ impl Bounds {
         ensures few { result ≤ run }
         ensures none { (rs : List Stretch) (l : ℕ) → AreBounded rs self.now → HasLabel rs run l → HaveNone rs result run l l }
     {
-        lesser(self.olders[run], run)
+        self.olders[run].min(run)
     }
 
     // The labels around a label of which the same first runs may have names. It costs two searches.
@@ -122,7 +122,7 @@ impl Bounds {
         };
         self.olders.truncate(runs);
         self.olders.push(span.count)?;
-        self.above = greater(above, next);
+        self.above = above.max(next);
         put_counts(&mut self.counts, above, low, next, count)?;
         Ok(())
     }
@@ -224,27 +224,4 @@ fn next_at(counts: &BTreeMap<u64, usize>, label: u64) -> Option<u64>
         None => None,
         Some((next, _)) => Some(*next),
     }
-}
-
-// The lesser of two numbers.
-fn lesser(a: usize, b: usize) -> usize
-    ensures first { result ≤ a }
-    ensures second { result ≤ b }
-    ensures one { (result ≡ a) ⊎ (result ≡ b) }
-{
-    if a < b {
-        return a;
-    }
-    b
-}
-
-// The greater of two labels.
-fn greater(a: u64, b: u64) -> u64
-    ensures first { a ≤ result }
-    ensures second { b ≤ result }
-{
-    if a < b {
-        return b;
-    }
-    a
 }

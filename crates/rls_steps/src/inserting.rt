@@ -1,6 +1,6 @@
 //! Names of the characters that an operation inserts.
 
-ghost use Rattle.std.specs.Prelude.{◌≡◌, ◌<◌, ◌++◌, ◌∷◌, [], length, take, reverse, zip, min, IfOk, IfSome, OnOk};
+ghost use Rattle.std.specs.Prelude.{◌≡◌, ◌<◌, ◌++◌, ◌∷◌, [], length, take, reverse, zip, IfOk, IfSome, OnOk};
 ghost use Rattle.rls_runs.specs.Runs.{run_idents};
 ghost use Rattle.rls_steps.specs.Labelled.{inserted_by};
 ghost use Rattle.rls_steps.specs.Marks.{numbers_from};
@@ -108,7 +108,7 @@ fn name_all(names: &mut Names, ids: &Runs, labels: &[u64]) -> Result<(), AllocEr
     ensures ok { OnOk result (reverse names.new ≡ zip ids.now labels.now ++ reverse names.old) }
     ensures front { take (length names.old) names.new ≡ names.old }
 {
-    let mut i = fewer(ids.total(), labels.len());
+    let mut i = ids.total().min(labels.len() as u64) as usize;
     let mut last = None;
     'names: while i > 0 {
         i -= 1;
@@ -116,14 +116,4 @@ fn name_all(names: &mut Names, ids: &Runs, labels: &[u64]) -> Result<(), AllocEr
     }
     push_pending(names, last)?;
     Ok(())
-}
-
-// The lesser of two numbers.
-fn fewer(total: u64, len: usize) -> usize
-    ensures fewer { result ≡ min total len }
-{
-    if total < len as u64 {
-        return total as usize;
-    }
-    len
 }

@@ -12,12 +12,12 @@ pub names-init : goal.names-init
 names-init c =
     let xs = c.args.ids.now in
     let ls = c.args.labels.now in
-    let e = c.fewer-i.ensures.fewer in
+    let e = c.min-i.ensures in
     let t = c.total.ensures.total in
     record {
       ids = omega (arith, e, t);
       labels = omega (arith, e);
-      named = ap reverse (append-nil c.args.names.now) ∙ ap (λ (zs : Names). zs ++ reverse c.args.names.now) (sym (zip_end xs ls c.fewer-i.result (omega (arith, e, t))));
+      named = ap reverse (append-nil c.args.names.now) ∙ ap (λ (zs : Names). zs ++ reverse c.args.names.now) (sym (zip_end xs ls c.min-i.result (omega (arith, e, t))));
       front = front_whole c.args.names.now;
     }
 

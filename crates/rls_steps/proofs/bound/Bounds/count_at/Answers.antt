@@ -8,4 +8,4 @@ returns-then-label-self-clause-none c = λ rs o. none_above rs c.args.self.now.c
 pub returns-clause-none : goal.returns-clause-none
 returns-clause-none c = λ rs o.
     let e = c.low_at-count.result in
-    none_less rs e.1 c.lesser.result c.args.runs e.0 c.args.label c.args.label (none_around rs c.args.self.now.counts.entries c.args.self.now.above c.args.runs c.args.label c.args.label e o.counted c.low_at-count.ensures.bound (λ q h g. absurd (omega (arith, h, g)))) c.lesser.ensures.one c.low_at-count.ensures.low (omega arith)
+    none_less rs e.1 c.min.result c.args.runs e.0 c.args.label c.args.label (none_around rs c.args.self.now.counts.entries c.args.self.now.above c.args.runs c.args.label c.args.label e o.counted c.low_at-count.ensures.bound (λ q h g. absurd (omega (arith, h, g)))) c.min.ensures c.low_at-count.ensures.low (omega arith)
