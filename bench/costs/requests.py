@@ -72,5 +72,11 @@ def undo_renames(n):
     return [*[line("i", k, "a") for k in range(n)], *[line("r")] * n, *[line("u")] * n]
 
 
+def step_again(n):
+    """n characters at places that look random, and one step is undone and redone n times."""
+    text = [line("i", 7919 * k % (k + 1), "a") for k in range(n)]
+    return [*text, line("g"), line("i", n // 2, "b"), line("g"), *[line("z"), line("y")] * n]
+
+
 if __name__ == "__main__":
     sys.stdout.buffer.write(b"".join(globals()[sys.argv[1]](int(sys.argv[2]))))

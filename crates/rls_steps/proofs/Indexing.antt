@@ -1,7 +1,8 @@
 -- Names, and what is kept of their labels and of their identifiers.
 use Rattle.std.proofs.Common.{◌≡◌, ℕ, zero, suc, ◌+◌, ◌-◌, ◌<◌, ◌≤◌, Bool, List, [], ◌∷◌, ◌++◌, length, length-append, take, set, append_assoc, get_or, refl, sym, ap, ◌∙◌, subst, arith}
-use Rattle.std.specs.Prelude.{reverse, slice_get, ◌==◌, nat_lt, Option, Some, None, Result, Ok, Err, IfOk, if◌then◌else◌}
+use Rattle.std.specs.Prelude.{reverse, slice_get, ◌==◌, nat_lt, Box, Option, Some, None, Result, Ok, Err, IfOk, if◌then◌else◌}
 use Rattle.std.specs.BTreeMap.{is_at}
+use Rattle.std.specs.declared.alloc.Global.{Global}
 use Rattle.std.proofs.lemmas.Option.{slice_get-get_or, slice_get_read}
 use Rattle.std.proofs.lemmas.List.{reverse-append, reverse-reverse, length-reverse}
 use Rattle.rls_ident.specs.declared.tuple.Tuple.{Tuple}
@@ -14,47 +15,51 @@ use Rattle.rls_steps.specs.Labelled.{Names, label_of}
 use Rattle.rls_steps.specs.NameRuns.{Stretch, IsStretch, AreSound, AreKept, name_at, names_by, names_of, named, starts_of, run_in, run_of, key_cmp}
 use Rattle.rls_steps.specs.Index.{AreApart, tail_at}
 use Rattle.rls_steps.specs.declared.bound.Bounds.{Bounds}
-use Rattle.rls_steps.specs.Bounds.{AreBounded, IsMore, IsIndexed}
+use Rattle.rls_steps.specs.declared.interval.Interval.{Interval}
+use Rattle.rls_steps.specs.Bounds.{AreBounded, IsMore}
+use Rattle.rls_steps.specs.Intervals.{AreNoted}
+use Rattle.rls_steps.specs.Indexed.{IsIndexed}
 use Rattle.rls_steps.proofs.Giving.{reverse_snoc, front_stays, front_whole}
 use Rattle.rls_steps.proofs.Stretches.{names_long, names_get, one_name, shorter, named_snoc, first_by, reverse_cons, one_run, run_there, sound_at}
 use Rattle.rls_steps.proofs.Widths.{wide_same}
 use Rattle.rls_steps.proofs.Bounded.{more_extended, less_shortened, bounded_fewer}
+use Rattle.rls_steps.proofs.Intervals.{noted_fewer}
 
 -- ---- all that is kept
 
 -- one more name
-pub indexed_more : (rs rs' : List Stretch) (ss ss' : List ℕ) (fs fs' : List (Key × ℕ)) (b b' : Bounds) (n : ℕ) (x : List Tuple) (l : ℕ) → IsIndexed rs ss fs b n → AreKept rs' ss' fs' → AreBounded rs' b' →
-    named rs' ≡ named rs ++ (x, l) ∷ [] → label_of (reverse (named rs)) x ≡ None → IsIndexed rs' ss' fs' b' (n + 1)
-indexed_more rs rs' ss ss' fs fs' b b' n x l i kept bounded more none =
+pub indexed_more : (rs rs' : List Stretch) (ss ss' : List ℕ) (fs fs' : List (Key × ℕ)) (b b' : Bounds) (vs vs' : List (Option (Box Interval Global))) (n : ℕ) (x : List Tuple) (l : ℕ) → IsIndexed rs ss fs b vs n → AreKept rs' ss' fs' → AreBounded rs' b' → AreNoted rs' vs' →
+    named rs' ≡ named rs ++ (x, l) ∷ [] → label_of (reverse (named rs)) x ≡ None → IsIndexed rs' ss' fs' b' vs' (n + 1)
+indexed_more rs rs' ss ss' fs fs' b b' vs vs' n x l i kept bounded noted more none =
     let whole : reverse (named rs') ≡ (x, l) ∷ reverse (named rs) = ap reverse more ∙ reverse_snoc (named rs) (x, l) in
     let size = ap length more ∙ length-append (named rs) ((x, l) ∷ []) in
     let count = i.count in
-    record { kept = kept; apart = subst AreApart (sym whole) (none, i.apart); bounded = bounded; count = omega (arith, size, count) }
+    record { kept = kept; apart = subst AreApart (sym whole) (none, i.apart); bounded = bounded; noted = noted; count = omega (arith, size, count) }
 
 -- one more run
-pub indexed_run : (rs rs' : List Stretch) (ss ss' : List ℕ) (fs fs' : List (Key × ℕ)) (b b' : Bounds) (n : ℕ) (r : Stretch) → IsIndexed rs ss fs b n → AreKept rs' ss' fs' → AreBounded rs' b' → named rs' ≡ named rs ++ names_of r →
-    AreApart (reverse (names_of r) ++ reverse (named rs)) → IsIndexed rs' ss' fs' b' (n + r.len)
-indexed_run rs rs' ss ss' fs fs' b b' n r i kept bounded more apart =
+pub indexed_run : (rs rs' : List Stretch) (ss ss' : List ℕ) (fs fs' : List (Key × ℕ)) (b b' : Bounds) (vs vs' : List (Option (Box Interval Global))) (n : ℕ) (r : Stretch) → IsIndexed rs ss fs b vs n → AreKept rs' ss' fs' → AreBounded rs' b' → AreNoted rs' vs' → named rs' ≡ named rs ++ names_of r →
+    AreApart (reverse (names_of r) ++ reverse (named rs)) → IsIndexed rs' ss' fs' b' vs' (n + r.len)
+indexed_run rs rs' ss ss' fs fs' b b' vs vs' n r i kept bounded noted more apart =
     let whole : reverse (named rs') ≡ reverse (names_of r) ++ reverse (named rs) = ap reverse more ∙ reverse-append (named rs) (names_of r) in
     let size = ap length more ∙ length-append (named rs) (names_of r) in
     let long = names_long r.down r.first r.label 0 r.len in
     let count = i.count in
-    record { kept = kept; apart = subst AreApart (sym whole) apart; bounded = bounded; count = omega (arith, size, long, count) }
+    record { kept = kept; apart = subst AreApart (sym whole) apart; bounded = bounded; noted = noted; count = omega (arith, size, long, count) }
 
 -- one less
-pub indexed_less : (rs rs' : List Stretch) (ss ss' : List ℕ) (fs fs' : List (Key × ℕ)) (b : Bounds) (n : ℕ) → IsIndexed rs ss fs b n → (AreApart (reverse (named rs)) → AreKept rs ss fs → AreKept rs' ss' fs') → IsMore rs rs' [] → length rs' ≤ length rs →
-    (m : List Tuple × ℕ) × (named rs ≡ named rs' ++ m ∷ []) → IsIndexed rs' ss' fs' b (n - 1)
-indexed_less rs rs' ss ss' fs fs' b n i kept fewer short w =
+pub indexed_less : (rs rs' : List Stretch) (ss ss' : List ℕ) (fs fs' : List (Key × ℕ)) (b : Bounds) (vs : List (Option (Box Interval Global))) (n : ℕ) → IsIndexed rs ss fs b vs n → (AreApart (reverse (named rs)) → AreKept rs ss fs → AreKept rs' ss' fs') → IsMore rs rs' [] → length rs' ≤ length rs →
+    (m : List Tuple × ℕ) × (named rs ≡ named rs' ++ m ∷ []) → IsIndexed rs' ss' fs' b vs (n - 1)
+indexed_less rs rs' ss ss' fs fs' b vs n i kept fewer short w =
     let m = w.0 in
     let whole : reverse (named rs) ≡ m ∷ reverse (named rs') = ap reverse w.1 ∙ reverse_snoc (named rs') m in
     let both : AreApart (m ∷ reverse (named rs')) = subst AreApart whole i.apart in
     let size = ap length w.1 ∙ length-append (named rs') (m ∷ []) in
     let count = i.count in
-    record { kept = kept i.apart i.kept; apart = both.1; bounded = bounded_fewer rs rs' b i.bounded fewer short; count = omega (arith, size, count) }
+    record { kept = kept i.apart i.kept; apart = both.1; bounded = bounded_fewer rs rs' b i.bounded fewer short; noted = noted_fewer rs rs' vs i.noted fewer short; count = omega (arith, size, count) }
 
--- other bounds
-pub indexed_bounded : (rs : List Stretch) (ss : List ℕ) (fs : List (Key × ℕ)) (b b' : Bounds) (n : ℕ) → IsIndexed rs ss fs b n → AreBounded rs b' → IsIndexed rs ss fs b' n
-indexed_bounded rs ss fs b b' n i bounded = record { kept = i.kept; apart = i.apart; bounded = bounded; count = i.count }
+-- other bounds and intervals
+pub indexed_bounded : (rs : List Stretch) (ss : List ℕ) (fs : List (Key × ℕ)) (b b' : Bounds) (vs vs' : List (Option (Box Interval Global))) (n : ℕ) → IsIndexed rs ss fs b vs n → AreBounded rs b' → AreNoted rs vs' → IsIndexed rs ss fs b' vs' n
+indexed_bounded rs ss fs b b' vs vs' n i bounded noted = record { kept = i.kept; apart = i.apart; bounded = bounded; noted = noted; count = i.count }
 
 pub some_runs : (rs : List Stretch) → 0 < length (named rs) → 0 < length rs
 some_runs [] h = h

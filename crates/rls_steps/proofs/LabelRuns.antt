@@ -1,5 +1,5 @@
 -- The newest name of a label, run by run.
-use Rattle.std.proofs.Common.{◌≡◌, ℕ, zero, suc, ◌+◌, ◌-◌, ◌<◌, ◌≤◌, Bool, true, false, List, [], ◌∷◌, ◌++◌, length, length-append, take, drop, inl, inr, refl, sym, ap, ◌∙◌, subst, append_assoc, arith}
+use Rattle.std.proofs.Common.{◌≡◌, ℕ, zero, suc, ◌+◌, ◌-◌, ◌<◌, ◌≤◌, Bool, true, false, List, [], ◌∷◌, ◌++◌, length, length-append, take, drop, inl, inr, ⊎_elim, refl, sym, ap, ◌∙◌, subst, append_assoc, arith}
 use Rattle.std.specs.Prelude.{◌==◌, nat_lt, reverse, slice_get, Some, if◌then◌else◌}
 use Rattle.std.proofs.lemmas.Option.{slice_get_within}
 use Rattle.std.proofs.Math.Seq.{take-append-add}
@@ -8,13 +8,14 @@ use Rattle.rls_ident.specs.declared.tuple.Tuple.{Tuple}
 use Rattle.rls_ident.specs.Tuples.{offset_of}
 use Rattle.rls_ident.specs.Identifiers.{last_of}
 use Rattle.rls_ident.specs.Lists.{IsIn}
-use Rattle.rls_ident.proofs.Members.{bool_cases, lt_is, not_lt_is, eq_is, eq_test, neq_test, some_is}
+use Rattle.rls_ident.proofs.Members.{bool_cases, lt_is, not_lt_is, eq_is, eq_test, neq_test, some_is, in_split}
 use Rattle.rls_steps.specs.Labelled.{Names}
 use Rattle.rls_steps.specs.NameRuns.{Stretch, IsStretch, IsWithin, AreSound, label_by, name_by, names_by, name_at, names_of, named, starts_of}
 use Rattle.rls_steps.specs.Index.{newest_at, tail_at}
 use Rattle.rls_steps.specs.Bounds.{HaveNone, IsLatest}
 use Rattle.rls_steps.proofs.Giving.{reverse_snoc, front_stays, front_whole}
-use Rattle.rls_steps.proofs.Stretches.{names_long, names_suc, in_names, name_in, named_snoc, reverse_cons, reverse_in, sound_at}
+use Rattle.rls_steps.proofs.Stretches.{names_long, names_suc, in_names, in_named, name_in, named_snoc, reverse_cons, reverse_in, sound_at}
+use Rattle.rls_steps.proofs.Bounded.{take_got}
 use Rattle.rls_steps.proofs.Indexing.{tail_short, placed_name}
 
 -- ---- lists of names
@@ -110,7 +111,7 @@ run_found rs ss k l j s r o e g h short is =
     ∙ (ap (newest_at (reverse (names_of r) ++ ys)) (sym is)
     ∙ (newest_here r.down r.first r.label r.len j ys short (λ m n q. labels_apart r m j sound n short q) ∙ ap Some there))
 
-some_at : (rs : List Stretch) (k : ℕ) → k < length rs → (r : Stretch) × (slice_get rs k ≡ Some r)
+pub some_at : (rs : List Stretch) (k : ℕ) → k < length rs → (r : Stretch) × (slice_get rs k ≡ Some r)
 some_at [] k h = absurd (omega (arith, h))
 some_at (r ∷ rs) zero h = (r, refl)
 some_at (r ∷ rs) (suc k) h = some_at rs k (omega (arith, h))
@@ -182,28 +183,49 @@ tail_take (d ∷ ds) i n ms t =
     tail_take ds i n ms later
     ∙ (ap reverse (sym (take-append-le i (reverse ds) (d ∷ []) (omega (arith, size, s)))) ∙ ap (λ (zs : Names). reverse (take i zs)) (sym (reverse_cons d ds))))
 
--- the newest name that is older than one of a run is in a run before
-pub older_is : (rs : List Stretch) (ss : List ℕ) (i k s : ℕ) (r : Stretch) (n : List Tuple × ℕ) (ms : Names) → AreSound rs → ss ≡ starts_of 0 rs → slice_get rs k ≡ Some r → slice_get ss k ≡ Some s → s ≤ i → i - s < r.len → tail_at (reverse (named rs)) i ≡ n ∷ ms →
-    newest_at (reverse (named (take k rs))) (name_at r (i - s)).1 ≡ newest_at ms (name_at r (i - s)).1
-older_is rs ss i k s r n ms o e g h low short t =
+-- no name before one of a run has its label in that run
+own_apart : (rs : List Stretch) (k j : ℕ) (r : Stretch) (m : List Tuple × ℕ) → AreSound rs → slice_get rs k ≡ Some r → j < r.len → IsIn m (reverse (names_by r.down r.first r.label 0 j)) → m.1 ≡ (name_at r j).1 → ⊥
+own_apart rs k j r m o g short p q =
+    let w = in_names r.down r.first r.label 0 j m (reverse_in m (names_by r.down r.first r.label 0 j) p) in
+    let z : w.0 ≡ 0 + w.0 = omega arith in
+    let less = w.1 in
+    let same = labels_apart r w.0 j (sound_at rs k r o g) (omega (arith, less, short)) short (ap (λ x. (name_at r x).1) z ∙ (ap (λ (y : List Tuple × ℕ). y.1) w.2 ∙ q)) in
+    absurd (omega (arith, same, less))
+
+-- those that are older than one of a run are those before it in the run, and those of the runs before
+older_split : (rs : List Stretch) (ss : List ℕ) (i k s : ℕ) (r : Stretch) (n : List Tuple × ℕ) (ms : Names) → ss ≡ starts_of 0 rs → slice_get rs k ≡ Some r → slice_get ss k ≡ Some s → s ≤ i → i - s < r.len → tail_at (reverse (named rs)) i ≡ n ∷ ms →
+    ms ≡ reverse (names_by r.down r.first r.label 0 (i - s)) ++ reverse (named (take k rs))
+older_split rs ss i k s r n ms e g h low short t =
     let j = i - s in
-    let l = (name_at r j).1 in
     let front = named (take k rs) in
     let own = names_by r.down r.first r.label 0 j in
     let at = start_is 0 rs k s (ap (λ (zs : List ℕ). slice_get zs k) (sym e) ∙ h) in
     let place : i ≡ length front + j = omega (arith, at, low) in
     let all : take i (named rs) ≡ front ++ own = ap (λ m. take m (named rs)) place ∙ take_named rs k j r g (omega (arith, short)) in
-    let older : ms ≡ reverse own ++ reverse front =
-    tail_take (reverse (named rs)) i n ms t ∙ (ap (λ (zs : Names). reverse (take i zs)) (reverse-reverse (named rs)) ∙ (ap reverse all ∙ reverse-append front own)) in
-    sym (ap (λ (zs : Names). newest_at zs l) older ∙ newest_skip (reverse own) (reverse front) l none)
-  where
-    none : (m : List Tuple × ℕ) → IsIn m (reverse (names_by r.down r.first r.label 0 (i - s))) → m.1 ≡ (name_at r (i - s)).1 → ⊥
-    none m p q =
-        let w = in_names r.down r.first r.label 0 (i - s) m (reverse_in m (names_by r.down r.first r.label 0 (i - s)) p) in
-        let z : w.0 ≡ 0 + w.0 = omega arith in
-        let less = w.1 in
-        let same = labels_apart r w.0 (i - s) (sound_at rs k r o g) (omega (arith, less, short)) short (ap (λ x. (name_at r x).1) z ∙ (ap (λ (y : List Tuple × ℕ). y.1) w.2 ∙ q)) in
-        absurd (omega (arith, same, less))
+    tail_take (reverse (named rs)) i n ms t ∙ (ap (λ (zs : Names). reverse (take i zs)) (reverse-reverse (named rs)) ∙ (ap reverse all ∙ reverse-append front own))
+
+-- the newest name that is older than one of a run is in a run before
+pub older_is : (rs : List Stretch) (ss : List ℕ) (i k s : ℕ) (r : Stretch) (n : List Tuple × ℕ) (ms : Names) → AreSound rs → ss ≡ starts_of 0 rs → slice_get rs k ≡ Some r → slice_get ss k ≡ Some s → s ≤ i → i - s < r.len → tail_at (reverse (named rs)) i ≡ n ∷ ms →
+    newest_at (reverse (named (take k rs))) (name_at r (i - s)).1 ≡ newest_at ms (name_at r (i - s)).1
+older_is rs ss i k s r n ms o e g h low short t =
+    let l = (name_at r (i - s)).1 in
+    let own = names_by r.down r.first r.label 0 (i - s) in
+    let front = named (take k rs) in
+    sym (ap (λ (zs : Names). newest_at zs l) (older_split rs ss i k s r n ms e g h low short t) ∙ newest_skip (reverse own) (reverse front) l (λ m p q. own_apart rs k (i - s) r m o g short p q))
+
+-- each name that is older and of the same label is in a run before
+pub older_in : (rs : List Stretch) (ss : List ℕ) (i k s : ℕ) (r : Stretch) (n m : List Tuple × ℕ) (ms : Names) → AreSound rs → ss ≡ starts_of 0 rs → slice_get rs k ≡ Some r → slice_get ss k ≡ Some s → s ≤ i → i - s < r.len → tail_at (reverse (named rs)) i ≡ n ∷ ms →
+    IsIn m ms → m.1 ≡ (name_at r (i - s)).1 → (j : ℕ) × (q : Stretch) × (j < k) × (slice_get rs j ≡ Some q) × IsIn m (names_of q)
+older_in rs ss i k s r n m ms o e g h low short t p same =
+    let own = names_by r.down r.first r.label 0 (i - s) in
+    let front = named (take k rs) in
+    ⊎_elim
+    (λ u. absurd (own_apart rs k (i - s) r m o g short u same))
+    (λ u. let w = in_named (take k rs) m (reverse_in m front u) in
+    let within = slice_get_within (take k rs) w.0 w.1 w.3 in
+    let size = length-take k rs in
+    (w.0, w.1, omega (arith, within, size), take_got k w.0 w.1 rs w.3, subst (λ x. IsIn x (names_of w.1)) w.5 (name_in w.1 w.2 w.4)))
+    (in_split m (reverse own) (reverse front) (subst (IsIn m) (older_split rs ss i k s r n ms e g h low short t) p))
 
 -- ---- a run whose names are the newest
 

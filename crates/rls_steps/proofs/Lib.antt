@@ -18,6 +18,7 @@ pub mod Stretches
 pub mod CutRuns
 pub mod RunLookups
 pub mod Bounded
+pub mod Intervals
 pub mod Indexing
 pub mod LabelRuns
 pub mod FreeRuns

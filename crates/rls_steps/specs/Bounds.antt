@@ -6,11 +6,10 @@ use Rattle.std.specs.Map.{lookup}
 use Rattle.std.specs.BTreeMap.{is_at}
 use Rattle.rls_ident.specs.declared.tuple.Tuple.{Tuple}
 use Rattle.rls_ident.specs.Lists.{IsIn}
-use Rattle.rls_steps.specs.declared.key.Key.{Key}
 use Rattle.rls_steps.specs.declared.bound.Bounds.{Bounds}
 use Rattle.rls_steps.specs.Labelled.{Names}
-use Rattle.rls_steps.specs.NameRuns.{Stretch, name_at, names_of, named, AreKept}
-use Rattle.rls_steps.specs.Index.{AreApart, newest_at}
+use Rattle.rls_steps.specs.NameRuns.{Stretch, name_at, names_of}
+use Rattle.rls_steps.specs.Index.{newest_at}
 
 -- ---- bounds of labels
 
@@ -78,10 +77,3 @@ pub record AreOlder (rs : List Stretch) (os : List ℕ) : Type 0 where
 pub record AreBounded (rs : List Stretch) (b : Bounds) : Type 0 where
   pub counted : AreCounted rs b.counts.entries b.above
   pub older : AreOlder rs b.olders.items
-
--- runs of names, the oldest first, and what is kept of them: where each begins, their first identifiers, the bounds of their labels, and how many names there are
-pub record IsIndexed (rs : List Stretch) (ss : List ℕ) (fs : List (Key × ℕ)) (b : Bounds) (n : ℕ) : Type 0 where
-  pub kept : AreKept rs ss fs
-  pub apart : AreApart (reverse (named rs))
-  pub bounded : AreBounded rs b
-  pub count : n ≡ length (named rs)

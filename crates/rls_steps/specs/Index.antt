@@ -1,6 +1,7 @@
 -- Names that are looked up, by identifier and by label. The newest comes first, if nothing else is said.
-use Rattle.std.specs.Prelude.{◌≡◌, ℕ, suc, ◌==◌, List, [], ◌∷◌, ◌++◌, length, Option, Some, None, Result, Ok, Err, if◌then◌else◌}
+use Rattle.std.specs.Prelude.{◌≡◌, ℕ, suc, ◌==◌, List, [], ◌∷◌, ◌++◌, length, Option, Some, None, Result, Ok, Err, if◌then◌else◌, ◌⊎◌}
 use Rattle.rls_ident.specs.declared.tuple.Tuple.{Tuple}
+use Rattle.rls_ident.specs.Lists.{IsIn}
 use Rattle.rls_runs.specs.Runs.{place_of}
 use Rattle.rls_steps.specs.Labelled.{Names, label_of}
 
@@ -51,3 +52,21 @@ IsCursor ns l (Some i) = (n : List Tuple × ℕ) × (ms : Names) × (tail_at ns 
 abbrev pub cursor_rank : Option ℕ → ℕ
 cursor_rank None = 0
 cursor_rank (Some i) = suc i
+
+-- ---- names that are passed over
+
+-- the names from the one at a place on, if one is there
+abbrev pub names_from : Names → Option ℕ → Names
+names_from ns None = []
+names_from ns (Some i) = tail_at ns i
+
+-- none of these names stands at the place that was found, if one was
+abbrev pub AreElsewhere : List (List Tuple) → Names → Option ℕ → Type 0
+AreElsewhere xs ns None = Unit {0}
+AreElsewhere xs ns (Some k) = (n : List Tuple × ℕ) → IsIn n ns → place_of n.0 xs ≡ Ok k → ⊥
+
+-- after a name comes the next one of its label among those that are older, or none, where each of these that is in the text stands at the
+-- place that was found
+abbrev pub IsAfter : List (List Tuple) → List Tuple × ℕ → Names → Option ℕ → Option ℕ → Type 0
+IsAfter xs n ms found next =
+    (next ≡ newest_at ms n.1) ⊎ ((next ≡ None) × ((m : List Tuple × ℕ) (k : ℕ) → IsIn m ms → m.1 ≡ n.1 → place_of m.0 xs ≡ Ok k → found ≡ Some k))

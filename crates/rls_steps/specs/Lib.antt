@@ -6,6 +6,8 @@ pub mod Labelled
 pub mod NameRuns
 pub mod Index
 pub mod Bounds
+pub mod Intervals
+pub mod Indexed
 pub mod StepLaws
 pub mod Courses
 pub mod Parts

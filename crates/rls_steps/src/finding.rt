@@ -1,16 +1,20 @@
 //! Where labels stand in a text.
 
-ghost use Rattle.std.specs.Prelude.{◌≡◌, ◌<◌, ◌^◌, ◌+◌, ◌++◌, ◌∷◌, [], ℕ, reverse, Some, None, IfOk, OnOk, IfSome};
+ghost use Rattle.std.specs.Prelude.{◌≡◌, ◌<◌, ◌^◌, ◌+◌, ◌++◌, ◌∷◌, [], ℕ, reverse, Some, None, Ok, IfOk, OnOk, IfSome, List, length, false, ◌⊎◌, IsTrue};
+ghost use Rattle.rls_ident.specs.declared.tuple.Tuple.{Tuple};
+ghost use Rattle.rls_ident.specs.Identifiers.{ident_lt};
 ghost use Rattle.rls_runs.specs.Places.{below_count};
 ghost use Rattle.rls_runs.specs.Runs.{place_of};
 ghost use Rattle.rls_seen.specs.Seen.{idents_over};
 ghost use Rattle.rls_undo.specs.Plans.{put_place, ranges_of};
 ghost use Rattle.rls_steps.specs.Marks.{marks, label_places, label_place};
 ghost use Rattle.rls_steps.specs.Labelled.{marked_by};
-ghost use Rattle.rls_steps.specs.Index.{place_list, named_places, all_places};
+ghost use Rattle.rls_steps.specs.Index.{tail_at, place_list, named_places, all_places, IsAfter};
+ghost use Rattle.rls_steps.specs.Intervals.{IsBetween};
 ghost use Rattle.rls_steps.specs.Courses.{ident_of, below_or_none, place_over, ranges_over};
 ghost use Rattle.rls_steps.specs.Recorded.{held_by};
 
+use crate::interval::Interval;
 use crate::names::Names;
 use rls_ident::{Ident, rely};
 use rls_replica::Replica;
@@ -18,7 +22,8 @@ use std::alloc::AllocError;
 
 /// The maximal ranges of the places where one of these labels stands: each as its first place and its length, the last range first.
 ///
-/// It costs a search in the text for each name of these labels.
+/// It costs a few searches in the text for each of these labels; where other characters stand between the places that one of them had, one
+/// for each of its names.
 pub(crate) fn ranges(
     replica: &Replica,
     names: &Names,
@@ -54,7 +59,7 @@ fn all_places(replica: &Replica, names: &Names, labels: &[u64]) -> Result<Vec<u6
     Ok(places)
 }
 
-// Where identifiers of a label stand, the newest first.
+// Where identifiers of a label stand, the newest first. What came before them isn't looked for if the text has nothing between them.
 fn push_places(
     places: &mut Vec<u64>,
     replica: &Replica,
@@ -63,25 +68,80 @@ fn push_places(
 ) -> Result<(), AllocError>
     ensures ok { OnOk result (places.new.items ≡ places.old.items ++ named_places (idents_over replica.now) label (reverse names.now)) }
 {
+    rely!(replica.sane());
+    names.apart();
     let mut cursor = names.newest(label);
+    let mut found = None;
     'names: while let Some(at) = cursor {
         let (ident, _) = names.name(at)?;
-        push_place(places, replica, &ident)?;
-        cursor = names.older(at);
+        found = push_place(places, replica, &ident, found)?;
+        cursor = name_before(replica, names, at, found);
     }
     Ok(())
 }
 
-// Where an identifier stands, if it is there.
-fn push_place(places: &mut Vec<u64>, replica: &Replica, ident: &Ident) -> Result<(), AllocError>
+// Where an identifier stands, if it is there. Answers that place, or else the one that was found before.
+fn push_place(
+    places: &mut Vec<u64>,
+    replica: &Replica,
+    ident: &Ident,
+    found: Option<u64>,
+) -> Result<Option<u64>, AllocError>
     ensures ok { OnOk result (places.new.items ≡ places.old.items ++ place_list (place_of ident.now (idents_over replica.now))) }
+    ensures found { IfOk result (λ o. (o ≡ found) ⊎ ((k : ℕ) × (o ≡ Some k) × (place_of ident.now (idents_over replica.now) ≡ Ok k))) }
 {
     match replica.find(ident) {
-        Err(_) => Ok(()),
+        Err(_) => Ok(found),
         Ok(at) => {
             places.push(at)?;
-            Ok(())
+            Ok(Some(at))
         }
+    }
+}
+
+// The name that the label of the name at a place had before, if one of those that it had may be in the text, but for the place found.
+fn name_before(replica: &Replica, names: &Names, at: usize, found: Option<u64>) -> Option<usize>
+    requires place { at < length names.now }
+    ensures after { (n : List Tuple × ℕ) (ms : List (List Tuple × ℕ)) → tail_at (reverse names.now) at ≡ n ∷ ms → IsAfter (idents_over replica.now) n ms found result }
+{
+    let Some(older) = names.older(at) else {
+        return None;
+    };
+    match names.interval_before(at) {
+        None => Some(older),
+        Some(interval) => {
+            if is_alone(replica, interval, found) {
+                return None;
+            }
+            Some(older)
+        }
+    }
+}
+
+// Whether no identifier of an interval is in the text, but for one at the place that was found.
+fn is_alone(replica: &Replica, interval: &Interval, found: Option<u64>) -> bool
+    ensures alone { IsTrue result → (x : List Tuple) (k : ℕ) → IsBetween interval.now x → place_of x (idents_over replica.now) ≡ Ok k → found ≡ Some k }
+{
+    rely!(replica.sane());
+    let from = below(replica, &interval.low);
+    let end = up_to(replica, &interval.high);
+    if end <= from {
+        return true;
+    }
+    match found {
+        None => false,
+        Some(at) => at == from && end - from == 1,
+    }
+}
+
+// How many identifiers of the text are up to one of the greatest epoch.
+fn up_to(replica: &Replica, ident: &Ident) -> u64
+    ensures up_to { (x : List Tuple) (k : ℕ) → ident_lt ident.now x ≡ false → place_of x (idents_over replica.now) ≡ Ok k → k < result }
+{
+    rely!(replica.sane());
+    match replica.find(ident) {
+        Ok(at) => at + 1,
+        Err(at) => at,
     }
 }
 
@@ -119,7 +179,7 @@ fn put_range(ranges: &mut Vec<(u64, u64)>, at: u64) -> Result<(), AllocError>
     Ok(())
 }
 
-/// Where cut characters come back. It costs a search in the text for each name of both neighbours.
+/// Where cut characters come back. It costs what `ranges` costs for the labels of both neighbours.
 pub(crate) fn place(
     replica: &Replica,
     names: &Names,

@@ -4,20 +4,23 @@ ghost use Rattle.std.specs.Prelude.{◌≡◌, ◌<◌, ◌≤◌, ◌+◌, ◌-
 ghost use Rattle.rls_ident.specs.declared.tuple.Tuple.{Tuple};
 ghost use Rattle.rls_ident.specs.Identifiers.{shifted};
 ghost use Rattle.rls_steps.specs.Labelled.{label_of};
-ghost use Rattle.rls_steps.specs.NameRuns.{AreKept, AreSound, IsBelow, IsAbove, IsLabelIn, IsLabelOf, IsOutside, name_at, names_in, names_of, named, starts_of, run_in, run_of};
+ghost use Rattle.rls_steps.specs.NameRuns.{AreKept, AreSound, name_at, names_in, names_of, named, starts_of, run_in, run_of};
 ghost use Rattle.rls_steps.specs.Index.{AreApart, newest_at, tail_at};
 ghost use Rattle.rls_steps.specs.Bounds.{AreBounded, IsLatest, IsMore};
+ghost use Rattle.rls_steps.specs.Intervals.{IsBetween};
+ghost use Rattle.rls_ident.specs.Lists.{IsIn};
 ghost use Rattle.rls_steps.specs.declared.key.Key as keys;
 
 use crate::bound::Bounds;
+use crate::interval::{Interval, Intervals, interval_in, push_interval};
 use crate::key::Key;
 use crate::latest::newest_in;
+use crate::lookup::{begins_in, label_in, run_above, run_below};
 use crate::name_run::NameRun;
 use rls_ident::{Ident, rely};
 use std::alloc::{AllocError, Global};
 use std::collections::BTreeMap;
 use std::marker::Model;
-use std::ops::Bound;
 
 /// Identifiers with their labels, the oldest first. An identifier is there once, and a label as often as its character came back. They are
 /// kept as runs of names that follow one another.
@@ -30,6 +33,8 @@ pub(crate) struct Names {
     firsts: BTreeMap<Key, usize>,
     // Which runs may have names of a label.
     bounds: Bounds,
+    // Between which identifiers the names lie that the labels of each run had before.
+    intervals: Intervals,
     // How many names there are.
     len: usize,
 }
@@ -38,13 +43,13 @@ impl Model for Names {
     ghost use Rattle.std.specs.Prelude.{List, ℕ};
     ghost use Rattle.rls_steps.specs.Labelled.{Names};
     ghost use Rattle.rls_steps.specs.NameRuns.{named};
-    ghost use Rattle.rls_steps.specs.Bounds.{IsIndexed};
+    ghost use Rattle.rls_steps.specs.Indexed.{IsIndexed};
 
     ghost Value = { Names };
 
     ghost view = { λ n. named n.runs.items };
 
-    ghost invariant = { λ n. IsIndexed n.runs.items n.starts.items n.firsts.entries n.bounds n.len };
+    ghost invariant = { λ n. IsIndexed n.runs.items n.starts.items n.firsts.entries n.bounds n.intervals.items n.len };
 }
 
 impl Names {
@@ -57,6 +62,7 @@ impl Names {
             starts: Vec::new(alloc),
             firsts: BTreeMap::new(alloc),
             bounds: Bounds::new(alloc),
+            intervals: Vec::new(alloc),
             len: 0,
         }
     }
@@ -115,6 +121,19 @@ impl Names {
         let label = self.runs[run].label(i - self.starts[run]);
         let count = self.bounds.count_before(run);
         newest_in(&self.runs, &self.starts, count, label)
+    }
+
+    // The interval in which all names lie that the label of the name at a place had before, if that is known. It costs a search.
+    pub(crate) fn interval_before(&self, i: usize) -> Option<&Interval>
+        requires place { i < length self.now }
+        ensures between { IfSome result (λ v. (n m : List Tuple × ℕ) (ms : List (List Tuple × ℕ)) → tail_at (reverse self.now) i ≡ n ∷ ms → IsIn m ms → m.1 ≡ n.1 → IsBetween v.now m.0) }
+    {
+        rely!(let _len = self.len());
+        let run = run_at(&self.starts, i);
+        match &self.intervals[run] {
+            None => None,
+            Some(interval) => Some(&**interval),
+        }
     }
 
     // The names of a run, if it begins at this place and each of them is the newest of its label. It costs a few searches.
@@ -229,7 +248,17 @@ impl Names {
         let Some(len) = self.len.checked_add(front.len()) else {
             return Err(AllocError);
         };
-        self.bounds.put(self.runs.len(), span, low, high)?;
+        let runs = self.runs.len();
+        let interval = interval_in(
+            &self.runs,
+            &self.bounds,
+            &self.intervals,
+            span.count,
+            low,
+            high,
+        )?;
+        push_interval(&mut self.intervals, runs, interval)?;
+        self.bounds.put(runs, span, low, high)?;
         put_run(
             &mut self.runs,
             &mut self.starts,
@@ -290,64 +319,6 @@ fn is_free(runs: &[NameRun], firsts: &BTreeMap<Key, usize>, low: &Key, high: &Ke
         return false;
     }
     !begins_in(runs, run_above(firsts, low), &low.ident, len)
-}
-
-// Whether a run begins among so many identifiers from one on.
-fn begins_in(runs: &[NameRun], run: Option<usize>, low: &Ident, len: u32) -> bool
-    requires within { IfSome run (λ i. i < length runs.now) }
-    ensures out { IsFalse result → IsOutside runs.now run low.now len }
-{
-    match run {
-        None => false,
-        Some(i) => runs[i].begins_in(low, len),
-    }
-}
-
-// The label that an identifier has in a run, if it has one there.
-fn label_in(runs: &[NameRun], run: Option<usize>, ident: &Ident) -> Option<u64>
-    requires within { IfSome run (λ i. i < length runs.now) }
-    ensures label { IsLabelIn runs.now run ident.now result }
-{
-    match run {
-        None => None,
-        Some(i) => label_there(&runs[i], ident),
-    }
-}
-
-// The label that an identifier has in a run, if it is one of that.
-fn label_there(run: &NameRun, ident: &Ident) -> Option<u64>
-    ensures label { IsLabelOf run.now ident.now result }
-{
-    match run.find(ident) {
-        None => None,
-        Some(place) => Some(run.label(place)),
-    }
-}
-
-// The run that begins with the greatest identifier up to this one.
-fn run_below(firsts: &BTreeMap<Key, usize>, key: &Key) -> Option<usize>
-    ensures below { IsBelow firsts.now.entries key.now result }
-{
-    match firsts
-        .range((Bound::Unbounded, Bound::Included(key)))
-        .next_back()
-    {
-        None => None,
-        Some((_, run)) => Some(*run),
-    }
-}
-
-// The run that begins with the least identifier from this one on.
-fn run_above(firsts: &BTreeMap<Key, usize>, key: &Key) -> Option<usize>
-    ensures above { IsAbove firsts.now.entries key.now result }
-{
-    match firsts
-        .range((Bound::Included(key), Bound::Unbounded))
-        .next()
-    {
-        None => None,
-        Some((_, run)) => Some(*run),
-    }
 }
 
 // The name at a place.

@@ -346,8 +346,10 @@ impl Steps {
     /// Takes the last group back, the last step first, and answers how many steps that were. It ends the open group. What it changes in
     /// the text stands after the other changes: an insertion for each piece that comes back, and a deletion for each range that goes.
     ///
-    /// Each step costs its edits, as by `edit`. A step that put characters in costs a search in the text for each name that these have
-    /// had, and one that cut some out the same for its neighbours. After a rename everything is translated first, as by `settle`.
+    /// Each step costs its edits, as by `edit`. A step that put characters in costs a few searches in the text for each of these, and one
+    /// that cut some out for its neighbours, however often they went and came back; only where other characters stand between where a
+    /// character was at different times, a search for each name that it has had. After a rename everything is translated first, as by
+    /// `settle`.
     ///
     /// # Errors
     ///

@@ -301,6 +301,33 @@ const BESIDE_OTHERS: &[Row] = &[
     "undo | 2 | qhezllo",
 ];
 
+/// A step goes and comes back many times, also with characters of others between, of which one goes meanwhile.
+const AGAIN_AND_AGAIN: &[Row] = &[
+    "edit insert 0 ad | 1 | ad",
+    "close | closed | ad",
+    "edit insert 1 bc | 2 | abcd",
+    "undo | 1 | ad",
+    "redo | 1 | abcd",
+    "undo | 1 | ad",
+    "redo | 1 | abcd",
+    "undo | 1 | ad",
+    "redo | 1 | abcd",
+    "give | true | abcd",
+    "other insert 2 x | 1 | abcd",
+    "other insert 4 y | 2 | abcd",
+    "take | true | abxcyd",
+    "undo | 1 | axyd",
+    "redo | 2 | abxcyd",
+    "undo | 2 | axyd",
+    "redo | 2 | abxcyd",
+    "other delete 2 1 | 3 | abxcyd",
+    "take | true | abcyd",
+    "undo | 2 | ayd",
+    "redo | 2 | abcyd",
+    "undo | 2 | ayd",
+    "redo | 2 | abcyd",
+];
+
 /// A dropped epoch is told; what was settled before is as good as ever.
 const DROPPED: &[Row] = &[
     "edit insert 0 hello | 1 | hello",
@@ -407,6 +434,7 @@ const TABLES: &[(u32, &[Row])] = &[
     (2, ALL_THE_WAY),
     (2, GROUPS),
     (2, BESIDE_OTHERS),
+    (2, AGAIN_AND_AGAIN),
     (1, DROPPED),
     (1, SETTLED),
     (2, FORGOTTEN),

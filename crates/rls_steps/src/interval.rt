@@ -1,0 +1,124 @@
+//! Between which identifiers the names lie that labels had before.
+
+ghost use Rattle.std.specs.Prelude.{◌≡◌, ◌++◌, ◌∷◌, [], ℕ, List, length, false, IfOk, IfSome, OnOk};
+ghost use Rattle.rls_ident.specs.declared.tuple.Tuple.{Tuple};
+ghost use Rattle.rls_ident.specs.Identifiers.{ident_lt};
+ghost use Rattle.rls_ident.specs.Lists.{IsIn};
+ghost use Rattle.rls_steps.specs.NameRuns.{Stretch, names_of};
+ghost use Rattle.rls_steps.specs.Bounds.{AreBounded, HasBetween};
+ghost use Rattle.rls_steps.specs.Intervals.{AreBetween, AreNoted, IsBetween, LiesIn};
+
+use crate::bound::Bounds;
+use crate::name_run::NameRun;
+use rls_ident::{Ident, rely};
+use std::alloc::AllocError;
+
+/// Two identifiers, between which others lie.
+#[derive(Drop)]
+pub(crate) struct Interval {
+    pub(crate) low: Ident,
+    pub(crate) high: Ident,
+}
+
+/// For each run of names: between which identifiers the names lie that its labels had before, where that is known.
+pub(crate) type Intervals = Vec<Option<Box<Interval>>>;
+
+/// The interval in which all names lie that the labels from one to another have in the first runs, so many. It is known where the last of
+/// these runs has each of the labels, and knows it of the runs before.
+pub(crate) fn interval_in(
+    runs: &[NameRun],
+    bounds: &Bounds,
+    intervals: &Intervals,
+    count: usize,
+    low: u64,
+    high: u64,
+) -> Result<Option<Box<Interval>>, AllocError>
+    requires bounded { AreBounded runs.now bounds.now }
+    requires noted { AreNoted runs.now intervals.now.items }
+    ensures between { IfOk result (λ o. AreBetween runs.now count low high o) }
+{
+    if count == 0 || runs.len() < count {
+        return Ok(None);
+    }
+    let last = count - 1;
+    let (least, greatest) = runs[last].labels();
+    if low < least || greatest < high {
+        return Ok(None);
+    }
+    let own = interval_of(&runs[last])?;
+    let first = bounds.count_before(last) == 0;
+    match joined(own, first, &intervals[last])? {
+        None => Ok(None),
+        Some(all) => {
+            let boxed = Box::new(*intervals.allocator(), all)?;
+            Ok(Some(boxed))
+        }
+    }
+}
+
+// The interval of a run's names.
+fn interval_of(run: &NameRun) -> Result<Interval, AllocError>
+    ensures between { IfOk result (λ v. (n : List Tuple × ℕ) → IsIn n (names_of run.now) → IsBetween v n.0) }
+{
+    let (low, high) = run.ends()?;
+    rely!(let _low = low.last());
+    Ok(Interval { low, high })
+}
+
+// An interval that has what another one has, too, if that is known. If there is nothing before, it is the same.
+fn joined(
+    own: Interval,
+    first: bool,
+    before: &Option<Box<Interval>>,
+) -> Result<Option<Interval>, AllocError>
+    ensures own { IfOk result (λ o. IfSome o (λ v. (x : List Tuple) → IsBetween own x → IsBetween v x)) }
+    ensures before { IfOk result (λ o. IfSome o (λ v. first ≡ false → (x : List Tuple) → LiesIn before.now x → IsBetween v x)) }
+{
+    if first {
+        return Ok(Some(own));
+    }
+    let Some(before) = before else {
+        return Ok(None);
+    };
+    let low = lower(own.low, &before.low)?;
+    let high = higher(own.high, &before.high)?;
+    Ok(Some(Interval { low, high }))
+}
+
+// The lower one of two identifiers.
+fn lower(own: Ident, other: &Ident) -> Result<Ident, AllocError>
+    ensures own { IfOk result (λ y. ident_lt own y ≡ false) }
+    ensures other { IfOk result (λ y. ident_lt other.now y ≡ false) }
+{
+    if other.compare(&own).is_lt() {
+        let copy = other.copy()?;
+        return Ok(copy);
+    }
+    Ok(own)
+}
+
+// The higher one of two identifiers.
+fn higher(own: Ident, other: &Ident) -> Result<Ident, AllocError>
+    ensures own { IfOk result (λ y. ident_lt y own ≡ false) }
+    ensures other { IfOk result (λ y. ident_lt y other.now ≡ false) }
+{
+    if own.compare(other).is_lt() {
+        let copy = other.copy()?;
+        return Ok(copy);
+    }
+    Ok(own)
+}
+
+/// Notes an interval for the run after the first ones, so many. After an error those of these are there.
+pub(crate) fn push_interval(
+    intervals: &mut Intervals,
+    runs: usize,
+    interval: Option<Box<Interval>>,
+) -> Result<(), AllocError>
+    ensures kept { (rs : List Stretch) → length rs ≡ runs → AreNoted rs intervals.old.items → AreNoted rs intervals.new.items }
+    ensures put { OnOk result ((rs : List Stretch) (r : Stretch) (low high : ℕ) → length rs ≡ runs → AreNoted rs intervals.old.items → HasBetween r low high → AreBetween rs runs low high interval → AreNoted (rs ++ r ∷ []) intervals.new.items) }
+{
+    intervals.truncate(runs);
+    intervals.push(interval)?;
+    Ok(())
+}
