@@ -47,7 +47,7 @@ use Rattle.rls_steps.specs.Forgetting.{forgotten, without_first}
 use Rattle.rls_steps.specs.Sweeping.{swept, kept_in}
 use Rattle.rls_steps.specs.Grounds.{over, within, Held, labelled_on, labels_on, marks_on, put_on, ready_on, cut_on, piece_on, ranges_on, gone_on, place_on, Left, cuts_on, taken_on, Stand, steps_on, names_on, held_on, settled_on, added_on, Turned, back_on, exchanged}
 use Rattle.rls_steps.specs.GroundLaws.{IsSpelled, AreSpelled, IsWhole, AreAlike, TextsSpelled, TurnedAlike, RecordedAlike, KeptAlike}
-use Rattle.rls_steps.proofs.Recording.{insert_epochs, delete_epochs}
+use Rattle.rls_steps.proofs.Unchanged.{insert_epochs, delete_epochs}
 
 -- the same labels at a history
 abbrev pub to : Held Seen → State → Held State

@@ -1,5 +1,5 @@
 -- An error that is handed on.
-use Rattle.std.proofs.Common.{◌≡◌, ap, ◌∙◌, Result, Err}
+use Rattle.std.proofs.Common.{◌≡◌, ap, Result, Err}
 use Rattle.std.specs.Prelude.{IsErrOf, ◌↔◌}
 use Rattle.rls_ident.specs.declared.epoch_name.EpochName.{EpochName}
 use Rattle.rls_replica.specs.declared.translating.PastError.{PastError}
@@ -10,13 +10,18 @@ use Rattle.rls_steps.specs.declared.steps.StepError.TheVariants as steps
 pub err_as : {T U E : Type 0} (x y : E) → IsErrOf {T = T} {E = E} (Err x) y → IsErrOf {T = U} {E = E} (Err x) y
 err_as x y h = let e : x ≡ y = cc in ap (λ z. Err z) e
 
-pub dropped_as : (p : PastError) (d e : EpochName) (P : Type 0) → p ≡ past.Dropped d → (IsErrOf {T = Unit {0}} {E = PastError} (Err p) (past.Dropped e) ↔ P) →
-    IsErrOf {T = Unit {0}} {E = StepError} (Err (steps.Dropped d)) (steps.Dropped e) ↔ P
-dropped_as p d e P q h = (
-  λ x. let k : d ≡ e = cc in h.0 (ap (λ z. Err z) (q ∙ ap (λ z. past.Dropped z) k)),
-  λ x. let y : IsErrOf {T = Unit {0}} {E = PastError} (Err p) (past.Dropped e) = h.1 x in
-      let k : d ≡ e = cc in
-      ap (λ z. Err (steps.Dropped z)) k,
+-- a call returns the error of another call as one of its own
+pub dropped_from : {T : Type 0} (p : PastError) (x : StepError) (e : EpochName) (P : Type 0) → ((x ≡ steps.Dropped e) ↔ (p ≡ past.Dropped e)) → (IsErrOf {T = T} {E = PastError} (Err p) (past.Dropped e) → P) →
+    IsErrOf {T = T} {E = StepError} (Err x) (steps.Dropped e) → P
+dropped_from p x e P d k h = let i : x ≡ steps.Dropped e = cc in k (ap (λ z. Err z) (d.0 i))
+
+pub dropped_as : (p : PastError) (x : StepError) (e : EpochName) (P : Type 0) → ((x ≡ steps.Dropped e) ↔ (p ≡ past.Dropped e)) → (IsErrOf {T = Unit {0}} {E = PastError} (Err p) (past.Dropped e) ↔ P) →
+    IsErrOf {T = Unit {0}} {E = StepError} (Err x) (steps.Dropped e) ↔ P
+dropped_as p x e P d h = (
+  dropped_from p x e P d h.0,
+  λ y. let k : IsErrOf {T = Unit {0}} {E = PastError} (Err p) (past.Dropped e) = h.1 y in
+      let i : p ≡ past.Dropped e = cc in
+      ap (λ z. Err z) (d.1 i),
 )
 
 -- the exit of a `?` returns the error that the call returned

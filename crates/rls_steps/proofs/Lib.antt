@@ -35,13 +35,13 @@ pub mod StepChanged
 pub mod PartSteps
 pub mod Unchanged
 pub mod Errors
-pub mod Inserted
 pub mod Returned
 pub mod Newest
 pub mod Swept
 pub mod SweptRuns
 pub mod Keeping
 pub mod Grounded
+pub mod Inserted
 pub mod EditsTold
 pub mod Agreeing
 pub mod Performing

@@ -5,10 +5,8 @@ use Rattle.rls_ident.specs.declared.epoch_name.EpochName.{EpochName}
 use Rattle.rls_ident.specs.EpochNames.{name_eq}
 use Rattle.rls_ident.proofs.Named.{name_eq_is, name_eq_refl}
 use Rattle.rls_rename.specs.Tree.{Epochs, greatest, is_kept}
-use Rattle.rls_seen.specs.Over.{placed_over, accepted}
-use Rattle.rls_seen.specs.Edits.{made_over, edited}
+use Rattle.rls_seen.specs.Over.{placed_over}
 use Rattle.rls_seen.specs.Seen.{Seen, greatest_over}
-use Rattle.rls_model.specs.declared.edit.Edit.TheVariants as edits
 use Rattle.rls_model.specs.declared.edit.EditError.{EditError}
 use Rattle.rls_replica.specs.Names.{KeepsNames}
 use Rattle.rls_steps.specs.declared.piece.Step.{Step}
@@ -28,14 +26,6 @@ same_greatest s n e = ap (λ (E : Epochs). greatest E.top E.nodes) e
 
 pub keeps_same : (s n : Seen) → n.epochs ≡ s.epochs → KeepsNames s n
 keeps_same s n e = λ f h. subst (λ (E : Epochs). IsTrue (is_kept E.top E.nodes f)) (sym e) h
-
-pub insert_epochs : (s : Seen) (at : ℕ) (cs : List ℕ) → (edited s (edits.Insert at cs)).epochs ≡ s.epochs
-unfolding accepted made_over
-insert_epochs s at cs = refl
-
-pub delete_epochs : (s : Seen) (at n : ℕ) → (edited s (edits.Delete at n)).epochs ≡ s.epochs
-unfolding accepted made_over
-delete_epochs s at n = refl
 
 there : Seen → EpochName → Names → Bool → Names
 there s e names b = if b then names else map (λ n. (placed_over s e n.0, n.1)) names

@@ -1,5 +1,5 @@
 -- What is recorded of a member's steps.
-use Rattle.std.specs.Prelude.{◌≡◌, ℕ, List, [], map, reverse, if◌then◌else◌}
+use Rattle.std.specs.Prelude.{◌≡◌, ℕ, List, [], map, length, reverse, if◌then◌else◌}
 use Rattle.rls_ident.specs.declared.epoch_name.EpochName.{EpochName}
 use Rattle.rls_ident.specs.declared.epoch_name.EpochName.TheVariants.{Origin}
 use Rattle.rls_ident.specs.EpochNames.{name_eq}
@@ -64,6 +64,13 @@ steps_over s r = record { held = held_by s r.next (names_over s r.epoch r.names)
 -- nothing is recorded
 abbrev pub unused : Recorded
 unused = record { epoch = Origin; next = 0; names = []; past = []; future = []; group = 0; after_sweep = 0 }
+
+-- the edit is an insertion of n characters
+abbrev pub IsInsertion : Edit → ℕ → Type 0
+IsInsertion (edits.Insert at cs) n = n ≡ length cs
+IsInsertion (edits.Delete at k) n = ⊥
+IsInsertion edits.Rename n = ⊥
+IsInsertion edits.Leave n = ⊥
 
 -- what an edit leaves: an insertion and a deletion are steps, and nothing else is
 abbrev pub IsRecorded : Edit → Seen → Recorded → Seen → Recorded → Type 0

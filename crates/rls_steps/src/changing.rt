@@ -1,12 +1,12 @@
 //! Edits that are steps.
 
-ghost use Rattle.std.specs.Prelude.{◌≡◌, ◌≤◌, ◌<◌, ◌^◌, ◌+◌, ◌++◌, ◌∷◌, [], ℕ, length, take, zip, reverse, Some, None, IfOk, IfErr, OnOk, OnErr};
+ghost use Rattle.std.specs.Prelude.{◌≡◌, ◌<◌, ◌^◌, ◌+◌, ◌++◌, ◌∷◌, [], ℕ, length, take, zip, reverse, Some, None, IfOk, IfErr, OnOk, OnErr};
 ghost use Rattle.rls_model.specs.declared.edit.Edit.TheVariants.{Insert, Delete};
 ghost use Rattle.rls_model.specs.WellFormed.{IsEdit};
 ghost use Rattle.rls_seen.specs.Edits.{edit_fault_over, edited, made_over, IsFault};
 ghost use Rattle.rls_seen.specs.Seen.{own_count};
 ghost use Rattle.rls_steps.specs.Marks.{Put, numbers_from};
-ghost use Rattle.rls_steps.specs.Labelled.{ready_over, cut_over, cut_piece, put_over, insert_over, inserted_by};
+ghost use Rattle.rls_steps.specs.Labelled.{ready_over, cut_over, cut_piece, put_over, inserted_by};
 ghost use Rattle.rls_steps.specs.Parts.{parts};
 ghost use Rattle.rls_steps.specs.Recorded.{held_by, steps_of};
 
@@ -65,20 +65,20 @@ pub(crate) fn cut(
     }
 }
 
-/// Cuts characters out, and puts the pieces that this leaves on a stack, each of which one insertion puts back. After an error all is
-/// as before.
+/// Performs a deletion, which makes this operation, and puts the pieces that it leaves on a stack, each of which one insertion puts back.
+/// After an error all is as before.
 pub(crate) fn delete(
     replica: &mut Replica,
     names: &mut Names,
     next: &mut u64,
     stack: &mut Vec<Step>,
     group: u64,
+    op: &Op,
     at: u64,
     count: u64,
-) -> Result<u32, EditError>
-    ensures fault { IfErr result (λ e. IsFault e (edit_fault_over replica.old (Delete at count))) }
-    ensures fits { OnOk result (edit_fault_over replica.old (Delete at count) ≡ None) }
-    ensures whole { IsEdit (Delete at count) }
+) -> Result<u32, AllocError>
+    requires fits { edit_fault_over replica.old (Delete at count) ≡ None }
+    requires op { op.now ≡ made_over replica.old (Delete at count) }
     ensures seq { IfOk result (λ n. n ≡ own_count replica.old + 1) }
     ensures after { OnOk result (replica.new ≡ edited replica.old (Delete at count)) }
     ensures held { OnOk result (held_by replica.new next.new names.new ≡ cut_over (ready_over (held_by replica.old next.old names.old) at count) at count) }
@@ -89,54 +89,47 @@ pub(crate) fn delete(
     ensures stays { OnErr result (stack.new.items ≡ stack.old.items) }
     ensures epochs { replica.new.epochs ≡ replica.old.epochs }
 {
-    let edit = Edit::Delete { at, count };
-    rely!(edit.fits());
-    let op = replica.made(&edit)?;
     let before = names.len();
     let steps = stack.len();
     let first = *next;
-    match prepared(replica, names, next, stack, group, at, count) {
-        Err(_) => {
+    match perform_deletion(replica, names, next, stack, group, op, at, count) {
+        Ok(seq) => Ok(seq),
+        Err(error) => {
             names.truncate(before);
             stack.truncate(steps);
             *next = first;
-            Err(EditError::OutOfMemory)
+            Err(error)
         }
-        Ok(()) => match replica.accept_own(&edit, &op) {
-            Ok(seq) => Ok(seq),
-            Err(_) => {
-                names.truncate(before);
-                stack.truncate(steps);
-                *next = first;
-                Err(EditError::OutOfMemory)
-            }
-        },
     }
 }
 
-// Labels for a range and its neighbours, and the pieces that its deletion leaves.
-fn prepared(
-    replica: &Replica,
+// Performs a deletion, which makes this operation, with labels for its characters and its neighbours and its steps on the stack. After an
+// error names and steps may have been added, and the replica is as before.
+fn perform_deletion(
+    replica: &mut Replica,
     names: &mut Names,
     next: &mut u64,
     stack: &mut Vec<Step>,
     group: u64,
+    op: &Op,
     at: u64,
     count: u64,
-) -> Result<(), AllocError>
-    requires places { at + count ≤ length replica.now.text }
-    ensures held { OnOk result (held_by replica.now next.new names.new ≡ ready_over (held_by replica.now next.old names.old) at count) }
-    ensures stack { OnOk result (stack.new.items ≡ stack.old.items ++ steps_of group (parts (cut_piece (held_by replica.now next.new names.new) at count))) }
+) -> Result<u32, AllocError>
+    requires fits { edit_fault_over replica.old (Delete at count) ≡ None }
+    requires op { op.now ≡ made_over replica.old (Delete at count) }
+    ensures seq { IfOk result (λ n. n ≡ own_count replica.old + 1) }
+    ensures after { OnOk result (replica.new ≡ edited replica.old (Delete at count)) }
+    ensures held { OnOk result (held_by replica.new next.new names.new ≡ cut_over (ready_over (held_by replica.old next.old names.old) at count) at count) }
+    ensures stack { OnOk result (stack.new.items ≡ stack.old.items ++ steps_of group (parts (cut_piece (ready_over (held_by replica.old next.old names.old) at count) at count))) }
+    ensures err { OnErr result (replica.new ≡ replica.old) }
     ensures names { take (length names.old) names.new ≡ names.old }
     ensures steps { take (length stack.old.items) stack.new.items ≡ stack.old.items }
 {
-    match ready(replica, names, next, at, count) {
-        Err(_) => Err(AllocError),
-        Ok(piece) => match push_parts(stack, group, piece) {
-            Err(_) => Err(AllocError),
-            Ok(()) => Ok(()),
-        },
-    }
+    let edit = Edit::Delete { at, count };
+    let piece = ready(replica, names, next, at, count)?;
+    push_parts(stack, group, piece)?;
+    let seq = replica.accept_own(&edit, op)?;
+    Ok(seq)
 }
 
 /// Inserts characters with these labels, and puts their piece on a stack. After an error all is as before.
@@ -163,9 +156,51 @@ pub(crate) fn put(
 {
     let edit = Edit::Insert { at, text };
     rely!(edit.fits());
+    let op = replica.made(&edit)?;
     let before = names.len();
-    match put_named(replica, names, stack, group, &edit, labels) {
+    match perform_insertion(replica, names, stack, group, &edit, &op, labels) {
         Ok(seq) => Ok(seq),
+        Err(_) => {
+            names.truncate(before);
+            Err(EditError::OutOfMemory)
+        }
+    }
+}
+
+/// Performs an insertion of so many characters, which makes this operation: they get the next labels. After an error all is as before.
+pub(crate) fn insert(
+    replica: &mut Replica,
+    names: &mut Names,
+    next: &mut u64,
+    stack: &mut Vec<Step>,
+    group: u64,
+    edit: &Edit,
+    op: &Op,
+    count: usize,
+) -> Result<u32, AllocError>
+    requires fits { edit_fault_over replica.old edit.now ≡ None }
+    requires op { op.now ≡ made_over replica.old edit.now }
+    ensures seq { IfOk result (λ n. n ≡ own_count replica.old + 1) }
+    ensures after { OnOk result (replica.new ≡ edited replica.old edit.now) }
+    ensures named { OnOk result (reverse names.new ≡ zip (inserted_by (made_over replica.old edit.now).body) (numbers_from next.old count) ++ reverse names.old) }
+    ensures given { OnOk result (next.new ≡ next.old + count) }
+    ensures stack { OnOk result (stack.new.items ≡ stack.old.items ++ record { group = group; piece = Put (numbers_from next.old count) } ∷ []) }
+    ensures err { OnErr result (replica.new ≡ replica.old) }
+    ensures names { OnErr result (names.new ≡ names.old) }
+    ensures next { OnErr result (next.new ≡ next.old) }
+    ensures stays { OnErr result (stack.new.items ≡ stack.old.items) }
+{
+    let first = *next;
+    let Some(more) = first.checked_add(count as u64) else {
+        return Err(AllocError);
+    };
+    let labels = Labels::from_vec(numbers(names.alloc(), first, count)?);
+    let before = names.len();
+    match perform_insertion(replica, names, stack, group, edit, op, labels) {
+        Ok(seq) => {
+            *next = more;
+            Ok(seq)
+        }
         Err(error) => {
             names.truncate(before);
             Err(error)
@@ -173,17 +208,19 @@ pub(crate) fn put(
     }
 }
 
-// Performs an insertion whose characters get these labels. After an error names may have been added.
-fn put_named(
+// Performs an insertion, which makes this operation, with these labels for its characters and its step on the stack. After an error names
+// may have been added, and the rest is as before.
+fn perform_insertion(
     replica: &mut Replica,
     names: &mut Names,
     stack: &mut Vec<Step>,
     group: u64,
     edit: &Edit,
+    op: &Op,
     labels: Labels,
-) -> Result<u32, EditError>
-    ensures fault { IfErr result (λ e. IsFault e (edit_fault_over replica.old edit.now)) }
-    ensures fits { OnOk result (edit_fault_over replica.old edit.now ≡ None) }
+) -> Result<u32, AllocError>
+    requires fits { edit_fault_over replica.old edit.now ≡ None }
+    requires op { op.now ≡ made_over replica.old edit.now }
     ensures seq { IfOk result (λ n. n ≡ own_count replica.old + 1) }
     ensures after { OnOk result (replica.new ≡ edited replica.old edit.now) }
     ensures named { OnOk result (reverse names.new ≡ zip (inserted_by (made_over replica.old edit.now).body) labels ++ reverse names.old) }
@@ -192,62 +229,10 @@ fn put_named(
     ensures front { take (length names.old) names.new ≡ names.old }
     ensures stays { OnErr result (stack.new.items ≡ stack.old.items) }
 {
-    let op = replica.made(edit)?;
-    if name_inserted(names, &op, labels.as_slice()).is_err() {
-        return Err(EditError::OutOfMemory);
-    }
+    name_inserted(names, op, labels.as_slice())?;
     let piece = Piece::Put { labels };
-    match perform(replica, edit, &op, stack, Step { group, piece }) {
-        Ok(seq) => Ok(seq),
-        Err(_) => Err(EditError::OutOfMemory),
-    }
-}
-
-/// Inserts characters, which get the next labels. After an error all is as before.
-pub(crate) fn insert(
-    replica: &mut Replica,
-    names: &mut Names,
-    next: &mut u64,
-    stack: &mut Vec<Step>,
-    group: u64,
-    at: u64,
-    text: Text,
-) -> Result<u32, EditError>
-    ensures fault { IfErr result (λ e. IsFault e (edit_fault_over replica.old (Insert at text))) }
-    ensures fits { OnOk result (edit_fault_over replica.old (Insert at text) ≡ None) }
-    ensures seq { IfOk result (λ n. n ≡ own_count replica.old + 1) }
-    ensures after { OnOk result (replica.new ≡ edited replica.old (Insert at text)) }
-    ensures held { OnOk result (held_by replica.new next.new names.new ≡ insert_over (held_by replica.old next.old names.old) at text) }
-    ensures stack { OnOk result (stack.new.items ≡ stack.old.items ++ record { group = group; piece = Put (numbers_from next.old (length text)) } ∷ []) }
-    ensures err { OnErr result (replica.new ≡ replica.old) }
-    ensures names { OnErr result (names.new ≡ names.old) }
-    ensures next { OnErr result (next.new ≡ next.old) }
-    ensures stays { OnErr result (stack.new.items ≡ stack.old.items) }
-    ensures epochs { replica.new.epochs ≡ replica.old.epochs }
-{
-    let count = text.len();
-    let first = *next;
-    let Some(more) = first.checked_add(count as u64) else {
-        return Err(EditError::OutOfMemory);
-    };
-    let Ok(numbers) = numbers(names.alloc(), first, count) else {
-        return Err(EditError::OutOfMemory);
-    };
-    match put(
-        replica,
-        names,
-        stack,
-        group,
-        at,
-        text,
-        Labels::from_vec(numbers),
-    ) {
-        Err(error) => Err(error),
-        Ok(seq) => {
-            *next = more;
-            Ok(seq)
-        }
-    }
+    let seq = perform(replica, edit, op, stack, Step { group, piece })?;
+    Ok(seq)
 }
 
 // So many numbers, from one on.

@@ -3,8 +3,7 @@
 ghost use Rattle.std.specs.Prelude.{◌≡◌, ◌+◌, ◌++◌, ◌∷◌, [], ℕ, List, length, take, reverse, ◌-◌, map, replicate, Some, None, IfOk, IfErr, OnOk, OnErr, IsErrOf, ◌↔◌, IsFalse, ◌≤◌, ◌⊎◌};
 ghost use Rattle.rls_ident.specs.declared.epoch_name.EpochName.{EpochName};
 ghost use Rattle.rls_model.specs.declared.edit.EditError.{EditError};
-ghost use Rattle.rls_model.specs.declared.edit.Edit.TheVariants.{Insert, Delete};
-ghost use Rattle.rls_seen.specs.Edits.{edit_fault_over, edited};
+ghost use Rattle.rls_seen.specs.Edits.{edit_fault_over, edited, made_over};
 ghost use Rattle.rls_seen.specs.Seen.{own_count, idents_over, greatest_over, text_over};
 ghost use Rattle.rls_replica.specs.Names.{keeps, KeepsNames};
 ghost use Rattle.rls_steps.specs.Courses.{Back, Again, course, MayRun, Copies, Shows, copies};
@@ -14,10 +13,11 @@ ghost use Rattle.rls_steps.specs.Groups.{group_size, group_count, next_group, tu
 ghost use Rattle.rls_changes.specs.Edits.{edit_changes};
 ghost use Rattle.rls_steps.specs.Grounds.{over, begun_on, recorded_on, back_edits, again_edits, back_on, again_on, closed};
 ghost use Rattle.rls_steps.specs.StepChanges.{back_changes, AreTold};
-ghost use Rattle.rls_steps.specs.Recorded.{unused, settled, steps_over, names_over, IsRecorded};
+ghost use Rattle.rls_steps.specs.Recorded.{unused, settled, steps_over, IsRecorded};
 ghost use Rattle.rls_steps.specs.Sweeping.{swept, kept_within, with_newest};
 
-use crate::changing::{delete, insert};
+mod recording;
+
 use crate::dropping::{drop_first, forgotten};
 use crate::labelling::translated;
 use crate::names::Names;
@@ -26,8 +26,8 @@ use crate::sweeping::kept_names;
 use crate::undoing::{back, count};
 use rls_changes::Change;
 use rls_ident::EpochName;
+use rls_ops::Op;
 use rls_replica::{Edit, EditError, PastError, Replica};
-use rls_runs::Text;
 use std::alloc::Global;
 use std::marker::Model;
 
@@ -244,19 +244,52 @@ impl Steps {
         ensures stays { OnErr result (settled replica.old self.new ≡ settled replica.old self.old) }
         ensures names { KeepsNames replica.old replica.new }
     {
+        match replica.made(edit) {
+            Err(error) => Err(step_error(error)),
+            Ok(op) => match self.accept_own(replica, edit, &op) {
+                Ok(seq) => Ok(seq),
+                Err(error) => Err(past_error(error)),
+            },
+        }
+    }
+
+    /// Accepts the operation that `Replica::made` has given for an edit here, and records it as `edit` does: `edit` is `made` and then this.
+    /// So whoever looks at the operation of an edit before doesn't make it twice. After an error all is as before, but that everything may
+    /// be in the greatest epoch. It costs what `edit` does without making the operation.
+    ///
+    /// # Errors
+    ///
+    /// `Dropped` only where the replica doesn't keep the epoch of what is recorded; or `OutOfMemory`.
+    pub fn accept_own(
+        &mut self,
+        replica: &mut Replica,
+        edit: &Edit,
+        op: &Op,
+    ) -> Result<u32, PastError>
+        requires fits { edit_fault_over replica.old edit.now ≡ None }
+        requires op { op.now ≡ made_over replica.old edit.now }
+        ensures dropped { (e : EpochName) → IsErrOf result (PastError.Dropped e) → (self.old.epoch ≡ e) × IsFalse (keeps replica.old e) }
+        ensures seq { IfOk result (λ n. n ≡ own_count replica.old + 1) }
+        ensures after { OnOk result (replica.new ≡ edited replica.old edit.now) }
+        ensures recorded { OnOk result (IsRecorded edit.now replica.old self.old replica.new self.new) }
+        ensures exact { OnOk result (self.new ≡ recorded_on over replica.old edit.now self.old) }
+        ensures err { OnErr result (replica.new ≡ replica.old) }
+        ensures stays { OnErr result (settled replica.old self.new ≡ settled replica.old self.old) }
+        ensures names { KeepsNames replica.old replica.new }
+    {
         match edit {
-            Edit::Insert { at, text } => {
-                self.settle_for(replica)?;
-                self.insert(replica, *at, text)
+            Edit::Insert { text, .. } => {
+                self.settle(replica)?;
+                self.insert(replica, edit, op, text.len())
             }
             Edit::Delete { at, count } => {
-                self.settle_for(replica)?;
-                self.delete(replica, *at, *count)
+                self.settle(replica)?;
+                self.delete(replica, op, *at, *count)
             }
-            Edit::Rename | Edit::Leave => match replica.edit(edit) {
-                Ok(seq) => Ok(seq),
-                Err(error) => Err(step_error(error)),
-            },
+            Edit::Rename | Edit::Leave => {
+                let seq = replica.accept_own(edit, op)?;
+                Ok(seq)
+            }
         }
     }
 
@@ -269,77 +302,7 @@ impl Steps {
     {
         match self.settle(replica) {
             Ok(()) => Ok(()),
-            Err(PastError::Dropped { epoch }) => Err(StepError::Dropped { epoch }),
-            Err(PastError::OutOfMemory) => Err(StepError::OutOfMemory),
-        }
-    }
-
-    // Everything is in the greatest epoch.
-    fn insert(&mut self, replica: &mut Replica, at: u64, text: &Text) -> Result<u32, StepError>
-        requires greatest { self.old.epoch ≡ greatest_over replica.old }
-        ensures nothing { IsErrOf result StepError.Nothing → ⊥ }
-        ensures memory { IsErrOf result (StepError.Edit EditError.OutOfMemory) → ⊥ }
-        ensures refused { (f : EditError) → IsErrOf result (StepError.Edit f) → edit_fault_over replica.old (Insert at text.now) ≡ Some f }
-        ensures kept { (e : EpochName) → IsErrOf result (StepError.Dropped e) → ⊥ }
-        ensures fits { OnOk result (edit_fault_over replica.old (Insert at text.now) ≡ None) }
-        ensures seq { IfOk result (λ n. n ≡ own_count replica.old + 1) }
-        ensures after { OnOk result (replica.new ≡ edited replica.old (Insert at text.now)) }
-        ensures recorded { OnOk result (IsRecorded (Insert at text.now) replica.old self.old replica.new self.new) }
-        ensures exact { OnOk result (self.new ≡ recorded_on over replica.old (Insert at text.now) self.old) }
-        ensures err { OnErr result (replica.new ≡ replica.old) }
-        ensures stays { OnErr result (self.new ≡ self.old) }
-        ensures epochs { replica.new.epochs ≡ replica.old.epochs }
-    {
-        let Ok(text) = text.copy() else {
-            return Err(StepError::OutOfMemory);
-        };
-        match insert(
-            replica,
-            &mut self.names,
-            &mut self.next,
-            &mut self.past,
-            self.group,
-            at,
-            text,
-        ) {
-            Err(error) => Err(step_error(error)),
-            Ok(seq) => {
-                self.future.clear();
-                Ok(seq)
-            }
-        }
-    }
-
-    // Everything is in the greatest epoch.
-    fn delete(&mut self, replica: &mut Replica, at: u64, count: u64) -> Result<u32, StepError>
-        requires greatest { self.old.epoch ≡ greatest_over replica.old }
-        ensures nothing { IsErrOf result StepError.Nothing → ⊥ }
-        ensures memory { IsErrOf result (StepError.Edit EditError.OutOfMemory) → ⊥ }
-        ensures refused { (f : EditError) → IsErrOf result (StepError.Edit f) → edit_fault_over replica.old (Delete at count) ≡ Some f }
-        ensures kept { (e : EpochName) → IsErrOf result (StepError.Dropped e) → ⊥ }
-        ensures fits { OnOk result (edit_fault_over replica.old (Delete at count) ≡ None) }
-        ensures seq { IfOk result (λ n. n ≡ own_count replica.old + 1) }
-        ensures after { OnOk result (replica.new ≡ edited replica.old (Delete at count)) }
-        ensures recorded { OnOk result (IsRecorded (Delete at count) replica.old self.old replica.new self.new) }
-        ensures exact { OnOk result (self.new ≡ recorded_on over replica.old (Delete at count) self.old) }
-        ensures err { OnErr result (replica.new ≡ replica.old) }
-        ensures stays { OnErr result (self.new ≡ self.old) }
-        ensures epochs { replica.new.epochs ≡ replica.old.epochs }
-    {
-        match delete(
-            replica,
-            &mut self.names,
-            &mut self.next,
-            &mut self.past,
-            self.group,
-            at,
-            count,
-        ) {
-            Err(error) => Err(step_error(error)),
-            Ok(seq) => {
-                self.future.clear();
-                Ok(seq)
-            }
+            Err(error) => Err(past_error(error)),
         }
     }
 
@@ -463,5 +426,17 @@ fn step_error(error: EditError) -> StepError
     match error {
         EditError::OutOfMemory => StepError::OutOfMemory,
         error => StepError::Edit(error),
+    }
+}
+
+// The same error, as an edit, an undo and a redo answer it.
+fn past_error(error: PastError) -> StepError
+    ensures nothing { result ≡ StepError.Nothing → ⊥ }
+    ensures edit { (f : EditError) → result ≡ StepError.Edit f → ⊥ }
+    ensures dropped { (e : EpochName) → ((result ≡ StepError.Dropped e) ↔ (error ≡ PastError.Dropped e)) }
+{
+    match error {
+        PastError::Dropped { epoch } => StepError::Dropped { epoch },
+        PastError::OutOfMemory => StepError::OutOfMemory,
     }
 }

@@ -1,9 +1,12 @@
-use Rattle.std.proofs.Common.{◌≡◌, ◌+◌, ◌∙◌, arith}
-use Rattle.rls_steps.proofs.Inserted.{insert_held}
+use Rattle.std.proofs.Common.{List, ℕ, ◌++◌, ap, ◌∙◌, arith}
+use Rattle.std.specs.Prelude.{reverse, zip}
+use Rattle.rls_seen.specs.Edits.{made_over}
+use Rattle.rls_steps.specs.Labelled.{inserted_by}
 use Rattle.rls_steps.proofs.changing.insert.Goals as goal
 
-pub returns-in-Ok-put-clause-held : goal.returns-in-Ok-put-clause-held
-returns-in-Ok-put-clause-held c =
-    let m : c.in-Some.more ≡ c.args.next.now + c.len-count.result = omega (arith, c.in-Some.ensures) in
-    insert_held c.args.replica.now c.put.new.replica c.args.next.now c.in-Some.more c.len-count.result c.args.names.now c.put.new.names c.args.at c.args.text c.from_vec.result
-    m c.len-count.ensures.len (c.from_vec.ensures.labels ∙ c.in-Ok.ensures.numbers) (c.in-Ok-put.ensures.held c.in-Some.more)
+pub returns-in-Ok-clause-named : goal.returns-in-Ok-clause-named
+returns-in-Ok-clause-named c =
+    c.in-Ok.ensures.named ∙ ap (λ (ls : List ℕ). zip (inserted_by (made_over c.args.replica.now c.args.edit.now).body) ls ++ reverse c.args.names.now) (c.from_vec-labels.ensures.labels ∙ c.in_ok-numbers.ensures.numbers)
+
+pub returns-in-Ok-clause-given : goal.returns-in-Ok-clause-given
+returns-in-Ok-clause-given c = omega (arith, c.in-Some.ensures)

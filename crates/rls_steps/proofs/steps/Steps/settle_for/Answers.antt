@@ -1,5 +1,5 @@
 use Rattle.rls_steps.proofs.Errors.{dropped_as}
 use Rattle.rls_steps.proofs.steps.Steps.settle_for.Goals as goal
 
-pub returns-in-Err-Dropped-clause-dropped : goal.returns-in-Err-Dropped-clause-dropped
-returns-in-Err-Dropped-clause-dropped c = λ e. dropped_as c.in-Err-Dropped.field-0 c.in-Err-Dropped.epoch e _ c.in-Err-Dropped.field-0-is (c.in-Err-Dropped.ensures.dropped e)
+pub returns-in-Err-clause-dropped : goal.returns-in-Err-clause-dropped
+returns-in-Err-clause-dropped c = λ e. dropped_as c.in-Err.error c.past_error.result e _ (c.past_error.ensures.dropped e) (c.in-Err.ensures.dropped e)
