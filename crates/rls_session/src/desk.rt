@@ -207,8 +207,8 @@ impl Desk {
             return Err(AllocError);
         };
         self.begin();
-        // It has no fault, and a session drops nothing that it goes back to.
-        let Ok(seq) = self.steps.edit(&mut self.replica, edit) else {
+        // A session drops nothing that it goes back to.
+        let Ok(seq) = self.steps.accept_own(&mut self.replica, edit, op) else {
             return Err(AllocError);
         };
         self.keep_within()?;
