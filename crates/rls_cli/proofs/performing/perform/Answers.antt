@@ -1,5 +1,4 @@
-use Rattle.std.proofs.Common.{◌≡◌, ◌∙◌, true, false, map, string_bytes, sym}
-use Rattle.rls_session.specs.Words.{begins_session}
+use Rattle.std.proofs.Common.{◌∙◌, sym}
 use Rattle.rls_cli.proofs.Ending.{command_ending, session_ending}
 use Rattle.rls_cli.proofs.performing.perform.Goals as goal
 
