@@ -9,6 +9,7 @@ ghost use Rattle.rls_script.specs.Scripts.{is_line_feed};
 ghost use Rattle.rls_session.specs.Intake.{taken, to_come, TellsEnd, KeepsEnd, Grows};
 
 use rls_ident::limits::INPUT_BYTES;
+use rls_ident::rely;
 use rls_io::{ReadError, Source};
 use rls_script::line_end;
 use std::alloc::Global;
@@ -146,7 +147,7 @@ impl Intake {
         ensures fault { result ≡ Err read.Fault → Rose (S.faults source.old) (S.faults source.new) }
         ensures never_falls { S.faults source.old ≤ S.faults source.new }
     {
-        let _ = &self.bytes;
+        rely!(let _ = &self.bytes);
         let mut clear = 0;
         loop {
             let (_, fresh) = self.waiting().split_at(clear);
@@ -185,7 +186,7 @@ impl Intake {
         ensures fault { result ≡ Err read.Fault → Rose (S.faults source.old) (S.faults source.new) }
         ensures never_falls { S.faults source.old ≤ S.faults source.new }
     {
-        let _ = &self.bytes;
+        rely!(let _ = &self.bytes);
         while (self.waiting().len() as u64) < n {
             match self.take_more(source) {
                 Err(error) => return Err(error),

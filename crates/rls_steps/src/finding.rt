@@ -41,7 +41,7 @@ fn places(replica: &Replica, names: &Names, labels: &[u64]) -> Result<Vec<u64>, 
     ensures places { IfOk result (λ ps. ps.items ≡ label_places 0 labels.now (marks (marked_by (reverse names.now) replica.now.text))) }
 {
     rely!(replica.sane());
-    names.apart();
+    rely!(names.apart());
     let mut places = all_places(replica, names, labels)?;
     places.sort_unstable();
     places.dedup();
@@ -69,7 +69,7 @@ fn push_places(
     ensures ok { OnOk result (places.new.items ≡ places.old.items ++ named_places (idents_over replica.now) label (reverse names.now)) }
 {
     rely!(replica.sane());
-    names.apart();
+    rely!(names.apart());
     let mut cursor = names.newest(label);
     let mut found = None;
     'names: while let Some(at) = cursor {

@@ -25,7 +25,7 @@ use crate::piece::Step;
 use crate::sweeping::kept_names;
 use crate::undoing::{back, count};
 use rls_changes::Change;
-use rls_ident::EpochName;
+use rls_ident::{EpochName, rely};
 use rls_ops::Op;
 use rls_replica::{Edit, EditError, PastError, Replica};
 use std::alloc::Global;
@@ -178,7 +178,7 @@ impl Steps {
         ensures apart { AreApart (reverse self.old.names) }
         ensures within { forgotten steps chars self.old.past ≤ length self.old.past }
     {
-        self.names.apart();
+        rely!(self.names.apart());
         let count = forgotten(&self.past, steps, chars);
         let (_, past) = self.past.split_at(count);
         let Ok(names) = kept_names(replica, &self.names, past, &self.future) else {

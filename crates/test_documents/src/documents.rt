@@ -7,7 +7,7 @@ ghost use Rattle.rls_runs.specs.Runs.{idents_of};
 
 use crate::spelling::{MIDDLE, own};
 use rls_doc::{Document, RunMap, VecDocument};
-use rls_ident::{Ident, Tuple};
+use rls_ident::{Ident, Tuple, rely};
 use rls_ops::Text;
 use rls_rename::Renaming;
 use rls_replica::{Edit, Replica};
@@ -149,7 +149,7 @@ fn replace<D: Document>(
 {
     let removed = document.remove_all(idents)?;
     let runs = runs_in(alloc, idents)?;
-    let _total = idents.total();
+    rely!(let _total = idents.total());
     if document.total() > 1_000_000 {
         return Err(Fail::new("length"));
     }
@@ -186,7 +186,7 @@ struct RenamedBy<'a> {
 
 impl<'a> RenamedBy<'a> {
     fn new(renaming: &'a Renaming) -> RenamedBy<'a> {
-        let _total = renaming.total();
+        rely!(let _total = renaming.total());
         RenamedBy { renaming }
     }
 }
