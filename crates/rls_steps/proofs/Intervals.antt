@@ -4,6 +4,7 @@ use Rattle.std.specs.Prelude.{slice_get, nat_lt, pos, ◌^◌, Box, Option, Some
 use Rattle.std.specs.declared.alloc.Global.{Global}
 use Rattle.std.proofs.lemmas.Int.{ints}
 use Rattle.std.proofs.lemmas.List.{length-map, length-take}
+use Rattle.std.proofs.lemmas.Option.{slice_get_within}
 use Rattle.rls_ident.specs.declared.tuple.Tuple.{Tuple}
 use Rattle.rls_ident.specs.Identifiers.{IsIdent, ident_lt, shifted}
 use Rattle.rls_ident.specs.Lists.{IsIn}
@@ -19,7 +20,7 @@ use Rattle.rls_runs.proofs.Sorted.{Entry}
 use Rattle.rls_seen.specs.Sane.{IsSane}
 use Rattle.rls_seen.specs.Seen.{Seen, idents_over}
 use Rattle.rls_seen.proofs.Needed.{total_room}
-use Rattle.rls_undo.proofs.Finding.{found_at, found_within, missed_at}
+use Rattle.rls_undo.proofs.Finding.{found_at, missed_at}
 use Rattle.rls_steps.specs.declared.interval.Interval.{Interval}
 use Rattle.rls_steps.specs.NameRuns.{Stretch, label_by, name_at, names_of}
 use Rattle.rls_steps.specs.Bounds.{AreCounted, HasBetween, HasLabel, HaveNone, IsMore}
@@ -220,6 +221,6 @@ place_below xs high x at k r g f h =
 pub place_room : (s : Seen) (x : List Tuple) (k : ℕ) → IsSane s → place_of x (idents_over s) ≡ Ok k → k + 1 < 2 ^ 64
 place_room s x k sane h =
     let size = length-map s.text (λ (e : Entry). e.0) in
-    let short = found_within (idents_over s) x k sane.idents.1 h in
+    let short = slice_get_within (idents_over s) k x (place_is (idents_over s) x k (rising_of (idents_over s) sane.idents.1) h) in
     let room = total_room s sane in
     omega (arith, size, short, room)
