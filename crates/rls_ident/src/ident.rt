@@ -272,7 +272,7 @@ fn next_place(place: usize, len: usize) -> usize
 fn copied(tuples: &Vec<Tuple>) -> Result<Vec<Tuple>, AllocError>
     ensures items { IfOk result (λ copy. copy.items ≡ tuples.now.items) }
 {
-    tuples.clone()
+    Vec::from_slice(*tuples.allocator(), tuples)
 }
 
 // The place of the first tuple that may not stand where it stands.

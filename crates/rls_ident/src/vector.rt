@@ -61,7 +61,7 @@ impl Vector {
         ensures copy { IfOk result (λ v. v ≡ self.now) }
     {
         Ok(Vector {
-            counts: self.counts.clone()?,
+            counts: Vec::from_slice(*self.counts.allocator(), &self.counts)?,
         })
     }
 

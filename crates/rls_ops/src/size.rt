@@ -44,9 +44,9 @@ pub fn name_len(name: &EpochName) -> u64
 fn ident_len(ident: &Ident) -> u64
     ensures size { result ≡ min (ident_size ident.now) (2 ^ 64 - 1) }
 {
-    let mut total: u64 = 4;
-    for i in 0..ident.len() {
-        total = total.saturating_add(tuple_len(&ident.tuple(i)));
+    let mut total: u64 = 4 + tuple_len(&ident.last().as_tuple());
+    for tuple in ident.front() {
+        total = total.saturating_add(tuple_len(tuple));
     }
     total
 }

@@ -211,7 +211,7 @@ impl Runs {
     {
         Ok(Runs {
             runs: copy_runs(*self.runs.allocator(), &self.runs)?,
-            starts: self.starts.clone()?,
+            starts: Vec::from_slice(*self.starts.allocator(), &self.starts)?,
             total: self.total,
         })
     }

@@ -130,9 +130,11 @@ impl Text {
     pub fn copy(&self) -> Result<Text, AllocError>
         ensures copy { IfOk result (λ text. text ≡ self.now) }
     {
-        Ok(Text {
-            chars: self.chars.clone()?,
-        })
+        let (front, back) = self.chars.as_slices();
+        let mut chars = Vec::with_capacity(*self.chars.allocator(), self.chars.len())?;
+        chars.extend_from_slice(front)?;
+        chars.extend_from_slice(back)?;
+        Ok(Text::from_vec(chars))
     }
 
     /// The text in UTF-8.
