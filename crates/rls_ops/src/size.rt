@@ -41,14 +41,22 @@ pub fn name_len(name: &EpochName) -> u64
     }
 }
 
-fn ident_len(ident: &Ident) -> u64
-    ensures size { result ≡ min (ident_size ident.now) (2 ^ 64 - 1) }
+fn tuples_len(tuples: &[Tuple]) -> u64
+    ensures size { result ≡ min (sum_by tuple_size tuples.now) (2 ^ 64 - 1) }
 {
-    let mut total: u64 = 4 + tuple_len(&ident.last().as_tuple());
-    for tuple in ident.front() {
+    let mut total: u64 = 0;
+    for tuple in tuples {
         total = total.saturating_add(tuple_len(tuple));
     }
     total
+}
+
+fn ident_len(ident: &Ident) -> u64
+    ensures size { result ≡ min (ident_size ident.now) (2 ^ 64 - 1) }
+{
+    tuples_len(ident.front())
+        .saturating_add(tuple_len(&ident.last().as_tuple()))
+        .saturating_add(4)
 }
 
 /// The bytes of a run: its first identifier and its length. It goes over the tuples.
