@@ -76,7 +76,7 @@ entry_passes p f fs e c g =
     and_true (t1 && t2 && t3 && t4 && t5) t6
     (and_true (t1 && t2 && t3 && t4) t5 (and_true (t1 && t2 && t3) t4 (and_true (t1 && t2) t3 (and_true t1 t2 new opened) place) count) covered) g
 
-int_less : (x y : ℤ) → int_lt x y ≡ true → x <ℤ y
+pub int_less : (x y : ℤ) → int_lt x y ≡ true → x <ℤ y
 int_less x y h = omega (arith, ints)
 
 -- the first n offsets of a stem whose offset n - 1 was used

@@ -213,6 +213,9 @@ receipt_few n t a q Repeats h = let i = h.applied in let j = h.repeated in let k
 receipt_few n t a q Waits h = let i = h.applied in let j = h.repeated in let k = h.held in record { applied = omega arith; repeated = omega arith; held = omega arith }
 receipt_few n t a q (Refuses r) h = let i = h.applied in let j = h.repeated in let k = h.held in record { applied = omega arith; repeated = omega arith; held = omega arith }
 
+pub received_few : (n : ℕ) (t v : Taken) (o : Op) (x : Answer) → v ≡ with_receipt t o.author o.seq x → AreFew n t → AreFew (n + 1) v
+received_few n t v o x e h = subst (AreFew (n + 1)) (sym e) (receipt_few n t o.author o.seq x h)
+
 -- ---- all operations
 
 pub last_first : (xs ys : List Op) (o : Op) → xs ≡ ys ++ o ∷ [] → reverse xs ≡ o ∷ reverse ys

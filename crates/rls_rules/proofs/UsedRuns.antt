@@ -15,9 +15,7 @@ use Rattle.rls_model.specs.declared.parts.Stem.{Stem}
 use Rattle.rls_model.specs.Stems.{stem_of, has_used}
 use Rattle.rls_parts.specs.Rules.{is_used_tuple}
 use Rattle.rls_rules.specs.Used.{covers}
-
-int_less : (x y : ℤ) → int_lt x y ≡ true → x <ℤ y
-int_less x y h = omega (arith, ints)
+use Rattle.rls_parts.proofs.SaneEpochs.{int_less}
 
 one_covered : (o : Option Stem) (k : ℤ) → (has_used o k && true) ≡ covers o k 1
 one_covered None k = refl

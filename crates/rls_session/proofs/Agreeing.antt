@@ -6,12 +6,11 @@ use Rattle.std.proofs.lemmas.Bool.Decides.{nat_tests}
 use Rattle.rls_ident.proofs.Members.{and_right}
 use Rattle.rls_ops.specs.declared.message.Message.{Message}
 use Rattle.rls_ops.specs.Spelling.{message_bytes}
-use Rattle.rls_ops.specs.WellFormed.{AreOps, IsInRange, IsVector}
-use Rattle.rls_codec.specs.CodecLaws.{IsBytes, IsMessage}
+use Rattle.rls_ops.specs.WellFormed.{IsInRange}
+use Rattle.rls_codec.specs.CodecLaws.{IsBytes}
 use Rattle.rls_codec.specs.Reading.{message_of}
 use Rattle.rls_codec.specs.Spelled.{Chained, IsSpelled}
 use Rattle.rls_codec.proofs.MessageFormats.{message_takes}
-use Rattle.rls_codec.proofs.SpelledSound.{fits_vector, spelled_op}
 use Rattle.rls_ops.specs.declared.op.Op.{Op}
 use Rattle.rls_model.specs.declared.edit.Edit.{Edit}
 use Rattle.rls_model.specs.declared.edit.EditError.{EditError}
@@ -77,6 +76,7 @@ use Rattle.rls_session.proofs.Given.{IsGiven}
 use Rattle.rls_session.proofs.Whole.{last_undoable, whole_edited, whole_on, whole_undone}
 use Rattle.rls_session.proofs.AlikeSittings.{IsAlike, AreAlike, AreAlmost, almost, performed_storing, told_alike, told_rested_alike}
 use Rattle.rls_session.proofs.AlikeSteps.{backed_almost, redone_almost, turned_changes, begun_stays, ended_alike}
+use Rattle.rls_sync.proofs.Given.{message_given}
 
 -- ---- edits
 
@@ -261,17 +261,6 @@ where_alike d f n h = record {
     there (Some a) e = ap (λ p. Some p) (place_alike s t a h.stands (in_anchored s d.cursors n a e (h.whole).anchored))
 
 -- ---- messages
-
--- the operations of a message that has a spelling are well formed
-ops_given : (n : ℕ) (before : Option Op) (os : List Op) → Chained (λ b. IsSpelled n) before os → AreOps os
-ops_given n before [] c = tt
-ops_given n before (o ∷ os) c = (spelled_op n o c.0, ops_given n (Some o) os c.1)
-
-message_given : (bytes : List ℕ) (m : Message) (n : ℕ) → IsMessage bytes m → m.members ≡ n → seen.IsMessage n m
-message_given bytes m n is e =
-    let v = is.2 in
-    let from = v.from in
-    record { from = omega (arith, from, e); vector = subst (λ k. IsVector k m.vector) e (fits_vector m.members m.vector v.vector); ops = ops_given m.members None m.ops v.ops }
 
 taken_names : (s : Seen) (m : Message) → KeepsNames s (taken_over s m).state
 unfolding seen.taken_within

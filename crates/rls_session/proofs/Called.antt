@@ -12,7 +12,7 @@ use Rattle.rls_stages.specs.declared.errors.WorkError.TheVariants as work
 use Rattle.rls_stages.specs.Calls.{HasLoaded}
 use Rattle.rls_stages.specs.Errors.{of_open, of_work}
 use Rattle.rls_stages.specs.KeptFile.{IsReadBack, bytes_over}
-use Rattle.rls_stages.proofs.Statuses.{apart, failure_at_7, not_failure}
+use Rattle.rls_stages.proofs.Statuses.{apart, not_failure, not_keeper}
 use Rattle.rls_session.specs.declared.answering.AnswerError.{AnswerError}
 use Rattle.rls_session.specs.declared.answering.AnswerError.TheVariants.{SinkFault}
 use Rattle.rls_session.specs.Answering.{of_answer}
@@ -28,15 +28,11 @@ file_is r s bytes is same back = rw is (same, back)
 
 -- ---- a session
 
--- a failure isn't the keeper's
-not_keeper : (f : Failure) (n : ℕ) → IsStatusOf (Err f) n → f ≢ Fault Keeper → n ≢ 7
-not_keeper f n s other e = other (failure_at_7 f n s e)
-
 -- nor is it an end at which all is done
 not_done : {X : Type 0} (f : Failure) (n : ℕ) → IsStatusOf (Err f) n → n ≡ 0 → X
 not_done f n s e = not_failure f n 0 s e refl
 
-no_files : (ds : Option (List Due)) → AreDue ds []
+pub no_files : (ds : Option (List Due)) → AreDue ds []
 no_files None = tt
 no_files (Some ds) = tt
 

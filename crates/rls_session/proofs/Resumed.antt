@@ -2,7 +2,6 @@
 use Rattle.std.proofs.Common.{◌≡◌, List, [], ◌∷◌, map, Some, subst}
 use Rattle.std.specs.Prelude.{IsTrue}
 use Rattle.rls_ident.specs.declared.epoch_name.EpochName.{EpochName}
-use Rattle.rls_rename.proofs.Kept.{greatest_kept}
 use Rattle.rls_seen.specs.Kept.{dropped}
 use Rattle.rls_seen.specs.Sane.{IsSane}
 use Rattle.rls_seen.specs.Seen.{Seen}
@@ -20,16 +19,12 @@ use Rattle.rls_session.specs.declared.cursors.Cursor.{Cursor}
 use Rattle.rls_session.specs.Cursors.{AreAnchored, moved}
 use Rattle.rls_session.proofs.Numbered.{all_anchored}
 use Rattle.rls_session.specs.Desks.{AreUndoable, IsWhole}
+use Rattle.rls_session.proofs.Whole.{settled_entry_kept}
 
 -- entries of the greatest epoch are kept where that is
 settled_kept : (s n : Seen) (es : List Entry) → ((entry : Entry) → IsTrue (keeps n (epoch_in (settled_over s entry)))) → AreUndoable n (map (settled_over s) es)
 settled_kept s n [] f = tt
 settled_kept s n (e ∷ es) f = (f e, settled_kept s n es f)
-
--- in the replica itself
-settled_here : (s : Seen) (entry : Entry) → IsTrue (keeps s (epoch_in (settled_over s entry)))
-settled_here s (Inserted e ids) = greatest_kept s.epochs.top s.epochs.nodes
-settled_here s (Removed e first text) = greatest_kept s.epochs.top s.epochs.nodes
 
 -- and in what is left of it
 settled_left : (s : Seen) → IsSane s → (entry : Entry) → IsTrue (keeps (dropped s) (epoch_in (settled_over s entry)))
@@ -43,7 +38,7 @@ anchor_left s sane (Before e x) = greatest_stays s sane
 
 -- the entries alone, taken there
 pub whole_entries : (s : Seen) (es : List Entry) (a : List Cursor) → IsWhole s es a → IsWhole s (map (settled_over s) es) a
-whole_entries s es a h = record { undoable = settled_kept s s es (settled_here s); anchored = h.anchored }
+whole_entries s es a h = record { undoable = settled_kept s s es (settled_entry_kept s); anchored = h.anchored }
 
 -- both, in what is left
 pub whole_left : (s : Seen) (es : List Entry) (a : List Cursor) → IsSane s → IsWhole (dropped s) (map (settled_over s) es) (map (moved (anchors.settled_over s)) a)

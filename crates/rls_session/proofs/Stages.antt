@@ -28,6 +28,7 @@ use Rattle.rls_session.specs.Serving.{GoesOn, HasGoneOn, SaveEnds, StageEnds, fi
 use Rattle.rls_session.specs.Sessions.{by_parts}
 use Rattle.rls_session.proofs.Courses.{courses_begin, courses_on, later, later_is, later_none, replies_on_is, stretches_begin, used_first, used_on_is}
 use Rattle.rls_session.proofs.Served.{answer_failed, answer_leaves, answered_own, appends_more, ending_is, keeps_same, part_none, rose_later, save_leaves}
+use Rattle.rls_session.proofs.Called.{no_files}
 
 -- the course from a sitting over an input
 abbrev here : Sitting Seen → List ℕ → Course (Sitting Seen)
@@ -87,10 +88,6 @@ record HasLeft {K : Type 0} (store : K → List ℕ → Bool → K → Type 0) (
   pub calls : HasServed store ds r keeper_old keeper_new
   pub stays : Stays (file_after calls.stores.stored file) new_file
   pub kept : calls.stores.failed ≡ None → Keeps (file_after calls.stores.stored file) new_file
-
-no_files : (ds : Option (List Due)) → AreDue ds []
-no_files None = tt
-no_files (Some ds) = tt
 
 -- no store failed
 unfailed : (f : Failure) → f ≢ Fault Keeper → IsFailedOf (Err f) None

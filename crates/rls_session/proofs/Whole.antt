@@ -70,7 +70,7 @@ unfolding entries_over made_over
 entries_undoable s edit = by_body s (made_over s edit).body (gone_by edit (text_over s))
 
 -- those that have caught up with the renames
-settled_entry_kept : (s : Seen) (e : Entry) → IsTrue (keeps s (epoch_in (settled_over s e)))
+pub settled_entry_kept : (s : Seen) (e : Entry) → IsTrue (keeps s (epoch_in (settled_over s e)))
 settled_entry_kept s (Inserted e ids) = greatest_kept s.epochs.top s.epochs.nodes
 settled_entry_kept s (Removed e first cs) = greatest_kept s.epochs.top s.epochs.nodes
 

@@ -1,5 +1,5 @@
 -- Which status is whose, and which line goes with it.
-use Rattle.std.proofs.Common.{◌≡◌, ◌∙◌, ◌<◌, ◌⊎◌, ◌||◌, ◌==◌, ℕ, Bool, true, false, eqb, List, Option, Some, None, IfSome, refl, sym, ap, subst, inl, inr, lit<, arith}
+use Rattle.std.proofs.Common.{◌≡◌, ◌≢◌, ◌∙◌, ◌<◌, ◌⊎◌, ◌||◌, ◌==◌, ℕ, Bool, true, false, eqb, List, Option, Some, None, IfSome, refl, sym, ap, subst, inl, inr, lit<, arith}
 use Rattle.std.proofs.lemmas.Bool.Decides.{nat_tests}
 use Rattle.rls_report.specs.declared.failures.CommandError.{CommandError}
 use Rattle.rls_report.specs.declared.failures.CommandError.TheVariants as errors
@@ -93,6 +93,10 @@ failure_at_1 = failure_alone (record { error = refl; memory = refl; usage = inr 
 
 pub failure_at_7 : (f : Failure) (n : ℕ) → IsFailureStatus f n → n ≡ 7 → f ≡ Fault Keeper
 failure_at_7 = failure_alone (record { error = refl; memory = refl; usage = inl refl; keeper = inr refl; source = inl refl; sink = inl refl })
+
+-- a failure that isn't the keeper's has another status
+pub not_keeper : (f : Failure) (n : ℕ) → IsFailureStatus f n → f ≢ Fault Keeper → n ≢ 7
+not_keeper f n s other e = other (failure_at_7 f n s e)
 
 pub failure_at_8 : (f : Failure) (n : ℕ) → IsFailureStatus f n → n ≡ 8 → f ≡ Fault Source
 failure_at_8 = failure_alone (record { error = refl; memory = refl; usage = inl refl; keeper = inl refl; source = inr refl; sink = inl refl })

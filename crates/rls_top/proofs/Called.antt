@@ -21,16 +21,12 @@ use Rattle.rls_top.specs.Due.{Due, Makes, Stops, calls_keeper, may_store}
 use Rattle.rls_top.specs.Due as due
 use Rattle.rls_top.specs.Endings.{IsStored}
 use Rattle.rls_top.specs.Stages.{IsAsDue, IsStatusOf, of_make}
-use Rattle.rls_stages.proofs.Statuses.{not_failure}
+use Rattle.rls_stages.proofs.Statuses.{not_failure, not_keeper}
 use Rattle.rls_top.proofs.Faults.{failure_of, same_failure}
 use Rattle.rls_top.proofs.Finishing.{ended, for_due}
-use Rattle.rls_top.proofs.Statuses.{keeper_fault, made_apart, made_stored, sink_fault, stored_done}
+use Rattle.rls_top.proofs.Statuses.{made_apart, made_stored, sink_fault, stored_done}
 
 -- ---- which status is whose
-
--- an end by this failure isn't the keeper's
-not_keeper : (f : Failure) (n : ℕ) → IsStatusOf (Err f) n → f ≢ Fault Keeper → n ≢ 7
-not_keeper f n s other e = other (same_failure f (Fault Keeper) (keeper_fault (Err f) n s e))
 
 -- nor one after storing
 not_stored : {X : Type 0} (f : Failure) (n : ℕ) → IsStatusOf (Err f) n → f ≢ Fault Sink → IsStored n → X

@@ -63,8 +63,9 @@ use Rattle.rls_top.specs.Headline.{is_for}
 use Rattle.rls_top.specs.Scripts.{leave_in, run_lines, script_in}
 use Rattle.rls_top.proofs.Alike.{runs_told}
 use Rattle.rls_top.proofs.EditsAlone.{lines_alone}
-use Rattle.rls_top.proofs.Headlines.{for_alike, message_given}
+use Rattle.rls_top.proofs.Headlines.{for_alike}
 use Rattle.rls_top.proofs.Scripts.{AreLines, leave_reads_well, line_in, lines_read_well, lines_writable, script_fits}
+use Rattle.rls_sync.proofs.Given.{message_given}
 
 -- ---- files
 

@@ -11,13 +11,9 @@ use Rattle.rls_ops.specs.Spelling.{message_bytes}
 use Rattle.rls_codec.specs.CodecLaws.{IsMessage}
 use Rattle.rls_codec.specs.Reading.{message_of}
 use Rattle.rls_codec.proofs.MessageFormats.{message_again}
-use Rattle.rls_ops.specs.declared.op.Op.{Op}
-use Rattle.rls_codec.specs.Spelled.{Chained, IsSpelled}
-use Rattle.rls_codec.proofs.SpelledSound.{fits_vector, spelled_op}
 use Rattle.rls_model.specs.declared.edit.Edit.TheVariants as edits
 use Rattle.rls_model.specs.declared.parts.Parts.{Parts}
 use Rattle.rls_model.specs.declared.receipt.Taken.{Taken}
-use Rattle.rls_model.specs.WellFormed.{AreOps, IsVector}
 use Rattle.rls_report.specs.declared.failures.LineFault.{LineFault}
 use Rattle.rls_model.specs.Answers.{Reason}
 use Rattle.rls_model.specs.Document.{text}
@@ -78,6 +74,7 @@ use Rattle.rls_top.proofs.Alike.{runs_alike, stops_alike}
 use Rattle.rls_top.proofs.Fresh.{fresh_short}
 use Rattle.rls_top.proofs.Pieces.{is_not_sent, right_numbers}
 use Rattle.rls_top.proofs.Scripts.{leave_reads_well, lines_read_well, lines_writable, script_fits}
+use Rattle.rls_sync.proofs.Given.{message_given}
 
 -- ---- limits
 
@@ -239,17 +236,6 @@ for_same s t m h = ap (λ n. (m.group == n) && (m.members == members s)) h.group
 
 pub for_alike : (s : Seen) (t : State) (m : Message) → StandsFor s t → is_for t.history m ≡ true → dues.is_for s m ≡ true
 for_alike s t m h e = for_same s t m h ∙ e
-
--- the operations of a message that has a spelling are well formed
-ops_given : (n : ℕ) (before : Option Op) (os : List Op) → Chained (λ b. IsSpelled n) before os → AreOps os
-ops_given n before [] c = tt
-ops_given n before (o ∷ os) c = (spelled_op n o c.0, ops_given n (Some o) os c.1)
-
-pub message_given : (bytes : List ℕ) (m : Message) (n : ℕ) → IsMessage bytes m → m.members ≡ n → seen.IsMessage n m
-message_given bytes m n is e =
-    let v = is.2 in
-    let from = v.from in
-    record { from = omega (arith, from, e); vector = subst (λ k. IsVector k m.vector) e (fits_vector m.members m.vector v.vector); ops = ops_given m.members None m.ops v.ops }
 
 -- the numbers of a fresh replica
 head_numbers : (group me members : ℕ) → IsHead 1 group members me → AreNumbers group me members

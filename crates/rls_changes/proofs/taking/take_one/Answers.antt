@@ -1,14 +1,13 @@
-use Rattle.std.proofs.Common.{◌≡◌, ◌∙◌, ◌∷◌, ◌+◌, ℕ, List, sym, ap, subst, rules}
+use Rattle.std.proofs.Common.{◌≡◌, ◌∙◌, ◌∷◌, ◌+◌, List, ap, subst, rules}
 use Rattle.rls_ops.specs.declared.op.Op.{Op}
-use Rattle.rls_model.specs.declared.receipt.Taken.{Taken}
-use Rattle.rls_model.specs.Answers.{Answer, answer_of}
+use Rattle.rls_model.specs.Answers.{answer_of}
 use Rattle.rls_model.specs.Machine.{release_all_on}
 use Rattle.rls_seen.specs.Seen.{Seen, text_over}
 use Rattle.rls_seen.specs.Over.{received, IsPartReleased}
 use Rattle.rls_seen.specs.Messages.{with_releases}
 use Rattle.rls_seen.specs.Sane.{IsSane}
-use Rattle.rls_replica.specs.Steps.{course, with_receipt, AreFew, IsOnWay, IsPartOfOps}
-use Rattle.rls_replica.proofs.Courses.{taken_none, taken_received, taken_part, taken_all, received_counts, unreceived_counts, receipt_few}
+use Rattle.rls_replica.specs.Steps.{course, with_receipt, IsOnWay, IsPartOfOps}
+use Rattle.rls_replica.proofs.Courses.{taken_none, taken_received, taken_part, taken_all, received_counts, unreceived_counts, received_few}
 use Rattle.rls_changes.specs.Telling.{tells_parts, told_course}
 use Rattle.rls_changes.proofs.Courses.{received_told}
 use Rattle.rls_changes.proofs.Told.{leads_on}
@@ -49,12 +48,9 @@ returns-in_err-release_all-clause-err c =
     let k : (s : Seen) (os rest : List Op) → IsOnWay s os (course r t) (c.args.op ∷ rest) → IsPartOfOps s os u = λ s os rest w. taken_part s r u t c.args.op os rest (subst IsSane after c.sane-2.ensures.sane) part w in
     search rules
 
-few : (n : ℕ) (t v : Taken) (o : Op) (x : Answer) → v ≡ with_receipt t o.author o.seq x → AreFew n t → AreFew (n + 1) v
-few n t v o x e h = subst (AreFew (n + 1)) (sym e) (receipt_few n t o.author o.seq x h)
-
 pub returns-in_err-release_all-clause-arrived : goal.returns-in_err-release_all-clause-arrived
 returns-in_err-release_all-clause-arrived c =
-    λ n h. c.in_err-release_all.ensures.arrived (n + 1) (few n c.args.taken.now c.count_receipt.new.taken c.args.op (answer_of c.in_ok-receipt.receipt) c.in_ok-count_receipt.ensures.ok h)
+    λ n h. c.in_err-release_all.ensures.arrived (n + 1) (received_few n c.args.taken.now c.count_receipt.new.taken c.args.op (answer_of c.in_ok-receipt.receipt) c.in_ok-count_receipt.ensures.ok h)
 
 pub returns-in_err-release_all-clause-lead : goal.returns-in_err-release_all-clause-lead
 returns-in_err-release_all-clause-lead c =
@@ -62,7 +58,7 @@ returns-in_err-release_all-clause-lead c =
 
 pub returns-clause-arrived : goal.returns-clause-arrived
 returns-clause-arrived c =
-    λ n h. c.in_ok-release_all.ensures.arrived (n + 1) (few n c.args.taken.now c.count_receipt.new.taken c.args.op (answer_of c.in_ok-receipt.receipt) c.in_ok-count_receipt.ensures.ok h)
+    λ n h. c.in_ok-release_all.ensures.arrived (n + 1) (received_few n c.args.taken.now c.count_receipt.new.taken c.args.op (answer_of c.in_ok-receipt.receipt) c.in_ok-count_receipt.ensures.ok h)
 
 pub returns-clause-told : goal.returns-clause-told
 returns-clause-told c =
