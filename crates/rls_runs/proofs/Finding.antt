@@ -252,7 +252,7 @@ Left front last n x i = find_ident (run_idents (drop i front ++ last ∷ []) n) 
 front_left : (front : List Tuple) (last : Tuple) (i : ℕ) (t d : Tuple) → i < length front → t ≡ get_or front i d → drop i front ++ last ∷ [] ≡ t ∷ (drop (i + 1) front ++ last ∷ [])
 front_left front last i t d h e = ap (λ xs. xs ++ last ∷ []) (drop_more front i d h) ∙ ap (λ u. u ∷ (drop (i + 1) front ++ last ∷ [])) (sym e)
 
-some_left : (xs : List Tuple) (last : Tuple) → (v : Tuple) × (ys : List Tuple) × (xs ++ last ∷ [] ≡ v ∷ ys)
+pub some_left : (xs : List Tuple) (last : Tuple) → (v : Tuple) × (ys : List Tuple) × (xs ++ last ∷ [] ≡ v ∷ ys)
 some_left [] last = (last, [], refl)
 some_left (x ∷ xs) last = (x, xs ++ last ∷ [], refl)
 

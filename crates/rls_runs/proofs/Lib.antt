@@ -12,4 +12,5 @@ pub mod Gaps
 pub mod Searches
 pub mod Cuts
 pub mod PartPlaces
+pub mod Fronts
 mod Worked

@@ -123,3 +123,12 @@ longer_is r y m h k e =
     and_true (is_ident r.0 && is_bounded r.0 && nat_lt 0 (r.1 + m)) (int_le (offset_of (last_of r.0) +ℤ pos (r.1 + m)) past_offsets)
     (and_true (is_ident r.0 && is_bounded r.0) (nat_lt 0 (r.1 + m)) (and_true (is_ident r.0) (is_bounded r.0) p.0 p.1) (lt_test 0 (r.1 + m) (omega arith)))
     (search rules)
+
+pub shorter_is : (r : List Tuple × ℕ) (m : ℕ) → is_run r ≡ true → 0 < m → m ≤ r.1 → is_run (r.0, m) ≡ true
+shorter_is r m h some l =
+    let p = run_parts r h in
+    let end = run_end r h in
+    let fits : (offset_of (last_of r.0) +ℤ pos m) ≤ℤ past_offsets = omega (arith, ints) in
+    and_true (is_ident r.0 && is_bounded r.0 && nat_lt 0 m) (int_le (offset_of (last_of r.0) +ℤ pos m) past_offsets)
+    (and_true (is_ident r.0 && is_bounded r.0) (nat_lt 0 m) (and_true (is_ident r.0) (is_bounded r.0) p.0 p.1) (lt_test 0 m some))
+    (search rules)

@@ -1,13 +1,11 @@
 -- What the calls of a list of runs need of what it keeps.
 use Rattle.std.proofs.Common.{◌≡◌, ℕ, zero, suc, ◌+◌, ◌-◌, ◌<◌, ◌≤◌, Bool, true, false, List, [], ◌∷◌, ◌++◌, length, take, drop, get_or, set, Some, None, Ok, Err, slice_get, refl, sym, ap, ◌∙◌, subst, inl, inr, ◌⊎◌, ⊎_elim, arith}
-use Rattle.std.specs.Prelude.{pos, ◌+ℤ◌, ◌≤ℤ◌, ◌^◌, if◌then◌else◌}
+use Rattle.std.specs.Prelude.{pos, ◌^◌, if◌then◌else◌}
 use Rattle.std.specs.List.{list_all}
-use Rattle.std.proofs.lemmas.Int.{ints}
 use Rattle.std.proofs.lemmas.Bool.{cases_lt}
 use Rattle.std.proofs.lemmas.Option.{slice_get_within, slice_get-get_or, slice_get_read}
 use Rattle.rls_ident.specs.declared.tuple.Tuple.{Tuple}
-use Rattle.rls_ident.specs.Identifiers.{ident_lt, shifted, last_of, greatest_offset}
-use Rattle.rls_ident.specs.Tuples.{offset_of}
+use Rattle.rls_ident.specs.Identifiers.{ident_lt, shifted}
 use Rattle.rls_runs.specs.Runs.{place_of, run_idents, idents_of, is_apart, are_apart, run_before, is_run, run_last, AreRuns, AreIdents}
 use Rattle.rls_runs.specs.Entries.{has_ident}
 use Rattle.rls_runs.specs.Places.{below_count, find_ident, last_ident, is_above, touches}
@@ -15,7 +13,7 @@ use Rattle.rls_runs.proofs.Finding.{run_length}
 use Rattle.rls_runs.proofs.RunOrder.{Rising, increasing_of, idents_rise, all_idents, sound_at}
 use Rattle.rls_runs.proofs.RunPlaces.{moved, found_is, IsFirst, find_first, find_among, split_at, start_at, starts_length, next_start, within_total, last_total, ident_at}
 use Rattle.rls_runs.proofs.RunJoins.{apart_by_last, idents_longer, runs_longer}
-use Rattle.rls_runs.proofs.RunEnds.{count_most, last_is, last_run, touched_is, longer_is, run_short, run_end}
+use Rattle.rls_runs.proofs.RunEnds.{count_most, last_is, last_run, touched_is, longer_is, run_short}
 
 -- the number in a search's answer is at most the length
 pub place_most : (xs : List (List Tuple)) (y : List Tuple) (i : ℕ) → (find_ident xs y ≡ Ok i) ⊎ (find_ident xs y ≡ Err i) → i ≤ length xs

@@ -1,11 +1,12 @@
 //! Runs.
 
-ghost use Rattle.std.specs.Prelude.{◌≡◌, ℕ, ◌+◌, ◌<◌, ◌≤◌, ◌⊎◌, List, ◌∷◌, ◌++◌, [], length, ◌+ℤ◌, ◌<ℤ◌, ◌≤ℤ◌, pos, ◌↔◌, IfOk, IfErr, IsErrOf, IsTrue};
+ghost use Rattle.std.specs.Prelude.{◌≡◌, ℕ, ◌+◌, ◌<◌, ◌≤◌, ◌⊎◌, List, ◌∷◌, ◌++◌, [], length, take, ◌+ℤ◌, ◌<ℤ◌, ◌≤ℤ◌, pos, ◌↔◌, IfOk, IfErr, IsErrOf, IsTrue};
 ghost use Rattle.rls_ident.specs.declared.tuple.Tuple.{Tuple};
 ghost use Rattle.rls_ident.specs.Tuples.{at_spot, offset_of};
 ghost use Rattle.rls_ident.specs.Identifiers.{last_of, ident_lt, shifted, follows};
 ghost use Rattle.rls_runs.specs.Runs.{run_idents, run_last, place_of, is_run, past_offsets};
 ghost use Rattle.rls_runs.specs.Places.{find_ident};
+ghost use Rattle.rls_runs.specs.Fronts.{front_of, shared};
 
 use rls_ident::limits::OFFSETS_END;
 use rls_ident::{Ident, Spot, Tuple, rely};
@@ -85,7 +86,20 @@ impl Run {
         ensures place { result ≡ place_of id.now (run_idents self.now.0 self.now.1) }
         ensures find { result ≡ find_ident (run_idents self.now.0 self.now.1) id.now }
     {
-        find_behind(self.first.front(), self.first.last(), self.len, id)
+        self.find_from(id, 0).0
+    }
+
+    /// What `find` answers, and how many first tuples the run and the identifier share, their last ones
+    /// aside. The first `from` tuples are known to be shared: it doesn't look at them. It takes no memory.
+    pub fn find_from(&self, id: &Ident, from: usize) -> (Result<u32, u32>, usize)
+        requires from { take from self.now.0 ≡ take from id.now }
+        ensures place { result.0 ≡ place_of id.now (run_idents self.now.0 self.now.1) }
+        ensures find { result.0 ≡ find_ident (run_idents self.now.0 self.now.1) id.now }
+        ensures shared { result.1 ≡ shared (front_of self.now.0) (front_of id.now) }
+    {
+        let shared = count_shared(&self.first, id, from);
+        let place = find_behind(self.first.front(), self.first.last(), self.len, id, shared);
+        (place, shared)
     }
 
     /// Whether its last identifier is less than this one. It takes no memory.
@@ -119,12 +133,22 @@ impl Run {
         }
     }
 
-    // Has so many more identifiers at its end.
-    pub(crate) fn grow(&mut self, by: u32)
+    /// Has this many more identifiers at its end, none of which has an offset above the greatest one. It takes no memory.
+    pub fn grow(&mut self, by: u32)
         requires fits { IsTrue (is_run (self.old.0, self.old.1 + by)) }
         ensures longer { self.new ≡ (self.old.0, self.old.1 + by) }
     {
         self.len += by;
+    }
+
+    /// Keeps this many of its first identifiers. It takes no memory.
+    #[tactic(auto, using(crate::proofs::RunEnds::shorter_is))]
+    pub fn shorten(&mut self, len: u32)
+        requires some { 0 < len }
+        requires within { len ≤ self.old.1 }
+        ensures shorter { self.new ≡ (self.old.0, len) }
+    {
+        self.len = len;
     }
 
     /// The same again.
@@ -138,27 +162,37 @@ impl Run {
     }
 }
 
-// The place among so many identifiers, of which the first is this front and this spot.
-fn find_behind(front: &[Tuple], first: Spot, len: u32, id: &Ident) -> Result<u32, u32>
+// How many first tuples two identifiers share, their last ones aside, where the first `from` are known to be shared.
+fn count_shared(first: &Ident, id: &Ident, from: usize) -> usize
+    requires from { take from first.now ≡ take from id.now }
+    ensures shared { result ≡ shared (front_of first.now) (front_of id.now) }
+{
+    let (front, own) = (first.front(), id.front());
+    let end = front.len().min(own.len());
+    for i in from.min(end)..end {
+        if !front[i].same(&own[i]) {
+            return i;
+        }
+    }
+    end
+}
+
+// The place among so many identifiers, of which the first is this front and this spot, by the first tuple that isn't shared.
+fn find_behind(front: &[Tuple], first: Spot, len: u32, id: &Ident, at: usize) -> Result<u32, u32>
+    requires at { at ≡ shared front.now (front_of id.now) }
     ensures find { result ≡ find_ident (run_idents (front.now ++ at_spot first ∷ []) len) id.now }
 {
-    let own = id.front();
-    for i in 0..front.len().min(id.len()) {
-        // Two identifiers that are compared mostly begin alike, and to see that two tuples are equal costs half of their order.
-        if i < own.len() && own[i].same(&front[i]) {
-            continue;
-        }
-        match id.tuple(i).compare(&front[i]) {
-            Ordering::Less => return Err(0),
-            Ordering::Equal => {}
-            Ordering::Greater => return Err(len),
-        }
+    let longer = at < id.front().len();
+    let tuple = id.tuple(at);
+    if front.len() <= at {
+        return find_by_tuple(first, len, tuple, longer);
     }
-    if id.len() <= front.len() {
-        return Err(0);
+    match tuple.compare(&front[at]) {
+        Ordering::Less => Err(0),
+        // It is the identifier's last one.
+        Ordering::Equal => Err(0),
+        Ordering::Greater => Err(len),
     }
-    let longer = front.len() + 1 < id.len();
-    find_by_tuple(first, len, id.tuple(front.len()), longer)
 }
 
 // The place among so many identifiers of one tuple, by the first tuple and whether more stand after it.
