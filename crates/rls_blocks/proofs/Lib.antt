@@ -2,6 +2,7 @@ pub mod Low
 pub mod Pieces
 pub mod Splits
 pub mod Parts
+pub mod Sides
 pub mod Loose
 pub mod Changes
 pub mod Cases

@@ -5,6 +5,7 @@ ghost use Rattle.std.specs.String.{string_bytes};
 ghost use Rattle.rls_runs.specs.Runs.{idents_of};
 ghost use Rattle.rls_runs.specs.Entries.{chars_in};
 ghost use Rattle.rls_runs.specs.Places.{find_ident};
+ghost use Rattle.rls_runs.specs.Fronts.{AboveFront, BelowFront};
 ghost use Rattle.rls_runs.proofs.RunOrder.{Rising};
 ghost use Rattle.rls_blocks.specs.Trees.{runs_in, IsLow, IsPiece, ArePieces, Tree, entries_of};
 ghost use Rattle.rls_blocks.specs.Edits.{around, located, begins_with, ends_with};
@@ -332,13 +333,25 @@ impl Node {
     }
 
     /// The place of an identifier, or if it isn't there the number of identifiers less than it. It
-    /// costs a comparison of identifiers for each level.
+    /// costs a comparison of identifiers for each level, but for the first tuples that it shares with the runs on both sides of the way.
     pub fn find(&self, id: &Ident) -> Result<u64, u64>
         requires rises { Rising (idents_of (runs_in self.now.blocks)) }
         ensures find { result ≡ find_ident (idents_of (runs_in self.now.blocks)) id.now }
     {
+        self.find_within(id, 0, 0)
+    }
+
+    // The same of a tree whose identifiers stand between two runs. The last run in front of the tree shares its first `low` tuples
+    // with the identifier, and the first run behind it shares `high`; so all between them share the fewer of these.
+    fn find_within(&self, id: &Ident, low: usize, high: usize) -> Result<u64, u64>
+        requires rises { Rising (idents_of (runs_in self.now.blocks)) }
+        requires low { AboveFront low id.now (idents_of (runs_in self.now.blocks)) }
+        requires high { BelowFront high id.now (idents_of (runs_in self.now.blocks)) }
+        ensures find { result ≡ find_ident (idents_of (runs_in self.now.blocks)) id.now }
+    {
         rely!(let _chars = self.chars);
-        let below = match self.block.run().find(id) {
+        let (found, shared) = self.block.run().find_from(id, low.min(high));
+        let below = match found {
             Ok(place) => return Ok(self.front + place as u64),
             Err(below) => below,
         };
@@ -346,7 +359,7 @@ impl Node {
             let Some(left) = self.left.node() else {
                 return Err(0);
             };
-            return left.find(id);
+            return left.find_within(id, low, shared);
         }
         if below < self.block.len() {
             return Err(self.front + below as u64);
@@ -354,7 +367,7 @@ impl Node {
         let Some(right) = self.right.node() else {
             return Err(self.end);
         };
-        match right.find(id) {
+        match right.find_within(id, shared, high) {
             Ok(place) => Ok(self.end + place),
             Err(below) => Err(self.end + below),
         }
