@@ -91,15 +91,16 @@ impl Block {
     }
 
     // Grows at its end by a run that goes on with its own, and the run's characters. It costs their number.
+    #[tactic(auto, using(rls_runs::proofs::Cuts::joined_is))]
     pub(crate) fn extend(&mut self, run: &Run, text: Text) -> Result<(), AllocError>
         requires as_many { length text ≡ run.now.1 }
         requires touches { IsTrue (follows run.now.0 (run_last self.old.0)) }
         ensures ok { OnOk result (self.new ≡ joined self.old (run.now, text)) }
         ensures err { OnErr result (self.new ≡ self.old) }
     {
-        let longer = joined_run(&self.run, run)?;
+        let more = run.len();
         self.text.append(text)?;
-        self.run = longer;
+        self.run.grow(more);
         Ok(())
     }
 
@@ -116,16 +117,15 @@ impl Block {
         Ok(())
     }
 
-    // Keeps this many characters at its front.
-    pub(crate) fn keep_front(&mut self, at: u32) -> Result<(), AllocError>
+    // Keeps this many characters at its front. It takes no memory.
+    #[tactic(auto, using(rls_ident::proofs::Shifted::shifted_none))]
+    pub(crate) fn keep_front(&mut self, at: u32)
         requires some { 0 < at }
         requires within { at ≤ self.old.0.1 }
-        ensures ok { OnOk result (self.new ≡ part_of 0 at self.old) }
-        ensures err { OnErr result (self.new ≡ self.old) }
+        ensures front { self.new ≡ part_of 0 at self.old }
     {
-        let front = self.run.part(0, at)?;
-        self.shorten(front);
-        Ok(())
+        self.text.truncate(at as usize);
+        self.run.shorten(at);
     }
 
     // Keeps the characters of the run, which is a front part of its own. It takes no memory.

@@ -30,7 +30,10 @@ impl Block {
         rely!(let _len = self.len());
         match change {
             Change::Grow(side, piece) => self.grow(side, piece),
-            Change::KeepFront(at) => self.keep_front(at),
+            Change::KeepFront(at) => {
+                self.keep_front(at);
+                Ok(())
+            }
             Change::KeepBack(from) => self.keep_back(from),
         }
     }

@@ -89,9 +89,9 @@ impl Single {
         ensures err { OnErr result (self.new ≡ self.old) }
     {
         let node: &mut Node = &mut self.node;
-        let done = node.block.keep_front(at);
+        node.block.keep_front(at);
         set_numbers(&node.block, &mut node.end, &mut node.chars);
-        done
+        Ok(())
     }
 
     /// The block keeps the characters of the run, which is a front part of its own. It takes no memory.
