@@ -13,3 +13,4 @@ pub mod Ranges
 pub mod Changed
 pub mod Taken
 pub mod Patches
+pub mod Rests

@@ -2,3 +2,4 @@ pub mod Trees
 pub mod Edits
 pub mod Patches
 pub mod Splits
+pub mod Rests

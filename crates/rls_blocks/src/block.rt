@@ -117,6 +117,18 @@ impl Block {
         Ok(())
     }
 
+    // This many of its characters from a place on, as a block. It costs their number.
+    pub(crate) fn part(&self, alloc: Global, at: u32, len: u32) -> Result<Block, AllocError>
+        requires some { 0 < len }
+        requires within { at + len ≤ self.now.0.1 }
+        ensures part { IfOk result (λ part. part ≡ part_of at len self.now) }
+    {
+        rely!(let _len = self.len());
+        let run = self.run.part(at, len)?;
+        let text = part_of_text(alloc, &self.text, at as usize, len as usize)?;
+        Ok(Block::new(run, text))
+    }
+
     // Keeps this many characters at its front. It takes no memory.
     #[tactic(auto, using(rls_ident::proofs::Shifted::shifted_none))]
     pub(crate) fn keep_front(&mut self, at: u32)
@@ -128,16 +140,6 @@ impl Block {
         self.run.shorten(at);
     }
 
-    // Keeps the characters of the run, which is a front part of its own. It takes no memory.
-    pub(crate) fn shorten(&mut self, front: Run)
-        requires front { front.0 ≡ shifted (pos 0) self.old.0.0 }
-        requires within { front.1 ≤ self.old.0.1 }
-        ensures front { self.new ≡ part_of 0 front.1 self.old }
-    {
-        self.text.truncate(front.len() as usize);
-        self.run = front;
-    }
-
     // Keeps its characters from a place on.
     pub(crate) fn keep_back(&mut self, from: u32) -> Result<(), AllocError>
         requires some { from < self.old.0.1 }
@@ -145,9 +147,20 @@ impl Block {
         ensures err { OnErr result (self.new ≡ self.old) }
     {
         let run = self.run.part(from, self.run.len() - from)?;
-        self.text.drop_front(from as usize);
-        self.run = run;
+        self.keep(from, run);
         Ok(())
+    }
+
+    // Keeps the characters of the run, which is a part of its own from a place on. It costs the characters that go, and takes no
+    // memory.
+    pub(crate) fn keep(&mut self, at: u32, run: Run)
+        requires run { run.0 ≡ shifted (pos at) self.old.0.0 }
+        requires within { at + run.1 ≤ self.old.0.1 }
+        ensures part { self.new ≡ part_of at run.1 self.old }
+    {
+        self.text.drop_front(at as usize);
+        self.text.truncate(run.len() as usize);
+        self.run = run;
     }
 }
 

@@ -68,7 +68,7 @@ pub(crate) fn keep_ends(
     };
     match last.keep_back(from) {
         Ok(()) => {
-            first.shorten(front);
+            first.keep(0, front);
             Ok((first, last))
         }
         Err(_) => Err((first, last)),

@@ -11,6 +11,7 @@ mod node;
 mod patch;
 mod put;
 mod remove;
+mod rest;
 mod side;
 mod split;
 
@@ -20,3 +21,4 @@ pub use insert::insert_at;
 pub use node::{Link, Node};
 pub use patch::{Patch, push_block, push_runs, with_patches};
 pub use remove::remove_range;
+pub use rest::{Part, Rest, with_rest};

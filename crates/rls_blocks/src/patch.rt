@@ -109,8 +109,8 @@ pub fn with_patches(link: Link, patches: Vec<Patch>) -> Link
     concat(front, behind)
 }
 
-// A tree as two, at a place between its blocks.
-fn split_between(link: Link, i: u64) -> (Link, Link)
+/// A tree as two, at a place between its blocks.
+pub(crate) fn split_between(link: Link, i: u64) -> (Link, Link)
     requires between { IsBetween i link.blocks }
     ensures front { result.0.blocks ≡ before i link.blocks }
     ensures behind { result.1.blocks ≡ after i link.blocks }

@@ -1,6 +1,6 @@
 //! Nodes that stand alone.
 
-ghost use Rattle.std.specs.Prelude.{◌≡◌, ◌-◌, ◌<◌, ◌≤◌, pos, length, IfOk, OnOk, OnErr, IsTrue};
+ghost use Rattle.std.specs.Prelude.{◌≡◌, ◌+◌, ◌-◌, ◌<◌, ◌≤◌, pos, length, IfOk, OnOk, OnErr, IsTrue};
 ghost use Rattle.rls_ident.specs.Identifiers.{shifted};
 ghost use Rattle.rls_blocks.specs.Trees.{IsPiece};
 ghost use Rattle.rls_blocks.specs.Edits.{part_of, grown, may_grow};
@@ -94,14 +94,14 @@ impl Single {
         Ok(())
     }
 
-    /// The block keeps the characters of the run, which is a front part of its own. It takes no memory.
-    pub(crate) fn shorten(&mut self, front: Run)
-        requires front { front.0 ≡ shifted (pos 0) self.old.0.0 }
-        requires within { front.1 ≤ length self.old.1 }
-        ensures front { self.new ≡ part_of 0 front.1 self.old }
+    /// The block keeps the characters of the run, which is a part of its own from a place on. It takes no memory.
+    pub(crate) fn keep(&mut self, at: u32, run: Run)
+        requires run { run.0 ≡ shifted (pos at) self.old.0.0 }
+        requires within { at + run.1 ≤ length self.old.1 }
+        ensures part { self.new ≡ part_of at run.1 self.old }
     {
         let node: &mut Node = &mut self.node;
-        node.block.shorten(front);
+        node.block.keep(at, run);
         set_numbers(&node.block, &mut node.end, &mut node.chars);
     }
 
