@@ -180,14 +180,14 @@ def wide(n):
     return renamed_one(1000, n)
 
 
-def chain_of(author, first, count, former, length):
+def chain_of(author, first, count, former, length, pos=MIDDLE):
     """So many renames by one member, which knows of no others, from this number on: the first is of these runs, told as bytes, and of so
-    many identifiers; each other is of the one before."""
+    many identifiers, of which the first has this position; each other is of the one before."""
     ops, epoch = [], ORIGIN
     for k in range(first, first + count):
         context = (0, k - 1, 0) if author == 1 else (0, 1, k - 1)
         ops.append(op(author, k, context, b"\2" + former, epoch))
-        epoch, former = opened(author, k), u32(1) + ident(k, 0, replica=author) + u32(length)
+        epoch, former = opened(author, k), u32(1) + ident(k, 0, pos, author) + u32(length)
     return ops
 
 
@@ -240,7 +240,7 @@ def old_deletions_apart(n):
     """The same, each in another run."""
     former = u32(n) + b"".join(ident(k, 0, pos=1000 * k) + u32(1) for k in range(1, n + 1))
     old = [op(2, k, (0, n, k - 1), b"\1" + u32(1) + ident(k, 0, pos=1000 * k) + u32(1)) for k in range(1, n + 1)]
-    return [*apart(n), *chain_of(1, n + 1, n, former, n), *old]
+    return [*apart(n), *chain_of(1, n + 1, n, former, n, pos=1000), *old]
 
 
 def scattered(n):
