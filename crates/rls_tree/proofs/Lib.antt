@@ -8,5 +8,6 @@ pub mod Standing
 pub mod Targets
 pub mod Planned
 pub mod Kept
+pub mod Rested
 pub mod Filled
 pub mod Grown

@@ -124,8 +124,9 @@ impl BlockTree {
     /// Targets that are adjacent in the tree cost a comparison of identifiers for each of their runs, a step for each level and each of
     /// them, and their own characters; out of the middle of a run, also those in front of them there or those after them, whichever are
     /// fewer, and where two runs touch then, those of the shorter one. Other targets cost a few comparisons of identifiers for each level
-    /// and each stretch that is adjacent in one block, and the characters of the blocks that lose some and of those just before one that
-    /// loses its first.
+    /// and each stretch that is adjacent in one block. If all go from one block and not all of it, they also cost the characters that go,
+    /// and those that stay but for the longest part, which isn't copied; else the characters of the blocks that lose some and of those
+    /// just before one that loses its first.
     ///
     /// # Errors
     ///
@@ -143,11 +144,25 @@ impl BlockTree {
             self.remove_range(i, count)?;
             return Ok(count);
         }
-        rely!(let _blocks = self.blocks());
         let before = self.chars();
+        self.remove_apart(targets)?;
+        Ok(before - self.chars())
+    }
+
+    // Takes targets out that aren't adjacent.
+    fn remove_apart(&mut self, targets: &Runs) -> Result<(), AllocError>
+        ensures ok { OnOk result (entries_of self.new.blocks ≡ without_all targets.now (entries_of self.old.blocks)) }
+        ensures err { OnErr result (entries_of self.new.blocks ≡ entries_of self.old.blocks) }
+    {
+        rely!(let _blocks = self.blocks());
+        rely!(let _chars = self.chars());
+        if let Some((i, rest)) = self.rest_without(targets)? {
+            self.put_rest(i, rest);
+            return Ok(());
+        }
         let patches = self.patches_without(targets)?;
         self.put_patches(patches);
-        Ok(before - self.chars())
+        Ok(())
     }
 
     // The same as `range_of`, but one place is looked at first.

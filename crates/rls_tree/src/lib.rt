@@ -5,6 +5,7 @@ mod document;
 mod insertion;
 mod places;
 mod removal;
+mod rest;
 mod tree;
 
 pub use rls_blocks::{Block, Node};

@@ -36,7 +36,7 @@ impl BlockTree {
 
     // The first place, from this one on, of a target, or the number of characters if there is none. It costs a comparison of identifiers
     // for each level and each stretch of targets that aren't there.
-    fn next_target(&self, targets: &Runs, at: u64) -> Result<u64, AllocError>
+    pub(crate) fn next_target(&self, targets: &Runs, at: u64) -> Result<u64, AllocError>
         requires place { at ≤ length (entries_of self.now.blocks) }
         ensures order { IfOk result (λ i. at ≤ i) }
         ensures within { IfOk result (λ i. i ≤ length (entries_of self.now.blocks)) }
@@ -177,7 +177,7 @@ impl BlockTree {
     }
 
     // How many targets are adjacent in one block from the place of one on.
-    fn targets_at(&self, targets: &Runs, at: u64) -> Result<u64, AllocError>
+    pub(crate) fn targets_at(&self, targets: &Runs, at: u64) -> Result<u64, AllocError>
         requires place { at < length (entries_of self.now.blocks) }
         requires there { AreMembers true targets.now (idents_in (entries_of self.now.blocks)) at (at + 1) }
         ensures some { IfOk result (λ n. 0 < n) }

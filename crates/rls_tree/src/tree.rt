@@ -8,10 +8,12 @@ ghost use Rattle.rls_runs.specs.Runs.{run_idents, runs_of, are_apart, is_increas
 ghost use Rattle.rls_runs.specs.Entries.{idents_in, chars_in, has_ident};
 ghost use Rattle.rls_blocks.specs.Trees.{ArePieces, entries_of, piece_entries, runs_in};
 ghost use Rattle.rls_blocks.specs.Edits.{are_loose, inserted, located, removed};
-ghost use Rattle.rls_blocks.specs.Patches.{patched, ArePatches};
+ghost use Rattle.rls_blocks.specs.Patches.{patched, ArePatches, IsBetween};
+ghost use Rattle.rls_blocks.specs.Rests.{rested, IsRest};
 
 use rls_blocks::{
-    Block, Link, Node, Patch, insert_at, part_of_text, remove_range, tree_of, with_patches,
+    Block, Link, Node, Patch, Rest, insert_at, part_of_text, remove_range, tree_of, with_patches,
+    with_rest,
 };
 use rls_ident::{Ident, rely};
 use rls_runs::{Run, Text};
@@ -284,6 +286,22 @@ impl BlockTree {
     {
         let link = mem::replace(&mut self.root, Link::empty());
         let root = with_patches(link, patches);
+        rely!(let _chars = root.chars());
+        self.root = root;
+    }
+
+    // Puts the rest of a block in its place. It costs a few steps for each level, and the characters that go, and takes no memory.
+    pub(crate) fn put_rest(&mut self, i: u64, rest: Rest)
+        requires between { IsBetween i self.old.blocks }
+        requires within { i < length (entries_of self.old.blocks) }
+        requires is_rest { IfSome (located self.old.blocks i) (λ p. IsRest rest p.0) }
+        requires chars_fit { length (entries_of (rested rest self.old.blocks i)) < 2 ^ 64 }
+        requires loose { IsTrue (are_loose None (runs_in (rested rest self.old.blocks i))) }
+        requires rises { IsTrue (is_increasing (idents_in (entries_of (rested rest self.old.blocks i)))) }
+        ensures blocks { self.new.blocks ≡ rested rest self.old.blocks i }
+    {
+        let link = mem::replace(&mut self.root, Link::empty());
+        let root = with_rest(link, i, rest);
         rely!(let _chars = root.chars());
         self.root = root;
     }

@@ -1,13 +1,11 @@
 use Rattle.std.proofs.Common.{◌≡◌, ℕ, List, [], ◌∷◌, Option, IfSome, length, sym, ap, ◌∙◌, subst, arith}
 use Rattle.rls_ident.specs.declared.tuple.Tuple.{Tuple}
-use Rattle.rls_runs.specs.Entries.{Entries, idents_in, without_all}
+use Rattle.rls_runs.specs.Entries.{Entries, without_all}
 use Rattle.rls_blocks.specs.Trees.{entries_of}
 use Rattle.rls_blocks.specs.Edits.{removed}
 use Rattle.std.specs.Prelude.{not}
 use Rattle.rls_runs.specs.Entries.{has_ident}
 use Rattle.rls_runs.proofs.Sorted.{Entry}
-use Rattle.rls_runs.specs.Runs.{is_increasing}
-use Rattle.rls_doc.proofs.Rising.{increasing_filter}
 use Rattle.rls_tree.proofs.Without.{filter_short, without_none}
 use Rattle.rls_tree.proofs.tree.BlockTree.remove_near.Goals as goal
 
@@ -25,30 +23,14 @@ returns-in-Some-clause-ok c =
     let Gone : Option ℕ → Type 0 = λ o. IfSome o (λ i. removed i (length ts) es ≡ without_all ts es) in
     c.in_ok-remove_range.ensures.ok ∙ ap (λ n. removed c.in-Some.i n es) c.total-count.ensures.total ∙ subst Gone c.in-Some.is c.range_near.ensures.removed
 
-pub put_patches-requires-clause-chars_fit : goal.put_patches-requires-clause-chars_fit
-put_patches-requires-clause-chars_fit c =
-    let n = ap length c.in_ok-patches.ensures.shows.entries_are in
-    let short = filter_short (λ (e : Entry). not (has_ident c.args.targets.now e.0)) (entries_of c.args.self.now.blocks) in
-    omega (arith, short, n, c.chars-before.ensures.chars)
-
-pub put_patches-requires-clause-rises : goal.put_patches-requires-clause-rises
-put_patches-requires-clause-rises c =
-    ap (λ es. is_increasing (idents_in es)) c.in_ok-patches.ensures.shows.entries_are ∙ increasing_filter (λ (e : Entry). not (has_ident c.args.targets.now e.0)) (entries_of c.args.self.now.blocks) c.blocks-blocks.ensures.rises
-
 pub overflow_sub-result : goal.overflow_sub-result
 overflow_sub-result c =
-    let n = ap length (ap entries_of c.put_patches.ensures.blocks ∙ c.in_ok-patches.ensures.shows.entries_are) in
+    let n = ap length c.in_ok-remove_apart.ensures.ok in
     let short = filter_short (λ (e : Entry). not (has_ident c.args.targets.now e.0)) (entries_of c.args.self.now.blocks) in
     omega (arith, short, n, c.chars.ensures.chars, c.chars-before.ensures.chars)
-
-pub returns-clause-ok : goal.returns-clause-ok
-returns-clause-ok c = ap entries_of c.put_patches.ensures.blocks ∙ c.in_ok-patches.ensures.shows.entries_are
 
 pub returns-clause-removed : goal.returns-clause-removed
 returns-clause-removed c =
-    let n = ap length (ap entries_of c.put_patches.ensures.blocks ∙ c.in_ok-patches.ensures.shows.entries_are) in
+    let n = ap length c.in_ok-remove_apart.ensures.ok in
     let short = filter_short (λ (e : Entry). not (has_ident c.args.targets.now e.0)) (entries_of c.args.self.now.blocks) in
     omega (arith, short, n, c.chars.ensures.chars, c.chars-before.ensures.chars)
-
-pub put_patches-requires-clause-loose : goal.put_patches-requires-clause-loose
-put_patches-requires-clause-loose c = c.in_ok-patches.ensures.shows.loose
