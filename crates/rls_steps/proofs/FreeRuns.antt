@@ -1,5 +1,5 @@
 -- A run of names that is added at once: none of its identifiers has a name, and they are apart.
-use Rattle.std.proofs.Common.{◌≡◌, ℕ, zero, suc, ◌+◌, ◌-◌, ◌<◌, Bool, true, false, List, [], ◌∷◌, ◌++◌, length, take, inl, inr, refl, sym, ap, ◌∙◌, subst, arith}
+use Rattle.std.proofs.Common.{◌≡◌, ℕ, zero, suc, ◌+◌, ◌-◌, ◌<◌, ◌≤◌, Bool, true, false, List, [], ◌∷◌, ◌++◌, length, take, inl, inr, refl, sym, ap, ◌∙◌, subst, arith}
 use Rattle.std.specs.Prelude.{ℤ, pos, ◌+ℤ◌, ◌-ℤ◌, nat_lt, reverse, zip, slice_get, Option, Some, None, if◌then◌else◌}
 use Rattle.std.specs.Ordering.{is_gt}
 use Rattle.std.proofs.lemmas.Int.{ints}
@@ -15,14 +15,14 @@ use Rattle.rls_runs.specs.Runs.{run_idents}
 use Rattle.rls_steps.specs.declared.key.Key.{Key}
 use Rattle.rls_steps.specs.Labelled.{Names, label_of}
 use Rattle.rls_steps.specs.Marks.{numbers_from}
-use Rattle.rls_steps.specs.NameRuns.{Stretch, IsStretch, IsAbove, IsOutside, step_by, name_by, names_by, name_at, names_of, named, run_in, wide_cmp, key_cmp}
+use Rattle.rls_steps.specs.NameRuns.{Stretch, IsStretch, IsAbove, IsLabelOf, AreLabelsIn, AreOutside, AreOutsideIn, step_by, name_by, names_by, name_at, names_of, named, run_in, wide_cmp, key_cmp}
 use Rattle.rls_steps.specs.Index.{AreApart}
 use Rattle.rls_steps.proofs.Tabling.{take_snoc}
 use Rattle.rls_steps.proofs.Giving.{reverse_snoc, numbers_snoc}
 use Rattle.rls_steps.proofs.Widths.{between, on_up}
-use Rattle.rls_steps.proofs.Stretches.{name_in, names_suc, in_names, in_named, named_in, none_in, in_reverse, reverse_in, run_there}
+use Rattle.rls_steps.proofs.Stretches.{first_by, name_in, names_suc, in_names, in_named, named_in, none_in, in_reverse, reverse_in, run_there, sound_at}
 use Rattle.rls_steps.proofs.Found.{label_name}
-use Rattle.rls_steps.proofs.RunLookups.{IsAbout, first_there, is_some_of}
+use Rattle.rls_steps.proofs.RunLookups.{IsAbout, first_there, is_some_of, run_is}
 
 -- ---- identifiers of a run are apart
 
@@ -41,17 +41,9 @@ label_skip (x ∷ xs) ys y f = bool_cases (ident_eq x.0 y)
     (λ b. absurd (f x (inl refl) (eq_same x.0 y b)))
     (λ b. ap (λ (c : Bool). if c then Some x.1 else label_of (xs ++ ys) y) b ∙ label_skip xs ys y (λ n p. f n (inr p)))
 
-names_apart : (d : Bool) (x : List Tuple) (l m : ℕ) (ys : Names) → IsIdent x → AreApart ys → ((k : ℕ) → k < m → label_of ys (name_by d x l k).0 ≡ None) → AreApart (reverse (names_by d x l 0 m) ++ ys)
-names_apart d x l zero ys i a f = a
-names_apart d x l (suc m) ys i a f =
-    let ns = names_by d x l 0 m in
-    let z : 0 + m ≡ m = omega arith in
-    let whole : reverse (names_by d x l 0 (suc m)) ++ ys ≡ name_by d x l m ∷ (reverse ns ++ ys) =
-    ap (λ (zs : Names). reverse zs ++ ys) (names_suc d x l 0 m ∙ ap (λ j. ns ++ name_by d x l j ∷ []) z) ∙ ap (λ (zs : Names). zs ++ ys) (reverse_snoc ns (name_by d x l m)) in
-    subst AreApart (sym whole) (
-      label_skip (reverse ns) ys (name_by d x l m).0 none ∙ f m (omega arith),
-      names_apart d x l m ys i a (λ k h. f k (omega (arith, h))),
-    )
+-- the next identifier of a run, behind those that have names, has none
+pub later_free : (d : Bool) (x : List Tuple) (l m : ℕ) (ys : Names) → IsIdent x → label_of ys (name_by d x l m).0 ≡ None → label_of (reverse (names_by d x l 0 m) ++ ys) (name_by d x l m).0 ≡ None
+later_free d x l m ys i f = label_skip (reverse (names_by d x l 0 m)) ys (name_by d x l m).0 none ∙ f
   where
     none : (n : List Tuple × ℕ) → IsIn n (reverse (names_by d x l 0 m)) → n.0 ≡ (name_by d x l m).0 → ⊥
     none n p e =
@@ -61,95 +53,126 @@ names_apart d x l (suc m) ys i a f =
         let same = idents_apart d x w.0 m i (ap (λ j. (name_by d x l j).0) z ∙ (ap (λ (k : List Tuple × ℕ). k.0) w.2 ∙ e)) in
         absurd (omega (arith, same, h))
 
+names_apart : (d : Bool) (x : List Tuple) (l m : ℕ) (ys : Names) → IsIdent x → AreApart ys → ((k : ℕ) → k < m → label_of ys (name_by d x l k).0 ≡ None) → AreApart (reverse (names_by d x l 0 m) ++ ys)
+names_apart d x l zero ys i a f = a
+names_apart d x l (suc m) ys i a f =
+    let ns = names_by d x l 0 m in
+    let z : 0 + m ≡ m = omega arith in
+    let whole : reverse (names_by d x l 0 (suc m)) ++ ys ≡ name_by d x l m ∷ (reverse ns ++ ys) =
+    ap (λ (zs : Names). reverse zs ++ ys) (names_suc d x l 0 m ∙ ap (λ j. ns ++ name_by d x l j ∷ []) z) ∙ ap (λ (zs : Names). zs ++ ys) (reverse_snoc ns (name_by d x l m)) in
+    subst AreApart (sym whole) (later_free d x l m ys i (f m (omega arith)), names_apart d x l m ys i a (λ k h. f k (omega (arith, h))))
+
 pub run_apart : (r : Stretch) (ys : Names) → IsStretch r.first r.label r.down r.len → AreApart ys → ((k : ℕ) → k < r.len → label_of ys (name_at r k).0 ≡ None) → AreApart (reverse (names_of r) ++ ys)
 run_apart r ys s a f = names_apart r.down r.first r.label r.len ys s.ident a f
 
--- ---- none of them has a name
+-- ---- identifiers before a run
 
--- no run begins among the identifiers
-no_start : (rs : List Stretch) (es : List (Key × ℕ)) (low : Key) (a : Option ℕ) (n j i : ℕ) (r : Stretch) → IsAbout rs es → IsIdent low.ident → IsAbove es low a → IsOutside rs a low.ident n → slice_get rs i ≡ Some r → j < n → r.first ≡ shifted (pos j) low.ident → ⊥
-no_start rs es low None n j i r o ident above out g h e =
-    let own : Key = record { ident = r.first } in
-    let there = first_there rs es i r own o.firsts g refl in
-    let up : is_gt (key_cmp low own) ≡ false = ap (λ y. is_gt (wide_cmp low.ident y)) e ∙ on_up low.ident j ident in
-    let none = above own up in
-    let some = there.1 in
-    absurd (cc)
-no_start rs es low (Some k) n j i r o ident above out g h e =
-    let own : Key = record { ident = r.first } in
-    let there = first_there rs es i r own o.firsts g refl in
-    let up : is_gt (key_cmp low own) ≡ false = ap (λ y. is_gt (wide_cmp low.ident y)) e ∙ on_up low.ident j ident in
-    let key = above.0 in
-    let least = above.3 own up (is_some_of (run_in es own) there.0 there.1) in
-    let high : is_gt (wide_cmp key.ident (shifted (pos j) low.ident)) ≡ false = ap (λ y. is_gt (wide_cmp key.ident y)) (sym e) ∙ least in
-    let w = between low.ident key.ident j ident above.2 high in
+-- how far one is from another
+nearer : (x y : List Tuple) (i j : ℕ) → i ≤ j → shifted (pos j) x ≡ shifted (pos i) y → shifted (pos (j - i)) x ≡ y
+nearer x y i j h e =
+    let by : pos j +ℤ (pos 0 -ℤ pos i) ≡ pos (j - i) = omega (arith, ints, h) in
+    let z : pos i +ℤ (pos 0 -ℤ pos i) ≡ pos 0 = omega (arith, ints) in
+    ap (λ d. shifted d x) (sym by)
+    ∙ (sym (shifted_shifted (pos 0 -ℤ pos i) (pos j) x) ∙ (ap (shifted (pos 0 -ℤ pos i)) e ∙ (shifted_shifted (pos 0 -ℤ pos i) (pos i) y ∙ (ap (λ d. shifted d y) z ∙ shifted_none y))))
+
+-- where the least of a run is y, and isn't among n identifiers from x on
+pub outside : (r : Stretch) (x y : List Tuple) (n : ℕ) → ((k : ℕ) → k < r.len → (j : ℕ) × (j < r.len) × ((name_at r k).0 ≡ shifted (pos j) y)) → ((j : ℕ) → j < r.len → (k : ℕ) × (k < r.len) × ((name_at r k).0 ≡ shifted (pos j) y)) →
+    ((m : ℕ) → m < n → y ≡ shifted (pos m) x → ⊥) → AreOutside r x n
+outside r x y n all each far = λ none j h k g e.
+    let w = all k g in
     let short = w.1 in
-    let v = run_there (reverse rs) key.ident k (sym (o.firsts key) ∙ above.1) in
-    let at : slice_get rs k ≡ Some v.0 = ap (λ (zs : List Stretch). slice_get zs k) (sym (reverse-reverse rs)) ∙ v.1 in
-    let same : out.0 ≡ v.0 = some_is out.0 v.0 (sym out.1 ∙ at) in
-    out.2 w.0 (omega (arith, short, h)) (ap (λ (s : Stretch). s.first) same ∙ (v.2 ∙ sym w.2))
+    let same : shifted (pos w.0) y ≡ shifted (pos j) x = sym w.2 ∙ e in
+    bool_cases (nat_lt j w.0)
+    (λ t. let less = lt_is j w.0 t in
+    let v = each (w.0 - j) (omega (arith, short)) in
+    none v.0 v.1 (v.2 ∙ nearer y x j w.0 (omega (arith, less)) same))
+    (λ t. far (j - w.0) (omega (arith, h)) (sym (nearer x y w.0 j (not_lt_is j w.0 t) (sym same))))
+
+pub far_from : (x y : List Tuple) (p m : ℕ) → IsIdent x → y ≡ shifted (pos p) x → m < p → y ≡ shifted (pos m) x → ⊥
+far_from x y p m i e h f = let same = idents_apart false x m p i (sym f ∙ e) in absurd (omega (arith, same, h))
+
+pub some_before : (r : Stretch) (x y : List Tuple) (p : ℕ) → ((j : ℕ) → j < r.len → (k : ℕ) × (k < r.len) × ((name_at r k).0 ≡ shifted (pos j) y)) → 0 < r.len → y ≡ shifted (pos p) x → IsLabelOf r x None → 0 < p
+some_before r x y zero each some e none = let w = each 0 some in absurd (none w.0 w.1 (w.2 ∙ (shifted_none y ∙ (e ∙ shifted_none x))))
+some_before r x y (suc p) each some e none = omega arith
+
+-- ---- none of them has a name
 
 -- a name of a run has a label
 has_label : (rs : List Stretch) (i m : ℕ) (r : Stretch) (x : List Tuple) → slice_get rs i ≡ Some r → m < r.len → (name_at r m).0 ≡ x → label_of (reverse (named rs)) x ≡ None → ⊥
 has_label rs i m r x g h e none =
     none_in (reverse (named rs)) x (name_at r m).1 none (subst (λ y. IsIn (y, (name_at r m).1) (reverse (named rs))) e (in_reverse (name_at r m) (named rs) (named_in rs i r m g h)))
 
-back_by : (y z : List Tuple) (a b : ℤ) → shifted a y ≡ z → shifted (a +ℤ b) y ≡ shifted b z
-back_by y z a b e = sym (shifted_shifted b a y) ∙ ap (shifted b) e
+pub not_there : (rs : List Stretch) (a : Option ℕ) (x : List Tuple) (n : ℕ) → AreOutsideIn rs a x n → label_of (reverse (named rs)) x ≡ None → AreLabelsIn rs a x None
+not_there rs None x n out none = refl
+not_there rs (Some i) x n out none = (out.0, out.1, λ m h e. has_label rs i m out.0 x out.1 h e none)
 
-no_name_up : (rs : List Stretch) (es : List (Key × ℕ)) (low : Key) (a : Option ℕ) (n k i m : ℕ) (r : Stretch) → IsAbout rs es → IsIdent low.ident → IsAbove es low a → IsOutside rs a low.ident n → label_of (reverse (named rs)) low.ident ≡ None →
-    slice_get rs i ≡ Some r → m < r.len → k < n → r.down ≡ false → (name_at r m).0 ≡ shifted (pos k) low.ident → ⊥
-no_name_up rs es low a n k i m r o ident above out none g h short d e =
-    let up : shifted (pos m) r.first ≡ shifted (pos k) low.ident = ap (λ (c : Bool). shifted (step_by c m) r.first) (sym d) ∙ e in
-    bool_cases (nat_lt k m)
-    (λ b. let less = lt_is k m b in
-    let by : pos m +ℤ (pos 0 -ℤ pos k) ≡ pos (m - k) = omega (arith, ints, less) in
-    let zero' : pos k +ℤ (pos 0 -ℤ pos k) ≡ pos 0 = omega (arith, ints) in
-    let here : shifted (pos (m - k)) r.first ≡ low.ident =
-    ap (λ z. shifted z r.first) (sym by) ∙ (back_by r.first (shifted (pos k) low.ident) (pos m) (pos 0 -ℤ pos k) up ∙ (shifted_shifted (pos 0 -ℤ pos k) (pos k) low.ident ∙ (ap (λ z. shifted z low.ident) zero' ∙ shifted_none low.ident))) in
-    has_label rs i (m - k) r low.ident g (omega (arith, h)) (ap (λ (c : Bool). shifted (step_by c (m - k)) r.first) d ∙ here) none)
-    (λ b. let most = not_lt_is k m b in
-    let by : pos m +ℤ (pos 0 -ℤ pos m) ≡ pos 0 = omega (arith, ints) in
-    let on : pos k +ℤ (pos 0 -ℤ pos m) ≡ pos (k - m) = omega (arith, ints, most) in
-    let first : r.first ≡ shifted (pos (k - m)) low.ident =
-    sym (ap (λ z. shifted z r.first) by ∙ shifted_none r.first)
-    ∙ (back_by r.first (shifted (pos k) low.ident) (pos m) (pos 0 -ℤ pos m) up ∙ (shifted_shifted (pos 0 -ℤ pos m) (pos k) low.ident ∙ ap (λ z. shifted z low.ident) on)) in
-    no_start rs es low a n (k - m) i r o ident above out g (omega (arith, short)) first)
+-- the run that begins next, from an identifier on, is the one that has a later identifier, or it begins before that
+meets : (rs : List Stretch) (es : List (Key × ℕ)) (low own : Key) (a : Option ℕ) (n k q i m : ℕ) (r : Stretch) → IsAbout rs es → IsIdent low.ident → IsAbove es low a → AreOutsideIn rs a low.ident n → label_of (reverse (named rs)) low.ident ≡ None →
+    slice_get rs i ≡ Some r → m < r.len → k < n → (name_at r m).0 ≡ shifted (pos k) low.ident → own.ident ≡ r.first → r.first ≡ shifted (pos q) low.ident → ((j : ℕ) → k < j → j ≤ q → (t : ℕ) × (t < r.len) × ((name_at r t).0 ≡ shifted (pos j) low.ident)) → ⊥
+meets rs es low own None n k q i m r o ident above out none g h less e p f all =
+    let there = first_there rs es i r own o.firsts g p in
+    let up : is_gt (key_cmp low own) ≡ false = ap (λ y. is_gt (wide_cmp low.ident y)) (p ∙ f) ∙ on_up low.ident q ident in
+    let gone = above own up in
+    let some = there.1 in
+    absurd (cc)
+meets rs es low own (Some b) n k q i m r o ident above out none g h less e p f all =
+    let there = first_there rs es i r own o.firsts g p in
+    let up : is_gt (key_cmp low own) ≡ false = ap (λ y. is_gt (wide_cmp low.ident y)) (p ∙ f) ∙ on_up low.ident q ident in
+    let key = above.0 in
+    let least = above.3 own up (is_some_of (run_in es own) there.0 there.1) in
+    let high : is_gt (wide_cmp key.ident (shifted (pos q) low.ident)) ≡ false = ap (λ y. is_gt (wide_cmp key.ident y)) (sym (p ∙ f)) ∙ least in
+    let w = between low.ident key.ident q ident above.2 high in
+    let s = out.0 in
+    let apart = out.2 (λ t u v. has_label rs b t s low.ident out.1 u v none) in
+    let v = run_there (reverse rs) key.ident b (sym (o.firsts key) ∙ above.1) in
+    let at : slice_get rs b ≡ Some v.0 = ap (λ (zs : List Stretch). slice_get zs b) (sym (reverse-reverse rs)) ∙ v.1 in
+    let same : s ≡ v.0 = some_is s v.0 (sym out.1 ∙ at) in
+    let begins : s.first ≡ shifted (pos w.0) low.ident = ap (λ (u : Stretch). u.first) same ∙ (v.2 ∙ sym w.2) in
+    bool_cases (nat_lt k w.0)
+    (λ t. let x = all w.0 (lt_is k w.0 t) w.1 in
+    let here = run_is rs es key i b x.0 r o.apart o.sound o.firsts above.1 g x.1 (x.2 ∙ w.2) in
+    let is : s ≡ r = some_is s r (sym out.1 ∙ here) in
+    apart k less m (subst (λ (u : Stretch). m < u.len) (sym is) h) (ap (λ (u : Stretch). (name_at u m).0) is ∙ e))
+    (λ t. let few = not_lt_is k w.0 t in
+    apart w.0 (omega (arith, few, less)) 0 (sound_at rs b s o.sound out.1).some (ap (λ (u : List Tuple × ℕ). u.0) (first_by s.down s.first s.label) ∙ begins))
 
-no_name_down : (rs : List Stretch) (es : List (Key × ℕ)) (low : Key) (a : Option ℕ) (n k i m : ℕ) (r : Stretch) → IsAbout rs es → IsIdent low.ident → IsAbove es low a → IsOutside rs a low.ident n → label_of (reverse (named rs)) (shifted (pos (n - 1)) low.ident) ≡ None →
-    slice_get rs i ≡ Some r → m < r.len → k < n → r.down ≡ true → (name_at r m).0 ≡ shifted (pos k) low.ident → ⊥
-no_name_down rs es low a n k i m r o ident above out none g h short d e =
-    let down : shifted (pos 0 -ℤ pos m) r.first ≡ shifted (pos k) low.ident = ap (λ (c : Bool). shifted (step_by c m) r.first) (sym d) ∙ e in
-    bool_cases (nat_lt (k + m) n)
-    (λ b. let less = lt_is (k + m) n b in
+first_up : (r : Stretch) (x : List Tuple) (k m : ℕ) → r.down ≡ false → m ≤ k → (name_at r m).0 ≡ shifted (pos k) x → r.first ≡ shifted (pos (k - m)) x
+first_up r x k m d h e = sym (nearer x r.first m k h (sym (ap (λ (c : Bool). shifted (step_by c m) r.first) (sym d) ∙ e)))
+
+first_down : (r : Stretch) (x : List Tuple) (k m : ℕ) → r.down ≡ true → (name_at r m).0 ≡ shifted (pos k) x → r.first ≡ shifted (pos (k + m)) x
+first_down r x k m d e =
+    let down : shifted (pos 0 -ℤ pos m) r.first ≡ shifted (pos k) x = ap (λ (c : Bool). shifted (step_by c m) r.first) (sym d) ∙ e in
     let by : (pos 0 -ℤ pos m) +ℤ pos m ≡ pos 0 = omega (arith, ints) in
     let on : pos k +ℤ pos m ≡ pos (k + m) = omega (arith, ints) in
-    let first : r.first ≡ shifted (pos (k + m)) low.ident =
-    sym (ap (λ z. shifted z r.first) by ∙ shifted_none r.first)
-    ∙ (back_by r.first (shifted (pos k) low.ident) (pos 0 -ℤ pos m) (pos m) down ∙ (shifted_shifted (pos m) (pos k) low.ident ∙ ap (λ z. shifted z low.ident) on)) in
-    no_start rs es low a n (k + m) i r o ident above out g less first)
-    (λ b. let most = not_lt_is (k + m) n b in
-    let j = m - (n - 1 - k) in
-    let by : (pos 0 -ℤ pos m) +ℤ pos (n - 1 - k) ≡ pos 0 -ℤ pos j = omega (arith, ints, most, short) in
-    let on : pos k +ℤ pos (n - 1 - k) ≡ pos (n - 1) = omega (arith, ints, short) in
-    let here : shifted (pos 0 -ℤ pos j) r.first ≡ shifted (pos (n - 1)) low.ident =
-    ap (λ z. shifted z r.first) (sym by)
-    ∙ (back_by r.first (shifted (pos k) low.ident) (pos 0 -ℤ pos m) (pos (n - 1 - k)) down ∙ (shifted_shifted (pos (n - 1 - k)) (pos k) low.ident ∙ ap (λ z. shifted z low.ident) on)) in
-    has_label rs i j r (shifted (pos (n - 1)) low.ident) g (omega (arith, h)) (ap (λ (c : Bool). shifted (step_by c j) r.first) d ∙ here) none)
+    sym (shifted_shifted (pos m) (pos 0 -ℤ pos m) r.first ∙ (ap (λ z. shifted z r.first) by ∙ shifted_none r.first))
+    ∙ (ap (shifted (pos m)) down ∙ (shifted_shifted (pos m) (pos k) x ∙ ap (λ z. shifted z x) on))
 
-pub free_run : (rs : List Stretch) (es : List (Key × ℕ)) (low : Key) (a : Option ℕ) (n : ℕ) → IsAbout rs es → IsIdent low.ident → IsAbove es low a → IsOutside rs a low.ident n → label_of (reverse (named rs)) low.ident ≡ None →
-    label_of (reverse (named rs)) (shifted (pos (n - 1)) low.ident) ≡ None → (k : ℕ) → k < n → label_of (reverse (named rs)) (shifted (pos k) low.ident) ≡ None
-free_run rs es low a n o ident above out first last k h = go (label_of (reverse (named rs)) (shifted (pos k) low.ident)) refl
+later_down : (r : Stretch) (x : List Tuple) (q j : ℕ) → r.down ≡ true → r.first ≡ shifted (pos q) x → j ≤ q → (name_at r (q - j)).0 ≡ shifted (pos j) x
+later_down r x q j d f h =
+    let by : pos q +ℤ (pos 0 -ℤ pos (q - j)) ≡ pos j = omega (arith, ints, h) in
+    ap (λ (c : Bool). shifted (step_by c (q - j)) r.first) d ∙ (ap (shifted (pos 0 -ℤ pos (q - j))) f ∙ (shifted_shifted (pos 0 -ℤ pos (q - j)) (pos q) x ∙ ap (λ z. shifted z x) by))
+
+no_name : (rs : List Stretch) (es : List (Key × ℕ)) (low : Key) (a : Option ℕ) (n k i m : ℕ) (r : Stretch) → IsAbout rs es → IsIdent low.ident → IsAbove es low a → AreOutsideIn rs a low.ident n → label_of (reverse (named rs)) low.ident ≡ None →
+    slice_get rs i ≡ Some r → m < r.len → k < n → (name_at r m).0 ≡ shifted (pos k) low.ident → ⊥
+no_name rs es low a n k i m r o ident above out none g h less e = bool_cases r.down
+    (λ d. let first = first_down r low.ident k m d e in
+    meets rs es low (record { ident = r.first }) a n k (k + m) i m r o ident above out none g h less e refl first (λ j more most. (k + m - j, omega (arith, h, more), later_down r low.ident (k + m) j d first most)))
+    (λ d. bool_cases (nat_lt k m)
+    (λ t. let short = lt_is k m t in
+    has_label rs i (m - k) r low.ident g (omega (arith, h))
+    (ap (λ (c : Bool). shifted (step_by c (m - k)) r.first) d ∙ nearer r.first low.ident k m (omega (arith, short)) (ap (λ (c : Bool). shifted (step_by c m) r.first) (sym d) ∙ e)) none)
+    (λ t. meets rs es low (record { ident = r.first }) a n k (k - m) i m r o ident above out none g h less e refl (first_up r low.ident k m d (not_lt_is k m t) e) (λ j more few. absurd (omega (arith, more, few)))))
+
+pub free_run : (rs : List Stretch) (es : List (Key × ℕ)) (low : Key) (a : Option ℕ) (n : ℕ) → IsAbout rs es → IsIdent low.ident → IsAbove es low a → AreOutsideIn rs a low.ident n → label_of (reverse (named rs)) low.ident ≡ None →
+    (k : ℕ) → k < n → label_of (reverse (named rs)) (shifted (pos k) low.ident) ≡ None
+free_run rs es low a n o ident above out none k h = go (label_of (reverse (named rs)) (shifted (pos k) low.ident)) refl
   where
     go : (c : Option ℕ) → label_of (reverse (named rs)) (shifted (pos k) low.ident) ≡ c → c ≡ None
     go None e = refl
     go (Some l) e =
         let y = shifted (pos k) low.ident in
         let w = in_named rs (y, l) (reverse_in (y, l) (named rs) (label_name (reverse (named rs)) y l e)) in
-        let q = ap (λ (n : List Tuple × ℕ). n.0) w.5 in
-        absurd (bool_cases w.1.down
-        (λ d. no_name_down rs es low a n k w.0 w.2 w.1 o ident above out last w.3 w.4 h d q)
-        (λ d. no_name_up rs es low a n k w.0 w.2 w.1 o ident above out first w.3 w.4 h d q))
+        absurd (no_name rs es low a n k w.0 w.2 w.1 o ident above out none w.3 w.4 h (ap (λ (u : List Tuple × ℕ). u.0) w.5))
 
 -- ---- an insertion's names, the last one first
 
@@ -180,12 +203,6 @@ falling_named old new r x y l k n e q f g h =
     ap (λ (u : Stretch). reverse (names_of u)) q
     ∙ (ap (λ j. reverse (names_by true y k 0 j)) size ∙ (falling_names m x y l k f g ∙ ap (λ j. zip (run_idents x j) (numbers_from l j)) (sym size))) in
     ap reverse e ∙ (reverse-append old (names_of r) ∙ ap (λ (zs : Names). zs ++ reverse old) names)
-
-pub one_named : (old new : Names) (x y : List Tuple) (l n : ℕ) → new ≡ old ++ (y, l) ∷ [] → y ≡ shifted (pos (n - 1)) x → n - 1 ≡ 0 → 0 < n → reverse new ≡ zip (run_idents x n) (numbers_from l n) ++ reverse old
-one_named old new x y l n e f z h =
-    let one : suc zero ≡ n = omega (arith, h, z) in
-    let first : y ≡ x = f ∙ (ap (λ j. shifted (pos j) x) z ∙ shifted_none x) in
-    ap reverse e ∙ (reverse_snoc old (y, l) ∙ (ap (λ v. (v, l) ∷ reverse old) first ∙ ap (λ j. zip (run_idents x j) (numbers_from l j) ++ reverse old) one))
 
 -- labels that follow one another
 pub rising_next : (ls : List ℕ) (first i x : ℕ) → slice_get ls i ≡ Some x → x ≡ first + i → take i ls ≡ numbers_from first i → take (i + 1) ls ≡ numbers_from first (i + 1)

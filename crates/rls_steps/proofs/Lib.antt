@@ -10,6 +10,7 @@ pub mod Courses
 pub mod Own
 pub mod Tabling
 pub mod Giving
+pub mod GivenRuns
 pub mod Tabled
 pub mod Stacks
 pub mod Zipping

@@ -1,5 +1,5 @@
 -- The label of an identifier, by the runs that begin next to it.
-use Rattle.std.proofs.Common.{◌≡◌, ℕ, ◌-◌, ◌<◌, Bool, true, false, List, length, refl, sym, ap, ◌∙◌, subst, arith}
+use Rattle.std.proofs.Common.{◌≡◌, ℕ, zero, suc, ◌+◌, ◌-◌, ◌<◌, Bool, true, false, List, ◌∷◌, map, length, refl, sym, ap, ◌∙◌, subst, arith}
 use Rattle.std.specs.Prelude.{pos, ◌+ℤ◌, ◌-ℤ◌, reverse, slice_get, Option, Some, None, IfSome}
 use Rattle.std.specs.Option.{IsSome}
 use Rattle.std.specs.Ordering.{is_gt, is_lt, ordering_reverse}
@@ -13,21 +13,41 @@ use Rattle.rls_ident.specs.Lists.{IsIn}
 use Rattle.rls_ident.proofs.Members.{bool_cases, some_is, get_in}
 use Rattle.rls_ident.proofs.Shifted.{shifted_shifted, shifted_none}
 use Rattle.rls_steps.specs.declared.key.Key.{Key}
-use Rattle.rls_steps.specs.Labelled.{label_of}
-use Rattle.rls_steps.specs.NameRuns.{Stretch, AreSound, IsBelow, IsAbove, IsLabelOf, IsLabelIn, step_by, name_at, named, run_in, run_of, wide_cmp, key_cmp}
+use Rattle.rls_runs.specs.Runs.{run_idents}
+use Rattle.rls_steps.specs.Marks.{numbers_from}
+use Rattle.rls_steps.specs.Labelled.{Names, label_of}
+use Rattle.rls_steps.specs.NameRuns.{Stretch, AreSound, IsBelow, IsAbove, IsLabelOf, AreLabelsIn, AreLabels, step_by, name_at, named, run_in, run_of, wide_cmp, key_cmp}
 use Rattle.rls_steps.specs.Index.{AreApart}
 use Rattle.rls_steps.proofs.Widths.{wide_total, between, on_up}
 use Rattle.rls_steps.proofs.Stretches.{first_by, in_named, named_in, in_reverse, reverse_in, one_run, run_there, run_some, sound_at}
 use Rattle.rls_steps.proofs.Found.{label_name, name_label}
 
--- ---- a label that is found
+-- ---- labels that are found
 
-pub found_label : (rs : List Stretch) (i : Option ℕ) (x : List Tuple) (l : ℕ) → AreApart (reverse (named rs)) → IsLabelIn rs i x (Some l) → label_of (reverse (named rs)) x ≡ Some l
-found_label rs None x l a f = absurd (cc)
-found_label rs (Some i) x l a f =
-    let r = f.0 in
-    let w = f.2 in
-    name_label (reverse (named rs)) x l a (in_reverse (x, l) (named rs) (subst (λ n. IsIn n (named rs)) w.2 (named_in rs i r w.0 f.1 w.1)))
+pub rising_labels : (ns : Names) (x : List Tuple) (n l : ℕ) → ((j : ℕ) → j < n → label_of ns (shifted (pos j) x) ≡ Some (l + j)) → map (label_of ns) (run_idents x n) ≡ map Some (numbers_from l n)
+rising_labels ns x zero l f = refl
+rising_labels ns x (suc n) l f =
+    let z : l + 0 ≡ l = omega arith in
+    let first : label_of ns x ≡ Some l = ap (label_of ns) (sym (shifted_none x)) ∙ (f 0 (omega arith) ∙ ap Some z) in
+    ap (λ o. o ∷ map (label_of ns) (run_idents (shifted (pos 1) x) n)) first ∙ ap (λ os. Some l ∷ os) (rising_labels ns (shifted (pos 1) x) n (suc l) later)
+  where
+    later : (j : ℕ) → j < n → label_of ns (shifted (pos j) (shifted (pos 1) x)) ≡ Some (suc l + j)
+    later j h =
+        let by : pos 1 +ℤ pos j ≡ pos (suc j) = omega (arith, ints) in
+        let sum : l + suc j ≡ suc l + j = omega arith in
+        ap (label_of ns) (shifted_shifted (pos j) (pos 1) x ∙ ap (λ d. shifted d x) by) ∙ (f (suc j) (omega (arith, h)) ∙ ap Some sum)
+
+pub labels_found : (rs : List Stretch) (i : Option ℕ) (x : List Tuple) (p : ℕ × ℕ) → AreApart (reverse (named rs)) → AreLabelsIn rs i x (Some p) → AreLabels (reverse (named rs)) x (Some p)
+labels_found rs None x p a f = absurd (cc)
+labels_found rs (Some i) x p a f = rising_labels (reverse (named rs)) x p.1 p.0 (λ j h.
+    let n : List Tuple × ℕ = (shifted (pos j) x, p.0 + j) in
+    let w = f.2 j h in
+    name_label (reverse (named rs)) n.0 n.1 a (in_reverse n (named rs) (subst (λ m. IsIn m (named rs)) w.2 (named_in rs i f.0 w.0 f.1 w.1))))
+
+-- the first of them
+pub first_label : (ns : Names) (x : List Tuple) (l n : ℕ) → 0 < n → map (label_of ns) (run_idents x n) ≡ map Some (numbers_from l n) → label_of ns x ≡ Some l
+first_label ns x l zero h e = absurd (omega (arith, h))
+first_label ns x l (suc n) h e = cc
 
 -- ---- none
 
@@ -49,7 +69,7 @@ same_run rs i j r s k a o g h p e =
     some_is r s (sym g ∙ (ap (slice_get rs) q ∙ h))
 
 -- the run at a key, where that is the identifier of a name
-run_is : (rs : List Stretch) (es : List (Key × ℕ)) (k : Key) (i j m : ℕ) (r : Stretch) → AreApart (reverse (named rs)) → AreSound rs → ((q : Key) → run_in es q ≡ run_of (reverse rs) q.ident) → run_in es k ≡ Some j → slice_get rs i ≡ Some r → m < r.len →
+pub run_is : (rs : List Stretch) (es : List (Key × ℕ)) (k : Key) (i j m : ℕ) (r : Stretch) → AreApart (reverse (named rs)) → AreSound rs → ((q : Key) → run_in es q ≡ run_of (reverse rs) q.ident) → run_in es k ≡ Some j → slice_get rs i ≡ Some r → m < r.len →
     (name_at r m).0 ≡ k.ident → slice_get rs j ≡ Some r
 run_is rs es k i j m r a o f e g h q =
     let w = run_there (reverse rs) k.ident j (sym (f k) ∙ e) in
@@ -57,7 +77,7 @@ run_is rs es k i j m r a o f e g h q =
     there ∙ ap Some (sym (same_run rs i j r w.0 m a o g there h (q ∙ sym w.2)))
 
 -- what a run with a name of an identifier says isn't nothing
-says : (rs : List Stretch) (j m : ℕ) (r : Stretch) (x : List Tuple) → slice_get rs j ≡ Some r → m < r.len → (name_at r m).0 ≡ x → IsLabelIn rs (Some j) x None → ⊥
+says : (rs : List Stretch) (j m : ℕ) (r : Stretch) (x : List Tuple) → slice_get rs j ≡ Some r → m < r.len → (name_at r m).0 ≡ x → AreLabelsIn rs (Some j) x None → ⊥
 says rs j m r x g h q f =
     let same : f.0 ≡ r = some_is f.0 r (sym f.1 ∙ g) in
     let none = subst (λ (s : Stretch). IsLabelOf s x None) same f.2 in
@@ -83,7 +103,7 @@ pub record IsAbout (rs : List Stretch) (es : List (Key × ℕ)) : Type 0 where
   pub firsts : (q : Key) → run_in es q ≡ run_of (reverse rs) q.ident
 
 -- a run upwards is found from below
-up_missed : (rs : List Stretch) (es : List (Key × ℕ)) (x own : Key) (b : Option ℕ) (i m : ℕ) (r : Stretch) → IsAbout rs es → IsBelow es x b → IsLabelIn rs b x.ident None → slice_get rs i ≡ Some r → m < r.len → r.down ≡ false →
+up_missed : (rs : List Stretch) (es : List (Key × ℕ)) (x own : Key) (b : Option ℕ) (i m : ℕ) (r : Stretch) → IsAbout rs es → IsBelow es x b → AreLabelsIn rs b x.ident None → slice_get rs i ≡ Some r → m < r.len → r.down ≡ false →
     (name_at r m).0 ≡ x.ident → own.ident ≡ r.first → is_gt (key_cmp own x) ≡ false → IsIdent r.first → HasKey es own → ⊥
 up_missed rs es x own None i m r o below said g h d q e low ident there = let none = below own low in let some = there.1 in absurd (cc)
 up_missed rs es x own (Some j) i m r o below said g h d q e low ident there =
@@ -99,7 +119,7 @@ up_missed rs es x own (Some j) i m r o below said g h d q e low ident there =
     says rs j m r x.ident run h q said
 
 -- a run downwards from above
-down_missed : (rs : List Stretch) (es : List (Key × ℕ)) (x own : Key) (b : Option ℕ) (i m : ℕ) (r : Stretch) → IsAbout rs es → IsAbove es x b → IsLabelIn rs b x.ident None → slice_get rs i ≡ Some r → m < r.len → r.down ≡ true →
+down_missed : (rs : List Stretch) (es : List (Key × ℕ)) (x own : Key) (b : Option ℕ) (i m : ℕ) (r : Stretch) → IsAbout rs es → IsAbove es x b → AreLabelsIn rs b x.ident None → slice_get rs i ≡ Some r → m < r.len → r.down ≡ true →
     (name_at r m).0 ≡ x.ident → own.ident ≡ r.first → is_gt (key_cmp x own) ≡ false → IsIdent x.ident → HasKey es own → ⊥
 down_missed rs es x own None i m r o above said g h d q e low ident there = let none = above own low in let some = there.1 in absurd (cc)
 down_missed rs es x own (Some j) i m r o above said g h d q e low ident there =
@@ -120,7 +140,7 @@ down_missed rs es x own (Some j) i m r o above said g h d q e low ident there =
     back_none : (n : ℕ) (y : List Tuple) → shifted ((pos 0 -ℤ pos n) +ℤ pos n) y ≡ y
     back_none n y = let z : (pos 0 -ℤ pos n) +ℤ pos n ≡ pos 0 = omega (arith, ints) in ap (λ d. shifted d y) z ∙ shifted_none y
 
-no_name : (rs : List Stretch) (es : List (Key × ℕ)) (x own : Key) (b a : Option ℕ) (i m : ℕ) (r : Stretch) → IsAbout rs es → IsIdent x.ident → IsBelow es x b → IsAbove es x a → IsLabelIn rs b x.ident None → IsLabelIn rs a x.ident None →
+no_name : (rs : List Stretch) (es : List (Key × ℕ)) (x own : Key) (b a : Option ℕ) (i m : ℕ) (r : Stretch) → IsAbout rs es → IsIdent x.ident → IsBelow es x b → IsAbove es x a → AreLabelsIn rs b x.ident None → AreLabelsIn rs a x.ident None →
     slice_get rs i ≡ Some r → m < r.len → (name_at r m).0 ≡ x.ident → own.ident ≡ r.first → ⊥
 no_name rs es x own b a i m r o ident below above s t g h q e =
     let first = (sound_at rs i r o.sound g).ident in
@@ -134,7 +154,7 @@ no_name rs es x own b a i m r o ident below above s t g h q e =
     let low : is_gt (key_cmp own x) ≡ false = ap (λ y. is_gt (wide_cmp y x.ident)) e ∙ subst (λ y. is_gt (wide_cmp r.first y) ≡ false) up (on_up r.first m first) in
     up_missed rs es x own b i m r o below s g h d q e low first there)
 
-pub missed_label : (rs : List Stretch) (es : List (Key × ℕ)) (x : Key) (b a : Option ℕ) → IsAbout rs es → IsIdent x.ident → IsBelow es x b → IsAbove es x a → IsLabelIn rs b x.ident None → IsLabelIn rs a x.ident None → label_of (reverse (named rs)) x.ident ≡ None
+pub missed_label : (rs : List Stretch) (es : List (Key × ℕ)) (x : Key) (b a : Option ℕ) → IsAbout rs es → IsIdent x.ident → IsBelow es x b → IsAbove es x a → AreLabelsIn rs b x.ident None → AreLabelsIn rs a x.ident None → label_of (reverse (named rs)) x.ident ≡ None
 missed_label rs es x b a o ident below above s t = go (label_of (reverse (named rs)) x.ident) refl
   where
     go : (c : Option ℕ) → label_of (reverse (named rs)) x.ident ≡ c → c ≡ None
@@ -161,6 +181,6 @@ above_short rs es x (Some i) f w =
     let size = length-reverse rs in
     omega (arith, h, size)
 
-pub label_is : (rs : List Stretch) (es : List (Key × ℕ)) (x : Key) (b a o : Option ℕ) → IsAbout rs es → IsIdent x.ident → IsBelow es x b → IsAbove es x a → IsLabelIn rs b x.ident None → IsLabelIn rs a x.ident o → o ≡ label_of (reverse (named rs)) x.ident
-label_is rs es x b a None w i below above s t = sym (missed_label rs es x b a w i below above s t)
-label_is rs es x b a (Some l) w i below above s t = sym (found_label rs a x.ident l w.apart t)
+pub labels_are : (rs : List Stretch) (es : List (Key × ℕ)) (x : Key) (b a : Option ℕ) (o : Option (ℕ × ℕ)) → IsAbout rs es → IsIdent x.ident → IsBelow es x b → IsAbove es x a → AreLabelsIn rs b x.ident None → AreLabelsIn rs a x.ident o → AreLabels (reverse (named rs)) x.ident o
+labels_are rs es x b a None w i below above s t = missed_label rs es x b a w i below above s t
+labels_are rs es x b a (Some p) w i below above s t = labels_found rs a x.ident p w.apart t

@@ -15,7 +15,7 @@ use Rattle.rls_ident.proofs.Members.{bool_cases, and_left, and_right, int_le_is,
 use Rattle.rls_ident.proofs.Shifted.{shifted_shifted, shifted_none, last_offset}
 use Rattle.rls_runs.proofs.RunPlaces.{get_left, get_right}
 use Rattle.rls_steps.specs.Labelled.{Names, label_of}
-use Rattle.rls_steps.specs.NameRuns.{Stretch, IsStretch, IsWithin, AreSound, step_by, label_by, name_by, names_by, name_at, names_of, named, run_of}
+use Rattle.rls_steps.specs.NameRuns.{Stretch, IsStretch, IsWithin, AreSound, AreLabelsOf, step_by, label_by, name_by, names_by, name_at, names_of, named, run_of}
 use Rattle.rls_steps.specs.Index.{AreApart}
 
 -- ---- the names of a run
@@ -48,6 +48,12 @@ first_by true x l =
 
 pub one_name : (down : Bool) (x : List Tuple) (l : ℕ) → names_by down x l 0 1 ≡ (x, l) ∷ []
 one_name down x l = ap (λ n. n ∷ []) (first_by down x l)
+
+-- a run of one name
+pub alone : (r : Stretch) (x : List Tuple) (l : ℕ) → r.len ≡ 1 → x ≡ r.first → l ≡ (name_at r 0).1 → names_of r ≡ (x, l) ∷ []
+alone r x l e f g =
+    let label = g ∙ ap (λ (n : List Tuple × ℕ). n.1) (first_by r.down r.first r.label) in
+    ap (names_by r.down r.first r.label 0) e ∙ (one_name r.down r.first r.label ∙ (ap (λ y. (y, r.label) ∷ []) (sym f) ∙ ap (λ m. (x, m) ∷ []) (sym label)))
 
 pub in_names : (down : Bool) (x : List Tuple) (l k m : ℕ) (n : List Tuple × ℕ) → IsIn n (names_by down x l k m) → (i : ℕ) × (i < m) × (name_by down x l (k + i) ≡ n)
 in_names down x l k zero n p = absurd p
@@ -261,19 +267,28 @@ pub order_up : (d : Bool) (l k : ℕ) → d ≡ false → l ≤ label_by d l k
 order_up true l k q = absurd (cc)
 order_up false l k q = omega arith
 
-pub ends_down : (r : Stretch) (y : List Tuple) → r.down ≡ true → y ≡ (name_at r (r.len - 1)).0 → (k : ℕ) → k < r.len → (j : ℕ) × (j < r.len) × ((name_at r k).0 ≡ shifted (pos j) y)
-ends_down r y d e k s =
-    let j = r.len - 1 - k in
+-- the least identifier of a run is so far from another one
+low_down : (r : Stretch) (y : List Tuple) (k j : ℕ) → r.down ≡ true → y ≡ (name_at r (r.len - 1)).0 → k + j ≡ r.len - 1 → (name_at r k).0 ≡ shifted (pos j) y
+low_down r y k j d e s =
     let low : y ≡ shifted (pos 0 -ℤ pos (r.len - 1)) r.first = e ∙ ap (λ (c : Bool). shifted (step_by c (r.len - 1)) r.first) d in
-    let by : (pos 0 -ℤ pos (r.len - 1)) +ℤ pos j ≡ pos 0 -ℤ pos k = omega (arith, ints, s) in (
-      j,
-      omega (arith, s),
-      ap (λ (c : Bool). shifted (step_by c k) r.first) d
-          ∙ (ap (λ z. shifted z r.first) (sym by) ∙ (sym (shifted_shifted (pos j) (pos 0 -ℤ pos (r.len - 1)) r.first) ∙ ap (shifted (pos j)) (sym low))),
-    )
+    let by : (pos 0 -ℤ pos (r.len - 1)) +ℤ pos j ≡ pos 0 -ℤ pos k = omega (arith, ints, s) in
+    ap (λ (c : Bool). shifted (step_by c k) r.first) d
+    ∙ (ap (λ z. shifted z r.first) (sym by) ∙ (sym (shifted_shifted (pos j) (pos 0 -ℤ pos (r.len - 1)) r.first) ∙ ap (shifted (pos j)) (sym low)))
+
+low_up : (r : Stretch) (y : List Tuple) (k : ℕ) → r.down ≡ false → y ≡ r.first → (name_at r k).0 ≡ shifted (pos k) y
+low_up r y k d e = ap (λ (c : Bool). shifted (step_by c k) r.first) d ∙ ap (shifted (pos k)) (sym e)
+
+pub ends_down : (r : Stretch) (y : List Tuple) → r.down ≡ true → y ≡ (name_at r (r.len - 1)).0 → (k : ℕ) → k < r.len → (j : ℕ) × (j < r.len) × ((name_at r k).0 ≡ shifted (pos j) y)
+ends_down r y d e k s = (r.len - 1 - k, omega (arith, s), low_down r y k (r.len - 1 - k) d e (omega (arith, s)))
 
 pub ends_up : (r : Stretch) (y : List Tuple) → r.down ≡ false → y ≡ r.first → (k : ℕ) → k < r.len → (j : ℕ) × (j < r.len) × ((name_at r k).0 ≡ shifted (pos j) y)
-ends_up r y d e k s = (k, s, ap (λ (c : Bool). shifted (step_by c k) r.first) d ∙ ap (shifted (pos k)) (sym e))
+ends_up r y d e k s = (k, s, low_up r y k d e)
+
+pub each_down : (r : Stretch) (y : List Tuple) → r.down ≡ true → y ≡ (name_at r (r.len - 1)).0 → (j : ℕ) → j < r.len → (k : ℕ) × (k < r.len) × ((name_at r k).0 ≡ shifted (pos j) y)
+each_down r y d e j s = (r.len - 1 - j, omega (arith, s), low_down r y (r.len - 1 - j) j d e (omega (arith, s)))
+
+pub each_up : (r : Stretch) (y : List Tuple) → r.down ≡ false → y ≡ r.first → (j : ℕ) → j < r.len → (k : ℕ) × (k < r.len) × ((name_at r k).0 ≡ shifted (pos j) y)
+each_up r y d e j s = (j, s, low_up r y j d e)
 
 pub top_down : (r : Stretch) (y : List Tuple) → r.down ≡ true → y ≡ (name_at r (r.len - 1)).0 → r.first ≡ shifted (pos (r.len - 1)) y
 top_down r y d e =
@@ -314,3 +329,36 @@ missed_down d x y n e f k h q =
     let z : (pos 0 -ℤ pos k) +ℤ pos k ≡ pos 0 = omega (arith, ints) in
     let back : shifted (pos 0 -ℤ pos k) y ≡ x = ap (λ (c : Bool). shifted (step_by c k) y) (sym e) ∙ q in
     f k h (sym (ap (shifted (pos k)) (sym back) ∙ (shifted_shifted (pos k) (pos 0 -ℤ pos k) y ∙ (ap (λ m. shifted m y) z ∙ shifted_none y))))
+
+-- ---- names upwards from one of a run
+
+rest_by : (d : Bool) (x : List Tuple) (l k j : ℕ) → d ≡ false → name_by d x l (k + j) ≡ (shifted (pos j) (name_by d x l k).0, (name_by d x l k).1 + j)
+rest_by true x l k j e = absurd (cc)
+rest_by false x l k j e =
+    let by : pos (k + j) ≡ pos k +ℤ pos j = omega (arith, ints) in
+    let sum : l + (k + j) ≡ (l + k) + j = omega arith in
+    ap (λ y. (y, l + (k + j))) (ap (λ z. shifted z x) by ∙ sym (shifted_shifted (pos j) (pos k) x)) ∙ ap (λ m. (shifted (pos j) (shifted (pos k) x), m)) sum
+
+back_by : (d : Bool) (x : List Tuple) (l k j : ℕ) → d ≡ true → k ≤ l → j ≤ k → name_by d x l (k - j) ≡ (shifted (pos j) (name_by d x l k).0, (name_by d x l k).1 + j)
+back_by false x l k j e room h = absurd (cc)
+back_by true x l k j e room h =
+    let by : pos 0 -ℤ pos (k - j) ≡ (pos 0 -ℤ pos k) +ℤ pos j = omega (arith, ints, h) in
+    let sum : l - (k - j) ≡ (l - k) + j = omega (arith, room, h) in
+    ap (λ y. (y, l - (k - j))) (ap (λ z. shifted z x) by ∙ sym (shifted_shifted (pos j) (pos 0 -ℤ pos k) x)) ∙ ap (λ m. (shifted (pos j) (shifted (pos 0 -ℤ pos k) x), m)) sum
+
+pub rest_up : (r : Stretch) (k n : ℕ) → r.down ≡ false → n ≡ r.len - k → AreLabelsOf r (name_at r k).0 (Some ((name_at r k).1, n))
+rest_up r k n d e = λ j h. (k + j, omega (arith, h, e), rest_by r.down r.first r.label k j d)
+
+pub rest_down : (r : Stretch) (k n : ℕ) → IsStretch r.first r.label r.down r.len → r.down ≡ true → k < r.len → n ≡ k + 1 → AreLabelsOf r (name_at r k).0 (Some ((name_at r k).1, n))
+rest_down r k n s d short e = λ j h. (k - j, omega (arith, short), back_by r.down r.first r.label k j d (go r.down d s.within) (omega (arith, h, e)))
+  where
+    go : (c : Bool) → c ≡ true → IsWithin c (offset_of (last_of r.first)) r.label r.len → k ≤ r.label
+    go false q w = absurd (cc)
+    go true q w = let room = w.1 in omega (arith, room, short)
+
+pub room_down : (r : Stretch) (k n : ℕ) → r.label < 2 ^ 64 → IsStretch r.first r.label r.down r.len → r.down ≡ true → k < r.len → n ≡ k + 1 → (name_at r k).1 + n ≤ 2 ^ 64
+room_down r k n few s d h e = go r.down d s.within
+  where
+    go : (c : Bool) → c ≡ true → IsWithin c (offset_of (last_of r.first)) r.label r.len → label_by c r.label k + n ≤ 2 ^ 64
+    go false q w = absurd (cc)
+    go true q w = let room = w.1 in omega (arith, room, h, e, few)

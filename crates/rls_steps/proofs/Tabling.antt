@@ -33,11 +33,6 @@ once (y ∷ ys) x zero (suc j) r p q = let e : y ≡ x = cc in absurd (lt_irrefl
 once (y ∷ ys) x (suc i) zero r p q = let e : y ≡ x = cc in absurd (lt_irrefl (subst (λ z. Lt tuples z x) e (more_at y x ys r.0 (get_in ys i x p))))
 once (y ∷ ys) x (suc i) (suc j) r p q = ap suc (once ys x i j r.1 p q)
 
-pub rising_part : (from n : ℕ) (xs : List (List Tuple)) → Rising xs → Rising (take n (drop from xs))
-rising_part from n xs r =
-    let behind = rising_right (take from xs) (drop from xs) (subst Rising (sym (take-append-drop from xs)) r) in
-    rising_left (take n (drop from xs)) (drop n (drop from xs)) (subst Rising (sym (take-append-drop n (drop from xs))) behind)
-
 pub get_drop : {A : Type 0} (n k : ℕ) (xs : List A) → slice_get (drop n xs) k ≡ slice_get xs (n + k)
 get_drop zero k xs = let e : k ≡ 0 + k = omega arith in ap (slice_get xs) e
 get_drop (suc n) k [] = refl
@@ -48,12 +43,6 @@ get_take zero k xs h = absurd (omega (arith, h))
 get_take (suc n) k [] h = refl
 get_take (suc n) zero (x ∷ xs) h = refl
 get_take (suc n) (suc k) (x ∷ xs) h = get_take n k xs (omega (arith, h))
-
-pub in_take_at : (n : ℕ) (x : List Tuple) (xs : List (List Tuple)) → IsIn x (take n xs) → (k : ℕ) × (k < n) × (slice_get xs k ≡ Some x)
-in_take_at zero x xs p = absurd p
-in_take_at (suc n) x [] p = absurd p
-in_take_at (suc n) x (y ∷ ys) (inl e) = (0, omega arith, ap Some e)
-in_take_at (suc n) x (y ∷ ys) (inr p) = let r = in_take_at n x ys p in (suc r.0, omega (arith, r.1), r.2)
 
 pub place_is : (xs : List (List Tuple)) (x : List Tuple) (at : ℕ) → Rising xs → place_of x xs ≡ Ok at → slice_get xs at ≡ Some x
 place_is xs x at r h = found_there xs x at r (found_is xs x r ∙ h)

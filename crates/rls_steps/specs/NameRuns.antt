@@ -1,5 +1,5 @@
 -- Names as runs: identifiers of one run with consecutive labels.
-use Rattle.std.specs.Prelude.{◌≡◌, ℕ, zero, suc, ◌+◌, ◌-◌, ◌<◌, ◌≤◌, ◌^◌, ℤ, pos, ◌+ℤ◌, ◌-ℤ◌, ◌≤ℤ◌, Bool, true, false, List, [], ◌∷◌, ◌++◌, length, reverse, slice_get, Option, Some, None, if◌then◌else◌}
+use Rattle.std.specs.Prelude.{◌≡◌, ℕ, zero, suc, ◌+◌, ◌-◌, ◌<◌, ◌≤◌, ◌^◌, ℤ, pos, ◌+ℤ◌, ◌-ℤ◌, ◌≤ℤ◌, Bool, true, false, List, [], ◌∷◌, ◌++◌, map, length, reverse, slice_get, Option, Some, None, if◌then◌else◌}
 use Rattle.std.specs.declared.cmp.Ordering.{Ordering}
 use Rattle.std.specs.Ordering.{nat_cmp, ordering_then, is_gt, is_lt}
 use Rattle.std.specs.Option.{IsSome}
@@ -8,8 +8,10 @@ use Rattle.std.specs.BTreeMap.{is_at}
 use Rattle.rls_ident.specs.declared.tuple.Tuple.{Tuple}
 use Rattle.rls_ident.specs.Tuples.{offset_of, seq_of}
 use Rattle.rls_ident.specs.Identifiers.{ident_cmp, ident_eq, IsIdent, last_of, shifted, least_offset, greatest_offset}
+use Rattle.rls_runs.specs.Runs.{run_idents}
 use Rattle.rls_steps.specs.declared.key.Key.{Key}
-use Rattle.rls_steps.specs.Labelled.{Names}
+use Rattle.rls_steps.specs.Marks.{numbers_from}
+use Rattle.rls_steps.specs.Labelled.{Names, label_of}
 
 -- names that follow one another: the oldest, whether the others fall, and how many there are
 pub record Stretch : Type 0 where
@@ -102,15 +104,30 @@ abbrev pub IsLabelOf : Stretch → List Tuple → Option ℕ → Type 0
 IsLabelOf r x None = (k : ℕ) → k < r.len → (name_at r k).0 ≡ x → ⊥
 IsLabelOf r x (Some l) = (k : ℕ) × (k < r.len) × (name_at r k ≡ (x, l))
 
--- what the one with this number says, if it is one
-abbrev pub IsLabelIn : List Stretch → Option ℕ → List Tuple → Option ℕ → Type 0
-IsLabelIn rs None x o = o ≡ None
-IsLabelIn rs (Some i) x o = (r : Stretch) × (slice_get rs i ≡ Some r) × IsLabelOf r x o
+-- what a stretch says of the labels of an identifier and of the next ones: none of the first one, or the first label and how many rise from
+-- there
+abbrev pub AreLabelsOf : Stretch → List Tuple → Option (ℕ × ℕ) → Type 0
+AreLabelsOf r x None = IsLabelOf r x None
+AreLabelsOf r x (Some p) = (j : ℕ) → j < p.1 → IsLabelOf r (shifted (pos j) x) (Some (p.0 + j))
 
--- the one with this number, if it is one, doesn't begin among n identifiers from x on
-abbrev pub IsOutside : List Stretch → Option ℕ → List Tuple → ℕ → Type 0
-IsOutside rs None x n = Unit {0}
-IsOutside rs (Some i) x n = (r : Stretch) × (slice_get rs i ≡ Some r) × ((k : ℕ) → k < n → r.first ≡ shifted (pos k) x → ⊥)
+-- what the one with this number says, if it is one
+abbrev pub AreLabelsIn : List Stretch → Option ℕ → List Tuple → Option (ℕ × ℕ) → Type 0
+AreLabelsIn rs None x o = o ≡ None
+AreLabelsIn rs (Some i) x o = (r : Stretch) × (slice_get rs i ≡ Some r) × AreLabelsOf r x o
+
+-- and what names say
+abbrev pub AreLabels : Names → List Tuple → Option (ℕ × ℕ) → Type 0
+AreLabels ns x None = label_of ns x ≡ None
+AreLabels ns x (Some p) = map (label_of ns) (run_idents x p.1) ≡ map Some (numbers_from p.0 p.1)
+
+-- none of n identifiers from one on is in the stretch, if that one isn't
+abbrev pub AreOutside : Stretch → List Tuple → ℕ → Type 0
+AreOutside r x n = IsLabelOf r x None → (j : ℕ) → j < n → IsLabelOf r (shifted (pos j) x) None
+
+-- nor in the one with this number, if it is one
+abbrev pub AreOutsideIn : List Stretch → Option ℕ → List Tuple → ℕ → Type 0
+AreOutsideIn rs None x n = Unit {0}
+AreOutsideIn rs (Some i) x n = (r : Stretch) × (slice_get rs i ≡ Some r) × AreOutside r x n
 
 -- each is one
 abbrev pub AreSound : List Stretch → Type 0

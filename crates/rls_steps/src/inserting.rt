@@ -74,10 +74,6 @@ fn name_run(names: &mut Names, run: &Run, label: u64) -> Result<(), AllocError>
     rely!(let _first = first.last());
     let last = first.shifted(more)?;
     rely!(let _last = last.last());
-    if more == 0 {
-        names.push(last, label)?;
-        return Ok(());
-    }
     names.push_run(NameRun::falling(last, top, run.len()))?;
     Ok(())
 }

@@ -1,24 +1,29 @@
 //! Labels of a replica's characters.
 
-ghost use Rattle.std.specs.Prelude.{◌≡◌, ◌≤◌, ◌<◌, ◌+◌, ◌-◌, ◌++◌, ◌∷◌, [], ℕ, List, length, take, drop, reverse, map, min, slice_get, Some, None, IfOk, OnOk, OnErr};
+ghost use Rattle.std.specs.Prelude.{◌≡◌, ◌≤◌, ◌<◌, ◌+◌, ◌-◌, ◌^◌, ◌++◌, ℕ, List, length, take, drop, reverse, map, min, slice_get, Some, None, IfOk, OnOk};
 ghost use Rattle.rls_ident.specs.declared.tuple.Tuple.{Tuple};
+ghost use Rattle.rls_runs.specs.Runs.{run_idents};
 ghost use Rattle.rls_seen.specs.Over.{placed_over};
 ghost use Rattle.rls_seen.specs.Seen.{Seen, idents_over};
 ghost use Rattle.rls_steps.specs.declared.piece.Piece.TheVariants.{Cut};
-ghost use Rattle.rls_steps.specs.Labelled.{label_of, label_all, new_label, ready_over, cut_piece};
+ghost use Rattle.rls_steps.specs.Marks.{numbers_from};
+ghost use Rattle.rls_steps.specs.Labelled.{Labelled, label_of, label_all, ready_over, cut_piece};
+ghost use Rattle.rls_steps.specs.NameRuns.{AreLabels};
 ghost use Rattle.rls_steps.specs.Tables.{left_in};
 ghost use Rattle.rls_steps.specs.Recorded.{held_by};
 
 use crate::key::Key;
+use crate::name_run::NameRun;
 use crate::names::Names;
 use crate::piece::{Labels, Piece};
-use rls_ident::{EpochName, Ident, rely};
+use rls_doc::Document;
+use rls_ident::{EpochName, rely};
 use rls_replica::Replica;
-use rls_runs::Text;
+use rls_runs::{Run, Runs, Text};
 use std::alloc::{AllocError, Global};
 
-/// Gives a label to each character from a place on that has none, and answers the labels of all of them. It costs a search in the text and
-/// one among the names for each.
+/// Gives a label to each character from a place on that has none, and answers the labels of all of them. It costs a step for each level of
+/// the text and each of its runs there, a few searches among the names for each run of names that they have or get, and a label each.
 pub(crate) fn give(
     replica: &Replica,
     names: &mut Names,
@@ -31,47 +36,101 @@ pub(crate) fn give(
     ensures labels { IfOk result (λ ls. map Some ls.items ≡ map (label_of (reverse names.new)) (take count (drop from (idents_over replica.now)))) }
     ensures front { take (length names.old) names.new ≡ names.old }
 {
-    rely!(replica.sane());
-    let mut labels = Vec::with_capacity(names.alloc(), count as usize)?;
-    'labels: for i in 0..count {
-        let ident = replica.ident_at(from + i)?;
-        let label = give_one(ident, names, next)?;
-        labels.push(label)?;
+    let ids = replica.tree().runs_of(from, count)?;
+    let labels = give_all(&ids, names, next)?;
+    Ok(labels)
+}
+
+// Gives a label to each of these identifiers that has none, and answers the labels of all of them.
+fn give_all(ids: &Runs, names: &mut Names, next: &mut u64) -> Result<Vec<u64>, AllocError>
+    ensures given { OnOk result ((s : Seen) → held_by s next.new names.new ≡ label_all (held_by s next.old names.old) ids.now) }
+    ensures labels { IfOk result (λ ls. (s : Seen) → map Some ls.items ≡ map (label_of (reverse names.new)) ids.now) }
+    ensures front { take (length names.old) names.new ≡ names.old }
+{
+    let total = ids.total();
+    let mut labels = Vec::with_capacity(names.alloc(), total as usize)?;
+    let mut i = 0;
+    'labels: while i < total {
+        i = give_next(ids, names, next, &mut labels, i)?;
     }
     Ok(labels)
 }
 
-// The label of an identifier. If it had none, it gets the next one.
-fn give_one(ident: Ident, names: &mut Names, next: &mut u64) -> Result<u64, AllocError>
-    ensures given { OnOk result ((s : Seen) → held_by s next.new names.new ≡ new_label (label_of (reverse names.old) ident) (held_by s next.old names.old) ident) }
-    ensures label { IfOk result (λ l. label_of (reverse names.new) ident ≡ Some l) }
+// Gives labels to the next identifiers, from a place on, and puts them after the others. Answers the place behind them.
+fn give_next(
+    ids: &Runs,
+    names: &mut Names,
+    next: &mut u64,
+    labels: &mut Vec<u64>,
+    i: u64,
+) -> Result<u64, AllocError>
+    requires place { i < length ids.now }
+    ensures later { IfOk result (λ end. i < end) }
+    ensures within { IfOk result (λ end. end ≤ length ids.now) }
+    ensures given { IfOk result (λ end. (s : Seen) (h : Labelled) → held_by s next.old names.old ≡ label_all h (take i ids.now) → held_by s next.new names.new ≡ label_all h (take end ids.now)) }
+    ensures labels { IfOk result (λ end. (s : Seen) → map Some labels.old.items ≡ map (label_of (reverse names.old)) (take i ids.now) → map Some labels.new.items ≡ map (label_of (reverse names.new)) (take end ids.now)) }
     ensures front { take (length names.old) names.new ≡ names.old }
 {
-    let key = Key { ident };
-    match names.label_of(&key) {
-        Some(label) => Ok(label),
-        None => {
-            let label = name(key.ident, names, next)?;
-            Ok(label)
-        }
+    rely!(let _total = ids.total());
+    let (run, at) = ids.locate(i);
+    let rest = run.part(at, run.len() - at)?;
+    let (first, count) = label_first(&rest, names, next)?;
+    push_labels(labels, first, count)?;
+    Ok(i + count as u64)
+}
+
+// Gives labels to the first identifiers of a run: to those that follow one another in a run of names, or to those that have none.
+// Answers the first label, and how many rise from there.
+fn label_first(run: &Run, names: &mut Names, next: &mut u64) -> Result<(u64, u32), AllocError>
+    ensures some { IfOk result (λ p. 0 < p.1) }
+    ensures most { IfOk result (λ p. p.1 ≤ run.now.1) }
+    ensures room { IfOk result (λ p. p.0 + p.1 ≤ 2 ^ 64) }
+    ensures given { IfOk result (λ p. (s : Seen) → held_by s next.new names.new ≡ label_all (held_by s next.old names.old) (run_idents run.now.0 p.1)) }
+    ensures labels { IfOk result (λ p. AreLabels (reverse names.new) run.now.0 (Some p)) }
+    ensures front { take (length names.old) names.new ≡ names.old }
+{
+    rely!(let _len = run.len());
+    let key = Key {
+        ident: run.first().copy()?,
+    };
+    match names.labels_from(&key, run.len()) {
+        Some(labels) => Ok(labels),
+        None => name_first(run, key, names, next),
     }
 }
 
-// One more name, and its label.
-fn name(ident: Ident, names: &mut Names, next: &mut u64) -> Result<u64, AllocError>
-    ensures names { OnOk result (names.new ≡ names.old ++ (ident, next.old) ∷ []) }
-    ensures next { OnOk result (next.new ≡ next.old + 1) }
-    ensures label { IfOk result (λ l. l ≡ next.old) }
-    ensures stay { OnErr result (names.new ≡ names.old) }
-    ensures err { OnErr result (next.new ≡ next.old) }
+// The same of a run of which the first identifier has no label.
+fn name_first(run: &Run, key: Key, names: &mut Names, next: &mut u64) -> Result<(u64, u32), AllocError>
+    requires key { key.ident ≡ run.now.0 }
+    requires none { label_of (reverse names.old) run.now.0 ≡ None }
+    ensures some { IfOk result (λ p. 0 < p.1) }
+    ensures most { IfOk result (λ p. p.1 ≤ run.now.1) }
+    ensures room { IfOk result (λ p. p.0 + p.1 ≤ 2 ^ 64) }
+    ensures given { IfOk result (λ p. (s : Seen) → held_by s next.new names.new ≡ label_all (held_by s next.old names.old) (run_idents run.now.0 p.1)) }
+    ensures labels { IfOk result (λ p. AreLabels (reverse names.new) run.now.0 (Some p)) }
+    ensures front { take (length names.old) names.new ≡ names.old }
 {
+    rely!(let _len = run.len());
+    let count = names.free_from(&key, run.len())?;
     let label = *next;
-    let Some(more) = label.checked_add(1) else {
+    let Some(more) = label.checked_add(count as u64) else {
         return Err(AllocError);
     };
-    names.push(ident, label)?;
+    names.push_run(NameRun::rising(key.ident, label, count))?;
+    rely!(names.apart());
     *next = more;
-    Ok(label)
+    Ok((label, count))
+}
+
+// So many more labels, which rise from this one on.
+fn push_labels(labels: &mut Vec<u64>, first: u64, count: u32) -> Result<(), AllocError>
+    requires room { first + count ≤ 2 ^ 64 }
+    ensures labels { OnOk result (labels.new.items ≡ labels.old.items ++ numbers_from first count) }
+{
+    'labels: for i in 0..count {
+        labels.push(first + i as u64)?;
+    }
+    Ok(())
 }
 
 /// Gives labels to the characters of a range and to its neighbours, and answers the piece that its deletion leaves.

@@ -1,48 +1,140 @@
-//! Runs of names, looked up by an identifier.
+//! Labels of identifiers, looked up among runs of names.
 
-ghost use Rattle.std.specs.Prelude.{◌<◌, length, IfSome, IsFalse};
-ghost use Rattle.rls_steps.specs.NameRuns.{IsBelow, IsAbove, IsLabelIn, IsLabelOf, IsOutside};
+ghost use Rattle.std.specs.Prelude.{◌≡◌, ℕ, ◌<◌, ◌≤◌, ◌+◌, ◌^◌, length, reverse, None, IfOk, IfSome, IsTrue, pos};
+ghost use Rattle.rls_ident.specs.Identifiers.{shifted};
+ghost use Rattle.rls_steps.specs.Labelled.{label_of};
+ghost use Rattle.rls_steps.specs.NameRuns.{IsBelow, IsAbove, AreLabels, AreLabelsIn, AreOutsideIn, AreSound, named, run_in, run_of};
+ghost use Rattle.rls_steps.specs.Index.{AreApart};
+ghost use Rattle.rls_steps.specs.declared.key.Key as keys;
 
 use crate::key::Key;
 use crate::name_run::NameRun;
-use rls_ident::Ident;
+use rls_ident::{Ident, rely};
+use std::alloc::AllocError;
 use std::collections::BTreeMap;
 use std::ops::Bound;
 
-/// Whether a run begins among so many identifiers from one on.
-pub(crate) fn begins_in(runs: &[NameRun], run: Option<usize>, low: &Ident, len: u32) -> bool
-    requires within { IfSome run (λ i. i < length runs.now) }
-    ensures out { IsFalse result → IsOutside runs.now run low.now len }
+/// The label of an identifier, if it has one.
+pub(crate) fn label_at(runs: &[NameRun], firsts: &BTreeMap<Key, usize>, key: &Key) -> Option<u64>
+    requires sound { AreSound runs.now }
+    requires firsts { (k : keys.Key) → run_in firsts.now.entries k ≡ run_of (reverse runs.now) k.ident }
+    requires apart { AreApart (reverse (named runs.now)) }
+    ensures label { result ≡ label_of (reverse (named runs.now)) key.now.ident }
 {
-    match run {
-        None => false,
-        Some(i) => runs[i].begins_in(low, len),
+    match labels_at(runs, firsts, key, 1) {
+        None => None,
+        Some((label, _)) => Some(label),
     }
 }
 
-/// The label that an identifier has in a run, if it has one there.
-pub(crate) fn label_in(runs: &[NameRun], run: Option<usize>, ident: &Ident) -> Option<u64>
+/// The label of an identifier, if it has one, and how many there are of it and the next ones, of at most so many, with labels that rise.
+pub(crate) fn labels_at(
+    runs: &[NameRun],
+    firsts: &BTreeMap<Key, usize>,
+    key: &Key,
+    most: u32,
+) -> Option<(u64, u32)>
+    requires sound { AreSound runs.now }
+    requires firsts { (k : keys.Key) → run_in firsts.now.entries k ≡ run_of (reverse runs.now) k.ident }
+    requires apart { AreApart (reverse (named runs.now)) }
+    requires some { 0 < most }
+    ensures some { IfSome result (λ p. 0 < p.1) }
+    ensures most { IfSome result (λ p. p.1 ≤ most) }
+    ensures room { IfSome result (λ p. p.0 + p.1 ≤ 2 ^ 64) }
+    ensures labels { AreLabels (reverse (named runs.now)) key.now.ident result }
+{
+    rely!(let _last = key.ident.last());
+    match labels_in(runs, run_below(firsts, key), &key.ident, most) {
+        Some(labels) => Some(labels),
+        None => labels_in(runs, run_above(firsts, key), &key.ident, most),
+    }
+}
+
+/// How many identifiers of so many, from one on that has no name, have none.
+pub(crate) fn free_at(
+    runs: &[NameRun],
+    firsts: &BTreeMap<Key, usize>,
+    key: &Key,
+    most: u32,
+) -> Result<u32, AllocError>
+    requires sound { AreSound runs.now }
+    requires firsts { (k : keys.Key) → run_in firsts.now.entries k ≡ run_of (reverse runs.now) k.ident }
+    requires apart { AreApart (reverse (named runs.now)) }
+    requires none { label_of (reverse (named runs.now)) key.now.ident ≡ None }
+    requires some { 0 < most }
+    ensures some { IfOk result (λ n. 0 < n) }
+    ensures most { IfOk result (λ n. n ≤ most) }
+    ensures free { IfOk result (λ n. (k : ℕ) → k < n → label_of (reverse (named runs.now)) (shifted (pos k) key.now.ident) ≡ None) }
+{
+    rely!(let _last = key.ident.last());
+    let count = outside_in(runs, run_above(firsts, key), &key.ident, most)?;
+    Ok(count)
+}
+
+/// Whether none of so many identifiers, from one on, has a name.
+pub(crate) fn is_free(
+    runs: &[NameRun],
+    firsts: &BTreeMap<Key, usize>,
+    low: &Key,
+    len: u32,
+) -> Result<bool, AllocError>
+    requires sound { AreSound runs.now }
+    requires firsts { (k : keys.Key) → run_in firsts.now.entries k ≡ run_of (reverse runs.now) k.ident }
+    requires apart { AreApart (reverse (named runs.now)) }
+    requires some { 0 < len }
+    ensures free { IfOk result (λ free. IsTrue free → (k : ℕ) → k < len → label_of (reverse (named runs.now)) (shifted (pos k) low.now.ident) ≡ None) }
+{
+    match label_at(runs, firsts, low) {
+        Some(_) => Ok(false),
+        None => {
+            let count = free_at(runs, firsts, low, len)?;
+            Ok(count == len)
+        }
+    }
+}
+
+// How many identifiers of so many, from one on that isn't in a run, come before the least one there.
+fn outside_in(
+    runs: &[NameRun],
+    run: Option<usize>,
+    low: &Ident,
+    most: u32,
+) -> Result<u32, AllocError>
     requires within { IfSome run (λ i. i < length runs.now) }
-    ensures label { IsLabelIn runs.now run ident.now result }
+    requires some { 0 < most }
+    ensures most { IfOk result (λ n. n ≤ most) }
+    ensures some { IfOk result (λ n. AreLabelsIn runs.now run low.now None → 0 < n) }
+    ensures outside { IfOk result (λ n. AreOutsideIn runs.now run low.now n) }
+{
+    match run {
+        None => Ok(most),
+        Some(i) => runs[i].outside_from(low, most),
+    }
+}
+
+// The label that an identifier has in a run, if it is there, and how many there are of it and the next ones, of at most so many, with
+// labels that rise.
+fn labels_in(
+    runs: &[NameRun],
+    run: Option<usize>,
+    ident: &Ident,
+    most: u32,
+) -> Option<(u64, u32)>
+    requires within { IfSome run (λ i. i < length runs.now) }
+    requires some { 0 < most }
+    ensures some { IfSome result (λ p. 0 < p.1) }
+    ensures most { IfSome result (λ p. p.1 ≤ most) }
+    ensures room { IfSome result (λ p. p.0 + p.1 ≤ 2 ^ 64) }
+    ensures labels { AreLabelsIn runs.now run ident.now result }
 {
     match run {
         None => None,
-        Some(i) => label_there(&runs[i], ident),
+        Some(i) => runs[i].labels_from(ident, most),
     }
 }
 
-// The label that an identifier has in a run, if it is one of that.
-fn label_there(run: &NameRun, ident: &Ident) -> Option<u64>
-    ensures label { IsLabelOf run.now ident.now result }
-{
-    match run.find(ident) {
-        None => None,
-        Some(place) => Some(run.label(place)),
-    }
-}
-
-/// The run that begins with the greatest identifier up to this one.
-pub(crate) fn run_below(firsts: &BTreeMap<Key, usize>, key: &Key) -> Option<usize>
+// The run that begins with the greatest identifier up to this one.
+fn run_below(firsts: &BTreeMap<Key, usize>, key: &Key) -> Option<usize>
     ensures below { IsBelow firsts.now.entries key.now result }
 {
     match firsts
@@ -54,8 +146,8 @@ pub(crate) fn run_below(firsts: &BTreeMap<Key, usize>, key: &Key) -> Option<usiz
     }
 }
 
-/// The run that begins with the least identifier from this one on.
-pub(crate) fn run_above(firsts: &BTreeMap<Key, usize>, key: &Key) -> Option<usize>
+// The run that begins with the least identifier from this one on.
+fn run_above(firsts: &BTreeMap<Key, usize>, key: &Key) -> Option<usize>
     ensures above { IsAbove firsts.now.entries key.now result }
 {
     match firsts

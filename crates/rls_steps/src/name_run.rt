@@ -4,7 +4,7 @@ ghost use Rattle.std.specs.Prelude.{◌≡◌, ◌<◌, ◌≤◌, ◌+◌, ◌-
 ghost use Rattle.rls_ident.specs.declared.tuple.Tuple.{Tuple};
 ghost use Rattle.rls_ident.specs.Identifiers.{shifted};
 ghost use Rattle.rls_ident.specs.Lists.{IsIn};
-ghost use Rattle.rls_steps.specs.NameRuns.{IsStretch, name_at, names_in, names_of, names_by, step_by};
+ghost use Rattle.rls_steps.specs.NameRuns.{IsStretch, AreLabelsOf, AreOutside, name_at, names_in, names_of, names_by, step_by};
 
 use rls_ident::{Ident, Spot, rely};
 use std::alloc::AllocError;
@@ -43,6 +43,19 @@ impl NameRun {
             label,
             down: false,
             len: 1,
+        }
+    }
+
+    // Names of which the oldest is this one, where the identifiers and the labels of the others rise. It takes no memory.
+    pub(crate) fn rising(first: Ident, label: u64, len: u32) -> NameRun
+        requires sound { IsStretch first label false len }
+        ensures run { result ≡ record { first = first; label = label; down = false; len = len } }
+    {
+        NameRun {
+            first,
+            label,
+            down: false,
+            len,
         }
     }
 
@@ -129,6 +142,39 @@ impl NameRun {
         place_from(&self.first, ident, self.len)
     }
 
+    // The label of an identifier, if it is one of these, and how many there are of it and the next ones, of at most so many, with labels
+    // that rise. It takes no memory.
+    pub(crate) fn labels_from(&self, ident: &Ident, most: u32) -> Option<(u64, u32)>
+        requires some { 0 < most }
+        ensures some { IfSome result (λ p. 0 < p.1) }
+        ensures most { IfSome result (λ p. p.1 ≤ most) }
+        ensures room { IfSome result (λ p. p.0 + p.1 ≤ 2 ^ 64) }
+        ensures labels { AreLabelsOf self.now ident.now result }
+    {
+        rely!(let _len = self.len());
+        match self.find(ident) {
+            None => None,
+            Some(place) => {
+                let count = self.rest_from(place as u32).min(most);
+                Some((self.label(place), count))
+            }
+        }
+    }
+
+    // How many identifiers there are upwards from the one at a place.
+    fn rest_from(&self, place: u32) -> u32
+        requires place { place < self.now.len }
+        ensures some { 0 < result }
+        ensures room { (name_at self.now place).1 + result ≤ 2 ^ 64 }
+        ensures labels { AreLabelsOf self.now (name_at self.now place).0 (Some ((name_at self.now place).1, result)) }
+    {
+        rely!(let (_len, _first) = (self.len(), self.label(0)));
+        if self.down {
+            return place + 1;
+        }
+        self.len - place
+    }
+
     // The place of a label, if one of these names has it.
     pub(crate) fn find_label(&self, label: u64) -> Option<usize>
         ensures found { IfSome result (λ k. (k < self.now.len) × ((name_at self.now k).1 ≡ label)) }
@@ -144,6 +190,7 @@ impl NameRun {
     // The least identifier and the greatest one.
     pub(crate) fn ends(&self) -> Result<(Ident, Ident), AllocError>
         ensures all { IfOk result (λ e. (k : ℕ) → k < self.now.len → (j : ℕ) × (j < self.now.len) × ((name_at self.now k).0 ≡ shifted (pos j) e.0)) }
+        ensures each { IfOk result (λ e. (j : ℕ) → j < self.now.len → (k : ℕ) × (k < self.now.len) × ((name_at self.now k).0 ≡ shifted (pos j) e.0)) }
         ensures high { IfOk result (λ e. e.1 ≡ shifted (pos (self.now.len - 1)) e.0) }
     {
         let count = self.len();
@@ -211,11 +258,19 @@ impl NameRun {
         Ok((front, Some(rest)))
     }
 
-    // Whether it begins among so many identifiers from one on. It takes no memory.
-    pub(crate) fn begins_in(&self, low: &Ident, len: u32) -> bool
-        ensures out { IsFalse result → (k : ℕ) → k < len → self.now.first ≡ shifted (pos k) low.now → ⊥ }
+    // How many identifiers of so many, from one on that isn't one of these, come before the least of these.
+    pub(crate) fn outside_from(&self, low: &Ident, most: u32) -> Result<u32, AllocError>
+        requires some { 0 < most }
+        ensures most { IfOk result (λ n. n ≤ most) }
+        ensures some { IfOk result (λ n. AreLabelsOf self.now low.now None → 0 < n) }
+        ensures outside { IfOk result (λ n. AreOutside self.now low.now n) }
     {
-        place_from(low, &self.first, len).is_some()
+        rely!(let (_len, _low) = (self.len(), low.last()));
+        let (least, _) = self.ends()?;
+        match place_from(low, &least, most) {
+            None => Ok(most),
+            Some(place) => Ok(place as u32),
+        }
     }
 
     // Takes one more name, if that goes on from the last one.

@@ -1,10 +1,10 @@
 //! Names of characters: identifiers with their labels, which are looked up by either.
 
-ghost use Rattle.std.specs.Prelude.{◌≡◌, ◌<◌, ◌≤◌, ◌+◌, ◌-◌, ◌++◌, ◌∷◌, [], ℕ, List, length, take, reverse, slice_get, slice_index, Some, None, IfOk, IfSome, OnOk, OnErr, IsTrue, IsFalse, pos};
+ghost use Rattle.std.specs.Prelude.{◌≡◌, ◌<◌, ◌≤◌, ◌+◌, ◌-◌, ◌++◌, ◌∷◌, [], ℕ, List, length, take, reverse, slice_get, slice_index, Some, None, IfOk, IfSome, OnOk, OnErr, IsTrue, IsFalse, pos, ◌^◌};
 ghost use Rattle.rls_ident.specs.declared.tuple.Tuple.{Tuple};
 ghost use Rattle.rls_ident.specs.Identifiers.{shifted};
 ghost use Rattle.rls_steps.specs.Labelled.{label_of};
-ghost use Rattle.rls_steps.specs.NameRuns.{AreKept, AreSound, name_at, names_in, names_of, named, starts_of, run_in, run_of};
+ghost use Rattle.rls_steps.specs.NameRuns.{AreKept, AreLabels, AreSound, name_at, names_in, names_of, named, starts_of, run_in, run_of};
 ghost use Rattle.rls_steps.specs.Index.{AreApart, newest_at, tail_at};
 ghost use Rattle.rls_steps.specs.Bounds.{AreBounded, IsLatest, IsMore};
 ghost use Rattle.rls_steps.specs.Intervals.{IsBetween};
@@ -15,7 +15,7 @@ use crate::bound::Bounds;
 use crate::interval::{Interval, Intervals, interval_in, push_interval};
 use crate::key::Key;
 use crate::latest::newest_in;
-use crate::lookup::{begins_in, label_in, run_above, run_below};
+use crate::lookup::{free_at, is_free, label_at, labels_at};
 use crate::name_run::NameRun;
 use rls_ident::{Ident, rely};
 use std::alloc::{AllocError, Global};
@@ -91,6 +91,29 @@ impl Names {
         ensures label { result ≡ label_of (reverse self.now) key.now.ident }
     {
         label_at(&self.runs, &self.firsts, key)
+    }
+
+    // The label of an identifier, if it has one, and how many there are of it and the next ones, of at most so many, with labels that rise,
+    // as far as one run of names tells. It costs two searches among the runs.
+    pub(crate) fn labels_from(&self, key: &Key, most: u32) -> Option<(u64, u32)>
+        requires some { 0 < most }
+        ensures some { IfSome result (λ p. 0 < p.1) }
+        ensures most { IfSome result (λ p. p.1 ≤ most) }
+        ensures room { IfSome result (λ p. p.0 + p.1 ≤ 2 ^ 64) }
+        ensures labels { AreLabels (reverse self.now) key.now.ident result }
+    {
+        labels_at(&self.runs, &self.firsts, key, most)
+    }
+
+    // How many identifiers of so many, from one on that has no label, have none. It costs a search among the runs.
+    pub(crate) fn free_from(&self, key: &Key, most: u32) -> Result<u32, AllocError>
+        requires none { label_of (reverse self.now) key.now.ident ≡ None }
+        requires some { 0 < most }
+        ensures some { IfOk result (λ n. 0 < n) }
+        ensures most { IfOk result (λ n. n ≤ most) }
+        ensures free { IfOk result (λ n. (k : ℕ) → k < n → label_of (reverse self.now) (shifted (pos k) key.now.ident) ≡ None) }
+    {
+        free_at(&self.runs, &self.firsts, key, most)
     }
 
     // The place of a label's newest name, if it has one. It costs a search.
@@ -196,6 +219,11 @@ impl Names {
         ensures names { OnOk result (self.new ≡ self.old ++ names_of run) }
         ensures stay { OnErr result (self.new ≡ self.old) }
     {
+        if run.len() == 1 {
+            let label = run.label(0);
+            self.push(run.into_first(), label)?;
+            return Ok(());
+        }
         let count = self.len();
         match self.push_fronts(run) {
             Ok(()) => Ok(()),
@@ -224,10 +252,10 @@ impl Names {
         ensures front { take (length self.old) self.new ≡ self.old }
         ensures fewer { IfOk result (λ rest. length (names_in rest) < run.len) }
     {
-        let (low, high) = run.ends()?;
+        let (low, _) = run.ends()?;
         let low = Key { ident: low };
-        let high = Key { ident: high };
-        if !is_free(&self.runs, &self.firsts, &low, &high, run.len() as u32) {
+        let free = is_free(&self.runs, &self.firsts, &low, run.len() as u32)?;
+        if !free {
             return Err(AllocError);
         }
         self.add_front(run)
@@ -289,36 +317,6 @@ impl Names {
             self.pop();
         }
     }
-}
-
-// The label of an identifier, if it has one.
-fn label_at(runs: &[NameRun], firsts: &BTreeMap<Key, usize>, key: &Key) -> Option<u64>
-    requires sound { AreSound runs.now }
-    requires firsts { (k : keys.Key) → run_in firsts.now.entries k ≡ run_of (reverse runs.now) k.ident }
-    requires apart { AreApart (reverse (named runs.now)) }
-    ensures label { result ≡ label_of (reverse (named runs.now)) key.now.ident }
-{
-    rely!(let _last = key.ident.last());
-    match label_in(runs, run_below(firsts, key), &key.ident) {
-        Some(label) => Some(label),
-        None => label_in(runs, run_above(firsts, key), &key.ident),
-    }
-}
-
-// Whether none of so many identifiers, from one to another, has a name.
-fn is_free(runs: &[NameRun], firsts: &BTreeMap<Key, usize>, low: &Key, high: &Key, len: u32) -> bool
-    requires sound { AreSound runs.now }
-    requires firsts { (k : keys.Key) → run_in firsts.now.entries k ≡ run_of (reverse runs.now) k.ident }
-    requires apart { AreApart (reverse (named runs.now)) }
-    requires some { 0 < len }
-    requires high { high.now.ident ≡ shifted (pos (len - 1)) low.now.ident }
-    ensures free { IsTrue result → (k : ℕ) → k < len → label_of (reverse (named runs.now)) (shifted (pos k) low.now.ident) ≡ None }
-{
-    rely!(let _last = low.ident.last());
-    if label_at(runs, firsts, low).is_some() || label_at(runs, firsts, high).is_some() {
-        return false;
-    }
-    !begins_in(runs, run_above(firsts, low), &low.ident, len)
 }
 
 // The name at a place.

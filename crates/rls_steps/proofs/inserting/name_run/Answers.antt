@@ -5,7 +5,7 @@ use Rattle.rls_runs.specs.Runs.{run_idents}
 use Rattle.rls_runs.proofs.RunOrder.{run_some}
 use Rattle.rls_steps.specs.Marks.{numbers_from}
 use Rattle.rls_steps.specs.NameRuns.{IsStretch}
-use Rattle.rls_steps.proofs.FreeRuns.{falling_named, one_named}
+use Rattle.rls_steps.proofs.FreeRuns.{falling_named}
 use Rattle.rls_steps.proofs.Stretches.{down_within}
 use Rattle.rls_steps.proofs.inserting.name_run.Goals as goal
 
@@ -21,14 +21,6 @@ falling-requires c =
     let size' = c.len.ensures.len in
     let all : more + 1 ≡ c.len.result = omega (arith, some, size, size') in
     record { sound = subst (λ n. IsStretch x c.in-Some.top true n) all (down_within x c.first-first.result.now c.in-Some.top c.args.label more c.last-last.ensures.ident first.ident c.in_ok-last.ensures.shifted bounded top) }
-
-pub returns-then-more-eq0-clause-ok : goal.returns-then-more-eq0-clause-ok
-returns-then-more-eq0-clause-ok c =
-    let run = c.args.run.now in
-    let size = c.len-more.ensures.len in
-    let last = c.in_ok-last.ensures.shifted
-    ∙ (ap (λ m. shifted (pos (m - 1)) c.first-first.result.now) size ∙ ap (shifted (pos (run.1 - 1))) c.first-first.ensures.first) in
-    one_named c.args.names.now c.push.new.self run.0 c.in_ok-last.last c.args.label run.1 c.in_ok-push.ensures.names last (omega (arith, size, c.if-more-eq0.true)) (run_some run c.first-first.ensures.run)
 
 pub returns-clause-ok : goal.returns-clause-ok
 returns-clause-ok c =

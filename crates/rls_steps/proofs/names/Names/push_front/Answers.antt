@@ -12,5 +12,5 @@ add_front-requires c = record {
       let short = w.1 in
       let size = c.len.ensures.len in
       ap (λ (ks : Names). label_of (reverse ks) (name_at c.args.run k).0) (sym c.self.view_is)
-      ∙ (ap (λ (qs : List Stretch). label_of (reverse (named qs)) (name_at c.args.run k).0) (sym c.deref.ensures.value) ∙ (ap (label_of (reverse (named rs))) w.2 ∙ c.is_free.ensures.free c.if-not-is_free.false w.0 (omega (arith, short, size))));
+      ∙ (ap (λ (qs : List Stretch). label_of (reverse (named qs)) (name_at c.args.run k).0) (sym c.deref.ensures.value) ∙ (ap (label_of (reverse (named rs))) w.2 ∙ c.in_ok-free.ensures.free c.if-not-free.false w.0 (omega (arith, short, size))));
 }
