@@ -22,10 +22,11 @@ use Rattle.rls_seen.specs.Seen.{Seen, idents_over}
 use Rattle.rls_seen.proofs.Needed.{total_room}
 use Rattle.rls_undo.proofs.Finding.{found_at, missed_at}
 use Rattle.rls_steps.specs.declared.interval.Interval.{Interval}
-use Rattle.rls_steps.specs.NameRuns.{Stretch, label_by, name_at, names_of}
+use Rattle.rls_steps.specs.NameRuns.{Stretch, IsStretch, label_by, name_at, names_of}
 use Rattle.rls_steps.specs.Bounds.{AreCounted, HasBetween, HasLabel, HaveNone, IsMore}
 use Rattle.rls_steps.specs.Intervals.{AreBetween, AreNoted, IsBetween, LiesIn}
 use Rattle.rls_steps.proofs.Bounded.{snoc_get, last_of_snoc, at_end, has_more, has_snoc, has_short, take_got}
+use Rattle.rls_steps.proofs.LabelSteps.{named_further}
 use Rattle.rls_steps.proofs.Stretches.{in_names, name_in}
 use Rattle.rls_steps.proofs.Tabling.{once, place_is}
 
@@ -54,16 +55,21 @@ shifted_not_less j k x i h = bool_cases (nat_lt j k)
     let same : k ≡ j = omega (arith, h, most) in
     not_less_same (shifted (pos k) x) (shifted (pos j) x) (ap (λ m. shifted (pos m) x) same))
 
--- the names of a run lie between its ends
-pub run_between : (r : Stretch) (v : Interval) → IsIdent v.low → ((k : ℕ) → k < r.len → (j : ℕ) × (j < r.len) × ((name_at r k).0 ≡ shifted (pos j) v.low)) → v.high ≡ shifted (pos (r.len - 1)) v.low → (n : List Tuple × ℕ) → IsIn n (names_of r) → IsBetween v n.0
-run_between r v i all top n p =
+-- the names of a run from one label to another lie between the identifiers of these
+pub part_between : (r : Stretch) (v : Interval) (from to : ℕ) → IsStretch r.first r.label r.down r.len → IsIdent v.low → from < r.len → to < r.len → v.low ≡ (name_at r from).0 → v.high ≡ (name_at r to).0 → (n : List Tuple × ℕ) → IsIn n (names_of r) →
+    (name_at r from).1 ≤ n.1 → n.1 ≤ (name_at r to).1 → IsBetween v n.0
+part_between r v from to s i a b e f n p least most =
     let w = in_names r.down r.first r.label 0 r.len n p in
     let z : w.0 ≡ 0 + w.0 = omega arith in
-    let q = all w.0 w.1 in
-    let short = q.1 in
-    let name : n.0 ≡ shifted (pos q.0) v.low = sym (ap (λ (m : List Tuple × ℕ). m.0) (ap (name_at r) z ∙ w.2)) ∙ q.2 in (
-      ap (λ y. ident_lt y v.low) name ∙ (ap (ident_lt (shifted (pos q.0) v.low)) (sym (shifted_none v.low)) ∙ shifted_not_less 0 q.0 v.low i (omega arith)),
-      ap (λ y. ident_lt y n.0) top ∙ (ap (ident_lt (shifted (pos (r.len - 1)) v.low)) name ∙ shifted_not_less q.0 (r.len - 1) v.low i (omega (arith, short))),
+    let is : name_at r w.0 ≡ n = ap (name_at r) z ∙ w.2 in
+    let label = ap (λ (m : List Tuple × ℕ). m.1) is in
+    let low = (name_at r from).1 in
+    let k = (name_at r w.0).1 - low in
+    let m = (name_at r to).1 - low in
+    let x : n.0 ≡ shifted (pos k) v.low = sym (ap (λ (q : List Tuple × ℕ). q.0) is) ∙ (named_further r from w.0 s a w.1 (omega (arith, least, label)) ∙ ap (shifted (pos k)) (sym e)) in
+    let y : v.high ≡ shifted (pos m) v.low = f ∙ (named_further r from to s a b (omega (arith, least, most)) ∙ ap (shifted (pos m)) (sym e)) in (
+      ap (λ u. ident_lt u v.low) x ∙ (ap (ident_lt (shifted (pos k) v.low)) (sym (shifted_none v.low)) ∙ shifted_not_less 0 k v.low i (omega arith)),
+      ap (λ u. ident_lt u n.0) y ∙ (ap (ident_lt (shifted (pos m) v.low)) x ∙ shifted_not_less k m v.low i (omega (arith, most, label))),
     )
 
 -- ---- the labels of a run
@@ -171,7 +177,7 @@ noted_more rs r vs us m low high v e o own between f =
 -- ---- the interval of the names that labels have
 
 pub all_between : (rs : List Stretch) (vs : List (Option (Box Interval Global))) (count low high before : ℕ) (r : Stretch) (w : Option (Box Interval Global)) (v : Interval) (first : Bool) → AreNoted rs vs → 0 < count → slice_get rs (count - 1) ≡ Some r → slice_get vs (count - 1) ≡ Some w →
-    ((m : ℕ) → low ≤ m → m ≤ high → HasLabel rs (count - 1) m) → (first ≡ true → before ≡ 0) → ((m : ℕ) → HasLabel rs (count - 1) m → HaveNone rs before (count - 1) m m) → ((n : List Tuple × ℕ) → IsIn n (names_of r) → IsBetween v n.0) →
+    ((m : ℕ) → low ≤ m → m ≤ high → HasLabel rs (count - 1) m) → (first ≡ true → before ≡ 0) → ((m : ℕ) → HasLabel rs (count - 1) m → HaveNone rs before (count - 1) m m) → ((n : List Tuple × ℕ) → IsIn n (names_of r) → low ≤ n.1 → n.1 ≤ high → IsBetween v n.0) →
     (first ≡ false → (x : List Tuple) → LiesIn w x → IsBetween v x) → (j : ℕ) (s : Stretch) (n : List Tuple × ℕ) → j < count → slice_get rs j ≡ Some s → IsIn n (names_of s) → low ≤ n.1 → n.1 ≤ high → IsBetween v n.0
 all_between rs vs count low high before r w v first noted some g u has start none own more j s n h k p least most = bool_cases (nat_lt j (count - 1))
     (λ t. let less = lt_is j (count - 1) t in
@@ -181,7 +187,7 @@ all_between rs vs count low high before r w v first noted some g u has start non
     (λ t. let over = not_lt_is j (count - 1) t in
     let same : j ≡ count - 1 = omega (arith, over, h, some) in
     let it : r ≡ s = some_is r s (sym g ∙ (ap (slice_get rs) (sym same) ∙ k)) in
-    own n (subst (λ (q : Stretch). IsIn n (names_of q)) (sym it) p))
+    own n (subst (λ (q : Stretch). IsIn n (names_of q)) (sym it) p) least most)
 
 -- no later run has the labels
 pub between_more : (rs : List Stretch) (count low high low' high' m : ℕ) (o : Option (Box Interval Global)) → length rs ≡ m → HaveNone rs count (length rs) low' high' → low' ≤ low → high ≤ high' → AreBetween rs count low high o → AreBetween rs m low high o

@@ -1,19 +1,18 @@
 -- The newest name of a label, run by run.
-use Rattle.std.proofs.Common.{◌≡◌, ℕ, zero, suc, ◌+◌, ◌-◌, ◌<◌, ◌≤◌, Bool, true, false, List, [], ◌∷◌, ◌++◌, length, length-append, take, drop, inl, inr, ⊎_elim, refl, sym, ap, ◌∙◌, subst, append_assoc, arith}
+use Rattle.std.proofs.Common.{◌≡◌, ℕ, zero, suc, ◌+◌, ◌-◌, ◌<◌, ◌≤◌, Bool, false, List, [], ◌∷◌, ◌++◌, length, length-append, take, drop, inl, inr, ⊎_elim, refl, sym, ap, ◌∙◌, subst, append_assoc, arith}
 use Rattle.std.specs.Prelude.{◌==◌, nat_lt, reverse, slice_get, Some, if◌then◌else◌}
 use Rattle.std.proofs.lemmas.Option.{slice_get_within}
 use Rattle.std.proofs.Math.Seq.{take-append-add}
 use Rattle.std.proofs.lemmas.List.{reverse-append, reverse-reverse, length-reverse, length-take, take-append-le}
 use Rattle.rls_ident.specs.declared.tuple.Tuple.{Tuple}
-use Rattle.rls_ident.specs.Tuples.{offset_of}
-use Rattle.rls_ident.specs.Identifiers.{last_of}
 use Rattle.rls_ident.specs.Lists.{IsIn}
 use Rattle.rls_ident.proofs.Members.{bool_cases, lt_is, not_lt_is, eq_is, eq_test, neq_test, some_is, in_split}
 use Rattle.rls_steps.specs.Labelled.{Names}
-use Rattle.rls_steps.specs.NameRuns.{Stretch, IsStretch, IsWithin, AreSound, label_by, name_by, names_by, name_at, names_of, named, starts_of}
+use Rattle.rls_steps.specs.NameRuns.{Stretch, AreSound, label_by, name_by, names_by, name_at, names_of, named, starts_of}
 use Rattle.rls_steps.specs.Index.{newest_at, tail_at}
 use Rattle.rls_steps.specs.Bounds.{HaveNone, IsLatest}
 use Rattle.rls_steps.proofs.Giving.{reverse_snoc, front_stays, front_whole}
+use Rattle.rls_steps.proofs.LabelSteps.{labels_apart}
 use Rattle.rls_steps.proofs.Stretches.{names_long, names_suc, in_names, in_named, name_in, named_snoc, reverse_cons, reverse_in, sound_at}
 use Rattle.rls_steps.proofs.Bounded.{take_got}
 use Rattle.rls_steps.proofs.Indexing.{tail_short, placed_name}
@@ -25,19 +24,6 @@ newest_skip : (xs ys : Names) (l : ℕ) → ((n : List Tuple × ℕ) → IsIn n 
 newest_skip [] ys l f = refl
 newest_skip (x ∷ xs) ys l f =
     ap (λ (c : Bool). if c then Some (length (xs ++ ys)) else newest_at (xs ++ ys) l) (neq_test x.1 l (f x (inl refl))) ∙ newest_skip xs ys l (λ n p. f n (inr p))
-
--- labels of a run are apart
-labels_apart : (r : Stretch) (k m : ℕ) → IsStretch r.first r.label r.down r.len → k < r.len → m < r.len → (name_at r k).1 ≡ (name_at r m).1 → k ≡ m
-labels_apart r k m s h g e = go r.down refl s.within
-  where
-    go : (d : Bool) → r.down ≡ d → IsWithin r.down (offset_of (last_of r.first)) r.label r.len → k ≡ m
-    go false q w =
-        let same : r.label + k ≡ r.label + m = ap (λ (c : Bool). label_by c r.label k) (sym q) ∙ (e ∙ ap (λ (c : Bool). label_by c r.label m) q) in
-        omega (arith, same)
-    go true q w =
-        let same : r.label - k ≡ r.label - m = ap (λ (c : Bool). label_by c r.label k) (sym q) ∙ (e ∙ ap (λ (c : Bool). label_by c r.label m) q) in
-        let room = (subst (λ (c : Bool). IsWithin c (offset_of (last_of r.first)) r.label r.len) q w).1 in
-        omega (arith, same, room, h, g)
 
 -- the name of a run
 newest_here : (d : Bool) (x : List Tuple) (l m k : ℕ) (ys : Names) → k < m → ((j : ℕ) → j < m → label_by d l j ≡ label_by d l k → j ≡ k) → newest_at (reverse (names_by d x l 0 m) ++ ys) (label_by d l k) ≡ Some (length ys + k)

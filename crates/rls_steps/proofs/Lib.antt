@@ -16,6 +16,7 @@ pub mod Stacks
 pub mod Zipping
 pub mod Widths
 pub mod Stretches
+pub mod LabelSteps
 pub mod CutRuns
 pub mod RunLookups
 pub mod Bounded

@@ -1,10 +1,10 @@
 //! Between which identifiers the names lie that labels had before.
 
-ghost use Rattle.std.specs.Prelude.{◌≡◌, ◌++◌, ◌∷◌, [], ℕ, List, length, false, IfOk, IfSome, OnOk};
+ghost use Rattle.std.specs.Prelude.{◌≡◌, ◌<◌, ◌≤◌, ◌++◌, ◌∷◌, [], ℕ, List, length, false, IfOk, IfSome, OnOk};
 ghost use Rattle.rls_ident.specs.declared.tuple.Tuple.{Tuple};
 ghost use Rattle.rls_ident.specs.Identifiers.{ident_lt};
 ghost use Rattle.rls_ident.specs.Lists.{IsIn};
-ghost use Rattle.rls_steps.specs.NameRuns.{Stretch, names_of};
+ghost use Rattle.rls_steps.specs.NameRuns.{AreSound, IsStretch, Stretch, name_at, names_of};
 ghost use Rattle.rls_steps.specs.Bounds.{AreBounded, HasBetween};
 ghost use Rattle.rls_steps.specs.Intervals.{AreBetween, AreNoted, IsBetween, LiesIn};
 
@@ -33,6 +33,7 @@ pub(crate) fn interval_in(
     low: u64,
     high: u64,
 ) -> Result<Option<Box<Interval>>, AllocError>
+    requires sound { AreSound runs.now }
     requires bounded { AreBounded runs.now bounds.now }
     requires noted { AreNoted runs.now intervals.now.items }
     ensures between { IfOk result (λ o. AreBetween runs.now count low high o) }
@@ -41,11 +42,9 @@ pub(crate) fn interval_in(
         return Ok(None);
     }
     let last = count - 1;
-    let (least, greatest) = runs[last].labels();
-    if low < least || greatest < high {
+    let Some(own) = interval_of(&runs[last], low, high)? else {
         return Ok(None);
-    }
-    let own = interval_of(&runs[last])?;
+    };
     let first = bounds.count_before(last) == 0;
     match joined(own, first, &intervals[last])? {
         None => Ok(None),
@@ -56,13 +55,23 @@ pub(crate) fn interval_in(
     }
 }
 
-// The interval of a run's names.
-fn interval_of(run: &NameRun) -> Result<Interval, AllocError>
-    ensures between { IfOk result (λ v. (n : List Tuple × ℕ) → IsIn n (names_of run.now) → IsBetween v n.0) }
+// The interval of the names that labels from one to another have in a run, if it has these two, and so each between them.
+fn interval_of(run: &NameRun, low: u64, high: u64) -> Result<Option<Interval>, AllocError>
+    requires sound { IsStretch run.now.first run.now.label run.now.down run.now.len }
+    ensures low { IfOk result (λ o. IfSome o (λ _. (k : ℕ) × (k < run.now.len) × ((name_at run.now k).1 ≡ low))) }
+    ensures high { IfOk result (λ o. IfSome o (λ _. (k : ℕ) × (k < run.now.len) × ((name_at run.now k).1 ≡ high))) }
+    ensures between { IfOk result (λ o. IfSome o (λ v. (n : List Tuple × ℕ) → IsIn n (names_of run.now) → low ≤ n.1 → n.1 ≤ high → IsBetween v n.0)) }
 {
-    let (low, high) = run.ends()?;
+    let Some(from) = run.find_label(low) else {
+        return Ok(None);
+    };
+    let Some(to) = run.find_label(high) else {
+        return Ok(None);
+    };
+    let low = run.ident(from)?;
     rely!(let _low = low.last());
-    Ok(Interval { low, high })
+    let high = run.ident(to)?;
+    Ok(Some(Interval { low, high }))
 }
 
 // An interval that has what another one has, too, if that is known. If there is nothing before, it is the same.
