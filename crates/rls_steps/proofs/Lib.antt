@@ -26,6 +26,7 @@ pub mod LabelRuns
 pub mod FreeRuns
 pub mod Walking
 pub mod Found
+pub mod Rows
 pub mod Parting
 pub mod Readying
 pub mod Cutting

@@ -116,7 +116,7 @@ run_within ns i r h some =
     let rest = length-drop i ns in
     omega (arith, size, long, most, rest, some)
 
-take_one : {A : Type 0} (xs : List A) (i : ℕ) (x : A) → slice_get xs i ≡ Some x → take 1 (drop i xs) ≡ x ∷ []
+pub take_one : {A : Type 0} (xs : List A) (i : ℕ) (x : A) → slice_get xs i ≡ Some x → take 1 (drop i xs) ≡ x ∷ []
 take_one [] i x g = absurd (cc)
 take_one (y ∷ ys) zero x g = let e : y ≡ x = cc in ap (λ z. z ∷ []) e
 take_one (y ∷ ys) (suc i) x g = take_one ys i x g

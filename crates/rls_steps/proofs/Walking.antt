@@ -133,11 +133,11 @@ elsewhere_older xs ns i n ms found new r a t h w = ⊎_elim
 pub elsewhere_next : (xs : List (List Tuple)) (ns : Names) (i : ℕ) (n : List Tuple × ℕ) (ms : Names) (found next : Option ℕ) → tail_at ns i ≡ n ∷ ms → AreElsewhere xs ms found → IsAfter xs n ms found next → AreElsewhere xs (names_from ns next) found
 elsewhere_next xs ns i n ms found next t h a = elsewhere_fewer xs ms (names_from ns next) found h (left_older xs ns i n ms found t next a)
 
-unlisted : (r : Result ℕ ℕ) → ((k : ℕ) → r ≡ Ok k → ⊥) → place_list r ≡ []
+pub unlisted : (r : Result ℕ ℕ) → ((k : ℕ) → r ≡ Ok k → ⊥) → place_list r ≡ []
 unlisted (Ok at) f = absurd (f at refl)
 unlisted (Err at) f = refl
 
-none_named : (xs : List (List Tuple)) (l : ℕ) (ms : Names) → ((m : List Tuple × ℕ) (k : ℕ) → IsIn m ms → m.1 ≡ l → place_of m.0 xs ≡ Ok k → ⊥) → named_places xs l ms ≡ []
+pub none_named : (xs : List (List Tuple)) (l : ℕ) (ms : Names) → ((m : List Tuple × ℕ) (k : ℕ) → IsIn m ms → m.1 ≡ l → place_of m.0 xs ≡ Ok k → ⊥) → named_places xs l ms ≡ []
 none_named xs l [] f = refl
 none_named xs l (m ∷ ms) f =
     let here = place_list (place_of m.0 xs) in

@@ -7,6 +7,7 @@ pub mod NameRuns
 pub mod Index
 pub mod Bounds
 pub mod Intervals
+pub mod Rows
 pub mod Indexed
 pub mod StepLaws
 pub mod Courses

@@ -1,29 +1,32 @@
 //! Where labels stand in a text.
 
-ghost use Rattle.std.specs.Prelude.{◌≡◌, ◌<◌, ◌^◌, ◌+◌, ◌++◌, ◌∷◌, [], ℕ, reverse, Some, None, Ok, IfOk, OnOk, IfSome, List, length, false, ◌⊎◌, IsTrue};
+ghost use Rattle.std.specs.Prelude.{◌≡◌, ◌<◌, ◌^◌, ◌+◌, ◌++◌, ◌∷◌, [], ℕ, reverse, Some, None, Ok, IfOk, OnOk, IfSome, List, length, false, ◌⊎◌, IsTrue, ◌≤◌, take, drop, slice_get, slice_index, pos};
 ghost use Rattle.rls_ident.specs.declared.tuple.Tuple.{Tuple};
-ghost use Rattle.rls_ident.specs.Identifiers.{ident_lt};
-ghost use Rattle.rls_runs.specs.Places.{below_count};
+ghost use Rattle.rls_ident.specs.Identifiers.{ident_lt, shifted};
 ghost use Rattle.rls_runs.specs.Runs.{place_of};
 ghost use Rattle.rls_seen.specs.Seen.{idents_over};
 ghost use Rattle.rls_undo.specs.Plans.{put_place, ranges_of};
-ghost use Rattle.rls_steps.specs.Marks.{marks, label_places, label_place};
+ghost use Rattle.rls_steps.specs.Marks.{marks, label_places, label_place, numbers_from};
 ghost use Rattle.rls_steps.specs.Labelled.{marked_by};
 ghost use Rattle.rls_steps.specs.Index.{tail_at, place_list, named_places, all_places, IsAfter};
 ghost use Rattle.rls_steps.specs.Intervals.{IsBetween};
+ghost use Rattle.rls_steps.specs.Rows.{LiesBefore};
 ghost use Rattle.rls_steps.specs.Courses.{ident_of, below_or_none, place_over, ranges_over};
 ghost use Rattle.rls_steps.specs.Recorded.{held_by};
 
 use crate::interval::Interval;
 use crate::names::Names;
+use rls_doc::Document;
 use rls_ident::{Ident, rely};
 use rls_replica::Replica;
+use rls_runs::Run;
 use std::alloc::AllocError;
 
 /// The maximal ranges of the places where one of these labels stands: each as its first place and its length, the last range first.
 ///
-/// It costs a few searches in the text for each of these labels; where other characters stand between the places that one of them had, one
-/// for each of its names.
+/// It costs a few searches for each row of these labels: they follow one another, their newest names are identifiers of one run, and these
+/// stand in the text one behind another. Besides it costs a few steps for each label; and where other characters stand between the places
+/// that one of them had, a search for each of its names.
 pub(crate) fn ranges(
     replica: &Replica,
     names: &Names,
@@ -53,10 +56,141 @@ fn all_places(replica: &Replica, names: &Names, labels: &[u64]) -> Result<Vec<u6
     ensures places { IfOk result (λ ps. ps.items ≡ all_places (idents_over replica.now) labels.now (reverse names.now)) }
 {
     let mut places = Vec::new(names.alloc());
-    'labels: for i in 0..labels.len() {
-        push_places(&mut places, replica, names, labels[i])?;
+    let mut apart = 0;
+    let mut i = 0;
+    'labels: while i < labels.len() {
+        i = push_next(&mut places, replica, names, labels, i, &mut apart)?;
     }
     Ok(places)
+}
+
+// Where identifiers of the labels from one on stand: of as many as are found at once, or else of one. Answers the place behind these labels.
+fn push_next(
+    places: &mut Vec<u64>,
+    replica: &Replica,
+    names: &Names,
+    labels: &[u64],
+    i: usize,
+    apart: &mut usize,
+) -> Result<usize, AllocError>
+    requires place { i < length labels.now }
+    ensures later { IfOk result (λ end. i < end) }
+    ensures places { IfOk result (λ end. places.new.items ++ all_places (idents_over replica.now) (drop end labels.now) (reverse names.now) ≡ places.old.items ++ all_places (idents_over replica.now) (drop i labels.now) (reverse names.now)) }
+    ensures within { IfOk result (λ end. end ≤ length labels.now) }
+{
+    match row_places(replica, names, labels, i, apart)? {
+        None => {
+            push_places(places, replica, names, labels[i])?;
+            Ok(i + 1)
+        }
+        Some((at, count)) => {
+            push_row(places, at, count)?;
+            Ok(i + count as usize)
+        }
+    }
+}
+
+// So many places, from one on.
+fn push_row(places: &mut Vec<u64>, at: u64, count: u32) -> Result<(), AllocError>
+    requires end { at + count ≤ 2 ^ 64 }
+    ensures places { OnOk result (places.new.items ≡ places.old.items ++ numbers_from at count) }
+{
+    'places: for i in 0..count {
+        places.push(at + i as u64)?;
+    }
+    Ok(())
+}
+
+// Where the labels from one on follow one another, and their newest names stand in the text one behind another, and no other name of theirs
+// does: the place of the first one, and how many there are, as far as that is seen at once. It isn't looked for before a place of the list,
+// which goes behind a row of which other names may be in the text.
+fn row_places(
+    replica: &Replica,
+    names: &Names,
+    labels: &[u64],
+    i: usize,
+    apart: &mut usize,
+) -> Result<Option<(u64, u32)>, AllocError>
+    requires place { i < length labels.now }
+    ensures some { IfOk result (λ o. IfSome o (λ p. 0 < p.1)) }
+    ensures within { IfOk result (λ o. IfSome o (λ p. i + p.1 ≤ length labels.now)) }
+    ensures room { IfOk result (λ o. IfSome o (λ p. p.0 + p.1 < 2 ^ 64)) }
+    ensures places { IfOk result (λ o. IfSome o (λ p. all_places (idents_over replica.now) (drop i labels.now) (reverse names.now) ≡ numbers_from p.0 p.1 ++ all_places (idents_over replica.now) (drop (i + p.1) labels.now) (reverse names.now))) }
+{
+    rely!(replica.sane());
+    rely!(names.apart());
+    if i < *apart || !goes_on(labels, i, 1) {
+        return Ok(None);
+    }
+    let most = (labels.len() - i).min(u32::MAX as usize) as u32;
+    let Some(row) = names.row_from(labels[i], most)? else {
+        return Ok(None);
+    };
+    if !is_clear(replica, &row.before) {
+        *apart = i.saturating_add(row.run.len() as usize);
+        return Ok(None);
+    }
+    match replica.find(row.run.first()) {
+        Err(_) => Ok(None),
+        Ok(at) => {
+            let count = standing(replica, &row.run, at)?;
+            Ok(Some((at, rising(labels, i, count))))
+        }
+    }
+}
+
+// How many identifiers of a run stand in the text one behind another, from the place of the first one on, as far as that is seen at once.
+fn standing(replica: &Replica, run: &Run, at: u64) -> Result<u32, AllocError>
+    requires at { slice_get (idents_over replica.now) at ≡ Some run.now.0 }
+    ensures some { IfOk result (λ n. 0 < n) }
+    ensures most { IfOk result (λ n. n ≤ run.now.1) }
+    ensures there { IfOk result (λ n. (k : ℕ) → k < n → slice_get (idents_over replica.now) (at + k) ≡ Some (shifted (pos k) run.now.0)) }
+{
+    rely!(let _len = run.len());
+    let standing = replica.tree().standing(run, 0)? as u64;
+    let most = standing.max(1).min(replica.total() - at);
+    let there = replica.tree().runs_of(at, most)?;
+    let (other, from) = there.locate(0);
+    Ok(run.len().min(other.len() - from))
+}
+
+// How many of the labels from one on, at most so many, follow one another.
+fn rising(labels: &[u64], from: usize, most: u32) -> u32
+    requires place { from < length labels.now }
+    requires some { 0 < most }
+    ensures some { 0 < result }
+    ensures most { result ≤ most }
+    ensures within { from + result ≤ length labels.now }
+    ensures rising { take result (drop from labels.now) ≡ numbers_from (slice_index labels.now from) result }
+{
+    let mut count = 1;
+    'labels: while count < most && goes_on(labels, from, count) {
+        count += 1;
+    }
+    count
+}
+
+// Whether so many places after a label stands the one that is greater by as much.
+fn goes_on(labels: &[u64], from: usize, count: u32) -> bool
+    requires place { from < length labels.now }
+    ensures next { IsTrue result → slice_get labels.now (from + count) ≡ Some (slice_index labels.now from + count) }
+{
+    let by = count as usize;
+    if labels.len() - from <= by {
+        return false;
+    }
+    let (first, next) = (labels[from], labels[from + by]);
+    first < next && next - first == count as u64
+}
+
+// Whether the text has nothing of an interval, if there is one.
+fn is_clear(replica: &Replica, before: &Option<Interval>) -> bool
+    ensures clear { IsTrue result → (x : List Tuple) (k : ℕ) → LiesBefore before.now x → place_of x (idents_over replica.now) ≡ Ok k → ⊥ }
+{
+    match before {
+        None => true,
+        Some(interval) => is_alone(replica, interval, None),
+    }
 }
 
 // Where identifiers of a label stand, the newest first. What came before them isn't looked for if the text has nothing between them.
@@ -123,7 +257,7 @@ fn is_alone(replica: &Replica, interval: &Interval, found: Option<u64>) -> bool
     ensures alone { IsTrue result → (x : List Tuple) (k : ℕ) → IsBetween interval.now x → place_of x (idents_over replica.now) ≡ Ok k → found ≡ Some k }
 {
     rely!(replica.sane());
-    let from = below(replica, &interval.low);
+    let from = replica.count_below(&interval.low);
     let end = up_to(replica, &interval.high);
     if end <= from {
         return true;
@@ -179,7 +313,7 @@ fn put_range(ranges: &mut Vec<(u64, u64)>, at: u64) -> Result<(), AllocError>
     Ok(())
 }
 
-/// Where cut characters come back. It costs what `ranges` costs for the labels of both neighbours.
+/// Where cut characters come back. It costs a few searches for each of both neighbours, and what `ranges` says where others stand between.
 pub(crate) fn place(
     replica: &Replica,
     names: &Names,
@@ -234,17 +368,7 @@ fn gone(replica: &Replica, names: &Names, label: u64) -> Result<u64, AllocError>
         None => Ok(0),
         Some(at) => {
             let (ident, _) = names.name(at)?;
-            Ok(below(replica, &ident))
+            Ok(replica.count_below(&ident))
         }
-    }
-}
-
-// How many identifiers of the text are below one of the greatest epoch.
-fn below(replica: &Replica, ident: &Ident) -> u64
-    ensures below { result ≡ below_count (idents_over replica.now) ident.now }
-{
-    rely!(replica.sane());
-    match replica.find(ident) {
-        Ok(at) | Err(at) => at,
     }
 }

@@ -20,6 +20,18 @@ pub(crate) struct Interval {
     pub(crate) high: Ident,
 }
 
+impl Interval {
+    // The same again.
+    pub(crate) fn copy(&self) -> Result<Interval, AllocError>
+        ensures copy { IfOk result (λ v. v ≡ self.now) }
+    {
+        Ok(Interval {
+            low: self.low.copy()?,
+            high: self.high.copy()?,
+        })
+    }
+}
+
 /// For each run of names: between which identifiers the names lie that its labels had before, where that is known.
 pub(crate) type Intervals = Vec<Option<Box<Interval>>>;
 

@@ -100,7 +100,12 @@ fn label_first(run: &Run, names: &mut Names, next: &mut u64) -> Result<(u64, u32
 }
 
 // The same of a run of which the first identifier has no label.
-fn name_first(run: &Run, key: Key, names: &mut Names, next: &mut u64) -> Result<(u64, u32), AllocError>
+fn name_first(
+    run: &Run,
+    key: Key,
+    names: &mut Names,
+    next: &mut u64,
+) -> Result<(u64, u32), AllocError>
     requires key { key.ident ≡ run.now.0 }
     requires none { label_of (reverse names.old) run.now.0 ≡ None }
     ensures some { IfOk result (λ p. 0 < p.1) }

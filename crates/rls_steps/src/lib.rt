@@ -12,6 +12,7 @@ mod labelling;
 mod latest;
 pub mod laws;
 mod lookup;
+mod name_row;
 mod name_run;
 mod names;
 mod pending;

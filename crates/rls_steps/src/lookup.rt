@@ -114,12 +114,7 @@ fn outside_in(
 
 // The label that an identifier has in a run, if it is there, and how many there are of it and the next ones, of at most so many, with
 // labels that rise.
-fn labels_in(
-    runs: &[NameRun],
-    run: Option<usize>,
-    ident: &Ident,
-    most: u32,
-) -> Option<(u64, u32)>
+fn labels_in(runs: &[NameRun], run: Option<usize>, ident: &Ident, most: u32) -> Option<(u64, u32)>
     requires within { IfSome run (λ i. i < length runs.now) }
     requires some { 0 < most }
     ensures some { IfSome result (λ p. 0 < p.1) }

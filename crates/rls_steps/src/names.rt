@@ -8,6 +8,7 @@ ghost use Rattle.rls_steps.specs.NameRuns.{AreKept, AreLabels, AreSound, name_at
 ghost use Rattle.rls_steps.specs.Index.{AreApart, newest_at, tail_at};
 ghost use Rattle.rls_steps.specs.Bounds.{AreBounded, IsLatest, IsMore};
 ghost use Rattle.rls_steps.specs.Intervals.{IsBetween};
+ghost use Rattle.rls_steps.specs.Rows.{IsRow};
 ghost use Rattle.rls_ident.specs.Lists.{IsIn};
 ghost use Rattle.rls_steps.specs.declared.key.Key as keys;
 
@@ -16,6 +17,7 @@ use crate::interval::{Interval, Intervals, interval_in, push_interval};
 use crate::key::Key;
 use crate::latest::newest_in;
 use crate::lookup::{free_at, is_free, label_at, labels_at};
+use crate::name_row::{NameRow, row_from};
 use crate::name_run::NameRun;
 use rls_ident::{Ident, rely};
 use std::alloc::{AllocError, Global};
@@ -157,6 +159,16 @@ impl Names {
             None => None,
             Some(interval) => Some(&**interval),
         }
+    }
+
+    // The newest names of a label and of the next ones, of at most so many, as far as they are seen at once. It costs a few searches.
+    pub(crate) fn row_from(&self, label: u64, most: u32) -> Result<Option<NameRow>, AllocError>
+        requires some { 0 < most }
+        ensures row { IfOk result (λ o. IfSome o (λ r. IsRow self.now label r)) }
+        ensures most { IfOk result (λ o. IfSome o (λ r. r.run.1 ≤ most)) }
+    {
+        let row = row_from(&self.runs, &self.bounds, &self.intervals, label, most)?;
+        Ok(row)
     }
 
     // The names of a run, if it begins at this place and each of them is the newest of its label. It costs a few searches.

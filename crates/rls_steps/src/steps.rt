@@ -309,10 +309,11 @@ impl Steps {
     /// Takes the last group back, the last step first, and answers how many steps that were. It ends the open group. What it changes in
     /// the text stands after the other changes: an insertion for each piece that comes back, and a deletion for each range that goes.
     ///
-    /// Each step costs its edits, as by `edit`. A step that put characters in costs a few searches in the text for each of these, and one
-    /// that cut some out for its neighbours, however often they went and came back; only where other characters stand between where a
-    /// character was at different times, a search for each name that it has had. After a rename everything is translated first, as by
-    /// `settle`.
+    /// Each step costs its edits, as by `edit`. A step that put characters in costs a few searches for each run of these that was put in,
+    /// or came back, at once and stands in the text as a whole, and a few instructions for each of them; and one that cut some out a few
+    /// searches for its neighbours. That is so however often they went and came back; only where other characters stand between where a
+    /// character was at different times, it costs a search for each name that this one has had. After a rename everything is translated
+    /// first, as by `settle`.
     ///
     /// # Errors
     ///

@@ -22,4 +22,4 @@ returns-in_ok-ident-in-Some c =
     let xs = idents_over c.args.replica.now in
     let r = newest_ident (reverse c.args.names.now) c.args.label c.in-Some.at (sym c.in-Some.ensures.newest) in
     let name = ap (λ (m : List Tuple × ℕ). m.0) (c.in_ok-ident-in-Some.ensures.tail r.0 r.1 r.2) in
-    record { gone = c.below.ensures.below ∙ (ap (below_count xs) name ∙ sym (ap (below_or_none xs) r.3)) }
+    record { gone = c.count_below.ensures.count ∙ (ap (below_count xs) name ∙ sym (ap (below_or_none xs) r.3)) }
