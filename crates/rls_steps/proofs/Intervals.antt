@@ -48,7 +48,7 @@ not_less_back x y t = not_true (ident_lt y x) (λ h. lt_irrefl (lt_trans (lt_of 
 pub not_less_same : (x y : List Tuple) → x ≡ y → ident_lt x y ≡ false
 not_less_same x y e = not_true (ident_lt x y) (λ h. lt_irrefl (subst (λ z. Lt tuples z y) e (lt_of x y h)))
 
-shifted_not_less : (j k : ℕ) (x : List Tuple) → IsIdent x → j ≤ k → ident_lt (shifted (pos k) x) (shifted (pos j) x) ≡ false
+pub shifted_not_less : (j k : ℕ) (x : List Tuple) → IsIdent x → j ≤ k → ident_lt (shifted (pos k) x) (shifted (pos j) x) ≡ false
 shifted_not_less j k x i h = bool_cases (nat_lt j k)
     (λ b. let less = lt_is j k b in not_less_back (shifted (pos j) x) (shifted (pos k) x) (of_lt (shifted (pos j) x) (shifted (pos k) x) (shifted_less (pos j) (pos k) x i (omega (arith, ints, less)))))
     (λ b. let most = not_lt_is j k b in

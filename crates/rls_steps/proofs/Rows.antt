@@ -1,15 +1,15 @@
 -- Labels that follow one another, whose names are identifiers of one run.
-use Rattle.std.proofs.Common.{◌≡◌, ℕ, zero, suc, ◌+◌, ◌-◌, ◌<◌, ◌≤◌, Bool, true, List, [], ◌∷◌, ◌++◌, length, take, drop, inl, inr, ◌⊎◌, ⊎_elim, refl, sym, ap, ◌∙◌, subst, append_assoc, drop-drop, arith}
-use Rattle.std.specs.Prelude.{ℤ, pos, ◌+ℤ◌, reverse, slice_get, slice_index, nat_lt, ◌==◌, Option, Some, None, IfSome, Ok, if◌then◌else◌}
+use Rattle.std.proofs.Common.{◌≡◌, ℕ, zero, suc, ◌+◌, ◌-◌, ◌<◌, ◌≤◌, Bool, true, List, [], ◌∷◌, ◌++◌, length, take, drop, inl, inr, ◌⊎◌, ⊎_elim, refl, sym, ap, ◌∙◌, subst, append_assoc, drop-drop, arith, false}
+use Rattle.std.specs.Prelude.{ℤ, pos, ◌+ℤ◌, reverse, slice_get, slice_index, nat_lt, ◌==◌, Option, Some, None, IfSome, Ok, if◌then◌else◌, Err}
 use Rattle.std.proofs.lemmas.Int.{ints}
 use Rattle.std.proofs.lemmas.List.{length-take, take-append-drop}
 use Rattle.std.proofs.lemmas.Option.{slice_get_within}
 use Rattle.rls_ident.specs.declared.tuple.Tuple.{Tuple}
-use Rattle.rls_ident.specs.Identifiers.{shifted}
+use Rattle.rls_ident.specs.Identifiers.{shifted, IsIdent, ident_lt}
 use Rattle.rls_ident.specs.Lists.{IsIn}
 use Rattle.rls_ident.proofs.Members.{bool_cases, lt_is, not_lt_is, eq_is, eq_test, some_is}
-use Rattle.rls_ident.proofs.Shifted.{shifted_shifted}
-use Rattle.rls_runs.specs.Runs.{place_of, is_increasing}
+use Rattle.rls_ident.proofs.Shifted.{shifted_shifted, shifted_none}
+use Rattle.rls_runs.specs.Runs.{place_of, is_increasing, run_idents}
 use Rattle.rls_steps.specs.declared.name_row.NameRow.{NameRow}
 use Rattle.rls_steps.specs.Labelled.{Names}
 use Rattle.rls_steps.specs.Marks.{numbers_from}
@@ -20,8 +20,15 @@ use Rattle.rls_steps.specs.Rows.{IsRow, LiesBefore}
 use Rattle.rls_steps.proofs.Stretches.{in_named, in_reverse, name_in, named_in, none_in, reverse_in, sound_at}
 use Rattle.rls_steps.proofs.LabelSteps.{labels_apart}
 use Rattle.rls_steps.proofs.Found.{place_at}
-use Rattle.rls_steps.proofs.Tabling.{get_drop, get_take}
+use Rattle.rls_steps.proofs.Tabling.{get_drop, get_take, place_is}
 use Rattle.rls_steps.proofs.Walking.{none_named, unlisted}
+use Rattle.rls_ident.proofs.Lists.{tri}
+use Rattle.rls_ident.proofs.Tuples.{tuples}
+use Rattle.rls_runs.specs.Places.{below_count}
+use Rattle.rls_runs.proofs.Gaps.{at_less, less_at}
+use Rattle.rls_runs.proofs.RunOrder.{rising_of, run_gets, run_rising}
+use Rattle.rls_undo.proofs.Finding.{found_at, missed_at}
+use Rattle.rls_steps.proofs.Intervals.{place_above, shifted_not_less}
 
 -- ---- a row of a run of names
 
@@ -137,6 +144,71 @@ row_found xs ns labels i l at n r inc a row clear most there e =
     ap (λ ls. all_places xs ls (reverse ns)) (sym (take-append-drop n rest))
     ∙ (all_append xs (take n rest) (drop n rest) (reverse ns)
     ∙ (ap (λ ps. ps ++ all_places xs (drop n rest) (reverse ns)) front ∙ ap (λ ls. numbers_from at n ++ all_places xs ls (reverse ns)) (drop-drop n i labels)))
+
+-- ---- where it isn't in a text
+
+-- labels of which no name is in the text have no place
+none_place : (xs : List (List Tuple)) (ns : Names) (l k : ℕ) (r : NameRow) → IsRow ns l r → ((x : List Tuple) (q : ℕ) → LiesBefore r.before x → place_of x xs ≡ Ok q → ⊥) → ((q : ℕ) → place_of (shifted (pos k) r.run.0) xs ≡ Ok q → ⊥) → k < r.run.1 → named_places xs (l + k) (reverse ns) ≡ []
+none_place xs ns l k r row clear gone h = none_named xs (l + k) (reverse ns) (λ m q p e t. ⊎_elim
+    (λ s. gone q (ap (λ x. place_of x xs) (sym s) ∙ t))
+    (λ s. clear m.0 q s t)
+    (row.others k m h (reverse_in m ns p) e))
+
+all_none : (xs : List (List Tuple)) (ns : Names) (l n : ℕ) → ((k : ℕ) → k < n → named_places xs (l + k) ns ≡ []) → all_places xs (numbers_from l n) ns ≡ []
+all_none xs ns l zero f = refl
+all_none xs ns l (suc n) f =
+    let z : l + 0 ≡ l = omega arith in
+    let first : named_places xs l ns ≡ [] = ap (λ m. named_places xs m ns) (sym z) ∙ f 0 (omega arith) in
+    ap (λ ps. ps ++ all_places xs (numbers_from (suc l) n) ns) first ∙ all_none xs ns (suc l) n (λ k h. let u : suc l + k ≡ l + suc k = omega arith in ap (λ m. named_places xs m ns) u ∙ f (suc k) (omega (arith, h)))
+
+pub row_gone : (xs : List (List Tuple)) (ns : Names) (labels : List ℕ) (i l n : ℕ) (r : NameRow) → IsRow ns l r → ((x : List Tuple) (q : ℕ) → LiesBefore r.before x → place_of x xs ≡ Ok q → ⊥) → n ≤ r.run.1 → ((k q : ℕ) → k < n → place_of (shifted (pos k) r.run.0) xs ≡ Ok q → ⊥) →
+    take n (drop i labels) ≡ numbers_from l n → all_places xs (drop i labels) (reverse ns) ≡ all_places xs (drop (i + n) labels) (reverse ns)
+row_gone xs ns labels i l n r row clear most gone e =
+    let rest = drop i labels in
+    let front : all_places xs (take n rest) (reverse ns) ≡ [] =
+    ap (λ ls. all_places xs ls (reverse ns)) e ∙ all_none xs (reverse ns) l n (λ k h. none_place xs ns l k r row clear (λ q t. gone k q h t) (omega (arith, h, most))) in
+    ap (λ ls. all_places xs ls (reverse ns)) (sym (take-append-drop n rest))
+    ∙ (all_append xs (take n rest) (drop n rest) (reverse ns)
+    ∙ (ap (λ ps. ps ++ all_places xs (drop n rest) (reverse ns)) front ∙ ap (λ ls. all_places xs ls (reverse ns)) (drop-drop n i labels)))
+
+-- an identifier of a run that isn't less than the first one, where that would be at a place
+from_first : (xs : List (List Tuple)) (x : List Tuple) (at k q : ℕ) → is_increasing xs ≡ true → IsIdent x → place_of x xs ≡ Err at → place_of (shifted (pos k) x) xs ≡ Ok q → at ≤ q
+from_first xs x at k q i ident f t =
+    let y = shifted (pos k) x in
+    let above : ident_lt y x ≡ false = ap (ident_lt y) (sym (shifted_none x)) ∙ shifted_not_less 0 k x ident (omega arith) in
+    let low = place_above xs x y q i above t in
+    let count = (missed_at xs x at i f).1 in
+    omega (arith, low, count)
+
+-- behind the text's end
+pub gone_at_end : (xs : List (List Tuple)) (x : List Tuple) (at k q : ℕ) → is_increasing xs ≡ true → IsIdent x → place_of x xs ≡ Err at → length xs ≤ at → place_of (shifted (pos k) x) xs ≡ Ok q → ⊥
+gone_at_end xs x at k q i ident f end t =
+    let low = from_first xs x at k q i ident f t in
+    let short = slice_get_within xs q (shifted (pos k) x) (place_is xs (shifted (pos k) x) q (rising_of xs i) t) in
+    absurd (omega (arith, low, short, end))
+
+-- below the next one of the text
+pub gone_below : (xs : List (List Tuple)) (x next : List Tuple) (at n below k q : ℕ) → is_increasing xs ≡ true → IsIdent x → place_of x xs ≡ Err at → slice_get xs at ≡ Some next → below_count (run_idents x n) next ≡ below → k < n → k < below → place_of (shifted (pos k) x) xs ≡ Ok q → ⊥
+gone_below xs x next at n below k q i ident f g e h l t =
+    let y = shifted (pos k) x in
+    let rising = rising_of xs i in
+    let low = from_first xs x at k q i ident f t in
+    let less = less_at (run_idents x n) k y next (run_rising x n ident) (run_gets x n k h) (subst (λ m. k < m) (sym e) l) in
+    let high = at_less xs q y next rising (place_is xs y q rising t) less in
+    let count = (found_at xs next at i (place_at xs next at i g)).1 in
+    absurd (omega (arith, low, high, count))
+
+-- the first one is below it
+pub first_below : (xs : List (List Tuple)) (x next : List Tuple) (at n : ℕ) → is_increasing xs ≡ true → IsIdent x → place_of x xs ≡ Err at → slice_get xs at ≡ Some next → 0 < n → 0 < below_count (run_idents x n) next
+first_below xs x next at n i ident f g h =
+    let first : slice_get (run_idents x n) 0 ≡ Some x = run_gets x n 0 h ∙ ap Some (shifted_none x) in
+    ⊎_elim
+    (λ less. at_less (run_idents x n) 0 x next (run_rising x n ident) first less)
+    (λ b. ⊎_elim
+    (λ e. absurd (let there = sym f ∙ (ap (λ y. place_of y xs) e ∙ place_at xs next at i g) in cc))
+    (λ more. let m = at_less xs at next x (rising_of xs i) g more in let count = (missed_at xs x at i f).1 in absurd (omega (arith, m, count)))
+    b)
+    (tri tuples x next)
 
 -- ---- places that are pushed
 

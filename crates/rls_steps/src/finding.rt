@@ -1,16 +1,17 @@
 //! Where labels stand in a text.
 
-ghost use Rattle.std.specs.Prelude.{◌≡◌, ◌<◌, ◌^◌, ◌+◌, ◌++◌, ◌∷◌, [], ℕ, reverse, Some, None, Ok, IfOk, OnOk, IfSome, List, length, false, ◌⊎◌, IsTrue, ◌≤◌, take, drop, slice_get, slice_index, pos};
+ghost use Rattle.std.specs.Prelude.{◌≡◌, ◌<◌, ◌^◌, ◌+◌, ◌++◌, ◌∷◌, [], ℕ, reverse, Some, None, Ok, Err, IfOk, OnOk, IfSome, List, length, false, ◌⊎◌, IsTrue, ◌≤◌, take, drop, slice_get, slice_index, pos};
 ghost use Rattle.rls_ident.specs.declared.tuple.Tuple.{Tuple};
 ghost use Rattle.rls_ident.specs.Identifiers.{ident_lt, shifted};
-ghost use Rattle.rls_runs.specs.Runs.{place_of};
+ghost use Rattle.rls_runs.specs.Places.{below_count};
+ghost use Rattle.rls_runs.specs.Runs.{place_of, run_idents};
 ghost use Rattle.rls_seen.specs.Seen.{idents_over};
 ghost use Rattle.rls_undo.specs.Plans.{put_place, ranges_of};
 ghost use Rattle.rls_steps.specs.Marks.{marks, label_places, label_place, numbers_from};
 ghost use Rattle.rls_steps.specs.Labelled.{marked_by};
 ghost use Rattle.rls_steps.specs.Index.{tail_at, place_list, named_places, all_places, IsAfter};
 ghost use Rattle.rls_steps.specs.Intervals.{IsBetween};
-ghost use Rattle.rls_steps.specs.Rows.{LiesBefore};
+ghost use Rattle.rls_steps.specs.Rows.{LiesBefore, row_places};
 ghost use Rattle.rls_steps.specs.Courses.{ident_of, below_or_none, place_over, ranges_over};
 ghost use Rattle.rls_steps.specs.Recorded.{held_by};
 
@@ -25,8 +26,8 @@ use std::alloc::AllocError;
 /// The maximal ranges of the places where one of these labels stands: each as its first place and its length, the last range first.
 ///
 /// It costs a few searches for each row of these labels: they follow one another, their newest names are identifiers of one run, and these
-/// stand in the text one behind another. Besides it costs a few steps for each label; and where other characters stand between the places
-/// that one of them had, a search for each of its names.
+/// stand in the text one behind another, or none of them does. Besides it costs a few steps for each label; and where other characters
+/// stand between the places that one of them had, a search for each of its names.
 pub(crate) fn ranges(
     replica: &Replica,
     names: &Names,
@@ -90,11 +91,14 @@ fn push_next(
     }
 }
 
-// So many places, from one on.
-fn push_row(places: &mut Vec<u64>, at: u64, count: u32) -> Result<(), AllocError>
-    requires end { at + count ≤ 2 ^ 64 }
-    ensures places { OnOk result (places.new.items ≡ places.old.items ++ numbers_from at count) }
+// So many places from one on, or none.
+fn push_row(places: &mut Vec<u64>, at: Option<u64>, count: u32) -> Result<(), AllocError>
+    requires end { IfSome at (λ p. p + count < 2 ^ 64) }
+    ensures places { OnOk result (places.new.items ≡ places.old.items ++ row_places at count) }
 {
+    let Some(at) = at else {
+        return Ok(());
+    };
     'places: for i in 0..count {
         places.push(at + i as u64)?;
     }
@@ -102,20 +106,20 @@ fn push_row(places: &mut Vec<u64>, at: u64, count: u32) -> Result<(), AllocError
 }
 
 // Where the labels from one on follow one another, and their newest names stand in the text one behind another, and no other name of theirs
-// does: the place of the first one, and how many there are, as far as that is seen at once. It isn't looked for before a place of the list,
-// which goes behind a row of which other names may be in the text.
+// does: the place of the first one, and how many there are, as far as that is seen at once. There is no place where none of these names is
+// in the text. It isn't looked for before a place of the list, which goes behind a row of which other names may be in the text.
 fn row_places(
     replica: &Replica,
     names: &Names,
     labels: &[u64],
     i: usize,
     apart: &mut usize,
-) -> Result<Option<(u64, u32)>, AllocError>
+) -> Result<Option<(Option<u64>, u32)>, AllocError>
     requires place { i < length labels.now }
     ensures some { IfOk result (λ o. IfSome o (λ p. 0 < p.1)) }
     ensures within { IfOk result (λ o. IfSome o (λ p. i + p.1 ≤ length labels.now)) }
-    ensures room { IfOk result (λ o. IfSome o (λ p. p.0 + p.1 < 2 ^ 64)) }
-    ensures places { IfOk result (λ o. IfSome o (λ p. all_places (idents_over replica.now) (drop i labels.now) (reverse names.now) ≡ numbers_from p.0 p.1 ++ all_places (idents_over replica.now) (drop (i + p.1) labels.now) (reverse names.now))) }
+    ensures room { IfOk result (λ o. IfSome o (λ p. IfSome p.0 (λ at. at + p.1 < 2 ^ 64))) }
+    ensures places { IfOk result (λ o. IfSome o (λ p. all_places (idents_over replica.now) (drop i labels.now) (reverse names.now) ≡ row_places p.0 p.1 ++ all_places (idents_over replica.now) (drop (i + p.1) labels.now) (reverse names.now))) }
 {
     rely!(replica.sane());
     rely!(names.apart());
@@ -131,11 +135,41 @@ fn row_places(
         return Ok(None);
     }
     match replica.find(row.run.first()) {
-        Err(_) => Ok(None),
+        Err(at) => {
+            let count = gone_from(replica, &row.run, at)?;
+            Ok(Some((None, rising(labels, i, count))))
+        }
         Ok(at) => {
             let count = standing(replica, &row.run, at)?;
-            Ok(Some((at, rising(labels, i, count))))
+            Ok(Some((Some(at), rising(labels, i, count))))
         }
+    }
+}
+
+// How many of the first identifiers of a run aren't in the text, where the first one isn't, and would be at this place: those up to the one
+// that is there.
+fn gone_from(replica: &Replica, run: &Run, at: u64) -> Result<u32, AllocError>
+    requires first { place_of run.now.0 (idents_over replica.now) ≡ Err at }
+    ensures some { IfOk result (λ n. 0 < n) }
+    ensures most { IfOk result (λ n. n ≤ run.now.1) }
+    ensures gone { IfOk result (λ n. (k q : ℕ) → k < n → place_of (shifted (pos k) run.now.0) (idents_over replica.now) ≡ Ok q → ⊥) }
+{
+    rely!(replica.sane());
+    let len = run.len();
+    if at >= replica.total() {
+        return Ok(len);
+    }
+    let next = replica.ident_at(at)?;
+    Ok(count_less(run, &next))
+}
+
+// How many identifiers of a run are less than this one.
+fn count_less(run: &Run, ident: &Ident) -> u32
+    ensures less { result ≡ below_count (run_idents run.now.0 run.now.1) ident.now }
+{
+    match run.find(ident) {
+        Ok(at) => at,
+        Err(below) => below,
     }
 }
 
