@@ -136,12 +136,13 @@ class Session:
             self.newer(line, lambda replies: self.begins(replies, word, "no "), True)
             self.forget()
         elif not getattr(self, source):
+            # (nothing changes then: an open group stays open)
             self.newer(line, lambda replies: self.exactly(replies, "no nothing"), True)
         else:
             self.newer(line, lambda replies: self.begins(replies, word), True)
             getattr(self, target).append(self.text)
             self.text, self.cursors = getattr(self, source).pop(), {cursor: None for cursor in self.cursors}
-        self.is_open = False
+            self.is_open = False
 
     def ask_groups(self, _):
         wanted = None if self.back is None else f"groups {len(self.back)} {len(self.again)}"
