@@ -19,7 +19,7 @@ rows=(
   old_deletions_apart:50:42:slow wrong_epoch:250:23 two_chains:500:23 two_chains_lesser_first:500:23 two_chains_in_turn:500:23
   small_renames:500:23 wide:25:23 scattered:20000:23 scattered_each:250:23
   renamed_file:25:23 back:250:23 rename:20000:23 members:16:23
-  marks:250:23 flags:250:42:slow cursor_renames:500:23 undo_renames:500:23 step_again:500:23 acked_refused:500:23 acked_gone:100:23 acked_each:100:46:slow
+  marks:250:23 flags:250:42:slow cursor_renames:500:23 undo_renames:500:23 step_again:500:23 acked_refused:500:23 acked_gone:100:23 acked_each:100:23
   acked_sends:1000:23
 )
 

@@ -20,6 +20,8 @@ pub mod Marking
 pub mod StillNumbers
 pub mod Fronts
 pub mod Merges
+pub mod Bounding
+pub mod Edges
 pub mod Noting
 pub mod Remembering
 pub mod KeptKnown

@@ -1,6 +1,6 @@
--- What is kept of the identifiers that unstable deletions name stays right, and what isn't among them none names.
-use Rattle.std.proofs.Common.{◌≡◌, ◌∙◌, ◌⊎◌, ℕ, zero, suc, ◌+◌, ◌<◌, not, Bool, true, false, List, [], ◌∷◌, ◌++◌, length, map, take, drop, Option, Some, None, refl, sym, ap, subst, inl, inr, ⊎_elim, arith, append_assoc, append-nil}
-use Rattle.std.specs.Prelude.{IfSome, IfNone, cond, slice_get, ◌&&◌}
+-- What is noted of the identifiers that unstable deletions name stays right, and what none names by that, none names.
+use Rattle.std.proofs.Common.{◌≡◌, ◌∙◌, ◌⊎◌, ℕ, zero, suc, ◌+◌, ◌<◌, ◌≤◌, not, Bool, true, false, List, [], ◌∷◌, ◌++◌, length, map, take, drop, Option, Some, None, refl, sym, ap, subst, inl, inr, ⊎_elim, arith, append_assoc, append-nil}
+use Rattle.std.specs.Prelude.{IfSome, IfNone, cond, slice_get, slice_index, ◌&&◌}
 use Rattle.std.specs.List.{list_any}
 use Rattle.std.proofs.lemmas.List.{length-append, take-append-le}
 use Rattle.rls_ident.specs.declared.tuple.Tuple.{Tuple}
@@ -8,9 +8,10 @@ use Rattle.rls_ident.specs.declared.epoch_name.EpochName.{EpochName}
 use Rattle.rls_ident.specs.declared.epoch_name.EpochName.TheVariants.{Of}
 use Rattle.rls_ident.specs.Identifiers.{ident_eq}
 use Rattle.rls_ident.specs.Lists.{IsIn}
-use Rattle.rls_ident.specs.Vectors.{at_most}
+use Rattle.rls_ident.specs.Vectors.{at_most, raise}
 use Rattle.rls_ident.proofs.Ends.{eq_same, same_eq}
-use Rattle.rls_ident.proofs.Members.{and_none, true_false, map_in, any_in, in_any, filter_in, in_filter, in_left, in_right, in_split, in_take, in_drop, not_is, not_true, same_bool, some_is, take_or_drop}
+use Rattle.rls_ident.proofs.Members.{and_none, true_false, map_in, any_in, get_in, in_any, filter_in, in_filter, in_left, in_right, in_split, in_take, in_drop, le_test, not_is, not_true, same_bool, some_is, take_or_drop}
+use Rattle.rls_ident.proofs.Vectors.{index-raise_le, index-raise_same, length-raise}
 use Rattle.rls_runs.specs.Entries.{has_ident}
 use Rattle.rls_runs.specs.Runs.{AreIdents, joined}
 use Rattle.rls_rename.specs.Tree.{is_kept, is_of, translate}
@@ -20,21 +21,25 @@ use Rattle.rls_rename.proofs.Paths.{name_eq_is, translate_translate}
 use Rattle.rls_ops.specs.declared.op.Op.{Op}
 use Rattle.rls_ops.specs.declared.op.Body.{Body}
 use Rattle.rls_ops.specs.declared.op.Body.TheVariants.{Insert, Delete, Rename, Leave}
-use Rattle.rls_ops.specs.Rows.{is_covered, missing_for, stable_of, noted}
+use Rattle.rls_ops.specs.Rows.{is_covered, missing_for, noted}
 use Rattle.rls_ops.specs.Rows as rows
+use Rattle.rls_ops.proofs.Shaped.{shaped}
 use Rattle.rls_model.specs.Document.{targets_of}
 use Rattle.rls_model.specs.Epochs.{renaming_of, nodes_after}
-use Rattle.rls_seen.specs.Seen.{Seen, members, stable_over, greatest_over, translate_over}
+use Rattle.rls_seen.specs.Seen.{Seen, members, stable_over, greatest_over, translate_over, vector}
 use Rattle.rls_seen.specs.Over.{accepted, acknowledged, holding}
-use Rattle.rls_seen.specs.Sane.{IsSane, MayApply}
+use Rattle.rls_seen.specs.Sane.{Follow, IsSane, MayApply}
 use Rattle.rls_seen.proofs.Applied.{missing_less}
 use Rattle.rls_seen.proofs.Fitting.{facts, name_new}
+use Rattle.rls_seen.proofs.Logs.{follow_length}
+use Rattle.rls_seen.proofs.Needed.{log_author}
 use Rattle.rls_seen.proofs.TextLists.{ident_in}
 use Rattle.rls_seen.proofs.StableRows.{stable_accepted, stable_noted}
 use Rattle.rls_replica.specs.declared.gone.Gone.{Gone}
+use Rattle.rls_replica.specs.declared.gone.Named.{Named}
 use Rattle.rls_log.specs.Heads.{kind_in}
 use Rattle.rls_log.specs.declared.head.OpKind.TheVariants as kind
-use Rattle.rls_replica.specs.Gone.{AllNoted, AreNoted, AreNamed, NamesNothing, IsGone}
+use Rattle.rls_replica.specs.Gone.{AllNoted, AreNoted, AreNamed, NamesNothing, IsGone, IsNoted}
 use Rattle.rls_replica.specs.Lookups.{is_named_by, is_named_over}
 use Rattle.rls_replica.proofs.KeptNames.{accepted_names}
 
@@ -81,11 +86,11 @@ found_at os i r o e h = subst (λ (x : Option Op). IfSome x (λ (p : Op). slice_
 pub nothing_at : (s : Seen) (i : ℕ) (r : Option Op) → r ≡ None → IfNone r ((o : Op) → slice_get s.log i ≡ Some o → NamesNothing s o) → (o : Op) → slice_get s.log i ≡ Some o → NamesNothing s o
 nothing_at s i r e h = subst (λ (x : Option Op). IfNone x ((o : Op) → slice_get s.log i ≡ Some o → NamesNothing s o)) e h
 
--- ---- what isn't among them
+-- ---- what none names by what is noted
 
-pub cleared_by : (s : Seen) (g : Gone) (e : EpochName) (x : List Tuple) → IsSane s → IsGone s g → (IsIn (translate_over s e g.epoch x) (joined g.lists.items) → ⊥)
-    → is_named_over s e x (drop g.noted s.log) ≡ is_named_over s e x s.log
-cleared_by s g e x sane h out = same_bool (is_named_over s e x (drop n s.log)) (is_named_over s e x s.log) more less
+pub cleared_by : (s : Seen) (g : Gone) (e : EpochName) (x : List Tuple) → IsSane s → IsGone s g
+    → ((a q : ℕ) → a < members s → IsNoted g.named a (translate_over s e g.epoch x) q → q ≤ slice_index (stable_over s) a) → is_named_over s e x (drop g.noted s.log) ≡ is_named_over s e x s.log
+cleared_by s g e x sane h low = same_bool (is_named_over s e x (drop n s.log)) (is_named_over s e x s.log) more less
   where
     n : ℕ
     n = g.noted
@@ -97,9 +102,11 @@ cleared_by s g e x sane h out = same_bool (is_named_over s e x (drop n s.log)) (
     none d p named =
         let r = in_any (λ t. ident_eq (translate_over s d.epoch e t) x) (targets_of d.body) named in
         let there = h.noted d p r.0 r.1 in
+        let q = in_filter is_missing d (take n s.log) p in
         let same : translate_over s d.epoch g.epoch r.0 ≡ translate_over s e g.epoch x =
         sym (translate_translate s.epochs.nodes d.epoch e g.epoch r.0 sane.epochs.nodes there.0) ∙ ap (translate_over s e g.epoch) (eq_same (translate_over s d.epoch e r.0) x r.2) in
-        out (subst (λ y. IsIn y (joined g.lists.items)) same there.1)
+        let most = low d.author d.seq (log_author s d sane (in_take n d s.log q.0)) (subst (λ y. IsNoted g.named d.author y d.seq) same there.1) in
+        true_false (is_covered (stable_over s) d) (le_test d.seq (slice_index (stable_over s) d.author) most) (not_is (is_covered (stable_over s) d) q.1)
 
     more : is_named_over s e x (drop n s.log) ≡ true → is_named_over s e x s.log ≡ true
     more p =
@@ -137,20 +144,44 @@ one_more zero (q ∷ os) o d g (inr p) = absurd p
 one_more (suc n) (q ∷ os) o d g (inl e) = inl (inl e)
 one_more (suc n) (q ∷ os) o d g (inr p) = ⊎_elim (λ k. inl (inr k)) inr (one_more n os o d g p)
 
--- what it names is put there, or it names nothing
-module _ (s : Seen) (e : EpochName) (old new : List (List (List Tuple))) (n : ℕ) (o : Op) (got : slice_get s.log n ≡ Some o) (h : AllNoted s e old (take n s.log)) where
-  with_one : ((x : List Tuple) → IsIn x (joined old) → IsIn x (joined new)) → (is_covered (stable_over s) o ≡ false → AreNoted s e new o) → AllNoted s e new (take (n + 1) s.log)
+-- the numbers of one author rise in the log
+above : (k : ℕ) (from : List ℕ) (os : List Op) (to : List ℕ) (o : Op) → Follow k from os to → IsIn o os → slice_index from o.author < o.seq
+above k from [] to o f p = absurd p
+above k from (x ∷ os) to o f (inl e) = let m = f.2 in subst (λ (y : Op). slice_index from y.author < y.seq) e (omega (arith, m))
+above k from (x ∷ os) to o f (inr p) = let l = above k (raise from x.author) os to o f.4 p in let m = index-raise_le from x.author o.author in omega (arith, l, m)
+
+rising : (k : ℕ) (from : List ℕ) (os : List Op) (to : List ℕ) (n : ℕ) (d o : Op) → length from ≡ k → Follow k from os to → IsIn d (take n os) → slice_get os n ≡ Some o → d.author ≡ o.author → d.seq ≤ o.seq
+rising k from [] to n d o e f p g a = absurd (cc)
+rising k from (x ∷ os) to zero d o e f p g a = absurd p
+rising k from (x ∷ os) to (suc n) d o e f (inl s) g a =
+    let l = above k (raise from x.author) os to o f.4 (get_in os n o g) in
+    let short = (shaped k x f.1).author in
+    let here = index-raise_same from x.author (omega (arith, e, short)) in
+    let is : x.author ≡ o.author = subst (λ (y : Op). y.author ≡ o.author) (sym s) a in
+    let there : slice_index (raise from x.author) o.author ≡ suc (slice_index from x.author) = subst (λ b. slice_index (raise from x.author) b ≡ suc (slice_index from x.author)) is here in
+    let m = f.2 in
+    subst (λ (y : Op). y.seq ≤ o.seq) s (omega (arith, l, there, m))
+rising k from (x ∷ os) to (suc n) d o e f (inr p) g a = rising k (raise from x.author) os to n d o (length-raise from x.author ∙ e) f.4 p g a
+
+logged_before : (s : Seen) (n : ℕ) (d o : Op) → IsSane s → IsIn d (take n s.log) → slice_get s.log n ≡ Some o → d.author ≡ o.author → d.seq ≤ o.seq
+logged_before s n d o sane p got a = let f = sane.log.1.follow in rising (members s) sane.log.0 s.log (vector s) n d o (follow_length (members s) sane.log.0 s.log (vector s) f) f p got a
+
+-- what it names is noted, or it names nothing
+module _ (s : Seen) (e : EpochName) (old new : Named) (n : ℕ) (o : Op) (got : slice_get s.log n ≡ Some o) (h : AllNoted s e old (take n s.log)) where
+  with_one : ((d : Op) (x : List Tuple) → IsIn d (take n s.log) → IsNoted old d.author x d.seq → IsNoted new d.author x d.seq) → (is_covered (stable_over s) o ≡ false → AreNoted s e new o) → AllNoted s e new (take (n + 1) s.log)
   with_one kept f d p t q =
       let m : n + 1 ≡ suc n = omega arith in
       let r = in_filter (λ x. not (is_covered (stable_over s) x)) d (take (n + 1) s.log) p in
-      ⊎_elim (λ k. let a = h d (filter_in (λ x. not (is_covered (stable_over s) x)) d (take n s.log) k r.1) t q in (a.0, kept (translate_over s d.epoch e t) a.1))
+      ⊎_elim (λ k. let a = h d (filter_in (λ x. not (is_covered (stable_over s) x)) d (take n s.log) k r.1) t q in (a.0, kept d (translate_over s d.epoch e t) k a.1))
       (λ k. subst (λ x. is_covered (stable_over s) x ≡ false → AreNoted s e new x) k f (not_is (is_covered (stable_over s) d) r.1) t q) (one_more n s.log o d got (subst (λ k. IsIn d (take k s.log)) m r.0))
 
-  pub with_names : (ids : List (List Tuple)) → AreNamed s e o (Some ids) → ((x : List Tuple) → IsIn x (joined old) ⊎ IsIn x ids → IsIn x (joined new)) → AllNoted s e new (take (n + 1) s.log)
-  with_names ids named put = with_one (λ x p. put x (inl p)) (λ u t q. let a = named t q in (a.0, put (translate_over s o.epoch e t) (inr a.1)))
+  pub with_names : IsSane s → (ids : List (List Tuple)) → AreNamed s e o (Some ids) → ((a : ℕ) (x : List Tuple) (q : ℕ) → (a ≡ o.author → q ≤ o.seq) → IsNoted old a x q → IsNoted new a x q)
+      → ((x : List Tuple) → IsIn x ids → IsNoted new o.author x o.seq) → AllNoted s e new (take (n + 1) s.log)
+  with_names sane ids named kept put =
+      with_one (λ d x p b. kept d.author x d.seq (logged_before s n d o sane p got) b) (λ u t q. let a = named t q in (a.0, put (translate_over s o.epoch e t) a.1))
 
-pub without_names : (s : Seen) (e : EpochName) (lists : List (List (List Tuple))) (n : ℕ) (o : Op) → slice_get s.log n ≡ Some o → AllNoted s e lists (take n s.log) → AreNamed s e o None → AllNoted s e lists (take (n + 1) s.log)
-without_names s e lists n o got h named = with_one s e lists lists n o got h (λ x p. p) (λ u t q. absurd (named t u q))
+pub without_names : (s : Seen) (e : EpochName) (es : Named) (n : ℕ) (o : Op) → slice_get s.log n ≡ Some o → AllNoted s e es (take n s.log) → AreNamed s e o None → AllNoted s e es (take (n + 1) s.log)
+without_names s e es n o got h named = with_one s e es es n o got h (λ d x p b. b) (λ u t q. absurd (named t u q))
 
 -- ---- a step of the replica
 
@@ -168,7 +199,7 @@ module _ (s r : Seen) (sane : IsSane s) (keeps : (e : EpochName) → is_kept s.e
         let is = in_filter (λ o. not (is_covered (stable_over s) o)) d (take g.noted s.log) old in
         let unstable = filter_in (λ o. not (is_covered (stable_over s) o)) d s.log (in_take g.noted d s.log is.0) is.1 in
         let there = h.noted d old t q in
-        (there.0, subst (λ y. IsIn y (joined g.lists.items)) (sym (same d.epoch g.epoch t (sane.unstable d unstable) h.kept)) there.1);
+        (there.0, subst (λ y. IsNoted g.named d.author y d.seq) (sym (same d.epoch g.epoch t (sane.unstable d unstable) h.kept)) there.1);
   }
 
 pub if_gone : (s r : Seen) (g : Option Gone) → ((x : Gone) → IsGone s x → IsGone r x) → IfSome g (λ x. IsGone s x) → IfSome g (λ x. IsGone r x)

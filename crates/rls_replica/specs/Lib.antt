@@ -6,6 +6,7 @@ pub mod Steps
 pub mod Editing
 pub mod Names
 pub mod Unions
+pub mod Bounds
 pub mod Gone
 pub mod Known
 pub mod View

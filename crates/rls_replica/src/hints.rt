@@ -2,35 +2,12 @@
 
 ghost use Rattle.std.specs.Prelude.{◌≡◌};
 
+use crate::marks::Mark;
 use rls_ident::{EpochName, Spot};
 use rls_runs::Runs;
 use std::alloc::{AllocError, Global};
 use std::collections::BTreeMap;
 use std::ops::Bound;
-
-/// The last tuple of an identifier, but for its position: who made the identifier, in which of its operations, and the offset. Among
-/// the identifiers that a text had in one epoch no two have the same.
-#[derive(Clone, Copy, PartialEq, Eq, PartialOrd, Ord, Drop)]
-struct Mark {
-    replica: u32,
-    seq: u32,
-    offset: i64,
-}
-
-impl Mark {
-    fn of(last: Spot) -> Mark {
-        Mark {
-            replica: last.replica,
-            seq: last.seq,
-            offset: last.offset as i64,
-        }
-    }
-
-    // Whether the two differ at most in their offsets.
-    fn is_beside(&self, other: &Mark) -> bool {
-        self.replica == other.replica && self.seq == other.seq
-    }
-}
 
 /// The offset at which a run of identifiers has ended, and the place in the log of the last deletion that names them.
 #[derive(Clone, Copy, Drop)]
@@ -75,19 +52,19 @@ impl Namings {
     fn note(&mut self, ids: &Runs, place: usize) -> Result<(), AllocError> {
         for run in ids.as_slice() {
             let first = Mark::of(run.first().last());
-            let end = first.offset.saturating_add(run.len() as i64);
-            self.make_room(first, end)?;
-            self.runs.insert(first, Naming { end, place })?;
+            let past = Mark::past(run.first().last(), run.len());
+            self.make_room(first, past)?;
+            let naming = Naming {
+                end: past.offset,
+                place,
+            };
+            self.runs.insert(first, naming)?;
         }
         Ok(())
     }
 
-    // Takes out what there is from a mark up to an end.
-    fn make_room(&mut self, first: Mark, end: i64) -> Result<(), AllocError> {
-        let past = Mark {
-            offset: end,
-            ..first
-        };
+    // Takes out what there is from a mark up to another one.
+    fn make_room(&mut self, first: Mark, past: Mark) -> Result<(), AllocError> {
         self.cut_at(first)?;
         self.cut_at(past)?;
         for _ in 0..self.runs.len() {

@@ -3,6 +3,7 @@
 #![tactic(auto)]
 
 mod applying;
+mod bounds;
 mod counting;
 mod editing;
 mod gone;
@@ -10,6 +11,7 @@ mod hints;
 mod keeping;
 mod known;
 mod looking;
+mod marks;
 mod naming;
 mod reading;
 mod receiving;

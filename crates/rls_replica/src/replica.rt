@@ -31,9 +31,9 @@ use std::marker::Model;
 
 /// What one member of a group has of the text: the text with its identifiers, what each member is known to have accepted, the
 /// operations and the epochs that are kept, and the operations that wait. It is seen as these parts. The hints, which `&self` may
-/// change too, are no part of it: they tell where to look first, and no answer depends on them. Nor are the identifiers that are noted
-/// as gone, of which the invariant says that they are all that some unstable deletions name: what isn't among them needn't be looked
-/// for in these.
+/// change too, are no part of it: they tell where to look first, and no answer depends on them. Nor is what is noted of gone
+/// identifiers, of which the invariant says that it covers all that some unstable deletions name: what none names by that needn't be
+/// looked for in these.
 pub struct Replica {
     pub(crate) alloc: Global,
     pub(crate) group: u64,
