@@ -84,11 +84,15 @@ impl Log {
         Ok(())
     }
 
-    /// Keeps the first `n` operations, or all of them if they are fewer. It takes no memory.
+    /// Keeps the first `n` operations, or all of them if they are fewer. It takes no memory. The bytes of the others are used again once no
+    /// operation is left.
     pub fn truncate(&mut self, n: usize)
         ensures first { self.new ≡ take n self.old }
     {
         self.entries.truncate(n);
+        if self.entries.is_empty() {
+            self.bytes.clear();
+        }
     }
 
     /// The number of operations.

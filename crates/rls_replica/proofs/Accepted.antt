@@ -5,12 +5,12 @@ use Rattle.rls_ident.proofs.Members.{some_is}
 use Rattle.rls_runs.specs.Entries.{Entries}
 use Rattle.rls_rename.specs.Tree.{Epochs}
 use Rattle.rls_ops.specs.declared.op.Op.{Op}
-use Rattle.rls_ops.specs.Rows.{AcksSeen}
+use Rattle.rls_ops.specs.Rows.{AcksSeen, stable_of}
 use Rattle.rls_ops.specs.Waiting.{first_ready_at, waiting_under, without}
 use Rattle.rls_model.specs.declared.parts.Stem.{Stem}
 use Rattle.rls_model.specs.Stems.{stems_after}
 use Rattle.rls_seen.specs.Seen.{Seen, vector}
-use Rattle.rls_seen.specs.Over.{accepted, acks_after, epochs_after, text_after, first_ready, refusal_over}
+use Rattle.rls_seen.specs.Over.{accepted, acks_after, epochs_after, logged, text_after, first_ready, refusal_over}
 use Rattle.rls_seen.specs.Sane.{IsSane, MayApply}
 use Rattle.rls_seen.proofs.Repeating.{ready_under}
 use Rattle.rls_seen.proofs.Staying.{ready_may}
@@ -19,7 +19,7 @@ of_parts : ℕ → AcksSeen → List Stem → Epochs → Entries → List Op →
 of_parts g acks ss E es W log = record { group = g; acks = acks; stems = ss; epochs = E; text = es; waiting = W; log = log }
 
 pub accepted_is : (s : Seen) (o : Op) (acks : AcksSeen) (ss : List Stem) (E : Epochs) (es : Entries) (W log : List Op) → acks ≡ acks_after s.acks o.author o.body → ss ≡ stems_after s.stems o.author o.seq o.body
-    → E ≡ epochs_after s.epochs o → es ≡ text_after s o o.body → W ≡ without o.author o.seq s.waiting → log ≡ s.log ++ o ∷ []
+    → E ≡ epochs_after s.epochs o → es ≡ text_after s o o.body → W ≡ without o.author o.seq s.waiting → log ≡ logged (stable_of acks) s.log o
     → record { group = s.group; acks = acks; stems = ss; epochs = E; text = es; waiting = W; log = log } ≡ accepted s o
 unfolding of_parts accepted
 accepted_is s o acks ss E es W log a b c d e f =
@@ -28,7 +28,9 @@ accepted_is s o acks ss E es W log a b c d e f =
     ∙ (ap (λ x. of_parts s.group (acks_after s.acks o.author o.body) (stems_after s.stems o.author o.seq o.body) x es W log) c
     ∙ (ap (λ x. of_parts s.group (acks_after s.acks o.author o.body) (stems_after s.stems o.author o.seq o.body) (epochs_after s.epochs o) x W log) d
     ∙ (ap (λ x. of_parts s.group (acks_after s.acks o.author o.body) (stems_after s.stems o.author o.seq o.body) (epochs_after s.epochs o) (text_after s o o.body) x log) e
-    ∙ ap (of_parts s.group (acks_after s.acks o.author o.body) (stems_after s.stems o.author o.seq o.body) (epochs_after s.epochs o) (text_after s o o.body) (without o.author o.seq s.waiting)) f))))
+    ∙ ap (of_parts s.group (acks_after s.acks o.author o.body) (stems_after s.stems o.author o.seq o.body) (epochs_after s.epochs o) (text_after s o o.body) (without o.author o.seq s.waiting))
+    (f ∙ ap (λ x. logged (stable_of x) s.log o) a)))))
+
 
 -- the first ready operation, which fits
 pub record IsNext (s : Seen) (w : Op) : Type 0 where

@@ -24,11 +24,11 @@ use Rattle.rls_model.specs.declared.parts.Stem.{Stem}
 use Rattle.rls_model.specs.Document.{targets_of}
 use Rattle.rls_model.specs.Epochs.{nodes_after}
 use Rattle.rls_model.specs.Stems.{stems_after}
-use Rattle.rls_seen.specs.Over.{accepted, acks_after, added_over, epochs_after, is_known_over, text_after}
+use Rattle.rls_seen.specs.Over.{accepted, acks_after, added_over, epochs_after, is_known_over, logged, text_after}
 use Rattle.rls_seen.specs.Sane.{Follow, IsSane}
 use Rattle.rls_seen.specs.Seen.{Seen, greatest_over, members, stable_over, translate_over, unstable_over, vector}
 use Rattle.rls_seen.proofs.Accepting.{places_after}
-use Rattle.rls_seen.proofs.Logs.{follow_length}
+use Rattle.rls_seen.proofs.Logs.{follow_length, missing_logged}
 use Rattle.rls_seen.proofs.Needed.{log_author}
 use Rattle.rls_seen.proofs.Sending.{length-stable}
 use Rattle.rls_seen.proofs.StableRows.{stable_most, stable_row}
@@ -98,10 +98,10 @@ StaysOrNamed s o es = (z : List Tuple × ℕ) → IsIn z s.text → IsIn z es �
 
 module _ (s : Seen) (o : Op) (sane : IsSane s) (acks : AcksSeen) (ss : List Stem) (es : Entries) (W : List Op) (stays : (d : Op) → IsIn d s.log → is_covered (stable_over s) d ≡ false → is_covered (stable_of acks) d ≡ false) (text : StaysOrNamed s o es) where
   abbrev r : Seen
-  r = record { group = s.group; acks = acks; stems = ss; epochs = s.epochs; text = es; waiting = W; log = s.log ++ o ∷ [] }
+  r = record { group = s.group; acks = acks; stems = ss; epochs = s.epochs; text = es; waiting = W; log = logged (stable_of acks) s.log o }
 
   still : (d : Op) → IsIn d (s.log ++ o ∷ []) → is_covered (stable_of acks) d ≡ false → IsIn d (unstable_over r)
-  still d p f = filter_in (λ x. not (is_covered (stable_of acks) x)) d (s.log ++ o ∷ []) p (ap not f)
+  still d p f = subst (IsIn d) (sym (missing_logged (stable_of acks) s.log o)) (filter_in (λ x. not (is_covered (stable_of acks) x)) d (s.log ++ o ∷ []) p (ap not f))
 
   -- what is known stays so, if the operation isn't stable at once or doesn't name it
   known_after : (x : List Tuple) → IsIdent x × (is_known_over s (greatest_over s) x ≡ true) → ((t : List Tuple) → IsIn t (targets_of o.body) → translate_over s o.epoch (greatest_over s) t ≡ x → is_covered (stable_of acks) o ≡ false)
@@ -144,7 +144,7 @@ known_accepted s o sane was k keeps h = go o.body refl keeps
     to = translate_over s o.epoch (greatest_over s)
 
     after : Body → Seen
-    after b = record { group = s.group; acks = acks_after s.acks o.author b; stems = stems_after s.stems o.author o.seq b; epochs = record { top = s.epochs.top; nodes = nodes_after s.epochs.nodes o b }; text = text_after s o b; waiting = without o.author o.seq s.waiting; log = s.log ++ o ∷ [] }
+    after b = record { group = s.group; acks = acks_after s.acks o.author b; stems = stems_after s.stems o.author o.seq b; epochs = record { top = s.epochs.top; nodes = nodes_after s.epochs.nodes o b }; text = text_after s o b; waiting = without o.author o.seq s.waiting; log = logged (stable_of (acks_after s.acks o.author b)) s.log o }
 
     deleted : (targets : List (List Tuple)) → o.body ≡ Delete targets → StaysOrNamed s o (text_after s o (Delete targets))
     deleted targets e z p =

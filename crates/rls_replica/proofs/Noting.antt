@@ -21,17 +21,17 @@ use Rattle.rls_rename.proofs.Paths.{name_eq_is, translate_translate}
 use Rattle.rls_ops.specs.declared.op.Op.{Op}
 use Rattle.rls_ops.specs.declared.op.Body.{Body}
 use Rattle.rls_ops.specs.declared.op.Body.TheVariants.{Insert, Delete, Rename, Leave}
-use Rattle.rls_ops.specs.Rows.{is_covered, missing_for, noted}
+use Rattle.rls_ops.specs.Rows.{is_covered, missing_for, stable_of, noted}
 use Rattle.rls_ops.specs.Rows as rows
 use Rattle.rls_ops.proofs.Shaped.{shaped}
 use Rattle.rls_model.specs.Document.{targets_of}
 use Rattle.rls_model.specs.Epochs.{renaming_of, nodes_after}
 use Rattle.rls_seen.specs.Seen.{Seen, members, stable_over, greatest_over, translate_over, vector}
-use Rattle.rls_seen.specs.Over.{accepted, acknowledged, holding}
+use Rattle.rls_seen.specs.Over.{accepted, acknowledged, acks_after, holding, logged}
 use Rattle.rls_seen.specs.Sane.{Follow, IsSane, MayApply}
 use Rattle.rls_seen.proofs.Applied.{missing_less}
 use Rattle.rls_seen.proofs.Fitting.{facts, name_new}
-use Rattle.rls_seen.proofs.Logs.{follow_length}
+use Rattle.rls_seen.proofs.Logs.{follow_length, logged_is}
 use Rattle.rls_seen.proofs.Needed.{log_author}
 use Rattle.rls_seen.proofs.TextLists.{ident_in}
 use Rattle.rls_seen.proofs.StableRows.{stable_accepted, stable_noted}
@@ -233,7 +233,12 @@ translated_after s o (Delete targets) sane m e f x k l = refl
 translated_after s o (Rename former) sane m e f x k l = translate_other (record { parent = o.epoch; renaming = renaming_of o former }) s.epochs.nodes e f x (new_one s o former sane m e k) (new_one s o former sane m f l)
 translated_after s o Leave sane m e f x k l = refl
 
+-- the log is longer, or it stays
+logged_more : (v : List ℕ) (os : List Op) (o : Op) → (more : List Op) × (logged v os o ≡ os ++ more)
+logged_more v os o = ⊎_elim (λ e. (o ∷ [], e)) (λ e. ([], e.0 ∙ (sym e.1 ∙ sym (append-nil os)))) (logged_is v os o)
+
 pub gone_accepted : (s : Seen) (o : Op) → IsSane s → MayApply s o → (g : Gone) → IsGone s g → IsGone (accepted s o) g
 unfolding accepted
 gone_accepted s o sane m =
-    gone_next s (accepted s o) sane (accepted_names s o) (translated_after s o o.body sane m) (o ∷ []) refl (stable_accepted s.acks o.author o.body sane.rows (facts s o m).shaped.author)
+    let more = logged_more (stable_of (acks_after s.acks o.author o.body)) s.log o in
+    gone_next s (accepted s o) sane (accepted_names s o) (translated_after s o o.body sane m) more.0 more.1 (stable_accepted s.acks o.author o.body sane.rows (facts s o m).shaped.author)

@@ -1,6 +1,6 @@
 //! How an operation is accepted: first all that may want memory, of which the change of the text is the last step, and then the rest.
 
-ghost use Rattle.std.specs.Prelude.{◌≡◌, ◌+◌, ◌-◌, ◌<◌, ◌≤◌, ◌^◌, ◌++◌, ◌∷◌, [], pos, ◌+ℤ◌, ◌≤ℤ◌, IsSome, IfOk, OnOk, OnErr, IsTrue, length, map, slice_index, zip, None, IsSomeAnd};
+ghost use Rattle.std.specs.Prelude.{◌≡◌, ◌+◌, ◌-◌, ◌<◌, ◌≤◌, ◌^◌, ◌++◌, ◌∷◌, [], pos, ◌+ℤ◌, ◌≤ℤ◌, IsSome, IfOk, OnOk, OnErr, IsTrue, List, length, map, slice_index, zip, None, IsSomeAnd};
 ghost use Rattle.rls_ident.specs.declared.limits.TheConstants.{IDENTIFIERS};
 ghost use Rattle.rls_ident.specs.Identifiers.{last_of};
 ghost use Rattle.rls_ident.specs.Tuples.{offset_of};
@@ -8,20 +8,21 @@ ghost use Rattle.rls_runs.specs.Entries.{put_all, without_all};
 ghost use Rattle.rls_runs.specs.Runs.{run_idents, past_offsets, IsImage};
 ghost use Rattle.rls_rename.specs.Tree.{is_kept, greatest, translate};
 ghost use Rattle.rls_ops.specs.declared.op.Body.TheVariants.{Rename};
+ghost use Rattle.rls_ops.specs.declared.op.Op.{Op as OpSeen};
 ghost use Rattle.rls_model.specs.Epochs.{renaming_of};
 ghost use Rattle.rls_model.specs.Stems.{stems_after};
-ghost use Rattle.rls_seen.specs.Over.{accepted, acks_after, epochs_after, first_ready, refusal_over, released};
+ghost use Rattle.rls_seen.specs.Over.{accepted, acks_after, epochs_after, first_ready, logged, refusal_over, released};
 ghost use Rattle.rls_seen.specs.Sane.{MayApply};
 ghost use Rattle.rls_epoch.specs.Seen.{former_sum};
 ghost use Rattle.rls_blocks.specs.Trees.{entries_of};
 ghost use Rattle.rls_replica.specs.Changing.{former_in, renaming_in, MayPrepare, IsTextAfter, MayFinish, MayInsert, MayRename};
 
-use crate::known::kept_known;
+use crate::known::{covers, kept_known};
 use crate::renaming_text::RenamingText;
 use crate::replica::Replica;
 use rls_doc::Document;
 use rls_epoch::Epochs;
-use rls_ident::{EpochName, Ident, rely};
+use rls_ident::{EpochName, Ident, Vector, rely};
 use rls_log::Log;
 use rls_ops::{Body, Op};
 use rls_rename::{Renaming, RenamingError};
@@ -40,6 +41,7 @@ impl Replica {
         ensures err { OnErr result (self.new ≡ self.old) }
     {
         rely!(op.fits());
+        let count = self.log.len();
         let renaming = prepare(
             self.alloc,
             &mut self.document,
@@ -57,6 +59,7 @@ impl Replica {
             op,
             renaming,
         );
+        keep_unstable(&mut self.log, count, op, self.acks.stable());
         let known = self.known.take();
         self.known = kept_known(self.alloc, known, &self.epochs, op, self.acks.stable());
         Ok(())
@@ -71,6 +74,7 @@ impl Replica {
         let Some(op) = self.held.first_ready(self.acks.mine()) else {
             unreachable!()
         };
+        let count = self.log.len();
         let renaming = prepare(
             self.alloc,
             &mut self.document,
@@ -91,6 +95,7 @@ impl Replica {
             &op,
             renaming,
         );
+        keep_unstable(&mut self.log, count, &op, self.acks.stable());
         let known = self.known.take();
         self.known = kept_known(self.alloc, known, &self.epochs, &op, self.acks.stable());
         Ok(())
@@ -311,6 +316,16 @@ fn finish(
     stems.note(op.author, op.seq, &op.body);
     add_epoch(epochs, op, renaming);
     count(acks, op);
+}
+
+// Takes the operation that was put there after so many others off the log again, if there are none and every member has it at once. So
+// the log of a member who is alone stays empty.
+fn keep_unstable(log: &mut Log, count: usize, op: &Op, stable: &Vector)
+    ensures log { (os : List OpSeen) → log.old ≡ os ++ op.now ∷ [] → count ≡ length os → log.new ≡ logged stable.now os op.now }
+{
+    if count == 0 && covers(stable, op) {
+        log.truncate(0);
+    }
 }
 
 // Adds the epoch of a rename.

@@ -194,7 +194,7 @@ pub(crate) fn kept_known(
 }
 
 // Whether a vector covers an operation.
-fn covers(vector: &Vector, op: &Op) -> bool
+pub(crate) fn covers(vector: &Vector, op: &Op) -> bool
     ensures covered { result ≡ is_covered vector.now op.now }
 {
     match vector.counts().get(op.author as usize) {

@@ -98,7 +98,8 @@ impl Replica {
         &self.held
     }
 
-    /// The accepted operations that are kept, in order.
+    /// The accepted operations that are kept, in order. A member who has been alone since the replica was made or stable operations were
+    /// dropped keeps none.
     pub fn logged(&self) -> &Log
         ensures log { result.now ≡ self.now.log }
 

@@ -1,5 +1,5 @@
 -- An operation that is accepted, seen by a history that the replica stands for.
-use Rattle.std.proofs.Common.{◌≡◌, ℕ, ◌+◌, ◌<◌, ◌==◌, ◌&&◌, ◌||◌, ◌++◌, not, slice_index, Bool, true, false, cond, List, [], ◌∷◌, length, map, get_or, set, refl, sym, ap, ◌∙◌, subst, arith, ⊎_elim, if◌then◌else◌}
+use Rattle.std.proofs.Common.{◌≡◌, ℕ, ◌+◌, ◌<◌, ◌==◌, ◌&&◌, ◌||◌, not, slice_index, Bool, true, false, cond, List, [], ◌∷◌, length, map, get_or, set, refl, sym, ap, ◌∙◌, subst, arith, ⊎_elim, if◌then◌else◌}
 use Rattle.std.specs.Prelude.{filter, zip, pos}
 use Rattle.std.proofs.lemmas.List.{get_or-set_same, get_or-set_other}
 use Rattle.rls_ident.specs.declared.tuple.Tuple.{Tuple}
@@ -32,7 +32,7 @@ use Rattle.rls_model.specs.Stems.{stems_after}
 use Rattle.rls_model.specs.WellFormed.{IsOp}
 use Rattle.rls_rename.specs.Renaming.{forward}
 use Rattle.rls_model.proofs.Dropping.{opened, greatest_same, greatest_retained, fits_retained}
-use Rattle.rls_model.proofs.Later.{window_step, log_step}
+use Rattle.rls_model.proofs.Later.{window_step}
 use Rattle.rls_model.proofs.OneTree.{author_below}
 use Rattle.rls_model.proofs.Spliced.{entries}
 use Rattle.rls_model.proofs.Stable.{stable_count, stable_grows}
@@ -40,9 +40,10 @@ use Rattle.rls_model.proofs.TextSteps.{placed, aims, renamed_entry, export_put, 
 use Rattle.rls_model.proofs.WindowAnswers.{greatest_cases}
 use Rattle.rls_model.proofs.WaitingFits.{sound_accepted}
 use Rattle.rls_seen.specs.Seen.{Seen}
-use Rattle.rls_seen.specs.Over.{acks_after, epochs_after, placed_over, added_over, renamed_over, is_greatest_over, text_after, accepted}
+use Rattle.rls_seen.specs.Over.{acks_after, epochs_after, placed_over, added_over, renamed_over, is_greatest_over, text_after, logged, accepted}
 use Rattle.rls_seen.specs.Stands.{StandsFor}
-use Rattle.rls_seen.proofs.Alike.{members_alike, keeping, keeps_back, greatest_alike}
+use Rattle.rls_seen.proofs.Alike.{members_alike, stable_by_rows, keeping, keeps_back, greatest_alike}
+use Rattle.rls_seen.proofs.Logs.{either_below, logged_log}
 
 -- ---- the rows
 
@@ -184,29 +185,31 @@ unfolding accepted
 accepted_stands s t o w m h =
     let H = t.history in
     let l : IsLegal (Then H (Accepted o)) = (h.legal, w, m) in
+    let K = Then H (Accepted o) in
+    let acks = acks_after s.acks o.author o.body in
     let inside : o.author < length s.acks.left = let e = h.places.marks ∙ members_alike s t h in let a = author_below (members_of H) o m.shape in omega arith in
+    let me : acks.me ≡ me_of K = acks_me s.acks o.author o.body ∙ h.me in
+    let mine : acks.mine ≡ count K = acks_mine s.acks o.author o.body ∙ ap (λ v. raise v o.author) h.vector in
+    let rows : (c : ℕ) → c < members_of K → row_of acks c ≡ history.row K c =
+        λ c k. row_after s.acks o.author o.body c
+        ∙ (ap (λ me. cond (c == me) (raise s.acks.mine o.author) (get_or s.acks.others c [])) h.me
+        ∙ row_go (c == me_of H) s.acks.mine (count H) (get_or s.acks.others c []) (history.acknowledged H c) o.author h.vector
+        (ap (λ me. cond (c == me) s.acks.mine (get_or s.acks.others c [])) (sym h.me) ∙ h.rows c k)) in
+    let marks : (c : ℕ) → c < members_of K → left acks c ≡ history.has_left K c = λ c k. left_after s.acks o.author o.body c inside ∙ ap (λ b. b || ((o.author == c) && is_leave o.body)) (h.left c k) in
+    let grows = at_most_trans h.log.0 (stable H) (stable K) h.log.1.stable (stable_grows H (Accepted o) l) in
+    let log = logged_log h.log.0 (stable K) s.log (ops H) o grows (new_uncovered h.log.0 H o h.log.1.stable m.next) h.log.1.kept in
     record {
       legal = l;
       sound = sound_accepted H o t.waiting m h.sound;
       group = h.group;
-      me = acks_me s.acks o.author o.body ∙ h.me;
-      vector = acks_mine s.acks o.author o.body ∙ ap (λ v. raise v o.author) h.vector;
+      me = me;
+      vector = mine;
       places = places_after s.acks o.author o.body h.places;
-      rows = λ c k.
-          row_after s.acks o.author o.body c
-          ∙ (ap (λ me. cond (c == me) (raise s.acks.mine o.author) (get_or s.acks.others c [])) h.me
-          ∙ row_go (c == me_of H) s.acks.mine (count H) (get_or s.acks.others c []) (history.acknowledged H c) o.author h.vector
-          (ap (λ me. cond (c == me) s.acks.mine (get_or s.acks.others c [])) (sym h.me) ∙ h.rows c k));
-      left = λ c k. left_after s.acks o.author o.body c inside ∙ ap (λ b. b || ((o.author == c) && is_leave o.body)) (h.left c k);
+      rows = rows;
+      left = marks;
       stems = ap (λ ss. stems_after ss o.author o.seq o.body) h.stems;
       epochs = keeps_back (epochs_after s.epochs o) (Then H (Accepted o)) (window_step H (Accepted o) l s.epochs.top s.epochs.nodes (keeping s t h));
       text = text_go s t o o.body h l refl;
       waiting = ap (without o.author o.seq) h.waiting;
-      log = (
-        h.log.0,
-        record {
-          stable = at_most_trans h.log.0 (stable H) (stable (Then H (Accepted o))) h.log.1.stable (stable_grows H (Accepted o) l);
-          kept = ap (λ os. os ++ o ∷ []) h.log.1.kept ∙ sym (log_step h.log.0 (ops H) o (new_uncovered h.log.0 H o h.log.1.stable m.next));
-        },
-      );
+      log = (log.0, record { stable = either_below h.log.0 (stable K) log.0 grows log.1; kept = ap (λ v. logged v s.log o) (stable_by_rows acks K me mine rows marks) ∙ log.2 });
     }

@@ -17,7 +17,7 @@ use Rattle.rls_ops.specs.declared.op.Op.{Op}
 use Rattle.rls_ops.specs.declared.op.Shape.{Shape}
 use Rattle.rls_ops.specs.declared.op.Body.{Body}
 use Rattle.rls_ops.specs.declared.op.Body.TheVariants.{Insert, Delete, Rename, Leave}
-use Rattle.rls_ops.specs.Rows.{row_of, left, awaits, awaited, least_of, stable_of, missing_for}
+use Rattle.rls_ops.specs.Rows.{AcksSeen, row_of, left, awaits, awaited, least_of, stable_of, missing_for}
 use Rattle.rls_ops.specs.Shapes.{shape_fault}
 use Rattle.rls_model.specs.Answers.{Reason, Left, Backward, WrongEpoch, WrongStem, UnknownTarget}
 use Rattle.rls_model.specs.Document.{targets_of, export}
@@ -45,21 +45,27 @@ use Rattle.rls_seen.specs.Stands.{StandsFor}
 pub members_alike : (s : Seen) (t : State) → StandsFor s t → members s ≡ members_of t.history
 members_alike s t h = ap length h.vector ∙ length-count t.history
 
-awaited_alike : (s : Seen) (t : State) → StandsFor s t → (n : ℕ) → n ≤ members_of t.history → awaited s.acks n ≡ awaited_rows t.history n
-awaited_alike s t h zero l = refl
-awaited_alike s t h (suc n) l =
-    let m : n < members_of t.history = omega arith in
-    let a : awaits s.acks n ≡ is_awaited t.history n = ap (λ me. (n == me) || not (left s.acks n)) h.me ∙ ap (λ b. (n == me_of t.history) || not b) (h.left n m) in
-    ap (λ rs. rs ++ (if awaits s.acks n then row_of s.acks n ∷ [] else [])) (awaited_alike s t h n (omega arith))
-    ∙ (ap (λ b. awaited_rows t.history n ++ (if b then row_of s.acks n ∷ [] else [])) a
-    ∙ ap (λ r. awaited_rows t.history n ++ (if is_awaited t.history n then r ∷ [] else [])) (h.rows n m))
+module _ (acks : AcksSeen) (H : History) (me : acks.me ≡ me_of H) (vector : acks.mine ≡ count H) (rows : (a : ℕ) → a < members_of H → row_of acks a ≡ row H a) (marks : (a : ℕ) → a < members_of H → left acks a ≡ has_left H a) where
+  awaited_alike : (n : ℕ) → n ≤ members_of H → awaited acks n ≡ awaited_rows H n
+  awaited_alike zero l = refl
+  awaited_alike (suc n) l =
+      let m : n < members_of H = omega arith in
+      let a : awaits acks n ≡ is_awaited H n = ap (λ me. (n == me) || not (left acks n)) me ∙ ap (λ b. (n == me_of H) || not b) (marks n m) in
+      ap (λ rs. rs ++ (if awaits acks n then row_of acks n ∷ [] else [])) (awaited_alike n (omega arith))
+      ∙ (ap (λ b. awaited_rows H n ++ (if b then row_of acks n ∷ [] else [])) a
+      ∙ ap (λ r. awaited_rows H n ++ (if is_awaited H n then r ∷ [] else [])) (rows n m))
+
+  -- where rows and marks are those of a history, the same is stable
+  pub stable_by_rows : stable_of acks ≡ stable H
+  unfolding stable_of stable
+  stable_by_rows =
+      let n : length acks.mine ≡ members_of H = ap length vector ∙ length-count H in
+      ap (λ v. least_of v (awaited acks (length acks.mine))) vector
+      ∙ (ap (λ n. least_of (count H) (awaited acks n)) n
+      ∙ ap (least_of (count H)) (awaited_alike (members_of H) (omega arith)))
 
 pub stable_alike : (s : Seen) (t : State) → StandsFor s t → stable_over s ≡ stable t.history
-unfolding stable_of stable
-stable_alike s t h =
-    ap (λ v. least_of v (awaited s.acks (length s.acks.mine))) h.vector
-    ∙ (ap (λ n. least_of (count t.history) (awaited s.acks n)) (members_alike s t h)
-    ∙ ap (least_of (count t.history)) (awaited_alike s t h (members_of t.history) (omega arith)))
+stable_alike s t h = stable_by_rows s.acks t.history h.me h.vector h.rows h.left
 
 pub unstable_alike : (s : Seen) (t : State) → StandsFor s t → unstable_over s ≡ unstable t.history
 unstable_alike s t h = ap (λ v. missing_for v s.log) (stable_alike s t h) ∙ log_unstable t.history h.log.0 s.log h.log.1.stable h.log.1.kept

@@ -1,5 +1,5 @@
 -- A replica stays sane where an operation is accepted that may be applied.
-use Rattle.std.proofs.Common.{◌≡◌, ℕ, ◌+◌, ◌^◌, ◌<◌, ◌≤◌, ◌==◌, ◌||◌, ◌++◌, not, slice_index, Bool, true, false, cond, List, [], ◌∷◌, length, get_or, refl, sym, ap, ◌∙◌, subst, arith, inl, inr, ◌⊎◌, ⊎_elim}
+use Rattle.std.proofs.Common.{◌≡◌, ℕ, ◌+◌, ◌^◌, ◌<◌, ◌≤◌, ◌==◌, ◌||◌, not, slice_index, Bool, true, false, cond, List, [], ◌∷◌, length, get_or, refl, sym, ap, ◌∙◌, subst, arith, inl, inr, ◌⊎◌, ⊎_elim}
 use Rattle.std.specs.Prelude.{All, ◌&&◌, nat_lt, pos, sum, sum_by, ◌*◌}
 use Rattle.std.proofs.lemmas.Grind.{get_or_default_zero}
 use Rattle.rls_ident.specs.declared.limits.TheConstants.{IDENTIFIERS}
@@ -8,7 +8,7 @@ use Rattle.rls_ident.specs.declared.epoch_name.EpochName.TheVariants.{Origin, Of
 use Rattle.rls_ident.specs.EpochNames.{name_eq}
 use Rattle.rls_ident.specs.Lists.{IsIn}
 use Rattle.rls_ident.specs.Vectors.{at_most, raise}
-use Rattle.rls_ident.proofs.Members.{bool_cases, true_false, and_true, eq_is, eq_not, eq_refl, or_left, or_right, le_is, le_test, not_is, not_lt_is, snoc_split, in_filter, filter_in}
+use Rattle.rls_ident.proofs.Members.{bool_cases, true_false, and_true, eq_is, eq_not, eq_refl, or_left, or_right, le_is, le_test, not_is, not_lt_is, in_filter, filter_in}
 use Rattle.rls_ident.proofs.Vectors.{length-raise, at_most_trans, raise_other, index-raise_same, index-raise_le, index_le}
 use Rattle.rls_ident.proofs.Named.{within_more}
 use Rattle.rls_rename.specs.Tree.{Node, Epochs, is_of, has_node, is_kept}
@@ -26,14 +26,15 @@ use Rattle.rls_model.specs.Receiving.{without}
 use Rattle.rls_model.specs.Stems.{stems_after}
 use Rattle.rls_model.specs.WellFormed.{IsSmall}
 use Rattle.rls_seen.specs.Seen.{Seen, vector, members}
-use Rattle.rls_seen.specs.Over.{acks_after, epochs_after, accepted, text_after}
+use Rattle.rls_seen.specs.Over.{acks_after, epochs_after, logged, accepted, text_after}
 use Rattle.rls_seen.specs.Sane.{IsSane, IsCounted, IsCovered, AreEpochs, IsInRange, IsLast, AreStems, AreHeld, Follow, MayApply}
 use Rattle.rls_seen.proofs.Accepting.{acks_mine, places_after, row_after, left_after}
 use Rattle.rls_seen.proofs.Fitting.{Facts, facts, stems_accepted}
 use Rattle.rls_seen.proofs.Held.{held_accepted}
-use Rattle.rls_seen.proofs.Logs.{follow_more}
+use Rattle.rls_seen.proofs.Logs.{either_below, follow_accepted, logged_split}
+use Rattle.rls_seen.proofs.Sending.{length-stable}
 use Rattle.rls_seen.proofs.Sizes.{total_after, former_after}
-use Rattle.rls_seen.proofs.StableRows.{stable_accepted}
+use Rattle.rls_seen.proofs.StableRows.{stable_accepted, stable_mine}
 use Rattle.rls_seen.proofs.Written.{later_used, rename_covered, rename_tree, written_after}
 
 -- ---- counts
@@ -138,10 +139,10 @@ in_missing : (v : List ℕ) (os : List Op) (o : Op) → IsIn o os → is_covered
 in_missing v os o p e = filter_in (λ x. not (is_covered v x)) o os p (ap not e)
 
 -- an unstable one of the longer log
-unstable_split : (v : List ℕ) (os : List Op) (o x : Op) → IsIn x (missing_for v (os ++ o ∷ [])) → IsIn x (missing_for v os) ⊎ (o ≡ x)
+unstable_split : (v : List ℕ) (os : List Op) (o x : Op) → IsIn x (missing_for v (logged v os o)) → IsIn x (missing_for v os) ⊎ (o ≡ x)
 unstable_split v os o x p =
-    let r = missing_in v (os ++ o ∷ []) x p in
-    ⊎_elim (λ q. inl (in_missing v os x q r.1)) (λ e. inr e) (snoc_split x o os r.0)
+    let r = missing_in v (logged v os o) x p in
+    ⊎_elim (λ q. inl (in_missing v os x q r.1)) (λ e. inr e) (logged_split v os o x r.0)
 
 -- a leave that was accepted before is the last of its author
 last_before : (s : Seen) (o x : Op) → IsSane s → Facts s o → IsLast s.acks x → IsLast (acks_after s.acks o.author o.body) x
@@ -179,6 +180,10 @@ accepted_sane s o sane m r =
     let len : length u ≡ length v = length-raise v a in
     let count : length new.mine ≡ length v = ap length mine ∙ len in
     let grows : at_most (stable_of s.acks) (stable_of new) ≡ true = stable_accepted s.acks a b sane.rows f.shaped.author in
+    let sn = stable_of new in
+    let rows = places_after s.acks a b sane.rows in
+    let later = at_most_trans sane.log.0 (stable_of s.acks) sn sane.log.1.stable grows in
+    let log = follow_accepted (members s) sane.log.0 sn s.log v o m.whole m.shape f.next m.causes (length-stable new rows ∙ count) later (subst (λ x. at_most sn x ≡ true) mine (stable_mine new)) sane.log.1.follow in
     let w = written_after s o sane m in
     let ts = stems_after s.stems a o.seq b in
     let small : slice_index v a + 1 < 2 ^ 32 = let q = m.whole.seq in let n = f.next in omega arith in
@@ -186,7 +191,7 @@ accepted_sane s o sane m r =
       group = sane.group;
       few = let n = sane.few in omega arith;
       small = subst (All IsSmall) (sym mine) (small_raised v a f.shaped.author small sane.small);
-      rows = places_after s.acks a b sane.rows;
+      rows = rows;
       own = λ c l. subst (λ x. slice_index (row_of new c) c ≤ slice_index x c) (sym mine) (own_after s a b sane.rows sane.own c (omega arith));
       stems = subst (λ x. AreStems x ts) (sym mine) (stems_accepted s o sane f r);
       epochs = subst (λ x. AreEpochs x ts (epochs_after s.epochs o)) (sym mine) (epochs_go s o b sane m refl);
@@ -196,11 +201,10 @@ accepted_sane s o sane m r =
       waiting = subst (λ x. AreHeld (length x) x (without a o.seq s.waiting)) (sym mine)
           (subst (λ n. AreHeld n u (without a o.seq s.waiting)) (sym len) (held_accepted (members s) v a o.seq s.waiting f.next sane.waiting));
       log = (
-        sane.log.0,
+        log.0,
         record {
-          stable = at_most_trans sane.log.0 (stable_of s.acks) (stable_of new) sane.log.1.stable grows;
-          follow = subst (λ x. Follow (length x) sane.log.0 (s.log ++ o ∷ []) x) (sym mine)
-              (subst (λ n. Follow n sane.log.0 (s.log ++ o ∷ []) u) (sym len) (follow_more (members s) sane.log.0 s.log v o m.whole m.shape f.next m.causes sane.log.1.follow));
+          stable = either_below sane.log.0 sn log.0 later log.1;
+          follow = subst (λ x. Follow (length x) log.0 (logged sn s.log o) x) (sym mine) (subst (λ n. Follow n log.0 (logged sn s.log o) u) (sym len) log.2);
         },
       );
       unstable = λ x p. ⊎_elim
@@ -210,7 +214,7 @@ accepted_sane s o sane m r =
       leaves = λ x p l. ⊎_elim
           (λ q. last_before s o x sane f (sane.leaves x q l))
           (λ e. subst (IsLast new) e (last_now s o sane f (subst (λ (y : Op). is_leave y.body ≡ true) (sym e) l)))
-          (snoc_split x o s.log p);
+          (logged_split sn s.log o x p);
       total = subst (λ x. length (text_after s o b) ≤ 2 ^ 63 + IDENTIFIERS * sum x) (sym mine) (total_after s o f.shaped.author f.shaped.few sane.total);
       former = subst (λ x. sum_by (λ (n : Node). length n.renaming.former) (nodes_after s.epochs.nodes o b) ≤ 2 ^ 54 + IDENTIFIERS * sum x) (sym mine) (former_after s o f.shaped.author f.shaped.few sane.former);
     }

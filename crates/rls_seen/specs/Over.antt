@@ -12,7 +12,7 @@ use Rattle.rls_ops.specs.declared.op.Op.{Op}
 use Rattle.rls_ops.specs.declared.op.Body.{Body}
 use Rattle.rls_ops.specs.declared.op.Body.TheVariants.{Insert, Delete, Rename, Leave}
 use Rattle.rls_ops.specs.Shapes.{shape_fault}
-use Rattle.rls_ops.specs.Rows.{AcksSeen, row_of, left, raised, parted}
+use Rattle.rls_ops.specs.Rows.{AcksSeen, row_of, left, raised, parted, stable_of, is_covered}
 use Rattle.rls_ops.specs.Rows as rows
 use Rattle.rls_model.specs.Answers.{Reason, Answer, Applies, Waits, Released}
 use Rattle.rls_model.specs.Stems.{stems_after}
@@ -79,6 +79,11 @@ text_after s o (Delete targets) = without_all (map (placed_over s o.epoch) targe
 text_after s o (Rename former) = if is_greatest_over s o then with_idents (renamed_over s o former) s.text else s.text
 text_after s o Leave = s.text
 
+-- the log after an operation was accepted, where these counts are stable by then: what is stable at once isn't kept, if nothing else is
+abbrev pub logged : List ℕ → List Op → Op → List Op
+logged stable [] o = if is_covered stable o then [] else o ∷ []
+logged stable (p ∷ os) o = p ∷ os ++ o ∷ []
+
 unfoldable pub accepted : Seen → Op → Seen
 accepted s o = record {
   group = s.group;
@@ -87,7 +92,7 @@ accepted s o = record {
   epochs = epochs_after s.epochs o;
   text = text_after s o o.body;
   waiting = without o.author o.seq s.waiting;
-  log = s.log ++ o ∷ [];
+  log = logged (stable_of (acks_after s.acks o.author o.body)) s.log o;
 }
 
 -- ---- receiving

@@ -6,7 +6,7 @@ use Rattle.std.proofs.lemmas.Bool.Decides.{nat_tests}
 use Rattle.rls_ident.specs.declared.limits.TheConstants.{OPERATION_BYTES, GREATEST_NUMBER}
 use Rattle.rls_ident.specs.Lists.{IsIn}
 use Rattle.rls_ident.specs.Vectors.{at_most}
-use Rattle.rls_ident.proofs.Members.{found_in, in_split}
+use Rattle.rls_ident.proofs.Members.{found_in}
 use Rattle.rls_ops.specs.declared.op.Op.{Op}
 use Rattle.rls_ops.specs.declared.op.Shape.{Shape}
 use Rattle.rls_ops.specs.Rows.{counts, left, noted}
@@ -34,6 +34,7 @@ use Rattle.rls_seen.specs.Over.{answer_over, accepted, holding, received, refusa
 use Rattle.rls_seen.specs.Sane.{IsSane}
 use Rattle.rls_seen.specs.Seen.{Seen, members, own_count, vector, idents_over}
 use Rattle.rls_seen.proofs.Counting.{members_accepted, members_received, members_released}
+use Rattle.rls_seen.proofs.Logs.{logged_split}
 use Rattle.rls_seen.proofs.Making.{edited_sane}
 use Rattle.rls_seen.proofs.Repeating.{acknowledged_seen, received_seen, released_seen}
 use Rattle.rls_seen.proofs.Staying.{acknowledged_sane, received_sane, released_all_sane, released_sane}
@@ -77,14 +78,10 @@ writable s h r = record { log = h.log; waiting = h.waiting; others = h.others; r
 accept_sized : (s : Seen) (o : Op) → IsSized s → op_size o ≤ OPERATION_BYTES → IsSized (accepted s o)
 unfolding accepted
 accept_sized s o h few = record {
-  log = λ x p. ⊎_elim (λ q. h.log x q) (λ q. last x q) (in_split x s.log (o ∷ []) p);
+  log = λ x p. ⊎_elim (λ q. h.log x q) (λ e. subst (λ (y : Op). op_size y ≤ OPERATION_BYTES) e few) (logged_split _ s.log o x p);
   waiting = λ w p. h.waiting w (in_without o.author o.seq w s.waiting p).0;
   others = λ w p. subst (λ m. w.author ≢ m) (sym (acks_me s.acks o.author o.body)) (h.others w (in_without o.author o.seq w s.waiting p).0);
 }
-  where
-    last : (x : Op) → IsIn x (o ∷ []) → op_size x ≤ OPERATION_BYTES
-    last x (inl e) = subst (λ (y : Op). op_size y ≤ OPERATION_BYTES) e few
-    last x (inr q) = absurd q
 
 pub accept_storing : (s : Seen) (o : Op) → IsStoring s → IsSane (accepted s o) → op_size o ≤ OPERATION_BYTES → IsStoring (accepted s o)
 accept_storing s o h sane few = record { sane = sane; sized = accept_sized s o h.sized few }

@@ -150,3 +150,16 @@ fn a_day_of_three(rt: HostRuntime) -> Result<(), Fail> {
     assert_eq!(rt; end_of_three(rt.alloc())?, (true, true, (0, 1, 0)));
     Ok(())
 }
+
+/// Whether the insertion of a sole member goes well, and how much it keeps then.
+fn page_of_one(alloc: Global) -> Result<(bool, Kept), Fail> {
+    let mut world = World::new(alloc, 7, 1)?;
+    let goes_well = inserts_page(alloc, &mut world)?;
+    Ok((goes_well, kept(&world)?))
+}
+
+#[test]
+fn a_sole_member_keeps_no_operation(rt: HostRuntime) -> Result<(), Fail> {
+    assert_eq!(rt; page_of_one(rt.alloc())?, (true, (0, 1, 0)));
+    Ok(())
+}

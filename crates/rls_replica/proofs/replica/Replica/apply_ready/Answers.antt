@@ -1,11 +1,11 @@
-use Rattle.std.proofs.Common.{◌≡◌, ◌∙◌, ◌<◌, List, Some, None, slice_index, ap, sym, subst, refl, arith}
+use Rattle.std.proofs.Common.{◌≡◌, ◌∙◌, ◌<◌, ◌++◌, List, [], ◌∷◌, Some, None, slice_index, ap, sym, subst, refl, arith}
 use Rattle.rls_rename.specs.Tree.{Epochs}
 use Rattle.std.specs.Prelude.{IfSome}
 use Rattle.rls_ops.specs.declared.op.Op.{Op}
 use Rattle.rls_ops.specs.Rows.{stable_of}
 use Rattle.rls_model.specs.declared.parts.Stem.{Stem}
 use Rattle.rls_model.specs.Stems.{stems_after}
-use Rattle.rls_seen.specs.Over.{accepted, acks_after, epochs_after, released}
+use Rattle.rls_seen.specs.Over.{accepted, acks_after, epochs_after, logged, released}
 use Rattle.rls_seen.specs.Sane.{IsSane, MayApply}
 use Rattle.rls_seen.proofs.Counting.{members_released}
 use Rattle.rls_seen.proofs.Needed.{author_in}
@@ -77,13 +77,14 @@ after c =
     let e = next_taken _ c.args.self.now _ c.in-Some.op.now c.in-Some-remove.op c.remove.result c.self.view_is c.self.invariant.sane c.mine.ensures.mine c.in-Some.ensures.ready c.requires.fits c.remove.ensures.found c.in-Some-remove.is in
     let p = c.in_ok-renaming.ensures in
     let f = c.finish.ensures in
-    accepted_is i w c.finish.new.acks c.finish.new.stems.stems c.finish.new.epochs.epochs (entries_of c.prepare.new.document.blocks) c.remove.new.self c.prepare.new.log
+    accepted_is i w c.finish.new.acks c.finish.new.stems.stems c.finish.new.epochs.epochs (entries_of c.prepare.new.document.blocks) c.remove.new.self c.keep_unstable.new.log
     (f.acks ∙ ap (λ (o : Op). acks_after i.acks o.author o.body) e)
     (f.stems ∙ (ap (λ (ss : List Stem). stems_after ss c.in-Some-remove.op.author c.in-Some-remove.op.seq c.in-Some-remove.op.body) p.stems ∙ ap (λ (o : Op). stems_after i.stems o.author o.seq o.body) e))
     (f.epochs ∙ (ap (λ (E : Epochs). epochs_after E c.in-Some-remove.op) p.epochs ∙ ap (epochs_after i.epochs) e))
     (p.text i refl refl)
     c.remove.ensures.others
-    p.log
+    (c.keep_unstable.ensures.log i.log (p.log ∙ ap (λ (o : Op). i.log ++ o ∷ []) (sym e)) c.len-count.ensures.len
+    ∙ (ap (λ v. logged v i.log c.in-Some-remove.op) c.stable.ensures.stable ∙ ap (logged (stable_of c.finish.new.acks) i.log) e))
     ∙ (released_accepted i w h.first h.fits ∙ ap released c.self.view_is)
 
 pub returns-clause-ok : goal.returns-clause-ok
@@ -103,5 +104,5 @@ invariant_of-self-2 c =
     let o = c.in-Some-remove.op in
     let e = next_taken _ s _ w o c.remove.result c.self.view_is c.self.invariant.sane c.mine.ensures.mine c.in-Some.ensures.ready c.requires.fits c.remove.ensures.found c.in-Some-remove.is in
     subst (λ (u : Seen). IfSome c.kept_known.result (λ k. IsKnown u k)) (ap (accepted i) e ∙ (released_accepted i w h.first h.fits ∙ ap released c.self.view_is))
-    (next_known i i c.self.inside.stems.members c.self.inside.gone c.self.inside.known c.take-known.result c.kept_known.result o c.finish.new.epochs.epochs c.stable.result.now refl c.self.invariant c.take-known.ensures.value
-    (c.finish.ensures.epochs ∙ ap (λ (E : Epochs). epochs_after E o) c.in_ok-renaming.ensures.epochs) (c.stable.ensures.stable ∙ ap stable_of c.finish.ensures.acks) c.kept_known.ensures.kept))
+    (next_known i i c.self.inside.stems.members c.self.inside.gone c.self.inside.known c.take-known.result c.kept_known.result o c.finish.new.epochs.epochs c.stable-2.result.now refl c.self.invariant c.take-known.ensures.value
+    (c.finish.ensures.epochs ∙ ap (λ (E : Epochs). epochs_after E o) c.in_ok-renaming.ensures.epochs) (c.stable-2.ensures.stable ∙ ap stable_of c.finish.ensures.acks) c.kept_known.ensures.kept))
