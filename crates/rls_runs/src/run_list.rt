@@ -5,20 +5,27 @@ ghost use Rattle.std.specs.Prelude.{◌≡◌, ◌<◌, ◌++◌, ◌∷◌, [],
 use crate::run::Run;
 use std::alloc::{AllocError, Global};
 use std::marker::Model;
+use std::slice;
 
-/// A list of runs in any order, which may touch or overlap.
+/// A list of runs in any order, which may touch or overlap. One run alone stands in the list itself and takes no other memory.
 #[derive(Drop)]
 pub struct RunList {
+    // The only run, if it stands apart. The vector is empty then.
+    one: Option<Run>,
     runs: Vec<Run>,
 }
 
 impl Model for RunList {
     ghost use Rattle.std.specs.Prelude.{List, ℕ};
     ghost use Rattle.rls_ident.specs.declared.tuple.Tuple.{Tuple};
+    ghost use Rattle.std.specs.Prelude.{IsSome, ◌≡◌, []};
+    ghost use Rattle.rls_runs.specs.Apart.{items_of};
 
     ghost Value = { List (List Tuple × ℕ) };
 
-    ghost view = { λ a. a.runs.items };
+    ghost view = { λ a. items_of a.one a.runs.items };
+
+    ghost invariant = { λ a. IsSome a.one → a.runs.items ≡ [] };
 }
 
 impl RunList {
@@ -27,6 +34,7 @@ impl RunList {
         ensures empty { result ≡ [] }
     {
         RunList {
+            one: None,
             runs: Vec::new(alloc),
         }
     }
@@ -36,6 +44,14 @@ impl RunList {
         ensures ok { OnOk result (self.new ≡ self.old ++ run ∷ []) }
         ensures err { OnErr result (self.new ≡ self.old) }
     {
+        if self.one.is_none() && self.runs.is_empty() {
+            self.one = Some(run);
+            return Ok(());
+        }
+        self.runs.reserve(2)?;
+        if let Some(first) = self.one.take() {
+            self.runs.push(first).unwrap();
+        }
         self.runs.push(run)?;
         Ok(())
     }
@@ -44,7 +60,10 @@ impl RunList {
     pub fn len(&self) -> usize
         ensures len { result ≡ length self.now }
     {
-        self.runs.len()
+        match &self.one {
+            Some(_) => 1,
+            None => self.runs.len(),
+        }
     }
 
     /// The run at a place.
@@ -52,13 +71,19 @@ impl RunList {
         requires place { i < length self.now }
         ensures run { slice_get self.now i ≡ Some result.now }
     {
-        &self.runs[i]
+        match &self.one {
+            Some(run) => run,
+            None => &self.runs[i],
+        }
     }
 
     /// The runs.
     pub fn as_slice(&self) -> &[Run]
         ensures runs { result.now ≡ self.now }
     {
-        &self.runs
+        match &self.one {
+            Some(run) => slice::from_ref(run),
+            None => &self.runs,
+        }
     }
 }
