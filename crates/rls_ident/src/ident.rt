@@ -1,6 +1,6 @@
 //! Identifiers: nonempty lists of tuples, in lexicographic order (LogootSplit: André and others, 2013).
 
-ghost use Rattle.std.specs.Prelude.{◌≡◌, ℕ, ◌+◌, ◌<◌, pos, ◌+ℤ◌, ◌-ℤ◌, ◌≤ℤ◌, length, slice_get, Some, None, [], ◌∷◌, ◌++◌, ◌↔◌, drop, IfOk, OnOk, IsErrOf, IsTrue};
+ghost use Rattle.std.specs.Prelude.{◌≡◌, ℕ, ◌+◌, ◌<◌, ◌≤◌, pos, ◌+ℤ◌, ◌-ℤ◌, ◌≤ℤ◌, length, slice_get, Some, None, [], ◌∷◌, ◌++◌, ◌↔◌, drop, IfOk, OnOk, IsErrOf, IsTrue};
 ghost use Rattle.std.specs.List.{All};
 ghost use Rattle.rls_ident.specs.Tuples.{at_spot, offset_of, raised, tuple_cmp};
 ghost use Rattle.rls_ident.specs.Maps.{under};
@@ -129,19 +129,16 @@ impl Ident {
     pub fn compare(&self, other: &Ident) -> Ordering
         ensures order { result ≡ ident_cmp self.now other.now }
     {
-        for i in 0..self.len().min(other.len()) {
-            let tuple = self.tuple(i);
-            let against = other.tuple(i);
-            // Two identifiers that are compared mostly begin alike, and to see that two tuples are equal costs half of their order.
-            if tuple.same(&against) {
-                continue;
-            }
-            match tuple.compare(&against) {
-                Ordering::Equal => {}
-                order => return order,
-            }
-        }
-        self.len().cmp(&other.len())
+        compare_ending(&self.front, self.last, other)
+    }
+
+    /// The order of the identifier with the last offset greater by this much, and another one. It takes no memory.
+    #[tactic(auto, using(crate::proofs::Ends::offset_of_ending, crate::proofs::Ends::shifted_of_ending))]
+    pub fn compare_shifted(&self, by: u32, other: &Ident) -> Ordering
+        requires greatest { (offset_of (last_of self.now) +ℤ pos by) ≤ℤ greatest_offset }
+        ensures order { result ≡ ident_cmp (shifted (pos by) self.now) other.now }
+    {
+        compare_ending(&self.front, self.last.raised(by), other)
     }
 
     /// The same again.
@@ -232,6 +229,36 @@ impl Ident {
             front: Vec::from_slice(*self.front.allocator(), rest)?,
             last: self.last,
         })
+    }
+}
+
+// The order of the identifier of these tuples and one more, and another one.
+fn compare_ending(front: &[Tuple], last: Spot, other: &Ident) -> Ordering
+    ensures order { result ≡ ident_cmp (front.now ++ at_spot last ∷ []) other.now }
+{
+    let other_front = other.front();
+    let end = front.len().min(other_front.len());
+    for i in 0..end {
+        // Two identifiers that are compared mostly begin alike, and to see that two tuples are equal costs half of their order.
+        if !front[i].same(&other_front[i]) {
+            return front[i].compare(&other_front[i]);
+        }
+    }
+    match tuple_at(front, last, end).compare(&other.tuple(end)) {
+        Ordering::Equal => front.len().cmp(&other_front.len()),
+        order => order,
+    }
+}
+
+// The tuple at a place of these tuples and one more.
+fn tuple_at(front: &[Tuple], last: Spot, i: usize) -> Tuple
+    requires place { i ≤ length front.now }
+    ensures found { slice_get (front.now ++ at_spot last ∷ []) i ≡ Some result }
+{
+    if i < front.len() {
+        front[i]
+    } else {
+        last.as_tuple()
     }
 }
 
