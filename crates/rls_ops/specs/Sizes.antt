@@ -47,6 +47,22 @@ body_size Leave = 0
 abbrev pub op_size : Op → ℕ
 op_size o = 8 + 4 * length o.context + name_size o.epoch + 1 + body_size o.body
 
+-- the most bytes that the parts of an operation may have, by their numbers alone: 17 for each tuple and 4 for each character
+abbrev pub most_ident : List Tuple → ℕ
+most_ident x = 4 + 17 * length x
+
+abbrev pub most_run : List Tuple × ℕ → ℕ
+most_run r = most_ident r.0 + 4
+
+abbrev pub most_body : Body → ℕ
+most_body (Insert first text) = most_ident first + 4 + 4 * length text
+most_body (Delete targets) = 4 + sum_by most_run (runs_of targets)
+most_body (Rename former) = 4 + sum_by most_run (runs_of former)
+most_body Leave = 0
+
+abbrev pub op_most : Op → ℕ
+op_most o = 18 + 4 * length o.context + most_body o.body
+
 -- a message but for its operations: magic text, form, group, members, sender, vector and the number of operations
 abbrev pub head_size : ℕ → ℕ
 head_size members = 25 + 4 * members

@@ -1,8 +1,8 @@
 //! How many bytes an operation and its fields have where they are written, and what stands before the operations of a message. Each number
 //! is the greatest u64 if there are more.
 
-ghost use Rattle.std.specs.Prelude.{◌≡◌, ◌-◌, ◌+◌, ◌^◌, min, sum_by};
-ghost use Rattle.rls_ops.specs.Sizes.{tuple_size, ident_size, run_size, runs_size, char_size, name_size, body_size, op_size, head_size};
+ghost use Rattle.std.specs.Prelude.{◌≡◌, ◌≤◌, ◌-◌, ◌+◌, ◌^◌, min, sum_by};
+ghost use Rattle.rls_ops.specs.Sizes.{tuple_size, ident_size, run_size, char_size, name_size, body_size, op_size, most_ident, most_run, most_body, op_most, head_size};
 
 use crate::op::{Body, Op};
 use rls_ident::{EpochName, Ident, Tuple};
@@ -19,6 +19,19 @@ impl Op {
             .saturating_add(name_len(&self.epoch))
             .saturating_add(body_len(&self.body))
             .saturating_add(9)
+    }
+
+    /// The most bytes that an operation with as many tuples and characters has where it is written, or the greatest u64 if that is more.
+    /// It costs a step for each run, however many tuples and characters there are, and takes no memory.
+    #[tactic(auto, using(crate::proofs::Sizes::op_at_most))]
+    pub fn most_bytes(&self) -> u64
+        ensures most { result ≡ min (op_most self.now) (2 ^ 64 - 1) }
+        ensures bound { op_size self.now ≤ op_most self.now }
+    {
+        (self.context.len() as u64)
+            .saturating_mul(4)
+            .saturating_add(most_body(&self.body))
+            .saturating_add(18)
     }
 }
 
@@ -104,6 +117,38 @@ fn body_len(body: &Body) -> u64
         Body::Insert { first, text } => ident_len(first).saturating_add(text_len(text)),
         Body::Delete { targets } => runs_len(targets.as_slice()),
         Body::Rename { former } => runs_len(former.as_slice()),
+        Body::Leave => 0,
+    }
+}
+
+// The most bytes of an identifier.
+fn most_ident(ident: &Ident) -> u64
+    ensures most { result ≡ min (most_ident ident.now) (2 ^ 64 - 1) }
+{
+    (ident.len() as u64).saturating_mul(17).saturating_add(4)
+}
+
+// The most bytes of a list of runs.
+fn most_runs(runs: &[Run]) -> u64
+    ensures most { result ≡ min (4 + sum_by most_run runs.now) (2 ^ 64 - 1) }
+{
+    let mut total: u64 = 4;
+    for run in runs {
+        total = total.saturating_add(most_ident(run.first()).saturating_add(4));
+    }
+    total
+}
+
+// The most bytes of a body after its kind.
+fn most_body(body: &Body) -> u64
+    ensures most { result ≡ min (most_body body.now) (2 ^ 64 - 1) }
+{
+    match body {
+        Body::Insert { first, text } => most_ident(first)
+            .saturating_add((text.len() as u64).saturating_mul(4))
+            .saturating_add(4),
+        Body::Delete { targets } => most_runs(targets.as_slice()),
+        Body::Rename { former } => most_runs(former.as_slice()),
         Body::Leave => 0,
     }
 }
