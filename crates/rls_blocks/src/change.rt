@@ -7,6 +7,7 @@ use crate::block::Block;
 use crate::side::Side;
 use rls_ident::rely;
 use std::alloc::AllocError;
+use std::mem;
 
 /// How a block changes.
 #[derive(Drop)]
@@ -20,15 +21,15 @@ pub(crate) enum Change {
 }
 
 impl Block {
-    /// The block after a change. It costs the characters that come, or those that go.
-    pub(crate) fn change(&mut self, change: Change) -> Result<(), AllocError>
-        requires may { MayChange change self.old }
-        ensures ok { OnOk result (self.new ≡ changed change self.old) }
+    /// The block after a change, which is used up. It costs the characters that come, or those that go.
+    pub(crate) fn change(&mut self, change: &mut Change) -> Result<(), AllocError>
+        requires may { MayChange change.old self.old }
+        ensures ok { OnOk result (self.new ≡ changed change.old self.old) }
         ensures err { OnErr result (self.new ≡ self.old) }
-        ensures chars { length self.new.1 ≤ length self.old.1 + gain change }
+        ensures chars { length self.new.1 ≤ length self.old.1 + gain change.old }
     {
         rely!(let _len = self.len());
-        match change {
+        match mem::replace(change, Change::KeepFront(0)) {
             Change::Grow(side, piece) => self.grow(side, piece),
             Change::KeepFront(at) => {
                 self.keep_front(at);

@@ -18,22 +18,22 @@ impl Link {
         ensures ok { IfOk result (λ new. new.blocks ≡ changed_at change self.blocks i) }
         ensures err { IfErr result (λ old. old.blocks ≡ self.blocks) }
     {
-        let mut link = self;
-        match link.change_at(i, change) {
+        let (mut link, mut change) = (self, change);
+        match link.change_at(i, &mut change) {
             Ok(()) => Ok(link),
             Err(_) => Err(link),
         }
     }
 
-    // Changes the block that has a place.
+    // Changes the block that has a place. The change is given by reference, so that no level copies it; it is used up.
     #[cycle(change_at)]
-    fn change_at(&mut self, i: u64, change: Change) -> Result<(), AllocError>
+    fn change_at(&mut self, i: u64, change: &mut Change) -> Result<(), AllocError>
         requires place { i < length (entries_of self.old.blocks) }
-        requires may { IfSome (located self.old.blocks i) (λ p. MayChange change p.0) }
-        requires chars_fit { length (entries_of self.old.blocks) + gain change < 2 ^ 64 }
-        ensures ok { OnOk result (self.new.blocks ≡ changed_at change self.old.blocks i) }
+        requires may { IfSome (located self.old.blocks i) (λ p. MayChange change.old p.0) }
+        requires chars_fit { length (entries_of self.old.blocks) + gain change.old < 2 ^ 64 }
+        ensures ok { OnOk result (self.new.blocks ≡ changed_at change.old self.old.blocks i) }
         ensures err { OnErr result (self.new.blocks ≡ self.old.blocks) }
-        ensures chars { length (entries_of self.new.blocks) ≤ length (entries_of self.old.blocks) + gain change }
+        ensures chars { length (entries_of self.new.blocks) ≤ length (entries_of self.old.blocks) + gain change.old }
         ensures count { length self.new.blocks ≡ length self.old.blocks }
         ensures height { self.new.height ≡ self.old.height }
     {
@@ -45,15 +45,15 @@ impl Link {
 }
 
 impl Node {
-    // Changes the block that has a place.
+    // The same.
     #[cycle(change_at)]
-    fn change_at(&mut self, i: u64, change: Change) -> Result<(), AllocError>
+    fn change_at(&mut self, i: u64, change: &mut Change) -> Result<(), AllocError>
         requires place { i < length (entries_of self.old.blocks) }
-        requires may { IfSome (located self.old.blocks i) (λ p. MayChange change p.0) }
-        requires chars_fit { length (entries_of self.old.blocks) + gain change < 2 ^ 64 }
-        ensures ok { OnOk result (self.new.blocks ≡ changed_at change self.old.blocks i) }
+        requires may { IfSome (located self.old.blocks i) (λ p. MayChange change.old p.0) }
+        requires chars_fit { length (entries_of self.old.blocks) + gain change.old < 2 ^ 64 }
+        ensures ok { OnOk result (self.new.blocks ≡ changed_at change.old self.old.blocks i) }
         ensures err { OnErr result (self.new.blocks ≡ self.old.blocks) }
-        ensures chars { length (entries_of self.new.blocks) ≤ length (entries_of self.old.blocks) + gain change }
+        ensures chars { length (entries_of self.new.blocks) ≤ length (entries_of self.old.blocks) + gain change.old }
         ensures count { length self.new.blocks ≡ length self.old.blocks }
         ensures height { self.new.height ≡ self.old.height }
     {
