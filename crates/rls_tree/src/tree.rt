@@ -171,6 +171,23 @@ impl BlockTree {
         Ok(id)
     }
 
+    /// The identifier at a place where a run of the tree begins. There is none at another place, nor at the end. It costs a step for each
+    /// level, and takes no memory.
+    pub fn first_at(&self, i: u64) -> Option<&Ident>
+        ensures ident { IfSome result (λ x. slice_get (idents_in (entries_of self.now.blocks)) i ≡ Some x.now) }
+    {
+        let chars = self.chars();
+        if i >= chars {
+            return None;
+        }
+        let (block, at) = self.locate(i);
+        rely!(let _len = block.len());
+        if at > 0 {
+            return None;
+        }
+        Some(block.run().first())
+    }
+
     // The run of this many identifiers from a place on, or of fewer if no more stand in one block there.
     pub(crate) fn run_from(&self, i: u64, most: u32) -> Result<Run, AllocError>
         requires place { i < length (entries_of self.now.blocks) }
