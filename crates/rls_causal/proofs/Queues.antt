@@ -103,6 +103,10 @@ looked_up a s (e ∷ es) h r = find-append (is_numbered a s) e.1 (joined (values
         ∙ or_none (waiting_under e.1 a s)
     go false t ih = ap (λ q. option_or q rest) (none_of_other a s e.0 e.1 (and_left (is_own e) (list_all is_own es) h) t) ∙ ih
 
+-- what waits under a number, by the queue of its author
+pub found_under : (a s : ℕ) (es : List (ℕ × List Op)) (waiting : List Op) (o : Option (List Op)) → AreQueues es → joined (values_of es) ≡ waiting → o ≡ lookup (nat_eq a) es → queued_under o a s ≡ waiting_under waiting a s
+found_under a s es waiting o q is e = ap (λ W. queued_under W a s) e ∙ sym (looked_up a s es q.own (in_order es q)) ∙ ap (λ V. waiting_under V a s) is
+
 pub own_queue : (a : ℕ) (es : List (ℕ × List Op)) (W : List Op) → list_all is_own es ≡ true → lookup (nat_eq a) es ≡ Some W → list_all (is_by a) W ≡ true
 own_queue a [] W h e = absurd (cc)
 own_queue a (d ∷ ds) W h e = go (nat_eq a d.0) refl e (own_queue a ds W (and_right (is_own d) (list_all is_own ds) h))

@@ -6,7 +6,7 @@ use Rattle.rls_ops.specs.declared.op.Op.{Op}
 use Rattle.rls_ops.specs.Waiting.{waiting_under, with_waiting}
 use Rattle.rls_causal.specs.Queues.{joined}
 use Rattle.rls_causal.proofs.Queued.{length-with}
-use Rattle.rls_causal.proofs.Queues.{queued_under, looked_up, own_queue, in_order, added_joined, added_queues}
+use Rattle.rls_causal.proofs.Queues.{own_queue, added_joined, added_queues, found_under}
 use Rattle.rls_causal.proofs.held.Held.add.Goals as goal
 
 on_err : {A E P : Type 0} (r : Result A E) → P → OnErr r P
@@ -18,11 +18,7 @@ add-requires-clause-author c = own_queue c.args.op.author c.open.new.queues.entr
 
 pub add-requires-clause-absent : goal.add-requires-clause-absent
 add-requires-clause-absent c =
-    let a = c.args.op.author in
-    let s = c.args.op.seq in
-    let es = c.open.new.queues.entries in
-    let q = c.in_ok-open.ensures.queues in
-    ap (λ W. queued_under W a s) c.in-Some-get_mut.ensures.value ∙ sym (looked_up a s es q.own (in_order es q)) ∙ ap (λ V. waiting_under V a s) (c.in_ok-open.ensures.same ∙ c.self.view_is) ∙ c.requires.absent
+    found_under c.args.op.author c.args.op.seq _ _ _ c.in_ok-open.ensures.queues (c.in_ok-open.ensures.same ∙ c.self.view_is) c.in-Some-get_mut.ensures.value ∙ c.requires.absent
 
 -- without memory the queue was written back as it was
 entries_still : (c : goal.After-from_residual-in_err-add) → (c.get_mut.follows.lender c.add.new.self).entries ≡ c.open.new.queues.entries

@@ -4,27 +4,19 @@ use Rattle.rls_ops.specs.Waiting.{waiting_under, without}
 use Rattle.rls_causal.specs.Queues.{joined}
 use Rattle.rls_causal.proofs.Putting.{without_none}
 use Rattle.rls_causal.proofs.Queued.{length-without_one}
-use Rattle.rls_causal.proofs.Queues.{IsTaken, queued_under, looked_up, in_order, taken}
+use Rattle.rls_causal.proofs.Queues.{IsTaken, taken, found_under}
 use Rattle.rls_causal.proofs.held.Held.remove.Goals as goal
 
 -- no queue of the author
 
 pub returns-in_err-queue-clause-found : goal.returns-in_err-queue-clause-found
 returns-in_err-queue-clause-found c =
-    let a = c.args.author in
-    let s = c.args.seq in
-    let es = c.self.inside.queues.entries in
-    let q = c.self.invariant.queues in
-    c.from_residual.ensures ∙ ap (λ W. queued_under W a s) c.in_err-queue.ensures.value ∙ sym (looked_up a s es q.own (in_order es q)) ∙ ap (λ V. waiting_under V a s) c.self.view_is
+    c.from_residual.ensures ∙ found_under c.args.author c.args.seq _ _ _ c.self.invariant.queues c.self.view_is c.in_err-queue.ensures.value
 
 pub returns-in_err-queue-clause-others : goal.returns-in_err-queue-clause-others
 returns-in_err-queue-clause-others c =
-    let a = c.args.author in
-    let s = c.args.seq in
-    let es = c.self.inside.queues.entries in
-    let q = c.self.invariant.queues in
-    let none : waiting_under c.args.self.now a s ≡ None = sym (ap (λ W. queued_under W a s) c.in_err-queue.ensures.value ∙ sym (looked_up a s es q.own (in_order es q)) ∙ ap (λ V. waiting_under V a s) c.self.view_is) in
-    ap (λ m. joined (values_of m.entries)) c.get_mut.follows.holds-at-none ∙ c.self.view_is ∙ sym (without_none a s c.args.self.now none)
+    let none = sym (found_under c.args.author c.args.seq _ _ _ c.self.invariant.queues c.self.view_is c.in_err-queue.ensures.value) in
+    ap (λ m. joined (values_of m.entries)) c.get_mut.follows.holds-at-none ∙ c.self.view_is ∙ sym (without_none c.args.author c.args.seq c.args.self.now none)
 
 -- nothing under the number in the queue of the author
 

@@ -3,9 +3,8 @@ use Rattle.std.specs.Option.{option_copied_mut}
 use Rattle.std.specs.Prelude.{nat_eq}
 use Rattle.std.specs.Map.{values_of}
 use Rattle.std.proofs.lemmas.Map.Steps.{set_value_same}
-use Rattle.rls_ops.specs.Waiting.{waiting_under}
 use Rattle.rls_causal.specs.Queues.{joined}
-use Rattle.rls_causal.proofs.Queues.{queued_under, looked_up, own_queue, in_order}
+use Rattle.rls_causal.proofs.Queues.{own_queue, found_under}
 use Rattle.rls_causal.proofs.held.Held.share.Goals as goal
 
 -- what was found was written back as it was
@@ -16,11 +15,7 @@ entries_still c =
 
 pub returns-in_default-clause-copy : goal.returns-in_default-clause-copy
 returns-in_default-clause-copy c =
-    let a = c.args.author in
-    let s = c.args.seq in
-    let es = c.self.inside.queues.entries in
-    let q = c.self.invariant.queues in
-    ap (λ W. queued_under W a s) (sym (ap option_copied_mut c.in_default.is) ∙ c.get_mut.ensures.value) ∙ sym (looked_up a s es q.own (in_order es q)) ∙ ap (λ V. waiting_under V a s) c.self.view_is
+    found_under c.args.author c.args.seq _ _ _ c.self.invariant.queues c.self.view_is (sym (ap option_copied_mut c.in_default.is) ∙ c.get_mut.ensures.value)
 
 pub invariant_of-self-2 : goal.invariant_of-self-2
 invariant_of-self-2 c = rw (entries_still c) c.self.invariant
@@ -30,9 +25,5 @@ returns-clause-same c = ap (λ es. joined (values_of es)) (entries_still c) ∙ 
 
 pub returns-clause-copy : goal.returns-clause-copy
 returns-clause-copy c =
-    let a = c.args.author in
-    let s = c.args.seq in
-    let es = c.self.inside.queues.entries in
-    let q = c.self.invariant.queues in
-    let e : waiting_under c.args.self.now a s ≡ waiting_under c.in-Some.queue.now a s = sym (ap (λ W. queued_under W a s) c.in-Some.ensures.value ∙ sym (looked_up a s es q.own (in_order es q)) ∙ ap (λ V. waiting_under V a s) c.self.view_is) in
-    rw e (c.share.ensures.copy a (own_queue a es c.in-Some.queue.now q.own (sym c.in-Some.ensures.value)))
+    let e = sym (found_under c.args.author c.args.seq _ _ _ c.self.invariant.queues c.self.view_is c.in-Some.ensures.value) in
+    rw e (c.share.ensures.copy c.args.author (own_queue c.args.author c.self.inside.queues.entries c.in-Some.queue.now c.self.invariant.queues.own (sym c.in-Some.ensures.value)))
