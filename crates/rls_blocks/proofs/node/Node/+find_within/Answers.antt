@@ -1,14 +1,13 @@
-use Rattle.std.proofs.Common.{length, take, sym, ap, ◌∙◌, subst, inl, inr, ◌+◌, ◌∷◌, Ok, Err, arith, length-append}
+use Rattle.std.proofs.Common.{length, take, sym, ap, ◌∙◌, inl, inr, ◌+◌, ◌∷◌, Ok, Err, arith, length-append}
 use Rattle.rls_runs.specs.Runs.{run_idents, idents_of}
 use Rattle.rls_runs.specs.Places.{find_ident}
-use Rattle.rls_runs.specs.Fronts.{front_of, shared, AboveFront, BelowFront}
+use Rattle.rls_runs.specs.Fronts.{front_of, shared}
 use Rattle.rls_runs.proofs.Finding.{run_length}
-use Rattle.rls_runs.proofs.RunOrder.{Rising}
 use Rattle.rls_runs.proofs.RunLists.{place_most}
 use Rattle.rls_runs.proofs.RunPlaces.{moved}
 use Rattle.rls_blocks.specs.Trees.{entries_of, runs_in}
-use Rattle.rls_blocks.proofs.Parts.{found_most, left_rises, right_rises, in_own, within_own, before_own, after_own, after_found}
-use Rattle.rls_blocks.proofs.Sides.{own_begins, own_shares, left_above, right_below, left_below, right_above}
+use Rattle.rls_blocks.proofs.Parts.{found_most, in_own, within_own, before_own, after_own, after_found}
+use Rattle.rls_blocks.proofs.Sides.{own_begins, left_side, right_side}
 use Rattle.rls_blocks.proofs.node.Node.+find_within.Goals as goal
 
 pub find_from-found-requires : goal.find_from-found-requires
@@ -38,25 +37,8 @@ returns-in_default t c =
 
 pub find_within-requires : goal.find_within-requires
 find_within-requires t c =
-    let s = c.self.inside in
-    let id = c.args.id.now in
-    let l = s.left.blocks in
-    let r = s.right.blocks in
-    let bs = c.args.self.now.blocks in
     let is = ap (λ v. v.blocks) c.self.view_is in
-    let own = c.self.invariant.own_is in
-    let n = c.find_from-found.result.1 in
-    let begins = own_shares l r s.block bs id is own n (c.find_from-found.ensures.shared ∙ ap (λ q. shared (front_of q.0) (front_of id)) c.run.ensures.run) in
-    let to = sym c.in-Some.ensures.blocks in (
-      omega (arith, ap length is, length-append l (s.block ∷ r), ap length c.in-Some.ensures.blocks),
-      (
-        subst (λ cs. Rising (idents_of (runs_in cs))) to (left_rises l r s.block bs id is c.self.invariant.left_are own c.requires.rises),
-        (
-          subst (λ cs. AboveFront c.args.low id (idents_of (runs_in cs))) to (left_above l r s.block bs id is own c.args.low c.requires.low),
-          subst (λ cs. BelowFront n id (idents_of (runs_in cs))) to (left_below l r s.block bs id is own n begins c.requires.rises),
-        ),
-      ),
-    )
+    (omega (arith, ap length is, length-append c.self.inside.left.blocks (c.self.inside.block ∷ c.self.inside.right.blocks), ap length c.in-Some.ensures.blocks), left_side _ _ _ _ c.args.id.now is c.self.invariant.own_is _ c.args.low c.find_from-found.result.1 c.in-Some.ensures.blocks c.self.invariant.left_are (c.find_from-found.ensures.shared ∙ ap (λ q. shared (front_of q.0) (front_of c.args.id.now)) c.run.ensures.run) c.requires.rises c.requires.low)
 
 pub returns-then-below-eq0 : goal.returns-then-below-eq0
 returns-then-below-eq0 t c =
@@ -79,25 +61,8 @@ returns-in_default-node t c =
 
 pub find_within-requires-2 : goal.find_within-requires-2
 find_within-requires-2 t c =
-    let s = c.self.inside in
-    let id = c.args.id.now in
-    let l = s.left.blocks in
-    let r = s.right.blocks in
-    let bs = c.args.self.now.blocks in
     let is = ap (λ v. v.blocks) c.self.view_is in
-    let own = c.self.invariant.own_is in
-    let n = c.find_from-found.result.1 in
-    let begins = own_shares l r s.block bs id is own n (c.find_from-found.ensures.shared ∙ ap (λ q. shared (front_of q.0) (front_of id)) c.run.ensures.run) in
-    let to = sym c.in-Some-node.ensures.blocks in (
-      omega (arith, ap length is, length-append l (s.block ∷ r), ap length c.in-Some-node.ensures.blocks),
-      (
-        subst (λ cs. Rising (idents_of (runs_in cs))) to (right_rises l r s.block bs id is c.self.invariant.left_are own c.requires.rises),
-        (
-          subst (λ cs. AboveFront n id (idents_of (runs_in cs))) to (right_above l r s.block bs id is own n begins c.requires.rises),
-          subst (λ cs. BelowFront c.args.high id (idents_of (runs_in cs))) to (right_below l r s.block bs id is own c.args.high c.requires.high),
-        ),
-      ),
-    )
+    (omega (arith, ap length is, length-append c.self.inside.left.blocks (c.self.inside.block ∷ c.self.inside.right.blocks), ap length c.in-Some-node.ensures.blocks), right_side _ _ _ _ c.args.id.now is c.self.invariant.own_is _ c.args.high c.find_from-found.result.1 c.in-Some-node.ensures.blocks c.self.invariant.left_are (c.find_from-found.ensures.shared ∙ ap (λ q. shared (front_of q.0) (front_of c.args.id.now)) c.run.ensures.run) c.requires.rises c.requires.high)
 
 pub overflow_add-result-in-Ok-find_within : goal.overflow_add-result-in-Ok-find_within
 overflow_add-result-in-Ok-find_within t c =
