@@ -8,7 +8,7 @@ use Rattle.std.proofs.Math.ListN.{drop_of_length-le}
 use Rattle.std.proofs.Math.Nat.{eq-or-lt_of_le}
 use Rattle.std.specs.Prelude.{nat_lt, pos}
 use Rattle.rls_ident.specs.declared.tuple.Tuple.{Tuple}
-use Rattle.rls_ident.specs.Identifiers.{ident_lt, ident_eq}
+use Rattle.rls_ident.specs.Identifiers.{ident_eq}
 use Rattle.rls_ident.proofs.Lists.{Lt}
 use Rattle.rls_ident.proofs.Members.{lt_is, not_lt_is}
 use Rattle.rls_ident.proofs.Tuples.{tuples}
@@ -19,6 +19,7 @@ use Rattle.rls_runs.specs.Runs.{run_idents}
 use Rattle.rls_runs.proofs.RunOrder.{run_gets, AllLess, AllMore, Rising, less_trans, more_trans}
 use Rattle.rls_runs.proofs.RunPlaces.{tells_less, tells_more}
 use Rattle.rls_runs.proofs.Gaps.{below_take, more_drop, less_at, at_less, at_same, read_err, rising_drop}
+use Rattle.rls_runs.proofs.RunEnds.{count_most}
 use Rattle.rls_tree.specs.Targets.{AreMembers}
 use Rattle.rls_tree.proofs.Puts.{headed, idents_take, idents_drop, get_drop}
 
@@ -38,14 +39,6 @@ pub none_behind : (is : Bool) (ts xs : List (List Tuple)) (i j : ℕ) → length
 none_behind is ts xs i j h n x o l g = let w = slice_get_within xs n x g in absurd (omega (arith, h, o, w))
 
 -- ---- what is between two targets
-
-pub count_most : (xs : List (List Tuple)) (x : List Tuple) → below_count xs x ≤ length xs
-count_most [] x = omega arith
-count_most (y ∷ ys) x = let h = count_most ys x in go (ident_lt y x) h
-  where
-    go : (t : Bool) → below_count ys x ≤ length ys → (if t then suc (below_count ys x) else below_count ys x) ≤ suc (length ys)
-    go true h = omega (arith, h)
-    go false h = omega (arith, h)
 
 module _ (ts xs : List (List Tuple)) (i j : ℕ) (y : List Tuple) (own : Rising ts) (rising : Rising xs) (found : find_ident ts y ≡ Err j) (at : slice_get xs i ≡ Some y) where
   pub short : j ≤ length ts

@@ -59,8 +59,7 @@ impl BlockTree {
         let (block, at) = self.locate(i - 1);
         rely!(let _len = block.len());
         match block.run().find(id) {
-            Ok(below) => at < below,
-            Err(below) => at < below,
+            Ok(below) | Err(below) => at < below,
         }
     }
 

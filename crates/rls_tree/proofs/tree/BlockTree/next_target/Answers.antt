@@ -3,8 +3,9 @@ use Rattle.std.proofs.lemmas.List.{length-map}
 use Rattle.rls_runs.specs.Entries.{idents_in}
 use Rattle.rls_runs.proofs.RunOrder.{rising_of}
 use Rattle.rls_blocks.specs.Trees.{entries_of}
+use Rattle.rls_runs.proofs.RunEnds.{count_most}
 use Rattle.rls_tree.specs.Targets.{AreMembers}
-use Rattle.rls_tree.proofs.Targets.{members_more, none_behind, count_most, short, none_later, none_before_next, next_later}
+use Rattle.rls_tree.proofs.Targets.{members_more, none_behind, short, none_later, none_before_next, next_later}
 use Rattle.rls_tree.proofs.tree.BlockTree.next_target.Goals as goal
 
 pub returns-then-below-total-clause-none : goal.returns-then-below-total-clause-none

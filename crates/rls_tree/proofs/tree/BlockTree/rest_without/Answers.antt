@@ -1,4 +1,4 @@
-use Rattle.std.proofs.Common.{◌≡◌, ℕ, ◌+◌, ◌-◌, ◌<◌, ◌≤◌, true, false, length, take, drop, Some, sym, ap, ◌∙◌, subst, arith, rules}
+use Rattle.std.proofs.Common.{◌≡◌, ℕ, ◌+◌, ◌-◌, ◌<◌, ◌≤◌, true, false, length, take, drop, sym, ap, ◌∙◌, subst, arith, rules}
 use Rattle.std.specs.Prelude.{IfSome}
 use Rattle.std.proofs.lemmas.Grind.{common_steps}
 use Rattle.rls_runs.specs.Entries.{idents_in, without_all}
@@ -11,76 +11,43 @@ use Rattle.rls_tree.proofs.tree.BlockTree.rest_without.Goals as goal
 
 pub overflow_sub-start : goal.overflow_sub-start
 overflow_sub-start c =
-    let bs = c.args.self.now.blocks in
-    let i = c.in_ok-first.first in
-    let at = c.locate-at.result.1 in
-    let b = c.locate-at.result.0.now in
-    let within : i < length (entries_of bs) = omega (arith, c.in_ok-first.ensures.within, c.if-first-total.false, c.chars-total.ensures.chars) in
-    low bs i at b c.chars-total.ensures.pieces within c.locate-at.ensures.located
+    let within : c.in_ok-first.first < length (entries_of c.args.self.now.blocks) = omega (arith, c.in_ok-first.ensures.within, c.if-first-total.false, c.chars-total.ensures.chars) in
+    low _ c.in_ok-first.first _ _ c.chars-total.ensures.pieces within c.locate-at.ensures.located
 
 pub overflow_add-end : goal.overflow_add-end
 overflow_add-end c =
-    let bs = c.args.self.now.blocks in
-    let i = c.in_ok-first.first in
-    let at = c.locate-at.result.1 in
-    let b = c.locate-at.result.0.now in
-    let within : i < length (entries_of bs) = omega (arith, c.in_ok-first.ensures.within, c.if-first-total.false, c.chars-total.ensures.chars) in
-    omega (arith, end_most bs i at b c.chars-total.ensures.pieces within c.locate-at.ensures.located c.len.ensures.piece, c.len.ensures.len, c.chars-total.ensures.chars)
+    let within : c.in_ok-first.first < length (entries_of c.args.self.now.blocks) = omega (arith, c.in_ok-first.ensures.within, c.if-first-total.false, c.chars-total.ensures.chars) in
+    omega (arith, end_most _ c.in_ok-first.first _ _ c.chars-total.ensures.pieces within c.locate-at.ensures.located c.len.ensures.piece, c.len.ensures.len, c.chars-total.ensures.chars)
 
 pub next_target-requires-2 : goal.next_target-requires-2
 next_target-requires-2 c =
-    let bs = c.args.self.now.blocks in
-    let i = c.in_ok-first.first in
-    let at = c.locate-at.result.1 in
-    let b = c.locate-at.result.0.now in
-    let within : i < length (entries_of bs) = omega (arith, c.in_ok-first.ensures.within, c.if-first-total.false, c.chars-total.ensures.chars) in
-    record { place = omega (arith, end_most bs i at b c.chars-total.ensures.pieces within c.locate-at.ensures.located c.len.ensures.piece, c.len.ensures.len) }
+    let within : c.in_ok-first.first < length (entries_of c.args.self.now.blocks) = omega (arith, c.in_ok-first.ensures.within, c.if-first-total.false, c.chars-total.ensures.chars) in
+    record { place = omega (arith, end_most _ c.in_ok-first.first _ _ c.chars-total.ensures.pieces within c.locate-at.ensures.located c.len.ensures.piece, c.len.ensures.len) }
 
 pub parts_without-requires-clause-within : goal.parts_without-requires-clause-within
 parts_without-requires-clause-within c =
-    let bs = c.args.self.now.blocks in
-    let i = c.in_ok-first.first in
-    let at = c.locate-at.result.1 in
-    let b = c.locate-at.result.0.now in
-    let within : i < length (entries_of bs) = omega (arith, c.in_ok-first.ensures.within, c.if-first-total.false, c.chars-total.ensures.chars) in
-    omega (arith, end_most bs i at b c.chars-total.ensures.pieces within c.locate-at.ensures.located c.len.ensures.piece, c.len.ensures.len)
+    let within : c.in_ok-first.first < length (entries_of c.args.self.now.blocks) = omega (arith, c.in_ok-first.ensures.within, c.if-first-total.false, c.chars-total.ensures.chars) in
+    omega (arith, end_most _ c.in_ok-first.first _ _ c.chars-total.ensures.pieces within c.locate-at.ensures.located c.len.ensures.piece, c.len.ensures.len)
 
 pub new-requires-clause-parts : goal.new-requires-clause-parts
 new-requires-clause-parts c =
-    let bs = c.args.self.now.blocks in
-    let i = c.in_ok-first.first in
-    let at = c.locate-at.result.1 in
-    let b = c.locate-at.result.0.now in
-    let within : i < length (entries_of bs) = omega (arith, c.in_ok-first.ensures.within, c.if-first-total.false, c.chars-total.ensures.chars) in
-    let n : i - at + c.len.result - (i - at) ≡ b.0.1 = omega (arith, c.len.ensures.len, c.len.ensures.piece.as_many) in
-    subst (AreParts 0 c.deref.result.now) n (subst (λ ps. AreParts 0 ps (i - at + c.len.result - (i - at))) (sym c.deref.ensures.value) c.in_ok-parts.ensures.parts)
+    let start = c.in_ok-first.first - c.locate-at.result.1 in
+    let n : start + c.len.result - start ≡ c.locate-at.result.0.now.0.1 = omega (arith, c.len.ensures.len, c.len.ensures.piece.as_many) in
+    subst (AreParts 0 c.deref.result.now) n (subst (λ ps. AreParts 0 ps (start + c.len.result - start)) (sym c.deref.ensures.value) c.in_ok-parts.ensures.parts)
 
 pub returns-clause-between : goal.returns-clause-between
 returns-clause-between c =
-    let bs = c.args.self.now.blocks in
-    let i = c.in_ok-first.first in
-    let at = c.locate-at.result.1 in
-    let b = c.locate-at.result.0.now in
-    let within : i < length (entries_of bs) = omega (arith, c.in_ok-first.ensures.within, c.if-first-total.false, c.chars-total.ensures.chars) in
-    between bs i at b c.chars-total.ensures.pieces within c.locate-at.ensures.located
+    let within : c.in_ok-first.first < length (entries_of c.args.self.now.blocks) = omega (arith, c.in_ok-first.ensures.within, c.if-first-total.false, c.chars-total.ensures.chars) in
+    between _ c.in_ok-first.first _ _ c.chars-total.ensures.pieces within c.locate-at.ensures.located
 
 pub returns-clause-within : goal.returns-clause-within
 returns-clause-within c =
-    let bs = c.args.self.now.blocks in
-    let i = c.in_ok-first.first in
-    let at = c.locate-at.result.1 in
-    let b = c.locate-at.result.0.now in
-    let within : i < length (entries_of bs) = omega (arith, c.in_ok-first.ensures.within, c.if-first-total.false, c.chars-total.ensures.chars) in
-    omega (arith, within)
+    omega (arith, c.in_ok-first.ensures.within, c.if-first-total.false, c.chars-total.ensures.chars)
 
 pub returns-clause-is_rest : goal.returns-clause-is_rest
 returns-clause-is_rest c =
-    let bs = c.args.self.now.blocks in
-    let i = c.in_ok-first.first in
-    let at = c.locate-at.result.1 in
-    let b = c.locate-at.result.0.now in
-    let within : i < length (entries_of bs) = omega (arith, c.in_ok-first.ensures.within, c.if-first-total.false, c.chars-total.ensures.chars) in
-    subst (λ o. IfSome o (λ (p : Piece × ℕ). IsRest c.in_ok-rest.rest p.0)) (sym (here bs i at b c.chars-total.ensures.pieces within c.locate-at.ensures.located c.len.ensures.piece)) c.in_ok-rest.ensures.is_rest
+    let within : c.in_ok-first.first < length (entries_of c.args.self.now.blocks) = omega (arith, c.in_ok-first.ensures.within, c.if-first-total.false, c.chars-total.ensures.chars) in
+    subst (λ o. IfSome o (λ (p : Piece × ℕ). IsRest c.in_ok-rest.rest p.0)) (sym (here _ c.in_ok-first.first _ _ c.chars-total.ensures.pieces within c.locate-at.ensures.located c.len.ensures.piece)) c.in_ok-rest.ensures.is_rest
 
 pub returns-clause-shows : goal.returns-clause-shows
 returns-clause-shows c =
