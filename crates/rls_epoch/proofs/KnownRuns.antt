@@ -1,22 +1,25 @@
 -- Known images, and those of parts of their runs.
-use Rattle.std.proofs.Common.{◌≡◌, ℕ, ◌+◌, ◌-◌, ◌<◌, ◌≤◌, List, [], ◌∷◌, ◌++◌, map, length, get_or, take, drop, true, pos, Ok, sym, ap, ◌∙◌, subst, append_assoc, length-append, arith}
-use Rattle.std.specs.List.{drop-map, take-map}
+use Rattle.std.proofs.Common.{◌≡◌, ℕ, ◌+◌, ◌-◌, ◌<◌, ◌≤◌, List, [], ◌∷◌, ◌++◌, map, length, get_or, take, drop, true, pos, Ok, refl, sym, ap, ◌∙◌, subst, append_assoc, length-append, arith}
+use Rattle.std.specs.List.{drop-map, list_all, take-map}
 use Rattle.std.proofs.lemmas.List.{append-nil, drop-append-le, length-map, map-append, take-append-le, take_all}
 use Rattle.std.proofs.lemmas.List.Elements.{All-nil, All-same}
 use Rattle.std.proofs.Math.ListN.{drop_of_length-le}
 use Rattle.rls_ident.specs.declared.tuple.Tuple.{Tuple}
-use Rattle.rls_ident.specs.Identifiers.{shifted}
-use Rattle.rls_ident.proofs.Members.{some_is}
-use Rattle.rls_rename.specs.Tree.{Node}
+use Rattle.rls_ident.specs.declared.epoch_name.EpochName.{EpochName}
+use Rattle.rls_ident.specs.Identifiers.{shifted, is_ident, IsIdent}
+use Rattle.rls_ident.proofs.Members.{and_left, and_right, some_is}
+use Rattle.rls_rename.specs.Tree.{Node, AreNodes, translate}
+use Rattle.rls_rename.proofs.Growth.{translate_back, translate_same}
+use Rattle.rls_rename.proofs.Paths.{translate_translate}
 use Rattle.rls_rename.proofs.GapPlaces.{gap_there, gap_within}
 use Rattle.rls_runs.specs.Places.{last_ident, is_above}
-use Rattle.rls_runs.specs.Runs.{run_idents, is_increasing, place_of, IsImage}
+use Rattle.rls_runs.specs.Runs.{run_idents, is_increasing, is_run, place_of, IsImage}
 use Rattle.rls_runs.proofs.Finding.{run_length}
 use Rattle.rls_runs.proofs.RunJoins.{run_longer}
 use Rattle.rls_runs.proofs.RunOrder.{run_gets}
 use Rattle.rls_epoch.specs.declared.known.KnownImages.{KnownImages}
 use Rattle.rls_epoch.specs.KnownRuns.{IsKnown, AreKnown}
-use Rattle.rls_epoch.proofs.Moving.{next_above, run_begins}
+use Rattle.rls_epoch.proofs.Moving.{map_agrees, map_then, next_above, run_begins, run_idents_are}
 
 -- ---- parts of runs
 
@@ -97,7 +100,38 @@ alone_image f run image [] i h l g = absurd (omega arith)
 alone_image f run image (r ∷ []) i h l g = subst (λ (q : List Tuple × ℕ). run_idents q.0 q.1 ≡ map f (run_idents run.0 run.1)) (sym g) (sym (append-nil (run_idents r.0 r.1)) ∙ i.idents)
 alone_image f run image (r ∷ (s ∷ rs)) i h l g = absurd (omega arith)
 
+-- ---- what is known
+
+-- by a map that changes nothing
+map_stays : (f : List Tuple → List Tuple) → ((x : List Tuple) → IsIdent x → f x ≡ x) → (xs : List (List Tuple)) → list_all is_ident xs ≡ true → map f xs ≡ xs
+map_stays f h [] a = refl
+map_stays f h (x ∷ xs) a =
+    ap (λ y. y ∷ map f xs) (h x (and_left (is_ident x) (list_all is_ident xs) a)) ∙ ap (λ ys. x ∷ ys) (map_stays f h xs (and_right (is_ident x) (list_all is_ident xs) a))
+
+-- a run in its own epoch
+pub run_unmoved : (ns : List Node) → AreNodes ns → (e : EpochName) (r : List Tuple × ℕ) → is_run r ≡ true → run_idents r.0 r.1 ≡ map (translate ns e e) (run_idents r.0 r.1)
+run_unmoved ns d e r u = sym (map_stays (translate ns e e) (λ x i. translate_same ns e x d i) (run_idents r.0 r.1) (run_idents_are r u))
+
+-- the other way
+pub run_turned : (ns : List Node) → AreNodes ns → (e f : EpochName) (r q : List Tuple × ℕ) → is_run r ≡ true → run_idents q.0 q.1 ≡ map (translate ns e f) (run_idents r.0 r.1) → run_idents r.0 r.1 ≡ map (translate ns f e) (run_idents q.0 q.1)
+run_turned ns d e f r q u h =
+    let xs = run_idents r.0 r.1 in
+    sym (ap (map (translate ns f e)) h
+    ∙ (map_then (translate ns e f) (translate ns f e) xs ∙ map_stays (λ x. translate ns f e (translate ns e f x)) (λ x i. translate_back ns e f x d i) xs (run_idents_are r u)))
+
+-- by a map that translates, and on from there
+pub map_goes_on : (ns : List Node) → AreNodes ns → (e m f : EpochName) (g : List Tuple → List Tuple) → ((x : List Tuple) → IsIdent x → g x ≡ translate ns e m x) → (xs ys : List (List Tuple)) → list_all is_ident xs ≡ true → ys ≡ map g xs → map (translate ns m f) ys ≡ map (translate ns e f) xs
+map_goes_on ns d e m f g h xs ys a q =
+    ap (map (translate ns m f)) q
+    ∙ (map_then g (translate ns m f) xs ∙ map_agrees (λ x. translate ns m f (g x)) (translate ns e f) (λ x i. ap (translate ns m f) (h x i) ∙ translate_translate ns e m f x d i) xs a)
+
+-- the image of a run that goes a step as one run
+pub image_before : (ns : List Node) → AreNodes ns → (e m f : EpochName) (g : List Tuple → List Tuple) → ((x : List Tuple) → IsIdent x → g x ≡ translate ns e m x) → (run moved image : List Tuple × ℕ) (rs : List (List Tuple × ℕ)) → is_run run ≡ true → IsImage g run rs → 0 < length rs → length rs < 2 → moved ≡ get_or rs 0 moved → run_idents image.0 image.1 ≡ map (translate ns m f) (run_idents moved.0 moved.1) →
+    run_idents image.0 image.1 ≡ map (translate ns e f) (run_idents run.0 run.1)
+image_before ns d e m f g h run moved image rs u i some one item q =
+    q ∙ map_goes_on ns d e m f g h (run_idents run.0 run.1) (run_idents moved.0 moved.1) (run_idents_are run u) (alone_image g run moved rs i some one item)
+
 -- ---- tables
 
 pub none_known : (nodes : List Node) (t : KnownImages) → t.known.items ≡ [] → AreKnown nodes t
-none_known nodes t e = All-same (λ k. IsKnown nodes t.to k.value) t.known.items [] e (All-nil (λ k. IsKnown nodes t.to k.value))
+none_known nodes t e = All-same (λ k. IsKnown nodes k.value) t.known.items [] e (All-nil (λ k. IsKnown nodes k.value))

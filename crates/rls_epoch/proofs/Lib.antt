@@ -26,3 +26,4 @@ pub mod Indices
 pub mod UpTo
 pub mod Looking
 pub mod KnownRuns
+pub mod Between

@@ -71,6 +71,13 @@ at_is top ps (suc k) e h = go (slice_get ps k) refl h
     go None g j = absurd (cc)
     go (Some p) g j = name_read ps k p g ∙ some_is (name_of p.renaming) e j
 
+pub named_at : (top : EpochName) (ps : List Placed) (n : ℕ) → n ≤ length ps → name_at top ps n ≡ Some (epoch_at top ps n)
+named_at top ps zero h = refl
+named_at top ps (suc k) h =
+    let p = get_of ps k (omega arith) in
+    let e : name_at top ps (suc k) ≡ Some (name_of (p.0).renaming) = ap (option_map (λ (z : Placed). name_of z.renaming)) p.1 in
+    e ∙ ap Some (sym (at_is top ps (suc k) (name_of (p.0).renaming) e))
+
 nodes_split : (xs ys : List Placed) → nodes_of (xs ++ ys) ≡ nodes_of ys ++ nodes_of xs
 nodes_split xs ys = ap (map node_of) (reverse-append xs ys) ∙ map-append node_of (reverse ys) (reverse xs)
 

@@ -153,7 +153,7 @@ image_none ps r u = record {
   apart = and_true (nat_lt 0 r.1 && true) true (and_true (nat_lt 0 r.1) true (lt_test 0 r.1 (run_some r u)) refl) refl;
 }
 
-run_idents_are : (r : List Tuple × ℕ) → is_run r ≡ true → list_all is_ident (run_idents r.0 r.1) ≡ true
+pub run_idents_are : (r : List Tuple × ℕ) → is_run r ≡ true → list_all is_ident (run_idents r.0 r.1) ≡ true
 run_idents_are r u = ap (list_all is_ident) (sym (append-nil (run_idents r.0 r.1))) ∙ all_idents (r ∷ []) (and_true (is_run r) true u refl)
 
 -- by a map that agrees

@@ -133,6 +133,18 @@ module _ (top : EpochName) (ps : List Placed) (d : AreNodes (nodes_of ps)) (b : 
       ∙ (ap (translate (nodes_of ps) (name_of R) f) (sym one)
       ∙ translate_translate (nodes_of ps) e (name_of R) f x d i))
 
+  -- a step up goes from a node's epoch to its parent
+  pub back_goes : (j : ℕ) (p : Placed) → slice_get ps j ≡ Some p → (x : List Tuple) → IsIdent x → step_map ps (Back j) x ≡ translate (nodes_of ps) (name_of p.renaming) p.parent x
+  back_goes j p g x i =
+      let n = node_in ps j p g in
+      back_step ps j p g x ∙ sym (back_is top (nodes_of ps) d b (node_of p) n (former_in (nodes_of ps) d (node_of p) n) x i)
+
+  -- and a step down back
+  pub forward_goes : (j : ℕ) (p : Placed) → slice_get ps j ≡ Some p → (x : List Tuple) → IsIdent x → step_map ps (Forward j) x ≡ translate (nodes_of ps) p.parent (name_of p.renaming) x
+  forward_goes j p g x i =
+      let n = node_in ps j p g in
+      forward_step ps j p g x ∙ sym (forward_is top (nodes_of ps) d b (node_of p) n (former_in (nodes_of ps) d (node_of p) n) x i)
+
   -- what leads between two numbers is a way between their epochs
   pub way_is : (n m : ℕ) (e f : EpochName) → name_at top ps n ≡ Some e → name_at top ps m ≡ Some f → (r : Result (Vec Step Global) AllocError) → IfOk r (λ steps. Leads ps n steps.items m) → IfOk r (λ steps. IsWay ps steps.items e f)
   way_is n m e f g k (Err a) h = tt

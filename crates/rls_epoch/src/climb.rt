@@ -18,8 +18,8 @@ use std::cmp::Ordering;
 
 // The number of an epoch on the way, and the place of its child on the way, if it isn't the first one.
 #[derive(Clone, Copy)]
-struct Climb {
-    at: usize,
+pub(crate) struct Climb {
+    pub(crate) at: usize,
     below: Option<usize>,
 }
 
@@ -107,7 +107,7 @@ impl Nodes {
     }
 
     // Both ways up, until they meet. It costs a few steps for each halving of their lengths.
-    fn climb_both(&self, a: usize, b: usize) -> (Climb, Climb)
+    pub(crate) fn climb_both(&self, a: usize, b: usize) -> (Climb, Climb)
         requires first { a ≤ length self.now.placed }
         requires second { b ≤ length self.now.placed }
         ensures met { result.0.at ≡ result.1.at }
@@ -147,7 +147,7 @@ impl Nodes {
     }
 
     // The number of the epoch at this depth on the way up from an epoch.
-    fn ancestor(&self, number: usize, depth: usize) -> usize
+    pub(crate) fn ancestor(&self, number: usize, depth: usize) -> usize
         requires within { number ≤ length self.now.placed }
         requires deep { depth ≤ depth_at self.now.top self.now.placed number }
         ensures within { result ≤ number }

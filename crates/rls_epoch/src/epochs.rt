@@ -24,9 +24,6 @@ use std::alloc::{AllocError, Global};
 use std::cmp::Ordering;
 use std::marker::Model;
 
-// The fewest steps of a way for which images are kept. A single one is as quick without them.
-const FEWEST_STEPS: usize = 2;
-
 /// A topmost epoch and the nodes below it, some of which are marked. The earliest node comes first.
 pub struct Epochs {
     tree: Tree,
@@ -176,15 +173,16 @@ impl Epochs {
     }
 
     /// An identifier of the one epoch in the other: back by the renamings up to the nearest common
-    /// epoch, and forward from there. It costs these renamings of the identifier.
+    /// epoch, and forward from there. It costs these renamings of the identifier, up to where its
+    /// image is known, and a search there.
     pub fn translate(&self, from: EpochName, to: EpochName, id: &Ident) -> Result<Ident, AllocError>
         requires from { IsTrue (is_kept self.now.epochs.top self.now.epochs.nodes from) }
         requires to { IsTrue (is_kept self.now.epochs.top self.now.epochs.nodes to) }
         ensures translated { IfOk result (λ x. x ≡ translate self.now.epochs.nodes from to id.now) }
     {
-        rely!(let _len = id.len());
-        let steps = self.tree.way_between(from, to)?;
-        self.tree.nodes.ident_led(&steps, id)
+        let left = self.tree.number_of(from);
+        let right = self.tree.number_of(to);
+        self.tree.nodes.ident_between(left, right, id)
     }
 
     /// The identifiers of a run of the one epoch in the other, as runs of which none touches the one
@@ -224,8 +222,8 @@ impl Epochs {
     }
 
     /// A strictly increasing list of identifiers of the one epoch in the other. It costs the renaming
-    /// of whole runs for each epoch on the way, or where the images of all are known a search for each
-    /// run.
+    /// of whole runs for each epoch on the way, up to where the images of all are known, and a search
+    /// for each run there.
     pub fn translate_runs(
         &self,
         from: EpochName,
@@ -236,31 +234,25 @@ impl Epochs {
         requires to { IsTrue (is_kept self.now.epochs.top self.now.epochs.nodes to) }
         ensures translated { IfOk result (λ xs. xs ≡ map (translate self.now.epochs.nodes from to) ids.now) }
     {
-        rely!(let _total = ids.total());
-        if let Some(images) = self.tree.nodes.known_images(from, to, ids)? {
-            return Ok(images);
-        }
-        let steps = self.tree.way_between(from, to)?;
-        self.tree.nodes.runs_led(&steps, ids)
+        let left = self.tree.number_of(from);
+        let right = self.tree.number_of(to);
+        self.tree.nodes.runs_between(left, right, ids)
     }
 
-    /// Makes ready for translations of such lists. The first identifier whose image isn't known is led
-    /// along the way with those beside it that are former ones wherever it is one. Then their images
-    /// are known until an epoch is added or dropped, or it is prepared for another second epoch. It
-    /// costs a few renamings for each epoch on the way, or where all is known a search for each run.
+    /// Makes ready for translations of such lists and their identifiers, also the other way. Of each
+    /// run those identifiers whose images aren't known are led along the way, each with those beside
+    /// it that are in one run of former ones wherever it is one, up to one that a rename on the way
+    /// doesn't name. Then their images are known until an epoch is added or dropped, or too many are
+    /// known. It costs two renamings for each epoch on the way for each such stretch, and a search for
+    /// each run of which all is known.
     pub fn prepare(&mut self, from: EpochName, to: EpochName, ids: &Runs) -> Result<(), AllocError>
         requires from { IsTrue (is_kept self.old.epochs.top self.old.epochs.nodes from) }
         requires to { IsTrue (is_kept self.old.epochs.top self.old.epochs.nodes to) }
         ensures same { self.new ≡ self.old }
     {
-        let Some(id) = self.tree.nodes.first_unknown(from, to, ids)? else {
-            return Ok(());
-        };
-        let steps = self.tree.way_between(from, to)?;
-        if steps.len() < FEWEST_STEPS {
-            return Ok(());
-        }
-        self.tree.nodes.learn(&steps, from, to, &id)
+        let left = self.tree.number_of(from);
+        let right = self.tree.number_of(to);
+        self.tree.nodes.prepare(left, right, ids)
     }
 
     /// Takes all marks away. It takes no memory.

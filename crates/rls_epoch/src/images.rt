@@ -90,7 +90,7 @@ impl Nodes {
 
     // A run one step on.
     #[tactic(auto, using(crate::proofs::Moving::back_image, crate::proofs::Moving::forward_image))]
-    fn run_moved(&self, step: Step, run: &Run) -> Result<RunList, AllocError>
+    pub(crate) fn run_moved(&self, step: Step, run: &Run) -> Result<RunList, AllocError>
         requires within { place_of_step step < length self.now.placed }
         ensures moved { IfOk result (λ runs. IsImage (step_map self.now.placed step) run.now runs) }
     {

@@ -1,5 +1,5 @@
 //! Images that are known. A member that was away has made one deletion after another in an early epoch, and mostly of former
-//! identifiers. So a run of these that is one run in the greatest epoch, too, is kept with that run. Then the image of any part of it is
+//! identifiers. So a run of these that is one run in another epoch, too, is kept with that run. Then the image of any part of it is
 //! found without a step.
 
 ghost use Rattle.std.specs.Prelude.{◌≡◌, ◌+◌, ◌<◌, ◌≤◌, ◌^◌, ◌++◌, [], length, map, pos, IfOk, IfSome, IsTrue};
@@ -17,23 +17,82 @@ use std::alloc::{AllocError, Global};
 use std::cmp::Ordering;
 
 // The most runs that are known at once.
-const MOST_KNOWN: usize = 4096;
+const MOST_KNOWN: usize = 8192;
 
 // A run of an epoch, and the run of the same identifiers in another one.
 #[derive(Drop)]
 pub(crate) struct Known {
     pub(crate) from: EpochName,
+    pub(crate) to: EpochName,
     pub(crate) run: Run,
     pub(crate) image: Run,
 }
 
 impl Known {
-    // Whether the table has it after an identifier of an epoch.
-    fn is_after(&self, from: EpochName, id: &Ident) -> bool {
-        match compare_names(self.from, from) {
+    // A run in its own epoch.
+    pub(crate) fn unmoved(nodes: &[Placed], epoch: EpochName, run: Run) -> Result<Known, AllocError>
+        requires nodes { AreNodes (nodes_of nodes.now) }
+        ensures known { IfOk result (λ k. IsKnown (nodes_of nodes.now) k) }
+    {
+        rely!(let _len = run.len());
+        let image = run.copy()?;
+        Ok(Known {
+            from: epoch,
+            to: epoch,
+            run,
+            image,
+        })
+    }
+
+    // The same again.
+    pub(crate) fn copy(&self) -> Result<Known, AllocError>
+        ensures copy { IfOk result (λ copy. copy ≡ self.now) }
+    {
+        Ok(Known {
+            from: self.from,
+            to: self.to,
+            run: self.run.copy()?,
+            image: self.image.copy()?,
+        })
+    }
+
+    // The way back: the run of the image.
+    pub(crate) fn turned(&self, nodes: &[Placed]) -> Result<Known, AllocError>
+        requires nodes { AreNodes (nodes_of nodes.now) }
+        requires known { IsKnown (nodes_of nodes.now) self.now }
+        ensures known { IfOk result (λ k. IsKnown (nodes_of nodes.now) k) }
+    {
+        rely!(let _len = self.run.len());
+        Ok(Known {
+            from: self.to,
+            to: self.from,
+            run: self.image.copy()?,
+            image: self.run.copy()?,
+        })
+    }
+
+    // Whether the table has it after an identifier of an epoch, which is to be led to another.
+    fn is_after(&self, from: EpochName, to: EpochName, id: &Ident) -> bool {
+        match compare_names(self.from, from).then(compare_names(self.to, to)) {
             Ordering::Less => false,
             Ordering::Equal => self.run.first().compare(id).is_gt(),
             Ordering::Greater => true,
+        }
+    }
+
+    // The image of a run, if all of it is in this one.
+    pub(crate) fn image_of(&self, nodes: &[Placed], run: &Run) -> Result<Option<Run>, AllocError>
+        requires known { IsKnown (nodes_of nodes.now) self.now }
+        ensures image { IfOk result (λ image. IfSome image (λ r. run_idents r.0 r.1 ≡ map (translate (nodes_of nodes.now) self.now.from self.now.to) (run_idents run.now.0 run.now.1))) }
+    {
+        let len = run.len();
+        let Some(image) = self.part_from(nodes, run.first(), len)? else {
+            return Ok(None);
+        };
+        if image.len() == len {
+            Ok(Some(image))
+        } else {
+            Ok(None)
         }
     }
 
@@ -41,15 +100,14 @@ impl Known {
     fn part_from(
         &self,
         nodes: &[Placed],
-        to: EpochName,
         first: &Ident,
         most: u32,
     ) -> Result<Option<Run>, AllocError>
-        requires known { IsKnown (nodes_of nodes.now) to self.now }
+        requires known { IsKnown (nodes_of nodes.now) self.now }
         requires some { 0 < most }
         ensures some { IfOk result (λ part. IfSome part (λ r. 0 < r.1)) }
         ensures within { IfOk result (λ part. IfSome part (λ r. r.1 ≤ most)) }
-        ensures part { IfOk result (λ part. IfSome part (λ r. run_idents r.0 r.1 ≡ map (translate (nodes_of nodes.now) self.now.from to) (run_idents first.now r.1))) }
+        ensures part { IfOk result (λ part. IfSome part (λ r. run_idents r.0 r.1 ≡ map (translate (nodes_of nodes.now) self.now.from self.now.to) (run_idents first.now r.1))) }
     {
         let Ok(place) = self.run.find(first) else {
             return Ok(None);
@@ -60,20 +118,18 @@ impl Known {
     }
 }
 
-// Known images in one epoch, in increasing order of the names of their epochs and of their first identifiers.
+// Known images, in increasing order of the names of their epochs and of their first identifiers.
 #[derive(Drop)]
 pub(crate) struct KnownImages {
-    pub(crate) to: EpochName,
     known: Vec<Box<Known>>,
 }
 
 impl KnownImages {
     // None.
-    pub(crate) fn new(alloc: Global, to: EpochName) -> KnownImages
+    pub(crate) fn new(alloc: Global) -> KnownImages
         ensures none { result.known.items ≡ [] }
     {
         KnownImages {
-            to,
             known: Vec::new(alloc),
         }
     }
@@ -85,27 +141,19 @@ impl KnownImages {
         self.known.clear();
     }
 
-    // Those in this epoch. Images in another are forgotten.
-    pub(crate) fn turn_to(&mut self, nodes: &[Placed], to: EpochName)
-        requires known { AreKnown (nodes_of nodes.now) self.old }
-        ensures known { AreKnown (nodes_of nodes.now) self.new }
-        ensures to { self.new.to ≡ to }
-    {
-        if self.to.same(&to) {
-            return;
-        }
-        self.known.clear();
-        self.to = to;
+    // Whether none is known.
+    pub(crate) fn is_empty(&self) -> bool {
+        self.known.is_empty()
     }
 
     // How many of them the table doesn't have after an identifier of an epoch.
-    fn count_up_to(&self, from: EpochName, id: &Ident) -> usize
+    fn count_up_to(&self, from: EpochName, to: EpochName, id: &Ident) -> usize
         ensures within { result ≤ length self.now.known.items }
     {
         let (mut low, mut high) = (0, self.known.len());
         while low < high {
             let middle = low + (high - low) / 2;
-            if self.known[middle].is_after(from, id) {
+            if self.known[middle].is_after(from, to, id) {
                 high = middle;
             } else {
                 low = middle + 1;
@@ -123,27 +171,67 @@ impl KnownImages {
         id: &Ident,
     ) -> Option<&Known>
         requires known { AreKnown (nodes_of nodes.now) self.now }
-        ensures known { IfSome result (λ k. IsKnown (nodes_of nodes.now) to k.now) }
+        ensures known { IfSome result (λ k. IsKnown (nodes_of nodes.now) k.now) }
         ensures from { IfSome result (λ k. k.now.from ≡ from) }
+        ensures to { IfSome result (λ k. k.now.to ≡ to) }
     {
-        if !self.to.same(&to) {
-            return None;
-        }
-        let count = self.count_up_to(from, id);
+        let count = self.count_up_to(from, to, id);
         if count == 0 {
             return None;
         }
         let known: &Known = &self.known[count - 1];
-        if known.from.same(&from) {
+        if known.from.same(&from) && known.to.same(&to) {
             Some(known)
         } else {
             None
         }
     }
 
+    // What is known of the run of an identifier of an epoch, if its image is.
+    pub(crate) fn known_of(
+        &self,
+        nodes: &[Placed],
+        from: EpochName,
+        to: EpochName,
+        id: &Ident,
+    ) -> Result<Option<Known>, AllocError>
+        requires known { AreKnown (nodes_of nodes.now) self.now }
+        ensures known { IfOk result (λ known. IfSome known (λ k. IsKnown (nodes_of nodes.now) k)) }
+    {
+        let Some(known) = self.last_up_to(nodes, from, to, id) else {
+            return Ok(None);
+        };
+        if known.run.find(id).is_err() {
+            return Ok(None);
+        }
+        let copy = known.copy()?;
+        Ok(Some(copy))
+    }
+
+    // The image of an identifier, if it is known.
+    pub(crate) fn image(
+        &self,
+        nodes: &[Placed],
+        from: EpochName,
+        to: EpochName,
+        id: &Ident,
+    ) -> Result<Option<Ident>, AllocError>
+        requires known { AreKnown (nodes_of nodes.now) self.now }
+        ensures image { IfOk result (λ image. IfSome image (λ x. x ≡ translate (nodes_of nodes.now) from to id.now)) }
+    {
+        let Some(known) = self.last_up_to(nodes, from, to, id) else {
+            return Ok(None);
+        };
+        let Some(part) = known.part_from(nodes, id, 1)? else {
+            return Ok(None);
+        };
+        let image = part.first().copy()?;
+        Ok(Some(image))
+    }
+
     // The image of the identifiers of a run of an epoch from an index on, as far as they are known. If that of the first one isn't, it
     // answers this one.
-    fn next_part(
+    pub(crate) fn next_part(
         &self,
         nodes: &[Placed],
         from: EpochName,
@@ -162,7 +250,7 @@ impl KnownImages {
         let Some(known) = self.last_up_to(nodes, from, to, &first) else {
             return Ok(Err(first));
         };
-        let Some(part) = known.part_from(nodes, to, &first, most)? else {
+        let Some(part) = known.part_from(nodes, &first, most)? else {
             return Ok(Err(first));
         };
         Ok(Ok(part))
@@ -171,14 +259,13 @@ impl KnownImages {
     // Puts one more in its place. If there are too many, the others are forgotten.
     pub(crate) fn put(&mut self, nodes: &[Placed], known: Known) -> Result<(), AllocError>
         requires known { AreKnown (nodes_of nodes.now) self.old }
-        requires new { IsKnown (nodes_of nodes.now) self.old.to known }
+        requires new { IsKnown (nodes_of nodes.now) known }
         ensures known { AreKnown (nodes_of nodes.now) self.new }
-        ensures to { self.new.to ≡ self.old.to }
     {
         if self.known.len() >= MOST_KNOWN {
             self.known.clear();
         }
-        let count = self.count_up_to(known.from, known.run.first());
+        let count = self.count_up_to(known.from, known.to, known.run.first());
         self.known
             .insert(count, Box::new(*self.known.allocator(), known)?)?;
         Ok(())
@@ -231,44 +318,5 @@ impl KnownImages {
             images.append(part)?;
         }
         Ok(true)
-    }
-
-    // The first identifier of a list whose image isn't known.
-    pub(crate) fn first_unknown(
-        &self,
-        nodes: &[Placed],
-        from: EpochName,
-        to: EpochName,
-        ids: &Runs,
-    ) -> Result<Option<Ident>, AllocError>
-        requires known { AreKnown (nodes_of nodes.now) self.now }
-    {
-        for run in ids.as_slice() {
-            if let Some(id) = self.unknown_in(nodes, from, to, run)? {
-                return Ok(Some(id));
-            }
-        }
-        Ok(None)
-    }
-
-    // The first identifier of a run whose image isn't known.
-    fn unknown_in(
-        &self,
-        nodes: &[Placed],
-        from: EpochName,
-        to: EpochName,
-        run: &Run,
-    ) -> Result<Option<Ident>, AllocError>
-        requires known { AreKnown (nodes_of nodes.now) self.now }
-    {
-        let len = run.len();
-        let mut done = 0;
-        while done < len {
-            match self.next_part(nodes, from, to, run, done)? {
-                Ok(part) => done += part.len(),
-                Err(first) => return Ok(Some(first)),
-            }
-        }
-        Ok(None)
     }
 }

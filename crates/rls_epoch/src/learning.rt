@@ -1,19 +1,26 @@
-//! How images become known: of an identifier with those beside it that are in the same former run at each step of a way.
+//! How images become known: of an identifier with those beside it that are in the same former run at each step of a way. Those at the
+//! places of the way at which translations look become known too, where more are beside it there.
 
-ghost use Rattle.std.specs.Prelude.{◌≡◌, ◌<◌, length, map, IfOk, IfSome};
-ghost use Rattle.rls_ident.specs.declared.epoch_name.EpochName.{EpochName};
+ghost use Rattle.std.specs.Prelude.{◌≡◌, ◌+◌, ◌<◌, ◌≤◌, List, length, IfOk, IfSome};
+ghost use Rattle.std.specs.List.{All};
+ghost use Rattle.rls_ident.specs.declared.tuple.Tuple.{Tuple};
+ghost use Rattle.rls_ident.specs.Identifiers.{IsIdent};
 ghost use Rattle.rls_rename.specs.Tree.{translate};
 ghost use Rattle.rls_epoch.specs.KnownRuns.{IsKnown};
 ghost use Rattle.rls_epoch.specs.Seen.{nodes_of};
-ghost use Rattle.rls_epoch.specs.Ways.{AreWithin, IsWay, place_of_step};
+ghost use Rattle.rls_epoch.specs.Ways.{AreWithin, place_of_step, step_map};
 
 use crate::known::Known;
 use crate::nodes::Nodes;
 use crate::ways::Step;
-use rls_ident::limits::LEAST_OFFSET;
+use rls_ident::limits::{LEAST_OFFSET, OFFSETS_END};
 use rls_ident::{EpochName, Ident, rely};
 use rls_runs::{Run, Runs};
 use std::alloc::AllocError;
+use std::mem;
+
+// How many runs of a list in which an identifier can't be learned are passed over.
+const MOST_TRIED: u32 = 4;
 
 // How many identifiers before one, and how many from it on.
 #[derive(Clone, Copy)]
@@ -23,6 +30,26 @@ struct Beside {
 }
 
 impl Beside {
+    // All with its base.
+    fn base(id: &Ident) -> Beside {
+        let offset = id.last().offset as i64;
+        Beside {
+            before: u32::try_from(offset - LEAST_OFFSET as i64).unwrap_or(0),
+            from: u32::try_from(OFFSETS_END as i64 - offset).unwrap_or(0),
+        }
+    }
+
+    // Those of a run, if it has the identifier.
+    fn within(run: &Run, id: &Ident) -> Option<Beside> {
+        let Ok(before) = run.find(id) else {
+            return None;
+        };
+        Some(Beside {
+            before,
+            from: run.len().saturating_sub(before),
+        })
+    }
+
     // What is beside it in both cases.
     fn min(self, other: Beside) -> Beside {
         Beside {
@@ -46,68 +73,302 @@ impl Beside {
     }
 }
 
+// A step of an identifier that is a former one there, what is beside it in its run of these, and whether translations look for what is
+// known before this step.
+#[derive(Drop)]
+pub(crate) struct Stop {
+    pub(crate) step: Step,
+    id: Ident,
+    beside: Beside,
+    looked: bool,
+}
+
+// The last steps of an identifier, at each of which it is a former one, and what is known of it after these.
+#[derive(Drop)]
+struct Route {
+    stops: Vec<Stop>,
+    end: Ident,
+    known: Known,
+}
+
 impl Nodes {
-    // The image of an identifier and those beside it at each step becomes known, if it is one run. It costs two passes over the way.
-    pub(crate) fn learn(
-        &mut self,
-        steps: &[Step],
-        from: EpochName,
-        to: EpochName,
-        id: &Ident,
-    ) -> Result<(), AllocError>
-        requires way { IsWay self.old.placed steps.now from to }
+    // Makes ready for translations of a list between two epochs, by their numbers. Of each run the identifiers whose images aren't
+    // known are learned, up to one that can't be, and few such ones are tried. It costs two renamings for each epoch on the way for each
+    // stretch that is learned, and a search for each other part.
+    pub(crate) fn prepare(&mut self, from: usize, to: usize, ids: &Runs) -> Result<(), AllocError>
+        requires from { from ≤ length self.old.placed }
+        requires to { to ≤ length self.old.placed }
         ensures same { self.new ≡ self.old }
     {
-        let Some(known) = self.image_beside(steps, from, id)? else {
+        let mut tried = 0;
+        for run in ids.as_slice() {
+            if self.prepare_run(from, to, run)? {
+                continue;
+            }
+            if tried >= MOST_TRIED {
+                return Ok(());
+            }
+            tried += 1;
+        }
+        Ok(())
+    }
+
+    // The same for a run. It answers whether all of it is known then.
+    fn prepare_run(&mut self, from: usize, to: usize, run: &Run) -> Result<bool, AllocError>
+        requires from { from ≤ length self.old.placed }
+        requires to { to ≤ length self.old.placed }
+        ensures same { self.new ≡ self.old }
+    {
+        let len = run.len();
+        let mut done = 0;
+        while done < len {
+            let count = self.prepare_part(from, to, run, done)?;
+            if count == 0 {
+                return Ok(false);
+            }
+            done += count;
+        }
+        Ok(true)
+    }
+
+    // How many identifiers of a run from an index on have images that are known, after that of the first one was learned. A single step
+    // is as quick without.
+    fn prepare_part(&mut self, from: usize, to: usize, run: &Run, i: u32) -> Result<u32, AllocError>
+        requires from { from ≤ length self.old.placed }
+        requires to { to ≤ length self.old.placed }
+        requires index { i < run.now.1 }
+        ensures within { IfOk result (λ n. i + n ≤ run.now.1) }
+        ensures same { self.new ≡ self.old }
+    {
+        let (start, end) = (self.epoch_of(from), self.epoch_of(to));
+        let first = match self.known.next_part(&self.list, start, end, run, i)? {
+            Ok(part) => return Ok(part.len()),
+            Err(first) => first,
+        };
+        if self.number_along(from, to, 1) == to {
+            return Ok(0);
+        }
+        self.learn(from, to, &first)?;
+        match self.known.next_part(&self.list, start, end, run, i)? {
+            Ok(part) => Ok(part.len()),
+            Err(_) => Ok(0),
+        }
+    }
+
+    // The image of an identifier and those beside it at each step becomes known, if it is a former one at each. It costs two passes over
+    // the way, or as much of it as isn't known.
+    fn learn(&mut self, from: usize, to: usize, id: &Ident) -> Result<(), AllocError>
+        requires from { from ≤ length self.old.placed }
+        requires to { to ≤ length self.old.placed }
+        ensures same { self.new ≡ self.old }
+    {
+        let Some(route) = self.route(from, to, id)? else {
             return Ok(());
         };
-        self.known.turn_to(&self.list, to);
+        let Route {
+            mut stops,
+            end,
+            mut known,
+        } = route;
+        let Some(mut beside) = Beside::within(&known.run, &end) else {
+            return Ok(());
+        };
+        let mut last = None;
+        while let Some(stop) = stops.pop() {
+            beside = beside.min(stop.beside);
+            let Some(before) = self.known_before(&stop, beside, &known)? else {
+                break;
+            };
+            known = before;
+            last = self.put_looked(stop.looked, last, &known)?;
+        }
+        self.put_both(last)
+    }
+
+    // What is known at the last place at which translations look, after this one if it is such a place. What is known at the one before is
+    // put in its place, if it is longer.
+    fn put_looked(
+        &mut self,
+        looked: bool,
+        last: Option<Known>,
+        known: &Known,
+    ) -> Result<Option<Known>, AllocError>
+        requires last { IfSome last (λ k. IsKnown (nodes_of self.old.placed) k) }
+        requires known { IsKnown (nodes_of self.old.placed) known.now }
+        ensures same { self.new ≡ self.old }
+        ensures last { IfOk result (λ last. IfSome last (λ k. IsKnown (nodes_of self.old.placed) k)) }
+    {
+        if !looked {
+            return Ok(last);
+        }
+        self.put_longer(last, known.run.len())?;
+        let copy = known.copy()?;
+        Ok(Some(copy))
+    }
+
+    // A run that is known is put in its place, if it is longer than this.
+    fn put_longer(&mut self, known: Option<Known>, len: u32) -> Result<(), AllocError>
+        requires known { IfSome known (λ k. IsKnown (nodes_of self.old.placed) k) }
+        ensures same { self.new ≡ self.old }
+    {
+        match known {
+            Some(known) if known.run.len() > len => self.known.put(&self.list, known),
+            _ => Ok(()),
+        }
+    }
+
+    // A run that is known is put in its place, and the way back in its own.
+    fn put_both(&mut self, known: Option<Known>) -> Result<(), AllocError>
+        requires known { IfSome known (λ k. IsKnown (nodes_of self.old.placed) k) }
+        ensures same { self.new ≡ self.old }
+    {
+        let Some(known) = known else {
+            return Ok(());
+        };
+        rely!(let _count = self.count());
+        let back = known.turned(&self.list)?;
+        self.known.put(&self.list, back)?;
         self.known.put(&self.list, known)
     }
 
-    // The run of an identifier and those beside it at each step, and its image, if that is one run.
-    fn image_beside(
-        &self,
-        steps: &[Step],
-        from: EpochName,
-        id: &Ident,
-    ) -> Result<Option<Known>, AllocError>
-        requires within { AreWithin (length self.now.placed) steps.now }
-        ensures known { IfOk result (λ found. IfSome found (λ k. (to : EpochName) → IsWay self.now.placed steps.now from to → IsKnown (nodes_of self.now.placed) to k)) }
+    // The last steps of an identifier, at each of which it is a former one: up to where its image is known, if it is at a place of the way
+    // at which translations look.
+    fn route(&self, from: usize, to: usize, id: &Ident) -> Result<Option<Route>, AllocError>
+        requires from { from ≤ length self.now.placed }
+        requires to { to ≤ length self.now.placed }
+        ensures stops { IfOk result (λ route. IfSome route (λ r. All (λ s. place_of_step s.step < length self.now.placed) r.stops.items)) }
+        ensures known { IfOk result (λ route. IfSome route (λ r. IsKnown (nodes_of self.now.placed) r.known)) }
     {
-        let Some(beside) = self.beside_along(steps, id)? else {
-            return Ok(None);
-        };
-        let Some(run) = beside.run(id)? else {
-            return Ok(None);
-        };
-        rely!(let _len = run.len());
-        let images = self.run_led(steps, &run)?;
-        let [image] = images.as_slice() else {
-            return Ok(None);
-        };
-        let image = image.copy()?;
-        Ok(Some(Known { from, run, image }))
+        let mut stops = Vec::new(self.allocator());
+        let (mut at, mut there) = (from, id.copy()?);
+        for doublings in 0..u32::BITS {
+            let next = self.number_along(at, to, 1 << doublings);
+            there = self.follow(&self.way_from(at, next)?, there, &mut stops)?;
+            at = next;
+            if at == to {
+                break;
+            }
+            let (here, end) = (self.epoch_of(at), self.epoch_of(to));
+            if let Some(known) = self.known.known_of(&self.list, here, end, &there)? {
+                return Ok(Some(Route {
+                    stops,
+                    end: there,
+                    known,
+                }));
+            }
+        }
+        self.route_to_end(stops, at, there)
     }
 
-    // What is beside an identifier at each step. If it isn't a former one at a step, there is nothing.
-    fn beside_along(&self, steps: &[Step], id: &Ident) -> Result<Option<Beside>, AllocError>
-        requires within { AreWithin (length self.now.placed) steps.now }
+    // The steps of an identifier to its own epoch.
+    fn route_to_end(
+        &self,
+        stops: Vec<Stop>,
+        at: usize,
+        end: Ident,
+    ) -> Result<Option<Route>, AllocError>
+        requires within { at ≤ length self.now.placed }
+        requires stops { All (λ s. place_of_step s.step < length self.now.placed) stops.items }
+        ensures stops { IfOk result (λ route. IfSome route (λ r. All (λ s. place_of_step s.step < length self.now.placed) r.stops.items)) }
+        ensures known { IfOk result (λ route. IfSome route (λ r. IsKnown (nodes_of self.now.placed) r.known)) }
     {
-        let mut beside = Beside {
-            before: u32::MAX,
-            from: u32::MAX,
+        let Some(run) = Beside::base(&end).run(&end)? else {
+            return Ok(None);
         };
-        let mut at = id.copy()?;
+        rely!(let _count = self.count());
+        let known = Known::unmoved(&self.list, self.epoch_of(at), run)?;
+        Ok(Some(Route { stops, end, known }))
+    }
+
+    // The identifier at the end of these steps. Each at which it is a former one comes after the others; at one where it isn't, the
+    // others are taken away.
+    fn follow(&self, steps: &[Step], id: Ident, stops: &mut Vec<Stop>) -> Result<Ident, AllocError>
+        requires within { AreWithin (length self.now.placed) steps.now }
+        requires stops { All (λ s. place_of_step s.step < length self.now.placed) stops.old.items }
+        ensures stops { All (λ s. place_of_step s.step < length self.now.placed) stops.new.items }
+    {
+        let mut at = id;
+        let mut looked = true;
         for step in steps {
             let next = self.ident_moved(*step, &at)?;
-            let Some(there) = self.beside_at(*step, &at, &next) else {
-                return Ok(None);
-            };
-            beside = beside.min(there);
-            at = next;
+            let there = self.beside_at(*step, &at, &next);
+            let id = mem::replace(&mut at, next);
+            self.put_stop(stops, *step, id, there, looked)?;
+            looked = false;
         }
-        Ok(Some(beside))
+        Ok(at)
+    }
+
+    // A step is put after the others, if what is beside the identifier there is told. Else these are taken away.
+    fn put_stop(
+        &self,
+        stops: &mut Vec<Stop>,
+        step: Step,
+        id: Ident,
+        beside: Option<Beside>,
+        looked: bool,
+    ) -> Result<(), AllocError>
+        requires within { place_of_step step < length self.now.placed }
+        requires stops { All (λ s. place_of_step s.step < length self.now.placed) stops.old.items }
+        ensures stops { All (λ s. place_of_step s.step < length self.now.placed) stops.new.items }
+    {
+        let Some(beside) = beside else {
+            stops.clear();
+            return Ok(());
+        };
+        stops.push(Stop {
+            step,
+            id,
+            beside,
+            looked,
+        })?;
+        Ok(())
+    }
+
+    // What is known before a step of those beside an identifier there, where this is known after it.
+    fn known_before(
+        &self,
+        stop: &Stop,
+        beside: Beside,
+        after: &Known,
+    ) -> Result<Option<Known>, AllocError>
+        requires within { place_of_step stop.now.step < length self.now.placed }
+        requires known { IsKnown (nodes_of self.now.placed) after.now }
+        ensures known { IfOk result (λ found. IfSome found (λ k. IsKnown (nodes_of self.now.placed) k)) }
+    {
+        let (from, next) = self.ends(stop.step);
+        if !next.same(&after.from) {
+            return Ok(None);
+        }
+        let Some(run) = beside.run(&stop.id)? else {
+            return Ok(None);
+        };
+        rely!(let (_count, _len) = (self.count(), run.len()));
+        let images = self.run_moved(stop.step, &run)?;
+        let [moved] = images.as_slice() else {
+            return Ok(None);
+        };
+        let Some(image) = after.image_of(&self.list, moved)? else {
+            return Ok(None);
+        };
+        Ok(Some(Known {
+            from,
+            to: after.to,
+            run,
+            image,
+        }))
+    }
+
+    // The epochs before and after a step.
+    fn ends(&self, step: Step) -> (EpochName, EpochName)
+        requires within { place_of_step step < length self.now.placed }
+        ensures step { (x : List Tuple) → IsIdent x → step_map self.now.placed step x ≡ translate (nodes_of self.now.placed) result.0 result.1 x }
+    {
+        rely!(let _count = self.count());
+        match step {
+            Step::Back { place } => (self.name_of(place), self.at(place).parent),
+            Step::Forward { place } => (self.at(place).parent, self.name_of(place)),
+        }
     }
 
     // What is beside an identifier in its run of former identifiers, at a step that takes the one to the other.
@@ -127,28 +388,5 @@ impl Nodes {
             before,
             from: run.len() - before,
         })
-    }
-
-    // The identifiers of a list in another epoch, if all are known. It costs a few comparisons for each halving of what is known, for
-    // each run of the list.
-    pub(crate) fn known_images(
-        &self,
-        from: EpochName,
-        to: EpochName,
-        ids: &Runs,
-    ) -> Result<Option<Runs>, AllocError>
-        ensures images { IfOk result (λ images. IfSome images (λ xs. xs ≡ map (translate (nodes_of self.now.placed) from to) ids.now)) }
-    {
-        self.known.images(&self.list, from, to, ids)
-    }
-
-    // The first identifier of a list whose image in another epoch isn't known.
-    pub(crate) fn first_unknown(
-        &self,
-        from: EpochName,
-        to: EpochName,
-        ids: &Runs,
-    ) -> Result<Option<Ident>, AllocError> {
-        self.known.first_unknown(&self.list, from, to, ids)
     }
 }

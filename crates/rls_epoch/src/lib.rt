@@ -20,6 +20,7 @@ mod nodes;
 mod parts;
 mod placed;
 mod retaining;
+mod translating;
 mod tree;
 mod ways;
 

@@ -24,7 +24,7 @@ pub(crate) struct Nodes {
     pub(crate) list: Vec<Placed>,
     // the jump of each node
     pub(crate) jumps: Vec<Jump>,
-    // images in one of the epochs that are known
+    // images that are known
     pub(crate) known: KnownImages,
 }
 
@@ -51,7 +51,7 @@ impl Nodes {
             top,
             list: Vec::new(alloc),
             jumps: Vec::new(alloc),
-            known: KnownImages::new(alloc, top),
+            known: KnownImages::new(alloc),
         }
     }
 
@@ -199,7 +199,7 @@ impl Nodes {
             top: self.top,
             list,
             jumps: self.jumps.clone()?,
-            known: KnownImages::new(self.allocator(), self.top),
+            known: KnownImages::new(self.allocator()),
         })
     }
 }

@@ -17,14 +17,14 @@ pub part-requires : goal.part-requires
 part-requires c =
     let k = c.args.self.now in
     let w = place_within k.run.0 c.args.first.now k.run.1 c.in-Ok.place (sym c.in-Ok.ensures.place) in
-    let e = image_length (translate (nodes_of c.args.nodes.now) k.from c.args.to) k.run.0 k.image.0 k.run.1 k.image.1 c.requires.known in
+    let e = image_length (translate (nodes_of c.args.nodes.now) k.from k.to) k.run.0 k.image.0 k.run.1 k.image.1 c.requires.known in
     let l = c.len.ensures.len in
     record { some = omega arith; within = omega arith }
 
 pub returns-clause-part : goal.returns-clause-part
 returns-clause-part c =
     let k = c.args.self.now in
-    let f = translate (nodes_of c.args.nodes.now) k.from c.args.to in
+    let f = translate (nodes_of c.args.nodes.now) k.from k.to in
     let place = c.in-Ok.place in
     let len = c.min-len.result in
     let first = c.args.first.now in
