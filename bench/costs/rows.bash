@@ -11,15 +11,15 @@ trap 'rm -rf "$room"' EXIT
 
 # Each row: its name, the least n, and the growth that a doubling may have, in tenths: 23 is linear. After more than that comes why. A
 # number: the definition itself asks for a square, mostly because a character that is put or deleted between two others gets a tuple more
-# in each epoch; so many instructions are allowed for each n times n. The word slow: nothing asks for it, and the code isn't there yet.
+# in each epoch, and once because a rule looks at a whole row; so many instructions are allowed for each n times n. The word slow: nothing asks for it, and the code isn't there yet.
 rows=(
   in_order:2000:23 reverse:2000:23 shuffled:2000:23 waiting:2000:23 waiting_reverse:2000:23 colliding:2000:23 forked:500:23
   gone:500:23 same:500:23 each:250:23 again:50:23 refused:250:23 refused_in_turn:250:23 refused_standing:50:23 refused_gone:50:23 refused_between:50:23
-  gone_renamed:50:42:8000 gone_deep:50:42:slow chain:50:42:5500 deep:50:42:5500 rename_each:50:48:slow old_deletions:50:23
+  gone_renamed:50:42:8000 gone_deep:50:42:slow chain:50:42:5500 deep:50:42:5500 rename_each:50:48:9000 old_deletions:50:23
   old_deletions_apart:50:23 wrong_epoch:250:23 two_chains:500:23 two_chains_lesser_first:500:23 two_chains_in_turn:500:23
   small_renames:500:23 wide:25:23 scattered:20000:23 scattered_each:250:23
   renamed_file:25:23 back:250:23 rename:20000:23 members:16:23
-  marks:250:23 flags:250:42:slow cursor_renames:500:23 undo_renames:500:23 step_again:500:23 acked_refused:500:23 acked_gone:100:23 acked_each:100:23
+  marks:250:23 flags:250:42:450 cursor_renames:500:23 undo_renames:500:23 step_again:500:23 acked_refused:500:23 acked_gone:100:23 acked_each:100:23
   acked_sends:1000:23
 )
 
