@@ -67,11 +67,12 @@ pub(crate) fn is_large(kind: OpKind, len: u64) -> bool {
     kind == OpKind::Delete && len > SMALL
 }
 
-// A copy of an operation with this many bytes, if it is a large deletion.
-pub(crate) fn large_deletion(alloc: Global, op: &Op, len: u64) -> Result<Large, AllocError>
+// A copy of an operation, if it is a large deletion.
+pub(crate) fn large_deletion(alloc: Global, op: &Op) -> Result<Large, AllocError>
     ensures large { IfOk result (λ large. IfSome (value_of large) (λ o. o ≡ op.now)) }
 {
-    if !is_large(OpKind::of(&op.body), len) {
+    let kind = OpKind::of(&op.body);
+    if kind != OpKind::Delete || !is_large(kind, op.encoded_len()) {
         return Ok(None);
     }
     let copy = Box::new(alloc, op.copy()?)?;

@@ -1,10 +1,11 @@
 //! The log: operations in order, kept as bytes.
 
-ghost use Rattle.std.specs.Prelude.{◌≡◌, ◌<◌, All, ◌++◌, ◌∷◌, [], ◌==◌, Some, length, take, slice_get, IfOk, IfSome, OnOk, OnErr};
+ghost use Rattle.std.specs.Prelude.{◌≡◌, ◌<◌, ◌^◌, IsTrue, All, ◌++◌, ◌∷◌, [], ◌==◌, Some, length, take, slice_get, IfOk, IfSome, OnOk, OnErr};
 ghost use Rattle.rls_ident.specs.Vectors.{at_most};
 ghost use Rattle.rls_ops.specs.declared.op.Op.{Op as OpSeen};
 ghost use Rattle.rls_codec.specs.Spelled.{IsSpelledIfFit};
 ghost use Rattle.rls_ops.specs.Rows.{missing_for};
+ghost use Rattle.rls_ops.specs.Sizes.{op_size};
 ghost use Rattle.rls_ops.specs.Spelling.{op_bytes};
 ghost use Rattle.rls_log.specs.Heads.{IsHeadOf};
 ghost use Rattle.rls_log.specs.Fitting.{AreFit};
@@ -63,12 +64,11 @@ impl Log {
         ensures ok { OnOk result (self.new ≡ self.old ++ op.now ∷ []) }
         ensures err { OnErr result (self.new ≡ self.old) }
     {
-        let len = op.encoded_len();
-        if len > u32::MAX as u64 {
+        if !is_short(op) {
             return Err(AllocError);
         }
         rely!(op.fits());
-        let large = large_deletion(*self.bytes.allocator(), op, len)?;
+        let large = large_deletion(*self.bytes.allocator(), op)?;
         self.entries.reserve(1)?;
         self.latest.reserve(op.context.len() as u32)?;
         let start = self.bytes.len();
@@ -219,6 +219,14 @@ impl Log {
     {
         rely!(let _len = self.entries.len());
     }
+}
+
+// Whether it has fewer than 4,294,967,296 bytes. They are counted only if there may be more.
+fn is_short(op: &Op) -> bool
+    ensures short { IsTrue result → op_size op.now < 2 ^ 32 }
+{
+    let most = u32::MAX as u64;
+    op.most_bytes() <= most || op.encoded_len() <= most
 }
 
 // The operation that the bytes spell.

@@ -13,7 +13,7 @@ use Rattle.rls_log.proofs.log.Log.push.Goals as goal
 pub overflow_cast-entry : goal.overflow_cast-entry
 overflow_cast-entry c =
     let o = c.args.op.now in
-    omega (arith, c.len-3.ensures, c.len-start.ensures, c.encode_op.new.out.ok.0, c.self.inside.bytes.ok.0, ap length c.in_ok-encode_op.ensures.ok, length-append c.self.inside.bytes.items (op_bytes o), op_length o, c.encoded_len-len.ensures.size, c.if-len.false)
+    omega (arith, c.len-3.ensures, c.len-start.ensures, c.encode_op.new.out.ok.0, c.self.inside.bytes.ok.0, ap length c.in_ok-encode_op.ensures.ok, length-append c.self.inside.bytes.items (op_bytes o), op_length o, c.is_short.ensures.short c.if-not-is_short.false)
 
 module _ (c : goal.After-unwrap) where
   abbrev entry : Entry
