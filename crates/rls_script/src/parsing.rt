@@ -212,7 +212,7 @@ fn meaning(is_escaped: bool, character: char) -> Option<char>
 fn unescaped(alloc: Global, escaped: &str) -> Result<Option<Text>, AllocError>
     ensures text { IfOk result (λ found. found ≡ text_of (chars escaped.now)) }
 {
-    let mut plain = Text::new(alloc);
+    let mut plain = Text::for_utf8(alloc, escaped.len())?;
     let mut is_escaped = false;
     for character in escaped.chars() {
         if is_opening(is_escaped, character) {

@@ -9,7 +9,7 @@ use Rattle.rls_script.proofs.parsing.unescaped.Goals as goal
 pub loop-character-init : goal.loop-character-init
 loop-character-init c = record {
   utf8 = rw (c.into_iter-character-iterator.ensures.into_iter_gives, c.chars-character-items.ensures.rest) c.utf8.escaped;
-  text = rw (c.new-plain.ensures.empty, c.into_iter-character-iterator.ensures.into_iter_gives, c.chars-character-items.ensures.rest) (with_no_chars (text_behind false (chars c.args.escaped.now)));
+  text = rw (c.in_ok-plain.ensures.empty, c.into_iter-character-iterator.ensures.into_iter_gives, c.chars-character-items.ensures.rest) (with_no_chars (text_behind false (chars c.args.escaped.now)));
 }
 
 pub loop-character-preserved-then-is_opening : goal.loop-character-preserved-then-is_opening
