@@ -1,9 +1,9 @@
 //! The stems of all authors.
 
-ghost use Rattle.std.specs.Prelude.{◌≡◌, ◌+◌, ◌^◌, ◌<◌, ◌≤◌, ◌++◌, ◌∷◌, [], pos, OnOk, OnErr, IfOk, IfSome, IfNone, IsTrue, length, option_copied, slice_index, ◌+ℤ◌, ◌<ℤ◌};
+ghost use Rattle.std.specs.Prelude.{◌≡◌, ◌+◌, ◌^◌, ◌<◌, ◌≤◌, ◌++◌, ◌∷◌, [], pos, OnOk, OnErr, IfOk, IfSome, IfNone, IsTrue, length, option_copied, slice_index, ◌+ℤ◌, ◌<ℤ◌, ◌≤ℤ◌};
 ghost use Rattle.rls_ident.specs.Between.{are_bounds};
-ghost use Rattle.rls_ident.specs.Identifiers.{last_of};
-ghost use Rattle.rls_ident.specs.Tuples.{at_spot};
+ghost use Rattle.rls_ident.specs.Identifiers.{last_of, shifted, greatest_offset};
+ghost use Rattle.rls_ident.specs.Tuples.{at_spot, offset_of};
 ghost use Rattle.rls_ops.specs.Shapes.{body_len};
 ghost use Rattle.rls_model.specs.Editing.{own_stem, ends_below, begins_above, may_append, may_prepend, first_between};
 ghost use Rattle.rls_ident.specs.Lists.{IsIn};
@@ -165,7 +165,7 @@ impl StemTable {
     {
         let count = count as u32;
         if let Some(before) = left {
-            if self.may_append(me, before, right, count)? {
+            if self.may_append(me, before, right, count) {
                 return before.shifted(1);
             }
         }
@@ -233,26 +233,20 @@ impl StemTable {
     }
 
     // Whether so many characters may follow the left neighbour in its stem.
-    fn may_append(
-        &self,
-        me: u32,
-        left: &Ident,
-        right: Option<&Ident>,
-        count: u32,
-    ) -> Result<bool, AllocError>
+    fn may_append(&self, me: u32, left: &Ident, right: Option<&Ident>, count: u32) -> bool
         requires brief { count < 2 ^ 31 }
-        ensures append { IfOk result (λ b. b ≡ may_append (own_stem self.now.stems me (last_of left.now)) left.now (option_copied right.entry) count) }
+        ensures append { result ≡ may_append (own_stem self.now.stems me (last_of left.now)) left.now (option_copied right.entry) count }
     {
         let last = left.last();
         let Some(stem) = self.own_stem(me, last) else {
-            return Ok(false);
+            return false;
         };
         if last.offset as i64 + 1 != stem.next as i64
             || last.offset as i64 + count as i64 > GREATEST_OFFSET as i64
         {
-            return Ok(false);
+            return false;
         }
-        Ok(ends_below(&left.shifted(count)?, right))
+        ends_below(left, count, right)
     }
 
     // Whether so many characters may stand before the right neighbour in its stem.
@@ -320,13 +314,14 @@ fn gap_up_to(offset: i32, low: i32) -> Option<u64>
     Some((low as i64 - offset as i64) as u64)
 }
 
-// Whether the identifier is less than the right neighbour, where there is one.
-fn ends_below(id: &Ident, right: Option<&Ident>) -> bool
-    ensures below { result ≡ ends_below id.now (option_copied right.entry) }
+// Whether the identifier with the last offset greater by this much is less than the right neighbour, where there is one.
+fn ends_below(id: &Ident, by: u32, right: Option<&Ident>) -> bool
+    requires greatest { (offset_of (last_of id.now) +ℤ pos by) ≤ℤ greatest_offset }
+    ensures below { result ≡ ends_below (shifted (pos by) id.now) (option_copied right.entry) }
 {
     match right {
         None => true,
-        Some(right) => match id.compare(right) {
+        Some(right) => match id.compare_shifted(by, right) {
             Ordering::Less => true,
             _ => false,
         },
