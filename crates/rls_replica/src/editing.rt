@@ -1,8 +1,9 @@
 //! What the member itself does.
 
-ghost use Rattle.std.specs.Prelude.{◌≡◌, ℕ, List, pos, ◌-ℤ◌, ◌+◌, ◌-◌, ◌<◌, ◌≤◌, ◌^◌, ◌≢◌, length, slice_get, Some, None, IfOk, IfErr, OnOk, OnErr};
+ghost use Rattle.std.specs.Prelude.{◌≡◌, ℕ, List, pos, ◌-ℤ◌, ◌+◌, ◌-◌, ◌<◌, ◌≤◌, ◌^◌, ◌≢◌, length, slice_get, Some, None, IfSome, IfOk, IfErr, OnOk, OnErr, IsTrue, option_copied};
 ghost use Rattle.rls_ident.specs.declared.limits.TheConstants.{GREATEST_NUMBER};
 ghost use Rattle.rls_ident.specs.declared.tuple.Tuple.{Tuple};
+ghost use Rattle.rls_ident.specs.Between.{are_bounds};
 ghost use Rattle.rls_ident.specs.Identifiers.{shifted};
 ghost use Rattle.rls_ops.specs.Sizes.{op_size};
 ghost use Rattle.rls_model.specs.declared.edit.Edit.TheVariants.{Insert, Delete, Rename, Leave};
@@ -207,17 +208,31 @@ impl Replica {
         requires unspent { own_count self.now ≢ GREATEST_NUMBER }
         ensures first { IfOk result (λ x. x ≡ first_between self.now.stems self.now.acks.me (own_count self.now + 1) (get_before (idents_over self.now) at) (slice_get (idents_over self.now) at) count) }
     {
+        rely!(self.sane());
         let left = self.ident_before(at)?;
+        if let Some(right) = self.first_from(at) {
+            return self.first_between(left.as_ref(), Some(right), count);
+        }
         let right = self.ident_from(at)?;
+        self.first_between(left.as_ref(), right.as_ref(), count)
+    }
+
+    // The first identifier of an insertion of so many characters between these neighbours.
+    fn first_between(
+        &self,
+        left: Option<&Ident>,
+        right: Option<&Ident>,
+        count: usize,
+    ) -> Result<Ident, AllocError>
+        requires order { IsTrue (are_bounds (option_copied left) (option_copied right)) }
+        requires some { 0 < count }
+        requires brief { count < 2 ^ 31 }
+        requires unspent { own_count self.now ≢ GREATEST_NUMBER }
+        ensures first { IfOk result (λ x. x ≡ first_between self.now.stems self.now.acks.me (own_count self.now + 1) (option_copied left.entry) (option_copied right.entry) count) }
+    {
         let seq = self.own_count() + 1;
-        self.stems.first_between(
-            self.alloc,
-            self.me(),
-            seq,
-            left.as_ref(),
-            right.as_ref(),
-            count,
-        )
+        self.stems
+            .first_between(self.alloc, self.me(), seq, left, right, count)
     }
 
     // The identifier right before a place, if there is one.
@@ -229,6 +244,13 @@ impl Replica {
             return Ok(None);
         }
         Ok(Some(self.document.ident_at(at - 1)?))
+    }
+
+    // The identifier at a place where a run of the text begins. It takes no memory.
+    fn first_from(&self, at: u64) -> Option<&Ident>
+        ensures from { IfSome result (λ x. slice_get (idents_over self.now) at ≡ Some x.now) }
+    {
+        self.document.first_at(at)
     }
 
     // The identifier at a place, if there is one.
@@ -313,6 +335,10 @@ fn check_size(op: &Op) -> Result<(), EditError>
     ensures ok { OnOk result (size_fault (op_size op.now) ≡ None) }
     ensures fault { IfErr result (λ e. IsFault e (size_fault (op_size op.now))) }
 {
+    // Its bytes are counted only if there may be too many.
+    if op.most_bytes() <= OPERATION_BYTES {
+        return Ok(());
+    }
     let bytes = op.encoded_len();
     if bytes == u64::MAX {
         return Err(EditError::OutOfMemory);
