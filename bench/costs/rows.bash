@@ -15,7 +15,7 @@ trap 'rm -rf "$room"' EXIT
 rows=(
   in_order:2000:23 reverse:2000:23 shuffled:2000:23 waiting:2000:23 waiting_reverse:2000:23 colliding:2000:23 forked:500:23
   gone:500:23 same:500:23 each:250:23 again:50:23 refused:250:23 refused_in_turn:250:23 refused_standing:50:23 refused_gone:50:23 refused_between:50:23
-  gone_renamed:50:42:8000 gone_deep:50:42:slow chain:50:42:5500 deep:50:42:5500 rename_each:50:48:9000 old_deletions:50:23
+  gone_renamed:50:42:8000 gone_deep:50:23 chain:50:42:5500 deep:50:42:5500 rename_each:50:48:9000 old_deletions:50:23
   old_deletions_apart:50:23 wrong_epoch:250:23 two_chains:500:23 two_chains_lesser_first:500:23 two_chains_in_turn:500:23
   small_renames:500:23 wide:25:23 scattered:20000:23 scattered_each:250:23
   renamed_file:25:23 back:250:23 rename:20000:23 members:16:23

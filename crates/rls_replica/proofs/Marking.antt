@@ -1,5 +1,5 @@
 -- What a replica drops and counts.
-use Rattle.std.proofs.Common.{◌≡◌, ◌∙◌, ℕ, Bool, true, false, List, [], ◌∷◌, ◌++◌, ◌||◌, length, refl, sym, ap, subst, inl, inr, ⊎_elim, arith}
+use Rattle.std.proofs.Common.{◌≡◌, ◌∙◌, ℕ, Bool, true, false, List, [], ◌∷◌, ◌++◌, ◌||◌, length, None, refl, sym, ap, subst, inl, inr, ⊎_elim, arith}
 use Rattle.std.proofs.lemmas.List.{length-map}
 use Rattle.std.specs.Prelude.{sum_by}
 use Rattle.rls_ident.specs.declared.tuple.Tuple.{Tuple}
@@ -16,6 +16,8 @@ use Rattle.rls_rename.proofs.Paths.{name_eq_is, name_eq_refl}
 use Rattle.rls_runs.specs.Runs.{runs_of}
 use Rattle.rls_ops.specs.declared.op.Op.{Op}
 use Rattle.rls_ops.specs.Rows.{missing_for}
+use Rattle.rls_ops.specs.Shapes.{shape_fault}
+use Rattle.rls_ops.proofs.Shaped.{shaped}
 use Rattle.rls_epoch.specs.Seen.{is_marked}
 use Rattle.rls_model.specs.declared.parts.EpochPart.{EpochPart}
 use Rattle.rls_model.specs.declared.parts.Stem.{Stem}
@@ -58,6 +60,14 @@ of_members s h e k = go e (h.epochs.counted e k)
     go : (f : EpochName) → IsCounted (vector s) f → is_of_member (length (stable_over s)) f ≡ true
     go Origin c = refl
     go (Of r q) c = let l = length-stable s.acks h.rows in let m = c.0 in lt_test r (length (stable_over s)) (omega arith)
+
+-- and so it is of one that the context of an operation counts
+pub of_context : (s : Seen) → IsSane s → (o : Op) → shape_fault (members s) o ≡ None → (e : EpochName) → is_kept s.epochs.top s.epochs.nodes e ≡ true → is_of_member (length o.context) e ≡ true
+of_context s h o f e k = go e (h.epochs.counted e k)
+  where
+    go : (g : EpochName) → IsCounted (vector s) g → is_of_member (length o.context) g ≡ true
+    go Origin c = refl
+    go (Of r q) c = let l = (shaped (members s) o f).context in let m = c.0 in lt_test r (length o.context) (omega arith)
 
 -- ---- dropping
 

@@ -222,22 +222,20 @@ fn run_of(first: &Ident, len: u32) -> Result<Run, AllocError>
 // Takes out the characters of a deletion.
 fn delete(
     document: &mut BlockTree,
-    epochs: &mut Epochs,
+    epochs: &Epochs,
     epoch: EpochName,
     targets: &Runs,
     near: Option<u64>,
 ) -> Result<(), AllocError>
-    requires kept { IsTrue (is_kept epochs.old.epochs.top epochs.old.epochs.nodes epoch) }
-    ensures ok { OnOk result (entries_of document.new.blocks ≡ without_all (map (translate epochs.old.epochs.nodes epoch (greatest epochs.old.epochs.top epochs.old.epochs.nodes)) targets.now) (entries_of document.old.blocks)) }
+    requires kept { IsTrue (is_kept epochs.now.epochs.top epochs.now.epochs.nodes epoch) }
+    ensures ok { OnOk result (entries_of document.new.blocks ≡ without_all (map (translate epochs.now.epochs.nodes epoch (greatest epochs.now.epochs.top epochs.now.epochs.nodes)) targets.now) (entries_of document.old.blocks)) }
     ensures err { OnErr result (entries_of document.new.blocks ≡ entries_of document.old.blocks) }
-    ensures epochs { epochs.new.epochs ≡ epochs.old.epochs }
 {
     let greatest = epochs.greatest();
     if epoch.same(&greatest) {
         let _removed = document.remove_near(near, targets)?;
         return Ok(());
     }
-    epochs.prepare(epoch, greatest, targets)?;
     let images = epochs.translate_runs(epoch, greatest, targets)?;
     let _removed = document.remove_all(&images)?;
     Ok(())

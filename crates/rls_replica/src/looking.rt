@@ -2,6 +2,8 @@
 
 ghost use Rattle.std.specs.Prelude.{◌≡◌, List, ◌+◌, ◌<◌, ◌≤◌, ◌&&◌, not, Some, None, IfOk, IsTrue, is_some, length, map, drop, slice_get, if◌then◌else◌};
 ghost use Rattle.rls_ident.specs.declared.tuple.Tuple.{Tuple};
+ghost use Rattle.rls_ident.specs.declared.epoch_name.EpochName.{EpochName};
+ghost use Rattle.rls_ident.specs.EpochNames.{is_of_member};
 ghost use Rattle.rls_ident.specs.Tuples.{at_spot};
 ghost use Rattle.rls_ident.specs.Lists.{IsIn};
 ghost use Rattle.rls_ident.specs.Vectors.{at_most};
@@ -20,6 +22,7 @@ ghost use Rattle.rls_replica.specs.Lookups.{unknown_in, is_named_by, is_named_ov
 
 use crate::replica::Replica;
 use rls_doc::Document;
+use rls_epoch::Epochs;
 use rls_ident::{EpochName, Ident, Spot};
 use rls_model::{Receipt, Refusal};
 use rls_ops::{Body, Op};
@@ -101,6 +104,7 @@ impl Replica {
         if !op.context.at_most(self.acks.mine()) {
             return Ok(Receipt::Held);
         }
+        learn_targets(&mut self.epochs, op)?;
         match self.refusal(op)? {
             None => Ok(Receipt::Applied),
             Some(refusal) => {
@@ -232,4 +236,24 @@ impl Replica {
         let named = self.named_from(epoch, targets, at)?;
         Ok(named)
     }
+}
+
+// Of a deletion of an older epoch, learns where the targets are now, so that looking at them and taking them out cost a search for each of
+// their runs. Not where the epoch alone has it refused.
+pub(crate) fn learn_targets(epochs: &mut Epochs, op: &Op) -> Result<(), AllocError>
+    requires members { (e : EpochName) → IsTrue (is_kept epochs.old.epochs.top epochs.old.epochs.nodes e) → IsTrue (is_of_member (length op.now.context) e) }
+    ensures same { epochs.new ≡ epochs.old }
+{
+    let Body::Delete { targets } = &op.body else {
+        return Ok(());
+    };
+    let greatest = epochs.greatest();
+    if op.epoch.same(&greatest) {
+        return Ok(());
+    }
+    let due = epochs.greatest_in(&op.context);
+    if op.epoch.same(&due) {
+        epochs.prepare(due, greatest, targets)?;
+    }
+    Ok(())
 }

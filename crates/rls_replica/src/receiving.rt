@@ -11,6 +11,7 @@ ghost use Rattle.rls_seen.specs.Stands.{StandsFor};
 ghost use Rattle.rls_replica.specs.Names.{KeepsNames};
 ghost use Rattle.rls_replica.specs.Releases.{release_in};
 
+use crate::looking::learn_targets;
 use crate::replica::Replica;
 use rls_ident::rely;
 use rls_model::{Receipt, Release};
@@ -113,6 +114,7 @@ impl Replica {
         ensures err { OnErr result (self.new ≡ self.old) }
     {
         self.note_gone();
+        self.learn_ready()?;
         let Some(release) = self.look_ready()? else {
             return Ok(None);
         };
@@ -139,6 +141,16 @@ impl Replica {
                 }))
             }
         }
+    }
+
+    // Learns where the targets of the first ready operation are now.
+    fn learn_ready(&mut self) -> Result<(), AllocError>
+        ensures same { self.new ≡ self.old }
+    {
+        let Some(op) = self.held.first_ready(self.acks.mine()) else {
+            return Ok(());
+        };
+        learn_targets(&mut self.epochs, op)
     }
 
     // What is answered where the first ready operation is looked at.

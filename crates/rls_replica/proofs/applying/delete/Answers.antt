@@ -6,11 +6,8 @@ use Rattle.rls_replica.proofs.SameEpoch.{unmoved}
 use Rattle.rls_rename.proofs.Kept.{greatest_kept}
 use Rattle.rls_replica.proofs.applying.delete.Goals as goal
 
-pub prepare-requires-clause-to : goal.prepare-requires-clause-to
-prepare-requires-clause-to c = rw c.greatest-greatest.ensures.greatest (greatest_kept c.args.epochs.now.epochs.top c.args.epochs.now.epochs.nodes)
-
 pub translate_runs-requires-clause-to : goal.translate_runs-requires-clause-to
-translate_runs-requires-clause-to c = rw (c.in_ok-prepare.ensures.same, c.greatest-greatest.ensures.greatest) (greatest_kept c.args.epochs.now.epochs.top c.args.epochs.now.epochs.nodes)
+translate_runs-requires-clause-to c = rw c.greatest-greatest.ensures.greatest (greatest_kept c.args.epochs.now.epochs.top c.args.epochs.now.epochs.nodes)
 
 pub returns-then-same-clause-ok : goal.returns-then-same-clause-ok
 returns-then-same-clause-ok c =

@@ -8,21 +8,21 @@ use Rattle.rls_replica.proofs.Answered.{refused_is, fits_is}
 use Rattle.rls_replica.proofs.replica.Replica.release_exactly.Goals as goal
 
 pub returns-in_default-clause-after : goal.returns-in_default-clause-after
-returns-in_default-clause-after c = sym (released_none c.note_gone.new.self (sym c.in_ok-release.ensures.answer ∙ ap release_in c.in_default.is)) ∙ ap released c.note_gone.ensures.same
+returns-in_default-clause-after c = sym (released_none c.learn_ready.new.self (sym c.in_ok-release.ensures.answer ∙ ap release_in c.in_default.is)) ∙ ap released (c.learn_ready.ensures.same ∙ c.note_gone.ensures.same)
 
 pub apply_ready-requires : goal.apply_ready-requires
 apply_ready-requires c =
     let a = c.in-Some.release.author in
     let q = c.in-Some.release.seq in
-    let e : release_over c.note_gone.new.self ≡ Some (record { author = a; seq = q; refusal = None }) =
+    let e : release_over c.learn_ready.new.self ≡ Some (record { author = a; seq = q; refusal = None }) =
     sym c.in_ok-release.ensures.answer ∙ (ap release_in c.in-Some.is ∙ ap (λ (r : Option Refusal). Some (record { author = a; seq = q; refusal = reason_in r })) c.in-None.is) in
-    record { fits = fits_is c.note_gone.new.self a q e }
+    record { fits = fits_is c.learn_ready.new.self a q e }
 
 pub returns-in-Some-refusal-clause-after : goal.returns-in-Some-refusal-clause-after
 returns-in-Some-refusal-clause-after c =
     let a = c.in-Some.release.author in
     let q = c.in-Some.release.seq in
     let r = reason_of c.in-Some-refusal.refusal in
-    let e : release_over c.note_gone.new.self ≡ Some (record { author = a; seq = q; refusal = Some r }) =
+    let e : release_over c.learn_ready.new.self ≡ Some (record { author = a; seq = q; refusal = Some r }) =
     sym c.in_ok-release.ensures.answer ∙ (ap release_in c.in-Some.is ∙ ap (λ (x : Option Refusal). Some (record { author = a; seq = q; refusal = reason_in x })) c.in-Some-refusal.is) in
-    c.forget.ensures.after ∙ (refused_is c.note_gone.new.self a q r e ∙ ap released c.note_gone.ensures.same)
+    c.forget.ensures.after ∙ (refused_is c.learn_ready.new.self a q r e ∙ ap released (c.learn_ready.ensures.same ∙ c.note_gone.ensures.same))
