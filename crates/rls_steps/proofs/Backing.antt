@@ -1,7 +1,8 @@
 -- Pieces that are taken back.
 use Rattle.std.proofs.Common.{◌≡◌, ℕ, zero, suc, ◌+◌, ◌<◌, List, [], ◌∷◌, ◌++◌, map, length, take, drop, inl, inr, refl, sym, ap, ◌∙◌, subst, arith, append_assoc, Bool}
 use Rattle.std.specs.Prelude.{Option, Some, None, if◌then◌else◌}
-use Rattle.std.proofs.lemmas.List.{length-map}
+use Rattle.std.proofs.lemmas.List.{length-map, append-nil}
+use Rattle.std.proofs.Math.Seq.{take-append_seam, drop-append_seam, drop-append-add}
 use Rattle.rls_ident.specs.Lists.{IsIn}
 use Rattle.rls_ident.proofs.Members.{in_left, in_right}
 use Rattle.rls_model.proofs.Spliced.{append_map}
@@ -12,18 +13,6 @@ use Rattle.rls_steps.specs.BackLaws.{PutBack, CutBack, ReturnsBeside}
 use Rattle.rls_steps.proofs.Ranges.{one_range, in_one, places_none, places_all, places_append}
 
 -- ---- lists
-
-take_front : {A : Type 0} (xs ys : List A) → take (length xs) (xs ++ ys) ≡ xs
-take_front [] ys = refl
-take_front (x ∷ xs) ys = ap (λ zs. x ∷ zs) (take_front xs ys)
-
-drop_front : {A : Type 0} (xs ys : List A) → drop (length xs) (xs ++ ys) ≡ ys
-drop_front [] ys = refl
-drop_front (x ∷ xs) ys = drop_front xs ys
-
-drop_more : {A : Type 0} (xs ys : List A) (n : ℕ) → drop (length xs + n) (xs ++ ys) ≡ drop n ys
-drop_more [] ys n = let none : 0 + n ≡ n = omega arith in ap (λ k. drop k ys) none
-drop_more (x ∷ xs) ys n = let more : suc (length xs) + n ≡ suc (length xs + n) = omega arith in ap (λ k. drop k (x ∷ (xs ++ ys))) more ∙ drop_more xs ys n
 
 pub known_marks : (labels cs : List ℕ) → length labels ≡ length cs → marks (known labels cs) ≡ map Known labels
 known_marks [] cs h = refl
@@ -63,11 +52,7 @@ places_between labels front rest d =
     ∙ (ap (λ is. is ++ label_places (length front + 0) labels (mid ++ rest)) before
     ∙ (places_append (length front + 0) labels mid rest
     ∙ (ap (λ is. label_places (length front + 0) labels mid ++ is) (behind (length mid + (length front + 0)))
-    ∙ (append_none (label_places (length front + 0) labels mid) ∙ there))))
-  where
-    append_none : (is : List ℕ) → is ++ [] ≡ is
-    append_none [] = refl
-    append_none (i ∷ is) = ap (λ js. i ∷ js) (append_none is)
+    ∙ (append-nil (label_places (length front + 0) labels mid) ∙ there))))
 
 -- ---- what was put in
 
@@ -85,10 +70,10 @@ put_back m labels ps qs t ts us (front, cs, rest, put, same, back) forth =
     ap (λ ks. ranges_of (label_places 0 labels ks)) ms
     ∙ (ap ranges_of (places_between labels (marks front) (marks rest) (subst AreDistinct ms put.distinct))
     ∙ (ap (λ i. ranges_of (numbers_from i n)) size ∙ nonzero at n some)) in
-    let there : drop at m ≡ mid ++ rest = ap (drop at) put.is ∙ drop_front front (mid ++ rest) in
-    let taken : take n (drop at m) ≡ mid = ap (take n) there ∙ (ap (λ k. take k (mid ++ rest)) (sym long) ∙ take_front mid rest) in
-    let lead : take at m ≡ front = ap (take at) put.is ∙ take_front front (mid ++ rest) in
-    let left : drop (at + n) m ≡ rest = ap (drop (at + n)) put.is ∙ (drop_more front (mid ++ rest) n ∙ (ap (λ k. drop k (mid ++ rest)) (sym long) ∙ drop_front mid rest)) in
+    let there : drop at m ≡ mid ++ rest = ap (drop at) put.is ∙ drop-append_seam front (mid ++ rest) in
+    let taken : take n (drop at m) ≡ mid = ap (take n) there ∙ (ap (λ k. take k (mid ++ rest)) (sym long) ∙ take-append_seam mid rest) in
+    let lead : take at m ≡ front = ap (take at) put.is ∙ take-append_seam front (mid ++ rest) in
+    let left : drop (at + n) m ≡ rest = ap (drop (at + n)) put.is ∙ (drop-append-add front (mid ++ rest) n ∙ (ap (λ k. drop k (mid ++ rest)) (sym long) ∙ drop-append_seam mid rest)) in
     let out : cut_out m at n ≡ front ++ rest = ap (λ xs. xs ++ drop (at + n) m) lead ∙ ap (λ xs. front ++ xs) left in (
       at,
       cs,
@@ -157,7 +142,7 @@ cut_back m labels cs left right gone ps qs t ts us (front, rest, cut, same, back
     let n : put_in m (return_place (marks m) left right gone) labels cs ≡ front ++ (mid ++ rest) =
     ap (λ i. put_in m i labels cs) at
     ∙ (ap (λ k. put_in k (length front) labels cs) cut.is
-    ∙ (ap (λ xs. xs ++ (mid ++ drop (length front) (front ++ rest))) (take_front front rest) ∙ ap (λ xs. front ++ (mid ++ xs)) (drop_front front rest))) in (
+    ∙ (ap (λ xs. xs ++ (mid ++ drop (length front) (front ++ rest))) (take-append_seam front rest) ∙ ap (λ xs. front ++ (mid ++ xs)) (drop-append_seam front rest))) in (
       ap chars n ∙ same,
       subst (λ k. LeadBack k ps ts) (sym n) back,
       (

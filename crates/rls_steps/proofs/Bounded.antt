@@ -1,13 +1,12 @@
 -- Bounds of labels, and runs that change.
-use Rattle.std.proofs.Common.{◌≡◌, ℕ, zero, suc, ◌+◌, ◌<◌, ◌≤◌, List, [], ◌∷◌, ◌++◌, length, length-append, inl, inr, ◌⊎◌, ⊎_elim, refl, sym, take, ap, ◌∙◌, subst, arith}
-use Rattle.std.specs.Prelude.{slice_get, min, nat_lt, Option, Some, None}
+use Rattle.std.proofs.Common.{◌≡◌, ℕ, zero, suc, ◌+◌, ◌<◌, ◌≤◌, List, [], ◌∷◌, ◌++◌, length, inl, inr, ◌⊎◌, ⊎_elim, refl, sym, take, ap, ◌∙◌, subst, arith}
+use Rattle.std.specs.Prelude.{slice_get, min, nat_lt, Option, Some, None, is_some}
 use Rattle.std.proofs.lemmas.Option.{slice_get_within}
 use Rattle.std.specs.Prelude.{◌==◌, Bool, false, cond}
-use Rattle.std.specs.Option.{IsSome}
 use Rattle.std.specs.Ordering.{nat_cmp, is_gt}
 use Rattle.std.specs.declared.cmp.Ordering.TheVariants.{Less, Equal, Greater}
 use Rattle.std.proofs.lemmas.Map.Keys.{le_from_not_gt, ge_from_not_lt}
-use Rattle.std.proofs.lemmas.List.{length-take}
+use Rattle.std.proofs.lemmas.List.{length-take, length_push}
 use Rattle.rls_ident.specs.declared.tuple.Tuple.{Tuple}
 use Rattle.rls_ident.specs.Lists.{IsIn}
 use Rattle.rls_ident.proofs.Members.{bool_cases, lt_is, not_lt_is, eq_test, some_is, in_left, in_split}
@@ -25,9 +24,6 @@ snoc_get [] x y (suc i) g = absurd (cc)
 snoc_get (z ∷ xs) x y zero g = inl g
 snoc_get (z ∷ xs) x y (suc i) g = ⊎_elim (λ h. inl h) (λ h. inr (ap suc h.0, h.1)) (snoc_get xs x y i g)
 
-pub last_of_snoc : {A : Type 0} (xs : List A) (x : A) → length (xs ++ x ∷ []) ≡ length xs + 1
-last_of_snoc xs x = length-append xs (x ∷ [])
-
 pub at_end : {A : Type 0} (xs : List A) (x : A) (i : ℕ) → i ≡ length xs → slice_get (xs ++ x ∷ []) i ≡ Some x
 at_end xs x i e = let z : i ≡ length xs + 0 = omega (arith, e) in ap (slice_get (xs ++ x ∷ [])) z ∙ get_right xs (x ∷ []) 0
 
@@ -41,14 +37,14 @@ more_extended fs r s ns e i t n g p = ⊎_elim
     (λ h. inl (t, stays_there fs r t i h, p))
     (λ h. ⊎_elim
     (λ q. inl (r, at_end fs r i h.0, q))
-    (λ q. let long = last_of_snoc fs s in let at = h.0 in inr (omega (arith, long, at), q))
+    (λ q. let long = length_push fs s in let at = h.0 in inr (omega (arith, long, at), q))
     (in_split n (names_of r) ns (subst (IsIn n) (ap (λ (u : Stretch). names_of u) (sym h.1) ∙ e) p)))
     (snoc_get fs s t i g)
 
 pub more_pushed : (fs : List Stretch) (s : Stretch) (ns : Names) → names_of s ≡ ns → IsMore fs (fs ++ s ∷ []) ns
 more_pushed fs s ns e i t n g p = ⊎_elim
     (λ h. inl (t, h, p))
-    (λ h. let long = last_of_snoc fs s in let at = h.0 in inr (omega (arith, long, at), subst (IsIn n) (ap (λ (u : Stretch). names_of u) (sym h.1) ∙ e) p))
+    (λ h. let long = length_push fs s in let at = h.0 in inr (omega (arith, long, at), subst (IsIn n) (ap (λ (u : Stretch). names_of u) (sym h.1) ∙ e) p))
     (snoc_get fs s t i g)
 
 pub less_shortened : (fs : List Stretch) (r s : Stretch) (m : List Tuple × ℕ) → names_of r ≡ names_of s ++ m ∷ [] → IsMore (fs ++ r ∷ []) (fs ++ s ∷ []) []
@@ -86,10 +82,6 @@ not_gt q l h = bool_cases (nat_lt q l)
     let same : q ≡ l = omega (arith, h, most) in
     ap (λ (c : Bool). is_gt (cond c Less (cond (q == l) Equal Greater))) b ∙ ap (λ (c : Bool). is_gt (cond c Equal Greater)) (eq_test q l same))
 
-some_of : (o : Option ℕ) (v : ℕ) → o ≡ Some v → IsSome o
-some_of None v e = absurd (cc)
-some_of (Some i) v e = refl
-
 -- what a map tells of an entry up to a label
 pub floor_bound : (es : List (ℕ × ℕ)) (l : ℕ) (o : Option (ℕ × ℕ)) → IsFloor es l o → IsBoundAt es l o
 floor_bound es l None f = λ q h. f q (not_gt q l h)
@@ -97,7 +89,7 @@ floor_bound es l (Some e) f = (f.0, le_from_not_gt e.0 l f.1, λ q g h. go q (co
   where
     go : (q : ℕ) (o : Option ℕ) → count_in es q ≡ o → e.0 < q → is_gt (nat_cmp q l) ≡ false → o ≡ None
     go q None x g h = refl
-    go q (Some v) x g h = let most = ge_from_not_lt e.0 q (f.2 q h (some_of (count_in es q) v x)) in absurd (omega (arith, g, most))
+    go q (Some v) x g h = let most = ge_from_not_lt e.0 q (f.2 q h (ap is_some x)) in absurd (omega (arith, g, most))
 
 -- a label has one bound
 bound_one : (es : List (ℕ × ℕ)) (l k v j w : ℕ) → IsBound es l k v → IsBound es l j w → v ≡ w
@@ -303,7 +295,7 @@ older_cut rs os o =
 older_long : (rs : List Stretch) (os : List ℕ) (c : ℕ) → AreOlder rs os → AreOlder rs (os ++ c ∷ [])
 older_long rs os c o =
     let all = o.all in
-    let long = last_of_snoc os c in
+    let long = length_push os c in
     record {
       all = omega (arith, all, long);
       each = λ i w j l g has x y other.
@@ -316,8 +308,8 @@ older_more rs r os c low high o none own =
     let all = o.all in
     let size = length-take (length rs) os in
     let front = take (length rs) os in
-    let long = last_of_snoc rs r in
-    let long' = last_of_snoc front c in
+    let long = length_push rs r in
+    let long' = length_push front c in
     let here : length front ≡ length rs = omega (arith, size, all) in
     record {
       all = omega (arith, long, long', here);

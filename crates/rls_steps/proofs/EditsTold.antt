@@ -2,6 +2,7 @@
 use Rattle.std.proofs.Common.{◌≡◌, ◌∙◌, ℕ, suc, List, [], ◌∷◌, ◌++◌, map, take, drop, append_assoc, refl, sym, ap, subst}
 use Rattle.std.specs.Prelude.{slice_get, reverse, Option, Some}
 use Rattle.std.proofs.lemmas.List.{append-nil, take-append-drop}
+use Rattle.rls_changes.proofs.Edited.{edits_append}
 use Rattle.rls_ident.proofs.Loops.{drop_reads}
 use Rattle.rls_model.specs.declared.edit.Edit.{Edit}
 use Rattle.rls_model.specs.declared.edit.Edit.TheVariants as edits
@@ -11,7 +12,6 @@ use Rattle.rls_seen.specs.Edits.{edit_fault_over, IsFault}
 use Rattle.rls_seen.specs.Seen.{Seen}
 use Rattle.rls_undo.specs.Undoing.{unless}
 use Rattle.rls_changes.specs.declared.change.Change.{Change}
-use Rattle.rls_changes.specs.ChangesLaws.{own_changes}
 use Rattle.rls_changes.specs.Edits.{edit_changes}
 use Rattle.rls_steps.specs.declared.piece.Step.{Step}
 use Rattle.rls_steps.specs.Marks.{Piece, Put, Cut}
@@ -21,10 +21,6 @@ use Rattle.rls_steps.specs.Returning.{first_fault, back_fault}
 use Rattle.rls_steps.specs.StepChanges.{range_change, piece_changes}
 use Rattle.rls_steps.specs.Grounds.{over, Held, Left, ready_on, cut_on, cut_edits, taken_edits, taken_on, steps_edits}
 use Rattle.rls_steps.proofs.Grounded.{on, on_place, on_ranges, on_ready, is_fault, last_first, taken_fit, IsLeft}
-
-edits_more : (es fs : List Edit) → edit_changes (es ++ fs) ≡ edit_changes es ++ edit_changes fs
-edits_more [] fs = refl
-edits_more (e ∷ es) fs = ap (λ cs. own_changes e ++ cs) (edits_more es fs) ∙ sym (append_assoc (own_changes e) (edit_changes es) (edit_changes fs))
 
 -- ---- ranges
 
@@ -104,7 +100,7 @@ once_edits k h n from front x cs ds q f a d =
     let here = taken_edits over (on h) x.piece in
     let rest = steps_edits over k (on (taken_back h x.piece []).held) (reverse front) in
     let all : edit_changes (steps_edits over (suc k) (on h) (reverse from)) ≡ piece_changes h x.piece ++ edit_changes rest =
-    ap edit_changes (first_edits k h from front x _ q (taken_fit h x.piece f)) ∙ (edits_more here rest ∙ ap (λ (xs : List Change). xs ++ edit_changes rest) (piece_edits h x.piece f)) in
+    ap edit_changes (first_edits k h from front x _ q (taken_fit h x.piece f)) ∙ (edits_append here rest ∙ ap (λ (xs : List Change). xs ++ edit_changes rest) (piece_edits h x.piece f)) in
     ap (λ (z : Labelled). ds ++ edit_changes (steps_edits over k (on z) (reverse front))) a
     ∙ (ap (λ (xs : List Change). xs ++ edit_changes rest) d ∙ (append_assoc cs (piece_changes h x.piece) (edit_changes rest) ∙ ap (λ (xs : List Change). cs ++ xs) (sym all)))
 

@@ -7,9 +7,6 @@ use Rattle.rls_replica.specs.declared.translating.PastError.TheVariants as past
 use Rattle.rls_steps.specs.declared.steps.StepError.{StepError}
 use Rattle.rls_steps.specs.declared.steps.StepError.TheVariants as steps
 
-pub err_as : {T U E : Type 0} (x y : E) → IsErrOf {T = T} {E = E} (Err x) y → IsErrOf {T = U} {E = E} (Err x) y
-err_as x y h = let e : x ≡ y = cc in ap (λ z. Err z) e
-
 -- a call returns the error of another call as one of its own
 pub dropped_from : {T : Type 0} (p : PastError) (x : StepError) (e : EpochName) (P : Type 0) → ((x ≡ steps.Dropped e) ↔ (p ≡ past.Dropped e)) → (IsErrOf {T = T} {E = PastError} (Err p) (past.Dropped e) → P) →
     IsErrOf {T = T} {E = StepError} (Err x) (steps.Dropped e) → P

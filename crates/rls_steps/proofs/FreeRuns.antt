@@ -1,6 +1,6 @@
 -- A run of names that is added at once: none of its identifiers has a name, and they are apart.
 use Rattle.std.proofs.Common.{◌≡◌, ℕ, zero, suc, ◌+◌, ◌-◌, ◌<◌, ◌≤◌, Bool, true, false, List, [], ◌∷◌, ◌++◌, length, take, inl, inr, refl, sym, ap, ◌∙◌, subst, arith}
-use Rattle.std.specs.Prelude.{ℤ, pos, ◌+ℤ◌, ◌-ℤ◌, nat_lt, reverse, zip, slice_get, Option, Some, None, if◌then◌else◌}
+use Rattle.std.specs.Prelude.{ℤ, pos, ◌+ℤ◌, ◌-ℤ◌, nat_lt, reverse, zip, slice_get, Option, Some, None, if◌then◌else◌, is_some}
 use Rattle.std.specs.Ordering.{is_gt}
 use Rattle.std.proofs.lemmas.Int.{ints}
 use Rattle.std.proofs.lemmas.List.{append-nil, reverse-append, reverse-reverse}
@@ -15,14 +15,14 @@ use Rattle.rls_runs.specs.Runs.{run_idents}
 use Rattle.rls_steps.specs.declared.key.Key.{Key}
 use Rattle.rls_steps.specs.Labelled.{Names, label_of}
 use Rattle.rls_steps.specs.Marks.{numbers_from}
-use Rattle.rls_steps.specs.NameRuns.{Stretch, IsStretch, IsAbove, IsLabelOf, AreLabelsIn, AreOutside, AreOutsideIn, step_by, name_by, names_by, name_at, names_of, named, run_in, wide_cmp, key_cmp}
+use Rattle.rls_steps.specs.NameRuns.{Stretch, IsStretch, IsAbove, IsLabelOf, AreLabelsIn, AreOutside, AreOutsideIn, step_by, name_by, names_by, name_at, names_of, named, wide_cmp, key_cmp}
 use Rattle.rls_steps.specs.Index.{AreApart}
 use Rattle.rls_steps.proofs.Tabling.{take_snoc}
 use Rattle.rls_steps.proofs.Giving.{reverse_snoc, numbers_snoc}
 use Rattle.rls_steps.proofs.Widths.{between, on_up}
 use Rattle.rls_steps.proofs.Stretches.{first_by, name_in, names_suc, in_names, in_named, named_in, none_in, in_reverse, reverse_in, run_there, sound_at}
 use Rattle.rls_steps.proofs.Found.{label_name}
-use Rattle.rls_steps.proofs.RunLookups.{IsAbout, first_there, is_some_of, run_is}
+use Rattle.rls_steps.proofs.RunLookups.{IsAbout, first_there, run_is}
 
 -- ---- identifiers of a run are apart
 
@@ -119,7 +119,7 @@ meets rs es low own (Some b) n k q i m r o ident above out none g h less e p f a
     let there = first_there rs es i r own o.firsts g p in
     let up : is_gt (key_cmp low own) ≡ false = ap (λ y. is_gt (wide_cmp low.ident y)) (p ∙ f) ∙ on_up low.ident q ident in
     let key = above.0 in
-    let least = above.3 own up (is_some_of (run_in es own) there.0 there.1) in
+    let least = above.3 own up (ap is_some there.1) in
     let high : is_gt (wide_cmp key.ident (shifted (pos q) low.ident)) ≡ false = ap (λ y. is_gt (wide_cmp key.ident y)) (sym (p ∙ f)) ∙ least in
     let w = between low.ident key.ident q ident above.2 high in
     let s = out.0 in

@@ -1,16 +1,10 @@
 -- Labels that characters get, one after another, and fronts that stay.
-use Rattle.std.proofs.Common.{◌≡◌, ℕ, zero, suc, ◌+◌, Bool, false, List, [], ◌∷◌, ◌++◌, map, length, take, inl, inr, refl, sym, ap, ◌∙◌, arith}
-use Rattle.std.specs.Prelude.{reverse, slice_get, Option, Some, None, if◌then◌else◌}
+use Rattle.std.proofs.Common.{◌≡◌, ℕ, zero, suc, ◌+◌, false, List, [], ◌∷◌, ◌++◌, length, take, refl, ap, ◌∙◌, arith}
+use Rattle.std.specs.Prelude.{reverse, if◌then◌else◌}
 use Rattle.std.proofs.lemmas.List.{reverse-append}
 use Rattle.rls_ident.specs.declared.tuple.Tuple.{Tuple}
-use Rattle.rls_ident.specs.Identifiers.{ident_eq}
-use Rattle.rls_ident.specs.Lists.{IsIn}
-use Rattle.rls_ident.proofs.Ends.{eq_same, ident_eq_refl}
-use Rattle.rls_ident.proofs.Members.{not_true}
-use Rattle.rls_runs.proofs.RunOrder.{Rising}
 use Rattle.rls_steps.specs.Marks.{numbers_from}
-use Rattle.rls_model.proofs.Spliced.{append_map}
-use Rattle.rls_steps.specs.Labelled.{Names, Labelled, label_of, new_label, label_all}
+use Rattle.rls_steps.specs.Labelled.{Labelled, label_of, new_label, label_all}
 
 pub all_append : (h : Labelled) (xs ys : List (List Tuple)) → label_all h (xs ++ ys) ≡ label_all (label_all h xs) ys
 all_append h [] ys = refl
@@ -36,10 +30,6 @@ front_trans (x ∷ xs) (y ∷ ys) (z ∷ zs) h k =
     let c : z ≡ y = cc in
     let d : take (length ys) zs ≡ ys = cc in
     ap (λ w. w ∷ take (length xs) zs) (c ∙ a) ∙ ap (λ ws. x ∷ ws) (front_trans xs ys zs b d)
-
-pub front_whole : {A : Type 0} (xs : List A) → take (length xs) xs ≡ xs
-front_whole [] = refl
-front_whole (x ∷ xs) = ap (λ ys. x ∷ ys) (front_whole xs)
 
 -- ---- a list with one more at its end, the last first
 

@@ -1,7 +1,7 @@
 -- What is recorded, exactly, at a replica.
 use Rattle.std.proofs.Common.{◌≡◌, ℕ, zero, suc, ◌+◌, ◌-◌, ◌<◌, List, [], ◌∷◌, ◌++◌, length, take, drop, refl, sym, ap, ◌∙◌, arith}
 use Rattle.std.specs.Prelude.{Bool, false, IsTrue, reverse, slice_get, Option, Some, None}
-use Rattle.std.proofs.lemmas.List.{reverse-append, reverse-reverse}
+use Rattle.std.proofs.lemmas.List.{reverse-append, reverse-reverse, append-nil}
 use Rattle.rls_ident.specs.declared.tuple.Tuple.{Tuple}
 use Rattle.rls_ident.specs.declared.epoch_name.EpochName.{EpochName}
 use Rattle.rls_ident.proofs.Members.{true_false}
@@ -77,12 +77,8 @@ cuts_fit h (r ∷ rs) rest qs f =
     ∙ (ap (λ (y : Held Seen). later y (piece_on over y r.0 r.1 ∷ qs)) (on_ready h r.0 r.1)
     ∙ (ap (λ (p : Piece). later (on g) (p ∷ qs)) (on_piece g r.0 r.1) ∙ cuts_fit (cut_over g r.0 r.1) rs rest (cut_piece g r.0 r.1 ∷ qs) f.1))
 
-append_none : {A : Type 0} (xs : List A) → xs ++ [] ≡ xs
-append_none [] = refl
-append_none (x ∷ xs) = ap (λ ys. x ∷ ys) (append_none xs)
-
 cuts_all : (h : Labelled) (rs : List (ℕ × ℕ)) → FitRanges h rs → cuts_on over (on h) rs [] ≡ left_at (cut_ranges h rs []).held (cut_ranges h rs []).other None
-cuts_all h rs f = ap (λ (ss : List (ℕ × ℕ)). cuts_on over (on h) ss []) (sym (append_none rs)) ∙ cuts_fit h rs [] [] f
+cuts_all h rs f = ap (λ (ss : List (ℕ × ℕ)). cuts_on over (on h) ss []) (sym (append-nil rs)) ∙ cuts_fit h rs [] [] f
 
 met : (h : Labelled) (rest : List (ℕ × ℕ)) (qs : List Piece) (e : EditError) → first_fault h rest ≡ Some e → cuts_on over (on h) rest qs ≡ left_at h qs (Some e)
 met h [] qs e q = absurd (cc)
@@ -131,7 +127,7 @@ taken_stop e h (Cut labels cs left right) new group old other n f part =
       pieces = [];
       is = ap (λ (at : ℕ). unless (edit_fault_over h.seen (edits.Insert at cs)) (left_at h [] (edit_fault_over h.seen (edits.Insert at cs))) (back at)) (on_place h left right)
           ∙ (ap (λ (o : Option EditError). unless o (left_at h [] o) (back (place_over h left right))) q ∙ ap (λ (z : Labelled). left_at z [] (Some e)) (sym part.0));
-      stack = part.1 ∙ sym (append_none old);
+      stack = part.1 ∙ sym (append-nil old);
     }
 
 -- ---- steps that are taken back

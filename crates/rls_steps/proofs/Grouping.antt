@@ -1,9 +1,10 @@
 -- Groups of steps, taken back one step after another.
-use Rattle.std.proofs.Common.{◌≡◌, ℕ, zero, suc, ◌+◌, ◌-◌, ◌<◌, ◌≤◌, Bool, true, false, List, [], ◌∷◌, ◌++◌, length, take, drop, refl, sym, ap, ◌∙◌, subst, arith}
+use Rattle.std.proofs.Common.{◌≡◌, ℕ, suc, ◌+◌, ◌-◌, ◌<◌, ◌≤◌, Bool, true, false, List, [], ◌∷◌, ◌++◌, length, take, drop, refl, sym, ap, ◌∙◌, subst, arith}
 use Rattle.std.specs.Prelude.{reverse, replicate, slice_get, ◌==◌, Some, if◌then◌else◌}
 use Rattle.std.proofs.lemmas.List.{reverse-append, take-take, length-take-le, drop_all}
 use Rattle.rls_ident.proofs.Loops.{drop_reads}
 use Rattle.rls_ident.proofs.Members.{bool_cases}
+use Rattle.rls_ident.proofs.Positions.{get_of}
 use Rattle.rls_steps.specs.declared.piece.Step.{Step}
 use Rattle.rls_steps.specs.Marks.{Piece}
 use Rattle.rls_steps.specs.Labelled.{Labelled}
@@ -83,11 +84,6 @@ left_more xs ys zs k h e f =
 
 -- ---- groups
 
-pub some_at : (xs : List Step) (i : ℕ) → i < length xs → (x : Step) × (slice_get xs i ≡ Some x)
-some_at [] i h = absurd (omega (arith, h))
-some_at (x ∷ xs) zero h = (x, refl)
-some_at (x ∷ xs) (suc i) h = some_at xs i (omega (arith, h))
-
 pub count_next : (xs : List Step) (i : ℕ) (x : Step) (n : ℕ) → slice_get xs i ≡ Some x → n ≡ (if goes_on (group_before xs i) x.group then 0 else 1) →
     groups_after (group_before xs i) (drop i xs) ≡ n + groups_after (group_before xs (i + 1)) (drop (i + 1) xs)
 count_next xs i x n g e =
@@ -112,7 +108,7 @@ front_less [] ys g h e = absurd (omega (arith, h))
 front_less (z ∷ zs) ys g h e =
     let xs = z ∷ zs in
     let some : 0 < length xs = omega arith in
-    let w = some_at xs (length xs - 1) (omega (arith, some)) in
+    let w = get_of xs (length xs - 1) (omega (arith, some)) in
     let split : xs ≡ ys ++ w.0 ∷ [] = last_split xs w.0 some w.1 ∙ ap (λ us. us ++ w.0 ∷ []) (sym e) in
     let is = front_is xs ys w.0 g split in (
       bool_cases (w.0.group == g)

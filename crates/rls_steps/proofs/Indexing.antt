@@ -5,6 +5,7 @@ use Rattle.std.specs.BTreeMap.{is_at}
 use Rattle.std.specs.declared.alloc.Global.{Global}
 use Rattle.std.proofs.lemmas.Option.{slice_get-get_or, slice_get_read}
 use Rattle.std.proofs.lemmas.List.{reverse-append, reverse-reverse, length-reverse}
+use Rattle.std.proofs.Math.Seq.{take-length}
 use Rattle.rls_ident.specs.declared.tuple.Tuple.{Tuple}
 use Rattle.rls_ident.specs.Identifiers.{ident_eq}
 use Rattle.rls_ident.proofs.Ends.{eq_same}
@@ -19,7 +20,7 @@ use Rattle.rls_steps.specs.declared.interval.Interval.{Interval}
 use Rattle.rls_steps.specs.Bounds.{AreBounded, IsMore}
 use Rattle.rls_steps.specs.Intervals.{AreNoted}
 use Rattle.rls_steps.specs.Indexed.{IsIndexed}
-use Rattle.rls_steps.proofs.Giving.{reverse_snoc, front_stays, front_whole}
+use Rattle.rls_steps.proofs.Giving.{reverse_snoc, front_stays}
 use Rattle.rls_steps.proofs.Stretches.{names_long, names_get, one_name, shorter, named_snoc, first_by, reverse_cons, one_run, run_there, sound_at}
 use Rattle.rls_steps.proofs.Widths.{wide_same}
 use Rattle.rls_steps.proofs.Bounded.{more_extended, less_shortened, bounded_fewer}
@@ -57,10 +58,6 @@ indexed_less rs rs' ss ss' fs fs' b vs n i kept fewer short w =
     let count = i.count in
     record { kept = kept i.apart i.kept; apart = both.1; bounded = bounded_fewer rs rs' b i.bounded fewer short; noted = noted_fewer rs rs' vs i.noted fewer short; count = omega (arith, size, count) }
 
--- other bounds and intervals
-pub indexed_bounded : (rs : List Stretch) (ss : List ℕ) (fs : List (Key × ℕ)) (b b' : Bounds) (vs vs' : List (Option (Box Interval Global))) (n : ℕ) → IsIndexed rs ss fs b vs n → AreBounded rs b' → AreNoted rs vs' → IsIndexed rs ss fs b' vs' n
-indexed_bounded rs ss fs b b' vs vs' n i bounded noted = record { kept = i.kept; apart = i.apart; bounded = bounded; noted = noted; count = i.count }
-
 pub some_runs : (rs : List Stretch) → 0 < length (named rs) → 0 < length rs
 some_runs [] h = h
 some_runs (r ∷ rs) h = omega arith
@@ -69,7 +66,7 @@ pub less_take : (ns ms : Names) (m : List Tuple × ℕ) → ns ≡ ms ++ m ∷ [
 less_take ns ms m e =
     let size = ap length e ∙ length-append ms (m ∷ []) in
     let less : length ns - 1 ≡ length ms = omega (arith, size) in
-    sym (ap (λ k. take k ns) less ∙ (ap (take (length ms)) e ∙ front_stays ms ms (m ∷ []) (front_whole ms)))
+    sym (ap (λ k. take k ns) less ∙ (ap (take (length ms)) e ∙ front_stays ms ms (m ∷ []) (take-length ms)))
 
 -- ---- the name at a place
 
@@ -193,7 +190,7 @@ kept_less rs r ss ss' fs fs' k e t a h f =
     let last = (0 + length (named rs)) ∷ [] in
     record {
       sound = sound_front rs r h.sound;
-      starts = t ∙ (ap (take (length rs)) (h.starts ∙ starts_more 0 rs r) ∙ (ap (λ n. take n (own ++ last)) (sym (starts_long 0 rs)) ∙ front_stays own own last (front_whole own)));
+      starts = t ∙ (ap (take (length rs)) (h.starts ∙ starts_more 0 rs r) ∙ (ap (λ n. take n (own ++ last)) (sym (starts_long 0 rs)) ∙ front_stays own own last (take-length own)));
       firsts = λ q. f q
           ∙ (ap (λ (b : Bool). if b then None else run_in fs q) (wide_same k.ident q.ident ∙ ap (λ y. ident_eq y q.ident) e)
           ∙ bool_cases (ident_eq r.first q.ident)
@@ -321,6 +318,10 @@ last_start n (q ∷ qs) (suc k) r s g h e =
     let long = length-append (names_of q) (named qs) in
     let own = names_long q.down q.first q.label 0 q.len in
     omega (arith, ih, long, own)
+
+-- the run that was read at a number
+pub read_run : (rs : List Stretch) (ss : List ℕ) (k : ℕ) (r : Stretch) → ss ≡ starts_of 0 rs → k < length ss → r ≡ get_or rs k r → slice_get rs k ≡ Some r
+read_run rs ss k r e h is = slice_get_read rs (length rs) k r refl (let long = ap length e ∙ starts_long 0 rs in omega (arith, long, h)) is
 
 pub some_starts : (rs : List Stretch) (ss : List ℕ) (i : ℕ) → ss ≡ starts_of 0 rs → i < length (named rs) → 0 < length ss
 some_starts [] ss i e h = absurd (omega (arith, h))

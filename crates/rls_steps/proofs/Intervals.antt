@@ -3,7 +3,7 @@ use Rattle.std.proofs.Common.{◌≡◌, ℕ, ◌+◌, ◌-◌, ◌<◌, ◌≤�
 use Rattle.std.specs.Prelude.{slice_get, nat_lt, pos, ◌^◌, Box, Option, Some, Ok, Err}
 use Rattle.std.specs.declared.alloc.Global.{Global}
 use Rattle.std.proofs.lemmas.Int.{ints}
-use Rattle.std.proofs.lemmas.List.{length-map, length-take}
+use Rattle.std.proofs.lemmas.List.{length-map, length-take, length_push}
 use Rattle.std.proofs.lemmas.Option.{slice_get_within}
 use Rattle.rls_ident.specs.declared.tuple.Tuple.{Tuple}
 use Rattle.rls_ident.specs.Identifiers.{IsIdent, ident_lt, shifted}
@@ -25,7 +25,7 @@ use Rattle.rls_steps.specs.declared.interval.Interval.{Interval}
 use Rattle.rls_steps.specs.NameRuns.{Stretch, IsStretch, label_by, name_at, names_of}
 use Rattle.rls_steps.specs.Bounds.{AreCounted, HasBetween, HasLabel, HaveNone, IsMore}
 use Rattle.rls_steps.specs.Intervals.{AreBetween, AreNoted, IsBetween, LiesIn}
-use Rattle.rls_steps.proofs.Bounded.{snoc_get, last_of_snoc, at_end, has_more, has_snoc, has_short, take_got}
+use Rattle.rls_steps.proofs.Bounded.{snoc_get, at_end, has_more, has_snoc, has_short, take_got}
 use Rattle.rls_steps.proofs.LabelSteps.{named_further}
 use Rattle.rls_steps.proofs.Stretches.{in_names, name_in}
 use Rattle.rls_steps.proofs.Tabling.{once, place_is}
@@ -88,9 +88,6 @@ has_each rs i r low high m g a b h k =
 
 -- ---- what is noted for runs
 
-pub noted_none : (vs : List (Option (Box Interval Global))) → AreNoted [] vs
-noted_none vs = record { all = omega arith; each = λ i j o s n g has h k p. absurd (let none = has.2 in cc) }
-
 pub noted_fewer : (rs rs' : List Stretch) (vs : List (Option (Box Interval Global))) → AreNoted rs vs → IsMore rs rs' [] → length rs' ≤ length rs → AreNoted rs' vs
 noted_fewer rs rs' vs o more short =
     let all = o.all in
@@ -133,7 +130,7 @@ noted_cut rs vs o =
 noted_long : (rs : List Stretch) (vs : List (Option (Box Interval Global))) (v : Option (Box Interval Global)) → AreNoted rs vs → AreNoted rs (vs ++ v ∷ [])
 noted_long rs vs v o =
     let all = o.all in
-    let long = last_of_snoc vs v in
+    let long = length_push vs v in
     record {
       all = omega (arith, all, long);
       each = λ i j w s n g has x h p.
@@ -153,8 +150,8 @@ noted_more rs r vs us m low high v e o own between f =
     let all = o.all in
     let size = length-take m vs in
     let front = take m vs in
-    let long = last_of_snoc rs r in
-    let long' = last_of_snoc front v in
+    let long = length_push rs r in
+    let long' = length_push front v in
     let here : length front ≡ length rs = omega (arith, size, all, e) in
     subst (AreNoted (rs ++ r ∷ [])) (sym f) (record {
       all = omega (arith, long, long', here);

@@ -2,16 +2,17 @@
 use Rattle.std.proofs.Common.{◌≡◌, ℕ, zero, suc, ◌+◌, ◌-◌, ◌<◌, ◌≤◌, Bool, false, List, [], ◌∷◌, ◌++◌, length, length-append, take, drop, inl, inr, ⊎_elim, refl, sym, ap, ◌∙◌, subst, append_assoc, arith}
 use Rattle.std.specs.Prelude.{◌==◌, nat_lt, reverse, slice_get, Some, if◌then◌else◌}
 use Rattle.std.proofs.lemmas.Option.{slice_get_within}
-use Rattle.std.proofs.Math.Seq.{take-append-add}
+use Rattle.std.proofs.Math.Seq.{take-append-add, drop-append-add, take-length}
 use Rattle.std.proofs.lemmas.List.{reverse-append, reverse-reverse, length-reverse, length-take, take-append-le}
 use Rattle.rls_ident.specs.declared.tuple.Tuple.{Tuple}
 use Rattle.rls_ident.specs.Lists.{IsIn}
 use Rattle.rls_ident.proofs.Members.{bool_cases, lt_is, not_lt_is, eq_is, eq_test, neq_test, some_is, in_split}
+use Rattle.rls_ident.proofs.Positions.{get_of}
 use Rattle.rls_steps.specs.Labelled.{Names}
 use Rattle.rls_steps.specs.NameRuns.{Stretch, AreSound, label_by, name_by, names_by, name_at, names_of, named, starts_of}
 use Rattle.rls_steps.specs.Index.{newest_at, tail_at}
 use Rattle.rls_steps.specs.Bounds.{HaveNone, IsLatest}
-use Rattle.rls_steps.proofs.Giving.{reverse_snoc, front_stays, front_whole}
+use Rattle.rls_steps.proofs.Giving.{reverse_snoc, front_stays}
 use Rattle.rls_steps.proofs.LabelSteps.{labels_apart}
 use Rattle.rls_steps.proofs.Stretches.{names_long, names_suc, in_names, in_named, name_in, named_snoc, reverse_cons, reverse_in, sound_at}
 use Rattle.rls_steps.proofs.Bounded.{take_got}
@@ -97,11 +98,6 @@ run_found rs ss k l j s r o e g h short is =
     ∙ (ap (newest_at (reverse (names_of r) ++ ys)) (sym is)
     ∙ (newest_here r.down r.first r.label r.len j ys short (λ m n q. labels_apart r m j sound n short q) ∙ ap Some there))
 
-pub some_at : (rs : List Stretch) (k : ℕ) → k < length rs → (r : Stretch) × (slice_get rs k ≡ Some r)
-some_at [] k h = absurd (omega (arith, h))
-some_at (r ∷ rs) zero h = (r, refl)
-some_at (r ∷ rs) (suc k) h = some_at rs k (omega (arith, h))
-
 take_names : (d : Bool) (x : List Tuple) (l k n j : ℕ) → j ≤ n → take j (names_by d x l k n) ≡ names_by d x l k j
 take_names d x l k n zero h = refl
 take_names d x l k zero (suc j) h = absurd (omega (arith, h))
@@ -141,14 +137,14 @@ none_skipped rs l c zero end e h none = let w : end ≡ c = omega (arith, e) in 
 none_skipped rs l c (suc n) end e h none =
     let k = end - 1 in
     let back : end ≡ k + 1 = omega (arith, e) in
-    let w = some_at rs k (omega (arith, e, h)) in
+    let w = get_of rs k (omega (arith, e, h)) in
     let r = w.0 in
     ap (λ j. newest_at (reverse (named (take j rs))) l) back
     ∙ (run_missed rs k l r w.1 (λ j p t. none k l (omega (arith, e)) (omega (arith, e)) (r, name_at r j, w.1, name_in r j p, t) (omega arith) (omega arith))
     ∙ none_skipped rs l c n k (omega (arith, e)) (omega (arith, e, h)) (λ i m x y has p q. none i m x (omega (arith, y)) has p q))
 
 pub newest_skipped : (rs : List Stretch) (l c : ℕ) → c ≤ length rs → HaveNone rs c (length rs) l l → newest_at (reverse (named rs)) l ≡ newest_at (reverse (named (take c rs))) l
-newest_skipped rs l c h none = ap (λ (qs : List Stretch). newest_at (reverse (named qs)) l) (sym (front_whole rs)) ∙ none_skipped rs l c (length rs - c) (length rs) (omega (arith, h)) (omega arith) none
+newest_skipped rs l c h none = ap (λ (qs : List Stretch). newest_at (reverse (named qs)) l) (sym (take-length rs)) ∙ none_skipped rs l c (length rs - c) (length rs) (omega (arith, h)) (omega arith) none
 
 -- ---- an older name
 
@@ -162,7 +158,7 @@ tail_take (d ∷ ds) i n ms t =
     let same : ds ≡ ms = cc in
     let q = eq_is (length ds) i b in
     let front : take i (reverse ds ++ d ∷ []) ≡ reverse ds =
-    ap (λ k. take k (reverse ds ++ d ∷ [])) (let w : i ≡ length (reverse ds) = omega (arith, size, q) in w) ∙ (take-append-le (length (reverse ds)) (reverse ds) (d ∷ []) (omega arith) ∙ front_whole (reverse ds)) in
+    ap (λ k. take k (reverse ds ++ d ∷ [])) (let w : i ≡ length (reverse ds) = omega (arith, size, q) in w) ∙ (take-append-le (length (reverse ds)) (reverse ds) (d ∷ []) (omega arith) ∙ take-length (reverse ds)) in
     sym same ∙ (sym (reverse-reverse ds) ∙ (ap reverse (sym front) ∙ ap (λ (zs : Names). reverse (take i zs)) (sym (reverse_cons d ds)))))
     (λ b. let later = sym (ap (λ (c : Bool). if c then d ∷ ds else tail_at ds i) b) ∙ t in
     let s = (tail_short ds i n ms later).0 in
@@ -219,14 +215,10 @@ older_in rs ss i k s r n m ms o e g h low short t p same =
 later_missed : (rs : List Stretch) (l n k : ℕ) → k + n ≡ length rs → ((i j : ℕ) (r : Stretch) → k ≤ i → slice_get rs i ≡ Some r → j < r.len → (name_at r j).1 ≡ l → ⊥) → newest_at (reverse (named rs)) l ≡ newest_at (reverse (named (take k rs))) l
 later_missed rs l zero k e f =
     let all : length rs ≡ k = omega (arith, e) in
-    ap (λ (qs : List Stretch). newest_at (reverse (named qs)) l) (sym (front_whole rs) ∙ ap (λ m. take m rs) all)
+    ap (λ (qs : List Stretch). newest_at (reverse (named qs)) l) (sym (take-length rs) ∙ ap (λ m. take m rs) all)
 later_missed rs l (suc n) k e f =
-    let w = some_at rs k (omega (arith, e)) in
+    let w = get_of rs k (omega (arith, e)) in
     later_missed rs l n (k + 1) (omega (arith, e)) (λ i j r a g h q. f i j r (omega (arith, a)) g h q) ∙ run_missed rs k l w.0 w.1 (λ j h q. f k j w.0 (omega arith) w.1 h q)
-
-drop_more : {A : Type 0} (xs ys : List A) (n : ℕ) → drop (length xs + n) (xs ++ ys) ≡ drop n ys
-drop_more [] ys n = let z : 0 + n ≡ n = omega arith in ap (λ m. drop m ys) z
-drop_more (x ∷ xs) ys n = let e : length (x ∷ xs) + n ≡ suc (length xs + n) = omega arith in ap (λ m. drop m (x ∷ (xs ++ ys))) e ∙ drop_more xs ys n
 
 drop_named : (rs : List Stretch) (k : ℕ) (r : Stretch) → slice_get rs k ≡ Some r → drop (length (named (take k rs))) (named rs) ≡ names_of r ++ named (drop (suc k) rs)
 drop_named [] k r g = absurd (cc)
@@ -234,7 +226,7 @@ drop_named (q ∷ qs) zero r g = ap (λ (u : Stretch). names_of u ++ named qs) (
 drop_named (q ∷ qs) (suc k) r g =
     let own = names_of q in
     let front = named (take k qs) in
-    ap (λ m. drop m (own ++ named qs)) (length-append own front) ∙ (drop_more own (named qs) (length front) ∙ drop_named qs k r g)
+    ap (λ m. drop m (own ++ named qs)) (length-append own front) ∙ (drop-append-add own (named qs) (length front) ∙ drop_named qs k r g)
 
 pub run_latest : (rs : List Stretch) (ss : List ℕ) (k i low high : ℕ) (r : Stretch) → AreSound rs → ss ≡ starts_of 0 rs → slice_get rs k ≡ Some r → slice_get ss k ≡ Some i → HaveNone rs (k + 1) (length rs) low high →
     ((n : List Tuple × ℕ) → IsIn n (names_of r) → (low ≤ n.1) × (n.1 ≤ high)) → IsLatest (named rs) i r
@@ -245,7 +237,7 @@ run_latest rs ss k i low high r o e g h none bounds =
     let size : r.len ≡ length own = sym (names_long r.down r.first r.label 0 r.len) in
     record {
       names = ap (λ m. take r.len (drop m (named rs))) here
-          ∙ (ap (take r.len) (drop_named rs k r g) ∙ (ap (λ m. take m (own ++ named (drop (suc k) rs))) size ∙ front_stays own own (named (drop (suc k) rs)) (front_whole own)));
+          ∙ (ap (take r.len) (drop_named rs k r g) ∙ (ap (λ m. take m (own ++ named (drop (suc k) rs))) size ∙ front_stays own own (named (drop (suc k) rs)) (take-length own)));
       at = λ j short.
           let there : slice_get (starts_of 0 rs) k ≡ Some i = ap (λ (zs : List ℕ). slice_get zs k) (sym e) ∙ h in
           let back : (i + j) - i ≡ j = omega arith in

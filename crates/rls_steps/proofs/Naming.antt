@@ -2,6 +2,7 @@
 use Rattle.std.proofs.Common.{◌≡◌, ℕ, suc, ◌<◌, ◌≤◌, List, [], ◌∷◌, map, inl, inr, refl, sym, ap, ◌∙◌, subst, arith}
 use Rattle.std.specs.Prelude.{Bool, true, false, ◌==◌, ◌||◌, Option, Some, None, if◌then◌else◌}
 use Rattle.std.specs.List.{list_any}
+use Rattle.std.proofs.lemmas.Bool.{or_from}
 use Rattle.rls_ident.specs.declared.tuple.Tuple.{Tuple}
 use Rattle.rls_ident.specs.Identifiers.{ident_eq, IsIdent}
 use Rattle.rls_ident.specs.Lists.{IsIn}
@@ -65,13 +66,9 @@ swaps x n = record {
   same = λ k h. swap_known x n k h;
 }
 
--- the next label isn't one that was given
-or_both : (b c : Bool) → b ≡ false → c ≡ false → (b || c) ≡ false
-or_both b c p q = ap (λ d. d || c) p ∙ q
-
 none_of : (n : ℕ) (js : List ℕ) → AreGiven n js → is_one_of js (Known n) ≡ false
 none_of n [] h = refl
-none_of n (j ∷ js) h = or_both (j == n) (list_any (λ i. i == n) js) (neq_test j n (λ e. absurd (omega (arith, h.0, e)))) (none_of n js h.1)
+none_of n (j ∷ js) h = or_from (j == n) (list_any (λ i. i == n) js) (neq_test j n (λ e. absurd (omega (arith, h.0, e)))) (none_of n js h.1)
 
 -- a label that was given stays where it is
 one_same : (x : List Tuple) (n : ℕ) (ls : List ℕ) → AreGiven n ls → (m : Mark) → is_one_of ls (swap x n m) ≡ is_one_of ls m

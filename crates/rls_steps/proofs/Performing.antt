@@ -2,6 +2,7 @@
 use Rattle.std.proofs.Common.{◌≡◌, ℕ, zero, suc, ◌+◌, ◌-◌, List, [], ◌∷◌, ◌++◌, take, drop, refl, sym, ap, ◌∙◌, subst}
 use Rattle.std.specs.Prelude.{IsTrue, reverse, Option, Some, None}
 use Rattle.rls_ident.specs.declared.tuple.Tuple.{Tuple}
+use Rattle.rls_model.proofs.Made.{or_none}
 use Rattle.rls_model.specs.declared.edit.Edit.{Edit}
 use Rattle.rls_model.specs.declared.edit.Edit.TheVariants as edits
 use Rattle.rls_model.specs.declared.edit.EditError.{EditError}
@@ -49,14 +50,10 @@ one_done G s e es n q i = record {
   fit = ap (λ (f : Option EditError). or_fault f (refusal_on G (G.edited s e) es)) q ∙ i.fit;
 }
 
-none_fault : (a b : Option EditError) → or_fault a b ≡ None → (a ≡ None) × (b ≡ None)
-none_fault None b q = (refl, q)
-none_fault (Some e) b q = absurd (cc)
-
 both_done : {X : Type 0} (G : Ground X) (es fs : List Edit) (s m n : X) → IsDone G s es m → IsDone G m fs n → IsDone G s (es ++ fs) n
 both_done G [] fs s m n i j = subst (λ z. IsDone G z fs n) i.state j
 both_done G (e ∷ es) fs s m n i j =
-    let f = none_fault (G.fault s e) (refusal_on G (G.edited s e) es) i.fit in
+    let f = or_none (G.fault s e) (refusal_on G (G.edited s e) es) i.fit in
     let there : m ≡ performed_on G (G.edited s e) es = i.state ∙ ap (λ (o : Option EditError). unless o s (performed_on G (G.edited s e) es)) f.0 in
     one_done G s e (es ++ fs) n f.0 (both_done G es fs (G.edited s e) m n (record { state = there; fit = f.1 }) j)
 

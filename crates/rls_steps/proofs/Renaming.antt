@@ -25,7 +25,7 @@ use Rattle.rls_steps.proofs.Exchanging.{exchanged_among, distinct_marks}
 record IsOneForOne (f : List Tuple → List Tuple) : Type 0 where
   pub apart : (x y : List Tuple) → IsIdent x → IsIdent y → f x ≡ f y → x ≡ y
 
-renamed_names : (List Tuple → List Tuple) → Names → Names
+unfoldable pub renamed_names : (List Tuple → List Tuple) → Names → Names
 renamed_names f names = map (λ n. (f n.0, n.1)) names
 
 -- a mark with another identifier

@@ -1,7 +1,6 @@
 -- The label of an identifier, by the runs that begin next to it.
 use Rattle.std.proofs.Common.{◌≡◌, ℕ, zero, suc, ◌+◌, ◌-◌, ◌<◌, Bool, true, false, List, ◌∷◌, map, length, refl, sym, ap, ◌∙◌, subst, arith}
-use Rattle.std.specs.Prelude.{pos, ◌+ℤ◌, ◌-ℤ◌, reverse, slice_get, Option, Some, None, IfSome}
-use Rattle.std.specs.Option.{IsSome}
+use Rattle.std.specs.Prelude.{pos, ◌+ℤ◌, ◌-ℤ◌, reverse, slice_get, Option, Some, None, IfSome, is_some}
 use Rattle.std.specs.Ordering.{is_gt, is_lt, ordering_reverse}
 use Rattle.std.specs.declared.cmp.Ordering.{Ordering}
 use Rattle.std.specs.declared.cmp.Ordering.TheVariants.{Less, Equal, Greater}
@@ -88,10 +87,6 @@ first_there rs es i r k f g e =
     let w = run_some (reverse rs) r (in_reverse r rs (get_in rs i r g)) in
     (w.0, f k ∙ (ap (run_of (reverse rs)) e ∙ w.1))
 
-pub is_some_of : (o : Option ℕ) (j : ℕ) → o ≡ Some j → IsSome o
-is_some_of None j e = absurd (cc)
-is_some_of (Some i) j e = refl
-
 -- the place of a number with a key
 abbrev pub HasKey : List (Key × ℕ) → Key → Type 0
 HasKey es k = (j : ℕ) × (run_in es k ≡ Some j)
@@ -108,7 +103,7 @@ up_missed : (rs : List Stretch) (es : List (Key × ℕ)) (x own : Key) (b : Opti
 up_missed rs es x own None i m r o below said g h d q e low ident there = let none = below own low in let some = there.1 in absurd (cc)
 up_missed rs es x own (Some j) i m r o below said g h d q e low ident there =
     let k = below.0 in
-    let most = turned k.ident own.ident (below.3 own low (is_some_of (run_in es own) there.0 there.1)) in
+    let most = turned k.ident own.ident (below.3 own low (ap is_some there.1)) in
     let up : shifted (pos m) r.first ≡ x.ident = ap (λ (c : Bool). shifted (step_by c m) r.first) (sym d) ∙ q in
     let low' : is_gt (wide_cmp r.first k.ident) ≡ false = ap (λ y. is_gt (wide_cmp y k.ident)) (sym e) ∙ most in
     let high : is_gt (wide_cmp k.ident (shifted (pos m) r.first)) ≡ false = ap (λ y. is_gt (wide_cmp k.ident y)) up ∙ below.2 in
@@ -124,7 +119,7 @@ down_missed : (rs : List Stretch) (es : List (Key × ℕ)) (x own : Key) (b : Op
 down_missed rs es x own None i m r o above said g h d q e low ident there = let none = above own low in let some = there.1 in absurd (cc)
 down_missed rs es x own (Some j) i m r o above said g h d q e low ident there =
     let k = above.0 in
-    let most = above.3 own low (is_some_of (run_in es own) there.0 there.1) in
+    let most = above.3 own low (ap is_some there.1) in
     let down : shifted (pos 0 -ℤ pos m) r.first ≡ x.ident = ap (λ (c : Bool). shifted (step_by c m) r.first) (sym d) ∙ q in
     let up : shifted (pos m) x.ident ≡ r.first = ap (shifted (pos m)) (sym down) ∙ (shifted_shifted (pos m) (pos 0 -ℤ pos m) r.first ∙ back_none m r.first) in
     let high : is_gt (wide_cmp k.ident (shifted (pos m) x.ident)) ≡ false = ap (λ y. is_gt (wide_cmp k.ident y)) (up ∙ sym e) ∙ most in
@@ -165,21 +160,19 @@ missed_label rs es x b a o ident below above s t = go (label_of (reverse (named 
 
 -- ---- numbers of runs
 
-pub below_short : (rs : List Stretch) (es : List (Key × ℕ)) (x : Key) (b : Option ℕ) → ((q : Key) → run_in es q ≡ run_of (reverse rs) q.ident) → IsBelow es x b → IfSome b (λ i. i < length rs)
-below_short rs es x None f w = tt
-below_short rs es x (Some i) f w =
-    let r = run_there (reverse rs) w.0.ident i (sym (f w.0) ∙ w.1) in
-    let h = r.3 in
+number_short : (rs : List Stretch) (es : List (Key × ℕ)) (k : Key) (i : ℕ) → ((q : Key) → run_in es q ≡ run_of (reverse rs) q.ident) → run_in es k ≡ Some i → i < length rs
+number_short rs es k i f e =
+    let h = (run_there (reverse rs) k.ident i (sym (f k) ∙ e)).3 in
     let size = length-reverse rs in
     omega (arith, h, size)
 
+pub below_short : (rs : List Stretch) (es : List (Key × ℕ)) (x : Key) (b : Option ℕ) → ((q : Key) → run_in es q ≡ run_of (reverse rs) q.ident) → IsBelow es x b → IfSome b (λ i. i < length rs)
+below_short rs es x None f w = tt
+below_short rs es x (Some i) f w = number_short rs es w.0 i f w.1
+
 pub above_short : (rs : List Stretch) (es : List (Key × ℕ)) (x : Key) (b : Option ℕ) → ((q : Key) → run_in es q ≡ run_of (reverse rs) q.ident) → IsAbove es x b → IfSome b (λ i. i < length rs)
 above_short rs es x None f w = tt
-above_short rs es x (Some i) f w =
-    let r = run_there (reverse rs) w.0.ident i (sym (f w.0) ∙ w.1) in
-    let h = r.3 in
-    let size = length-reverse rs in
-    omega (arith, h, size)
+above_short rs es x (Some i) f w = number_short rs es w.0 i f w.1
 
 pub labels_are : (rs : List Stretch) (es : List (Key × ℕ)) (x : Key) (b a : Option ℕ) (o : Option (ℕ × ℕ)) → IsAbout rs es → IsIdent x.ident → IsBelow es x b → IsAbove es x a → AreLabelsIn rs b x.ident None → AreLabelsIn rs a x.ident o → AreLabels (reverse (named rs)) x.ident o
 labels_are rs es x b a None w i below above s t = missed_label rs es x b a w i below above s t

@@ -2,7 +2,6 @@
 use Rattle.std.proofs.Common.{◌≡◌, ◌∙◌, ℕ, zero, suc, ◌+◌, ◌-◌, ◌<◌, List, [], ◌∷◌, ◌++◌, map, length, take, drop, append_assoc, length-append, length-drop, refl, sym, ap, subst, arith}
 use Rattle.std.specs.Prelude.{replicate, slice_get, Option, Some}
 use Rattle.std.proofs.lemmas.List.{append-nil, append_cancel_left, length-map, length-take-le, map-append, take-append-drop}
-use Rattle.std.proofs.Math.Seq.{take-append_seam}
 use Rattle.rls_model.specs.declared.edit.Edit.TheVariants as edits
 use Rattle.rls_seen.specs.Edits.{edited}
 use Rattle.rls_seen.specs.Sane.{IsSane}
@@ -131,10 +130,6 @@ put_told h n at text cs left right old new p q sane f e a =
 -- nothing came
 pub none_told : (all old new : List Change) (s n : Seen) → new ≡ old → n ≡ s → AreTold all old new (text_over s) (text_over n)
 none_told all old new s n e f = record { fresh = []; rest = all; are = refl; added = e ∙ sym (append-nil old); leads = ap (λ (u : Seen). text_over u) (sym f) }
-
--- cut back to the changes before
-pub cut_back : (old more new cut : List Change) (n : ℕ) → n ≡ length old → new ≡ old ++ more → cut ≡ take n new → cut ≡ old
-cut_back old more new cut n l e f = f ∙ (ap (λ k. take k new) l ∙ (ap (take (length old)) e ∙ take-append_seam old more))
 
 -- ---- several pieces
 

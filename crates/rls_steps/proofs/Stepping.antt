@@ -2,6 +2,7 @@
 use Rattle.std.proofs.Common.{◌≡◌, ℕ, zero, suc, ◌+◌, ◌-◌, ◌<◌, ◌≤◌, List, [], ◌∷◌, ◌++◌, map, length, take, drop, inl, inr, refl, sym, ap, ◌∙◌, ◌⊎◌, subst, arith}
 use Rattle.std.specs.Prelude.{Bool, ◌==◌, slice_get, Option, Some, None, if◌then◌else◌}
 use Rattle.std.proofs.lemmas.List.{take-append-drop, length-map, length-drop}
+use Rattle.std.proofs.Math.Seq.{length-take-le}
 use Rattle.rls_ident.specs.declared.tuple.Tuple.{Tuple}
 use Rattle.rls_ident.specs.Identifiers.{ident_eq, IsIdent}
 use Rattle.rls_ident.specs.Lists.{IsIn}
@@ -10,17 +11,14 @@ use Rattle.rls_ident.proofs.Members.{bool_cases, map_in, in_split, in_left, in_r
 use Rattle.rls_runs.specs.Entries.{Entries, chars_in}
 use Rattle.rls_runs.proofs.Sorted.{Entry}
 use Rattle.rls_ops.specs.Rows.{left}
-use Rattle.rls_model.specs.declared.edit.Edit.{Edit}
 use Rattle.rls_model.specs.declared.edit.Edit.TheVariants as edits
 use Rattle.rls_model.specs.declared.edit.EditError.TheVariants as faults
-use Rattle.rls_model.specs.Editing.{range_fault, or_fault}
-use Rattle.rls_model.proofs.Made.{or_none}
 use Rattle.rls_model.proofs.OneTree.{none_else}
 use Rattle.rls_model.specs.WellFormed.{IsEdit}
 use Rattle.rls_model.proofs.Spliced.{take_map, drop_map, append_map}
-use Rattle.rls_seen.specs.Edits.{edit_fault_over, op_fault_over}
+use Rattle.rls_seen.specs.Edits.{edit_fault_over}
 use Rattle.rls_seen.specs.Seen.{Seen, idents_over, text_over}
-use Rattle.rls_seen.proofs.EditedText.{deleted_entries, delete_place, take_drop_drop}
+use Rattle.rls_seen.proofs.EditedText.{deleted_entries, delete_place, take_drop_drop, range_none}
 use Rattle.rls_seen.proofs.Making.{edited_sane}
 use Rattle.rls_seen.proofs.TextLists.{ident_in}
 use Rattle.rls_undo.specs.Plans.{ranges_of}
@@ -173,17 +171,11 @@ left_given next ms (suc k) h = label_at_given next ms k h
 
 -- ---- an edit that isn't refused isn't empty
 
-range_fits : (s : Seen) (edit : Edit) → edit_fault_over s edit ≡ None → range_fault (length (idents_over s)) edit ≡ None
-unfolding edit_fault_over
-range_fits s edit h =
-    let p = none_else (left s.acks s.acks.me) faults.Left (or_fault (range_fault (length (idents_over s)) edit) (op_fault_over s edit)) h in
-    (or_none (range_fault (length (idents_over s)) edit) (op_fault_over s edit) p.1).0
-
 some_inserted : (s : Seen) (at : ℕ) (cs : List ℕ) → edit_fault_over s (edits.Insert at cs) ≡ None → 0 < length cs
-some_inserted s at cs h = not_zero (length cs) (none_else (length cs == 0) faults.EmptyEdit _ (range_fits s (edits.Insert at cs) h)).0
+some_inserted s at cs h = not_zero (length cs) (none_else (length cs == 0) faults.EmptyEdit _ (range_none s (edits.Insert at cs) h)).0
 
 some_deleted : (s : Seen) (at n : ℕ) → edit_fault_over s (edits.Delete at n) ≡ None → 0 < n
-some_deleted s at n h = not_zero n (none_else (n == 0) faults.EmptyEdit _ (range_fits s (edits.Delete at n) h)).0
+some_deleted s at n h = not_zero n (none_else (n == 0) faults.EmptyEdit _ (range_none s (edits.Delete at n) h)).0
 
 -- ---- a range that is cut out
 
@@ -197,11 +189,6 @@ distinct_without (x ∷ xs) ys zs d = (λ p. d.0 (wider (in_split x xs zs p)), d
 
 cut_map : {A B : Type 0} (f : A → B) (at n : ℕ) (xs : List A) → map f (take n (drop at xs)) ≡ take n (drop at (map f xs))
 cut_map f at n xs = take_map f n (drop at xs) ∙ ap (take n) (drop_map f at xs)
-
-length_front : {A : Type 0} (n : ℕ) (xs : List A) → n ≤ length xs → length (take n xs) ≡ n
-length_front zero xs h = refl
-length_front (suc n) [] h = absurd (omega (arith, h))
-length_front (suc n) (x ∷ xs) h = ap suc (length_front n xs (omega (arith, h)))
 
 marked_cut : (g : Labelled) (at n : ℕ) → IsLabelled g → marked (cut_over g at n) ≡ cut_out (marked g) at n
 marked_cut g at n i =
@@ -235,7 +222,7 @@ cut_leads g at n qs us i ready l some w f =
     sym (cut_map name at n text) ∙ (named_known g.names seg ready.range ∙ (ap (λ ks. known (labels_in ks) (chars_in seg)) seg_marks ∙ ap (known labels) seg_chars)) in
     let fit : length labels ≡ length cs = ap (λ ks. length (labels_in ks)) (sym seg_marks) ∙ (labels_length g.names seg ready.range ∙ ap length seg_chars) in
     let total : length (text_over g.seen) ≡ length text = length-map text (λ (e : Entry). e.1) in
-    let long : length cs ≡ n = length_front n (drop at (text_over g.seen)) (let d = length-drop at (text_over g.seen) in omega (arith, d, total, size)) in
+    let long : length cs ≡ n = length-take-le n (drop at (text_over g.seen)) (let d = length-drop at (text_over g.seen) in omega (arith, d, total, size)) in
     let whole : take at m ++ (known labels cs ++ drop (at + n) m) ≡ m = ap (λ k. take at m ++ (k ++ drop (at + n) m)) (sym there) ∙ take_drop_drop n at m in
     let out = marked_cut g at n i in
     let apart : AreDistinct (marks (take at m ++ (known labels cs ++ drop (at + n) m))) = subst (λ (k : Marked). AreDistinct (marks k)) (sym whole) i.distinct in

@@ -290,13 +290,6 @@ each_down r y d e j s = (r.len - 1 - j, omega (arith, s), low_down r y (r.len - 
 pub each_up : (r : Stretch) (y : List Tuple) → r.down ≡ false → y ≡ r.first → (j : ℕ) → j < r.len → (k : ℕ) × (k < r.len) × ((name_at r k).0 ≡ shifted (pos j) y)
 each_up r y d e j s = (j, s, low_up r y j d e)
 
-pub top_down : (r : Stretch) (y : List Tuple) → r.down ≡ true → y ≡ (name_at r (r.len - 1)).0 → r.first ≡ shifted (pos (r.len - 1)) y
-top_down r y d e =
-    let m = r.len - 1 in
-    let low : y ≡ shifted (pos 0 -ℤ pos m) r.first = e ∙ ap (λ (c : Bool). shifted (step_by c m) r.first) d in
-    let by : (pos 0 -ℤ pos m) +ℤ pos m ≡ pos 0 = omega (arith, ints) in
-    sym (ap (shifted (pos m)) low ∙ (shifted_shifted (pos m) (pos 0 -ℤ pos m) r.first ∙ (ap (λ z. shifted z r.first) by ∙ shifted_none r.first)))
-
 -- ---- places in a run
 
 pub label_down : (d : Bool) (o : ℤ) (l n k m : ℕ) → d ≡ true → IsWithin d o l n → k < n → label_by d l k ≡ m → m + k ≡ l

@@ -4,8 +4,9 @@ use Rattle.std.specs.Prelude.{Option, Some, None, ◌==◌, ◌&&◌, ◌||◌, 
 use Rattle.std.specs.List.Sorted.{IsPermutation, IsNonDecreasing, IsBinarySearchResult}
 use Rattle.std.specs.Ordering.{nat_cmp}
 use Rattle.std.specs.Result.{MatchResult}
-use Rattle.std.proofs.lemmas.List.{reverse-append}
+use Rattle.std.proofs.lemmas.List.{reverse-append, append-nil}
 use Rattle.std.proofs.lemmas.List.Sorted.{searched, IsPermutation-sym, Contains-permutation}
+use Rattle.std.proofs.lemmas.List.Elements.{filter-append}
 use Rattle.rls_ident.specs.declared.tuple.Tuple.{Tuple}
 use Rattle.rls_ident.specs.Identifiers.{ident_eq, IsIdent}
 use Rattle.rls_ident.specs.Lists.{IsIn}
@@ -233,14 +234,6 @@ needed_pieces labels xs h = steps_of (λ l. is_needed labels l ≡ true) (revers
 
 -- ---- the names that are kept
 
-pub filter_append : {A : Type 0} (t : A → Bool) (xs ys : List A) → filter t (xs ++ ys) ≡ filter t xs ++ filter t ys
-filter_append t [] ys = refl
-filter_append t (x ∷ xs) ys = bool_cases (t x)
-    (λ b. ap (λ (c : Bool). if c then x ∷ filter t (xs ++ ys) else filter t (xs ++ ys)) b
-    ∙ (ap (λ zs. x ∷ zs) (filter_append t xs ys) ∙ sym (ap (λ (c : Bool). (if c then x ∷ filter t xs else filter t xs) ++ filter t ys) b)))
-    (λ b. ap (λ (c : Bool). if c then x ∷ filter t (xs ++ ys) else filter t (xs ++ ys)) b
-    ∙ (filter_append t xs ys ∙ sym (ap (λ (c : Bool). (if c then x ∷ filter t xs else filter t xs) ++ filter t ys) b)))
-
 filter_one : {A : Type 0} (t : A → Bool) (x : A) → reverse (filter t (x ∷ [])) ≡ filter t (x ∷ [])
 filter_one t x = bool_cases (t x)
     (λ b. ap (λ (c : Bool). reverse (if c then x ∷ [] else [])) b ∙ sym (ap (λ (c : Bool). if c then x ∷ [] else []) b))
@@ -249,10 +242,10 @@ filter_one t x = bool_cases (t x)
 filter_back : {A : Type 0} (t : A → Bool) (xs : List A) → reverse (filter t xs) ≡ filter t (reverse xs)
 filter_back t [] = refl
 filter_back t (x ∷ xs) =
-    ap reverse (filter_append t (x ∷ []) xs)
+    ap reverse (filter-append t (x ∷ []) xs)
     ∙ (reverse-append (filter t (x ∷ [])) (filter t xs)
     ∙ (ap (λ zs. zs ++ reverse (filter t (x ∷ []))) (filter_back t xs)
-    ∙ (ap (λ zs. filter t (reverse xs) ++ zs) (filter_one t x) ∙ (sym (filter_append t (reverse xs) (x ∷ [])) ∙ ap (filter t) (sym (reverse-append (x ∷ []) xs))))))
+    ∙ (ap (λ zs. filter t (reverse xs) ++ zs) (filter_one t x) ∙ (sym (filter-append t (reverse xs) (x ∷ [])) ∙ ap (filter t) (sym (reverse-append (x ∷ []) xs))))))
 
 given_kept : (next : ℕ) (t : List Tuple × ℕ → Bool) (ns : Names) → AreGiven next (map (λ n. n.1) ns) → AreGiven next (map (λ n. n.1) (filter t ns))
 given_kept next t [] g = g
@@ -379,26 +372,17 @@ needed_found xs x r b s = go r (searched xs x r b (λ i j h k. s i j 0 h k))
 
 -- ---- the next one
 
-pub there_at : {A : Type 0} (xs : List A) (i : ℕ) → i < length xs → (x : A) × (slice_get xs i ≡ Some x)
-there_at [] i h = absurd (omega (arith, h))
-there_at (x ∷ xs) zero h = (x, refl)
-there_at (x ∷ xs) (suc i) h = there_at xs i (omega (arith, h))
-
 pub kept_next : (t : List Tuple × ℕ → Bool) (xs : Names) (i : ℕ) (x : List Tuple × ℕ) (old new : Names) → slice_get xs i ≡ Some x → old ≡ filter t (take i xs) → new ≡ old ++ filter t (x ∷ []) → new ≡ filter t (take (i + 1) xs)
 kept_next t xs i x old new g e f =
     let one : suc i ≡ i + 1 = omega arith in
-    f ∙ (ap (λ (ns : Names). ns ++ filter t (x ∷ [])) e ∙ (sym (filter_append t (take i xs) (x ∷ [])) ∙ (ap (filter t) (sym (take_snoc xs i x g)) ∙ ap (λ n. filter t (take n xs)) one)))
+    f ∙ (ap (λ (ns : Names). ns ++ filter t (x ∷ [])) e ∙ (sym (filter-append t (take i xs) (x ∷ [])) ∙ (ap (filter t) (sym (take_snoc xs i x g)) ∙ ap (λ n. filter t (take n xs)) one)))
 
 labels_append : (xs ys : List Step) → step_labels (xs ++ ys) ≡ step_labels xs ++ step_labels ys
 labels_append [] ys = refl
 labels_append (x ∷ xs) ys = ap (λ ls. piece_labels x.piece ++ ls) (labels_append xs ys) ∙ sym (append_assoc (piece_labels x.piece) (step_labels xs) (step_labels ys))
 
 labels_one : (x : Step) → step_labels (x ∷ []) ≡ piece_labels x.piece
-labels_one x = append_none (piece_labels x.piece)
-  where
-    append_none : (ls : List ℕ) → ls ++ [] ≡ ls
-    append_none [] = refl
-    append_none (l ∷ ls) = ap (λ ks. l ∷ ks) (append_none ls)
+labels_one x = append-nil (piece_labels x.piece)
 
 pub labels_next : (xs : List Step) (i : ℕ) (x : Step) (base old new : List ℕ) → slice_get xs i ≡ Some x → old ≡ base ++ step_labels (take i xs) → new ≡ old ++ piece_labels x.piece → new ≡ base ++ step_labels (take (i + 1) xs)
 labels_next xs i x base old new g e f =

@@ -1,5 +1,5 @@
 -- Names of a run that are kept together.
-use Rattle.std.proofs.Common.{◌≡◌, ℕ, zero, suc, ◌+◌, ◌-◌, ◌<◌, ◌≤◌, Bool, true, List, [], ◌∷◌, ◌++◌, length, take, drop, get_or, inl, inr, refl, sym, ap, ◌∙◌, subst, arith}
+use Rattle.std.proofs.Common.{◌≡◌, ℕ, zero, suc, ◌+◌, ◌-◌, ◌<◌, ◌≤◌, Bool, true, List, [], ◌∷◌, ◌++◌, length, take, drop, get_or, refl, sym, ap, ◌∙◌, subst, arith}
 use Rattle.std.specs.Prelude.{Some, ◌==◌, ◌&&◌, ◌||◌, filter, reverse, is_ok, slice_get, nat_lt, nat_eq, Ok, if◌then◌else◌}
 use Rattle.std.specs.List.{dedup}
 use Rattle.std.specs.List.Retain.{IsFiltered, DiffersFromLast}
@@ -10,6 +10,9 @@ use Rattle.std.proofs.lemmas.List.Filters.{dedup_is}
 use Rattle.std.proofs.lemmas.List.Kept.{AllPairs-from_increasing, Contains-dedup_nat, Contains-from_dedup}
 use Rattle.std.proofs.lemmas.List.Sorted.{searched}
 use Rattle.std.proofs.lemmas.Map.Keys.{IsStrictlyIncreasing-dedup}
+use Rattle.std.proofs.Math.Seq.{take-add}
+use Rattle.std.proofs.lemmas.List.Elements.{filter-append}
+use Rattle.rls_ident.proofs.Agreeing.{filter_all}
 use Rattle.rls_ident.specs.declared.tuple.Tuple.{Tuple}
 use Rattle.rls_ident.specs.Identifiers.{ident_eq}
 use Rattle.rls_ident.specs.Lists.{IsIn}
@@ -25,7 +28,7 @@ use Rattle.rls_steps.specs.Sweeping.{is_needed, is_that, is_newest, is_kept}
 use Rattle.rls_steps.proofs.Found.{contained, contains_in}
 use Rattle.rls_steps.proofs.Indexing.{tail_name}
 use Rattle.rls_steps.proofs.Stretches.{in_names, names_long}
-use Rattle.rls_steps.proofs.Swept.{filter_append, in_list}
+use Rattle.rls_steps.proofs.Swept.{in_list}
 use Rattle.rls_steps.proofs.Walking.{newest_ident}
 
 -- ---- labels in increasing order, each once
@@ -97,15 +100,11 @@ latest_newest ns i r h n p =
     let same : n ≡ q.0 = tail_name ns (i + j) n q.0 q.1 (h.at j w.1 ∙ ap Some is) q.2 in
     ap (λ o. is_that o n.0) q.3 ∙ (ap (λ (m : List Tuple × ℕ). ident_eq m.0 n.0) (sym same) ∙ ident_eq_refl n.0)
 
-all_filter : {A : Type 0} (t : A → Bool) (xs : List A) → ((x : A) → IsIn x xs → t x ≡ true) → filter t xs ≡ xs
-all_filter t [] f = refl
-all_filter t (x ∷ xs) f = ap (λ (c : Bool). if c then x ∷ filter t xs else filter t xs) (f x (inl refl)) ∙ ap (λ zs. x ∷ zs) (all_filter t xs (λ y p. f y (inr p)))
-
 pub run_kept : (xs : List (List Tuple)) (ls : List ℕ) (ns old new : Names) (i : ℕ) (r : Stretch) → IsLatest ns i r → ((n : List Tuple × ℕ) → IsIn n (names_of r) → is_needed ls n.1 ≡ true) → new ≡ old ++ names_of r →
     new ≡ old ++ filter (is_kept xs ls (reverse ns)) (take r.len (drop i ns))
 run_kept xs ls ns old new i r h f e =
     let t = is_kept xs ls (reverse ns) in
-    let all : filter t (names_of r) ≡ names_of r = all_filter t (names_of r) (λ n p. ap (λ (c : Bool). c && (is_newest (reverse ns) n || is_ok (place_of n.0 xs))) (f n p) ∙ ap (λ (c : Bool). c || is_ok (place_of n.0 xs)) (latest_newest ns i r h n p)) in
+    let all : filter t (names_of r) ≡ names_of r = filter_all t (names_of r) (λ n p. ap (λ (c : Bool). c && (is_newest (reverse ns) n || is_ok (place_of n.0 xs))) (f n p) ∙ ap (λ (c : Bool). c || is_ok (place_of n.0 xs)) (latest_newest ns i r h n p)) in
     e ∙ ap (λ (zs : Names). old ++ zs) (sym (ap (filter t) h.names ∙ all))
 
 pub run_within : (ns : Names) (i : ℕ) (r : Stretch) → IsLatest ns i r → 0 < r.len → i + r.len ≤ length ns
@@ -124,11 +123,5 @@ take_one (y ∷ ys) (suc i) x g = take_one ys i x g
 pub one_kept : (t : List Tuple × ℕ → Bool) (ns old new : Names) (i : ℕ) (x : List Tuple × ℕ) → slice_get ns i ≡ Some x → new ≡ old ++ filter t (x ∷ []) → new ≡ old ++ filter t (take 1 (drop i ns))
 one_kept t ns old new i x g e = e ∙ ap (λ (zs : Names). old ++ filter t zs) (sym (take_one ns i x g))
 
-take_more : {A : Type 0} (i n : ℕ) (xs : List A) → take (i + n) xs ≡ take i xs ++ take n (drop i xs)
-take_more zero n xs = let z : 0 + n ≡ n = omega arith in ap (λ m. take m xs) z
-take_more (suc i) zero [] = let z : suc i + 0 ≡ suc i = omega arith in ap (λ m. take m []) z
-take_more (suc i) (suc n) [] = let z : suc i + suc n ≡ suc (i + suc n) = omega arith in ap (λ m. take m []) z
-take_more (suc i) n (x ∷ xs) = let e : suc i + n ≡ suc (i + n) = omega arith in ap (λ m. take m (x ∷ xs)) e ∙ ap (λ zs. x ∷ zs) (take_more i n xs)
-
 pub kept_more : (t : List Tuple × ℕ → Bool) (ns old new : Names) (i n : ℕ) → old ≡ filter t (take i ns) → new ≡ old ++ filter t (take n (drop i ns)) → new ≡ filter t (take (i + n) ns)
-kept_more t ns old new i n e f = f ∙ (ap (λ (zs : Names). zs ++ filter t (take n (drop i ns))) e ∙ (sym (filter_append t (take i ns) (take n (drop i ns))) ∙ ap (filter t) (sym (take_more i n ns))))
+kept_more t ns old new i n e f = f ∙ (ap (λ (zs : Names). zs ++ filter t (take n (drop i ns))) e ∙ (sym (filter-append t (take i ns) (take n (drop i ns))) ∙ ap (filter t) (sym (take-add i n ns))))

@@ -16,6 +16,7 @@ ghost use Rattle.rls_steps.specs.Courses.{ident_of, below_or_none, place_over, r
 ghost use Rattle.rls_steps.specs.Recorded.{held_by};
 
 use crate::interval::Interval;
+use crate::labelling::push_rising;
 use crate::names::Names;
 use rls_doc::Document;
 use rls_ident::{Ident, rely};
@@ -96,13 +97,10 @@ fn push_row(places: &mut Vec<u64>, at: Option<u64>, count: u32) -> Result<(), Al
     requires end { IfSome at (λ p. p + count < 2 ^ 64) }
     ensures places { OnOk result (places.new.items ≡ places.old.items ++ row_places at count) }
 {
-    let Some(at) = at else {
-        return Ok(());
-    };
-    'places: for i in 0..count {
-        places.push(at + i as u64)?;
+    match at {
+        None => Ok(()),
+        Some(at) => push_rising(places, at, count),
     }
-    Ok(())
 }
 
 // Where the labels from one on follow one another, and their newest names stand in the text one behind another, and no other name of theirs
@@ -188,8 +186,8 @@ fn standing(replica: &Replica, run: &Run, at: u64) -> Result<u32, AllocError>
     Ok(run.len().min(other.len() - from))
 }
 
-// How many of the labels from one on, at most so many, follow one another.
-fn rising(labels: &[u64], from: usize, most: u32) -> u32
+/// How many of the labels from one on, at most so many, follow one another.
+pub(crate) fn rising(labels: &[u64], from: usize, most: u32) -> u32
     requires place { from < length labels.now }
     requires some { 0 < most }
     ensures some { 0 < result }
@@ -398,11 +396,22 @@ fn place_of(replica: &Replica, names: &Names, label: u64) -> Result<Option<u64>,
 fn gone(replica: &Replica, names: &Names, label: u64) -> Result<u64, AllocError>
     ensures gone { IfOk result (λ at. at ≡ below_or_none (idents_over replica.now) (ident_of (reverse names.now) label)) }
 {
-    match names.newest(label) {
+    let newest = newest_ident(names, label)?;
+    match newest {
         None => Ok(0),
+        Some(ident) => Ok(replica.count_below(&ident)),
+    }
+}
+
+/// The newest identifier of a label, if it has one. It costs a few searches.
+pub(crate) fn newest_ident(names: &Names, label: u64) -> Result<Option<Ident>, AllocError>
+    ensures ident { IfOk result (λ o. o ≡ ident_of (reverse names.now) label) }
+{
+    match names.newest(label) {
+        None => Ok(None),
         Some(at) => {
             let (ident, _) = names.name(at)?;
-            Ok(replica.count_below(&ident))
+            Ok(Some(ident))
         }
     }
 }

@@ -5,6 +5,7 @@ ghost use Rattle.rls_runs.specs.Runs.{run_idents};
 ghost use Rattle.rls_steps.specs.Labelled.{inserted_by};
 ghost use Rattle.rls_steps.specs.Marks.{numbers_from};
 
+use crate::finding::rising;
 use crate::name_run::NameRun;
 use crate::names::Names;
 use crate::pending::{add_pending, push_pending};
@@ -22,7 +23,7 @@ pub(crate) fn name_inserted(names: &mut Names, op: &Op, labels: &[u64]) -> Resul
     match &op.body {
         Body::Insert { first, text } => {
             let run = run_of(first, text.len())?;
-            match rising_from(labels, text.len()) {
+            match rising_from(labels, run.len()) {
                 Some(label) => name_run(names, &run, label),
                 None => name_apart(names, run, labels),
             }
@@ -46,19 +47,16 @@ fn run_of(first: &Ident, count: usize) -> Result<Run, AllocError>
 }
 
 // The first of so many labels, if they follow one another.
-fn rising_from(labels: &[u64], count: usize) -> Option<u64>
+fn rising_from(labels: &[u64], count: u32) -> Option<u64>
     ensures rising { IfSome result (λ l. labels.now ≡ numbers_from l count) }
 {
-    if count == 0 || labels.len() != count {
+    if count == 0 || labels.len() != count as usize {
         return None;
     }
-    let first = labels[0];
-    'labels: for i in 0..count {
-        if labels[i] < first || labels[i] - first != i as u64 {
-            return None;
-        }
+    if rising(labels, 0, count) < count {
+        return None;
     }
-    Some(first)
+    Some(labels[0])
 }
 
 // Gives the identifiers of a run labels that follow one another from this one on, the first identifier last.
@@ -74,7 +72,7 @@ fn name_run(names: &mut Names, run: &Run, label: u64) -> Result<(), AllocError>
     rely!(let _first = first.last());
     let last = first.shifted(more)?;
     rely!(let _last = last.last());
-    names.push_run(NameRun::falling(last, top, run.len()))?;
+    names.push_run(NameRun::new(last, top, true, run.len()))?;
     Ok(())
 }
 

@@ -75,7 +75,7 @@ fn give_next(
     let (run, at) = ids.locate(i);
     let rest = run.part(at, run.len() - at)?;
     let (first, count) = label_first(&rest, names, next)?;
-    push_labels(labels, first, count)?;
+    push_rising(labels, first, count)?;
     Ok(i + count as u64)
 }
 
@@ -121,19 +121,19 @@ fn name_first(
     let Some(more) = label.checked_add(count as u64) else {
         return Err(AllocError);
     };
-    names.push_run(NameRun::rising(key.ident, label, count))?;
+    names.push_run(NameRun::new(key.ident, label, false, count))?;
     rely!(names.apart());
     *next = more;
     Ok((label, count))
 }
 
-// So many more labels, which rise from this one on.
-fn push_labels(labels: &mut Vec<u64>, first: u64, count: u32) -> Result<(), AllocError>
+/// So many more numbers, which rise from this one on.
+pub(crate) fn push_rising(numbers: &mut Vec<u64>, first: u64, count: u32) -> Result<(), AllocError>
     requires room { first + count ≤ 2 ^ 64 }
-    ensures labels { OnOk result (labels.new.items ≡ labels.old.items ++ numbers_from first count) }
+    ensures numbers { OnOk result (numbers.new.items ≡ numbers.old.items ++ numbers_from first count) }
 {
-    'labels: for i in 0..count {
-        labels.push(first + i as u64)?;
+    'numbers: for i in 0..count {
+        numbers.push(first + i as u64)?;
     }
     Ok(())
 }

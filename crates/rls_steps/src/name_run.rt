@@ -46,28 +46,15 @@ impl NameRun {
         }
     }
 
-    // Names of which the oldest is this one, where the identifiers and the labels of the others rise. It takes no memory.
-    pub(crate) fn rising(first: Ident, label: u64, len: u32) -> NameRun
-        requires sound { IsStretch first label false len }
-        ensures run { result ≡ record { first = first; label = label; down = false; len = len } }
+    // Names of which the oldest is this one. The identifiers and the labels of the others fall, or rise. It takes no memory.
+    pub(crate) fn new(first: Ident, label: u64, down: bool, len: u32) -> NameRun
+        requires sound { IsStretch first label down len }
+        ensures run { result ≡ record { first = first; label = label; down = down; len = len } }
     {
         NameRun {
             first,
             label,
-            down: false,
-            len,
-        }
-    }
-
-    // Names of which the oldest is this one, where the identifiers and the labels of the others fall. It takes no memory.
-    pub(crate) fn falling(first: Ident, label: u64, len: u32) -> NameRun
-        requires sound { IsStretch first label true len }
-        ensures run { result ≡ record { first = first; label = label; down = true; len = len } }
-    {
-        NameRun {
-            first,
-            label,
-            down: true,
+            down,
             len,
         }
     }
@@ -187,19 +174,16 @@ impl NameRun {
         number_place(self.label, label, self.len)
     }
 
-    // The least identifier and the greatest one.
-    pub(crate) fn ends(&self) -> Result<(Ident, Ident), AllocError>
-        ensures all { IfOk result (λ e. (k : ℕ) → k < self.now.len → (j : ℕ) × (j < self.now.len) × ((name_at self.now k).0 ≡ shifted (pos j) e.0)) }
-        ensures each { IfOk result (λ e. (j : ℕ) → j < self.now.len → (k : ℕ) × (k < self.now.len) × ((name_at self.now k).0 ≡ shifted (pos j) e.0)) }
-        ensures high { IfOk result (λ e. e.1 ≡ shifted (pos (self.now.len - 1)) e.0) }
+    // The least identifier.
+    pub(crate) fn least(&self) -> Result<Ident, AllocError>
+        ensures all { IfOk result (λ x. (k : ℕ) → k < self.now.len → (j : ℕ) × (j < self.now.len) × ((name_at self.now k).0 ≡ shifted (pos j) x)) }
+        ensures each { IfOk result (λ x. (j : ℕ) → j < self.now.len → (k : ℕ) × (k < self.now.len) × ((name_at self.now k).0 ≡ shifted (pos j) x)) }
     {
         let count = self.len();
-        let last = self.ident(count - 1)?;
-        let first = self.first.copy()?;
         if self.down {
-            return Ok((last, first));
+            return self.ident(count - 1);
         }
-        Ok((first, last))
+        self.first.copy()
     }
 
     // The least label and the greatest one.
@@ -266,7 +250,7 @@ impl NameRun {
         ensures outside { IfOk result (λ n. AreOutside self.now low.now n) }
     {
         rely!(let (_len, _low) = (self.len(), low.last()));
-        let (least, _) = self.ends()?;
+        let least = self.least()?;
         match place_from(low, &least, most) {
             None => Ok(most),
             Some(place) => Ok(place as u32),

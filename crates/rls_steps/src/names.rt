@@ -264,8 +264,9 @@ impl Names {
         ensures front { take (length self.old) self.new ≡ self.old }
         ensures fewer { IfOk result (λ rest. length (names_in rest) < run.len) }
     {
-        let (low, _) = run.ends()?;
-        let low = Key { ident: low };
+        let low = Key {
+            ident: run.least()?,
+        };
         let free = is_free(&self.runs, &self.firsts, &low, run.len() as u32)?;
         if !free {
             return Err(AllocError);

@@ -10,6 +10,7 @@ ghost use Rattle.rls_steps.specs.Tables.{IsRising, given_labels};
 ghost use Rattle.rls_steps.specs.Bounds.{IsLatest};
 ghost use Rattle.rls_steps.specs.Sweeping.{piece_labels, step_labels, is_needed, is_newest, is_kept, kept_names};
 
+use crate::finding::newest_ident;
 use crate::name_run::NameRun;
 use crate::names::Names;
 use crate::pending::{add_pending, push_pending};
@@ -224,11 +225,9 @@ fn is_needed(labels: &[u64], label: u64) -> bool
 fn is_newest(names: &Names, ident: &Ident, label: u64) -> Result<bool, AllocError>
     ensures newest { IfOk result (λ b. b ≡ is_newest (reverse names.now) (ident.now, label)) }
 {
-    match names.newest(label) {
+    let newest = newest_ident(names, label)?;
+    match newest {
         None => Ok(false),
-        Some(at) => {
-            let (newest, _) = names.name(at)?;
-            Ok(newest.compare(ident).is_eq())
-        }
+        Some(own) => Ok(own.compare(ident).is_eq()),
     }
 }

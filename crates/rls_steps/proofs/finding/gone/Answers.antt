@@ -1,25 +1,10 @@
-use Rattle.std.proofs.Common.{ℕ, List, sym, ap, ◌∙◌, arith}
-use Rattle.std.specs.Prelude.{reverse}
-use Rattle.std.proofs.lemmas.List.{length-reverse}
-use Rattle.rls_ident.specs.declared.tuple.Tuple.{Tuple}
-use Rattle.rls_runs.specs.Places.{below_count}
+use Rattle.std.proofs.Common.{sym, ap, ◌∙◌}
 use Rattle.rls_seen.specs.Seen.{idents_over}
 use Rattle.rls_steps.specs.Courses.{below_or_none}
-use Rattle.rls_steps.proofs.Walking.{newest_short, newest_ident, none_ident}
 use Rattle.rls_steps.proofs.finding.gone.Goals as goal
 
-pub name-requires : goal.name-requires
-name-requires c =
-    let short = newest_short (reverse c.args.names.now) c.args.label c.in-Some.at (sym c.in-Some.ensures.newest) in
-    let size = length-reverse c.args.names.now in
-    record { place = omega (arith, short, size) }
-
 pub returns-in-None : goal.returns-in-None
-returns-in-None c = record { gone = sym (ap (below_or_none (idents_over c.args.replica.now)) (none_ident (reverse c.args.names.now) c.args.label (sym c.in-None.ensures.newest))) }
+returns-in-None c = record { gone = ap (below_or_none (idents_over c.args.replica.now)) (sym c.in-None.is ∙ c.in_ok-newest.ensures.ident) }
 
-pub returns-in_ok-ident-in-Some : goal.returns-in_ok-ident-in-Some
-returns-in_ok-ident-in-Some c =
-    let xs = idents_over c.args.replica.now in
-    let r = newest_ident (reverse c.args.names.now) c.args.label c.in-Some.at (sym c.in-Some.ensures.newest) in
-    let name = ap (λ (m : List Tuple × ℕ). m.0) (c.in_ok-ident-in-Some.ensures.tail r.0 r.1 r.2) in
-    record { gone = c.count_below.ensures.count ∙ (ap (below_count xs) name ∙ sym (ap (below_or_none xs) r.3)) }
+pub returns-in-Some : goal.returns-in-Some
+returns-in-Some c = record { gone = c.count_below.ensures.count ∙ ap (below_or_none (idents_over c.args.replica.now)) (sym c.in-Some.is ∙ c.in_ok-newest.ensures.ident) }

@@ -2,9 +2,10 @@ use Rattle.std.proofs.Common.{◌≡◌, ◌+◌, ◌-◌, ◌<◌, ◌++◌, le
 use Rattle.std.specs.Prelude.{reverse, zip}
 use Rattle.std.proofs.lemmas.Option.{slice_get-get_or}
 use Rattle.std.proofs.lemmas.List.{append-nil}
+use Rattle.std.proofs.Math.Seq.{take-length}
 use Rattle.rls_steps.specs.Labelled.{Names}
 use Rattle.rls_steps.specs.NameRuns.{names_in, names_of}
-use Rattle.rls_steps.proofs.Giving.{front_stays, front_trans, front_whole}
+use Rattle.rls_steps.proofs.Giving.{front_stays, front_trans}
 use Rattle.rls_steps.proofs.Zipping.{named_next, zip_end}
 use Rattle.rls_steps.proofs.inserting.name_all.Goals as goal
 
@@ -18,7 +19,7 @@ names-init c =
       ids = omega (arith, e, t);
       labels = omega (arith, e);
       named = ap reverse (append-nil c.args.names.now) ∙ ap (λ (zs : Names). zs ++ reverse c.args.names.now) (sym (zip_end xs ls c.min-i.result (omega (arith, e, t))));
-      front = front_whole c.args.names.now;
+      front = take-length c.args.names.now;
     }
 
 pub names-preserved : goal.names-preserved

@@ -9,8 +9,8 @@ use Rattle.rls_steps.proofs.FreeRuns.{falling_named}
 use Rattle.rls_steps.proofs.Stretches.{down_within}
 use Rattle.rls_steps.proofs.inserting.name_run.Goals as goal
 
-pub falling-requires : goal.falling-requires
-falling-requires c =
+pub new-requires : goal.new-requires
+new-requires c =
     let x = c.in_ok-last.last in
     let more = c.len-more.result - 1 in
     let first = c.last-first.ensures in
@@ -36,4 +36,4 @@ returns-clause-ok c =
     ∙ (ap (λ m. shifted (pos (m - 1)) c.first-first.result.now) same ∙ ap (shifted (pos (n - 1))) c.first-first.ensures.first) in
     let top : c.in-Some.top ≡ label + (n - 1) = let w = c.in-Some.ensures in omega (arith, w, same) in
     subst (λ m. reverse new ≡ zip (run_idents run.0 m) (numbers_from label m) ++ reverse old) size
-    (falling_named old new c.falling.result run.0 c.in_ok-last.last label c.in-Some.top n c.in_ok-push_run.ensures.names c.falling.ensures.run last top (omega (arith, some, size)))
+    (falling_named old new c.new.result run.0 c.in_ok-last.last label c.in-Some.top n c.in_ok-push_run.ensures.names c.new.ensures.run last top (omega (arith, some, size)))

@@ -1,10 +1,11 @@
-use Rattle.std.proofs.Common.{get_or, arith}
-use Rattle.std.proofs.lemmas.Option.{slice_get-get_or}
-use Rattle.rls_steps.proofs.FreeRuns.{rising_next}
+use Rattle.std.proofs.Common.{◌≡◌, take, sym, ◌∙◌, subst, arith}
+use Rattle.std.specs.Prelude.{slice_index}
+use Rattle.std.proofs.lemmas.List.{take_all}
+use Rattle.rls_steps.specs.Marks.{numbers_from}
 use Rattle.rls_steps.proofs.inserting.rising_from.Goals as goal
 
-pub labels-preserved : goal.labels-preserved
-labels-preserved c =
+pub returns : goal.returns
+returns c =
     let ls = c.args.labels.now in
-    let i = c.labels.i in
-    record { front = rising_next ls (get_or ls 0 0) i (get_or ls i 0) (slice_get-get_or ls i 0 (omega (arith, c.labels-test.true))) (omega arith) c.labels.invariant.front }
+    let all : c.rising.result ≡ c.args.count = omega arith in
+    record { rising = sym (take_all c.args.count ls (omega arith)) ∙ subst (λ n. take n ls ≡ numbers_from (slice_index ls 0) n) all c.rising.ensures.rising }

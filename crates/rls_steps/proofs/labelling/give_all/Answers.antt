@@ -1,12 +1,13 @@
 use Rattle.std.proofs.Common.{◌≡◌, length, map, take, refl, ap, ◌∙◌, arith}
 use Rattle.std.specs.Prelude.{reverse, Some}
+use Rattle.std.proofs.Math.Seq.{take-length}
 use Rattle.rls_steps.specs.Labelled.{label_all, label_of}
 use Rattle.rls_steps.specs.Recorded.{held_by}
-use Rattle.rls_steps.proofs.Giving.{front_trans, front_whole}
+use Rattle.rls_steps.proofs.Giving.{front_trans}
 use Rattle.rls_steps.proofs.labelling.give_all.Goals as goal
 
 pub labels-init : goal.labels-init
-labels-init c = record { within = omega arith; held = λ s. refl; labels = λ s. ap (map Some) c.in_ok-labels.ensures.items; front = front_whole c.args.names.now }
+labels-init c = record { within = omega arith; held = λ s. refl; labels = λ s. ap (map Some) c.in_ok-labels.ensures.items; front = take-length c.args.names.now }
 
 pub labels-preserved : goal.labels-preserved
 labels-preserved c = record {
@@ -24,11 +25,11 @@ returns-clause-given c = λ s.
     let ids = c.args.ids.now in
     let total = c.total-total.ensures.total in
     let size : c.labels.i ≡ length ids = omega (arith, c.labels.invariant.within, c.labels-test.false, total) in
-    c.labels.invariant.held s ∙ ap (label_all (held_by s c.args.next.now c.args.names.now)) (ap (λ n. take n ids) size ∙ front_whole ids)
+    c.labels.invariant.held s ∙ ap (label_all (held_by s c.args.next.now c.args.names.now)) (ap (λ n. take n ids) size ∙ take-length ids)
 
 pub returns-clause-labels : goal.returns-clause-labels
 returns-clause-labels c = λ s.
     let ids = c.args.ids.now in
     let total = c.total-total.ensures.total in
     let size : c.labels.i ≡ length ids = omega (arith, c.labels.invariant.within, c.labels-test.false, total) in
-    c.labels.invariant.labels s ∙ ap (map (label_of (reverse c.labels.names))) (ap (λ n. take n ids) size ∙ front_whole ids)
+    c.labels.invariant.labels s ∙ ap (map (label_of (reverse c.labels.names))) (ap (λ n. take n ids) size ∙ take-length ids)

@@ -30,5 +30,5 @@ pub returns-clause-labels : goal.returns-clause-labels
 returns-clause-labels c =
     let part =
     located c.args.ids.now c.locate-at.result.0.now c.in_ok-rest.rest c.args.i c.locate-at.result.1 c.in_ok-first.count c.len.result c.locate-at.ensures.idents c.in_ok-rest.ensures.part c.len.ensures.len c.in_ok-first.ensures.most in
-    λ s old. next_labels (held_by s c.args.next.now c.args.names.now) (held_by s c.label_first.new.next c.label_first.new.names) c.args.ids.now c.in_ok-rest.rest.0 c.args.i c.in_ok-first.count c.in_ok-first.first c.args.labels.now.items c.push_labels.new.labels.items part
-    (c.in_ok-first.ensures.given s) c.in_ok-first.ensures.labels c.in_ok-push_labels.ensures.labels old
+    λ s old. next_labels (held_by s c.args.next.now c.args.names.now) (held_by s c.label_first.new.next c.label_first.new.names) c.args.ids.now c.in_ok-rest.rest.0 c.args.i c.in_ok-first.count c.in_ok-first.first c.args.labels.now.items c.push_rising.new.numbers.items part
+    (c.in_ok-first.ensures.given s) c.in_ok-first.ensures.labels c.in_ok-push_rising.ensures.numbers old

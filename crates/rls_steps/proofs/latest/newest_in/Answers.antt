@@ -1,4 +1,4 @@
-use Rattle.std.proofs.Common.{◌≡◌, ◌+◌, ◌-◌, length, take, get_or, refl, sym, ap, ◌∙◌, arith}
+use Rattle.std.proofs.Common.{◌≡◌, ◌+◌, ◌-◌, length, take, refl, sym, ap, ◌∙◌, arith}
 use Rattle.std.specs.Prelude.{reverse}
 use Rattle.std.proofs.lemmas.Option.{slice_get_read, slice_get-get_or}
 use Rattle.rls_steps.specs.NameRuns.{named}
@@ -18,45 +18,35 @@ pub overflow_add-result : goal.overflow_add-result
 overflow_add-result c =
     let rs = c.args.runs.now in
     let ss = c.args.starts.now in
-    let k = c.runs.i - 1 in
-    let end = c.requires.count in
-    let within = c.runs.invariant.within in
-    let g = slice_get_read rs (length rs) k c.index-runs-i.result refl (omega (arith, end, within, c.runs-test.true)) c.index-runs-i.is in
+    let g = slice_get_read rs (length rs) (c.runs.i - 1) c.index-runs-i.result refl (omega (arith, c.requires.count, c.runs.invariant.within, c.runs-test.true)) c.index-runs-i.is in
     let long = ap length c.requires.starts ∙ starts_long 0 rs in
-    let at = slice_get-get_or ss k 0 (omega (arith, long, end, within, c.runs-test.true)) in
-    let few = c.requires.few in
-    let here = place_few rs ss k (get_or ss k 0) c.in-Some.place c.index-runs-i.result c.requires.starts g at c.in-Some.ensures.found.0 in
-    omega (arith, few, here)
+    let at = slice_get-get_or ss (c.runs.i - 1) 0 (omega (arith, long, c.requires.count, c.runs.invariant.within, c.runs-test.true)) in
+    let here = place_few rs ss _ _ c.in-Some.place c.index-runs-i.result c.requires.starts g at c.in-Some.ensures.found.0 in
+    omega (arith, c.requires.few, here)
 
 pub runs-preserved : goal.runs-preserved
 runs-preserved c =
     let rs = c.args.runs.now in
-    let k = c.runs.i - 1 in
-    let end = c.requires.count in
-    let within = c.runs.invariant.within in
-    let back : k + 1 ≡ c.runs.i = omega (arith, c.runs-test.true) in
-    let g = slice_get_read rs (length rs) k c.index-runs-i.result refl (omega (arith, end, within, c.runs-test.true)) c.index-runs-i.is in
+    let back : c.runs.i - 1 + 1 ≡ c.runs.i = omega (arith, c.runs-test.true) in
+    let g = slice_get_read rs (length rs) (c.runs.i - 1) c.index-runs-i.result refl (omega (arith, c.requires.count, c.runs.invariant.within, c.runs-test.true)) c.index-runs-i.is in
     record {
-      within = omega (arith, within);
+      within = omega (arith, c.runs.invariant.within);
       same = c.runs.invariant.same
-          ∙ (ap (λ j. newest_at (reverse (named (take j rs))) c.args.label) (sym back) ∙ run_missed rs k c.args.label c.index-runs-i.result g (c.find_label.ensures.missed c.in_default.is));
+          ∙ (ap (λ j. newest_at (reverse (named (take j rs))) c.args.label) (sym back) ∙ run_missed rs (c.runs.i - 1) c.args.label c.index-runs-i.result g (c.find_label.ensures.missed c.in_default.is));
     }
 
 pub returns-in-Some : goal.returns-in-Some
 returns-in-Some c =
     let rs = c.args.runs.now in
     let ss = c.args.starts.now in
-    let k = c.runs.i - 1 in
-    let end = c.requires.count in
-    let within = c.runs.invariant.within in
-    let back : k + 1 ≡ c.runs.i = omega (arith, c.runs-test.true) in
-    let g = slice_get_read rs (length rs) k c.index-runs-i.result refl (omega (arith, end, within, c.runs-test.true)) c.index-runs-i.is in
+    let back : c.runs.i - 1 + 1 ≡ c.runs.i = omega (arith, c.runs-test.true) in
+    let g = slice_get_read rs (length rs) (c.runs.i - 1) c.index-runs-i.result refl (omega (arith, c.requires.count, c.runs.invariant.within, c.runs-test.true)) c.index-runs-i.is in
     let long = ap length c.requires.starts ∙ starts_long 0 rs in
-    let at = slice_get-get_or ss k 0 (omega (arith, long, end, within, c.runs-test.true)) in
+    let at = slice_get-get_or ss (c.runs.i - 1) 0 (omega (arith, long, c.requires.count, c.runs.invariant.within, c.runs-test.true)) in
     record {
       newest = sym (c.runs.invariant.same
           ∙ (ap (λ j. newest_at (reverse (named (take j rs))) c.args.label) (sym back)
-          ∙ run_found rs ss k c.args.label c.in-Some.place (get_or ss k 0) c.index-runs-i.result c.requires.sound c.requires.starts g at c.in-Some.ensures.found.0 c.in-Some.ensures.found.1));
+          ∙ run_found rs ss _ c.args.label c.in-Some.place _ c.index-runs-i.result c.requires.sound c.requires.starts g at c.in-Some.ensures.found.0 c.in-Some.ensures.found.1));
     }
 
 pub returns : goal.returns

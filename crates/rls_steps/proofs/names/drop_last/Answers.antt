@@ -1,4 +1,4 @@
-use Rattle.std.proofs.Common.{◌≡◌, ◌-◌, ◌∷◌, [], List, length, length-append, take, sym, ap, ◌∙◌, subst, arith}
+use Rattle.std.proofs.Common.{◌≡◌, ℕ, ◌-◌, ◌<◌, ◌∷◌, [], List, length, length-append, get_or, take, sym, ap, ◌∙◌, subst, arith}
 use Rattle.std.specs.Prelude.{reverse}
 use Rattle.rls_steps.specs.NameRuns.{Stretch, AreKept, named}
 use Rattle.rls_steps.specs.Index.{AreApart}
@@ -7,14 +7,14 @@ use Rattle.rls_steps.proofs.Indexing.{same_last, last_less, last_fewer, last_kep
 use Rattle.rls_steps.proofs.Bounded.{less_popped}
 use Rattle.rls_steps.proofs.names.drop_last.Goals as goal
 
+-- the last run has more than one name
+many : (rs : List Stretch) (n m : ℕ) (r q : Stretch) → n ≡ length rs → 0 < length rs → r ≡ get_or rs (n - 1) r → q ≡ get_or rs (n - 1) q → m ≡ r.len → 1 < m → 1 < q.len
+many rs n m r q e some is own len h = let size = len ∙ ap (λ (s : Stretch). s.len) (same_last rs n r q e some is own) in omega (arith, size, h)
+
 pub returns-then-len-gt1-clause-names : goal.returns-then-len-gt1-clause-names
 returns-then-len-gt1-clause-names c =
-    let rs = c.args.runs.now.items in
-    let n : c.len-last.result ≡ length rs = omega arith in
-    let same = same_last rs c.len-last.result c.index.result.now c.index_mut.result.now n c.requires.some c.index.ensures c.index_mut.ensures.value in
-    let size = c.len.ensures.len ∙ ap (λ (r : Stretch). r.len) same in
-    let more = c.if-len-gt1.true in
-    last_less rs c.len-last.result c.index_mut.result.now c.shorten.new.self n c.requires.some c.index_mut.ensures.value (omega (arith, size, more)) c.shorten.ensures.shorter
+    let more = many c.args.runs.now.items c.len-last.result c.len.result c.index.result.now c.index_mut.result.now (omega arith) c.requires.some c.index.ensures c.index_mut.ensures.value c.len.ensures.len c.if-len-gt1.true in
+    last_less c.args.runs.now.items c.len-last.result c.index_mut.result.now c.shorten.new.self (omega arith) c.requires.some c.index_mut.ensures.value more c.shorten.ensures.shorter
 
 pub returns-then-len-gt1-clause-kept : goal.returns-then-len-gt1-clause-kept
 returns-then-len-gt1-clause-kept c =
@@ -24,12 +24,8 @@ returns-then-len-gt1-clause-kept c =
 
 pub returns-then-len-gt1-clause-fewer : goal.returns-then-len-gt1-clause-fewer
 returns-then-len-gt1-clause-fewer c =
-    let rs = c.args.runs.now.items in
-    let n : c.len-last.result ≡ length rs = omega arith in
-    let same = same_last rs c.len-last.result c.index.result.now c.index_mut.result.now n c.requires.some c.index.ensures c.index_mut.ensures.value in
-    let size = c.len.ensures.len ∙ ap (λ (r : Stretch). r.len) same in
-    let more = c.if-len-gt1.true in
-    last_fewer rs c.len-last.result c.index_mut.result.now c.shorten.new.self n c.requires.some c.index_mut.ensures.value (omega (arith, size, more)) c.shorten.ensures.shorter
+    let more = many c.args.runs.now.items c.len-last.result c.len.result c.index.result.now c.index_mut.result.now (omega arith) c.requires.some c.index.ensures c.index_mut.ensures.value c.len.ensures.len c.if-len-gt1.true in
+    last_fewer c.args.runs.now.items c.len-last.result c.index_mut.result.now c.shorten.new.self (omega arith) c.requires.some c.index_mut.ensures.value more c.shorten.ensures.shorter
 
 pub returns-clause-names : goal.returns-clause-names
 returns-clause-names c =

@@ -5,10 +5,11 @@ use Rattle.rls_seen.specs.Edits.{edit_fault_over, IsFault}
 use Rattle.rls_seen.specs.Seen.{Seen, text_over}
 use Rattle.rls_steps.specs.Labelled.{Names, Labelled}
 use Rattle.std.proofs.lemmas.Option.{slice_get_read}
+use Rattle.rls_changes.proofs.Calls.{cut_back}
 use Rattle.rls_steps.specs.Recorded.{held_by}
 use Rattle.rls_steps.proofs.Cutting.{next_cut, fault_at, part_cut}
 use Rattle.rls_steps.proofs.EditsTold.{range_edits}
-use Rattle.rls_steps.proofs.StepChanged.{cut_back, next_range, ranges_told}
+use Rattle.rls_steps.proofs.StepChanged.{next_range, ranges_told}
 use Rattle.rls_steps.proofs.returning.cut_all.Goals as goal
 
 pub cuts-preserved : goal.cuts-preserved

@@ -1,8 +1,9 @@
 use Rattle.std.proofs.Common.{◌∙◌}
+use Rattle.rls_changes.proofs.Calls.{cut_back}
 use Rattle.rls_steps.specs.Recorded.{held_by}
 use Rattle.rls_steps.proofs.Cutting.{put_done, put_fault}
 use Rattle.rls_steps.proofs.EditsTold.{put_edits}
-use Rattle.rls_steps.proofs.StepChanged.{cut_back, none_told, put_told}
+use Rattle.rls_steps.proofs.StepChanged.{none_told, put_told}
 use Rattle.rls_steps.proofs.returning.put_back.Goals as goal
 
 pub returns-in-Ok-put-clause-fits : goal.returns-in-Ok-put-clause-fits

@@ -1,5 +1,6 @@
 use Rattle.std.proofs.Common.{◌≡◌, ℕ, ◌++◌, List, true, take, drop, ap, sym, subst, arith}
 use Rattle.std.specs.Prelude.{filter, reverse, Option, IfSome}
+use Rattle.rls_ident.proofs.Positions.{get_of}
 use Rattle.rls_ident.specs.declared.tuple.Tuple.{Tuple}
 use Rattle.rls_ident.specs.Lists.{IsIn}
 use Rattle.rls_seen.specs.Seen.{idents_over}
@@ -7,7 +8,6 @@ use Rattle.rls_steps.specs.Labelled.{Names}
 use Rattle.rls_steps.specs.NameRuns.{Stretch, names_in, names_of}
 use Rattle.rls_steps.specs.Bounds.{IsLatest}
 use Rattle.rls_steps.specs.Sweeping.{is_kept, is_needed}
-use Rattle.rls_steps.proofs.Swept.{there_at}
 use Rattle.rls_steps.proofs.SweptRuns.{one_kept, rising_sorted, run_kept, run_within}
 use Rattle.rls_steps.proofs.sweeping.add_next.Goals as goal
 
@@ -40,5 +40,5 @@ pub returns-in_ok-run-in-None-clause-kept : goal.returns-in_ok-run-in-None-claus
 returns-in_ok-run-in-None-clause-kept c =
     let xs = idents_over c.args.replica.now in
     let ns = c.args.names.now in
-    let x = there_at ns c.args.i c.requires.place in
+    let x = get_of ns c.args.i c.requires.place in
     one_kept (is_kept xs c.args.labels.now (reverse ns)) ns (c.args.kept.now ++ names_in c.args.last) (c.add_kept.new.kept ++ names_in c.in_ok-run-in-None.run') c.args.i x.0 x.1 (c.in_ok-run-in-None.ensures.kept x.0 x.1)

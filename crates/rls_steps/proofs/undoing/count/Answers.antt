@@ -1,5 +1,6 @@
 use Rattle.std.proofs.Common.{arith}
-use Rattle.rls_steps.proofs.Grouping.{count_next, count_all, some_at}
+use Rattle.rls_ident.proofs.Positions.{get_of}
+use Rattle.rls_steps.proofs.Grouping.{count_next, count_all}
 use Rattle.rls_steps.proofs.undoing.count.Goals as goal
 
 pub steps-preserved : goal.steps-preserved
@@ -7,7 +8,7 @@ steps-preserved c =
     let xs = c.args.steps.now.items in
     let v = c.steps.invariant in
     let n = c.opens-count.ensures in
-    let g = some_at xs c.steps.i (omega (arith, c.steps-test.true)) in
+    let g = get_of xs c.steps.i (omega (arith, c.steps-test.true)) in
     let e = count_next xs c.steps.i g.0 c.opens-count.result g.1 (n.opens g.0 g.1) in
     record {
       few = omega (arith, v.few, n.few);

@@ -1,34 +1,31 @@
-use Rattle.std.proofs.Common.{◌≡◌, ◌<◌, ◌-◌, length, sym, ap, ◌∙◌, subst, arith}
-use Rattle.rls_steps.specs.NameRuns.{Stretch, name_at, names_by, names_of}
+use Rattle.std.proofs.Common.{◌≡◌, ℕ, ◌<◌, ◌≤◌, ◌++◌, ◌-◌, List, length, sym, ap, ◌∙◌, subst, arith}
+use Rattle.rls_ident.specs.declared.tuple.Tuple.{Tuple}
+use Rattle.rls_steps.specs.NameRuns.{Stretch, IsStretch, name_at, names_by, names_of}
 use Rattle.rls_steps.proofs.CutRuns.{cut_names, cut_fewer, cut_sound}
 use Rattle.rls_steps.proofs.name_run.NameRun.cut.Goals as goal
 
+-- what is said of the run holds of its fields
+module _ (r q : Stretch) (n m : ℕ) (y : List Tuple) (is : r ≡ q) where
+  rest_sound : IsStretch r.first r.label r.down r.len → y ≡ (name_at q n).0 → m ≡ (name_at q n).1 → n < r.len → IsStretch y m r.down (r.len - n)
+  rest_sound s x l h = cut_sound r n m y s (x ∙ ap (λ (p : Stretch). (name_at p n).0) (sym is)) (l ∙ ap (λ (p : Stretch). (name_at p n).1) (sym is)) h
+
+  rest_names : y ≡ (name_at q n).0 → m ≡ (name_at q n).1 → n ≤ r.len → names_of q ≡ names_by r.down r.first r.label 0 n ++ names_by r.down y m 0 (r.len - n)
+  rest_names x l h = ap names_of (sym is) ∙ cut_names r n m y (x ∙ ap (λ (p : Stretch). (name_at p n).0) (sym is)) (l ∙ ap (λ (p : Stretch). (name_at p n).1) (sym is)) h
+
+  rest_fewer : 0 < n → n < r.len → length (names_by r.down y m 0 (r.len - n)) < q.len
+  rest_fewer some h = subst (λ k. length (names_by r.down y m 0 (r.len - n)) < k) (ap (λ (p : Stretch). p.len) is) (cut_fewer r n m y some h)
+
 pub invariant_of-rest : goal.invariant_of-rest
 invariant_of-rest c =
-    let s : Stretch = record { first = c.self.inside.first; label = c.self.inside.label; down = c.self.inside.down; len = c.self.inside.len } in
-    let e : c.args.self ≡ s = sym c.self.view_is in
-    let x = c.in_ok-ident.ensures.ident ∙ ap (λ (r : Stretch). (name_at r c.args.count).0) e in
-    let l = c.label.ensures.label ∙ ap (λ (r : Stretch). (name_at r c.args.count).1) e in
-    let most = c.requires.most in
-    let size = ap (λ (r : Stretch). r.len) e in
-    cut_sound s c.args.count c.label.result c.in_ok-ident.field-0 c.self.invariant x l (omega (arith, most, size, c.if-count-self.false))
+    let size = ap (λ (r : Stretch). r.len) c.self.view_is in
+    rest_sound _ _ c.args.count _ _ c.self.view_is c.self.invariant c.in_ok-ident.ensures.ident c.label.ensures.label (omega (arith, c.requires.most, size, c.if-count-self.false))
 
 pub returns-clause-names : goal.returns-clause-names
 returns-clause-names c =
-    let s : Stretch = record { first = c.self.inside.first; label = c.self.inside.label; down = c.self.inside.down; len = c.self.inside.len } in
-    let e : c.args.self ≡ s = sym c.self.view_is in
-    let x = c.in_ok-ident.ensures.ident ∙ ap (λ (r : Stretch). (name_at r c.args.count).0) e in
-    let l = c.label.ensures.label ∙ ap (λ (r : Stretch). (name_at r c.args.count).1) e in
-    let most = c.requires.most in
-    let size = ap (λ (r : Stretch). r.len) e in
-    ap names_of e ∙ cut_names s c.args.count c.label.result c.in_ok-ident.field-0 x l (omega (arith, most, size))
+    let size = ap (λ (r : Stretch). r.len) c.self.view_is in
+    rest_names _ _ c.args.count _ _ c.self.view_is c.in_ok-ident.ensures.ident c.label.ensures.label (omega (arith, c.requires.most, size))
 
 pub returns-clause-fewer : goal.returns-clause-fewer
 returns-clause-fewer c =
-    let s : Stretch = record { first = c.self.inside.first; label = c.self.inside.label; down = c.self.inside.down; len = c.self.inside.len } in
-    let e : c.args.self ≡ s = sym c.self.view_is in
-    let most = c.requires.most in
-    let some = c.requires.some in
-    let size = ap (λ (r : Stretch). r.len) e in
-    subst (λ n. length (names_by s.down c.in_ok-ident.field-0 c.label.result 0 (s.len - c.args.count)) < n) (sym size)
-    (cut_fewer s c.args.count c.label.result c.in_ok-ident.field-0 some (omega (arith, most, size, c.if-count-self.false)))
+    let size = ap (λ (r : Stretch). r.len) c.self.view_is in
+    rest_fewer _ _ c.args.count c.label.result c.in_ok-ident.field-0 c.self.view_is c.requires.some (omega (arith, c.requires.most, size, c.if-count-self.false))

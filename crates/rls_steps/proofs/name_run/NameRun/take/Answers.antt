@@ -1,80 +1,54 @@
-use Rattle.std.proofs.Common.{◌≡◌, ◌+◌, ◌∷◌, [], ◌++◌, true, false, refl, sym, ap, ◌∙◌, subst, arith}
+use Rattle.std.proofs.Common.{◌≡◌, ℕ, ◌+◌, ◌<◌, ◌^◌, ◌∷◌, [], ◌++◌, Bool, true, false, List, refl, sym, ap, ◌∙◌, subst, arith}
 use Rattle.std.specs.Prelude.{pos}
-use Rattle.rls_ident.specs.Identifiers.{shifted, is_last_bounded}
+use Rattle.rls_ident.specs.declared.tuple.Tuple.{Tuple}
+use Rattle.rls_ident.specs.Identifiers.{IsIdent, shifted, is_last_bounded, last_of}
 use Rattle.rls_steps.specs.NameRuns.{Stretch, IsStretch, names_of, names_by}
 use Rattle.rls_steps.proofs.Stretches.{taken_up, taken_down, up_within, down_within}
 use Rattle.rls_steps.proofs.name_run.NameRun.take.Goals as goal
 
+-- what is said of the run holds of its fields, of which one is greater now
+grown : (d : Bool) (r q : Stretch) (n : ℕ) → r ≡ q → r.len + 1 ≡ n → IsIdent r.first → (IsIdent q.first → IsStretch q.first q.label d (q.len + 1)) → IsStretch r.first r.label d n
+grown d r q n e more i h =
+    let whole = h (subst (λ (s : Stretch). IsIdent s.first) e i) in
+    subst (λ m. IsStretch r.first r.label d m) more (subst (λ (s : Stretch). IsStretch s.first s.label d (s.len + 1)) (sym e) whole)
+
+grown_up : (r q : Stretch) (x : List Tuple) (l n : ℕ) → r ≡ q → r.len + 1 ≡ n → IsIdent r.first → x ≡ shifted (pos q.len) q.first → is_last_bounded (last_of x) ≡ true → l ≡ q.label + q.len → l < 2 ^ 64 → IsStretch r.first r.label false n
+grown_up r q x l n e more i f b g h = grown false r q n e more i (λ j. up_within q.first x q.label l q.len j f b g h)
+
+grown_down : (r q : Stretch) (x : List Tuple) (l n : ℕ) → r ≡ q → r.len + 1 ≡ n → IsIdent r.first → IsIdent x → q.first ≡ shifted (pos q.len) x → is_last_bounded (last_of x) ≡ true → l + q.len ≡ q.label → IsStretch r.first r.label true n
+grown_down r q x l n e more i own f b g = grown true r q n e more i (λ j. down_within q.first x q.label l q.len j own f b g)
+
+more_names : (d : Bool) (r q : Stretch) (n : ℕ) (x : List Tuple) (l : ℕ) → r ≡ q → r.len + 1 ≡ n → names_by d q.first q.label 0 (q.len + 1) ≡ names_of q ++ (x, l) ∷ [] → names_by d r.first r.label 0 n ≡ names_of q ++ (x, l) ∷ []
+more_names d r q n x l e more h = ap (names_by d r.first r.label 0) (sym more) ∙ (ap (λ (s : Stretch). names_by d s.first s.label 0 (s.len + 1)) e ∙ h)
+
 pub invariant_of-self : goal.invariant_of-self
 invariant_of-self c =
-    let s = c.self.inside in
-    let e = c.self.view_is in
-    let more : s.len + 1 ≡ c.in-Some.len = let w = c.in-Some.ensures in omega (arith, w) in
-    let x = c.args.ident.now in
-    let last = c.last-last.ensures in
-    let bounded = ap is_last_bounded last.last ∙ last.last_bounded in
-    let ident = subst (λ (r : Stretch). x ≡ shifted (pos r.len) r.first) (sym e) (c.if-goes_up.ensures.ident refl) in
-    let label = subst (λ (r : Stretch). c.args.label ≡ r.label + r.len) (sym e) (c.if-goes_up.ensures.label refl) in
-    subst (λ n. IsStretch s.first s.label false n) more (up_within s.first x s.label c.args.label s.len c.self.invariant.ident ident bounded label c.ranges.label.fits)
+    let more : c.self.inside.len + 1 ≡ c.in-Some.len = let w = c.in-Some.ensures in omega (arith, w) in
+    grown_up _ _ c.args.ident.now c.args.label _ c.self.view_is more c.self.invariant.ident (c.if-goes_up.ensures.ident refl) (ap is_last_bounded c.last-last.ensures.last ∙ c.last-last.ensures.last_bounded) (c.if-goes_up.ensures.label refl) c.ranges.label.fits
 
 pub returns-then-goes_up-clause-more : goal.returns-then-goes_up-clause-more
-returns-then-goes_up-clause-more c =
-    let s = c.self.inside in
-    let e = c.self.view_is in
-    let more : s.len + 1 ≡ c.in-Some.len = let w = c.in-Some.ensures in omega (arith, w) in
-    let x = c.args.ident.now in
-    let last = c.last-last.ensures in
-    let bounded = ap is_last_bounded last.last ∙ last.last_bounded in
-    let names = subst (λ (r : Stretch). names_of r ≡ names_by false r.first r.label 0 r.len) (sym e) (c.if-goes_up.ensures.names refl) in
-    let ident = subst (λ (r : Stretch). x ≡ shifted (pos r.len) r.first) (sym e) (c.if-goes_up.ensures.ident refl) in
-    let label = subst (λ (r : Stretch). c.args.label ≡ r.label + r.len) (sym e) (c.if-goes_up.ensures.label refl) in
-    λ t. ap (names_by false s.first s.label 0) (sym more) ∙ (taken_up s.down s.first x s.label c.args.label s.len names ident label ∙ ap (λ (r : Stretch). names_of r ++ (x, c.args.label) ∷ []) e)
+returns-then-goes_up-clause-more c = λ t.
+    let q = c.args.self.now in
+    let more : c.self.inside.len + 1 ≡ c.in-Some.len = let w = c.in-Some.ensures in omega (arith, w) in
+    more_names false _ q _ _ _ c.self.view_is more (taken_up q.down q.first c.args.ident.now q.label c.args.label q.len (c.if-goes_up.ensures.names refl) (c.if-goes_up.ensures.ident refl) (c.if-goes_up.ensures.label refl))
 
 pub returns-then-goes_up-clause-sound : goal.returns-then-goes_up-clause-sound
 returns-then-goes_up-clause-sound c =
-    let s = c.self.inside in
-    let e = c.self.view_is in
-    let more : s.len + 1 ≡ c.in-Some.len = let w = c.in-Some.ensures in omega (arith, w) in
-    let x = c.args.ident.now in
-    let last = c.last-last.ensures in
-    let bounded = ap is_last_bounded last.last ∙ last.last_bounded in
-    let ident = subst (λ (r : Stretch). x ≡ shifted (pos r.len) r.first) (sym e) (c.if-goes_up.ensures.ident refl) in
-    let label = subst (λ (r : Stretch). c.args.label ≡ r.label + r.len) (sym e) (c.if-goes_up.ensures.label refl) in
-    subst (λ n. IsStretch s.first s.label false n) more (up_within s.first x s.label c.args.label s.len c.self.invariant.ident ident bounded label c.ranges.label.fits)
+    let more : c.self.inside.len + 1 ≡ c.in-Some.len = let w = c.in-Some.ensures in omega (arith, w) in
+    grown_up _ _ c.args.ident.now c.args.label _ c.self.view_is more c.self.invariant.ident (c.if-goes_up.ensures.ident refl) (ap is_last_bounded c.last-last.ensures.last ∙ c.last-last.ensures.last_bounded) (c.if-goes_up.ensures.label refl) c.ranges.label.fits
 
 pub invariant_of-self-then-goes_down : goal.invariant_of-self-then-goes_down
 invariant_of-self-then-goes_down c =
-    let s = c.self.inside in
-    let e = c.self.view_is in
-    let more : s.len + 1 ≡ c.in-Some.len = let w = c.in-Some.ensures in omega (arith, w) in
-    let x = c.args.ident.now in
-    let last = c.last-last.ensures in
-    let bounded = ap is_last_bounded last.last ∙ last.last_bounded in
-    let ident = subst (λ (r : Stretch). r.first ≡ shifted (pos r.len) x) (sym e) (c.if-goes_down.ensures.ident refl) in
-    let label = subst (λ (r : Stretch). c.args.label + r.len ≡ r.label) (sym e) (c.if-goes_down.ensures.label refl) in
-    subst (λ n. IsStretch s.first s.label true n) more (down_within s.first x s.label c.args.label s.len c.self.invariant.ident last.ident ident bounded label)
+    let more : c.self.inside.len + 1 ≡ c.in-Some.len = let w = c.in-Some.ensures in omega (arith, w) in
+    grown_down _ _ c.args.ident.now c.args.label _ c.self.view_is more c.self.invariant.ident c.last-last.ensures.ident (c.if-goes_down.ensures.ident refl) (ap is_last_bounded c.last-last.ensures.last ∙ c.last-last.ensures.last_bounded) (c.if-goes_down.ensures.label refl)
 
 pub returns-then-goes_down-clause-more : goal.returns-then-goes_down-clause-more
-returns-then-goes_down-clause-more c =
-    let s = c.self.inside in
-    let e = c.self.view_is in
-    let more : s.len + 1 ≡ c.in-Some.len = let w = c.in-Some.ensures in omega (arith, w) in
-    let x = c.args.ident.now in
-    let last = c.last-last.ensures in
-    let bounded = ap is_last_bounded last.last ∙ last.last_bounded in
-    let names = subst (λ (r : Stretch). names_of r ≡ names_by true r.first r.label 0 r.len) (sym e) (c.if-goes_down.ensures.names refl) in
-    let ident = subst (λ (r : Stretch). r.first ≡ shifted (pos r.len) x) (sym e) (c.if-goes_down.ensures.ident refl) in
-    let label = subst (λ (r : Stretch). c.args.label + r.len ≡ r.label) (sym e) (c.if-goes_down.ensures.label refl) in
-    λ t. ap (names_by true s.first s.label 0) (sym more) ∙ (taken_down s.down s.first x s.label c.args.label s.len names ident label ∙ ap (λ (r : Stretch). names_of r ++ (x, c.args.label) ∷ []) e)
+returns-then-goes_down-clause-more c = λ t.
+    let q = c.args.self.now in
+    let more : c.self.inside.len + 1 ≡ c.in-Some.len = let w = c.in-Some.ensures in omega (arith, w) in
+    more_names true _ q _ _ _ c.self.view_is more (taken_down q.down q.first c.args.ident.now q.label c.args.label q.len (c.if-goes_down.ensures.names refl) (c.if-goes_down.ensures.ident refl) (c.if-goes_down.ensures.label refl))
 
 pub returns-then-goes_down-clause-sound : goal.returns-then-goes_down-clause-sound
 returns-then-goes_down-clause-sound c =
-    let s = c.self.inside in
-    let e = c.self.view_is in
-    let more : s.len + 1 ≡ c.in-Some.len = let w = c.in-Some.ensures in omega (arith, w) in
-    let x = c.args.ident.now in
-    let last = c.last-last.ensures in
-    let bounded = ap is_last_bounded last.last ∙ last.last_bounded in
-    let ident = subst (λ (r : Stretch). r.first ≡ shifted (pos r.len) x) (sym e) (c.if-goes_down.ensures.ident refl) in
-    let label = subst (λ (r : Stretch). c.args.label + r.len ≡ r.label) (sym e) (c.if-goes_down.ensures.label refl) in
-    subst (λ n. IsStretch s.first s.label true n) more (down_within s.first x s.label c.args.label s.len c.self.invariant.ident last.ident ident bounded label)
+    let more : c.self.inside.len + 1 ≡ c.in-Some.len = let w = c.in-Some.ensures in omega (arith, w) in
+    grown_down _ _ c.args.ident.now c.args.label _ c.self.view_is more c.self.invariant.ident c.last-last.ensures.ident (c.if-goes_down.ensures.ident refl) (ap is_last_bounded c.last-last.ensures.last ∙ c.last-last.ensures.last_bounded) (c.if-goes_down.ensures.label refl)

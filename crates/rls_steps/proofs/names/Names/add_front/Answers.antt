@@ -11,25 +11,22 @@ use Rattle.rls_steps.proofs.FreeRuns.{run_apart}
 use Rattle.rls_steps.proofs.Intervals.{between_more}
 use Rattle.rls_steps.proofs.names.Names.add_front.Goals as goal
 
-pub put-requires-clause-low : goal.put-requires-clause-low
-put-requires-clause-low c =
-    let w = c.labels-low.ensures.least in
-    let e = c.in_ok-front.ensures.front in
-    let between = c.fitting-count.ensures.between w.0 (subst (λ (q : Stretch). w.0 < q.len) e w.1) in
-    let low = between.0 in
-    let same = ap (λ (q : Stretch). (name_at q w.0).1) e in
+-- labels of the front are within the span
+within : (q r : Stretch) (n low high label : ℕ) → q ≡ record { first = r.first; label = r.label; down = r.down; len = n } → ((k : ℕ) → k < n → (low ≤ (name_at r k).1) × ((name_at r k).1 ≤ high)) →
+    (k : ℕ) × (k < q.len) × ((name_at q k).1 ≡ label) → (low ≤ label) × (label ≤ high)
+within q r n low high label e f w =
+    let between = f w.0 (subst (λ (s : Stretch). w.0 < s.len) e w.1) in
+    let least = between.0 in
+    let most = between.1 in
+    let same = ap (λ (s : Stretch). (name_at s w.0).1) e in
     let is = w.2 in
-    omega (arith, low, same, is)
+    (omega (arith, least, same, is), omega (arith, most, same, is))
+
+pub put-requires-clause-low : goal.put-requires-clause-low
+put-requires-clause-low c = (within _ c.args.run _ _ _ _ c.in_ok-front.ensures.front c.fitting-count.ensures.between c.labels-low.ensures.least).0
 
 pub put-requires-clause-high : goal.put-requires-clause-high
-put-requires-clause-high c =
-    let w = c.labels-low.ensures.greatest in
-    let e = c.in_ok-front.ensures.front in
-    let between = c.fitting-count.ensures.between w.0 (subst (λ (q : Stretch). w.0 < q.len) e w.1) in
-    let high = between.1 in
-    let same = ap (λ (q : Stretch). (name_at q w.0).1) e in
-    let is = w.2 in
-    omega (arith, high, same, is)
+put-requires-clause-high c = (within _ c.args.run _ _ _ _ c.in_ok-front.ensures.front c.fitting-count.ensures.between c.labels-low.ensures.greatest).1
 
 pub invariant_of-self-2 : goal.invariant_of-self-2
 invariant_of-self-2 c =
@@ -53,17 +50,8 @@ invariant_of-self-2 c =
     let span = c.span_at-span.result in
     let low = c.labels-low.result.0 in
     let high = c.labels-low.result.1 in
-    let wl = c.labels-low.ensures.least in
-    let wh = c.labels-low.ensures.greatest in
-    let e = c.in_ok-front.ensures.front in
-    let fit_low = (c.fitting-count.ensures.between wl.0 (subst (λ (q : Stretch). wl.0 < q.len) e wl.1)).0 in
-    let fit_high = (c.fitting-count.ensures.between wh.0 (subst (λ (q : Stretch). wh.0 < q.len) e wh.1)).1 in
-    let same_low = ap (λ (q : Stretch). (name_at q wl.0).1) e in
-    let same_high = ap (λ (q : Stretch). (name_at q wh.0).1) e in
-    let is_low = wl.2 in
-    let is_high = wh.2 in
-    let below : span.low ≤ low = omega (arith, fit_low, same_low, is_low) in
-    let above : high ≤ span.high = omega (arith, fit_high, same_high, is_high) in
+    let below = (within _ run _ _ _ _ e c.fitting-count.ensures.between c.labels-low.ensures.least).0 in
+    let above = (within _ run _ _ _ _ e c.fitting-count.ensures.between c.labels-low.ensures.greatest).1 in
     let between = between_more rs span.count low high span.low span.high c.len-runs.result c.in_ok-interval.interval size none below above
     (subst (λ (qs : List Stretch). AreBetween qs span.count low high c.in_ok-interval.interval) c.deref.ensures.value c.in_ok-interval.ensures.between) in
     let noted = subst (λ qs. AreNoted qs us) (sym c.in_ok-put_run.ensures.more) (c.in_ok-push_interval.ensures.put rs r low high size c.self.invariant.noted c.labels-low.ensures.labels between) in

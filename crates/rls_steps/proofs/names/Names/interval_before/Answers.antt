@@ -1,12 +1,13 @@
 use Rattle.std.proofs.Common.{ℕ, ◌-◌, List, length, get_or, ap, ◌∙◌, sym, refl, subst, arith}
 use Rattle.std.specs.Prelude.{reverse, Some}
 use Rattle.std.proofs.lemmas.Option.{slice_get_read, slice_get-get_or}
+use Rattle.rls_ident.proofs.Positions.{get_of}
 use Rattle.rls_ident.specs.declared.tuple.Tuple.{Tuple}
 use Rattle.rls_steps.specs.Labelled.{Names}
 use Rattle.rls_steps.specs.NameRuns.{named, name_at}
 use Rattle.rls_steps.specs.Index.{tail_at}
 use Rattle.rls_steps.proofs.Indexing.{starts_long, some_starts, first_start, place_short, place_name, tail_name}
-use Rattle.rls_steps.proofs.LabelRuns.{older_in, some_at}
+use Rattle.rls_steps.proofs.LabelRuns.{older_in}
 use Rattle.rls_steps.proofs.Stretches.{name_in}
 use Rattle.rls_steps.specs.Bounds.{HasLabel}
 use Rattle.rls_steps.specs.declared.interval.Interval.{Interval}
@@ -40,7 +41,7 @@ returns-in-Some c = record {
       let h = c.run_at-run.ensures.within in
       let in_all = c.requires.place in
       let view = ap length c.self.view_is in
-      let w = some_at rs k (omega (arith, long, h)) in
+      let w = get_of rs k (omega (arith, long, h)) in
       let r = w.0 in
       let at = slice_get-get_or ss k 0 h in
       let short = place_short rs ss c.args.i k r starts (omega (arith, in_all, view)) h c.run_at-run.ensures.below c.run_at-run.ensures.above w.1 in

@@ -7,7 +7,7 @@ use Rattle.rls_steps.proofs.names.Names.push_front.Goals as goal
 pub add_front-requires : goal.add_front-requires
 add_front-requires c = record {
   fresh = λ k h.
-      let w = c.in_ok-low.ensures.all k h in
+      let w = c.in_ok-least.ensures.all k h in
       let rs = c.deref.result.now in
       let short = w.1 in
       let size = c.len.ensures.len in
