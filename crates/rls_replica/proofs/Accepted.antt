@@ -31,7 +31,6 @@ accepted_is s o acks ss E es W log a b c d e f =
     ∙ ap (of_parts s.group (acks_after s.acks o.author o.body) (stems_after s.stems o.author o.seq o.body) (epochs_after s.epochs o) (text_after s o o.body) (without o.author o.seq s.waiting))
     (f ∙ ap (λ x. logged (stable_of x) s.log o) a)))))
 
-
 -- the first ready operation, which fits
 pub record IsNext (s : Seen) (w : Op) : Type 0 where
   pub first : first_ready s ≡ Some w

@@ -191,10 +191,10 @@ accepted_stands s t o w m h =
     let me : acks.me ≡ me_of K = acks_me s.acks o.author o.body ∙ h.me in
     let mine : acks.mine ≡ count K = acks_mine s.acks o.author o.body ∙ ap (λ v. raise v o.author) h.vector in
     let rows : (c : ℕ) → c < members_of K → row_of acks c ≡ history.row K c =
-        λ c k. row_after s.acks o.author o.body c
-        ∙ (ap (λ me. cond (c == me) (raise s.acks.mine o.author) (get_or s.acks.others c [])) h.me
-        ∙ row_go (c == me_of H) s.acks.mine (count H) (get_or s.acks.others c []) (history.acknowledged H c) o.author h.vector
-        (ap (λ me. cond (c == me) s.acks.mine (get_or s.acks.others c [])) (sym h.me) ∙ h.rows c k)) in
+    λ c k. row_after s.acks o.author o.body c
+    ∙ (ap (λ me. cond (c == me) (raise s.acks.mine o.author) (get_or s.acks.others c [])) h.me
+    ∙ row_go (c == me_of H) s.acks.mine (count H) (get_or s.acks.others c []) (history.acknowledged H c) o.author h.vector
+    (ap (λ me. cond (c == me) s.acks.mine (get_or s.acks.others c [])) (sym h.me) ∙ h.rows c k)) in
     let marks : (c : ℕ) → c < members_of K → left acks c ≡ history.has_left K c = λ c k. left_after s.acks o.author o.body c inside ∙ ap (λ b. b || ((o.author == c) && is_leave o.body)) (h.left c k) in
     let grows = at_most_trans h.log.0 (stable H) (stable K) h.log.1.stable (stable_grows H (Accepted o) l) in
     let log = logged_log h.log.0 (stable K) s.log (ops H) o grows (new_uncovered h.log.0 H o h.log.1.stable m.next) h.log.1.kept in

@@ -98,8 +98,12 @@ follow_accepted n old new os to o w e q c long low high f =
     let more = follow_more n old os to o w e q c f in
     ⊎_elim
     (λ g. (old, inl refl, subst (λ ps. Follow n old ps (raise to o.author)) (sym g) more))
-    (λ g. (new, inr refl, subst (λ ps. Follow n new ps (raise to o.author)) (sym (missing_logged new os o) ∙ (ap (missing_for new) g.0 ∙ sym g.0))
-    (follow_dropped n new old (os ++ o ∷ []) (raise to o.author) (long ∙ sym (follow_length n old os to f)) (long ∙ sym (length-raise to o.author)) low high more)))
+    (λ g. (
+      new,
+      inr refl,
+      subst (λ ps. Follow n new ps (raise to o.author)) (sym (missing_logged new os o) ∙ (ap (missing_for new) g.0 ∙ sym g.0))
+          (follow_dropped n new old (os ++ o ∷ []) (raise to o.author) (long ∙ sym (follow_length n old os to f)) (long ∙ sym (length-raise to o.author)) low high more),
+    ))
     (logged_is new os o)
 
 pub logged_split : (v : List ℕ) (os : List Op) (o x : Op) → IsIn x (logged v os o) → IsIn x os ⊎ (o ≡ x)
