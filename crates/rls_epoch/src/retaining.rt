@@ -1,12 +1,13 @@
 //! What is retained of a tree.
 
-ghost use Rattle.std.specs.Prelude.{◌≡◌, ◌<◌, ◌^◌, suc, ◌++◌, length, sum_by, IfOk, IsTrue};
+ghost use Rattle.std.specs.Prelude.{◌≡◌, ◌<◌, ◌≤◌, ◌^◌, suc, ◌++◌, length, sum_by, IfOk, IsTrue};
 ghost use Rattle.rls_ident.specs.declared.epoch_name.EpochName.{EpochName};
 ghost use Rattle.rls_ident.specs.EpochNames.{is_of_member};
 ghost use Rattle.rls_ident.specs.Lists.{IsIn};
 ghost use Rattle.rls_rename.specs.Connected.{spanned, spanned_renamings};
 ghost use Rattle.rls_rename.specs.Keeping.{reached};
 ghost use Rattle.rls_rename.specs.Tree.{greatest, is_kept};
+ghost use Rattle.rls_epoch.specs.Links.{epoch_at};
 ghost use Rattle.rls_epoch.specs.Marks.{AreNamed};
 ghost use Rattle.rls_epoch.specs.Seen.{former_sum, nodes_of};
 
@@ -54,10 +55,24 @@ impl Tree {
         ensures named { IfOk result (λ marks. AreNamed self.now.nodes.top self.now.nodes.placed marks.items marked.now) }
     {
         let mut marks = vec![in self.nodes.allocator(); Mark::none(); self.nodes.count() + 1]?;
+        let mut number = 0;
         for name in marked {
-            let number = self.number_of(*name);
+            number = self.number_near(*name, number);
             marks[number] = Mark::plain();
         }
         Ok(marks)
+    }
+
+    // The number of a kept epoch, which isn't searched if it is the one that is told.
+    fn number_near(&self, name: EpochName, number: usize) -> usize
+        requires kept { IsTrue (is_kept self.now.nodes.top (nodes_of self.now.nodes.placed) name) }
+        requires within { number ≤ length self.now.nodes.placed }
+        ensures epoch { epoch_at self.now.nodes.top self.now.nodes.placed result ≡ name }
+        ensures within { result ≤ length self.now.nodes.placed }
+    {
+        if self.nodes.epoch_of(number).same(&name) {
+            return number;
+        }
+        self.number_of(name)
     }
 }
