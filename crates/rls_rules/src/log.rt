@@ -1,6 +1,6 @@
 //! Unstable operations.
 
-ghost use Rattle.std.specs.Prelude.{◌≡◌, ℕ, List, ◌-◌, ◌^◌, ◌<◌, [], None, length, slice_index, IfOk, IsTrue};
+ghost use Rattle.std.specs.Prelude.{◌≡◌, ℕ, List, ◌-◌, ◌^◌, ◌<◌, [], None, length, slice_index, IfOk, IfSome, IsTrue};
 ghost use Rattle.rls_ident.specs.Vectors.{at_most};
 ghost use Rattle.rls_ops.specs.Same.{numbers_eq};
 ghost use Rattle.rls_parts.specs.Given.{AreEpochParts, AreGiven};
@@ -42,35 +42,42 @@ fn is_next(
     parts: &Parts,
     epochs: &Epochs,
     running: &Vector,
+    found: Option<EpochName>,
     head: &OpHead,
     is_counted: bool,
 ) -> bool
     requires counts { length parts.now.vector ≡ parts.now.members }
     requires running { length running.now ≡ parts.now.members }
+    requires found { IfSome found (λ e. IsTrue (is_kept_name parts.now e)) }
     requires epochs_are { epochs.now.epochs ≡ epochs_of parts.now }
     requires rule { epoch_fault parts.now [] parts.now.epochs ≡ None }
     requires given { AreEpochParts parts.now.epochs }
     ensures next { (context : List ℕ) → is_counted ≡ at_most context running.now → result ≡ is_head_next parts.now running.now head.now context }
     ensures author { IsTrue result → head.now.author < parts.now.members }
     ensures room { IsTrue result → slice_index running.now head.now.author < 2 ^ 32 - 1 }
+    ensures kept { IsTrue result → IsTrue (is_kept_name parts.now head.now.epoch) }
 {
     if head.author >= parts.members || head.members != parts.members || !head.is_shaped {
         return false;
     }
     head.seq as u64 == running.get(head.author) as u64 + 1
         && is_counted
-        && is_kept_name(parts, epochs, head.epoch)
+        && is_kept_name(parts, epochs, found, head.epoch)
         && is_last(parts, head)
 }
 
-// Whether the epoch is one of the list.
-fn is_kept_name(parts: &Parts, epochs: &Epochs, name: EpochName) -> bool
+// Whether the epoch is one of the list. It isn't searched if it is the one that was found last.
+fn is_kept_name(parts: &Parts, epochs: &Epochs, found: Option<EpochName>, name: EpochName) -> bool
+    requires found { IfSome found (λ e. IsTrue (is_kept_name parts.now e)) }
     requires epochs_are { epochs.now.epochs ≡ epochs_of parts.now }
     requires rule { epoch_fault parts.now [] parts.now.epochs ≡ None }
     requires given { AreEpochParts parts.now.epochs }
     ensures kept { result ≡ is_kept_name parts.now name }
 {
-    epochs.kept(name)
+    match found {
+        Some(before) if before.same(&name) => true,
+        _ => epochs.kept(name),
+    }
 }
 
 // Whether both have equal counts.
@@ -94,13 +101,15 @@ pub fn log_fault(
     ensures tested { IfOk result (IsLogTested parts.now) }
 {
     let mut running = stable.copy()?;
+    let mut found = None;
     for i in 0..parts.log.len() {
         let head = parts.log.head(i);
         let is_counted = parts.log.context_at_most(i, &running);
-        if !is_next(parts, epochs, &running, &head, is_counted) {
+        if !is_next(parts, epochs, &running, found, &head, is_counted) {
             return Ok(Err(i as u64));
         }
         running.raise(head.author);
+        found = Some(head.epoch);
     }
     Ok(Ok(same_counts(&running, &parts.vector)))
 }

@@ -1,4 +1,4 @@
-use Rattle.std.proofs.Common.{sym, ap, ◌∙◌}
+use Rattle.std.proofs.Common.{refl, sym, ap, ◌∙◌}
 use Rattle.rls_ident.specs.Vectors.{raise}
 use Rattle.rls_ident.proofs.Vectors.{length-raise}
 use Rattle.rls_ops.specs.Same.{numbers_eq}
@@ -15,6 +15,7 @@ loop-i-init c =
     record {
       counts = ap length e ∙ length-stable_parts p c.requires.given;
       pass = ap (λ v. log_fault p v 0 p.log) e;
+      found = tt;
       raised = ap (λ v. raised_by v p.log) e;
     }
 
@@ -38,6 +39,7 @@ loop-i-preserved c =
     record {
       counts = ap length r ∙ (length-raise v o.author ∙ c.loop-i.invariant.counts);
       pass = ap (λ u. log_fault p u (i + 1) (drop (i + 1) p.log)) r ∙ (sym (log_on p v i p.log o h.1 n) ∙ c.loop-i.invariant.pass);
+      found = c.if-not-is_next.ensures.kept refl;
       raised = ap (λ u. raised_by u (drop (i + 1) p.log)) r ∙ (sym (raised_on v i p.log o h.1) ∙ c.loop-i.invariant.raised);
     }
 
