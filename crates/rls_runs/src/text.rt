@@ -1,24 +1,34 @@
 //! Texts.
 
-ghost use Rattle.std.specs.Prelude.{◌≡◌, ◌<◌, ◌≤◌, ◌+◌, ◌++◌, ◌∷◌, [], None, IsSome, IfOk, OnOk, OnErr, length, take, drop, slice_index, encode_utf8_all};
+ghost use Rattle.std.specs.Prelude.{◌≡◌, ◌<◌, ◌≤◌, ◌+◌, ◌++◌, ◌∷◌, [], IsTrue, IfOk, OnOk, OnErr, length, take, drop, slice_index, encode_utf8_all};
 ghost use Rattle.std.specs.VecDeque.{deque_len, deque_capacity};
 ghost use Rattle.std.specs.List.{All};
 ghost use Rattle.std.specs.Char.{IsScalar};
 ghost use Rattle.std.specs.String.{string_bytes};
-ghost use Rattle.rls_runs.specs.Apart.{items_of};
+ghost use Rattle.rls_runs.specs.Texts.{characters_of};
 
 use std::alloc::{AllocError, Global};
 use std::collections::VecDeque;
 use std::marker::Model;
-use std::slice;
+use std::{mem, slice};
 
 /// A list of characters, which grows at both ends in constant amortised time. A character that is put into an empty text, or is the
-/// only one that is copied, stands in the text itself and takes no other memory.
+/// only one that is copied or read, stands in the text itself and takes no other memory.
 #[derive(Drop)]
 pub struct Text {
-    // The only character, if it stands apart. The list is empty then.
-    one: Option<char>,
-    chars: VecDeque<char>,
+    alloc: Global,
+    chars: Characters,
+}
+
+// How the characters of a text stand.
+#[derive(Drop)]
+enum Characters {
+    // The only one. It takes no memory.
+    One(char),
+    // Nothing has been put before them or taken from their front, so that others are copied behind them as one piece of memory.
+    List(Vec<char>),
+    // Both ends are open.
+    Ring(VecDeque<char>),
 }
 
 impl Model for Text {
@@ -26,14 +36,30 @@ impl Model for Text {
 
     ghost Value = { List ℕ };
 
-    ghost use Rattle.std.specs.Prelude.{IsSome, ◌≡◌, []};
     ghost use Rattle.std.specs.List.{All};
     ghost use Rattle.std.specs.Char.{IsScalar};
-    ghost use Rattle.rls_runs.specs.Apart.{items_of};
+    ghost use Rattle.rls_runs.specs.Texts.{characters_of};
 
-    ghost view = { λ a. items_of a.one a.chars.items };
+    ghost view = { λ a. characters_of a.chars };
 
-    ghost invariant = { λ a. All IsScalar (items_of a.one a.chars.items) × (IsSome a.one → a.chars.items ≡ []) };
+    ghost invariant = { λ a. All IsScalar (characters_of a.chars) };
+}
+
+impl Characters {
+    // Takes the characters as a ring, whose place the caller fills again.
+    fn take_ring(&mut self, alloc: Global) -> Result<VecDeque<char>, AllocError>
+        ensures items { IfOk result (λ ring. ring.items ≡ characters_of self.old) }
+        ensures err { OnErr result (self.new ≡ self.old) }
+    {
+        match self {
+            Characters::One(c) => Ok(VecDeque::from_vec(list_of(alloc, *c, 1)?)),
+            Characters::List(list) => {
+                let list = mem::replace(list, Vec::new(alloc));
+                Ok(VecDeque::from_vec(list))
+            }
+            Characters::Ring(ring) => Ok(mem::replace(ring, VecDeque::new(alloc))),
+        }
+    }
 }
 
 impl Text {
@@ -42,8 +68,8 @@ impl Text {
         ensures empty { result ≡ [] }
     {
         Text {
-            one: None,
-            chars: VecDeque::new(alloc),
+            alloc,
+            chars: Characters::List(Vec::new(alloc)),
         }
     }
 
@@ -52,16 +78,28 @@ impl Text {
         requires scalars { All IsScalar chars.items }
         ensures chars { result ≡ chars.items }
     {
+        let alloc = *chars.allocator();
         Text {
-            one: None,
-            chars: VecDeque::from_vec(chars),
+            alloc,
+            chars: Characters::List(chars),
         }
     }
 
     /// The characters of a text in UTF-8.
+    #[tactic(auto, using(crate::proofs::Texts::ascii_encodes, crate::proofs::Texts::scalars_of_utf8, crate::proofs::Texts::all_ascii))]
     pub fn from_str(alloc: Global, s: &str) -> Result<Text, AllocError>
         ensures utf8 { IfOk result (λ text. encode_utf8_all text ≡ s.now) }
     {
+        let mut rest = s.chars();
+        let Some(first) = rest.next() else {
+            return Ok(Text::new(alloc));
+        };
+        if rest.as_str().is_empty() {
+            return Ok(Text::of_one(alloc, first));
+        }
+        if s.is_ascii() {
+            return Ok(Text::from_vec(ascii_chars(alloc, s.as_bytes())?));
+        }
         let chars: Vec<char> = s.chars().collect(alloc)?;
         Ok(Text::from_vec(chars))
     }
@@ -73,10 +111,7 @@ impl Text {
         if bytes <= 4 {
             return Ok(Text::new(alloc));
         }
-        Ok(Text {
-            one: None,
-            chars: VecDeque::with_capacity(alloc, bytes)?,
-        })
+        Ok(Text::from_vec(Vec::with_capacity(alloc, bytes)?))
     }
 
     // The text of one character. It takes no memory.
@@ -85,8 +120,8 @@ impl Text {
         ensures one { result ≡ c ∷ [] }
     {
         Text {
-            one: Some(c),
-            chars: VecDeque::new(alloc),
+            alloc,
+            chars: Characters::One(c),
         }
     }
 
@@ -95,12 +130,21 @@ impl Text {
         ensures ok { OnOk result (self.new ≡ self.old ++ c ∷ []) }
         ensures err { OnErr result (self.new ≡ self.old) }
     {
-        if self.one.is_none() && self.chars.is_empty() {
-            self.one = Some(c);
-            return Ok(());
+        match &mut self.chars {
+            Characters::One(first) => {
+                let mut list = list_of(self.alloc, *first, 1)?;
+                list.push(c)?;
+                self.chars = Characters::List(list);
+            }
+            Characters::List(list) => {
+                if is_unused(list) {
+                    self.chars = Characters::One(c);
+                    return Ok(());
+                }
+                list.push(c)?;
+            }
+            Characters::Ring(ring) => ring.push_back(c)?,
         }
-        spill(&mut self.one, &mut self.chars)?;
-        self.chars.push_back(c)?;
         Ok(())
     }
 
@@ -109,12 +153,16 @@ impl Text {
         ensures ok { OnOk result (self.new ≡ c ∷ self.old) }
         ensures err { OnErr result (self.new ≡ self.old) }
     {
-        if self.one.is_none() && self.chars.is_empty() {
-            self.one = Some(c);
-            return Ok(());
+        match &mut self.chars {
+            Characters::List(list) if is_unused(list) => self.chars = Characters::One(c),
+            Characters::Ring(ring) => ring.push_front(c)?,
+            chars => {
+                let mut ring = chars.take_ring(self.alloc)?;
+                let done = ring.push_front(c);
+                self.chars = Characters::Ring(ring);
+                done?;
+            }
         }
-        spill(&mut self.one, &mut self.chars)?;
-        self.chars.push_front(c)?;
         Ok(())
     }
 
@@ -124,15 +172,20 @@ impl Text {
         ensures ok { OnOk result (self.new ≡ self.old ++ more) }
         ensures err { OnErr result (self.new ≡ self.old) }
     {
-        let Text {
-            one,
-            chars: mut more,
-        } = more;
-        if let Some(c) = one {
+        if let Characters::One(c) = more.chars {
             return self.push(c);
         }
-        spill(&mut self.one, &mut self.chars)?;
-        self.chars.append(&mut more)
+        let (front, back) = more.as_slices();
+        match &mut self.chars {
+            Characters::One(first) => {
+                let mut list = list_of(self.alloc, *first, front.len() + back.len())?;
+                extend_list(&mut list, front, back)?;
+                self.chars = Characters::List(list);
+            }
+            Characters::List(list) => extend_list(list, front, back)?,
+            Characters::Ring(ring) => extend_ring(ring, front, back)?,
+        }
+        Ok(())
     }
 
     /// Puts a text before the first character. It costs the length of that text. After an error
@@ -141,17 +194,18 @@ impl Text {
         ensures ok { OnOk result (self.new ≡ front ++ self.old) }
         ensures err { OnErr result (self.new ≡ self.old) }
     {
-        let Text {
-            one,
-            chars: mut front,
-        } = front;
-        if let Some(c) = one {
+        let Text { alloc, mut chars } = front;
+        if let Characters::One(c) = chars {
             return self.push_front(c);
         }
-        spill(&mut self.one, &mut self.chars)?;
-        self.chars.reserve(front.len())?;
-        move_in_front(&mut front, &mut self.chars);
-        Ok(())
+        let mut front = chars.take_ring(alloc)?;
+        let mut ring = self.chars.take_ring(alloc)?;
+        let room = ring.reserve(front.len());
+        if room.is_ok() {
+            move_in_front(&mut front, &mut ring);
+        }
+        self.chars = Characters::Ring(ring);
+        room
     }
 
     /// Keeps the characters before a place, and answers the others. It costs the number of these.
@@ -162,10 +216,12 @@ impl Text {
         ensures rest { IfOk result (λ rest. rest ≡ drop at self.old) }
         ensures err { OnErr result (self.new ≡ self.old) }
     {
-        spill(&mut self.one, &mut self.chars)?;
+        let mut ring = self.chars.take_ring(self.alloc)?;
+        let rest = ring.split_off(at);
+        self.chars = Characters::Ring(ring);
         Ok(Text {
-            one: None,
-            chars: self.chars.split_off(at)?,
+            alloc: self.alloc,
+            chars: Characters::Ring(rest?),
         })
     }
 
@@ -174,10 +230,15 @@ impl Text {
         requires place { at ≤ length self.old }
         ensures kept { self.new ≡ take at self.old }
     {
-        if at == 0 {
-            self.one = None;
+        match &mut self.chars {
+            Characters::One(_) => {
+                if at == 0 {
+                    self.chars = Characters::List(Vec::new(self.alloc));
+                }
+            }
+            Characters::List(list) => list.truncate(at),
+            Characters::Ring(ring) => ring.truncate(at),
         }
-        self.chars.truncate(at);
     }
 
     /// Drops this many characters at the front. It costs their number, and takes no memory.
@@ -185,10 +246,17 @@ impl Text {
         requires place { count ≤ length self.old }
         ensures rest { self.new ≡ drop count self.old }
     {
-        if self.one.is_none() {
-            drop_first(&mut self.chars, count);
-        } else if count > 0 {
-            self.one = None;
+        if count == 0 {
+            return;
+        }
+        match &mut self.chars {
+            Characters::One(_) => self.chars = Characters::List(Vec::new(self.alloc)),
+            Characters::List(list) => {
+                let mut ring = VecDeque::from_vec(mem::replace(list, Vec::new(self.alloc)));
+                drop_first(&mut ring, count);
+                self.chars = Characters::Ring(ring);
+            }
+            Characters::Ring(ring) => drop_first(ring, count),
         }
     }
 
@@ -196,14 +264,15 @@ impl Text {
     pub fn copy(&self) -> Result<Text, AllocError>
         ensures copy { IfOk result (λ text. text ≡ self.now) }
     {
-        let alloc = *self.chars.allocator();
         if self.len() == 1 {
-            return Ok(Text::of_one(alloc, self.get(0)));
+            return Ok(Text::of_one(self.alloc, self.get(0)));
         }
         let (front, back) = self.as_slices();
-        let mut chars = Vec::with_capacity(alloc, front.len() + back.len())?;
+        let mut chars = Vec::with_capacity(self.alloc, front.len() + back.len())?;
         chars.extend_from_slice(front)?;
-        chars.extend_from_slice(back)?;
+        if !back.is_empty() {
+            chars.extend_from_slice(back)?;
+        }
         Ok(Text::from_vec(chars))
     }
 
@@ -211,7 +280,7 @@ impl Text {
     pub fn to_utf8(&self) -> Result<String, AllocError>
         ensures utf8 { IfOk result (λ s. string_bytes s ≡ encode_utf8_all self.now) }
     {
-        let mut text = String::with_capacity(*self.chars.allocator(), self.len())?;
+        let mut text = String::with_capacity(self.alloc, self.len())?;
         self.push_utf8(&mut text)?;
         Ok(text)
     }
@@ -231,9 +300,10 @@ impl Text {
         ensures len { result ≡ length self.now }
         ensures scalars { All IsScalar self.now }
     {
-        match self.one {
-            Some(_) => 1,
-            None => self.chars.len(),
+        match &self.chars {
+            Characters::One(_) => 1,
+            Characters::List(list) => list.len(),
+            Characters::Ring(ring) => ring.len(),
         }
     }
 
@@ -242,9 +312,10 @@ impl Text {
         requires place { i < length self.now }
         ensures char { result ≡ slice_index self.now i }
     {
-        match self.one {
-            Some(c) => c,
-            None => self.chars[i],
+        match &self.chars {
+            Characters::One(c) => *c,
+            Characters::List(list) => list[i],
+            Characters::Ring(ring) => ring[i],
         }
     }
 
@@ -253,27 +324,77 @@ impl Text {
         ensures chars { result.0.now ++ result.1.now ≡ self.now }
         ensures scalars { All IsScalar self.now }
     {
-        match &self.one {
-            Some(c) => (slice::from_ref(c), &[]),
-            None => self.chars.as_slices(),
+        match &self.chars {
+            Characters::One(c) => (slice::from_ref(c), &[]),
+            Characters::List(list) => (list.as_slice(), &[]),
+            Characters::Ring(ring) => ring.as_slices(),
         }
     }
 }
 
-// Puts the only character into the list, if it stands apart.
-fn spill(one: &mut Option<char>, chars: &mut VecDeque<char>) -> Result<(), AllocError>
-    requires apart { IsSome one.old → chars.old.items ≡ [] }
-    ensures ok { OnOk result (chars.new.items ≡ items_of one.old chars.old.items) }
-    ensures none { OnOk result (one.new ≡ None) }
-    ensures err { OnErr result (chars.new.items ≡ chars.old.items) }
-    ensures same { OnErr result (one.new ≡ one.old) }
+// The list of this character, with room for so many more.
+fn list_of(alloc: Global, c: char, more: usize) -> Result<Vec<char>, AllocError>
+    requires scalar { IsScalar c }
+    ensures one { IfOk result (λ list. list.items ≡ c ∷ []) }
 {
-    let Some(c) = *one else {
-        return Ok(());
-    };
-    chars.push_back(c)?;
-    *one = None;
+    let mut list = Vec::new(alloc);
+    list.reserve(more.saturating_add(1))?;
+    list.push(c)?;
+    Ok(list)
+}
+
+// The characters of a text in ASCII.
+fn ascii_chars(alloc: Global, bytes: &[u8]) -> Result<Vec<char>, AllocError>
+    ensures codes { IfOk result (λ chars. chars.items ≡ bytes.now) }
+{
+    let mut chars = Vec::from_elem(alloc, '\0', bytes.len())?;
+    for i in 0..bytes.len() {
+        chars[i] = char::from(bytes[i]);
+    }
+    Ok(chars)
+}
+
+// Whether a list is empty and takes no memory.
+fn is_unused(list: &Vec<char>) -> bool
+    ensures empty { IsTrue result → list.now.items ≡ [] }
+{
+    list.is_empty() && list.capacity() == 0
+}
+
+// Puts both after the list. After an error it is as it was.
+fn extend_list(list: &mut Vec<char>, front: &[char], back: &[char]) -> Result<(), AllocError>
+    ensures ok { OnOk result (list.new.items ≡ list.old.items ++ (front.now ++ back.now)) }
+    ensures err { OnErr result (list.new.items ≡ list.old.items) }
+{
+    list.reserve(front.len() + back.len())?;
+    list.extend_from_slice(front).unwrap();
+    if !back.is_empty() {
+        list.extend_from_slice(back).unwrap();
+    }
     Ok(())
+}
+
+// Puts both after the ring. After an error it is as it was.
+fn extend_ring(ring: &mut VecDeque<char>, front: &[char], back: &[char]) -> Result<(), AllocError>
+    ensures ok { OnOk result (ring.new.items ≡ ring.old.items ++ (front.now ++ back.now)) }
+    ensures err { OnErr result (ring.new.items ≡ ring.old.items) }
+{
+    ring.reserve(front.len() + back.len())?;
+    push_reserved(ring, front);
+    push_reserved(ring, back);
+    Ok(())
+}
+
+// Puts these after the ring, which has room for them.
+fn push_reserved(ring: &mut VecDeque<char>, chars: &[char])
+    requires room { deque_len ring.old + length chars.now ≤ deque_capacity ring.old }
+    ensures items { ring.new.items ≡ ring.old.items ++ chars.now }
+    ensures len { deque_len ring.new ≡ deque_len ring.old + length chars.now }
+    ensures capacity { deque_capacity ring.new ≡ deque_capacity ring.old }
+{
+    for c in chars {
+        ring.push_back_reserved(*c);
+    }
 }
 
 #[tactic(auto, using(crate::proofs::Texts::encodes_more))]
