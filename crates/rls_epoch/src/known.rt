@@ -198,14 +198,13 @@ impl KnownImages {
         requires known { AreKnown (nodes_of nodes.now) self.now }
         ensures known { IfOk result (λ known. IfSome known (λ k. IsKnown (nodes_of nodes.now) k)) }
     {
-        let Some(known) = self.last_up_to(nodes, from, to, id) else {
-            return Ok(None);
-        };
-        if known.run.find(id).is_err() {
-            return Ok(None);
+        match self.last_up_to(nodes, from, to, id) {
+            Some(known) if known.run.find(id).is_ok() => {
+                let copy = known.copy()?;
+                Ok(Some(copy))
+            }
+            _ => Ok(None),
         }
-        let copy = known.copy()?;
-        Ok(Some(copy))
     }
 
     // The image of an identifier, if it is known.
