@@ -262,7 +262,7 @@ impl KnownImages {
         ensures known { AreKnown (nodes_of nodes.now) self.new }
     {
         if self.known.len() >= MOST_KNOWN {
-            self.known.clear();
+            self.clear();
         }
         let count = self.count_up_to(known.from, known.to, known.run.first());
         self.known
