@@ -1,8 +1,9 @@
 -- What is known of an operation without its body.
-use Rattle.std.specs.Prelude.{◌≡◌, ℕ, Bool, List, length, is_some, not, nat_le, slice_index}
+use Rattle.std.specs.Prelude.{◌≡◌, ℕ, Bool, List, length, is_some, not}
 use Rattle.rls_ops.specs.declared.op.Op.{Op}
 use Rattle.rls_ops.specs.declared.op.Body.{Body}
 use Rattle.rls_ops.specs.declared.op.Body.TheVariants as body
+use Rattle.rls_ops.specs.Rows.{covers}
 use Rattle.rls_ops.specs.Shapes.{shape_fault}
 use Rattle.rls_log.specs.declared.head.OpHead.{OpHead}
 use Rattle.rls_log.specs.declared.head.OpKind.{OpKind}
@@ -19,9 +20,9 @@ kind_in body.Leave = kind.Leave
 abbrev pub is_shaped : Op → Bool
 is_shaped o = not (is_some (shape_fault (length o.context) o))
 
--- the number that the head tells is at most the vector's count of the author that it tells
+-- the vector covers the operation of which the head tells
 abbrev pub is_head_covered : List ℕ → OpHead → Bool
-is_head_covered v h = nat_le h.seq (slice_index v h.author)
+is_head_covered v h = covers v h.author h.seq
 
 -- the head tells what it tells of this operation
 pub record IsHeadOf (h : OpHead) (o : Op) : Type 0 where

@@ -6,7 +6,7 @@ ghost use Rattle.rls_log.specs.Heads.{kind_in, is_head_covered, IsHeadOf};
 ghost use Rattle.rls_ops.specs.declared.op.Op.{Op as OpSeen};
 
 use rls_ident::{EpochName, Vector, rely};
-use rls_ops::{Body, Op};
+use rls_ops::{Body, Op, covers};
 
 /// What an operation does.
 #[derive(Clone, Copy, Debug, PartialEq, Eq)]
@@ -69,9 +69,6 @@ impl OpHead {
         ensures test { result ≡ is_head_covered vector.now self.now }
         ensures covered { (o : OpSeen) → IsHeadOf self.now o → result ≡ is_covered vector.now o }
     {
-        match vector.counts().get(self.author as usize) {
-            Some(count) => self.seq <= *count,
-            None => self.seq == 0,
-        }
+        covers(vector, self.author, self.seq)
     }
 }

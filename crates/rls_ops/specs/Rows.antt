@@ -10,9 +10,13 @@ abbrev pub least_of : List ℕ → List (List ℕ) → List ℕ
 least_of v [] = v
 least_of v (w ∷ ws) = least_of (meet v w) ws
 
--- the operation's number is at most the vector's count of its author
+-- the number is at most the vector's count of the author
+abbrev pub covers : List ℕ → ℕ → ℕ → Bool
+covers v a q = nat_le q (slice_index v a)
+
+-- the vector covers the operation
 abbrev pub is_covered : List ℕ → Op → Bool
-is_covered v o = nat_le o.seq (slice_index v o.author)
+is_covered v o = covers v o.author o.seq
 
 -- the operations that a vector doesn't cover
 abbrev pub missing_for : List ℕ → List Op → List Op

@@ -8,5 +8,5 @@ mod shape;
 pub mod size;
 
 pub use message::Message;
-pub use op::{Body, Op, Ops, Shape};
+pub use op::{Body, Op, Ops, Shape, covers};
 pub use rls_runs::Text;

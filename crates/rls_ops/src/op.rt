@@ -2,6 +2,7 @@
 
 ghost use Rattle.std.specs.Prelude.{◌≡◌, ◌<◌, ◌++◌, ◌∷◌, ◌==◌, [], Some, IfOk, OnOk, OnErr, length, slice_get};
 ghost use Rattle.rls_ops.specs.declared.op.Body.TheVariants.{Insert};
+ghost use Rattle.rls_ops.specs.Rows.{covers};
 ghost use Rattle.rls_ops.specs.Waiting.{comes_before};
 ghost use Rattle.rls_ops.specs.WellFormed.{IsOp, AreOps, IsBody, IsName, IsInRange};
 
@@ -219,6 +220,17 @@ fn name_fits(name: &EpochName)
     if let EpochName::Of { replica, seq } = name {
         rely!(let _replica = *replica);
         rely!(let _seq = *seq);
+    }
+}
+
+/// Whether a vector covers an author's operation with this number: the number is at most the vector's count of the author, which is 0 of
+/// one that isn't a member. It takes no memory.
+pub fn covers(vector: &Vector, author: u32, seq: u32) -> bool
+    ensures covered { result ≡ covers vector.now author seq }
+{
+    match vector.counts().get(author as usize) {
+        Some(count) => seq <= *count,
+        None => seq == 0,
     }
 }
 

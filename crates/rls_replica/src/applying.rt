@@ -17,14 +17,14 @@ ghost use Rattle.rls_epoch.specs.Seen.{former_sum};
 ghost use Rattle.rls_blocks.specs.Trees.{entries_of};
 ghost use Rattle.rls_replica.specs.Changing.{former_in, renaming_in, MayPrepare, IsTextAfter, MayFinish, MayInsert, MayRename};
 
-use crate::known::{covers, kept_known};
+use crate::known::kept_known;
 use crate::renaming_text::RenamingText;
 use crate::replica::Replica;
 use rls_doc::Document;
 use rls_epoch::Epochs;
 use rls_ident::{EpochName, Ident, Vector, rely};
 use rls_log::Log;
-use rls_ops::{Body, Op};
+use rls_ops::{Body, Op, covers};
 use rls_rename::{Renaming, RenamingError};
 use rls_runs::{Run, RunList, Runs, Text};
 use rls_stable::Acks;
@@ -321,7 +321,7 @@ fn finish(
 fn keep_unstable(log: &mut Log, count: usize, op: &Op, stable: &Vector)
     ensures log { (os : List OpSeen) → log.old ≡ os ++ op.now ∷ [] → count ≡ length os → log.new ≡ logged stable.now os op.now }
 {
-    if count == 0 && covers(stable, op) {
+    if count == 0 && covers(stable, op.author, op.seq) {
         log.truncate(0);
     }
 }

@@ -5,7 +5,6 @@ ghost use Rattle.rls_ident.specs.declared.tuple.Tuple.{Tuple};
 ghost use Rattle.rls_ident.specs.Lists.{IsIn};
 ghost use Rattle.rls_runs.specs.Runs.{joined};
 ghost use Rattle.rls_rename.specs.Tree.{is_kept, greatest, translate};
-ghost use Rattle.rls_ops.specs.Rows.{is_covered};
 ghost use Rattle.rls_model.specs.Answers.{reason_of};
 ghost use Rattle.rls_seen.specs.Seen.{greatest_over, translate_over};
 ghost use Rattle.rls_seen.specs.Over.{is_known_over, first_unknown_over, refusal_over};
@@ -18,7 +17,7 @@ use crate::uniting::{below, common, put_part};
 use rls_epoch::Epochs;
 use rls_ident::{EpochName, Ident, Vector, rely};
 use rls_model::Refusal;
-use rls_ops::{Body, Op};
+use rls_ops::{Body, Op, covers};
 use rls_runs::Runs;
 use std::alloc::{AllocError, Global};
 
@@ -184,22 +183,12 @@ pub(crate) fn kept_known(
     match &op.body {
         Body::Insert { .. } => Some(known),
         Body::Delete { targets } => {
-            if covers(stable, op) {
+            if covers(stable, op.author, op.seq) {
                 return without(alloc, known, epochs, op.epoch, targets);
             }
             Some(known)
         }
         Body::Rename { .. } | Body::Leave => None,
-    }
-}
-
-// Whether a vector covers an operation.
-pub(crate) fn covers(vector: &Vector, op: &Op) -> bool
-    ensures covered { result ≡ is_covered vector.now op.now }
-{
-    match vector.counts().get(op.author as usize) {
-        Some(count) => op.seq <= *count,
-        None => op.seq == 0,
     }
 }
 

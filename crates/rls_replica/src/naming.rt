@@ -17,7 +17,7 @@ use crate::replica::Replica;
 use crate::uniting::common;
 use rls_ident::{EpochName, Ident, Spot, rely};
 use rls_log::OpKind;
-use rls_ops::{Body, Op};
+use rls_ops::{Body, Op, covers};
 use rls_runs::Runs;
 use std::alloc::{AllocError, Global};
 
@@ -181,12 +181,11 @@ impl Replica {
         Ok(Some(ids))
     }
 
-    // Whether this operation of the log is stable.
+    // Whether an operation is stable.
     fn is_stable(&self, op: &Op) -> bool
-        requires logged { IsIn op.now self.now.log }
         ensures covered { result ≡ is_covered (stable_over self.now) op.now }
     {
-        op.seq <= self.acks.stable().get(op.author)
+        covers(self.acks.stable(), op.author, op.seq)
     }
 
     // How many targets from a place on, within their run, the operation names that a hint tells. If the log has it as a value, it isn't
