@@ -124,7 +124,7 @@ fn insertion(alloc: Global, others: &str) -> Result<Option<Line>, AllocError>
     let Some(at) = number(position) else {
         return Ok(None);
     };
-    let Some(text) = unescaped(alloc, escaped)? else {
+    let Some(text) = text_of(alloc, escaped)? else {
         return Ok(None);
     };
     Ok(Some(Line::Insert { at, text }))
@@ -209,6 +209,17 @@ fn meaning(is_escaped: bool, character: char) -> Option<char>
 }
 
 // The text that these characters stand for.
+fn text_of(alloc: Global, escaped: &str) -> Result<Option<Text>, AllocError>
+    ensures text { IfOk result (λ found. found ≡ text_of (chars escaped.now)) }
+{
+    if escaped.as_bytes().contains(&b'\\') {
+        return unescaped(alloc, escaped);
+    }
+    let text = Text::from_str(alloc, escaped)?;
+    Ok(Some(text))
+}
+
+// The same, one character after another.
 fn unescaped(alloc: Global, escaped: &str) -> Result<Option<Text>, AllocError>
     ensures text { IfOk result (λ found. found ≡ text_of (chars escaped.now)) }
 {

@@ -1,8 +1,8 @@
-use Rattle.std.proofs.Common.{◌≡◌, ◌∙◌, ◌+◌, ◌-◌, drop, Some, Err, false, rules, sym, ap, arith}
+use Rattle.std.proofs.Common.{◌≡◌, ◌∙◌, ◌+◌, ◌-◌, drop, Some, Err, rules, sym, ap, arith}
 use Rattle.std.proofs.lemmas.Str.{chars_from_encodes}
 use Rattle.std.specs.Str.{chars}
 use Rattle.rls_script.specs.declared.clusters.ClusterError.TheVariants.{NotBoundary}
-use Rattle.rls_script.specs.Clusters.{cluster_before, cluster_in, is_inside, placed}
+use Rattle.rls_script.specs.Clusters.{cluster_before, cluster_in, placed}
 use Rattle.rls_script.proofs.Begins.{begins_within}
 use Rattle.rls_script.proofs.Framed.{enough, joined_is, told_if_found, too_few}
 use Rattle.rls_script.proofs.windows.cluster_in.Goals as goal
@@ -17,16 +17,13 @@ pub returns-then-is_inside-clause-told : goal.returns-then-is_inside-clause-told
 returns-then-is_inside-clause-told c =
     told_if_found c.args.window c.args.from c.args.at (Some (Err (NotBoundary c.args.at))) c.requires.begins c.requires.reaches (joined_is c.args.window c.args.from c.args.at (sym c.is_inside.ensures.inside ∙ c.if-is_inside.true))
 
-outside : (c : goal.After-drop-window-inside-2) → is_inside c.args.window (c.args.at - c.args.from) ≡ false
-outside c = sym c.is_inside.ensures.inside ∙ c.if-is_inside.false
-
-found : (c : goal.After-drop-window-inside-2) → c.placed.result ≡ cluster_in c.args.window c.args.from c.args.at
+found : (c : goal.Joined-window-4) → c.placed.result ≡ cluster_in c.args.window c.args.from c.args.at
 found c =
     let n = c.left_out-skipped.result in
     let read : drop n c.args.window ≡ chars c.as_str.result.now = chars_from_encodes (drop n c.args.window) c.as_str.result.now c.as_str.utf8 (search rules) in
     c.placed.ensures.placed
     ∙ ap (placed (c.args.from + n) c.args.at) (c.cluster_before.ensures.cluster ∙ ap (λ t. cluster_before t (c.args.at - (c.args.from + n))) (sym read))
-    ∙ enough c.args.window c.args.from c.args.at n (outside c) c.left_out-skipped.ensures.left_out c.if-at-from.false
+    ∙ enough c.args.window c.args.from c.args.at n (sym c.is_inside.ensures.inside ∙ c.if-is_inside.false) c.left_out-skipped.ensures.left_out c.if-at-from.false
 
 pub returns-then-at-from-clause-found : goal.returns-then-at-from-clause-found
 returns-then-at-from-clause-found c = too_few c.args.window c.args.from c.args.at c.left_out-skipped.result (sym c.is_inside.ensures.inside ∙ c.if-is_inside.false) c.left_out-skipped.ensures.left_out c.if-at-from.true
