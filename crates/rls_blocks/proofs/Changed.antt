@@ -5,8 +5,7 @@ use Rattle.std.proofs.lemmas.List.{append-nil}
 use Rattle.rls_ident.proofs.Members.{some_is}
 use Rattle.rls_runs.specs.Runs.{are_apart}
 use Rattle.rls_blocks.specs.declared.change.Change.{Change}
-use Rattle.rls_blocks.specs.declared.change.Change.TheVariants.{Grow, KeepFront, KeepBack}
-use Rattle.rls_blocks.specs.declared.side.Side.TheVariants.{Front, Behind}
+use Rattle.rls_blocks.specs.declared.change.Change.TheVariants.{GrowFront, GrowBehind, KeepFront, KeepBack}
 use Rattle.rls_blocks.specs.Trees.{Piece, IsPiece, ArePieces, IsLow, IsSound, Tree, entries_of, runs_in}
 use Rattle.rls_blocks.specs.Edits.{located, changed, changed_at, gain, MayChange, removed, Shows}
 use Rattle.rls_blocks.proofs.Pieces.{chars_append, node_length, piece_some, count_most}
@@ -18,8 +17,8 @@ use Rattle.rls_blocks.proofs.Ranges.{back_out, front_out}
 -- ---- characters of one block
 
 changed_chars : (change : Change) (b : Piece) → length (changed change b).1 ≤ length b.1 + gain change
-changed_chars (Grow Front n) b = omega (arith, length-append n.1 b.1)
-changed_chars (Grow Behind n) b = omega (arith, length-append b.1 n.1)
+changed_chars (GrowFront n) b = omega (arith, length-append n.1 b.1)
+changed_chars (GrowBehind cs) b = omega (arith, length-append b.1 cs)
 changed_chars (KeepFront at) b = omega (arith, length-take at (drop 0 b.1), length-drop 0 b.1)
 changed_chars (KeepBack from) b = omega (arith, length-take (b.0.1 - from) (drop from b.1), length-drop from b.1)
 

@@ -3,13 +3,13 @@ use Rattle.std.proofs.Common.{◌≡◌, ℕ, ◌+◌, ◌-◌, ◌<◌, Option,
 use Rattle.std.specs.Prelude.{nat_lt, nat_eq, ◌&&◌, IfSome, if◌then◌else◌}
 use Rattle.rls_ident.specs.Identifiers.{follows}
 use Rattle.rls_ident.proofs.Members.{and_left, and_right, eq_is, eq_test, lt_is, not_lt_is, not_true}
-use Rattle.rls_runs.specs.Runs.{run_last, is_increasing}
+use Rattle.rls_runs.specs.Runs.{run_last, is_run, is_increasing}
 use Rattle.rls_runs.specs.Entries.{idents_in}
 use Rattle.rls_runs.proofs.RunOrder.{run_some}
-use Rattle.rls_blocks.specs.declared.change.Change.TheVariants.{Grow}
-use Rattle.rls_blocks.specs.declared.side.Side.TheVariants.{Front, Behind}
+use Rattle.rls_runs.proofs.Cuts.{joined_is}
+use Rattle.rls_blocks.specs.declared.change.Change.TheVariants.{GrowFront, GrowBehind}
 use Rattle.rls_blocks.specs.Trees.{Piece, IsPiece, ArePieces, piece_entries, entries_of, runs_in}
-use Rattle.rls_blocks.specs.Edits.{joined, part_of, located, put_among, changed_at, MayChange, begins_with, ends_with, goes_on, leads_to, are_loose, inserted, Shows}
+use Rattle.rls_blocks.specs.Edits.{joined, lengthened, part_of, located, put_among, changed_at, MayChange, begins_with, ends_with, goes_on, leads_to, are_loose, inserted, Shows}
 use Rattle.rls_blocks.proofs.Pieces.{entries_append, chars_append, are_append}
 use Rattle.rls_blocks.proofs.Loose.{last_run, last_append}
 use Rattle.rls_blocks.proofs.Changes.{put_between}
@@ -33,7 +33,7 @@ module _ (bs : List Piece) (n : Piece) (j : ℕ) (r : Around bs j) (own : IsPiec
   parted = ap (λ xs. are_loose None (runs_in xs)) (sym all) ∙ loose
 
   -- in front of it, joined to its block
-  pub front_shows : begins_with (located bs j) n.0 ≡ true → goes_on (last_run r.front) n.0.0 ≡ false → Shows (inserted j (piece_entries n) (entries_of bs)) (changed_at (Grow Front n) bs j)
+  pub front_shows : begins_with (located bs j) n.0 ≡ true → goes_on (last_run r.front) n.0.0 ≡ false → Shows (inserted j (piece_entries n) (entries_of bs)) (changed_at (GrowFront n) bs j)
   front_shows e a =
       let first = begun bs j r n.0 e in
       let none = first.0 in
@@ -41,8 +41,8 @@ module _ (bs : List Piece) (n : Piece) (j : ℕ) (r : Around bs j) (own : IsPiec
       let shows = grown_first r.front r.behind r.own n parted own.as_many sound (run_some r.own.0 r.own_is.sound) a first.1 in
       let put = put_between (entries_of r.front) (piece_entries n) (entries_of (r.own ∷ r.behind)) j (omega (arith, none, place))
       ∙ ap (inserted j (piece_entries n)) (sym (entries_append r.front (r.own ∷ r.behind)) ∙ ap entries_of (sym r.blocks_are)) in
-      subst (λ es. Shows es (changed_at (Grow Front n) bs j)) put
-      (subst (Shows (entries_of r.front ++ piece_entries n ++ entries_of (r.own ∷ r.behind))) (append_assoc r.front (joined n r.own ∷ []) r.behind ∙ sym (changed_around (Grow Front n) bs j r)) shows)
+      subst (λ es. Shows es (changed_at (GrowFront n) bs j)) put
+      (subst (Shows (entries_of r.front ++ piece_entries n ++ entries_of (r.own ∷ r.behind))) (append_assoc r.front (joined n r.own ∷ []) r.behind ∙ sym (changed_around (GrowFront n) bs j r)) shows)
 
   -- behind it
   module _ (i : ℕ) (next : i ≡ j + 1) (begins : begins_with (located bs i) n.0 ≡ false) (rises : is_increasing (idents_in (inserted i (piece_entries n) (entries_of bs))) ≡ true) where
@@ -85,12 +85,13 @@ module _ (bs : List Piece) (n : Piece) (j : ℕ) (r : Around bs j) (own : IsPiec
           (new_shows (r.front ++ r.own ∷ []) r.behind n parted (ap (λ q. goes_on q n.0.0) (last_append r.front r.own) ∙ t) leads))
 
     -- joined to its block
-    pub last_shows : ends_with (located bs j) n.0.0 ≡ true → Shows (inserted i (piece_entries n) (entries_of bs)) (changed_at (Grow Behind n) bs j)
+    pub last_shows : ends_with (located bs j) n.0.0 ≡ true → Shows (inserted i (piece_entries n) (entries_of bs)) (changed_at (GrowBehind n.1) bs j)
     last_shows e =
         let both : (nat_eq (r.at + 1) (length r.own.1) && follows n.0.0 (run_last r.own.0)) ≡ true = ap (λ p. ends_with p n.0.0) (sym r.there) ∙ e in
         let last = eq_is (r.at + 1) (length r.own.1) (and_left (nat_eq (r.at + 1) (length r.own.1)) (follows n.0.0 (run_last r.own.0)) both) in
         let ends : nat_lt (r.at + 1) (length r.own.1) ≡ false = not_true (nat_lt (r.at + 1) (length r.own.1)) (λ t. let w = lt_is (r.at + 1) (length r.own.1) t in omega (arith, last, w)) in
-        subst (Shows (inserted i (piece_entries n) (entries_of bs))) (append_assoc r.front (joined r.own n ∷ []) r.behind ∙ sym (changed_around (Grow Behind n) bs j r))
+        let same : ◌≡◌ {A = Piece} (joined r.own n) (lengthened n.1 r.own) = ap (λ k. ((r.own.0.0, r.own.0.1 + k), r.own.1 ++ n.1)) (sym own.as_many) in
+        subst (Shows (inserted i (piece_entries n) (entries_of bs))) (append_assoc r.front (joined r.own n ∷ []) r.behind ∙ ap (λ b. r.front ++ b ∷ r.behind) same ∙ sym (changed_around (GrowBehind n.1) bs j r))
         (grown_shows ends (and_right (nat_eq (r.at + 1) (length r.own.1)) (follows n.0.0 (run_last r.own.0)) both))
 
     -- as a block of its own
@@ -113,10 +114,13 @@ module _ (bs : List Piece) (n : Piece) (j : ℕ) (r : Around bs j) (own : IsPiec
 
 -- ---- a block that a run touches can grow by it
 
-pub may_first : (p : Option (Piece × ℕ)) (n : Piece) → begins_with p n.0 ≡ true → IfSome p (λ q. MayChange (Grow Front n) q.0)
+pub may_first : (p : Option (Piece × ℕ)) (n : Piece) → begins_with p n.0 ≡ true → IfSome p (λ q. MayChange (GrowFront n) q.0)
 may_first None n e = tt
 may_first (Some q) n e = and_right (nat_eq q.1 0) (follows q.0.0.0 (run_last n.0)) e
 
-pub may_last : (p : Option (Piece × ℕ)) (n : Piece) → ends_with p n.0.0 ≡ true → IfSome p (λ q. MayChange (Grow Behind n) q.0)
-may_last None n e = tt
-may_last (Some q) n e = and_right (nat_eq (q.1 + 1) (length q.0.1)) (follows n.0.0 (run_last q.0.0)) e
+pub may_last : (bs : List Piece) (n : Piece) (j : ℕ) → Around bs j → IsPiece n.0 n.1 → ends_with (located bs j) n.0.0 ≡ true → IfSome (located bs j) (λ q. MayChange (GrowBehind n.1) q.0)
+may_last bs n j r own e =
+    let both : (nat_eq (r.at + 1) (length r.own.1) && follows n.0.0 (run_last r.own.0)) ≡ true = ap (λ p. ends_with p n.0.0) (sym r.there) ∙ e in
+    let touches = and_right (nat_eq (r.at + 1) (length r.own.1)) (follows n.0.0 (run_last r.own.0)) both in
+    subst (λ p. IfSome p (λ q. MayChange (GrowBehind n.1) q.0)) (sym r.there)
+    (subst (λ k. is_run (r.own.0.0, r.own.0.1 + k) ≡ true) (sym own.as_many) (joined_is r.own.0 n.0 r.own_is.sound own.sound touches))

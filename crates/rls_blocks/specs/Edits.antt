@@ -2,10 +2,10 @@
 use Rattle.std.specs.Prelude.{◌≡◌, ℕ, ◌+◌, ◌-◌, ◌<◌, ◌≤◌, pos, Bool, true, false, not, ◌&&◌, nat_eq, nat_lt, List, [], ◌∷◌, ◌++◌, length, take, drop, Option, Some, None, if◌then◌else◌, IsTrue}
 use Rattle.rls_ident.specs.declared.tuple.Tuple.{Tuple}
 use Rattle.rls_ident.specs.Identifiers.{shifted, follows}
-use Rattle.rls_runs.specs.Runs.{run_last}
+use Rattle.rls_runs.specs.Runs.{run_last, is_run}
 use Rattle.rls_runs.specs.Entries.{Entries}
 use Rattle.rls_blocks.specs.declared.change.Change.{Change}
-use Rattle.rls_blocks.specs.declared.change.Change.TheVariants.{Grow, KeepFront, KeepBack}
+use Rattle.rls_blocks.specs.declared.change.Change.TheVariants.{GrowFront, GrowBehind, KeepFront, KeepBack}
 use Rattle.rls_blocks.specs.declared.side.Side.{Side}
 use Rattle.rls_blocks.specs.declared.side.Side.TheVariants.{Front, Behind}
 use Rattle.rls_blocks.specs.Trees.{Piece, runs_in, entries_of}
@@ -42,6 +42,10 @@ may_grow Behind n b = follows n.0.0 (run_last b.0)
 abbrev pub grown : Side → Piece → Piece → Piece
 grown Front n b = joined n b
 grown Behind n b = joined b n
+
+-- a block with these characters behind its own
+abbrev pub lengthened : List ℕ → Piece → Piece
+lengthened cs b = ((b.0.0, b.0.1 + length cs), b.1 ++ cs)
 
 -- the identifier goes on with the run before it, where there is one
 abbrev pub goes_on : Option (List Tuple × ℕ) → List Tuple → Bool
@@ -94,21 +98,24 @@ among made (b ∷ bs) i = if nat_lt i (length b.1) then made b i ++ bs else b �
 abbrev pub put_among : Piece → List Piece → ℕ → List Piece
 put_among n bs i = among (put_in n) bs i
 
--- the block can change so: it touches what it grows by, or it has more characters than those that go
+-- the block can change so: it touches the block in front, there are identifiers for the characters behind, or it has more characters than those that go
 abbrev pub MayChange : Change → Piece → Type 0
-MayChange (Grow side n) b = IsTrue (may_grow side n b)
+MayChange (GrowFront n) b = IsTrue (follows b.0.0 (run_last n.0))
+MayChange (GrowBehind cs) b = IsTrue (is_run (b.0.0, b.0.1 + length cs))
 MayChange (KeepFront at) b = (0 < at) × (at ≤ length b.1)
 MayChange (KeepBack from) b = from < length b.1
 
 -- the block after the change
 abbrev pub changed : Change → Piece → Piece
-changed (Grow side n) b = grown side n b
+changed (GrowFront n) b = joined n b
+changed (GrowBehind cs) b = lengthened cs b
 changed (KeepFront at) b = part_of 0 at b
 changed (KeepBack from) b = part_of from (b.0.1 - from) b
 
 -- so many characters come with the change
 abbrev pub gain : Change → ℕ
-gain (Grow side n) = length n.1
+gain (GrowFront n) = length n.1
+gain (GrowBehind cs) = length cs
 gain (KeepFront at) = 0
 gain (KeepBack from) = 0
 

@@ -4,7 +4,7 @@ ghost use Rattle.std.specs.Prelude.{◌≡◌, ◌+◌, ◌-◌, ◌<◌, ◌≤
 ghost use Rattle.rls_ident.specs.Identifiers.{shifted, follows};
 ghost use Rattle.rls_runs.specs.Runs.{is_run, run_last};
 ghost use Rattle.rls_blocks.specs.Trees.{IsPiece};
-ghost use Rattle.rls_blocks.specs.Edits.{part_of, joined};
+ghost use Rattle.rls_blocks.specs.Edits.{part_of, joined, lengthened};
 
 use rls_ident::{Ident, rely};
 use rls_runs::{Run, RunError, Text};
@@ -90,31 +90,64 @@ impl Block {
         (run, text)
     }
 
+    // The block of these characters, with the identifiers from this one on. It copies that.
+    pub(crate) fn of_text(first: &Ident, text: Text) -> Result<Block, AllocError>
+        requires piece { IsPiece (first.now, length text) text }
+        ensures block { IfOk result (λ block. block ≡ ((first.now, length text), text)) }
+    {
+        let len = text.len() as u32;
+        match Run::new(first.copy()?, len) {
+            Ok(run) => Ok(Block::new(run, text)),
+            Err(RunError::Empty) => unreachable!(),
+            Err(RunError::OffsetEnd) => unreachable!(),
+        }
+    }
+
+    // Grows at its end by these characters, with the identifiers that go on with its last one. It costs their number.
+    pub(crate) fn lengthen(&mut self, text: Text) -> Result<(), AllocError>
+        requires fits { IsTrue (is_run (self.old.0.0, self.old.0.1 + length text)) }
+        ensures ok { OnOk result (self.new ≡ lengthened text self.old) }
+        ensures err { OnErr result (self.new ≡ self.old) }
+    {
+        let more = text.len() as u32;
+        self.text.append(text)?;
+        self.run.grow(more);
+        Ok(())
+    }
+
     // Grows at its end by a run that goes on with its own, and the run's characters. It costs their number.
-    #[tactic(auto, using(rls_runs::proofs::Cuts::joined_is))]
     pub(crate) fn extend(&mut self, run: &Run, text: Text) -> Result<(), AllocError>
         requires as_many { length text ≡ run.now.1 }
         requires touches { IsTrue (follows run.now.0 (run_last self.old.0)) }
         ensures ok { OnOk result (self.new ≡ joined self.old (run.now, text)) }
         ensures err { OnErr result (self.new ≡ self.old) }
     {
-        let more = run.len();
-        self.text.append(text)?;
-        self.run.grow(more);
+        rely!(let _more = run.len());
+        rely!(let _len = self.len());
+        self.lengthen(text)
+    }
+
+    // Grows at its front by a block with which its own run goes on. It costs that block's characters.
+    pub(crate) fn prepend(&mut self, piece: Block) -> Result<(), AllocError>
+        requires touches { IsTrue (follows self.old.0.0 (run_last piece.0)) }
+        ensures ok { OnOk result (self.new ≡ joined piece self.old) }
+        ensures err { OnErr result (self.new ≡ self.old) }
+    {
+        let (mut run, text) = piece.into_parts();
+        run.grow(self.run.len());
+        self.text.prepend(text)?;
+        self.run = run;
         Ok(())
     }
 
-    // Grows at its front by a run with which its own goes on, and the run's characters. It costs their number.
+    // The same of a run and its characters. It costs their number.
     pub(crate) fn extend_front(&mut self, run: &Run, text: Text) -> Result<(), AllocError>
         requires as_many { length text ≡ run.now.1 }
         requires touches { IsTrue (follows self.old.0.0 (run_last run.now)) }
         ensures ok { OnOk result (self.new ≡ joined (run.now, text) self.old) }
         ensures err { OnErr result (self.new ≡ self.old) }
     {
-        let longer = joined_run(run, &self.run)?;
-        self.text.prepend(text)?;
-        self.run = longer;
-        Ok(())
+        self.prepend(Block::new(run.copy()?, text))
     }
 
     // This many of its characters from a place on, as a block. It costs their number.
@@ -178,16 +211,4 @@ pub fn part_of_text(alloc: Global, text: &Text, from: usize, len: usize) -> Resu
     part.extend_from_slice(&front[front_from..front_end])?;
     part.extend_from_slice(&back[back_from..back_end])?;
     Ok(Text::from_vec(part))
-}
-
-// Two runs of which the second goes on with the first, as one.
-fn joined_run(run: &Run, next: &Run) -> Result<Run, AllocError>
-    requires touches { IsTrue (follows next.now.0 (run_last run.now)) }
-    ensures joined { IfOk result (λ longer. longer ≡ (run.now.0, run.now.1 + next.now.1)) }
-{
-    match Run::new(run.first().copy()?, run.len() + next.len()) {
-        Ok(longer) => Ok(longer),
-        Err(RunError::Empty) => unreachable!(),
-        Err(RunError::OffsetEnd) => unreachable!(),
-    }
 }

@@ -4,7 +4,7 @@ ghost use Rattle.std.specs.Prelude.{◌≡◌, ◌+◌, ◌-◌, ◌^◌, ◌<�
 ghost use Rattle.rls_ident.specs.Identifiers.{follows};
 ghost use Rattle.rls_runs.specs.Runs.{run_before, run_last, is_increasing};
 ghost use Rattle.rls_runs.specs.Entries.{idents_in};
-ghost use Rattle.rls_blocks.specs.Trees.{piece_entries, entries_of, runs_in};
+ghost use Rattle.rls_blocks.specs.Trees.{piece_entries, entries_of, runs_in, IsPiece};
 ghost use Rattle.rls_blocks.specs.Edits.{joined, goes_on, leads_to, are_loose, inserted, located, begins_with, ends_with, Shows};
 
 use crate::balance::join;
@@ -14,41 +14,62 @@ use crate::node::{Link, Single};
 use crate::put::put_at;
 use crate::side::Side;
 use crate::split::{Halves, end_out, split};
-use rls_ident::rely;
+use rls_ident::{Ident, rely};
 use rls_runs::{Run, Text};
 use std::alloc::{AllocError, Global};
 
-/// Puts a run and its characters in at a place. It costs a step for each level and the run's characters;
-/// if a block is cut in two there, the characters of the shorter part, and if it joins two blocks,
-/// those of the shorter one. Where it only makes one block longer, no node is made or taken apart. It answers the new tree.
+/// Puts characters in at a place, with the identifiers from this one on. It costs a step for each level and the characters;
+/// if a block is cut in two there, the characters of the shorter part, and if two blocks are joined, those of the shorter one.
+/// Where it only makes one block longer at its end, no node is made or taken apart and the identifier isn't copied. It answers the new
+/// tree.
 ///
 /// # Errors
 ///
 /// The tree with the blocks that it had, if there is no memory.
-pub fn insert_at(alloc: Global, link: Link, i: u64, piece: Block) -> Result<Link, Link>
+pub fn insert_at(alloc: Global, link: Link, i: u64, first: &Ident, text: Text) -> Result<Link, Link>
     requires place { i ≤ length (entries_of link.blocks) }
-    requires chars_fit { length (entries_of link.blocks) + length piece.1 < 2 ^ 64 }
+    requires piece { IsPiece (first.now, length text) text }
+    requires chars_fit { length (entries_of link.blocks) + length text < 2 ^ 64 }
     requires loose { IsTrue (are_loose None (runs_in link.blocks)) }
-    requires rises { IsTrue (is_increasing (idents_in (inserted i (piece_entries piece) (entries_of link.blocks)))) }
-    ensures ok { IfOk result (λ new. Shows (inserted i (piece_entries piece) (entries_of link.blocks)) new.blocks) }
+    requires rises { IsTrue (is_increasing (idents_in (inserted i (piece_entries ((first.now, length text), text)) (entries_of link.blocks)))) }
+    ensures ok { IfOk result (λ new. Shows (inserted i (piece_entries ((first.now, length text), text)) (entries_of link.blocks)) new.blocks) }
     ensures err { IfErr result (λ old. old.blocks ≡ link.blocks) }
 {
     rely!(let _chars = link.chars());
-    rely!(let _len = piece.len());
-    if link.begins_with(i, piece.run()) {
-        return insert_before(link, i, piece);
+    let len = text.len() as u32;
+    if link.begins_with(i, first, len) {
+        return insert_before(link, i, first, text);
     }
     if i == 0 {
-        return put_first(alloc, link, piece);
+        return put_first(alloc, link, first, text);
     }
-    if link.ends_with(i - 1, piece.run().first()) {
-        return link.with_change(i - 1, Change::Grow(Side::Behind, piece));
+    if link.ends_with(i - 1, first) {
+        return link.with_change(i - 1, Change::GrowBehind(text));
     }
-    put_at(alloc, link, i - 1, piece)
+    match Block::of_text(first, text) {
+        Ok(piece) => put_at(alloc, link, i - 1, piece),
+        Err(_) => Err(link),
+    }
 }
 
 // In front of a block that goes on with it.
-fn insert_before(link: Link, i: u64, piece: Block) -> Result<Link, Link>
+fn insert_before(link: Link, i: u64, first: &Ident, text: Text) -> Result<Link, Link>
+    requires piece { IsPiece (first.now, length text) text }
+    requires chars_fit { length (entries_of link.blocks) + length text < 2 ^ 64 }
+    requires loose { IsTrue (are_loose None (runs_in link.blocks)) }
+    requires begins { IsTrue (begins_with (located link.blocks i) (first.now, length text)) }
+    requires place { i < length (entries_of link.blocks) }
+    ensures ok { IfOk result (λ new. Shows (inserted i (piece_entries ((first.now, length text), text)) (entries_of link.blocks)) new.blocks) }
+    ensures err { IfErr result (λ old. old.blocks ≡ link.blocks) }
+{
+    let Ok(piece) = Block::of_text(first, text) else {
+        return Err(link);
+    };
+    put_before(link, i, piece)
+}
+
+// The same of a block.
+fn put_before(link: Link, i: u64, piece: Block) -> Result<Link, Link>
     requires chars_fit { length (entries_of link.blocks) + length piece.1 < 2 ^ 64 }
     requires loose { IsTrue (are_loose None (runs_in link.blocks)) }
     requires begins { IsTrue (begins_with (located link.blocks i) piece.0) }
@@ -59,24 +80,27 @@ fn insert_before(link: Link, i: u64, piece: Block) -> Result<Link, Link>
     rely!(let _chars = link.chars());
     rely!(let _len = piece.len());
     if i == 0 {
-        return link.with_change(i, Change::Grow(Side::Front, piece));
+        return link.with_change(i, Change::GrowFront(piece));
     }
     if link.ends_with(i - 1, piece.run().first()) {
         return fill_at(link, i, piece);
     }
-    link.with_change(i, Change::Grow(Side::Front, piece))
+    link.with_change(i, Change::GrowFront(piece))
 }
 
 // In front of all blocks, of which the first doesn't go on with it.
-fn put_first(alloc: Global, link: Link, piece: Block) -> Result<Link, Link>
-    requires chars_fit { length (entries_of link.blocks) + length piece.1 < 2 ^ 64 }
+fn put_first(alloc: Global, link: Link, first: &Ident, text: Text) -> Result<Link, Link>
+    requires piece { IsPiece (first.now, length text) text }
+    requires chars_fit { length (entries_of link.blocks) + length text < 2 ^ 64 }
     requires loose { IsTrue (are_loose None (runs_in link.blocks)) }
-    requires begins { begins_with (located link.blocks 0) piece.0 ≡ false }
-    ensures ok { IfOk result (λ new. Shows (inserted 0 (piece_entries piece) (entries_of link.blocks)) new.blocks) }
+    requires begins { begins_with (located link.blocks 0) (first.now, length text) ≡ false }
+    ensures ok { IfOk result (λ new. Shows (inserted 0 (piece_entries ((first.now, length text), text)) (entries_of link.blocks)) new.blocks) }
     ensures err { IfErr result (λ old. old.blocks ≡ link.blocks) }
 {
     rely!(let _chars = link.chars());
-    rely!(let _len = piece.len());
+    let Ok(piece) = Block::of_text(first, text) else {
+        return Err(link);
+    };
     match Single::new(alloc, piece) {
         Ok(new) => Ok(join(Link::empty(), new, link)),
         Err(_) => Err(link),

@@ -2,7 +2,8 @@
 
 ghost use Rattle.std.specs.Prelude.{◌≡◌, ℕ, ◌+◌, ◌^◌, ◌<◌, ◌≤◌, max, [], ◌∷◌, ◌++◌, length, Some, None, IfSome, IfNone, OnOk, IsTrue, encode_utf8_all};
 ghost use Rattle.std.specs.String.{string_bytes};
-ghost use Rattle.rls_runs.specs.Runs.{idents_of};
+ghost use Rattle.rls_ident.specs.Identifiers.{follows};
+ghost use Rattle.rls_runs.specs.Runs.{idents_of, is_run, run_last};
 ghost use Rattle.rls_runs.specs.Entries.{chars_in};
 ghost use Rattle.rls_runs.specs.Places.{find_ident};
 ghost use Rattle.rls_runs.specs.Fronts.{AboveFront, BelowFront};
@@ -178,17 +179,18 @@ impl Link {
         node.locate(i)
     }
 
-    /// Whether a block begins at a place, and goes on with the run. It costs a step for each level.
-    pub(crate) fn begins_with(&self, i: u64, run: &Run) -> bool
+    /// Whether a block begins at a place, and goes on with this many identifiers from this one on. It costs a step for each level.
+    pub(crate) fn begins_with(&self, i: u64, first: &Ident, len: u32) -> bool
         requires place { i ≤ length (entries_of self.now.blocks) }
-        ensures begins { result ≡ begins_with (located self.now.blocks i) run.now }
+        requires run { IsTrue (is_run (first.now, len)) }
+        ensures begins { result ≡ begins_with (located self.now.blocks i) (first.now, len) }
         ensures within { IsTrue result → i < length (entries_of self.now.blocks) }
     {
         if i == self.chars() {
             return false;
         }
         let (block, at) = self.locate(i);
-        at == 0 && run.touches(block.run().first())
+        at == 0 && touches(first, len, block.run().first())
     }
 
     /// Whether a place is the last one of its block, and the identifier goes on with that. It costs a step for each level.
@@ -403,4 +405,12 @@ impl Node {
     {
         self.block.len()
     }
+}
+
+// Whether an identifier goes on with this many from the first one on. It takes no memory.
+fn touches(first: &Ident, len: u32, next: &Ident) -> bool
+    requires run { IsTrue (is_run (first.now, len)) }
+    ensures touches { result ≡ follows next.now (run_last (first.now, len)) }
+{
+    next.follows_by(first, len)
 }

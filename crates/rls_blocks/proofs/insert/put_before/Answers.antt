@@ -5,7 +5,7 @@ use Rattle.rls_blocks.specs.Edits.{located, ends_with, goes_on, inserted, Shows}
 use Rattle.rls_blocks.proofs.Loose.{last_run}
 use Rattle.rls_blocks.proofs.Placed.{around, none_before, ends_is, begun}
 use Rattle.rls_blocks.proofs.Insertions.{front_shows, may_first}
-use Rattle.rls_blocks.proofs.insert.insert_before.Goals as goal
+use Rattle.rls_blocks.proofs.insert.put_before.Goals as goal
 
 pub with_change-requires-clause-may : goal.with_change-requires-clause-may
 with_change-requires-clause-may c = may_first (located c.args.link.blocks c.args.i) c.args.piece c.requires.begins
