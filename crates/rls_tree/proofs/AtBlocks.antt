@@ -1,14 +1,13 @@
 -- Identifiers that stand from a place of a block on.
-use Rattle.std.proofs.Common.{◌≡◌, ℕ, suc, ◌+◌, ◌<◌, ◌≤◌, List, length, take, drop, Some, Ok, slice_get, sym, ap, ◌∙◌, arith}
+use Rattle.std.proofs.Common.{◌≡◌, ℕ, ◌+◌, ◌<◌, ◌≤◌, List, length, take, drop, Some, Ok, slice_get, sym, ap, ◌∙◌, arith}
 use Rattle.std.specs.Prelude.{pos}
 use Rattle.rls_ident.specs.declared.tuple.Tuple.{Tuple}
 use Rattle.rls_ident.specs.Identifiers.{shifted}
 use Rattle.rls_ident.proofs.Members.{some_is}
 use Rattle.rls_runs.specs.Runs.{run_idents}
 use Rattle.rls_runs.specs.Entries.{idents_in}
-use Rattle.rls_runs.specs.Places.{below_count, find_ident}
-use Rattle.rls_runs.proofs.Gaps.{less_at, less_up_to}
-use Rattle.rls_runs.proofs.RunOrder.{AllLess, Rising, run_gets, run_ident, run_rising}
+use Rattle.rls_runs.specs.Places.{find_ident}
+use Rattle.rls_runs.proofs.RunOrder.{Rising, run_gets, run_ident, run_rising}
 use Rattle.rls_runs.proofs.RunPlaces.{found_there}
 use Rattle.rls_blocks.specs.Trees.{Piece, IsPiece, ArePieces, entries_of}
 use Rattle.rls_blocks.specs.Edits.{located}
@@ -25,11 +24,6 @@ module _ (bs : List Piece) (i at : ℕ) (b : Piece) (are : ArePieces bs) (there 
 
   at_own : slice_get (run_idents b.0.0 b.0.1) at ≡ Some (shifted (pos at) b.0.0)
   at_own = let m = own.as_many in run_gets b.0.0 b.0.1 at (omega (arith, within, m))
-
-  -- all up to it are less than an identifier, since more of its block's are
-  pub all_less : (x : List Tuple) (below : ℕ) → Rising (idents_in (entries_of bs)) → below_count (run_idents b.0.0 b.0.1) x ≡ below → at < below → AllLess (take (suc i) (idents_in (entries_of bs))) x
-  all_less x below rises e h =
-      less_up_to (idents_in (entries_of bs)) i (shifted (pos at) b.0.0) x rises ident_is (less_at (run_idents b.0.0 b.0.1) at (shifted (pos at) b.0.0) x rising at_own (omega (arith, e, h)))
 
   -- those of a run, whose first one is found there
   pub run_stands : (r : List Tuple × ℕ) → find_ident (run_idents b.0.0 b.0.1) r.0 ≡ Ok at → 0 < r.1 → at + r.1 ≤ length b.1

@@ -1,12 +1,12 @@
 -- Entries put in where there is a gap for them, and one after another.
 use Rattle.std.proofs.Common.{◌≡◌, ℕ, zero, suc, ◌+◌, ◌-◌, ◌<◌, ◌≤◌, inr, true, false, List, [], ◌∷◌, ◌++◌, length, take, drop, Some, Ok, Err, slice_get, refl, sym, ap, ◌∙◌, subst, arith, length-drop, append_assoc}
 use Rattle.std.specs.Prelude.{if◌then◌else◌, pos}
-use Rattle.std.proofs.lemmas.List.{take-append-drop, append-nil, drop-take, take_all, length-take-le, length-map, drop-drop, take-map, drop-map}
+use Rattle.std.proofs.lemmas.List.{take-append-drop, append-nil, drop-take, length-take-le, length-map, drop-drop, take-map, drop-map}
 use Rattle.std.proofs.Math.ListN.{drop_of_length-le}
 use Rattle.std.proofs.Math.Seq.{take-append_seam, drop-append_seam}
 use Rattle.rls_ident.specs.declared.tuple.Tuple.{Tuple}
 use Rattle.rls_ident.specs.Identifiers.{ident_lt, shifted}
-use Rattle.rls_runs.specs.Runs.{run_idents, run_last, is_increasing, is_run, place_of}
+use Rattle.rls_runs.specs.Runs.{run_idents, run_last, idents_of, is_increasing, is_run, place_of}
 use Rattle.rls_runs.specs.Entries.{Entries, idents_in, has_ident, put, put_all}
 use Rattle.rls_runs.specs.Places.{below_count, find_ident}
 use Rattle.rls_runs.proofs.Finding.{run_length}
@@ -15,7 +15,6 @@ use Rattle.rls_runs.proofs.RunLists.{place_most}
 use Rattle.rls_runs.proofs.RunPlaces.{found_is}
 use Rattle.rls_ident.proofs.Lists.{Lt}
 use Rattle.rls_ident.proofs.Tuples.{tuples}
-use Rattle.rls_ident.proofs.Shifted.{shifted_none}
 use Rattle.rls_runs.proofs.RunOrder.{AllLess, AllMore, Rising, lt_of, of_lt, run_less, last_at, increasing_of, run_rising, run_ident, run_gets, run_some, rising_left, rising_right, rising_of}
 use Rattle.rls_runs.proofs.Sorted.{Entry}
 use Rattle.rls_doc.specs.Documents.{AreNew}
@@ -23,6 +22,7 @@ use Rattle.rls_blocks.specs.Trees.{Piece, ArePieces, piece_entries, entries_of}
 use Rattle.rls_blocks.specs.Edits.{part_of, inserted, located}
 use Rattle.rls_tree.specs.Gaps.{gap_end}
 use Rattle.rls_blocks.proofs.Changes.{thirds}
+use Rattle.rls_blocks.proofs.Taken.{single_run}
 use Rattle.rls_blocks.proofs.AtPlaces.{part_exact, part_at, piece_idents, idents_append, run_part}
 use Rattle.rls_runs.proofs.Gaps.{lt_false, below_take, more_drop, at_less, read_err, read_ok, AreBelow, below_from, below_none, rising_three, rising_below, firsts_less, rests_below, one_below, left_below, less_drop, rising_drop, rising_take}
 use Rattle.rls_ident.proofs.Loops.{drop_reads}
@@ -92,9 +92,6 @@ module _ (xs ids : List (List Tuple)) (i done : ℕ) (first : List Tuple) (risin
           let n : done + (below_count ids x - done) ≡ below_count ids x = omega (arith, l) in
           let e : drop done (take (below_count ids x) ids) ≡ take (below_count ids x - done) (drop done ids) = ap (λ k. drop done (take k ids)) (sym n) ∙ drop-take done (below_count ids x - done) ids in
           below_from (take (below_count ids x - done) (drop done ids)) x rest (subst (λ zs. AllLess zs x) e (less_drop done (take (below_count ids x) ids) x (below_take ids x own))) r.0
-
-  pub gap_rises : Rising (take i xs ++ (take (gap_end ids (drop i xs) - done) (drop done ids) ++ drop i xs))
-  gap_rises = rising_three (take i xs) (take (gap_end ids (drop i xs) - done) (drop done ids)) (drop i xs) (subst Rising (sym (take-append-drop i xs)) rising) part_rising front_below part_below
 
 -- ---- entries and their identifiers
 
@@ -200,17 +197,12 @@ module _ (es : Entries) (r : List Tuple × ℕ) (i done : ℕ) (incr : is_increa
       pub next_below : AreBelow (idents_in (piece_entries p)) (drop i (idents_in es))
       next_below = subst (λ zs. AreBelow zs (drop i (idents_in es))) (sym part_idents) (part_below (idents_in es) (run_idents r.0 r.1) i done first (rising_of (idents_in es) incr) own_rising first_at found)
 
--- a whole run that goes into one gap
-pub whole_rises : (es : Entries) (r : List Tuple × ℕ) (i end : ℕ) (first : List Tuple) → is_increasing (idents_in es) ≡ true → is_run r ≡ true → first ≡ r.0 → place_of first (idents_in es) ≡ Err i → end ≡ gap_end (run_idents r.0 r.1) (drop i (idents_in es)) → end ≡ r.1
-    → is_increasing (take i (idents_in es) ++ (run_idents r.0 r.1 ++ drop i (idents_in es))) ≡ true
-whole_rises es r i end first incr sound f gap e l =
+-- all identifiers in front of the place of one that isn't there are less
+pub first_above : (es : Entries) (i : ℕ) (first : List Tuple) → is_increasing (idents_in es) ≡ true → place_of first (idents_in es) ≡ Err i → AllLess (take i (idents_in es)) first
+first_above es i first incr gap =
     let xs = idents_in es in
-    let ids = run_idents r.0 r.1 in
     let rising = rising_of xs incr in
-    let some = run_some r sound in
-    let at : slice_get ids 0 ≡ Some first = run_gets r.0 r.1 0 some ∙ ap Some (shifted_none r.0 ∙ sym f) in
-    let all : take (gap_end ids (drop i xs) - 0) (drop 0 ids) ≡ ids = take_all (gap_end ids (drop i xs) - 0) ids (let n = run_length r.0 r.1 in omega (arith, e, l, n)) in
-    increasing_of (take i xs ++ (ids ++ drop i xs)) (subst (λ zs. Rising (take i xs ++ (zs ++ drop i xs))) all (gap_rises xs ids i 0 first rising (run_rising r.0 r.1 (run_ident r sound)) at (found_is xs first rising ∙ gap)))
+    subst (λ n. AllLess (take n xs) first) (read_err xs first i (found_is xs first rising ∙ gap)).1 (below_take xs first rising)
 
 pub whole_place : (es : Entries) (i : ℕ) (first : List Tuple) → is_increasing (idents_in es) ≡ true → place_of first (idents_in es) ≡ Err i → i ≤ length es
 whole_place es i first incr gap =
@@ -242,3 +234,31 @@ pub get_drop : {X : Type 0} (m j : ℕ) (xs : List X) → slice_get (drop m xs) 
 get_drop zero j xs = ap (slice_get xs) (omega arith)
 get_drop (suc m) j [] = refl
 get_drop (suc m) j (x ∷ xs) = let s : suc (m + j) ≡ suc m + j = omega arith in get_drop m j xs ∙ ap (slice_get (x ∷ xs)) s
+
+-- ---- one run that goes in at a place
+
+module _ (es : Entries) (i : ℕ) (x : List Tuple) (cs : List ℕ) (rises : is_increasing (take i (idents_in es) ++ (run_idents x (length cs) ++ drop i (idents_in es))) ≡ true) where
+  same : take i (idents_in es) ++ (run_idents x (length cs) ++ drop i (idents_in es)) ≡ take i (idents_in es) ++ (idents_in (piece_entries ((x, length cs), cs)) ++ drop i (idents_in es))
+  same = ap (λ zs. take i (idents_in es) ++ (zs ++ drop i (idents_in es))) (sym (piece_idents ((x, length cs), cs) refl))
+
+  pub run_rises : is_increasing (idents_in (inserted i (piece_entries ((x, length cs), cs)) es)) ≡ true
+  run_rises = ap is_increasing (idents_inserted i (piece_entries ((x, length cs), cs)) es ∙ sym same) ∙ rises
+
+  pub run_put : put_all (piece_entries ((x, length cs), cs)) es ≡ inserted i (piece_entries ((x, length cs), cs)) es
+  run_put = put_inserted i (piece_entries ((x, length cs), cs)) es (subst Rising same (rising_of (take i (idents_in es) ++ (run_idents x (length cs) ++ drop i (idents_in es))) rises))
+
+-- ---- one run as a list of runs
+
+pub one_run : (rs : List (List Tuple × ℕ)) (r : List Tuple × ℕ) → rs ≡ r ∷ [] → idents_of rs ≡ run_idents r.0 r.1
+one_run rs r e = ap idents_of e ∙ append-nil (run_idents r.0 r.1)
+
+-- the only run of a list, whose first identifier is this one, and which has as many as there are characters
+module _ (rs : List (List Tuple × ℕ)) (r : List Tuple × ℕ) (x : List Tuple) (cs : List ℕ) (one : length rs ≡ 1) (there : slice_get rs 0 ≡ Some r) (many : length (idents_of rs) ≡ length cs) (first : x ≡ r.0) where
+  only_length : r.1 ≡ length cs
+  only_length = sym (run_length r.0 r.1) ∙ ap length (sym (single_run rs r one there)) ∙ many
+
+  pub only_sound : is_run r ≡ true → is_run (x, length cs) ≡ true
+  only_sound h = subst (λ k. is_run (x, k) ≡ true) only_length (subst (λ y. is_run (y, r.1) ≡ true) (sym first) h)
+
+  pub only_idents : idents_of rs ≡ run_idents x (length cs)
+  only_idents = single_run rs r one there ∙ ap (λ k. run_idents r.0 k) only_length ∙ ap (λ y. run_idents y (length cs)) (sym first)

@@ -1,5 +1,5 @@
 -- A block of which targets go, among others of which none go.
-use Rattle.std.proofs.Common.{◌≡◌, ℕ, suc, ◌+◌, ◌-◌, ◌<◌, ◌≤◌, true, false, List, [], ◌∷◌, ◌++◌, length, take, drop, Some, None, refl, sym, ap, ◌∙◌, subst, arith, length-append, length-drop, append_assoc}
+use Rattle.std.proofs.Common.{◌≡◌, ℕ, ◌+◌, ◌-◌, ◌<◌, ◌≤◌, true, false, List, [], ◌∷◌, ◌++◌, length, take, drop, Some, None, refl, sym, ap, ◌∙◌, subst, arith, length-append, length-drop, append_assoc}
 use Rattle.std.proofs.lemmas.List.{take-append-le, drop-append-le, take_all, drop-drop, append-nil}
 use Rattle.std.proofs.Math.Seq.{take-append_seam, drop-append_seam}
 use Rattle.rls_ident.specs.declared.tuple.Tuple.{Tuple}
@@ -8,7 +8,7 @@ use Rattle.rls_runs.specs.Entries.{Entries, idents_in, without_all}
 use Rattle.rls_blocks.specs.declared.rest.Part.{Part}
 use Rattle.rls_blocks.specs.declared.rest.Rest.{Rest}
 use Rattle.rls_blocks.specs.Trees.{Piece, IsPiece, ArePieces, piece_entries, entries_of, runs_in}
-use Rattle.rls_blocks.specs.Edits.{part_of, located, are_loose, Shows}
+use Rattle.rls_blocks.specs.Edits.{located, are_loose, Shows}
 use Rattle.rls_blocks.specs.Patches.{before, IsBetween}
 use Rattle.rls_blocks.specs.Rests.{parts_of, parts_in, AreParts, rest_of, rested}
 use Rattle.rls_tree.specs.Targets.{AreMembers}
@@ -17,7 +17,7 @@ use Rattle.rls_blocks.proofs.Cases.{own_length}
 use Rattle.rls_blocks.proofs.Placed.{made_own, there_own}
 use Rattle.rls_blocks.proofs.Patches.{seam}
 use Rattle.rls_blocks.proofs.Rests.{parted_loose}
-use Rattle.rls_blocks.proofs.Splits.{are_left, are_right}
+use Rattle.rls_blocks.proofs.Splits.{are_left}
 use Rattle.rls_tree.proofs.Kept.{without_more}
 use Rattle.rls_tree.proofs.Puts.{part_taken}
 use Rattle.rls_tree.proofs.Starts.{begins}

@@ -6,7 +6,7 @@ ghost use Rattle.rls_ident.specs.Identifiers.{is_ident};
 ghost use Rattle.rls_runs.specs.Runs.{run_idents, runs_of, idents_of, is_increasing, place_of};
 ghost use Rattle.rls_runs.specs.Entries.{Entries, idents_in, chars_in, put_all, without_all, with_idents};
 ghost use Rattle.rls_doc.specs.Documents.{AreNew};
-ghost use Rattle.rls_blocks.specs.Trees.{entries_of, piece_entries, runs_in};
+ghost use Rattle.rls_blocks.specs.Trees.{IsPiece, entries_of, piece_entries, runs_in};
 ghost use Rattle.rls_blocks.specs.Edits.{are_loose, removed, Shows};
 
 use crate::removal::most_of;
@@ -14,8 +14,9 @@ use crate::tree::BlockTree;
 use rls_blocks::{Block, push_runs};
 use rls_doc::{Document, RunMap};
 use rls_ident::{Ident, rely};
-use rls_runs::{Run, RunList, Runs, Text};
+use rls_runs::{Run, RunError, RunList, Runs, Text};
 use std::alloc::AllocError;
+use std::slice;
 
 impl Document for BlockTree {
     ghost entries = { λ t. entries_of t.blocks };
@@ -48,9 +49,14 @@ impl Document for BlockTree {
         self.place(id)
     }
 
-    /// One run that goes between two neighbours costs a comparison of identifiers for each level, and other runs what `insert_near` says.
+    /// One run costs what `insert_run` says. Other runs cost two comparisons of identifiers for each level and each gap into which a part
+    /// of them goes, their own characters, and those of the runs that are cut there or that they go on with.
     fn insert_runs(&mut self, runs: &RunList, text: &Text) -> Result<(), AllocError> {
-        self.insert_near(None, runs, text)
+        if runs.len() == 1 {
+            let run = runs.get(0);
+            return self.insert_run(run.first(), text);
+        }
+        self.insert_apart(runs.as_slice(), text)
     }
 
     /// It costs what `remove_near` says, and for targets that are adjacent a comparison of identifiers for each level.
@@ -79,41 +85,55 @@ impl Document for BlockTree {
 }
 
 impl BlockTree {
-    /// Does what `insert_runs` does. If all the characters go to the place that is told, if one is, it doesn't search for it.
+    /// Does what `insert_runs` does with one run, told by its first identifier. It copies that only where a run of the text begins.
     ///
-    /// One run that goes between two neighbours costs a step for each level and its own characters; where
-    /// it goes into the middle of a run, also those in front of it there or those after it, whichever are
-    /// fewer. At the end or at the front of a run that it goes on with it moves none of that run's
-    /// characters; where it joins two runs, those of the shorter one. Other runs cost two comparisons of identifiers for each level and
-    /// each gap into which a part of them goes, their own characters, and those of the runs that are cut there or that they go on with.
+    /// If it goes between two neighbours, it costs a comparison of identifiers for each level and what `insert_between` says; else what
+    /// `insert_runs` says.
     ///
     /// # Errors
     ///
     /// `AllocError` where it finds no memory. The tree is as before then.
-    pub fn insert_near(
-        &mut self,
-        near: Option<u64>,
-        runs: &RunList,
-        text: &Text,
-    ) -> Result<(), AllocError>
+    pub fn insert_run(&mut self, first: &Ident, text: &Text) -> Result<(), AllocError>
+        requires piece { IsPiece (first.now, length text.now) text.now }
+        requires new { AreNew (run_idents first.now (length text.now)) (idents_in (entries_of self.old.blocks)) }
+        requires room { length (entries_of self.old.blocks) + length text.now < 2 ^ 64 }
+        ensures ok { OnOk result (entries_of self.new.blocks ≡ put_all (zip (run_idents first.now (length text.now)) text.now) (entries_of self.old.blocks)) }
+        ensures err { OnErr result (entries_of self.new.blocks ≡ entries_of self.old.blocks) }
+    {
+        let len = text.len() as u32;
+        if let Some(i) = self.gap_for(first, len)? {
+            return self.insert_between(i, first, text);
+        }
+        self.insert_parts(first, text)
+    }
+
+    // Does the same where parts of it go into several gaps.
+    fn insert_parts(&mut self, first: &Ident, text: &Text) -> Result<(), AllocError>
+        requires piece { IsPiece (first.now, length text.now) text.now }
+        requires new { AreNew (run_idents first.now (length text.now)) (idents_in (entries_of self.old.blocks)) }
+        requires room { length (entries_of self.old.blocks) + length text.now < 2 ^ 64 }
+        ensures ok { OnOk result (entries_of self.new.blocks ≡ put_all (zip (run_idents first.now (length text.now)) text.now) (entries_of self.old.blocks)) }
+        ensures err { OnErr result (entries_of self.new.blocks ≡ entries_of self.old.blocks) }
+    {
+        let len = text.len() as u32;
+        match Run::new(first.copy()?, len) {
+            Ok(run) => self.insert_apart(slice::from_ref(&run), text),
+            Err(RunError::Empty) => unreachable!(),
+            Err(RunError::OffsetEnd) => unreachable!(),
+        }
+    }
+
+    // Puts runs in, of which parts go into several gaps.
+    fn insert_apart(&mut self, runs: &[Run], text: &Text) -> Result<(), AllocError>
         requires rises { IsTrue (is_increasing (idents_of runs.now)) }
         requires as_many { length (idents_of runs.now) ≡ length text.now }
-        requires some { 0 < length text.now }
         requires new { AreNew (idents_of runs.now) (idents_in (entries_of self.old.blocks)) }
         requires room { length (entries_of self.old.blocks) + length text.now < 2 ^ 64 }
         ensures ok { OnOk result (entries_of self.new.blocks ≡ put_all (zip (idents_of runs.now) text.now) (entries_of self.old.blocks)) }
         ensures err { OnErr result (entries_of self.new.blocks ≡ entries_of self.old.blocks) }
     {
-        if runs.len() == 1 {
-            let run = runs.get(0);
-            if let Some(i) = self.gap_near(near, run)? {
-                let own = run.copy()?;
-                let chars = text.copy()?;
-                return self.insert_piece(i, own, chars);
-            }
-        }
         rely!(let _blocks = self.blocks());
-        let gaps = self.gaps_for(runs.as_slice(), text)?;
+        let gaps = self.gaps_for(runs, text)?;
         let patches = self.patches_with(gaps)?;
         self.put_patches(patches);
         Ok(())

@@ -1,10 +1,10 @@
 //! The places at which runs go in.
 
 ghost use Rattle.std.specs.Prelude.{◌≡◌, ◌+◌, ◌-◌, ◌<◌, ◌≤◌, ◌++◌, length, take, drop, IfOk, IfSome, IsTrue};
-ghost use Rattle.rls_runs.specs.Runs.{run_idents, is_increasing};
+ghost use Rattle.rls_ident.specs.Identifiers.{ident_lt};
+ghost use Rattle.rls_runs.specs.Runs.{run_idents, run_last, is_run, is_increasing};
 ghost use Rattle.rls_runs.specs.Entries.{idents_in};
 ghost use Rattle.rls_runs.specs.Places.{below_count};
-ghost use Rattle.rls_runs.proofs.RunOrder.{AllLess};
 ghost use Rattle.rls_runs.proofs.Gaps.{AreBelow};
 ghost use Rattle.rls_blocks.specs.Trees.{entries_of};
 ghost use Rattle.rls_tree.specs.Gaps.{gap_end};
@@ -29,76 +29,40 @@ impl BlockTree {
         }
     }
 
-    // The place where all identifiers of a run stand in front of the next identifier of the tree, if there
-    // is one. It costs two comparisons of identifiers for each level.
-    pub(crate) fn gap_for(&self, run: &Run) -> Result<Option<u64>, AllocError>
+    // The place where all of this many identifiers, from the first one on, stand in front of the next identifier of the tree, if there is
+    // one. It costs a comparison of identifiers for each level and one more, and takes memory only if the place is within a block.
+    pub(crate) fn gap_for(&self, first: &Ident, len: u32) -> Result<Option<u64>, AllocError>
+        requires run { IsTrue (is_run (first.now, len)) }
         ensures place { IfOk result (λ gap. IfSome gap (λ i. i ≤ length (entries_of self.now.blocks))) }
-        ensures rises { IfOk result (λ gap. IfSome gap (λ i. IsTrue (is_increasing (take i (idents_in (entries_of self.now.blocks)) ++ (run_idents run.now.0 run.now.1 ++ drop i (idents_in (entries_of self.now.blocks))))))) }
+        ensures rises { IfOk result (λ gap. IfSome gap (λ i. IsTrue (is_increasing (take i (idents_in (entries_of self.now.blocks)) ++ (run_idents first.now len ++ drop i (idents_in (entries_of self.now.blocks))))))) }
     {
         rely!(let _blocks = self.blocks());
-        let Err(i) = self.place(run.first()) else {
+        let Err(i) = self.place(first) else {
             return Ok(None);
         };
-        if self.end_of_gap(i, run)? == run.len() {
+        if self.ends_at(i, first, len)? {
             return Ok(Some(i));
         }
         Ok(None)
     }
 
-    // Whether the identifier in front of a place, if there is one, is less than this one. It costs a step for each level and a comparison
-    // of identifiers, and takes no memory.
-    fn begins_at(&self, i: u64, id: &Ident) -> bool
+    // Whether all of this many identifiers, from the first one on, are less than the one at a place, if there is one. It costs a step for
+    // each level and a comparison of identifiers, and takes memory only if the place is within a block.
+    fn ends_at(&self, i: u64, first: &Ident, len: u32) -> Result<bool, AllocError>
         requires place { i ≤ length (entries_of self.now.blocks) }
-        ensures less { IsTrue result → AllLess (take i (idents_in (entries_of self.now.blocks))) id.now }
+        requires run { IsTrue (is_run (first.now, len)) }
+        ensures less { IfOk result (λ is. IsTrue is → AreBelow (run_idents first.now len) (drop i (idents_in (entries_of self.now.blocks)))) }
     {
         rely!(let _blocks = self.blocks());
-        rely!(let _chars = self.chars());
-        if i == 0 {
-            return true;
-        }
-        let (block, at) = self.locate(i - 1);
-        rely!(let _len = block.len());
-        match block.run().find(id) {
-            Ok(below) | Err(below) => at < below,
-        }
-    }
-
-    // Whether all identifiers of a run are less than the one at a place, if there is one. It costs a step for each level and a comparison
-    // of identifiers, and takes memory only if the place is within a block.
-    fn ends_at(&self, i: u64, run: &Run) -> Result<bool, AllocError>
-        requires place { i ≤ length (entries_of self.now.blocks) }
-        ensures less { IfOk result (λ is. IsTrue is → AreBelow (run_idents run.now.0 run.now.1) (drop i (idents_in (entries_of self.now.blocks)))) }
-    {
-        rely!(let _blocks = self.blocks());
-        rely!(let _len = run.len());
         if i == self.chars() {
             return Ok(true);
         }
         let (block, at) = self.locate(i);
         if at == 0 {
-            return Ok(run.ends_below(block.run().first()));
+            return Ok(are_below(first, len, block.run().first()));
         }
-        Ok(run.ends_below(&self.ident(i)?))
-    }
-
-    // Whether a run goes between the neighbours of a place.
-    fn fits_at(&self, i: u64, run: &Run) -> Result<bool, AllocError>
-        requires place { i ≤ length (entries_of self.now.blocks) }
-        ensures rises { IfOk result (λ is. IsTrue is → IsTrue (is_increasing (take i (idents_in (entries_of self.now.blocks)) ++ (run_idents run.now.0 run.now.1 ++ drop i (idents_in (entries_of self.now.blocks)))))) }
-    {
-        rely!(let _blocks = self.blocks());
-        Ok(self.begins_at(i, run.first()) && self.ends_at(i, run)?)
-    }
-
-    // The same as `gap_for`, but one place is looked at first.
-    pub(crate) fn gap_near(&self, near: Option<u64>, run: &Run) -> Result<Option<u64>, AllocError>
-        ensures place { IfOk result (λ gap. IfSome gap (λ i. i ≤ length (entries_of self.now.blocks))) }
-        ensures rises { IfOk result (λ gap. IfSome gap (λ i. IsTrue (is_increasing (take i (idents_in (entries_of self.now.blocks)) ++ (run_idents run.now.0 run.now.1 ++ drop i (idents_in (entries_of self.now.blocks))))))) }
-    {
-        match near {
-            Some(i) if i <= self.chars() && self.fits_at(i, run)? => Ok(Some(i)),
-            _ => self.gap_for(run),
-        }
+        let next = self.ident(i)?;
+        Ok(are_below(first, len, &next))
     }
 
     // How many identifiers of the tree are less than this one.
@@ -111,4 +75,12 @@ impl BlockTree {
             Err(i) => i,
         }
     }
+}
+
+// Whether all of this many identifiers, from the first one on, are less than another one. It takes no memory.
+fn are_below(first: &Ident, len: u32, id: &Ident) -> bool
+    requires run { IsTrue (is_run (first.now, len)) }
+    ensures below { result ≡ ident_lt (run_last (first.now, len)) id.now }
+{
+    first.compare_shifted(len - 1, id).is_lt()
 }

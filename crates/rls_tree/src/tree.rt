@@ -6,7 +6,7 @@ ghost use Rattle.std.specs.String.{string_bytes};
 ghost use Rattle.rls_ident.specs.Identifiers.{is_ident, shifted};
 ghost use Rattle.rls_runs.specs.Runs.{run_idents, runs_of, are_apart, is_increasing, place_of};
 ghost use Rattle.rls_runs.specs.Entries.{idents_in, chars_in, has_ident};
-ghost use Rattle.rls_blocks.specs.Trees.{ArePieces, entries_of, piece_entries, runs_in};
+ghost use Rattle.rls_blocks.specs.Trees.{ArePieces, IsPiece, entries_of, piece_entries, runs_in};
 ghost use Rattle.rls_blocks.specs.Edits.{are_loose, inserted, located, removed};
 ghost use Rattle.rls_blocks.specs.Patches.{patched, ArePatches, IsBetween};
 ghost use Rattle.rls_blocks.specs.Rests.{rested, IsRest};
@@ -270,17 +270,27 @@ impl BlockTree {
         self.alloc
     }
 
-    // Puts a run and its characters in at a place, between two neighbours.
-    pub(crate) fn insert_piece(&mut self, i: u64, run: Run, text: Text) -> Result<(), AllocError>
+    /// Puts characters in at a place, between its neighbours, with the identifiers from this one on.
+    ///
+    /// It costs a step for each level and the characters; where they go into the middle of a run, also those in front of them there
+    /// or those after them, whichever are fewer. At the end or at the front of a run that it goes on with it moves none of that
+    /// run's characters; where it joins two runs, those of the shorter one. It compares identifiers only with the two neighbours,
+    /// and copies the first one only where it doesn't make a run longer at its end.
+    ///
+    /// # Errors
+    ///
+    /// `AllocError` where it finds no memory. The tree is as before then.
+    pub fn insert_between(&mut self, i: u64, first: &Ident, text: &Text) -> Result<(), AllocError>
         requires place { i ≤ length (entries_of self.old.blocks) }
-        requires as_many { length text ≡ run.1 }
-        requires room { length (entries_of self.old.blocks) + length text < 2 ^ 64 }
-        requires rises { IsTrue (is_increasing (idents_in (inserted i (piece_entries (run, text)) (entries_of self.old.blocks)))) }
-        ensures ok { OnOk result (entries_of self.new.blocks ≡ inserted i (piece_entries (run, text)) (entries_of self.old.blocks)) }
+        requires piece { IsPiece (first.now, length text.now) text.now }
+        requires room { length (entries_of self.old.blocks) + length text.now < 2 ^ 64 }
+        requires rises { IsTrue (is_increasing (idents_in (inserted i (piece_entries ((first.now, length text.now), text.now)) (entries_of self.old.blocks)))) }
+        ensures ok { OnOk result (entries_of self.new.blocks ≡ inserted i (piece_entries ((first.now, length text.now), text.now)) (entries_of self.old.blocks)) }
         ensures err { OnErr result (entries_of self.new.blocks ≡ entries_of self.old.blocks) }
     {
+        let chars = text.copy()?;
         let link = mem::replace(&mut self.root, Link::empty());
-        match insert_at(self.alloc, link, i, Block::new(run, text)) {
+        match insert_at(self.alloc, link, i, first, chars) {
             Ok(root) => {
                 rely!(let _chars = root.chars());
                 self.root = root;

@@ -16,10 +16,10 @@ use Rattle.rls_tree.proofs.tree.BlockTree.ends_at.Goals as goal
 pub returns-then-i-chars : goal.returns-then-i-chars
 returns-then-i-chars c =
     let es = entries_of c.args.self.now.blocks in
-    let r = c.args.run.now in
+    let ids = run_idents c.args.first.now c.args.len in
     let l = length-map es (λ e. e.0) in
     let none : drop c.args.i (idents_in es) ≡ [] = drop_of_length-le (idents_in es) (omega (arith, l, c.if-i-chars.true, c.chars.ensures.chars)) in
-    record { less = λ t. subst (AreBelow (run_idents r.0 r.1)) (sym none) (below_none (run_idents r.0 r.1)) }
+    record { less = λ t. subst (AreBelow ids) (sym none) (below_none ids) }
 
 pub returns-then-at-eq0 : goal.returns-then-at-eq0
 returns-then-at-eq0 c =
@@ -29,9 +29,9 @@ returns-then-at-eq0 c =
     let first : slice_get xs c.args.i ≡ Some c.first.result.now =
     ident_is bs c.args.i c.locate-at.result.1 b c.chars.ensures.pieces c.locate-at.ensures.located c.run.ensures.piece c.locate-at.ensures.within
     ∙ ap (λ k. Some (shifted (pos k) b.0.0)) c.if-at-eq0.true ∙ ap Some (shifted_none b.0.0 ∙ sym (c.first.ensures.first ∙ ap (λ q. q.0) c.run.ensures.run)) in
-    record { less = λ t. run_ends xs c.args.i c.first.result.now c.args.run.now (rising_of xs c.blocks-blocks.ensures.rises) first c.len-len.ensures.run (sym c.ends_below.ensures.below ∙ t) }
+    record { less = λ t. run_ends xs c.args.i c.first.result.now (c.args.first.now, c.args.len) (rising_of xs c.blocks-blocks.ensures.rises) first c.requires.run (sym c.are_below.ensures.below ∙ t) }
 
 pub returns : goal.returns
 returns c =
     let xs = idents_in (entries_of c.args.self.now.blocks) in
-    record { less = λ t. run_ends xs c.args.i c.in_ok-ident.field-0 c.args.run.now (rising_of xs c.blocks-blocks.ensures.rises) c.in_ok-ident.ensures.ident c.len-len.ensures.run (sym c.ends_below-3.ensures.below ∙ t) }
+    record { less = λ t. run_ends xs c.args.i c.in_ok-next.next (c.args.first.now, c.args.len) (rising_of xs c.blocks-blocks.ensures.rises) c.in_ok-next.ensures.ident c.requires.run (sym c.are_below-2.ensures.below ∙ t) }
