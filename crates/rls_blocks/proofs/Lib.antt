@@ -11,6 +11,7 @@ pub mod Placed
 pub mod Insertions
 pub mod Ranges
 pub mod Changed
+pub mod OneMore
 pub mod Taken
 pub mod Patches
 pub mod Rests

@@ -98,6 +98,11 @@ among made (b ∷ bs) i = if nat_lt i (length b.1) then made b i ++ bs else b �
 abbrev pub put_among : Piece → List Piece → ℕ → List Piece
 put_among n bs i = among (put_in n) bs i
 
+-- blocks, and one more behind so many characters, or if these end within a block, behind it
+abbrev pub with_block : Piece → List Piece → ℕ → List Piece
+with_block n [] i = n ∷ []
+with_block n (b ∷ bs) i = if nat_eq i 0 then n ∷ b ∷ bs else b ∷ with_block n bs (i - length b.1)
+
 -- the block can change so: it touches the block in front, there are identifiers for the characters behind, or it has more characters than those that go
 abbrev pub MayChange : Change → Piece → Type 0
 MayChange (GrowFront n) b = IsTrue (follows b.0.0 (run_last n.0))

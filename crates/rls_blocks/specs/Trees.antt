@@ -58,6 +58,7 @@ MaybeNode = Option (Box Seen Global)
 -- a node whose block is the only one of its tree
 pub record IsAlone (node : Seen) : Type 0 where
   pub only : node.blocks ≡ node.block ∷ []
+  pub one_level : node.height ≡ 1
   pub piece : IsPiece node.block.0 node.block.1
 
 -- its blocks

@@ -12,12 +12,13 @@ ghost use Rattle.rls_blocks.specs.Trees.{runs_in, IsLow, IsPiece, ArePieces, Tre
 ghost use Rattle.rls_blocks.specs.Edits.{around, located, begins_with, ends_with};
 
 mod in_place;
+mod one_more;
 mod opened;
 mod single;
 
 use crate::block::Block;
 use crate::side::Side;
-pub(crate) use opened::{Frame, Opened};
+pub(crate) use opened::Opened;
 use rls_ident::{Ident, rely};
 use rls_runs::{Run, Text};
 pub(crate) use single::Single;

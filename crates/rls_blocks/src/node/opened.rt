@@ -2,11 +2,8 @@
 
 ghost use Rattle.std.specs.Prelude.{◌≡◌, ◌+◌, ◌^◌, ◌<◌, ◌≤◌, max, ◌∷◌, ◌++◌, length};
 ghost use Rattle.rls_blocks.specs.Trees.{ArePieces, IsLow, entries_of, pieces_prop};
-ghost use Rattle.rls_blocks.specs.Edits.{on};
 
 use super::{Link, Node, Single};
-use crate::balance::join;
-use crate::side::Side;
 use std::mem;
 
 /// A node taken apart: its block, the trees on both sides, and their numbers, so that it is put together again with no look into them.
@@ -109,91 +106,5 @@ impl Opened {
         inner.left = self.left;
         inner.right = self.right;
         Link::to(node)
-    }
-
-    /// The tree on a side, and the rest.
-    pub(crate) fn take(self, side: Side) -> (Link, Frame)
-        ensures taken { result.0 ≡ on side self.left self.right }
-        ensures side { result.1.side ≡ side }
-        ensures own { result.1.own ≡ self.own }
-        ensures other { result.1.other ≡ on side self.right self.left }
-    {
-        let (link, other, chars) = match side {
-            Side::Front => (self.left, self.right, self.behind),
-            Side::Behind => (self.right, self.left, self.front),
-        };
-        let frame = Frame {
-            side,
-            own: self.own,
-            other,
-            chars,
-            blocks: self.blocks - link.blocks(),
-            height: self.height,
-            before: link.height(),
-        };
-        (link, frame)
-    }
-}
-
-/// A node from which the tree on a side is taken out.
-#[derive(Drop)]
-pub(crate) struct Frame {
-    side: Side,
-    own: Single,
-    other: Link,
-    // How many characters and blocks the other tree has.
-    chars: u64,
-    blocks: u64,
-    // How many levels the node had, and the tree that was taken out.
-    height: u32,
-    before: u32,
-    ghost chars_is: { chars ≡ length (entries_of other.blocks) },
-    ghost blocks_is: { blocks ≡ length other.blocks },
-    ghost height_is: { height ≡ max before other.height + 1 },
-    ghost not_higher: { before ≤ other.height + 1 },
-    ghost not_lower: { other.height ≤ before + 1 },
-    ghost other_are: { ArePieces other.blocks } by { pieces_prop other.blocks },
-    ghost other_low: { IsLow other.height (length other.blocks) },
-}
-
-impl Frame {
-    /// Puts a tree in the place of the one that was taken out. It looks into the tree on the other side only if the new one has more or
-    /// fewer levels.
-    pub(crate) fn hang(self, link: Link) -> Link
-        requires chars_fit { length (entries_of link.blocks) + length self.own.1 + length (entries_of self.other.blocks) < 2 ^ 64 }
-        ensures blocks { result.blocks ≡ on self.side (link.blocks ++ self.own ∷ self.other.blocks) (self.other.blocks ++ self.own ∷ link.blocks) }
-        ensures chars { length (entries_of result.blocks) ≡ length (entries_of link.blocks) + length self.own.1 + length (entries_of self.other.blocks) }
-    {
-        let chars = link.chars();
-        let blocks = self.blocks + link.blocks();
-        let same = link.height() == self.before;
-        match self.side {
-            Side::Front if same => {
-                let opened = Opened {
-                    left: link,
-                    own: self.own,
-                    right: self.other,
-                    front: chars,
-                    behind: self.chars,
-                    blocks,
-                    height: self.height,
-                };
-                opened.close()
-            }
-            Side::Behind if same => {
-                let opened = Opened {
-                    left: self.other,
-                    own: self.own,
-                    right: link,
-                    front: self.chars,
-                    behind: chars,
-                    blocks,
-                    height: self.height,
-                };
-                opened.close()
-            }
-            Side::Front => join(link, self.own, self.other),
-            Side::Behind => join(self.other, self.own, link),
-        }
     }
 }
