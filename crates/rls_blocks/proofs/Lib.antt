@@ -15,3 +15,4 @@ pub mod OneMore
 pub mod Taken
 pub mod Patches
 pub mod Rests
+pub mod Beside

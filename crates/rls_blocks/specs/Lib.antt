@@ -3,3 +3,4 @@ pub mod Edits
 pub mod Patches
 pub mod Splits
 pub mod Rests
+pub mod Beside

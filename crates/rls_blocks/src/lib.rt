@@ -18,7 +18,7 @@ mod split;
 pub use block::{Block, part_of_text};
 pub use build::tree_of;
 pub use insert::insert_at;
-pub use node::{Link, Node};
+pub use node::{Link, Node, Place};
 pub use patch::{Patch, push_block, push_runs, with_patches};
 pub use remove::remove_range;
 pub use rest::{Part, Rest, with_rest};

@@ -11,6 +11,7 @@ ghost use Rattle.rls_runs.proofs.RunOrder.{Rising};
 ghost use Rattle.rls_blocks.specs.Trees.{runs_in, IsLow, IsPiece, ArePieces, Tree, entries_of};
 ghost use Rattle.rls_blocks.specs.Edits.{around, located, begins_with, ends_with};
 
+mod beside;
 mod in_place;
 mod one_more;
 mod opened;
@@ -18,6 +19,7 @@ mod single;
 
 use crate::block::Block;
 use crate::side::Side;
+pub use beside::Place;
 pub(crate) use opened::Opened;
 use rls_ident::{Ident, rely};
 use rls_runs::{Run, Text};

@@ -1,9 +1,8 @@
 //! What the member itself does.
 
-ghost use Rattle.std.specs.Prelude.{◌≡◌, ℕ, List, pos, ◌-ℤ◌, ◌+◌, ◌-◌, ◌<◌, ◌≤◌, ◌^◌, ◌≢◌, length, slice_get, Some, None, IfSome, IfOk, IfErr, OnOk, OnErr, IsTrue, option_copied};
+ghost use Rattle.std.specs.Prelude.{◌≡◌, ℕ, List, pos, ◌-ℤ◌, ◌+◌, ◌-◌, ◌<◌, ◌≤◌, ◌^◌, ◌≢◌, length, slice_get, Some, None, IfOk, IfErr, OnOk, OnErr};
 ghost use Rattle.rls_ident.specs.declared.limits.TheConstants.{GREATEST_NUMBER};
 ghost use Rattle.rls_ident.specs.declared.tuple.Tuple.{Tuple};
-ghost use Rattle.rls_ident.specs.Between.{are_bounds};
 ghost use Rattle.rls_ident.specs.Identifiers.{shifted};
 ghost use Rattle.rls_ops.specs.Sizes.{op_size};
 ghost use Rattle.rls_model.specs.declared.edit.Edit.TheVariants.{Insert, Delete, Rename, Leave};
@@ -23,6 +22,7 @@ use rls_ident::limits::{CHARACTERS, GREATEST_NUMBER, IDENTIFIERS, OPERATION_BYTE
 use rls_ident::{Ident, rely};
 use rls_model::{Edit, EditError};
 use rls_ops::{Body, Op};
+use rls_stems::Neighbour;
 use std::alloc::AllocError;
 
 impl Replica {
@@ -209,58 +209,17 @@ impl Replica {
         ensures first { IfOk result (λ x. x ≡ first_between self.now.stems self.now.acks.me (own_count self.now + 1) (get_before (idents_over self.now) at) (slice_get (idents_over self.now) at) count) }
     {
         rely!(self.sane());
-        let left = self.ident_before(at)?;
-        if let Some(right) = self.first_from(at) {
-            return self.first_between(left.as_ref(), Some(right), count);
-        }
-        let right = self.ident_from(at)?;
-        self.first_between(left.as_ref(), right.as_ref(), count)
-    }
-
-    // The first identifier of an insertion of so many characters between these neighbours.
-    fn first_between(
-        &self,
-        left: Option<&Ident>,
-        right: Option<&Ident>,
-        count: usize,
-    ) -> Result<Ident, AllocError>
-        requires order { IsTrue (are_bounds (option_copied left) (option_copied right)) }
-        requires some { 0 < count }
-        requires brief { count < 2 ^ 31 }
-        requires unspent { own_count self.now ≢ GREATEST_NUMBER }
-        ensures first { IfOk result (λ x. x ≡ first_between self.now.stems self.now.acks.me (own_count self.now + 1) (option_copied left.entry) (option_copied right.entry) count) }
-    {
+        let (before, behind) = self.document.neighbours(at);
+        let (left, right) = (Neighbour::of(before), Neighbour::of(behind));
         let seq = self.own_count() + 1;
-        self.stems
-            .first_between(self.alloc, self.me(), seq, left, right, count)
-    }
-
-    // The identifier right before a place, if there is one.
-    fn ident_before(&self, at: u64) -> Result<Option<Ident>, AllocError>
-        requires place { at ≤ length self.now.text }
-        ensures before { IfOk result (λ x. x ≡ get_before (idents_over self.now) at) }
-    {
-        if at == 0 {
-            return Ok(None);
-        }
-        Ok(Some(self.document.ident_at(at - 1)?))
-    }
-
-    // The identifier at a place where a run of the text begins. It takes no memory.
-    fn first_from(&self, at: u64) -> Option<&Ident>
-        ensures from { IfSome result (λ x. slice_get (idents_over self.now) at ≡ Some x.now) }
-    {
-        self.document.first_at(at)
-    }
-
-    // The identifier at a place, if there is one.
-    fn ident_from(&self, at: u64) -> Result<Option<Ident>, AllocError>
-        ensures from { IfOk result (λ x. x ≡ slice_get (idents_over self.now) at) }
-    {
-        if at >= self.total() {
-            return Ok(None);
-        }
-        Ok(Some(self.document.ident_at(at)?))
+        self.stems.first_between(
+            self.alloc,
+            self.me(),
+            seq,
+            left.as_ref(),
+            right.as_ref(),
+            count,
+        )
     }
 }
 

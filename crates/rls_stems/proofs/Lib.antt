@@ -3,3 +3,4 @@ pub mod Placing
 pub mod Tabled
 pub mod Behind
 pub mod Owned
+pub mod Neighbours

@@ -2,7 +2,9 @@
 #![tactic(auto)]
 
 mod line;
+mod neighbour;
 mod own;
 mod table;
 
+pub use neighbour::Neighbour;
 pub use table::StemTable;

@@ -1,7 +1,7 @@
 //! The stems of all authors.
 
-ghost use Rattle.std.specs.Prelude.{◌≡◌, ◌+◌, ◌^◌, ◌<◌, ◌≤◌, ◌++◌, ◌∷◌, [], pos, OnOk, OnErr, IfOk, IfSome, IfNone, IsTrue, length, option_copied, slice_index, ◌+ℤ◌, ◌<ℤ◌, ◌≤ℤ◌};
-ghost use Rattle.rls_ident.specs.Between.{are_bounds};
+ghost use Rattle.std.specs.Prelude.{◌≡◌, ◌+◌, ◌^◌, ◌<◌, ◌≤◌, ◌++◌, ◌∷◌, [], pos, OnOk, OnErr, IfOk, IfSome, IfNone, IsTrue, length, option_copied, ◌-ℤ◌, if◌then◌else◌, slice_index, ◌+ℤ◌, ◌<ℤ◌, ◌≤ℤ◌};
+ghost use Rattle.rls_ident.specs.Between.{are_bounds, between, bound_tuples};
 ghost use Rattle.rls_ident.specs.Identifiers.{last_of, shifted, greatest_offset};
 ghost use Rattle.rls_ident.specs.Tuples.{at_spot, offset_of};
 ghost use Rattle.rls_ops.specs.Shapes.{body_len};
@@ -12,12 +12,12 @@ ghost use Rattle.rls_model.specs.Stems.{stands_before, stem_of, due_of, due_offs
 ghost use Rattle.rls_stems.specs.Tables.{IsNewest};
 
 use crate::line::{Line, Reach};
+use crate::neighbour::Neighbour;
 use rls_ident::limits::{GREATEST_OFFSET, LEAST_OFFSET};
 use rls_ident::{Ident, Spot, between};
 use rls_model::{Stem, Stems};
 use rls_ops::Body;
 use std::alloc::{AllocError, Global};
-use std::cmp::Ordering;
 use std::marker::Model;
 
 /// The stems of all authors: one list for each, to whose end each new stem goes.
@@ -148,14 +148,15 @@ impl StemTable {
 
     /// The first identifier of an insertion of this many characters between these neighbours, by this member's operation with this
     /// number: after the left neighbour where its stem goes on there, else before the right one, else between the two. It costs as
-    /// much as `get`, and takes memory for a few identifiers.
+    /// much as `get` and a comparison of identifiers, and takes memory for the identifier, and for the neighbours where it is between
+    /// the two.
     pub fn first_between(
         &self,
         alloc: Global,
         me: u32,
         seq: u32,
-        left: Option<&Ident>,
-        right: Option<&Ident>,
+        left: Option<&Neighbour<'_>>,
+        right: Option<&Neighbour<'_>>,
         count: usize,
     ) -> Result<Ident, AllocError>
         requires order { IsTrue (are_bounds (option_copied left) (option_copied right)) }
@@ -165,16 +166,16 @@ impl StemTable {
     {
         let count = count as u32;
         if let Some(before) = left {
-            if self.may_append(me, before, right, count) {
+            if self.may_append(me, before, right, count)? {
                 return before.shifted(1);
             }
         }
         if let Some(behind) = right {
-            if self.may_prepend(me, left, behind, count)? {
-                return behind.lowered(count);
+            if let Some(first) = self.first_in_front(me, left, behind, count)? {
+                return Ok(first);
             }
         }
-        between(alloc, left, right, me, seq)
+        first_inside(alloc, me, seq, left, right)
     }
 
     /// The stems by author and number, copied one by one.
@@ -233,41 +234,52 @@ impl StemTable {
     }
 
     // Whether so many characters may follow the left neighbour in its stem.
-    fn may_append(&self, me: u32, left: &Ident, right: Option<&Ident>, count: u32) -> bool
+    fn may_append(
+        &self,
+        me: u32,
+        left: &Neighbour<'_>,
+        right: Option<&Neighbour<'_>>,
+        count: u32,
+    ) -> Result<bool, AllocError>
         requires brief { count < 2 ^ 31 }
-        ensures append { result ≡ may_append (own_stem self.now.stems me (last_of left.now)) left.now (option_copied right.entry) count }
+        ensures append { IfOk result (λ b. b ≡ may_append (own_stem self.now.stems me (last_of left.now)) left.now (option_copied right.entry) count) }
     {
         let last = left.last();
         let Some(stem) = self.own_stem(me, last) else {
-            return false;
+            return Ok(false);
         };
         if last.offset as i64 + 1 != stem.next as i64
             || last.offset as i64 + count as i64 > GREATEST_OFFSET as i64
         {
-            return false;
+            return Ok(false);
         }
         ends_below(left, count, right)
     }
 
-    // Whether so many characters may stand before the right neighbour in its stem.
-    fn may_prepend(
+    // The first of so many characters before the right neighbour in its stem, if they may stand there.
+    fn first_in_front(
         &self,
         me: u32,
-        left: Option<&Ident>,
-        right: &Ident,
+        left: Option<&Neighbour<'_>>,
+        right: &Neighbour<'_>,
         count: u32,
-    ) -> Result<bool, AllocError>
+    ) -> Result<Option<Ident>, AllocError>
         requires brief { count < 2 ^ 31 }
-        ensures prepend { IfOk result (λ b. b ≡ may_prepend (own_stem self.now.stems me (last_of right.now)) (option_copied left.entry) right.now count) }
+        ensures first { IfOk result (λ first. first ≡ (if may_prepend (own_stem self.now.stems me (last_of right.now)) (option_copied left.entry) right.now count then Some (shifted (pos 0 -ℤ pos count) right.now) else None)) }
     {
         let last = right.last();
         let Some(stem) = self.own_stem(me, last) else {
-            return Ok(false);
+            return Ok(None);
         };
         if last.offset != stem.low || last.offset as i64 - (count as i64) < LEAST_OFFSET as i64 {
-            return Ok(false);
+            return Ok(None);
         }
-        Ok(begins_above(left, &right.lowered(count)?))
+        let first = right.lowered(count)?;
+        if begins_above(left, &first) {
+            Ok(Some(first))
+        } else {
+            Ok(None)
+        }
     }
 
     // The member's own stem that the tuple belongs to.
@@ -315,28 +327,51 @@ fn gap_up_to(offset: i32, low: i32) -> Option<u64>
 }
 
 // Whether the identifier with the last offset greater by this much is less than the right neighbour, where there is one.
-fn ends_below(id: &Ident, by: u32, right: Option<&Ident>) -> bool
+fn ends_below(
+    id: &Neighbour<'_>,
+    by: u32,
+    right: Option<&Neighbour<'_>>,
+) -> Result<bool, AllocError>
     requires greatest { (offset_of (last_of id.now) +ℤ pos by) ≤ℤ greatest_offset }
-    ensures below { result ≡ ends_below (shifted (pos by) id.now) (option_copied right.entry) }
+    ensures below { IfOk result (λ b. b ≡ ends_below (shifted (pos by) id.now) (option_copied right.entry)) }
 {
     match right {
-        None => true,
-        Some(right) => match id.compare_shifted(by, right) {
-            Ordering::Less => true,
-            _ => false,
-        },
+        None => Ok(true),
+        Some(right) => Ok(id.compare_shifted_to(by, right)?.is_lt()),
     }
 }
 
 // Whether the left neighbour is less than the identifier, where there is one.
-fn begins_above(left: Option<&Ident>, id: &Ident) -> bool
+fn begins_above(left: Option<&Neighbour<'_>>, id: &Ident) -> bool
     ensures above { result ≡ begins_above (option_copied left.entry) id.now }
 {
     match left {
         None => true,
-        Some(left) => match left.compare(id) {
-            Ordering::Less => true,
-            _ => false,
-        },
+        Some(left) => left.compare(id).is_lt(),
+    }
+}
+
+// A new identifier between the two neighbours.
+fn first_inside(
+    alloc: Global,
+    me: u32,
+    seq: u32,
+    left: Option<&Neighbour<'_>>,
+    right: Option<&Neighbour<'_>>,
+) -> Result<Ident, AllocError>
+    requires order { IsTrue (are_bounds (option_copied left) (option_copied right)) }
+    ensures between { IfOk result (λ id. id ≡ between (bound_tuples (option_copied left.entry)) (bound_tuples (option_copied right.entry)) me seq) }
+{
+    let left = copy_of(left)?;
+    let right = copy_of(right)?;
+    between(alloc, left.as_ref(), right.as_ref(), me, seq)
+}
+
+fn copy_of(neighbour: Option<&Neighbour<'_>>) -> Result<Option<Ident>, AllocError>
+    ensures copy { IfOk result (λ id. id ≡ option_copied neighbour.entry) }
+{
+    match neighbour {
+        None => Ok(None),
+        Some(neighbour) => Ok(Some(neighbour.copy()?)),
     }
 }

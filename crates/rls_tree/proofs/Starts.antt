@@ -1,16 +1,20 @@
 -- Where the block of a place begins.
-use Rattle.std.proofs.Common.{◌≡◌, ℕ, ◌+◌, ◌-◌, ◌<◌, ◌≤◌, Bool, true, false, List, [], ◌∷◌, ◌++◌, length, Option, Some, None, slice_get, refl, sym, ap, ◌∙◌, subst, arith, append_assoc}
-use Rattle.std.specs.Prelude.{pos, nat_lt}
+use Rattle.std.proofs.Common.{◌≡◌, ℕ, zero, suc, ◌+◌, ◌-◌, ◌<◌, ◌≤◌, Bool, true, false, List, [], ◌∷◌, ◌++◌, length, Option, Some, None, slice_get, refl, sym, ap, ◌∙◌, subst, arith, append_assoc}
+use Rattle.std.specs.Prelude.{pos, nat_lt, if◌then◌else◌, IfSome}
+use Rattle.std.specs.Option.{option_map}
+use Rattle.std.proofs.lemmas.List.{length-map}
+use Rattle.std.proofs.lemmas.Option.{slice_get_past}
 use Rattle.rls_ident.proofs.Members.{lt_is, not_lt_is}
 use Rattle.rls_blocks.specs.Trees.{Piece, IsPiece, ArePieces, entries_of, runs_in}
 use Rattle.rls_blocks.specs.Patches.{before, after, IsBetween}
 use Rattle.rls_blocks.specs.Edits.{located, goes_on, leads_to}
+use Rattle.rls_blocks.specs.Beside.{located_before, ident_there}
 use Rattle.rls_blocks.proofs.Loose.{last_run, last_append}
 use Rattle.rls_blocks.proofs.Cases.{single_chars}
 use Rattle.rls_runs.specs.Entries.{idents_in}
 use Rattle.rls_ident.specs.declared.tuple.Tuple.{Tuple}
 use Rattle.rls_ident.specs.Identifiers.{shifted}
-use Rattle.rls_blocks.proofs.AtPlaces.{entry_located}
+use Rattle.rls_blocks.proofs.AtPlaces.{entry_located, located_none}
 use Rattle.rls_tree.proofs.Located.{mapped_at, entry_at}
 use Rattle.rls_blocks.proofs.Placed.{around}
 use Rattle.rls_blocks.proofs.Pieces.{chars_append}
@@ -95,3 +99,37 @@ next_between bs i at b h l e m =
 
 pub ident_located : (bs : List Piece) (i at : ℕ) (b : Piece) → ArePieces bs → located bs i ≡ Some (b, at) → IsPiece b.0 b.1 → at < length b.1 → slice_get (idents_in (entries_of bs)) i ≡ Some (shifted (pos at) b.0.0)
 ident_located bs i at b h e p l = mapped_at (λ u. u.0) (entries_of bs) i _ (entry_located bs i at b h e ∙ entry_at b at p l)
+
+-- the identifier at a place, if there is one
+pub ident_at : (bs : List Piece) (i : ℕ) → ArePieces bs → option_map ident_there (located bs i) ≡ slice_get (idents_in (entries_of bs)) i
+ident_at bs i h = go (nat_lt i (length (entries_of bs))) refl
+  where
+    go : (t : Bool) → nat_lt i (length (entries_of bs)) ≡ t → option_map ident_there (located bs i) ≡ slice_get (idents_in (entries_of bs)) i
+    go true t =
+        let r = around bs i h (lt_is i (length (entries_of bs)) t) in
+        ap (option_map ident_there) r.there ∙ sym (ident_located bs i r.at r.own h r.there r.own_is r.within)
+    go false t =
+        let w = not_lt_is i (length (entries_of bs)) t in
+        let l = length-map (entries_of bs) (λ e. e.0) in
+        ap (option_map ident_there) (located_none bs i h w) ∙ sym (slice_get_past (idents_in (entries_of bs)) i (omega (arith, l, w)))
+
+-- and the one right before it
+pub ident_before : (bs : List Piece) (i : ℕ) → ArePieces bs → 0 < i → option_map ident_there (located_before None bs i) ≡ slice_get (idents_in (entries_of bs)) (i - 1)
+ident_before bs zero h s = absurd (omega (arith, s))
+ident_before bs (suc i) h s = let e : i ≡ suc i - 1 = omega arith in ident_at bs i h ∙ ap (slice_get (idents_in (entries_of bs))) e
+
+-- the place within a block
+place_within : (bs : List Piece) (i : ℕ) → IfSome (located bs i) (λ p. p.1 < length p.0.1)
+place_within [] i = tt
+place_within (b ∷ bs) i = go (nat_lt i (length b.1)) refl (place_within bs (i - length b.1))
+  where
+    go : (t : Bool) → nat_lt i (length b.1) ≡ t → IfSome (located bs (i - length b.1)) (λ p. p.1 < length p.0.1) → IfSome (if t then Some (b, i) else located bs (i - length b.1)) (λ p. p.1 < length p.0.1)
+    go true t h = lt_is i (length b.1) t
+    go false t h = h
+
+pub within_at : (bs : List Piece) (i : ℕ) (o : Option (Piece × ℕ)) → o ≡ located bs i → IfSome o (λ p. p.1 < length p.0.1)
+within_at bs i o e = subst (λ q. IfSome q (λ p. p.1 < length p.0.1)) (sym e) (place_within bs i)
+
+pub within_before : (bs : List Piece) (i : ℕ) (o : Option (Piece × ℕ)) → o ≡ located_before None bs i → IfSome o (λ p. p.1 < length p.0.1)
+within_before bs zero o e = subst (λ q. IfSome q (λ p. p.1 < length p.0.1)) (sym e) tt
+within_before bs (suc i) o e = within_at bs i o e

@@ -1,19 +1,21 @@
 //! The block tree.
 
-ghost use Rattle.std.specs.Prelude.{◌≡◌, ℕ, ◌+◌, ◌*◌, ◌^◌, ◌≤◌, [], ◌<◌, pos, None, length, take, drop, reverse, slice_get, Some, IfSome, IfNone, IfOk, OnOk, OnErr, IsTrue, IsFalse, encode_utf8_all};
+ghost use Rattle.std.specs.Prelude.{◌≡◌, ℕ, ◌+◌, ◌-◌, ◌*◌, ◌^◌, ◌≤◌, [], ◌<◌, pos, ◌+ℤ◌, ◌≤ℤ◌, None, option_map, length, take, drop, reverse, slice_get, Some, IfSome, IfNone, IfOk, OnOk, OnErr, IsTrue, IsFalse, encode_utf8_all};
 ghost use Rattle.std.specs.List.{list_all};
 ghost use Rattle.std.specs.String.{string_bytes};
-ghost use Rattle.rls_ident.specs.Identifiers.{is_ident, shifted};
+ghost use Rattle.rls_ident.specs.Tuples.{offset_of};
+ghost use Rattle.rls_ident.specs.Identifiers.{is_ident, last_of, shifted, greatest_offset};
 ghost use Rattle.rls_runs.specs.Runs.{run_idents, runs_of, are_apart, is_increasing, place_of};
 ghost use Rattle.rls_runs.specs.Entries.{idents_in, chars_in, has_ident};
 ghost use Rattle.rls_blocks.specs.Trees.{ArePieces, IsPiece, entries_of, piece_entries, runs_in};
 ghost use Rattle.rls_blocks.specs.Edits.{are_loose, inserted, located, removed};
+ghost use Rattle.rls_blocks.specs.Beside.{lent, ident_there};
 ghost use Rattle.rls_blocks.specs.Patches.{patched, ArePatches, IsBetween};
 ghost use Rattle.rls_blocks.specs.Rests.{rested, IsRest};
 
 use rls_blocks::{
-    Block, Link, Node, Patch, Rest, insert_at, part_of_text, remove_range, tree_of, with_patches,
-    with_rest,
+    Block, Link, Node, Patch, Place, Rest, insert_at, part_of_text, remove_range, tree_of,
+    with_patches, with_rest,
 };
 use rls_ident::{Ident, rely};
 use rls_runs::{Run, Text};
@@ -171,21 +173,21 @@ impl BlockTree {
         Ok(id)
     }
 
-    /// The identifier at a place where a run of the tree begins. There is none at another place, nor at the end. It costs a step for each
-    /// level, and takes no memory.
-    pub fn first_at(&self, i: u64) -> Option<&Ident>
-        ensures ident { IfSome result (λ x. slice_get (idents_in (entries_of self.now.blocks)) i ≡ Some x.now) }
+    /// The identifiers right before a place and right behind it, each as the first one of its run and how far it is from that: none is
+    /// before the first place, and none behind the last. It costs a step for each level, and takes no memory.
+    pub fn neighbours(&self, i: u64) -> (Option<(&Ident, u32)>, Option<(&Ident, u32)>)
+        requires place { i ≤ length (entries_of self.now.blocks) }
+        ensures none { i ≡ 0 → option_map (λ p. shifted (pos p.1) p.0.now) result.0 ≡ None }
+        ensures before { 0 < i → option_map (λ p. shifted (pos p.1) p.0.now) result.0 ≡ slice_get (idents_in (entries_of self.now.blocks)) (i - 1) }
+        ensures behind { option_map (λ p. shifted (pos p.1) p.0.now) result.1 ≡ slice_get (idents_in (entries_of self.now.blocks)) i }
+
+        // Their offsets are in the program's range.
+        ensures before_fits { IfSome result.0 (λ p. (offset_of (last_of p.0.now) +ℤ pos p.1) ≤ℤ greatest_offset) }
+        ensures behind_fits { IfSome result.1 (λ p. (offset_of (last_of p.0.now) +ℤ pos p.1) ≤ℤ greatest_offset) }
     {
-        let chars = self.chars();
-        if i >= chars {
-            return None;
-        }
-        let (block, at) = self.locate(i);
-        rely!(let _len = block.len());
-        if at > 0 {
-            return None;
-        }
-        Some(block.run().first())
+        rely!(let _chars = self.chars());
+        let (before, behind) = self.root.beside(i);
+        (ident_at(before), ident_at(behind))
     }
 
     // The run of this many identifiers from a place on, or of fewer if no more stand in one block there.
@@ -354,4 +356,17 @@ impl BlockTree {
             }
         }
     }
+}
+
+// The identifier at a place of a block, as the first one of its run and how far it is from that.
+fn ident_at<'a>(place: Option<Place<'a>>) -> Option<(&'a Ident, u32)>
+    requires within { IfSome (lent place) (λ p. p.1 < length p.0.1) }
+    ensures ident { option_map (λ p. shifted (pos p.1) p.0.now) result ≡ option_map ident_there (lent place.entry) }
+    ensures fits { IfSome result (λ p. (offset_of (last_of p.0.now) +ℤ pos p.1) ≤ℤ greatest_offset) }
+{
+    let (block, at) = place?;
+    rely!(let _len = block.len());
+    let run = block.run();
+    rely!(let _last = run.first().last());
+    Some((run.first(), at))
 }

@@ -1,10 +1,10 @@
 //! What a replica keeps: rows, a log, and stems.
 
-use rls_ident::{Ident, Spot, Vector};
+use rls_ident::{Ident, Spot, Vector, rely};
 use rls_log::Log;
 use rls_ops::{Body, Op, Text};
 use rls_stable::Acks;
-use rls_stems::StemTable;
+use rls_stems::{Neighbour, StemTable};
 use std::alloc::Global;
 use std::test::Fail;
 use test_steps::told::{Deed, ORIGIN, Told, old, op_of};
@@ -257,10 +257,17 @@ fn is_middle(alloc: Global, table: &StemTable) -> Result<bool, Fail> {
     Ok(first.compare(&middle).is_eq())
 }
 
+/// The identifier that member 1 puts right after this one.
+fn after(alloc: Global, table: &StemTable, first: &Ident) -> Result<Ident, Fail> {
+    rely!(let _last = first.last());
+    let left = Neighbour::new(first, 0);
+    Ok(table.first_between(alloc, 1, 1, Some(&left), None, 1)?)
+}
+
 /// The position of an identifier that comes after the first one.
 fn later(alloc: Global, table: &StemTable) -> Result<u32, Fail> {
     let first = table.first_between(alloc, 0, 1, None, None, 5)?;
-    let later = table.first_between(alloc, 1, 1, Some(&first), None, 1)?;
+    let later = after(alloc, table, &first)?;
     Ok(later.last().pos)
 }
 
