@@ -1,10 +1,10 @@
 -- Lists of bytes that are put one after another.
 use Rattle.std.proofs.Common.{◌≡◌, ℕ, ◌+◌, ◌≤◌, ◌<◌, List, [], ◌∷◌, ◌++◌, length, take, drop, refl, sym, ap, ◌∙◌, append_assoc, arith, get_or}
 use Rattle.std.specs.Prelude.{encode_utf8_all, encode_utf8}
-use Rattle.std.specs.List.{flat_map, concat}
+use Rattle.std.specs.List.{All, flat_map, concat}
 use Rattle.std.proofs.lemmas.List.{append-nil, take_more, take_all, take_at, take-take, length-take, take-append-drop, length-append}
 use Rattle.std.proofs.lemmas.Str.{encodes-append}
-use Rattle.rls_runs.proofs.Texts.{encodes_more}
+use Rattle.rls_runs.proofs.Texts.{ascii_encodes, encodes_more}
 use Rattle.rls_ident.specs.declared.tuple.Tuple.{Tuple}
 use Rattle.rls_codec.specs.Gives.{IsFrontOf}
 use Rattle.rls_ops.specs.Spelling.{tuple_bytes, four_bytes, ident_bytes}
@@ -49,6 +49,11 @@ encodes_parts front back text e = ap encode_utf8_all (sym e) ∙ encodes-append 
 
 pub encodes_joined : (front back text : List ℕ) → front ++ back ≡ text → length (encode_utf8_all front) + length (encode_utf8_all back) ≡ length (encode_utf8_all text)
 encodes_joined front back text e = sym (ap length (encodes_parts front back text e) ∙ length-append (encode_utf8_all front) (encode_utf8_all back))
+
+-- of ASCII characters
+pub ascii_parts : (front back text : List ℕ) → front ++ back ≡ text → All (λ c. c < 128) front → All (λ c. c < 128) back → encode_utf8_all text ≡ front ++ back
+ascii_parts front back text e f b =
+    encodes_parts front back text e ∙ ap (λ w. w ++ encode_utf8_all back) (ascii_encodes front f) ∙ ap (λ w. front ++ w) (ascii_encodes back b)
 
 pub puts_parts : (o p q front back text : List ℕ) → front ++ back ≡ text → p ≡ o ++ encode_utf8_all front → q ≡ p ++ encode_utf8_all back → q ≡ o ++ encode_utf8_all text
 puts_parts o p q front back text e f h = h ∙ ap (λ w. w ++ encode_utf8_all back) f ∙ append_assoc o (encode_utf8_all front) (encode_utf8_all back) ∙ ap (λ w. o ++ w) (sym (encodes_parts front back text e))

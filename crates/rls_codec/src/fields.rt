@@ -93,7 +93,7 @@ pub fn vector(alloc: Global, members: u32, bytes: &[u8]) -> Result<(Vector, &[u8
     Ok((Vector::from_vec(counts), rest))
 }
 
-#[tactic(auto, using(crate::proofs::Utf8::chars_are))]
+#[tactic(auto, using(rls_runs::proofs::Texts::chars_are))]
 fn text_of(alloc: Global, text: &str) -> Result<Text, AllocError>
     ensures chars { IfOk result (λ found. chars text.now ≡ found) }
 {

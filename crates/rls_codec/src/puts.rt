@@ -3,7 +3,7 @@
 //! Each call appends the bytes of its part. If memory runs out, the bytes that stood there before still stand in
 //! front, and some of the part's own may follow them.
 
-ghost use Rattle.std.specs.Prelude.{◌≡◌, ◌<◌, ◌^◌, ◌++◌, [], ◌∷◌, length, All, OnOk, encode_utf8, encode_utf8_all};
+ghost use Rattle.std.specs.Prelude.{◌≡◌, ◌<◌, ◌^◌, ◌++◌, [], ◌∷◌, length, All, IsTrue, OnOk, encode_utf8, encode_utf8_all};
 ghost use Rattle.std.specs.List.{flat_map};
 ghost use Rattle.std.specs.Char.{IsScalar};
 ghost use Rattle.rls_runs.specs.Runs.{runs_of, AreIdents};
@@ -191,14 +191,65 @@ fn put_text_chars(out: &mut Vec<u8>, text: &Text) -> Result<(), AllocError>
     Ok(())
 }
 
+// Whether all are ASCII. All are looked at, so that the machine can compare many at once.
+fn are_ascii(chars: &[char]) -> bool
+    ensures ascii { IsTrue result → All (λ c. c < 128) chars.now }
+{
+    let mut greatest = 0;
+    for c in chars {
+        greatest = greatest.max(*c as u32);
+    }
+    greatest < 128
+}
+
+// Writes the code of each character over a byte.
+fn fill_ascii(bytes: &mut [u8], chars: &[char])
+    requires places { length bytes.old ≡ length chars.now }
+    requires ascii { All (λ c. c < 128) chars.now }
+    ensures codes { bytes.new ≡ chars.now }
+{
+    for i in 0..chars.len() {
+        bytes[i] = chars[i] as u8;
+    }
+}
+
+// Puts characters that are their own bytes.
+fn put_ascii(out: &mut Vec<u8>, chars: &[char]) -> Result<(), AllocError>
+    requires ascii { All (λ c. c < 128) chars.now }
+    ensures ok { OnOk result (out.new.items ≡ out.old.items ++ chars.now) }
+    ensures keeps { IsFrontOf out.old.items out.new.items }
+{
+    let start = out.len();
+    out.resize(start + chars.len(), 0)?;
+    fill_ascii(&mut out[start..], chars);
+    Ok(())
+}
+
+// A text of these characters, which are their own bytes.
+fn put_ascii_text(out: &mut Vec<u8>, front: &[char], back: &[char]) -> Result<(), AllocError>
+    requires front { All (λ c. c < 128) front.now }
+    requires back { All (λ c. c < 128) back.now }
+    requires few { length (front.now ++ back.now) < 2 ^ 32 }
+    ensures ok { OnOk result (out.new.items ≡ out.old.items ++ (four_bytes (length (front.now ++ back.now)) ++ (front.now ++ back.now))) }
+    ensures keeps { IsFrontOf out.old.items out.new.items }
+{
+    put_u32(out, (front.len() + back.len()) as u32)?;
+    put_ascii(out, front)?;
+    put_ascii(out, back)
+}
+
 /// A text: how many bytes it has in UTF-8, and these bytes.
-#[tactic(auto, using(crate::proofs::Fits::text_fits))]
+#[tactic(auto, using(crate::proofs::Fits::text_fits, crate::proofs::Appending::ascii_parts))]
 pub fn put_text(out: &mut Vec<u8>, text: &Text) -> Result<(), AllocError>
     requires { length (encode_utf8_all text.now) < 2 ^ 32 }
     ensures ok { OnOk result (out.new.items ≡ out.old.items ++ text_bytes text.now) }
     ensures keeps { IsFrontOf out.old.items out.new.items }
     ensures fits { OnOk result (FitsText text.now) }
 {
+    let (front, back) = text.as_slices();
+    if are_ascii(front) && are_ascii(back) {
+        return put_ascii_text(out, front, back);
+    }
     put_u32(out, text_len(text) as u32)?;
     put_text_chars(out, text)
 }
