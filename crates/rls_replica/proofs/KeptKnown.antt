@@ -9,7 +9,7 @@ use Rattle.rls_ident.specs.Lists.{IsIn}
 use Rattle.rls_ident.specs.Vectors.{at_most, meet, raise}
 use Rattle.rls_ident.proofs.Ends.{eq_same, same_eq}
 use Rattle.rls_ident.proofs.Members.{any_in, bool_cases, filter_in, in_any, in_filter, in_left, in_map, in_right, map_in, not_is, not_le_is, not_le_test, or_left, or_right, or_split}
-use Rattle.rls_ident.proofs.Vectors.{at_most_trans, at_most-meet_left, at_most-meet_right, index_le, index-raise_le, index-raise_same, length-raise}
+use Rattle.rls_ident.proofs.Vectors.{at_most_trans, at_most-meet_left, at_most-meet_right, index_le, length-raise}
 use Rattle.rls_runs.specs.Entries.{Entries, has_ident}
 use Rattle.rls_runs.specs.Runs.{joined}
 use Rattle.rls_rename.specs.Tree.{Epochs}
@@ -25,17 +25,17 @@ use Rattle.rls_model.specs.Document.{targets_of}
 use Rattle.rls_model.specs.Epochs.{nodes_after}
 use Rattle.rls_model.specs.Stems.{stems_after}
 use Rattle.rls_seen.specs.Over.{accepted, acks_after, added_over, epochs_after, is_known_over, logged, text_after}
-use Rattle.rls_seen.specs.Sane.{Follow, IsSane}
-use Rattle.rls_seen.specs.Seen.{Seen, greatest_over, members, stable_over, translate_over, unstable_over, vector}
+use Rattle.rls_seen.specs.Sane.{IsSane}
+use Rattle.rls_seen.specs.Seen.{Seen, greatest_over, stable_over, translate_over, unstable_over}
 use Rattle.rls_seen.proofs.Accepting.{places_after}
-use Rattle.rls_seen.proofs.Logs.{follow_length, missing_logged}
-use Rattle.rls_seen.proofs.Needed.{log_author}
+use Rattle.rls_seen.proofs.Logs.{missing_logged}
 use Rattle.rls_seen.proofs.Sending.{length-stable}
 use Rattle.rls_seen.proofs.StableRows.{stable_most, stable_row}
 use Rattle.rls_replica.specs.declared.known.Known.{Known}
 use Rattle.rls_replica.specs.declared.gone.Gone.{Gone}
 use Rattle.rls_replica.specs.Known.{IsKnown, KeepsKnown}
 use Rattle.rls_replica.specs.View.{IsWhole}
+use Rattle.rls_replica.proofs.Logged.{logged_upto}
 
 -- ---- what was unstable
 
@@ -67,28 +67,6 @@ still_unstable acks a b n h low high = ⊎_elim (λ l. l) (λ l. let m = meet_hi
 
     least : at_most (meet t acks.mine) (stable_of acks) ≡ true
     least = stable_most (meet t acks.mine) acks (at_most-meet_right t acks.mine) row
-
--- ---- the numbers in a log
-
-grows : (n : ℕ) (from : List ℕ) (os : List Op) (to : List ℕ) (b : ℕ) → Follow n from os to → slice_index from b ≤ slice_index to b
-grows n from [] to b f = subst (λ v. slice_index from b ≤ slice_index v b) f (omega arith)
-grows n from (o ∷ os) to b f = let k = grows n (raise from o.author) os to b f.4 in let l = index-raise_le from o.author b in omega (arith, k, l)
-
--- none is above what was accepted of its author
-numbers_upto : (n : ℕ) (from : List ℕ) (os : List Op) (to : List ℕ) (d : Op) → ((x : Op) → IsIn x os → x.author < length from) → Follow n from os to → IsIn d os → d.seq ≤ slice_index to d.author
-numbers_upto n from [] to d a f p = absurd p
-numbers_upto n from (o ∷ os) to d a f (inl e) =
-    let k = index-raise_same from o.author (a o (inl refl)) in
-    let l = grows n (raise from o.author) os to o.author f.4 in
-    let m = f.2 in
-    subst (λ (y : Op). y.seq ≤ slice_index to y.author) e (omega (arith, k, l, m))
-numbers_upto n from (o ∷ os) to d a f (inr p) = numbers_upto n (raise from o.author) os to d (λ x q. let l = a x (inr q) in omega (arith, l, length-raise from o.author)) f.4 p
-
-logged_upto : (s : Seen) (d : Op) → IsSane s → IsIn d s.log → d.seq ≤ slice_index (vector s) d.author
-logged_upto s d sane p =
-    let f = sane.log.1.follow in
-    let long = follow_length (members s) sane.log.0 s.log (vector s) f in
-    numbers_upto (members s) sane.log.0 s.log (vector s) d (λ x q. subst (λ n. x.author < n) (sym long) (log_author s x sane q)) f p
 
 -- ---- an operation is accepted
 

@@ -22,6 +22,7 @@ pub mod Fronts
 pub mod Merges
 pub mod Bounding
 pub mod Edges
+pub mod Logged
 pub mod Noting
 pub mod Remembering
 pub mod KeptKnown

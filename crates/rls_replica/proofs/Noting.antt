@@ -8,10 +8,9 @@ use Rattle.rls_ident.specs.declared.epoch_name.EpochName.{EpochName}
 use Rattle.rls_ident.specs.declared.epoch_name.EpochName.TheVariants.{Of}
 use Rattle.rls_ident.specs.Identifiers.{ident_eq}
 use Rattle.rls_ident.specs.Lists.{IsIn}
-use Rattle.rls_ident.specs.Vectors.{at_most, raise}
+use Rattle.rls_ident.specs.Vectors.{at_most}
 use Rattle.rls_ident.proofs.Ends.{eq_same, same_eq}
-use Rattle.rls_ident.proofs.Members.{and_none, true_false, map_in, any_in, get_in, in_any, filter_in, in_filter, in_left, in_right, in_split, in_take, in_drop, le_test, not_is, not_true, same_bool, some_is, take_or_drop}
-use Rattle.rls_ident.proofs.Vectors.{index-raise_le, index-raise_same, length-raise}
+use Rattle.rls_ident.proofs.Members.{and_none, true_false, map_in, any_in, in_any, filter_in, in_filter, in_left, in_right, in_split, in_take, in_drop, le_test, not_is, not_true, same_bool, some_is, take_or_drop}
 use Rattle.rls_runs.specs.Entries.{has_ident}
 use Rattle.rls_runs.specs.Runs.{AreIdents, joined}
 use Rattle.rls_rename.specs.Tree.{is_kept, is_of, translate}
@@ -23,15 +22,14 @@ use Rattle.rls_ops.specs.declared.op.Body.{Body}
 use Rattle.rls_ops.specs.declared.op.Body.TheVariants.{Insert, Delete, Rename, Leave}
 use Rattle.rls_ops.specs.Rows.{is_covered, missing_for, stable_of, noted}
 use Rattle.rls_ops.specs.Rows as rows
-use Rattle.rls_ops.proofs.Shaped.{shaped}
 use Rattle.rls_model.specs.Document.{targets_of}
 use Rattle.rls_model.specs.Epochs.{renaming_of, nodes_after}
-use Rattle.rls_seen.specs.Seen.{Seen, members, stable_over, greatest_over, translate_over, vector}
+use Rattle.rls_seen.specs.Seen.{Seen, members, stable_over, greatest_over, translate_over}
 use Rattle.rls_seen.specs.Over.{accepted, acknowledged, acks_after, holding, logged}
-use Rattle.rls_seen.specs.Sane.{Follow, IsSane, MayApply}
+use Rattle.rls_seen.specs.Sane.{IsSane, MayApply}
 use Rattle.rls_seen.proofs.Applied.{missing_less}
 use Rattle.rls_seen.proofs.Fitting.{facts, name_new}
-use Rattle.rls_seen.proofs.Logs.{follow_length, logged_is}
+use Rattle.rls_seen.proofs.Logs.{logged_is}
 use Rattle.rls_seen.proofs.Needed.{log_author}
 use Rattle.rls_seen.proofs.TextLists.{ident_in}
 use Rattle.rls_seen.proofs.StableRows.{stable_accepted, stable_noted}
@@ -42,6 +40,7 @@ use Rattle.rls_log.specs.declared.head.OpKind.TheVariants as kind
 use Rattle.rls_replica.specs.Gone.{AllNoted, AreNoted, AreNamed, NamesNothing, IsGone, IsNoted}
 use Rattle.rls_replica.specs.Lookups.{is_named_by, is_named_over}
 use Rattle.rls_replica.proofs.KeptNames.{accepted_names}
+use Rattle.rls_replica.proofs.Logged.{logged_before}
 
 -- ---- lists of identifiers
 
@@ -143,28 +142,6 @@ one_more zero (q ∷ os) o d g (inl e) = inr (sym (some_is q o g) ∙ e)
 one_more zero (q ∷ os) o d g (inr p) = absurd p
 one_more (suc n) (q ∷ os) o d g (inl e) = inl (inl e)
 one_more (suc n) (q ∷ os) o d g (inr p) = ⊎_elim (λ k. inl (inr k)) inr (one_more n os o d g p)
-
--- the numbers of one author rise in the log
-above : (k : ℕ) (from : List ℕ) (os : List Op) (to : List ℕ) (o : Op) → Follow k from os to → IsIn o os → slice_index from o.author < o.seq
-above k from [] to o f p = absurd p
-above k from (x ∷ os) to o f (inl e) = let m = f.2 in subst (λ (y : Op). slice_index from y.author < y.seq) e (omega (arith, m))
-above k from (x ∷ os) to o f (inr p) = let l = above k (raise from x.author) os to o f.4 p in let m = index-raise_le from x.author o.author in omega (arith, l, m)
-
-rising : (k : ℕ) (from : List ℕ) (os : List Op) (to : List ℕ) (n : ℕ) (d o : Op) → length from ≡ k → Follow k from os to → IsIn d (take n os) → slice_get os n ≡ Some o → d.author ≡ o.author → d.seq ≤ o.seq
-rising k from [] to n d o e f p g a = absurd (cc)
-rising k from (x ∷ os) to zero d o e f p g a = absurd p
-rising k from (x ∷ os) to (suc n) d o e f (inl s) g a =
-    let l = above k (raise from x.author) os to o f.4 (get_in os n o g) in
-    let short = (shaped k x f.1).author in
-    let here = index-raise_same from x.author (omega (arith, e, short)) in
-    let is : x.author ≡ o.author = subst (λ (y : Op). y.author ≡ o.author) (sym s) a in
-    let there : slice_index (raise from x.author) o.author ≡ suc (slice_index from x.author) = subst (λ b. slice_index (raise from x.author) b ≡ suc (slice_index from x.author)) is here in
-    let m = f.2 in
-    subst (λ (y : Op). y.seq ≤ o.seq) s (omega (arith, l, there, m))
-rising k from (x ∷ os) to (suc n) d o e f (inr p) g a = rising k (raise from x.author) os to n d o (length-raise from x.author ∙ e) f.4 p g a
-
-logged_before : (s : Seen) (n : ℕ) (d o : Op) → IsSane s → IsIn d (take n s.log) → slice_get s.log n ≡ Some o → d.author ≡ o.author → d.seq ≤ o.seq
-logged_before s n d o sane p got a = let f = sane.log.1.follow in rising (members s) sane.log.0 s.log (vector s) n d o (follow_length (members s) sane.log.0 s.log (vector s) f) f p got a
 
 -- what it names is noted, or it names nothing
 module _ (s : Seen) (e : EpochName) (old new : Named) (n : ℕ) (o : Op) (got : slice_get s.log n ≡ Some o) (h : AllNoted s e old (take n s.log)) where
