@@ -3,6 +3,7 @@ pub mod Cut
 pub mod Targets
 pub mod Changes
 pub mod SameEpoch
+pub mod Placed
 pub mod Accepted
 pub mod Answered
 pub mod Courses

@@ -1,7 +1,6 @@
 -- From an epoch to itself nothing changes.
-use Rattle.std.proofs.Common.{◌≡◌, ◌∙◌, ℕ, true, List, [], ◌∷◌, append-nil, map, refl, sym, ap}
-use Rattle.std.specs.Prelude.{if◌then◌else◌, nat_lt}
-use Rattle.rls_runs.specs.Runs.{run_idents, IsImage}
+use Rattle.std.proofs.Common.{◌≡◌, ◌∙◌, List, [], ◌∷◌, map, refl, sym, ap}
+use Rattle.std.specs.Prelude.{if◌then◌else◌}
 use Rattle.rls_ident.specs.declared.tuple.Tuple.{Tuple}
 use Rattle.rls_ident.specs.declared.epoch_name.EpochName.{EpochName}
 use Rattle.rls_ident.proofs.Named.{name_eq_refl}
@@ -24,10 +23,3 @@ all_to_itself nodes e (x ∷ xs) = ap (λ y. y ∷ map (translate nodes e e) xs)
 
 pub unmoved : (nodes : List Node) (e f : EpochName) (xs : List (List Tuple)) → e ≡ f → map (translate nodes e f) xs ≡ xs
 unmoved nodes e f xs same = ap (λ (g : EpochName). map (translate nodes e g) xs) (sym same) ∙ all_to_itself nodes e xs
-
--- a run is its own image
-pub one_run : (nodes : List Node) (e : EpochName) (run : List Tuple × ℕ) → nat_lt 0 run.1 ≡ true → IsImage (translate nodes e e) run (run ∷ [])
-one_run nodes e run some = record {
-  idents = append-nil (run_idents run.0 run.1) ∙ sym (all_to_itself nodes e (run_idents run.0 run.1));
-  apart = rw some refl;
-}

@@ -8,12 +8,14 @@ use Rattle.rls_ident.specs.Identifiers.{last_of}
 use Rattle.rls_ident.specs.Lists.{IsIn}
 use Rattle.rls_ident.specs.Tuples.{offset_of}
 use Rattle.rls_runs.specs.Entries.{Entries, idents_in}
-use Rattle.rls_runs.specs.Runs.{AreIdents, run_idents, past_offsets}
+use Rattle.rls_runs.specs.Runs.{AreIdents, is_increasing, run_idents, past_offsets}
+use Rattle.rls_blocks.specs.Trees.{piece_entries}
+use Rattle.rls_blocks.specs.Edits.{inserted}
 use Rattle.rls_rename.specs.Renaming.{Renaming, IsFormer, forward}
 use Rattle.rls_rename.specs.Tree.{Node, Epochs, AreNodes, is_kept, greatest, translate}
 use Rattle.rls_ops.specs.declared.op.Op.{Op}
 use Rattle.rls_ops.specs.declared.op.Body.{Body}
-use Rattle.rls_ops.specs.declared.op.Body.TheVariants.{Rename}
+use Rattle.rls_ops.specs.declared.op.Body.TheVariants.{Insert, Rename}
 use Rattle.rls_ops.specs.Rows.{AcksSeen}
 use Rattle.rls_model.specs.declared.parts.Stem.{Stem}
 use Rattle.rls_model.specs.Epochs.{renaming_of}
@@ -65,6 +67,17 @@ pub record MayInsert (E : Epochs) (es : Entries) (e : EpochName) (first : List T
   pub idents : AreIdents (map (translate E.nodes e (greatest E.top E.nodes)) (run_idents first (length text)))
   pub new : (x : List Tuple) → IsIn x (map (translate E.nodes e (greatest E.top E.nodes)) (run_idents first (length text))) → IsIn x (idents_in es) → ⊥
   pub room : length es + length text < 2 ^ 64
+
+-- a text of epoch e goes to this place: e is the greatest epoch, and identifiers still rise where it is put in there
+pub record GoesTo (E : Epochs) (es : Entries) (e : EpochName) (first : List Tuple) (text : List ℕ) (place : ℕ) : Type 0 where
+  pub epoch : e ≡ greatest E.top E.nodes
+  pub within : place ≤ length es
+  pub rises : IsTrue (is_increasing (idents_in (inserted place (piece_entries ((first, length text), text)) es)))
+
+-- an insertion of epoch e goes to this place. Of any other body the place says nothing
+abbrev pub IsPlaceOf : Epochs → Entries → EpochName → Body → ℕ → Type 0
+IsPlaceOf E es e (Insert first text) place = GoesTo E es e first text place
+IsPlaceOf E es e _ place = Unit {0}
 
 -- a rename may open its epoch
 pub record MayRename (E : Epochs) (o : Op) (former : List (List Tuple)) : Type 0 where

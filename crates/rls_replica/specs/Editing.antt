@@ -32,6 +32,12 @@ IsLeaveFault errors.NumbersSpent = Unit {0}
 IsLeaveFault errors.OutOfMemory = Unit {0}
 IsLeaveFault _ = ⊥
 
+-- the place to which an insertion goes, or from which a deletion takes
+abbrev pub edit_place : Edit → Option ℕ
+edit_place (edits.Insert at cs) = Some at
+edit_place (edits.Delete at n) = Some at
+edit_place _ = None
+
 -- the text after an edit
 abbrev pub edited_text : Edit → List ℕ → List ℕ
 edited_text (edits.Insert at cs) old = take at old ++ (cs ++ drop at old)

@@ -1,11 +1,11 @@
 //! How an operation is accepted: first all that may want memory, of which the change of the text is the last step, and then the rest.
 
-ghost use Rattle.std.specs.Prelude.{◌≡◌, ◌+◌, ◌-◌, ◌<◌, ◌≤◌, ◌^◌, ◌++◌, ◌∷◌, [], pos, ◌+ℤ◌, ◌≤ℤ◌, IsSome, IfOk, OnOk, OnErr, IsTrue, List, length, map, slice_index, zip, None, IsSomeAnd};
+ghost use Rattle.std.specs.Prelude.{◌≡◌, ◌+◌, ◌-◌, ◌<◌, ◌≤◌, ◌^◌, ◌++◌, ◌∷◌, [], pos, ◌+ℤ◌, ◌≤ℤ◌, IsSome, IfSome, IfOk, OnOk, OnErr, IsTrue, List, length, map, slice_index, zip, None, IsSomeAnd};
 ghost use Rattle.rls_ident.specs.declared.limits.TheConstants.{IDENTIFIERS};
 ghost use Rattle.rls_ident.specs.Identifiers.{last_of};
 ghost use Rattle.rls_ident.specs.Tuples.{offset_of};
 ghost use Rattle.rls_runs.specs.Entries.{put_all, without_all};
-ghost use Rattle.rls_runs.specs.Runs.{run_idents, past_offsets, IsImage};
+ghost use Rattle.rls_runs.specs.Runs.{run_idents, past_offsets};
 ghost use Rattle.rls_rename.specs.Tree.{is_kept, greatest, translate};
 ghost use Rattle.rls_ops.specs.declared.op.Body.TheVariants.{Rename};
 ghost use Rattle.rls_ops.specs.declared.op.Op.{Op as OpSeen};
@@ -15,7 +15,7 @@ ghost use Rattle.rls_seen.specs.Over.{accepted, acks_after, epochs_after, first_
 ghost use Rattle.rls_seen.specs.Sane.{MayApply};
 ghost use Rattle.rls_epoch.specs.Seen.{former_sum};
 ghost use Rattle.rls_blocks.specs.Trees.{entries_of};
-ghost use Rattle.rls_replica.specs.Changing.{former_in, renaming_in, MayPrepare, IsTextAfter, MayFinish, MayInsert, MayRename};
+ghost use Rattle.rls_replica.specs.Changing.{former_in, renaming_in, MayPrepare, IsPlaceOf, IsTextAfter, MayFinish, GoesTo, MayInsert, MayRename};
 
 use crate::known::kept_known;
 use crate::renaming_text::RenamingText;
@@ -26,17 +26,18 @@ use rls_ident::{EpochName, Ident, Vector, rely};
 use rls_log::Log;
 use rls_ops::{Body, Op, covers};
 use rls_rename::{Renaming, RenamingError};
-use rls_runs::{Run, RunList, Runs, Text};
+use rls_runs::{Run, Runs, Text};
 use rls_stable::Acks;
 use rls_stems::StemTable;
 use rls_tree::BlockTree;
 use std::alloc::{AllocError, Global};
 
 impl Replica {
-    // Accepts an operation that fits. After an error the replica is as before. The characters of an insertion or a deletion are looked
-    // for at the place that is told, if one is, before they are searched.
-    pub(crate) fn apply(&mut self, op: &Op, near: Option<u64>) -> Result<(), AllocError>
+    // Accepts an operation that fits. After an error the replica is as before. If a place is told, an insertion goes there, and a
+    // deletion's characters are looked for there before they are searched.
+    pub(crate) fn apply(&mut self, op: &Op, place: Option<u64>) -> Result<(), AllocError>
         requires may { MayApply self.old op.now }
+        requires place { IfSome place (λ i. IsPlaceOf self.old.epochs self.old.text op.now.epoch op.now.body i) }
         ensures ok { OnOk result (self.new ≡ accepted self.old op.now) }
         ensures err { OnErr result (self.new ≡ self.old) }
     {
@@ -49,7 +50,7 @@ impl Replica {
             &mut self.epochs,
             &mut self.log,
             op,
-            near,
+            place,
         )?;
         let _held = self.held.remove(op.author, op.seq);
         finish(
@@ -110,9 +111,10 @@ fn prepare(
     epochs: &mut Epochs,
     log: &mut Log,
     op: &Op,
-    near: Option<u64>,
+    place: Option<u64>,
 ) -> Result<Option<Renaming>, AllocError>
     requires may { MayPrepare epochs.old.epochs (entries_of document.old.blocks) op.now }
+    requires place { IfSome place (λ i. IsPlaceOf epochs.old.epochs (entries_of document.old.blocks) op.now.epoch op.now.body i) }
     requires author { op.now.author < stems.old.members }
     ensures renaming { IfOk result (λ renaming. renaming ≡ renaming_in op.now op.now.body) }
     ensures text { OnOk result (IsTextAfter epochs.old.epochs (entries_of document.old.blocks) op.now op.now.body (entries_of document.new.blocks)) }
@@ -128,7 +130,7 @@ fn prepare(
     stems.reserve(op.author)?;
     let count = log.len();
     log.push(op)?;
-    match change(alloc, document, epochs, op, near) {
+    match change(alloc, document, epochs, op, place) {
         Ok(renaming) => Ok(renaming),
         Err(e) => {
             log.truncate(count);
@@ -143,9 +145,10 @@ fn change(
     document: &mut BlockTree,
     epochs: &mut Epochs,
     op: &Op,
-    near: Option<u64>,
+    place: Option<u64>,
 ) -> Result<Option<Renaming>, AllocError>
     requires may { MayPrepare epochs.old.epochs (entries_of document.old.blocks) op.now }
+    requires place { IfSome place (λ i. IsPlaceOf epochs.old.epochs (entries_of document.old.blocks) op.now.epoch op.now.body i) }
     ensures renaming { IfOk result (λ renaming. renaming ≡ renaming_in op.now op.now.body) }
     ensures text { OnOk result (IsTextAfter epochs.old.epochs (entries_of document.old.blocks) op.now op.now.body (entries_of document.new.blocks)) }
     ensures err { OnErr result (entries_of document.new.blocks ≡ entries_of document.old.blocks) }
@@ -154,11 +157,11 @@ fn change(
 {
     match &op.body {
         Body::Insert { first, text } => {
-            insert(alloc, document, epochs, op.epoch, first, text, near)?;
+            insert(document, epochs, op.epoch, first, text, place)?;
             Ok(None)
         }
         Body::Delete { targets } => {
-            delete(document, epochs, op.epoch, targets, near)?;
+            delete(document, epochs, op.epoch, targets, place)?;
             Ok(None)
         }
         Body::Rename { former } => {
@@ -169,43 +172,31 @@ fn change(
     }
 }
 
-// Adds the characters of an insertion.
+// Adds the characters of an insertion, at the place that is told, if one is.
 fn insert(
-    alloc: Global,
     document: &mut BlockTree,
     epochs: &Epochs,
     epoch: EpochName,
     first: &Ident,
     text: &Text,
-    near: Option<u64>,
+    place: Option<u64>,
 ) -> Result<(), AllocError>
     requires may { MayInsert epochs.now.epochs (entries_of document.old.blocks) epoch first.now text.now }
+    requires place { IfSome place (λ i. GoesTo epochs.now.epochs (entries_of document.old.blocks) epoch first.now text.now i) }
     ensures ok { OnOk result (entries_of document.new.blocks ≡ put_all (zip (map (translate epochs.now.epochs.nodes epoch (greatest epochs.now.epochs.top epochs.now.epochs.nodes)) (run_idents first.now (length text.now))) text.now) (entries_of document.old.blocks)) }
     ensures err { OnErr result (entries_of document.new.blocks ≡ entries_of document.old.blocks) }
 {
-    let run = run_of(first, text.len() as u32)?;
-    let runs = images_of(alloc, epochs, epoch, run)?;
-    document.insert_near(near, &runs, text)
-}
-
-// The identifiers of a run of this epoch in the greatest one, as runs. If it is the greatest, the run is moved.
-fn images_of(
-    alloc: Global,
-    epochs: &Epochs,
-    epoch: EpochName,
-    run: Run,
-) -> Result<RunList, AllocError>
-    requires kept { IsTrue (is_kept epochs.now.epochs.top epochs.now.epochs.nodes epoch) }
-    ensures images { IfOk result (λ runs. IsImage (translate epochs.now.epochs.nodes epoch (greatest epochs.now.epochs.top epochs.now.epochs.nodes)) run runs) }
-{
-    rely!(let _len = run.len());
-    let greatest = epochs.greatest();
-    if !epoch.same(&greatest) {
-        return epochs.translate_run(epoch, greatest, &run);
+    rely!(let _last = first.last());
+    if let Some(i) = place {
+        return document.insert_between(i, first, text);
     }
-    let mut runs = RunList::new(alloc);
-    runs.push(run)?;
-    Ok(runs)
+    let greatest = epochs.greatest();
+    if epoch.same(&greatest) {
+        return document.insert_run(first, text);
+    }
+    let run = run_of(first, text.len() as u32)?;
+    let runs = epochs.translate_run(epoch, greatest, &run)?;
+    document.insert_runs(&runs, text)
 }
 
 fn run_of(first: &Ident, len: u32) -> Result<Run, AllocError>

@@ -14,7 +14,7 @@ ghost use Rattle.rls_seen.specs.Sane.{IsSane};
 ghost use Rattle.rls_seen.specs.Seen.{own_count, idents_over, text_over};
 ghost use Rattle.rls_seen.specs.Stands.{StandsFor};
 ghost use Rattle.rls_replica.specs.Names.{KeepsNames};
-ghost use Rattle.rls_replica.specs.Editing.{early_fault, edited_text, IsLeaveFault, IsOneRun, IsOwnFront, IsOwnRun, HasRoom, HasRoomBelow};
+ghost use Rattle.rls_replica.specs.Editing.{early_fault, edit_place, edited_text, IsLeaveFault, IsOneRun, IsOwnFront, IsOwnRun, HasRoom, HasRoomBelow};
 
 use crate::replica::Replica;
 use rls_doc::Document;
@@ -224,7 +224,9 @@ impl Replica {
 }
 
 // The place to which an insertion goes, or from which a deletion takes.
-fn place_of(edit: &Edit) -> Option<u64> {
+fn place_of(edit: &Edit) -> Option<u64>
+    ensures place { result ≡ edit_place edit.now }
+{
     match edit {
         Edit::Insert { at, .. } | Edit::Delete { at, .. } => Some(*at),
         _ => None,

@@ -1,4 +1,5 @@
-use Rattle.std.proofs.Common.{◌∙◌, List, ap, subst, refl}
+use Rattle.std.proofs.Common.{◌∙◌, List, ap, subst, sym, refl}
+use Rattle.std.specs.Prelude.{IfSome}
 use Rattle.rls_rename.specs.Tree.{Epochs}
 use Rattle.rls_model.specs.declared.parts.Stem.{Stem}
 use Rattle.rls_model.specs.Stems.{stems_after}
@@ -8,6 +9,7 @@ use Rattle.rls_seen.specs.Over.{accepted, acks_after, epochs_after, logged}
 use Rattle.rls_seen.specs.Sane.{IsSane}
 use Rattle.rls_seen.proofs.Applied.{accepted_sane}
 use Rattle.rls_seen.proofs.Counting.{members_accepted}
+use Rattle.rls_replica.specs.Changing.{IsPlaceOf}
 use Rattle.rls_replica.specs.View.{seen}
 use Rattle.rls_replica.proofs.Accepted.{accepted_is}
 use Rattle.rls_replica.proofs.KeptKnown.{next_known}
@@ -15,6 +17,10 @@ use Rattle.rls_replica.proofs.Noting.{gone_accepted}
 use Rattle.rls_replica.proofs.Whole.{whole_kept}
 use Rattle.rls_blocks.specs.Trees.{entries_of}
 use Rattle.rls_replica.proofs.replica.Replica.apply.Goals as goal
+
+pub prepare-requires-clause-place : goal.prepare-requires-clause-place
+prepare-requires-clause-place c =
+    subst (λ (s : Seen). IfSome c.args.place (λ i. IsPlaceOf s.epochs s.text c.args.op.now.epoch c.args.op.now.body i)) (sym c.self.view_is) c.requires.place
 
 after : goal.returns-clause-ok
 after c =

@@ -5,10 +5,10 @@ use Rattle.rls_seen.proofs.Receiving.{applies, waits}
 use Rattle.rls_replica.proofs.Answered.{waits_alone}
 use Rattle.rls_replica.proofs.replica.Replica.receive_exactly.Goals as goal
 
-pub apply-requires : goal.apply-requires
-apply-requires c =
+pub apply-requires-clause-may : goal.apply-requires-clause-may
+apply-requires-clause-may c =
     let e : answer_over c.args.own c.note_gone.new.self c.args.op ≡ Applies = sym c.in_ok-look.ensures.answer ∙ ap answer_of c.in-Applied.is in
-    record { may = rw c.look.ensures.same (applies c.args.own c.note_gone.new.self c.args.op c.fits.ensures.whole e) }
+    rw c.look.ensures.same (applies c.args.own c.note_gone.new.self c.args.op c.fits.ensures.whole e)
 
 pub hold-requires-clause-may : goal.hold-requires-clause-may
 hold-requires-clause-may c =
