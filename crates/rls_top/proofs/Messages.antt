@@ -1,7 +1,5 @@
 -- Messages, for a replica or for another group.
-use Rattle.std.proofs.Common.{◌≡◌, ◌<◌, ℕ, suc, zero, List, [], ◌∷◌, length, Result, Ok, refl, subst, arith}
-use Rattle.std.specs.Prelude.{slice_index_or}
-use Rattle.rls_codec.specs.CodecLaws.{IsBytes}
+use Rattle.std.proofs.Common.{◌≡◌, ◌<◌, ℕ, [], ◌∷◌, length, Result, Ok, refl, subst, arith}
 use Rattle.rls_ops.specs.declared.message.Message.{Message}
 use Rattle.rls_replica.specs.Faults.{IsForeign}
 use Rattle.rls_model.specs.declared.receipt.Taken.{Taken}
@@ -29,11 +27,3 @@ taken_due s new m r found x read none counted there made =
     let at_found = subst (λ (f : Taken). IsDue of_work x (stores (saved new) (take_text f.applied f.released f.repeated f.held (length f.refused)) f.refused)) counted made in
     let at_new = subst (λ (n : Seen). IsDue of_work x (stores (saved n) (take_text c.counts.applied c.counts.released c.counts.repeated c.counts.held (length c.counts.refused)) c.counts.refused)) there at_found in
     rw (read, is_ours s m none) at_new
-
--- ---- bytes
-
--- each is below 256, if each that is there is
-pub are_bytes : (bytes : List ℕ) → ((i : ℕ) → i < length bytes → slice_index_or bytes i 0 < 256) → IsBytes bytes
-are_bytes [] f i = omega arith
-are_bytes (b ∷ bytes) f zero = f zero (omega arith)
-are_bytes (b ∷ bytes) f (suc i) = are_bytes bytes (λ j h. f (suc j) (omega (arith, h))) i
