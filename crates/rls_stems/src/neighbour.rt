@@ -9,8 +9,8 @@ use std::alloc::AllocError;
 use std::cmp::Ordering;
 use std::marker::Model;
 
-/// An identifier of a run, told by the first one of the run and how far it is from that. It is seen as its list of tuples, as an `Ident` is,
-/// and takes no memory.
+/// An identifier of a run, told by the first one of the run, which is lent, and how far it is from that. It is seen as its list of tuples,
+/// as an `Ident` is, and takes no memory.
 #[derive(Drop)]
 pub struct Neighbour<'a> {
     first: &'a Ident,
@@ -31,7 +31,7 @@ impl<'a> Model for Neighbour<'a> {
 }
 
 impl<'a> Neighbour<'a> {
-    /// The identifier with the last offset of this one greater by this much.
+    /// This identifier with a last offset greater by this much. It takes no memory.
     pub fn new(first: &'a Ident, by: u32) -> Neighbour<'a>
         requires greatest { (offset_of (last_of first.now) +ℤ pos by) ≤ℤ greatest_offset }
         ensures ident { result ≡ shifted (pos by) first.now }
@@ -39,7 +39,7 @@ impl<'a> Neighbour<'a> {
         Neighbour { first, by }
     }
 
-    /// The same of a place where there may be none.
+    /// The same where there may be none, as at the ends of a text.
     pub fn of(place: Option<(&'a Ident, u32)>) -> Option<Neighbour<'a>>
         requires greatest { IfSome place (λ p. (offset_of (last_of p.0.now) +ℤ pos p.1) ≤ℤ greatest_offset) }
         ensures ident { result ≡ option_map (λ p. shifted (pos p.1) p.0.now) place.entry }
@@ -90,7 +90,7 @@ impl<'a> Neighbour<'a> {
         Ok(self.compare_shifted(by, &other.copy()?))
     }
 
-    // The identifier itself.
+    // The same as an identifier of its own.
     pub(crate) fn copy(&self) -> Result<Ident, AllocError>
         ensures copy { IfOk result (λ ident. ident ≡ self.now) }
     {
