@@ -206,6 +206,15 @@ impl Ident {
         })
     }
 
+    /// Has a last offset less by this much. It takes no memory.
+    #[tactic(auto, using(crate::proofs::Ends::offset_of_ending, crate::proofs::Ends::shifted_of_ending))]
+    pub fn lower(&mut self, by: u32)
+        requires least { least_offset ≤ℤ (offset_of (last_of self.old) -ℤ pos by) }
+        ensures lowered { self.new ≡ shifted (pos 0 -ℤ pos by) self.old }
+    {
+        self.last = self.last.lowered(by);
+    }
+
     /// The identifier after these tuples.
     pub fn prefixed(&self, front: &[Tuple]) -> Result<Ident, AllocError>
         requires bounded { All (λ t. IsTrue (is_inner_bounded t)) front.now }

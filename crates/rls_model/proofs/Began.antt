@@ -11,9 +11,10 @@ use Rattle.rls_ident.specs.Identifiers.{IsIdent, last_of, shifted, least_offset,
 use Rattle.rls_ident.specs.Between.{last_pos, lower_number, upper_number, middle, below, upper_behind, between}
 use Rattle.rls_ident.proofs.Members.{and_left, and_right, and_true, eq_is, eq_test, int_is, int_test, neq_test, or_left, or_right, int_le_is}
 use Rattle.rls_ident.proofs.Shifted.{raised_replica, raised_seq, raised_offset, last_shifted, last_at, ident_shifted}
+use Rattle.rls_runs.specs.Places.{is_above}
 use Rattle.rls_model.specs.declared.parts.Stem.{Stem}
 use Rattle.rls_model.specs.Stems.{stem_of, due_of, due_offset, is_due, ends_at_low, may_use}
-use Rattle.rls_model.specs.Editing.{own_stem, ends_below, begins_above, may_append, may_prepend, or_missing, first_before, first_between}
+use Rattle.rls_model.specs.Editing.{own_stem, ends_below, may_append, may_prepend, or_missing, first_before, first_between}
 use Rattle.rls_model.proofs.Grown.{AreEarlier}
 
 -- what the first identifier of an insertion of n characters has to be
@@ -144,7 +145,7 @@ before_began ss a s left (Some x) n h l i = go (own_stem ss a (last_of x)) refl
         (λ k. let r = own_split ss a (last_of x) u e in
         let b = int_eq (offset_of (last_of x)) u.low in
         let c = int_le least_offset (offset_of (last_of x) -ℤ pos n) in
-        prepends ss a s n x h i u r.0 r.1 (int_is (offset_of (last_of x)) u.low (and_left b c (and_left (b && c) (begins_above left (shifted (pos 0 -ℤ pos n) x)) k))))
+        prepends ss a s n x h i u r.0 r.1 (int_is (offset_of (last_of x)) u.low (and_left b c (and_left (b && c) (is_above left (shifted (pos 0 -ℤ pos n) x)) k))))
 
 pub began : (ss : List Stem) (a s : ℕ) (left right : Option (List Tuple)) (n : ℕ) → AreEarlier ss a s → n ≤ CHARACTERS → IsNeighbour left → IsNeighbour right → Began ss a s n (first_between ss a s left right n)
 began ss a s None right n h l i j = before_began ss a s None right n h l j

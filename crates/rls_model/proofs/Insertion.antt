@@ -32,11 +32,12 @@ use Rattle.rls_model.specs.Epochs.{epochs, nodes_after, greatest, translate}
 use Rattle.rls_model.specs.Document.{Character, chars, chars_of, chars_from, targets_of, ident_in, has_ident, is_named, live, export, idents, text}
 use Rattle.rls_model.specs.WellFormed.{IsEdit}
 use Rattle.rls_model.specs.Legal.{IsLegal}
-use Rattle.rls_model.specs.Editing.{own_stem, ends_below, begins_above, may_append, may_prepend, or_missing, first_before, first_between, get_before, next_seq, made, edit_fault}
+use Rattle.rls_model.specs.Editing.{own_stem, ends_below, may_append, may_prepend, or_missing, first_before, first_between, get_before, next_seq, made, edit_fault}
 use Rattle.rls_model.specs.Laws.{edited, InsertionLands}
 use Rattle.rls_model.proofs.OneTree.{nodes, none_else}
 use Rattle.rls_model.proofs.Distinct.{known, char_split}
 use Rattle.rls_runs.proofs.Sorted.{Entry, Rises, same_rising}
+use Rattle.rls_runs.specs.Places.{is_above}
 use Rattle.rls_model.proofs.SameOps.{entry_of, export_rises, in_export, export_in}
 use Rattle.rls_model.proofs.Ranges.{idents_good}
 use Rattle.rls_model.proofs.Began.{IsNeighbour}
@@ -76,7 +77,7 @@ between_lies left (Some []) a s d i h = absurd (cc)
 between_lies None (Some (u ∷ us)) a s d i h = (tt, (between_over [] (u ∷ us) a s d (i, record { less = refl })).1)
 between_lies (Some l) (Some (u ∷ us)) a s d i h = between_over l (u ∷ us) a s d (i, h)
 
-above_is : (left : Option (List Tuple)) (z : List Tuple) → begins_above left z ≡ true → IsAfter left z
+above_is : (left : Option (List Tuple)) (z : List Tuple) → is_above left z ≡ true → IsAfter left z
 above_is None z h = tt
 above_is (Some l) z h = lt_of l z h
 
@@ -88,7 +89,7 @@ before_lies : (ss : List Stem) (a s : ℕ) (left right : Option (List Tuple)) (n
 before_lies ss a s left None n k l i h = between_lies left None a s (pos k) i h
 before_lies ss a s left (Some x) n k l i h = go (own_stem ss a (last_of x))
   where
-    pick : (b : Bool) → (b ≡ true → begins_above left (shifted (pos 0 -ℤ pos n) x) ≡ true) → LiesBetween left (Some x) (shifted (pos k) (if b then shifted (pos 0 -ℤ pos n) x else between (or_missing left) x a s))
+    pick : (b : Bool) → (b ≡ true → is_above left (shifted (pos 0 -ℤ pos n) x) ≡ true) → LiesBetween left (Some x) (shifted (pos k) (if b then shifted (pos 0 -ℤ pos n) x else between (or_missing left) x a s))
     pick false f = between_lies left (Some x) a s (pos k) i h
     pick true f =
         let d = pos 0 -ℤ pos n in
@@ -100,7 +101,7 @@ before_lies ss a s left (Some x) n k l i h = go (own_stem ss a (last_of x))
     go : (o : Option Stem) → LiesBetween left (Some x) (shifted (pos k) (if may_prepend o left x n then shifted (pos 0 -ℤ pos n) x else between (or_missing left) x a s))
     go None = pick false (λ e. absurd (cc))
     go (Some u) = pick (may_prepend (Some u) left x n)
-        (λ e. and_right (int_eq (offset_of (last_of x)) u.low && int_le least_offset (offset_of (last_of x) -ℤ pos n)) (begins_above left (shifted (pos 0 -ℤ pos n) x)) e)
+        (λ e. and_right (int_eq (offset_of (last_of x)) u.low && int_le least_offset (offset_of (last_of x) -ℤ pos n)) (is_above left (shifted (pos 0 -ℤ pos n) x)) e)
 
 -- each identifier of the insertion lies between the neighbours
 pub first_lies : (ss : List Stem) (a s : ℕ) (left right : Option (List Tuple)) (n k : ℕ) → k < n → IsNeighbour left → IsNeighbour right → AreNeighbours left right → LiesBetween left right (shifted (pos k) (first_between ss a s left right n))

@@ -1,5 +1,5 @@
 -- The answers to an operation. They say what the code's types say, whose shared operation also has an address.
-use Rattle.std.specs.Prelude.{ℕ, List, Option}
+use Rattle.std.specs.Prelude.{ℕ, List, Option, Some, None}
 use Rattle.rls_ident.specs.declared.tuple.Tuple.{Tuple}
 use Rattle.rls_ident.specs.declared.epoch_name.EpochName.{EpochName}
 use Rattle.rls_ops.specs.declared.op.Op.{Op}
@@ -37,6 +37,11 @@ reason_of (refusals.Backward v) = Backward v
 reason_of (refusals.WrongEpoch e) = WrongEpoch e
 reason_of (refusals.WrongStem d) = WrongStem d
 reason_of (refusals.UnknownTarget x) = UnknownTarget x
+
+-- the reason, if there is one
+abbrev pub reason_in : Option Refusal → Option Reason
+reason_in None = None
+reason_in (Some r) = Some (reason_of r)
 
 -- the answer that the code's receipt tells
 abbrev pub answer_of : Receipt → Answer

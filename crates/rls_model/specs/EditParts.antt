@@ -7,6 +7,7 @@ use Rattle.rls_ident.specs.declared.tuple.Tuple.{Tuple}
 use Rattle.rls_ident.specs.Tuples.{replica_of, seq_of, offset_of}
 use Rattle.rls_ident.specs.Identifiers.{ident_lt, last_of, shifted, least_offset, greatest_offset}
 use Rattle.rls_ident.specs.Between.{between}
+pub use Rattle.rls_runs.specs.Places.{is_above}
 use Rattle.rls_model.specs.declared.edit.Edit.{Edit}
 use Rattle.rls_model.specs.declared.edit.Edit.TheVariants as edits
 use Rattle.rls_model.specs.declared.edit.EditError.{EditError}
@@ -25,11 +26,6 @@ abbrev pub ends_below : List Tuple → Option (List Tuple) → Bool
 ends_below x None = true
 ends_below x (Some right) = ident_lt x right
 
--- the left neighbour is less than x, where there is one
-abbrev pub begins_above : Option (List Tuple) → List Tuple → Bool
-begins_above None x = true
-begins_above (Some left) x = ident_lt left x
-
 -- n characters may follow the left neighbour in this stem: it stands at the stem's end, and they have room up to the right one
 abbrev pub may_append : Option Stem → List Tuple → Option (List Tuple) → ℕ → Bool
 may_append None left right n = false
@@ -44,7 +40,7 @@ may_prepend None left right n = false
 may_prepend (Some stem) left right n =
     int_eq (offset_of (last_of right)) stem.low
     && int_le least_offset (offset_of (last_of right) -ℤ pos n)
-    && begins_above left (shifted (pos 0 -ℤ pos n) right)
+    && is_above left (shifted (pos 0 -ℤ pos n) right)
 
 -- the identifier, or no tuple where the bound is missing
 abbrev pub or_missing : Option (List Tuple) → List Tuple

@@ -5,7 +5,7 @@ use Rattle.rls_ops.specs.declared.op.Body.{Body}
 use Rattle.rls_model.specs.declared.edit.Edit.{Edit}
 use Rattle.rls_model.specs.declared.edit.EditError.{EditError}
 use Rattle.rls_model.specs.History.{History, me_of, count_of}
-pub use Rattle.rls_model.specs.EditParts.{own_stem, ends_below, begins_above, may_append, may_prepend, or_missing, first_before, first_between, get_before, range_fault, or_fault, size_fault}
+pub use Rattle.rls_model.specs.EditParts.{own_stem, ends_below, is_above, may_append, may_prepend, or_missing, first_before, first_between, get_before, range_fault, or_fault, size_fault}
 use Rattle.rls_model.specs.View.{plain_of}
 use Rattle.rls_model.specs.Rules as rules
 

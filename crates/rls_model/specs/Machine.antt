@@ -1,5 +1,5 @@
 -- A machine receives, releases, acknowledges and edits, whatever its states are. What comes of messages and of lines of edits, step by step.
-use Rattle.std.specs.Prelude.{ℕ, zero, suc, ◌+◌, ◌-◌, Bool, true, List, [], ◌∷◌, ◌++◌, length, nat_lt, Option, Some, None, Result, Ok, Err, if◌then◌else◌}
+use Rattle.std.specs.Prelude.{ℕ, zero, suc, ◌+◌, ◌-◌, ◌<◌, ◌^◌, Bool, true, List, [], ◌∷◌, ◌++◌, length, nat_lt, Option, Some, None, Result, Ok, Err, if◌then◌else◌}
 use Rattle.rls_ops.specs.declared.op.Op.{Op}
 use Rattle.rls_model.specs.declared.edit.Edit.{Edit}
 use Rattle.rls_model.specs.declared.edit.EditError.{EditError}
@@ -57,6 +57,12 @@ abbrev pub moved : {X : Type 0} → Stage X → X → Stage X
 moved p s = record p { state = s; limit = one_less p.limit }
 
 -- ---- counting
+
+-- one more of each may be counted
+pub record HasRoom (t : Taken) : Type 0 where
+  pub applied : t.applied < 2 ^ 64 - 1
+  pub repeated : t.repeated < 2 ^ 64 - 1
+  pub held : t.held < 2 ^ 64 - 1
 
 -- the operation of this author and number arrived and was answered so
 abbrev pub with_receipt : Taken → ℕ → ℕ → Answer → Taken

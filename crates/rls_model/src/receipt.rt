@@ -1,8 +1,8 @@
 //! What becomes of operations that arrive or wait.
 
-ghost use Rattle.std.specs.Prelude.{◌≡◌, ◌<◌, ◌++◌, ◌∷◌, ◌==◌, [], Some, OnOk, OnErr, length, slice_get};
-ghost use Rattle.rls_model.specs.Answers.{reason_of};
-ghost use Rattle.rls_model.specs.Machine.{no_counts};
+ghost use Rattle.std.specs.Prelude.{◌≡◌, ◌-◌, ◌<◌, ◌^◌, ◌++◌, ◌∷◌, ◌==◌, [], Some, OnOk, OnErr, length, slice_get};
+ghost use Rattle.rls_model.specs.Answers.{answer_of, reason_in, reason_of};
+ghost use Rattle.rls_model.specs.Machine.{no_counts, with_reason, with_receipt, HasRoom};
 
 use rls_ident::{EpochName, Ident, Vector};
 use rls_ops::{Op, Shape};
@@ -153,5 +153,43 @@ impl Taken {
             held: 0,
             refused: Refusals::new(alloc),
         }
+    }
+
+    /// Counts the operation of an author that arrived, or puts it after the other refused ones. After an error nothing is counted.
+    pub fn count_receipt(
+        &mut self,
+        author: u32,
+        seq: u32,
+        receipt: Receipt,
+    ) -> Result<(), AllocError>
+        requires room { HasRoom self.old }
+        ensures ok { OnOk result (self.new ≡ with_receipt self.old author seq (answer_of receipt)) }
+        ensures err { OnErr result (self.new ≡ self.old) }
+    {
+        match receipt {
+            Receipt::Applied => self.applied += 1,
+            Receipt::Repeated => self.repeated += 1,
+            Receipt::Held => self.held += 1,
+            Receipt::Refused(refusal) => self.refused.push(author, seq, refusal)?,
+        }
+        Ok(())
+    }
+
+    /// Counts an operation that was released, or puts it after the other refused ones. After an error nothing is counted.
+    pub fn count_release(&mut self, release: Release) -> Result<(), AllocError>
+        requires room { self.old.released < 2 ^ 64 - 1 }
+        ensures ok { OnOk result (self.new ≡ with_reason self.old release.author release.seq (reason_in release.refusal)) }
+        ensures err { OnErr result (self.new ≡ self.old) }
+    {
+        let Release {
+            author,
+            seq,
+            refusal,
+        } = release;
+        match refusal {
+            None => self.released += 1,
+            Some(refusal) => self.refused.push(author, seq, refusal)?,
+        }
+        Ok(())
     }
 }

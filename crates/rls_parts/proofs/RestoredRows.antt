@@ -10,7 +10,7 @@ use Rattle.rls_ops.specs.Rows.{AreRows, HaveLength, row_of, left, awaits, least_
 use Rattle.rls_model.specs.declared.parts.Parts.{Parts}
 use Rattle.rls_model.proofs.Stable.{at_most-least_of, least_of-each, least_greatest, IsBelow}
 use Rattle.rls_seen.proofs.StableRows.{stable_mine, stable_row, stable_most}
-use Rattle.rls_parts.specs.Given.{HaveCounts, AreGiven}
+use Rattle.rls_parts.specs.Given.{AreGiven}
 use Rattle.rls_parts.specs.Reading.{member_at, has_member, awaited_from, stable_of_parts}
 use Rattle.rls_parts.specs.Restored.{with_own, acks_of}
 use Rattle.rls_parts.specs.Rules.{row_fault, is_row_of}
@@ -19,10 +19,6 @@ use Rattle.rls_parts.proofs.OwnRows.{length-own, own_lengths, own_before, own_be
 use Rattle.rls_parts.proofs.Passing.{row_first}
 
 -- ---- the shape of the rows
-
-pub have_length : (n : ℕ) (vs : List (List ℕ)) → HaveCounts n vs → HaveLength n vs
-have_length n [] h = tt
-have_length n (v ∷ vs) h = (h.0, have_length n vs h.1)
 
 -- for numbers and lists that fit together
 pub rows_fit : (p : Parts) → p.me < p.members → length p.vector ≡ p.members → length p.rows + 1 ≡ p.members → HaveLength p.members p.rows → AreRows (acks_of p)
@@ -37,7 +33,7 @@ rows_fit p m v r c =
     }
 
 pub rows_given : (p : Parts) → AreGiven p → AreRows (acks_of p)
-rows_given p g = rows_fit p g.me g.vector g.rows (have_length p.members p.rows g.rows_counts)
+rows_given p g = rows_fit p g.me g.vector g.rows g.rows_counts
 
 pub left_given : (p : Parts) (a : ℕ) → a < p.members → left (acks_of p) a ≡ has_member p.left a
 left_given p a l = mark_at p.left p.members a l

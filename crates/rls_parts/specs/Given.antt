@@ -5,16 +5,12 @@ use Rattle.rls_ident.specs.declared.limits.TheConstants.{MEMBERS}
 use Rattle.rls_ident.specs.Lists.{IsIn}
 use Rattle.rls_runs.specs.Runs.{AreIdents, are_apart, is_run}
 use Rattle.rls_ops.specs.declared.op.Op.{Op}
+use Rattle.rls_ops.specs.Rows.{HaveLength}
 use Rattle.rls_ops.specs.WellFormed.{IsInRange}
 use Rattle.rls_model.specs.WellFormed.{IsSmall, IsLarge, IsOp}
 use Rattle.rls_model.specs.declared.parts.EpochPart.{EpochPart}
 use Rattle.rls_model.specs.declared.parts.TextRun.{TextRun}
 use Rattle.rls_model.specs.declared.parts.Parts.{Parts}
-
--- each vector has n counts
-abbrev pub HaveCounts : ℕ → List (List ℕ) → Type 0
-HaveCounts n [] = Unit {0}
-HaveCounts n (v ∷ vs) = (length v ≡ n) × HaveCounts n vs
 
 -- each epoch has a parent
 abbrev pub HaveParents : List EpochPart → Type 0
@@ -48,9 +44,9 @@ pub record AreGiven (p : Parts) : Type 0 where
   pub vector : length p.vector ≡ p.members
   -- a row for each member but the own one
   pub rows : length p.rows + 1 ≡ p.members
-  pub rows_counts : HaveCounts p.members p.rows
-  pub log_counts : HaveCounts p.members (map (λ o. o.context) p.log)
-  pub held_counts : HaveCounts p.members (map (λ o. o.context) p.held)
+  pub rows_counts : HaveLength p.members p.rows
+  pub log_counts : HaveLength p.members (map (λ o. o.context) p.log)
+  pub held_counts : HaveLength p.members (map (λ o. o.context) p.held)
   pub epochs : AreEpochParts p.epochs
   pub epochs_few : length p.epochs < 2 ^ 32
   pub text : AreTextRuns p.text

@@ -21,17 +21,12 @@ use Rattle.rls_model.specs.declared.parts.EpochPart.{EpochPart}
 use Rattle.rls_model.specs.declared.parts.Parts.{Parts}
 use Rattle.rls_model.specs.declared.parts.Stem.{Stem}
 use Rattle.rls_model.specs.Stems.{stands_before}
-use Rattle.rls_parts.specs.Given.{AreGiven, AreEpochParts, HaveCounts}
+use Rattle.rls_parts.specs.Given.{AreGiven, AreEpochParts}
 use Rattle.rls_parts.specs.Reading.{epochs_of, greatest_of_parts, names_of, stable_of_parts}
 use Rattle.rls_parts.specs.Restored.{acks_of, with_own}
 use Rattle.rls_parts.specs.Rules.{are_retained, epoch_fault, has_stable, is_kept_name, is_next, log_fault, names_eq, raised_by, retained_of_parts}
 use Rattle.rls_parts.proofs.RestoredEpochs.{tree_given, kept_named, named_kept, counted_named}
 use Rattle.rls_parts.proofs.RestoredRows.{rows_given, stable_given}
-
-pub counts_at : (n : ℕ) (vs : List (List ℕ)) (i : ℕ) (d : List ℕ) → HaveCounts n vs → i < length vs → length (get_or vs i d) ≡ n
-counts_at n [] i d h l = absurd (omega arith)
-counts_at n (v ∷ vs) zero d h l = h.0
-counts_at n (v ∷ vs) (suc i) d h l = counts_at n vs i d h.1 (omega arith)
 
 -- ---- epochs of the list
 

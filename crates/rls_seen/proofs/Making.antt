@@ -21,6 +21,7 @@ use Rattle.rls_ident.proofs.Members.{and_left, and_right, and_true, any_in, eq_t
 use Rattle.rls_ident.proofs.Tuples.{tuple_total}
 use Rattle.rls_ident.proofs.Vectors.{at_most_refl}
 use Rattle.rls_ident.proofs.Shifted.{raised_offset, last_shifted, last_at}
+use Rattle.rls_runs.specs.Places.{is_above}
 use Rattle.rls_rename.specs.Tree.{has_node, names}
 use Rattle.rls_rename.specs.Tree as tree
 use Rattle.rls_rename.proofs.Growth.{translate_same}
@@ -37,7 +38,7 @@ use Rattle.rls_model.specs.declared.edit.Edit.TheVariants as edits
 use Rattle.rls_model.specs.declared.edit.EditError.TheVariants as faults
 use Rattle.rls_model.specs.declared.parts.Stem.{Stem}
 use Rattle.rls_model.specs.Answers.{Left, Backward, WrongEpoch, WrongStem, UnknownTarget}
-use Rattle.rls_model.specs.Editing.{own_stem, ends_below, begins_above, may_append, may_prepend, or_missing, first_before, first_between, get_before, range_fault, or_fault}
+use Rattle.rls_model.specs.Editing.{own_stem, ends_below, may_append, may_prepend, or_missing, first_before, first_between, get_before, range_fault, or_fault}
 use Rattle.rls_model.specs.Stems.{due_offset}
 use Rattle.rls_model.specs.WellFormed.{IsSmall, IsName, IsBody, IsEdit}
 use Rattle.rls_model.proofs.Began.{Began, IsNeighbour, began, between_ends}
@@ -69,7 +70,7 @@ own_shape s b sane e3 e4 e5 =
     shape_chain (nat_lt s.acks.me (members s)) (is_next_of (own s b) (members s)) (is_empty b) (nat_lt (body_limit b) (body_len b)) (passes_end b) Author Context EmptyBody (TooLong (body_len b)) OffsetEnd e1 e2 e3 e4 e5
 
 -- every kept epoch is within the vector
-within_of : (v : List ℕ) (e : EpochName) → IsCounted v e → is_within e v ≡ true
+pub within_of : (v : List ℕ) (e : EpochName) → IsCounted v e → is_within e v ≡ true
 within_of v Origin c = refl
 within_of v (Of r q) c = le_test q (slice_index v r) c.2
 
@@ -230,7 +231,7 @@ before_low ss a s left (Some x) n j = go (own_stem ss a (last_of x))
     go (Some u) = pick (may_prepend (Some u) left x n)
         (λ k. let b = int_eq (offset_of (last_of x)) u.low in
         let c = int_le least_offset (offset_of (last_of x) -ℤ pos n) in
-        let l = int_le_is least_offset (offset_of (last_of x) -ℤ pos n) (and_right b c (and_left (b && c) (begins_above left (shifted (pos 0 -ℤ pos n) x)) k)) in
+        let l = int_le_is least_offset (offset_of (last_of x) -ℤ pos n) (and_right b c (and_left (b && c) (is_above left (shifted (pos 0 -ℤ pos n) x)) k)) in
         let e : offset_of (last_of (shifted (pos 0 -ℤ pos n) x)) ≡ offset_of (last_of x) +ℤ (pos 0 -ℤ pos n) = ap offset_of (last_shifted (pos 0 -ℤ pos n) x) ∙ raised_offset (pos 0 -ℤ pos n) (last_of x) (last_at x j) in
         omega (arith, ints))
 

@@ -1,5 +1,5 @@
 use Rattle.std.proofs.Common.{length, slice_index_or, sym, ap, ◌∙◌, arith}
-use Rattle.rls_rules.proofs.Faults.{counts_at}
+use Rattle.rls_ops.proofs.KeptRows.{row_length}
 use Rattle.rls_rules.proofs.rows.row_fault.Goals as goal
 
 pub is_row_of-requires-clause-counts : goal.is_row_of-requires-clause-counts
@@ -9,4 +9,4 @@ is_row_of-requires-clause-counts c =
     let e = ap length rows in
     ap length (c.index-rows-i.is)
     ∙ (ap (λ vs. length (slice_index_or vs c.loop-i.i c.index-rows-i.result)) rows
-    ∙ (counts_at c.args.parts.now.members c.args.parts.now.rows c.loop-i.i c.index-rows-i.result c.requires.given.rows_counts (omega arith) ∙ sym c.requires.given.vector))
+    ∙ (row_length c.args.parts.now.members c.args.parts.now.rows c.loop-i.i c.index-rows-i.result c.requires.given.rows_counts (omega arith) ∙ sym c.requires.given.vector))
