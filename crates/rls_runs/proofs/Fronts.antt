@@ -222,7 +222,7 @@ below_one n x z [] e h = tt
 below_one n x z (y ∷ ys) e h =
     (not_true (ident_lt (take n x) (take n y)) (λ t. lt_irrefl (lt_trans (less_by_front n z y (subst (λ v. Lt tuples v (take n y)) (sym e) (lt_of (take n x) (take n y) t))) h.0)), below_one n x z ys e h.1)
 
-rising_before : (xs : List (List Tuple)) (z : List Tuple) (ys : List (List Tuple)) → Rising (xs ++ z ∷ ys) → AllLess xs z
+pub rising_before : (xs : List (List Tuple)) (z : List Tuple) (ys : List (List Tuple)) → Rising (xs ++ z ∷ ys) → AllLess xs z
 rising_before [] z ys h = tt
 rising_before (x ∷ xs) z ys h = ((more_right x xs (z ∷ ys) h.0).0, rising_before xs z ys h.1)
 

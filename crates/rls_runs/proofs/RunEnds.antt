@@ -1,11 +1,11 @@
 -- The last identifier of a run.
 use Rattle.std.proofs.Common.{◌≡◌, ℕ, zero, suc, ◌+◌, ◌-◌, ◌<◌, ◌≤◌, ◌^◌, Bool, true, false, List, [], ◌∷◌, ◌++◌, length, take, Some, Result, Ok, Err, slice_get, refl, sym, ap, ◌∙◌, arith, rules}
-use Rattle.std.specs.Prelude.{pos, ◌+ℤ◌, ◌≤ℤ◌, ◌&&◌, ◌==◌, if◌then◌else◌, nat_lt, int_le}
+use Rattle.std.specs.Prelude.{pos, ◌+ℤ◌, ◌-ℤ◌, ◌≤ℤ◌, ◌&&◌, ◌==◌, if◌then◌else◌, nat_lt, int_le}
 use Rattle.std.proofs.lemmas.Int.{ints}
 use Rattle.std.proofs.Math.ListN.{drop_of_length-le}
 use Rattle.rls_ident.specs.declared.tuple.Tuple.{Tuple}
 use Rattle.rls_ident.specs.Tuples.{offset_of}
-use Rattle.rls_ident.specs.Identifiers.{is_ident, is_bounded, last_of, ident_lt, ident_eq, shifted, follows}
+use Rattle.rls_ident.specs.Identifiers.{is_ident, is_bounded, last_of, ident_lt, ident_eq, shifted, follows, least_offset}
 use Rattle.rls_ident.proofs.Lists.{Lt}
 use Rattle.rls_ident.proofs.Ends.{eq_same, least_last}
 use Rattle.rls_ident.proofs.Members.{and_left, and_right, and_true, eq_refl, neq_test, lt_test, int_le_is}
@@ -132,3 +132,13 @@ shorter_is r m h some l =
     and_true (is_ident r.0 && is_bounded r.0 && nat_lt 0 m) (int_le (offset_of (last_of r.0) +ℤ pos m) past_offsets)
     (and_true (is_ident r.0 && is_bounded r.0) (nat_lt 0 m) (and_true (is_ident r.0) (is_bounded r.0) p.0 p.1) (lt_test 0 m some))
     (search rules)
+
+-- ---- the front of a longer run
+
+-- the offset of its first identifier is in the program's range
+pub front_least : (r : List Tuple × ℕ) (k : ℕ) → is_run r ≡ true → is_run (shifted (pos 0 -ℤ pos k) r.0, r.1 + k) ≡ true → least_offset ≤ℤ (offset_of (last_of r.0) -ℤ pos k)
+front_least r k h l =
+    let p = run_parts (shifted (pos 0 -ℤ pos k) r.0, r.1 + k) l in
+    let least = least_last (shifted (pos 0 -ℤ pos k) r.0) p.0 p.1 in
+    let at = last_offset (pos 0 -ℤ pos k) r.0 (run_parts r h).0 in
+    omega (arith, ints)

@@ -1,18 +1,22 @@
 -- What the calls of a list of runs need of what it keeps.
-use Rattle.std.proofs.Common.{◌≡◌, ℕ, zero, suc, ◌+◌, ◌-◌, ◌<◌, ◌≤◌, Bool, true, false, List, [], ◌∷◌, ◌++◌, length, take, drop, get_or, set, Some, None, Ok, Err, slice_get, refl, sym, ap, ◌∙◌, subst, inl, inr, ◌⊎◌, ⊎_elim, arith}
+use Rattle.std.proofs.Common.{◌≡◌, ℕ, zero, suc, ◌+◌, ◌-◌, ◌<◌, ◌≤◌, Bool, true, false, List, [], ◌∷◌, ◌++◌, append_assoc, length, take, drop, get_or, set, Some, None, Ok, Err, slice_get, refl, sym, ap, ◌∙◌, subst, inl, inr, ◌⊎◌, ⊎_elim, arith}
 use Rattle.std.specs.Prelude.{pos, ◌^◌, if◌then◌else◌}
 use Rattle.std.specs.List.{list_all}
+use Rattle.std.proofs.Math.Seq.{drop-append-add, drop-append_seam}
 use Rattle.std.proofs.lemmas.Bool.{cases_lt}
+use Rattle.std.proofs.lemmas.Int.{ints}
 use Rattle.std.proofs.lemmas.Option.{slice_get_within, slice_get-get_or, slice_get_read}
 use Rattle.rls_ident.specs.declared.tuple.Tuple.{Tuple}
 use Rattle.rls_ident.specs.Identifiers.{ident_lt, shifted}
-use Rattle.rls_runs.specs.Runs.{place_of, run_idents, idents_of, is_apart, are_apart, run_before, is_run, run_last, AreRuns, AreIdents}
+use Rattle.rls_ident.proofs.Members.{some_is}
+use Rattle.rls_runs.specs.Runs.{place_of, run_idents, runs_of, idents_of, is_apart, are_apart, run_before, is_run, run_last, AreRuns, AreIdents}
 use Rattle.rls_runs.specs.Entries.{has_ident}
-use Rattle.rls_runs.specs.Places.{below_count, find_ident, last_ident, is_above, touches}
+use Rattle.rls_runs.specs.Places.{below_count, find_ident, first_len, last_ident, is_above, touches}
 use Rattle.rls_runs.proofs.Finding.{run_length}
-use Rattle.rls_runs.proofs.RunOrder.{Rising, increasing_of, idents_rise, all_idents, sound_at}
+use Rattle.rls_runs.proofs.RunOrder.{Rising, increasing_of, idents_rise, all_idents, sound_at, idents_append, behind_apart}
 use Rattle.rls_runs.proofs.RunPlaces.{moved, found_is, IsFirst, find_first, find_among, split_at, start_at, starts_length, next_start, within_total, last_total, ident_at}
-use Rattle.rls_runs.proofs.RunJoins.{apart_by_last, idents_longer, runs_longer}
+use Rattle.rls_runs.proofs.RunJoins.{apart_by_last, idents_longer, run_longer, runs_longer}
+use Rattle.rls_runs.proofs.RunsOf.{IsFree, free_of, runs_of_idents, runs_of_run, shifted_shifted}
 use Rattle.rls_runs.proofs.RunEnds.{count_most, last_is, last_run, touched_is, longer_is, run_short}
 
 -- the number in a search's answer is at most the length
@@ -144,6 +148,47 @@ pub some_runs : (rs : List (List Tuple × ℕ)) (i : ℕ) → i < length (idents
 some_runs [] i h = absurd (omega arith)
 some_runs (r ∷ rs) i h = omega arith
 
+-- from a place in a run on, the first run is what is left of it
+rest_from : (rs : List (List Tuple × ℕ)) (k p : ℕ) (r : List Tuple × ℕ) → are_apart None rs ≡ true → list_all is_run rs ≡ true → slice_get rs k ≡ Some r → p < r.1
+    → first_len (runs_of (drop (length (idents_of (take k rs)) + p) (idents_of rs))) ≡ r.1 - p
+rest_from rs k p r h q g l = ap (λ xs. first_len (runs_of xs)) left ∙ (ap first_len first ∙ omega (arith, l))
+  where
+    front : List (List Tuple)
+    front = idents_of (take k rs)
+
+    behind : List (List Tuple × ℕ)
+    behind = drop (k + 1) rs
+
+    m : ℕ
+    m = r.1 - p - 1
+
+    x : List Tuple
+    x = shifted (pos p) r.0
+
+    apart : are_apart (Some r) behind ≡ true
+    apart =
+        let e = sym (split_at rs k r g) in
+        (behind_apart None (take k rs) r behind (subst (λ xs. are_apart None xs ≡ true) e h) (subst (λ xs. list_all is_run xs ≡ true) e q)).0
+
+    own : run_idents r.0 r.1 ≡ run_idents r.0 p ++ run_idents x (suc m)
+    own = ap (run_idents r.0) (omega (arith, l)) ∙ run_longer r.0 p (suc m)
+
+    parts : idents_of rs ≡ front ++ (run_idents r.0 p ++ (run_idents x (suc m) ++ idents_of behind))
+    parts =
+        ap idents_of (sym (split_at rs k r g))
+        ∙ (idents_append (take k rs) (r ∷ behind) ∙ ap (λ xs. front ++ xs) (ap (λ xs. xs ++ idents_of behind) own ∙ append_assoc (run_idents r.0 p) (run_idents x (suc m)) (idents_of behind)))
+
+    left : drop (length front + p) (idents_of rs) ≡ run_idents x (suc m) ++ idents_of behind
+    left =
+        ap (drop (length front + p)) parts
+        ∙ (drop-append-add front (run_idents r.0 p ++ (run_idents x (suc m) ++ idents_of behind)) p
+        ∙ (ap (λ n. drop n (run_idents r.0 p ++ (run_idents x (suc m) ++ idents_of behind))) (sym (run_length r.0 p)) ∙ drop-append_seam (run_idents r.0 p) (run_idents x (suc m) ++ idents_of behind)))
+
+    first : runs_of (run_idents x (suc m) ++ idents_of behind) ≡ (x, suc m) ∷ behind
+    first =
+        runs_of_run m x (idents_of behind) behind (runs_of_idents (Some r) behind apart)
+        (subst (λ y. IsFree y behind) (sym (shifted_shifted (pos m) (pos p) r.0 ∙ ap (λ z. shifted z r.0) (omega (arith, ints, l)))) (free_of r behind apart))
+
 -- a place in a run, as it was searched for
 module _ (rs : List (List Tuple × ℕ)) (starts : List ℕ) (total : ℕ) (a : AreRuns rs starts total) (seen : List ℕ) (same : seen ≡ starts) (k i s : ℕ) (r : List Tuple × ℕ) (short : k < length seen)
     (got : r ≡ get_or rs k r) (start : s ≡ get_or starts k s) (below : get_or seen k 0 ≤ i) (above : k + 1 < length seen → i < get_or seen (k + 1) 0) (within : i < length (idents_of rs)) where
@@ -168,6 +213,35 @@ module _ (rs : List (List Tuple × ℕ)) (starts : List ℕ) (total : ℕ) (a : 
       let p = placed in
       let e : (i + j) - s ≡ (i - s) + j = omega arith in
       ident_is rs starts total a k s (i + j) r at_run (omega arith) (omega arith) ∙ ap (λ n. Some (shifted (pos ((i + j) - n)) r.0)) (sym start) ∙ ap (λ n. Some (shifted (pos n) r.0)) e
+
+  pub placed_rest : first_len (runs_of (drop i (idents_of rs))) ≡ r.1 - (i - s)
+  placed_rest =
+      let p = placed in
+      let e : i ≡ length (idents_of (take k rs)) + (i - s) = let f = start_is rs starts total a k s (slice_get_within rs k r at_run) in omega (arith, p, f, start) in
+      ap (λ n. first_len (runs_of (drop n (idents_of rs)))) e ∙ rest_from rs k (i - s) r a.apart a.sound at_run (omega (arith, p))
+
+-- what is left of a run from a place on is within the list
+pub rest_within : (xs : List (List Tuple)) (i p n : ℕ) (a : List Tuple) → p < n → ((k : ℕ) → p + k < n → slice_get xs (i + k) ≡ Some (shifted (pos (p + k)) a)) → i + (n - p) ≤ length xs
+rest_within xs i p n a l f = let w = slice_get_within xs (i + (n - 1 - p)) _ (f (n - 1 - p) (omega (arith, l))) in omega (arith, w, l)
+
+-- identifiers of two runs that agree at one place agree further on
+pub agree_on : (xs ys : List (List Tuple)) (i j p q n : ℕ) (a b : List Tuple) → slice_get xs i ≡ slice_get ys j → ((k : ℕ) → k < n → slice_get xs (i + k) ≡ Some (shifted (pos (p + k)) a)) → ((k : ℕ) → k < n → slice_get ys (j + k) ≡ Some (shifted (pos (q + k)) b))
+    → (k : ℕ) → k < n → slice_get xs (i + k) ≡ slice_get ys (j + k)
+agree_on xs ys i j p q n a b same f g k l = f k l ∙ (ap Some (sym (further p a) ∙ (ap (shifted (pos k)) first ∙ further q b)) ∙ sym (g k l))
+  where
+    none : (m : ℕ) → m + 0 ≡ m
+    none m = omega arith
+
+    further : (r : ℕ) (x : List Tuple) → shifted (pos k) (shifted (pos r) x) ≡ shifted (pos (r + k)) x
+    further r x = shifted_shifted (pos k) (pos r) x ∙ ap (λ d. shifted d x) (omega (arith, ints))
+
+    some : 0 < n
+    some = omega (arith, l)
+
+    first : shifted (pos p) a ≡ shifted (pos q) b
+    first =
+        some_is (shifted (pos p) a) (shifted (pos q) b)
+        (ap (λ m. Some (shifted (pos m) a)) (sym (none p)) ∙ (sym (f 0 some) ∙ (ap (slice_get xs) (none i) ∙ (same ∙ (ap (slice_get ys) (sym (none j)) ∙ (g 0 some ∙ ap (λ m. Some (shifted (pos m) b)) (none q)))))))
 
 -- the identifier at a place, of the run that holds it
 pub ident_there : (xs : List (List Tuple)) (i : ℕ) (r : List Tuple × ℕ) (place : ℕ) → place < r.1 → ((k : ℕ) → place + k < r.1 → slice_get xs (i + k) ≡ Some (shifted (pos (place + k)) r.0)) → (x : List Tuple) → x ≡ shifted (pos place) r.0 → slice_get xs i ≡ Some x

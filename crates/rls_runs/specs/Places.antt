@@ -1,8 +1,9 @@
 -- Where an identifier stands in a strictly increasing list of identifiers.
-use Rattle.std.specs.Prelude.{ℕ, suc, Bool, true, false, List, [], ◌∷◌, Option, Some, None, Result, Ok, Err, if◌then◌else◌}
+use Rattle.std.specs.Prelude.{ℕ, suc, min, Bool, true, false, List, [], ◌∷◌, Option, Some, None, Result, Ok, Err, if◌then◌else◌}
 use Rattle.rls_ident.specs.declared.tuple.Tuple.{Tuple}
 use Rattle.rls_ident.specs.Identifiers.{ident_lt, follows}
 use Rattle.rls_runs.specs.Entries.{has_ident}
+use Rattle.rls_runs.specs.Runs.{runs_of}
 
 -- how many of these identifiers are less than x
 abbrev pub below_count : List (List Tuple) → List Tuple → ℕ
@@ -28,3 +29,12 @@ is_above (Some before) x = ident_lt before x
 abbrev pub touches : Option (List Tuple) → List Tuple → Bool
 touches None x = false
 touches (Some before) x = follows x before
+
+-- how many identifiers the first of these runs has, or 0 if there is none
+abbrev pub first_len : List (List Tuple × ℕ) → ℕ
+first_len [] = 0
+first_len (r ∷ rs) = r.1
+
+-- how many identifiers two lists have in common from their first one on, which is the same, up to where a maximal run of either ends
+abbrev pub common_len : List (List Tuple) → List (List Tuple) → ℕ
+common_len xs ys = min (first_len (runs_of xs)) (first_len (runs_of ys))

@@ -1,6 +1,6 @@
 //! Runs.
 
-ghost use Rattle.std.specs.Prelude.{◌≡◌, ℕ, ◌+◌, ◌<◌, ◌≤◌, ◌⊎◌, List, ◌∷◌, ◌++◌, [], length, take, ◌+ℤ◌, ◌<ℤ◌, ◌≤ℤ◌, pos, ◌↔◌, IfOk, IfErr, IsErrOf, IsTrue};
+ghost use Rattle.std.specs.Prelude.{◌≡◌, ℕ, ◌+◌, ◌<◌, ◌≤◌, ◌⊎◌, List, ◌∷◌, ◌++◌, [], length, take, ◌+ℤ◌, ◌-ℤ◌, ◌<ℤ◌, ◌≤ℤ◌, pos, ◌↔◌, IfOk, IfErr, IsErrOf, IsTrue};
 ghost use Rattle.rls_ident.specs.declared.tuple.Tuple.{Tuple};
 ghost use Rattle.rls_ident.specs.Tuples.{at_spot, offset_of};
 ghost use Rattle.rls_ident.specs.Identifiers.{last_of, ident_lt, shifted, follows};
@@ -138,6 +138,15 @@ impl Run {
         requires fits { IsTrue (is_run (self.old.0, self.old.1 + by)) }
         ensures longer { self.new ≡ (self.old.0, self.old.1 + by) }
     {
+        self.len += by;
+    }
+
+    /// Has this many more identifiers in front of its first one, none of which has an offset below the least one. It takes no memory.
+    pub fn grow_front(&mut self, by: u32)
+        requires fits { IsTrue (is_run (shifted (pos 0 -ℤ pos by) self.old.0, self.old.1 + by)) }
+        ensures longer { self.new ≡ (shifted (pos 0 -ℤ pos by) self.old.0, self.old.1 + by) }
+    {
+        self.first.lower(by);
         self.len += by;
     }
 

@@ -1,10 +1,10 @@
 //! Lists of identifiers, kept as runs.
 
-ghost use Rattle.std.specs.Prelude.{◌≡◌, ℕ, ◌+◌, ◌-◌, ◌<◌, ◌≤◌, ◌^◌, ◌++◌, ◌∷◌, [], List, length, slice_get, slice_index, Some, IfOk, OnOk, OnErr, IsErrOf, IsTrue, IsFalse, ◌↔◌, Contains, pos};
+ghost use Rattle.std.specs.Prelude.{◌≡◌, ℕ, ◌+◌, ◌-◌, ◌<◌, ◌≤◌, ◌^◌, ◌++◌, ◌∷◌, [], List, length, drop, slice_get, slice_index, Some, IfOk, OnOk, OnErr, IsErrOf, IsTrue, IsFalse, ◌↔◌, Contains, pos};
 ghost use Rattle.rls_ident.specs.declared.tuple.Tuple.{Tuple};
 ghost use Rattle.rls_ident.specs.Identifiers.{ident_lt, shifted};
 ghost use Rattle.rls_runs.specs.Runs.{run_idents, runs_of, place_of, AreIdents};
-ghost use Rattle.rls_runs.specs.Places.{below_count, find_ident, last_ident, is_above, touches};
+ghost use Rattle.rls_runs.specs.Places.{below_count, common_len, find_ident, first_len, last_ident, is_above, touches};
 
 use crate::run::Run;
 use rls_ident::{Ident, rely};
@@ -55,13 +55,17 @@ impl Runs {
         }
     }
 
-    /// The identifiers of one run.
+    /// The identifiers of one run. It takes memory for one run.
     pub fn from_run(alloc: Global, run: Run) -> Result<Runs, AllocError>
         ensures idents { IfOk result (λ runs. runs ≡ run_idents run.0 run.1) }
     {
         rely!(let _len = run.len());
-        let mut runs = Runs::new(alloc);
-        runs.append(run)?;
+        let mut runs = Runs {
+            runs: Vec::with_capacity(alloc, 1)?,
+            starts: Vec::with_capacity(alloc, 1)?,
+            total: 0,
+        };
+        runs.put(run)?;
         Ok(runs)
     }
 
@@ -167,9 +171,29 @@ impl Runs {
         ensures run { Contains (runs_of self.now) result.0.now }
         ensures within { result.1 < result.0.now.1 }
         ensures idents { (k : ℕ) → result.1 + k < result.0.now.1 → slice_get self.now (i + k) ≡ Some (shifted (pos (result.1 + k)) result.0.now.0) }
+        ensures rest { first_len (runs_of (drop i self.now)) ≡ result.0.now.1 - result.1 }
     {
         let k = run_at(&self.starts, i);
         (&self.runs[k], (i - self.starts[k]) as u32)
+    }
+
+    /// How many identifiers from a place on are those of another list from a place on, up to where a
+    /// maximal run of either ends. At these places both have the same one. It takes no memory, and
+    /// costs what `locate` does in both.
+    pub fn count_common(&self, i: u64, others: &Runs, j: u64) -> u64
+        requires place { i < length self.now }
+        requires other_place { j < length others.now }
+        requires same { slice_get self.now i ≡ slice_get others.now j }
+        ensures common { result ≡ common_len (drop i self.now) (drop j others.now) }
+        ensures some { 0 < result }
+        ensures within { i + result ≤ length self.now }
+        ensures other_within { j + result ≤ length others.now }
+        ensures same { (k : ℕ) → k < result → slice_get self.now (i + k) ≡ slice_get others.now (j + k) }
+    {
+        rely!(let (_total, _others) = (self.total(), others.total()));
+        let (run, start) = self.locate(i);
+        let (other, from) = others.locate(j);
+        (run.len() - start).min(other.len() - from) as u64
     }
 
     /// The number of identifiers.

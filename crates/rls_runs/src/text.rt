@@ -100,8 +100,7 @@ impl Text {
         if s.is_ascii() {
             return Ok(Text::from_vec(ascii_chars(alloc, s.as_bytes())?));
         }
-        let chars: Vec<char> = s.chars().collect(alloc)?;
-        Ok(Text::from_vec(chars))
+        Ok(Text::from_vec(chars_of(alloc, s)?))
     }
 
     /// The empty text, with room for the characters of so many bytes in UTF-8. It takes no memory if these may be one character.
@@ -167,13 +166,13 @@ impl Text {
     }
 
     /// Puts a text after the last character. It costs the length of that text. After an error the
-    /// text is as it was, and the other is given up.
-    pub fn append(&mut self, more: Text) -> Result<(), AllocError>
-        ensures ok { OnOk result (self.new ≡ self.old ++ more) }
+    /// text is as it was.
+    pub fn append(&mut self, more: &Text) -> Result<(), AllocError>
+        ensures ok { OnOk result (self.new ≡ self.old ++ more.now) }
         ensures err { OnErr result (self.new ≡ self.old) }
     {
-        if let Characters::One(c) = more.chars {
-            return self.push(c);
+        if let Characters::One(c) = &more.chars {
+            return self.push(*c);
         }
         let (front, back) = more.as_slices();
         match &mut self.chars {
@@ -189,23 +188,19 @@ impl Text {
     }
 
     /// Puts a text before the first character. It costs the length of that text. After an error
-    /// the text is as it was, and the other is given up.
-    pub fn prepend(&mut self, front: Text) -> Result<(), AllocError>
-        ensures ok { OnOk result (self.new ≡ front ++ self.old) }
+    /// the text is as it was.
+    pub fn prepend(&mut self, more: &Text) -> Result<(), AllocError>
+        ensures ok { OnOk result (self.new ≡ more.now ++ self.old) }
         ensures err { OnErr result (self.new ≡ self.old) }
     {
-        let Text { alloc, mut chars } = front;
-        if let Characters::One(c) = chars {
-            return self.push_front(c);
+        if let Characters::One(c) = &more.chars {
+            return self.push_front(*c);
         }
-        let mut front = chars.take_ring(alloc)?;
-        let mut ring = self.chars.take_ring(alloc)?;
-        let room = ring.reserve(front.len());
-        if room.is_ok() {
-            move_in_front(&mut front, &mut ring);
-        }
+        let (front, back) = more.as_slices();
+        let mut ring = self.chars.take_ring(self.alloc)?;
+        let done = extend_front(&mut ring, front, back);
         self.chars = Characters::Ring(ring);
-        room
+        done
     }
 
     /// Keeps the characters before a place, and answers the others. It costs the number of these.
@@ -343,14 +338,58 @@ fn list_of(alloc: Global, c: char, more: usize) -> Result<Vec<char>, AllocError>
     Ok(list)
 }
 
+// Writes the character of each byte over one.
+fn fill_chars(chars: &mut [char], bytes: &[u8])
+    requires places { length chars.old ≡ length bytes.now }
+    ensures codes { chars.new ≡ bytes.now }
+{
+    for i in 0..bytes.len() {
+        chars[i] = char::from(bytes[i]);
+    }
+}
+
+// Eight characters of ASCII.
+fn eight_chars(bytes: &[u8; 8]) -> [char; 8]
+    ensures codes { result ≡ bytes.now }
+{
+    let mut chars = ['\0'; 8];
+    fill_chars(&mut chars, bytes);
+    chars
+}
+
 // The characters of a text in ASCII.
 fn ascii_chars(alloc: Global, bytes: &[u8]) -> Result<Vec<char>, AllocError>
     ensures codes { IfOk result (λ chars. chars.items ≡ bytes.now) }
 {
-    let mut chars = Vec::from_elem(alloc, '\0', bytes.len())?;
-    for i in 0..bytes.len() {
-        chars[i] = char::from(bytes[i]);
+    let mut chars = Vec::with_capacity(alloc, bytes.len())?;
+    let mut rest = bytes;
+    while let Some((eight, others)) = rest.split_first_chunk::<8>() {
+        chars.extend_from_slice(&eight_chars(eight))?;
+        rest = others;
     }
+    for byte in rest {
+        chars.push(char::from(*byte))?;
+    }
+    Ok(chars)
+}
+
+// How many characters begin in these bytes of UTF-8: as many as aren't the second or a later byte of one.
+fn beginnings(bytes: &[u8]) -> usize
+    ensures within { result ≤ length bytes.now }
+{
+    let mut count = 0;
+    for byte in bytes {
+        count += usize::from(byte & 0xC0 != 0x80);
+    }
+    count
+}
+
+// The characters of a text. Room is made for all of them at once.
+fn chars_of(alloc: Global, s: &str) -> Result<Vec<char>, AllocError>
+    ensures utf8 { IfOk result (λ chars. encode_utf8_all chars.items ≡ s.now) }
+{
+    let mut chars = Vec::with_capacity(alloc, beginnings(s.as_bytes()))?;
+    chars.extend(s.chars())?;
     Ok(chars)
 }
 
@@ -407,13 +446,28 @@ fn push_chars(text: &mut String, chars: &[char]) -> Result<(), AllocError>
     Ok(())
 }
 
-// Moves all characters of the first list before those of the second, which has room for them.
-fn move_in_front(front: &mut VecDeque<char>, chars: &mut VecDeque<char>)
-    requires room { deque_len chars.old + deque_len front.old ≤ deque_capacity chars.old }
-    ensures items { chars.new.items ≡ front.old.items ++ chars.old.items }
+// Puts both before the ring. After an error it is as it was.
+fn extend_front(ring: &mut VecDeque<char>, front: &[char], back: &[char]) -> Result<(), AllocError>
+    ensures ok { OnOk result (ring.new.items ≡ (front.now ++ back.now) ++ ring.old.items) }
+    ensures err { OnErr result (ring.new.items ≡ ring.old.items) }
 {
-    while let Some(c) = front.pop_back() {
-        chars.push_front_reserved(c);
+    ring.reserve(front.len() + back.len())?;
+    push_front_reserved(ring, back);
+    push_front_reserved(ring, front);
+    Ok(())
+}
+
+// Puts these before the ring, which has room for them.
+fn push_front_reserved(ring: &mut VecDeque<char>, chars: &[char])
+    requires room { deque_len ring.old + length chars.now ≤ deque_capacity ring.old }
+    ensures items { ring.new.items ≡ chars.now ++ ring.old.items }
+    ensures len { deque_len ring.new ≡ deque_len ring.old + length chars.now }
+    ensures capacity { deque_capacity ring.new ≡ deque_capacity ring.old }
+{
+    let mut i = chars.len();
+    'chars: while i > 0 {
+        i -= 1;
+        ring.push_front_reserved(chars[i]);
     }
 }
 

@@ -1,4 +1,5 @@
-use Rattle.std.proofs.Common.{◌≡◌, sym, ap, ◌∙◌, arith}
+use Rattle.std.proofs.Common.{◌≡◌, ◌∷◌, [], ◌++◌, List, sym, ap, ◌∙◌, arith}
+use Rattle.rls_ident.specs.declared.tuple.Tuple.{Tuple}
 use Rattle.rls_ident.specs.declared.tuple.Tuple.TheVariants.{Low}
 use Rattle.rls_ident.specs.Identifiers.{last_of}
 use Rattle.rls_runs.specs.Fronts.{front_of, shared}
@@ -17,23 +18,15 @@ loop-i-preserved c =
     let h = c.loop-i.invariant in
     (one_more c.loop-i.i c.front-front.result.now c.front-own.result.now Low h.0 (omega arith) (omega arith) (sym c.if-not-same.ensures.same), omega arith)
 
+-- what is shared in front of the last tuples
+fronts : (x y f g : List Tuple) (l k : Tuple) → x ≡ f ++ l ∷ [] → y ≡ g ++ k ∷ [] → shared (front_of x) (front_of y) ≡ shared f g
+fronts x y f g l k a b = ap (λ z. shared z (front_of y)) (front_is x f l a) ∙ ap (shared f) (front_is y g k b)
+
 pub returns-then-not-same : goal.returns-then-not-same
 returns-then-not-same c =
-    let x = c.args.first.now in
-    let y = c.args.id.now in
-    let front = c.front-front.result.now in
-    let own = c.front-own.result.now in
-    let fronts = ap (λ f. shared f (front_of y)) (front_is x front (last_of x) c.front-front.ensures.front) ∙ ap (shared front) (front_is y own (last_of y) c.front-own.ensures.front) in
-    let h = c.loop-i.invariant in
-    record { shared = sym (fronts ∙ shared_here c.loop-i.i front own Low h.0 (omega arith) (omega arith) (sym c.if-not-same.ensures.same)) }
+    record { shared = sym (fronts _ _ _ _ _ _ c.front-front.ensures.front c.front-own.ensures.front ∙ shared_here c.loop-i.i _ _ Low c.loop-i.invariant.0 (omega arith) (omega arith) (sym c.if-not-same.ensures.same)) }
 
 pub returns : goal.returns
 returns c =
-    let x = c.args.first.now in
-    let y = c.args.id.now in
-    let front = c.front-front.result.now in
-    let own = c.front-own.result.now in
-    let fronts = ap (λ f. shared f (front_of y)) (front_is x front (last_of x) c.front-front.ensures.front) ∙ ap (shared front) (front_is y own (last_of y) c.front-own.ensures.front) in
-    let h = c.loop-i.invariant in
     let e : c.loop-i.i ≡ c.min-end.result = omega arith in
-    record { shared = sym (fronts ∙ shared_all c.loop-i.i front own h.0 (omega arith) ∙ e) }
+    record { shared = sym (fronts _ _ _ _ _ _ c.front-front.ensures.front c.front-own.ensures.front ∙ shared_all c.loop-i.i _ _ c.loop-i.invariant.0 (omega arith) ∙ e) }

@@ -1,9 +1,12 @@
-use Rattle.std.proofs.Common.{◌≡◌, ◌++◌, take, drop, length}
+use Rattle.std.proofs.Common.{◌≡◌, ◌++◌, drop, length}
 use Rattle.rls_runs.proofs.text.ascii_chars.Given as goal
 
--- the characters so far are written
-abbrev pub invariant-loop-i : goal.invariant-loop-i
-invariant-loop-i l = record {
-  places : length l.chars.items ≡ length l.bytes;
-  so_far : take l.i l.chars.items ++ drop l.i l.bytes ≡ l.bytes;
-}
+-- the characters so far, and what is left, are the text
+abbrev pub invariant-loop-eight : goal.invariant-loop-eight
+invariant-loop-eight l = l.chars.items ++ l.rest ≡ l.bytes
+
+abbrev pub decreases-loop-eight : goal.decreases-loop-eight
+decreases-loop-eight l = length l.rest
+
+abbrev pub invariant-loop-byte : goal.invariant-loop-byte
+invariant-loop-byte l = l.chars.items ++ drop l.byte-index l.byte-items ≡ l.bytes

@@ -1,7 +1,8 @@
-use Rattle.std.proofs.Common.{◌+◌, ◌<◌, None, length, get_or, slice_get, sym, ap, ◌∙◌, subst, arith}
+use Rattle.std.proofs.Common.{◌+◌, ◌<◌, None, drop, length, get_or, slice_get, sym, ap, ◌∙◌, subst, arith}
 use Rattle.rls_runs.specs.Runs.{runs_of}
+use Rattle.rls_runs.specs.Places.{first_len}
 use Rattle.rls_runs.proofs.RunsOf.{runs_of_idents}
-use Rattle.rls_runs.proofs.RunLists.{starts_long, start_is, some_runs, placed, placed_short, placed_on}
+use Rattle.rls_runs.proofs.RunLists.{starts_long, start_is, some_runs, placed, placed_short, placed_on, placed_rest}
 use Rattle.rls_runs.proofs.runs.Runs.locate.Goals as goal
 
 pub run_at-k-requires-clause-some : goal.run_at-k-requires-clause-some
@@ -48,3 +49,7 @@ returns-clause-within c =
 pub returns-clause-idents : goal.returns-clause-idents
 returns-clause-idents c =
     λ k h. ap (λ xs. slice_get xs (c.args.i + k)) (sym c.self.view_is) ∙ placed_on c.self.inside.runs.items c.self.inside.starts.items c.self.inside.total c.self.invariant c.deref.result.now c.deref.ensures.value c.run_at-k.result c.args.i c.index-2.result.now c.index.result.now c.run_at-k.ensures.within c.index.ensures c.index-2.ensures c.run_at-k.ensures.below c.run_at-k.ensures.above (subst (λ xs. c.args.i < length xs) (sym c.self.view_is) c.requires.place) k h
+
+pub returns-clause-rest : goal.returns-clause-rest
+returns-clause-rest c =
+    ap (λ xs. first_len (runs_of (drop c.args.i xs))) (sym c.self.view_is) ∙ placed_rest c.self.inside.runs.items c.self.inside.starts.items c.self.inside.total c.self.invariant c.deref.result.now c.deref.ensures.value c.run_at-k.result c.args.i c.index-2.result.now c.index.result.now c.run_at-k.ensures.within c.index.ensures c.index-2.ensures c.run_at-k.ensures.below c.run_at-k.ensures.above (subst (λ xs. c.args.i < length xs) (sym c.self.view_is) c.requires.place)
