@@ -3,10 +3,12 @@
 
 mod message;
 mod op;
+mod remaining;
 mod same;
 mod shape;
 pub mod size;
 
 pub use message::Message;
 pub use op::{Body, Op, Ops, Shape, covers};
+pub use remaining::RemainingOps;
 pub use rls_runs::Text;

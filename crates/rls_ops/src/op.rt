@@ -6,6 +6,7 @@ ghost use Rattle.rls_ops.specs.Rows.{covers};
 ghost use Rattle.rls_ops.specs.Waiting.{comes_before};
 ghost use Rattle.rls_ops.specs.WellFormed.{IsOp, AreOps, IsBody, IsName, IsInRange};
 
+use crate::remaining::RemainingOps;
 use rls_ident::{EpochName, Ident, Vector, rely};
 use rls_runs::{Runs, Text};
 use std::alloc::{AllocError, Global};
@@ -118,12 +119,12 @@ impl Ops {
         &self.ops
     }
 
-    /// The operations, to be taken one by one.
-    pub fn into_vec(self) -> Vec<Op>
-        ensures ops { result.items ≡ self }
+    /// The operations, to be taken one after another. It costs their number.
+    pub fn into_remaining(self) -> RemainingOps
+        ensures ops { result ≡ self }
     {
         let Ops { ops } = self;
-        ops
+        RemainingOps::new(ops)
     }
 
     /// What the list promises: each of its operations is well formed.

@@ -95,7 +95,7 @@ fn chars_len(chars: &[char]) -> u64
 {
     let mut total: u64 = 0;
     for c in chars {
-        total = total.saturating_add(c.len_utf8() as u64);
+        total += c.len_utf8() as u64;
     }
     total
 }
