@@ -1,13 +1,12 @@
 -- Lists of bytes that are put one after another.
 use Rattle.std.proofs.Common.{◌≡◌, ℕ, ◌+◌, ◌≤◌, ◌<◌, List, [], ◌∷◌, ◌++◌, length, take, drop, refl, sym, ap, ◌∙◌, append_assoc, arith, get_or}
-use Rattle.std.specs.Prelude.{encode_utf8_all, encode_utf8}
-use Rattle.std.specs.List.{All, flat_map, concat}
-use Rattle.std.proofs.lemmas.List.{append-nil, take_more, take_all, take_at, take-take, length-take, take-append-drop, length-append}
-use Rattle.std.proofs.lemmas.Str.{encodes-append}
-use Rattle.rls_runs.proofs.Texts.{ascii_encodes, encodes_more}
+use Rattle.std.specs.Prelude.{encode_utf8_all}
+use Rattle.std.specs.List.{flat_map, concat}
+use Rattle.std.proofs.lemmas.List.{append-nil, take_more, take_all, take_at, drop_at, take-take, length-take, length-append}
+use Rattle.std.proofs.lemmas.Str.{encodes-append, encode_ascii}
 use Rattle.rls_ident.specs.declared.tuple.Tuple.{Tuple}
 use Rattle.rls_codec.specs.Gives.{IsFrontOf}
-use Rattle.rls_ops.specs.Spelling.{tuple_bytes, four_bytes, ident_bytes}
+use Rattle.rls_ops.specs.Spelling.{tuple_bytes, four_bytes, ident_bytes, text_bytes}
 
 pub flat_map_pushed : {A : Type 0} (f : A → List ℕ) (xs : List A) (x : A) → flat_map f (xs ++ x ∷ []) ≡ flat_map f xs ++ f x
 flat_map_pushed f [] x = append-nil (f x)
@@ -16,12 +15,6 @@ flat_map_pushed f (y ∷ ys) x = ap (λ w. f y ++ w) (flat_map_pushed f ys x) �
 -- an identifier is its front and its last tuple
 pub ident_parts : (x front : List Tuple) (t : Tuple) → x ≡ front ++ t ∷ [] → ident_bytes x ≡ four_bytes (length front + 1) ++ (flat_map tuple_bytes front ++ tuple_bytes t)
 ident_parts x front t e = ap ident_bytes e ∙ ap (λ n. four_bytes n ++ flat_map tuple_bytes (front ++ t ∷ [])) (length-append front (t ∷ [])) ∙ ap (λ w. four_bytes (length front + 1) ++ w) (flat_map_pushed tuple_bytes front t)
-
-pub encodes_within : (cs : List ℕ) (i c : ℕ) → i < length cs → c ≡ get_or cs i c → length (encode_utf8_all (take i cs)) + length (encode_utf8 c) ≤ length (encode_utf8_all cs)
-encodes_within cs i c lt e =
-    let whole : length (encode_utf8_all cs) ≡ length (encode_utf8_all (take (i + 1) cs)) + length (encode_utf8_all (drop (i + 1) cs)) =
-    ap (λ xs. length (encode_utf8_all xs)) (sym (take-append-drop (i + 1) cs)) ∙ ap length (encodes-append (take (i + 1) cs) (drop (i + 1) cs)) ∙ length-append (encode_utf8_all (take (i + 1) cs)) (encode_utf8_all (drop (i + 1) cs)) in
-    omega (arith, whole, ap length (encodes_more cs i c lt e), length-append (encode_utf8_all (take i cs)) (encode_utf8 c))
 
 -- five parts, put one after another
 pub five_puts : (o p q r s t a b c d e : List ℕ) → p ≡ o ++ a → q ≡ p ++ b → r ≡ q ++ c → s ≡ r ++ d → t ≡ s ++ e → t ≡ o ++ concat (a ∷ b ∷ c ∷ d ∷ e ∷ [])
@@ -47,13 +40,19 @@ front_then a b c p q =
 pub encodes_parts : (front back text : List ℕ) → front ++ back ≡ text → encode_utf8_all text ≡ encode_utf8_all front ++ encode_utf8_all back
 encodes_parts front back text e = ap encode_utf8_all (sym e) ∙ encodes-append front back
 
-pub encodes_joined : (front back text : List ℕ) → front ++ back ≡ text → length (encode_utf8_all front) + length (encode_utf8_all back) ≡ length (encode_utf8_all text)
-encodes_joined front back text e = sym (ap length (encodes_parts front back text e) ∙ length-append (encode_utf8_all front) (encode_utf8_all back))
+-- a text of one ASCII character
+pub ascii_text : (front back text : List ℕ) (c : ℕ) → front ++ back ≡ text → front ≡ c ∷ [] → back ≡ [] → c < 128 → text_bytes text ≡ 0 ∷ 0 ∷ 0 ∷ 1 ∷ c ∷ []
+ascii_text front back text c e f b small =
+    ap text_bytes (sym e ∙ ap (λ w. w ++ back) f ∙ ap (λ w. c ∷ w) b)
+    ∙ ap (λ w. four_bytes (length (w ++ [])) ++ (w ++ [])) (encode_ascii c small)
 
--- of ASCII characters
-pub ascii_parts : (front back text : List ℕ) → front ++ back ≡ text → All (λ c. c < 128) front → All (λ c. c < 128) back → encode_utf8_all text ≡ front ++ back
-ascii_parts front back text e f b =
-    encodes_parts front back text e ∙ ap (λ w. w ++ encode_utf8_all back) (ascii_encodes front f) ∙ ap (λ w. front ++ w) (ascii_encodes back b)
+-- the number of bytes is written over four that stand before them
+pub counted_after : (o q body new : List ℕ) → q ≡ (o ++ four_bytes 0) ++ body → new ≡ take (length o) q ++ (four_bytes (length (drop (length o + 4) q)) ++ drop (length o + 4) q) → new ≡ o ++ (four_bytes (length body) ++ body)
+counted_after o q body new e h =
+    let whole : q ≡ o ++ (four_bytes 0 ++ body) = e ∙ append_assoc o (four_bytes 0) body in
+    let front : take (length o) q ≡ o = ap (take (length o)) whole ∙ take_at o (four_bytes 0 ++ body) (length o) refl in
+    let rest : drop (length o + 4) q ≡ body = ap (drop (length o + 4)) e ∙ drop_at (o ++ four_bytes 0) body (length o + 4) (length-append o (four_bytes 0)) in
+    h ∙ ap (λ w. w ++ (four_bytes (length (drop (length o + 4) q)) ++ drop (length o + 4) q)) front ∙ ap (λ w. o ++ (four_bytes (length w) ++ w)) rest
 
 pub puts_parts : (o p q front back text : List ℕ) → front ++ back ≡ text → p ≡ o ++ encode_utf8_all front → q ≡ p ++ encode_utf8_all back → q ≡ o ++ encode_utf8_all text
 puts_parts o p q front back text e f h = h ∙ ap (λ w. w ++ encode_utf8_all back) f ∙ append_assoc o (encode_utf8_all front) (encode_utf8_all back) ∙ ap (λ w. o ++ w) (sym (encodes_parts front back text e))

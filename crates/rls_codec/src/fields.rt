@@ -83,14 +83,14 @@ pub fn epoch_name(bytes: &[u8]) -> Result<(EpochName, &[u8]), ReadError>
 pub fn vector(alloc: Global, members: u32, bytes: &[u8]) -> Result<(Vector, &[u8]), ReadError>
     ensures read { Gives (λ x. (x.0, x.1.now)) result (vector_at members bytes.now) }
 {
-    let mut counts = Vec::new(alloc);
+    let mut counts = Vector::new(alloc);
     let mut rest = bytes;
     for _ in 0..members {
         let (count, after) = u32_at(rest)?;
         counts.push(count)?;
         rest = after;
     }
-    Ok((Vector::from_vec(counts), rest))
+    Ok((counts, rest))
 }
 
 #[tactic(auto, using(rls_runs::proofs::Texts::chars_are))]

@@ -3,6 +3,7 @@
 
 mod fault;
 mod fields;
+mod giving;
 mod idents;
 pub mod laws;
 mod lists;
@@ -13,6 +14,7 @@ mod writing;
 
 pub use fault::{DecodeError, ReadError};
 pub use fields::{byte, epoch_name, i32_at, text, text_slice, u32_at, u64_at, vector};
+pub use giving::give_back;
 pub use idents::{ident, inner, last, run, runs, tuple_count};
 pub use messages::{decode_message, magic, member, member_count};
 pub use puts::{

@@ -3,9 +3,10 @@
 //! Each call appends the bytes of its part. If memory runs out, the bytes that stood there before still stand in
 //! front, and some of the part's own may follow them.
 
-ghost use Rattle.std.specs.Prelude.{◌≡◌, ◌<◌, ◌^◌, ◌++◌, [], ◌∷◌, length, All, IsTrue, OnOk, encode_utf8, encode_utf8_all};
+ghost use Rattle.std.specs.Prelude.{◌≡◌, ◌<◌, ◌≤◌, ◌+◌, ◌^◌, ◌++◌, [], ◌∷◌, length, take, drop, All, IsTrue, OnOk, encode_utf8, encode_utf8_all};
 ghost use Rattle.std.specs.List.{flat_map};
 ghost use Rattle.std.specs.Char.{IsScalar};
+ghost use Rattle.rls_ident.specs.declared.tuple.Tuple.TheVariants.{At};
 ghost use Rattle.rls_runs.specs.Runs.{runs_of, AreIdents};
 ghost use Rattle.rls_ops.specs.Spelling.{four_bytes, eight_bytes, signed_bytes, tuple_bytes, ident_bytes, run_bytes, runs_bytes, vector_bytes, name_bytes, text_bytes};
 ghost use Rattle.rls_ops.specs.WellFormed.{IsSmall};
@@ -50,10 +51,36 @@ pub fn put_i32(out: &mut Vec<u8>, z: i32) -> Result<(), AllocError>
     out.extend_from_slice(&z.to_be_bytes())
 }
 
-fn put_tuple(out: &mut Vec<u8>, tuple: Tuple) -> Result<(), AllocError>
-    ensures ok { OnOk result (out.new.items ≡ out.old.items ++ tuple_bytes tuple) }
+// The bytes of an `At`. Each number is copied in whole, so that the machine stores it at once.
+fn spot_bytes(pos: u32, replica: u32, seq: u32, offset: i32) -> [u8; 17]
+    ensures bytes { result ≡ tuple_bytes (At pos replica seq offset) }
+{
+    let mut bytes = [1; 17];
+    bytes[1..5].copy_from_slice(&pos.to_be_bytes());
+    bytes[5..9].copy_from_slice(&replica.to_be_bytes());
+    bytes[9..13].copy_from_slice(&seq.to_be_bytes());
+    bytes[13..17].copy_from_slice(&offset.to_be_bytes());
+    bytes
+}
+
+fn put_spot(
+    out: &mut Vec<u8>,
+    pos: u32,
+    replica: u32,
+    seq: u32,
+    offset: i32,
+) -> Result<(), AllocError>
+    ensures ok { OnOk result (out.new.items ≡ out.old.items ++ tuple_bytes (At pos replica seq offset)) }
     ensures keeps { IsFrontOf out.old.items out.new.items }
-    ensures small { IsSmallTuple tuple }
+{
+    out.extend_from_slice(&spot_bytes(pos, replica, seq, offset))?;
+    Ok(())
+}
+
+fn put_tuple(out: &mut Vec<u8>, tuple: &Tuple) -> Result<(), AllocError>
+    ensures ok { OnOk result (out.new.items ≡ out.old.items ++ tuple_bytes tuple.now) }
+    ensures keeps { IsFrontOf out.old.items out.new.items }
+    ensures small { IsSmallTuple tuple.now }
 {
     match tuple {
         Tuple::Low => put_byte(out, 0),
@@ -62,14 +89,7 @@ fn put_tuple(out: &mut Vec<u8>, tuple: Tuple) -> Result<(), AllocError>
             replica,
             seq,
             offset,
-        } => {
-            let (p, r) = (pos.to_be_bytes(), replica.to_be_bytes());
-            let (s, o) = (seq.to_be_bytes(), offset.to_be_bytes());
-            out.extend_from_slice(&[
-                1, p[0], p[1], p[2], p[3], r[0], r[1], r[2], r[3], s[0], s[1], s[2], s[3], o[0],
-                o[1], o[2], o[3],
-            ])
-        }
+        } => put_spot(out, *pos, *replica, *seq, *offset),
         Tuple::High => put_byte(out, 2),
     }
 }
@@ -82,7 +102,7 @@ impl Part for Tuple {
     ghost Fits = { IsSmallTuple };
 
     fn put(&self, out: &mut Vec<u8>) -> Result<(), AllocError> {
-        put_tuple(out, *self)
+        put_tuple(out, self)
     }
 }
 
@@ -97,7 +117,7 @@ pub fn put_ident(out: &mut Vec<u8>, ident: &Ident) -> Result<(), AllocError>
     let front = ident.front();
     put_u32(out, front.len() as u32 + 1)?;
     put_list(out, front)?;
-    put_tuple(out, ident.last().as_tuple())
+    put_tuple(out, &ident.last().as_tuple())
 }
 
 impl Part for u32 {
@@ -137,18 +157,6 @@ pub fn put_name(out: &mut Vec<u8>, name: EpochName) -> Result<(), AllocError>
     }
 }
 
-#[tactic(auto, using(rls_runs::proofs::Texts::encodes_more, crate::proofs::Appending::encodes_within))]
-fn utf8_len(chars: &[char]) -> u64
-    requires { length (encode_utf8_all chars.now) < 2 ^ 32 }
-    ensures len { result ≡ length (encode_utf8_all chars.now) }
-{
-    let mut total = 0;
-    for c in chars {
-        total += c.len_utf8() as u64;
-    }
-    total
-}
-
 fn put_char(out: &mut Vec<u8>, c: char) -> Result<(), AllocError>
     ensures ok { OnOk result (out.new.items ≡ out.old.items ++ encode_utf8 c) }
     ensures keeps { IsFrontOf out.old.items out.new.items }
@@ -160,34 +168,15 @@ fn put_char(out: &mut Vec<u8>, c: char) -> Result<(), AllocError>
     out.extend_from_slice(c.encode_utf8(&mut buffer).as_bytes())
 }
 
+// Puts characters one after another.
 #[tactic(auto, using(rls_runs::proofs::Texts::encodes_more))]
-fn put_chars(out: &mut Vec<u8>, chars: &[char]) -> Result<(), AllocError>
+fn put_each(out: &mut Vec<u8>, chars: &[char]) -> Result<(), AllocError>
     ensures ok { OnOk result (out.new.items ≡ out.old.items ++ encode_utf8_all chars.now) }
     ensures keeps { IsFrontOf out.old.items out.new.items }
 {
     for c in chars {
         put_char(out, *c)?;
     }
-    Ok(())
-}
-
-#[tactic(auto, using(crate::proofs::Appending::encodes_joined))]
-fn text_len(text: &Text) -> u64
-    requires { length (encode_utf8_all text.now) < 2 ^ 32 }
-    ensures len { result ≡ length (encode_utf8_all text.now) }
-{
-    let (front, back) = text.as_slices();
-    utf8_len(front) + utf8_len(back)
-}
-
-fn put_text_chars(out: &mut Vec<u8>, text: &Text) -> Result<(), AllocError>
-    ensures ok { OnOk result (out.new.items ≡ out.old.items ++ encode_utf8_all text.now) }
-    ensures keeps { IsFrontOf out.old.items out.new.items }
-    ensures scalars { All IsScalar text.now }
-{
-    let (front, back) = text.as_slices();
-    put_chars(out, front)?;
-    put_chars(out, back)?;
     Ok(())
 }
 
@@ -213,45 +202,73 @@ fn fill_ascii(bytes: &mut [u8], chars: &[char])
     }
 }
 
-// Puts characters that are their own bytes.
-fn put_ascii(out: &mut Vec<u8>, chars: &[char]) -> Result<(), AllocError>
-    requires ascii { All (λ c. c < 128) chars.now }
-    ensures ok { OnOk result (out.new.items ≡ out.old.items ++ chars.now) }
+// Puts eight characters, of ASCII all at once.
+#[tactic(auto, using(rls_runs::proofs::Texts::ascii_encodes))]
+fn put_eight(out: &mut Vec<u8>, chars: &[char; 8]) -> Result<(), AllocError>
+    ensures ok { OnOk result (out.new.items ≡ out.old.items ++ encode_utf8_all chars.now) }
     ensures keeps { IsFrontOf out.old.items out.new.items }
 {
-    let start = out.len();
-    out.resize(start + chars.len(), 0)?;
-    fill_ascii(&mut out[start..], chars);
+    if !are_ascii(chars) {
+        return put_each(out, chars);
+    }
+    let mut bytes = [0; 8];
+    fill_ascii(&mut bytes, chars);
+    out.extend_from_slice(&bytes)
+}
+
+// Puts characters, eight at a time.
+fn put_chars(out: &mut Vec<u8>, chars: &[char]) -> Result<(), AllocError>
+    ensures ok { OnOk result (out.new.items ≡ out.old.items ++ encode_utf8_all chars.now) }
+    ensures keeps { IsFrontOf out.old.items out.new.items }
+{
+    let mut rest = chars;
+    while let Some((eight, others)) = rest.split_first_chunk::<8>() {
+        put_eight(out, eight)?;
+        rest = others;
+    }
+    put_each(out, rest)
+}
+
+fn put_text_chars(out: &mut Vec<u8>, text: &Text) -> Result<(), AllocError>
+    ensures ok { OnOk result (out.new.items ≡ out.old.items ++ encode_utf8_all text.now) }
+    ensures keeps { IsFrontOf out.old.items out.new.items }
+    ensures scalars { All IsScalar text.now }
+{
+    let (front, back) = text.as_slices();
+    put_chars(out, front)?;
+    put_chars(out, back)?;
     Ok(())
 }
 
-// A text of these characters, which are their own bytes.
-fn put_ascii_text(out: &mut Vec<u8>, front: &[char], back: &[char]) -> Result<(), AllocError>
-    requires front { All (λ c. c < 128) front.now }
-    requires back { All (λ c. c < 128) back.now }
-    requires few { length (front.now ++ back.now) < 2 ^ 32 }
-    ensures ok { OnOk result (out.new.items ≡ out.old.items ++ (four_bytes (length (front.now ++ back.now)) ++ (front.now ++ back.now))) }
-    ensures keeps { IsFrontOf out.old.items out.new.items }
+// Writes over the four bytes at this place how many stand behind them.
+fn fill_len(out: &mut Vec<u8>, at: usize)
+    requires places { at + 4 ≤ length out.old.items }
+    requires few { length (drop (at + 4) out.old.items) < 2 ^ 32 }
+    ensures len { out.new.items ≡ take at out.old.items ++ (four_bytes (length (drop (at + 4) out.old.items)) ++ drop (at + 4) out.old.items) }
 {
-    put_u32(out, (front.len() + back.len()) as u32)?;
-    put_ascii(out, front)?;
-    put_ascii(out, back)
+    let len = (out.len() - at - 4) as u32;
+    out[at..at + 4].copy_from_slice(&len.to_be_bytes());
 }
 
 /// A text: how many bytes it has in UTF-8, and these bytes.
-#[tactic(auto, using(crate::proofs::Fits::text_fits, crate::proofs::Appending::ascii_parts))]
+#[tactic(auto, using(crate::proofs::Fits::text_fits, crate::proofs::Appending::ascii_text, crate::proofs::Appending::counted_after))]
 pub fn put_text(out: &mut Vec<u8>, text: &Text) -> Result<(), AllocError>
     requires { length (encode_utf8_all text.now) < 2 ^ 32 }
     ensures ok { OnOk result (out.new.items ≡ out.old.items ++ text_bytes text.now) }
     ensures keeps { IsFrontOf out.old.items out.new.items }
     ensures fits { OnOk result (FitsText text.now) }
 {
-    let (front, back) = text.as_slices();
-    if are_ascii(front) && are_ascii(back) {
-        return put_ascii_text(out, front, back);
+    if let ([c], []) = text.as_slices()
+        && c.is_ascii()
+    {
+        return out.extend_from_slice(&[0, 0, 0, 1, *c as u8]);
     }
-    put_u32(out, text_len(text) as u32)?;
-    put_text_chars(out, text)
+    let start = out.len();
+    put_u32(out, 0)?;
+    out.reserve(text.len())?;
+    put_text_chars(out, text)?;
+    fill_len(out, start);
+    Ok(())
 }
 
 /// A run: its first identifier and its length.

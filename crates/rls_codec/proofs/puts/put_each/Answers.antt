@@ -2,7 +2,7 @@ use Rattle.std.proofs.Common.{append_assoc, ◌∙◌, ap, sym, ◌++◌, take}
 use Rattle.std.specs.Prelude.{encode_utf8, encode_utf8_all}
 use Rattle.rls_runs.proofs.Texts.{encodes_more}
 use Rattle.rls_codec.proofs.Appending.{front_append, front_then}
-use Rattle.rls_codec.proofs.puts.put_chars.Goals as goal
+use Rattle.rls_codec.proofs.puts.put_each.Goals as goal
 
 pub loop-c-preserved : goal.loop-c-preserved
 loop-c-preserved c =
